@@ -1,0 +1,62 @@
+-- Division rounded down and up.
+use Rattle.std.proofs.Common.{◌≡◌, ℕ, zero, suc, ◌+◌, ◌*◌, ◌/◌, ◌^◌, ◌<◌, ◌≤◌, arith, refl, ap, ◌∙◌, [], ◌∷◌, ℤ, pos, negsuc, ◌+ℤ◌, ◌-ℤ◌, ◌*ℤ◌, neg_ℤ, ◌≤ℤ◌, ◌<ℤ◌, true, unsigned_abs}
+use Rattle.std.proofs.lemmas.Int.{ints}
+use Rattle.std.proofs.Math.Nat.{div-div-eq-div-mul, div-mul-le_self, lt-div-mul-add, div-lt_iff_lt-mul}
+use Rattle.std.proofs.Math.IntN.{neg_ℤ-neg_ℤ}
+use lib.Signed.{mag}
+use Rattle.spec_intervals.specs.Interval.{floor_div, ceil_div, is_small}
+use Rattle.spec_intervals.proofs.Ring.{v, ◌⊗◌, ring, minus}
+use Rattle.spec_intervals.proofs.Order.{lin}
+use Rattle.std.proofs.lemmas.Bool.Decides.{nat_tests}
+
+pub floor_div-twice : (z : ℤ) (d e : ℕ) → floor_div (floor_div z d) e ≡ floor_div z (d * e)
+floor_div-twice (pos n) d e = ap pos (div-div-eq-div-mul n d e)
+floor_div-twice (negsuc n) d e = ap negsuc (div-div-eq-div-mul n d e)
+
+pub ceil_div-twice : (z : ℤ) (d e : ℕ) → ceil_div (ceil_div z d) e ≡ ceil_div z (d * e)
+ceil_div-twice z d e =
+    ap (λ x. neg_ℤ (floor_div x e)) (neg_ℤ-neg_ℤ (floor_div (neg_ℤ z) d)) ∙ ap neg_ℤ (floor_div-twice (neg_ℤ z) d e)
+
+-- the half rounded up is what the half rounded down leaves
+pub half_up : (z : ℤ) → z -ℤ floor_div z 2 ≡ ceil_div z 2
+half_up (pos zero) = refl
+half_up (pos (suc n)) = omega (arith, ints)
+half_up (negsuc n) = omega (arith, ints)
+
+pub floor_div-le : (z : ℤ) (d : ℕ) → 0 < d → (floor_div z d *ℤ pos d) ≤ℤ z
+floor_div-le (pos n) d h = let p : n / d * d ≤ n = div-mul-le_self n d in omega (arith, ints)
+floor_div-le (negsuc n) d h = let p : n < n / d * d + d = lt-div-mul-add h in omega (arith, ints)
+
+pub floor_div-lt : (z : ℤ) (d : ℕ) → 0 < d → z <ℤ (floor_div z d *ℤ pos d +ℤ pos d)
+floor_div-lt (pos n) d h = let p : n < n / d * d + d = lt-div-mul-add h in omega (arith, ints)
+floor_div-lt (negsuc n) d h = let p : n / d * d ≤ n = div-mul-le_self n d in omega (arith, ints)
+
+pub ceil_div-ge : (z : ℤ) (d : ℕ) → 0 < d → z ≤ℤ (ceil_div z d *ℤ pos d)
+ceil_div-ge z d h =
+    let p : (floor_div (neg_ℤ z) d *ℤ pos d) ≤ℤ neg_ℤ z = floor_div-le (neg_ℤ z) d h in
+    let e : neg_ℤ (floor_div (neg_ℤ z) d) *ℤ pos d ≡ neg_ℤ (floor_div (neg_ℤ z) d *ℤ pos d) = ring (floor_div (neg_ℤ z) d ∷ pos d ∷ []) (minus (v 0) ⊗ v 1) (minus (v 0 ⊗ v 1)) tt in
+    rw e (omega (arith, lin))
+
+floor_div-small : (z : ℤ) (d m : ℕ) → 0 < d → mag z < m * d → unsigned_abs (floor_div z d) ≤ m
+floor_div-small (pos n) d m p h = let q : n / d < m = (div-lt_iff_lt-mul p).1 h in omega arith
+floor_div-small (negsuc n) d m p h = let q : n / d < m = (div-lt_iff_lt-mul p).1 h in omega arith
+
+pub unsigned_abs-neg : (z : ℤ) → unsigned_abs (neg_ℤ z) ≡ unsigned_abs z
+unsigned_abs-neg (pos zero) = refl
+unsigned_abs-neg (pos (suc n)) = refl
+unsigned_abs-neg (negsuc n) = refl
+
+mag-neg : (z : ℤ) → mag (neg_ℤ z) ≤ mag z + 1
+mag-neg (pos zero) = omega arith
+mag-neg (pos (suc n)) = omega arith
+mag-neg (negsuc n) = omega arith
+
+small-from : (z : ℤ) → unsigned_abs z ≤ 2 ^ 62 → is_small z ≡ true
+small-from z h = grind (arith, nat_tests)
+
+pub small-floor : (z : ℤ) (d : ℕ) → 0 < d → mag z < 2 ^ 62 * d → is_small (floor_div z d) ≡ true
+small-floor z d p h = small-from (floor_div z d) (floor_div-small z d (2 ^ 62) p h)
+
+pub small-ceil : (z : ℤ) (d : ℕ) → 0 < d → mag z + 1 < 2 ^ 62 * d → is_small (ceil_div z d) ≡ true
+small-ceil z d p h =
+    small-from (ceil_div z d) (rw unsigned_abs-neg (floor_div-small (neg_ℤ z) d (2 ^ 62) p (omega (arith, mag-neg z))))

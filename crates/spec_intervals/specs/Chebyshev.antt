@@ -1,0 +1,18 @@
+-- The Chebyshev polynomials cleared of fractions: at x = u / l they are whole numbers over a power of l.
+use Rattle.std.specs.Prelude.{ℕ, zero, suc, ℤ, pos, ◌-ℤ◌, ◌*ℤ◌}
+
+-- T_k(u / l) * l^k
+abbrev pub cleared_t : ℤ → ℤ → ℕ → ℤ
+cleared_t u l zero = pos 1
+cleared_t u l (suc zero) = u
+cleared_t u l (suc (suc k)) = pos 2 *ℤ u *ℤ cleared_t u l (suc k) -ℤ l *ℤ l *ℤ cleared_t u l k
+
+-- U_k(u / l) * l^k
+abbrev pub cleared_u : ℤ → ℤ → ℕ → ℤ
+cleared_u u l zero = pos 1
+cleared_u u l (suc zero) = pos 2 *ℤ u
+cleared_u u l (suc (suc k)) = pos 2 *ℤ u *ℤ cleared_u u l (suc k) -ℤ l *ℤ l *ℤ cleared_u u l k
+
+abbrev pub power : ℤ → ℕ → ℤ
+power z zero = pos 1
+power z (suc n) = z *ℤ power z n

@@ -1,0 +1,3 @@
+//! What a file of an ephemeris says: the definitions that contracts cite. A file's bytes come in; what goes out is
+//! which bytes have the form that is read, and the exact position that their numbers give at each time.
+#![tactic(auto)]

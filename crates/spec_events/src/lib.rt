@@ -1,0 +1,9 @@
+//! What an event is, how a span is halved into leaves, and which windows the leaves make: the types and definitions
+//! that contracts cite, and the laws about them. Exact positions and intervals come in; windows of seconds go out.
+#![tactic(auto)]
+
+mod tree;
+mod window;
+
+pub use tree::{Leaf, Mark, Node, Turn, Verdict};
+pub use window::{Holds, Window};

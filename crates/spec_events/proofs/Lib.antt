@@ -2,3 +2,5 @@ pub mod Leaves
 pub mod Covering
 pub mod Runs
 pub mod Windowing
+pub mod Units
+pub mod Range

@@ -1,5 +1,10 @@
 // Laws about the definitions: what holds of all trees, leaves and windows.
-ghost use Rattle.std.specs.Prelude.{◌≡◌, ◌++◌, ◌∷◌, [], List, None, Some, Bool, true, ℤ};
+ghost use Rattle.std.specs.Prelude.{◌≡◌, ◌++◌, ◌∷◌, [], List, None, Some, Bool, true, ℤ, pos, neg_ℤ, ◌≤ℤ◌};
+ghost use Rattle.spec_text.specs.declared.decimals.Decimal.{Decimal};
+ghost use Rattle.spec_intervals.specs.Fraction.{Holds};
+ghost use Rattle.spec_ephemeris.specs.Series.{position};
+ghost use Rattle.spec_ephemeris.specs.OneBlock.{mercury_x};
+ghost use Rattle.spec_events.specs.LineSearch.{x_range};
 ghost use Rattle.spec_events.specs.Events.{AreWindows};
 ghost use Rattle.spec_events.specs.Runs.{joined};
 ghost use Rattle.spec_events.specs.Windows.{AllTold, windows};
@@ -32,4 +37,9 @@ pub fn windows_from_the_left()
 /// the span, each ends before the next begins, they hold every event, and each of them is as told.
 pub fn windows_of_a_covered_span()
     ensures are_windows { (p u : ℤ → Bool) (a b : ℤ) (ls : List Leaf) → Covers a ls b → AllTold (λ t. p t ≡ true) (λ t. u t ≡ true) ls → AreWindows (λ t. p t ≡ true) (λ t. u t ≡ true) a b (windows ls) }
+{}
+
+/// The interval of Mercury's x from one time to another holds x at each time between.
+pub fn x_is_held()
+    ensures holds { (c0 c1 : Decimal) (a b t : ℤ) → neg_ℤ (pos 140) ≤ℤ c0.exp → neg_ℤ (pos 140) ≤ℤ c1.exp → a ≤ℤ t → t ≤ℤ b → Holds (x_range c0 c1 a b) (position (mercury_x c0 c1) t) }
 {}

@@ -4,3 +4,5 @@ pub mod Runs
 pub mod Windowing
 pub mod Units
 pub mod Range
+pub mod Signed
+pub mod Sound

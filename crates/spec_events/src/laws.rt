@@ -4,7 +4,8 @@ ghost use Rattle.spec_text.specs.declared.decimals.Decimal.{Decimal};
 ghost use Rattle.spec_intervals.specs.Fraction.{Holds};
 ghost use Rattle.spec_ephemeris.specs.Series.{position};
 ghost use Rattle.spec_ephemeris.specs.OneBlock.{mercury_x};
-ghost use Rattle.spec_events.specs.LineSearch.{x_range};
+ghost use Rattle.spec_events.specs.LineSearch.{IsUp, x_range, sign_on, rules, root};
+ghost use Rattle.spec_intervals.specs.declared.signs.Sign.TheVariants.{Yes, No};
 ghost use Rattle.spec_events.specs.Events.{AreWindows};
 ghost use Rattle.spec_events.specs.Runs.{joined};
 ghost use Rattle.spec_events.specs.Windows.{AllTold, windows};
@@ -42,4 +43,16 @@ pub fn windows_of_a_covered_span()
 /// The interval of Mercury's x from one time to another holds x at each time between.
 pub fn x_is_held()
     ensures holds { (c0 c1 : Decimal) (a b t : ℤ) → neg_ℤ (pos 140) ≤ℤ c0.exp → neg_ℤ (pos 140) ≤ℤ c1.exp → a ≤ℤ t → t ≤ℤ b → Holds (x_range c0 c1 a b) (position (mercury_x c0 c1) t) }
+{}
+
+/// Where the sign of that interval is known, x has it at each time between.
+pub fn known_signs_are_those_of_x()
+    ensures yes { (c0 c1 : Decimal) (a b t : ℤ) → neg_ℤ (pos 140) ≤ℤ c0.exp → neg_ℤ (pos 140) ≤ℤ c1.exp → a ≤ℤ t → t ≤ℤ b → sign_on c0 c1 a b ≡ Yes → IsUp c0 c1 t }
+    ensures no { (c0 c1 : Decimal) (a b t : ℤ) → neg_ℤ (pos 140) ≤ℤ c0.exp → neg_ℤ (pos 140) ≤ℤ c1.exp → a ≤ℤ t → t ≤ℤ b → sign_on c0 c1 a b ≡ No → IsUp c0 c1 t → ⊥ }
+{}
+
+/// The rules of the search are sound, and its root is valid.
+pub fn search_is_sound()
+    ensures rules { (c0 c1 : Decimal) → IsSound (rules c0 c1) }
+    ensures root { (c0 c1 : Decimal) → IsValid (rules c0 c1) root }
 {}

@@ -6,3 +6,5 @@ pub mod Units
 pub mod Range
 pub mod Signed
 pub mod Sound
+pub mod Lines
+pub mod Told

@@ -60,7 +60,7 @@ pub no_down : (c0 c1 : Decimal) (a b t : ℤ) → neg_ℤ (pos 140) ≤ℤ c0.ex
 no_down c0 c1 a b t h g p q s =
     Holds-no (x_range c0 c1 a b) (position (mercury_x c0 c1) t) (omega arith) (Holds-x_range c0 c1 a b t h g p q) s
 
-apart : (z : ℤ) → z <ℤ pos 0 → pos 0 ≤ℤ z → ⊥
+pub apart : (z : ℤ) → z <ℤ pos 0 → pos 0 ≤ℤ z → ⊥
 apart z p q = omega (arith, ints)
 
 pub not_up : (c0 c1 : Decimal) (a b t : ℤ) → neg_ℤ (pos 140) ≤ℤ c0.exp → neg_ℤ (pos 140) ≤ℤ c1.exp → a ≤ℤ t → t ≤ℤ b → sign_on c0 c1 a b ≡ No → IsUp c0 c1 t → ⊥

@@ -4,11 +4,11 @@ ghost use Rattle.spec_text.specs.declared.decimals.Decimal.{Decimal};
 ghost use Rattle.spec_intervals.specs.Fraction.{Holds};
 ghost use Rattle.spec_ephemeris.specs.Series.{position};
 ghost use Rattle.spec_ephemeris.specs.OneBlock.{mercury_x};
-ghost use Rattle.spec_events.specs.LineSearch.{IsUp, x_range, sign_on, rules, root};
+ghost use Rattle.spec_events.specs.LineSearch.{IsUp, IsLeftOpen, x_range, sign_on, rules, root};
 ghost use Rattle.spec_intervals.specs.declared.signs.Sign.TheVariants.{Yes, No};
 ghost use Rattle.spec_events.specs.Events.{AreWindows};
 ghost use Rattle.spec_events.specs.Runs.{joined};
-ghost use Rattle.spec_events.specs.Windows.{AllTold, windows};
+ghost use Rattle.spec_events.specs.Windows.{Told, AllTold, windows};
 ghost use Rattle.spec_events.specs.declared.tree.Leaf.{Leaf};
 ghost use Rattle.spec_events.specs.Tree.{Rules, IsSound, IsValid, Covers, AreLeaves, mark_of, leaf_of, leaves};
 ghost use Rattle.spec_events.specs.declared.tree.Node.{Node};
@@ -55,4 +55,10 @@ pub fn known_signs_are_those_of_x()
 pub fn search_is_sound()
     ensures rules { (c0 c1 : Decimal) → IsSound (rules c0 c1) }
     ensures root { (c0 c1 : Decimal) → IsValid (rules c0 c1) root }
+{}
+
+/// Each mark says what is so of the times of its node: no event lies in a clear node, exactly one, in its direction,
+/// in a node with one, and the sign of x is open at an end of an undecided node, which is one second wide.
+pub fn marks_tell_of_x()
+    ensures told { (c0 c1 : Decimal) (n : Node) (m : Mark) → neg_ℤ (pos 140) ≤ℤ c0.exp → neg_ℤ (pos 140) ≤ℤ c1.exp → IsValid (rules c0 c1) n → mark_of ((rules c0 c1).verdict n) ≡ Some m → Told (IsUp c0 c1) (IsLeftOpen c0 c1) n m }
 {}

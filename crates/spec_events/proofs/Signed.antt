@@ -10,7 +10,7 @@ use Rattle.spec_intervals.specs.declared.signs.Sign.TheVariants.{Yes, No}
 use Rattle.spec_intervals.proofs.Whole.{nonneg-mul}
 use Rattle.spec_intervals.proofs.Order.{lin, le-mul, le-mul_cancel}
 use Rattle.spec_text.specs.declared.decimals.Decimal.{Decimal}
-use Rattle.spec_ephemeris.specs.Series.{position}
+use Rattle.spec_ephemeris.specs.Series.{IsInUnits, position}
 use Rattle.spec_ephemeris.specs.OneBlock.{mercury_x}
 use Rattle.spec_events.specs.LineSearch.{IsUp, x_range, sign_on}
 use Rattle.spec_events.proofs.Range.{Holds-x_range}
@@ -52,17 +52,17 @@ pub Holds-no : (t : Interval) (r : Fraction) → IsFraction r → Holds t r → 
 Holds-no t r d h e =
     down_from t.hi r.numerator (2 ^ up t.s * r.denominator) (2 ^ down t.s) (positive (2 ^ up t.s) r.denominator (pow_pos (up t.s)) d) (sign_high t e) h.high
 
-pub yes_up : (c0 c1 : Decimal) (a b t : ℤ) → neg_ℤ (pos 140) ≤ℤ c0.exp → neg_ℤ (pos 140) ≤ℤ c1.exp → a ≤ℤ t → t ≤ℤ b → sign_on c0 c1 a b ≡ Yes → pos 0 ≤ℤ (position (mercury_x c0 c1) t).numerator
+pub yes_up : (c0 c1 : Decimal) (a b t : ℤ) → IsInUnits c0 → IsInUnits c1 → a ≤ℤ t → t ≤ℤ b → sign_on c0 c1 a b ≡ Yes → pos 0 ≤ℤ (position (mercury_x c0 c1) t).numerator
 yes_up c0 c1 a b t h g p q s =
     Holds-yes (x_range c0 c1 a b) (position (mercury_x c0 c1) t) (Holds-x_range c0 c1 a b t h g p q) s
 
-pub no_down : (c0 c1 : Decimal) (a b t : ℤ) → neg_ℤ (pos 140) ≤ℤ c0.exp → neg_ℤ (pos 140) ≤ℤ c1.exp → a ≤ℤ t → t ≤ℤ b → sign_on c0 c1 a b ≡ No → (position (mercury_x c0 c1) t).numerator <ℤ pos 0
+pub no_down : (c0 c1 : Decimal) (a b t : ℤ) → IsInUnits c0 → IsInUnits c1 → a ≤ℤ t → t ≤ℤ b → sign_on c0 c1 a b ≡ No → (position (mercury_x c0 c1) t).numerator <ℤ pos 0
 no_down c0 c1 a b t h g p q s =
     Holds-no (x_range c0 c1 a b) (position (mercury_x c0 c1) t) (omega arith) (Holds-x_range c0 c1 a b t h g p q) s
 
 pub apart : (z : ℤ) → z <ℤ pos 0 → pos 0 ≤ℤ z → ⊥
 apart z p q = omega (arith, ints)
 
-pub not_up : (c0 c1 : Decimal) (a b t : ℤ) → neg_ℤ (pos 140) ≤ℤ c0.exp → neg_ℤ (pos 140) ≤ℤ c1.exp → a ≤ℤ t → t ≤ℤ b → sign_on c0 c1 a b ≡ No → IsUp c0 c1 t → ⊥
+pub not_up : (c0 c1 : Decimal) (a b t : ℤ) → IsInUnits c0 → IsInUnits c1 → a ≤ℤ t → t ≤ℤ b → sign_on c0 c1 a b ≡ No → IsUp c0 c1 t → ⊥
 not_up c0 c1 a b t h g p q s u =
     apart (position (mercury_x c0 c1) t).numerator (no_down c0 c1 a b t h g p q s) u

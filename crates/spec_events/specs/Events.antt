@@ -20,6 +20,12 @@ pub record IsIn (window : Window) (t : ℤ) : Type 0 where
   pub from : window.first ≤ℤ t
   pub to : t ≤ℤ window.last
 
+-- it holds a time, and lies after one time and up to another
+pub record IsWithin (after upto : ℤ) (window : Window) : Type 0 where
+  pub from : after <ℤ window.first
+  pub ordered : window.first ≤ℤ window.last
+  pub to : window.last ≤ℤ upto
+
 -- exactly one event lies in the window, and it is a turn in this direction
 pub record HoldsOne (P : ℤ → Type 0) (turn : Turn) (window : Window) : Type 0 where
   pub time : ℤ
@@ -44,6 +50,7 @@ HoldEvents P after upto ws = (t : ℤ) → after <ℤ t → t ≤ℤ upto → Is
 
 -- the windows of the events of P after one time and up to another
 pub record AreWindows (P U : ℤ → Type 0) (after upto : ℤ) (ws : List Window) : Type 0 where
+  pub within : All (IsWithin after upto) ws
   pub in_order : AreInOrder ws
   pub every_event : HoldEvents P after upto ws
   pub as_told : All (λ w. HoldsAs P U w w.holds) ws

@@ -1,4 +1,5 @@
 pub mod Events
 pub mod Tree
 pub mod Windows
+pub mod Runs
 pub mod LineSearch

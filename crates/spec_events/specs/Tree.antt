@@ -1,5 +1,5 @@
 -- The tree of a root, and its leaves from left to right.
-use Rattle.std.specs.Prelude.{◌≡◌, ℕ, zero, suc, ◌^◌, ◌-◌, ◌≤◌, ℤ, pos, negsuc, ◌-ℤ◌, ◌<ℤ◌, ◌≤ℤ◌, List, [], ◌∷◌, ◌++◌, Option, Some, None}
+use Rattle.std.specs.Prelude.{◌≡◌, ℕ, zero, suc, ◌^◌, ◌-◌, ◌≤◌, ℤ, pos, negsuc, ◌-ℤ◌, ◌<ℤ◌, ◌≤ℤ◌, List, [], ◌∷◌, ◌++◌, All, Option, Some, None}
 use Rattle.std.specs.Int.RustNames.{unsigned_abs}
 use Rattle.spec_events.specs.declared.tree.Node.{Node}
 use Rattle.spec_events.specs.declared.tree.Leaf.{Leaf}
@@ -69,3 +69,11 @@ leaves t n = leaves_within t (width n) n
 abbrev pub Covers : ℤ → List Leaf → ℤ → Type 0
 Covers a [] b = a ≡ b
 Covers a (l ∷ ls) b = (l.node.a ≡ a) × (l.node.a <ℤ l.node.b) × Covers l.node.b ls b
+
+-- a valid node that isn't split, with the mark of its verdict
+pub record IsLeaf (t : Rules) (l : Leaf) : Type 0 where
+  pub valid : IsValid t l.node
+  pub marked : mark_of (t.verdict l.node) ≡ Some l.mark
+
+abbrev pub AreLeaves : Rules → List Leaf → Type 0
+AreLeaves t ls = All (IsLeaf t) ls

@@ -1,5 +1,5 @@
 -- The windows of leaves that follow one another, and what the mark of a leaf says of its times.
-use Rattle.std.specs.Prelude.{Bool, true, false, List, [], ◌∷◌, if◌then◌else◌, ℤ, pos, ◌+ℤ◌, ◌≤ℤ◌, ◌<ℤ◌}
+use Rattle.std.specs.Prelude.{Bool, true, false, List, [], ◌∷◌, All, if◌then◌else◌, ℤ, pos, ◌+ℤ◌, ◌≤ℤ◌, ◌<ℤ◌}
 use Rattle.spec_events.specs.declared.tree.Node.{Node}
 use Rattle.spec_events.specs.declared.tree.Leaf.{Leaf}
 use Rattle.spec_events.specs.declared.tree.Mark.{Mark}
@@ -45,5 +45,4 @@ Told P U n (M.One turn) = HoldsAs P U (window_of n (H.Certain turn)) (H.Certain 
 Told P U n M.Undecided = HoldsAs P U (window_of n H.Undecided) H.Undecided
 
 abbrev pub AllTold : (ℤ → Type 0) → (ℤ → Type 0) → List Leaf → Type 0
-AllTold P U [] = Unit {0}
-AllTold P U (l ∷ ls) = Told P U l.node l.mark × AllTold P U ls
+AllTold P U ls = All (λ l. Told P U l.node l.mark) ls

@@ -2,8 +2,10 @@
 //! that contracts cite, and the laws about them. Exact positions and intervals come in; windows of seconds go out.
 #![tactic(auto)]
 
+mod laws;
 mod tree;
 mod window;
 
+pub use laws::{leaves_cover_the_node, leaves_of_the_parts, windows_from_the_left, windows_of_a_covered_span};
 pub use tree::{Leaf, Mark, Node, Turn, Verdict};
 pub use window::{Holds, Window};

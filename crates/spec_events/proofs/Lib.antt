@@ -1,0 +1,4 @@
+pub mod Leaves
+pub mod Covering
+pub mod Runs
+pub mod Windowing

@@ -6,7 +6,8 @@ ghost use Rattle.spec_output.specs.Report.{certain_count, line_of, report, times
 use spec_events::{Holds, Turn, Window};
 use std::alloc::{AllocError, Global};
 
-const REQUEST_LINE: &[u8] = b"FIND coord target mercury second - observer ssb frame eq axis x values 0 dir any width 1 depth 40 cut half span -43200 2721600\n";
+const REQUEST_LINE: &[u8] =
+    b"FIND coord target mercury second - observer ssb frame eq axis x values 0 dir any width 1 depth 40 cut half span -43200 2721600\n";
 
 fn add_time(text: &mut Vec<u8>, time: i64) -> Result<(), AllocError>
     ensures { OnOk result (text.new.items ≡ text.old.items ++ signed_decimal time) }
@@ -93,7 +94,14 @@ fn add_named(text: &mut Vec<u8>, name: &[u8], count: usize) -> Result<(), AllocE
 }
 
 // Two counts, each behind its name, and the end of the line.
-fn add_counts(text: &mut Vec<u8>, one: &[u8], n: usize, two: &[u8], m: usize, stop: &[u8]) -> Result<(), AllocError>
+fn add_counts(
+    text: &mut Vec<u8>,
+    one: &[u8],
+    n: usize,
+    two: &[u8],
+    m: usize,
+    stop: &[u8],
+) -> Result<(), AllocError>
     ensures { OnOk result (text.new.items ≡ text.old.items ++ (one.now ++ decimal n ++ two.now ++ decimal m ++ stop.now)) }
 {
     add_named(text, one, n)?;
@@ -103,7 +111,15 @@ fn add_counts(text: &mut Vec<u8>, one: &[u8], n: usize, two: &[u8], m: usize, st
 
 // What follows the request's line, with the counts told. Fixed texts come as parameters, which keeps their bytes
 // out of the proof.
-fn add_rest(text: &mut Vec<u8>, windows: &[Window], one: &[u8], n: usize, two: &[u8], m: usize, stop: &[u8]) -> Result<(), AllocError>
+fn add_rest(
+    text: &mut Vec<u8>,
+    windows: &[Window],
+    one: &[u8],
+    n: usize,
+    two: &[u8],
+    m: usize,
+    stop: &[u8],
+) -> Result<(), AllocError>
     ensures { OnOk result (text.new.items ≡ text.old.items ++ (window_lines windows.now ++ one.now ++ decimal n ++ two.now ++ decimal m ++ stop.now)) }
 {
     add_windows(text, windows)?;
@@ -118,6 +134,14 @@ pub(crate) fn report(alloc: Global, windows: &[Window]) -> Result<Vec<u8>, Alloc
     let undecided = undecided_count(windows);
     let mut text = Vec::new(alloc);
     text.extend_from_slice(REQUEST_LINE)?;
-    add_rest(&mut text, windows, b"END certain ", certain, b" undecided ", undecided, b"\n")?;
+    add_rest(
+        &mut text,
+        windows,
+        b"END certain ",
+        certain,
+        b" undecided ",
+        undecided,
+        b"\n",
+    )?;
     Ok(text)
 }

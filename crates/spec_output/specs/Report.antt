@@ -35,4 +35,4 @@ window_lines ws = flat_map (λ w. line_of w w.holds) ws
 abbrev pub report : List Window → List ℕ
 report ws =
     request_line ++ window_lines ws
-        ++ codes "END certain " ++ decimal (certain_count ws) ++ codes " undecided " ++ decimal (undecided_count ws) ++ codes "\n"
+    ++ codes "END certain " ++ decimal (certain_count ws) ++ codes " undecided " ++ decimal (undecided_count ws) ++ codes "\n"

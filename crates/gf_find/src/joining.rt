@@ -1,7 +1,8 @@
 // The windows of a list of leaves.
 ghost use Rattle.std.specs.Prelude.{◌≡◌, ◌++◌, [], All, IfOk, OnOk};
 ghost use Rattle.spec_events.specs.Windows.{windows};
-ghost use Rattle.gf_find.specs.Joining.{IsSpan, ended, longer};
+ghost use Rattle.spec_events.specs.Runs.{ended, longer};
+ghost use Rattle.gf_find.specs.Joining.{IsSpan};
 
 use spec_events::{Holds, Leaf, Mark, Window};
 use std::alloc::{AllocError, Global};

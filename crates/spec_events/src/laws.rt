@@ -1,8 +1,14 @@
 // Laws about the definitions: what holds of all trees, leaves and windows.
-ghost use Rattle.std.specs.Prelude.{◌≡◌, ◌++◌, ◌∷◌, [], List, None, Some, Bool, true, ℤ};
+ghost use Rattle.std.specs.Prelude.{◌≡◌, ◌++◌, ◌∷◌, [], List, None, Some, Bool, true, ℤ, pos, neg_ℤ, ◌≤ℤ◌};
+ghost use Rattle.spec_text.specs.declared.decimals.Decimal.{Decimal};
+ghost use Rattle.spec_intervals.specs.Fraction.{Holds};
+ghost use Rattle.spec_ephemeris.specs.Series.{position};
+ghost use Rattle.spec_ephemeris.specs.OneBlock.{mercury_x};
+ghost use Rattle.spec_events.specs.LineSearch.{IsUp, IsLeftOpen, x_range, sign_on, rules, root};
+ghost use Rattle.spec_intervals.specs.declared.signs.Sign.TheVariants.{Yes, No};
 ghost use Rattle.spec_events.specs.Events.{AreWindows};
 ghost use Rattle.spec_events.specs.Runs.{joined};
-ghost use Rattle.spec_events.specs.Windows.{AllTold, windows};
+ghost use Rattle.spec_events.specs.Windows.{Told, AllTold, windows};
 ghost use Rattle.spec_events.specs.declared.tree.Leaf.{Leaf};
 ghost use Rattle.spec_events.specs.Tree.{Rules, IsSound, IsValid, Covers, AreLeaves, mark_of, leaf_of, leaves};
 ghost use Rattle.spec_events.specs.declared.tree.Node.{Node};
@@ -32,4 +38,27 @@ pub fn windows_from_the_left()
 /// the span, each ends before the next begins, they hold every event, and each of them is as told.
 pub fn windows_of_a_covered_span()
     ensures are_windows { (p u : ℤ → Bool) (a b : ℤ) (ls : List Leaf) → Covers a ls b → AllTold (λ t. p t ≡ true) (λ t. u t ≡ true) ls → AreWindows (λ t. p t ≡ true) (λ t. u t ≡ true) a b (windows ls) }
+{}
+
+/// The interval of Mercury's x from one time to another holds x at each time between.
+pub fn x_is_held()
+    ensures holds { (c0 c1 : Decimal) (a b t : ℤ) → neg_ℤ (pos 140) ≤ℤ c0.exp → neg_ℤ (pos 140) ≤ℤ c1.exp → a ≤ℤ t → t ≤ℤ b → Holds (x_range c0 c1 a b) (position (mercury_x c0 c1) t) }
+{}
+
+/// Where the sign of that interval is known, x has it at each time between.
+pub fn known_signs_are_those_of_x()
+    ensures yes { (c0 c1 : Decimal) (a b t : ℤ) → neg_ℤ (pos 140) ≤ℤ c0.exp → neg_ℤ (pos 140) ≤ℤ c1.exp → a ≤ℤ t → t ≤ℤ b → sign_on c0 c1 a b ≡ Yes → IsUp c0 c1 t }
+    ensures no { (c0 c1 : Decimal) (a b t : ℤ) → neg_ℤ (pos 140) ≤ℤ c0.exp → neg_ℤ (pos 140) ≤ℤ c1.exp → a ≤ℤ t → t ≤ℤ b → sign_on c0 c1 a b ≡ No → IsUp c0 c1 t → ⊥ }
+{}
+
+/// The rules of the search are sound, and its root is valid.
+pub fn search_is_sound()
+    ensures rules { (c0 c1 : Decimal) → IsSound (rules c0 c1) }
+    ensures root { (c0 c1 : Decimal) → IsValid (rules c0 c1) root }
+{}
+
+/// Each mark says what is so of the times of its node: no event lies in a clear node, exactly one, in its direction,
+/// in a node with one, and the sign of x is open at an end of an undecided node, which is one second wide.
+pub fn marks_tell_of_x()
+    ensures told { (c0 c1 : Decimal) (n : Node) (m : Mark) → neg_ℤ (pos 140) ≤ℤ c0.exp → neg_ℤ (pos 140) ≤ℤ c1.exp → IsValid (rules c0 c1) n → mark_of ((rules c0 c1).verdict n) ≡ Some m → Told (IsUp c0 c1) (IsLeftOpen c0 c1) n m }
 {}

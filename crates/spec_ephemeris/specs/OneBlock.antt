@@ -1,7 +1,7 @@
 -- The one form of file that is read so far: a fixed header and one block, in which Mercury's x is a line.
-use Rattle.std.specs.Prelude.{◌≡◌, ℕ, ◌*◌, ◌^◌, ◌<◌, ◌≤◌, List, [], ◌∷◌, ◌++◌, length, map, codes, Ok, ℤ, pos, negsuc, unsigned_abs}
+use Rattle.std.specs.Prelude.{◌≡◌, ◌⊎◌, ℕ, ◌+◌, ◌*◌, ◌^◌, ◌<◌, List, [], ◌∷◌, ◌++◌, length, map, codes, false, Ok, ℤ, pos, negsuc, unsigned_abs}
 use borrow.Author.Differences.{up, down}
-use Rattle.spec_text.specs.Lines.{tokens}
+use Rattle.spec_text.specs.Lines.{Numbered, is_too_long, lines, text_lines, tokens}
 use Rattle.spec_text.specs.Reading.{Reads}
 use Rattle.spec_text.specs.declared.decimals.Decimal.{Decimal}
 use Rattle.spec_ephemeris.specs.Series.{Series}
@@ -80,14 +80,40 @@ MeetCells c0 c1 (cell ∷ cells) (token ∷ rest) = MeetsCell c0 c1 cell token �
 MeetCells c0 c1 [] (token ∷ rest) = ⊥
 MeetCells c0 c1 (cell ∷ cells) [] = ⊥
 
--- the line, here with its number, has at most 4,096 bytes and the tokens of the row
-pub record MeetsRow (c0 c1 : Decimal) (row : List Cell) (line : ℕ × List ℕ) : Type 0 where
-  pub short : length line.1 ≤ 4096
-  pub cells : MeetCells c0 c1 row (tokens line.1)
+-- the line isn't too long and has the tokens of the row
+pub record MeetsRow (c0 c1 : Decimal) (row : List Cell) (line : Numbered) : Type 0 where
+  pub short : is_too_long line ≡ false
+  pub cells : MeetCells c0 c1 row (tokens line.bytes)
 
--- line by line, the lines that count are those of the rows
-abbrev pub MeetRows : Decimal → Decimal → List (List Cell) → List (ℕ × List ℕ) → Type 0
+-- line by line, the lines are those of the rows
+abbrev pub MeetRows : Decimal → Decimal → List (List Cell) → List Numbered → Type 0
 MeetRows c0 c1 [] [] = Unit {0}
-MeetRows c0 c1 (row ∷ rows) (line ∷ lines) = MeetsRow c0 c1 row line × MeetRows c0 c1 rows lines
-MeetRows c0 c1 [] (line ∷ lines) = ⊥
+MeetRows c0 c1 (row ∷ rows) (line ∷ rest) = MeetsRow c0 c1 row line × MeetRows c0 c1 rows rest
+MeetRows c0 c1 [] (line ∷ rest) = ⊥
 MeetRows c0 c1 (row ∷ rows) [] = ⊥
+
+abbrev pub form : List (List Cell)
+form = header ++ block
+
+-- the text has the form, with these two coefficients; blank lines are passed over
+abbrev pub HasForm : List ℕ → Decimal → Decimal → Type 0
+HasForm text c0 c1 = MeetRows c0 c1 form (text_lines text)
+
+-- some coefficients make the line one of the row
+pub record FitsRow (row : List Cell) (line : Numbered) : Type 0 where
+  pub c0 : Decimal
+  pub c1 : Decimal
+  pub meets : MeetsRow c0 c1 row line
+
+-- where the lines leave the rows: at the number of the first line that doesn't fit its row or has none, or at `end`
+-- where a row has no line
+abbrev pub LeavesRowsAt : List (List Cell) → List Numbered → ℕ → ℕ → Type 0
+LeavesRowsAt [] [] end number = ⊥
+LeavesRowsAt [] (line ∷ rest) end number = number ≡ line.number
+LeavesRowsAt (row ∷ rows) [] end number = number ≡ end
+LeavesRowsAt (row ∷ rows) (line ∷ rest) end number =
+    ((FitsRow row line → ⊥) × (number ≡ line.number)) ⊎ (FitsRow row line × LeavesRowsAt rows rest end number)
+
+-- the text leaves the form at its first line that isn't of it, or at the number of its lines plus 1 where it ends early
+abbrev pub LeavesFormAt : List ℕ → ℕ → Type 0
+LeavesFormAt text number = LeavesRowsAt form (text_lines text) (length (lines text) + 1) number

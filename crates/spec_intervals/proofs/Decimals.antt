@@ -4,7 +4,7 @@ use Rattle.std.proofs.Math.Nat.{one-le-pow, mul_comm}
 use borrow.Author.Differences.{up, down}
 use Rattle.spec_intervals.specs.Interval.{floor_div, ceil_div, from_decimal, decimal_top, decimal_bottom}
 use Rattle.spec_intervals.specs.Fraction.{Holds, decimal}
-use Rattle.spec_intervals.proofs.Ring.{v, k as lit, ◌⊗◌, ring}
+use Rattle.spec_intervals.proofs.Ring.{v, ◌⊗◌, ring}
 use Rattle.spec_intervals.proofs.Order.{lin}
 use Rattle.spec_intervals.proofs.Floor.{floor_div-le, ceil_div-ge}
 
@@ -29,10 +29,3 @@ Holds-from_decimal m q s =
     let b = turned (ceil_div (decimal_top m q s) (decimal_bottom q s)) (2 ^ up s) (10 ^ down q) in
     let t = grouped m (10 ^ up q) (2 ^ down s) in
     record { low = omega (arith, lin); high = omega (arith, lin) }
-
--- a numeral of the size of a cleared denominator
-big : pos (10 ^ 140) *ℤ pos (10 ^ 140) ≡ pos (10 ^ 280)
-big = ring [] (lit (pos (10 ^ 140)) ⊗ lit (pos (10 ^ 140))) (lit (pos (10 ^ 280))) tt
-
-big_order : pos (10 ^ 139) ≤ℤ pos (10 ^ 140)
-big_order = omega (arith, lin)

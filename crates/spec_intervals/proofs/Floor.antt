@@ -1,12 +1,11 @@
 -- Division rounded down and up.
-use Rattle.std.proofs.Common.{◌≡◌, ℕ, zero, suc, ◌+◌, ◌*◌, ◌/◌, ◌^◌, ◌<◌, ◌≤◌, arith, refl, ap, ◌∙◌, [], ◌∷◌, ℤ, pos, negsuc, ◌+ℤ◌, ◌-ℤ◌, ◌*ℤ◌, neg_ℤ, ◌≤ℤ◌, ◌<ℤ◌, true, unsigned_abs}
+use Rattle.std.proofs.Common.{◌≡◌, ℕ, zero, suc, ◌+◌, ◌*◌, ◌/◌, ◌<◌, ◌≤◌, arith, refl, ap, ◌∙◌, [], ◌∷◌, ℤ, pos, negsuc, ◌+ℤ◌, ◌-ℤ◌, ◌*ℤ◌, neg_ℤ, ◌≤ℤ◌, ◌<ℤ◌, ◌&&◌, true, unsigned_abs}
 use Rattle.std.proofs.lemmas.Int.{ints}
 use Rattle.std.proofs.Math.Nat.{div-div-eq-div-mul, div-mul-le_self, lt-div-mul-add, div-lt_iff_lt-mul}
 use Rattle.std.proofs.Math.IntN.{neg_ℤ-neg_ℤ}
-use lib.Signed.{mag}
-use Rattle.spec_intervals.specs.Interval.{floor_div, ceil_div, is_small}
+use Rattle.spec_intervals.specs.Interval.{end_limit, floor_div, ceil_div, is_small}
 use Rattle.spec_intervals.proofs.Ring.{v, ◌⊗◌, ring, minus}
-use Rattle.spec_intervals.proofs.Order.{lin}
+use Rattle.spec_intervals.proofs.Order.{lin, le-mul_cancel}
 use Rattle.std.proofs.lemmas.Bool.Decides.{nat_tests}
 
 pub floor_div-twice : (z : ℤ) (d e : ℕ) → floor_div (floor_div z d) e ≡ floor_div z (d * e)
@@ -37,26 +36,28 @@ ceil_div-ge z d h =
     let e : neg_ℤ (floor_div (neg_ℤ z) d) *ℤ pos d ≡ neg_ℤ (floor_div (neg_ℤ z) d *ℤ pos d) = ring (floor_div (neg_ℤ z) d ∷ pos d ∷ []) (minus (v 0) ⊗ v 1) (minus (v 0 ⊗ v 1)) tt in
     rw e (omega (arith, lin))
 
-floor_div-small : (z : ℤ) (d m : ℕ) → 0 < d → mag z < m * d → unsigned_abs (floor_div z d) ≤ m
-floor_div-small (pos n) d m p h = let q : n / d < m = (div-lt_iff_lt-mul p).1 h in omega arith
-floor_div-small (negsuc n) d m p h = let q : n / d < m = (div-lt_iff_lt-mul p).1 h in omega arith
+-- a number of at most m * d is divided to at most m
+pub floor_div-small : (z : ℤ) (d m : ℕ) → 0 < d → unsigned_abs z ≤ m * d → unsigned_abs (floor_div z d) ≤ m
+floor_div-small (pos n) d m p h = let q : n / d < suc m = (div-lt_iff_lt-mul p).1 (omega arith) in omega arith
+floor_div-small (negsuc n) d m p h = let q : n / d < m = (div-lt_iff_lt-mul p).1 (omega arith) in omega arith
 
 pub unsigned_abs-neg : (z : ℤ) → unsigned_abs (neg_ℤ z) ≡ unsigned_abs z
 unsigned_abs-neg (pos zero) = refl
 unsigned_abs-neg (pos (suc n)) = refl
 unsigned_abs-neg (negsuc n) = refl
 
-mag-neg : (z : ℤ) → mag (neg_ℤ z) ≤ mag z + 1
-mag-neg (pos zero) = omega arith
-mag-neg (pos (suc n)) = omega arith
-mag-neg (negsuc n) = omega arith
+pub ceil_div-small : (z : ℤ) (d m : ℕ) → 0 < d → unsigned_abs z ≤ m * d → unsigned_abs (ceil_div z d) ≤ m
+ceil_div-small z d m p h = rw unsigned_abs-neg (floor_div-small (neg_ℤ z) d m p (rw unsigned_abs-neg h))
 
-small-from : (z : ℤ) → unsigned_abs z ≤ 2 ^ 62 → is_small z ≡ true
-small-from z h = grind (arith, nat_tests)
+pub is_small-from : (z : ℤ) → unsigned_abs z ≤ end_limit → is_small z ≡ true
+is_small-from z h = grind (arith, nat_tests)
 
-pub small-floor : (z : ℤ) (d : ℕ) → 0 < d → mag z < 2 ^ 62 * d → is_small (floor_div z d) ≡ true
-small-floor z d p h = small-from (floor_div z d) (floor_div-small z d (2 ^ 62) p h)
+pub is_small-both : (x y : ℤ) → (is_small x && is_small y) ≡ true → (unsigned_abs x ≤ end_limit) × (unsigned_abs y ≤ end_limit)
+is_small-both x y t = grind (arith, nat_tests)
 
-pub small-ceil : (z : ℤ) (d : ℕ) → 0 < d → mag z + 1 < 2 ^ 62 * d → is_small (ceil_div z d) ≡ true
-small-ceil z d p h =
-    small-from (ceil_div z d) (rw unsigned_abs-neg (floor_div-small (neg_ℤ z) d (2 ^ 62) p (omega (arith, mag-neg z))))
+-- ends in order stay in order
+pub ordered_quotients : (lo hi : ℤ) (d : ℕ) → 0 < d → lo ≤ℤ hi → floor_div lo d ≤ℤ ceil_div hi d
+ordered_quotients lo hi d p h =
+    let a : (floor_div lo d *ℤ pos d) ≤ℤ lo = floor_div-le lo d p in
+    let b : hi ≤ℤ (ceil_div hi d *ℤ pos d) = ceil_div-ge hi d p in
+    le-mul_cancel (floor_div lo d) (ceil_div hi d) d p (omega (arith, lin))

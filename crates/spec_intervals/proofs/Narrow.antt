@@ -1,14 +1,13 @@
 -- Narrowing: the shift is the least that serves, and what the interval held it still holds.
-use Rattle.std.proofs.Common.{◌≡◌, ℕ, zero, suc, ◌+◌, ◌*◌, ◌^◌, ◌<◌, ◌≤◌, arith, refl, sym, ap, ◌∙◌, [], ◌∷◌, ℤ, pos, negsuc, ◌+ℤ◌, ◌*ℤ◌, ◌≤ℤ◌, Bool, true, false, ◌&&◌, unsigned_abs, ◌⊎◌, inl, inr}
+use Rattle.std.proofs.Common.{◌≡◌, ℕ, zero, suc, ◌+◌, ◌*◌, ◌^◌, ◌<◌, ◌≤◌, arith, refl, sym, ap, ◌∙◌, [], ◌∷◌, ℤ, pos, negsuc, ◌+ℤ◌, ◌*ℤ◌, neg_ℤ, ◌≤ℤ◌, Bool, true, false, ◌&&◌, unsigned_abs, ◌⊎◌, inl, inr}
 use Rattle.std.proofs.lemmas.Int.{ints}
 use Rattle.std.proofs.lemmas.Nat.{pow-add, pow_pos}
-use lib.Signed.{mag}
 use borrow.Author.Differences.{up, down}
-use Rattle.spec_intervals.specs.Interval.{floor_div, ceil_div, fits_after, first_fit, narrow_shift, settled, narrow_by, narrow}
+use Rattle.spec_intervals.specs.Interval.{end_limit, IsIval, zero_end, floor_div, ceil_div, fits_after, first_fit, narrow_shift, settled, narrow_by, narrow}
 use Rattle.spec_intervals.specs.Fraction.{Fraction, Holds, AtMost, AtLeast}
-use Rattle.spec_intervals.proofs.Ring.{v, ◌⊗◌, ring}
+use Rattle.spec_intervals.proofs.Ring.{v, ◌⊗◌, minus, ring}
 use Rattle.spec_intervals.proofs.Order.{lin, le-mul, le-mul_cancel}
-use Rattle.spec_intervals.proofs.Floor.{small-floor, small-ceil, floor_div-le, ceil_div-ge}
+use Rattle.spec_intervals.proofs.Floor.{floor_div-small, ceil_div-small, is_small-from, is_small-both, floor_div-le, ceil_div-ge, ordered_quotients}
 use Rattle.std.proofs.lemmas.Bool.{false≢true, cases_lt}
 
 pub first_fit-is : (n k m : ℕ) (lo hi : ℤ) → k ≤ m → m ≤ k + n → fits_after m lo hi ≡ true → ((j : ℕ) → k ≤ j → j < m → fits_after j lo hi ≡ false) → first_fit n k lo hi ≡ m
@@ -30,17 +29,35 @@ lt-pow (suc n) = let p : n < 2 ^ n = lt-pow n in omega arith
 both_true : (a b : Bool) → a ≡ true → b ≡ true → (a && b) ≡ true
 both_true a b p q = rw (p, q)
 
+-- ends of at most 2^62 * 2^k fit after k halvings, and ends in order that fit after k are no greater
+pub sizes-fit : (k : ℕ) (lo hi : ℤ) → unsigned_abs lo ≤ end_limit * 2 ^ k → unsigned_abs hi ≤ end_limit * 2 ^ k → fits_after k lo hi ≡ true
+sizes-fit k lo hi p q =
+    both_true _ _ (is_small-from (floor_div lo (2 ^ k)) (floor_div-small lo (2 ^ k) end_limit (pow_pos k) p)) (is_small-from (ceil_div hi (2 ^ k)) (ceil_div-small hi (2 ^ k) end_limit (pow_pos k) q))
+
+within_neg : (w : ℤ) (m d : ℕ) → unsigned_abs w ≤ m → (neg_ℤ (pos m) *ℤ pos d) ≤ℤ (w *ℤ pos d)
+within_neg w m d h = le-mul (neg_ℤ (pos m)) w (pos d) (omega (arith, lin)) (omega (arith, lin))
+
+negated : (m d : ℕ) → neg_ℤ (pos m) *ℤ pos d ≡ neg_ℤ (pos (m * d))
+negated m d = ring (pos m ∷ pos d ∷ []) (minus (v 0) ⊗ v 1) (minus (v 0 ⊗ v 1)) tt
+
+bounded : (lo hi a b : ℤ) (m d : ℕ) → lo ≤ℤ hi → unsigned_abs a ≤ m → unsigned_abs b ≤ m → (a *ℤ pos d) ≤ℤ lo → hi ≤ℤ (b *ℤ pos d) → (unsigned_abs lo ≤ m * d) × (unsigned_abs hi ≤ m * d)
+bounded lo hi a b m d o p q f g =
+    let u : (neg_ℤ (pos m) *ℤ pos d) ≤ℤ (a *ℤ pos d) = within_neg a m d p in
+    let w : (b *ℤ pos d) ≤ℤ pos (m * d) = le-mul b (pos m) (pos d) (omega (arith, lin)) (omega (arith, lin)) in
+    let e : neg_ℤ (pos m) *ℤ pos d ≡ neg_ℤ (pos (m * d)) = negated m d in
+    (omega (arith, lin), omega (arith, lin))
+
+pub fits-sizes : (k : ℕ) (lo hi : ℤ) → lo ≤ℤ hi → fits_after k lo hi ≡ true → (unsigned_abs lo ≤ end_limit * 2 ^ k) × (unsigned_abs hi ≤ end_limit * 2 ^ k)
+fits-sizes k lo hi o t =
+    let s : (unsigned_abs (floor_div lo (2 ^ k)) ≤ end_limit) × (unsigned_abs (ceil_div hi (2 ^ k)) ≤ end_limit) = is_small-both (floor_div lo (2 ^ k)) (ceil_div hi (2 ^ k)) t in
+    bounded lo hi (floor_div lo (2 ^ k)) (ceil_div hi (2 ^ k)) end_limit (2 ^ k) o s.0 s.1 (floor_div-le lo (2 ^ k) (pow_pos k)) (ceil_div-ge hi (2 ^ k) (pow_pos k))
+
+sum-pow : (a n : ℕ) → a ≤ n → a ≤ end_limit * 2 ^ n
+sum-pow a n h = let p : n < 2 ^ n = lt-pow n in omega arith
+
 pub fits-at_sum : (lo hi : ℤ) → fits_after (unsigned_abs lo + unsigned_abs hi) lo hi ≡ true
 fits-at_sum lo hi =
-    let n : ℕ = unsigned_abs lo + unsigned_abs hi in
-    let p : unsigned_abs lo + unsigned_abs hi < 2 ^ (unsigned_abs lo + unsigned_abs hi) = lt-pow (unsigned_abs lo + unsigned_abs hi) in
-    let m : mag lo ≤ unsigned_abs lo = mag-le lo in
-    let m' : mag hi ≤ unsigned_abs hi = mag-le hi in
-    both_true _ _ (small-floor lo (2 ^ (unsigned_abs lo + unsigned_abs hi)) (pow_pos (unsigned_abs lo + unsigned_abs hi)) (omega arith)) (small-ceil hi (2 ^ (unsigned_abs lo + unsigned_abs hi)) (pow_pos (unsigned_abs lo + unsigned_abs hi)) (omega arith))
-  where
-    mag-le : (z : ℤ) → mag z ≤ unsigned_abs z
-    mag-le (pos n) = omega arith
-    mag-le (negsuc n) = omega arith
+    sizes-fit (unsigned_abs lo + unsigned_abs hi) lo hi (sum-pow (unsigned_abs lo) (unsigned_abs lo + unsigned_abs hi) (omega arith)) (sum-pow (unsigned_abs hi) (unsigned_abs lo + unsigned_abs hi) (omega arith))
 
 pub narrow_shift-is : (m : ℕ) (lo hi : ℤ) → fits_after m lo hi ≡ true → ((j : ℕ) → j < m → fits_after j lo hi ≡ false) → narrow_shift lo hi ≡ m
 unfolding narrow_shift
@@ -50,6 +67,64 @@ narrow_shift-is m lo hi t f =
     bound : (unsigned_abs lo + unsigned_abs hi < m) ⊎ (m ≤ unsigned_abs lo + unsigned_abs hi) → m ≤ 0 + (unsigned_abs lo + unsigned_abs hi)
     bound (inl h) = let a : fits_after (unsigned_abs lo + unsigned_abs hi) lo hi ≡ false = f (unsigned_abs lo + unsigned_abs hi) h in let b : fits_after (unsigned_abs lo + unsigned_abs hi) lo hi ≡ true = fits-at_sum lo hi in absurd (false≢true (sym a ∙ b))
     bound (inr h) = omega arith
+
+-- the shift found is enough, and no lesser one is
+first_fit-fits : (n k : ℕ) (lo hi : ℤ) → fits_after (k + n) lo hi ≡ true → fits_after (first_fit n k lo hi) lo hi ≡ true
+unfolding first_fit
+first_fit-fits zero k lo hi t = let e : k ≡ k + 0 = omega arith in rw e t
+first_fit-fits (suc n) k lo hi t =
+    let q : suc k + n ≡ k + suc n = omega arith in
+    by (first_fit-fits n (suc k) lo hi (rw q t)) (fits_after k lo hi) refl
+  where
+    by : fits_after (first_fit n (suc k) lo hi) lo hi ≡ true → (b : Bool) → fits_after k lo hi ≡ b → fits_after (elim b [ true ↦ k | false ↦ first_fit n (suc k) lo hi ]) lo hi ≡ true
+    by ih true e = e
+    by ih false e = ih
+
+first_fit-least : (n k : ℕ) (lo hi : ℤ) (j : ℕ) → k ≤ j → j < first_fit n k lo hi → fits_after j lo hi ≡ false
+unfolding first_fit
+first_fit-least zero k lo hi j p q = absurd (omega arith)
+first_fit-least (suc n) k lo hi j p q = by (first_fit-least n (suc k) lo hi j) (fits_after k lo hi) refl q
+  where
+    by : (suc k ≤ j → j < first_fit n (suc k) lo hi → fits_after j lo hi ≡ false) → (b : Bool) → fits_after k lo hi ≡ b → j < elim b [ true ↦ k | false ↦ first_fit n (suc k) lo hi ] → fits_after j lo hi ≡ false
+    by ih true e r = absurd (omega arith)
+    by ih false e r = at (cases_lt k j)
+      where
+        at : (k < j) ⊎ (j ≤ k) → fits_after j lo hi ≡ false
+        at (inl s) = ih (omega arith) r
+        at (inr s) = let q : j ≡ k = omega arith in rw q e
+
+pub narrow_shift-fits : (lo hi : ℤ) → fits_after (narrow_shift lo hi) lo hi ≡ true
+unfolding narrow_shift
+narrow_shift-fits lo hi =
+    first_fit-fits (unsigned_abs lo + unsigned_abs hi) 0 lo hi (let q : 0 + (unsigned_abs lo + unsigned_abs hi) ≡ unsigned_abs lo + unsigned_abs hi = omega arith in rw q (fits-at_sum lo hi))
+
+pub narrow_shift-least : (lo hi : ℤ) (k : ℕ) → k < narrow_shift lo hi → fits_after k lo hi ≡ false
+unfolding narrow_shift
+narrow_shift-least lo hi k h =
+    first_fit-least (unsigned_abs lo + unsigned_abs hi) 0 lo hi k (omega arith) h
+
+-- what is narrowed is an interval of the code
+zero_ends : (lo hi : ℤ) → (zero_end lo && zero_end hi) ≡ true → (lo ≡ pos 0) × (hi ≡ pos 0)
+zero_ends (pos zero) (pos zero) t = (refl, refl)
+zero_ends (pos zero) (pos (suc n)) t = cc
+zero_ends (pos zero) (negsuc n) t = cc
+zero_ends (pos (suc n)) hi t = cc
+zero_ends (negsuc n) hi t = cc
+
+pub IsIval-settled : (lo hi s : ℤ) → IsIval (record { lo = lo; hi = hi; s = s }) → IsIval (settled lo hi s)
+unfolding settled
+IsIval-settled (pos zero) (pos zero) s h = record { ordered = omega (arith, ints); lo_small = omega arith; hi_small = omega arith }
+IsIval-settled (pos zero) (pos (suc n)) s h = h
+IsIval-settled (pos zero) (negsuc n) s h = h
+IsIval-settled (pos (suc n)) hi s h = h
+IsIval-settled (negsuc n) hi s h = h
+
+pub IsIval-narrow : (lo hi s : ℤ) → lo ≤ℤ hi → IsIval (narrow lo hi s)
+unfolding narrow narrow_by
+IsIval-narrow lo hi s o =
+    let k : ℕ = narrow_shift lo hi in
+    let e : (unsigned_abs (floor_div lo (2 ^ narrow_shift lo hi)) ≤ end_limit) × (unsigned_abs (ceil_div hi (2 ^ narrow_shift lo hi)) ≤ end_limit) = is_small-both (floor_div lo (2 ^ narrow_shift lo hi)) (ceil_div hi (2 ^ narrow_shift lo hi)) (narrow_shift-fits lo hi) in
+    IsIval-settled (floor_div lo (2 ^ narrow_shift lo hi)) (ceil_div hi (2 ^ narrow_shift lo hi)) (s +ℤ pos (narrow_shift lo hi)) (record { ordered = ordered_quotients lo hi (2 ^ narrow_shift lo hi) (pow_pos (narrow_shift lo hi)) o; lo_small = e.0; hi_small = e.1 })
 
 -- ---- what is held
 -- the comparison with the exponent u - d, and with the same exponent written m - e
@@ -122,8 +197,3 @@ Holds-narrow lo hi s r p q = Holds-narrow_by (narrow_shift lo hi) lo hi s r p q
 pub narrow-is : (m : ℕ) (lo hi s : ℤ) → fits_after m lo hi ≡ true → ((j : ℕ) → j < m → fits_after j lo hi ≡ false) → narrow lo hi s ≡ narrow_by m lo hi s
 unfolding narrow
 narrow-is m lo hi s t f = ap (λ k. narrow_by k lo hi s) (narrow_shift-is m lo hi t f)
-
--- ends within 128 bits fit after 66 halvings
-pub fits_by_66 : (lo hi : ℤ) → mag lo < 2 ^ 127 → mag hi < 2 ^ 127 → fits_after 66 lo hi ≡ true
-fits_by_66 lo hi p q =
-    both_true _ _ (small-floor lo (2 ^ 66) (pow_pos 66) (omega arith)) (small-ceil hi (2 ^ 66) (pow_pos 66) (omega arith))

@@ -1,5 +1,6 @@
 -- The sum of two intervals holds the sum of what they hold.
 use Rattle.std.proofs.Common.{◌≡◌, ℕ, zero, suc, ◌+◌, ◌-◌, ◌*◌, ◌^◌, min, arith, refl, ap, ◌∙◌, [], ◌∷◌, ℤ, pos, negsuc, ◌+ℤ◌, ◌*ℤ◌, ◌≤ℤ◌, Bool, true, false, ◌&&◌}
+use Rattle.std.specs.Prelude.{if◌then◌else◌}
 use Rattle.std.proofs.lemmas.Int.{ints}
 use Rattle.std.proofs.lemmas.Nat.{pow_pos}
 use Rattle.std.specs.Int.{int_gap}
@@ -111,7 +112,7 @@ pub Holds-sum : (x y : Interval) (r t : Fraction) → Holds x r → Holds y t �
 unfolding sum
 Holds-sum x y r t p q = by (is_zero x) (is_zero y) (le_z x.s y.s) refl refl refl
   where
-    by : (a b c : Bool) → is_zero x ≡ a → is_zero y ≡ b → le_z x.s y.s ≡ c → Holds (elim a [ true ↦ y | false ↦ elim b [ true ↦ x | false ↦ elim c [ true ↦ sum_up x y | false ↦ sum_up y x ] ] ]) (fraction_add r t)
+    by : (a b c : Bool) → is_zero x ≡ a → is_zero y ≡ b → le_z x.s y.s ≡ c → Holds (if a then y else (if b then x else (if c then sum_up x y else sum_up y x))) (fraction_add r t)
     by true b c e f g = record { low = zero_add_low y.lo y.s r t (zero_num x r e p) q.low; high = zero_add_high y.hi y.s r t (zero_num x r e p) q.high }
     by false true c e f g = rw (fraction_add-comm r t) (record { low = zero_add_low x.lo x.s t r (zero_num y t f q) p.low; high = zero_add_high x.hi x.s t r (zero_num y t f q) p.high })
     by false false true e f g = Holds-sum_up x y r t (omega (arith, lin)) p q

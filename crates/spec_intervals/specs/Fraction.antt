@@ -1,17 +1,20 @@
--- A fraction of whole numbers, and what an interval holds.
+-- A fraction of whole numbers, and what it is for an interval to hold one.
 use Rattle.std.specs.Prelude.{ℕ, ◌*◌, ◌^◌, ◌<◌, ℤ, pos, ◌+ℤ◌, ◌-ℤ◌, ◌*ℤ◌, ◌≤ℤ◌}
 use borrow.Author.Differences.{up, down}
 use Rattle.spec_intervals.specs.Interval.{Interval}
 
--- num / den; a denominator of 0 stands for nothing, and each use says that it isn't 0
+-- numerator / denominator; one of denominator 0 stands for no number
 pub record Fraction : Type 0 where
   pub numerator : ℤ
   pub denominator : ℕ
 
+abbrev pub fraction : ℤ → ℕ → Fraction
+fraction n d = record { numerator = n; denominator = d }
+
 abbrev pub IsFraction : Fraction → Type 0
 IsFraction r = 0 < r.denominator
 
--- `z * 2^s <= r` and `r <= z * 2^s`, cleared of the denominator: one of `up s` and `down s` is 0
+-- z * 2^s <= r and r <= z * 2^s, with nothing divided: `up s` and `down s` are s and 0, or 0 and -s
 abbrev pub AtMost : ℤ → ℤ → Fraction → Type 0
 AtMost z s r = (z *ℤ pos (2 ^ up s * r.denominator)) ≤ℤ (r.numerator *ℤ pos (2 ^ down s))
 
@@ -23,16 +26,16 @@ pub record Holds (t : Interval) (r : Fraction) : Type 0 where
   pub low : AtMost t.lo t.s r
   pub high : AtLeast t.hi t.s r
 
--- sums and products of fractions
+-- exact sums, differences and products
 abbrev pub fraction_add : Fraction → Fraction → Fraction
-fraction_add a b = record { numerator = a.numerator *ℤ pos b.denominator +ℤ b.numerator *ℤ pos a.denominator; denominator = a.denominator * b.denominator }
+fraction_add a b = fraction (a.numerator *ℤ pos b.denominator +ℤ b.numerator *ℤ pos a.denominator) (a.denominator * b.denominator)
 
 abbrev pub fraction_sub : Fraction → Fraction → Fraction
-fraction_sub a b = record { numerator = a.numerator *ℤ pos b.denominator -ℤ b.numerator *ℤ pos a.denominator; denominator = a.denominator * b.denominator }
+fraction_sub a b = fraction (a.numerator *ℤ pos b.denominator -ℤ b.numerator *ℤ pos a.denominator) (a.denominator * b.denominator)
 
 abbrev pub fraction_mul : Fraction → Fraction → Fraction
-fraction_mul a b = record { numerator = a.numerator *ℤ b.numerator; denominator = a.denominator * b.denominator }
+fraction_mul a b = fraction (a.numerator *ℤ b.numerator) (a.denominator * b.denominator)
 
 -- m * 10^q
 abbrev pub decimal : ℤ → ℤ → Fraction
-decimal m q = record { numerator = m *ℤ pos (10 ^ up q); denominator = 10 ^ down q }
+decimal m q = fraction (m *ℤ pos (10 ^ up q)) (10 ^ down q)

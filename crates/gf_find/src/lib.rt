@@ -1,0 +1,5 @@
+//! The search as a whole, from words and files to a report.
+#![tactic(auto)]
+
+mod joining;
+mod printing;

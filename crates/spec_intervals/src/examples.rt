@@ -1,0 +1,70 @@
+// Worked values of each definition, by computation.
+
+ghost use Rattle.std.specs.Prelude.{◌≡◌, ◌+◌, ◌^◌, ◌+ℤ◌, pos, neg_ℤ};
+ghost use Rattle.spec_intervals.specs.Interval.{interval, floor_div, ceil_div, narrow, sum, product, from_decimal, distance_exponent, cosine_exponent};
+ghost use Rattle.spec_intervals.specs.Fraction.{Holds, fraction, fraction_add, decimal};
+ghost use Rattle.spec_intervals.specs.Signs.{sign_of};
+ghost use Rattle.spec_intervals.specs.Chebyshev.{cleared_t, cleared_u};
+ghost use Rattle.spec_intervals.specs.declared.signs.Sign.TheVariants.{Yes, No, Open};
+
+/// Low ends are rounded down and high ends up, for numbers below 0 too.
+pub fn quotients()
+    ensures seven_down { floor_div (pos 7) 2 ≡ pos 3 }
+    ensures seven_up { ceil_div (pos 7) 2 ≡ pos 4 }
+    ensures below_zero_down { floor_div (neg_ℤ (pos 7)) 2 ≡ neg_ℤ (pos 4) }
+    ensures below_zero_up { ceil_div (neg_ℤ (pos 7)) 2 ≡ neg_ℤ (pos 3) }
+{}
+
+/// An end of exactly 2^62 stays, one past it is halved, and the other end is halved with it.
+pub fn narrowing()
+    ensures at_limit { narrow (pos (2 ^ 62)) (pos (2 ^ 62)) (pos 3) ≡ interval (pos (2 ^ 62)) (pos (2 ^ 62)) (pos 3) }
+    ensures one_past { narrow (pos 1) (pos (2 ^ 62 + 1)) (pos 39) ≡ interval (pos 0) (pos (2 ^ 61 + 1)) (pos 40) }
+    ensures both_past { narrow (neg_ℤ (pos (2 ^ 63))) (pos (2 ^ 63 + 1)) (pos 5) ≡ interval (neg_ℤ (pos (2 ^ 61))) (pos (2 ^ 61 + 1)) (pos 7) }
+    ensures zero_has_exponent_zero { narrow (pos 0) (pos 0) (pos 9) ≡ interval (pos 0) (pos 0) (pos 0) }
+{}
+
+/// Up to a distance of 60 the upper interval is multiplied; past it the lower one is divided, here by 2.
+pub fn sums()
+    ensures near { sum (interval (neg_ℤ (pos 3)) (pos 5) (pos 0)) (interval (pos 1) (pos 2) (pos 4)) ≡ interval (pos 13) (pos 37) (pos 0) }
+    ensures distance_60 { sum (interval (pos 3) (pos 5) (pos 0)) (interval (pos 1) (pos 2) (pos 60)) ≡ interval (pos (2 ^ 60 + 3)) (pos (2 ^ 61 + 5)) (pos 0) }
+    ensures distance_61 { sum (interval (pos 3) (pos 5) (pos 0)) (interval (pos 1) (pos 2) (pos 61)) ≡ interval (pos (2 ^ 60 + 1)) (pos (2 ^ 61 + 3)) (pos 1) }
+    ensures zero_first { sum (interval (pos 0) (pos 0) distance_exponent) (interval (pos 1) (pos 2) (pos 4)) ≡ interval (pos 1) (pos 2) (pos 4) }
+{}
+
+/// The least product is that of the two ends of unlike sign, the greatest that of the two low ends.
+pub fn products()
+    ensures unlike_signs { product (interval (neg_ℤ (pos 3)) (pos 5) (pos 0)) (interval (neg_ℤ (pos 7)) (pos 2) (pos 1)) ≡ interval (neg_ℤ (pos 35)) (pos 21) (pos 1) }
+    ensures by_zero { product (interval (pos 0) (pos 0) (pos 0)) (interval (pos 4) (pos 5) (pos 6)) ≡ interval (pos 0) (pos 0) (pos 0) }
+{}
+
+/// -0.1, 81, 0 and 1/2 at the exponents of distances and cosines: 0 keeps its exponent.
+pub fn decimals()
+    ensures minus_tenth { from_decimal (neg_ℤ (pos 1)) (neg_ℤ (pos 1)) distance_exponent ≡ interval (neg_ℤ (pos 1677722)) (neg_ℤ (pos 1677721)) distance_exponent }
+    ensures whole { from_decimal (pos 81) (pos 0) distance_exponent ≡ interval (pos 1358954496) (pos 1358954496) distance_exponent }
+    ensures zero { from_decimal (pos 0) (pos 0) distance_exponent ≡ interval (pos 0) (pos 0) distance_exponent }
+    ensures half { from_decimal (pos 5) (neg_ℤ (pos 1)) cosine_exponent ≡ interval (pos (2 ^ 59)) (pos (2 ^ 59)) cosine_exponent }
+{}
+
+/// The interval from 1/2 to 3/2 holds 1 and 3/2, and not 2; half and a third are five sixths.
+pub fn fractions()
+    ensures one { Holds (interval (pos 1) (pos 3) (neg_ℤ (pos 1))) (fraction (pos 1) 1) }
+    ensures end { Holds (interval (pos 1) (pos 3) (neg_ℤ (pos 1))) (fraction (pos 3) 2) }
+    ensures not_two { Holds (interval (pos 1) (pos 3) (neg_ℤ (pos 1))) (fraction (pos 2) 1) → ⊥ }
+    ensures sum { fraction_add (fraction (pos 1) 2) (fraction (pos 1) 3) ≡ fraction (pos 5) 6 }
+    ensures decimal { decimal (pos 1382400) (neg_ℤ (pos 2)) ≡ fraction (pos 1382400) 100 }
+{}
+
+/// An interval that begins at 0 is not below 0, and one that ends at 0 is undecided unless it is 0 alone.
+pub fn signs()
+    ensures from_zero { sign_of (interval (pos 0) (pos 4) (pos 0)) ≡ Yes }
+    ensures zero { sign_of (interval (pos 0) (pos 0) (pos 0)) ≡ Yes }
+    ensures to_zero { sign_of (interval (neg_ℤ (pos 1)) (pos 0) (pos 0)) ≡ Open }
+    ensures below_zero { sign_of (interval (neg_ℤ (pos 2)) (neg_ℤ (pos 1)) (pos 0)) ≡ No }
+{}
+
+/// At x = 1/2: T_3 = 4 x^3 - 3 x is -1, U_2 = 4 x^2 - 1 is 0 and U_3 = 8 x^3 - 4 x is -1, each times 2^k.
+pub fn chebyshev_polynomials()
+    ensures t_3 { cleared_t (pos 1) (pos 2) 3 ≡ neg_ℤ (pos 8) }
+    ensures u_2 { cleared_u (pos 1) (pos 2) 2 ≡ pos 0 }
+    ensures u_3 { cleared_u (pos 1) (pos 2) 3 ≡ neg_ℤ (pos 8) }
+{}

@@ -1,0 +1,40 @@
+// What is true of the rules, whatever the numbers: each law is the contract of a function with nothing to do.
+
+ghost use Rattle.std.specs.Prelude.{◌≡◌, ℕ, ◌<◌, ◌≤ℤ◌, ◌<ℤ◌, ℤ, pos, true, false};
+ghost use Rattle.spec_intervals.specs.Interval.{Interval, IsIval, interval, fits_after, narrow_shift, narrow, sum, product, from_decimal};
+ghost use Rattle.spec_intervals.specs.Fraction.{Fraction, IsFraction, Holds, fraction_add, fraction_mul, decimal};
+ghost use Rattle.spec_intervals.specs.Signs.{sign_of};
+ghost use Rattle.spec_intervals.specs.declared.signs.Sign.TheVariants.{Yes, No};
+
+/// The halvings of a narrowing are enough, and no lesser number of them is.
+pub fn shift_is_least()
+    ensures enough { (lo hi : ℤ) → fits_after (narrow_shift lo hi) lo hi ≡ true }
+    ensures none_less { (lo hi : ℤ) (k : ℕ) → k < narrow_shift lo hi → fits_after k lo hi ≡ false }
+{}
+
+/// Narrowing keeps what was held, and gives ends that are in order and within the limit.
+pub fn narrowing_holds()
+    ensures holds { (lo hi s : ℤ) (r : Fraction) → Holds (interval lo hi s) r → Holds (narrow lo hi s) r }
+    ensures is_ival { (lo hi s : ℤ) → lo ≤ℤ hi → IsIval (narrow lo hi s) }
+{}
+
+/// The sum of two intervals holds the sum of any two numbers that they hold.
+pub fn sum_holds()
+    ensures { (x y : Interval) (r t : Fraction) → Holds x r → Holds y t → Holds (sum x y) (fraction_add r t) }
+{}
+
+/// The product of two intervals holds the product of any two numbers that they hold.
+pub fn product_holds()
+    ensures { (x y : Interval) (r t : Fraction) → Holds x r → Holds y t → Holds (product x y) (fraction_mul r t) }
+{}
+
+/// The interval of a decimal holds the decimal, at any exponent.
+pub fn decimal_holds()
+    ensures { (m q s : ℤ) → Holds (from_decimal m q s) (decimal m q) }
+{}
+
+/// Where the sign is `Yes` every number held is at least 0, and where it is `No` every number held is below 0.
+pub fn sign_tells()
+    ensures yes { (x : Interval) (r : Fraction) → sign_of x ≡ Yes → Holds x r → pos 0 ≤ℤ r.numerator }
+    ensures no { (x : Interval) (r : Fraction) → sign_of x ≡ No → IsFraction r → Holds x r → r.numerator <ℤ pos 0 }
+{}

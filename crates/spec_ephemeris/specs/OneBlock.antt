@@ -1,5 +1,5 @@
 -- The one form of file that is read so far: a fixed header and one block, in which Mercury's x is a line.
-use Rattle.std.specs.Prelude.{◌≡◌, ◌⊎◌, ℕ, ◌+◌, ◌*◌, ◌^◌, ◌<◌, List, [], ◌∷◌, ◌++◌, length, map, codes, false, Ok, ℤ, pos, negsuc, unsigned_abs}
+use Rattle.std.specs.Prelude.{◌≡◌, ◌⊎◌, ℕ, ◌+◌, ◌*◌, ◌^◌, ◌<◌, List, [], ◌∷◌, ◌++◌, length, map, codes, false, Ok, ℤ, pos, neg_ℤ, unsigned_abs}
 use borrow.Author.Differences.{up, down}
 use Rattle.spec_text.specs.Lines.{Numbered, is_too_long, lines, text_lines, tokens}
 use Rattle.spec_text.specs.Reading.{Reads}
@@ -8,7 +8,7 @@ use Rattle.spec_ephemeris.specs.Series.{Series}
 
 -- the block's first and last time, and its length
 abbrev pub block_start : ℤ
-block_start = negsuc 43199
+block_start = neg_ℤ (pos 43200)
 
 abbrev pub block_end : ℤ
 block_end = pos 2721600

@@ -49,12 +49,11 @@ pub fn middles()
     ensures whole_block { middle root ≡ pos 1339200 }
 {}
 
-/// Where x is the constant -5 km the block holds no window.
-pub fn windows_of_a_constant()
-    ensures { found_windows (whole (neg_ℤ (pos 5))) (whole (pos 0)) ≡ [] }
-{}
-
-/// Where x grows by 1 km each second and is 0 in the middle of the block, the one window is that second, a rise.
-pub fn windows_of_a_line()
-    ensures { found_windows (whole (pos 0)) (record { mant = pos 138240000000000000; exp = neg_ℤ (pos 11) }) ≡ window (pos 1339200) (pos 1339200) (H.Certain Rise) ∷ [] }
+/// The windows of four lines over the block: x grows or falls by 1 km each second and is 0 in the middle of the block;
+/// it is 10^-9 km below 0 there, which no interval tells from 0; and it is -5 km throughout.
+pub fn windows_of_lines()
+    ensures rises { found_windows (whole (pos 0)) (record { mant = pos 138240000000000000; exp = neg_ℤ (pos 11) }) ≡ window (pos 1339200) (pos 1339200) (H.Certain Rise) ∷ [] }
+    ensures falls { found_windows (whole (pos 0)) (whole (neg_ℤ (pos 1382400))) ≡ window (pos 1339201) (pos 1339201) (H.Certain Fall) ∷ [] }
+    ensures close_to_zero { found_windows (record { mant = neg_ℤ (pos 1); exp = neg_ℤ (pos 9) }) (whole (pos 1382400)) ≡ window (pos 1339200) (pos 1339201) H.Undecided ∷ [] }
+    ensures constant { found_windows (whole (neg_ℤ (pos 5))) (whole (pos 0)) ≡ [] }
 {}

@@ -25,10 +25,8 @@ pub fn leaves_of_three_seconds()
 
 /// Adjacent undecided leaves share a window, a clear leaf has none, and a leaf with one event stands between.
 pub fn windows_of_five_leaves()
-    ensures {
-        windows (leaf (pos 0) (pos 2) M.Clear ∷ leaf (pos 2) (pos 3) M.Undecided ∷ leaf (pos 3) (pos 4) M.Undecided ∷ leaf (pos 4) (pos 5) (M.One Rise) ∷ leaf (pos 5) (pos 6) M.Undecided ∷ [])
-        ≡ window (pos 3) (pos 4) H.Undecided ∷ window (pos 5) (pos 5) (H.Certain Rise) ∷ window (pos 6) (pos 6) H.Undecided ∷ []
-    }
+    ensures { windows (leaf (pos 0) (pos 2) M.Clear ∷ leaf (pos 2) (pos 3) M.Undecided ∷ leaf (pos 3) (pos 4) M.Undecided ∷ leaf (pos 4) (pos 5) (M.One Rise) ∷ leaf (pos 5) (pos 6) M.Undecided ∷ [])
+        ≡ window (pos 3) (pos 4) H.Undecided ∷ window (pos 5) (pos 5) (H.Certain Rise) ∷ window (pos 6) (pos 6) H.Undecided ∷ [] }
 {}
 
 /// The first rule that applies decides.

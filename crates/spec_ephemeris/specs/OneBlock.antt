@@ -1,9 +1,9 @@
 -- The one form of file that is read so far: a fixed header and one block, in which Mercury's x is a line.
-use Rattle.std.specs.Prelude.{◌≡◌, ◌⊎◌, ℕ, ◌+◌, ◌*◌, ◌^◌, ◌<◌, List, [], ◌∷◌, ◌++◌, length, map, codes, false, Ok, ℤ, pos, negsuc, unsigned_abs}
-use borrow.Author.Differences.{up, down}
+use Rattle.std.specs.Prelude.{◌≡◌, ◌⊎◌, ℕ, ◌+◌, List, [], ◌∷◌, ◌++◌, length, map, codes, false, Ok, ℤ, pos, negsuc}
 use Rattle.spec_text.specs.Lines.{Numbered, is_too_long, lines, text_lines, tokens}
 use Rattle.spec_text.specs.Reading.{Reads}
 use Rattle.spec_text.specs.declared.decimals.Decimal.{Decimal}
+use Rattle.spec_intervals.specs.Interval.{IsDistance}
 use Rattle.spec_ephemeris.specs.Series.{Series}
 
 -- the block's first and last time, and its length
@@ -66,7 +66,7 @@ block =
 
 -- a coefficient of a position is below 2^36 km in size
 abbrev pub IsCoefficient : Decimal → Type 0
-IsCoefficient d = unsigned_abs d.mant * 10 ^ up d.exp < 2 ^ 36 * 10 ^ down d.exp
+IsCoefficient d = IsDistance d.mant d.exp
 
 -- the token is the cell's, where the coefficients are c0 and c1
 abbrev pub MeetsCell : Decimal → Decimal → Cell → List ℕ → Type 0

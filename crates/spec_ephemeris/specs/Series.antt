@@ -1,6 +1,6 @@
 -- The Chebyshev series of one coordinate over a granule, and its exact value at each time.
 -- Times are seconds of TDB since J2000, and positions are in km.
-use Rattle.std.specs.Prelude.{ℕ, suc, ◌*◌, ◌-◌, ◌^◌, List, [], ◌∷◌, length, ℤ, pos, negsuc, ◌+ℤ◌, ◌-ℤ◌, ◌*ℤ◌}
+use Rattle.std.specs.Prelude.{ℕ, suc, ◌*◌, ◌-◌, ◌^◌, List, [], ◌∷◌, length, ℤ, pos, negsuc, ◌+ℤ◌, ◌-ℤ◌, ◌*ℤ◌, neg_ℤ, ◌≤ℤ◌}
 use Rattle.spec_text.specs.declared.decimals.Decimal.{Decimal}
 use Rattle.spec_intervals.specs.Fraction.{Fraction}
 use Rattle.spec_intervals.specs.Chebyshev.{cleared_t, power}
@@ -19,7 +19,11 @@ abbrev pub to_nat : ℤ → ℕ
 to_nat (pos n) = n
 to_nat (negsuc n) = 0
 
--- a decimal in units of 10^-140, which no decimal of a file is finer than
+-- a whole number of units of 10^-140, as each decimal of a file is
+abbrev pub IsInUnits : Decimal → Type 0
+IsInUnits d = neg_ℤ (pos 140) ≤ℤ d.exp
+
+-- in these units
 abbrev pub scaled : Decimal → ℤ
 scaled d = d.mant *ℤ pos (10 ^ to_nat (pos 140 +ℤ d.exp))
 

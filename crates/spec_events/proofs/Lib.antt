@@ -8,3 +8,4 @@ pub mod Signed
 pub mod Sound
 pub mod Lines
 pub mod Told
+pub mod Found

@@ -11,7 +11,7 @@ use Rattle.spec_intervals.proofs.Decimals.{bottom_pos}
 use Rattle.spec_text.specs.declared.decimals.Decimal.{Decimal}
 use Rattle.spec_intervals.specs.Fraction.{Fraction, Holds}
 use Rattle.spec_intervals.proofs.Holding.{Holds-narrowed}
-use Rattle.spec_ephemeris.specs.Series.{Series, to_nat, scaled, argument_at, position}
+use Rattle.spec_ephemeris.specs.Series.{Series, IsInUnits, to_nat, scaled, argument_at, position}
 use Rattle.spec_ephemeris.specs.OneBlock.{mercury_x}
 use Rattle.spec_events.specs.LineSearch.{coefficient, argument, line, x_range}
 use Rattle.spec_events.proofs.Units.{Encloses, line_ends, line_encloses}
@@ -37,7 +37,7 @@ to_all : (z : ℤ) (r k : ℕ) → r + k ≡ 140 → (z *ℤ pos (10 ^ r * 2 ^ 0
 to_all z r k e =
     ring (z ∷ pos (10 ^ r) ∷ pos (10 ^ k) ∷ []) ((v 0 ⊗ (v 1 ⊗ lit (pos (2 ^ 0)))) ⊗ v 2) (v 0 ⊗ (v 1 ⊗ v 2)) tt ∙ joined_powers z r k 140 e
 
-pub coefficient_encloses : (d : Decimal) → neg_ℤ (pos 140) ≤ℤ d.exp → Encloses (coefficient d) (10 ^ 140) (scaled d *ℤ pos (2 ^ 24))
+pub coefficient_encloses : (d : Decimal) → IsInUnits d → Encloses (coefficient d) (10 ^ 140) (scaled d *ℤ pos (2 ^ 24))
 unfolding from_decimal
 coefficient_encloses d h =
     let e : down d.exp + (140 - down d.exp) ≡ 140 = below d.exp h in
@@ -79,7 +79,7 @@ units s r u l = ring (s ∷ r ∷ u ∷ l ∷ []) (((v 0 ⊗ lit (pos (2 ^ 24)))
 abbrev ends_of : Decimal → Decimal → ℤ → ℤ → Interval
 ends_of c0 c1 a b = line_ends (coefficient c0) (coefficient c1) (argument (mercury_x c0 c1) a b)
 
-ends_enclose : (c0 c1 : Decimal) (a b t : ℤ) → neg_ℤ (pos 140) ≤ℤ c0.exp → neg_ℤ (pos 140) ≤ℤ c1.exp → a ≤ℤ t → t ≤ℤ b → Encloses (ends_of c0 c1 a b) (10 ^ 140 * 2764800) ((position (mercury_x c0 c1) t).numerator *ℤ pos (2 ^ 84))
+ends_enclose : (c0 c1 : Decimal) (a b t : ℤ) → IsInUnits c0 → IsInUnits c1 → a ≤ℤ t → t ≤ℤ b → Encloses (ends_of c0 c1 a b) (10 ^ 140 * 2764800) ((position (mercury_x c0 c1) t).numerator *ℤ pos (2 ^ 84))
 ends_enclose c0 c1 a b t h g p q =
     let e = units (scaled c0) (scaled c1) (u_at c0 c1 t) (pos 2764800) in
     let f : (position (mercury_x c0 c1) t).numerator *ℤ pos (2 ^ 84) ≡ (scaled c0 *ℤ pos 2764800 +ℤ scaled c1 *ℤ u_at c0 c1 t) *ℤ pos (2 ^ 84) = ap (λ z. z *ℤ pos (2 ^ 84)) (x_is c0 c1 t) in
@@ -93,7 +93,7 @@ once d = omega arith
 held : (lo hi n : ℤ) (d : ℕ) → (lo *ℤ pos d) ≤ℤ (n *ℤ pos (2 ^ 84)) → (n *ℤ pos (2 ^ 84)) ≤ℤ (hi *ℤ pos d) → Holds (record { lo = lo; hi = hi; s = negsuc 83 }) (record { numerator = n; denominator = d })
 held lo hi n d p q = record { low = subst (λ (k : ℕ). (lo *ℤ pos k) ≤ℤ (n *ℤ pos (2 ^ 84))) (sym (once d)) p; high = subst (λ (k : ℕ). (n *ℤ pos (2 ^ 84)) ≤ℤ (hi *ℤ pos k)) (sym (once d)) q }
 
-pub Holds-x_range : (c0 c1 : Decimal) (a b t : ℤ) → neg_ℤ (pos 140) ≤ℤ c0.exp → neg_ℤ (pos 140) ≤ℤ c1.exp → a ≤ℤ t → t ≤ℤ b → Holds (x_range c0 c1 a b) (position (mercury_x c0 c1) t)
+pub Holds-x_range : (c0 c1 : Decimal) (a b t : ℤ) → IsInUnits c0 → IsInUnits c1 → a ≤ℤ t → t ≤ℤ b → Holds (x_range c0 c1 a b) (position (mercury_x c0 c1) t)
 unfolding line
 Holds-x_range c0 c1 a b t h g p q =
     let e : Encloses (ends_of c0 c1 a b) (10 ^ 140 * 2764800) ((position (mercury_x c0 c1) t).numerator *ℤ pos (2 ^ 84)) = ends_enclose c0 c1 a b t h g p q in

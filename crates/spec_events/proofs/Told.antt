@@ -4,7 +4,7 @@ use Rattle.std.proofs.lemmas.Int.{ints}
 use Rattle.spec_text.specs.declared.decimals.Decimal.{Decimal}
 use Rattle.spec_intervals.specs.declared.signs.Sign.{Sign}
 use Rattle.spec_intervals.specs.declared.signs.Sign.TheVariants.{Yes, No, Open}
-use Rattle.spec_ephemeris.specs.Series.{position, scaled, argument_at}
+use Rattle.spec_ephemeris.specs.Series.{IsInUnits, position, scaled, argument_at}
 use Rattle.spec_ephemeris.specs.OneBlock.{mercury_x}
 use Rattle.spec_events.specs.declared.tree.Node.{Node}
 use Rattle.spec_events.specs.declared.tree.Turn.{Turn}
@@ -45,7 +45,7 @@ no_event_down : (P : ℤ → Type 0) (t : ℤ) → (P (t -ℤ pos 1) → ⊥) �
 no_event_down P t p q (inl e) = q e.1
 no_event_down P t p q (inr e) = p e.0
 
-module _ (c0 c1 : Decimal) (h0 : neg_ℤ (pos 140) ≤ℤ c0.exp) (h1 : neg_ℤ (pos 140) ≤ℤ c1.exp) where
+module _ (c0 c1 : Decimal) (h0 : IsInUnits c0) (h1 : IsInUnits c1) where
   abbrev x : ℤ → ℤ
   x t = (position (mercury_x c0 c1) t).numerator
 
@@ -94,8 +94,8 @@ module _ (c0 c1 : Decimal) (h0 : neg_ℤ (pos 140) ≤ℤ c0.exp) (h1 : neg_ℤ 
   narrow_is : (n : Node) → n.a <ℤ n.b → is_wide n ≡ false → n.b -ℤ pos 1 ≡ n.a
   narrow_is n i w = grind (arith, ints)
 
-  only_time : (n : Node) (t : ℤ) → n.b -ℤ pos 1 ≡ n.a → IsIn (window_of n H.Undecided) t → t ≡ n.b
-  only_time n t w i = omega (arith, ints, w, i.from, i.to)
+  only_time : (n : Node) (t : ℤ) → n.b -ℤ pos 1 ≡ n.a → n.a <ℤ t → t ≤ℤ n.b → t ≡ n.b
+  only_time n t w p q = omega (arith, ints, w, p, q)
 
   pub told : (n : Node) (m : Mark) → n.a <ℤ n.b → mark_of (verdict c0 c1 n) ≡ Some m → Told (IsUp c0 c1) (IsLeftOpen c0 c1) n m
   told n M.Clear i e = no_event n.a n.b (clear_by (is_wide n) (sign_on c0 c1 n.a n.b) (sign_on c0 c1 n.a n.a) (sign_on c0 c1 n.b n.b) (slope_sign c1) e)
@@ -106,12 +106,12 @@ module _ (c0 c1 : Decimal) (h0 : neg_ℤ (pos 140) ≤ℤ c0.exp) (h1 : neg_ℤ 
         time = n.b;
         inside = record { from = omega (arith, ints, i); to = omega (arith, ints) };
         turns = turn_at turn n.a n.b w r.1;
-        alone = λ t k _. only_time n t w (record { from = k.from; to = k.to });
+        alone = λ t k _. only_time n t w (omega (arith, ints, k.from)) k.to;
       }
   told n M.Undecided i e =
       let r = undecided_by (is_wide n) (sign_on c0 c1 n.a n.b) (sign_on c0 c1 n.a n.a) (sign_on c0 c1 n.b n.b) (slope_sign c1) e in
       let w = narrow_is n i r.0 in
-      λ t k. subst (IsLeftOpen c0 c1) (sym (only_time n t w k)) (left_open w r.1 r.2)
+      λ t p q. subst (IsLeftOpen c0 c1) (sym (only_time n t w p q)) (left_open w r.1 r.2)
     where
       left_open : n.b -ℤ pos 1 ≡ n.a → verdict c0 c1 n ≡ V.Undecided → (sign_on c0 c1 n.a n.a ≡ Open) ⊎ (sign_on c0 c1 n.b n.b ≡ Open) → IsLeftOpen c0 c1 n.b
       left_open w u o = record {

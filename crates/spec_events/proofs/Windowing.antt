@@ -6,10 +6,11 @@ use Rattle.spec_events.specs.declared.tree.Node.{Node}
 use Rattle.spec_events.specs.declared.tree.Leaf.{Leaf}
 use Rattle.spec_events.specs.declared.tree.Mark.{Mark}
 use Rattle.spec_events.specs.declared.tree.Mark.TheVariants as M
+use Rattle.spec_events.specs.declared.tree.Turn.{Turn}
 use Rattle.spec_events.specs.declared.window.Holds.{Holds}
 use Rattle.spec_events.specs.declared.window.Holds.TheVariants as H
 use Rattle.spec_events.specs.declared.window.Window.{Window}
-use Rattle.spec_events.specs.Events.{IsEvent, IsIn, IsWithin, HoldsAs, AreInOrder, AreWindows}
+use Rattle.spec_events.specs.Events.{IsEvent, IsIn, IsWithin, HoldsOne, AreInOrder, AreWindows}
 use Rattle.spec_events.specs.Tree.{Covers}
 use Rattle.spec_events.specs.Windows.{window_of, windows, Told, AllTold}
 use Rattle.spec_events.specs.Runs.{longer, ended, joined}
@@ -42,21 +43,34 @@ module _ (P U : ℤ → Type 0) where
     within = All-weaker (IsWithin mid upto) (IsWithin low upto) (earlier low mid upto h) ws g.within;
     in_order = g.in_order;
     every_event = λ t a b e. by t a b e (order t mid);
-    as_told = g.as_told;
+    certain = g.certain;
+    undecided = g.undecided;
   }
     where
       by : (t : ℤ) → low <ℤ t → t ≤ℤ upto → IsEvent P t → (t ≤ℤ mid) ⊎ (mid <ℤ t) → Any (λ w. IsIn w t) ws
       by t a b e (inl p) = absurd (none t a p e)
       by t a b e (inr p) = g.every_event t p b e
 
+  -- what a window says by what it holds
+  abbrev HoldsAs : Window → Holds → Type 0
+  HoldsAs w (H.Certain turn) = HoldsOne P turn w
+  HoldsAs w H.Undecided = (t : ℤ) → IsIn w t → U t
+
+  certain_as : (w : Window) (turn : Turn) → HoldsAs w w.holds → w.holds ≡ H.Certain turn → HoldsOne P turn w
+  certain_as w turn h e = subst (HoldsAs w) e h
+
+  open_as : (w : Window) → HoldsAs w w.holds → w.holds ≡ H.Undecided → (t : ℤ) → IsIn w t → U t
+  open_as w h e = subst (HoldsAs w) e h
+
   -- a window in front
-  front : (low upto : ℤ) (w : Window) (ws : List Window) → w.first ≡ low +ℤ pos 1 → low <ℤ w.last → w.last ≤ℤ upto → HoldsAs P U w w.holds → AreWindows P U w.last upto ws → AreWindows P U low upto (w ∷ ws)
+  front : (low upto : ℤ) (w : Window) (ws : List Window) → w.first ≡ low +ℤ pos 1 → low <ℤ w.last → w.last ≤ℤ upto → HoldsAs w w.holds → AreWindows P U w.last upto ws → AreWindows P U low upto (w ∷ ws)
   front low upto w ws f i j h g = record {
     within = All-cons (IsWithin low upto) w ws (record { from = omega (arith, ints, f); ordered = omega (arith, ints, f, i); to = j })
         (All-weaker (IsWithin w.last upto) (IsWithin low upto) (earlier low w.last upto (omega (arith, ints, i))) ws g.within);
     in_order = in_order w upto ws g.within g.in_order;
     every_event = λ t a b e. by t a b e (order t w.last);
-    as_told = All-cons (λ v. HoldsAs P U v v.holds) w ws h g.as_told;
+    certain = All-cons (λ v. (turn : Turn) → v.holds ≡ H.Certain turn → HoldsOne P turn v) w ws (λ turn e. certain_as w turn h e) g.certain;
+    undecided = All-cons (λ v. v.holds ≡ H.Undecided → (t : ℤ) → IsIn v t → U t) w ws (open_as w h) g.undecided;
   }
     where
       by : (t : ℤ) → low <ℤ t → t ≤ℤ upto → IsEvent P t → (t ≤ℤ w.last) ⊎ (w.last <ℤ t) → Any (λ v. IsIn v t) (w ∷ ws)
@@ -66,27 +80,28 @@ module _ (P U : ℤ → Type 0) where
   -- the times after low up to a are those of the run
   abbrev IsRun : Option Window → ℤ → ℤ → Type 0
   IsRun None low a = low ≡ a
-  IsRun (Some w) low a = (w.first ≡ low +ℤ pos 1) × (w.last ≡ a) × (low <ℤ a) × (w.holds ≡ H.Undecided) × HoldsAs P U w H.Undecided
+  IsRun (Some w) low a = (w.first ≡ low +ℤ pos 1) × (w.last ≡ a) × (low <ℤ a) × (w.holds ≡ H.Undecided) × HoldsAs w H.Undecided
 
   close : (run : Option Window) (low a upto : ℤ) (ws : List Window) → IsRun run low a → a ≤ℤ upto → AreWindows P U a upto ws → AreWindows P U low upto (ended run ws)
   close None low a upto ws r j g = subst (λ (z : ℤ). AreWindows P U z upto ws) (sym r) g
   close (Some w) low a upto ws r j g =
-      front low upto w ws r.0 (omega (arith, ints, r.1, r.2)) (omega (arith, ints, r.1, j)) (subst (λ (h : Holds). HoldsAs P U w h) (sym r.3) r.4) (subst (λ (z : ℤ). AreWindows P U z upto ws) (sym r.1) g)
+      front low upto w ws r.0 (omega (arith, ints, r.1, r.2)) (omega (arith, ints, r.1, j)) (subst (λ (h : Holds). HoldsAs w h) (sym r.3) r.4) (subst (λ (z : ℤ). AreWindows P U z upto ws) (sym r.1) g)
 
   stretch : (run : Option Window) (low : ℤ) (n : Node) → IsRun run low n.a → n.a <ℤ n.b → Told P U n M.Undecided → IsRun (Some (longer run n)) low n.b
-  stretch None low n r i h = (ap (λ z. z +ℤ pos 1) (sym r), refl, omega (arith, ints, r, i), refl, h)
+  stretch None low n r i h = (ap (λ z. z +ℤ pos 1) (sym r), refl, omega (arith, ints, r, i), refl, λ t k. h t (omega (arith, ints, k.from)) k.to)
   stretch (Some w) low n r i h = (r.0, refl, omega (arith, ints, r.2, i), refl, λ t k. by t k (order t w.last))
     where
       by : (t : ℤ) → IsIn (longer (Some w) n) t → (t ≤ℤ w.last) ⊎ (w.last <ℤ t) → U t
       by t k (inl p) = r.4 t (record { from = k.from; to = p })
-      by t k (inr p) = h t (record { from = omega (arith, ints, r.1, p); to = k.to })
+      by t k (inr p) = h t (omega (arith, ints, r.1, p)) k.to
 
   nothing : (a : ℤ) → AreWindows P U a a []
   nothing a = record {
     within = All-nil (IsWithin a a);
     in_order = tt;
     every_event = λ t p q e. absurd (omega (arith, ints));
-    as_told = All-nil (λ w. HoldsAs P U w w.holds);
+    certain = All-nil (λ v. (turn : Turn) → v.holds ≡ H.Certain turn → HoldsOne P turn v);
+    undecided = All-nil (λ v. v.holds ≡ H.Undecided → (t : ℤ) → IsIn v t → U t);
   }
 
   -- one leaf in front

@@ -33,10 +33,8 @@ pub record HoldsOne (P : ℤ → Type 0) (turn : Turn) (window : Window) : Type 
   pub turns : IsTurn P turn time
   pub alone : (t : ℤ) → IsIn window t → IsEvent P t → t ≡ time
 
--- what a window promises: one event, or U of each of its times
-abbrev pub HoldsAs : (ℤ → Type 0) → (ℤ → Type 0) → Window → Holds → Type 0
-HoldsAs P U window (Certain turn) = HoldsOne P turn window
-HoldsAs P U window Undecided = (t : ℤ) → IsIn window t → U t
+abbrev pub AreWithin : ℤ → ℤ → List Window → Type 0
+AreWithin after upto ws = All (IsWithin after upto) ws
 
 -- each window ends before the next begins
 abbrev pub AreInOrder : List Window → Type 0
@@ -48,9 +46,18 @@ AreInOrder (w ∷ v ∷ ws) = (w.last <ℤ v.first) × AreInOrder (v ∷ ws)
 abbrev pub HoldEvents : (ℤ → Type 0) → ℤ → ℤ → List Window → Type 0
 HoldEvents P after upto ws = (t : ℤ) → after <ℤ t → t ≤ℤ upto → IsEvent P t → Any (λ w. IsIn w t) ws
 
--- the windows of the events of P after one time and up to another
+-- each certain window holds exactly one event, a turn in its direction
+abbrev pub AreCertain : (ℤ → Type 0) → List Window → Type 0
+AreCertain P ws = All (λ w. (turn : Turn) → w.holds ≡ Certain turn → HoldsOne P turn w) ws
+
+-- U is so of each time of each undecided window
+abbrev pub AreOpen : (ℤ → Type 0) → List Window → Type 0
+AreOpen U ws = All (λ w. w.holds ≡ Undecided → (t : ℤ) → IsIn w t → U t) ws
+
+-- the windows of the events of P after one time and up to another, where U is so of what is left undecided
 pub record AreWindows (P U : ℤ → Type 0) (after upto : ℤ) (ws : List Window) : Type 0 where
-  pub within : All (IsWithin after upto) ws
+  pub within : AreWithin after upto ws
   pub in_order : AreInOrder ws
   pub every_event : HoldEvents P after upto ws
-  pub as_told : All (λ w. HoldsAs P U w w.holds) ws
+  pub certain : AreCertain P ws
+  pub undecided : AreOpen U ws

@@ -1,10 +1,10 @@
 -- The search for the times at which Mercury's x passes 0, where x is a line over one block: its intervals, its
 -- signs, and what is said of a node by the first rule that applies.
-use Rattle.std.specs.Prelude.{◌≡◌, ◌⊎◌, ◌^◌, Bool, true, false, not, ◌&&◌, ◌||◌, List, ℤ, pos, negsuc, ◌+ℤ◌, ◌-ℤ◌, ◌*ℤ◌, ◌≤ℤ◌, int_lt, int_div, if◌then◌else◌}
+use Rattle.std.specs.Prelude.{◌≡◌, ◌⊎◌, ◌^◌, Bool, true, false, not, ◌&&◌, ◌||◌, List, ℤ, pos, ◌+ℤ◌, ◌-ℤ◌, ◌*ℤ◌, neg_ℤ, ◌≤ℤ◌, int_lt, int_div, if◌then◌else◌}
 use Rattle.spec_text.specs.declared.decimals.Decimal.{Decimal}
 use Rattle.spec_intervals.specs.declared.signs.Sign.{Sign}
 use Rattle.spec_intervals.specs.declared.signs.Sign.TheVariants.{Yes, No, Open}
-use Rattle.spec_intervals.specs.Interval.{Interval, floor_div, ceil_div, least4, greatest4, narrow, from_decimal}
+use Rattle.spec_intervals.specs.Interval.{Interval, interval, distance_exponent, floor_div, ceil_div, least4, greatest4, narrow, from_decimal}
 use Rattle.spec_intervals.specs.Signs.{sign_of}
 use Rattle.spec_ephemeris.specs.Series.{Series, argument_at, position}
 use Rattle.spec_ephemeris.specs.OneBlock.{block_start, block_end, mercury_x}
@@ -23,15 +23,12 @@ IsUp c0 c1 t = pos 0 ≤ℤ (position (mercury_x c0 c1) t).numerator
 
 -- a coefficient in units of 2^-24 km
 abbrev pub coefficient : Decimal → Interval
-coefficient d = from_decimal d.mant d.exp (negsuc 23)
+coefficient d = from_decimal d.mant d.exp distance_exponent
 
 -- the argument from time a to time b, in units of 2^-60
 unfoldable pub argument : Series → ℤ → ℤ → Interval
-argument s a b = record {
-  lo = floor_div (argument_at s a *ℤ pos (2 ^ 60)) s.duration;
-  hi = ceil_div (argument_at s b *ℤ pos (2 ^ 60)) s.duration;
-  s = negsuc 59;
-}
+argument s a b =
+    interval (floor_div (argument_at s a *ℤ pos (2 ^ 60)) s.duration) (ceil_div (argument_at s b *ℤ pos (2 ^ 60)) s.duration) (neg_ℤ (pos 60))
 
 -- c0 + c1 * x in units of 2^-84, narrowed
 unfoldable pub line : Interval → Interval → Interval → Interval
@@ -39,7 +36,7 @@ line c0 c1 x =
     narrow
     (c0.lo *ℤ pos (2 ^ 60) +ℤ least4 c1.lo c1.hi x.lo x.hi)
     (c0.hi *ℤ pos (2 ^ 60) +ℤ greatest4 c1.lo c1.hi x.lo x.hi)
-    (negsuc 83)
+    (neg_ℤ (pos 84))
 
 -- Mercury's x from time a to time b
 abbrev pub x_range : Decimal → Decimal → ℤ → ℤ → Interval

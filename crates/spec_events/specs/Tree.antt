@@ -1,5 +1,5 @@
 -- The tree of a root, and its leaves from left to right.
-use Rattle.std.specs.Prelude.{◌≡◌, ℕ, zero, suc, ◌^◌, ◌-◌, ◌≤◌, ℤ, pos, negsuc, ◌-ℤ◌, ◌<ℤ◌, ◌≤ℤ◌, List, [], ◌∷◌, ◌++◌, All, Option, Some, None}
+use Rattle.std.specs.Prelude.{◌≡◌, ℕ, zero, suc, ◌^◌, ◌≤◌, ℤ, pos, neg_ℤ, ◌-ℤ◌, ◌<ℤ◌, ◌≤ℤ◌, List, [], ◌∷◌, ◌++◌, All, Option, Some, None}
 use Rattle.std.specs.Int.RustNames.{unsigned_abs}
 use Rattle.spec_events.specs.declared.tree.Node.{Node}
 use Rattle.spec_events.specs.declared.tree.Leaf.{Leaf}
@@ -35,7 +35,7 @@ pub record IsCut (t : Rules) (n : Node) : Type 0 where
 
 -- the times lie within 2^50, and the parts of a valid node that is split are valid and cut it
 pub record IsSound (t : Rules) : Type 0 where
-  pub low : negsuc (2 ^ 50 - 1) ≤ℤ t.first
+  pub low : neg_ℤ (pos (2 ^ 50)) ≤ℤ t.first
   pub high : t.last ≤ℤ pos (2 ^ 50)
   pub cut : (n : Node) → IsValid t n → t.verdict n ≡ V.Split → IsCut t n
 

@@ -7,7 +7,7 @@ use Rattle.spec_events.specs.declared.tree.Mark.TheVariants as M
 use Rattle.spec_events.specs.declared.window.Holds.{Holds}
 use Rattle.spec_events.specs.declared.window.Holds.TheVariants as H
 use Rattle.spec_events.specs.declared.window.Window.{Window}
-use Rattle.spec_events.specs.Events.{IsEvent, HoldsAs}
+use Rattle.spec_events.specs.Events.{IsEvent, HoldsOne}
 
 -- a node [a, b] stands for the times a + 1 to b
 abbrev pub window_of : Node → Holds → Window
@@ -41,8 +41,8 @@ windows (l ∷ ls) = windows_by l.mark l.node ls (windows ls)
 -- what a mark says of the times of its node
 abbrev pub Told : (ℤ → Type 0) → (ℤ → Type 0) → Node → Mark → Type 0
 Told P U n M.Clear = (t : ℤ) → n.a <ℤ t → t ≤ℤ n.b → IsEvent P t → ⊥
-Told P U n (M.One turn) = HoldsAs P U (window_of n (H.Certain turn)) (H.Certain turn)
-Told P U n M.Undecided = HoldsAs P U (window_of n H.Undecided) H.Undecided
+Told P U n (M.One turn) = HoldsOne P turn (window_of n (H.Certain turn))
+Told P U n M.Undecided = (t : ℤ) → n.a <ℤ t → t ≤ℤ n.b → U t
 
 abbrev pub AllTold : (ℤ → Type 0) → (ℤ → Type 0) → List Leaf → Type 0
 AllTold P U ls = All (λ l. Told P U l.node l.mark) ls

@@ -2,4 +2,6 @@
 #![tactic(auto)]
 
 mod joining;
+mod judge;
 mod printing;
+mod walk;

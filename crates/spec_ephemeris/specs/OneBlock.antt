@@ -1,9 +1,9 @@
 -- The one form of file that is read so far: a fixed header and one block, in which Mercury's x is a line.
-use Rattle.std.specs.Prelude.{◌≡◌, ◌⊎◌, ℕ, ◌+◌, ◌*◌, ◌^◌, ◌<◌, List, [], ◌∷◌, ◌++◌, length, map, codes, false, Ok, ℤ, pos, neg_ℤ, unsigned_abs}
-use borrow.Author.Differences.{up, down}
+use Rattle.std.specs.Prelude.{◌≡◌, ◌⊎◌, ℕ, ◌+◌, List, [], ◌∷◌, ◌++◌, length, map, codes, false, Ok, ℤ, pos, neg_ℤ}
 use Rattle.spec_text.specs.Lines.{Numbered, is_too_long, lines, text_lines, tokens}
 use Rattle.spec_text.specs.Reading.{Reads}
 use Rattle.spec_text.specs.declared.decimals.Decimal.{Decimal}
+use Rattle.spec_intervals.specs.Interval.{IsDistance}
 use Rattle.spec_ephemeris.specs.Series.{Series}
 
 -- the block's first and last time, and its length
@@ -26,47 +26,55 @@ pub data Cell : Type 0 where
   constant : Cell
   slope : Cell
 
--- a line of fixed words
-abbrev pub words : List ℕ → List Cell
-words line = map word (tokens line)
+-- the rows of fixed words that the lines of a text spell
+abbrev pub fixed_rows : List ℕ → List (List Cell)
+fixed_rows text = map (λ line. map word (tokens line.bytes)) (text_lines text)
 
-abbrev pub header : List (List Cell)
-header =
-    words (codes "KSIZE= 52 NCOEFF= 26")
-    ∷ words (codes "GROUP 1010")
-    ∷ words (codes "E1 TEST EPHEMERIS")
-    ∷ words (codes "GROUP 1030")
-    ∷ words (codes "2451544.50 2451576.50 32.")
-    ∷ words (codes "GROUP 1040")
-    ∷ words (codes "1")
-    ∷ words (codes "EMRAT")
-    ∷ words (codes "GROUP 1041")
-    ∷ words (codes "1")
-    ∷ words (codes "0.810000000000000000D+02")
-    ∷ words (codes "GROUP 1050")
-    ∷ words (codes "3 9 9 15 15 15 15 15 15 15 21 27 27")
-    ∷ words (codes "2 0 2 0 0 0 0 0 0 2 2 0 0")
-    ∷ words (codes "1 0 1 0 0 0 0 0 0 1 1 0 0")
-    ∷ words (codes "GROUP 1070")
-    ∷ []
+-- the header, and the line with the block's number and the count of its numbers
+abbrev pub header_text : List ℕ
+header_text =
+    codes "KSIZE= 52 NCOEFF= 26\n"
+    ++ codes "GROUP 1010\n"
+    ++ codes "E1 TEST EPHEMERIS\n"
+    ++ codes "GROUP 1030\n"
+    ++ codes "2451544.50 2451576.50 32.\n"
+    ++ codes "GROUP 1040\n"
+    ++ codes "1\n"
+    ++ codes "EMRAT\n"
+    ++ codes "GROUP 1041\n"
+    ++ codes "1\n"
+    ++ codes "0.810000000000000000D+02\n"
+    ++ codes "GROUP 1050\n"
+    ++ codes "3 9 9 15 15 15 15 15 15 15 21 27 27\n"
+    ++ codes "2 0 2 0 0 0 0 0 0 2 2 0 0\n"
+    ++ codes "1 0 1 0 0 0 0 0 0 1 1 0 0\n"
+    ++ codes "GROUP 1070\n"
+    ++ codes "1 26\n"
 
-abbrev pub block : List (List Cell)
-block =
-    words (codes "1 26")
-    ∷ (words (codes "0.245154450000000000D+07 0.245157650000000000D+07") ++ constant ∷ [])
-    ∷ (slope ∷ words (codes "0.0 0.0"))
-    ∷ words (codes "0.0 0.0 0.0")
-    ∷ words (codes "0.0 0.0 0.0")
-    ∷ words (codes "0.0 0.0 0.0")
-    ∷ words (codes "0.0 0.0 0.0")
-    ∷ words (codes "0.0 0.0 0.0")
-    ∷ words (codes "0.0 0.0 0.0")
-    ∷ words (codes "0.0 0.0 0.0")
-    ∷ []
+-- the block's two Julian dates, and the first coefficient
+abbrev pub constant_row : List Cell
+constant_row = word (codes "0.245154450000000000D+07") ∷ word (codes "0.245157650000000000D+07") ∷ constant ∷ []
+
+-- the second coefficient; every other number is 0
+abbrev pub slope_row : List Cell
+slope_row = slope ∷ word (codes "0.0") ∷ word (codes "0.0") ∷ []
+
+abbrev pub zeros_text : List ℕ
+zeros_text =
+    codes "0.0 0.0 0.0\n"
+    ++ codes "0.0 0.0 0.0\n"
+    ++ codes "0.0 0.0 0.0\n"
+    ++ codes "0.0 0.0 0.0\n"
+    ++ codes "0.0 0.0 0.0\n"
+    ++ codes "0.0 0.0 0.0\n"
+    ++ codes "0.0 0.0 0.0\n"
+
+abbrev pub form : List (List Cell)
+form = fixed_rows header_text ++ (constant_row ∷ slope_row ∷ fixed_rows zeros_text)
 
 -- a coefficient of a position is below 2^36 km in size
 abbrev pub IsCoefficient : Decimal → Type 0
-IsCoefficient d = unsigned_abs d.mant * 10 ^ up d.exp < 2 ^ 36 * 10 ^ down d.exp
+IsCoefficient d = IsDistance d.mant d.exp
 
 -- the token is the cell's, where the coefficients are c0 and c1
 abbrev pub MeetsCell : Decimal → Decimal → Cell → List ℕ → Type 0
@@ -91,9 +99,6 @@ MeetRows c0 c1 [] [] = Unit {0}
 MeetRows c0 c1 (row ∷ rows) (line ∷ rest) = MeetsRow c0 c1 row line × MeetRows c0 c1 rows rest
 MeetRows c0 c1 [] (line ∷ rest) = ⊥
 MeetRows c0 c1 (row ∷ rows) [] = ⊥
-
-abbrev pub form : List (List Cell)
-form = header ++ block
 
 -- the text has the form, with these two coefficients; blank lines are passed over
 abbrev pub HasForm : List ℕ → Decimal → Decimal → Type 0

@@ -41,6 +41,10 @@ reads_reading word = elim (cases_lt 40 (length word)) [
   | inr short ↦ rw (le-ltb 40 (length word) short) (reads_found word (numeral_of word) refl short)
 ]
 
+-- and so is any that equals it
+pub reads_by : (word : List ℕ) (answer : Result Decimal NumberFault) → answer ≡ reading word → Reads word answer
+reads_by word answer is = subst (Reads word) (sym is) (reads_reading word)
+
 not_found : (word : List ℕ) (found : Option Numeral) → numeral_of word ≡ found → length word ≤ 40
     → ((n : Numeral) → Spells word n → ⊥) → Err NotNumber ≡ reading_of found
 not_found word None is short none = refl

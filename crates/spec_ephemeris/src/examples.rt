@@ -1,8 +1,9 @@
 // Worked values of the definitions, by computation.
 ghost use Rattle.std.specs.Prelude.{◌≡◌, ◌-◌, ◌^◌, ◌∷◌, [], length, codes, pos, neg_ℤ};
+ghost use Rattle.spec_text.specs.Lines.{text_lines};
 ghost use Rattle.spec_ephemeris.specs.Series.{argument_at, position};
-ghost use Rattle.spec_ephemeris.specs.OneBlock.{block_start, block_end, word, words, header, block, IsCoefficient};
-ghost use Rattle.spec_ephemeris.specs.Examples.{IsKm, whole, growing_x, parabola};
+ghost use Rattle.spec_ephemeris.specs.OneBlock.{block_start, block_end, word, fixed_rows, form, IsCoefficient, LeavesRowsAt};
+ghost use Rattle.spec_ephemeris.specs.Examples.{IsKm, whole, growing_x, parabola, rows_a_b};
 
 /// The argument of a block of 2,764,800 seconds runs from minus its length to its length, two for each second.
 pub fn arguments()
@@ -35,9 +36,15 @@ pub fn sizes_of_coefficients()
     ensures too_large { IsCoefficient (whole (pos (2 ^ 36))) → ⊥ }
 {}
 
-/// The file has 16 lines of header and 10 of the block, and each fixed word is a place of its line.
-pub fn lines_of_the_file()
-    ensures header { length header ≡ 16 }
-    ensures block { length block ≡ 10 }
-    ensures words { words (codes "GROUP   1010") ≡ word (codes "GROUP") ∷ word (codes "1010") ∷ [] }
+/// The form has 26 lines, and a line of fixed words is its tokens.
+pub fn lines_of_the_form()
+    ensures lines { length form ≡ 26 }
+    ensures words { fixed_rows (codes "GROUP   1010\n") ≡ (word (codes "GROUP") ∷ word (codes "1010") ∷ []) ∷ [] }
+{}
+
+/// Of two rows `A` and `B`: where the text leaves them.
+pub fn texts_that_leave_the_form()
+    ensures ends_early { LeavesRowsAt rows_a_b (text_lines (codes "A\n")) 2 2 }
+    ensures wrong_word { LeavesRowsAt rows_a_b (text_lines (codes "A\nC\n")) 3 2 }
+    ensures one_line_more { LeavesRowsAt rows_a_b (text_lines (codes "A\n\nB\nB\n")) 5 4 }
 {}

@@ -6,6 +6,6 @@
 mod examples;
 
 pub use examples::{
-    arguments, lines_of_the_file, positions_on_a_line, positions_on_a_parabola,
-    sizes_of_coefficients,
+    arguments, lines_of_the_form, positions_on_a_line, positions_on_a_parabola,
+    sizes_of_coefficients, texts_that_leave_the_form,
 };

@@ -8,8 +8,8 @@ mod lines;
 mod parts;
 mod tokens;
 
-
-
+#[cfg(test)]
+mod tests;
 
 pub use cursor::{Line, LineStep, Tokens};
 pub use decimal::{read_decimal, read_whole};

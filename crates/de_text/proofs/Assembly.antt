@@ -1,5 +1,5 @@
 -- What is read of the parts of a numeral is what the numeral reads as.
-use Rattle.std.proofs.Common.{◌≡◌, ℕ, ◌^◌, ◌<◌, ◌≤◌, ◌≢◌, min, true, false, List, ◌++◌, Option, None, Some, Ok, Err, ℤ, pos, neg_ℤ, ◌-ℤ◌, if◌then◌else◌, length, eq-eqb, ne_eqb, nat_lt, refl, sym, ap, ◌∙◌, subst, inl, inr, arith}
+use Rattle.std.proofs.Common.{◌≡◌, ℕ, ◌^◌, ◌<◌, ◌≤◌, ◌≢◌, min, true, false, List, ◌++◌, Option, None, Some, Ok, Err, ℤ, pos, neg_ℤ, ◌-ℤ◌, if◌then◌else◌, length, eq-eqb, ne_eqb, nat_lt, refl, ap, ◌∙◌, subst, inl, inr, arith}
 use Rattle.std.proofs.lemmas.Bool.{cases_lt, lt-ltb, le-ltb}
 use Rattle.spec_text.specs.declared.decimals.NumberFault.TheVariants.{TooManyDigits, ExponentRange}
 use Rattle.spec_text.specs.Decimals.{Sign, unsigned, plus, minus, Exponent, Numeral, AreDigits, after_point, digits, exponent_size, significant, value}

@@ -5,11 +5,10 @@ ghost use Rattle.spec_text.specs.Lines.{lines, text_lines};
 ghost use Rattle.de_text.specs.Cursor.{counted_behind};
 ghost use Rattle.de_text.specs.Steps.{lines_after, step_of};
 
-use spec_text::{MOST_LINE_BYTES, MOST_TEXT_BYTES};
-use std::marker::Model;
-
 use crate::lines::{cut_line, line_count};
 use crate::tokens::{count, cut_token, token};
+use spec_text::{MOST_LINE_BYTES, MOST_TEXT_BYTES};
+use std::marker::Model;
 
 /// A line that has tokens: what stands between its blanks and tabs.
 #[derive(Debug, Drop)]

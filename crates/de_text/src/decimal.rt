@@ -6,9 +6,8 @@ ghost use Rattle.spec_text.specs.Decimals.{AreDigits, Numeral, value, value_afte
 ghost use Rattle.spec_text.specs.Reading.{Reads, reading, reading_of, whole_of};
 ghost use Rattle.de_text.specs.Parts.{IsOfShortWord, Shows};
 
-use spec_text::{Decimal, MOST_EXPONENT, MOST_WHOLE_DIGITS, MOST_WORD_BYTES, NumberFault};
-
 use crate::parts::{Parts, split};
+use spec_text::{Decimal, MOST_EXPONENT, MOST_WHOLE_DIGITS, MOST_WORD_BYTES, NumberFault};
 
 // Ten to the number of digits that a decimal may have. A greater number counts as this one.
 const CAP: u64 = 1_000_000_000_000_000_000;

@@ -6,10 +6,9 @@ mod cursor;
 mod decimal;
 mod lines;
 mod parts;
-mod tokens;
-
 #[cfg(test)]
 mod tests;
+mod tokens;
 
 pub use cursor::{Line, LineStep, Tokens};
 pub use decimal::{read_decimal, read_whole};

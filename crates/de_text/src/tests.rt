@@ -1,24 +1,38 @@
 // Words and texts with their answers as an independent reader in exact arithmetic gives them.
 use super::*;
+use NumberFault::{ExponentRange, NotNumber, TooManyDigits};
 use spec_text::MOST_TEXT_BYTES;
 use std::process::Abort;
 
-use NumberFault::{ExponentRange, NotNumber, TooManyDigits};
-
 // What is read of a word as a decimal and as a whole number.
-fn check_word(rt: &impl Abort, word: &str, decimal: Result<(i64, i16), NumberFault>, whole: Option<u32>) {
+fn check_word(
+    rt: &impl Abort,
+    word: &str,
+    decimal: Result<(i64, i16), NumberFault>,
+    whole: Option<u32>,
+) {
     let want = match decimal {
         Ok((mant, exp)) => Ok(Decimal { mant, exp }),
         Err(fault) => Err(fault),
     };
-    assert!(rt; read_decimal(word.as_bytes()) == want, "{word} as a decimal");
-    assert!(rt; read_whole(word.as_bytes()) == whole, "{word} as a whole number");
+    assert!(rt;
+        read_decimal(word.as_bytes()) == want,
+        "{word} as a decimal"
+    );
+    assert!(rt;
+        read_whole(word.as_bytes()) == whole,
+        "{word} as a whole number"
+    );
 }
 
 #[test]
 fn words_that_are_decimals(rt: HostRuntime) {
     let cases: [(&str, (i64, i16), Option<u32>); 25] = [
-        ("0.230542450000000000D+07", (230_542_450_000_000_000, -11), None),
+        (
+            "0.230542450000000000D+07",
+            (230_542_450_000_000_000, -11),
+            None,
+        ),
         ("32.", (32, 0), None),
         ("5.", (5, 0), None),
         (".5", (5, -1), None),
@@ -34,15 +48,27 @@ fn words_that_are_decimals(rt: HostRuntime) {
         ("999999999", (999_999_999, 0), Some(999_999_999)),
         ("0000000001", (1, 0), None),
         ("123456789012345678", (123_456_789_012_345_678, 0), None),
-        ("0000000000000000000000123456789012345678", (123_456_789_012_345_678, 0), None),
-        ("0.000000000000000000123456789012345678", (123_456_789_012_345_678, -36), None),
+        (
+            "0000000000000000000000123456789012345678",
+            (123_456_789_012_345_678, 0),
+            None,
+        ),
+        (
+            "0.000000000000000000123456789012345678",
+            (123_456_789_012_345_678, -36),
+            None,
+        ),
         ("0000000000000000000000000000000000000000", (0, 0), None),
         ("000000000000000000000000000000000000000.", (0, 0), None),
         (".000000000000000000000000000000000000001", (1, -39), None),
         ("1e99", (1, 99), None),
         ("1e-99", (1, -99), None),
         ("1e00000000000000000000000000000000000099", (1, 99), None),
-        ("-999999999999999999e-99", (-999_999_999_999_999_999, -99), None),
+        (
+            "-999999999999999999e-99",
+            (-999_999_999_999_999_999, -99),
+            None,
+        ),
     ];
     for (word, decimal, whole) in cases {
         check_word(&rt, word, Ok(decimal), whole);
@@ -78,7 +104,11 @@ fn words_that_have_a_fault(rt: HostRuntime) {
     for (word, fault) in cases {
         check_word(&rt, word, Err(fault), None);
     }
-    let numbers = [NotNumber.number(), TooManyDigits.number(), ExponentRange.number()];
+    let numbers = [
+        NotNumber.number(),
+        TooManyDigits.number(),
+        ExponentRange.number(),
+    ];
     assert!(rt; numbers == [1, 2, 3]);
 }
 
@@ -89,9 +119,15 @@ fn check_line(rt: &impl Abort, step: &LineStep<'_>, number: u32, tokens: &[&[u8]
             assert!(rt; line.number() == number, "line {number}");
             assert!(rt; line.count() == tokens.len(), "the count of line {number}");
             for i in 0..tokens.len() {
-                assert!(rt; line.token(i) == Some(tokens[i]), "token {i} of line {number}");
+                assert!(rt;
+                    line.token(i) == Some(tokens[i]),
+                    "token {i} of line {number}"
+                );
             }
-            assert!(rt; line.token(tokens.len()).is_none(), "no further token of line {number}");
+            assert!(rt;
+                line.token(tokens.len()).is_none(),
+                "no further token of line {number}"
+            );
         }
         LineStep::TooLong(_) => assert!(rt; false, "line {number} is too long"),
         LineStep::End => assert!(rt; false, "no line {number}"),
@@ -105,8 +141,16 @@ fn lines_with_their_tokens(rt: HostRuntime) {
         (b"\n", &[], 2),
         (b"one", &[(1, &[b"one"])], 2),
         (b"one\n", &[(1, &[b"one"])], 2),
-        (b"one\r\ntwo 2\r\n", &[(1, &[b"one"]), (2, &[b"two", b"2"])], 3),
-        (b"\n \t\n\r\n\tKSIZE=  52\t\n\n", &[(4, &[b"KSIZE=", b"52"])], 6),
+        (
+            b"one\r\ntwo 2\r\n",
+            &[(1, &[b"one"]), (2, &[b"two", b"2"])],
+            3,
+        ),
+        (
+            b"\n \t\n\r\n\tKSIZE=  52\t\n\n",
+            &[(4, &[b"KSIZE=", b"52"])],
+            6,
+        ),
         (b"a\rb\r\r\nc", &[(1, &[b"a\rb\r"]), (2, &[b"c"])], 3),
         (b"a\n\r", &[(1, &[b"a"])], 3),
         (b"a\r", &[(1, &[b"a"])], 2),

@@ -23,14 +23,10 @@ pub fn decimals_are_bounded()
 #[tactic(auto, using(crate::proofs::LineLemmas::first_line, crate::proofs::LineLemmas::last_line))]
 pub fn lines_end_at_line_feeds()
     ensures none { lines [] ≡ [] }
-    ensures first {
-      (line rest : List ℕ) → All (λ b. is_line_feed b ≡ false) line
-      → lines (line ++ line_feed ∷ rest) ≡ strip_carriage_return line ∷ lines rest
-    }
-    ensures last {
-      (line : List ℕ) → All (λ b. is_line_feed b ≡ false) line → 0 < length line
-      → lines line ≡ strip_carriage_return line ∷ []
-    }
+    ensures first { (line rest : List ℕ) → All (λ b. is_line_feed b ≡ false) line
+        → lines (line ++ line_feed ∷ rest) ≡ strip_carriage_return line ∷ lines rest }
+    ensures last { (line : List ℕ) → All (λ b. is_line_feed b ≡ false) line → 0 < length line
+        → lines line ≡ strip_carriage_return line ∷ [] }
 {}
 
 /// A token ends at a blank or a tab, or with its line.
@@ -38,9 +34,7 @@ pub fn lines_end_at_line_feeds()
 pub fn tokens_end_at_separators()
     ensures none { tokens [] ≡ [] }
     ensures skipped { (b : ℕ) (rest : List ℕ) → is_separator b ≡ true → tokens (b ∷ rest) ≡ tokens rest }
-    ensures first {
-      (word : List ℕ) (b : ℕ) (rest : List ℕ) → All (λ b. is_separator b ≡ false) word → 0 < length word
-      → is_separator b ≡ true → tokens (word ++ b ∷ rest) ≡ word ∷ tokens rest
-    }
+    ensures first { (word : List ℕ) (b : ℕ) (rest : List ℕ) → All (λ b. is_separator b ≡ false) word → 0 < length word
+        → is_separator b ≡ true → tokens (word ++ b ∷ rest) ≡ word ∷ tokens rest }
     ensures last { (word : List ℕ) → All (λ b. is_separator b ≡ false) word → 0 < length word → tokens word ≡ word ∷ [] }
 {}

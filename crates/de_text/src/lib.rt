@@ -4,6 +4,7 @@
 
 mod cursor;
 mod decimal;
+mod examples;
 mod lines;
 mod parts;
 #[cfg(test)]
@@ -12,4 +13,5 @@ mod tokens;
 
 pub use cursor::{Line, LineStep, Tokens};
 pub use decimal::{read_decimal, read_whole};
+pub use examples::a_cursor_steps_from_line_to_line;
 pub use spec_text::{Decimal, Fault, NumberFault};

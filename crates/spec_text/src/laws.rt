@@ -1,9 +1,9 @@
 // What the definitions come to.
-ghost use Rattle.std.specs.Prelude.{◌≡◌, ◌<◌, false, true, List, [], ◌∷◌, ◌++◌, length, All, Ok, Result, ℕ};
+ghost use Rattle.std.specs.Prelude.{◌≡◌, ◌<◌, false, true, List, [], ◌∷◌, ◌++◌, ◌^◌, length, All, Ok, Result, Some, ℕ};
 ghost use Rattle.std.specs.Str.Lines.{strip_carriage_return};
 ghost use Rattle.spec_text.specs.Bytes.{line_feed};
 ghost use Rattle.spec_text.specs.Lines.{is_line_feed, is_separator, lines, tokens};
-ghost use Rattle.spec_text.specs.Reading.{IsWithinBounds, Reads, reading};
+ghost use Rattle.spec_text.specs.Reading.{IsWithinBounds, Reads, reading, whole_of};
 ghost use Rattle.spec_text.specs.declared.decimals.Decimal.{Decimal};
 ghost use Rattle.spec_text.specs.declared.decimals.NumberFault.{NumberFault};
 
@@ -17,6 +17,12 @@ pub fn every_word_has_one_answer()
 /// A decimal that is read has a `mant` below 10^18 in size, and an `exp` from -139 to 99.
 pub fn decimals_are_bounded()
     ensures { (word : List ℕ) (d : Decimal) → Reads word (Ok d) → IsWithinBounds d }
+{}
+
+/// A whole number is below 10^9.
+#[tactic(auto, using(crate::proofs::Wholes::whole_bound))]
+pub fn whole_numbers_are_bounded()
+    ensures { (word : List ℕ) (n : ℕ) → whole_of word ≡ Some n → n < 10 ^ 9 }
 {}
 
 /// A line ends at its line feed; the last may do without.

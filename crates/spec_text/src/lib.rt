@@ -13,7 +13,7 @@ pub use examples::{
 };
 pub use laws::{
     decimals_are_bounded, every_word_has_one_answer, lines_end_at_line_feeds,
-    tokens_end_at_separators,
+    tokens_end_at_separators, whole_numbers_are_bounded,
 };
 pub use limits::{
     MOST_DIGITS, MOST_EXPONENT, MOST_LINE_BYTES, MOST_TEXT_BYTES, MOST_WHOLE_DIGITS,

@@ -1,7 +1,7 @@
 use Rattle.std.proofs.Common.{◌≡◌, ◌<◌, true, length, arith, rules}
 use Rattle.std.specs.Char.{is_ascii_digit}
 use Rattle.std.specs.List.{list_all}
-use Rattle.de_text.proofs.Wholes.{all_digits, value_small, whole_is}
+use Rattle.spec_text.proofs.Wholes.{all_digits, value_small, whole_is}
 use Rattle.de_text.proofs.decimal.read_whole.Goals as goal
 
 pub capped-requires-clause-digits : goal.capped-requires-clause-digits

@@ -45,8 +45,6 @@ pub fn texts_are_cut_into_lines()
 pub fn lines_are_cut_into_tokens()
     ensures separators { tokens (codes " \tKSIZE=  52\tNCOEFF= 26 ") ≡ codes "KSIZE=" ∷ codes "52" ∷ codes "NCOEFF=" ∷ codes "26" ∷ [] }
     ensures blank { tokens (codes " \t ") ≡ [] }
-    ensures numbers {
-      text_lines (codes "one\n \t\n\n2 3\n")
-      ≡ record { number = 1; bytes = codes "one" } ∷ record { number = 4; bytes = codes "2 3" } ∷ []
-    }
+    ensures numbers { text_lines (codes "one\n \t\n\n2 3\n")
+        ≡ record { number = 1; bytes = codes "one" } ∷ record { number = 4; bytes = codes "2 3" } ∷ [] }
 {}

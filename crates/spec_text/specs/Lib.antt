@@ -1,3 +1,5 @@
+pub mod Bytes
 pub mod Decimals
+pub mod Splitting
 pub mod Reading
 pub mod Lines

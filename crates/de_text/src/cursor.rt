@@ -1,0 +1,142 @@
+// A cursor over the lines of a text.
+ghost use Rattle.std.specs.Prelude.{◌≡◌, ◌+◌, ◌≤◌, length, slice_get};
+ghost use Rattle.std.specs.Option.{option_copied};
+ghost use Rattle.spec_text.specs.Lines.{lines, text_lines};
+ghost use Rattle.de_text.specs.Cursor.{counted_behind};
+ghost use Rattle.de_text.specs.Steps.{lines_after, step_of};
+
+use spec_text::{MOST_LINE_BYTES, MOST_TEXT_BYTES};
+use std::marker::Model;
+
+use crate::lines::{cut_line, line_count};
+use crate::tokens::{count, cut_token, token};
+
+/// A line that has tokens: what stands between its blanks and tabs.
+#[derive(Drop)]
+pub struct Line<'a> {
+    number: u32,
+    bytes: &'a [u8],
+}
+
+impl<'a> Model for Line<'a> {
+    ghost use Rattle.spec_text.specs.Lines.{TokenLine, tokens};
+
+    ghost Value = { TokenLine };
+
+    ghost view = { λ l. record { number = l.number; tokens = tokens l.bytes.now } };
+}
+
+impl<'a> Line<'a> {
+    /// The line's number in its text, counted from 1; blank lines count too.
+    pub fn number(&self) -> u32
+        ensures { result ≡ self.now.number }
+    {
+        self.number
+    }
+
+    /// How many tokens the line has, at least one.
+    pub fn count(&self) -> usize
+        ensures { result ≡ length self.now.tokens }
+    {
+        count(self.bytes)
+    }
+
+    /// The token at a place, counted from 0, or none at the count and past it.
+    pub fn token(&self, i: usize) -> Option<&[u8]>
+        ensures { option_copied result ≡ slice_get self.now.tokens i }
+    {
+        token(self.bytes, i)
+    }
+}
+
+/// What a cursor meets next.
+#[derive(Drop)]
+pub enum LineStep<'a> {
+    /// The next line that isn't blank.
+    Line(Line<'a>),
+    /// The next line, by its number, has more than 4,096 bytes without its line end.
+    TooLong(u32),
+    /// No line is left but blank ones.
+    End,
+}
+
+/// A cursor over the lines of a text. It passes over blank lines, and stays for good at a line that is too long.
+#[derive(Drop)]
+pub struct Tokens<'a> {
+    rest: &'a [u8],
+    passed: u32,
+}
+
+impl<'a> Model for Tokens<'a> {
+    ghost use Rattle.std.specs.Prelude.{◌+◌, ◌≤◌, length};
+    ghost use Rattle.spec_text.specs.Lines.{lines};
+    ghost use Rattle.spec_text.specs.declared.limits.TheConstants.{MOST_TEXT_BYTES};
+    ghost use Rattle.de_text.specs.Cursor.{Cursor, counted_behind};
+
+    ghost Value = { Cursor };
+
+    ghost view = { λ t. record {
+      left = counted_behind t.passed t.rest.now;
+      end_line = t.passed + length (lines t.rest.now) + 1;
+    } };
+
+    ghost invariant = { λ t. t.passed + length t.rest.now ≤ MOST_TEXT_BYTES };
+}
+
+// The next step in a text behind this many lines; the text behind it, and how many lines stand before that.
+fn next_line<'a>(text: &'a [u8], before: u32) -> (LineStep<'a>, &'a [u8], u32)
+    requires { before + length text.now ≤ MOST_TEXT_BYTES }
+    ensures step { result.0 ≡ step_of (counted_behind before text.now) }
+    ensures left { counted_behind result.2 result.1.now ≡ lines_after (counted_behind before text.now) }
+    ensures end { result.2 + length (lines result.1.now) ≡ before + length (lines text.now) }
+    ensures fits { result.2 + length result.1.now ≤ before + length text.now }
+{
+    let mut rest = text;
+    let mut passed = before;
+    while !rest.is_empty() {
+        let (bytes, behind) = cut_line(rest);
+        let number = passed + 1;
+        if bytes.len() > MOST_LINE_BYTES {
+            return (LineStep::TooLong(number), rest, passed);
+        }
+        if cut_token(bytes).is_some() {
+            return (LineStep::Line(Line { number, bytes }), behind, number);
+        }
+        rest = behind;
+        passed = number;
+    }
+    (LineStep::End, rest, passed)
+}
+
+impl<'a> Tokens<'a> {
+    /// A cursor at the front of a text of at most 268,435,456 bytes.
+    pub fn new(bytes: &'a [u8]) -> Self
+        requires { length bytes.now ≤ MOST_TEXT_BYTES }
+        ensures left { result.left ≡ text_lines bytes.now }
+        ensures end_line { result.end_line ≡ length (lines bytes.now) + 1 }
+    {
+        Tokens {
+            rest: bytes,
+            passed: 0,
+        }
+    }
+
+    /// The next line that isn't blank, in order. A line that is too long is told again by every later call.
+    pub fn line(&mut self) -> LineStep<'a>
+        ensures step { result ≡ step_of self.old.left }
+        ensures left { self.new.left ≡ lines_after self.old.left }
+        ensures end_line { self.new.end_line ≡ self.old.end_line }
+    {
+        let (step, rest, passed) = next_line(self.rest, self.passed);
+        self.rest = rest;
+        self.passed = passed;
+        step
+    }
+
+    /// The number of lines of the whole text plus 1, at every time: where a text ends that ends too early.
+    pub fn end_line(&self) -> u32
+        ensures { result ≡ self.now.end_line }
+    {
+        self.passed + line_count(self.rest) as u32 + 1
+    }
+}

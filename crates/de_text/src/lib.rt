@@ -1,0 +1,16 @@
+//! Texts of numbers. The bytes of a file come in; its lines go out one by one with their numbers and tokens,
+//! and words as decimals and whole numbers, or as the first fault. No call takes memory.
+#![tactic(auto)]
+
+mod cursor;
+mod decimal;
+mod lines;
+mod parts;
+mod tokens;
+
+
+
+
+pub use cursor::{Line, LineStep, Tokens};
+pub use decimal::{read_decimal, read_whole};
+pub use spec_text::{Decimal, Fault, NumberFault};

@@ -1,0 +1,48 @@
+// Lines, cut from the front of a text.
+ghost use Rattle.std.specs.Prelude.{◌≡◌, ◌<◌, ◌≤◌, ◌+◌, ◌∷◌, length};
+ghost use Rattle.std.specs.Str.Lines.{strip_carriage_return};
+ghost use Rattle.spec_text.specs.Lines.{lines};
+
+use memchr::memchr;
+
+// The line without one carriage return at its end.
+fn without_return(line: &[u8]) -> &[u8]
+    ensures { result.now ≡ strip_carriage_return line.now }
+{
+    if line.is_empty() {
+        return line;
+    }
+    let last = line.len() - 1;
+    if line[last] == b'\r' {
+        &line[..last]
+    } else {
+        line
+    }
+}
+
+// The first line, and the text after it.
+pub(crate) fn cut_line(text: &[u8]) -> (&[u8], &[u8])
+    requires { 0 < length text.now }
+    ensures lines { lines text.now ≡ result.0.now ∷ lines result.1.now }
+    ensures shorter { length result.1.now < length text.now }
+{
+    match memchr(b'\n', text) {
+        Some(end) => (without_return(&text[..end]), &text[end + 1..]),
+        None => (without_return(text), &[]),
+    }
+}
+
+// How many lines the text has.
+pub(crate) fn line_count(text: &[u8]) -> usize
+    ensures count { result ≡ length (lines text.now) }
+    ensures within { result ≤ length text.now }
+{
+    let mut rest = text;
+    let mut count = 0;
+    while !rest.is_empty() {
+        let (_, behind) = cut_line(rest);
+        rest = behind;
+        count += 1;
+    }
+    count
+}

@@ -1,0 +1,80 @@
+// Tokens, cut from the front of a line.
+ghost use Rattle.std.specs.Prelude.{◌≡◌, ◌<◌, ◌≤◌, ◌==◌, [], ◌∷◌, length, IfNone, IfSome, ℕ, false, slice_get, slice_index, true};
+ghost use Rattle.std.specs.Option.{option_copied};
+ghost use Rattle.std.specs.List.{position_or_len};
+ghost use Rattle.spec_text.specs.Lines.{is_separator, tokens};
+
+fn is_separator(b: u8) -> bool
+    ensures { result ≡ is_separator b }
+{
+    b == b' ' || b == b'\t'
+}
+
+// How many blanks and tabs stand at the front.
+fn blank_len(line: &[u8]) -> usize
+    ensures within { result ≤ length line.now }
+    ensures before { (k : ℕ) → k < result → is_separator (slice_index line.now k) ≡ true }
+    ensures at { result < length line.now → is_separator (slice_index line.now result) ≡ false }
+{
+    for (i, b) in line.iter().enumerate() {
+        if !is_separator(*b) {
+            return i;
+        }
+    }
+    line.len()
+}
+
+// How many bytes the token at the front has.
+fn token_len(text: &[u8]) -> usize
+    ensures within { result ≤ length text.now }
+    ensures before { (k : ℕ) → k < result → is_separator (slice_index text.now k) ≡ false }
+    ensures at { result < length text.now → is_separator (slice_index text.now result) ≡ true }
+{
+    for (i, b) in text.iter().enumerate() {
+        if is_separator(*b) {
+            return i;
+        }
+    }
+    text.len()
+}
+
+// The first token, and what follows it.
+pub(crate) fn cut_token(line: &[u8]) -> Option<(&[u8], &[u8])>
+    ensures blank { IfNone result (tokens line.now ≡ []) }
+    ensures token { IfSome result (λ p. tokens line.now ≡ p.0.now ∷ tokens p.1.now) }
+    ensures shorter { IfSome result (λ p. length p.1.now < length line.now) }
+{
+    let start = blank_len(line);
+    if start == line.len() {
+        return None;
+    }
+    let text = &line[start..];
+    let end = token_len(text);
+    Some(text.split_at(end))
+}
+
+// How many tokens the line has.
+pub(crate) fn count(line: &[u8]) -> usize
+    ensures { result ≡ length (tokens line.now) }
+{
+    let mut rest = line;
+    let mut count = 0;
+    while let Some((_, after)) = cut_token(rest) {
+        rest = after;
+        count += 1;
+    }
+    count
+}
+
+// The token at a place, counted from 0.
+pub(crate) fn token(line: &[u8], i: usize) -> Option<&[u8]>
+    ensures { option_copied result ≡ slice_get (tokens line.now) i }
+{
+    let mut rest = line;
+    for passed in 0..i {
+        let (_, after) = cut_token(rest)?;
+        rest = after;
+    }
+    let (first, _) = cut_token(rest)?;
+    Some(first)
+}

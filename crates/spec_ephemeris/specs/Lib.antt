@@ -1,0 +1,3 @@
+pub mod Series
+pub mod OneBlock
+pub mod Examples

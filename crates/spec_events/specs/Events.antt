@@ -1,0 +1,63 @@
+-- When an event happens, and what a window of time promises of the events in it.
+-- P says of each time whether a function is at least 0 there. Times are seconds of TDB since J2000.
+use Rattle.std.specs.Prelude.{◌≡◌, ◌⊎◌, List, [], ◌∷◌, All, Any, ℤ, pos, ◌-ℤ◌, ◌≤ℤ◌, ◌<ℤ◌}
+use Rattle.spec_events.specs.declared.tree.Turn.{Turn}
+use Rattle.spec_events.specs.declared.tree.Turn.TheVariants.{Rise, Fall}
+use Rattle.spec_events.specs.declared.window.Holds.TheVariants.{Certain, Undecided}
+use Rattle.spec_events.specs.declared.window.Window.{Window}
+
+-- P changes from the time before to this one, in this direction
+abbrev pub IsTurn : (ℤ → Type 0) → Turn → ℤ → Type 0
+IsTurn P Rise t = (P (t -ℤ pos 1) → ⊥) × P t
+IsTurn P Fall t = P (t -ℤ pos 1) × (P t → ⊥)
+
+-- P changes from the time before to this one
+abbrev pub IsEvent : (ℤ → Type 0) → ℤ → Type 0
+IsEvent P t = IsTurn P Rise t ⊎ IsTurn P Fall t
+
+-- the window's times are those from its first to its last
+pub record IsIn (window : Window) (t : ℤ) : Type 0 where
+  pub from : window.first ≤ℤ t
+  pub to : t ≤ℤ window.last
+
+-- it holds a time, and lies after one time and up to another
+pub record IsWithin (after upto : ℤ) (window : Window) : Type 0 where
+  pub from : after <ℤ window.first
+  pub ordered : window.first ≤ℤ window.last
+  pub to : window.last ≤ℤ upto
+
+-- exactly one event lies in the window, and it is a turn in this direction
+pub record HoldsOne (P : ℤ → Type 0) (turn : Turn) (window : Window) : Type 0 where
+  pub time : ℤ
+  pub inside : IsIn window time
+  pub turns : IsTurn P turn time
+  pub alone : (t : ℤ) → IsIn window t → IsEvent P t → t ≡ time
+
+abbrev pub AreWithin : ℤ → ℤ → List Window → Type 0
+AreWithin after upto ws = All (IsWithin after upto) ws
+
+-- each window ends before the next begins
+abbrev pub AreInOrder : List Window → Type 0
+AreInOrder [] = Unit {0}
+AreInOrder (w ∷ []) = Unit {0}
+AreInOrder (w ∷ v ∷ ws) = (w.last <ℤ v.first) × AreInOrder (v ∷ ws)
+
+-- each event after one time and up to another lies in a window
+abbrev pub HoldEvents : (ℤ → Type 0) → ℤ → ℤ → List Window → Type 0
+HoldEvents P after upto ws = (t : ℤ) → after <ℤ t → t ≤ℤ upto → IsEvent P t → Any (λ w. IsIn w t) ws
+
+-- each certain window holds exactly one event, a turn in its direction
+abbrev pub AreCertain : (ℤ → Type 0) → List Window → Type 0
+AreCertain P ws = All (λ w. (turn : Turn) → w.holds ≡ Certain turn → HoldsOne P turn w) ws
+
+-- U is so of each time of each undecided window
+abbrev pub AreOpen : (ℤ → Type 0) → List Window → Type 0
+AreOpen U ws = All (λ w. w.holds ≡ Undecided → (t : ℤ) → IsIn w t → U t) ws
+
+-- the windows of the events of P after one time and up to another, where U is so of what is left undecided
+pub record AreWindows (P U : ℤ → Type 0) (after upto : ℤ) (ws : List Window) : Type 0 where
+  pub within : AreWithin after upto ws
+  pub in_order : AreInOrder ws
+  pub every_event : HoldEvents P after upto ws
+  pub certain : AreCertain P ws
+  pub undecided : AreOpen U ws

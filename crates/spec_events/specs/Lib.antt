@@ -1,0 +1,6 @@
+pub mod Events
+pub mod Tree
+pub mod Windows
+pub mod Runs
+pub mod LineSearch
+pub mod Examples

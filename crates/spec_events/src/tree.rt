@@ -1,0 +1,41 @@
+// Nodes of a halved span, what a judge says of them, and leaves.
+
+/// The times after `a` and up to `b`, in seconds of TDB since J2000, at a depth below the root.
+#[derive(Clone, Copy, PartialEq, Eq, Debug)]
+pub struct Node {
+    pub a: i64,
+    pub b: i64,
+    pub depth: u32,
+}
+
+/// The direction in which a function passes 0: from below 0 to at least 0, or back.
+#[derive(Clone, Copy, PartialEq, Eq, Debug)]
+pub enum Turn {
+    Rise,
+    Fall,
+}
+
+/// What a judge says of a node: it holds no event, exactly one, it is to be split, or nothing is known and it isn't
+/// to be split.
+#[derive(Clone, Copy, PartialEq, Eq, Debug)]
+pub enum Verdict {
+    Clear,
+    One(Turn),
+    Split,
+    Undecided,
+}
+
+/// What is known of a leaf.
+#[derive(Clone, Copy, PartialEq, Eq, Debug)]
+pub enum Mark {
+    Clear,
+    One(Turn),
+    Undecided,
+}
+
+/// A node that isn't split, with its mark.
+#[derive(Clone, Copy, PartialEq, Eq, Debug)]
+pub struct Leaf {
+    pub node: Node,
+    pub mark: Mark,
+}

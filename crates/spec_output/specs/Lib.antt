@@ -1,0 +1,4 @@
+pub mod Report
+pub mod Words
+pub mod Faults
+pub mod Answers

@@ -1,0 +1,52 @@
+// Worked examples of the definitions.
+ghost use Rattle.std.specs.Prelude.{◌≡◌, [], ◌∷◌, Err, None, Ok, Some, codes, neg_ℤ, pos};
+ghost use Rattle.spec_text.specs.Lines.{lines, text_lines, tokens};
+ghost use Rattle.spec_text.specs.Reading.{reading, whole_of};
+ghost use Rattle.spec_text.specs.declared.decimals.NumberFault.TheVariants.{ExponentRange, NotNumber, TooManyDigits};
+
+/// JPL's files write a mark `D` and 18 digits; a point may end the digits, or begin them.
+pub fn decimals_are_read()
+    ensures jpl { reading (codes "0.230542450000000000D+07") ≡ Ok (record { mant = pos 230542450000000000; exp = neg_ℤ (pos 11) }) }
+    ensures point_at_the_end { reading (codes "32.") ≡ Ok (record { mant = pos 32; exp = pos 0 }) }
+    ensures point_at_the_front { reading (codes "-.5") ≡ Ok (record { mant = neg_ℤ (pos 5); exp = neg_ℤ (pos 1) }) }
+    ensures no_point { reading (codes "1E+05") ≡ Ok (record { mant = pos 1; exp = pos 5 }) }
+    ensures zero { reading (codes "-0.00e7") ≡ Ok (record { mant = pos 0; exp = pos 0 }) }
+{}
+
+/// The first fault that applies is told; zeros at the front are no digits of 18, and zeros at the end are.
+pub fn decimals_are_refused()
+    ensures no_exponent { reading (codes "1d") ≡ Err NotNumber }
+    ensures no_digit { reading (codes ".") ≡ Err NotNumber }
+    ensures zeros_at_the_end { reading (codes "1000000000000000000") ≡ Err TooManyDigits }
+    ensures zeros_at_the_front { reading (codes "0000000000000000001") ≡ Ok (record { mant = pos 1; exp = pos 0 }) }
+    ensures far { reading (codes "0e-100") ≡ Err ExponentRange }
+    ensures digits_before_exponent { reading (codes "1234567890123456789e100") ≡ Err TooManyDigits }
+{}
+
+/// A whole number has 1 to 9 digits, zeros at the front too, and no sign.
+pub fn whole_numbers_are_read()
+    ensures zeros_at_the_front { whole_of (codes "007") ≡ Some 7 }
+    ensures nine_digits { whole_of (codes "999999999") ≡ Some 999999999 }
+    ensures ten_digits { whole_of (codes "0000000001") ≡ None }
+    ensures no_digit { whole_of (codes "") ≡ None }
+    ensures signed { whole_of (codes "+1") ≡ None }
+{}
+
+/// One carriage return before a line feed, or at the end of the text, belongs to the line end.
+pub fn texts_are_cut_into_lines()
+    ensures returns { lines (codes "one\r\ntwo\r") ≡ codes "one" ∷ codes "two" ∷ [] }
+    ensures no_feed_at_the_end { lines (codes "one\n\ntwo") ≡ codes "one" ∷ [] ∷ codes "two" ∷ [] }
+    ensures return_inside { lines (codes "a\rb\r\r\n") ≡ codes "a\rb\r" ∷ [] }
+    ensures return_alone_at_the_end { lines (codes "a\n\r") ≡ codes "a" ∷ [] ∷ [] }
+    ensures empty { lines [] ≡ [] }
+{}
+
+/// Blanks and tabs part tokens, and a line of them alone counts as a line, but isn't read.
+pub fn lines_are_cut_into_tokens()
+    ensures separators { tokens (codes " \tKSIZE=  52\tNCOEFF= 26 ") ≡ codes "KSIZE=" ∷ codes "52" ∷ codes "NCOEFF=" ∷ codes "26" ∷ [] }
+    ensures blank { tokens (codes " \t ") ≡ [] }
+    ensures numbers {
+      text_lines (codes "one\n \t\n\n2 3\n")
+      ≡ record { number = 1; bytes = codes "one" } ∷ record { number = 4; bytes = codes "2 3" } ∷ []
+    }
+{}

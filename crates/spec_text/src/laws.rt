@@ -1,0 +1,46 @@
+// What the definitions come to.
+ghost use Rattle.std.specs.Prelude.{◌≡◌, ◌<◌, false, true, List, [], ◌∷◌, ◌++◌, length, All, Ok, Result, ℕ};
+ghost use Rattle.std.specs.Str.Lines.{strip_carriage_return};
+ghost use Rattle.spec_text.specs.Bytes.{line_feed};
+ghost use Rattle.spec_text.specs.Lines.{is_line_feed, is_separator, lines, tokens};
+ghost use Rattle.spec_text.specs.Reading.{IsWithinBounds, Reads, reading};
+ghost use Rattle.spec_text.specs.declared.decimals.Decimal.{Decimal};
+ghost use Rattle.spec_text.specs.declared.decimals.NumberFault.{NumberFault};
+
+/// Every word has an answer, and only one: that which `reading` computes.
+#[tactic(auto, using(crate::proofs::Answering::one_answer, crate::proofs::Answering::reads_reading))]
+pub fn every_word_has_one_answer()
+    ensures one { (word : List ℕ) (a b : Result Decimal NumberFault) → Reads word a → Reads word b → a ≡ b }
+    ensures computed { (word : List ℕ) → Reads word (reading word) }
+{}
+
+/// A decimal that is read has a `mant` below 10^18 in size, and an `exp` from -139 to 99.
+pub fn decimals_are_bounded()
+    ensures { (word : List ℕ) (d : Decimal) → Reads word (Ok d) → IsWithinBounds d }
+{}
+
+/// A line ends at its line feed; the last may do without.
+#[tactic(auto, using(crate::proofs::LineLemmas::first_line, crate::proofs::LineLemmas::last_line))]
+pub fn lines_end_at_line_feeds()
+    ensures none { lines [] ≡ [] }
+    ensures first {
+      (line rest : List ℕ) → All (λ b. is_line_feed b ≡ false) line
+      → lines (line ++ line_feed ∷ rest) ≡ strip_carriage_return line ∷ lines rest
+    }
+    ensures last {
+      (line : List ℕ) → All (λ b. is_line_feed b ≡ false) line → 0 < length line
+      → lines line ≡ strip_carriage_return line ∷ []
+    }
+{}
+
+/// A token ends at a blank or a tab, or with its line.
+#[tactic(auto, using(crate::proofs::TokenLemmas::skip_one, crate::proofs::TokenLemmas::first_token, crate::proofs::TokenLemmas::last_token))]
+pub fn tokens_end_at_separators()
+    ensures none { tokens [] ≡ [] }
+    ensures skipped { (b : ℕ) (rest : List ℕ) → is_separator b ≡ true → tokens (b ∷ rest) ≡ tokens rest }
+    ensures first {
+      (word : List ℕ) (b : ℕ) (rest : List ℕ) → All (λ b. is_separator b ≡ false) word → 0 < length word
+      → is_separator b ≡ true → tokens (word ++ b ∷ rest) ≡ word ∷ tokens rest
+    }
+    ensures last { (word : List ℕ) → All (λ b. is_separator b ≡ false) word → 0 < length word → tokens word ≡ word ∷ [] }
+{}

@@ -1,0 +1,23 @@
+//! The outside as traits: a shelf of files, a sink of bytes and a gate.
+//!
+//! In come the calls of a search that knows no system: open and read a file by its name, write bytes, pass a gate. Out
+//! go the bytes, or `Failed`, which never comes without a cause that contracts can name: a count of faults that rose, or
+//! a file that isn't there. `MemoryShelf` and `MemorySink` tell all of their content and fail where they are told to;
+//! `FileShelf` and `StdSink` are the files and the streams of the system.
+#![tactic(auto)]
+
+mod calls;
+mod edges;
+mod laws;
+mod memory_shelf;
+mod memory_sink;
+mod system;
+
+pub use edges::{Failed, Gate, OpenGate, Shelf, Sink};
+pub use laws::{counts_rise, files_are_found_by_name, pieces_are_as_long_as_can_be};
+pub use memory_shelf::MemoryShelf;
+pub use memory_sink::{Memory, MemorySink};
+pub use system::{FileShelf, StdSink};
+
+#[cfg(test)]
+mod tests;

@@ -1,0 +1,184 @@
+// The files and the streams of the system. Of their content they tell what the system tells, which is nothing of a real
+// file and of standard output. Each call that fails is counted.
+ghost use Rattle.std.specs.Prelude.{◌≡◌, false};
+
+use crate::{Failed, Shelf, Sink};
+use std::fs;
+use std::io::{Read, Write};
+use std::marker::Model;
+use std::rt::{Files, Stderr, Stdout};
+
+/// The files of the system, by their paths.
+#[derive(Drop)]
+pub struct FileShelf<'a, R: Files> {
+    files: &'a R,
+    file: Option<R::File>,
+    faults: u64,
+}
+
+impl<'a, R: Files> Model for FileShelf<'a, R> {
+    ghost use Rattle.std.specs.Prelude.{◌<◌, ◌^◌, is_some};
+    ghost use Rattle.gf_edges.specs.States.{FilesState, left_of};
+
+    ghost Value = { FilesState };
+
+    ghost view = { λ s. record {
+      is_open = is_some s.file;
+      left = left_of R.File.remaining s.file;
+      faults = s.faults;
+    } };
+
+    ghost invariant = { λ s. s.faults < 2 ^ 64 };
+}
+
+impl<'a, R: Files> FileShelf<'a, R> {
+    /// The files that this runtime reaches, with nothing open.
+    pub fn new(files: &'a R) -> Self
+        ensures closed { result.is_open ≡ false }
+        ensures at_start { result.faults ≡ 0 }
+    {
+        FileShelf {
+            files,
+            file: None,
+            faults: 0,
+        }
+    }
+}
+
+impl<'a, R: Files> Shelf for FileShelf<'a, R> {
+    ghost use Rattle.std.specs.Prelude.{◌≡◌, ◌⊎◌, ◌<◌, ◌≤◌, ◌^◌, IsErr, IsTrue, OnErr, OnOk, None};
+    ghost use Rattle.std.specs.Io.{ReadsAtMost};
+    ghost use Rattle.std.specs.Io.KnownBytes.{ReadConsumes};
+    ghost use Rattle.gf_edges.specs.Edges.{Files, HasCause, Lacks, Opens, Rose};
+    ghost use Rattle.gf_edges.specs.States.{RisesWhere};
+
+    ghost files = { λ _. None };
+
+    ghost left = { λ s. s.left };
+
+    ghost ready = { λ s. IsTrue s.is_open };
+
+    ghost faults = { λ s. s.faults };
+
+    fn open(&mut self, name: &str) -> Result<(), Failed>
+        ensures ready { OnOk result (IsTrue self.new.is_open) }
+        ensures bytes { OnOk result (Opens None name.now self.new.left) }
+        ensures failed { OnErr result (Rose self.old.faults self.new.faults ⊎ Lacks None name.now) }
+        ensures closed { OnErr result (IsTrue self.new.is_open → ⊥) }
+        ensures later { self.old.faults ≤ self.new.faults }
+        ensures count { self.new.faults < 2 ^ 64 }
+        ensures faults { RisesWhere (IsErr result) self.old.faults self.new.faults }
+    {
+        match fs::open(self.files, name) {
+            Ok(file) => {
+                self.file = Some(file);
+                Ok(())
+            }
+            Err(_) => {
+                self.file = None;
+                self.faults = self.faults.saturating_add(1);
+                Err(Failed)
+            }
+        }
+    }
+
+    fn read(&mut self, buf: &mut [u8]) -> Result<usize, Failed>
+        requires { IsTrue self.old.is_open }
+        ensures ready { IsTrue self.new.is_open }
+        ensures bound { ReadsAtMost result buf.new }
+        ensures bytes { ReadConsumes self.old.left self.new.left result buf.new }
+        ensures cause { HasCause self.old.faults self.new.faults result }
+        ensures count { self.new.faults < 2 ^ 64 }
+        ensures faults { RisesWhere (IsErr result) self.old.faults self.new.faults }
+    {
+        if let Some(file) = &mut self.file {
+            if let Ok(count) = file.read(buf) {
+                return Ok(count);
+            }
+        }
+        self.faults = self.faults.saturating_add(1);
+        Err(Failed)
+    }
+}
+
+/// A stream of the system.
+#[derive(Drop)]
+pub struct StdSink<W: Write + Drop> {
+    stream: W,
+    faults: u64,
+}
+
+impl<W: Write + Drop> Model for StdSink<W> {
+    ghost use Rattle.std.specs.Prelude.{◌<◌, ◌^◌};
+    ghost use Rattle.gf_edges.specs.States.{StreamState};
+
+    ghost Value = { StreamState };
+
+    ghost view = { λ s. record {
+      bytes = W.contents s.stream;
+      faults = s.faults;
+    } };
+
+    ghost invariant = { λ s. s.faults < 2 ^ 64 };
+}
+
+impl StdSink<Stdout> {
+    /// Standard output.
+    pub fn out(rt: &HostRuntime) -> Self
+        ensures at_start { result.faults ≡ 0 }
+    {
+        StdSink::new(rt.stdout())
+    }
+}
+
+impl StdSink<Stderr> {
+    /// Standard error.
+    pub fn err(rt: &HostRuntime) -> Self
+        ensures at_start { result.faults ≡ 0 }
+    {
+        StdSink::new(rt.stderr())
+    }
+}
+
+impl<W: Write + Drop> StdSink<W> {
+    /// What the stream holds stays.
+    pub fn new(stream: W) -> Self
+        ensures bytes { result.bytes ≡ W.contents stream }
+        ensures at_start { result.faults ≡ 0 }
+    {
+        StdSink { stream, faults: 0 }
+    }
+}
+
+impl<W: Write + Drop> Sink for StdSink<W> {
+    ghost use Rattle.std.specs.Prelude.{◌≡◌, ◌<◌, ◌^◌, length, IfOk};
+    ghost use Rattle.std.specs.Io.{WritesAtMost};
+    ghost use Rattle.std.specs.Io.KnownBytes.{WriteAppends};
+    ghost use Rattle.gf_edges.specs.Edges.{HasCause, Rose};
+    ghost use Rattle.gf_edges.specs.States.{IsFruitless, RisesWhere};
+
+    ghost bytes = { λ s. s.bytes };
+
+    ghost faults = { λ s. s.faults };
+
+    fn write(&mut self, piece: &[u8]) -> Result<usize, Failed>
+        ensures bound { WritesAtMost result piece.now }
+        ensures bytes { WriteAppends self.old.bytes self.new.bytes result piece.now }
+        ensures stuck { IfOk result (λ n. n ≡ 0 → 0 < length piece.now → Rose self.old.faults self.new.faults) }
+        ensures cause { HasCause self.old.faults self.new.faults result }
+        ensures count { self.new.faults < 2 ^ 64 }
+        ensures faults { RisesWhere (IsFruitless result piece.now) self.old.faults self.new.faults }
+    {
+        match self.stream.write(piece) {
+            Ok(0) if !piece.is_empty() => {
+                self.faults = self.faults.saturating_add(1);
+                Ok(0)
+            }
+            Ok(count) => Ok(count),
+            Err(_) => {
+                self.faults = self.faults.saturating_add(1);
+                Err(Failed)
+            }
+        }
+    }
+}

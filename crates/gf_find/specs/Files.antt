@@ -3,6 +3,10 @@ use Rattle.std.specs.Prelude.{◌≡◌, ℕ, ◌<◌, ◌≤◌, List, length, 
 use Rattle.std.specs.Io.KnownBytes.{Appends}
 use Rattle.gf_edges.specs.Edges.{Files, Rose, file_of}
 
+-- the most bytes that a file may have
+abbrev pub most_bytes : ℕ
+most_bytes = 268435456
+
 -- where files are told, this one is there, and has P
 abbrev pub NamedFile : Option Files → List ℕ → (List ℕ → Type 0) → Type 0
 NamedFile files name P = IfSome files (λ told. IsSomeAnd (file_of name told) P)
@@ -11,9 +15,9 @@ NamedFile files name P = IfSome files (λ told. IsSomeAnd (file_of name told) P)
 abbrev pub IsFile : Option Files → List ℕ → List ℕ → Type 0
 IsFile files name bytes = IfSome files (λ told. file_of name told ≡ Some bytes)
 
--- where files are told, this one is there, and has more bytes than the limit
-abbrev pub IsLongFile : Option Files → List ℕ → ℕ → Type 0
-IsLongFile files name limit = NamedFile files name (λ bytes. limit < length bytes)
+-- where files are told, this one is there, and has more bytes than a file may have
+abbrev pub IsLongFile : Option Files → List ℕ → Type 0
+IsLongFile files name = NamedFile files name (λ bytes. most_bytes < length bytes)
 
 -- where files are told, this one is there, and all but its first n bytes are left
 abbrev pub HasLeft : Option Files → List ℕ → ℕ → Option (List ℕ) → Type 0

@@ -2,7 +2,7 @@
 ghost use Rattle.std.specs.Prelude.{◌≡◌, ◌⊎◌, ◌+◌, ◌<◌, ◌≤◌, List, ℕ, length, IfOk, IfSome, IsErrOf, OnErr, OnOk};
 ghost use Rattle.std.specs.Io.KnownBytes.{Appends, Consumes};
 ghost use Rattle.gf_edges.specs.Edges.{HasCause, Lacks, Rose};
-ghost use Rattle.gf_find.specs.Files.{AppendsSome, HasLeft, IsFile, IsLongFile, IsTold};
+ghost use Rattle.gf_find.specs.Files.{AppendsSome, HasLeft, IsFile, IsLongFile, IsTold, most_bytes};
 ghost use Rattle.gf_find.specs.declared.files.ReadFault.TheVariants.{Memory};
 
 use gf_edges::{Failed, Shelf, Sink};
@@ -28,8 +28,8 @@ impl From<AllocError> for ReadFault {
     }
 }
 
-/// The most bytes that a file may have.
-pub(crate) const MOST_BYTES: usize = 268_435_456;
+// The most bytes that a file may have.
+const MOST_BYTES: usize = 268_435_456;
 
 // The most bytes that one read asks for.
 const PIECE: usize = 4_096;
@@ -38,9 +38,9 @@ const PIECE: usize = 4_096;
 fn read_rest<S: Shelf>(alloc: Global, shelf: &mut S) -> Result<Vec<u8>, ReadFault>
     requires { S.ready shelf.old }
     ensures whole { IfOk result (λ text. IfSome (S.left shelf.old) (λ left. left ≡ text.items)) }
-    ensures small { IfOk result (λ text. length text.items ≤ MOST_BYTES) }
+    ensures small { IfOk result (λ text. length text.items ≤ most_bytes) }
     ensures large { IsErrOf result ReadFault.TooLarge
-        → (read : List ℕ) × Consumes (S.left shelf.old) (S.left shelf.new) read × (length read ≡ MOST_BYTES + 1) }
+        → (read : List ℕ) × Consumes (S.left shelf.old) (S.left shelf.new) read × (length read ≡ most_bytes + 1) }
     ensures failed { IsErrOf result ReadFault.Failed → Rose (S.faults shelf.old) (S.faults shelf.new) }
     ensures files { S.files shelf.new ≡ S.files shelf.old }
     ensures later { S.faults shelf.old ≤ S.faults shelf.new }
@@ -65,10 +65,10 @@ pub(crate) fn read_file<S: Shelf>(
     name: &str,
 ) -> Result<Vec<u8>, ReadFault>
     ensures whole { IfOk result (λ text. IsFile (S.files shelf.old) name.now text.items) }
-    ensures small { IfOk result (λ text. length text.items ≤ MOST_BYTES) }
-    ensures large { IsErrOf result ReadFault.TooLarge → IsLongFile (S.files shelf.old) name.now MOST_BYTES }
+    ensures small { IfOk result (λ text. length text.items ≤ most_bytes) }
+    ensures large { IsErrOf result ReadFault.TooLarge → IsLongFile (S.files shelf.old) name.now }
     ensures one_past { IsErrOf result ReadFault.TooLarge
-        → HasLeft (S.files shelf.old) name.now (MOST_BYTES + 1) (S.left shelf.new) }
+        → HasLeft (S.files shelf.old) name.now (most_bytes + 1) (S.left shelf.new) }
     ensures failed { IsErrOf result ReadFault.Failed
         → Rose (S.faults shelf.old) (S.faults shelf.new) ⊎ Lacks (S.files shelf.old) name.now }
     ensures files { S.files shelf.new ≡ S.files shelf.old }
@@ -104,4 +104,27 @@ pub(crate) fn say<E: Sink>(err: &mut E, text: &[u8])
     ensures later { E.faults err.old ≤ E.faults err.new }
 {
     let _ = write_whole(err, text);
+}
+
+#[cfg(test)]
+mod tests {
+    use super::*;
+    use gf_edges::MemorySink;
+    use std::test::Fail;
+
+    #[test]
+    fn each_write_offers_the_whole_rest_of_the_text(rt: HostRuntime) -> Result<(), Fail> {
+        let alloc = rt.alloc();
+        let text = b"FIND coord target mercury second -";
+        let mut sink = MemorySink::new(alloc, 4096, 16, [3].to_vec(alloc)?)?;
+        assert!(rt; write_whole(&mut sink, text).is_err());
+        assert_eq!(rt;
+            sink.bytes(),
+            b"FIND coord target mercury second".as_slice()
+        );
+        let mut sink = MemorySink::new(alloc, 4096, 16, [4].to_vec(alloc)?)?;
+        write_whole(&mut sink, text)?;
+        assert_eq!(rt; sink.bytes(), text.as_slice());
+        Ok(())
+    }
 }

@@ -1,6 +1,6 @@
 // What the definitions of words, files and texts say of small cases.
-ghost use Rattle.std.specs.Prelude.{◌≡◌, List, ℕ, [], ◌∷◌, ◌++◌, None, Some, codes};
-ghost use Rattle.gf_find.specs.Files.{AppendsSome, HasLeft, IsFile, IsLongFile, IsTold};
+ghost use Rattle.std.specs.Prelude.{◌<◌, length, List, ℕ, [], ◌∷◌, ◌++◌, None, Some, codes};
+ghost use Rattle.gf_find.specs.Files.{AppendsSome, HasLeft, IsFile, IsLongFile, IsTold, most_bytes};
 ghost use Rattle.gf_find.specs.Words.{AreAskedFor, IsAskedFor, search_words};
 
 /// The words before the files are seven fixed ones. A file's name may be empty, and doesn't begin with a dash.
@@ -18,8 +18,8 @@ pub fn words_ask_for_files()
 pub fn files_are_read()
     ensures file { IsFile (Some ((codes "a", 7 ∷ 8 ∷ []) ∷ [])) (codes "a") (7 ∷ 8 ∷ []) }
     ensures not_told { IsFile None (codes "a") (7 ∷ []) }
-    ensures long { IsLongFile (Some ((codes "a", 7 ∷ 8 ∷ []) ∷ [])) (codes "a") 1 }
-    ensures not_long { IsLongFile (Some ((codes "a", 7 ∷ 8 ∷ []) ∷ [])) (codes "a") 2 → ⊥ }
+    ensures long { (bytes : List ℕ) → most_bytes < length bytes → IsLongFile (Some ((codes "a", bytes) ∷ [])) (codes "a") }
+    ensures not_long { IsLongFile (Some ((codes "a", 7 ∷ 8 ∷ []) ∷ [])) (codes "a") → ⊥ }
     ensures left { HasLeft (Some ((codes "a", 7 ∷ 8 ∷ []) ∷ [])) (codes "a") 1 (Some (8 ∷ [])) }
 {}
 

@@ -86,3 +86,36 @@ fn begins_with_dash(word: &String) -> bool
 {
     word.as_bytes().first() == Some(&b'-')
 }
+
+#[cfg(test)]
+mod tests {
+    use super::*;
+    use std::alloc::{AllocError, Global};
+    use std::test::Fail;
+
+    fn strings(alloc: Global, line: &str) -> Result<Vec<String>, AllocError> {
+        let mut words = Vec::new(alloc);
+        for word in line.split(' ') {
+            words.push(String::from_str(alloc, word)?)?;
+        }
+        Ok(words)
+    }
+
+    #[test]
+    fn one_file_is_asked_for_by_eight_words(rt: HostRuntime) -> Result<(), Fail> {
+        let cases = [
+            ("find --kind coord --target mercury --axis x a", Some("a")),
+            ("find --kind coord --target mercury --axis x ", Some("")),
+            ("find --kind coord --target mercury --axis x -a", None),
+            ("find --kind coord --target mercury --axis x a b", None),
+            ("find --kind coord --target mercury --axis x", None),
+            ("find --kind coord --target mercury --axis y a", None),
+            ("find --kind coord --axis x --target mercury a", None),
+            ("FIND --kind coord --target mercury --axis x a", None),
+        ];
+        for (line, want) in cases {
+            assert_eq!(rt; asked(&strings(rt.alloc(), line)?), want, "{line}");
+        }
+        Ok(())
+    }
+}

@@ -1,1 +1,5 @@
 pub mod Stacks
+pub mod Arguments
+pub mod Gains
+pub mod Left
+pub mod WordLemmas

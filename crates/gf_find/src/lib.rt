@@ -1,7 +1,10 @@
-//! The search as a whole, from words and files to a report.
+//! The search as a whole: words and the bytes of files come in, and a report or the line of a fault goes out, with a
+//! status. Nothing of its inside is public but the call itself.
 #![tactic(auto)]
 
+mod files;
 mod joining;
 mod judge;
 mod printing;
 mod walk;
+mod words;

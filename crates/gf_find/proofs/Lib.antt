@@ -3,3 +3,4 @@ pub mod Arguments
 pub mod Gains
 pub mod Left
 pub mod WordLemmas
+pub mod Spans

@@ -6,5 +6,6 @@ mod files;
 mod joining;
 mod judge;
 mod printing;
+mod search;
 mod walk;
 mod words;

@@ -31,7 +31,7 @@ abbrev pub fixed_rows : List ℕ → List (List Cell)
 fixed_rows text = map (λ line. map word (tokens line.bytes)) (text_lines text)
 
 -- the header, and the line with the block's number and the count of its numbers
-abbrev pub header_text : List ℕ
+unfoldable pub header_text : List ℕ
 header_text =
     codes "KSIZE= 52 NCOEFF= 26\n"
     ++ codes "GROUP 1010\n"
@@ -59,7 +59,7 @@ constant_row = word (codes "0.245154450000000000D+07") ∷ word (codes "0.245157
 abbrev pub slope_row : List Cell
 slope_row = slope ∷ word (codes "0.0") ∷ word (codes "0.0") ∷ []
 
-abbrev pub zeros_text : List ℕ
+unfoldable pub zeros_text : List ℕ
 zeros_text =
     codes "0.0 0.0 0.0\n"
     ++ codes "0.0 0.0 0.0\n"

@@ -1,0 +1,5 @@
+pub mod Joins
+pub mod RowSteps
+pub mod Sizes
+pub mod Threes
+pub mod TokenLists

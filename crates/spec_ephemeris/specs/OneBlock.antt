@@ -26,9 +26,13 @@ pub data Cell : Type 0 where
   constant : Cell
   slope : Cell
 
+-- the row of fixed words that a line spells
+abbrev pub fixed_row : Numbered → List Cell
+fixed_row line = map word (tokens line.bytes)
+
 -- the rows of fixed words that the lines of a text spell
 abbrev pub fixed_rows : List ℕ → List (List Cell)
-fixed_rows text = map (λ line. map word (tokens line.bytes)) (text_lines text)
+fixed_rows text = map fixed_row (text_lines text)
 
 -- the header, and the line with the block's number and the count of its numbers
 unfoldable pub header_text : List ℕ

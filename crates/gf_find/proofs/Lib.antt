@@ -4,3 +4,8 @@ pub mod Gains
 pub mod Left
 pub mod WordLemmas
 pub mod Spans
+pub mod Joins
+pub mod RowSteps
+pub mod Sizes
+pub mod Threes
+pub mod TokenLists

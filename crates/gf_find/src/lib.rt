@@ -3,6 +3,7 @@
 #![tactic(auto)]
 
 mod files;
+mod form;
 mod joining;
 mod judge;
 mod printing;

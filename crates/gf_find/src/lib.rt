@@ -2,10 +2,12 @@
 //! status. Nothing of its inside is public but the call itself.
 #![tactic(auto)]
 
+mod faults;
 mod files;
 mod form;
 mod joining;
 mod judge;
+mod prepare;
 mod printing;
 mod search;
 mod walk;

@@ -9,16 +9,12 @@ use Rattle.spec_output.specs.Files.{IsFile, NamedFile}
 use Rattle.spec_output.specs.declared.faults.FileFault.{FileFault}
 use Rattle.spec_output.specs.declared.faults.FileFault.TheVariants.{TooLarge, NotBuilt}
 
--- the words name this file, and these are its bytes where files are told
-pub record Names (words : List (List ℕ)) (files : Option Files) (name bytes : List ℕ) : Type 0 where
-  pub asked : IsAskedFor words name
-  pub told : IsFile files name bytes
-
 -- the words name a file of the form that is read, with these two coefficients of Mercury's x
 pub record Asks (words : List (List ℕ)) (files : Option Files) (c0 c1 : Decimal) : Type 0 where
   pub name : List ℕ
+  pub asked : IsAskedFor words name
   pub bytes : List ℕ
-  pub names : Names words files name bytes
+  pub told : IsFile files name bytes
   pub small : length bytes ≤ MOST_TEXT_BYTES
   pub form : HasForm bytes c0 c1
 

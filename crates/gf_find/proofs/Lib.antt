@@ -9,3 +9,4 @@ pub mod RowSteps
 pub mod Sizes
 pub mod Threes
 pub mod TokenLists
+pub mod Findings

@@ -10,5 +10,8 @@ mod judge;
 mod prepare;
 mod printing;
 mod search;
+mod top;
 mod walk;
 mod words;
+
+pub use top::finder;

@@ -3,8 +3,10 @@
 #![tactic(auto)]
 
 mod files;
+mod form;
 mod joining;
 mod judge;
 mod printing;
+mod search;
 mod walk;
 mod words;

@@ -26,8 +26,10 @@ pub first_leaves : (row : List Cell) (rows : List (List Cell)) (line : TokenLine
     → TakesLine line left later → ((c0 c1 : Decimal) → MeetCells c0 c1 row line.tokens → ⊥) → LeavesRowsAt (row ∷ rows) left end line.number
 first_leaves row rows line [] later end takes other = absurd takes
 first_leaves row rows line (first ∷ rest) later end takes other =
-    inl (λ fits. other fits.c0 fits.c1 (subst (MeetCells fits.c0 fits.c1 row) (ap (λ (l : TokenLine). l.tokens) (sym takes.1)) fits.meets.cells),
-    ap (λ (l : TokenLine). l.number) takes.1)
+    inl (
+      λ fits. other fits.c0 fits.c1 (subst (MeetCells fits.c0 fits.c1 row) (ap (λ (l : TokenLine). l.tokens) (sym takes.1)) fits.meets.cells),
+      ap (λ (l : TokenLine). l.number) takes.1,
+    )
 
 too_long_fits : (row : List Cell) (line : Numbered) → is_too_long line ≡ true → FitsRow row line → ⊥
 too_long_fits row line long fits = let short : is_too_long line ≡ false = fits.meets.short in absurd (cc)

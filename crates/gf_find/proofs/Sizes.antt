@@ -39,5 +39,7 @@ multiplied mant (pos n) from = let known = capped_up (unsigned_abs mant) n in (�
 multiplied mant (negsuc n) from = absurd (omega (arith, ints))
 
 pub tested : (a b x y : ℕ) (P : Type 0) → a ≡ x → b ≡ y → (x < y) ↔ P → IsTrue (nat_lt a b) ↔ P
-tested a b x y P left right known = (λ test. let less : a < b = grind (arith, nat_tests) in known.0 (omega (arith, less)),
-    λ holds. let less : a < b = omega (arith, known.1 holds) in grind (arith, nat_tests))
+tested a b x y P left right known = (
+  λ test. let less : a < b = grind (arith, nat_tests) in known.0 (omega (arith, less)),
+  λ holds. let less : a < b = omega (arith, known.1 holds) in grind (arith, nat_tests),
+)

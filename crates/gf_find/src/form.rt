@@ -10,7 +10,7 @@ ghost use Rattle.gf_find.specs.Form.{AnyPair, HasCoefficient, HasConstant, HasSl
 use de_text::{Decimal, Line, LineStep, Tokens, read_decimal};
 
 /// The coefficients of Mercury's x, in km.
-#[derive(Clone, Copy)]
+#[derive(Clone, Copy, Debug, PartialEq, Eq)]
 pub(crate) struct Coefficients {
     /// The coefficient of `T_0`.
     pub c0: Decimal,
@@ -40,10 +40,12 @@ GROUP 1070
 
 // The block's first and last Julian date.
 const FIRST_DATE: &[u8] = b"0.245154450000000000D+07";
+
 const LAST_DATE: &[u8] = b"0.245157650000000000D+07";
 
 // A number that is 0, and the lines behind the two coefficients.
 const ZERO: &[u8] = b"0.0";
+
 const ZEROS: &[u8] = b"0.0 0.0 0.0
 0.0 0.0 0.0
 0.0 0.0 0.0
@@ -115,14 +117,10 @@ fn has_tokens(line: &Line<'_>, row: &Line<'_>) -> bool
 fn read_fixed(lines: &mut Tokens<'_>, text: &[u8]) -> Result<(), u32>
     requires short { are_short (text_lines text.now) ≡ true }
     requires fits { length text.now ≤ MOST_TEXT_BYTES }
-    ensures leads {
-      IfOk result (λ _. (rows : List (List Cell))
-        → Leads AnyPair lines.old.end_line (fixed_rows text.now ++ rows) lines.old.left rows lines.new.left)
-    }
-    ensures leaves {
-      IfErr result (λ number. (rows : List (List Cell))
-        → LeavesRowsAt (fixed_rows text.now ++ rows) lines.old.left lines.old.end_line number)
-    }
+    ensures leads { IfOk result (λ _. (rows : List (List Cell))
+        → Leads AnyPair lines.old.end_line (fixed_rows text.now ++ rows) lines.old.left rows lines.new.left) }
+    ensures leaves { IfErr result (λ number. (rows : List (List Cell))
+        → LeavesRowsAt (fixed_rows text.now ++ rows) lines.old.left lines.old.end_line number) }
     ensures end_line { lines.new.end_line ≡ lines.old.end_line }
 {
     let mut rows = Tokens::new(text);
@@ -201,14 +199,10 @@ fn slope(line: &Line<'_>) -> Option<Decimal>
 
 // The constant of the line that is next.
 fn read_constant(lines: &mut Tokens<'_>) -> Result<Decimal, u32>
-    ensures leads {
-      IfOk result (λ d. (rows : List (List Cell))
-        → Leads (HasConstant d) lines.old.end_line (constant_row ∷ rows) lines.old.left rows lines.new.left)
-    }
-    ensures leaves {
-      IfErr result (λ number. (rows : List (List Cell))
-        → LeavesRowsAt (constant_row ∷ rows) lines.old.left lines.old.end_line number)
-    }
+    ensures leads { IfOk result (λ d. (rows : List (List Cell))
+        → Leads (HasConstant d) lines.old.end_line (constant_row ∷ rows) lines.old.left rows lines.new.left) }
+    ensures leaves { IfErr result (λ number. (rows : List (List Cell))
+        → LeavesRowsAt (constant_row ∷ rows) lines.old.left lines.old.end_line number) }
     ensures end_line { lines.new.end_line ≡ lines.old.end_line }
 {
     let line = next_line(lines)?;
@@ -217,14 +211,10 @@ fn read_constant(lines: &mut Tokens<'_>) -> Result<Decimal, u32>
 
 // The slope of the line that is next.
 fn read_slope(lines: &mut Tokens<'_>) -> Result<Decimal, u32>
-    ensures leads {
-      IfOk result (λ d. (rows : List (List Cell))
-        → Leads (HasSlope d) lines.old.end_line (slope_row ∷ rows) lines.old.left rows lines.new.left)
-    }
-    ensures leaves {
-      IfErr result (λ number. (rows : List (List Cell))
-        → LeavesRowsAt (slope_row ∷ rows) lines.old.left lines.old.end_line number)
-    }
+    ensures leads { IfOk result (λ d. (rows : List (List Cell))
+        → Leads (HasSlope d) lines.old.end_line (slope_row ∷ rows) lines.old.left rows lines.new.left) }
+    ensures leaves { IfErr result (λ number. (rows : List (List Cell))
+        → LeavesRowsAt (slope_row ∷ rows) lines.old.left lines.old.end_line number) }
     ensures end_line { lines.new.end_line ≡ lines.old.end_line }
 {
     let line = next_line(lines)?;
@@ -258,3 +248,6 @@ pub(crate) fn read_form(text: &[u8]) -> Result<Coefficients, u32>
     read_end(&mut lines)?;
     Ok(Coefficients { c0, c1 })
 }
+
+#[cfg(test)]
+mod tests;

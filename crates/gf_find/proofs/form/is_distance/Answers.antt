@@ -10,7 +10,7 @@ returns-then-exp-lt0 c =
     let size : c.from-size.result ≡ unsigned_abs c.args.mant = c.from-size.ensures ∙ simp to_z-of_z at c.unsigned_abs.ensures.value in
     let exponent : c.unsigned_abs-2.result ≡ unsigned_abs c.args.exp = simp to_z-of_z at c.unsigned_abs-2.ensures.value in
     let power : 2 ^ 36 * c.power_of_ten-power.result ≡ 2 ^ 36 * 10 ^ min (unsigned_abs c.args.exp) 11 =
-      ap (λ n. 2 ^ 36 * n) (c.power_of_ten-power.ensures ∙ ap (λ n. 10 ^ min n 11) exponent) in
+    ap (λ n. 2 ^ 36 * n) (c.power_of_ten-power.ensures ∙ ap (λ n. 10 ^ min n 11) exponent) in
     tested _ _ _ _ _ size power (divided c.args.mant c.args.exp (omega (arith, ints)) (omega (arith, ints)))
 
 pub returns-else-exp-lt0 : goal.returns-else-exp-lt0

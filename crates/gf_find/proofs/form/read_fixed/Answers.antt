@@ -9,8 +9,8 @@ use Rattle.gf_find.proofs.form.read_fixed.Goals as goal
 pub returns-in_err-line-clause-leaves : goal.returns-in_err-line-clause-leaves
 returns-in_err-line-clause-leaves c =
     let leaves = λ (rows : List (List Cell)). (c.loop-row.invariant.leads rows).leaves c.in_err-line.field-0.0
-          (subst (λ (end : ℕ). LeavesRowsAt (map fixed_row c.loop-row.rows.left ++ rows) c.loop-row.lines.left end c.in_err-line.field-0.0) c.loop-row.invariant.end_line
-          (fixed_lacks c.in-Ok.row c.loop-row.rows.left _ c.loop-row.lines.left c.loop-row.lines.end_line _ rows c.in-Ok.ensures.taken c.in_err-line.ensures.lacking)) in
+    (subst (λ (end : ℕ). LeavesRowsAt (map fixed_row c.loop-row.rows.left ++ rows) c.loop-row.lines.left end c.in_err-line.field-0.0) c.loop-row.invariant.end_line
+    (fixed_lacks c.in-Ok.row c.loop-row.rows.left _ c.loop-row.lines.left c.loop-row.lines.end_line _ rows c.in-Ok.ensures.taken c.in_err-line.ensures.lacking)) in
     let p = err_from_is_err_and c.from_residual.result c.from_residual.ensures.1 in rw (p.1, p.2) leaves
 
 pub returns-then-not-has_tokens-clause-leaves : goal.returns-then-not-has_tokens-clause-leaves

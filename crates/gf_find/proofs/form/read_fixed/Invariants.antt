@@ -7,7 +7,7 @@ abbrev pub invariant-loop-row : goal.invariant-loop-row
 invariant-loop-row l = record {
   short : are_short l.rows.left ≡ true;
   leads : (rows : List (List Cell))
-    → Leads AnyPair l.fn.lines.end_line (fixed_rows l.text ++ rows) l.fn.lines.left (map fixed_row l.rows.left ++ rows) l.lines.left;
+      → Leads AnyPair l.fn.lines.end_line (fixed_rows l.text ++ rows) l.fn.lines.left (map fixed_row l.rows.left ++ rows) l.lines.left;
   end_line : l.lines.end_line ≡ l.fn.lines.end_line;
 }
 

@@ -1,2 +1,3 @@
 pub mod Series
 pub mod OneBlock
+pub mod Examples

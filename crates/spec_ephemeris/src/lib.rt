@@ -1,9 +1,15 @@
-//! What a file of an ephemeris says: the definitions that contracts cite. A file's bytes come in; what goes out is
-//! which bytes have the form that is read, and the exact position that their numbers give at each time.
+//! What a file of an ephemeris says: the definitions that contracts cite, and worked values of them. A file's bytes
+//! come in; what goes out is which bytes have the form that is read, and the exact position that their numbers give
+//! at each time.
 #![tactic(auto)]
 
+mod examples;
 mod laws;
 
+pub use examples::{
+    arguments, lines_of_the_form, positions_on_a_line, positions_on_a_parabola,
+    sizes_of_coefficients, texts_that_leave_the_form,
+};
 pub use laws::{
     coefficients_are_bounded, form_has_one_pair_of_coefficients, form_is_left_nowhere,
     form_is_left_once,

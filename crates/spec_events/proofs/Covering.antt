@@ -1,5 +1,5 @@
 -- The leaves of a node cover it, and each is a valid node with the mark of its verdict.
-use Rattle.std.proofs.Common.{◌≡◌, ℕ, zero, suc, ◌+◌, ◌<◌, ◌≤◌, ℤ, List, [], ◌∷◌, ◌++◌, length, refl, sym, ap, ◌∙◌, subst, Option, Some, None, arith}
+use Rattle.std.proofs.Common.{◌≡◌, ℕ, zero, suc, ◌≤◌, ℤ, List, [], ◌∷◌, ◌++◌, refl, sym, subst, Option, Some, None, arith}
 use Rattle.spec_events.specs.declared.tree.Node.{Node}
 use Rattle.spec_events.specs.declared.tree.Leaf.{Leaf}
 use Rattle.spec_events.specs.declared.tree.Mark.{Mark}
@@ -40,7 +40,7 @@ are_by_mark : (t : Rules) → IsSound t → (k : ℕ) (n : Node) → IsValid t n
     → ((i : Node) → IsValid t i → width i ≤ k → AreLeaves t (leaves t i)) → AreLeaves t (leaves t n)
 are_by_mark t s k n v w (Some m) e below =
     subst (λ (l : List Leaf). AreLeaves t l) (sym (leaves_settled t s n v m e))
-        (All-cons (IsLeaf t) (leaf_of n m) [] (record { valid = v; marked = e }) (All-nil (IsLeaf t)))
+    (All-cons (IsLeaf t) (leaf_of n m) [] (record { valid = v; marked = e }) (All-nil (IsLeaf t)))
 are_by_mark t s k n v w None e below =
     let split = no_mark (t.verdict n) e in
     let c = s.cut n v split in
@@ -50,7 +50,7 @@ are_by_mark t s k n v w None e below =
     let l = some_width t left c.left in
     let r = some_width t right c.right in
     subst (λ (ls : List Leaf). AreLeaves t ls) (sym (leaves_split t s n v split))
-        (All-append (IsLeaf t) (leaves t left) (leaves t right) (below left c.left (omega arith)) (below right c.right (omega arith)))
+    (All-append (IsLeaf t) (leaves t left) (leaves t right) (below left c.left (omega arith)) (below right c.right (omega arith)))
 
 are_by_width : (t : Rules) → IsSound t → (k : ℕ) (n : Node) → IsValid t n → width n ≤ k → AreLeaves t (leaves t n)
 are_by_width t s zero n v w = absurd (omega (arith, some_width t n v))

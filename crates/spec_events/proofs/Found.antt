@@ -1,5 +1,4 @@
 -- The windows that the search finds are the windows of the events of the block.
-use Rattle.std.proofs.Common.{List}
 use Rattle.std.proofs.lemmas.List.Elements.{All-weaker}
 use Rattle.spec_text.specs.declared.decimals.Decimal.{Decimal}
 use Rattle.spec_ephemeris.specs.Series.{IsInUnits}
@@ -21,9 +20,9 @@ module _ (c0 c1 : Decimal) (h0 : IsInUnits c0) (h1 : IsInUnits c1) where
   leaves_told : AllTold (IsUp c0 c1) (IsLeftOpen c0 c1) (leaves (rules c0 c1) root)
   leaves_told =
       All-weaker (IsLeaf (rules c0 c1)) (λ l. Told (IsUp c0 c1) (IsLeftOpen c0 c1) l.node l.mark) leaf_told (leaves (rules c0 c1) root)
-          (leaves_are (rules c0 c1) (rules_are_sound c0 c1) root (root_is_valid c0 c1))
+      (leaves_are (rules c0 c1) (rules_are_sound c0 c1) root (root_is_valid c0 c1))
 
   pub found_are : AreWindows (IsUp c0 c1) (IsLeftOpen c0 c1) block_start block_end (found_windows c0 c1)
   found_are =
       windows_are (IsUp c0 c1) (IsLeftOpen c0 c1) block_start block_end (leaves (rules c0 c1) root)
-          (leaves_cover (rules c0 c1) (rules_are_sound c0 c1) root (root_is_valid c0 c1)) leaves_told
+      (leaves_cover (rules c0 c1) (rules_are_sound c0 c1) root (root_is_valid c0 c1)) leaves_told

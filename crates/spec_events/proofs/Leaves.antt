@@ -1,12 +1,11 @@
 -- The two equations of `leaves`.
-use Rattle.std.proofs.Common.{◌≡◌, ℕ, zero, suc, ◌+◌, ◌<◌, ◌≤◌, List, [], ◌∷◌, ◌++◌, length, refl, sym, ap, ◌∙◌, Option, Some, None, arith}
+use Rattle.std.proofs.Common.{◌≡◌, ℕ, zero, suc, ◌+◌, ◌<◌, ◌≤◌, [], ◌∷◌, ◌++◌, refl, sym, ap, ◌∙◌, Option, Some, None, arith}
 use Rattle.std.proofs.lemmas.Int.{ints}
 use Rattle.spec_events.specs.declared.tree.Node.{Node}
-use Rattle.spec_events.specs.declared.tree.Leaf.{Leaf}
 use Rattle.spec_events.specs.declared.tree.Mark.{Mark}
 use Rattle.spec_events.specs.declared.tree.Verdict.{Verdict}
 use Rattle.spec_events.specs.declared.tree.Verdict.TheVariants as V
-use Rattle.spec_events.specs.Tree.{Rules, IsValid, IsSound, IsCut, Cuts, mark_of, width, leaf_of, leaves_within, leaves}
+use Rattle.spec_events.specs.Tree.{Rules, IsValid, IsSound, IsCut, mark_of, width, leaf_of, leaves_within, leaves}
 
 pub some_width : (t : Rules) (n : Node) → IsValid t n → 0 < width n
 some_width t n v = omega (arith, ints, v.inside)

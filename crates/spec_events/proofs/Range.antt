@@ -1,21 +1,22 @@
--- The interval of x over a node holds x at each of its seconds, and its sign is that of x.
-use Rattle.std.proofs.Common.{◌≡◌, ℕ, zero, suc, ◌+◌, ◌-◌, ◌*◌, ◌^◌, ◌<◌, ◌≤◌, arith, refl, sym, ap, ◌∙◌, subst, List, [], ◌∷◌, ℤ, pos, negsuc, ◌+ℤ◌, ◌-ℤ◌, ◌*ℤ◌, neg_ℤ, ◌≤ℤ◌, ◌<ℤ◌}
+-- The interval of x from one time to another holds x at each time between.
+use Rattle.std.proofs.Common.{◌≡◌, ℕ, ◌+◌, ◌-◌, ◌*◌, ◌^◌, arith, refl, sym, ap, ◌∙◌, subst, [], ◌∷◌, ℤ, pos, negsuc, ◌+ℤ◌, ◌*ℤ◌, neg_ℤ, ◌≤ℤ◌}
 use Rattle.std.proofs.lemmas.Int.{ints}
 use Rattle.std.proofs.lemmas.Nat.{pow-add}
 use borrow.Author.Differences.{up, down}
 use Rattle.spec_intervals.specs.Interval.{floor_div, ceil_div, decimal_top, decimal_bottom, from_decimal, Interval}
-use Rattle.spec_intervals.proofs.Ring.{Poly, v, k as lit, ◌⊕◌, ◌⊖◌, ◌⊗◌, ring, value}
-use Rattle.spec_intervals.proofs.Order.{lin, le-mul, le-mul_cancel}
+use Rattle.spec_intervals.proofs.Ring.{v, k as lit, ◌⊕◌, ◌⊗◌, ring}
+use Rattle.spec_intervals.proofs.Order.{lin, le-mul}
 use Rattle.spec_intervals.proofs.Floor.{floor_div-le, ceil_div-ge}
 use Rattle.spec_intervals.proofs.Decimals.{bottom_pos}
 use Rattle.spec_text.specs.declared.decimals.Decimal.{Decimal}
-use Rattle.spec_intervals.specs.Fraction.{Fraction, Holds}
+use Rattle.spec_intervals.specs.Fraction.{Holds}
 use Rattle.spec_intervals.proofs.Holding.{Holds-narrowed}
-use Rattle.spec_ephemeris.specs.Series.{Series, IsInUnits, to_nat, scaled, argument_at, position}
+use Rattle.spec_ephemeris.specs.Series.{IsInUnits, to_nat, scaled, argument_at, position}
 use Rattle.spec_ephemeris.specs.OneBlock.{mercury_x}
 use Rattle.spec_events.specs.LineSearch.{coefficient, argument, line, x_range}
 use Rattle.spec_events.proofs.Units.{Encloses, line_ends, line_encloses}
 
+-- the powers of ten of a decimal, at the power -140
 below : (q : ℤ) → neg_ℤ (pos 140) ≤ℤ q → down q + (140 - down q) ≡ 140
 below (pos n) h = refl
 below (negsuc n) h = omega (arith, ints, h)
@@ -84,7 +85,7 @@ ends_enclose c0 c1 a b t h g p q =
     let e = units (scaled c0) (scaled c1) (u_at c0 c1 t) (pos 2764800) in
     let f : (position (mercury_x c0 c1) t).numerator *ℤ pos (2 ^ 84) ≡ (scaled c0 *ℤ pos 2764800 +ℤ scaled c1 *ℤ u_at c0 c1 t) *ℤ pos (2 ^ 84) = ap (λ z. z *ℤ pos (2 ^ 84)) (x_is c0 c1 t) in
     subst (λ (z : ℤ). Encloses (ends_of c0 c1 a b) (10 ^ 140 * 2764800) z) (e ∙ sym f)
-        (line_encloses (coefficient c0) (coefficient c1) (argument (mercury_x c0 c1) a b) (scaled c0 *ℤ pos (2 ^ 24)) (scaled c1 *ℤ pos (2 ^ 24)) (u_at c0 c1 t *ℤ pos (2 ^ 60)) (10 ^ 140) 2764800 (coefficient_encloses c0 h) (coefficient_encloses c1 g) (argument_encloses c0 c1 a b t p q))
+    (line_encloses (coefficient c0) (coefficient c1) (argument (mercury_x c0 c1) a b) (scaled c0 *ℤ pos (2 ^ 24)) (scaled c1 *ℤ pos (2 ^ 24)) (u_at c0 c1 t *ℤ pos (2 ^ 60)) (10 ^ 140) 2764800 (coefficient_encloses c0 h) (coefficient_encloses c1 g) (argument_encloses c0 c1 a b t p q))
 
 once : (d : ℕ) → 1 * d ≡ d
 once d = omega arith
@@ -98,4 +99,4 @@ unfolding line
 Holds-x_range c0 c1 a b t h g p q =
     let e : Encloses (ends_of c0 c1 a b) (10 ^ 140 * 2764800) ((position (mercury_x c0 c1) t).numerator *ℤ pos (2 ^ 84)) = ends_enclose c0 c1 a b t h g p q in
     Holds-narrowed (ends_of c0 c1 a b).lo (ends_of c0 c1 a b).hi (negsuc 83) (position (mercury_x c0 c1) t)
-        (held (ends_of c0 c1 a b).lo (ends_of c0 c1 a b).hi (position (mercury_x c0 c1) t).numerator (10 ^ 140 * 2764800) e.low e.high)
+    (held (ends_of c0 c1 a b).lo (ends_of c0 c1 a b).hi (position (mercury_x c0 c1) t).numerator (10 ^ 140 * 2764800) e.low e.high)

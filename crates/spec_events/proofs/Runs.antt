@@ -1,5 +1,5 @@
 -- The windows from left to right, with a run of undecided leaves kept open, are those of the definition.
-use Rattle.std.proofs.Common.{◌≡◌, List, [], ◌∷◌, Option, Some, None, Bool, true, false, ℤ, pos, ◌+ℤ◌, if◌then◌else◌, refl, ap, ◌∙◌}
+use Rattle.std.proofs.Common.{◌≡◌, List, [], ◌∷◌, Option, Some, None, Bool, true, false, pos, ◌+ℤ◌, if◌then◌else◌, refl, ap, ◌∙◌}
 use Rattle.spec_events.specs.declared.tree.Node.{Node}
 use Rattle.spec_events.specs.declared.tree.Leaf.{Leaf}
 use Rattle.spec_events.specs.declared.tree.Mark.{Mark}

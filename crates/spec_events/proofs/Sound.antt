@@ -1,12 +1,12 @@
 -- The rules of the search are sound: what is split is wide, and its parts are valid.
-use Rattle.std.proofs.Common.{◌≡◌, refl, Bool, true, false, ℤ, pos, ◌-ℤ◌, ◌<ℤ◌, arith}
+use Rattle.std.proofs.Common.{◌≡◌, refl, Bool, true, false, pos, ◌-ℤ◌, ◌<ℤ◌, arith}
 use Rattle.std.proofs.lemmas.Int.{ints}
 use Rattle.spec_text.specs.declared.decimals.Decimal.{Decimal}
 use Rattle.spec_intervals.specs.declared.signs.Sign.{Sign}
 use Rattle.spec_events.specs.declared.tree.Node.{Node}
 use Rattle.spec_events.specs.declared.tree.Verdict.TheVariants as V
 use Rattle.spec_events.specs.Tree.{IsValid, IsSound, IsCut}
-use Rattle.spec_events.specs.LineSearch.{rules, verdict_by, is_wide, is_clear, is_told, turn_to, root, sign_on, slope_sign}
+use Rattle.spec_events.specs.LineSearch.{rules, verdict_by, is_wide, root, sign_on, slope_sign}
 
 -- what is split is wide
 split_is_wide : (wide : Bool) (whole at_a at_b slope : Sign) → verdict_by wide whole at_a at_b slope ≡ V.Split → wide ≡ true

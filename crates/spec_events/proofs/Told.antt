@@ -1,5 +1,5 @@
 -- Each mark of the search says what is so of the times of its node.
-use Rattle.std.proofs.Common.{◌≡◌, Bool, true, false, Option, Some, None, arith, refl, sym, ap, subst, ◌⊎◌, inl, inr, ℤ, pos, ◌+ℤ◌, ◌-ℤ◌, ◌*ℤ◌, neg_ℤ, ◌≤ℤ◌, ◌<ℤ◌}
+use Rattle.std.proofs.Common.{◌≡◌, Bool, false, Some, arith, sym, subst, ◌⊎◌, inl, inr, ℤ, pos, ◌-ℤ◌, ◌*ℤ◌, ◌≤ℤ◌, ◌<ℤ◌}
 use Rattle.std.proofs.lemmas.Int.{ints}
 use Rattle.spec_text.specs.declared.decimals.Decimal.{Decimal}
 use Rattle.spec_intervals.specs.declared.signs.Sign.{Sign}
@@ -12,13 +12,12 @@ use Rattle.spec_events.specs.declared.tree.Turn.TheVariants.{Rise, Fall}
 use Rattle.spec_events.specs.declared.tree.Mark.{Mark}
 use Rattle.spec_events.specs.declared.tree.Mark.TheVariants as M
 use Rattle.spec_events.specs.declared.tree.Verdict.TheVariants as V
-use Rattle.spec_events.specs.declared.window.Holds.TheVariants as H
-use Rattle.spec_events.specs.Events.{IsEvent, IsTurn, IsIn, HoldsOne}
-use Rattle.spec_events.specs.Tree.{IsValid, mark_of}
-use Rattle.spec_events.specs.Windows.{window_of, Told}
-use Rattle.spec_events.specs.LineSearch.{IsUp, IsLeftOpen, verdict_by, verdict, rules, is_wide, is_clear, is_told, are_equal, turn_to, sign_on, slope_sign}
+use Rattle.spec_events.specs.Events.{IsEvent, IsTurn}
+use Rattle.spec_events.specs.Tree.{mark_of}
+use Rattle.spec_events.specs.Windows.{Told}
+use Rattle.spec_events.specs.LineSearch.{IsUp, IsLeftOpen, verdict_by, verdict, is_wide, sign_on, slope_sign}
 use Rattle.spec_events.proofs.Range.{x_is}
-use Rattle.spec_events.proofs.Signed.{yes_up, no_down, not_up, apart}
+use Rattle.spec_events.proofs.Signed.{yes_up, no_down, apart}
 use Rattle.spec_events.proofs.Lines.{at_least, below}
 
 -- ---- what the signs are where a node has a mark
@@ -53,14 +52,14 @@ module _ (c0 c1 : Decimal) (h0 : IsInUnits c0) (h1 : IsInUnits c1) where
   up_between : (a b t : ℤ) → a ≤ℤ t → t ≤ℤ b → pos 0 ≤ℤ x a → pos 0 ≤ℤ x b → pos 0 ≤ℤ x t
   up_between a b t p q u w =
       subst (λ (z : ℤ). pos 0 ≤ℤ z) (sym (x_is c0 c1 t))
-          (at_least (scaled c0 *ℤ pos 2764800) (scaled c1) (argument_at (mercury_x c0 c1) a) (argument_at (mercury_x c0 c1) b) (argument_at (mercury_x c0 c1) t) (omega (arith, ints, p)) (omega (arith, ints, q))
-              (subst (λ (z : ℤ). pos 0 ≤ℤ z) (x_is c0 c1 a) u) (subst (λ (z : ℤ). pos 0 ≤ℤ z) (x_is c0 c1 b) w))
+      (at_least (scaled c0 *ℤ pos 2764800) (scaled c1) (argument_at (mercury_x c0 c1) a) (argument_at (mercury_x c0 c1) b) (argument_at (mercury_x c0 c1) t) (omega (arith, ints, p)) (omega (arith, ints, q))
+      (subst (λ (z : ℤ). pos 0 ≤ℤ z) (x_is c0 c1 a) u) (subst (λ (z : ℤ). pos 0 ≤ℤ z) (x_is c0 c1 b) w))
 
   down_between : (a b t : ℤ) → a ≤ℤ t → t ≤ℤ b → x a <ℤ pos 0 → x b <ℤ pos 0 → x t <ℤ pos 0
   down_between a b t p q u w =
       subst (λ (z : ℤ). z <ℤ pos 0) (sym (x_is c0 c1 t))
-          (below (scaled c0 *ℤ pos 2764800) (scaled c1) (argument_at (mercury_x c0 c1) a) (argument_at (mercury_x c0 c1) b) (argument_at (mercury_x c0 c1) t) (omega (arith, ints, p)) (omega (arith, ints, q))
-              (subst (λ (z : ℤ). z <ℤ pos 0) (x_is c0 c1 a) u) (subst (λ (z : ℤ). z <ℤ pos 0) (x_is c0 c1 b) w))
+      (below (scaled c0 *ℤ pos 2764800) (scaled c1) (argument_at (mercury_x c0 c1) a) (argument_at (mercury_x c0 c1) b) (argument_at (mercury_x c0 c1) t) (omega (arith, ints, p)) (omega (arith, ints, q))
+      (subst (λ (z : ℤ). z <ℤ pos 0) (x_is c0 c1 a) u) (subst (λ (z : ℤ). z <ℤ pos 0) (x_is c0 c1 b) w))
 
   known_up : (a b : ℤ) → sign_on c0 c1 a b ≡ Yes → (t : ℤ) → a ≤ℤ t → t ≤ℤ b → pos 0 ≤ℤ x t
   known_up a b s t p q = yes_up c0 c1 a b t h0 h1 p q s

@@ -1,8 +1,8 @@
--- Decimals and arguments lie within their roundings, in one unit.
-use Rattle.std.proofs.Common.{◌≡◌, ℕ, zero, suc, ◌+◌, ◌*◌, ◌^◌, ◌<◌, ◌≤◌, arith, refl, sym, ap, ◌∙◌, subst, List, [], ◌∷◌, ℤ, pos, negsuc, ◌+ℤ◌, ◌-ℤ◌, ◌*ℤ◌, ◌≤ℤ◌, ◌<ℤ◌}
+-- The line over intervals of two coefficients and an argument encloses the line of the numbers that they enclose.
+use Rattle.std.proofs.Common.{◌≡◌, ℕ, ◌*◌, ◌^◌, arith, [], ◌∷◌, ℤ, pos, negsuc, ◌+ℤ◌, ◌*ℤ◌, ◌≤ℤ◌}
 use Rattle.spec_intervals.specs.Interval.{Interval, least4, greatest4}
-use Rattle.spec_intervals.proofs.Ring.{Poly, v, k as lit, ◌⊕◌, ◌⊖◌, ◌⊗◌, ring, value}
-use Rattle.spec_intervals.proofs.Order.{lin, le-mul, le-mul_cancel}
+use Rattle.spec_intervals.proofs.Ring.{v, k as lit, ◌⊕◌, ◌⊗◌, ring}
+use Rattle.spec_intervals.proofs.Order.{lin, le-mul}
 use Rattle.spec_intervals.proofs.Products.{corner_low, corner_high, least4-le, greatest4-ge}
 
 -- lo * unit <= n <= hi * unit
@@ -34,14 +34,14 @@ module _ (c0 c1 x : Interval) (s0 s1 u : ℤ) (d l : ℕ) (h0 : Encloses c0 d s0
       let e : (least4 c1.lo c1.hi x.lo x.hi ≤ℤ (c1.lo *ℤ x.lo)) × (least4 c1.lo c1.hi x.lo x.hi ≤ℤ (c1.lo *ℤ x.hi)) × (least4 c1.lo c1.hi x.lo x.hi ≤ℤ (c1.hi *ℤ x.lo)) × (least4 c1.lo c1.hi x.lo x.hi ≤ℤ (c1.hi *ℤ x.hi)) = least4-le c1.lo c1.hi x.lo x.hi in
       let m : ℤ = least4 c1.lo c1.hi x.lo x.hi in
       corner_low (least4 c1.lo c1.hi x.lo x.hi *ℤ pos (d * l)) (c1.lo *ℤ pos d) (c1.hi *ℤ pos d) (x.lo *ℤ pos l) (x.hi *ℤ pos l) s1 u h1.low h1.high hx.low hx.high
-          (scaled_le m c1.lo x.lo d l e.0) (scaled_le m c1.lo x.hi d l e.1) (scaled_le m c1.hi x.lo d l e.2) (scaled_le m c1.hi x.hi d l e.3)
+      (scaled_le m c1.lo x.lo d l e.0) (scaled_le m c1.lo x.hi d l e.1) (scaled_le m c1.hi x.lo d l e.2) (scaled_le m c1.hi x.hi d l e.3)
 
   product_high : (s1 *ℤ u) ≤ℤ (greatest4 c1.lo c1.hi x.lo x.hi *ℤ pos (d * l))
   product_high =
       let e : ((c1.lo *ℤ x.lo) ≤ℤ greatest4 c1.lo c1.hi x.lo x.hi) × ((c1.lo *ℤ x.hi) ≤ℤ greatest4 c1.lo c1.hi x.lo x.hi) × ((c1.hi *ℤ x.lo) ≤ℤ greatest4 c1.lo c1.hi x.lo x.hi) × ((c1.hi *ℤ x.hi) ≤ℤ greatest4 c1.lo c1.hi x.lo x.hi) = greatest4-ge c1.lo c1.hi x.lo x.hi in
       let m : ℤ = greatest4 c1.lo c1.hi x.lo x.hi in
       corner_high (greatest4 c1.lo c1.hi x.lo x.hi *ℤ pos (d * l)) (c1.lo *ℤ pos d) (c1.hi *ℤ pos d) (x.lo *ℤ pos l) (x.hi *ℤ pos l) s1 u h1.low h1.high hx.low hx.high
-          (scaled_ge m c1.lo x.lo d l e.0) (scaled_ge m c1.lo x.hi d l e.1) (scaled_ge m c1.hi x.lo d l e.2) (scaled_ge m c1.hi x.hi d l e.3)
+      (scaled_ge m c1.lo x.lo d l e.0) (scaled_ge m c1.lo x.hi d l e.1) (scaled_ge m c1.hi x.lo d l e.2) (scaled_ge m c1.hi x.hi d l e.3)
 
   constant_low : ((c0.lo *ℤ pos (2 ^ 60)) *ℤ pos (d * l)) ≤ℤ ((s0 *ℤ pos l) *ℤ pos (2 ^ 60))
   constant_low =

@@ -3,7 +3,6 @@
 use Rattle.std.specs.Prelude.{◌≡◌, ◌⊎◌, List, [], ◌∷◌, All, Any, ℤ, pos, ◌-ℤ◌, ◌≤ℤ◌, ◌<ℤ◌}
 use Rattle.spec_events.specs.declared.tree.Turn.{Turn}
 use Rattle.spec_events.specs.declared.tree.Turn.TheVariants.{Rise, Fall}
-use Rattle.spec_events.specs.declared.window.Holds.{Holds}
 use Rattle.spec_events.specs.declared.window.Holds.TheVariants.{Certain, Undecided}
 use Rattle.spec_events.specs.declared.window.Window.{Window}
 
@@ -16,6 +15,7 @@ IsTurn P Fall t = P (t -ℤ pos 1) × (P t → ⊥)
 abbrev pub IsEvent : (ℤ → Type 0) → ℤ → Type 0
 IsEvent P t = IsTurn P Rise t ⊎ IsTurn P Fall t
 
+-- the window's times are those from its first to its last
 pub record IsIn (window : Window) (t : ℤ) : Type 0 where
   pub from : window.first ≤ℤ t
   pub to : t ≤ℤ window.last

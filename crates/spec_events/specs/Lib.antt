@@ -3,3 +3,4 @@ pub mod Tree
 pub mod Windows
 pub mod Runs
 pub mod LineSearch
+pub mod Examples

@@ -88,14 +88,17 @@ verdict c0 c1 n = verdict_by (is_wide n) (sign_on c0 c1 n.a n.b) (sign_on c0 c1 
 abbrev pub middle : Node → ℤ
 middle n = n.a +ℤ int_div (n.b -ℤ n.a) (pos 2)
 
--- a node is cut in its middle; the parts keep the depth, since no rule asks for it
+-- the parts of a node that is cut in its middle; they keep the depth, since no rule asks for it
+abbrev pub halves : Node → Node × Node
+halves n = (record { a = n.a; b = middle n; depth = n.depth }, record { a = middle n; b = n.b; depth = n.depth })
+
 abbrev pub rules : Decimal → Decimal → Rules
 rules c0 c1 = record {
   first = block_start;
   last = block_end;
   deepest = 0;
   verdict = verdict c0 c1;
-  parts = λ n. (record { a = n.a; b = middle n; depth = n.depth }, record { a = middle n; b = n.b; depth = n.depth });
+  parts = halves;
 }
 
 -- the whole block

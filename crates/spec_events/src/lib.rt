@@ -2,10 +2,18 @@
 //! that contracts cite, and the laws about them. Exact positions and intervals come in; windows of seconds go out.
 #![tactic(auto)]
 
+mod examples;
 mod laws;
 mod tree;
 mod window;
 
-pub use laws::{leaves_cover_the_node, leaves_of_the_parts, windows_from_the_left, windows_of_a_covered_span, x_is_held, known_signs_are_those_of_x, search_is_sound, marks_tell_of_x, search_finds_the_events};
+pub use examples::{
+    leaves_of_three_seconds, middles, turns, verdicts, windows_of_five_leaves, windows_of_lines,
+};
+pub use laws::{
+    known_signs_are_those_of_x, leaves_cover_the_node, leaves_of_the_parts, marks_tell_of_x,
+    search_finds_the_events, search_is_sound, windows_from_the_left, windows_of_a_covered_span,
+    x_is_held,
+};
 pub use tree::{Leaf, Mark, Node, Turn, Verdict};
 pub use window::{Holds, Window};

@@ -1,0 +1,5 @@
+pub mod Shifts
+pub mod Powers
+pub mod Settling
+pub mod Shortest
+pub mod DecimalEnds

@@ -1,0 +1,77 @@
+-- Shifts of small ends.
+use Rattle.std.proofs.Common.{◌≡◌, ℕ, ◌*◌, ◌/◌, ◌%◌, ◌^◌, ◌≤◌, arith, sym, ap, ◌∙◌, ℤ, pos, negsuc, ◌+ℤ◌, ◌*ℤ◌, unsigned_abs, to_z, of_z, w32, w64, FitsSigned}
+use Rattle.std.proofs.lemmas.Int.{ints, clamps, to_z_pos, unsigned_abs-mul, fits_signed_from_abs}
+use Rattle.std.proofs.lemmas.Nat.{one_shl, mul-le}
+use Rattle.std.proofs.Math.Nat.{div-eq_of_lt, pow-le-pow_right}
+use mir.Syntax.{w128}
+use Rattle.spec_intervals.specs.Interval.{floor_div, greatest4, least4}
+use Rattle.std.specs.Int.{int_max, int_min}
+
+-- past 2^64 a small end is divided to 0 or -1
+pub floor_div-past : (z : ℤ) (d e : ℕ) → unsigned_abs z ≤ 2 ^ 62 → 2 ^ 63 ≤ d → 2 ^ 63 ≤ e → floor_div z d ≡ floor_div z e
+floor_div-past (pos n) d e h p q =
+    let a : n / d ≡ 0 = div-eq_of_lt (omega arith) in
+    let b : n / e ≡ 0 = div-eq_of_lt (omega arith) in
+    ap pos (a ∙ sym b)
+floor_div-past (negsuc n) d e h p q =
+    let a : n / d ≡ 0 = div-eq_of_lt (omega arith) in
+    let b : n / e ≡ 0 = div-eq_of_lt (omega arith) in
+    ap negsuc (a ∙ sym b)
+
+pub one_shifted : (m : ℕ) → m ≤ 60 → to_z w128 (1 * 2 ^ m % 2 ^ 128) ≡ pos (2 ^ m)
+one_shifted m h =
+    let e : (1 * 2 ^ m) % 2 ^ 128 ≡ 2 ^ m = one_shl m 128 (omega arith) in
+    let b : 2 ^ m ≤ 2 ^ 60 = pow-le-pow_right (omega arith) h in
+    ap (to_z w128) e ∙ to_z_pos w128 (2 ^ m) (omega arith)
+
+pub lift_bound : (z : ℤ) (m : ℕ) → unsigned_abs z ≤ 2 ^ 62 → m ≤ 60 → unsigned_abs (z *ℤ pos (2 ^ m)) ≤ 2 ^ 122
+lift_bound z m h p =
+    let b : 2 ^ m ≤ 2 ^ 60 = pow-le-pow_right (omega arith) p in
+    rw (unsigned_abs-mul z (pos (2 ^ m))) (mul-le (unsigned_abs z) (2 ^ m) (2 ^ 62) (2 ^ 60) h b)
+
+pub lift_fits : (z : ℤ) (m : ℕ) → unsigned_abs z ≤ 2 ^ 62 → m ≤ 60 → FitsSigned w128 (z *ℤ pos (2 ^ m))
+lift_fits z m h p = let b : unsigned_abs (z *ℤ pos (2 ^ m)) ≤ 2 ^ 122 = lift_bound z m h p in fits_signed_from_abs w128 (z *ℤ pos (2 ^ m)) (omega arith)
+
+pub pow_above : (j k : ℕ) → j ≤ k → 2 ^ j ≤ 2 ^ k
+pow_above j k h = pow-le-pow_right (omega arith) h
+
+pub small_fits : (z : ℤ) → unsigned_abs z ≤ 2 ^ 62 → FitsSigned w128 z
+small_fits z h = fits_signed_from_abs w128 z (omega arith)
+
+pub product_fits : (a b : ℤ) → unsigned_abs a ≤ 2 ^ 62 → unsigned_abs b ≤ 2 ^ 62 → FitsSigned w128 (a *ℤ b)
+product_fits a b p q =
+    let h : unsigned_abs a * unsigned_abs b ≤ 2 ^ 62 * 2 ^ 62 = mul-le (unsigned_abs a) (unsigned_abs b) (2 ^ 62) (2 ^ 62) p q in
+    let e : unsigned_abs (a *ℤ b) ≡ unsigned_abs a * unsigned_abs b = unsigned_abs-mul a b in
+    fits_signed_from_abs w128 (a *ℤ b) (omega arith)
+
+pub product_bound : (a b : ℤ) → unsigned_abs a ≤ 2 ^ 62 → unsigned_abs b ≤ 2 ^ 62 → unsigned_abs (a *ℤ b) ≤ 2 ^ 124
+product_bound a b p q = rw (unsigned_abs-mul a b) (mul-le (unsigned_abs a) (unsigned_abs b) (2 ^ 62) (2 ^ 62) p q)
+
+pub greatest_bound : (a b c d : ℤ) → unsigned_abs a ≤ 2 ^ 62 → unsigned_abs b ≤ 2 ^ 62 → unsigned_abs c ≤ 2 ^ 62 → unsigned_abs d ≤ 2 ^ 62 → unsigned_abs (greatest4 a b c d) ≤ 2 ^ 124
+greatest_bound a b c d p q r s =
+    largest (a *ℤ c) (a *ℤ d) (b *ℤ c) (b *ℤ d) (product_bound a c p r) (product_bound a d p s) (product_bound b c q r) (product_bound b d q s)
+  where
+    largest : (w x y z : ℤ) → unsigned_abs w ≤ 2 ^ 124 → unsigned_abs x ≤ 2 ^ 124 → unsigned_abs y ≤ 2 ^ 124 → unsigned_abs z ≤ 2 ^ 124 → unsigned_abs (int_max (int_max w x) (int_max y z)) ≤ 2 ^ 124
+    largest w x y z h i j k = omega (arith, ints, clamps)
+
+pub least_bound : (a b c d : ℤ) → unsigned_abs a ≤ 2 ^ 62 → unsigned_abs b ≤ 2 ^ 62 → unsigned_abs c ≤ 2 ^ 62 → unsigned_abs d ≤ 2 ^ 62 → unsigned_abs (least4 a b c d) ≤ 2 ^ 124
+least_bound a b c d p q r s =
+    smallest (a *ℤ c) (a *ℤ d) (b *ℤ c) (b *ℤ d) (product_bound a c p r) (product_bound a d p s) (product_bound b c q r) (product_bound b d q s)
+  where
+    smallest : (w x y z : ℤ) → unsigned_abs w ≤ 2 ^ 124 → unsigned_abs x ≤ 2 ^ 124 → unsigned_abs y ≤ 2 ^ 124 → unsigned_abs z ≤ 2 ^ 124 → unsigned_abs (int_min (int_min w x) (int_min y z)) ≤ 2 ^ 124
+    smallest w x y z h i j k = omega (arith, ints, clamps)
+
+-- a small end is within 64 bits
+pub small_narrow : (z : ℤ) → unsigned_abs z ≤ 2 ^ 62 → FitsSigned w64 z
+small_narrow z h = fits_signed_from_abs w64 z (omega arith)
+
+pub floor_small : (z : ℤ) → unsigned_abs z ≤ 2 ^ 62 → FitsSigned w128 (floor_div z (2 ^ 64))
+floor_small (pos n) h = let a : n / 2 ^ 64 ≡ 0 = div-eq_of_lt (omega arith) in fits_signed_from_abs w128 (pos (n / 2 ^ 64)) (omega arith)
+floor_small (negsuc n) h = let a : n / 2 ^ 64 ≡ 0 = div-eq_of_lt (omega arith) in fits_signed_from_abs w128 (negsuc (n / 2 ^ 64)) (omega arith)
+
+-- an exponent and a shift, as the code adds them
+pub exponent_sum : (a b : ℤ) (k : ℕ) → a ≡ b → unsigned_abs b ≤ 65536 → k ≤ 131072 → to_z w32 (of_z w32 (to_z w32 (of_z w32 a) +ℤ to_z w32 k)) ≡ a +ℤ pos k
+exponent_sum a b k e h p = omega (arith, ints)
+
+pub exponent_bound : (a b : ℤ) (k : ℕ) → a ≡ b → unsigned_abs b ≤ 65536 → k ≤ 131072 → unsigned_abs (to_z w32 (of_z w32 (to_z w32 (of_z w32 a) +ℤ to_z w32 k))) ≤ 1000000
+exponent_bound a b k e h p = omega (arith, ints)

@@ -1,0 +1,62 @@
+use Rattle.std.proofs.Common.{arith, ◌≡◌, ◌∙◌, ◌^◌, pos, ap, sym, ◌*ℤ◌, unsigned_abs}
+use Rattle.std.proofs.lemmas.Int.{ints, to_z-of_z}
+use mir.Syntax.{w128}
+use mir.Val.{SFits}
+use Rattle.spec_intervals.specs.Interval.{floor_div, ceil_div}
+use Rattle.ival_core.proofs.DecimalEnds.{whole-low, whole-high, tenths-low, tenths-high, whole-size}
+use Rattle.ival_core.proofs.decimals.decimal_ends.Goals as goal
+use Rattle.ival_core.proofs.decimals.decimal_ends.Goals.{After-unsigned_abs-n}
+
+scaled_is : (c : After-unsigned_abs-n) → c.at_exponent-scaled.result ≡ c.args.mant *ℤ pos (2 ^ unsigned_abs c.args.s)
+scaled_is c =
+    let m = c.ranges.mant in
+    let s = c.ranges.s in
+    let k : c.unsigned_abs.result ≡ unsigned_abs c.args.s = simp to_z-of_z at c.unsigned_abs.ensures.value in
+    let e : c.at_exponent-scaled.result ≡ c.args.mant *ℤ pos (2 ^ c.unsigned_abs.result) = simp to_z-of_z at c.at_exponent-scaled.ensures.equals in
+    e ∙ ap (λ n. c.args.mant *ℤ pos (2 ^ n)) k
+
+power_is : (c : After-unsigned_abs-n) → c.unsigned_abs-n.result ≡ unsigned_abs c.args.exp
+power_is c = let q = c.ranges.exp in simp to_z-of_z at c.unsigned_abs-n.ensures.value
+
+pub times_ten_to-end-requires : goal.times_ten_to-end-requires
+times_ten_to-end-requires c =
+    let d = (goal.at.times_ten_to-end-requires c).After-unsigned_abs-n in
+    let q = c.ranges.exp in
+    let f : SFits w128 c.at_exponent-scaled.result = record { sfits = c.at_exponent-scaled.type_inv } in
+    simp to_z-of_z (rw (scaled_is d, power_is d) (whole-size c.args.mant c.args.exp c.args.s c.requires.below (omega (arith, ints)) c.requires.size))
+
+pub returns-then-exp-ge0-clause-low : goal.returns-then-exp-ge0-clause-low
+returns-then-exp-ge0-clause-low c =
+    let d = (goal.at.returns-then-exp-ge0-clause-low c).After-unsigned_abs-n in
+    let q = c.ranges.exp in
+    let f : SFits w128 c.at_exponent-scaled.result = record { sfits = c.at_exponent-scaled.type_inv } in
+    let g : SFits w128 c.times_ten_to-end.result = record { sfits = c.times_ten_to-end.type_inv } in
+    let e : c.times_ten_to-end.result ≡ c.at_exponent-scaled.result *ℤ pos (10 ^ c.unsigned_abs-n.result) = simp to_z-of_z at c.times_ten_to-end.ensures in
+    to_z-of_z w128 c.times_ten_to-end.result g ∙ (e ∙ rw (scaled_is d, power_is d) (sym (whole-low c.args.mant c.args.exp c.args.s c.requires.below (omega (arith, ints)))))
+
+pub returns-then-exp-ge0-clause-high : goal.returns-then-exp-ge0-clause-high
+returns-then-exp-ge0-clause-high c =
+    let d = (goal.at.returns-then-exp-ge0-clause-high c).After-unsigned_abs-n in
+    let q = c.ranges.exp in
+    let f : SFits w128 c.at_exponent-scaled.result = record { sfits = c.at_exponent-scaled.type_inv } in
+    let g : SFits w128 c.times_ten_to-end.result = record { sfits = c.times_ten_to-end.type_inv } in
+    let e : c.times_ten_to-end.result ≡ c.at_exponent-scaled.result *ℤ pos (10 ^ c.unsigned_abs-n.result) = simp to_z-of_z at c.times_ten_to-end.ensures in
+    to_z-of_z w128 c.times_ten_to-end.result g ∙ (e ∙ rw (scaled_is d, power_is d) (sym (whole-high c.args.mant c.args.exp c.args.s c.requires.below (omega (arith, ints)))))
+
+pub returns-else-exp-ge0-clause-low : goal.returns-else-exp-ge0-clause-low
+returns-else-exp-ge0-clause-low c =
+    let d = (goal.at.returns-else-exp-ge0-clause-low c).After-unsigned_abs-n in
+    let q = c.ranges.exp in
+    let f : SFits w128 c.at_exponent-scaled.result = record { sfits = c.at_exponent-scaled.type_inv } in
+    let g : SFits w128 c.floor_tenths.result = record { sfits = c.floor_tenths.type_inv } in
+    let e : c.floor_tenths.result ≡ floor_div c.at_exponent-scaled.result (10 ^ c.unsigned_abs-n.result) = simp to_z-of_z at c.floor_tenths.ensures.equals in
+    to_z-of_z w128 c.floor_tenths.result g ∙ (e ∙ rw (scaled_is d, power_is d) (sym (tenths-low c.args.mant c.args.exp c.args.s c.requires.below (omega (arith, ints)))))
+
+pub returns-else-exp-ge0-clause-high : goal.returns-else-exp-ge0-clause-high
+returns-else-exp-ge0-clause-high c =
+    let d = (goal.at.returns-else-exp-ge0-clause-high c).After-unsigned_abs-n in
+    let q = c.ranges.exp in
+    let f : SFits w128 c.at_exponent-scaled.result = record { sfits = c.at_exponent-scaled.type_inv } in
+    let g : SFits w128 c.ceil_tenths.result = record { sfits = c.ceil_tenths.type_inv } in
+    let e : c.ceil_tenths.result ≡ ceil_div c.at_exponent-scaled.result (10 ^ c.unsigned_abs-n.result) = simp to_z-of_z at c.ceil_tenths.ensures in
+    to_z-of_z w128 c.ceil_tenths.result g ∙ (e ∙ rw (scaled_is d, power_is d) (sym (tenths-high c.args.mant c.args.exp c.args.s c.requires.below (omega (arith, ints)))))

@@ -1,0 +1,5 @@
+use Rattle.ival_core.proofs.Powers.{ten_fits}
+use Rattle.ival_core.proofs.decimals.ten_to.Goals as goal
+
+pub pow-requires : goal.pow-requires
+pow-requires c = ten_fits c.args.n c.requires

@@ -1,0 +1,14 @@
+//! Intervals of exact numbers, rounded outward: the arithmetic under every enclosure of the search.
+//!
+//! In come whole numbers, decimals and other intervals; out comes an interval that holds the exact result, with the
+//! same bits for the same operands on every machine. The ends of an interval are private: each is made here, in order
+//! and at most 2^62 in size, so that no later call can overflow. No call takes memory or fails.
+#![tactic(auto)]
+
+mod decimals;
+mod ends;
+mod ival;
+
+pub use ends::product_ends;
+pub use ival::{Enclosure, Ival};
+pub use spec_intervals::Sign;

@@ -1,0 +1,24 @@
+-- Small series with round values.
+use Rattle.std.specs.Prelude.{◌≡◌, List, codes, [], ◌∷◌, ℤ, pos, neg_ℤ, ◌*ℤ◌}
+use Rattle.spec_text.specs.declared.decimals.Decimal.{Decimal}
+use Rattle.spec_intervals.specs.Fraction.{Fraction}
+use Rattle.spec_ephemeris.specs.Series.{Series}
+use Rattle.spec_ephemeris.specs.OneBlock.{Cell, fixed_rows, mercury_x}
+
+abbrev pub whole : ℤ → Decimal
+whole m = record { mant = m; exp = pos 0 }
+
+-- a fraction is this many km
+abbrev pub IsKm : Fraction → ℤ → Type 0
+IsKm r km = r.numerator ≡ km *ℤ pos r.denominator
+
+-- Mercury's x where it grows by 1 km each second, from 0.138240000000000000D+07 km below 0 to as much above 0
+abbrev pub growing_x : Series
+growing_x = mercury_x (whole (pos 0)) (record { mant = pos 138240000000000000; exp = neg_ℤ (pos 11) })
+
+-- T_0 + 2 T_1 + 3 T_2 over ten seconds
+abbrev pub parabola : Series
+parabola = record { start = pos 100; duration = 10; coefficients = whole (pos 1) ∷ whole (pos 2) ∷ whole (pos 3) ∷ [] }
+
+abbrev pub rows_a_b : List (List Cell)
+rows_a_b = fixed_rows (codes "A\nB\n")

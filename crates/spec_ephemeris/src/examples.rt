@@ -1,0 +1,50 @@
+// Worked values of the definitions, by computation.
+ghost use Rattle.std.specs.Prelude.{◌≡◌, ◌-◌, ◌^◌, ◌∷◌, [], length, codes, pos, neg_ℤ};
+ghost use Rattle.spec_text.specs.Lines.{text_lines};
+ghost use Rattle.spec_ephemeris.specs.Series.{argument_at, position};
+ghost use Rattle.spec_ephemeris.specs.OneBlock.{block_start, block_end, word, fixed_rows, form, IsCoefficient, LeavesRowsAt};
+ghost use Rattle.spec_ephemeris.specs.Examples.{IsKm, whole, growing_x, parabola, rows_a_b};
+
+/// The argument of a block of 2,764,800 seconds runs from minus its length to its length, two for each second.
+pub fn arguments()
+    ensures at_start { argument_at growing_x block_start ≡ neg_ℤ (pos 2764800) }
+    ensures in_the_middle { argument_at growing_x (pos 1339200) ≡ pos 0 }
+    ensures one_second_later { argument_at growing_x (pos 1339201) ≡ pos 2 }
+    ensures at_end { argument_at growing_x block_end ≡ pos 2764800 }
+{}
+
+/// A line that grows by 1 km each second passes 0 in the middle of its block.
+pub fn positions_on_a_line()
+    ensures at_start { IsKm (position growing_x block_start) (neg_ℤ (pos 1382400)) }
+    ensures one_second_earlier { IsKm (position growing_x (pos 1339199)) (neg_ℤ (pos 1)) }
+    ensures in_the_middle { IsKm (position growing_x (pos 1339200)) (pos 0) }
+    ensures one_second_later { IsKm (position growing_x (pos 1339201)) (pos 1) }
+    ensures at_end { IsKm (position growing_x block_end) (pos 1382400) }
+{}
+
+/// 1 + 2 x + 3 (2 x^2 - 1) is 2 at x = -1, -2 at x = 0 and 6 at x = 1.
+pub fn positions_on_a_parabola()
+    ensures at_start { IsKm (position parabola (pos 100)) (pos 2) }
+    ensures in_the_middle { IsKm (position parabola (pos 105)) (neg_ℤ (pos 2)) }
+    ensures at_end { IsKm (position parabola (pos 110)) (pos 6) }
+{}
+
+/// A coefficient of a position is below 2^36 km in size.
+pub fn sizes_of_coefficients()
+    ensures greatest { IsCoefficient (whole (pos (2 ^ 36 - 1))) }
+    ensures least { IsCoefficient (whole (neg_ℤ (pos (2 ^ 36 - 1)))) }
+    ensures too_large { IsCoefficient (whole (pos (2 ^ 36))) → ⊥ }
+{}
+
+/// The form has 26 lines, and a line of fixed words is its tokens.
+pub fn lines_of_the_form()
+    ensures lines { length form ≡ 26 }
+    ensures words { fixed_rows (codes "GROUP   1010\n") ≡ (word (codes "GROUP") ∷ word (codes "1010") ∷ []) ∷ [] }
+{}
+
+/// Of two rows `A` and `B`: where the text leaves them.
+pub fn texts_that_leave_the_form()
+    ensures ends_early { LeavesRowsAt rows_a_b (text_lines (codes "A\n")) 2 2 }
+    ensures wrong_word { LeavesRowsAt rows_a_b (text_lines (codes "A\nC\n")) 3 2 }
+    ensures one_line_more { LeavesRowsAt rows_a_b (text_lines (codes "A\n\nB\nB\n")) 5 4 }
+{}

@@ -10,3 +10,4 @@ pub mod Sizes
 pub mod Threes
 pub mod TokenLists
 pub mod Findings
+pub mod Names

@@ -1,62 +1,60 @@
-use Rattle.std.proofs.Common.{rules, ◌≡◌, ◌≢◌, ◌⊎◌, ◌↔◌, List, ℕ, IsSome, map, string_bytes, ◌+◌, ◌-◌, ◌*◌, ◌<◌, ◌≤◌, length, ◌/◌, ◌%◌, Bool, true, false, nat_eq, nat_lt, [], ◌∷◌, ◌++◌, slice_index_or, slice_set, bit_and, bit_or, Fits, w8, w32, w64, Bor, MutBor}
-use Rattle.std.specs.Io.KnownBytes.{Appends, Keeps}
-use Rattle.gf_edges.specs.Edges.{Rose}
-use Rattle.spec_text.specs.declared.decimals.Decimal.{Decimal}
-use Rattle.spec_ephemeris.specs.OneBlock.{block_end, block_start}
-use Rattle.spec_events.specs.Events.{AreCertain, AreInOrder, AreOpen, HoldEvents}
-use Rattle.spec_events.specs.LineSearch.{IsLeftOpen, IsUp, found_windows}
-use Rattle.spec_output.specs.Answers.{Asks, FailsToRead, RefusesFile}
-use Rattle.spec_output.specs.Faults.{file_text, memory_text, read_text, words_text, write_text}
-use Rattle.spec_output.specs.Files.{AppendsSome, IsTold}
-use Rattle.spec_output.specs.Report.{report}
-use Rattle.spec_output.specs.Words.{IsAskedFor}
-use Rattle.spec_output.specs.declared.faults.FileFault.{FileFault}
+use Rattle.std.proofs.Common.{◌≡◌, inl, inr, ◌∙◌, List, ℕ, Err, subst}
+use Rattle.std.specs.Io.KnownBytes.{Appends}
+use Rattle.spec_output.specs.Files.{AppendsSome}
+use Rattle.gf_find.proofs.Findings.{in_order, every_event, certain, undecided}
+use Rattle.gf_find.proofs.Names.{asks_not_lacking, asks_not_refused, reports_asks, reports_not_refused}
 use Rattle.gf_find.proofs.top.finder.Goals as goal
 
--- src/top.rt:35:1
 pub returns-in-Ok-clause-reported : goal.returns-in-Ok-clause-reported
-returns-in-Ok-clause-reported g c = ?
+returns-in-Ok-clause-reported g c = λ zero.
+    let r = c.in-Ok.ensures.report in
+    let P : List ℕ → Type 0 = λ text. Appends (g.O.Sink.bytes c.args.out.now) (g.O.Sink.bytes c.put.new.out) text in
+    (r.is_report.c0, r.is_report.c1, reports_asks _ _ _ _ c.in-Some.ensures.asked r, subst P (c.deref.ensures.value ∙ r.is_report.printed) (c.put.ensures.whole zero))
 
--- src/top.rt:35:1
-pub returns-in-Ok-clause-in_order : goal.returns-in-Ok-clause-in_order
-returns-in-Ok-clause-in_order g c = ?
-
--- src/top.rt:35:1
-pub returns-in-Ok-clause-every_event : goal.returns-in-Ok-clause-every_event
-returns-in-Ok-clause-every_event g c = ?
-
--- src/top.rt:35:1
-pub returns-in-Ok-clause-certain : goal.returns-in-Ok-clause-certain
-returns-in-Ok-clause-certain g c = ?
-
--- src/top.rt:35:1
-pub returns-in-Ok-clause-undecided : goal.returns-in-Ok-clause-undecided
-returns-in-Ok-clause-undecided g c = ?
-
--- src/top.rt:35:1
 pub returns-in-Ok-clause-write : goal.returns-in-Ok-clause-write
-returns-in-Ok-clause-write g c = ?
+returns-in-Ok-clause-write g c = λ five.
+    let r = c.in-Ok.ensures.report in
+    let P : List ℕ → Type 0 = λ text. AppendsSome (g.O.Sink.bytes c.args.out.now) (g.O.Sink.bytes c.put.new.out) text in
+    (c.put.ensures.cause five, (r.is_report.c0, r.is_report.c1, reports_asks _ _ _ _ c.in-Some.ensures.asked r, subst P (c.deref.ensures.value ∙ r.is_report.printed) (c.put.ensures.part five)))
 
--- src/top.rt:35:1
 pub returns-in-Ok-clause-refused : goal.returns-in-Ok-clause-refused
-returns-in-Ok-clause-refused g c = ?
+returns-in-Ok-clause-refused g c = λ name fault known refuses.
+    absurd (reports_not_refused _ _ _ _ c.in-Some.ensures.asked c.in-Ok.ensures.report name fault known refuses)
 
--- src/top.rt:35:1
+pub returns-in-Ok-clause-in_order : goal.returns-in-Ok-clause-in_order
+returns-in-Ok-clause-in_order g c = λ c0 c1 asks. in_order _ _ c0 c1 asks
+
+pub returns-in-Ok-clause-every_event : goal.returns-in-Ok-clause-every_event
+returns-in-Ok-clause-every_event g c = λ c0 c1 asks. every_event _ _ c0 c1 asks
+
+pub returns-in-Ok-clause-certain : goal.returns-in-Ok-clause-certain
+returns-in-Ok-clause-certain g c = λ c0 c1 asks. certain _ _ c0 c1 asks
+
+pub returns-in-Ok-clause-undecided : goal.returns-in-Ok-clause-undecided
+returns-in-Ok-clause-undecided g c = λ c0 c1 asks. undecided _ _ c0 c1 asks
+
 pub returns-in-Err-clause-in_order : goal.returns-in-Err-clause-in_order
-returns-in-Err-clause-in_order g c = ?
+returns-in-Err-clause-in_order g c = λ c0 c1 asks. in_order _ _ c0 c1 asks
 
--- src/top.rt:35:1
 pub returns-in-Err-clause-every_event : goal.returns-in-Err-clause-every_event
-returns-in-Err-clause-every_event g c = ?
+returns-in-Err-clause-every_event g c = λ c0 c1 asks. every_event _ _ c0 c1 asks
 
--- src/top.rt:35:1
 pub returns-in-Err-clause-certain : goal.returns-in-Err-clause-certain
-returns-in-Err-clause-certain g c = ?
+returns-in-Err-clause-certain g c = λ c0 c1 asks. certain _ _ c0 c1 asks
 
--- src/top.rt:35:1
 pub returns-in-Err-clause-undecided : goal.returns-in-Err-clause-undecided
-returns-in-Err-clause-undecided g c = ?
+returns-in-Err-clause-undecided g c = λ c0 c1 asks. undecided _ _ c0 c1 asks
 
--- src/top.rt:35:1
 pub returns-in-Err-clause-complete : goal.returns-in-Err-clause-complete
-returns-in-Err-clause-complete g c = ?
+returns-in-Err-clause-complete g c = λ c0 c1 known asks. elim c.refuse.ensures.known [
+  | inl three ↦
+    let file = c.refuse.ensures.file three in
+    absurd (asks_not_refused _ _ _ file.0 c.in-Some.ensures.asked (c.in-Err.ensures.file file.0 (λ i. Err (file.1 i))) c0 c1 known asks)
+  | inr other ↦ elim other [
+    | inl four ↦ elim (c.in-Err.ensures.read (λ i. Err ((c.refuse.ensures.read four).0 i))) [
+      | inl rose ↦ inr (inr (inl rose))
+      | inr lacks ↦ absurd (asks_not_lacking _ _ _ c.in-Some.ensures.asked lacks c0 c1 asks)
+    ]
+    | inr eight ↦ inr (inl eight)
+  ]
+]

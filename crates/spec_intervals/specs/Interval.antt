@@ -111,6 +111,38 @@ is_zero t = zero_end t.lo && zero_end t.hi
 unfoldable pub sum : Interval → Interval → Interval
 sum x y = if is_zero x then y else (if is_zero y then x else (if le_z x.s y.s then sum_up x y else sum_up y x))
 
+-- ---- the difference: the sum with the second interval turned round 0
+abbrev pub negated : Interval → Interval
+negated x = interval (neg_ℤ x.hi) (neg_ℤ x.lo) x.s
+
+unfoldable pub difference : Interval → Interval → Interval
+difference x y = sum x (negated y)
+
+-- ---- join and meet, at one exponent: from the lesser low end to the greater high end, and from the greater low end
+-- to the lesser high end
+unfoldable pub join_up : Interval → Interval → Interval
+join_up x y = narrow (int_min (raised (surplus x y) x).lo (lowered (lift x y) y).lo) (int_max (raised (surplus x y) x).hi (lowered (lift x y) y).hi) (raised (surplus x y) x).s
+
+unfoldable pub join : Interval → Interval → Interval
+join x y = if le_z x.s y.s then join_up x y else join_up y x
+
+unfoldable pub meet_up : Interval → Interval → Interval
+meet_up x y = narrow (int_max (raised (surplus x y) x).lo (lowered (lift x y) y).lo) (int_min (raised (surplus x y) x).hi (lowered (lift x y) y).hi) (raised (surplus x y) x).s
+
+unfoldable pub meet : Interval → Interval → Interval
+meet x y = if le_z x.s y.s then meet_up x y else meet_up y x
+
+-- ---- the signed square x |x|, which grows with x
+abbrev pub signed_sq : ℤ → ℤ
+signed_sq z = z *ℤ pos (unsigned_abs z)
+
+unfoldable pub signed_square : Interval → Interval
+signed_square x = narrow (signed_sq x.lo) (signed_sq x.hi) (x.s +ℤ x.s)
+
+-- ---- 2 / length of the numbers: by so much the argument of a polynomial over a span of that length grows in a second
+unfoldable pub scale : ℤ → ℤ → ℤ → ℕ → Interval
+scale lo hi s length = narrow (floor_div (pos 2 *ℤ lo) length) (ceil_div (pos 2 *ℤ hi) length) s
+
 -- ---- m * 10^q at the exponent s: rounded down and up, and not narrowed, so that 0 keeps the exponent s
 -- m * 10^q * 2^(-s) = decimal_top / decimal_bottom
 abbrev pub decimal_top : ℤ → ℤ → ℤ → ℤ

@@ -1,14 +1,13 @@
 -- What is read of the parts of a numeral is what the numeral reads as.
-use Rattle.std.proofs.Common.{◌≡◌, ℕ, ◌^◌, ◌<◌, ◌≤◌, ◌≢◌, min, true, false, List, ◌++◌, Option, None, Some, Ok, Err, ℤ, pos, neg_ℤ, ◌-ℤ◌, if◌then◌else◌, length, eq-eqb, ne_eqb, nat_lt, refl, sym, ap, ◌∙◌, subst, inl, inr, arith}
+use Rattle.std.proofs.Common.{◌≡◌, ℕ, ◌^◌, ◌<◌, ◌≤◌, ◌≢◌, min, true, false, List, ◌++◌, Option, None, Some, Ok, Err, ℤ, pos, neg_ℤ, ◌-ℤ◌, if◌then◌else◌, length, eq-eqb, ne_eqb, nat_lt, refl, ap, ◌∙◌, subst, inl, inr, arith}
 use Rattle.std.proofs.lemmas.Bool.{cases_lt, lt-ltb, le-ltb}
 use Rattle.spec_text.specs.declared.decimals.NumberFault.TheVariants.{TooManyDigits, ExponentRange}
-use Rattle.spec_text.specs.Decimals.{Sign, unsigned, plus, minus, Exponent, Numeral, AreDigits, after_point, digits, exponent_size, significant, value_after, value}
+use Rattle.spec_text.specs.Decimals.{Sign, unsigned, plus, minus, Exponent, Numeral, AreDigits, after_point, digits, exponent_size, significant, value}
 use Rattle.spec_text.specs.Reading.{signed, exponent_value, reading_of}
 use Rattle.spec_text.proofs.Assembly.{digits_append}
 use Rattle.spec_text.proofs.Significant.{many_digits, few_digits}
 use Rattle.de_text.specs.declared.parts.Parts.{Parts}
 use Rattle.de_text.specs.Parts.{is_minus, exponent_is_minus, exponent_digits, Shows, IsOfShortWord}
-use Rattle.de_text.proofs.Values.{capped_early, value_after_append}
 
 signed_is : (sign : Sign) (n : ℕ) → (if is_minus sign then neg_ℤ (pos n) else pos n) ≡ signed sign n
 signed_is unsigned n = refl
@@ -23,22 +22,13 @@ size_is : (e : Option Exponent) → value (exponent_digits e) ≡ exponent_size 
 size_is None = refl
 size_is (Some e) = refl
 
--- two lists of digits, one after the other
-capped_both : (first both : ℕ) (xs ys : List ℕ) → first ≡ min (value xs) (10 ^ 18) → both ≡ min (value_after first ys) (10 ^ 18)
-    → both ≡ min (value (xs ++ ys)) (10 ^ 18)
-capped_both first both xs ys first_is both_is =
-    both_is ∙ ap (λ (k : ℕ). min (value_after k ys) (10 ^ 18)) first_is ∙ capped_early (value xs) (10 ^ 18) ys
-    ∙ ap (λ (k : ℕ). min k (10 ^ 18)) (sym (value_after_append 0 xs ys))
-
-module _ (n : Numeral) (parts : Parts) (fits : IsOfShortWord parts) (shows : Shows n parts) (first m : ℕ)
-    (first_is : first ≡ min (value parts.whole.now) (10 ^ 18)) (both_is : m ≡ min (value_after first parts.fraction.now) (10 ^ 18)) where
+module _ (n : Numeral) (parts : Parts) (fits : IsOfShortWord parts) (shows : Shows n parts) (m : ℕ)
+    (capped_is : m ≡ min (value (parts.whole.now ++ parts.fraction.now)) (10 ^ 18)) where
   are : AreDigits (digits n)
   are = digits_append _ _ (subst AreDigits shows.whole fits.whole) (subst AreDigits shows.fraction fits.fraction)
 
   m_is : m ≡ min (value (digits n)) (10 ^ 18)
-  m_is =
-      capped_both first m parts.whole.now parts.fraction.now first_is both_is
-      ∙ (λ i. min (value (shows.whole i ++ shows.fraction i)) (10 ^ 18))
+  m_is = capped_is ∙ (λ i. min (value (shows.whole i ++ shows.fraction i)) (10 ^ 18))
 
   pub read_many : 10 ^ 18 ≤ m → Err TooManyDigits ≡ reading_of (Some n)
   read_many large = elim (cases_lt 18 (length (significant (digits n)))) [
@@ -46,7 +36,7 @@ module _ (n : Numeral) (parts : Parts) (fits : IsOfShortWord parts) (shows : Sho
     | inr few ↦ absurd (omega (arith, few_digits (digits n) are few, m_is))
   ]
 
-  module _ (small : m < 10 ^ 18) (x : ℕ) (capped_is : x ≡ min (value parts.exponent.now) (10 ^ 18)) where
+  module _ (small : m < 10 ^ 18) (x : ℕ) (exponent_capped_is : x ≡ min (value parts.exponent.now) (10 ^ 18)) where
     few_test : nat_lt 18 (length (significant (digits n))) ≡ false
     few_test = elim (cases_lt 18 (length (significant (digits n)))) [
       | inl many ↦ absurd (omega (arith, many_digits (digits n) are many, m_is))
@@ -54,7 +44,7 @@ module _ (n : Numeral) (parts : Parts) (fits : IsOfShortWord parts) (shows : Sho
     ]
 
     x_is : x ≡ min (exponent_size n.exponent) (10 ^ 18)
-    x_is = capped_is ∙ ap (λ (ds : List ℕ). min (value ds) (10 ^ 18)) shows.exponent ∙ ap (λ (k : ℕ). min k (10 ^ 18)) (size_is n.exponent)
+    x_is = exponent_capped_is ∙ ap (λ (ds : List ℕ). min (value ds) (10 ^ 18)) shows.exponent ∙ ap (λ (k : ℕ). min k (10 ^ 18)) (size_is n.exponent)
 
     pub read_far : 99 < x → Err ExponentRange ≡ reading_of (Some n)
     read_far far =

@@ -4,4 +4,3 @@ pub mod Values
 pub mod Assembly
 pub mod Splits
 pub mod TokenPlaces
-pub mod Wholes

@@ -1,8 +1,8 @@
 -- The number that digits write, and its cap.
-use Rattle.std.proofs.Common.{◌≡◌, ℕ, zero, suc, ◌+◌, ◌-◌, ◌*◌, ◌<◌, ◌≤◌, min, List, [], ◌∷◌, ◌++◌, length, get_or, drop, refl, sym, ap, ◌∙◌, inl, inr, arith}
+use Rattle.std.proofs.Common.{◌≡◌, ℕ, zero, suc, ◌+◌, ◌-◌, ◌*◌, ◌^◌, ◌<◌, ◌≤◌, min, List, [], ◌∷◌, ◌++◌, length, get_or, drop, refl, sym, ap, ◌∙◌, inl, inr, arith}
 use Rattle.std.proofs.lemmas.List.{at_drop_more}
 use Rattle.std.proofs.lemmas.Bool.{cases_lt}
-use Rattle.spec_text.specs.Decimals.{IsDigit, AreDigits, value_after}
+use Rattle.spec_text.specs.Decimals.{IsDigit, AreDigits, value_after, value}
 
 pub digit_at : (bs : List ℕ) (i : ℕ) → AreDigits bs → i < length bs → IsDigit (get_or bs i 0)
 digit_at [] i are below = absurd (omega arith)
@@ -31,3 +31,10 @@ capped_more n m cap i bs below is =
     ap (λ (k : ℕ). min (value_after k (drop (i + 1) bs)) cap) is
     ∙ capped_early (10 * n + (get_or bs i 0 - 48)) cap (drop (i + 1) bs)
     ∙ ap (λ (k : ℕ). min k cap) (sym (at_drop_more (value_after n) bs i 0 below))
+
+-- two lists of digits, one after the other
+pub capped_both : (first both : ℕ) (xs ys : List ℕ) → first ≡ min (value xs) (10 ^ 18) → both ≡ min (value_after first ys) (10 ^ 18)
+    → both ≡ min (value (xs ++ ys)) (10 ^ 18)
+capped_both first both xs ys first_is both_is =
+    both_is ∙ ap (λ (k : ℕ). min (value_after k ys) (10 ^ 18)) first_is ∙ capped_early (value xs) (10 ^ 18) ys
+    ∙ ap (λ (k : ℕ). min k (10 ^ 18)) (sym (value_after_append 0 xs ys))

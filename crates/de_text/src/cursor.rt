@@ -1,29 +1,31 @@
 // A cursor over the lines of a text.
-ghost use Rattle.std.specs.Prelude.{◌≡◌, ◌+◌, ◌≤◌, length, slice_get};
+ghost use Rattle.std.specs.Prelude.{◌≡◌, ◌+◌, ◌<◌, ◌≤◌, length, slice_get};
 ghost use Rattle.std.specs.Option.{option_copied};
 ghost use Rattle.spec_text.specs.Lines.{lines, text_lines};
 ghost use Rattle.de_text.specs.Cursor.{counted_behind};
 ghost use Rattle.de_text.specs.Steps.{lines_after, step_of};
 
+use crate::lines::{cut_line, line_count};
+use crate::tokens::{count, cut_token, token};
 use spec_text::{MOST_LINE_BYTES, MOST_TEXT_BYTES};
 use std::marker::Model;
 
-use crate::lines::{cut_line, line_count};
-use crate::tokens::{count, cut_token, token};
-
 /// A line that has tokens: what stands between its blanks and tabs.
-#[derive(Drop)]
+#[derive(Debug, Drop)]
 pub struct Line<'a> {
     number: u32,
     bytes: &'a [u8],
 }
 
 impl<'a> Model for Line<'a> {
+    ghost use Rattle.std.specs.Prelude.{◌<◌, length};
     ghost use Rattle.spec_text.specs.Lines.{TokenLine, tokens};
 
     ghost Value = { TokenLine };
 
     ghost view = { λ l. record { number = l.number; tokens = tokens l.bytes.now } };
+
+    ghost invariant = { λ l. 0 < length (tokens l.bytes.now) };
 }
 
 impl<'a> Line<'a> {
@@ -36,7 +38,8 @@ impl<'a> Line<'a> {
 
     /// How many tokens the line has, at least one.
     pub fn count(&self) -> usize
-        ensures { result ≡ length self.now.tokens }
+        ensures count { result ≡ length self.now.tokens }
+        ensures some { 0 < result }
     {
         count(self.bytes)
     }
@@ -50,7 +53,7 @@ impl<'a> Line<'a> {
 }
 
 /// What a cursor meets next.
-#[derive(Drop)]
+#[derive(Debug, Drop)]
 pub enum LineStep<'a> {
     /// The next line that isn't blank.
     Line(Line<'a>),
@@ -61,7 +64,7 @@ pub enum LineStep<'a> {
 }
 
 /// A cursor over the lines of a text. It passes over blank lines, and stays for good at a line that is too long.
-#[derive(Drop)]
+#[derive(Debug, Drop)]
 pub struct Tokens<'a> {
     rest: &'a [u8],
     passed: u32,

@@ -1,14 +1,13 @@
 // Words, read as decimals and as whole numbers.
-ghost use Rattle.std.specs.Prelude.{◌≡◌, ◌≤◌, ◌≤ℤ◌, ◌^◌, Some, if◌then◌else◌, min, neg_ℤ, pos};
+ghost use Rattle.std.specs.Prelude.{◌≡◌, ◌≤◌, ◌≤ℤ◌, ◌^◌, ◌++◌, Some, if◌then◌else◌, min, neg_ℤ, pos};
 ghost use Rattle.std.specs.Char.{is_ascii_digit};
 ghost use Rattle.std.specs.List.{list_all};
-ghost use Rattle.spec_text.specs.Decimals.{AreDigits, Numeral, value_after};
+ghost use Rattle.spec_text.specs.Decimals.{AreDigits, Numeral, value, value_after};
 ghost use Rattle.spec_text.specs.Reading.{Reads, reading, reading_of, whole_of};
 ghost use Rattle.de_text.specs.Parts.{IsOfShortWord, Shows};
 
-use spec_text::{Decimal, MOST_EXPONENT, MOST_WHOLE_DIGITS, MOST_WORD_BYTES, NumberFault};
-
 use crate::parts::{Parts, split};
+use spec_text::{Decimal, MOST_EXPONENT, MOST_WHOLE_DIGITS, MOST_WORD_BYTES, NumberFault};
 
 // Ten to the number of digits that a decimal may have. A greater number counts as this one.
 const CAP: u64 = 1_000_000_000_000_000_000;
@@ -37,12 +36,21 @@ fn signed(negative: bool, size: u64) -> i64
     if negative { -size } else { size }
 }
 
+// The number that the digits before and after the point write, at most `CAP`.
+#[tactic(auto, using(crate::proofs::Values::capped_both))]
+fn mantissa_of(parts: &Parts<'_>) -> u64
+    requires { IsOfShortWord parts.now }
+    ensures { result ≡ min (value (parts.now.whole.now ++ parts.now.fraction.now)) (10 ^ 18) }
+{
+    capped(capped(0, parts.whole), parts.fraction)
+}
+
 // The decimal of the parts, or the second or the third fault.
 fn assemble(parts: &Parts<'_>) -> Result<Decimal, NumberFault>
     requires { IsOfShortWord parts.now }
     ensures { (n : Numeral) → Shows n parts.now → result ≡ reading_of (Some n) }
 {
-    let mantissa = capped(capped(0, parts.whole), parts.fraction);
+    let mantissa = mantissa_of(parts);
     if mantissa >= CAP {
         return Err(NumberFault::TooManyDigits);
     }

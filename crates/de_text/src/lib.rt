@@ -4,13 +4,14 @@
 
 mod cursor;
 mod decimal;
+mod examples;
 mod lines;
 mod parts;
+#[cfg(test)]
+mod tests;
 mod tokens;
-
-
-
 
 pub use cursor::{Line, LineStep, Tokens};
 pub use decimal::{read_decimal, read_whole};
+pub use examples::a_cursor_steps_from_line_to_line;
 pub use spec_text::{Decimal, Fault, NumberFault};

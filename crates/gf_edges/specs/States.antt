@@ -1,5 +1,5 @@
 -- What contracts see of the shelves and sinks of this crate, and how their counts move.
-use Rattle.std.specs.Prelude.{◌≡◌, ◌≢◌, ◌⊎◌, ℕ, ◌<◌, ◌-◌, min, Bool, List, [], length, Option, None, Some, Contains, Result, IsErr, IfOk}
+use Rattle.std.specs.Prelude.{◌≡◌, ◌⊎◌, ℕ, ◌<◌, ◌-◌, min, Bool, List, length, Option, None, Some, Contains, Result, IsErr, IfOk}
 use Rattle.gf_edges.specs.Edges.{Files, raised}
 
 -- a shelf in memory: its files, what is left of the open one (None where nothing is open), the most that one read

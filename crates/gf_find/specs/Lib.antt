@@ -1,2 +1,4 @@
+pub mod Form
 pub mod Joining
 pub mod Pending
+pub mod Reports

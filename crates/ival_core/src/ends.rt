@@ -104,7 +104,9 @@ pub fn product_ends(a: i128, b: i128, c: i128, d: i128) -> (i128, i128)
     requires d_small { unsigned_abs d ≤ end_limit }
     ensures least { result.0 ≡ least4 a b c d }
     ensures greatest { result.1 ≡ greatest4 a b c d }
-    ensures bound { unsigned_abs result.1 ≤ 2 ^ 124 }
+    ensures ordered { result.0 ≤ℤ result.1 }
+    ensures least_bound { unsigned_abs result.0 ≤ 2 ^ 124 }
+    ensures greatest_bound { unsigned_abs result.1 ≤ 2 ^ 124 }
 {
     let (ac, ad, bc, bd) = (times(a, c), times(a, d), times(b, c), times(b, d));
     let least = ac.min(ad).min(bc.min(bd));

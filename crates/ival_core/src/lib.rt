@@ -9,5 +9,6 @@ mod decimals;
 mod ends;
 mod ival;
 
+pub use ends::product_ends;
 pub use ival::{Enclosure, Ival};
 pub use spec_intervals::Sign;

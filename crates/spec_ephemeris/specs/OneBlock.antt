@@ -26,12 +26,16 @@ pub data Cell : Type 0 where
   constant : Cell
   slope : Cell
 
+-- the row of fixed words that a line spells
+abbrev pub fixed_row : Numbered → List Cell
+fixed_row line = map word (tokens line.bytes)
+
 -- the rows of fixed words that the lines of a text spell
 abbrev pub fixed_rows : List ℕ → List (List Cell)
-fixed_rows text = map (λ line. map word (tokens line.bytes)) (text_lines text)
+fixed_rows text = map fixed_row (text_lines text)
 
 -- the header, and the line with the block's number and the count of its numbers
-abbrev pub header_text : List ℕ
+unfoldable pub header_text : List ℕ
 header_text =
     codes "KSIZE= 52 NCOEFF= 26\n"
     ++ codes "GROUP 1010\n"
@@ -59,7 +63,7 @@ constant_row = word (codes "0.245154450000000000D+07") ∷ word (codes "0.245157
 abbrev pub slope_row : List Cell
 slope_row = slope ∷ word (codes "0.0") ∷ word (codes "0.0") ∷ []
 
-abbrev pub zeros_text : List ℕ
+unfoldable pub zeros_text : List ℕ
 zeros_text =
     codes "0.0 0.0 0.0\n"
     ++ codes "0.0 0.0 0.0\n"

@@ -1,24 +1,20 @@
 -- What a run answers to its words and files, and the cause of each refusal.
-use Rattle.std.specs.Prelude.{◌≡◌, ◌⊎◌, ℕ, ◌<◌, ◌≤◌, List, length, take, Option, None, Some, IfSome, IsSomeAnd}
-use Rattle.std.specs.Io.KnownBytes.{Appends}
+use Rattle.std.specs.Prelude.{◌≡◌, ◌⊎◌, ℕ, ◌<◌, ◌≤◌, List, length, Option}
 use Rattle.spec_text.specs.declared.decimals.Decimal.{Decimal}
 use Rattle.spec_text.specs.declared.limits.TheConstants.{MOST_TEXT_BYTES}
 use Rattle.spec_ephemeris.specs.OneBlock.{HasForm, LeavesFormAt}
-use Rattle.gf_edges.specs.Edges.{Files, Lacks, Rose, file_of}
+use Rattle.gf_edges.specs.Edges.{Files, Lacks, Rose}
 use Rattle.spec_output.specs.Words.{IsAskedFor}
+use Rattle.spec_output.specs.Files.{IsFile, NamedFile}
 use Rattle.spec_output.specs.declared.faults.FileFault.{FileFault}
 use Rattle.spec_output.specs.declared.faults.FileFault.TheVariants.{TooLarge, NotBuilt}
-
--- the words name this file, and these are its bytes where files are told
-pub record Names (words : List (List ℕ)) (files : Option Files) (name bytes : List ℕ) : Type 0 where
-  pub asked : IsAskedFor words name
-  pub told : IfSome files (λ all. file_of name all ≡ Some bytes)
 
 -- the words name a file of the form that is read, with these two coefficients of Mercury's x
 pub record Asks (words : List (List ℕ)) (files : Option Files) (c0 c1 : Decimal) : Type 0 where
   pub name : List ℕ
+  pub asked : IsAskedFor words name
   pub bytes : List ℕ
-  pub names : Names words files name bytes
+  pub told : IsFile files name bytes
   pub small : length bytes ≤ MOST_TEXT_BYTES
   pub form : HasForm bytes c0 c1
 
@@ -30,18 +26,9 @@ HasFault bytes (NotBuilt line) = (length bytes ≤ MOST_TEXT_BYTES) × LeavesFor
 -- the words name a file that, where files are told, is there and has this fault
 pub record RefusesFile (words : List (List ℕ)) (files : Option Files) (name : List ℕ) (fault : FileFault) : Type 0 where
   pub asked : IsAskedFor words name
-  pub found : IfSome files (λ all. IsSomeAnd (file_of name all) (λ bytes. HasFault bytes fault))
+  pub found : NamedFile files name (λ bytes. HasFault bytes fault)
 
 -- the words name a file, and the shelf failed in this call or lacks the file
 pub record FailsToRead (words : List (List ℕ)) (files : Option Files) (before now : ℕ) (name : List ℕ) : Type 0 where
   pub asked : IsAskedFor words name
   pub cause : Rose before now ⊎ Lacks files name
-
--- known bytes grow by a front of the text, and not by all of it
-abbrev pub AppendsSome : Option (List ℕ) → Option (List ℕ) → List ℕ → Type 0
-AppendsSome old new text = (k : ℕ) × (k < length text) × Appends old new (take k text)
-
--- known bytes grow by a front of the text, and by all of it where the count didn't rise
-pub record IsTold (old new : Option (List ℕ)) (before now : ℕ) (text : List ℕ) : Type 0 where
-  pub front : (k : ℕ) × (k ≤ length text) × Appends old new (take k text)
-  pub whole : (Rose before now → ⊥) → Appends old new text

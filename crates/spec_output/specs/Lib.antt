@@ -1,4 +1,5 @@
 pub mod Report
 pub mod Words
+pub mod Files
 pub mod Faults
 pub mod Answers

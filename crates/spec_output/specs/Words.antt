@@ -1,5 +1,5 @@
--- The words of the command line, and the file that they name.
-use Rattle.std.specs.Prelude.{◌≡◌, ◌≢◌, ℕ, List, [], ◌∷◌, ◌++◌, codes, slice_index}
+-- The words of the command line.
+use Rattle.std.specs.Prelude.{◌≡◌, ◌==◌, ◌&&◌, ℕ, Bool, true, false, not, IsTrue, List, [], ◌∷◌, ◌++◌, codes}
 
 abbrev pub kind_words : List (List ℕ)
 kind_words = codes "find" ∷ codes "--kind" ∷ codes "coord" ∷ []
@@ -10,7 +10,25 @@ target_words = codes "--target" ∷ codes "mercury" ∷ []
 abbrev pub axis_words : List (List ℕ)
 axis_words = codes "--axis" ∷ codes "x" ∷ []
 
--- the words ask for the times at which Mercury's x in this file passes 0; its name doesn't begin with a dash
-pub record IsAskedFor (words : List (List ℕ)) (name : List ℕ) : Type 0 where
-  pub all : words ≡ kind_words ++ (target_words ++ (axis_words ++ name ∷ []))
-  pub no_option : slice_index name 0 ≢ 45
+-- the words before the names of the files
+abbrev pub search_words : List (List ℕ)
+search_words = kind_words ++ (target_words ++ axis_words)
+
+-- the word begins with a dash, so it is no name
+abbrev pub begins_with_dash : List ℕ → Bool
+begins_with_dash [] = false
+begins_with_dash (b ∷ bs) = b == 45
+
+-- no word begins with a dash
+abbrev pub are_names : List (List ℕ) → Bool
+are_names [] = true
+are_names (word ∷ words) = not (begins_with_dash word) && are_names words
+
+-- the words ask for the events of these files
+pub record AreAskedFor (words names : List (List ℕ)) : Type 0 where
+  pub all : words ≡ search_words ++ names
+  pub no_option : IsTrue (are_names names)
+
+-- the words ask for the events of one file
+abbrev pub IsAskedFor : List (List ℕ) → List ℕ → Type 0
+IsAskedFor words name = AreAskedFor words (name ∷ [])

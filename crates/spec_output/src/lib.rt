@@ -3,5 +3,7 @@
 #![tactic(auto)]
 
 mod faults;
+mod laws;
 
 pub use faults::FileFault;
+pub use laws::{files_are_read, texts_are_written, words_ask_for_files};

@@ -1,11 +1,11 @@
 -- A word has one answer, which `reading` computes, and a decimal that is read keeps its bounds.
-use Rattle.std.proofs.Common.{◌≡◌, ◌≢◌, ℕ, ◌^◌, ◌<◌, ◌≤◌, List, ◌++◌, Option, None, Some, Result, Ok, Err, ℤ, pos, neg_ℤ, ◌-ℤ◌, ◌≤ℤ◌, ◌<ℤ◌, length, length-append, eq-eqb, ne_eqb, refl, sym, ap, ◌∙◌, subst, inl, inr, arith}
+use Rattle.std.proofs.Common.{◌≡◌, ℕ, ◌≤◌, List, ◌++◌, Option, None, Some, Result, Ok, Err, pos, neg_ℤ, ◌≤ℤ◌, length, length-append, eq-eqb, ne_eqb, refl, sym, ap, ◌∙◌, subst, inl, inr, arith}
 use Rattle.std.proofs.lemmas.Bool.{cases_lt, cases_eq, lt-ltb, le-ltb}
 use Rattle.std.proofs.lemmas.Int.{ints}
 use Rattle.spec_text.specs.declared.decimals.Decimal.{Decimal}
 use Rattle.spec_text.specs.declared.decimals.NumberFault.{NumberFault}
 use Rattle.spec_text.specs.declared.decimals.NumberFault.TheVariants.{NotNumber, TooManyDigits, ExponentRange}
-use Rattle.spec_text.specs.Decimals.{Sign, unsigned, plus, minus, Exponent, Numeral, IsNumeral, Spells, AreDigits, sign_text, fraction_text, exponent_text, text, after_point, digits, exponent_size, significant, value}
+use Rattle.spec_text.specs.Decimals.{Sign, unsigned, plus, minus, Exponent, Numeral, Spells, AreDigits, sign_text, fraction_text, exponent_text, text, after_point, digits, exponent_size, significant, value}
 use Rattle.spec_text.specs.Reading.{signed, exponent_value, decimal_of, SpellsShort, Reads, reading_of, reading, IsWithinBounds}
 use Rattle.spec_text.specs.Splitting.{numeral_of}
 use Rattle.spec_text.proofs.Sound.{numeral_of_is}

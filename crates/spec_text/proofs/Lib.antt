@@ -5,3 +5,4 @@ pub mod Assembly
 pub mod Answering
 pub mod LineLemmas
 pub mod TokenLemmas
+pub mod Wholes

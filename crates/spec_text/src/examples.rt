@@ -8,12 +8,13 @@ ghost use Rattle.spec_text.specs.declared.decimals.NumberFault.TheVariants.{Expo
 pub fn decimals_are_read()
     ensures jpl { reading (codes "0.230542450000000000D+07") ≡ Ok (record { mant = pos 230542450000000000; exp = neg_ℤ (pos 11) }) }
     ensures point_at_the_end { reading (codes "32.") ≡ Ok (record { mant = pos 32; exp = pos 0 }) }
-    ensures point_at_the_front { reading (codes "-.5") ≡ Ok (record { mant = neg_ℤ (pos 5); exp = neg_ℤ (pos 1) }) }
+    ensures point_at_the_front { reading (codes ".5") ≡ Ok (record { mant = pos 5; exp = neg_ℤ (pos 1) }) }
+    ensures below_zero { reading (codes "-.5") ≡ Ok (record { mant = neg_ℤ (pos 5); exp = neg_ℤ (pos 1) }) }
     ensures no_point { reading (codes "1E+05") ≡ Ok (record { mant = pos 1; exp = pos 5 }) }
     ensures zero { reading (codes "-0.00e7") ≡ Ok (record { mant = pos 0; exp = pos 0 }) }
 {}
 
-/// The first fault that applies is told; zeros at the front are no digits of 18, and zeros at the end are.
+/// The first fault that applies is told; zeros at the front don't count among the 18 digits, and zeros at the end do.
 pub fn decimals_are_refused()
     ensures no_exponent { reading (codes "1d") ≡ Err NotNumber }
     ensures no_digit { reading (codes ".") ≡ Err NotNumber }
@@ -45,8 +46,6 @@ pub fn texts_are_cut_into_lines()
 pub fn lines_are_cut_into_tokens()
     ensures separators { tokens (codes " \tKSIZE=  52\tNCOEFF= 26 ") ≡ codes "KSIZE=" ∷ codes "52" ∷ codes "NCOEFF=" ∷ codes "26" ∷ [] }
     ensures blank { tokens (codes " \t ") ≡ [] }
-    ensures numbers {
-      text_lines (codes "one\n \t\n\n2 3\n")
-      ≡ record { number = 1; bytes = codes "one" } ∷ record { number = 4; bytes = codes "2 3" } ∷ []
-    }
+    ensures numbers { text_lines (codes "one\n \t\n\n2 3\n")
+        ≡ record { number = 1; bytes = codes "one" } ∷ record { number = 4; bytes = codes "2 3" } ∷ [] }
 {}

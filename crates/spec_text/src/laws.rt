@@ -1,9 +1,9 @@
 // What the definitions come to.
-ghost use Rattle.std.specs.Prelude.{◌≡◌, ◌<◌, false, true, List, [], ◌∷◌, ◌++◌, length, All, Ok, Result, ℕ};
+ghost use Rattle.std.specs.Prelude.{◌≡◌, ◌<◌, false, true, List, [], ◌∷◌, ◌++◌, ◌^◌, length, All, Ok, Result, Some, ℕ};
 ghost use Rattle.std.specs.Str.Lines.{strip_carriage_return};
 ghost use Rattle.spec_text.specs.Bytes.{line_feed};
 ghost use Rattle.spec_text.specs.Lines.{is_line_feed, is_separator, lines, tokens};
-ghost use Rattle.spec_text.specs.Reading.{IsWithinBounds, Reads, reading};
+ghost use Rattle.spec_text.specs.Reading.{IsWithinBounds, Reads, reading, whole_of};
 ghost use Rattle.spec_text.specs.declared.decimals.Decimal.{Decimal};
 ghost use Rattle.spec_text.specs.declared.decimals.NumberFault.{NumberFault};
 
@@ -19,18 +19,20 @@ pub fn decimals_are_bounded()
     ensures { (word : List ℕ) (d : Decimal) → Reads word (Ok d) → IsWithinBounds d }
 {}
 
+/// A whole number is below 10^9.
+#[tactic(auto, using(crate::proofs::Wholes::whole_bound))]
+pub fn whole_numbers_are_bounded()
+    ensures { (word : List ℕ) (n : ℕ) → whole_of word ≡ Some n → n < 10 ^ 9 }
+{}
+
 /// A line ends at its line feed; the last may do without.
 #[tactic(auto, using(crate::proofs::LineLemmas::first_line, crate::proofs::LineLemmas::last_line))]
 pub fn lines_end_at_line_feeds()
     ensures none { lines [] ≡ [] }
-    ensures first {
-      (line rest : List ℕ) → All (λ b. is_line_feed b ≡ false) line
-      → lines (line ++ line_feed ∷ rest) ≡ strip_carriage_return line ∷ lines rest
-    }
-    ensures last {
-      (line : List ℕ) → All (λ b. is_line_feed b ≡ false) line → 0 < length line
-      → lines line ≡ strip_carriage_return line ∷ []
-    }
+    ensures first { (line rest : List ℕ) → All (λ b. is_line_feed b ≡ false) line
+        → lines (line ++ line_feed ∷ rest) ≡ strip_carriage_return line ∷ lines rest }
+    ensures last { (line : List ℕ) → All (λ b. is_line_feed b ≡ false) line → 0 < length line
+        → lines line ≡ strip_carriage_return line ∷ [] }
 {}
 
 /// A token ends at a blank or a tab, or with its line.
@@ -38,9 +40,7 @@ pub fn lines_end_at_line_feeds()
 pub fn tokens_end_at_separators()
     ensures none { tokens [] ≡ [] }
     ensures skipped { (b : ℕ) (rest : List ℕ) → is_separator b ≡ true → tokens (b ∷ rest) ≡ tokens rest }
-    ensures first {
-      (word : List ℕ) (b : ℕ) (rest : List ℕ) → All (λ b. is_separator b ≡ false) word → 0 < length word
-      → is_separator b ≡ true → tokens (word ++ b ∷ rest) ≡ word ∷ tokens rest
-    }
+    ensures first { (word : List ℕ) (b : ℕ) (rest : List ℕ) → All (λ b. is_separator b ≡ false) word → 0 < length word
+        → is_separator b ≡ true → tokens (word ++ b ∷ rest) ≡ word ∷ tokens rest }
     ensures last { (word : List ℕ) → All (λ b. is_separator b ≡ false) word → 0 < length word → tokens word ≡ word ∷ [] }
 {}

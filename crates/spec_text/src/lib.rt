@@ -7,15 +7,15 @@ mod laws;
 mod limits;
 
 pub use decimals::{Decimal, Fault, NumberFault};
-pub use limits::{
-    MOST_DIGITS, MOST_EXPONENT, MOST_LINE_BYTES, MOST_TEXT_BYTES, MOST_WHOLE_DIGITS,
-    MOST_WORD_BYTES,
-};
 pub use examples::{
     decimals_are_read, decimals_are_refused, lines_are_cut_into_tokens, texts_are_cut_into_lines,
     whole_numbers_are_read,
 };
 pub use laws::{
     decimals_are_bounded, every_word_has_one_answer, lines_end_at_line_feeds,
-    tokens_end_at_separators,
+    tokens_end_at_separators, whole_numbers_are_bounded,
+};
+pub use limits::{
+    MOST_DIGITS, MOST_EXPONENT, MOST_LINE_BYTES, MOST_TEXT_BYTES, MOST_WHOLE_DIGITS,
+    MOST_WORD_BYTES,
 };

@@ -5,18 +5,18 @@ use Rattle.de_text.proofs.decimal.assemble.Goals as goal
 
 pub returns-then-mantissa-ge-CAP : goal.returns-then-mantissa-ge-CAP
 returns-then-mantissa-ge-CAP c =
-    λ n shows. read_many n _ c.requires shows _ _ c.capped.ensures c.capped-mantissa.ensures c.if-mantissa-ge-CAP.true
+    λ n shows. read_many n _ c.requires shows _ c.mantissa_of-mantissa.ensures c.if-mantissa-ge-CAP.true
 
 pub returns-then-exponent-gt-MOST_EXPONENT : goal.returns-then-exponent-gt-MOST_EXPONENT
 returns-then-exponent-gt-MOST_EXPONENT c =
     λ n shows.
-    read_far n _ c.requires shows _ _ c.capped.ensures c.capped-mantissa.ensures c.if-mantissa-ge-CAP.false _ c.capped-exponent.ensures
+    read_far n _ c.requires shows _ c.mantissa_of-mantissa.ensures c.if-mantissa-ge-CAP.false _ c.capped-exponent.ensures
     c.if-exponent-gt-MOST_EXPONENT.true
 
 pub returns-then-mantissa-eq0 : goal.returns-then-mantissa-eq0
 returns-then-mantissa-eq0 c =
     λ n shows.
-    read_zero n _ c.requires shows _ _ c.capped.ensures c.capped-mantissa.ensures c.if-mantissa-ge-CAP.false _ c.capped-exponent.ensures
+    read_zero n _ c.requires shows _ c.mantissa_of-mantissa.ensures c.if-mantissa-ge-CAP.false _ c.capped-exponent.ensures
     c.if-exponent-gt-MOST_EXPONENT.false c.if-mantissa-eq0.true
 
 pub returns : goal.returns
@@ -26,6 +26,6 @@ returns c =
     let exp : to_z w16 (of_z w16 (to_z w64 (of_z w64 (to_z w64 (of_z w64 c.signed.result) -ℤ to_z w64 (length fraction))))) ≡ c.signed.result -ℤ pos (length fraction) =
     omega (arith, ints, c.signed.ensures.low, c.signed.ensures.high, c.requires.short) in
     λ n shows.
-    read_some n _ c.requires shows _ _ c.capped.ensures c.capped-mantissa.ensures c.if-mantissa-ge-CAP.false _ c.capped-exponent.ensures
+    read_some n _ c.requires shows _ c.mantissa_of-mantissa.ensures c.if-mantissa-ge-CAP.false _ c.capped-exponent.ensures
     c.if-exponent-gt-MOST_EXPONENT.false _ _ c.if-mantissa-eq0.false (mant ∙ c.signed-mant.ensures.value)
     (exp ∙ ap (λ (z : ℤ). z -ℤ pos (length fraction)) c.signed.ensures.value)

@@ -4,7 +4,8 @@ use Rattle.std.specs.Int.{int_min, int_max}
 use mir.Syntax.{w128}
 use mir.Val.{SFits}
 use Rattle.spec_intervals.specs.Interval.{least4, greatest4}
-use Rattle.ival_core.proofs.Shifts.{greatest_bound}
+use Rattle.spec_intervals.proofs.Products.{corners_ordered}
+use Rattle.ival_core.proofs.Shifts.{greatest_bound, least_bound}
 use Rattle.ival_core.proofs.ends.product_ends.Goals as goal
 use Rattle.ival_core.proofs.ends.product_ends.Goals.{After-max-greatest}
 
@@ -58,6 +59,15 @@ returns-clause-least c = least_is (goal.at.returns-clause-least c).After-max-gre
 pub returns-clause-greatest : goal.returns-clause-greatest
 returns-clause-greatest c = greatest_is (goal.at.returns-clause-greatest c).After-max-greatest
 
-pub returns-clause-bound : goal.returns-clause-bound
-returns-clause-bound c =
-    rw (greatest_is (goal.at.returns-clause-bound c).After-max-greatest) (greatest_bound c.args.a c.args.b c.args.c c.args.d c.requires.a_small c.requires.b_small c.requires.c_small c.requires.d_small)
+pub returns-clause-ordered : goal.returns-clause-ordered
+returns-clause-ordered c =
+    let after = (goal.at.returns-clause-ordered c).After-max-greatest in
+    rw (least_is after, greatest_is after) (corners_ordered c.args.a c.args.b c.args.c c.args.d)
+
+pub returns-clause-least_bound : goal.returns-clause-least_bound
+returns-clause-least_bound c =
+    rw (least_is (goal.at.returns-clause-least_bound c).After-max-greatest) (least_bound c.args.a c.args.b c.args.c c.args.d c.requires.a_small c.requires.b_small c.requires.c_small c.requires.d_small)
+
+pub returns-clause-greatest_bound : goal.returns-clause-greatest_bound
+returns-clause-greatest_bound c =
+    rw (greatest_is (goal.at.returns-clause-greatest_bound c).After-max-greatest) (greatest_bound c.args.a c.args.b c.args.c c.args.d c.requires.a_small c.requires.b_small c.requires.c_small c.requires.d_small)

@@ -1,0 +1,53 @@
+//! The program. In come the words of the command line, the files of the system and its standard streams; out goes the
+//! status of the one call that does the work, as the exit status.
+#![tactic(auto)]
+
+use gf_edges::{FileShelf, OpenGate, Sink, StdSink};
+use gf_find::finder;
+use std::alloc::AllocError;
+use std::env;
+use std::io::ErrorKind;
+use std::process::ExitCode;
+use std::rt::Stderr;
+
+const OUT_OF_MEMORY: u8 = 8;
+
+/// The words of the command line, without the program's name. A word that isn't UTF-8 is in no request, so there are no
+/// words then, and the call refuses that list as it would refuse them.
+fn words(rt: &HostRuntime) -> Result<Vec<String>, AllocError> {
+    let mut words = Vec::new(rt.alloc());
+    match env::args(rt) {
+        Ok(args) => {
+            for word in args.skip(1) {
+                words.push(word)?;
+            }
+        }
+        Err(error) if error.kind() == ErrorKind::OutOfMemory => return Err(AllocError),
+        Err(_) => {}
+    }
+    Ok(words)
+}
+
+/// Tells that there is no memory for the words.
+fn tell_want_of_memory(err: &mut StdSink<Stderr>) -> u8 {
+    let _ = err.write(b"finder: out of memory\n");
+    OUT_OF_MEMORY
+}
+
+fn main(rt: HostRuntime) -> ExitCode {
+    let mut shelf = FileShelf::new(&rt);
+    let mut out = StdSink::out(&rt);
+    let mut err = StdSink::err(&rt);
+    let status = match words(&rt) {
+        Ok(words) => finder(
+            rt.alloc(),
+            &words,
+            &mut shelf,
+            &mut out,
+            &mut err,
+            &OpenGate,
+        ),
+        Err(AllocError) => tell_want_of_memory(&mut err),
+    };
+    ExitCode::from(status)
+}

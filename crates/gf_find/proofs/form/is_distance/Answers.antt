@@ -1,0 +1,24 @@
+use Rattle.std.proofs.Common.{◌≡◌, ◌*◌, ◌^◌, ◌∙◌, ap, min, unsigned_abs, arith, refl}
+use Rattle.std.proofs.lemmas.Int.{ints, to_z-of_z}
+use Rattle.gf_find.proofs.Sizes.{divided, multiplied, tested}
+use Rattle.gf_find.proofs.form.is_distance.Goals as goal
+
+pub returns-then-exp-lt0 : goal.returns-then-exp-lt0
+returns-then-exp-lt0 c =
+    let m = c.ranges.mant in
+    let q = c.ranges.exp in
+    let size : c.from-size.result ≡ unsigned_abs c.args.mant = c.from-size.ensures ∙ simp to_z-of_z at c.unsigned_abs.ensures.value in
+    let exponent : c.unsigned_abs-2.result ≡ unsigned_abs c.args.exp = simp to_z-of_z at c.unsigned_abs-2.ensures.value in
+    let power : 2 ^ 36 * c.power_of_ten-power.result ≡ 2 ^ 36 * 10 ^ min (unsigned_abs c.args.exp) 11 =
+    ap (λ n. 2 ^ 36 * n) (c.power_of_ten-power.ensures ∙ ap (λ n. 10 ^ min n 11) exponent) in
+    tested _ _ _ _ _ size power (divided c.args.mant c.args.exp (omega (arith, ints)) (omega (arith, ints)))
+
+pub returns-else-exp-lt0 : goal.returns-else-exp-lt0
+returns-else-exp-lt0 c =
+    let m = c.ranges.mant in
+    let q = c.ranges.exp in
+    let size : c.from-size.result ≡ unsigned_abs c.args.mant = c.from-size.ensures ∙ simp to_z-of_z at c.unsigned_abs.ensures.value in
+    let exponent : c.unsigned_abs-2.result ≡ unsigned_abs c.args.exp = simp to_z-of_z at c.unsigned_abs-2.ensures.value in
+    let power : c.power_of_ten-power.result ≡ 10 ^ min (unsigned_abs c.args.exp) 11 = c.power_of_ten-power.ensures ∙ ap (λ n. 10 ^ min n 11) exponent in
+    let both : c.from-size.result * c.power_of_ten-power.result ≡ unsigned_abs c.args.mant * 10 ^ min (unsigned_abs c.args.exp) 11 = λ i. size i * power i in
+    tested _ _ _ _ _ both refl (multiplied c.args.mant c.args.exp (omega (arith, ints)))

@@ -1,0 +1,26 @@
+// Laws of the form of one block.
+ghost use Rattle.std.specs.Prelude.{◌≡◌, List, ℕ};
+ghost use Rattle.spec_text.specs.declared.decimals.Decimal.{Decimal};
+ghost use Rattle.spec_ephemeris.specs.OneBlock.{HasForm, IsCoefficient, LeavesFormAt};
+ghost use Rattle.spec_ephemeris.specs.Series.{IsInUnits};
+
+/// A text that has the form leaves it at no line.
+pub fn form_is_left_nowhere()
+    ensures { (text : List ℕ) (c0 c1 : Decimal) (number : ℕ) → HasForm text c0 c1 → LeavesFormAt text number → ⊥ }
+{}
+
+/// A text leaves the form at one line.
+pub fn form_is_left_once()
+    ensures { (text : List ℕ) (n m : ℕ) → LeavesFormAt text n → LeavesFormAt text m → n ≡ m }
+{}
+
+/// A text has the form with one pair of coefficients.
+pub fn form_has_one_pair_of_coefficients()
+    ensures { (text : List ℕ) (a b c d : Decimal) → HasForm text a b → HasForm text c d → (a ≡ c) × (b ≡ d) }
+{}
+
+/// The coefficients of the form are whole numbers of units of 10^-140 km, below 2^36 km in size.
+pub fn coefficients_are_bounded()
+    ensures units { (text : List ℕ) (c0 c1 : Decimal) → HasForm text c0 c1 → IsInUnits c0 × IsInUnits c1 }
+    ensures sizes { (text : List ℕ) (c0 c1 : Decimal) → HasForm text c0 c1 → IsCoefficient c0 × IsCoefficient c1 }
+{}

@@ -2,18 +2,18 @@
 use Rattle.std.proofs.Common.{◌≡◌, ℕ, refl, ℤ, pos, ◌+ℤ◌, ◌*ℤ◌, ◌≤ℤ◌, arith}
 use Rattle.std.specs.Int.{int_min, int_max}
 use Rattle.std.proofs.lemmas.Int.{ints}
-use Rattle.spec_intervals.specs.Interval.{Interval, floor_div, ceil_div, narrow, scale, signed_sq, signed_square, raised, lowered, surplus, lift, sum_up, join_up, meet_up}
+use Rattle.spec_intervals.specs.Interval.{Interval, floor_div, ceil_div, narrow, scale, signed_sq, signed_square, aligned_lower, aligned_upper, sum_up, join_up, meet_up}
 
-module _ (x y : Interval) (lo hi s : ℤ) (e : s ≡ (raised (surplus x y) x).s) where
-  pub sum_up-is : lo ≡ (raised (surplus x y) x).lo +ℤ (lowered (lift x y) y).lo → hi ≡ (raised (surplus x y) x).hi +ℤ (lowered (lift x y) y).hi → narrow lo hi s ≡ sum_up x y
+module _ (x y : Interval) (lo hi s : ℤ) (e : s ≡ (aligned_lower x y).s) where
+  pub sum_up-is : lo ≡ (aligned_lower x y).lo +ℤ (aligned_upper x y).lo → hi ≡ (aligned_lower x y).hi +ℤ (aligned_upper x y).hi → narrow lo hi s ≡ sum_up x y
   unfolding sum_up
   sum_up-is p q = rw (p, q, e) refl
 
-  pub join_up-is : lo ≡ int_min (raised (surplus x y) x).lo (lowered (lift x y) y).lo → hi ≡ int_max (raised (surplus x y) x).hi (lowered (lift x y) y).hi → narrow lo hi s ≡ join_up x y
+  pub join_up-is : lo ≡ int_min (aligned_lower x y).lo (aligned_upper x y).lo → hi ≡ int_max (aligned_lower x y).hi (aligned_upper x y).hi → narrow lo hi s ≡ join_up x y
   unfolding join_up
   join_up-is p q = rw (p, q, e) refl
 
-  pub meet_up-is : lo ≡ int_max (raised (surplus x y) x).lo (lowered (lift x y) y).lo → hi ≡ int_min (raised (surplus x y) x).hi (lowered (lift x y) y).hi → narrow lo hi s ≡ meet_up x y
+  pub meet_up-is : lo ≡ int_max (aligned_lower x y).lo (aligned_upper x y).lo → hi ≡ int_min (aligned_lower x y).hi (aligned_upper x y).hi → narrow lo hi s ≡ meet_up x y
   unfolding meet_up
   meet_up-is p q = rw (p, q, e) refl
 

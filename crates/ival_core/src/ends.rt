@@ -1,8 +1,8 @@
 // Steps on the ends of intervals, each on plain whole numbers.
 
-ghost use Rattle.std.specs.Prelude.{◌≡◌, ◌≤◌, ◌<◌, ◌^◌, ◌≤ℤ◌, ◌+ℤ◌, ◌*ℤ◌, pos, unsigned_abs};
+ghost use Rattle.std.specs.Prelude.{◌≡◌, ◌≤◌, ◌<◌, ◌^◌, ◌*◌, ◌≤ℤ◌, ◌+ℤ◌, ◌*ℤ◌, pos, unsigned_abs};
 ghost use Rattle.std.specs.Int.{int_gap};
-ghost use Rattle.spec_intervals.specs.Interval.{IsExponent, end_limit, floor_div, ceil_div, narrow_shift, least4, greatest4, signed_sq};
+ghost use Rattle.spec_intervals.specs.Interval.{IsExponent, exponent_limit, end_limit, lift_limit, floor_div, ceil_div, narrow_shift, least4, greatest4, signed_sq};
 
 /// The greatest size of an end, 2^62: the product of two ends is within 128 bits.
 const END_LIMIT: u128 = 1 << 62;
@@ -58,7 +58,7 @@ pub fn ceil_shift(z: i128, k: u32) -> i128
 /// `z * 2^m` of a small end.
 pub fn lifted(z: i128, m: u32) -> i128
     requires small { unsigned_abs z ≤ end_limit }
-    requires within { m ≤ 60 }
+    requires within { m ≤ lift_limit }
     ensures equals { result ≡ z *ℤ pos (2 ^ m) }
     ensures bound { unsigned_abs result ≤ 2 ^ 122 }
 {
@@ -81,7 +81,7 @@ pub fn exponent_gap(s: i32, t: i32) -> u32
     requires exponent { IsExponent s }
     requires other_exponent { IsExponent t }
     ensures equals { result ≡ int_gap s t }
-    ensures bound { result ≤ 131072 }
+    ensures bound { result ≤ 2 * exponent_limit }
 {
     (t - s) as u32
 }

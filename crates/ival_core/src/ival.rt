@@ -1,7 +1,7 @@
 // The interval, and the calls that make one from others.
 
 ghost use Rattle.std.specs.Prelude.{◌≡◌, ◌≤◌, ◌<◌, ◌^◌, ◌*◌, ◌≤ℤ◌, ℤ, pos, neg_ℤ, unsigned_abs, ◌⊎◌};
-ghost use Rattle.spec_intervals.specs.Interval.{Interval, IsIval, IsExponent, IsDistance, IsCosine, end_limit, distance_exponent, cosine_exponent, interval, narrow, settled, raised, lowered, surplus, lift, is_zero, sum, sum_up, negated, difference, product, join, join_up, meet, meet_up, signed_square, scale, from_decimal};
+ghost use Rattle.spec_intervals.specs.Interval.{Interval, IsIval, IsExponent, exponent_limit, IsDistance, IsCosine, end_limit, distance_exponent, cosine_exponent, interval, narrow, settled, aligned_lower, aligned_upper, is_zero, sum, sum_up, negated, difference, product, join, join_up, meet, meet_up, signed_square, scale, from_decimal};
 ghost use Rattle.spec_intervals.specs.Fraction.{Fraction, Holds, Overlaps, fraction_add, fraction_sub, fraction_mul, fraction_signed_square, fraction_scale, decimal};
 ghost use Rattle.spec_intervals.specs.Signs.{sign_of};
 ghost use borrow.Author.Differences.{up, down};
@@ -17,8 +17,11 @@ use std::marker::Model;
 #[cfg(test)]
 mod tests;
 
+/// By how many powers of 2 an end is multiplied at most.
+const LIFT_LIMIT: u32 = 60;
+
 /// All numbers from `lo * 2^s` to `hi * 2^s`, with `lo <= hi` and both at most 2^62 in size.
-#[derive(Clone, Copy)]
+#[derive(Clone, Copy, Debug, PartialEq, Eq)]
 pub struct Ival {
     lo: i128,
     hi: i128,
@@ -39,7 +42,7 @@ impl Model for Ival {
 
 /// What is known of a quantity over a span of time: its value in the middle, all its values, and its change from any
 /// second to the next.
-#[derive(Clone, Copy)]
+#[derive(Clone, Copy, Debug, PartialEq, Eq)]
 pub struct Enclosure {
     /// Holds the value at the middle second.
     pub mid: Ival,
@@ -162,9 +165,8 @@ impl Ival {
         signed_square_of(self)
     }
 
-    /// `2 / seconds` of the numbers from `lo * 2^s` to `hi * 2^s`, narrowed. Over a span of that many seconds the
-    /// argument of a polynomial goes from -1 to 1, so this is the change in one second of what changes by one such
-    /// number for each unit of the argument.
+    /// `2 / seconds` times the numbers from `lo * 2^s` to `hi * 2^s`, rounded outward and narrowed. The argument of a
+    /// polynomial over a span of that many seconds goes from -1 to 1, so `2 / seconds` is what it gains in a second.
     pub fn scale(lo: i128, hi: i128, s: i32, seconds: i64) -> Ival
         requires ordered { lo ≤ℤ hi }
         requires lo_size { unsigned_abs lo < 2 ^ 126 }
@@ -211,7 +213,7 @@ fn settle(lo: i128, hi: i128, s: i32) -> Ival
 fn narrowed(lo: i128, hi: i128, s: i32) -> Ival
     requires ordered { lo ≤ℤ hi }
     requires above_least { unsigned_abs hi < 2 ^ 127 }
-    requires exponent { unsigned_abs s ≤ 1000000 }
+    requires exponent { unsigned_abs s ≤ 4 * exponent_limit }
     ensures { result ≡ narrow lo hi s }
 {
     let k = least_shift(lo, hi);
@@ -375,16 +377,16 @@ struct Aligned {
     s: i32,
 }
 
-/// Brings two intervals to one exponent, the first at the lower one. The upper is multiplied by at most 2^60.
+/// Brings two intervals to one exponent, the first at the lower one.
 fn at_one_exponent(x: Ival, y: Ival) -> Aligned
     requires order { x.s ≤ℤ y.s }
     requires exponent { IsExponent x.s }
     requires other_exponent { IsExponent y.s }
-    ensures lower_lo { result.lower_lo ≡ (raised (surplus x y) x).lo }
-    ensures lower_hi { result.lower_hi ≡ (raised (surplus x y) x).hi }
-    ensures upper_lo { result.upper_lo ≡ (lowered (lift x y) y).lo }
-    ensures upper_hi { result.upper_hi ≡ (lowered (lift x y) y).hi }
-    ensures exponent { result.s ≡ (raised (surplus x y) x).s }
+    ensures lower_lo { result.lower_lo ≡ (aligned_lower x y).lo }
+    ensures lower_hi { result.lower_hi ≡ (aligned_lower x y).hi }
+    ensures upper_lo { result.upper_lo ≡ (aligned_upper x y).lo }
+    ensures upper_hi { result.upper_hi ≡ (aligned_upper x y).hi }
+    ensures exponent { result.s ≡ (aligned_lower x y).s }
 
     ensures lower_ordered { result.lower_lo ≤ℤ result.lower_hi }
     ensures upper_ordered { result.upper_lo ≤ℤ result.upper_hi }
@@ -392,10 +394,10 @@ fn at_one_exponent(x: Ival, y: Ival) -> Aligned
     ensures lower_hi_small { unsigned_abs result.lower_hi ≤ end_limit }
     ensures upper_lo_bound { unsigned_abs result.upper_lo ≤ 2 ^ 122 }
     ensures upper_hi_bound { unsigned_abs result.upper_hi ≤ 2 ^ 122 }
-    ensures exponent_bound { unsigned_abs result.s ≤ 1000000 }
+    ensures exponent_bound { unsigned_abs result.s ≤ 4 * exponent_limit }
 {
     let d = exponent_gap(x.s, y.s);
-    let m = d.min(60);
+    let m = d.min(LIFT_LIMIT);
     let k = d - m;
     let s = x.s + k as i32;
     let (lower_lo, lower_hi) = (floor_shift(x.lo, k), ceil_shift(x.hi, k));

@@ -10,7 +10,7 @@ use Rattle.spec_intervals.proofs.Order.{lin, le-mul, le-mul_cancel}
 use Rattle.spec_intervals.proofs.Floor.{floor_div-le, ceil_div-ge}
 use Rattle.spec_intervals.specs.Fraction.{Fraction, IsFraction, Holds, AtMost, AtLeast, fraction_add, fraction_sub, fraction_scale, Overlaps}
 use Rattle.spec_intervals.proofs.Narrow.{low-floor, high-ceil, Holds-narrow}
-use Rattle.spec_intervals.specs.Interval.{Interval, floor_div, ceil_div, narrow, raised, lowered, surplus, lift, negated, difference, join_up, join, meet_up, meet, scale}
+use Rattle.spec_intervals.specs.Interval.{Interval, floor_div, ceil_div, surplus, lift, aligned_lower, aligned_upper, negated, difference, join_up, join, meet_up, meet, scale}
 use Rattle.std.specs.Prelude.{if◌then◌else◌}
 use Rattle.spec_intervals.proofs.Sums.{Holds-sum, lift_low, lift_high, meets}
 
@@ -47,16 +47,16 @@ doubled z n = ring (z ∷ pos n ∷ []) (lit (pos 2) ⊗ v 0 ⊗ v 1) (v 0 ⊗ v
 
 -- ---- two intervals at one exponent hold what they held
 module _ (x y : Interval) (r : Fraction) (h : x.s ≤ℤ y.s) where
-  pub raised-low : Holds x r → AtMost (raised (surplus x y) x).lo (raised (surplus x y) x).s r
+  pub raised-low : Holds x r → AtMost (aligned_lower x y).lo (aligned_lower x y).s r
   raised-low p = low-floor x.lo x.s (surplus x y) r p.low
 
-  pub raised-high : Holds x r → AtLeast (raised (surplus x y) x).hi (raised (surplus x y) x).s r
+  pub raised-high : Holds x r → AtLeast (aligned_lower x y).hi (aligned_lower x y).s r
   raised-high p = high-ceil x.hi x.s (surplus x y) r p.high
 
-  pub lowered-low : Holds y r → AtMost (lowered (lift x y) y).lo (raised (surplus x y) x).s r
+  pub lowered-low : Holds y r → AtMost (aligned_upper x y).lo (aligned_lower x y).s r
   lowered-low q = lift_low y.lo y.s (x.s +ℤ pos (surplus x y)) (lift x y) r (meets x.s y.s h) q.low
 
-  pub lowered-high : Holds y r → AtLeast (lowered (lift x y) y).hi (raised (surplus x y) x).s r
+  pub lowered-high : Holds y r → AtLeast (aligned_upper x y).hi (aligned_lower x y).s r
   lowered-high q = lift_high y.hi y.s (x.s +ℤ pos (surplus x y)) (lift x y) r (meets x.s y.s h) q.high
 
 -- an end further out bounds no less
@@ -79,12 +79,12 @@ module _ (x y : Interval) (r : Fraction) (h : x.s ≤ℤ y.s) where
   lower_in_join : Holds x r → Holds (join_up x y) r
   unfolding join_up
   lower_in_join p =
-      Holds-narrow _ _ _ r (AtMost-less _ _ (raised (surplus x y) x).s r (min_bounds (raised (surplus x y) x).lo (lowered (lift x y) y).lo).0 (raised-low x y r h p)) (AtLeast-more _ _ (raised (surplus x y) x).s r (max_bounds (raised (surplus x y) x).hi (lowered (lift x y) y).hi).0 (raised-high x y r h p))
+      Holds-narrow _ _ _ r (AtMost-less _ _ (aligned_lower x y).s r (min_bounds (aligned_lower x y).lo (aligned_upper x y).lo).0 (raised-low x y r h p)) (AtLeast-more _ _ (aligned_lower x y).s r (max_bounds (aligned_lower x y).hi (aligned_upper x y).hi).0 (raised-high x y r h p))
 
   upper_in_join : Holds y r → Holds (join_up x y) r
   unfolding join_up
   upper_in_join q =
-      Holds-narrow _ _ _ r (AtMost-less _ _ (raised (surplus x y) x).s r (min_bounds (raised (surplus x y) x).lo (lowered (lift x y) y).lo).1 (lowered-low x y r h q)) (AtLeast-more _ _ (raised (surplus x y) x).s r (max_bounds (raised (surplus x y) x).hi (lowered (lift x y) y).hi).1 (lowered-high x y r h q))
+      Holds-narrow _ _ _ r (AtMost-less _ _ (aligned_lower x y).s r (min_bounds (aligned_lower x y).lo (aligned_upper x y).lo).1 (lowered-low x y r h q)) (AtLeast-more _ _ (aligned_lower x y).s r (max_bounds (aligned_lower x y).hi (aligned_upper x y).hi).1 (lowered-high x y r h q))
 
 pub Holds-join_first : (x y : Interval) (r : Fraction) → Holds x r → Holds (join x y) r
 unfolding join
@@ -130,7 +130,7 @@ min_high p q s r h g = by (either_min p q)
 pub Holds-meet_up : (x y : Interval) (r : Fraction) → x.s ≤ℤ y.s → Holds x r → Holds y r → Holds (meet_up x y) r
 unfolding meet_up
 Holds-meet_up x y r h p q =
-    Holds-narrow _ _ _ r (max_low (raised (surplus x y) x).lo (lowered (lift x y) y).lo (raised (surplus x y) x).s r (raised-low x y r h p) (lowered-low x y r h q)) (min_high (raised (surplus x y) x).hi (lowered (lift x y) y).hi (raised (surplus x y) x).s r (raised-high x y r h p) (lowered-high x y r h q))
+    Holds-narrow _ _ _ r (max_low (aligned_lower x y).lo (aligned_upper x y).lo (aligned_lower x y).s r (raised-low x y r h p) (lowered-low x y r h q)) (min_high (aligned_lower x y).hi (aligned_upper x y).hi (aligned_lower x y).s r (raised-high x y r h p) (lowered-high x y r h q))
 
 pub Holds-meet : (x y : Interval) (r : Fraction) → Holds x r → Holds y r → Holds (meet x y) r
 unfolding meet
@@ -149,9 +149,9 @@ ends-in_order l h s r d p q =
     le-mul_cancel l h (2 ^ up s * r.denominator) (positive (2 ^ up s) r.denominator (pow_pos (up s)) d) (omega (arith, lin))
 
 -- so the ends of a meet are in order where some number lies in both
-pub meet-in_order : (x y : Interval) → x.s ≤ℤ y.s → Overlaps x y → int_max (raised (surplus x y) x).lo (lowered (lift x y) y).lo ≤ℤ int_min (raised (surplus x y) x).hi (lowered (lift x y) y).hi
+pub meet-in_order : (x y : Interval) → x.s ≤ℤ y.s → Overlaps x y → int_max (aligned_lower x y).lo (aligned_upper x y).lo ≤ℤ int_min (aligned_lower x y).hi (aligned_upper x y).hi
 meet-in_order x y h o =
-    ends-in_order _ _ (raised (surplus x y) x).s o.common o.is_fraction (max_low (raised (surplus x y) x).lo (lowered (lift x y) y).lo (raised (surplus x y) x).s o.common (raised-low x y o.common h o.in_first) (lowered-low x y o.common h o.in_second)) (min_high (raised (surplus x y) x).hi (lowered (lift x y) y).hi (raised (surplus x y) x).s o.common (raised-high x y o.common h o.in_first) (lowered-high x y o.common h o.in_second))
+    ends-in_order _ _ (aligned_lower x y).s o.common o.is_fraction (max_low (aligned_lower x y).lo (aligned_upper x y).lo (aligned_lower x y).s o.common (raised-low x y o.common h o.in_first) (lowered-low x y o.common h o.in_second)) (min_high (aligned_lower x y).hi (aligned_upper x y).hi (aligned_lower x y).s o.common (raised-high x y o.common h o.in_first) (lowered-high x y o.common h o.in_second))
 
 -- ---- scaled by 2 / length
 module _ (lo hi s : ℤ) (length : ℕ) (r : Fraction) (pos_length : 0 < length) where

@@ -1,9 +1,9 @@
 -- The signed square.
-use Rattle.std.proofs.Common.{◌≡◌, ℕ, suc, ◌+◌, ◌*◌, ◌^◌, max, ◌≤◌, arith, refl, sym, ap, subst, ◌∙◌, [], ◌∷◌, ℤ, pos, negsuc, ◌+ℤ◌, ◌-ℤ◌, ◌*ℤ◌, ◌≤ℤ◌, ◌⊎◌, inl, inr, unsigned_abs}
+use Rattle.std.proofs.Common.{◌≡◌, ℕ, suc, ◌+◌, ◌*◌, ◌^◌, arith, refl, sym, ap, ◌∙◌, [], ◌∷◌, ℤ, pos, negsuc, ◌+ℤ◌, ◌*ℤ◌, ◌≤ℤ◌, unsigned_abs}
 use Rattle.std.proofs.lemmas.Int.{ints}
 use Rattle.std.proofs.lemmas.Nat.{pow-add}
 use borrow.Author.Differences.{up, down}
-use Rattle.spec_intervals.proofs.Ring.{v, ◌⊕◌, ◌⊖◌, ◌⊗◌, ring}
+use Rattle.spec_intervals.proofs.Ring.{v, ◌⊗◌, ring}
 use Rattle.spec_intervals.proofs.Order.{lin, le-mul}
 use Rattle.spec_intervals.specs.Fraction.{Fraction, Holds, AtMost, AtLeast, fraction_signed_square}
 use Rattle.spec_intervals.proofs.Narrow.{rescale_low, rescale_high, Holds-narrow}

@@ -31,33 +31,28 @@ pub fn product_holds()
 /// The difference of two intervals holds the difference of any two numbers that they hold.
 pub fn difference_holds()
     ensures { (x y : Interval) (r t : Fraction) → Holds x r → Holds y t → Holds (difference x y) (fraction_sub r t) }
-{
-}
+{}
 
 /// The join holds whatever one of the two intervals holds.
 pub fn join_holds()
     ensures first { (x y : Interval) (r : Fraction) → Holds x r → Holds (join x y) r }
     ensures second { (x y : Interval) (r : Fraction) → Holds y r → Holds (join x y) r }
-{
-}
+{}
 
 /// The meet holds whatever both intervals hold.
 pub fn meet_holds()
     ensures { (x y : Interval) (r : Fraction) → Holds x r → Holds y r → Holds (meet x y) r }
-{
-}
+{}
 
 /// The signed square of an interval holds r |r| of any number r that it holds.
 pub fn signed_square_holds()
     ensures { (x : Interval) (r : Fraction) → Holds x r → Holds (signed_square x) (fraction_signed_square r) }
-{
-}
+{}
 
 /// A scaled interval holds 2 r / length of any number r between the ends.
 pub fn scale_holds()
     ensures { (lo hi s : ℤ) (length : ℕ) (r : Fraction) → 0 < length → Holds (interval lo hi s) r → Holds (scale lo hi s length) (fraction_scale r length) }
-{
-}
+{}
 
 /// The interval of a decimal holds the decimal, at any exponent.
 pub fn decimal_holds()

@@ -3,3 +3,4 @@ pub mod Powers
 pub mod Settling
 pub mod Shortest
 pub mod DecimalEnds
+pub mod Aligning

@@ -1,8 +1,8 @@
 // Steps on the ends of intervals, each on plain whole numbers.
 
-ghost use Rattle.std.specs.Prelude.{◌≡◌, ◌≤◌, ◌<◌, ◌^◌, ◌≤ℤ◌, ◌+ℤ◌, ◌*ℤ◌, pos, unsigned_abs};
+ghost use Rattle.std.specs.Prelude.{◌≡◌, ◌≤◌, ◌<◌, ◌^◌, ◌*◌, ◌≤ℤ◌, ◌+ℤ◌, ◌*ℤ◌, pos, unsigned_abs};
 ghost use Rattle.std.specs.Int.{int_gap};
-ghost use Rattle.spec_intervals.specs.Interval.{IsExponent, end_limit, floor_div, ceil_div, narrow_shift, least4, greatest4};
+ghost use Rattle.spec_intervals.specs.Interval.{IsExponent, exponent_limit, end_limit, lift_limit, floor_div, ceil_div, narrow_shift, least4, greatest4, signed_sq};
 
 /// The greatest size of an end, 2^62: the product of two ends is within 128 bits.
 const END_LIMIT: u128 = 1 << 62;
@@ -58,7 +58,7 @@ pub fn ceil_shift(z: i128, k: u32) -> i128
 /// `z * 2^m` of a small end.
 pub fn lifted(z: i128, m: u32) -> i128
     requires small { unsigned_abs z ≤ end_limit }
-    requires within { m ≤ 60 }
+    requires within { m ≤ lift_limit }
     ensures equals { result ≡ z *ℤ pos (2 ^ m) }
     ensures bound { unsigned_abs result ≤ 2 ^ 122 }
 {
@@ -81,7 +81,7 @@ pub fn exponent_gap(s: i32, t: i32) -> u32
     requires exponent { IsExponent s }
     requires other_exponent { IsExponent t }
     ensures equals { result ≡ int_gap s t }
-    ensures bound { result ≤ 131072 }
+    ensures bound { result ≤ 2 * exponent_limit }
 {
     (t - s) as u32
 }
@@ -112,4 +112,33 @@ pub fn product_ends(a: i128, b: i128, c: i128, d: i128) -> (i128, i128)
     let least = ac.min(ad).min(bc.min(bd));
     let greatest = ac.max(ad).max(bc.max(bd));
     (least, greatest)
+}
+
+/// `z |z|` of a small end.
+pub fn square_end(z: i128) -> i128
+    requires { unsigned_abs z ≤ end_limit }
+    ensures equals { result ≡ signed_sq z }
+    ensures bound { unsigned_abs result ≤ 2 ^ 124 }
+{
+    times(z, z.abs())
+}
+
+/// `floor(2 z / seconds)`.
+pub fn share_down(z: i128, seconds: i64) -> i128
+    requires size { unsigned_abs z < 2 ^ 126 }
+    requires length { pos 1 ≤ℤ seconds }
+    ensures equals { result ≡ floor_div (pos 2 *ℤ z) (unsigned_abs seconds) }
+    ensures bound { unsigned_abs result < 2 ^ 127 }
+{
+    (2 * z).div_euclid(seconds as i128)
+}
+
+/// `ceil(2 z / seconds)`.
+pub fn share_up(z: i128, seconds: i64) -> i128
+    requires size { unsigned_abs z < 2 ^ 126 }
+    requires length { pos 1 ≤ℤ seconds }
+    ensures equals { result ≡ ceil_div (pos 2 *ℤ z) (unsigned_abs seconds) }
+    ensures bound { unsigned_abs result < 2 ^ 127 }
+{
+    -share_down(-z, seconds)
 }

@@ -1,15 +1,15 @@
 // The interval, and the calls that make one from others.
 
 ghost use Rattle.std.specs.Prelude.{◌≡◌, ◌≤◌, ◌<◌, ◌^◌, ◌*◌, ◌≤ℤ◌, ℤ, pos, neg_ℤ, unsigned_abs, ◌⊎◌};
-ghost use Rattle.spec_intervals.specs.Interval.{Interval, IsIval, IsExponent, IsDistance, IsCosine, distance_exponent, cosine_exponent, interval, narrow, product, settled, sum, sum_up, is_zero, from_decimal};
-ghost use Rattle.spec_intervals.specs.Fraction.{Fraction, Holds, fraction_add, fraction_mul, decimal};
+ghost use Rattle.spec_intervals.specs.Interval.{Interval, IsIval, IsExponent, exponent_limit, IsDistance, IsCosine, end_limit, distance_exponent, cosine_exponent, interval, narrow, settled, aligned_lower, aligned_upper, is_zero, sum, sum_up, negated, difference, product, join, join_up, meet, meet_up, signed_square, scale, from_decimal};
+ghost use Rattle.spec_intervals.specs.Fraction.{Fraction, Holds, Overlaps, fraction_add, fraction_sub, fraction_mul, fraction_signed_square, fraction_scale, decimal};
 ghost use Rattle.spec_intervals.specs.Signs.{sign_of};
 ghost use borrow.Author.Differences.{up, down};
 
 use crate::decimals::decimal_ends;
 use crate::ends::{
     added, ceil_shift, exponent_gap, floor_shift, halved_down, halved_up, least_shift, lifted,
-    product_ends,
+    product_ends, share_down, share_up, square_end,
 };
 use spec_intervals::Sign;
 use std::marker::Model;
@@ -17,8 +17,11 @@ use std::marker::Model;
 #[cfg(test)]
 mod tests;
 
+/// By how many powers of 2 an end is multiplied at most.
+const LIFT_LIMIT: u32 = 60;
+
 /// All numbers from `lo * 2^s` to `hi * 2^s`, with `lo <= hi` and both at most 2^62 in size.
-#[derive(Clone, Copy)]
+#[derive(Clone, Copy, Debug, PartialEq, Eq)]
 pub struct Ival {
     lo: i128,
     hi: i128,
@@ -39,7 +42,7 @@ impl Model for Ival {
 
 /// What is known of a quantity over a span of time: its value in the middle, all its values, and its change from any
 /// second to the next.
-#[derive(Clone, Copy)]
+#[derive(Clone, Copy, Debug, PartialEq, Eq)]
 pub struct Enclosure {
     /// Holds the value at the middle second.
     pub mid: Ival,
@@ -112,6 +115,16 @@ impl Ival {
         sum_of(self, other)
     }
 
+    /// The difference: the sum with the other interval turned round 0.
+    pub fn sub(self, other: Ival) -> Ival
+        requires exponent { IsExponent self.s }
+        requires other_exponent { IsExponent other.s }
+        ensures equals { result ≡ difference self other }
+        ensures holds { (r t : Fraction) → Holds self r → Holds other t → Holds result (fraction_sub r t) }
+    {
+        difference_of(self, other)
+    }
+
     /// The product: the least and the greatest of the four products of ends, narrowed.
     pub fn mul(self, other: Ival) -> Ival
         requires exponent { IsExponent self.s }
@@ -120,6 +133,61 @@ impl Ival {
         ensures holds { (r t : Fraction) → Holds self r → Holds other t → Holds result (fraction_mul r t) }
     {
         product_of(self, other)
+    }
+
+    /// From the lesser low end to the greater high end, at one exponent and narrowed.
+    pub fn join(self, other: Ival) -> Ival
+        requires exponent { IsExponent self.s }
+        requires other_exponent { IsExponent other.s }
+        ensures equals { result ≡ join self other }
+        ensures holds { (r : Fraction) → Holds self r ⊎ Holds other r → Holds result r }
+    {
+        join_of(self, other)
+    }
+
+    /// From the greater low end to the lesser high end, at one exponent and narrowed.
+    pub fn meet(self, other: Ival) -> Ival
+        requires exponent { IsExponent self.s }
+        requires other_exponent { IsExponent other.s }
+        requires overlap { Overlaps self other }
+        ensures equals { result ≡ meet self other }
+        ensures holds { (r : Fraction) → Holds self r → Holds other r → Holds result r }
+    {
+        meet_of(self, other)
+    }
+
+    /// `x |x|`, which keeps the sign and grows with `x`: the signed squares of the ends, narrowed.
+    pub fn signed_square(self) -> Ival
+        requires { IsExponent self.s }
+        ensures equals { result ≡ signed_square self }
+        ensures holds { (r : Fraction) → Holds self r → Holds result (fraction_signed_square r) }
+    {
+        signed_square_of(self)
+    }
+
+    /// `2 / seconds` times the numbers from `lo * 2^s` to `hi * 2^s`, rounded outward and narrowed. The argument of a
+    /// polynomial over a span of that many seconds goes from -1 to 1, so `2 / seconds` is what it gains in a second.
+    pub fn scale(lo: i128, hi: i128, s: i32, seconds: i64) -> Ival
+        requires ordered { lo ≤ℤ hi }
+        requires lo_size { unsigned_abs lo < 2 ^ 126 }
+        requires hi_size { unsigned_abs hi < 2 ^ 126 }
+        requires exponent { IsExponent s }
+        requires length { pos 1 ≤ℤ seconds }
+        ensures equals { result ≡ scale lo hi s (unsigned_abs seconds) }
+        ensures holds { (r : Fraction) → Holds (interval lo hi s) r → Holds result (fraction_scale r (unsigned_abs seconds)) }
+    {
+        scaled(lo, hi, s, seconds)
+    }
+
+    /// The interval turned round 0.
+    fn negated(self) -> Ival
+        ensures { result ≡ negated self }
+    {
+        Ival {
+            lo: -self.hi,
+            hi: -self.lo,
+            s: self.s,
+        }
     }
 
     fn is_zero(&self) -> bool
@@ -145,7 +213,7 @@ fn settle(lo: i128, hi: i128, s: i32) -> Ival
 fn narrowed(lo: i128, hi: i128, s: i32) -> Ival
     requires ordered { lo ≤ℤ hi }
     requires above_least { unsigned_abs hi < 2 ^ 127 }
-    requires exponent { unsigned_abs s ≤ 1000000 }
+    requires exponent { unsigned_abs s ≤ 4 * exponent_limit }
     ensures { result ≡ narrow lo hi s }
 {
     let k = least_shift(lo, hi);
@@ -210,10 +278,135 @@ fn sum_upward(x: Ival, y: Ival) -> Ival
     requires other_exponent { IsExponent y.s }
     ensures { result ≡ sum_up x y }
 {
+    let at = at_one_exponent(x, y);
+    let lo = added(at.lower_lo, at.upper_lo);
+    let hi = added(at.lower_hi, at.upper_hi);
+    narrowed(lo, hi, at.s)
+}
+
+#[tactic(auto, unfolding(spec_intervals::specs::Interval::difference))]
+fn difference_of(x: Ival, y: Ival) -> Ival
+    requires exponent { IsExponent x.s }
+    requires other_exponent { IsExponent y.s }
+    ensures { result ≡ difference x y }
+{
+    sum_of(x, y.negated())
+}
+
+#[tactic(auto, unfolding(spec_intervals::specs::Interval::join))]
+fn join_of(x: Ival, y: Ival) -> Ival
+    requires exponent { IsExponent x.s }
+    requires other_exponent { IsExponent y.s }
+    ensures { result ≡ join x y }
+{
+    if x.s <= y.s {
+        join_upward(x, y)
+    } else {
+        join_upward(y, x)
+    }
+}
+
+/// The join of two intervals, the first at the lower exponent.
+fn join_upward(x: Ival, y: Ival) -> Ival
+    requires order { x.s ≤ℤ y.s }
+    requires exponent { IsExponent x.s }
+    requires other_exponent { IsExponent y.s }
+    ensures { result ≡ join_up x y }
+{
+    let at = at_one_exponent(x, y);
+    let lo = at.lower_lo.min(at.upper_lo);
+    let hi = at.lower_hi.max(at.upper_hi);
+    narrowed(lo, hi, at.s)
+}
+
+#[tactic(auto, unfolding(spec_intervals::specs::Interval::meet))]
+fn meet_of(x: Ival, y: Ival) -> Ival
+    requires exponent { IsExponent x.s }
+    requires other_exponent { IsExponent y.s }
+    requires overlap { Overlaps x y }
+    ensures { result ≡ meet x y }
+{
+    if x.s <= y.s {
+        meet_upward(x, y)
+    } else {
+        meet_upward(y, x)
+    }
+}
+
+/// The meet of two intervals, the first at the lower exponent.
+fn meet_upward(x: Ival, y: Ival) -> Ival
+    requires order { x.s ≤ℤ y.s }
+    requires exponent { IsExponent x.s }
+    requires other_exponent { IsExponent y.s }
+    requires overlap { Overlaps x y }
+    ensures { result ≡ meet_up x y }
+{
+    let at = at_one_exponent(x, y);
+    let lo = at.lower_lo.max(at.upper_lo);
+    let hi = at.lower_hi.min(at.upper_hi);
+    narrowed(lo, hi, at.s)
+}
+
+fn signed_square_of(x: Ival) -> Ival
+    requires { IsExponent x.s }
+    ensures { result ≡ signed_square x }
+{
+    let s = x.s + x.s;
+    narrowed(square_end(x.lo), square_end(x.hi), s)
+}
+
+fn scaled(lo: i128, hi: i128, s: i32, seconds: i64) -> Ival
+    requires ordered { lo ≤ℤ hi }
+    requires lo_size { unsigned_abs lo < 2 ^ 126 }
+    requires hi_size { unsigned_abs hi < 2 ^ 126 }
+    requires exponent { IsExponent s }
+    requires length { pos 1 ≤ℤ seconds }
+    ensures { result ≡ scale lo hi s (unsigned_abs seconds) }
+{
+    narrowed(share_down(lo, seconds), share_up(hi, seconds), s)
+}
+
+/// The ends of two intervals at one exponent `s`: those of the interval that was lower are rounded outward, those of
+/// the one that was upper stand for the same numbers.
+#[derive(Clone, Copy)]
+struct Aligned {
+    lower_lo: i128,
+    lower_hi: i128,
+    upper_lo: i128,
+    upper_hi: i128,
+    s: i32,
+}
+
+/// Brings two intervals to one exponent, the first at the lower one.
+fn at_one_exponent(x: Ival, y: Ival) -> Aligned
+    requires order { x.s ≤ℤ y.s }
+    requires exponent { IsExponent x.s }
+    requires other_exponent { IsExponent y.s }
+    ensures lower_lo { result.lower_lo ≡ (aligned_lower x y).lo }
+    ensures lower_hi { result.lower_hi ≡ (aligned_lower x y).hi }
+    ensures upper_lo { result.upper_lo ≡ (aligned_upper x y).lo }
+    ensures upper_hi { result.upper_hi ≡ (aligned_upper x y).hi }
+    ensures exponent { result.s ≡ (aligned_lower x y).s }
+
+    ensures lower_ordered { result.lower_lo ≤ℤ result.lower_hi }
+    ensures upper_ordered { result.upper_lo ≤ℤ result.upper_hi }
+    ensures lower_lo_small { unsigned_abs result.lower_lo ≤ end_limit }
+    ensures lower_hi_small { unsigned_abs result.lower_hi ≤ end_limit }
+    ensures upper_lo_bound { unsigned_abs result.upper_lo ≤ 2 ^ 122 }
+    ensures upper_hi_bound { unsigned_abs result.upper_hi ≤ 2 ^ 122 }
+    ensures exponent_bound { unsigned_abs result.s ≤ 4 * exponent_limit }
+{
     let d = exponent_gap(x.s, y.s);
-    let m = d.min(60);
+    let m = d.min(LIFT_LIMIT);
     let k = d - m;
-    let lo = added(floor_shift(x.lo, k), lifted(y.lo, m));
-    let hi = added(ceil_shift(x.hi, k), lifted(y.hi, m));
-    narrowed(lo, hi, x.s + k as i32)
+    let s = x.s + k as i32;
+    let (lower_lo, lower_hi) = (floor_shift(x.lo, k), ceil_shift(x.hi, k));
+    let (upper_lo, upper_hi) = (lifted(y.lo, m), lifted(y.hi, m));
+    Aligned {
+        lower_lo,
+        lower_hi,
+        upper_lo,
+        upper_hi,
+        s,
+    }
 }

@@ -6,11 +6,10 @@ use Rattle.std.proofs.lemmas.Nat.{pow_pos}
 use Rattle.std.specs.Int.{int_gap}
 use lib.Signed.{le_z}
 use borrow.Author.Differences.{up, down}
-use Rattle.spec_intervals.specs.Interval.{Interval, floor_div, ceil_div, narrow, surplus, lift, sum_up, sum, is_zero, zero_end}
+use Rattle.spec_intervals.specs.Interval.{Interval, floor_div, ceil_div, surplus, lift, sum_up, sum, is_zero, zero_end}
 use Rattle.spec_intervals.specs.Fraction.{Fraction, Holds, AtMost, AtLeast, fraction_add}
 use Rattle.spec_intervals.proofs.Ring.{v, k as lit, ◌⊕◌, ◌⊗◌, ring}
 use Rattle.spec_intervals.proofs.Order.{lin, le-mul, le-mul_cancel}
-use Rattle.spec_intervals.proofs.Floor.{floor_div-le, ceil_div-ge}
 use Rattle.spec_intervals.proofs.Narrow.{rescale_low, rescale_high, shifted, low-floor, high-ceil, Holds-narrow}
 
 -- y * 2^m at an exponent m lower
@@ -117,18 +116,3 @@ Holds-sum x y r t p q = by (is_zero x) (is_zero y) (le_z x.s y.s) refl refl refl
     by false true c e f g = rw (fraction_add-comm r t) (record { low = zero_add_low x.lo x.s t r (zero_num y t f q) p.low; high = zero_add_high x.hi x.s t r (zero_num y t f q) p.high })
     by false false true e f g = Holds-sum_up x y r t (omega (arith, lin)) p q
     by false false false e f g = rw (fraction_add-comm r t) (Holds-sum_up y x t r (omega (arith, lin)) q p)
-
-pub sum_up-parts : (x y : Interval) (d m k : ℕ) (lo hi s : ℤ) → d ≡ int_gap x.s y.s → m ≡ min d 60 → k ≡ d - 60 → lo ≡ floor_div x.lo (2 ^ k) +ℤ y.lo *ℤ pos (2 ^ m) → hi ≡ ceil_div x.hi (2 ^ k) +ℤ y.hi *ℤ pos (2 ^ m) → s ≡ x.s +ℤ pos k → narrow lo hi s ≡ sum_up x y
-unfolding sum_up
-sum_up-parts x y d m k lo hi s a b e p q r =
-    let m' : m ≡ lift x y = b ∙ ap (λ n. min n 60) a in
-    let k' : k ≡ surplus x y = e ∙ ap (λ n. n - 60) a in
-    rw (p, q, r, m', k')
-
-pub ends_ordered : (lo hi p q : ℤ) (k m : ℕ) → lo ≤ℤ hi → p ≤ℤ q → (floor_div lo (2 ^ k) +ℤ p *ℤ pos (2 ^ m)) ≤ℤ (ceil_div hi (2 ^ k) +ℤ q *ℤ pos (2 ^ m))
-ends_ordered lo hi p q k m h g =
-    let a : (floor_div lo (2 ^ k) *ℤ pos (2 ^ k)) ≤ℤ lo = floor_div-le lo (2 ^ k) (pow_pos k) in
-    let b : hi ≤ℤ (ceil_div hi (2 ^ k) *ℤ pos (2 ^ k)) = ceil_div-ge hi (2 ^ k) (pow_pos k) in
-    let c : floor_div lo (2 ^ k) ≤ℤ ceil_div hi (2 ^ k) = le-mul_cancel (floor_div lo (2 ^ k)) (ceil_div hi (2 ^ k)) (2 ^ k) (pow_pos k) (omega (arith, lin)) in
-    let e : (p *ℤ pos (2 ^ m)) ≤ℤ (q *ℤ pos (2 ^ m)) = le-mul p q (pos (2 ^ m)) (omega (arith, lin)) g in
-    omega (arith, lin)

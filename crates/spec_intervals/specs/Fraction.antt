@@ -1,7 +1,7 @@
 -- A fraction of whole numbers, and what it is for an interval to hold one.
 use Rattle.std.specs.Prelude.{ℕ, ◌*◌, ◌^◌, ◌<◌, ℤ, pos, ◌+ℤ◌, ◌-ℤ◌, ◌*ℤ◌, ◌≤ℤ◌}
 use borrow.Author.Differences.{up, down}
-use Rattle.spec_intervals.specs.Interval.{Interval}
+use Rattle.spec_intervals.specs.Interval.{Interval, signed_sq}
 
 -- numerator / denominator; one of denominator 0 stands for no number
 pub record Fraction : Type 0 where
@@ -26,6 +26,13 @@ pub record Holds (t : Interval) (r : Fraction) : Type 0 where
   pub low : AtMost t.lo t.s r
   pub high : AtLeast t.hi t.s r
 
+-- some number lies in both
+pub record Overlaps (x y : Interval) : Type 0 where
+  pub common : Fraction
+  pub is_fraction : IsFraction common
+  pub in_first : Holds x common
+  pub in_second : Holds y common
+
 -- exact sums, differences and products
 abbrev pub fraction_add : Fraction → Fraction → Fraction
 fraction_add a b = fraction (a.numerator *ℤ pos b.denominator +ℤ b.numerator *ℤ pos a.denominator) (a.denominator * b.denominator)
@@ -35,6 +42,14 @@ fraction_sub a b = fraction (a.numerator *ℤ pos b.denominator -ℤ b.numerator
 
 abbrev pub fraction_mul : Fraction → Fraction → Fraction
 fraction_mul a b = fraction (a.numerator *ℤ b.numerator) (a.denominator * b.denominator)
+
+-- r |r|
+abbrev pub fraction_signed_square : Fraction → Fraction
+fraction_signed_square r = fraction (signed_sq r.numerator) (r.denominator * r.denominator)
+
+-- 2 r / length
+abbrev pub fraction_scale : Fraction → ℕ → Fraction
+fraction_scale r length = fraction (pos 2 *ℤ r.numerator) (r.denominator * length)
 
 -- m * 10^q
 abbrev pub decimal : ℤ → ℤ → Fraction

@@ -1,4 +1,4 @@
--- Intervals, and the rules by which they are narrowed, added and multiplied.
+-- Intervals, and the rules by which one is made from others.
 -- Every rule rounds outward, low ends down and high ends up, and answers the same bits for the same operands.
 use Rattle.std.specs.Prelude.{ℕ, zero, suc, ◌+◌, ◌-◌, ◌*◌, ◌^◌, ◌<◌, min, Bool, true, false, ◌&&◌, nat_le, if◌then◌else◌, ◌≤◌, ◌≤ℤ◌, ℤ, pos, negsuc, ◌+ℤ◌, ◌-ℤ◌, ◌*ℤ◌, neg_ℤ, unsigned_abs}
 use Rattle.std.specs.Int.{int_min, int_max, int_gap}
@@ -100,9 +100,15 @@ lift x y = min (int_gap x.s y.s) lift_limit
 abbrev pub surplus : Interval → Interval → ℕ
 surplus x y = int_gap x.s y.s - lift_limit
 
+abbrev pub aligned_lower : Interval → Interval → Interval
+aligned_lower x y = raised (surplus x y) x
+
+abbrev pub aligned_upper : Interval → Interval → Interval
+aligned_upper x y = lowered (lift x y) y
+
 -- ---- the sum
 unfoldable pub sum_up : Interval → Interval → Interval
-sum_up x y = narrow ((raised (surplus x y) x).lo +ℤ (lowered (lift x y) y).lo) ((raised (surplus x y) x).hi +ℤ (lowered (lift x y) y).hi) (raised (surplus x y) x).s
+sum_up x y = narrow ((aligned_lower x y).lo +ℤ (aligned_upper x y).lo) ((aligned_lower x y).hi +ℤ (aligned_upper x y).hi) (aligned_lower x y).s
 
 abbrev pub is_zero : Interval → Bool
 is_zero t = zero_end t.lo && zero_end t.hi
@@ -110,6 +116,38 @@ is_zero t = zero_end t.lo && zero_end t.hi
 -- an interval of 0 alone changes nothing; else the ends are added at one exponent
 unfoldable pub sum : Interval → Interval → Interval
 sum x y = if is_zero x then y else (if is_zero y then x else (if le_z x.s y.s then sum_up x y else sum_up y x))
+
+-- ---- the difference: the sum with the second interval turned round 0
+abbrev pub negated : Interval → Interval
+negated x = interval (neg_ℤ x.hi) (neg_ℤ x.lo) x.s
+
+unfoldable pub difference : Interval → Interval → Interval
+difference x y = sum x (negated y)
+
+-- ---- join and meet, at one exponent: from the lesser low end to the greater high end, and from the greater low end
+-- to the lesser high end
+unfoldable pub join_up : Interval → Interval → Interval
+join_up x y = narrow (int_min (aligned_lower x y).lo (aligned_upper x y).lo) (int_max (aligned_lower x y).hi (aligned_upper x y).hi) (aligned_lower x y).s
+
+unfoldable pub join : Interval → Interval → Interval
+join x y = if le_z x.s y.s then join_up x y else join_up y x
+
+unfoldable pub meet_up : Interval → Interval → Interval
+meet_up x y = narrow (int_max (aligned_lower x y).lo (aligned_upper x y).lo) (int_min (aligned_lower x y).hi (aligned_upper x y).hi) (aligned_lower x y).s
+
+unfoldable pub meet : Interval → Interval → Interval
+meet x y = if le_z x.s y.s then meet_up x y else meet_up y x
+
+-- ---- the signed square x |x|, which grows with x
+abbrev pub signed_sq : ℤ → ℤ
+signed_sq z = z *ℤ pos (unsigned_abs z)
+
+unfoldable pub signed_square : Interval → Interval
+signed_square x = narrow (signed_sq x.lo) (signed_sq x.hi) (x.s +ℤ x.s)
+
+-- ---- 2 / length times the numbers: over a span of that length an argument goes from -1 to 1, by 2 / length a second
+unfoldable pub scale : ℤ → ℤ → ℤ → ℕ → Interval
+scale lo hi s length = narrow (floor_div (pos 2 *ℤ lo) length) (ceil_div (pos 2 *ℤ hi) length) s
 
 -- ---- m * 10^q at the exponent s: rounded down and up, and not narrowed, so that 0 keeps the exponent s
 -- m * 10^q * 2^(-s) = decimal_top / decimal_bottom

@@ -1,8 +1,8 @@
 // Worked values of each definition, by computation.
 
 ghost use Rattle.std.specs.Prelude.{◌≡◌, ◌+◌, ◌^◌, ◌+ℤ◌, pos, neg_ℤ};
-ghost use Rattle.spec_intervals.specs.Interval.{interval, floor_div, ceil_div, narrow, sum, product, from_decimal, distance_exponent, cosine_exponent};
-ghost use Rattle.spec_intervals.specs.Fraction.{Holds, fraction, fraction_add, decimal};
+ghost use Rattle.spec_intervals.specs.Interval.{interval, floor_div, ceil_div, narrow, sum, difference, product, join, meet, signed_square, scale, from_decimal, distance_exponent, cosine_exponent};
+ghost use Rattle.spec_intervals.specs.Fraction.{Holds, fraction, fraction_add, fraction_signed_square, fraction_scale, decimal};
 ghost use Rattle.spec_intervals.specs.Signs.{sign_of};
 ghost use Rattle.spec_intervals.specs.Chebyshev.{cleared_t, cleared_u};
 ghost use Rattle.spec_intervals.specs.declared.signs.Sign.TheVariants.{Yes, No, Open};
@@ -35,6 +35,34 @@ pub fn sums()
 pub fn products()
     ensures unlike_signs { product (interval (neg_ℤ (pos 3)) (pos 5) (pos 0)) (interval (neg_ℤ (pos 7)) (pos 2) (pos 1)) ≡ interval (neg_ℤ (pos 35)) (pos 21) (pos 1) }
     ensures by_zero { product (interval (pos 0) (pos 0) (pos 0)) (interval (pos 4) (pos 5) (pos 6)) ≡ interval (pos 0) (pos 0) (pos 0) }
+{}
+
+/// Subtracting turns the second interval round 0, also where the first is 0 alone.
+pub fn differences()
+    ensures near { difference (interval (neg_ℤ (pos 3)) (pos 5) (pos 0)) (interval (pos 1) (pos 2) (pos 4)) ≡ interval (neg_ℤ (pos 35)) (neg_ℤ (pos 11)) (pos 0) }
+    ensures from_zero { difference (interval (pos 0) (pos 0) (pos 0)) (interval (pos 1) (pos 2) (pos 4)) ≡ interval (neg_ℤ (pos 2)) (neg_ℤ (pos 1)) (pos 4) }
+    ensures zero_off { difference (interval (pos 1) (pos 2) (pos 4)) (interval (pos 0) (pos 0) distance_exponent) ≡ interval (pos 1) (pos 2) (pos 4) }
+{}
+
+/// The join reaches from the lesser low end to the greater high end, the meet the other way round.
+pub fn joins_and_meets()
+    ensures join { join (interval (pos 1) (pos 2) (pos 0)) (interval (neg_ℤ (pos 1)) (pos 1) (pos 1)) ≡ interval (neg_ℤ (pos 2)) (pos 2) (pos 0) }
+    ensures join_at_61 { join (interval (pos 3) (pos 5) (pos 0)) (interval (pos 1) (pos 1) (pos 61)) ≡ interval (pos 1) (pos (2 ^ 60)) (pos 1) }
+    ensures meet { meet (interval (pos 1) (pos 9) (pos 0)) (interval (pos 2) (pos 6) (pos 1)) ≡ interval (pos 4) (pos 9) (pos 0) }
+    ensures meet_at_one_number { meet (interval (pos 4) (pos 4) (pos 0)) (interval (pos 1) (pos 1) (pos 2)) ≡ interval (pos 4) (pos 4) (pos 0) }
+{}
+
+/// The signed square keeps the sign: from -3/2 to 5/2 it reaches from -9/4 to 25/4.
+pub fn signed_squares()
+    ensures both_signs { signed_square (interval (neg_ℤ (pos 3)) (pos 5) (neg_ℤ (pos 1))) ≡ interval (neg_ℤ (pos 9)) (pos 25) (neg_ℤ (pos 2)) }
+    ensures fraction { fraction_signed_square (fraction (neg_ℤ (pos 3)) 2) ≡ fraction (neg_ℤ (pos 9)) 4 }
+{}
+
+/// Two quarters of 7 and of 8, and of -7: 3.5 is rounded to 3 below, -3.5 to -4 below and to -3 above.
+pub fn scaled()
+    ensures above_zero { scale (pos 7) (pos 8) (pos 0) 4 ≡ interval (pos 3) (pos 4) (pos 0) }
+    ensures below_zero { scale (neg_ℤ (pos 7)) (neg_ℤ (pos 7)) (pos 0) 4 ≡ interval (neg_ℤ (pos 4)) (neg_ℤ (pos 3)) (pos 0) }
+    ensures fraction { fraction_scale (fraction (pos 7) 1) 4 ≡ fraction (pos 14) 4 }
 {}
 
 /// -0.1, 81, 0 and 1/2 at the exponents of distances and cosines: 0 keeps its exponent.

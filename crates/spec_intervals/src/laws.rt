@@ -1,8 +1,8 @@
 // What is true of the rules, whatever the numbers: each law is the contract of a function with nothing to do.
 
 ghost use Rattle.std.specs.Prelude.{◌≡◌, ℕ, ◌<◌, ◌≤ℤ◌, ◌<ℤ◌, ℤ, pos, true, false};
-ghost use Rattle.spec_intervals.specs.Interval.{Interval, IsIval, interval, fits_after, narrow_shift, narrow, sum, product, from_decimal};
-ghost use Rattle.spec_intervals.specs.Fraction.{Fraction, IsFraction, Holds, fraction_add, fraction_mul, decimal};
+ghost use Rattle.spec_intervals.specs.Interval.{Interval, IsIval, interval, fits_after, narrow_shift, narrow, sum, difference, product, join, meet, signed_square, scale, from_decimal};
+ghost use Rattle.spec_intervals.specs.Fraction.{Fraction, IsFraction, Holds, fraction_add, fraction_sub, fraction_mul, fraction_signed_square, fraction_scale, decimal};
 ghost use Rattle.spec_intervals.specs.Signs.{sign_of};
 ghost use Rattle.spec_intervals.specs.declared.signs.Sign.TheVariants.{Yes, No};
 
@@ -26,6 +26,32 @@ pub fn sum_holds()
 /// The product of two intervals holds the product of any two numbers that they hold.
 pub fn product_holds()
     ensures { (x y : Interval) (r t : Fraction) → Holds x r → Holds y t → Holds (product x y) (fraction_mul r t) }
+{}
+
+/// The difference of two intervals holds the difference of any two numbers that they hold.
+pub fn difference_holds()
+    ensures { (x y : Interval) (r t : Fraction) → Holds x r → Holds y t → Holds (difference x y) (fraction_sub r t) }
+{}
+
+/// The join holds whatever one of the two intervals holds.
+pub fn join_holds()
+    ensures first { (x y : Interval) (r : Fraction) → Holds x r → Holds (join x y) r }
+    ensures second { (x y : Interval) (r : Fraction) → Holds y r → Holds (join x y) r }
+{}
+
+/// The meet holds whatever both intervals hold.
+pub fn meet_holds()
+    ensures { (x y : Interval) (r : Fraction) → Holds x r → Holds y r → Holds (meet x y) r }
+{}
+
+/// The signed square of an interval holds r |r| of any number r that it holds.
+pub fn signed_square_holds()
+    ensures { (x : Interval) (r : Fraction) → Holds x r → Holds (signed_square x) (fraction_signed_square r) }
+{}
+
+/// A scaled interval holds 2 r / length of any number r between the ends.
+pub fn scale_holds()
+    ensures { (lo hi s : ℤ) (length : ℕ) (r : Fraction) → 0 < length → Holds (interval lo hi s) r → Holds (scale lo hi s length) (fraction_scale r length) }
 {}
 
 /// The interval of a decimal holds the decimal, at any exponent.

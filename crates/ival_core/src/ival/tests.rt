@@ -1,6 +1,8 @@
 // Worked values from an exact reference.
 
+ghost use Rattle.std.specs.Prelude.{pos};
 ghost use Rattle.spec_intervals.specs.Interval.{IsExponent};
+ghost use Rattle.spec_intervals.specs.Fraction.{Holds, fraction};
 
 use super::{Ival, Sign};
 use std::process::Abort;
@@ -11,6 +13,21 @@ fn made(rt: &impl Abort, numbers: (i128, i128, i32)) -> Ival
 {
     let (lo, hi, s) = numbers;
     assert!(rt; lo <= hi && -65536 <= s && s <= 65536);
+    let x = Ival::of(lo, hi, s);
+    let (_, _, exponent) = x.parts();
+    assert!(rt; -65536 <= exponent && exponent <= 65536);
+    x
+}
+
+/// The same of numbers round 0, so that two such intervals have a number in common.
+fn made_round_zero(rt: &impl Abort, numbers: (i128, i128, i32)) -> Ival
+    ensures exponent { IsExponent result.s }
+    ensures zero { Holds result (fraction (pos 0) 1) }
+{
+    let (lo, hi, s) = numbers;
+    assert!(rt; lo <= 0);
+    assert!(rt; 0 <= hi);
+    assert!(rt; -65536 <= s && s <= 65536);
     let x = Ival::of(lo, hi, s);
     let (_, _, exponent) = x.parts();
     assert!(rt; -65536 <= exponent && exponent <= 65536);
@@ -225,4 +242,191 @@ fn a_sign_is_told_where_all_numbers_have_it(rt: HostRuntime) {
         assert_eq!(rt; x.sign(), want, "the sign of {numbers:?}");
     }
     assert_eq!(rt; Ival::zero().sign(), Sign::Yes);
+}
+
+#[test]
+fn differences_are_those_of_the_reference(rt: HostRuntime) {
+    let rows = [
+        ((-1, 1, 5), (0, 0, 0), (-1, 1, 5)),
+        (
+            (0, 0, 0),
+            (-1, 2305843009213693952, -58),
+            (-2305843009213693952, 1, -58),
+        ),
+        (
+            (-2517535504047535676, 1, -24),
+            (-51, 2305843009213693952, -182),
+            (-2517535504047535677, 2, -24),
+        ),
+        (
+            (-4611686018427387904, 26, 5),
+            (0, 1, 233),
+            (-1152921504606846977, 1, 173),
+        ),
+        (
+            (-30, 4611686018427387904, 0),
+            (-1, 0, -24),
+            (-15, 2305843009213693953, 1),
+        ),
+        (
+            (330115094508092324, 330115094508092324, 95),
+            (-4611686018427387904, 0, 0),
+            (2640920756064738592, 2640920756064738593, 92),
+        ),
+        (
+            (-1, 0, 0),
+            (-4611686018427387904, -1, 0),
+            (0, 4611686018427387904, 0),
+        ),
+    ];
+    for (first, second, want) in rows {
+        let difference = made(&rt, first).sub(made(&rt, second));
+        assert_eq!(rt; difference.parts(), want, "{first:?} and {second:?}");
+    }
+}
+
+#[test]
+fn joins_are_those_of_the_reference(rt: HostRuntime) {
+    let rows = [
+        (
+            (-4449929276295673026, 1, -18),
+            (-37, 0, 21),
+            (-4449929276295673026, 1, -18),
+        ),
+        (
+            (-4611686018427387904, -4611686018427387904, -84),
+            (-1, 283505592423530418, 115),
+            (-16, 4536089478776486688, 111),
+        ),
+        ((0, 1, -176), (0, 1, 0), (0, 1152921504606846976, -60)),
+        (
+            (63, 2305843009213693952, 0),
+            (-23, -23, 0),
+            (-23, 2305843009213693952, 0),
+        ),
+        (
+            (-1, -1, -24),
+            (0, 2305843009213693952, -40),
+            (-65536, 2305843009213693952, -40),
+        ),
+        (
+            (1, 1, -84),
+            (1, 4611686018427387904, 20),
+            (0, 4611686018427387904, 20),
+        ),
+    ];
+    for (first, second, want) in rows {
+        let joined = made(&rt, first).join(made(&rt, second));
+        assert_eq!(rt; joined.parts(), want, "{first:?} and {second:?}");
+    }
+}
+
+#[test]
+fn meets_are_those_of_the_reference(rt: HostRuntime) {
+    let rows = [
+        ((-1, 0, -84), (-1, 3674972480306413568, -51), (-1, 0, -84)),
+        (
+            (-1784149255987894666, 2305843009213693952, -64),
+            (-1, 2305843009213693964, 5),
+            (-3484666515601357, 4503599627370496, -55),
+        ),
+        (
+            (-23, 4611686018427387904, 39),
+            (-12, 2305843009213693953, 40),
+            (-23, 4611686018427387904, 39),
+        ),
+        (
+            (-4611686018427387904, 1, -84),
+            (-1, 3822888174689735080, -3),
+            (-2199023255552, 1, -63),
+        ),
+        (
+            (0, 1, -14),
+            (-4611686018427387904, 557107634436436159, 5),
+            (0, 1, -14),
+        ),
+        (
+            (0, 4611686018427387904, 5),
+            (0, 2305843009213693953, 6),
+            (0, 4611686018427387904, 5),
+        ),
+    ];
+    for (first, second, want) in rows {
+        let met = made_round_zero(&rt, first).meet(made_round_zero(&rt, second));
+        assert_eq!(rt; met.parts(), want, "{first:?} and {second:?}");
+    }
+}
+
+#[test]
+fn signed_squares_are_those_of_the_reference(rt: HostRuntime) {
+    let rows = [
+        ((-1, 0, 0), (-1, 0, 0)),
+        (
+            (-3328034229942826194, 2305843009213693952, -24),
+            (-2401683850855062594, 1152921504606846976, 14),
+        ),
+        ((-98, -98, -203), (-9604, -9604, -406)),
+        (
+            (-4611686018427387904, -94, -55),
+            (-4611686018427387904, 0, -48),
+        ),
+        ((1, 80, -24), (1, 6400, -48)),
+        (
+            (2305843009213693952, 2305843009213693952, 5),
+            (4611686018427387904, 4611686018427387904, 70),
+        ),
+    ];
+    for (numbers, want) in rows {
+        let square = made(&rt, numbers).signed_square();
+        assert_eq!(rt; square.parts(), want, "the square of {numbers:?}");
+    }
+}
+
+#[test]
+fn shares_of_a_second_are_those_of_the_reference(rt: HostRuntime) {
+    let rows: [((i128, i128, i32), i64, (i128, i128, i32)); 7] = [
+        (
+            (-85070591730234615865843651857942052863, 0, -70),
+            1099511627776,
+            (-4611686018427387904, 0, -45),
+        ),
+        (
+            (-85070591730234615865843651857942052863, 1, -70),
+            534192108381,
+            (-2373023824837388508, 1, -43),
+        ),
+        (
+            (-1, 85070591730234615865843651857942052863, -74),
+            2,
+            (-1, 4611686018427387904, -10),
+        ),
+        (
+            (
+                4611686018427387904,
+                85070591730234615865843651857942052863,
+                -70,
+            ),
+            9223372036854775807,
+            (0, 2305843009213693953, -67),
+        ),
+        ((-2, -1, -74), 7, (-1, 0, -74)),
+        (
+            (-4611686018427387905, 4611686018427387905, -74),
+            579227286752,
+            (-15923580, 15923580, -74),
+        ),
+        (
+            (-1, 4611686018427387905, -74),
+            1,
+            (-1, 2305843009213693953, -72),
+        ),
+    ];
+    let most: i128 = 1 << 126;
+    for ((lo, hi, s), seconds, want) in rows {
+        assert!(rt;
+            -most < lo && lo <= hi && hi < most && -65536 <= s && s <= 65536 && seconds >= 1
+        );
+        let share = Ival::scale(lo, hi, s, seconds);
+        assert_eq!(rt; share.parts(), want, "{lo} to {hi} over {seconds}");
+    }
 }

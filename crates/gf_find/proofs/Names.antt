@@ -44,7 +44,7 @@ pub reports_not_refused : (words : List (List ℕ)) (files : Option Files) (mine
 reports_not_refused words files mine text asked reports name fault known refuses =
     let same = one_name words name mine refuses.asked asked in
     told_fault files mine reports.bytes reports.is_report.c0 reports.is_report.c1 fault known reports.told reports.small reports.is_report.form
-        (subst (λ (n : List ℕ). NamedFile files n (λ bs. HasFault bs fault)) same refuses.found)
+    (subst (λ (n : List ℕ). NamedFile files n (λ bs. HasFault bs fault)) same refuses.found)
 
 -- a file that is asked for isn't refused
 pub asks_not_refused : (words : List (List ℕ)) (files : Option Files) (mine : List ℕ) (fault : FileFault) → IsAskedFor words mine
@@ -52,7 +52,7 @@ pub asks_not_refused : (words : List (List ℕ)) (files : Option Files) (mine : 
 asks_not_refused words files mine fault asked found c0 c1 known asks =
     let same = one_name words mine asks.name asked asks.asked in
     told_fault files asks.name asks.bytes c0 c1 fault known asks.told asks.small asks.form
-        (subst (λ (n : List ℕ). NamedFile files n (λ bs. HasFault bs fault)) same found)
+    (subst (λ (n : List ℕ). NamedFile files n (λ bs. HasFault bs fault)) same found)
 
 -- and it is there
 pub asks_not_lacking : (words : List (List ℕ)) (files : Option Files) (mine : List ℕ) → IsAskedFor words mine → Lacks files mine

@@ -1,9 +1,10 @@
 -- One step over a line, and what it says of the rows and the lines that are left.
 use Rattle.std.proofs.Common.{◌≡◌, ℕ, true, false, List, [], ◌∷◌, ◌++◌, map, ap, sym, subst, ◌∙◌, inl, inr, refl, pos, Option, None, Some, IfSome, IfNone, IfOk, IfErr}
 use Rattle.std.specs.Option.{ok_or}
-use Rattle.spec_text.specs.Lines.{Numbered, TokenLine, tokens, token_line, is_too_long}
+use Rattle.spec_text.specs.Lines.{Numbered, TokenLine, tokens, is_too_long}
 use Rattle.spec_text.specs.declared.decimals.Decimal.{Decimal}
-use Rattle.spec_ephemeris.specs.OneBlock.{Cell, word, fixed_row, FitsRow, MeetCells, MeetsRow, MeetRows, LeavesRowsAt}
+use Rattle.spec_ephemeris.specs.OneBlock.{Cell, fixed_row, FitsRow, MeetCells, MeetsRow, MeetRows, LeavesRowsAt}
+use Rattle.spec_ephemeris.proofs.Rows.{words_meet, words_are}
 use Rattle.gf_find.specs.Form.{AnyPair, HasConstant, HasSlope, TakesLine, LacksLine, Leads, are_short}
 
 -- ---- rows of any cells
@@ -47,18 +48,6 @@ leads_on one next = record {
 }
 
 -- ---- rows of fixed words
-pub words_meet : (c0 c1 : Decimal) (words tokens : List (List ℕ)) → tokens ≡ words → MeetCells c0 c1 (map word words) tokens
-words_meet c0 c1 [] [] same = tt
-words_meet c0 c1 [] (token ∷ tokens) same = absurd (cc)
-words_meet c0 c1 (w ∷ words) [] same = absurd (cc)
-words_meet c0 c1 (w ∷ words) (token ∷ tokens) same = (cc, words_meet c0 c1 words tokens cc)
-
-pub words_are : (c0 c1 : Decimal) (words tokens : List (List ℕ)) → MeetCells c0 c1 (map word words) tokens → tokens ≡ words
-words_are c0 c1 [] [] meet = refl
-words_are c0 c1 [] (token ∷ tokens) meet = absurd meet
-words_are c0 c1 (w ∷ words) [] meet = absurd meet
-words_are c0 c1 (w ∷ words) (token ∷ tokens) meet = let rest = words_are c0 c1 words tokens meet.1 in let first : token ≡ w = meet.0 in (cc)
-
 nothing : Decimal
 nothing = record { mant = pos 0; exp = pos 0 }
 

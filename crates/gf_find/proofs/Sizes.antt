@@ -1,5 +1,5 @@
 -- A decimal is compared with 2^36, with its power of ten capped.
-use Rattle.std.proofs.Common.{◌≡◌, ℕ, zero, suc, ◌+◌, ◌*◌, ◌^◌, ◌<◌, ◌≤◌, ◌↔◌, min, lit<, refl, sym, ap, arith, inl, inr, pos, negsuc, ℤ, unsigned_abs, ◌<ℤ◌, ◌≤ℤ◌, IsTrue, nat_lt}
+use Rattle.std.proofs.Common.{◌≡◌, ℕ, zero, suc, ◌*◌, ◌^◌, ◌<◌, ◌≤◌, ◌↔◌, min, lit<, arith, inl, inr, pos, negsuc, ℤ, unsigned_abs, ◌<ℤ◌, ◌≤ℤ◌, IsTrue, nat_lt}
 use Rattle.std.proofs.lemmas.Bool.Decides.{nat_tests}
 use Rattle.std.proofs.lemmas.Bool.{cases_lt}
 use Rattle.std.proofs.lemmas.Int.{ints}

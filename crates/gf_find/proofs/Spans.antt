@@ -20,4 +20,4 @@ leaf_span c0 c1 l is = record {
 pub leaves_are_spans : (c0 c1 : Decimal) → All (λ (l : Leaf). IsSpan l.node) (leaves (rules c0 c1) root)
 leaves_are_spans c0 c1 =
     All-weaker (IsLeaf (rules c0 c1)) (λ (l : Leaf). IsSpan l.node) (leaf_span c0 c1) (leaves (rules c0 c1) root)
-        (leaves_are (rules c0 c1) (rules_are_sound c0 c1) root (root_is_valid c0 c1))
+    (leaves_are (rules c0 c1) (rules_are_sound c0 c1) root (root_is_valid c0 c1))

@@ -1,5 +1,5 @@
 -- Lines of three tokens, of which one is a coefficient and two are fixed words.
-use Rattle.std.proofs.Common.{◌≡◌, ℕ, List, [], ◌∷◌, Option, None, Some, IfNone, Result, Ok, length, ap, refl, subst}
+use Rattle.std.proofs.Common.{◌≡◌, ℕ, List, [], ◌∷◌, Option, None, Some, IfNone, Result, Ok, ap, refl, subst}
 use Rattle.std.specs.Prelude.{slice_get}
 use Rattle.spec_text.specs.declared.decimals.Decimal.{Decimal}
 use Rattle.spec_text.specs.declared.decimals.NumberFault.{NumberFault}

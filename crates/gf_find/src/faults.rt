@@ -39,7 +39,14 @@ fn add_named(text: &mut Vec<u8>, before: &[u8], name: &str, after: &[u8]) -> Res
     text.extend_from_slice(after)
 }
 
-fn add_place(text: &mut Vec<u8>, before: &[u8], name: &str, between: &[u8], line: u32, after: &[u8]) -> Result<(), AllocError>
+fn add_place(
+    text: &mut Vec<u8>,
+    before: &[u8],
+    name: &str,
+    between: &[u8],
+    line: u32,
+    after: &[u8],
+) -> Result<(), AllocError>
     ensures { OnOk result (text.new.items ≡ text.old.items ++ (before.now ++ name.now ++ between.now ++ decimal line ++ after.now)) }
 {
     add_named(text, before, name, between)?;
@@ -52,7 +59,14 @@ pub(crate) fn file_text(alloc: Global, name: &str, fault: FileFault) -> Result<V
     ensures { IfOk result (λ text. text.items ≡ file_text name.now fault) }
 {
     let mut text = Vec::new(alloc);
-    add_place(&mut text, b"finder: file ", name, b" line ", fault_line(fault), fault_name(fault))?;
+    add_place(
+        &mut text,
+        b"finder: file ",
+        name,
+        b" line ",
+        fault_line(fault),
+        fault_name(fault),
+    )?;
     Ok(text)
 }
 

@@ -58,6 +58,7 @@ const ZEROS: &[u8] = b"0.0 0.0 0.0
 // A coefficient is below this many km in size.
 const MOST_DISTANCE: u128 = 1 << 36;
 
+// The fixed texts, by calls whose clauses name them: so no proof above goes through their bytes.
 fn header() -> &'static [u8]
     ensures text { result.now ≡ header_text }
     ensures short { are_short (text_lines result.now) ≡ true }

@@ -143,7 +143,11 @@ fn line(constant: Ival, slope: Ival, low: i128, high: i128) -> Ival
     let (constant_low, constant_high, _) = constant.parts();
     let (slope_low, slope_high, _) = slope.parts();
     let (least, greatest) = product_ends(slope_low, slope_high, low, high);
-    Ival::of(added(constant_low, least), added(constant_high, greatest), -84)
+    Ival::of(
+        added(constant_low, least),
+        added(constant_high, greatest),
+        -84,
+    )
 }
 
 // Wider than one second.
@@ -168,7 +172,10 @@ fn is_told(sign: Sign) -> bool
 fn are_equal(one: Sign, other: Sign) -> bool
     ensures { result ≡ are_equal one other }
 {
-    matches!((one, other), (Sign::Yes, Sign::Yes) | (Sign::No, Sign::No) | (Sign::Open, Sign::Open))
+    matches!(
+        (one, other),
+        (Sign::Yes, Sign::Yes) | (Sign::No, Sign::No) | (Sign::Open, Sign::Open)
+    )
 }
 
 fn turn_to(sign: Sign) -> Turn

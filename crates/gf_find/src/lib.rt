@@ -15,3 +15,6 @@ mod walk;
 mod words;
 
 pub use top::finder;
+
+#[cfg(test)]
+mod tests;

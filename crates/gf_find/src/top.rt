@@ -111,14 +111,10 @@ fn put<O: Sink, E: Sink>(out: &mut O, err: &mut E, text: &[u8]) -> u8
 // Tells why there is no report, and answers the status.
 fn refuse<E: Sink>(alloc: Global, err: &mut E, name: &str, stop: Stop) -> u8
     ensures known { (result ≡ 3) ⊎ ((result ≡ 4) ⊎ (result ≡ 8)) }
-    ensures file {
-      result ≡ 3 → (fault : FileFault) × (stop ≡ Stop.File fault)
-        × IsTold (E.bytes err.old) (E.bytes err.new) (E.faults err.old) (E.faults err.new) (file_text name.now fault)
-    }
-    ensures read {
-      result ≡ 4 → (stop ≡ Stop.Read)
-        × IsTold (E.bytes err.old) (E.bytes err.new) (E.faults err.old) (E.faults err.new) (read_text name.now)
-    }
+    ensures file { result ≡ 3 → (fault : FileFault) × (stop ≡ Stop.File fault)
+        × IsTold (E.bytes err.old) (E.bytes err.new) (E.faults err.old) (E.faults err.new) (file_text name.now fault) }
+    ensures read { result ≡ 4 → (stop ≡ Stop.Read)
+        × IsTold (E.bytes err.old) (E.bytes err.new) (E.faults err.old) (E.faults err.new) (read_text name.now) }
     ensures memory { result ≡ 8 → IsTold (E.bytes err.old) (E.bytes err.new) (E.faults err.old) (E.faults err.new) memory_text }
 {
     match stop {

@@ -2,8 +2,8 @@
 ghost use Rattle.std.specs.Prelude.{◌≡◌, ◌-◌, ◌^◌, ◌∷◌, [], length, codes, pos, neg_ℤ};
 ghost use Rattle.spec_text.specs.Lines.{text_lines};
 ghost use Rattle.spec_ephemeris.specs.Series.{argument_at, position};
-ghost use Rattle.spec_ephemeris.specs.OneBlock.{block_start, block_end, word, fixed_rows, form, IsCoefficient, LeavesRowsAt};
-ghost use Rattle.spec_ephemeris.specs.Examples.{IsKm, whole, growing_x, parabola, rows_a_b};
+ghost use Rattle.spec_ephemeris.specs.OneBlock.{block_start, block_end, word, fixed_rows, form, HasForm, IsCoefficient, LeavesFormAt, LeavesRowsAt};
+ghost use Rattle.spec_ephemeris.specs.Examples.{IsKm, whole, growing_text, growing_x, parabola, rows_a_b};
 
 /// The argument of a block of 2,764,800 seconds runs from minus its length to its length, two for each second.
 pub fn arguments()
@@ -40,6 +40,13 @@ pub fn sizes_of_coefficients()
 pub fn lines_of_the_form()
     ensures lines { length form ≡ 26 }
     ensures words { fixed_rows (codes "GROUP   1010\n") ≡ (word (codes "GROUP") ∷ word (codes "1010") ∷ []) ∷ [] }
+{}
+
+/// A text of the form, with coefficients 0 km and 1,382,400 km, and two texts that leave it at once.
+pub fn texts_of_the_form()
+    ensures growing { HasForm growing_text (whole (pos 0)) (record { mant = pos 138240000000000000; exp = neg_ℤ (pos 11) }) }
+    ensures other_header { LeavesFormAt (codes "KSIZE= 50 NCOEFF= 25\n") 1 }
+    ensures empty { LeavesFormAt (codes "") 1 }
 {}
 
 /// Of two rows `A` and `B`: where the text leaves them.

@@ -8,7 +8,7 @@ mod laws;
 
 pub use examples::{
     arguments, lines_of_the_form, positions_on_a_line, positions_on_a_parabola,
-    sizes_of_coefficients, texts_that_leave_the_form,
+    sizes_of_coefficients, texts_of_the_form, texts_that_leave_the_form,
 };
 pub use laws::{
     coefficients_are_bounded, form_has_one_pair_of_coefficients, form_is_left_nowhere,

@@ -1,4 +1,4 @@
-use Rattle.std.proofs.Common.{◌≡◌, ◌∙◌, Some, sym, subst, rules}
+use Rattle.std.proofs.Common.{◌≡◌, Some, sym, subst, rules}
 use Rattle.std.specs.Prelude.{slice_get}
 use Rattle.spec_ephemeris.specs.OneBlock.{IsCoefficient}
 use Rattle.gf_find.proofs.Threes.{read_once}

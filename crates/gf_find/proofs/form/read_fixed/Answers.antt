@@ -1,8 +1,8 @@
-use Rattle.std.proofs.Common.{◌≡◌, ◌++◌, List, [], ℕ, map, ap, subst, sym, ◌∙◌, rules}
+use Rattle.std.proofs.Common.{◌++◌, List, ℕ, map, subst, sym, ◌∙◌, rules}
 use Rattle.std.proofs.lemmas.Result.{err_from_is_err_and}
 use Rattle.spec_text.specs.Lines.{Numbered}
 use Rattle.spec_ephemeris.specs.OneBlock.{Cell, fixed_row, fixed_rows, LeavesRowsAt}
-use Rattle.gf_find.specs.Form.{AnyPair, LacksLine, Leads}
+use Rattle.gf_find.specs.Form.{AnyPair, Leads}
 use Rattle.gf_find.proofs.RowSteps.{leads_on, fixed_leads, fixed_leaves, fixed_lacks, short_later, short_end}
 use Rattle.gf_find.proofs.form.read_fixed.Goals as goal
 

@@ -48,8 +48,8 @@ returns-in-Err-clause-undecided g c = λ c0 c1 asks. undecided _ _ c0 c1 asks
 pub returns-in-Err-clause-complete : goal.returns-in-Err-clause-complete
 returns-in-Err-clause-complete g c = λ c0 c1 known asks. elim c.refuse.ensures.known [
   | inl three ↦
-    let file = c.refuse.ensures.file three in
-    absurd (asks_not_refused _ _ _ file.0 c.in-Some.ensures.asked (c.in-Err.ensures.file file.0 (λ i. Err (file.1 i))) c0 c1 known asks)
+      let file = c.refuse.ensures.file three in
+      absurd (asks_not_refused _ _ _ file.0 c.in-Some.ensures.asked (c.in-Err.ensures.file file.0 (λ i. Err (file.1 i))) c0 c1 known asks)
   | inr other ↦ elim other [
     | inl four ↦ elim (c.in-Err.ensures.read (λ i. Err ((c.refuse.ensures.read four).0 i))) [
       | inl rose ↦ inr (inr (inl rose))

@@ -18,9 +18,9 @@ returns c =
     let low : SFits w128 c.argument_low.result = record { sfits = c.argument_low.type_inv } in
     let high : SFits w128 c.argument_high.result = record { sfits = c.argument_high.type_inv } in
     let low_is : to_z w128 (of_z w128 c.argument_low.result) ≡ floor_div (argument_at (mercury_x s.c0 s.c1) c.args.a *ℤ pos (2 ^ 60)) 2764800 =
-        to_z-of_z w128 c.argument_low.result low ∙ (c.argument_low.ensures.equals s.c0 s.c1 ∙ ap (λ (z : ℤ). floor_div (argument_at (mercury_x s.c0 s.c1) z *ℤ pos (2 ^ 60)) 2764800) (to_z-of_z w64 c.args.a a)) in
+    to_z-of_z w128 c.argument_low.result low ∙ (c.argument_low.ensures.equals s.c0 s.c1 ∙ ap (λ (z : ℤ). floor_div (argument_at (mercury_x s.c0 s.c1) z *ℤ pos (2 ^ 60)) 2764800) (to_z-of_z w64 c.args.a a)) in
     let high_is : to_z w128 (of_z w128 c.argument_high.result) ≡ ceil_div (argument_at (mercury_x s.c0 s.c1) c.args.b *ℤ pos (2 ^ 60)) 2764800 =
-        to_z-of_z w128 c.argument_high.result high ∙ (c.argument_high.ensures.equals s.c0 s.c1 ∙ ap (λ (z : ℤ). ceil_div (argument_at (mercury_x s.c0 s.c1) z *ℤ pos (2 ^ 60)) 2764800) (to_z-of_z w64 c.args.b b)) in
+    to_z-of_z w128 c.argument_high.result high ∙ (c.argument_high.ensures.equals s.c0 s.c1 ∙ ap (λ (z : ℤ). ceil_div (argument_at (mercury_x s.c0 s.c1) z *ℤ pos (2 ^ 60)) 2764800) (to_z-of_z w64 c.args.b b)) in
     let line_is : c.line.result ≡ line s.constant s.slope (argument (mercury_x s.c0 s.c1) c.args.a c.args.b) =
-        c.line.ensures ∙ λ i. line s.constant s.slope (interval (low_is i) (high_is i) (neg_ℤ (pos 60))) in
+    c.line.ensures ∙ λ i. line s.constant s.slope (interval (low_is i) (high_is i) (neg_ℤ (pos 60))) in
     c.sign.ensures ∙ ap sign_of (line_is ∙ λ i. line (s.constant_is i) (s.slope_is i) (argument (mercury_x s.c0 s.c1) c.args.a c.args.b))

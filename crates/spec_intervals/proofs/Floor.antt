@@ -1,11 +1,11 @@
 -- Division rounded down and up.
 use Rattle.std.proofs.Common.{◌≡◌, ℕ, zero, suc, ◌+◌, ◌*◌, ◌/◌, ◌<◌, ◌≤◌, arith, refl, ap, ◌∙◌, [], ◌∷◌, ℤ, pos, negsuc, ◌+ℤ◌, ◌-ℤ◌, ◌*ℤ◌, neg_ℤ, ◌≤ℤ◌, ◌<ℤ◌, ◌&&◌, true, unsigned_abs}
-use Rattle.std.proofs.lemmas.Int.{ints}
+use Rattle.std.proofs.lemmas.Int.{ints, by_lt_z}
 use Rattle.std.proofs.Math.Nat.{div-div-eq-div-mul, div-mul-le_self, lt-div-mul-add, div-lt_iff_lt-mul}
 use Rattle.std.proofs.Math.IntN.{neg_ℤ-neg_ℤ}
 use Rattle.spec_intervals.specs.Interval.{end_limit, floor_div, ceil_div, is_small}
-use Rattle.spec_intervals.proofs.Ring.{v, ◌⊗◌, ring, minus}
-use Rattle.spec_intervals.proofs.Order.{lin, le-mul_cancel}
+use Rattle.spec_intervals.proofs.Ring.{v, ◌⊕◌, ◌⊗◌, ring, minus}
+use Rattle.spec_intervals.proofs.Order.{lin, le-mul, le-mul_cancel}
 use Rattle.std.proofs.lemmas.Bool.Decides.{nat_tests}
 
 pub floor_div-twice : (z : ℤ) (d e : ℕ) → floor_div (floor_div z d) e ≡ floor_div z (d * e)
@@ -61,3 +61,37 @@ ordered_quotients lo hi d p h =
     let a : (floor_div lo d *ℤ pos d) ≤ℤ lo = floor_div-le lo d p in
     let b : hi ≤ℤ (ceil_div hi d *ℤ pos d) = ceil_div-ge hi d p in
     le-mul_cancel (floor_div lo d) (ceil_div hi d) d p (omega (arith, lin))
+
+-- the quotient rounded up is that rounded down where nothing is left, and else the next
+ceil_div-lt : (z : ℤ) (d : ℕ) → 0 < d → (ceil_div z d *ℤ pos d) <ℤ (z +ℤ pos d)
+ceil_div-lt z d h =
+    let p : neg_ℤ z <ℤ (floor_div (neg_ℤ z) d *ℤ pos d +ℤ pos d) = floor_div-lt (neg_ℤ z) d h in
+    let e : neg_ℤ (floor_div (neg_ℤ z) d) *ℤ pos d ≡ neg_ℤ (floor_div (neg_ℤ z) d *ℤ pos d) = ring (floor_div (neg_ℤ z) d ∷ pos d ∷ []) (minus (v 0) ⊗ v 1) (minus (v 0 ⊗ v 1)) tt in
+    rw e (omega (arith, lin))
+
+lt-mul_cancel : (a b : ℤ) (d : ℕ) → (a *ℤ pos d) <ℤ (b *ℤ pos d) → a <ℤ b
+lt-mul_cancel a b d h = by_lt_z a b (λ p. p) (λ q. let g : (b *ℤ pos d) ≤ℤ (a *ℤ pos d) = le-mul b a (pos d) (omega (arith, lin)) q in absurd (omega (arith, lin)))
+
+more : (a : ℤ) (k d : ℕ) → (a +ℤ pos k) *ℤ pos d ≡ a *ℤ pos d +ℤ pos (k * d)
+more a k d = ring (a ∷ pos k ∷ pos d ∷ []) ((v 0 ⊕ v 1) ⊗ v 2) (v 0 ⊗ v 2 ⊕ v 1 ⊗ v 2) tt
+
+pub ceil_div-exact : (z : ℤ) (d : ℕ) → 0 < d → floor_div z d *ℤ pos d ≡ z → ceil_div z d ≡ floor_div z d
+ceil_div-exact z d h e =
+    let a : z ≤ℤ (ceil_div z d *ℤ pos d) = ceil_div-ge z d h in
+    let b : (ceil_div z d *ℤ pos d) <ℤ (z +ℤ pos d) = ceil_div-lt z d h in
+    let m : (floor_div z d +ℤ pos 1) *ℤ pos d ≡ floor_div z d *ℤ pos d +ℤ pos (1 * d) = more (floor_div z d) 1 d in
+    let p : floor_div z d ≤ℤ ceil_div z d = le-mul_cancel (floor_div z d) (ceil_div z d) d h (omega (arith, lin)) in
+    let q : ceil_div z d <ℤ (floor_div z d +ℤ pos 1) = lt-mul_cancel (ceil_div z d) (floor_div z d +ℤ pos 1) d (omega (arith, lin)) in
+    omega (arith, lin)
+
+pub ceil_div-next : (z : ℤ) (d : ℕ) → 0 < d → (floor_div z d *ℤ pos d ≡ z → ⊥) → ceil_div z d ≡ floor_div z d +ℤ pos 1
+ceil_div-next z d h n =
+    let f : (floor_div z d *ℤ pos d) ≤ℤ z = floor_div-le z d h in
+    let g : z <ℤ (floor_div z d *ℤ pos d +ℤ pos d) = floor_div-lt z d h in
+    let a : z ≤ℤ (ceil_div z d *ℤ pos d) = ceil_div-ge z d h in
+    let b : (ceil_div z d *ℤ pos d) <ℤ (z +ℤ pos d) = ceil_div-lt z d h in
+    let l : (floor_div z d *ℤ pos d) <ℤ z = by_lt_z (floor_div z d *ℤ pos d) z (λ p. p) (λ q. absurd (n (omega (arith, lin)))) in
+    let m : (floor_div z d +ℤ pos 2) *ℤ pos d ≡ floor_div z d *ℤ pos d +ℤ pos (2 * d) = more (floor_div z d) 2 d in
+    let p : floor_div z d <ℤ ceil_div z d = lt-mul_cancel (floor_div z d) (ceil_div z d) d (omega (arith, lin)) in
+    let q : ceil_div z d <ℤ (floor_div z d +ℤ pos 2) = lt-mul_cancel (ceil_div z d) (floor_div z d +ℤ pos 2) d (omega (arith, lin)) in
+    omega (arith, lin)

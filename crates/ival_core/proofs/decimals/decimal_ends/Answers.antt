@@ -48,15 +48,13 @@ returns-else-exp-ge0-clause-low c =
     let d = (goal.at.returns-else-exp-ge0-clause-low c).After-unsigned_abs-n in
     let q = c.ranges.exp in
     let f : SFits w128 c.at_exponent-scaled.result = record { sfits = c.at_exponent-scaled.type_inv } in
-    let g : SFits w128 c.floor_tenths.result = record { sfits = c.floor_tenths.type_inv } in
-    let e : c.floor_tenths.result ≡ floor_div c.at_exponent-scaled.result (10 ^ c.unsigned_abs-n.result) = simp to_z-of_z at c.floor_tenths.ensures.equals in
-    to_z-of_z w128 c.floor_tenths.result g ∙ (e ∙ rw (scaled_is d, power_is d) (sym (tenths-low c.args.mant c.args.exp c.args.s c.requires.below (omega (arith, ints)))))
+    let e : c.tenths.result.0 ≡ floor_div c.at_exponent-scaled.result (10 ^ c.unsigned_abs-n.result) = simp to_z-of_z at c.tenths.ensures.low in
+    e ∙ rw (scaled_is d, power_is d) (sym (tenths-low c.args.mant c.args.exp c.args.s c.requires.below (omega (arith, ints))))
 
 pub returns-else-exp-ge0-clause-high : goal.returns-else-exp-ge0-clause-high
 returns-else-exp-ge0-clause-high c =
     let d = (goal.at.returns-else-exp-ge0-clause-high c).After-unsigned_abs-n in
     let q = c.ranges.exp in
     let f : SFits w128 c.at_exponent-scaled.result = record { sfits = c.at_exponent-scaled.type_inv } in
-    let g : SFits w128 c.ceil_tenths.result = record { sfits = c.ceil_tenths.type_inv } in
-    let e : c.ceil_tenths.result ≡ ceil_div c.at_exponent-scaled.result (10 ^ c.unsigned_abs-n.result) = simp to_z-of_z at c.ceil_tenths.ensures in
-    to_z-of_z w128 c.ceil_tenths.result g ∙ (e ∙ rw (scaled_is d, power_is d) (sym (tenths-high c.args.mant c.args.exp c.args.s c.requires.below (omega (arith, ints)))))
+    let e : c.tenths.result.1 ≡ ceil_div c.at_exponent-scaled.result (10 ^ c.unsigned_abs-n.result) = simp to_z-of_z at c.tenths.ensures.high in
+    e ∙ rw (scaled_is d, power_is d) (sym (tenths-high c.args.mant c.args.exp c.args.s c.requires.below (omega (arith, ints))))

@@ -1,5 +1,5 @@
 -- What is true of the windows of a file of the form that is read, and of the words that ask for them.
-use Rattle.std.proofs.Common.{◌≡◌, ℕ, List, [], ◌∷◌, ◌++◌, Option, Some, ap, sym, ◌∙◌, subst}
+use Rattle.std.proofs.Common.{ℕ, List, Option}
 use Rattle.spec_text.specs.Lines.{text_lines}
 use Rattle.spec_text.specs.declared.decimals.Decimal.{Decimal}
 use Rattle.spec_ephemeris.specs.OneBlock.{HasForm, IsCoefficient, block_end, block_start, fixed_rows, header_text, zeros_text}

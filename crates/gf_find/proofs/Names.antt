@@ -1,14 +1,12 @@
 -- The words name one file, and what is told of it is of one kind.
-use Rattle.std.proofs.Common.{◌≡◌, ◌<◌, ◌≤◌, ◌⊎◌, inl, inr, ℕ, List, [], ◌∷◌, ◌++◌, Option, None, Some, IsSome, IsSomeAnd, length, get_or, ap, sym, ◌∙◌, subst, arith}
+use Rattle.std.proofs.Common.{◌≡◌, ◌≤◌, ℕ, List, [], Option, None, Some, IsSome, IsSomeAnd, length, get_or, ap, sym, ◌∙◌, subst, arith}
 use Rattle.spec_text.specs.declared.decimals.Decimal.{Decimal}
-use Rattle.spec_ephemeris.specs.OneBlock.{HasForm, LeavesFormAt}
+use Rattle.spec_ephemeris.specs.OneBlock.{HasForm}
 use Rattle.spec_ephemeris.proofs.Rows.{meets_or_leaves}
-use Rattle.spec_events.specs.LineSearch.{found_windows}
-use Rattle.gf_edges.specs.Edges.{Files, Lacks, Rose, file_of}
+use Rattle.gf_edges.specs.Edges.{Files, Lacks, file_of}
 use Rattle.spec_output.specs.Words.{IsAskedFor}
 use Rattle.spec_output.specs.Files.{IsFile, NamedFile}
 use Rattle.spec_output.specs.Answers.{Asks, HasFault, RefusesFile}
-use Rattle.spec_output.specs.Report.{report}
 use Rattle.spec_output.specs.declared.faults.FileFault.{FileFault}
 use Rattle.spec_output.specs.declared.faults.FileFault.TheVariants.{TooLarge, NotBuilt}
 use Rattle.gf_find.specs.Reports.{Reports}

@@ -1,5 +1,5 @@
 -- The leaves of the block are spans within it.
-use Rattle.std.proofs.Common.{◌≡◌, List, All, subst, sym, arith}
+use Rattle.std.proofs.Common.{All, arith}
 use Rattle.std.proofs.lemmas.Int.{ints}
 use Rattle.std.proofs.lemmas.List.Elements.{All-weaker}
 use Rattle.spec_text.specs.declared.decimals.Decimal.{Decimal}

@@ -1,5 +1,5 @@
 -- What a walk over leaves asks of each.
-use Rattle.std.specs.Prelude.{ℤ, pos, negsuc, ◌^◌, ◌-◌, ◌≤ℤ◌, ◌<ℤ◌}
+use Rattle.std.specs.Prelude.{pos, negsuc, ◌^◌, ◌-◌, ◌≤ℤ◌, ◌<ℤ◌}
 use Rattle.spec_events.specs.declared.tree.Node.{Node}
 
 -- it has some time, and its ends are within 2^50

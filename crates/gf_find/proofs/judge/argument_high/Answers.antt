@@ -1,5 +1,5 @@
-use Rattle.std.proofs.Common.{◌≡◌, ◌*ℤ◌, ◌^◌, ◌∙◌, ap, pos, to_z, of_z, w64, ℤ, arith}
-use Rattle.std.proofs.lemmas.Int.{ints, to_z-of_z}
+use Rattle.std.proofs.Common.{◌≡◌, ◌*ℤ◌, ◌^◌, ◌∙◌, ap, pos, w64, ℤ}
+use Rattle.std.proofs.lemmas.Int.{to_z-of_z}
 use mir.Syntax.{w128}
 use mir.Val.{SFits}
 use Rattle.spec_ephemeris.specs.OneBlock.{mercury_x}

@@ -1,4 +1,4 @@
-use Rattle.std.proofs.Common.{◌≡◌, inl, inr, ◌∙◌, List, ℕ, Err, subst}
+use Rattle.std.proofs.Common.{inl, inr, ◌∙◌, List, ℕ, Err, subst}
 use Rattle.std.specs.Io.KnownBytes.{Appends}
 use Rattle.spec_output.specs.Files.{AppendsSome}
 use Rattle.gf_find.proofs.Findings.{in_order, every_event, certain, undecided}

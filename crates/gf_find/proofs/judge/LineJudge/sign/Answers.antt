@@ -4,7 +4,7 @@ use mir.Syntax.{w128}
 use mir.Val.{SFits}
 use Rattle.spec_ephemeris.specs.OneBlock.{mercury_x}
 use Rattle.spec_ephemeris.specs.Series.{argument_at}
-use Rattle.spec_intervals.specs.Interval.{Interval, ceil_div, floor_div, interval}
+use Rattle.spec_intervals.specs.Interval.{ceil_div, floor_div, interval}
 use Rattle.spec_intervals.specs.Signs.{sign_of}
 use Rattle.spec_events.specs.LineSearch.{argument, line}
 use Rattle.gf_find.proofs.judge.LineJudge.sign.Goals as goal

@@ -1,5 +1,5 @@
 -- What a run answers to its words and files, and the cause of each refusal.
-use Rattle.std.specs.Prelude.{◌≡◌, ◌⊎◌, ℕ, ◌<◌, ◌≤◌, List, length, Option}
+use Rattle.std.specs.Prelude.{◌⊎◌, ℕ, ◌<◌, ◌≤◌, List, length, Option}
 use Rattle.spec_text.specs.declared.decimals.Decimal.{Decimal}
 use Rattle.spec_text.specs.declared.limits.TheConstants.{MOST_TEXT_BYTES}
 use Rattle.spec_ephemeris.specs.OneBlock.{HasForm, LeavesFormAt}

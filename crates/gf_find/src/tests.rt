@@ -145,7 +145,7 @@ fn faults_are_told(rt: HostRuntime) -> Result<(), Fail> {
             4,
             "finder: read fault b\n",
         ),
-        (FIND, 0, 4096, 3, "finder: file a line 18: 7 NotBuilt\n"),
+        (FIND, 0, 4096, 3, "finder: file a line 1: 7 NotBuilt\n"),
         (FIND, 0, 10, 3, "finder: fi"),
     ];
     for (line, shelf_fails, err_room, status, told) in cases {
@@ -154,12 +154,25 @@ fn faults_are_told(rt: HostRuntime) -> Result<(), Fail> {
             out_fails: 0,
             err_room,
         };
-        let text = &HEADER.as_bytes()[..259];
-        let run = run(alloc, line, text.to_vec(alloc)?, &outside)?;
+        let mut text = b"KSIZE= 50 NCOEFF= 25".to_vec(alloc)?;
+        text.extend_from_slice(&HEADER.as_bytes()[20..])?;
+        let run = run(alloc, line, text, &outside)?;
         assert_eq!(rt; run.status, status, "{told}");
         assert!(rt; run.out.is_empty());
         assert_eq!(rt; run.err.as_slice(), told.as_bytes());
     }
+    Ok(())
+}
+
+#[test]
+fn a_text_that_ends_early_is_told(rt: HostRuntime) -> Result<(), Fail> {
+    let alloc = rt.alloc();
+    let run = run(alloc, FIND, HEADER.as_bytes()[..259].to_vec(alloc)?, &SOUND)?;
+    assert_eq!(rt; run.status, 3);
+    assert_eq!(rt;
+        run.err.as_slice(),
+        b"finder: file a line 18: 7 NotBuilt\n".as_slice()
+    );
     Ok(())
 }
 

@@ -1,3 +1,4 @@
 pub mod Series
+pub mod Header
 pub mod OneBlock
 pub mod Examples

@@ -3,14 +3,24 @@
 //! at each time.
 #![tactic(auto)]
 
+mod body;
 mod examples;
+mod header;
 mod laws;
+mod limits;
 
+pub use body::Body;
 pub use examples::{
     arguments, lines_of_the_form, positions_on_a_line, positions_on_a_parabola,
     sizes_of_coefficients, texts_that_leave_the_form,
 };
+pub use header::{Column, Columns, Header};
 pub use laws::{
     coefficients_are_bounded, form_has_one_pair_of_coefficients, form_is_left_nowhere,
     form_is_left_once,
+};
+pub use limits::{
+    BODY_COLUMNS, COLUMNS, DAY, FEWEST_NUMBERS, FIRST_PLACE, FIRST_TIME, GREATEST_MASS_RATIO,
+    LAST_TIME, LEAST_MASS_RATIO, LONGEST_BLOCK, MOST_BLOCKS, MOST_COEFFICIENTS, MOST_NUMBERS,
+    NUTATIONS, SHORTEST_BLOCK,
 };

@@ -1,0 +1,167 @@
+// The checked ephemeris.
+ghost use Rattle.std.specs.Prelude.{◌≡◌, ◌<◌, ◌≤◌, ◌≤ℤ◌, ◌<ℤ◌, pos, neg_ℤ, OnOk, OnErr, IsTrue, length, unsigned_abs};
+ghost use Rattle.spec_ephemeris.specs.declared.limits.TheConstants.{MOST_BLOCKS};
+ghost use Rattle.spec_ephemeris.specs.Header.{IsHeader, IsColumn, has_column};
+ghost use Rattle.spec_ephemeris.specs.Ephemeris.{IsStart, IsBlock, IsEphemeris, empty_ephemeris, with_block, end_of, IsGranuleAt, block_numbers, granule_numbers};
+ghost use Rattle.eph_model.specs.Grids.{IsGridOf};
+
+use crate::granules::{
+    Granule, column_of, components, granule_seconds, is_present, numbers_at, present_column,
+};
+use crate::grid::Grid;
+use spec_ephemeris::{Column, Header};
+use spec_text::Decimal;
+use std::alloc::{AllocError, Global};
+use std::marker::Model;
+use thiserror::Error;
+
+/// Memory ran out.
+#[derive(Debug, Drop, Error)]
+#[error("out of memory")]
+pub struct Memory;
+
+impl From<AllocError> for Memory {
+    fn from(_: AllocError) -> Self {
+        Memory
+    }
+}
+
+/// A header that meets the rules, the time at which the first block begins, and the numbers of the blocks, each of
+/// which begins where the one before it ends. Times are seconds of TDB since J2000.
+#[derive(Drop)]
+pub struct Ephemeris {
+    header: Header,
+    start: i64,
+    blocks: u32,
+    numbers: Vec<Decimal>,
+}
+
+impl Model for Ephemeris {
+    ghost use Rattle.spec_ephemeris.specs.Ephemeris.{Ephemeris, IsEphemeris};
+
+    ghost Value = { Ephemeris };
+
+    ghost view = { λ e. record { header = e.header; start = e.start; blocks = e.blocks; numbers = e.numbers.items } };
+
+    ghost invariant = { λ e. IsEphemeris (record { header = e.header; start = e.start; blocks = e.blocks; numbers = e.numbers.items }) };
+}
+
+impl Ephemeris {
+    /// An ephemeris with no block, whose first block will begin at `start`.
+    pub fn empty(alloc: Global, header: Header, start: i64) -> Self
+        requires header { IsHeader header }
+        requires start { IsStart start }
+        ensures { result ≡ empty_ephemeris header start }
+    {
+        Ephemeris {
+            header,
+            start,
+            blocks: 0,
+            numbers: Vec::new(alloc),
+        }
+    }
+
+    /// Adds one block of as many numbers as the header says, after the last. After `Memory` nothing has changed.
+    pub fn push_block(&mut self, numbers: &[Decimal]) -> Result<(), Memory>
+        requires block { IsBlock self.old.header numbers.now }
+        requires room { self.old.blocks < MOST_BLOCKS }
+        ensures added { OnOk result (self.new ≡ with_block self.old numbers.now) }
+        ensures memory { OnErr result (self.new ≡ self.old) }
+    {
+        self.numbers.extend_from_slice(numbers)?;
+        self.blocks += 1;
+        Ok(())
+    }
+
+    /// The time at which the first block begins.
+    pub fn start(&self) -> i64
+        ensures { result ≡ self.now.start }
+    {
+        self.start
+    }
+
+    /// The time at which the last block ends.
+    pub fn end(&self) -> i64
+        ensures { result ≡ end_of self.now }
+    {
+        self.start + i64::from(self.blocks) * self.header.block_seconds
+    }
+
+    /// The number of blocks.
+    pub fn blocks(&self) -> u32
+        ensures { result ≡ self.now.blocks }
+    {
+        self.blocks
+    }
+
+    /// The header.
+    pub fn header(&self) -> &Header
+        ensures same { result.now ≡ self.now.header }
+        ensures checked { IsEphemeris self.now }
+    {
+        &self.header
+    }
+
+    /// Whether the ephemeris has the column, counted from 1 in the order of the header.
+    pub fn has(&self, column: usize) -> bool
+        ensures { result ≡ has_column self.now.header column }
+    {
+        match column_of(self.header.columns.as_slice(), column) {
+            Some(column) => is_present(column),
+            None => false,
+        }
+    }
+
+    // The granules of a column.
+    fn grid(&self, column: usize) -> Grid
+        requires { IsTrue (has_column self.now.header column) }
+        ensures { IsGridOf self.now column result }
+    {
+        let place = present_column(self.header.columns.as_slice(), column);
+        let granules = u64::from(place.granules);
+        let seconds = granule_seconds(self.header.block_seconds, place.granules);
+        let count = u64::from(self.blocks) * granules;
+        Grid {
+            start: self.start,
+            seconds,
+            granules,
+            count,
+        }
+    }
+
+    /// The granule of a column at a time, with its coefficients: the granule that begins at the time or is the last to
+    /// begin before it. The time at which the last block ends belongs to the last granule. Columns are counted from 1.
+    pub fn granule(&self, column: usize, t: i64) -> Granule<'_>
+        requires present { IsTrue (has_column self.now.header column) }
+        requires block { 0 < self.now.blocks }
+        requires from { self.now.start ≤ℤ t }
+        requires upto { t ≤ℤ end_of self.now }
+        ensures granule { IsGranuleAt self.now column t (record { start = result.start; duration = unsigned_abs result.seconds; coefs = result.coefs.now }) }
+    {
+        let grid = self.grid(column);
+        let index = grid.index_at(t);
+        let place = present_column(self.header.columns.as_slice(), column);
+        let comps = components(column);
+        let (block, inner) = (index / grid.granules, index % grid.granules);
+        Granule {
+            start: grid.time_of(index),
+            seconds: grid.seconds as i64,
+            n: place.coefs as usize,
+            comps,
+            coefs: self.granule_numbers(column, place, block as usize, inner as usize),
+        }
+    }
+
+    // The numbers of a granule of a block, both counted from 0.
+    fn granule_numbers(&self, number: usize, column: Column, block: usize, inner: usize) -> &[Decimal]
+        requires present { IsColumn self.now.header number column }
+        requires block { block < self.now.blocks }
+        requires inner { inner < column.granules }
+        ensures { result.now ≡ granule_numbers number column inner (block_numbers self.now block) }
+    {
+        let ncoeff = self.header.ncoeff as usize;
+        let size = components(number) * column.coefs as usize;
+        let first = column.start as usize - 1 + inner * size;
+        numbers_at(&self.numbers, ncoeff, block, first, size)
+    }
+}

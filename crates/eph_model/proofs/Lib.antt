@@ -1,2 +1,6 @@
 pub mod Pushing
 pub mod Rules
+pub mod GridLemmas
+pub mod BorderLemmas
+pub mod Nearer
+pub mod ColumnBorders

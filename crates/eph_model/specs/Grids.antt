@@ -1,7 +1,6 @@
 -- The borders of a grid.
 use Rattle.std.specs.Prelude.{◌≡◌, ℕ, ◌*◌, ◌<◌, ℤ, pos, ◌+ℤ◌, ◌<ℤ◌, ◌≤ℤ◌}
 use Rattle.spec_ephemeris.specs.Header.{IsColumn}
-use Rattle.spec_ephemeris.specs.declared.header.Column.{Column}
 use Rattle.spec_ephemeris.specs.Ephemeris.{Ephemeris}
 use Rattle.eph_model.specs.declared.grid.Grid.{Grid}
 
@@ -20,9 +19,7 @@ pub record IsGridBorder (g : Grid) (a b t : ℤ) : Type 0 where
 
 -- the grid is that of a column of the ephemeris
 pub record IsGridOf (e : Ephemeris) (number : ℕ) (g : Grid) : Type 0 where
-  pub column : Column
-  pub is : IsColumn e.header number column
+  pub column : IsColumn e.header number g.column
   pub start : g.start ≡ e.start
-  pub granules : g.granules ≡ column.granules
-  pub shares : e.header.block_seconds ≡ pos (g.seconds * g.granules)
-  pub count : g.count ≡ e.blocks * g.granules
+  pub shares : e.header.block_seconds ≡ pos (g.seconds * g.column.granules)
+  pub count : g.count ≡ e.blocks * g.column.granules

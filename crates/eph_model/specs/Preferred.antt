@@ -1,11 +1,10 @@
 -- The nearer to the middle of two times that may be there.
-use Rattle.std.specs.Prelude.{◌≡◌, ℕ, ◌^◌, nat_lt, ◌==◌, Bool, ◌&&◌, ◌||◌, if◌then◌else◌, Option, None, Some, ℤ, pos, neg_ℤ, ◌<ℤ◌, ◌≤ℤ◌}
-use lib.Signed.{le_z}
+use Rattle.std.specs.Prelude.{◌≡◌, ℕ, ◌^◌, nat_lt, ◌==◌, Bool, ◌&&◌, ◌||◌, if◌then◌else◌, Option, None, Some, ℤ, pos, neg_ℤ, ◌<ℤ◌, ◌≤ℤ◌, int_le}
 use Rattle.spec_ephemeris.specs.Ephemeris.{off_middle}
 
 -- a test of `IsPreferred`
 abbrev pub is_preferred : ℤ → ℤ → ℤ → ℤ → Bool
-is_preferred a b t s = nat_lt (off_middle a b t) (off_middle a b s) || ((off_middle a b t == off_middle a b s) && le_z t s)
+is_preferred a b t s = nat_lt (off_middle a b t) (off_middle a b s) || ((off_middle a b t == off_middle a b s) && int_le t s)
 
 -- of two times that may be there the one that is preferred
 abbrev pub preferred : ℤ → ℤ → Option ℤ → Option ℤ → Option ℤ

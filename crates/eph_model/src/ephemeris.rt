@@ -1,10 +1,11 @@
 // The checked ephemeris.
-ghost use Rattle.std.specs.Prelude.{◌≡◌, ◌<◌, ◌≤◌, ◌≤ℤ◌, ◌<ℤ◌, pos, neg_ℤ, OnOk, OnErr, IsTrue, length, unsigned_abs};
+ghost use Rattle.std.specs.Prelude.{◌≡◌, ◌<◌, ◌≤◌, ◌≤ℤ◌, ◌<ℤ◌, pos, neg_ℤ, OnOk, OnErr, All, IsTrue, length, unsigned_abs};
 ghost use Rattle.spec_ephemeris.specs.declared.limits.TheConstants.{MOST_BLOCKS};
 ghost use Rattle.spec_ephemeris.specs.Header.{IsHeader, IsColumn, has_column};
-ghost use Rattle.spec_ephemeris.specs.Ephemeris.{IsStart, IsBlock, IsEphemeris, empty_ephemeris, with_block, end_of, IsGranuleAt, block_numbers, granule_numbers};
+ghost use Rattle.spec_ephemeris.specs.Ephemeris.{IsStart, IsBlock, IsEphemeris, empty_ephemeris, with_block, end_of, IsGranuleAt, IsNearestBorder, block_numbers, granule_numbers};
 ghost use Rattle.eph_model.specs.Grids.{IsGridOf};
 
+use crate::borders::preferred;
 use crate::granules::{
     Granule, column_of, components, granule_seconds, is_present, numbers_at, present_column,
 };
@@ -117,14 +118,13 @@ impl Ephemeris {
         requires { IsTrue (has_column self.now.header column) }
         ensures { IsGridOf self.now column result }
     {
-        let place = present_column(self.header.columns.as_slice(), column);
-        let granules = u64::from(place.granules);
-        let seconds = granule_seconds(self.header.block_seconds, place.granules);
-        let count = u64::from(self.blocks) * granules;
+        let column = present_column(self.header.columns.as_slice(), column);
+        let seconds = granule_seconds(self.header.block_seconds, column.granules);
+        let count = u64::from(self.blocks) * u64::from(column.granules);
         Grid {
+            column,
             start: self.start,
             seconds,
-            granules,
             count,
         }
     }
@@ -140,16 +140,33 @@ impl Ephemeris {
     {
         let grid = self.grid(column);
         let index = grid.index_at(t);
-        let place = present_column(self.header.columns.as_slice(), column);
-        let comps = components(column);
-        let (block, inner) = (index / grid.granules, index % grid.granules);
+        let granules = u64::from(grid.column.granules);
+        let (block, inner) = ((index / granules) as usize, (index % granules) as usize);
         Granule {
             start: grid.time_of(index),
             seconds: grid.seconds as i64,
-            n: place.coefs as usize,
-            comps,
-            coefs: self.granule_numbers(column, place, block as usize, inner as usize),
+            n: grid.column.coefs as usize,
+            comps: components(column),
+            coefs: self.granule_numbers(column, grid.column, block, inner),
         }
+    }
+
+    /// Of the borders of the given columns in (a, b] the one that is nearest to the middle of a and b, and the smaller of
+    /// two that are as near. None where no border lies there. A border of a column is a time at which any of its
+    /// granules but the first begins. Columns are counted from 1.
+    pub fn border_near(&self, columns: &[usize], a: i64, b: i64) -> Option<i64>
+        requires present { All (λ column. IsTrue (has_column self.now.header column)) columns.now }
+        requires from { self.now.start ≤ℤ a }
+        requires order { a <ℤ b }
+        requires upto { b ≤ℤ end_of self.now }
+        ensures { IsNearestBorder self.now columns.now a b result }
+    {
+        let mut nearest = None;
+        for &column in columns {
+            let own = self.grid(column).border_near(a, b);
+            nearest = preferred(nearest, own, a, b);
+        }
+        nearest
     }
 
     // The numbers of a granule of a block, both counted from 0.

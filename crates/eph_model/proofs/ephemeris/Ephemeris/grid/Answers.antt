@@ -1,11 +1,8 @@
-
-
 use Rattle.eph_model.proofs.Rules.{shared}
 use Rattle.eph_model.proofs.ephemeris.Ephemeris.grid.Goals as goal
 
--- src/ephemeris.rt:125:23
 pub granule_seconds-seconds-requires-clause-shared :
     goal.granule_seconds-seconds-requires-clause-shared
 granule_seconds-seconds-requires-clause-shared c =
-    shared c.self.inside.header c.args.column c.present_column-place.result c.self.invariant.header
-    (record { listed = rw c.as_slice.ensures at c.present_column-place.ensures.listed; present = c.present_column-place.ensures.present })
+    shared c.self.inside.header c.args.column c.present_column-column.result c.self.invariant.header
+    (record { listed = rw c.as_slice.ensures at c.present_column-column.ensures.listed; present = c.present_column-column.ensures.present })

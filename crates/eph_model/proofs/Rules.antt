@@ -5,6 +5,7 @@ use mir.Val.{to_z, of_z}
 use mir.Syntax.{w64}
 use Rattle.spec_ephemeris.specs.declared.header.Column.{Column}
 use Rattle.spec_ephemeris.specs.declared.header.Header.{Header}
+use Rattle.spec_ephemeris.specs.declared.limits.TheConstants.{MOST_COEFFICIENTS}
 use Rattle.spec_ephemeris.specs.Header.{IsHeader, IsColumn, IsShared, MeetsColumnRules, granule_size, column_size, components, is_present}
 use Rattle.spec_ephemeris.specs.Ephemeris.{Ephemeris, IsEphemeris}
 
@@ -19,3 +20,9 @@ shared h number c header is =
     let high = header.longest in
     let same : to_z w64 (of_z w64 h.block_seconds) ≡ h.block_seconds = omega (arith, ints, low, high) in
     rw same ((header.columns number c is).granules)
+
+-- a present column has from 1 to 32 coefficients
+pub few : (h : Header) (number : ℕ) (c : Column) → IsHeader h → IsColumn h number c → (1 ≤ c.coefs) × (c.coefs ≤ MOST_COEFFICIENTS)
+few h number c header is =
+    let present = is.present in
+    (grind (arith, present), (header.columns number c is).coefficients)

@@ -1,8 +1,8 @@
 // The checked ephemeris.
-ghost use Rattle.std.specs.Prelude.{◌≡◌, ◌<◌, ◌≤◌, ◌≤ℤ◌, ◌<ℤ◌, pos, neg_ℤ, OnOk, OnErr, All, IsTrue, length, unsigned_abs};
-ghost use Rattle.spec_ephemeris.specs.declared.limits.TheConstants.{MOST_BLOCKS};
-ghost use Rattle.spec_ephemeris.specs.Header.{IsHeader, IsColumn, has_column};
-ghost use Rattle.spec_ephemeris.specs.Ephemeris.{IsStart, IsBlock, IsEphemeris, empty_ephemeris, with_block, end_of, IsGranuleAt, IsNearestBorder, block_numbers, granule_numbers};
+ghost use Rattle.std.specs.Prelude.{◌≡◌, ◌*◌, ◌^◌, ◌<◌, ◌≤◌, ◌≤ℤ◌, ◌<ℤ◌, pos, neg_ℤ, OnOk, OnErr, All, IfSome, IsTrue, length, unsigned_abs};
+ghost use Rattle.spec_ephemeris.specs.declared.limits.TheConstants.{BODY_COLUMNS, MOST_BLOCKS, MOST_COEFFICIENTS};
+ghost use Rattle.spec_ephemeris.specs.Header.{IsHeader, IsColumn, column_at, components, granule_size, has_column};
+ghost use Rattle.spec_ephemeris.specs.Ephemeris.{IsStart, IsBlock, IsBodyNumber, IsEphemeris, empty_ephemeris, with_block, end_of, IsGranuleAt, IsNearestBorder, block_numbers, granule_numbers};
 ghost use Rattle.eph_model.specs.Grids.{IsGridOf};
 
 use crate::borders::preferred;
@@ -116,7 +116,8 @@ impl Ephemeris {
     // The granules of a column.
     fn grid(&self, column: usize) -> Grid
         requires { IsTrue (has_column self.now.header column) }
-        ensures { IsGridOf self.now column result }
+        ensures grid { IsGridOf self.now column result }
+        ensures coefficients { (1 ≤ result.column.coefs) × (result.column.coefs ≤ MOST_COEFFICIENTS) }
     {
         let column = present_column(self.header.columns.as_slice(), column);
         let seconds = granule_seconds(self.header.block_seconds, column.granules);
@@ -137,6 +138,13 @@ impl Ephemeris {
         requires from { self.now.start ≤ℤ t }
         requires upto { t ≤ℤ end_of self.now }
         ensures granule { IsGranuleAt self.now column t (record { start = result.start; duration = unsigned_abs result.seconds; coefs = result.coefs.now }) }
+        ensures coefficients { IfSome (column_at self.now.header.columns column) (λ c. result.n ≡ c.coefs) }
+        ensures components { result.comps ≡ components column }
+        ensures count { length result.coefs.now ≡ result.comps * result.n }
+        ensures few { (1 ≤ result.n) × (result.n ≤ 32) }
+        ensures duration { (pos 1 ≤ℤ result.seconds) × (result.seconds ≤ℤ pos (2 ^ 40)) }
+        ensures start { (neg_ℤ (pos (2 ^ 50)) ≤ℤ result.start) × (result.start ≤ℤ pos (2 ^ 50)) }
+        ensures bodies { column ≤ BODY_COLUMNS → All IsBodyNumber result.coefs.now }
     {
         let grid = self.grid(column);
         let index = grid.index_at(t);
@@ -174,7 +182,9 @@ impl Ephemeris {
         requires present { IsColumn self.now.header number column }
         requires block { block < self.now.blocks }
         requires inner { inner < column.granules }
-        ensures { result.now ≡ granule_numbers number column inner (block_numbers self.now block) }
+        ensures numbers { result.now ≡ granule_numbers number column inner (block_numbers self.now block) }
+        ensures count { length result.now ≡ granule_size number column }
+        ensures bodies { number ≤ BODY_COLUMNS → All IsBodyNumber result.now }
     {
         let ncoeff = self.header.ncoeff as usize;
         let size = components(number) * column.coefs as usize;

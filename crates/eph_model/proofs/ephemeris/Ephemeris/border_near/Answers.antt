@@ -16,7 +16,7 @@ preferred-nearest-requires-clause-first c =
     let same_b : to_z w64 (of_z w64 c.args.b) ≡ c.args.b = to_z-of_z w64 c.args.b c.ranges.b in
     rw (same_a, same_b)
     (short (IsBorderIn c.args.self.now (take c.loop-column.column-index c.args.columns.now) c.args.a c.args.b) c.args.self.now _ c.grid.result c.args.a c.args.b
-        c.loop-column.nearest c.grid.ensures c.requires.from c.requires.upto (λ s border. (border.after, border.upto)) (rw (same_a, same_b) at c.loop-column.invariant))
+        c.loop-column.nearest c.grid.ensures.grid c.requires.from c.requires.upto (λ s border. (border.after, border.upto)) (rw (same_a, same_b) at c.loop-column.invariant))
 
 pub preferred-nearest-requires-clause-second : goal.preferred-nearest-requires-clause-second
 preferred-nearest-requires-clause-second c =
@@ -24,17 +24,17 @@ preferred-nearest-requires-clause-second c =
     let same_b : to_z w64 (of_z w64 c.args.b) ≡ c.args.b = to_z-of_z w64 c.args.b c.ranges.b in
     rw (same_a, same_b)
     (short (IsGridBorder c.grid.result c.args.a c.args.b) c.args.self.now _ c.grid.result c.args.a c.args.b
-        c.border_near-own.result c.grid.ensures c.requires.from c.requires.upto (λ s border. (border.border.after, border.border.upto)) (rw (same_a, same_b) at c.border_near-own.ensures))
+        c.border_near-own.result c.grid.ensures.grid c.requires.from c.requires.upto (λ s border. (border.border.after, border.border.upto)) (rw (same_a, same_b) at c.border_near-own.ensures))
 
 pub loop-column-preserved : goal.loop-column-preserved
 loop-column-preserved c =
     rw c.preferred-nearest.ensures
     (one_more c.args.self.now c.args.columns.now c.loop-column.column-index c.grid.result _ _ c.loop-column.nearest c.border_near-own.result
-        c.loop-column-test.true c.grid.ensures c.loop-column.invariant c.border_near-own.ensures)
+        c.loop-column-test.true c.grid.ensures.grid c.loop-column.invariant c.border_near-own.ensures)
 
 pub border_near-own-requires-clause-upto : goal.border_near-own-requires-clause-upto
 border_near-own-requires-clause-upto c =
-    let last = ends c.args.self.now _ c.grid.result c.grid.ensures in
+    let last = ends c.args.self.now _ c.grid.result c.grid.ensures.grid in
     rw (← last) (omega (arith, ints, c.requires.upto))
 
 pub returns : goal.returns

@@ -1,6 +1,5 @@
 -- The borders of a grid are those of its column, and the nearest border of one column more.
-use Rattle.std.proofs.Common.{◌≡◌, ◌⊎◌, ℕ, ◌+◌, ◌*◌, ◌/◌, ◌%◌, ◌^◌, ◌<◌, ◌≤◌, List, [], ◌∷◌, ◌++◌, length, take, slice_index_or, Option, Some, None, ℤ, pos, neg_ℤ, ◌+ℤ◌, ◌<ℤ◌, ◌≤ℤ◌, refl, arith, inl, inr, ap, subst, sym, ◌∙◌}
-use Rattle.std.specs.Prelude.{Contains}
+use Rattle.std.proofs.Common.{◌≡◌, ℕ, ◌+◌, ◌*◌, ◌/◌, ◌%◌, ◌<◌, ◌≤◌, List, [], ◌∷◌, ◌++◌, length, take, slice_index_or, Option, Some, None, ℤ, pos, ◌+ℤ◌, ◌<ℤ◌, ◌≤ℤ◌, refl, arith, inl, inr, sym, ◌∙◌}
 use Rattle.std.proofs.lemmas.Int.{ints}
 use Rattle.std.proofs.lemmas.Nat.{mul-le}
 use Rattle.std.proofs.lemmas.Bool.{cases_lt}
@@ -12,8 +11,8 @@ use Rattle.spec_ephemeris.specs.declared.header.Header.{Header}
 use Rattle.spec_ephemeris.specs.Header.{IsColumn}
 use Rattle.spec_ephemeris.specs.Ephemeris.{Ephemeris, Granule, IsGranule, IsBorder, IsBorderIn, IsNearest, end_of, granule_numbers, block_numbers}
 use Rattle.eph_model.specs.declared.grid.Grid.{Grid}
-use Rattle.eph_model.specs.Grids.{IsGridOf, IsBorderAt, IsGridBorder}
-use Rattle.eph_model.specs.Preferred.{preferred, IsShort, IsShortAt}
+use Rattle.eph_model.specs.Grids.{IsGridOf, IsGridBorder}
+use Rattle.eph_model.specs.Preferred.{preferred, IsShort}
 use Rattle.eph_model.proofs.GridLemmas.{at_index, ends}
 use Rattle.eph_model.proofs.Pushing.{block_fits}
 use Rattle.eph_model.proofs.Nearer.{nearest_of_two, same, IsCovered}
@@ -50,8 +49,9 @@ of_column e number g a b s is border =
 
 not_first : (index seconds : ℕ) (start s : ℤ) → s ≡ start +ℤ pos (index * seconds) → start <ℤ s → 0 < index
 not_first index seconds start s is later = elim (cases_lt 0 index) [
-    | inl some ↦ some
-    | inr none ↦ (let nothing : index * seconds ≤ 0 * seconds = mul-le index seconds 0 seconds none (omega arith) in absurd (omega (arith, ints, nothing, is, later))) ]
+  | inl some ↦ some
+  | inr none ↦ (let nothing : index * seconds ≤ 0 * seconds = mul-le index seconds 0 seconds none (omega arith) in absurd (omega (arith, ints, nothing, is, later)))
+]
 
 -- a border of the column is one of the grid
 pub of_grid : (e : Ephemeris) (number : ℕ) (g : Grid) (a b s : ℤ) → IsGridOf e number g → a <ℤ s → s ≤ℤ b → IsBorder e number s → IsGridBorder g a b s
@@ -83,8 +83,9 @@ none_yet e a b = λ s border. let some = border.listed.1 in absurd (omega (arith
 one_of : (e : Ephemeris) (columns : List ℕ) (number : ℕ) (g : Grid) (a b s : ℤ) → IsGridOf e number g
     → IsBorderIn e (columns ++ number ∷ []) a b s → IsCovered (IsBorderIn e columns a b) (IsGridBorder g a b) a b s
 one_of e columns number g a b s is border = elim (Contains-push_cases columns number border.number border.listed) [
-    | inl earlier ↦ inl (s, record { number = border.number; listed = earlier; border = border.border; after = border.after; upto = border.upto }, same a b s)
-    | inr last ↦ inr (s, of_grid e number g a b s is border.after border.upto (rw (← last) at border.border), same a b s) ]
+  | inl earlier ↦ inl (s, record { number = border.number; listed = earlier; border = border.border; after = border.after; upto = border.upto }, same a b s)
+  | inr last ↦ inr (s, of_grid e number g a b s is border.after border.upto (rw (← last) at border.border), same a b s)
+]
 
 -- the nearest border of one column more
 pub one_more : (e : Ephemeris) (columns : List ℕ) (i : ℕ) (g : Grid) (a b : ℤ) (x y : Option ℤ) → i < length columns
@@ -94,9 +95,9 @@ one_more e columns i g a b x y within is one other =
     let number : ℕ = slice_index_or columns i 0 in
     let more : take (i + 1) columns ≡ take i columns ++ number ∷ [] = take_more columns i 0 within in
     rw more (nearest_of_two (IsBorderIn e (take i columns) a b) (IsGridBorder g a b) (IsBorderIn e (take i columns ++ number ∷ []) a b) a b x y one other
-        (λ s border. record { number = border.number; listed = Contains-append_left (take i columns) (number ∷ []) border.number border.listed; border = border.border; after = border.after; upto = border.upto })
-        (λ s border. record { number = number; listed = Contains-push (take i columns) number; border = of_column e number g a b s is border; after = border.border.after; upto = border.border.upto })
-        (λ s border. one_of e (take i columns) number g a b s is border))
+    (λ s border. record { number = border.number; listed = Contains-append_left (take i columns) (number ∷ []) border.number border.listed; border = border.border; after = border.after; upto = border.upto })
+    (λ s border. record { number = number; listed = Contains-push (take i columns) number; border = of_column e number g a b s is border; after = border.border.after; upto = border.border.upto })
+    (λ s border. one_of e (take i columns) number g a b s is border))
 
 -- times in a span of the ephemeris are far from the ends of 64 bits
 pub short : (P : ℤ → Type 0) (e : Ephemeris) (number : ℕ) (g : Grid) (a b : ℤ) (o : Option ℤ) → IsGridOf e number g

@@ -1,11 +1,11 @@
 -- A granule's numbers stand within its block, and those of a body are bounded.
-use Rattle.std.proofs.Common.{◌≡◌, ℕ, zero, suc, ◌+◌, ◌-◌, ◌*◌, ◌<◌, ◌≤◌, List, [], ◌∷◌, length, take, drop, slice_index_or, Option, Some, None, refl, arith, ap, subst, sym, ◌∙◌, length-take-le, length-drop, get_or-take, get_or-drop}
+use Rattle.std.proofs.Common.{◌≡◌, ℕ, zero, suc, ◌+◌, ◌-◌, ◌*◌, ◌<◌, ◌≤◌, List, [], ◌∷◌, length, take, drop, slice_index_or, Some, refl, arith, ◌∙◌, length-take-le, length-drop, get_or-take, get_or-drop}
 use Rattle.std.specs.Prelude.{All, slice_get}
 use Rattle.spec_text.specs.declared.decimals.Decimal.{Decimal}
 use Rattle.spec_ephemeris.specs.declared.header.Column.{Column}
 use Rattle.spec_ephemeris.specs.declared.limits.TheConstants.{BODY_COLUMNS}
-use Rattle.spec_ephemeris.specs.Header.{IsHeader, IsColumn, Takes, granule_size, column_size, components}
-use Rattle.spec_ephemeris.specs.Ephemeris.{Ephemeris, IsEphemeris, IsBodyNumber, AreBodiesBounded, block_numbers, granule_numbers}
+use Rattle.spec_ephemeris.specs.Header.{IsColumn, Takes, granule_size}
+use Rattle.spec_ephemeris.specs.Ephemeris.{Ephemeris, IsEphemeris, IsBodyNumber, block_numbers, granule_numbers}
 use Rattle.eph_model.proofs.Pushing.{block_fits}
 
 -- the run of a list from `first` on lies within it

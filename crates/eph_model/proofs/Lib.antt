@@ -5,3 +5,4 @@ pub mod BorderLemmas
 pub mod Nearer
 pub mod ColumnBorders
 pub mod GranuleNumbers
+pub mod SmallNumbers

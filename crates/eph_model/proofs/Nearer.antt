@@ -1,7 +1,7 @@
 -- The order in which times are preferred, and the better of two times that may be there.
-use Rattle.std.proofs.Common.{◌≡◌, ◌⊎◌, ◌≢◌, ℕ, ◌+◌, ◌*◌, ◌<◌, ◌≤◌, nat_lt, ◌==◌, Bool, true, false, ◌&&◌, ◌||◌, if◌then◌else◌, Option, Some, None, ℤ, pos, ◌+ℤ◌, ◌-ℤ◌, ◌≤ℤ◌, ◌<ℤ◌, int_le, unsigned_abs, arith, inl, inr, refl, sym, ◌∙◌, IsTrue, ap, subst}
+use Rattle.std.proofs.Common.{◌≡◌, ◌⊎◌, ℕ, ◌<◌, ◌≤◌, nat_lt, ◌==◌, Bool, true, false, ◌&&◌, ◌||◌, if◌then◌else◌, Option, Some, None, ℤ, ◌≤ℤ◌, int_le, arith, inl, inr, refl, ◌∙◌}
 use Rattle.std.proofs.lemmas.Int.{ints}
-use Rattle.std.proofs.lemmas.Bool.{cases_lt, cases_Bool}
+use Rattle.std.proofs.lemmas.Bool.{cases_lt}
 use Rattle.spec_ephemeris.specs.Ephemeris.{off_middle, IsPreferred, IsNearest}
 use Rattle.eph_model.specs.Preferred.{is_preferred, preferred}
 
@@ -30,8 +30,9 @@ same a b t = inr (refl, omega (arith, ints))
 
 pub nearer : (a b t s : ℤ) → off_middle a b t ≤ off_middle a b s → (off_middle a b s ≤ off_middle a b t → t ≤ℤ s) → IsPreferred a b t s
 nearer a b t s no_farther no_later = elim (cases_lt (off_middle a b t) (off_middle a b s)) [
-    | inl closer ↦ inl closer
-    | inr as_far ↦ inr (omega (arith, no_farther, as_far), no_later as_far) ]
+  | inl closer ↦ inl closer
+  | inr as_far ↦ inr (omega (arith, no_farther, as_far), no_later as_far)
+]
 
 -- what may be there is there, and preferred to s
 abbrev pub IsBest : ℤ → ℤ → Option ℤ → ℤ → Type 0

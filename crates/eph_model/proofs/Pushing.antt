@@ -1,12 +1,12 @@
 -- One block more keeps an ephemeris checked.
-use Rattle.std.proofs.Common.{◌≡◌, ℕ, ◌+◌, ◌-◌, ◌*◌, ◌<◌, ◌≤◌, List, ◌++◌, length, take, drop, ap, subst, sym, ◌∙◌, arith, length-append, length-drop, drop_at, take_all, ◌⊎◌, inl, inr}
+use Rattle.std.proofs.Common.{◌≡◌, ℕ, ◌+◌, ◌*◌, ◌<◌, ◌≤◌, List, ◌++◌, length, take, drop, ap, subst, sym, ◌∙◌, arith, length-append, length-drop, drop_at, take_all, ◌⊎◌, inl, inr}
 use Rattle.std.proofs.lemmas.List.{take-append-le, drop-append-le}
 use Rattle.std.proofs.lemmas.Nat.{mul-le}
 use Rattle.std.proofs.lemmas.Bool.{cases_lt}
 use Rattle.spec_text.specs.declared.decimals.Decimal.{Decimal}
 use Rattle.spec_ephemeris.specs.declared.header.Header.{Header}
 use Rattle.spec_ephemeris.specs.declared.limits.TheConstants.{MOST_BLOCKS}
-use Rattle.spec_ephemeris.specs.Ephemeris.{Ephemeris, IsEphemeris, IsBlock, AreBodiesBounded, block_numbers, with_block}
+use Rattle.spec_ephemeris.specs.Ephemeris.{Ephemeris, IsEphemeris, IsBlock, AreBodiesBounded, with_block}
 
 -- the numbers of block k of n numbers a block
 abbrev of_block : {X : Type 0} → ℕ → ℕ → List X → List X

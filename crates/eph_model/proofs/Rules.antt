@@ -1,12 +1,12 @@
 -- What the rules of a header say of a present column.
-use Rattle.std.proofs.Common.{◌≡◌, ℕ, ◌+◌, ◌*◌, ◌^◌, ◌<◌, ◌≤◌, ℤ, pos, ◌≤ℤ◌, ◌<ℤ◌, arith, IsTrue, nat_lt}
-use Rattle.std.proofs.lemmas.Int.{ints, to_z-of_z}
+use Rattle.std.proofs.Common.{◌≡◌, ℕ, ◌≤◌, arith}
+use Rattle.std.proofs.lemmas.Int.{ints}
 use mir.Val.{to_z, of_z}
 use mir.Syntax.{w64}
 use Rattle.spec_ephemeris.specs.declared.header.Column.{Column}
 use Rattle.spec_ephemeris.specs.declared.header.Header.{Header}
 use Rattle.spec_ephemeris.specs.declared.limits.TheConstants.{MOST_COEFFICIENTS}
-use Rattle.spec_ephemeris.specs.Header.{IsHeader, IsColumn, IsShared, MeetsColumnRules, granule_size, column_size, components, is_present}
+use Rattle.spec_ephemeris.specs.Header.{IsHeader, IsColumn, IsShared, MeetsColumnRules}
 use Rattle.spec_ephemeris.specs.Ephemeris.{Ephemeris, IsEphemeris}
 
 -- a present column meets the rules

@@ -1,5 +1,5 @@
 -- The nearer to the middle of two times that may be there.
-use Rattle.std.specs.Prelude.{◌≡◌, ℕ, ◌^◌, nat_lt, ◌==◌, Bool, ◌&&◌, ◌||◌, if◌then◌else◌, Option, None, Some, ℤ, pos, neg_ℤ, ◌<ℤ◌, ◌≤ℤ◌, int_le}
+use Rattle.std.specs.Prelude.{◌^◌, nat_lt, ◌==◌, Bool, ◌&&◌, ◌||◌, if◌then◌else◌, Option, None, Some, ℤ, pos, neg_ℤ, ◌<ℤ◌, ◌≤ℤ◌, int_le}
 use Rattle.spec_ephemeris.specs.Ephemeris.{off_middle}
 
 -- a test of `IsPreferred`

@@ -178,7 +178,13 @@ impl Ephemeris {
     }
 
     // The numbers of a granule of a block, both counted from 0.
-    fn granule_numbers(&self, number: usize, column: Column, block: usize, inner: usize) -> &[Decimal]
+    fn granule_numbers(
+        &self,
+        number: usize,
+        column: Column,
+        block: usize,
+        inner: usize,
+    ) -> &[Decimal]
         requires present { IsColumn self.now.header number column }
         requires block { block < self.now.blocks }
         requires inner { inner < column.granules }

@@ -50,11 +50,7 @@ pub(crate) fn present_column(columns: &[Column], number: usize) -> Column
 pub(crate) fn components(number: usize) -> usize
     ensures { result ≡ components number }
 {
-    if number == NUTATIONS {
-        2
-    } else {
-        3
-    }
+    if number == NUTATIONS { 2 } else { 3 }
 }
 
 // The length of each of the granules that share a block.

@@ -9,6 +9,8 @@ mod borders;
 mod ephemeris;
 mod granules;
 mod grid;
+#[cfg(test)]
+mod tests;
 
 pub use ephemeris::{Ephemeris, Memory};
 pub use granules::Granule;

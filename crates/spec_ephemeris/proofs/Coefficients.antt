@@ -1,5 +1,5 @@
 -- The coefficients of a text that has the form: each is read from one token.
-use Rattle.std.proofs.Common.{◌≡◌, ℕ, List, [], ◌∷◌, ◌++◌, Ok, ℤ, neg_ℤ, pos, ◌≤ℤ◌, arith}
+use Rattle.std.proofs.Common.{◌≡◌, ℕ, List, [], ◌∷◌, ◌++◌, Ok, arith}
 use Rattle.std.proofs.lemmas.Int.{ints}
 use Rattle.spec_text.specs.Lines.{Numbered, tokens}
 use Rattle.spec_text.specs.Reading.{Reads}

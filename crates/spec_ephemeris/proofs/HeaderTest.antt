@@ -1,11 +1,10 @@
 -- A test of a header's rules that computes.
-use Rattle.std.proofs.Common.{◌≡◌, ℕ, zero, suc, ◌+◌, ◌*◌, ◌/◌, ◌%◌, ◌<◌, ◌≤◌, ◌==◌, nat_lt, nat_le, Bool, true, false, not, ◌&&◌, ◌||◌, IsTrue, List, [], ◌∷◌, length, slice_get, Option, Some, None, ℤ, pos, ◌≤ℤ◌, int_le, unsigned_abs, refl, sym, ◌∙◌, ap, subst, arith}
+use Rattle.std.proofs.Common.{◌≡◌, ℕ, zero, suc, ◌+◌, ◌/◌, ◌%◌, ◌<◌, ◌==◌, nat_le, Bool, true, false, not, ◌&&◌, ◌||◌, IsTrue, List, [], ◌∷◌, length, slice_get, Some, None, pos, ◌≤ℤ◌, int_le, unsigned_abs, refl, subst, arith}
 use Rattle.std.proofs.lemmas.Nat.{div-add-mod'}
 use Rattle.std.proofs.lemmas.Int.{ints}
-use Rattle.std.proofs.lemmas.Bool.{cases_lt}
 use Rattle.spec_ephemeris.specs.declared.header.Column.{Column}
 use Rattle.spec_ephemeris.specs.declared.header.Header.{Header}
-use Rattle.spec_ephemeris.specs.Header.{IsColumn, IsHeader, IsMassRatio, IsShared, MeetsColumnRules, AreApart, Takes, column_at, column_size, is_present}
+use Rattle.spec_ephemeris.specs.Header.{IsColumn, IsHeader, IsMassRatio, MeetsColumnRules, AreApart, column_size, is_present}
 
 -- the rules of one column, where it is present
 abbrev pub column_test : Header → ℕ → Column → Bool

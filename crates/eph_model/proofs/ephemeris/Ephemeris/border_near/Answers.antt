@@ -1,7 +1,7 @@
-use Rattle.std.proofs.Common.{arith, ◌≡◌, length, take, drop, to_z, of_z, w64}
+use Rattle.std.proofs.Common.{arith, ◌≡◌, take, to_z, of_z, w64}
 use Rattle.std.proofs.lemmas.Int.{ints, to_z-of_z}
 use Rattle.std.proofs.lemmas.List.{take_all}
-use Rattle.spec_ephemeris.specs.Ephemeris.{IsNearestBorder, IsBorderIn}
+use Rattle.spec_ephemeris.specs.Ephemeris.{IsBorderIn}
 use Rattle.eph_model.specs.Grids.{IsGridBorder}
 use Rattle.eph_model.proofs.ColumnBorders.{none_yet, one_more, short}
 use Rattle.eph_model.proofs.GridLemmas.{ends}
@@ -16,7 +16,7 @@ preferred-nearest-requires-clause-first c =
     let same_b : to_z w64 (of_z w64 c.args.b) ≡ c.args.b = to_z-of_z w64 c.args.b c.ranges.b in
     rw (same_a, same_b)
     (short (IsBorderIn c.args.self.now (take c.loop-column.column-index c.args.columns.now) c.args.a c.args.b) c.args.self.now _ c.grid.result c.args.a c.args.b
-        c.loop-column.nearest c.grid.ensures.grid c.requires.from c.requires.upto (λ s border. (border.after, border.upto)) (rw (same_a, same_b) at c.loop-column.invariant))
+    c.loop-column.nearest c.grid.ensures.grid c.requires.from c.requires.upto (λ s border. (border.after, border.upto)) (rw (same_a, same_b) at c.loop-column.invariant))
 
 pub preferred-nearest-requires-clause-second : goal.preferred-nearest-requires-clause-second
 preferred-nearest-requires-clause-second c =
@@ -24,13 +24,13 @@ preferred-nearest-requires-clause-second c =
     let same_b : to_z w64 (of_z w64 c.args.b) ≡ c.args.b = to_z-of_z w64 c.args.b c.ranges.b in
     rw (same_a, same_b)
     (short (IsGridBorder c.grid.result c.args.a c.args.b) c.args.self.now _ c.grid.result c.args.a c.args.b
-        c.border_near-own.result c.grid.ensures.grid c.requires.from c.requires.upto (λ s border. (border.border.after, border.border.upto)) (rw (same_a, same_b) at c.border_near-own.ensures))
+    c.border_near-own.result c.grid.ensures.grid c.requires.from c.requires.upto (λ s border. (border.border.after, border.border.upto)) (rw (same_a, same_b) at c.border_near-own.ensures))
 
 pub loop-column-preserved : goal.loop-column-preserved
 loop-column-preserved c =
     rw c.preferred-nearest.ensures
     (one_more c.args.self.now c.args.columns.now c.loop-column.column-index c.grid.result _ _ c.loop-column.nearest c.border_near-own.result
-        c.loop-column-test.true c.grid.ensures.grid c.loop-column.invariant c.border_near-own.ensures)
+    c.loop-column-test.true c.grid.ensures.grid c.loop-column.invariant c.border_near-own.ensures)
 
 pub border_near-own-requires-clause-upto : goal.border_near-own-requires-clause-upto
 border_near-own-requires-clause-upto c =

@@ -1,4 +1,3 @@
-use Rattle.std.proofs.Common.{sym}
 use Rattle.eph_model.proofs.Pushing.{pushed}
 use Rattle.eph_model.proofs.ephemeris.Ephemeris.push_block.Goals as goal
 

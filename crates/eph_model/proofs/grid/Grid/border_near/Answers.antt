@@ -16,7 +16,7 @@ returns c =
     let same_b : to_z w64 (of_z w64 b) ≡ b = to_z-of_z w64 b c.ranges.b in
     rw (c.preferred.ensures, same_a, same_b)
     (nearest_of_two (IsBorderAt grid j a b) (IsBorderAt grid (j + 1) a b) (IsGridBorder grid a b) a b _ _
-        (rw (same_a, same_b) at c.border_at-last.ensures) (rw (same_a, same_b) at c.border_at-next.ensures)
-        (λ s border. record { index = j; border = border }) (λ s border. record { index = j + 1; border = border })
-        (λ s border. covered grid a b s j c.requires.order middle.in_range
-            (rw (same_a, same_b) at middle.from) (rw (same_a, same_b) at middle.before) border))
+    (rw (same_a, same_b) at c.border_at-last.ensures) (rw (same_a, same_b) at c.border_at-next.ensures)
+    (λ s border. record { index = j; border = border }) (λ s border. record { index = j + 1; border = border })
+    (λ s border. covered grid a b s j c.requires.order middle.in_range
+    (rw (same_a, same_b) at middle.from) (rw (same_a, same_b) at middle.before) border))

@@ -1,2 +1,4 @@
 pub mod Rows
 pub mod Coefficients
+pub mod HeaderTest
+pub mod Granules

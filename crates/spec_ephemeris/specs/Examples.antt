@@ -2,6 +2,8 @@
 use Rattle.std.specs.Prelude.{◌≡◌, ℕ, List, ◌++◌, codes, [], ◌∷◌, ℤ, pos, neg_ℤ, ◌*ℤ◌}
 use Rattle.spec_text.specs.declared.decimals.Decimal.{Decimal}
 use Rattle.spec_intervals.specs.Fraction.{Fraction}
+use Rattle.spec_ephemeris.specs.declared.header.Column.{Column}
+use Rattle.spec_ephemeris.specs.declared.header.Header.{Header}
 use Rattle.spec_ephemeris.specs.Series.{Series}
 use Rattle.spec_ephemeris.specs.OneBlock.{Cell, fixed_rows, header_text, mercury_x, zeros_text}
 
@@ -30,3 +32,40 @@ parabola = record { start = pos 100; duration = 10; coefficients = whole (pos 1)
 
 abbrev pub rows_a_b : List (List Cell)
 rows_a_b = fixed_rows (codes "A\nB\n")
+
+-- a column of this start, this many coefficients and granules
+abbrev pub column : ℕ → ℕ → ℕ → Column
+column start coefs granules = record { start = start; coefs = coefs; granules = granules }
+
+-- Mercury, the Earth-Moon barycentre, the Moon and the Sun, each with two coefficients and one granule
+abbrev pub four_columns : Header
+four_columns = record {
+  ncoeff = 26;
+  block_seconds = pos 2764800;
+  emrat = record { mant = pos 810000000000000000; exp = neg_ℤ (pos 16) };
+  columns =
+      column 3 2 1 ∷ column 9 0 0 ∷ column 9 2 1 ∷ column 15 0 0 ∷ column 15 0 0 ∷ column 15 0 0 ∷ column 15 0 0
+      ∷ column 15 0 0 ∷ column 15 0 0 ∷ column 15 2 1 ∷ column 21 2 1 ∷ column 27 0 0 ∷ column 27 0 0 ∷ [];
+}
+
+-- the header of JPL's DE405
+abbrev pub de405 : Header
+de405 = record {
+  ncoeff = 1018;
+  block_seconds = pos 2764800;
+  emrat = record { mant = pos 813005600000000000; exp = neg_ℤ (pos 16) };
+  columns =
+      column 3 14 4 ∷ column 171 10 2 ∷ column 231 13 2 ∷ column 309 11 1 ∷ column 342 8 1 ∷ column 366 7 1 ∷ column 387 6 1
+      ∷ column 405 6 1 ∷ column 423 6 1 ∷ column 441 13 8 ∷ column 753 11 2 ∷ column 819 10 4 ∷ column 899 10 4 ∷ [];
+}
+
+-- a column of two coefficients that begins within Mercury's
+abbrev pub overlapping : Header
+overlapping = record {
+  ncoeff = 26;
+  block_seconds = pos 2764800;
+  emrat = whole (pos 81);
+  columns =
+      column 3 2 1 ∷ column 8 2 1 ∷ column 15 0 0 ∷ column 15 0 0 ∷ column 15 0 0 ∷ column 15 0 0 ∷ column 15 0 0
+      ∷ column 15 0 0 ∷ column 15 0 0 ∷ column 15 0 0 ∷ column 15 0 0 ∷ column 15 0 0 ∷ column 15 0 0 ∷ [];
+}

@@ -1,3 +1,5 @@
 pub mod Series
+pub mod Header
 pub mod OneBlock
+pub mod Ephemeris
 pub mod Examples

@@ -1,9 +1,11 @@
 // Worked values of the definitions, by computation.
-ghost use Rattle.std.specs.Prelude.{◌≡◌, ◌-◌, ◌^◌, ◌∷◌, [], length, codes, pos, neg_ℤ};
+ghost use Rattle.std.specs.Prelude.{◌≡◌, ◌+◌, ◌-◌, ◌^◌, true, false, ◌∷◌, [], length, codes, pos, neg_ℤ};
 ghost use Rattle.spec_text.specs.Lines.{text_lines};
+ghost use Rattle.spec_ephemeris.specs.Header.{IsHeader, column_size, has_column};
+ghost use Rattle.spec_ephemeris.specs.Ephemeris.{IsPreferred};
 ghost use Rattle.spec_ephemeris.specs.Series.{argument_at, position};
 ghost use Rattle.spec_ephemeris.specs.OneBlock.{block_start, block_end, word, fixed_rows, form, HasForm, IsCoefficient, LeavesFormAt, LeavesRowsAt};
-ghost use Rattle.spec_ephemeris.specs.Examples.{IsKm, whole, growing_text, growing_x, parabola, rows_a_b};
+ghost use Rattle.spec_ephemeris.specs.Examples.{IsKm, whole, growing_text, growing_x, parabola, rows_a_b, column, de405, four_columns, overlapping};
 
 /// The argument of a block of 2,764,800 seconds runs from minus its length to its length, two for each second.
 pub fn arguments()
@@ -54,4 +56,34 @@ pub fn texts_that_leave_the_form()
     ensures ends_early { LeavesRowsAt rows_a_b (text_lines (codes "A\n")) 2 2 }
     ensures wrong_word { LeavesRowsAt rows_a_b (text_lines (codes "A\nC\n")) 3 2 }
     ensures one_line_more { LeavesRowsAt rows_a_b (text_lines (codes "A\n\nB\nB\n")) 5 4 }
+{}
+
+/// A column takes its components times its coefficients times its granules; nutations have two components. In DE405
+/// Venus begins where Mercury ends, and the librations end with the block.
+pub fn places_of_columns()
+    ensures mercury { 3 + column_size 1 (column 3 14 4) ≡ 171 }
+    ensures nutations { 819 + column_size 12 (column 819 10 4) ≡ 899 }
+    ensures librations { 899 + column_size 13 (column 899 10 4) ≡ 1018 + 1 }
+{}
+
+/// A column is counted from 1, and absent where it has no coefficients, or where the header ends before it.
+pub fn columns_that_are_present()
+    ensures first { has_column four_columns 1 ≡ true }
+    ensures absent { has_column four_columns 2 ≡ false }
+    ensures zero { has_column four_columns 0 ≡ false }
+    ensures past_the_last { has_column de405 14 ≡ false }
+{}
+
+/// Headers that meet the rules, and one in which place 8 belongs to two columns.
+pub fn headers()
+    ensures four { IsHeader four_columns }
+    ensures of_de405 { IsHeader de405 }
+    ensures two_on_one_place { IsHeader overlapping → ⊥ }
+{}
+
+/// Of two times as far from the middle the smaller is preferred, and before both one that is nearer.
+pub fn preferred_times()
+    ensures smaller { IsPreferred (pos 0) (pos 4) (pos 1) (pos 3) }
+    ensures larger { IsPreferred (pos 0) (pos 4) (pos 3) (pos 1) → ⊥ }
+    ensures nearer { IsPreferred (pos 0) (pos 10) (pos 6) (pos 3) }
 {}

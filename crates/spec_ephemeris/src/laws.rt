@@ -1,8 +1,9 @@
 // Laws of the form of one block.
-ghost use Rattle.std.specs.Prelude.{◌≡◌, List, ℕ};
+ghost use Rattle.std.specs.Prelude.{◌≡◌, List, Option, ℕ, ℤ};
 ghost use Rattle.spec_text.specs.declared.decimals.Decimal.{Decimal};
 ghost use Rattle.spec_ephemeris.specs.OneBlock.{HasForm, IsCoefficient, LeavesFormAt};
 ghost use Rattle.spec_ephemeris.specs.Series.{IsInUnits};
+ghost use Rattle.spec_ephemeris.specs.Ephemeris.{Ephemeris, Granule, IsEphemeris, IsGranuleAt, IsNearestBorder};
 
 /// A text that has the form leaves it at no line.
 pub fn form_is_left_nowhere()
@@ -23,4 +24,14 @@ pub fn form_has_one_pair_of_coefficients()
 pub fn coefficients_are_bounded()
     ensures units { (text : List ℕ) (c0 c1 : Decimal) → HasForm text c0 c1 → IsInUnits c0 × IsInUnits c1 }
     ensures sizes { (text : List ℕ) (c0 c1 : Decimal) → HasForm text c0 c1 → IsCoefficient c0 × IsCoefficient c1 }
+{}
+
+/// A time of the ephemeris has one granule of a column.
+pub fn a_time_has_one_granule()
+    ensures { (e : Ephemeris) (number : ℕ) (t : ℤ) (g h : Granule) → IsEphemeris e → IsGranuleAt e number t g → IsGranuleAt e number t h → g ≡ h }
+{}
+
+/// A span has one nearest border, or none.
+pub fn one_border_is_nearest()
+    ensures { (e : Ephemeris) (columns : List ℕ) (a b : ℤ) (x y : Option ℤ) → IsNearestBorder e columns a b x → IsNearestBorder e columns a b y → x ≡ y }
 {}

@@ -1,0 +1,28 @@
+-- What the rules of a header say of a present column.
+use Rattle.std.proofs.Common.{◌≡◌, ℕ, ◌≤◌, arith}
+use Rattle.std.proofs.lemmas.Int.{ints}
+use mir.Val.{to_z, of_z}
+use mir.Syntax.{w64}
+use Rattle.spec_ephemeris.specs.declared.header.Column.{Column}
+use Rattle.spec_ephemeris.specs.declared.header.Header.{Header}
+use Rattle.spec_ephemeris.specs.declared.limits.TheConstants.{MOST_COEFFICIENTS}
+use Rattle.spec_ephemeris.specs.Header.{IsHeader, IsColumn, IsShared, MeetsColumnRules}
+use Rattle.spec_ephemeris.specs.Ephemeris.{Ephemeris, IsEphemeris}
+
+-- a present column meets the rules
+pub rules_of : (e : Ephemeris) (number : ℕ) (c : Column) → IsEphemeris e → IsColumn e.header number c → MeetsColumnRules e.header number c
+rules_of e number c checked is = checked.header.columns number c is
+
+-- the granules of a present column share a block, also as the code passes its length on
+pub shared : (h : Header) (number : ℕ) (c : Column) → IsHeader h → IsColumn h number c → IsShared (to_z w64 (of_z w64 h.block_seconds)) c.granules
+shared h number c header is =
+    let low = header.shortest in
+    let high = header.longest in
+    let same : to_z w64 (of_z w64 h.block_seconds) ≡ h.block_seconds = omega (arith, ints, low, high) in
+    rw same ((header.columns number c is).granules)
+
+-- a present column has from 1 to 32 coefficients
+pub few : (h : Header) (number : ℕ) (c : Column) → IsHeader h → IsColumn h number c → (1 ≤ c.coefs) × (c.coefs ≤ MOST_COEFFICIENTS)
+few h number c header is =
+    let present = is.present in
+    (grind (arith, present), (header.columns number c is).coefficients)

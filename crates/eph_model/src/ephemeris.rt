@@ -1,0 +1,200 @@
+// The checked ephemeris.
+ghost use Rattle.std.specs.Prelude.{◌≡◌, ◌*◌, ◌^◌, ◌<◌, ◌≤◌, ◌≤ℤ◌, ◌<ℤ◌, pos, neg_ℤ, OnOk, OnErr, All, IfSome, IsTrue, length, unsigned_abs};
+ghost use Rattle.spec_ephemeris.specs.declared.limits.TheConstants.{BODY_COLUMNS, MOST_BLOCKS, MOST_COEFFICIENTS};
+ghost use Rattle.spec_ephemeris.specs.Header.{IsHeader, IsColumn, column_at, components, granule_size, has_column};
+ghost use Rattle.spec_ephemeris.specs.Ephemeris.{IsStart, IsBlock, IsBodyNumber, IsEphemeris, empty_ephemeris, with_block, end_of, IsGranuleAt, IsNearestBorder, block_numbers, granule_numbers};
+ghost use Rattle.eph_model.specs.Grids.{IsGridOf};
+
+use crate::borders::preferred;
+use crate::granules::{
+    Granule, column_of, components, granule_seconds, is_present, numbers_at, present_column,
+};
+use crate::grid::Grid;
+use spec_ephemeris::{Column, Header};
+use spec_text::Decimal;
+use std::alloc::{AllocError, Global};
+use std::marker::Model;
+use thiserror::Error;
+
+/// Memory ran out.
+#[derive(Debug, Drop, Error)]
+#[error("out of memory")]
+pub struct Memory;
+
+impl From<AllocError> for Memory {
+    fn from(_: AllocError) -> Self {
+        Memory
+    }
+}
+
+/// A header that meets the rules, the time at which the first block begins, and the numbers of the blocks, each of
+/// which begins where the one before it ends. Times are seconds of TDB since J2000.
+#[derive(Drop)]
+pub struct Ephemeris {
+    header: Header,
+    start: i64,
+    blocks: u32,
+    numbers: Vec<Decimal>,
+}
+
+impl Model for Ephemeris {
+    ghost use Rattle.spec_ephemeris.specs.Ephemeris.{Ephemeris, IsEphemeris};
+
+    ghost Value = { Ephemeris };
+
+    ghost view = { λ e. record { header = e.header; start = e.start; blocks = e.blocks; numbers = e.numbers.items } };
+
+    ghost invariant = { λ e. IsEphemeris (record { header = e.header; start = e.start; blocks = e.blocks; numbers = e.numbers.items }) };
+}
+
+impl Ephemeris {
+    /// An ephemeris with no block, whose first block will begin at `start`.
+    pub fn empty(alloc: Global, header: Header, start: i64) -> Self
+        requires header { IsHeader header }
+        requires start { IsStart start }
+        ensures { result ≡ empty_ephemeris header start }
+    {
+        Ephemeris {
+            header,
+            start,
+            blocks: 0,
+            numbers: Vec::new(alloc),
+        }
+    }
+
+    /// Adds one block of as many numbers as the header says, after the last. After `Memory` nothing has changed.
+    pub fn push_block(&mut self, numbers: &[Decimal]) -> Result<(), Memory>
+        requires block { IsBlock self.old.header numbers.now }
+        requires room { self.old.blocks < MOST_BLOCKS }
+        ensures added { OnOk result (self.new ≡ with_block self.old numbers.now) }
+        ensures memory { OnErr result (self.new ≡ self.old) }
+    {
+        self.numbers.extend_from_slice(numbers)?;
+        self.blocks += 1;
+        Ok(())
+    }
+
+    /// The time at which the first block begins.
+    pub fn start(&self) -> i64
+        ensures { result ≡ self.now.start }
+    {
+        self.start
+    }
+
+    /// The time at which the last block ends.
+    pub fn end(&self) -> i64
+        ensures { result ≡ end_of self.now }
+    {
+        self.start + i64::from(self.blocks) * self.header.block_seconds
+    }
+
+    /// The number of blocks.
+    pub fn blocks(&self) -> u32
+        ensures { result ≡ self.now.blocks }
+    {
+        self.blocks
+    }
+
+    /// The header.
+    pub fn header(&self) -> &Header
+        ensures same { result.now ≡ self.now.header }
+        ensures checked { IsEphemeris self.now }
+    {
+        &self.header
+    }
+
+    /// Whether the ephemeris has the column, counted from 1 in the order of the header.
+    pub fn has(&self, column: usize) -> bool
+        ensures { result ≡ has_column self.now.header column }
+    {
+        match column_of(self.header.columns.as_slice(), column) {
+            Some(column) => is_present(column),
+            None => false,
+        }
+    }
+
+    // The granules of a column.
+    fn grid(&self, column: usize) -> Grid
+        requires { IsTrue (has_column self.now.header column) }
+        ensures grid { IsGridOf self.now column result }
+        ensures coefficients { (1 ≤ result.column.coefs) × (result.column.coefs ≤ MOST_COEFFICIENTS) }
+    {
+        let column = present_column(self.header.columns.as_slice(), column);
+        let seconds = granule_seconds(self.header.block_seconds, column.granules);
+        let count = u64::from(self.blocks) * u64::from(column.granules);
+        Grid {
+            column,
+            start: self.start,
+            seconds,
+            count,
+        }
+    }
+
+    /// The granule of a column at a time, with its coefficients: the granule that begins at the time or is the last to
+    /// begin before it. The time at which the last block ends belongs to the last granule. Columns are counted from 1.
+    pub fn granule(&self, column: usize, t: i64) -> Granule<'_>
+        requires present { IsTrue (has_column self.now.header column) }
+        requires block { 0 < self.now.blocks }
+        requires from { self.now.start ≤ℤ t }
+        requires upto { t ≤ℤ end_of self.now }
+        ensures granule { IsGranuleAt self.now column t (record { start = result.start; duration = unsigned_abs result.seconds; coefs = result.coefs.now }) }
+        ensures coefficients { IfSome (column_at self.now.header.columns column) (λ c. result.n ≡ c.coefs) }
+        ensures components { result.comps ≡ components column }
+        ensures count { length result.coefs.now ≡ result.comps * result.n }
+        ensures few { (1 ≤ result.n) × (result.n ≤ 32) }
+        ensures duration { (pos 1 ≤ℤ result.seconds) × (result.seconds ≤ℤ pos (2 ^ 40)) }
+        ensures start { (neg_ℤ (pos (2 ^ 50)) ≤ℤ result.start) × (result.start ≤ℤ pos (2 ^ 50)) }
+        ensures bodies { column ≤ BODY_COLUMNS → All IsBodyNumber result.coefs.now }
+    {
+        let grid = self.grid(column);
+        let index = grid.index_at(t);
+        let granules = u64::from(grid.column.granules);
+        let (block, inner) = ((index / granules) as usize, (index % granules) as usize);
+        Granule {
+            start: grid.time_of(index),
+            seconds: grid.seconds as i64,
+            n: grid.column.coefs as usize,
+            comps: components(column),
+            coefs: self.granule_numbers(column, grid.column, block, inner),
+        }
+    }
+
+    /// Of the borders of the given columns in (a, b] the one that is nearest to the middle of a and b, and the smaller of
+    /// two that are as near. None where no border lies there. A border of a column is a time at which any of its
+    /// granules but the first begins. Columns are counted from 1.
+    pub fn border_near(&self, columns: &[usize], a: i64, b: i64) -> Option<i64>
+        requires present { All (λ column. IsTrue (has_column self.now.header column)) columns.now }
+        requires from { self.now.start ≤ℤ a }
+        requires order { a <ℤ b }
+        requires upto { b ≤ℤ end_of self.now }
+        ensures { IsNearestBorder self.now columns.now a b result }
+    {
+        let mut nearest = None;
+        for &column in columns {
+            let own = self.grid(column).border_near(a, b);
+            nearest = preferred(nearest, own, a, b);
+        }
+        nearest
+    }
+
+    // The numbers of a granule of a block, both counted from 0.
+    fn granule_numbers(
+        &self,
+        number: usize,
+        column: Column,
+        block: usize,
+        inner: usize,
+    ) -> &[Decimal]
+        requires present { IsColumn self.now.header number column }
+        requires block { block < self.now.blocks }
+        requires inner { inner < column.granules }
+        ensures numbers { result.now ≡ granule_numbers number column inner (block_numbers self.now block) }
+        ensures count { length result.now ≡ granule_size number column }
+        ensures bodies { number ≤ BODY_COLUMNS → All IsBodyNumber result.now }
+    {
+        let ncoeff = self.header.ncoeff as usize;
+        let size = components(number) * column.coefs as usize;
+        let first = column.start as usize - 1 + inner * size;
+        numbers_at(&self.numbers, ncoeff, block, first, size)
+    }
+}

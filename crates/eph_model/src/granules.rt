@@ -1,0 +1,117 @@
+// The granule of a time: which it is, how long it is, and where its numbers stand.
+ghost use Rattle.std.specs.Prelude.{◌≡◌, ◌⊎◌, ◌+◌, ◌*◌, ◌<◌, ◌≤◌, IsTrue, Some, length, take, drop, pos, ◌+ℤ◌, ◌<ℤ◌, ◌≤ℤ◌};
+ghost use Rattle.spec_ephemeris.specs.Header.{IsShared, column_at, components, is_present, is_present_at};
+
+use crate::grid::Grid;
+use spec_ephemeris::{Column, NUTATIONS};
+use spec_text::Decimal;
+
+/// A granule of a column: the span of time over which each component of the column is one Chebyshev series.
+#[derive(Clone, Copy)]
+pub struct Granule<'a> {
+    /// The time at which it begins, in seconds of TDB since J2000.
+    pub start: i64,
+    /// Its length in seconds.
+    pub seconds: i64,
+    /// The coefficients of one component.
+    pub n: usize,
+    /// The components.
+    pub comps: usize,
+    /// The coefficients, component after component, in each those of T_0, T_1 and so on.
+    pub coefs: &'a [Decimal],
+}
+
+// The column of a number, counted from 1.
+pub(crate) fn column_of(columns: &[Column], number: usize) -> Option<Column>
+    ensures { result ≡ column_at columns.now number }
+{
+    if number == 0 {
+        return None;
+    }
+    columns.get(number - 1).copied()
+}
+
+pub(crate) fn is_present(column: Column) -> bool
+    ensures { result ≡ is_present column }
+{
+    column.coefs > 0 && column.granules > 0
+}
+
+// The column of a number at which a column is present.
+pub(crate) fn present_column(columns: &[Column], number: usize) -> Column
+    requires { IsTrue (is_present_at (column_at columns.now number)) }
+    ensures listed { column_at columns.now number ≡ Some result }
+    ensures present { IsTrue (is_present result) }
+{
+    columns[number - 1]
+}
+
+// Nutations have two components, and every other column has three.
+pub(crate) fn components(number: usize) -> usize
+    ensures { result ≡ components number }
+{
+    if number == NUTATIONS { 2 } else { 3 }
+}
+
+// The length of each of the granules that share a block.
+pub(crate) fn granule_seconds(block: i64, granules: u32) -> u64
+    requires length { pos 0 <ℤ block }
+    requires some { 0 < granules }
+    requires shared { IsShared block granules }
+    ensures shares { block ≡ pos (result * granules) }
+    ensures some { 0 < result }
+{
+    block as u64 / u64::from(granules)
+}
+
+// The numbers of a block from `first` on, which is counted from 0.
+pub(crate) fn numbers_at(
+    numbers: &[Decimal],
+    ncoeff: usize,
+    block: usize,
+    first: usize,
+    size: usize,
+) -> &[Decimal]
+    requires block { block * ncoeff + ncoeff ≤ length numbers.now }
+    requires within { first + size ≤ ncoeff }
+    ensures { result.now ≡ take size (drop first (take ncoeff (drop (block * ncoeff) numbers.now))) }
+{
+    let from = block * ncoeff;
+    let block = &numbers[from..from + ncoeff];
+    &block[first..first + size]
+}
+
+impl Grid {
+    // The time at which the granule begins that is counted from 0.
+    pub fn time_of(self, index: u64) -> i64
+        requires { index ≤ self.count }
+        ensures { result ≡ self.start +ℤ pos (index * self.seconds) }
+    {
+        self.start + (index * self.seconds) as i64
+    }
+
+    // The granule, counted from 0, of a time. The end of the last belongs to the last.
+    pub fn index_at(self, t: i64) -> u64
+        requires some { 0 < self.count }
+        requires from { self.start ≤ℤ t }
+        requires upto { t ≤ℤ (self.start +ℤ pos (self.count * self.seconds)) }
+        ensures in_range { result < self.count }
+        ensures from { (self.start +ℤ pos (result * self.seconds)) ≤ℤ t }
+        ensures upto { (t <ℤ (self.start +ℤ pos ((result + 1) * self.seconds)))
+            ⊎ ((t ≡ self.start +ℤ pos ((result + 1) * self.seconds)) × (result + 1 ≡ self.count)) }
+    {
+        index_at((t - self.start) as u64, self.seconds, self.count)
+    }
+}
+
+// The granule, counted from 0, of a time so long after the first begins.
+fn index_at(offset: u64, seconds: u64, count: u64) -> u64
+    requires length { 0 < seconds }
+    requires some { 0 < count }
+    requires within { offset ≤ count * seconds }
+    ensures in_range { result < count }
+    ensures from { result * seconds ≤ offset }
+    ensures upto { (offset < (result + 1) * seconds) ⊎ ((offset ≡ (result + 1) * seconds) × (result + 1 ≡ count)) }
+{
+    (offset / seconds).min(count - 1)
+}

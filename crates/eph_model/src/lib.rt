@@ -1,0 +1,17 @@
+//! The checked ephemeris: a header that meets the rules, and the numbers of the blocks that were accepted.
+//!
+//! A header and one block of numbers after the other come in, from the readers of a file. What goes out is, for a
+//! column and a time, the granule whose Chebyshev series is read there, and, for a span of time, the border between
+//! granules that is nearest to its middle. Nothing here reads text, and nothing here evaluates a series.
+#![tactic(auto)]
+
+mod borders;
+mod ephemeris;
+mod granules;
+mod grid;
+#[cfg(test)]
+mod tests;
+
+pub use ephemeris::{Ephemeris, Memory};
+pub use granules::Granule;
+pub use spec_ephemeris::{Body, Column, Columns, Header};

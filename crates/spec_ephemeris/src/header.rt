@@ -1,0 +1,68 @@
+// What the header of a file says.
+ghost use Rattle.std.specs.Prelude.{◌≡◌, ◌<◌, length, slice_get, Some};
+
+use spec_text::Decimal;
+use std::marker::Model;
+
+/// Where a block holds the Chebyshev coefficients of one column, for each component and each granule. A column whose
+/// `coefs` or `granules` is 0 is absent.
+#[derive(Clone, Copy, Debug, PartialEq, Eq)]
+pub struct Column {
+    /// The place of its first number in a block, counted from 1.
+    pub start: u32,
+    /// The coefficients of one component over one granule.
+    pub coefs: u32,
+    /// The granules of a block, all of one length.
+    pub granules: u32,
+}
+
+/// A list of columns.
+#[derive(Drop)]
+pub struct Columns {
+    items: Vec<Column>,
+}
+
+impl Model for Columns {
+    ghost use Rattle.std.specs.Prelude.{List};
+    ghost use Rattle.spec_ephemeris.specs.declared.header.Column.{Column};
+
+    ghost Value = { List Column };
+
+    ghost view = { λ c. c.items.items };
+}
+
+impl Columns {
+    /// The columns of a vector, in its order. It takes no memory.
+    pub fn new(items: Vec<Column>) -> Self
+        ensures { result ≡ items.items }
+    {
+        Columns { items }
+    }
+
+    /// The columns as a vector, in their order. It takes no memory.
+    pub fn into_vec(self) -> Vec<Column>
+        ensures { result.items ≡ self }
+    {
+        self.items
+    }
+
+    /// The columns in their order.
+    pub fn as_slice(&self) -> &[Column]
+        ensures { result.now ≡ self.now }
+    {
+        &self.items
+    }
+}
+
+/// The facts of a header that later work rests on.
+#[derive(Drop)]
+pub struct Header {
+    /// The numbers of a block.
+    pub ncoeff: u32,
+    /// The length of a block, in seconds of TDB.
+    pub block_seconds: i64,
+    /// The mass of the Earth over that of the Moon.
+    pub emrat: Decimal,
+    /// The columns in the order of the file: column 1 first.
+    pub columns: Columns,
+}

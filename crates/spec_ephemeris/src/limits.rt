@@ -1,0 +1,46 @@
+// The limits of a header and of an ephemeris.
+
+/// The columns of a header.
+pub const COLUMNS: usize = 13;
+
+/// The columns with the positions of bodies are those from 1 to this one.
+pub const BODY_COLUMNS: usize = 11;
+
+/// The number of the column of nutations, which has two components.
+pub const NUTATIONS: usize = 12;
+
+/// The first place of a block that a column may take. The two places before it hold the block's Julian dates.
+pub const FIRST_PLACE: u32 = 3;
+
+/// The fewest numbers of a block.
+pub const FEWEST_NUMBERS: u32 = 3;
+
+/// The most numbers of a block.
+pub const MOST_NUMBERS: u32 = 4_096;
+
+/// The most Chebyshev coefficients of a component of a column.
+pub const MOST_COEFFICIENTS: u32 = 32;
+
+/// The seconds of a day. There are no leap seconds in TDB.
+pub const DAY: i64 = 86_400;
+
+/// The shortest block, in seconds.
+pub const SHORTEST_BLOCK: i64 = 1;
+
+/// The longest block, in seconds: 32 days.
+pub const LONGEST_BLOCK: i64 = 2_764_800;
+
+/// The least mass of the Earth over that of the Moon.
+pub const LEAST_MASS_RATIO: u64 = 1;
+
+/// The greatest mass of the Earth over that of the Moon.
+pub const GREATEST_MASS_RATIO: u64 = 1_000;
+
+/// The most blocks of an ephemeris.
+pub const MOST_BLOCKS: u32 = 16_384;
+
+/// The earliest time, in seconds of TDB since J2000: Julian date 0.
+pub const FIRST_TIME: i64 = -211_813_488_000;
+
+/// The latest time at which a block begins or ends, in seconds of TDB since J2000: Julian date 5,000,000.
+pub const LAST_TIME: i64 = 220_186_512_000;

@@ -1,0 +1,5 @@
+pub mod Sizes
+pub mod Names
+pub mod ColumnLoops
+pub mod Runs
+pub mod Steps

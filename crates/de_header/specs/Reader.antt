@@ -210,6 +210,10 @@ abbrev pub answer : Says → Result Step HeaderError
 answer (Ok x) = Ok Done
 answer (Err stop) = answer_of stop
 
+abbrev pub IsNotDone : Result Step HeaderError → Type 0
+IsNotDone (Ok Done) = ⊥
+IsNotDone answer = Unit {0}
+
 -- where the lines end at this number, what is said of no more lines
 abbrev pub stopped_at : ℕ → Stop → Fault
 stopped_at end (ended late) = record { line = end; number = late; detail = 0 }

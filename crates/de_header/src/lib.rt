@@ -7,8 +7,12 @@ mod columns;
 mod days;
 mod reader;
 mod state;
+#[cfg(test)]
+mod tests;
 mod words;
 
 pub use answers::{HeaderError, Step};
 pub use reader::HeaderReader;
+pub use spec_ephemeris::{Column, Columns, Header};
+pub use spec_text::Fault;
 pub use state::{Facts, Frame, State};

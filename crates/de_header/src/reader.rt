@@ -8,7 +8,7 @@ ghost use Rattle.spec_header.specs.Sections.{FileLine};
 ghost use Rattle.de_header.specs.declared.state.State.TheVariants as states;
 ghost use Rattle.de_header.specs.declared.answers.HeaderError.TheVariants as errors;
 ghost use Rattle.de_header.specs.declared.answers.Step.TheVariants as steps;
-ghost use Rattle.de_header.specs.Reader.{Ends, Fits, IsBehindNames, IsBehindValues, IsNotWhole, IsOpen, IsRefused, Moves, answer, from_names, from_values_behind, header_of, line_of, or_else, says};
+ghost use Rattle.de_header.specs.Reader.{Ends, Fits, IsBehindNames, IsBehindValues, IsNotDone, IsNotWhole, IsOpen, IsRefused, Moves, answer, from_names, from_values_behind, header_of, line_of, or_else, says};
 
 use crate::answers::{HeaderError, Step};
 use crate::columns::{columns_row, row};
@@ -300,7 +300,8 @@ fn next(state: State, line: &Line<'_>) -> State
 fn told(state: State) -> Result<Step, HeaderError>
     requires { Fits state }
     ensures answer { result ≡ answer (says 0 state []) }
-    ensures open { result ≡ Ok steps.More → IsOpen state × IsNotWhole state }
+    ensures more { result ≡ Ok steps.More → IsOpen state }
+    ensures not_done { IsNotDone result → IsNotWhole state }
     ensures refused { (fault : Fault) → result ≡ Err (errors.Fault fault) → IsRefused state fault }
     ensures kept { (fault : Fault) → IsRefused state fault → result ≡ Err (errors.Fault fault) }
 {
@@ -376,7 +377,8 @@ impl HeaderReader {
         requires { IsNotWhole self.old }
         ensures says { (file : ℕ) (rest : List FileLine) → says file self.new rest ≡ says file self.old (line_of file line.now ∷ rest) }
         ensures answer { result ≡ answer (says 0 self.new []) }
-        ensures more { result ≡ Ok steps.More → IsOpen self.new × IsNotWhole self.new }
+        ensures more { result ≡ Ok steps.More → IsOpen self.new }
+        ensures not_done { IsNotDone result → IsNotWhole self.new }
         ensures refused { (fault : Fault) → result ≡ Err (errors.Fault fault) → IsRefused self.new fault }
         ensures kept { (fault : Fault) → IsRefused self.old fault → IsRefused self.new fault × (result ≡ Err (errors.Fault fault)) }
         ensures no_memory_is_wanted { result ≡ Err errors.Memory → ⊥ }

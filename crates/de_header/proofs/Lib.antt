@@ -3,3 +3,4 @@ pub mod Names
 pub mod ColumnLoops
 pub mod Runs
 pub mod Steps
+pub mod Ending

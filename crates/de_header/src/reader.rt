@@ -2,6 +2,7 @@
 ghost use Rattle.std.specs.Prelude.{◌≡◌, ◌∷◌, [], ◌+◌, ◌≤◌, ◌<◌, IfErr, IfOk, List, None, Err, Ok, ℕ, length, min, take};
 ghost use Rattle.spec_text.specs.declared.decimals.Fault.{Fault};
 ghost use Rattle.spec_header.specs.declared.rules.TheConstants.{MOST_CONSTANTS};
+ghost use Rattle.spec_ephemeris.specs.Header.{IsHeader};
 ghost use Rattle.spec_header.specs.HeaderLines.{header};
 ghost use Rattle.spec_header.specs.HeaderRules.{emrat_from};
 ghost use Rattle.spec_header.specs.Sections.{FileLine};
@@ -388,9 +389,11 @@ impl HeaderReader {
     }
 
     /// The header, where the lines end at this number, that of the last file's lines plus 1. `Fault` is the kept
-    /// refusal, or fault 22 at this number where the header isn't whole.
+    /// refusal, or fault 22 at this number where the header isn't whole. Where the lines that were given are those of
+    /// which `new` speaks, the header meets the rules of a header.
     pub fn end(self, alloc: Global, line: u32) -> Result<Header, HeaderError>
-        ensures { Ends line (says 0 self []) result }
+        ensures end { Ends line (says 0 self []) result }
+        ensures rules { (lines : List FileLine) → says 0 self [] ≡ header lines → IfOk result IsHeader }
     {
         header_at_end(alloc, self.state, line)
     }

@@ -222,6 +222,20 @@ fn step_behind_names(state: State, line: &Line<'_>) -> Result<State, BrokenRule>
     }
 }
 
+// The state behind a title, or behind the first line that begins with `GROUP`.
+#[tactic(auto, unfolding(crate::specs::Reader::says))]
+fn pass_title(ncoeff: u32, line: &Line<'_>) -> Result<State, BrokenRule>
+    ensures moves { Moves (states.Titles ncoeff) line.now result }
+    ensures fits { IfOk result Fits }
+{
+    if is_group(line) {
+        group(b"1030", 1030, line)?;
+        Ok(State::Span { ncoeff })
+    } else {
+        Ok(State::Titles { ncoeff })
+    }
+}
+
 // The state behind a line that wants one, or the first rule that the line breaks.
 #[tactic(auto, unfolding(crate::specs::Reader::says))]
 fn step(state: State, line: &Line<'_>) -> Result<State, BrokenRule>
@@ -239,14 +253,7 @@ fn step(state: State, line: &Line<'_>) -> Result<State, BrokenRule>
             group(b"1010", 1010, line)?;
             Ok(State::Titles { ncoeff })
         }
-        State::Titles { ncoeff } => {
-            if is_group(line) {
-                group(b"1030", 1030, line)?;
-                Ok(State::Span { ncoeff })
-            } else {
-                Ok(State::Titles { ncoeff })
-            }
-        }
+        State::Titles { ncoeff } => pass_title(ncoeff, line),
         State::Span { ncoeff } => {
             let block_seconds = span(line)?;
             let frame = Frame {

@@ -1,0 +1,68 @@
+-- The words of a row, and the columns of three rows, one after the other.
+use Rattle.std.proofs.Common.{◌≡◌, ℕ, zero, suc, ◌+◌, ◌*◌, ◌<◌, ◌≤◌, ◌^◌, List, [], ◌∷◌, ◌++◌, length, get_or, take, drop, set, None, Some, Result, Ok, Err, refl, sym, ap, ◌∙◌, arith}
+use Rattle.std.specs.Prelude.{slice_get}
+use Rattle.std.proofs.lemmas.List.{take_more_set, take_all, drop_all}
+use Rattle.std.proofs.lemmas.Nat.{mul-le}
+use Rattle.spec_ephemeris.specs.declared.header.Column.{Column}
+use Rattle.spec_header.specs.declared.rules.BrokenRule.{BrokenRule}
+use Rattle.spec_header.specs.ColumnRules.{columns_of, row, whole_numbers}
+use Rattle.spec_header.specs.HeaderRules.{broken, whole_at}
+
+pub size_fits : (k c g start : ℕ) → k ≤ 3 → c < 2 ^ 32 → g < 2 ^ 32 → start < 2 ^ 32 → start + k * c * g < 2 ^ 128
+size_fits k c g start few c_fits g_fits s_fits =
+    let inner : k * c ≤ 3 * 2 ^ 32 = mul-le k c 3 (2 ^ 32) few (omega (arith, c_fits)) in
+    let outer : k * c * g ≤ (3 * 2 ^ 32) * 2 ^ 32 = mul-le (k * c) g (3 * 2 ^ 32) (2 ^ 32) inner (omega (arith, g_fits)) in
+    omega (arith, outer, s_fits)
+
+abbrev column_at : List ℕ → List ℕ → List ℕ → ℕ → Column
+column_at starts coefs granules i = record { start = get_or starts i 0; coefs = get_or coefs i 0; granules = get_or granules i 0 }
+
+columns_snoc : (i : ℕ) (ss cs gs : List ℕ) → i < length ss → i < length cs → i < length gs
+    → columns_of (take (suc i) ss) (take (suc i) cs) (take (suc i) gs) ≡ columns_of (take i ss) (take i cs) (take i gs) ++ column_at ss cs gs i ∷ []
+columns_snoc i [] cs gs a b d = absurd (omega (arith, a))
+columns_snoc i (s ∷ ss) [] gs a b d = absurd (omega (arith, b))
+columns_snoc i (s ∷ ss) (c ∷ cs) [] a b d = absurd (omega (arith, d))
+columns_snoc zero (s ∷ ss) (c ∷ cs) (g ∷ gs) a b d = refl
+columns_snoc (suc i) (s ∷ ss) (c ∷ cs) (g ∷ gs) a b d =
+    ap (λ (l : List Column). record { start = s; coefs = c; granules = g } ∷ l) (columns_snoc i ss cs gs (omega (arith, a)) (omega (arith, b)) (omega (arith, d)))
+
+pub columns_more : (i : ℕ) (ss cs gs : List ℕ) (out : List Column) → i < length out → i < length ss → i < length cs → i < length gs
+    → take i out ≡ columns_of (take i ss) (take i cs) (take i gs)
+    → take (i + 1) (set out i (column_at ss cs gs i)) ≡ columns_of (take (i + 1) ss) (take (i + 1) cs) (take (i + 1) gs)
+columns_more i ss cs gs out o a b d is =
+    let next : suc i ≡ i + 1 = omega arith in
+    take_more_set out i (column_at ss cs gs i) o ∙ ap (λ (l : List Column). l ++ column_at ss cs gs i ∷ []) is ∙ sym (columns_snoc i ss cs gs a b d)
+    ∙ ap (λ (k : ℕ). columns_of (take k ss) (take k cs) (take k gs)) next
+
+pub columns_all : (i : ℕ) (ss cs gs : List ℕ) (out : List Column) → length out ≤ i → length ss ≤ i → length cs ≤ i → length gs ≤ i
+    → take i out ≡ columns_of (take i ss) (take i cs) (take i gs) → out ≡ columns_of ss cs gs
+columns_all i ss cs gs out o a b d is = rw (take_all i out o, take_all i ss a, take_all i cs b, take_all i gs d) at is
+
+pub row_of_all : (words : List (List ℕ)) → length words ≡ 13 → row words ≡ whole_numbers [] words
+row_of_all words is = rw is refl
+
+pub row_stops : (words : List (List ℕ)) (i : ℕ) (before : List ℕ) → i < length words → None ≡ whole_at (slice_get words i)
+    → whole_numbers before (drop i words) ≡ Err (broken 21 1)
+row_stops [] i before below none = absurd (omega (arith, below))
+row_stops (w ∷ ws) zero before below none = rw (← none) refl
+row_stops (w ∷ ws) (suc i) before below none = row_stops ws i before (omega (arith, below)) none
+
+row_goes_on : (words : List (List ℕ)) (i n : ℕ) (before : List ℕ) → i < length words → Some n ≡ whole_at (slice_get words i)
+    → whole_numbers before (drop i words) ≡ whole_numbers (before ++ n ∷ []) (drop (suc i) words)
+row_goes_on [] i n before below some = absurd (omega (arith, below))
+row_goes_on (w ∷ ws) zero n before below some = rw (← some) refl
+row_goes_on (w ∷ ws) (suc i) n before below some = row_goes_on ws i n before (omega (arith, below)) some
+
+pub row_more : (words : List (List ℕ)) (i n : ℕ) (out : List ℕ) (whole : Result (List ℕ) BrokenRule) → i < length words → i < length out → Some n ≡ whole_at (slice_get words i)
+    → whole_numbers (take i out) (drop i words) ≡ whole → whole_numbers (take (i + 1) (set out i n)) (drop (i + 1) words) ≡ whole
+row_more words i n out whole below within some is =
+    let next : suc i ≡ i + 1 = omega arith in
+    ap (λ (l : List ℕ). whole_numbers l (drop (i + 1) words)) (take_more_set out i n within)
+    ∙ ap (λ (k : ℕ). whole_numbers (take i out ++ n ∷ []) (drop k words)) (sym next)
+    ∙ sym (row_goes_on words i n (take i out) below some) ∙ is
+
+pub row_all : (words : List (List ℕ)) (i : ℕ) (out : List ℕ) (whole : Result (List ℕ) BrokenRule) → length words ≤ i → length out ≤ i
+    → whole_numbers (take i out) (drop i words) ≡ whole → Ok out ≡ whole
+row_all words i out whole past full is =
+    let none : drop i words ≡ [] = drop_all i words past in
+    rw (none, take_all i out full) at is

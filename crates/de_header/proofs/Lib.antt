@@ -1,0 +1,6 @@
+pub mod Sizes
+pub mod Names
+pub mod ColumnLoops
+pub mod Runs
+pub mod Steps
+pub mod Ending

@@ -1,0 +1,156 @@
+-- Sections of counted words, a line at a time.
+use Rattle.std.proofs.Common.{◌≡◌, ◌≢◌, ℕ, zero, suc, ◌+◌, ◌-◌, ◌<◌, ◌≤◌, ◌==◌, min, true, false, List, [], ◌∷◌, ◌++◌, length, map, take, Option, None, Some, Result, Ok, Err, refl, sym, ap, ◌∙◌, inl, inr, arith, eq-eqb, ne_eqb}
+use Rattle.std.specs.Prelude.{slice_get}
+use Rattle.std.proofs.lemmas.Bool.{cases_lt, cases_eq}
+use Rattle.std.proofs.lemmas.List.{length-append, length-map, length-take, map-append, take_all}
+use Rattle.std.proofs.lemmas.Option.{none-some}
+use Rattle.spec_header.specs.declared.rules.TheConstants.{ENDED}
+use Rattle.spec_header.specs.HeaderLines.{mass_ratio_among, names}
+use Rattle.spec_header.specs.HeaderRules.{mass_ratio}
+use Rattle.de_header.proofs.Names.{get_take}
+use Rattle.spec_header.specs.Sections.{FileLine, FileWord, Stop, ended, ◌>>=◌, at_line, behind_words, first_words, lines_behind, word_of}
+
+abbrev map_some : {X Y : Type 0} → (X → Y) → Option X → Option Y
+map_some f None = None
+map_some f (Some x) = Some (f x)
+
+some_map : {X Y : Type 0} (f : X → Y) (x y : X) → Some x ≡ Some y → Some (f x) ≡ Some (f y)
+some_map f x y is = ap (map_some f) is
+
+-- no words
+no_words : (n : ℕ) (lines : List FileLine) → n ≡ 0 → first_words n lines ≡ []
+no_words n [] is = refl
+no_words n (line ∷ rest) is =
+    ap (λ (k : ℕ). map (word_of line) (take k line.words) ++ first_words (n - length line.words) rest) is ∙ no_words (n - length line.words) rest (omega (arith, is))
+
+all_behind : (n : ℕ) (lines : List FileLine) → n ≡ 0 → lines_behind n lines ≡ lines
+all_behind n [] is = refl
+all_behind n (line ∷ rest) is = rw is refl
+
+pub behind_none : (n : ℕ) (lines : List FileLine) → n ≡ 0 → behind_words ENDED n lines ≡ Ok lines
+behind_none n lines is =
+    let test : (length (first_words n lines) == n) ≡ true = eq-eqb _ _ (ap length (no_words n lines is) ∙ sym is) in
+    rw (test, all_behind n lines is) refl
+
+length_first : (n : ℕ) (line : FileLine) (rest : List FileLine)
+    → length (first_words n (line ∷ rest)) ≡ min n (length line.words) + length (first_words (n - length line.words) rest)
+length_first n line rest =
+    length-append (map (word_of line) (take n line.words)) (first_words (n - length line.words) rest)
+    ∙ ap (λ (k : ℕ). k + length (first_words (n - length line.words) rest)) (length-map (take n line.words) (word_of line) ∙ length-take n line.words)
+
+-- a line takes its words from those that are left
+pub behind_line : (n here : ℕ) (line : FileLine) (rest : List FileLine) → 0 < n → here ≡ min n (length line.words)
+    → behind_words ENDED n (line ∷ rest) ≡ behind_words ENDED (n - here) rest
+behind_line n here line rest some here_is =
+    let not_none : n ≢ 0 = λ e. omega (arith, e, some) in
+    let left : n - length line.words ≡ n - here = omega (arith, here_is) in
+    let all : length (first_words n (line ∷ rest)) ≡ here + length (first_words (n - here) rest) =
+    length_first n line rest ∙ ap (λ (k : ℕ). min n (length line.words) + length (first_words k rest)) left
+    ∙ ap (λ (k : ℕ). k + length (first_words (n - here) rest)) (sym here_is) in
+    elim (cases_eq (length (first_words (n - here) rest)) (n - here)) [
+      | inl same ↦
+          let one : (length (first_words n (line ∷ rest)) == n) ≡ true = eq-eqb _ _ (omega (arith, all, same, here_is)) in
+          let other : (length (first_words (n - here) rest) == n - here) ≡ true = eq-eqb _ _ same in
+          rw (one, other, ne_eqb n 0 not_none, left) refl
+      | inr apart ↦
+          let one : (length (first_words n (line ∷ rest)) == n) ≡ false = ne_eqb _ _ (λ e. apart (omega (arith, all, e, here_is))) in
+          let other : (length (first_words (n - here) rest) == n - here) ≡ false = ne_eqb _ _ apart in
+          rw (one, other) refl
+    ]
+
+-- the texts of words
+abbrev pub text_of : FileWord → List ℕ
+text_of word = word.text
+
+texts_of_line : (line : FileLine) (words : List (List ℕ)) → map text_of (map (word_of line) words) ≡ words
+texts_of_line line [] = refl
+texts_of_line line (w ∷ ws) = ap (λ (l : List (List ℕ)). w ∷ l) (texts_of_line line ws)
+
+take_min : {X : Type 0} (n : ℕ) (xs : List X) → take n xs ≡ take (min n (length xs)) xs
+take_min n xs = elim (cases_lt (length xs) n) [
+  | inl less ↦ let same : min n (length xs) ≡ length xs = omega (arith, less) in
+      take_all n xs (omega (arith, less)) ∙ sym (take_all (min n (length xs)) xs (omega (arith, same)))
+  | inr more ↦ let same : n ≡ min n (length xs) = omega (arith, more) in ap (λ (k : ℕ). take k xs) same
+]
+
+texts_line : (n here : ℕ) (line : FileLine) (rest : List FileLine) → here ≡ min n (length line.words)
+    → map text_of (first_words n (line ∷ rest)) ≡ take here line.words ++ map text_of (first_words (n - here) rest)
+texts_line n here line rest here_is =
+    let left : n - length line.words ≡ n - here = omega (arith, here_is) in
+    map-append text_of (map (word_of line) (take n line.words)) (first_words (n - length line.words) rest)
+    ∙ ap (λ (l : List (List ℕ)). l ++ map text_of (first_words (n - length line.words) rest))
+    (texts_of_line line (take n line.words) ∙ take_min n line.words ∙ ap (λ (k : ℕ). take k line.words) (sym here_is))
+    ∙ ap (λ (k : ℕ). take here line.words ++ map text_of (first_words k rest)) left
+
+pub names_none : (n : ℕ) (lines : List FileLine) → n ≡ 0 → names n lines ≡ Ok ([], lines)
+names_none n lines is = rw (behind_none n lines is, no_words n lines is) refl
+
+abbrev with_names : List (List ℕ) → List FileLine → Result (List (List ℕ) × List FileLine) Stop
+with_names texts rest = Ok (texts, rest)
+
+-- names behind others
+abbrev pub after_names : List (List ℕ) → List (List ℕ) × List FileLine → Result (List (List ℕ) × List FileLine) Stop
+after_names texts x = Ok (texts ++ x.0, x.1)
+
+texted : (r : Result (List FileLine) Stop) (xs ys : List (List ℕ)) → (r >>= with_names (xs ++ ys)) ≡ ((r >>= with_names ys) >>= after_names xs)
+texted (Ok rest) xs ys = refl
+texted (Err e) xs ys = refl
+
+pub names_line : (n here : ℕ) (line : FileLine) (rest : List FileLine) → 0 < n → here ≡ min n (length line.words)
+    → names n (line ∷ rest) ≡ (names (n - here) rest >>= after_names (take here line.words))
+names_line n here line rest some here_is =
+    ap (λ (r : Result (List FileLine) Stop). r >>= with_names (map text_of (first_words n (line ∷ rest)))) (behind_line n here line rest some here_is)
+    ∙ ap (λ (t : List (List ℕ)). behind_words ENDED (n - here) rest >>= with_names t) (texts_line n here line rest here_is)
+    ∙ texted (behind_words ENDED (n - here) rest) (take here line.words) (map text_of (first_words (n - here) rest))
+
+-- the word at a place
+get_front : {X : Type 0} (xs ys : List X) (k : ℕ) (x : X) → slice_get xs k ≡ Some x → slice_get (xs ++ ys) k ≡ Some x
+get_front [] ys k x is = absurd (none-some x is)
+get_front (y ∷ xs) ys zero x is = is
+get_front (y ∷ xs) ys (suc k) x is = get_front xs ys k x is
+
+get_behind : {X : Type 0} (xs ys : List X) (k n : ℕ) → length xs ≡ n → n ≤ k → slice_get (xs ++ ys) k ≡ slice_get ys (k - n)
+get_behind [] ys k n none le = let same : k ≡ k - n = omega (arith, none) in ap (slice_get ys) same
+get_behind (x ∷ xs) ys zero n some le = absurd (omega (arith, some, le))
+get_behind (x ∷ xs) ys (suc k) n some le =
+    let same : k - length xs ≡ suc k - n = omega (arith, some) in
+    get_behind xs ys k (length xs) refl (omega (arith, some, le)) ∙ ap (slice_get ys) same
+
+get_map : {X Y : Type 0} (f : X → Y) (xs : List X) (k : ℕ) (x : X) → slice_get xs k ≡ Some x → slice_get (map f xs) k ≡ Some (f x)
+get_map f [] k x is = absurd (none-some x is)
+get_map f (y ∷ xs) zero x is = some_map f y x is
+get_map f (y ∷ xs) (suc k) x is = get_map f xs k x is
+
+-- a place among the words of this line
+pub word_here : (n here k : ℕ) (line : FileLine) (rest : List FileLine) (word : List ℕ) → here ≡ min n (length line.words) → k < here
+    → slice_get line.words k ≡ Some word → slice_get (first_words n (line ∷ rest)) k ≡ Some (word_of line word)
+word_here n here k line rest word here_is below is =
+    get_front (map (word_of line) (take n line.words)) _ k (word_of line word)
+    (get_map (word_of line) (take n line.words) k word (get_take line.words n k (omega (arith, here_is, below)) ∙ is))
+
+-- a place behind the words of this line
+word_later : (n here k : ℕ) (line : FileLine) (rest : List FileLine) → here ≡ min n (length line.words) → here ≤ k
+    → slice_get (first_words n (line ∷ rest)) k ≡ slice_get (first_words (n - here) rest) (k - here)
+word_later n here k line rest here_is le =
+    let left : n - length line.words ≡ n - here = omega (arith, here_is) in
+    get_behind (map (word_of line) (take n line.words)) (first_words (n - length line.words) rest) k here
+    (length-map (take n line.words) (word_of line) ∙ length-take n line.words ∙ sym here_is) le
+    ∙ ap (λ (j : ℕ). slice_get (first_words j rest) (k - here)) left
+
+-- a section that has no words has none at a place
+nothing_at : (k : ℕ) (lines : List FileLine) (n : ℕ) → n ≡ 0 → mass_ratio_among n k lines ≡ Err (ended ENDED)
+nothing_at k lines n is = rw (no_words n lines is) refl
+
+pub ratio_later : (n here k : ℕ) (line : FileLine) (rest : List FileLine) → here ≡ min n (length line.words) → here ≤ k
+    → mass_ratio_among n k (line ∷ rest) ≡ mass_ratio_among (n - here) (k - here) rest
+ratio_later n here k line rest here_is le = elim (cases_eq n 0) [
+  | inl none ↦ nothing_at k (line ∷ rest) n none ∙ sym (nothing_at (k - here) rest (n - here) (omega (arith, none)))
+  | inr some ↦ rw (word_later n here k line rest here_is le, behind_line n here line rest (omega (arith, some)) here_is) refl
+]
+
+pub ratio_here : (n here k : ℕ) (line : FileLine) (rest : List FileLine) (word : List ℕ) → here ≡ min n (length line.words) → k < here
+    → slice_get line.words k ≡ Some word
+    → mass_ratio_among n k (line ∷ rest)
+    ≡ (at_line line.file line.number (mass_ratio word) >>= λ emrat. behind_words ENDED (n - here) rest >>= λ lines. Ok (emrat, lines))
+ratio_here n here k line rest word here_is below is =
+    rw (word_here n here k line rest word here_is below is, behind_line n here line rest (omega (arith, here_is, below)) here_is) refl

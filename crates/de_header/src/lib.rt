@@ -1,0 +1,18 @@
+//! The header of a file, read line by line. Lines come in, as the text reader cuts them; what goes out is the header,
+//! or the first fault. Only the end of the reading takes memory, for the columns.
+#![tactic(auto)]
+
+mod answers;
+mod columns;
+mod days;
+mod reader;
+mod state;
+#[cfg(test)]
+mod tests;
+mod words;
+
+pub use answers::{HeaderError, Step};
+pub use reader::HeaderReader;
+pub use spec_ephemeris::{Column, Columns, Header};
+pub use spec_text::Fault;
+pub use state::{Facts, Frame, State};

@@ -1,0 +1,407 @@
+// The reader.
+ghost use Rattle.std.specs.Prelude.{◌≡◌, ◌∷◌, [], ◌+◌, ◌≤◌, ◌<◌, IfErr, IfOk, List, None, Err, Ok, ℕ, length, min, take};
+ghost use Rattle.spec_text.specs.declared.decimals.Fault.{Fault};
+ghost use Rattle.spec_header.specs.declared.rules.TheConstants.{MOST_CONSTANTS};
+ghost use Rattle.spec_ephemeris.specs.Header.{IsHeader};
+ghost use Rattle.spec_header.specs.HeaderLines.{header};
+ghost use Rattle.spec_header.specs.HeaderRules.{emrat_from};
+ghost use Rattle.spec_header.specs.Sections.{FileLine};
+ghost use Rattle.de_header.specs.declared.state.State.TheVariants as states;
+ghost use Rattle.de_header.specs.declared.answers.HeaderError.TheVariants as errors;
+ghost use Rattle.de_header.specs.declared.answers.Step.TheVariants as steps;
+ghost use Rattle.de_header.specs.Reader.{Ends, Fits, IsBehindNames, IsBehindValues, IsNotDone, IsNotWhole, IsOpen, IsRefused, Moves, answer, from_names, from_values_behind, header_of, line_of, or_else, says};
+
+use crate::answers::{HeaderError, Step};
+use crate::columns::{columns_row, row};
+use crate::state::{Facts, Frame, State};
+use crate::words::{
+    broken, find_emrat, first_line, group, is_group, mass_ratio, name_count, span, value_count,
+};
+use de_text::Line;
+use spec_ephemeris::{Column, Columns, Header};
+use spec_header::{BrokenRule, ENDED};
+use spec_text::Fault;
+use std::alloc::Global;
+use std::marker::Model;
+
+// How many of the words that are left stand on a line.
+fn words_here(left: u32, line: &Line<'_>) -> u32
+    ensures { result ≡ min left (length line.now.tokens) }
+{
+    (left as usize).min(line.count()) as u32
+}
+
+// The place that was found before, or one among the first words of a line.
+fn emrat_or(found: Option<u32>, line: &Line<'_>, n: u32, start: u32) -> Option<u32>
+    requires few { start + n ≤ MOST_CONSTANTS }
+    requires there { n ≤ length line.now.tokens }
+    ensures { result ≡ or_else found (emrat_from start (take n line.now.tokens)) }
+{
+    match found {
+        Some(place) => Some(place),
+        None => find_emrat(line, n, start),
+    }
+}
+
+// The state in which so many names are left, and others are passed.
+#[tactic(auto, unfolding(crate::specs::Reader::says), using(crate::proofs::Steps::no_names_left))]
+fn to_names(frame: Frame, count: u32, left: u32, passed: u32, emrat: Option<u32>) -> State
+    requires few { passed + left ≤ MOST_CONSTANTS }
+    requires count { count ≤ MOST_CONSTANTS }
+    ensures says { (file : ℕ) (rest : List FileLine) → says file result rest ≡ from_names frame count left passed emrat rest }
+    ensures fits { Fits result }
+{
+    if left == 0 {
+        State::ValueGroup {
+            frame,
+            count,
+            emrat,
+        }
+    } else {
+        State::Names {
+            frame,
+            count,
+            left,
+            passed,
+            emrat,
+        }
+    }
+}
+
+// The state behind the names on a line.
+fn pass_names(
+    frame: Frame,
+    count: u32,
+    left: u32,
+    passed: u32,
+    emrat: Option<u32>,
+    line: &Line<'_>,
+) -> State
+    requires { Fits (states.Names frame count left passed emrat) }
+    ensures moves { Moves (states.Names frame count left passed emrat) line.now (Ok result) }
+    ensures fits { Fits result }
+{
+    let here = words_here(left, line);
+    let emrat = emrat_or(emrat, line, here, passed);
+    to_names(frame, count, left - here, passed + here, emrat)
+}
+
+// The state in which so many values are left behind that of `EMRAT`.
+#[tactic(auto, unfolding(crate::specs::Reader::says), using(crate::proofs::Steps::no_values_left))]
+fn to_values_behind(facts: Facts, left: u32) -> State
+    requires { left ≤ MOST_CONSTANTS }
+    ensures says { (file : ℕ) (rest : List FileLine) → says file result rest ≡ from_values_behind facts left rest }
+    ensures fits { Fits result }
+{
+    if left == 0 {
+        State::ColumnGroup { facts }
+    } else {
+        State::ValuesBehind { facts, left }
+    }
+}
+
+// The state behind the values on a line, where that of `EMRAT` is still to come.
+fn pass_values(frame: Frame, left: u32, before: u32, line: &Line<'_>) -> Result<State, BrokenRule>
+    requires { left ≤ MOST_CONSTANTS }
+    ensures moves { Moves (states.ValuesBefore frame left before) line.now result }
+    ensures fits { IfOk result Fits }
+{
+    let here = words_here(left, line);
+    if here <= before {
+        return Ok(State::ValuesBefore {
+            frame,
+            left: left - here,
+            before: before - here,
+        });
+    }
+    match mass_ratio(line, before) {
+        Err(broken) => Err(broken),
+        Ok(emrat) => {
+            let facts = Facts {
+                ncoeff: frame.ncoeff,
+                block_seconds: frame.block_seconds,
+                emrat,
+            };
+            Ok(to_values_behind(facts, left - here))
+        }
+    }
+}
+
+// The state behind the values on a line.
+fn pass_values_behind(facts: Facts, left: u32, line: &Line<'_>) -> State
+    requires { Fits (states.ValuesBehind facts left) }
+    ensures moves { Moves (states.ValuesBehind facts left) line.now (Ok result) }
+    ensures fits { Fits result }
+{
+    let here = words_here(left, line);
+    to_values_behind(facts, left - here)
+}
+
+// The state behind a line of the columns, or the first rule that the line breaks.
+#[tactic(auto, unfolding(crate::specs::Reader::says))]
+fn step_behind_values(state: State, line: &Line<'_>) -> Result<State, BrokenRule>
+    requires open { IsOpen state }
+    requires behind { IsBehindValues state }
+    ensures moves { Moves state line.now result }
+    ensures fits { IfOk result Fits }
+{
+    match state {
+        State::ColumnGroup { facts } => {
+            group(b"1050", 1050, line)?;
+            Ok(State::Starts { facts })
+        }
+        State::Starts { facts } => {
+            let starts = row(line)?;
+            Ok(State::Coefficients { facts, starts })
+        }
+        State::Coefficients { facts, starts } => {
+            let coefs = row(line)?;
+            Ok(State::Granules {
+                facts,
+                starts,
+                coefs,
+            })
+        }
+        State::Granules {
+            facts,
+            starts,
+            coefs,
+        } => {
+            let columns = columns_row(facts.ncoeff, facts.block_seconds, &starts, &coefs, line)?;
+            Ok(State::EndGroup { facts, columns })
+        }
+        State::EndGroup { facts, columns } => {
+            group(b"1070", 1070, line)?;
+            Ok(State::Whole { facts, columns })
+        }
+        state => Ok(state),
+    }
+}
+
+// The state behind a line that wants one, once the names are passed, or the first rule that the line breaks.
+#[tactic(auto, unfolding(crate::specs::Reader::says))]
+fn step_behind_names(state: State, line: &Line<'_>) -> Result<State, BrokenRule>
+    requires open { IsOpen state }
+    requires behind { IsBehindNames state }
+    requires fits { Fits state }
+    ensures moves { Moves state line.now result }
+    ensures fits { IfOk result Fits }
+{
+    match state {
+        State::ValueGroup {
+            frame,
+            count,
+            emrat,
+        } => {
+            group(b"1041", 1041, line)?;
+            Ok(State::ValueCount {
+                frame,
+                count,
+                emrat,
+            })
+        }
+        State::ValueCount {
+            frame,
+            count,
+            emrat,
+        } => {
+            let before = value_count(count, emrat, line)?;
+            Ok(State::ValuesBefore {
+                frame,
+                left: count,
+                before,
+            })
+        }
+        State::ValuesBefore {
+            frame,
+            left,
+            before,
+        } => pass_values(frame, left, before, line),
+        State::ValuesBehind { facts, left } => Ok(pass_values_behind(facts, left, line)),
+        state => step_behind_values(state, line),
+    }
+}
+
+// The state behind a title, or behind the first line that begins with `GROUP`.
+#[tactic(auto, unfolding(crate::specs::Reader::says))]
+fn pass_title(ncoeff: u32, line: &Line<'_>) -> Result<State, BrokenRule>
+    ensures moves { Moves (states.Titles ncoeff) line.now result }
+    ensures fits { IfOk result Fits }
+{
+    if is_group(line) {
+        group(b"1030", 1030, line)?;
+        Ok(State::Span { ncoeff })
+    } else {
+        Ok(State::Titles { ncoeff })
+    }
+}
+
+// The state behind a line that wants one, or the first rule that the line breaks.
+#[tactic(auto, unfolding(crate::specs::Reader::says))]
+fn step(state: State, line: &Line<'_>) -> Result<State, BrokenRule>
+    requires open { IsOpen state }
+    requires fits { Fits state }
+    ensures moves { Moves state line.now result }
+    ensures fits { IfOk result Fits }
+{
+    match state {
+        State::First => {
+            let ncoeff = first_line(line)?;
+            Ok(State::TitleGroup { ncoeff })
+        }
+        State::TitleGroup { ncoeff } => {
+            group(b"1010", 1010, line)?;
+            Ok(State::Titles { ncoeff })
+        }
+        State::Titles { ncoeff } => pass_title(ncoeff, line),
+        State::Span { ncoeff } => {
+            let block_seconds = span(line)?;
+            let frame = Frame {
+                ncoeff,
+                block_seconds,
+            };
+            Ok(State::NameGroup { frame })
+        }
+        State::NameGroup { frame } => {
+            group(b"1040", 1040, line)?;
+            Ok(State::NameCount { frame })
+        }
+        State::NameCount { frame } => {
+            let count = name_count(line)?;
+            Ok(to_names(frame, count, count, 0, None))
+        }
+        State::Names {
+            frame,
+            count,
+            left,
+            passed,
+            emrat,
+        } => Ok(pass_names(frame, count, left, passed, emrat, line)),
+        state => step_behind_names(state, line),
+    }
+}
+
+// The state behind a line, where the first rule that a line breaks is kept.
+#[tactic(auto, unfolding(crate::specs::Reader::says))]
+fn next(state: State, line: &Line<'_>) -> State
+    requires open { IsNotWhole state }
+    requires fits { Fits state }
+    ensures says { (file : ℕ) (rest : List FileLine) → says file result rest ≡ says file state (line_of file line.now ∷ rest) }
+    ensures kept { (fault : Fault) → IsRefused state fault → IsRefused result fault }
+    ensures fits { Fits result }
+{
+    if let State::Refused(fault) = state {
+        return State::Refused(fault);
+    }
+    match step(state, line) {
+        Ok(state) => state,
+        Err(broken) => State::Refused(Fault {
+            line: line.number(),
+            number: broken.number,
+            detail: broken.detail,
+        }),
+    }
+}
+
+// What a state answers.
+#[tactic(auto, unfolding(crate::specs::Reader::says))]
+fn told(state: State) -> Result<Step, HeaderError>
+    requires { Fits state }
+    ensures answer { result ≡ answer (says 0 state []) }
+    ensures more { result ≡ Ok steps.More → IsOpen state }
+    ensures not_done { IsNotDone result → IsNotWhole state }
+    ensures refused { (fault : Fault) → result ≡ Err (errors.Fault fault) → IsRefused state fault }
+    ensures kept { (fault : Fault) → IsRefused state fault → result ≡ Err (errors.Fault fault) }
+{
+    match state {
+        State::Whole { .. } => Ok(Step::Done),
+        State::Refused(fault) => Err(HeaderError::Fault(fault)),
+        _ => Ok(Step::More),
+    }
+}
+
+// The header, unless there is no memory for its columns.
+fn whole(alloc: Global, facts: Facts, columns: [Column; 13]) -> Result<Header, HeaderError>
+    ensures { (end : ℕ) → Ends end (Ok (header_of facts columns, [])) result }
+{
+    match Vec::from_array(alloc, columns) {
+        Ok(list) => Ok(Header {
+            ncoeff: facts.ncoeff,
+            block_seconds: i64::from(facts.block_seconds),
+            emrat: facts.emrat,
+            columns: Columns::new(list),
+        }),
+        Err(_) => Err(HeaderError::Memory),
+    }
+}
+
+// What a state comes to where the lines end.
+#[tactic(auto, unfolding(crate::specs::Reader::says))]
+fn header_at_end(alloc: Global, state: State, line: u32) -> Result<Header, HeaderError>
+    ensures { Ends line (says 0 state []) result }
+{
+    match state {
+        State::Whole { facts, columns } => whole(alloc, facts, columns),
+        State::Refused(fault) => Err(HeaderError::Fault(fault)),
+        _ => Err(HeaderError::Fault(Fault {
+            line,
+            number: ENDED,
+            detail: 0,
+        })),
+    }
+}
+
+/// A reader of the header of a file, or of several files one behind the other.
+#[derive(Drop)]
+pub struct HeaderReader {
+    state: State,
+}
+
+impl Model for HeaderReader {
+    ghost use Rattle.de_header.specs.declared.state.State.{State};
+    ghost use Rattle.de_header.specs.Reader.{Fits};
+
+    ghost Value = { State };
+
+    ghost view = { λ r. r.state };
+
+    ghost invariant = { λ r. Fits r.state };
+}
+
+impl HeaderReader {
+    /// A reader that waits for the first line.
+    pub fn new() -> Self
+        ensures header { (file : ℕ) (lines : List FileLine) → says file result lines ≡ header lines }
+        ensures open { IsOpen result × IsNotWhole result }
+    {
+        HeaderReader {
+            state: State::First,
+        }
+    }
+
+    /// Reads the next line. `Done` comes at the line that ends the header, and `Fault` at the first line that breaks a
+    /// rule and at every line behind it. A line takes no memory, so `Memory` never comes here.
+    pub fn line(&mut self, line: &Line<'_>) -> Result<Step, HeaderError>
+        requires { IsNotWhole self.old }
+        ensures says { (file : ℕ) (rest : List FileLine) → says file self.new rest ≡ says file self.old (line_of file line.now ∷ rest) }
+        ensures answer { result ≡ answer (says 0 self.new []) }
+        ensures more { result ≡ Ok steps.More → IsOpen self.new }
+        ensures not_done { IsNotDone result → IsNotWhole self.new }
+        ensures refused { (fault : Fault) → result ≡ Err (errors.Fault fault) → IsRefused self.new fault }
+        ensures kept { (fault : Fault) → IsRefused self.old fault → IsRefused self.new fault × (result ≡ Err (errors.Fault fault)) }
+        ensures no_memory_is_wanted { result ≡ Err errors.Memory → ⊥ }
+    {
+        self.state = next(self.state, line);
+        told(self.state)
+    }
+
+    /// The header, where the lines end at this number, that of the last file's lines plus 1. `Fault` is the kept
+    /// refusal, or fault 22 at this number where the header isn't whole. Where the lines that were given are those of
+    /// which `new` speaks, the header meets the rules of a header.
+    pub fn end(self, alloc: Global, line: u32) -> Result<Header, HeaderError>
+        ensures end { Ends line (says 0 self []) result }
+        ensures rules { (lines : List FileLine) → says 0 self [] ≡ header lines → IfOk result IsHeader }
+    {
+        header_at_end(alloc, self.state, line)
+    }
+}

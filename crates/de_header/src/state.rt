@@ -1,0 +1,112 @@
+// How far a reader has come, with what it has read.
+use spec_ephemeris::Column;
+use spec_text::{Decimal, Fault};
+
+/// What the lines before the names told.
+#[derive(Clone, Copy, Debug, PartialEq, Eq)]
+pub struct Frame {
+    /// The numbers of a block.
+    pub ncoeff: u32,
+    /// The length of a block, in seconds.
+    pub block_seconds: u32,
+}
+
+/// What the lines before the columns told.
+#[derive(Clone, Copy, Debug, PartialEq, Eq)]
+pub struct Facts {
+    /// The numbers of a block.
+    pub ncoeff: u32,
+    /// The length of a block, in seconds.
+    pub block_seconds: u32,
+    /// The mass of the Earth over that of the Moon.
+    pub emrat: Decimal,
+}
+
+/// What a reader waits for, and what it keeps. A place of `EMRAT` is counted from 0.
+#[derive(Clone, Copy, Debug, PartialEq, Eq)]
+pub enum State {
+    /// The first line.
+    First,
+    /// `GROUP 1010`.
+    TitleGroup {
+        ncoeff: u32,
+    },
+    /// Titles, or `GROUP 1030`.
+    Titles {
+        ncoeff: u32,
+    },
+    /// The Julian dates and the days of a block.
+    Span {
+        ncoeff: u32,
+    },
+    /// `GROUP 1040`.
+    NameGroup {
+        frame: Frame,
+    },
+    /// The count of names.
+    NameCount {
+        frame: Frame,
+    },
+    /// Names, of which some are passed and some are left.
+    Names {
+        frame: Frame,
+        count: u32,
+        left: u32,
+        passed: u32,
+        emrat: Option<u32>,
+    },
+    /// `GROUP 1041`.
+    ValueGroup {
+        frame: Frame,
+        count: u32,
+        emrat: Option<u32>,
+    },
+    /// The count of values.
+    ValueCount {
+        frame: Frame,
+        count: u32,
+        emrat: Option<u32>,
+    },
+    /// Values, of which so many stand before that of `EMRAT`.
+    ValuesBefore {
+        frame: Frame,
+        left: u32,
+        before: u32,
+    },
+    /// Values behind that of `EMRAT`.
+    ValuesBehind {
+        facts: Facts,
+        left: u32,
+    },
+    /// `GROUP 1050`.
+    ColumnGroup {
+        facts: Facts,
+    },
+    /// The starts of the columns.
+    Starts {
+        facts: Facts,
+    },
+    /// The coefficients of the columns.
+    Coefficients {
+        facts: Facts,
+        starts: [u32; 13],
+    },
+    /// The granules of the columns.
+    Granules {
+        facts: Facts,
+        starts: [u32; 13],
+        coefs: [u32; 13],
+    },
+    /// `GROUP 1070`.
+    EndGroup {
+        facts: Facts,
+        columns: [Column; 13],
+    },
+    /// Nothing: the header is whole.
+    Whole {
+        facts: Facts,
+        columns: [Column; 13],
+    },
+    /// Nothing: the first fault was met.
+    Refused(Fault),
+}

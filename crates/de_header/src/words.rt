@@ -1,0 +1,152 @@
+// The rules of the lines before the columns.
+ghost use Rattle.std.specs.Prelude.{◌≡◌, ◌≤◌, ◌<◌, ◌+◌, IfOk, List, Some, length, slice_get, take, codes, ℕ};
+ghost use Rattle.std.specs.Option.{option_copied};
+ghost use Rattle.spec_header.specs.Sections.{is_word};
+ghost use Rattle.spec_header.specs.HeaderRules.{decimal_at, emrat_from, first_line, group, mass_ratio, mass_ratio_of, name_count, span, value_count, whole_at};
+
+use crate::days::{block_length, check_julian_date, is_mass_ratio};
+use de_text::{Decimal, Line, read_decimal, read_whole};
+use spec_ephemeris::{FEWEST_NUMBERS, MOST_NUMBERS};
+use spec_header::{
+    BrokenRule, COUNT_MISMATCH, EMRAT_MISSING, EMRAT_RANGE, FIRST_LINE, GROUP_MISSING,
+    HEADER_NUMBER, LIMIT, MOST_CONSTANTS,
+};
+
+pub(crate) fn broken(number: u8, detail: u16) -> BrokenRule
+    ensures { result ≡ record { number = number; detail = detail } }
+{
+    BrokenRule { number, detail }
+}
+
+fn is_word(line: &Line<'_>, i: usize, text: &[u8]) -> bool
+    ensures { result ≡ is_word (slice_get line.now.tokens i) text.now }
+{
+    match line.token(i) {
+        Some(word) => word == text,
+        None => false,
+    }
+}
+
+pub(crate) fn whole_at(line: &Line<'_>, i: usize) -> Option<u32>
+    ensures { result ≡ whole_at (slice_get line.now.tokens i) }
+{
+    match line.token(i) {
+        Some(word) => read_whole(word),
+        None => None,
+    }
+}
+
+// NCOEFF.
+pub(crate) fn first_line(line: &Line<'_>) -> Result<u32, BrokenRule>
+    ensures { result ≡ first_line line.now.tokens }
+{
+    if line.count() == 4 && is_word(line, 0, b"KSIZE=") && is_word(line, 2, b"NCOEFF=") {
+        match whole_at(line, 3) {
+            None => Err(broken(FIRST_LINE, 0)),
+            Some(n) if n < FEWEST_NUMBERS || MOST_NUMBERS < n => Err(broken(LIMIT, 0)),
+            Some(n) => Ok(n),
+        }
+    } else {
+        Err(broken(FIRST_LINE, 0))
+    }
+}
+
+pub(crate) fn group(name: &[u8], number: u16, line: &Line<'_>) -> Result<(), BrokenRule>
+    ensures { result ≡ group name.now number line.now.tokens }
+{
+    if line.count() == 2 && is_word(line, 0, b"GROUP") && is_word(line, 1, name) {
+        Ok(())
+    } else {
+        Err(broken(GROUP_MISSING, number))
+    }
+}
+
+// The line begins with `GROUP`.
+pub(crate) fn is_group(line: &Line<'_>) -> bool
+    ensures { result ≡ is_word (slice_get line.now.tokens 0) (codes "GROUP") }
+{
+    is_word(line, 0, b"GROUP")
+}
+
+fn decimal_at(line: &Line<'_>, i: usize) -> Result<Decimal, BrokenRule>
+    ensures { result ≡ decimal_at (slice_get line.now.tokens i) }
+{
+    match line.token(i) {
+        None => Err(broken(HEADER_NUMBER, 1)),
+        Some(word) => match read_decimal(word) {
+            Ok(d) => Ok(d),
+            Err(fault) => Err(broken(HEADER_NUMBER, fault.number())),
+        },
+    }
+}
+
+// The length of a block, in seconds.
+pub(crate) fn span(line: &Line<'_>) -> Result<u32, BrokenRule>
+    ensures { result ≡ span line.now.tokens }
+{
+    check_julian_date(decimal_at(line, 0)?)?;
+    check_julian_date(decimal_at(line, 1)?)?;
+    block_length(decimal_at(line, 2)?)
+}
+
+pub(crate) fn name_count(line: &Line<'_>) -> Result<u32, BrokenRule>
+    ensures value { result ≡ name_count line.now.tokens }
+    ensures few { IfOk result (λ n. n ≤ MOST_CONSTANTS) }
+{
+    match whole_at(line, 0) {
+        None => Err(broken(HEADER_NUMBER, 1)),
+        Some(n) if MOST_CONSTANTS < n => Err(broken(LIMIT, 0)),
+        Some(n) => Ok(n),
+    }
+}
+
+// The place of the first `EMRAT` among the first words of a line, counted from `start`.
+pub(crate) fn find_emrat(line: &Line<'_>, n: u32, start: u32) -> Option<u32>
+    requires few { start + n ≤ MOST_CONSTANTS }
+    requires there { n ≤ length line.now.tokens }
+    ensures { result ≡ emrat_from start (take n line.now.tokens) }
+{
+    for i in 0..n {
+        if is_word(line, i as usize, b"EMRAT") {
+            return Some(start + i);
+        }
+    }
+    None
+}
+
+// The place of the value of `EMRAT`, whose name has this place among `names` names.
+pub(crate) fn value_count(
+    names: u32,
+    emrat: Option<u32>,
+    line: &Line<'_>,
+) -> Result<u32, BrokenRule>
+    ensures { result ≡ value_count names emrat line.now.tokens }
+{
+    match whole_at(line, 0) {
+        None => Err(broken(HEADER_NUMBER, 1)),
+        Some(n) if n != names => Err(broken(COUNT_MISMATCH, 0)),
+        Some(_) => match emrat {
+            None => Err(broken(EMRAT_MISSING, 0)),
+            Some(place) => Ok(place),
+        },
+    }
+}
+
+fn mass_ratio_of(d: Decimal) -> Result<Decimal, BrokenRule>
+    ensures { result ≡ mass_ratio_of d }
+{
+    if is_mass_ratio(d) {
+        Ok(d)
+    } else {
+        Err(broken(EMRAT_RANGE, 0))
+    }
+}
+
+// The value of `EMRAT`, which is the word at this place of the line.
+pub(crate) fn mass_ratio(line: &Line<'_>, place: u32) -> Result<Decimal, BrokenRule>
+    requires { place < length line.now.tokens }
+    ensures { (word : List ℕ) → slice_get line.now.tokens place ≡ Some word → result ≡ mass_ratio word }
+{
+    let d = decimal_at(line, place as usize)?;
+    mass_ratio_of(d)
+}

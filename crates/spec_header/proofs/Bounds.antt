@@ -1,0 +1,81 @@
+-- The numbers of an accepted header are within bounds.
+use Rattle.std.proofs.Common.{◌≡◌, ℕ, ◌*◌, ◌≤◌, Bool, true, false, List, Option, None, Some, Result, Ok, Err, inl, inr, arith, ne_eqb, if◌then◌else◌, pos}
+use Rattle.std.specs.Prelude.{int_lt, slice_get}
+use Rattle.std.proofs.lemmas.Bool.{cases_Bool, cases_eq, cases_lt, lt-ltb, le-ltb}
+use Rattle.spec_text.specs.Reading.{reading}
+use Rattle.spec_text.specs.declared.decimals.Decimal.{Decimal}
+use Rattle.spec_text.specs.declared.decimals.NumberFault.{NumberFault}
+use Rattle.spec_header.specs.HeaderLines.{mass_ratio_among, mass_ratio_at}
+use Rattle.spec_header.specs.HeaderRules.{block_length, decimal_at, decimal_by, first_line, is_mass_ratio, mass_ratio_of, ncoeff_of, not_none, seconds_within, span, whole_at, within_days, seconds_of_days}
+use Rattle.spec_header.specs.Sections.{FileLine, FileWord, Stop, ◌>>=◌, at_line, behind_words, first_words}
+use Rattle.spec_header.proofs.Holding.{Holds, holds_ok, then_any}
+
+abbrev pub IsNcoeff : ℕ → Type 0
+IsNcoeff n = (3 ≤ n) × (n ≤ 4096)
+
+ncoeff_holds : (o : Option ℕ) → Holds IsNcoeff (ncoeff_of o)
+ncoeff_holds None = tt
+ncoeff_holds (Some n) = elim (cases_lt n 3) [
+  | inl few ↦ rw (lt-ltb n 3 few) tt
+  | inr enough ↦ elim (cases_lt 4096 n) [
+    | inl many ↦ rw (le-ltb n 3 enough, lt-ltb 4096 n many) tt
+    | inr most ↦ rw (le-ltb n 3 enough, le-ltb 4096 n most) (enough, most)
+  ]
+]
+
+either : {A E : Type 0} (Q : A → Type 0) (c : Bool) (r : Result A E) (e : E) → Holds Q r → Holds Q (if c then r else Err e)
+either Q true r e holds = holds
+either Q false r e holds = tt
+
+pub first_line_holds : (words : List (List ℕ)) → Holds IsNcoeff (first_line words)
+first_line_holds words = either IsNcoeff _ (ncoeff_of (whole_at (slice_get words 3))) _ (ncoeff_holds (whole_at (slice_get words 3)))
+
+abbrev pub IsBlock : ℕ → Type 0
+IsBlock s = (1 ≤ s) × (s ≤ 2764800)
+
+some_seconds : (s : ℕ) → s ≤ 2764800 → Holds IsBlock (not_none s)
+some_seconds s most = elim (cases_eq s 0) [
+  | inl none ↦ rw none tt
+  | inr some ↦ rw (ne_eqb s 0 some) (omega (arith, some), most)
+]
+
+within_holds : (d : Decimal) (o : Option ℕ) → Holds (λ s. s ≤ 2764800) (within_days 32 d o)
+within_holds d None = tt
+within_holds d (Some s) = elim (cases_Bool (int_lt d.mant (pos 0))) [
+  | inl negative ↦ rw negative tt
+  | inr positive ↦ elim (cases_lt (86400 * 32) s) [
+    | inl many ↦ rw (positive, lt-ltb (86400 * 32) s many) tt
+    | inr most ↦ rw (positive, le-ltb (86400 * 32) s most) most
+  ]
+]
+
+block_holds : (d : Decimal) → Holds IsBlock (block_length d)
+block_holds d = then_any IsBlock (seconds_within 32 d) not_none (λ s is. some_seconds s (holds_ok (λ s. s ≤ 2764800) (seconds_within 32 d) s is (within_holds d (seconds_of_days d))))
+
+pub span_holds : (words : List (List ℕ)) → Holds IsBlock (span words)
+span_holds words =
+    then_any IsBlock (decimal_at (slice_get words 0)) _ (λ start a.
+    then_any IsBlock (seconds_within 5000000 start) _ (λ first b.
+    then_any IsBlock (decimal_at (slice_get words 1)) _ (λ final c.
+    then_any IsBlock (seconds_within 5000000 final) _ (λ last e.
+    then_any IsBlock (decimal_at (slice_get words 2)) _ (λ days f. block_holds days)))))
+
+module _ {B : Type 0} (Q : B → Type 0) (k : Decimal × List FileLine → Result B Stop) (all : (x : Decimal × List FileLine) → is_mass_ratio x.0 ≡ true → Holds Q (k x)) where
+  behind_ratio : (d : Decimal) (b : Result (List FileLine) Stop) → is_mass_ratio d ≡ true → Holds Q ((b >>= λ rest. Ok (d, rest)) >>= k)
+  behind_ratio d (Ok rest) is = all (d, rest) is
+  behind_ratio d (Err e) is = tt
+
+  read_ratio : (file line : ℕ) (r : Result Decimal NumberFault) (b : Result (List FileLine) Stop)
+      → Holds Q ((at_line file line (decimal_by r >>= mass_ratio_of) >>= λ d. b >>= λ rest. Ok (d, rest)) >>= k)
+  read_ratio file line (Err f) b = tt
+  read_ratio file line (Ok d) b = elim (cases_Bool (is_mass_ratio d)) [
+    | inl is ↦ rw is (behind_ratio d b is)
+    | inr other ↦ rw other tt
+  ]
+
+  ratio_at : (o : Option FileWord) (b : Result (List FileLine) Stop) → Holds Q ((mass_ratio_at o >>= λ d. b >>= λ rest. Ok (d, rest)) >>= k)
+  ratio_at None b = tt
+  ratio_at (Some word) b = read_ratio word.file word.line (reading word.text) b
+
+  pub then_ratio : (n place : ℕ) (lines : List FileLine) → Holds Q (mass_ratio_among n place lines >>= k)
+  then_ratio n place lines = ratio_at (slice_get (first_words n lines) place) (behind_words 22 n lines)

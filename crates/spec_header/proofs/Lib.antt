@@ -1,0 +1,5 @@
+pub mod Holding
+pub mod Bounds
+pub mod Ratios
+pub mod ColumnsMeet
+pub mod Accepted

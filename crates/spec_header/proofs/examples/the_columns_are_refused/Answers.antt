@@ -1,0 +1,35 @@
+use Rattle.std.proofs.Common.{refl}
+use Rattle.spec_header.specs.HeaderLines.{header}
+use Rattle.spec_header.proofs.examples.the_columns_are_refused.Goals as goal
+
+pub returns-clause-twelve_words : goal.returns-clause-twelve_words
+unfolding header
+returns-clause-twelve_words c = refl
+
+pub returns-clause-bad_word : goal.returns-clause-bad_word
+unfolding header
+returns-clause-bad_word c = refl
+
+pub returns-clause-many_coefficients : goal.returns-clause-many_coefficients
+unfolding header
+returns-clause-many_coefficients c = refl
+
+pub returns-clause-past_the_block : goal.returns-clause-past_the_block
+unfolding header
+returns-clause-past_the_block c = refl
+
+pub returns-clause-overlap : goal.returns-clause-overlap
+unfolding header
+returns-clause-overlap c = refl
+
+pub returns-clause-part_of_a_second : goal.returns-clause-part_of_a_second
+unfolding header
+returns-clause-part_of_a_second c = refl
+
+pub returns-clause-ended : goal.returns-clause-ended
+unfolding header
+returns-clause-ended c = refl
+
+pub returns-clause-too_long : goal.returns-clause-too_long
+unfolding header
+returns-clause-too_long c = refl

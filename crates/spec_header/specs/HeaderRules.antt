@@ -1,0 +1,123 @@
+-- The rules of the lines of a header, each on the words of one line, with the first rule that is broken from left to right.
+use Rattle.std.specs.Prelude.{ℕ, suc, ◌*◌, ◌/◌, ◌%◌, ◌^◌, ◌==◌, ◌&&◌, ◌||◌, nat_lt, nat_le, int_lt, unsigned_abs, pos, Bool, List, [], ◌∷◌, length, slice_get, Option, None, Some, Result, Ok, Err, codes, if◌then◌else◌}
+use Rattle.std.specs.Str.{bytes_eq}
+use borrow.Author.Differences.{up, down}
+use Rattle.spec_text.specs.Reading.{fault_number, reading, whole_of}
+use Rattle.spec_text.specs.declared.decimals.Decimal.{Decimal}
+use Rattle.spec_text.specs.declared.decimals.NumberFault.{NumberFault}
+use Rattle.spec_ephemeris.specs.declared.limits.TheConstants.{FEWEST_NUMBERS, MOST_NUMBERS, LEAST_MASS_RATIO, GREATEST_MASS_RATIO}
+use Rattle.spec_header.specs.declared.rules.BrokenRule.{BrokenRule}
+use Rattle.spec_header.specs.declared.rules.TheConstants.{FIRST_LINE, GROUP_MISSING, JD_NOT_WHOLE_SECOND, COUNT_MISMATCH, EMRAT_MISSING, EMRAT_RANGE, LIMIT, HEADER_NUMBER, LAST_JULIAN_DAY, MOST_BLOCK_DAYS, MOST_CONSTANTS}
+use Rattle.spec_header.specs.Sections.{◌>>=◌, is_word}
+
+abbrev pub broken : ℕ → ℕ → BrokenRule
+broken number detail = record { number = number; detail = detail }
+
+-- the whole number at a place of a line, if one stands there
+abbrev pub whole_at : Option (List ℕ) → Option ℕ
+whole_at None = None
+whole_at (Some word) = whole_of word
+
+-- NCOEFF is from 3 to 4,096
+abbrev pub ncoeff_of : Option ℕ → Result ℕ BrokenRule
+ncoeff_of None = Err (broken FIRST_LINE 0)
+ncoeff_of (Some n) = if nat_lt n FEWEST_NUMBERS || nat_lt MOST_NUMBERS n then Err (broken LIMIT 0) else Ok n
+
+-- four words: KSIZE=, any word, NCOEFF= and a whole number
+abbrev pub first_line : List (List ℕ) → Result ℕ BrokenRule
+first_line words =
+    if length words == 4 && (is_word (slice_get words 0) (codes "KSIZE=") && is_word (slice_get words 2) (codes "NCOEFF="))
+    then ncoeff_of (whole_at (slice_get words 3)) else Err (broken FIRST_LINE 0)
+
+-- two words: GROUP and the group's number
+abbrev pub group : List ℕ → ℕ → List (List ℕ) → Result (Unit {0}) BrokenRule
+group name number words =
+    if length words == 2 && (is_word (slice_get words 0) (codes "GROUP") && is_word (slice_get words 1) name)
+    then Ok tt else Err (broken GROUP_MISSING number)
+
+abbrev pub decimal_by : Result Decimal NumberFault → Result Decimal BrokenRule
+decimal_by (Ok d) = Ok d
+decimal_by (Err fault) = Err (broken HEADER_NUMBER (fault_number fault))
+
+-- the decimal at a place of a line; where no word stands, that is no number
+abbrev pub decimal_at : Option (List ℕ) → Result Decimal BrokenRule
+decimal_at None = Err (broken HEADER_NUMBER 1)
+decimal_at (Some word) = decimal_by (reading word)
+
+-- the size of a decimal is size_over / size_under
+abbrev pub size_over : Decimal → ℕ
+size_over d = unsigned_abs d.mant * 10 ^ up d.exp
+
+abbrev pub size_under : Decimal → ℕ
+size_under d = 10 ^ down d.exp
+
+abbrev pub quotient : ℕ → ℕ → Option ℕ
+quotient n m = if n % m == 0 then Some (n / m) else None
+
+-- so many days, whatever their sign, in seconds, if these are a whole number. J2000 is a whole number of days, so a
+-- Julian date is a whole number of seconds from J2000 on exactly where it is one from day 0 on.
+abbrev pub seconds_of_days : Decimal → Option ℕ
+seconds_of_days d = quotient (86400 * size_over d) (size_under d)
+
+abbrev pub within_days : ℕ → Decimal → Option ℕ → Result ℕ BrokenRule
+within_days most d None = Err (broken JD_NOT_WHOLE_SECOND 0)
+within_days most d (Some seconds) = if int_lt d.mant (pos 0) || nat_lt (86400 * most) seconds then Err (broken LIMIT 0) else Ok seconds
+
+-- a number of days, from 0 to this one, in seconds
+abbrev pub seconds_within : ℕ → Decimal → Result ℕ BrokenRule
+seconds_within most d = within_days most d (seconds_of_days d)
+
+abbrev pub not_none : ℕ → Result ℕ BrokenRule
+not_none seconds = if seconds == 0 then Err (broken LIMIT 0) else Ok seconds
+
+-- the days of a block, from one second to 32 days, in seconds
+abbrev pub block_length : Decimal → Result ℕ BrokenRule
+block_length days = seconds_within MOST_BLOCK_DAYS days >>= not_none
+
+-- three decimals: the first and the last Julian date, and the days of a block, whose seconds are told
+abbrev pub span : List (List ℕ) → Result ℕ BrokenRule
+span words = do
+  start ← decimal_at (slice_get words 0)
+  first ← seconds_within LAST_JULIAN_DAY start
+  final ← decimal_at (slice_get words 1)
+  last ← seconds_within LAST_JULIAN_DAY final
+  days ← decimal_at (slice_get words 2)
+  block_length days
+
+abbrev pub name_count_of : Option ℕ → Result ℕ BrokenRule
+name_count_of None = Err (broken HEADER_NUMBER 1)
+name_count_of (Some n) = if nat_lt MOST_CONSTANTS n then Err (broken LIMIT 0) else Ok n
+
+-- the count of the names of constants
+abbrev pub name_count : List (List ℕ) → Result ℕ BrokenRule
+name_count words = name_count_of (whole_at (slice_get words 0))
+
+-- the place of the first name EMRAT, counted from k
+abbrev pub emrat_from : ℕ → List (List ℕ) → Option ℕ
+emrat_from k [] = None
+emrat_from k (name ∷ names) = if bytes_eq name (codes "EMRAT") then Some k else emrat_from (suc k) names
+
+abbrev pub emrat_place_of : Option ℕ → Result ℕ BrokenRule
+emrat_place_of None = Err (broken EMRAT_MISSING 0)
+emrat_place_of (Some place) = Ok place
+
+abbrev pub value_count_of : ℕ → Option ℕ → Option ℕ → Result ℕ BrokenRule
+value_count_of names emrat None = Err (broken HEADER_NUMBER 1)
+value_count_of names emrat (Some n) = if n == names then emrat_place_of emrat else Err (broken COUNT_MISMATCH 0)
+
+-- the count of the values is that of the names, one of which is EMRAT; its place is told
+abbrev pub value_count : ℕ → Option ℕ → List (List ℕ) → Result ℕ BrokenRule
+value_count names emrat words = value_count_of names emrat (whole_at (slice_get words 0))
+
+-- EMRAT, the mass of the Earth over that of the Moon, is from 1 to 1,000
+abbrev pub is_mass_ratio : Decimal → Bool
+is_mass_ratio d =
+    int_lt (pos 0) d.mant
+    && (nat_le (LEAST_MASS_RATIO * size_under d) (size_over d) && nat_le (size_over d) (GREATEST_MASS_RATIO * size_under d))
+
+abbrev pub mass_ratio_of : Decimal → Result Decimal BrokenRule
+mass_ratio_of d = if is_mass_ratio d then Ok d else Err (broken EMRAT_RANGE 0)
+
+-- the value at the place of EMRAT
+abbrev pub mass_ratio : List ℕ → Result Decimal BrokenRule
+mass_ratio word = decimal_by (reading word) >>= mass_ratio_of

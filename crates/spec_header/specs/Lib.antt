@@ -1,0 +1,5 @@
+pub mod Sections
+pub mod HeaderRules
+pub mod ColumnRules
+pub mod HeaderLines
+pub mod Examples

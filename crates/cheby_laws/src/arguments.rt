@@ -4,7 +4,11 @@ ghost use Rattle.std.specs.Prelude.{◌≡◌, ◌≤◌, ◌*◌, ◌^◌, ◌�
 ghost use Rattle.spec_intervals.specs.Interval.{floor_div, ceil_div};
 ghost use Rattle.spec_chebyshev.specs.Rows.{argument_of, HoldsIn, IsArguments};
 
+use crate::steps::{back, negated};
 use spec_chebyshev::Ival62;
+
+/// The number 1 in units of 2^-60.
+const ONE: i128 = 1_152_921_504_606_846_976;
 
 /// The arguments from `ua / seconds` to `ub / seconds`, rounded outward in units of 2^-60.
 ///
@@ -41,7 +45,7 @@ fn share_down(u: i64, seconds: i64) -> i64
     ensures equals { result ≡ floor_div (u *ℤ pos (2 ^ 60)) (unsigned_abs seconds) }
     ensures bound { unsigned_abs result ≤ 2 ^ 60 }
 {
-    narrow(quotient(scaled(u), seconds))
+    back(quotient(scaled(u), seconds))
 }
 
 /// `ceil(u 2^60 / seconds)` of an argument.
@@ -50,5 +54,24 @@ fn share_up(u: i64, seconds: i64) -> i64
     requires size { unsigned_abs u ≤ unsigned_abs seconds }
     ensures { result ≡ ceil_div (u *ℤ pos (2 ^ 60)) (unsigned_abs seconds) }
 {
-    -share_down(-u, seconds)
+    back(negated(quotient(negated(scaled(u)), seconds)))
+}
+
+/// `u 2^60`.
+fn scaled(u: i64) -> i128
+    ensures equals { result ≡ u *ℤ pos (2 ^ 60) }
+    ensures bound { unsigned_abs result ≤ 2 ^ 123 }
+    ensures size { unsigned_abs result ≡ 2 ^ 60 * unsigned_abs u }
+{
+    u as i128 * ONE
+}
+
+/// `floor(z / seconds)`.
+fn quotient(z: i128, seconds: i64) -> i128
+    requires length { pos 1 ≤ℤ seconds }
+    requires size { unsigned_abs z ≤ 2 ^ 60 * unsigned_abs seconds }
+    ensures equals { result ≡ floor_div z (unsigned_abs seconds) }
+    ensures bound { unsigned_abs result ≤ 2 ^ 60 }
+{
+    z.div_euclid(seconds as i128)
 }

@@ -1,5 +1,5 @@
 -- The sizes of what a step computes.
-use Rattle.std.proofs.Common.{◌≡◌, ℕ, zero, suc, ◌+◌, ◌-◌, ◌*◌, ◌/◌, ◌^◌, ◌<◌, ◌≤◌, arith, refl, sym, ap, ◌∙◌, ℤ, pos, negsuc, ◌+ℤ◌, ◌-ℤ◌, ◌*ℤ◌, neg_ℤ, ◌≤ℤ◌, ◌<ℤ◌, unsigned_abs, FitsSigned, w64, to_z, of_z}
+use Rattle.std.proofs.Common.{◌≡◌, ℕ, zero, suc, ◌-◌, ◌*◌, ◌^◌, ◌<◌, ◌≤◌, arith, ◌∙◌, ℤ, pos, ◌*ℤ◌, unsigned_abs, FitsSigned, w64, to_z, of_z}
 use mir.Syntax.{w128}
 use Rattle.std.proofs.lemmas.Int.{ints, unsigned_abs-mul, to_z-of_z}
 use Rattle.std.proofs.lemmas.Nat.{mul-le, pow_pos}
@@ -8,7 +8,7 @@ use Rattle.spec_intervals.specs.Interval.{floor_div, ceil_div, least4, greatest4
 use Rattle.spec_intervals.proofs.Floor.{floor_div-small, ceil_div-small}
 use Rattle.spec_chebyshev.specs.declared.ends.Ival62.{Ival62}
 use Rattle.spec_chebyshev.specs.Differences.{Within}
-use Rattle.spec_chebyshev.specs.Rows.{next, t_size, u_size, q_size, r_size, nothing, shifted, t_row, u_row, q_row, r_row, EndsWithin, IsArguments}
+use Rattle.spec_chebyshev.specs.Rows.{next, u_size, q_size, r_size, nothing, shifted, t_row, u_row, q_row, r_row, EndsWithin, IsArguments}
 use Rattle.spec_chebyshev.proofs.RowEnds.{EndsWithin-t, EndsWithin-u, EndsWithin-q, EndsWithin-r}
 
 pub size : (z : ℤ) (m : ℕ) → Within z (pos m) → unsigned_abs z ≤ m

@@ -8,14 +8,20 @@ use spec_chebyshev::Ival62;
 
 /// The number 1 in the unit of each row.
 const T_ONE: i64 = 1_152_921_504_606_846_976;
+
 const U_ONE: i64 = 1_125_899_906_842_624;
+
 const Q_ONE: i64 = 70_368_744_177_664;
+
 const R_TWO: i64 = 35_184_372_088_832;
 
 /// The bounds of `U_k`, `Q_k` and `R_k` are multiples of these.
 const T_LIMIT: u64 = 1_152_921_504_606_846_976;
+
 const U_LIMIT: u64 = 1_125_899_906_842_624;
+
 const Q_LIMIT: u64 = 70_368_744_177_664;
+
 const R_LIMIT: u64 = 17_592_186_044_416;
 
 const NOTHING: Ival62 = Ival62 { lo: 0, hi: 0 };
@@ -28,7 +34,10 @@ pub fn entry_t(x: Ival62, k: usize, t: &[Ival62; 32]) -> Ival62
     ensures { result ≡ t_row x k }
 {
     if k == 0 {
-        Ival62 { lo: T_ONE, hi: T_ONE }
+        Ival62 {
+            lo: T_ONE,
+            hi: T_ONE,
+        }
     } else if k == 1 {
         x
     } else {
@@ -44,7 +53,10 @@ pub fn entry_u(x: Ival62, k: usize, u: &[Ival62; 32]) -> Ival62
     ensures { result ≡ u_row x k }
 {
     if k == 0 {
-        Ival62 { lo: U_ONE, hi: U_ONE }
+        Ival62 {
+            lo: U_ONE,
+            hi: U_ONE,
+        }
     } else if k == 1 {
         coarser(x, 9)
     } else {
@@ -63,7 +75,10 @@ pub fn entry_q(x: Ival62, k: usize, t: &[Ival62; 32], q: &[Ival62; 32]) -> Ival6
     if k == 0 {
         NOTHING
     } else if k == 1 {
-        Ival62 { lo: Q_ONE, hi: Q_ONE }
+        Ival62 {
+            lo: Q_ONE,
+            hi: Q_ONE,
+        }
     } else {
         next_entry(x, q[k - 1], coarser(t[k - 1], 13), q[k - 2], q_limit(k))
     }
@@ -80,7 +95,10 @@ pub fn entry_r(x: Ival62, k: usize, u: &[Ival62; 32], r: &[Ival62; 32]) -> Ival6
     if k == 0 {
         NOTHING
     } else if k == 1 {
-        Ival62 { lo: R_TWO, hi: R_TWO }
+        Ival62 {
+            lo: R_TWO,
+            hi: R_TWO,
+        }
     } else {
         next_entry(x, r[k - 1], coarser(u[k - 1], 5), r[k - 2], r_limit(k))
     }

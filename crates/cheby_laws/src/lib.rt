@@ -13,3 +13,6 @@ mod steps;
 pub use arguments::argument;
 pub use bases::{Basis, basis_q, basis_r, basis_t, basis_u};
 pub use spec_chebyshev::Ival62;
+
+#[cfg(test)]
+mod tests;

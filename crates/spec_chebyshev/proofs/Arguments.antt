@@ -1,11 +1,11 @@
 -- The interval of arguments of a span of seconds.
-use Rattle.std.proofs.Common.{◌≡◌, ℕ, suc, ◌*◌, ◌^◌, ◌<◌, ◌≤◌, arith, ℤ, pos, negsuc, ◌*ℤ◌, neg_ℤ, ◌≤ℤ◌, ◌<ℤ◌, unsigned_abs}
+use Rattle.std.proofs.Common.{ℕ, ◌*◌, ◌^◌, ◌<◌, ◌≤◌, arith, ℤ, pos, negsuc, ◌*ℤ◌, neg_ℤ, ◌≤ℤ◌, ◌<ℤ◌, unsigned_abs}
 use Rattle.std.proofs.lemmas.Int.{ints}
 use Rattle.spec_intervals.specs.Interval.{floor_div, ceil_div}
 use Rattle.spec_intervals.proofs.Order.{lin, le-mul}
 use Rattle.spec_intervals.proofs.Floor.{floor_div-le, ceil_div-ge, floor_div-small, ceil_div-small, ordered_quotients}
 use Rattle.spec_chebyshev.specs.Differences.{Within}
-use Rattle.spec_chebyshev.specs.Rows.{argument_of, HoldsIn, EndsWithin, IsArguments}
+use Rattle.spec_chebyshev.specs.Rows.{argument_of, HoldsIn, IsArguments}
 
 size_within : (z : ℤ) (m : ℕ) → unsigned_abs z ≤ m → Within z (pos m)
 size_within z m h = record { low = omega (arith, ints); high = omega (arith, ints) }

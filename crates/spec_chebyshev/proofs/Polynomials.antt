@@ -1,9 +1,9 @@
 -- What the polynomials cleared of fractions obey: T and U by each other, the circle, and the size of T.
-use Rattle.std.proofs.Common.{◌≡◌, ℕ, zero, suc, ◌+◌, ◌*◌, ◌<◌, ◌≤◌, arith, refl, sym, ap, ◌∙◌, List, [], ◌∷◌, ℤ, pos, negsuc, ◌+ℤ◌, ◌-ℤ◌, ◌*ℤ◌, neg_ℤ, ◌≤ℤ◌, ◌<ℤ◌}
+use Rattle.std.proofs.Common.{◌≡◌, ℕ, zero, suc, arith, refl, ap, ◌∙◌, [], ◌∷◌, ℤ, pos, negsuc, ◌+ℤ◌, ◌-ℤ◌, ◌*ℤ◌, neg_ℤ, ◌≤ℤ◌}
 use Rattle.spec_intervals.specs.Chebyshev.{cleared_t, cleared_u, power}
 use Rattle.spec_chebyshev.specs.Differences.{difference_t, difference_u}
-use Rattle.spec_intervals.proofs.Ring.{Poly, v, k as lit, ◌⊕◌, ◌⊖◌, ◌⊗◌, minus, ring, value}
-use Rattle.spec_intervals.proofs.Order.{lin, le_by, le-mul, nonneg-square}
+use Rattle.spec_intervals.proofs.Ring.{Poly, v, k as lit, ◌⊕◌, ◌⊖◌, ◌⊗◌, minus, ring}
+use Rattle.spec_intervals.proofs.Order.{lin, nonneg-square}
 use Rattle.spec_intervals.proofs.Whole.{nonneg-mul}
 
 -- ---- T (k + 2) = u T (k + 1) - (l^2 - u^2) U k, and U (k + 1) = T (k + 1) + u U k

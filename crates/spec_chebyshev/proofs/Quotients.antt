@@ -1,9 +1,9 @@
 -- What one step of a row holds, over plain numbers: products of ends, quotients rounded outward, and the cut.
-use Rattle.std.proofs.Common.{◌≡◌, ℕ, ◌*◌, ◌^◌, ◌<◌, ◌≤◌, arith, ◌∙◌, List, [], ◌∷◌, ℤ, pos, ◌+ℤ◌, ◌-ℤ◌, ◌*ℤ◌, neg_ℤ, ◌≤ℤ◌, ◌⊎◌, inl, inr}
+use Rattle.std.proofs.Common.{◌≡◌, ℕ, ◌^◌, ◌<◌, arith, [], ◌∷◌, ℤ, pos, ◌+ℤ◌, ◌-ℤ◌, ◌*ℤ◌, neg_ℤ, ◌≤ℤ◌, ◌⊎◌, inl, inr}
 use Rattle.std.proofs.lemmas.Int.{ints}
 use Rattle.std.proofs.lemmas.Nat.{pow_pos}
 use Rattle.std.specs.Int.{int_min, int_max}
-use Rattle.spec_intervals.specs.Interval.{floor_div, ceil_div, least4, greatest4}
+use Rattle.spec_intervals.specs.Interval.{least4, greatest4}
 use Rattle.spec_intervals.proofs.Ring.{v, k as lit, ◌⊕◌, ◌⊖◌, ◌⊗◌, minus, ring}
 use Rattle.spec_intervals.proofs.Order.{lin, le-mul, le-mul_cancel}
 use Rattle.spec_intervals.proofs.Whole.{nonneg-mul}

@@ -1,7 +1,7 @@
 -- The ends of every entry are within the size that the exact values keep, so that the next step does not overflow.
-use Rattle.std.proofs.Common.{◌≡◌, ℕ, zero, suc, ◌*◌, ◌/◌, ◌^◌, ◌<◌, ◌≤◌, arith, refl, sym, ap, ◌∙◌, [], ◌∷◌, ℤ, pos, ◌+ℤ◌, ◌-ℤ◌, ◌*ℤ◌, neg_ℤ, ◌≤ℤ◌, ◌<ℤ◌, unsigned_abs}
+use Rattle.std.proofs.Common.{◌≡◌, ℕ, zero, suc, ◌*◌, ◌^◌, ◌<◌, ◌≤◌, arith, sym, ap, ◌∙◌, ℤ, pos, ◌+ℤ◌, ◌-ℤ◌, ◌*ℤ◌, neg_ℤ, ◌≤ℤ◌, unsigned_abs}
 use Rattle.std.proofs.lemmas.Int.{ints, clamps}
-use Rattle.std.proofs.lemmas.Nat.{mul-le, pow_pos}
+use Rattle.std.proofs.lemmas.Nat.{pow_pos}
 use Rattle.std.proofs.Math.Nat.{one-le-pow, pow-suc, pow-zero, mul_comm}
 use Rattle.std.specs.Int.{int_min, int_max}
 use Rattle.spec_intervals.specs.Chebyshev.{cleared_t, cleared_u, power}
@@ -10,7 +10,7 @@ use Rattle.spec_intervals.proofs.Order.{lin, le-mul}
 use Rattle.spec_intervals.proofs.Floor.{floor_div-small, ceil_div-small}
 use Rattle.spec_chebyshev.specs.declared.ends.Ival62.{Ival62}
 use Rattle.spec_chebyshev.specs.Differences.{difference_t, difference_u, IsArgument, Within}
-use Rattle.spec_chebyshev.specs.Rows.{low_end, high_end, t_size, u_size, q_size, r_size, t_unit, u_unit, q_unit, r_unit, shifted, nothing, next, t_row, u_row, q_row, r_row, HoldsIn, EndsWithin, IsArguments}
+use Rattle.spec_chebyshev.specs.Rows.{t_size, u_size, q_size, r_size, t_unit, u_unit, q_unit, r_unit, shifted, nothing, next, t_row, u_row, q_row, r_row, HoldsIn, EndsWithin, IsArguments}
 use Rattle.spec_chebyshev.proofs.Sizes.{Within-t, Within-u, Within-q, Within-r}
 use Rattle.spec_chebyshev.proofs.RowLaws.{HoldsIn-t, HoldsIn-u, HoldsIn-q, HoldsIn-r}
 use Rattle.spec_chebyshev.proofs.Quotients.{below_limit, above_limit}

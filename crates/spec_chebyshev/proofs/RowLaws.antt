@@ -1,15 +1,15 @@
 -- Each entry of a row holds the exact polynomial, or divided difference, wherever x holds the arguments.
-use Rattle.std.proofs.Common.{◌≡◌, ℕ, zero, suc, ◌*◌, ◌^◌, arith, refl, sym, ap, ◌∙◌, List, [], ◌∷◌, ℤ, pos, ◌+ℤ◌, ◌-ℤ◌, ◌*ℤ◌, neg_ℤ, ◌≤ℤ◌, ◌<ℤ◌}
+use Rattle.std.proofs.Common.{◌≡◌, ℕ, zero, suc, ◌*◌, ◌^◌, arith, refl, sym, [], ◌∷◌, ℤ, pos, ◌+ℤ◌, ◌-ℤ◌, ◌*ℤ◌, neg_ℤ, ◌≤ℤ◌}
 use Rattle.std.proofs.lemmas.Nat.{pow_pos}
 use Rattle.spec_intervals.specs.Chebyshev.{cleared_t, cleared_u, power}
 use Rattle.spec_intervals.specs.Interval.{floor_div, ceil_div, least4, greatest4}
-use Rattle.spec_intervals.proofs.Ring.{v, k as lit, ◌⊕◌, ◌⊖◌, ◌⊗◌, minus, ring}
+use Rattle.spec_intervals.proofs.Ring.{v, k as lit, ◌⊕◌, ◌⊖◌, ◌⊗◌, ring}
 use Rattle.spec_intervals.proofs.Order.{lin, le-mul, le-mul_cancel}
 use Rattle.spec_intervals.proofs.Whole.{nonneg-mul}
 use Rattle.spec_intervals.proofs.Floor.{floor_div-le, ceil_div-ge}
 use Rattle.spec_chebyshev.specs.declared.ends.Ival62.{Ival62}
 use Rattle.spec_chebyshev.specs.Differences.{difference_t, difference_u, IsArgument, Within}
-use Rattle.spec_chebyshev.specs.Rows.{ends, t_unit, u_unit, q_unit, r_unit, t_size, u_size, q_size, r_size, shifted, nothing, next, t_row, u_row, q_row, r_row, HoldsIn}
+use Rattle.spec_chebyshev.specs.Rows.{t_unit, u_unit, q_unit, r_unit, q_size, r_size, shifted, nothing, next, t_row, u_row, q_row, r_row, HoldsIn}
 use Rattle.spec_chebyshev.proofs.Polynomials.{nonneg-power}
 use Rattle.spec_chebyshev.proofs.Sizes.{Within-t, Within-u, Within-q, Within-r}
 use Rattle.spec_chebyshev.proofs.Quotients.{cut_low, cut_high, least_below, greatest_above, quotient_low, quotient_high, parts_low, parts_high, at_60, limit_low, limit_high}
@@ -38,9 +38,9 @@ module _ (s B : ℕ) (x e1 g e0 : Ival62) (u l n1 n0 m N p : ℤ) (l0 : pos 0 �
   pub HoldsIn-next : HoldsIn s (next (B * 2 ^ s) x e1 g e0) N (l *ℤ (l *ℤ p))
   unfolding next
   HoldsIn-next = record {
-      low = cut_low (floor_div (least4 x.lo x.hi e1.lo e1.hi) (2 ^ 59) +ℤ g.lo -ℤ e0.hi) (neg_ℤ (pos (B * 2 ^ s))) (l *ℤ (l *ℤ p)) (N *ℤ pos (2 ^ s)) (parts_low (floor_div (least4 x.lo x.hi e1.lo e1.hi) (2 ^ 59)) g.lo e0.hi u l n1 n0 m N p (pos (2 ^ s)) l0 eq twice_low hg.low h0.high) (limit_low (pos B) (pos (2 ^ s)) (l *ℤ (l *ℤ p)) N unit w.low);
-      high = cut_high (ceil_div (greatest4 x.lo x.hi e1.lo e1.hi) (2 ^ 59) +ℤ g.hi -ℤ e0.lo) (pos (B * 2 ^ s)) (l *ℤ (l *ℤ p)) (N *ℤ pos (2 ^ s)) (parts_high (ceil_div (greatest4 x.lo x.hi e1.lo e1.hi) (2 ^ 59)) g.hi e0.lo u l n1 n0 m N p (pos (2 ^ s)) l0 eq twice_high hg.high h0.low) (limit_high (pos B) (pos (2 ^ s)) (l *ℤ (l *ℤ p)) N unit w.high);
-    }
+    low = cut_low (floor_div (least4 x.lo x.hi e1.lo e1.hi) (2 ^ 59) +ℤ g.lo -ℤ e0.hi) (neg_ℤ (pos (B * 2 ^ s))) (l *ℤ (l *ℤ p)) (N *ℤ pos (2 ^ s)) (parts_low (floor_div (least4 x.lo x.hi e1.lo e1.hi) (2 ^ 59)) g.lo e0.hi u l n1 n0 m N p (pos (2 ^ s)) l0 eq twice_low hg.low h0.high) (limit_low (pos B) (pos (2 ^ s)) (l *ℤ (l *ℤ p)) N unit w.low);
+    high = cut_high (ceil_div (greatest4 x.lo x.hi e1.lo e1.hi) (2 ^ 59) +ℤ g.hi -ℤ e0.lo) (pos (B * 2 ^ s)) (l *ℤ (l *ℤ p)) (N *ℤ pos (2 ^ s)) (parts_high (ceil_div (greatest4 x.lo x.hi e1.lo e1.hi) (2 ^ 59)) g.hi e0.lo u l n1 n0 m N p (pos (2 ^ s)) l0 eq twice_high hg.high h0.low) (limit_high (pos B) (pos (2 ^ s)) (l *ℤ (l *ℤ p)) N unit w.high);
+  }
 
 HoldsIn-nothing : (s : ℕ) (d : ℤ) → HoldsIn s nothing (pos 0) d
 HoldsIn-nothing s d =
@@ -130,8 +130,7 @@ module _ (x : Ival62) (a u l : ℤ) (g : IsArgument a l) (h : IsArgument u l) (h
       (rw z (HoldsIn-nothing 46 (pos 1)), record { low = same_low (pos (2 ^ 46) *ℤ (l *ℤ pos 1)) (l *ℤ pos 1 *ℤ pos (2 ^ 46)) e; high = same_low (l *ℤ pos 1 *ℤ pos (2 ^ 46)) (pos (2 ^ 46) *ℤ (l *ℤ pos 1)) (sym e) })
   q_two (suc k) =
       let ih : HoldsIn 46 (q_row x k) (l *ℤ difference_t a u l k) (power l k) × HoldsIn 46 (q_row x (suc k)) (l *ℤ difference_t a u l (suc k)) (power l (suc k)) = q_two k in
-      let t : HoldsIn 46 (shifted 13 (t_row x (suc k))) (pos 2 *ℤ cleared_t a l (suc k)) (power l (suc k)) = HoldsIn-shifted 60 46 13 (t_row x (suc k)) (cleared_t a l (suc k)) (power l (suc k)) refl (nonneg-power l (suc k) span_nonneg) (HoldsIn-t x a l g ha (suc k)) in
-      (
+      let t : HoldsIn 46 (shifted 13 (t_row x (suc k))) (pos 2 *ℤ cleared_t a l (suc k)) (power l (suc k)) = HoldsIn-shifted 60 46 13 (t_row x (suc k)) (cleared_t a l (suc k)) (power l (suc k)) refl (nonneg-power l (suc k) span_nonneg) (HoldsIn-t x a l g ha (suc k)) in (
         ih.1,
         HoldsIn-next 46 (q_size (suc (suc k))) x (q_row x (suc k)) (shifted 13 (t_row x (suc k))) (q_row x k) u l (l *ℤ difference_t a u l (suc k)) (l *ℤ difference_t a u l k) (l *ℤ (pos 2 *ℤ cleared_t a l (suc k))) (l *ℤ difference_t a u l (suc (suc k))) (power l k) span_nonneg (nonneg-power l k span_nonneg) (difference_step u l (difference_t a u l (suc k)) (difference_t a u l k) (cleared_t a l (suc k))) hx ih.1 (HoldsIn-times 46 (shifted 13 (t_row x (suc k))) (pos 2 *ℤ cleared_t a l (suc k)) (power l (suc k)) l span_nonneg t) ih.0 (Within-q a u l (suc (suc k)) g h),
       )
@@ -144,8 +143,7 @@ module _ (x : Ival62) (a u l : ℤ) (g : IsArgument a l) (h : IsArgument u l) (h
       (rw z (HoldsIn-nothing 44 (pos 1)), record { low = same_low (pos (2 ^ 45) *ℤ (l *ℤ pos 1)) (l *ℤ pos 2 *ℤ pos (2 ^ 44)) e; high = same_low (l *ℤ pos 2 *ℤ pos (2 ^ 44)) (pos (2 ^ 45) *ℤ (l *ℤ pos 1)) (sym e) })
   r_two (suc k) =
       let ih : HoldsIn 44 (r_row x k) (l *ℤ difference_u a u l k) (power l k) × HoldsIn 44 (r_row x (suc k)) (l *ℤ difference_u a u l (suc k)) (power l (suc k)) = r_two k in
-      let t : HoldsIn 44 (shifted 5 (u_row x (suc k))) (pos 2 *ℤ cleared_u a l (suc k)) (power l (suc k)) = HoldsIn-shifted 50 44 5 (u_row x (suc k)) (cleared_u a l (suc k)) (power l (suc k)) refl (nonneg-power l (suc k) span_nonneg) (HoldsIn-u x a l g ha (suc k)) in
-      (
+      let t : HoldsIn 44 (shifted 5 (u_row x (suc k))) (pos 2 *ℤ cleared_u a l (suc k)) (power l (suc k)) = HoldsIn-shifted 50 44 5 (u_row x (suc k)) (cleared_u a l (suc k)) (power l (suc k)) refl (nonneg-power l (suc k) span_nonneg) (HoldsIn-u x a l g ha (suc k)) in (
         ih.1,
         HoldsIn-next 44 (r_size (suc (suc k))) x (r_row x (suc k)) (shifted 5 (u_row x (suc k))) (r_row x k) u l (l *ℤ difference_u a u l (suc k)) (l *ℤ difference_u a u l k) (l *ℤ (pos 2 *ℤ cleared_u a l (suc k))) (l *ℤ difference_u a u l (suc (suc k))) (power l k) span_nonneg (nonneg-power l k span_nonneg) (difference_step u l (difference_u a u l (suc k)) (difference_u a u l k) (cleared_u a l (suc k))) hx ih.1 (HoldsIn-times 44 (shifted 5 (u_row x (suc k))) (pos 2 *ℤ cleared_u a l (suc k)) (power l (suc k)) l span_nonneg t) ih.0 (Within-r a u l (suc (suc k)) g h),
       )

@@ -1,10 +1,10 @@
 -- The sums that divided differences are, and the sizes of the polynomials and of their divided differences.
-use Rattle.std.proofs.Common.{◌≡◌, ℕ, zero, suc, ◌+◌, ◌*◌, ◌/◌, ◌<◌, ◌≤◌, arith, refl, sym, ap, ◌∙◌, List, [], ◌∷◌, ℤ, pos, negsuc, ◌+ℤ◌, ◌-ℤ◌, ◌*ℤ◌, neg_ℤ, ◌≤ℤ◌, ◌<ℤ◌}
+use Rattle.std.proofs.Common.{◌≡◌, ℕ, zero, suc, ◌+◌, ◌*◌, arith, refl, ap, [], ◌∷◌, ℤ, pos, ◌+ℤ◌, ◌-ℤ◌, ◌*ℤ◌, neg_ℤ, ◌≤ℤ◌}
 use Rattle.spec_intervals.specs.Chebyshev.{cleared_t, cleared_u, power}
 use Rattle.spec_chebyshev.specs.Differences.{difference_t, difference_u, weighted_sum, t_weight, u_weight, IsArgument, Within}
 use Rattle.spec_chebyshev.specs.Rows.{t_size, u_size, q_size, r_size}
-use Rattle.spec_intervals.proofs.Ring.{Poly, v, k as lit, ◌⊕◌, ◌⊖◌, ◌⊗◌, minus, ring, value}
-use Rattle.spec_intervals.proofs.Order.{lin, le-mul}
+use Rattle.spec_intervals.proofs.Ring.{Poly, v, k as lit, ◌⊕◌, ◌⊖◌, ◌⊗◌, minus, ring}
+use Rattle.spec_intervals.proofs.Order.{lin}
 use Rattle.spec_intervals.proofs.Whole.{nonneg-mul}
 use Rattle.spec_intervals.proofs.Products.{corner_low, corner_high}
 use Rattle.spec_chebyshev.proofs.Polynomials.{mixed, nonneg-power, cleared_t-above, cleared_t-below}

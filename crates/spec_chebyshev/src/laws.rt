@@ -60,7 +60,6 @@ pub fn one_second()
     ensures second_kind { (u l : ℤ) (k : ℕ) → cleared_u (u +ℤ pos 2) l k ≡ cleared_u u l k +ℤ pos 2 *ℤ difference_u (u +ℤ pos 2) u l k }
 {}
 
-
 /// The arguments of a span of seconds hold the argument of each second, and lie between -1 and 1.
 pub fn arguments_hold()
     ensures holds { (ua ub u l : ℤ) → pos 0 <ℤ l → ua ≤ℤ u → u ≤ℤ ub → HoldsIn 60 (argument_of ua ub l) u l }

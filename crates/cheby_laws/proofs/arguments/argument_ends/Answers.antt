@@ -1,8 +1,6 @@
-use Rattle.std.proofs.Common.{rules, arith, ◌≡◌, ◌∙◌, ap, refl, sym, to_z, of_z, w64, ℕ, ◌^◌, ◌≤◌, ◌<◌, ◌*◌, ℤ, pos, neg_ℤ, ◌+ℤ◌, ◌-ℤ◌, ◌*ℤ◌, ◌≤ℤ◌, ◌<ℤ◌, unsigned_abs}
-use Rattle.std.proofs.lemmas.Int.{ints, to_z-of_z}
-use mir.Syntax.{w128}
-use mir.Val.{SFits}
-use Rattle.spec_intervals.specs.Interval.{floor_div, ceil_div, least4, greatest4}
+use Rattle.std.proofs.Common.{◌≡◌, ◌∙◌, to_z, of_z, w64, ◌^◌, pos, ◌*ℤ◌, unsigned_abs}
+use Rattle.std.proofs.lemmas.Int.{to_z-of_z}
+use Rattle.spec_intervals.specs.Interval.{floor_div, ceil_div}
 use Rattle.spec_chebyshev.specs.Rows.{argument_of}
 use Rattle.cheby_laws.proofs.arguments.argument_ends.Goals as goal
 

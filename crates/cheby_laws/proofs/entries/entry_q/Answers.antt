@@ -1,5 +1,5 @@
-use Rattle.std.proofs.Common.{arith, ◌≡◌, ◌∙◌, ◌-◌, ◌≤◌, ◌*◌, ◌^◌, sym, refl}
-use Rattle.spec_chebyshev.specs.Rows.{next, q_row, entry, q_size, shifted, t_row}
+use Rattle.std.proofs.Common.{arith, ◌≡◌, ◌∙◌, ◌-◌, ◌≤◌, ◌*◌, ◌^◌}
+use Rattle.spec_chebyshev.specs.Rows.{q_row, entry, q_size, shifted, t_row}
 use Rattle.cheby_laws.proofs.Bounds.{q_within, q_row-step, t_within, EndsWithin-shifted}
 use Rattle.cheby_laws.proofs.entries.entry_q.Goals as goal
 

@@ -1,5 +1,5 @@
-use Rattle.std.proofs.Common.{arith, ◌≡◌, ◌∙◌, ◌-◌, ◌≤◌, ◌*◌, ◌^◌, sym, refl}
-use Rattle.spec_chebyshev.specs.Rows.{next, r_row, entry, r_size, shifted, u_row}
+use Rattle.std.proofs.Common.{arith, ◌≡◌, ◌∙◌, ◌-◌, ◌≤◌, ◌*◌, ◌^◌}
+use Rattle.spec_chebyshev.specs.Rows.{r_row, entry, r_size, shifted, u_row}
 use Rattle.cheby_laws.proofs.Bounds.{r_within, r_row-step, u_within, EndsWithin-shifted}
 use Rattle.cheby_laws.proofs.entries.entry_r.Goals as goal
 

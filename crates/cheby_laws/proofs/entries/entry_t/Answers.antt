@@ -1,5 +1,5 @@
-use Rattle.std.proofs.Common.{arith, ◌≡◌, ◌∙◌, ◌-◌, ◌≤◌, ◌*◌, ◌^◌, sym, refl}
-use Rattle.spec_chebyshev.specs.Rows.{next, t_row, entry}
+use Rattle.std.proofs.Common.{arith, ◌≡◌, ◌∙◌, ◌-◌, ◌≤◌}
+use Rattle.spec_chebyshev.specs.Rows.{t_row, entry}
 use Rattle.cheby_laws.proofs.Bounds.{t_within, t_row-step}
 use Rattle.cheby_laws.proofs.entries.entry_t.Goals as goal
 

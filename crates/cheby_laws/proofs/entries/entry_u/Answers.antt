@@ -1,5 +1,5 @@
-use Rattle.std.proofs.Common.{arith, ◌≡◌, ◌∙◌, ◌-◌, ◌≤◌, ◌*◌, ◌^◌, sym, refl}
-use Rattle.spec_chebyshev.specs.Rows.{next, u_row, entry, u_size}
+use Rattle.std.proofs.Common.{arith, ◌≡◌, ◌∙◌, ◌-◌, ◌≤◌, ◌*◌, ◌^◌}
+use Rattle.spec_chebyshev.specs.Rows.{u_row, entry, u_size}
 use Rattle.cheby_laws.proofs.Bounds.{u_within, u_row-step}
 use Rattle.cheby_laws.proofs.entries.entry_u.Goals as goal
 

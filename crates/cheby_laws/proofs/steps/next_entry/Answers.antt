@@ -1,8 +1,8 @@
-use Rattle.std.proofs.Common.{rules, arith, ◌≡◌, ◌∙◌, ap, refl, sym, to_z, of_z, w64, ℕ, ◌^◌, ◌≤◌, ◌<◌, ◌*◌, ℤ, pos, neg_ℤ, ◌+ℤ◌, ◌-ℤ◌, ◌*ℤ◌, ◌≤ℤ◌, ◌<ℤ◌, unsigned_abs}
-use Rattle.std.proofs.lemmas.Int.{ints, to_z-of_z}
+use Rattle.std.proofs.Common.{rules, ◌≡◌, ◌∙◌, to_z, of_z, w64, pos}
+use Rattle.std.proofs.lemmas.Int.{to_z-of_z}
 use mir.Syntax.{w128}
 use mir.Val.{SFits}
-use Rattle.spec_intervals.specs.Interval.{floor_div, ceil_div, least4, greatest4}
+use Rattle.spec_intervals.specs.Interval.{least4, greatest4}
 use Rattle.spec_chebyshev.specs.Rows.{next, low_end, high_end}
 use Rattle.cheby_laws.proofs.Bounds.{size, unit_fits, widened, least4_bound, greatest4_bound}
 use Rattle.cheby_laws.proofs.steps.next_entry.Goals as goal

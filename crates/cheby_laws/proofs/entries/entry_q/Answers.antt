@@ -1,0 +1,40 @@
+use Rattle.std.proofs.Common.{arith, ◌≡◌, ◌∙◌, ◌-◌, ◌≤◌, ◌*◌, ◌^◌, sym, refl}
+use Rattle.spec_chebyshev.specs.Rows.{next, q_row, entry, q_size, shifted, t_row}
+use Rattle.cheby_laws.proofs.Bounds.{q_within, q_row-step, t_within, EndsWithin-shifted}
+use Rattle.cheby_laws.proofs.entries.entry_q.Goals as goal
+
+pub next_entry-requires-clause-e_in : goal.next_entry-requires-clause-e_in
+next_entry-requires-clause-e_in c =
+    rw (c.requires.row (c.args.k - 1) (omega arith)) (q_within c.args.x c.requires.x_in (c.args.k - 1) (omega arith))
+
+pub next_entry-requires-clause-before_in : goal.next_entry-requires-clause-before_in
+next_entry-requires-clause-before_in c =
+    rw (c.requires.row (c.args.k - 2) (omega arith)) (q_within c.args.x c.requires.x_in (c.args.k - 2) (omega arith))
+
+pub returns-then-k-eq0 : goal.returns-then-k-eq0
+unfolding q_row
+returns-then-k-eq0 c = let e : c.args.k ≡ 0 = c.if-k-eq0.true in rw e
+
+pub returns-then-k-eq1 : goal.returns-then-k-eq1
+unfolding q_row
+returns-then-k-eq1 c = let e : c.args.k ≡ 1 = c.if-k-eq1.true in rw e
+
+pub returns-else-k-eq1 : goal.returns-else-k-eq1
+returns-else-k-eq1 c =
+    let a : entry c.args.q.now (c.args.k - 1) ≡ q_row c.args.x (c.args.k - 1) = c.requires.row (c.args.k - 1) (omega arith) in
+    let b : entry c.args.q.now (c.args.k - 2) ≡ q_row c.args.x (c.args.k - 2) = c.requires.row (c.args.k - 2) (omega arith) in
+    let k2 : 2 ≤ c.args.k = omega arith in
+    let l : c.q_limit.result ≡ q_size c.args.k * 2 ^ 46 = c.q_limit.ensures in
+    let t : entry c.args.t.now (c.args.k - 1) ≡ t_row c.args.x (c.args.k - 1) = c.requires.t_given (c.args.k - 1) (omega arith) in
+    let s : c.coarser.result ≡ shifted 13 (t_row c.args.x (c.args.k - 1)) = rw t at c.coarser.ensures in
+    (rw (s, l, a, b) at c.next_entry.ensures) ∙ q_row-step c.args.x c.args.k k2
+
+pub coarser-requires-clause-e_in : goal.coarser-requires-clause-e_in
+coarser-requires-clause-e_in c =
+    rw (c.requires.t_given (c.args.k - 1) (omega arith)) (t_within c.args.x c.requires.x_in (c.args.k - 1))
+
+pub next_entry-requires-clause-extra_in : goal.next_entry-requires-clause-extra_in
+next_entry-requires-clause-extra_in c =
+    let t : entry c.args.t.now (c.args.k - 1) ≡ t_row c.args.x (c.args.k - 1) = c.requires.t_given (c.args.k - 1) (omega arith) in
+    let s : c.coarser.result ≡ shifted 13 (t_row c.args.x (c.args.k - 1)) = rw t at c.coarser.ensures in
+    rw s (EndsWithin-shifted (t_row c.args.x (c.args.k - 1)) 13 (t_within c.args.x c.requires.x_in (c.args.k - 1)))

@@ -1,0 +1,15 @@
+//! The Chebyshev bases over a span of seconds: the intervals that hold `T_k`, `U_k` and their divided differences.
+//!
+//! In comes a span inside one granule, as the numerators of its arguments, and a count of coefficients; out come rows
+//! of intervals in fixed units, with the same bits for the same operands on every machine. The ranges of positions, of
+//! velocities and of their changes are sums over these rows. No call takes memory or fails.
+#![tactic(auto)]
+
+mod arguments;
+mod bases;
+mod entries;
+mod steps;
+
+pub use arguments::argument;
+pub use bases::{Basis, basis_q, basis_r, basis_t, basis_u};
+pub use spec_chebyshev::Ival62;

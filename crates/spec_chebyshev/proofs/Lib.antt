@@ -1,0 +1,6 @@
+pub mod Polynomials
+pub mod Sizes
+pub mod Quotients
+pub mod RowLaws
+pub mod RowEnds
+pub mod Arguments

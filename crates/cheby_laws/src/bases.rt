@@ -13,6 +13,7 @@ use spec_chebyshev::Ival62;
 /// `t` has the polynomials of the first kind in units of 2^-60, `u` those of the second kind in units of 2^-50. `q` and
 /// `r` have the divided differences of `t` and of `u` between any two arguments of the interval, in units of 2^-46 and
 /// 2^-44.
+#[derive(Drop)]
 pub struct Basis {
     pub t: [Ival62; 32],
     pub u: [Ival62; 32],

@@ -6,16 +6,17 @@ ghost use Rattle.spec_chebyshev.specs.Rows.{t_row, u_row, q_row, r_row, t_size, 
 use crate::steps::{coarser, next_entry};
 use spec_chebyshev::Ival62;
 
-/// The number 1 in the unit of each row.
+/// The number 1 in units of 2^-60, of 2^-50 and of 2^-46.
 const T_ONE: i64 = 1_152_921_504_606_846_976;
 
 const U_ONE: i64 = 1_125_899_906_842_624;
 
 const Q_ONE: i64 = 70_368_744_177_664;
 
+/// The number 2 in units of 2^-44: the first divided difference of `U`.
 const R_TWO: i64 = 35_184_372_088_832;
 
-/// The bounds of `U_k`, `Q_k` and `R_k` are multiples of these.
+/// The size that `T_k` is cut to, and the unit steps of the sizes of `U_k`, `Q_k` and `R_k`.
 const T_LIMIT: u64 = 1_152_921_504_606_846_976;
 
 const U_LIMIT: u64 = 1_125_899_906_842_624;

@@ -61,6 +61,7 @@ fn high_end_of(greatest: i128, extra: i128, before: i128, limit: i128) -> i128
     at_most(total(quotient_up(greatest), extra, before), limit)
 }
 
+/// The three parts of a step together.
 fn total(quotient: i128, extra: i128, before: i128) -> i128
     requires quotient_in { unsigned_abs quotient ≤ 2 ^ 61 }
     requires extra_in { unsigned_abs extra ≤ 2 ^ 60 }
@@ -71,6 +72,7 @@ fn total(quotient: i128, extra: i128, before: i128) -> i128
     quotient + extra - before
 }
 
+/// A low end, cut.
 fn at_least(z: i128, least: i128) -> i128
     requires z_in { unsigned_abs z ≤ 2 ^ 62 }
     requires least_in { unsigned_abs least ≤ 2 ^ 60 }
@@ -80,6 +82,7 @@ fn at_least(z: i128, least: i128) -> i128
     z.max(least)
 }
 
+/// A high end, cut.
 fn at_most(z: i128, greatest: i128) -> i128
     requires z_in { unsigned_abs z ≤ 2 ^ 62 }
     requires greatest_in { unsigned_abs greatest ≤ 2 ^ 60 }
@@ -136,6 +139,7 @@ fn halved_up(z: i64, k: u32) -> i64
     -(-z >> k)
 }
 
+/// The number turned round 0.
 pub fn negated(z: i128) -> i128
     requires { unsigned_abs z ≤ 2 ^ 123 }
     ensures equals { result ≡ neg_ℤ z }
@@ -144,18 +148,21 @@ pub fn negated(z: i128) -> i128
     -z
 }
 
+/// An end in 128 bits.
 fn wide(z: i64) -> i128
     ensures { result ≡ z }
 {
     z as i128
 }
 
+/// A limit in 128 bits.
 fn wide_limit(limit: u64) -> i128
     ensures { result ≡ pos limit }
 {
     limit as i128
 }
 
+/// A small number in 64 bits.
 pub fn back(z: i128) -> i64
     requires { unsigned_abs z ≤ 2 ^ 62 }
     ensures { result ≡ z }

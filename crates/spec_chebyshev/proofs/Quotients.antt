@@ -50,7 +50,7 @@ module _ (xl xh cl ch d f z y : ℤ) (d0 : pos 0 ≤ℤ d) (f0 : pos 0 ≤ℤ f)
       let sc : (p q : ℤ) → (p *ℤ q) ≤ℤ greatest4 xl xh cl ch → ((p *ℤ d) *ℤ (q *ℤ f)) ≤ℤ (greatest4 xl xh cl ch *ℤ (d *ℤ f)) = λ p q h. rw (shuffle p q) (le-mul (p *ℤ q) (greatest4 xl xh cl ch) (d *ℤ f) nonneg h) in
       corner_high (greatest4 xl xh cl ch *ℤ (d *ℤ f)) (xl *ℤ d) (xh *ℤ d) (cl *ℤ f) (ch *ℤ f) z y zl zh yl yh (sc xl cl c.0) (sc xl ch c.1) (sc xh cl c.2) (sc xh ch c.3)
 
--- f q <= m and m d <= n, so f (q d) <= n; with one power of 2 for two: f 2^59 <= m and m d <= n 2^60, so f d <= 2 n
+-- f 2^59 <= m and m d <= n 2^60, so f d <= 2 n
 pub quotient_low : (f m d n : ℤ) → (f *ℤ pos (2 ^ 59)) ≤ℤ m → pos 0 ≤ℤ d → (m *ℤ d) ≤ℤ (n *ℤ pos (2 ^ 60)) → (f *ℤ d) ≤ℤ (pos 2 *ℤ n)
 quotient_low f m d n p q r =
     let a : (f *ℤ pos (2 ^ 59) *ℤ d) ≤ℤ (m *ℤ d) = le-mul (f *ℤ pos (2 ^ 59)) m d q p in

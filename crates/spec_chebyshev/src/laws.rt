@@ -13,7 +13,7 @@ pub fn recurrences()
     ensures second_kind { (u l : ℤ) (k : ℕ) → cleared_u u l (suc (suc k)) ≡ pos 2 *ℤ u *ℤ cleared_u u l (suc k) -ℤ l *ℤ l *ℤ cleared_u u l k }
 {}
 
-/// `T_k^2 + (1 - x^2) U_(k-1)^2 = 1`: with the sine and the cosine of an angle and of its multiple it is the circle.
+/// `T_k^2 + (1 - x^2) U_(k-1)^2 = 1`: at x = cos a these are the squares of cos k a and of sin k a.
 pub fn circle()
     ensures { (u l : ℤ) (k : ℕ) → cleared_t u l (suc k) *ℤ cleared_t u l (suc k) +ℤ (l *ℤ l -ℤ u *ℤ u) *ℤ (cleared_u u l k *ℤ cleared_u u l k) ≡ power (l *ℤ l) (suc k) }
 {}

@@ -1,6 +1,6 @@
 use Rattle.std.proofs.Common.{◌≡◌, ◌≤◌, ◌^◌, min, drop}
 use Rattle.spec_text.specs.Decimals.{value_after}
-use Rattle.de_text.proofs.decimal.capped.Given as goal
+use Rattle.de_text.proofs.digits.capped.Given as goal
 
 abbrev pub invariant-loop-b : goal.invariant-loop-b
 invariant-loop-b l = record {

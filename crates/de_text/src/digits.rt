@@ -15,8 +15,9 @@ pub(crate) struct Digits<'a> {
     pub rest: &'a [u8],
 }
 
+// The digits at the front, where the number behind which they stand may have reached the cap.
 #[tactic(auto, using(crate::proofs::Fronts::digits_more, crate::proofs::Fronts::digits_end, crate::proofs::Fronts::value_more))]
-pub(crate) fn take_digits(start: u64, text: &[u8]) -> Digits<'_>
+fn take_many(start: u64, text: &[u8]) -> Digits<'_>
     requires { start ≤ 10 ^ 18 }
     ensures number { result.number ≡ min (value_after start (digits_at text.now).0) (10 ^ 18) }
     ensures count { result.count ≡ length (digits_at text.now).0 }
@@ -35,6 +36,39 @@ pub(crate) fn take_digits(start: u64, text: &[u8]) -> Digits<'_>
     }
     Digits {
         number,
+        count: text.len(),
+        rest: &[],
+    }
+}
+
+// The digits at the front, where the number is capped at the end, or once it has reached the cap.
+#[tactic(auto, using(crate::proofs::Fronts::digits_more, crate::proofs::Fronts::digits_end, crate::proofs::Fronts::value_step, crate::proofs::Values::capped_early))]
+pub(crate) fn take_digits(start: u64, text: &[u8]) -> Digits<'_>
+    requires { start ≤ 10 ^ 18 }
+    ensures number { result.number ≡ min (value_after start (digits_at text.now).0) (10 ^ 18) }
+    ensures count { result.count ≡ length (digits_at text.now).0 }
+    ensures rest { result.rest.now ≡ (digits_at text.now).1 }
+{
+    let mut number = start;
+    for (i, b) in text.iter().enumerate() {
+        if !b.is_ascii_digit() {
+            return Digits {
+                number: number.min(CAP),
+                count: i,
+                rest: &text[i..],
+            };
+        }
+        if number >= CAP {
+            let later = take_many(CAP, &text[i..]);
+            return Digits {
+                count: i + later.count,
+                ..later
+            };
+        }
+        number = 10 * number + u64::from(*b - b'0');
+    }
+    Digits {
+        number: number.min(CAP),
         count: text.len(),
         rest: &[],
     }

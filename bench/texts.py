@@ -57,41 +57,33 @@ def small():
         yield small_block(number)
 
 
-def whole_days(word):
+def half_days(word):
     """The half days of a date as JPL writes it."""
     mantissa, exponent = word.split("D")
     digits = mantissa.removeprefix("0.")
-    tenths = int(digits) * 10 ** (int(exponent) + 1) // 10 ** len(digits)
-    return tenths // 5
+    return 2 * int(digits) * 10 ** int(exponent) // 10 ** len(digits)
 
 
-def blocks_of(lines, length):
-    """The lines of each block. A block has a line of its own number and two lines or more of numbers."""
-    for at in range(0, len(lines), length):
-        yield lines[at : at + length]
+def moved(block, number, start):
+    """The lines of a block with another number and other dates, at their places of the lines."""
+    record, dates, *rest = block
+    for place, word in enumerate(dates.split()[:2]):
+        dates = dates.replace(word, fortran(start + 2 * DAYS * (number + place)), 1)
+    return f"{number + 1:6}{record[6:]}" + dates + "".join(rest)
 
 
 def large(source):
     """The header, then the blocks again and again."""
     with open(source, encoding="ascii", newline="") as file:
         lines = file.read().splitlines(keepends=True)
-    first = next(i for i, line in enumerate(lines) if line.split() == ["GROUP", "1070"]) + 1
-    while not lines[first].split():
-        first += 1
-    header, rest = "".join(lines[:first]), lines[first:]
-    length = next(i for i, line in enumerate(rest[1:], 1) if len(line.split()) == 2)
-    blocks = list(blocks_of(rest, length))
-    start = whole_days(blocks[0][1].split()[0])
+    records = [i for i, line in enumerate(lines) if len(line.split()) == 2 and line.split()[0].isdigit()]
+    header = "".join(lines[: records[0]])
+    blocks = [lines[i:j] for i, j in zip(records, records[1:] + [len(lines)])]
+    start = half_days(blocks[0][1].split()[0])
     yield header
     size, number = len(header), 0
     while size < LARGE_BYTES:
-        block = blocks[number % len(blocks)]
-        dates = block[1].split()[:2]
-        line = block[1]
-        for place, date in enumerate(dates):
-            line = line.replace(date, fortran(start + 2 * DAYS * (number + place)), 1)
-        ncoeff = block[0].split()[1]
-        text = f"{number + 1:6}{ncoeff:>6}\n" + line + "".join(block[2:])
+        text = moved(blocks[number % len(blocks)], number, start)
         yield text
         size, number = size + len(text), number + 1
 

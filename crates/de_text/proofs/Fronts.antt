@@ -1,11 +1,10 @@
 -- The digits at the front of a list, step by step.
-use Rattle.std.proofs.Common.{◌≡◌, ℕ, ◌+◌, ◌-◌, ◌*◌, ◌<◌, ◌≤◌, min, inl, inr, arith, List, [], ◌∷◌, true, false, length, get_or, drop, refl, sym, ap, ◌∙◌}
+use Rattle.std.proofs.Common.{◌≡◌, ℕ, ◌+◌, ◌-◌, ◌*◌, ◌<◌, ◌≤◌, min, arith, List, [], ◌∷◌, true, false, length, get_or, drop, refl, sym, ap, ◌∙◌}
 use Rattle.std.specs.Char.{is_ascii_digit}
-use Rattle.std.proofs.lemmas.Bool.{cases_Bool}
 use Rattle.std.proofs.lemmas.List.{at_drop_more, drop_more}
 use Rattle.spec_text.specs.Decimals.{value_after}
 use Rattle.spec_text.specs.Splitting.{digits_at}
-use Rattle.de_text.proofs.Values.{capped_early}
+use Rattle.de_text.proofs.Values.{value_after_ge}
 
 pub digits_more : (bs : List ℕ) (i : ℕ) → i < length bs → is_ascii_digit (get_or bs i 0) ≡ true
     → digits_at (drop i bs) ≡ (get_or bs i 0 ∷ (digits_at (drop (i + 1) bs)).0, (digits_at (drop (i + 1) bs)).1)
@@ -16,30 +15,11 @@ pub digits_end : (bs : List ℕ) (i : ℕ) → i < length bs → is_ascii_digit 
 digits_end bs i below other =
     at_drop_more digits_at bs i 0 below ∙ rw other (ap (λ (l : List ℕ). ([], l)) (sym (drop_more bs i 0 below)))
 
--- the number behind a digit more, capped on the way
-pub value_more : (n m cap : ℕ) (bs : List ℕ) (i : ℕ) → i < length bs → is_ascii_digit (get_or bs i 0) ≡ true → m ≡ min (10 * n + (get_or bs i 0 - 48)) cap
-    → min (value_after m (digits_at (drop (i + 1) bs)).0) cap ≡ min (value_after n (digits_at (drop i bs)).0) cap
-value_more n m cap bs i below digit is =
-    let later = (digits_at (drop (i + 1) bs)).0 in
-    ap (λ (k : ℕ). min (value_after k later) cap) is
-    ∙ capped_early (10 * n + (get_or bs i 0 - 48)) cap later
-    ∙ ap (λ (p : List ℕ × List ℕ). min (value_after n p.0) cap) (sym (digits_more bs i below digit))
-
 -- the number behind a digit more
 pub value_step : (n : ℕ) (bs : List ℕ) (i : ℕ) → i < length bs → is_ascii_digit (get_or bs i 0) ≡ true
     → value_after (10 * n + (get_or bs i 0 - 48)) (digits_at (drop (i + 1) bs)).0 ≡ value_after n (digits_at (drop i bs)).0
 value_step n bs i below digit = ap (λ (p : List ℕ × List ℕ). value_after n p.0) (sym (digits_more bs i below digit))
 
-pub digits_within : (bs : List ℕ) → length (digits_at bs).0 ≤ length bs
-digits_within [] = omega arith
-digits_within (b ∷ bs) = elim (cases_Bool (is_ascii_digit b)) [
-  | inl digit ↦ rw digit (omega (arith, digits_within bs))
-  | inr other ↦ rw other (omega arith)
-]
-
 -- the number behind which digits are left, once it has reached the cap
-pub value_many : (start n m cap : ℕ) (bs ds : List ℕ) → cap ≤ n → value_after n ds ≡ value_after start bs → m ≡ min (value_after cap ds) cap
-    → m ≡ min (value_after start bs) cap
-value_many start n m cap bs ds large same is =
-    let capped : min n cap ≡ cap = omega arith in
-    is ∙ ap (λ (k : ℕ). min (value_after k ds) cap) (sym capped) ∙ capped_early n cap ds ∙ ap (λ (k : ℕ). min k cap) same
+pub value_many : (start n cap : ℕ) (bs ds : List ℕ) → cap ≤ n → value_after n ds ≡ value_after start bs → cap ≡ min (value_after start bs) cap
+value_many start n cap bs ds large same = omega (arith, large, value_after_ge n ds, same)

@@ -1,5 +1,5 @@
 // Digits, and the number that they write.
-ghost use Rattle.std.specs.Prelude.{◌≡◌, ◌≤◌, ◌^◌, length, min};
+ghost use Rattle.std.specs.Prelude.{◌≡◌, ◌≤◌, ◌^◌, drop, length, min};
 ghost use Rattle.spec_text.specs.Decimals.{AreDigits, value_after};
 ghost use Rattle.spec_text.specs.Splitting.{digits_at};
 
@@ -15,34 +15,23 @@ pub(crate) struct Digits<'a> {
     pub rest: &'a [u8],
 }
 
-// The digits at the front, where the number behind which they stand may have reached the cap.
-#[tactic(auto, using(crate::proofs::Fronts::digits_more, crate::proofs::Fronts::digits_end, crate::proofs::Fronts::value_more))]
-fn take_many(start: u64, text: &[u8]) -> Digits<'_>
-    requires { start ≤ 10 ^ 18 }
-    ensures number { result.number ≡ min (value_after start (digits_at text.now).0) (10 ^ 18) }
-    ensures count { result.count ≡ length (digits_at text.now).0 }
-    ensures rest { result.rest.now ≡ (digits_at text.now).1 }
+// How many digits stand at the front.
+#[tactic(auto, using(crate::proofs::Fronts::digits_more, crate::proofs::Fronts::digits_end))]
+fn digit_count(text: &[u8]) -> usize
+    ensures count { result ≡ length (digits_at text.now).0 }
+    ensures within { result ≤ length text.now }
+    ensures rest { drop result text.now ≡ (digits_at text.now).1 }
 {
-    let mut number = start;
     for (i, b) in text.iter().enumerate() {
         if !b.is_ascii_digit() {
-            return Digits {
-                number,
-                count: i,
-                rest: &text[i..],
-            };
+            return i;
         }
-        number = (10 * number + u64::from(*b - b'0')).min(CAP);
     }
-    Digits {
-        number,
-        count: text.len(),
-        rest: &[],
-    }
+    text.len()
 }
 
-// The digits at the front, where the number is capped at the end, or once it has reached the cap.
-#[tactic(auto, using(crate::proofs::Fronts::digits_more, crate::proofs::Fronts::digits_end, crate::proofs::Fronts::value_step, crate::proofs::Values::capped_early))]
+// The digits at the front. Once their number has reached the cap, further digits are counted alone.
+#[tactic(auto, using(crate::proofs::Fronts::digits_more, crate::proofs::Fronts::digits_end, crate::proofs::Fronts::value_step))]
 pub(crate) fn take_digits(start: u64, text: &[u8]) -> Digits<'_>
     requires { start ≤ 10 ^ 18 }
     ensures number { result.number ≡ min (value_after start (digits_at text.now).0) (10 ^ 18) }
@@ -59,10 +48,11 @@ pub(crate) fn take_digits(start: u64, text: &[u8]) -> Digits<'_>
             };
         }
         if number >= CAP {
-            let later = take_many(CAP, &text[i..]);
+            let count = i + digit_count(&text[i..]);
             return Digits {
-                count: i + later.count,
-                ..later
+                number: CAP,
+                count,
+                rest: &text[count..],
             };
         }
         number = 10 * number + u64::from(*b - b'0');

@@ -1,5 +1,6 @@
 //! The program that measurements by hand run. In come the name of a piece of work, how often it is done and, where a text
-//! is read, its file; out goes a checksum of all its results, so that no result is left out and a peer can be compared with it.
+//! is read, its file; out goes a checksum of all its results, so that no result is left out and a peer can be compared
+//! with it.
 #![tactic(auto)]
 
 mod bases;
@@ -52,6 +53,18 @@ fn asked(rt: &HostRuntime) -> Result<Option<Work>, io::Error> {
     }
 }
 
+fn tell_words(rt: &HostRuntime, rounds: u32, text: &[u8]) -> Result<ExitCode, io::Error> {
+    let Some(tally) = words(text, rounds) else {
+        eprintln!(rt; "measure_main: the text is too long")?;
+        return Ok(ExitCode::from(2));
+    };
+    let words = tally.words;
+    let decimals = tally.decimals;
+    let sum = tally.checksum;
+    println!(rt; "words {rounds} words {words} decimals {decimals} checksum {sum}")?;
+    Ok(ExitCode::from(0))
+}
+
 fn main(rt: HostRuntime) -> Result<ExitCode, io::Error> {
     match asked(&rt)? {
         Some(Work::Bases(rounds)) => {
@@ -62,18 +75,7 @@ fn main(rt: HostRuntime) -> Result<ExitCode, io::Error> {
             let sum = products(rt.alloc(), rounds)?;
             println!(&rt; "products {rounds} checksum {sum}")?;
         }
-        Some(Work::Words(rounds, text)) => match words(text.as_slice(), rounds) {
-            Some(tally) => {
-                let words = tally.words;
-                let decimals = tally.decimals;
-                let sum = tally.checksum;
-                println!(&rt; "words {rounds} words {words} decimals {decimals} checksum {sum}")?;
-            }
-            None => {
-                eprintln!(&rt; "measure_main: the text is too long")?;
-                return Ok(ExitCode::from(2));
-            }
-        },
+        Some(Work::Words(rounds, text)) => return tell_words(&rt, rounds, text.as_slice()),
         None => {
             eprintln!(&rt; "measure_main: bases ROUNDS, products ROUNDS, or words ROUNDS FILE")?;
             return Ok(ExitCode::from(2));

@@ -11,9 +11,9 @@ mod limits;
 
 pub use body::Body;
 pub use examples::{
-    arguments, columns_that_are_present, ephemerides_with_a_line, headers, lines_of_the_form, places_of_columns,
-    positions_on_a_line, positions_on_a_parabola, preferred_times, sizes_of_coefficients,
-    texts_of_the_form, texts_that_leave_the_form,
+    arguments, columns_that_are_present, ephemerides_with_a_line, headers, lines_of_the_form,
+    places_of_columns, positions_on_a_line, positions_on_a_parabola, preferred_times,
+    sizes_of_coefficients, texts_of_the_form, texts_that_leave_the_form,
 };
 pub use header::{Column, Columns, Header};
 pub use laws::{

@@ -130,6 +130,14 @@ fn request_text() -> &'static [u8]
     b"FIND coord target mercury second - observer ssb frame eq axis x values 0 dir any width 1 depth 40 cut half span "
 }
 
+// A time behind a text.
+fn add_time_behind(text: &mut Vec<u8>, name: &[u8], time: i64) -> Result<(), AllocError>
+    ensures { OnOk result (text.new.items ≡ text.old.items ++ (name.now ++ signed_decimal time)) }
+{
+    text.extend_from_slice(name)?;
+    add_time(text, time)
+}
+
 // The request, and the first and last time of its span.
 fn add_request(
     text: &mut Vec<u8>,
@@ -141,10 +149,8 @@ fn add_request(
 ) -> Result<(), AllocError>
     ensures { OnOk result (text.new.items ≡ text.old.items ++ (request.now ++ signed_decimal from ++ between.now ++ signed_decimal to ++ stop.now)) }
 {
-    text.extend_from_slice(request)?;
-    add_time(text, from)?;
-    text.extend_from_slice(between)?;
-    add_time(text, to)?;
+    add_time_behind(text, request, from)?;
+    add_time_behind(text, between, to)?;
     text.extend_from_slice(stop)
 }
 

@@ -20,14 +20,14 @@ fn add_count(text: &mut Vec<u8>, count: usize) -> Result<(), AllocError>
     text.extend_from_slice(buffer.format(count).as_bytes())
 }
 
-// What a window holds, and its first and last time.
-fn add_times(text: &mut Vec<u8>, kind: &[u8], window: &Window) -> Result<(), AllocError>
-    ensures { OnOk result (text.new.items ≡ text.old.items ++ (kind.now ++ times window.now)) }
+// A text, and two times behind it.
+fn add_times(text: &mut Vec<u8>, kind: &[u8], from: i64, to: i64) -> Result<(), AllocError>
+    ensures { OnOk result (text.new.items ≡ text.old.items ++ (kind.now ++ times from to)) }
 {
     text.extend_from_slice(kind)?;
-    add_time(text, window.first)?;
+    add_time(text, from)?;
     text.extend_from_slice(b" ")?;
-    add_time(text, window.last)
+    add_time(text, to)
 }
 
 fn add_window(text: &mut Vec<u8>, window: &Window) -> Result<(), AllocError>
@@ -35,15 +35,15 @@ fn add_window(text: &mut Vec<u8>, window: &Window) -> Result<(), AllocError>
 {
     match window.holds {
         Holds::Certain(Turn::Rise) => {
-            add_times(text, b"C ", window)?;
+            add_times(text, b"C ", window.first, window.last)?;
             text.extend_from_slice(b" rise\n")
         }
         Holds::Certain(Turn::Fall) => {
-            add_times(text, b"C ", window)?;
+            add_times(text, b"C ", window.first, window.last)?;
             text.extend_from_slice(b" fall\n")
         }
         Holds::Undecided => {
-            add_times(text, b"U ", window)?;
+            add_times(text, b"U ", window.first, window.last)?;
             text.extend_from_slice(b"\n")
         }
     }
@@ -130,28 +130,24 @@ fn request_text() -> &'static [u8]
     b"FIND coord target mercury second - observer ssb frame eq axis x values 0 dir any width 1 depth 40 cut half span "
 }
 
-// A time behind a text.
-fn add_time_behind(text: &mut Vec<u8>, name: &[u8], time: i64) -> Result<(), AllocError>
-    ensures { OnOk result (text.new.items ≡ text.old.items ++ (name.now ++ signed_decimal time)) }
-{
-    text.extend_from_slice(name)?;
-    add_time(text, time)
-}
-
-// The request, and the first and last time of its span.
+// The request's line; its texts come as parameters.
 fn add_request(
     text: &mut Vec<u8>,
     request: &[u8],
     from: i64,
-    between: &[u8],
     to: i64,
     stop: &[u8],
 ) -> Result<(), AllocError>
-    ensures { OnOk result (text.new.items ≡ text.old.items ++ (request.now ++ signed_decimal from ++ between.now ++ signed_decimal to ++ stop.now)) }
+    ensures { OnOk result (text.new.items ≡ text.old.items ++ (request.now ++ times from to ++ stop.now)) }
 {
-    add_time_behind(text, request, from)?;
-    add_time_behind(text, between, to)?;
+    add_times(text, request, from, to)?;
     text.extend_from_slice(stop)
+}
+
+fn add_request_line(text: &mut Vec<u8>, from: i64, to: i64) -> Result<(), AllocError>
+    ensures { OnOk result (text.new.items ≡ text.old.items ++ request_line from to) }
+{
+    add_request(text, request_text(), from, to, b"\n")
 }
 
 /// The report of the windows that the one request finds from one time to another.
@@ -166,7 +162,7 @@ pub(crate) fn report(
     let certain = certain_count(windows);
     let undecided = undecided_count(windows);
     let mut text = Vec::new(alloc);
-    add_request(&mut text, request_text(), from, b" ", to, b"\n")?;
+    add_request_line(&mut text, from, to)?;
     add_rest(
         &mut text,
         windows,

@@ -1,13 +1,10 @@
 // The text of a report.
 ghost use Rattle.std.specs.Prelude.{◌≡◌, ◌++◌, codes, IfOk, OnOk};
 ghost use Rattle.std.specs.Fmt.{decimal, signed_decimal};
-ghost use Rattle.spec_output.specs.Report.{certain_count, line_of, report, times, undecided_count, window_lines};
+ghost use Rattle.spec_output.specs.Report.{certain_count, line_of, report, request_line, request_text, times, undecided_count, window_lines};
 
 use spec_events::{Holds, Turn, Window};
 use std::alloc::{AllocError, Global};
-
-const REQUEST_LINE: &[u8] =
-    b"FIND coord target mercury second - observer ssb frame eq axis x values 0 dir any width 1 depth 40 cut half span -43200 2721600\n";
 
 fn add_time(text: &mut Vec<u8>, time: i64) -> Result<(), AllocError>
     ensures { OnOk result (text.new.items ≡ text.old.items ++ signed_decimal time) }
@@ -23,14 +20,14 @@ fn add_count(text: &mut Vec<u8>, count: usize) -> Result<(), AllocError>
     text.extend_from_slice(buffer.format(count).as_bytes())
 }
 
-// What a window holds, and its first and last time.
-fn add_times(text: &mut Vec<u8>, kind: &[u8], window: &Window) -> Result<(), AllocError>
-    ensures { OnOk result (text.new.items ≡ text.old.items ++ (kind.now ++ times window.now)) }
+// A text, and two times behind it.
+fn add_times(text: &mut Vec<u8>, kind: &[u8], from: i64, to: i64) -> Result<(), AllocError>
+    ensures { OnOk result (text.new.items ≡ text.old.items ++ (kind.now ++ times from to)) }
 {
     text.extend_from_slice(kind)?;
-    add_time(text, window.first)?;
+    add_time(text, from)?;
     text.extend_from_slice(b" ")?;
-    add_time(text, window.last)
+    add_time(text, to)
 }
 
 fn add_window(text: &mut Vec<u8>, window: &Window) -> Result<(), AllocError>
@@ -38,15 +35,15 @@ fn add_window(text: &mut Vec<u8>, window: &Window) -> Result<(), AllocError>
 {
     match window.holds {
         Holds::Certain(Turn::Rise) => {
-            add_times(text, b"C ", window)?;
+            add_times(text, b"C ", window.first, window.last)?;
             text.extend_from_slice(b" rise\n")
         }
         Holds::Certain(Turn::Fall) => {
-            add_times(text, b"C ", window)?;
+            add_times(text, b"C ", window.first, window.last)?;
             text.extend_from_slice(b" fall\n")
         }
         Holds::Undecided => {
-            add_times(text, b"U ", window)?;
+            add_times(text, b"U ", window.first, window.last)?;
             text.extend_from_slice(b"\n")
         }
     }
@@ -126,14 +123,46 @@ fn add_rest(
     add_counts(text, one, n, two, m, stop)
 }
 
-/// The report of the windows that the one request finds.
-pub(crate) fn report(alloc: Global, windows: &[Window]) -> Result<Vec<u8>, AllocError>
-    ensures { IfOk result (λ v. v.items ≡ report windows.now) }
+// The request, up to its span.
+fn request_text() -> &'static [u8]
+    ensures { result.now ≡ request_text }
+{
+    b"FIND coord target mercury second - observer ssb frame eq axis x values 0 dir any width 1 depth 40 cut half span "
+}
+
+// The request's line; its texts come as parameters.
+fn add_request(
+    text: &mut Vec<u8>,
+    request: &[u8],
+    from: i64,
+    to: i64,
+    stop: &[u8],
+) -> Result<(), AllocError>
+    ensures { OnOk result (text.new.items ≡ text.old.items ++ (request.now ++ times from to ++ stop.now)) }
+{
+    add_times(text, request, from, to)?;
+    text.extend_from_slice(stop)
+}
+
+fn add_request_line(text: &mut Vec<u8>, from: i64, to: i64) -> Result<(), AllocError>
+    ensures { OnOk result (text.new.items ≡ text.old.items ++ request_line from to) }
+{
+    add_request(text, request_text(), from, to, b"\n")
+}
+
+/// The report of the windows that the one request finds from one time to another.
+pub(crate) fn report(
+    alloc: Global,
+    from: i64,
+    to: i64,
+    windows: &[Window],
+) -> Result<Vec<u8>, AllocError>
+    ensures { IfOk result (λ v. v.items ≡ report from to windows.now) }
 {
     let certain = certain_count(windows);
     let undecided = undecided_count(windows);
     let mut text = Vec::new(alloc);
-    text.extend_from_slice(REQUEST_LINE)?;
+    add_request_line(&mut text, from, to)?;
     add_rest(
         &mut text,
         windows,

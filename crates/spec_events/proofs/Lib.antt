@@ -9,3 +9,5 @@ pub mod Sound
 pub mod Lines
 pub mod Told
 pub mod Found
+pub mod Ordering
+pub mod Placing

@@ -9,3 +9,4 @@ pub mod Sound
 pub mod Lines
 pub mod Told
 pub mod Found
+pub mod Cutting

@@ -4,3 +4,5 @@ pub mod Windows
 pub mod Runs
 pub mod LineSearch
 pub mod Examples
+pub mod Cuts
+pub mod CutExamples

@@ -2,11 +2,17 @@
 //! that contracts cite, and the laws about them. Exact positions and intervals come in; windows of seconds go out.
 #![tactic(auto)]
 
+mod cut_examples;
+mod cut_laws;
+mod cuts;
 mod examples;
 mod laws;
 mod tree;
 mod window;
 
+pub use cut_examples::{cuts_of_spans, leaves_of_eight_seconds};
+pub use cut_laws::cuts_lie_inside;
+pub use cuts::CutRule;
 pub use examples::{
     leaves_of_three_seconds, middles, turns, verdicts, windows_of_five_leaves, windows_of_lines,
 };

@@ -1,5 +1,7 @@
 // Whole walks of small trees, and one of a tree as deep as its root is wide.
 ghost use Rattle.std.specs.Prelude.{◌≡◌, ◌<◌};
+ghost use Rattle.spec_events.specs.declared.cuts.CutRule.TheVariants.{Third};
+ghost use Rattle.spec_events.specs.Cuts.{CanCut, cut_of};
 ghost use Rattle.spec_events.specs.CutExamples.{pairs, parts_at};
 ghost use Rattle.halving.specs.TestJudges.{comb, comb_is_sound, pairs_are_sound};
 
@@ -9,6 +11,7 @@ use std::alloc::Global;
 use std::test::*;
 
 // Splits what is wider than two seconds.
+#[derive(Drop)]
 struct Pairs {
     rule: CutRule,
 }
@@ -33,6 +36,24 @@ fn parts_at(time: i64, node: Node) -> (Node, Node)
     )
 }
 
+fn third_cut(a: i64, b: i64) -> i64
+    requires { CanCut a b }
+    ensures { result ≡ cut_of Third a b }
+{
+    let third = (b - a) / 3;
+    if third < 1 { a + 1 } else { a + third }
+}
+
+fn cut_time(rule: CutRule, a: i64, b: i64) -> i64
+    requires { CanCut a b }
+    ensures { result ≡ cut_of rule a b }
+{
+    match rule {
+        CutRule::Half => a + (b - a) / 2,
+        CutRule::Third => third_cut(a, b),
+    }
+}
+
 impl Judge for Pairs {
     ghost rules = { λ judge. pairs judge.rule };
 
@@ -45,12 +66,7 @@ impl Judge for Pairs {
     }
 
     fn cut(&self, node: Node) -> (Node, Node) {
-        let width = node.b - node.a;
-        let time = match self.rule {
-            CutRule::Half => node.a + width / 2,
-            CutRule::Third => node.a + (width / 3).max(1),
-        };
-        parts_at(time, node)
+        parts_at(cut_time(self.rule, node.a, node.b), node)
     }
 
     ghost sound = { λ judge. pairs_are_sound judge.rule };

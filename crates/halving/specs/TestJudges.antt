@@ -1,5 +1,5 @@
 -- The rules of the tests' judges, which are sound.
-use Rattle.std.proofs.Common.{◌≡◌, ◌+◌, ◌^◌, ◌<◌, Bool, true, ◌&&◌, ℤ, pos, ◌-ℤ◌, ◌<ℤ◌, refl, arith, nat_lt, int_lt, if◌then◌else◌}
+use Rattle.std.proofs.Common.{◌≡◌, ◌<◌, Bool, ◌&&◌, pos, ◌-ℤ◌, ◌<ℤ◌, refl, arith, nat_lt, int_lt, if◌then◌else◌}
 use Rattle.std.proofs.lemmas.Int.{ints}
 use Rattle.spec_events.specs.declared.cuts.CutRule.{CutRule}
 use Rattle.spec_events.specs.declared.tree.Node.{Node}

@@ -1,5 +1,5 @@
 -- A cut lies strictly inside its span.
-use Rattle.std.proofs.Common.{ℤ, pos, ◌-ℤ◌, ◌<ℤ◌, ◌≤ℤ◌, int_div, arith}
+use Rattle.std.proofs.Common.{ℤ, pos, ◌-ℤ◌, ◌<ℤ◌, int_div, arith}
 use Rattle.std.proofs.lemmas.Int.{ints}
 use Rattle.std.specs.Int.{int_max}
 use Rattle.spec_events.specs.declared.cuts.CutRule.{CutRule}

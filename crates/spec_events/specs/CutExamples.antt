@@ -1,5 +1,5 @@
 -- The rules of a judge that splits what is wider than two seconds, for worked values and tests.
-use Rattle.std.specs.Prelude.{◌+◌, ◌^◌, Bool, ◌&&◌, nat_lt, ℤ, pos, ◌-ℤ◌, int_lt, if◌then◌else◌}
+use Rattle.std.specs.Prelude.{◌+◌, Bool, ◌&&◌, nat_lt, ℤ, pos, ◌-ℤ◌, int_lt, if◌then◌else◌}
 use Rattle.spec_events.specs.declared.cuts.CutRule.{CutRule}
 use Rattle.spec_events.specs.declared.tree.Node.{Node}
 use Rattle.spec_events.specs.declared.tree.Verdict.TheVariants.{Clear, Split}

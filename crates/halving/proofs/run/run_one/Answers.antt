@@ -1,9 +1,7 @@
-use Rattle.std.proofs.Common.{◌≡◌, ◌<◌, ◌≤◌, List, [], ◌∷◌, ◌++◌, length, sym, ap, ◌∙◌, subst, Some, None, arith, length-append, append_assoc}
-use Rattle.spec_events.specs.declared.tree.Node.{Node}
+use Rattle.std.proofs.Common.{◌≡◌, List, ◌++◌, length, sym, ap, ◌∙◌, subst, arith, length-append}
 use Rattle.spec_events.specs.declared.tree.Leaf.{Leaf}
 use Rattle.spec_events.specs.Tree.{mark_of}
-use Rattle.spec_events.specs.Tree.{IsValid, leaves}
-use Rattle.halving.specs.Pending.{pending, AllValid, weight}
+use Rattle.halving.specs.Pending.{pending}
 use Rattle.spec_events.specs.Tree.{Covers}
 use Rattle.spec_events.proofs.Covering.{leaves_cover}
 use Rattle.halving.proofs.Stacks.{popped, settles, settle_falls, too_many, splits, split_valid, split_falls, all_found}

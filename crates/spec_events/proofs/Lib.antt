@@ -11,3 +11,4 @@ pub mod Told
 pub mod Found
 pub mod Ordering
 pub mod Placing
+pub mod Cutting

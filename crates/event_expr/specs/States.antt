@@ -1,0 +1,11 @@
+-- What contracts see of an enclosure that the code answers, and the limit of its exponents.
+use Rattle.std.specs.Prelude.{ℕ}
+use Rattle.spec_expressions.specs.Enclosure.{Enclosure}
+use Rattle.ival_core.specs.declared.ival.Enclosure.{Enclosure as Answered}
+
+abbrev pub parts : Answered → Enclosure
+parts e = record { mid = e.mid; range = e.range; step = e.step }
+
+-- the greatest size of an exponent that states answer
+abbrev pub state_exponent : ℕ
+state_exponent = 256

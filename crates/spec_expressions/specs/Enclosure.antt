@@ -51,6 +51,13 @@ pub record AllWithin (n : ℕ) (e : Enclosure) : Type 0 where
   pub range : IsWithin n e.range
   pub step : IsWithin n e.step
 
+-- the greatest exponents of the leaves and of every part of a formula's enclosure
+abbrev pub leaf_exponent : ℕ
+leaf_exponent = 1024
+
+abbrev pub part_exponent : ℕ
+part_exponent = 24000
+
 -- ---- an enclosure from its parts
 -- the times of [a, b] as seen from the middle
 abbrev pub offsets : ℤ → ℤ → Interval

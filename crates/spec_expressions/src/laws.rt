@@ -3,7 +3,7 @@
 ghost use Rattle.std.specs.Prelude.{◌≤ℤ◌, ◌<ℤ◌, ℤ};
 ghost use Rattle.spec_intervals.specs.Interval.{Interval};
 ghost use Rattle.spec_intervals.specs.Fraction.{Fraction, IsFraction, Holds, fraction_add, fraction_sub, fraction_mul, fraction_signed_square};
-ghost use Rattle.spec_expressions.specs.Enclosure.{Enclosure, IsEnclosure, AllFractions, IsSpan, AllWithin, leaf_exponent, part_exponent, middle, change, centred, enclosure, constant_of, sum_of, difference_of, product_of, signed_square_of};
+ghost use Rattle.spec_expressions.specs.Enclosure.{Enclosure, IsEnclosure, PartsHold, AllFractions, IsSpan, AllWithin, leaf_exponent, part_exponent, middle, change, centred, enclosure, constant_of, sum_of, difference_of, product_of, signed_square_of};
 ghost use Rattle.spec_expressions.specs.Expression.{Leaf, IsLeaf, exact_of, enclosure_of, HasLeaves, IsFormula};
 ghost use Rattle.spec_expressions.specs.declared.expressions.Expr.{Expr};
 
@@ -17,7 +17,7 @@ pub fn expressions_are_enclosed()
 /// What is reached from the middle by steps holds each value, and so does what it shares with a plain range.
 pub fn parts_are_enclosed()
     ensures centred { (f : ℤ → Fraction) (a b : ℤ) → AllFractions f a b → a ≤ℤ b → (mid step : Interval) → Holds mid (f (middle a b)) → ((t : ℤ) → a ≤ℤ t → t <ℤ b → Holds step (change f t)) → (t : ℤ) → a ≤ℤ t → t ≤ℤ b → Holds (centred a b mid step) (f t) }
-    ensures enclosure { (f : ℤ → Fraction) (a b : ℤ) → AllFractions f a b → a ≤ℤ b → (mid plain step : Interval) → Holds mid (f (middle a b)) → ((t : ℤ) → a ≤ℤ t → t ≤ℤ b → Holds plain (f t)) → ((t : ℤ) → a ≤ℤ t → t <ℤ b → Holds step (change f t)) → IsEnclosure f a b (enclosure a b mid plain step) }
+    ensures enclosure { (f : ℤ → Fraction) (a b : ℤ) → AllFractions f a b → a ≤ℤ b → (mid plain step : Interval) → PartsHold f a b mid plain step → IsEnclosure f a b (enclosure a b mid plain step) }
 {}
 
 /// Each rule encloses the exact result of what its operands enclose.

@@ -27,9 +27,21 @@ pub record IsEnclosure (exact : ℤ → Fraction) (a b : ℤ) (e : Enclosure) : 
   pub range : (t : ℤ) → a ≤ℤ t → t ≤ℤ b → Holds e.range (exact t)
   pub step : (t : ℤ) → a ≤ℤ t → t <ℤ b → Holds e.step (change exact t)
 
+-- what an enclosure is made of: a mid, a range that is calculated without looking at the middle, and a step
+pub record PartsHold (exact : ℤ → Fraction) (a b : ℤ) (in_middle without change_held : Interval) : Type 0 where
+  pub mid : Holds in_middle (exact (middle a b))
+  pub plain : (t : ℤ) → a ≤ℤ t → t ≤ℤ b → Holds without (exact t)
+  pub step : (t : ℤ) → a ≤ℤ t → t <ℤ b → Holds change_held (change exact t)
+
 -- the exact value is a number at each of these times
 abbrev pub AllFractions : (ℤ → Fraction) → ℤ → ℤ → Type 0
 AllFractions exact a b = (t : ℤ) → a ≤ℤ t → t ≤ℤ b → IsFraction (exact t)
+
+-- some exact value is enclosed
+pub record Encloses (a b : ℤ) (e : Enclosure) : Type 0 where
+  pub exact : ℤ → Fraction
+  pub numbers : AllFractions exact a b
+  pub is_enclosure : IsEnclosure exact a b e
 
 -- times for which enclosures are made
 abbrev pub time_limit : ℕ
@@ -50,6 +62,13 @@ pub record AllWithin (n : ℕ) (e : Enclosure) : Type 0 where
   pub mid : IsWithin n e.mid
   pub range : IsWithin n e.range
   pub step : IsWithin n e.step
+
+-- the greatest exponents of the leaves and of every part of a formula's enclosure
+abbrev pub leaf_exponent : ℕ
+leaf_exponent = 1024
+
+abbrev pub part_exponent : ℕ
+part_exponent = 24000
 
 -- ---- an enclosure from its parts
 -- the times of [a, b] as seen from the middle

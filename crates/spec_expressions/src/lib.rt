@@ -7,5 +7,6 @@
 #![tactic(auto)]
 
 mod expressions;
+pub mod laws;
 
 pub use expressions::Expr;

@@ -1,16 +1,12 @@
 -- A granule's numbers stand within its block, and those of a body are bounded.
 use Rattle.std.proofs.Common.{◌≡◌, ℕ, zero, suc, ◌+◌, ◌-◌, ◌*◌, ◌<◌, ◌≤◌, List, [], ◌∷◌, length, take, drop, slice_index_or, Some, refl, arith, ◌∙◌, length-take-le, length-drop, get_or-take, get_or-drop}
 use Rattle.std.specs.Prelude.{All, slice_get}
-use Rattle.std.proofs.lemmas.Nat.{mul-le}
 use Rattle.spec_text.specs.declared.decimals.Decimal.{Decimal}
 use Rattle.spec_ephemeris.specs.declared.header.Column.{Column}
 use Rattle.spec_ephemeris.specs.declared.limits.TheConstants.{BODY_COLUMNS}
 use Rattle.spec_ephemeris.specs.Header.{IsColumn, Takes, granule_size}
 use Rattle.spec_ephemeris.specs.Ephemeris.{Ephemeris, IsEphemeris, IsBodyNumber, block_numbers, granule_numbers}
-
--- a block lies within the numbers
-pub block_fits : (k blocks n : ℕ) → k < blocks → k * n + n ≤ blocks * n
-block_fits k blocks n below = let step : (k + 1) * n ≤ blocks * n = mul-le (k + 1) n blocks n (omega (arith, below)) (omega arith) in omega (arith, step)
+use Rattle.spec_ephemeris.proofs.Pushing.{block_fits}
 
 -- the run of a list from `first` on lies within it
 length_of_run : {X : Type 0} (xs : List X) (first size : ℕ) → first + size ≤ length xs → length (take size (drop first xs)) ≡ size

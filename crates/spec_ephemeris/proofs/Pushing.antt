@@ -1,16 +1,20 @@
 -- One block more keeps an ephemeris checked.
 use Rattle.std.proofs.Common.{◌≡◌, ℕ, ◌+◌, ◌*◌, ◌<◌, ◌≤◌, List, ◌++◌, length, take, drop, ap, subst, sym, ◌∙◌, arith, length-append, length-drop, drop_at, take_all, ◌⊎◌, inl, inr}
 use Rattle.std.proofs.lemmas.List.{take-append-le, drop-append-le}
+use Rattle.std.proofs.lemmas.Nat.{mul-le}
 use Rattle.std.proofs.lemmas.Bool.{cases_lt}
 use Rattle.spec_text.specs.declared.decimals.Decimal.{Decimal}
 use Rattle.spec_ephemeris.specs.declared.header.Header.{Header}
 use Rattle.spec_ephemeris.specs.declared.limits.TheConstants.{MOST_BLOCKS}
 use Rattle.spec_ephemeris.specs.Ephemeris.{Ephemeris, IsEphemeris, IsBlock, AreBodiesBounded, with_block}
-use Rattle.spec_ephemeris.proofs.GranuleNumbers.{block_fits}
 
 -- the numbers of block k of n numbers a block
 abbrev of_block : {X : Type 0} → ℕ → ℕ → List X → List X
 of_block n k xs = take n (drop (k * n) xs)
+
+-- a block lies within the numbers
+pub block_fits : (k blocks n : ℕ) → k < blocks → k * n + n ≤ blocks * n
+block_fits k blocks n below = let step : (k + 1) * n ≤ blocks * n = mul-le (k + 1) n blocks n (omega (arith, below)) (omega arith) in omega (arith, step)
 
 earlier : {X : Type 0} (n k blocks : ℕ) (xs ys : List X) → length xs ≡ blocks * n → k < blocks → of_block n k (xs ++ ys) ≡ of_block n k xs
 earlier n k blocks xs ys whole below =

@@ -95,7 +95,7 @@ at_index e number index checked there below =
 some_of_all : (blocks granules : ℕ) → 0 < blocks → 0 < granules → 0 < blocks * granules
 some_of_all blocks granules one other = let all : 1 * 1 ≤ blocks * granules = mul-le 1 1 blocks granules one other in omega (arith, all)
 
-from_start : (start t : ℤ) → start ≤ℤ t → t ≡ start +ℤ pos (to_nat (t -ℤ start))
+pub from_start : (start t : ℤ) → start ≤ℤ t → t ≡ start +ℤ pos (to_nat (t -ℤ start))
 from_start start t from = let same : t -ℤ start ≡ pos (to_nat (t -ℤ start)) = whole (t -ℤ start) (omega (arith, ints, from)) in omega (arith, ints, same)
   where
     whole : (z : ℤ) → pos 0 ≤ℤ z → z ≡ pos (to_nat z)

@@ -46,5 +46,11 @@ abbrev pub body_columns : List ℕ
 body_columns = 1 ∷ 2 ∷ 3 ∷ 4 ∷ 5 ∷ 6 ∷ 7 ∷ 8 ∷ 9 ∷ 10 ∷ 11 ∷ []
 
 -- the columns in use for two targets, in order and each once
+abbrev pub is_among : List ℕ → ℕ → Bool
+is_among numbers number = list_any (λ n. n == number) numbers
+
+abbrev pub is_in_use : Source → Source → Source → ℕ → Bool
+is_in_use first second observer number = is_among (used first observer) number || is_among (used second observer) number
+
 abbrev pub columns_in_use : Source → Source → Source → List ℕ
-columns_in_use first second observer = filter (λ number. list_any (λ n. n == number) (used first observer) || list_any (λ n. n == number) (used second observer)) body_columns
+columns_in_use first second observer = filter (is_in_use first second observer) body_columns

@@ -1,9 +1,10 @@
 -- Two targets seen from an observer in a frame, over an ephemeris: their exact positions and velocities at each time, and
 -- the enclosures of these over a span of times. Positions are in km, velocities in km a second.
-use Rattle.std.specs.Prelude.{◌≡◌, ◌≢◌, ℕ, zero, suc, ◌<◌, All, IsTrue, List, ◌∷◌, ◌++◌, slice_index_or, ℤ, ◌≤ℤ◌}
+use Rattle.std.specs.Prelude.{◌≡◌, ◌≢◌, ℕ, zero, suc, ◌<◌, ◌≤◌, All, IsTrue, List, ◌∷◌, ◌++◌, slice_index_or, ℤ, ◌≤ℤ◌}
 use Rattle.spec_intervals.specs.Fraction.{Fraction}
 use Rattle.spec_ephemeris.specs.declared.body.Body.{Body}
 use Rattle.spec_ephemeris.specs.declared.body.Body.TheVariants.{Ssb}
+use Rattle.spec_ephemeris.specs.declared.limits.TheConstants.{BODY_COLUMNS}
 use Rattle.spec_ephemeris.specs.Header.{has_column}
 use Rattle.spec_ephemeris.specs.Series.{Series, position}
 use Rattle.spec_ephemeris.specs.Ephemeris.{Ephemeris, IsEphemeris, IsBorderIn, end_of}
@@ -49,12 +50,17 @@ coordinate_of v target axis = coordinate (target_of v target) v.observer v.frame
 abbrev pub HasColumns : Ephemeris → List ℕ → Type 0
 HasColumns e = All (λ number. IsTrue (has_column e.header number))
 
+-- the columns of a source are there, and are those of bodies
+pub record IsThere (e : Ephemeris) (s : Source) : Type 0 where
+  pub present : HasColumns e (needed s)
+  pub of_bodies : All (λ number. number ≤ BODY_COLUMNS) (needed s)
+
 pub record IsView (v : View) : Type 0 where
   pub checked : IsEphemeris v.ephemeris
   pub block : 0 < v.ephemeris.blocks
-  pub first : HasColumns v.ephemeris (needed v.first)
-  pub second : HasColumns v.ephemeris (needed v.second)
-  pub observer : HasColumns v.ephemeris (needed v.observer)
+  pub first : IsThere v.ephemeris v.first
+  pub second : IsThere v.ephemeris v.second
+  pub observer : IsThere v.ephemeris v.observer
 
 -- ---- the exact values
 abbrev pub exact_position : View → ℕ → ℕ → ℤ → Fraction

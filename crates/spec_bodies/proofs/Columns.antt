@@ -9,7 +9,7 @@ use Rattle.spec_text.specs.declared.decimals.Decimal.{Decimal}
 use Rattle.spec_intervals.specs.Fraction.{Fraction, Holds}
 use Rattle.spec_ephemeris.specs.declared.header.Column.{Column}
 use Rattle.spec_ephemeris.specs.declared.limits.TheConstants.{BODY_COLUMNS}
-use Rattle.spec_ephemeris.specs.Header.{has_column, components, granule_size, IsColumn}
+use Rattle.spec_ephemeris.specs.Header.{has_column, is_present, components, granule_size, IsColumn}
 use Rattle.spec_ephemeris.specs.Series.{Series, position, to_nat}
 use Rattle.spec_ephemeris.specs.Ephemeris.{Ephemeris, Granule, IsEphemeris, IsGranule, IsGranuleAt, IsBorder, IsBorderIn, IsBodyNumber, granule_end, end_of, axis_series}
 use Rattle.spec_ephemeris.proofs.Granules.{one_granule}
@@ -17,6 +17,9 @@ use Rattle.spec_ephemeris.proofs.GranuleNumbers.{numbers_count, numbers_bounded}
 use Rattle.spec_enclosures.specs.Enclosures.{IsSeries, IsSpan}
 use Rattle.spec_bodies.specs.Granules.{column_of, granule_length, granule_index, granule_of_index, granule_at, series_at}
 use Rattle.spec_bodies.proofs.GranuleAt.{IsIndex, is_column, some_granules, shares, some_length, end_by_granules, at_index, from_start, index_of_time, granule_of_time}
+
+some_coefficients : (c : Column) → IsTrue (is_present c) → 1 ≤ c.coefs
+some_coefficients c present = grind (arith, present)
 
 abbrev IsThree : ℕ → Type 0
 IsThree n = n ≡ 3
@@ -118,7 +121,7 @@ module _ (e : Ephemeris) (number : ℕ) (checked : IsEphemeris e) (there : IsTru
       let coefficients = rules.coefficients in
       record {
         long = some_length e number checked there;
-        some = rw length_is (grind (arith, present));
+        some = rw length_is (some_coefficients (column_of e number) present);
         few = rw length_is coefficients;
         bodies = All-take IsBodyNumber (column_of e number).coefs (drop (axis * (column_of e number).coefs) here.coefs) (All-drop IsBodyNumber (axis * (column_of e number).coefs) here.coefs bounded);
       }

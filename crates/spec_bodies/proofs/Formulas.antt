@@ -73,19 +73,20 @@ Holds-factor_interval r is =
     record { low = rw e f; high = rw e g }
 
 -- ---- both meanings, over times from a to b
+-- a coordinate of a column is a number, and its enclosure holds it
+abbrev pub IsHeld : ℤ → ℤ → (ℕ → ℕ → ℤ → Fraction) → (ℕ → ℕ → Enclosure) → ℕ → ℕ → Type 0
+IsHeld a b column answer number axis = AllFractions (column number axis) a b × IsEnclosure (column number axis) a b (answer number axis)
+
 module _ (a b : ℤ) (ab : a ≤ℤ b) (column : ℕ → ℕ → ℤ → Fraction) (answer : ℕ → ℕ → Enclosure) (factors : Factor → Fraction)
     (fractions : (f : Factor) → IsFraction (factors f)) where
-  abbrev pub IsHeld : ℕ → ℕ → Type 0
-  IsHeld number axis = AllFractions (column number axis) a b × IsEnclosure (column number axis) a b (answer number axis)
-
-  pub AllFractions-coordinate : (c : Coordinate) → AllColumns IsHeld c → AllFractions (exact_of column factors c) a b
+  pub AllFractions-coordinate : (c : Coordinate) → AllColumns (IsHeld a b column answer) c → AllFractions (exact_of column factors c) a b
   AllFractions-coordinate nothing all t p q = omega arith
   AllFractions-coordinate (of_column number axis) all t p q = all.0 t p q
   AllFractions-coordinate (times f x) all t p q = IsFraction-mul _ _ (fractions f) (AllFractions-coordinate x all t p q)
   AllFractions-coordinate (plus x y) all t p q = IsFraction-mul _ _ (AllFractions-coordinate x all.0 t p q) (AllFractions-coordinate y all.1 t p q)
   AllFractions-coordinate (less x y) all t p q = IsFraction-mul _ _ (AllFractions-coordinate x all.0 t p q) (AllFractions-coordinate y all.1 t p q)
 
-  pub IsEnclosure-coordinate : (c : Coordinate) → AllColumns IsHeld c → IsEnclosure (exact_of column factors c) a b (enclosure_of answer factors a b c)
+  pub IsEnclosure-coordinate : (c : Coordinate) → AllColumns (IsHeld a b column answer) c → IsEnclosure (exact_of column factors c) a b (enclosure_of answer factors a b c)
   IsEnclosure-coordinate nothing all = IsEnclosure-constant a b ab (fraction (pos 0) 1) (omega arith) zero_interval (Holds-zero (fraction (pos 0) 1) refl)
   IsEnclosure-coordinate (of_column number axis) all = all.1
   IsEnclosure-coordinate (times f x) all =

@@ -53,10 +53,14 @@ module _ (value : Series → ℤ → Fraction) (interval step : Series → ℤ �
   enclosure_of_series : IsEnclosure (λ t. value (series t) t) a b (enclosure a b (interval (series a) (middle a b) (middle a b)) (interval (series a) a b) (step (series a) a b))
   enclosure_of_series =
       let between = middle_between a b ab in
-      IsEnclosure-parts (λ t. value (series t) t) a b fractions_of_series ab (interval (series a) (middle a b) (middle a b)) (interval (series a) a b) (step (series a) a b)
-      (subst (Holds (interval (series a) (middle a b) (middle a b))) (at (middle a b) between.0 between.1) (holds (series a) (middle a b) (middle a b) (middle a b) is (within (middle a b) between.0 between.1) (omega (arith, ints)) (omega (arith, ints))))
-      (λ t p q. subst (Holds (interval (series a) a b)) (at t p q) (holds (series a) a b t is span p q))
-      (λ t p q. subst (Holds (step (series a) a b)) (changes t p q) (steps (series a) a b t is span p q))
+      IsEnclosure-parts (λ t. value (series t) t) a b fractions_of_series ab (interval (series a) (middle a b) (middle a b)) (interval (series a) a b) (step (series a) a b) (record {
+        mid = subst (Holds (interval (series a) (middle a b) (middle a b))) (at (middle a b) between.0 between.1) (holds (series a) (middle a b) (middle a b) (middle a b) is (within (middle a b) between.0 between.1) (omega (arith, ints)) (omega (arith, ints)));
+        plain = λ t p q. subst (Holds (interval (series a) a b)) (at t p q) (holds (series a) a b t is span p q);
+        step = λ t p q. subst (Holds (step (series a) a b)) (changes t p q) (steps (series a) a b t is span p q);
+      })
+
+  held : AllFractions (λ t. value (series t) t) a b × IsEnclosure (λ t. value (series t) t) a b (enclosure a b (interval (series a) (middle a b) (middle a b)) (interval (series a) a b) (step (series a) a b))
+  held = (fractions_of_series, enclosure_of_series)
 
 -- ---- positions and velocities of a column that is usable
 module _ (v : View) (a b : ℤ) (fits : Fits v a b) where
@@ -78,13 +82,15 @@ module _ (v : View) (a b : ℤ) (fits : Fits v a b) where
 
     positions_held : IsHeld a b (λ number axis t. position (series_at v.ephemeris number axis t) t) (λ number axis. series_positions a b (series_at v.ephemeris number axis a)) number axis
     positions_held =
-        (fractions_of_series position position_interval position_step_interval (λ s t is. power_positive s.duration _ is.long) Holds-position (λ s a b t is span p q. Holds-position_step s a b is span t p q) a b fits.ordered series same is span,
-        enclosure_of_series position position_interval position_step_interval (λ s t is. power_positive s.duration _ is.long) Holds-position (λ s a b t is span p q. Holds-position_step s a b is span t p q) a b fits.ordered series same is span)
+        held position position_interval position_step_interval (λ s t is. power_positive s.duration _ is.long)
+        Holds-position
+        (λ s a b t is span p q. Holds-position_step s a b is span t p q) a b fits.ordered series same is span
 
     velocities_held : IsHeld a b (λ number axis t. velocity (series_at v.ephemeris number axis t) t) (λ number axis. series_velocities a b (series_at v.ephemeris number axis a)) number axis
     velocities_held =
-        (fractions_of_series velocity velocity_interval velocity_step_interval (λ s t is. power_positive s.duration _ is.long) (λ s a b t is span p q. Holds-velocity s a b is span t p q) (λ s a b t is span p q. Holds-velocity_step s a b is span t p q) a b fits.ordered series same is span,
-        enclosure_of_series velocity velocity_interval velocity_step_interval (λ s t is. power_positive s.duration _ is.long) (λ s a b t is span p q. Holds-velocity s a b is span t p q) (λ s a b t is span p q. Holds-velocity_step s a b is span t p q) a b fits.ordered series same is span)
+        held velocity velocity_interval velocity_step_interval (λ s t is. power_positive s.duration _ is.long)
+        (λ s a b t is span p q. Holds-velocity s a b is span t p q)
+        (λ s a b t is span p q. Holds-velocity_step s a b is span t p q) a b fits.ordered series same is span
 
   -- what is true of every usable column is true of those of a coordinate
   pub coordinate_columns : (P : ℕ → ℕ → Type 0) → ((number axis : ℕ) → axis < 3 → IsUsable v number → P number axis) → (target axis : ℕ) → axis < 3 → AllColumns P (coordinate_of v target axis)

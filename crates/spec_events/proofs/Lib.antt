@@ -10,4 +10,5 @@ pub mod Lines
 pub mod Told
 pub mod Found
 pub mod Ordering
+pub mod Rearranged
 pub mod Placing

@@ -27,7 +27,7 @@ fn check_word(
 
 #[test]
 fn words_that_are_decimals(rt: HostRuntime) {
-    let cases: [(&str, (i64, i16), Option<u32>); 25] = [
+    let cases: [(&str, (i64, i16), Option<u32>); 29] = [
         (
             "0.230542450000000000D+07",
             (230_542_450_000_000_000, -11),
@@ -61,6 +61,22 @@ fn words_that_are_decimals(rt: HostRuntime) {
         ("0000000000000000000000000000000000000000", (0, 0), None),
         ("000000000000000000000000000000000000000.", (0, 0), None),
         (".000000000000000000000000000000000000001", (1, -39), None),
+        (
+            "00000000000000000000.123456789012345678",
+            (123_456_789_012_345_678, -18),
+            None,
+        ),
+        ("-999999999999999999.", (-999_999_999_999_999_999, 0), None),
+        (
+            ".999999999999999999D-09",
+            (999_999_999_999_999_999, -27),
+            None,
+        ),
+        (
+            "+100000000.000000000E+00",
+            (100_000_000_000_000_000, -9),
+            None,
+        ),
         ("1e99", (1, 99), None),
         ("1e-99", (1, -99), None),
         ("1e00000000000000000000000000000000000099", (1, 99), None),
@@ -92,9 +108,16 @@ fn words_that_have_a_fault(rt: HostRuntime) {
         ("1\0", NotNumber),
         ("１", NotNumber),
         ("1234567890123456789x", NotNumber),
+        ("12345678901234567890.12345678901234567x", NotNumber),
+        ("99999999999999999999999999999999999999e", NotNumber),
         ("00000000000000000000000000000000000000000", NotNumber),
         ("1234567890123456789", TooManyDigits),
         ("1000000000000000000", TooManyDigits),
+        ("1844674407370955161.6", TooManyDigits),
+        ("999999999999999999.9", TooManyDigits),
+        ("0.1000000000000000000", TooManyDigits),
+        ("9999999999999999999999999999999999999999", TooManyDigits),
+        (".999999999999999999999999999999999999e-9", TooManyDigits),
         ("1234567890123456789e100", TooManyDigits),
         ("1e100", ExponentRange),
         ("1e-100", ExponentRange),
@@ -110,6 +133,29 @@ fn words_that_have_a_fault(rt: HostRuntime) {
         ExponentRange.number(),
     ];
     assert!(rt; numbers == [1, 2, 3]);
+}
+
+// The words of a line are these, and none come behind them.
+fn check_words(rt: &impl Abort, line: &Line<'_>, tokens: &[&[u8]]) {
+    let number = line.number();
+    let mut words = line.words();
+    for i in 0..tokens.len() {
+        assert!(rt;
+            words.next() == Some(tokens[i]),
+            "word {i} of line {number}"
+        );
+    }
+    assert!(rt; words.next().is_none(), "no further word of line {number}");
+    assert!(rt; words.next().is_none(), "none again");
+    let mut count = 0;
+    for word in line.words() {
+        assert!(rt;
+            count < tokens.len() && word == tokens[count],
+            "word {count} of line {number} in a loop"
+        );
+        count += 1;
+    }
+    assert!(rt; count == tokens.len(), "the words of line {number}");
 }
 
 // The cursor meets a line with this number and these tokens.
@@ -128,6 +174,7 @@ fn check_line(rt: &impl Abort, step: &LineStep<'_>, number: u32, tokens: &[&[u8]
                 line.token(tokens.len()).is_none(),
                 "no further token of line {number}"
             );
+            check_words(rt, line, tokens);
         }
         LineStep::TooLong(_) => assert!(rt; false, "line {number} is too long"),
         LineStep::End => assert!(rt; false, "no line {number}"),

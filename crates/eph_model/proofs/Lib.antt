@@ -1,8 +1,6 @@
-pub mod Pushing
 pub mod Rules
 pub mod GridLemmas
 pub mod BorderLemmas
 pub mod Nearer
 pub mod ColumnBorders
-pub mod GranuleNumbers
 pub mod SmallNumbers

@@ -3,3 +3,5 @@ pub mod Coefficients
 pub mod HeaderTest
 pub mod Granules
 pub mod Lines
+pub mod Pushing
+pub mod GranuleNumbers

@@ -12,3 +12,4 @@ pub mod Found
 pub mod Ordering
 pub mod Rearranged
 pub mod Placing
+pub mod Cutting

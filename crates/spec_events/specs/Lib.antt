@@ -5,3 +5,5 @@ pub mod Runs
 pub mod Order
 pub mod LineSearch
 pub mod Examples
+pub mod Cuts
+pub mod CutExamples

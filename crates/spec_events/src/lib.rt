@@ -3,12 +3,18 @@
 #![tactic(auto)]
 
 mod book;
+mod cut_examples;
+mod cut_laws;
+mod cuts;
 mod examples;
 mod laws;
 mod tree;
 mod window;
 
 pub use book::{Book, Booked};
+pub use cut_examples::{cuts_of_spans, leaves_of_eight_seconds};
+pub use cut_laws::cuts_lie_inside;
+pub use cuts::CutRule;
 pub use examples::{
     leaves_of_three_seconds, leaves_put_in_order, middles, turns, verdicts, windows_of_five_leaves,
     windows_of_lines,

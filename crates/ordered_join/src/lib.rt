@@ -1,13 +1,13 @@
-// A library with one function.
+//! From a book of leaves to windows. The leaves of a root come in, in whatever order they were entered; what goes out
+//! is the windows that they make when they are put in order of time: one for each leaf with an event, and one for each
+//! longest run of undecided leaves. Nothing here knows what an event is.
 #![tactic(auto)]
 
-ghost use Rattle.std.specs.Prelude.{◌≡◌};
-ghost use Rattle.ordered_join.specs.Echo.{echo_of};
+mod joining;
+mod ordering;
 
-// The `ensures` clause is the contract: what `echo` returns is `echo_of` of its argument, a definition
-// in `specs/Echo.antt`, which a caller's clause can cite too.
-pub fn echo(x: usize) -> usize
-    ensures { result ≡ echo_of x }
-{
-    x
-}
+pub use ordering::{Memory, windows};
+pub use spec_events::{Holds, Window};
+
+#[cfg(test)]
+mod tests;

@@ -1,13 +1,6 @@
-// A library with one function.
+//! The book in which leaves are entered. Leaves of a root come in, in whatever order they are found, each by a seat;
+//! what goes out is a book with each of them, in order of arrival. So far it has the plain types alone, which stand
+//! beside their definitions and are passed on here.
 #![tactic(auto)]
 
-ghost use Rattle.std.specs.Prelude.{◌≡◌};
-ghost use Rattle.span_ledger.specs.Echo.{echo_of};
-
-// The `ensures` clause is the contract: what `echo` returns is `echo_of` of its argument, a definition
-// in `specs/Echo.antt`, which a caller's clause can cite too.
-pub fn echo(x: usize) -> usize
-    ensures { result ≡ echo_of x }
-{
-    x
-}
+pub use spec_events::{Book, Booked};

@@ -10,5 +10,6 @@ pub mod Lines
 pub mod Told
 pub mod Found
 pub mod Ordering
+pub mod Rearranged
 pub mod Placing
 pub mod Cutting

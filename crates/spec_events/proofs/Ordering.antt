@@ -25,15 +25,15 @@ cover_in_order a b [] c = refl
 cover_in_order a b (l ∷ ls) c = ap (inserted l) (cover_in_order l.node.b b ls c.2) ∙ before_first l ls b c.2 c.1
 
 -- ---- lists whose beginnings don't fall
-abbrev AllFrom : ℤ → List Leaf → Type 0
+abbrev pub AllFrom : ℤ → List Leaf → Type 0
 AllFrom a [] = Unit {0}
 AllFrom a (l ∷ ls) = (a ≤ℤ l.node.a) × AllFrom a ls
 
-abbrev Rise : List Leaf → Type 0
+abbrev pub Rise : List Leaf → Type 0
 Rise [] = Unit {0}
 Rise (l ∷ ls) = AllFrom l.node.a ls × Rise ls
 
-all_from : (a b : ℤ) (ls : List Leaf) → a ≤ℤ b → AllFrom b ls → AllFrom a ls
+pub all_from : (a b : ℤ) (ls : List Leaf) → a ≤ℤ b → AllFrom b ls → AllFrom a ls
 all_from a b [] h f = tt
 all_from a b (l ∷ ls) h f = (omega (arith, ints, h, f.0), all_from a b ls h f.1)
 
@@ -41,32 +41,32 @@ all_from a b (l ∷ ls) h f = (omega (arith, ints, h, f.0), all_from a b ls h f.
 abbrev tie : ℤ → ℤ → Bool
 tie x y = not (is_lt (int_cmp x y)) && not (is_lt (int_cmp y x))
 
-abbrev same : Leaf → Leaf → Bool
+abbrev pub same : Leaf → Leaf → Bool
 same x y = tie x.node.a y.node.a
 
 no_earlier : (x y : ℤ) → is_lt (int_cmp x y) ≡ false → y ≤ℤ x
 no_earlier x y h = grind (arith, ints)
 
-ties_equal : (x y : ℤ) → tie x y ≡ true → x ≡ y
+pub ties_equal : (x y : ℤ) → tie x y ≡ true → x ≡ y
 ties_equal x y h = grind (arith, ints)
 
 tie_self : (x : ℤ) → tie x x ≡ true
 tie_self x = grind (arith, ints)
 
-tie_apart : (x y : ℤ) → x <ℤ y → tie x y ≡ false
+pub tie_apart : (x y : ℤ) → x <ℤ y → tie x y ≡ false
 tie_apart x y h = grind (arith, ints)
 
 order : (x y : ℤ) → (x <ℤ y) ⊎ ((y <ℤ x) ⊎ (x ≡ y))
 order x y = grind (arith, ints)
 
 -- ---- what a test keeps of a first leaf and others
-abbrev kept : Bool → Leaf → List Leaf → List Leaf
+abbrev pub kept : Bool → Leaf → List Leaf → List Leaf
 kept b l ls = cond b (l ∷ ls) ls
 
-kept_if : (b : Bool) (l : Leaf) (ls : List Leaf) → b ≡ true → kept b l ls ≡ l ∷ ls
+pub kept_if : (b : Bool) (l : Leaf) (ls : List Leaf) → b ≡ true → kept b l ls ≡ l ∷ ls
 kept_if b l ls e = ap (λ c. kept c l ls) e
 
-left_if : (b : Bool) (l : Leaf) (ls : List Leaf) → b ≡ false → kept b l ls ≡ ls
+pub left_if : (b : Bool) (l : Leaf) (ls : List Leaf) → b ≡ false → kept b l ls ≡ ls
 left_if b l ls e = ap (λ c. kept c l ls) e
 
 rest_of : (b : Bool) (l : Leaf) (xs ys : List Leaf) → kept b l xs ≡ kept b l ys → xs ≡ ys
@@ -74,7 +74,7 @@ rest_of true l xs ys e = cc
 rest_of false l xs ys e = e
 
 -- none begins with a leaf that begins before all
-none_with : (x : Leaf) (a : ℤ) (ls : List Leaf) → x.node.a <ℤ a → AllFrom a ls → filter (same x) ls ≡ []
+pub none_with : (x : Leaf) (a : ℤ) (ls : List Leaf) → x.node.a <ℤ a → AllFrom a ls → filter (same x) ls ≡ []
 none_with x a [] h f = refl
 none_with x a (l ∷ ls) h f =
     left_if (same x l) l (filter (same x) ls) (tie_apart x.node.a l.node.a (omega (arith, ints, h, f.0))) ∙ none_with x a ls h f.1
@@ -107,7 +107,7 @@ module _ (y z : Leaf) (ys zs : List Leaf) (r : AllFrom y.node.a ys) (s : AllFrom
       (h x ∙ ap (λ l. kept (same x l) l (filter (same x) zs)) (sym one_first))
 
 -- two lists that rise, and keep the same leaves of each beginning, are one
-one_order : (ys zs : List Leaf) → Rise ys → Rise zs → ((x : Leaf) → filter (same x) ys ≡ filter (same x) zs) → ys ≡ zs
+pub one_order : (ys zs : List Leaf) → Rise ys → Rise zs → ((x : Leaf) → filter (same x) ys ≡ filter (same x) zs) → ys ≡ zs
 one_order [] [] r s h = refl
 one_order [] (z ∷ zs) r s h = not_nothing z (filter (same z) zs) (sym (kept_first z zs) ∙ sym (h z))
 one_order (y ∷ ys) [] r s h = not_nothing y (filter (same y) ys) (sym (kept_first y ys) ∙ h y)
@@ -137,7 +137,7 @@ unfolding inserted
 insert_keeps x l [] = refl
 insert_keeps x l (m ∷ ms) = insert_by x l m ms (int_lt m.node.a l.node.a) refl (insert_keeps x l ms)
 
-order_keeps : (x : Leaf) (ls : List Leaf) → filter (same x) (in_order ls) ≡ filter (same x) ls
+pub order_keeps : (x : Leaf) (ls : List Leaf) → filter (same x) (in_order ls) ≡ filter (same x) ls
 unfolding in_order
 order_keeps x [] = refl
 order_keeps x (l ∷ ls) = insert_keeps x l (in_order ls) ∙ ap (λ ms. kept (same x l) l ms) (order_keeps x ls)
@@ -168,7 +168,7 @@ unfolding inserted
 rise_insert l [] r = (tt, tt)
 rise_insert l (m ∷ ms) r = rise_by l m ms (int_lt m.node.a l.node.a) refl r (rise_insert l ms r.1)
 
-order_rises : (ls : List Leaf) → Rise (in_order ls)
+pub order_rises : (ls : List Leaf) → Rise (in_order ls)
 unfolding in_order
 order_rises [] = tt
 order_rises (l ∷ ls) = rise_insert l (in_order ls) (order_rises ls)

@@ -6,7 +6,7 @@ ghost use Rattle.spec_ephemeris.specs.Ephemeris.{IsLine};
 ghost use Rattle.spec_events.specs.LineSearch.{IsUp, IsLeftOpen, series_end, x_range, sign_on, rules, root, found_windows};
 ghost use Rattle.spec_intervals.specs.declared.signs.Sign.TheVariants.{Yes, No};
 ghost use Rattle.spec_events.specs.Events.{AreWithin, AreInOrder, HoldEvents, AreCertain, AreOpen, AreWindows};
-ghost use Rattle.std.specs.List.Sorted.{IsSortedByKey, IsStableByKey};
+ghost use Rattle.std.specs.List.Sorted.{IsPermutation, IsSortedByKey, IsStableByKey};
 ghost use Rattle.std.specs.Ordering.{int_cmp};
 ghost use Rattle.spec_events.specs.Order.{in_order};
 ghost use Rattle.spec_events.specs.Runs.{joined};
@@ -45,6 +45,11 @@ pub fn windows_of_a_covered_span()
 /// Leaves that follow one another stand in order.
 pub fn a_cover_is_in_order()
     ensures { (a b : ℤ) (ls : List Leaf) → Covers a ls b → in_order ls ≡ ls }
+{}
+
+/// Leaves that follow one another, rearranged in any way, are put back in order.
+pub fn a_rearranged_cover_is_put_in_order()
+    ensures { (a b : ℤ) (ls ordered : List Leaf) → IsPermutation ls ordered → Covers a ordered b → in_order ls ≡ ordered }
 {}
 
 /// What a stable sort by the beginnings of leaves makes of them is these leaves, put in order.

@@ -20,10 +20,10 @@ pub use examples::{
     windows_of_lines,
 };
 pub use laws::{
-    a_cover_is_in_order, a_stable_sort_puts_in_order, known_signs_are_those_of_x,
-    leaves_cover_the_node, leaves_of_the_parts, marks_tell_of_x, search_finds_the_events,
-    search_is_sound, windows_are_in_order, windows_from_the_left, windows_of_a_covered_span,
-    x_is_held,
+    a_cover_is_in_order, a_rearranged_cover_is_put_in_order, a_stable_sort_puts_in_order,
+    known_signs_are_those_of_x, leaves_cover_the_node, leaves_of_the_parts, marks_tell_of_x,
+    search_finds_the_events, search_is_sound, windows_are_in_order, windows_from_the_left,
+    windows_of_a_covered_span, x_is_held,
 };
 pub use tree::{Leaf, Mark, Node, Turn, Verdict};
 pub use window::{Holds, Window};

@@ -37,7 +37,7 @@ impl From<Memory> for SearchStop {
     }
 }
 
-// The leaves of a node of the line's granule. They are fewer than the granule has seconds, which a block bounds.
+// The leaves of a node of the line's granule. They are no more than its seconds, and a block has few.
 fn walk(alloc: Global, judge: &LineJudge, node: Node) -> Result<Vec<Leaf>, SearchStop>
     requires { IsValid (rules (series_of judge.now.line)) node }
     ensures { IfOk result (λ found. found.items ≡ leaves (rules (series_of judge.now.line)) node) }

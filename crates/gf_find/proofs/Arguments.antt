@@ -1,13 +1,8 @@
--- Steps of the judge's arithmetic, over plain numbers.
-use Rattle.std.proofs.Common.{◌≡◌, ◌^◌, refl, ℤ, pos, negsuc, ◌+ℤ◌, ◌*ℤ◌, ◌≤ℤ◌, arith}
-use Rattle.std.specs.Int.{int_div_euclid}
-use Rattle.spec_intervals.specs.Interval.{floor_div, greatest4, least4}
+-- The line's arithmetic, over plain numbers.
+use Rattle.std.proofs.Common.{◌^◌, ℤ, pos, ◌+ℤ◌, ◌*ℤ◌, ◌≤ℤ◌, arith}
+use Rattle.spec_intervals.specs.Interval.{greatest4, least4}
 use Rattle.spec_intervals.proofs.Order.{le-mul, lin}
 use Rattle.spec_intervals.proofs.Products.{corners_ordered}
-
-pub euclid_is : (z : ℤ) → int_div_euclid z (pos 2764800) ≡ floor_div z 2764800
-euclid_is (pos n) = refl
-euclid_is (negsuc n) = refl
 
 -- the ends of a line are in order
 pub ends_ordered : (c d p q x y : ℤ) → c ≤ℤ d → (c *ℤ pos (2 ^ 60) +ℤ least4 p q x y) ≤ℤ (d *ℤ pos (2 ^ 60) +ℤ greatest4 p q x y)

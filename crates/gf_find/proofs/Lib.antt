@@ -1,9 +1,7 @@
-pub mod Stacks
 pub mod Arguments
 pub mod Gains
 pub mod Left
 pub mod WordLemmas
-pub mod Spans
 pub mod Joins
 pub mod RowSteps
 pub mod Sizes
@@ -11,3 +9,6 @@ pub mod Threes
 pub mod TokenLists
 pub mod Findings
 pub mod Names
+pub mod Entries
+pub mod Lines
+pub mod Series

@@ -1,4 +1,4 @@
 pub mod Form
-pub mod Joining
-pub mod Pending
 pub mod Reports
+pub mod Entries
+pub mod Lines

@@ -2,16 +2,18 @@
 //! status. Nothing of its inside is public but the call itself.
 #![tactic(auto)]
 
+mod book;
 mod faults;
 mod files;
 mod form;
-mod joining;
 mod judge;
+mod line;
+mod mercury;
 mod prepare;
 mod printing;
 mod search;
+mod signs;
 mod top;
-mod walk;
 mod words;
 
 pub use top::finder;

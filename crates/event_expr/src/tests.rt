@@ -38,15 +38,14 @@ fn times(a: i64, b: i64) -> Enclosure
 }
 
 impl States for Clock {
-    ghost use Rattle.std.specs.Prelude.{pos};
-    ghost use Rattle.spec_intervals.specs.Interval.{narrow};
-    ghost use Rattle.spec_intervals.specs.Fraction.{fraction};
-    ghost use Rattle.spec_expressions.specs.Enclosure.{IsSpan, middle};
-    ghost use Rattle.event_expr.proofs.Clock.{IsEnclosure-times, AllFractions-times, AllWithin-times};
+    ghost use Rattle.spec_expressions.specs.Enclosure.{IsSpan};
+    ghost use Rattle.spec_expressions.specs.Examples.{clock, clock_over};
+    ghost use Rattle.spec_expressions.proofs.Clock.{AllFractions-clock, IsEnclosure-clock, AllWithin-clock};
+    ghost use Rattle.event_expr.specs.States.{state_exponent};
 
-    ghost exact = { λ s leaf t. fraction t 1 };
+    ghost exact = { λ s leaf. clock leaf };
 
-    ghost answer = { λ s leaf a b. record { mid = narrow (middle a b) (middle a b) (pos 0); range = narrow a b (pos 0); step = narrow (pos 1) (pos 1) (pos 0) } };
+    ghost answer = { λ s leaf a b. clock_over a b leaf };
 
     ghost fits = { λ s a b. IsSpan a b };
 
@@ -60,11 +59,11 @@ impl States for Clock {
 
     ghost spans = { λ s a b fits. fits };
 
-    ghost numbers = { λ s leaf a b is fits. AllFractions-times a b };
+    ghost numbers = { λ s leaf a b is fits. AllFractions-clock leaf a b };
 
-    ghost holds = { λ s leaf a b is fits. IsEnclosure-times a b };
+    ghost holds = { λ s leaf a b is fits. IsEnclosure-clock leaf a b };
 
-    ghost within = { λ s leaf a b is fits. AllWithin-times a b fits };
+    ghost within = { λ s leaf a b is fits. AllWithin-clock state_exponent leaf a b fits };
 }
 
 fn position() -> Expr

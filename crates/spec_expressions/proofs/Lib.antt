@@ -7,3 +7,4 @@ pub mod Exponents
 pub mod Reach
 pub mod Offsets
 pub mod ExampleRows
+pub mod Clock

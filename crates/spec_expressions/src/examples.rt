@@ -1,10 +1,10 @@
 // Worked values of each definition, by computation.
 
-ghost use Rattle.std.specs.Prelude.{◌≡◌, ◌^◌, pos, neg_ℤ};
+ghost use Rattle.std.specs.Prelude.{◌≡◌, ◌^◌, ℕ, ℤ, pos, neg_ℤ};
 ghost use Rattle.spec_intervals.specs.Interval.{interval, cosine_exponent};
 ghost use Rattle.spec_intervals.specs.Fraction.{Holds, fraction};
-ghost use Rattle.spec_expressions.specs.Enclosure.{middle, change, offsets, zero_interval, constant_of, sum_of, difference_of, product_of, signed_square_of};
-ghost use Rattle.spec_expressions.specs.Expression.{position, velocity, exact_of, enclosure_of, nodes, degree};
+ghost use Rattle.spec_expressions.specs.Enclosure.{IsEnclosure, AllFractions, IsSpan, AllWithin, middle, offsets, zero_interval, constant_of, sum_of, difference_of, product_of, signed_square_of};
+ghost use Rattle.spec_expressions.specs.Expression.{Leaf, exact_of, enclosure_of, nodes, degree};
 ghost use Rattle.spec_expressions.specs.Examples.{clock, clock_over, half_of, from_minus_three_to_minus_one};
 ghost use Rattle.spec_expressions.specs.declared.expressions.Expr.TheVariants.{Pos, Vel, Length, Cosine};
 
@@ -40,4 +40,11 @@ pub fn rules()
     ensures difference { difference_of (neg_ℤ (pos 3)) (neg_ℤ (pos 1)) from_minus_three_to_minus_one from_minus_three_to_minus_one ≡ record { mid = zero_interval; range = zero_interval; step = zero_interval } }
     ensures product { product_of (neg_ℤ (pos 3)) (neg_ℤ (pos 1)) from_minus_three_to_minus_one from_minus_three_to_minus_one ≡ record { mid = interval (pos 4) (pos 4) (pos 0); range = interval (pos 1) (pos 9) (pos 0); step = interval (neg_ℤ (pos 6)) (neg_ℤ (pos 2)) (pos 0) } }
     ensures single_time { product_of (neg_ℤ (pos 2)) (neg_ℤ (pos 2)) from_minus_three_to_minus_one from_minus_three_to_minus_one ≡ record { mid = interval (pos 4) (pos 4) (pos 0); range = interval (pos 4) (pos 4) (pos 0); step = zero_interval } }
+{}
+
+/// Coordinates that are the time itself are enclosed by whole numbers, with a step of 1.
+pub fn clocks()
+    ensures numbers { (leaf : Leaf) (a b : ℤ) → AllFractions (clock leaf) a b }
+    ensures holds { (leaf : Leaf) (a b : ℤ) → IsEnclosure (clock leaf) a b (clock_over a b leaf) }
+    ensures within { (n : ℕ) (leaf : Leaf) (a b : ℤ) → IsSpan a b → AllWithin n (clock_over a b leaf) }
 {}

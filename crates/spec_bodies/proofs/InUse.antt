@@ -30,11 +30,11 @@ used_all P target observer one other = All-append P (needed target) (needed obse
 -- what passes stays among what is filtered
 contains_filtered : {X : Type 0} (p : X → Bool) (xs : List X) (x : X) → Contains xs x → p x ≡ true → Contains (filter p xs) x
 contains_filtered p [] x there passes = let within = there.1 in absurd (omega (arith, within))
-contains_filtered p (y ∷ ys) x (zero , within , is) passes = rw (ap p is ∙ passes) (0, omega arith, is)
-contains_filtered p (y ∷ ys) x (suc k , within , is) passes = by (p y) (contains_filtered p ys x (k, omega (arith, within), is) passes)
+contains_filtered p (y ∷ ys) x (zero, within, is) passes = rw (ap p is ∙ passes) (0, omega arith, is)
+contains_filtered p (y ∷ ys) x (suc k, within, is) passes = by (p y) (contains_filtered p ys x (k, omega (arith, within), is) passes)
   where
     by : (b : Bool) → Contains (filter p ys) x → Contains (cond b (y ∷ filter p ys) (filter p ys)) x
-    by true (m , below , at) = (suc m, omega (arith, below), at)
+    by true (m, below, at) = (suc m, omega (arith, below), at)
     by false there = there
 
 found : (ns : List ℕ) (number : ℕ) → Contains ns number → is_among ns number ≡ true

@@ -13,14 +13,17 @@ coefficient c = ends (from_decimal c.mant c.exp distance_exponent).lo (from_deci
 abbrev pub times : ℕ → Ival62 → Ival62
 times k e = ends (pos k *ℤ e.lo) (pos k *ℤ e.hi)
 
+-- the row of k X_(k-1)
+abbrev pub multiples : (ℕ → Ival62) → ℕ → Ival62
+multiples row zero = nothing
+multiples row (suc k) = times (suc k) (row k)
+
 -- the derivatives T_k' = k U_(k-1), in the unit of U, and the divided differences of these, in the unit of R
 abbrev pub slope_row : Ival62 → ℕ → Ival62
-slope_row x zero = nothing
-slope_row x (suc k) = times (suc k) (u_row x k)
+slope_row x = multiples (u_row x)
 
 abbrev pub slope_difference_row : Ival62 → ℕ → Ival62
-slope_difference_row x zero = nothing
-slope_difference_row x (suc k) = times (suc k) (r_row x k)
+slope_difference_row x = multiples (r_row x)
 
 -- the sum of C_k X_k from k on: the least and the greatest that each product of ends can be
 abbrev pub sum_low : (ℕ → Ival62) → ℕ → List Ival62 → ℤ

@@ -5,8 +5,15 @@
 //! at each time and from each time to the next. No call takes memory, and the states are asked once for each leaf.
 #![tactic(auto)]
 
+mod constants;
+mod enclosing;
+mod formula;
+mod limits;
 pub mod rules;
 mod states;
 
+pub use enclosing::enclose;
+pub use formula::Formula;
+pub use limits::ExprFault;
 pub use spec_expressions::Expr;
 pub use states::States;

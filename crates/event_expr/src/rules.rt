@@ -46,6 +46,20 @@ impl Span {
         }
     }
 
+    /// The first time.
+    pub fn first(&self) -> i64
+        ensures { result ≡ self.now.first }
+    {
+        self.first
+    }
+
+    /// The last time.
+    pub fn last(&self) -> i64
+        ensures { result ≡ self.now.last }
+    {
+        self.last
+    }
+
     /// A constant, by an interval that holds some number.
     pub fn constant(&self, value: Ival) -> Enclosure
         requires within { IsWithin part_exponent value }
@@ -124,14 +138,14 @@ impl Span {
     }
 
     /// There is more than one time.
-    fn is_wide(&self) -> bool
+    pub fn is_wide(&self) -> bool
         ensures { result ≡ lt_z self.now.first self.now.last }
     {
         self.first < self.last
     }
 
     /// At a single time the range is the mid and nothing changes, whatever the other parts.
-    fn single(&self, mid: Ival) -> Enclosure
+    pub fn single(&self, mid: Ival) -> Enclosure
         requires { lt_z self.now.first self.now.last ≡ false }
         ensures { (plain step : Interval) → parts result ≡ enclosure self.now.first self.now.last mid plain step }
     {
@@ -143,7 +157,7 @@ impl Span {
     }
 
     /// The range is what the plain one shares with the values that steps reach from the middle.
-    fn wide(&self, mid: Ival, plain: Ival, step: Ival) -> Enclosure
+    pub fn wide(&self, mid: Ival, plain: Ival, step: Ival) -> Enclosure
         requires several { lt_z self.now.first self.now.last ≡ true }
         requires mid_within { IsWithin wide_exponent mid }
         requires plain_within { IsWithin wide_exponent plain }

@@ -1,0 +1,87 @@
+-- What the walk over an expression owes the rules, from what the states keep.
+use Rattle.std.proofs.Common.{◌≡◌, ◌∙◌, ◌+◌, ◌≤◌, arith, ap, ℕ, ℤ, ◌≤ℤ◌}
+use Rattle.std.specs.Prelude.{⊤, max}
+use Rattle.spec_text.specs.declared.decimals.Decimal.{Decimal}
+use Rattle.spec_intervals.specs.Interval.{Interval, IsDistance, IsCosine, from_decimal, distance_exponent, cosine_exponent}
+use Rattle.spec_intervals.specs.Fraction.{Fraction, Holds, Overlaps, decimal}
+use Rattle.spec_expressions.specs.Enclosure.{Enclosure, IsEnclosure, AllFractions, IsSpan, IsWithin, AllWithin, Encloses, leaf_exponent, part_exponent}
+use Rattle.spec_expressions.specs.Expression.{Leaf, IsLeaf, exact_of, enclosure_of, nodes, degree, HasLeaves, HasConstants, IsFormula}
+use Rattle.spec_expressions.specs.declared.expressions.Expr.{Expr}
+use Rattle.spec_expressions.specs.declared.expressions.Expr.TheVariants.{Pos, Vel, Length, Cosine, Add', Sub', Mul', SignedSquare'}
+use Rattle.spec_expressions.proofs.Exponents.{IsWithin-more, distance-within, cosine-within}
+use Rattle.spec_expressions.proofs.Induction.{AllFractions-of, IsEnclosure-of, IsFraction-decimal}
+use Rattle.spec_expressions.proofs.Reach.{AllWithin-of}
+use Rattle.event_expr.specs.States.{state_exponent}
+
+-- what is known of the leaves over times that fit
+pub record Known (exact : Leaf → ℤ → Fraction) (answer : Leaf → Enclosure) (a b : ℤ) : Type 0 where
+  pub span : IsSpan a b
+  pub numbers : (l : Leaf) → IsLeaf l → AllFractions (exact l) a b
+  pub holds : (l : Leaf) → IsLeaf l → IsEnclosure (exact l) a b (answer l)
+  pub within : (l : Leaf) → IsLeaf l → AllWithin leaf_exponent (answer l)
+
+pub known : (exact : Leaf → ℤ → Fraction) (answer : Leaf → Enclosure) (a b : ℤ) → IsSpan a b → ((l : Leaf) → IsLeaf l → AllFractions (exact l) a b) → ((l : Leaf) → IsLeaf l → IsEnclosure (exact l) a b (answer l)) → ((l : Leaf) → IsLeaf l → AllWithin state_exponent (answer l)) → Known exact answer a b
+known exact answer a b s n h w =
+    record { span = s; numbers = n; holds = h; within = λ l p. let x = w l p in record { mid = IsWithin-more state_exponent leaf_exponent (answer l).mid (omega arith) x.mid; range = IsWithin-more state_exponent leaf_exponent (answer l).range (omega arith) x.range; step = IsWithin-more state_exponent leaf_exponent (answer l).step (omega arith) x.step } }
+
+module _ (exact : Leaf → ℤ → Fraction) (answer : Leaf → Enclosure) (a b : ℤ) (k : Known exact answer a b) (e : Expr) (f : IsFormula e) (r : Enclosure) (is : r ≡ enclosure_of answer a b e) where
+  pub part-within : AllWithin part_exponent r
+  part-within = rw is (AllWithin-of a b k.span answer k.within e f)
+
+  pub part-is_enclosure : IsEnclosure (exact_of exact e) a b r
+  part-is_enclosure = rw is (IsEnclosure-of exact a b k.numbers k.span.ordered answer k.holds e f.leaves)
+
+  pub part-encloses : Encloses a b r
+  part-encloses = record { exact = exact_of exact e; numbers = AllFractions-of exact a b k.numbers e f.leaves; is_enclosure = part-is_enclosure }
+
+-- ---- the parts of a formula are formulas
+abbrev pub PartsAre : Expr → Type 0
+PartsAre (Pos target axis) = ⊤
+PartsAre (Vel target axis) = ⊤
+PartsAre (Length d) = IsDistance d.mant d.exp
+PartsAre (Cosine d) = IsCosine d.mant d.exp
+PartsAre (Add' p x q y) = IsFormula x × IsFormula y
+PartsAre (Sub' p x q y) = IsFormula x × IsFormula y
+PartsAre (Mul' p x q y) = IsFormula x × IsFormula y
+PartsAre (SignedSquare' p x) = IsFormula x
+
+pub formula-parts : (e : Expr) → IsFormula e → PartsAre e
+formula-parts (Pos target axis) f = tt
+formula-parts (Vel target axis) f = tt
+formula-parts (Length d) f = f.constants
+formula-parts (Cosine d) f = f.constants
+formula-parts (Add' p x q y) f =
+    let n = f.nodes_within in
+    let d = f.degree_within in
+    (record { leaves = f.leaves.0; nodes_within = omega arith; degree_within = omega arith; constants = f.constants.0 }, record { leaves = f.leaves.1; nodes_within = omega arith; degree_within = omega arith; constants = f.constants.1 })
+formula-parts (Sub' p x q y) f =
+    let n = f.nodes_within in
+    let d = f.degree_within in
+    (record { leaves = f.leaves.0; nodes_within = omega arith; degree_within = omega arith; constants = f.constants.0 }, record { leaves = f.leaves.1; nodes_within = omega arith; degree_within = omega arith; constants = f.constants.1 })
+formula-parts (Mul' p x q y) f =
+    let n = f.nodes_within in
+    let d = f.degree_within in
+    (record { leaves = f.leaves.0; nodes_within = omega arith; degree_within = omega arith; constants = f.constants.0 }, record { leaves = f.leaves.1; nodes_within = omega arith; degree_within = omega arith; constants = f.constants.1 })
+formula-parts (SignedSquare' p x) f =
+    let n = f.nodes_within in
+    let d = f.degree_within in
+    record { leaves = f.leaves; nodes_within = omega arith; degree_within = omega arith; constants = f.constants }
+
+-- ---- constants
+pub length-within : (d : Decimal) (r : Interval) → r ≡ from_decimal d.mant d.exp distance_exponent → IsDistance d.mant d.exp → IsWithin part_exponent r
+length-within d r e h =
+    rw e (IsWithin-more 24 part_exponent (from_decimal d.mant d.exp distance_exponent) (omega arith) (distance-within d.mant d.exp h))
+
+pub cosine-part : (d : Decimal) (r : Interval) → r ≡ from_decimal d.mant d.exp cosine_exponent → IsCosine d.mant d.exp → IsWithin part_exponent r
+cosine-part d r e h =
+    rw e (IsWithin-more 60 part_exponent (from_decimal d.mant d.exp cosine_exponent) (omega arith) (cosine-within d.mant d.exp h))
+
+pub holds-number : (d : Decimal) (r : Interval) → Holds r (decimal d.mant d.exp) → Overlaps r r
+holds-number d r h = record { common = decimal d.mant d.exp; is_fraction = IsFraction-decimal d.mant d.exp; in_first = h; in_second = h }
+
+-- ---- one step of the walk
+pub two_parts : (op : Enclosure → Enclosure → Enclosure) (u w x y r : Enclosure) → x ≡ u → y ≡ w → r ≡ op x y → r ≡ op u w
+two_parts op u w x y r e f h = h ∙ (λ i. op (e i) (f i))
+
+pub one_part : (op : Enclosure → Enclosure) (u x r : Enclosure) → x ≡ u → r ≡ op x → r ≡ op u
+one_part op u x r e h = h ∙ ap op e

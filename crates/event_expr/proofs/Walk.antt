@@ -85,3 +85,7 @@ two_parts op u w x y r e f h = h ∙ (λ i. op (e i) (f i))
 
 pub one_part : (op : Enclosure → Enclosure) (u x r : Enclosure) → x ≡ u → r ≡ op x → r ≡ op u
 one_part op u x r e h = h ∙ ap op e
+
+-- ---- the whole, over a span that was made of two times
+pub over : (answer : Leaf → ℤ → ℤ → Enclosure) (r : Enclosure) (first last a b : ℤ) (d e : Expr) → first ≡ a → last ≡ b → d ≡ e → r ≡ enclosure_of (λ l. answer l first last) first last d → r ≡ enclosure_of (λ l. answer l a b) a b e
+over answer r first last a b d e p q s h = h ∙ (λ i. enclosure_of (λ l. answer l (p i) (q i)) (p i) (q i) (s i))

@@ -1,7 +1,7 @@
 // Formulas: expressions within limits.
 
 ghost use Rattle.std.specs.Prelude.{◌≡◌, ◌↔◌, ◌<◌, ◌≤◌, IfOk, Err};
-ghost use Rattle.spec_expressions.specs.Expression.{nodes, degree, HasConstants, HasLeaves, node_limit, degree_limit};
+ghost use Rattle.spec_expressions.specs.Expression.{nodes, degree, HasConstants, HasLeaves, IsFormula, node_limit, degree_limit};
 ghost use Rattle.event_expr.specs.declared.limits.ExprFault.TheVariants.{Nodes, Degree, Constant};
 
 use crate::limits::{ExprFault, limits_kept};
@@ -46,7 +46,8 @@ impl Formula {
 
     /// The expression.
     pub(crate) fn expr(&self) -> &Expr
-        ensures { result.now ≡ self.now }
+        ensures whole { result.now ≡ self.now }
+        ensures formula { IsFormula result.now }
     {
         &self.expr
     }

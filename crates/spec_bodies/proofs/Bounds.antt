@@ -11,24 +11,9 @@ use Rattle.spec_bodies.specs.declared.source.Source.{Source}
 use Rattle.spec_bodies.specs.declared.source.Source.TheVariants.{OwnColumn, EarthOfPair, MoonOfPair, Origin}
 use Rattle.spec_bodies.specs.Coordinates.{Factor, Coordinate, nothing, of_column, times, plus, less, seen, turned, in_frame, coordinate}
 use Rattle.spec_bodies.specs.Meanings.{factor_interval, enclosure_of}
-use Rattle.spec_bodies.proofs.Formulas.{AllColumns}
+use Rattle.spec_bodies.specs.Reading.{AllColumns, lowest, highest, IsLow, IsShort}
 use Rattle.spec_bodies.proofs.Exponents.{IsBetween, AreBetween, HasSmallEnds, between-more, between-all_within, product-between, enclosure-between, nothing-between, sum_of-between, difference_of-between}
 use Rattle.spec_bodies.proofs.Factors.{IsFactor, times_factor}
-
--- how far down and up exponents go: those of columns from -84 to 2
-abbrev pub lowest : Coordinate → ℕ
-lowest nothing = 0
-lowest (of_column number axis) = 84
-lowest (times f x) = lowest x + 60
-lowest (plus x y) = max (lowest x) (lowest y)
-lowest (less x y) = max (lowest x) (lowest y)
-
-abbrev pub highest : Coordinate → ℕ
-highest nothing = 0
-highest (of_column number axis) = 2
-highest (times f x) = highest x + 2
-highest (plus x y) = max (highest x) (highest y) + 1
-highest (less x y) = max (highest x) (highest y) + 1
 
 more : (l h m n : ℕ) (e : Enclosure) → l ≤ m → h ≤ n → AreBetween l h e → AreBetween m n e
 more l h m n e p q is = record {
@@ -68,10 +53,6 @@ module _ (a b : ℤ) (span : IsSpan a b) (answer : ℕ → ℕ → Enclosure) (f
       (more (lowest y) (highest y) _ _ (enclosure_of answer factors a b y) (omega arith) (omega arith) (between_of y all.1))
 
 -- ---- the formulas of bodies
-pub record IsLow (l h : ℕ) (c : Coordinate) : Type 0 where
-  pub low : lowest c ≤ l
-  pub high : highest c ≤ h
-
 pub seen_low : (axis : ℕ) (target observer : Source) → IsLow 144 7 (seen target observer axis)
 seen_low axis (OwnColumn n) (OwnColumn m) = record { low = omega arith; high = omega arith }
 seen_low axis (OwnColumn n) EarthOfPair = record { low = omega arith; high = omega arith }
@@ -90,7 +71,7 @@ seen_low axis Origin EarthOfPair = record { low = omega arith; high = omega arit
 seen_low axis Origin MoonOfPair = record { low = omega arith; high = omega arith }
 seen_low axis Origin Origin = record { low = omega arith; high = omega arith }
 
-pub in_frame_low : (frame : Frame) (axis : ℕ) (own : ℕ → Coordinate) → ((axis : ℕ) → IsLow 144 7 (own axis)) → IsLow 204 10 (in_frame frame own axis)
+pub in_frame_low : (frame : Frame) (axis : ℕ) (own : ℕ → Coordinate) → ((axis : ℕ) → IsLow 144 7 (own axis)) → IsShort (in_frame frame own axis)
 in_frame_low Eq axis own is = let l = (is axis).low in let h = (is axis).high in record { low = omega (arith, l); high = omega (arith, h) }
 in_frame_low Ecl zero own is = let l = (is 0).low in let h = (is 0).high in record { low = omega (arith, l); high = omega (arith, h) }
 in_frame_low Ecl (suc zero) own is =
@@ -98,5 +79,5 @@ in_frame_low Ecl (suc zero) own is =
 in_frame_low Ecl (suc (suc axis)) own is =
     let l = (is 1).low in let h = (is 1).high in let m = (is 2).low in let n = (is 2).high in record { low = omega (arith, l, m); high = omega (arith, h, n) }
 
-pub within_of : (c : Coordinate) (e : Enclosure) → IsLow 204 10 c → AreBetween (lowest c) (highest c) e → AllWithin 256 e
+pub within_of : (c : Coordinate) (e : Enclosure) → IsShort c → AreBetween (lowest c) (highest c) e → AllWithin 256 e
 within_of c e is between = let l = is.low in let h = is.high in between-all_within (lowest c) (highest c) 256 e (omega (arith, l)) (omega (arith, h)) between

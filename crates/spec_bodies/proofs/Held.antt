@@ -15,23 +15,24 @@ use Rattle.spec_enclosures.specs.Velocity.{velocity}
 use Rattle.spec_enclosures.specs.Enclosures.{IsSeries, IsSpan, position_interval, position_step_interval, velocity_interval, velocity_step_interval}
 use Rattle.spec_enclosures.proofs.HeldSpans.{Holds-position}
 use Rattle.spec_enclosures.proofs.HeldChanges.{Holds-velocity, Holds-position_step, Holds-velocity_step}
-use Rattle.spec_expressions.specs.Enclosure.{IsEnclosure, AllFractions, AllWithin, IsSpan as IsNear, change, middle, enclosure}
+use Rattle.spec_expressions.specs.Enclosure.{IsEnclosure, Encloses, AllFractions, AllWithin, IsSpan as IsNear, change, middle, enclosure}
 use Rattle.spec_expressions.specs.Expression.{Leaf, position as position_of, velocity as velocity_of, IsLeaf}
 use Rattle.spec_expressions.proofs.Compare.{IsFraction-mul}
 use Rattle.spec_expressions.proofs.Centred.{middle_between}
 use Rattle.spec_expressions.proofs.Enclosed.{IsEnclosure-parts}
 use Rattle.spec_bodies.specs.Sources.{used}
-use Rattle.spec_bodies.specs.Coordinates.{Factor, seen}
+use Rattle.spec_bodies.specs.Coordinates.{Factor, Coordinate, seen}
 use Rattle.spec_bodies.specs.Granules.{series_at}
-use Rattle.spec_bodies.specs.Meanings.{factor, factor_interval}
+use Rattle.spec_bodies.specs.Reading.{AllColumns, IsUsable, IsReadable, IsShort}
+use Rattle.spec_bodies.specs.Meanings.{factor, factor_interval, exact_of, enclosure_of}
 use Rattle.spec_bodies.specs.Views.{View, IsView, Fits, target_of, columns_of, coordinate_of, exact_position, exact_velocity, exact_state, series_positions, series_velocities, position_enclosure, velocity_enclosure, state_enclosure}
-use Rattle.spec_bodies.proofs.Formulas.{AllColumns, IsHeld, seen_columns, in_frame_columns, IsFraction-factor, AllFractions-coordinate, IsEnclosure-coordinate}
-use Rattle.spec_bodies.proofs.InUse.{IsUsable, used_usable}
+use Rattle.spec_bodies.proofs.Formulas.{IsHeld, seen_columns, in_frame_columns, IsFraction-factor, all_columns, AllFractions-coordinate, IsEnclosure-coordinate}
+use Rattle.spec_bodies.proofs.InUse.{used_usable}
 use Rattle.spec_bodies.proofs.Columns.{same_series, span_of, series_of}
 use Rattle.spec_bodies.proofs.Exponents.{AreBetween, between-more, enclosure-between}
 use Rattle.spec_bodies.proofs.Sizes.{position-between, velocity-between, position_step-between, velocity_step-between}
 use Rattle.spec_bodies.proofs.Factors.{IsFactor, factor_is}
-use Rattle.spec_bodies.proofs.Bounds.{IsLow, between_of, seen_low, in_frame_low, within_of}
+use Rattle.spec_bodies.proofs.Bounds.{between_of, seen_low, in_frame_low, within_of}
 
 power_positive : (l n : ℕ) → 1 ≤ l → 0 < 10 ^ 140 * l ^ n
 power_positive l n long = IsFraction-mul (10 ^ 140) (l ^ n) (omega arith) (one-le-pow n l long)
@@ -164,7 +165,7 @@ module _ (v : View) (a b : ℤ) (fits : Fits v a b) where
   factors_are : (f : Factor) → IsFactor (factor_interval (factor v.ephemeris.header.emrat f))
   factors_are = factor_is v.ephemeris.header.emrat fits.view.checked.header.ratio
 
-  low_of : (target axis : ℕ) → IsLow 204 10 (coordinate_of v target axis)
+  low_of : (target axis : ℕ) → IsShort (coordinate_of v target axis)
   low_of target axis = in_frame_low v.frame axis (seen (target_of v target) v.observer) (λ k. seen_low k (target_of v target) v.observer)
 
   pub states_within : (leaf : Leaf) → IsLeaf leaf → AllWithin 256 (state_enclosure v leaf a b)
@@ -174,3 +175,34 @@ module _ (v : View) (a b : ℤ) (fits : Fits v a b) where
   states_within (velocity_of target axis) is =
       within_of (coordinate_of v target axis) _ (low_of target axis)
       (between_of a b times_span (λ number axis. series_velocities a b (series_at v.ephemeris number axis a)) (factor v.ephemeris.header.emrat) factors_are (coordinate_of v target axis) (coordinate_columns v a b fits _ velocities_between target axis is.1))
+
+-- ---- any short formula over columns that can be read, in one quantity
+  module _ (c : Coordinate) (readable : AllColumns (IsReadable v) c) where
+    pub positions_enclosed : Encloses a b (enclosure_of (λ number axis. series_positions a b (series_at v.ephemeris number axis a)) (factor v.ephemeris.header.emrat) a b c)
+    positions_enclosed =
+        let all = all_columns (IsReadable v) _ (λ number axis is. positions_held v a b fits number axis is.along is.usable) c readable in
+        record {
+          exact = exact_of (λ number axis t. position (series_at v.ephemeris number axis t) t) (factor v.ephemeris.header.emrat) c;
+          numbers = AllFractions-coordinate a b fits.ordered _ _ (factor v.ephemeris.header.emrat) (IsFraction-factor v.ephemeris.header.emrat) c all;
+          is_enclosure = IsEnclosure-coordinate a b fits.ordered _ _ (factor v.ephemeris.header.emrat) (IsFraction-factor v.ephemeris.header.emrat) c all;
+        }
+
+    pub velocities_enclosed : Encloses a b (enclosure_of (λ number axis. series_velocities a b (series_at v.ephemeris number axis a)) (factor v.ephemeris.header.emrat) a b c)
+    velocities_enclosed =
+        let all = all_columns (IsReadable v) _ (λ number axis is. velocities_held v a b fits number axis is.along is.usable) c readable in
+        record {
+          exact = exact_of (λ number axis t. velocity (series_at v.ephemeris number axis t) t) (factor v.ephemeris.header.emrat) c;
+          numbers = AllFractions-coordinate a b fits.ordered _ _ (factor v.ephemeris.header.emrat) (IsFraction-factor v.ephemeris.header.emrat) c all;
+          is_enclosure = IsEnclosure-coordinate a b fits.ordered _ _ (factor v.ephemeris.header.emrat) (IsFraction-factor v.ephemeris.header.emrat) c all;
+        }
+
+    module _ (short : IsShort c) where
+      pub positions_within : AllWithin 256 (enclosure_of (λ number axis. series_positions a b (series_at v.ephemeris number axis a)) (factor v.ephemeris.header.emrat) a b c)
+      positions_within =
+          within_of c _ short
+          (between_of a b times_span _ (factor v.ephemeris.header.emrat) factors_are c (all_columns (IsReadable v) _ (λ number axis is. positions_between number axis is.along is.usable) c readable))
+
+      pub velocities_within : AllWithin 256 (enclosure_of (λ number axis. series_velocities a b (series_at v.ephemeris number axis a)) (factor v.ephemeris.header.emrat) a b c)
+      velocities_within =
+          within_of c _ short
+          (between_of a b times_span _ (factor v.ephemeris.header.emrat) factors_are c (all_columns (IsReadable v) _ (λ number axis is. velocities_between number axis is.along is.usable) c readable))

@@ -83,7 +83,7 @@ module _ (e : Ephemeris) (number : ℕ) (checked : IsEphemeris e) (there : IsTru
             where
               before_or_at : (t g : ℤ) → t ≤ℤ g → (t <ℤ g) ⊎ (t ≡ g)
               before_or_at t g within = grind (arith, ints)
-      by (inr (border , after)) = elim (past_or_not (granule_end here) b) [ inl past ↦ inl (omega (arith, ints, to, past)) | inr within ↦ absurd (none (granule_end here) border after within) ]
+      by (inr (border, after)) = elim (past_or_not (granule_end here) b) [ inl past ↦ inl (omega (arith, ints, to, past)) | inr within ↦ absurd (none (granule_end here) border after within) ]
         where
           past_or_not : (g b : ℤ) → (b <ℤ g) ⊎ (g ≤ℤ b)
           past_or_not g b = grind (arith, ints)

@@ -1,6 +1,6 @@
 -- A coordinate's formula is made of the columns in use, and it holds what they do.
 use Rattle.std.proofs.Common.{◌≡◌, ℕ, zero, suc, ◌+◌, ◌*◌, ◌^◌, ◌<◌, ◌≤◌, List, [], ◌∷◌, arith, refl, ℤ, pos, ◌*ℤ◌, ◌≤ℤ◌}
-use Rattle.std.specs.Prelude.{⊤, All}
+use Rattle.std.specs.Prelude.{All}
 use Rattle.std.proofs.Math.Nat.{one-le-pow}
 use borrow.Author.Differences.{up, down}
 use Rattle.spec_text.specs.declared.decimals.Decimal.{Decimal}
@@ -18,15 +18,15 @@ use Rattle.spec_bodies.specs.declared.source.Source.{Source}
 use Rattle.spec_bodies.specs.declared.source.Source.TheVariants.{OwnColumn, EarthOfPair, MoonOfPair, Origin}
 use Rattle.spec_bodies.specs.Sources.{needed, used}
 use Rattle.spec_bodies.specs.Coordinates.{Factor, moon_share, cosine, sine, Coordinate, nothing, of_column, times, plus, less, seen, turned, in_frame, coordinate}
+use Rattle.spec_bodies.specs.Reading.{AllColumns}
 use Rattle.spec_bodies.specs.Meanings.{share_beside, factor, factor_interval, exact_of, enclosure_of}
 
--- what is true of each coordinate of a column that the formula names
-abbrev pub AllColumns : (ℕ → ℕ → Type 0) → Coordinate → Type 0
-AllColumns P nothing = ⊤
-AllColumns P (of_column number axis) = P number axis
-AllColumns P (times f x) = AllColumns P x
-AllColumns P (plus x y) = AllColumns P x × AllColumns P y
-AllColumns P (less x y) = AllColumns P x × AllColumns P y
+pub all_columns : (P Q : ℕ → ℕ → Type 0) → ((number axis : ℕ) → P number axis → Q number axis) → (c : Coordinate) → AllColumns P c → AllColumns Q c
+all_columns P Q weaker nothing all = tt
+all_columns P Q weaker (of_column number axis) all = weaker number axis all
+all_columns P Q weaker (times f x) all = all_columns P Q weaker x all
+all_columns P Q weaker (plus x y) all = (all_columns P Q weaker x all.0, all_columns P Q weaker y all.1)
+all_columns P Q weaker (less x y) all = (all_columns P Q weaker x all.0, all_columns P Q weaker y all.1)
 
 -- seen from an observer, a target is made of the columns in use
 pub seen_columns : (P : ℕ → ℕ → Type 0) (axis : ℕ) (target observer : Source) → All (λ n. P n axis) (used target observer) → AllColumns P (seen target observer axis)

@@ -1,32 +1,38 @@
 -- The enclosures of a column over times that fit hold its position and its velocity, and so do those of a body.
-use Rattle.std.proofs.Common.{◌≡◌, ℕ, suc, ◌*◌, ◌^◌, ◌<◌, ◌≤◌, IsTrue, ap, sym, subst, ◌∙◌, arith, ℤ, pos, ◌+ℤ◌, ◌<ℤ◌, ◌≤ℤ◌, length}
+use Rattle.std.proofs.Common.{◌≡◌, ℕ, suc, ◌*◌, ◌^◌, ◌<◌, ◌≤◌, IsTrue, ap, sym, subst, ◌∙◌, arith, ℤ, pos, negsuc, ◌+ℤ◌, ◌*ℤ◌, ◌<ℤ◌, ◌≤ℤ◌, unsigned_abs, length}
 use Rattle.std.specs.Prelude.{All}
 use Rattle.std.proofs.lemmas.Int.{ints}
 use Rattle.std.proofs.lemmas.List.Elements.{All-weaker}
+use Rattle.std.proofs.lemmas.Nat.{mul-le}
 use Rattle.std.proofs.Math.Nat.{one-le-pow}
 use Rattle.spec_intervals.specs.Interval.{Interval}
 use Rattle.spec_intervals.specs.Fraction.{Fraction, IsFraction, Holds, fraction_sub}
 use Rattle.spec_ephemeris.specs.Header.{has_column}
-use Rattle.spec_ephemeris.specs.declared.limits.TheConstants.{BODY_COLUMNS}
+use Rattle.spec_ephemeris.specs.declared.limits.TheConstants.{BODY_COLUMNS, FIRST_TIME, LAST_TIME, MOST_BLOCKS, LONGEST_BLOCK}
 use Rattle.spec_ephemeris.specs.Series.{Series, position}
 use Rattle.spec_ephemeris.specs.Ephemeris.{Ephemeris, IsEphemeris, IsBorder, IsBorderIn, end_of}
 use Rattle.spec_enclosures.specs.Velocity.{velocity}
 use Rattle.spec_enclosures.specs.Enclosures.{IsSeries, IsSpan, position_interval, position_step_interval, velocity_interval, velocity_step_interval}
 use Rattle.spec_enclosures.proofs.HeldSpans.{Holds-position}
 use Rattle.spec_enclosures.proofs.HeldChanges.{Holds-velocity, Holds-position_step, Holds-velocity_step}
-use Rattle.spec_expressions.specs.Enclosure.{IsEnclosure, AllFractions, change, middle, enclosure}
+use Rattle.spec_expressions.specs.Enclosure.{IsEnclosure, Encloses, AllFractions, AllWithin, IsSpan as IsNear, change, middle, enclosure}
 use Rattle.spec_expressions.specs.Expression.{Leaf, position as position_of, velocity as velocity_of, IsLeaf}
 use Rattle.spec_expressions.proofs.Compare.{IsFraction-mul}
 use Rattle.spec_expressions.proofs.Centred.{middle_between}
 use Rattle.spec_expressions.proofs.Enclosed.{IsEnclosure-parts}
 use Rattle.spec_bodies.specs.Sources.{used}
-use Rattle.spec_bodies.specs.Coordinates.{seen}
+use Rattle.spec_bodies.specs.Coordinates.{Factor, Coordinate, seen}
 use Rattle.spec_bodies.specs.Granules.{series_at}
-use Rattle.spec_bodies.specs.Meanings.{factor}
+use Rattle.spec_bodies.specs.Reading.{AllColumns, IsUsable, IsReadable, IsShort}
+use Rattle.spec_bodies.specs.Meanings.{factor, factor_interval, exact_of, enclosure_of}
 use Rattle.spec_bodies.specs.Views.{View, IsView, Fits, target_of, columns_of, coordinate_of, exact_position, exact_velocity, exact_state, series_positions, series_velocities, position_enclosure, velocity_enclosure, state_enclosure}
-use Rattle.spec_bodies.proofs.Formulas.{AllColumns, IsHeld, seen_columns, in_frame_columns, IsFraction-factor, AllFractions-coordinate, IsEnclosure-coordinate}
-use Rattle.spec_bodies.proofs.InUse.{IsUsable, used_usable}
+use Rattle.spec_bodies.proofs.Formulas.{IsHeld, seen_columns, in_frame_columns, IsFraction-factor, all_columns, AllFractions-coordinate, IsEnclosure-coordinate}
+use Rattle.spec_bodies.proofs.InUse.{used_usable}
 use Rattle.spec_bodies.proofs.Columns.{same_series, span_of, series_of}
+use Rattle.spec_bodies.proofs.Exponents.{AreBetween, between-more, enclosure-between}
+use Rattle.spec_bodies.proofs.Sizes.{position-between, velocity-between, position_step-between, velocity_step-between}
+use Rattle.spec_bodies.proofs.Factors.{IsFactor, factor_is}
+use Rattle.spec_bodies.proofs.Bounds.{between_of, seen_low, in_frame_low, within_of}
 
 power_positive : (l n : ℕ) → 1 ≤ l → 0 < 10 ^ 140 * l ^ n
 power_positive l n long = IsFraction-mul (10 ^ 140) (l ^ n) (omega arith) (one-le-pow n l long)
@@ -105,3 +111,98 @@ module _ (v : View) (a b : ℤ) (fits : Fits v a b) where
   pub states_held : (leaf : Leaf) → IsLeaf leaf → IsEnclosure (exact_state v leaf) a b (state_enclosure v leaf a b)
   states_held (position_of target axis) is = IsEnclosure-coordinate a b fits.ordered _ _ (factor v.ephemeris.header.emrat) (IsFraction-factor v.ephemeris.header.emrat) (coordinate_of v target axis) (coordinate_columns _ positions_held target axis is.1)
   states_held (velocity_of target axis) is = IsEnclosure-coordinate a b fits.ordered _ _ (factor v.ephemeris.header.emrat) (IsFraction-factor v.ephemeris.header.emrat) (coordinate_of v target axis) (coordinate_columns _ velocities_held target axis is.1)
+
+-- ---- exponents
+far : (start a : ℤ) (blocks : ℕ) (block : ℤ) → FIRST_TIME ≤ℤ start → start ≤ℤ LAST_TIME → blocks ≤ MOST_BLOCKS → pos 1 ≤ℤ block → block ≤ℤ LONGEST_BLOCK
+    → start ≤ℤ a → a ≤ℤ (start +ℤ (pos blocks *ℤ block)) → unsigned_abs a ≤ 2 ^ 50
+far start a blocks (pos block) first last few some long from to =
+    let all : blocks * block ≤ 16384 * 2764800 = mul-le blocks block 16384 2764800 few (omega (arith, ints, long)) in omega (arith, ints, first, last, from, to, all)
+far start a blocks (negsuc block) first last few some long from to = absurd (omega (arith, ints, some))
+
+module _ (v : View) (a b : ℤ) (fits : Fits v a b) where
+  pub times_span : IsNear a b
+  times_span =
+      let checked = fits.view.checked in
+      let ab = fits.ordered in
+      let from = fits.from in
+      let to = fits.upto in
+      record {
+        ordered = fits.ordered;
+        first_near = far v.ephemeris.start a v.ephemeris.blocks v.ephemeris.header.block_seconds checked.start.0 checked.start.1 checked.few checked.header.shortest checked.header.longest fits.from (omega (arith, ints, ab, to));
+        last_near = far v.ephemeris.start b v.ephemeris.blocks v.ephemeris.header.block_seconds checked.start.0 checked.start.1 checked.few checked.header.shortest checked.header.longest (omega (arith, ints, ab, from)) fits.upto;
+      }
+
+  module _ (number axis : ℕ) (three : axis < 3) (usable : IsUsable v number) where
+    own_is : IsSeries (series_at v.ephemeris number axis a)
+    own_is = series_of v.ephemeris number fits.view.checked usable.there fits.view.block a b fits.from fits.ordered fits.upto (none_of v a b fits number usable) axis three usable.of_body
+
+    own_span : IsSpan (series_at v.ephemeris number axis a) a b
+    own_span = span_of v.ephemeris number fits.view.checked usable.there fits.view.block a b fits.from fits.ordered fits.upto (none_of v a b fits number usable) axis
+
+    mid_span : IsSpan (series_at v.ephemeris number axis a) (middle a b) (middle a b)
+    mid_span =
+        let between = middle_between a b fits.ordered in
+        let low = between.0 in
+        let high = between.1 in
+        let first = own_span.from in
+        let last = own_span.to in
+        record { from = omega (arith, ints, first, low); ordered = omega (arith, ints); to = omega (arith, ints, last, high) }
+
+    pub positions_between : AreBetween 84 2 (series_positions a b (series_at v.ephemeris number axis a))
+    positions_between =
+        enclosure-between a b times_span 84 2 _ _ _
+        (position-between (series_at v.ephemeris number axis a) own_is (middle a b) (middle a b) mid_span)
+        (between-more 84 2 84 65 _ (omega arith) (omega arith) (position-between (series_at v.ephemeris number axis a) own_is a b own_span))
+        (position_step-between (series_at v.ephemeris number axis a) own_is a b own_span)
+
+    pub velocities_between : AreBetween 84 2 (series_velocities a b (series_at v.ephemeris number axis a))
+    velocities_between =
+        enclosure-between a b times_span 84 2 _ _ _
+        (velocity-between (series_at v.ephemeris number axis a) own_is (middle a b) (middle a b) mid_span)
+        (between-more 84 2 84 65 _ (omega arith) (omega arith) (velocity-between (series_at v.ephemeris number axis a) own_is a b own_span))
+        (velocity_step-between (series_at v.ephemeris number axis a) own_is a b own_span)
+
+  factors_are : (f : Factor) → IsFactor (factor_interval (factor v.ephemeris.header.emrat f))
+  factors_are = factor_is v.ephemeris.header.emrat fits.view.checked.header.ratio
+
+  low_of : (target axis : ℕ) → IsShort (coordinate_of v target axis)
+  low_of target axis = in_frame_low v.frame axis (seen (target_of v target) v.observer) (λ k. seen_low k (target_of v target) v.observer)
+
+  pub states_within : (leaf : Leaf) → IsLeaf leaf → AllWithin 256 (state_enclosure v leaf a b)
+  states_within (position_of target axis) is =
+      within_of (coordinate_of v target axis) _ (low_of target axis)
+      (between_of a b times_span (λ number axis. series_positions a b (series_at v.ephemeris number axis a)) (factor v.ephemeris.header.emrat) factors_are (coordinate_of v target axis) (coordinate_columns v a b fits _ positions_between target axis is.1))
+  states_within (velocity_of target axis) is =
+      within_of (coordinate_of v target axis) _ (low_of target axis)
+      (between_of a b times_span (λ number axis. series_velocities a b (series_at v.ephemeris number axis a)) (factor v.ephemeris.header.emrat) factors_are (coordinate_of v target axis) (coordinate_columns v a b fits _ velocities_between target axis is.1))
+
+-- ---- any short formula over columns that can be read, in one quantity
+  module _ (c : Coordinate) (readable : AllColumns (IsReadable v) c) where
+    pub positions_enclosed : Encloses a b (enclosure_of (λ number axis. series_positions a b (series_at v.ephemeris number axis a)) (factor v.ephemeris.header.emrat) a b c)
+    positions_enclosed =
+        let all = all_columns (IsReadable v) _ (λ number axis is. positions_held v a b fits number axis is.along is.usable) c readable in
+        record {
+          exact = exact_of (λ number axis t. position (series_at v.ephemeris number axis t) t) (factor v.ephemeris.header.emrat) c;
+          numbers = AllFractions-coordinate a b fits.ordered _ _ (factor v.ephemeris.header.emrat) (IsFraction-factor v.ephemeris.header.emrat) c all;
+          is_enclosure = IsEnclosure-coordinate a b fits.ordered _ _ (factor v.ephemeris.header.emrat) (IsFraction-factor v.ephemeris.header.emrat) c all;
+        }
+
+    pub velocities_enclosed : Encloses a b (enclosure_of (λ number axis. series_velocities a b (series_at v.ephemeris number axis a)) (factor v.ephemeris.header.emrat) a b c)
+    velocities_enclosed =
+        let all = all_columns (IsReadable v) _ (λ number axis is. velocities_held v a b fits number axis is.along is.usable) c readable in
+        record {
+          exact = exact_of (λ number axis t. velocity (series_at v.ephemeris number axis t) t) (factor v.ephemeris.header.emrat) c;
+          numbers = AllFractions-coordinate a b fits.ordered _ _ (factor v.ephemeris.header.emrat) (IsFraction-factor v.ephemeris.header.emrat) c all;
+          is_enclosure = IsEnclosure-coordinate a b fits.ordered _ _ (factor v.ephemeris.header.emrat) (IsFraction-factor v.ephemeris.header.emrat) c all;
+        }
+
+    module _ (short : IsShort c) where
+      pub positions_within : AllWithin 256 (enclosure_of (λ number axis. series_positions a b (series_at v.ephemeris number axis a)) (factor v.ephemeris.header.emrat) a b c)
+      positions_within =
+          within_of c _ short
+          (between_of a b times_span _ (factor v.ephemeris.header.emrat) factors_are c (all_columns (IsReadable v) _ (λ number axis is. positions_between number axis is.along is.usable) c readable))
+
+      pub velocities_within : AllWithin 256 (enclosure_of (λ number axis. series_velocities a b (series_at v.ephemeris number axis a)) (factor v.ephemeris.header.emrat) a b c)
+      velocities_within =
+          within_of c _ short
+          (between_of a b times_span _ (factor v.ephemeris.header.emrat) factors_are c (all_columns (IsReadable v) _ (λ number axis is. velocities_between number axis is.along is.usable) c readable))

@@ -11,6 +11,7 @@ use Rattle.spec_ephemeris.specs.Ephemeris.{Ephemeris}
 use Rattle.spec_bodies.specs.declared.source.Source.{Source}
 use Rattle.spec_bodies.specs.declared.source.Source.TheVariants.{OwnColumn, EarthOfPair, MoonOfPair, Origin}
 use Rattle.spec_bodies.specs.Sources.{moon_column, needed, used, body_columns, is_among, is_in_use}
+use Rattle.spec_bodies.specs.Reading.{IsUsable}
 use Rattle.spec_bodies.specs.Views.{View, IsView, IsThere, target_of, columns_of}
 
 -- what is true of the columns that both need is true of those in use
@@ -30,11 +31,11 @@ used_all P target observer one other = All-append P (needed target) (needed obse
 -- what passes stays among what is filtered
 contains_filtered : {X : Type 0} (p : X → Bool) (xs : List X) (x : X) → Contains xs x → p x ≡ true → Contains (filter p xs) x
 contains_filtered p [] x there passes = let within = there.1 in absurd (omega (arith, within))
-contains_filtered p (y ∷ ys) x (zero , within , is) passes = rw (ap p is ∙ passes) (0, omega arith, is)
-contains_filtered p (y ∷ ys) x (suc k , within , is) passes = by (p y) (contains_filtered p ys x (k, omega (arith, within), is) passes)
+contains_filtered p (y ∷ ys) x (zero, within, is) passes = rw (ap p is ∙ passes) (0, omega arith, is)
+contains_filtered p (y ∷ ys) x (suc k, within, is) passes = by (p y) (contains_filtered p ys x (k, omega (arith, within), is) passes)
   where
     by : (b : Bool) → Contains (filter p ys) x → Contains (cond b (y ∷ filter p ys) (filter p ys)) x
-    by true (m , below , at) = (suc m, omega (arith, below), at)
+    by true (m, below, at) = (suc m, omega (arith, below), at)
     by false there = there
 
 found : (ns : List ℕ) (number : ℕ) → Contains ns number → is_among ns number ≡ true
@@ -63,11 +64,6 @@ counted e (suc number) there = omega arith
 or_true : (a b : Bool) → (a ≡ true) ⊎ (b ≡ true) → (a || b) ≡ true
 or_true a b (inl one) = rw one refl
 or_true a b (inr other) = rw other (or-true a)
-
-pub record IsUsable (v : View) (number : ℕ) : Type 0 where
-  pub there : IsTrue (has_column v.ephemeris.header number)
-  pub of_body : number ≤ BODY_COLUMNS
-  pub in_use : Contains (columns_of v) number
 
 there_for : (v : View) → IsView v → (target : ℕ) → IsThere v.ephemeris (target_of v target)
 there_for v is zero = is.first

@@ -3,4 +3,5 @@ pub mod Coordinates
 pub mod Granules
 pub mod Meanings
 pub mod Views
+pub mod Reading
 pub mod Examples

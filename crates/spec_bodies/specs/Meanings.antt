@@ -1,6 +1,6 @@
 -- The two meanings of a coordinate's formula, given those of the coordinates of columns: an exact value at each time, and
 -- an enclosure over the times from a to b.
-use Rattle.std.specs.Prelude.{ℕ, ◌+◌, ◌*◌, ◌^◌, ℤ, pos, neg_ℤ, ◌*ℤ◌, unsigned_abs}
+use Rattle.std.specs.Prelude.{◌≡◌, ℕ, ◌+◌, ◌*◌, ◌^◌, ℤ, pos, neg_ℤ, ◌*ℤ◌, unsigned_abs}
 use borrow.Author.Differences.{up, down}
 use Rattle.spec_text.specs.declared.decimals.Decimal.{Decimal}
 use Rattle.spec_intervals.specs.Interval.{Interval, interval, floor_div, ceil_div, cosine_exponent}
@@ -37,3 +37,7 @@ enclosure_of column factors a b (of_column number axis) = column number axis
 enclosure_of column factors a b (times f x) = product_of a b (constant_of a b (factor_interval (factors f))) (enclosure_of column factors a b x)
 enclosure_of column factors a b (plus x y) = sum_of a b (enclosure_of column factors a b x) (enclosure_of column factors a b y)
 enclosure_of column factors a b (less x y) = difference_of a b (enclosure_of column factors a b x) (enclosure_of column factors a b y)
+
+-- two fractions are one number
+abbrev pub AreEqual : Fraction → Fraction → Type 0
+AreEqual r t = r.numerator *ℤ pos t.denominator ≡ t.numerator *ℤ pos r.denominator

@@ -8,11 +8,11 @@ use Rattle.spec_intervals.proofs.Narrow.{narrow-is}
 use Rattle.spec_expressions.specs.Enclosure.{IsSpan, offsets, middle}
 use Rattle.spec_expressions.proofs.Reach.{offsets-within}
 
-floor_one : (z : ℤ) → floor_div z 1 ≡ z
+pub floor_one : (z : ℤ) → floor_div z 1 ≡ z
 floor_one (pos n) = ap pos (div-one n)
 floor_one (negsuc n) = ap negsuc (div-one n)
 
-ceil_one : (z : ℤ) → ceil_div z 1 ≡ z
+pub ceil_one : (z : ℤ) → ceil_div z 1 ≡ z
 ceil_one z = ap neg_ℤ (floor_one (neg_ℤ z)) ∙ omega (arith, lin)
 
 small-test : (a b : ℤ) → unsigned_abs a ≤ end_limit → unsigned_abs b ≤ end_limit → fits_after 0 a b ≡ true
@@ -24,7 +24,7 @@ small-test a b p q =
     test : (a b : ℤ) → unsigned_abs a ≤ end_limit → unsigned_abs b ≤ end_limit → (is_small a && is_small b) ≡ true
     test a b p q = grind (arith, nat_tests)
 
-narrow-small : (lo hi s : ℤ) → unsigned_abs lo ≤ end_limit → unsigned_abs hi ≤ end_limit → narrow lo hi s ≡ settled lo hi s
+pub narrow-small : (lo hi s : ℤ) → unsigned_abs lo ≤ end_limit → unsigned_abs hi ≤ end_limit → narrow lo hi s ≡ settled lo hi s
 unfolding narrow_by
 narrow-small lo hi s p q =
     let e : s +ℤ pos 0 ≡ s = omega (arith, lin) in

@@ -1,0 +1,31 @@
+-- What is asked of a body, and what is answered for a formula.
+use Rattle.std.specs.Prelude.{◌≡◌, ℕ, ◌<◌, ℤ}
+use Rattle.spec_expressions.specs.Enclosure.{Enclosure}
+use Rattle.spec_bodies.specs.Coordinates.{Coordinate}
+use Rattle.spec_bodies.specs.Granules.{series_at}
+use Rattle.spec_bodies.specs.Meanings.{factor, enclosure_of}
+use Rattle.spec_bodies.specs.Views.{View, Fits, series_positions, series_velocities}
+use Rattle.spec_bodies.specs.Reading.{IsReadable, AllColumns}
+use Rattle.body_states.specs.declared.asked.Quantity.{Quantity}
+use Rattle.body_states.specs.declared.asked.Quantity.TheVariants.{Position, Velocity}
+
+pub record Question : Type 0 where
+  pub quantity : Quantity
+  pub first : ℤ
+  pub last : ℤ
+
+-- the enclosure of a coordinate of a column
+abbrev pub column_enclosure : View → Quantity → ℤ → ℤ → ℕ → ℕ → Enclosure
+column_enclosure v Position a b number axis = series_positions a b (series_at v.ephemeris number axis a)
+column_enclosure v Velocity a b number axis = series_velocities a b (series_at v.ephemeris number axis a)
+
+-- the enclosure of a formula
+abbrev pub answer_of : View → Question → Coordinate → Enclosure
+answer_of v q c = enclosure_of (column_enclosure v q.quantity q.first q.last) (factor v.ephemeris.header.emrat) q.first q.last c
+
+-- the enclosure is that of some formula over columns in use
+pub record IsAnswer (v : View) (q : Question) (e : Enclosure) : Type 0 where
+  pub formula : Coordinate
+  pub readable : AllColumns (IsReadable v) formula
+  pub short : IsShort formula
+  pub is : e ≡ answer_of v q formula

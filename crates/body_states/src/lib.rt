@@ -1,0 +1,20 @@
+//! Where two bodies are, and how fast they move, seen from an observer in a frame.
+//!
+//! In comes a checked ephemeris with two targets, an observer and a frame; out come enclosures of each coordinate of the
+//! targets' positions and velocities over spans of times in which no granule of the columns in use begins. They hold the
+//! exact values, and have the same bits for the same operands on every machine. No call takes memory or fails.
+#![tactic(auto)]
+
+mod asked;
+mod coordinates;
+mod factors;
+mod series;
+mod sources;
+mod states;
+#[cfg(test)]
+mod tests;
+
+pub use eph_model::{Body, Ephemeris};
+pub use event_expr::States;
+pub use spec_bodies::Frame;
+pub use states::BodyStates;

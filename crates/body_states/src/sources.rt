@@ -1,0 +1,80 @@
+// From which columns bodies come, and which columns are in use.
+ghost use Rattle.std.specs.Prelude.{◌≡◌, ◌≤◌, take};
+ghost use Rattle.spec_bodies.specs.Sources.{source_of, needed, used, is_among, is_in_use, columns_in_use};
+
+use spec_bodies::Source;
+use spec_ephemeris::Body;
+
+/// The column of the barycentre of the Earth and the Moon.
+pub(crate) const EMB_COLUMN: usize = 3;
+
+/// The column of the Moon seen from the Earth.
+pub(crate) const MOON_COLUMN: usize = 10;
+
+/// How a body is read.
+pub(crate) fn source_of(body: Body) -> Source
+    ensures { result ≡ source_of body }
+{
+    match body {
+        Body::Mercury => Source::OwnColumn(1),
+        Body::Venus => Source::OwnColumn(2),
+        Body::Emb => Source::OwnColumn(EMB_COLUMN),
+        Body::Mars => Source::OwnColumn(4),
+        Body::Jupiter => Source::OwnColumn(5),
+        Body::Saturn => Source::OwnColumn(6),
+        Body::Uranus => Source::OwnColumn(7),
+        Body::Neptune => Source::OwnColumn(8),
+        Body::Pluto => Source::OwnColumn(9),
+        Body::Moon => Source::MoonOfPair,
+        Body::Sun => Source::OwnColumn(11),
+        Body::Earth => Source::EarthOfPair,
+        Body::Ssb => Source::Origin,
+    }
+}
+
+// Whether a source needs the column.
+fn needs(source: Source, number: usize) -> bool
+    ensures { result ≡ is_among (needed source) number }
+{
+    match source {
+        Source::OwnColumn(own) => own == number,
+        Source::EarthOfPair | Source::MoonOfPair => EMB_COLUMN == number || MOON_COLUMN == number,
+        Source::Origin => false,
+    }
+}
+
+// Whether a target seen from an observer is made of the column.
+fn uses(target: Source, observer: Source, number: usize) -> bool
+    ensures { result ≡ is_among (used target observer) number }
+{
+    match (target, observer) {
+        (Source::MoonOfPair, Source::EarthOfPair) | (Source::EarthOfPair, Source::MoonOfPair) => MOON_COLUMN == number,
+        _ => needs(target, number) || needs(observer, number),
+    }
+}
+
+/// The columns in use for two targets and an observer.
+#[derive(Clone, Copy)]
+pub(crate) struct InUse {
+    pub numbers: [usize; 11],
+    pub count: usize,
+}
+
+impl InUse {
+    /// The columns in use, in order and each once.
+    pub fn of(first: Source, second: Source, observer: Source) -> InUse
+        ensures few { result.count ≤ 11 }
+        ensures numbers { take result.count result.numbers ≡ columns_in_use first second observer }
+    {
+        let mut numbers = [1, 2, 3, 4, 5, 6, 7, 8, 9, 10, 11];
+        let mut count = 0;
+        for i in 0..numbers.len() {
+            let number = numbers[i];
+            if uses(first, observer, number) || uses(second, observer, number) {
+                numbers[count] = number;
+                count += 1;
+            }
+        }
+        InUse { numbers, count }
+    }
+}

@@ -1,0 +1,11 @@
+use Rattle.spec_bodies.specs.Sources.{moon_column}
+use Rattle.spec_bodies.specs.Coordinates.{earth}
+use Rattle.spec_bodies.specs.Meanings.{exact_of}
+use Rattle.spec_bodies.proofs.Apart.{sum_less, less_sum}
+use Rattle.spec_bodies.proofs.laws.the_moon_is_as_far_from_the_earth_as_they_are_apart.Goals as goal
+
+pub returns : goal.returns
+returns c = record {
+  moon = λ column factors axis t. sum_less (exact_of column factors (earth axis) t) (column moon_column axis t);
+  earth = λ column factors axis t. less_sum (exact_of column factors (earth axis) t) (column moon_column axis t);
+}

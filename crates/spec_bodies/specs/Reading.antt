@@ -1,0 +1,48 @@
+-- What is asked of the columns that a formula names, so that it can be enclosed.
+use Rattle.std.specs.Prelude.{ℕ, ◌+◌, ◌<◌, ◌≤◌, max, ⊤, IsTrue, Contains}
+use Rattle.spec_ephemeris.specs.declared.limits.TheConstants.{BODY_COLUMNS}
+use Rattle.spec_ephemeris.specs.Header.{has_column}
+use Rattle.spec_bodies.specs.Coordinates.{Coordinate, nothing, of_column, times, plus, less}
+use Rattle.spec_bodies.specs.Views.{View, columns_of}
+
+-- what is true of each coordinate of a column that the formula names
+abbrev pub AllColumns : (ℕ → ℕ → Type 0) → Coordinate → Type 0
+AllColumns P nothing = ⊤
+AllColumns P (of_column number axis) = P number axis
+AllColumns P (times f x) = AllColumns P x
+AllColumns P (plus x y) = AllColumns P x × AllColumns P y
+AllColumns P (less x y) = AllColumns P x × AllColumns P y
+
+-- a column that is there, is a body's and is in use
+pub record IsUsable (v : View) (number : ℕ) : Type 0 where
+  pub there : IsTrue (has_column v.ephemeris.header number)
+  pub of_body : number ≤ BODY_COLUMNS
+  pub in_use : Contains (columns_of v) number
+
+-- one of its coordinates
+pub record IsReadable (v : View) (number axis : ℕ) : Type 0 where
+  pub usable : IsUsable v number
+  pub along : axis < 3
+
+-- how far down and up exponents go: those of columns from -84 to 2
+abbrev pub lowest : Coordinate → ℕ
+lowest nothing = 0
+lowest (of_column number axis) = 84
+lowest (times f x) = lowest x + 60
+lowest (plus x y) = max (lowest x) (lowest y)
+lowest (less x y) = max (lowest x) (lowest y)
+
+abbrev pub highest : Coordinate → ℕ
+highest nothing = 0
+highest (of_column number axis) = 2
+highest (times f x) = highest x + 2
+highest (plus x y) = max (highest x) (highest y) + 1
+highest (less x y) = max (highest x) (highest y) + 1
+
+-- not too many factors and sums one within the other
+pub record IsLow (l h : ℕ) (c : Coordinate) : Type 0 where
+  pub low : lowest c ≤ l
+  pub high : highest c ≤ h
+
+abbrev pub IsShort : Coordinate → Type 0
+IsShort = IsLow 204 10

@@ -61,7 +61,7 @@ pub fn position_over(terms: &Terms, bases: &Bases) -> Ival
 }
 
 /// The interval of one coordinate of a granule, in km, from time `a` to time `b`, in seconds of TDB since J2000. Axes are
-/// counted from 0.
+/// counted from 0. Over one time it is at most the sum of `|c_k| 3^(k+1) 2^-59`, and `(n + 2) 2^-23`, km wide.
 pub fn position(g: &Granule, axis: usize, a: i64, b: i64) -> Ival
     requires granule { IsEvaluable g.now }
     requires axis { axis < g.now.comps }
@@ -70,6 +70,7 @@ pub fn position(g: &Granule, axis: usize, a: i64, b: i64) -> Ival
     requires upto { b ≤ℤ (g.now.start +ℤ g.now.seconds) }
     ensures equals { result ≡ position_interval (series_of g.now axis) a b }
     ensures holds { (t : ℤ) → a ≤ℤ t → t ≤ℤ b → Holds result (position (series_of g.now axis) t) }
+    ensures tight { a ≡ b → IsTight (series_of g.now axis).coefficients result }
 {
     let terms = Terms::of(g, axis);
     let bases = Bases::over(arguments(g, a, b), g.n);

@@ -3,3 +3,5 @@ pub mod PlainSums
 pub mod HeldSums
 pub mod HeldSpans
 pub mod HeldChanges
+pub mod Widths
+pub mod Tight

@@ -1,6 +1,6 @@
 -- The intervals of position and velocity over a span of times within one granule, and those of their changes from each
 -- time to the next. Positions are in km and velocities in km per second.
-use Rattle.std.specs.Prelude.{ℕ, ◌+◌, ◌*◌, ◌^◌, ◌≤◌, List, [], ◌∷◌, length, map, drop, All, ℤ, pos, neg_ℤ, unsigned_abs, ◌+ℤ◌, ◌-ℤ◌, ◌*ℤ◌, ◌≤ℤ◌, if◌then◌else◌}
+use Rattle.std.specs.Prelude.{ℕ, suc, ◌+◌, ◌*◌, ◌^◌, ◌≤◌, List, [], ◌∷◌, length, map, drop, All, ℤ, pos, neg_ℤ, unsigned_abs, ◌+ℤ◌, ◌-ℤ◌, ◌*ℤ◌, ◌≤ℤ◌, if◌then◌else◌}
 use borrow.Author.Differences.{up, down}
 use lib.Signed.{lt_z}
 use Rattle.spec_text.specs.declared.decimals.Decimal.{Decimal}
@@ -75,7 +75,7 @@ pub record IsSpan (s : Series) (a b : ℤ) : Type 0 where
 -- the sum of |c_k| 3^(k+1) from k on, in units of 10^-140
 abbrev pub spread : ℕ → List Decimal → ℕ
 spread k [] = 0
-spread k (c ∷ cs) = unsigned_abs (scaled c) * 3 ^ (k + 1) + spread (k + 1) cs
+spread k (c ∷ cs) = unsigned_abs (scaled c) * 3 ^ suc k + spread (suc k) cs
 
 -- (hi - lo) 2^s is at most that, times 10^140 2^59
 abbrev pub IsTight : List Decimal → Interval → Type 0

@@ -25,3 +25,9 @@ pub fn velocities_hold()
 pub fn velocity_steps_hold()
     ensures { (s : Series) (a b t : ℤ) → IsSeries s → IsSpan s a b → a ≤ℤ t → t <ℤ b → Holds (velocity_step_interval s a b) (change (velocity s) t) }
 {}
+
+/// The interval of the position at one time is at most the sum of `|c_k| 3^(k+1) 2^-59`, and `(n + 2) 2^-23` for n
+/// coefficients, km wide.
+pub fn positions_are_tight()
+    ensures { (s : Series) (a : ℤ) → IsSeries s → IsSpan s a a → IsTight s.coefficients (position_interval s a a) }
+{}

@@ -1,8 +1,10 @@
-use Rattle.std.proofs.Common.{◌≡◌, ◌∙◌}
+use Rattle.std.proofs.Common.{◌≡◌, ◌∙◌, ℤ, subst, arith}
+use Rattle.spec_intervals.proofs.Order.{lin}
 use Rattle.std.proofs.lemmas.Int.{to_z-of_z}
 use Rattle.spec_chebyshev.specs.declared.ends.Ival62.{Ival62}
-use Rattle.spec_enclosures.specs.Enclosures.{position_over, position_interval, arguments}
+use Rattle.spec_enclosures.specs.Enclosures.{IsTight, position_over, position_interval, arguments}
 use Rattle.spec_enclosures.proofs.HeldSpans.{Holds-position}
+use Rattle.spec_enclosures.proofs.Tight.{IsTight-position}
 use Rattle.cheby_enclose.specs.Granules.{series_of}
 use Rattle.cheby_enclose.proofs.GranuleSeries.{IsSeries-of, IsSpan-of}
 use Rattle.cheby_enclose.proofs.positions.position.Goals as goal
@@ -25,3 +27,10 @@ returns-clause-holds c t from to =
     let is = IsSeries-of c.args.g.now c.requires.granule c.args.axis c.requires.axis in
     let span = IsSpan-of c.args.g.now c.requires.granule c.args.axis c.requires.axis c.args.a c.args.b c.requires.from c.requires.order c.requires.upto in
     rw (equals c) (Holds-position (series_of c.args.g.now c.args.axis) c.args.a c.args.b t is span from to)
+
+pub returns-clause-tight : goal.returns-clause-tight
+returns-clause-tight c same =
+    let is = IsSeries-of c.args.g.now c.requires.granule c.args.axis c.requires.axis in
+    let span = IsSpan-of c.args.g.now c.requires.granule c.args.axis c.requires.axis c.args.a c.args.a c.requires.from (omega (arith, lin)) (let u = c.requires.upto in omega (arith, lin, same)) in
+    let t = IsTight-position (series_of c.args.g.now c.args.axis) c.args.a is span in
+    rw (equals c) (subst (λ (z : ℤ). IsTight (series_of c.args.g.now c.args.axis).coefficients (position_interval (series_of c.args.g.now c.args.axis) c.args.a z)) same t)

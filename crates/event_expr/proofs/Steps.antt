@@ -1,6 +1,5 @@
 -- What the rules' calls owe each other, over plain intervals.
-use Rattle.std.proofs.Common.{◌≡◌, ◌+◌, ◌≤◌, arith, refl, sym, subst, ◌∙◌, ℤ, ◌≤ℤ◌, ◌-ℤ◌, pos, true, false, unsigned_abs, max, ◌*◌, ◌^◌}
-use Rattle.std.specs.Prelude.{if◌then◌else◌}
+use Rattle.std.proofs.Common.{◌≡◌, ◌+◌, arith, ◌∙◌, ℤ, ◌≤ℤ◌, ◌-ℤ◌, pos, true, false, unsigned_abs, max, ◌*◌}
 use lib.Signed.{lt_z}
 use Rattle.spec_intervals.proofs.Order.{lin}
 use Rattle.spec_intervals.specs.Interval.{Interval, IsExponent, narrow, sum, difference, product, meet, signed_square}

@@ -1,11 +1,11 @@
 -- What the walk over an expression owes the rules, from what the states keep.
-use Rattle.std.proofs.Common.{◌≡◌, ◌∙◌, ◌+◌, ◌≤◌, arith, ap, ℕ, ℤ, ◌≤ℤ◌}
-use Rattle.std.specs.Prelude.{⊤, max}
+use Rattle.std.proofs.Common.{◌≡◌, ◌∙◌, arith, ap, ℤ}
+use Rattle.std.specs.Prelude.{⊤}
 use Rattle.spec_text.specs.declared.decimals.Decimal.{Decimal}
 use Rattle.spec_intervals.specs.Interval.{Interval, IsDistance, IsCosine, from_decimal, distance_exponent, cosine_exponent}
 use Rattle.spec_intervals.specs.Fraction.{Fraction, Holds, Overlaps, decimal}
 use Rattle.spec_expressions.specs.Enclosure.{Enclosure, IsEnclosure, AllFractions, IsSpan, IsWithin, AllWithin, Encloses, leaf_exponent, part_exponent}
-use Rattle.spec_expressions.specs.Expression.{Leaf, IsLeaf, exact_of, enclosure_of, nodes, degree, HasLeaves, HasConstants, IsFormula}
+use Rattle.spec_expressions.specs.Expression.{Leaf, IsLeaf, exact_of, enclosure_of, IsFormula}
 use Rattle.spec_expressions.specs.declared.expressions.Expr.{Expr}
 use Rattle.spec_expressions.specs.declared.expressions.Expr.TheVariants.{Pos, Vel, Length, Cosine, Add', Sub', Mul', SignedSquare'}
 use Rattle.spec_expressions.proofs.Exponents.{IsWithin-more, distance-within, cosine-within}

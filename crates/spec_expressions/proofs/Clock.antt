@@ -1,11 +1,11 @@
 -- Leaves whose value is the time itself are enclosed.
-use Rattle.std.proofs.Common.{◌≡◌, ℕ, ◌+◌, ◌*◌, ◌^◌, ◌≤◌, arith, ℤ, pos, neg_ℤ, ◌+ℤ◌, ◌-ℤ◌, ◌*ℤ◌, ◌≤ℤ◌, ◌<ℤ◌, unsigned_abs}
+use Rattle.std.proofs.Common.{ℕ, ◌^◌, ◌≤◌, arith, ℤ, pos, ◌≤ℤ◌, unsigned_abs}
 use Rattle.std.proofs.lemmas.Int.{ints}
 use Rattle.spec_intervals.proofs.Order.{lin}
 use Rattle.spec_intervals.proofs.Narrow.{Holds-narrow}
-use Rattle.spec_intervals.specs.Interval.{end_limit, narrow}
+use Rattle.spec_intervals.specs.Interval.{narrow}
 use Rattle.spec_intervals.specs.Fraction.{Holds, fraction}
-use Rattle.spec_expressions.specs.Enclosure.{Enclosure, IsEnclosure, AllFractions, IsSpan, AllWithin, IsWithin, middle, change}
+use Rattle.spec_expressions.specs.Enclosure.{IsEnclosure, AllFractions, IsSpan, AllWithin, IsWithin, middle, change}
 use Rattle.spec_expressions.proofs.Centred.{middle_between}
 use Rattle.spec_expressions.proofs.Exponents.{narrow-within}
 use Rattle.spec_expressions.specs.Examples.{clock, clock_over}

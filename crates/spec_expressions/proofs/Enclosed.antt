@@ -10,7 +10,7 @@ use Rattle.spec_intervals.proofs.Squares.{Holds-signed_square}
 use Rattle.spec_intervals.proofs.Sums.{Holds-sum}
 use Rattle.spec_intervals.specs.Fraction.{Fraction, IsFraction, Holds, Overlaps, fraction_add, fraction_sub, fraction_mul, fraction_signed_square}
 use Rattle.spec_intervals.specs.Interval.{Interval, product, sum, difference, meet, signed_square}
-use Rattle.spec_expressions.specs.Enclosure.{Enclosure, IsEnclosure, PartsHold, AllFractions, change, middle, centred, enclosure, zero_interval, twice_size, constant_of, sum_of, difference_of, product_of, signed_square_of}
+use Rattle.spec_expressions.specs.Enclosure.{Enclosure, IsEnclosure, PartsHold, AllFractions, middle, centred, enclosure, zero_interval, twice_size, constant_of, sum_of, difference_of, product_of, signed_square_of}
 use Rattle.spec_expressions.proofs.Compare.{Holds-same, Holds-zero, IsFraction-mul}
 use Rattle.spec_expressions.proofs.SquareChanges.{Holds-square_step}
 use Rattle.spec_expressions.proofs.Centred.{IsFraction-sub, middle_between, Holds-centred}

@@ -3,7 +3,7 @@ use Rattle.std.proofs.Common.{◌≡◌, refl, arith, ℤ, pos, neg_ℤ}
 use Rattle.std.proofs.lemmas.Int.{ints}
 use Rattle.spec_intervals.specs.Interval.{interval, narrow, narrow_by, narrow_shift, first_fit, settled, sum, sum_up, product, meet, meet_up, signed_square}
 use Rattle.spec_intervals.specs.Fraction.{Holds, fraction}
-use Rattle.spec_expressions.specs.Enclosure.{Enclosure, centred, enclosure, twice_size, signed_square_of}
+use Rattle.spec_expressions.specs.Enclosure.{centred, enclosure, twice_size, signed_square_of}
 use Rattle.spec_expressions.specs.Examples.{from_minus_three_to_minus_one}
 
 pub square_row : signed_square_of (neg_ℤ (pos 3)) (neg_ℤ (pos 1)) from_minus_three_to_minus_one ≡ record { mid = interval (neg_ℤ (pos 4)) (neg_ℤ (pos 4)) (pos 0); range = interval (neg_ℤ (pos 9)) (neg_ℤ (pos 1)) (pos 0); step = interval (pos 0) (pos 6) (pos 0) }

@@ -1,5 +1,5 @@
 -- How far each rule on intervals moves an exponent.
-use Rattle.std.proofs.Common.{◌≡◌, ℕ, suc, ◌+◌, ◌-◌, ◌*◌, ◌^◌, min, max, ◌<◌, ◌≤◌, arith, refl, sym, ◌∙◌, ℤ, pos, negsuc, ◌+ℤ◌, ◌*ℤ◌, neg_ℤ, ◌≤ℤ◌, Bool, true, false, ◌&&◌, ◌⊎◌, inl, inr, unsigned_abs}
+use Rattle.std.proofs.Common.{◌≡◌, ℕ, ◌+◌, ◌*◌, ◌^◌, max, ◌<◌, ◌≤◌, arith, refl, sym, ◌∙◌, ℤ, pos, ◌+ℤ◌, ◌*ℤ◌, neg_ℤ, ◌≤ℤ◌, Bool, true, false, ◌&&◌, ◌⊎◌, inl, inr, unsigned_abs}
 use Rattle.std.specs.Prelude.{if◌then◌else◌}
 use Rattle.std.proofs.lemmas.Int.{ints, clamps, unsigned_abs-mul}
 use Rattle.std.proofs.lemmas.Nat.{pow-add, pow_pos, mul-le}

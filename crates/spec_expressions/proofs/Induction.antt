@@ -1,8 +1,7 @@
 -- Every expression over leaves that are enclosed is enclosed.
-use Rattle.std.proofs.Common.{ℕ, ◌^◌, ◌<◌, arith, ℤ, ◌≤ℤ◌}
+use Rattle.std.proofs.Common.{arith, ℤ, ◌≤ℤ◌}
 use Rattle.std.proofs.Math.Nat.{one-le-pow}
 use borrow.Author.Differences.{down}
-use Rattle.spec_text.specs.declared.decimals.Decimal.{Decimal}
 use Rattle.spec_intervals.proofs.Decimals.{Holds-from_decimal}
 use Rattle.spec_intervals.specs.Interval.{distance_exponent, cosine_exponent, from_decimal}
 use Rattle.spec_intervals.specs.Fraction.{Fraction, IsFraction, decimal}

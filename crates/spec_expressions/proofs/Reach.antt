@@ -1,11 +1,10 @@
 -- The exponents of an expression's enclosure stay within a bound that its shape tells.
-use Rattle.std.proofs.Common.{◌≡◌, ℕ, ◌+◌, ◌*◌, ◌^◌, max, ◌≤◌, arith, ℤ, ◌-ℤ◌, ◌≤ℤ◌, Bool, true, false, unsigned_abs}
+use Rattle.std.proofs.Common.{◌≡◌, ℕ, ◌+◌, ◌*◌, max, ◌≤◌, arith, ℤ, ◌-ℤ◌, ◌≤ℤ◌, Bool, true, false, unsigned_abs}
 use Rattle.std.specs.Prelude.{if◌then◌else◌}
 use Rattle.std.proofs.lemmas.Int.{ints}
 use Rattle.std.proofs.lemmas.Nat.{mul-le}
 use Rattle.std.proofs.Math.Nat.{mul-add, add-mul}
 use lib.Signed.{lt_z}
-use Rattle.spec_text.specs.declared.decimals.Decimal.{Decimal}
 use Rattle.spec_intervals.specs.Interval.{Interval, end_limit, sum, product, difference, meet, signed_square, from_decimal, distance_exponent, cosine_exponent}
 use Rattle.spec_expressions.specs.Enclosure.{Enclosure, IsSpan, IsWithin, AllWithin, time_limit, leaf_exponent, part_exponent, enclosure, centred, offsets, zero_interval, middle, twice_size, constant_of, sum_of, difference_of, product_of, signed_square_of}
 use Rattle.spec_expressions.specs.Expression.{Leaf, position, velocity, IsLeaf, enclosure_of, nodes, degree, HasLeaves, HasConstants, IsFormula}

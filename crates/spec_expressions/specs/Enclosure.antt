@@ -1,6 +1,6 @@
 -- Enclosures: what is known of a value over the times from a to b, and the rules by which one is made from others.
 -- Times are whole numbers of units, and the step is the change over one unit.
-use Rattle.std.specs.Prelude.{ℕ, ◌+◌, ◌*◌, ◌^◌, ◌≤◌, max, true, false, if◌then◌else◌, ◌≤ℤ◌, ◌<ℤ◌, ℤ, pos, ◌+ℤ◌, ◌-ℤ◌, unsigned_abs}
+use Rattle.std.specs.Prelude.{ℕ, ◌*◌, ◌^◌, ◌≤◌, max, if◌then◌else◌, ◌≤ℤ◌, ◌<ℤ◌, ℤ, pos, ◌+ℤ◌, ◌-ℤ◌, unsigned_abs}
 use lib.Signed.{lt_z}
 use Rattle.spec_intervals.specs.Interval.{Interval, interval, end_limit, floor_div, narrow, sum, difference, product, meet, signed_square}
 use Rattle.spec_intervals.specs.Fraction.{Fraction, IsFraction, Holds, fraction_sub}

@@ -1,7 +1,6 @@
 -- The two meanings of an expression, given those of its leaves; its size; and which expressions are formulas.
 use Rattle.std.specs.Prelude.{ℕ, ◌+◌, ◌<◌, ◌≤◌, ⊤, max, ℤ}
-use Rattle.spec_text.specs.declared.decimals.Decimal.{Decimal}
-use Rattle.spec_intervals.specs.Interval.{Interval, from_decimal, distance_exponent, cosine_exponent, IsDistance, IsCosine}
+use Rattle.spec_intervals.specs.Interval.{from_decimal, distance_exponent, cosine_exponent, IsDistance, IsCosine}
 use Rattle.spec_intervals.specs.Fraction.{Fraction, decimal, fraction_add, fraction_sub, fraction_mul, fraction_signed_square}
 use Rattle.spec_expressions.specs.Enclosure.{Enclosure, constant_of, sum_of, difference_of, product_of, signed_square_of}
 use Rattle.spec_expressions.specs.declared.expressions.Expr.{Expr}

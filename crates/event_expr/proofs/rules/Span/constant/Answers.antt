@@ -1,5 +1,5 @@
 use Rattle.event_expr.proofs.Steps.{part-wide, shared-constant}
-use Rattle.std.proofs.Common.{◌≡◌, ◌∙◌, sym, true, refl}
+use Rattle.std.proofs.Common.{◌∙◌, sym}
 use Rattle.spec_expressions.specs.Enclosure.{constant_of}
 use Rattle.event_expr.proofs.rules.Span.constant.Goals as goal
 

@@ -1,4 +1,3 @@
-use Rattle.std.proofs.Common.{refl}
 use Rattle.event_expr.proofs.Steps.{product-fits, centred-is, centred-fits, enclosure-wide}
 use Rattle.event_expr.proofs.rules.Span.wide.Goals as goal
 

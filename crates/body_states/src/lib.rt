@@ -6,13 +6,9 @@
 #![tactic(auto)]
 
 mod asked;
-mod coordinates;
 mod factors;
-mod series;
 mod sources;
 mod states;
-#[cfg(test)]
-mod tests;
 
 pub use eph_model::{Body, Ephemeris};
 pub use event_expr::States;

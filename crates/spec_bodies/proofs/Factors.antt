@@ -162,3 +162,12 @@ pub factor_is : (ratio : Decimal) → IsMassRatio ratio → (f : Factor) → IsF
 factor_is ratio is moon_share = share_is ratio is
 factor_is ratio is cosine = from_fraction _ _ (omega arith) (omega (arith, ints)) (omega arith)
 factor_is ratio is sine = from_fraction _ _ (omega arith) (omega (arith, ints)) (omega arith)
+
+-- narrowing leaves a factor as it is
+pub narrowed_factor : (n : ℤ) (d : ℕ) → 0 < d → pos d ≤ℤ (n *ℤ pos (2 ^ 60)) → unsigned_abs (n *ℤ pos (2 ^ 60)) ≤ end_limit * d
+    → narrow (floor_div (n *ℤ pos (2 ^ 60)) d) (ceil_div (n *ℤ pos (2 ^ 60)) d) cosine_exponent ≡ factor_interval (record { numerator = n; denominator = d })
+unfolding factor_interval
+narrowed_factor n d some enough few =
+    let is = from_fraction n d some enough few in
+    narrow-small (floor_div (n *ℤ pos (2 ^ 60)) d) (ceil_div (n *ℤ pos (2 ^ 60)) d) cosine_exponent is.lo_small is.hi_small
+    ∙ settled_some (floor_div (n *ℤ pos (2 ^ 60)) d) (ceil_div (n *ℤ pos (2 ^ 60)) d) cosine_exponent is.some

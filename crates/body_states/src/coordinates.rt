@@ -2,9 +2,8 @@
 ghost use Rattle.std.specs.Prelude.{◌≡◌, ◌<◌};
 ghost use Rattle.spec_expressions.specs.Enclosure.{constant_of, sum_of, difference_of, product_of};
 ghost use Rattle.spec_bodies.specs.Coordinates.{nothing, of_column, earth, moon, barycentric, seen, turned, in_frame};
-ghost use Rattle.spec_bodies.specs.Reading.{AllColumns, IsReadable};
+ghost use Rattle.spec_bodies.specs.Reading.{AllColumns, IsReadable, IsFactor};
 ghost use Rattle.spec_bodies.specs.Views.{Fits};
-ghost use Rattle.spec_bodies.proofs.Factors.{IsFactor};
 ghost use Rattle.event_expr.specs.States.{parts};
 ghost use Rattle.body_states.specs.Answers.{answer_of, column_enclosure, IsAnswer};
 

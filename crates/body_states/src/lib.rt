@@ -6,7 +6,9 @@
 #![tactic(auto)]
 
 mod asked;
+mod coordinates;
 mod factors;
+mod series;
 mod sources;
 mod states;
 

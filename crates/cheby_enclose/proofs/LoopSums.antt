@@ -1,5 +1,5 @@
 -- The sums of the code's loops, and that they stay within 128 bits.
-use Rattle.std.proofs.Common.{◌≡◌, ℕ, zero, suc, ◌+◌, ◌-◌, ◌*◌, ◌^◌, ◌<◌, ◌≤◌, arith, refl, sym, ap, ◌∙◌, List, [], ◌∷◌, length, drop, get_or, All, ℤ, pos, ◌+ℤ◌, ◌*ℤ◌, ◌≤ℤ◌, unsigned_abs, drop-cons}
+use Rattle.std.proofs.Common.{◌≡◌, ℕ, zero, suc, ◌+◌, ◌-◌, ◌*◌, ◌^◌, ◌<◌, ◌≤◌, max, arith, refl, sym, ap, ◌∙◌, List, [], ◌∷◌, length, drop, get_or, All, ℤ, pos, ◌+ℤ◌, ◌*ℤ◌, ◌≤ℤ◌, unsigned_abs, drop-cons}
 use Rattle.std.proofs.lemmas.Int.{ints, unsigned_abs-mul, by_lt_z}
 use Rattle.std.proofs.lemmas.Nat.{mul-le}
 use Rattle.std.specs.Int.{int_min, int_max}
@@ -14,7 +14,7 @@ use Rattle.spec_intervals.proofs.Order.{lin, le-mul}
 use Rattle.spec_intervals.proofs.Products.{corners_ordered}
 use Rattle.spec_chebyshev.specs.declared.ends.Ival62.{Ival62}
 use Rattle.spec_chebyshev.specs.Rows.{entry, nothing, EndsWithin}
-use Rattle.spec_enclosures.specs.Sums.{multiples, sum_low, sum_high}
+use Rattle.spec_enclosures.specs.Sums.{times, multiples, sum_low, sum_high}
 use Rattle.cheby_laws.proofs.Bounds.{size}
 
 assoc : (a b c : ℤ) → (a +ℤ b) +ℤ c ≡ a +ℤ (b +ℤ c)
@@ -175,6 +175,10 @@ sizes_grow size j (suc n) h = by (sizes_grow size j n) (cases_lt n j)
     by ih (inl p) = let e : j ≡ suc n = omega arith in rw e (omega arith)
     by ih (inr p) = let q = ih p in omega (arith, q)
 
+pub total_from_one : (size : ℕ → ℕ) (n : ℕ) → slope_sizes size n < 2 ^ 125 → slope_sizes size (max 1 n) < 2 ^ 125
+total_from_one size zero h = omega arith
+total_from_one size (suc n) h = let e : max 1 (suc n) ≡ suc n = omega arith in rw e h
+
 pub multiple_size : (k : ℕ) (z : ℤ) (m : ℕ) → unsigned_abs z ≤ m → unsigned_abs (pos k *ℤ z) ≤ k * m
 multiple_size k' z m h = product_size (pos k') z k' m (omega (arith, ints)) h
 
@@ -184,3 +188,16 @@ EndsWithin-size row k' = record { lo = within (entry row k').lo _ (omega arith);
   where
     within : (z : ℤ) (m : ℕ) → unsigned_abs z ≤ m → Within z (pos m)
     within z m h = record { low = omega (arith, ints); high = omega (arith, ints) }
+
+-- a sum of k C_k X_(k-1) depends on one entry less than there are terms
+multiples_same : (r q : ℕ → Ival62) (n j : ℕ) → ((k : ℕ) → suc k < n → r k ≡ q k) → j < n → multiples r j ≡ multiples q j
+multiples_same r q n zero h p = refl
+multiples_same r q n (suc k') h p = ap (λ (e : Ival62). times (suc k') e) (h k' p)
+
+pub low_slopes_same : (r q : ℕ → Ival62) (cs : List Ival62) → ((k : ℕ) → suc k < length cs → r k ≡ q k) → sum_low (multiples r) 1 (drop 1 cs) ≡ sum_low (multiples q) 1 (drop 1 cs)
+low_slopes_same r q [] h = refl
+low_slopes_same r q (c ∷ cs) h = low_same (multiples r) (multiples q) 1 cs (λ j p. multiples_same r q (suc (length cs)) j h (omega (arith, p)))
+
+pub high_slopes_same : (r q : ℕ → Ival62) (cs : List Ival62) → ((k : ℕ) → suc k < length cs → r k ≡ q k) → sum_high (multiples r) 1 (drop 1 cs) ≡ sum_high (multiples q) 1 (drop 1 cs)
+high_slopes_same r q [] h = refl
+high_slopes_same r q (c ∷ cs) h = high_same (multiples r) (multiples q) 1 cs (λ j p. multiples_same r q (suc (length cs)) j h (omega (arith, p)))

@@ -27,4 +27,4 @@ entry_size row k = max (unsigned_abs (entry row k).lo) (unsigned_abs (entry row 
 -- a row whose entries are small enough for that sum
 pub record IsSlopeRow (row : List Ival62) (n : ℕ) : Type 0 where
   pub small : (k : ℕ) → suc k < n → EndsWithin (2 ^ 60) (entry row k)
-  pub total : slope_sizes (entry_size row) n ≤ 2 ^ 125
+  pub total : slope_sizes (entry_size row) n < 2 ^ 125

@@ -15,7 +15,7 @@ use ival_core::Ival;
 use spec_chebyshev::Ival62;
 
 /// An interval of arguments, and the rows of the bases over it. Which rows are made, and how far, is the caller's
-/// matter; `over` makes the one that positions need.
+/// matter: `basis_t`, `basis_u`, `basis_q` and `basis_r` write them into `rows`.
 #[derive(Drop)]
 pub struct Bases {
     pub arguments: Ival62,
@@ -23,22 +23,30 @@ pub struct Bases {
 }
 
 impl Bases {
-    /// The first `n` entries of T over an interval of arguments.
+    /// An interval of arguments with no row made: every entry is 0.
+    pub fn new(arguments: Ival62) -> Self
+        ensures { result.arguments ≡ arguments }
+    {
+        let nothing = [Ival62 { lo: 0, hi: 0 }; 32];
+        let rows = Basis {
+            t: nothing,
+            u: nothing,
+            q: nothing,
+            r: nothing,
+        };
+        Bases { arguments, rows }
+    }
+
+    /// The first `n` entries of T over an interval of arguments, as positions need them.
     pub fn over(arguments: Ival62, n: usize) -> Self
         requires arguments { IsArguments arguments }
         requires few { n ≤ 32 }
         ensures arguments { result.arguments ≡ arguments }
         ensures t { (k : ℕ) → k < n → entry result.rows.t k ≡ t_row arguments k }
     {
-        let nothing = [Ival62 { lo: 0, hi: 0 }; 32];
-        let mut rows = Basis {
-            t: nothing,
-            u: nothing,
-            q: nothing,
-            r: nothing,
-        };
-        basis_t(arguments, n, &mut rows);
-        Bases { arguments, rows }
+        let mut bases = Bases::new(arguments);
+        basis_t(arguments, n, &mut bases.rows);
+        bases
     }
 }
 

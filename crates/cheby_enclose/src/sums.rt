@@ -19,18 +19,22 @@ pub struct WideEnds {
 /// The sum of the products of the terms with the entries of a row, C_0 X_0 + C_1 X_1 + .., in units of 2^-24 times the
 /// row's.
 pub fn row_sum(terms: &Terms, row: &[Ival62; 32]) -> WideEnds
-    requires { IsSmallRow row.now (length terms.now) }
+    requires { length terms.now ≤ 32 → IsSmallRow row.now (length terms.now) }
     ensures lo { result.lo ≡ sum_low (entry row.now) 0 terms.now }
     ensures hi { result.hi ≡ sum_high (entry row.now) 0 terms.now }
+    ensures lo_size { unsigned_abs result.lo ≤ 2 ^ 125 }
+    ensures hi_size { unsigned_abs result.hi ≤ 2 ^ 125 }
 {
     sum_of_products(terms.as_slice(), row)
 }
 
 /// The sum of k C_k X_(k-1), C_1 X_0 + 2 C_2 X_1 + .., in units of 2^-24 times the row's.
 pub fn slope_sum(terms: &Terms, row: &[Ival62; 32]) -> WideEnds
-    requires { IsSlopeRow row.now (length terms.now) }
+    requires { length terms.now ≤ 32 → IsSlopeRow row.now (length terms.now) }
     ensures lo { result.lo ≡ sum_low (multiples (entry row.now)) 1 (drop 1 terms.now) }
     ensures hi { result.hi ≡ sum_high (multiples (entry row.now)) 1 (drop 1 terms.now) }
+    ensures lo_size { unsigned_abs result.lo < 2 ^ 125 }
+    ensures hi_size { unsigned_abs result.hi < 2 ^ 125 }
 {
     sum_of_multiples(terms.as_slice(), row)
 }
@@ -40,6 +44,8 @@ fn sum_of_products(terms: &[Ival62], row: &[Ival62; 32]) -> WideEnds
     requires row { IsSmallRow row.now (length terms.now) }
     ensures lo { result.lo ≡ sum_low (entry row.now) 0 terms.now }
     ensures hi { result.hi ≡ sum_high (entry row.now) 0 terms.now }
+    ensures lo_size { unsigned_abs result.lo ≤ 2 ^ 125 }
+    ensures hi_size { unsigned_abs result.hi ≤ 2 ^ 125 }
 {
     let mut sum = WideEnds { lo: 0, hi: 0 };
     for k in 0..terms.len() {
@@ -53,6 +59,8 @@ fn sum_of_multiples(terms: &[Ival62], row: &[Ival62; 32]) -> WideEnds
     requires row { IsSlopeRow row.now (length terms.now) }
     ensures lo { result.lo ≡ sum_low (multiples (entry row.now)) 1 (drop 1 terms.now) }
     ensures hi { result.hi ≡ sum_high (multiples (entry row.now)) 1 (drop 1 terms.now) }
+    ensures lo_size { unsigned_abs result.lo < 2 ^ 125 }
+    ensures hi_size { unsigned_abs result.hi < 2 ^ 125 }
 {
     let mut sum = WideEnds { lo: 0, hi: 0 };
     for k in 1..terms.len() {

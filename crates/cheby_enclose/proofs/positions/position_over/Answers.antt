@@ -12,7 +12,7 @@ use Rattle.cheby_enclose.proofs.positions.position_over.Goals as goal
 use Rattle.cheby_enclose.proofs.positions.position_over.Goals.{After-row_sum-sum}
 
 pub row_sum-sum-requires : goal.row_sum-sum-requires
-row_sum-sum-requires c k h = rw (c.requires.t k h) (t_within c.args.bases.now.arguments c.requires.arguments k)
+row_sum-sum-requires c few k h = rw (c.requires.t k h) (t_within c.args.bases.now.arguments c.requires.arguments k)
 
 low_is : (c : After-row_sum-sum) → to_z w128 (of_z w128 c.row_sum-sum.result.lo) ≡ sum_low (t_row c.args.bases.now.arguments) 0 c.args.terms.now
 low_is c =

@@ -1,9 +1,9 @@
-use Rattle.std.proofs.Common.{◌≡◌, ℕ, ◌<◌, ◌≤◌, ◌*◌, ◌^◌, ◌+◌, ◌-◌, suc, sym, subst, ℤ, arith, length, get_or, unsigned_abs, ◌+ℤ◌, ◌*ℤ◌, pos}
+use Rattle.std.proofs.Common.{◌≡◌, ℕ, ◌<◌, ◌≤◌, ◌*◌, ◌^◌, ◌+◌, ◌-◌, suc, max, sym, subst, ℤ, arith, length, get_or, unsigned_abs, ◌+ℤ◌, ◌*ℤ◌, pos}
 use Rattle.std.proofs.lemmas.Int.{ints}
 use Rattle.spec_intervals.specs.Interval.{least4, greatest4}
 use Rattle.spec_chebyshev.specs.Rows.{entry, nothing, EndsWithin}
 use Rattle.cheby_enclose.specs.Rows.{entry_size, slope_sizes}
-use Rattle.cheby_enclose.proofs.LoopSums.{low_multiple, high_multiple, least_size, greatest_size, sum_size, multiple_size, size_more, sizes_grow, EndsWithin-size}
+use Rattle.cheby_enclose.proofs.LoopSums.{low_multiple, high_multiple, least_size, greatest_size, sum_size, multiple_size, size_more, sizes_grow, total_from_one, EndsWithin-size}
 use Rattle.cheby_enclose.proofs.sums.sum_of_multiples.Goals as goal
 use Rattle.cheby_enclose.proofs.sums.sum_of_multiples.Goals.{After-product}
 
@@ -39,7 +39,7 @@ module _ (c : After-product) where
   more : slope_sizes (entry_size c.args.row.now) k + k * (2 ^ 60 * entry_size c.args.row.now (k - 1)) ≡ slope_sizes (entry_size c.args.row.now) (k + 1)
   more = size_more (entry_size c.args.row.now) k c.loop-k.auto.k
 
-  bounded : slope_sizes (entry_size c.args.row.now) (k + 1) ≤ 2 ^ 125
+  bounded : slope_sizes (entry_size c.args.row.now) (k + 1) < 2 ^ 125
   bounded =
       let g = sizes_grow (entry_size c.args.row.now) (k + 1) (length c.args.terms.now) (let p = c.loop-k-test.true in omega (arith, p)) in
       let t = c.requires.row.total in
@@ -95,6 +95,21 @@ loop-k-preserved c =
     record {
       lo = rw (c.added-sum.ensures.lo, c.multiple.ensures.lo, c.product.ensures.lo) (low_multiple row terms c.loop-k.sum.lo _ c.loop-k.k c.loop-k.auto.k c.loop-k-test.true inv.lo);
       hi = rw (c.added-sum.ensures.hi, c.multiple.ensures.hi, c.product.ensures.hi) (high_multiple row terms c.loop-k.sum.hi _ c.loop-k.k c.loop-k.auto.k c.loop-k-test.true inv.hi);
+      within = let p = c.loop-k-test.true in omega (arith, p);
       lo_size = rw (c.added-sum.ensures.lo, c.multiple.ensures.lo) (omega (arith, sl, m));
       hi_size = rw (c.added-sum.ensures.hi, c.multiple.ensures.hi) (omega (arith, sh, m));
     }
+
+pub returns-clause-lo_size : goal.returns-clause-lo_size
+returns-clause-lo_size c =
+    let g = sizes_grow (entry_size c.args.row.now) c.loop-k.k (max 1 (length c.args.terms.now)) c.loop-k.invariant.within in
+    let t = total_from_one (entry_size c.args.row.now) (length c.args.terms.now) c.requires.row.total in
+    let p = c.loop-k.invariant.lo_size in
+    omega (arith, g, t, p)
+
+pub returns-clause-hi_size : goal.returns-clause-hi_size
+returns-clause-hi_size c =
+    let g = sizes_grow (entry_size c.args.row.now) c.loop-k.k (max 1 (length c.args.terms.now)) c.loop-k.invariant.within in
+    let t = total_from_one (entry_size c.args.row.now) (length c.args.terms.now) c.requires.row.total in
+    let p = c.loop-k.invariant.hi_size in
+    omega (arith, g, t, p)

@@ -1,4 +1,4 @@
-use Rattle.std.proofs.Common.{◌≡◌, ℕ, ◌≤◌, ◌*◌, ◌^◌, length, drop, ◌+ℤ◌, unsigned_abs}
+use Rattle.std.proofs.Common.{◌≡◌, ℕ, ◌≤◌, ◌*◌, ◌^◌, length, drop, max, ◌+ℤ◌, unsigned_abs}
 use Rattle.spec_chebyshev.specs.Rows.{entry}
 use Rattle.spec_enclosures.specs.Sums.{multiples, sum_low, sum_high}
 use Rattle.cheby_enclose.specs.Rows.{slope_sizes, entry_size}
@@ -9,5 +9,6 @@ invariant-loop-k l = record {
   lo : l.sum.lo +ℤ sum_low (multiples (entry l.row)) l.k (drop l.k l.terms) ≡ sum_low (multiples (entry l.row)) 1 (drop 1 l.terms);
   hi : l.sum.hi +ℤ sum_high (multiples (entry l.row)) l.k (drop l.k l.terms) ≡ sum_high (multiples (entry l.row)) 1 (drop 1 l.terms);
   lo_size : unsigned_abs l.sum.lo ≤ slope_sizes (entry_size l.row) l.k;
+  within : l.k ≤ max 1 (length l.terms);
   hi_size : unsigned_abs l.sum.hi ≤ slope_sizes (entry_size l.row) l.k;
 }

@@ -1,0 +1,31 @@
+use Rattle.std.proofs.Common.{rules, ◌≡◌, ◌∙◌, ◌<ℤ◌, true, sym, arith, ap, ℕ, ℤ, pos, w64, unsigned_abs}
+use Rattle.std.proofs.lemmas.Int.{to_z-of_z}
+use mir.Val.{SFits}
+use lib.Signed.{lt_z}
+use Rattle.spec_enclosures.specs.Enclosures.{velocity_over, velocity_interval, arguments}
+use Rattle.spec_enclosures.proofs.HeldChanges.{Holds-velocity}
+use Rattle.cheby_enclose.specs.Granules.{series_of}
+use Rattle.cheby_enclose.proofs.GranuleSeries.{IsSeries-of, IsSpan-of}
+use Rattle.cheby_difference.proofs.changes.velocity.Goals as goal
+use Rattle.cheby_difference.proofs.changes.velocity.Goals.{After-velocity_over}
+
+equals : (c : After-velocity_over) → c.velocity_over.result ≡ velocity_interval (series_of c.args.g.now c.args.axis) c.args.a c.args.b
+equals c =
+    let a = c.ranges.a in
+    let b = c.ranges.b in
+    let s = series_of c.args.g.now c.args.axis in
+    let e : c.arguments.result ≡ arguments s c.args.a c.args.b = simp to_z-of_z at (c.arguments.ensures.equals c.args.axis) in
+    let x : c.slopes-bases.result.arguments ≡ arguments s c.args.a c.args.b = c.slopes-bases.ensures.arguments ∙ e in
+    let t = c.of-terms.ensures in
+    let n : SFits w64 c.args.g.now.seconds = search rules in
+    let r : c.velocity_over.result ≡ velocity_over c.of-terms.result c.slopes-bases.result.arguments (unsigned_abs c.args.g.now.seconds) = simp to_z-of_z at c.velocity_over.ensures in
+    r ∙ λ i. velocity_over (t i) (x i) (unsigned_abs c.args.g.now.seconds)
+
+pub returns-clause-equals : goal.returns-clause-equals
+returns-clause-equals c = equals c
+
+pub returns-clause-holds : goal.returns-clause-holds
+returns-clause-holds c t from to =
+    let is = IsSeries-of c.args.g.now c.requires.granule c.args.axis c.requires.axis in
+    let span = IsSpan-of c.args.g.now c.requires.granule c.args.axis c.requires.axis c.args.a c.args.b c.requires.from c.requires.order c.requires.upto in
+    rw (equals c) (Holds-velocity (series_of c.args.g.now c.args.axis) c.args.a c.args.b is span t from to)

@@ -1,0 +1,15 @@
+//! How fast a body moves over a span of times, and by how much it goes on from each time to the next.
+//!
+//! In comes a granule of a checked ephemeris, an axis and a span of times within the granule; out come intervals that
+//! hold the exact velocity at each of these times, and the exact changes of position and of velocity from each time to
+//! the next, with the same bits for the same operands on every machine. Callers that need several of them make the
+//! coefficients' intervals and the bases once and take sums over them. No call takes memory or fails.
+#![tactic(auto)]
+
+mod changes;
+mod scaled;
+#[cfg(test)]
+mod tests;
+
+pub use changes::{position_step, velocity, velocity_step};
+pub use scaled::{position_step_over, velocity_over, velocity_step_over};

@@ -11,6 +11,8 @@ mod formula;
 mod limits;
 pub mod rules;
 mod states;
+#[cfg(test)]
+mod tests;
 
 pub use enclosing::enclose;
 pub use formula::Formula;

@@ -175,7 +175,7 @@ impl Span {
 }
 
 /// The time halfway, or the last before it.
-fn middle(first: i64, last: i64) -> i64
+pub(crate) fn middle(first: i64, last: i64) -> i64
     requires { IsSpan first last }
     ensures { result ≡ middle first last }
 {

@@ -6,3 +6,5 @@ pub mod Induction
 pub mod Exponents
 pub mod Reach
 pub mod Offsets
+pub mod ExampleRows
+pub mod Clock

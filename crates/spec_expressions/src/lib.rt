@@ -6,6 +6,7 @@
 //! out.
 #![tactic(auto)]
 
+pub mod examples;
 mod expressions;
 pub mod laws;
 

@@ -1,0 +1,324 @@
+// Expressions over states whose answers are known, against an exact reference.
+
+ghost use Rattle.std.specs.Prelude.{◌≡◌, ◌≤◌, ◌<◌, ◌≤ℤ◌, ℤ, pos, IfOk, unsigned_abs};
+ghost use Rattle.spec_intervals.specs.Interval.{narrow};
+ghost use Rattle.spec_expressions.specs.Enclosure.{IsSpan, middle, time_limit};
+ghost use Rattle.spec_expressions.specs.Expression.{HasLeaves};
+ghost use Rattle.spec_expressions.specs.declared.expressions.Expr.{Expr};
+ghost use Rattle.event_expr.specs.States.{parts};
+
+use crate::rules::middle;
+use crate::{Expr, ExprFault, Formula, States, enclose};
+use ival_core::{Enclosure, Ival};
+use spec_text::Decimal;
+use std::alloc::{AllocError, Global};
+use std::process::Abort;
+
+/// Every coordinate is the time itself.
+struct Clock;
+
+/// The whole numbers from `lo` to `hi`.
+fn whole(lo: i64, hi: i64) -> Ival
+    requires { lo ≤ℤ hi }
+    ensures { result ≡ narrow lo hi (pos 0) }
+{
+    Ival::of(lo as i128, hi as i128, 0)
+}
+
+fn times(a: i64, b: i64) -> Enclosure
+    requires { IsSpan a b }
+    ensures { parts result ≡ record { mid = narrow (middle a b) (middle a b) (pos 0); range = narrow a b (pos 0); step = narrow (pos 1) (pos 1) (pos 0) } }
+{
+    let m = middle(a, b);
+    Enclosure {
+        mid: whole(m, m),
+        range: whole(a, b),
+        step: whole(1, 1),
+    }
+}
+
+impl States for Clock {
+    ghost use Rattle.spec_expressions.specs.Enclosure.{IsSpan};
+    ghost use Rattle.spec_expressions.specs.Examples.{clock, clock_over};
+    ghost use Rattle.spec_expressions.proofs.Clock.{AllFractions-clock, IsEnclosure-clock, AllWithin-clock};
+    ghost use Rattle.event_expr.specs.States.{state_exponent};
+
+    ghost exact = { λ s leaf. clock leaf };
+
+    ghost answer = { λ s leaf a b. clock_over a b leaf };
+
+    ghost fits = { λ s a b. IsSpan a b };
+
+    fn pos(&self, _target: u8, _axis: u8, a: i64, b: i64) -> Enclosure {
+        times(a, b)
+    }
+
+    fn vel(&self, _target: u8, _axis: u8, a: i64, b: i64) -> Enclosure {
+        times(a, b)
+    }
+
+    ghost spans = { λ s a b fits. fits };
+
+    ghost numbers = { λ s leaf a b is fits. AllFractions-clock leaf a b };
+
+    ghost holds = { λ s leaf a b is fits. IsEnclosure-clock leaf a b };
+
+    ghost within = { λ s leaf a b is fits. AllWithin-clock state_exponent leaf a b fits };
+}
+
+fn position() -> Expr
+    ensures { HasLeaves result }
+{
+    Expr::Pos { target: 0, axis: 2 }
+}
+
+fn velocity() -> Expr
+    ensures { HasLeaves result }
+{
+    Expr::Vel { target: 1, axis: 0 }
+}
+
+fn length(mant: i64, exp: i16) -> Expr
+    ensures { HasLeaves result }
+{
+    Expr::Length(Decimal { mant, exp })
+}
+
+fn cosine(mant: i64, exp: i16) -> Expr
+    ensures { HasLeaves result }
+{
+    Expr::Cosine(Decimal { mant, exp })
+}
+
+fn sum(alloc: Global, x: Expr, y: Expr) -> Result<Expr, AllocError>
+    requires x { HasLeaves x }
+    requires y { HasLeaves y }
+    ensures { IfOk result HasLeaves }
+{
+    Ok(Expr::Add(Box::new(alloc, x)?, Box::new(alloc, y)?))
+}
+
+fn difference(alloc: Global, x: Expr, y: Expr) -> Result<Expr, AllocError>
+    requires x { HasLeaves x }
+    requires y { HasLeaves y }
+    ensures { IfOk result HasLeaves }
+{
+    Ok(Expr::Sub(Box::new(alloc, x)?, Box::new(alloc, y)?))
+}
+
+fn product(alloc: Global, x: Expr, y: Expr) -> Result<Expr, AllocError>
+    requires x { HasLeaves x }
+    requires y { HasLeaves y }
+    ensures { IfOk result HasLeaves }
+{
+    Ok(Expr::Mul(Box::new(alloc, x)?, Box::new(alloc, y)?))
+}
+
+fn signed_square(alloc: Global, x: Expr) -> Result<Expr, AllocError>
+    requires { HasLeaves x }
+    ensures { IfOk result HasLeaves }
+{
+    Ok(Expr::SignedSquare(Box::new(alloc, x)?))
+}
+
+/// The sum of so many cosines 1/2.
+fn sum_of_halves(alloc: Global, count: u32) -> Result<Expr, AllocError>
+    ensures { IfOk result HasLeaves }
+{
+    let mut total = cosine(5, -1);
+    for _ in 1..count {
+        total = sum(alloc, total, cosine(5, -1))?;
+    }
+    Ok(total)
+}
+
+/// The product of so many of one length.
+fn product_of_lengths(alloc: Global, count: u32, km: i64) -> Result<Expr, AllocError>
+    ensures { IfOk result HasLeaves }
+{
+    let mut total = length(km, 0);
+    for _ in 1..count {
+        total = product(alloc, total, length(km, 0))?;
+    }
+    Ok(total)
+}
+
+/// The expression is refused with this fault, or is a formula.
+fn check(rt: &impl Abort, expr: Expr, fault: Option<ExprFault>)
+    requires { HasLeaves expr }
+{
+    match Formula::new(expr) {
+        Ok(_) => assert!(rt; fault.is_none()),
+        Err(found) => assert!(rt; fault == Some(found)),
+    }
+}
+
+#[test]
+fn nodes_are_counted_before_degrees_and_degrees_before_constants(
+    rt: HostRuntime,
+) -> Result<(), AllocError> {
+    let alloc = rt.alloc();
+    check(&rt, sum_of_halves(alloc, 64)?, None);
+    check(&rt, sum_of_halves(alloc, 65)?, Some(ExprFault::Nodes));
+    check(&rt, product_of_lengths(alloc, 16, 1)?, None);
+    check(
+        &rt,
+        product_of_lengths(alloc, 17, 1)?,
+        Some(ExprFault::Degree),
+    );
+    let too_long = product_of_lengths(alloc, 17, 68_719_476_736)?;
+    check(&rt, too_long, Some(ExprFault::Degree));
+    let long = product_of_lengths(alloc, 65, 68_719_476_736)?;
+    check(&rt, long, Some(ExprFault::Nodes));
+    check(
+        &rt,
+        product_of_lengths(alloc, 2, 68_719_476_736)?,
+        Some(ExprFault::Constant),
+    );
+    Ok(())
+}
+
+#[test]
+fn constants_are_within_their_limits(rt: HostRuntime) {
+    let lengths = [
+        (68_719_476_736, 0, Some(ExprFault::Constant)),
+        (68_719_476_735, 0, None),
+        (-68_719_476_736, 0, Some(ExprFault::Constant)),
+        (687_194_767_359, -1, None),
+        (0, 99, None),
+        (1, 11, Some(ExprFault::Constant)),
+        (i64::MAX, -99, None),
+        (i64::MIN, 0, Some(ExprFault::Constant)),
+    ];
+    for (mant, exp, fault) in lengths {
+        check(&rt, length(mant, exp), fault);
+    }
+    let cosines = [
+        (1_000_001, -6, Some(ExprFault::Constant)),
+        (-1, 0, None),
+        (i64::MAX, -18, Some(ExprFault::Constant)),
+        (999_999_999_999_999_999, -18, None),
+        (i64::MIN, -19, None),
+        (1, 1, Some(ExprFault::Constant)),
+        (0, 20, None),
+    ];
+    for (mant, exp, fault) in cosines {
+        check(&rt, cosine(mant, exp), fault);
+    }
+}
+
+/// First and last time, mid, range and step.
+type Row = (
+    i64,
+    i64,
+    (i128, i128, i32),
+    (i128, i128, i32),
+    (i128, i128, i32),
+);
+
+/// The formula has these enclosures over the clock.
+fn check_rows(rt: &impl Abort, expr: Expr, rows: &[Row])
+    requires { HasLeaves expr }
+{
+    match Formula::new(expr) {
+        Err(_) => assert!(rt; false),
+        Ok(formula) => {
+            for row in rows {
+                check_row(rt, &formula, row);
+            }
+        }
+    }
+}
+
+fn check_row(rt: &impl Abort, formula: &Formula, row: &Row) {
+    let (a, b, mid, range, step) = *row;
+    assert!(rt; a <= b);
+    assert!(rt; -1_125_899_906_842_624 <= a);
+    assert!(rt; b <= 1_125_899_906_842_624);
+    let found = enclose(formula, &Clock, a, b);
+    assert_eq!(rt; found.mid.parts(), mid);
+    assert_eq!(rt; found.range.parts(), range);
+    assert_eq!(rt; found.step.parts(), step);
+}
+
+#[test]
+fn a_signed_square_holds_its_values_and_changes(rt: HostRuntime) -> Result<(), AllocError> {
+    let rows = [
+        (-3, -1, (-4, -4, 0), (-9, -1, 0), (0, 6, 0)),
+        (-3, 4, (0, 0, 0), (-9, 16, 0), (0, 8, 0)),
+        (7, 7, (49, 49, 0), (49, 49, 0), (0, 0, 0)),
+        (
+            -1_125_899_906_842_624,
+            1_125_899_906_842_623,
+            (-1, -1, 0),
+            (-4_611_686_018_427_387_904, 4_611_686_018_427_379_713, 38),
+            (0, 2_251_799_813_685_248, 0),
+        ),
+    ];
+    check_rows(&rt, signed_square(rt.alloc(), position())?, &rows);
+    Ok(())
+}
+
+#[test]
+fn a_product_is_that_of_the_reference(rt: HostRuntime) -> Result<(), AllocError> {
+    let alloc = rt.alloc();
+    let below = difference(alloc, position(), length(5, 0))?;
+    let above = sum(alloc, velocity(), length(25, -1))?;
+    let rows = [
+        (
+            -3,
+            -1,
+            (-985_162_418_487_296, -985_162_418_487_296, -48),
+            (-3_377_699_720_527_872, 1_125_899_906_842_624, -48),
+            (-142_606_336, -75_497_472, -24),
+        ),
+        (
+            -3,
+            4,
+            (-3_518_437_208_883_200, -3_518_437_208_883_200, -48),
+            (-13_088_586_417_045_504, 1_125_899_906_842_624, -48),
+            (-142_606_336, 92_274_688, -24),
+        ),
+        (
+            7,
+            7,
+            (5_348_024_557_502_464, 5_348_024_557_502_464, -48),
+            (5_348_024_557_502_464, 5_348_024_557_502_464, -48),
+            (0, 0, 0),
+        ),
+        (
+            -1_125_899_906_842_624,
+            1_125_899_906_842_623,
+            (-2_533_274_790_395_904, -2_533_274_790_395_904, -48),
+            (-2_305_843_009_213_707_265, 2_305_843_009_213_699_072, 39),
+            (-2_305_843_009_213_696_512, 2_305_843_009_213_689_344, -10),
+        ),
+    ];
+    check_rows(&rt, product(alloc, below, above)?, &rows);
+    Ok(())
+}
+
+#[test]
+fn a_square_of_a_square_is_that_of_the_reference(rt: HostRuntime) -> Result<(), AllocError> {
+    let alloc = rt.alloc();
+    let square = signed_square(alloc, position())?;
+    let below = difference(alloc, square, length(1000, 0))?;
+    let rows = [
+        (
+            -3,
+            4,
+            (-4_398_046_511_104_000_000, -4_398_046_511_104_000_000, -42),
+            (-4_477_567_590_071_271_424, -4_258_434_922_655_514_624, -42),
+            (0, 270_851_375_104, -24),
+        ),
+        (
+            -1_125_899_906_842_624,
+            1_125_899_906_842_623,
+            (-4_406_847_002_172_719_104, -4_406_847_002_172_719_104, -42),
+            (-2_305_843_009_213_693_955, 2_305_843_009_213_685_763, 139),
+            (0, 2_305_843_009_213_693_953, 91),
+        ),
+    ];
+    check_rows(&rt, signed_square(alloc, below)?, &rows);
+    Ok(())
+}

@@ -1,11 +1,11 @@
 -- What is asked of a body, and what is answered for a formula.
-use Rattle.std.specs.Prelude.{◌≡◌, ℕ, ◌<◌, ℤ}
+use Rattle.std.specs.Prelude.{◌≡◌, ℕ, ℤ}
 use Rattle.spec_expressions.specs.Enclosure.{Enclosure}
 use Rattle.spec_bodies.specs.Coordinates.{Coordinate}
 use Rattle.spec_bodies.specs.Granules.{series_at}
 use Rattle.spec_bodies.specs.Meanings.{factor, enclosure_of}
-use Rattle.spec_bodies.specs.Views.{View, Fits, series_positions, series_velocities}
-use Rattle.spec_bodies.specs.Reading.{IsReadable, AllColumns}
+use Rattle.spec_bodies.specs.Views.{View, series_positions, series_velocities}
+use Rattle.spec_bodies.specs.Reading.{IsReadable, IsShort, AllColumns}
 use Rattle.body_states.specs.declared.asked.Quantity.{Quantity}
 use Rattle.body_states.specs.declared.asked.Quantity.TheVariants.{Position, Velocity}
 

@@ -9,6 +9,9 @@ ghost use Rattle.spec_bodies.specs.Meanings.{share_beside, factor, factor_interv
 use ival_core::Ival;
 use spec_text::Decimal;
 
+/// 1 in units of 2^-60.
+const ONE: u128 = 1_152_921_504_606_846_976;
+
 /// The mass of the Moon over that of the Earth and the Moon, and the cosine and the sine of the obliquity of the
 /// ecliptic of J2000, in units of 2^-60.
 #[derive(Clone, Copy)]
@@ -27,48 +30,47 @@ impl Factors {
         ensures sine { result.sine ≡ factor_interval (factor ratio sine) }
     {
         Factors {
-            moon_share: share_beside(ratio),
+            moon_share: share_beside(ratio.mant, ratio.exp),
             cosine: Ival::from_decimal(917_482_062_069_182, -15, -60),
             sine: Ival::from_decimal(397_777_155_931_914, -15, -60),
         }
     }
 }
 
-// 1 / (1 + ratio).
-fn share_beside(ratio: Decimal) -> Ival
-    requires { IsMassRatio ratio }
-    ensures { result ≡ factor_interval (share_beside ratio) }
+// 1 / (1 + mant * 10^exp).
+fn share_beside(mant: i64, exp: i16) -> Ival
+    requires { IsMassRatio (record { mant = mant; exp = exp }) }
+    ensures { result ≡ factor_interval (share_beside (record { mant = mant; exp = exp })) }
 {
-    let moon = lesser_mass(ratio);
-    let earth = greater_mass(ratio);
+    let moon = lesser_mass(mant, exp);
+    let earth = greater_mass(mant, exp);
     share(moon, moon + earth)
 }
 
 // The mass of the Moon in the unit in which both masses are whole numbers.
-fn lesser_mass(ratio: Decimal) -> u64
-    requires { IsMassRatio ratio }
-    ensures mass { result ≡ 10 ^ down ratio.exp }
+fn lesser_mass(mant: i64, exp: i16) -> u64
+    requires { IsMassRatio (record { mant = mant; exp = exp }) }
+    ensures mass { result ≡ 10 ^ down exp }
     ensures some { 0 < result }
     ensures few { result ≤ 10 ^ 18 }
 {
-    if ratio.exp < 0 {
-        10u64.pow(ratio.exp.unsigned_abs().into())
+    if exp < 0 {
+        10u64.pow(exp.unsigned_abs().into())
     } else {
         1
     }
 }
 
 // The mass of the Earth in the same unit.
-fn greater_mass(ratio: Decimal) -> u64
-    requires { IsMassRatio ratio }
-    ensures mass { result ≡ unsigned_abs ratio.mant * 10 ^ up ratio.exp }
+fn greater_mass(mant: i64, exp: i16) -> u64
+    requires { IsMassRatio (record { mant = mant; exp = exp }) }
+    ensures mass { result ≡ unsigned_abs mant * 10 ^ up exp }
     ensures few { result ≤ 2 ^ 63 }
 {
-    let digits = ratio.mant.unsigned_abs();
-    if ratio.exp < 0 {
-        digits
+    if exp < 0 {
+        mant.unsigned_abs()
     } else {
-        digits * 10u64.pow(ratio.exp.unsigned_abs().into())
+        mant.unsigned_abs() * 10u64.pow(exp.unsigned_abs().into())
     }
 }
 
@@ -77,10 +79,30 @@ fn share(part: u64, whole: u64) -> Ival
     requires some { 0 < whole }
     requires at_most { part ≤ whole }
     requires enough { whole ≤ part * 2 ^ 60 }
-    requires few { part ≤ 10 ^ 18 }
     ensures { result ≡ factor_interval (record { numerator = pos part; denominator = whole }) }
 {
-    let top = u128::from(part) << 60;
+    let top = u128::from(part) * ONE;
     let whole = u128::from(whole);
-    Ival::of((top / whole) as i128, top.div_ceil(whole) as i128, -60)
+    Ival::of(quotient_down(top, whole), quotient_up(top, whole), -60)
+}
+
+fn quotient_down(top: u128, whole: u128) -> i128
+    requires some { 0 < whole }
+    requires few { top ≤ 2 ^ 124 }
+    ensures { result ≡ floor_div (pos top) whole }
+{
+    (top / whole) as i128
+}
+
+fn quotient_up(top: u128, whole: u128) -> i128
+    requires some { 0 < whole }
+    requires few { top ≤ 2 ^ 124 }
+    ensures { result ≡ ceil_div (pos top) whole }
+{
+    let low = top / whole;
+    if low * whole < top {
+        low as i128 + 1
+    } else {
+        low as i128
+    }
 }

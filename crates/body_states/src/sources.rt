@@ -53,6 +53,13 @@ fn uses(target: Source, observer: Source, number: usize) -> bool
     }
 }
 
+// Whether one of two targets seen from an observer is made of the column.
+fn is_in_use(first: Source, second: Source, observer: Source, number: usize) -> bool
+    ensures { result ≡ is_in_use first second observer number }
+{
+    uses(first, observer, number) || uses(second, observer, number)
+}
+
 /// The columns in use for two targets and an observer.
 #[derive(Clone, Copy)]
 pub(crate) struct InUse {
@@ -70,7 +77,7 @@ impl InUse {
         let mut count = 0;
         for i in 0..numbers.len() {
             let number = numbers[i];
-            if uses(first, observer, number) || uses(second, observer, number) {
+            if is_in_use(first, second, observer, number) {
                 numbers[count] = number;
                 count += 1;
             }

@@ -11,9 +11,9 @@ use Rattle.spec_bodies.specs.declared.source.Source.{Source}
 use Rattle.spec_bodies.specs.declared.source.Source.TheVariants.{OwnColumn, EarthOfPair, MoonOfPair, Origin}
 use Rattle.spec_bodies.specs.Coordinates.{Factor, Coordinate, nothing, of_column, times, plus, less, seen, turned, in_frame, coordinate}
 use Rattle.spec_bodies.specs.Meanings.{factor_interval, enclosure_of}
-use Rattle.spec_bodies.specs.Reading.{AllColumns, lowest, highest, IsLow, IsShort}
+use Rattle.spec_bodies.specs.Reading.{AllColumns, lowest, highest, IsLow, IsShort, IsFactor}
 use Rattle.spec_bodies.proofs.Exponents.{IsBetween, AreBetween, HasSmallEnds, between-more, between-all_within, product-between, enclosure-between, nothing-between, sum_of-between, difference_of-between}
-use Rattle.spec_bodies.proofs.Factors.{IsFactor, times_factor}
+use Rattle.spec_bodies.proofs.Factors.{times_factor}
 
 more : (l h m n : ℕ) (e : Enclosure) → l ≤ m → h ≤ n → AreBetween l h e → AreBetween m n e
 more l h m n e p q is = record {

@@ -18,6 +18,7 @@ use Rattle.spec_ephemeris.specs.Header.{IsMassRatio}
 use Rattle.spec_expressions.specs.Enclosure.{Enclosure, offsets, centred, enclosure, zero_interval, constant_of, product_of}
 use Rattle.spec_expressions.proofs.Offsets.{floor_one, ceil_one, narrow-small}
 use Rattle.spec_bodies.specs.Coordinates.{Factor, moon_share, cosine, sine}
+use Rattle.spec_bodies.specs.Reading.{IsFactor}
 use Rattle.spec_bodies.specs.Meanings.{share_beside, factor, factor_interval}
 
 -- ---- 0 in products and sums
@@ -63,13 +64,7 @@ product_with_zero : (x y : Interval) → sum (product x y) zero_interval ≡ pro
 unfolding product
 product_with_zero x y = narrowed_with_zero (least4 x.lo x.hi y.lo y.hi) (greatest4 x.lo x.hi y.lo y.hi) (x.s +ℤ y.s)
 
--- ---- an interval that is not 0, with small ends, at the exponent of factors
-pub record IsFactor (c : Interval) : Type 0 where
-  pub exponent : c.s ≡ cosine_exponent
-  pub lo_small : unsigned_abs c.lo ≤ end_limit
-  pub hi_small : unsigned_abs c.hi ≤ end_limit
-  pub some : is_zero c ≡ false
-
+-- ---- a factor meets itself
 least_of_itself : (z : ℤ) → int_min z z ≡ z
 least_of_itself z = omega (arith, ints, clamps)
 
@@ -162,3 +157,12 @@ pub factor_is : (ratio : Decimal) → IsMassRatio ratio → (f : Factor) → IsF
 factor_is ratio is moon_share = share_is ratio is
 factor_is ratio is cosine = from_fraction _ _ (omega arith) (omega (arith, ints)) (omega arith)
 factor_is ratio is sine = from_fraction _ _ (omega arith) (omega (arith, ints)) (omega arith)
+
+-- narrowing leaves a factor as it is
+pub narrowed_factor : (n : ℤ) (d : ℕ) → 0 < d → pos d ≤ℤ (n *ℤ pos (2 ^ 60)) → unsigned_abs (n *ℤ pos (2 ^ 60)) ≤ end_limit * d
+    → narrow (floor_div (n *ℤ pos (2 ^ 60)) d) (ceil_div (n *ℤ pos (2 ^ 60)) d) cosine_exponent ≡ factor_interval (record { numerator = n; denominator = d })
+unfolding factor_interval
+narrowed_factor n d some enough few =
+    let is = from_fraction n d some enough few in
+    narrow-small (floor_div (n *ℤ pos (2 ^ 60)) d) (ceil_div (n *ℤ pos (2 ^ 60)) d) cosine_exponent is.lo_small is.hi_small
+    ∙ settled_some (floor_div (n *ℤ pos (2 ^ 60)) d) (ceil_div (n *ℤ pos (2 ^ 60)) d) cosine_exponent is.some

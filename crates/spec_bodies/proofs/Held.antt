@@ -23,7 +23,7 @@ use Rattle.spec_expressions.proofs.Enclosed.{IsEnclosure-parts}
 use Rattle.spec_bodies.specs.Sources.{used}
 use Rattle.spec_bodies.specs.Coordinates.{Factor, Coordinate, seen}
 use Rattle.spec_bodies.specs.Granules.{series_at}
-use Rattle.spec_bodies.specs.Reading.{AllColumns, IsUsable, IsReadable, IsShort}
+use Rattle.spec_bodies.specs.Reading.{AllColumns, IsUsable, IsReadable, IsShort, IsFactor}
 use Rattle.spec_bodies.specs.Meanings.{factor, factor_interval, exact_of, enclosure_of}
 use Rattle.spec_bodies.specs.Views.{View, IsView, Fits, target_of, columns_of, coordinate_of, exact_position, exact_velocity, exact_state, series_positions, series_velocities, position_enclosure, velocity_enclosure, state_enclosure}
 use Rattle.spec_bodies.proofs.Formulas.{IsHeld, seen_columns, in_frame_columns, IsFraction-factor, all_columns, AllFractions-coordinate, IsEnclosure-coordinate}
@@ -31,7 +31,7 @@ use Rattle.spec_bodies.proofs.InUse.{used_usable}
 use Rattle.spec_bodies.proofs.Columns.{same_series, span_of, series_of}
 use Rattle.spec_bodies.proofs.Exponents.{AreBetween, between-more, enclosure-between}
 use Rattle.spec_bodies.proofs.Sizes.{position-between, velocity-between, position_step-between, velocity_step-between}
-use Rattle.spec_bodies.proofs.Factors.{IsFactor, factor_is}
+use Rattle.spec_bodies.proofs.Factors.{factor_is}
 use Rattle.spec_bodies.proofs.Bounds.{between_of, seen_low, in_frame_low, within_of}
 
 power_positive : (l n : ℕ) → 1 ≤ l → 0 < 10 ^ 140 * l ^ n

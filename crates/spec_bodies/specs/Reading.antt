@@ -1,5 +1,6 @@
 -- What is asked of the columns that a formula names, so that it can be enclosed.
-use Rattle.std.specs.Prelude.{ℕ, ◌+◌, ◌<◌, ◌≤◌, max, ⊤, IsTrue, Contains}
+use Rattle.std.specs.Prelude.{◌≡◌, false, unsigned_abs, ℕ, ◌+◌, ◌<◌, ◌≤◌, max, ⊤, IsTrue, Contains}
+use Rattle.spec_intervals.specs.Interval.{Interval, end_limit, cosine_exponent, is_zero}
 use Rattle.spec_ephemeris.specs.declared.limits.TheConstants.{BODY_COLUMNS}
 use Rattle.spec_ephemeris.specs.Header.{has_column}
 use Rattle.spec_bodies.specs.Coordinates.{Coordinate, nothing, of_column, times, plus, less}
@@ -46,3 +47,10 @@ pub record IsLow (l h : ℕ) (c : Coordinate) : Type 0 where
 
 abbrev pub IsShort : Coordinate → Type 0
 IsShort = IsLow 204 10
+
+-- an interval that is not 0, with small ends, at the exponent of factors
+pub record IsFactor (c : Interval) : Type 0 where
+  pub exponent : c.s ≡ cosine_exponent
+  pub lo_small : unsigned_abs c.lo ≤ end_limit
+  pub hi_small : unsigned_abs c.hi ≤ end_limit
+  pub some : is_zero c ≡ false

@@ -1,0 +1,156 @@
+// The coordinates of bodies, made of those of columns by the rules on enclosures.
+ghost use Rattle.std.specs.Prelude.{◌≡◌, ◌<◌};
+ghost use Rattle.spec_expressions.specs.Enclosure.{constant_of, sum_of, difference_of, product_of};
+ghost use Rattle.spec_bodies.specs.Coordinates.{nothing, of_column, earth, moon, barycentric, seen, turned, in_frame};
+ghost use Rattle.spec_bodies.specs.Reading.{AllColumns, IsReadable, IsFactor};
+ghost use Rattle.spec_bodies.specs.Views.{Fits};
+ghost use Rattle.event_expr.specs.States.{parts};
+ghost use Rattle.body_states.specs.Answers.{answer_of, column_enclosure, IsAnswer};
+
+use crate::asked::{Asked, Quantity};
+use crate::series::{positions, velocities};
+use crate::sources::{EMB_COLUMN, MOON_COLUMN};
+use crate::states::BodyStates;
+use ival_core::{Enclosure, Ival};
+use spec_bodies::{Frame, Source};
+
+impl<'e> BodyStates<'e> {
+    /// A coordinate of a target in the frame.
+    pub(crate) fn coordinate(&self, target: Source, axis: usize, asked: &Asked) -> Enclosure
+        requires fits { Fits self.now asked.now.first asked.now.last }
+        requires readable { AllColumns (IsReadable self.now) (in_frame self.now.frame (seen target self.now.observer) axis) }
+        ensures { parts result ≡ answer_of self.now asked.now (in_frame self.now.frame (seen target self.now.observer) axis) }
+    {
+        match self.frame {
+            Frame::Eq => self.seen(target, axis, asked),
+            Frame::Ecl => self.turned(target, axis, asked),
+        }
+    }
+
+    // A coordinate along the axes of the ecliptic: y' = c y + s z and z' = c z - s y.
+    fn turned(&self, target: Source, axis: usize, asked: &Asked) -> Enclosure
+        requires fits { Fits self.now asked.now.first asked.now.last }
+        requires readable { AllColumns (IsReadable self.now) (turned (seen target self.now.observer) axis) }
+        ensures { parts result ≡ answer_of self.now asked.now (turned (seen target self.now.observer) axis) }
+    {
+        match axis {
+            0 => self.seen(target, 0, asked),
+            1 => {
+                let y = self.scaled(self.factors.cosine, self.seen(target, 1, asked), asked);
+                let z = self.scaled(self.factors.sine, self.seen(target, 2, asked), asked);
+                self.sum(y, z, asked)
+            }
+            _ => {
+                let z = self.scaled(self.factors.cosine, self.seen(target, 2, asked), asked);
+                let y = self.scaled(self.factors.sine, self.seen(target, 1, asked), asked);
+                self.difference(z, y, asked)
+            }
+        }
+    }
+
+    // A coordinate of a target relative to the observer, in the frame of the files.
+    fn seen(&self, target: Source, axis: usize, asked: &Asked) -> Enclosure
+        requires fits { Fits self.now asked.now.first asked.now.last }
+        requires readable { AllColumns (IsReadable self.now) (seen target self.now.observer axis) }
+        ensures { parts result ≡ answer_of self.now asked.now (seen target self.now.observer axis) }
+    {
+        match (target, self.observer) {
+            (Source::MoonOfPair, Source::EarthOfPair) => self.column(MOON_COLUMN, axis, asked),
+            (Source::EarthOfPair, Source::MoonOfPair) => {
+                let moon = self.column(MOON_COLUMN, axis, asked);
+                self.difference(self.nothing(asked), moon, asked)
+            }
+            (_, Source::Origin) => self.barycentric(target, axis, asked),
+            _ => {
+                let own = self.barycentric(target, axis, asked);
+                let observer = self.barycentric(self.observer, axis, asked);
+                self.difference(own, observer, asked)
+            }
+        }
+    }
+
+    // A coordinate of a body relative to the barycentre of the solar system.
+    fn barycentric(&self, body: Source, axis: usize, asked: &Asked) -> Enclosure
+        requires fits { Fits self.now asked.now.first asked.now.last }
+        requires readable { AllColumns (IsReadable self.now) (barycentric body axis) }
+        ensures { parts result ≡ answer_of self.now asked.now (barycentric body axis) }
+    {
+        match body {
+            Source::OwnColumn(number) => self.column(number, axis, asked),
+            Source::EarthOfPair => self.earth(axis, asked),
+            Source::MoonOfPair => self.moon(axis, asked),
+            Source::Origin => self.nothing(asked),
+        }
+    }
+
+    // The Earth: the barycentre of the Earth and the Moon less the Moon's share.
+    fn earth(&self, axis: usize, asked: &Asked) -> Enclosure
+        requires fits { Fits self.now asked.now.first asked.now.last }
+        requires readable { AllColumns (IsReadable self.now) (earth axis) }
+        ensures { parts result ≡ answer_of self.now asked.now (earth axis) }
+    {
+        let emb = self.column(EMB_COLUMN, axis, asked);
+        let moon = self.column(MOON_COLUMN, axis, asked);
+        let share = self.scaled(self.factors.moon_share, moon, asked);
+        self.difference(emb, share, asked)
+    }
+
+    // The Moon: the Earth and the Moon seen from it.
+    fn moon(&self, axis: usize, asked: &Asked) -> Enclosure
+        requires fits { Fits self.now asked.now.first asked.now.last }
+        requires readable { AllColumns (IsReadable self.now) (moon axis) }
+        ensures { parts result ≡ answer_of self.now asked.now (moon axis) }
+    {
+        let earth = self.earth(axis, asked);
+        let moon = self.column(MOON_COLUMN, axis, asked);
+        self.sum(earth, moon, asked)
+    }
+
+    // A coordinate of a column.
+    fn column(&self, number: usize, axis: usize, asked: &Asked) -> Enclosure
+        requires fits { Fits self.now asked.now.first asked.now.last }
+        requires readable { IsReadable self.now number axis }
+        ensures { parts result ≡ column_enclosure self.now asked.now.quantity asked.now.first asked.now.last number axis }
+    {
+        let granule = self.ephemeris.granule(number, asked.first());
+        match asked.quantity() {
+            Quantity::Position => positions(&granule, axis, asked),
+            Quantity::Velocity => velocities(&granule, axis, asked),
+        }
+    }
+
+    // 0 at each time.
+    fn nothing(&self, asked: &Asked) -> Enclosure
+        ensures { parts result ≡ answer_of self.now asked.now nothing }
+    {
+        asked.span().constant(Ival::zero())
+    }
+
+    fn scaled(&self, factor: Ival, x: Enclosure, asked: &Asked) -> Enclosure
+        requires fits { Fits self.now asked.now.first asked.now.last }
+        requires factor { IsFactor factor }
+        requires x { IsAnswer self.now asked.now (parts x) }
+        ensures { parts result ≡ product_of asked.now.first asked.now.last (constant_of asked.now.first asked.now.last factor) (parts x) }
+    {
+        let constant = asked.span().constant(factor);
+        asked.span().product(constant, x)
+    }
+
+    fn sum(&self, x: Enclosure, y: Enclosure, asked: &Asked) -> Enclosure
+        requires fits { Fits self.now asked.now.first asked.now.last }
+        requires x { IsAnswer self.now asked.now (parts x) }
+        requires y { IsAnswer self.now asked.now (parts y) }
+        ensures { parts result ≡ sum_of asked.now.first asked.now.last (parts x) (parts y) }
+    {
+        asked.span().sum(x, y)
+    }
+
+    fn difference(&self, x: Enclosure, y: Enclosure, asked: &Asked) -> Enclosure
+        requires fits { Fits self.now asked.now.first asked.now.last }
+        requires x { IsAnswer self.now asked.now (parts x) }
+        requires y { IsAnswer self.now asked.now (parts y) }
+        ensures { parts result ≡ difference_of asked.now.first asked.now.last (parts x) (parts y) }
+    {
+        asked.span().difference(x, y)
+    }
+}

@@ -1,5 +1,3 @@
-pub mod Rows
-pub mod Coefficients
 pub mod HeaderTest
 pub mod Granules
 pub mod Lines

@@ -1,11 +1,10 @@
 -- Small series with round values.
-use Rattle.std.specs.Prelude.{◌≡◌, ℕ, List, ◌++◌, codes, replicate, [], ◌∷◌, ℤ, pos, neg_ℤ, ◌*ℤ◌}
+use Rattle.std.specs.Prelude.{◌≡◌, ℕ, List, replicate, [], ◌∷◌, ℤ, pos, neg_ℤ, ◌*ℤ◌}
 use Rattle.spec_text.specs.declared.decimals.Decimal.{Decimal}
 use Rattle.spec_intervals.specs.Fraction.{Fraction}
 use Rattle.spec_ephemeris.specs.declared.header.Column.{Column}
 use Rattle.spec_ephemeris.specs.declared.header.Header.{Header}
 use Rattle.spec_ephemeris.specs.Series.{Series}
-use Rattle.spec_ephemeris.specs.OneBlock.{Cell, fixed_rows, header_text, zeros_text}
 use Rattle.spec_ephemeris.specs.Ephemeris.{Ephemeris}
 
 abbrev pub whole : ℤ → Decimal
@@ -23,20 +22,9 @@ growing_x = record {
   coefficients = whole (pos 0) ∷ record { mant = pos 138240000000000000; exp = neg_ℤ (pos 11) } ∷ [];
 }
 
--- the text that says so
-abbrev pub growing_text : List ℕ
-growing_text =
-    header_text
-    ++ codes "0.245154450000000000D+07 0.245157650000000000D+07 0.0\n"
-    ++ codes "0.138240000000000000D+07 0.0 0.0\n"
-    ++ zeros_text
-
 -- T_0 + 2 T_1 + 3 T_2 over ten seconds
 abbrev pub parabola : Series
 parabola = record { start = pos 100; duration = 10; coefficients = whole (pos 1) ∷ whole (pos 2) ∷ whole (pos 3) ∷ [] }
-
-abbrev pub rows_a_b : List (List Cell)
-rows_a_b = fixed_rows (codes "A\nB\n")
 
 -- a column of this start, this many coefficients and granules
 abbrev pub column : ℕ → ℕ → ℕ → Column

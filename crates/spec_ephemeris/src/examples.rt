@@ -1,11 +1,9 @@
 // Worked values of the definitions, by computation.
-ghost use Rattle.std.specs.Prelude.{◌≡◌, ◌+◌, ◌-◌, ◌^◌, true, false, ◌++◌, ◌∷◌, [], length, codes, pos, neg_ℤ};
-ghost use Rattle.spec_text.specs.Lines.{text_lines};
+ghost use Rattle.std.specs.Prelude.{◌≡◌, ◌+◌, ◌-◌, ◌^◌, true, false, ◌++◌, ◌∷◌, [], pos, neg_ℤ};
 ghost use Rattle.spec_ephemeris.specs.Header.{IsHeader, column_size, has_column};
 ghost use Rattle.spec_ephemeris.specs.Ephemeris.{IsPreferred, is_line, mercury_x};
 ghost use Rattle.spec_ephemeris.specs.Series.{IsCoefficient, argument_at, position};
-ghost use Rattle.spec_ephemeris.specs.OneBlock.{word, fixed_rows, form, HasForm, LeavesFormAt, LeavesRowsAt};
-ghost use Rattle.spec_ephemeris.specs.Examples.{IsKm, whole, growing_text, growing_x, parabola, rows_a_b, column, de405, four_columns, of_four_columns, growing_block, overlapping, without_mercury};
+ghost use Rattle.spec_ephemeris.specs.Examples.{IsKm, whole, growing_x, parabola, column, de405, four_columns, of_four_columns, growing_block, overlapping, without_mercury};
 
 /// The argument of a block of 2,764,800 seconds runs from minus its length to its length, two for each second.
 pub fn arguments()
@@ -36,26 +34,6 @@ pub fn sizes_of_coefficients()
     ensures greatest { IsCoefficient (whole (pos (2 ^ 36 - 1))) }
     ensures least { IsCoefficient (whole (neg_ℤ (pos (2 ^ 36 - 1)))) }
     ensures too_large { IsCoefficient (whole (pos (2 ^ 36))) → ⊥ }
-{}
-
-/// The form has 26 lines, and a line of fixed words is its tokens.
-pub fn lines_of_the_form()
-    ensures lines { length form ≡ 26 }
-    ensures words { fixed_rows (codes "GROUP   1010\n") ≡ (word (codes "GROUP") ∷ word (codes "1010") ∷ []) ∷ [] }
-{}
-
-/// A text of the form, with coefficients 0 km and 1,382,400 km, and two texts that leave it at once.
-pub fn texts_of_the_form()
-    ensures growing { HasForm growing_text (whole (pos 0)) (record { mant = pos 138240000000000000; exp = neg_ℤ (pos 11) }) }
-    ensures other_header { LeavesFormAt (codes "KSIZE= 50 NCOEFF= 25\n") 1 }
-    ensures empty { LeavesFormAt (codes "") 1 }
-{}
-
-/// Of two rows `A` and `B`: where the text leaves them.
-pub fn texts_that_leave_the_form()
-    ensures ends_early { LeavesRowsAt rows_a_b (text_lines (codes "A\n")) 2 2 }
-    ensures wrong_word { LeavesRowsAt rows_a_b (text_lines (codes "A\nC\n")) 3 2 }
-    ensures one_line_more { LeavesRowsAt rows_a_b (text_lines (codes "A\n\nB\nB\n")) 5 4 }
 {}
 
 /// A column takes its components times its coefficients times its granules; nutations have two components. In DE405

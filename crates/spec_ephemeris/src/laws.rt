@@ -1,30 +1,6 @@
-// Laws of the form of one block.
+// Laws of granules, borders and lines.
 ghost use Rattle.std.specs.Prelude.{◌≡◌, true, List, Option, ℕ, ℤ};
-ghost use Rattle.spec_text.specs.declared.decimals.Decimal.{Decimal};
-ghost use Rattle.spec_ephemeris.specs.OneBlock.{HasForm, LeavesFormAt};
-ghost use Rattle.spec_ephemeris.specs.Series.{IsCoefficient, IsInUnits};
 ghost use Rattle.spec_ephemeris.specs.Ephemeris.{Ephemeris, Granule, IsEphemeris, IsGranuleAt, IsLine, IsNearestBorder, MERCURY, axis_series, is_line, mercury_x};
-
-/// A text that has the form leaves it at no line.
-pub fn form_is_left_nowhere()
-    ensures { (text : List ℕ) (c0 c1 : Decimal) (number : ℕ) → HasForm text c0 c1 → LeavesFormAt text number → ⊥ }
-{}
-
-/// A text leaves the form at one line.
-pub fn form_is_left_once()
-    ensures { (text : List ℕ) (n m : ℕ) → LeavesFormAt text n → LeavesFormAt text m → n ≡ m }
-{}
-
-/// A text has the form with one pair of coefficients.
-pub fn form_has_one_pair_of_coefficients()
-    ensures { (text : List ℕ) (a b c d : Decimal) → HasForm text a b → HasForm text c d → (a ≡ c) × (b ≡ d) }
-{}
-
-/// The coefficients of the form are whole numbers of units of 10^-140 km, below 2^36 km in size.
-pub fn coefficients_are_bounded()
-    ensures units { (text : List ℕ) (c0 c1 : Decimal) → HasForm text c0 c1 → IsInUnits c0 × IsInUnits c1 }
-    ensures sizes { (text : List ℕ) (c0 c1 : Decimal) → HasForm text c0 c1 → IsCoefficient c0 × IsCoefficient c1 }
-{}
 
 /// A time of the ephemeris has one granule of a column.
 pub fn a_time_has_one_granule()

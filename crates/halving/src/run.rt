@@ -37,8 +37,8 @@ fn put<T: Drop>(list: &mut Vec<T>, item: T) -> Result<(), RunError>
     }
 }
 
-/// The leaves of a valid root from left to right, or `TooMany` where they are more than `limit`. The nodes that wait
-/// are never more than the tree is deep.
+/// The leaves of a valid root from left to right, or `TooMany` where they are more than `limit`. Besides the next node
+/// only right parts of nodes above it wait, so that memory is taken for the leaves and for the depth of the tree.
 pub fn run_one<J: Judge>(
     alloc: Global,
     judge: &J,

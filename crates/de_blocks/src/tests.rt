@@ -1,1 +1,315 @@
-// Tests.
+// Blocks and their first faults, as an independent reader in exact arithmetic gives them.
+ghost use Rattle.std.specs.Prelude.{◌≡◌, ◌≤◌, IfOk, length};
+ghost use Rattle.spec_ephemeris.specs.Examples.{column, four_columns};
+ghost use Rattle.spec_text.specs.declared.limits.TheConstants.{MOST_TEXT_BYTES};
+
+use super::*;
+use de_text::{LineStep, Tokens};
+use spec_ephemeris::{Column, Columns, Header};
+use spec_text::{Decimal, MOST_TEXT_BYTES};
+use std::alloc::{AllocError, Global};
+use std::process::Abort;
+use std::test::Fail;
+
+// The lines of a block, from line 17 on. The header that stands before them is told by `four_columns`.
+const LINES: [&str; 10] = [
+    "1 26",
+    "0.245154450000000000D+07 0.245157650000000000D+07 0.0",
+    "0.138240000000000000D+07 0.0 0.0",
+    "0.0 0.0 0.0",
+    "0.0 0.0 0.0",
+    "0.0 0.0 0.0",
+    "0.0 0.0 0.0",
+    "0.0 0.0 0.0",
+    "0.0 0.0 0.0",
+    "0.0 0.0 0.0",
+];
+
+const HEADER_LINES: usize = 16;
+
+// Other lines at some places.
+type Changes = &'static [(usize, &'static str)];
+
+const ACCEPTED: [Changes; 3] = [
+    &[(18, "2451544.5 2451576.5 68719476735.9")],
+    &[(26, "0.0 0.0 0.0 0.0")],
+    &[(26, "0.0 0")],
+];
+
+// The line, the number and the detail of the first fault.
+const REFUSED: [(Changes, (u32, u8, u16)); 34] = [
+    (&[(17, "1")], (17, 30, 0)),
+    (&[(17, "1 27")], (17, 31, 0)),
+    (&[(17, "1 26 0")], (17, 30, 0)),
+    (&[(17, "1.0 26")], (17, 30, 0)),
+    (&[(17, "1 0000000026")], (17, 30, 0)),
+    (&[(17, "x 27")], (17, 30, 0)),
+    (
+        &[(18, "0.245154450000000000D+07 0.245156050000000000D+07 0.0")],
+        (18, 32, 0),
+    ),
+    (&[(18, "2451544.5 2451576.50001 0.0")], (18, 32, 0)),
+    (&[(18, "2451544.500001 x 0.0")], (18, 32, 0)),
+    (&[(18, "-1 x 0.0")], (18, 32, 0)),
+    (&[(18, "2451544.5 5000000.5 0.0")], (18, 32, 0)),
+    (&[(18, "2451544.5x 2451576.5 0.0")], (18, 34, 1)),
+    (&[(18, "2451544.5 1234567890123456789 0.0")], (18, 34, 2)),
+    (&[(18, "2451544.5 1e100 0.0")], (18, 34, 3)),
+    (&[(18, "2451544.5 2451576.5 0.1D+12")], (18, 35, 0)),
+    (&[(18, "2451544.5 2451576.5 -68719476736")], (18, 35, 0)),
+    (&[(26, "0.0 0.0 1D11")], (26, 39, 0)),
+    (&[(26, "0.0 0.0 1.0")], (26, 39, 0)),
+    (&[(26, "0.0 0.0 x")], (26, 39, 0)),
+    (&[(26, "0.0")], (27, 36, 0)),
+    (&[(26, "")], (27, 36, 0)),
+    (&[(26, "0.0 1d11 x")], (26, 35, 0)),
+    (&[(26, "0.0 x 1")], (26, 34, 1)),
+    (
+        &[(26, "0.0 0.0 0.0\n2 26\n2451576.5 2451608.5 0")],
+        (29, 36, 0),
+    ),
+    (
+        &[(26, "0.0 0.0 0.0\n2 26\n2451576.50001 2451608.5 x")],
+        (28, 32, 0),
+    ),
+    (
+        &[(26, "0.0 0.0 0.0\n2 26\n2451576.5 2451608.5 x")],
+        (28, 34, 1),
+    ),
+    (
+        &[(26, "0.0 0.0 0.0\n2 26\n2451577.5 2451609.5 x")],
+        (28, 33, 0),
+    ),
+    (
+        &[(26, "0.0 0.0 0.0\n2 26\n2451575.5 2451607.5 x")],
+        (28, 33, 0),
+    ),
+    (
+        &[(26, "0.0 0.0 0.0\n2 26\n2451543.5 2451575.5 x")],
+        (28, 34, 1),
+    ),
+    (
+        &[(26, "0.0 0.0 0.0\n2 26\n2451544.5 2451576.5 1D11")],
+        (28, 35, 0),
+    ),
+    (&[(26, "0.0 0.0 0.0\nGROUP 1010")], (27, 30, 0)),
+    (&[(26, "0.0 0.0 0.0\n2 26")], (28, 36, 0)),
+    (
+        &[
+            (18, ""),
+            (19, ""),
+            (20, ""),
+            (21, ""),
+            (22, ""),
+            (23, ""),
+            (24, ""),
+            (25, ""),
+            (26, ""),
+        ],
+        (27, 36, 0),
+    ),
+    (
+        &[
+            (17, ""),
+            (18, ""),
+            (19, ""),
+            (20, ""),
+            (21, ""),
+            (22, ""),
+            (23, ""),
+            (24, ""),
+            (25, ""),
+            (26, ""),
+        ],
+        (27, 37, 0),
+    ),
+];
+
+const fn column(start: u32, coefs: u32, granules: u32) -> Column
+    ensures { result ≡ column start coefs granules }
+{
+    Column {
+        start,
+        coefs,
+        granules,
+    }
+}
+
+// Mercury, the Earth-Moon barycentre, the Moon and the Sun, each with two coefficients and one granule.
+fn four_columns(alloc: Global) -> Result<Header, AllocError>
+    ensures { IfOk result (λ h. h ≡ four_columns) }
+{
+    let columns = [
+        column(3, 2, 1),
+        column(9, 0, 0),
+        column(9, 2, 1),
+        column(15, 0, 0),
+        column(15, 0, 0),
+        column(15, 0, 0),
+        column(15, 0, 0),
+        column(15, 0, 0),
+        column(15, 0, 0),
+        column(15, 2, 1),
+        column(21, 2, 1),
+        column(27, 0, 0),
+        column(27, 0, 0),
+    ];
+    Ok(Header {
+        ncoeff: 26,
+        block_seconds: 2_764_800,
+        emrat: Decimal {
+            mant: 810_000_000_000_000_000,
+            exp: -16,
+        },
+        columns: Columns::new(Vec::from_array(alloc, columns)?),
+    })
+}
+
+fn new_reader(alloc: Global) -> Result<BlockReader, AllocError> {
+    let header = four_columns(alloc)?;
+    Ok(BlockReader::new(alloc, header))
+}
+
+// The line with this number.
+fn line_of(changes: &[(usize, &'static str)], number: usize, line: &'static str) -> &'static str {
+    for (place, other) in changes {
+        if *place == number {
+            return *other;
+        }
+    }
+    line
+}
+
+// Blank lines in place of the header, and the lines of the block with other ones at some places.
+fn text_with(alloc: Global, changes: &[(usize, &'static str)]) -> Result<Vec<u8>, AllocError> {
+    let mut text = Vec::new(alloc);
+    for _ in 0..HEADER_LINES {
+        text.push(b'\n')?;
+    }
+    for (i, line) in LINES.iter().enumerate() {
+        let line = line_of(changes, i + HEADER_LINES + 1, *line);
+        text.extend_from_slice(line.as_bytes())?;
+        text.push(b'\n')?;
+    }
+    Ok(text)
+}
+
+// Gives a reader all lines of a text, those behind a fault too, and answers the number behind the last.
+fn read_text(reader: &mut BlockReader, text: &[u8]) -> u32
+    requires { length text.now ≤ MOST_TEXT_BYTES }
+{
+    let mut tokens = Tokens::new(text);
+    let end = tokens.end_line();
+    for _ in 0..end {
+        if let LineStep::Line(line) = tokens.line() {
+            let _answer = reader.line(&line);
+        }
+    }
+    end
+}
+
+fn read(rt: &impl Abort, reader: &mut BlockReader, text: &[u8]) -> u32 {
+    assert!(rt; text.len() <= MOST_TEXT_BYTES);
+    read_text(reader, text)
+}
+
+#[test]
+fn blocks_that_are_refused(rt: HostRuntime) -> Result<(), Fail> {
+    let alloc = rt.alloc();
+    for (i, (changes, (line, number, detail))) in REFUSED.iter().enumerate() {
+        let text = text_with(alloc, *changes)?;
+        let mut reader = new_reader(alloc)?;
+        let end = read(&rt, &mut reader, &text);
+        match reader.end(end) {
+            Err(BlockError::Fault(fault)) => {
+                assert_eq!(rt; fault.line, *line, "the line of case {i}");
+                assert_eq!(rt; fault.number, *number, "the number of case {i}");
+                assert_eq!(rt; fault.detail, *detail, "the detail of case {i}");
+            }
+            Err(BlockError::Memory) => assert!(rt; false, "no memory in case {i}"),
+            Ok(_) => assert!(rt; false, "case {i} is accepted"),
+        }
+    }
+    Ok(())
+}
+
+#[test]
+fn blocks_that_are_accepted(rt: HostRuntime) -> Result<(), Fail> {
+    let alloc = rt.alloc();
+    for (i, changes) in ACCEPTED.iter().enumerate() {
+        let text = text_with(alloc, *changes)?;
+        let mut reader = new_reader(alloc)?;
+        let end = read(&rt, &mut reader, &text);
+        match reader.end(end) {
+            Ok(ephemeris) => {
+                assert_eq!(rt; ephemeris.blocks(), 1, "the blocks of case {i}");
+                assert_eq!(rt; ephemeris.start(), -43_200, "the start of case {i}");
+                assert_eq!(rt; ephemeris.end(), 2_721_600, "the end of case {i}");
+            }
+            Err(_) => assert!(rt; false, "case {i} is refused"),
+        }
+    }
+    Ok(())
+}
+
+// A second file begins with the block of the first, and goes on with the next block.
+#[test]
+fn a_repeated_block_is_passed_over(rt: HostRuntime) -> Result<(), Fail> {
+    let alloc = rt.alloc();
+    let mut reader = new_reader(alloc)?;
+    let first = text_with(alloc, &[])?;
+    let _end = read(&rt, &mut reader, &first);
+    let _end = read(&rt, &mut reader, &first);
+    let second = text_with(alloc, &[(17, "2 26"), (18, "2451576.5 2451608.5 5")])?;
+    let end = read(&rt, &mut reader, &second);
+    match reader.end(end) {
+        Ok(ephemeris) => {
+            assert_eq!(rt; ephemeris.blocks(), 2);
+            assert_eq!(rt; ephemeris.start(), -43_200);
+            assert_eq!(rt; ephemeris.end(), 5_486_400);
+        }
+        Err(_) => assert!(rt; false, "the blocks are refused"),
+    }
+    Ok(())
+}
+
+fn is_gap(answer: &Result<(), BlockError>) -> bool {
+    matches!(
+        answer,
+        Err(BlockError::Fault(Fault {
+            line: 18,
+            number: 33,
+            detail: 0
+        }))
+    )
+}
+
+fn check_refusal(rt: &impl Abort, reader: &mut BlockReader, text: &[u8]) {
+    assert!(rt; text.len() <= MOST_TEXT_BYTES);
+    let mut tokens = Tokens::new(text);
+    for k in 0..4 {
+        if let LineStep::Line(line) = tokens.line() {
+            let answer = reader.line(&line);
+            assert!(rt; k == 0 || is_gap(&answer), "line {k}");
+        }
+    }
+}
+
+// A block after a gap: the lines behind it, and the end, give the same fault.
+#[test]
+fn a_refusal_is_given_again(rt: HostRuntime) -> Result<(), Fail> {
+    let alloc = rt.alloc();
+    let mut reader = new_reader(alloc)?;
+    let first = text_with(alloc, &[])?;
+    let _end = read(&rt, &mut reader, &first);
+    let late = text_with(alloc, &[(18, "2451608.5 2451640.5 0")])?;
+    check_refusal(&rt, &mut reader, &late);
+    match reader.end(1) {
+        Err(BlockError::Fault(fault)) => {
+            assert_eq!(rt; fault.line, 18);
+            assert_eq!(rt; fault.number, 33);
+        }
+        _ => assert!(rt; false, "another answer at the end"),
+    }
+    Ok(())
+}

@@ -6,8 +6,8 @@ use Rattle.spec_enclosures.specs.Enclosures.{velocity_over, velocity_interval, a
 use Rattle.spec_enclosures.proofs.HeldChanges.{Holds-velocity}
 use Rattle.cheby_enclose.specs.Granules.{series_of}
 use Rattle.cheby_enclose.proofs.GranuleSeries.{IsSeries-of, IsSpan-of}
-use Rattle.cheby_difference.proofs.changes.velocity.Goals as goal
-use Rattle.cheby_difference.proofs.changes.velocity.Goals.{After-velocity_over}
+use Rattle.cheby_difference.proofs.velocities.velocity.Goals as goal
+use Rattle.cheby_difference.proofs.velocities.velocity.Goals.{After-velocity_over}
 
 equals : (c : After-velocity_over) → c.velocity_over.result ≡ velocity_interval (series_of c.args.g.now c.args.axis) c.args.a c.args.b
 equals c =

@@ -1,6 +1,7 @@
 // Values from an exact reference.
-ghost use Rattle.std.specs.Prelude.{◌≡◌, ◌<◌, ◌≤◌, All, IfOk, length};
+ghost use Rattle.std.specs.Prelude.{◌≡◌, ◌<◌, ◌≤◌, All, IfOk, length, ◌≤ℤ◌, ◌+ℤ◌};
 ghost use Rattle.spec_ephemeris.specs.Ephemeris.{IsBodyNumber};
+ghost use Rattle.cheby_enclose.specs.Granules.{IsEvaluable};
 
 use crate::{position_step, velocity, velocity_step};
 use eph_model::Granule;
@@ -132,11 +133,21 @@ fn enclosed(
         comps,
         coefs: &coefs,
     };
-    Ok([
-        position_step(&granule, axis, a, b),
-        velocity(&granule, axis, a, b),
-        velocity_step(&granule, axis, a, b),
-    ])
+    Ok(all_three(&granule, axis, a, b))
+}
+
+fn all_three(g: &Granule, axis: usize, a: i64, b: i64) -> [Ival; 3]
+    requires granule { IsEvaluable g.now }
+    requires axis { axis < g.now.comps }
+    requires from { g.now.start ≤ℤ a }
+    requires order { a ≤ℤ b }
+    requires upto { b ≤ℤ (g.now.start +ℤ g.now.seconds) }
+{
+    [
+        position_step(g, axis, a, b),
+        velocity(g, axis, a, b),
+        velocity_step(g, axis, a, b),
+    ]
 }
 
 fn parts(

@@ -6,10 +6,12 @@
 //! coefficients' intervals and the bases once and take sums over them. No call takes memory or fails.
 #![tactic(auto)]
 
-mod changes;
+mod positions;
 mod scaled;
 #[cfg(test)]
 mod tests;
+mod velocities;
 
-pub use changes::{position_step, velocity, velocity_step};
+pub use positions::position_step;
 pub use scaled::{position_step_over, velocity_over, velocity_step_over};
+pub use velocities::{velocity, velocity_step};

@@ -39,7 +39,8 @@ impl Terms {
     pub fn of(g: &Granule, axis: usize) -> Self
         requires granule { IsEvaluable g.now }
         requires axis { axis < g.now.comps }
-        ensures { result ≡ coefficients_of (series_of g.now axis) }
+        ensures terms { result ≡ coefficients_of (series_of g.now axis) }
+        ensures count { length result ≡ g.now.n }
     {
         let from = axis * g.n;
         Terms::of_slice(&g.coefs[from..from + g.n])

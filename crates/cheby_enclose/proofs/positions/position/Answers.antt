@@ -16,7 +16,7 @@ equals c =
     let b = c.ranges.b in
     let e : c.arguments.result ≡ arguments (series_of c.args.g.now c.args.axis) c.args.a c.args.b = simp to_z-of_z at (c.arguments.ensures.equals c.args.axis) in
     let x : c.over-bases.result.arguments ≡ arguments (series_of c.args.g.now c.args.axis) c.args.a c.args.b = c.over-bases.ensures.arguments ∙ e in
-    let t = c.of-terms.ensures in
+    let t = c.of-terms.ensures.terms in
     c.position_over.ensures ∙ λ i. position_over (t i) (x i)
 
 pub returns-clause-equals : goal.returns-clause-equals

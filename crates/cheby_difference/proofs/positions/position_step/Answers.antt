@@ -2,25 +2,25 @@ use Rattle.std.proofs.Common.{rules, ◌≡◌, ◌∙◌, ◌<ℤ◌, true, sym
 use Rattle.std.proofs.lemmas.Int.{to_z-of_z}
 use mir.Val.{SFits}
 use lib.Signed.{lt_z}
-use Rattle.spec_enclosures.specs.Enclosures.{velocity_step_over, velocity_step_interval, arguments}
-use Rattle.spec_enclosures.proofs.HeldChanges.{Holds-velocity_step}
+use Rattle.spec_enclosures.specs.Enclosures.{position_step_over, position_step_interval, arguments}
+use Rattle.spec_enclosures.proofs.HeldChanges.{Holds-position_step}
 use Rattle.cheby_enclose.specs.Granules.{series_of}
 use Rattle.cheby_enclose.proofs.GranuleSeries.{IsSeries-of, IsSpan-of}
-use Rattle.cheby_difference.proofs.changes.velocity_step.Goals as goal
-use Rattle.cheby_difference.proofs.changes.velocity_step.Goals.{After-velocity_step_over}
+use Rattle.cheby_difference.proofs.positions.position_step.Goals as goal
+use Rattle.cheby_difference.proofs.positions.position_step.Goals.{After-position_step_over}
 
-equals : (c : After-velocity_step_over) → c.velocity_step_over.result ≡ velocity_step_interval (series_of c.args.g.now c.args.axis) c.args.a c.args.b
+equals : (c : After-position_step_over) → c.position_step_over.result ≡ position_step_interval (series_of c.args.g.now c.args.axis) c.args.a c.args.b
 equals c =
     let a = c.ranges.a in
     let b = c.ranges.b in
     let s = series_of c.args.g.now c.args.axis in
     let e : c.arguments.result ≡ arguments s c.args.a c.args.b = simp to_z-of_z at (c.arguments.ensures.equals c.args.axis) in
-    let x : c.slope_differences-bases.result.arguments ≡ arguments s c.args.a c.args.b = c.slope_differences-bases.ensures.arguments ∙ e in
-    let t = c.of-terms.ensures in
+    let x : c.differences-bases.result.arguments ≡ arguments s c.args.a c.args.b = c.differences-bases.ensures.arguments ∙ e in
+    let t = c.of-terms.ensures.terms in
     let n : SFits w64 c.args.g.now.seconds = search rules in
-    let r : c.velocity_step_over.result ≡ velocity_step_over c.of-terms.result c.slope_differences-bases.result.arguments (unsigned_abs c.args.g.now.seconds) = simp to_z-of_z at c.velocity_step_over.ensures in
+    let r : c.position_step_over.result ≡ position_step_over c.of-terms.result c.differences-bases.result.arguments (unsigned_abs c.args.g.now.seconds) = simp to_z-of_z at c.position_step_over.ensures in
     let w : lt_z c.args.a c.args.b ≡ true = simp to_z-of_z at c.if-a-b.true in
-    rw w (r ∙ λ i. velocity_step_over (t i) (x i) (unsigned_abs c.args.g.now.seconds))
+    rw w (r ∙ λ i. position_step_over (t i) (x i) (unsigned_abs c.args.g.now.seconds))
 
 pub returns-then-a-b-clause-equals : goal.returns-then-a-b-clause-equals
 returns-then-a-b-clause-equals c = equals c
@@ -29,4 +29,4 @@ pub returns-then-a-b-clause-holds : goal.returns-then-a-b-clause-holds
 returns-then-a-b-clause-holds c t from to =
     let is = IsSeries-of c.args.g.now c.requires.granule c.args.axis c.requires.axis in
     let span = IsSpan-of c.args.g.now c.requires.granule c.args.axis c.requires.axis c.args.a c.args.b c.requires.from c.requires.order c.requires.upto in
-    rw (equals c) (Holds-velocity_step (series_of c.args.g.now c.args.axis) c.args.a c.args.b is span t from to)
+    rw (equals c) (Holds-position_step (series_of c.args.g.now c.args.axis) c.args.a c.args.b is span t from to)

@@ -6,8 +6,8 @@ use Rattle.spec_enclosures.specs.Enclosures.{velocity_over, velocity_interval, a
 use Rattle.spec_enclosures.proofs.HeldChanges.{Holds-velocity}
 use Rattle.cheby_enclose.specs.Granules.{series_of}
 use Rattle.cheby_enclose.proofs.GranuleSeries.{IsSeries-of, IsSpan-of}
-use Rattle.cheby_difference.proofs.changes.velocity.Goals as goal
-use Rattle.cheby_difference.proofs.changes.velocity.Goals.{After-velocity_over}
+use Rattle.cheby_difference.proofs.velocities.velocity.Goals as goal
+use Rattle.cheby_difference.proofs.velocities.velocity.Goals.{After-velocity_over}
 
 equals : (c : After-velocity_over) → c.velocity_over.result ≡ velocity_interval (series_of c.args.g.now c.args.axis) c.args.a c.args.b
 equals c =
@@ -16,7 +16,7 @@ equals c =
     let s = series_of c.args.g.now c.args.axis in
     let e : c.arguments.result ≡ arguments s c.args.a c.args.b = simp to_z-of_z at (c.arguments.ensures.equals c.args.axis) in
     let x : c.slopes-bases.result.arguments ≡ arguments s c.args.a c.args.b = c.slopes-bases.ensures.arguments ∙ e in
-    let t = c.of-terms.ensures in
+    let t = c.of-terms.ensures.terms in
     let n : SFits w64 c.args.g.now.seconds = search rules in
     let r : c.velocity_over.result ≡ velocity_over c.of-terms.result c.slopes-bases.result.arguments (unsigned_abs c.args.g.now.seconds) = simp to_z-of_z at c.velocity_over.ensures in
     r ∙ λ i. velocity_over (t i) (x i) (unsigned_abs c.args.g.now.seconds)

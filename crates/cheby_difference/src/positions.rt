@@ -1,0 +1,48 @@
+// Changes of a position from each time of a span to the next.
+ghost use Rattle.std.specs.Prelude.{◌≡◌, ℕ, ◌<◌, ◌≤◌, ℤ, ◌≤ℤ◌, ◌<ℤ◌, ◌+ℤ◌};
+ghost use Rattle.spec_intervals.specs.Fraction.{Holds};
+ghost use Rattle.spec_chebyshev.specs.Rows.{q_row, entry, IsArguments};
+ghost use Rattle.spec_ephemeris.specs.Series.{position};
+ghost use Rattle.spec_enclosures.specs.Velocity.{change};
+ghost use Rattle.spec_enclosures.specs.Enclosures.{zero_interval, position_step_interval};
+ghost use Rattle.cheby_enclose.specs.Granules.{IsEvaluable, series_of};
+
+use crate::scaled::position_step_over;
+use cheby_enclose::{Bases, Terms, arguments};
+use cheby_laws::basis_q;
+use eph_model::Granule;
+use ival_core::Ival;
+use spec_chebyshev::Ival62;
+
+/// The interval of the changes of one coordinate of a granule, in km, from each time to the next, from time `a` to time
+/// `b`, in seconds of TDB since J2000. Over one time nothing changes. Axes are counted from 0.
+pub fn position_step(g: &Granule, axis: usize, a: i64, b: i64) -> Ival
+    requires granule { IsEvaluable g.now }
+    requires axis { axis < g.now.comps }
+    requires from { g.now.start ≤ℤ a }
+    requires order { a ≤ℤ b }
+    requires upto { b ≤ℤ (g.now.start +ℤ g.now.seconds) }
+    ensures equals { result ≡ position_step_interval (series_of g.now axis) a b }
+    ensures holds { (t : ℤ) → a ≤ℤ t → t <ℤ b → Holds result (change (position (series_of g.now axis)) t) }
+    ensures one_time { a ≡ b → result ≡ zero_interval }
+{
+    if a < b {
+        let terms = Terms::of(g, axis);
+        let bases = differences(arguments(g, a, b), g.n);
+        position_step_over(&terms, &bases, g.seconds)
+    } else {
+        Ival::zero()
+    }
+}
+
+// The rows of T and Q.
+fn differences(arguments: Ival62, n: usize) -> Bases
+    requires arguments { IsArguments arguments }
+    requires few { n ≤ 32 }
+    ensures arguments { result.arguments ≡ arguments }
+    ensures q { (k : ℕ) → k < n → entry result.rows.q k ≡ q_row arguments k }
+{
+    let mut bases = Bases::over(arguments, n);
+    basis_q(arguments, n, &mut bases.rows);
+    bases
+}

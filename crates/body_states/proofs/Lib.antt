@@ -1,1 +1,3 @@
 pub mod Masses
+pub mod Good
+pub mod SeriesParts

@@ -38,3 +38,7 @@ ceil_whole n d some not_less = let under = div-mul-le_self n d in sym (ceil_div-
 
 pub kept : (n d : ℕ) → 0 < d → n ≤ d → d ≤ n * 2 ^ 60 → narrow (floor_div (pos (n * 2 ^ 60)) d) (ceil_div (pos (n * 2 ^ 60)) d) (neg_ℤ (pos 60)) ≡ factor_interval (record { numerator = pos n; denominator = d })
 kept n d some few enough = narrowed_factor (pos n) d some (omega (arith, ints, enough)) (omega (arith, few))
+
+pub down_is : (q : ℤ) → q <ℤ pos 0 → unsigned_abs q ≡ down q
+down_is (pos n) below = absurd (omega (arith, ints, below))
+down_is (negsuc n) below = refl

@@ -132,6 +132,17 @@ fn sum_of_halves(alloc: Global, count: u32) -> Result<Expr, AllocError>
     Ok(total)
 }
 
+/// The product of so many cosines 1/2.
+fn product_of_halves(alloc: Global, count: u32) -> Result<Expr, AllocError>
+    ensures { IfOk result HasLeaves }
+{
+    let mut total = cosine(5, -1);
+    for _ in 1..count {
+        total = product(alloc, total, cosine(5, -1))?;
+    }
+    Ok(total)
+}
+
 /// The product of so many of one length.
 fn product_of_lengths(alloc: Global, count: u32, km: i64) -> Result<Expr, AllocError>
     ensures { IfOk result HasLeaves }
@@ -160,12 +171,8 @@ fn nodes_are_counted_before_degrees_and_degrees_before_constants(
     let alloc = rt.alloc();
     check(&rt, sum_of_halves(alloc, 64)?, None);
     check(&rt, sum_of_halves(alloc, 65)?, Some(ExprFault::Nodes));
-    check(&rt, product_of_lengths(alloc, 16, 1)?, None);
-    check(
-        &rt,
-        product_of_lengths(alloc, 17, 1)?,
-        Some(ExprFault::Degree),
-    );
+    check(&rt, product_of_halves(alloc, 16)?, None);
+    check(&rt, product_of_halves(alloc, 17)?, Some(ExprFault::Degree));
     let too_long = product_of_lengths(alloc, 17, 68_719_476_736)?;
     check(&rt, too_long, Some(ExprFault::Degree));
     let long = product_of_lengths(alloc, 65, 68_719_476_736)?;

@@ -3,3 +3,4 @@ pub mod Words
 pub mod Files
 pub mod Faults
 pub mod Answers
+pub mod StandIn

@@ -7,6 +7,7 @@ ghost use Rattle.de_text.specs.Steps.{lines_after, step_of};
 
 use crate::lines::{cut_line, line_count};
 use crate::tokens::{count, cut_token, token};
+use crate::words::Words;
 use spec_text::{MOST_LINE_BYTES, MOST_TEXT_BYTES};
 use std::marker::Model;
 
@@ -49,6 +50,13 @@ impl<'a> Line<'a> {
         ensures { option_copied result ≡ slice_get self.now.tokens i }
     {
         token(self.bytes, i)
+    }
+
+    /// A cursor over the line's tokens, from left to right.
+    pub fn words(&self) -> Words<'a>
+        ensures { result ≡ self.now.tokens }
+    {
+        Words { rest: self.bytes }
     }
 }
 

@@ -10,8 +10,10 @@ mod parts;
 #[cfg(test)]
 mod tests;
 mod tokens;
+mod words;
 
 pub use cursor::{Line, LineStep, Tokens};
 pub use decimal::{read_decimal, read_whole};
 pub use examples::a_cursor_steps_from_line_to_line;
 pub use spec_text::{Decimal, Fault, NumberFault};
+pub use words::Words;

@@ -112,6 +112,29 @@ fn words_that_have_a_fault(rt: HostRuntime) {
     assert!(rt; numbers == [1, 2, 3]);
 }
 
+// The words of a line are these, and none come behind them.
+fn check_words(rt: &impl Abort, line: &Line<'_>, tokens: &[&[u8]]) {
+    let number = line.number();
+    let mut words = line.words();
+    for i in 0..tokens.len() {
+        assert!(rt;
+            words.next() == Some(tokens[i]),
+            "word {i} of line {number}"
+        );
+    }
+    assert!(rt; words.next().is_none(), "no further word of line {number}");
+    assert!(rt; words.next().is_none(), "none again");
+    let mut count = 0;
+    for word in line.words() {
+        assert!(rt;
+            count < tokens.len() && word == tokens[count],
+            "word {count} of line {number} in a loop"
+        );
+        count += 1;
+    }
+    assert!(rt; count == tokens.len(), "the words of line {number}");
+}
+
 // The cursor meets a line with this number and these tokens.
 fn check_line(rt: &impl Abort, step: &LineStep<'_>, number: u32, tokens: &[&[u8]]) {
     match step {
@@ -128,6 +151,7 @@ fn check_line(rt: &impl Abort, step: &LineStep<'_>, number: u32, tokens: &[&[u8]
                 line.token(tokens.len()).is_none(),
                 "no further token of line {number}"
             );
+            check_words(rt, line, tokens);
         }
         LineStep::TooLong(_) => assert!(rt; false, "line {number} is too long"),
         LineStep::End => assert!(rt; false, "no line {number}"),

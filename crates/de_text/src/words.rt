@@ -1,0 +1,34 @@
+// A cursor over the tokens of a line.
+ghost use Rattle.std.specs.Iterator.{YieldsFirstRef, item_count};
+
+use crate::tokens::cut_token;
+use std::marker::Model;
+
+/// A cursor over the tokens of a line, from left to right. Its value is the list of those that are left.
+#[derive(Debug, Drop)]
+pub struct Words<'a> {
+    pub(crate) rest: &'a [u8],
+}
+
+impl<'a> Model for Words<'a> {
+    ghost use Rattle.std.specs.Prelude.{List, ℕ};
+    ghost use Rattle.spec_text.specs.Lines.{tokens};
+
+    ghost Value = { List (List ℕ) };
+
+    ghost view = { λ w. tokens w.rest.now };
+}
+
+impl<'a> Iterator for Words<'a> {
+    type Item = &'a [u8];
+
+    ghost next_gives = { YieldsFirstRef (λ left. left) };
+
+    ghost remaining = { item_count (λ left. left) };
+
+    fn next(&mut self) -> Option<&'a [u8]> {
+        let (word, rest) = cut_token(self.rest)?;
+        self.rest = rest;
+        Some(word)
+    }
+}

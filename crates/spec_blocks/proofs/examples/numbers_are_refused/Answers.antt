@@ -1,0 +1,23 @@
+use Rattle.std.proofs.Common.{refl}
+use Rattle.spec_blocks.specs.Blocks.{blocks}
+use Rattle.spec_blocks.proofs.examples.numbers_are_refused.Goals as goal
+
+pub returns-clause-no_number : goal.returns-clause-no_number
+unfolding blocks
+returns-clause-no_number c = refl
+
+pub returns-clause-many_digits : goal.returns-clause-many_digits
+unfolding blocks
+returns-clause-many_digits c = refl
+
+pub returns-clause-too_large : goal.returns-clause-too_large
+unfolding blocks
+returns-clause-too_large c = refl
+
+pub returns-clause-first_of_two : goal.returns-clause-first_of_two
+unfolding blocks
+returns-clause-first_of_two c = refl
+
+pub returns-clause-of_a_block_passed_over : goal.returns-clause-of_a_block_passed_over
+unfolding blocks
+returns-clause-of_a_block_passed_over c = refl

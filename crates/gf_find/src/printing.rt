@@ -1,13 +1,10 @@
 // The text of a report.
 ghost use Rattle.std.specs.Prelude.{◌≡◌, ◌++◌, codes, IfOk, OnOk};
 ghost use Rattle.std.specs.Fmt.{decimal, signed_decimal};
-ghost use Rattle.spec_output.specs.Report.{certain_count, line_of, report, times, undecided_count, window_lines};
+ghost use Rattle.spec_output.specs.Report.{certain_count, line_of, report, request_line, request_text, times, undecided_count, window_lines};
 
 use spec_events::{Holds, Turn, Window};
 use std::alloc::{AllocError, Global};
-
-const REQUEST_LINE: &[u8] =
-    b"FIND coord target mercury second - observer ssb frame eq axis x values 0 dir any width 1 depth 40 cut half span -43200 2721600\n";
 
 fn add_time(text: &mut Vec<u8>, time: i64) -> Result<(), AllocError>
     ensures { OnOk result (text.new.items ≡ text.old.items ++ signed_decimal time) }
@@ -126,14 +123,44 @@ fn add_rest(
     add_counts(text, one, n, two, m, stop)
 }
 
-/// The report of the windows that the one request finds.
-pub(crate) fn report(alloc: Global, windows: &[Window]) -> Result<Vec<u8>, AllocError>
-    ensures { IfOk result (λ v. v.items ≡ report windows.now) }
+// The request, up to its span.
+fn request_text() -> &'static [u8]
+    ensures { result.now ≡ request_text }
+{
+    b"FIND coord target mercury second - observer ssb frame eq axis x values 0 dir any width 1 depth 40 cut half span "
+}
+
+// The request, and the first and last time of its span.
+fn add_request(
+    text: &mut Vec<u8>,
+    request: &[u8],
+    from: i64,
+    between: &[u8],
+    to: i64,
+    stop: &[u8],
+) -> Result<(), AllocError>
+    ensures { OnOk result (text.new.items ≡ text.old.items ++ (request.now ++ signed_decimal from ++ between.now ++ signed_decimal to ++ stop.now)) }
+{
+    text.extend_from_slice(request)?;
+    add_time(text, from)?;
+    text.extend_from_slice(between)?;
+    add_time(text, to)?;
+    text.extend_from_slice(stop)
+}
+
+/// The report of the windows that the one request finds from one time to another.
+pub(crate) fn report(
+    alloc: Global,
+    from: i64,
+    to: i64,
+    windows: &[Window],
+) -> Result<Vec<u8>, AllocError>
+    ensures { IfOk result (λ v. v.items ≡ report from to windows.now) }
 {
     let certain = certain_count(windows);
     let undecided = undecided_count(windows);
     let mut text = Vec::new(alloc);
-    text.extend_from_slice(REQUEST_LINE)?;
+    add_request(&mut text, request_text(), from, b" ", to, b"\n")?;
     add_rest(
         &mut text,
         windows,

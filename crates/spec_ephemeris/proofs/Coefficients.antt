@@ -5,8 +5,8 @@ use Rattle.spec_text.specs.Lines.{Numbered, tokens}
 use Rattle.spec_text.specs.Reading.{Reads}
 use Rattle.spec_text.specs.declared.decimals.Decimal.{Decimal}
 use Rattle.spec_text.proofs.Answering.{one_answer, bounds}
-use Rattle.spec_ephemeris.specs.OneBlock.{Cell, word, constant, slope, constant_row, slope_row, MeetCells, MeetRows, IsCoefficient}
-use Rattle.spec_ephemeris.specs.Series.{IsInUnits}
+use Rattle.spec_ephemeris.specs.OneBlock.{Cell, word, constant, slope, constant_row, slope_row, MeetCells, MeetRows}
+use Rattle.spec_ephemeris.specs.Series.{IsCoefficient, IsInUnits}
 
 -- behind the rows before them, rows tell of the same lines
 behind : {P : Type 0} (before rows : List (List Cell)) (lines : List Numbered) (a b c d : Decimal)

@@ -2,3 +2,4 @@ pub mod Rows
 pub mod Coefficients
 pub mod HeaderTest
 pub mod Granules
+pub mod Lines

@@ -1,11 +1,12 @@
 -- Small series with round values.
-use Rattle.std.specs.Prelude.{◌≡◌, ℕ, List, ◌++◌, codes, [], ◌∷◌, ℤ, pos, neg_ℤ, ◌*ℤ◌}
+use Rattle.std.specs.Prelude.{◌≡◌, ℕ, List, ◌++◌, codes, replicate, [], ◌∷◌, ℤ, pos, neg_ℤ, ◌*ℤ◌}
 use Rattle.spec_text.specs.declared.decimals.Decimal.{Decimal}
 use Rattle.spec_intervals.specs.Fraction.{Fraction}
 use Rattle.spec_ephemeris.specs.declared.header.Column.{Column}
 use Rattle.spec_ephemeris.specs.declared.header.Header.{Header}
 use Rattle.spec_ephemeris.specs.Series.{Series}
-use Rattle.spec_ephemeris.specs.OneBlock.{Cell, fixed_rows, header_text, mercury_x, zeros_text}
+use Rattle.spec_ephemeris.specs.OneBlock.{Cell, fixed_rows, header_text, zeros_text}
+use Rattle.spec_ephemeris.specs.Ephemeris.{Ephemeris}
 
 abbrev pub whole : ℤ → Decimal
 whole m = record { mant = m; exp = pos 0 }
@@ -14,9 +15,13 @@ whole m = record { mant = m; exp = pos 0 }
 abbrev pub IsKm : Fraction → ℤ → Type 0
 IsKm r km = r.numerator ≡ km *ℤ pos r.denominator
 
--- Mercury's x where it grows by 1 km each second, from 0.138240000000000000D+07 km below 0 to as much above 0
+-- x over 32 days where it grows by 1 km each second, from 0.138240000000000000D+07 km below 0 to as much above 0
 abbrev pub growing_x : Series
-growing_x = mercury_x (whole (pos 0)) (record { mant = pos 138240000000000000; exp = neg_ℤ (pos 11) })
+growing_x = record {
+  start = neg_ℤ (pos 43200);
+  duration = 2764800;
+  coefficients = whole (pos 0) ∷ record { mant = pos 138240000000000000; exp = neg_ℤ (pos 11) } ∷ [];
+}
 
 -- the text that says so
 abbrev pub growing_text : List ℕ
@@ -69,3 +74,17 @@ overlapping = record {
       column 3 2 1 ∷ column 8 2 1 ∷ column 15 0 0 ∷ column 15 0 0 ∷ column 15 0 0 ∷ column 15 0 0 ∷ column 15 0 0
       ∷ column 15 0 0 ∷ column 15 0 0 ∷ column 15 0 0 ∷ column 15 0 0 ∷ column 15 0 0 ∷ column 15 0 0 ∷ [];
 }
+
+-- blocks of that header, with these numbers
+abbrev pub of_four_columns : ℕ → List Decimal → Ephemeris
+of_four_columns blocks numbers = record { header = four_columns; start = neg_ℤ (pos 43200); blocks = blocks; numbers = numbers }
+
+-- one block: its two Julian dates, then the two coefficients of Mercury's x
+abbrev pub growing_block : List Decimal
+growing_block =
+    record { mant = pos 245154450000000000; exp = neg_ℤ (pos 11) } ∷ record { mant = pos 245157650000000000; exp = neg_ℤ (pos 11) }
+    ∷ whole (pos 0) ∷ record { mant = pos 138240000000000000; exp = neg_ℤ (pos 11) } ∷ replicate 22 (whole (pos 0))
+
+-- Mercury is absent
+abbrev pub without_mercury : Ephemeris
+without_mercury = record { header = record four_columns { columns = column 3 0 0 ∷ [] }; start = neg_ℤ (pos 43200); blocks = 1; numbers = growing_block }

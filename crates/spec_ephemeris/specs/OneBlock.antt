@@ -1,24 +1,9 @@
 -- The one form of file that is read so far: a fixed header and one block, in which Mercury's x is a line.
-use Rattle.std.specs.Prelude.{◌≡◌, ◌⊎◌, ℕ, ◌+◌, List, [], ◌∷◌, ◌++◌, length, map, codes, false, Ok, ℤ, pos, neg_ℤ}
+use Rattle.std.specs.Prelude.{◌≡◌, ◌⊎◌, ℕ, ◌+◌, List, [], ◌∷◌, ◌++◌, length, map, codes, false, Ok}
 use Rattle.spec_text.specs.Lines.{Numbered, is_too_long, lines, text_lines, tokens}
 use Rattle.spec_text.specs.Reading.{Reads}
 use Rattle.spec_text.specs.declared.decimals.Decimal.{Decimal}
-use Rattle.spec_intervals.specs.Interval.{IsDistance}
-use Rattle.spec_ephemeris.specs.Series.{Series}
-
--- the block's first and last time, and its length
-abbrev pub block_start : ℤ
-block_start = neg_ℤ (pos 43200)
-
-abbrev pub block_end : ℤ
-block_end = pos 2721600
-
-abbrev pub block_duration : ℕ
-block_duration = 2764800
-
--- Mercury's x over the block, of its two coefficients
-abbrev pub mercury_x : Decimal → Decimal → Series
-mercury_x c0 c1 = record { start = block_start; duration = block_duration; coefficients = c0 ∷ c1 ∷ [] }
+use Rattle.spec_ephemeris.specs.Series.{IsCoefficient}
 
 -- what stands at a place of a line: a fixed word, or one of the two coefficients
 pub data Cell : Type 0 where
@@ -75,10 +60,6 @@ zeros_text =
 
 abbrev pub form : List (List Cell)
 form = fixed_rows header_text ++ (constant_row ∷ slope_row ∷ fixed_rows zeros_text)
-
--- a coefficient of a position is below 2^36 km in size
-abbrev pub IsCoefficient : Decimal → Type 0
-IsCoefficient d = IsDistance d.mant d.exp
 
 -- the token is the cell's, where the coefficients are c0 and c1
 abbrev pub MeetsCell : Decimal → Decimal → Cell → List ℕ → Type 0

@@ -3,6 +3,7 @@
 use Rattle.std.specs.Prelude.{ℕ, suc, ◌*◌, ◌-◌, ◌^◌, List, [], ◌∷◌, length, ℤ, pos, negsuc, ◌+ℤ◌, ◌-ℤ◌, ◌*ℤ◌, neg_ℤ, ◌≤ℤ◌}
 use Rattle.spec_text.specs.declared.decimals.Decimal.{Decimal}
 use Rattle.spec_intervals.specs.Fraction.{Fraction}
+use Rattle.spec_intervals.specs.Interval.{IsDistance}
 use Rattle.spec_intervals.specs.Chebyshev.{cleared_t, power}
 
 -- a granule begins at `start` and takes `duration`; over it the coordinate is the sum of c_k T_k, with c_0 first
@@ -22,6 +23,10 @@ to_nat (negsuc n) = 0
 -- a whole number of units of 10^-140, as each decimal of a file is
 abbrev pub IsInUnits : Decimal → Type 0
 IsInUnits d = neg_ℤ (pos 140) ≤ℤ d.exp
+
+-- a coefficient of a position is below 2^36 km in size
+abbrev pub IsCoefficient : Decimal → Type 0
+IsCoefficient d = IsDistance d.mant d.exp
 
 -- in these units
 abbrev pub scaled : Decimal → ℤ

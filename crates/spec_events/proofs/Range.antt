@@ -1,7 +1,8 @@
--- The interval of x from one time to another holds x at each time between.
-use Rattle.std.proofs.Common.{◌≡◌, ℕ, ◌+◌, ◌-◌, ◌*◌, ◌^◌, arith, refl, sym, ap, ◌∙◌, subst, [], ◌∷◌, ℤ, pos, negsuc, ◌+ℤ◌, ◌*ℤ◌, neg_ℤ, ◌≤ℤ◌}
+-- The interval of a line from one time to another holds it at each time between.
+use Rattle.std.proofs.Common.{◌≡◌, ℕ, ◌+◌, ◌-◌, ◌*◌, ◌^◌, ◌<◌, List, arith, pow-suc, refl, sym, ap, ◌∙◌, subst, [], ◌∷◌, ℤ, pos, negsuc, ◌+ℤ◌, ◌*ℤ◌, neg_ℤ, ◌≤ℤ◌}
 use Rattle.std.proofs.lemmas.Int.{ints}
 use Rattle.std.proofs.lemmas.Nat.{pow-add}
+use Rattle.std.proofs.Math.Nat.{pow-zero}
 use borrow.Author.Differences.{up, down}
 use Rattle.spec_intervals.specs.Interval.{floor_div, ceil_div, decimal_top, decimal_bottom, from_decimal, Interval}
 use Rattle.spec_intervals.proofs.Ring.{v, k as lit, ◌⊕◌, ◌⊗◌, ring}
@@ -9,10 +10,11 @@ use Rattle.spec_intervals.proofs.Order.{lin, le-mul}
 use Rattle.spec_intervals.proofs.Floor.{floor_div-le, ceil_div-ge}
 use Rattle.spec_intervals.proofs.Decimals.{bottom_pos}
 use Rattle.spec_text.specs.declared.decimals.Decimal.{Decimal}
-use Rattle.spec_intervals.specs.Fraction.{Holds}
+use Rattle.spec_intervals.specs.Fraction.{Fraction, Holds}
 use Rattle.spec_intervals.proofs.Holding.{Holds-narrowed}
-use Rattle.spec_ephemeris.specs.Series.{IsInUnits, to_nat, scaled, argument_at, position}
-use Rattle.spec_ephemeris.specs.OneBlock.{mercury_x}
+use Rattle.spec_ephemeris.specs.Series.{Series, IsInUnits, to_nat, scaled, argument_at, position}
+use Rattle.spec_ephemeris.specs.Ephemeris.{IsLine}
+use Rattle.spec_chebyshev.proofs.Arguments.{HoldsIn-argument}
 use Rattle.spec_events.specs.LineSearch.{coefficient, argument, line, x_range}
 use Rattle.spec_events.proofs.Units.{Encloses, line_ends, line_encloses}
 
@@ -38,7 +40,7 @@ to_all : (z : ℤ) (r k : ℕ) → r + k ≡ 140 → (z *ℤ pos (10 ^ r * 2 ^ 0
 to_all z r k e =
     ring (z ∷ pos (10 ^ r) ∷ pos (10 ^ k) ∷ []) ((v 0 ⊗ (v 1 ⊗ lit (pos (2 ^ 0)))) ⊗ v 2) (v 0 ⊗ (v 1 ⊗ v 2)) tt ∙ joined_powers z r k 140 e
 
-pub coefficient_encloses : (d : Decimal) → IsInUnits d → Encloses (coefficient d) (10 ^ 140) (scaled d *ℤ pos (2 ^ 24))
+pub coefficient_encloses : (d : Decimal) → IsInUnits d → Encloses (coefficient d).lo (coefficient d).hi (10 ^ 140) (scaled d *ℤ pos (2 ^ 24))
 unfolding from_decimal
 coefficient_encloses d h =
     let e : down d.exp + (140 - down d.exp) ≡ 140 = below d.exp h in
@@ -54,38 +56,25 @@ coefficient_encloses d h =
       high = rw (← t, ← to_all (ceil_div (decimal_top d.mant d.exp (negsuc 23)) (decimal_bottom d.exp (negsuc 23))) (down d.exp) (140 - down d.exp) e) f;
     }
 
--- u of the block's series
-abbrev u_at : Decimal → Decimal → ℤ → ℤ
-u_at c0 c1 t = argument_at (mercury_x c0 c1) t
+to_first : (n : ℕ) → n ≡ n ^ 1
+to_first n =
+    let e : n ^ 1 ≡ n ^ 0 * n = pow-suc n 0 in
+    let m : n ^ 0 * n ≡ 1 * n = ap (λ k. k * n) (pow-zero n) in
+    omega (arith, e, m)
 
-argument_encloses : (c0 c1 : Decimal) (a b t : ℤ) → a ≤ℤ t → t ≤ℤ b → Encloses (argument (mercury_x c0 c1) a b) 2764800 (u_at c0 c1 t *ℤ pos (2 ^ 60))
-unfolding argument
-argument_encloses c0 c1 a b t p q =
-    let f = floor_div-le (u_at c0 c1 a *ℤ pos (2 ^ 60)) 2764800 (omega arith) in
-    let g = ceil_div-ge (u_at c0 c1 b *ℤ pos (2 ^ 60)) 2764800 (omega arith) in
-    let h = le-mul (u_at c0 c1 a) (u_at c0 c1 t) (pos (2 ^ 60)) (omega (arith, lin)) (omega (arith, ints, p)) in
-    let i = le-mul (u_at c0 c1 t) (u_at c0 c1 b) (pos (2 ^ 60)) (omega (arith, lin)) (omega (arith, ints, q)) in
-    record { low = omega (arith, lin, f, h); high = omega (arith, lin, g, i) }
+some_units : (l : ℕ) → 0 < l → 0 < 10 ^ 140 * l
+some_units l h = omega (arith, h)
+
+-- a line over a granule, by its parts
+abbrev pub line_of : ℤ → ℕ → Decimal → Decimal → Series
+line_of start l c0 c1 = record { start = start; duration = l; coefficients = c0 ∷ c1 ∷ [] }
 
 -- the sum of the two terms is a line
 plain : (s r u l : ℤ) → (s *ℤ (pos 1 *ℤ (l *ℤ pos 1))) +ℤ ((r *ℤ (u *ℤ pos 1)) +ℤ pos 0) ≡ s *ℤ l +ℤ r *ℤ u
 plain s r u l = ring (s ∷ r ∷ u ∷ l ∷ []) (v 0 ⊗ (lit (pos 1) ⊗ (v 3 ⊗ lit (pos 1))) ⊕ (v 1 ⊗ (v 2 ⊗ lit (pos 1)) ⊕ lit (pos 0))) (v 0 ⊗ v 3 ⊕ v 1 ⊗ v 2) tt
 
-pub x_is : (c0 c1 : Decimal) (t : ℤ) → (position (mercury_x c0 c1) t).numerator ≡ scaled c0 *ℤ pos 2764800 +ℤ scaled c1 *ℤ argument_at (mercury_x c0 c1) t
-x_is c0 c1 t = plain (scaled c0) (scaled c1) (u_at c0 c1 t) (pos 2764800)
-
 units : (s r u l : ℤ) → ((s *ℤ pos (2 ^ 24)) *ℤ l) *ℤ pos (2 ^ 60) +ℤ (r *ℤ pos (2 ^ 24)) *ℤ (u *ℤ pos (2 ^ 60)) ≡ (s *ℤ l +ℤ r *ℤ u) *ℤ pos (2 ^ 84)
 units s r u l = ring (s ∷ r ∷ u ∷ l ∷ []) (((v 0 ⊗ lit (pos (2 ^ 24))) ⊗ v 3) ⊗ lit (pos (2 ^ 60)) ⊕ (v 1 ⊗ lit (pos (2 ^ 24))) ⊗ (v 2 ⊗ lit (pos (2 ^ 60)))) ((v 0 ⊗ v 3 ⊕ v 1 ⊗ v 2) ⊗ lit (pos (2 ^ 84))) tt
-
-abbrev ends_of : Decimal → Decimal → ℤ → ℤ → Interval
-ends_of c0 c1 a b = line_ends (coefficient c0) (coefficient c1) (argument (mercury_x c0 c1) a b)
-
-ends_enclose : (c0 c1 : Decimal) (a b t : ℤ) → IsInUnits c0 → IsInUnits c1 → a ≤ℤ t → t ≤ℤ b → Encloses (ends_of c0 c1 a b) (10 ^ 140 * 2764800) ((position (mercury_x c0 c1) t).numerator *ℤ pos (2 ^ 84))
-ends_enclose c0 c1 a b t h g p q =
-    let e = units (scaled c0) (scaled c1) (u_at c0 c1 t) (pos 2764800) in
-    let f : (position (mercury_x c0 c1) t).numerator *ℤ pos (2 ^ 84) ≡ (scaled c0 *ℤ pos 2764800 +ℤ scaled c1 *ℤ u_at c0 c1 t) *ℤ pos (2 ^ 84) = ap (λ z. z *ℤ pos (2 ^ 84)) (x_is c0 c1 t) in
-    subst (λ (z : ℤ). Encloses (ends_of c0 c1 a b) (10 ^ 140 * 2764800) z) (e ∙ sym f)
-    (line_encloses (coefficient c0) (coefficient c1) (argument (mercury_x c0 c1) a b) (scaled c0 *ℤ pos (2 ^ 24)) (scaled c1 *ℤ pos (2 ^ 24)) (u_at c0 c1 t *ℤ pos (2 ^ 60)) (10 ^ 140) 2764800 (coefficient_encloses c0 h) (coefficient_encloses c1 g) (argument_encloses c0 c1 a b t p q))
 
 once : (d : ℕ) → 1 * d ≡ d
 once d = omega arith
@@ -94,9 +83,67 @@ once d = omega arith
 held : (lo hi n : ℤ) (d : ℕ) → (lo *ℤ pos d) ≤ℤ (n *ℤ pos (2 ^ 84)) → (n *ℤ pos (2 ^ 84)) ≤ℤ (hi *ℤ pos d) → Holds (record { lo = lo; hi = hi; s = negsuc 83 }) (record { numerator = n; denominator = d })
 held lo hi n d p q = record { low = subst (λ (k : ℕ). (lo *ℤ pos k) ≤ℤ (n *ℤ pos (2 ^ 84))) (sym (once d)) p; high = subst (λ (k : ℕ). (n *ℤ pos (2 ^ 84)) ≤ℤ (hi *ℤ pos k)) (sym (once d)) q }
 
-pub Holds-x_range : (c0 c1 : Decimal) (a b t : ℤ) → IsInUnits c0 → IsInUnits c1 → a ≤ℤ t → t ≤ℤ b → Holds (x_range c0 c1 a b) (position (mercury_x c0 c1) t)
-unfolding line
-Holds-x_range c0 c1 a b t h g p q =
-    let e : Encloses (ends_of c0 c1 a b) (10 ^ 140 * 2764800) ((position (mercury_x c0 c1) t).numerator *ℤ pos (2 ^ 84)) = ends_enclose c0 c1 a b t h g p q in
-    Holds-narrowed (ends_of c0 c1 a b).lo (ends_of c0 c1 a b).hi (negsuc 83) (position (mercury_x c0 c1) t)
-    (held (ends_of c0 c1 a b).lo (ends_of c0 c1 a b).hi (position (mercury_x c0 c1) t).numerator (10 ^ 140 * 2764800) e.low e.high)
+module _ (start : ℤ) (l : ℕ) (c0 c1 : Decimal) where
+  abbrev s : Series
+  s = line_of start l c0 c1
+
+  abbrev u_at : ℤ → ℤ
+  u_at t = argument_at s t
+
+  argument_encloses : (a b t : ℤ) → 0 < l → a ≤ℤ t → t ≤ℤ b → Encloses (argument s a b).lo (argument s a b).hi l (u_at t *ℤ pos (2 ^ 60))
+  argument_encloses a b t some p q =
+      let held = HoldsIn-argument (u_at a) (u_at b) (u_at t) (pos l) (omega (arith, ints, some)) (omega (arith, ints, p)) (omega (arith, ints, q)) in
+      record { low = held.low; high = held.high }
+
+  pub x_is : (t : ℤ) → (position s t).numerator ≡ scaled c0 *ℤ pos l +ℤ scaled c1 *ℤ argument_at s t
+  x_is t = plain (scaled c0) (scaled c1) (u_at t) (pos l)
+
+  abbrev ends_of : ℤ → ℤ → Interval
+  ends_of a b = line_ends (coefficient c0) (coefficient c1) (argument s a b)
+
+  abbrev x : ℤ → ℤ
+  x t = (position s t).numerator
+
+  ends_enclose : (a b t : ℤ) → IsInUnits c0 → IsInUnits c1 → 0 < l → a ≤ℤ t → t ≤ℤ b → Encloses (ends_of a b).lo (ends_of a b).hi (10 ^ 140 * l) (x t *ℤ pos (2 ^ 84))
+  ends_enclose a b t h g some p q =
+      let e = units (scaled c0) (scaled c1) (u_at t) (pos l) in
+      let f : x t *ℤ pos (2 ^ 84) ≡ (scaled c0 *ℤ pos l +ℤ scaled c1 *ℤ u_at t) *ℤ pos (2 ^ 84) = ap (λ z. z *ℤ pos (2 ^ 84)) (x_is t) in
+      subst (λ (z : ℤ). Encloses (ends_of a b).lo (ends_of a b).hi (10 ^ 140 * l) z) (e ∙ sym f)
+      (line_encloses (coefficient c0) (coefficient c1) (argument s a b) (scaled c0 *ℤ pos (2 ^ 24)) (scaled c1 *ℤ pos (2 ^ 24)) (u_at t *ℤ pos (2 ^ 60)) (10 ^ 140) l (coefficient_encloses c0 h) (coefficient_encloses c1 g) (argument_encloses a b t some p q))
+
+  abbrev fraction : ℤ → Fraction
+  fraction t = record { numerator = x t; denominator = 10 ^ 140 * l }
+
+  range_holds : (a b t : ℤ) → IsInUnits c0 → IsInUnits c1 → 0 < l → a ≤ℤ t → t ≤ℤ b → Holds (x_range s a b) (fraction t)
+  unfolding line
+  range_holds a b t h g some p q =
+      let e : Encloses (ends_of a b).lo (ends_of a b).hi (10 ^ 140 * l) (x t *ℤ pos (2 ^ 84)) = ends_enclose a b t h g some p q in
+      Holds-narrowed (ends_of a b).lo (ends_of a b).hi (negsuc 83) (fraction t)
+      (held (ends_of a b).lo (ends_of a b).hi (x t) (10 ^ 140 * l) e.low e.high)
+
+  pub Holds-range : (a b t : ℤ) → IsInUnits c0 → IsInUnits c1 → 0 < l → a ≤ℤ t → t ≤ℤ b → Holds (x_range s a b) (position s t)
+  Holds-range a b t h g some p q =
+      subst (λ (k : ℕ). Holds (x_range s a b) (record { numerator = x t; denominator = 10 ^ 140 * k })) (to_first l) (range_holds a b t h g some p q)
+
+-- a line, by its parts
+pub of_parts : (P : Series → Type 0) (s : Series) (c0 c1 : Decimal) → s.coefficients ≡ c0 ∷ c1 ∷ [] → P (line_of s.start s.duration c0 c1) → P s
+of_parts P s c0 c1 e p = subst (λ (cs : List Decimal). P (record { start = s.start; duration = s.duration; coefficients = cs })) (sym e) p
+
+pub some_duration : (s : Series) → IsLine s → 0 < s.duration
+some_duration s h = let least = h.shortest in omega (arith, ints, least)
+
+pub Holds-x_range : (s : Series) (a b t : ℤ) → IsLine s → a ≤ℤ t → t ≤ℤ b → Holds (x_range s a b) (position s t)
+Holds-x_range s a b t h p q =
+    of_parts (λ r. Holds (x_range r a b) (position r t)) s h.c0 h.c1 h.coefficients
+    (Holds-range s.start s.duration h.c0 h.c1 a b t h.constant.in_units h.slope.in_units (some_duration s h) p q)
+
+pub some_denominator : (s : Series) (t : ℤ) → IsLine s → 0 < (position s t).denominator
+some_denominator s t h =
+    of_parts (λ r. 0 < (position r t).denominator) s h.c0 h.c1 h.coefficients
+    (subst (λ (k : ℕ). 0 < 10 ^ 140 * k) (to_first s.duration) (some_units s.duration (some_duration s h)))
+
+-- the sum of the two terms at a time
+pub at_time : (s : Series) (t : ℤ) (h : IsLine s) → (position s t).numerator ≡ scaled h.c0 *ℤ pos s.duration +ℤ scaled h.c1 *ℤ argument_at s t
+at_time s t h =
+    of_parts (λ r. (position r t).numerator ≡ scaled h.c0 *ℤ pos r.duration +ℤ scaled h.c1 *ℤ argument_at r t) s h.c0 h.c1 h.coefficients
+    (x_is s.start s.duration h.c0 h.c1 t)

@@ -1,17 +1,18 @@
 -- The line over intervals of two coefficients and an argument encloses the line of the numbers that they enclose.
 use Rattle.std.proofs.Common.{◌≡◌, ℕ, ◌*◌, ◌^◌, arith, [], ◌∷◌, ℤ, pos, negsuc, ◌+ℤ◌, ◌*ℤ◌, ◌≤ℤ◌}
 use Rattle.spec_intervals.specs.Interval.{Interval, least4, greatest4}
+use Rattle.spec_chebyshev.specs.declared.ends.Ival62.{Ival62}
 use Rattle.spec_intervals.proofs.Ring.{v, k as lit, ◌⊕◌, ◌⊗◌, ring}
 use Rattle.spec_intervals.proofs.Order.{lin, le-mul}
 use Rattle.spec_intervals.proofs.Products.{corner_low, corner_high, least4-le, greatest4-ge}
 
 -- lo * unit <= n <= hi * unit
-pub record Encloses (e : Interval) (unit : ℕ) (n : ℤ) : Type 0 where
-  pub low : (e.lo *ℤ pos unit) ≤ℤ n
-  pub high : n ≤ℤ (e.hi *ℤ pos unit)
+pub record Encloses (lo hi : ℤ) (unit : ℕ) (n : ℤ) : Type 0 where
+  pub low : (lo *ℤ pos unit) ≤ℤ n
+  pub high : n ≤ℤ (hi *ℤ pos unit)
 
 -- the line before it is narrowed
-abbrev pub line_ends : Interval → Interval → Interval → Interval
+abbrev pub line_ends : Interval → Interval → Ival62 → Interval
 line_ends c0 c1 x = record {
   lo = c0.lo *ℤ pos (2 ^ 60) +ℤ least4 c1.lo c1.hi x.lo x.hi;
   hi = c0.hi *ℤ pos (2 ^ 60) +ℤ greatest4 c1.lo c1.hi x.lo x.hi;
@@ -28,7 +29,7 @@ scaled_le m a c d l h = rw (← corner_scale a c d l) (le-mul m (a *ℤ c) (pos 
 scaled_ge : (m a c : ℤ) (d l : ℕ) → (a *ℤ c) ≤ℤ m → ((a *ℤ pos d) *ℤ (c *ℤ pos l)) ≤ℤ (m *ℤ pos (d * l))
 scaled_ge m a c d l h = rw (← corner_scale a c d l) (le-mul (a *ℤ c) m (pos (d * l)) (omega (arith, lin)) h)
 
-module _ (c0 c1 x : Interval) (s0 s1 u : ℤ) (d l : ℕ) (h0 : Encloses c0 d s0) (h1 : Encloses c1 d s1) (hx : Encloses x l u) where
+module _ (c0 c1 : Interval) (x : Ival62) (s0 s1 u : ℤ) (d l : ℕ) (h0 : Encloses c0.lo c0.hi d s0) (h1 : Encloses c1.lo c1.hi d s1) (hx : Encloses x.lo x.hi l u) where
   product_low : (least4 c1.lo c1.hi x.lo x.hi *ℤ pos (d * l)) ≤ℤ (s1 *ℤ u)
   product_low =
       let e : (least4 c1.lo c1.hi x.lo x.hi ≤ℤ (c1.lo *ℤ x.lo)) × (least4 c1.lo c1.hi x.lo x.hi ≤ℤ (c1.lo *ℤ x.hi)) × (least4 c1.lo c1.hi x.lo x.hi ≤ℤ (c1.hi *ℤ x.lo)) × (least4 c1.lo c1.hi x.lo x.hi ≤ℤ (c1.hi *ℤ x.hi)) = least4-le c1.lo c1.hi x.lo x.hi in
@@ -58,7 +59,7 @@ module _ (c0 c1 x : Interval) (s0 s1 u : ℤ) (d l : ℕ) (h0 : Encloses c0 d s0
       rw (e, f) g
 
   -- the line holds s0 + s1 u / l, where u is in units of 2^-60
-  pub line_encloses : Encloses (line_ends c0 c1 x) (d * l) ((s0 *ℤ pos l) *ℤ pos (2 ^ 60) +ℤ s1 *ℤ u)
+  pub line_encloses : Encloses (line_ends c0 c1 x).lo (line_ends c0 c1 x).hi (d * l) ((s0 *ℤ pos l) *ℤ pos (2 ^ 60) +ℤ s1 *ℤ u)
   line_encloses =
       let p = product_low in
       let q = product_high in

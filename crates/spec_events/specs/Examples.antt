@@ -1,6 +1,7 @@
 -- Short names for worked values.
-use Rattle.std.specs.Prelude.{ℤ, pos, if◌then◌else◌}
+use Rattle.std.specs.Prelude.{[], ◌∷◌, ℤ, pos, neg_ℤ, if◌then◌else◌}
 use Rattle.spec_text.specs.declared.decimals.Decimal.{Decimal}
+use Rattle.spec_ephemeris.specs.Series.{Series}
 use Rattle.spec_events.specs.declared.tree.Node.{Node}
 use Rattle.spec_events.specs.declared.tree.Leaf.{Leaf}
 use Rattle.spec_events.specs.declared.tree.Mark.{Mark}
@@ -25,3 +26,7 @@ seconds = record { first = pos 0; last = pos 8; deepest = 0; verdict = λ n. if 
 
 abbrev pub whole : ℤ → Decimal
 whole m = record { mant = m; exp = pos 0 }
+
+-- the line of two coefficients over the 32 days from time -43200 on
+abbrev pub of_32_days : Decimal → Decimal → Series
+of_32_days c0 c1 = record { start = neg_ℤ (pos 43200); duration = 2764800; coefficients = c0 ∷ c1 ∷ [] }

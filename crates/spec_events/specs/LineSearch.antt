@@ -1,13 +1,14 @@
--- The search for the times at which Mercury's x passes 0, where x is a line over one block: its intervals, its
--- signs, and what is said of a node by the first rule that applies.
-use Rattle.std.specs.Prelude.{◌≡◌, ◌⊎◌, ◌^◌, Bool, true, false, not, ◌&&◌, ◌||◌, List, ℤ, pos, ◌+ℤ◌, ◌-ℤ◌, ◌*ℤ◌, neg_ℤ, ◌≤ℤ◌, int_lt, int_div, if◌then◌else◌}
+-- The search for the times at which a line passes 0: its intervals, its signs, and what is said of a node by the first
+-- rule that applies. The line is the series of one coordinate, with two coefficients.
+use Rattle.std.specs.Prelude.{◌≡◌, ◌⊎◌, ◌^◌, Bool, true, false, not, ◌&&◌, ◌||◌, ℕ, List, slice_index_or, ℤ, pos, ◌+ℤ◌, ◌-ℤ◌, ◌*ℤ◌, neg_ℤ, ◌≤ℤ◌, int_lt, int_div, if◌then◌else◌}
 use Rattle.spec_text.specs.declared.decimals.Decimal.{Decimal}
 use Rattle.spec_intervals.specs.declared.signs.Sign.{Sign}
 use Rattle.spec_intervals.specs.declared.signs.Sign.TheVariants.{Yes, No, Open}
-use Rattle.spec_intervals.specs.Interval.{Interval, interval, distance_exponent, floor_div, ceil_div, least4, greatest4, narrow, from_decimal}
+use Rattle.spec_intervals.specs.Interval.{Interval, distance_exponent, least4, greatest4, narrow, from_decimal}
 use Rattle.spec_intervals.specs.Signs.{sign_of}
+use Rattle.spec_chebyshev.specs.declared.ends.Ival62.{Ival62}
+use Rattle.spec_chebyshev.specs.Rows.{argument_of}
 use Rattle.spec_ephemeris.specs.Series.{Series, argument_at, position}
-use Rattle.spec_ephemeris.specs.OneBlock.{block_start, block_end, mercury_x}
 use Rattle.spec_events.specs.declared.tree.Node.{Node}
 use Rattle.spec_events.specs.declared.tree.Turn.{Turn}
 use Rattle.spec_events.specs.declared.tree.Turn.TheVariants.{Rise, Fall}
@@ -17,37 +18,50 @@ use Rattle.spec_events.specs.declared.window.Window.{Window}
 use Rattle.spec_events.specs.Tree.{Rules, leaves}
 use Rattle.spec_events.specs.Windows.{windows}
 
--- Mercury's x is at least 0
-abbrev pub IsUp : Decimal → Decimal → ℤ → Type 0
-IsUp c0 c1 t = pos 0 ≤ℤ (position (mercury_x c0 c1) t).numerator
+-- the coordinate is at least 0
+abbrev pub IsUp : Series → ℤ → Type 0
+IsUp s t = pos 0 ≤ℤ (position s t).numerator
+
+-- the time at which the granule ends
+abbrev pub series_end : Series → ℤ
+series_end s = s.start +ℤ pos s.duration
+
+abbrev pub zero_km : Decimal
+zero_km = record { mant = pos 0; exp = pos 0 }
+
+-- c_0 and c_1; a coefficient that isn't there is 0
+abbrev pub constant_of : Series → Decimal
+constant_of s = slice_index_or s.coefficients 0 zero_km
+
+abbrev pub slope_of : Series → Decimal
+slope_of s = slice_index_or s.coefficients 1 zero_km
 
 -- a coefficient in units of 2^-24 km
 abbrev pub coefficient : Decimal → Interval
 coefficient d = from_decimal d.mant d.exp distance_exponent
 
 -- the argument from time a to time b, in units of 2^-60
-unfoldable pub argument : Series → ℤ → ℤ → Interval
-argument s a b =
-    interval (floor_div (argument_at s a *ℤ pos (2 ^ 60)) s.duration) (ceil_div (argument_at s b *ℤ pos (2 ^ 60)) s.duration) (neg_ℤ (pos 60))
+abbrev pub argument : Series → ℤ → ℤ → Ival62
+argument s a b = argument_of (argument_at s a) (argument_at s b) (pos s.duration)
 
 -- c0 + c1 * x in units of 2^-84, narrowed
-unfoldable pub line : Interval → Interval → Interval → Interval
+unfoldable pub line : Interval → Interval → Ival62 → Interval
 line c0 c1 x =
     narrow
     (c0.lo *ℤ pos (2 ^ 60) +ℤ least4 c1.lo c1.hi x.lo x.hi)
     (c0.hi *ℤ pos (2 ^ 60) +ℤ greatest4 c1.lo c1.hi x.lo x.hi)
     (neg_ℤ (pos 84))
 
--- Mercury's x from time a to time b
-abbrev pub x_range : Decimal → Decimal → ℤ → ℤ → Interval
-x_range c0 c1 a b = line (coefficient c0) (coefficient c1) (argument (mercury_x c0 c1) a b)
+-- the line from time a to time b
+abbrev pub x_range : Series → ℤ → ℤ → Interval
+x_range s a b = line (coefficient (constant_of s)) (coefficient (slope_of s)) (argument s a b)
 
 -- its sign from time a to time b
-abbrev pub sign_on : Decimal → Decimal → ℤ → ℤ → Sign
-sign_on c0 c1 a b = sign_of (x_range c0 c1 a b)
+abbrev pub sign_on : Series → ℤ → ℤ → Sign
+sign_on s a b = sign_of (x_range s a b)
 
-abbrev pub slope_sign : Decimal → Sign
-slope_sign c1 = sign_of (coefficient c1)
+abbrev pub slope_sign : Series → Sign
+slope_sign s = sign_of (coefficient (slope_of s))
 
 abbrev pub is_told : Sign → Bool
 is_told Yes = true
@@ -82,8 +96,8 @@ verdict_by wide whole at_a at_b slope =
 abbrev pub is_wide : Node → Bool
 is_wide n = int_lt (pos 1) (n.b -ℤ n.a)
 
-abbrev pub verdict : Decimal → Decimal → Node → Verdict
-verdict c0 c1 n = verdict_by (is_wide n) (sign_on c0 c1 n.a n.b) (sign_on c0 c1 n.a n.a) (sign_on c0 c1 n.b n.b) (slope_sign c1)
+abbrev pub verdict : Series → Node → Verdict
+verdict s n = verdict_by (is_wide n) (sign_on s n.a n.b) (sign_on s n.a n.a) (sign_on s n.b n.b) (slope_sign s)
 
 abbrev pub middle : Node → ℤ
 middle n = n.a +ℤ int_div (n.b -ℤ n.a) (pos 2)
@@ -92,24 +106,24 @@ middle n = n.a +ℤ int_div (n.b -ℤ n.a) (pos 2)
 abbrev pub halves : Node → Node × Node
 halves n = (record { a = n.a; b = middle n; depth = n.depth }, record { a = middle n; b = n.b; depth = n.depth })
 
-abbrev pub rules : Decimal → Decimal → Rules
-rules c0 c1 = record {
-  first = block_start;
-  last = block_end;
+abbrev pub rules : Series → Rules
+rules s = record {
+  first = s.start;
+  last = series_end s;
   deepest = 0;
-  verdict = verdict c0 c1;
+  verdict = verdict s;
   parts = halves;
 }
 
--- the whole block
-abbrev pub root : Node
-root = record { a = block_start; b = block_end; depth = 0 }
+-- the whole granule
+abbrev pub root : Series → Node
+root s = record { a = s.start; b = series_end s; depth = 0 }
 
 -- the windows that the search finds
-abbrev pub found_windows : Decimal → Decimal → List Window
-found_windows c0 c1 = windows (leaves (rules c0 c1) root)
+abbrev pub found_windows : Series → List Window
+found_windows s = windows (leaves (rules s) (root s))
 
--- the last second up to a time is a node that is left undecided, and the sign of x is open at one of its ends
-pub record IsLeftOpen (c0 c1 : Decimal) (t : ℤ) : Type 0 where
-  pub undecided : verdict c0 c1 (record { a = t -ℤ pos 1; b = t; depth = 0 }) ≡ Undecided
-  pub open_end : (sign_on c0 c1 (t -ℤ pos 1) (t -ℤ pos 1) ≡ Open) ⊎ (sign_on c0 c1 t t ≡ Open)
+-- the last second up to a time is a node that is left undecided, and the sign of the line is open at one of its ends
+pub record IsLeftOpen (s : Series) (t : ℤ) : Type 0 where
+  pub undecided : verdict s (record { a = t -ℤ pos 1; b = t; depth = 0 }) ≡ Undecided
+  pub open_end : (sign_on s (t -ℤ pos 1) (t -ℤ pos 1) ≡ Open) ⊎ (sign_on s t t ≡ Open)

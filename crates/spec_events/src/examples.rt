@@ -9,7 +9,7 @@ ghost use Rattle.spec_events.specs.Events.{IsTurn, IsEvent};
 ghost use Rattle.spec_events.specs.Tree.{leaves};
 ghost use Rattle.spec_events.specs.Windows.{windows};
 ghost use Rattle.spec_events.specs.LineSearch.{verdict_by, middle, root, found_windows};
-ghost use Rattle.spec_events.specs.Examples.{node, leaf, window, seconds, whole};
+ghost use Rattle.spec_events.specs.Examples.{node, leaf, window, seconds, whole, of_32_days};
 
 /// What is so from time 3 on rises at 3 and has no event at 4; what is so up to time 3 falls at 4.
 pub fn turns()
@@ -44,14 +44,14 @@ pub fn verdicts()
 /// A node is cut at its middle, rounded down.
 pub fn middles()
     ensures odd { middle (node (neg_ℤ (pos 3)) (pos 0)) ≡ neg_ℤ (pos 2) }
-    ensures whole_block { middle root ≡ pos 1339200 }
+    ensures of_32_days { middle (root (of_32_days (whole (pos 0)) (whole (pos 0)))) ≡ pos 1339200 }
 {}
 
-/// The windows of four lines over the block: x grows or falls by 1 km each second and is 0 in the middle of the block;
+/// The windows of four lines over 32 days: x grows or falls by 1 km each second and is 0 in the middle of the span;
 /// it is 10^-9 km below 0 there, which no interval tells from 0; and it is -5 km throughout.
 pub fn windows_of_lines()
-    ensures rises { found_windows (whole (pos 0)) (record { mant = pos 138240000000000000; exp = neg_ℤ (pos 11) }) ≡ window (pos 1339200) (pos 1339200) (H.Certain Rise) ∷ [] }
-    ensures falls { found_windows (whole (pos 0)) (whole (neg_ℤ (pos 1382400))) ≡ window (pos 1339201) (pos 1339201) (H.Certain Fall) ∷ [] }
-    ensures close_to_zero { found_windows (record { mant = neg_ℤ (pos 1); exp = neg_ℤ (pos 9) }) (whole (pos 1382400)) ≡ window (pos 1339200) (pos 1339201) H.Undecided ∷ [] }
-    ensures constant { found_windows (whole (neg_ℤ (pos 5))) (whole (pos 0)) ≡ [] }
+    ensures rises { found_windows (of_32_days (whole (pos 0)) (record { mant = pos 138240000000000000; exp = neg_ℤ (pos 11) })) ≡ window (pos 1339200) (pos 1339200) (H.Certain Rise) ∷ [] }
+    ensures falls { found_windows (of_32_days (whole (pos 0)) (whole (neg_ℤ (pos 1382400)))) ≡ window (pos 1339201) (pos 1339201) (H.Certain Fall) ∷ [] }
+    ensures close_to_zero { found_windows (of_32_days (record { mant = neg_ℤ (pos 1); exp = neg_ℤ (pos 9) }) (whole (pos 1382400))) ≡ window (pos 1339200) (pos 1339201) H.Undecided ∷ [] }
+    ensures constant { found_windows (of_32_days (whole (neg_ℤ (pos 5))) (whole (pos 0))) ≡ [] }
 {}

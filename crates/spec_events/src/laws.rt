@@ -1,10 +1,9 @@
 // Laws about the definitions: what holds of all trees, leaves and windows.
 ghost use Rattle.std.specs.Prelude.{◌≡◌, ◌++◌, ◌∷◌, [], List, None, Some, Bool, true, ℤ, pos, neg_ℤ, ◌≤ℤ◌};
-ghost use Rattle.spec_text.specs.declared.decimals.Decimal.{Decimal};
 ghost use Rattle.spec_intervals.specs.Fraction.{Holds};
-ghost use Rattle.spec_ephemeris.specs.Series.{IsInUnits, position};
-ghost use Rattle.spec_ephemeris.specs.OneBlock.{block_start, block_end, mercury_x};
-ghost use Rattle.spec_events.specs.LineSearch.{IsUp, IsLeftOpen, x_range, sign_on, rules, root, found_windows};
+ghost use Rattle.spec_ephemeris.specs.Series.{Series, position};
+ghost use Rattle.spec_ephemeris.specs.Ephemeris.{IsLine};
+ghost use Rattle.spec_events.specs.LineSearch.{IsUp, IsLeftOpen, series_end, x_range, sign_on, rules, root, found_windows};
 ghost use Rattle.spec_intervals.specs.declared.signs.Sign.TheVariants.{Yes, No};
 ghost use Rattle.spec_events.specs.Events.{AreWithin, AreInOrder, HoldEvents, AreCertain, AreOpen, AreWindows};
 ghost use Rattle.spec_events.specs.Runs.{joined};
@@ -40,37 +39,37 @@ pub fn windows_of_a_covered_span()
     ensures are_windows { (p u : ℤ → Bool) (a b : ℤ) (ls : List Leaf) → Covers a ls b → AllTold (λ t. p t ≡ true) (λ t. u t ≡ true) ls → AreWindows (λ t. p t ≡ true) (λ t. u t ≡ true) a b (windows ls) }
 {}
 
-/// The interval of Mercury's x from one time to another holds x at each time between.
+/// The interval of a line from one time to another holds it at each time between.
 pub fn x_is_held()
-    ensures holds { (c0 c1 : Decimal) (a b t : ℤ) → IsInUnits c0 → IsInUnits c1 → a ≤ℤ t → t ≤ℤ b → Holds (x_range c0 c1 a b) (position (mercury_x c0 c1) t) }
+    ensures holds { (s : Series) (a b t : ℤ) → IsLine s → a ≤ℤ t → t ≤ℤ b → Holds (x_range s a b) (position s t) }
 {}
 
-/// Where the sign of that interval is known, x has it at each time between.
+/// Where the sign of that interval is known, the line has it at each time between.
 pub fn known_signs_are_those_of_x()
-    ensures yes { (c0 c1 : Decimal) (a b t : ℤ) → IsInUnits c0 → IsInUnits c1 → a ≤ℤ t → t ≤ℤ b → sign_on c0 c1 a b ≡ Yes → IsUp c0 c1 t }
-    ensures no { (c0 c1 : Decimal) (a b t : ℤ) → IsInUnits c0 → IsInUnits c1 → a ≤ℤ t → t ≤ℤ b → sign_on c0 c1 a b ≡ No → IsUp c0 c1 t → ⊥ }
+    ensures yes { (s : Series) (a b t : ℤ) → IsLine s → a ≤ℤ t → t ≤ℤ b → sign_on s a b ≡ Yes → IsUp s t }
+    ensures no { (s : Series) (a b t : ℤ) → IsLine s → a ≤ℤ t → t ≤ℤ b → sign_on s a b ≡ No → IsUp s t → ⊥ }
 {}
 
 /// The rules of the search are sound, and its root is valid.
 pub fn search_is_sound()
-    ensures rules { (c0 c1 : Decimal) → IsSound (rules c0 c1) }
-    ensures root { (c0 c1 : Decimal) → IsValid (rules c0 c1) root }
+    ensures rules { (s : Series) → IsLine s → IsSound (rules s) }
+    ensures root { (s : Series) → IsLine s → IsValid (rules s) (root s) }
 {}
 
 /// Each mark says what is so of the times of its node: no event lies in a clear node, exactly one, in its direction,
-/// in a node with one, and the sign of x is open at an end of an undecided node, which is one second wide.
+/// in a node with one, and the sign of the line is open at an end of an undecided node, which is one second wide.
 pub fn marks_tell_of_x()
-    ensures told { (c0 c1 : Decimal) (n : Node) (m : Mark) → IsInUnits c0 → IsInUnits c1 → IsValid (rules c0 c1) n → mark_of ((rules c0 c1).verdict n) ≡ Some m → Told (IsUp c0 c1) (IsLeftOpen c0 c1) n m }
+    ensures told { (s : Series) (n : Node) (m : Mark) → IsLine s → IsValid (rules s) n → mark_of ((rules s).verdict n) ≡ Some m → Told (IsUp s) (IsLeftOpen s) n m }
 {}
 
-/// The windows that the search finds lie within the block, each ends before the next begins, and together they hold
-/// each time of the block at which Mercury's x passes 0. Exactly one such time lies in each certain window, and x passes
+/// The windows that the search finds lie within the granule, each ends before the next begins, and together they hold
+/// each of its times at which the line passes 0. Exactly one such time lies in each certain window, and the line passes
 /// 0 in the window's direction. Each time of an undecided window ends a second that the search left undecided, since
-/// the sign of x is open at an end of it.
+/// the sign of the line is open at an end of it.
 pub fn search_finds_the_events()
-    ensures within { (c0 c1 : Decimal) → IsInUnits c0 → IsInUnits c1 → AreWithin block_start block_end (found_windows c0 c1) }
-    ensures in_order { (c0 c1 : Decimal) → IsInUnits c0 → IsInUnits c1 → AreInOrder (found_windows c0 c1) }
-    ensures every_event { (c0 c1 : Decimal) → IsInUnits c0 → IsInUnits c1 → HoldEvents (IsUp c0 c1) block_start block_end (found_windows c0 c1) }
-    ensures certain { (c0 c1 : Decimal) → IsInUnits c0 → IsInUnits c1 → AreCertain (IsUp c0 c1) (found_windows c0 c1) }
-    ensures undecided { (c0 c1 : Decimal) → IsInUnits c0 → IsInUnits c1 → AreOpen (IsLeftOpen c0 c1) (found_windows c0 c1) }
+    ensures within { (s : Series) → IsLine s → AreWithin s.start (series_end s) (found_windows s) }
+    ensures in_order { (s : Series) → IsLine s → AreInOrder (found_windows s) }
+    ensures every_event { (s : Series) → IsLine s → HoldEvents (IsUp s) s.start (series_end s) (found_windows s) }
+    ensures certain { (s : Series) → IsLine s → AreCertain (IsUp s) (found_windows s) }
+    ensures undecided { (s : Series) → IsLine s → AreOpen (IsLeftOpen s) (found_windows s) }
 {}

@@ -3,4 +3,3 @@ pub mod Words
 pub mod Files
 pub mod Faults
 pub mod Answers
-pub mod StandIn

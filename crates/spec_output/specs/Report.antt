@@ -1,5 +1,5 @@
 -- The text of a report: the request, a line for each window, and the counts.
-use Rattle.std.specs.Prelude.{ℕ, List, ◌++◌, Bool, true, false, not, count_by, codes, flat_map}
+use Rattle.std.specs.Prelude.{ℕ, ℤ, List, ◌++◌, Bool, true, false, not, count_by, codes, flat_map}
 use Rattle.std.specs.Fmt.{decimal, signed_decimal}
 use Rattle.spec_events.specs.declared.tree.Turn.TheVariants.{Rise, Fall}
 use Rattle.spec_events.specs.declared.window.Holds.{Holds}
@@ -25,14 +25,18 @@ certain_count ws = count_by (λ w. is_certain w.holds) ws
 abbrev pub undecided_count : List Window → ℕ
 undecided_count ws = count_by (λ w. not (is_certain w.holds)) ws
 
--- the one request that is answered so far, with every option at its default and the span of the one block
-abbrev pub request_line : List ℕ
-request_line = codes "FIND coord target mercury second - observer ssb frame eq axis x values 0 dir any width 1 depth 40 cut half span -43200 2721600\n"
+-- the one request that is answered so far, with every option at its default
+unfoldable pub request_text : List ℕ
+request_text = codes "FIND coord target mercury second - observer ssb frame eq axis x values 0 dir any width 1 depth 40 cut half span "
+
+-- the request, and the first and last time of its span
+abbrev pub request_line : ℤ → ℤ → List ℕ
+request_line from to = request_text ++ signed_decimal from ++ codes " " ++ signed_decimal to ++ codes "\n"
 
 abbrev pub window_lines : List Window → List ℕ
 window_lines ws = flat_map (λ w. line_of w w.holds) ws
 
-abbrev pub report : List Window → List ℕ
-report ws =
-    request_line ++ window_lines ws
+abbrev pub report : ℤ → ℤ → List Window → List ℕ
+report from to ws =
+    request_line from to ++ window_lines ws
     ++ codes "END certain " ++ decimal (certain_count ws) ++ codes " undecided " ++ decimal (undecided_count ws) ++ codes "\n"

@@ -2,4 +2,4 @@ use Rattle.spec_events.proofs.Told.{told}
 use Rattle.spec_events.proofs.laws.marks_tell_of_x.Goals as goal
 
 pub returns : goal.returns
-returns c = record { told = λ c0 c1 n m h g v e. told c0 c1 h g n m v.inside e }
+returns c = record { told = λ s n m h v e. told s h n m v.inside e }

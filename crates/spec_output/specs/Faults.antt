@@ -1,5 +1,5 @@
 -- The texts of the statuses other than 0, each a line for standard error.
-use Rattle.std.specs.Prelude.{ℕ, List, [], ◌++◌, ◌==◌, ◌||◌, nat_lt, Bool, codes, if◌then◌else◌}
+use Rattle.std.specs.Prelude.{ℕ, List, [], ◌++◌, ◌==◌, ◌||◌, nat_lt, Bool, true, false, codes, if◌then◌else◌}
 use Rattle.std.specs.Fmt.{decimal}
 use Rattle.spec_text.specs.declared.decimals.Fault.{Fault}
 
@@ -53,14 +53,20 @@ fault_name number =
 abbrev pub has_detail : ℕ → Bool
 has_detail number = number == 11 || (number == 21 || number == 34)
 
-unfoldable pub detail_text : Fault → List ℕ
-detail_text fault = if has_detail fault.number then codes " " ++ decimal fault.detail else []
+abbrev pub detail_where : Bool → ℕ → List ℕ
+detail_where false detail = []
+detail_where true detail = codes " " ++ decimal detail
+
+abbrev pub detail_text : Fault → List ℕ
+detail_text fault = detail_where (has_detail fault.number) fault.detail
 
 -- the line is counted from 1, and 0 where the fault is of the whole file
+abbrev pub place_text : List ℕ → ℕ → List ℕ
+place_text name line = (codes "finder: file " ++ name ++ codes " line ") ++ (decimal line ++ codes ": ")
+
 unfoldable pub file_text : List ℕ → Fault → List ℕ
 file_text name fault =
-    (codes "finder: file " ++ name ++ codes " line ") ++ (decimal fault.line ++ codes ": ")
-    ++ (decimal fault.number ++ codes " ") ++ (fault_name fault.number ++ detail_text fault ++ codes "\n")
+    (place_text name fault.line ++ (decimal fault.number ++ codes " ")) ++ (fault_name fault.number ++ detail_text fault ++ codes "\n")
 
 abbrev pub read_text : List ℕ → List ℕ
 read_text name = codes "finder: read fault " ++ name ++ codes "\n"

@@ -1,13 +1,3 @@
-pub mod Stacks
-pub mod Arguments
 pub mod Gains
 pub mod Left
 pub mod WordLemmas
-pub mod Spans
-pub mod Joins
-pub mod RowSteps
-pub mod Sizes
-pub mod Threes
-pub mod TokenLists
-pub mod Findings
-pub mod Names

@@ -1,4 +1,1 @@
-pub mod Form
-pub mod Joining
-pub mod Pending
-pub mod Reports
+

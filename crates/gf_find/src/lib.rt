@@ -4,17 +4,4 @@
 
 mod faults;
 mod files;
-mod form;
-mod joining;
-mod judge;
-mod prepare;
-mod printing;
-mod search;
-mod top;
-mod walk;
 mod words;
-
-pub use top::finder;
-
-#[cfg(test)]
-mod tests;

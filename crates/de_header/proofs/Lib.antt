@@ -4,3 +4,4 @@ pub mod ColumnLoops
 pub mod Runs
 pub mod Steps
 pub mod Ending
+pub mod SameFile

@@ -7,6 +7,7 @@ use Rattle.std.proofs.lemmas.Option.{none-some}
 use Rattle.spec_header.specs.declared.rules.TheConstants.{ENDED}
 use Rattle.spec_header.specs.HeaderLines.{mass_ratio_among, names}
 use Rattle.spec_header.specs.HeaderRules.{mass_ratio}
+use Rattle.spec_header.proofs.Behind.{behind_no_words, behind_words_of_line, no_words}
 use Rattle.de_header.proofs.Names.{get_take}
 use Rattle.spec_header.specs.Sections.{FileLine, FileWord, Stop, ended, ◌>>=◌, at_line, behind_words, first_words, lines_behind, word_of}
 
@@ -17,46 +18,13 @@ map_some f (Some x) = Some (f x)
 some_map : {X Y : Type 0} (f : X → Y) (x y : X) → Some x ≡ Some y → Some (f x) ≡ Some (f y)
 some_map f x y is = ap (map_some f) is
 
--- no words
-no_words : (n : ℕ) (lines : List FileLine) → n ≡ 0 → first_words n lines ≡ []
-no_words n [] is = refl
-no_words n (line ∷ rest) is =
-    ap (λ (k : ℕ). map (word_of line) (take k line.words) ++ first_words (n - length line.words) rest) is ∙ no_words (n - length line.words) rest (omega (arith, is))
-
-all_behind : (n : ℕ) (lines : List FileLine) → n ≡ 0 → lines_behind n lines ≡ lines
-all_behind n [] is = refl
-all_behind n (line ∷ rest) is = rw is refl
-
 pub behind_none : (n : ℕ) (lines : List FileLine) → n ≡ 0 → behind_words ENDED n lines ≡ Ok lines
-behind_none n lines is =
-    let test : (length (first_words n lines) == n) ≡ true = eq-eqb _ _ (ap length (no_words n lines is) ∙ sym is) in
-    rw (test, all_behind n lines is) refl
-
-length_first : (n : ℕ) (line : FileLine) (rest : List FileLine)
-    → length (first_words n (line ∷ rest)) ≡ min n (length line.words) + length (first_words (n - length line.words) rest)
-length_first n line rest =
-    length-append (map (word_of line) (take n line.words)) (first_words (n - length line.words) rest)
-    ∙ ap (λ (k : ℕ). k + length (first_words (n - length line.words) rest)) (length-map (take n line.words) (word_of line) ∙ length-take n line.words)
+behind_none n lines is = behind_no_words ENDED n lines is
 
 -- a line takes its words from those that are left
 pub behind_line : (n here : ℕ) (line : FileLine) (rest : List FileLine) → 0 < n → here ≡ min n (length line.words)
     → behind_words ENDED n (line ∷ rest) ≡ behind_words ENDED (n - here) rest
-behind_line n here line rest some here_is =
-    let not_none : n ≢ 0 = λ e. omega (arith, e, some) in
-    let left : n - length line.words ≡ n - here = omega (arith, here_is) in
-    let all : length (first_words n (line ∷ rest)) ≡ here + length (first_words (n - here) rest) =
-    length_first n line rest ∙ ap (λ (k : ℕ). min n (length line.words) + length (first_words k rest)) left
-    ∙ ap (λ (k : ℕ). k + length (first_words (n - here) rest)) (sym here_is) in
-    elim (cases_eq (length (first_words (n - here) rest)) (n - here)) [
-      | inl same ↦
-          let one : (length (first_words n (line ∷ rest)) == n) ≡ true = eq-eqb _ _ (omega (arith, all, same, here_is)) in
-          let other : (length (first_words (n - here) rest) == n - here) ≡ true = eq-eqb _ _ same in
-          rw (one, other, ne_eqb n 0 not_none, left) refl
-      | inr apart ↦
-          let one : (length (first_words n (line ∷ rest)) == n) ≡ false = ne_eqb _ _ (λ e. apart (omega (arith, all, e, here_is))) in
-          let other : (length (first_words (n - here) rest) == n - here) ≡ false = ne_eqb _ _ apart in
-          rw (one, other) refl
-    ]
+behind_line n here line rest some here_is = behind_words_of_line ENDED n here line rest some here_is
 
 -- the texts of words
 abbrev pub text_of : FileWord → List ℕ

@@ -85,10 +85,12 @@ fn seconds_within(most: u64, d: Decimal) -> Result<u64, BrokenRule>
     }
 }
 
-pub(crate) fn check_julian_date(d: Decimal) -> Result<u64, BrokenRule>
-    ensures { result ≡ seconds_within LAST_JULIAN_DAY d }
+/// The seconds from Julian date 0 to a date, which is from 0 to 5,000,000 and a whole number of seconds.
+pub fn seconds_of_julian_date(date: Decimal) -> Result<u64, BrokenRule>
+    ensures value { result ≡ seconds_within LAST_JULIAN_DAY date }
+    ensures few { IfOk result (λ seconds. seconds ≤ 86400 * LAST_JULIAN_DAY) }
 {
-    seconds_within(LAST_JULIAN_DAY, d)
+    seconds_within(LAST_JULIAN_DAY, date)
 }
 
 pub(crate) fn block_length(d: Decimal) -> Result<u32, BrokenRule>

@@ -4,7 +4,7 @@ ghost use Rattle.std.specs.Option.{option_copied};
 ghost use Rattle.spec_header.specs.Sections.{is_word};
 ghost use Rattle.spec_header.specs.HeaderRules.{decimal_at, emrat_from, first_line, group, mass_ratio, mass_ratio_of, name_count, span, value_count, whole_at};
 
-use crate::days::{block_length, check_julian_date, is_mass_ratio};
+use crate::days::{block_length, is_mass_ratio, seconds_of_julian_date};
 use de_text::{Decimal, Line, read_decimal, read_whole};
 use spec_ephemeris::{FEWEST_NUMBERS, MOST_NUMBERS};
 use spec_header::{
@@ -84,8 +84,8 @@ fn decimal_at(line: &Line<'_>, i: usize) -> Result<Decimal, BrokenRule>
 pub(crate) fn span(line: &Line<'_>) -> Result<u32, BrokenRule>
     ensures { result ≡ span line.now.tokens }
 {
-    check_julian_date(decimal_at(line, 0)?)?;
-    check_julian_date(decimal_at(line, 1)?)?;
+    seconds_of_julian_date(decimal_at(line, 0)?)?;
+    seconds_of_julian_date(decimal_at(line, 1)?)?;
     block_length(decimal_at(line, 2)?)
 }
 

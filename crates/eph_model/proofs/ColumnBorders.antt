@@ -14,7 +14,7 @@ use Rattle.eph_model.specs.declared.grid.Grid.{Grid}
 use Rattle.eph_model.specs.Grids.{IsGridOf, IsGridBorder}
 use Rattle.eph_model.specs.Preferred.{preferred, IsShort}
 use Rattle.eph_model.proofs.GridLemmas.{at_index, ends}
-use Rattle.eph_model.proofs.Pushing.{block_fits}
+use Rattle.spec_ephemeris.proofs.Pushing.{block_fits}
 use Rattle.eph_model.proofs.Nearer.{nearest_of_two, same, IsCovered}
 
 -- one column has one number

@@ -6,7 +6,7 @@ use Rattle.spec_ephemeris.specs.declared.header.Column.{Column}
 use Rattle.spec_ephemeris.specs.declared.limits.TheConstants.{BODY_COLUMNS}
 use Rattle.spec_ephemeris.specs.Header.{IsColumn, Takes, granule_size}
 use Rattle.spec_ephemeris.specs.Ephemeris.{Ephemeris, IsEphemeris, IsBodyNumber, block_numbers, granule_numbers}
-use Rattle.eph_model.proofs.Pushing.{block_fits}
+use Rattle.spec_ephemeris.proofs.Pushing.{block_fits}
 
 -- the run of a list from `first` on lies within it
 length_of_run : {X : Type 0} (xs : List X) (first size : ℕ) → first + size ≤ length xs → length (take size (drop first xs)) ≡ size

@@ -1,4 +1,3 @@
-pub mod Pushing
 pub mod Rules
 pub mod GridLemmas
 pub mod BorderLemmas

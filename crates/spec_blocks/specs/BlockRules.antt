@@ -1,6 +1,6 @@
 -- The rules of the words of blocks, each given the blocks before and the numbers before it in its block. Times are
 -- seconds of TDB since J2000.
-use Rattle.std.specs.Prelude.{ℕ, suc, ◌+◌, ◌*◌, ◌^◌, ◌==◌, ◌&&◌, ◌||◌, nat_lt, nat_le, int_le, int_lt, unsigned_abs, Bool, false, List, [], ◌∷◌, length, take, slice_get, Option, None, Some, Result, Ok, Err, ℤ, pos, ◌+ℤ◌, if◌then◌else◌}
+use Rattle.std.specs.Prelude.{ℕ, suc, ◌+◌, ◌*◌, ◌^◌, ◌==◌, ◌&&◌, ◌||◌, nat_lt, nat_le, int_le, int_lt, unsigned_abs, Bool, false, List, [], ◌∷◌, length, take, slice_get, Option, Some, Result, Ok, Err, ℤ, pos, ◌+ℤ◌, if◌then◌else◌}
 use Rattle.spec_text.specs.Reading.{fault_number, reading}
 use Rattle.spec_text.specs.declared.decimals.Decimal.{Decimal}
 use Rattle.spec_text.specs.declared.decimals.NumberFault.{NumberFault}

@@ -1,12 +1,10 @@
 -- Blocks of five numbers and one day, and what becomes of them where a line is changed.
-use Rattle.std.specs.Prelude.{ℕ, suc, List, [], ◌∷◌, ◌++◌, codes, replicate, Result, Err, ℤ, pos, negsuc}
+use Rattle.std.specs.Prelude.{ℕ, suc, List, [], ◌∷◌, codes, replicate, Result, Err, ℤ, pos, negsuc}
 use Rattle.spec_text.specs.Lines.{tokens}
 use Rattle.spec_text.specs.declared.decimals.Decimal.{Decimal}
-use Rattle.spec_text.specs.declared.decimals.Fault.{Fault}
-use Rattle.spec_ephemeris.specs.declared.header.Column.{Column}
 use Rattle.spec_ephemeris.specs.declared.header.Header.{Header}
 use Rattle.spec_ephemeris.specs.Ephemeris.{Ephemeris}
-use Rattle.spec_header.specs.Examples.{column, small_header}
+use Rattle.spec_header.specs.Examples.{column}
 use Rattle.spec_header.specs.Sections.{FileLine, Stop, breaks}
 
 abbrev pub decimal : ℤ → ℤ → Decimal

@@ -1,3 +1,4 @@
 pub mod BlockRules
 pub mod Blocks
 pub mod Examples
+pub mod Read

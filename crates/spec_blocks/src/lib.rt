@@ -4,6 +4,7 @@
 #![tactic(auto)]
 
 mod examples;
+mod laws;
 mod rules;
 
 pub use examples::{
@@ -11,6 +12,7 @@ pub use examples::{
     numbers_are_refused, places_of_bodies, record_lines_are_refused, spans_are_refused,
     times_of_julian_dates, words_behind_a_block_are_zeros,
 };
+pub use laws::{accepted_blocks_are_an_ephemeris, accepted_lines_are_an_ephemeris};
 pub use rules::{
     BLOCK_GAP, BLOCK_SPAN, NCOEFF_DIFFERS, NO_BLOCK, NUMBER, RECORD_LINE, TOO_LARGE,
     TOO_MANY_BLOCKS, TRAILING_NUMBERS, TRUNCATED,

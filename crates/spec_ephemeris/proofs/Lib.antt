@@ -3,3 +3,4 @@ pub mod Coefficients
 pub mod HeaderTest
 pub mod Granules
 pub mod Lines
+pub mod Pushing

@@ -3,3 +3,4 @@ pub mod Bounds
 pub mod Ratios
 pub mod ColumnsMeet
 pub mod Accepted
+pub mod Behind

@@ -1,4 +1,4 @@
-use Rattle.eph_model.proofs.Pushing.{pushed}
+use Rattle.spec_ephemeris.proofs.Pushing.{pushed}
 use Rattle.eph_model.proofs.ephemeris.Ephemeris.push_block.Goals as goal
 
 pub invariant_of-self-2 : goal.invariant_of-self-2

@@ -1,0 +1,165 @@
+-- One block more is one of a checked ephemeris.
+use Rattle.std.proofs.Common.{◌≡◌, ℕ, zero, suc, ◌+◌, ◌*◌, ◌<◌, ◌≤◌, ◌&&◌, nat_lt, nat_le, Bool, true, false, List, [], ◌∷◌, length, take, Option, None, Some, Result, Ok, Err, refl, sym, ap, ◌∙◌, subst, inl, inr, arith, if◌then◌else◌, eq-eqb, ne_eqb, ℤ, pos}
+use Rattle.std.specs.Prelude.{slice_get, int_lt}
+use Rattle.std.proofs.lemmas.Bool.{cases_Bool, cases_eq, cases_lt, and_parts, lt-ltb, le-ltb, ltb-true, le-leb, leb-false, and_from, or_left, or_right, false≢true}
+use Rattle.std.proofs.lemmas.Option.{none-some, same_Some, slice_get_within}
+use Rattle.std.proofs.lemmas.List.{length-take-le}
+use Rattle.std.proofs.lemmas.Int.{ints}
+use Rattle.spec_text.specs.declared.decimals.Decimal.{Decimal}
+use Rattle.spec_ephemeris.specs.declared.header.Column.{Column}
+use Rattle.spec_ephemeris.specs.declared.header.Header.{Header}
+use Rattle.spec_ephemeris.specs.declared.limits.TheConstants.{MOST_BLOCKS}
+use Rattle.spec_ephemeris.specs.Header.{IsHeader, IsColumn, Takes, is_present, column_size}
+use Rattle.spec_ephemeris.specs.Ephemeris.{Ephemeris, IsEphemeris, IsStart, IsBlock, IsBodyNumber, AreBodiesBounded, empty_ephemeris}
+use Rattle.spec_ephemeris.specs.Series.{IsInUnits}
+use Rattle.spec_ephemeris.proofs.Pushing.{pushed}
+use Rattle.spec_header.specs.declared.rules.BrokenRule.{BrokenRule}
+use Rattle.spec_header.specs.HeaderRules.{seconds_within, within_days, seconds_of_days}
+use Rattle.spec_header.specs.Sections.{◌>>=◌}
+use Rattle.spec_header.proofs.Holding.{Holds, holds_ok}
+use Rattle.spec_header.proofs.ColumnsMeet.{get_take}
+use Rattle.spec_blocks.specs.BlockRules.{coefficient_rule, follows, has_length, is_passed_over, is_place_of, is_place_of_body, is_too_large, time_by, time_of}
+use Rattle.spec_blocks.specs.Blocks.{accept, begun, no_blocks, with_numbers}
+use Rattle.spec_blocks.specs.Read.{AreRead}
+
+-- ---- times
+within_holds : (d : Decimal) (o : Option ℕ) → Holds (λ s. s ≤ 86400 * 5000000) (within_days 5000000 d o)
+within_holds d None = tt
+within_holds d (Some s) = elim (cases_Bool (int_lt d.mant (pos 0))) [
+  | inl negative ↦ rw negative tt
+  | inr positive ↦ elim (cases_lt (86400 * 5000000) s) [
+    | inl many ↦ rw (positive, lt-ltb (86400 * 5000000) s many) tt
+    | inr most ↦ rw (positive, le-ltb (86400 * 5000000) s most) most
+  ]
+]
+
+time_by_holds : (r : Result ℕ BrokenRule) → Holds (λ s. s ≤ 86400 * 5000000) r → Holds IsStart (time_by r)
+time_by_holds (Ok s) few = (omega (arith, ints), omega (arith, ints, few))
+time_by_holds (Err b) few = tt
+
+pub time_holds : (d : Decimal) → Holds IsStart (time_of d)
+time_holds d = time_by_holds (seconds_within 5000000 d) (within_holds d (seconds_of_days d))
+
+-- ---- places
+found_place : (number : ℕ) (cs : List Column) (i place : ℕ) (c : Column) → slice_get cs i ≡ Some c → is_present c ≡ true → Takes (number + i) c place
+    → is_place_of number cs place ≡ true
+found_place number [] i place c at present takes = absurd (none-some c at)
+found_place number (d ∷ cs) zero place c at present takes =
+    let same : d ≡ c = same_Some d c at in
+    let k : number + 0 ≡ number = omega arith in
+    let from : nat_le c.start place ≡ true = le-leb c.start place takes.from in
+    let below : nat_lt place (c.start + column_size number c) ≡ true =
+    ap (λ (m : ℕ). nat_lt place (c.start + column_size m c)) (sym k) ∙ lt-ltb place (c.start + column_size (number + 0) c) takes.before in
+    or_left _ (is_place_of (suc number) cs place) (rw same (and_from _ _ present (and_from _ _ from below)))
+found_place number (d ∷ cs) (suc i) place c at present takes =
+    let k : number + suc i ≡ suc number + i = omega arith in
+    or_right (is_present d && (nat_le d.start place && nat_lt place (d.start + column_size number d))) _
+    (found_place (suc number) cs i place c at present (subst (λ (m : ℕ). Takes m c place) k takes))
+
+body_place : (h : Header) (number place : ℕ) (c : Column) → IsColumn h number c → number ≤ 11 → Takes number c place → is_place_of_body h.columns place ≡ true
+body_place h zero place c is few takes = absurd (none-some c is.listed)
+body_place h (suc i) place c is few takes =
+    let number : suc i ≡ 1 + i = omega arith in
+    found_place 1 (take 11 h.columns) i place c (get_take h.columns 11 i (omega (arith, few)) ∙ is.listed) is.present
+    (subst (λ (k : ℕ). Takes k c place) number takes)
+
+not_large : (a b : Bool) (x : BrokenRule) → b ≡ true → Holds (λ (u : Unit {0}). a ≡ false) (if a && b then Err x else Ok tt)
+not_large true true x is = tt
+not_large true false x is = absurd (false≢true is)
+not_large false b x is = refl
+
+small_enough : (d : Decimal) → is_too_large d ≡ false → IsInUnits d → IsBodyNumber d
+small_enough d is units = record { small = omega (arith, leb-false _ _ is); in_units = units }
+
+-- ---- a block
+coefficient_met : (before : Ephemeris) (first second : Decimal) (rest : List Decimal) (k : ℕ) (d : Decimal) → AreRead before (first ∷ second ∷ rest)
+    → slice_get rest k ≡ Some d → coefficient_rule before.header.columns (k + 3) d ≡ Ok tt
+coefficient_met before first second rest k d read at =
+    let within : k < length rest = slice_get_within rest k d at in
+    ap (λ (n : ℕ). coefficient_rule before.header.columns (n + 3) d) (sym (length-take-le k rest (omega (arith, within)))) ∙ read.rules (suc (suc k)) d at
+
+body_met : (before : Ephemeris) (first second : Decimal) (rest : List Decimal) → IsHeader before.header → AreRead before (first ∷ second ∷ rest)
+    → AreBodiesBounded before.header (first ∷ second ∷ rest)
+body_met before first second rest header read number zero c d is few takes at =
+    absurd (omega (arith, (header.columns number c is).start, takes.from))
+body_met before first second rest header read number (suc zero) c d is few takes at =
+    absurd (omega (arith, (header.columns number c is).start, takes.from))
+body_met before first second rest header read number (suc (suc k)) c d is few takes at =
+    let place : suc (suc (suc k)) ≡ k + 3 = omega arith in
+    let body : is_place_of_body before.header.columns (k + 3) ≡ true =
+    body_place before.header number (k + 3) c is few (subst (λ (p : ℕ). Takes number c p) place takes) in
+    small_enough d (holds_ok _ _ tt (coefficient_met before first second rest k d read at) (not_large (is_too_large d) (is_place_of_body before.header.columns (k + 3)) _ body))
+    (read.in_units (suc (suc k)) d at)
+
+pub is_block : (before : Ephemeris) (first second : Decimal) (rest : List Decimal) → IsHeader before.header → AreRead before (first ∷ second ∷ rest)
+    → length (first ∷ second ∷ rest) ≡ before.header.ncoeff → IsBlock before.header (first ∷ second ∷ rest)
+is_block before first second rest header read whole = record { whole = whole; bodies = body_met before first second rest header read }
+
+-- ---- the blocks before, and one more
+empty_checked : (h : Header) (start : ℤ) → IsHeader h → IsStart start → IsEphemeris (empty_ephemeris h start)
+empty_checked h start header is =
+    record { header = header; start = is; few = omega arith; whole = omega arith; bodies = λ k below. absurd (omega (arith, below)) }
+
+pub none_checked : (h : Header) → IsHeader h → IsEphemeris (no_blocks h)
+none_checked h header = empty_checked h (pos 0) header (omega (arith, ints), omega (arith, ints))
+
+pub record IsBegun (before e : Ephemeris) : Type 0 where
+  pub checked : IsEphemeris e
+  pub header : e.header ≡ before.header
+  pub blocks : e.blocks ≡ before.blocks
+
+pub begun_is : (before : Ephemeris) (start : ℤ) → IsEphemeris before → IsStart start → IsBegun before (begun before start)
+begun_is before start checked is = elim (cases_eq before.blocks 0) [
+  | inl none ↦ rw (eq-eqb before.blocks 0 none)
+      (record { checked = empty_checked before.header start checked.header is; header = refl; blocks = sym none })
+  | inr some ↦ rw (ne_eqb before.blocks 0 some) (record { checked = checked; header = refl; blocks = refl })
+]
+
+-- a checked ephemeris with the header of the blocks before, and one block or more
+pub record IsWith (before e : Ephemeris) : Type 0 where
+  pub checked : IsEphemeris e
+  pub header : e.header ≡ before.header
+  pub some : 0 < e.blocks
+
+room : (a b : Bool) (x y : BrokenRule) → Holds (λ (u : Unit {0}). (a ≡ false) × (b ≡ true)) (if a then Err x else if b then Ok tt else Err y)
+room true b x y = tt
+room false true x y = (refl, refl)
+room false false x y = tt
+
+accepted_with : (before : Ephemeris) (numbers : List Decimal) (start end : ℤ) → IsEphemeris before → IsBlock before.header numbers → IsStart start
+    → follows before start end ≡ Ok tt → IsWith before (accept before numbers (Ok start) (Ok end))
+accepted_with before numbers start end checked fits is rule = elim (cases_Bool (is_passed_over before end)) [
+  | inl passed ↦
+      let some = ltb-true 0 before.blocks ((and_parts (nat_lt 0 before.blocks) _ passed).0) in
+      rw passed (record { checked = checked; header = refl; some = some })
+  | inr new ↦
+      let fewer = holds_ok _ _ tt (rw new at rule) (room _ (nat_lt before.blocks MOST_BLOCKS) _ _) in
+      let begins = begun_is before start checked is in
+      let few : before.blocks < MOST_BLOCKS = ltb-true before.blocks MOST_BLOCKS fewer.1 in
+      rw new (record {
+        checked = pushed (begun before start) numbers begins.checked (subst (λ (h : Header). IsBlock h numbers) (sym begins.header) fits) (omega (arith, begins.blocks, few));
+        header = begins.header;
+        some = omega arith;
+      })
+]
+
+right_length : (c : Bool) (r : Result (Unit {0}) BrokenRule) (x : BrokenRule) → (if c then r else Err x) ≡ Ok tt → r ≡ Ok tt
+right_length true r x is = is
+right_length false r x is = absurd (cc)
+
+abbrev dates : Ephemeris → Result ℤ BrokenRule → Result ℤ BrokenRule → BrokenRule → Result (Unit {0}) BrokenRule
+dates before a b x = a >>= λ start. b >>= λ end. if has_length before.header.block_seconds start end then follows before start end else Err x
+
+dated : (before : Ephemeris) (numbers : List Decimal) (a b : Result ℤ BrokenRule) (x : BrokenRule) → IsEphemeris before → IsBlock before.header numbers
+    → Holds IsStart a → dates before a b x ≡ Ok tt → IsWith before (accept before numbers a b)
+dated before numbers (Ok start) (Ok end) x checked fits is rule = accepted_with before numbers start end checked fits is (right_length _ (follows before start end) x rule)
+dated before numbers (Ok start) (Err e) x checked fits is rule = absurd (cc)
+dated before numbers (Err e) b x checked fits is rule = absurd (cc)
+
+pub is_with : (before : Ephemeris) (numbers : List Decimal) → IsEphemeris before → AreRead before numbers → length numbers ≡ before.header.ncoeff
+    → IsWith before (with_numbers before numbers)
+is_with before [] checked read whole = absurd (omega (arith, checked.header.fewest, whole))
+is_with before (first ∷ []) checked read whole = absurd (omega (arith, checked.header.fewest, whole))
+is_with before (first ∷ second ∷ rest) checked read whole =
+    dated before (first ∷ second ∷ rest) (time_of first) (time_of second) _ checked (is_block before first second rest checked.header read whole)
+    (time_holds first) (read.rules 1 second refl)

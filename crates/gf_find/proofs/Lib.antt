@@ -1,3 +1,10 @@
 pub mod Gains
 pub mod Left
 pub mod WordLemmas
+pub mod HeaderSays
+pub mod BlockSays
+pub mod Readers
+pub mod Feeding
+pub mod Passing
+pub mod Runs
+pub mod NameLists

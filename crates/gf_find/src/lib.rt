@@ -4,4 +4,6 @@
 
 mod faults;
 mod files;
+mod reader;
+mod reading;
 mod words;

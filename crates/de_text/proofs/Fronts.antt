@@ -1,8 +1,10 @@
 -- The digits at the front of a list, step by step.
-use Rattle.std.proofs.Common.{◌≡◌, ℕ, ◌+◌, ◌<◌, List, [], ◌∷◌, ◌++◌, true, false, length, get_or, take, drop, refl, sym, ap, ◌∙◌}
+use Rattle.std.proofs.Common.{◌≡◌, ℕ, ◌+◌, ◌-◌, ◌*◌, ◌<◌, ◌≤◌, min, arith, List, [], ◌∷◌, true, false, length, get_or, drop, refl, sym, ap, ◌∙◌}
 use Rattle.std.specs.Char.{is_ascii_digit}
-use Rattle.std.proofs.lemmas.List.{at_drop_more, drop_more, take_more, append_assoc}
+use Rattle.std.proofs.lemmas.List.{at_drop_more, drop_more}
+use Rattle.spec_text.specs.Decimals.{value_after}
 use Rattle.spec_text.specs.Splitting.{digits_at}
+use Rattle.de_text.proofs.Values.{value_after_ge}
 
 pub digits_more : (bs : List ℕ) (i : ℕ) → i < length bs → is_ascii_digit (get_or bs i 0) ≡ true
     → digits_at (drop i bs) ≡ (get_or bs i 0 ∷ (digits_at (drop (i + 1) bs)).0, (digits_at (drop (i + 1) bs)).1)
@@ -13,10 +15,11 @@ pub digits_end : (bs : List ℕ) (i : ℕ) → i < length bs → is_ascii_digit 
 digits_end bs i below other =
     at_drop_more digits_at bs i 0 below ∙ rw other (ap (λ (l : List ℕ). ([], l)) (sym (drop_more bs i 0 below)))
 
-pub front_more : (bs : List ℕ) (i : ℕ) → i < length bs → is_ascii_digit (get_or bs i 0) ≡ true
-    → take i bs ++ (digits_at (drop i bs)).0 ≡ take (i + 1) bs ++ (digits_at (drop (i + 1) bs)).0
-front_more bs i below digit =
-    let later = (digits_at (drop (i + 1) bs)).0 in
-    ap (λ (p : List ℕ × List ℕ). take i bs ++ p.0) (digits_more bs i below digit)
-    ∙ sym (append_assoc (take i bs) (get_or bs i 0 ∷ []) later)
-    ∙ ap (λ (l : List ℕ). l ++ later) (sym (take_more bs i 0 below))
+-- the number behind a digit more
+pub value_step : (n : ℕ) (bs : List ℕ) (i : ℕ) → i < length bs → is_ascii_digit (get_or bs i 0) ≡ true
+    → value_after (10 * n + (get_or bs i 0 - 48)) (digits_at (drop (i + 1) bs)).0 ≡ value_after n (digits_at (drop i bs)).0
+value_step n bs i below digit = ap (λ (p : List ℕ × List ℕ). value_after n p.0) (sym (digits_more bs i below digit))
+
+-- the number behind which digits are left, once it has reached the cap
+pub value_many : (start n cap : ℕ) (bs ds : List ℕ) → cap ≤ n → value_after n ds ≡ value_after start bs → cap ≡ min (value_after start bs) cap
+value_many start n cap bs ds large same = omega (arith, large, value_after_ge n ds, same)

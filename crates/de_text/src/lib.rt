@@ -4,6 +4,7 @@
 
 mod cursor;
 mod decimal;
+mod digits;
 mod examples;
 mod lines;
 mod parts;

@@ -1,16 +1,20 @@
 // The parts of a numeral, cut from the front of a word.
-ghost use Rattle.std.specs.Prelude.{◌≡◌};
-ghost use Rattle.spec_text.specs.Decimals.{after_point};
-ghost use Rattle.spec_text.specs.Splitting.{digits_at, exponent_at, fraction_at, numeral_of, sign_at};
+ghost use Rattle.std.specs.Prelude.{◌≡◌, ◌≤◌, ◌^◌, length, min};
+ghost use Rattle.spec_text.specs.Decimals.{after_point, value_after};
+ghost use Rattle.spec_text.specs.Splitting.{exponent_at, fraction_at, numeral_of, sign_at};
 ghost use Rattle.de_text.specs.Parts.{ShowsExponent, Splits, is_minus};
 
+use crate::digits::{Digits, take_digits};
+
+// The sign, the number that the digits without the point write, how many of them stand after the point, and the sign
+// and the size of the written exponent. Both numbers are at most `CAP`.
 #[derive(Clone, Copy)]
-pub(crate) struct Parts<'a> {
+pub(crate) struct Parts {
     pub negative: bool,
-    pub whole: &'a [u8],
-    pub fraction: &'a [u8],
+    pub mantissa: u64,
+    pub places: usize,
     pub exponent_negative: bool,
-    pub exponent: &'a [u8],
+    pub exponent: u64,
 }
 
 fn take_sign(word: &[u8]) -> (bool, &[u8])
@@ -24,62 +28,56 @@ fn take_sign(word: &[u8]) -> (bool, &[u8])
     }
 }
 
-#[tactic(auto, using(crate::proofs::Fronts::digits_more, crate::proofs::Fronts::digits_end, crate::proofs::Fronts::front_more))]
-fn take_digits(text: &[u8]) -> (&[u8], &[u8])
-    ensures front { result.0.now ≡ (digits_at text.now).0 }
-    ensures rest { result.1.now ≡ (digits_at text.now).1 }
-{
-    for (i, b) in text.iter().enumerate() {
-        if !b.is_ascii_digit() {
-            return text.split_at(i);
-        }
-    }
-    (text, &[])
-}
-
-fn take_fraction(text: &[u8]) -> (&[u8], &[u8])
-    ensures front { result.0.now ≡ after_point (fraction_at text.now).0 }
-    ensures rest { result.1.now ≡ (fraction_at text.now).1 }
+// A point and digits at the front. Without a point there are none.
+fn take_fraction(start: u64, text: &[u8]) -> Digits<'_>
+    requires { start ≤ 10 ^ 18 }
+    ensures number { result.number ≡ min (value_after start (after_point (fraction_at text.now).0)) (10 ^ 18) }
+    ensures count { result.count ≡ length (after_point (fraction_at text.now).0) }
+    ensures rest { result.rest.now ≡ (fraction_at text.now).1 }
 {
     match text {
-        [b'.', rest @ ..] => take_digits(rest),
-        _ => (&[], text),
+        [b'.', rest @ ..] => take_digits(start, rest),
+        _ => Digits {
+            number: start,
+            count: 0,
+            rest: text,
+        },
     }
 }
 
-// The sign and the digits of an exponent that is the whole text; no digits where the text is empty.
-fn take_exponent(text: &[u8]) -> Option<(bool, &[u8])>
+// The sign and the size of an exponent that is the whole text; 0 where the text is empty.
+fn take_exponent(text: &[u8]) -> Option<(bool, u64)>
     ensures { ShowsExponent (exponent_at text.now) result }
 {
     match text {
-        [] => Some((false, &[])),
+        [] => Some((false, 0)),
         [b'D' | b'd' | b'E' | b'e', rest @ ..] => {
             let (negative, rest) = take_sign(rest);
-            let (digits, rest) = take_digits(rest);
-            if digits.is_empty() || !rest.is_empty() {
+            let digits = take_digits(0, rest);
+            if digits.count == 0 || !digits.rest.is_empty() {
                 return None;
             }
-            Some((negative, digits))
+            Some((negative, digits.number))
         }
         _ => None,
     }
 }
 
 // The parts of the numeral that the word is, if it is one.
-pub(crate) fn split(word: &[u8]) -> Option<Parts<'_>>
+pub(crate) fn split(word: &[u8]) -> Option<Parts>
     ensures { Splits (numeral_of word.now) result }
 {
     let (negative, rest) = take_sign(word);
-    let (whole, rest) = take_digits(rest);
-    let (fraction, rest) = take_fraction(rest);
-    let (exponent_negative, exponent) = take_exponent(rest)?;
-    if whole.is_empty() && fraction.is_empty() {
+    let whole = take_digits(0, rest);
+    let digits = take_fraction(whole.number, whole.rest);
+    let (exponent_negative, exponent) = take_exponent(digits.rest)?;
+    if whole.count == 0 && digits.count == 0 {
         return None;
     }
     Some(Parts {
         negative,
-        whole,
-        fraction,
+        mantissa: digits.number,
+        places: digits.count,
         exponent_negative,
         exponent,
     })

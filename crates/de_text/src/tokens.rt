@@ -4,6 +4,8 @@ ghost use Rattle.std.specs.Option.{option_copied};
 ghost use Rattle.std.specs.List.{position_or_len};
 ghost use Rattle.spec_text.specs.Lines.{is_separator, tokens};
 
+use memchr::memchr2;
+
 fn is_separator(b: u8) -> bool
     ensures { result ≡ is_separator b }
 {
@@ -30,12 +32,10 @@ fn token_len(text: &[u8]) -> usize
     ensures before { (k : ℕ) → k < result → is_separator (slice_index text.now k) ≡ false }
     ensures at { result < length text.now → is_separator (slice_index text.now result) ≡ true }
 {
-    for (i, b) in text.iter().enumerate() {
-        if is_separator(*b) {
-            return i;
-        }
+    match memchr2(b' ', b'\t', text) {
+        Some(end) => end,
+        None => text.len(),
     }
-    text.len()
 }
 
 // The first token, and what follows it.

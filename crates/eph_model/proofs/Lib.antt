@@ -3,5 +3,4 @@ pub mod GridLemmas
 pub mod BorderLemmas
 pub mod Nearer
 pub mod ColumnBorders
-pub mod GranuleNumbers
 pub mod SmallNumbers

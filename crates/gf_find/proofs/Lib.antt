@@ -1,3 +1,4 @@
+pub mod Arguments
 pub mod Gains
 pub mod Left
 pub mod WordLemmas
@@ -8,3 +9,8 @@ pub mod Feeding
 pub mod Passing
 pub mod Runs
 pub mod NameLists
+pub mod Answering
+pub mod Findings
+pub mod Entries
+pub mod Lines
+pub mod Series

@@ -1,11 +1,11 @@
 -- Where Mercury's x is a line: its two coefficients, and the granule of each time.
-use Rattle.std.proofs.Common.{◌≡◌, ℕ, zero, suc, ◌+◌, ◌-◌, ◌*◌, ◌<◌, ◌≤◌, ◌==◌, Bool, true, ◌&&◌, List, [], ◌∷◌, length, take, drop, slice_get, Option, Some, None, ℤ, pos, ◌+ℤ◌, ◌≤ℤ◌, unsigned_abs, refl, sym, ◌∙◌, ap, arith}
+use Rattle.std.proofs.Common.{◌≡◌, ℕ, zero, suc, ◌+◌, ◌-◌, ◌*◌, ◌<◌, ◌≤◌, ◌==◌, true, ◌&&◌, List, [], ◌∷◌, length, take, drop, slice_get, Option, Some, None, ℤ, pos, ◌+ℤ◌, unsigned_abs, refl, ◌∙◌, ap, arith}
 use Rattle.std.proofs.lemmas.Int.{ints}
 use Rattle.spec_text.specs.declared.decimals.Decimal.{Decimal}
 use Rattle.spec_ephemeris.specs.declared.header.Column.{Column}
 use Rattle.spec_ephemeris.specs.Header.{IsColumn, MeetsColumnRules, column_at, granule_size}
 use Rattle.spec_ephemeris.proofs.Granules.{one_column}
-use Rattle.spec_ephemeris.specs.Ephemeris.{Ephemeris, IsEphemeris, IsBodyNumber, Granule, IsGranuleAt, IsLine, MERCURY, is_line_column, is_line, before_column, mercury_x, block_numbers, granule_numbers, axis_series}
+use Rattle.spec_ephemeris.specs.Ephemeris.{Ephemeris, IsEphemeris, IsBodyNumber, Granule, IsGranuleAt, IsLine, MERCURY, is_line_column, is_line, mercury_x, block_numbers, granule_numbers, axis_series}
 
 -- what a line asks of its column and of the blocks
 pub record IsLineOf (e : Ephemeris) (c : Column) : Type 0 where

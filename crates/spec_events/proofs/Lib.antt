@@ -9,3 +9,7 @@ pub mod Sound
 pub mod Lines
 pub mod Told
 pub mod Found
+pub mod Ordering
+pub mod Rearranged
+pub mod Placing
+pub mod Cutting

@@ -3,6 +3,7 @@ use Rattle.std.specs.Prelude.{[], ◌∷◌, ℤ, pos, neg_ℤ, if◌then◌else
 use Rattle.spec_text.specs.declared.decimals.Decimal.{Decimal}
 use Rattle.spec_ephemeris.specs.Series.{Series}
 use Rattle.spec_events.specs.declared.tree.Node.{Node}
+use Rattle.spec_events.specs.declared.book.Booked.{Booked}
 use Rattle.spec_events.specs.declared.tree.Leaf.{Leaf}
 use Rattle.spec_events.specs.declared.tree.Mark.{Mark}
 use Rattle.spec_events.specs.declared.tree.Verdict.TheVariants.{Clear, Split}
@@ -16,6 +17,9 @@ node a b = record { a = a; b = b; depth = 0 }
 
 abbrev pub leaf : ℤ → ℤ → Mark → Leaf
 leaf a b m = leaf_of (node a b) m
+
+abbrev pub booked : Leaf → Booked
+booked l = record { leaf = l; seat = 0 }
 
 abbrev pub window : ℤ → ℤ → Holds → Window
 window first last holds = record { first = first; last = last; holds = holds }

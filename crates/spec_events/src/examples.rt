@@ -8,8 +8,9 @@ ghost use Rattle.spec_events.specs.declared.window.Holds.TheVariants as H;
 ghost use Rattle.spec_events.specs.Events.{IsTurn, IsEvent};
 ghost use Rattle.spec_events.specs.Tree.{leaves};
 ghost use Rattle.spec_events.specs.Windows.{windows};
+ghost use Rattle.spec_events.specs.Order.{ordered_leaves};
 ghost use Rattle.spec_events.specs.LineSearch.{verdict_by, middle, root, found_windows};
-ghost use Rattle.spec_events.specs.Examples.{node, leaf, window, seconds, whole, of_32_days};
+ghost use Rattle.spec_events.specs.Examples.{node, leaf, booked, window, seconds, whole, of_32_days};
 
 /// What is so from time 3 on rises at 3 and has no event at 4; what is so up to time 3 falls at 4.
 pub fn turns()
@@ -27,6 +28,12 @@ pub fn leaves_of_three_seconds()
 pub fn windows_of_five_leaves()
     ensures { windows (leaf (pos 0) (pos 2) M.Clear ∷ leaf (pos 2) (pos 3) M.Undecided ∷ leaf (pos 3) (pos 4) M.Undecided ∷ leaf (pos 4) (pos 5) (M.One Rise) ∷ leaf (pos 5) (pos 6) M.Undecided ∷ [])
         ≡ window (pos 3) (pos 4) H.Undecided ∷ window (pos 5) (pos 5) (H.Certain Rise) ∷ window (pos 6) (pos 6) H.Undecided ∷ [] }
+{}
+
+/// Leaves as they came, and in order.
+pub fn leaves_put_in_order()
+    ensures { ordered_leaves (booked (leaf (pos 4) (pos 5) M.Undecided) ∷ booked (leaf (pos 0) (pos 2) (M.One Rise)) ∷ booked (leaf (pos 2) (pos 4) M.Undecided) ∷ booked (leaf (pos 5) (pos 6) (M.One Fall)) ∷ [])
+        ≡ leaf (pos 0) (pos 2) (M.One Rise) ∷ leaf (pos 2) (pos 4) M.Undecided ∷ leaf (pos 4) (pos 5) M.Undecided ∷ leaf (pos 5) (pos 6) (M.One Fall) ∷ [] }
 {}
 
 /// The first rule that applies decides.

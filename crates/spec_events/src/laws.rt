@@ -6,6 +6,9 @@ ghost use Rattle.spec_ephemeris.specs.Ephemeris.{IsLine};
 ghost use Rattle.spec_events.specs.LineSearch.{IsUp, IsLeftOpen, series_end, x_range, sign_on, rules, root, found_windows};
 ghost use Rattle.spec_intervals.specs.declared.signs.Sign.TheVariants.{Yes, No};
 ghost use Rattle.spec_events.specs.Events.{AreWithin, AreInOrder, HoldEvents, AreCertain, AreOpen, AreWindows};
+ghost use Rattle.std.specs.List.Sorted.{IsPermutation, IsSortedByKey, IsStableByKey};
+ghost use Rattle.std.specs.Ordering.{int_cmp};
+ghost use Rattle.spec_events.specs.Order.{in_order};
 ghost use Rattle.spec_events.specs.Runs.{joined};
 ghost use Rattle.spec_events.specs.Windows.{Told, AllTold, windows};
 ghost use Rattle.spec_events.specs.declared.tree.Leaf.{Leaf};
@@ -37,6 +40,27 @@ pub fn windows_from_the_left()
 /// the span, each ends before the next begins, they hold every event, and each of them is as told.
 pub fn windows_of_a_covered_span()
     ensures are_windows { (p u : ℤ → Bool) (a b : ℤ) (ls : List Leaf) → Covers a ls b → AllTold (λ t. p t ≡ true) (λ t. u t ≡ true) ls → AreWindows (λ t. p t ≡ true) (λ t. u t ≡ true) a b (windows ls) }
+{}
+
+/// Leaves that follow one another stand in order.
+pub fn a_cover_is_in_order()
+    ensures { (a b : ℤ) (ls : List Leaf) → Covers a ls b → in_order ls ≡ ls }
+{}
+
+/// Leaves that follow one another, rearranged in any way, are put back in order.
+pub fn a_rearranged_cover_is_put_in_order()
+    ensures { (a b : ℤ) (ls ordered : List Leaf) → IsPermutation ls ordered → Covers a ordered b → in_order ls ≡ ordered }
+{}
+
+/// What a stable sort by the beginnings of leaves makes of them is these leaves, put in order.
+pub fn a_stable_sort_puts_in_order()
+    ensures { (ls sorted : List Leaf) → IsSortedByKey (λ (l : Leaf). l.node.a) int_cmp sorted → IsStableByKey (λ (l : Leaf). l.node.a) int_cmp ls sorted → sorted ≡ in_order ls }
+{}
+
+/// The windows of leaves that cover a span lie within it, and each ends before the next begins.
+pub fn windows_are_in_order()
+    ensures within { (a b : ℤ) (ls : List Leaf) → Covers a ls b → AreWithin a b (windows ls) }
+    ensures in_order { (a b : ℤ) (ls : List Leaf) → Covers a ls b → AreInOrder (windows ls) }
 {}
 
 /// The interval of a line from one time to another holds it at each time between.

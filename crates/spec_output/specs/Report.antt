@@ -6,14 +6,14 @@ use Rattle.spec_events.specs.declared.window.Holds.{Holds}
 use Rattle.spec_events.specs.declared.window.Holds.TheVariants.{Certain, Undecided}
 use Rattle.spec_events.specs.declared.window.Window.{Window}
 
--- a window's first and last time, in seconds of TDB since J2000
-abbrev pub times : Window → List ℕ
-times w = signed_decimal w.first ++ codes " " ++ signed_decimal w.last
+-- two times, in seconds of TDB since J2000
+abbrev pub times : ℤ → ℤ → List ℕ
+times from to = signed_decimal from ++ codes " " ++ signed_decimal to
 
 abbrev pub line_of : Window → Holds → List ℕ
-line_of w (Certain Rise) = codes "C " ++ times w ++ codes " rise\n"
-line_of w (Certain Fall) = codes "C " ++ times w ++ codes " fall\n"
-line_of w Undecided = codes "U " ++ times w ++ codes "\n"
+line_of w (Certain Rise) = codes "C " ++ times w.first w.last ++ codes " rise\n"
+line_of w (Certain Fall) = codes "C " ++ times w.first w.last ++ codes " fall\n"
+line_of w Undecided = codes "U " ++ times w.first w.last ++ codes "\n"
 
 abbrev pub is_certain : Holds → Bool
 is_certain (Certain turn) = true
@@ -30,13 +30,16 @@ unfoldable pub request_text : List ℕ
 request_text = codes "FIND coord target mercury second - observer ssb frame eq axis x values 0 dir any width 1 depth 40 cut half span "
 
 -- the request, and the first and last time of its span
-abbrev pub request_line : ℤ → ℤ → List ℕ
-request_line from to = request_text ++ signed_decimal from ++ codes " " ++ signed_decimal to ++ codes "\n"
+unfoldable pub request_line : ℤ → ℤ → List ℕ
+request_line from to = request_text ++ times from to ++ codes "\n"
 
 abbrev pub window_lines : List Window → List ℕ
 window_lines ws = flat_map (λ w. line_of w w.holds) ws
 
+-- a line for each window, and the counts
+abbrev pub results : List Window → List ℕ
+results ws =
+    window_lines ws ++ codes "END certain " ++ decimal (certain_count ws) ++ codes " undecided " ++ decimal (undecided_count ws) ++ codes "\n"
+
 abbrev pub report : ℤ → ℤ → List Window → List ℕ
-report from to ws =
-    request_line from to ++ window_lines ws
-    ++ codes "END certain " ++ decimal (certain_count ws) ++ codes " undecided " ++ decimal (undecided_count ws) ++ codes "\n"
+report from to ws = request_line from to ++ results ws

@@ -1,6 +1,6 @@
 use Rattle.std.proofs.Common.{rules, arith, ◌≡◌}
 use Rattle.spec_ephemeris.specs.Ephemeris.{IsEphemeris, block_numbers, granule_numbers}
-use Rattle.eph_model.proofs.GranuleNumbers.{numbers_count, numbers_bounded}
+use Rattle.spec_ephemeris.proofs.GranuleNumbers.{numbers_count, numbers_bounded}
 use Rattle.eph_model.proofs.ephemeris.Ephemeris.granule_numbers.Goals as goal
 
 pub overflow_sub-first : goal.overflow_sub-first

@@ -1,0 +1,27 @@
+use Rattle.std.proofs.Common.{◌≡◌, ◌∙◌}
+use Rattle.std.proofs.lemmas.Int.{to_z-of_z}
+use Rattle.spec_chebyshev.specs.declared.ends.Ival62.{Ival62}
+use Rattle.spec_enclosures.specs.Enclosures.{position_over, position_interval, arguments}
+use Rattle.spec_enclosures.proofs.HeldSpans.{Holds-position}
+use Rattle.cheby_enclose.specs.Granules.{series_of}
+use Rattle.cheby_enclose.proofs.GranuleSeries.{IsSeries-of, IsSpan-of}
+use Rattle.cheby_enclose.proofs.positions.position.Goals as goal
+use Rattle.cheby_enclose.proofs.positions.position.Goals.{After-position_over}
+
+equals : (c : After-position_over) → c.position_over.result ≡ position_interval (series_of c.args.g.now c.args.axis) c.args.a c.args.b
+equals c =
+    let a = c.ranges.a in
+    let b = c.ranges.b in
+    let e : c.arguments.result ≡ arguments (series_of c.args.g.now c.args.axis) c.args.a c.args.b = simp to_z-of_z at (c.arguments.ensures.equals c.args.axis) in
+    let x : c.over-bases.result.arguments ≡ arguments (series_of c.args.g.now c.args.axis) c.args.a c.args.b = c.over-bases.ensures.arguments ∙ e in
+    let t = c.of-terms.ensures in
+    c.position_over.ensures ∙ λ i. position_over (t i) (x i)
+
+pub returns-clause-equals : goal.returns-clause-equals
+returns-clause-equals c = equals c
+
+pub returns-clause-holds : goal.returns-clause-holds
+returns-clause-holds c t from to =
+    let is = IsSeries-of c.args.g.now c.requires.granule c.args.axis c.requires.axis in
+    let span = IsSpan-of c.args.g.now c.requires.granule c.args.axis c.requires.axis c.args.a c.args.b c.requires.from c.requires.order c.requires.upto in
+    rw (equals c) (Holds-position (series_of c.args.g.now c.args.axis) c.args.a c.args.b t is span from to)

@@ -1,0 +1,38 @@
+use Rattle.std.proofs.Common.{rules, ◌≡◌, ◌≤ℤ◌, ◌∙◌, ◌^◌, pos, neg_ℤ, to_z, of_z, ℕ, ◌<◌, ◌+◌, arith, length}
+use Rattle.std.proofs.lemmas.Int.{to_z-of_z}
+use mir.Syntax.{w128}
+use mir.Val.{SFits}
+use Rattle.spec_intervals.specs.Interval.{narrow}
+use Rattle.spec_chebyshev.specs.Rows.{entry, t_row}
+use Rattle.spec_enclosures.specs.Sums.{sum_low, sum_high}
+use Rattle.spec_enclosures.specs.Enclosures.{position_over}
+use Rattle.cheby_laws.proofs.Bounds.{t_within}
+use Rattle.cheby_enclose.proofs.LoopSums.{low_same, high_same, sums_ordered}
+use Rattle.cheby_enclose.proofs.positions.position_over.Goals as goal
+use Rattle.cheby_enclose.proofs.positions.position_over.Goals.{After-row_sum-sum}
+
+pub row_sum-sum-requires : goal.row_sum-sum-requires
+row_sum-sum-requires c k h = rw (c.requires.t k h) (t_within c.args.bases.now.arguments c.requires.arguments k)
+
+low_is : (c : After-row_sum-sum) → to_z w128 (of_z w128 c.row_sum-sum.result.lo) ≡ sum_low (t_row c.args.bases.now.arguments) 0 c.args.terms.now
+low_is c =
+    let f : SFits w128 c.row_sum-sum.result.lo = search rules in
+    to_z-of_z w128 c.row_sum-sum.result.lo f
+    ∙ (c.row_sum-sum.ensures.lo ∙ low_same (entry c.args.bases.now.rows.t) (t_row c.args.bases.now.arguments) 0 c.args.terms.now (λ j h. c.requires.t j (omega (arith, h))))
+
+high_is : (c : After-row_sum-sum) → to_z w128 (of_z w128 c.row_sum-sum.result.hi) ≡ sum_high (t_row c.args.bases.now.arguments) 0 c.args.terms.now
+high_is c =
+    let f : SFits w128 c.row_sum-sum.result.hi = search rules in
+    to_z-of_z w128 c.row_sum-sum.result.hi f
+    ∙ (c.row_sum-sum.ensures.hi ∙ high_same (entry c.args.bases.now.rows.t) (t_row c.args.bases.now.arguments) 0 c.args.terms.now (λ j h. c.requires.t j (omega (arith, h))))
+
+pub of-requires-clause-ordered : goal.of-requires-clause-ordered
+of-requires-clause-ordered c =
+    let d = (goal.at.of-requires-clause-ordered c).After-row_sum-sum in
+    rw (low_is d, high_is d) (sums_ordered (t_row c.args.bases.now.arguments) 0 c.args.terms.now)
+
+pub returns : goal.returns
+unfolding position_over
+returns c =
+    let d = (goal.at.returns c).After-row_sum-sum in
+    c.of.ensures.equals ∙ λ i. narrow (low_is d i) (high_is d i) (neg_ℤ (pos 84))

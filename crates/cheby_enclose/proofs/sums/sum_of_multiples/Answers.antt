@@ -1,0 +1,100 @@
+use Rattle.std.proofs.Common.{◌≡◌, ℕ, ◌<◌, ◌≤◌, ◌*◌, ◌^◌, ◌+◌, ◌-◌, suc, sym, subst, ℤ, arith, length, get_or, unsigned_abs, ◌+ℤ◌, ◌*ℤ◌, pos}
+use Rattle.std.proofs.lemmas.Int.{ints}
+use Rattle.spec_intervals.specs.Interval.{least4, greatest4}
+use Rattle.spec_chebyshev.specs.Rows.{entry, nothing, EndsWithin}
+use Rattle.cheby_enclose.specs.Rows.{entry_size, slope_sizes}
+use Rattle.cheby_enclose.proofs.LoopSums.{low_multiple, high_multiple, least_size, greatest_size, sum_size, multiple_size, size_more, sizes_grow, EndsWithin-size}
+use Rattle.cheby_enclose.proofs.sums.sum_of_multiples.Goals as goal
+use Rattle.cheby_enclose.proofs.sums.sum_of_multiples.Goals.{After-product}
+
+module _ (c : After-product) where
+  abbrev k : ℕ
+  k = c.loop-k.k
+
+  before : suc (k - 1) < length c.args.terms.now
+  before = let p = c.loop-k-test.true in omega (arith, p)
+
+  small_low : unsigned_abs c.product.result.lo ≤ 2 ^ 60 * 2 ^ 60
+  small_low = rw c.product.ensures.lo (least_size (get_or c.args.terms.now k nothing) (entry c.args.row.now (k - 1)) (2 ^ 60) (2 ^ 60) (c.requires.terms.small k nothing c.loop-k-test.true) (c.requires.row.small (k - 1) before))
+
+  small_high : unsigned_abs c.product.result.hi ≤ 2 ^ 60 * 2 ^ 60
+  small_high = rw c.product.ensures.hi (greatest_size (get_or c.args.terms.now k nothing) (entry c.args.row.now (k - 1)) (2 ^ 60) (2 ^ 60) (c.requires.terms.small k nothing c.loop-k-test.true) (c.requires.row.small (k - 1) before))
+
+  low_size : unsigned_abs (pos k *ℤ c.product.result.lo) ≤ k * (2 ^ 60 * entry_size c.args.row.now (k - 1))
+  low_size =
+      let here = get_or c.args.terms.now k nothing in
+      let e = entry c.args.row.now (k - 1) in
+      let m = entry_size c.args.row.now (k - 1) in
+      let r : unsigned_abs c.product.result.lo ≤ 2 ^ 60 * entry_size c.args.row.now (k - 1) = subst (λ (z : ℤ). unsigned_abs z ≤ 2 ^ 60 * entry_size c.args.row.now (k - 1)) (sym c.product.ensures.lo) (least_size here e (2 ^ 60) m (c.requires.terms.small k nothing c.loop-k-test.true) (EndsWithin-size c.args.row.now (k - 1))) in
+      multiple_size k c.product.result.lo (2 ^ 60 * m) r
+
+  high_size : unsigned_abs (pos k *ℤ c.product.result.hi) ≤ k * (2 ^ 60 * entry_size c.args.row.now (k - 1))
+  high_size =
+      let here = get_or c.args.terms.now k nothing in
+      let e = entry c.args.row.now (k - 1) in
+      let m = entry_size c.args.row.now (k - 1) in
+      let r : unsigned_abs c.product.result.hi ≤ 2 ^ 60 * entry_size c.args.row.now (k - 1) = subst (λ (z : ℤ). unsigned_abs z ≤ 2 ^ 60 * entry_size c.args.row.now (k - 1)) (sym c.product.ensures.hi) (greatest_size here e (2 ^ 60) m (c.requires.terms.small k nothing c.loop-k-test.true) (EndsWithin-size c.args.row.now (k - 1))) in
+      multiple_size k c.product.result.hi (2 ^ 60 * m) r
+
+  more : slope_sizes (entry_size c.args.row.now) k + k * (2 ^ 60 * entry_size c.args.row.now (k - 1)) ≡ slope_sizes (entry_size c.args.row.now) (k + 1)
+  more = size_more (entry_size c.args.row.now) k c.loop-k.auto.k
+
+  bounded : slope_sizes (entry_size c.args.row.now) (k + 1) ≤ 2 ^ 125
+  bounded =
+      let g = sizes_grow (entry_size c.args.row.now) (k + 1) (length c.args.terms.now) (let p = c.loop-k-test.true in omega (arith, p)) in
+      let t = c.requires.row.total in
+      omega (arith, g, t)
+
+pub multiple-requires-clause-lo_size : goal.multiple-requires-clause-lo_size
+multiple-requires-clause-lo_size c = small_low c
+
+pub multiple-requires-clause-hi_size : goal.multiple-requires-clause-hi_size
+multiple-requires-clause-hi_size c = small_high c
+
+pub added-sum-requires-clause-one_lo : goal.added-sum-requires-clause-one_lo
+added-sum-requires-clause-one_lo c =
+    let d = (goal.at.added-sum-requires-clause-one_lo c).After-product in
+    let p = c.loop-k.invariant.lo_size in
+    let m = more d in
+    let b = bounded d in
+    omega (arith, p, m, b)
+
+pub added-sum-requires-clause-one_hi : goal.added-sum-requires-clause-one_hi
+added-sum-requires-clause-one_hi c =
+    let d = (goal.at.added-sum-requires-clause-one_hi c).After-product in
+    let p = c.loop-k.invariant.hi_size in
+    let m = more d in
+    let b = bounded d in
+    omega (arith, p, m, b)
+
+pub added-sum-requires-clause-other_lo : goal.added-sum-requires-clause-other_lo
+added-sum-requires-clause-other_lo c =
+    let d = (goal.at.added-sum-requires-clause-other_lo c).After-product in
+    let p = low_size d in
+    let m = more d in
+    let b = bounded d in
+    rw c.multiple.ensures.lo (omega (arith, p, m, b))
+
+pub added-sum-requires-clause-other_hi : goal.added-sum-requires-clause-other_hi
+added-sum-requires-clause-other_hi c =
+    let d = (goal.at.added-sum-requires-clause-other_hi c).After-product in
+    let p = high_size d in
+    let m = more d in
+    let b = bounded d in
+    rw c.multiple.ensures.hi (omega (arith, p, m, b))
+
+pub loop-k-preserved : goal.loop-k-preserved
+loop-k-preserved c =
+    let d = (goal.at.loop-k-preserved c).After-product in
+    let inv = c.loop-k.invariant in
+    let row = entry c.args.row.now in
+    let terms = c.args.terms.now in
+    let m = more d in
+    let sl = sum_size c.loop-k.sum.lo (pos c.loop-k.k *ℤ c.product.result.lo) _ _ inv.lo_size (low_size d) in
+    let sh = sum_size c.loop-k.sum.hi (pos c.loop-k.k *ℤ c.product.result.hi) _ _ inv.hi_size (high_size d) in
+    record {
+      lo = rw (c.added-sum.ensures.lo, c.multiple.ensures.lo, c.product.ensures.lo) (low_multiple row terms c.loop-k.sum.lo _ c.loop-k.k c.loop-k.auto.k c.loop-k-test.true inv.lo);
+      hi = rw (c.added-sum.ensures.hi, c.multiple.ensures.hi, c.product.ensures.hi) (high_multiple row terms c.loop-k.sum.hi _ c.loop-k.k c.loop-k.auto.k c.loop-k-test.true inv.hi);
+      lo_size = rw (c.added-sum.ensures.lo, c.multiple.ensures.lo) (omega (arith, sl, m));
+      hi_size = rw (c.added-sum.ensures.hi, c.multiple.ensures.hi) (omega (arith, sh, m));
+    }

@@ -1,0 +1,13 @@
+use Rattle.std.proofs.Common.{◌≡◌, ℕ, ◌≤◌, ◌*◌, ◌^◌, length, drop, ◌+ℤ◌, unsigned_abs}
+use Rattle.spec_chebyshev.specs.Rows.{entry}
+use Rattle.spec_enclosures.specs.Sums.{multiples, sum_low, sum_high}
+use Rattle.cheby_enclose.specs.Rows.{slope_sizes, entry_size}
+use Rattle.cheby_enclose.proofs.sums.sum_of_multiples.Given as goal
+
+abbrev pub invariant-loop-k : goal.invariant-loop-k
+invariant-loop-k l = record {
+  lo : l.sum.lo +ℤ sum_low (multiples (entry l.row)) l.k (drop l.k l.terms) ≡ sum_low (multiples (entry l.row)) 1 (drop 1 l.terms);
+  hi : l.sum.hi +ℤ sum_high (multiples (entry l.row)) l.k (drop l.k l.terms) ≡ sum_high (multiples (entry l.row)) 1 (drop 1 l.terms);
+  lo_size : unsigned_abs l.sum.lo ≤ slope_sizes (entry_size l.row) l.k;
+  hi_size : unsigned_abs l.sum.hi ≤ slope_sizes (entry_size l.row) l.k;
+}

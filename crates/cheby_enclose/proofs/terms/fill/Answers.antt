@@ -1,0 +1,9 @@
+use Rattle.std.proofs.Common.{◌≡◌, ◌<◌, ◌≤◌, arith, length}
+use Rattle.std.proofs.lemmas.List.{take_all}
+use Rattle.cheby_enclose.proofs.TermLists.{terms_more}
+use Rattle.cheby_enclose.proofs.terms.fill.Goals as goal
+
+pub returns : goal.returns
+returns c =
+    let e : c.loop-k.k ≡ length c.args.coefs.now = omega arith in
+    record { terms = rw (e, take_all (length c.args.coefs.now) c.args.coefs.now (omega arith)) at c.loop-k.invariant.0 }

@@ -1,0 +1,69 @@
+// The interval of a coordinate over a span of times.
+ghost use Rattle.std.specs.Prelude.{◌≡◌, ℕ, ◌<◌, ◌≤◌, length, ℤ, ◌≤ℤ◌, ◌+ℤ◌};
+ghost use Rattle.spec_intervals.specs.Fraction.{Holds};
+ghost use Rattle.spec_chebyshev.specs.Rows.{t_row, entry, IsArguments};
+ghost use Rattle.spec_ephemeris.specs.Series.{position};
+ghost use Rattle.spec_enclosures.specs.Enclosures.{IsTight, position_interval, position_over};
+ghost use Rattle.cheby_enclose.specs.Granules.{IsEvaluable, series_of};
+
+use crate::granules::arguments;
+use crate::sums::row_sum;
+use crate::terms::Terms;
+use cheby_laws::{Basis, basis_t};
+use eph_model::Granule;
+use ival_core::Ival;
+use spec_chebyshev::Ival62;
+
+/// An interval of arguments, and the rows of the bases over it. Which rows are made, and how far, is the caller's
+/// matter; `over` makes the one that positions need.
+#[derive(Drop)]
+pub struct Bases {
+    pub arguments: Ival62,
+    pub rows: Basis,
+}
+
+impl Bases {
+    /// The first `n` entries of T over an interval of arguments.
+    pub fn over(arguments: Ival62, n: usize) -> Self
+        requires arguments { IsArguments arguments }
+        requires few { n ≤ 32 }
+        ensures arguments { result.arguments ≡ arguments }
+        ensures t { (k : ℕ) → k < n → entry result.rows.t k ≡ t_row arguments k }
+    {
+        let nothing = [Ival62 { lo: 0, hi: 0 }; 32];
+        let mut rows = Basis {
+            t: nothing,
+            u: nothing,
+            q: nothing,
+            r: nothing,
+        };
+        basis_t(arguments, n, &mut rows);
+        Bases { arguments, rows }
+    }
+}
+
+/// The interval of a coordinate, in km: the sum of the products of its terms with the row of T, narrowed once.
+pub fn position_over(terms: &Terms, bases: &Bases) -> Ival
+    requires arguments { IsArguments bases.now.arguments }
+    requires t { (k : ℕ) → k < length terms.now → entry bases.now.rows.t k ≡ t_row bases.now.arguments k }
+    ensures { result ≡ position_over terms.now bases.now.arguments }
+{
+    let sum = row_sum(terms, &bases.rows.t);
+    Ival::of(sum.lo, sum.hi, -84)
+}
+
+/// The interval of one coordinate of a granule, in km, from time `a` to time `b`, in seconds of TDB since J2000. Axes are
+/// counted from 0.
+pub fn position(g: &Granule, axis: usize, a: i64, b: i64) -> Ival
+    requires granule { IsEvaluable g.now }
+    requires axis { axis < g.now.comps }
+    requires from { g.now.start ≤ℤ a }
+    requires order { a ≤ℤ b }
+    requires upto { b ≤ℤ (g.now.start +ℤ g.now.seconds) }
+    ensures equals { result ≡ position_interval (series_of g.now axis) a b }
+    ensures holds { (t : ℤ) → a ≤ℤ t → t ≤ℤ b → Holds result (position (series_of g.now axis) t) }
+{
+    let terms = Terms::of(g, axis);
+    let bases = Bases::over(arguments(g, a, b), g.n);
+    position_over(&terms, &bases)
+}

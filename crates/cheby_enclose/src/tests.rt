@@ -1,0 +1,1 @@
+// Values from an exact reference.

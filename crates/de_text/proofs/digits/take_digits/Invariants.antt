@@ -1,0 +1,12 @@
+use Rattle.std.proofs.Common.{◌≡◌, ◌+◌, ◌^◌, ◌<◌, length, drop}
+use Rattle.spec_text.specs.Decimals.{value_after}
+use Rattle.spec_text.specs.Splitting.{digits_at}
+use Rattle.de_text.proofs.digits.take_digits.Given as goal
+
+abbrev pub invariant-loop-i : goal.invariant-loop-i
+invariant-loop-i l = record {
+  cap : l.number < 10 ^ 19;
+  number : value_after l.number (digits_at (drop l.i l.text)).0 ≡ value_after l.start (digits_at l.text).0;
+  count : length (digits_at l.text).0 ≡ l.i + length (digits_at (drop l.i l.text)).0;
+  rest : (digits_at l.text).1 ≡ (digits_at (drop l.i l.text)).1;
+}

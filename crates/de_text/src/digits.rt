@@ -1,0 +1,79 @@
+// Digits, and the number that they write.
+ghost use Rattle.std.specs.Prelude.{◌≡◌, ◌≤◌, ◌^◌, drop, length, min};
+ghost use Rattle.spec_text.specs.Decimals.{AreDigits, value_after};
+ghost use Rattle.spec_text.specs.Splitting.{digits_at};
+
+// Ten to the number of digits that a decimal may have. A greater number counts as this one.
+pub(crate) const CAP: u64 = 1_000_000_000_000_000_000;
+
+// The digits at the front of a text: the number that they write behind an earlier one, at most `CAP`, and how many
+// there are.
+#[derive(Clone, Copy)]
+pub(crate) struct Digits<'a> {
+    pub number: u64,
+    pub count: usize,
+    pub rest: &'a [u8],
+}
+
+// How many digits stand at the front.
+#[tactic(auto, using(crate::proofs::Fronts::digits_more, crate::proofs::Fronts::digits_end))]
+fn digit_count(text: &[u8]) -> usize
+    ensures count { result ≡ length (digits_at text.now).0 }
+    ensures within { result ≤ length text.now }
+    ensures rest { drop result text.now ≡ (digits_at text.now).1 }
+{
+    for (i, b) in text.iter().enumerate() {
+        if !b.is_ascii_digit() {
+            return i;
+        }
+    }
+    text.len()
+}
+
+// The digits at the front. Once their number has reached the cap, further digits are counted alone.
+#[tactic(auto, using(crate::proofs::Fronts::digits_more, crate::proofs::Fronts::digits_end, crate::proofs::Fronts::value_step))]
+pub(crate) fn take_digits(start: u64, text: &[u8]) -> Digits<'_>
+    requires { start ≤ 10 ^ 18 }
+    ensures number { result.number ≡ min (value_after start (digits_at text.now).0) (10 ^ 18) }
+    ensures count { result.count ≡ length (digits_at text.now).0 }
+    ensures rest { result.rest.now ≡ (digits_at text.now).1 }
+{
+    let mut number = start;
+    for (i, b) in text.iter().enumerate() {
+        if !b.is_ascii_digit() {
+            return Digits {
+                number: number.min(CAP),
+                count: i,
+                rest: &text[i..],
+            };
+        }
+        if number >= CAP {
+            let count = i + digit_count(&text[i..]);
+            return Digits {
+                number: CAP,
+                count,
+                rest: &text[count..],
+            };
+        }
+        number = 10 * number + u64::from(*b - b'0');
+    }
+    Digits {
+        number: number.min(CAP),
+        count: text.len(),
+        rest: &[],
+    }
+}
+
+// The number that the digits write, at most `CAP`.
+#[tactic(auto, using(crate::proofs::Values::digit_at, crate::proofs::Values::capped_more))]
+pub(crate) fn capped(start: u64, digits: &[u8]) -> u64
+    requires cap { start ≤ 10 ^ 18 }
+    requires digits { AreDigits digits.now }
+    ensures { result ≡ min (value_after start digits.now) (10 ^ 18) }
+{
+    let mut n = start;
+    for b in digits {
+        n = (10 * n + u64::from(*b - b'0')).min(CAP);
+    }
+    n
+}

@@ -1,0 +1,12 @@
+//! Expressions of the coordinates of two bodies, with two meanings, and the enclosure of one over any states.
+//!
+//! In comes a formula, which is an expression within limits, with states that answer an enclosure for each coordinate
+//! over a span of times; out comes the enclosure of the formula over that span. It holds the exact value in the middle,
+//! at each time and from each time to the next. No call takes memory, and the states are asked once for each leaf.
+#![tactic(auto)]
+
+pub mod rules;
+mod states;
+
+pub use spec_expressions::Expr;
+pub use states::States;

@@ -1,0 +1,194 @@
+// The rules by which one enclosure is made from others, over the times from a first to a last.
+
+ghost use Rattle.std.specs.Prelude.{◌≡◌, ◌≤◌, ◌*◌, ◌-ℤ◌, pos, unsigned_abs, max, true, false};
+ghost use lib.Signed.{lt_z};
+ghost use Rattle.spec_intervals.specs.Interval.{Interval, end_limit};
+ghost use Rattle.spec_intervals.specs.Fraction.{Overlaps};
+ghost use Rattle.spec_expressions.specs.Enclosure.{IsSpan, IsWithin, AllWithin, Encloses, part_exponent, middle, centred, enclosure, constant_of, sum_of, difference_of, product_of, signed_square_of, twice_size};
+ghost use Rattle.event_expr.specs.States.{parts, wide_exponent};
+
+use ival_core::{Enclosure, Ival};
+use std::marker::Model;
+
+/// The times from a first to a last, with their distances from the middle.
+#[derive(Drop)]
+pub struct Span {
+    first: i64,
+    last: i64,
+    distances: Ival,
+}
+
+impl Model for Span {
+    ghost use Rattle.std.specs.Prelude.{◌≡◌};
+    ghost use Rattle.spec_expressions.specs.Enclosure.{IsSpan, offsets};
+    ghost use Rattle.event_expr.specs.States.{Times};
+
+    ghost Value = { Times };
+
+    ghost view = { λ s. record { first = s.first; last = s.last } };
+
+    ghost invariant = { λ s. IsSpan s.first s.last × (s.distances ≡ offsets s.first s.last) };
+}
+
+impl Span {
+    /// The times from `first` to `last`, at most 2^50 in size.
+    pub fn new(first: i64, last: i64) -> Span
+        requires { IsSpan first last }
+        ensures first { result.first ≡ first }
+        ensures last { result.last ≡ last }
+    {
+        let middle = middle(first, last);
+        let distances = Ival::of(distance(first, middle), distance(last, middle), 0);
+        Span {
+            first,
+            last,
+            distances,
+        }
+    }
+
+    /// A constant, by an interval that holds some number.
+    pub fn constant(&self, value: Ival) -> Enclosure
+        requires within { IsWithin part_exponent value }
+        requires number { Overlaps value value }
+        ensures { parts result ≡ constant_of self.now.first self.now.last value }
+    {
+        if self.is_wide() {
+            self.wide(value, value, Ival::zero())
+        } else {
+            self.single(value)
+        }
+    }
+
+    /// The sum.
+    pub fn sum(&self, x: Enclosure, y: Enclosure) -> Enclosure
+        requires x_within { AllWithin part_exponent (parts x) }
+        requires y_within { AllWithin part_exponent (parts y) }
+        requires x_encloses { Encloses self.now.first self.now.last (parts x) }
+        requires y_encloses { Encloses self.now.first self.now.last (parts y) }
+        ensures { parts result ≡ sum_of self.now.first self.now.last (parts x) (parts y) }
+    {
+        let mid = x.mid.add(y.mid);
+        if self.is_wide() {
+            self.wide(mid, x.range.add(y.range), x.step.add(y.step))
+        } else {
+            self.single(mid)
+        }
+    }
+
+    /// The first less the second.
+    pub fn difference(&self, x: Enclosure, y: Enclosure) -> Enclosure
+        requires x_within { AllWithin part_exponent (parts x) }
+        requires y_within { AllWithin part_exponent (parts y) }
+        requires x_encloses { Encloses self.now.first self.now.last (parts x) }
+        requires y_encloses { Encloses self.now.first self.now.last (parts y) }
+        ensures { parts result ≡ difference_of self.now.first self.now.last (parts x) (parts y) }
+    {
+        let mid = x.mid.sub(y.mid);
+        if self.is_wide() {
+            self.wide(mid, x.range.sub(y.range), x.step.sub(y.step))
+        } else {
+            self.single(mid)
+        }
+    }
+
+    /// The product. Its change is `x' (y' - y) + y (x' - x)`, with the later value of the first operand.
+    pub fn product(&self, x: Enclosure, y: Enclosure) -> Enclosure
+        requires x_within { AllWithin part_exponent (parts x) }
+        requires y_within { AllWithin part_exponent (parts y) }
+        requires x_encloses { Encloses self.now.first self.now.last (parts x) }
+        requires y_encloses { Encloses self.now.first self.now.last (parts y) }
+        ensures { parts result ≡ product_of self.now.first self.now.last (parts x) (parts y) }
+    {
+        let mid = x.mid.mul(y.mid);
+        if self.is_wide() {
+            let step = x.range.mul(y.step).add(y.range.mul(x.step));
+            self.wide(mid, x.range.mul(y.range), step)
+        } else {
+            self.single(mid)
+        }
+    }
+
+    /// The signed square. Its change lies between 0 and the change of the operand times twice its greatest size.
+    pub fn signed_square(&self, x: Enclosure) -> Enclosure
+        requires within { AllWithin part_exponent (parts x) }
+        requires encloses { Encloses self.now.first self.now.last (parts x) }
+        ensures { parts result ≡ signed_square_of self.now.first self.now.last (parts x) }
+    {
+        let mid = x.mid.signed_square();
+        if self.is_wide() {
+            let step = twice_size(x.range).mul(x.step);
+            self.wide(mid, x.range.signed_square(), step)
+        } else {
+            self.single(mid)
+        }
+    }
+
+    /// There is more than one time.
+    fn is_wide(&self) -> bool
+        ensures { result ≡ lt_z self.now.first self.now.last }
+    {
+        self.first < self.last
+    }
+
+    /// At a single time the range is the mid and nothing changes, whatever the other parts.
+    fn single(&self, mid: Ival) -> Enclosure
+        requires { lt_z self.now.first self.now.last ≡ false }
+        ensures { (plain step : Interval) → parts result ≡ enclosure self.now.first self.now.last mid plain step }
+    {
+        Enclosure {
+            mid,
+            range: mid,
+            step: Ival::zero(),
+        }
+    }
+
+    /// The range is what the plain one shares with the values that steps reach from the middle.
+    fn wide(&self, mid: Ival, plain: Ival, step: Ival) -> Enclosure
+        requires several { lt_z self.now.first self.now.last ≡ true }
+        requires mid_within { IsWithin wide_exponent mid }
+        requires plain_within { IsWithin wide_exponent plain }
+        requires step_within { IsWithin wide_exponent step }
+        requires shared { Overlaps plain (centred self.now.first self.now.last mid step) }
+        ensures { parts result ≡ enclosure self.now.first self.now.last mid plain step }
+    {
+        let centred = mid.add(step.mul(self.distances));
+        Enclosure {
+            mid,
+            range: plain.meet(centred),
+            step,
+        }
+    }
+}
+
+/// The time halfway, or the last before it.
+fn middle(first: i64, last: i64) -> i64
+    requires { IsSpan first last }
+    ensures { result ≡ middle first last }
+{
+    (first + last).div_euclid(2)
+}
+
+/// How far `time` is after `origin`.
+fn distance(time: i64, origin: i64) -> i128
+    ensures { result ≡ time -ℤ origin }
+{
+    time as i128 - origin as i128
+}
+
+/// From 0 to twice the greatest size in the interval.
+fn twice_size(range: Ival) -> Ival
+    requires { IsWithin part_exponent range }
+    ensures { result ≡ twice_size range }
+{
+    let (lo, hi, s) = range.parts();
+    Ival::of(0, doubled_size(lo, hi), s)
+}
+
+/// Twice the size of the greater of two ends.
+fn doubled_size(lo: i128, hi: i128) -> i128
+    requires lo_small { unsigned_abs lo ≤ end_limit }
+    requires hi_small { unsigned_abs hi ≤ end_limit }
+    ensures { result ≡ pos (2 * max (unsigned_abs lo) (unsigned_abs hi)) }
+{
+    (2 * lo.unsigned_abs().max(hi.unsigned_abs())) as i128
+}

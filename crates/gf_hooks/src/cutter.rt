@@ -1,0 +1,45 @@
+// A closure that cuts spans, and the rule that it follows.
+ghost use Rattle.std.specs.Prelude.{◌≡◌, ℤ, ◌<ℤ◌};
+ghost use Rattle.spec_events.specs.Cuts.{CanCut, cut_of};
+
+use spec_events::CutRule;
+
+/// A closure that is asked where the span from a first time to a second one is cut.
+pub type Cut = Box<dyn Fn(i64, i64) -> i64 + Send + Sync>;
+
+/// A closure and the rule whose cuts it answers.
+#[derive(Drop)]
+pub struct Cutter {
+    rule: CutRule,
+    cut: Cut,
+    ghost callable: { (a b : ℤ) → CanCut a b → Cut.pre cut a b },
+    ghost answers: { (a b time : ℤ) → CanCut a b → Cut.post cut a b time → time ≡ cut_of rule a b },
+}
+
+impl Cutter {
+    /// Keeps a closure that can be called at each span that can be cut, and answers the rule's cut of it.
+    pub fn new(rule: CutRule, cut: Cut) -> Cutter
+        requires callable { (a b : ℤ) → CanCut a b → Cut.pre cut a b }
+        requires answers { (a b time : ℤ) → CanCut a b → Cut.post cut a b time → time ≡ cut_of rule a b }
+        ensures { result.rule ≡ rule }
+    {
+        Cutter { rule, cut }
+    }
+
+    /// The rule of the cuts.
+    pub fn rule(&self) -> CutRule
+        ensures { result ≡ self.now.rule }
+    {
+        self.rule
+    }
+
+    /// The rule's cut of the span from `a` to `b`, in seconds of TDB since J2000: a time strictly between them.
+    pub fn cut(&self, a: i64, b: i64) -> i64
+        requires { CanCut a b }
+        ensures cut { result ≡ cut_of self.now.rule a b }
+        ensures above { a <ℤ result }
+        ensures below { result <ℤ b }
+    {
+        (self.cut)(a, b)
+    }
+}

@@ -1,0 +1,16 @@
+//! Stored cuts: a closure that answers where a span is cut, with the fact beside it that it answers the cut of a named
+//! rule.
+//!
+//! In come the rule, the closure and that fact; out comes a `Cutter`, whose every cut is the rule's. Whoever holds one
+//! needs to know nothing of the closure.
+#![tactic(auto)]
+
+mod cutter;
+mod rules;
+
+pub use cutter::{Cut, Cutter};
+pub use rules::rule_cut;
+pub use spec_events::CutRule;
+
+#[cfg(test)]
+mod tests;

@@ -1,0 +1,26 @@
+// The cuts of the named rules.
+ghost use Rattle.std.specs.Prelude.{◌≡◌};
+ghost use Rattle.spec_events.specs.declared.cuts.CutRule.TheVariants.{Third};
+ghost use Rattle.spec_events.specs.Cuts.{CanCut, cut_of};
+
+use spec_events::CutRule;
+
+// The cut at the first third, but no less than one second past `a`.
+fn third_cut(a: i64, b: i64) -> i64
+    requires { CanCut a b }
+    ensures { result ≡ cut_of Third a b }
+{
+    let third = (b - a) / 3;
+    if third < 1 { a + 1 } else { a + third }
+}
+
+/// The rule's cut of the span from `a` to `b`, in seconds of TDB since J2000, for the closures of cutters.
+pub fn rule_cut(rule: CutRule, a: i64, b: i64) -> i64
+    requires { CanCut a b }
+    ensures { result ≡ cut_of rule a b }
+{
+    match rule {
+        CutRule::Half => a + (b - a) / 2,
+        CutRule::Third => third_cut(a, b),
+    }
+}

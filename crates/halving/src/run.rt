@@ -1,0 +1,74 @@
+// The leaves of a root, by one walk.
+ghost use Rattle.std.specs.Prelude.{◌≡◌, ◌<◌, ◌≤◌, [], ◌∷◌, ◌++◌, length, IfOk, IfErr, OnOk};
+ghost use Rattle.spec_events.specs.Tree.{Covers, IsValid, leaves, mark_of};
+ghost use Rattle.halving.specs.declared.run.RunError.TheVariants.{TooMany, Memory};
+
+use crate::judge::{Judge, rules_are_sound};
+use spec_events::{Leaf, Mark, Node, Verdict};
+use std::alloc::Global;
+
+/// Why a walk has no leaves to give: they are more than the limit, or there was no memory for them.
+#[derive(Debug, Drop, PartialEq, Eq)]
+pub enum RunError {
+    TooMany,
+    Memory,
+}
+
+// The mark of a leaf with this verdict. A node that is to be split is no leaf.
+fn mark(verdict: Verdict) -> Option<Mark>
+    ensures { result ≡ mark_of verdict }
+{
+    match verdict {
+        Verdict::Clear => Some(Mark::Clear),
+        Verdict::One(turn) => Some(Mark::One(turn)),
+        Verdict::Split => None,
+        Verdict::Undecided => Some(Mark::Undecided),
+    }
+}
+
+// Puts an item at the end.
+fn put<T: Drop>(list: &mut Vec<T>, item: T) -> Result<(), RunError>
+    ensures ok { OnOk result (list.new.items ≡ list.old.items ++ item ∷ []) }
+    ensures err { IfErr result (λ e. e ≡ Memory) }
+{
+    match list.push(item) {
+        Ok(()) => Ok(()),
+        Err(_) => Err(RunError::Memory),
+    }
+}
+
+/// The leaves of a valid root from left to right, or `TooMany` where they are more than `limit`. The nodes that wait
+/// are never more than the tree is deep.
+pub fn run_one<J: Judge>(
+    alloc: Global,
+    judge: &J,
+    root: Node,
+    limit: u32,
+) -> Result<Vec<Leaf>, RunError>
+    requires { IsValid (J.rules judge.now) root }
+    ensures leaves { IfOk result (λ found. found.items ≡ leaves (J.rules judge.now) root) }
+    ensures cover { IfOk result (λ found. Covers root.a found.items root.b) }
+    ensures few { IfOk result (λ found. length found.items ≤ limit) }
+    ensures too_many { IfErr result (λ error. error ≡ TooMany → limit < length (leaves (J.rules judge.now) root)) }
+{
+    rules_are_sound(judge);
+    let mut found = Vec::new(alloc);
+    let mut waiting = Vec::new(alloc);
+    put(&mut waiting, root)?;
+    while let Some(node) = waiting.pop() {
+        match mark(judge.judge(node)) {
+            Some(mark) => {
+                if found.len() == limit as usize {
+                    return Err(RunError::TooMany);
+                }
+                put(&mut found, Leaf { node, mark })?;
+            }
+            None => {
+                let (left, right) = judge.cut(node);
+                put(&mut waiting, right)?;
+                put(&mut waiting, left)?;
+            }
+        }
+    }
+    Ok(found)
+}

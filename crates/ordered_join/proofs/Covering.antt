@@ -1,0 +1,10 @@
+-- Each leaf of a cover stands for some time.
+use Rattle.std.proofs.Common.{List, [], ◌∷◌, All, ℤ}
+use Rattle.std.proofs.lemmas.List.Elements.{All-nil, All-cons}
+use Rattle.spec_events.specs.declared.tree.Leaf.{Leaf}
+use Rattle.spec_events.specs.Tree.{Covers}
+use Rattle.ordered_join.specs.Spans.{HasTime}
+
+pub all_have_time : (a b : ℤ) (ls : List Leaf) → Covers a ls b → All HasTime ls
+all_have_time a b [] c = All-nil HasTime
+all_have_time a b (l ∷ ls) c = All-cons HasTime l ls c.1 (all_have_time l.node.b b ls c.2)

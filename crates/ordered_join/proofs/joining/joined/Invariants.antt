@@ -1,0 +1,6 @@
+use Rattle.std.proofs.Common.{◌≡◌, ◌++◌, drop, None}
+use Rattle.spec_events.specs.Runs.{joined}
+use Rattle.ordered_join.proofs.joining.joined.Given as goal
+
+abbrev pub invariant-loop-leaf : goal.invariant-loop-leaf
+invariant-loop-leaf l = joined None l.leaves ≡ l.found.items ++ joined l.run (drop l.leaf-index l.leaves)

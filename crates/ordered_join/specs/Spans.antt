@@ -1,0 +1,7 @@
+-- What the walk over leaves asks of each.
+use Rattle.std.specs.Prelude.{◌<ℤ◌}
+use Rattle.spec_events.specs.declared.tree.Leaf.{Leaf}
+
+-- the leaf stands for some time
+abbrev pub HasTime : Leaf → Type 0
+HasTime l = l.node.a <ℤ l.node.b

@@ -1,0 +1,57 @@
+// The windows of a book.
+ghost use Rattle.std.specs.Prelude.{◌≡◌, IfOk};
+ghost use Rattle.spec_events.specs.Events.{AreInOrder, AreWithin};
+ghost use Rattle.spec_events.specs.Order.{booked_leaves, ordered_leaves};
+ghost use Rattle.spec_events.specs.Tree.{Covers};
+ghost use Rattle.spec_events.specs.Windows.{windows};
+
+use crate::joining::joined;
+use span_ledger::{Book, Booked};
+use spec_events::{Leaf, Window};
+use std::alloc::{AllocError, Global};
+use thiserror::Error;
+
+/// Memory ran out.
+#[derive(Debug, Drop, Error)]
+#[error("out of memory")]
+pub struct Memory;
+
+impl From<AllocError> for Memory {
+    fn from(_: AllocError) -> Self {
+        Memory
+    }
+}
+
+/// The windows of a book's leaves, put in order of time. The leaves follow one another over the book's root, without
+/// gap or overlap, in whatever order they were entered. Times are seconds of TDB since J2000. The leaves are sorted
+/// once.
+pub fn windows(alloc: Global, book: &Book) -> Result<Vec<Window>, Memory>
+    requires cover { Covers book.now.root.a (ordered_leaves book.now.entries.items) book.now.root.b }
+    ensures windows { IfOk result (λ found. found.items ≡ windows (ordered_leaves book.now.entries.items)) }
+    ensures within { IfOk result (λ found. AreWithin book.now.root.a book.now.root.b found.items) }
+    ensures in_order { IfOk result (λ found. AreInOrder found.items) }
+{
+    let leaves = ordered(alloc, &book.entries)?;
+    let found = joined(alloc, &leaves)?;
+    Ok(found)
+}
+
+// The leaves of entries, put in order of time.
+fn ordered(alloc: Global, entries: &[Booked]) -> Result<Vec<Leaf>, AllocError>
+    ensures { IfOk result (λ leaves. leaves.items ≡ ordered_leaves entries.now) }
+{
+    let mut leaves = leaves(alloc, entries)?;
+    leaves.sort_by_key(|leaf| leaf.node.a)?;
+    Ok(leaves)
+}
+
+// The leaves of entries, as they came.
+fn leaves(alloc: Global, entries: &[Booked]) -> Result<Vec<Leaf>, AllocError>
+    ensures { IfOk result (λ leaves. leaves.items ≡ booked_leaves entries.now) }
+{
+    let mut leaves = Vec::with_capacity(alloc, entries.len())?;
+    for entry in entries {
+        leaves.push(entry.leaf)?;
+    }
+    Ok(leaves)
+}

@@ -1,0 +1,5 @@
+mod GranuleAt
+mod Formulas
+mod InUse
+mod Columns
+pub mod Held

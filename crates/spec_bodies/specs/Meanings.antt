@@ -1,0 +1,39 @@
+-- The two meanings of a coordinate's formula, given those of the coordinates of columns: an exact value at each time, and
+-- an enclosure over the times from a to b.
+use Rattle.std.specs.Prelude.{ℕ, ◌+◌, ◌*◌, ◌^◌, ℤ, pos, neg_ℤ, ◌*ℤ◌, unsigned_abs}
+use borrow.Author.Differences.{up, down}
+use Rattle.spec_text.specs.declared.decimals.Decimal.{Decimal}
+use Rattle.spec_intervals.specs.Interval.{Interval, interval, floor_div, ceil_div, cosine_exponent}
+use Rattle.spec_intervals.specs.Fraction.{Fraction, fraction, fraction_add, fraction_sub, fraction_mul, decimal}
+use Rattle.spec_expressions.specs.Enclosure.{Enclosure, zero_interval, constant_of, sum_of, difference_of, product_of}
+use Rattle.spec_bodies.specs.Coordinates.{Factor, moon_share, cosine, sine, Coordinate, nothing, of_column, times, plus, less}
+
+-- ---- the factors
+-- 1 / (1 + m 10^q)
+abbrev pub share_beside : Decimal → Fraction
+share_beside ratio = fraction (pos (10 ^ down ratio.exp)) (10 ^ down ratio.exp + unsigned_abs ratio.mant * 10 ^ up ratio.exp)
+
+abbrev pub factor : Decimal → Factor → Fraction
+factor ratio moon_share = share_beside ratio
+factor ratio cosine = decimal (pos 917482062069182) (neg_ℤ (pos 15))
+factor ratio sine = decimal (pos 397777155931914) (neg_ℤ (pos 15))
+
+-- in units of 2^-60, rounded outward
+unfoldable pub factor_interval : Fraction → Interval
+factor_interval r = interval (floor_div (r.numerator *ℤ pos (2 ^ 60)) r.denominator) (ceil_div (r.numerator *ℤ pos (2 ^ 60)) r.denominator) cosine_exponent
+
+-- ---- the exact value at a time
+abbrev pub exact_of : (ℕ → ℕ → ℤ → Fraction) → (Factor → Fraction) → Coordinate → ℤ → Fraction
+exact_of column factors nothing t = fraction (pos 0) 1
+exact_of column factors (of_column number axis) t = column number axis t
+exact_of column factors (times f x) t = fraction_mul (factors f) (exact_of column factors x t)
+exact_of column factors (plus x y) t = fraction_add (exact_of column factors x t) (exact_of column factors y t)
+exact_of column factors (less x y) t = fraction_sub (exact_of column factors x t) (exact_of column factors y t)
+
+-- ---- the enclosure over the times from a to b
+abbrev pub enclosure_of : (ℕ → ℕ → Enclosure) → (Factor → Fraction) → ℤ → ℤ → Coordinate → Enclosure
+enclosure_of column factors a b nothing = constant_of a b zero_interval
+enclosure_of column factors a b (of_column number axis) = column number axis
+enclosure_of column factors a b (times f x) = product_of a b (constant_of a b (factor_interval (factors f))) (enclosure_of column factors a b x)
+enclosure_of column factors a b (plus x y) = sum_of a b (enclosure_of column factors a b x) (enclosure_of column factors a b y)
+enclosure_of column factors a b (less x y) = difference_of a b (enclosure_of column factors a b x) (enclosure_of column factors a b y)

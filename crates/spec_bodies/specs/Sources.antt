@@ -1,0 +1,56 @@
+-- From which columns of an ephemeris a body comes. Columns are counted from 1.
+use Rattle.std.specs.Prelude.{ℕ, ◌==◌, List, [], ◌∷◌, ◌++◌, Bool, true, false, ◌||◌}
+use Rattle.std.specs.List.{filter, list_any}
+use Rattle.spec_ephemeris.specs.declared.body.Body.{Body}
+use Rattle.spec_ephemeris.specs.declared.body.Body.TheVariants.{Mercury, Venus, Emb, Mars, Jupiter, Saturn, Uranus, Neptune, Pluto, Moon, Sun, Earth, Ssb}
+use Rattle.spec_bodies.specs.declared.source.Source.{Source}
+use Rattle.spec_bodies.specs.declared.source.Source.TheVariants.{OwnColumn, EarthOfPair, MoonOfPair, Origin}
+
+-- the columns of the barycentre of the Earth and the Moon, and of the Moon seen from the Earth
+abbrev pub emb_column : ℕ
+emb_column = 3
+
+abbrev pub moon_column : ℕ
+moon_column = 10
+
+abbrev pub source_of : Body → Source
+source_of Mercury = OwnColumn 1
+source_of Venus = OwnColumn 2
+source_of Emb = OwnColumn emb_column
+source_of Mars = OwnColumn 4
+source_of Jupiter = OwnColumn 5
+source_of Saturn = OwnColumn 6
+source_of Uranus = OwnColumn 7
+source_of Neptune = OwnColumn 8
+source_of Pluto = OwnColumn 9
+source_of Moon = MoonOfPair
+source_of Sun = OwnColumn 11
+source_of Earth = EarthOfPair
+source_of Ssb = Origin
+
+-- the columns that a body needs to be there
+abbrev pub needed : Source → List ℕ
+needed (OwnColumn number) = number ∷ []
+needed EarthOfPair = emb_column ∷ moon_column ∷ []
+needed MoonOfPair = emb_column ∷ moon_column ∷ []
+needed Origin = []
+
+-- the columns that a target seen from an observer is made of: one of the Earth and the Moon seen from the other is read
+-- from the Moon's column alone
+abbrev pub used : Source → Source → List ℕ
+used MoonOfPair EarthOfPair = moon_column ∷ []
+used EarthOfPair MoonOfPair = moon_column ∷ []
+used target observer = needed target ++ needed observer
+
+abbrev pub body_columns : List ℕ
+body_columns = 1 ∷ 2 ∷ 3 ∷ 4 ∷ 5 ∷ 6 ∷ 7 ∷ 8 ∷ 9 ∷ 10 ∷ 11 ∷ []
+
+-- the columns in use for two targets, in order and each once
+abbrev pub is_among : List ℕ → ℕ → Bool
+is_among numbers number = list_any (λ n. n == number) numbers
+
+abbrev pub is_in_use : Source → Source → Source → ℕ → Bool
+is_in_use first second observer number = is_among (used first observer) number || is_among (used second observer) number
+
+abbrev pub columns_in_use : Source → Source → Source → List ℕ
+columns_in_use first second observer = filter (is_in_use first second observer) body_columns

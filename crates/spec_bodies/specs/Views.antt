@@ -1,0 +1,101 @@
+-- Two targets seen from an observer in a frame, over an ephemeris: their exact positions and velocities at each time, and
+-- the enclosures of these over a span of times. Positions are in km, velocities in km a second.
+use Rattle.std.specs.Prelude.{◌≡◌, ◌≢◌, ℕ, zero, suc, ◌<◌, ◌≤◌, All, IsTrue, List, ◌∷◌, ◌++◌, slice_index_or, ℤ, ◌≤ℤ◌}
+use Rattle.spec_intervals.specs.Fraction.{Fraction}
+use Rattle.spec_ephemeris.specs.declared.body.Body.{Body}
+use Rattle.spec_ephemeris.specs.declared.body.Body.TheVariants.{Ssb}
+use Rattle.spec_ephemeris.specs.declared.limits.TheConstants.{BODY_COLUMNS}
+use Rattle.spec_ephemeris.specs.Header.{has_column}
+use Rattle.spec_ephemeris.specs.Series.{Series, position}
+use Rattle.spec_ephemeris.specs.Ephemeris.{Ephemeris, IsEphemeris, IsBorderIn, end_of}
+use Rattle.spec_enclosures.specs.Velocity.{velocity}
+use Rattle.spec_enclosures.specs.Enclosures.{position_interval, position_step_interval, velocity_interval, velocity_step_interval}
+use Rattle.spec_expressions.specs.Enclosure.{Enclosure, enclosure, middle}
+use Rattle.spec_expressions.specs.Expression.{Leaf, position as position_of, velocity as velocity_of}
+use Rattle.spec_bodies.specs.declared.frame.Frame.{Frame}
+use Rattle.spec_bodies.specs.declared.source.Source.{Source}
+use Rattle.spec_bodies.specs.Sources.{source_of, needed, columns_in_use}
+use Rattle.spec_bodies.specs.Coordinates.{Coordinate, coordinate}
+use Rattle.spec_bodies.specs.Granules.{series_at}
+use Rattle.spec_bodies.specs.Meanings.{factor, exact_of, enclosure_of}
+
+pub record View : Type 0 where
+  pub ephemeris : Ephemeris
+  pub first : Source
+  pub second : Source
+  pub observer : Source
+  pub frame : Frame
+
+abbrev pub view_of : Ephemeris → List Body → Body → Frame → View
+view_of e targets observer frame = record {
+  ephemeris = e;
+  first = source_of (slice_index_or targets 0 Ssb);
+  second = source_of (slice_index_or targets 1 Ssb);
+  observer = source_of observer;
+  frame = frame;
+}
+
+-- the targets are numbered 0 and 1
+abbrev pub target_of : View → ℕ → Source
+target_of v zero = v.first
+target_of v (suc target) = v.second
+
+abbrev pub columns_of : View → List ℕ
+columns_of v = columns_in_use v.first v.second v.observer
+
+abbrev pub coordinate_of : View → ℕ → ℕ → Coordinate
+coordinate_of v target axis = coordinate (target_of v target) v.observer v.frame axis
+
+-- ---- what an ephemeris must have
+abbrev pub HasColumns : Ephemeris → List ℕ → Type 0
+HasColumns e = All (λ number. IsTrue (has_column e.header number))
+
+-- the columns of a source are there, and are those of bodies
+pub record IsThere (e : Ephemeris) (s : Source) : Type 0 where
+  pub present : HasColumns e (needed s)
+  pub of_bodies : All (λ number. number ≤ BODY_COLUMNS) (needed s)
+
+pub record IsView (v : View) : Type 0 where
+  pub checked : IsEphemeris v.ephemeris
+  pub block : 0 < v.ephemeris.blocks
+  pub first : IsThere v.ephemeris v.first
+  pub second : IsThere v.ephemeris v.second
+  pub observer : IsThere v.ephemeris v.observer
+
+-- ---- the exact values
+abbrev pub exact_position : View → ℕ → ℕ → ℤ → Fraction
+exact_position v target axis = exact_of (λ number axis t. position (series_at v.ephemeris number axis t) t) (factor v.ephemeris.header.emrat) (coordinate_of v target axis)
+
+abbrev pub exact_velocity : View → ℕ → ℕ → ℤ → Fraction
+exact_velocity v target axis = exact_of (λ number axis t. velocity (series_at v.ephemeris number axis t) t) (factor v.ephemeris.header.emrat) (coordinate_of v target axis)
+
+-- ---- the enclosures
+-- times from a to b, in order and within the ephemeris, between which no granule of the columns in use begins
+pub record Fits (v : View) (a b : ℤ) : Type 0 where
+  pub view : IsView v
+  pub ordered : a ≤ℤ b
+  pub from : v.ephemeris.start ≤ℤ a
+  pub upto : b ≤ℤ end_of v.ephemeris
+  pub no_border : (t : ℤ) → IsBorderIn v.ephemeris (columns_of v) a b t → ⊥
+
+-- of a series over such times
+abbrev pub series_positions : ℤ → ℤ → Series → Enclosure
+series_positions a b s = enclosure a b (position_interval s (middle a b) (middle a b)) (position_interval s a b) (position_step_interval s a b)
+
+abbrev pub series_velocities : ℤ → ℤ → Series → Enclosure
+series_velocities a b s = enclosure a b (velocity_interval s (middle a b) (middle a b)) (velocity_interval s a b) (velocity_step_interval s a b)
+
+abbrev pub position_enclosure : View → ℕ → ℕ → ℤ → ℤ → Enclosure
+position_enclosure v target axis a b = enclosure_of (λ number axis. series_positions a b (series_at v.ephemeris number axis a)) (factor v.ephemeris.header.emrat) a b (coordinate_of v target axis)
+
+abbrev pub velocity_enclosure : View → ℕ → ℕ → ℤ → ℤ → Enclosure
+velocity_enclosure v target axis a b = enclosure_of (λ number axis. series_velocities a b (series_at v.ephemeris number axis a)) (factor v.ephemeris.header.emrat) a b (coordinate_of v target axis)
+
+-- ---- both, of a coordinate that is asked for
+abbrev pub exact_state : View → Leaf → ℤ → Fraction
+exact_state v (position_of target axis) = exact_position v target axis
+exact_state v (velocity_of target axis) = exact_velocity v target axis
+
+abbrev pub state_enclosure : View → Leaf → ℤ → ℤ → Enclosure
+state_enclosure v (position_of target axis) = position_enclosure v target axis
+state_enclosure v (velocity_of target axis) = velocity_enclosure v target axis

@@ -1,0 +1,10 @@
+// The frames in which coordinates are given.
+
+/// The axes along which coordinates are measured.
+#[derive(Clone, Copy, Debug, PartialEq, Eq)]
+pub enum Frame {
+    /// The frame of the files: the mean equator and equinox of J2000.
+    Eq,
+    /// That frame turned round its x axis by the obliquity of the ecliptic of J2000.
+    Ecl,
+}

@@ -1,0 +1,5 @@
+pub mod Same
+pub mod PlainSums
+pub mod HeldSums
+pub mod HeldSpans
+pub mod HeldChanges

@@ -1,0 +1,4 @@
+pub mod Velocity
+pub mod Sums
+pub mod Enclosures
+pub mod Examples

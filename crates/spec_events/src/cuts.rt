@@ -1,0 +1,8 @@
+// Where a span is cut in two.
+
+/// The named rules by which a span is cut: in its middle, or at its first third.
+#[derive(Clone, Copy, PartialEq, Eq, Debug)]
+pub enum CutRule {
+    Half,
+    Third,
+}

@@ -1,0 +1,26 @@
+// The expressions.
+
+use spec_text::Decimal;
+
+/// A value that changes with time: made of coordinates of two bodies and of constants.
+///
+/// Positions and lengths are in km, velocities in km a second; cosines are numbers.
+#[derive(Drop)]
+pub enum Expr {
+    /// A coordinate of a target's position.
+    Pos { target: u8, axis: u8 },
+    /// A coordinate of a target's velocity.
+    Vel { target: u8, axis: u8 },
+    /// A constant length.
+    Length(Decimal),
+    /// A constant from -1 to 1.
+    Cosine(Decimal),
+    /// The sum.
+    Add(Box<Expr>, Box<Expr>),
+    /// The first less the second.
+    Sub(Box<Expr>, Box<Expr>),
+    /// The product.
+    Mul(Box<Expr>, Box<Expr>),
+    /// `x |x|`, which has the sign of `x` and grows with it.
+    SignedSquare(Box<Expr>),
+}

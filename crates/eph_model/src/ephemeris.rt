@@ -3,6 +3,7 @@ ghost use Rattle.std.specs.Prelude.{◌≡◌, ◌*◌, ◌^◌, ◌<◌, ◌≤
 ghost use Rattle.spec_ephemeris.specs.declared.limits.TheConstants.{BODY_COLUMNS, MOST_BLOCKS, MOST_COEFFICIENTS};
 ghost use Rattle.spec_ephemeris.specs.Header.{IsHeader, IsColumn, column_at, components, granule_size, has_column};
 ghost use Rattle.spec_ephemeris.specs.Ephemeris.{IsStart, IsBlock, IsBodyNumber, IsEphemeris, empty_ephemeris, with_block, end_of, IsGranuleAt, IsNearestBorder, block_numbers, granule_numbers};
+ghost use Rattle.eph_model.specs.Starting.{starting_at};
 ghost use Rattle.eph_model.specs.Grids.{IsGridOf};
 
 use crate::borders::preferred;
@@ -72,6 +73,14 @@ impl Ephemeris {
         self.numbers.extend_from_slice(numbers)?;
         self.blocks += 1;
         Ok(())
+    }
+
+    /// Says that the first block begins at this time, and the others behind it.
+    pub fn start_at(&mut self, start: i64)
+        requires { IsStart start }
+        ensures { self.new ≡ starting_at self.old start }
+    {
+        self.start = start;
     }
 
     /// The time at which the first block begins.

@@ -121,7 +121,7 @@ pub record IsWith (before e : Ephemeris) : Type 0 where
   pub header : e.header ≡ before.header
   pub some : 0 < e.blocks
 
-room : (a b : Bool) (x y : BrokenRule) → Holds (λ (u : Unit {0}). (a ≡ false) × (b ≡ true)) (if a then Err x else if b then Ok tt else Err y)
+pub room : (a b : Bool) (x y : BrokenRule) → Holds (λ (u : Unit {0}). (a ≡ false) × (b ≡ true)) (if a then Err x else if b then Ok tt else Err y)
 room true b x y = tt
 room false true x y = (refl, refl)
 room false false x y = tt
@@ -143,7 +143,7 @@ accepted_with before numbers start end checked fits is rule = elim (cases_Bool (
       })
 ]
 
-right_length : (c : Bool) (r : Result (Unit {0}) BrokenRule) (x : BrokenRule) → (if c then r else Err x) ≡ Ok tt → r ≡ Ok tt
+pub right_length : (c : Bool) (r : Result (Unit {0}) BrokenRule) (x : BrokenRule) → (if c then r else Err x) ≡ Ok tt → r ≡ Ok tt
 right_length true r x is = is
 right_length false r x is = absurd (cc)
 

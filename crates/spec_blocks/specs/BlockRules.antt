@@ -63,11 +63,14 @@ second_date before first second = do
   end ← time_of second
   if has_length before.header.block_seconds start end then follows before start end else Err (broken BLOCK_SPAN 0)
 
--- whether this place of a block, counted from 1, belongs to a present one of these columns, whose first has this number
+-- whether this place of a block, counted from 1, belongs to a present column of this number
+abbrev pub is_place : ℕ → Column → ℕ → Bool
+is_place number c place = is_present c && (nat_le c.start place && nat_lt place (c.start + column_size number c))
+
+-- whether it belongs to one of these columns, whose first has this number
 abbrev pub is_place_of : ℕ → List Column → ℕ → Bool
 is_place_of number [] place = false
-is_place_of number (c ∷ cs) place =
-    (is_present c && (nat_le c.start place && nat_lt place (c.start + column_size number c))) || is_place_of (suc number) cs place
+is_place_of number (c ∷ cs) place = is_place number c place || is_place_of (suc number) cs place
 
 -- the columns of bodies are the first ones
 abbrev pub is_place_of_body : List Column → ℕ → Bool

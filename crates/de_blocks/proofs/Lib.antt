@@ -1,0 +1,9 @@
+pub mod Places
+pub mod Times
+pub mod Large
+pub mod OnLines
+pub mod Enough
+pub mod Steps
+pub mod SameFile
+pub mod Pushing
+pub mod Walking

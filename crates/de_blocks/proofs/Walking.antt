@@ -1,0 +1,54 @@
+-- Numbers, word by word.
+use Rattle.std.proofs.Common.{◌≡◌, ℕ, suc, ◌-◌, ◌<◌, ◌≤◌, List, [], ◌∷◌, ◌++◌, length, take, drop, Result, Ok, Err, refl, sym, ◌∙◌, subst, arith}
+use Rattle.std.proofs.lemmas.List.{length-append, take-append-le}
+use Rattle.spec_text.specs.declared.decimals.Decimal.{Decimal}
+use Rattle.spec_ephemeris.specs.Ephemeris.{Ephemeris}
+use Rattle.spec_header.specs.declared.rules.BrokenRule.{BrokenRule}
+use Rattle.spec_blocks.specs.BlockRules.{number_rule}
+use Rattle.de_blocks.specs.Steps.{Pushes, ReadsNumbers, numbers_on, wanted}
+use Rattle.de_blocks.specs.declared.answers.Refusal.{Refusal}
+use Rattle.de_blocks.specs.declared.answers.Refusal.TheVariants.{Broken, Memory}
+
+-- what a loop over words keeps
+pub record Keeps (before : Ephemeris) (old new : List Decimal) (words left : List (List ℕ)) : Type 0 where
+  pub same : numbers_on before old (take (wanted before old) words) ≡ numbers_on before new (take (wanted before new) left)
+  pub behind : drop (wanted before old) words ≡ drop (wanted before new) left
+  pub front : take (length old) new ≡ old
+  pub more : length old ≤ length new
+  pub few : length new ≤ before.header.ncoeff
+
+abbrev on_number : Ephemeris → List Decimal → List (List ℕ) → Decimal → Result (List Decimal) BrokenRule
+on_number before numbers words d = numbers_on before (numbers ++ d ∷ []) words
+
+one_more : (before : Ephemeris) (numbers : List Decimal) (d : Decimal) → length numbers < before.header.ncoeff
+    → wanted before numbers ≡ suc (wanted before (numbers ++ d ∷ []))
+one_more before numbers d few = omega (arith, few, length-append numbers (d ∷ []))
+
+pub keeps_on : (before : Ephemeris) (old mid new : List Decimal) (words left rest : List (List ℕ)) (word : List ℕ) → Keeps before old mid words left
+    → left ≡ word ∷ rest → length mid < before.header.ncoeff → Pushes before mid word (Ok tt) new → Keeps before old new words rest
+keeps_on before old mid new words left rest word keeps is few (d, rule, pushed) =
+    let k = one_more before mid d few in
+    let step : numbers_on before mid (take (wanted before mid) left) ≡ numbers_on before (mid ++ d ∷ []) (take (wanted before (mid ++ d ∷ [])) rest) =
+    rw (is, k, rule) refl in
+    let later : drop (wanted before mid) left ≡ drop (wanted before (mid ++ d ∷ [])) rest = rw (is, k) refl in
+    let begins : take (length old) (mid ++ d ∷ []) ≡ old = take-append-le (length old) mid (d ∷ []) keeps.more ∙ keeps.front in
+    subst (λ (l : List Decimal). Keeps before old l words rest) (sym pushed) (record {
+      same = keeps.same ∙ step;
+      behind = keeps.behind ∙ later;
+      front = begins;
+      more = omega (arith, keeps.more, length-append mid (d ∷ []));
+      few = omega (arith, few, length-append mid (d ∷ []));
+    })
+
+pub stops_at : (before : Ephemeris) (old mid : List Decimal) (words left rest : List (List ℕ)) (word : List ℕ) (b : BrokenRule) → Keeps before old mid words left
+    → left ≡ word ∷ rest → length mid < before.header.ncoeff → number_rule before mid word ≡ Err b
+    → numbers_on before old (take (wanted before old) words) ≡ Err b
+stops_at before old mid words left rest word b keeps is few rule =
+    let some : wanted before mid ≡ suc (wanted before mid - 1) = omega (arith, few) in
+    let step : numbers_on before mid (take (wanted before mid) left) ≡ Err b = rw (is, some, rule) refl in
+    keeps.same ∙ step
+
+pub fails_at : (before : Ephemeris) (old mid new : List Decimal) (words left rest : List (List ℕ)) (word : List ℕ) (why : Refusal) → Keeps before old mid words left
+    → left ≡ word ∷ rest → length mid < before.header.ncoeff → Pushes before mid word (Err why) new → ReadsNumbers before old words (Err why) new rest
+fails_at before old mid new words left rest word (Broken b) keeps is few failed = stops_at before old mid words left rest word b keeps is few failed.0
+fails_at before old mid new words left rest word Memory keeps is few failed = tt

@@ -1,0 +1,9 @@
+use Rattle.std.proofs.Common.{ap}
+use Rattle.spec_ephemeris.specs.Ephemeris.{Ephemeris}
+use Rattle.spec_blocks.specs.Blocks.{blocks}
+use Rattle.de_blocks.specs.Reader.{from_record, says}
+use Rattle.de_blocks.proofs.reader.BlockReader.new.Goals as goal
+
+pub returns-clause-blocks : goal.returns-clause-blocks
+unfolding says blocks
+returns-clause-blocks c = λ file lines. ap (λ (e : Ephemeris). from_record e lines) c.empty.ensures

@@ -1,0 +1,99 @@
+-- What a reader says of the lines to come, given what it keeps of the lines before.
+use Rattle.std.specs.Prelude.{◌≡◌, ℕ, ◌<◌, List, [], ◌∷◌, length, Result, Ok, Err}
+use Rattle.spec_text.specs.Lines.{TokenLine}
+use Rattle.spec_text.specs.declared.decimals.Decimal.{Decimal}
+use Rattle.spec_text.specs.declared.decimals.Fault.{Fault}
+use Rattle.spec_ephemeris.specs.Ephemeris.{Ephemeris, IsEphemeris}
+use Rattle.spec_header.specs.Sections.{FileLine, Stop, ended, breaks, ◌>>=◌}
+use Rattle.spec_blocks.specs.Blocks.{blocks_behind, further_numbers, with_numbers}
+use Rattle.spec_blocks.specs.Read.{AreRead}
+use Rattle.de_header.specs.Reader.{line_of, stopped_at}
+use Rattle.de_blocks.specs.declared.answers.BlockError.{BlockError}
+use Rattle.de_blocks.specs.declared.answers.BlockError.TheVariants as errors
+use Rattle.de_blocks.specs.declared.state.Place.{Place}
+use Rattle.de_blocks.specs.declared.state.Place.TheVariants.{Between, Inside, Refused}
+use Rattle.de_blocks.specs.Steps.{wanted}
+
+-- the ephemeris, or why the lines are refused
+abbrev pub Says : Type 0
+Says = Result Ephemeris Stop
+
+-- what a reader keeps: the blocks that it accepted, the numbers of a block that isn't whole, and where it stands
+pub record Progress : Type 0 where
+  pub accepted : Ephemeris
+  pub numbers : List Decimal
+  pub place : Place
+
+-- the blocks that begin with these lines
+abbrev pub from_record : Ephemeris → List FileLine → Says
+from_record before lines = blocks_behind (length lines) before lines
+
+-- what a block still wants behind these numbers, and the blocks behind it
+abbrev pub from_numbers : Ephemeris → List Decimal → List FileLine → Says
+from_numbers before numbers lines = further_numbers before (wanted before numbers) numbers lines >>= λ found. from_record (with_numbers before found.0) found.1
+
+abbrev pub says_at : ℕ → Place → Ephemeris → List Decimal → List FileLine → Says
+says_at file Between before numbers lines = from_record before lines
+says_at file Inside before numbers lines = from_numbers before numbers lines
+says_at file (Refused fault) before numbers lines = Err (breaks file fault)
+
+-- what a reader that reads this file says of the lines to come
+unfoldable pub says : ℕ → Progress → List FileLine → Says
+says file reader lines = says_at file reader.place reader.accepted reader.numbers lines
+
+abbrev pub IsUnrefusedPlace : Place → Type 0
+IsUnrefusedPlace (Refused fault) = ⊥
+IsUnrefusedPlace place = Unit {0}
+
+-- no fault was met
+abbrev pub IsNotRefused : Progress → Type 0
+IsNotRefused reader = IsUnrefusedPlace reader.place
+
+-- the first fault was met, and is this one
+abbrev pub IsRefused : Progress → Fault → Type 0
+IsRefused reader fault = reader.place ≡ Refused fault
+
+abbrev pub numbers_at : Place → List Decimal → List Decimal
+numbers_at Inside numbers = numbers
+numbers_at place numbers = []
+
+-- numbers are kept within a block alone, where they meet their rules and are too few
+pub record Fits (reader : Progress) : Type 0 where
+  pub checked : IsEphemeris reader.accepted
+  pub kept : numbers_at reader.place reader.numbers ≡ reader.numbers
+  pub read : AreRead reader.accepted reader.numbers
+  pub few : length reader.numbers < reader.accepted.header.ncoeff
+
+-- the answer to a line, where this is said of no more lines
+abbrev pub answer_of : Stop → Result (Unit {0}) BlockError
+answer_of (ended late) = Ok tt
+answer_of (breaks file fault) = Err (errors.Fault fault)
+
+abbrev pub answer : Says → Result (Unit {0}) BlockError
+answer (Ok e) = Ok tt
+answer (Err stop) = answer_of stop
+
+abbrev pub IsNotMemory : Result (Unit {0}) BlockError → Type 0
+IsNotMemory (Err errors.Memory) = ⊥
+IsNotMemory result = Unit {0}
+
+-- a line takes a reader from one state to the next, with this answer
+pub record Takes (old : Progress) (line : TokenLine) (result : Result (Unit {0}) BlockError) (new : Progress) : Type 0 where
+  pub said : IsNotMemory result → (file : ℕ) (rest : List FileLine) → says file new rest ≡ says file old (line_of file line ∷ rest)
+  pub told : IsNotMemory result → result ≡ answer (says 0 new [])
+  pub goes_on : result ≡ Ok tt → IsNotRefused new
+  pub kept : (fault : Fault) → result ≡ Err (errors.Fault fault) → IsRefused new fault
+  pub unchanged : result ≡ Err errors.Memory → new ≡ old
+
+-- where the lines end at this number, what is said of no more lines
+abbrev pub at_end : ℕ → Says → Result Ephemeris BlockError
+at_end end (Ok e) = Ok e
+at_end end (Err stop) = Err (errors.Fault (stopped_at end stop))
+
+-- the ephemeris of what is said, or its fault
+abbrev pub Ends : ℕ → Says → Result Ephemeris BlockError → Type 0
+Ends end said result = result ≡ at_end end said
+
+-- a checked ephemeris with a block
+abbrev pub HasBlocks : Ephemeris → Type 0
+HasBlocks e = IsEphemeris e × (0 < e.blocks)

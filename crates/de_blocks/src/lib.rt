@@ -1,0 +1,20 @@
+//! The blocks of a file, read line by line behind its header. Lines come in, as the text reader cuts them; what goes out
+//! is the ephemeris, or the first fault. The numbers of a block are kept in one vector until the block is whole.
+#![tactic(auto)]
+
+mod accepting;
+mod answers;
+mod laws;
+mod reader;
+mod rules;
+mod state;
+#[cfg(test)]
+mod tests;
+mod walk;
+
+pub use answers::BlockError;
+pub use eph_model::Ephemeris;
+pub use laws::readers_of_blocks_say_the_same_in_every_file;
+pub use reader::BlockReader;
+pub use spec_text::Fault;
+pub use state::Place;

@@ -1,0 +1,164 @@
+// The reader.
+ghost use Rattle.std.specs.Prelude.{◌≡◌, ◌∷◌, [], IfOk, List, Ok, Err, ℕ};
+ghost use Rattle.spec_text.specs.declared.decimals.Fault.{Fault};
+ghost use Rattle.spec_ephemeris.specs.Header.{IsHeader};
+ghost use Rattle.spec_header.specs.Sections.{FileLine};
+ghost use Rattle.spec_blocks.specs.Blocks.{blocks};
+ghost use Rattle.de_header.specs.Reader.{line_of};
+ghost use Rattle.de_blocks.specs.declared.answers.BlockError.TheVariants as errors;
+ghost use Rattle.de_blocks.specs.Reader.{Ends, HasBlocks, IsNotMemory, IsNotRefused, IsRefused, Takes, answer, from_record, says};
+ghost use Rattle.de_blocks.specs.declared.state.Place.TheVariants as places;
+
+use crate::accepting::take_line;
+use crate::answers::{BlockError, Refusal};
+use crate::rules::record_line;
+use crate::state::Place;
+use de_text::Line;
+use eph_model::Ephemeris;
+use spec_blocks::{NO_BLOCK, TRUNCATED};
+use spec_ephemeris::Header;
+use spec_header::BrokenRule;
+use spec_text::{Decimal, Fault};
+use std::alloc::Global;
+use std::marker::Model;
+
+/// A reader of the blocks behind a header, in the rest of its file and in the files that follow.
+#[derive(Drop)]
+pub struct BlockReader {
+    accepted: Ephemeris,
+    numbers: Vec<Decimal>,
+    place: Place,
+}
+
+impl Model for BlockReader {
+    ghost use Rattle.de_blocks.specs.Reader.{Progress, Fits};
+
+    ghost Value = { Progress };
+
+    ghost view = { λ r. record { accepted = r.accepted; numbers = r.numbers.items; place = r.place } };
+
+    ghost invariant = { λ r. Fits (record { accepted = r.accepted; numbers = r.numbers.items; place = r.place }) };
+}
+
+fn fault_at(line: &Line<'_>, broken: BrokenRule) -> Fault
+    ensures { result ≡ record { line = line.now.number; number = broken.number; detail = broken.detail } }
+{
+    Fault {
+        line: line.number(),
+        number: broken.number,
+        detail: broken.detail,
+    }
+}
+
+fn ended(line: u32, number: u8) -> BlockError
+    ensures { result ≡ errors.Fault (record { line = line; number = number; detail = 0 }) }
+{
+    BlockError::Fault(Fault {
+        line,
+        number,
+        detail: 0,
+    })
+}
+
+// The blocks, where the lines end behind one of them.
+fn whole(accepted: Ephemeris, line: u32) -> Result<Ephemeris, BlockError>
+    ensures end { Ends line (from_record accepted []) result }
+    ensures rules { IfOk result HasBlocks }
+{
+    if accepted.blocks() == 0 {
+        Err(ended(line, NO_BLOCK))
+    } else {
+        Ok(accepted)
+    }
+}
+
+impl BlockReader {
+    /// A reader that waits for the first line behind the header. It takes no memory.
+    pub fn new(alloc: Global, header: Header) -> Self
+        requires { IsHeader header }
+        ensures blocks { (file : ℕ) (lines : List FileLine) → says file result lines ≡ blocks header lines }
+        ensures not_refused { IsNotRefused result }
+    {
+        BlockReader {
+            accepted: Ephemeris::empty(alloc, header, 0),
+            numbers: Vec::new(alloc),
+            place: Place::Between,
+        }
+    }
+
+    // Keeps the first fault.
+    fn refuse(&mut self, fault: Fault) -> Result<(), BlockError>
+        ensures refused { IsRefused self.new fault }
+        ensures result { result ≡ Err (errors.Fault fault) }
+    {
+        self.numbers.clear();
+        self.place = Place::Refused(fault);
+        Err(BlockError::Fault(fault))
+    }
+
+    // Reads the line before the numbers of a block.
+    fn begin(&mut self, line: &Line<'_>) -> Result<(), BlockError>
+        requires { self.old.place ≡ places.Between }
+        ensures { Takes self.old line.now result self.new }
+    {
+        match record_line(self.accepted.header().ncoeff, line) {
+            Ok(()) => {
+                self.place = Place::Inside;
+                Ok(())
+            }
+            Err(broken) => self.refuse(fault_at(line, broken)),
+        }
+    }
+
+    // Reads a line within a block.
+    fn go_on(&mut self, line: &Line<'_>) -> Result<(), BlockError>
+        requires { self.old.place ≡ places.Inside }
+        ensures { Takes self.old line.now result self.new }
+    {
+        let kept = self.numbers.len();
+        match take_line(&mut self.accepted, &mut self.numbers, line) {
+            Ok(place) => {
+                self.place = place;
+                Ok(())
+            }
+            Err(Refusal::Broken(broken)) => {
+                self.numbers.truncate(kept);
+                self.refuse(fault_at(line, broken))
+            }
+            Err(Refusal::Memory) => {
+                self.numbers.truncate(kept);
+                Err(BlockError::Memory)
+            }
+        }
+    }
+
+    /// Reads the next line. `Fault` comes at the first line that breaks a rule and at every line behind it. After
+    /// `Memory` the reader is as it was before the line.
+    pub fn line(&mut self, line: &Line<'_>) -> Result<(), BlockError>
+        ensures says { IsNotMemory result → (file : ℕ) (rest : List FileLine) → says file self.new rest ≡ says file self.old (line_of file line.now ∷ rest) }
+        ensures answer { IsNotMemory result → result ≡ answer (says 0 self.new []) }
+        ensures not_refused { result ≡ Ok tt → IsNotRefused self.new }
+        ensures refused { (fault : Fault) → result ≡ Err (errors.Fault fault) → IsRefused self.new fault }
+        ensures kept { (fault : Fault) → IsRefused self.old fault → IsRefused self.new fault × (result ≡ Err (errors.Fault fault)) }
+        ensures memory { result ≡ Err errors.Memory → self.new ≡ self.old }
+    {
+        match self.place {
+            Place::Between => self.begin(line),
+            Place::Inside => self.go_on(line),
+            Place::Refused(fault) => Err(BlockError::Fault(fault)),
+        }
+    }
+
+    /// The ephemeris, where the lines end at this number, that of the last file's lines plus 1. `Fault` is the kept
+    /// refusal, or at this number fault 36 within a block, and fault 37 where no block was read. It takes no memory.
+    pub fn end(self, line: u32) -> Result<Ephemeris, BlockError>
+        ensures end { Ends line (says 0 self []) result }
+        ensures rules { IfOk result HasBlocks }
+    {
+        match self.place {
+            Place::Refused(fault) => Err(BlockError::Fault(fault)),
+            Place::Inside => Err(ended(line, TRUNCATED)),
+            Place::Between => whole(self.accepted, line),
+        }
+    }
+}

@@ -1,0 +1,242 @@
+// The rules of the words of blocks.
+ghost use Rattle.std.specs.Prelude.{◌≡◌, ◌≤◌, ◌<◌, ◌+◌, ◌*◌, ◌^◌, IfOk, Ok, length, min, slice_get};
+ghost use Rattle.spec_ephemeris.specs.Ephemeris.{IsStart};
+ghost use Rattle.spec_ephemeris.specs.Header.{column_size, components, is_present};
+ghost use Rattle.spec_header.specs.HeaderRules.{whole_at};
+ghost use Rattle.spec_blocks.specs.BlockRules.{coefficient_rule, first_date, follows, has_length, is_behind_gap, is_passed_over, is_place, is_place_of, is_place_of_body, is_too_large, number_rule, record_line, second_date, time_of, trailing_rule, value_rule};
+
+use de_header::seconds_of_julian_date;
+use de_text::{Line, read_decimal, read_whole};
+use eph_model::Ephemeris;
+use spec_blocks::{
+    BLOCK_GAP, BLOCK_SPAN, NCOEFF_DIFFERS, NUMBER, RECORD_LINE, TOO_LARGE, TOO_MANY_BLOCKS,
+    TRAILING_NUMBERS,
+};
+use spec_ephemeris::{BODY_COLUMNS, Column, FIRST_TIME, MOST_BLOCKS, NUTATIONS};
+use spec_header::BrokenRule;
+use spec_text::Decimal;
+
+// The coefficients of bodies are below this many km in size.
+const LARGE: u128 = 1 << 36;
+
+fn broken(number: u8, detail: u16) -> BrokenRule
+    ensures { result ≡ record { number = number; detail = detail } }
+{
+    BrokenRule { number, detail }
+}
+
+fn whole_at(line: &Line<'_>, i: usize) -> Option<u32>
+    ensures { result ≡ whole_at (slice_get line.now.tokens i) }
+{
+    match line.token(i) {
+        Some(word) => read_whole(word),
+        None => None,
+    }
+}
+
+// The line before the numbers of a block.
+pub(crate) fn record_line(ncoeff: u32, line: &Line<'_>) -> Result<(), BrokenRule>
+    ensures { result ≡ record_line ncoeff line.now.tokens }
+{
+    if line.count() != 2 {
+        return Err(broken(RECORD_LINE, 0));
+    }
+    match (whole_at(line, 0), whole_at(line, 1)) {
+        (Some(_), Some(n)) if n == ncoeff => Ok(()),
+        (Some(_), Some(_)) => Err(broken(NCOEFF_DIFFERS, 0)),
+        _ => Err(broken(RECORD_LINE, 0)),
+    }
+}
+
+// The time of a Julian date.
+#[tactic(auto, using(crate::proofs::Times::time_is_start))]
+pub(crate) fn time_of(date: Decimal) -> Result<i64, BrokenRule>
+    ensures value { result ≡ time_of date }
+    ensures start { IfOk result IsStart }
+{
+    match seconds_of_julian_date(date) {
+        Ok(seconds) => Ok(FIRST_TIME + seconds as i64),
+        Err(_) => Err(broken(BLOCK_SPAN, 0)),
+    }
+}
+
+// A block that ends no later than the last one is passed over.
+pub(crate) fn is_passed_over(before: &Ephemeris, end: i64) -> bool
+    ensures { result ≡ is_passed_over before.now end }
+{
+    0 < before.blocks() && end <= before.end()
+}
+
+fn is_behind_gap(before: &Ephemeris, start: i64) -> bool
+    ensures { result ≡ is_behind_gap before.now start }
+{
+    0 < before.blocks() && (start < before.end() || before.end() < start)
+}
+
+fn follows(before: &Ephemeris, start: i64, end: i64) -> Result<(), BrokenRule>
+    ensures { result ≡ follows before.now start end }
+{
+    if is_passed_over(before, end) {
+        Ok(())
+    } else if is_behind_gap(before, start) {
+        Err(broken(BLOCK_GAP, 0))
+    } else if before.blocks() < MOST_BLOCKS {
+        Ok(())
+    } else {
+        Err(broken(TOO_MANY_BLOCKS, 0))
+    }
+}
+
+fn has_length(length: i64, start: i64, end: i64) -> bool
+    requires start { IsStart start }
+    requires end { IsStart end }
+    ensures { result ≡ has_length length start end }
+{
+    length <= end - start && end - start <= length
+}
+
+fn first_date(date: Decimal) -> Result<(), BrokenRule>
+    ensures { result ≡ first_date date }
+{
+    time_of(date)?;
+    Ok(())
+}
+
+fn second_date(before: &Ephemeris, first: Decimal, second: Decimal) -> Result<(), BrokenRule>
+    ensures { result ≡ second_date before.now first second }
+{
+    let start = time_of(first)?;
+    let end = time_of(second)?;
+    if has_length(before.header().block_seconds, start, end) {
+        follows(before, start, end)
+    } else {
+        Err(broken(BLOCK_SPAN, 0))
+    }
+}
+
+// 10^n, where n counts for no more than 11: 10^11 is past 2^36, and 2^36 times 10^11 past 2^63.
+fn power_of_ten(n: u16) -> u128
+    ensures { result ≡ 10 ^ min n 11 }
+{
+    10_u128.pow(u32::from(n.min(11)))
+}
+
+// Whether mant * 10^exp is 2^36 or more in size.
+fn is_large(mant: i64, exp: i16) -> bool
+    ensures { result ≡ is_too_large (record { mant = mant; exp = exp }) }
+{
+    let size = u128::from(mant.unsigned_abs());
+    let power = power_of_ten(exp.unsigned_abs());
+    if exp < 0 {
+        LARGE * power <= size
+    } else {
+        LARGE <= size * power
+    }
+}
+
+// Nutations have two components, and every other column has three.
+fn components(number: usize) -> u128
+    ensures value { result ≡ components number }
+    ensures few { result ≤ 3 }
+{
+    if number == NUTATIONS { 2 } else { 3 }
+}
+
+// The place behind the last one of the column of this number.
+#[tactic(auto, using(crate::proofs::Places::size_fits))]
+fn end_of(number: usize, column: Column) -> u128
+    ensures { result ≡ column.start + column_size number column }
+{
+    let granule = components(number) * u128::from(column.coefs);
+    u128::from(column.start) + granule * u128::from(column.granules)
+}
+
+fn is_present(column: Column) -> bool
+    ensures { result ≡ is_present column }
+{
+    column.coefs > 0 && column.granules > 0
+}
+
+// Whether a place belongs to the column of this number.
+fn is_place(number: usize, column: Column, place: u32) -> bool
+    ensures { result ≡ is_place number column place }
+{
+    is_present(column) && column.start <= place && u128::from(place) < end_of(number, column)
+}
+
+// Whether a place belongs to one of the columns, which are counted from 1.
+fn is_place_of_any(columns: &[Column], place: u32) -> bool
+    requires { length columns.now ≤ 13 }
+    ensures { result ≡ is_place_of 1 columns.now place }
+{
+    for (i, column) in columns.iter().enumerate() {
+        if is_place(i + 1, *column, place) {
+            return true;
+        }
+    }
+    false
+}
+
+// Whether a place of a block, counted from 1, belongs to a body.
+fn is_place_of_body(columns: &[Column], place: u32) -> bool
+    requires { length columns.now ≡ 13 }
+    ensures { result ≡ is_place_of_body columns.now place }
+{
+    is_place_of_any(&columns[..BODY_COLUMNS], place)
+}
+
+// The rule of a number that is no date.
+fn coefficient_rule(columns: &[Column], place: u32, d: Decimal) -> Result<(), BrokenRule>
+    requires { length columns.now ≡ 13 }
+    ensures { result ≡ coefficient_rule columns.now place d }
+{
+    if is_large(d.mant, d.exp) && is_place_of_body(columns, place) {
+        Err(broken(TOO_LARGE, 0))
+    } else {
+        Ok(())
+    }
+}
+
+// The rule of a number behind the numbers of its block.
+fn value_rule(before: &Ephemeris, numbers: &[Decimal], d: Decimal) -> Result<(), BrokenRule>
+    requires { length numbers.now < before.now.header.ncoeff }
+    ensures { result ≡ value_rule before.now numbers.now d }
+{
+    match numbers {
+        [] => first_date(d),
+        [first] => second_date(before, *first, d),
+        _ => coefficient_rule(
+            before.header().columns.as_slice(),
+            numbers.len() as u32 + 1,
+            d,
+        ),
+    }
+}
+
+// A word as the number behind the numbers of its block.
+pub(crate) fn number_rule(
+    before: &Ephemeris,
+    numbers: &[Decimal],
+    word: &[u8],
+) -> Result<Decimal, BrokenRule>
+    requires { length numbers.now < before.now.header.ncoeff }
+    ensures value { result ≡ number_rule before.now numbers.now word.now }
+{
+    match read_decimal(word) {
+        Ok(d) => {
+            value_rule(before, numbers, d)?;
+            Ok(d)
+        }
+        Err(fault) => Err(broken(NUMBER, fault.number())),
+    }
+}
+
+// A word behind the last number of a block.
+pub(crate) fn trailing_rule(word: &[u8]) -> Result<(), BrokenRule>
+    ensures { result ≡ trailing_rule word.now }
+{
+    match read_decimal(word) {
+        Ok(d) if d.mant == 0 => Ok(()),
+        _ => Err(broken(TRAILING_NUMBERS, 0)),
+    }
+}

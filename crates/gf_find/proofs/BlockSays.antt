@@ -4,7 +4,8 @@ use Rattle.spec_text.specs.declared.decimals.Fault.{Fault}
 use Rattle.spec_ephemeris.specs.Ephemeris.{Ephemeris}
 use Rattle.spec_header.specs.Sections.{FileLine, Stop, ended, breaks}
 use Rattle.de_blocks.specs.declared.answers.BlockError.TheVariants as errors
-use Rattle.de_blocks.specs.Reader.{Progress, IsRefused, IsNotRefused, Says, answer, at_end, says}
+use Rattle.de_blocks.specs.declared.state.Place.{Place}
+use Rattle.de_blocks.specs.Reader.{Progress, IsRefused, IsNotRefused, Says, answer, at_end, says, says_at}
 use Rattle.de_blocks.proofs.SameFile.{same_file}
 use Rattle.gf_find.specs.declared.reader.LineStop.TheVariants as stops
 use Rattle.gf_find.specs.declared.reader.Reader.TheVariants.{Blocks}
@@ -12,7 +13,7 @@ use Rattle.gf_find.specs.Reading.{Finishes, IsReady, IsUnbroken, tells}
 
 pub refused_says : (reader : Progress) (fault : Fault) → IsRefused reader fault → (file : ℕ) (rest : List FileLine) → says file reader rest ≡ Err (breaks file fault)
 unfolding says
-refused_says reader fault is file rest = absurd is
+refused_says reader fault is file rest = ap (λ (place : Place). says_at file place reader.accepted reader.numbers rest) is
 
 pub unbroken_answer : (said : Says) → answer said ≡ Ok tt → IsUnbroken said
 unbroken_answer (Ok e) is = tt

@@ -10,6 +10,8 @@ pub mod Passing
 pub mod Runs
 pub mod NameLists
 pub mod Answering
+pub mod Places
+pub mod Names
 pub mod Findings
 pub mod Entries
 pub mod Lines

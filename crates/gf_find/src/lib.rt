@@ -5,18 +5,16 @@
 mod book;
 mod faults;
 mod files;
-mod form;
 mod judge;
 mod line;
 mod mercury;
 mod prepare;
 mod printing;
+mod reader;
+mod reading;
 mod search;
 mod signs;
 mod top;
 mod words;
 
 pub use top::finder;
-
-#[cfg(test)]
-mod tests;

@@ -1,6 +1,6 @@
 -- The names of files, one by one.
-use Rattle.std.proofs.Common.{◌≡◌, ◌<◌, ◌≤◌, ◌+◌, ℕ, suc, List, [], ◌∷◌, ◌++◌, length, map, take, drop, get_or, sym, ap, ◌∙◌, append_assoc, arith, subst, inl, inr, ◌⊎◌, Option, Some}
-use Rattle.std.specs.Prelude.{String, string_bytes}
+use Rattle.std.proofs.Common.{◌≡◌, ◌<◌, ◌≤◌, ◌+◌, ℕ, zero, suc, List, [], ◌∷◌, ◌++◌, length, map, take, drop, get_or, sym, ap, ◌∙◌, append_assoc, arith, subst, inl, inr, ◌⊎◌, Option, Some}
+use Rattle.std.specs.Prelude.{String, slice_get, string_bytes}
 use Rattle.std.specs.declared.alloc.Global.{Global}
 use Rattle.std.proofs.Math.Seq.{take-suc}
 use Rattle.std.proofs.lemmas.List.{take-append-drop, length-map, length-take, map-append}
@@ -54,7 +54,7 @@ fails_at files now names i name texts reader end a b c is read same later cause 
   texts = texts;
   told = read.told;
   sound = read.sound;
-  cause = elim cause [ | inl rose ↦ inl (rose_earlier a b c later rose) | inr lacks ↦ inr (subst (λ (f : Option Files). Lacks f name) same lacks) ];
+  cause = elim cause [ inl rose ↦ inl (rose_earlier a b c later rose) | inr lacks ↦ inr (subst (λ (f : Option Files). Lacks f name) same lacks) ];
 }
 
 pub breaks_at : (files now : Option Files) (names : Strings) (i : ℕ) (name text : List ℕ) (texts : List (List ℕ)) (reader : Reader) (end : ℕ) (fault : Fault) → IsNamed names i name
@@ -76,10 +76,15 @@ pub passes_at : (files now : Option Files) (names : Strings) (i : ℕ) (name tex
     → HaveRead files (texts_of (take i names)) texts reader end → now ≡ files → IsFile now name text → IsPassed reader text fed
     → (all : List (List ℕ)) × HaveRead files (texts_of (take (i + 1) names)) all fed.reader fed.end_line
 passes_at files now names i name text texts reader end fed is read same told passed =
-    let next : suc i ≡ i + 1 = omega arith in
-    (
+    let next : suc i ≡ i + 1 = omega arith in (
       texts ++ text ∷ [],
       subst (λ (ns : List (List ℕ)). HaveRead files ns (texts ++ text ∷ []) fed.reader fed.end_line)
-      (sym (one_name_more names i name is) ∙ ap (λ (n : ℕ). texts_of (take n names)) next)
-      (one_more_read files (texts_of (take i names)) texts reader end name text fed read (subst (λ (f : Option Files). IsFile f name text) same told) passed),
+          (sym (one_name_more names i name is) ∙ ap (λ (n : ℕ). texts_of (take n names)) next)
+          (one_more_read files (texts_of (take i names)) texts reader end name text fed read (subst (λ (f : Option Files). IsFile f name text) same told) passed),
     )
+
+-- the name at a place, as one of the texts
+pub name_at : (names : Strings) (i : ℕ) (word : String Global) → i < length names → word ≡ get_or names i word → slice_get (texts_of names) i ≡ Some (string_bytes word)
+name_at [] i word inside there = absurd (omega (arith, inside))
+name_at (n ∷ names) zero word inside there = ap (λ (w : String Global). Some (string_bytes w)) (sym there)
+name_at (n ∷ names) (suc i) word inside there = name_at names i word (omega (arith, inside)) there

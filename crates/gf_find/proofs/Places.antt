@@ -3,7 +3,9 @@ use Rattle.std.proofs.Common.{◌≡◌, ◌<◌, ◌⊎◌, ℕ, zero, suc, Lis
 use Rattle.std.specs.Prelude.{slice_get}
 use Rattle.spec_text.specs.declared.decimals.Fault.{Fault}
 use Rattle.gf_edges.specs.Edges.{Files}
-use Rattle.gf_find.specs.Found.{EndsIn, HasFault}
+use Rattle.gf_find.specs.declared.reading.Stop.{Stop}
+use Rattle.gf_find.specs.declared.reading.Stop.TheVariants as stops
+use Rattle.gf_find.specs.Found.{EndsIn, HasFault, HasName, IsNotRead, IsRefused}
 use Rattle.gf_find.specs.Progress.{BreaksIn, FailsIn}
 
 abbrev Texts : Type 0
@@ -33,3 +35,10 @@ fails_named files names a b file f = name_there names f.before f.after f.name fi
 pub fault_named : (files : Option Files) (names : Texts) (file : ℕ) (fault : Fault) → HasFault files names file fault → (name : List ℕ) × (slice_get names file ≡ Some name)
 fault_named files names file fault (inl f) = (f.name, name_there names f.before f.after f.name file f.all f.place)
 fault_named files names file fault (inr f) = let last = f.last in has_place names file (omega (arith, last))
+
+-- a stop names a file that there is
+pub stop_named : (files : Option Files) (names : Texts) (a b : ℕ) (stop : Stop) → ((file : ℕ) (fault : Fault) → stop ≡ stops.File file fault → IsRefused files names file fault)
+    → ((file : ℕ) → stop ≡ stops.Read file → IsNotRead files names a b file) → HasName names stop
+stop_named files names a b (stops.File file fault) refused failed = let is = refused file fault refl in some_inside names file is.name is.there
+stop_named files names a b (stops.Read file) refused failed = let is = failed file refl in some_inside names file is.name is.there
+stop_named files names a b stops.Memory refused failed = tt

@@ -35,8 +35,7 @@ pub header_moves : (old new : State) (line : TokenLine) → IsNotWhole new → I
     → Moves (HeaderReader old) line (Ok (HeaderReader new))
 unfolding tells
 header_moves old new line not_whole wanting of moves more =
-    let wants = more_is_wanted (says 0 new []) more in
-    (
+    let wants = more_is_wanted (says 0 new []) more in (
       λ file rest. ap behind_header (moves file rest),
       header_ready new wanting (record { not_whole = not_whole; of_header = of_header_next old new line of moves; late = wants.0; early = wants.1 }),
     )
@@ -54,8 +53,7 @@ pub blocks_begin : (old : Reader) (line : TokenLine) (state : State) (h : Header
 unfolding tells blocks
 blocks_begin old line state h reader end whole ends moves begun wants =
     let same : (file : ℕ) (rest : List FileLine) → tells file (Blocks reader) rest ≡ tells file (HeaderReader state) rest =
-    λ file rest. begun file rest ∙ ap behind_header (sym (whole_header state end h whole ends file rest)) in
-    (
+    λ file rest. begun file rest ∙ ap behind_header (sym (whole_header state end h whole ends file rest)) in (
       λ file rest. same file rest ∙ moves file rest,
       blocks_ready reader wants (subst IsUnbroken (sym (begun 0 [])) tt),
     )

@@ -18,3 +18,6 @@ mod top;
 mod words;
 
 pub use top::finder;
+
+#[cfg(test)]
+mod tests;

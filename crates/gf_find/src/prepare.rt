@@ -100,7 +100,11 @@ fn report_files<S: Shelf>(alloc: Global, shelf: &mut S, names: &[String]) -> Res
 }
 
 /// The report of the files with these names.
-pub(crate) fn prepare<S: Shelf>(alloc: Global, shelf: &mut S, names: &[String]) -> Result<Vec<u8>, Stop>
+pub(crate) fn prepare<S: Shelf>(
+    alloc: Global,
+    shelf: &mut S,
+    names: &[String],
+) -> Result<Vec<u8>, Stop>
     requires { 0 < length names.now }
     ensures report { IfOk result (λ text. Reports (S.files shelf.old) (map string_bytes names.now) text.items) }
     ensures file { (file : ℕ) (fault : Fault) → IsErrOf result (Stop.File file fault) → IsRefused (S.files shelf.old) (map string_bytes names.now) file fault }

@@ -10,7 +10,11 @@ pub(crate) fn asked(words: &[String]) -> Option<&[String]>
     let names = after_kind(words)?;
     let names = after_target(names)?;
     let names = after_axis(names)?;
-    if are_some_names(names) { Some(names) } else { None }
+    if are_some_names(names) {
+        Some(names)
+    } else {
+        None
+    }
 }
 
 fn after_kind(words: &[String]) -> Option<&[String]>
@@ -99,7 +103,10 @@ mod tests {
         let cases = [
             ("find --kind coord --target mercury --axis x a", Some("a")),
             ("find --kind coord --target mercury --axis x ", Some("")),
-            ("find --kind coord --target mercury --axis x a b", Some("a b")),
+            (
+                "find --kind coord --target mercury --axis x a b",
+                Some("a b"),
+            ),
             ("find --kind coord --target mercury --axis x -a", None),
             ("find --kind coord --target mercury --axis x a -b", None),
             ("find --kind coord --target mercury --axis x", None),
@@ -110,7 +117,10 @@ mod tests {
         for (line, want) in cases {
             let words = strings(rt.alloc(), line)?;
             match (asked(&words), want) {
-                (Some(names), Some(want)) => assert!(rt; names == strings(rt.alloc(), want)?.as_slice(), "{line}"),
+                (Some(names), Some(want)) => assert!(rt;
+                    names == strings(rt.alloc(), want)?.as_slice(),
+                    "{line}"
+                ),
                 (names, want) => assert_eq!(rt; names.is_some(), want.is_some(), "{line}"),
             }
         }

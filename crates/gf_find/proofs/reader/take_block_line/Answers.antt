@@ -8,8 +8,7 @@ use Rattle.gf_find.proofs.reader.take_block_line.Goals as goal
 pub returns-in-Ok : goal.returns-in-Ok
 unfolding tells
 returns-in-Ok c =
-    let some : IsNotMemory c.line.result = subst IsNotMemory (sym c.in-Ok.is) tt in
-    (
+    let some : IsNotMemory c.line.result = subst IsNotMemory (sym c.in-Ok.is) tt in (
       c.line.ensures.says some,
       blocks_ready c.line.new.self (c.line.ensures.not_refused c.in-Ok.is) (unbroken_answer _ (sym (c.line.ensures.answer some) ∙ c.in-Ok.is)),
     )

@@ -7,12 +7,11 @@ use Rattle.gf_find.proofs.Passing.{long_file}
 use Rattle.gf_find.proofs.reading.read_next.Goals as goal
 
 pub returns-in-Ok-clause-fault : goal.returns-in-Ok-clause-fault
-returns-in-Ok-clause-fault g c = λ fault is.
-    (
-      c.in-Ok.text.items,
-      c.in-Ok.ensures.whole,
-      subst (λ (text : List ℕ). StopsFile c.args.reader text fault) c.deref.ensures.value (c.pass.ensures.fault fault is),
-    )
+returns-in-Ok-clause-fault g c = λ fault is. (
+  c.in-Ok.text.items,
+  c.in-Ok.ensures.whole,
+  subst (λ (text : List ℕ). StopsFile c.args.reader text fault) c.deref.ensures.value (c.pass.ensures.fault fault is),
+)
 
 pub returns-in-Err-TooLarge-clause-fault : goal.returns-in-Err-TooLarge-clause-fault
 returns-in-Err-TooLarge-clause-fault g c = λ fault is.

@@ -1,13 +1,10 @@
 -- The masses of the Moon and the Earth as whole numbers, and the share of the one in both.
 use Rattle.std.proofs.Common.{◌≡◌, ℕ, suc, ◌+◌, ◌*◌, ◌/◌, ◌^◌, ◌<◌, ◌≤◌, arith, refl, sym, ap, ℤ, pos, negsuc, ◌*ℤ◌, ◌<ℤ◌, neg_ℤ, ◌≤ℤ◌, unsigned_abs, ◌⊎◌, inl, inr}
 use Rattle.std.proofs.lemmas.Int.{ints, unsigned_abs-mul}
-use Rattle.std.proofs.lemmas.Nat.{mul-le}
 use Rattle.std.proofs.lemmas.Bool.{cases_lt}
 use Rattle.std.proofs.Math.Nat.{one-le-pow, pow-le-pow_right, div-mul-le_self}
 use borrow.Author.Differences.{up, down}
-use Rattle.spec_text.specs.declared.decimals.Decimal.{Decimal}
-use Rattle.spec_intervals.specs.Interval.{interval, floor_div, ceil_div, narrow, cosine_exponent}
-use Rattle.spec_ephemeris.specs.Header.{IsMassRatio}
+use Rattle.spec_intervals.specs.Interval.{floor_div, ceil_div, narrow}
 use Rattle.spec_intervals.proofs.Floor.{ceil_div-exact, ceil_div-next}
 use Rattle.spec_bodies.proofs.Factors.{narrowed_factor}
 use Rattle.spec_bodies.specs.Meanings.{factor_interval}

@@ -1,5 +1,5 @@
 -- The granule that a column is read from has the series of the column, and the span lies within it.
-use Rattle.std.proofs.Common.{◌≡◌, ◌⊎◌, ℕ, ◌<◌, ◌≤◌, IsTrue, Bool, true, false, nat_eq, ap, sym, subst, arith, inl, inr, refl, Option, None, Some, ℤ, pos, neg_ℤ, ◌^◌, ◌*◌, length, ◌+ℤ◌, ◌<ℤ◌, ◌≤ℤ◌, unsigned_abs}
+use Rattle.std.proofs.Common.{◌≡◌, ℕ, ◌<◌, ◌≤◌, IsTrue, Bool, true, false, nat_eq, sym, subst, arith, refl, Option, None, Some, ℤ, pos, neg_ℤ, ◌^◌, ◌*◌, length, ◌+ℤ◌, ◌<ℤ◌, ◌≤ℤ◌, unsigned_abs}
 use Rattle.std.specs.Prelude.{All, IfSome, if◌then◌else◌}
 use Rattle.std.proofs.lemmas.Int.{ints}
 use Rattle.std.proofs.lemmas.Bool.{eqb-true}
@@ -10,8 +10,8 @@ use Rattle.spec_ephemeris.specs.Ephemeris.{Granule, IsBodyNumber, IsGranuleAt, I
 use Rattle.spec_ephemeris.proofs.Granules.{one_granule}
 use Rattle.eph_model.specs.declared.granules.Granule.{Granule as Read}
 use Rattle.spec_enclosures.specs.Enclosures.{IsSpan}
-use Rattle.spec_bodies.specs.Granules.{column_or_none, column_of, granule_at, series_at}
-use Rattle.spec_bodies.specs.Reading.{IsUsable, IsReadable}
+use Rattle.spec_bodies.specs.Granules.{column_or_none, granule_at, series_at}
+use Rattle.spec_bodies.specs.Reading.{IsReadable}
 use Rattle.spec_bodies.specs.Views.{View, Fits}
 use Rattle.spec_bodies.proofs.GranuleAt.{granule_of_time}
 use Rattle.spec_bodies.proofs.Columns.{span_of}

@@ -1,9 +1,9 @@
 -- The parts of an enclosure of a series are within the limits of the rules, and share a value.
-use Rattle.std.proofs.Common.{◌≡◌, ℕ, ◌*◌, ◌^◌, ◌<◌, ◌≤◌, arith, sym, ℤ, pos, ◌+ℤ◌, ◌≤ℤ◌, ◌<ℤ◌}
+use Rattle.std.proofs.Common.{ℕ, ◌*◌, ◌^◌, arith, ℤ, pos}
 use Rattle.std.proofs.lemmas.Int.{ints}
 use Rattle.std.proofs.Math.Nat.{one-le-pow}
 use Rattle.spec_intervals.specs.Interval.{Interval}
-use Rattle.spec_intervals.specs.Fraction.{Fraction, IsFraction, Holds, Overlaps}
+use Rattle.spec_intervals.specs.Fraction.{IsFraction, Overlaps}
 use Rattle.spec_ephemeris.specs.Series.{Series, position}
 use Rattle.spec_enclosures.specs.Velocity.{velocity}
 use Rattle.spec_enclosures.specs.Enclosures.{IsSeries, IsSpan, position_interval, position_step_interval, velocity_interval, velocity_step_interval}

@@ -1,6 +1,5 @@
 -- The exponents of the enclosure of a coordinate, by its formula.
-use Rattle.std.proofs.Common.{◌≡◌, ℕ, zero, suc, ◌+◌, ◌<◌, ◌≤◌, max, arith, subst, sym, ℤ, pos, ◌+ℤ◌, neg_ℤ, ◌≤ℤ◌}
-use Rattle.std.specs.Prelude.{⊤}
+use Rattle.std.proofs.Common.{ℕ, zero, suc, ◌+◌, ◌≤◌, max, arith, subst, sym, ℤ}
 use Rattle.std.proofs.lemmas.Int.{ints}
 use Rattle.spec_intervals.specs.Interval.{Interval, product}
 use Rattle.spec_intervals.specs.Fraction.{Fraction}
@@ -9,10 +8,10 @@ use Rattle.spec_bodies.specs.declared.frame.Frame.{Frame}
 use Rattle.spec_bodies.specs.declared.frame.Frame.TheVariants.{Eq, Ecl}
 use Rattle.spec_bodies.specs.declared.source.Source.{Source}
 use Rattle.spec_bodies.specs.declared.source.Source.TheVariants.{OwnColumn, EarthOfPair, MoonOfPair, Origin}
-use Rattle.spec_bodies.specs.Coordinates.{Factor, Coordinate, nothing, of_column, times, plus, less, seen, turned, in_frame, coordinate}
+use Rattle.spec_bodies.specs.Coordinates.{Factor, Coordinate, nothing, of_column, times, plus, less, seen, in_frame}
 use Rattle.spec_bodies.specs.Meanings.{factor_interval, enclosure_of}
 use Rattle.spec_bodies.specs.Reading.{AllColumns, lowest, highest, IsLow, IsShort, IsFactor}
-use Rattle.spec_bodies.proofs.Exponents.{IsBetween, AreBetween, HasSmallEnds, between-more, between-all_within, product-between, enclosure-between, nothing-between, sum_of-between, difference_of-between}
+use Rattle.spec_bodies.proofs.Exponents.{IsBetween, AreBetween, between-more, between-all_within, product-between, enclosure-between, nothing-between, sum_of-between, difference_of-between}
 use Rattle.spec_bodies.proofs.Factors.{times_factor}
 
 more : (l h m n : ℕ) (e : Enclosure) → l ≤ m → h ≤ n → AreBetween l h e → AreBetween m n e

@@ -1,17 +1,15 @@
 -- Over times that fit, each column in use stays within one granule, and its enclosures hold its coordinates.
-use Rattle.std.proofs.Common.{◌≡◌, ◌⊎◌, ℕ, suc, ◌+◌, ◌-◌, ◌*◌, ◌/◌, ◌%◌, ◌<◌, ◌≤◌, Bool, true, false, nat_eq, IsTrue, List, length, take, drop, refl, sym, ap, subst, ◌∙◌, arith, inl, inr, ℤ, pos, ◌+ℤ◌, ◌-ℤ◌, ◌<ℤ◌, ◌≤ℤ◌, length-take-le, length-drop}
-use Rattle.std.specs.Prelude.{All, Contains, if◌then◌else◌}
+use Rattle.std.proofs.Common.{◌≡◌, ◌⊎◌, ℕ, ◌+◌, ◌*◌, ◌/◌, ◌%◌, ◌<◌, ◌≤◌, Bool, true, false, nat_eq, IsTrue, List, length, take, drop, refl, ap, ◌∙◌, arith, inl, inr, ℤ, pos, ◌+ℤ◌, ◌<ℤ◌, ◌≤ℤ◌, length-take-le, length-drop}
+use Rattle.std.specs.Prelude.{if◌then◌else◌}
 use Rattle.std.proofs.lemmas.Int.{ints}
 use Rattle.std.proofs.lemmas.Nat.{mul-le, div_below, mod_below}
 use Rattle.std.proofs.lemmas.Bool.{cases_lt, eqb-true}
 use Rattle.std.proofs.lemmas.List.Elements.{All-take, All-drop}
 use Rattle.spec_text.specs.declared.decimals.Decimal.{Decimal}
-use Rattle.spec_intervals.specs.Fraction.{Fraction, Holds}
 use Rattle.spec_ephemeris.specs.declared.header.Column.{Column}
 use Rattle.spec_ephemeris.specs.declared.limits.TheConstants.{BODY_COLUMNS}
-use Rattle.spec_ephemeris.specs.Header.{has_column, is_present, components, granule_size, IsColumn}
-use Rattle.spec_ephemeris.specs.Series.{Series, position, to_nat}
-use Rattle.spec_ephemeris.specs.Ephemeris.{Ephemeris, Granule, IsEphemeris, IsGranule, IsGranuleAt, IsBorder, IsBorderIn, IsBodyNumber, granule_end, end_of, axis_series}
+use Rattle.spec_ephemeris.specs.Header.{has_column, is_present, components}
+use Rattle.spec_ephemeris.specs.Ephemeris.{Ephemeris, Granule, IsEphemeris, IsGranuleAt, IsBorder, IsBodyNumber, granule_end, end_of, axis_series}
 use Rattle.spec_ephemeris.proofs.Granules.{one_granule}
 use Rattle.spec_ephemeris.proofs.GranuleNumbers.{numbers_count, numbers_bounded}
 use Rattle.spec_enclosures.specs.Enclosures.{IsSeries, IsSpan}

@@ -1,6 +1,6 @@
 -- Between which limits the exponents of enclosures of coordinates stay. An exponent falls by products alone, and rises by
 -- narrowing.
-use Rattle.std.proofs.Common.{◌≡◌, ◌⊎◌, ℕ, ◌+◌, ◌-◌, ◌*◌, ◌^◌, min, max, ◌<◌, ◌≤◌, arith, refl, sym, ◌∙◌, ℤ, pos, ◌+ℤ◌, ◌*ℤ◌, neg_ℤ, ◌≤ℤ◌, Bool, true, false, ◌&&◌, inl, inr, unsigned_abs}
+use Rattle.std.proofs.Common.{◌≡◌, ◌⊎◌, ℕ, ◌+◌, ◌*◌, ◌^◌, ◌<◌, ◌≤◌, arith, refl, sym, ◌∙◌, ℤ, pos, ◌+ℤ◌, ◌*ℤ◌, neg_ℤ, ◌≤ℤ◌, Bool, true, false, ◌&&◌, inl, inr, unsigned_abs}
 use Rattle.std.specs.Prelude.{if◌then◌else◌}
 use Rattle.std.proofs.lemmas.Int.{ints, clamps, unsigned_abs-mul}
 use Rattle.std.proofs.lemmas.Nat.{pow-add, pow_pos, mul-le}
@@ -8,7 +8,7 @@ use Rattle.std.proofs.lemmas.Bool.{false≢true, cases_lt}
 use Rattle.std.proofs.Math.Nat.{one-le-pow}
 use Rattle.std.specs.Int.{int_min, int_max}
 use lib.Signed.{le_z, lt_z}
-use Rattle.spec_intervals.specs.Interval.{Interval, interval, end_limit, floor_div, ceil_div, fits_after, narrow_shift, zero_end, settled, narrow_by, narrow, surplus, lift, sum_up, sum, is_zero, negated, difference, least4, greatest4, product, meet_up, meet}
+use Rattle.spec_intervals.specs.Interval.{Interval, end_limit, floor_div, ceil_div, fits_after, narrow_shift, zero_end, settled, narrow_by, narrow, surplus, lift, sum_up, sum, is_zero, negated, difference, least4, greatest4, product, meet_up, meet}
 use Rattle.spec_intervals.proofs.Order.{lin}
 use Rattle.spec_intervals.proofs.Floor.{floor_div-small, ceil_div-small, unsigned_abs-neg, is_small-both}
 use Rattle.spec_intervals.proofs.Narrow.{sizes-fit, narrow_shift-fits, narrow_shift-least}

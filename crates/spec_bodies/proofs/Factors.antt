@@ -1,16 +1,14 @@
 -- A constant factor: its interval is not 0 and stays as it is, so that a product with it multiplies each part of the other
 -- operand.
-use Rattle.std.proofs.Common.{◌≡◌, ℕ, zero, suc, ◌+◌, ◌*◌, ◌^◌, ◌<◌, ◌≤◌, arith, refl, sym, ap, subst, ◌∙◌, ℤ, pos, negsuc, ◌+ℤ◌, ◌*ℤ◌, neg_ℤ, ◌≤ℤ◌, ◌<ℤ◌, Bool, true, false, ◌&&◌, unsigned_abs, [], ◌∷◌}
+use Rattle.std.proofs.Common.{◌≡◌, ℕ, zero, suc, ◌+◌, ◌*◌, ◌^◌, ◌<◌, ◌≤◌, arith, refl, sym, subst, ◌∙◌, ℤ, pos, negsuc, ◌+ℤ◌, ◌*ℤ◌, ◌≤ℤ◌, ◌<ℤ◌, Bool, true, false, ◌&&◌, unsigned_abs, [], ◌∷◌}
 use Rattle.std.specs.Prelude.{if◌then◌else◌}
 use Rattle.std.specs.Int.{int_min, int_max}
 use Rattle.std.proofs.lemmas.Int.{ints, clamps, unsigned_abs-mul}
-use Rattle.std.proofs.lemmas.Bool.{false≢true}
 use Rattle.std.proofs.Math.Nat.{one-le-pow}
 use borrow.Author.Differences.{up, down}
-use lib.Signed.{le_z, lt_z}
+use lib.Signed.{lt_z}
 use Rattle.spec_text.specs.declared.decimals.Decimal.{Decimal}
 use Rattle.spec_intervals.specs.Interval.{Interval, interval, end_limit, floor_div, ceil_div, cosine_exponent, first_fit, narrow_shift, zero_end, settled, narrow_by, narrow, sum, is_zero, least4, greatest4, product, meet_up, meet}
-use Rattle.spec_intervals.specs.Fraction.{Fraction, IsFraction}
 use Rattle.spec_intervals.proofs.Ring.{v, k as lit, ◌⊗◌, ring}
 use Rattle.spec_intervals.proofs.Order.{lin}
 use Rattle.spec_intervals.proofs.Floor.{floor_div-lt, floor_div-small, ceil_div-small}

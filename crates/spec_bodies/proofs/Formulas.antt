@@ -1,25 +1,23 @@
 -- A coordinate's formula is made of the columns in use, and it holds what they do.
-use Rattle.std.proofs.Common.{◌≡◌, ℕ, zero, suc, ◌+◌, ◌*◌, ◌^◌, ◌<◌, ◌≤◌, List, [], ◌∷◌, arith, refl, ℤ, pos, ◌*ℤ◌, ◌≤ℤ◌}
+use Rattle.std.proofs.Common.{◌≡◌, ℕ, zero, suc, ◌+◌, ◌*◌, ◌^◌, ◌<◌, ◌≤◌, arith, refl, ℤ, pos, ◌*ℤ◌, ◌≤ℤ◌}
 use Rattle.std.specs.Prelude.{All}
 use Rattle.std.proofs.Math.Nat.{one-le-pow}
-use borrow.Author.Differences.{up, down}
+use borrow.Author.Differences.{down}
 use Rattle.spec_text.specs.declared.decimals.Decimal.{Decimal}
-use Rattle.spec_intervals.proofs.Order.{lin}
 use Rattle.spec_intervals.proofs.Floor.{floor_div-le, ceil_div-ge}
 use Rattle.spec_intervals.specs.Interval.{floor_div, ceil_div}
 use Rattle.spec_intervals.specs.Fraction.{Fraction, IsFraction, Holds, fraction}
-use Rattle.spec_expressions.specs.Enclosure.{Enclosure, IsEnclosure, AllFractions, zero_interval, constant_of}
+use Rattle.spec_expressions.specs.Enclosure.{Enclosure, IsEnclosure, AllFractions, zero_interval}
 use Rattle.spec_expressions.proofs.Compare.{IsFraction-mul, Holds-zero}
 use Rattle.spec_expressions.proofs.Enclosed.{IsEnclosure-constant, IsEnclosure-sum, IsEnclosure-difference, IsEnclosure-product}
-use Rattle.spec_expressions.proofs.Induction.{IsFraction-decimal}
 use Rattle.spec_bodies.specs.declared.frame.Frame.{Frame}
 use Rattle.spec_bodies.specs.declared.frame.Frame.TheVariants.{Eq, Ecl}
 use Rattle.spec_bodies.specs.declared.source.Source.{Source}
 use Rattle.spec_bodies.specs.declared.source.Source.TheVariants.{OwnColumn, EarthOfPair, MoonOfPair, Origin}
-use Rattle.spec_bodies.specs.Sources.{needed, used}
-use Rattle.spec_bodies.specs.Coordinates.{Factor, moon_share, cosine, sine, Coordinate, nothing, of_column, times, plus, less, seen, turned, in_frame, coordinate}
+use Rattle.spec_bodies.specs.Sources.{used}
+use Rattle.spec_bodies.specs.Coordinates.{Factor, moon_share, cosine, sine, Coordinate, nothing, of_column, times, plus, less, seen, in_frame}
 use Rattle.spec_bodies.specs.Reading.{AllColumns}
-use Rattle.spec_bodies.specs.Meanings.{share_beside, factor, factor_interval, exact_of, enclosure_of}
+use Rattle.spec_bodies.specs.Meanings.{factor, factor_interval, exact_of, enclosure_of}
 
 pub all_columns : (P Q : ℕ → ℕ → Type 0) → ((number axis : ℕ) → P number axis → Q number axis) → (c : Coordinate) → AllColumns P c → AllColumns Q c
 all_columns P Q weaker nothing all = tt

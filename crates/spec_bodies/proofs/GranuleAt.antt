@@ -1,5 +1,5 @@
 -- The granule that a time is divided into is the granule of the time.
-use Rattle.std.proofs.Common.{◌≡◌, ◌⊎◌, ℕ, ◌+◌, ◌-◌, ◌*◌, ◌/◌, ◌%◌, ◌<◌, ◌≤◌, min, IsTrue, Option, None, Some, ℤ, pos, negsuc, ◌+ℤ◌, ◌-ℤ◌, ◌<ℤ◌, ◌≤ℤ◌, refl, sym, ap, ◌∙◌, arith, inl, inr}
+use Rattle.std.proofs.Common.{◌≡◌, ◌⊎◌, ℕ, ◌+◌, ◌-◌, ◌*◌, ◌/◌, ◌%◌, ◌<◌, ◌≤◌, min, IsTrue, Option, None, Some, ℤ, pos, negsuc, ◌+ℤ◌, ◌-ℤ◌, ◌<ℤ◌, ◌≤ℤ◌, refl, ap, ◌∙◌, arith, inl, inr}
 use Rattle.std.proofs.lemmas.Int.{ints}
 use Rattle.std.proofs.lemmas.Nat.{mul-le, div_below, mod_below, div-add-mod'}
 use Rattle.std.proofs.lemmas.Bool.{cases_lt}
@@ -8,8 +8,7 @@ use Rattle.spec_ephemeris.specs.declared.header.Column.{Column}
 use Rattle.spec_ephemeris.specs.declared.header.Header.{Header}
 use Rattle.spec_ephemeris.specs.Series.{to_nat}
 use Rattle.spec_ephemeris.specs.Header.{IsColumn, IsShared, column_at, has_column, is_present_at}
-use Rattle.spec_ephemeris.specs.Ephemeris.{Ephemeris, Granule, IsEphemeris, IsGranule, IsGranuleAt, granule_end, end_of}
-use Rattle.spec_ephemeris.proofs.Granules.{one_granule}
+use Rattle.spec_ephemeris.specs.Ephemeris.{Ephemeris, IsEphemeris, IsGranule, IsGranuleAt, end_of}
 use Rattle.spec_bodies.specs.Granules.{column_or_none, column_of, granule_length, granule_index, granule_of_index, granule_at}
 
 column_there : (h : Header) (number : ℕ) (o : Option Column) → column_at h.columns number ≡ o → IsTrue (is_present_at o) → IsColumn h number (column_or_none o)

@@ -1,16 +1,14 @@
 -- The enclosures of a column over times that fit hold its position and its velocity, and so do those of a body.
-use Rattle.std.proofs.Common.{◌≡◌, ℕ, suc, ◌*◌, ◌^◌, ◌<◌, ◌≤◌, IsTrue, ap, sym, subst, ◌∙◌, arith, ℤ, pos, negsuc, ◌+ℤ◌, ◌*ℤ◌, ◌<ℤ◌, ◌≤ℤ◌, unsigned_abs, length}
-use Rattle.std.specs.Prelude.{All}
+use Rattle.std.proofs.Common.{◌≡◌, ℕ, ◌*◌, ◌^◌, ◌<◌, ◌≤◌, ap, sym, subst, arith, ℤ, pos, negsuc, ◌+ℤ◌, ◌*ℤ◌, ◌<ℤ◌, ◌≤ℤ◌, unsigned_abs}
 use Rattle.std.proofs.lemmas.Int.{ints}
 use Rattle.std.proofs.lemmas.List.Elements.{All-weaker}
 use Rattle.std.proofs.lemmas.Nat.{mul-le}
 use Rattle.std.proofs.Math.Nat.{one-le-pow}
 use Rattle.spec_intervals.specs.Interval.{Interval}
 use Rattle.spec_intervals.specs.Fraction.{Fraction, IsFraction, Holds, fraction_sub}
-use Rattle.spec_ephemeris.specs.Header.{has_column}
-use Rattle.spec_ephemeris.specs.declared.limits.TheConstants.{BODY_COLUMNS, FIRST_TIME, LAST_TIME, MOST_BLOCKS, LONGEST_BLOCK}
+use Rattle.spec_ephemeris.specs.declared.limits.TheConstants.{FIRST_TIME, LAST_TIME, MOST_BLOCKS, LONGEST_BLOCK}
 use Rattle.spec_ephemeris.specs.Series.{Series, position}
-use Rattle.spec_ephemeris.specs.Ephemeris.{Ephemeris, IsEphemeris, IsBorder, IsBorderIn, end_of}
+use Rattle.spec_ephemeris.specs.Ephemeris.{IsBorder}
 use Rattle.spec_enclosures.specs.Velocity.{velocity}
 use Rattle.spec_enclosures.specs.Enclosures.{IsSeries, IsSpan, position_interval, position_step_interval, velocity_interval, velocity_step_interval}
 use Rattle.spec_enclosures.proofs.HeldSpans.{Holds-position}
@@ -25,7 +23,7 @@ use Rattle.spec_bodies.specs.Coordinates.{Factor, Coordinate, seen}
 use Rattle.spec_bodies.specs.Granules.{series_at}
 use Rattle.spec_bodies.specs.Reading.{AllColumns, IsUsable, IsReadable, IsShort, IsFactor}
 use Rattle.spec_bodies.specs.Meanings.{factor, factor_interval, exact_of, enclosure_of}
-use Rattle.spec_bodies.specs.Views.{View, IsView, Fits, target_of, columns_of, coordinate_of, exact_position, exact_velocity, exact_state, series_positions, series_velocities, position_enclosure, velocity_enclosure, state_enclosure}
+use Rattle.spec_bodies.specs.Views.{View, Fits, target_of, coordinate_of, exact_state, series_positions, series_velocities, state_enclosure}
 use Rattle.spec_bodies.proofs.Formulas.{IsHeld, seen_columns, in_frame_columns, IsFraction-factor, all_columns, AllFractions-coordinate, IsEnclosure-coordinate}
 use Rattle.spec_bodies.proofs.InUse.{used_usable}
 use Rattle.spec_bodies.proofs.Columns.{same_series, span_of, series_of}

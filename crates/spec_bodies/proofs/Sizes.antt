@@ -1,19 +1,17 @@
 -- The exponents of the intervals of a series: the sums that are narrowed are below 2^130 in size.
-use Rattle.std.proofs.Common.{◌≡◌, ℕ, zero, suc, ◌+◌, ◌-◌, ◌*◌, ◌/◌, ◌^◌, ◌<◌, ◌≤◌, arith, List, [], ◌∷◌, length, map, drop, ℤ, pos, negsuc, ◌+ℤ◌, ◌*ℤ◌, neg_ℤ, ◌≤ℤ◌, ◌<ℤ◌, Bool, true, false, unsigned_abs, length-drop}
+use Rattle.std.proofs.Common.{◌≡◌, ℕ, zero, suc, ◌+◌, ◌*◌, ◌^◌, ◌<◌, ◌≤◌, arith, List, [], ◌∷◌, length, drop, ℤ, pos, ◌+ℤ◌, ◌*ℤ◌, neg_ℤ, ◌≤ℤ◌, Bool, true, false, unsigned_abs, length-drop}
 use Rattle.std.specs.Prelude.{All, if◌then◌else◌}
 use Rattle.std.specs.Int.{int_min, int_max}
 use Rattle.std.proofs.lemmas.Int.{ints, unsigned_abs-mul}
 use Rattle.std.proofs.lemmas.Nat.{mul-le}
-use Rattle.std.proofs.Math.Nat.{div-le_self}
 use Rattle.std.proofs.lemmas.List.{length-map}
 use Rattle.std.proofs.lemmas.List.Elements.{All-map, All-weaker, All-head, All-tail, All-drop}
 use lib.Signed.{lt_z}
 use Rattle.spec_text.specs.declared.decimals.Decimal.{Decimal}
-use Rattle.spec_intervals.specs.Interval.{Interval, end_limit, floor_div, ceil_div, least4, greatest4, narrow, scale}
+use Rattle.spec_intervals.specs.Interval.{end_limit, floor_div, ceil_div, least4, greatest4, scale}
 use Rattle.spec_intervals.proofs.Floor.{floor_div-small, ceil_div-small}
 use Rattle.spec_chebyshev.specs.declared.ends.Ival62.{Ival62}
-use Rattle.spec_chebyshev.specs.Differences.{Within}
-use Rattle.spec_chebyshev.specs.Rows.{ends, r_size, t_row, u_row, q_row, r_row, EndsWithin, IsArguments}
+use Rattle.spec_chebyshev.specs.Rows.{r_size, t_row, u_row, q_row, r_row, EndsWithin, IsArguments}
 use Rattle.spec_chebyshev.proofs.Arguments.{IsArguments-argument}
 use Rattle.spec_chebyshev.proofs.RowEnds.{EndsWithin-t, EndsWithin-u, EndsWithin-q, EndsWithin-r}
 use Rattle.spec_ephemeris.specs.Series.{Series, argument_at}

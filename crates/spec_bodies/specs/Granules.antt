@@ -1,5 +1,5 @@
 -- The granule of a column at a time, as a function, and the series of an axis of it.
-use Rattle.std.specs.Prelude.{ℕ, ◌+◌, ◌-◌, ◌*◌, ◌/◌, ◌%◌, min, Option, None, Some, ℤ, pos, ◌+ℤ◌, ◌-ℤ◌}
+use Rattle.std.specs.Prelude.{ℕ, ◌-◌, ◌*◌, ◌/◌, ◌%◌, min, Option, None, Some, ℤ, pos, ◌+ℤ◌, ◌-ℤ◌}
 use Rattle.spec_ephemeris.specs.declared.header.Column.{Column}
 use Rattle.spec_ephemeris.specs.Header.{column_at}
 use Rattle.spec_ephemeris.specs.Series.{Series, to_nat}

@@ -1,6 +1,6 @@
 -- Two targets seen from an observer in a frame, over an ephemeris: their exact positions and velocities at each time, and
 -- the enclosures of these over a span of times. Positions are in km, velocities in km a second.
-use Rattle.std.specs.Prelude.{◌≡◌, ◌≢◌, ℕ, zero, suc, ◌<◌, ◌≤◌, All, IsTrue, List, ◌∷◌, ◌++◌, slice_index_or, ℤ, ◌≤ℤ◌}
+use Rattle.std.specs.Prelude.{ℕ, zero, suc, ◌<◌, ◌≤◌, All, IsTrue, List, slice_index_or, ℤ, ◌≤ℤ◌}
 use Rattle.spec_intervals.specs.Fraction.{Fraction}
 use Rattle.spec_ephemeris.specs.declared.body.Body.{Body}
 use Rattle.spec_ephemeris.specs.declared.body.Body.TheVariants.{Ssb}

@@ -1,9 +1,6 @@
-use Rattle.std.proofs.Common.{rules, arith, ◌≡◌, ◌∙◌, sym, ap}
-use Rattle.spec_bodies.specs.Coordinates.{moon_share, cosine, sine, nothing, of_column, times, earth, barycentric, seen}
-use Rattle.spec_bodies.specs.Meanings.{factor}
-use Rattle.spec_bodies.specs.Sources.{emb_column, moon_column}
-use Rattle.spec_bodies.proofs.Formulas.{IsFraction-factor}
-use Rattle.body_states.proofs.Good.{column_short, nothing_short, share_short, earth_short, barycentric_short, seen_short, turned_short, view_factor}
+use Rattle.std.proofs.Common.{ap}
+use Rattle.spec_bodies.specs.Coordinates.{barycentric}
+use Rattle.body_states.proofs.Good.{barycentric_short}
 use Rattle.body_states.proofs.states.BodyStates.apart.Goals as goal
 
 pub difference-requires-clause-x : goal.difference-requires-clause-x

@@ -1,5 +1,5 @@
-use Rattle.std.proofs.Common.{rules, arith, ◌≡◌, ◌∙◌, sym, ap, ℤ, to_z, of_z, FitsSigned, w64}
-use Rattle.std.proofs.lemmas.Int.{ints, to_z-of_z}
+use Rattle.std.proofs.Common.{rules, ◌∙◌, sym, ap, FitsSigned, w64}
+use Rattle.std.proofs.lemmas.Int.{to_z-of_z}
 use Rattle.spec_bodies.specs.Views.{series_positions, series_velocities}
 use Rattle.body_states.proofs.Reading.{evaluable, upto_end, series_is}
 use Rattle.body_states.proofs.states.BodyStates.column.Goals as goal

@@ -1,9 +1,6 @@
-use Rattle.std.proofs.Common.{rules, arith, ◌≡◌, ◌∙◌, sym, ap}
-use Rattle.spec_bodies.specs.Coordinates.{moon_share, cosine, sine, nothing, of_column, times, earth, barycentric, seen}
-use Rattle.spec_bodies.specs.Meanings.{factor}
-use Rattle.spec_bodies.specs.Sources.{emb_column, moon_column}
-use Rattle.spec_bodies.proofs.Formulas.{IsFraction-factor}
-use Rattle.body_states.proofs.Good.{column_short, nothing_short, share_short, earth_short, barycentric_short, seen_short, turned_short, view_factor}
+use Rattle.spec_bodies.specs.Coordinates.{of_column, earth}
+use Rattle.spec_bodies.specs.Sources.{moon_column}
+use Rattle.body_states.proofs.Good.{column_short, earth_short}
 use Rattle.body_states.proofs.states.BodyStates.moon.Goals as goal
 
 pub sum-requires-clause-x : goal.sum-requires-clause-x

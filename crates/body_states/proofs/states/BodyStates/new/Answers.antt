@@ -1,6 +1,6 @@
-use Rattle.std.proofs.Common.{rules, arith, ◌≡◌, ◌<◌, length, sym, subst}
+use Rattle.std.proofs.Common.{rules, arith, ◌≡◌, length, sym, subst}
 use Rattle.spec_ephemeris.specs.declared.body.Body.TheVariants.{Ssb}
-use Rattle.spec_bodies.specs.Views.{IsView, IsThere}
+use Rattle.spec_bodies.specs.Views.{IsThere}
 use Rattle.spec_bodies.proofs.InUse.{body_there}
 use Rattle.body_states.proofs.states.BodyStates.new.Goals as goal
 

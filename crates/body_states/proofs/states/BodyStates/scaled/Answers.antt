@@ -1,4 +1,4 @@
-use Rattle.body_states.proofs.Good.{good_encloses, good_within, factor_number, factor_within, unchanging_within, constant_encloses}
+use Rattle.body_states.proofs.Good.{good_encloses, good_within, factor_number, unchanging_within, constant_encloses}
 use Rattle.body_states.proofs.states.BodyStates.scaled.Goals as goal
 
 pub constant-constant-requires-clause-number : goal.constant-constant-requires-clause-number

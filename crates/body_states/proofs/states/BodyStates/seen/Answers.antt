@@ -1,12 +1,10 @@
-use Rattle.std.proofs.Common.{rules, arith, ◌≡◌, ◌∙◌, sym, ap, subst}
+use Rattle.std.proofs.Common.{◌∙◌, sym, ap, subst}
 use Rattle.spec_bodies.specs.declared.source.Source.{Source}
 use Rattle.spec_bodies.specs.declared.source.Source.TheVariants.{EarthOfPair, MoonOfPair}
 use Rattle.spec_bodies.specs.Reading.{AllColumns, IsReadable}
-use Rattle.spec_bodies.specs.Coordinates.{moon_share, cosine, sine, nothing, of_column, times, earth, barycentric, seen}
-use Rattle.spec_bodies.specs.Meanings.{factor}
-use Rattle.spec_bodies.specs.Sources.{emb_column, moon_column}
-use Rattle.spec_bodies.proofs.Formulas.{IsFraction-factor}
-use Rattle.body_states.proofs.Good.{column_short, nothing_short, share_short, earth_short, barycentric_short, seen_short, turned_short, view_factor}
+use Rattle.spec_bodies.specs.Coordinates.{nothing, of_column, seen}
+use Rattle.spec_bodies.specs.Sources.{moon_column}
+use Rattle.body_states.proofs.Good.{column_short, nothing_short}
 use Rattle.body_states.proofs.states.BodyStates.seen.Goals as goal
 
 pub difference-requires-clause-x : goal.difference-requires-clause-x

@@ -1,9 +1,7 @@
-use Rattle.std.proofs.Common.{rules, arith, ◌≡◌, ◌∙◌, sym, ap}
-use Rattle.spec_bodies.specs.Coordinates.{moon_share, cosine, sine, nothing, of_column, times, earth, barycentric, seen}
+use Rattle.spec_bodies.specs.Coordinates.{cosine, sine, times, seen}
 use Rattle.spec_bodies.specs.Meanings.{factor}
-use Rattle.spec_bodies.specs.Sources.{emb_column, moon_column}
 use Rattle.spec_bodies.proofs.Formulas.{IsFraction-factor}
-use Rattle.body_states.proofs.Good.{column_short, nothing_short, share_short, earth_short, barycentric_short, seen_short, turned_short, view_factor}
+use Rattle.body_states.proofs.Good.{seen_short, turned_short, view_factor}
 use Rattle.body_states.proofs.states.BodyStates.turned_z.Goals as goal
 
 pub scaled-y-requires-clause-factor : goal.scaled-y-requires-clause-factor

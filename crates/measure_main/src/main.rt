@@ -4,10 +4,12 @@
 #![tactic(auto)]
 
 mod bases;
+mod positions;
 mod products;
 mod words;
 
 use bases::bases;
+use positions::positions;
 use products::products;
 use std::process::ExitCode;
 use std::{env, fs, io};
@@ -17,6 +19,7 @@ use words::words;
 #[derive(Drop)]
 enum Work {
     Bases(u32),
+    Positions(u32),
     Products(u32),
     Words(u32, Vec<u8>),
 }
@@ -25,6 +28,7 @@ fn work_of(name: &str, rounds: &str) -> Option<Work> {
     let rounds = rounds.parse::<u32>().ok()?;
     match name {
         "bases" => Some(Work::Bases(rounds)),
+        "positions" => Some(Work::Positions(rounds)),
         "products" => Some(Work::Products(rounds)),
         _ => None,
     }
@@ -71,13 +75,19 @@ fn main(rt: HostRuntime) -> Result<ExitCode, io::Error> {
             let sum = bases(rounds);
             println!(&rt; "bases {rounds} checksum {sum}")?;
         }
+        Some(Work::Positions(rounds)) => {
+            let sum = positions(rt.alloc(), rounds)?;
+            println!(&rt; "positions {rounds} checksum {sum}")?;
+        }
         Some(Work::Products(rounds)) => {
             let sum = products(rt.alloc(), rounds)?;
             println!(&rt; "products {rounds} checksum {sum}")?;
         }
         Some(Work::Words(rounds, text)) => return tell_words(&rt, rounds, text.as_slice()),
         None => {
-            eprintln!(&rt; "measure_main: bases ROUNDS, products ROUNDS, or words ROUNDS FILE")?;
+            eprintln!(&rt;
+                "measure_main: bases ROUNDS, positions ROUNDS, products ROUNDS, or words ROUNDS FILE"
+            )?;
             return Ok(ExitCode::from(2));
         }
     }

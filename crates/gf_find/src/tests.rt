@@ -104,9 +104,9 @@ const FIND_TWO: &str = "find --kind coord --target mercury --axis x a b";
 fn changed(alloc: Global, changes: &[(usize, &str)], end: usize) -> Result<Vec<u8>, AllocError> {
     let whole = file(alloc, "0.0", "0.138240000000000000D+07")?;
     let mut text = Vec::new(alloc);
-    let mut number = 0;
+    let mut number = 0usize;
     for line in whole.split(|b| *b == b'\n') {
-        number += 1;
+        number = number.saturating_add(1);
         if number == end || number == 27 {
             break;
         }
@@ -302,13 +302,10 @@ fn first_faults_are_told(rt: HostRuntime) -> Result<(), Fail> {
 fn files_go_on_in_the_next(rt: HostRuntime) -> Result<(), Fail> {
     let alloc = rt.alloc();
     let whole = changed(alloc, &[], 27)?;
-    for cut in [0, 20, 100, 259, whole.len() - 1] {
-        // Between two lines alone, a text can be cut in two.
-        let at = whole[cut..]
-            .iter()
-            .position(|b| *b == b'\n')
-            .map_or(whole.len(), |i| cut + i + 1);
-        let texts = [("a", &whole[..at]), ("b", &whole[at..])];
+    for end in [1, 2, 9, 17, 18, 20, 27] {
+        let first = changed(alloc, &[], end)?;
+        let second = &whole[first.len().min(whole.len())..];
+        let texts = [("a", first.as_slice()), ("b", second)];
         let run = run(alloc, FIND_TWO, &texts, &SOUND)?;
         assert_eq!(rt; run.status, 0);
         let mut text = REQUEST.as_bytes().to_vec(alloc)?;

@@ -354,6 +354,68 @@ fn faults_of_two_files_are_told(rt: HostRuntime) -> Result<(), Fail> {
     Ok(())
 }
 
+// A header, and this many blocks of zeros, each of which begins where the last ended. Each begins at midnight.
+fn blocks_of_zeros(alloc: Global, count: i64) -> Result<Vec<u8>, AllocError> {
+    let mut text = changed(alloc, &[], 17)?;
+    let mut day: i64 = 2_451_544;
+    for _ in 0..count {
+        let next = day.saturating_add(32);
+        let dates = format!(in alloc; "1 26\n{day}.5 {next}.5")?;
+        text.extend_from_slice(dates.as_bytes())?;
+        text.extend_from_slice(b" 0.0\n0.0")?;
+        text.extend_from_slice(ZEROS.as_bytes())?;
+        day = next;
+    }
+    Ok(text)
+}
+
+#[test]
+fn blocks_follow_one_another_up_to_their_limit(rt: HostRuntime) -> Result<(), Fail> {
+    let alloc = rt.alloc();
+    let cases = [
+        (2, "finder: file a line 37: 7 NotBuilt\n"),
+        (16_384, "finder: file a line 163857: 7 NotBuilt\n"),
+        (16_385, "finder: file a line 163858: 38 TooManyBlocks\n"),
+    ];
+    for (count, told) in cases {
+        let text = blocks_of_zeros(alloc, count)?;
+        let run = run(alloc, FIND, &[("a", &text)], &SOUND)?;
+        assert_eq!(rt; run.status, 3, "{told}");
+        assert!(rt; run.out.is_empty());
+        assert_eq!(rt; run.err.as_slice(), told.as_bytes());
+    }
+    Ok(())
+}
+
+#[test]
+fn a_block_may_be_repeated_in_the_next_file(rt: HostRuntime) -> Result<(), Fail> {
+    let alloc = rt.alloc();
+    let whole = changed(alloc, &[], 27)?;
+    let header = changed(alloc, &[], 17)?;
+    let block = &whole[header.len().min(whole.len())..];
+    let texts = [("a", whole.as_slice()), ("b", block)];
+    let run = run(alloc, FIND_TWO, &texts, &SOUND)?;
+    assert_eq!(rt; run.status, 0);
+    let mut text = REQUEST.as_bytes().to_vec(alloc)?;
+    text.extend_from_slice(b"C 1339200 1339200 rise\nEND certain 1 undecided 0\n")?;
+    assert_eq!(rt; run.out.as_slice(), text.as_slice());
+    Ok(())
+}
+
+#[test]
+fn a_text_may_end_within_its_last_line(rt: HostRuntime) -> Result<(), Fail> {
+    let alloc = rt.alloc();
+    let mut text = changed(alloc, &[], 26)?;
+    text.extend_from_slice(b"0.0")?;
+    let run = run(alloc, FIND, &[("a", &text)], &SOUND)?;
+    assert_eq!(rt; run.status, 3);
+    assert_eq!(rt;
+        run.err.as_slice(),
+        b"finder: file a line 27: 36 Truncated\n".as_slice()
+    );
+    Ok(())
+}
+
 #[test]
 fn the_65th_name_is_one_too_many(rt: HostRuntime) -> Result<(), Fail> {
     let alloc = rt.alloc();

@@ -4,7 +4,9 @@
 #![tactic(auto)]
 
 mod bases;
+mod functions;
 mod products;
+mod reading;
 mod words;
 
 use bases::bases;

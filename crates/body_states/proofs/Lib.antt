@@ -1,3 +1,4 @@
 pub mod Masses
 pub mod Good
 pub mod SeriesParts
+pub mod Reading

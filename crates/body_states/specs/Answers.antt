@@ -1,9 +1,11 @@
 -- What is asked of a body, and what is answered for a formula.
 use Rattle.std.specs.Prelude.{◌≡◌, ℕ, ℤ}
+use Rattle.spec_intervals.specs.Interval.{Interval}
+use Rattle.spec_intervals.specs.Fraction.{Fraction, IsFraction}
 use Rattle.spec_expressions.specs.Enclosure.{Enclosure}
 use Rattle.spec_bodies.specs.Coordinates.{Coordinate}
 use Rattle.spec_bodies.specs.Granules.{series_at}
-use Rattle.spec_bodies.specs.Meanings.{factor, enclosure_of}
+use Rattle.spec_bodies.specs.Meanings.{factor, factor_interval, enclosure_of}
 use Rattle.spec_bodies.specs.Views.{View, series_positions, series_velocities}
 use Rattle.spec_bodies.specs.Reading.{IsReadable, IsShort, AllColumns}
 use Rattle.body_states.specs.declared.asked.Quantity.{Quantity}
@@ -29,3 +31,9 @@ pub record IsAnswer (v : View) (q : Question) (e : Enclosure) : Type 0 where
   pub readable : AllColumns (IsReadable v) formula
   pub short : IsShort formula
   pub is : e ≡ answer_of v q formula
+
+-- the interval is that of some fraction
+pub record IsNumber (c : Interval) : Type 0 where
+  pub number : Fraction
+  pub is_fraction : IsFraction number
+  pub is : c ≡ factor_interval number

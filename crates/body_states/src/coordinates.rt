@@ -1,11 +1,11 @@
 // The coordinates of bodies, made of those of columns by the rules on enclosures.
 ghost use Rattle.std.specs.Prelude.{◌≡◌, ◌<◌};
 ghost use Rattle.spec_expressions.specs.Enclosure.{constant_of, sum_of, difference_of, product_of};
-ghost use Rattle.spec_bodies.specs.Coordinates.{nothing, of_column, earth, moon, barycentric, seen, turned, in_frame};
+ghost use Rattle.spec_bodies.specs.Coordinates.{nothing, of_column, earth, moon, less, barycentric, seen, turned, in_frame};
 ghost use Rattle.spec_bodies.specs.Reading.{AllColumns, IsReadable, IsFactor};
 ghost use Rattle.spec_bodies.specs.Views.{Fits};
 ghost use Rattle.event_expr.specs.States.{parts};
-ghost use Rattle.body_states.specs.Answers.{answer_of, column_enclosure, IsAnswer};
+ghost use Rattle.body_states.specs.Answers.{answer_of, column_enclosure, IsAnswer, IsNumber};
 
 use crate::asked::{Asked, Quantity};
 use crate::series::{positions, velocities};
@@ -35,17 +35,33 @@ impl<'e> BodyStates<'e> {
     {
         match axis {
             0 => self.seen(target, 0, asked),
-            1 => {
-                let y = self.scaled(self.factors.cosine, self.seen(target, 1, asked), asked);
-                let z = self.scaled(self.factors.sine, self.seen(target, 2, asked), asked);
-                self.sum(y, z, asked)
-            }
-            _ => {
-                let z = self.scaled(self.factors.cosine, self.seen(target, 2, asked), asked);
-                let y = self.scaled(self.factors.sine, self.seen(target, 1, asked), asked);
-                self.difference(z, y, asked)
-            }
+            1 => self.turned_y(target, asked),
+            _ => self.turned_z(target, asked),
         }
+    }
+
+    fn turned_y(&self, target: Source, asked: &Asked) -> Enclosure
+        requires fits { Fits self.now asked.now.first asked.now.last }
+        requires readable { AllColumns (IsReadable self.now) (turned (seen target self.now.observer) 1) }
+        ensures { parts result ≡ answer_of self.now asked.now (turned (seen target self.now.observer) 1) }
+    {
+        let own_y = self.seen(target, 1, asked);
+        let own_z = self.seen(target, 2, asked);
+        let y = self.scaled(self.factors.cosine, own_y, asked);
+        let z = self.scaled(self.factors.sine, own_z, asked);
+        self.sum(y, z, asked)
+    }
+
+    fn turned_z(&self, target: Source, asked: &Asked) -> Enclosure
+        requires fits { Fits self.now asked.now.first asked.now.last }
+        requires readable { AllColumns (IsReadable self.now) (turned (seen target self.now.observer) 2) }
+        ensures { parts result ≡ answer_of self.now asked.now (turned (seen target self.now.observer) 2) }
+    {
+        let own_y = self.seen(target, 1, asked);
+        let own_z = self.seen(target, 2, asked);
+        let y = self.scaled(self.factors.sine, own_y, asked);
+        let z = self.scaled(self.factors.cosine, own_z, asked);
+        self.difference(z, y, asked)
     }
 
     // A coordinate of a target relative to the observer, in the frame of the files.
@@ -61,12 +77,20 @@ impl<'e> BodyStates<'e> {
                 self.difference(self.nothing(asked), moon, asked)
             }
             (_, Source::Origin) => self.barycentric(target, axis, asked),
-            _ => {
-                let own = self.barycentric(target, axis, asked);
-                let observer = self.barycentric(self.observer, axis, asked);
-                self.difference(own, observer, asked)
-            }
+            _ => self.apart(target, axis, asked),
         }
+    }
+
+    // A coordinate of a target less that of the observer.
+    fn apart(&self, target: Source, axis: usize, asked: &Asked) -> Enclosure
+        requires fits { Fits self.now asked.now.first asked.now.last }
+        requires own { AllColumns (IsReadable self.now) (barycentric target axis) }
+        requires observer { AllColumns (IsReadable self.now) (barycentric self.now.observer axis) }
+        ensures { parts result ≡ answer_of self.now asked.now (less (barycentric target axis) (barycentric self.now.observer axis)) }
+    {
+        let own = self.barycentric(target, axis, asked);
+        let observer = self.barycentric(self.observer, axis, asked);
+        self.difference(own, observer, asked)
     }
 
     // A coordinate of a body relative to the barycentre of the solar system.
@@ -129,6 +153,7 @@ impl<'e> BodyStates<'e> {
     fn scaled(&self, factor: Ival, x: Enclosure, asked: &Asked) -> Enclosure
         requires fits { Fits self.now asked.now.first asked.now.last }
         requires factor { IsFactor factor }
+        requires number { IsNumber factor }
         requires x { IsAnswer self.now asked.now (parts x) }
         ensures { parts result ≡ product_of asked.now.first asked.now.last (constant_of asked.now.first asked.now.last factor) (parts x) }
     {

@@ -5,6 +5,7 @@
 //! exact values, and have the same bits for the same operands on every machine. No call takes memory or fails.
 #![tactic(auto)]
 
+mod answers;
 mod asked;
 mod coordinates;
 mod factors;

@@ -1,18 +1,21 @@
 -- What a target is made of stands among the columns in use, and these are there.
-use Rattle.std.proofs.Common.{◌≡◌, ◌⊎◌, ℕ, zero, suc, ◌<◌, ◌≤◌, ◌==◌, ◌||◌, Bool, true, false, cond, IsTrue, List, [], ◌∷◌, ◌++◌, length, slice_index_or, refl, ap, sym, ◌∙◌, arith, inl, inr, eq-eqb}
+use Rattle.std.proofs.Common.{◌≡◌, ◌⊎◌, ℕ, zero, suc, ◌<◌, ◌≤◌, ◌==◌, ◌||◌, Bool, true, false, cond, IsTrue, List, [], ◌∷◌, ◌++◌, length, slice_index_or, refl, ap, sym, subst, ◌∙◌, arith, inl, inr, eq-eqb}
 use Rattle.std.specs.Prelude.{All, Contains}
 use Rattle.std.specs.List.{filter, list_any}
-use Rattle.std.proofs.lemmas.List.Elements.{All-append, All-filter, All-weaker, All-contains_itself}
+use Rattle.std.proofs.lemmas.List.Elements.{All-append, All-head, All-tail, All-contains_itself, filter_passes}
 use Rattle.std.proofs.lemmas.List.Folds.{list_any_at}
+use Rattle.std.proofs.lemmas.Bool.{eqb-true}
 use Rattle.std.proofs.Math.Bool.{or-true}
 use Rattle.spec_ephemeris.specs.declared.limits.TheConstants.{BODY_COLUMNS}
 use Rattle.spec_ephemeris.specs.Header.{has_column}
 use Rattle.spec_ephemeris.specs.Ephemeris.{Ephemeris}
 use Rattle.spec_bodies.specs.declared.source.Source.{Source}
 use Rattle.spec_bodies.specs.declared.source.Source.TheVariants.{OwnColumn, EarthOfPair, MoonOfPair, Origin}
-use Rattle.spec_bodies.specs.Sources.{moon_column, needed, used, body_columns, is_among, is_in_use}
+use Rattle.spec_ephemeris.specs.declared.body.Body.{Body}
+use Rattle.spec_ephemeris.specs.declared.body.Body.TheVariants.{Mercury, Venus, Emb, Mars, Jupiter, Saturn, Uranus, Neptune, Pluto, Moon, Sun, Earth, Ssb}
+use Rattle.spec_bodies.specs.Sources.{emb_column, moon_column, source_of, needed, used, body_columns, is_among, is_in_use}
 use Rattle.spec_bodies.specs.Reading.{IsUsable}
-use Rattle.spec_bodies.specs.Views.{View, IsView, IsThere, target_of, columns_of}
+use Rattle.spec_bodies.specs.Views.{View, HasColumns, IsView, IsThere, target_of, columns_of}
 
 -- what is true of the columns that both need is true of those in use
 pub used_all : (P : ℕ → Type 0) (target observer : Source) → All P (needed target) → All P (needed observer) → All P (used target observer)
@@ -87,3 +90,49 @@ used_usable v is target = λ k d within.
       of_body = of_body;
       in_use = used_in_use v target _ (All-contains_itself (used (target_of v target) v.observer) k d within) (counted v.ephemeris _ present) of_body;
     }
+
+-- every body comes from columns of bodies
+one_column : (n : ℕ) → n ≤ BODY_COLUMNS → All (λ number. number ≤ BODY_COLUMNS) (n ∷ [])
+one_column n few zero d within = few
+one_column n few (suc k) d within = absurd (omega (arith, within))
+
+pair_columns : All (λ number. number ≤ BODY_COLUMNS) (emb_column ∷ moon_column ∷ [])
+pair_columns zero d within = omega arith
+pair_columns (suc zero) d within = omega arith
+pair_columns (suc (suc k)) d within = absurd (omega (arith, within))
+
+pub columns_of_bodies : (body : Body) → All (λ number. number ≤ BODY_COLUMNS) (needed (source_of body))
+columns_of_bodies Mercury = one_column 1 (omega arith)
+columns_of_bodies Venus = one_column 2 (omega arith)
+columns_of_bodies Emb = one_column 3 (omega arith)
+columns_of_bodies Mars = one_column 4 (omega arith)
+columns_of_bodies Jupiter = one_column 5 (omega arith)
+columns_of_bodies Saturn = one_column 6 (omega arith)
+columns_of_bodies Uranus = one_column 7 (omega arith)
+columns_of_bodies Neptune = one_column 8 (omega arith)
+columns_of_bodies Pluto = one_column 9 (omega arith)
+columns_of_bodies Moon = pair_columns
+columns_of_bodies Sun = one_column 11 (omega arith)
+columns_of_bodies Earth = pair_columns
+columns_of_bodies Ssb = λ k d within. absurd (omega (arith, within))
+
+-- and where these are there, so is the body
+pub body_there : (e : Ephemeris) (body : Body) → HasColumns e (needed (source_of body)) → IsThere e (source_of body)
+body_there e body present = record { present = present; of_bodies = columns_of_bodies body }
+
+-- what is true of each of some columns is true of one that is among them
+pub among_all : (P : ℕ → Type 0) (ns : List ℕ) (number : ℕ) → All P ns → is_among ns number ≡ true → P number
+among_all P [] number all found = absurd (cc)
+among_all P (n ∷ ns) number all found = by (n == number) refl (λ other. among_all P ns number (All-tail P n ns all) (rw other at found))
+  where
+    by : (b : Bool) → (n == number) ≡ b → ((n == number) ≡ false → P number) → P number
+    by true same later = subst P (eqb-true n number same) (All-head P n ns all)
+    by false other later = later other
+
+-- the columns in use are there
+pub present_in_use : (v : View) → IsView v → HasColumns v.ephemeris (columns_of v)
+present_in_use v is = λ k d within. by (slice_index_or (columns_of v) k d) (is_among (used v.first v.observer) (slice_index_or (columns_of v) k d)) refl (filter_passes (is_in_use v.first v.second v.observer) body_columns k d within)
+  where
+    by : (number : ℕ) (b : Bool) → is_among (used v.first v.observer) number ≡ b → is_in_use v.first v.second v.observer number ≡ true → IsTrue (has_column v.ephemeris.header number)
+    by number true among in_use = among_all (λ n. IsTrue (has_column v.ephemeris.header n)) (used v.first v.observer) number (used_all (λ n. IsTrue (has_column v.ephemeris.header n)) v.first v.observer is.first.present is.observer.present) among
+    by number false other in_use = among_all (λ n. IsTrue (has_column v.ephemeris.header n)) (used v.second v.observer) number (used_all (λ n. IsTrue (has_column v.ephemeris.header n)) v.second v.observer is.second.present is.observer.present) (rw other at in_use)

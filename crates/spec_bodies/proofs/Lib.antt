@@ -1,10 +1,10 @@
-mod GranuleAt
-mod Formulas
-mod InUse
-mod Columns
+pub mod GranuleAt
+pub mod Formulas
+pub mod InUse
+pub mod Columns
 pub mod Held
 pub mod Exponents
 pub mod Factors
 pub mod Sizes
 pub mod Bounds
-mod Apart
+pub mod Apart

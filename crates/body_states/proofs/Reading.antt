@@ -1,0 +1,77 @@
+-- The granule that a column is read from has the series of the column, and the span lies within it.
+use Rattle.std.proofs.Common.{◌≡◌, ◌⊎◌, ℕ, ◌<◌, ◌≤◌, IsTrue, Bool, true, false, nat_eq, ap, sym, subst, arith, inl, inr, refl, Option, None, Some, ℤ, pos, neg_ℤ, ◌^◌, ◌*◌, length, ◌+ℤ◌, ◌<ℤ◌, ◌≤ℤ◌, unsigned_abs}
+use Rattle.std.specs.Prelude.{All, IfSome, if◌then◌else◌}
+use Rattle.std.proofs.lemmas.Int.{ints}
+use Rattle.std.proofs.lemmas.Bool.{eqb-true}
+use Rattle.spec_ephemeris.specs.declared.header.Column.{Column}
+use Rattle.spec_ephemeris.specs.declared.limits.TheConstants.{BODY_COLUMNS}
+use Rattle.spec_ephemeris.specs.Header.{column_at, components, is_present_at}
+use Rattle.spec_ephemeris.specs.Ephemeris.{Granule, IsBodyNumber, IsGranuleAt, IsBorder, axis_series}
+use Rattle.spec_ephemeris.proofs.Granules.{one_granule}
+use Rattle.eph_model.specs.declared.granules.Granule.{Granule as Read}
+use Rattle.spec_enclosures.specs.Enclosures.{IsSpan}
+use Rattle.spec_bodies.specs.Granules.{column_or_none, column_of, granule_at, series_at}
+use Rattle.spec_bodies.specs.Reading.{IsUsable, IsReadable}
+use Rattle.spec_bodies.specs.Views.{View, Fits}
+use Rattle.spec_bodies.proofs.GranuleAt.{granule_of_time}
+use Rattle.spec_bodies.proofs.Columns.{span_of}
+use Rattle.cheby_enclose.specs.Granules.{IsEvaluable, series_of}
+use Rattle.cheby_enclose.proofs.GranuleSeries.{own_length}
+
+abbrev IsThree : ℕ → Type 0
+IsThree n = n ≡ 3
+
+three_components : (number : ℕ) → number ≤ BODY_COLUMNS → components number ≡ 3
+three_components number body = by (nat_eq number 12) refl
+  where
+    by : (b : Bool) → nat_eq number 12 ≡ b → IsThree (if b then 2 else 3)
+    by true is = absurd (omega (arith, body, eqb-true number 12 is))
+    by false is = refl
+
+pub axis_within : (number axis comps : ℕ) → number ≤ BODY_COLUMNS → axis < 3 → comps ≡ components number → axis < comps
+axis_within number axis comps body three is = let n = three_components number body in omega (arith, n, three, is)
+
+count_is : (n : ℕ) (o : Option Column) → IsTrue (is_present_at o) → IfSome o (λ c. n ≡ c.coefs) → n ≡ (column_or_none o).coefs
+count_is n None there is = absurd (cc)
+count_is n (Some c) there is = is
+
+abbrev granule_of : Read → Granule
+granule_of g = record { start = g.start; duration = unsigned_abs g.seconds; coefs = g.coefs.now }
+
+module _ (v : View) (a b : ℤ) (fits : Fits v a b) (number axis : ℕ) (readable : IsReadable v number axis) (g : Read)
+    (is : IsGranuleAt v.ephemeris number a (granule_of g)) (count : IfSome (column_at v.ephemeris.header.columns number) (λ c. g.n ≡ c.coefs)) (long : pos 1 ≤ℤ g.seconds) where
+  same_granule : granule_of g ≡ granule_at v.ephemeris number a
+  same_granule =
+      let ab = fits.ordered in
+      let last = fits.upto in
+      one_granule v.ephemeris number a (granule_of g) (granule_at v.ephemeris number a) fits.view.checked is (granule_of_time v.ephemeris number a fits.view.checked readable.usable.there fits.view.block fits.from (omega (arith, ints, ab, last)))
+
+  pub series_is : series_of g axis ≡ series_at v.ephemeris number axis a
+  series_is = λ i. axis_series (same_granule i) (count_is g.n (column_at v.ephemeris.header.columns number) readable.usable.there count i) axis
+
+  none_of : (t : ℤ) → IsBorder v.ephemeris number t → a <ℤ t → t ≤ℤ b → ⊥
+  none_of t border after upto = fits.no_border t (record { number = number; listed = readable.usable.in_use; border = border; after = after; upto = upto })
+
+  own_span : IsSpan (series_of g axis) a b
+  own_span = subst (λ s. IsSpan s a b) (sym series_is) (span_of v.ephemeris number fits.view.checked readable.usable.there fits.view.block a b fits.from fits.ordered fits.upto none_of axis)
+
+  pub from_start : g.start ≤ℤ a
+  from_start = own_span.from
+
+  pub upto_end : b ≤ℤ (g.start +ℤ g.seconds)
+  upto_end = let same : pos (unsigned_abs g.seconds) ≡ g.seconds = own_length g.seconds long in rw same at own_span.to
+
+pub evaluable : (g : Read) (number : ℕ) → number ≤ BODY_COLUMNS → (1 ≤ g.n) × (g.n ≤ 32) → length g.coefs.now ≡ g.comps * g.n → (number ≤ BODY_COLUMNS → All IsBodyNumber g.coefs.now)
+    → (pos 1 ≤ℤ g.seconds) × (g.seconds ≤ℤ pos (2 ^ 40)) → (neg_ℤ (pos (2 ^ 50)) ≤ℤ g.start) × (g.start ≤ℤ pos (2 ^ 50)) → IsEvaluable g
+evaluable g number body few count bodies duration start = record {
+  some = few.0;
+  few = few.1;
+  count = count;
+  bodies = bodies body;
+  long = duration.0;
+  short = duration.1;
+  start = near g.start start.0 start.1;
+}
+  where
+    near : (z : ℤ) → neg_ℤ (pos (2 ^ 50)) ≤ℤ z → z ≤ℤ pos (2 ^ 50) → unsigned_abs z ≤ 2 ^ 50
+    near z low high = omega (arith, ints, low, high)

@@ -1,0 +1,9 @@
+use Rattle.std.proofs.Common.{refl, arith}
+use Rattle.spec_intervals.specs.Fraction.{fraction}
+use Rattle.std.proofs.Common.{pos}
+use Rattle.spec_expressions.proofs.Compare.{Holds-zero}
+use Rattle.body_states.proofs.states.BodyStates.nothing.Goals as goal
+
+pub constant-requires-clause-number : goal.constant-requires-clause-number
+constant-requires-clause-number c =
+    rw c.zero.ensures (record { common = fraction (pos 0) 1; is_fraction = omega arith; in_first = Holds-zero (fraction (pos 0) 1) refl; in_second = Holds-zero (fraction (pos 0) 1) refl })

@@ -1,0 +1,49 @@
+// What is answered for a coordinate of a target.
+ghost use Rattle.std.specs.Prelude.{◌≡◌, ◌<◌};
+ghost use Rattle.spec_bodies.specs.Views.{Fits, target_of, exact_state, state_enclosure};
+ghost use Rattle.spec_bodies.proofs.Held.{times_span, fractions_of_states, states_held, states_within};
+
+use crate::asked::{Asked, Quantity};
+use crate::states::BodyStates;
+use event_expr::States;
+use ival_core::Enclosure;
+use spec_bodies::Source;
+
+impl<'e> States for BodyStates<'e> {
+    ghost exact = { λ v leaf. exact_state v leaf };
+
+    ghost answer = { λ v leaf a b. state_enclosure v leaf a b };
+
+    ghost fits = { λ v a b. Fits v a b };
+
+    fn pos(&self, target: u8, axis: u8, a: i64, b: i64) -> Enclosure {
+        let asked = Asked::new(Quantity::Position, a, b);
+        self.coordinate(self.target(target), usize::from(axis), &asked)
+    }
+
+    fn vel(&self, target: u8, axis: u8, a: i64, b: i64) -> Enclosure {
+        let asked = Asked::new(Quantity::Velocity, a, b);
+        self.coordinate(self.target(target), usize::from(axis), &asked)
+    }
+
+    ghost spans = { λ v a b fits. times_span v a b fits };
+
+    ghost numbers = { λ v leaf a b is fits. fractions_of_states v a b fits leaf is };
+
+    ghost holds = { λ v leaf a b is fits. states_held v a b fits leaf is };
+
+    ghost within = { λ v leaf a b is fits. states_within v a b fits leaf is };
+}
+
+impl<'e> BodyStates<'e> {
+    // A target by its number.
+    fn target(&self, target: u8) -> Source
+        requires { target < 2 }
+        ensures { result ≡ target_of self.now target }
+    {
+        match target {
+            0 => self.first,
+            _ => self.second,
+        }
+    }
+}

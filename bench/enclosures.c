@@ -119,13 +119,13 @@ static void seen(const struct file *f, long t, double *a, double *b) {
 
 static double dot(const double *a, const double *b) { return a[0] * b[0] + a[1] * b[1] + a[2] * b[2]; }
 
-static double conj(const struct file *f, long t) {
+static double conjunction(const struct file *f, long t) {
     double a[AXES], b[AXES];
     seen(f, t, a, b);
     return a[0] * b[1] - a[1] * b[0];
 }
 
-static double sep(const struct file *f, long t) {
+static double separation(const struct file *f, long t) {
     double a[AXES], b[AXES];
     seen(f, t, a, b);
     double d = dot(a, b);
@@ -145,11 +145,11 @@ int main(int argc, char **argv) {
     static struct file f;
     static long hours[MOST_HOURS];
     if (argc != 4) fail("FUNCTION ROUNDS FILE");
-    double (*function)(const struct file *, long) = strcmp(argv[1], "sep") ? conj : sep;
+    double (*function)(const struct file *, long) = strcmp(argv[1], "sep") ? conjunction : separation;
     unsigned rounds = strtoul(argv[2], 0, 10);
     read_file(&f, argv[3]);
     int count = 0;
-    for (long t = f.start; t + HOUR <= f.start + f.seconds && count < MOST_HOURS; t += HOUR)
+    for (long t = f.start; t + HOUR < f.start + f.seconds && count < MOST_HOURS; t += HOUR)
         if (!crosses(&f, t)) hours[count++] = t;
     for (int i = 0; i < count; i++) printf("%ld %.17g\n", hours[i], function(&f, hours[i] + HOUR / 2));
     uint64_t sum = 0;

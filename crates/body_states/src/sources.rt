@@ -48,7 +48,8 @@ fn uses(target: Source, observer: Source, number: usize) -> bool
     ensures { result ≡ is_among (used target observer) number }
 {
     match (target, observer) {
-        (Source::MoonOfPair, Source::EarthOfPair) | (Source::EarthOfPair, Source::MoonOfPair) => MOON_COLUMN == number,
+        (Source::MoonOfPair, Source::EarthOfPair) | (Source::EarthOfPair, Source::MoonOfPair) =>
+            MOON_COLUMN == number,
         _ => needs(target, number) || needs(observer, number),
     }
 }

@@ -176,7 +176,7 @@ module _ (v : View) (a b : ℤ) (fits : Fits v a b) where
       within_of (coordinate_of v target axis) _ (low_of target axis)
       (between_of a b times_span (λ number axis. series_velocities a b (series_at v.ephemeris number axis a)) (factor v.ephemeris.header.emrat) factors_are (coordinate_of v target axis) (coordinate_columns v a b fits _ velocities_between target axis is.1))
 
--- ---- any short formula over columns that can be read, in one quantity
+  -- ---- any short formula over columns that can be read, in one quantity
   module _ (c : Coordinate) (readable : AllColumns (IsReadable v) c) where
     pub positions_enclosed : Encloses a b (enclosure_of (λ number axis. series_positions a b (series_at v.ephemeris number axis a)) (factor v.ephemeris.header.emrat) a b c)
     positions_enclosed =

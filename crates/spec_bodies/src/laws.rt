@@ -10,7 +10,7 @@ ghost use Rattle.spec_intervals.specs.Fraction.{Fraction};
 ghost use Rattle.spec_bodies.specs.declared.source.Source.TheVariants.{EarthOfPair, MoonOfPair};
 ghost use Rattle.spec_bodies.specs.Coordinates.{Factor, less, earth, moon, seen};
 ghost use Rattle.spec_bodies.specs.Meanings.{AreEqual, exact_of};
-ghost use Rattle.spec_bodies.specs.Views.{View, Fits, exact_state, state_enclosure};
+ghost use Rattle.spec_bodies.specs.Views.{View, IsView, HasColumns, Fits, columns_of, exact_state, state_enclosure};
 
 /// The granule that the time is divided into is the granule of the time, and no other is.
 pub fn granule_of_a_time()
@@ -40,4 +40,9 @@ pub fn exact_values_are_numbers()
 pub fn the_moon_is_as_far_from_the_earth_as_they_are_apart()
     ensures moon { (column : ℕ → ℕ → ℤ → Fraction) (factors : Factor → Fraction) (axis : ℕ) (t : ℤ) → AreEqual (exact_of column factors (seen MoonOfPair EarthOfPair axis) t) (exact_of column factors (less (moon axis) (earth axis)) t) }
     ensures earth { (column : ℕ → ℕ → ℤ → Fraction) (factors : Factor → Fraction) (axis : ℕ) (t : ℤ) → AreEqual (exact_of column factors (seen EarthOfPair MoonOfPair axis) t) (exact_of column factors (less (earth axis) (moon axis)) t) }
+{}
+
+/// The columns in use are there.
+pub fn columns_in_use_are_present()
+    ensures { (v : View) → IsView v → HasColumns v.ephemeris (columns_of v) }
 {}

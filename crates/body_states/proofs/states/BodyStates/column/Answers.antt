@@ -51,4 +51,3 @@ returns-in-Velocity c =
     let count = rw e at c.granule-granule.ensures.coefficients in
     let same = series_is c.args.self.now c.args.asked.now.first c.args.asked.now.last c.requires.fits c.args.number c.args.axis c.requires.readable c.granule-granule.result is count c.granule-granule.ensures.duration.0 in
     rw (sym c.quantity.ensures ∙ c.in-Velocity.is) (c.velocities.ensures ∙ ap (series_velocities c.args.asked.now.first c.args.asked.now.last) same)
-

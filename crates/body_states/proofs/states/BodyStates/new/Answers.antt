@@ -6,11 +6,17 @@ use Rattle.body_states.proofs.states.BodyStates.new.Goals as goal
 
 pub invariant_of-result : goal.invariant_of-result
 invariant_of-result c =
-    let two : length c.args.targets ≡ 2 = search rules in
-    (record {
-      checked = c.header.ensures.checked;
-      block = c.requires.block;
-      first = subst (IsThere c.args.eph.now) (sym c.source_of-first.ensures) (body_there c.args.eph.now _ (c.requires.present 1 _ (omega (arith, two))));
-      second = subst (IsThere c.args.eph.now) (sym c.source_of-second.ensures) (body_there c.args.eph.now _ (c.requires.present 2 _ (omega (arith, two))));
-      observer = subst (IsThere c.args.eph.now) (sym c.source_of-observer.ensures) (body_there c.args.eph.now _ (c.requires.present 0 Ssb (omega (arith, two))));
-    }, c.of-2.ensures.numbers, c.of-2.ensures.few, rw c.header.ensures.same at c.of.ensures.moon_share, c.of.ensures.cosine, c.of.ensures.sine)
+    let two : length c.args.targets ≡ 2 = search rules in (
+      record {
+        checked = c.header.ensures.checked;
+        block = c.requires.block;
+        first = subst (IsThere c.args.eph.now) (sym c.source_of-first.ensures) (body_there c.args.eph.now _ (c.requires.present 1 _ (omega (arith, two))));
+        second = subst (IsThere c.args.eph.now) (sym c.source_of-second.ensures) (body_there c.args.eph.now _ (c.requires.present 2 _ (omega (arith, two))));
+        observer = subst (IsThere c.args.eph.now) (sym c.source_of-observer.ensures) (body_there c.args.eph.now _ (c.requires.present 0 Ssb (omega (arith, two))));
+      },
+      c.of-2.ensures.numbers,
+      c.of-2.ensures.few,
+      rw c.header.ensures.same at c.of.ensures.moon_share,
+      c.of.ensures.cosine,
+      c.of.ensures.sine,
+    )

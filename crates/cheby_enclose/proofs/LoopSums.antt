@@ -1,5 +1,5 @@
 -- The sums of the code's loops, and that they stay within 128 bits.
-use Rattle.std.proofs.Common.{◌≡◌, ℕ, zero, suc, ◌+◌, ◌-◌, ◌*◌, ◌^◌, ◌<◌, ◌≤◌, max, arith, refl, sym, ap, ◌∙◌, List, [], ◌∷◌, length, drop, get_or, All, ℤ, pos, ◌+ℤ◌, ◌*ℤ◌, ◌≤ℤ◌, unsigned_abs, drop-cons}
+use Rattle.std.proofs.Common.{◌≡◌, ℕ, zero, suc, ◌+◌, ◌-◌, ◌*◌, ◌^◌, ◌<◌, ◌≤◌, max, arith, refl, sym, ap, ◌∙◌, List, [], ◌∷◌, length, drop, get_or, ℤ, pos, ◌+ℤ◌, ◌*ℤ◌, ◌≤ℤ◌, unsigned_abs, drop-cons}
 use Rattle.std.proofs.lemmas.Int.{ints, unsigned_abs-mul, by_lt_z}
 use Rattle.std.proofs.lemmas.Nat.{mul-le}
 use Rattle.std.specs.Int.{int_min, int_max}
@@ -9,7 +9,7 @@ use Rattle.spec_intervals.proofs.Whole.{mul_comm}
 use Rattle.std.proofs.lemmas.Bool.{cases_lt}
 use Rattle.std.proofs.Common.{◌⊎◌, inl, inr}
 use Rattle.spec_chebyshev.specs.Differences.{Within}
-use Rattle.cheby_enclose.specs.Rows.{slope_sizes, slope_size, entry_size}
+use Rattle.cheby_enclose.specs.Rows.{slope_sizes, entry_size}
 use Rattle.spec_intervals.proofs.Order.{lin, le-mul}
 use Rattle.spec_intervals.proofs.Products.{corners_ordered}
 use Rattle.spec_chebyshev.specs.declared.ends.Ival62.{Ival62}

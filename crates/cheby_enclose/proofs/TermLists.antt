@@ -1,12 +1,12 @@
 -- The intervals of coefficients, one after the other.
-use Rattle.std.proofs.Common.{◌≡◌, ℕ, zero, suc, ◌+◌, ◌-◌, ◌*◌, ◌^◌, ◌<◌, ◌≤◌, arith, refl, sym, ap, ◌∙◌, List, [], ◌∷◌, ◌++◌, length, map, take, drop, get_or, set, All, ℤ, pos, negsuc, ◌*ℤ◌, neg_ℤ, unsigned_abs}
+use Rattle.std.proofs.Common.{◌≡◌, ℕ, zero, suc, ◌+◌, ◌*◌, ◌^◌, ◌<◌, ◌≤◌, arith, refl, sym, ap, ◌∙◌, List, [], ◌∷◌, ◌++◌, length, map, take, get_or, set, All, ℤ, pos, negsuc, unsigned_abs}
 use Rattle.std.proofs.lemmas.Int.{ints, unsigned_abs-mul}
 use Rattle.std.proofs.lemmas.List.{take_more_set}
 use Rattle.spec_text.specs.declared.decimals.Decimal.{Decimal}
 use Rattle.spec_chebyshev.specs.declared.ends.Ival62.{Ival62}
 use Rattle.spec_chebyshev.specs.Differences.{Within}
 use Rattle.spec_chebyshev.specs.Rows.{EndsWithin}
-use Rattle.spec_intervals.specs.Interval.{IsDistance, floor_div, ceil_div, decimal_top, decimal_bottom, from_decimal}
+use Rattle.spec_intervals.specs.Interval.{IsDistance, decimal_top, decimal_bottom, from_decimal}
 use Rattle.spec_intervals.proofs.Floor.{floor_div-small, ceil_div-small}
 use Rattle.spec_intervals.proofs.Decimals.{bottom_pos}
 use Rattle.ival_core.proofs.DecimalEnds.{distance-size}
@@ -17,7 +17,6 @@ use Rattle.std.proofs.lemmas.List.{length-map}
 use Rattle.std.proofs.lemmas.List.Elements.{All-nil, All-cons, All-head, All-tail}
 use borrow.Author.Differences.{up, down}
 use mir.Syntax.{w128}
-use mir.Val.{SFits}
 use Rattle.std.proofs.Common.{w64, to_z, of_z, FitsSigned}
 use Rattle.std.proofs.lemmas.Int.{to_z-of_z}
 

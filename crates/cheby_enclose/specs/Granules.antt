@@ -1,5 +1,5 @@
 -- The granules that can be evaluated, and the series of one axis of a granule.
-use Rattle.std.specs.Prelude.{◌≡◌, ℕ, ◌*◌, ◌^◌, ◌≤◌, length, All, ℤ, pos, unsigned_abs, ◌≤ℤ◌}
+use Rattle.std.specs.Prelude.{◌≡◌, ℕ, ◌*◌, ◌^◌, ◌≤◌, length, All, pos, unsigned_abs, ◌≤ℤ◌}
 use Rattle.eph_model.specs.declared.granules.Granule.{Granule}
 use Rattle.spec_ephemeris.specs.Series.{Series}
 use Rattle.spec_ephemeris.specs.Ephemeris.{IsBodyNumber, axis_series}

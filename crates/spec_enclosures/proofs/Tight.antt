@@ -1,5 +1,5 @@
 -- A position at one time is tight: its coefficients, the row of T and narrowing add little to its width.
-use Rattle.std.proofs.Common.{◌≡◌, ℕ, zero, suc, ◌+◌, ◌-◌, ◌*◌, ◌^◌, ◌<◌, ◌≤◌, max, arith, refl, sym, ap, ◌∙◌, subst, Bool, true, false, ◌⊎◌, inl, inr, List, [], ◌∷◌, length, map, All, ℤ, pos, negsuc, ◌+ℤ◌, ◌-ℤ◌, ◌*ℤ◌, neg_ℤ, ◌≤ℤ◌, ◌<ℤ◌, unsigned_abs}
+use Rattle.std.proofs.Common.{◌≡◌, ℕ, zero, suc, ◌+◌, ◌*◌, ◌^◌, ◌<◌, ◌≤◌, max, arith, refl, sym, ap, ◌∙◌, subst, false, ◌⊎◌, inl, inr, List, [], ◌∷◌, length, map, All, ℤ, pos, negsuc, ◌+ℤ◌, ◌-ℤ◌, ◌*ℤ◌, ◌≤ℤ◌, ◌<ℤ◌, unsigned_abs}
 use Rattle.std.proofs.lemmas.Int.{ints, unsigned_abs-mul}
 use Rattle.std.specs.Int.{int_min, int_max}
 use Rattle.spec_intervals.proofs.Floor.{ordered_quotients}
@@ -9,15 +9,14 @@ use Rattle.std.proofs.lemmas.List.Elements.{All-head, All-tail}
 use Rattle.std.proofs.Math.Nat.{pow-suc}
 use borrow.Author.Differences.{up, down}
 use Rattle.spec_text.specs.declared.decimals.Decimal.{Decimal}
-use Rattle.spec_intervals.specs.Interval.{Interval, interval, end_limit, floor_div, ceil_div, fits_after, narrow_shift, narrow, narrow_by, settled, least4, greatest4, from_decimal, decimal_top, decimal_bottom}
-use Rattle.spec_intervals.proofs.Ring.{v, k as lit, ◌⊕◌, ◌⊖◌, ◌⊗◌, ring}
+use Rattle.spec_intervals.specs.Interval.{interval, end_limit, floor_div, ceil_div, fits_after, narrow_shift, narrow, narrow_by, settled, least4, greatest4, from_decimal, decimal_top, decimal_bottom}
+use Rattle.spec_intervals.proofs.Ring.{v, k as lit, ◌⊕◌, ◌⊗◌, ring}
 use Rattle.spec_intervals.proofs.Order.{lin, le-mul, le-mul_cancel}
 use Rattle.spec_intervals.proofs.Narrow.{sizes-fit, narrow_shift-least, rescale_low}
-use Rattle.spec_intervals.proofs.Products.{corners_ordered}
 use Rattle.spec_intervals.proofs.Decimals.{bottom_pos}
 use Rattle.spec_chebyshev.specs.declared.ends.Ival62.{Ival62}
 use Rattle.spec_chebyshev.specs.Differences.{Within}
-use Rattle.spec_chebyshev.specs.Rows.{ends, t_row, argument_of, EndsWithin, IsArguments}
+use Rattle.spec_chebyshev.specs.Rows.{t_row, argument_of, EndsWithin, IsArguments}
 use Rattle.spec_chebyshev.proofs.RowEnds.{EndsWithin-t}
 use Rattle.spec_chebyshev.proofs.Arguments.{IsArguments-argument}
 use Rattle.spec_ephemeris.specs.Series.{Series, argument_at, scaled}

@@ -1,10 +1,10 @@
-use Rattle.std.proofs.Common.{rules, ◌≡◌, ◌≤ℤ◌, ◌∙◌, ◌^◌, pos, neg_ℤ, to_z, of_z, ℕ, ◌<◌, ◌+◌, arith, length, drop, unsigned_abs}
+use Rattle.std.proofs.Common.{rules, ◌≡◌, ◌∙◌, pos, neg_ℤ, to_z, of_z, length, drop, unsigned_abs}
 use Rattle.std.proofs.lemmas.Int.{to_z-of_z}
 use mir.Syntax.{w128}
 use mir.Val.{SFits}
 use Rattle.spec_intervals.specs.Interval.{scale}
 use Rattle.spec_chebyshev.specs.Rows.{entry, u_row}
-use Rattle.spec_enclosures.specs.Sums.{multiples, slope_row, sum_low, sum_high}
+use Rattle.spec_enclosures.specs.Sums.{slope_row, sum_low, sum_high}
 use Rattle.spec_enclosures.specs.Enclosures.{velocity_over}
 use Rattle.cheby_enclose.proofs.LoopSums.{sums_ordered, low_slopes_same, high_slopes_same}
 use Rattle.cheby_difference.proofs.SlopeRows.{IsSlopeRow-u}

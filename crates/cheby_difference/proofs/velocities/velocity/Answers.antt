@@ -1,7 +1,6 @@
-use Rattle.std.proofs.Common.{rules, ◌≡◌, ◌∙◌, ◌<ℤ◌, true, sym, arith, ap, ℕ, ℤ, pos, w64, unsigned_abs}
+use Rattle.std.proofs.Common.{rules, ◌≡◌, ◌∙◌, w64, unsigned_abs}
 use Rattle.std.proofs.lemmas.Int.{to_z-of_z}
 use mir.Val.{SFits}
-use lib.Signed.{lt_z}
 use Rattle.spec_enclosures.specs.Enclosures.{velocity_over, velocity_interval, arguments}
 use Rattle.spec_enclosures.proofs.HeldChanges.{Holds-velocity}
 use Rattle.cheby_enclose.specs.Granules.{series_of}

@@ -1,9 +1,7 @@
-use Rattle.std.proofs.Common.{rules, ◌≡◌, ℕ, ◌∙◌, sym, arith, pos, negsuc, w64, ap, ℤ, ◌≤ℤ◌, ◌-ℤ◌, ◌*ℤ◌, unsigned_abs, refl}
+use Rattle.std.proofs.Common.{rules, ◌≡◌, ◌∙◌, sym, arith, pos, negsuc, w64, ap, ℤ, ◌≤ℤ◌, ◌-ℤ◌, ◌*ℤ◌, unsigned_abs, refl}
 use Rattle.std.proofs.lemmas.Int.{ints, to_z-of_z}
 use mir.Val.{SFits}
 use Rattle.spec_chebyshev.specs.Rows.{argument_of}
-use Rattle.spec_enclosures.specs.Enclosures.{arguments}
-use Rattle.cheby_enclose.specs.Granules.{series_of}
 use Rattle.cheby_enclose.proofs.granules.arguments.Goals as goal
 use Rattle.cheby_enclose.proofs.granules.arguments.Goals.{After-numerator-2}
 

@@ -1,4 +1,4 @@
-use Rattle.std.proofs.Common.{◌≡◌, ◌≤◌, ◌^◌, arith, pos, w64, FitsSigned, ◌-ℤ◌, ◌*ℤ◌, ℤ, unsigned_abs}
+use Rattle.std.proofs.Common.{◌≤◌, ◌^◌, arith, pos, w64, FitsSigned, ◌-ℤ◌, ◌*ℤ◌, ℤ, unsigned_abs}
 use Rattle.std.proofs.lemmas.Int.{ints, to_z-of_z}
 use mir.Val.{SFits}
 use Rattle.cheby_enclose.proofs.granules.numerator.Goals as goal

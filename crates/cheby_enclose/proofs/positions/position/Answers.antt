@@ -1,7 +1,6 @@
 use Rattle.std.proofs.Common.{◌≡◌, ◌∙◌, ℤ, subst, arith}
 use Rattle.spec_intervals.proofs.Order.{lin}
 use Rattle.std.proofs.lemmas.Int.{to_z-of_z}
-use Rattle.spec_chebyshev.specs.declared.ends.Ival62.{Ival62}
 use Rattle.spec_enclosures.specs.Enclosures.{IsTight, position_over, position_interval, arguments}
 use Rattle.spec_enclosures.proofs.HeldSpans.{Holds-position}
 use Rattle.spec_enclosures.proofs.Tight.{IsTight-position}

@@ -1,4 +1,4 @@
-use Rattle.std.proofs.Common.{◌≡◌, ℕ, ◌≤◌, ◌*◌, ◌^◌, length, drop, max, ◌+ℤ◌, unsigned_abs}
+use Rattle.std.proofs.Common.{◌≡◌, ◌≤◌, length, drop, max, ◌+ℤ◌, unsigned_abs}
 use Rattle.spec_chebyshev.specs.Rows.{entry}
 use Rattle.spec_enclosures.specs.Sums.{multiples, sum_low, sum_high}
 use Rattle.cheby_enclose.specs.Rows.{slope_sizes, entry_size}

@@ -1,5 +1,4 @@
-use Rattle.std.proofs.Common.{◌≡◌, ◌<◌, ◌≤◌, ◌*◌, ◌^◌, ◌+◌, arith, length, get_or, unsigned_abs, ◌+ℤ◌}
-use Rattle.std.proofs.lemmas.Int.{ints}
+use Rattle.std.proofs.Common.{◌≤◌, ◌*◌, ◌^◌, arith, get_or, unsigned_abs}
 use Rattle.spec_intervals.specs.Interval.{least4, greatest4}
 use Rattle.spec_chebyshev.specs.Rows.{entry, nothing, EndsWithin}
 use Rattle.cheby_enclose.proofs.LoopSums.{low_more, high_more, least_size, greatest_size, sum_size}

@@ -1,4 +1,4 @@
-use Rattle.std.proofs.Common.{◌≡◌, ℕ, ◌≤◌, ◌*◌, ◌^◌, length, drop, ◌+ℤ◌, unsigned_abs}
+use Rattle.std.proofs.Common.{◌≡◌, ◌≤◌, ◌*◌, ◌^◌, drop, ◌+ℤ◌, unsigned_abs}
 use Rattle.spec_chebyshev.specs.Rows.{entry}
 use Rattle.spec_enclosures.specs.Sums.{sum_low, sum_high}
 use Rattle.cheby_enclose.proofs.sums.sum_of_products.Given as goal

@@ -1,6 +1,5 @@
-use Rattle.std.proofs.Common.{◌≡◌, ◌<◌, ◌≤◌, arith, length}
+use Rattle.std.proofs.Common.{◌≡◌, arith, length}
 use Rattle.std.proofs.lemmas.List.{take_all}
-use Rattle.cheby_enclose.proofs.TermLists.{terms_more}
 use Rattle.cheby_enclose.proofs.terms.fill.Goals as goal
 
 pub returns : goal.returns

@@ -1,4 +1,4 @@
-use Rattle.std.proofs.Common.{rules, ◌≡◌, ap, ◌∙◌, ℤ, negsuc, w64}
+use Rattle.std.proofs.Common.{rules, ◌≡◌, ap, ◌∙◌, negsuc, w64}
 use Rattle.std.proofs.lemmas.Int.{to_z-of_z}
 use mir.Syntax.{w16, w128}
 use mir.Val.{SFits}

@@ -159,6 +159,10 @@ abbrev pub IsNotWhole : State → Type 0
 IsNotWhole (Whole facts columns) = ⊥
 IsNotWhole state = Unit {0}
 
+abbrev pub IsWhole : State → Type 0
+IsWhole (Whole facts columns) = Unit {0}
+IsWhole state = ⊥
+
 abbrev pub IsBehindValues : State → Type 0
 IsBehindValues (ColumnGroup facts) = Unit {0}
 IsBehindValues (Starts facts) = Unit {0}

@@ -9,7 +9,7 @@ ghost use Rattle.spec_header.specs.Sections.{FileLine};
 ghost use Rattle.de_header.specs.declared.state.State.TheVariants as states;
 ghost use Rattle.de_header.specs.declared.answers.HeaderError.TheVariants as errors;
 ghost use Rattle.de_header.specs.declared.answers.Step.TheVariants as steps;
-ghost use Rattle.de_header.specs.Reader.{Ends, Fits, IsBehindNames, IsBehindValues, IsNotDone, IsNotWhole, IsOpen, IsRefused, Moves, answer, from_names, from_values_behind, header_of, line_of, or_else, says};
+ghost use Rattle.de_header.specs.Reader.{Ends, Fits, IsBehindNames, IsBehindValues, IsNotDone, IsNotWhole, IsOpen, IsRefused, IsWhole, Moves, answer, from_names, from_values_behind, header_of, line_of, or_else, says};
 
 use crate::answers::{HeaderError, Step};
 use crate::columns::{columns_row, row};
@@ -310,6 +310,7 @@ fn told(state: State) -> Result<Step, HeaderError>
     ensures answer { result ≡ answer (says 0 state []) }
     ensures more { result ≡ Ok steps.More → IsOpen state }
     ensures not_done { IsNotDone result → IsNotWhole state }
+    ensures done { result ≡ Ok steps.Done → IsWhole state }
     ensures refused { (fault : Fault) → result ≡ Err (errors.Fault fault) → IsRefused state fault }
     ensures kept { (fault : Fault) → IsRefused state fault → result ≡ Err (errors.Fault fault) }
 {
@@ -387,6 +388,7 @@ impl HeaderReader {
         ensures answer { result ≡ answer (says 0 self.new []) }
         ensures more { result ≡ Ok steps.More → IsOpen self.new }
         ensures not_done { IsNotDone result → IsNotWhole self.new }
+        ensures done { result ≡ Ok steps.Done → IsWhole self.new }
         ensures refused { (fault : Fault) → result ≡ Err (errors.Fault fault) → IsRefused self.new fault }
         ensures kept { (fault : Fault) → IsRefused self.old fault → IsRefused self.new fault × (result ≡ Err (errors.Fault fault)) }
         ensures no_memory_is_wanted { result ≡ Err errors.Memory → ⊥ }

@@ -1,32 +1,79 @@
--- What is true of the windows of a file of the form that is read, and of the words that ask for them.
-use Rattle.std.proofs.Common.{ℕ, List, Option}
-use Rattle.spec_text.specs.Lines.{text_lines}
-use Rattle.spec_text.specs.declared.decimals.Decimal.{Decimal}
-use Rattle.spec_ephemeris.specs.OneBlock.{HasForm, IsCoefficient, block_end, block_start, fixed_rows, header_text, zeros_text}
-use Rattle.spec_ephemeris.specs.Series.{IsInUnits}
-use Rattle.spec_ephemeris.proofs.Coefficients.{both_bounded}
+-- What is true of the windows of the files that words ask for.
+use Rattle.std.proofs.Common.{◌≡◌, ℕ, Bool, true, false, ◌&&◌, ◌==◌, List, Option, None, Some, Result, Ok, Err, eqb-true, refl, sym, ap, ◌∙◌, subst, arith}
+use Rattle.std.proofs.lemmas.Int.{ints}
+use Rattle.std.specs.Prelude.{ℤ, pos, negsuc, ◌≤ℤ◌, ◌+ℤ◌, ◌*ℤ◌, unsigned_abs, if◌then◌else◌}
+use Rattle.spec_text.specs.declared.decimals.Fault.{Fault}
+use Rattle.spec_ephemeris.specs.Ephemeris.{Ephemeris, IsEphemeris, IsLine, MERCURY, end_of, is_line, is_line_column, mercury_x}
+use Rattle.spec_ephemeris.specs.Header.{column_at}
+use Rattle.spec_ephemeris.proofs.Lines.{mercury_x_line}
+use Rattle.spec_header.specs.Sections.{Stop, ended, breaks, ◌>>=◌}
+use Rattle.spec_header.proofs.Holding.{holds_ok}
+use Rattle.spec_blocks.specs.Blocks.{ephemeris}
+use Rattle.spec_blocks.proofs.Accepted.{HasBlocks, ephemeris_holds}
 use Rattle.spec_events.specs.Events.{AreCertain, AreInOrder, AreOpen, AreWindows, HoldEvents}
-use Rattle.spec_events.specs.LineSearch.{IsLeftOpen, IsUp, found_windows}
+use Rattle.spec_events.specs.LineSearch.{IsLeftOpen, IsUp, found_windows, series_end}
 use Rattle.spec_events.proofs.Found.{found_are}
+use Rattle.spec_files.specs.Texts.{at_end, joined}
+use Rattle.spec_files.specs.Outcome.{broken, outcome, outcome_by}
 use Rattle.gf_edges.specs.Edges.{Files}
-use Rattle.spec_output.specs.Answers.{Asks}
+use Rattle.spec_output.specs.Answers.{Asks, if_line, searched}
+use Rattle.spec_output.specs.declared.faults.TheConstants.{NOT_BUILT}
 
-pub bounded : (text : List ℕ) (c0 c1 : Decimal) → HasForm text c0 c1 → (IsInUnits c0 × IsCoefficient c0) × (IsInUnits c1 × IsCoefficient c1)
-bounded text c0 c1 has = both_bounded (fixed_rows header_text) (fixed_rows zeros_text) (text_lines text) c0 c1 has
+line_by : (texts : List (List ℕ)) (x e : Ephemeris) (line : Bool) → is_line x ≡ line → (if line then Ok x else Err (at_end texts NOT_BUILT)) ≡ Ok e → (x ≡ e) × (is_line e ≡ true)
+line_by texts x e true told is = let same : x ≡ e = cc in (same, ap is_line (sym same) ∙ told)
+line_by texts x e false told is = absurd (cc)
 
-windows_are : (words : List (List ℕ)) (files : Option Files) (c0 c1 : Decimal) → Asks words files c0 c1
-    → AreWindows (IsUp c0 c1) (IsLeftOpen c0 c1) block_start block_end (found_windows c0 c1)
-windows_are words files c0 c1 asks = let b = bounded asks.bytes c0 c1 asks.form in found_are c0 c1 b.0.0 b.1.0
+searched_by : (texts : List (List ℕ)) (all : Result Ephemeris (ℕ × Fault)) (e : Ephemeris) → (all >>= if_line texts) ≡ Ok e → (all ≡ Ok e) × (is_line e ≡ true)
+searched_by texts (Ok x) e is = let by = line_by texts x e (is_line x) refl is in (ap (λ (y : Ephemeris). Ok y) by.0, by.1)
+searched_by texts (Err fault) e is = absurd (cc)
 
-pub in_order : (words : List (List ℕ)) (files : Option Files) (c0 c1 : Decimal) → Asks words files c0 c1 → AreInOrder (found_windows c0 c1)
-in_order words files c0 c1 asks = (windows_are words files c0 c1 asks).in_order
+pub searched_is : (texts : List (List ℕ)) (e : Ephemeris) → searched texts ≡ Ok e → (outcome texts ≡ Ok e) × (is_line e ≡ true)
+searched_is texts e is = searched_by texts (outcome texts) e is
 
-pub every_event : (words : List (List ℕ)) (files : Option Files) (c0 c1 : Decimal) → Asks words files c0 c1
-    → HoldEvents (IsUp c0 c1) block_start block_end (found_windows c0 c1)
-every_event words files c0 c1 asks = (windows_are words files c0 c1 asks).every_event
+outcome_ok : (fault : Option (ℕ × Fault)) (texts : List (List ℕ)) (said : Result Ephemeris Stop) (e : Ephemeris) → outcome_by fault texts said ≡ Ok e → said ≡ Ok e
+outcome_ok (Some fault) texts said e is = absurd (cc)
+outcome_ok None texts (Ok x) e is = cc
+outcome_ok None texts (Err (ended number)) e is = absurd (cc)
+outcome_ok None texts (Err (breaks file fault)) e is = absurd (cc)
 
-pub certain : (words : List (List ℕ)) (files : Option Files) (c0 c1 : Decimal) → Asks words files c0 c1 → AreCertain (IsUp c0 c1) (found_windows c0 c1)
-certain words files c0 c1 asks = (windows_are words files c0 c1 asks).certain
+-- accepted lines are an ephemeris
+pub is_checked : (texts : List (List ℕ)) (e : Ephemeris) → outcome texts ≡ Ok e → IsEphemeris e
+unfolding outcome
+is_checked texts e is =
+    (holds_ok HasBlocks (ephemeris (joined texts)) e (outcome_ok (broken texts) texts (ephemeris (joined texts)) e is) (ephemeris_holds (joined texts))).0
 
-pub undecided : (words : List (List ℕ)) (files : Option Files) (c0 c1 : Decimal) → Asks words files c0 c1 → AreOpen (IsLeftOpen c0 c1) (found_windows c0 c1)
-undecided words files c0 c1 asks = (windows_are words files c0 c1 asks).undecided
+and_right : (a b : Bool) → (a && b) ≡ true → b ≡ true
+and_right true b is = is
+and_right false b is = absurd (cc)
+
+whole_seconds : (z : ℤ) → pos 1 ≤ℤ z → pos (unsigned_abs z) ≡ z
+whole_seconds (pos n) some = refl
+whole_seconds (negsuc n) some = absurd (omega (arith, ints, some))
+
+-- the one block is the whole span
+pub ends_with_block : (e : Ephemeris) → IsEphemeris e → is_line e ≡ true → series_end (mercury_x e) ≡ end_of e
+ends_with_block e checked line =
+    let one : e.blocks ≡ 1 = eqb-true _ _ (and_right (is_line_column (column_at e.header.columns MERCURY)) (e.blocks == 1) line) in
+    let seconds : pos (unsigned_abs e.header.block_seconds) ≡ e.header.block_seconds = whole_seconds e.header.block_seconds checked.header.shortest in
+    ap (λ (z : ℤ). e.start +ℤ z) (seconds ∙ omega (arith, ints)) ∙ ap (λ (n : ℕ). e.start +ℤ (pos n *ℤ e.header.block_seconds)) (sym one)
+
+windows_are : (words : List (List ℕ)) (files : Option Files) (e : Ephemeris) → Asks words files e
+    → AreWindows (IsUp (mercury_x e)) (IsLeftOpen (mercury_x e)) e.start (end_of e) (found_windows (mercury_x e))
+windows_are words files e asks =
+    let is = searched_is asks.texts e asks.accepted in
+    let checked = is_checked asks.texts e is.0 in
+    subst (λ (end : ℤ). AreWindows (IsUp (mercury_x e)) (IsLeftOpen (mercury_x e)) e.start end (found_windows (mercury_x e))) (ends_with_block e checked is.1)
+    (found_are (mercury_x e) (mercury_x_line e checked is.1))
+
+pub in_order : (words : List (List ℕ)) (files : Option Files) (e : Ephemeris) → Asks words files e → AreInOrder (found_windows (mercury_x e))
+in_order words files e asks = (windows_are words files e asks).in_order
+
+pub every_event : (words : List (List ℕ)) (files : Option Files) (e : Ephemeris) → Asks words files e
+    → HoldEvents (IsUp (mercury_x e)) e.start (end_of e) (found_windows (mercury_x e))
+every_event words files e asks = (windows_are words files e asks).every_event
+
+pub certain : (words : List (List ℕ)) (files : Option Files) (e : Ephemeris) → Asks words files e → AreCertain (IsUp (mercury_x e)) (found_windows (mercury_x e))
+certain words files e asks = (windows_are words files e asks).certain
+
+pub undecided : (words : List (List ℕ)) (files : Option Files) (e : Ephemeris) → Asks words files e → AreOpen (IsLeftOpen (mercury_x e)) (found_windows (mercury_x e))
+undecided words files e asks = (windows_are words files e asks).undecided

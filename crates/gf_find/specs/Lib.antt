@@ -1,4 +1,5 @@
-pub mod Form
-pub mod Reports
+pub mod Reading
+pub mod Progress
+pub mod Found
 pub mod Entries
 pub mod Lines

@@ -5,12 +5,13 @@
 mod book;
 mod faults;
 mod files;
-mod form;
 mod judge;
 mod line;
 mod mercury;
 mod prepare;
 mod printing;
+mod reader;
+mod reading;
 mod search;
 mod signs;
 mod top;

@@ -1,54 +1,124 @@
-// From a named file to the text of its report.
-ghost use Rattle.std.specs.Prelude.{◌≡◌, ◌⊎◌, ◌≤◌, Err, IfOk, IsErrOf, ℕ, length};
-ghost use Rattle.gf_edges.specs.Edges.{Lacks, Rose};
-ghost use Rattle.spec_text.specs.declared.limits.TheConstants.{MOST_TEXT_BYTES};
-ghost use Rattle.spec_ephemeris.specs.OneBlock.{LeavesFormAt};
-ghost use Rattle.spec_output.specs.Answers.{HasFault};
-ghost use Rattle.spec_output.specs.Files.{NamedFile};
-ghost use Rattle.gf_find.specs.Reports.{IsReport, Reports};
+// From named files to the text of their report.
+ghost use Rattle.std.specs.Prelude.{◌≡◌, ◌<◌, ◌≤◌, ℕ, List, IfOk, IsErrOf, length, map, string_bytes, true};
+ghost use Rattle.spec_text.specs.declared.decimals.Fault.{Fault};
+ghost use Rattle.spec_ephemeris.specs.Ephemeris.{end_of, is_line, mercury_x};
+ghost use Rattle.spec_events.specs.LineSearch.{found_windows};
+ghost use Rattle.spec_output.specs.Report.{report};
+ghost use Rattle.gf_find.specs.Found.{AreAccepted, HasFault, IsNotRead, IsRefused, Reports};
+ghost use Rattle.gf_find.specs.Progress.{FailsIn};
 
-use crate::files::{ReadFault, read_file};
-use crate::form::read_form;
+use crate::reader::{LineStop, end};
+use crate::reading::{Stop, read_all};
 use crate::search::search;
+use eph_model::Ephemeris;
 use gf_edges::Shelf;
-use spec_output::FileFault;
+use spec_files::{MOST_FILES, TOO_MANY_FILES};
+use spec_output::NOT_BUILT;
+use spec_text::Fault;
 use std::alloc::Global;
 
-/// Why a file has no report.
-#[derive(Clone, Copy)]
-pub(crate) enum Stop {
-    File(FileFault),
-    Read,
-    Memory,
+// The ephemeris of the files, and the number of the last one's lines plus 1.
+#[derive(Drop)]
+struct Accepted {
+    ephemeris: Ephemeris,
+    end_line: u32,
 }
 
-// The report of a file's bytes.
-fn answer(alloc: Global, bytes: &[u8]) -> Result<Vec<u8>, Stop>
-    requires { length bytes.now ≤ MOST_TEXT_BYTES }
-    ensures report { IfOk result (λ text. IsReport bytes.now text.items) }
-    ensures file { (fault : FileFault) → IsErrOf result (Stop.File fault) → HasFault bytes.now fault }
-    ensures read { IsErrOf result Stop.Read → ⊥ }
+fn accept<S: Shelf>(alloc: Global, shelf: &mut S, names: &[String]) -> Result<Accepted, Stop>
+    requires { 0 < length names.now }
+    ensures accepted { IfOk result (λ found. (texts : List (List ℕ)) × AreAccepted (S.files shelf.old) (map string_bytes names.now) texts found.ephemeris found.end_line) }
+    ensures fault { (file : ℕ) (fault : Fault) → IsErrOf result (Stop.File file fault) → HasFault (S.files shelf.old) (map string_bytes names.now) file fault }
+    ensures failed { (file : ℕ) → IsErrOf result (Stop.Read file) → FailsIn (S.files shelf.old) (map string_bytes names.now) (S.faults shelf.old) (S.faults shelf.new) file }
 {
-    let coefficients = match read_form(bytes) {
-        Ok(coefficients) => coefficients,
-        Err(line) => return Err(Stop::File(FileFault::NotBuilt { line })),
+    let fed = match read_all(alloc, shelf, names) {
+        Ok(fed) => fed,
+        Err(stop) => return Err(stop),
     };
-    match search(alloc, coefficients.c0, coefficients.c1) {
+    let end_line = fed.end_line;
+    match end(alloc, fed.reader, end_line) {
+        Ok(ephemeris) => Ok(Accepted {
+            ephemeris,
+            end_line,
+        }),
+        Err(LineStop::Fault(fault)) => Err(Stop::File {
+            file: names.len() - 1,
+            fault,
+        }),
+        Err(LineStop::Memory) => Err(Stop::Memory),
+    }
+}
+
+// Whether Mercury's x is a line over the one block of the ephemeris.
+fn is_line(ephemeris: &Ephemeris) -> bool
+    ensures { result ≡ is_line ephemeris.now }
+{
+    match ephemeris.header().columns.as_slice().first() {
+        Some(column) => column.coefs == 2 && column.granules == 1 && ephemeris.blocks() == 1,
+        None => false,
+    }
+}
+
+// The report of an ephemeris in which Mercury's x is a line.
+fn report_line(alloc: Global, ephemeris: &Ephemeris) -> Result<Vec<u8>, Stop>
+    requires { is_line ephemeris.now ≡ true }
+    ensures report { IfOk result (λ text. text.items ≡ report ephemeris.now.start (end_of ephemeris.now) (found_windows (mercury_x ephemeris.now))) }
+    ensures file { (file : ℕ) (fault : Fault) → IsErrOf result (Stop.File file fault) → ⊥ }
+    ensures read { (file : ℕ) → IsErrOf result (Stop.Read file) → ⊥ }
+{
+    let _header = ephemeris.header();
+    match search(alloc, ephemeris) {
         Ok(text) => Ok(text),
         Err(_) => Err(Stop::Memory),
     }
 }
 
-/// The report of the file with this name.
-pub(crate) fn prepare<S: Shelf>(alloc: Global, shelf: &mut S, name: &str) -> Result<Vec<u8>, Stop>
-    ensures report { IfOk result (λ text. Reports (S.files shelf.old) name.now text.items) }
-    ensures file { (fault : FileFault) → IsErrOf result (Stop.File fault) → NamedFile (S.files shelf.old) name.now (λ bytes. HasFault bytes fault) }
-    ensures read { IsErrOf result Stop.Read → Rose (S.faults shelf.old) (S.faults shelf.new) ⊎ Lacks (S.files shelf.old) name.now }
+// The report of so many files.
+fn report_files<S: Shelf>(alloc: Global, shelf: &mut S, names: &[String]) -> Result<Vec<u8>, Stop>
+    requires some { 0 < length names.now }
+    requires few { length names.now ≤ 64 }
+    ensures report { IfOk result (λ text. Reports (S.files shelf.old) (map string_bytes names.now) text.items) }
+    ensures fault { (file : ℕ) (fault : Fault) → IsErrOf result (Stop.File file fault) → HasFault (S.files shelf.old) (map string_bytes names.now) file fault }
+    ensures failed { (file : ℕ) → IsErrOf result (Stop.Read file) → FailsIn (S.files shelf.old) (map string_bytes names.now) (S.faults shelf.old) (S.faults shelf.new) file }
 {
-    match read_file(alloc, shelf, name) {
-        Ok(bytes) => answer(alloc, &bytes),
-        Err(ReadFault::Memory) => Err(Stop::Memory),
-        Err(ReadFault::Failed) => Err(Stop::Read),
-        Err(ReadFault::TooLarge) => Err(Stop::File(FileFault::TooLarge)),
+    match accept(alloc, shelf, names) {
+        Err(stop) => Err(stop),
+        Ok(found) => {
+            if is_line(&found.ephemeris) {
+                report_line(alloc, &found.ephemeris)
+            } else {
+                Err(Stop::File {
+                    file: names.len() - 1,
+                    fault: Fault {
+                        line: found.end_line,
+                        number: NOT_BUILT,
+                        detail: 0,
+                    },
+                })
+            }
+        }
     }
+}
+
+/// The report of the files with these names.
+pub(crate) fn prepare<S: Shelf>(
+    alloc: Global,
+    shelf: &mut S,
+    names: &[String],
+) -> Result<Vec<u8>, Stop>
+    requires { 0 < length names.now }
+    ensures report { IfOk result (λ text. Reports (S.files shelf.old) (map string_bytes names.now) text.items) }
+    ensures file { (file : ℕ) (fault : Fault) → IsErrOf result (Stop.File file fault) → IsRefused (S.files shelf.old) (map string_bytes names.now) file fault }
+    ensures read { (file : ℕ) → IsErrOf result (Stop.Read file) → IsNotRead (S.files shelf.old) (map string_bytes names.now) (S.faults shelf.old) (S.faults shelf.new) file }
+{
+    if names.len() > MOST_FILES {
+        return Err(Stop::File {
+            file: MOST_FILES,
+            fault: Fault {
+                line: 0,
+                number: TOO_MANY_FILES,
+                detail: 0,
+            },
+        });
+    }
+    report_files(alloc, shelf, names)
 }

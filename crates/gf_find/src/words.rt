@@ -1,30 +1,20 @@
-// From the words of the command line to the file that they name.
-ghost use Rattle.std.specs.Prelude.{◌≡◌, ◌∷◌, ◌++◌, ℕ, List, IfNone, IfSome, map, string_bytes};
-ghost use Rattle.spec_output.specs.Words.{AreAskedFor, IsAskedFor, are_names, axis_words, begins_with_dash, kind_words, target_words};
+// From the words of the command line to the files that they name.
+ghost use Rattle.std.specs.Prelude.{◌≡◌, ◌↔◌, ◌<◌, ◌∷◌, ◌++◌, ℕ, List, IfNone, IfSome, IsTrue, length, map, string_bytes};
+ghost use Rattle.spec_output.specs.Words.{AreAskedFor, are_names, axis_words, begins_with_dash, kind_words, target_words};
 
-/// The name of the one file that the words ask for.
-pub(crate) fn asked(words: &[String]) -> Option<&str>
-    ensures asked { IfSome result (λ name. IsAskedFor (map string_bytes words.now) name.now) }
-    ensures not_asked { IfNone result ((name : List ℕ) → IsAskedFor (map string_bytes words.now) name → ⊥) }
-{
-    let Some(names) = asked_names(words) else {
-        return None;
-    };
-    match names {
-        [name] => Some(name.as_str()),
-        _ => None,
-    }
-}
-
-// The names of the files that the words ask for.
-fn asked_names(words: &[String]) -> Option<&[String]>
+/// The names of the files that the words ask for.
+pub(crate) fn asked(words: &[String]) -> Option<&[String]>
     ensures asked { IfSome result (λ names. AreAskedFor (map string_bytes words.now) (map string_bytes names.now)) }
     ensures not_asked { IfNone result ((names : List (List ℕ)) → AreAskedFor (map string_bytes words.now) names → ⊥) }
 {
     let names = after_kind(words)?;
     let names = after_target(names)?;
     let names = after_axis(names)?;
-    if are_names(names) { Some(names) } else { None }
+    if are_some_names(names) {
+        Some(names)
+    } else {
+        None
+    }
 }
 
 fn after_kind(words: &[String]) -> Option<&[String]>
@@ -69,6 +59,13 @@ fn after<'a>(words: &'a [String], text: &str) -> Option<&'a [String]>
     }
 }
 
+// There is a word, and none begins with a dash.
+fn are_some_names(words: &[String]) -> bool
+    ensures { IsTrue result ↔ (0 < length (map string_bytes words.now)) × IsTrue (are_names (map string_bytes words.now)) }
+{
+    !words.is_empty() && are_names(words)
+}
+
 // No word begins with a dash.
 fn are_names(words: &[String]) -> bool
     ensures { result ≡ are_names (map string_bytes words.now) }
@@ -102,19 +99,30 @@ mod tests {
     }
 
     #[test]
-    fn one_file_is_asked_for_by_eight_words(rt: HostRuntime) -> Result<(), Fail> {
+    fn files_are_asked_for_behind_seven_words(rt: HostRuntime) -> Result<(), Fail> {
         let cases = [
             ("find --kind coord --target mercury --axis x a", Some("a")),
             ("find --kind coord --target mercury --axis x ", Some("")),
+            (
+                "find --kind coord --target mercury --axis x a b",
+                Some("a b"),
+            ),
             ("find --kind coord --target mercury --axis x -a", None),
-            ("find --kind coord --target mercury --axis x a b", None),
+            ("find --kind coord --target mercury --axis x a -b", None),
             ("find --kind coord --target mercury --axis x", None),
             ("find --kind coord --target mercury --axis y a", None),
             ("find --kind coord --axis x --target mercury a", None),
             ("FIND --kind coord --target mercury --axis x a", None),
         ];
         for (line, want) in cases {
-            assert_eq!(rt; asked(&strings(rt.alloc(), line)?), want, "{line}");
+            let words = strings(rt.alloc(), line)?;
+            match (asked(&words), want) {
+                (Some(names), Some(want)) => assert!(rt;
+                    names == strings(rt.alloc(), want)?.as_slice(),
+                    "{line}"
+                ),
+                (names, want) => assert_eq!(rt; names.is_some(), want.is_some(), "{line}"),
+            }
         }
         Ok(())
     }

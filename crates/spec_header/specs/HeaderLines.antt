@@ -50,13 +50,18 @@ readable file [] = []
 readable file (line ∷ rest) =
     if is_too_long line then [] else record { file = file; number = line.number; words = tokens line.bytes } ∷ readable file rest
 
--- where the lines of a file can't be read on: at the first that is too long, or at the file's end under this number
-abbrev pub end_of : ℕ → ℕ → List Numbered → Fault
-end_of end late [] = record { line = end; number = late; detail = 0 }
-end_of end late (line ∷ rest) = if is_too_long line then record { line = line.number; number = LINE_TOO_LONG; detail = 0 } else end_of end late rest
+-- the first line of a file that is too long
+abbrev pub first_long : List Numbered → Option Fault
+first_long [] = None
+first_long (line ∷ rest) = if is_too_long line then Some (record { line = line.number; number = LINE_TOO_LONG; detail = 0 }) else first_long rest
+
+-- why the lines of a file end too early: one is too long, or the file ends under this number
+abbrev pub ending : ℕ → ℕ → Option Fault → Fault
+ending end late None = record { line = end; number = late; detail = 0 }
+ending end late (Some fault) = fault
 
 abbrev pub fault_of : ℕ → List Numbered → Stop → Fault
-fault_of end lines (ended late) = end_of end late lines
+fault_of end lines (ended late) = ending end late (first_long lines)
 fault_of end lines (breaks file fault) = fault
 
 abbrev pub or_fault : ℕ → List Numbered → Result (Header × List FileLine) Stop → Result (Header × List FileLine) Fault

@@ -1,5 +1,5 @@
 -- The words of the command line.
-use Rattle.std.specs.Prelude.{◌≡◌, ◌==◌, ◌&&◌, ℕ, Bool, true, false, not, IsTrue, List, [], ◌∷◌, ◌++◌, codes}
+use Rattle.std.specs.Prelude.{◌≡◌, ◌<◌, ◌==◌, ◌&&◌, ℕ, Bool, true, false, not, IsTrue, List, [], ◌∷◌, ◌++◌, length, codes}
 
 abbrev pub kind_words : List (List ℕ)
 kind_words = codes "find" ∷ codes "--kind" ∷ codes "coord" ∷ []
@@ -24,11 +24,8 @@ abbrev pub are_names : List (List ℕ) → Bool
 are_names [] = true
 are_names (word ∷ words) = not (begins_with_dash word) && are_names words
 
--- the words ask for the events of these files
+-- the words ask for the events of these files, of which there is at least one
 pub record AreAskedFor (words names : List (List ℕ)) : Type 0 where
   pub all : words ≡ search_words ++ names
+  pub some : 0 < length names
   pub no_option : IsTrue (are_names names)
-
--- the words ask for the events of one file
-abbrev pub IsAskedFor : List (List ℕ) → List ℕ → Type 0
-IsAskedFor words name = AreAskedFor words (name ∷ [])

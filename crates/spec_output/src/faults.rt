@@ -1,9 +1,4 @@
-// Why a file is refused.
+// The fault that is none of the files' own.
 
-/// Why a file is refused: it has more than 268,435,456 bytes, or it isn't of the form that is read, at this line,
-/// counted from 1 (the number of its lines plus 1 where it ends early).
-#[derive(Clone, Copy, PartialEq, Eq, Debug)]
-pub enum FileFault {
-    TooLarge,
-    NotBuilt { line: u32 },
-}
+/// The files are accepted, and nothing is built yet for what they hold. The fault stands behind the last line of all.
+pub const NOT_BUILT: u8 = 7;

@@ -5,5 +5,5 @@
 mod faults;
 mod laws;
 
-pub use faults::FileFault;
-pub use laws::{files_are_read, texts_are_written, words_ask_for_files};
+pub use faults::NOT_BUILT;
+pub use laws::{faults_are_told, files_are_read, texts_are_written, words_ask_for_files};

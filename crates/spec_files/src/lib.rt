@@ -1,0 +1,12 @@
+//! What several files are together: their texts come in, and one list of lines goes out, or where a text can't be read
+//! on; and what all of them come to, an ephemeris or the first fault. Here are definitions, worked examples and what
+//! they come to; nothing is read.
+#![tactic(auto)]
+
+mod examples;
+mod laws;
+mod limits;
+
+pub use examples::{texts_are_joined, texts_are_refused};
+pub use laws::{broken_texts_are_refused, later_texts_follow};
+pub use limits::{FILE_TOO_LARGE, MOST_FILES, TOO_MANY_FILES};

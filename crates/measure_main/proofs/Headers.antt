@@ -1,5 +1,5 @@
 -- What a reader of a header says, in terms of all lines so far.
-use Rattle.std.proofs.Common.{◌≡◌, ◌∙◌, List, [], ◌∷◌, ◌++◌, ap, refl, sym, append_assoc, ℕ}
+use Rattle.std.proofs.Common.{◌≡◌, ◌∙◌, List, [], ◌∷◌, ◌++◌, ap, sym, append_assoc, ℕ}
 use Rattle.spec_text.specs.Lines.{TokenLine}
 use Rattle.spec_header.specs.HeaderLines.{header}
 use Rattle.spec_header.specs.Sections.{FileLine}

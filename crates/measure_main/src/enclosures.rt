@@ -38,24 +38,39 @@ pub(crate) fn planets(ephemeris: &Ephemeris) -> Option<BodyStates<'_>>
     }
 }
 
-// Whether the span lies in the ephemeris, with no border of a column in use in it.
-fn fits(ephemeris: &Ephemeris, states: &BodyStates<'_>, span: Span) -> bool
+// Whether the times lie in the ephemeris, with no border of a column in use between them.
+fn fits(ephemeris: &Ephemeris, states: &BodyStates<'_>, from: i64, to: i64) -> bool
     requires view { IsView states.now }
     requires of { states.now.ephemeris ≡ ephemeris.now }
-    ensures { IsTrue result → Fits states.now span.from span.to }
+    ensures { IsTrue result → Fits states.now from to }
 {
-    if span.from < ephemeris.start() || span.to <= span.from || ephemeris.end() < span.to {
+    if from < ephemeris.start() || to <= from || ephemeris.end() < to {
         return false;
     }
-    ephemeris.border_near(states.columns(), span.from, span.to).is_none()
+    match ephemeris.border_near(states.columns(), from, to) {
+        None => true,
+        Some(_) => false,
+    }
 }
 
-// An hour from a time on.
-fn hour(from: i64) -> Span {
-    Span {
-        from,
-        to: from.saturating_add(HOUR),
+// The spans with one more, where it fits.
+fn with_span(
+    mut spans: Vec<Span>,
+    ephemeris: &Ephemeris,
+    states: &BodyStates<'_>,
+    from: i64,
+    to: i64,
+) -> Result<Vec<Span>, AllocError>
+    requires view { IsView states.now }
+    requires of { states.now.ephemeris ≡ ephemeris.now }
+    requires spans { All (λ span. Fits states.now span.from span.to) spans.items }
+    ensures { IfOk result (λ spans. All (λ span. Fits states.now span.from span.to) spans.items) }
+{
+    if !fits(ephemeris, states, from, to) {
+        return Ok(spans);
     }
+    spans.push(Span { from, to })?;
+    Ok(spans)
 }
 
 /// The hours of the first block in which no granule of a column in use begins.
@@ -70,10 +85,11 @@ pub(crate) fn hours(
 {
     let mut spans = Vec::new(alloc);
     for number in 0..ephemeris.header().block_seconds / HOUR {
-        let span = hour(ephemeris.start().saturating_add(number.saturating_mul(HOUR)));
-        if fits(ephemeris, states, span) {
-            spans.push(span)?;
-        }
+        let from = ephemeris
+            .start()
+            .saturating_add(number.saturating_mul(HOUR));
+        let to = from.saturating_add(HOUR);
+        spans = with_span(spans, ephemeris, states, from, to)?;
     }
     Ok(spans)
 }

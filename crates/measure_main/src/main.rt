@@ -85,7 +85,9 @@ fn measure_enclosures(
     if tell_enclosures(rt, function, rounds, text)? {
         return Ok(ExitCode::from(0));
     }
-    eprintln!(rt; "measure_main: the text is no ephemeris of Mercury, Venus, the Earth and the Moon")?;
+    eprintln!(rt;
+        "measure_main: the text is no ephemeris of Mercury, Venus, the Earth and the Moon"
+    )?;
     Ok(ExitCode::from(2))
 }
 
@@ -104,7 +106,9 @@ fn main(rt: HostRuntime) -> Result<ExitCode, io::Error> {
         }
         Some(Work::Words(rounds, text)) => return tell_words(&rt, rounds, text.as_slice()),
         None => {
-            eprintln!(&rt; "measure_main: bases ROUNDS, products ROUNDS, or one of conj, sep and words ROUNDS FILE")?;
+            eprintln!(&rt;
+                "measure_main: bases ROUNDS, products ROUNDS, or one of conj, sep and words ROUNDS FILE"
+            )?;
             return Ok(ExitCode::from(2));
         }
     }

@@ -43,5 +43,5 @@ measure() {
     }'
 }
 
-measure conj 100 5000
-measure sep 100 5000
+measure conj 40 2000
+measure sep 40 2000

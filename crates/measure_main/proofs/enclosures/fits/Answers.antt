@@ -2,7 +2,6 @@ use Rattle.std.proofs.Common.{rules, List, None, Option, ℕ, ℤ, w64, ◌≤�
 use Rattle.std.proofs.lemmas.Int.{to_z-of_z}
 use mir.Val.{SFits}
 use Rattle.spec_ephemeris.specs.Ephemeris.{IsNearestBorder, end_of}
-use Rattle.spec_bodies.specs.Views.{columns_of}
 use Rattle.measure_main.proofs.Fitting.{are_present, fits_where_none}
 use Rattle.measure_main.proofs.enclosures.fits.Goals as goal
 

@@ -1,6 +1,6 @@
 /* The functions conj and sep of Mercury and Venus seen from the Earth, in plain C doubles: positions by the Clenshaw
    recurrence on the coefficients of a text of JPL, at the middle of each hour of its first block in which no granule
-   begins. Prints the first hour's time with the value at its middle for each hour, and a checksum.
+   begins. Prints for each hour the time at which it begins and the value at its middle, and then a checksum.
 
        enclosures FUNCTION ROUNDS FILE */
 #include <math.h>

@@ -1,5 +1,5 @@
 -- Positions and velocities of a column along each axis.
-use Rattle.std.specs.Prelude.{◌≡◌, ℕ, zero, suc, ◌<◌, ℤ}
+use Rattle.std.specs.Prelude.{◌≡◌, ℕ, zero, suc, ◌<◌}
 use Rattle.spec_expressions.specs.Enclosure.{Enclosure}
 use Rattle.event_expr.specs.States.{parts}
 use Rattle.ival_core.specs.declared.ival.Enclosure.{Enclosure as Answered}

@@ -1,4 +1,4 @@
-use Rattle.std.proofs.Common.{rules, ◌∙◌, ap, w64}
+use Rattle.std.proofs.Common.{◌∙◌, ap}
 use Rattle.std.proofs.lemmas.Int.{to_z-of_z}
 use Rattle.spec_chebyshev.specs.Rows.{entry}
 use Rattle.body_states.proofs.bases.plain_bases.Goals as goal

@@ -1,4 +1,4 @@
-use Rattle.std.proofs.Common.{rules, ◌∙◌, sym, ap, subst, arith, FitsSigned, w64}
+use Rattle.std.proofs.Common.{rules, ◌∙◌, ap, subst, arith, FitsSigned, w64}
 use Rattle.std.proofs.lemmas.Int.{to_z-of_z}
 use Rattle.spec_bodies.specs.Views.{series_positions, series_velocities}
 use Rattle.body_states.specs.Motions.{along, IsMotion}

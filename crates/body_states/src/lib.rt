@@ -16,6 +16,8 @@ mod series;
 mod snapshots;
 mod sources;
 mod states;
+#[cfg(test)]
+mod tests;
 
 pub use eph_model::{Body, Ephemeris};
 pub use event_expr::States;

@@ -2,7 +2,7 @@
 ghost use Rattle.std.specs.Prelude.{◌≡◌, ◌≢◌, ◌<◌, All, ◌∷◌, take, slice_index_or};
 ghost use Rattle.spec_ephemeris.specs.declared.body.Body.TheVariants.{Ssb};
 ghost use Rattle.spec_bodies.specs.Sources.{source_of, needed};
-ghost use Rattle.spec_bodies.specs.Views.{HasColumns, view_of, columns_of};
+ghost use Rattle.spec_bodies.specs.Views.{IsView, HasColumns, view_of, columns_of};
 
 use crate::factors::Factors;
 use crate::sources::{InUse, source_of};
@@ -76,7 +76,8 @@ impl<'e> BodyStates<'e> {
     /// The columns in use, counted from 1, in order and each once. One of the Earth and the Moon seen from the other is
     /// read from the Moon's column alone.
     pub fn columns(&self) -> &[usize]
-        ensures { result.now ≡ columns_of self.now }
+        ensures in_use { result.now ≡ columns_of self.now }
+        ensures view { IsView self.now }
     {
         &self.in_use.numbers[..self.in_use.count]
     }

@@ -7,7 +7,7 @@ use Rattle.body_states.proofs.states.BodyStates.at.Goals as goal
 
 pub known_columns-columns-requires-clause-usable :
     goal.known_columns-columns-requires-clause-usable
-known_columns-columns-requires-clause-usable c = rw c.columns.ensures (usable_in_use c.args.self.now c.requires.view)
+known_columns-columns-requires-clause-usable c = rw c.columns.ensures.in_use (usable_in_use c.args.self.now c.requires.view)
 
 pub motions-requires-clause-positions : goal.motions-requires-clause-positions
 motions-requires-clause-positions c =

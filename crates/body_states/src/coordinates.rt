@@ -193,13 +193,13 @@ impl<'e> BodyStates<'e> {
 }
 
 // What is known of a column.
-fn known(columns: &[ColumnMotions], number: usize) -> Option<Motions>
-    ensures { IfSome result (λ motions. Contains columns.now (record { number = number; motions = motions })) }
+fn known(columns: &[ColumnMotions], number: usize) -> Option<&Motions>
+    ensures { IfSome result (λ motions. Contains columns.now (record { number = number; motions = motions.now })) }
 {
     if number < columns.len() {
-        let column = columns[number];
+        let column = &columns[number];
         if column.number == number {
-            return Some(column.motions);
+            return Some(&column.motions);
         }
     }
     None

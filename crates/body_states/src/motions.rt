@@ -41,9 +41,9 @@ impl Motion {
 
 impl Motions {
     /// The motion along an axis, counted from 0.
-    pub fn along(self, axis: usize) -> Motion
+    pub fn along(&self, axis: usize) -> Motion
         requires { axis < 3 }
-        ensures { result ≡ along self axis }
+        ensures { result ≡ along self.now axis }
     {
         match axis {
             0 => self.x,

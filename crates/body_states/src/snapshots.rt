@@ -118,13 +118,13 @@ impl<'e> BodyStates<'e> {
 }
 
 impl<'s, 'e> Snapshot<'s, 'e> {
-    fn target(&self, target: u8) -> Motions
+    fn target(&self, target: u8) -> &Motions
         requires { target < 2 }
-        ensures { AreMotions (λ axis. state_enclosure self.now.view (position target axis) self.now.first self.now.last) (λ axis. state_enclosure self.now.view (velocity target axis) self.now.first self.now.last) result }
+        ensures { AreMotions (λ axis. state_enclosure self.now.view (position target axis) self.now.first self.now.last) (λ axis. state_enclosure self.now.view (velocity target axis) self.now.first self.now.last) result.now }
     {
         match target {
-            0 => self.one,
-            _ => self.other,
+            0 => &self.one,
+            _ => &self.other,
         }
     }
 }

@@ -12,6 +12,8 @@ mod factors;
 mod series;
 mod sources;
 mod states;
+#[cfg(test)]
+mod tests;
 
 pub use eph_model::{Body, Ephemeris};
 pub use event_expr::States;

@@ -1,6 +1,7 @@
 #!/bin/sh
-# Times products of intervals and the four Chebyshev bases beside the same in plain C with 128-bit numbers, in one run,
-# and prints both with their ratio. Run by hand, once `rt run` in crates/measure_main has built the program.
+# Times products of intervals and the four Chebyshev bases beside the same in plain C with 128-bit numbers, and
+# positions beside the Clenshaw recurrence in plain C doubles, in one run, and prints both with their ratio. Run by
+# hand, once `rt run` in crates/measure_main has built the program.
 set -e
 cd "$(dirname "$0")/.."
 ours=crates/measure_main/out/measure_main
@@ -11,7 +12,7 @@ trap 'rm -rf "$work"' EXIT
 # Of five runs of each, turn about, the least time of the user, by which the machine's other work counts least. The
 # second word is a number of rounds, the third what one round has of the thing that the fourth names.
 measure() {
-    cc -O2 -o "$work/peer" "bench/$1.c"
+    cc -O2 -o "$work/peer" "bench/$1.c" -lm
     rm -f "$work/ours.times" "$work/peer.times"
     for run in 1 2 3 4 5; do
         /usr/bin/time -f %U -a -o "$work/ours.times" "$ours" "$1" "$2" > "$work/ours.out"
@@ -26,3 +27,6 @@ measure() {
 
 measure products 20001 1024 "a product of two intervals"
 measure bases 4001 64 "the four bases of 14 coefficients over a span"
+# Doubles bound no error, so these peers do different work. The checksums are of whole km, which are the same in both: a
+# position is a whole number of them in both, or farther from one than both errors.
+measure positions 100001 192 "a position of 14 coefficients, one of three axes at a time"

@@ -21,7 +21,7 @@ use Rattle.cheby_enclose.proofs.GranuleSeries.{own_length}
 abbrev IsThree : ℕ → Type 0
 IsThree n = n ≡ 3
 
-three_components : (number : ℕ) → number ≤ BODY_COLUMNS → components number ≡ 3
+pub three_components : (number : ℕ) → number ≤ BODY_COLUMNS → components number ≡ 3
 three_components number body = by (nat_eq number 12) refl
   where
     by : (b : Bool) → nat_eq number 12 ≡ b → IsThree (if b then 2 else 3)

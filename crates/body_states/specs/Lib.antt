@@ -1,2 +1,4 @@
 pub mod Answers
 pub mod Examples
+pub mod Motions
+pub mod Bases

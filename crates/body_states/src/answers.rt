@@ -17,12 +17,12 @@ impl<'e> States for BodyStates<'e> {
     ghost fits = { λ v a b. Fits v a b };
 
     fn pos(&self, target: u8, axis: u8, a: i64, b: i64) -> Enclosure {
-        let asked = Asked::new(Quantity::Position, a, b);
+        let asked = Asked::new(Quantity::Position, a, b, &[]);
         self.coordinate(self.target(target), usize::from(axis), &asked)
     }
 
     fn vel(&self, target: u8, axis: u8, a: i64, b: i64) -> Enclosure {
-        let asked = Asked::new(Quantity::Velocity, a, b);
+        let asked = Asked::new(Quantity::Velocity, a, b, &[]);
         self.coordinate(self.target(target), usize::from(axis), &asked)
     }
 
@@ -37,7 +37,7 @@ impl<'e> States for BodyStates<'e> {
 
 impl<'e> BodyStates<'e> {
     // A target by its number.
-    fn target(&self, target: u8) -> Source
+    pub(crate) fn target(&self, target: u8) -> Source
         requires { target < 2 }
         ensures { result ≡ target_of self.now target }
     {

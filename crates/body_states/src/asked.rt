@@ -3,6 +3,7 @@ ghost use Rattle.std.specs.Prelude.{◌≡◌};
 ghost use Rattle.spec_expressions.specs.Enclosure.{IsSpan, middle};
 ghost use Rattle.body_states.specs.Answers.{Question};
 
+use crate::motions::ColumnMotions;
 use event_expr::rules::Span;
 use std::marker::Model;
 
@@ -13,38 +14,41 @@ pub(crate) enum Quantity {
     Velocity,
 }
 
-/// A quantity over the times from a first to a last.
+/// A quantity over the times from a first to a last, and what is known of the columns over these times. Where a column is
+/// known it stands at its number.
 #[derive(Drop)]
-pub(crate) struct Asked {
+pub(crate) struct Asked<'c> {
     quantity: Quantity,
     first: i64,
     last: i64,
     span: Span,
+    columns: &'c [ColumnMotions],
 }
 
-impl Model for Asked {
+impl<'c> Model for Asked<'c> {
     ghost use Rattle.std.specs.Prelude.{◌≡◌};
     ghost use Rattle.spec_expressions.specs.Enclosure.{IsSpan};
     ghost use Rattle.body_states.specs.Answers.{Question};
 
     ghost Value = { Question };
 
-    ghost view = { λ s. record { quantity = s.quantity; first = s.first; last = s.last } };
+    ghost view = { λ s. record { quantity = s.quantity; first = s.first; last = s.last; columns = s.columns.now } };
 
     ghost invariant = { λ s. IsSpan s.first s.last × (s.span.first ≡ s.first) × (s.span.last ≡ s.last) };
 }
 
-impl Asked {
+impl<'c> Asked<'c> {
     /// A quantity over the times from `first` to `last`.
-    pub fn new(quantity: Quantity, first: i64, last: i64) -> Asked
+    pub fn new(quantity: Quantity, first: i64, last: i64, columns: &'c [ColumnMotions]) -> Asked<'c>
         requires { IsSpan first last }
-        ensures { result ≡ record { quantity = quantity; first = first; last = last } }
+        ensures { result ≡ record { quantity = quantity; first = first; last = last; columns = columns.now } }
     {
         Asked {
             quantity,
             first,
             last,
             span: Span::new(first, last),
+            columns,
         }
     }
 
@@ -67,6 +71,13 @@ impl Asked {
         ensures { result ≡ self.now.last }
     {
         self.last
+    }
+
+    /// What is known of columns.
+    pub fn columns(&self) -> &[ColumnMotions]
+        ensures { result.now ≡ self.now.columns }
+    {
+        self.columns
     }
 
     /// The time halfway, or the last before it.

@@ -1,13 +1,13 @@
 // The coordinates of bodies, made of those of columns by the rules on enclosures.
-ghost use Rattle.std.specs.Prelude.{◌≡◌, ◌<◌};
+ghost use Rattle.std.specs.Prelude.{◌≡◌, ◌<◌, IfSome, Contains};
 ghost use Rattle.spec_expressions.specs.Enclosure.{constant_of, sum_of, difference_of, product_of};
 ghost use Rattle.spec_bodies.specs.Coordinates.{nothing, of_column, earth, moon, less, barycentric, seen, turned, in_frame};
 ghost use Rattle.spec_bodies.specs.Reading.{AllColumns, IsReadable, IsFactor};
-ghost use Rattle.spec_bodies.specs.Views.{Fits};
 ghost use Rattle.event_expr.specs.States.{parts};
-ghost use Rattle.body_states.specs.Answers.{answer_of, column_enclosure, IsAnswer, IsNumber};
+ghost use Rattle.body_states.specs.Answers.{CanAsk, answer_of, column_enclosure, IsAnswer, IsNumber};
 
 use crate::asked::{Asked, Quantity};
+use crate::motions::{ColumnMotions, Motions};
 use crate::series::{positions, velocities};
 use crate::sources::{EMB_COLUMN, MOON_COLUMN};
 use crate::states::BodyStates;
@@ -17,7 +17,7 @@ use spec_bodies::{Frame, Source};
 impl<'e> BodyStates<'e> {
     /// A coordinate of a target in the frame.
     pub(crate) fn coordinate(&self, target: Source, axis: usize, asked: &Asked) -> Enclosure
-        requires fits { Fits self.now asked.now.first asked.now.last }
+        requires asked { CanAsk self.now asked.now }
         requires readable { AllColumns (IsReadable self.now) (in_frame self.now.frame (seen target self.now.observer) axis) }
         ensures { parts result ≡ answer_of self.now asked.now (in_frame self.now.frame (seen target self.now.observer) axis) }
     {
@@ -29,7 +29,7 @@ impl<'e> BodyStates<'e> {
 
     // A coordinate along the axes of the ecliptic: y' = c y + s z and z' = c z - s y.
     fn turned(&self, target: Source, axis: usize, asked: &Asked) -> Enclosure
-        requires fits { Fits self.now asked.now.first asked.now.last }
+        requires asked { CanAsk self.now asked.now }
         requires readable { AllColumns (IsReadable self.now) (turned (seen target self.now.observer) axis) }
         ensures { parts result ≡ answer_of self.now asked.now (turned (seen target self.now.observer) axis) }
     {
@@ -41,7 +41,7 @@ impl<'e> BodyStates<'e> {
     }
 
     fn turned_y(&self, target: Source, asked: &Asked) -> Enclosure
-        requires fits { Fits self.now asked.now.first asked.now.last }
+        requires asked { CanAsk self.now asked.now }
         requires readable { AllColumns (IsReadable self.now) (turned (seen target self.now.observer) 1) }
         ensures { parts result ≡ answer_of self.now asked.now (turned (seen target self.now.observer) 1) }
     {
@@ -53,7 +53,7 @@ impl<'e> BodyStates<'e> {
     }
 
     fn turned_z(&self, target: Source, asked: &Asked) -> Enclosure
-        requires fits { Fits self.now asked.now.first asked.now.last }
+        requires asked { CanAsk self.now asked.now }
         requires readable { AllColumns (IsReadable self.now) (turned (seen target self.now.observer) 2) }
         ensures { parts result ≡ answer_of self.now asked.now (turned (seen target self.now.observer) 2) }
     {
@@ -66,7 +66,7 @@ impl<'e> BodyStates<'e> {
 
     // A coordinate of a target relative to the observer, in the frame of the files.
     fn seen(&self, target: Source, axis: usize, asked: &Asked) -> Enclosure
-        requires fits { Fits self.now asked.now.first asked.now.last }
+        requires asked { CanAsk self.now asked.now }
         requires readable { AllColumns (IsReadable self.now) (seen target self.now.observer axis) }
         ensures { parts result ≡ answer_of self.now asked.now (seen target self.now.observer axis) }
     {
@@ -83,7 +83,7 @@ impl<'e> BodyStates<'e> {
 
     // A coordinate of a target less that of the observer.
     fn apart(&self, target: Source, axis: usize, asked: &Asked) -> Enclosure
-        requires fits { Fits self.now asked.now.first asked.now.last }
+        requires asked { CanAsk self.now asked.now }
         requires own { AllColumns (IsReadable self.now) (barycentric target axis) }
         requires observer { AllColumns (IsReadable self.now) (barycentric self.now.observer axis) }
         ensures { parts result ≡ answer_of self.now asked.now (less (barycentric target axis) (barycentric self.now.observer axis)) }
@@ -95,7 +95,7 @@ impl<'e> BodyStates<'e> {
 
     // A coordinate of a body relative to the barycentre of the solar system.
     fn barycentric(&self, body: Source, axis: usize, asked: &Asked) -> Enclosure
-        requires fits { Fits self.now asked.now.first asked.now.last }
+        requires asked { CanAsk self.now asked.now }
         requires readable { AllColumns (IsReadable self.now) (barycentric body axis) }
         ensures { parts result ≡ answer_of self.now asked.now (barycentric body axis) }
     {
@@ -109,7 +109,7 @@ impl<'e> BodyStates<'e> {
 
     // The Earth: the barycentre of the Earth and the Moon less the Moon's share.
     fn earth(&self, axis: usize, asked: &Asked) -> Enclosure
-        requires fits { Fits self.now asked.now.first asked.now.last }
+        requires asked { CanAsk self.now asked.now }
         requires readable { AllColumns (IsReadable self.now) (earth axis) }
         ensures { parts result ≡ answer_of self.now asked.now (earth axis) }
     {
@@ -121,7 +121,7 @@ impl<'e> BodyStates<'e> {
 
     // The Moon: the Earth and the Moon seen from it.
     fn moon(&self, axis: usize, asked: &Asked) -> Enclosure
-        requires fits { Fits self.now asked.now.first asked.now.last }
+        requires asked { CanAsk self.now asked.now }
         requires readable { AllColumns (IsReadable self.now) (moon axis) }
         ensures { parts result ≡ answer_of self.now asked.now (moon axis) }
     {
@@ -132,7 +132,19 @@ impl<'e> BodyStates<'e> {
 
     // A coordinate of a column.
     fn column(&self, number: usize, axis: usize, asked: &Asked) -> Enclosure
-        requires fits { Fits self.now asked.now.first asked.now.last }
+        requires asked { CanAsk self.now asked.now }
+        requires readable { IsReadable self.now number axis }
+        ensures { parts result ≡ column_enclosure self.now asked.now.quantity asked.now.first asked.now.last number axis }
+    {
+        match known(asked.columns(), number) {
+            Some(motions) => motions.along(axis).of(asked.quantity()),
+            None => self.read(number, axis, asked),
+        }
+    }
+
+    // A coordinate of a column that is read from its granule.
+    fn read(&self, number: usize, axis: usize, asked: &Asked) -> Enclosure
+        requires asked { CanAsk self.now asked.now }
         requires readable { IsReadable self.now number axis }
         ensures { parts result ≡ column_enclosure self.now asked.now.quantity asked.now.first asked.now.last number axis }
     {
@@ -151,7 +163,7 @@ impl<'e> BodyStates<'e> {
     }
 
     fn scaled(&self, factor: Ival, x: Enclosure, asked: &Asked) -> Enclosure
-        requires fits { Fits self.now asked.now.first asked.now.last }
+        requires asked { CanAsk self.now asked.now }
         requires factor { IsFactor factor }
         requires number { IsNumber factor }
         requires x { IsAnswer self.now asked.now (parts x) }
@@ -162,7 +174,7 @@ impl<'e> BodyStates<'e> {
     }
 
     fn sum(&self, x: Enclosure, y: Enclosure, asked: &Asked) -> Enclosure
-        requires fits { Fits self.now asked.now.first asked.now.last }
+        requires asked { CanAsk self.now asked.now }
         requires x { IsAnswer self.now asked.now (parts x) }
         requires y { IsAnswer self.now asked.now (parts y) }
         ensures { parts result ≡ sum_of asked.now.first asked.now.last (parts x) (parts y) }
@@ -171,11 +183,24 @@ impl<'e> BodyStates<'e> {
     }
 
     fn difference(&self, x: Enclosure, y: Enclosure, asked: &Asked) -> Enclosure
-        requires fits { Fits self.now asked.now.first asked.now.last }
+        requires asked { CanAsk self.now asked.now }
         requires x { IsAnswer self.now asked.now (parts x) }
         requires y { IsAnswer self.now asked.now (parts y) }
         ensures { parts result ≡ difference_of asked.now.first asked.now.last (parts x) (parts y) }
     {
         asked.span().difference(x, y)
     }
+}
+
+// What is known of a column.
+fn known(columns: &[ColumnMotions], number: usize) -> Option<Motions>
+    ensures { IfSome result (λ motions. Contains columns.now (record { number = number; motions = motions })) }
+{
+    if number < columns.len() {
+        let column = columns[number];
+        if column.number == number {
+            return Some(column.motions);
+        }
+    }
+    None
 }

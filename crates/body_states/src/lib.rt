@@ -7,9 +7,13 @@
 
 mod answers;
 mod asked;
+mod bases;
+mod columns;
 mod coordinates;
 mod factors;
+mod motions;
 mod series;
+mod snapshots;
 mod sources;
 mod states;
 #[cfg(test)]
@@ -17,5 +21,6 @@ mod tests;
 
 pub use eph_model::{Body, Ephemeris};
 pub use event_expr::States;
+pub use snapshots::Snapshot;
 pub use spec_bodies::Frame;
 pub use states::BodyStates;

@@ -1,1 +1,2 @@
 pub mod SlopeRows
+pub mod SmallCoefficients

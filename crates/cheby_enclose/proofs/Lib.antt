@@ -1,3 +1,4 @@
 pub mod TermLists
 pub mod LoopSums
 pub mod GranuleSeries
+pub mod SmallCoefficients

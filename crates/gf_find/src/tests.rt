@@ -104,9 +104,9 @@ const FIND_TWO: &str = "find --kind coord --target mercury --axis x a b";
 fn changed(alloc: Global, changes: &[(usize, &str)], end: usize) -> Result<Vec<u8>, AllocError> {
     let whole = file(alloc, "0.0", "0.138240000000000000D+07")?;
     let mut text = Vec::new(alloc);
-    let mut number = 0;
+    let mut number = 0usize;
     for line in whole.split(|b| *b == b'\n') {
-        number += 1;
+        number = number.saturating_add(1);
         if number == end || number == 27 {
             break;
         }
@@ -302,13 +302,10 @@ fn first_faults_are_told(rt: HostRuntime) -> Result<(), Fail> {
 fn files_go_on_in_the_next(rt: HostRuntime) -> Result<(), Fail> {
     let alloc = rt.alloc();
     let whole = changed(alloc, &[], 27)?;
-    for cut in [0, 20, 100, 259, whole.len() - 1] {
-        // Between two lines alone, a text can be cut in two.
-        let at = whole[cut..]
-            .iter()
-            .position(|b| *b == b'\n')
-            .map_or(whole.len(), |i| cut + i + 1);
-        let texts = [("a", &whole[..at]), ("b", &whole[at..])];
+    for end in [1, 2, 9, 17, 18, 20, 27] {
+        let first = changed(alloc, &[], end)?;
+        let second = &whole[first.len().min(whole.len())..];
+        let texts = [("a", first.as_slice()), ("b", second)];
         let run = run(alloc, FIND_TWO, &texts, &SOUND)?;
         assert_eq!(rt; run.status, 0);
         let mut text = REQUEST.as_bytes().to_vec(alloc)?;
@@ -354,6 +351,68 @@ fn faults_of_two_files_are_told(rt: HostRuntime) -> Result<(), Fail> {
         assert!(rt; run.out.is_empty());
         assert_eq!(rt; run.err.as_slice(), told.as_bytes());
     }
+    Ok(())
+}
+
+// A header, and this many blocks of zeros, each of which begins where the last ended. Each begins at midnight.
+fn blocks_of_zeros(alloc: Global, count: i64) -> Result<Vec<u8>, AllocError> {
+    let mut text = changed(alloc, &[], 17)?;
+    let mut day: i64 = 2_451_544;
+    for _ in 0..count {
+        let next = day.saturating_add(32);
+        let dates = format!(in alloc; "1 26\n{day}.5 {next}.5")?;
+        text.extend_from_slice(dates.as_bytes())?;
+        text.extend_from_slice(b" 0.0\n0.0")?;
+        text.extend_from_slice(ZEROS.as_bytes())?;
+        day = next;
+    }
+    Ok(text)
+}
+
+#[test]
+fn blocks_follow_one_another_up_to_their_limit(rt: HostRuntime) -> Result<(), Fail> {
+    let alloc = rt.alloc();
+    let cases = [
+        (2, "finder: file a line 37: 7 NotBuilt\n"),
+        (16_384, "finder: file a line 163857: 7 NotBuilt\n"),
+        (16_385, "finder: file a line 163858: 38 TooManyBlocks\n"),
+    ];
+    for (count, told) in cases {
+        let text = blocks_of_zeros(alloc, count)?;
+        let run = run(alloc, FIND, &[("a", &text)], &SOUND)?;
+        assert_eq!(rt; run.status, 3, "{told}");
+        assert!(rt; run.out.is_empty());
+        assert_eq!(rt; run.err.as_slice(), told.as_bytes());
+    }
+    Ok(())
+}
+
+#[test]
+fn a_block_may_be_repeated_in_the_next_file(rt: HostRuntime) -> Result<(), Fail> {
+    let alloc = rt.alloc();
+    let whole = changed(alloc, &[], 27)?;
+    let header = changed(alloc, &[], 17)?;
+    let block = &whole[header.len().min(whole.len())..];
+    let texts = [("a", whole.as_slice()), ("b", block)];
+    let run = run(alloc, FIND_TWO, &texts, &SOUND)?;
+    assert_eq!(rt; run.status, 0);
+    let mut text = REQUEST.as_bytes().to_vec(alloc)?;
+    text.extend_from_slice(b"C 1339200 1339200 rise\nEND certain 1 undecided 0\n")?;
+    assert_eq!(rt; run.out.as_slice(), text.as_slice());
+    Ok(())
+}
+
+#[test]
+fn a_text_may_end_within_its_last_line(rt: HostRuntime) -> Result<(), Fail> {
+    let alloc = rt.alloc();
+    let mut text = changed(alloc, &[], 26)?;
+    text.extend_from_slice(b"0.0")?;
+    let run = run(alloc, FIND, &[("a", &text)], &SOUND)?;
+    assert_eq!(rt; run.status, 3);
+    assert_eq!(rt;
+        run.err.as_slice(),
+        b"finder: file a line 27: 36 Truncated\n".as_slice()
+    );
     Ok(())
 }
 

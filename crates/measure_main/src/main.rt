@@ -4,19 +4,29 @@
 #![tactic(auto)]
 
 mod bases;
+mod enclosures;
+mod functions;
+mod positions;
 mod products;
+mod reading;
+mod telling;
 mod words;
 
 use bases::bases;
+use functions::Function;
+use positions::positions;
 use products::products;
 use std::process::ExitCode;
 use std::{env, fs, io};
+use telling::tell_enclosures;
 use words::words;
 
 // A piece of work, and how often it is done.
 #[derive(Drop)]
 enum Work {
     Bases(u32),
+    Enclosures(Function, u32, Vec<u8>),
+    Positions(u32),
     Products(u32),
     Words(u32, Vec<u8>),
 }
@@ -25,17 +35,21 @@ fn work_of(name: &str, rounds: &str) -> Option<Work> {
     let rounds = rounds.parse::<u32>().ok()?;
     match name {
         "bases" => Some(Work::Bases(rounds)),
+        "positions" => Some(Work::Positions(rounds)),
         "products" => Some(Work::Products(rounds)),
         _ => None,
     }
 }
 
-// The work on the words of a file.
-fn words_of(rt: &HostRuntime, rounds: &str, file: &str) -> Result<Option<Work>, io::Error> {
-    let Ok(rounds) = rounds.parse::<u32>() else {
-        return Ok(None);
-    };
-    Ok(Some(Work::Words(rounds, fs::read(rt, file)?)))
+// The work on the text of a file.
+fn work_on(name: &str, rounds: &str, text: Vec<u8>) -> Option<Work> {
+    let rounds = rounds.parse::<u32>().ok()?;
+    match name {
+        "conj" => Some(Work::Enclosures(Function::Conjunction, rounds, text)),
+        "sep" => Some(Work::Enclosures(Function::Separation, rounds, text)),
+        "words" => Some(Work::Words(rounds, text)),
+        _ => None,
+    }
 }
 
 // What the words of the command line ask for.
@@ -46,8 +60,9 @@ fn asked(rt: &HostRuntime) -> Result<Option<Work>, io::Error> {
     }
     match words.as_slice() {
         [name, rounds] => Ok(work_of(name.as_str(), rounds.as_str())),
-        [name, rounds, file] if name.as_str() == "words" => {
-            words_of(rt, rounds.as_str(), file.as_str())
+        [name, rounds, file] => {
+            let text = fs::read(rt, file.as_str())?;
+            Ok(work_on(name.as_str(), rounds.as_str(), text))
         }
         _ => Ok(None),
     }
@@ -65,11 +80,33 @@ fn tell_words(rt: &HostRuntime, rounds: u32, text: &[u8]) -> Result<ExitCode, io
     Ok(ExitCode::from(0))
 }
 
+fn measure_enclosures(
+    rt: &HostRuntime,
+    function: Function,
+    rounds: u32,
+    text: &[u8],
+) -> Result<ExitCode, io::Error> {
+    if tell_enclosures(rt, function, rounds, text)? {
+        return Ok(ExitCode::from(0));
+    }
+    eprintln!(rt;
+        "measure_main: the text is no ephemeris of Mercury, Venus, the Earth and the Moon"
+    )?;
+    Ok(ExitCode::from(2))
+}
+
 fn main(rt: HostRuntime) -> Result<ExitCode, io::Error> {
     match asked(&rt)? {
         Some(Work::Bases(rounds)) => {
             let sum = bases(rounds);
             println!(&rt; "bases {rounds} checksum {sum}")?;
+        }
+        Some(Work::Positions(rounds)) => {
+            let sum = positions(rt.alloc(), rounds)?;
+            println!(&rt; "positions {rounds} checksum {sum}")?;
+        }
+        Some(Work::Enclosures(function, rounds, text)) => {
+            return measure_enclosures(&rt, function, rounds, text.as_slice());
         }
         Some(Work::Products(rounds)) => {
             let sum = products(rt.alloc(), rounds)?;
@@ -77,7 +114,9 @@ fn main(rt: HostRuntime) -> Result<ExitCode, io::Error> {
         }
         Some(Work::Words(rounds, text)) => return tell_words(&rt, rounds, text.as_slice()),
         None => {
-            eprintln!(&rt; "measure_main: bases ROUNDS, products ROUNDS, or words ROUNDS FILE")?;
+            eprintln!(&rt;
+                "measure_main: bases, positions or products ROUNDS, or one of conj, sep and words ROUNDS FILE"
+            )?;
             return Ok(ExitCode::from(2));
         }
     }

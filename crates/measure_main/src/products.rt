@@ -29,8 +29,8 @@ fn interval(i: u32) -> Ival
     Ival::from_decimal(mant, -6, -24)
 }
 
-// The ends and the exponent of an interval, folded into a checksum.
-fn fold(sum: u64, x: &Ival) -> u64 {
+/// The ends and the exponent of an interval, folded into a checksum.
+pub(crate) fn fold(sum: u64, x: &Ival) -> u64 {
     let (lo, hi, s) = x.parts();
     let signs = u64::from(lo < 0) ^ u64::from(hi < 0).rotate_left(1);
     let ends = size(lo) ^ size(hi).rotate_left(32);

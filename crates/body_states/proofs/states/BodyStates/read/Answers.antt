@@ -2,7 +2,7 @@ use Rattle.std.proofs.Common.{rules, ◌∙◌, sym, ap, FitsSigned, w64}
 use Rattle.std.proofs.lemmas.Int.{to_z-of_z}
 use Rattle.spec_bodies.specs.Views.{series_positions, series_velocities}
 use Rattle.body_states.proofs.Reading.{evaluable, upto_end, series_is}
-use Rattle.body_states.proofs.states.BodyStates.column.Goals as goal
+use Rattle.body_states.proofs.states.BodyStates.read.Goals as goal
 
 pub positions-requires-clause-granule : goal.positions-requires-clause-granule
 positions-requires-clause-granule c =
@@ -16,7 +16,7 @@ positions-requires-clause-upto c =
     let e = ap (λ v. v.ephemeris) c.self.view_is in
     let is = rw (sa, e) at c.granule-granule.ensures.granule in
     let count = rw e at c.granule-granule.ensures.coefficients in
-    upto_end c.args.self.now c.args.asked.now.first c.args.asked.now.last c.requires.fits c.args.number c.args.axis c.requires.readable c.granule-granule.result is count c.granule-granule.ensures.duration.0
+    upto_end c.args.self.now c.args.asked.now.first c.args.asked.now.last c.requires.asked.fits c.args.number c.args.axis c.requires.readable c.granule-granule.result is count c.granule-granule.ensures.duration.0
 
 pub returns-in-Position : goal.returns-in-Position
 returns-in-Position c =
@@ -25,7 +25,7 @@ returns-in-Position c =
     let e = ap (λ v. v.ephemeris) c.self.view_is in
     let is = rw (sa, e) at c.granule-granule.ensures.granule in
     let count = rw e at c.granule-granule.ensures.coefficients in
-    let same = series_is c.args.self.now c.args.asked.now.first c.args.asked.now.last c.requires.fits c.args.number c.args.axis c.requires.readable c.granule-granule.result is count c.granule-granule.ensures.duration.0 in
+    let same = series_is c.args.self.now c.args.asked.now.first c.args.asked.now.last c.requires.asked.fits c.args.number c.args.axis c.requires.readable c.granule-granule.result is count c.granule-granule.ensures.duration.0 in
     rw (sym c.quantity.ensures ∙ c.in-Position.is) (c.positions.ensures ∙ ap (series_positions c.args.asked.now.first c.args.asked.now.last) same)
 
 pub velocities-requires-clause-granule : goal.velocities-requires-clause-granule
@@ -40,7 +40,7 @@ velocities-requires-clause-upto c =
     let e = ap (λ v. v.ephemeris) c.self.view_is in
     let is = rw (sa, e) at c.granule-granule.ensures.granule in
     let count = rw e at c.granule-granule.ensures.coefficients in
-    upto_end c.args.self.now c.args.asked.now.first c.args.asked.now.last c.requires.fits c.args.number c.args.axis c.requires.readable c.granule-granule.result is count c.granule-granule.ensures.duration.0
+    upto_end c.args.self.now c.args.asked.now.first c.args.asked.now.last c.requires.asked.fits c.args.number c.args.axis c.requires.readable c.granule-granule.result is count c.granule-granule.ensures.duration.0
 
 pub returns-in-Velocity : goal.returns-in-Velocity
 returns-in-Velocity c =
@@ -49,5 +49,5 @@ returns-in-Velocity c =
     let e = ap (λ v. v.ephemeris) c.self.view_is in
     let is = rw (sa, e) at c.granule-granule.ensures.granule in
     let count = rw e at c.granule-granule.ensures.coefficients in
-    let same = series_is c.args.self.now c.args.asked.now.first c.args.asked.now.last c.requires.fits c.args.number c.args.axis c.requires.readable c.granule-granule.result is count c.granule-granule.ensures.duration.0 in
+    let same = series_is c.args.self.now c.args.asked.now.first c.args.asked.now.last c.requires.asked.fits c.args.number c.args.axis c.requires.readable c.granule-granule.result is count c.granule-granule.ensures.duration.0 in
     rw (sym c.quantity.ensures ∙ c.in-Velocity.is) (c.velocities.ensures ∙ ap (series_velocities c.args.asked.now.first c.args.asked.now.last) same)

@@ -1,0 +1,7 @@
+use Rattle.std.proofs.Common.{◌≡◌, length}
+use Rattle.std.specs.Prelude.{All}
+use Rattle.body_states.specs.Answers.{IsKnown}
+use Rattle.body_states.proofs.states.BodyStates.known_columns.Given as goal
+
+abbrev pub invariant-loop-number : goal.invariant-loop-number
+invariant-loop-number l = All (IsKnown l.fn.self l.fn.asked.first l.fn.asked.last) l.columns × (length l.columns ≡ 12)

@@ -1,0 +1,66 @@
+// The measurement of enclosures, with the lines that it prints.
+ghost use Rattle.std.specs.Prelude.{All};
+ghost use Rattle.spec_bodies.specs.Views.{Fits, IsView};
+
+use crate::enclosures::{Span, enclosures, hours, over, planets};
+use crate::functions::{Function, formula_of};
+use crate::reading::ephemeris_of;
+use body_states::BodyStates;
+use event_expr::Formula;
+use std::io;
+
+// A line with the mid and the range over a span: ends and exponent of 2 of each.
+fn tell_span(
+    rt: &HostRuntime,
+    formula: &Formula,
+    states: &BodyStates<'_>,
+    span: Span,
+) -> Result<(), io::Error>
+    requires { Fits states.now span.from span.to }
+{
+    let from = span.from;
+    let found = over(formula, states, span);
+    let (mid_lo, mid_hi, mid_s) = found.mid.parts();
+    let (lo, hi, s) = found.range.parts();
+    println!(rt; "{from} {mid_lo} {mid_hi} {mid_s} {lo} {hi} {s}")?;
+    Ok(())
+}
+
+fn tell_spans(
+    rt: &HostRuntime,
+    formula: &Formula,
+    states: &BodyStates<'_>,
+    spans: &[Span],
+) -> Result<(), io::Error>
+    requires { All (λ span. Fits states.now span.from span.to) spans.now }
+{
+    for span in spans {
+        tell_span(rt, formula, states, *span)?;
+    }
+    Ok(())
+}
+
+/// Prints the mid and the range over each hour of the first block of a text, and the checksum of so many rounds of
+/// enclosures over these hours. It is `false` where the text is no ephemeris of the planets.
+pub(crate) fn tell_enclosures(
+    rt: &HostRuntime,
+    function: Function,
+    rounds: u32,
+    text: &[u8],
+) -> Result<bool, io::Error> {
+    let Some(ephemeris) = ephemeris_of(rt.alloc(), text) else {
+        return Ok(false);
+    };
+    let Some(states) = planets(&ephemeris) else {
+        return Ok(false);
+    };
+    let Ok(formula) = formula_of(rt.alloc(), function)? else {
+        return Ok(false);
+    };
+    let spans = hours(rt.alloc(), &ephemeris, &states)?;
+    tell_spans(rt, &formula, &states, &spans)?;
+    let sum = enclosures(&formula, &states, &spans, rounds);
+    let count = spans.len();
+    println!(rt; "rounds {rounds} hours {count} checksum {sum}")?;
+    Ok(true)
+}

@@ -1,12 +1,12 @@
 // Bodies of two small ephemerides, against an exact reference.
-ghost use Rattle.std.specs.Prelude.{◌≡◌, ◌<◌, ◌≤ℤ◌, All, IfOk, IsTrue, length};
+ghost use Rattle.std.specs.Prelude.{◌≡◌, ◌<◌, ◌≤ℤ◌, All, IfOk, IsTrue};
 ghost use Rattle.std.specs.List.{list_all};
 ghost use Rattle.spec_ephemeris.specs.Header.{IsHeader, has_column};
 ghost use Rattle.spec_ephemeris.specs.Ephemeris.{IsBodyNumber, end_of};
 ghost use Rattle.spec_ephemeris.specs.Examples.{column, four_columns};
 ghost use Rattle.spec_expressions.specs.Expression.{HasLeaves};
 ghost use Rattle.spec_bodies.specs.Sources.{source_of, needed};
-ghost use Rattle.spec_bodies.specs.Views.{IsView, Fits};
+ghost use Rattle.spec_bodies.specs.Views.{Fits};
 ghost use Rattle.body_states.specs.Examples.{short_blocks};
 
 use crate::asked::Quantity;

@@ -98,7 +98,8 @@ pub(crate) fn hours(
 pub(crate) fn over(formula: &Formula, states: &BodyStates<'_>, span: Span) -> Enclosure
     requires { Fits states.now span.from span.to }
 {
-    enclose(formula, states, span.from, span.to)
+    let snapshot = states.at(span.from, span.to);
+    enclose(formula, &snapshot, span.from, span.to)
 }
 
 fn fold_parts(sum: u64, enclosure: &Enclosure) -> u64 {

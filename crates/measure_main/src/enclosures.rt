@@ -94,12 +94,12 @@ pub(crate) fn hours(
     Ok(spans)
 }
 
-/// The enclosure over a span, of states that are taken there once.
+/// The enclosure over a span.
 pub(crate) fn over(formula: &Formula, states: &BodyStates<'_>, span: Span) -> Enclosure
     requires { Fits states.now span.from span.to }
 {
-    let taken = states.at(span.from, span.to);
-    enclose(formula, &taken, span.from, span.to)
+    let snapshot = states.at(span.from, span.to);
+    enclose(formula, &snapshot, span.from, span.to)
 }
 
 fn fold_parts(sum: u64, enclosure: &Enclosure) -> u64 {

@@ -7,7 +7,7 @@ use Rattle.measure_main.proofs.enclosures.fits.Goals as goal
 
 pub border_near-requires-clause-present : goal.border_near-requires-clause-present
 border_near-requires-clause-present c =
-    rw c.columns.ensures (are_present c.args.ephemeris.now c.args.states.now c.requires.view c.requires.of)
+    rw c.columns.ensures.in_use (are_present c.args.ephemeris.now c.args.states.now c.requires.view c.requires.of)
 
 pub returns-in-None : goal.returns-in-None
 returns-in-None c = λ true.
@@ -19,4 +19,4 @@ returns-in-None c = λ true.
     let nearest : IsNearestBorder c.args.ephemeris.now c.columns.result.now c.args.from c.args.to c.border_near.result = simp to_z-of_z at c.border_near.ensures in
     let none = subst (λ (t : Option ℤ). IsNearestBorder c.args.ephemeris.now c.columns.result.now c.args.from c.args.to t) c.in-None.is nearest in
     fits_where_none c.args.ephemeris.now c.args.states.now c.args.from c.args.to c.requires.view c.requires.of from order upto
-    (subst (λ (ns : List ℕ). IsNearestBorder c.args.ephemeris.now ns c.args.from c.args.to None) c.columns.ensures none)
+    (subst (λ (ns : List ℕ). IsNearestBorder c.args.ephemeris.now ns c.args.from c.args.to None) c.columns.ensures.in_use none)

@@ -5,7 +5,7 @@
 use Rattle.std.proofs.Common.{◌≡◌, ℕ, zero, suc, arith, refl, sym, ap, subst, ◌∙◌, Bool, true, false, ◌&&◌, eqb, ltb, List, [], ◌∷◌, ℤ, pos, negsuc, ◌+ℤ◌, ◌-ℤ◌, ◌*ℤ◌, neg_ℤ}
 use Rattle.std.proofs.Math.Dec.{T, eqb→eq}
 use Rattle.std.proofs.lemmas.Int.{ints}
-use Rattle.spec_intervals.proofs.Whole.{mul_comm, mul_assoc, mul-add}
+use Rattle.spec_numbers.proofs.Whole.{mul_comm, mul_assoc, mul-add, add-mul, exchanged, one-mul}
 
 infixl 6 ◌⊕◌
 infixl 6 ◌⊖◌
@@ -97,23 +97,13 @@ all_zero [] = true
 all_zero (t ∷ p) = is_zero t.co && all_zero p
 
 -- ---- each step keeps the value
-
-swap : (a b c : ℤ) → a *ℤ (b *ℤ c) ≡ b *ℤ (a *ℤ c)
-swap a b c = sym (mul_assoc a b c) ∙ (ap (λ x. x *ℤ c) (mul_comm a b) ∙ mul_assoc b a c)
-
-add-mul : (a b c : ℤ) → (a +ℤ b) *ℤ c ≡ a *ℤ c +ℤ b *ℤ c
-add-mul a b c = mul_comm (a +ℤ b) c ∙ (mul-add c a b ∙ (ap (λ x. x +ℤ c *ℤ b) (mul_comm c a) ∙ ap (λ x. a *ℤ c +ℤ x) (mul_comm c b)))
-
 mval-with_var : (xs : List ℤ) (i : ℕ) (m : List ℕ) → mval xs (with_var i m) ≡ at xs i *ℤ mval xs m
 mval-with_var xs i [] = refl
 mval-with_var xs i (j ∷ m) = by (mval-with_var xs i m) (ltb j i)
   where
     by : mval xs (with_var i m) ≡ at xs i *ℤ mval xs m → (b : Bool) → mval xs (elim b [ true ↦ j ∷ with_var i m | false ↦ i ∷ j ∷ m ]) ≡ at xs i *ℤ (at xs j *ℤ mval xs m)
-    by ih true = ap (λ x. at xs j *ℤ x) ih ∙ swap (at xs j) (at xs i) (mval xs m)
+    by ih true = ap (λ x. at xs j *ℤ x) ih ∙ exchanged (at xs j) (at xs i) (mval xs m)
     by ih false = refl
-
-one-mul : (a : ℤ) → pos 1 *ℤ a ≡ a
-one-mul a = omega (arith, ints)
 
 mval-mul : (xs : List ℤ) (m n : List ℕ) → mval xs (mono_mul m n) ≡ mval xs m *ℤ mval xs n
 mval-mul xs [] n = sym (one-mul (mval xs n))
@@ -148,7 +138,7 @@ pval-add xs (t ∷ p) q =
     pval-add_mono xs t.co t.of (poly_add p q) ∙ (ap (λ x. t.co *ℤ mval xs t.of +ℤ x) (pval-add xs p q) ∙ omega (arith, ints))
 
 mono_times : (c d m n : ℤ) → (c *ℤ d) *ℤ (m *ℤ n) ≡ (c *ℤ m) *ℤ (d *ℤ n)
-mono_times c d m n = mul_assoc c d (m *ℤ n) ∙ (ap (λ x. c *ℤ x) (swap d m n) ∙ sym (mul_assoc c m (d *ℤ n)))
+mono_times c d m n = mul_assoc c d (m *ℤ n) ∙ (ap (λ x. c *ℤ x) (exchanged d m n) ∙ sym (mul_assoc c m (d *ℤ n)))
 
 pval-scaled : (xs : List ℤ) (c : ℤ) (m : List ℕ) (q : List Mono) → pval xs (scaled c m q) ≡ (c *ℤ mval xs m) *ℤ pval xs q
 pval-scaled xs c m [] = sym (mul_comm (c *ℤ mval xs m) (pos 0) ∙ omega (arith, ints))

@@ -1,12 +1,19 @@
 -- Division rounded down and up.
-use Rattle.std.proofs.Common.{◌≡◌, ℕ, zero, suc, ◌+◌, ◌*◌, ◌/◌, ◌<◌, ◌≤◌, arith, refl, ap, ◌∙◌, [], ◌∷◌, ℤ, pos, negsuc, ◌+ℤ◌, ◌-ℤ◌, ◌*ℤ◌, neg_ℤ, ◌≤ℤ◌, ◌<ℤ◌, ◌&&◌, true, unsigned_abs}
+use Rattle.std.proofs.Common.{◌≡◌, ℕ, zero, suc, ◌+◌, ◌*◌, ◌/◌, ◌<◌, ◌≤◌, arith, refl, ap, ◌∙◌, [], ◌∷◌, ℤ, pos, negsuc, ◌+ℤ◌, ◌-ℤ◌, ◌*ℤ◌, neg_ℤ, ◌≤ℤ◌, ◌<ℤ◌, unsigned_abs}
 use Rattle.std.proofs.lemmas.Int.{ints, by_lt_z}
 use Rattle.std.proofs.Math.Nat.{div-div-eq-div-mul, div-mul-le_self, lt-div-mul-add, div-lt_iff_lt-mul}
 use Rattle.std.proofs.Math.IntN.{neg_ℤ-neg_ℤ}
-use Rattle.spec_intervals.specs.Interval.{end_limit, floor_div, ceil_div, is_small}
-use Rattle.spec_intervals.proofs.Ring.{v, ◌⊕◌, ◌⊗◌, ring, minus}
-use Rattle.spec_intervals.proofs.Order.{lin, le-mul, le-mul_cancel}
-use Rattle.std.proofs.lemmas.Bool.Decides.{nat_tests}
+use Rattle.spec_numbers.specs.Numbers.{floor_div, ceil_div}
+use Rattle.spec_numbers.proofs.Ring.{v, ◌⊕◌, ◌⊗◌, ring, minus}
+use Rattle.spec_numbers.proofs.Order.{lin, le-mul_cancel, lt-mul_cancel}
+use Rattle.spec_numbers.proofs.Sizes.{unsigned_abs-neg}
+
+pub floor_div-one : (z : ℤ) → floor_div z 1 ≡ z
+floor_div-one (pos n) = ap pos (omega arith)
+floor_div-one (negsuc n) = ap negsuc (omega arith)
+
+pub ceil_div-one : (z : ℤ) → ceil_div z 1 ≡ z
+ceil_div-one z = ap neg_ℤ (floor_div-one (neg_ℤ z)) ∙ neg_ℤ-neg_ℤ z
 
 pub floor_div-twice : (z : ℤ) (d e : ℕ) → floor_div (floor_div z d) e ≡ floor_div z (d * e)
 floor_div-twice (pos n) d e = ap pos (div-div-eq-div-mul n d e)
@@ -41,19 +48,8 @@ pub floor_div-small : (z : ℤ) (d m : ℕ) → 0 < d → unsigned_abs z ≤ m *
 floor_div-small (pos n) d m p h = let q : n / d < suc m = (div-lt_iff_lt-mul p).1 (omega arith) in omega arith
 floor_div-small (negsuc n) d m p h = let q : n / d < m = (div-lt_iff_lt-mul p).1 (omega arith) in omega arith
 
-pub unsigned_abs-neg : (z : ℤ) → unsigned_abs (neg_ℤ z) ≡ unsigned_abs z
-unsigned_abs-neg (pos zero) = refl
-unsigned_abs-neg (pos (suc n)) = refl
-unsigned_abs-neg (negsuc n) = refl
-
 pub ceil_div-small : (z : ℤ) (d m : ℕ) → 0 < d → unsigned_abs z ≤ m * d → unsigned_abs (ceil_div z d) ≤ m
 ceil_div-small z d m p h = rw unsigned_abs-neg (floor_div-small (neg_ℤ z) d m p (rw unsigned_abs-neg h))
-
-pub is_small-from : (z : ℤ) → unsigned_abs z ≤ end_limit → is_small z ≡ true
-is_small-from z h = grind (arith, nat_tests)
-
-pub is_small-both : (x y : ℤ) → (is_small x && is_small y) ≡ true → (unsigned_abs x ≤ end_limit) × (unsigned_abs y ≤ end_limit)
-is_small-both x y t = grind (arith, nat_tests)
 
 -- ends in order stay in order
 pub ordered_quotients : (lo hi : ℤ) (d : ℕ) → 0 < d → lo ≤ℤ hi → floor_div lo d ≤ℤ ceil_div hi d
@@ -63,14 +59,11 @@ ordered_quotients lo hi d p h =
     le-mul_cancel (floor_div lo d) (ceil_div hi d) d p (omega (arith, lin))
 
 -- the quotient rounded up is that rounded down where nothing is left, and else the next
-ceil_div-lt : (z : ℤ) (d : ℕ) → 0 < d → (ceil_div z d *ℤ pos d) <ℤ (z +ℤ pos d)
+pub ceil_div-lt : (z : ℤ) (d : ℕ) → 0 < d → (ceil_div z d *ℤ pos d) <ℤ (z +ℤ pos d)
 ceil_div-lt z d h =
     let p : neg_ℤ z <ℤ (floor_div (neg_ℤ z) d *ℤ pos d +ℤ pos d) = floor_div-lt (neg_ℤ z) d h in
     let e : neg_ℤ (floor_div (neg_ℤ z) d) *ℤ pos d ≡ neg_ℤ (floor_div (neg_ℤ z) d *ℤ pos d) = ring (floor_div (neg_ℤ z) d ∷ pos d ∷ []) (minus (v 0) ⊗ v 1) (minus (v 0 ⊗ v 1)) tt in
     rw e (omega (arith, lin))
-
-lt-mul_cancel : (a b : ℤ) (d : ℕ) → (a *ℤ pos d) <ℤ (b *ℤ pos d) → a <ℤ b
-lt-mul_cancel a b d h = by_lt_z a b (λ p. p) (λ q. let g : (b *ℤ pos d) ≤ℤ (a *ℤ pos d) = le-mul b a (pos d) (omega (arith, lin)) q in absurd (omega (arith, lin)))
 
 more : (a : ℤ) (k d : ℕ) → (a +ℤ pos k) *ℤ pos d ≡ a *ℤ pos d +ℤ pos (k * d)
 more a k d = ring (a ∷ pos k ∷ pos d ∷ []) ((v 0 ⊕ v 1) ⊗ v 2) (v 0 ⊗ v 2 ⊕ v 1 ⊗ v 2) tt

@@ -13,8 +13,3 @@ abbrev pub cleared_u : ℤ → ℤ → ℕ → ℤ
 cleared_u u l zero = pos 1
 cleared_u u l (suc zero) = pos 2 *ℤ u
 cleared_u u l (suc (suc k)) = pos 2 *ℤ u *ℤ cleared_u u l (suc k) -ℤ l *ℤ l *ℤ cleared_u u l k
-
--- z^n
-abbrev pub power : ℤ → ℕ → ℤ
-power z zero = pos 1
-power z (suc n) = z *ℤ power z n

@@ -3,8 +3,8 @@ ghost use Rattle.std.specs.Prelude.{◌≡◌, ◌≤◌, ◌<◌, ◌*◌, ◌^
 ghost use Rattle.spec_intervals.specs.Interval.{IsDistance};
 ghost use Rattle.spec_chebyshev.specs.Rows.{EndsWithin};
 ghost use Rattle.spec_ephemeris.specs.Ephemeris.{IsBodyNumber};
-ghost use Rattle.spec_enclosures.specs.Sums.{coefficient};
-ghost use Rattle.spec_enclosures.specs.Enclosures.{coefficients_of};
+ghost use Rattle.spec_motions.specs.Sums.{coefficient};
+ghost use Rattle.spec_motions.specs.Enclosures.{coefficients_of};
 ghost use Rattle.cheby_enclose.specs.Granules.{IsEvaluable, series_of};
 ghost use Rattle.cheby_enclose.specs.Rows.{AreTerms};
 

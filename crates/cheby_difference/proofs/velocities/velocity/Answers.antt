@@ -1,8 +1,8 @@
 use Rattle.std.proofs.Common.{rules, ◌≡◌, ◌∙◌, w64, unsigned_abs}
 use Rattle.std.proofs.lemmas.Int.{to_z-of_z}
 use mir.Val.{SFits}
-use Rattle.spec_enclosures.specs.Enclosures.{velocity_over, velocity_interval, arguments}
-use Rattle.spec_enclosures.proofs.HeldChanges.{Holds-velocity}
+use Rattle.spec_motions.specs.Enclosures.{velocity_over, velocity_interval, arguments}
+use Rattle.spec_motions.proofs.HeldChanges.{Holds-velocity}
 use Rattle.cheby_enclose.specs.Granules.{series_of}
 use Rattle.cheby_enclose.proofs.GranuleSeries.{IsSeries-of, IsSpan-of}
 use Rattle.cheby_difference.proofs.velocities.velocity.Goals as goal

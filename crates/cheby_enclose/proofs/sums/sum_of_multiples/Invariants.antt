@@ -1,6 +1,6 @@
 use Rattle.std.proofs.Common.{◌≡◌, ◌≤◌, length, drop, max, ◌+ℤ◌, unsigned_abs}
 use Rattle.spec_chebyshev.specs.Rows.{entry}
-use Rattle.spec_enclosures.specs.Sums.{multiples, sum_low, sum_high}
+use Rattle.spec_motions.specs.Sums.{multiples, sum_low, sum_high}
 use Rattle.cheby_enclose.specs.Rows.{slope_sizes, entry_size}
 use Rattle.cheby_enclose.proofs.sums.sum_of_multiples.Given as goal
 

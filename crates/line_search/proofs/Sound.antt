@@ -4,10 +4,11 @@ use Rattle.std.proofs.lemmas.Int.{ints}
 use Rattle.spec_intervals.specs.declared.signs.Sign.{Sign}
 use Rattle.spec_ephemeris.specs.Series.{Series}
 use Rattle.spec_ephemeris.specs.Ephemeris.{IsLine}
-use Rattle.spec_events.specs.declared.tree.Node.{Node}
-use Rattle.spec_events.specs.declared.tree.Verdict.TheVariants as V
-use Rattle.spec_events.specs.Tree.{IsValid, IsSound, IsCut}
-use Rattle.spec_events.specs.LineSearch.{rules, verdict_by, is_wide, root, sign_on, slope_sign}
+use Rattle.spec_trees.specs.declared.tree.Node.{Node}
+use Rattle.spec_trees.specs.declared.tree.Verdict.TheVariants as V
+use Rattle.spec_trees.specs.Tree.{IsValid, IsSound, IsCut}
+use Rattle.spec_events.specs.LineSearch.{rules, verdict_by, root, sign_on, slope_sign}
+use Rattle.spec_trees.specs.Cuts.{is_wide}
 
 -- what is split is wide
 split_is_wide : (wide : Bool) (whole at_a at_b slope : Sign) → verdict_by wide whole at_a at_b slope ≡ V.Split → wide ≡ true

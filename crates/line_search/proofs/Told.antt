@@ -5,16 +5,17 @@ use Rattle.spec_intervals.specs.declared.signs.Sign.{Sign}
 use Rattle.spec_intervals.specs.declared.signs.Sign.TheVariants.{Yes, No, Open}
 use Rattle.spec_ephemeris.specs.Series.{Series, position, scaled, argument_at}
 use Rattle.spec_ephemeris.specs.Ephemeris.{IsLine}
-use Rattle.spec_events.specs.declared.tree.Node.{Node}
-use Rattle.spec_events.specs.declared.tree.Turn.{Turn}
-use Rattle.spec_events.specs.declared.tree.Turn.TheVariants.{Rise, Fall}
-use Rattle.spec_events.specs.declared.tree.Mark.{Mark}
-use Rattle.spec_events.specs.declared.tree.Mark.TheVariants as M
-use Rattle.spec_events.specs.declared.tree.Verdict.TheVariants as V
+use Rattle.spec_trees.specs.declared.tree.Node.{Node}
+use Rattle.spec_trees.specs.declared.tree.Turn.{Turn}
+use Rattle.spec_trees.specs.declared.tree.Turn.TheVariants.{Rise, Fall}
+use Rattle.spec_trees.specs.declared.tree.Mark.{Mark}
+use Rattle.spec_trees.specs.declared.tree.Mark.TheVariants as M
+use Rattle.spec_trees.specs.declared.tree.Verdict.TheVariants as V
 use Rattle.spec_events.specs.Events.{IsEvent, IsTurn}
-use Rattle.spec_events.specs.Tree.{mark_of}
-use Rattle.spec_events.specs.Windows.{Told}
-use Rattle.spec_events.specs.LineSearch.{IsUp, IsLeftOpen, verdict_by, verdict, is_wide, sign_on, slope_sign}
+use Rattle.spec_trees.specs.Tree.{mark_of}
+use Rattle.spec_events.specs.Marks.{IsRightMark as Told}
+use Rattle.spec_events.specs.LineSearch.{IsUp, IsLeftOpen, verdict_by, verdict, sign_on, slope_sign}
+use Rattle.spec_trees.specs.Cuts.{is_wide}
 use Rattle.spec_events.proofs.Range.{at_time}
 use Rattle.spec_events.proofs.Signed.{yes_up, no_down, apart}
 use Rattle.spec_events.proofs.Lines.{at_least, below}

@@ -9,14 +9,14 @@ use Rattle.spec_intervals.specs.Signs.{sign_of}
 use Rattle.spec_chebyshev.specs.declared.ends.Ival62.{Ival62}
 use Rattle.spec_chebyshev.specs.Rows.{argument_of}
 use Rattle.spec_ephemeris.specs.Series.{Series, argument_at, position}
-use Rattle.spec_events.specs.declared.tree.Node.{Node}
-use Rattle.spec_events.specs.declared.tree.Turn.{Turn}
-use Rattle.spec_events.specs.declared.tree.Turn.TheVariants.{Rise, Fall}
-use Rattle.spec_events.specs.declared.tree.Verdict.{Verdict}
-use Rattle.spec_events.specs.declared.tree.Verdict.TheVariants.{Clear, One, Split, Undecided}
-use Rattle.spec_events.specs.declared.window.Window.{Window}
-use Rattle.spec_events.specs.Tree.{Rules, leaves}
-use Rattle.spec_events.specs.Windows.{windows}
+use Rattle.spec_trees.specs.declared.tree.Node.{Node}
+use Rattle.spec_trees.specs.declared.tree.Turn.{Turn}
+use Rattle.spec_trees.specs.declared.tree.Turn.TheVariants.{Rise, Fall}
+use Rattle.spec_trees.specs.declared.tree.Verdict.{Verdict}
+use Rattle.spec_trees.specs.declared.tree.Verdict.TheVariants.{Clear, One, Split, Undecided}
+use Rattle.spec_trees.specs.declared.window.Window.{Window}
+use Rattle.spec_trees.specs.Tree.{Rules, leaves}
+use Rattle.spec_trees.specs.Windows.{windows}
 
 -- the coordinate is at least 0
 abbrev pub IsUp : Series → ℤ → Type 0

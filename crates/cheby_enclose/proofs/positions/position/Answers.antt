@@ -1,5 +1,5 @@
 use Rattle.std.proofs.Common.{◌≡◌, ◌∙◌, ℤ, subst, arith}
-use Rattle.spec_intervals.proofs.Order.{lin}
+use Rattle.spec_numbers.proofs.Order.{lin}
 use Rattle.std.proofs.lemmas.Int.{to_z-of_z}
 use Rattle.spec_motions.specs.Enclosures.{IsTight, position_over, position_interval, arguments}
 use Rattle.spec_motions.proofs.HeldSpans.{Holds-position}

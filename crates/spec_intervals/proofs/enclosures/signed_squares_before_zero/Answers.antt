@@ -1,5 +1,5 @@
-use Rattle.spec_expressions.proofs.ExampleRows.{square_row, holds-first, holds-last, holds-first_change, holds-second_change}
-use Rattle.spec_expressions.proofs.examples.signed_squares.Goals as goal
+use Rattle.spec_intervals.proofs.ExampleRows.{square_row, holds-first, holds-last, holds-first_change, holds-second_change}
+use Rattle.spec_intervals.proofs.enclosures.signed_squares_before_zero.Goals as goal
 
 pub returns-clause-enclosed : goal.returns-clause-enclosed
 returns-clause-enclosed c = square_row

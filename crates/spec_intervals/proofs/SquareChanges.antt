@@ -5,29 +5,22 @@ use Rattle.std.proofs.Math.Nat.{mul-le-mul_right}
 use borrow.Author.Differences.{up, down}
 use Rattle.spec_numbers.proofs.Ring.{v, ◌⊕◌, ◌⊖◌, ◌⊗◌, ring}
 use Rattle.spec_numbers.proofs.Order.{lin}
-use Rattle.spec_numbers.proofs.Sizes.{unsigned_abs-neg}
+use Rattle.spec_numbers.proofs.Sizes.{scaled_size}
 use Rattle.spec_intervals.proofs.Narrow.{Holds-narrow}
 use Rattle.spec_intervals.proofs.Products.{Holds-product}
-use Rattle.spec_intervals.proofs.Squares.{signed_sq-le}
+use Rattle.spec_intervals.proofs.Squares.{signed_sq-le, signed_sq-scaled}
 use Rattle.spec_intervals.proofs.Sums.{sum_high}
 use Rattle.spec_intervals.specs.Fraction.{Fraction, IsFraction, Holds, AtMost, AtLeast, fraction, fraction_add, fraction_sub, fraction_mul, fraction_signed_square}
 use Rattle.spec_intervals.specs.Interval.{Interval, product, signed_sq}
-use Rattle.spec_expressions.specs.Enclosure.{twice_size}
-use Rattle.spec_expressions.proofs.Compare.{Holds-between, fraction_le-signs, fraction_le-over, IsFraction-mul}
+use Rattle.spec_intervals.specs.Enclosure.{twice_size}
+use Rattle.spec_intervals.proofs.Compare.{Holds-between, fraction_le-signs, fraction_le-over}
+use Rattle.spec_numbers.proofs.Naturals.{positive_product}
 
 abbrev fraction_zero : Fraction
 fraction_zero = fraction (pos 0) 1
 
 abbrev fraction_abs : Fraction → Fraction
 fraction_abs r = fraction (pos (unsigned_abs r.numerator)) r.denominator
-
-size-scaled : (z : ℤ) (n : ℕ) → unsigned_abs (z *ℤ pos n) ≡ unsigned_abs z * n
-size-scaled (pos m) n = refl
-size-scaled (negsuc m) n = unsigned_abs-neg (pos (suc m * n))
-
-signed_sq-scaled : (z : ℤ) (n : ℕ) → signed_sq (z *ℤ pos n) ≡ signed_sq z *ℤ pos (n * n)
-signed_sq-scaled z n =
-    ap (λ m. z *ℤ pos n *ℤ pos m) (size-scaled z n) ∙ ring (z ∷ pos n ∷ pos (unsigned_abs z) ∷ []) (v 0 ⊗ v 1 ⊗ (v 2 ⊗ v 1)) (v 0 ⊗ v 2 ⊗ (v 1 ⊗ v 1)) tt
 
 -- ---- the change of the signed square
 -- p|p| - q|q| lies between 0 and (|p| + |q|)(p - q)
@@ -48,9 +41,9 @@ larger a b n = (mul-le-mul_right n (omega arith), mul-le-mul_right n (omega arit
 
 pub Holds-size : (t : Interval) (r : Fraction) → Holds t r → AtLeast (pos (max (unsigned_abs t.lo) (unsigned_abs t.hi))) t.s (fraction_abs r)
 Holds-size t r h =
-    let a = size-scaled r.numerator (2 ^ down t.s) in
-    let b = size-scaled t.lo (2 ^ up t.s * r.denominator) in
-    let c = size-scaled t.hi (2 ^ up t.s * r.denominator) in
+    let a = scaled_size r.numerator (2 ^ down t.s) in
+    let b = scaled_size t.lo (2 ^ up t.s * r.denominator) in
+    let c = scaled_size t.hi (2 ^ up t.s * r.denominator) in
     let l = larger (unsigned_abs t.lo) (unsigned_abs t.hi) (2 ^ up t.s * r.denominator) in
     let w : unsigned_abs (r.numerator *ℤ pos (2 ^ down t.s)) ≤ max (unsigned_abs t.lo) (unsigned_abs t.hi) * (2 ^ up t.s * r.denominator) = between_size (t.lo *ℤ pos (2 ^ up t.s * r.denominator)) (r.numerator *ℤ pos (2 ^ down t.s)) (t.hi *ℤ pos (2 ^ up t.s * r.denominator)) (max (unsigned_abs t.lo) (unsigned_abs t.hi) * (2 ^ up t.s * r.denominator)) h.low h.high (rw b l.0) (rw c l.1) in
     let w' : unsigned_abs r.numerator * 2 ^ down t.s ≤ max (unsigned_abs t.lo) (unsigned_abs t.hi) * (2 ^ up t.s * r.denominator) = rw a at w in
@@ -106,8 +99,8 @@ module _ (range step : Interval) (f g : Fraction) (pf : IsFraction f) (pg : IsFr
 
   whole_is : whole.numerator ≡ wanted.numerator +ℤ (pos (unsigned_abs q) *ℤ p -ℤ pos (unsigned_abs p) *ℤ q)
   whole_is =
-      let a = size-scaled g.numerator f.denominator in
-      let b = size-scaled f.numerator g.denominator in
+      let a = scaled_size g.numerator f.denominator in
+      let b = scaled_size f.numerator g.denominator in
       let e : (pos (unsigned_abs p) +ℤ pos (unsigned_abs q)) *ℤ (p -ℤ q) ≡ (p *ℤ pos (unsigned_abs p) -ℤ q *ℤ pos (unsigned_abs q)) +ℤ (pos (unsigned_abs q) *ℤ p -ℤ pos (unsigned_abs p) *ℤ q) = spread p q (pos (unsigned_abs p)) (pos (unsigned_abs q)) in
       let c : whole.numerator ≡ (pos (unsigned_abs p) +ℤ pos (unsigned_abs q)) *ℤ (p -ℤ q) = ap (λ n. pos n *ℤ (p -ℤ q)) (rw (a, b)) in
       rw wanted_is (c ∙ e)
@@ -119,10 +112,10 @@ module _ (range step : Interval) (f g : Fraction) (pf : IsFraction f) (pg : IsFr
   none_num = omega (arith, ints)
 
   none_is : IsFraction none
-  none_is = IsFraction-mul 1 (g.denominator * f.denominator) (omega arith) (IsFraction-mul g.denominator f.denominator pg pf)
+  none_is = positive_product 1 (g.denominator * f.denominator) (omega arith) (positive_product g.denominator f.denominator pg pf)
 
   whole_real : IsFraction whole
-  whole_real = IsFraction-mul (g.denominator * f.denominator) (g.denominator * f.denominator) (IsFraction-mul g.denominator f.denominator pg pf) (IsFraction-mul g.denominator f.denominator pg pf)
+  whole_real = positive_product (g.denominator * f.denominator) (g.denominator * f.denominator) (positive_product g.denominator f.denominator pg pf) (positive_product g.denominator f.denominator pg pf)
 
   pub Holds-square_step : Holds (product (twice_size range) step) wanted
   Holds-square_step = by (le_cases q p)

@@ -1,6 +1,6 @@
-use Rattle.spec_expressions.proofs.Centred.{Holds-centred}
-use Rattle.spec_expressions.proofs.Enclosed.{IsEnclosure-parts}
-use Rattle.spec_expressions.proofs.laws.parts_are_enclosed.Goals as goal
+use Rattle.spec_intervals.proofs.Centred.{Holds-centred}
+use Rattle.spec_intervals.proofs.Enclosed.{IsEnclosure-parts}
+use Rattle.spec_intervals.proofs.enclosures.parts_are_enclosed.Goals as goal
 
 pub returns-clause-centred : goal.returns-clause-centred
 returns-clause-centred c = Holds-centred

@@ -1,39 +1,32 @@
 -- Comparing fractions of different denominators: what an interval holds between two values, and equal values.
-use Rattle.std.proofs.Common.{◌≡◌, ℕ, ◌*◌, ◌^◌, ◌<◌, arith, [], ◌∷◌, ℤ, pos, ◌*ℤ◌, ◌≤ℤ◌}
+use Rattle.std.proofs.Common.{◌≡◌, ◌*◌, ◌^◌, arith, ℤ, pos, ◌*ℤ◌, ◌≤ℤ◌}
 use Rattle.std.proofs.lemmas.Int.{ints}
 use borrow.Author.Differences.{up, down}
-use Rattle.spec_numbers.proofs.Ring.{v, ◌⊗◌, ring}
+use Rattle.spec_numbers.proofs.Integers.{exchanged_inner, exchanged_scales}
 use Rattle.spec_numbers.proofs.Order.{lin, le-mul, le-mul_cancel}
 use Rattle.spec_intervals.specs.Fraction.{Fraction, IsFraction, Holds, AtMost, AtLeast}
-use Rattle.spec_intervals.specs.Interval.{Interval}
-use Rattle.spec_expressions.specs.Enclosure.{zero_interval}
+use Rattle.spec_intervals.specs.Interval.{Interval, zero_interval}
 
 -- a <= b, with nothing divided
 abbrev pub fraction_le : Fraction → Fraction → Type 0
 fraction_le a b = (a.numerator *ℤ pos b.denominator) ≤ℤ (b.numerator *ℤ pos a.denominator)
 
-swap : (z : ℤ) (u p q : ℕ) → z *ℤ pos (u * p) *ℤ pos q ≡ z *ℤ pos (u * q) *ℤ pos p
-swap z u p q = ring (z ∷ pos u ∷ pos p ∷ pos q ∷ []) (v 0 ⊗ (v 1 ⊗ v 2) ⊗ v 3) (v 0 ⊗ (v 1 ⊗ v 3) ⊗ v 2) tt
-
-turn : (n : ℤ) (d p : ℕ) → n *ℤ pos d *ℤ pos p ≡ n *ℤ pos p *ℤ pos d
-turn n d p = ring (n ∷ pos d ∷ pos p ∷ []) (v 0 ⊗ v 1 ⊗ v 2) (v 0 ⊗ v 2 ⊗ v 1) tt
-
 pub AtMost-le : (z s : ℤ) (a b : Fraction) → IsFraction a → fraction_le a b → AtMost z s a → AtMost z s b
 AtMost-le z s a b p h g =
     let x : (z *ℤ pos (2 ^ up s * a.denominator) *ℤ pos b.denominator) ≤ℤ (a.numerator *ℤ pos (2 ^ down s) *ℤ pos b.denominator) = le-mul (z *ℤ pos (2 ^ up s * a.denominator)) (a.numerator *ℤ pos (2 ^ down s)) (pos b.denominator) (omega (arith, lin)) g in
     let y : (a.numerator *ℤ pos b.denominator *ℤ pos (2 ^ down s)) ≤ℤ (b.numerator *ℤ pos a.denominator *ℤ pos (2 ^ down s)) = le-mul (a.numerator *ℤ pos b.denominator) (b.numerator *ℤ pos a.denominator) (pos (2 ^ down s)) (omega (arith, lin)) h in
-    let e = swap z (2 ^ up s) a.denominator b.denominator in
-    let f = turn a.numerator (2 ^ down s) b.denominator in
-    let g' = turn b.numerator a.denominator (2 ^ down s) in
+    let e = exchanged_inner z (2 ^ up s) a.denominator b.denominator in
+    let f = exchanged_scales a.numerator (2 ^ down s) b.denominator in
+    let g' = exchanged_scales b.numerator a.denominator (2 ^ down s) in
     le-mul_cancel (z *ℤ pos (2 ^ up s * b.denominator)) (b.numerator *ℤ pos (2 ^ down s)) a.denominator p (omega (arith, lin))
 
 pub AtLeast-le : (z s : ℤ) (a b : Fraction) → IsFraction b → fraction_le a b → AtLeast z s b → AtLeast z s a
 AtLeast-le z s a b p h g =
     let x : (b.numerator *ℤ pos (2 ^ down s) *ℤ pos a.denominator) ≤ℤ (z *ℤ pos (2 ^ up s * b.denominator) *ℤ pos a.denominator) = le-mul (b.numerator *ℤ pos (2 ^ down s)) (z *ℤ pos (2 ^ up s * b.denominator)) (pos a.denominator) (omega (arith, lin)) g in
     let y : (a.numerator *ℤ pos b.denominator *ℤ pos (2 ^ down s)) ≤ℤ (b.numerator *ℤ pos a.denominator *ℤ pos (2 ^ down s)) = le-mul (a.numerator *ℤ pos b.denominator) (b.numerator *ℤ pos a.denominator) (pos (2 ^ down s)) (omega (arith, lin)) h in
-    let e = swap z (2 ^ up s) b.denominator a.denominator in
-    let f = turn b.numerator (2 ^ down s) a.denominator in
-    let g' = turn a.numerator b.denominator (2 ^ down s) in
+    let e = exchanged_inner z (2 ^ up s) b.denominator a.denominator in
+    let f = exchanged_scales b.numerator (2 ^ down s) a.denominator in
+    let g' = exchanged_scales a.numerator b.denominator (2 ^ down s) in
     le-mul_cancel (a.numerator *ℤ pos (2 ^ down s)) (z *ℤ pos (2 ^ up s * a.denominator)) b.denominator p (omega (arith, lin))
 
 -- an interval holds what lies between two values that it holds
@@ -53,9 +46,6 @@ AtMost-less w z s r h g =
 pub AtLeast-more : (z w s : ℤ) (r : Fraction) → z ≤ℤ w → AtLeast z s r → AtLeast w s r
 AtLeast-more z w s r h g =
     let x : (z *ℤ pos (2 ^ up s * r.denominator)) ≤ℤ (w *ℤ pos (2 ^ up s * r.denominator)) = le-mul z w (pos (2 ^ up s * r.denominator)) (omega (arith, lin)) h in omega (arith, lin)
-
-pub IsFraction-mul : (a b : ℕ) → 0 < a → 0 < b → 0 < a * b
-IsFraction-mul a b p q = grind arith
 
 pub fraction_le-signs : (a b : Fraction) → a.numerator ≤ℤ pos 0 → pos 0 ≤ℤ b.numerator → fraction_le a b
 fraction_le-signs a b h g =

@@ -2,7 +2,7 @@
 -- Times are whole numbers of units, and the step is the change over one unit.
 use Rattle.std.specs.Prelude.{ℕ, ◌*◌, ◌^◌, ◌≤◌, max, if◌then◌else◌, ◌≤ℤ◌, ◌<ℤ◌, ℤ, pos, ◌+ℤ◌, ◌-ℤ◌, unsigned_abs}
 use lib.Signed.{lt_z}
-use Rattle.spec_intervals.specs.Interval.{Interval, interval, end_limit, narrow, sum, difference, product, meet, signed_square}
+use Rattle.spec_intervals.specs.Interval.{Interval, interval, zero_interval, end_limit, narrow, sum, difference, product, meet, signed_square}
 use Rattle.spec_numbers.specs.Numbers.{floor_div}
 use Rattle.spec_intervals.specs.Fraction.{Fraction, IsFraction, Holds, fraction_sub}
 
@@ -11,9 +11,6 @@ pub record Enclosure : Type 0 where
   pub mid : Interval
   pub range : Interval
   pub step : Interval
-
-abbrev pub zero_interval : Interval
-zero_interval = interval (pos 0) (pos 0) (pos 0)
 
 abbrev pub middle : ℤ → ℤ → ℤ
 middle a b = floor_div (a +ℤ b) 2
@@ -63,13 +60,6 @@ pub record AllWithin (n : ℕ) (e : Enclosure) : Type 0 where
   pub mid : IsWithin n e.mid
   pub range : IsWithin n e.range
   pub step : IsWithin n e.step
-
--- the greatest exponents of the leaves and of every part of a formula's enclosure
-abbrev pub leaf_exponent : ℕ
-leaf_exponent = 1024
-
-abbrev pub part_exponent : ℕ
-part_exponent = 24000
 
 -- ---- an enclosure from its parts
 -- the times of [a, b] as seen from the middle

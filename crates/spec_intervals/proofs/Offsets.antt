@@ -1,25 +1,18 @@
--- The offsets of a span are small, so narrowing leaves them as they are.
-use Rattle.std.proofs.Common.{◌&&◌, ◌≡◌, ◌≤◌, arith, refl, ap, ◌∙◌, ℤ, pos, negsuc, zero, suc, ◌+ℤ◌, ◌-ℤ◌, neg_ℤ, true, unsigned_abs}
+-- The times of a span as seen from its middle are small, so narrowing leaves them as they are.
+use Rattle.std.proofs.Common.{◌&&◌, ◌≡◌, ◌≤◌, arith, refl, ◌∙◌, ℤ, pos, negsuc, zero, suc, ◌+ℤ◌, ◌-ℤ◌, ◌≤ℤ◌, true, unsigned_abs}
 use Rattle.std.proofs.lemmas.Bool.Decides.{nat_tests}
-use Rattle.std.proofs.Math.Nat.{div-one}
+use Rattle.std.proofs.lemmas.Int.{ints}
 use Rattle.spec_intervals.specs.Interval.{interval, end_limit, is_small, fits_after, settled, narrow_by, narrow}
-use Rattle.spec_numbers.specs.Numbers.{floor_div, ceil_div}
 use Rattle.spec_numbers.proofs.Order.{lin}
 use Rattle.spec_intervals.proofs.Narrow.{narrow-is}
-use Rattle.spec_expressions.specs.Enclosure.{IsSpan, offsets, middle}
-use Rattle.spec_expressions.proofs.Reach.{offsets-within}
-
-pub floor_one : (z : ℤ) → floor_div z 1 ≡ z
-floor_one (pos n) = ap pos (div-one n)
-floor_one (negsuc n) = ap negsuc (div-one n)
-
-pub ceil_one : (z : ℤ) → ceil_div z 1 ≡ z
-ceil_one z = ap neg_ℤ (floor_one (neg_ℤ z)) ∙ omega (arith, lin)
+use Rattle.spec_numbers.proofs.Floor.{floor_div-one, ceil_div-one}
+use Rattle.spec_intervals.specs.Enclosure.{IsSpan, IsWithin, time_limit, offsets, middle}
+use Rattle.spec_intervals.proofs.Centred.{middle_between}
 
 small-test : (a b : ℤ) → unsigned_abs a ≤ end_limit → unsigned_abs b ≤ end_limit → fits_after 0 a b ≡ true
 small-test a b p q =
-    let e = floor_one a in
-    let f = ceil_one b in
+    let e = floor_div-one a in
+    let f = ceil_div-one b in
     rw (e, f) (test a b p q)
   where
     test : (a b : ℤ) → unsigned_abs a ≤ end_limit → unsigned_abs b ≤ end_limit → (is_small a && is_small b) ≡ true
@@ -29,7 +22,7 @@ pub narrow-small : (lo hi s : ℤ) → unsigned_abs lo ≤ end_limit → unsigne
 unfolding narrow_by
 narrow-small lo hi s p q =
     let e : s +ℤ pos 0 ≡ s = omega (arith, lin) in
-    narrow-is 0 lo hi s (small-test lo hi p q) (λ j h. absurd (omega arith)) ∙ rw (floor_one lo, ceil_one hi, e)
+    narrow-is 0 lo hi s (small-test lo hi p q) (λ j h. absurd (omega arith)) ∙ rw (floor_div-one lo, ceil_div-one hi, e)
 
 settled-stays : (lo hi : ℤ) → settled lo hi (pos 0) ≡ interval lo hi (pos 0)
 unfolding settled
@@ -38,6 +31,17 @@ settled-stays (pos zero) (pos (suc n)) = refl
 settled-stays (pos zero) (negsuc n) = refl
 settled-stays (pos (suc n)) hi = refl
 settled-stays (negsuc n) hi = refl
+
+pub offsets-within : (a b : ℤ) → IsSpan a b → IsWithin 0 (offsets a b)
+offsets-within a b s =
+    let w = middle_between a b s.ordered in
+    record { lo_small = near a (middle a b) b s.first_near s.last_near w.0 w.1; hi_small = near' a (middle a b) b s.first_near s.last_near w.0 w.1; exponent = omega arith }
+  where
+    near : (a m b : ℤ) → unsigned_abs a ≤ time_limit → unsigned_abs b ≤ time_limit → a ≤ℤ m → m ≤ℤ b → unsigned_abs (a -ℤ m) ≤ end_limit
+    near a m b p q r s = omega (arith, ints)
+
+    near' : (a m b : ℤ) → unsigned_abs a ≤ time_limit → unsigned_abs b ≤ time_limit → a ≤ℤ m → m ≤ℤ b → unsigned_abs (b -ℤ m) ≤ end_limit
+    near' a m b p q r s = omega (arith, ints)
 
 pub offsets-narrow : (a b : ℤ) → IsSpan a b → narrow (a -ℤ middle a b) (b -ℤ middle a b) (pos 0) ≡ offsets a b
 offsets-narrow a b s =

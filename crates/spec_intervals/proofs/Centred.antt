@@ -1,15 +1,17 @@
--- The change over many seconds, and the centred form.
+-- The change over many times, and the centred form.
 use Rattle.std.proofs.Common.{◌≡◌, ℕ, zero, suc, ◌*◌, ◌^◌, arith, refl, sym, ap, subst, ◌∙◌, [], ◌∷◌, ℤ, pos, negsuc, ◌+ℤ◌, ◌-ℤ◌, ◌*ℤ◌, neg_ℤ, ◌≤ℤ◌, ◌<ℤ◌, ◌⊎◌, inl, inr}
 use Rattle.std.proofs.lemmas.Int.{ints}
 use borrow.Author.Differences.{up, down}
 use Rattle.spec_numbers.proofs.Ring.{v, k as lit, ◌⊕◌, ◌⊖◌, ◌⊗◌, minus, ring}
+use Rattle.spec_numbers.proofs.Whole.{mul_comm}
 use Rattle.spec_numbers.proofs.Order.{lin}
 use Rattle.spec_intervals.specs.Fraction.{Fraction, IsFraction, Holds, AtMost, AtLeast, fraction_add, fraction_sub}
 use Rattle.spec_intervals.proofs.Narrow.{Holds-narrow}
 use Rattle.spec_intervals.specs.Interval.{Interval, least4, greatest4, product, sum}
-use Rattle.spec_expressions.specs.Enclosure.{AllFractions, change, middle, centred}
+use Rattle.spec_intervals.specs.Enclosure.{AllFractions, change, middle, centred}
 use Rattle.spec_numbers.proofs.Floor.{floor_div-le, floor_div-lt}
-use Rattle.spec_expressions.proofs.Compare.{AtMost-le, AtLeast-le, AtMost-less, AtLeast-more, Holds-same, IsFraction-mul}
+use Rattle.spec_intervals.proofs.Compare.{AtMost-le, AtLeast-le, AtMost-less, AtLeast-more, Holds-same}
+use Rattle.spec_numbers.proofs.Naturals.{positive_product}
 use Rattle.spec_intervals.proofs.Sums.{sum_low, sum_high, Holds-sum}
 use Rattle.spec_intervals.proofs.Products.{least4-le, greatest4-ge}
 use Rattle.spec_numbers.proofs.Corners.{corner_low, corner_high}
@@ -28,11 +30,11 @@ back : (x y : Fraction) → (fraction_add x (fraction_sub y x)).numerator *ℤ p
 back x y =
     ring (x.numerator ∷ y.numerator ∷ pos x.denominator ∷ pos y.denominator ∷ []) ((v 0 ⊗ (v 3 ⊗ v 2) ⊕ (v 1 ⊗ v 2 ⊖ v 0 ⊗ v 3) ⊗ v 2) ⊗ v 3) (v 1 ⊗ (v 2 ⊗ (v 3 ⊗ v 2))) tt
 
-itself : (x : Fraction) → (fraction_sub x x).numerator ≡ pos 0
+pub itself : (x : Fraction) → (fraction_sub x x).numerator ≡ pos 0
 itself x = omega (arith, lin)
 
 pub IsFraction-sub : (x y : Fraction) → IsFraction x → IsFraction y → IsFraction (fraction_sub x y)
-IsFraction-sub x y p q = IsFraction-mul x.denominator y.denominator p q
+IsFraction-sub x y p q = positive_product x.denominator y.denominator p q
 
 -- equal fractions stand in for each other at one end
 pub AtMost-same : (z s : ℤ) (a b : Fraction) → IsFraction a → a.numerator *ℤ pos b.denominator ≡ b.numerator *ℤ pos a.denominator → AtMost z s a → AtMost z s b
@@ -59,7 +61,7 @@ zero_high z s r e = let a = none_of z (2 ^ up s * r.denominator) in let b = noth
 next : (t : ℤ) (k : ℕ) → (t +ℤ pos k) +ℤ pos 1 ≡ t +ℤ pos (suc k)
 next t k = omega (arith, lin)
 
--- the change over k seconds is k times a change
+-- the change over k times is k times a change
 module _ (f : ℤ → Fraction) (a b : ℤ) (fs : AllFractions f a b) (step : Interval) (h : (t : ℤ) → a ≤ℤ t → t <ℤ b → Holds step (change f t)) where
   pub run_low : (t : ℤ) (k : ℕ) → a ≤ℤ t → (t +ℤ pos k) ≤ℤ b → AtMost (pos k *ℤ step.lo) step.s (fraction_sub (f (t +ℤ pos k)) (f t))
   run_low t zero p q =
@@ -72,7 +74,7 @@ module _ (f : ℤ → Fraction) (a b : ℤ) (fs : AllFractions f a b) (step : In
       let ih : AtMost (pos k *ℤ step.lo) step.s (fraction_sub (f (t +ℤ pos k)) (f t)) = run_low t k p (omega (arith, lin)) in
       let g : AtMost step.lo step.s (fraction_sub (f (t +ℤ pos k +ℤ pos 1)) (f (t +ℤ pos k))) = (h (t +ℤ pos k) (omega (arith, lin)) (omega (arith, lin))).low in
       let w = sum_low (pos k *ℤ step.lo) step.lo step.s (fraction_sub (f (t +ℤ pos k)) (f t)) (fraction_sub (f (t +ℤ pos k +ℤ pos 1)) (f (t +ℤ pos k))) ih g in
-      let w' : AtMost (pos k *ℤ step.lo +ℤ step.lo) step.s (fraction_sub (f (t +ℤ pos k +ℤ pos 1)) (f t)) = AtMost-same (pos k *ℤ step.lo +ℤ step.lo) step.s _ (fraction_sub (f (t +ℤ pos k +ℤ pos 1)) (f t)) (IsFraction-mul _ _ (IsFraction-sub (f (t +ℤ pos k)) (f t) j i) (IsFraction-sub (f (t +ℤ pos k +ℤ pos 1)) (f (t +ℤ pos k)) n j)) (path (f t) (f (t +ℤ pos k)) (f (t +ℤ pos k +ℤ pos 1))) w in
+      let w' : AtMost (pos k *ℤ step.lo +ℤ step.lo) step.s (fraction_sub (f (t +ℤ pos k +ℤ pos 1)) (f t)) = AtMost-same (pos k *ℤ step.lo +ℤ step.lo) step.s _ (fraction_sub (f (t +ℤ pos k +ℤ pos 1)) (f t)) (positive_product _ _ (IsFraction-sub (f (t +ℤ pos k)) (f t) j i) (IsFraction-sub (f (t +ℤ pos k +ℤ pos 1)) (f (t +ℤ pos k)) n j)) (path (f t) (f (t +ℤ pos k)) (f (t +ℤ pos k +ℤ pos 1))) w in
       subst (λ x. AtMost x step.s (fraction_sub (f (t +ℤ pos (suc k))) (f t))) (more k step.lo) (subst (λ x. AtMost (pos k *ℤ step.lo +ℤ step.lo) step.s (fraction_sub (f x) (f t))) (next t k) w')
 
   pub run_high : (t : ℤ) (k : ℕ) → a ≤ℤ t → (t +ℤ pos k) ≤ℤ b → AtLeast (pos k *ℤ step.hi) step.s (fraction_sub (f (t +ℤ pos k)) (f t))
@@ -86,11 +88,8 @@ module _ (f : ℤ → Fraction) (a b : ℤ) (fs : AllFractions f a b) (step : In
       let ih : AtLeast (pos k *ℤ step.hi) step.s (fraction_sub (f (t +ℤ pos k)) (f t)) = run_high t k p (omega (arith, lin)) in
       let g : AtLeast step.hi step.s (fraction_sub (f (t +ℤ pos k +ℤ pos 1)) (f (t +ℤ pos k))) = (h (t +ℤ pos k) (omega (arith, lin)) (omega (arith, lin))).high in
       let w = sum_high (pos k *ℤ step.hi) step.hi step.s (fraction_sub (f (t +ℤ pos k)) (f t)) (fraction_sub (f (t +ℤ pos k +ℤ pos 1)) (f (t +ℤ pos k))) ih g in
-      let w' : AtLeast (pos k *ℤ step.hi +ℤ step.hi) step.s (fraction_sub (f (t +ℤ pos k +ℤ pos 1)) (f t)) = AtLeast-same (pos k *ℤ step.hi +ℤ step.hi) step.s _ (fraction_sub (f (t +ℤ pos k +ℤ pos 1)) (f t)) (IsFraction-mul _ _ (IsFraction-sub (f (t +ℤ pos k)) (f t) j i) (IsFraction-sub (f (t +ℤ pos k +ℤ pos 1)) (f (t +ℤ pos k)) n j)) (path (f t) (f (t +ℤ pos k)) (f (t +ℤ pos k +ℤ pos 1))) w in
+      let w' : AtLeast (pos k *ℤ step.hi +ℤ step.hi) step.s (fraction_sub (f (t +ℤ pos k +ℤ pos 1)) (f t)) = AtLeast-same (pos k *ℤ step.hi +ℤ step.hi) step.s _ (fraction_sub (f (t +ℤ pos k +ℤ pos 1)) (f t)) (positive_product _ _ (IsFraction-sub (f (t +ℤ pos k)) (f t) j i) (IsFraction-sub (f (t +ℤ pos k +ℤ pos 1)) (f (t +ℤ pos k)) n j)) (path (f t) (f (t +ℤ pos k)) (f (t +ℤ pos k +ℤ pos 1))) w in
       subst (λ x. AtLeast x step.s (fraction_sub (f (t +ℤ pos (suc k))) (f t))) (more k step.hi) (subst (λ x. AtLeast (pos k *ℤ step.hi +ℤ step.hi) step.s (fraction_sub (f x) (f t))) (next t k) w')
-
-commute : (a b : ℤ) → a *ℤ b ≡ b *ℤ a
-commute a b = ring (a ∷ b ∷ []) (v 0 ⊗ v 1) (v 1 ⊗ v 0) tt
 
 against : (a b : ℤ) → a *ℤ neg_ℤ b ≡ neg_ℤ (b *ℤ a)
 against a b = ring (a ∷ b ∷ []) (v 0 ⊗ minus (v 1)) (minus (v 1 ⊗ v 0)) tt
@@ -111,7 +110,7 @@ greatest_at lo hi c d y z (inr e) p q =
     let l = greatest4-ge lo hi c d in
     rw e (corner_high (greatest4 lo hi c d) hi hi c d hi y (omega (arith, lin)) (omega (arith, lin)) p q l.2 l.3 l.2 l.3)
 
--- t seen from m: k seconds above, or k seconds below
+-- t seen from m: k times above, or k times below
 apart : (t m : ℤ) → ((k : ℕ) × (t ≡ m +ℤ pos k)) ⊎ ((k : ℕ) × (m ≡ t +ℤ pos k))
 apart t m = by (t -ℤ m) refl
   where
@@ -135,7 +134,7 @@ module _ (f : ℤ → Fraction) (a b m : ℤ) (fs : AllFractions f a b) (step : 
   up_from k q =
       let l : least4 step.lo step.hi (a -ℤ m) (b -ℤ m) ≤ℤ (step.lo *ℤ pos k) = least_at step.lo step.hi (a -ℤ m) (b -ℤ m) (pos k) step.lo (inl refl) (omega (arith, lin)) (omega (arith, lin)) in
       let g : (step.hi *ℤ pos k) ≤ℤ greatest4 step.lo step.hi (a -ℤ m) (b -ℤ m) = greatest_at step.lo step.hi (a -ℤ m) (b -ℤ m) (pos k) step.hi (inr refl) (omega (arith, lin)) (omega (arith, lin)) in
-      from_ends (fraction_sub (f (m +ℤ pos k)) (f m)) (AtMost-less (least4 step.lo step.hi (a -ℤ m) (b -ℤ m)) (pos k *ℤ step.lo) step.s _ (rw (commute step.lo (pos k)) at l) (run_low f a b fs step h m k am q)) (AtLeast-more (pos k *ℤ step.hi) (greatest4 step.lo step.hi (a -ℤ m) (b -ℤ m)) step.s _ (rw (commute step.hi (pos k)) at g) (run_high f a b fs step h m k am q))
+      from_ends (fraction_sub (f (m +ℤ pos k)) (f m)) (AtMost-less (least4 step.lo step.hi (a -ℤ m) (b -ℤ m)) (pos k *ℤ step.lo) step.s _ (rw (mul_comm step.lo (pos k)) at l) (run_low f a b fs step h m k am q)) (AtLeast-more (pos k *ℤ step.hi) (greatest4 step.lo step.hi (a -ℤ m) (b -ℤ m)) step.s _ (rw (mul_comm step.hi (pos k)) at g) (run_high f a b fs step h m k am q))
 
   down_from : (t : ℤ) (k : ℕ) → a ≤ℤ t → m ≡ t +ℤ pos k → Holds (product step seen) (fraction_sub (f t) (f m))
   down_from t k p e =
@@ -157,7 +156,7 @@ module _ (f : ℤ → Fraction) (a b m : ℤ) (fs : AllFractions f a b) (step : 
 
   pub Holds-from_mid : (mid : Interval) → Holds mid (f m) → (t : ℤ) → a ≤ℤ t → t ≤ℤ b → Holds (sum mid (product step seen)) (f t)
   Holds-from_mid mid g t p q =
-      Holds-same (sum mid (product step seen)) (fraction_add (f m) (fraction_sub (f t) (f m))) (f t) (IsFraction-mul _ _ (fs m am mb) (IsFraction-sub (f t) (f m) (fs t p q) (fs m am mb))) (back (f m) (f t)) (Holds-sum mid (product step seen) (f m) (fraction_sub (f t) (f m)) g (Holds-offset t p q))
+      Holds-same (sum mid (product step seen)) (fraction_add (f m) (fraction_sub (f t) (f m))) (f t) (positive_product _ _ (fs m am mb) (IsFraction-sub (f t) (f m) (fs t p q) (fs m am mb))) (back (f m) (f t)) (Holds-sum mid (product step seen) (f m) (fraction_sub (f t) (f m)) g (Holds-offset t p q))
 
 -- the middle lies between
 pub middle_between : (a b : ℤ) → a ≤ℤ b → (a ≤ℤ middle a b) × (middle a b ≤ℤ b)

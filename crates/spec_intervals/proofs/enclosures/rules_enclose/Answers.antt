@@ -1,5 +1,5 @@
-use Rattle.spec_expressions.proofs.Enclosed.{IsEnclosure-constant, IsEnclosure-sum, IsEnclosure-difference, IsEnclosure-product, IsEnclosure-signed_square}
-use Rattle.spec_expressions.proofs.laws.rules_enclose.Goals as goal
+use Rattle.spec_intervals.proofs.Enclosed.{IsEnclosure-constant, IsEnclosure-sum, IsEnclosure-difference, IsEnclosure-product, IsEnclosure-signed_square}
+use Rattle.spec_intervals.proofs.enclosures.rules_enclose.Goals as goal
 
 pub returns-clause-constant : goal.returns-clause-constant
 returns-clause-constant c = IsEnclosure-constant

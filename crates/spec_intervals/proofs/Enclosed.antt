@@ -9,11 +9,12 @@ use Rattle.spec_intervals.proofs.Rules.{Holds-difference, Holds-meet}
 use Rattle.spec_intervals.proofs.Squares.{Holds-signed_square}
 use Rattle.spec_intervals.proofs.Sums.{Holds-sum}
 use Rattle.spec_intervals.specs.Fraction.{Fraction, IsFraction, Holds, Overlaps, fraction_add, fraction_sub, fraction_mul, fraction_signed_square}
-use Rattle.spec_intervals.specs.Interval.{Interval, product, sum, difference, meet, signed_square}
-use Rattle.spec_expressions.specs.Enclosure.{Enclosure, IsEnclosure, PartsHold, AllFractions, middle, centred, enclosure, zero_interval, twice_size, constant_of, sum_of, difference_of, product_of, signed_square_of}
-use Rattle.spec_expressions.proofs.Compare.{Holds-same, Holds-zero, IsFraction-mul}
-use Rattle.spec_expressions.proofs.SquareChanges.{Holds-square_step}
-use Rattle.spec_expressions.proofs.Centred.{IsFraction-sub, middle_between, Holds-centred}
+use Rattle.spec_intervals.specs.Interval.{Interval, product, sum, difference, meet, signed_square, zero_interval}
+use Rattle.spec_intervals.specs.Enclosure.{Enclosure, IsEnclosure, PartsHold, AllFractions, middle, centred, enclosure, twice_size, constant_of, sum_of, difference_of, product_of, signed_square_of}
+use Rattle.spec_intervals.proofs.Compare.{Holds-same, Holds-zero}
+use Rattle.spec_numbers.proofs.Naturals.{positive_product}
+use Rattle.spec_intervals.proofs.SquareChanges.{Holds-square_step}
+use Rattle.spec_intervals.proofs.Centred.{IsFraction-sub, itself, middle_between, Holds-centred}
 
 -- ---- an enclosure from its parts
 module _ (f : ℤ → Fraction) (a b : ℤ) (fs : AllFractions f a b) (h : a ≤ℤ b) (mid plain step : Interval) (parts : PartsHold f a b mid plain step) where
@@ -53,20 +54,20 @@ module _ (x x' y y' : Fraction) where
 
   pub Holds-sum_step : (s t : Interval) → IsFraction x → IsFraction x' → IsFraction y → IsFraction y' → Holds s (fraction_sub x' x) → Holds t (fraction_sub y' y) → Holds (sum s t) (fraction_sub (fraction_add x' y') (fraction_add x y))
   Holds-sum_step s t p p' q q' h g =
-      Holds-same (sum s t) (fraction_add (fraction_sub x' x) (fraction_sub y' y)) (fraction_sub (fraction_add x' y') (fraction_add x y)) (IsFraction-mul _ _ (IsFraction-sub x' x p' p) (IsFraction-sub y' y q' q)) sum_change (Holds-sum s t (fraction_sub x' x) (fraction_sub y' y) h g)
+      Holds-same (sum s t) (fraction_add (fraction_sub x' x) (fraction_sub y' y)) (fraction_sub (fraction_add x' y') (fraction_add x y)) (positive_product _ _ (IsFraction-sub x' x p' p) (IsFraction-sub y' y q' q)) sum_change (Holds-sum s t (fraction_sub x' x) (fraction_sub y' y) h g)
 
   pub Holds-difference_step : (s t : Interval) → IsFraction x → IsFraction x' → IsFraction y → IsFraction y' → Holds s (fraction_sub x' x) → Holds t (fraction_sub y' y) → Holds (difference s t) (fraction_sub (fraction_sub x' y') (fraction_sub x y))
   Holds-difference_step s t p p' q q' h g =
-      Holds-same (difference s t) (fraction_sub (fraction_sub x' x) (fraction_sub y' y)) (fraction_sub (fraction_sub x' y') (fraction_sub x y)) (IsFraction-mul _ _ (IsFraction-sub x' x p' p) (IsFraction-sub y' y q' q)) difference_change (Holds-difference s t (fraction_sub x' x) (fraction_sub y' y) h g)
+      Holds-same (difference s t) (fraction_sub (fraction_sub x' x) (fraction_sub y' y)) (fraction_sub (fraction_sub x' y') (fraction_sub x y)) (positive_product _ _ (IsFraction-sub x' x p' p) (IsFraction-sub y' y q' q)) difference_change (Holds-difference s t (fraction_sub x' x) (fraction_sub y' y) h g)
 
   pub Holds-product_step : (r s w z : Interval) → IsFraction x → IsFraction x' → IsFraction y → IsFraction y' → Holds r x' → Holds s y → Holds w (fraction_sub x' x) → Holds z (fraction_sub y' y) → Holds (sum (product r z) (product s w)) (fraction_sub (fraction_mul x' y') (fraction_mul x y))
   Holds-product_step r s w z p p' q q' hr hs hw hz =
-      Holds-same (sum (product r z) (product s w)) (fraction_add (fraction_mul x' (fraction_sub y' y)) (fraction_mul y (fraction_sub x' x))) (fraction_sub (fraction_mul x' y') (fraction_mul x y)) (IsFraction-mul _ _ (IsFraction-mul _ _ p' (IsFraction-sub y' y q' q)) (IsFraction-mul _ _ q (IsFraction-sub x' x p' p))) product_change (Holds-sum (product r z) (product s w) (fraction_mul x' (fraction_sub y' y)) (fraction_mul y (fraction_sub x' x)) (Holds-product r z x' (fraction_sub y' y) hr hz) (Holds-product s w y (fraction_sub x' x) hs hw))
+      Holds-same (sum (product r z) (product s w)) (fraction_add (fraction_mul x' (fraction_sub y' y)) (fraction_mul y (fraction_sub x' x))) (fraction_sub (fraction_mul x' y') (fraction_mul x y)) (positive_product _ _ (positive_product _ _ p' (IsFraction-sub y' y q' q)) (positive_product _ _ q (IsFraction-sub x' x p' p))) product_change (Holds-sum (product r z) (product s w) (fraction_mul x' (fraction_sub y' y)) (fraction_mul y (fraction_sub x' x)) (Holds-product r z x' (fraction_sub y' y) hr hz) (Holds-product s w y (fraction_sub x' x) hs hw))
 
 -- ---- the rules on enclosures
 module _ (a b : ℤ) (ab : a ≤ℤ b) (f g : ℤ → Fraction) (fs : AllFractions f a b) (gs : AllFractions g a b) where
   pub AllFractions-two : AllFractions (λ t. fraction_mul (f t) (g t)) a b
-  AllFractions-two t p q = IsFraction-mul _ _ (fs t p q) (gs t p q)
+  AllFractions-two t p q = positive_product _ _ (fs t p q) (gs t p q)
 
   here : (h : ℤ → Fraction) → AllFractions h a b → (t : ℤ) → a ≤ℤ t → t <ℤ b → IsFraction (h t)
   here h hs t p q = hs t p (omega (arith, lin))
@@ -108,11 +109,8 @@ module _ (a b : ℤ) (ab : a ≤ℤ b) (f : ℤ → Fraction) (fs : AllFractions
   unfolding signed_square_of
   IsEnclosure-signed_square = IsEnclosure-parts (λ t. fraction_signed_square (f t)) a b (AllFractions-two a b ab f f fs fs) ab (signed_square x.mid) (signed_square x.range) (product (twice_size x.range) x.step) PartsHold-signed_square
 
-unchanged : (x : Fraction) → (fraction_sub x x).numerator ≡ pos 0
-unchanged x = omega (arith, lin)
-
 pub PartsHold-constant : (a b : ℤ) (r : Fraction) (c : Interval) → Holds c r → PartsHold (λ t. r) a b c c zero_interval
-PartsHold-constant a b r c h = record { mid = h; plain = λ t p q. h; step = λ t p q. Holds-zero (fraction_sub r r) (unchanged r) }
+PartsHold-constant a b r c h = record { mid = h; plain = λ t p q. h; step = λ t p q. Holds-zero (fraction_sub r r) (itself r) }
 
 pub IsEnclosure-constant : (a b : ℤ) → a ≤ℤ b → (r : Fraction) → IsFraction r → (c : Interval) → Holds c r → IsEnclosure (λ t. r) a b (constant_of a b c)
 unfolding constant_of

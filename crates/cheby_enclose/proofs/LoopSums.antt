@@ -8,7 +8,7 @@ use Rattle.spec_numbers.proofs.Ring.{v, ◌⊕◌, ◌⊗◌, ring}
 use Rattle.spec_numbers.proofs.Whole.{mul_comm}
 use Rattle.std.proofs.lemmas.Bool.{cases_lt}
 use Rattle.spec_chebyshev.specs.Differences.{Within}
-use Rattle.cheby_enclose.specs.Rows.{slope_sizes, entry_size}
+use Rattle.spec_motions.specs.RowSizes.{slope_sizes, entry_size}
 use Rattle.spec_numbers.proofs.Order.{lin, le-mul}
 use Rattle.spec_intervals.proofs.Products.{corners_ordered}
 use Rattle.spec_chebyshev.specs.declared.ends.Ival62.{Ival62}

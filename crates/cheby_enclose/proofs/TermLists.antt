@@ -12,7 +12,7 @@ use Rattle.spec_intervals.proofs.Decimals.{bottom_pos}
 use Rattle.ival_core.proofs.DecimalEnds.{distance-size}
 use Rattle.spec_ephemeris.specs.Ephemeris.{IsBodyNumber}
 use Rattle.spec_motions.specs.Sums.{coefficient}
-use Rattle.cheby_enclose.specs.Rows.{AreTerms}
+use Rattle.spec_motions.specs.RowSizes.{AreTerms}
 use Rattle.std.proofs.lemmas.List.Elements.{All-nil, All-cons, All-head, All-tail}
 use borrow.Author.Differences.{up, down}
 use mir.Syntax.{w128}

@@ -9,7 +9,7 @@ use Rattle.spec_files.specs.Texts.{at_end, end_line, fault_at, joined}
 use Rattle.spec_files.specs.Outcome.{broken, outcome, outcome_by}
 use Rattle.spec_files.proofs.Joining.{broken_refused}
 use Rattle.gf_edges.specs.Edges.{Files, Lacks, file_of}
-use Rattle.spec_output.specs.Answers.{if_line, searched}
+use Rattle.gf_find.specs.Answers.{if_line, searched}
 use Rattle.spec_output.specs.Files.{AreFiles, IsFile}
 use Rattle.spec_faults.specs.declared.numbers.TheConstants.{NOT_BUILT}
 use Rattle.gf_find.specs.declared.reader.LineStop.TheVariants as stops

@@ -17,7 +17,7 @@ use Rattle.spec_events.proofs.Found.{found_are}
 use Rattle.spec_files.specs.Texts.{at_end, joined}
 use Rattle.spec_files.specs.Outcome.{broken, outcome, outcome_by}
 use Rattle.gf_edges.specs.Edges.{Files}
-use Rattle.spec_output.specs.Answers.{Asks, if_line, searched}
+use Rattle.gf_find.specs.Answers.{Asks, if_line, searched}
 use Rattle.spec_faults.specs.declared.numbers.TheConstants.{NOT_BUILT}
 
 line_by : (texts : List (List ℕ)) (x e : Ephemeris) (line : Bool) → is_line x ≡ line → (if line then Ok x else Err (at_end texts NOT_BUILT)) ≡ Ok e → (x ≡ e) × (is_line e ≡ true)

@@ -3,7 +3,7 @@ ghost use Rattle.std.specs.Prelude.{◌≡◌, ◌<◌, ◌≤◌, ℕ, List, If
 ghost use Rattle.spec_text.specs.declared.decimals.Fault.{Fault};
 ghost use Rattle.spec_ephemeris.specs.Ephemeris.{end_of, is_line, mercury_x};
 ghost use Rattle.spec_events.specs.LineSearch.{found_windows};
-ghost use Rattle.spec_output.specs.Report.{report};
+ghost use Rattle.spec_reports.specs.Report.{report};
 ghost use Rattle.gf_find.specs.Found.{AreAccepted, HasFault, IsNotRead, IsRefused, Reports};
 ghost use Rattle.gf_find.specs.Progress.{FailsIn};
 

@@ -5,7 +5,7 @@ ghost use Rattle.spec_trees.specs.declared.cuts.CutRule.TheVariants.{Half};
 ghost use Rattle.spec_trees.specs.Cuts.{CanCut, cut_of};
 ghost use Rattle.spec_events.specs.LineSearch.{found_windows, root, rules, series_end};
 ghost use Rattle.spec_trees.specs.Tree.{IsValid, leaves};
-ghost use Rattle.spec_output.specs.Report.{report};
+ghost use Rattle.spec_reports.specs.Report.{report};
 ghost use Rattle.gf_find.specs.Lines.{IsInLimits, series_of};
 
 use crate::book::booked;

@@ -8,7 +8,7 @@ use Rattle.spec_files.specs.Outcome.{broken, outcome}
 use Rattle.spec_files.specs.declared.limits.TheConstants.{MOST_FILES}
 use Rattle.spec_faults.specs.declared.numbers.TheConstants.{TOO_MANY_FILES, NOT_BUILT}
 use Rattle.gf_edges.specs.Edges.{Files, Lacks, Rose}
-use Rattle.spec_output.specs.Words.{AreAskedFor}
+use Rattle.spec_requests.specs.Words.{AreAskedFor}
 use Rattle.spec_output.specs.Files.{AreFiles}
 
 -- an ephemeris is searched so far only where Mercury's x is a line in it

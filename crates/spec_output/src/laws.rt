@@ -1,9 +1,9 @@
 // What the definitions of words, files and texts say of small cases.
 ghost use Rattle.std.specs.Prelude.{◌≡◌, ◌<◌, length, List, ℕ, [], ◌∷◌, ◌++◌, None, Some, codes, false, true};
 ghost use Rattle.spec_text.specs.declared.limits.TheConstants.{MOST_TEXT_BYTES};
-ghost use Rattle.spec_output.specs.Faults.{fault_name, has_detail};
+ghost use Rattle.spec_reports.specs.Messages.{fault_name, has_detail};
 ghost use Rattle.spec_output.specs.Files.{AppendsSome, AreFiles, HasLeft, IsFile, IsLongFile, IsTold};
-ghost use Rattle.spec_output.specs.Words.{AreAskedFor, search_words};
+ghost use Rattle.spec_requests.specs.Words.{AreAskedFor, search_words};
 
 /// The words before the files are seven fixed ones. A file's name may be empty, and doesn't begin with a dash.
 pub fn words_ask_for_files()

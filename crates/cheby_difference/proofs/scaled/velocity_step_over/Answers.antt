@@ -8,7 +8,7 @@ use Rattle.spec_numbers.proofs.Floor.{ordered_quotients}
 use Rattle.spec_chebyshev.specs.Rows.{entry, r_row}
 use Rattle.spec_motions.specs.Sums.{slope_difference_row, sum_low, sum_high}
 use Rattle.spec_motions.specs.Enclosures.{velocity_step_over}
-use Rattle.cheby_enclose.proofs.LoopSums.{sums_ordered, low_slopes_same, high_slopes_same}
+use Rattle.spec_motions.proofs.RowSums.{sums_ordered, low_slopes_same, high_slopes_same}
 use Rattle.cheby_difference.proofs.SlopeRows.{IsSlopeRow-r, doubles_ordered}
 use Rattle.cheby_difference.proofs.scaled.velocity_step_over.Goals as goal
 use Rattle.cheby_difference.proofs.scaled.velocity_step_over.Goals.{After-once_scaled-sum}

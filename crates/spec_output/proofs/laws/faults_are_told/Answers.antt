@@ -1,5 +1,5 @@
 use Rattle.std.proofs.Common.{refl}
-use Rattle.spec_output.specs.Faults.{block_fault_name, fault_name, file_fault_name, header_fault_name}
+use Rattle.spec_reports.specs.Messages.{block_fault_name, fault_name, file_fault_name, header_fault_name}
 use Rattle.spec_output.proofs.laws.faults_are_told.Goals as goal
 
 pub returns-clause-whole_file : goal.returns-clause-whole_file

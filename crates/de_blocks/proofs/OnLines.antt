@@ -3,11 +3,10 @@ use Rattle.std.proofs.Common.{◌≡◌, ◌≢◌, ℕ, ◌+◌, ◌-◌, ◌<�
 use Rattle.std.proofs.lemmas.List.{length-append, length-take, length-drop}
 use Rattle.spec_text.specs.declared.decimals.Decimal.{Decimal}
 use Rattle.spec_ephemeris.specs.Ephemeris.{Ephemeris}
-use Rattle.spec_header.specs.declared.rules.BrokenRule.{BrokenRule}
-use Rattle.spec_header.specs.Sections.{FileLine, FileWord, Stop, ◌>>=◌, at_line, behind_words, first_words, word_of}
-use Rattle.spec_header.proofs.Behind.{behind_no_words, behind_words_of_line, no_words}
-use Rattle.spec_header.proofs.ColumnsMeet.{holds_also}
-use Rattle.spec_header.proofs.Holding.{Holds, holds_ok, then_any}
+use Rattle.spec_sections.specs.declared.rules.BrokenRule.{BrokenRule}
+use Rattle.spec_sections.specs.Sections.{FileLine, FileWord, Stop, ◌>>=◌, at_line, behind_words, first_words, word_of}
+use Rattle.spec_sections.proofs.WordSections.{behind_no_words, behind_words_of_line, no_words}
+use Rattle.spec_sections.proofs.Holding.{holds_also, Holds, holds_ok, then_any}
 use Rattle.spec_faults.specs.declared.numbers.TheConstants.{TRUNCATED}
 use Rattle.spec_blocks.specs.BlockRules.{number_rule, trailing_rule}
 use Rattle.spec_blocks.specs.Blocks.{further_numbers, further_words, numbers_of, zeros_of}

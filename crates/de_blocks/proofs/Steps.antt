@@ -5,14 +5,14 @@ use Rattle.spec_text.specs.Lines.{TokenLine}
 use Rattle.spec_text.specs.declared.decimals.Decimal.{Decimal}
 use Rattle.spec_text.specs.declared.decimals.Fault.{Fault}
 use Rattle.spec_ephemeris.specs.Ephemeris.{Ephemeris}
-use Rattle.spec_header.specs.declared.rules.BrokenRule.{BrokenRule}
-use Rattle.spec_header.specs.Sections.{FileLine, Stop, ended, breaks as breaks_rule, ◌>>=◌, at_line}
-use Rattle.spec_header.proofs.Holding.{holds_ok}
+use Rattle.spec_sections.specs.declared.rules.BrokenRule.{BrokenRule}
+use Rattle.spec_sections.specs.Sections.{FileLine, Stop, ended, breaks as breaks_rule, ◌>>=◌, at_line}
+use Rattle.spec_sections.proofs.Holding.{holds_ok}
 use Rattle.spec_faults.specs.declared.numbers.TheConstants.{TRUNCATED}
 use Rattle.spec_blocks.specs.BlockRules.{record_line}
 use Rattle.spec_blocks.specs.Blocks.{blocks_behind, further_numbers, with_numbers}
 use Rattle.spec_blocks.specs.Read.{AreRead}
-use Rattle.de_header.specs.Reader.{line_of}
+use Rattle.spec_sections.specs.FileLines.{line_of}
 use Rattle.de_blocks.specs.declared.answers.BlockError.{BlockError}
 use Rattle.de_blocks.specs.declared.answers.BlockError.TheVariants as errors
 use Rattle.de_blocks.specs.declared.state.Place.{Place}

@@ -2,15 +2,15 @@
 ghost use Rattle.std.specs.Prelude.{◌≡◌, ◌≤◌, ◌<◌, ◌+◌, ◌*◌, ◌^◌, IfOk, Ok, length, min, slice_get};
 ghost use Rattle.spec_ephemeris.specs.Ephemeris.{IsStart};
 ghost use Rattle.spec_ephemeris.specs.Header.{column_size, components, is_present};
-ghost use Rattle.spec_header.specs.HeaderRules.{whole_at};
+ghost use Rattle.spec_text.specs.Reading.{whole_at};
 ghost use Rattle.spec_blocks.specs.BlockRules.{coefficient_rule, first_date, follows, has_length, is_behind_gap, is_passed_over, is_place, is_place_of, is_place_of_body, is_too_large, number_rule, record_line, second_date, time_of, trailing_rule, value_rule};
 
-use de_header::seconds_of_julian_date;
+use de_text::seconds_of_julian_date;
 use de_text::{Line, read_decimal, read_whole};
 use eph_model::Ephemeris;
 use spec_faults::{BLOCK_GAP, BLOCK_SPAN, NCOEFF_DIFFERS, NUMBER, RECORD_LINE, TOO_LARGE, TOO_MANY_BLOCKS, TRAILING_NUMBERS};
 use spec_ephemeris::{BODY_COLUMNS, Column, FIRST_TIME, MOST_BLOCKS, NUTATIONS};
-use spec_header::BrokenRule;
+use spec_sections::BrokenRule;
 use spec_text::Decimal;
 
 // The coefficients of bodies are below this many km in size.

@@ -7,9 +7,9 @@ use Rattle.std.proofs.lemmas.Option.{none-some}
 use Rattle.spec_faults.specs.declared.numbers.TheConstants.{ENDED}
 use Rattle.spec_header.specs.HeaderLines.{mass_ratio_among, names}
 use Rattle.spec_header.specs.HeaderRules.{mass_ratio}
-use Rattle.spec_header.proofs.Behind.{behind_no_words, behind_words_of_line, no_words}
+use Rattle.spec_sections.proofs.WordSections.{behind_no_words, behind_words_of_line, no_words}
 use Rattle.de_header.proofs.Names.{get_take}
-use Rattle.spec_header.specs.Sections.{FileLine, FileWord, Stop, ended, ◌>>=◌, at_line, behind_words, first_words, lines_behind, word_of}
+use Rattle.spec_sections.specs.Sections.{FileLine, FileWord, Stop, ended, ◌>>=◌, at_line, behind_words, first_words, lines_behind, word_of}
 
 abbrev map_some : {X Y : Type 0} → (X → Y) → Option X → Option Y
 map_some f None = None

@@ -5,11 +5,11 @@ use Rattle.std.specs.Str.{bytes_eq}
 use Rattle.std.proofs.lemmas.Bool.{cases_Bool}
 use Rattle.std.proofs.lemmas.List.{length-take}
 use Rattle.spec_text.specs.declared.decimals.Decimal.{Decimal}
-use Rattle.spec_header.specs.declared.rules.BrokenRule.{BrokenRule}
+use Rattle.spec_sections.specs.declared.rules.BrokenRule.{BrokenRule}
 use Rattle.spec_faults.specs.declared.numbers.TheConstants.{ENDED}
 use Rattle.spec_header.specs.HeaderLines.{names}
 use Rattle.spec_header.specs.HeaderRules.{emrat_from, mass_ratio}
-use Rattle.spec_header.specs.Sections.{FileLine, Stop, ◌>>=◌, at_line, behind_words}
+use Rattle.spec_sections.specs.Sections.{FileLine, Stop, ◌>>=◌, at_line, behind_words}
 use Rattle.de_header.specs.declared.state.Facts.{Facts}
 use Rattle.de_header.specs.declared.state.Frame.{Frame}
 use Rattle.de_header.specs.Reader.{Says, facts_of, from_column_group, from_names, from_value_group, from_values, from_values_behind, or_else}

@@ -2,12 +2,15 @@
 // that number, which is past every bound.
 ghost use Rattle.std.specs.Prelude.{◌≡◌, ◌≤◌, ◌<◌, ◌*◌, ◌^◌, ◌-◌, IfOk, min, unsigned_abs};
 ghost use borrow.Author.Differences.{up, down};
-ghost use Rattle.spec_header.specs.HeaderRules.{block_length, is_mass_ratio, seconds_of_days, seconds_within, size_over, size_under};
+ghost use Rattle.spec_header.specs.HeaderRules.{block_length, is_mass_ratio};
+ghost use Rattle.spec_text.specs.Days.{seconds_of_days, seconds_within, size_over, size_under};
 ghost use Rattle.de_header.specs.Sizes.{capped};
 
 use crate::words::broken;
 use spec_ephemeris::{GREATEST_MASS_RATIO, LEAST_MASS_RATIO};
-use spec_header::{BrokenRule, LAST_JULIAN_DAY, MOST_BLOCK_DAYS};
+use spec_sections::BrokenRule;
+use spec_text::LAST_JULIAN_DAY;
+use spec_header::MOST_BLOCK_DAYS;
 use spec_faults::{JD_NOT_WHOLE_SECOND, LIMIT};
 use spec_text::Decimal;
 

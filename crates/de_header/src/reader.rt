@@ -5,11 +5,12 @@ ghost use Rattle.spec_header.specs.declared.rules.TheConstants.{MOST_CONSTANTS};
 ghost use Rattle.spec_ephemeris.specs.Header.{IsHeader};
 ghost use Rattle.spec_header.specs.HeaderLines.{header};
 ghost use Rattle.spec_header.specs.HeaderRules.{emrat_from};
-ghost use Rattle.spec_header.specs.Sections.{FileLine};
+ghost use Rattle.spec_sections.specs.Sections.{FileLine};
 ghost use Rattle.de_header.specs.declared.state.State.TheVariants as states;
 ghost use Rattle.de_header.specs.declared.answers.HeaderError.TheVariants as errors;
 ghost use Rattle.de_header.specs.declared.answers.Step.TheVariants as steps;
-ghost use Rattle.de_header.specs.Reader.{Ends, Fits, IsBehindNames, IsBehindValues, IsNotDone, IsNotWhole, IsOpen, IsRefused, IsWhole, Moves, answer, from_names, from_values_behind, header_of, line_of, or_else, says};
+ghost use Rattle.de_header.specs.Reader.{Ends, Fits, IsBehindNames, IsBehindValues, IsNotDone, IsNotWhole, IsOpen, IsRefused, IsWhole, Moves, answer, from_names, from_values_behind, header_of, or_else, says};
+ghost use Rattle.spec_sections.specs.FileLines.{line_of};
 
 use crate::answers::{HeaderError, Step};
 use crate::columns::{columns_row, row};
@@ -19,7 +20,7 @@ use crate::words::{
 };
 use de_text::Line;
 use spec_ephemeris::{Column, Columns, Header};
-use spec_header::BrokenRule;
+use spec_sections::BrokenRule;
 use spec_faults::ENDED;
 use spec_text::Fault;
 use std::alloc::Global;

@@ -1,13 +1,15 @@
 // The rules of the lines before the columns.
 ghost use Rattle.std.specs.Prelude.{◌≡◌, ◌≤◌, ◌<◌, ◌+◌, IfOk, List, Some, length, slice_get, take, codes, ℕ};
 ghost use Rattle.std.specs.Option.{option_copied};
-ghost use Rattle.spec_header.specs.Sections.{is_word};
-ghost use Rattle.spec_header.specs.HeaderRules.{decimal_at, emrat_from, first_line, group, mass_ratio, mass_ratio_of, name_count, span, value_count, whole_at};
+ghost use Rattle.spec_sections.specs.Sections.{is_word};
+ghost use Rattle.spec_header.specs.HeaderRules.{decimal_at, emrat_from, first_line, group, mass_ratio, mass_ratio_of, name_count, span, value_count};
+ghost use Rattle.spec_text.specs.Reading.{whole_at};
 
 use crate::days::{block_length, is_mass_ratio, seconds_of_julian_date};
 use de_text::{Decimal, Line, read_decimal, read_whole};
 use spec_ephemeris::{FEWEST_NUMBERS, MOST_NUMBERS};
-use spec_header::{BrokenRule, MOST_CONSTANTS};
+use spec_sections::BrokenRule;
+use spec_header::MOST_CONSTANTS;
 use spec_faults::{COUNT_MISMATCH, EMRAT_MISSING, EMRAT_RANGE, FIRST_LINE, GROUP_MISSING, HEADER_NUMBER, LIMIT};
 
 pub(crate) fn broken(number: u8, detail: u16) -> BrokenRule

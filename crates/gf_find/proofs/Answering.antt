@@ -2,8 +2,9 @@
 use Rattle.std.proofs.Common.{◌≡◌, ◌⊎◌, ℕ, suc, ◌+◌, ◌-◌, ◌<◌, ◌≤◌, Bool, true, false, List, [], ◌∷◌, ◌++◌, length, Option, None, Some, Result, Ok, Err, refl, sym, ap, ◌∙◌, subst, append-nil, arith, inl, inr}
 use Rattle.std.specs.Prelude.{IsSome, slice_get, if◌then◌else◌}
 use Rattle.spec_text.specs.declared.decimals.Fault.{Fault}
-use Rattle.spec_ephemeris.specs.Ephemeris.{Ephemeris, is_line}
-use Rattle.spec_header.specs.Sections.{Stop, ended, breaks, ◌>>=◌}
+use Rattle.spec_ephemeris.specs.Ephemeris.{Ephemeris}
+use Rattle.line_search.specs.MercuryX.{is_line}
+use Rattle.spec_sections.specs.Sections.{Stop, ended, breaks, ◌>>=◌}
 use Rattle.spec_blocks.specs.Blocks.{ephemeris}
 use Rattle.spec_files.specs.Texts.{at_end, end_line, fault_at, joined}
 use Rattle.spec_files.specs.Outcome.{broken, outcome, outcome_by}

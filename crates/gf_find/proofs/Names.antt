@@ -3,7 +3,7 @@ use Rattle.std.proofs.Common.{◌≡◌, ◌<◌, ◌≤◌, ◌⊎◌, ℕ, suc
 use Rattle.std.specs.Prelude.{IsSome, slice_get}
 use Rattle.spec_text.specs.declared.decimals.Fault.{Fault}
 use Rattle.spec_ephemeris.specs.Ephemeris.{Ephemeris}
-use Rattle.spec_header.specs.Sections.{◌>>=◌}
+use Rattle.spec_sections.specs.Sections.{◌>>=◌}
 use Rattle.spec_files.specs.Outcome.{broken, outcome}
 use Rattle.spec_files.proofs.Joining.{broken_refused}
 use Rattle.gf_edges.specs.Edges.{Files, Lacks, Rose, file_of}

@@ -1,8 +1,9 @@
 -- What a run answers to its words and files, and the cause of each refusal.
 use Rattle.std.specs.Prelude.{◌≡◌, ◌⊎◌, ℕ, ◌<◌, ◌≤◌, List, [], ◌∷◌, ◌++◌, length, slice_get, Option, None, Some, Result, Ok, Err, if◌then◌else◌}
 use Rattle.spec_text.specs.declared.decimals.Fault.{Fault}
-use Rattle.spec_ephemeris.specs.Ephemeris.{Ephemeris, is_line}
-use Rattle.spec_header.specs.Sections.{◌>>=◌}
+use Rattle.spec_ephemeris.specs.Ephemeris.{Ephemeris}
+use Rattle.line_search.specs.MercuryX.{is_line}
+use Rattle.spec_sections.specs.Sections.{◌>>=◌}
 use Rattle.spec_files.specs.Texts.{at_end, fault_at}
 use Rattle.spec_files.specs.Outcome.{broken, outcome}
 use Rattle.spec_files.specs.declared.limits.TheConstants.{MOST_FILES}

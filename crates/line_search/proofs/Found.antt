@@ -1,12 +1,12 @@
 -- The windows that the search finds are the windows of the events of the granule.
 use Rattle.std.proofs.lemmas.List.Elements.{All-weaker}
 use Rattle.spec_ephemeris.specs.Series.{Series}
-use Rattle.spec_ephemeris.specs.Ephemeris.{IsLine}
+use Rattle.line_search.specs.MercuryX.{IsLine}
 use Rattle.spec_trees.specs.declared.tree.Leaf.{Leaf}
 use Rattle.spec_events.specs.Events.{AreWindows}
 use Rattle.spec_trees.specs.Tree.{IsLeaf, leaves}
 use Rattle.spec_events.specs.Marks.{IsRightMark as Told, AreRightlyMarked as AllTold}
-use Rattle.spec_events.specs.LineSearch.{IsUp, IsLeftOpen, series_end, rules, root, found_windows}
+use Rattle.line_search.specs.Search.{IsUp, IsLeftOpen, series_end, rules, root, found_windows}
 use Rattle.spec_trees.proofs.Covering.{leaves_cover, leaves_are}
 use Rattle.spec_events.proofs.Windowing.{windows_are}
 use Rattle.spec_events.proofs.Sound.{rules_are_sound, root_is_valid}

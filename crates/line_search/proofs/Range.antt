@@ -14,9 +14,9 @@ use Rattle.spec_text.specs.declared.decimals.Decimal.{Decimal}
 use Rattle.spec_intervals.specs.Fraction.{Fraction, Holds}
 use Rattle.spec_intervals.proofs.Holding.{Holds-narrowed}
 use Rattle.spec_ephemeris.specs.Series.{Series, IsInUnits, to_nat, scaled, argument_at, position}
-use Rattle.spec_ephemeris.specs.Ephemeris.{IsLine}
+use Rattle.line_search.specs.MercuryX.{IsLine}
 use Rattle.spec_chebyshev.proofs.Arguments.{HoldsIn-argument}
-use Rattle.spec_events.specs.LineSearch.{coefficient, argument, line, x_range}
+use Rattle.line_search.specs.Search.{coefficient, argument, line, x_range}
 use Rattle.spec_events.proofs.Units.{Encloses, line_ends, line_encloses}
 
 -- the powers of ten of a decimal, at the power -140

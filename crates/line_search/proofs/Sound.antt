@@ -3,11 +3,11 @@ use Rattle.std.proofs.Common.{◌≡◌, refl, Bool, true, false, pos, ◌-ℤ�
 use Rattle.std.proofs.lemmas.Int.{ints}
 use Rattle.spec_intervals.specs.declared.signs.Sign.{Sign}
 use Rattle.spec_ephemeris.specs.Series.{Series}
-use Rattle.spec_ephemeris.specs.Ephemeris.{IsLine}
+use Rattle.line_search.specs.MercuryX.{IsLine}
 use Rattle.spec_trees.specs.declared.tree.Node.{Node}
 use Rattle.spec_trees.specs.declared.tree.Verdict.TheVariants as V
 use Rattle.spec_trees.specs.Tree.{IsValid, IsSound, IsCut}
-use Rattle.spec_events.specs.LineSearch.{rules, verdict_by, root, sign_on, slope_sign}
+use Rattle.line_search.specs.Search.{rules, verdict_by, root, sign_on, slope_sign}
 use Rattle.spec_trees.specs.Cuts.{is_wide}
 
 -- what is split is wide

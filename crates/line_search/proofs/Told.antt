@@ -4,7 +4,7 @@ use Rattle.std.proofs.lemmas.Int.{ints}
 use Rattle.spec_intervals.specs.declared.signs.Sign.{Sign}
 use Rattle.spec_intervals.specs.declared.signs.Sign.TheVariants.{Yes, No, Open}
 use Rattle.spec_ephemeris.specs.Series.{Series, position, scaled, argument_at}
-use Rattle.spec_ephemeris.specs.Ephemeris.{IsLine}
+use Rattle.line_search.specs.MercuryX.{IsLine}
 use Rattle.spec_trees.specs.declared.tree.Node.{Node}
 use Rattle.spec_trees.specs.declared.tree.Turn.{Turn}
 use Rattle.spec_trees.specs.declared.tree.Turn.TheVariants.{Rise, Fall}
@@ -14,7 +14,7 @@ use Rattle.spec_trees.specs.declared.tree.Verdict.TheVariants as V
 use Rattle.spec_events.specs.Events.{IsEvent, IsTurn}
 use Rattle.spec_trees.specs.Tree.{mark_of}
 use Rattle.spec_events.specs.Marks.{IsRightMark as Told}
-use Rattle.spec_events.specs.LineSearch.{IsUp, IsLeftOpen, verdict_by, verdict, sign_on, slope_sign}
+use Rattle.line_search.specs.Search.{IsUp, IsLeftOpen, verdict_by, verdict, sign_on, slope_sign}
 use Rattle.spec_trees.specs.Cuts.{is_wide}
 use Rattle.spec_events.proofs.Range.{at_time}
 use Rattle.spec_events.proofs.Signed.{yes_up, no_down, apart}

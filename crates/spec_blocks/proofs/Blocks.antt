@@ -13,10 +13,10 @@ use Rattle.spec_ephemeris.specs.Header.{IsHeader, IsColumn, Takes, is_present, c
 use Rattle.spec_ephemeris.specs.Ephemeris.{Ephemeris, IsEphemeris, IsStart, IsBlock, IsBodyNumber, AreBodiesBounded, empty_ephemeris}
 use Rattle.spec_ephemeris.specs.Series.{IsInUnits}
 use Rattle.spec_ephemeris.proofs.Pushing.{pushed}
-use Rattle.spec_header.specs.declared.rules.BrokenRule.{BrokenRule}
-use Rattle.spec_header.specs.HeaderRules.{seconds_within, within_days, seconds_of_days}
-use Rattle.spec_header.specs.Sections.{◌>>=◌}
-use Rattle.spec_header.proofs.Holding.{Holds, holds_ok}
+use Rattle.spec_sections.specs.declared.rules.BrokenRule.{BrokenRule}
+use Rattle.spec_text.specs.Days.{seconds_within, within_days, seconds_of_days}
+use Rattle.spec_sections.specs.Sections.{◌>>=◌}
+use Rattle.spec_sections.proofs.Holding.{Holds, holds_ok}
 use Rattle.spec_header.proofs.ColumnsMeet.{get_take}
 use Rattle.spec_blocks.specs.BlockRules.{coefficient_rule, follows, has_length, is_passed_over, is_place_of, is_place_of_body, is_too_large, time_by, time_of}
 use Rattle.spec_blocks.specs.Blocks.{accept, begun, no_blocks, with_numbers}

@@ -1,17 +1,17 @@
 -- The rules of the words of blocks, each given the blocks before and the numbers before it in its block. Times are
 -- seconds of TDB since J2000.
 use Rattle.std.specs.Prelude.{ℕ, suc, ◌+◌, ◌*◌, ◌^◌, ◌==◌, ◌&&◌, ◌||◌, nat_lt, nat_le, int_le, int_lt, unsigned_abs, Bool, false, List, [], ◌∷◌, length, take, slice_get, Option, Some, Result, Ok, Err, ℤ, pos, ◌+ℤ◌, if◌then◌else◌}
-use Rattle.spec_text.specs.Reading.{fault_number, reading}
+use Rattle.spec_text.specs.Reading.{fault_number, reading, whole_at}
 use Rattle.spec_text.specs.declared.decimals.Decimal.{Decimal}
 use Rattle.spec_text.specs.declared.decimals.NumberFault.{NumberFault}
 use Rattle.spec_ephemeris.specs.declared.header.Column.{Column}
 use Rattle.spec_ephemeris.specs.declared.limits.TheConstants.{BODY_COLUMNS, FIRST_TIME, MOST_BLOCKS}
 use Rattle.spec_ephemeris.specs.Header.{column_size, is_present}
 use Rattle.spec_ephemeris.specs.Ephemeris.{Ephemeris, end_of}
-use Rattle.spec_header.specs.declared.rules.BrokenRule.{BrokenRule}
-use Rattle.spec_header.specs.declared.rules.TheConstants.{LAST_JULIAN_DAY}
-use Rattle.spec_header.specs.HeaderRules.{broken, seconds_within, size_over, size_under, whole_at}
-use Rattle.spec_header.specs.Sections.{◌>>=◌}
+use Rattle.spec_sections.specs.declared.rules.BrokenRule.{BrokenRule}
+use Rattle.spec_text.specs.declared.limits.TheConstants.{LAST_JULIAN_DAY}
+use Rattle.spec_sections.specs.Sections.{broken, ◌>>=◌}
+use Rattle.spec_text.specs.Days.{seconds_within, size_over, size_under}
 use Rattle.spec_faults.specs.declared.numbers.TheConstants.{RECORD_LINE, NCOEFF_DIFFERS, BLOCK_SPAN, BLOCK_GAP, NUMBER, TOO_LARGE, TOO_MANY_BLOCKS, TRAILING_NUMBERS}
 
 -- the record number may be any

@@ -5,7 +5,8 @@ use Rattle.spec_text.specs.declared.decimals.Decimal.{Decimal}
 use Rattle.spec_ephemeris.specs.declared.header.Column.{Column}
 use Rattle.spec_ephemeris.specs.Header.{IsColumn, MeetsColumnRules, column_at, granule_size}
 use Rattle.spec_ephemeris.proofs.ColumnRules.{one_column}
-use Rattle.spec_ephemeris.specs.Ephemeris.{Ephemeris, IsEphemeris, IsBodyNumber, Granule, IsGranuleAt, IsLine, MERCURY, is_line_column, is_line, mercury_x, block_numbers, granule_numbers, axis_series}
+use Rattle.spec_ephemeris.specs.Ephemeris.{Ephemeris, IsEphemeris, IsBodyNumber, Granule, IsGranuleAt, block_numbers, granule_numbers, axis_series}
+use Rattle.line_search.specs.MercuryX.{IsLine, MERCURY, is_line_column, is_line, mercury_x}
 
 -- what a line asks of its column and of the blocks
 pub record IsLineOf (e : Ephemeris) (c : Column) : Type 0 where

@@ -1,10 +1,12 @@
 // Worked values of the definitions, by computation.
 ghost use Rattle.std.specs.Prelude.{◌≡◌, ◌+◌, ◌-◌, ◌^◌, true, false, ◌++◌, ◌∷◌, [], pos, neg_ℤ};
 ghost use Rattle.spec_ephemeris.specs.Header.{IsHeader, column_size, has_column};
-ghost use Rattle.spec_ephemeris.specs.Ephemeris.{IsPreferred, is_line, mercury_x};
+ghost use Rattle.spec_ephemeris.specs.Ephemeris.{IsPreferred};
+ghost use Rattle.line_search.specs.MercuryX.{is_line, mercury_x};
 ghost use Rattle.spec_ephemeris.specs.Series.{IsCoefficient, argument_at, position};
 ghost use Rattle.spec_ephemeris.specs.Velocity.{velocity};
-ghost use Rattle.spec_ephemeris.specs.Examples.{IsWhole, whole, growing_x, parabola, column, de405, four_columns, of_four_columns, growing_block, overlapping, without_mercury};
+ghost use Rattle.spec_ephemeris.specs.Examples.{IsWhole, whole, growing_x, parabola, column, de405, four_columns, of_four_columns, growing_block, overlapping};
+ghost use Rattle.line_search.specs.Examples.{without_mercury};
 
 /// The argument of a block of 2,764,800 seconds runs from minus its length to its length, two for each second.
 pub fn arguments()

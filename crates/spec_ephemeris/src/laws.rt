@@ -1,7 +1,8 @@
 // Laws of granules, borders and lines.
 ghost use Rattle.std.specs.Prelude.{◌≡◌, true, List, Option, ℕ, ℤ};
 ghost use Rattle.spec_ephemeris.specs.Granules.{HasTime, granule_at};
-ghost use Rattle.spec_ephemeris.specs.Ephemeris.{Ephemeris, Granule, IsEphemeris, IsGranuleAt, IsLine, IsNearestBorder, MERCURY, axis_series, is_line, mercury_x};
+ghost use Rattle.spec_ephemeris.specs.Ephemeris.{Ephemeris, Granule, IsEphemeris, IsGranuleAt, IsNearestBorder, axis_series};
+ghost use Rattle.line_search.specs.MercuryX.{IsLine, MERCURY, is_line, mercury_x};
 
 /// A time of the ephemeris has one granule of a column.
 pub fn a_time_has_one_granule()

@@ -13,10 +13,10 @@ use Rattle.spec_ephemeris.specs.declared.header.Header.{Header}
 use Rattle.spec_header.specs.ColumnRules.{columns_of, columns_row, is_out_of_place, overlap, present_column, row}
 use Rattle.spec_header.specs.HeaderLines.{header, names}
 use Rattle.spec_header.specs.HeaderRules.{emrat_from, first_line, group, is_mass_ratio, name_count, span, value_count}
-use Rattle.spec_header.specs.Sections.{FileLine, from_word}
+use Rattle.spec_sections.specs.Sections.{FileLine, from_word}
 use Rattle.spec_header.proofs.Bounds.{IsBlock, IsNcoeff, first_line_holds, span_holds, then_ratio}
-use Rattle.spec_header.proofs.ColumnsMeet.{EachMeets, apart, columns_length, first_broken, get_take, holds_also, no_overlap, row_holds, rule_holds}
-use Rattle.spec_header.proofs.Holding.{Holds, holds_ok, then_any, then_line}
+use Rattle.spec_header.proofs.ColumnsMeet.{EachMeets, apart, columns_length, first_broken, get_take, no_overlap, row_holds, rule_holds}
+use Rattle.spec_sections.proofs.Holding.{holds_also, Holds, holds_ok, then_any, then_line}
 use Rattle.spec_header.proofs.Ratios.{mass_ratio_is}
 
 module _ (n s : ℕ) (d : Decimal) (cs : List Column) (each : EachMeets n s [] cs) where

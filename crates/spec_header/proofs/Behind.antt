@@ -2,7 +2,7 @@
 use Rattle.std.proofs.Common.{◌≡◌, ◌≢◌, ℕ, ◌+◌, ◌-◌, ◌<◌, ◌==◌, min, true, false, List, [], ◌∷◌, ◌++◌, length, map, take, Ok, refl, sym, ap, ◌∙◌, inl, inr, arith, eq-eqb, ne_eqb}
 use Rattle.std.proofs.lemmas.Bool.{cases_eq}
 use Rattle.std.proofs.lemmas.List.{length-append, length-map, length-take}
-use Rattle.spec_header.specs.Sections.{FileLine, behind_words, first_words, lines_behind, word_of}
+use Rattle.spec_sections.specs.Sections.{FileLine, behind_words, first_words, lines_behind, word_of}
 
 -- no words
 pub no_words : (n : ℕ) (lines : List FileLine) → n ≡ 0 → first_words n lines ≡ []

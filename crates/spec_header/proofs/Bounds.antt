@@ -2,13 +2,14 @@
 use Rattle.std.proofs.Common.{◌≡◌, ℕ, ◌*◌, ◌≤◌, Bool, true, false, List, Option, None, Some, Result, Ok, Err, inl, inr, arith, ne_eqb, if◌then◌else◌, pos}
 use Rattle.std.specs.Prelude.{int_lt, slice_get}
 use Rattle.std.proofs.lemmas.Bool.{cases_Bool, cases_eq, cases_lt, lt-ltb, le-ltb}
-use Rattle.spec_text.specs.Reading.{reading}
+use Rattle.spec_text.specs.Reading.{reading, whole_at}
 use Rattle.spec_text.specs.declared.decimals.Decimal.{Decimal}
 use Rattle.spec_text.specs.declared.decimals.NumberFault.{NumberFault}
 use Rattle.spec_header.specs.HeaderLines.{mass_ratio_among, mass_ratio_at}
-use Rattle.spec_header.specs.HeaderRules.{block_length, decimal_at, decimal_by, first_line, is_mass_ratio, mass_ratio_of, ncoeff_of, not_none, seconds_within, span, whole_at, within_days, seconds_of_days}
-use Rattle.spec_header.specs.Sections.{FileLine, FileWord, Stop, ◌>>=◌, at_line, behind_words, first_words}
-use Rattle.spec_header.proofs.Holding.{Holds, holds_ok, then_any}
+use Rattle.spec_header.specs.HeaderRules.{block_length, decimal_at, decimal_by, first_line, is_mass_ratio, mass_ratio_of, ncoeff_of, not_none, span}
+use Rattle.spec_text.specs.Days.{seconds_within, within_days, seconds_of_days}
+use Rattle.spec_sections.specs.Sections.{FileLine, FileWord, Stop, ◌>>=◌, at_line, behind_words, first_words}
+use Rattle.spec_sections.proofs.Holding.{Holds, holds_ok, then_any}
 
 abbrev pub IsNcoeff : ℕ → Type 0
 IsNcoeff n = (3 ≤ n) × (n ≤ 4096)

@@ -7,7 +7,7 @@ use Rattle.spec_ephemeris.specs.declared.header.Header.{Header}
 use Rattle.spec_faults.specs.declared.numbers.TheConstants.{LINE_TOO_LONG, ENDED}
 use Rattle.spec_header.specs.ColumnRules.{columns_row, row}
 use Rattle.spec_header.specs.HeaderRules.{emrat_from, first_line, group, mass_ratio, name_count, span, value_count}
-use Rattle.spec_header.specs.Sections.{FileLine, FileWord, Stop, ended, breaks, ◌>>=◌, at_line, behind_words, first_words, from_word, one_line}
+use Rattle.spec_sections.specs.Sections.{FileLine, FileWord, Stop, ended, breaks, ◌>>=◌, at_line, behind_words, first_words, from_word, one_line}
 
 -- the texts of the first n words, and the lines behind them
 abbrev pub names : ℕ → List FileLine → Result (List (List ℕ) × List FileLine) Stop

@@ -2,7 +2,7 @@
 use Rattle.std.specs.Prelude.{ℕ, ◌-◌, ◌==◌, Bool, false, List, [], ◌∷◌, ◌++◌, length, take, map, slice_get, Option, None, Some, Result, Ok, Err, if◌then◌else◌}
 use Rattle.std.specs.Str.{bytes_eq}
 use Rattle.spec_text.specs.declared.decimals.Fault.{Fault}
-use Rattle.spec_header.specs.declared.rules.BrokenRule.{BrokenRule}
+use Rattle.spec_sections.specs.declared.rules.BrokenRule.{BrokenRule}
 
 -- a line of one of the files, which are counted from 0; it isn't blank
 pub record FileLine : Type 0 where

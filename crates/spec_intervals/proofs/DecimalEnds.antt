@@ -1,21 +1,13 @@
 -- The quotient that the ends of a decimal are, by the signs of its two exponents.
 use Rattle.std.proofs.Common.{◌≡◌, ℕ, zero, suc, ◌*◌, ◌^◌, ◌≤◌, arith, refl, ap, ◌∙◌, [], ◌∷◌, ℤ, pos, negsuc, neg_ℤ, ◌*ℤ◌, ◌≤ℤ◌, unsigned_abs}
 use Rattle.std.proofs.lemmas.Int.{ints, unsigned_abs-mul}
-use Rattle.std.proofs.Math.IntN.{neg_ℤ-neg_ℤ}
 use borrow.Author.Differences.{up, down}
 use Rattle.spec_intervals.specs.Interval.{IsIval, IsDistance, IsCosine, end_limit, distance_exponent, cosine_exponent, interval, decimal_top, decimal_bottom, from_decimal}
 use Rattle.spec_numbers.specs.Numbers.{floor_div, ceil_div}
 use Rattle.std.proofs.lemmas.Nat.{mul-le}
-use Rattle.spec_numbers.proofs.Floor.{floor_div-small, ceil_div-small, ordered_quotients}
+use Rattle.spec_numbers.proofs.Floor.{floor_div-one, ceil_div-one, floor_div-small, ceil_div-small, ordered_quotients}
 use Rattle.spec_intervals.proofs.Decimals.{bottom_pos}
 use Rattle.spec_numbers.proofs.Ring.{v, k as lit, ◌⊗◌, ring}
-
-floor_div-one : (z : ℤ) → floor_div z 1 ≡ z
-floor_div-one (pos n) = ap pos (omega arith)
-floor_div-one (negsuc n) = ap negsuc (omega arith)
-
-ceil_div-one : (z : ℤ) → ceil_div z 1 ≡ z
-ceil_div-one z = ap neg_ℤ (floor_div-one (neg_ℤ z)) ∙ neg_ℤ-neg_ℤ z
 
 not_above : (z : ℤ) → z ≤ℤ pos 0 → (up z ≡ 0) × (down z ≡ unsigned_abs z)
 not_above (pos zero) h = (refl, refl)

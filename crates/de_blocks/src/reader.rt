@@ -40,16 +40,6 @@ impl Model for BlockReader {
     ghost invariant = { λ r. Fits (record { accepted = r.accepted; numbers = r.numbers.items; place = r.place }) };
 }
 
-fn fault_at(line: &Line<'_>, broken: BrokenRule) -> Fault
-    ensures { result ≡ record { line = line.now.number; number = broken.number; detail = broken.detail } }
-{
-    Fault {
-        line: line.number(),
-        number: broken.number,
-        detail: broken.detail,
-    }
-}
-
 fn ended(line: u32, number: u8) -> BlockError
     ensures { result ≡ errors.Fault (record { line = line; number = number; detail = 0 }) }
 {
@@ -106,7 +96,7 @@ impl BlockReader {
                 self.place = Place::Inside;
                 Ok(())
             }
-            Err(broken) => self.refuse(fault_at(line, broken)),
+            Err(broken) => self.refuse(broken.at_line(line.number())),
         }
     }
 
@@ -123,7 +113,7 @@ impl BlockReader {
             }
             Err(Refusal::Broken(broken)) => {
                 self.numbers.truncate(kept);
-                self.refuse(fault_at(line, broken))
+                self.refuse(broken.at_line(line.number()))
             }
             Err(Refusal::Memory) => {
                 self.numbers.truncate(kept);

@@ -16,12 +16,12 @@ use crate::answers::{HeaderError, Step};
 use crate::columns::{columns_row, row};
 use crate::state::{Facts, Frame, State};
 use crate::words::{
-    broken, find_emrat, first_line, group, is_group, mass_ratio, name_count, span, value_count,
+    find_emrat, first_line, group, is_group, mass_ratio, name_count, span, value_count,
 };
 use de_text::Line;
 use spec_ephemeris::{Column, Columns, Header};
-use spec_sections::BrokenRule;
 use spec_faults::ENDED;
+use spec_sections::BrokenRule;
 use spec_text::Fault;
 use std::alloc::Global;
 use std::marker::Model;
@@ -297,11 +297,7 @@ fn next(state: State, line: &Line<'_>) -> State
     }
     match step(state, line) {
         Ok(state) => state,
-        Err(broken) => State::Refused(Fault {
-            line: line.number(),
-            number: broken.number,
-            detail: broken.detail,
-        }),
+        Err(broken) => State::Refused(broken.at_line(line.number())),
     }
 }
 
@@ -346,11 +342,7 @@ fn header_at_end(alloc: Global, state: State, line: u32) -> Result<Header, Heade
     match state {
         State::Whole { facts, columns } => whole(alloc, facts, columns),
         State::Refused(fault) => Err(HeaderError::Fault(fault)),
-        _ => Err(HeaderError::Fault(Fault {
-            line,
-            number: ENDED,
-            detail: 0,
-        })),
+        _ => Err(HeaderError::Fault(BrokenRule::new(ENDED, 0).at_line(line))),
     }
 }
 

@@ -26,12 +26,19 @@ abbrev pub ◌>>=◌ : {A B E : Type 0} → Result A E → (A → Result B E) �
 (Ok x) >>= f = f x
 (Err e) >>= f = Err e
 
+abbrev pub broken : ℕ → ℕ → BrokenRule
+broken number detail = record { number = number; detail = detail }
+
+-- the fault of a line that breaks this rule
+abbrev pub line_fault : ℕ → BrokenRule → Fault
+line_fault line rule = record { line = line; number = rule.number; detail = rule.detail }
+
 -- the answer of a rule for this line of this file
 abbrev pub at_line : {A : Type 0} → ℕ → ℕ → Result A BrokenRule → Result A Stop
 at_line file number (Ok x) = Ok x
-at_line file number (Err broken) = Err (breaks file (record { line = number; number = broken.number; detail = broken.detail }))
+at_line file number (Err rule) = Err (breaks file (line_fault number rule))
 
--- a section of one line, and the lines behind it
+-- a section of one line, and the lines after it
 abbrev pub one_line : {A : Type 0} → ℕ → (List (List ℕ) → Result A BrokenRule) → List FileLine → Result (A × List FileLine) Stop
 one_line late rule [] = Err (ended late)
 one_line late rule (line ∷ rest) = at_line line.file line.number (rule line.words) >>= λ x. Ok (x, rest)
@@ -54,11 +61,11 @@ abbrev pub first_words : ℕ → List FileLine → List FileWord
 first_words n [] = []
 first_words n (line ∷ rest) = map (word_of line) (take n line.words) ++ first_words (n - length line.words) rest
 
--- the lines behind those that hold the first n words
-abbrev pub lines_behind : ℕ → List FileLine → List FileLine
-lines_behind n [] = []
-lines_behind n (line ∷ rest) = if n == 0 then line ∷ rest else lines_behind (n - length line.words) rest
+-- the lines after those that hold the first n words
+abbrev pub lines_after : ℕ → List FileLine → List FileLine
+lines_after n [] = []
+lines_after n (line ∷ rest) = if n == 0 then line ∷ rest else lines_after (n - length line.words) rest
 
--- the lines behind a section of n words; the other words on the line of its last one are passed over
-abbrev pub behind_words : ℕ → ℕ → List FileLine → Result (List FileLine) Stop
-behind_words late n lines = if length (first_words n lines) == n then Ok (lines_behind n lines) else Err (ended late)
+-- the lines after a section of n words; the other words on the line of its last one are skipped
+abbrev pub after_words : ℕ → ℕ → List FileLine → Result (List FileLine) Stop
+after_words late n lines = if length (first_words n lines) == n then Ok (lines_after n lines) else Err (ended late)

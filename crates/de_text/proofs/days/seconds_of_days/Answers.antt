@@ -1,5 +1,5 @@
-use Rattle.de_header.proofs.Sizes.{divides, part_seconds, whole_seconds}
-use Rattle.de_header.proofs.days.seconds_of_days.Goals as goal
+use Rattle.de_text.proofs.Sizes.{divides, part_seconds, whole_seconds}
+use Rattle.de_text.proofs.days.seconds_of_days.Goals as goal
 
 pub returns-then-days-unit-eq0 : goal.returns-then-days-unit-eq0
 returns-then-days-unit-eq0 c =

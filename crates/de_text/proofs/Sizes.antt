@@ -6,7 +6,7 @@ use Rattle.std.proofs.Math.Nat.{pow-le-pow_right, mul-le-mul_right, one-le-pow, 
 use borrow.Author.Differences.{up, down}
 use Rattle.spec_text.specs.declared.decimals.Decimal.{Decimal}
 use Rattle.spec_text.specs.Days.{quotient, seconds_of_days, size_over, size_under}
-use Rattle.de_header.specs.Sizes.{capped}
+use Rattle.de_text.specs.Sizes.{capped}
 
 pub small_power : (e : ℕ) → e ≤ 38 → 10 ^ e < 2 ^ 128
 small_power e le = let bound : 10 ^ e ≤ 10 ^ 38 = pow-le-pow_right (omega arith) {i = e} le in omega (arith, bound)

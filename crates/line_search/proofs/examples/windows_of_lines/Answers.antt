@@ -3,7 +3,7 @@ use Rattle.spec_intervals.specs.Interval.{first_fit, narrow_shift, settled, narr
 use Rattle.spec_chebyshev.specs.Rows.{argument_of}
 use Rattle.spec_trees.specs.Tree.{leaves_within, leaves}
 use Rattle.line_search.specs.Search.{line}
-use Rattle.spec_events.proofs.examples.windows_of_lines.Goals as goal
+use Rattle.line_search.proofs.examples.windows_of_lines.Goals as goal
 
 pub returns-clause-rises : goal.returns-clause-rises
 unfolding leaves leaves_within argument_of line from_decimal narrow narrow_by narrow_shift first_fit settled

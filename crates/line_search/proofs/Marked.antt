@@ -13,12 +13,12 @@ use Rattle.spec_trees.specs.declared.tree.Mark.TheVariants as M
 use Rattle.spec_trees.specs.declared.tree.Verdict.TheVariants as V
 use Rattle.spec_events.specs.Events.{IsEvent, IsTurn}
 use Rattle.spec_trees.specs.Tree.{mark_of}
-use Rattle.spec_events.specs.Marks.{IsRightMark as Told}
+use Rattle.spec_events.specs.Marks.{IsRightMark}
 use Rattle.line_search.specs.Search.{IsUp, IsLeftOpen, verdict_by, verdict, sign_on, slope_sign}
 use Rattle.spec_trees.specs.Cuts.{is_wide}
-use Rattle.spec_events.proofs.Range.{at_time}
-use Rattle.spec_events.proofs.Signed.{yes_up, no_down, apart}
-use Rattle.spec_events.proofs.Lines.{at_least, below}
+use Rattle.line_search.proofs.Range.{at_time}
+use Rattle.line_search.proofs.Signed.{yes_up, no_down, apart}
+use Rattle.line_search.proofs.Straight.{at_least, below}
 
 -- ---- what the signs are where a node has a mark
 abbrev IsClear : Sign → Sign → Sign → Type 0
@@ -96,9 +96,9 @@ module _ (s : Series) (h : IsLine s) where
   only_time : (n : Node) (t : ℤ) → n.b -ℤ pos 1 ≡ n.a → n.a <ℤ t → t ≤ℤ n.b → t ≡ n.b
   only_time n t w p q = omega (arith, ints, w, p, q)
 
-  pub told : (n : Node) (m : Mark) → n.a <ℤ n.b → mark_of (verdict s n) ≡ Some m → Told (IsUp s) (IsLeftOpen s) n m
-  told n M.Clear i e = no_event n.a n.b (clear_by (is_wide n) (sign_on s n.a n.b) (sign_on s n.a n.a) (sign_on s n.b n.b) (slope_sign s) e)
-  told n (M.One turn) i e =
+  pub is_right : (n : Node) (m : Mark) → n.a <ℤ n.b → mark_of (verdict s n) ≡ Some m → IsRightMark (IsUp s) (IsLeftOpen s) n m
+  is_right n M.Clear i e = no_event n.a n.b (clear_by (is_wide n) (sign_on s n.a n.b) (sign_on s n.a n.a) (sign_on s n.b n.b) (slope_sign s) e)
+  is_right n (M.One turn) i e =
       let r = one_by (is_wide n) (sign_on s n.a n.b) (sign_on s n.a n.a) (sign_on s n.b n.b) (slope_sign s) turn e in
       let w = narrow_is n i r.0 in
       record {
@@ -107,7 +107,7 @@ module _ (s : Series) (h : IsLine s) where
         turns = turn_at turn n.a n.b w r.1;
         alone = λ t k _. only_time n t w (omega (arith, ints, k.from)) k.to;
       }
-  told n M.Undecided i e =
+  is_right n M.Undecided i e =
       let r = undecided_by (is_wide n) (sign_on s n.a n.b) (sign_on s n.a n.a) (sign_on s n.b n.b) (slope_sign s) e in
       let w = narrow_is n i r.0 in
       λ t p q. subst (IsLeftOpen s) (sym (only_time n t w p q)) (left_open w r.1 r.2)

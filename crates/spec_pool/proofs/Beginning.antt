@@ -1,5 +1,5 @@
 -- The opening state is the root alone.
-use Rattle.std.proofs.Common.{◌≡◌, ℕ, zero, suc, ◌+◌, ◌<◌, List, [], ◌∷◌, ◌++◌, Some, None, replicate, slice_get, slice_set, refl, arith}
+use Rattle.std.proofs.Common.{◌≡◌, ℕ, zero, suc, ◌+◌, ◌-◌, List, [], ◌∷◌, ◌++◌, Some, None, replicate, slice_get, slice_set, refl, arith}
 use Rattle.std.proofs.lemmas.List.{append-nil}
 use Rattle.std.proofs.lemmas.List.Elements.{All-nil, All-cons}
 use Rattle.spec_events.specs.declared.tree.Node.{Node}
@@ -14,9 +14,8 @@ idle_weigh : (h : Node → ℕ) (n : ℕ) → weigh (weigh_holding h) (replicate
 idle_weigh h zero = refl
 idle_weigh h (suc n) = omega (arith, idle_weigh h n)
 
-opening_weigh : (h : Node → ℕ) (root : Node) (n : ℕ) → 0 < n → weigh_all h (opening root n) ≡ weigh h (root ∷ [])
-opening_weigh h root zero some = absurd (omega arith)
-opening_weigh h root (suc n) some = omega (arith, idle_weigh h n)
+opening_weigh : (h : Node → ℕ) (root : Node) (n : ℕ) → weigh_all h (opening root n) ≡ weigh h (root ∷ [])
+opening_weigh h root n = omega (arith, idle_weigh h (n - 1))
 
 root_tiles : (t : Rules) (root : Node) → IsValid t root → Tiles t root (root ∷ [])
 root_tiles t root v = record {
@@ -25,10 +24,10 @@ root_tiles t root v = record {
   joined = append-nil (leaves t root);
 }
 
-pub opening_conserves : (t : Rules) (root : Node) (n : ℕ) → IsValid t root → 0 < n → Conserves t root (opening root n)
-opening_conserves t root n v some = record {
+pub opening_conserves : (t : Rules) (root : Node) (n : ℕ) → IsValid t root → Conserves t root (opening root n)
+opening_conserves t root n v = record {
   ordered = root ∷ [];
-  same = from_weights (opening root n) (root ∷ []) (λ h. opening_weigh h root n some);
+  same = from_weights (opening root n) (root ∷ []) (λ h. opening_weigh h root n);
   tiles = root_tiles t root v;
   entered = All-nil (IsLeaf t);
 }

@@ -1,6 +1,6 @@
 -- The pool as a state machine, without threads, locks or memory: what each worker holds, the leaves that are entered,
 -- and the six steps.
-use Rattle.std.specs.Prelude.{◌≡◌, ◌≢◌, ℕ, List, [], ◌∷◌, ◌++◌, Option, Some, None, slice_get, slice_set, replicate}
+use Rattle.std.specs.Prelude.{◌≡◌, ◌≢◌, ℕ, ◌-◌, List, [], ◌∷◌, ◌++◌, Option, Some, None, slice_get, slice_set, replicate}
 use Rattle.spec_events.specs.declared.tree.Node.{Node}
 use Rattle.spec_events.specs.declared.tree.Leaf.{Leaf}
 use Rattle.spec_events.specs.declared.tree.Mark.{Mark}
@@ -31,7 +31,7 @@ state workers entered = record { workers = workers; entered = entered }
 
 -- the root in the hand of worker 0, and nothing elsewhere
 abbrev pub opening : Node → ℕ → State
-opening root workers = state (slice_set (replicate workers nothing) 0 (holding (Some root) [] [])) []
+opening root workers = state (holding (Some root) [] [] ∷ replicate (workers - 1) nothing) []
 
 -- ---- what each step does to what a worker holds
 

@@ -12,7 +12,7 @@ ghost use Rattle.spec_pool.specs.Tiling.{Conserves, todo, IsDone};
 pub fn every_run_conserves()
     ensures opening {
         (t : Rules) (root : Node) (workers : ℕ)
-        → IsValid t root → 0 < workers → Conserves t root (opening root workers)
+        → IsValid t root → Conserves t root (opening root workers)
     }
     ensures runs {
         (t : Rules) (root : Node) (s : State) (xs : List Step) (s' : State)

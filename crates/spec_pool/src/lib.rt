@@ -4,10 +4,12 @@
 #![tactic(auto)]
 
 mod laws;
+mod memory;
 mod step;
 
 pub use laws::{
     a_done_pool_has_entered_all_leaves, each_step_lowers_todo_by_one, every_run_conserves,
     some_step_is_accepted,
 };
+pub use memory::Memory;
 pub use step::Step;

@@ -4,7 +4,7 @@ use Rattle.std.proofs.lemmas.Int.{ints}
 use Rattle.spec_text.specs.declared.decimals.Decimal.{Decimal}
 use Rattle.spec_ephemeris.specs.declared.header.Column.{Column}
 use Rattle.spec_ephemeris.specs.Header.{IsColumn, MeetsColumnRules, column_at, granule_size}
-use Rattle.spec_ephemeris.proofs.Granules.{one_column}
+use Rattle.spec_ephemeris.proofs.ColumnRules.{one_column}
 use Rattle.spec_ephemeris.specs.Ephemeris.{Ephemeris, IsEphemeris, IsBodyNumber, end_of, Granule, IsGranuleAt, block_numbers, granule_numbers, axis_series}
 use Rattle.line_search.specs.MercuryX.{IsLine, MERCURY, is_line_column, is_line, mercury_x}
 use Rattle.line_search.specs.Search.{series_end}

@@ -3,14 +3,14 @@ use Rattle.std.proofs.Common.{◌≡◌, ℕ, ◌*◌, ◌^◌, ◌<◌, List, a
 use Rattle.std.proofs.lemmas.Int.{ints}
 use Rattle.std.proofs.Math.Nat.{pow-zero}
 use Rattle.spec_intervals.specs.Interval.{Interval}
-use Rattle.spec_intervals.proofs.Ring.{v, k as lit, ◌⊕◌, ◌⊗◌, ring}
+use Rattle.spec_numbers.proofs.Ring.{v, k as lit, ◌⊕◌, ◌⊗◌, ring}
 use Rattle.spec_text.specs.declared.decimals.Decimal.{Decimal}
 use Rattle.spec_intervals.specs.Fraction.{Fraction, Holds}
 use Rattle.spec_intervals.proofs.Holding.{Holds-narrowed}
 use Rattle.spec_ephemeris.specs.Series.{Series, IsInUnits, scaled, argument_at, position}
 use Rattle.line_search.specs.MercuryX.{IsLine}
 use Rattle.spec_chebyshev.proofs.Arguments.{HoldsIn-argument}
-use Rattle.spec_enclosures.proofs.HeldSums.{HoldsIn-coefficient}
+use Rattle.spec_motions.proofs.HeldSums.{HoldsIn-coefficient}
 use Rattle.line_search.specs.Search.{coefficient, argument, line, x_range}
 use Rattle.line_search.proofs.Units.{Encloses, line_ends, line_encloses}
 

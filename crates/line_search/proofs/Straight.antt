@@ -1,8 +1,8 @@
 -- A line that is at least 0 at both ends of a span is so between them, and one that is below 0 there is below 0 between.
 use Rattle.std.proofs.Common.{◌≡◌, arith, [], ◌∷◌, ◌⊎◌, inl, inr, ℤ, pos, ◌+ℤ◌, ◌*ℤ◌, neg_ℤ, ◌≤ℤ◌, ◌<ℤ◌}
-use Rattle.spec_intervals.proofs.Ring.{v, ◌⊗◌, minus, ring}
-use Rattle.spec_intervals.proofs.Order.{lin, le-mul}
-use Rattle.spec_intervals.proofs.Products.{sign_cases}
+use Rattle.spec_numbers.proofs.Ring.{v, ◌⊗◌, minus, ring}
+use Rattle.spec_numbers.proofs.Order.{lin, le-mul}
+use Rattle.spec_numbers.proofs.Corners.{sign_cases}
 
 turned : (r p : ℤ) → p *ℤ r ≡ r *ℤ p
 turned r p = ring (r ∷ p ∷ []) (v 1 ⊗ v 0) (v 0 ⊗ v 1) tt

@@ -2,9 +2,10 @@
 use Rattle.std.proofs.Common.{◌≡◌, ℕ, ◌*◌, ◌^◌, arith, [], ◌∷◌, ℤ, pos, negsuc, ◌+ℤ◌, ◌*ℤ◌, ◌≤ℤ◌}
 use Rattle.spec_intervals.specs.Interval.{Interval, least4, greatest4}
 use Rattle.spec_chebyshev.specs.declared.ends.Ival62.{Ival62}
-use Rattle.spec_intervals.proofs.Ring.{v, k as lit, ◌⊕◌, ◌⊗◌, ring}
-use Rattle.spec_intervals.proofs.Order.{lin, le-mul}
-use Rattle.spec_intervals.proofs.Products.{corner_low, corner_high, least4-le, greatest4-ge}
+use Rattle.spec_numbers.proofs.Ring.{v, k as lit, ◌⊕◌, ◌⊗◌, ring}
+use Rattle.spec_numbers.proofs.Order.{lin, le-mul}
+use Rattle.spec_numbers.proofs.Corners.{corner_low, corner_high}
+use Rattle.spec_intervals.proofs.Products.{least4-le, greatest4-ge}
 
 -- lo * unit <= n <= hi * unit
 pub record Encloses (lo hi : ℤ) (unit : ℕ) (n : ℤ) : Type 0 where

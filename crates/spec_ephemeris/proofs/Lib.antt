@@ -1,4 +1,5 @@
 pub mod HeaderTest
+pub mod ColumnRules
 pub mod Granules
 pub mod Pushing
 pub mod GranuleNumbers

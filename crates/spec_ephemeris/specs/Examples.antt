@@ -10,9 +10,9 @@ use Rattle.spec_ephemeris.specs.Ephemeris.{Ephemeris}
 abbrev pub whole : ℤ → Decimal
 whole m = record { mant = m; exp = pos 0 }
 
--- a fraction is this many km
-abbrev pub IsKm : Fraction → ℤ → Type 0
-IsKm r km = r.numerator ≡ km *ℤ pos r.denominator
+-- a fraction is this whole number
+abbrev pub IsWhole : Fraction → ℤ → Type 0
+IsWhole r n = r.numerator ≡ n *ℤ pos r.denominator
 
 -- x over 32 days where it grows by 1 km each second, from 0.138240000000000000D+07 km below 0 to as much above 0
 abbrev pub growing_x : Series

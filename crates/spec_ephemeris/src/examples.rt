@@ -15,18 +15,25 @@ pub fn arguments()
 
 /// A line that grows by 1 km each second passes 0 in the middle of its block.
 pub fn positions_on_a_line()
-    ensures at_start { IsKm (position growing_x (neg_ℤ (pos 43200))) (neg_ℤ (pos 1382400)) }
-    ensures one_second_earlier { IsKm (position growing_x (pos 1339199)) (neg_ℤ (pos 1)) }
-    ensures in_the_middle { IsKm (position growing_x (pos 1339200)) (pos 0) }
-    ensures one_second_later { IsKm (position growing_x (pos 1339201)) (pos 1) }
-    ensures at_end { IsKm (position growing_x (pos 2721600)) (pos 1382400) }
+    ensures at_start { IsWhole (position growing_x (neg_ℤ (pos 43200))) (neg_ℤ (pos 1382400)) }
+    ensures one_second_earlier { IsWhole (position growing_x (pos 1339199)) (neg_ℤ (pos 1)) }
+    ensures in_the_middle { IsWhole (position growing_x (pos 1339200)) (pos 0) }
+    ensures one_second_later { IsWhole (position growing_x (pos 1339201)) (pos 1) }
+    ensures at_end { IsWhole (position growing_x (pos 2721600)) (pos 1382400) }
 {}
 
 /// 1 + 2 x + 3 (2 x^2 - 1) is 2 at x = -1, -2 at x = 0 and 6 at x = 1.
 pub fn positions_on_a_parabola()
-    ensures at_start { IsKm (position parabola (pos 100)) (pos 2) }
-    ensures in_the_middle { IsKm (position parabola (pos 105)) (neg_ℤ (pos 2)) }
-    ensures at_end { IsKm (position parabola (pos 110)) (pos 6) }
+    ensures at_start { IsWhole (position parabola (pos 100)) (pos 2) }
+    ensures in_the_middle { IsWhole (position parabola (pos 105)) (neg_ℤ (pos 2)) }
+    ensures at_end { IsWhole (position parabola (pos 110)) (pos 6) }
+{}
+
+/// A line that grows by 1 km each second has that velocity. The parabola has the slope 2 + 12 x, and x grows by 1/5 each
+/// second.
+pub fn velocities()
+    ensures line { IsWhole (velocity growing_x (pos 1339000)) (pos 1) }
+    ensures parabola_at_start { IsWhole (velocity parabola (pos 100)) (neg_ℤ (pos 2)) }
 {}
 
 /// A coefficient of a position is below 2^36 km in size.

@@ -4,7 +4,15 @@ ghost use Rattle.spec_ephemeris.specs.Ephemeris.{Ephemeris, Granule, IsEphemeris
 
 /// A time of the ephemeris has one granule of a column.
 pub fn a_time_has_one_granule()
-    ensures { (e : Ephemeris) (number : ℕ) (t : ℤ) (g h : Granule) → IsEphemeris e → IsGranuleAt e number t g → IsGranuleAt e number t h → g ≡ h }
+    ensures { (e : Ephemeris) (number : ℕ) (t : ℤ) (g h : Granule) → IsEphemeris e
+        → IsGranuleAt e number t g → IsGranuleAt e number t h → g ≡ h }
+{}
+
+/// The granule that a time is divided into is the granule of the time, and no other is.
+pub fn granule_of_a_time()
+    ensures is { (e : Ephemeris) (number : ℕ) (t : ℤ) → HasTime e number t → IsGranuleAt e number t (granule_at e number t) }
+    ensures only { (e : Ephemeris) (number : ℕ) (t : ℤ) (g : Granule) → HasTime e number t
+        → IsGranuleAt e number t g → g ≡ granule_at e number t }
 {}
 
 /// A span has one nearest border, or none.

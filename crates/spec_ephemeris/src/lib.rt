@@ -13,6 +13,7 @@ pub use body::Body;
 pub use examples::{
     arguments, columns_that_are_present, headers, places_of_columns,
     positions_on_a_line, positions_on_a_parabola, preferred_times, sizes_of_coefficients,
+    velocities,
 };
 pub use header::{Column, Columns, Header};
 pub use laws::{a_time_has_one_granule, one_border_is_nearest};

@@ -6,8 +6,8 @@ use Rattle.spec_chebyshev.specs.declared.ends.Ival62.{Ival62}
 use Rattle.spec_chebyshev.specs.Rows.{u_row, r_row, u_size, r_size, entry, EndsWithin, IsArguments}
 use Rattle.spec_chebyshev.proofs.RowEnds.{EndsWithin-u, EndsWithin-r}
 use Rattle.cheby_laws.proofs.Bounds.{size, u_within, r_within}
-use Rattle.cheby_enclose.specs.Rows.{slope_size, slope_sizes, entry_size, IsSlopeRow}
-use Rattle.cheby_enclose.proofs.LoopSums.{sizes_grow}
+use Rattle.spec_motions.specs.RowSizes.{slope_size, slope_sizes, entry_size, IsSlopeRow}
+use Rattle.spec_motions.proofs.RowSums.{sizes_grow}
 
 slope_size-le : (a b : ℕ → ℕ) (n : ℕ) → ((k : ℕ) → suc k < suc n → a k ≤ b k) → slope_size a n ≤ slope_size b n
 slope_size-le a b zero h = omega arith

@@ -7,12 +7,12 @@ use Rattle.spec_chebyshev.specs.declared.ends.Ival62.{Ival62}
 use Rattle.spec_chebyshev.specs.Differences.{Within}
 use Rattle.spec_chebyshev.specs.Rows.{EndsWithin}
 use Rattle.spec_intervals.specs.Interval.{IsDistance, decimal_top, decimal_bottom, from_decimal}
-use Rattle.spec_intervals.proofs.Floor.{floor_div-small, ceil_div-small}
+use Rattle.spec_numbers.proofs.Floor.{floor_div-small, ceil_div-small}
 use Rattle.spec_intervals.proofs.Decimals.{bottom_pos}
 use Rattle.ival_core.proofs.DecimalEnds.{distance-size}
 use Rattle.spec_ephemeris.specs.Ephemeris.{IsBodyNumber}
 use Rattle.spec_motions.specs.Sums.{coefficient}
-use Rattle.cheby_enclose.specs.Rows.{AreTerms}
+use Rattle.spec_motions.specs.RowSizes.{AreTerms}
 use Rattle.std.proofs.lemmas.List.Elements.{All-nil, All-cons, All-head, All-tail}
 use borrow.Author.Differences.{up, down}
 use mir.Syntax.{w128}

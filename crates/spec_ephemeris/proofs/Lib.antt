@@ -5,3 +5,4 @@ pub mod GranuleAt
 pub mod Lines
 pub mod Pushing
 pub mod GranuleNumbers
+pub mod SmallNumbers

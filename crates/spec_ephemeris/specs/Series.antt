@@ -4,7 +4,8 @@ use Rattle.std.specs.Prelude.{ℕ, suc, ◌*◌, ◌-◌, ◌^◌, List, [], ◌
 use Rattle.spec_text.specs.declared.decimals.Decimal.{Decimal}
 use Rattle.spec_intervals.specs.Fraction.{Fraction}
 use Rattle.spec_intervals.specs.Interval.{IsDistance}
-use Rattle.spec_intervals.specs.Chebyshev.{cleared_t, power}
+use Rattle.spec_chebyshev.specs.Polynomials.{cleared_t}
+use Rattle.spec_numbers.specs.Numbers.{power}
 
 -- a granule begins at `start` and takes `duration`; over it the coordinate is the sum of c_k T_k, with c_0 first
 pub record Series : Type 0 where

@@ -2,7 +2,7 @@
 -- The derivative of T_k is k U_(k-1), and one second is a step of 2 / duration in the argument.
 use Rattle.std.specs.Prelude.{ℕ, zero, suc, ◌-◌, ◌*◌, ◌^◌, length, drop, ℤ, pos, ◌+ℤ◌, ◌*ℤ◌}
 use Rattle.spec_intervals.specs.Fraction.{Fraction, fraction_sub}
-use Rattle.spec_intervals.specs.Chebyshev.{cleared_u}
+use Rattle.spec_chebyshev.specs.Polynomials.{cleared_u}
 use Rattle.spec_ephemeris.specs.Series.{Series, argument_at, cleared_sum}
 
 -- T_k'(u / l) = k U_(k-1)(u / l) is a whole number over l^(k-1)

@@ -5,6 +5,7 @@
 
 mod body;
 mod examples;
+mod granule;
 mod header;
 mod laws;
 mod limits;
@@ -15,6 +16,7 @@ pub use examples::{
     positions_on_a_line, positions_on_a_parabola, preferred_times, sizes_of_coefficients,
     velocities,
 };
+pub use granule::Granule;
 pub use header::{Column, Columns, Header};
 pub use laws::{
     a_time_has_one_granule, granule_of_a_time, mercury_x_is_a_line, one_border_is_nearest,

@@ -2,8 +2,8 @@
 use Rattle.std.proofs.Common.{◌≡◌, ℕ, zero, suc, ◌+◌, ◌^◌, arith, refl, sym, ap, ◌∙◌, List, [], ◌∷◌, length, ℤ, pos, ◌+ℤ◌, ◌*ℤ◌}
 use Rattle.std.proofs.Math.Nat.{mul_comm, pow-zero, pow-suc}
 use Rattle.spec_text.specs.declared.decimals.Decimal.{Decimal}
-use Rattle.spec_intervals.specs.Chebyshev.{power}
-use Rattle.spec_intervals.proofs.Ring.{v, k as lit, ◌⊕◌, ◌⊗◌, ring}
+use Rattle.spec_numbers.specs.Numbers.{power}
+use Rattle.spec_numbers.proofs.Ring.{v, k as lit, ◌⊕◌, ◌⊗◌, ring}
 use Rattle.spec_ephemeris.specs.Series.{scaled, cleared_sum}
 
 changed_term : (c p0 d w x y : ℤ) → c *ℤ ((p0 +ℤ pos 2 *ℤ d) *ℤ w) +ℤ (x +ℤ pos 2 *ℤ y) ≡ (c *ℤ (p0 *ℤ w) +ℤ x) +ℤ pos 2 *ℤ (c *ℤ (d *ℤ w) +ℤ y)

@@ -4,13 +4,14 @@ use Rattle.std.proofs.lemmas.Int.{ints}
 use Rattle.std.proofs.Math.Nat.{one-le-pow}
 use lib.Signed.{lt_z}
 use Rattle.spec_text.specs.declared.decimals.Decimal.{Decimal}
-use Rattle.spec_intervals.specs.Interval.{floor_div, ceil_div, scale}
+use Rattle.spec_numbers.specs.Numbers.{floor_div, ceil_div, power}
+use Rattle.spec_intervals.specs.Interval.{scale}
 use Rattle.spec_intervals.specs.Fraction.{Holds, fraction}
-use Rattle.spec_intervals.specs.Chebyshev.{cleared_t, cleared_u, power}
-use Rattle.spec_intervals.proofs.Ring.{v, k as lit, ◌⊕◌, ◌⊖◌, ◌⊗◌, ring}
-use Rattle.spec_intervals.proofs.Order.{lin, le-mul}
-use Rattle.spec_intervals.proofs.Whole.{nonneg-mul}
-use Rattle.spec_intervals.proofs.Floor.{floor_div-le, ceil_div-ge}
+use Rattle.spec_chebyshev.specs.Polynomials.{cleared_t, cleared_u}
+use Rattle.spec_numbers.proofs.Ring.{v, k as lit, ◌⊕◌, ◌⊖◌, ◌⊗◌, ring}
+use Rattle.spec_numbers.proofs.Order.{lin, le-mul}
+use Rattle.spec_numbers.proofs.Whole.{nonneg-mul}
+use Rattle.spec_numbers.proofs.Floor.{floor_div-le, ceil_div-ge}
 use Rattle.spec_intervals.proofs.Rules.{Holds-scale}
 use Rattle.spec_chebyshev.specs.declared.ends.Ival62.{Ival62}
 use Rattle.spec_chebyshev.specs.Differences.{difference_t, difference_u, IsArgument}

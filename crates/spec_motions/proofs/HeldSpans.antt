@@ -2,8 +2,9 @@
 use Rattle.std.proofs.Common.{◌≡◌, ℕ, suc, ◌+◌, ◌-◌, ◌*◌, ◌^◌, arith, subst, length, ℤ, pos, negsuc, ◌*ℤ◌, ◌≤ℤ◌, ◌<ℤ◌}
 use Rattle.std.proofs.lemmas.Int.{ints}
 use Rattle.spec_intervals.specs.Fraction.{Holds, fraction}
-use Rattle.spec_intervals.specs.Chebyshev.{cleared_t, power}
-use Rattle.spec_intervals.proofs.Order.{lin}
+use Rattle.spec_chebyshev.specs.Polynomials.{cleared_t}
+use Rattle.spec_numbers.specs.Numbers.{power}
+use Rattle.spec_numbers.proofs.Order.{lin}
 use Rattle.spec_intervals.proofs.Holding.{Holds-narrowed}
 use Rattle.spec_chebyshev.specs.declared.ends.Ival62.{Ival62}
 use Rattle.spec_chebyshev.specs.Differences.{IsArgument}

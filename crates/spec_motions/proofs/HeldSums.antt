@@ -5,19 +5,18 @@ use Rattle.std.proofs.lemmas.Nat.{pow-add}
 use Rattle.std.proofs.lemmas.List.Elements.{All-head, All-tail}
 use borrow.Author.Differences.{up, down}
 use Rattle.spec_text.specs.declared.decimals.Decimal.{Decimal}
-use Rattle.spec_intervals.specs.Interval.{floor_div, ceil_div, decimal_top, decimal_bottom, from_decimal, least4, greatest4}
-use Rattle.spec_intervals.specs.Chebyshev.{power}
-use Rattle.spec_intervals.proofs.Ring.{v, k as lit, ◌⊕◌, ◌⊗◌, ring}
-use Rattle.spec_intervals.proofs.Order.{lin, le-mul}
-use Rattle.spec_intervals.proofs.Floor.{floor_div-le, ceil_div-ge}
+use Rattle.spec_numbers.specs.Numbers.{floor_div, ceil_div, power}
+use Rattle.spec_intervals.specs.Interval.{decimal_top, decimal_bottom, from_decimal, least4, greatest4}
+use Rattle.spec_numbers.proofs.Ring.{v, k as lit, ◌⊕◌, ◌⊗◌, ring}
+use Rattle.spec_numbers.proofs.Order.{lin, le-mul}
+use Rattle.spec_numbers.proofs.Floor.{floor_div-le, ceil_div-ge}
 use Rattle.spec_intervals.proofs.Decimals.{bottom_pos}
 use Rattle.spec_chebyshev.specs.declared.ends.Ival62.{Ival62}
 use Rattle.spec_chebyshev.specs.Rows.{ends, HoldsIn}
 use Rattle.spec_chebyshev.proofs.Polynomials.{nonneg-power}
 use Rattle.spec_chebyshev.proofs.Quotients.{least_below, greatest_above}
-use Rattle.spec_ephemeris.specs.Series.{IsInUnits, to_nat, scaled}
+use Rattle.spec_ephemeris.specs.Series.{IsInUnits, to_nat, scaled, cleared_sum}
 use Rattle.spec_ephemeris.specs.Ephemeris.{IsBodyNumber}
-use Rattle.spec_ephemeris.specs.Series.{cleared_sum}
 use Rattle.spec_motions.specs.Sums.{coefficient, sum_low, sum_high}
 use Rattle.spec_motions.proofs.ClearedSums.{power-add}
 

@@ -5,3 +5,5 @@ pub mod HeldSpans
 pub mod HeldChanges
 pub mod Widths
 pub mod Tight
+pub mod RowSums
+pub mod GranuleSeries

@@ -3,8 +3,8 @@ use Rattle.std.proofs.Common.{◌≡◌, ℕ, suc, ◌*◌, ◌^◌, arith, sym,
 use borrow.Author.Differences.{up, down}
 use Rattle.spec_intervals.specs.Interval.{Interval, interval}
 use Rattle.spec_intervals.specs.Fraction.{Fraction, IsFraction, Holds, AtMost, AtLeast, fraction}
-use Rattle.spec_intervals.proofs.Ring.{v, ◌⊗◌, ring}
-use Rattle.spec_intervals.proofs.Order.{lin, le-mul, le-mul_cancel}
+use Rattle.spec_numbers.proofs.Ring.{v, ◌⊗◌, ring}
+use Rattle.spec_numbers.proofs.Order.{lin, le-mul, le-mul_cancel}
 use Rattle.spec_chebyshev.specs.declared.ends.Ival62.{Ival62}
 use Rattle.spec_chebyshev.specs.Rows.{HoldsIn}
 

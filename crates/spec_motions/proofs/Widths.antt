@@ -4,11 +4,11 @@ use Rattle.std.proofs.lemmas.Int.{ints, unsigned_abs-mul, by_lt_z}
 use Rattle.std.proofs.lemmas.Nat.{mul-le, pow_pos}
 use Rattle.std.proofs.Math.Nat.{pow-suc}
 use Rattle.std.specs.Int.{int_min, int_max}
-use Rattle.spec_intervals.specs.Interval.{floor_div, ceil_div, least4, greatest4}
-use Rattle.spec_intervals.specs.Chebyshev.{power}
-use Rattle.spec_intervals.proofs.Ring.{v, k as lit, ◌⊕◌, ◌⊖◌, ◌⊗◌, minus, ring}
-use Rattle.spec_intervals.proofs.Order.{lin, le-mul, le-mul_cancel}
-use Rattle.spec_intervals.proofs.Floor.{floor_div-lt}
+use Rattle.spec_numbers.specs.Numbers.{floor_div, ceil_div, power}
+use Rattle.spec_intervals.specs.Interval.{least4, greatest4}
+use Rattle.spec_numbers.proofs.Ring.{v, k as lit, ◌⊕◌, ◌⊖◌, ◌⊗◌, minus, ring}
+use Rattle.spec_numbers.proofs.Order.{lin, le-mul, le-mul_cancel}
+use Rattle.spec_numbers.proofs.Floor.{floor_div-lt}
 use Rattle.spec_chebyshev.specs.declared.ends.Ival62.{Ival62}
 use Rattle.spec_chebyshev.specs.Differences.{Within, IsArgument}
 use Rattle.spec_chebyshev.specs.Rows.{nothing, next, t_row, HoldsIn, EndsWithin, IsArguments}

@@ -4,12 +4,12 @@ use Rattle.std.proofs.lemmas.Int.{ints, unsigned_abs-mul, by_lt_z}
 use Rattle.std.proofs.lemmas.Nat.{mul-le}
 use Rattle.std.specs.Int.{int_min, int_max}
 use Rattle.spec_intervals.specs.Interval.{least4, greatest4}
-use Rattle.spec_intervals.proofs.Ring.{v, ◌⊕◌, ◌⊗◌, ring}
-use Rattle.spec_intervals.proofs.Whole.{mul_comm}
+use Rattle.spec_numbers.proofs.Ring.{v, ◌⊕◌, ◌⊗◌, ring}
+use Rattle.spec_numbers.proofs.Whole.{mul_comm}
 use Rattle.std.proofs.lemmas.Bool.{cases_lt}
 use Rattle.spec_chebyshev.specs.Differences.{Within}
-use Rattle.cheby_enclose.specs.Rows.{slope_sizes, entry_size}
-use Rattle.spec_intervals.proofs.Order.{lin, le-mul}
+use Rattle.spec_motions.specs.RowSizes.{slope_sizes, entry_size}
+use Rattle.spec_numbers.proofs.Order.{lin, le-mul}
 use Rattle.spec_intervals.proofs.Products.{corners_ordered}
 use Rattle.spec_chebyshev.specs.declared.ends.Ival62.{Ival62}
 use Rattle.spec_chebyshev.specs.Rows.{entry, nothing, EndsWithin}

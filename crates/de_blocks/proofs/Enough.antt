@@ -6,7 +6,7 @@ use Rattle.spec_ephemeris.specs.Ephemeris.{Ephemeris}
 use Rattle.spec_header.specs.declared.rules.BrokenRule.{BrokenRule}
 use Rattle.spec_header.specs.Sections.{FileLine, Stop, ◌>>=◌, at_line, behind_words, first_words, lines_behind}
 use Rattle.spec_header.proofs.Holding.{Holds, holds_ok, then_any}
-use Rattle.spec_blocks.specs.declared.rules.TheConstants.{TRUNCATED}
+use Rattle.spec_faults.specs.declared.numbers.TheConstants.{TRUNCATED}
 use Rattle.spec_blocks.specs.BlockRules.{record_line}
 use Rattle.spec_blocks.specs.Blocks.{block, blocks_behind, further_numbers, further_words, numbers_of, with_numbers, zeros_of}
 

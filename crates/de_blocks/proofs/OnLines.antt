@@ -8,7 +8,7 @@ use Rattle.spec_header.specs.Sections.{FileLine, FileWord, Stop, ◌>>=◌, at_l
 use Rattle.spec_header.proofs.Behind.{behind_no_words, behind_words_of_line, no_words}
 use Rattle.spec_header.proofs.ColumnsMeet.{holds_also}
 use Rattle.spec_header.proofs.Holding.{Holds, holds_ok, then_any}
-use Rattle.spec_blocks.specs.declared.rules.TheConstants.{TRUNCATED}
+use Rattle.spec_faults.specs.declared.numbers.TheConstants.{TRUNCATED}
 use Rattle.spec_blocks.specs.BlockRules.{number_rule, trailing_rule}
 use Rattle.spec_blocks.specs.Blocks.{further_numbers, further_words, numbers_of, zeros_of}
 use Rattle.spec_blocks.specs.Read.{AreRead}

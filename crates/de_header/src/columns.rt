@@ -6,9 +6,8 @@ ghost use Rattle.spec_header.specs.ColumnRules.{column_rule, columns_of, columns
 use crate::words::{broken, whole_at};
 use de_text::Line;
 use spec_ephemeris::{COLUMNS, Column, FIRST_PLACE, MOST_COEFFICIENTS, NUTATIONS};
-use spec_header::{
-    BrokenRule, COEFFICIENT_COUNT, COLUMN_COUNT, COLUMN_PLACE, GRANULE_NOT_WHOLE, HEADER_NUMBER,
-};
+use spec_header::BrokenRule;
+use spec_faults::{COEFFICIENT_COUNT, COLUMN_COUNT, COLUMN_PLACE, GRANULE_NOT_WHOLE, HEADER_NUMBER};
 
 // The whole numbers of a line, one for each column.
 pub(crate) fn row(line: &Line<'_>) -> Result<[u32; 13], BrokenRule>

@@ -7,7 +7,8 @@ ghost use Rattle.de_header.specs.Sizes.{capped};
 
 use crate::words::broken;
 use spec_ephemeris::{GREATEST_MASS_RATIO, LEAST_MASS_RATIO};
-use spec_header::{BrokenRule, JD_NOT_WHOLE_SECOND, LAST_JULIAN_DAY, LIMIT, MOST_BLOCK_DAYS};
+use spec_header::{BrokenRule, LAST_JULIAN_DAY, MOST_BLOCK_DAYS};
+use spec_faults::{JD_NOT_WHOLE_SECOND, LIMIT};
 use spec_text::Decimal;
 
 const DAY: u128 = 86_400;

@@ -19,7 +19,8 @@ use crate::words::{
 };
 use de_text::Line;
 use spec_ephemeris::{Column, Columns, Header};
-use spec_header::{BrokenRule, ENDED};
+use spec_header::BrokenRule;
+use spec_faults::ENDED;
 use spec_text::Fault;
 use std::alloc::Global;
 use std::marker::Model;

@@ -7,10 +7,8 @@ ghost use Rattle.spec_header.specs.HeaderRules.{decimal_at, emrat_from, first_li
 use crate::days::{block_length, is_mass_ratio, seconds_of_julian_date};
 use de_text::{Decimal, Line, read_decimal, read_whole};
 use spec_ephemeris::{FEWEST_NUMBERS, MOST_NUMBERS};
-use spec_header::{
-    BrokenRule, COUNT_MISMATCH, EMRAT_MISSING, EMRAT_RANGE, FIRST_LINE, GROUP_MISSING,
-    HEADER_NUMBER, LIMIT, MOST_CONSTANTS,
-};
+use spec_header::{BrokenRule, MOST_CONSTANTS};
+use spec_faults::{COUNT_MISMATCH, EMRAT_MISSING, EMRAT_RANGE, FIRST_LINE, GROUP_MISSING, HEADER_NUMBER, LIMIT};
 
 pub(crate) fn broken(number: u8, detail: u16) -> BrokenRule
     ensures { result ≡ record { number = number; detail = detail } }

@@ -1,7 +1,7 @@
 -- What the rules' calls owe each other, over plain intervals.
 use Rattle.std.proofs.Common.{◌≡◌, ◌+◌, arith, ◌∙◌, ℤ, ◌≤ℤ◌, ◌-ℤ◌, pos, true, false, unsigned_abs, max, ◌*◌}
 use lib.Signed.{lt_z}
-use Rattle.spec_intervals.proofs.Order.{lin}
+use Rattle.spec_numbers.proofs.Order.{lin}
 use Rattle.spec_intervals.specs.Interval.{Interval, IsExponent, narrow, sum, difference, product, meet, signed_square}
 use Rattle.spec_intervals.specs.Fraction.{Overlaps, fraction_add, fraction_sub, fraction_mul, fraction_signed_square}
 use Rattle.spec_expressions.specs.Enclosure.{Enclosure, IsSpan, IsWithin, Encloses, part_exponent, middle, offsets, centred, enclosure, zero_interval, twice_size}

@@ -11,7 +11,7 @@ use Rattle.spec_files.proofs.Joining.{broken_refused}
 use Rattle.gf_edges.specs.Edges.{Files, Lacks, file_of}
 use Rattle.spec_output.specs.Answers.{if_line, searched}
 use Rattle.spec_output.specs.Files.{AreFiles, IsFile}
-use Rattle.spec_output.specs.declared.faults.TheConstants.{NOT_BUILT}
+use Rattle.spec_faults.specs.declared.numbers.TheConstants.{NOT_BUILT}
 use Rattle.gf_find.specs.declared.reader.LineStop.TheVariants as stops
 use Rattle.gf_find.specs.declared.reader.Reader.{Reader}
 use Rattle.gf_find.specs.Found.{AreAccepted, EndsIn}

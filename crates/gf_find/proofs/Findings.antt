@@ -10,14 +10,15 @@ use Rattle.spec_header.specs.Sections.{Stop, ended, breaks, ◌>>=◌}
 use Rattle.spec_header.proofs.Holding.{holds_ok}
 use Rattle.spec_blocks.specs.Blocks.{ephemeris}
 use Rattle.spec_blocks.proofs.Accepted.{HasBlocks, ephemeris_holds}
-use Rattle.spec_events.specs.Events.{AreCertain, AreInOrder, AreOpen, AreWindows, HoldEvents}
+use Rattle.spec_events.specs.Events.{AreCertain, AreOpen, AreWindows, HoldEvents}
+use Rattle.spec_trees.specs.Placement.{AreInOrder}
 use Rattle.spec_events.specs.LineSearch.{IsLeftOpen, IsUp, found_windows, series_end}
 use Rattle.spec_events.proofs.Found.{found_are}
 use Rattle.spec_files.specs.Texts.{at_end, joined}
 use Rattle.spec_files.specs.Outcome.{broken, outcome, outcome_by}
 use Rattle.gf_edges.specs.Edges.{Files}
 use Rattle.spec_output.specs.Answers.{Asks, if_line, searched}
-use Rattle.spec_output.specs.declared.faults.TheConstants.{NOT_BUILT}
+use Rattle.spec_faults.specs.declared.numbers.TheConstants.{NOT_BUILT}
 
 line_by : (texts : List (List ℕ)) (x e : Ephemeris) (line : Bool) → is_line x ≡ line → (if line then Ok x else Err (at_end texts NOT_BUILT)) ≡ Ok e → (x ≡ e) × (is_line e ≡ true)
 line_by texts x e true told is = let same : x ≡ e = cc in (same, ap is_line (sym same) ∙ told)

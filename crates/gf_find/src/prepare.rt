@@ -12,8 +12,9 @@ use crate::reading::{Stop, read_all};
 use crate::search::search;
 use eph_model::Ephemeris;
 use gf_edges::Shelf;
-use spec_files::{MOST_FILES, TOO_MANY_FILES};
-use spec_output::NOT_BUILT;
+use spec_files::MOST_FILES;
+use spec_faults::TOO_MANY_FILES;
+use spec_faults::NOT_BUILT;
 use spec_text::Fault;
 use std::alloc::Global;
 

@@ -11,7 +11,7 @@ use de_blocks::{BlockError, BlockReader};
 use de_header::{HeaderError, HeaderReader, Step};
 use de_text::{Line, LineStep, Tokens};
 use eph_model::Ephemeris;
-use spec_header::LINE_TOO_LONG;
+use spec_faults::LINE_TOO_LONG;
 use spec_text::Fault;
 use std::alloc::Global;
 

@@ -3,11 +3,12 @@ use Rattle.std.proofs.Common.{◌≡◌, ℕ, zero, suc, ◌*◌, ◌^◌, ◌�
 use Rattle.std.proofs.lemmas.Int.{ints, unsigned_abs-mul}
 use Rattle.std.proofs.Math.IntN.{neg_ℤ-neg_ℤ}
 use borrow.Author.Differences.{up, down}
-use Rattle.spec_intervals.specs.Interval.{IsIval, IsDistance, IsCosine, end_limit, distance_exponent, cosine_exponent, interval, floor_div, ceil_div, decimal_top, decimal_bottom, from_decimal}
+use Rattle.spec_intervals.specs.Interval.{IsIval, IsDistance, IsCosine, end_limit, distance_exponent, cosine_exponent, interval, decimal_top, decimal_bottom, from_decimal}
+use Rattle.spec_numbers.specs.Numbers.{floor_div, ceil_div}
 use Rattle.std.proofs.lemmas.Nat.{mul-le}
-use Rattle.spec_intervals.proofs.Floor.{floor_div-small, ceil_div-small, ordered_quotients}
+use Rattle.spec_numbers.proofs.Floor.{floor_div-small, ceil_div-small, ordered_quotients}
 use Rattle.spec_intervals.proofs.Decimals.{bottom_pos}
-use Rattle.spec_intervals.proofs.Ring.{v, k as lit, ◌⊗◌, ring}
+use Rattle.spec_numbers.proofs.Ring.{v, k as lit, ◌⊗◌, ring}
 
 floor_div-one : (z : ℤ) → floor_div z 1 ≡ z
 floor_div-one (pos n) = ap pos (omega arith)

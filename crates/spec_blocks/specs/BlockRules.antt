@@ -12,7 +12,7 @@ use Rattle.spec_header.specs.declared.rules.BrokenRule.{BrokenRule}
 use Rattle.spec_header.specs.declared.rules.TheConstants.{LAST_JULIAN_DAY}
 use Rattle.spec_header.specs.HeaderRules.{broken, seconds_within, size_over, size_under, whole_at}
 use Rattle.spec_header.specs.Sections.{◌>>=◌}
-use Rattle.spec_blocks.specs.declared.rules.TheConstants.{RECORD_LINE, NCOEFF_DIFFERS, BLOCK_SPAN, BLOCK_GAP, NUMBER, TOO_LARGE, TOO_MANY_BLOCKS, TRAILING_NUMBERS}
+use Rattle.spec_faults.specs.declared.numbers.TheConstants.{RECORD_LINE, NCOEFF_DIFFERS, BLOCK_SPAN, BLOCK_GAP, NUMBER, TOO_LARGE, TOO_MANY_BLOCKS, TRAILING_NUMBERS}
 
 -- the record number may be any
 abbrev pub record_numbers : ℕ → Option ℕ → Option ℕ → Result (Unit {0}) BrokenRule

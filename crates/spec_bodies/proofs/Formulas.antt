@@ -4,8 +4,8 @@ use Rattle.std.specs.Prelude.{All}
 use Rattle.std.proofs.Math.Nat.{one-le-pow}
 use borrow.Author.Differences.{down}
 use Rattle.spec_text.specs.declared.decimals.Decimal.{Decimal}
-use Rattle.spec_intervals.proofs.Floor.{floor_div-le, ceil_div-ge}
-use Rattle.spec_intervals.specs.Interval.{floor_div, ceil_div}
+use Rattle.spec_numbers.proofs.Floor.{floor_div-le, ceil_div-ge}
+use Rattle.spec_numbers.specs.Numbers.{floor_div, ceil_div}
 use Rattle.spec_intervals.specs.Fraction.{Fraction, IsFraction, Holds, fraction}
 use Rattle.spec_expressions.specs.Enclosure.{Enclosure, IsEnclosure, AllFractions, zero_interval}
 use Rattle.spec_expressions.proofs.Compare.{IsFraction-mul, Holds-zero}

@@ -2,7 +2,8 @@
 // At x = u / l the polynomials of degree k are `cleared_t u l k` and `cleared_u u l k` over l^k.
 
 ghost use Rattle.std.specs.Prelude.{◌≡◌, ℕ, suc, ◌*◌, ◌^◌, ℤ, pos, neg_ℤ, ◌+ℤ◌, ◌-ℤ◌, ◌*ℤ◌, ◌≤ℤ◌, ◌<ℤ◌};
-ghost use Rattle.spec_intervals.specs.Chebyshev.{cleared_t, cleared_u, power};
+ghost use Rattle.spec_chebyshev.specs.Polynomials.{cleared_t, cleared_u};
+ghost use Rattle.spec_numbers.specs.Numbers.{power};
 ghost use Rattle.spec_chebyshev.specs.Differences.{difference_t, difference_u, weighted_sum, t_weight, u_weight, IsArgument, Within};
 ghost use Rattle.spec_chebyshev.specs.declared.ends.Ival62.{Ival62};
 ghost use Rattle.spec_chebyshev.specs.Rows.{t_size, u_size, q_size, r_size, t_unit, u_unit, q_unit, r_unit, t_row, u_row, q_row, r_row, argument_of, HoldsIn, EndsWithin, IsArguments};

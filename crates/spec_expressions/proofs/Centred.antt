@@ -2,16 +2,17 @@
 use Rattle.std.proofs.Common.{◌≡◌, ℕ, zero, suc, ◌*◌, ◌^◌, arith, refl, sym, ap, subst, ◌∙◌, [], ◌∷◌, ℤ, pos, negsuc, ◌+ℤ◌, ◌-ℤ◌, ◌*ℤ◌, neg_ℤ, ◌≤ℤ◌, ◌<ℤ◌, ◌⊎◌, inl, inr}
 use Rattle.std.proofs.lemmas.Int.{ints}
 use borrow.Author.Differences.{up, down}
-use Rattle.spec_intervals.proofs.Ring.{v, k as lit, ◌⊕◌, ◌⊖◌, ◌⊗◌, minus, ring}
-use Rattle.spec_intervals.proofs.Order.{lin}
+use Rattle.spec_numbers.proofs.Ring.{v, k as lit, ◌⊕◌, ◌⊖◌, ◌⊗◌, minus, ring}
+use Rattle.spec_numbers.proofs.Order.{lin}
 use Rattle.spec_intervals.specs.Fraction.{Fraction, IsFraction, Holds, AtMost, AtLeast, fraction_add, fraction_sub}
 use Rattle.spec_intervals.proofs.Narrow.{Holds-narrow}
 use Rattle.spec_intervals.specs.Interval.{Interval, least4, greatest4, product, sum}
 use Rattle.spec_expressions.specs.Enclosure.{AllFractions, change, middle, centred}
-use Rattle.spec_intervals.proofs.Floor.{floor_div-le, floor_div-lt}
+use Rattle.spec_numbers.proofs.Floor.{floor_div-le, floor_div-lt}
 use Rattle.spec_expressions.proofs.Compare.{AtMost-le, AtLeast-le, AtMost-less, AtLeast-more, Holds-same, IsFraction-mul}
 use Rattle.spec_intervals.proofs.Sums.{sum_low, sum_high, Holds-sum}
-use Rattle.spec_intervals.proofs.Products.{least4-le, greatest4-ge, corner_low, corner_high}
+use Rattle.spec_intervals.proofs.Products.{least4-le, greatest4-ge}
+use Rattle.spec_numbers.proofs.Corners.{corner_low, corner_high}
 use Rattle.spec_intervals.proofs.Rules.{AtMost-neg, AtLeast-neg, fraction_neg}
 
 -- from x to y and from y to z is from x to z

@@ -1,7 +1,7 @@
 -- Leaves whose value is the time itself are enclosed.
 use Rattle.std.proofs.Common.{ℕ, ◌^◌, ◌≤◌, arith, ℤ, pos, ◌≤ℤ◌, unsigned_abs}
 use Rattle.std.proofs.lemmas.Int.{ints}
-use Rattle.spec_intervals.proofs.Order.{lin}
+use Rattle.spec_numbers.proofs.Order.{lin}
 use Rattle.spec_intervals.proofs.Narrow.{Holds-narrow}
 use Rattle.spec_intervals.specs.Interval.{narrow}
 use Rattle.spec_intervals.specs.Fraction.{Holds, fraction}

@@ -2,8 +2,8 @@
 use Rattle.std.proofs.Common.{◌≡◌, ℕ, ◌*◌, ◌^◌, ◌<◌, arith, [], ◌∷◌, ℤ, pos, ◌*ℤ◌, ◌≤ℤ◌}
 use Rattle.std.proofs.lemmas.Int.{ints}
 use borrow.Author.Differences.{up, down}
-use Rattle.spec_intervals.proofs.Ring.{v, ◌⊗◌, ring}
-use Rattle.spec_intervals.proofs.Order.{lin, le-mul, le-mul_cancel}
+use Rattle.spec_numbers.proofs.Ring.{v, ◌⊗◌, ring}
+use Rattle.spec_numbers.proofs.Order.{lin, le-mul, le-mul_cancel}
 use Rattle.spec_intervals.specs.Fraction.{Fraction, IsFraction, Holds, AtMost, AtLeast}
 use Rattle.spec_intervals.specs.Interval.{Interval}
 use Rattle.spec_expressions.specs.Enclosure.{zero_interval}

@@ -2,8 +2,8 @@
 use Rattle.std.proofs.Common.{◌≡◌, arith, refl, subst, [], ◌∷◌, ℤ, pos, ◌+ℤ◌, ◌*ℤ◌, ◌≤ℤ◌, ◌<ℤ◌, Bool, true, false}
 use Rattle.std.specs.Prelude.{if◌then◌else◌}
 use lib.Signed.{lt_z}
-use Rattle.spec_intervals.proofs.Ring.{v, ◌⊕◌, ◌⊖◌, ◌⊗◌, ring}
-use Rattle.spec_intervals.proofs.Order.{lin}
+use Rattle.spec_numbers.proofs.Ring.{v, ◌⊕◌, ◌⊖◌, ◌⊗◌, ring}
+use Rattle.spec_numbers.proofs.Order.{lin}
 use Rattle.spec_intervals.proofs.Products.{Holds-product}
 use Rattle.spec_intervals.proofs.Rules.{Holds-difference, Holds-meet}
 use Rattle.spec_intervals.proofs.Squares.{Holds-signed_square}

@@ -2,8 +2,9 @@
 use Rattle.std.proofs.Common.{◌&&◌, ◌≡◌, ◌≤◌, arith, refl, ap, ◌∙◌, ℤ, pos, negsuc, zero, suc, ◌+ℤ◌, ◌-ℤ◌, neg_ℤ, true, unsigned_abs}
 use Rattle.std.proofs.lemmas.Bool.Decides.{nat_tests}
 use Rattle.std.proofs.Math.Nat.{div-one}
-use Rattle.spec_intervals.specs.Interval.{interval, end_limit, floor_div, ceil_div, is_small, fits_after, settled, narrow_by, narrow}
-use Rattle.spec_intervals.proofs.Order.{lin}
+use Rattle.spec_intervals.specs.Interval.{interval, end_limit, is_small, fits_after, settled, narrow_by, narrow}
+use Rattle.spec_numbers.specs.Numbers.{floor_div, ceil_div}
+use Rattle.spec_numbers.proofs.Order.{lin}
 use Rattle.spec_intervals.proofs.Narrow.{narrow-is}
 use Rattle.spec_expressions.specs.Enclosure.{IsSpan, offsets, middle}
 use Rattle.spec_expressions.proofs.Reach.{offsets-within}

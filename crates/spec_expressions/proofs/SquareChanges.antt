@@ -3,9 +3,9 @@ use Rattle.std.proofs.Common.{◌≡◌, ℕ, suc, ◌*◌, ◌^◌, max, ◌≤
 use Rattle.std.proofs.lemmas.Int.{ints}
 use Rattle.std.proofs.Math.Nat.{mul-le-mul_right}
 use borrow.Author.Differences.{up, down}
-use Rattle.spec_intervals.proofs.Ring.{v, ◌⊕◌, ◌⊖◌, ◌⊗◌, ring}
-use Rattle.spec_intervals.proofs.Order.{lin}
-use Rattle.spec_intervals.proofs.Floor.{unsigned_abs-neg}
+use Rattle.spec_numbers.proofs.Ring.{v, ◌⊕◌, ◌⊖◌, ◌⊗◌, ring}
+use Rattle.spec_numbers.proofs.Order.{lin}
+use Rattle.spec_numbers.proofs.Sizes.{unsigned_abs-neg}
 use Rattle.spec_intervals.proofs.Narrow.{Holds-narrow}
 use Rattle.spec_intervals.proofs.Products.{Holds-product}
 use Rattle.spec_intervals.proofs.Squares.{signed_sq-le}

@@ -2,7 +2,8 @@
 -- Times are whole numbers of units, and the step is the change over one unit.
 use Rattle.std.specs.Prelude.{ℕ, ◌*◌, ◌^◌, ◌≤◌, max, if◌then◌else◌, ◌≤ℤ◌, ◌<ℤ◌, ℤ, pos, ◌+ℤ◌, ◌-ℤ◌, unsigned_abs}
 use lib.Signed.{lt_z}
-use Rattle.spec_intervals.specs.Interval.{Interval, interval, end_limit, floor_div, narrow, sum, difference, product, meet, signed_square}
+use Rattle.spec_intervals.specs.Interval.{Interval, interval, end_limit, narrow, sum, difference, product, meet, signed_square}
+use Rattle.spec_numbers.specs.Numbers.{floor_div}
 use Rattle.spec_intervals.specs.Fraction.{Fraction, IsFraction, Holds, fraction_sub}
 
 -- what holds the value in the middle, every value, and every change from one time to the next

@@ -1,7 +1,7 @@
 -- What holds of the value of a chain of steps, where it has one.
 use Rattle.std.proofs.Common.{◌≡◌, List, [], ◌∷◌, ℕ, Result, Ok, Err, refl, subst}
 use Rattle.spec_header.specs.declared.rules.BrokenRule.{BrokenRule}
-use Rattle.spec_header.specs.declared.rules.TheConstants.{ENDED}
+use Rattle.spec_faults.specs.declared.numbers.TheConstants.{ENDED}
 use Rattle.spec_header.specs.Sections.{FileLine, Stop, ◌>>=◌, at_line, one_line}
 
 abbrev pub Holds : {B E : Type 0} → (B → Type 0) → Result B E → Type 0

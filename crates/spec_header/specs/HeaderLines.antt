@@ -4,7 +4,7 @@ use Rattle.spec_text.specs.Lines.{Numbered, is_too_long, lines, text_lines, toke
 use Rattle.spec_text.specs.declared.decimals.Decimal.{Decimal}
 use Rattle.spec_text.specs.declared.decimals.Fault.{Fault}
 use Rattle.spec_ephemeris.specs.declared.header.Header.{Header}
-use Rattle.spec_header.specs.declared.rules.TheConstants.{LINE_TOO_LONG, ENDED}
+use Rattle.spec_faults.specs.declared.numbers.TheConstants.{LINE_TOO_LONG, ENDED}
 use Rattle.spec_header.specs.ColumnRules.{columns_row, row}
 use Rattle.spec_header.specs.HeaderRules.{emrat_from, first_line, group, mass_ratio, name_count, span, value_count}
 use Rattle.spec_header.specs.Sections.{FileLine, FileWord, Stop, ended, breaks, ◌>>=◌, at_line, behind_words, first_words, from_word, one_line}

@@ -3,7 +3,8 @@
 use Rattle.std.specs.Prelude.{ℕ, zero, suc, ◌+◌, ◌-◌, ◌*◌, ◌^◌, ◌<◌, min, Bool, true, false, ◌&&◌, nat_le, if◌then◌else◌, ◌≤◌, ◌≤ℤ◌, ℤ, pos, negsuc, ◌+ℤ◌, ◌-ℤ◌, ◌*ℤ◌, neg_ℤ, unsigned_abs}
 use Rattle.std.specs.Int.{int_min, int_max, int_gap}
 use borrow.Author.Differences.{up, down}
-use lib.Signed.{shr_z, le_z}
+use lib.Signed.{le_z}
+use Rattle.spec_numbers.specs.Numbers.{floor_div, ceil_div}
 
 -- all numbers from lo * 2^s to hi * 2^s
 pub record Interval : Type 0 where
@@ -34,13 +35,6 @@ pub record IsIval (t : Interval) : Type 0 where
   pub ordered : t.lo ≤ℤ t.hi
   pub lo_small : unsigned_abs t.lo ≤ end_limit
   pub hi_small : unsigned_abs t.hi ≤ end_limit
-
--- z / d rounded down, and rounded up, for d > 0
-abbrev pub floor_div : ℤ → ℕ → ℤ
-floor_div z d = shr_z z d
-
-abbrev pub ceil_div : ℤ → ℕ → ℤ
-ceil_div z d = neg_ℤ (shr_z (neg_ℤ z) d)
 
 -- ---- narrowing: both ends are halved together, as often as it takes until neither is past the limit
 abbrev pub is_small : ℤ → Bool

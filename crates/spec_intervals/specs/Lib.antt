@@ -1,4 +1,3 @@
 pub mod Interval
 pub mod Fraction
-pub mod Chebyshev
 pub mod Signs

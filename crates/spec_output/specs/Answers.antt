@@ -5,11 +5,11 @@ use Rattle.spec_ephemeris.specs.Ephemeris.{Ephemeris, is_line}
 use Rattle.spec_header.specs.Sections.{◌>>=◌}
 use Rattle.spec_files.specs.Texts.{at_end, fault_at}
 use Rattle.spec_files.specs.Outcome.{broken, outcome}
-use Rattle.spec_files.specs.declared.limits.TheConstants.{MOST_FILES, TOO_MANY_FILES}
+use Rattle.spec_files.specs.declared.limits.TheConstants.{MOST_FILES}
+use Rattle.spec_faults.specs.declared.numbers.TheConstants.{TOO_MANY_FILES, NOT_BUILT}
 use Rattle.gf_edges.specs.Edges.{Files, Lacks, Rose}
 use Rattle.spec_output.specs.Words.{AreAskedFor}
 use Rattle.spec_output.specs.Files.{AreFiles}
-use Rattle.spec_output.specs.declared.faults.TheConstants.{NOT_BUILT}
 
 -- an ephemeris is searched so far only where Mercury's x is a line in it
 abbrev pub if_line : List (List ℕ) → Ephemeris → Result Ephemeris (ℕ × Fault)

@@ -1,6 +1,5 @@
-use Rattle.std.proofs.Common.{refl, arith}
+use Rattle.std.proofs.Common.{refl, arith, pos}
 use Rattle.spec_intervals.specs.Fraction.{fraction}
-use Rattle.std.proofs.Common.{pos}
 use Rattle.spec_expressions.proofs.Compare.{Holds-zero}
 use Rattle.body_states.proofs.states.BodyStates.nothing.Goals as goal
 

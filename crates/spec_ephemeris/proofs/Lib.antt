@@ -6,3 +6,4 @@ pub mod Lines
 pub mod Pushing
 pub mod GranuleNumbers
 pub mod SmallNumbers
+pub mod Units

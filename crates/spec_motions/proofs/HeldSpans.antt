@@ -14,7 +14,7 @@ use Rattle.spec_chebyshev.proofs.RowLaws.{HoldsIn-t}
 use Rattle.spec_ephemeris.specs.Series.{Series, argument_at, cleared_sum, position}
 use Rattle.spec_motions.specs.Sums.{sum_low, sum_high}
 use Rattle.spec_motions.specs.Enclosures.{IsSeries, IsSpan, arguments, coefficients_of, position_over, position_interval}
-use Rattle.spec_motions.proofs.ClearedSums.{power_is}
+use Rattle.spec_numbers.proofs.Naturals.{power-pos}
 use Rattle.spec_motions.proofs.HeldSums.{HoldsIn-sum}
 use Rattle.spec_motions.proofs.Same.{Holds-units}
 
@@ -34,7 +34,7 @@ module _ (s : Series) (a b t : ℤ) (is : IsSeries s) (span : IsSpan s a b) (fro
 
 -- ---- what is held over 10^140 and a power of the duration
 pub HoldsIn-denominator : (u : ℕ) (e : Ival62) (n : ℤ) (d k : ℕ) → HoldsIn u e n (pos (10 ^ 140) *ℤ power (pos d) k) → HoldsIn u e n (pos (10 ^ 140 * d ^ k))
-HoldsIn-denominator u e n d k h = subst (λ (z : ℤ). HoldsIn u e n (pos (10 ^ 140) *ℤ z)) (power_is d k) h
+HoldsIn-denominator u e n d k h = subst (λ (z : ℤ). HoldsIn u e n (pos (10 ^ 140) *ℤ z)) (power-pos d k) h
 
 pub Holds-position : (s : Series) (a b t : ℤ) → IsSeries s → IsSpan s a b → a ≤ℤ t → t ≤ℤ b → Holds (position_interval s a b) (position s t)
 unfolding position_over

@@ -1,7 +1,6 @@
 -- The intervals of velocities and of changes hold the exact ones.
 use Rattle.std.proofs.Common.{◌≡◌, ℕ, zero, suc, ◌+◌, ◌-◌, ◌*◌, ◌^◌, ◌<◌, ◌≤◌, arith, refl, sym, ap, ◌∙◌, subst, Bool, true, false, List, [], ◌∷◌, length, map, drop, All, ℤ, pos, negsuc, ◌+ℤ◌, ◌-ℤ◌, ◌*ℤ◌, ◌≤ℤ◌, ◌<ℤ◌}
 use Rattle.std.proofs.lemmas.Int.{ints}
-use Rattle.std.proofs.Math.Nat.{one-le-pow}
 use lib.Signed.{lt_z}
 use Rattle.spec_text.specs.declared.decimals.Decimal.{Decimal}
 use Rattle.spec_numbers.specs.Numbers.{floor_div, ceil_div, power}
@@ -20,14 +19,15 @@ use Rattle.spec_chebyshev.proofs.Polynomials.{t_one_second, u_one_second}
 use Rattle.spec_chebyshev.proofs.RowLaws.{HoldsIn-u, HoldsIn-q, HoldsIn-r}
 use Rattle.spec_ephemeris.specs.Series.{Series, argument_at, cleared_sum, position}
 use Rattle.spec_ephemeris.specs.Ephemeris.{IsBodyNumber}
-use Rattle.spec_ephemeris.specs.Velocity.{cleared_slope, velocity, change}
+use Rattle.spec_ephemeris.specs.Velocity.{cleared_slope, velocity}
+use Rattle.spec_intervals.specs.Enclosure.{change}
 use Rattle.spec_motions.specs.Sums.{coefficient, times, slope_row, slope_difference_row, sum_low, sum_high}
-use Rattle.spec_motions.specs.Enclosures.{IsSeries, IsSpan, arguments, coefficients_of, position_step_over, velocity_over, velocity_step_over, position_step_interval, velocity_interval, velocity_step_interval}
+use Rattle.spec_motions.specs.Enclosures.{IsSeries, IsSpanOf, arguments, coefficients_of, position_step_over, velocity_over, velocity_step_over, position_step_interval, velocity_interval, velocity_step_interval}
 use Rattle.spec_motions.proofs.ClearedSums.{cleared_sum-change, cleared_sum-times}
 use Rattle.spec_motions.proofs.HeldSums.{HoldsIn-sum}
-use Rattle.spec_motions.proofs.HeldSpans.{IsArgument-at, HoldsIn-at, HoldsIn-denominator}
+use Rattle.spec_motions.proofs.HeldSpans.{IsArgument-at, HoldsIn-at, Holds-units, HoldsIn-denominator}
 use Rattle.spec_numbers.proofs.Naturals.{positive_product, positive_multiple}
-use Rattle.spec_motions.proofs.Same.{Holds-same, Holds-units}
+use Rattle.spec_intervals.proofs.Compare.{Holds-same}
 use Rattle.std.proofs.lemmas.List.Elements.{All-drop}
 
 -- ---- rows of multiples
@@ -87,7 +87,7 @@ changed_once l c d n = ring (l ∷ c ∷ d ∷ n ∷ []) (lit (pos 2) ⊗ (v 0 �
 changed_twice : (l c d n : ℤ) → pos 2 *ℤ (pos 2 *ℤ (l *ℤ (l *ℤ c))) *ℤ (d *ℤ d) ≡ (pos 2 *ℤ (n +ℤ pos 2 *ℤ c) *ℤ d -ℤ pos 2 *ℤ n *ℤ d) *ℤ (d *ℤ l *ℤ l)
 changed_twice l c d n = ring (l ∷ c ∷ d ∷ n ∷ []) (lit (pos 2) ⊗ (lit (pos 2) ⊗ (v 0 ⊗ (v 0 ⊗ v 1))) ⊗ (v 2 ⊗ v 2)) ((lit (pos 2) ⊗ (v 3 ⊕ lit (pos 2) ⊗ v 1) ⊗ v 2 ⊖ lit (pos 2) ⊗ v 3 ⊗ v 2) ⊗ (v 2 ⊗ v 0 ⊗ v 0)) tt
 
-module _ (s : Series) (a b : ℤ) (is : IsSeries s) (span : IsSpan s a b) where
+module _ (s : Series) (a b : ℤ) (is : IsSeries s) (span : IsSpanOf s a b) where
   abbrev x : Ival62
   x = arguments s a b
 

@@ -1,13 +1,12 @@
 -- The sums of intervals hold the plain sums, where the rows hold the polynomials.
-use Rattle.std.proofs.Common.{◌≡◌, ℕ, suc, ◌+◌, ◌-◌, ◌*◌, ◌^◌, arith, refl, sym, ap, ◌∙◌, List, [], ◌∷◌, length, map, All, ℤ, pos, negsuc, ◌+ℤ◌, ◌*ℤ◌, neg_ℤ, ◌≤ℤ◌}
-use Rattle.std.proofs.lemmas.Int.{ints}
+use Rattle.std.proofs.Common.{◌≡◌, ℕ, suc, ◌+◌, ◌-◌, ◌^◌, arith, refl, sym, ap, ◌∙◌, List, [], ◌∷◌, length, map, All, ℤ, pos, negsuc, ◌+ℤ◌, ◌*ℤ◌, ◌≤ℤ◌}
 use Rattle.std.proofs.lemmas.Nat.{pow-add}
 use Rattle.std.proofs.lemmas.List.Elements.{All-head, All-tail}
 use borrow.Author.Differences.{up, down}
 use Rattle.spec_text.specs.declared.decimals.Decimal.{Decimal}
 use Rattle.spec_numbers.specs.Numbers.{floor_div, ceil_div, power}
 use Rattle.spec_intervals.specs.Interval.{decimal_top, decimal_bottom, from_decimal, least4, greatest4}
-use Rattle.spec_numbers.proofs.Ring.{v, k as lit, ◌⊕◌, ◌⊗◌, ring}
+use Rattle.spec_numbers.proofs.Ring.{v, k as lit, ◌⊗◌, ring}
 use Rattle.spec_numbers.proofs.Order.{lin, le-mul}
 use Rattle.spec_numbers.proofs.Floor.{floor_div-le, ceil_div-ge}
 use Rattle.spec_intervals.proofs.Decimals.{bottom_pos}

@@ -1,4 +1,3 @@
-pub mod Same
 pub mod ClearedSums
 pub mod HeldSums
 pub mod HeldSpans

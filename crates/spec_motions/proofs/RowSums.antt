@@ -1,10 +1,9 @@
 -- Sums over rows: one term more, which entries they depend on, the order of their ends and their sizes.
 use Rattle.std.proofs.Common.{◌≡◌, ℕ, zero, suc, ◌+◌, ◌-◌, ◌*◌, ◌^◌, ◌<◌, ◌≤◌, max, arith, refl, sym, ap, ◌∙◌, List, [], ◌∷◌, length, drop, get_or, ℤ, pos, ◌+ℤ◌, ◌*ℤ◌, ◌≤ℤ◌, unsigned_abs, drop-cons, ◌⊎◌, inl, inr}
-use Rattle.std.proofs.lemmas.Int.{ints, unsigned_abs-mul, by_lt_z}
-use Rattle.std.proofs.lemmas.Nat.{mul-le}
+use Rattle.std.proofs.lemmas.Int.{ints, by_lt_z}
 use Rattle.std.specs.Int.{int_min, int_max}
 use Rattle.spec_intervals.specs.Interval.{least4, greatest4}
-use Rattle.spec_numbers.proofs.Ring.{v, ◌⊕◌, ◌⊗◌, ring}
+use Rattle.spec_numbers.proofs.Ring.{v, ◌⊕◌, ring}
 use Rattle.spec_numbers.proofs.Whole.{mul_comm, exchanged}
 use Rattle.std.proofs.lemmas.Bool.{cases_lt}
 use Rattle.spec_chebyshev.specs.Differences.{Within}

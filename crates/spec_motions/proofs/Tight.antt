@@ -1,7 +1,6 @@
 -- A position at one time is tight: its coefficients, the row of T and narrowing add little to its width.
-use Rattle.std.proofs.Common.{◌≡◌, ℕ, zero, suc, ◌+◌, ◌*◌, ◌^◌, ◌<◌, ◌≤◌, max, arith, refl, sym, ap, ◌∙◌, subst, false, ◌⊎◌, inl, inr, List, [], ◌∷◌, length, map, All, ℤ, pos, negsuc, ◌+ℤ◌, ◌-ℤ◌, ◌*ℤ◌, ◌≤ℤ◌, ◌<ℤ◌, unsigned_abs}
+use Rattle.std.proofs.Common.{◌≡◌, ℕ, zero, suc, ◌+◌, ◌*◌, ◌^◌, ◌<◌, ◌≤◌, max, arith, sym, ap, ◌∙◌, subst, false, ◌⊎◌, inl, inr, List, [], ◌∷◌, length, map, All, ℤ, pos, negsuc, ◌+ℤ◌, ◌-ℤ◌, ◌*ℤ◌, ◌≤ℤ◌, ◌<ℤ◌, unsigned_abs}
 use Rattle.std.proofs.lemmas.Int.{ints, unsigned_abs-mul}
-use Rattle.std.specs.Int.{int_min, int_max}
 use Rattle.spec_numbers.proofs.Floor.{floor_div-one, ceil_div-one, ordered_quotients}
 use Rattle.std.proofs.lemmas.Nat.{mul-le, pow_pos}
 use Rattle.std.proofs.lemmas.Bool.{false≢true, cases_lt}
@@ -16,14 +15,13 @@ use Rattle.spec_numbers.proofs.Order.{lin, le-mul, le-mul_cancel}
 use Rattle.spec_intervals.proofs.Narrow.{sizes-fit, narrow_shift-least, rescale_low}
 use Rattle.spec_intervals.proofs.Decimals.{bottom_pos}
 use Rattle.spec_chebyshev.specs.declared.ends.Ival62.{Ival62}
-use Rattle.spec_chebyshev.specs.Differences.{Within}
 use Rattle.spec_chebyshev.specs.Rows.{t_row, argument_of, EndsWithin, IsArguments}
 use Rattle.spec_chebyshev.proofs.RowEnds.{EndsWithin-t}
 use Rattle.spec_chebyshev.proofs.Arguments.{IsArguments-argument, size_within}
 use Rattle.spec_ephemeris.specs.Series.{Series, argument_at, scaled}
 use Rattle.spec_ephemeris.specs.Ephemeris.{IsBodyNumber}
 use Rattle.spec_motions.specs.Sums.{coefficient, sum_low, sum_high}
-use Rattle.spec_motions.specs.Enclosures.{IsSeries, IsSpan, IsTight, spread, arguments, coefficients_of, position_over, position_interval}
+use Rattle.spec_motions.specs.Enclosures.{IsSeries, IsSpanOf, IsTight, spread, arguments, coefficients_of, position_over, position_interval}
 use Rattle.spec_motions.proofs.HeldSums.{HoldsIn-coefficient}
 use Rattle.spec_numbers.proofs.Sizes.{sum_size}
 use Rattle.spec_motions.proofs.EndSizes.{least_size, greatest_size}
@@ -222,7 +220,7 @@ thin_argument : (s : Series) (a : ℤ) → 1 ≤ s.duration → (arguments s a a
 unfolding argument_of
 thin_argument s a h = thin_quotients (argument_at s a *ℤ pos (2 ^ 60)) s.duration h
 
-pub IsTight-position : (s : Series) (a : ℤ) → IsSeries s → IsSpan s a a → IsTight s.coefficients (position_interval s a a)
+pub IsTight-position : (s : Series) (a : ℤ) → IsSeries s → IsSpanOf s a a → IsTight s.coefficients (position_interval s a a)
 unfolding position_over
 IsTight-position s a is span =
     let l0 : pos 0 <ℤ pos s.duration = let p = is.long in omega (arith, ints) in

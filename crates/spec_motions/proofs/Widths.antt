@@ -1,7 +1,7 @@
 -- How wide the row of T is at one argument, and the product of two intervals.
 use Rattle.std.proofs.Common.{◌≡◌, ℕ, zero, suc, ◌+◌, ◌-◌, ◌*◌, ◌^◌, ◌<◌, ◌≤◌, arith, [], ◌∷◌, ℤ, pos, negsuc, ◌+ℤ◌, ◌-ℤ◌, ◌*ℤ◌, neg_ℤ, ◌≤ℤ◌, ◌<ℤ◌, unsigned_abs}
-use Rattle.std.proofs.lemmas.Int.{ints, unsigned_abs-mul, by_lt_z}
-use Rattle.std.proofs.lemmas.Nat.{mul-le, pow_pos}
+use Rattle.std.proofs.lemmas.Int.{ints}
+use Rattle.std.proofs.lemmas.Nat.{pow_pos}
 use Rattle.std.proofs.Math.Nat.{pow-suc}
 use Rattle.std.specs.Int.{int_min, int_max}
 use Rattle.spec_numbers.specs.Numbers.{floor_div, ceil_div, power}
@@ -11,7 +11,7 @@ use Rattle.spec_numbers.proofs.Order.{lin, le-mul, le-mul_cancel, lt-mul_cancel}
 use Rattle.spec_numbers.proofs.Sizes.{product_size}
 use Rattle.spec_numbers.proofs.Floor.{floor_div-lt}
 use Rattle.spec_chebyshev.specs.declared.ends.Ival62.{Ival62}
-use Rattle.spec_chebyshev.specs.Differences.{Within, IsArgument}
+use Rattle.spec_chebyshev.specs.Differences.{IsArgument}
 use Rattle.spec_chebyshev.specs.Rows.{nothing, next, t_row, HoldsIn, EndsWithin, IsArguments}
 use Rattle.spec_chebyshev.proofs.RowEnds.{EndsWithin-t}
 use Rattle.spec_chebyshev.proofs.RowLaws.{HoldsIn-t}

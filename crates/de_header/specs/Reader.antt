@@ -7,7 +7,7 @@ use Rattle.spec_ephemeris.specs.declared.header.Column.{Column}
 use Rattle.spec_ephemeris.specs.declared.header.Header.{Header}
 use Rattle.spec_sections.specs.declared.rules.BrokenRule.{BrokenRule}
 use Rattle.spec_faults.specs.declared.numbers.TheConstants.{ENDED}
-use Rattle.spec_header.specs.declared.rules.TheConstants.{MOST_CONSTANTS}
+use Rattle.spec_header.specs.declared.limits.TheConstants.{MOST_CONSTANTS}
 use Rattle.spec_header.specs.ColumnRules.{columns_row, row}
 use Rattle.spec_header.specs.HeaderLines.{mass_ratio_among, names}
 use Rattle.spec_header.specs.HeaderRules.{emrat_from, first_line, group, name_count, span, value_count}

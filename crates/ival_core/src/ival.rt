@@ -17,6 +17,12 @@ use std::marker::Model;
 #[cfg(test)]
 mod tests;
 
+/// The exponent of 2 at which the decimals of distances in km are taken.
+pub const DISTANCE_EXPONENT: i32 = -24;
+
+/// The exponent of 2 at which the decimals of cosines are taken.
+pub const COSINE_EXPONENT: i32 = -60;
+
 /// By how many powers of 2 an end is multiplied at most.
 const LIFT_LIMIT: u32 = 60;
 

@@ -1,7 +1,7 @@
 use Rattle.std.proofs.Common.{◌≡◌, ◌*◌, ◌^◌, ◌∙◌, ap, min, unsigned_abs, arith, refl}
 use Rattle.std.proofs.lemmas.Int.{ints, to_z-of_z}
-use Rattle.event_expr.proofs.Sizes.{cosine-divided, cosine-multiplied, tested_le}
-use Rattle.event_expr.proofs.constants.is_cosine.Goals as goal
+use Rattle.ival_core.proofs.DecimalSizes.{cosine-divided, cosine-multiplied, tested_le}
+use Rattle.ival_core.proofs.sizes.is_cosine.Goals as goal
 
 pub returns-then-exp-lt0 : goal.returns-then-exp-lt0
 returns-then-exp-lt0 c =

@@ -25,17 +25,17 @@ down_below : (size power : ℕ) → size ≤ 2 ^ 63 → 10 ^ 19 ≤ power → (s
 down_below size power small far = (λ h. omega arith, λ h. omega arith)
 
 -- below 0 an exponent divides, and else it multiplies
-pub length-divided : (mant exp : ℤ) → unsigned_abs mant ≤ 2 ^ 63 → exp <ℤ pos 0 → (unsigned_abs mant < 2 ^ 36 * 10 ^ min (unsigned_abs exp) 19) ↔ IsDistance mant exp
-length-divided mant (pos n) small below = absurd (omega (arith, ints))
-length-divided mant (negsuc n) small below =
+pub distance-divided : (mant exp : ℤ) → unsigned_abs mant ≤ 2 ^ 63 → exp <ℤ pos 0 → (unsigned_abs mant < 2 ^ 36 * 10 ^ min (unsigned_abs exp) 19) ↔ IsDistance mant exp
+distance-divided mant (pos n) small below = absurd (omega (arith, ints))
+distance-divided mant (negsuc n) small below =
     let known = capped (λ p. unsigned_abs mant < 2 ^ 36 * p) (suc n) (λ power far. down_below (unsigned_abs mant) power small far) in
     (λ h. omega (arith, known.0 h), λ h. known.1 (omega (arith, h)))
 
-pub length-multiplied : (mant exp : ℤ) → pos 0 ≤ℤ exp → (unsigned_abs mant * 10 ^ min (unsigned_abs exp) 19 < 2 ^ 36) ↔ IsDistance mant exp
-length-multiplied mant (pos n) from =
+pub distance-multiplied : (mant exp : ℤ) → pos 0 ≤ℤ exp → (unsigned_abs mant * 10 ^ min (unsigned_abs exp) 19 < 2 ^ 36) ↔ IsDistance mant exp
+distance-multiplied mant (pos n) from =
     let known = capped (λ p. unsigned_abs mant * p < 2 ^ 36) n (λ power far. up_below (unsigned_abs mant) power far) in
     (λ h. omega (arith, known.0 h), λ h. known.1 (omega (arith, h)))
-length-multiplied mant (negsuc n) from = absurd (omega (arith, ints))
+distance-multiplied mant (negsuc n) from = absurd (omega (arith, ints))
 
 -- ---- at most 1
 up_most : (size power : ℕ) → 10 ^ 19 ≤ power → (size * 10 ^ 19 ≤ 1) ↔ (size * power ≤ 1)

@@ -4,6 +4,7 @@
 #![tactic(auto)]
 
 mod examples;
+mod facts;
 mod laws;
 mod rules;
 
@@ -11,6 +12,7 @@ pub use examples::{
     a_header_is_read, some_words_are_passed_over, the_columns_are_refused,
     the_constants_are_refused, the_first_lines_are_refused,
 };
+pub use facts::{BlockShape, Facts};
 pub use laws::accepted_headers_meet_the_rules;
 pub use rules::{
     COEFFICIENT_COUNT, COLUMN_COUNT, COLUMN_PLACE, COUNT_MISMATCH, EMRAT_MISSING, EMRAT_RANGE,

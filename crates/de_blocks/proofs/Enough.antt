@@ -8,7 +8,7 @@ use Rattle.spec_sections.specs.Sections.{FileLine, Stop, ◌>>=◌, at_line, aft
 use Rattle.spec_sections.proofs.Holding.{Holds, holds_ok, then_any}
 use Rattle.spec_sections.proofs.Steps.{bind_same}
 use Rattle.spec_sections.proofs.WordSections.{after_fewer}
-use Rattle.spec_blocks.specs.declared.rules.TheConstants.{TRUNCATED}
+use Rattle.spec_faults.specs.declared.numbers.TheConstants.{TRUNCATED}
 use Rattle.spec_blocks.specs.BlockRules.{record_line}
 use Rattle.spec_blocks.specs.Blocks.{block, blocks_behind, further_numbers, further_words, numbers_of, with_numbers, zeros_of}
 

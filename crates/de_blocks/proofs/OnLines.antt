@@ -8,7 +8,7 @@ use Rattle.spec_sections.specs.Sections.{FileLine, FileWord, Stop, ◌>>=◌, at
 use Rattle.spec_sections.proofs.Steps.{bind_assoc, bind_at, bind_same}
 use Rattle.spec_sections.proofs.WordSections.{after_no_words, after_words_of_line, no_words}
 use Rattle.spec_sections.proofs.Holding.{holds_also, Holds, holds_ok, then_any}
-use Rattle.spec_blocks.specs.declared.rules.TheConstants.{TRUNCATED}
+use Rattle.spec_faults.specs.declared.numbers.TheConstants.{TRUNCATED}
 use Rattle.spec_blocks.specs.BlockRules.{number_rule, trailing_rule}
 use Rattle.spec_blocks.specs.Blocks.{further_numbers, further_words, numbers_of, zeros_of}
 use Rattle.spec_blocks.specs.Read.{AreRead}

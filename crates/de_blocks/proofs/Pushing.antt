@@ -8,7 +8,7 @@ use Rattle.spec_sections.specs.declared.rules.BrokenRule.{BrokenRule}
 use Rattle.std.proofs.lemmas.Bool.{ltb-true}
 use Rattle.spec_sections.specs.Sections.{broken}
 use Rattle.spec_sections.proofs.Holding.{holds_ok}
-use Rattle.spec_blocks.specs.declared.rules.TheConstants.{BLOCK_SPAN}
+use Rattle.spec_faults.specs.declared.numbers.TheConstants.{BLOCK_SPAN}
 use Rattle.spec_blocks.specs.BlockRules.{coefficient_rule, follows, has_length, is_behind_gap, is_passed_over, second_date, time_of, value_rule}
 use Rattle.spec_blocks.specs.Blocks.{begun, with_numbers}
 use Rattle.spec_blocks.specs.Read.{AreRead}

@@ -8,7 +8,7 @@ use Rattle.spec_ephemeris.specs.Ephemeris.{Ephemeris}
 use Rattle.spec_sections.specs.declared.rules.BrokenRule.{BrokenRule}
 use Rattle.spec_sections.specs.Sections.{FileLine, Stop, ended, breaks as breaks_rule, ◌>>=◌, at_line, line_fault}
 use Rattle.spec_sections.proofs.Holding.{holds_ok}
-use Rattle.spec_blocks.specs.declared.rules.TheConstants.{TRUNCATED}
+use Rattle.spec_faults.specs.declared.numbers.TheConstants.{TRUNCATED}
 use Rattle.spec_blocks.specs.BlockRules.{record_line}
 use Rattle.spec_blocks.specs.Blocks.{blocks_behind, further_numbers, with_numbers}
 use Rattle.spec_blocks.specs.Read.{AreRead}

@@ -15,7 +15,7 @@ use crate::rules::record_line;
 use crate::state::Place;
 use de_text::Line;
 use eph_model::Ephemeris;
-use spec_blocks::{NO_BLOCK, TRUNCATED};
+use spec_faults::{NO_BLOCK, TRUNCATED};
 use spec_ephemeris::Header;
 use spec_sections::BrokenRule;
 use spec_text::{Decimal, Fault};

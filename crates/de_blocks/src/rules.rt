@@ -6,10 +6,7 @@ ghost use Rattle.spec_blocks.specs.BlockRules.{coefficient_rule, first_date, fol
 
 use de_text::{Line, read_decimal, seconds_of_julian_date};
 use eph_model::Ephemeris;
-use spec_blocks::{
-    BLOCK_GAP, BLOCK_SPAN, NCOEFF_DIFFERS, NUMBER, RECORD_LINE, TOO_LARGE, TOO_MANY_BLOCKS,
-    TRAILING_NUMBERS,
-};
+use spec_faults::{BLOCK_GAP, BLOCK_SPAN, NCOEFF_DIFFERS, NUMBER, RECORD_LINE, TOO_LARGE, TOO_MANY_BLOCKS, TRAILING_NUMBERS};
 use spec_ephemeris::{BODY_COLUMNS, Column, FIRST_TIME, MOST_BLOCKS, NUTATIONS};
 use spec_sections::BrokenRule;
 use spec_text::Decimal;

@@ -4,7 +4,7 @@ use Rattle.std.specs.Prelude.{slice_get}
 use Rattle.std.proofs.lemmas.Bool.{cases_lt, cases_eq}
 use Rattle.std.proofs.lemmas.List.{length-append, length-map, length-take, map-append, take_all}
 use Rattle.std.proofs.lemmas.Option.{none-some}
-use Rattle.spec_header.specs.declared.rules.TheConstants.{ENDED}
+use Rattle.spec_faults.specs.declared.numbers.TheConstants.{ENDED}
 use Rattle.spec_header.specs.HeaderLines.{mass_ratio_among, names}
 use Rattle.spec_header.specs.HeaderRules.{mass_ratio}
 use Rattle.spec_sections.proofs.WordSections.{after_no_words, after_words_of_line, no_words}

@@ -5,7 +5,8 @@ ghost use Rattle.spec_header.specs.HeaderRules.{block_length, days_by, days_rule
 
 use de_text::{DaysFault, seconds_of_julian_date, seconds_within, size_over, size_under};
 use spec_ephemeris::{GREATEST_MASS_RATIO, LEAST_MASS_RATIO};
-use spec_header::{JD_NOT_WHOLE_SECOND, LIMIT, MOST_BLOCK_DAYS};
+use spec_faults::{JD_NOT_WHOLE_SECOND, LIMIT};
+use spec_header::MOST_BLOCK_DAYS;
 use spec_sections::BrokenRule;
 use spec_text::Decimal;
 

@@ -5,9 +5,7 @@ ghost use Rattle.spec_header.specs.ColumnRules.{column_rule, columns_of, columns
 
 use de_text::Line;
 use spec_ephemeris::{COLUMNS, Column, FIRST_PLACE, MOST_COEFFICIENTS, NUTATIONS};
-use spec_header::{
-    COEFFICIENT_COUNT, COLUMN_COUNT, COLUMN_PLACE, GRANULE_NOT_WHOLE, HEADER_NUMBER,
-};
+use spec_faults::{COEFFICIENT_COUNT, COLUMN_COUNT, COLUMN_PLACE, GRANULE_NOT_WHOLE, HEADER_NUMBER};
 use spec_sections::BrokenRule;
 
 // The whole numbers of a line, one for each column.

@@ -7,10 +7,8 @@ ghost use Rattle.spec_header.specs.HeaderRules.{decimal_at, emrat_from, first_li
 use crate::bounds::{block_length, check_julian_date, is_mass_ratio};
 use de_text::{Decimal, Line, read_decimal};
 use spec_ephemeris::{FEWEST_NUMBERS, MOST_NUMBERS};
-use spec_header::{
-    COUNT_MISMATCH, EMRAT_MISSING, EMRAT_RANGE, FIRST_LINE, GROUP_MISSING, HEADER_NUMBER, LIMIT,
-    MOST_CONSTANTS,
-};
+use spec_faults::{COUNT_MISMATCH, EMRAT_MISSING, EMRAT_RANGE, FIRST_LINE, GROUP_MISSING, HEADER_NUMBER, LIMIT};
+use spec_header::MOST_CONSTANTS;
 use spec_sections::BrokenRule;
 
 fn is_word(line: &Line<'_>, i: usize, text: &[u8]) -> bool

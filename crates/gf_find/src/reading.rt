@@ -10,7 +10,7 @@ ghost use Rattle.gf_find.specs.Reading.{IsPassed, IsReady, StopsFile};
 use crate::files::{ReadFault, read_file};
 use crate::reader::{Fed, LineStop, Reader, feed, first_reader};
 use gf_edges::Shelf;
-use spec_files::FILE_TOO_LARGE;
+use spec_faults::FILE_TOO_LARGE;
 use spec_text::Fault;
 use std::alloc::Global;
 

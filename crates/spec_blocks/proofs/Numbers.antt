@@ -14,7 +14,7 @@ use Rattle.spec_ephemeris.specs.Series.{IsInUnits}
 use Rattle.spec_sections.specs.declared.rules.BrokenRule.{BrokenRule}
 use Rattle.spec_sections.specs.Sections.{FileLine, FileWord, ◌>>=◌, at_line, after_words, first_words, one_line}
 use Rattle.spec_sections.proofs.Holding.{Holds, all_words, at_holds, holds_ok, then_any}
-use Rattle.spec_blocks.specs.declared.rules.TheConstants.{TRUNCATED}
+use Rattle.spec_faults.specs.declared.numbers.TheConstants.{TRUNCATED}
 use Rattle.spec_blocks.specs.BlockRules.{number_by, number_rule, record_line, value_rule}
 use Rattle.spec_blocks.specs.Blocks.{block, further_words, numbers_of, zeros_of}
 use Rattle.spec_blocks.specs.Read.{AreRead}

@@ -12,7 +12,7 @@ use Rattle.spec_ephemeris.specs.Header.{column_size, is_present}
 use Rattle.spec_ephemeris.specs.Ephemeris.{Ephemeris, end_of}
 use Rattle.spec_sections.specs.declared.rules.BrokenRule.{BrokenRule}
 use Rattle.spec_sections.specs.Sections.{◌>>=◌, broken}
-use Rattle.spec_blocks.specs.declared.rules.TheConstants.{RECORD_LINE, NCOEFF_DIFFERS, BLOCK_SPAN, BLOCK_GAP, NUMBER, TOO_LARGE, TOO_MANY_BLOCKS, TRAILING_NUMBERS}
+use Rattle.spec_faults.specs.declared.numbers.TheConstants.{RECORD_LINE, NCOEFF_DIFFERS, BLOCK_SPAN, BLOCK_GAP, NUMBER, TOO_LARGE, TOO_MANY_BLOCKS, TRAILING_NUMBERS}
 
 -- the record number may be any
 abbrev pub record_numbers : ℕ → Option ℕ → Option ℕ → Result (Unit {0}) BrokenRule

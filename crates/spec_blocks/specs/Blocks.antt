@@ -6,7 +6,7 @@ use Rattle.spec_ephemeris.specs.Ephemeris.{Ephemeris, empty_ephemeris, with_bloc
 use Rattle.spec_sections.specs.declared.rules.BrokenRule.{BrokenRule}
 use Rattle.spec_header.specs.HeaderLines.{header}
 use Rattle.spec_sections.specs.Sections.{FileLine, FileWord, Stop, ended, ◌>>=◌, at_line, after_words, first_words, one_line, word_of}
-use Rattle.spec_blocks.specs.declared.rules.TheConstants.{NO_BLOCK, TRUNCATED}
+use Rattle.spec_faults.specs.declared.numbers.TheConstants.{NO_BLOCK, TRUNCATED}
 use Rattle.spec_blocks.specs.BlockRules.{is_passed_over, number_rule, record_line, time_of, trailing_rule}
 
 -- words as numbers, each by its rule, behind these numbers of a block that stands behind the blocks before

@@ -10,7 +10,7 @@ use Rattle.spec_text.specs.declared.decimals.Decimal.{Decimal}
 use Rattle.spec_ephemeris.specs.Header.{AreApart, IsColumn, IsHeader, IsShared, MeetsColumnRules, column_size, is_present}
 use Rattle.spec_ephemeris.specs.declared.header.Column.{Column}
 use Rattle.spec_ephemeris.specs.declared.header.Header.{Header}
-use Rattle.spec_header.specs.declared.rules.TheConstants.{ENDED}
+use Rattle.spec_faults.specs.declared.numbers.TheConstants.{ENDED}
 use Rattle.spec_header.specs.ColumnRules.{columns_of, columns_row, is_out_of_place, overlap, present_column, row}
 use Rattle.spec_header.specs.HeaderLines.{header, names}
 use Rattle.spec_header.specs.HeaderRules.{emrat_from, first_line, group, is_mass_ratio, name_count, span, value_count}

@@ -5,7 +5,7 @@ use Rattle.spec_ephemeris.specs.declared.header.Column.{Column}
 use Rattle.spec_ephemeris.specs.declared.limits.TheConstants.{COLUMNS, FIRST_PLACE, MOST_COEFFICIENTS}
 use Rattle.spec_ephemeris.specs.Header.{column_size, is_present}
 use Rattle.spec_sections.specs.declared.rules.BrokenRule.{BrokenRule}
-use Rattle.spec_header.specs.declared.rules.TheConstants.{COLUMN_COUNT, COLUMN_PLACE, COEFFICIENT_COUNT, GRANULE_NOT_WHOLE, HEADER_NUMBER}
+use Rattle.spec_faults.specs.declared.numbers.TheConstants.{COLUMN_COUNT, COLUMN_PLACE, COEFFICIENT_COUNT, GRANULE_NOT_WHOLE, HEADER_NUMBER}
 use Rattle.spec_sections.specs.Sections.{broken, ◌>>=◌}
 
 abbrev pub whole_number : Option ℕ → Result ℕ BrokenRule

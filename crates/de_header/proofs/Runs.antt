@@ -8,7 +8,7 @@ use Rattle.spec_faults.specs.declared.numbers.TheConstants.{ENDED}
 use Rattle.spec_header.specs.HeaderLines.{mass_ratio_among, names}
 use Rattle.spec_header.specs.HeaderRules.{mass_ratio}
 use Rattle.spec_sections.proofs.WordSections.{after_no_words, after_words_of_line, no_words}
-use Rattle.de_header.proofs.Names.{get_take}
+use Rattle.spec_numbers.proofs.Lists.{get_take}
 use Rattle.spec_sections.specs.Sections.{FileLine, FileWord, Stop, ended, ◌>>=◌, at_line, after_words, first_words, lines_after, word_of}
 
 abbrev map_some : {X Y : Type 0} → (X → Y) → Option X → Option Y

@@ -6,7 +6,8 @@ use Rattle.spec_text.specs.declared.decimals.Fault.{Fault}
 use Rattle.spec_ephemeris.specs.declared.header.Column.{Column}
 use Rattle.spec_ephemeris.specs.declared.header.Header.{Header}
 use Rattle.spec_sections.specs.declared.rules.BrokenRule.{BrokenRule}
-use Rattle.spec_header.specs.declared.rules.TheConstants.{ENDED, MOST_CONSTANTS}
+use Rattle.spec_faults.specs.declared.numbers.TheConstants.{ENDED}
+use Rattle.spec_header.specs.declared.limits.TheConstants.{MOST_CONSTANTS}
 use Rattle.spec_header.specs.declared.facts.BlockShape.{BlockShape}
 use Rattle.spec_header.specs.declared.facts.Facts.{Facts}
 use Rattle.spec_header.specs.HeaderLines.{HeaderOrStop, from_coefficients, from_column_group, from_end_group, from_first_line, from_granules, from_name_count, from_name_group, from_span, from_starts, from_title_group, from_titles, from_value_count, from_value_group, from_values, header_of, names}

@@ -1,7 +1,7 @@
 // The reader.
 ghost use Rattle.std.specs.Prelude.{◌≡◌, ◌∷◌, [], ◌+◌, ◌≤◌, ◌<◌, IfErr, IfOk, List, None, Err, Ok, ℕ, length, min, take};
 ghost use Rattle.spec_text.specs.declared.decimals.Fault.{Fault};
-ghost use Rattle.spec_header.specs.declared.rules.TheConstants.{MOST_CONSTANTS};
+ghost use Rattle.spec_header.specs.declared.limits.TheConstants.{MOST_CONSTANTS};
 ghost use Rattle.spec_ephemeris.specs.Header.{IsHeader};
 ghost use Rattle.spec_header.specs.HeaderLines.{header, header_of};
 ghost use Rattle.spec_header.specs.HeaderRules.{emrat_from};
@@ -20,7 +20,8 @@ use crate::words::{
 };
 use de_text::Line;
 use spec_ephemeris::{Column, Columns, Header};
-use spec_header::{BlockShape, ENDED, Facts};
+use spec_header::{BlockShape, Facts};
+use spec_faults::ENDED;
 use spec_sections::BrokenRule;
 use spec_text::Fault;
 use std::alloc::Global;

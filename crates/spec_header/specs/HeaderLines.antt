@@ -7,7 +7,7 @@ use Rattle.spec_ephemeris.specs.declared.header.Column.{Column}
 use Rattle.spec_ephemeris.specs.declared.header.Header.{Header}
 use Rattle.spec_header.specs.declared.facts.BlockShape.{BlockShape}
 use Rattle.spec_header.specs.declared.facts.Facts.{Facts}
-use Rattle.spec_header.specs.declared.rules.TheConstants.{ENDED}
+use Rattle.spec_faults.specs.declared.numbers.TheConstants.{ENDED}
 use Rattle.spec_header.specs.ColumnRules.{columns_row, row}
 use Rattle.spec_header.specs.HeaderRules.{emrat_from, first_line, group, mass_ratio, name_count, span, value_count}
 use Rattle.spec_sections.specs.FileLines.{first_long, readable}

@@ -17,6 +17,13 @@ pub fn later_texts_follow()
         → first_cut_from file (texts ++ later) ≡ first_cut_from (file + length texts) later }
 {}
 
+/// A first fault stays first, whatever texts follow.
+#[tactic(auto, using(crate::proofs::FirstFault::first_fault_stays))]
+pub fn first_faults_stay()
+    ensures { (texts later : List (List ℕ)) (file : ℕ) (fault : Fault)
+        → first_fault texts ≡ Some (file, fault) → first_fault (texts ++ later) ≡ Some (file, fault) }
+{}
+
 /// A fault that texts have whatever follows is their first.
 #[tactic(auto, using(crate::proofs::Joining::first_fault_refused))]
 pub fn texts_with_a_fault_are_refused()

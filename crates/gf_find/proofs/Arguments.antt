@@ -1,7 +1,7 @@
 -- The line's arithmetic, over plain numbers.
 use Rattle.std.proofs.Common.{◌^◌, ℤ, pos, ◌+ℤ◌, ◌*ℤ◌, ◌≤ℤ◌, arith}
 use Rattle.spec_intervals.specs.Interval.{greatest4, least4}
-use Rattle.spec_intervals.proofs.Order.{le-mul, lin}
+use Rattle.spec_numbers.proofs.Order.{le-mul, lin}
 use Rattle.spec_intervals.proofs.Products.{corners_ordered}
 
 -- the ends of a line are in order

@@ -1,14 +1,14 @@
 -- The leaves of a book are those that were entered, and are few.
 use Rattle.std.proofs.Common.{◌≡◌, ◌<◌, List, [], ◌∷◌, length, ℤ, pos, ◌≤ℤ◌, ◌-ℤ◌, refl, sym, ap, ◌∙◌, subst, arith}
 use Rattle.std.proofs.lemmas.Int.{ints}
-use Rattle.spec_events.specs.declared.book.Booked.{Booked}
-use Rattle.spec_events.specs.declared.tree.Leaf.{Leaf}
-use Rattle.spec_events.specs.declared.tree.Node.{Node}
-use Rattle.spec_events.specs.LineSearch.{root, rules}
-use Rattle.spec_events.specs.Order.{booked_leaves, in_order, ordered_leaves}
-use Rattle.spec_events.specs.Tree.{Covers, IsValid, leaves}
-use Rattle.spec_events.proofs.Covering.{leaves_cover}
-use Rattle.spec_events.proofs.Ordering.{cover_in_order}
+use Rattle.spec_trees.specs.declared.book.Booked.{Booked}
+use Rattle.spec_trees.specs.declared.tree.Leaf.{Leaf}
+use Rattle.spec_trees.specs.declared.tree.Node.{Node}
+use Rattle.line_search.specs.Search.{root, rules}
+use Rattle.spec_trees.specs.Order.{booked_leaves, in_order, ordered_leaves}
+use Rattle.spec_trees.specs.Tree.{Covers, IsValid, leaves}
+use Rattle.spec_trees.proofs.Covering.{leaves_cover}
+use Rattle.spec_trees.proofs.Ordering.{cover_in_order}
 use Rattle.spec_events.proofs.Sound.{root_is_valid}
 use Rattle.gf_find.specs.declared.line.Line.{Line}
 use Rattle.gf_find.specs.Entries.{entered}

@@ -1,11 +1,11 @@
 -- A node of a line's granule that is split can be cut.
 use Rattle.std.proofs.Common.{◌≡◌, arith}
 use Rattle.std.proofs.lemmas.Int.{ints}
-use Rattle.spec_events.specs.declared.tree.Node.{Node}
-use Rattle.spec_events.specs.declared.tree.Verdict.TheVariants.{Split}
-use Rattle.spec_events.specs.Cuts.{CanCut}
-use Rattle.spec_events.specs.LineSearch.{rules, verdict}
-use Rattle.spec_events.specs.Tree.{IsValid}
+use Rattle.spec_trees.specs.declared.tree.Node.{Node}
+use Rattle.spec_trees.specs.declared.tree.Verdict.TheVariants.{Split}
+use Rattle.spec_trees.specs.Cuts.{CanCut}
+use Rattle.line_search.specs.Search.{rules, verdict}
+use Rattle.spec_trees.specs.Tree.{IsValid}
 use Rattle.gf_find.specs.declared.line.Line.{Line}
 use Rattle.gf_find.specs.Lines.{IsInLimits, line_is_sound, series_of}
 

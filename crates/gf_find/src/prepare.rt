@@ -1,9 +1,10 @@
 // From named files to the text of their report.
 ghost use Rattle.std.specs.Prelude.{◌≡◌, ◌<◌, ◌≤◌, ℕ, List, IfOk, IsErrOf, length, map, string_bytes, true};
 ghost use Rattle.spec_text.specs.declared.decimals.Fault.{Fault};
-ghost use Rattle.spec_ephemeris.specs.Ephemeris.{end_of, is_line, mercury_x};
-ghost use Rattle.spec_events.specs.LineSearch.{found_windows};
-ghost use Rattle.spec_output.specs.Report.{report};
+ghost use Rattle.spec_ephemeris.specs.Ephemeris.{end_of};
+ghost use Rattle.line_search.specs.MercuryX.{is_line, mercury_x};
+ghost use Rattle.line_search.specs.Search.{found_windows};
+ghost use Rattle.spec_reports.specs.Report.{report};
 ghost use Rattle.gf_find.specs.Found.{AreAccepted, HasFault, IsNotRead, IsRefused, Reports};
 ghost use Rattle.gf_find.specs.Progress.{FailsIn};
 
@@ -12,8 +13,9 @@ use crate::reading::{Stop, read_all};
 use crate::search::search;
 use eph_model::Ephemeris;
 use gf_edges::Shelf;
-use spec_files::{MOST_FILES, TOO_MANY_FILES};
-use spec_output::NOT_BUILT;
+use spec_files::MOST_FILES;
+use spec_faults::TOO_MANY_FILES;
+use spec_faults::NOT_BUILT;
 use spec_text::Fault;
 use std::alloc::Global;
 

@@ -3,14 +3,14 @@ ghost use Rattle.std.specs.Prelude.{◌≡◌, ◌⊎◌, ◌≤◌, ℕ, List, 
 ghost use Rattle.gf_edges.specs.Edges.{Lacks, Rose};
 ghost use Rattle.spec_text.specs.declared.decimals.Fault.{Fault};
 ghost use Rattle.spec_text.specs.declared.limits.TheConstants.{MOST_TEXT_BYTES};
-ghost use Rattle.spec_output.specs.Files.{IsFile};
+ghost use Rattle.spec_files.specs.Files.{IsFile};
 ghost use Rattle.gf_find.specs.Progress.{BreaksIn, FailsIn, HaveRead};
 ghost use Rattle.gf_find.specs.Reading.{IsPassed, IsReady, StopsFile};
 
 use crate::files::{ReadFault, read_file};
 use crate::reader::{Fed, LineStop, Reader, feed, first_reader};
 use gf_edges::Shelf;
-use spec_files::FILE_TOO_LARGE;
+use spec_faults::FILE_TOO_LARGE;
 use spec_text::Fault;
 use std::alloc::Global;
 

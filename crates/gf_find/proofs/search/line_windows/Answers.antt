@@ -1,5 +1,5 @@
 use Rattle.std.proofs.Common.{◌∙◌, ap}
-use Rattle.spec_events.specs.Windows.{windows}
+use Rattle.spec_trees.specs.Windows.{windows}
 use Rattle.gf_find.specs.Entries.{entered}
 use Rattle.gf_find.proofs.Entries.{ordered, ordered_cover}
 use Rattle.gf_find.proofs.search.line_windows.Goals as goal

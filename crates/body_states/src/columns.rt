@@ -1,10 +1,11 @@
 // The motions of a column, with each basis made once.
 ghost use Rattle.std.specs.Prelude.{◌≡◌, ◌<◌, ◌≤◌, true, false, ◌≤ℤ◌, ◌+ℤ◌, length};
 ghost use lib.Signed.{lt_z};
-ghost use Rattle.spec_enclosures.specs.Enclosures.{coefficients_of};
-ghost use Rattle.spec_expressions.specs.Enclosure.{middle};
+ghost use Rattle.spec_motions.specs.Enclosures.{coefficients_of};
+ghost use Rattle.spec_intervals.specs.Enclosure.{middle};
 ghost use Rattle.spec_bodies.specs.Views.{series_positions, series_velocities};
-ghost use Rattle.cheby_enclose.specs.Granules.{IsEvaluable, series_of};
+ghost use Rattle.spec_motions.specs.Granules.{IsEvaluable};
+ghost use Rattle.spec_ephemeris.specs.Granules.{series_of};
 ghost use Rattle.event_expr.specs.States.{parts};
 ghost use Rattle.body_states.specs.Motions.{IsMotion, AreMotions};
 ghost use Rattle.body_states.specs.Bases.{AreBases, AreAllBases};

@@ -1,7 +1,7 @@
 // The constants of the formulas, as intervals.
 ghost use Rattle.std.specs.Prelude.{◌≡◌, ◌+◌, ◌*◌, ◌^◌, ◌<◌, ◌≤◌, ℕ, pos, ◌*ℤ◌, ◌≤ℤ◌, unsigned_abs};
 ghost use borrow.Author.Differences.{up, down};
-ghost use Rattle.spec_intervals.specs.Interval.{floor_div, ceil_div};
+ghost use Rattle.spec_numbers.specs.Numbers.{floor_div, ceil_div};
 ghost use Rattle.spec_ephemeris.specs.Header.{IsMassRatio};
 ghost use Rattle.spec_bodies.specs.Coordinates.{moon_share, cosine, sine};
 ghost use Rattle.spec_bodies.specs.Meanings.{share_beside, factor, factor_interval};

@@ -5,9 +5,10 @@ use Rattle.std.proofs.lemmas.Nat.{mul-le}
 use Rattle.std.proofs.lemmas.List.{length-drop, length-take-le}
 use Rattle.std.proofs.lemmas.List.Elements.{All-drop, All-take}
 use Rattle.spec_ephemeris.specs.Ephemeris.{IsBodyNumber}
-use Rattle.eph_model.specs.declared.granules.Granule.{Granule}
-use Rattle.spec_enclosures.specs.Enclosures.{IsSeries, IsSpan}
-use Rattle.cheby_enclose.specs.Granules.{IsEvaluable, series_of}
+use Rattle.spec_ephemeris.specs.declared.granule.Granule.{Granule}
+use Rattle.spec_motions.specs.Enclosures.{IsSeries, IsSpan}
+use Rattle.spec_motions.specs.Granules.{IsEvaluable}
+use Rattle.spec_ephemeris.specs.Granules.{series_of}
 
 pub own_length : (z : ℤ) → pos 1 ≤ℤ z → pos (unsigned_abs z) ≡ z
 own_length (pos n) h = refl

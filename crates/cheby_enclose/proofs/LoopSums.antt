@@ -1,21 +1,20 @@
 -- The sums of the code's loops, and that they stay within 128 bits.
-use Rattle.std.proofs.Common.{◌≡◌, ℕ, zero, suc, ◌+◌, ◌-◌, ◌*◌, ◌^◌, ◌<◌, ◌≤◌, max, arith, refl, sym, ap, ◌∙◌, List, [], ◌∷◌, length, drop, get_or, ℤ, pos, ◌+ℤ◌, ◌*ℤ◌, ◌≤ℤ◌, unsigned_abs, drop-cons}
+use Rattle.std.proofs.Common.{◌≡◌, ℕ, zero, suc, ◌+◌, ◌-◌, ◌*◌, ◌^◌, ◌<◌, ◌≤◌, max, arith, refl, sym, ap, ◌∙◌, List, [], ◌∷◌, length, drop, get_or, ℤ, pos, ◌+ℤ◌, ◌*ℤ◌, ◌≤ℤ◌, unsigned_abs, drop-cons, ◌⊎◌, inl, inr}
 use Rattle.std.proofs.lemmas.Int.{ints, unsigned_abs-mul, by_lt_z}
 use Rattle.std.proofs.lemmas.Nat.{mul-le}
 use Rattle.std.specs.Int.{int_min, int_max}
 use Rattle.spec_intervals.specs.Interval.{least4, greatest4}
-use Rattle.spec_intervals.proofs.Ring.{v, ◌⊕◌, ◌⊗◌, ring}
-use Rattle.spec_intervals.proofs.Whole.{mul_comm}
+use Rattle.spec_numbers.proofs.Ring.{v, ◌⊕◌, ◌⊗◌, ring}
+use Rattle.spec_numbers.proofs.Whole.{mul_comm}
 use Rattle.std.proofs.lemmas.Bool.{cases_lt}
-use Rattle.std.proofs.Common.{◌⊎◌, inl, inr}
 use Rattle.spec_chebyshev.specs.Differences.{Within}
-use Rattle.cheby_enclose.specs.Rows.{slope_sizes, entry_size}
-use Rattle.spec_intervals.proofs.Order.{lin, le-mul}
+use Rattle.spec_motions.specs.RowSizes.{slope_sizes, entry_size}
+use Rattle.spec_numbers.proofs.Order.{lin, le-mul}
 use Rattle.spec_intervals.proofs.Products.{corners_ordered}
 use Rattle.spec_chebyshev.specs.declared.ends.Ival62.{Ival62}
 use Rattle.spec_chebyshev.specs.Rows.{entry, nothing, EndsWithin}
-use Rattle.spec_enclosures.specs.Sums.{times, multiples, sum_low, sum_high}
-use Rattle.cheby_laws.proofs.Bounds.{size}
+use Rattle.spec_motions.specs.Sums.{times, multiples, sum_low, sum_high}
+use Rattle.spec_chebyshev.proofs.Arguments.{within_size as size}
 
 assoc : (a b c : ℤ) → (a +ℤ b) +ℤ c ≡ a +ℤ (b +ℤ c)
 assoc a b c = ring (a ∷ b ∷ c ∷ []) ((v 0 ⊕ v 1) ⊕ v 2) (v 0 ⊕ (v 1 ⊕ v 2)) tt

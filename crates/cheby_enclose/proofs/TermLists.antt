@@ -1,24 +1,21 @@
 -- The intervals of coefficients, one after the other.
-use Rattle.std.proofs.Common.{◌≡◌, ℕ, zero, suc, ◌+◌, ◌*◌, ◌^◌, ◌<◌, ◌≤◌, arith, refl, sym, ap, ◌∙◌, List, [], ◌∷◌, ◌++◌, length, map, take, get_or, set, All, ℤ, pos, negsuc, unsigned_abs}
-use Rattle.std.proofs.lemmas.Int.{ints, unsigned_abs-mul}
-use Rattle.std.proofs.lemmas.List.{take_more_set}
+use Rattle.std.proofs.Common.{◌≡◌, ℕ, zero, suc, ◌+◌, ◌*◌, ◌^◌, ◌<◌, ◌≤◌, arith, refl, sym, ap, ◌∙◌, List, [], ◌∷◌, ◌++◌, length, map, take, get_or, set, All, ℤ, pos, negsuc, unsigned_abs, w64, to_z, of_z, FitsSigned}
+use Rattle.std.proofs.lemmas.Int.{ints, unsigned_abs-mul, to_z-of_z}
+use Rattle.std.proofs.lemmas.List.{take_more_set, length-map}
 use Rattle.spec_text.specs.declared.decimals.Decimal.{Decimal}
 use Rattle.spec_chebyshev.specs.declared.ends.Ival62.{Ival62}
 use Rattle.spec_chebyshev.specs.Differences.{Within}
 use Rattle.spec_chebyshev.specs.Rows.{EndsWithin}
 use Rattle.spec_intervals.specs.Interval.{IsDistance, decimal_top, decimal_bottom, from_decimal}
-use Rattle.spec_intervals.proofs.Floor.{floor_div-small, ceil_div-small}
+use Rattle.spec_numbers.proofs.Floor.{floor_div-small, ceil_div-small}
 use Rattle.spec_intervals.proofs.Decimals.{bottom_pos}
-use Rattle.ival_core.proofs.DecimalEnds.{distance-size}
+use Rattle.spec_intervals.proofs.DecimalEnds.{distance-size}
 use Rattle.spec_ephemeris.specs.Ephemeris.{IsBodyNumber}
-use Rattle.spec_enclosures.specs.Sums.{coefficient}
-use Rattle.cheby_enclose.specs.Rows.{AreTerms}
-use Rattle.std.proofs.lemmas.List.{length-map}
+use Rattle.spec_motions.specs.Sums.{coefficient}
+use Rattle.spec_motions.specs.RowSizes.{AreTerms}
 use Rattle.std.proofs.lemmas.List.Elements.{All-nil, All-cons, All-head, All-tail}
 use borrow.Author.Differences.{up, down}
 use mir.Syntax.{w128}
-use Rattle.std.proofs.Common.{w64, to_z, of_z, FitsSigned}
-use Rattle.std.proofs.lemmas.Int.{to_z-of_z}
 
 mapped_more : (cs : List Decimal) (k : ℕ) (d : Decimal) → k < length cs → map coefficient (take (suc k) cs) ≡ map coefficient (take k cs) ++ coefficient (get_or cs k d) ∷ []
 mapped_more [] k d h = absurd (omega (arith, h))

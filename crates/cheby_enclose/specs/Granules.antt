@@ -1,6 +1,6 @@
 -- The granules that can be evaluated, and the series of one axis of a granule.
 use Rattle.std.specs.Prelude.{◌≡◌, ℕ, ◌*◌, ◌^◌, ◌≤◌, length, All, pos, unsigned_abs, ◌≤ℤ◌}
-use Rattle.eph_model.specs.declared.granules.Granule.{Granule}
+use Rattle.spec_ephemeris.specs.declared.granule.Granule.{Granule}
 use Rattle.spec_ephemeris.specs.Series.{Series}
 use Rattle.spec_ephemeris.specs.Ephemeris.{IsBodyNumber, axis_series}
 

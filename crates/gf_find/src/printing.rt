@@ -3,7 +3,7 @@ ghost use Rattle.std.specs.Prelude.{◌≡◌, ◌++◌, codes, IfOk, OnOk};
 ghost use Rattle.std.specs.Fmt.{decimal, signed_decimal};
 ghost use Rattle.spec_reports.specs.Report.{certain_count, line_of, report, request_line, request_text, times, undecided_count, window_lines};
 
-use spec_events::{Holds, Turn, Window};
+use spec_trees::{Holds, Turn, Window};
 use std::alloc::{AllocError, Global};
 
 fn add_time(text: &mut Vec<u8>, time: i64) -> Result<(), AllocError>

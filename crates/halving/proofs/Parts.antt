@@ -1,8 +1,8 @@
 -- What the parts of sound rules are, for the proofs of judges.
 use Rattle.std.proofs.Common.{◌≡◌, sym, subst}
-use Rattle.spec_events.specs.declared.tree.Node.{Node}
-use Rattle.spec_events.specs.declared.tree.Verdict.TheVariants.{Split}
-use Rattle.spec_events.specs.Tree.{Cuts, IsSound, IsValid, Rules}
+use Rattle.spec_trees.specs.declared.tree.Node.{Node}
+use Rattle.spec_trees.specs.declared.tree.Verdict.TheVariants.{Split}
+use Rattle.spec_trees.specs.Tree.{Cuts, IsSound, IsValid, Rules}
 
 -- two valid nodes that cut the node
 pub record AreParts (t : Rules) (n : Node) (both : Node × Node) : Type 0 where

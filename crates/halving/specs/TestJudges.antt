@@ -1,13 +1,13 @@
 -- The rules of the tests' judges, which are sound.
 use Rattle.std.proofs.Common.{◌≡◌, ◌<◌, Bool, ◌&&◌, pos, ◌-ℤ◌, ◌<ℤ◌, refl, arith, nat_lt, int_lt, if◌then◌else◌}
 use Rattle.std.proofs.lemmas.Int.{ints}
-use Rattle.spec_events.specs.declared.cuts.CutRule.{CutRule}
-use Rattle.spec_events.specs.declared.tree.Node.{Node}
-use Rattle.spec_events.specs.declared.tree.Verdict.TheVariants.{Clear, Split}
-use Rattle.spec_events.specs.Cuts.{CanCut}
-use Rattle.spec_events.specs.CutExamples.{pairs, parts_at}
-use Rattle.spec_events.specs.Tree.{Rules, IsCut, IsSound, IsValid}
-use Rattle.spec_events.proofs.Cutting.{cut_inside}
+use Rattle.spec_trees.specs.declared.cuts.CutRule.{CutRule}
+use Rattle.spec_trees.specs.declared.tree.Node.{Node}
+use Rattle.spec_trees.specs.declared.tree.Verdict.TheVariants.{Clear, Split}
+use Rattle.spec_trees.specs.Cuts.{CanCut}
+use Rattle.spec_trees.specs.CutExamples.{pairs, parts_at}
+use Rattle.spec_trees.specs.Tree.{Rules, IsCut, IsSound, IsValid}
+use Rattle.spec_trees.proofs.Cutting.{cut_inside}
 
 -- a comb: each node wider than one second loses its last second, and the tree is as deep as the root is wide
 abbrev pub is_comb : Node → Bool

@@ -10,7 +10,7 @@ mod run;
 
 pub use judge::{Judge, rules_are_sound};
 pub use run::{RunError, run_one};
-pub use spec_events::{Leaf, Mark, Node, Turn, Verdict};
+pub use spec_trees::{Leaf, Mark, Node, Turn, Verdict};
 
 #[cfg(test)]
 mod tests;

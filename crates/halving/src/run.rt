@@ -1,10 +1,10 @@
 // The leaves of a root, by one walk.
 ghost use Rattle.std.specs.Prelude.{◌≡◌, ◌<◌, ◌≤◌, [], ◌∷◌, ◌++◌, length, IfOk, IfErr, OnOk};
-ghost use Rattle.spec_events.specs.Tree.{Covers, IsValid, leaves, mark_of};
+ghost use Rattle.spec_trees.specs.Tree.{Covers, IsValid, leaves, mark_of};
 ghost use Rattle.halving.specs.declared.run.RunError.TheVariants.{TooMany, Memory};
 
 use crate::judge::{Judge, rules_are_sound};
-use spec_events::{Leaf, Mark, Node, Verdict};
+use spec_trees::{Leaf, Mark, Node, Verdict};
 use std::alloc::Global;
 
 /// Why a walk has no leaves to give: they are more than the limit, or there was no memory for them.

@@ -1,12 +1,12 @@
 // Whole walks of small trees, and one of a tree as deep as its root is wide.
 ghost use Rattle.std.specs.Prelude.{◌≡◌, ◌<◌};
-ghost use Rattle.spec_events.specs.declared.cuts.CutRule.TheVariants.{Third};
-ghost use Rattle.spec_events.specs.Cuts.{CanCut, cut_of};
-ghost use Rattle.spec_events.specs.CutExamples.{pairs, parts_at};
+ghost use Rattle.spec_trees.specs.declared.cuts.CutRule.TheVariants.{Third};
+ghost use Rattle.spec_trees.specs.Cuts.{CanCut, cut_of};
+ghost use Rattle.spec_trees.specs.CutExamples.{pairs, parts_at};
 ghost use Rattle.halving.specs.TestJudges.{comb, comb_is_sound, pairs_are_sound};
 
 use super::*;
-use spec_events::CutRule;
+use spec_trees::CutRule;
 use std::alloc::Global;
 use std::test::*;
 

@@ -1,8 +1,8 @@
 -- Each leaf of a cover stands for some time.
 use Rattle.std.proofs.Common.{List, [], ◌∷◌, All, ℤ}
 use Rattle.std.proofs.lemmas.List.Elements.{All-nil, All-cons}
-use Rattle.spec_events.specs.declared.tree.Leaf.{Leaf}
-use Rattle.spec_events.specs.Tree.{Covers}
+use Rattle.spec_trees.specs.declared.tree.Leaf.{Leaf}
+use Rattle.spec_trees.specs.Tree.{Covers}
 use Rattle.ordered_join.specs.Spans.{HasTime}
 
 pub all_have_time : (a b : ℤ) (ls : List Leaf) → Covers a ls b → All HasTime ls

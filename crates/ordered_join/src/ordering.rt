@@ -1,13 +1,13 @@
 // The windows of a book.
 ghost use Rattle.std.specs.Prelude.{◌≡◌, IfOk};
-ghost use Rattle.spec_events.specs.Events.{AreInOrder, AreWithin};
-ghost use Rattle.spec_events.specs.Order.{booked_leaves, ordered_leaves};
-ghost use Rattle.spec_events.specs.Tree.{Covers};
-ghost use Rattle.spec_events.specs.Windows.{windows};
+ghost use Rattle.spec_trees.specs.Placement.{AreInOrder, AreWithin};
+ghost use Rattle.spec_trees.specs.Order.{booked_leaves, ordered_leaves};
+ghost use Rattle.spec_trees.specs.Tree.{Covers};
+ghost use Rattle.spec_trees.specs.Windows.{windows};
 
 use crate::joining::joined;
 use span_ledger::{Book, Booked};
-use spec_events::{Leaf, Window};
+use spec_trees::{Leaf, Window};
 use std::alloc::{AllocError, Global};
 use thiserror::Error;
 

@@ -1,10 +1,10 @@
 // Books of a few leaves, as they came, and their windows.
 ghost use Rattle.std.specs.Prelude.{◌≡◌};
-ghost use Rattle.spec_events.specs.Examples.{booked, leaf, node, window};
+ghost use Rattle.spec_trees.specs.Examples.{booked, leaf, node, window};
 
 use crate::*;
 use span_ledger::{Book, Booked};
-use spec_events::{Leaf, Mark, Node, Turn};
+use spec_trees::{Leaf, Mark, Node, Turn};
 use std::test::Fail;
 
 const fn node(a: i64, b: i64) -> Node

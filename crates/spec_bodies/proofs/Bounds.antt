@@ -3,7 +3,7 @@ use Rattle.std.proofs.Common.{ℕ, zero, suc, ◌+◌, ◌≤◌, max, arith, su
 use Rattle.std.proofs.lemmas.Int.{ints}
 use Rattle.spec_intervals.specs.Interval.{Interval, product}
 use Rattle.spec_intervals.specs.Fraction.{Fraction}
-use Rattle.spec_expressions.specs.Enclosure.{Enclosure, IsSpan, AllWithin, enclosure}
+use Rattle.spec_intervals.specs.Enclosure.{Enclosure, IsSpan, AllWithin, enclosure}
 use Rattle.spec_bodies.specs.declared.frame.Frame.{Frame}
 use Rattle.spec_bodies.specs.declared.frame.Frame.TheVariants.{Eq, Ecl}
 use Rattle.spec_bodies.specs.declared.source.Source.{Source}
@@ -11,7 +11,8 @@ use Rattle.spec_bodies.specs.declared.source.Source.TheVariants.{OwnColumn, Eart
 use Rattle.spec_bodies.specs.Coordinates.{Factor, Coordinate, nothing, of_column, times, plus, less, seen, in_frame}
 use Rattle.spec_bodies.specs.Meanings.{factor_interval, enclosure_of}
 use Rattle.spec_bodies.specs.Reading.{AllColumns, lowest, highest, IsLow, IsShort, IsFactor}
-use Rattle.spec_bodies.proofs.Exponents.{IsBetween, AreBetween, between-more, between-all_within, product-between, enclosure-between, nothing-between, sum_of-between, difference_of-between}
+use Rattle.spec_intervals.proofs.Exponents.{IsBetween, between-more, product-between}
+use Rattle.spec_intervals.proofs.EnclosureExponents.{AreBetween, between-all_within, enclosure-between, nothing-between, sum_of-between, difference_of-between}
 use Rattle.spec_bodies.proofs.Factors.{times_factor}
 
 more : (l h m n : ℕ) (e : Enclosure) → l ≤ m → h ≤ n → AreBetween l h e → AreBetween m n e

@@ -9,7 +9,7 @@ use Rattle.spec_ephemeris.specs.declared.header.Header.{Header}
 use Rattle.spec_ephemeris.specs.Series.{to_nat}
 use Rattle.spec_ephemeris.specs.Header.{IsColumn, IsShared, column_at, has_column, is_present_at}
 use Rattle.spec_ephemeris.specs.Ephemeris.{Ephemeris, IsEphemeris, IsGranule, IsGranuleAt, end_of}
-use Rattle.spec_bodies.specs.Granules.{column_or_none, column_of, granule_length, granule_index, granule_of_index, granule_at}
+use Rattle.spec_ephemeris.specs.Granules.{column_or_none, column_of, granule_length, granule_index, granule_of_index, granule_at}
 
 column_there : (h : Header) (number : ℕ) (o : Option Column) → column_at h.columns number ≡ o → IsTrue (is_present_at o) → IsColumn h number (column_or_none o)
 column_there h number None is there = absurd (cc)

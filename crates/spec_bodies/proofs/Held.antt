@@ -9,25 +9,26 @@ use Rattle.spec_intervals.specs.Fraction.{Fraction, IsFraction, Holds, fraction_
 use Rattle.spec_ephemeris.specs.declared.limits.TheConstants.{FIRST_TIME, LAST_TIME, MOST_BLOCKS, LONGEST_BLOCK}
 use Rattle.spec_ephemeris.specs.Series.{Series, position}
 use Rattle.spec_ephemeris.specs.Ephemeris.{IsBorder}
-use Rattle.spec_enclosures.specs.Velocity.{velocity}
-use Rattle.spec_enclosures.specs.Enclosures.{IsSeries, IsSpan, position_interval, position_step_interval, velocity_interval, velocity_step_interval}
-use Rattle.spec_enclosures.proofs.HeldSpans.{Holds-position}
-use Rattle.spec_enclosures.proofs.HeldChanges.{Holds-velocity, Holds-position_step, Holds-velocity_step}
-use Rattle.spec_expressions.specs.Enclosure.{IsEnclosure, Encloses, AllFractions, AllWithin, IsSpan as IsNear, change, middle, enclosure}
+use Rattle.spec_ephemeris.specs.Velocity.{velocity}
+use Rattle.spec_motions.specs.Enclosures.{IsSeries, IsSpan, position_interval, position_step_interval, velocity_interval, velocity_step_interval}
+use Rattle.spec_motions.proofs.HeldSpans.{Holds-position}
+use Rattle.spec_motions.proofs.HeldChanges.{Holds-velocity, Holds-position_step, Holds-velocity_step}
+use Rattle.spec_intervals.specs.Enclosure.{IsEnclosure, Encloses, AllFractions, AllWithin, IsSpan as IsNear, change, middle, enclosure}
 use Rattle.spec_expressions.specs.Expression.{Leaf, position as position_of, velocity as velocity_of, IsLeaf}
-use Rattle.spec_expressions.proofs.Compare.{IsFraction-mul}
-use Rattle.spec_expressions.proofs.Centred.{middle_between}
-use Rattle.spec_expressions.proofs.Enclosed.{IsEnclosure-parts}
+use Rattle.spec_numbers.proofs.Naturals.{positive_product as IsFraction-mul}
+use Rattle.spec_intervals.proofs.Centred.{middle_between}
+use Rattle.spec_intervals.proofs.Enclosed.{IsEnclosure-parts}
 use Rattle.spec_bodies.specs.Sources.{used}
 use Rattle.spec_bodies.specs.Coordinates.{Factor, Coordinate, seen}
-use Rattle.spec_bodies.specs.Granules.{series_at}
+use Rattle.spec_ephemeris.specs.Granules.{series_at}
 use Rattle.spec_bodies.specs.Reading.{AllColumns, IsUsable, IsReadable, IsShort, IsFactor}
 use Rattle.spec_bodies.specs.Meanings.{factor, factor_interval, exact_of, enclosure_of}
 use Rattle.spec_bodies.specs.Views.{View, Fits, target_of, coordinate_of, exact_state, series_positions, series_velocities, state_enclosure}
 use Rattle.spec_bodies.proofs.Formulas.{IsHeld, seen_columns, in_frame_columns, IsFraction-factor, all_columns, AllFractions-coordinate, IsEnclosure-coordinate}
 use Rattle.spec_bodies.proofs.InUse.{used_usable}
 use Rattle.spec_bodies.proofs.Columns.{same_series, span_of, series_of}
-use Rattle.spec_bodies.proofs.Exponents.{AreBetween, between-more, enclosure-between}
+use Rattle.spec_intervals.proofs.EnclosureExponents.{AreBetween, enclosure-between}
+use Rattle.spec_intervals.proofs.Exponents.{between-more}
 use Rattle.spec_bodies.proofs.Sizes.{position-between, velocity-between, position_step-between, velocity_step-between}
 use Rattle.spec_bodies.proofs.Factors.{factor_is}
 use Rattle.spec_bodies.proofs.Bounds.{between_of, seen_low, in_frame_low, within_of}

@@ -8,15 +8,15 @@ use Rattle.spec_ephemeris.specs.declared.limits.TheConstants.{BODY_COLUMNS}
 use Rattle.spec_ephemeris.specs.Header.{has_column}
 use Rattle.spec_ephemeris.specs.Series.{Series, position}
 use Rattle.spec_ephemeris.specs.Ephemeris.{Ephemeris, IsEphemeris, IsBorderIn, end_of}
-use Rattle.spec_enclosures.specs.Velocity.{velocity}
-use Rattle.spec_enclosures.specs.Enclosures.{position_interval, position_step_interval, velocity_interval, velocity_step_interval}
-use Rattle.spec_expressions.specs.Enclosure.{Enclosure, enclosure, middle}
+use Rattle.spec_ephemeris.specs.Velocity.{velocity}
+use Rattle.spec_motions.specs.Enclosures.{position_interval, position_step_interval, velocity_interval, velocity_step_interval}
+use Rattle.spec_intervals.specs.Enclosure.{Enclosure, enclosure, middle}
 use Rattle.spec_expressions.specs.Expression.{Leaf, position as position_of, velocity as velocity_of}
 use Rattle.spec_bodies.specs.declared.frame.Frame.{Frame}
 use Rattle.spec_bodies.specs.declared.source.Source.{Source}
 use Rattle.spec_bodies.specs.Sources.{source_of, needed, columns_in_use}
 use Rattle.spec_bodies.specs.Coordinates.{Coordinate, coordinate}
-use Rattle.spec_bodies.specs.Granules.{series_at}
+use Rattle.spec_ephemeris.specs.Granules.{series_at}
 use Rattle.spec_bodies.specs.Meanings.{factor, exact_of, enclosure_of}
 
 pub record View : Type 0 where

@@ -3,8 +3,8 @@
 ghost use Rattle.std.specs.Prelude.{◌≡◌, ◌<◌, ◌≤ℤ◌, ℕ, ℤ, IsTrue};
 ghost use Rattle.spec_ephemeris.specs.Header.{has_column};
 ghost use Rattle.spec_ephemeris.specs.Ephemeris.{Ephemeris, Granule, IsEphemeris, IsGranuleAt, end_of};
-ghost use Rattle.spec_bodies.specs.Granules.{granule_at};
-ghost use Rattle.spec_expressions.specs.Enclosure.{IsEnclosure, AllFractions, AllWithin, IsSpan};
+ghost use Rattle.spec_ephemeris.specs.Granules.{granule_at};
+ghost use Rattle.spec_intervals.specs.Enclosure.{IsEnclosure, AllFractions, AllWithin, IsSpan};
 ghost use Rattle.spec_expressions.specs.Expression.{Leaf, IsLeaf};
 ghost use Rattle.spec_intervals.specs.Fraction.{Fraction};
 ghost use Rattle.spec_bodies.specs.declared.source.Source.TheVariants.{EarthOfPair, MoonOfPair};

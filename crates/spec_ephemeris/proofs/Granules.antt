@@ -5,9 +5,8 @@ use Rattle.std.proofs.lemmas.Nat.{mul-le, same_from_place}
 use Rattle.std.proofs.lemmas.Bool.{cases_lt}
 use Rattle.std.proofs.Math.Nat.{eq_of_mul-eq-mul_right}
 use Rattle.spec_ephemeris.specs.declared.header.Column.{Column}
-use Rattle.spec_ephemeris.specs.declared.header.Header.{Header}
-use Rattle.spec_ephemeris.specs.Header.{IsColumn}
 use Rattle.spec_ephemeris.specs.Ephemeris.{Ephemeris, IsEphemeris, Granule, IsGranuleAt, granule_end, granule_numbers, block_numbers, end_of, IsPreferred, IsNearest}
+use Rattle.spec_ephemeris.proofs.ColumnRules.{one_column, some_granules}
 
 preferred_once : (a b t s : ℤ) → IsPreferred a b t s → IsPreferred a b s t → t ≡ s
 preferred_once a b t s (inl one) (inl other) = absurd (omega (arith, one, other))
@@ -20,11 +19,6 @@ nearest_once P a b None None one other = refl
 nearest_once P a b None (Some s) one other = absurd (one s other.0)
 nearest_once P a b (Some t) None one other = absurd (other t one.0)
 nearest_once P a b (Some t) (Some s) one other = ap Some (preferred_once a b t s (one.1 s other.0) (other.1 t one.0))
-
--- one number has one column
-pub one_column : (h : Header) (number : ℕ) (c d : Column) → IsColumn h number c → IsColumn h number d → c ≡ d
-one_column h number c d one other =
-    let both : Some c ≡ Some d = sym one.listed ∙ other.listed in (cc)
 
 -- where t belongs to the granule of index m, a granule that begins by t has no greater index
 no_later : (start t : ℤ) (k m count l : ℕ) → 0 < l → k < count → (start +ℤ pos (k * l)) ≤ℤ t
@@ -43,10 +37,10 @@ no_later start t k m count l some below from upto = elim (cases_lt m k) [
 turned : (a b c : ℕ) → a * (b * c) ≡ a * c * b
 turned a b c = omega arith
 
-granules_end : (e : Ephemeris) (l gr : ℕ) → e.header.block_seconds ≡ pos (l * gr) → end_of e ≡ e.start +ℤ pos (e.blocks * gr * l)
+pub granules_end : (e : Ephemeris) (l gr : ℕ) → e.header.block_seconds ≡ pos (l * gr) → end_of e ≡ e.start +ℤ pos (e.blocks * gr * l)
 granules_end e l gr shares = rw shares (ap (λ n. e.start +ℤ pos n) (turned e.blocks l gr))
 
-some_length : (e : Ephemeris) (l gr : ℕ) → IsEphemeris e → e.header.block_seconds ≡ pos (l * gr) → 0 < l
+pub some_length : (e : Ephemeris) (l gr : ℕ) → IsEphemeris e → e.header.block_seconds ≡ pos (l * gr) → 0 < l
 some_length e l gr checked shares = elim (cases_lt 0 l) [
   | inl some ↦ some
   | inr none ↦ (let nothing : l * gr ≤ 0 * gr = mul-le l gr 0 gr none (omega arith) in
@@ -69,9 +63,6 @@ index_once e t g h k m gr checked shares duration below g_start h_start from upt
 same_numbers : (number : ℕ) (c : Column) (e : Ephemeris) (i j k m : ℕ) → i ≡ j → k ≡ m
     → granule_numbers number c i (block_numbers e k) ≡ granule_numbers number c j (block_numbers e m)
 same_numbers number c e i j k m one other = rw (one, other) refl
-
-some_granules : (c : Column) (h : Header) (number : ℕ) → IsColumn h number c → 0 < c.granules
-some_granules c h number is = let present = is.present in grind (arith, present)
 
 pub one_granule : (e : Ephemeris) (number : ℕ) (t : ℤ) (g h : Granule) → IsEphemeris e → IsGranuleAt e number t g → IsGranuleAt e number t h → g ≡ h
 one_granule e number t g h checked one other =

@@ -1,5 +1,5 @@
 pub mod HeaderTest
+pub mod ColumnRules
 pub mod Granules
-pub mod Lines
 pub mod Pushing
 pub mod GranuleNumbers

@@ -1,10 +1,10 @@
 -- The text of a report: the request, a line for each window, and the counts.
 use Rattle.std.specs.Prelude.{ℕ, ℤ, List, ◌++◌, Bool, true, false, not, count_by, codes, flat_map}
 use Rattle.std.specs.Fmt.{decimal, signed_decimal}
-use Rattle.spec_events.specs.declared.tree.Turn.TheVariants.{Rise, Fall}
-use Rattle.spec_events.specs.declared.window.Holds.{Holds}
-use Rattle.spec_events.specs.declared.window.Holds.TheVariants.{Certain, Undecided}
-use Rattle.spec_events.specs.declared.window.Window.{Window}
+use Rattle.spec_trees.specs.declared.tree.Turn.TheVariants.{Rise, Fall}
+use Rattle.spec_trees.specs.declared.window.Holds.{Holds}
+use Rattle.spec_trees.specs.declared.window.Holds.TheVariants.{Certain, Undecided}
+use Rattle.spec_trees.specs.declared.window.Window.{Window}
 
 -- two times, in seconds of TDB since J2000
 abbrev pub times : ℤ → ℤ → List ℕ

@@ -1,7 +1,7 @@
 -- What a run that searches did, whatever it searched for: it wrote the report of the events, and nothing else.
 use Rattle.std.specs.Prelude.{ℕ, ℤ, List, Option}
 use Rattle.std.specs.Io.KnownBytes.{Appends}
-use Rattle.spec_events.specs.declared.window.Window.{Window}
+use Rattle.spec_trees.specs.declared.window.Window.{Window}
 use Rattle.spec_events.specs.Events.{AreWindows}
 
 -- known bytes grew by the report of these windows and by nothing else. The windows lie in the span, which is what comes

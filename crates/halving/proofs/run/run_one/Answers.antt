@@ -1,9 +1,8 @@
 use Rattle.std.proofs.Common.{◌≡◌, List, ◌++◌, length, sym, ap, ◌∙◌, subst, arith, length-append}
-use Rattle.spec_events.specs.declared.tree.Leaf.{Leaf}
-use Rattle.spec_events.specs.Tree.{mark_of}
+use Rattle.spec_trees.specs.declared.tree.Leaf.{Leaf}
+use Rattle.spec_trees.specs.Tree.{mark_of, Covers}
 use Rattle.halving.specs.Pending.{pending}
-use Rattle.spec_events.specs.Tree.{Covers}
-use Rattle.spec_events.proofs.Covering.{leaves_cover}
+use Rattle.spec_trees.proofs.Covering.{leaves_cover}
 use Rattle.halving.proofs.Stacks.{popped, settles, settle_falls, too_many, splits, split_valid, split_falls, all_found}
 use Rattle.halving.proofs.run.run_one.Goals as goal
 

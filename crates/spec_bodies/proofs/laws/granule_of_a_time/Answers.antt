@@ -1,6 +1,6 @@
 use Rattle.spec_ephemeris.proofs.Granules.{one_granule}
-use Rattle.spec_bodies.specs.Granules.{granule_at}
-use Rattle.spec_bodies.proofs.GranuleAt.{granule_of_time}
+use Rattle.spec_ephemeris.specs.Granules.{granule_at}
+use Rattle.spec_ephemeris.proofs.GranuleAt.{granule_of_time}
 use Rattle.spec_bodies.proofs.laws.granule_of_a_time.Goals as goal
 
 pub returns : goal.returns

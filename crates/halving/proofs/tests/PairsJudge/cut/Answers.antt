@@ -1,8 +1,8 @@
 use Rattle.std.proofs.Common.{◌∙◌, ap, ◌≡◌, ℤ, w64, arith}
 use Rattle.std.proofs.lemmas.Int.{ints, fits_signed_from_abs, to_z-of_z}
 use mir.Val.{SFits}
-use Rattle.spec_events.specs.Cuts.{cut_of}
-use Rattle.spec_events.specs.CutExamples.{pairs, parts_at}
+use Rattle.spec_trees.specs.Cuts.{cut_of}
+use Rattle.spec_trees.specs.CutExamples.{pairs, parts_at}
 use Rattle.halving.specs.TestJudges.{pairs_are_sound}
 use Rattle.halving.proofs.Parts.{AreParts, sound_parts}
 use Rattle.halving.proofs.tests.PairsJudge.cut.Goals as goal

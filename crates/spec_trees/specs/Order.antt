@@ -1,0 +1,25 @@
+-- Leaves put in order of time.
+use Rattle.std.specs.Prelude.{ℤ, List, [], ◌∷◌, map, int_lt, if◌then◌else◌}
+use Rattle.spec_trees.specs.declared.book.Booked.{Booked}
+use Rattle.spec_trees.specs.declared.tree.Leaf.{Leaf}
+
+-- the time after which a leaf begins
+abbrev pub beginning : Leaf → ℤ
+beginning l = l.node.a
+
+-- before the first of the leaves that doesn't begin earlier
+unfoldable pub inserted : Leaf → List Leaf → List Leaf
+inserted l [] = l ∷ []
+inserted l (m ∷ ms) = if int_lt m.node.a l.node.a then m ∷ inserted l ms else l ∷ m ∷ ms
+
+-- in order of their beginnings; leaves that begin together keep their order
+unfoldable pub in_order : List Leaf → List Leaf
+in_order [] = []
+in_order (l ∷ ls) = inserted l (in_order ls)
+
+abbrev pub booked_leaves : List Booked → List Leaf
+booked_leaves entries = map (λ e. e.leaf) entries
+
+-- the leaves of a book, put in order
+abbrev pub ordered_leaves : List Booked → List Leaf
+ordered_leaves entries = in_order (booked_leaves entries)

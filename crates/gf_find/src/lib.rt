@@ -2,10 +2,15 @@
 //! status. Nothing of its inside is public but the call itself and its statuses.
 #![tactic(auto)]
 
+mod answer;
 mod messages;
 mod printing;
 mod statuses;
+mod top;
 mod words;
 mod writing;
 
-pub use statuses::{FILES_REFUSED, NOT_READ, NOT_WRITTEN, OUT_OF_MEMORY, REPORTED, WORDS_REFUSED};
+pub use statuses::{
+    FILES_REFUSED, NOT_READ, NOT_WRITTEN, OUT_OF_MEMORY, REPORTED, WORDS_REFUSED,
+};
+pub use top::finder;

@@ -2,7 +2,7 @@
 ghost use Rattle.std.specs.Prelude.{◌≡◌, ◌++◌, ◌+◌, List, None, Some, Err, length, ℕ};
 ghost use Rattle.spec_text.specs.declared.decimals.Fault.{Fault};
 ghost use Rattle.spec_files.specs.Texts.{first_cut_from, joined_from};
-ghost use Rattle.spec_files.specs.Outcome.{broken, outcome};
+ghost use Rattle.spec_files.specs.Outcome.{first_fault, outcome};
 
 /// Behind texts that can be read to their ends, the lines and the first cut of later ones follow.
 #[tactic(auto, using(crate::proofs::Joining::joined_more, crate::proofs::Joining::cut_more))]
@@ -14,7 +14,7 @@ pub fn later_texts_follow()
 {}
 
 /// A fault that texts have whatever follows is their first.
-#[tactic(auto, using(crate::proofs::Joining::broken_refused))]
-pub fn broken_texts_are_refused()
-    ensures { (texts : List (List ℕ)) (file : ℕ) (fault : Fault) → broken texts ≡ Some (file, fault) → outcome texts ≡ Err (file, fault) }
+#[tactic(auto, using(crate::proofs::Joining::first_fault_refused))]
+pub fn texts_with_a_fault_are_refused()
+    ensures { (texts : List (List ℕ)) (file : ℕ) (fault : Fault) → first_fault texts ≡ Some (file, fault) → outcome texts ≡ Err (file, fault) }
 {}

@@ -8,15 +8,15 @@ use Rattle.spec_ephemeris.specs.declared.limits.TheConstants.{BODY_COLUMNS}
 use Rattle.spec_ephemeris.specs.Header.{column_at, components, is_present_at}
 use Rattle.spec_ephemeris.specs.Ephemeris.{Granule, IsBodyNumber, IsGranuleAt, IsBorder, axis_series}
 use Rattle.spec_ephemeris.proofs.Granules.{one_granule}
-use Rattle.eph_model.specs.declared.granules.Granule.{Granule as Read}
+use Rattle.spec_ephemeris.specs.declared.granule.Granule.{Granule as Read}
 use Rattle.spec_motions.specs.Enclosures.{IsSpan}
-use Rattle.spec_ephemeris.specs.Granules.{column_or_none, granule_at, series_at}
+use Rattle.spec_ephemeris.specs.Granules.{column_or_none, granule_at, series_at, series_of}
 use Rattle.spec_bodies.specs.Reading.{IsReadable}
 use Rattle.spec_bodies.specs.Views.{View, Fits}
 use Rattle.spec_ephemeris.proofs.GranuleAt.{granule_of_time}
 use Rattle.spec_bodies.proofs.Columns.{span_of}
-use Rattle.cheby_enclose.specs.Granules.{IsEvaluable, series_of}
-use Rattle.cheby_enclose.proofs.GranuleSeries.{own_length}
+use Rattle.spec_motions.specs.Granules.{IsEvaluable}
+use Rattle.spec_motions.proofs.GranuleSeries.{own_length}
 
 abbrev IsThree : ℕ → Type 0
 IsThree n = n ≡ 3

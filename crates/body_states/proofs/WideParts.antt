@@ -5,10 +5,11 @@ use Rattle.spec_intervals.specs.Interval.{Interval}
 use Rattle.spec_chebyshev.specs.declared.ends.Ival62.{Ival62}
 use Rattle.spec_motions.specs.Enclosures.{coefficients_of, position_over, position_step_over, velocity_over, velocity_step_over, position_interval, position_step_interval, velocity_interval, velocity_step_interval}
 use Rattle.spec_expressions.specs.Enclosure.{middle}
-use Rattle.eph_model.specs.declared.granules.Granule.{Granule}
+use Rattle.spec_ephemeris.specs.declared.granule.Granule.{Granule}
 use Rattle.cheby_enclose.specs.declared.positions.Bases.{Bases}
-use Rattle.cheby_enclose.specs.Granules.{IsEvaluable, series_of}
-use Rattle.cheby_enclose.proofs.GranuleSeries.{IsSeries-of, IsSpan-of}
+use Rattle.spec_motions.specs.Granules.{IsEvaluable}
+use Rattle.spec_ephemeris.specs.Granules.{series_of}
+use Rattle.spec_motions.proofs.GranuleSeries.{IsSeries-of, IsSpan-of}
 use Rattle.body_states.specs.Bases.{AreBases}
 use Rattle.body_states.proofs.SeriesParts.{AreParts, position_parts, velocity_parts}
 

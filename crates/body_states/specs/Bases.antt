@@ -2,8 +2,8 @@
 use Rattle.std.specs.Prelude.{◌≡◌, ℕ, ◌<◌, ℤ}
 use Rattle.spec_chebyshev.specs.Rows.{t_row, u_row, q_row, r_row, entry, IsArguments}
 use Rattle.spec_motions.specs.Enclosures.{arguments}
-use Rattle.eph_model.specs.declared.granules.Granule.{Granule}
-use Rattle.cheby_enclose.specs.Granules.{series_of}
+use Rattle.spec_ephemeris.specs.declared.granule.Granule.{Granule}
+use Rattle.spec_ephemeris.specs.Granules.{series_of}
 use Rattle.cheby_enclose.specs.declared.positions.Bases.{Bases}
 
 -- the rows of T and U

@@ -1,7 +1,7 @@
 // The bases of a granule, made once for all axes and quantities.
 ghost use Rattle.std.specs.Prelude.{◌≡◌, true, ◌≤ℤ◌, ◌+ℤ◌};
 ghost use lib.Signed.{lt_z};
-ghost use Rattle.cheby_enclose.specs.Granules.{IsEvaluable};
+ghost use Rattle.spec_motions.specs.Granules.{IsEvaluable};
 ghost use Rattle.body_states.specs.Bases.{AreBases, AreAllBases};
 
 use cheby_enclose::{Bases, arguments};

@@ -1,7 +1,8 @@
 // The enclosures of one coordinate of a granule.
 ghost use Rattle.std.specs.Prelude.{◌≡◌, ◌<◌, ◌≤ℤ◌, ◌+ℤ◌};
 ghost use Rattle.spec_bodies.specs.Views.{series_positions, series_velocities};
-ghost use Rattle.cheby_enclose.specs.Granules.{IsEvaluable, series_of};
+ghost use Rattle.spec_motions.specs.Granules.{IsEvaluable};
+ghost use Rattle.spec_ephemeris.specs.Granules.{series_of};
 ghost use Rattle.event_expr.specs.States.{parts};
 
 use crate::asked::Asked;

@@ -3,7 +3,7 @@ use Rattle.std.proofs.lemmas.Int.{to_z-of_z}
 use mir.Val.{SFits}
 use Rattle.spec_expressions.specs.Enclosure.{middle, enclosure}
 use Rattle.spec_motions.specs.Enclosures.{position_step_over, position_interval, position_step_interval}
-use Rattle.cheby_enclose.specs.Granules.{series_of}
+use Rattle.spec_ephemeris.specs.Granules.{series_of}
 use Rattle.body_states.proofs.SeriesParts.{AreParts}
 use Rattle.body_states.proofs.WideParts.{position_same, position_step_same, positions_within}
 use Rattle.body_states.proofs.columns.wide_position.Goals as goal

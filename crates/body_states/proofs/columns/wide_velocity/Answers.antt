@@ -3,7 +3,7 @@ use Rattle.std.proofs.lemmas.Int.{to_z-of_z}
 use mir.Val.{SFits}
 use Rattle.spec_expressions.specs.Enclosure.{middle, enclosure}
 use Rattle.spec_motions.specs.Enclosures.{velocity_over, velocity_step_over, velocity_interval, velocity_step_interval}
-use Rattle.cheby_enclose.specs.Granules.{series_of}
+use Rattle.spec_ephemeris.specs.Granules.{series_of}
 use Rattle.body_states.proofs.SeriesParts.{AreParts}
 use Rattle.body_states.proofs.WideParts.{velocity_same, velocity_step_same, velocities_within}
 use Rattle.body_states.proofs.columns.wide_velocity.Goals as goal

@@ -1,8 +1,8 @@
 use Rattle.std.proofs.Common.{rules, ◌∙◌, FitsSigned, w64}
 use Rattle.std.proofs.lemmas.Int.{to_z-of_z}
 use Rattle.spec_motions.specs.Enclosures.{velocity_interval, velocity_step_interval}
-use Rattle.cheby_enclose.specs.Granules.{series_of}
-use Rattle.cheby_enclose.proofs.GranuleSeries.{IsSeries-of, IsSpan-of}
+use Rattle.spec_ephemeris.specs.Granules.{series_of}
+use Rattle.spec_motions.proofs.GranuleSeries.{IsSeries-of, IsSpan-of}
 use Rattle.body_states.proofs.SeriesParts.{AreParts, velocity_parts}
 use Rattle.body_states.proofs.series.velocities.Goals as goal
 

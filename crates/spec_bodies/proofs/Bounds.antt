@@ -8,9 +8,10 @@ use Rattle.spec_bodies.specs.declared.frame.Frame.{Frame}
 use Rattle.spec_bodies.specs.declared.frame.Frame.TheVariants.{Eq, Ecl}
 use Rattle.spec_bodies.specs.declared.source.Source.{Source}
 use Rattle.spec_bodies.specs.declared.source.Source.TheVariants.{OwnColumn, EarthOfPair, MoonOfPair, Origin}
-use Rattle.spec_bodies.specs.Coordinates.{Factor, Coordinate, nothing, of_column, times, plus, less, seen, in_frame}
+use Rattle.spec_bodies.specs.declared.factor.Factor.{Factor}
+use Rattle.spec_bodies.specs.Coordinates.{Coordinate, nothing, of_column, times, plus, less, displacement, in_frame}
 use Rattle.spec_bodies.specs.Meanings.{factor_interval, enclosure_of}
-use Rattle.spec_bodies.specs.Reading.{AllColumns, lowest, highest, IsLow, IsShort, IsFactor}
+use Rattle.spec_bodies.specs.Reading.{AllColumns, column_lowest, column_highest, lowest, highest, IsLow, IsShort, IsFactor}
 use Rattle.spec_bodies.proofs.Exponents.{IsBetween, AreBetween, between-more, between-all_within, product-between, enclosure-between, nothing-between, sum_of-between, difference_of-between}
 use Rattle.spec_bodies.proofs.Factors.{times_factor}
 
@@ -36,7 +37,7 @@ scaled a b span c x l h factor is =
     (multiplied c x.step l h factor is.step)
 
 module _ (a b : ℤ) (span : IsSpan a b) (answer : ℕ → ℕ → Enclosure) (factors : Factor → Fraction) (are : (f : Factor) → IsFactor (factor_interval (factors f))) where
-  pub between_of : (c : Coordinate) → AllColumns (λ number axis. AreBetween 84 2 (answer number axis)) c → AreBetween (lowest c) (highest c) (enclosure_of answer factors a b c)
+  pub between_of : (c : Coordinate) → AllColumns (λ number axis. AreBetween column_lowest column_highest (answer number axis)) c → AreBetween (lowest c) (highest c) (enclosure_of answer factors a b c)
   between_of nothing all = nothing-between a b span
   between_of (of_column number axis) all = all
   between_of (times f x) all =
@@ -52,23 +53,23 @@ module _ (a b : ℤ) (span : IsSpan a b) (answer : ℕ → ℕ → Enclosure) (f
       (more (lowest y) (highest y) _ _ (enclosure_of answer factors a b y) (omega arith) (omega arith) (between_of y all.1))
 
 -- ---- the formulas of bodies
-pub seen_low : (axis : ℕ) (target observer : Source) → IsLow 144 7 (seen target observer axis)
-seen_low axis (OwnColumn n) (OwnColumn m) = record { low = omega arith; high = omega arith }
-seen_low axis (OwnColumn n) EarthOfPair = record { low = omega arith; high = omega arith }
-seen_low axis (OwnColumn n) MoonOfPair = record { low = omega arith; high = omega arith }
-seen_low axis (OwnColumn n) Origin = record { low = omega arith; high = omega arith }
-seen_low axis EarthOfPair (OwnColumn m) = record { low = omega arith; high = omega arith }
-seen_low axis EarthOfPair EarthOfPair = record { low = omega arith; high = omega arith }
-seen_low axis EarthOfPair MoonOfPair = record { low = omega arith; high = omega arith }
-seen_low axis EarthOfPair Origin = record { low = omega arith; high = omega arith }
-seen_low axis MoonOfPair (OwnColumn m) = record { low = omega arith; high = omega arith }
-seen_low axis MoonOfPair EarthOfPair = record { low = omega arith; high = omega arith }
-seen_low axis MoonOfPair MoonOfPair = record { low = omega arith; high = omega arith }
-seen_low axis MoonOfPair Origin = record { low = omega arith; high = omega arith }
-seen_low axis Origin (OwnColumn m) = record { low = omega arith; high = omega arith }
-seen_low axis Origin EarthOfPair = record { low = omega arith; high = omega arith }
-seen_low axis Origin MoonOfPair = record { low = omega arith; high = omega arith }
-seen_low axis Origin Origin = record { low = omega arith; high = omega arith }
+pub displacement_low : (axis : ℕ) (target observer : Source) → IsLow 144 7 (displacement target observer axis)
+displacement_low axis (OwnColumn n) (OwnColumn m) = record { low = omega arith; high = omega arith }
+displacement_low axis (OwnColumn n) EarthOfPair = record { low = omega arith; high = omega arith }
+displacement_low axis (OwnColumn n) MoonOfPair = record { low = omega arith; high = omega arith }
+displacement_low axis (OwnColumn n) Origin = record { low = omega arith; high = omega arith }
+displacement_low axis EarthOfPair (OwnColumn m) = record { low = omega arith; high = omega arith }
+displacement_low axis EarthOfPair EarthOfPair = record { low = omega arith; high = omega arith }
+displacement_low axis EarthOfPair MoonOfPair = record { low = omega arith; high = omega arith }
+displacement_low axis EarthOfPair Origin = record { low = omega arith; high = omega arith }
+displacement_low axis MoonOfPair (OwnColumn m) = record { low = omega arith; high = omega arith }
+displacement_low axis MoonOfPair EarthOfPair = record { low = omega arith; high = omega arith }
+displacement_low axis MoonOfPair MoonOfPair = record { low = omega arith; high = omega arith }
+displacement_low axis MoonOfPair Origin = record { low = omega arith; high = omega arith }
+displacement_low axis Origin (OwnColumn m) = record { low = omega arith; high = omega arith }
+displacement_low axis Origin EarthOfPair = record { low = omega arith; high = omega arith }
+displacement_low axis Origin MoonOfPair = record { low = omega arith; high = omega arith }
+displacement_low axis Origin Origin = record { low = omega arith; high = omega arith }
 
 pub in_frame_low : (frame : Frame) (axis : ℕ) (own : ℕ → Coordinate) → ((axis : ℕ) → IsLow 144 7 (own axis)) → IsShort (in_frame frame own axis)
 in_frame_low Eq axis own is = let l = (is axis).low in let h = (is axis).high in record { low = omega (arith, l); high = omega (arith, h) }

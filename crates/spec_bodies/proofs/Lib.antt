@@ -1,4 +1,3 @@
-pub mod GranuleAt
 pub mod Formulas
 pub mod InUse
 pub mod Columns
@@ -6,5 +5,6 @@ pub mod Held
 pub mod Exponents
 pub mod Factors
 pub mod Sizes
+pub mod Series
 pub mod Bounds
 pub mod Apart

@@ -2,7 +2,7 @@
 use Rattle.std.specs.Prelude.{◌≡◌, ℕ, ℤ, List, All}
 use Rattle.spec_intervals.specs.Interval.{Interval}
 use Rattle.spec_intervals.specs.Fraction.{Fraction, IsFraction}
-use Rattle.spec_expressions.specs.Enclosure.{Enclosure}
+use Rattle.spec_intervals.specs.Enclosure.{Enclosure}
 use Rattle.spec_bodies.specs.Coordinates.{Coordinate}
 use Rattle.spec_ephemeris.specs.Granules.{series_at}
 use Rattle.spec_bodies.specs.Meanings.{factor, factor_interval, enclosure_of}

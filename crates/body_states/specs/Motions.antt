@@ -1,6 +1,6 @@
 -- Positions and velocities of a column along each axis.
 use Rattle.std.specs.Prelude.{◌≡◌, ℕ, zero, suc, ◌<◌}
-use Rattle.spec_expressions.specs.Enclosure.{Enclosure}
+use Rattle.spec_intervals.specs.Enclosure.{Enclosure}
 use Rattle.event_expr.specs.States.{parts}
 use Rattle.ival_core.specs.declared.ival.Enclosure.{Enclosure as Answered}
 use Rattle.body_states.specs.declared.asked.Quantity.{Quantity}

@@ -1,6 +1,6 @@
 // What is asked of a body.
 ghost use Rattle.std.specs.Prelude.{◌≡◌};
-ghost use Rattle.spec_expressions.specs.Enclosure.{IsSpan, middle};
+ghost use Rattle.spec_intervals.specs.Enclosure.{IsSpan, middle};
 ghost use Rattle.body_states.specs.Answers.{Question};
 
 use crate::motions::ColumnMotions;
@@ -27,7 +27,7 @@ pub(crate) struct Asked<'c> {
 
 impl<'c> Model for Asked<'c> {
     ghost use Rattle.std.specs.Prelude.{◌≡◌};
-    ghost use Rattle.spec_expressions.specs.Enclosure.{IsSpan};
+    ghost use Rattle.spec_intervals.specs.Enclosure.{IsSpan};
     ghost use Rattle.body_states.specs.Answers.{Question};
 
     ghost Value = { Question };

@@ -2,7 +2,7 @@
 ghost use Rattle.std.specs.Prelude.{◌≡◌, ◌<◌, ◌≤◌, true, false, ◌≤ℤ◌, ◌+ℤ◌, length};
 ghost use lib.Signed.{lt_z};
 ghost use Rattle.spec_motions.specs.Enclosures.{coefficients_of};
-ghost use Rattle.spec_expressions.specs.Enclosure.{middle};
+ghost use Rattle.spec_intervals.specs.Enclosure.{middle};
 ghost use Rattle.spec_bodies.specs.Views.{series_positions, series_velocities};
 ghost use Rattle.spec_motions.specs.Granules.{IsEvaluable};
 ghost use Rattle.spec_ephemeris.specs.Granules.{series_of};

@@ -1,6 +1,6 @@
 // The coordinates of bodies, made of those of columns by the rules on enclosures.
 ghost use Rattle.std.specs.Prelude.{◌≡◌, ◌<◌, IfSome, Contains};
-ghost use Rattle.spec_expressions.specs.Enclosure.{constant_of, sum_of, difference_of, product_of};
+ghost use Rattle.spec_intervals.specs.Enclosure.{constant_of, sum_of, difference_of, product_of};
 ghost use Rattle.spec_bodies.specs.Coordinates.{nothing, of_column, earth, moon, less, barycentric, seen, turned, in_frame};
 ghost use Rattle.spec_bodies.specs.Reading.{AllColumns, IsReadable, IsFactor};
 ghost use Rattle.event_expr.specs.States.{parts};

@@ -9,7 +9,7 @@ use Rattle.spec_chebyshev.specs.Rows.{EndsWithin}
 use Rattle.spec_intervals.specs.Interval.{IsDistance, decimal_top, decimal_bottom, from_decimal}
 use Rattle.spec_numbers.proofs.Floor.{floor_div-small, ceil_div-small}
 use Rattle.spec_intervals.proofs.Decimals.{bottom_pos}
-use Rattle.ival_core.proofs.DecimalEnds.{distance-size}
+use Rattle.spec_intervals.proofs.DecimalEnds.{distance-size}
 use Rattle.spec_ephemeris.specs.Ephemeris.{IsBodyNumber}
 use Rattle.spec_motions.specs.Sums.{coefficient}
 use Rattle.spec_motions.specs.RowSizes.{AreTerms}

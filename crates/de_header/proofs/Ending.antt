@@ -4,7 +4,7 @@ use Rattle.std.specs.Prelude.{IfOk}
 use Rattle.spec_ephemeris.specs.Header.{IsHeader}
 use Rattle.spec_ephemeris.specs.declared.header.Header.{Header}
 use Rattle.spec_header.specs.HeaderLines.{header}
-use Rattle.spec_header.specs.Sections.{FileLine}
+use Rattle.spec_sections.specs.Sections.{FileLine}
 use Rattle.spec_header.proofs.Accepted.{accepted_header}
 use Rattle.de_header.specs.declared.answers.HeaderError.{HeaderError}
 use Rattle.de_header.specs.Reader.{Ends, Says}

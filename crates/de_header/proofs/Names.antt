@@ -2,7 +2,7 @@
 use Rattle.std.proofs.Common.{◌≡◌, ℕ, zero, suc, ◌+◌, ◌<◌, ◌≤◌, true, false, List, [], ◌∷◌, length, take, drop, Option, Some, refl, sym, ap, ◌∙◌, arith}
 use Rattle.std.specs.Prelude.{slice_get, codes}
 use Rattle.std.proofs.lemmas.List.{length-take-le}
-use Rattle.spec_header.specs.Sections.{is_word}
+use Rattle.spec_sections.specs.Sections.{is_word}
 use Rattle.spec_header.specs.HeaderRules.{emrat_from}
 
 no_emrat : (ws : List (List ℕ)) (i k : ℕ) → i < length ws → is_word (slice_get ws i) (codes "EMRAT") ≡ false

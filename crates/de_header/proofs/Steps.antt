@@ -5,11 +5,11 @@ use Rattle.std.specs.Str.{bytes_eq}
 use Rattle.std.proofs.lemmas.Bool.{cases_Bool}
 use Rattle.std.proofs.lemmas.List.{length-take}
 use Rattle.spec_text.specs.declared.decimals.Decimal.{Decimal}
-use Rattle.spec_header.specs.declared.rules.BrokenRule.{BrokenRule}
+use Rattle.spec_sections.specs.declared.rules.BrokenRule.{BrokenRule}
 use Rattle.spec_faults.specs.declared.numbers.TheConstants.{ENDED}
 use Rattle.spec_header.specs.HeaderLines.{names}
 use Rattle.spec_header.specs.HeaderRules.{emrat_from, mass_ratio}
-use Rattle.spec_header.specs.Sections.{FileLine, Stop, ◌>>=◌, at_line, behind_words}
+use Rattle.spec_sections.specs.Sections.{FileLine, Stop, ◌>>=◌, at_line, after_words}
 use Rattle.de_header.specs.declared.state.Facts.{Facts}
 use Rattle.de_header.specs.declared.state.Frame.{Frame}
 use Rattle.de_header.specs.Reader.{Says, facts_of, from_column_group, from_names, from_value_group, from_values, from_values_behind, or_else}
@@ -89,8 +89,8 @@ module _ (frame : Frame) where
   value_here left here before line rest word d here_is below is read =
       ap (λ (r : Result (Decimal × List FileLine) Stop). r >>= rated)
       (ratio_here left here before line rest word here_is below is
-      ∙ ap (λ (r : Result Decimal BrokenRule). at_line line.file line.number r >>= λ emrat. behind_words ENDED (left - here) rest >>= with_ratio emrat) read)
-      ∙ rated_behind d (behind_words ENDED (left - here) rest)
+      ∙ ap (λ (r : Result Decimal BrokenRule). at_line line.file line.number r >>= λ emrat. after_words ENDED (left - here) rest >>= with_ratio emrat) read)
+      ∙ rated_behind d (after_words ENDED (left - here) rest)
 
   pub value_breaks : (left here before : ℕ) (line : FileLine) (rest : List FileLine) (word : List ℕ) (broken : BrokenRule)
       → here ≡ min left (length line.words) → before < here → slice_get line.words before ≡ Some word → mass_ratio word ≡ Err broken
@@ -98,4 +98,4 @@ module _ (frame : Frame) where
   value_breaks left here before line rest word broken here_is below is read =
       ap (λ (r : Result (Decimal × List FileLine) Stop). r >>= rated)
       (ratio_here left here before line rest word here_is below is
-      ∙ ap (λ (r : Result Decimal BrokenRule). at_line line.file line.number r >>= λ emrat. behind_words ENDED (left - here) rest >>= with_ratio emrat) read)
+      ∙ ap (λ (r : Result Decimal BrokenRule). at_line line.file line.number r >>= λ emrat. after_words ENDED (left - here) rest >>= with_ratio emrat) read)

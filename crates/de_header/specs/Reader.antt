@@ -5,13 +5,15 @@ use Rattle.spec_text.specs.declared.decimals.Decimal.{Decimal}
 use Rattle.spec_text.specs.declared.decimals.Fault.{Fault}
 use Rattle.spec_ephemeris.specs.declared.header.Column.{Column}
 use Rattle.spec_ephemeris.specs.declared.header.Header.{Header}
-use Rattle.spec_header.specs.declared.rules.BrokenRule.{BrokenRule}
+use Rattle.spec_sections.specs.declared.rules.BrokenRule.{BrokenRule}
 use Rattle.spec_faults.specs.declared.numbers.TheConstants.{ENDED}
 use Rattle.spec_header.specs.declared.rules.TheConstants.{MOST_CONSTANTS}
 use Rattle.spec_header.specs.ColumnRules.{columns_row, row}
 use Rattle.spec_header.specs.HeaderLines.{mass_ratio_among, names}
 use Rattle.spec_header.specs.HeaderRules.{emrat_from, first_line, group, name_count, span, value_count}
-use Rattle.spec_header.specs.Sections.{FileLine, Stop, ended, breaks, ◌>>=◌, at_line, behind_words, from_word, one_line}
+pub use Rattle.spec_sections.specs.FileLines.{line_of}
+use Rattle.spec_sections.specs.FileLines.{stopped_at}
+use Rattle.spec_sections.specs.Sections.{FileLine, Stop, ended, breaks, ◌>>=◌, at_line, after_words, from_word, one_line}
 use Rattle.de_header.specs.declared.answers.HeaderError.{HeaderError}
 use Rattle.de_header.specs.declared.answers.HeaderError.TheVariants as errors
 use Rattle.de_header.specs.declared.answers.Step.{Step}
@@ -24,10 +26,6 @@ use Rattle.de_header.specs.declared.state.State.TheVariants.{First, TitleGroup, 
 -- the header and the lines behind it, or why the lines are refused
 abbrev pub Says : Type 0
 Says = Result (Header × List FileLine) Stop
-
--- a line of a file
-abbrev pub line_of : ℕ → TokenLine → FileLine
-line_of file line = record { file = file; number = line.number; words = line.tokens }
 
 abbrev pub header_of : Facts → List Column → Header
 header_of facts columns =
@@ -65,7 +63,7 @@ from_column_group facts lines = do
 
 abbrev pub from_values_behind : Facts → ℕ → List FileLine → Says
 from_values_behind facts left lines = do
-  rest ← behind_words ENDED left lines
+  rest ← after_words ENDED left lines
   from_column_group facts rest
 
 abbrev pub from_values : Frame → ℕ → ℕ → List FileLine → Says
@@ -218,11 +216,6 @@ answer (Err stop) = answer_of stop
 abbrev pub IsNotDone : Result Step HeaderError → Type 0
 IsNotDone (Ok Done) = ⊥
 IsNotDone answer = Unit {0}
-
--- where the lines end at this number, what is said of no more lines
-abbrev pub stopped_at : ℕ → Stop → Fault
-stopped_at end (ended late) = record { line = end; number = late; detail = 0 }
-stopped_at end (breaks file fault) = fault
 
 -- the header of what is said, or its fault; for want of memory there may be neither
 abbrev pub Ends : ℕ → Says → Result Header HeaderError → Type 0

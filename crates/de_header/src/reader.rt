@@ -5,22 +5,23 @@ ghost use Rattle.spec_header.specs.declared.rules.TheConstants.{MOST_CONSTANTS};
 ghost use Rattle.spec_ephemeris.specs.Header.{IsHeader};
 ghost use Rattle.spec_header.specs.HeaderLines.{header};
 ghost use Rattle.spec_header.specs.HeaderRules.{emrat_from};
-ghost use Rattle.spec_header.specs.Sections.{FileLine};
+ghost use Rattle.spec_sections.specs.Sections.{FileLine};
 ghost use Rattle.de_header.specs.declared.state.State.TheVariants as states;
 ghost use Rattle.de_header.specs.declared.answers.HeaderError.TheVariants as errors;
 ghost use Rattle.de_header.specs.declared.answers.Step.TheVariants as steps;
-ghost use Rattle.de_header.specs.Reader.{Ends, Fits, IsBehindNames, IsBehindValues, IsNotDone, IsNotWhole, IsOpen, IsRefused, IsWhole, Moves, answer, from_names, from_values_behind, header_of, line_of, or_else, says};
+ghost use Rattle.de_header.specs.Reader.{Ends, Fits, IsBehindNames, IsBehindValues, IsNotDone, IsNotWhole, IsOpen, IsRefused, IsWhole, Moves, answer, from_names, from_values_behind, header_of, or_else, says};
+ghost use Rattle.spec_sections.specs.FileLines.{line_of};
 
 use crate::answers::{HeaderError, Step};
 use crate::columns::{columns_row, row};
 use crate::state::{Facts, Frame, State};
 use crate::words::{
-    broken, find_emrat, first_line, group, is_group, mass_ratio, name_count, span, value_count,
+    find_emrat, first_line, group, is_group, mass_ratio, name_count, span, value_count,
 };
 use de_text::Line;
 use spec_ephemeris::{Column, Columns, Header};
-use spec_header::BrokenRule;
 use spec_faults::ENDED;
+use spec_sections::BrokenRule;
 use spec_text::Fault;
 use std::alloc::Global;
 use std::marker::Model;
@@ -296,11 +297,7 @@ fn next(state: State, line: &Line<'_>) -> State
     }
     match step(state, line) {
         Ok(state) => state,
-        Err(broken) => State::Refused(Fault {
-            line: line.number(),
-            number: broken.number,
-            detail: broken.detail,
-        }),
+        Err(broken) => State::Refused(broken.at_line(line.number())),
     }
 }
 
@@ -345,11 +342,7 @@ fn header_at_end(alloc: Global, state: State, line: u32) -> Result<Header, Heade
     match state {
         State::Whole { facts, columns } => whole(alloc, facts, columns),
         State::Refused(fault) => Err(HeaderError::Fault(fault)),
-        _ => Err(HeaderError::Fault(Fault {
-            line,
-            number: ENDED,
-            detail: 0,
-        })),
+        _ => Err(HeaderError::Fault(BrokenRule::new(ENDED, 0).at_line(line))),
     }
 }
 

@@ -1,6 +1,6 @@
 -- What contracts see of an enclosure that the code answers, and the limit of its exponents.
 use Rattle.std.specs.Prelude.{ℕ, ℤ}
-use Rattle.spec_expressions.specs.Enclosure.{Enclosure}
+use Rattle.spec_intervals.specs.Enclosure.{Enclosure}
 use Rattle.ival_core.specs.declared.ival.Enclosure.{Enclosure as Answered}
 
 abbrev pub parts : Answered → Enclosure

@@ -2,7 +2,7 @@
 
 ghost use Rattle.std.specs.Prelude.{◌≡◌, ◌≤ℤ◌, ◌<ℤ◌, ℤ};
 ghost use Rattle.spec_intervals.specs.Fraction.{Holds};
-ghost use Rattle.spec_expressions.specs.Enclosure.{middle, change};
+ghost use Rattle.spec_intervals.specs.Enclosure.{middle, change};
 ghost use Rattle.spec_expressions.specs.Expression.{exact_of, enclosure_of, IsFormula};
 ghost use Rattle.event_expr.specs.States.{parts};
 

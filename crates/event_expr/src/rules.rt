@@ -4,7 +4,8 @@ ghost use Rattle.std.specs.Prelude.{◌≡◌, ◌≤◌, ◌*◌, ◌-ℤ◌, p
 ghost use lib.Signed.{lt_z};
 ghost use Rattle.spec_intervals.specs.Interval.{Interval, end_limit};
 ghost use Rattle.spec_intervals.specs.Fraction.{Overlaps};
-ghost use Rattle.spec_expressions.specs.Enclosure.{IsSpan, IsWithin, AllWithin, Encloses, part_exponent, middle, centred, enclosure, constant_of, sum_of, difference_of, product_of, signed_square_of, twice_size};
+ghost use Rattle.spec_intervals.specs.Enclosure.{IsSpan, IsWithin, AllWithin, Encloses, middle, centred, enclosure, constant_of, sum_of, difference_of, product_of, signed_square_of, twice_size};
+ghost use Rattle.spec_expressions.specs.Expression.{part_exponent};
 ghost use Rattle.event_expr.specs.States.{parts, wide_exponent};
 
 use ival_core::{Enclosure, Ival};
@@ -20,7 +21,7 @@ pub struct Span {
 
 impl Model for Span {
     ghost use Rattle.std.specs.Prelude.{◌≡◌};
-    ghost use Rattle.spec_expressions.specs.Enclosure.{IsSpan, offsets};
+    ghost use Rattle.spec_intervals.specs.Enclosure.{IsSpan, offsets};
     ghost use Rattle.event_expr.specs.States.{Times};
 
     ghost Value = { Times };

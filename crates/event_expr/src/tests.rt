@@ -2,7 +2,7 @@
 
 ghost use Rattle.std.specs.Prelude.{◌≡◌, ◌≤◌, ◌<◌, ◌≤ℤ◌, ℤ, pos, IfOk, unsigned_abs};
 ghost use Rattle.spec_intervals.specs.Interval.{narrow};
-ghost use Rattle.spec_expressions.specs.Enclosure.{IsSpan, middle, time_limit};
+ghost use Rattle.spec_intervals.specs.Enclosure.{IsSpan, middle, time_limit};
 ghost use Rattle.spec_expressions.specs.Expression.{HasLeaves};
 ghost use Rattle.spec_expressions.specs.declared.expressions.Expr.{Expr};
 ghost use Rattle.event_expr.specs.States.{parts};
@@ -38,7 +38,7 @@ fn times(a: i64, b: i64) -> Enclosure
 }
 
 impl States for Clock {
-    ghost use Rattle.spec_expressions.specs.Enclosure.{IsSpan};
+    ghost use Rattle.spec_intervals.specs.Enclosure.{IsSpan};
     ghost use Rattle.spec_expressions.specs.Examples.{clock, clock_over};
     ghost use Rattle.spec_expressions.proofs.Clock.{AllFractions-clock, IsEnclosure-clock, AllWithin-clock};
     ghost use Rattle.event_expr.specs.States.{state_exponent};

@@ -2,14 +2,15 @@
 use Rattle.std.proofs.Common.{◌≡◌, ◌⊎◌, ℕ, suc, ◌+◌, ◌-◌, ◌<◌, ◌≤◌, Bool, true, false, List, [], ◌∷◌, ◌++◌, length, Option, None, Some, Result, Ok, Err, refl, sym, ap, ◌∙◌, subst, append-nil, arith, inl, inr}
 use Rattle.std.specs.Prelude.{IsSome, slice_get, if◌then◌else◌}
 use Rattle.spec_text.specs.declared.decimals.Fault.{Fault}
-use Rattle.spec_ephemeris.specs.Ephemeris.{Ephemeris, is_line}
-use Rattle.spec_header.specs.Sections.{Stop, ended, breaks, ◌>>=◌}
+use Rattle.spec_ephemeris.specs.Ephemeris.{Ephemeris}
+use Rattle.line_search.specs.MercuryX.{is_line}
+use Rattle.spec_sections.specs.Sections.{Stop, ended, breaks, ◌>>=◌}
 use Rattle.spec_blocks.specs.Blocks.{ephemeris}
 use Rattle.spec_files.specs.Texts.{at_end, end_line, fault_at, joined}
 use Rattle.spec_files.specs.Outcome.{broken, outcome, outcome_by}
 use Rattle.spec_files.proofs.Joining.{broken_refused}
 use Rattle.gf_edges.specs.Edges.{Files, Lacks, file_of}
-use Rattle.spec_output.specs.Answers.{if_line, searched}
+use Rattle.gf_find.specs.Answers.{if_line, searched}
 use Rattle.spec_output.specs.Files.{AreFiles, IsFile}
 use Rattle.spec_faults.specs.declared.numbers.TheConstants.{NOT_BUILT}
 use Rattle.gf_find.specs.declared.reader.LineStop.TheVariants as stops

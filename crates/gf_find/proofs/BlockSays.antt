@@ -2,11 +2,11 @@
 use Rattle.std.proofs.Common.{◌≡◌, ℕ, List, [], ◌∷◌, Result, Ok, Err, refl, sym, ap, ◌∙◌, subst}
 use Rattle.spec_text.specs.declared.decimals.Fault.{Fault}
 use Rattle.spec_ephemeris.specs.Ephemeris.{Ephemeris}
-use Rattle.spec_header.specs.Sections.{FileLine, Stop, ended, breaks}
+use Rattle.spec_sections.specs.Sections.{FileLine, Stop, ended, breaks}
 use Rattle.de_blocks.specs.declared.answers.BlockError.TheVariants as errors
 use Rattle.de_blocks.specs.declared.state.Place.{Place}
 use Rattle.de_blocks.specs.Reader.{Progress, IsRefused, IsNotRefused, Says, answer, at_end, says, says_at}
-use Rattle.de_blocks.proofs.SameFile.{same_file}
+use Rattle.de_blocks.specs.SameFile.{same_file}
 use Rattle.gf_find.specs.declared.reader.LineStop.TheVariants as stops
 use Rattle.gf_find.specs.declared.reader.Reader.TheVariants.{Blocks}
 use Rattle.gf_find.specs.Reading.{Finishes, IsReady, IsUnbroken, tells}

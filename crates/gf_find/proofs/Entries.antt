@@ -4,7 +4,7 @@ use Rattle.std.proofs.lemmas.Int.{ints}
 use Rattle.spec_trees.specs.declared.book.Booked.{Booked}
 use Rattle.spec_trees.specs.declared.tree.Leaf.{Leaf}
 use Rattle.spec_trees.specs.declared.tree.Node.{Node}
-use Rattle.spec_events.specs.LineSearch.{root, rules}
+use Rattle.line_search.specs.Search.{root, rules}
 use Rattle.spec_trees.specs.Order.{booked_leaves, in_order, ordered_leaves}
 use Rattle.spec_trees.specs.Tree.{Covers, IsValid, leaves}
 use Rattle.spec_trees.proofs.Covering.{leaves_cover}

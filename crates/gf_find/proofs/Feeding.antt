@@ -4,10 +4,9 @@ use Rattle.std.specs.Prelude.{if◌then◌else◌}
 use Rattle.spec_text.specs.Lines.{Numbered, TokenLine, is_too_long, text_lines, token_line}
 use Rattle.spec_text.specs.declared.decimals.Fault.{Fault}
 use Rattle.spec_faults.specs.declared.numbers.TheConstants.{LINE_TOO_LONG}
-use Rattle.spec_header.specs.HeaderLines.{first_long, readable}
-use Rattle.spec_header.specs.Sections.{FileLine, breaks}
+use Rattle.spec_sections.specs.FileLines.{first_long, readable, line_of}
+use Rattle.spec_sections.specs.Sections.{FileLine, breaks}
 use Rattle.spec_files.specs.Texts.{fault_at}
-use Rattle.de_header.specs.Reader.{line_of}
 use Rattle.de_text.specs.declared.cursor.LineStep.{LineStep}
 use Rattle.de_text.specs.declared.cursor.LineStep.TheVariants.{Line, TooLong, End}
 use Rattle.de_text.specs.Steps.{lines_after, step_of}

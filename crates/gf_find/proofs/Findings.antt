@@ -3,21 +3,22 @@ use Rattle.std.proofs.Common.{◌≡◌, ℕ, Bool, true, false, ◌&&◌, ◌==
 use Rattle.std.proofs.lemmas.Int.{ints}
 use Rattle.std.specs.Prelude.{ℤ, pos, negsuc, ◌≤ℤ◌, ◌+ℤ◌, ◌*ℤ◌, unsigned_abs, if◌then◌else◌}
 use Rattle.spec_text.specs.declared.decimals.Fault.{Fault}
-use Rattle.spec_ephemeris.specs.Ephemeris.{Ephemeris, IsEphemeris, IsLine, MERCURY, end_of, is_line, is_line_column, mercury_x}
+use Rattle.spec_ephemeris.specs.Ephemeris.{Ephemeris, IsEphemeris, end_of}
+use Rattle.line_search.specs.MercuryX.{IsLine, MERCURY, is_line, is_line_column, mercury_x}
 use Rattle.spec_ephemeris.specs.Header.{column_at}
 use Rattle.spec_ephemeris.proofs.Lines.{mercury_x_line}
-use Rattle.spec_header.specs.Sections.{Stop, ended, breaks, ◌>>=◌}
-use Rattle.spec_header.proofs.Holding.{holds_ok}
+use Rattle.spec_sections.specs.Sections.{Stop, ended, breaks, ◌>>=◌}
+use Rattle.spec_sections.proofs.Holding.{holds_ok}
 use Rattle.spec_blocks.specs.Blocks.{ephemeris}
 use Rattle.spec_blocks.proofs.Accepted.{HasBlocks, ephemeris_holds}
 use Rattle.spec_events.specs.Events.{AreCertain, AreOpen, AreWindows, HoldEvents}
 use Rattle.spec_trees.specs.Placement.{AreInOrder}
-use Rattle.spec_events.specs.LineSearch.{IsLeftOpen, IsUp, found_windows, series_end}
+use Rattle.line_search.specs.Search.{IsLeftOpen, IsUp, found_windows, series_end}
 use Rattle.spec_events.proofs.Found.{found_are}
 use Rattle.spec_files.specs.Texts.{at_end, joined}
 use Rattle.spec_files.specs.Outcome.{broken, outcome, outcome_by}
 use Rattle.gf_edges.specs.Edges.{Files}
-use Rattle.spec_output.specs.Answers.{Asks, if_line, searched}
+use Rattle.gf_find.specs.Answers.{Asks, if_line, searched}
 use Rattle.spec_faults.specs.declared.numbers.TheConstants.{NOT_BUILT}
 
 line_by : (texts : List (List ℕ)) (x e : Ephemeris) (line : Bool) → is_line x ≡ line → (if line then Ok x else Err (at_end texts NOT_BUILT)) ≡ Ok e → (x ≡ e) × (is_line e ≡ true)

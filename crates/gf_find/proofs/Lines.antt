@@ -4,7 +4,7 @@ use Rattle.std.proofs.lemmas.Int.{ints}
 use Rattle.spec_trees.specs.declared.tree.Node.{Node}
 use Rattle.spec_trees.specs.declared.tree.Verdict.TheVariants.{Split}
 use Rattle.spec_trees.specs.Cuts.{CanCut}
-use Rattle.spec_events.specs.LineSearch.{rules, verdict}
+use Rattle.line_search.specs.Search.{rules, verdict}
 use Rattle.spec_trees.specs.Tree.{IsValid}
 use Rattle.gf_find.specs.declared.line.Line.{Line}
 use Rattle.gf_find.specs.Lines.{IsInLimits, line_is_sound, series_of}

@@ -6,8 +6,8 @@ use Rattle.std.specs.Prelude.{IfSome, IsSomeAnd, replicate, nat_lt, if◌then◌
 use Rattle.spec_text.specs.Lines.{text_lines}
 use Rattle.spec_text.specs.declared.decimals.Fault.{Fault}
 use Rattle.spec_text.specs.declared.limits.TheConstants.{MOST_TEXT_BYTES}
-use Rattle.spec_header.specs.HeaderLines.{first_long, readable}
-use Rattle.spec_header.specs.Sections.{FileLine}
+use Rattle.spec_sections.specs.FileLines.{first_long, readable}
+use Rattle.spec_sections.specs.Sections.{FileLine}
 use Rattle.spec_files.specs.Texts.{cut_off, fault_at, file_lines, is_too_large}
 use Rattle.spec_faults.specs.declared.numbers.TheConstants.{FILE_TOO_LARGE}
 use Rattle.gf_edges.specs.Edges.{Files, file_of}

@@ -4,13 +4,14 @@ use Rattle.spec_text.specs.Lines.{TokenLine}
 use Rattle.spec_text.specs.declared.decimals.Fault.{Fault}
 use Rattle.spec_ephemeris.specs.Ephemeris.{Ephemeris}
 use Rattle.spec_ephemeris.specs.declared.header.Header.{Header}
-use Rattle.spec_header.specs.Sections.{FileLine, Stop, ended, breaks, ◌>>=◌}
+use Rattle.spec_sections.specs.Sections.{FileLine, Stop, ended, breaks, ◌>>=◌}
 use Rattle.spec_blocks.specs.Blocks.{blocks}
 use Rattle.de_header.specs.declared.answers.HeaderError.TheVariants as errors
 use Rattle.de_header.specs.declared.answers.Step.TheVariants.{More}
 use Rattle.de_header.specs.declared.state.State.{State}
-use Rattle.de_header.specs.Reader.{Ends, IsNotWhole, IsOpen, IsRefused, IsWhole, Says, answer, line_of, says}
-use Rattle.de_header.proofs.SameFile.{same_file}
+use Rattle.de_header.specs.Reader.{Ends, IsNotWhole, IsOpen, IsRefused, IsWhole, Says, answer, says}
+use Rattle.spec_sections.specs.FileLines.{line_of}
+use Rattle.de_header.specs.SameFile.{same_file}
 use Rattle.de_blocks.specs.Reader as block_lines
 use Rattle.gf_find.specs.declared.reader.LineStop.TheVariants as stops
 use Rattle.gf_find.specs.declared.reader.Reader.{Reader}

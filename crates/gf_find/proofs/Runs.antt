@@ -3,7 +3,7 @@ use Rattle.std.proofs.Common.{◌≡◌, ℕ, suc, ◌+◌, List, [], ◌∷◌,
 use Rattle.spec_text.specs.declared.decimals.Fault.{Fault}
 use Rattle.spec_ephemeris.specs.Ephemeris.{Ephemeris}
 use Rattle.spec_header.specs.HeaderLines.{header}
-use Rattle.spec_header.specs.Sections.{FileLine, Stop, ended, breaks}
+use Rattle.spec_sections.specs.Sections.{FileLine, Stop, ended, breaks}
 use Rattle.spec_blocks.specs.Blocks.{ephemeris}
 use Rattle.spec_files.specs.Texts.{cut_off, end_line, file_lines, first_cut, first_cut_from, joined, joined_from, or_later, where_whole}
 use Rattle.spec_files.specs.Outcome.{broken, broken_by, outcome, outcome_by}

@@ -5,9 +5,10 @@ use Rattle.spec_text.specs.declared.decimals.Decimal.{Decimal}
 use Rattle.spec_ephemeris.specs.declared.header.Column.{Column}
 use Rattle.spec_ephemeris.specs.Header.{column_at, is_present_at}
 use Rattle.spec_ephemeris.specs.Series.{Series}
-use Rattle.spec_ephemeris.specs.Ephemeris.{Ephemeris, Granule, IsBodyNumber, IsEphemeris, IsGranuleAt, IsLine, MERCURY, axis_series, is_line, is_line_column, mercury_x}
+use Rattle.spec_ephemeris.specs.Ephemeris.{Ephemeris, Granule, IsBodyNumber, IsEphemeris, IsGranuleAt, axis_series}
+use Rattle.line_search.specs.MercuryX.{IsLine, MERCURY, is_line, is_line_column, mercury_x}
 use Rattle.spec_ephemeris.proofs.Lines.{mercury_x_line, mercury_x_series}
-use Rattle.spec_events.specs.LineSearch.{zero_km}
+use Rattle.line_search.specs.Search.{zero_km}
 use Rattle.gf_find.specs.declared.line.Line.{Line}
 use Rattle.gf_find.specs.Lines.{IsInLimits, series_of}
 

@@ -1,15 +1,16 @@
 -- What the files of a run were found to hold.
 use Rattle.std.specs.Prelude.{◌≡◌, ◌⊎◌, ℕ, suc, ◌<◌, ◌≤◌, List, [], ◌∷◌, ◌++◌, length, slice_get, Option, Some, Result, Ok, Err, true}
 use Rattle.spec_text.specs.declared.decimals.Fault.{Fault}
-use Rattle.spec_ephemeris.specs.Ephemeris.{Ephemeris, end_of, is_line, mercury_x}
-use Rattle.spec_events.specs.LineSearch.{found_windows}
+use Rattle.spec_ephemeris.specs.Ephemeris.{Ephemeris, end_of}
+use Rattle.line_search.specs.MercuryX.{is_line, mercury_x}
+use Rattle.line_search.specs.Search.{found_windows}
 use Rattle.spec_files.specs.Texts.{end_line}
 use Rattle.spec_files.specs.Outcome.{outcome}
 use Rattle.spec_files.specs.declared.limits.TheConstants.{MOST_FILES}
 use Rattle.gf_edges.specs.Edges.{Files}
-use Rattle.spec_output.specs.Answers.{AreTooMany, searched}
+use Rattle.gf_find.specs.Answers.{AreTooMany, searched}
 use Rattle.spec_output.specs.Files.{AreFiles}
-use Rattle.spec_output.specs.Report.{report}
+use Rattle.spec_reports.specs.Report.{report}
 use Rattle.gf_find.specs.declared.reading.Stop.{Stop}
 use Rattle.gf_find.specs.declared.reading.Stop.TheVariants as stops
 use Rattle.gf_find.specs.Progress.{AreSound, BreaksIn, FailsIn}

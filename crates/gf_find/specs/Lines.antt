@@ -5,8 +5,9 @@ use Rattle.std.proofs.lemmas.Int.{ints}
 use Rattle.spec_text.specs.declared.decimals.Decimal.{Decimal}
 use Rattle.spec_ephemeris.specs.declared.limits.TheConstants.{LONGEST_BLOCK}
 use Rattle.spec_ephemeris.specs.Series.{Series}
-use Rattle.spec_ephemeris.specs.Ephemeris.{IsBodyNumber, IsLine, IsStart}
-use Rattle.spec_events.specs.LineSearch.{rules}
+use Rattle.spec_ephemeris.specs.Ephemeris.{IsBodyNumber, IsStart}
+use Rattle.line_search.specs.MercuryX.{IsLine}
+use Rattle.line_search.specs.Search.{rules}
 use Rattle.spec_trees.specs.Tree.{IsSound}
 use Rattle.spec_events.proofs.Sound.{rules_are_sound}
 use Rattle.gf_find.specs.declared.line.Line.{Line}

@@ -1,7 +1,7 @@
 -- How far the files of a run were read.
 use Rattle.std.specs.Prelude.{◌≡◌, ◌⊎◌, ℕ, List, [], ◌∷◌, ◌++◌, length, Option, None, Some}
 use Rattle.spec_text.specs.declared.decimals.Fault.{Fault}
-use Rattle.spec_header.specs.Sections.{FileLine}
+use Rattle.spec_sections.specs.Sections.{FileLine}
 use Rattle.spec_blocks.specs.Blocks.{ephemeris}
 use Rattle.spec_files.specs.Texts.{end_line, first_cut, joined}
 use Rattle.spec_files.specs.Outcome.{broken}

@@ -3,8 +3,9 @@ use Rattle.std.specs.Prelude.{◌≡◌, ◌⊎◌, ℕ, ◌+◌, List, [], ◌�
 use Rattle.spec_text.specs.Lines.{TokenLine, lines, text_lines}
 use Rattle.spec_text.specs.declared.decimals.Fault.{Fault}
 use Rattle.spec_ephemeris.specs.Ephemeris.{Ephemeris}
-use Rattle.spec_header.specs.HeaderLines.{first_long, header, readable}
-use Rattle.spec_header.specs.Sections.{FileLine, Stop, ended, breaks, ◌>>=◌}
+use Rattle.spec_sections.specs.FileLines.{first_long, readable}
+use Rattle.spec_header.specs.HeaderLines.{header}
+use Rattle.spec_sections.specs.Sections.{FileLine, Stop, ended, breaks, ◌>>=◌}
 use Rattle.spec_blocks.specs.Blocks.{blocks}
 use Rattle.spec_files.specs.Texts.{cut_off, fault_at, file_lines}
 use Rattle.de_header.specs.declared.state.State.{State}

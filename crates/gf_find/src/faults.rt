@@ -1,7 +1,7 @@
 // The lines of the faults that name a file.
 ghost use Rattle.std.specs.Prelude.{◌≡◌, ◌++◌, IfOk, OnOk, true};
 ghost use Rattle.std.specs.Fmt.{decimal};
-ghost use Rattle.spec_output.specs.Faults.{block_fault_name, detail_text, detail_where, fault_name, file_fault_name, file_text, has_detail, header_fault_name, read_text};
+ghost use Rattle.spec_reports.specs.Messages.{block_fault_name, detail_text, detail_where, fault_name, file_fault_name, file_text, has_detail, header_fault_name, read_text};
 
 use spec_text::Fault;
 use std::alloc::{AllocError, Global};

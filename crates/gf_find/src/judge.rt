@@ -1,7 +1,7 @@
 // The judge of a line: what is said of a node of its granule, by the signs of the line over it, and where it is cut.
 ghost use Rattle.std.specs.Prelude.{◌≡◌, ◌^◌, ◌≤ℤ◌, ◌-ℤ◌, pos, neg_ℤ, int_lt};
 ghost use Rattle.spec_trees.specs.declared.cuts.CutRule.TheVariants.{Half};
-ghost use Rattle.spec_events.specs.LineSearch.{coefficient, rules, series_end, sign_on};
+ghost use Rattle.line_search.specs.Search.{coefficient, rules, series_end, sign_on};
 ghost use Rattle.gf_find.specs.Lines.{IsInLimits, line_is_sound, series_of};
 
 use crate::line::{Line, line_range, span_argument};

@@ -4,7 +4,7 @@ ghost use Rattle.spec_text.specs.declared.decimals.Decimal.{Decimal};
 ghost use Rattle.spec_chebyshev.specs.Rows.{EndsWithin, ends};
 ghost use Rattle.spec_ephemeris.specs.declared.limits.TheConstants.{LONGEST_BLOCK};
 ghost use Rattle.spec_ephemeris.specs.Ephemeris.{IsStart};
-ghost use Rattle.spec_events.specs.LineSearch.{argument, line};
+ghost use Rattle.line_search.specs.Search.{argument, line};
 ghost use Rattle.gf_find.specs.Lines.{series};
 
 use cheby_laws::argument;

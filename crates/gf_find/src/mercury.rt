@@ -1,8 +1,9 @@
 // Mercury's x, of an ephemeris in which it is a line.
 ghost use Rattle.std.specs.Prelude.{◌≡◌, ◌<◌, ◌≤ℤ◌, ◌+ℤ◌, Some, true, length, pos, slice_get, unsigned_abs};
 ghost use Rattle.spec_ephemeris.specs.declared.limits.TheConstants.{LONGEST_BLOCK};
-ghost use Rattle.spec_ephemeris.specs.Ephemeris.{IsEphemeris, IsStart, is_line, mercury_x};
-ghost use Rattle.spec_events.specs.LineSearch.{root};
+ghost use Rattle.spec_ephemeris.specs.Ephemeris.{IsEphemeris, IsStart};
+ghost use Rattle.line_search.specs.MercuryX.{is_line, mercury_x};
+ghost use Rattle.line_search.specs.Search.{root};
 ghost use Rattle.gf_find.specs.Lines.{IsInLimits, series_of};
 
 use crate::line::Line;

@@ -1,9 +1,10 @@
 // From named files to the text of their report.
 ghost use Rattle.std.specs.Prelude.{◌≡◌, ◌<◌, ◌≤◌, ℕ, List, IfOk, IsErrOf, length, map, string_bytes, true};
 ghost use Rattle.spec_text.specs.declared.decimals.Fault.{Fault};
-ghost use Rattle.spec_ephemeris.specs.Ephemeris.{end_of, is_line, mercury_x};
-ghost use Rattle.spec_events.specs.LineSearch.{found_windows};
-ghost use Rattle.spec_output.specs.Report.{report};
+ghost use Rattle.spec_ephemeris.specs.Ephemeris.{end_of};
+ghost use Rattle.line_search.specs.MercuryX.{is_line, mercury_x};
+ghost use Rattle.line_search.specs.Search.{found_windows};
+ghost use Rattle.spec_reports.specs.Report.{report};
 ghost use Rattle.gf_find.specs.Found.{AreAccepted, HasFault, IsNotRead, IsRefused, Reports};
 ghost use Rattle.gf_find.specs.Progress.{FailsIn};
 

@@ -1,7 +1,7 @@
 // The lines of several files, one file behind the other: to the header's reader, and then to that of the blocks.
 ghost use Rattle.std.specs.Prelude.{◌≡◌, ◌≤◌, ◌∷◌, [], List, ℕ, length};
 ghost use Rattle.spec_text.specs.declared.limits.TheConstants.{MOST_TEXT_BYTES};
-ghost use Rattle.spec_header.specs.Sections.{FileLine};
+ghost use Rattle.spec_sections.specs.Sections.{FileLine};
 ghost use Rattle.spec_blocks.specs.Blocks.{ephemeris};
 ghost use Rattle.de_header.specs.Reader as headers;
 ghost use Rattle.gf_find.specs.declared.reader.Reader.TheVariants as readers;

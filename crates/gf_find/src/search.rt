@@ -1,11 +1,12 @@
 // From a checked ephemeris to the report of the times at which Mercury's x passes 0.
 ghost use Rattle.std.specs.Prelude.{◌≡◌, IfOk, true};
-ghost use Rattle.spec_ephemeris.specs.Ephemeris.{IsEphemeris, is_line, mercury_x};
+ghost use Rattle.spec_ephemeris.specs.Ephemeris.{IsEphemeris};
+ghost use Rattle.line_search.specs.MercuryX.{is_line, mercury_x};
 ghost use Rattle.spec_trees.specs.declared.cuts.CutRule.TheVariants.{Half};
 ghost use Rattle.spec_trees.specs.Cuts.{CanCut, cut_of};
-ghost use Rattle.spec_events.specs.LineSearch.{found_windows, root, rules, series_end};
+ghost use Rattle.line_search.specs.Search.{found_windows, root, rules, series_end};
 ghost use Rattle.spec_trees.specs.Tree.{IsValid, leaves};
-ghost use Rattle.spec_output.specs.Report.{report};
+ghost use Rattle.spec_reports.specs.Report.{report};
 ghost use Rattle.gf_find.specs.Lines.{IsInLimits, series_of};
 
 use crate::book::booked;

@@ -1,6 +1,6 @@
 // What the signs of a line over a node and at its ends say of the node.
 ghost use Rattle.std.specs.Prelude.{◌≡◌};
-ghost use Rattle.spec_events.specs.LineSearch.{are_equal, is_clear, is_told, turn_to, verdict_by};
+ghost use Rattle.line_search.specs.Search.{are_equal, is_clear, is_known as is_told, turn_to, verdict_by};
 
 use halving::{Turn, Verdict};
 use ival_core::Sign;

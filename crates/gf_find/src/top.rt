@@ -3,15 +3,16 @@ ghost use Rattle.std.specs.Prelude.{◌≡◌, ◌≢◌, ◌⊎◌, ◌↔◌, 
 ghost use Rattle.std.specs.Io.KnownBytes.{Appends, Keeps};
 ghost use Rattle.gf_edges.specs.Edges.{Rose};
 ghost use Rattle.spec_text.specs.declared.decimals.Fault.{Fault};
-ghost use Rattle.spec_ephemeris.specs.Ephemeris.{Ephemeris, end_of, mercury_x};
+ghost use Rattle.spec_ephemeris.specs.Ephemeris.{Ephemeris, end_of};
+ghost use Rattle.line_search.specs.MercuryX.{mercury_x};
 ghost use Rattle.spec_events.specs.Events.{AreCertain, AreOpen, HoldEvents};
 ghost use Rattle.spec_trees.specs.Placement.{AreInOrder};
-ghost use Rattle.spec_events.specs.LineSearch.{IsLeftOpen, IsUp, found_windows};
-ghost use Rattle.spec_output.specs.Answers.{Asks, FailsToRead, RefusesFile};
-ghost use Rattle.spec_output.specs.Faults.{file_text, memory_text, read_text, words_text, write_text};
+ghost use Rattle.line_search.specs.Search.{IsLeftOpen, IsUp, found_windows};
+ghost use Rattle.gf_find.specs.Answers.{Asks, FailsToRead, RefusesFile};
+ghost use Rattle.spec_reports.specs.Messages.{file_text, memory_text, read_text, words_text, write_text};
 ghost use Rattle.spec_output.specs.Files.{AppendsSome, IsTold};
-ghost use Rattle.spec_output.specs.Report.{report};
-ghost use Rattle.spec_output.specs.Words.{AreAskedFor};
+ghost use Rattle.spec_reports.specs.Report.{report};
+ghost use Rattle.spec_requests.specs.Words.{AreAskedFor};
 ghost use Rattle.gf_find.specs.Found.{HasName};
 
 use crate::faults::{file_text, read_text};

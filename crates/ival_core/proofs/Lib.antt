@@ -2,5 +2,4 @@ pub mod Shifts
 pub mod Powers
 pub mod Settling
 pub mod Shortest
-pub mod DecimalEnds
 pub mod Aligning

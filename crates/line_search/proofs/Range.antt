@@ -1,61 +1,23 @@
 -- The interval of a line from one time to another holds it at each time between.
-use Rattle.std.proofs.Common.{◌≡◌, ℕ, ◌+◌, ◌-◌, ◌*◌, ◌^◌, ◌<◌, List, arith, pow-suc, refl, sym, ap, ◌∙◌, subst, [], ◌∷◌, ℤ, pos, negsuc, ◌+ℤ◌, ◌*ℤ◌, neg_ℤ, ◌≤ℤ◌}
+use Rattle.std.proofs.Common.{◌≡◌, ℕ, ◌*◌, ◌^◌, ◌<◌, List, arith, pow-suc, sym, ap, ◌∙◌, subst, [], ◌∷◌, ℤ, pos, negsuc, ◌+ℤ◌, ◌*ℤ◌, ◌≤ℤ◌}
 use Rattle.std.proofs.lemmas.Int.{ints}
-use Rattle.std.proofs.lemmas.Nat.{pow-add}
 use Rattle.std.proofs.Math.Nat.{pow-zero}
-use borrow.Author.Differences.{up, down}
-use Rattle.spec_numbers.specs.Numbers.{floor_div, ceil_div}
-use Rattle.spec_intervals.specs.Interval.{decimal_top, decimal_bottom, from_decimal, Interval}
+use Rattle.spec_intervals.specs.Interval.{Interval}
 use Rattle.spec_numbers.proofs.Ring.{v, k as lit, ◌⊕◌, ◌⊗◌, ring}
-use Rattle.spec_numbers.proofs.Order.{lin, le-mul}
-use Rattle.spec_numbers.proofs.Floor.{floor_div-le, ceil_div-ge}
-use Rattle.spec_intervals.proofs.Decimals.{bottom_pos}
 use Rattle.spec_text.specs.declared.decimals.Decimal.{Decimal}
 use Rattle.spec_intervals.specs.Fraction.{Fraction, Holds}
 use Rattle.spec_intervals.proofs.Holding.{Holds-narrowed}
-use Rattle.spec_ephemeris.specs.Series.{Series, IsInUnits, to_nat, scaled, argument_at, position}
-use Rattle.spec_ephemeris.specs.Ephemeris.{IsLine}
+use Rattle.spec_ephemeris.specs.Series.{Series, IsInUnits, scaled, argument_at, position}
+use Rattle.line_search.specs.MercuryX.{IsLine}
 use Rattle.spec_chebyshev.proofs.Arguments.{HoldsIn-argument}
-use Rattle.spec_events.specs.LineSearch.{coefficient, argument, line, x_range}
-use Rattle.spec_events.proofs.Units.{Encloses, line_ends, line_encloses}
-
--- the powers of ten of a decimal, at the power -140
-below : (q : ℤ) → neg_ℤ (pos 140) ≤ℤ q → down q + (140 - down q) ≡ 140
-below (pos n) h = refl
-below (negsuc n) h = omega (arith, ints, h)
-
-above : (q z : ℤ) → pos 140 +ℤ q ≡ z → neg_ℤ (pos 140) ≤ℤ q → up q + (140 - down q) ≡ to_nat z
-above (pos n) (pos m) e h = omega (arith, ints, e)
-above (pos n) (negsuc m) e h = omega (arith, ints, e)
-above (negsuc n) (pos m) e h = omega (arith, ints, e, h)
-above (negsuc n) (negsuc m) e h = omega (arith, ints, e, h)
-
-joined_powers : (z : ℤ) (r k t : ℕ) → r + k ≡ t → z *ℤ (pos (10 ^ r) *ℤ pos (10 ^ k)) ≡ z *ℤ pos (10 ^ t)
-joined_powers z r k t e = ap (λ n. z *ℤ pos n) (sym (pow-add 10 r k) ∙ ap (λ i. 10 ^ i) e)
-
-to_unit : (m : ℤ) (p k t : ℕ) → p + k ≡ t → (m *ℤ pos (10 ^ p * 2 ^ 24)) *ℤ pos (10 ^ k) ≡ (m *ℤ pos (10 ^ t)) *ℤ pos (2 ^ 24)
-to_unit m p k t e =
-    ring (m ∷ pos (10 ^ p) ∷ pos (10 ^ k) ∷ []) ((v 0 ⊗ (v 1 ⊗ lit (pos (2 ^ 24)))) ⊗ v 2) ((v 0 ⊗ (v 1 ⊗ v 2)) ⊗ lit (pos (2 ^ 24))) tt ∙ ap (λ x. x *ℤ pos (2 ^ 24)) (joined_powers m p k t e)
-
-to_all : (z : ℤ) (r k : ℕ) → r + k ≡ 140 → (z *ℤ pos (10 ^ r * 2 ^ 0)) *ℤ pos (10 ^ k) ≡ z *ℤ pos (10 ^ 140)
-to_all z r k e =
-    ring (z ∷ pos (10 ^ r) ∷ pos (10 ^ k) ∷ []) ((v 0 ⊗ (v 1 ⊗ lit (pos (2 ^ 0)))) ⊗ v 2) (v 0 ⊗ (v 1 ⊗ v 2)) tt ∙ joined_powers z r k 140 e
+use Rattle.spec_motions.proofs.HeldSums.{HoldsIn-coefficient}
+use Rattle.line_search.specs.Search.{coefficient, argument, line, x_range}
+use Rattle.line_search.proofs.Units.{Encloses, line_ends, line_encloses}
 
 pub coefficient_encloses : (d : Decimal) → IsInUnits d → Encloses (coefficient d).lo (coefficient d).hi (10 ^ 140) (scaled d *ℤ pos (2 ^ 24))
-unfolding from_decimal
 coefficient_encloses d h =
-    let e : down d.exp + (140 - down d.exp) ≡ 140 = below d.exp h in
-    let g : up d.exp + (140 - down d.exp) ≡ to_nat (pos 140 +ℤ d.exp) = above d.exp (pos 140 +ℤ d.exp) refl h in
-    let lo : ℤ = floor_div (decimal_top d.mant d.exp (negsuc 23)) (decimal_bottom d.exp (negsuc 23)) in
-    let a = floor_div-le (decimal_top d.mant d.exp (negsuc 23)) (decimal_bottom d.exp (negsuc 23)) (bottom_pos d.exp (negsuc 23)) in
-    let b = ceil_div-ge (decimal_top d.mant d.exp (negsuc 23)) (decimal_bottom d.exp (negsuc 23)) (bottom_pos d.exp (negsuc 23)) in
-    let c = le-mul (floor_div (decimal_top d.mant d.exp (negsuc 23)) (decimal_bottom d.exp (negsuc 23)) *ℤ pos (decimal_bottom d.exp (negsuc 23))) (decimal_top d.mant d.exp (negsuc 23)) (pos (10 ^ (140 - down d.exp))) (omega (arith, lin)) a in
-    let f = le-mul (decimal_top d.mant d.exp (negsuc 23)) (ceil_div (decimal_top d.mant d.exp (negsuc 23)) (decimal_bottom d.exp (negsuc 23)) *ℤ pos (decimal_bottom d.exp (negsuc 23))) (pos (10 ^ (140 - down d.exp))) (omega (arith, lin)) b in
-    let t = to_unit d.mant (up d.exp) (140 - down d.exp) (to_nat (pos 140 +ℤ d.exp)) g in
-    record {
-      low = rw (← t, ← to_all (floor_div (decimal_top d.mant d.exp (negsuc 23)) (decimal_bottom d.exp (negsuc 23))) (down d.exp) (140 - down d.exp) e) c;
-      high = rw (← t, ← to_all (ceil_div (decimal_top d.mant d.exp (negsuc 23)) (decimal_bottom d.exp (negsuc 23))) (down d.exp) (140 - down d.exp) e) f;
-    }
+    let held = HoldsIn-coefficient d h in
+    record { low = held.low; high = held.high }
 
 to_first : (n : ℕ) → n ≡ n ^ 1
 to_first n =

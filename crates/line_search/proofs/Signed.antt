@@ -4,9 +4,9 @@ use Rattle.std.proofs.lemmas.Int.{ints}
 use Rattle.spec_intervals.specs.declared.signs.Sign.TheVariants.{Yes, No}
 use Rattle.spec_intervals.proofs.SignLaws.{yes-not_negative, no-negative}
 use Rattle.spec_ephemeris.specs.Series.{Series, position}
-use Rattle.spec_ephemeris.specs.Ephemeris.{IsLine}
-use Rattle.spec_events.specs.LineSearch.{IsUp, x_range, sign_on}
-use Rattle.spec_events.proofs.Range.{Holds-x_range, some_denominator}
+use Rattle.line_search.specs.MercuryX.{IsLine}
+use Rattle.line_search.specs.Search.{IsUp, x_range, sign_on}
+use Rattle.line_search.proofs.Range.{Holds-x_range, some_denominator}
 
 pub yes_up : (s : Series) (a b t : ℤ) → IsLine s → a ≤ℤ t → t ≤ℤ b → sign_on s a b ≡ Yes → pos 0 ≤ℤ (position s t).numerator
 yes_up s a b t h p q e =

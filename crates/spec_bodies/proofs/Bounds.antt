@@ -3,7 +3,7 @@ use Rattle.std.proofs.Common.{ℕ, zero, suc, ◌+◌, ◌≤◌, max, arith, su
 use Rattle.std.proofs.lemmas.Int.{ints}
 use Rattle.spec_intervals.specs.Interval.{Interval, product}
 use Rattle.spec_intervals.specs.Fraction.{Fraction}
-use Rattle.spec_expressions.specs.Enclosure.{Enclosure, IsSpan, AllWithin, enclosure}
+use Rattle.spec_intervals.specs.Enclosure.{Enclosure, IsSpan, AllWithin, enclosure}
 use Rattle.spec_bodies.specs.declared.frame.Frame.{Frame}
 use Rattle.spec_bodies.specs.declared.frame.Frame.TheVariants.{Eq, Ecl}
 use Rattle.spec_bodies.specs.declared.source.Source.{Source}

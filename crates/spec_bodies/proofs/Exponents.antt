@@ -8,15 +8,15 @@ use Rattle.std.proofs.lemmas.Bool.{false≢true, cases_lt}
 use Rattle.std.proofs.Math.Nat.{one-le-pow}
 use Rattle.std.specs.Int.{int_min, int_max}
 use lib.Signed.{le_z, lt_z}
-use Rattle.spec_intervals.specs.Interval.{Interval, end_limit, fits_after, narrow_shift, zero_end, settled, narrow_by, narrow, surplus, lift, sum_up, sum, is_zero, negated, difference, least4, greatest4, product, meet_up, meet}
+use Rattle.spec_intervals.specs.Interval.{Interval, end_limit, fits_after, narrow_shift, zero_end, settled, narrow_by, narrow, surplus, lift, sum_up, sum, is_zero, negated, difference, least4, greatest4, product, meet_up, meet, zero_interval}
 use Rattle.spec_numbers.specs.Numbers.{floor_div, ceil_div}
 use Rattle.spec_numbers.proofs.Order.{lin}
 use Rattle.spec_numbers.proofs.Floor.{floor_div-small, ceil_div-small}
 use Rattle.spec_numbers.proofs.Sizes.{unsigned_abs-neg}
 use Rattle.spec_intervals.proofs.Narrow.{is_small-both, sizes-fit, narrow_shift-fits, narrow_shift-least}
 use Rattle.spec_intervals.proofs.Sums.{meets}
-use Rattle.spec_expressions.specs.Enclosure.{Enclosure, IsSpan, IsWithin, AllWithin, offsets, centred, enclosure, zero_interval, constant_of, sum_of, difference_of}
-use Rattle.spec_expressions.proofs.Reach.{offsets-within}
+use Rattle.spec_intervals.specs.Enclosure.{Enclosure, IsSpan, IsWithin, AllWithin, offsets, centred, enclosure, constant_of, sum_of, difference_of}
+use Rattle.spec_intervals.proofs.Offsets.{offsets-within}
 
 -- small ends, and an exponent from -l to h
 pub record IsBetween (l h : ℕ) (t : Interval) : Type 0 where

@@ -8,12 +8,12 @@ use Rattle.std.proofs.Math.Nat.{one-le-pow}
 use borrow.Author.Differences.{up, down}
 use lib.Signed.{lt_z}
 use Rattle.spec_text.specs.declared.decimals.Decimal.{Decimal}
-use Rattle.spec_intervals.specs.Interval.{Interval, interval, end_limit, cosine_exponent, first_fit, narrow_shift, zero_end, settled, narrow_by, narrow, sum, is_zero, least4, greatest4, product, meet_up, meet}
+use Rattle.spec_intervals.specs.Interval.{Interval, interval, end_limit, cosine_exponent, first_fit, narrow_shift, zero_end, settled, narrow_by, narrow, sum, is_zero, least4, greatest4, product, meet_up, meet, zero_interval}
 use Rattle.spec_numbers.specs.Numbers.{floor_div, ceil_div}
 use Rattle.spec_numbers.proofs.Integers.{times_one}
 use Rattle.spec_numbers.proofs.Ring.{v, k as lit, ◌⊗◌, ring}
 use Rattle.spec_numbers.proofs.Order.{lin}
-use Rattle.spec_numbers.proofs.Floor.{floor_div-lt, floor_div-small, ceil_div-small}
+use Rattle.spec_numbers.proofs.Floor.{floor_div-lt, floor_div-small, ceil_div-small, floor_div-one as floor_one, ceil_div-one as ceil_one}
 use Rattle.spec_ephemeris.specs.Header.{IsMassRatio}
 use Rattle.spec_expressions.specs.Enclosure.{Enclosure, offsets, centred, enclosure, zero_interval, constant_of, product_of}
 use Rattle.spec_expressions.proofs.Offsets.{floor_one, ceil_one, narrow-small}

@@ -7,9 +7,11 @@ use Rattle.spec_text.specs.declared.decimals.Decimal.{Decimal}
 use Rattle.spec_numbers.proofs.Floor.{floor_div-le, ceil_div-ge}
 use Rattle.spec_numbers.specs.Numbers.{floor_div, ceil_div}
 use Rattle.spec_intervals.specs.Fraction.{Fraction, IsFraction, Holds, fraction}
-use Rattle.spec_expressions.specs.Enclosure.{Enclosure, IsEnclosure, AllFractions, zero_interval}
-use Rattle.spec_expressions.proofs.Compare.{IsFraction-mul, Holds-zero}
-use Rattle.spec_expressions.proofs.Enclosed.{IsEnclosure-constant, IsEnclosure-sum, IsEnclosure-difference, IsEnclosure-product}
+use Rattle.spec_intervals.specs.Enclosure.{Enclosure, IsEnclosure, AllFractions}
+use Rattle.spec_intervals.specs.Interval.{zero_interval}
+use Rattle.spec_numbers.proofs.Naturals.{positive_product as IsFraction-mul}
+use Rattle.spec_intervals.proofs.Compare.{Holds-zero}
+use Rattle.spec_intervals.proofs.Enclosed.{IsEnclosure-constant, IsEnclosure-sum, IsEnclosure-difference, IsEnclosure-product}
 use Rattle.spec_bodies.specs.declared.frame.Frame.{Frame}
 use Rattle.spec_bodies.specs.declared.frame.Frame.TheVariants.{Eq, Ecl}
 use Rattle.spec_bodies.specs.declared.source.Source.{Source}

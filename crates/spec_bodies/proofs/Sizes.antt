@@ -17,7 +17,7 @@ use Rattle.spec_chebyshev.proofs.Arguments.{IsArguments-argument}
 use Rattle.spec_chebyshev.proofs.RowEnds.{EndsWithin-t, EndsWithin-u, EndsWithin-q, EndsWithin-r}
 use Rattle.spec_ephemeris.specs.Series.{Series, argument_at}
 use Rattle.spec_ephemeris.specs.Ephemeris.{IsBodyNumber}
-use Rattle.spec_expressions.proofs.Exponents.{distance-within}
+use Rattle.spec_intervals.proofs.Exponents.{distance-within, IsBetween, narrow-between, zero-between}
 use Rattle.spec_motions.specs.Sums.{coefficient, times, slope_row, slope_difference_row, sum_low, sum_high}
 use Rattle.spec_motions.specs.Enclosures.{IsSeries, IsSpan, arguments, coefficients_of, position_over, position_step_over, velocity_over, velocity_step_over, position_interval, position_step_interval, velocity_interval, velocity_step_interval, zero_interval as no_change}
 use Rattle.spec_bodies.specs.Reading.{column_lowest, column_highest}

@@ -11,7 +11,7 @@ use Rattle.spec_ephemeris.specs.Series.{Series, position}
 use Rattle.spec_ephemeris.specs.Ephemeris.{Ephemeris, IsEphemeris, IsBorderIn, end_of}
 use Rattle.spec_ephemeris.specs.Velocity.{velocity}
 use Rattle.spec_motions.specs.Enclosures.{position_interval, position_step_interval, velocity_interval, velocity_step_interval}
-use Rattle.spec_expressions.specs.Enclosure.{Enclosure, enclosure, middle}
+use Rattle.spec_intervals.specs.Enclosure.{Enclosure, enclosure, middle}
 use Rattle.spec_expressions.specs.Expression.{Leaf, position as position_of, velocity as velocity_of}
 use Rattle.spec_bodies.specs.declared.frame.Frame.{Frame}
 use Rattle.spec_bodies.specs.declared.source.Source.{Source}

@@ -1,8 +1,6 @@
 pub mod HeaderTest
 pub mod ColumnRules
 pub mod Granules
-pub mod GranuleAt
-pub mod Lines
 pub mod Pushing
 pub mod GranuleNumbers
 pub mod SmallNumbers

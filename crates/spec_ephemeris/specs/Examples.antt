@@ -72,7 +72,3 @@ abbrev pub growing_block : List Decimal
 growing_block =
     record { mant = pos 245154450000000000; exp = neg_ℤ (pos 11) } ∷ record { mant = pos 245157650000000000; exp = neg_ℤ (pos 11) }
     ∷ whole (pos 0) ∷ record { mant = pos 138240000000000000; exp = neg_ℤ (pos 11) } ∷ replicate 22 (whole (pos 0))
-
--- Mercury is absent
-abbrev pub without_mercury : Ephemeris
-without_mercury = record { header = record four_columns { columns = column 3 0 0 ∷ [] }; start = neg_ℤ (pos 43200); blocks = 1; numbers = growing_block }

@@ -1,10 +1,9 @@
 // Worked values of the definitions, by computation.
-ghost use Rattle.std.specs.Prelude.{◌≡◌, ◌+◌, ◌-◌, ◌^◌, true, false, ◌++◌, ◌∷◌, [], pos, neg_ℤ};
+ghost use Rattle.std.specs.Prelude.{◌≡◌, ◌+◌, ◌-◌, ◌^◌, true, false, pos, neg_ℤ};
 ghost use Rattle.spec_ephemeris.specs.Header.{IsHeader, column_size, has_column};
-ghost use Rattle.spec_ephemeris.specs.Ephemeris.{IsPreferred, is_line, mercury_x};
+ghost use Rattle.spec_ephemeris.specs.Ephemeris.{IsPreferred};
 ghost use Rattle.spec_ephemeris.specs.Series.{IsCoefficient, argument_at, position};
-ghost use Rattle.spec_ephemeris.specs.Velocity.{velocity};
-ghost use Rattle.spec_ephemeris.specs.Examples.{IsWhole, whole, growing_x, parabola, column, de405, four_columns, of_four_columns, growing_block, overlapping, without_mercury};
+ghost use Rattle.spec_ephemeris.specs.Examples.{IsKm, whole, growing_x, parabola, column, de405, four_columns, overlapping};
 
 /// The argument of a block of 2,764,800 seconds runs from minus its length to its length, two for each second.
 pub fn arguments()
@@ -65,16 +64,6 @@ pub fn headers()
     ensures four { IsHeader four_columns }
     ensures of_de405 { IsHeader de405 }
     ensures two_on_one_place { IsHeader overlapping → ⊥ }
-{}
-
-/// With one block and two coefficients of Mercury, its x is a line. With two blocks it isn't, and where Mercury is
-/// absent it isn't.
-pub fn ephemerides_with_a_line()
-    ensures one_block { is_line (of_four_columns 1 growing_block) ≡ true }
-    ensures its_line { mercury_x (of_four_columns 1 growing_block) ≡ growing_x }
-    ensures two_blocks { is_line (of_four_columns 2 (growing_block ++ growing_block)) ≡ false }
-    ensures no_block { is_line (of_four_columns 0 []) ≡ false }
-    ensures absent { is_line without_mercury ≡ false }
 {}
 
 /// Of two times as far from the middle the smaller is preferred, and before both one that is nearer.

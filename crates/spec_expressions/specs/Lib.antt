@@ -1,3 +1,2 @@
-pub mod Enclosure
 pub mod Expression
 pub mod Examples

@@ -2,7 +2,7 @@
 use Rattle.std.proofs.Common.{◌≡◌, ℕ, suc, ◌+◌, List, [], ◌∷◌, ◌++◌, length, Option, None, Some, Result, Ok, Err, refl, sym, ap, ◌∙◌, append_assoc, arith, subst}
 use Rattle.spec_text.specs.declared.decimals.Fault.{Fault}
 use Rattle.spec_ephemeris.specs.Ephemeris.{Ephemeris}
-use Rattle.spec_header.specs.Sections.{FileLine, Stop, ended, breaks}
+use Rattle.spec_sections.specs.Sections.{FileLine, Stop, ended, breaks}
 use Rattle.spec_blocks.specs.Blocks.{ephemeris}
 use Rattle.spec_files.specs.Texts.{cut_off, file_lines, first_cut_from, joined, joined_from, or_later, where_whole}
 use Rattle.spec_files.specs.Outcome.{broken, outcome, outcome_by}

@@ -7,13 +7,9 @@ use Rattle.std.proofs.lemmas.Option.{none-some}
 use Rattle.spec_text.specs.Reading.{whole_of}
 use Rattle.spec_ephemeris.specs.Header.{AreApart, column_size, is_present}
 use Rattle.spec_ephemeris.specs.declared.header.Column.{Column}
-use Rattle.spec_header.specs.declared.rules.BrokenRule.{BrokenRule}
+use Rattle.spec_sections.specs.declared.rules.BrokenRule.{BrokenRule}
 use Rattle.spec_header.specs.ColumnRules.{column_rule, columns_of, columns_rule, overlap, overlaps_any, row, whole_number, whole_numbers}
-use Rattle.spec_header.proofs.Holding.{Holds, then_any}
-
-pub holds_also : {B E : Type 0} (P Q : B → Type 0) (r : Result B E) → ((x : B) → P x → Q x) → Holds P r → Holds Q r
-holds_also P Q (Ok x) also holds = also x holds
-holds_also P Q (Err e) also holds = tt
+use Rattle.spec_sections.proofs.Holding.{Holds, holds_also, then_any}
 
 -- a row has a number for each column
 numbers_length : (before : List ℕ) (words : List (List ℕ)) → Holds (λ ns. length ns ≡ length before + length words) (whole_numbers before words)

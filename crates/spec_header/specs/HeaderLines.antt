@@ -4,27 +4,28 @@ use Rattle.spec_text.specs.Lines.{Numbered, is_too_long, lines, text_lines, toke
 use Rattle.spec_text.specs.declared.decimals.Decimal.{Decimal}
 use Rattle.spec_text.specs.declared.decimals.Fault.{Fault}
 use Rattle.spec_ephemeris.specs.declared.header.Header.{Header}
-use Rattle.spec_faults.specs.declared.numbers.TheConstants.{LINE_TOO_LONG, ENDED}
+use Rattle.spec_faults.specs.declared.numbers.TheConstants.{ENDED}
 use Rattle.spec_header.specs.ColumnRules.{columns_row, row}
 use Rattle.spec_header.specs.HeaderRules.{emrat_from, first_line, group, mass_ratio, name_count, span, value_count}
-use Rattle.spec_header.specs.Sections.{FileLine, FileWord, Stop, ended, breaks, ◌>>=◌, at_line, behind_words, first_words, from_word, one_line}
+use Rattle.spec_sections.specs.FileLines.{first_long, readable}
+use Rattle.spec_sections.specs.Sections.{FileLine, FileWord, Stop, ended, breaks, ◌>>=◌, at_line, after_words, first_words, from_word, one_line}
 
--- the texts of the first n words, and the lines behind them
+-- the texts of the first n words, and the lines after them
 abbrev pub names : ℕ → List FileLine → Result (List (List ℕ) × List FileLine) Stop
-names n lines = behind_words ENDED n lines >>= λ rest. Ok (map (λ word. word.text) (first_words n lines), rest)
+names n lines = after_words ENDED n lines >>= λ rest. Ok (map (λ word. word.text) (first_words n lines), rest)
 
 abbrev pub mass_ratio_at : Option FileWord → Result Decimal Stop
 mass_ratio_at None = Err (ended ENDED)
 mass_ratio_at (Some word) = at_line word.file word.line (mass_ratio word.text)
 
--- EMRAT, which stands at this place of n words, and the lines behind them; no other word is looked at
+-- EMRAT, which stands at this place of n words, and the lines after them; no other word is looked at
 abbrev pub mass_ratio_among : ℕ → ℕ → List FileLine → Result (Decimal × List FileLine) Stop
 mass_ratio_among n place lines = do
   emrat ← mass_ratio_at (slice_get (first_words n lines) place)
-  rest ← behind_words ENDED n lines
+  rest ← after_words ENDED n lines
   Ok (emrat, rest)
 
--- the header of the lines of all files, and the lines behind it, or why they are refused
+-- the header of the lines of all files, and the lines after it, or why they are refused
 unfoldable pub header : List FileLine → Result (Header × List FileLine) Stop
 header lines = do
   ncoeff ← one_line ENDED first_line lines
@@ -44,17 +45,6 @@ header lines = do
   end ← one_line ENDED (group (codes "1070") 1070) columns.1
   Ok (record { ncoeff = ncoeff.0; block_seconds = pos block.0; emrat = emrat.0; columns = columns.0 }, end.1)
 
--- the lines of a file before the first that is too long
-abbrev pub readable : ℕ → List Numbered → List FileLine
-readable file [] = []
-readable file (line ∷ rest) =
-    if is_too_long line then [] else record { file = file; number = line.number; words = tokens line.bytes } ∷ readable file rest
-
--- the first line of a file that is too long
-abbrev pub first_long : List Numbered → Option Fault
-first_long [] = None
-first_long (line ∷ rest) = if is_too_long line then Some (record { line = line.number; number = LINE_TOO_LONG; detail = 0 }) else first_long rest
-
 -- why the lines of a file end too early: one is too long, or the file ends under this number
 abbrev pub ending : ℕ → ℕ → Option Fault → Fault
 ending end late None = record { line = end; number = late; detail = 0 }
@@ -68,6 +58,6 @@ abbrev pub or_fault : ℕ → List Numbered → Result (Header × List FileLine)
 or_fault end lines (Ok x) = Ok x
 or_fault end lines (Err stop) = Err (fault_of end lines stop)
 
--- the header of a text and the lines behind it, or the text's first fault
+-- the header of a text and the lines after it, or the text's first fault
 abbrev pub text_header : List ℕ → Result (Header × List FileLine) Fault
 text_header text = or_fault (length (lines text) + 1) (text_lines text) (header (readable 0 (text_lines text)))

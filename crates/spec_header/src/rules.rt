@@ -1,18 +1,5 @@
 // Rules that a line of a file can break, by the numbers under which they are reported.
 
-/// A rule that a line breaks.
-#[derive(Clone, Copy, Debug, PartialEq, Eq)]
-pub struct BrokenRule {
-    /// The number of the fault, under which it is reported.
-    pub number: u8,
-    /// What the number leaves open: for `GROUP_MISSING` the number of the group, for `HEADER_NUMBER` that of a
-    /// `NumberFault`, else 0.
-    pub detail: u16,
-}
-
-/// A line has more than 4,096 bytes.
-pub const LINE_TOO_LONG: u8 = 4;
-
 /// The first line isn't `KSIZE=`, any word, `NCOEFF=` and a whole number.
 pub const FIRST_LINE: u8 = 10;
 
@@ -51,9 +38,6 @@ pub const HEADER_NUMBER: u8 = 21;
 
 /// The text ends before `GROUP 1070`.
 pub const ENDED: u8 = 22;
-
-/// The last Julian date that a header may name.
-pub const LAST_JULIAN_DAY: u64 = 5_000_000;
 
 /// The most days of a block.
 pub const MOST_BLOCK_DAYS: u64 = 32;

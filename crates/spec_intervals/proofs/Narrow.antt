@@ -109,6 +109,13 @@ unfolding narrow_shift
 narrow_shift-least lo hi k h =
     first_fit-least (unsigned_abs lo + unsigned_abs hi) 0 lo hi k (omega arith) h
 
+pub narrow_shift-le : (m : ℕ) (lo hi : ℤ) → fits_after m lo hi ≡ true → narrow_shift lo hi ≤ m
+narrow_shift-le m lo hi enough = by (cases_lt m (narrow_shift lo hi))
+  where
+    by : (m < narrow_shift lo hi) ⊎ (narrow_shift lo hi ≤ m) → narrow_shift lo hi ≤ m
+    by (inl less) = absurd (false≢true (sym (narrow_shift-least lo hi m less) ∙ enough))
+    by (inr at_most) = at_most
+
 -- what is narrowed is an interval of the code
 zero_ends : (lo hi : ℤ) → (zero_end lo && zero_end hi) ≡ true → (lo ≡ pos 0) × (hi ≡ pos 0)
 zero_ends (pos zero) (pos zero) t = (refl, refl)

@@ -10,6 +10,7 @@ use Rattle.spec_numbers.proofs.Naturals.{positive_product}
 use Rattle.spec_numbers.proofs.Order.{lin, le-mul, le-mul_cancel}
 use Rattle.spec_numbers.proofs.Floor.{floor_div-le, ceil_div-ge}
 use Rattle.spec_intervals.specs.Fraction.{Fraction, IsFraction, Holds, AtMost, AtLeast, fraction_add, fraction_sub, fraction_scale, Overlaps}
+use Rattle.spec_intervals.proofs.Compare.{AtMost-less, AtLeast-more}
 use Rattle.spec_intervals.proofs.Narrow.{low-floor, high-ceil, Holds-narrow}
 use Rattle.spec_intervals.specs.Interval.{Interval, surplus, lift, aligned_lower, aligned_upper, negated, difference, join_up, join, meet_up, meet, scale}
 use Rattle.spec_numbers.specs.Numbers.{floor_div, ceil_div}
@@ -60,15 +61,6 @@ module _ (x y : Interval) (r : Fraction) (h : x.s ≤ℤ y.s) where
 
   pub lowered-high : Holds y r → AtLeast (aligned_upper x y).hi (aligned_lower x y).s r
   lowered-high q = lift_high y.hi y.s (x.s +ℤ pos (surplus x y)) (lift x y) r (meets x.s y.s h) q.high
-
--- an end further out bounds no less
-pub AtMost-less : (w z s : ℤ) (r : Fraction) → w ≤ℤ z → AtMost z s r → AtMost w s r
-AtMost-less w z s r h g =
-    let x : (w *ℤ pos (2 ^ up s * r.denominator)) ≤ℤ (z *ℤ pos (2 ^ up s * r.denominator)) = le-mul w z (pos (2 ^ up s * r.denominator)) (omega (arith, lin)) h in omega (arith, lin)
-
-pub AtLeast-more : (z w s : ℤ) (r : Fraction) → z ≤ℤ w → AtLeast z s r → AtLeast w s r
-AtLeast-more z w s r h g =
-    let x : (z *ℤ pos (2 ^ up s * r.denominator)) ≤ℤ (w *ℤ pos (2 ^ up s * r.denominator)) = le-mul z w (pos (2 ^ up s * r.denominator)) (omega (arith, lin)) h in omega (arith, lin)
 
 min_bounds : (p q : ℤ) → (int_min p q ≤ℤ p) × (int_min p q ≤ℤ q)
 min_bounds p q = omega (arith, ints, clamps)

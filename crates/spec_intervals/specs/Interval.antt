@@ -15,6 +15,10 @@ pub record Interval : Type 0 where
 abbrev pub interval : ℤ → ℤ → ℤ → Interval
 interval lo hi s = record { lo = lo; hi = hi; s = s }
 
+-- 0 alone
+abbrev pub zero_interval : Interval
+zero_interval = interval (pos 0) (pos 0) (pos 0)
+
 -- the greatest size of an end, so that the product of two ends is within 128 bits
 abbrev pub end_limit : ℕ
 end_limit = 2 ^ 62
@@ -60,7 +64,7 @@ zero_end (negsuc n) = false
 
 -- where both ends are 0, the exponent is 0
 unfoldable pub settled : ℤ → ℤ → ℤ → Interval
-settled lo hi s = if zero_end lo && zero_end hi then interval (pos 0) (pos 0) (pos 0) else interval lo hi s
+settled lo hi s = if zero_end lo && zero_end hi then zero_interval else interval lo hi s
 
 unfoldable pub narrow_by : ℕ → ℤ → ℤ → ℤ → Interval
 narrow_by k lo hi s = settled (floor_div lo (2 ^ k)) (ceil_div hi (2 ^ k)) (s +ℤ pos k)

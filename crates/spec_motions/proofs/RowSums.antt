@@ -14,7 +14,7 @@ use Rattle.spec_intervals.proofs.Products.{corners_ordered}
 use Rattle.spec_chebyshev.specs.declared.ends.Ival62.{Ival62}
 use Rattle.spec_chebyshev.specs.Rows.{entry, nothing, EndsWithin}
 use Rattle.spec_motions.specs.Sums.{times, multiples, sum_low, sum_high}
-use Rattle.cheby_laws.proofs.Bounds.{size}
+use Rattle.spec_chebyshev.proofs.Arguments.{within_size as size}
 
 assoc : (a b c : ℤ) → (a +ℤ b) +ℤ c ≡ a +ℤ (b +ℤ c)
 assoc a b c = ring (a ∷ b ∷ c ∷ []) ((v 0 ⊕ v 1) ⊕ v 2) (v 0 ⊕ (v 1 ⊕ v 2)) tt

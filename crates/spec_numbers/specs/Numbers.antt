@@ -1,6 +1,10 @@
--- Quotients and powers of whole numbers.
+-- Quotients and powers of whole numbers, and numbers below 0.
 use Rattle.std.specs.Prelude.{ℕ, zero, suc, ℤ, pos, neg_ℤ, ◌*ℤ◌}
 use lib.Signed.{shr_z}
+
+-- -n
+abbrev pub minus : ℕ → ℤ
+minus n = neg_ℤ (pos n)
 
 -- z / d rounded down, and rounded up, for d > 0
 abbrev pub floor_div : ℤ → ℕ → ℤ

@@ -1,7 +1,7 @@
 use Rattle.std.proofs.Common.{rules, ◌≡◌, ◌∙◌, w64, unsigned_abs}
 use Rattle.std.proofs.lemmas.Int.{to_z-of_z}
 use mir.Val.{SFits}
-use Rattle.spec_expressions.specs.Enclosure.{middle, enclosure}
+use Rattle.spec_intervals.specs.Enclosure.{middle, enclosure}
 use Rattle.spec_motions.specs.Enclosures.{position_step_over, position_interval, position_step_interval}
 use Rattle.spec_ephemeris.specs.Granules.{series_of}
 use Rattle.body_states.proofs.SeriesParts.{AreParts}

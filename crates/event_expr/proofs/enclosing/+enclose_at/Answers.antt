@@ -2,7 +2,7 @@ use Rattle.std.proofs.Common.{rules, w64}
 use Rattle.std.proofs.lemmas.Int.{to_z-of_z}
 use mir.Syntax.{w16}
 use mir.Val.{SFits}
-use Rattle.spec_expressions.specs.Enclosure.{sum_of, difference_of, product_of, signed_square_of}
+use Rattle.spec_intervals.specs.Enclosure.{sum_of, difference_of, product_of, signed_square_of}
 use Rattle.event_expr.specs.States.{parts}
 use Rattle.event_expr.proofs.Walk.{known, part-within, part-encloses, formula-parts, length-within, cosine-part, holds-number, two_parts, one_part}
 use Rattle.event_expr.proofs.enclosing.+enclose_at.Goals as goal

@@ -1,6 +1,6 @@
 use Rattle.std.proofs.Common.{◌≡◌, ◌++◌, ◌∙◌, Bool, List, ℕ, ap, append-nil, subst, sym}
 use Rattle.std.specs.Result.{OnOk}
-use Rattle.spec_output.specs.Faults.{detail_where}
+use Rattle.spec_reports.specs.Messages.{detail_where}
 use Rattle.gf_find.proofs.faults.add_detail.Goals as goal
 
 pub returns-then-has_detail : goal.returns-then-has_detail

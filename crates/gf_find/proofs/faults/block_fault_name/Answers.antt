@@ -1,5 +1,5 @@
 use Rattle.std.proofs.Common.{ap, ne_eqb, refl, sym}
-use Rattle.spec_output.specs.Faults.{block_fault_name}
+use Rattle.spec_reports.specs.Messages.{block_fault_name}
 use Rattle.gf_find.proofs.faults.block_fault_name.Goals as goal
 
 pub returns-then-number-eq30 : goal.returns-then-number-eq30

@@ -1,6 +1,6 @@
 use Rattle.std.proofs.Common.{arith}
 use Rattle.std.proofs.lemmas.Bool.{lt-ltb, le-ltb}
-use Rattle.spec_output.specs.Faults.{fault_name}
+use Rattle.spec_reports.specs.Messages.{fault_name}
 use Rattle.gf_find.proofs.faults.fault_name.Goals as goal
 
 pub returns-then-number-lt10 : goal.returns-then-number-lt10

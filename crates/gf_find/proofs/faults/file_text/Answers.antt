@@ -1,7 +1,7 @@
 use Rattle.std.proofs.Common.{◌++◌, ◌∙◌, List, ℕ, ap}
 use Rattle.std.specs.Prelude.{codes}
 use Rattle.std.specs.Fmt.{decimal}
-use Rattle.spec_output.specs.Faults.{detail_text, fault_name, file_text}
+use Rattle.spec_reports.specs.Messages.{detail_text, fault_name, file_text}
 use Rattle.gf_find.proofs.faults.file_text.Goals as goal
 
 pub returns : goal.returns

@@ -1,5 +1,5 @@
 use Rattle.std.proofs.Common.{ap, ne_eqb, refl, sym}
-use Rattle.spec_output.specs.Faults.{header_fault_name}
+use Rattle.spec_reports.specs.Messages.{header_fault_name}
 use Rattle.gf_find.proofs.faults.header_fault_name.Goals as goal
 
 pub returns-then-number-eq10 : goal.returns-then-number-eq10

@@ -3,7 +3,7 @@ use Rattle.std.proofs.lemmas.Int.{to_z-of_z}
 use mir.Syntax.{w128}
 use mir.Val.{SFits}
 use Rattle.spec_intervals.specs.Interval.{greatest4, least4, narrow}
-use Rattle.spec_events.specs.LineSearch.{line}
+use Rattle.line_search.specs.Search.{line}
 use Rattle.gf_find.proofs.Arguments.{ends_ordered}
 use Rattle.gf_find.proofs.line.line_between.Goals as goal
 use Rattle.gf_find.proofs.line.line_between.Goals.{After-added-2}

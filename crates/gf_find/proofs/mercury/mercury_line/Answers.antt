@@ -1,7 +1,8 @@
 use Rattle.std.proofs.Common.{◌≡◌, ◌≤ℤ◌, ◌∙◌, ap, sym, subst, pos, unsigned_abs, ℤ, w64, arith}
 use Rattle.std.proofs.lemmas.Int.{ints, fits_signed_from_abs, to_z-of_z}
 use mir.Val.{SFits}
-use Rattle.spec_ephemeris.specs.Ephemeris.{Ephemeris, Granule, IsGranuleAt, MERCURY}
+use Rattle.spec_ephemeris.specs.Ephemeris.{Ephemeris, Granule, IsGranuleAt}
+use Rattle.line_search.specs.MercuryX.{MERCURY}
 use Rattle.gf_find.proofs.Series.{IsRead, read_limits, read_series}
 use Rattle.gf_find.proofs.mercury.mercury_line.Goals as goal
 

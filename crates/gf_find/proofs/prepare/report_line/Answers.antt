@@ -1,7 +1,7 @@
 use Rattle.std.proofs.Common.{◌∙◌, ap}
-use Rattle.spec_events.specs.LineSearch.{found_windows}
-use Rattle.spec_ephemeris.specs.Ephemeris.{mercury_x}
-use Rattle.spec_output.specs.Report.{report}
+use Rattle.line_search.specs.Search.{found_windows}
+use Rattle.line_search.specs.MercuryX.{mercury_x}
+use Rattle.spec_reports.specs.Report.{report}
 use Rattle.std.specs.Prelude.{ℤ}
 use Rattle.gf_find.proofs.Findings.{ends_with_block}
 use Rattle.gf_find.proofs.prepare.report_line.Goals as goal

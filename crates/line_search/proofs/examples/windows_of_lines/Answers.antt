@@ -2,8 +2,8 @@ use Rattle.std.proofs.Common.{refl}
 use Rattle.spec_intervals.specs.Interval.{first_fit, narrow_shift, settled, narrow_by, narrow, from_decimal}
 use Rattle.spec_chebyshev.specs.Rows.{argument_of}
 use Rattle.spec_trees.specs.Tree.{leaves_within, leaves}
-use Rattle.spec_events.specs.LineSearch.{line}
-use Rattle.spec_events.proofs.examples.windows_of_lines.Goals as goal
+use Rattle.line_search.specs.Search.{line}
+use Rattle.line_search.proofs.examples.windows_of_lines.Goals as goal
 
 pub returns-clause-rises : goal.returns-clause-rises
 unfolding leaves leaves_within argument_of line from_decimal narrow narrow_by narrow_shift first_fit settled

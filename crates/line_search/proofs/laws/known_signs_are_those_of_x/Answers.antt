@@ -1,5 +1,5 @@
-use Rattle.spec_events.proofs.Signed.{yes_up, not_up}
-use Rattle.spec_events.proofs.laws.known_signs_are_those_of_x.Goals as goal
+use Rattle.line_search.proofs.Signed.{yes_up, not_up}
+use Rattle.line_search.proofs.laws.known_signs_are_those_of_x.Goals as goal
 
 pub returns-clause-yes : goal.returns-clause-yes
 returns-clause-yes c = λ s a b t h p q e. yes_up s a b t h p q e

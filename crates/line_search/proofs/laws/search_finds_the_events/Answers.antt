@@ -1,5 +1,5 @@
-use Rattle.spec_events.proofs.Found.{found_are}
-use Rattle.spec_events.proofs.laws.search_finds_the_events.Goals as goal
+use Rattle.line_search.proofs.Found.{found_are}
+use Rattle.line_search.proofs.laws.search_finds_the_events.Goals as goal
 
 pub returns-clause-within : goal.returns-clause-within
 returns-clause-within c = λ s h. (found_are s h).within

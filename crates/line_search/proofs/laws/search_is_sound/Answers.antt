@@ -1,5 +1,5 @@
-use Rattle.spec_events.proofs.Sound.{rules_are_sound, root_is_valid}
-use Rattle.spec_events.proofs.laws.search_is_sound.Goals as goal
+use Rattle.line_search.specs.Sound.{rules_are_sound, root_is_valid}
+use Rattle.line_search.proofs.laws.search_is_sound.Goals as goal
 
 pub returns-clause-rules : goal.returns-clause-rules
 returns-clause-rules c = λ s h. rules_are_sound s h

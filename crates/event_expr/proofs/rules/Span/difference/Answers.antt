@@ -1,6 +1,6 @@
 use Rattle.spec_intervals.specs.Interval.{difference}
 use Rattle.std.proofs.Common.{◌∙◌, sym}
-use Rattle.spec_expressions.specs.Enclosure.{difference_of}
+use Rattle.spec_intervals.specs.Enclosure.{difference_of}
 use Rattle.event_expr.specs.States.{parts}
 use Rattle.event_expr.proofs.Steps.{difference-wide, shared-difference}
 use Rattle.event_expr.proofs.rules.Span.difference.Goals as goal

@@ -1,6 +1,6 @@
 use Rattle.spec_intervals.specs.Interval.{sum, product}
 use Rattle.std.proofs.Common.{◌∙◌, sym}
-use Rattle.spec_expressions.specs.Enclosure.{product_of}
+use Rattle.spec_intervals.specs.Enclosure.{product_of}
 use Rattle.event_expr.specs.States.{parts}
 use Rattle.event_expr.proofs.Steps.{product-wide, product-part, product-exponent, sums-wide, shared-product}
 use Rattle.event_expr.proofs.rules.Span.product.Goals as goal

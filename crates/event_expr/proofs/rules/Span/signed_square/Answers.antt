@@ -1,6 +1,6 @@
 use Rattle.std.proofs.Common.{◌∙◌, sym}
 use Rattle.spec_intervals.specs.Interval.{product, signed_square}
-use Rattle.spec_expressions.specs.Enclosure.{signed_square_of, twice_size}
+use Rattle.spec_intervals.specs.Enclosure.{signed_square_of, twice_size}
 use Rattle.event_expr.specs.States.{parts}
 use Rattle.event_expr.proofs.Steps.{signed_square-wide, square_step-wide, twice_size-exponent, shared-signed_square}
 use Rattle.event_expr.proofs.rules.Span.signed_square.Goals as goal

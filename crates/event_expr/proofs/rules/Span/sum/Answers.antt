@@ -1,6 +1,6 @@
 use Rattle.spec_intervals.specs.Interval.{sum}
 use Rattle.std.proofs.Common.{◌∙◌, sym}
-use Rattle.spec_expressions.specs.Enclosure.{sum_of}
+use Rattle.spec_intervals.specs.Enclosure.{sum_of}
 use Rattle.event_expr.specs.States.{parts}
 use Rattle.event_expr.proofs.Steps.{sum-wide, shared-sum}
 use Rattle.event_expr.proofs.rules.Span.sum.Goals as goal

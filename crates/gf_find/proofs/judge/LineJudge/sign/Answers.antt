@@ -2,7 +2,7 @@ use Rattle.std.proofs.Common.{◌≡◌, ◌∙◌, ap, [], ◌∷◌, w64, arit
 use Rattle.std.proofs.lemmas.Int.{ints, fits_signed_from_abs, to_z-of_z}
 use mir.Val.{SFits}
 use Rattle.spec_intervals.specs.Signs.{sign_of}
-use Rattle.spec_events.specs.LineSearch.{argument, line}
+use Rattle.line_search.specs.Search.{argument, line}
 use Rattle.gf_find.specs.Lines.{series_of}
 use Rattle.gf_find.proofs.judge.LineJudge.sign.Goals as goal
 

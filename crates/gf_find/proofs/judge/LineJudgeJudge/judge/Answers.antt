@@ -3,7 +3,7 @@ use Rattle.std.proofs.lemmas.Int.{ints, fits_signed_from_abs, to_z-of_z}
 use mir.Val.{SFits}
 use Rattle.spec_intervals.specs.Signs.{sign_of}
 use Rattle.spec_trees.specs.Cuts.{is_wide}
-use Rattle.spec_events.specs.LineSearch.{sign_on, slope_sign, verdict_by}
+use Rattle.line_search.specs.Search.{sign_on, slope_sign, verdict_by}
 use Rattle.gf_find.specs.Lines.{line_is_sound, series_of}
 use Rattle.gf_find.proofs.judge.LineJudgeJudge.judge.Goals as goal
 

@@ -4,7 +4,7 @@ use lib.Signed.{lt_z}
 use Rattle.spec_intervals.specs.Interval.{Interval}
 use Rattle.spec_chebyshev.specs.declared.ends.Ival62.{Ival62}
 use Rattle.spec_motions.specs.Enclosures.{coefficients_of, position_over, position_step_over, velocity_over, velocity_step_over, position_interval, position_step_interval, velocity_interval, velocity_step_interval}
-use Rattle.spec_expressions.specs.Enclosure.{middle}
+use Rattle.spec_intervals.specs.Enclosure.{middle}
 use Rattle.spec_ephemeris.specs.declared.granule.Granule.{Granule}
 use Rattle.cheby_enclose.specs.declared.positions.Bases.{Bases}
 use Rattle.spec_motions.specs.Granules.{IsEvaluable}

@@ -5,7 +5,8 @@ use Rattle.std.proofs.lemmas.Nat.{mul-le}
 use Rattle.spec_chebyshev.specs.declared.ends.Ival62.{Ival62}
 use Rattle.spec_chebyshev.specs.Rows.{u_row, r_row, u_size, r_size, entry, EndsWithin, IsArguments}
 use Rattle.spec_chebyshev.proofs.RowEnds.{EndsWithin-u, EndsWithin-r}
-use Rattle.cheby_laws.proofs.Bounds.{size, u_within, r_within}
+use Rattle.spec_chebyshev.proofs.Arguments.{within_size as size}
+use Rattle.spec_chebyshev.proofs.Bounds.{u_within, r_within}
 use Rattle.spec_motions.specs.RowSizes.{slope_size, slope_sizes, entry_size, IsSlopeRow}
 use Rattle.spec_motions.proofs.RowSums.{sizes_grow}
 

@@ -12,15 +12,9 @@ use Rattle.spec_bodies.specs.declared.factor.Factor.{Factor}
 use Rattle.spec_bodies.specs.Coordinates.{Coordinate, nothing, of_column, times, plus, less, displacement, in_frame}
 use Rattle.spec_bodies.specs.Meanings.{factor_interval, enclosure_of}
 use Rattle.spec_bodies.specs.Reading.{AllColumns, column_lowest, column_highest, lowest, highest, IsLow, IsShort, IsFactor}
-use Rattle.spec_bodies.proofs.Exponents.{IsBetween, AreBetween, between-more, between-all_within, product-between, enclosure-between, nothing-between, sum_of-between, difference_of-between}
+use Rattle.spec_intervals.proofs.Exponents.{IsBetween, between-more, product-between}
+use Rattle.spec_intervals.proofs.EnclosureExponents.{AreBetween, all-more, between-all_within, enclosure-between, nothing-between, sum_of-between, difference_of-between}
 use Rattle.spec_bodies.proofs.Factors.{times_factor}
-
-more : (l h m n : ℕ) (e : Enclosure) → l ≤ m → h ≤ n → AreBetween l h e → AreBetween m n e
-more l h m n e p q is = record {
-  mid = between-more l h m n e.mid p q is.mid;
-  range = between-more l (h + 63) m (n + 63) e.range p (omega (arith, q)) is.range;
-  step = between-more l h m n e.step p q is.step;
-}
 
 multiplied : (c t : Interval) (l h : ℕ) → IsFactor c → IsBetween l h t → IsBetween (l + 60) (h + 2) (product c t)
 multiplied c t l h factor is =
@@ -45,12 +39,12 @@ module _ (a b : ℤ) (span : IsSpan a b) (answer : ℕ → ℕ → Enclosure) (f
       (scaled a b span (factor_interval (factors f)) (enclosure_of answer factors a b x) (lowest x) (highest x) (are f) (between_of x all))
   between_of (plus x y) all =
       sum_of-between a b span (max (lowest x) (lowest y)) (max (highest x) (highest y)) (enclosure_of answer factors a b x) (enclosure_of answer factors a b y)
-      (more (lowest x) (highest x) _ _ (enclosure_of answer factors a b x) (omega arith) (omega arith) (between_of x all.0))
-      (more (lowest y) (highest y) _ _ (enclosure_of answer factors a b y) (omega arith) (omega arith) (between_of y all.1))
+      (all-more (lowest x) (highest x) _ _ (enclosure_of answer factors a b x) (omega arith) (omega arith) (between_of x all.0))
+      (all-more (lowest y) (highest y) _ _ (enclosure_of answer factors a b y) (omega arith) (omega arith) (between_of y all.1))
   between_of (less x y) all =
       difference_of-between a b span (max (lowest x) (lowest y)) (max (highest x) (highest y)) (enclosure_of answer factors a b x) (enclosure_of answer factors a b y)
-      (more (lowest x) (highest x) _ _ (enclosure_of answer factors a b x) (omega arith) (omega arith) (between_of x all.0))
-      (more (lowest y) (highest y) _ _ (enclosure_of answer factors a b y) (omega arith) (omega arith) (between_of y all.1))
+      (all-more (lowest x) (highest x) _ _ (enclosure_of answer factors a b x) (omega arith) (omega arith) (between_of x all.0))
+      (all-more (lowest y) (highest y) _ _ (enclosure_of answer factors a b y) (omega arith) (omega arith) (between_of y all.1))
 
 -- ---- the formulas of bodies
 pub displacement_low : (axis : ℕ) (target observer : Source) → IsLow 144 7 (displacement target observer axis)

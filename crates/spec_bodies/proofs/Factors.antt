@@ -15,8 +15,8 @@ use Rattle.spec_numbers.proofs.Ring.{v, k as lit, ◌⊗◌, ring}
 use Rattle.spec_numbers.proofs.Order.{lin}
 use Rattle.spec_numbers.proofs.Floor.{floor_div-lt, floor_div-small, ceil_div-small, floor_div-one as floor_one, ceil_div-one as ceil_one}
 use Rattle.spec_ephemeris.specs.Header.{IsMassRatio}
-use Rattle.spec_expressions.specs.Enclosure.{Enclosure, offsets, centred, enclosure, zero_interval, constant_of, product_of}
-use Rattle.spec_expressions.proofs.Offsets.{floor_one, ceil_one, narrow-small}
+use Rattle.spec_intervals.specs.Enclosure.{Enclosure, offsets, centred, enclosure, constant_of, product_of}
+use Rattle.spec_intervals.proofs.Offsets.{narrow-small}
 use Rattle.spec_bodies.specs.declared.factor.Factor.{Factor}
 use Rattle.spec_bodies.specs.declared.factor.Factor.TheVariants.{MoonShare, Cosine, Sine}
 use Rattle.spec_bodies.specs.Reading.{IsFactor}

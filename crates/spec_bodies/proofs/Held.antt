@@ -8,10 +8,10 @@ use Rattle.spec_ephemeris.specs.declared.limits.TheConstants.{FIRST_TIME, LAST_T
 use Rattle.spec_ephemeris.specs.Series.{Series}
 use Rattle.spec_ephemeris.specs.Ephemeris.{IsBorder}
 use Rattle.spec_motions.specs.Enclosures.{IsSeries, IsSpan}
-use Rattle.spec_expressions.specs.Enclosure.{IsEnclosure, Encloses, AllFractions, AllWithin, IsSpan as IsNear, change, middle}
+use Rattle.spec_intervals.specs.Enclosure.{IsEnclosure, Encloses, AllFractions, AllWithin, IsSpan as IsNear, change, middle}
 use Rattle.spec_expressions.specs.Expression.{Leaf, position as position_of, velocity as velocity_of, IsLeaf}
-use Rattle.spec_expressions.proofs.Centred.{middle_between}
-use Rattle.spec_expressions.proofs.Enclosed.{IsEnclosure-parts}
+use Rattle.spec_intervals.proofs.Centred.{middle_between}
+use Rattle.spec_intervals.proofs.Enclosed.{IsEnclosure-parts}
 use Rattle.spec_bodies.specs.Sources.{used}
 use Rattle.spec_bodies.specs.declared.quantity.Quantity.{Quantity}
 use Rattle.spec_bodies.specs.declared.quantity.Quantity.TheVariants.{Position, Velocity}
@@ -23,7 +23,8 @@ use Rattle.spec_bodies.specs.Views.{View, Fits, target_of, coordinate_of, factor
 use Rattle.spec_bodies.proofs.Formulas.{IsHeld, displacement_columns, in_frame_columns, IsFraction-factor, all_columns, AllFractions-coordinate, IsEnclosure-coordinate}
 use Rattle.spec_bodies.proofs.InUse.{used_usable}
 use Rattle.spec_bodies.proofs.Columns.{same_series, span_of, series_of}
-use Rattle.spec_bodies.proofs.Exponents.{AreBetween, between-more, enclosure-between}
+use Rattle.spec_intervals.proofs.EnclosureExponents.{AreBetween, enclosure-between}
+use Rattle.spec_intervals.proofs.Exponents.{between-more}
 use Rattle.spec_bodies.proofs.Series.{IsFraction-value, Holds-value, Holds-step, value-between, step-between, mid_span}
 use Rattle.spec_bodies.proofs.Factors.{factor_is}
 use Rattle.spec_bodies.proofs.Bounds.{between_of, displacement_low, in_frame_low, within_of}

@@ -2,7 +2,6 @@ pub mod Formulas
 pub mod InUse
 pub mod Columns
 pub mod Held
-pub mod Exponents
 pub mod Factors
 pub mod Sizes
 pub mod Series

@@ -8,13 +8,13 @@ use Rattle.spec_ephemeris.specs.Series.{Series}
 use Rattle.spec_motions.specs.Enclosures.{IsSeries, IsSpan}
 use Rattle.spec_motions.proofs.HeldSpans.{Holds-position}
 use Rattle.spec_motions.proofs.HeldChanges.{Holds-velocity, Holds-position_step, Holds-velocity_step}
-use Rattle.spec_expressions.specs.Enclosure.{middle}
-use Rattle.spec_expressions.proofs.Centred.{middle_between}
+use Rattle.spec_intervals.specs.Enclosure.{middle}
+use Rattle.spec_intervals.proofs.Centred.{middle_between}
 use Rattle.spec_bodies.specs.declared.quantity.Quantity.{Quantity}
 use Rattle.spec_bodies.specs.declared.quantity.Quantity.TheVariants.{Position, Velocity}
 use Rattle.spec_bodies.specs.Reading.{column_lowest, column_highest}
 use Rattle.spec_bodies.specs.Views.{exact_value, value_interval, step_interval}
-use Rattle.spec_bodies.proofs.Exponents.{IsBetween}
+use Rattle.spec_intervals.proofs.Exponents.{IsBetween}
 use Rattle.spec_bodies.proofs.Sizes.{position-between, velocity-between, position_step-between, velocity_step-between}
 
 module _ (s : Series) (is : IsSeries s) where

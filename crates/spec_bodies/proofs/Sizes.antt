@@ -21,7 +21,6 @@ use Rattle.spec_intervals.proofs.Exponents.{distance-within, IsBetween, narrow-b
 use Rattle.spec_motions.specs.Sums.{coefficient, times, slope_row, slope_difference_row, sum_low, sum_high}
 use Rattle.spec_motions.specs.Enclosures.{IsSeries, IsSpan, arguments, coefficients_of, position_over, position_step_over, velocity_over, velocity_step_over, position_interval, position_step_interval, velocity_interval, velocity_step_interval, zero_interval as no_change}
 use Rattle.spec_bodies.specs.Reading.{column_lowest, column_highest}
-use Rattle.spec_bodies.proofs.Exponents.{IsBetween, narrow-between, zero-between}
 
 -- ---- ends at most n in size
 pub record AreAtMost (n : ℕ) (e : Ival62) : Type 0 where

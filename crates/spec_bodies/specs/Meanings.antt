@@ -4,9 +4,9 @@ use Rattle.std.specs.Prelude.{◌≡◌, ℕ, ◌+◌, ◌*◌, ◌^◌, ℤ, po
 use borrow.Author.Differences.{up, down}
 use Rattle.spec_text.specs.declared.decimals.Decimal.{Decimal}
 use Rattle.spec_numbers.specs.Numbers.{floor_div, ceil_div}
-use Rattle.spec_intervals.specs.Interval.{Interval, interval, cosine_exponent}
+use Rattle.spec_intervals.specs.Interval.{Interval, interval, cosine_exponent, zero_interval}
 use Rattle.spec_intervals.specs.Fraction.{Fraction, fraction, fraction_add, fraction_sub, fraction_mul, decimal}
-use Rattle.spec_expressions.specs.Enclosure.{Enclosure, zero_interval, constant_of, sum_of, difference_of, product_of}
+use Rattle.spec_intervals.specs.Enclosure.{Enclosure, constant_of, sum_of, difference_of, product_of}
 use Rattle.spec_bodies.specs.declared.factor.Factor.{Factor}
 use Rattle.spec_bodies.specs.declared.factor.Factor.TheVariants.{MoonShare, Cosine, Sine}
 use Rattle.spec_bodies.specs.Coordinates.{Coordinate, nothing, of_column, times, plus, less}

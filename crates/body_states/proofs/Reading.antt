@@ -9,7 +9,7 @@ use Rattle.spec_ephemeris.specs.Header.{column_at, components, is_present_at}
 use Rattle.spec_ephemeris.specs.Ephemeris.{Granule, IsBodyNumber, IsGranuleAt, IsBorder, axis_series}
 use Rattle.spec_ephemeris.proofs.Granules.{one_granule}
 use Rattle.spec_ephemeris.specs.declared.granule.Granule.{Granule as Read}
-use Rattle.spec_motions.specs.Enclosures.{IsSpan}
+use Rattle.spec_motions.specs.Enclosures.{IsSpanOf as IsSpan}
 use Rattle.spec_ephemeris.specs.Granules.{column_or_none, granule_at, series_at, series_of}
 use Rattle.spec_bodies.specs.Reading.{IsReadable}
 use Rattle.spec_bodies.specs.Views.{View, Fits}

@@ -12,7 +12,7 @@ use Rattle.spec_ephemeris.specs.Header.{has_column, is_present, components}
 use Rattle.spec_ephemeris.specs.Ephemeris.{Ephemeris, Granule, IsEphemeris, IsGranuleAt, IsBorder, IsBodyNumber, granule_end, end_of, axis_series}
 use Rattle.spec_ephemeris.proofs.Granules.{one_granule, granules_end as end_by_granules}
 use Rattle.spec_ephemeris.proofs.GranuleNumbers.{numbers_count, numbers_bounded}
-use Rattle.spec_motions.specs.Enclosures.{IsSeries, IsSpan}
+use Rattle.spec_motions.specs.Enclosures.{IsSeries, IsSpanOf as IsSpan}
 use Rattle.spec_ephemeris.specs.Granules.{column_of, granule_length, granule_index, granule_of_index, granule_at, series_at}
 use Rattle.spec_ephemeris.proofs.GranuleAt.{IsIndex, shares, some_length, at_index, from_start, index_of_time, granule_of_time}
 use Rattle.spec_ephemeris.proofs.ColumnRules.{is_column, some_granules}

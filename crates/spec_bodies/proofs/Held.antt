@@ -7,7 +7,7 @@ use Rattle.spec_intervals.specs.Fraction.{IsFraction, Holds, fraction_sub}
 use Rattle.spec_ephemeris.specs.declared.limits.TheConstants.{FIRST_TIME, LAST_TIME, MOST_BLOCKS, LONGEST_BLOCK}
 use Rattle.spec_ephemeris.specs.Series.{Series}
 use Rattle.spec_ephemeris.specs.Ephemeris.{IsBorder}
-use Rattle.spec_motions.specs.Enclosures.{IsSeries, IsSpan}
+use Rattle.spec_motions.specs.Enclosures.{IsSeries, IsSpanOf as IsSpan}
 use Rattle.spec_intervals.specs.Enclosure.{IsEnclosure, Encloses, AllFractions, AllWithin, IsSpan as IsNear, change, middle}
 use Rattle.spec_expressions.specs.Expression.{Leaf, position as position_of, velocity as velocity_of, IsLeaf}
 use Rattle.spec_intervals.proofs.Centred.{middle_between}

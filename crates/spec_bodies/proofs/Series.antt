@@ -5,7 +5,7 @@ use Rattle.std.proofs.lemmas.Int.{ints}
 use Rattle.spec_numbers.proofs.Naturals.{positive_multiple}
 use Rattle.spec_intervals.specs.Fraction.{IsFraction, Holds, fraction_sub}
 use Rattle.spec_ephemeris.specs.Series.{Series}
-use Rattle.spec_motions.specs.Enclosures.{IsSeries, IsSpan}
+use Rattle.spec_motions.specs.Enclosures.{IsSeries, IsSpanOf as IsSpan}
 use Rattle.spec_motions.proofs.HeldSpans.{Holds-position}
 use Rattle.spec_motions.proofs.HeldChanges.{Holds-velocity, Holds-position_step, Holds-velocity_step}
 use Rattle.spec_intervals.specs.Enclosure.{middle}

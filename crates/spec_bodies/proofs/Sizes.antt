@@ -7,7 +7,7 @@ use Rattle.std.proofs.lemmas.List.{length-map}
 use Rattle.std.proofs.lemmas.List.Elements.{All-map, All-weaker, All-head, All-tail, All-drop}
 use lib.Signed.{lt_z}
 use Rattle.spec_text.specs.declared.decimals.Decimal.{Decimal}
-use Rattle.spec_intervals.specs.Interval.{end_limit, least4, greatest4, scale}
+use Rattle.spec_intervals.specs.Interval.{end_limit, least4, greatest4, scale, zero_interval as no_change}
 use Rattle.spec_numbers.specs.Numbers.{floor_div, ceil_div}
 use Rattle.spec_numbers.proofs.Floor.{floor_div-small, ceil_div-small}
 use Rattle.spec_numbers.proofs.Sizes.{sum_size, product_size, least_size, greatest_size}
@@ -19,7 +19,7 @@ use Rattle.spec_ephemeris.specs.Series.{Series, argument_at}
 use Rattle.spec_ephemeris.specs.Ephemeris.{IsBodyNumber}
 use Rattle.spec_intervals.proofs.Exponents.{distance-within, IsBetween, narrow-between, zero-between}
 use Rattle.spec_motions.specs.Sums.{coefficient, times, slope_row, slope_difference_row, sum_low, sum_high}
-use Rattle.spec_motions.specs.Enclosures.{IsSeries, IsSpan, arguments, coefficients_of, position_over, position_step_over, velocity_over, velocity_step_over, position_interval, position_step_interval, velocity_interval, velocity_step_interval, zero_interval as no_change}
+use Rattle.spec_motions.specs.Enclosures.{IsSeries, IsSpanOf as IsSpan, arguments, coefficients_of, position_over, position_step_over, velocity_over, velocity_step_over, position_interval, position_step_interval, velocity_interval, velocity_step_interval}
 use Rattle.spec_bodies.specs.Reading.{column_lowest, column_highest}
 
 -- ---- ends at most n in size

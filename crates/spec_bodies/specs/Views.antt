@@ -47,8 +47,12 @@ target_of v (suc target) = v.second
 abbrev pub columns_of : View → List ℕ
 columns_of v = columns_in_use v.first v.second v.observer
 
+-- a coordinate of a source, and of a target, as the observer sees it in the frame
+abbrev pub framed : View → Source → ℕ → Coordinate
+framed v source = coordinate source v.observer v.frame
+
 abbrev pub coordinate_of : View → ℕ → ℕ → Coordinate
-coordinate_of v target axis = coordinate (target_of v target) v.observer v.frame axis
+coordinate_of v target = framed v (target_of v target)
 
 abbrev pub factor_of : View → Factor → Fraction
 factor_of v = factor v.ephemeris.header.emrat
@@ -56,6 +60,10 @@ factor_of v = factor v.ephemeris.header.emrat
 -- ---- what an ephemeris must have
 abbrev pub HasColumns : Ephemeris → List ℕ → Type 0
 HasColumns e = All (λ number. IsTrue (has_column e.header number))
+
+-- the columns that a body needs are there
+abbrev pub HasBody : Ephemeris → Body → Type 0
+HasBody e body = HasColumns e (needed (source_of body))
 
 -- the columns of a source are there, and are those of bodies
 pub record IsThere (e : Ephemeris) (s : Source) : Type 0 where

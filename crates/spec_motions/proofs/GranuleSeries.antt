@@ -6,7 +6,7 @@ use Rattle.std.proofs.lemmas.List.{length-drop, length-take-le}
 use Rattle.std.proofs.lemmas.List.Elements.{All-drop, All-take}
 use Rattle.spec_ephemeris.specs.Ephemeris.{IsBodyNumber}
 use Rattle.spec_ephemeris.specs.declared.granule.Granule.{Granule}
-use Rattle.spec_motions.specs.Enclosures.{IsSeries, IsSpan}
+use Rattle.spec_motions.specs.Enclosures.{IsSeries, IsSpanOf as IsSpan}
 use Rattle.spec_motions.specs.Granules.{IsEvaluable}
 use Rattle.spec_ephemeris.specs.Granules.{series_of}
 

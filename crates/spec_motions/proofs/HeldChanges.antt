@@ -20,9 +20,10 @@ use Rattle.spec_chebyshev.proofs.Polynomials.{t_one_second, u_one_second}
 use Rattle.spec_chebyshev.proofs.RowLaws.{HoldsIn-u, HoldsIn-q, HoldsIn-r}
 use Rattle.spec_ephemeris.specs.Series.{Series, argument_at, cleared_sum, position}
 use Rattle.spec_ephemeris.specs.Ephemeris.{IsBodyNumber}
-use Rattle.spec_ephemeris.specs.Velocity.{cleared_slope, velocity, change}
+use Rattle.spec_ephemeris.specs.Velocity.{cleared_slope, velocity}
+use Rattle.spec_intervals.specs.Enclosure.{change}
 use Rattle.spec_motions.specs.Sums.{coefficient, times, slope_row, slope_difference_row, sum_low, sum_high}
-use Rattle.spec_motions.specs.Enclosures.{IsSeries, IsSpan, arguments, coefficients_of, position_step_over, velocity_over, velocity_step_over, position_step_interval, velocity_interval, velocity_step_interval}
+use Rattle.spec_motions.specs.Enclosures.{IsSeries, IsSpanOf as IsSpan, arguments, coefficients_of, position_step_over, velocity_over, velocity_step_over, position_step_interval, velocity_interval, velocity_step_interval}
 use Rattle.spec_motions.proofs.ClearedSums.{cleared_sum-change, cleared_sum-times}
 use Rattle.spec_motions.proofs.HeldSums.{HoldsIn-sum}
 use Rattle.spec_motions.proofs.HeldSpans.{IsArgument-at, HoldsIn-at, HoldsIn-denominator}

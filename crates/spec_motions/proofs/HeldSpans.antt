@@ -13,7 +13,7 @@ use Rattle.spec_chebyshev.proofs.Arguments.{HoldsIn-argument}
 use Rattle.spec_chebyshev.proofs.RowLaws.{HoldsIn-t}
 use Rattle.spec_ephemeris.specs.Series.{Series, argument_at, cleared_sum, position}
 use Rattle.spec_motions.specs.Sums.{sum_low, sum_high}
-use Rattle.spec_motions.specs.Enclosures.{IsSeries, IsSpan, arguments, coefficients_of, position_over, position_interval}
+use Rattle.spec_motions.specs.Enclosures.{IsSeries, IsSpanOf as IsSpan, arguments, coefficients_of, position_over, position_interval}
 use Rattle.spec_motions.proofs.ClearedSums.{power_is}
 use Rattle.spec_motions.proofs.HeldSums.{HoldsIn-sum}
 use Rattle.spec_motions.proofs.Same.{Holds-units}

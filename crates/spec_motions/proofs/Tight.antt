@@ -23,7 +23,7 @@ use Rattle.spec_chebyshev.proofs.Arguments.{IsArguments-argument}
 use Rattle.spec_ephemeris.specs.Series.{Series, argument_at, scaled}
 use Rattle.spec_ephemeris.specs.Ephemeris.{IsBodyNumber}
 use Rattle.spec_motions.specs.Sums.{coefficient, sum_low, sum_high}
-use Rattle.spec_motions.specs.Enclosures.{IsSeries, IsSpan, IsTight, spread, arguments, coefficients_of, position_over, position_interval}
+use Rattle.spec_motions.specs.Enclosures.{IsSeries, IsSpanOf as IsSpan, IsTight, spread, arguments, coefficients_of, position_over, position_interval}
 use Rattle.spec_motions.proofs.HeldSums.{HoldsIn-coefficient}
 use Rattle.spec_motions.proofs.Widths.{quotients_gap, thin_quotients, size_of, product_size, product_width, ordered, thin_row}
 

@@ -3,8 +3,9 @@
 ghost use Rattle.std.specs.Prelude.{◌≡◌, ℤ, pos, ◌≤ℤ◌, ◌<ℤ◌};
 ghost use Rattle.spec_intervals.specs.Fraction.{Holds};
 ghost use Rattle.spec_ephemeris.specs.Series.{Series, position};
-ghost use Rattle.spec_ephemeris.specs.Velocity.{velocity, change};
-ghost use Rattle.spec_motions.specs.Enclosures.{IsSeries, IsSpan, IsTight, position_interval, position_step_interval, velocity_interval, velocity_step_interval};
+ghost use Rattle.spec_ephemeris.specs.Velocity.{velocity};
+ghost use Rattle.spec_intervals.specs.Enclosure.{change};
+ghost use Rattle.spec_motions.specs.Enclosures.{IsSeries, IsSpanOf as IsSpan, IsTight, position_interval, position_step_interval, velocity_interval, velocity_step_interval};
 
 /// The interval of positions holds the exact position at each time of the span.
 pub fn positions_hold()

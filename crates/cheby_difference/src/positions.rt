@@ -4,8 +4,8 @@ ghost use Rattle.spec_intervals.specs.Fraction.{Holds};
 ghost use Rattle.spec_chebyshev.specs.Rows.{q_row, entry, IsArguments};
 ghost use Rattle.spec_ephemeris.specs.Series.{position};
 ghost use Rattle.spec_intervals.specs.Enclosure.{change};
-ghost use Rattle.spec_intervals.specs.Interval.{zero_interval};
 ghost use Rattle.spec_motions.specs.Enclosures.{position_step_interval};
+ghost use Rattle.spec_intervals.specs.Interval.{zero_interval};
 ghost use Rattle.spec_motions.specs.Granules.{IsEvaluable};
 ghost use Rattle.spec_ephemeris.specs.Granules.{series_of};
 

@@ -22,7 +22,6 @@ pub fn components(number: usize) -> usize
 
 /// The place after the last one of a column, counted from 1: its start and, from there, the product of its components,
 /// the coefficients of each and the granules of a block.
-#[tactic(auto, using(Rattle::spec_numbers::proofs::Naturals::size_fits))]
 pub fn place_after(number: usize, column: Column) -> u128
     ensures { result ≡ column.start + column_size number column }
 {

@@ -1,4 +1,3 @@
-pub mod Same
 pub mod ClearedSums
 pub mod HeldSums
 pub mod HeldSpans
@@ -7,3 +6,4 @@ pub mod Widths
 pub mod Tight
 pub mod RowSums
 pub mod GranuleSeries
+pub mod EndSizes

@@ -1,11 +1,10 @@
--- The sums of the code's loops, and that they stay within 128 bits.
+-- Sums over rows: one term more, which entries they depend on, the order of their ends and their sizes.
 use Rattle.std.proofs.Common.{◌≡◌, ℕ, zero, suc, ◌+◌, ◌-◌, ◌*◌, ◌^◌, ◌<◌, ◌≤◌, max, arith, refl, sym, ap, ◌∙◌, List, [], ◌∷◌, length, drop, get_or, ℤ, pos, ◌+ℤ◌, ◌*ℤ◌, ◌≤ℤ◌, unsigned_abs, drop-cons, ◌⊎◌, inl, inr}
-use Rattle.std.proofs.lemmas.Int.{ints, unsigned_abs-mul, by_lt_z}
-use Rattle.std.proofs.lemmas.Nat.{mul-le}
+use Rattle.std.proofs.lemmas.Int.{ints, by_lt_z}
 use Rattle.std.specs.Int.{int_min, int_max}
 use Rattle.spec_intervals.specs.Interval.{least4, greatest4}
-use Rattle.spec_numbers.proofs.Ring.{v, ◌⊕◌, ◌⊗◌, ring}
-use Rattle.spec_numbers.proofs.Whole.{mul_comm}
+use Rattle.spec_numbers.proofs.Ring.{v, ◌⊕◌, ring}
+use Rattle.spec_numbers.proofs.Whole.{mul_comm, exchanged}
 use Rattle.std.proofs.lemmas.Bool.{cases_lt}
 use Rattle.spec_chebyshev.specs.Differences.{Within}
 use Rattle.spec_motions.specs.RowSizes.{slope_sizes, entry_size}
@@ -14,7 +13,7 @@ use Rattle.spec_intervals.proofs.Products.{corners_ordered}
 use Rattle.spec_chebyshev.specs.declared.ends.Ival62.{Ival62}
 use Rattle.spec_chebyshev.specs.Rows.{entry, nothing, EndsWithin}
 use Rattle.spec_motions.specs.Sums.{times, multiples, sum_low, sum_high}
-use Rattle.spec_chebyshev.proofs.Arguments.{within_size as size}
+use Rattle.spec_numbers.proofs.Sizes.{product_size}
 
 assoc : (a b c : ℤ) → (a +ℤ b) +ℤ c ≡ a +ℤ (b +ℤ c)
 assoc a b c = ring (a ∷ b ∷ c ∷ []) ((v 0 ⊕ v 1) ⊕ v 2) (v 0 ⊕ (v 1 ⊕ v 2)) tt
@@ -38,38 +37,6 @@ module _ (row : ℕ → Ival62) (cs : List Ival62) (k : ℕ) (sum whole : ℤ) (
       let e : drop k cs ≡ here ∷ drop (suc k) cs = drop-cons cs k nothing below in
       ap (λ (j : ℕ). (sum +ℤ greatest4 here.lo here.hi (row k).lo (row k).hi) +ℤ sum_high row j (drop j cs)) (next k)
       ∙ (assoc sum (greatest4 here.lo here.hi (row k).lo (row k).hi) (sum_high row (suc k) (drop (suc k) cs)) ∙ (rw e at h))
-
--- sizes
-pub sum_size : (a b : ℤ) (m n : ℕ) → unsigned_abs a ≤ m → unsigned_abs b ≤ n → unsigned_abs (a +ℤ b) ≤ m + n
-sum_size a b m n p q = omega (arith, ints)
-
-product_size : (a c : ℤ) (m n : ℕ) → unsigned_abs a ≤ m → unsigned_abs c ≤ n → unsigned_abs (a *ℤ c) ≤ m * n
-product_size a c m n p q = rw (unsigned_abs-mul a c) (mul-le (unsigned_abs a) (unsigned_abs c) m n p q)
-
-min_size : (p q : ℤ) (m : ℕ) → unsigned_abs p ≤ m → unsigned_abs q ≤ m → unsigned_abs (int_min p q) ≤ m
-min_size p q m h g = grind (arith, ints)
-
-max_size : (p q : ℤ) (m : ℕ) → unsigned_abs p ≤ m → unsigned_abs q ≤ m → unsigned_abs (int_max p q) ≤ m
-max_size p q m h g = grind (arith, ints)
-
-module _ (c e : Ival62) (m n : ℕ) (hc : EndsWithin m c) (he : EndsWithin n e) where
-  ll : unsigned_abs (c.lo *ℤ e.lo) ≤ m * n
-  ll = product_size c.lo e.lo m n (size _ _ hc.lo) (size _ _ he.lo)
-
-  lh : unsigned_abs (c.lo *ℤ e.hi) ≤ m * n
-  lh = product_size c.lo e.hi m n (size _ _ hc.lo) (size _ _ he.hi)
-
-  hl : unsigned_abs (c.hi *ℤ e.lo) ≤ m * n
-  hl = product_size c.hi e.lo m n (size _ _ hc.hi) (size _ _ he.lo)
-
-  hh : unsigned_abs (c.hi *ℤ e.hi) ≤ m * n
-  hh = product_size c.hi e.hi m n (size _ _ hc.hi) (size _ _ he.hi)
-
-  pub least_size : unsigned_abs (least4 c.lo c.hi e.lo e.hi) ≤ m * n
-  least_size = min_size (int_min (c.lo *ℤ e.lo) (c.lo *ℤ e.hi)) (int_min (c.hi *ℤ e.lo) (c.hi *ℤ e.hi)) (m * n) (min_size (c.lo *ℤ e.lo) (c.lo *ℤ e.hi) (m * n) ll lh) (min_size (c.hi *ℤ e.lo) (c.hi *ℤ e.hi) (m * n) hl hh)
-
-  pub greatest_size : unsigned_abs (greatest4 c.lo c.hi e.lo e.hi) ≤ m * n
-  greatest_size = max_size (int_max (c.lo *ℤ e.lo) (c.lo *ℤ e.hi)) (int_max (c.hi *ℤ e.lo) (c.hi *ℤ e.hi)) (m * n) (max_size (c.lo *ℤ e.lo) (c.lo *ℤ e.hi) (m * n) ll lh) (max_size (c.hi *ℤ e.lo) (c.hi *ℤ e.hi) (m * n) hl hh)
 
 -- a sum over a row depends on as many of its entries as there are terms
 pub low_same : (r q : ℕ → Ival62) (k : ℕ) (cs : List Ival62) → ((j : ℕ) → j < k + length cs → r j ≡ q j) → sum_low r k cs ≡ sum_low q k cs
@@ -122,18 +89,15 @@ module _ (k : ℕ) (p q : ℤ) where
       (λ h. max_second (pos k *ℤ p) (pos k *ℤ q) (in_order p q (omega (arith, lin))) ∙ ap (λ (z : ℤ). pos k *ℤ z) (sym (max_second p q (omega (arith, lin)))))
       (λ h. max_first (pos k *ℤ p) (pos k *ℤ q) (in_order q p h) ∙ ap (λ (z : ℤ). pos k *ℤ z) (sym (max_first p q h)))
 
-pulled : (a k c : ℤ) → a *ℤ (k *ℤ c) ≡ k *ℤ (a *ℤ c)
-pulled a k' c = ring (a ∷ k' ∷ c ∷ []) (v 0 ⊗ (v 1 ⊗ v 2)) (v 1 ⊗ (v 0 ⊗ v 2)) tt
-
 module _ (k : ℕ) (a b c d : ℤ) where
   least_times : least4 a b (pos k *ℤ c) (pos k *ℤ d) ≡ pos k *ℤ least4 a b c d
   least_times =
-      (λ i. int_min (int_min (pulled a (pos k) c i) (pulled a (pos k) d i)) (int_min (pulled b (pos k) c i) (pulled b (pos k) d i)))
+      (λ i. int_min (int_min (exchanged a (pos k) c i) (exchanged a (pos k) d i)) (int_min (exchanged b (pos k) c i) (exchanged b (pos k) d i)))
       ∙ ((λ i. int_min (min_times k (a *ℤ c) (a *ℤ d) i) (min_times k (b *ℤ c) (b *ℤ d) i)) ∙ min_times k (int_min (a *ℤ c) (a *ℤ d)) (int_min (b *ℤ c) (b *ℤ d)))
 
   greatest_times : greatest4 a b (pos k *ℤ c) (pos k *ℤ d) ≡ pos k *ℤ greatest4 a b c d
   greatest_times =
-      (λ i. int_max (int_max (pulled a (pos k) c i) (pulled a (pos k) d i)) (int_max (pulled b (pos k) c i) (pulled b (pos k) d i)))
+      (λ i. int_max (int_max (exchanged a (pos k) c i) (exchanged a (pos k) d i)) (int_max (exchanged b (pos k) c i) (exchanged b (pos k) d i)))
       ∙ ((λ i. int_max (max_times k (a *ℤ c) (a *ℤ d) i) (max_times k (b *ℤ c) (b *ℤ d) i)) ∙ max_times k (int_max (a *ℤ c) (a *ℤ d)) (int_max (b *ℤ c) (b *ℤ d)))
 
 -- one term more, with the entry before

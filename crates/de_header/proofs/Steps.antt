@@ -7,12 +7,12 @@ use Rattle.std.proofs.lemmas.List.{length-take}
 use Rattle.spec_text.specs.declared.decimals.Decimal.{Decimal}
 use Rattle.spec_sections.specs.declared.rules.BrokenRule.{BrokenRule}
 use Rattle.spec_faults.specs.declared.numbers.TheConstants.{ENDED}
-use Rattle.spec_header.specs.HeaderLines.{names}
+use Rattle.spec_header.specs.HeaderLines.{names, HeaderOrStop as Says}
 use Rattle.spec_header.specs.HeaderRules.{emrat_from, mass_ratio}
 use Rattle.spec_sections.specs.Sections.{FileLine, Stop, ◌>>=◌, at_line, after_words}
 use Rattle.de_header.specs.declared.state.Facts.{Facts}
 use Rattle.de_header.specs.declared.state.Frame.{Frame}
-use Rattle.de_header.specs.Reader.{Says, facts_of, from_column_group, from_names, from_value_group, from_values, from_values_behind, or_else}
+use Rattle.de_header.specs.Reader.{facts_of, from_column_group, from_names, from_value_group, from_values, from_values_behind, or_else}
 use Rattle.de_header.proofs.Runs.{after_names, behind_line, behind_none, names_line, names_none, ratio_here, ratio_later}
 
 or_else_again : (a b c : Option ℕ) → or_else a (or_else b c) ≡ or_else (or_else a b) c

@@ -3,13 +3,13 @@ ghost use Rattle.std.specs.Prelude.{◌≡◌, ◌∷◌, [], ◌+◌, ◌≤◌
 ghost use Rattle.spec_text.specs.declared.decimals.Fault.{Fault};
 ghost use Rattle.spec_header.specs.declared.rules.TheConstants.{MOST_CONSTANTS};
 ghost use Rattle.spec_ephemeris.specs.Header.{IsHeader};
-ghost use Rattle.spec_header.specs.HeaderLines.{header};
+ghost use Rattle.spec_header.specs.HeaderLines.{header, header_of};
 ghost use Rattle.spec_header.specs.HeaderRules.{emrat_from};
 ghost use Rattle.spec_sections.specs.Sections.{FileLine};
 ghost use Rattle.de_header.specs.declared.state.State.TheVariants as states;
 ghost use Rattle.de_header.specs.declared.answers.HeaderError.TheVariants as errors;
 ghost use Rattle.de_header.specs.declared.answers.Step.TheVariants as steps;
-ghost use Rattle.de_header.specs.Reader.{Ends, Fits, IsBehindNames, IsBehindValues, IsNotDone, IsNotWhole, IsOpen, IsRefused, IsWhole, Moves, answer, from_names, from_values_behind, header_of, or_else, says};
+ghost use Rattle.de_header.specs.Reader.{Ends, Fits, IsBehindNames, IsBehindValues, IsNotDone, IsNotWhole, IsOpen, IsRefused, IsWhole, Moves, answer, from_names, from_values_behind, or_else, says};
 ghost use Rattle.spec_sections.specs.FileLines.{line_of};
 
 use crate::answers::{HeaderError, Step};

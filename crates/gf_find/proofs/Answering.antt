@@ -7,11 +7,11 @@ use Rattle.line_search.specs.MercuryX.{is_line}
 use Rattle.spec_sections.specs.Sections.{Stop, ended, breaks, ◌>>=◌}
 use Rattle.spec_blocks.specs.Blocks.{ephemeris}
 use Rattle.spec_files.specs.Texts.{at_end, end_line, fault_at, joined}
-use Rattle.spec_files.specs.Outcome.{broken, outcome, outcome_by}
-use Rattle.spec_files.proofs.Joining.{broken_refused}
+use Rattle.spec_files.specs.Outcome.{first_fault as broken, outcome, outcome_by}
+use Rattle.spec_files.proofs.Joining.{first_fault_refused as broken_refused}
 use Rattle.gf_edges.specs.Edges.{Files, Lacks, file_of}
 use Rattle.gf_find.specs.Answers.{if_line, searched}
-use Rattle.spec_output.specs.Files.{AreFiles, IsFile}
+use Rattle.spec_files.specs.Files.{AreFiles, IsFile}
 use Rattle.spec_faults.specs.declared.numbers.TheConstants.{NOT_BUILT}
 use Rattle.gf_find.specs.declared.reader.LineStop.TheVariants as stops
 use Rattle.gf_find.specs.declared.reader.Reader.{Reader}

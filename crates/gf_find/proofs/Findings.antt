@@ -16,7 +16,7 @@ use Rattle.spec_trees.specs.Placement.{AreInOrder}
 use Rattle.line_search.specs.Search.{IsLeftOpen, IsUp, found_windows, series_end}
 use Rattle.spec_events.proofs.Found.{found_are}
 use Rattle.spec_files.specs.Texts.{at_end, joined}
-use Rattle.spec_files.specs.Outcome.{broken, outcome, outcome_by}
+use Rattle.spec_files.specs.Outcome.{first_fault as broken, outcome, outcome_by}
 use Rattle.gf_edges.specs.Edges.{Files}
 use Rattle.gf_find.specs.Answers.{Asks, if_line, searched}
 use Rattle.spec_faults.specs.declared.numbers.TheConstants.{NOT_BUILT}

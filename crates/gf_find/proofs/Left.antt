@@ -4,7 +4,7 @@ use Rattle.std.specs.Prelude.{IsSome, IsSomeAnd}
 use Rattle.std.specs.Io.KnownBytes.{Consumes}
 use Rattle.std.proofs.Math.Seq.{drop-append_seam}
 use Rattle.gf_edges.specs.Edges.{Files, Opens, file_of}
-use Rattle.spec_output.specs.Files.{HasLeft}
+use Rattle.spec_files.specs.Files.{HasLeft}
 
 left_in : (file before after : Option (List ℕ)) (read : List ℕ) (n : ℕ) → before ≡ file → IsSome before → Consumes before after read → length read ≡ n
     → IsSomeAnd file (λ bytes. after ≡ Some (drop n bytes))

@@ -6,7 +6,7 @@ use Rattle.std.proofs.Math.Seq.{take-suc}
 use Rattle.std.proofs.lemmas.List.{take-append-drop, length-map, length-take, map-append}
 use Rattle.gf_edges.specs.Edges.{Files, Lacks, Rose}
 use Rattle.spec_text.specs.declared.decimals.Fault.{Fault}
-use Rattle.spec_output.specs.Files.{IsFile}
+use Rattle.spec_files.specs.Files.{IsFile}
 use Rattle.gf_find.specs.declared.reader.Fed.{Fed}
 use Rattle.gf_find.specs.declared.reader.Reader.{Reader}
 use Rattle.gf_find.specs.Progress.{BreaksIn, FailsIn, HaveRead}

@@ -4,11 +4,11 @@ use Rattle.std.specs.Prelude.{IsSome, slice_get}
 use Rattle.spec_text.specs.declared.decimals.Fault.{Fault}
 use Rattle.spec_ephemeris.specs.Ephemeris.{Ephemeris}
 use Rattle.spec_sections.specs.Sections.{◌>>=◌}
-use Rattle.spec_files.specs.Outcome.{broken, outcome}
-use Rattle.spec_files.proofs.Joining.{broken_refused}
+use Rattle.spec_files.specs.Outcome.{first_fault as broken, outcome}
+use Rattle.spec_files.proofs.Joining.{first_fault_refused as broken_refused}
 use Rattle.gf_edges.specs.Edges.{Files, Lacks, Rose, file_of}
 use Rattle.gf_find.specs.Answers.{AreTooMany, Asks, FailsToRead, HasFirstFault, RefusesFile, if_line, searched}
-use Rattle.spec_output.specs.Files.{AreFiles, IsFile}
+use Rattle.spec_files.specs.Files.{AreFiles, IsFile}
 use Rattle.spec_requests.specs.Words.{AreAskedFor}
 use Rattle.gf_find.specs.Found.{EndsIn, HasFault, IsNotRead, IsRefused, Reports}
 use Rattle.gf_find.specs.Progress.{BreaksIn, FailsIn}

@@ -11,7 +11,7 @@ use Rattle.spec_sections.specs.Sections.{FileLine}
 use Rattle.spec_files.specs.Texts.{cut_off, fault_at, file_lines, is_too_large}
 use Rattle.spec_faults.specs.declared.numbers.TheConstants.{FILE_TOO_LARGE}
 use Rattle.gf_edges.specs.Edges.{Files, file_of}
-use Rattle.spec_output.specs.Files.{IsFile, IsLongFile}
+use Rattle.spec_files.specs.Files.{IsFile, IsLongFile}
 use Rattle.gf_find.specs.declared.reader.Fed.{Fed}
 use Rattle.gf_find.specs.declared.reader.Reader.{Reader}
 use Rattle.gf_find.specs.Reading.{IsFed, IsPassed, IsReady, IsUnbroken, StopsFile, StopsIn, tells}

@@ -9,7 +9,8 @@ use Rattle.spec_blocks.specs.Blocks.{blocks}
 use Rattle.de_header.specs.declared.answers.HeaderError.TheVariants as errors
 use Rattle.de_header.specs.declared.answers.Step.TheVariants.{More}
 use Rattle.de_header.specs.declared.state.State.{State}
-use Rattle.de_header.specs.Reader.{Ends, IsNotWhole, IsOpen, IsRefused, IsWhole, Says, answer, says}
+use Rattle.de_header.specs.Reader.{Ends, IsNotWhole, IsOpen, IsRefused, IsWhole, answer, says}
+use Rattle.spec_header.specs.HeaderLines.{HeaderOrStop as Says}
 use Rattle.spec_sections.specs.FileLines.{line_of}
 use Rattle.de_header.specs.SameFile.{same_file}
 use Rattle.de_blocks.specs.Reader as block_lines

@@ -6,10 +6,10 @@ use Rattle.spec_header.specs.HeaderLines.{header}
 use Rattle.spec_sections.specs.Sections.{FileLine, Stop, ended, breaks}
 use Rattle.spec_blocks.specs.Blocks.{ephemeris}
 use Rattle.spec_files.specs.Texts.{cut_off, end_line, file_lines, first_cut, first_cut_from, joined, joined_from, or_later, where_whole}
-use Rattle.spec_files.specs.Outcome.{broken, broken_by, outcome, outcome_by}
+use Rattle.spec_files.specs.Outcome.{first_fault as broken, fault_or_cut as broken_by, outcome, outcome_by}
 use Rattle.spec_files.proofs.Joining.{cut_more, joined_more}
 use Rattle.gf_edges.specs.Edges.{Files}
-use Rattle.spec_output.specs.Files.{AreFiles, IsFile}
+use Rattle.spec_files.specs.Files.{AreFiles, IsFile}
 use Rattle.gf_find.specs.declared.reader.Fed.{Fed}
 use Rattle.gf_find.specs.declared.reader.LineStop.TheVariants as stops
 use Rattle.gf_find.specs.declared.reader.Reader.{Reader}

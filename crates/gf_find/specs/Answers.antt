@@ -5,12 +5,12 @@ use Rattle.spec_ephemeris.specs.Ephemeris.{Ephemeris}
 use Rattle.line_search.specs.MercuryX.{is_line}
 use Rattle.spec_sections.specs.Sections.{◌>>=◌}
 use Rattle.spec_files.specs.Texts.{at_end, fault_at}
-use Rattle.spec_files.specs.Outcome.{broken, outcome}
+use Rattle.spec_files.specs.Outcome.{first_fault as broken, outcome}
 use Rattle.spec_files.specs.declared.limits.TheConstants.{MOST_FILES}
 use Rattle.spec_faults.specs.declared.numbers.TheConstants.{TOO_MANY_FILES, NOT_BUILT}
 use Rattle.gf_edges.specs.Edges.{Files, Lacks, Rose}
 use Rattle.spec_requests.specs.Words.{AreAskedFor}
-use Rattle.spec_output.specs.Files.{AreFiles}
+use Rattle.spec_files.specs.Files.{AreFiles}
 
 -- an ephemeris is searched so far only where Mercury's x is a line in it
 abbrev pub if_line : List (List ℕ) → Ephemeris → Result Ephemeris (ℕ × Fault)

@@ -9,7 +9,7 @@ use Rattle.spec_files.specs.Outcome.{outcome}
 use Rattle.spec_files.specs.declared.limits.TheConstants.{MOST_FILES}
 use Rattle.gf_edges.specs.Edges.{Files}
 use Rattle.gf_find.specs.Answers.{AreTooMany, searched}
-use Rattle.spec_output.specs.Files.{AreFiles}
+use Rattle.spec_files.specs.Files.{AreFiles}
 use Rattle.spec_reports.specs.Report.{report}
 use Rattle.gf_find.specs.declared.reading.Stop.{Stop}
 use Rattle.gf_find.specs.declared.reading.Stop.TheVariants as stops

@@ -4,9 +4,9 @@ use Rattle.spec_text.specs.declared.decimals.Fault.{Fault}
 use Rattle.spec_sections.specs.Sections.{FileLine}
 use Rattle.spec_blocks.specs.Blocks.{ephemeris}
 use Rattle.spec_files.specs.Texts.{end_line, first_cut, joined}
-use Rattle.spec_files.specs.Outcome.{broken}
+use Rattle.spec_files.specs.Outcome.{first_fault as broken}
 use Rattle.gf_edges.specs.Edges.{Files, Lacks, Rose}
-use Rattle.spec_output.specs.Files.{AreFiles}
+use Rattle.spec_files.specs.Files.{AreFiles}
 use Rattle.gf_find.specs.declared.reader.Reader.{Reader}
 use Rattle.gf_find.specs.Reading.{IsReady, tells}
 

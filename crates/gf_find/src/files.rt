@@ -3,7 +3,8 @@ ghost use Rattle.std.specs.Prelude.{◌≡◌, ◌⊎◌, ◌+◌, ◌<◌, ◌�
 ghost use Rattle.std.specs.Io.KnownBytes.{Appends, Consumes};
 ghost use Rattle.gf_edges.specs.Edges.{HasCause, Lacks, Rose};
 ghost use Rattle.spec_text.specs.declared.limits.TheConstants.{MOST_TEXT_BYTES};
-ghost use Rattle.spec_output.specs.Files.{AppendsSome, HasLeft, IsFile, IsLongFile, IsTold};
+ghost use Rattle.spec_output.specs.Files.{AppendsSome, IsTold};
+ghost use Rattle.spec_files.specs.Files.{HasLeft, IsFile, IsLongFile};
 ghost use Rattle.gf_find.specs.declared.files.ReadFault.TheVariants.{Memory};
 
 use gf_edges::{Failed, Shelf, Sink};

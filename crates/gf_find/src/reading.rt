@@ -3,7 +3,7 @@ ghost use Rattle.std.specs.Prelude.{◌≡◌, ◌⊎◌, ◌≤◌, ℕ, List, 
 ghost use Rattle.gf_edges.specs.Edges.{Lacks, Rose};
 ghost use Rattle.spec_text.specs.declared.decimals.Fault.{Fault};
 ghost use Rattle.spec_text.specs.declared.limits.TheConstants.{MOST_TEXT_BYTES};
-ghost use Rattle.spec_output.specs.Files.{IsFile};
+ghost use Rattle.spec_files.specs.Files.{IsFile};
 ghost use Rattle.gf_find.specs.Progress.{BreaksIn, FailsIn, HaveRead};
 ghost use Rattle.gf_find.specs.Reading.{IsPassed, IsReady, StopsFile};
 

@@ -7,8 +7,8 @@ use Rattle.spec_intervals.specs.Fraction.{IsFraction, Holds, fraction_sub}
 use Rattle.spec_ephemeris.specs.declared.limits.TheConstants.{FIRST_TIME, LAST_TIME, MOST_BLOCKS, LONGEST_BLOCK}
 use Rattle.spec_ephemeris.specs.Series.{Series}
 use Rattle.spec_ephemeris.specs.Ephemeris.{IsBorder}
-use Rattle.spec_motions.specs.Enclosures.{IsSeries, IsSpanOf as IsSpan}
-use Rattle.spec_intervals.specs.Enclosure.{IsEnclosure, Encloses, AllFractions, AllWithin, IsSpan as IsNear, change, middle}
+use Rattle.spec_motions.specs.Enclosures.{IsSeries, IsSpanOf}
+use Rattle.spec_intervals.specs.Enclosure.{IsEnclosure, Encloses, AllFractions, AllWithin, IsSpan, change, middle}
 use Rattle.spec_expressions.specs.Expression.{Leaf, position as position_of, velocity as velocity_of, IsLeaf}
 use Rattle.spec_intervals.proofs.Centred.{middle_between}
 use Rattle.spec_intervals.proofs.Enclosed.{IsEnclosure-parts}
@@ -31,7 +31,7 @@ use Rattle.spec_bodies.proofs.Bounds.{between_of, displacement_low, in_frame_low
 
 -- ---- a quantity of a series, over times at which the series is the same
 module _ (quantity : Quantity) (a b : ℤ) (ab : a ≤ℤ b) (series : ℤ → Series) (same : (t : ℤ) → a ≤ℤ t → t ≤ℤ b → series t ≡ series a)
-    (is : IsSeries (series a)) (span : IsSpan (series a) a b) where
+    (is : IsSeries (series a)) (span : IsSpanOf (series a) a b) where
   at : (t : ℤ) → a ≤ℤ t → t ≤ℤ b → exact_value quantity (series a) t ≡ exact_value quantity (series t) t
   at t p q = ap (λ s. exact_value quantity s t) (sym (same t p q))
 
@@ -62,7 +62,7 @@ module _ (v : View) (a b : ℤ) (fits : Fits v a b) where
     own_series : IsSeries (series_at v.ephemeris number axis a)
     own_series = series_of v.ephemeris number fits.view.checked usable.there fits.view.block a b fits.from fits.ordered fits.upto (none_of number usable) axis three usable.of_body
 
-    own_span : IsSpan (series_at v.ephemeris number axis a) a b
+    own_span : IsSpanOf (series_at v.ephemeris number axis a) a b
     own_span = span_of v.ephemeris number fits.view.checked usable.there fits.view.block a b fits.from fits.ordered fits.upto (none_of number usable) axis
 
     column_held : (quantity : Quantity) → IsHeld a b (exact_column v quantity) (column_enclosure v quantity a b) number axis
@@ -110,7 +110,7 @@ far start a blocks (pos block) first last few some long from to =
 far start a blocks (negsuc block) first last few some long from to = absurd (omega (arith, ints, some))
 
 module _ (v : View) (a b : ℤ) (fits : Fits v a b) where
-  pub times_span : IsNear a b
+  pub times_span : IsSpan a b
   times_span =
       let checked = fits.view.checked in
       let ab = fits.ordered in

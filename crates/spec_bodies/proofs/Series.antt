@@ -5,7 +5,7 @@ use Rattle.std.proofs.lemmas.Int.{ints}
 use Rattle.spec_numbers.proofs.Naturals.{positive_multiple}
 use Rattle.spec_intervals.specs.Fraction.{IsFraction, Holds, fraction_sub}
 use Rattle.spec_ephemeris.specs.Series.{Series}
-use Rattle.spec_motions.specs.Enclosures.{IsSeries, IsSpanOf as IsSpan}
+use Rattle.spec_motions.specs.Enclosures.{IsSeries, IsSpanOf}
 use Rattle.spec_motions.proofs.HeldSpans.{Holds-position}
 use Rattle.spec_motions.proofs.HeldChanges.{Holds-velocity, Holds-position_step, Holds-velocity_step}
 use Rattle.spec_intervals.specs.Enclosure.{middle}
@@ -22,7 +22,7 @@ module _ (s : Series) (is : IsSeries s) where
   IsFraction-value Position t = positive_multiple (10 ^ 140) s.duration _ (omega arith) is.long
   IsFraction-value Velocity t = positive_multiple (10 ^ 140) s.duration _ (omega arith) is.long
 
-  module _ (a b : ℤ) (span : IsSpan s a b) where
+  module _ (a b : ℤ) (span : IsSpanOf s a b) where
     pub Holds-value : (quantity : Quantity) (t : ℤ) → a ≤ℤ t → t ≤ℤ b → Holds (value_interval quantity s a b) (exact_value quantity s t)
     Holds-value Position t = Holds-position s a b t is span
     Holds-value Velocity t = Holds-velocity s a b is span t
@@ -40,11 +40,11 @@ module _ (s : Series) (is : IsSeries s) where
     step-between Velocity = velocity_step-between s is a b span
 
 -- the middle of a span, or one of its times, is a span of its own
-pub time_span : (s : Series) (a b t : ℤ) → IsSpan s a b → a ≤ℤ t → t ≤ℤ b → IsSpan s t t
+pub time_span : (s : Series) (a b t : ℤ) → IsSpanOf s a b → a ≤ℤ t → t ≤ℤ b → IsSpanOf s t t
 time_span s a b t span after before =
     let first = span.from in
     let last = span.to in
     record { from = omega (arith, ints, first, after); ordered = omega (arith, ints); to = omega (arith, ints, last, before) }
 
-pub mid_span : (s : Series) (a b : ℤ) → IsSpan s a b → IsSpan s (middle a b) (middle a b)
+pub mid_span : (s : Series) (a b : ℤ) → IsSpanOf s a b → IsSpanOf s (middle a b) (middle a b)
 mid_span s a b span = let between = middle_between a b span.ordered in time_span s a b (middle a b) span between.0 between.1

@@ -19,7 +19,7 @@ use Rattle.spec_ephemeris.specs.Series.{Series, argument_at}
 use Rattle.spec_ephemeris.specs.Ephemeris.{IsBodyNumber}
 use Rattle.spec_intervals.proofs.Exponents.{distance-within, IsBetween, narrow-between, zero-between}
 use Rattle.spec_motions.specs.Sums.{coefficient, times, slope_row, slope_difference_row, sum_low, sum_high}
-use Rattle.spec_motions.specs.Enclosures.{IsSeries, IsSpanOf as IsSpan, arguments, coefficients_of, position_over, position_step_over, velocity_over, velocity_step_over, position_interval, position_step_interval, velocity_interval, velocity_step_interval}
+use Rattle.spec_motions.specs.Enclosures.{IsSeries, IsSpanOf, arguments, coefficients_of, position_over, position_step_over, velocity_over, velocity_step_over, position_interval, position_step_interval, velocity_interval, velocity_step_interval}
 use Rattle.spec_bodies.specs.Reading.{column_lowest, column_highest}
 
 -- ---- ends at most n in size
@@ -142,7 +142,7 @@ module _ (s : Series) (is : IsSeries s) where
         let all : length (drop 1 (coefficients_of s)) * (2 ^ 62 * 2 ^ 63) ≤ 32 * (2 ^ 62 * 2 ^ 63) = mul-le (length (drop 1 (coefficients_of s))) (2 ^ 62 * 2 ^ 63) 32 (2 ^ 62 * 2 ^ 63) (omega (arith, left, count)) (omega arith) in
         (omega (arith, size.0, all), omega (arith, size.1, all))
 
-  module _ (a b : ℤ) (span : IsSpan s a b) where
+  module _ (a b : ℤ) (span : IsSpanOf s a b) where
     arguments_are : IsArguments (arguments s a b)
     arguments_are =
         let long = is.long in

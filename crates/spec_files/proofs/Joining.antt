@@ -5,7 +5,7 @@ use Rattle.spec_ephemeris.specs.Ephemeris.{Ephemeris}
 use Rattle.spec_sections.specs.Sections.{FileLine, Stop, ended, breaks}
 use Rattle.spec_blocks.specs.Blocks.{ephemeris}
 use Rattle.spec_files.specs.Texts.{cut_off, file_lines, first_cut_from, joined, joined_from, or_later, where_whole}
-use Rattle.spec_files.specs.Outcome.{broken, outcome, outcome_by}
+use Rattle.spec_files.specs.Outcome.{first_fault as broken, outcome, outcome_by}
 
 -- where a text is cut off, it is the first
 whole_first : (file : ℕ) (cut : Option Fault) (later : Option (ℕ × Fault)) → or_later file cut later ≡ None → (cut ≡ None) × (later ≡ None)

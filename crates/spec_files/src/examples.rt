@@ -1,6 +1,6 @@
 // Worked examples of the definitions.
 ghost use Rattle.std.specs.Prelude.{◌≡◌, [], ◌∷◌, ◌++◌, Err, None, Some, codes, replicate};
-ghost use Rattle.spec_files.specs.Outcome.{broken, outcome};
+ghost use Rattle.spec_files.specs.Outcome.{first_fault as broken, outcome};
 ghost use Rattle.spec_files.specs.Texts.{at_end, first_cut, fault_at, joined};
 
 /// Lines keep their file and their number in it; a text may go on where the one before it ended.

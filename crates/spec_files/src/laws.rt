@@ -2,7 +2,7 @@
 ghost use Rattle.std.specs.Prelude.{◌≡◌, ◌++◌, ◌+◌, List, None, Some, Err, length, ℕ};
 ghost use Rattle.spec_text.specs.declared.decimals.Fault.{Fault};
 ghost use Rattle.spec_files.specs.Texts.{first_cut_from, joined_from};
-ghost use Rattle.spec_files.specs.Outcome.{broken, outcome};
+ghost use Rattle.spec_files.specs.Outcome.{first_fault as broken, outcome};
 
 /// Behind texts that can be read to their ends, the lines and the first cut of later ones follow.
 #[tactic(auto, using(crate::proofs::Joining::joined_more, crate::proofs::Joining::cut_more))]

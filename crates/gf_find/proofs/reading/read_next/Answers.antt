@@ -1,7 +1,7 @@
 use Rattle.std.proofs.Common.{◌≡◌, ◌∙◌, ℕ, Err, List, subst}
 use Rattle.spec_text.specs.declared.decimals.Fault.{Fault}
 use Rattle.spec_files.specs.Texts.{fault_at}
-use Rattle.spec_output.specs.Files.{IsFile}
+use Rattle.spec_files.specs.Files.{IsFile}
 use Rattle.gf_find.specs.Reading.{StopsFile}
 use Rattle.gf_find.proofs.Passing.{long_file}
 use Rattle.gf_find.proofs.reading.read_next.Goals as goal

@@ -1,6 +1,6 @@
 use Rattle.std.proofs.Common.{refl}
 use Rattle.spec_header.specs.HeaderLines.{header}
-use Rattle.spec_files.specs.Outcome.{broken, outcome}
+use Rattle.spec_files.specs.Outcome.{first_fault as broken, outcome}
 use Rattle.spec_files.proofs.examples.texts_are_refused.Goals as goal
 
 pub returns-clause-whole : goal.returns-clause-whole

@@ -8,7 +8,8 @@ use Rattle.spec_header.specs.HeaderLines.{header}
 use Rattle.spec_sections.specs.Sections.{FileLine}
 use Rattle.spec_header.proofs.Accepted.{accepted_header}
 use Rattle.spec_sections.proofs.Holding.{holds_also, Holds, holds_ok, then_any}
-use Rattle.spec_blocks.specs.Blocks.{block, blocks, blocks_behind, ephemeris, no_blocks, with_numbers}
+use Rattle.spec_blocks.specs.Blocks.{block, blocks, blocks_behind, no_blocks, with_numbers}
+use Rattle.spec_files.specs.Lines.{ephemeris}
 use Rattle.spec_blocks.proofs.Numbers.{block_holds}
 use Rattle.spec_blocks.proofs.Blocks.{IsWith, is_with, none_checked}
 

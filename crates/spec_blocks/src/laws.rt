@@ -4,7 +4,8 @@ ghost use Rattle.spec_ephemeris.specs.Header.{IsHeader};
 ghost use Rattle.spec_ephemeris.specs.declared.header.Header.{Header};
 ghost use Rattle.spec_ephemeris.specs.Ephemeris.{Ephemeris, IsEphemeris};
 ghost use Rattle.spec_sections.specs.Sections.{FileLine};
-ghost use Rattle.spec_blocks.specs.Blocks.{blocks, ephemeris};
+ghost use Rattle.spec_blocks.specs.Blocks.{blocks};
+ghost use Rattle.spec_files.specs.Lines.{ephemeris};
 
 /// The blocks of accepted lines are a checked ephemeris of the given header, with one block or more.
 pub fn accepted_blocks_are_an_ephemeris()

@@ -2,11 +2,11 @@
 use Rattle.std.proofs.Common.{◌≡◌, ℕ, List, [], Ok, Err, ap, subst}
 use Rattle.spec_text.specs.declared.decimals.Fault.{Fault}
 use Rattle.spec_ephemeris.specs.Ephemeris.{Ephemeris}
-use Rattle.spec_header.specs.Sections.{FileLine, ended, breaks}
+use Rattle.spec_sections.specs.Sections.{FileLine, ended, breaks}
 use Rattle.de_blocks.specs.declared.answers.BlockError.TheVariants as block_errors
 use Rattle.de_blocks.specs.declared.state.Place.{Place}
 use Rattle.de_blocks.specs.Reader.{Progress, IsRefused, IsNotRefused, Says, answer, at_end, says, says_at}
-use Rattle.de_blocks.proofs.SameFile.{same_file}
+use Rattle.de_blocks.specs.SameFile.{same_file}
 use Rattle.gf_files.specs.declared.errors.FileError.TheVariants as errors
 use Rattle.gf_files.specs.declared.reader.Reader.TheVariants.{Blocks}
 use Rattle.gf_files.specs.Reader.{Finishes, HasNoFault, IsReady, ephemeris_after}

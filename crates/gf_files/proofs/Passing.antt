@@ -5,10 +5,10 @@ use Rattle.std.proofs.lemmas.List.{length-replicate}
 use Rattle.std.specs.Prelude.{IsSomeAnd, replicate}
 use Rattle.spec_text.specs.Lines.{text_lines}
 use Rattle.spec_text.specs.declared.limits.TheConstants.{MOST_TEXT_BYTES}
-use Rattle.spec_header.specs.HeaderLines.{first_long, readable}
-use Rattle.spec_header.specs.Sections.{FileLine}
+use Rattle.spec_sections.specs.FileLines.{first_long, readable}
+use Rattle.spec_sections.specs.Sections.{FileLine}
 use Rattle.spec_files.specs.Texts.{cut_off, fault_at, file_lines}
-use Rattle.spec_files.specs.declared.limits.TheConstants.{FILE_TOO_LARGE}
+use Rattle.spec_faults.specs.declared.numbers.TheConstants.{FILE_TOO_LARGE}
 use Rattle.gf_edges.specs.Edges.{Files, file_of}
 use Rattle.spec_files.specs.Files.{IsLongFile}
 use Rattle.gf_files.specs.declared.reader.Reader.{Reader}

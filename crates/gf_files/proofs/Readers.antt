@@ -4,13 +4,15 @@ use Rattle.spec_text.specs.Lines.{TokenLine}
 use Rattle.spec_text.specs.declared.decimals.Fault.{Fault}
 use Rattle.spec_ephemeris.specs.Ephemeris.{Ephemeris}
 use Rattle.spec_ephemeris.specs.declared.header.Header.{Header}
-use Rattle.spec_header.specs.Sections.{FileLine, Stop, ◌>>=◌}
+use Rattle.spec_sections.specs.Sections.{FileLine, Stop, ◌>>=◌}
 use Rattle.spec_blocks.specs.Blocks.{blocks}
 use Rattle.de_header.specs.declared.answers.HeaderError.TheVariants as header_errors
 use Rattle.de_header.specs.declared.answers.Step.TheVariants.{More}
 use Rattle.de_header.specs.declared.state.State.{State}
-use Rattle.de_header.specs.Reader.{Ends, IsNotWhole, IsOpen, IsRefused, IsWhole, Says, answer, line_of, says}
-use Rattle.de_header.proofs.SameFile.{same_file}
+use Rattle.de_header.specs.Reader.{Ends, IsNotWhole, IsOpen, IsRefused, IsWhole, answer, says}
+use Rattle.spec_header.specs.HeaderLines.{HeaderOrStop as Says}
+use Rattle.spec_sections.specs.FileLines.{line_of}
+use Rattle.de_header.specs.SameFile.{same_file}
 use Rattle.de_blocks.specs.Reader as block_lines
 use Rattle.gf_files.specs.declared.errors.FileError.TheVariants as errors
 use Rattle.gf_files.specs.declared.reader.Reader.{Reader}

@@ -4,7 +4,7 @@ use Rattle.spec_text.specs.Lines.{TokenLine, lines}
 use Rattle.spec_text.specs.declared.decimals.Fault.{Fault}
 use Rattle.spec_ephemeris.specs.Ephemeris.{Ephemeris}
 use Rattle.spec_header.specs.HeaderLines.{header}
-use Rattle.spec_header.specs.Sections.{FileLine, Stop, ended, breaks, ◌>>=◌}
+use Rattle.spec_sections.specs.Sections.{FileLine, Stop, ended, breaks, ◌>>=◌}
 use Rattle.spec_blocks.specs.Blocks.{blocks}
 use Rattle.spec_files.specs.Texts.{cut_off, fault_at, file_lines}
 use Rattle.de_header.specs.declared.state.State.{State}

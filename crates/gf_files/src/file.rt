@@ -6,11 +6,11 @@ ghost use Rattle.spec_text.specs.declared.decimals.Fault.{Fault};
 ghost use Rattle.spec_text.specs.declared.limits.TheConstants.{MOST_TEXT_BYTES};
 ghost use Rattle.spec_files.specs.Files.{HasLeft, IsFile, IsLongFile};
 ghost use Rattle.spec_files.specs.Texts.{fault_at};
-ghost use Rattle.spec_files.specs.declared.limits.TheConstants.{FILE_TOO_LARGE};
+ghost use Rattle.spec_faults.specs.declared.numbers.TheConstants.{FILE_TOO_LARGE};
 
 use crate::errors::FileError;
 use gf_edges::{Failed, Shelf};
-use spec_files::FILE_TOO_LARGE;
+use spec_faults::FILE_TOO_LARGE;
 use spec_text::{Fault, MOST_TEXT_BYTES};
 use std::alloc::Global;
 

@@ -11,7 +11,8 @@ use crate::file::read_file;
 use crate::reader::{Fed, Reader, end, feed, first_reader};
 use eph_model::Ephemeris;
 use gf_edges::Shelf;
-use spec_files::{MOST_FILES, TOO_MANY_FILES};
+use spec_files::MOST_FILES;
+use spec_faults::TOO_MANY_FILES;
 use spec_text::Fault;
 use std::alloc::Global;
 

@@ -1,8 +1,8 @@
 // The lines of several files, one file after the other: to the header's reader, and then to that of the blocks.
 ghost use Rattle.std.specs.Prelude.{◌≡◌, ◌≤◌, ◌∷◌, [], List, ℕ, length};
 ghost use Rattle.spec_text.specs.declared.limits.TheConstants.{MOST_TEXT_BYTES};
-ghost use Rattle.spec_header.specs.Sections.{FileLine};
-ghost use Rattle.spec_blocks.specs.Blocks.{ephemeris};
+ghost use Rattle.spec_sections.specs.Sections.{FileLine};
+ghost use Rattle.spec_files.specs.Lines.{ephemeris};
 ghost use Rattle.de_header.specs.Reader as headers;
 ghost use Rattle.gf_files.specs.declared.reader.Reader.TheVariants as readers;
 ghost use Rattle.gf_files.specs.Reader.{Feeds, Finishes, IsOfHeader, IsReady, Moves, TookLine, WantsMore, ephemeris_after};
@@ -12,7 +12,7 @@ use de_blocks::{BlockError, BlockReader};
 use de_header::{HeaderError, HeaderReader, Step};
 use de_text::{Line, LineStep, Tokens};
 use eph_model::Ephemeris;
-use spec_header::LINE_TOO_LONG;
+use spec_faults::LINE_TOO_LONG;
 use spec_text::Fault;
 use std::alloc::Global;
 

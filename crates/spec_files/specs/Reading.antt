@@ -4,7 +4,8 @@ use Rattle.std.specs.Prelude.{◌≡◌, ◌⊎◌, ℕ, ◌+◌, ◌<◌, ◌�
 use Rattle.spec_text.specs.declared.decimals.Fault.{Fault}
 use Rattle.spec_ephemeris.specs.Ephemeris.{Ephemeris}
 use Rattle.gf_edges.specs.Edges.{Files, Lacks, Rose}
-use Rattle.spec_files.specs.declared.limits.TheConstants.{MOST_FILES, TOO_MANY_FILES}
+use Rattle.spec_files.specs.declared.limits.TheConstants.{MOST_FILES}
+use Rattle.spec_faults.specs.declared.numbers.TheConstants.{TOO_MANY_FILES}
 use Rattle.spec_files.specs.Files.{AreFiles}
 use Rattle.spec_files.specs.Outcome.{first_fault, outcome}
 use Rattle.spec_files.specs.Texts.{end_line, fault_at}

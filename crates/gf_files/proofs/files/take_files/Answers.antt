@@ -1,6 +1,6 @@
 use Rattle.std.proofs.Common.{◌≡◌, ◌∙◌, ◌≤◌, ◌⊎◌, Err, Option, arith, length, refl, subst}
 use Rattle.std.proofs.lemmas.List.{length-map}
-use Rattle.std.specs.Prelude.{string_bytes}
+use Rattle.std.specs.Prelude.{string_bytes, ℕ}
 use Rattle.gf_edges.specs.Edges.{Files, Lacks, Rose}
 use Rattle.spec_files.specs.Reading.{HasFirstFault, IsNotRead}
 use Rattle.gf_files.specs.Errors.{in_file}
@@ -10,7 +10,6 @@ use Rattle.gf_files.proofs.InFile.{fault_of_file, not_read_of_file}
 use Rattle.gf_files.proofs.NameLists.{faults_at, name_at, not_read_at, takes_one, texts_of}
 use Rattle.gf_files.proofs.Runs.{none_read}
 use Rattle.gf_files.proofs.files.take_files.Goals as goal
-use Rattle.std.specs.Prelude.{ℕ}
 
 pub loop-file-init : goal.loop-file-init
 loop-file-init g c = record {

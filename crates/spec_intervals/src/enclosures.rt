@@ -5,7 +5,7 @@ ghost use Rattle.spec_numbers.specs.Numbers.{minus};
 ghost use Rattle.spec_intervals.specs.Interval.{Interval, interval, zero_interval, narrow};
 ghost use Rattle.spec_intervals.specs.Fraction.{Fraction, IsFraction, Holds, fraction, fraction_add, fraction_sub, fraction_mul, fraction_signed_square};
 ghost use Rattle.spec_intervals.specs.Enclosure.{Enclosure, triple, IsEnclosure, PartsHold, AllFractions, IsSpan, AllWithin, middle, offsets, change, centred, enclosure, constant_of, sum_of, difference_of, product_of, signed_square_of};
-ghost use Rattle.spec_intervals.specs.Examples.{before_zero};
+ghost use Rattle.spec_intervals.specs.Examples.{before_zero, square_before_zero};
 
 /// What is reached from the middle by steps holds each value, and so does what it shares with a plain range.
 pub fn parts_are_enclosed()
@@ -71,11 +71,11 @@ pub fn times_before_zero()
 
 /// The signed square of the time from -3 to -1 goes from -9 to -1, and changes by 5 and by 3.
 pub fn signed_squares_before_zero()
-    ensures enclosed { signed_square_of (minus 3) (minus 1) before_zero ≡ triple
+    ensures enclosed { square_before_zero ≡ triple
         (interval (minus 4) (minus 4) (pos 0)) (interval (minus 9) (minus 1) (pos 0))
         (interval (pos 0) (pos 6) (pos 0)) }
-    ensures first { Holds (signed_square_of (minus 3) (minus 1) before_zero).range (fraction (minus 9) 1) }
-    ensures last { Holds (signed_square_of (minus 3) (minus 1) before_zero).range (fraction (minus 1) 1) }
-    ensures first_change { Holds (signed_square_of (minus 3) (minus 1) before_zero).step (fraction (pos 5) 1) }
-    ensures second_change { Holds (signed_square_of (minus 3) (minus 1) before_zero).step (fraction (pos 3) 1) }
+    ensures first { Holds square_before_zero.range (fraction (minus 9) 1) }
+    ensures last { Holds square_before_zero.range (fraction (minus 1) 1) }
+    ensures first_change { Holds square_before_zero.step (fraction (pos 5) 1) }
+    ensures second_change { Holds square_before_zero.step (fraction (pos 3) 1) }
 {}

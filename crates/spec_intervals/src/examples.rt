@@ -19,7 +19,8 @@ pub fn quotients()
 pub fn narrowing()
     ensures at_limit { narrow (pos (2 ^ 62)) (pos (2 ^ 62)) (pos 3)
         ≡ interval (pos (2 ^ 62)) (pos (2 ^ 62)) (pos 3) }
-    ensures one_past { narrow (pos 1) (pos (2 ^ 62 + 1)) (pos 39) ≡ interval (pos 0) (pos (2 ^ 61 + 1)) (pos 40) }
+    ensures one_past { narrow (pos 1) (pos (2 ^ 62 + 1)) (pos 39)
+        ≡ interval (pos 0) (pos (2 ^ 61 + 1)) (pos 40) }
     ensures both_past { narrow (minus (2 ^ 63)) (pos (2 ^ 63 + 1)) (pos 5)
         ≡ interval (minus (2 ^ 61)) (pos (2 ^ 61 + 1)) (pos 7) }
     ensures zero_has_exponent_zero { narrow (pos 0) (pos 0) (pos 9) ≡ zero_interval }
@@ -33,25 +34,25 @@ pub fn sums()
         ≡ interval (pos (2 ^ 60 + 3)) (pos (2 ^ 61 + 5)) (pos 0) }
     ensures distance_61 { sum (interval (pos 3) (pos 5) (pos 0)) (interval (pos 1) (pos 2) (pos 61))
         ≡ interval (pos (2 ^ 60 + 1)) (pos (2 ^ 61 + 3)) (pos 1) }
-    ensures zero_first { sum (interval (pos 0) (pos 0) distance_exponent) (interval (pos 1) (pos 2) (pos 4))
-        ≡ interval (pos 1) (pos 2) (pos 4) }
+    ensures zero_first { sum (interval (pos 0) (pos 0) distance_exponent)
+        (interval (pos 1) (pos 2) (pos 4)) ≡ interval (pos 1) (pos 2) (pos 4) }
 {}
 
 /// The least product is that of the two ends of unlike sign, the greatest that of the two low ends.
 pub fn products()
-    ensures unlike_signs { product (interval (minus 3) (pos 5) (pos 0)) (interval (minus 7) (pos 2) (pos 1))
-        ≡ interval (minus 35) (pos 21) (pos 1) }
+    ensures unlike_signs { product (interval (minus 3) (pos 5) (pos 0))
+        (interval (minus 7) (pos 2) (pos 1)) ≡ interval (minus 35) (pos 21) (pos 1) }
     ensures by_zero { product zero_interval (interval (pos 4) (pos 5) (pos 6)) ≡ zero_interval }
 {}
 
 /// Subtracting turns the second interval round 0, also where the first is 0 alone.
 pub fn differences()
-    ensures near { difference (interval (minus 3) (pos 5) (pos 0)) (interval (pos 1) (pos 2) (pos 4))
-        ≡ interval (minus 35) (minus 11) (pos 0) }
+    ensures near { difference (interval (minus 3) (pos 5) (pos 0))
+        (interval (pos 1) (pos 2) (pos 4)) ≡ interval (minus 35) (minus 11) (pos 0) }
     ensures from_zero { difference zero_interval (interval (pos 1) (pos 2) (pos 4))
         ≡ interval (minus 2) (minus 1) (pos 4) }
-    ensures zero_off { difference (interval (pos 1) (pos 2) (pos 4)) (interval (pos 0) (pos 0) distance_exponent)
-        ≡ interval (pos 1) (pos 2) (pos 4) }
+    ensures zero_off { difference (interval (pos 1) (pos 2) (pos 4))
+        (interval (pos 0) (pos 0) distance_exponent) ≡ interval (pos 1) (pos 2) (pos 4) }
 {}
 
 /// The join reaches from the lesser low end to the greater high end, the meet the other way round.
@@ -62,8 +63,8 @@ pub fn joins_and_meets()
         ≡ interval (pos 1) (pos (2 ^ 60)) (pos 1) }
     ensures meet { meet (interval (pos 1) (pos 9) (pos 0)) (interval (pos 2) (pos 6) (pos 1))
         ≡ interval (pos 4) (pos 9) (pos 0) }
-    ensures meet_at_one_number { meet (interval (pos 4) (pos 4) (pos 0)) (interval (pos 1) (pos 1) (pos 2))
-        ≡ interval (pos 4) (pos 4) (pos 0) }
+    ensures meet_at_one_number { meet (interval (pos 4) (pos 4) (pos 0))
+        (interval (pos 1) (pos 1) (pos 2)) ≡ interval (pos 4) (pos 4) (pos 0) }
 {}
 
 /// The signed square keeps the sign: from -3/2 to 5/2 it reaches from -9/4 to 25/4.
@@ -75,8 +76,8 @@ pub fn signed_squares()
 
 /// Two quarters of 7 and of 8, and of -7: 3.5 is rounded to 3 below, -3.5 to -4 below and to -3 above.
 pub fn scaled()
-    ensures above_zero { scale (pos 7) (pos 8) (pos 0) 4 ≡ interval (pos 3) (pos 4) (pos 0) }
-    ensures below_zero { scale (minus 7) (minus 7) (pos 0) 4 ≡ interval (minus 4) (minus 3) (pos 0) }
+    ensures above { scale (pos 7) (pos 8) (pos 0) 4 ≡ interval (pos 3) (pos 4) (pos 0) }
+    ensures below { scale (minus 7) (minus 7) (pos 0) 4 ≡ interval (minus 4) (minus 3) (pos 0) }
     ensures fraction { fraction_scale (fraction (pos 7) 1) 4 ≡ fraction (pos 14) 4 }
 {}
 

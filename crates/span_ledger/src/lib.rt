@@ -3,4 +3,4 @@
 //! beside their definitions and are passed on here.
 #![tactic(auto)]
 
-pub use spec_events::{Book, Booked};
+pub use spec_trees::{Book, Booked};

@@ -1,0 +1,33 @@
+use Rattle.std.proofs.Common.{◌≡◌, ◌<◌, length, Some, arith}
+use Rattle.std.proofs.lemmas.Option.{slice_get_read}
+use Rattle.spec_pool.specs.declared.step.Step.TheVariants.{TakeKept}
+use Rattle.spec_pool.specs.Pool.{state, TakesKept}
+use Rattle.spec_pool.specs.Tiling.{Conserves}
+use Rattle.spec_pool.proofs.Keeping.{step_conserves}
+use Rattle.pool_core.proofs.Stepping.{hand_valid, goes_ok, refused_on, keeps}
+use Rattle.pool_core.proofs.pool.Pool.take_kept.Goals as goal
+
+pub invariant_of-self : goal.invariant_of-self
+invariant_of-self g c =
+    let t = g.J.Judge.rules c.self.inside.judge in
+    let root = c.self.inside.root in
+    let ws = c.self.inside.workers.items in
+    let es = c.self.inside.entered.items in
+    let at = slice_get_read ws (length ws) c.args.w c.index_mut-worker.result.now (λ i. length ws) (omega arith) c.index_mut-worker.ensures.value in
+    keeps TakesKept ws es c.args.w c.index_mut-worker.result.now at (Conserves t root)
+    (λ s' goes. step_conserves t c.rules_are_sound.ensures root (state ws es) (TakeKept c.args.w) s' goes c.self.invariant)
+    c.self.invariant c.take_kept.new.self c.take_kept.result c.take_kept.ensures.ok c.take_kept.ensures.unchanged
+
+pub returns-clause-ok : goal.returns-clause-ok
+returns-clause-ok g c =
+    let t = g.J.Judge.rules c.self.inside.judge in
+    let ws = c.self.inside.workers.items in
+    let at = slice_get_read ws (length ws) c.args.w c.index_mut-worker.result.now (λ i. length ws) (omega arith) c.index_mut-worker.ensures.value in
+    rw (← c.self.view_is) (goes_ok TakesKept ws c.self.inside.entered.items c.args.w c.index_mut-worker.result.now at c.take_kept.new.self c.take_kept.result c.take_kept.ensures.ok)
+
+pub returns-clause-refused : goal.returns-clause-refused
+returns-clause-refused g c =
+    let t = g.J.Judge.rules c.self.inside.judge in
+    let ws = c.self.inside.workers.items in
+    let at = slice_get_read ws (length ws) c.args.w c.index_mut-worker.result.now (λ i. length ws) (omega arith) c.index_mut-worker.ensures.value in
+    rw (← c.self.view_is) (refused_on TakesKept ws c.self.inside.entered.items c.args.w c.index_mut-worker.result.now at c.take_kept.result c.take_kept.ensures.refused)

@@ -1,0 +1,9 @@
+//! A pool of workers, without threads.
+#![tactic(auto)]
+
+mod marks;
+mod pool;
+mod worker;
+
+pub use pool::Pool;
+pub use worker::StepError;

@@ -1,0 +1,225 @@
+// The pool of all workers.
+ghost use Rattle.std.specs.Prelude.{◌≡◌, ◌≤◌, List, [], ◌∷◌, ◌++◌, IsTrue, ◌↔◌, OnOk, OnErr, IfOk, IfErr};
+ghost use Rattle.spec_trees.specs.Tree.{IsValid};
+ghost use Rattle.spec_pool.specs.Pool.{Holding, Steals, Steps, Refuses, opening};
+ghost use Rattle.spec_pool.specs.Tiling.{IsDone};
+ghost use Rattle.spec_pool.specs.declared.step.Step.TheVariants.{Push, Keep, Pop, TakeKept, Steal, Enter};
+ghost use Rattle.pool_core.specs.Views.{seen};
+ghost use Rattle.pool_core.specs.declared.worker.StepError.TheVariants.{Refused, Memory};
+
+use crate::worker::{StepError, Worker};
+use halving::{Judge, Leaf, Node, rules_are_sound};
+use spec_pool::{Memory, Step};
+use std::alloc::Global;
+use std::marker::Model;
+
+/// A pool of workers that share the nodes of a root. Contracts see the rules of its judge, its root and its state.
+#[derive(Drop)]
+pub struct Pool<J: Judge> {
+    judge: J,
+    root: Node,
+    workers: Vec<Worker>,
+    entered: Vec<Leaf>,
+}
+
+impl<J: Judge> Model for Pool<J> {
+    ghost use Rattle.spec_pool.specs.Pool.{state};
+    ghost use Rattle.spec_pool.specs.Tiling.{Conserves};
+    ghost use Rattle.pool_core.specs.Views.{Seen, seen};
+
+    ghost Value = { Seen J };
+
+    ghost view = { λ p. seen p.judge p.root (state p.workers.items p.entered.items) };
+
+    ghost invariant = { λ p. Conserves (J.rules p.judge) p.root (state p.workers.items p.entered.items) };
+}
+
+// The workers at the start: the first has the root in its hand, the others have nothing.
+fn opening_workers(alloc: Global, root: Node, workers: u32) -> Result<Vec<Worker>, Memory>
+    requires { 1 ≤ workers }
+    ensures { IfOk result (λ made. made.items ≡ (opening root workers).workers) }
+{
+    let mut made = Vec::new(alloc);
+    put(&mut made, Worker::new(alloc, Some(root)))?;
+    for _ in 1..workers {
+        put(&mut made, Worker::new(alloc, None))?;
+    }
+    Ok(made)
+}
+
+impl<J: Judge + Drop> Pool<J> {
+    /// A pool of 1 to 64 workers, with a valid root in the hand of worker 0.
+    pub fn new(alloc: Global, judge: J, root: Node, workers: u32) -> Result<Pool<J>, Memory>
+        requires workers { (1 ≤ workers) × (workers ≤ 64) }
+        requires root { IsValid (J.rules judge) root }
+        ensures { IfOk result (λ pool. pool ≡ seen judge root (opening root workers)) }
+    {
+        let workers = opening_workers(alloc, root, workers)?;
+        Ok(Pool {
+            judge,
+            root,
+            workers,
+            entered: Vec::new(alloc),
+        })
+    }
+}
+
+impl<J: Judge> Pool<J> {
+    /// Takes a step: `Refused` where its condition is false or a number is past the workers. After a refusal the pool
+    /// is unchanged, and so it is where there was no memory for the step.
+    pub fn step(&mut self, step: Step) -> Result<(), StepError>
+        ensures ok { OnOk result (Steps (J.rules self.old.judge) self.old.state step self.new.state) }
+        ensures refused { IfErr result (λ e. e ≡ Refused → Refuses (J.rules self.old.judge) self.old.state step) }
+        ensures unchanged { OnErr result (self.new ≡ self.old) }
+        ensures same { self.new ≡ record self.old { state = self.new.state } }
+    {
+        match step {
+            Step::Push { w } => self.push(w),
+            Step::Keep { w } => self.keep(w),
+            Step::Pop { w } => self.pop(w),
+            Step::TakeKept { w } => self.take_kept(w),
+            Step::Steal { w, from } => self.steal(w, from),
+            Step::Enter { w } => self.enter(w),
+        }
+    }
+
+    /// The leaves that are entered, in order of arrival.
+    pub fn entered(&self) -> &[Leaf]
+        ensures { result.now ≡ self.now.state.entered }
+    {
+        self.entered.as_slice()
+    }
+
+    /// Whether all hands, deques and kept stacks are empty.
+    pub fn is_done(&self) -> bool
+        ensures { IsTrue result ↔ IsDone self.now.state }
+    {
+        self.workers.iter().all(|worker| worker.is_empty())
+    }
+
+    // Worker `w` splits its node and puts the right part on its deque.
+    fn push(&mut self, w: u32) -> Result<(), StepError>
+        ensures ok { OnOk result (Steps (J.rules self.old.judge) self.old.state (Push w) self.new.state) }
+        ensures refused { IfErr result (λ e. e ≡ Refused → Refuses (J.rules self.old.judge) self.old.state (Push w)) }
+        ensures unchanged { OnErr result (self.new ≡ self.old) }
+        ensures same { self.new ≡ record self.old { state = self.new.state } }
+    {
+        rules_are_sound(&self.judge);
+        let at = w as usize;
+        if at >= self.workers.len() {
+            return Err(StepError::Refused);
+        }
+        let worker = &mut self.workers[at];
+        worker.push(&self.judge)
+    }
+
+    // Worker `w` splits its node and puts the right part on its kept stack.
+    fn keep(&mut self, w: u32) -> Result<(), StepError>
+        ensures ok { OnOk result (Steps (J.rules self.old.judge) self.old.state (Keep w) self.new.state) }
+        ensures refused { IfErr result (λ e. e ≡ Refused → Refuses (J.rules self.old.judge) self.old.state (Keep w)) }
+        ensures unchanged { OnErr result (self.new ≡ self.old) }
+        ensures same { self.new ≡ record self.old { state = self.new.state } }
+    {
+        rules_are_sound(&self.judge);
+        let at = w as usize;
+        if at >= self.workers.len() {
+            return Err(StepError::Refused);
+        }
+        let worker = &mut self.workers[at];
+        worker.keep(&self.judge)
+    }
+
+    // Worker `w` takes the front of its deque.
+    fn pop(&mut self, w: u32) -> Result<(), StepError>
+        ensures ok { OnOk result (Steps (J.rules self.old.judge) self.old.state (Pop w) self.new.state) }
+        ensures refused { IfErr result (λ e. e ≡ Refused → Refuses (J.rules self.old.judge) self.old.state (Pop w)) }
+        ensures unchanged { OnErr result (self.new ≡ self.old) }
+        ensures same { self.new ≡ record self.old { state = self.new.state } }
+    {
+        rules_are_sound(&self.judge);
+        let at = w as usize;
+        if at >= self.workers.len() {
+            return Err(StepError::Refused);
+        }
+        let worker = &mut self.workers[at];
+        worker.pop()
+    }
+
+    // Worker `w` takes the top of its kept stack.
+    fn take_kept(&mut self, w: u32) -> Result<(), StepError>
+        ensures ok { OnOk result (Steps (J.rules self.old.judge) self.old.state (TakeKept w) self.new.state) }
+        ensures refused { IfErr result (λ e. e ≡ Refused → Refuses (J.rules self.old.judge) self.old.state (TakeKept w)) }
+        ensures unchanged { OnErr result (self.new ≡ self.old) }
+        ensures same { self.new ≡ record self.old { state = self.new.state } }
+    {
+        rules_are_sound(&self.judge);
+        let at = w as usize;
+        if at >= self.workers.len() {
+            return Err(StepError::Refused);
+        }
+        let worker = &mut self.workers[at];
+        worker.take_kept()
+    }
+
+    // Worker `w` takes the front of the deque of worker `from`.
+    fn steal(&mut self, w: u32, from: u32) -> Result<(), StepError>
+        ensures ok { OnOk result (Steps (J.rules self.old.judge) self.old.state (Steal w from) self.new.state) }
+        ensures refused { IfErr result (λ e. e ≡ Refused → Refuses (J.rules self.old.judge) self.old.state (Steal w from)) }
+        ensures unchanged { OnErr result (self.new ≡ self.old) }
+        ensures same { self.new ≡ record self.old { state = self.new.state } }
+    {
+        rules_are_sound(&self.judge);
+        move_front(&mut self.workers, w as usize, from as usize)
+    }
+
+    // Worker `w` enters the leaf in its hand.
+    fn enter(&mut self, w: u32) -> Result<(), StepError>
+        ensures ok { OnOk result (Steps (J.rules self.old.judge) self.old.state (Enter w) self.new.state) }
+        ensures refused { IfErr result (λ e. e ≡ Refused → Refuses (J.rules self.old.judge) self.old.state (Enter w)) }
+        ensures unchanged { OnErr result (self.new ≡ self.old) }
+        ensures same { self.new ≡ record self.old { state = self.new.state } }
+    {
+        rules_are_sound(&self.judge);
+        let at = w as usize;
+        if at >= self.workers.len() {
+            return Err(StepError::Refused);
+        }
+        let Some(leaf) = self.workers[at].leaf(&self.judge) else {
+            return Err(StepError::Refused);
+        };
+        let Ok(()) = self.entered.push(leaf) else {
+            return Err(StepError::Memory);
+        };
+        self.workers[at].let_go();
+        Ok(())
+    }
+}
+
+// The front of one worker's deque comes into another's empty hand.
+fn move_front(workers: &mut [Worker], at: usize, from: usize) -> Result<(), StepError>
+    ensures ok { OnOk result (Steals at from workers.old workers.new) }
+    ensures refused { OnErr result ((ys : List Holding) → ¬ Steals at from workers.old ys) }
+    ensures unchanged { OnErr result (workers.new ≡ workers.old) }
+{
+    if at == from || at >= workers.len() || from >= workers.len() {
+        return Err(StepError::Refused);
+    }
+    if !workers[at].is_free() {
+        return Err(StepError::Refused);
+    }
+    let Some(node) = workers[from].give_up() else {
+        return Err(StepError::Refused);
+    };
+    workers[at].get(node);
+    Ok(())
+}
+
+// Puts a worker at the end.
+fn put(made: &mut Vec<Worker>, worker: Worker) -> Result<(), Memory>
+    ensures { OnOk result (made.new.items ≡ made.old.items ++ worker ∷ []) }
+{
+    match made.push(worker) {
+        Ok(()) => Ok(()),
+        Err(_) => Err(Memory),
+    }
+}

@@ -1,0 +1,171 @@
+// What one worker holds, and what each step does to it.
+ghost use Rattle.std.specs.Prelude.{◌≡◌, [], ◌∷◌, ◌++◌, Some, None, IsTrue, ◌↔◌, OnOk, OnErr, IfOk, IfErr, IfSome, IfNone, OnSome};
+ghost use Rattle.spec_trees.specs.declared.tree.Node.{Node};
+ghost use Rattle.spec_trees.specs.declared.tree.Leaf.{Leaf};
+ghost use Rattle.spec_trees.specs.Tree.{IsValid};
+ghost use Rattle.spec_pool.specs.Pool.{Holding, holding, nothing, Pushes, Keeps, Pops, TakesKept, Gets, GivesUp, Enters};
+ghost use Rattle.pool_core.specs.Views.{HoldsValid, empty_handed};
+ghost use Rattle.pool_core.specs.declared.worker.StepError.TheVariants.{Refused, Memory};
+
+use crate::marks::mark;
+use halving::{Judge, Leaf, Node, Verdict};
+use std::alloc::Global;
+use std::collections::VecDeque;
+use std::marker::Model;
+
+/// Why a step was not taken: its condition is false, or there was no memory. The pool is then as before.
+#[derive(Debug, Drop, PartialEq, Eq)]
+pub enum StepError {
+    Refused,
+    Memory,
+}
+
+#[derive(Drop)]
+pub struct Worker {
+    hand: Option<Node>,
+    deque: VecDeque<Node>,
+    kept: Vec<Node>,
+}
+
+impl Model for Worker {
+    ghost use Rattle.spec_pool.specs.Pool.{Holding, holding};
+
+    ghost Value = { Holding };
+
+    ghost view = { λ w. holding w.hand w.deque.items w.kept.items };
+}
+
+impl Worker {
+    pub fn new(alloc: Global, hand: Option<Node>) -> Worker
+        ensures { result ≡ holding hand [] [] }
+    {
+        Worker {
+            hand,
+            deque: VecDeque::new(alloc),
+            kept: Vec::new(alloc),
+        }
+    }
+
+    /// Whether it holds no node.
+    pub fn is_empty(&self) -> bool
+        ensures { IsTrue result ↔ (self.now ≡ nothing) }
+    {
+        self.hand.is_none() && self.deque.is_empty() && self.kept.is_empty()
+    }
+
+    /// Splits the node in the hand and puts its right part at the back of the deque.
+    pub fn push<J: Judge>(&mut self, judge: &J) -> Result<(), StepError>
+        requires { HoldsValid (J.rules judge.now) self.old }
+        ensures ok { OnOk result (Pushes (J.rules judge.now) self.old self.new) }
+        ensures refused { IfErr result (λ e. e ≡ Refused → (y : Holding) → ¬ Pushes (J.rules judge.now) self.old y) }
+        ensures unchanged { OnErr result (self.new ≡ self.old) }
+    {
+        let Some(node) = self.hand else {
+            return Err(StepError::Refused);
+        };
+        let Verdict::Split = judge.judge(node) else {
+            return Err(StepError::Refused);
+        };
+        let (left, right) = judge.cut(node);
+        if self.deque.push_back(right).is_err() {
+            return Err(StepError::Memory);
+        }
+        self.hand = Some(left);
+        Ok(())
+    }
+
+    /// Splits the node in the hand and puts its right part on top of the kept stack.
+    pub fn keep<J: Judge>(&mut self, judge: &J) -> Result<(), StepError>
+        requires { HoldsValid (J.rules judge.now) self.old }
+        ensures ok { OnOk result (Keeps (J.rules judge.now) self.old self.new) }
+        ensures refused { IfErr result (λ e. e ≡ Refused → (y : Holding) → ¬ Keeps (J.rules judge.now) self.old y) }
+        ensures unchanged { OnErr result (self.new ≡ self.old) }
+    {
+        let Some(node) = self.hand else {
+            return Err(StepError::Refused);
+        };
+        let Verdict::Split = judge.judge(node) else {
+            return Err(StepError::Refused);
+        };
+        let (left, right) = judge.cut(node);
+        if self.kept.push(right).is_err() {
+            return Err(StepError::Memory);
+        }
+        self.hand = Some(left);
+        Ok(())
+    }
+
+    /// Takes the front of the deque into the empty hand.
+    pub fn pop(&mut self) -> Result<(), StepError>
+        ensures ok { OnOk result (Pops self.old self.new) }
+        ensures refused { OnErr result ((y : Holding) → ¬ Pops self.old y) }
+        ensures unchanged { OnErr result (self.new ≡ self.old) }
+    {
+        if self.hand.is_some() {
+            return Err(StepError::Refused);
+        }
+        let Some(node) = self.deque.pop_front() else {
+            return Err(StepError::Refused);
+        };
+        self.hand = Some(node);
+        Ok(())
+    }
+
+    /// Takes the top of the kept stack into the empty hand.
+    pub fn take_kept(&mut self) -> Result<(), StepError>
+        ensures ok { OnOk result (TakesKept self.old self.new) }
+        ensures refused { OnErr result ((y : Holding) → ¬ TakesKept self.old y) }
+        ensures unchanged { OnErr result (self.new ≡ self.old) }
+    {
+        if self.hand.is_some() {
+            return Err(StepError::Refused);
+        }
+        let Some(node) = self.kept.pop() else {
+            return Err(StepError::Refused);
+        };
+        self.hand = Some(node);
+        Ok(())
+    }
+
+    /// Whether its hand is empty.
+    pub fn is_free(&self) -> bool
+        ensures { IsTrue result ↔ (self.now.hand ≡ None) }
+    {
+        self.hand.is_none()
+    }
+
+    /// Hands out the front of the deque.
+    pub fn give_up(&mut self) -> Option<Node>
+        ensures some { IfSome result (λ n. GivesUp n self.old self.new) }
+        ensures none { IfNone result ((n : Node) (y : Holding) → ¬ GivesUp n self.old y) }
+        ensures unchanged { IfNone result (self.new ≡ self.old) }
+    {
+        self.deque.pop_front()
+    }
+
+    /// Takes a node into the empty hand.
+    pub fn get(&mut self, node: Node)
+        requires { self.old.hand ≡ None }
+        ensures { Gets node self.old self.new }
+    {
+        self.hand = Some(node);
+    }
+
+    /// The leaf that the node in the hand is, if it isn't to be split.
+    pub fn leaf<J: Judge>(&self, judge: &J) -> Option<Leaf>
+        requires { HoldsValid (J.rules judge.now) self.now }
+        ensures some { IfSome result (λ l. Enters (J.rules judge.now) l self.now (empty_handed self.now)) }
+        ensures none { IfNone result ((l : Leaf) (y : Holding) → ¬ Enters (J.rules judge.now) l self.now y) }
+    {
+        let node = self.hand?;
+        let mark = mark(judge.judge(node))?;
+        Some(Leaf { node, mark })
+    }
+
+    /// Empties the hand.
+    pub fn let_go(&mut self)
+        ensures { self.new ≡ empty_handed self.old }
+    {
+        self.hand = None;
+    }
+}

@@ -1,0 +1,33 @@
+-- The opening state is the root alone.
+use Rattle.std.proofs.Common.{◌≡◌, ℕ, zero, suc, ◌+◌, ◌-◌, List, [], ◌∷◌, ◌++◌, Some, None, replicate, slice_get, slice_set, refl, arith}
+use Rattle.std.proofs.lemmas.List.{append-nil}
+use Rattle.std.proofs.lemmas.List.Elements.{All-nil, All-cons}
+use Rattle.spec_trees.specs.declared.tree.Node.{Node}
+use Rattle.spec_trees.specs.Tree.{Rules, IsValid, IsSound, IsLeaf, leaves}
+use Rattle.spec_pool.specs.Pool.{Holding, holding, nothing, State, opening}
+use Rattle.spec_pool.specs.Tiling.{Tiles, Conserves}
+use Rattle.spec_pool.proofs.Weights.{weigh}
+use Rattle.spec_pool.proofs.Moving.{weigh_holding, weigh_all}
+use Rattle.spec_pool.proofs.Keeping.{from_weights}
+
+idle_weigh : (h : Node → ℕ) (n : ℕ) → weigh (weigh_holding h) (replicate n nothing) ≡ 0
+idle_weigh h zero = refl
+idle_weigh h (suc n) = omega (arith, idle_weigh h n)
+
+opening_weigh : (h : Node → ℕ) (root : Node) (n : ℕ) → weigh_all h (opening root n) ≡ weigh h (root ∷ [])
+opening_weigh h root n = omega (arith, idle_weigh h (n - 1))
+
+root_tiles : (t : Rules) (root : Node) → IsValid t root → Tiles t root (root ∷ [])
+root_tiles t root v = record {
+  valid = All-cons (IsValid t) root [] v (All-nil (IsValid t));
+  follow = (refl, v.inside, refl);
+  joined = append-nil (leaves t root);
+}
+
+pub opening_conserves : (t : Rules) (root : Node) (n : ℕ) → IsValid t root → Conserves t root (opening root n)
+opening_conserves t root n v = record {
+  ordered = root ∷ [];
+  same = from_weights (opening root n) (root ∷ []) (λ h. opening_weigh h root n);
+  tiles = root_tiles t root v;
+  entered = All-nil (IsLeaf t);
+}

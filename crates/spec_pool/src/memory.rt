@@ -1,0 +1,14 @@
+// Out of memory.
+use std::alloc::AllocError;
+use thiserror::Error;
+
+/// Memory ran out.
+#[derive(Debug, Drop, PartialEq, Eq, Error)]
+#[error("out of memory")]
+pub struct Memory;
+
+impl From<AllocError> for Memory {
+    fn from(_: AllocError) -> Self {
+        Memory
+    }
+}

@@ -20,7 +20,7 @@ use Rattle.spec_text.specs.declared.limits.TheConstants.{LAST_JULIAN_DAY}
 use Rattle.spec_text.proofs.Spans.{seconds_few}
 use Rattle.spec_sections.specs.Sections.{◌>>=◌}
 use Rattle.spec_sections.proofs.Holding.{Holds, holds_ok}
-use Rattle.spec_header.proofs.ColumnsMeet.{get_take}
+use Rattle.spec_numbers.proofs.Lists.{get_take}
 use Rattle.spec_blocks.specs.BlockRules.{coefficient_rule, follows, has_length, is_passed_over, is_place_of, is_place_of_body, is_too_large, time_by, time_of}
 use Rattle.spec_blocks.specs.Blocks.{accept, begun, no_blocks, with_numbers}
 use Rattle.spec_blocks.specs.Read.{AreRead}

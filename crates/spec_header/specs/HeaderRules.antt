@@ -9,7 +9,7 @@ use Rattle.spec_text.specs.declared.decimals.Decimal.{Decimal}
 use Rattle.spec_text.specs.declared.decimals.NumberFault.{NumberFault}
 use Rattle.spec_ephemeris.specs.declared.limits.TheConstants.{FEWEST_NUMBERS, MOST_NUMBERS, LEAST_MASS_RATIO, GREATEST_MASS_RATIO}
 use Rattle.spec_faults.specs.declared.numbers.TheConstants.{FIRST_LINE, GROUP_MISSING, JD_NOT_WHOLE_SECOND, COUNT_MISMATCH, EMRAT_MISSING, EMRAT_RANGE, LIMIT, HEADER_NUMBER}
-use Rattle.spec_header.specs.declared.rules.TheConstants.{MOST_BLOCK_DAYS, MOST_CONSTANTS}
+use Rattle.spec_header.specs.declared.limits.TheConstants.{MOST_BLOCK_DAYS, MOST_CONSTANTS}
 use Rattle.spec_sections.specs.declared.rules.BrokenRule.{BrokenRule}
 use Rattle.spec_sections.specs.Sections.{◌>>=◌, broken, is_word}
 

@@ -19,7 +19,7 @@ use crate::words::{
     find_emrat, first_line, group, is_group, mass_ratio, name_count, span, value_count,
 };
 use de_text::Line;
-use spec_ephemeris::{Column, Columns, Header};
+use spec_ephemeris::{COLUMNS, Column, Columns, Header};
 use spec_header::{BlockShape, Facts};
 use spec_faults::ENDED;
 use spec_sections::BrokenRule;
@@ -326,7 +326,7 @@ fn answer_of(state: State) -> Result<Step, HeaderError>
 }
 
 // The header, unless there is no memory for its columns.
-fn whole(alloc: Global, facts: Facts, columns: [Column; 13]) -> Result<Header, HeaderError>
+fn whole(alloc: Global, facts: Facts, columns: [Column; COLUMNS]) -> Result<Header, HeaderError>
     ensures { (end : ℕ) → Ends end (Ok (header_of facts columns, [])) result }
 {
     match Vec::from_array(alloc, columns) {

@@ -6,7 +6,9 @@ ghost use Rattle.spec_header.specs.ColumnRules.{column_rule, columns_of, columns
 use de_text::Line;
 use eph_model::{is_present, place_after};
 use spec_ephemeris::{COLUMNS, Column, FIRST_PLACE, MOST_COEFFICIENTS};
-use spec_faults::{COEFFICIENT_COUNT, COLUMN_COUNT, COLUMN_PLACE, GRANULE_NOT_WHOLE, HEADER_NUMBER};
+use spec_faults::{
+    COEFFICIENT_COUNT, COLUMN_COUNT, COLUMN_PLACE, GRANULE_NOT_WHOLE, HEADER_NUMBER,
+};
 use spec_sections::BrokenRule;
 
 // The whole numbers of a line, one for each column.
@@ -27,7 +29,11 @@ pub(crate) fn row(line: &Line<'_>) -> Result<[u32; COLUMNS], BrokenRule>
 }
 
 // The columns of three rows.
-fn columns_of(starts: &[u32; COLUMNS], coefs: &[u32; COLUMNS], granules: &[u32; COLUMNS]) -> [Column; COLUMNS]
+fn columns_of(
+    starts: &[u32; COLUMNS],
+    coefs: &[u32; COLUMNS],
+    granules: &[u32; COLUMNS],
+) -> [Column; COLUMNS]
     ensures { result ≡ columns_of starts.now coefs.now granules.now }
 {
     let mut columns = [Column {
@@ -48,7 +54,8 @@ fn columns_of(starts: &[u32; COLUMNS], coefs: &[u32; COLUMNS], granules: &[u32; 
 fn overlap(i: usize, column: Column, j: usize, other: Column) -> bool
     ensures { result ≡ overlap i column j other }
 {
-    u128::from(column.start) < place_after(j, other) && u128::from(other.start) < place_after(i, column)
+    u128::from(column.start) < place_after(j, other)
+        && u128::from(other.start) < place_after(i, column)
 }
 
 // Whether a present column among the earlier ones has a place of column `i`.
@@ -74,7 +81,7 @@ fn is_out_of_place(ncoeff: u32, earlier: &[Column], i: usize, column: Column) ->
         || overlaps_any(i, column, earlier)
 }
 
-// The rules of a column behind the earlier ones.
+// The rules of a column after the earlier ones.
 fn check_column(
     ncoeff: u32,
     seconds: u32,

@@ -54,7 +54,7 @@ pub enum State {
         left: u32,
         before: u32,
     },
-    /// Values behind that of `EMRAT`.
+    /// Values after that of `EMRAT`.
     ValuesAfter {
         facts: Facts,
         left: u32,

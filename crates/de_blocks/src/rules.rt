@@ -1,7 +1,7 @@
 // The rules of the words of blocks.
 ghost use Rattle.std.specs.Prelude.{◌≡◌, ◌≤◌, ◌<◌, ◌+◌, ◌*◌, ◌^◌, IfOk, Ok, length, min, slice_get};
 ghost use Rattle.spec_ephemeris.specs.Ephemeris.{IsStart};
-ghost use Rattle.spec_blocks.specs.BlockRules.{coefficient_rule, first_date, follows, has_length, is_behind_gap, is_passed_over, is_place, is_place_of, is_place_of_body, is_too_large, number_rule, record_line, second_date, time_of, trailing_rule, value_rule};
+ghost use Rattle.spec_blocks.specs.BlockRules.{coefficient_rule, first_date, follows, has_length, is_after_gap, is_skipped, is_place, is_place_of, is_place_of_body, is_too_large, number_rule, record_line, second_date, time_of, trailing_rule, value_rule};
 
 use de_text::{Line, read_decimal, seconds_of_julian_date, size_over, size_under};
 use eph_model::{Ephemeris, is_present, place_after};
@@ -39,15 +39,15 @@ pub(crate) fn time_of(date: Decimal) -> Result<i64, BrokenRule>
     }
 }
 
-// A block that ends no later than the last one is passed over.
-pub(crate) fn is_passed_over(before: &Ephemeris, end: i64) -> bool
-    ensures { result ≡ is_passed_over before.now end }
+// A block that ends no later than the last one is skipped.
+pub(crate) fn is_skipped(before: &Ephemeris, end: i64) -> bool
+    ensures { result ≡ is_skipped before.now end }
 {
     0 < before.blocks() && end <= before.end()
 }
 
-fn is_behind_gap(before: &Ephemeris, start: i64) -> bool
-    ensures { result ≡ is_behind_gap before.now start }
+fn is_after_gap(before: &Ephemeris, start: i64) -> bool
+    ensures { result ≡ is_after_gap before.now start }
 {
     0 < before.blocks() && (start < before.end() || before.end() < start)
 }
@@ -55,9 +55,9 @@ fn is_behind_gap(before: &Ephemeris, start: i64) -> bool
 fn follows(before: &Ephemeris, start: i64, end: i64) -> Result<(), BrokenRule>
     ensures { result ≡ follows before.now start end }
 {
-    if is_passed_over(before, end) {
+    if is_skipped(before, end) {
         Ok(())
-    } else if is_behind_gap(before, start) {
+    } else if is_after_gap(before, start) {
         Err(BrokenRule::new(BLOCK_GAP, 0))
     } else if before.blocks() < MOST_BLOCKS {
         Ok(())
@@ -141,7 +141,7 @@ fn coefficient_rule(columns: &[Column], place: u32, d: Decimal) -> Result<(), Br
     }
 }
 
-// The rule of a number behind the numbers of its block.
+// The rule of a number after the numbers of its block.
 fn value_rule(before: &Ephemeris, numbers: &[Decimal], d: Decimal) -> Result<(), BrokenRule>
     requires { length numbers.now < before.now.header.ncoeff }
     ensures { result ≡ value_rule before.now numbers.now d }
@@ -157,7 +157,7 @@ fn value_rule(before: &Ephemeris, numbers: &[Decimal], d: Decimal) -> Result<(),
     }
 }
 
-// A word as the number behind the numbers of its block.
+// A word as the number after the numbers of its block.
 pub(crate) fn number_rule(
     before: &Ephemeris,
     numbers: &[Decimal],
@@ -175,7 +175,7 @@ pub(crate) fn number_rule(
     }
 }
 
-// A word behind the last number of a block.
+// A word after the last number of a block.
 pub(crate) fn trailing_rule(word: &[u8]) -> Result<(), BrokenRule>
     ensures { result ≡ trailing_rule word.now }
 {

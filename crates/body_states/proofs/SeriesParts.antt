@@ -6,7 +6,7 @@ use Rattle.spec_intervals.specs.Interval.{Interval}
 use Rattle.spec_intervals.specs.Fraction.{IsFraction, Overlaps}
 use Rattle.spec_ephemeris.specs.Series.{Series, position}
 use Rattle.spec_ephemeris.specs.Velocity.{velocity}
-use Rattle.spec_motions.specs.Enclosures.{IsSeries, IsSpan, position_interval, position_step_interval, velocity_interval, velocity_step_interval}
+use Rattle.spec_motions.specs.Enclosures.{IsSeries, IsSpanOf as IsSpan, position_interval, position_step_interval, velocity_interval, velocity_step_interval}
 use Rattle.spec_motions.proofs.HeldSpans.{Holds-position}
 use Rattle.spec_motions.proofs.HeldChanges.{Holds-velocity, Holds-position_step, Holds-velocity_step}
 use Rattle.spec_intervals.specs.Enclosure.{IsWithin, middle, centred}

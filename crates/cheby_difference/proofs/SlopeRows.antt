@@ -54,6 +54,3 @@ module _ (x : Ival62) (h : IsArguments x) (row : List Ival62) (n : ℕ) (few : n
 
   pub IsSlopeRow-r : ((k : ℕ) → suc k < n → entry row k ≡ r_row x k) → IsSlopeRow row n
   IsSlopeRow-r is = slope_row row n (r_row x) (λ k. r_size k * 2 ^ 44) few is (r_within x h) (EndsWithin-r x h) (below _ (2062368 * 2 ^ 104) r_total (omega arith))
-
-pub doubles_ordered : (a b : ℤ) → a ≤ℤ b → (pos 2 *ℤ a) ≤ℤ (pos 2 *ℤ b)
-doubles_ordered a b h = omega (arith, ints, h)

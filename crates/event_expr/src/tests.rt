@@ -5,7 +5,6 @@ ghost use Rattle.spec_intervals.specs.Interval.{narrow};
 ghost use Rattle.spec_intervals.specs.Enclosure.{IsSpan, middle, time_limit};
 ghost use Rattle.spec_expressions.specs.Expression.{HasLeaves};
 ghost use Rattle.spec_expressions.specs.declared.expressions.Expr.{Expr};
-ghost use Rattle.event_expr.specs.States.{parts};
 
 use crate::rules::middle;
 use crate::{Expr, ExprFault, Formula, States, enclose};
@@ -27,7 +26,7 @@ fn whole(lo: i64, hi: i64) -> Ival
 
 fn times(a: i64, b: i64) -> Enclosure
     requires { IsSpan a b }
-    ensures { parts result ≡ record { mid = narrow (middle a b) (middle a b) (pos 0); range = narrow a b (pos 0); step = narrow (pos 1) (pos 1) (pos 0) } }
+    ensures { result ≡ record { mid = narrow (middle a b) (middle a b) (pos 0); range = narrow a b (pos 0); step = narrow (pos 1) (pos 1) (pos 0) } }
 {
     let m = middle(a, b);
     Enclosure {

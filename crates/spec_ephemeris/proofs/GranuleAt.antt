@@ -8,6 +8,7 @@ use Rattle.spec_ephemeris.specs.Series.{to_nat}
 use Rattle.spec_ephemeris.specs.Header.{IsColumn, IsShared, has_column}
 use Rattle.spec_ephemeris.specs.Ephemeris.{Ephemeris, IsEphemeris, IsGranule, IsGranuleAt, end_of}
 use Rattle.spec_ephemeris.specs.Granules.{column_of, granule_length, granule_index, granule_of_index, granule_at}
+use Rattle.spec_numbers.proofs.Naturals.{positive_product}
 use Rattle.spec_ephemeris.proofs.ColumnRules.{is_column, some_granules}
 use Rattle.spec_ephemeris.proofs.Granules.{granules_end, some_length as length_of_some}
 
@@ -69,9 +70,6 @@ at_index e number index checked there below =
       coefs = refl;
     }
 
-some_of_all : (blocks granules : ℕ) → 0 < blocks → 0 < granules → 0 < blocks * granules
-some_of_all blocks granules one other = let all : 1 * 1 ≤ blocks * granules = mul-le 1 1 blocks granules one other in omega (arith, all)
-
 pub from_start : (start t : ℤ) → start ≤ℤ t → t ≡ start +ℤ pos (to_nat (t -ℤ start))
 from_start start t from = let same : t -ℤ start ≡ pos (to_nat (t -ℤ start)) = whole (t -ℤ start) (omega (arith, ints, from)) in omega (arith, ints, same)
   where
@@ -86,7 +84,7 @@ index_of_time e number t checked there blocks from upto =
     let some : 0 < (column_of e number).granules = some_granules (column_of e number) e.header number (is_column e number there) in
     let last = granules_end e (granule_length e (column_of e number)) (column_of e number).granules (shares e number checked there) in
     let is = from_start e.start t from in
-    index_is (to_nat (t -ℤ e.start)) (granule_length e (column_of e number)) (e.blocks * (column_of e number).granules) (some_length e number checked there) (some_of_all e.blocks (column_of e number).granules blocks some) (omega (arith, ints, last, is, upto))
+    index_is (to_nat (t -ℤ e.start)) (granule_length e (column_of e number)) (e.blocks * (column_of e number).granules) (some_length e number checked there) (positive_product e.blocks (column_of e number).granules blocks some) (omega (arith, ints, last, is, upto))
 
 upto_end : (e : Ephemeris) (t : ℤ) (n i l count : ℕ) → end_of e ≡ e.start +ℤ pos (count * l) → t ≡ e.start +ℤ pos n
     → (n < i * l + l) ⊎ ((n ≡ i * l + l) × (i + 1 ≡ count))

@@ -1,11 +1,11 @@
 -- The checked ephemeris, the granule of a column at a time, and the borders of granules.
 -- Times are seconds of TDB since J2000.
-use Rattle.std.specs.Prelude.{◌≡◌, ◌⊎◌, ℕ, suc, ◌+◌, ◌-◌, ◌*◌, ◌<◌, ◌≤◌, ◌==◌, Bool, false, ◌&&◌, List, [], ◌∷◌, ◌++◌, length, take, drop, slice_get, Contains, Option, None, Some, ℤ, pos, ◌+ℤ◌, ◌-ℤ◌, ◌*ℤ◌, ◌≤ℤ◌, ◌<ℤ◌, unsigned_abs}
+use Rattle.std.specs.Prelude.{◌≡◌, ◌⊎◌, ℕ, suc, ◌+◌, ◌-◌, ◌*◌, ◌<◌, ◌≤◌, List, [], ◌++◌, length, take, drop, slice_get, Contains, Option, None, Some, ℤ, pos, ◌+ℤ◌, ◌-ℤ◌, ◌*ℤ◌, ◌≤ℤ◌, ◌<ℤ◌, unsigned_abs}
 use Rattle.spec_text.specs.declared.decimals.Decimal.{Decimal}
 use Rattle.spec_ephemeris.specs.declared.header.Column.{Column}
 use Rattle.spec_ephemeris.specs.declared.header.Header.{Header}
-use Rattle.spec_ephemeris.specs.declared.limits.TheConstants.{BODY_COLUMNS, MOST_BLOCKS, SHORTEST_BLOCK, LONGEST_BLOCK, FIRST_TIME, LAST_TIME}
-use Rattle.spec_ephemeris.specs.Header.{IsColumn, IsHeader, Takes, column_at, granule_size}
+use Rattle.spec_ephemeris.specs.declared.limits.TheConstants.{BODY_COLUMNS, MOST_BLOCKS, FIRST_TIME, LAST_TIME}
+use Rattle.spec_ephemeris.specs.Header.{IsColumn, IsHeader, Takes, granule_size}
 use Rattle.spec_ephemeris.specs.Series.{Series, IsCoefficient, IsInUnits}
 
 -- the header, the time at which the first block begins, and the blocks: their count, and the numbers of one after the

@@ -1,6 +1,7 @@
--- The granule of a column at a time, as a function, and the series of an axis of it.
-use Rattle.std.specs.Prelude.{ℕ, ◌-◌, ◌*◌, ◌/◌, ◌%◌, ◌<◌, min, IsTrue, Option, None, Some, ℤ, pos, ◌+ℤ◌, ◌-ℤ◌, ◌≤ℤ◌}
+-- The granule of a column at a time, as a function, the series of an axis of it, and a granule that is read.
+use Rattle.std.specs.Prelude.{ℕ, ◌-◌, ◌*◌, ◌/◌, ◌%◌, ◌<◌, min, IsTrue, Option, None, Some, ℤ, pos, unsigned_abs, ◌+ℤ◌, ◌-ℤ◌, ◌≤ℤ◌}
 use Rattle.spec_ephemeris.specs.declared.header.Column.{Column}
+use Rattle.spec_ephemeris.specs.declared.granule.Granule.{Granule as ReadGranule}
 use Rattle.spec_ephemeris.specs.Header.{column_at, has_column}
 use Rattle.spec_ephemeris.specs.Series.{Series, to_nat}
 use Rattle.spec_ephemeris.specs.Ephemeris.{Ephemeris, IsEphemeris, Granule, granule_numbers, block_numbers, axis_series, end_of}
@@ -43,3 +44,11 @@ pub record HasTime (e : Ephemeris) (number : ℕ) (t : ℤ) : Type 0 where
   pub some : 0 < e.blocks
   pub from : e.start ≤ℤ t
   pub upto : t ≤ℤ end_of e
+
+-- ---- a granule that is read
+abbrev pub granule_of : ReadGranule → Granule
+granule_of g = record { start = g.start; duration = unsigned_abs g.seconds; coefs = g.coefs.now }
+
+-- the coefficients of one axis, counted from 0, over the time of the granule
+abbrev pub series_of : ReadGranule → ℕ → Series
+series_of g axis = axis_series (granule_of g) g.n axis

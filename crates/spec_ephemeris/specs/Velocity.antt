@@ -1,7 +1,7 @@
 -- The exact velocity of a series at each time: the derivative of its position, in km per second.
 -- The derivative of T_k is k U_(k-1), and one second is a step of 2 / duration in the argument.
-use Rattle.std.specs.Prelude.{ℕ, zero, suc, ◌-◌, ◌*◌, ◌^◌, length, drop, ℤ, pos, ◌+ℤ◌, ◌*ℤ◌}
-use Rattle.spec_intervals.specs.Fraction.{Fraction, fraction_sub}
+use Rattle.std.specs.Prelude.{ℕ, zero, suc, ◌-◌, ◌*◌, ◌^◌, length, drop, ℤ, pos, ◌*ℤ◌}
+use Rattle.spec_intervals.specs.Fraction.{Fraction}
 use Rattle.spec_chebyshev.specs.Polynomials.{cleared_u}
 use Rattle.spec_ephemeris.specs.Series.{Series, argument_at, cleared_sum}
 
@@ -16,7 +16,3 @@ velocity s t = record {
   numerator = pos 2 *ℤ cleared_sum (cleared_slope (argument_at s t) (pos s.duration)) (pos s.duration) 1 (drop 1 s.coefficients);
   denominator = 10 ^ 140 * s.duration ^ (length s.coefficients - 1);
 }
-
--- by how much a quantity changes from a time to the next
-abbrev pub change : (ℤ → Fraction) → ℤ → Fraction
-change exact t = fraction_sub (exact (t +ℤ pos 1)) (exact t)

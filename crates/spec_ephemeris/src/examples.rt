@@ -3,7 +3,8 @@ ghost use Rattle.std.specs.Prelude.{◌≡◌, ◌+◌, ◌-◌, ◌^◌, true, 
 ghost use Rattle.spec_ephemeris.specs.Header.{IsHeader, column_size, has_column};
 ghost use Rattle.spec_ephemeris.specs.Ephemeris.{IsPreferred};
 ghost use Rattle.spec_ephemeris.specs.Series.{IsCoefficient, argument_at, position};
-ghost use Rattle.spec_ephemeris.specs.Examples.{IsKm, whole, growing_x, parabola, column, de405, four_columns, overlapping};
+ghost use Rattle.spec_ephemeris.specs.Velocity.{velocity};
+ghost use Rattle.spec_ephemeris.specs.Examples.{IsWhole, whole, growing_x, parabola, column, de405, four_columns, overlapping};
 
 /// The argument of a block of 2,764,800 seconds runs from minus its length to its length, two for each second.
 pub fn arguments()

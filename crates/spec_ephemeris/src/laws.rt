@@ -1,5 +1,6 @@
 // Laws of granules and borders.
 ghost use Rattle.std.specs.Prelude.{◌≡◌, List, Option, ℕ, ℤ};
+ghost use Rattle.spec_ephemeris.specs.Granules.{HasTime, granule_at};
 ghost use Rattle.spec_ephemeris.specs.Ephemeris.{Ephemeris, Granule, IsEphemeris, IsGranuleAt, IsNearestBorder};
 
 /// A time of the ephemeris has one granule of a column.

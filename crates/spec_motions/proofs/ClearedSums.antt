@@ -1,6 +1,5 @@
 -- Cleared sums of sums and of multiples.
-use Rattle.std.proofs.Common.{◌≡◌, ℕ, zero, suc, ◌+◌, ◌^◌, arith, refl, sym, ap, ◌∙◌, List, [], ◌∷◌, length, ℤ, pos, ◌+ℤ◌, ◌*ℤ◌}
-use Rattle.std.proofs.Math.Nat.{mul_comm, pow-zero, pow-suc}
+use Rattle.std.proofs.Common.{◌≡◌, ℕ, zero, suc, ◌+◌, arith, refl, ap, ◌∙◌, List, [], ◌∷◌, length, ℤ, pos, ◌+ℤ◌, ◌*ℤ◌}
 use Rattle.spec_text.specs.declared.decimals.Decimal.{Decimal}
 use Rattle.spec_numbers.specs.Numbers.{power}
 use Rattle.spec_numbers.proofs.Ring.{v, k as lit, ◌⊕◌, ◌⊗◌, ring}
@@ -30,10 +29,6 @@ cleared_sum-times d m l k (c ∷ cs) =
     ∙ times_term m (scaled c) (d k) (power l (length cs)) (cleared_sum d l (suc k) cs)
 
 -- ---- powers
-pub power_is : (l k : ℕ) → power (pos l) k ≡ pos (l ^ k)
-power_is l zero = ap pos (sym (pow-zero l))
-power_is l (suc k) = ap (λ (z : ℤ). pos l *ℤ z) (power_is l k) ∙ ap pos (mul_comm l (l ^ k) ∙ sym (pow-suc l k))
-
 pub power-add : (l : ℤ) (j k : ℕ) → power l (j + k) ≡ power l j *ℤ power l k
 power-add l zero k = let e : 0 + k ≡ k = omega arith in ap (power l) e ∙ ring (power l k ∷ []) (v 0) (lit (pos 1) ⊗ v 0) tt
 power-add l (suc j) k = let e : suc j + k ≡ suc (j + k) = omega arith in ap (power l) e ∙ (ap (λ (z : ℤ). l *ℤ z) (power-add l j k) ∙ ring (l ∷ power l j ∷ power l k ∷ []) (v 0 ⊗ (v 1 ⊗ v 2)) ((v 0 ⊗ v 1) ⊗ v 2) tt)

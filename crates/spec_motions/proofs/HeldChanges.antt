@@ -1,7 +1,6 @@
 -- The intervals of velocities and of changes hold the exact ones.
 use Rattle.std.proofs.Common.{◌≡◌, ℕ, zero, suc, ◌+◌, ◌-◌, ◌*◌, ◌^◌, ◌<◌, ◌≤◌, arith, refl, sym, ap, ◌∙◌, subst, Bool, true, false, List, [], ◌∷◌, length, map, drop, All, ℤ, pos, negsuc, ◌+ℤ◌, ◌-ℤ◌, ◌*ℤ◌, ◌≤ℤ◌, ◌<ℤ◌}
 use Rattle.std.proofs.lemmas.Int.{ints}
-use Rattle.std.proofs.Math.Nat.{one-le-pow}
 use lib.Signed.{lt_z}
 use Rattle.spec_text.specs.declared.decimals.Decimal.{Decimal}
 use Rattle.spec_numbers.specs.Numbers.{floor_div, ceil_div, power}
@@ -20,13 +19,15 @@ use Rattle.spec_chebyshev.proofs.Polynomials.{t_one_second, u_one_second}
 use Rattle.spec_chebyshev.proofs.RowLaws.{HoldsIn-u, HoldsIn-q, HoldsIn-r}
 use Rattle.spec_ephemeris.specs.Series.{Series, argument_at, cleared_sum, position}
 use Rattle.spec_ephemeris.specs.Ephemeris.{IsBodyNumber}
-use Rattle.spec_ephemeris.specs.Velocity.{cleared_slope, velocity, change}
+use Rattle.spec_ephemeris.specs.Velocity.{cleared_slope, velocity}
+use Rattle.spec_intervals.specs.Enclosure.{change}
 use Rattle.spec_motions.specs.Sums.{coefficient, times, slope_row, slope_difference_row, sum_low, sum_high}
-use Rattle.spec_motions.specs.Enclosures.{IsSeries, IsSpan, arguments, coefficients_of, position_step_over, velocity_over, velocity_step_over, position_step_interval, velocity_interval, velocity_step_interval}
+use Rattle.spec_motions.specs.Enclosures.{IsSeries, IsSpanOf, arguments, coefficients_of, position_step_over, velocity_over, velocity_step_over, position_step_interval, velocity_interval, velocity_step_interval}
 use Rattle.spec_motions.proofs.ClearedSums.{cleared_sum-change, cleared_sum-times}
 use Rattle.spec_motions.proofs.HeldSums.{HoldsIn-sum}
-use Rattle.spec_motions.proofs.HeldSpans.{IsArgument-at, HoldsIn-at, HoldsIn-denominator}
-use Rattle.spec_motions.proofs.Same.{Holds-same, Holds-units}
+use Rattle.spec_motions.proofs.HeldSpans.{IsArgument-at, HoldsIn-at, Holds-units, HoldsIn-denominator}
+use Rattle.spec_numbers.proofs.Naturals.{positive_product, positive_multiple}
+use Rattle.spec_intervals.proofs.Compare.{Holds-same}
 use Rattle.std.proofs.lemmas.List.Elements.{All-drop}
 
 -- ---- rows of multiples
@@ -77,12 +78,6 @@ counted : (cs : List Decimal) → 1 ≤ length cs → 1 + length (drop 1 cs) ≡
 counted [] h = absurd (omega (arith, h))
 counted (c ∷ cs) h = omega arith
 
-positive : (m n : ℕ) → 0 < m → 0 < n → 0 < m * n
-positive m n p q = grind arith
-
-denominator_positive : (d k : ℕ) → 1 ≤ d → 0 < 10 ^ 140 * d ^ k
-denominator_positive d k h = positive (10 ^ 140) (d ^ k) (omega arith) (one-le-pow k d h)
-
 over_once : (l v d : ℤ) → pos 2 *ℤ (l *ℤ v) *ℤ d ≡ pos 2 *ℤ v *ℤ (d *ℤ l)
 over_once l v' d = ring (l ∷ v' ∷ d ∷ []) (lit (pos 2) ⊗ (v 0 ⊗ v 1) ⊗ v 2) (lit (pos 2) ⊗ v 1 ⊗ (v 2 ⊗ v 0)) tt
 
@@ -92,7 +87,7 @@ changed_once l c d n = ring (l ∷ c ∷ d ∷ n ∷ []) (lit (pos 2) ⊗ (v 0 �
 changed_twice : (l c d n : ℤ) → pos 2 *ℤ (pos 2 *ℤ (l *ℤ (l *ℤ c))) *ℤ (d *ℤ d) ≡ (pos 2 *ℤ (n +ℤ pos 2 *ℤ c) *ℤ d -ℤ pos 2 *ℤ n *ℤ d) *ℤ (d *ℤ l *ℤ l)
 changed_twice l c d n = ring (l ∷ c ∷ d ∷ n ∷ []) (lit (pos 2) ⊗ (lit (pos 2) ⊗ (v 0 ⊗ (v 0 ⊗ v 1))) ⊗ (v 2 ⊗ v 2)) ((lit (pos 2) ⊗ (v 3 ⊕ lit (pos 2) ⊗ v 1) ⊗ v 2 ⊖ lit (pos 2) ⊗ v 3 ⊗ v 2) ⊗ (v 2 ⊗ v 0 ⊗ v 0)) tt
 
-module _ (s : Series) (a b : ℤ) (is : IsSeries s) (span : IsSpan s a b) where
+module _ (s : Series) (a b : ℤ) (is : IsSeries s) (span : IsSpanOf s a b) where
   abbrev x : Ival62
   x = arguments s a b
 
@@ -115,7 +110,7 @@ module _ (s : Series) (a b : ℤ) (is : IsSeries s) (span : IsSpan s a b) where
   l0 = omega (arith, ints)
 
   den0 : 0 < den
-  den0 = denominator_positive s.duration last is.long
+  den0 = positive_multiple (10 ^ 140) s.duration last (omega arith) is.long
 
   all_count : 0 + length s.coefficients ≡ suc last
   all_count = let p = is.some in omega (arith, p)
@@ -142,7 +137,7 @@ module _ (s : Series) (a b : ℤ) (is : IsSeries s) (span : IsSpan s a b) where
       let scaled = Holds-scale (sum_low (slope_row x) 1 (map coefficient later)) (sum_high (slope_row x) 1 (map coefficient later)) (negsuc 73) s.duration (fraction sum den) is.long
       (Holds-units 73 (ends (sum_low (slope_row x) 1 (map coefficient later)) (sum_high (slope_row x) 1 (map coefficient later))) sum den held) in
       let e : pos 2 *ℤ sum *ℤ pos den ≡ pos 2 *ℤ exact *ℤ pos (den * s.duration) = ap (λ (z : ℤ). pos 2 *ℤ z *ℤ pos den) (cleared_sum-times (cleared_slope (u t) l) l l 1 later) ∙ over_once l exact (pos den) in
-      rw (dropped s.coefficients) (Holds-same (scale (sum_low (slope_row x) 1 (map coefficient later)) (sum_high (slope_row x) 1 (map coefficient later)) (negsuc 73) s.duration) (fraction (pos 2 *ℤ sum) (den * s.duration)) (velocity s t) (positive den s.duration den0 is.long) e scaled)
+      rw (dropped s.coefficients) (Holds-same (scale (sum_low (slope_row x) 1 (map coefficient later)) (sum_high (slope_row x) 1 (map coefficient later)) (negsuc 73) s.duration) (fraction (pos 2 *ℤ sum) (den * s.duration)) (velocity s t) (positive_product den s.duration den0 is.long) e scaled)
 
   -- ---- the changes, from a time to the next
   module _ (t : ℤ) (from : a ≤ℤ t) (to : t <ℤ b) where
@@ -191,7 +186,7 @@ module _ (s : Series) (a b : ℤ) (is : IsSeries s) (span : IsSpan s a b) where
         ap (λ (z : ℤ). pos 2 *ℤ z *ℤ pos (den * den)) (cleared_sum-times changed_t l l 0 s.coefficients)
         ∙ (changed_once l exact (pos den) n
         ∙ ap (λ (z : ℤ). (z *ℤ pos den -ℤ n *ℤ pos den) *ℤ pos (den * s.duration)) (sym position_changes)) in
-        Holds-same (scale (sum_low (q_row x) 0 cs) (sum_high (q_row x) 0 cs) (negsuc 69) s.duration) (fraction (pos 2 *ℤ sum) (den * s.duration)) (change (position s) t) (positive den s.duration den0 is.long) e scaled
+        Holds-same (scale (sum_low (q_row x) 0 cs) (sum_high (q_row x) 0 cs) (negsuc 69) s.duration) (fraction (pos 2 *ℤ sum) (den * s.duration)) (change (position s) t) (positive_product den s.duration den0 is.long) e scaled
 
     pub Holds-position_step : Holds (position_step_interval s a b) (change (position s) t)
     Holds-position_step = rw is_wide Holds-step_over
@@ -240,7 +235,7 @@ module _ (s : Series) (a b : ℤ) (is : IsSeries s) (span : IsSpan s a b) where
         ap (λ (z : ℤ). pos 2 *ℤ (pos 2 *ℤ z) *ℤ pos (den * den)) f
         ∙ (changed_twice l exact (pos den) n
         ∙ ap (λ (z : ℤ). (pos 2 *ℤ z *ℤ pos den -ℤ pos 2 *ℤ n *ℤ pos den) *ℤ pos (den * s.duration * s.duration)) (sym slopes_change)) in
-        rw (dropped s.coefficients) (Holds-same (scale (floor_div (pos 2 *ℤ low) s.duration) (ceil_div (pos 2 *ℤ high) s.duration) (negsuc 67) s.duration) (fraction (pos 2 *ℤ (pos 2 *ℤ sum)) (den * s.duration * s.duration)) (change (velocity s) t) (positive (den * s.duration) s.duration (positive den s.duration den0 is.long) is.long) e twice)
+        rw (dropped s.coefficients) (Holds-same (scale (floor_div (pos 2 *ℤ low) s.duration) (ceil_div (pos 2 *ℤ high) s.duration) (negsuc 67) s.duration) (fraction (pos 2 *ℤ (pos 2 *ℤ sum)) (den * s.duration * s.duration)) (change (velocity s) t) (positive_product (den * s.duration) s.duration (positive_product den s.duration den0 is.long) is.long) e twice)
 
     pub Holds-velocity_step : Holds (velocity_step_interval s a b) (change (velocity s) t)
     Holds-velocity_step = rw is_wide Holds-velocity_step_over

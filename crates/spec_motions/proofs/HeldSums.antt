@@ -1,18 +1,20 @@
 -- The sums of intervals hold the plain sums, where the rows hold the polynomials.
-use Rattle.std.proofs.Common.{◌≡◌, ℕ, suc, ◌+◌, ◌-◌, ◌*◌, ◌^◌, arith, refl, sym, ap, ◌∙◌, List, [], ◌∷◌, length, map, All, ℤ, pos, negsuc, ◌+ℤ◌, ◌*ℤ◌, neg_ℤ, ◌≤ℤ◌}
-use Rattle.std.proofs.lemmas.Int.{ints}
+use Rattle.std.proofs.Common.{◌≡◌, ℕ, suc, ◌+◌, ◌-◌, ◌^◌, arith, refl, sym, ap, ◌∙◌, List, [], ◌∷◌, length, map, All, ℤ, pos, negsuc, ◌+ℤ◌, ◌*ℤ◌, ◌≤ℤ◌}
 use Rattle.std.proofs.lemmas.Nat.{pow-add}
 use Rattle.std.proofs.lemmas.List.Elements.{All-head, All-tail}
 use borrow.Author.Differences.{up, down}
 use Rattle.spec_text.specs.declared.decimals.Decimal.{Decimal}
 use Rattle.spec_numbers.specs.Numbers.{floor_div, ceil_div, power}
 use Rattle.spec_intervals.specs.Interval.{decimal_top, decimal_bottom, from_decimal, least4, greatest4}
-use Rattle.spec_numbers.proofs.Ring.{v, k as lit, ◌⊕◌, ◌⊗◌, ring}
+use Rattle.spec_numbers.proofs.Ring.{v, k as lit, ◌⊗◌, ring}
 use Rattle.spec_numbers.proofs.Order.{lin, le-mul}
 use Rattle.spec_numbers.proofs.Floor.{floor_div-le, ceil_div-ge}
 use Rattle.spec_intervals.proofs.Decimals.{bottom_pos}
 use Rattle.spec_chebyshev.specs.declared.ends.Ival62.{Ival62}
 use Rattle.spec_chebyshev.specs.Rows.{ends, HoldsIn}
+use Rattle.spec_numbers.proofs.Whole.{add-mul}
+use Rattle.spec_numbers.proofs.Integers.{joined_beside}
+use Rattle.spec_ephemeris.proofs.Units.{units_below, units_above, all_units}
 use Rattle.spec_chebyshev.proofs.Polynomials.{nonneg-power}
 use Rattle.spec_chebyshev.proofs.Quotients.{least_below, greatest_above}
 use Rattle.spec_ephemeris.specs.Series.{IsInUnits, to_nat, scaled, cleared_sum}
@@ -20,41 +22,20 @@ use Rattle.spec_ephemeris.specs.Ephemeris.{IsBodyNumber}
 use Rattle.spec_motions.specs.Sums.{coefficient, sum_low, sum_high}
 use Rattle.spec_motions.proofs.ClearedSums.{power-add}
 
--- ---- a coefficient: the powers of ten of a decimal, at the power -140
-below : (q : ℤ) → neg_ℤ (pos 140) ≤ℤ q → down q + (140 - down q) ≡ 140
-below (pos n) h = refl
-below (negsuc n) h = omega (arith, ints, h)
-
-above : (q z : ℤ) → pos 140 +ℤ q ≡ z → neg_ℤ (pos 140) ≤ℤ q → up q + (140 - down q) ≡ to_nat z
-above (pos n) (pos m) e h = omega (arith, ints, e)
-above (pos n) (negsuc m) e h = omega (arith, ints, e)
-above (negsuc n) (pos m) e h = omega (arith, ints, e, h)
-above (negsuc n) (negsuc m) e h = omega (arith, ints, e, h)
-
-joined_powers : (z : ℤ) (r k t : ℕ) → r + k ≡ t → z *ℤ (pos (10 ^ r) *ℤ pos (10 ^ k)) ≡ z *ℤ pos (10 ^ t)
-joined_powers z r k t e = ap (λ n. z *ℤ pos n) (sym (pow-add 10 r k) ∙ ap (λ i. 10 ^ i) e)
-
-to_unit : (m : ℤ) (p k t : ℕ) → p + k ≡ t → (m *ℤ pos (10 ^ p * 2 ^ 24)) *ℤ pos (10 ^ k) ≡ (m *ℤ pos (10 ^ t)) *ℤ pos (2 ^ 24)
-to_unit m p k t e =
-    ring (m ∷ pos (10 ^ p) ∷ pos (10 ^ k) ∷ []) ((v 0 ⊗ (v 1 ⊗ lit (pos (2 ^ 24)))) ⊗ v 2) ((v 0 ⊗ (v 1 ⊗ v 2)) ⊗ lit (pos (2 ^ 24))) tt ∙ ap (λ x. x *ℤ pos (2 ^ 24)) (joined_powers m p k t e)
-
-to_all : (z : ℤ) (r k : ℕ) → r + k ≡ 140 → (z *ℤ pos (10 ^ r * 2 ^ 0)) *ℤ pos (10 ^ k) ≡ z *ℤ pos (10 ^ 140)
-to_all z r k e =
-    ring (z ∷ pos (10 ^ r) ∷ pos (10 ^ k) ∷ []) ((v 0 ⊗ (v 1 ⊗ lit (pos (2 ^ 0)))) ⊗ v 2) (v 0 ⊗ (v 1 ⊗ v 2)) tt ∙ joined_powers z r k 140 e
-
+-- ---- a coefficient
 pub HoldsIn-coefficient : (d : Decimal) → IsInUnits d → HoldsIn 24 (coefficient d) (scaled d) (pos (10 ^ 140))
 unfolding from_decimal
 HoldsIn-coefficient d h =
-    let e : down d.exp + (140 - down d.exp) ≡ 140 = below d.exp h in
-    let g : up d.exp + (140 - down d.exp) ≡ to_nat (pos 140 +ℤ d.exp) = above d.exp (pos 140 +ℤ d.exp) refl h in
+    let e : down d.exp + (140 - down d.exp) ≡ 140 = units_below d.exp h in
+    let g : up d.exp + (140 - down d.exp) ≡ to_nat (pos 140 +ℤ d.exp) = units_above d.exp (pos 140 +ℤ d.exp) refl h in
     let a = floor_div-le (decimal_top d.mant d.exp (negsuc 23)) (decimal_bottom d.exp (negsuc 23)) (bottom_pos d.exp (negsuc 23)) in
     let b = ceil_div-ge (decimal_top d.mant d.exp (negsuc 23)) (decimal_bottom d.exp (negsuc 23)) (bottom_pos d.exp (negsuc 23)) in
     let c = le-mul (floor_div (decimal_top d.mant d.exp (negsuc 23)) (decimal_bottom d.exp (negsuc 23)) *ℤ pos (decimal_bottom d.exp (negsuc 23))) (decimal_top d.mant d.exp (negsuc 23)) (pos (10 ^ (140 - down d.exp))) (omega (arith, lin)) a in
     let f = le-mul (decimal_top d.mant d.exp (negsuc 23)) (ceil_div (decimal_top d.mant d.exp (negsuc 23)) (decimal_bottom d.exp (negsuc 23)) *ℤ pos (decimal_bottom d.exp (negsuc 23))) (pos (10 ^ (140 - down d.exp))) (omega (arith, lin)) b in
-    let t = to_unit d.mant (up d.exp) (140 - down d.exp) (to_nat (pos 140 +ℤ d.exp)) g in
+    let t = joined_beside d.mant (up d.exp) (140 - down d.exp) (to_nat (pos 140 +ℤ d.exp)) (2 ^ 24) g in
     record {
-      low = rw (← t, ← to_all (floor_div (decimal_top d.mant d.exp (negsuc 23)) (decimal_bottom d.exp (negsuc 23))) (down d.exp) (140 - down d.exp) e) c;
-      high = rw (← t, ← to_all (ceil_div (decimal_top d.mant d.exp (negsuc 23)) (decimal_bottom d.exp (negsuc 23))) (down d.exp) (140 - down d.exp) e) f;
+      low = rw (← t, ← all_units (floor_div (decimal_top d.mant d.exp (negsuc 23)) (decimal_bottom d.exp (negsuc 23))) (down d.exp) (140 - down d.exp) e) c;
+      high = rw (← t, ← all_units (ceil_div (decimal_top d.mant d.exp (negsuc 23)) (decimal_bottom d.exp (negsuc 23))) (down d.exp) (140 - down d.exp) e) f;
     }
 
 -- ---- one term: m / (D P) is at most c p in units of 1 / (A B), and so times a power W of the length
@@ -70,11 +51,8 @@ term_high m D P W c p A B w h =
     let f : (c *ℤ (p *ℤ W)) *ℤ (A *ℤ B) ≡ (c *ℤ A) *ℤ (p *ℤ B) *ℤ W = ring (c ∷ p ∷ W ∷ A ∷ B ∷ []) ((v 0 ⊗ (v 1 ⊗ v 2)) ⊗ (v 3 ⊗ v 4)) ((v 0 ⊗ v 3) ⊗ (v 1 ⊗ v 4) ⊗ v 2) tt in
     rw (e, f) (le-mul ((c *ℤ A) *ℤ (p *ℤ B)) (m *ℤ (D *ℤ P)) W w h)
 
-add : (a b c : ℤ) → (a +ℤ b) *ℤ c ≡ a *ℤ c +ℤ b *ℤ c
-add a b c = ring (a ∷ b ∷ c ∷ []) ((v 0 ⊕ v 1) ⊗ v 2) (v 0 ⊗ v 2 ⊕ v 1 ⊗ v 2) tt
-
 add_le : (m M X n N Y : ℤ) → (m *ℤ X) ≤ℤ (n *ℤ Y) → (M *ℤ X) ≤ℤ (N *ℤ Y) → ((m +ℤ M) *ℤ X) ≤ℤ ((n +ℤ N) *ℤ Y)
-add_le m M X n N Y h g = rw (add m M X, add n N Y) (omega (arith, lin, h, g))
+add_le m M X n N Y h g = rw (add-mul m M X, add-mul n N Y) (omega (arith, lin, h, g))
 
 zero_times : (x y : ℤ) → (pos 0 *ℤ x) ≤ℤ (pos 0 *ℤ y)
 zero_times x y =

@@ -1,7 +1,9 @@
-pub mod Same
 pub mod ClearedSums
 pub mod HeldSums
 pub mod HeldSpans
 pub mod HeldChanges
 pub mod Widths
 pub mod Tight
+pub mod RowSums
+pub mod GranuleSeries
+pub mod EndSizes

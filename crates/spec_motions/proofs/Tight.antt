@@ -1,8 +1,7 @@
 -- A position at one time is tight: its coefficients, the row of T and narrowing add little to its width.
-use Rattle.std.proofs.Common.{◌≡◌, ℕ, zero, suc, ◌+◌, ◌*◌, ◌^◌, ◌<◌, ◌≤◌, max, arith, refl, sym, ap, ◌∙◌, subst, false, ◌⊎◌, inl, inr, List, [], ◌∷◌, length, map, All, ℤ, pos, negsuc, ◌+ℤ◌, ◌-ℤ◌, ◌*ℤ◌, ◌≤ℤ◌, ◌<ℤ◌, unsigned_abs}
+use Rattle.std.proofs.Common.{◌≡◌, ℕ, zero, suc, ◌+◌, ◌*◌, ◌^◌, ◌<◌, ◌≤◌, max, arith, sym, ap, ◌∙◌, subst, false, ◌⊎◌, inl, inr, List, [], ◌∷◌, length, map, All, ℤ, pos, negsuc, ◌+ℤ◌, ◌-ℤ◌, ◌*ℤ◌, ◌≤ℤ◌, ◌<ℤ◌, unsigned_abs}
 use Rattle.std.proofs.lemmas.Int.{ints, unsigned_abs-mul}
-use Rattle.std.specs.Int.{int_min, int_max}
-use Rattle.spec_numbers.proofs.Floor.{ordered_quotients}
+use Rattle.spec_numbers.proofs.Floor.{floor_div-one, ceil_div-one, ordered_quotients}
 use Rattle.std.proofs.lemmas.Nat.{mul-le, pow_pos}
 use Rattle.std.proofs.lemmas.Bool.{false≢true, cases_lt}
 use Rattle.std.proofs.lemmas.List.Elements.{All-head, All-tail}
@@ -16,30 +15,22 @@ use Rattle.spec_numbers.proofs.Order.{lin, le-mul, le-mul_cancel}
 use Rattle.spec_intervals.proofs.Narrow.{sizes-fit, narrow_shift-least, rescale_low}
 use Rattle.spec_intervals.proofs.Decimals.{bottom_pos}
 use Rattle.spec_chebyshev.specs.declared.ends.Ival62.{Ival62}
-use Rattle.spec_chebyshev.specs.Differences.{Within}
 use Rattle.spec_chebyshev.specs.Rows.{t_row, argument_of, EndsWithin, IsArguments}
 use Rattle.spec_chebyshev.proofs.RowEnds.{EndsWithin-t}
-use Rattle.spec_chebyshev.proofs.Arguments.{IsArguments-argument}
+use Rattle.spec_chebyshev.proofs.Arguments.{IsArguments-argument, size_within}
 use Rattle.spec_ephemeris.specs.Series.{Series, argument_at, scaled}
 use Rattle.spec_ephemeris.specs.Ephemeris.{IsBodyNumber}
 use Rattle.spec_motions.specs.Sums.{coefficient, sum_low, sum_high}
-use Rattle.spec_motions.specs.Enclosures.{IsSeries, IsSpan, IsTight, spread, arguments, coefficients_of, position_over, position_interval}
+use Rattle.spec_motions.specs.Enclosures.{IsSeries, IsSpanOf, IsTight, spread, arguments, coefficients_of, position_over, position_interval}
 use Rattle.spec_motions.proofs.HeldSums.{HoldsIn-coefficient}
-use Rattle.spec_motions.proofs.Widths.{quotients_gap, thin_quotients, size_of, product_size, product_width, ordered, thin_row}
+use Rattle.spec_numbers.proofs.Sizes.{sum_size}
+use Rattle.spec_motions.proofs.EndSizes.{least_size, greatest_size}
+use Rattle.spec_motions.proofs.Widths.{quotients_gap, thin_quotients, product_width, ordered, thin_row}
 
 abbrev D : ℕ
 D = 10 ^ 140
 
 -- ---- narrowing: two units of the coarser exponent, which are little beside the ends
-floor_one : (z : ℤ) → floor_div z (2 ^ 0) ≡ z
-floor_one (pos n) = ap pos (omega arith)
-floor_one (negsuc n) = ap negsuc (omega arith)
-
-ceil_one : (z : ℤ) → ceil_div z (2 ^ 0) ≡ z
-ceil_one (pos zero) = refl
-ceil_one (pos (suc n)) = omega (arith, ints, floor_one (negsuc n))
-ceil_one (negsuc n) = omega (arith, ints, floor_one (pos (suc n)))
-
 module _ (lo hi : ℤ) (most : ℕ) (hl : unsigned_abs lo ≤ most) (hh : unsigned_abs hi ≤ most) where
   abbrev width_after : ℕ → ℤ
   width_after k = ceil_div hi (2 ^ k) -ℤ floor_div lo (2 ^ k)
@@ -54,8 +45,8 @@ module _ (lo hi : ℤ) (most : ℕ) (hl : unsigned_abs lo ≤ most) (hh : unsign
 
   narrowed_width : (k : ℕ) → ((j : ℕ) → j < k → fits_after j lo hi ≡ false) → (width_after k *ℤ pos (2 ^ k * 2 ^ 60)) ≤ℤ ((hi -ℤ lo) *ℤ pos (2 ^ 60) +ℤ pos most)
   narrowed_width zero f =
-      let a = floor_one lo in
-      let b = ceil_one hi in
+      let a = floor_div-one lo in
+      let b = ceil_div-one hi in
       let e : width_after 0 ≡ hi -ℤ lo = λ i. b i -ℤ a i in
       subst (λ (z : ℤ). (z *ℤ pos (1 * 2 ^ 60)) ≤ℤ ((hi -ℤ lo) *ℤ pos (2 ^ 60) +ℤ pos most)) (sym e) (omega (arith, ints))
   narrowed_width (suc j) f =
@@ -79,11 +70,8 @@ abbrev total_size : List Decimal → ℕ
 total_size [] = 0
 total_size (c ∷ cs) = size c * 2 ^ 60 + total_size cs
 
-within : (z : ℤ) (m : ℕ) → unsigned_abs z ≤ m → Within z (pos m)
-within z m h = record { low = omega (arith, ints); high = omega (arith, ints) }
-
 EndsWithin-size : (c : Decimal) → EndsWithin (size c) (coefficient c)
-EndsWithin-size c = record { lo = within (coefficient c).lo (size c) (omega arith); hi = within (coefficient c).hi (size c) (omega arith) }
+EndsWithin-size c = record { lo = size_within (coefficient c).lo (size c) (omega arith); hi = size_within (coefficient c).hi (size c) (omega arith) }
 
 coefficient_thin : (c : Decimal) → (coefficient c).hi ≤ℤ ((coefficient c).lo +ℤ pos 1)
 unfolding from_decimal
@@ -92,34 +80,6 @@ coefficient_thin c = thin_quotients (decimal_top c.mant c.exp (negsuc 23)) (deci
 coefficient_ordered : (c : Decimal) → (coefficient c).lo ≤ℤ (coefficient c).hi
 unfolding from_decimal
 coefficient_ordered c = ordered_quotients (decimal_top c.mant c.exp (negsuc 23)) (decimal_top c.mant c.exp (negsuc 23)) (decimal_bottom c.exp (negsuc 23)) (bottom_pos c.exp (negsuc 23)) (omega (arith, lin))
-
-min_size : (p q : ℤ) (m : ℕ) → unsigned_abs p ≤ m → unsigned_abs q ≤ m → unsigned_abs (int_min p q) ≤ m
-min_size p q m h g = grind (arith, ints)
-
-max_size : (p q : ℤ) (m : ℕ) → unsigned_abs p ≤ m → unsigned_abs q ≤ m → unsigned_abs (int_max p q) ≤ m
-max_size p q m h g = grind (arith, ints)
-
-module _ (c e : Ival62) (m n : ℕ) (hc : EndsWithin m c) (he : EndsWithin n e) where
-  ll : unsigned_abs (c.lo *ℤ e.lo) ≤ m * n
-  ll = product_size c.lo e.lo m n (size_of c.lo m hc.lo) (size_of e.lo n he.lo)
-
-  lh : unsigned_abs (c.lo *ℤ e.hi) ≤ m * n
-  lh = product_size c.lo e.hi m n (size_of c.lo m hc.lo) (size_of e.hi n he.hi)
-
-  hl : unsigned_abs (c.hi *ℤ e.lo) ≤ m * n
-  hl = product_size c.hi e.lo m n (size_of c.hi m hc.hi) (size_of e.lo n he.lo)
-
-  hh : unsigned_abs (c.hi *ℤ e.hi) ≤ m * n
-  hh = product_size c.hi e.hi m n (size_of c.hi m hc.hi) (size_of e.hi n he.hi)
-
-  least_size : unsigned_abs (least4 c.lo c.hi e.lo e.hi) ≤ m * n
-  least_size = min_size (int_min (c.lo *ℤ e.lo) (c.lo *ℤ e.hi)) (int_min (c.hi *ℤ e.lo) (c.hi *ℤ e.hi)) (m * n) (min_size (c.lo *ℤ e.lo) (c.lo *ℤ e.hi) (m * n) ll lh) (min_size (c.hi *ℤ e.lo) (c.hi *ℤ e.hi) (m * n) hl hh)
-
-  greatest_size : unsigned_abs (greatest4 c.lo c.hi e.lo e.hi) ≤ m * n
-  greatest_size = max_size (int_max (c.lo *ℤ e.lo) (c.lo *ℤ e.hi)) (int_max (c.hi *ℤ e.lo) (c.hi *ℤ e.hi)) (m * n) (max_size (c.lo *ℤ e.lo) (c.lo *ℤ e.hi) (m * n) ll lh) (max_size (c.hi *ℤ e.lo) (c.hi *ℤ e.hi) (m * n) hl hh)
-
-sum_size : (a b : ℤ) (m n : ℕ) → unsigned_abs a ≤ m → unsigned_abs b ≤ n → unsigned_abs (a +ℤ b) ≤ m + n
-sum_size a b m n p q = omega (arith, ints)
 
 add_width : (a b c d : ℤ) (m n : ℕ) → a ≤ℤ (b +ℤ pos m) → c ≤ℤ (d +ℤ pos n) → (a +ℤ c) ≤ℤ ((b +ℤ d) +ℤ pos (m + n))
 add_width a b c d m n h g = omega (arith, lin)
@@ -260,7 +220,7 @@ thin_argument : (s : Series) (a : ℤ) → 1 ≤ s.duration → (arguments s a a
 unfolding argument_of
 thin_argument s a h = thin_quotients (argument_at s a *ℤ pos (2 ^ 60)) s.duration h
 
-pub IsTight-position : (s : Series) (a : ℤ) → IsSeries s → IsSpan s a a → IsTight s.coefficients (position_interval s a a)
+pub IsTight-position : (s : Series) (a : ℤ) → IsSeries s → IsSpanOf s a a → IsTight s.coefficients (position_interval s a a)
 unfolding position_over
 IsTight-position s a is span =
     let l0 : pos 0 <ℤ pos s.duration = let p = is.long in omega (arith, ints) in

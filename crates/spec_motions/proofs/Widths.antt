@@ -1,19 +1,21 @@
 -- How wide the row of T is at one argument, and the product of two intervals.
 use Rattle.std.proofs.Common.{◌≡◌, ℕ, zero, suc, ◌+◌, ◌-◌, ◌*◌, ◌^◌, ◌<◌, ◌≤◌, arith, [], ◌∷◌, ℤ, pos, negsuc, ◌+ℤ◌, ◌-ℤ◌, ◌*ℤ◌, neg_ℤ, ◌≤ℤ◌, ◌<ℤ◌, unsigned_abs}
-use Rattle.std.proofs.lemmas.Int.{ints, unsigned_abs-mul, by_lt_z}
-use Rattle.std.proofs.lemmas.Nat.{mul-le, pow_pos}
+use Rattle.std.proofs.lemmas.Int.{ints}
+use Rattle.std.proofs.lemmas.Nat.{pow_pos}
 use Rattle.std.proofs.Math.Nat.{pow-suc}
 use Rattle.std.specs.Int.{int_min, int_max}
 use Rattle.spec_numbers.specs.Numbers.{floor_div, ceil_div, power}
 use Rattle.spec_intervals.specs.Interval.{least4, greatest4}
 use Rattle.spec_numbers.proofs.Ring.{v, k as lit, ◌⊕◌, ◌⊖◌, ◌⊗◌, minus, ring}
-use Rattle.spec_numbers.proofs.Order.{lin, le-mul, le-mul_cancel}
+use Rattle.spec_numbers.proofs.Order.{lin, le-mul, le-mul_cancel, lt-mul_cancel}
+use Rattle.spec_numbers.proofs.Sizes.{product_size}
 use Rattle.spec_numbers.proofs.Floor.{floor_div-lt}
 use Rattle.spec_chebyshev.specs.declared.ends.Ival62.{Ival62}
-use Rattle.spec_chebyshev.specs.Differences.{Within, IsArgument}
+use Rattle.spec_chebyshev.specs.Differences.{IsArgument}
 use Rattle.spec_chebyshev.specs.Rows.{nothing, next, t_row, HoldsIn, EndsWithin, IsArguments}
 use Rattle.spec_chebyshev.proofs.RowEnds.{EndsWithin-t}
 use Rattle.spec_chebyshev.proofs.RowLaws.{HoldsIn-t}
+use Rattle.spec_motions.proofs.EndSizes.{size_of}
 
 -- ---- quotients rounded outward are less than two units further apart
 pub quotients_gap : (lo hi : ℤ) (d : ℕ) → 0 < d → ((ceil_div hi d -ℤ floor_div lo d) *ℤ pos d) <ℤ ((hi -ℤ lo) +ℤ pos (2 * d))
@@ -23,23 +25,14 @@ quotients_gap lo hi d d0 =
     let e : (neg_ℤ (floor_div (neg_ℤ hi) d) -ℤ floor_div lo d) *ℤ pos d ≡ neg_ℤ (floor_div (neg_ℤ hi) d *ℤ pos d) -ℤ floor_div lo d *ℤ pos d = ring (floor_div (neg_ℤ hi) d ∷ floor_div lo d ∷ pos d ∷ []) ((minus (v 0) ⊖ v 1) ⊗ v 2) (minus (v 0 ⊗ v 2) ⊖ v 1 ⊗ v 2) tt in
     rw e (omega (arith, lin))
 
-lt_cancel : (a b : ℤ) (d : ℕ) → (a *ℤ pos d) <ℤ (b *ℤ pos d) → a <ℤ b
-lt_cancel a b d h = by_lt_z a b (λ p. p) (λ q. let g : (b *ℤ pos d) ≤ℤ (a *ℤ pos d) = le-mul b a (pos d) (omega (arith, lin)) q in absurd (omega (arith, lin)))
-
 -- one number rounded outward
 pub thin_quotients : (z : ℤ) (d : ℕ) → 0 < d → ceil_div z d ≤ℤ (floor_div z d +ℤ pos 1)
 thin_quotients z d d0 =
     let h : ((ceil_div z d -ℤ floor_div z d) *ℤ pos d) <ℤ ((z -ℤ z) +ℤ pos (2 * d)) = quotients_gap z z d d0 in
-    let g : (ceil_div z d -ℤ floor_div z d) <ℤ pos 2 = lt_cancel (ceil_div z d -ℤ floor_div z d) (pos 2) d (omega (arith, lin)) in
+    let g : (ceil_div z d -ℤ floor_div z d) <ℤ pos 2 = lt-mul_cancel (ceil_div z d -ℤ floor_div z d) (pos 2) d (omega (arith, lin)) in
     omega (arith, lin)
 
 -- ---- a product of two intervals of at most these sizes and widths
-pub size_of : (z : ℤ) (m : ℕ) → Within z (pos m) → unsigned_abs z ≤ m
-size_of z m w = let l = w.low in let h = w.high in omega (arith, ints)
-
-pub product_size : (a c : ℤ) (m n : ℕ) → unsigned_abs a ≤ m → unsigned_abs c ≤ n → unsigned_abs (a *ℤ c) ≤ m * n
-product_size a c m n p q = rw (unsigned_abs-mul a c) (mul-le (unsigned_abs a) (unsigned_abs c) m n p q)
-
 -- x y and x' y' differ by x (y - y') + y' (x - x')
 near : (x x' y y' : ℤ) (m n dx dy : ℕ) → unsigned_abs x ≤ m → unsigned_abs y' ≤ n → unsigned_abs (x -ℤ x') ≤ dx → unsigned_abs (y -ℤ y') ≤ dy
     → (x *ℤ y -ℤ pos (m * dy + n * dx)) ≤ℤ (x' *ℤ y')
@@ -152,7 +145,7 @@ module _ (x : Ival62) (hx : IsArguments x) (thin : x.hi ≤ℤ (x.lo +ℤ pos 1)
   step_width e before w b he oe we wb =
       let p = product_width x e (2 ^ 60) (2 ^ 60) 1 w hx.unit he hx.ordered oe (omega (arith, lin)) we in
       let g = quotients_gap (least4 x.lo x.hi e.lo e.hi) (greatest4 x.lo x.hi e.lo e.hi) (2 ^ 59) (pow_pos 59) in
-      let q = lt_cancel (ceil_div (greatest4 x.lo x.hi e.lo e.hi) (2 ^ 59) -ℤ floor_div (least4 x.lo x.hi e.lo e.hi) (2 ^ 59)) (pos (2 * w + 5)) (2 ^ 59) (omega (arith, lin)) in
+      let q = lt-mul_cancel (ceil_div (greatest4 x.lo x.hi e.lo e.hi) (2 ^ 59) -ℤ floor_div (least4 x.lo x.hi e.lo e.hi) (2 ^ 59)) (pos (2 * w + 5)) (2 ^ 59) (omega (arith, lin)) in
       cut_width (floor_div (least4 x.lo x.hi e.lo e.hi) (2 ^ 59) +ℤ pos 0 -ℤ before.hi) (ceil_div (greatest4 x.lo x.hi e.lo e.hi) (2 ^ 59) +ℤ pos 0 -ℤ before.lo) (neg_ℤ (pos (1 * 2 ^ 60))) (pos (1 * 2 ^ 60)) (2 * w + 4 + b) (omega (arith, lin))
 
   two : (k : ℕ) → Thin (t_row x k) k × Thin (t_row x (suc k)) (suc k)

@@ -4,7 +4,7 @@ use Rattle.std.specs.Prelude.{ℕ, suc, ◌+◌, ◌*◌, ◌^◌, ◌≤◌, Li
 use borrow.Author.Differences.{up, down}
 use lib.Signed.{lt_z}
 use Rattle.spec_text.specs.declared.decimals.Decimal.{Decimal}
-use Rattle.spec_intervals.specs.Interval.{Interval, interval, narrow, scale}
+use Rattle.spec_intervals.specs.Interval.{Interval, zero_interval, narrow, scale}
 use Rattle.spec_numbers.specs.Numbers.{floor_div, ceil_div}
 use Rattle.spec_chebyshev.specs.declared.ends.Ival62.{Ival62}
 use Rattle.spec_chebyshev.specs.Rows.{t_row, q_row, argument_of}
@@ -41,9 +41,6 @@ coefficients_of s = map coefficient s.coefficients
 abbrev pub arguments : Series → ℤ → ℤ → Ival62
 arguments s a b = argument_of (argument_at s a) (argument_at s b) (pos s.duration)
 
-abbrev pub zero_interval : Interval
-zero_interval = interval (pos 0) (pos 0) (pos 0)
-
 abbrev pub position_interval : Series → ℤ → ℤ → Interval
 position_interval s a b = position_over (coefficients_of s) (arguments s a b)
 
@@ -66,7 +63,7 @@ pub record IsSeries (s : Series) : Type 0 where
   pub few : length s.coefficients ≤ 32
   pub bodies : All IsBodyNumber s.coefficients
 
-pub record IsSpan (s : Series) (a b : ℤ) : Type 0 where
+pub record IsSpanOf (s : Series) (a b : ℤ) : Type 0 where
   pub from : s.start ≤ℤ a
   pub ordered : a ≤ℤ b
   pub to : b ≤ℤ (s.start +ℤ pos s.duration)

@@ -1,10 +1,10 @@
 // Worked values of the definitions, by computation.
 
 ghost use Rattle.std.specs.Prelude.{◌≡◌, ◌^◌, pos, neg_ℤ};
-ghost use Rattle.spec_intervals.specs.Interval.{interval};
+ghost use Rattle.spec_intervals.specs.Interval.{interval, zero_interval};
 ghost use Rattle.spec_intervals.specs.Signs.{sign_of};
 ghost use Rattle.spec_intervals.specs.declared.signs.Sign.TheVariants.{Yes, No, Open};
-ghost use Rattle.spec_motions.specs.Enclosures.{position_interval, position_step_interval, velocity_interval, velocity_step_interval, zero_interval};
+ghost use Rattle.spec_motions.specs.Enclosures.{position_interval, position_step_interval, velocity_interval, velocity_step_interval};
 ghost use Rattle.spec_ephemeris.specs.Examples.{growing_x};
 
 /// The line passes 0 in the middle of its block: there its interval is 0 alone, and before that it is below 0.

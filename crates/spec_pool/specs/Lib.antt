@@ -1,2 +1,4 @@
 pub mod Pool
 pub mod Tiling
+pub mod Examples
+pub mod Accounts

@@ -9,7 +9,8 @@ use Rattle.spec_chebyshev.specs.Rows.{entry, r_row}
 use Rattle.spec_motions.specs.Sums.{slope_difference_row, sum_low, sum_high}
 use Rattle.spec_motions.specs.Enclosures.{velocity_step_over}
 use Rattle.spec_motions.proofs.RowSums.{sums_ordered, low_slopes_same, high_slopes_same}
-use Rattle.cheby_difference.proofs.SlopeRows.{IsSlopeRow-r, doubles_ordered}
+use Rattle.cheby_difference.proofs.SlopeRows.{IsSlopeRow-r}
+use Rattle.spec_numbers.proofs.Integers.{doubles_ordered}
 use Rattle.cheby_difference.proofs.scaled.velocity_step_over.Goals as goal
 use Rattle.cheby_difference.proofs.scaled.velocity_step_over.Goals.{After-once_scaled-sum}
 

@@ -1,6 +1,6 @@
 use Rattle.std.proofs.Common.{refl}
 use Rattle.spec_header.specs.HeaderLines.{header}
-use Rattle.spec_header.proofs.examples.some_words_are_passed_over.Goals as goal
+use Rattle.spec_header.proofs.examples.some_words_are_skipped.Goals as goal
 
 pub returns-clause-titles : goal.returns-clause-titles
 unfolding header

@@ -1,6 +1,6 @@
 use Rattle.std.proofs.Common.{refl}
 use Rattle.spec_blocks.specs.Blocks.{blocks}
-use Rattle.spec_blocks.proofs.examples.words_behind_a_block_are_zeros.Goals as goal
+use Rattle.spec_blocks.proofs.examples.words_after_a_block_are_zeros.Goals as goal
 
 pub returns-clause-zeros : goal.returns-clause-zeros
 unfolding blocks

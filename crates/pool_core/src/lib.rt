@@ -7,3 +7,6 @@ mod worker;
 
 pub use pool::Pool;
 pub use worker::StepError;
+
+#[cfg(test)]
+mod tests;

@@ -104,7 +104,7 @@ impl Worker {
         if self.hand.is_some() {
             return Err(StepError::Refused);
         }
-        let Some(node) = self.deque.pop_front() else {
+        let Some(node) = self.give_up() else {
             return Err(StepError::Refused);
         };
         self.hand = Some(node);

@@ -3,9 +3,10 @@ use Rattle.std.proofs.Common.{◌≡◌, ◌∙◌, ℕ, ◌≤◌, arith, sym, 
 use Rattle.std.proofs.lemmas.Int.{ints}
 use Rattle.spec_intervals.specs.Interval.{Interval}
 use Rattle.spec_intervals.specs.Fraction.{Fraction, IsFraction, Holds, Overlaps}
-use Rattle.spec_expressions.specs.Enclosure.{Enclosure, IsWithin, AllWithin, Encloses, part_exponent, constant_of}
-use Rattle.spec_expressions.proofs.Enclosed.{IsEnclosure-constant}
-use Rattle.spec_expressions.proofs.Exponents.{IsWithin-more}
+use Rattle.spec_intervals.specs.Enclosure.{Enclosure, IsWithin, AllWithin, Encloses, constant_of}
+use Rattle.spec_expressions.specs.Expression.{part_exponent}
+use Rattle.spec_intervals.proofs.Enclosed.{IsEnclosure-constant}
+use Rattle.spec_intervals.proofs.Exponents.{IsWithin-more}
 use Rattle.spec_bodies.specs.declared.source.Source.{Source}
 use Rattle.spec_bodies.specs.declared.source.Source.TheVariants.{OwnColumn, EarthOfPair, MoonOfPair, Origin}
 use Rattle.spec_bodies.specs.Coordinates.{Factor, moon_share, Coordinate, nothing, of_column, times, earth, barycentric, seen}

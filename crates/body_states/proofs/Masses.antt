@@ -4,8 +4,9 @@ use Rattle.std.proofs.lemmas.Int.{ints, unsigned_abs-mul}
 use Rattle.std.proofs.lemmas.Bool.{cases_lt}
 use Rattle.std.proofs.Math.Nat.{one-le-pow, pow-le-pow_right, div-mul-le_self}
 use borrow.Author.Differences.{up, down}
-use Rattle.spec_intervals.specs.Interval.{floor_div, ceil_div, narrow}
-use Rattle.spec_intervals.proofs.Floor.{ceil_div-exact, ceil_div-next}
+use Rattle.spec_numbers.specs.Numbers.{floor_div, ceil_div}
+use Rattle.spec_intervals.specs.Interval.{narrow}
+use Rattle.spec_numbers.proofs.Floor.{ceil_div-exact, ceil_div-next}
 use Rattle.spec_bodies.proofs.Factors.{narrowed_factor}
 use Rattle.spec_bodies.specs.Meanings.{factor_interval}
 

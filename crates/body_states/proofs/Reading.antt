@@ -8,15 +8,15 @@ use Rattle.spec_ephemeris.specs.declared.limits.TheConstants.{BODY_COLUMNS}
 use Rattle.spec_ephemeris.specs.Header.{column_at, components, is_present_at}
 use Rattle.spec_ephemeris.specs.Ephemeris.{Granule, IsBodyNumber, IsGranuleAt, IsBorder, axis_series}
 use Rattle.spec_ephemeris.proofs.Granules.{one_granule}
-use Rattle.eph_model.specs.declared.granules.Granule.{Granule as Read}
-use Rattle.spec_enclosures.specs.Enclosures.{IsSpan}
-use Rattle.spec_bodies.specs.Granules.{column_or_none, granule_at, series_at}
+use Rattle.spec_ephemeris.specs.declared.granule.Granule.{Granule as Read}
+use Rattle.spec_motions.specs.Enclosures.{IsSpanOf}
+use Rattle.spec_ephemeris.specs.Granules.{column_or_none, granule_at, series_at, series_of}
 use Rattle.spec_bodies.specs.Reading.{IsReadable}
 use Rattle.spec_bodies.specs.Views.{View, Fits}
-use Rattle.spec_bodies.proofs.GranuleAt.{granule_of_time}
+use Rattle.spec_ephemeris.proofs.GranuleAt.{granule_of_time}
 use Rattle.spec_bodies.proofs.Columns.{span_of}
-use Rattle.cheby_enclose.specs.Granules.{IsEvaluable, series_of}
-use Rattle.cheby_enclose.proofs.GranuleSeries.{own_length}
+use Rattle.spec_motions.specs.Granules.{IsEvaluable}
+use Rattle.spec_motions.proofs.GranuleSeries.{own_length}
 
 abbrev IsThree : ℕ → Type 0
 IsThree n = n ≡ 3
@@ -52,8 +52,8 @@ module _ (v : View) (a b : ℤ) (fits : Fits v a b) (number axis : ℕ) (readabl
   none_of : (t : ℤ) → IsBorder v.ephemeris number t → a <ℤ t → t ≤ℤ b → ⊥
   none_of t border after upto = fits.no_border t (record { number = number; listed = readable.usable.in_use; border = border; after = after; upto = upto })
 
-  own_span : IsSpan (series_of g axis) a b
-  own_span = subst (λ s. IsSpan s a b) (sym series_is) (span_of v.ephemeris number fits.view.checked readable.usable.there fits.view.block a b fits.from fits.ordered fits.upto none_of axis)
+  own_span : IsSpanOf (series_of g axis) a b
+  own_span = subst (λ s. IsSpanOf s a b) (sym series_is) (span_of v.ephemeris number fits.view.checked readable.usable.there fits.view.block a b fits.from fits.ordered fits.upto none_of axis)
 
   pub from_start : g.start ≤ℤ a
   from_start = own_span.from

@@ -5,15 +5,15 @@ use Rattle.std.proofs.Math.Nat.{one-le-pow}
 use Rattle.spec_intervals.specs.Interval.{Interval}
 use Rattle.spec_intervals.specs.Fraction.{IsFraction, Overlaps}
 use Rattle.spec_ephemeris.specs.Series.{Series, position}
-use Rattle.spec_enclosures.specs.Velocity.{velocity}
-use Rattle.spec_enclosures.specs.Enclosures.{IsSeries, IsSpan, position_interval, position_step_interval, velocity_interval, velocity_step_interval}
-use Rattle.spec_enclosures.proofs.HeldSpans.{Holds-position}
-use Rattle.spec_enclosures.proofs.HeldChanges.{Holds-velocity, Holds-position_step, Holds-velocity_step}
-use Rattle.spec_expressions.specs.Enclosure.{IsWithin, middle, centred}
-use Rattle.spec_expressions.proofs.Centred.{middle_between}
-use Rattle.spec_expressions.proofs.Compare.{IsFraction-mul}
-use Rattle.spec_expressions.proofs.Enclosed.{Overlaps-parts}
-use Rattle.spec_bodies.proofs.Exponents.{IsBetween, between-within}
+use Rattle.spec_ephemeris.specs.Velocity.{velocity}
+use Rattle.spec_motions.specs.Enclosures.{IsSeries, IsSpanOf as IsSpan, position_interval, position_step_interval, velocity_interval, velocity_step_interval}
+use Rattle.spec_motions.proofs.HeldSpans.{Holds-position}
+use Rattle.spec_motions.proofs.HeldChanges.{Holds-velocity, Holds-position_step, Holds-velocity_step}
+use Rattle.spec_intervals.specs.Enclosure.{IsWithin, middle, centred}
+use Rattle.spec_intervals.proofs.Centred.{middle_between}
+use Rattle.spec_numbers.proofs.Naturals.{positive_product as IsFraction-mul}
+use Rattle.spec_intervals.proofs.Enclosed.{Overlaps-parts}
+use Rattle.spec_intervals.proofs.Exponents.{IsBetween, between-within}
 use Rattle.spec_bodies.proofs.Sizes.{position-between, velocity-between, position_step-between, velocity_step-between}
 use Rattle.event_expr.specs.States.{wide_exponent}
 

@@ -1,57 +1,58 @@
 -- What is asked of a body, and what is answered for a formula.
-use Rattle.std.specs.Prelude.{◌≡◌, ℕ, ℤ, List, All}
-use Rattle.spec_intervals.specs.Interval.{Interval}
-use Rattle.spec_intervals.specs.Fraction.{Fraction, IsFraction}
-use Rattle.spec_expressions.specs.Enclosure.{Enclosure}
-use Rattle.spec_bodies.specs.Coordinates.{Coordinate}
-use Rattle.spec_bodies.specs.Granules.{series_at}
-use Rattle.spec_bodies.specs.Meanings.{factor, factor_interval, enclosure_of}
-use Rattle.spec_bodies.specs.Views.{View, Fits, series_positions, series_velocities}
-use Rattle.spec_bodies.specs.Reading.{IsReadable, IsShort, AllColumns}
-use Rattle.body_states.specs.declared.asked.Quantity.{Quantity}
-use Rattle.body_states.specs.declared.asked.Quantity.TheVariants.{Position, Velocity}
+use Rattle.std.specs.Prelude.{◌≡◌, ℕ, ℤ, All}
+use Rattle.spec_intervals.specs.Enclosure.{Enclosure, sum_of, difference_of, product_of, constant_of}
+use Rattle.spec_bodies.specs.declared.factor.Factor.{Factor}
+use Rattle.spec_bodies.specs.declared.source.Source.{Source}
+use Rattle.spec_bodies.specs.Coordinates.{Coordinate, displacement, ecliptic_coordinate}
+use Rattle.spec_bodies.specs.Meanings.{factor_interval}
+use Rattle.spec_bodies.specs.Views.{View, Fits, factor_of, column_enclosure, formula_enclosure}
+use Rattle.spec_bodies.specs.Reading.{IsUsable, IsReadable, IsShort, AllColumns}
+use Rattle.event_expr.specs.States.{parts}
+use Rattle.ival_core.specs.declared.ival.Enclosure.{Enclosure as Answered}
+use Rattle.body_states.specs.declared.question.Question.{Question}
 use Rattle.body_states.specs.declared.motions.ColumnMotions.{ColumnMotions}
-use Rattle.body_states.specs.Motions.{along, IsMotion}
+use Rattle.body_states.specs.Motions.{AreMotions}
 
-pub record Question : Type 0 where
-  pub quantity : Quantity
-  pub first : ℤ
-  pub last : ℤ
-  pub columns : List ColumnMotions
-
--- the enclosure of a coordinate of a column
-abbrev pub column_enclosure : View → Quantity → ℤ → ℤ → ℕ → ℕ → Enclosure
-column_enclosure v Position a b number axis = series_positions a b (series_at v.ephemeris number axis a)
-column_enclosure v Velocity a b number axis = series_velocities a b (series_at v.ephemeris number axis a)
-
--- what is kept of a column is right, where it can be read
-pub record IsKnown (v : View) (a b : ℤ) (c : ColumnMotions) : Type 0 where
-  pub motions : (axis : ℕ) → IsReadable v c.number axis → IsMotion (column_enclosure v Position a b c.number axis) (column_enclosure v Velocity a b c.number axis) (along c.motions axis)
+-- what is kept of a column is right, where the column is usable
+abbrev pub IsKnown : View → ℤ → ℤ → ColumnMotions → Type 0
+IsKnown v a b c = IsUsable v c.number → AreMotions (λ quantity. column_enclosure v quantity a b c.number) c.motions
 
 -- a question that can be asked, over times that fit
 pub record CanAsk (v : View) (q : Question) : Type 0 where
-  pub fits : Fits v q.first q.last
-  pub known : All (IsKnown v q.first q.last) q.columns
+  pub fits : Fits v q.times.now.first q.times.now.last
+  pub known : All (IsKnown v q.times.now.first q.times.now.last) q.columns.now
+
+-- a formula of which each column can be read
+abbrev pub CanRead : View → Coordinate → Type 0
+CanRead v c = AllColumns (IsReadable v) c
 
 -- the enclosure of a formula
 abbrev pub answer_of : View → Question → Coordinate → Enclosure
-answer_of v q c = enclosure_of (column_enclosure v q.quantity q.first q.last) (factor v.ephemeris.header.emrat) q.first q.last c
+answer_of v q c = formula_enclosure v q.quantity q.times.now.first q.times.now.last c
+
+abbrev pub Answers : View → Question → Coordinate → Answered → Type 0
+Answers v q c e = parts e ≡ answer_of v q c
 
 -- the enclosure is that of some formula over columns in use
 pub record IsAnswer (v : View) (q : Question) (e : Enclosure) : Type 0 where
   pub formula : Coordinate
-  pub readable : AllColumns (IsReadable v) formula
+  pub readable : CanRead v formula
   pub short : IsShort formula
   pub is : e ≡ answer_of v q formula
 
--- the interval is that of some fraction
-pub record IsNumber (c : Interval) : Type 0 where
-  pub number : Fraction
-  pub is_fraction : IsFraction number
-  pub is : c ≡ factor_interval number
+-- ---- the rules, over the times that are asked for
+abbrev pub sum_answer : Question → Enclosure → Enclosure → Enclosure
+sum_answer q = sum_of q.times.now.first q.times.now.last
 
--- the states of a view over one span of times
-pub record Taken : Type 0 where
-  pub view : View
-  pub first : ℤ
-  pub last : ℤ
+abbrev pub difference_answer : Question → Enclosure → Enclosure → Enclosure
+difference_answer q = difference_of q.times.now.first q.times.now.last
+
+abbrev pub scaled_answer : View → Question → Factor → Enclosure → Enclosure
+scaled_answer v q f = product_of q.times.now.first q.times.now.last (constant_of q.times.now.first q.times.now.last (factor_interval (factor_of v f)))
+
+-- ---- a source seen from the observer of a view, in the frame of the files and in that of the ecliptic
+abbrev pub displacement_of : View → Source → ℕ → Coordinate
+displacement_of v source = displacement source v.observer
+
+abbrev pub ecliptic_displacement : View → Source → ℕ → Coordinate
+ecliptic_displacement v source = ecliptic_coordinate (displacement_of v source)

@@ -1,4 +1,6 @@
 pub mod Answers
-pub mod Examples
-pub mod Motions
 pub mod Bases
+pub mod Examples
+pub mod Factors
+pub mod Moments
+pub mod Motions

@@ -1,10 +1,13 @@
 -- Positions and velocities of a column along each axis.
 use Rattle.std.specs.Prelude.{◌≡◌, ℕ, zero, suc, ◌<◌}
-use Rattle.spec_expressions.specs.Enclosure.{Enclosure}
+use Rattle.spec_intervals.specs.Enclosure.{Enclosure}
+use Rattle.spec_ephemeris.specs.Granules.{series_of}
+use Rattle.spec_bodies.specs.declared.quantity.Quantity.{Quantity}
+use Rattle.spec_bodies.specs.declared.quantity.Quantity.TheVariants.{Position, Velocity}
+use Rattle.spec_bodies.specs.Views.{series_enclosure}
 use Rattle.event_expr.specs.States.{parts}
 use Rattle.ival_core.specs.declared.ival.Enclosure.{Enclosure as Answered}
-use Rattle.body_states.specs.declared.asked.Quantity.{Quantity}
-use Rattle.body_states.specs.declared.asked.Quantity.TheVariants.{Position, Velocity}
+use Rattle.body_states.specs.declared.granule_span.GranuleSpan.{GranuleSpan}
 use Rattle.body_states.specs.declared.motions.Motion.{Motion}
 use Rattle.body_states.specs.declared.motions.Motions.{Motions}
 
@@ -17,11 +20,14 @@ abbrev pub of_quantity : Motion → Quantity → Answered
 of_quantity m Position = m.position
 of_quantity m Velocity = m.velocity
 
--- the enclosures of a position and of a velocity
-pub record IsMotion (position velocity : Enclosure) (m : Motion) : Type 0 where
-  pub is_position : parts m.position ≡ position
-  pub is_velocity : parts m.velocity ≡ velocity
+-- both quantities have the enclosures of an axis
+abbrev pub IsMotion : (Quantity → Enclosure) → Motion → Type 0
+IsMotion enclosures m = (quantity : Quantity) → parts (of_quantity m quantity) ≡ enclosures quantity
 
--- the same along each axis
-abbrev pub AreMotions : (ℕ → Enclosure) → (ℕ → Enclosure) → Motions → Type 0
-AreMotions positions velocities m = (axis : ℕ) → axis < 3 → IsMotion (positions axis) (velocities axis) (along m axis)
+-- and that along each axis
+abbrev pub AreMotions : (Quantity → ℕ → Enclosure) → Motions → Type 0
+AreMotions enclosures m = (axis : ℕ) → axis < 3 → IsMotion (λ quantity. enclosures quantity axis) (along m axis)
+
+-- the enclosure of a quantity along an axis, over times within a granule
+abbrev pub enclosure_along : GranuleSpan → Quantity → ℕ → Enclosure
+enclosure_along s quantity axis = series_enclosure quantity s.times.now.first s.times.now.last (series_of s.granule axis)

@@ -1,13 +1,15 @@
 // What is answered for a coordinate of a target.
 ghost use Rattle.std.specs.Prelude.{◌≡◌, ◌<◌};
-ghost use Rattle.spec_bodies.specs.Views.{Fits, target_of, exact_state, state_enclosure};
+ghost use Rattle.spec_bodies.specs.Views.{Fits, target_of, exact_state, state_enclosure, coordinate_enclosure};
 ghost use Rattle.spec_bodies.proofs.Held.{times_span, fractions_of_states, states_held, states_within};
+ghost use Rattle.event_expr.specs.States.{parts};
 
-use crate::asked::{Asked, Quantity};
+use crate::question::Question;
 use crate::states::BodyStates;
 use event_expr::States;
+use event_expr::rules::Span;
 use ival_core::Enclosure;
-use spec_bodies::Source;
+use spec_bodies::{Quantity, Source};
 
 impl<'e> States for BodyStates<'e> {
     ghost exact = { λ v leaf. exact_state v leaf };
@@ -17,13 +19,11 @@ impl<'e> States for BodyStates<'e> {
     ghost fits = { λ v a b. Fits v a b };
 
     fn pos(&self, target: u8, axis: u8, a: i64, b: i64) -> Enclosure {
-        let asked = Asked::new(Quantity::Position, a, b, &[]);
-        self.coordinate(self.target(target), usize::from(axis), &asked)
+        self.state(Quantity::Position, target, axis, a, b)
     }
 
     fn vel(&self, target: u8, axis: u8, a: i64, b: i64) -> Enclosure {
-        let asked = Asked::new(Quantity::Velocity, a, b, &[]);
-        self.coordinate(self.target(target), usize::from(axis), &asked)
+        self.state(Quantity::Velocity, target, axis, a, b)
     }
 
     ghost spans = { λ v a b fits. times_span v a b fits };
@@ -36,6 +36,22 @@ impl<'e> States for BodyStates<'e> {
 }
 
 impl<'e> BodyStates<'e> {
+    // The enclosure of a quantity of a target along an axis.
+    fn state(&self, quantity: Quantity, target: u8, axis: u8, a: i64, b: i64) -> Enclosure
+        requires target { target < 2 }
+        requires axis { axis < 3 }
+        requires fits { Fits self.now a b }
+        ensures { parts result ≡ coordinate_enclosure self.now quantity target axis a b }
+    {
+        let times = Span::new(a, b);
+        let question = Question {
+            quantity,
+            times: &times,
+            columns: &[],
+        };
+        self.coordinate(target, usize::from(axis), &question)
+    }
+
     // A target by its number.
     pub(crate) fn target(&self, target: u8) -> Source
         requires { target < 2 }

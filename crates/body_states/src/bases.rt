@@ -1,38 +1,33 @@
-// The bases of a granule, made once for all axes and quantities.
-ghost use Rattle.std.specs.Prelude.{◌≡◌, true, ◌≤ℤ◌, ◌+ℤ◌};
-ghost use lib.Signed.{lt_z};
-ghost use Rattle.cheby_enclose.specs.Granules.{IsEvaluable};
-ghost use Rattle.body_states.specs.Bases.{AreBases, AreAllBases};
+// Rows of the bases, made once for all axes and quantities.
+ghost use Rattle.std.specs.Prelude.{◌≡◌, ◌≤◌};
+ghost use Rattle.spec_chebyshev.specs.Rows.{IsArguments};
+ghost use Rattle.body_states.specs.Bases.{ArePlain, AreAll};
 
-use cheby_enclose::{Bases, arguments};
+use cheby_enclose::Bases;
 use cheby_laws::{basis_q, basis_r, basis_u};
-use eph_model::Granule;
+use spec_chebyshev::Ival62;
 
-/// The rows of T and U.
-pub(crate) fn plain_bases(g: &Granule, a: i64, b: i64) -> Bases
-    requires granule { IsEvaluable g.now }
-    requires from { g.now.start ≤ℤ a }
-    requires order { a ≤ℤ b }
-    requires upto { b ≤ℤ (g.now.start +ℤ g.now.seconds) }
-    ensures { AreBases g.now a b result }
+/// The first `n` entries of T and U, as the values of positions and velocities need them.
+pub(crate) fn plain_bases(arguments: Ival62, n: usize) -> Bases
+    requires arguments { IsArguments arguments }
+    requires few { n ≤ 32 }
+    ensures arguments { result.arguments ≡ arguments }
+    ensures rows { ArePlain n result }
 {
-    let arguments = arguments(g, a, b);
-    let mut bases = Bases::over(arguments, g.n);
-    basis_u(arguments, g.n, &mut bases.rows);
+    let mut bases = Bases::over(arguments, n);
+    basis_u(arguments, n, &mut bases.rows);
     bases
 }
 
-/// The rows of T, U, Q and R.
-pub(crate) fn all_bases(g: &Granule, a: i64, b: i64) -> Bases
-    requires granule { IsEvaluable g.now }
-    requires from { g.now.start ≤ℤ a }
-    requires order { a ≤ℤ b }
-    requires upto { b ≤ℤ (g.now.start +ℤ g.now.seconds) }
-    ensures { AreAllBases g.now a b result }
+/// The first `n` entries of T, U, Q and R, as the values and the steps need them.
+pub(crate) fn all_bases(arguments: Ival62, n: usize) -> Bases
+    requires arguments { IsArguments arguments }
+    requires few { n ≤ 32 }
+    ensures arguments { result.arguments ≡ arguments }
+    ensures rows { AreAll n result }
 {
-    let mut bases = plain_bases(g, a, b);
-    let arguments = bases.arguments;
-    basis_q(arguments, g.n, &mut bases.rows);
-    basis_r(arguments, g.n, &mut bases.rows);
+    let mut bases = plain_bases(arguments, n);
+    basis_q(arguments, n, &mut bases.rows);
+    basis_r(arguments, n, &mut bases.rows);
     bases
 }

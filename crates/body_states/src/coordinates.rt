@@ -1,200 +1,234 @@
 // The coordinates of bodies, made of those of columns by the rules on enclosures.
-ghost use Rattle.std.specs.Prelude.{◌≡◌, ◌<◌, IfSome, Contains};
-ghost use Rattle.spec_expressions.specs.Enclosure.{constant_of, sum_of, difference_of, product_of};
-ghost use Rattle.spec_bodies.specs.Coordinates.{nothing, of_column, earth, moon, less, barycentric, seen, turned, in_frame};
-ghost use Rattle.spec_bodies.specs.Reading.{AllColumns, IsReadable, IsFactor};
+ghost use Rattle.std.specs.Prelude.{◌≡◌, ◌<◌, ℕ, IfSome, Contains};
+ghost use Rattle.spec_ephemeris.specs.Granules.{series_at, series_of};
+ghost use Rattle.spec_bodies.specs.Coordinates.{nothing, of_column, times, less, earth, moon, barycentric_coordinate};
+ghost use Rattle.spec_bodies.specs.Reading.{IsUsable};
+ghost use Rattle.spec_bodies.specs.Views.{Fits, coordinate_of, framed};
 ghost use Rattle.event_expr.specs.States.{parts};
-ghost use Rattle.body_states.specs.Answers.{CanAsk, answer_of, column_enclosure, IsAnswer, IsNumber};
+ghost use Rattle.body_states.specs.Answers.{CanAsk, CanRead, Answers, IsAnswer, sum_answer, difference_answer, scaled_answer, displacement_of, ecliptic_displacement};
 
-use crate::asked::{Asked, Quantity};
+use crate::granule_span::GranuleSpan;
 use crate::motions::{ColumnMotions, Motions};
-use crate::series::{positions, velocities};
+use crate::question::Question;
 use crate::sources::{EMB_COLUMN, MOON_COLUMN};
 use crate::states::BodyStates;
+use event_expr::rules::Span;
 use ival_core::{Enclosure, Ival};
-use spec_bodies::{Frame, Source};
+use spec_bodies::{Factor, Frame, Source};
 
 impl<'e> BodyStates<'e> {
     /// A coordinate of a target in the frame.
-    pub(crate) fn coordinate(&self, target: Source, axis: usize, asked: &Asked) -> Enclosure
-        requires asked { CanAsk self.now asked.now }
-        requires readable { AllColumns (IsReadable self.now) (in_frame self.now.frame (seen target self.now.observer) axis) }
-        ensures { parts result ≡ answer_of self.now asked.now (in_frame self.now.frame (seen target self.now.observer) axis) }
+    pub(crate) fn coordinate(&self, target: u8, axis: usize, question: &Question) -> Enclosure
+        requires target { target < 2 }
+        requires axis { axis < 3 }
+        requires question { CanAsk self.now question.now }
+        ensures { Answers self.now question.now (coordinate_of self.now target axis) result }
+    {
+        self.framed(self.target(target), axis, question)
+    }
+
+    // A coordinate of a source in the frame.
+    fn framed(&self, source: Source, axis: usize, question: &Question) -> Enclosure
+        requires question { CanAsk self.now question.now }
+        requires readable { CanRead self.now (framed self.now source axis) }
+        ensures { Answers self.now question.now (framed self.now source axis) result }
     {
         match self.frame {
-            Frame::Eq => self.seen(target, axis, asked),
-            Frame::Ecl => self.turned(target, axis, asked),
+            Frame::Eq => self.displacement(source, axis, question),
+            Frame::Ecl => self.ecliptic(source, axis, question),
         }
     }
 
-    // A coordinate along the axes of the ecliptic: y' = c y + s z and z' = c z - s y.
-    fn turned(&self, target: Source, axis: usize, asked: &Asked) -> Enclosure
-        requires asked { CanAsk self.now asked.now }
-        requires readable { AllColumns (IsReadable self.now) (turned (seen target self.now.observer) axis) }
-        ensures { parts result ≡ answer_of self.now asked.now (turned (seen target self.now.observer) axis) }
+    // A coordinate along the axes of the ecliptic: y' = c y + s z and z' = c z - s y, where c and s are the cosine and the
+    // sine of the obliquity.
+    fn ecliptic(&self, source: Source, axis: usize, question: &Question) -> Enclosure
+        requires question { CanAsk self.now question.now }
+        requires readable { CanRead self.now (ecliptic_displacement self.now source axis) }
+        ensures { Answers self.now question.now (ecliptic_displacement self.now source axis) result }
     {
         match axis {
-            0 => self.seen(target, 0, asked),
-            1 => self.turned_y(target, asked),
-            _ => self.turned_z(target, asked),
-        }
-    }
-
-    fn turned_y(&self, target: Source, asked: &Asked) -> Enclosure
-        requires asked { CanAsk self.now asked.now }
-        requires readable { AllColumns (IsReadable self.now) (turned (seen target self.now.observer) 1) }
-        ensures { parts result ≡ answer_of self.now asked.now (turned (seen target self.now.observer) 1) }
-    {
-        let own_y = self.seen(target, 1, asked);
-        let own_z = self.seen(target, 2, asked);
-        let y = self.scaled(self.factors.cosine, own_y, asked);
-        let z = self.scaled(self.factors.sine, own_z, asked);
-        self.sum(y, z, asked)
-    }
-
-    fn turned_z(&self, target: Source, asked: &Asked) -> Enclosure
-        requires asked { CanAsk self.now asked.now }
-        requires readable { AllColumns (IsReadable self.now) (turned (seen target self.now.observer) 2) }
-        ensures { parts result ≡ answer_of self.now asked.now (turned (seen target self.now.observer) 2) }
-    {
-        let own_y = self.seen(target, 1, asked);
-        let own_z = self.seen(target, 2, asked);
-        let y = self.scaled(self.factors.sine, own_y, asked);
-        let z = self.scaled(self.factors.cosine, own_z, asked);
-        self.difference(z, y, asked)
-    }
-
-    // A coordinate of a target relative to the observer, in the frame of the files.
-    fn seen(&self, target: Source, axis: usize, asked: &Asked) -> Enclosure
-        requires asked { CanAsk self.now asked.now }
-        requires readable { AllColumns (IsReadable self.now) (seen target self.now.observer axis) }
-        ensures { parts result ≡ answer_of self.now asked.now (seen target self.now.observer axis) }
-    {
-        match (target, self.observer) {
-            (Source::MoonOfPair, Source::EarthOfPair) => self.column(MOON_COLUMN, axis, asked),
-            (Source::EarthOfPair, Source::MoonOfPair) => {
-                let moon = self.column(MOON_COLUMN, axis, asked);
-                self.difference(self.nothing(asked), moon, asked)
+            0 => self.displacement(source, 0, question),
+            1 => {
+                let y = self.scaled_displacement(Factor::Cosine, source, 1, question);
+                let z = self.scaled_displacement(Factor::Sine, source, 2, question);
+                self.sum(y, z, question)
             }
-            (_, Source::Origin) => self.barycentric(target, axis, asked),
-            _ => self.apart(target, axis, asked),
+            _ => {
+                let z = self.scaled_displacement(Factor::Cosine, source, 2, question);
+                let y = self.scaled_displacement(Factor::Sine, source, 1, question);
+                self.difference(z, y, question)
+            }
         }
     }
 
-    // A coordinate of a target less that of the observer.
-    fn apart(&self, target: Source, axis: usize, asked: &Asked) -> Enclosure
-        requires asked { CanAsk self.now asked.now }
-        requires own { AllColumns (IsReadable self.now) (barycentric target axis) }
-        requires observer { AllColumns (IsReadable self.now) (barycentric self.now.observer axis) }
-        ensures { parts result ≡ answer_of self.now asked.now (less (barycentric target axis) (barycentric self.now.observer axis)) }
+    // A factor times a coordinate of a source relative to the observer.
+    fn scaled_displacement(
+        &self,
+        factor: Factor,
+        source: Source,
+        axis: usize,
+        question: &Question,
+    ) -> Enclosure
+        requires question { CanAsk self.now question.now }
+        requires readable { CanRead self.now (displacement_of self.now source axis) }
+        ensures {
+            let own = displacement_of self.now source axis in
+            Answers self.now question.now (times factor own) result
+        }
     {
-        let own = self.barycentric(target, axis, asked);
-        let observer = self.barycentric(self.observer, axis, asked);
-        self.difference(own, observer, asked)
+        let own = self.displacement(source, axis, question);
+        self.scaled(factor, own, question)
     }
 
-    // A coordinate of a body relative to the barycentre of the solar system.
-    fn barycentric(&self, body: Source, axis: usize, asked: &Asked) -> Enclosure
-        requires asked { CanAsk self.now asked.now }
-        requires readable { AllColumns (IsReadable self.now) (barycentric body axis) }
-        ensures { parts result ≡ answer_of self.now asked.now (barycentric body axis) }
+    // A coordinate of a source relative to the observer, in the frame of the files.
+    fn displacement(&self, source: Source, axis: usize, question: &Question) -> Enclosure
+        requires question { CanAsk self.now question.now }
+        requires readable { CanRead self.now (displacement_of self.now source axis) }
+        ensures { Answers self.now question.now (displacement_of self.now source axis) result }
     {
-        match body {
-            Source::OwnColumn(number) => self.column(number, axis, asked),
-            Source::EarthOfPair => self.earth(axis, asked),
-            Source::MoonOfPair => self.moon(axis, asked),
-            Source::Origin => self.nothing(asked),
+        match (source, self.observer) {
+            (Source::MoonOfPair, Source::EarthOfPair) => self.column(MOON_COLUMN, axis, question),
+            (Source::EarthOfPair, Source::MoonOfPair) => {
+                let moon = self.column(MOON_COLUMN, axis, question);
+                self.difference(self.nothing(question), moon, question)
+            }
+            (_, Source::Origin) => self.barycentric(source, axis, question),
+            _ => self.apart(source, axis, question),
+        }
+    }
+
+    // A coordinate of a source less that of the observer.
+    fn apart(&self, source: Source, axis: usize, question: &Question) -> Enclosure
+        requires question { CanAsk self.now question.now }
+        requires own { CanRead self.now (barycentric_coordinate source axis) }
+        requires observer { CanRead self.now (barycentric_coordinate self.now.observer axis) }
+        ensures {
+            let own = barycentric_coordinate source axis in
+            let observer = barycentric_coordinate self.now.observer axis in
+            Answers self.now question.now (less own observer) result
+        }
+    {
+        let own = self.barycentric(source, axis, question);
+        let observer = self.barycentric(self.observer, axis, question);
+        self.difference(own, observer, question)
+    }
+
+    // A coordinate of a source relative to the barycentre of the solar system.
+    fn barycentric(&self, source: Source, axis: usize, question: &Question) -> Enclosure
+        requires question { CanAsk self.now question.now }
+        requires readable { CanRead self.now (barycentric_coordinate source axis) }
+        ensures { Answers self.now question.now (barycentric_coordinate source axis) result }
+    {
+        match source {
+            Source::OwnColumn(number) => self.column(number, axis, question),
+            Source::EarthOfPair => self.earth(axis, question),
+            Source::MoonOfPair => self.moon(axis, question),
+            Source::Origin => self.nothing(question),
         }
     }
 
     // The Earth: the barycentre of the Earth and the Moon less the Moon's share.
-    fn earth(&self, axis: usize, asked: &Asked) -> Enclosure
-        requires asked { CanAsk self.now asked.now }
-        requires readable { AllColumns (IsReadable self.now) (earth axis) }
-        ensures { parts result ≡ answer_of self.now asked.now (earth axis) }
+    fn earth(&self, axis: usize, question: &Question) -> Enclosure
+        requires question { CanAsk self.now question.now }
+        requires readable { CanRead self.now (earth axis) }
+        ensures { Answers self.now question.now (earth axis) result }
     {
-        let emb = self.column(EMB_COLUMN, axis, asked);
-        let moon = self.column(MOON_COLUMN, axis, asked);
-        let share = self.scaled(self.factors.moon_share, moon, asked);
-        self.difference(emb, share, asked)
+        let emb = self.column(EMB_COLUMN, axis, question);
+        let moon = self.column(MOON_COLUMN, axis, question);
+        let share = self.scaled(Factor::MoonShare, moon, question);
+        self.difference(emb, share, question)
     }
 
     // The Moon: the Earth and the Moon seen from it.
-    fn moon(&self, axis: usize, asked: &Asked) -> Enclosure
-        requires asked { CanAsk self.now asked.now }
-        requires readable { AllColumns (IsReadable self.now) (moon axis) }
-        ensures { parts result ≡ answer_of self.now asked.now (moon axis) }
+    fn moon(&self, axis: usize, question: &Question) -> Enclosure
+        requires question { CanAsk self.now question.now }
+        requires readable { CanRead self.now (moon axis) }
+        ensures { Answers self.now question.now (moon axis) result }
     {
-        let earth = self.earth(axis, asked);
-        let moon = self.column(MOON_COLUMN, axis, asked);
-        self.sum(earth, moon, asked)
+        let earth = self.earth(axis, question);
+        let moon = self.column(MOON_COLUMN, axis, question);
+        self.sum(earth, moon, question)
     }
 
-    // A coordinate of a column.
-    fn column(&self, number: usize, axis: usize, asked: &Asked) -> Enclosure
-        requires asked { CanAsk self.now asked.now }
-        requires readable { IsReadable self.now number axis }
-        ensures { parts result ≡ column_enclosure self.now asked.now.quantity asked.now.first asked.now.last number axis }
+    // A coordinate of a column, from what is known of it or else from its granule.
+    fn column(&self, number: usize, axis: usize, question: &Question) -> Enclosure
+        requires question { CanAsk self.now question.now }
+        requires readable { CanRead self.now (of_column number axis) }
+        ensures { Answers self.now question.now (of_column number axis) result }
     {
-        match known(asked.columns(), number) {
-            Some(motions) => motions.along(axis).of(asked.quantity()),
-            None => self.read(number, axis, asked),
+        match known(question.columns, number) {
+            Some(motions) => motions.along(axis).of(question.quantity),
+            None => self.read(number, axis, question),
         }
     }
 
     // A coordinate of a column that is read from its granule.
-    fn read(&self, number: usize, axis: usize, asked: &Asked) -> Enclosure
-        requires asked { CanAsk self.now asked.now }
-        requires readable { IsReadable self.now number axis }
-        ensures { parts result ≡ column_enclosure self.now asked.now.quantity asked.now.first asked.now.last number axis }
+    fn read(&self, number: usize, axis: usize, question: &Question) -> Enclosure
+        requires question { CanAsk self.now question.now }
+        requires readable { CanRead self.now (of_column number axis) }
+        ensures { Answers self.now question.now (of_column number axis) result }
     {
-        let granule = self.ephemeris.granule(number, asked.first());
-        match asked.quantity() {
-            Quantity::Position => positions(&granule, axis, asked),
-            Quantity::Velocity => velocities(&granule, axis, asked),
+        let span = self.granule_span(number, question.times);
+        span.enclosure(question.quantity, axis)
+    }
+
+    /// The granule of a column over times that lie within it.
+    pub(crate) fn granule_span<'a>(&'a self, number: usize, times: &'a Span) -> GranuleSpan<'a>
+        requires fits { Fits self.now times.now.first times.now.last }
+        requires usable { IsUsable self.now number }
+        ensures times { result.times.now ≡ times.now }
+        ensures series {
+            (axis : ℕ) → axis < 3
+                → series_of result.granule axis ≡ series_at self.now.ephemeris number axis times.now.first
+        }
+    {
+        GranuleSpan {
+            granule: self.ephemeris.granule(number, times.first()),
+            times,
         }
     }
 
     // 0 at each time.
-    fn nothing(&self, asked: &Asked) -> Enclosure
-        ensures { parts result ≡ answer_of self.now asked.now nothing }
+    fn nothing(&self, question: &Question) -> Enclosure
+        ensures { Answers self.now question.now nothing result }
     {
-        asked.span().constant(Ival::zero())
+        question.times.constant(Ival::zero())
     }
 
-    fn scaled(&self, factor: Ival, x: Enclosure, asked: &Asked) -> Enclosure
-        requires asked { CanAsk self.now asked.now }
-        requires factor { IsFactor factor }
-        requires number { IsNumber factor }
-        requires x { IsAnswer self.now asked.now (parts x) }
-        ensures { parts result ≡ product_of asked.now.first asked.now.last (constant_of asked.now.first asked.now.last factor) (parts x) }
+    fn scaled(&self, factor: Factor, x: Enclosure, question: &Question) -> Enclosure
+        requires question { CanAsk self.now question.now }
+        requires x { IsAnswer self.now question.now (parts x) }
+        ensures { parts result ≡ scaled_answer self.now question.now factor (parts x) }
     {
-        let constant = asked.span().constant(factor);
-        asked.span().product(constant, x)
+        let constant = question.times.constant(self.factors.interval(factor));
+        question.times.product(constant, x)
     }
 
-    fn sum(&self, x: Enclosure, y: Enclosure, asked: &Asked) -> Enclosure
-        requires asked { CanAsk self.now asked.now }
-        requires x { IsAnswer self.now asked.now (parts x) }
-        requires y { IsAnswer self.now asked.now (parts y) }
-        ensures { parts result ≡ sum_of asked.now.first asked.now.last (parts x) (parts y) }
+    fn sum(&self, x: Enclosure, y: Enclosure, question: &Question) -> Enclosure
+        requires question { CanAsk self.now question.now }
+        requires x { IsAnswer self.now question.now (parts x) }
+        requires y { IsAnswer self.now question.now (parts y) }
+        ensures { parts result ≡ sum_answer question.now (parts x) (parts y) }
     {
-        asked.span().sum(x, y)
+        question.times.sum(x, y)
     }
 
-    fn difference(&self, x: Enclosure, y: Enclosure, asked: &Asked) -> Enclosure
-        requires asked { CanAsk self.now asked.now }
-        requires x { IsAnswer self.now asked.now (parts x) }
-        requires y { IsAnswer self.now asked.now (parts y) }
-        ensures { parts result ≡ difference_of asked.now.first asked.now.last (parts x) (parts y) }
+    fn difference(&self, x: Enclosure, y: Enclosure, question: &Question) -> Enclosure
+        requires question { CanAsk self.now question.now }
+        requires x { IsAnswer self.now question.now (parts x) }
+        requires y { IsAnswer self.now question.now (parts y) }
+        ensures { parts result ≡ difference_answer question.now (parts x) (parts y) }
     {
-        asked.span().difference(x, y)
+        question.times.difference(x, y)
     }
 }
 
 // What is known of a column.
 fn known(columns: &[ColumnMotions], number: usize) -> Option<&Motions>
-    ensures { IfSome result (λ motions. Contains columns.now (record { number = number; motions = motions.now })) }
+    ensures {
+        IfSome result
+            (λ motions. Contains columns.now (record { number = number; motions = motions.now }))
+    }
 {
     if number < columns.len() {
         let column = &columns[number];

@@ -1,19 +1,29 @@
 // The constants of the formulas, as intervals.
 ghost use Rattle.std.specs.Prelude.{◌≡◌, ◌+◌, ◌*◌, ◌^◌, ◌<◌, ◌≤◌, ℕ, pos, ◌*ℤ◌, ◌≤ℤ◌, unsigned_abs};
 ghost use borrow.Author.Differences.{up, down};
-ghost use Rattle.spec_intervals.specs.Interval.{floor_div, ceil_div};
+ghost use Rattle.spec_numbers.specs.Numbers.{floor_div, ceil_div};
 ghost use Rattle.spec_ephemeris.specs.Header.{IsMassRatio};
-ghost use Rattle.spec_bodies.specs.Coordinates.{moon_share, cosine, sine};
-ghost use Rattle.spec_bodies.specs.Meanings.{share_beside, factor, factor_interval};
+ghost use Rattle.spec_bodies.specs.Meanings.{share_beside, factor_interval};
+ghost use Rattle.body_states.specs.Factors.{AreFactors, interval_of};
 
 use ival_core::Ival;
+use spec_bodies::Factor;
 use spec_text::Decimal;
 
 /// 1 in units of 2^-60.
 const ONE: u128 = 1_152_921_504_606_846_976;
 
-/// The mass of the Moon over that of the Earth and the Moon, and the cosine and the sine of the obliquity of the
-/// ecliptic of J2000, in units of 2^-60.
+/// The exponent of that unit.
+const UNIT_EXPONENT: i32 = -60;
+
+/// The cosine of the obliquity of the ecliptic of J2000, with 15 decimals: that of 84381.448 arc seconds, of the IAU 1976
+/// system of constants and of SPICE's ECLIPJ2000.
+const COSINE_OF_OBLIQUITY: i64 = 917_482_062_069_182;
+
+/// The sine of that obliquity, with 15 decimals.
+const SINE_OF_OBLIQUITY: i64 = 397_777_155_931_914;
+
+/// The factors in units of 2^-60.
 #[derive(Clone, Copy)]
 pub(crate) struct Factors {
     pub moon_share: Ival,
@@ -22,17 +32,26 @@ pub(crate) struct Factors {
 }
 
 impl Factors {
-    /// The factors, by the mass of the Earth over that of the Moon.
-    pub fn of(ratio: Decimal) -> Factors
+    /// The factors by the mass of the Earth over that of the Moon, which is EMRAT in JPL's headers.
+    pub fn new(ratio: Decimal) -> Factors
         requires { IsMassRatio ratio }
-        ensures moon_share { result.moon_share ≡ factor_interval (factor ratio moon_share) }
-        ensures cosine { result.cosine ≡ factor_interval (factor ratio cosine) }
-        ensures sine { result.sine ≡ factor_interval (factor ratio sine) }
+        ensures { AreFactors ratio result }
     {
         Factors {
             moon_share: share_beside(ratio.mant, ratio.exp),
-            cosine: Ival::from_decimal(917_482_062_069_182, -15, -60),
-            sine: Ival::from_decimal(397_777_155_931_914, -15, -60),
+            cosine: Ival::from_decimal(COSINE_OF_OBLIQUITY, -15, UNIT_EXPONENT),
+            sine: Ival::from_decimal(SINE_OF_OBLIQUITY, -15, UNIT_EXPONENT),
+        }
+    }
+
+    /// One of them.
+    pub fn interval(self, factor: Factor) -> Ival
+        ensures { result ≡ interval_of self factor }
+    {
+        match factor {
+            Factor::MoonShare => self.moon_share,
+            Factor::Cosine => self.cosine,
+            Factor::Sine => self.sine,
         }
     }
 }
@@ -83,7 +102,7 @@ fn share(part: u64, whole: u64) -> Ival
 {
     let top = u128::from(part) * ONE;
     let whole = u128::from(whole);
-    Ival::of(quotient_down(top, whole), quotient_up(top, whole), -60)
+    Ival::of(quotient_down(top, whole), quotient_up(top, whole), UNIT_EXPONENT)
 }
 
 fn quotient_down(top: u128, whole: u128) -> i128

@@ -7,13 +7,13 @@
 #![tactic(auto)]
 
 mod answers;
-mod asked;
 mod bases;
-mod columns;
 mod coordinates;
+mod evaluation;
 mod factors;
+mod granule_span;
 mod motions;
-mod series;
+mod question;
 mod snapshots;
 mod sources;
 mod states;
@@ -23,5 +23,5 @@ mod tests;
 pub use eph_model::{Body, Ephemeris};
 pub use event_expr::States;
 pub use snapshots::Snapshot;
-pub use spec_bodies::Frame;
+pub use spec_bodies::{Frame, Quantity};
 pub use states::BodyStates;

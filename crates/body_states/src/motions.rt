@@ -2,8 +2,8 @@
 ghost use Rattle.std.specs.Prelude.{◌≡◌, ◌<◌};
 ghost use Rattle.body_states.specs.Motions.{along, of_quantity};
 
-use crate::asked::Quantity;
 use ival_core::Enclosure;
+use spec_bodies::Quantity;
 
 /// The enclosures of a position, in km, and of a velocity, in km per second, along one axis.
 #[derive(Clone, Copy)]

@@ -1,20 +1,20 @@
 // The states of both targets over one span of times.
 ghost use Rattle.std.specs.Prelude.{◌≡◌, ◌<◌, All, ℕ};
-ghost use Rattle.spec_expressions.specs.Expression.{position, velocity};
-ghost use Rattle.spec_bodies.specs.Coordinates.{seen, in_frame};
-ghost use Rattle.spec_bodies.specs.Reading.{AllColumns, IsReadable, IsUsable};
-ghost use Rattle.spec_bodies.specs.Views.{Fits, target_of, state_enclosure, exact_state};
+ghost use Rattle.spec_bodies.specs.Reading.{IsUsable};
+ghost use Rattle.spec_bodies.specs.Views.{Fits, state_enclosure, exact_state, coordinate_enclosure};
 ghost use Rattle.spec_bodies.proofs.Held.{times_span, fractions_of_states, states_held, states_within};
-ghost use Rattle.body_states.specs.Answers.{CanAsk, IsKnown, answer_of};
+ghost use Rattle.event_expr.specs.States.{parts};
+ghost use Rattle.body_states.specs.Answers.{IsKnown};
 ghost use Rattle.body_states.specs.Motions.{IsMotion, AreMotions};
+ghost use Rattle.body_states.specs.Moments.{target_enclosure};
 
-use crate::asked::{Asked, Quantity};
-use crate::columns::motions;
 use crate::motions::{ColumnMotions, Motion, Motions};
+use crate::question::Question;
 use crate::states::BodyStates;
 use event_expr::States;
+use event_expr::rules::Span;
 use ival_core::{Enclosure, Ival};
-use spec_bodies::Source;
+use spec_bodies::Quantity;
 use std::marker::Model;
 
 /// The states of both targets over the times from a first to a last, made once: what is answered for these times costs
@@ -24,108 +24,135 @@ pub struct Snapshot<'s, 'e> {
     states: &'s BodyStates<'e>,
     from: i64,
     upto: i64,
-    one: Motions,
-    other: Motions,
+    first_target: Motions,
+    second_target: Motions,
 }
 
 impl<'s, 'e> Model for Snapshot<'s, 'e> {
-    ghost use Rattle.std.specs.Prelude.{◌≡◌};
-    ghost use Rattle.spec_expressions.specs.Expression.{position, velocity};
-    ghost use Rattle.spec_bodies.specs.Views.{state_enclosure};
-    ghost use Rattle.body_states.specs.Answers.{Taken};
+    ghost use Rattle.body_states.specs.Moments.{Moment, target_enclosure};
     ghost use Rattle.body_states.specs.Motions.{AreMotions};
 
-    ghost Value = { Taken };
+    ghost Value = { Moment };
 
     ghost view = { λ s. record { view = s.states.now; first = s.from; last = s.upto } };
 
-    ghost invariant = { λ s. AreMotions (λ axis. state_enclosure s.states.now (position 0 axis) s.from s.upto) (λ axis. state_enclosure s.states.now (velocity 0 axis) s.from s.upto) s.one
-        × AreMotions (λ axis. state_enclosure s.states.now (position 1 axis) s.from s.upto) (λ axis. state_enclosure s.states.now (velocity 1 axis) s.from s.upto) s.other };
+    ghost invariant = {
+        λ s. AreMotions (target_enclosure s.states.now s.from s.upto 0) s.first_target
+        × AreMotions (target_enclosure s.states.now s.from s.upto 1) s.second_target
+    };
 }
 
 impl<'e> BodyStates<'e> {
-    /// The states of both targets over the times from `a` to `b`. Each basis of a column in use is made once.
+    /// The states of both targets over the times from `a` to `b`, in seconds of TDB since J2000. Each basis of a column
+    /// in use is made once.
     pub fn at(&self, a: i64, b: i64) -> Snapshot<'_, 'e>
         requires { Fits self.now a b }
         ensures { result ≡ record { view = self.now; first = a; last = b } }
     {
-        let nothing = Asked::new(Quantity::Position, a, b, &[]);
-        let columns = self.known_columns(self.columns(), &nothing);
-        let positions = Asked::new(Quantity::Position, a, b, &columns);
-        let velocities = Asked::new(Quantity::Velocity, a, b, &columns);
+        let times = Span::new(a, b);
+        let columns = self.known_columns(self.columns(), &times);
         Snapshot {
             states: self,
             from: a,
             upto: b,
-            one: self.motions(0, &positions, &velocities),
-            other: self.motions(1, &positions, &velocities),
+            first_target: self.motions(0, &times, &columns),
+            second_target: self.motions(1, &times, &columns),
         }
     }
 
     // The motions of a target along each axis.
-    fn motions(&self, target: u8, positions: &Asked, velocities: &Asked) -> Motions
+    fn motions(&self, target: u8, times: &Span, columns: &[ColumnMotions]) -> Motions
         requires target { target < 2 }
-        requires positions { CanAsk self.now positions.now }
-        requires velocities { CanAsk self.now velocities.now }
-        ensures { AreMotions (λ axis. answer_of self.now positions.now (in_frame self.now.frame (seen (target_of self.now target) self.now.observer) axis)) (λ axis. answer_of self.now velocities.now (in_frame self.now.frame (seen (target_of self.now target) self.now.observer) axis)) result }
+        requires fits { Fits self.now times.now.first times.now.last }
+        requires known { All (IsKnown self.now times.now.first times.now.last) columns.now }
+        ensures { AreMotions (target_enclosure self.now times.now.first times.now.last target) result }
     {
         Motions {
-            x: self.motion(target, 0, positions, velocities),
-            y: self.motion(target, 1, positions, velocities),
-            z: self.motion(target, 2, positions, velocities),
+            x: self.motion(target, 0, times, columns),
+            y: self.motion(target, 1, times, columns),
+            z: self.motion(target, 2, times, columns),
         }
     }
 
-    fn motion(&self, target: u8, axis: usize, positions: &Asked, velocities: &Asked) -> Motion
+    // The motion of a target along an axis.
+    fn motion(&self, target: u8, axis: usize, times: &Span, columns: &[ColumnMotions]) -> Motion
         requires target { target < 2 }
         requires axis { axis < 3 }
-        requires positions { CanAsk self.now positions.now }
-        requires velocities { CanAsk self.now velocities.now }
-        ensures { IsMotion (answer_of self.now positions.now (in_frame self.now.frame (seen (target_of self.now target) self.now.observer) axis)) (answer_of self.now velocities.now (in_frame self.now.frame (seen (target_of self.now target) self.now.observer) axis)) result }
+        requires fits { Fits self.now times.now.first times.now.last }
+        requires known { All (IsKnown self.now times.now.first times.now.last) columns.now }
+        ensures {
+            let enclosures = target_enclosure self.now times.now.first times.now.last target in
+            IsMotion (λ quantity. enclosures quantity axis) result
+        }
     {
-        let source = self.target(target);
+        let position = Question {
+            quantity: Quantity::Position,
+            times,
+            columns,
+        };
+        let velocity = Question {
+            quantity: Quantity::Velocity,
+            times,
+            columns,
+        };
         Motion {
-            position: self.coordinate(source, axis, positions),
-            velocity: self.coordinate(source, axis, velocities),
+            position: self.coordinate(target, axis, &position),
+            velocity: self.coordinate(target, axis, &velocity),
         }
     }
 
     // The motions of some columns, each at its number.
-    fn known_columns(&self, numbers: &[usize], asked: &Asked) -> [ColumnMotions; 12]
-        requires fits { Fits self.now asked.now.first asked.now.last }
+    fn known_columns(&self, numbers: &[usize], times: &Span) -> [ColumnMotions; 12]
+        requires fits { Fits self.now times.now.first times.now.last }
         requires usable { All (IsUsable self.now) numbers.now }
-        ensures { All (IsKnown self.now asked.now.first asked.now.last) result }
+        ensures { All (IsKnown self.now times.now.first times.now.last) result }
     {
         let mut columns = [unknown(); 12];
         for number in numbers {
-            columns[*number] = self.column_motions(*number, asked);
+            columns[*number] = self.column_motions(*number, times);
         }
         columns
     }
 
     // The motions of a column.
-    fn column_motions(&self, number: usize, asked: &Asked) -> ColumnMotions
-        requires fits { Fits self.now asked.now.first asked.now.last }
+    fn column_motions(&self, number: usize, times: &Span) -> ColumnMotions
+        requires fits { Fits self.now times.now.first times.now.last }
         requires usable { IsUsable self.now number }
-        ensures { IsKnown self.now asked.now.first asked.now.last result }
+        ensures { IsKnown self.now times.now.first times.now.last result }
     {
-        let granule = self.ephemeris.granule(number, asked.first());
+        let span = self.granule_span(number, times);
         ColumnMotions {
             number,
-            motions: motions(&granule, asked),
+            motions: span.motions(),
         }
     }
 }
 
 impl<'s, 'e> Snapshot<'s, 'e> {
+    // The motions of a target, by its number.
     fn target(&self, target: u8) -> &Motions
         requires { target < 2 }
-        ensures { AreMotions (λ axis. state_enclosure self.now.view (position target axis) self.now.first self.now.last) (λ axis. state_enclosure self.now.view (velocity target axis) self.now.first self.now.last) result.now }
+        ensures {
+            let enclosures = target_enclosure self.now.view self.now.first self.now.last target in
+            AreMotions enclosures result.now
+        }
     {
         match target {
-            0 => &self.one,
-            _ => &self.other,
+            0 => &self.first_target,
+            _ => &self.second_target,
         }
+    }
+
+    // The enclosure of a quantity of a target along an axis.
+    fn state(&self, quantity: Quantity, target: u8, axis: u8) -> Enclosure
+        requires target { target < 2 }
+        requires axis { axis < 3 }
+        ensures {
+            let enclosures = target_enclosure self.now.view self.now.first self.now.last target in
+            parts result ≡ enclosures quantity axis
+        }
+    {
+        self.target(target).along(usize::from(axis)).of(quantity)
     }
 }
 
@@ -137,11 +164,11 @@ impl<'s, 'e> States for Snapshot<'s, 'e> {
     ghost fits = { λ s a b. (a ≡ s.first) × (b ≡ s.last) × Fits s.view a b };
 
     fn pos(&self, target: u8, axis: u8, _a: i64, _b: i64) -> Enclosure {
-        self.target(target).along(usize::from(axis)).position
+        self.state(Quantity::Position, target, axis)
     }
 
     fn vel(&self, target: u8, axis: u8, _a: i64, _b: i64) -> Enclosure {
-        self.target(target).along(usize::from(axis)).velocity
+        self.state(Quantity::Velocity, target, axis)
     }
 
     ghost spans = { λ s a b fits. times_span s.view a b fits.2 };
@@ -157,27 +184,22 @@ impl<'s, 'e> States for Snapshot<'s, 'e> {
 fn unknown() -> ColumnMotions
     ensures { result.number ≡ 0 }
 {
+    let zero = Ival::zero();
+    let nothing = Enclosure {
+        mid: zero,
+        range: zero,
+        step: zero,
+    };
+    let still = Motion {
+        position: nothing,
+        velocity: nothing,
+    };
     ColumnMotions {
         number: 0,
         motions: Motions {
-            x: still(),
-            y: still(),
-            z: still(),
+            x: still,
+            y: still,
+            z: still,
         },
-    }
-}
-
-fn still() -> Motion {
-    Motion {
-        position: nothing(),
-        velocity: nothing(),
-    }
-}
-
-fn nothing() -> Enclosure {
-    Enclosure {
-        mid: Ival::zero(),
-        range: Ival::zero(),
-        step: Ival::zero(),
     }
 }

@@ -1,8 +1,7 @@
 // The states of two targets seen from an observer in a frame.
 ghost use Rattle.std.specs.Prelude.{◌≡◌, ◌≢◌, ◌<◌, All, ◌∷◌, take, slice_index_or};
 ghost use Rattle.spec_ephemeris.specs.declared.body.Body.TheVariants.{Ssb};
-ghost use Rattle.spec_bodies.specs.Sources.{source_of, needed};
-ghost use Rattle.spec_bodies.specs.Views.{IsView, HasColumns, view_of, columns_of};
+ghost use Rattle.spec_bodies.specs.Views.{IsView, HasBody, view_of, columns_of};
 
 use crate::factors::Factors;
 use crate::sources::{InUse, source_of};
@@ -27,20 +26,25 @@ pub struct BodyStates<'e> {
 impl<'e> Model for BodyStates<'e> {
     ghost use Rattle.std.specs.Prelude.{◌≡◌, ◌≤◌, take};
     ghost use Rattle.spec_bodies.specs.Sources.{columns_in_use};
-    ghost use Rattle.spec_bodies.specs.Coordinates.{moon_share, cosine, sine};
-    ghost use Rattle.spec_bodies.specs.Meanings.{factor, factor_interval};
     ghost use Rattle.spec_bodies.specs.Views.{View, IsView};
+    ghost use Rattle.body_states.specs.Factors.{AreFactors};
 
     ghost Value = { View };
 
-    ghost view = { λ s. record { ephemeris = s.ephemeris.now; first = s.first; second = s.second; observer = s.observer; frame = s.frame } };
+    ghost view = {
+        λ s. record {
+            ephemeris = s.ephemeris.now; first = s.first; second = s.second; observer = s.observer; frame = s.frame
+        }
+    };
 
-    ghost invariant = { λ s. IsView (record { ephemeris = s.ephemeris.now; first = s.first; second = s.second; observer = s.observer; frame = s.frame })
+    ghost invariant = {
+        λ s. IsView (record {
+            ephemeris = s.ephemeris.now; first = s.first; second = s.second; observer = s.observer; frame = s.frame
+        })
         × (take s.in_use.count s.in_use.numbers ≡ columns_in_use s.first s.second s.observer)
         × (s.in_use.count ≤ 11)
-        × (s.factors.moon_share ≡ factor_interval (factor s.ephemeris.now.header.emrat moon_share))
-        × (s.factors.cosine ≡ factor_interval (factor s.ephemeris.now.header.emrat cosine))
-        × (s.factors.sine ≡ factor_interval (factor s.ephemeris.now.header.emrat sine)) };
+        × AreFactors s.ephemeris.now.header.emrat s.factors
+    };
 }
 
 impl<'e> BodyStates<'e> {
@@ -48,27 +52,27 @@ impl<'e> BodyStates<'e> {
     /// barycentre and of the Moon, also where one is seen from the other; every other body needs its own, and the
     /// barycentre of the solar system none.
     pub fn new(
-        eph: &'e Ephemeris,
+        ephemeris: &'e Ephemeris,
         targets: [Body; 2],
         observer: Body,
         frame: Frame,
     ) -> BodyStates<'e>
-        requires block { 0 < eph.now.blocks }
-        requires present { All (λ body. HasColumns eph.now (needed (source_of body))) (observer ∷ targets) }
+        requires block { 0 < ephemeris.now.blocks }
+        requires present { All (HasBody ephemeris.now) (observer ∷ targets) }
         requires bodies { All (λ target. target ≢ Ssb) targets }
         requires apart { All (λ target. target ≢ observer) targets }
-        ensures { result ≡ view_of eph.now targets observer frame }
+        ensures { result ≡ view_of ephemeris.now targets observer frame }
     {
         let first = source_of(targets[0]);
         let second = source_of(targets[1]);
         let observer = source_of(observer);
         BodyStates {
-            ephemeris: eph,
+            ephemeris,
             first,
             second,
             observer,
             frame,
-            factors: Factors::of(eph.header().emrat),
+            factors: Factors::new(ephemeris.header().emrat),
             in_use: InUse::of(first, second, observer),
         }
     }

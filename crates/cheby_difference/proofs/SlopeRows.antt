@@ -1,14 +1,14 @@
 -- The rows of U and R are small enough for the sums of k C_k U_(k-1) and of k C_k R_(k-1).
-use Rattle.std.proofs.Common.{◌≡◌, ℕ, zero, suc, ◌*◌, ◌^◌, ◌<◌, ◌≤◌, arith, refl, List, ℤ, pos}
-use Rattle.std.proofs.Common.{◌*ℤ◌, ◌≤ℤ◌}
+use Rattle.std.proofs.Common.{◌≡◌, ℕ, zero, suc, ◌*◌, ◌^◌, ◌<◌, ◌≤◌, arith, refl, List, ℤ, pos, ◌*ℤ◌, ◌≤ℤ◌}
 use Rattle.std.proofs.lemmas.Int.{ints}
 use Rattle.std.proofs.lemmas.Nat.{mul-le}
 use Rattle.spec_chebyshev.specs.declared.ends.Ival62.{Ival62}
 use Rattle.spec_chebyshev.specs.Rows.{u_row, r_row, u_size, r_size, entry, EndsWithin, IsArguments}
 use Rattle.spec_chebyshev.proofs.RowEnds.{EndsWithin-u, EndsWithin-r}
-use Rattle.cheby_laws.proofs.Bounds.{size, u_within, r_within}
-use Rattle.cheby_enclose.specs.Rows.{slope_size, slope_sizes, entry_size, IsSlopeRow}
-use Rattle.cheby_enclose.proofs.LoopSums.{sizes_grow}
+use Rattle.spec_chebyshev.proofs.Arguments.{within_size as size}
+use Rattle.spec_chebyshev.proofs.Bounds.{u_within, r_within}
+use Rattle.spec_motions.specs.RowSizes.{slope_size, slope_sizes, entry_size, IsSlopeRow}
+use Rattle.spec_motions.proofs.RowSums.{sizes_grow}
 
 slope_size-le : (a b : ℕ → ℕ) (n : ℕ) → ((k : ℕ) → suc k < suc n → a k ≤ b k) → slope_size a n ≤ slope_size b n
 slope_size-le a b zero h = omega arith
@@ -54,6 +54,3 @@ module _ (x : Ival62) (h : IsArguments x) (row : List Ival62) (n : ℕ) (few : n
 
   pub IsSlopeRow-r : ((k : ℕ) → suc k < n → entry row k ≡ r_row x k) → IsSlopeRow row n
   IsSlopeRow-r is = slope_row row n (r_row x) (λ k. r_size k * 2 ^ 44) few is (r_within x h) (EndsWithin-r x h) (below _ (2062368 * 2 ^ 104) r_total (omega arith))
-
-pub doubles_ordered : (a b : ℤ) → a ≤ℤ b → (pos 2 *ℤ a) ≤ℤ (pos 2 *ℤ b)
-doubles_ordered a b h = omega (arith, ints, h)

@@ -3,9 +3,11 @@ ghost use Rattle.std.specs.Prelude.{◌≡◌, ℕ, ◌<◌, ◌≤◌, ℤ, ◌
 ghost use Rattle.spec_intervals.specs.Fraction.{Holds};
 ghost use Rattle.spec_chebyshev.specs.Rows.{q_row, entry, IsArguments};
 ghost use Rattle.spec_ephemeris.specs.Series.{position};
-ghost use Rattle.spec_enclosures.specs.Velocity.{change};
-ghost use Rattle.spec_enclosures.specs.Enclosures.{zero_interval, position_step_interval};
-ghost use Rattle.cheby_enclose.specs.Granules.{IsEvaluable, series_of};
+ghost use Rattle.spec_intervals.specs.Enclosure.{change};
+ghost use Rattle.spec_motions.specs.Enclosures.{position_step_interval};
+ghost use Rattle.spec_intervals.specs.Interval.{zero_interval};
+ghost use Rattle.spec_motions.specs.Granules.{IsEvaluable};
+ghost use Rattle.spec_ephemeris.specs.Granules.{series_of};
 
 use crate::scaled::position_step_over;
 use cheby_enclose::{Bases, Terms, arguments};

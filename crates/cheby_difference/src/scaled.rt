@@ -1,8 +1,8 @@
 // Sums over the rows of the bases, scaled by what an argument gains in one second.
 ghost use Rattle.std.specs.Prelude.{◌≡◌, ℕ, suc, ◌<◌, ◌≤◌, ◌^◌, length, pos, unsigned_abs, ◌≤ℤ◌, ◌*ℤ◌};
-ghost use Rattle.spec_intervals.specs.Interval.{floor_div, ceil_div};
+ghost use Rattle.spec_numbers.specs.Numbers.{floor_div, ceil_div};
 ghost use Rattle.spec_chebyshev.specs.Rows.{u_row, q_row, r_row, entry, IsArguments};
-ghost use Rattle.spec_enclosures.specs.Enclosures.{position_step_over, velocity_over, velocity_step_over};
+ghost use Rattle.spec_motions.specs.Enclosures.{position_step_over, velocity_over, velocity_step_over};
 
 use cheby_enclose::{Bases, Terms, WideEnds, row_sum, slope_sum};
 use ival_core::Ival;

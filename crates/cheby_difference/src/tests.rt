@@ -1,7 +1,7 @@
 // Values from an exact reference.
 ghost use Rattle.std.specs.Prelude.{◌≡◌, ◌<◌, ◌≤◌, All, IfOk, length, ◌≤ℤ◌, ◌+ℤ◌};
 ghost use Rattle.spec_ephemeris.specs.Ephemeris.{IsBodyNumber};
-ghost use Rattle.cheby_enclose.specs.Granules.{IsEvaluable};
+ghost use Rattle.spec_motions.specs.Granules.{IsEvaluable};
 
 use crate::{position_step, velocity, velocity_step};
 use eph_model::Granule;

@@ -2,9 +2,12 @@
 ghost use Rattle.std.specs.Prelude.{◌≡◌, ℕ, ◌<◌, ◌≤◌, ℤ, ◌≤ℤ◌, ◌<ℤ◌, ◌+ℤ◌};
 ghost use Rattle.spec_intervals.specs.Fraction.{Holds};
 ghost use Rattle.spec_chebyshev.specs.Rows.{u_row, r_row, entry, IsArguments};
-ghost use Rattle.spec_enclosures.specs.Velocity.{velocity, change};
-ghost use Rattle.spec_enclosures.specs.Enclosures.{zero_interval, velocity_interval, velocity_step_interval};
-ghost use Rattle.cheby_enclose.specs.Granules.{IsEvaluable, series_of};
+ghost use Rattle.spec_ephemeris.specs.Velocity.{velocity};
+ghost use Rattle.spec_intervals.specs.Enclosure.{change};
+ghost use Rattle.spec_motions.specs.Enclosures.{velocity_interval, velocity_step_interval};
+ghost use Rattle.spec_intervals.specs.Interval.{zero_interval};
+ghost use Rattle.spec_motions.specs.Granules.{IsEvaluable};
+ghost use Rattle.spec_ephemeris.specs.Granules.{series_of};
 
 use crate::scaled::{velocity_over, velocity_step_over};
 use cheby_enclose::{Bases, Terms, arguments};

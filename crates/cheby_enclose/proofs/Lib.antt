@@ -1,4 +1,1 @@
 pub mod TermLists
-pub mod LoopSums
-pub mod GranuleSeries
-pub mod SmallCoefficients

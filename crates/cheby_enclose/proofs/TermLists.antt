@@ -1,24 +1,22 @@
 -- The intervals of coefficients, one after the other.
-use Rattle.std.proofs.Common.{◌≡◌, ℕ, zero, suc, ◌+◌, ◌*◌, ◌^◌, ◌<◌, ◌≤◌, arith, refl, sym, ap, ◌∙◌, List, [], ◌∷◌, ◌++◌, length, map, take, get_or, set, All, ℤ, pos, negsuc, unsigned_abs}
-use Rattle.std.proofs.lemmas.Int.{ints, unsigned_abs-mul}
-use Rattle.std.proofs.lemmas.List.{take_more_set}
+use Rattle.std.proofs.Common.{◌≡◌, ℕ, zero, suc, ◌+◌, ◌*◌, ◌^◌, ◌<◌, ◌≤◌, arith, refl, sym, ap, ◌∙◌, List, [], ◌∷◌, ◌++◌, length, map, take, get_or, set, All, ℤ, pos, negsuc, unsigned_abs, w64, to_z, of_z, FitsSigned}
+use Rattle.std.proofs.lemmas.Int.{ints, unsigned_abs-mul, to_z-of_z}
+use Rattle.std.proofs.lemmas.List.{take_more_set, length-map}
 use Rattle.spec_text.specs.declared.decimals.Decimal.{Decimal}
 use Rattle.spec_chebyshev.specs.declared.ends.Ival62.{Ival62}
 use Rattle.spec_chebyshev.specs.Differences.{Within}
 use Rattle.spec_chebyshev.specs.Rows.{EndsWithin}
+use Rattle.spec_chebyshev.proofs.Arguments.{size_within}
 use Rattle.spec_intervals.specs.Interval.{IsDistance, decimal_top, decimal_bottom, from_decimal}
-use Rattle.spec_intervals.proofs.Floor.{floor_div-small, ceil_div-small}
+use Rattle.spec_numbers.proofs.Floor.{floor_div-small, ceil_div-small}
 use Rattle.spec_intervals.proofs.Decimals.{bottom_pos}
-use Rattle.ival_core.proofs.DecimalEnds.{distance-size}
+use Rattle.spec_intervals.proofs.DecimalEnds.{distance-size}
 use Rattle.spec_ephemeris.specs.Ephemeris.{IsBodyNumber}
-use Rattle.spec_enclosures.specs.Sums.{coefficient}
-use Rattle.cheby_enclose.specs.Rows.{AreTerms}
-use Rattle.std.proofs.lemmas.List.{length-map}
+use Rattle.spec_motions.specs.Sums.{coefficient}
+use Rattle.spec_motions.specs.RowSizes.{AreTerms}
 use Rattle.std.proofs.lemmas.List.Elements.{All-nil, All-cons, All-head, All-tail}
 use borrow.Author.Differences.{up, down}
 use mir.Syntax.{w128}
-use Rattle.std.proofs.Common.{w64, to_z, of_z, FitsSigned}
-use Rattle.std.proofs.lemmas.Int.{to_z-of_z}
 
 mapped_more : (cs : List Decimal) (k : ℕ) (d : Decimal) → k < length cs → map coefficient (take (suc k) cs) ≡ map coefficient (take k cs) ++ coefficient (get_or cs k d) ∷ []
 mapped_more [] k d h = absurd (omega (arith, h))
@@ -39,9 +37,6 @@ top_size m q h =
     let g : unsigned_abs m * (10 ^ up q * 2 ^ 24) ≤ 2 ^ 60 * 10 ^ down q = distance-size m q (negsuc 23) refl h in
     rw e (omega (arith, g))
 
-within : (z : ℤ) (m : ℕ) → unsigned_abs z ≤ m → Within z (pos m)
-within z m h = record { low = omega (arith, ints); high = omega (arith, ints) }
-
 pub low_size : (c : Decimal) → IsDistance c.mant c.exp → unsigned_abs (coefficient c).lo ≤ 2 ^ 60
 unfolding from_decimal
 low_size c h = floor_div-small (decimal_top c.mant c.exp (negsuc 23)) (decimal_bottom c.exp (negsuc 23)) (2 ^ 60) (bottom_pos c.exp (negsuc 23)) (top_size c.mant c.exp h)
@@ -51,7 +46,7 @@ unfolding from_decimal
 high_size c h = ceil_div-small (decimal_top c.mant c.exp (negsuc 23)) (decimal_bottom c.exp (negsuc 23)) (2 ^ 60) (bottom_pos c.exp (negsuc 23)) (top_size c.mant c.exp h)
 
 pub EndsWithin-coefficient : (c : Decimal) → IsDistance c.mant c.exp → EndsWithin (2 ^ 60) (coefficient c)
-EndsWithin-coefficient c h = record { lo = within (coefficient c).lo (2 ^ 60) (low_size c h); hi = within (coefficient c).hi (2 ^ 60) (high_size c h) }
+EndsWithin-coefficient c h = record { lo = size_within (coefficient c).lo (2 ^ 60) (low_size c h); hi = size_within (coefficient c).hi (2 ^ 60) (high_size c h) }
 
 all_small : (cs : List Decimal) → All IsBodyNumber cs → All (EndsWithin (2 ^ 60)) (map coefficient cs)
 all_small [] h = All-nil (EndsWithin (2 ^ 60))

@@ -2,8 +2,9 @@
 ghost use Rattle.std.specs.Prelude.{◌≡◌, ℕ, ◌≤◌, ◌^◌, ◌≤ℤ◌, ◌+ℤ◌, ◌-ℤ◌, ◌*ℤ◌, neg_ℤ, pos, unsigned_abs};
 ghost use Rattle.spec_chebyshev.specs.Rows.{IsArguments};
 ghost use Rattle.spec_ephemeris.specs.Series.{argument_at};
-ghost use Rattle.spec_enclosures.specs.Enclosures.{arguments};
-ghost use Rattle.cheby_enclose.specs.Granules.{IsEvaluable, series_of};
+ghost use Rattle.spec_motions.specs.Enclosures.{arguments};
+ghost use Rattle.spec_motions.specs.Granules.{IsEvaluable};
+ghost use Rattle.spec_ephemeris.specs.Granules.{series_of};
 
 use cheby_laws::argument;
 use eph_model::Granule;

@@ -3,8 +3,9 @@ ghost use Rattle.std.specs.Prelude.{◌≡◌, ℕ, ◌<◌, ◌≤◌, length, 
 ghost use Rattle.spec_intervals.specs.Fraction.{Holds};
 ghost use Rattle.spec_chebyshev.specs.Rows.{t_row, entry, IsArguments};
 ghost use Rattle.spec_ephemeris.specs.Series.{position};
-ghost use Rattle.spec_enclosures.specs.Enclosures.{IsTight, position_interval, position_over};
-ghost use Rattle.cheby_enclose.specs.Granules.{IsEvaluable, series_of};
+ghost use Rattle.spec_motions.specs.Enclosures.{IsTight, position_interval, position_over};
+ghost use Rattle.spec_motions.specs.Granules.{IsEvaluable};
+ghost use Rattle.spec_ephemeris.specs.Granules.{series_of};
 
 use crate::granules::arguments;
 use crate::sums::row_sum;

@@ -2,8 +2,8 @@
 ghost use Rattle.std.specs.Prelude.{◌≡◌, ℕ, ◌≤◌, ◌<◌, ◌*◌, ◌^◌, List, length, drop, pos, unsigned_abs, ◌+ℤ◌, ◌*ℤ◌, ◌≤ℤ◌};
 ghost use Rattle.spec_intervals.specs.Interval.{least4, greatest4};
 ghost use Rattle.spec_chebyshev.specs.Rows.{entry, EndsWithin};
-ghost use Rattle.spec_enclosures.specs.Sums.{multiples, sum_low, sum_high};
-ghost use Rattle.cheby_enclose.specs.Rows.{AreTerms, IsSmallRow, IsSlopeRow};
+ghost use Rattle.spec_motions.specs.Sums.{multiples, sum_low, sum_high};
+ghost use Rattle.spec_motions.specs.RowSizes.{AreTerms, IsSmallRow, IsSlopeRow};
 
 use crate::terms::Terms;
 use ival_core::product_ends;

@@ -3,10 +3,11 @@ ghost use Rattle.std.specs.Prelude.{◌≡◌, ◌≤◌, ◌<◌, ◌*◌, ◌^
 ghost use Rattle.spec_intervals.specs.Interval.{IsDistance};
 ghost use Rattle.spec_chebyshev.specs.Rows.{EndsWithin};
 ghost use Rattle.spec_ephemeris.specs.Ephemeris.{IsBodyNumber};
-ghost use Rattle.spec_enclosures.specs.Sums.{coefficient};
-ghost use Rattle.spec_enclosures.specs.Enclosures.{coefficients_of};
-ghost use Rattle.cheby_enclose.specs.Granules.{IsEvaluable, series_of};
-ghost use Rattle.cheby_enclose.specs.Rows.{AreTerms};
+ghost use Rattle.spec_motions.specs.Sums.{coefficient};
+ghost use Rattle.spec_motions.specs.Enclosures.{coefficients_of};
+ghost use Rattle.spec_motions.specs.Granules.{IsEvaluable};
+ghost use Rattle.spec_ephemeris.specs.Granules.{series_of};
+ghost use Rattle.spec_motions.specs.RowSizes.{AreTerms};
 
 use eph_model::Granule;
 use ival_core::Ival;
@@ -25,7 +26,7 @@ pub struct Terms {
 impl Model for Terms {
     ghost use Rattle.std.specs.Prelude.{List, take, ◌≤◌};
     ghost use Rattle.spec_chebyshev.specs.declared.ends.Ival62.{Ival62};
-    ghost use Rattle.cheby_enclose.specs.Rows.{AreTerms};
+    ghost use Rattle.spec_motions.specs.RowSizes.{AreTerms};
 
     ghost Value = { List Ival62 };
 

@@ -1,7 +1,8 @@
 // The four bases.
 
 ghost use Rattle.std.specs.Prelude.{◌≡◌, ℕ, ◌<◌, ◌≤◌, ◌*ℤ◌, ℤ};
-ghost use Rattle.spec_intervals.specs.Chebyshev.{cleared_t, cleared_u, power};
+ghost use Rattle.spec_chebyshev.specs.Polynomials.{cleared_t, cleared_u};
+ghost use Rattle.spec_numbers.specs.Numbers.{power};
 ghost use Rattle.spec_chebyshev.specs.Differences.{difference_t, difference_u, IsArgument};
 ghost use Rattle.spec_chebyshev.specs.Rows.{t_row, u_row, q_row, r_row, t_unit, u_unit, q_unit, r_unit, entry, HoldsIn, IsArguments};
 

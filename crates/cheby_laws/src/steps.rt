@@ -2,7 +2,8 @@
 
 ghost use Rattle.std.specs.Prelude.{◌≡◌, ◌≤◌, ◌^◌, ◌+ℤ◌, ◌-ℤ◌, ◌≤ℤ◌, pos, neg_ℤ, unsigned_abs};
 ghost use Rattle.std.specs.Int.{int_min, int_max};
-ghost use Rattle.spec_intervals.specs.Interval.{floor_div, ceil_div, least4, greatest4};
+ghost use Rattle.spec_numbers.specs.Numbers.{floor_div, ceil_div};
+ghost use Rattle.spec_intervals.specs.Interval.{least4, greatest4};
 ghost use Rattle.spec_chebyshev.specs.Rows.{next, shifted, EndsWithin};
 
 use ival_core::product_ends;

@@ -3,38 +3,14 @@ use Rattle.std.proofs.Common.{◌≡◌, ℕ, zero, suc, ◌-◌, ◌≤◌, Lis
 use Rattle.std.proofs.lemmas.Bool.{cases_eq}
 use Rattle.spec_text.specs.declared.decimals.Decimal.{Decimal}
 use Rattle.spec_ephemeris.specs.Ephemeris.{Ephemeris}
-use Rattle.spec_header.specs.declared.rules.BrokenRule.{BrokenRule}
-use Rattle.spec_header.specs.Sections.{FileLine, Stop, ◌>>=◌, at_line, behind_words, first_words, lines_behind}
-use Rattle.spec_header.proofs.Holding.{Holds, holds_ok, then_any}
-use Rattle.spec_blocks.specs.declared.rules.TheConstants.{TRUNCATED}
+use Rattle.spec_sections.specs.declared.rules.BrokenRule.{BrokenRule}
+use Rattle.spec_sections.specs.Sections.{FileLine, Stop, ◌>>=◌, at_line, after_words, first_words, lines_after}
+use Rattle.spec_sections.proofs.Holding.{Holds, holds_ok, then_any}
+use Rattle.spec_sections.proofs.Steps.{bind_same}
+use Rattle.spec_sections.proofs.WordSections.{after_fewer}
+use Rattle.spec_faults.specs.declared.numbers.TheConstants.{TRUNCATED}
 use Rattle.spec_blocks.specs.BlockRules.{record_line}
 use Rattle.spec_blocks.specs.Blocks.{block, blocks_behind, further_numbers, further_words, numbers_of, with_numbers, zeros_of}
-
-pub bind_assoc : {A B C E : Type 0} (r : Result A E) (f : A → Result B E) (g : B → Result C E) → ((r >>= f) >>= g) ≡ (r >>= λ x. f x >>= g)
-bind_assoc (Ok x) f g = refl
-bind_assoc (Err e) f g = refl
-
-pub bind_at : {A B : Type 0} (file number : ℕ) (r : Result A BrokenRule) (f : A → Result B BrokenRule)
-    → (at_line file number r >>= λ x. at_line file number (f x)) ≡ at_line file number (r >>= f)
-bind_at file number (Ok x) f = refl
-bind_at file number (Err b) f = refl
-
-pub bind_same : {A B E : Type 0} (r : Result A E) (f g : A → Result B E) → ((x : A) → r ≡ Ok x → f x ≡ g x) → (r >>= f) ≡ (r >>= g)
-bind_same (Ok x) f g same = same x refl
-bind_same (Err e) f g same = refl
-
-no_more_behind : (n : ℕ) (lines : List FileLine) → length (lines_behind n lines) ≤ length lines
-no_more_behind n [] = omega arith
-no_more_behind n (line ∷ rest) = elim (cases_eq n 0) [
-  | inl none ↦ rw (eq-eqb n 0 none) (omega arith)
-  | inr some ↦ rw (ne_eqb n 0 some) (omega (arith, no_more_behind (n - length line.words) rest))
-]
-
-behind_fewer : (late n : ℕ) (lines : List FileLine) → Holds (λ (rest : List FileLine). length rest ≤ length lines) (behind_words late n lines)
-behind_fewer late n lines = elim (cases_eq (length (first_words n lines)) n) [
-  | inl same ↦ rw (eq-eqb _ _ same) (no_more_behind n lines)
-  | inr other ↦ rw (ne_eqb _ _ other) tt
-]
 
 -- the lines behind a block are fewer
 pub further_fewer : (before : Ephemeris) (n : ℕ) (numbers : List Decimal) (lines : List FileLine)
@@ -42,8 +18,8 @@ pub further_fewer : (before : Ephemeris) (n : ℕ) (numbers : List Decimal) (lin
 further_fewer before n numbers lines =
     then_any (λ (found : List Decimal × List FileLine). length found.1 ≤ length lines) (numbers_of before numbers (first_words n lines)) _ (λ all b.
     then_any (λ (found : List Decimal × List FileLine). length found.1 ≤ length lines) (zeros_of (further_words n lines)) _ (λ zeros c.
-    then_any (λ (found : List Decimal × List FileLine). length found.1 ≤ length lines) (behind_words TRUNCATED n lines) _ (λ later d.
-    holds_ok (λ (r : List FileLine). length r ≤ length lines) _ later d (behind_fewer TRUNCATED n lines))))
+    then_any (λ (found : List Decimal × List FileLine). length found.1 ≤ length lines) (after_words TRUNCATED n lines) _ (λ later d.
+    holds_ok (λ (r : List FileLine). length r ≤ length lines) _ later d (after_fewer TRUNCATED n lines))))
 
 abbrev headed : List FileLine → Unit {0} → Result (Unit {0} × List FileLine) Stop
 headed rest u = Ok (u, rest)

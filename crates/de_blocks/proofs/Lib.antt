@@ -4,6 +4,5 @@ pub mod Large
 pub mod OnLines
 pub mod Enough
 pub mod Steps
-pub mod SameFile
 pub mod Pushing
 pub mod Walking

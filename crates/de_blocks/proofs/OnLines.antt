@@ -3,17 +3,16 @@ use Rattle.std.proofs.Common.{◌≡◌, ◌≢◌, ℕ, ◌+◌, ◌-◌, ◌<�
 use Rattle.std.proofs.lemmas.List.{length-append, length-take, length-drop}
 use Rattle.spec_text.specs.declared.decimals.Decimal.{Decimal}
 use Rattle.spec_ephemeris.specs.Ephemeris.{Ephemeris}
-use Rattle.spec_header.specs.declared.rules.BrokenRule.{BrokenRule}
-use Rattle.spec_header.specs.Sections.{FileLine, FileWord, Stop, ◌>>=◌, at_line, behind_words, first_words, word_of}
-use Rattle.spec_header.proofs.Behind.{behind_no_words, behind_words_of_line, no_words}
-use Rattle.spec_header.proofs.ColumnsMeet.{holds_also}
-use Rattle.spec_header.proofs.Holding.{Holds, holds_ok, then_any}
-use Rattle.spec_blocks.specs.declared.rules.TheConstants.{TRUNCATED}
+use Rattle.spec_sections.specs.declared.rules.BrokenRule.{BrokenRule}
+use Rattle.spec_sections.specs.Sections.{FileLine, FileWord, Stop, ◌>>=◌, at_line, after_words, first_words, word_of}
+use Rattle.spec_sections.proofs.Steps.{bind_assoc, bind_at, bind_same}
+use Rattle.spec_sections.proofs.WordSections.{after_no_words, after_words_of_line, no_words}
+use Rattle.spec_sections.proofs.Holding.{holds_also, Holds, holds_ok, then_any}
+use Rattle.spec_faults.specs.declared.numbers.TheConstants.{TRUNCATED}
 use Rattle.spec_blocks.specs.BlockRules.{number_rule, trailing_rule}
 use Rattle.spec_blocks.specs.Blocks.{further_numbers, further_words, numbers_of, zeros_of}
 use Rattle.spec_blocks.specs.Read.{AreRead}
 use Rattle.spec_blocks.proofs.Numbers.{Counted, Meets, number_holds, read_more}
-use Rattle.de_blocks.proofs.Enough.{bind_assoc, bind_at, bind_same}
 use Rattle.de_blocks.specs.Steps.{numbers_on, on_line, wanted, zeros_on}
 
 -- ---- words one behind the other
@@ -91,7 +90,7 @@ module _ (before : Ephemeris) (numbers : List Decimal) (line : FileLine) (rest :
   apart =
       (at_line line.file line.number here >>= λ mid. numbers_of before mid (first_words (k - length line.words) rest)) >>= λ all.
       (at_line line.file line.number (zeros_on (drop k line.words)) >>= λ zero. zeros_of (further_words (k - length line.words) rest)) >>= λ zeros.
-      behind_words TRUNCATED (k - min k (length line.words)) rest >>= λ behind. Ok (all, behind)
+      after_words TRUNCATED (k - min k (length line.words)) rest >>= λ behind. Ok (all, behind)
 
   pub is_apart : further_numbers before k numbers (line ∷ rest) ≡ apart
   is_apart =
@@ -105,7 +104,7 @@ module _ (before : Ephemeris) (numbers : List Decimal) (line : FileLine) (rest :
       ≡ (at_line line.file line.number (zeros_on (drop k line.words)) >>= λ zero. zeros_of (further_words (k - length line.words) rest)) =
       rw (ne_eqb k 0 not_none) (zeros_append (map (word_of line) (drop k line.words)) (further_words (k - length line.words) rest)
       ∙ ap (λ (r : Result (Unit {0}) Stop). r >>= λ zero. zeros_of (further_words (k - length line.words) rest)) (zeros_here line (drop k line.words))) in
-      let third = behind_words_of_line TRUNCATED k (min k (length line.words)) line rest some refl in
+      let third = after_words_of_line TRUNCATED k (min k (length line.words)) line rest some refl in
       λ i. first i >>= λ all. second i >>= λ zeros. third i >>= λ behind. Ok (all, behind)
 
   -- a line that leaves the block open
@@ -130,7 +129,7 @@ module _ (before : Ephemeris) (numbers : List Decimal) (line : FileLine) (rest :
         is.zeros,
         no_words (k - length line.words) rest left,
         none_further (k - length line.words) rest left,
-        behind_no_words TRUNCATED (k - min k (length line.words)) rest least,
+        after_no_words TRUNCATED (k - min k (length line.words)) rest least,
       ) refl
 
   broken_zeros : (all : List Decimal) (b : BrokenRule) (words : List (List ℕ)) → zeros_on words ≡ Err b → 0 < length words

@@ -1,15 +1,14 @@
 -- A block behind the blocks before it.
-use Rattle.std.proofs.Common.{◌≡◌, ℕ, ◌+◌, ◌*◌, ◌<◌, ◌≤◌, List, [], ◌∷◌, ◌++◌, length, Result, Ok, Err, refl, ap, ◌∙◌, arith, ℤ, eq-eqb, false}
+use Rattle.std.proofs.Common.{◌≡◌, ℕ, ◌+◌, ◌*◌, ◌<◌, ◌≤◌, List, [], ◌∷◌, ◌++◌, length, Result, Ok, Err, refl, ap, ◌∙◌, arith, ℤ, eq-eqb, false, get_or, pos, if◌then◌else◌, nat_lt, true}
 use Rattle.std.specs.Prelude.{OnOk}
 use Rattle.spec_text.specs.declared.decimals.Decimal.{Decimal}
 use Rattle.spec_ephemeris.specs.declared.limits.TheConstants.{MOST_BLOCKS}
 use Rattle.spec_ephemeris.specs.Ephemeris.{Ephemeris, IsBlock, IsEphemeris, empty_ephemeris, with_block}
-use Rattle.spec_header.specs.declared.rules.BrokenRule.{BrokenRule}
-use Rattle.std.proofs.Common.{get_or, pos, if◌then◌else◌, nat_lt, true}
+use Rattle.spec_sections.specs.declared.rules.BrokenRule.{BrokenRule}
 use Rattle.std.proofs.lemmas.Bool.{ltb-true}
-use Rattle.spec_header.specs.HeaderRules.{broken}
-use Rattle.spec_header.proofs.Holding.{holds_ok}
-use Rattle.spec_blocks.specs.declared.rules.TheConstants.{BLOCK_SPAN}
+use Rattle.spec_sections.specs.Sections.{broken}
+use Rattle.spec_sections.proofs.Holding.{holds_ok}
+use Rattle.spec_faults.specs.declared.numbers.TheConstants.{BLOCK_SPAN}
 use Rattle.spec_blocks.specs.BlockRules.{coefficient_rule, follows, has_length, is_behind_gap, is_passed_over, second_date, time_of, value_rule}
 use Rattle.spec_blocks.specs.Blocks.{begun, with_numbers}
 use Rattle.spec_blocks.specs.Read.{AreRead}

@@ -5,14 +5,14 @@ use Rattle.spec_text.specs.Lines.{TokenLine}
 use Rattle.spec_text.specs.declared.decimals.Decimal.{Decimal}
 use Rattle.spec_text.specs.declared.decimals.Fault.{Fault}
 use Rattle.spec_ephemeris.specs.Ephemeris.{Ephemeris}
-use Rattle.spec_header.specs.declared.rules.BrokenRule.{BrokenRule}
-use Rattle.spec_header.specs.Sections.{FileLine, Stop, ended, breaks as breaks_rule, ◌>>=◌, at_line}
-use Rattle.spec_header.proofs.Holding.{holds_ok}
-use Rattle.spec_blocks.specs.declared.rules.TheConstants.{TRUNCATED}
+use Rattle.spec_sections.specs.declared.rules.BrokenRule.{BrokenRule}
+use Rattle.spec_sections.specs.Sections.{FileLine, Stop, ended, breaks as breaks_rule, ◌>>=◌, at_line, line_fault}
+use Rattle.spec_sections.proofs.Holding.{holds_ok}
+use Rattle.spec_faults.specs.declared.numbers.TheConstants.{TRUNCATED}
 use Rattle.spec_blocks.specs.BlockRules.{record_line}
 use Rattle.spec_blocks.specs.Blocks.{blocks_behind, further_numbers, with_numbers}
 use Rattle.spec_blocks.specs.Read.{AreRead}
-use Rattle.de_header.specs.Reader.{line_of}
+use Rattle.spec_sections.specs.FileLines.{line_of}
 use Rattle.de_blocks.specs.declared.answers.BlockError.{BlockError}
 use Rattle.de_blocks.specs.declared.answers.BlockError.TheVariants as errors
 use Rattle.de_blocks.specs.declared.state.Place.{Place}
@@ -23,7 +23,8 @@ use Rattle.de_blocks.specs.declared.answers.Refusal.{Refusal}
 use Rattle.de_blocks.specs.declared.answers.Refusal.TheVariants.{Broken, Memory}
 use Rattle.de_blocks.specs.Steps.{TakesBlock, TakesLine, on_line, wanted}
 use Rattle.de_blocks.specs.Reader.{Ends, Fits, Progress, Says, Takes, answer, at_end, from_numbers, from_record, numbers_at, says, says_at}
-use Rattle.de_blocks.proofs.Enough.{bind_same, enough, further_fewer}
+use Rattle.spec_sections.proofs.Steps.{bind_same}
+use Rattle.de_blocks.proofs.Enough.{enough, further_fewer}
 use Rattle.de_blocks.proofs.OnLines.{Accepted, accepted, breaks, ends, goes_on}
 
 abbrev pub at : Ephemeris → List Decimal → Place → Progress
@@ -67,9 +68,6 @@ abbrev said_broken : ℕ → Fault → Says
 said_broken file fault = Err (breaks_rule file fault)
 
 -- ---- what a line does
-abbrev pub fault_of : TokenLine → BrokenRule → Fault
-fault_of line b = record { line = line.number; number = b.number; detail = b.detail }
-
 pub takes_record : (before : Ephemeris) (numbers : List Decimal) (place : Place) (line : TokenLine) → place ≡ Between → Fits (at before numbers place)
     → record_line before.header.ncoeff line.tokens ≡ Ok tt → Takes (at before numbers place) line (Ok tt) (at before numbers Inside)
 unfolding says
@@ -143,7 +141,7 @@ takes_whole before after numbers all new place line is_inside fits is whole with
     }
 
 pub takes_bad : (before : Ephemeris) (numbers : List Decimal) (place : Place) (new : Progress) (line : TokenLine) (b : BrokenRule) (fault : Fault) → place ≡ Inside
-    → Fits (at before numbers place) → on_line before numbers line.tokens ≡ Err b → fault ≡ fault_of line b → new.place ≡ Refused fault
+    → Fits (at before numbers place) → on_line before numbers line.tokens ≡ Err b → fault ≡ line_fault line.number b → new.place ≡ Refused fault
     → Takes (at before numbers place) line (Err (errors.Fault fault)) new
 unfolding says
 takes_bad before numbers place new line b fault is_inside fits is fault_is refused =
@@ -154,7 +152,7 @@ takes_bad before numbers place new line b fault is_inside fits is fault_is refus
     ∙ ap (λ (f : Fault). said_broken file f) (sym fault_is))
 
 pub takes_bad_record : (before : Ephemeris) (numbers : List Decimal) (place : Place) (new : Progress) (line : TokenLine) (b : BrokenRule) (fault : Fault)
-    → place ≡ Between → record_line before.header.ncoeff line.tokens ≡ Err b → fault ≡ fault_of line b → new.place ≡ Refused fault
+    → place ≡ Between → record_line before.header.ncoeff line.tokens ≡ Err b → fault ≡ line_fault line.number b → new.place ≡ Refused fault
     → Takes (at before numbers place) line (Err (errors.Fault fault)) new
 unfolding says
 takes_bad_record before numbers place new line b fault is_between is fault_is refused =
@@ -243,7 +241,7 @@ is_whole before numbers mid words read few is enough =
 
 pub took_bad : (before : Ephemeris) (numbers new : List Decimal) (after : Ephemeris) (place : Place) (last : Progress) (line : TokenLine) (result : Result Place Refusal)
     (why : Refusal) (b : BrokenRule) (fault : Fault) → place ≡ Inside → Fits (at before numbers place) → why ≡ Broken b
-    → TakesLine before numbers line.tokens (Err why) after new → fault ≡ fault_of line b → last.place ≡ Refused fault
+    → TakesLine before numbers line.tokens (Err why) after new → fault ≡ line_fault line.number b → last.place ≡ Refused fault
     → Takes (at before numbers place) line (Err (errors.Fault fault)) last
 took_bad before numbers new after place last line result why b fault inside fits is taken fault_is refused =
     let rule = (subst (λ (r : Refusal). TakesLine before numbers line.tokens (Err r) after new) is taken).0 in

@@ -3,8 +3,8 @@ use Rattle.std.proofs.Common.{◌≡◌, Result, Ok, Err, subst, sym, ℤ}
 use Rattle.std.specs.Prelude.{IfOk}
 use Rattle.spec_text.specs.declared.decimals.Decimal.{Decimal}
 use Rattle.spec_ephemeris.specs.Ephemeris.{IsStart}
-use Rattle.spec_header.specs.declared.rules.BrokenRule.{BrokenRule}
-use Rattle.spec_header.proofs.Holding.{Holds}
+use Rattle.spec_sections.specs.declared.rules.BrokenRule.{BrokenRule}
+use Rattle.spec_sections.proofs.Holding.{Holds}
 use Rattle.spec_blocks.specs.BlockRules.{time_of}
 use Rattle.spec_blocks.proofs.Blocks.{time_holds}
 

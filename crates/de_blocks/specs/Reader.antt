@@ -4,10 +4,10 @@ use Rattle.spec_text.specs.Lines.{TokenLine}
 use Rattle.spec_text.specs.declared.decimals.Decimal.{Decimal}
 use Rattle.spec_text.specs.declared.decimals.Fault.{Fault}
 use Rattle.spec_ephemeris.specs.Ephemeris.{Ephemeris, IsEphemeris}
-use Rattle.spec_header.specs.Sections.{FileLine, Stop, ended, breaks, ◌>>=◌}
+use Rattle.spec_sections.specs.Sections.{FileLine, Stop, ended, breaks, ◌>>=◌}
 use Rattle.spec_blocks.specs.Blocks.{blocks_behind, further_numbers, with_numbers}
 use Rattle.spec_blocks.specs.Read.{AreRead}
-use Rattle.de_header.specs.Reader.{line_of, stopped_at}
+use Rattle.spec_sections.specs.FileLines.{line_of, stopped_at}
 use Rattle.de_blocks.specs.declared.answers.BlockError.{BlockError}
 use Rattle.de_blocks.specs.declared.answers.BlockError.TheVariants as errors
 use Rattle.de_blocks.specs.declared.state.Place.{Place}

@@ -1,5 +1,5 @@
 // What a reader answers.
-use spec_header::BrokenRule;
+use spec_sections::BrokenRule;
 use spec_text::Fault;
 use thiserror::Error;
 

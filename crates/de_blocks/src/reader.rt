@@ -2,9 +2,9 @@
 ghost use Rattle.std.specs.Prelude.{◌≡◌, ◌∷◌, [], IfOk, List, Ok, Err, ℕ};
 ghost use Rattle.spec_text.specs.declared.decimals.Fault.{Fault};
 ghost use Rattle.spec_ephemeris.specs.Header.{IsHeader};
-ghost use Rattle.spec_header.specs.Sections.{FileLine};
+ghost use Rattle.spec_sections.specs.Sections.{FileLine};
 ghost use Rattle.spec_blocks.specs.Blocks.{blocks};
-ghost use Rattle.de_header.specs.Reader.{line_of};
+ghost use Rattle.spec_sections.specs.FileLines.{line_of};
 ghost use Rattle.de_blocks.specs.declared.answers.BlockError.TheVariants as errors;
 ghost use Rattle.de_blocks.specs.Reader.{Ends, HasBlocks, IsNotMemory, IsNotRefused, IsRefused, Takes, answer, from_record, says};
 ghost use Rattle.de_blocks.specs.declared.state.Place.TheVariants as places;
@@ -15,9 +15,9 @@ use crate::rules::record_line;
 use crate::state::Place;
 use de_text::Line;
 use eph_model::Ephemeris;
-use spec_blocks::{NO_BLOCK, TRUNCATED};
+use spec_faults::{NO_BLOCK, TRUNCATED};
 use spec_ephemeris::Header;
-use spec_header::BrokenRule;
+use spec_sections::BrokenRule;
 use spec_text::{Decimal, Fault};
 use std::alloc::Global;
 use std::marker::Model;
@@ -38,16 +38,6 @@ impl Model for BlockReader {
     ghost view = { λ r. record { accepted = r.accepted; numbers = r.numbers.items; place = r.place } };
 
     ghost invariant = { λ r. Fits (record { accepted = r.accepted; numbers = r.numbers.items; place = r.place }) };
-}
-
-fn fault_at(line: &Line<'_>, broken: BrokenRule) -> Fault
-    ensures { result ≡ record { line = line.now.number; number = broken.number; detail = broken.detail } }
-{
-    Fault {
-        line: line.number(),
-        number: broken.number,
-        detail: broken.detail,
-    }
 }
 
 fn ended(line: u32, number: u8) -> BlockError
@@ -106,7 +96,7 @@ impl BlockReader {
                 self.place = Place::Inside;
                 Ok(())
             }
-            Err(broken) => self.refuse(fault_at(line, broken)),
+            Err(broken) => self.refuse(broken.at_line(line.number())),
         }
     }
 
@@ -123,7 +113,7 @@ impl BlockReader {
             }
             Err(Refusal::Broken(broken)) => {
                 self.numbers.truncate(kept);
-                self.refuse(fault_at(line, broken))
+                self.refuse(broken.at_line(line.number()))
             }
             Err(Refusal::Memory) => {
                 self.numbers.truncate(kept);

@@ -2,49 +2,29 @@
 ghost use Rattle.std.specs.Prelude.{◌≡◌, ◌≤◌, ◌<◌, ◌+◌, ◌*◌, ◌^◌, IfOk, Ok, length, min, slice_get};
 ghost use Rattle.spec_ephemeris.specs.Ephemeris.{IsStart};
 ghost use Rattle.spec_ephemeris.specs.Header.{column_size, components, is_present};
-ghost use Rattle.spec_header.specs.HeaderRules.{whole_at};
 ghost use Rattle.spec_blocks.specs.BlockRules.{coefficient_rule, first_date, follows, has_length, is_behind_gap, is_passed_over, is_place, is_place_of, is_place_of_body, is_too_large, number_rule, record_line, second_date, time_of, trailing_rule, value_rule};
 
-use de_header::seconds_of_julian_date;
-use de_text::{Line, read_decimal, read_whole};
+use de_text::{Line, read_decimal, seconds_of_julian_date};
 use eph_model::Ephemeris;
-use spec_blocks::{
-    BLOCK_GAP, BLOCK_SPAN, NCOEFF_DIFFERS, NUMBER, RECORD_LINE, TOO_LARGE, TOO_MANY_BLOCKS,
-    TRAILING_NUMBERS,
-};
+use spec_faults::{BLOCK_GAP, BLOCK_SPAN, NCOEFF_DIFFERS, NUMBER, RECORD_LINE, TOO_LARGE, TOO_MANY_BLOCKS, TRAILING_NUMBERS};
 use spec_ephemeris::{BODY_COLUMNS, Column, FIRST_TIME, MOST_BLOCKS, NUTATIONS};
-use spec_header::BrokenRule;
+use spec_sections::BrokenRule;
 use spec_text::Decimal;
 
 // The coefficients of bodies are below this many km in size.
 const LARGE: u128 = 1 << 36;
-
-fn broken(number: u8, detail: u16) -> BrokenRule
-    ensures { result ≡ record { number = number; detail = detail } }
-{
-    BrokenRule { number, detail }
-}
-
-fn whole_at(line: &Line<'_>, i: usize) -> Option<u32>
-    ensures { result ≡ whole_at (slice_get line.now.tokens i) }
-{
-    match line.token(i) {
-        Some(word) => read_whole(word),
-        None => None,
-    }
-}
 
 // The line before the numbers of a block.
 pub(crate) fn record_line(ncoeff: u32, line: &Line<'_>) -> Result<(), BrokenRule>
     ensures { result ≡ record_line ncoeff line.now.tokens }
 {
     if line.count() != 2 {
-        return Err(broken(RECORD_LINE, 0));
+        return Err(BrokenRule::new(RECORD_LINE, 0));
     }
-    match (whole_at(line, 0), whole_at(line, 1)) {
+    match (line.whole(0), line.whole(1)) {
         (Some(_), Some(n)) if n == ncoeff => Ok(()),
-        (Some(_), Some(_)) => Err(broken(NCOEFF_DIFFERS, 0)),
-        _ => Err(broken(RECORD_LINE, 0)),
+        (Some(_), Some(_)) => Err(BrokenRule::new(NCOEFF_DIFFERS, 0)),
+        _ => Err(BrokenRule::new(RECORD_LINE, 0)),
     }
 }
 
@@ -56,7 +36,7 @@ pub(crate) fn time_of(date: Decimal) -> Result<i64, BrokenRule>
 {
     match seconds_of_julian_date(date) {
         Ok(seconds) => Ok(FIRST_TIME + seconds as i64),
-        Err(_) => Err(broken(BLOCK_SPAN, 0)),
+        Err(_) => Err(BrokenRule::new(BLOCK_SPAN, 0)),
     }
 }
 
@@ -79,11 +59,11 @@ fn follows(before: &Ephemeris, start: i64, end: i64) -> Result<(), BrokenRule>
     if is_passed_over(before, end) {
         Ok(())
     } else if is_behind_gap(before, start) {
-        Err(broken(BLOCK_GAP, 0))
+        Err(BrokenRule::new(BLOCK_GAP, 0))
     } else if before.blocks() < MOST_BLOCKS {
         Ok(())
     } else {
-        Err(broken(TOO_MANY_BLOCKS, 0))
+        Err(BrokenRule::new(TOO_MANY_BLOCKS, 0))
     }
 }
 
@@ -110,7 +90,7 @@ fn second_date(before: &Ephemeris, first: Decimal, second: Decimal) -> Result<()
     if has_length(before.header().block_seconds, start, end) {
         follows(before, start, end)
     } else {
-        Err(broken(BLOCK_SPAN, 0))
+        Err(BrokenRule::new(BLOCK_SPAN, 0))
     }
 }
 
@@ -191,7 +171,7 @@ fn coefficient_rule(columns: &[Column], place: u32, d: Decimal) -> Result<(), Br
     ensures { result ≡ coefficient_rule columns.now place d }
 {
     if is_large(d.mant, d.exp) && is_place_of_body(columns, place) {
-        Err(broken(TOO_LARGE, 0))
+        Err(BrokenRule::new(TOO_LARGE, 0))
     } else {
         Ok(())
     }
@@ -227,7 +207,7 @@ pub(crate) fn number_rule(
             value_rule(before, numbers, d)?;
             Ok(d)
         }
-        Err(fault) => Err(broken(NUMBER, fault.number())),
+        Err(fault) => Err(BrokenRule::new(NUMBER, fault.number())),
     }
 }
 
@@ -237,6 +217,6 @@ pub(crate) fn trailing_rule(word: &[u8]) -> Result<(), BrokenRule>
 {
     match read_decimal(word) {
         Ok(d) if d.mant == 0 => Ok(()),
-        _ => Err(broken(TRAILING_NUMBERS, 0)),
+        _ => Err(BrokenRule::new(TRAILING_NUMBERS, 0)),
     }
 }

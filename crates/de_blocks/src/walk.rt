@@ -6,7 +6,7 @@ use crate::answers::Refusal;
 use crate::rules::{number_rule, trailing_rule};
 use de_text::{Line, Words};
 use eph_model::Ephemeris;
-use spec_header::BrokenRule;
+use spec_sections::BrokenRule;
 use spec_text::Decimal;
 
 // Puts the number that a word is behind the others.

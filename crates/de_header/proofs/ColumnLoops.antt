@@ -4,9 +4,10 @@ use Rattle.std.specs.Prelude.{slice_get}
 use Rattle.std.proofs.lemmas.List.{take_more_set, take_all, drop_all}
 use Rattle.std.proofs.lemmas.Nat.{mul-le}
 use Rattle.spec_ephemeris.specs.declared.header.Column.{Column}
-use Rattle.spec_header.specs.declared.rules.BrokenRule.{BrokenRule}
+use Rattle.spec_sections.specs.declared.rules.BrokenRule.{BrokenRule}
 use Rattle.spec_header.specs.ColumnRules.{columns_of, row, whole_numbers}
-use Rattle.spec_header.specs.HeaderRules.{broken, whole_at}
+use Rattle.spec_sections.specs.Sections.{broken}
+use Rattle.spec_text.specs.Reading.{whole_at}
 
 pub size_fits : (k c g start : ℕ) → k ≤ 3 → c < 2 ^ 32 → g < 2 ^ 32 → start < 2 ^ 32 → start + k * c * g < 2 ^ 128
 size_fits k c g start few c_fits g_fits s_fits =

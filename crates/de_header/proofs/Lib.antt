@@ -1,7 +1,5 @@
-pub mod Sizes
 pub mod Names
 pub mod ColumnLoops
 pub mod Runs
 pub mod Steps
 pub mod Ending
-pub mod SameFile

@@ -4,12 +4,12 @@ use Rattle.std.specs.Prelude.{slice_get}
 use Rattle.std.proofs.lemmas.Bool.{cases_lt, cases_eq}
 use Rattle.std.proofs.lemmas.List.{length-append, length-map, length-take, map-append, take_all}
 use Rattle.std.proofs.lemmas.Option.{none-some}
-use Rattle.spec_header.specs.declared.rules.TheConstants.{ENDED}
+use Rattle.spec_faults.specs.declared.numbers.TheConstants.{ENDED}
 use Rattle.spec_header.specs.HeaderLines.{mass_ratio_among, names}
 use Rattle.spec_header.specs.HeaderRules.{mass_ratio}
-use Rattle.spec_header.proofs.Behind.{behind_no_words, behind_words_of_line, no_words}
-use Rattle.de_header.proofs.Names.{get_take}
-use Rattle.spec_header.specs.Sections.{FileLine, FileWord, Stop, ended, ◌>>=◌, at_line, behind_words, first_words, lines_behind, word_of}
+use Rattle.spec_sections.proofs.WordSections.{after_no_words, after_words_of_line, no_words}
+use Rattle.spec_numbers.proofs.Lists.{get_take}
+use Rattle.spec_sections.specs.Sections.{FileLine, FileWord, Stop, ended, ◌>>=◌, at_line, after_words, first_words, lines_after, word_of}
 
 abbrev map_some : {X Y : Type 0} → (X → Y) → Option X → Option Y
 map_some f None = None
@@ -18,13 +18,13 @@ map_some f (Some x) = Some (f x)
 some_map : {X Y : Type 0} (f : X → Y) (x y : X) → Some x ≡ Some y → Some (f x) ≡ Some (f y)
 some_map f x y is = ap (map_some f) is
 
-pub behind_none : (n : ℕ) (lines : List FileLine) → n ≡ 0 → behind_words ENDED n lines ≡ Ok lines
-behind_none n lines is = behind_no_words ENDED n lines is
+pub after_none : (n : ℕ) (lines : List FileLine) → n ≡ 0 → after_words ENDED n lines ≡ Ok lines
+after_none n lines is = after_no_words ENDED n lines is
 
 -- a line takes its words from those that are left
-pub behind_line : (n here : ℕ) (line : FileLine) (rest : List FileLine) → 0 < n → here ≡ min n (length line.words)
-    → behind_words ENDED n (line ∷ rest) ≡ behind_words ENDED (n - here) rest
-behind_line n here line rest some here_is = behind_words_of_line ENDED n here line rest some here_is
+pub after_line : (n here : ℕ) (line : FileLine) (rest : List FileLine) → 0 < n → here ≡ min n (length line.words)
+    → after_words ENDED n (line ∷ rest) ≡ after_words ENDED (n - here) rest
+after_line n here line rest some here_is = after_words_of_line ENDED n here line rest some here_is
 
 -- the texts of words
 abbrev pub text_of : FileWord → List ℕ
@@ -51,7 +51,7 @@ texts_line n here line rest here_is =
     ∙ ap (λ (k : ℕ). take here line.words ++ map text_of (first_words k rest)) left
 
 pub names_none : (n : ℕ) (lines : List FileLine) → n ≡ 0 → names n lines ≡ Ok ([], lines)
-names_none n lines is = rw (behind_none n lines is, no_words n lines is) refl
+names_none n lines is = rw (after_none n lines is, no_words n lines is) refl
 
 abbrev with_names : List (List ℕ) → List FileLine → Result (List (List ℕ) × List FileLine) Stop
 with_names texts rest = Ok (texts, rest)
@@ -67,9 +67,9 @@ texted (Err e) xs ys = refl
 pub names_line : (n here : ℕ) (line : FileLine) (rest : List FileLine) → 0 < n → here ≡ min n (length line.words)
     → names n (line ∷ rest) ≡ (names (n - here) rest >>= after_names (take here line.words))
 names_line n here line rest some here_is =
-    ap (λ (r : Result (List FileLine) Stop). r >>= with_names (map text_of (first_words n (line ∷ rest)))) (behind_line n here line rest some here_is)
-    ∙ ap (λ (t : List (List ℕ)). behind_words ENDED (n - here) rest >>= with_names t) (texts_line n here line rest here_is)
-    ∙ texted (behind_words ENDED (n - here) rest) (take here line.words) (map text_of (first_words (n - here) rest))
+    ap (λ (r : Result (List FileLine) Stop). r >>= with_names (map text_of (first_words n (line ∷ rest)))) (after_line n here line rest some here_is)
+    ∙ ap (λ (t : List (List ℕ)). after_words ENDED (n - here) rest >>= with_names t) (texts_line n here line rest here_is)
+    ∙ texted (after_words ENDED (n - here) rest) (take here line.words) (map text_of (first_words (n - here) rest))
 
 -- the word at a place
 get_front : {X : Type 0} (xs ys : List X) (k : ℕ) (x : X) → slice_get xs k ≡ Some x → slice_get (xs ++ ys) k ≡ Some x
@@ -113,12 +113,12 @@ pub ratio_later : (n here k : ℕ) (line : FileLine) (rest : List FileLine) → 
     → mass_ratio_among n k (line ∷ rest) ≡ mass_ratio_among (n - here) (k - here) rest
 ratio_later n here k line rest here_is le = elim (cases_eq n 0) [
   | inl none ↦ nothing_at k (line ∷ rest) n none ∙ sym (nothing_at (k - here) rest (n - here) (omega (arith, none)))
-  | inr some ↦ rw (word_later n here k line rest here_is le, behind_line n here line rest (omega (arith, some)) here_is) refl
+  | inr some ↦ rw (word_later n here k line rest here_is le, after_line n here line rest (omega (arith, some)) here_is) refl
 ]
 
 pub ratio_here : (n here k : ℕ) (line : FileLine) (rest : List FileLine) (word : List ℕ) → here ≡ min n (length line.words) → k < here
     → slice_get line.words k ≡ Some word
     → mass_ratio_among n k (line ∷ rest)
-    ≡ (at_line line.file line.number (mass_ratio word) >>= λ emrat. behind_words ENDED (n - here) rest >>= λ lines. Ok (emrat, lines))
+    ≡ (at_line line.file line.number (mass_ratio word) >>= λ emrat. after_words ENDED (n - here) rest >>= λ lines. Ok (emrat, lines))
 ratio_here n here k line rest word here_is below is =
-    rw (word_here n here k line rest word here_is below is, behind_line n here line rest (omega (arith, here_is, below)) here_is) refl
+    rw (word_here n here k line rest word here_is below is, after_line n here line rest (omega (arith, here_is, below)) here_is) refl

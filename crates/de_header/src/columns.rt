@@ -3,25 +3,23 @@ ghost use Rattle.std.specs.Prelude.{◌≡◌, ◌≤◌, ◌<◌, ◌+◌, [], 
 ghost use Rattle.spec_ephemeris.specs.Header.{column_size, components, is_present};
 ghost use Rattle.spec_header.specs.ColumnRules.{column_rule, columns_of, columns_rule, columns_row, is_out_of_place, overlap, overlaps_any, present_column, row};
 
-use crate::words::{broken, whole_at};
 use de_text::Line;
 use spec_ephemeris::{COLUMNS, Column, FIRST_PLACE, MOST_COEFFICIENTS, NUTATIONS};
-use spec_header::{
-    BrokenRule, COEFFICIENT_COUNT, COLUMN_COUNT, COLUMN_PLACE, GRANULE_NOT_WHOLE, HEADER_NUMBER,
-};
+use spec_faults::{COEFFICIENT_COUNT, COLUMN_COUNT, COLUMN_PLACE, GRANULE_NOT_WHOLE, HEADER_NUMBER};
+use spec_sections::BrokenRule;
 
 // The whole numbers of a line, one for each column.
 pub(crate) fn row(line: &Line<'_>) -> Result<[u32; 13], BrokenRule>
     ensures { result ≡ row line.now.tokens }
 {
     if line.count() != COLUMNS {
-        return Err(broken(COLUMN_COUNT, 0));
+        return Err(BrokenRule::new(COLUMN_COUNT, 0));
     }
     let mut numbers = [0; 13];
     for i in 0..13 {
-        match whole_at(line, i) {
+        match line.whole(i) {
             Some(n) => numbers[i] = n,
-            None => return Err(broken(HEADER_NUMBER, 1)),
+            None => return Err(BrokenRule::new(HEADER_NUMBER, 1)),
         }
     }
     Ok(numbers)
@@ -111,13 +109,13 @@ fn check_column(
     if !is_present(column) {
         Ok(())
     } else if column.coefs > MOST_COEFFICIENTS {
-        Err(broken(COEFFICIENT_COUNT, 0))
+        Err(BrokenRule::new(COEFFICIENT_COUNT, 0))
     } else if is_out_of_place(ncoeff, earlier, earlier.len() + 1, column) {
-        Err(broken(COLUMN_PLACE, 0))
+        Err(BrokenRule::new(COLUMN_PLACE, 0))
     } else if seconds % column.granules == 0 {
         Ok(())
     } else {
-        Err(broken(GRANULE_NOT_WHOLE, 0))
+        Err(BrokenRule::new(GRANULE_NOT_WHOLE, 0))
     }
 }
 

@@ -3,8 +3,8 @@
 #![tactic(auto)]
 
 mod answers;
+mod bounds;
 mod columns;
-mod days;
 mod laws;
 mod reader;
 mod state;
@@ -13,9 +13,8 @@ mod tests;
 mod words;
 
 pub use answers::{HeaderError, Step};
-pub use days::seconds_of_julian_date;
 pub use laws::open_readers_say_the_same_in_every_file;
 pub use reader::HeaderReader;
 pub use spec_ephemeris::{Column, Columns, Header};
 pub use spec_text::Fault;
-pub use state::{Facts, Frame, State};
+pub use state::State;

@@ -1,25 +1,28 @@
 // The reader.
 ghost use Rattle.std.specs.Prelude.{◌≡◌, ◌∷◌, [], ◌+◌, ◌≤◌, ◌<◌, IfErr, IfOk, List, None, Err, Ok, ℕ, length, min, take};
 ghost use Rattle.spec_text.specs.declared.decimals.Fault.{Fault};
-ghost use Rattle.spec_header.specs.declared.rules.TheConstants.{MOST_CONSTANTS};
+ghost use Rattle.spec_header.specs.declared.limits.TheConstants.{MOST_CONSTANTS};
 ghost use Rattle.spec_ephemeris.specs.Header.{IsHeader};
-ghost use Rattle.spec_header.specs.HeaderLines.{header};
+ghost use Rattle.spec_header.specs.HeaderLines.{header, header_of};
 ghost use Rattle.spec_header.specs.HeaderRules.{emrat_from};
-ghost use Rattle.spec_header.specs.Sections.{FileLine};
+ghost use Rattle.spec_sections.specs.Sections.{FileLine};
 ghost use Rattle.de_header.specs.declared.state.State.TheVariants as states;
 ghost use Rattle.de_header.specs.declared.answers.HeaderError.TheVariants as errors;
 ghost use Rattle.de_header.specs.declared.answers.Step.TheVariants as steps;
-ghost use Rattle.de_header.specs.Reader.{Ends, Fits, IsBehindNames, IsBehindValues, IsNotDone, IsNotWhole, IsOpen, IsRefused, IsWhole, Moves, answer, from_names, from_values_behind, header_of, line_of, or_else, says};
+ghost use Rattle.de_header.specs.Reader.{Ends, Fits, IsAfterNames, IsAfterValues, IsNotDone, IsNotWhole, IsOpen, IsRefused, IsWhole, Moves, answer, from_more_names, from_more_values, or_else, says};
+ghost use Rattle.spec_sections.specs.FileLines.{line_of};
 
 use crate::answers::{HeaderError, Step};
 use crate::columns::{columns_row, row};
-use crate::state::{Facts, Frame, State};
+use crate::state::State;
 use crate::words::{
-    broken, find_emrat, first_line, group, is_group, mass_ratio, name_count, span, value_count,
+    find_emrat, first_line, group, is_group, mass_ratio, name_count, span, value_count,
 };
 use de_text::Line;
 use spec_ephemeris::{Column, Columns, Header};
-use spec_header::{BrokenRule, ENDED};
+use spec_header::{BlockShape, Facts};
+use spec_faults::ENDED;
+use spec_sections::BrokenRule;
 use spec_text::Fault;
 use std::alloc::Global;
 use std::marker::Model;
@@ -45,21 +48,21 @@ fn emrat_or(found: Option<u32>, line: &Line<'_>, n: u32, start: u32) -> Option<u
 
 // The state in which so many names are left, and others are passed.
 #[tactic(auto, unfolding(crate::specs::Reader::says), using(crate::proofs::Steps::no_names_left))]
-fn to_names(frame: Frame, count: u32, left: u32, passed: u32, emrat: Option<u32>) -> State
+fn to_names(shape: BlockShape, count: u32, left: u32, passed: u32, emrat: Option<u32>) -> State
     requires few { passed + left ≤ MOST_CONSTANTS }
     requires count { count ≤ MOST_CONSTANTS }
-    ensures says { (file : ℕ) (rest : List FileLine) → says file result rest ≡ from_names frame count left passed emrat rest }
+    ensures says { (file : ℕ) (rest : List FileLine) → says file result rest ≡ from_more_names shape count left passed emrat rest }
     ensures fits { Fits result }
 {
     if left == 0 {
         State::ValueGroup {
-            frame,
+            shape,
             count,
             emrat,
         }
     } else {
         State::Names {
-            frame,
+            shape,
             count,
             left,
             passed,
@@ -70,46 +73,51 @@ fn to_names(frame: Frame, count: u32, left: u32, passed: u32, emrat: Option<u32>
 
 // The state behind the names on a line.
 fn pass_names(
-    frame: Frame,
+    shape: BlockShape,
     count: u32,
     left: u32,
     passed: u32,
     emrat: Option<u32>,
     line: &Line<'_>,
 ) -> State
-    requires { Fits (states.Names frame count left passed emrat) }
-    ensures moves { Moves (states.Names frame count left passed emrat) line.now (Ok result) }
+    requires { Fits (states.Names shape count left passed emrat) }
+    ensures moves { Moves (states.Names shape count left passed emrat) line.now (Ok result) }
     ensures fits { Fits result }
 {
     let here = words_here(left, line);
     let emrat = emrat_or(emrat, line, here, passed);
-    to_names(frame, count, left - here, passed + here, emrat)
+    to_names(shape, count, left - here, passed + here, emrat)
 }
 
 // The state in which so many values are left behind that of `EMRAT`.
 #[tactic(auto, unfolding(crate::specs::Reader::says), using(crate::proofs::Steps::no_values_left))]
-fn to_values_behind(facts: Facts, left: u32) -> State
+fn to_more_values(facts: Facts, left: u32) -> State
     requires { left ≤ MOST_CONSTANTS }
-    ensures says { (file : ℕ) (rest : List FileLine) → says file result rest ≡ from_values_behind facts left rest }
+    ensures says { (file : ℕ) (rest : List FileLine) → says file result rest ≡ from_more_values facts left rest }
     ensures fits { Fits result }
 {
     if left == 0 {
         State::ColumnGroup { facts }
     } else {
-        State::ValuesBehind { facts, left }
+        State::ValuesAfter { facts, left }
     }
 }
 
 // The state behind the values on a line, where that of `EMRAT` is still to come.
-fn pass_values(frame: Frame, left: u32, before: u32, line: &Line<'_>) -> Result<State, BrokenRule>
+fn pass_values(
+    shape: BlockShape,
+    left: u32,
+    before: u32,
+    line: &Line<'_>,
+) -> Result<State, BrokenRule>
     requires { left ≤ MOST_CONSTANTS }
-    ensures moves { Moves (states.ValuesBefore frame left before) line.now result }
+    ensures moves { Moves (states.ValuesBefore shape left before) line.now result }
     ensures fits { IfOk result Fits }
 {
     let here = words_here(left, line);
     if here <= before {
         return Ok(State::ValuesBefore {
-            frame,
+            shape,
             left: left - here,
             before: before - here,
         });
@@ -118,30 +126,30 @@ fn pass_values(frame: Frame, left: u32, before: u32, line: &Line<'_>) -> Result<
         Err(broken) => Err(broken),
         Ok(emrat) => {
             let facts = Facts {
-                ncoeff: frame.ncoeff,
-                block_seconds: frame.block_seconds,
+                ncoeff: shape.ncoeff,
+                block_seconds: shape.block_seconds,
                 emrat,
             };
-            Ok(to_values_behind(facts, left - here))
+            Ok(to_more_values(facts, left - here))
         }
     }
 }
 
 // The state behind the values on a line.
-fn pass_values_behind(facts: Facts, left: u32, line: &Line<'_>) -> State
-    requires { Fits (states.ValuesBehind facts left) }
-    ensures moves { Moves (states.ValuesBehind facts left) line.now (Ok result) }
+fn pass_more_values(facts: Facts, left: u32, line: &Line<'_>) -> State
+    requires { Fits (states.ValuesAfter facts left) }
+    ensures moves { Moves (states.ValuesAfter facts left) line.now (Ok result) }
     ensures fits { Fits result }
 {
     let here = words_here(left, line);
-    to_values_behind(facts, left - here)
+    to_more_values(facts, left - here)
 }
 
 // The state behind a line of the columns, or the first rule that the line breaks.
 #[tactic(auto, unfolding(crate::specs::Reader::says))]
-fn step_behind_values(state: State, line: &Line<'_>) -> Result<State, BrokenRule>
+fn step_after_values(state: State, line: &Line<'_>) -> Result<State, BrokenRule>
     requires open { IsOpen state }
-    requires behind { IsBehindValues state }
+    requires behind { IsAfterValues state }
     ensures moves { Moves state line.now result }
     ensures fits { IfOk result Fits }
 {
@@ -180,45 +188,45 @@ fn step_behind_values(state: State, line: &Line<'_>) -> Result<State, BrokenRule
 
 // The state behind a line that wants one, once the names are passed, or the first rule that the line breaks.
 #[tactic(auto, unfolding(crate::specs::Reader::says))]
-fn step_behind_names(state: State, line: &Line<'_>) -> Result<State, BrokenRule>
+fn step_after_names(state: State, line: &Line<'_>) -> Result<State, BrokenRule>
     requires open { IsOpen state }
-    requires behind { IsBehindNames state }
+    requires behind { IsAfterNames state }
     requires fits { Fits state }
     ensures moves { Moves state line.now result }
     ensures fits { IfOk result Fits }
 {
     match state {
         State::ValueGroup {
-            frame,
+            shape,
             count,
             emrat,
         } => {
             group(b"1041", 1041, line)?;
             Ok(State::ValueCount {
-                frame,
+                shape,
                 count,
                 emrat,
             })
         }
         State::ValueCount {
-            frame,
+            shape,
             count,
             emrat,
         } => {
             let before = value_count(count, emrat, line)?;
             Ok(State::ValuesBefore {
-                frame,
+                shape,
                 left: count,
                 before,
             })
         }
         State::ValuesBefore {
-            frame,
+            shape,
             left,
             before,
-        } => pass_values(frame, left, before, line),
-        State::ValuesBehind { facts, left } => Ok(pass_values_behind(facts, left, line)),
-        state => step_behind_values(state, line),
+        } => pass_values(shape, left, before, line),
+        State::ValuesAfter { facts, left } => Ok(pass_more_values(facts, left, line)),
+        state => step_after_values(state, line),
     }
 }
 
@@ -256,28 +264,28 @@ fn step(state: State, line: &Line<'_>) -> Result<State, BrokenRule>
         State::Titles { ncoeff } => pass_title(ncoeff, line),
         State::Span { ncoeff } => {
             let block_seconds = span(line)?;
-            let frame = Frame {
+            let shape = BlockShape {
                 ncoeff,
                 block_seconds,
             };
-            Ok(State::NameGroup { frame })
+            Ok(State::NameGroup { shape })
         }
-        State::NameGroup { frame } => {
+        State::NameGroup { shape } => {
             group(b"1040", 1040, line)?;
-            Ok(State::NameCount { frame })
+            Ok(State::NameCount { shape })
         }
-        State::NameCount { frame } => {
+        State::NameCount { shape } => {
             let count = name_count(line)?;
-            Ok(to_names(frame, count, count, 0, None))
+            Ok(to_names(shape, count, count, 0, None))
         }
         State::Names {
-            frame,
+            shape,
             count,
             left,
             passed,
             emrat,
-        } => Ok(pass_names(frame, count, left, passed, emrat, line)),
-        state => step_behind_names(state, line),
+        } => Ok(pass_names(shape, count, left, passed, emrat, line)),
+        state => step_after_names(state, line),
     }
 }
 
@@ -295,17 +303,13 @@ fn next(state: State, line: &Line<'_>) -> State
     }
     match step(state, line) {
         Ok(state) => state,
-        Err(broken) => State::Refused(Fault {
-            line: line.number(),
-            number: broken.number,
-            detail: broken.detail,
-        }),
+        Err(broken) => State::Refused(broken.at_line(line.number())),
     }
 }
 
 // What a state answers.
 #[tactic(auto, unfolding(crate::specs::Reader::says))]
-fn told(state: State) -> Result<Step, HeaderError>
+fn answer_of(state: State) -> Result<Step, HeaderError>
     requires { Fits state }
     ensures answer { result ≡ answer (says 0 state []) }
     ensures more { result ≡ Ok steps.More → IsOpen state }
@@ -339,16 +343,13 @@ fn whole(alloc: Global, facts: Facts, columns: [Column; 13]) -> Result<Header, H
 // What a state comes to where the lines end.
 #[tactic(auto, unfolding(crate::specs::Reader::says))]
 fn header_at_end(alloc: Global, state: State, line: u32) -> Result<Header, HeaderError>
-    ensures { Ends line (says 0 state []) result }
+    ensures end { Ends line (says 0 state []) result }
+    ensures memory { result ≡ Err errors.Memory → IsWhole state }
 {
     match state {
         State::Whole { facts, columns } => whole(alloc, facts, columns),
         State::Refused(fault) => Err(HeaderError::Fault(fault)),
-        _ => Err(HeaderError::Fault(Fault {
-            line,
-            number: ENDED,
-            detail: 0,
-        })),
+        _ => Err(HeaderError::Fault(BrokenRule::new(ENDED, 0).at_line(line))),
     }
 }
 
@@ -394,7 +395,7 @@ impl HeaderReader {
         ensures no_memory_is_wanted { result ≡ Err errors.Memory → ⊥ }
     {
         self.state = next(self.state, line);
-        told(self.state)
+        answer_of(self.state)
     }
 
     /// The header, where the lines end at this number, that of the last file's lines plus 1. `Fault` is the kept
@@ -402,6 +403,7 @@ impl HeaderReader {
     /// which `new` speaks, the header meets the rules of a header.
     pub fn end(self, alloc: Global, line: u32) -> Result<Header, HeaderError>
         ensures end { Ends line (says 0 self []) result }
+        ensures memory { result ≡ Err errors.Memory → IsWhole self }
         ensures rules { (lines : List FileLine) → says 0 self [] ≡ header lines → IfOk result IsHeader }
     {
         header_at_end(alloc, self.state, line)

@@ -1,22 +1,15 @@
 // The rules of the lines before the columns.
 ghost use Rattle.std.specs.Prelude.{◌≡◌, ◌≤◌, ◌<◌, ◌+◌, IfOk, List, Some, length, slice_get, take, codes, ℕ};
 ghost use Rattle.std.specs.Option.{option_copied};
-ghost use Rattle.spec_header.specs.Sections.{is_word};
-ghost use Rattle.spec_header.specs.HeaderRules.{decimal_at, emrat_from, first_line, group, mass_ratio, mass_ratio_of, name_count, span, value_count, whole_at};
+ghost use Rattle.spec_sections.specs.Sections.{is_word};
+ghost use Rattle.spec_header.specs.HeaderRules.{decimal_at, emrat_from, first_line, group, mass_ratio, mass_ratio_of, name_count, span, value_count};
 
-use crate::days::{block_length, is_mass_ratio, seconds_of_julian_date};
-use de_text::{Decimal, Line, read_decimal, read_whole};
+use crate::bounds::{block_length, check_julian_date, is_mass_ratio};
+use de_text::{Decimal, Line, read_decimal};
 use spec_ephemeris::{FEWEST_NUMBERS, MOST_NUMBERS};
-use spec_header::{
-    BrokenRule, COUNT_MISMATCH, EMRAT_MISSING, EMRAT_RANGE, FIRST_LINE, GROUP_MISSING,
-    HEADER_NUMBER, LIMIT, MOST_CONSTANTS,
-};
-
-pub(crate) fn broken(number: u8, detail: u16) -> BrokenRule
-    ensures { result ≡ record { number = number; detail = detail } }
-{
-    BrokenRule { number, detail }
-}
+use spec_faults::{COUNT_MISMATCH, EMRAT_MISSING, EMRAT_RANGE, FIRST_LINE, GROUP_MISSING, HEADER_NUMBER, LIMIT};
+use spec_header::MOST_CONSTANTS;
+use spec_sections::BrokenRule;
 
 fn is_word(line: &Line<'_>, i: usize, text: &[u8]) -> bool
     ensures { result ≡ is_word (slice_get line.now.tokens i) text.now }
@@ -27,27 +20,18 @@ fn is_word(line: &Line<'_>, i: usize, text: &[u8]) -> bool
     }
 }
 
-pub(crate) fn whole_at(line: &Line<'_>, i: usize) -> Option<u32>
-    ensures { result ≡ whole_at (slice_get line.now.tokens i) }
-{
-    match line.token(i) {
-        Some(word) => read_whole(word),
-        None => None,
-    }
-}
-
 // NCOEFF.
 pub(crate) fn first_line(line: &Line<'_>) -> Result<u32, BrokenRule>
     ensures { result ≡ first_line line.now.tokens }
 {
     if line.count() == 4 && is_word(line, 0, b"KSIZE=") && is_word(line, 2, b"NCOEFF=") {
-        match whole_at(line, 3) {
-            None => Err(broken(FIRST_LINE, 0)),
-            Some(n) if n < FEWEST_NUMBERS || MOST_NUMBERS < n => Err(broken(LIMIT, 0)),
+        match line.whole(3) {
+            None => Err(BrokenRule::new(FIRST_LINE, 0)),
+            Some(n) if n < FEWEST_NUMBERS || MOST_NUMBERS < n => Err(BrokenRule::new(LIMIT, 0)),
             Some(n) => Ok(n),
         }
     } else {
-        Err(broken(FIRST_LINE, 0))
+        Err(BrokenRule::new(FIRST_LINE, 0))
     }
 }
 
@@ -57,7 +41,7 @@ pub(crate) fn group(name: &[u8], number: u16, line: &Line<'_>) -> Result<(), Bro
     if line.count() == 2 && is_word(line, 0, b"GROUP") && is_word(line, 1, name) {
         Ok(())
     } else {
-        Err(broken(GROUP_MISSING, number))
+        Err(BrokenRule::new(GROUP_MISSING, number))
     }
 }
 
@@ -72,10 +56,10 @@ fn decimal_at(line: &Line<'_>, i: usize) -> Result<Decimal, BrokenRule>
     ensures { result ≡ decimal_at (slice_get line.now.tokens i) }
 {
     match line.token(i) {
-        None => Err(broken(HEADER_NUMBER, 1)),
+        None => Err(BrokenRule::new(HEADER_NUMBER, 1)),
         Some(word) => match read_decimal(word) {
             Ok(d) => Ok(d),
-            Err(fault) => Err(broken(HEADER_NUMBER, fault.number())),
+            Err(fault) => Err(BrokenRule::new(HEADER_NUMBER, fault.number())),
         },
     }
 }
@@ -84,8 +68,8 @@ fn decimal_at(line: &Line<'_>, i: usize) -> Result<Decimal, BrokenRule>
 pub(crate) fn span(line: &Line<'_>) -> Result<u32, BrokenRule>
     ensures { result ≡ span line.now.tokens }
 {
-    seconds_of_julian_date(decimal_at(line, 0)?)?;
-    seconds_of_julian_date(decimal_at(line, 1)?)?;
+    check_julian_date(decimal_at(line, 0)?)?;
+    check_julian_date(decimal_at(line, 1)?)?;
     block_length(decimal_at(line, 2)?)
 }
 
@@ -93,9 +77,9 @@ pub(crate) fn name_count(line: &Line<'_>) -> Result<u32, BrokenRule>
     ensures value { result ≡ name_count line.now.tokens }
     ensures few { IfOk result (λ n. n ≤ MOST_CONSTANTS) }
 {
-    match whole_at(line, 0) {
-        None => Err(broken(HEADER_NUMBER, 1)),
-        Some(n) if MOST_CONSTANTS < n => Err(broken(LIMIT, 0)),
+    match line.whole(0) {
+        None => Err(BrokenRule::new(HEADER_NUMBER, 1)),
+        Some(n) if MOST_CONSTANTS < n => Err(BrokenRule::new(LIMIT, 0)),
         Some(n) => Ok(n),
     }
 }
@@ -122,11 +106,11 @@ pub(crate) fn value_count(
 ) -> Result<u32, BrokenRule>
     ensures { result ≡ value_count names emrat line.now.tokens }
 {
-    match whole_at(line, 0) {
-        None => Err(broken(HEADER_NUMBER, 1)),
-        Some(n) if n != names => Err(broken(COUNT_MISMATCH, 0)),
+    match line.whole(0) {
+        None => Err(BrokenRule::new(HEADER_NUMBER, 1)),
+        Some(n) if n != names => Err(BrokenRule::new(COUNT_MISMATCH, 0)),
         Some(_) => match emrat {
-            None => Err(broken(EMRAT_MISSING, 0)),
+            None => Err(BrokenRule::new(EMRAT_MISSING, 0)),
             Some(place) => Ok(place),
         },
     }
@@ -138,7 +122,7 @@ fn mass_ratio_of(d: Decimal) -> Result<Decimal, BrokenRule>
     if is_mass_ratio(d) {
         Ok(d)
     } else {
-        Err(broken(EMRAT_RANGE, 0))
+        Err(BrokenRule::new(EMRAT_RANGE, 0))
     }
 }
 

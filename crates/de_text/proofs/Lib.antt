@@ -5,3 +5,4 @@ pub mod Assembly
 pub mod Parting
 pub mod Splits
 pub mod TokenPlaces
+pub mod Sizes

@@ -1,3 +1,4 @@
 pub mod Cursor
 pub mod Steps
 pub mod Parts
+pub mod Sizes

@@ -2,9 +2,11 @@
 ghost use Rattle.std.specs.Prelude.{◌≡◌, ◌+◌, ◌<◌, ◌≤◌, length, slice_get};
 ghost use Rattle.std.specs.Option.{option_copied};
 ghost use Rattle.spec_text.specs.Lines.{lines, text_lines};
+ghost use Rattle.spec_text.specs.Reading.{whole_at};
 ghost use Rattle.de_text.specs.Cursor.{counted_behind};
 ghost use Rattle.de_text.specs.Steps.{lines_after, step_of};
 
+use crate::decimal::read_whole;
 use crate::lines::{cut_line, line_count};
 use crate::tokens::{count, cut_token, token};
 use crate::words::Words;
@@ -50,6 +52,16 @@ impl<'a> Line<'a> {
         ensures { option_copied result ≡ slice_get self.now.tokens i }
     {
         token(self.bytes, i)
+    }
+
+    /// The whole number that the token at a place is, counted from 0, if one stands there.
+    pub fn whole(&self, i: usize) -> Option<u32>
+        ensures { result ≡ whole_at (slice_get self.now.tokens i) }
+    {
+        match self.token(i) {
+            Some(word) => read_whole(word),
+            None => None,
+        }
     }
 
     /// A cursor over the line's tokens, from left to right.

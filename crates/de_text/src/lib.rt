@@ -3,6 +3,7 @@
 #![tactic(auto)]
 
 mod cursor;
+mod days;
 mod decimal;
 mod digits;
 mod examples;
@@ -14,7 +15,8 @@ mod tokens;
 mod words;
 
 pub use cursor::{Line, LineStep, Tokens};
+pub use days::{seconds_of_julian_date, seconds_within, size_over, size_under};
 pub use decimal::{read_decimal, read_whole};
 pub use examples::a_cursor_steps_from_line_to_line;
-pub use spec_text::{Decimal, Fault, NumberFault};
+pub use spec_text::{DaysFault, Decimal, Fault, NumberFault};
 pub use words::Words;

@@ -14,13 +14,9 @@ use Rattle.eph_model.specs.declared.grid.Grid.{Grid}
 use Rattle.eph_model.specs.Grids.{IsGridOf, IsGridBorder}
 use Rattle.eph_model.specs.Preferred.{preferred, IsShort}
 use Rattle.eph_model.proofs.GridLemmas.{at_index, ends}
-use Rattle.spec_ephemeris.proofs.Pushing.{block_fits}
+use Rattle.spec_numbers.proofs.Naturals.{row_fits}
+use Rattle.spec_ephemeris.proofs.ColumnRules.{one_column}
 use Rattle.eph_model.proofs.Nearer.{nearest_of_two, same, IsCovered}
-
--- one column has one number
-one_column : (h : Header) (number : ℕ) (c d : Column) → IsColumn h number c → IsColumn h number d → c ≡ d
-one_column h number c d one other =
-    let both : Some c ≡ Some d = sym one.listed ∙ other.listed in (cc)
 
 length_of : (e : Ephemeris) (number : ℕ) (g : Grid) (r : Granule) → IsGridOf e number g → IsGranule e number r → r.duration ≡ g.seconds
 length_of e number g r is granule =
@@ -62,7 +58,7 @@ of_grid e number g a b s is after upto border =
     let duration : border.granule.duration ≡ g.seconds = length_of e number g border.granule is granule in
     let starts : border.granule.start ≡ e.start +ℤ pos (index * g.seconds) = rw (one, duration) at granule.start in
     let begins : s ≡ e.start +ℤ pos (index * g.seconds) = sym border.begins ∙ starts in
-    let fits : granule.block * g.column.granules + g.column.granules ≤ e.blocks * g.column.granules = block_fits granule.block e.blocks g.column.granules granule.of_ephemeris in
+    let fits : granule.block * g.column.granules + g.column.granules ≤ e.blocks * g.column.granules = row_fits granule.block e.blocks g.column.granules granule.of_ephemeris in
     let inner : granule.inner < g.column.granules = rw one at granule.of_block in
     record {
       index = index;

@@ -3,15 +3,13 @@ use Rattle.std.proofs.Common.{◌≡◌, ◌⊎◌, ℕ, ◌+◌, ◌*◌, ◌/�
 use Rattle.std.proofs.lemmas.Nat.{div_below, mod_below, div-add-mod', mul-le}
 use Rattle.std.proofs.lemmas.Int.{ints}
 use Rattle.spec_ephemeris.specs.Ephemeris.{Ephemeris, Granule, IsGranule, IsGranuleAt, granule_end, granule_numbers, block_numbers, end_of}
+use Rattle.spec_ephemeris.proofs.Granules.{granules_end}
 use Rattle.eph_model.specs.declared.grid.Grid.{Grid}
 use Rattle.eph_model.specs.Grids.{IsGridOf}
 
-turned : (a b c : ℕ) → a * (b * c) ≡ a * c * b
-turned a b c = omega arith
-
 -- a grid ends where the ephemeris does
 pub ends : (e : Ephemeris) (number : ℕ) (g : Grid) → IsGridOf e number g → end_of e ≡ g.start +ℤ pos (g.count * g.seconds)
-ends e number g is = rw (is.shares, is.start, is.count) (ap (λ n. e.start +ℤ pos n) (turned e.blocks g.seconds g.column.granules))
+ends e number g is = rw (is.start, is.count) (granules_end e g.seconds g.column.granules is.shares)
 
 -- one granule more is one length more
 step : (start : ℤ) (index seconds : ℕ) → start +ℤ pos ((index + 1) * seconds) ≡ (start +ℤ pos (index * seconds)) +ℤ pos seconds

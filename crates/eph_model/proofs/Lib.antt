@@ -3,4 +3,3 @@ pub mod GridLemmas
 pub mod BorderLemmas
 pub mod Nearer
 pub mod ColumnBorders
-pub mod SmallNumbers

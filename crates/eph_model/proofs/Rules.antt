@@ -20,9 +20,3 @@ shared h number c header is =
     let high = header.longest in
     let same : to_z w64 (of_z w64 h.block_seconds) ≡ h.block_seconds = omega (arith, ints, low, high) in
     rw same ((header.columns number c is).granules)
-
--- a present column has from 1 to 32 coefficients
-pub few : (h : Header) (number : ℕ) (c : Column) → IsHeader h → IsColumn h number c → (1 ≤ c.coefs) × (c.coefs ≤ MOST_COEFFICIENTS)
-few h number c header is =
-    let present = is.present in
-    (grind (arith, present), (header.columns number c is).coefficients)

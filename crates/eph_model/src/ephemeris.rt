@@ -3,15 +3,15 @@ ghost use Rattle.std.specs.Prelude.{◌≡◌, ◌*◌, ◌^◌, ◌<◌, ◌≤
 ghost use Rattle.spec_ephemeris.specs.declared.limits.TheConstants.{BODY_COLUMNS, MOST_BLOCKS, MOST_COEFFICIENTS};
 ghost use Rattle.spec_ephemeris.specs.Header.{IsHeader, IsColumn, column_at, components, granule_size, has_column};
 ghost use Rattle.spec_ephemeris.specs.Ephemeris.{IsStart, IsBlock, IsBodyNumber, IsEphemeris, empty_ephemeris, with_block, end_of, IsGranuleAt, IsNearestBorder, block_numbers, granule_numbers};
+ghost use Rattle.spec_ephemeris.specs.Granules.{granule_of};
 ghost use Rattle.eph_model.specs.Starting.{starting_at};
 ghost use Rattle.eph_model.specs.Grids.{IsGridOf};
 
 use crate::borders::preferred;
-use crate::granules::{
-    Granule, column_of, components, granule_seconds, is_present, numbers_at, present_column,
-};
+use crate::columns::{components, is_present};
+use crate::granules::{column_of, granule_seconds, numbers_at, present_column};
 use crate::grid::Grid;
-use spec_ephemeris::{Column, Header};
+use spec_ephemeris::{Column, Granule, Header};
 use spec_text::Decimal;
 use std::alloc::{AllocError, Global};
 use std::marker::Model;
@@ -146,7 +146,7 @@ impl Ephemeris {
         requires block { 0 < self.now.blocks }
         requires from { self.now.start ≤ℤ t }
         requires upto { t ≤ℤ end_of self.now }
-        ensures granule { IsGranuleAt self.now column t (record { start = result.start; duration = unsigned_abs result.seconds; coefs = result.coefs.now }) }
+        ensures granule { IsGranuleAt self.now column t (granule_of result) }
         ensures coefficients { IfSome (column_at self.now.header.columns column) (λ c. result.n ≡ c.coefs) }
         ensures components { result.comps ≡ components column }
         ensures count { length result.coefs.now ≡ result.comps * result.n }

@@ -1,25 +1,10 @@
 // The granule of a time: which it is, how long it is, and where its numbers stand.
 ghost use Rattle.std.specs.Prelude.{◌≡◌, ◌⊎◌, ◌+◌, ◌*◌, ◌<◌, ◌≤◌, IsTrue, Some, length, take, drop, pos, ◌+ℤ◌, ◌<ℤ◌, ◌≤ℤ◌};
-ghost use Rattle.spec_ephemeris.specs.Header.{IsShared, column_at, components, is_present, is_present_at};
+ghost use Rattle.spec_ephemeris.specs.Header.{IsShared, column_at, is_present, is_present_at};
 
 use crate::grid::Grid;
-use spec_ephemeris::{Column, NUTATIONS};
+use spec_ephemeris::Column;
 use spec_text::Decimal;
-
-/// A granule of a column: the span of time over which each component of the column is one Chebyshev series.
-#[derive(Clone, Copy)]
-pub struct Granule<'a> {
-    /// The time at which it begins, in seconds of TDB since J2000.
-    pub start: i64,
-    /// Its length in seconds.
-    pub seconds: i64,
-    /// The coefficients of one component.
-    pub n: usize,
-    /// The components.
-    pub comps: usize,
-    /// The coefficients, component after component, in each those of T_0, T_1 and so on.
-    pub coefs: &'a [Decimal],
-}
 
 // The column of a number, counted from 1.
 pub(crate) fn column_of(columns: &[Column], number: usize) -> Option<Column>
@@ -31,12 +16,6 @@ pub(crate) fn column_of(columns: &[Column], number: usize) -> Option<Column>
     columns.get(number - 1).copied()
 }
 
-pub(crate) fn is_present(column: Column) -> bool
-    ensures { result ≡ is_present column }
-{
-    column.coefs > 0 && column.granules > 0
-}
-
 // The column of a number at which a column is present.
 pub(crate) fn present_column(columns: &[Column], number: usize) -> Column
     requires { IsTrue (is_present_at (column_at columns.now number)) }
@@ -44,13 +23,6 @@ pub(crate) fn present_column(columns: &[Column], number: usize) -> Column
     ensures present { IsTrue (is_present result) }
 {
     columns[number - 1]
-}
-
-// Nutations have two components, and every other column has three.
-pub(crate) fn components(number: usize) -> usize
-    ensures { result ≡ components number }
-{
-    if number == NUTATIONS { 2 } else { 3 }
 }
 
 // The length of each of the granules that share a block.

@@ -6,12 +6,13 @@
 #![tactic(auto)]
 
 mod borders;
+mod columns;
 mod ephemeris;
 mod granules;
 mod grid;
 #[cfg(test)]
 mod tests;
 
+pub use columns::{components, is_present, place_after};
 pub use ephemeris::{Ephemeris, Memory};
-pub use granules::Granule;
-pub use spec_ephemeris::{Body, Column, Columns, Header};
+pub use spec_ephemeris::{Body, Column, Columns, Granule, Header};

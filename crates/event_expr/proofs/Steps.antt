@@ -1,14 +1,15 @@
 -- What the rules' calls owe each other, over plain intervals.
 use Rattle.std.proofs.Common.{◌≡◌, ◌+◌, arith, ◌∙◌, ℤ, ◌≤ℤ◌, ◌-ℤ◌, pos, true, false, unsigned_abs, max, ◌*◌}
 use lib.Signed.{lt_z}
-use Rattle.spec_intervals.proofs.Order.{lin}
-use Rattle.spec_intervals.specs.Interval.{Interval, IsExponent, narrow, sum, difference, product, meet, signed_square}
+use Rattle.spec_numbers.proofs.Order.{lin}
+use Rattle.spec_intervals.specs.Interval.{Interval, IsExponent, narrow, sum, difference, product, meet, signed_square, zero_interval}
 use Rattle.spec_intervals.specs.Fraction.{Overlaps, fraction_add, fraction_sub, fraction_mul, fraction_signed_square}
-use Rattle.spec_expressions.specs.Enclosure.{Enclosure, IsSpan, IsWithin, Encloses, part_exponent, middle, offsets, centred, enclosure, zero_interval, twice_size}
-use Rattle.spec_expressions.proofs.Exponents.{IsWithin-more, sum-within, difference-within, product-within, signed_square-within, twice_size-within}
-use Rattle.spec_expressions.proofs.Offsets.{offsets-narrow}
-use Rattle.spec_expressions.proofs.Reach.{centred-within, offsets-within}
-use Rattle.spec_expressions.proofs.Enclosed.{AllFractions-two, Overlaps-parts, PartsHold-sum, PartsHold-difference, PartsHold-product, PartsHold-signed_square, PartsHold-constant}
+use Rattle.spec_intervals.specs.Enclosure.{Enclosure, IsSpan, IsWithin, Encloses, middle, offsets, centred, enclosure, twice_size}
+use Rattle.spec_expressions.specs.Expression.{part_exponent}
+use Rattle.spec_intervals.proofs.Exponents.{IsWithin-more, sum-within, difference-within, product-within, signed_square-within, twice_size-within}
+use Rattle.spec_intervals.proofs.Offsets.{offsets-within, offsets-narrow}
+use Rattle.spec_intervals.proofs.EnclosureExponents.{centred-within}
+use Rattle.spec_intervals.proofs.Enclosed.{AllFractions-two, Overlaps-parts, PartsHold-sum, PartsHold-difference, PartsHold-product, PartsHold-signed_square, PartsHold-constant}
 use Rattle.event_expr.specs.States.{Times, wide_exponent}
 
 pub ordered : (a b : ℤ) → lt_z a b ≡ true → a ≤ℤ b

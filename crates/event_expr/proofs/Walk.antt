@@ -4,11 +4,11 @@ use Rattle.std.specs.Prelude.{⊤}
 use Rattle.spec_text.specs.declared.decimals.Decimal.{Decimal}
 use Rattle.spec_intervals.specs.Interval.{Interval, IsDistance, IsCosine, from_decimal, distance_exponent, cosine_exponent}
 use Rattle.spec_intervals.specs.Fraction.{Fraction, Holds, Overlaps, decimal}
-use Rattle.spec_expressions.specs.Enclosure.{Enclosure, IsEnclosure, AllFractions, IsSpan, IsWithin, AllWithin, Encloses, leaf_exponent, part_exponent}
-use Rattle.spec_expressions.specs.Expression.{Leaf, IsLeaf, exact_of, enclosure_of, IsFormula}
+use Rattle.spec_intervals.specs.Enclosure.{Enclosure, IsEnclosure, AllFractions, IsSpan, IsWithin, AllWithin, Encloses}
+use Rattle.spec_expressions.specs.Expression.{leaf_exponent, part_exponent, Leaf, IsLeaf, exact_of, enclosure_of, IsFormula}
 use Rattle.spec_expressions.specs.declared.expressions.Expr.{Expr}
 use Rattle.spec_expressions.specs.declared.expressions.Expr.TheVariants.{Pos, Vel, Length, Cosine, Add', Sub', Mul', SignedSquare'}
-use Rattle.spec_expressions.proofs.Exponents.{IsWithin-more, distance-within, cosine-within}
+use Rattle.spec_intervals.proofs.Exponents.{IsWithin-more, distance-within, cosine-within}
 use Rattle.spec_expressions.proofs.Induction.{AllFractions-of, IsEnclosure-of, IsFraction-decimal}
 use Rattle.spec_expressions.proofs.Reach.{AllWithin-of}
 use Rattle.event_expr.specs.States.{state_exponent}

@@ -2,10 +2,9 @@
 
 ghost use Rattle.std.specs.Prelude.{◌≡◌, ◌<◌, ℕ, ℤ};
 ghost use Rattle.spec_intervals.specs.Fraction.{Fraction};
-ghost use Rattle.spec_expressions.specs.Enclosure.{IsEnclosure, AllFractions, IsSpan, AllWithin};
-ghost use Rattle.spec_expressions.specs.Enclosure.{Enclosure as Parts};
+ghost use Rattle.spec_intervals.specs.Enclosure.{IsEnclosure, AllFractions, IsSpan, AllWithin, Enclosure as Parts};
 ghost use Rattle.spec_expressions.specs.Expression.{Leaf, position, velocity, IsLeaf};
-ghost use Rattle.event_expr.specs.States.{parts, state_exponent};
+ghost use Rattle.event_expr.specs.States.{state_exponent};
 
 use ival_core::Enclosure;
 
@@ -26,14 +25,14 @@ pub trait States {
         requires target { target < 2 }
         requires axis { axis < 3 }
         requires fits { fits self.now a b }
-        ensures { parts result ≡ answer self.now (position target axis) a b };
+        ensures { result ≡ answer self.now (position target axis) a b };
 
     /// The enclosure of a coordinate of a target's velocity over the times from `a` to `b`.
     fn vel(&self, target: u8, axis: u8, a: i64, b: i64) -> Enclosure
         requires target { target < 2 }
         requires axis { axis < 3 }
         requires fits { fits self.now a b }
-        ensures { parts result ≡ answer self.now (velocity target axis) a b };
+        ensures { result ≡ answer self.now (velocity target axis) a b };
 
     /// The times that fit are in order, and at most 2^50 in size.
     ghost spans: { (s : Self) (a b : ℤ) → fits s a b → IsSpan a b };

@@ -2,10 +2,9 @@
 
 ghost use Rattle.std.specs.Prelude.{◌≡◌, ◌≤◌, ◌<◌, ◌≤ℤ◌, ℤ, pos, IfOk, unsigned_abs};
 ghost use Rattle.spec_intervals.specs.Interval.{narrow};
-ghost use Rattle.spec_expressions.specs.Enclosure.{IsSpan, middle, time_limit};
+ghost use Rattle.spec_intervals.specs.Enclosure.{IsSpan, middle, time_limit};
 ghost use Rattle.spec_expressions.specs.Expression.{HasLeaves};
 ghost use Rattle.spec_expressions.specs.declared.expressions.Expr.{Expr};
-ghost use Rattle.event_expr.specs.States.{parts};
 
 use crate::rules::middle;
 use crate::{Expr, ExprFault, Formula, States, enclose};
@@ -27,7 +26,7 @@ fn whole(lo: i64, hi: i64) -> Ival
 
 fn times(a: i64, b: i64) -> Enclosure
     requires { IsSpan a b }
-    ensures { parts result ≡ record { mid = narrow (middle a b) (middle a b) (pos 0); range = narrow a b (pos 0); step = narrow (pos 1) (pos 1) (pos 0) } }
+    ensures { result ≡ record { mid = narrow (middle a b) (middle a b) (pos 0); range = narrow a b (pos 0); step = narrow (pos 1) (pos 1) (pos 0) } }
 {
     let m = middle(a, b);
     Enclosure {
@@ -38,7 +37,7 @@ fn times(a: i64, b: i64) -> Enclosure
 }
 
 impl States for Clock {
-    ghost use Rattle.spec_expressions.specs.Enclosure.{IsSpan};
+    ghost use Rattle.spec_intervals.specs.Enclosure.{IsSpan};
     ghost use Rattle.spec_expressions.specs.Examples.{clock, clock_over};
     ghost use Rattle.spec_expressions.proofs.Clock.{AllFractions-clock, IsEnclosure-clock, AllWithin-clock};
     ghost use Rattle.event_expr.specs.States.{state_exponent};

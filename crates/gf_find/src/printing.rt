@@ -1,9 +1,9 @@
 // The text of a report.
 ghost use Rattle.std.specs.Prelude.{◌≡◌, ◌++◌, codes, IfOk, OnOk};
 ghost use Rattle.std.specs.Fmt.{decimal, signed_decimal};
-ghost use Rattle.spec_output.specs.Report.{certain_count, line_of, report, request_line, request_text, times, undecided_count, window_lines};
+ghost use Rattle.spec_reports.specs.Report.{certain_count, line_of, report, request_line, request_text, times, undecided_count, window_lines};
 
-use spec_events::{Holds, Turn, Window};
+use spec_trees::{Holds, Turn, Window};
 use std::alloc::{AllocError, Global};
 
 fn add_time(text: &mut Vec<u8>, time: i64) -> Result<(), AllocError>

@@ -1,6 +1,6 @@
 // From the words of the command line to the files that they name.
 ghost use Rattle.std.specs.Prelude.{◌≡◌, ◌↔◌, ◌<◌, ◌∷◌, ◌++◌, ℕ, List, IfNone, IfSome, IsTrue, length, map, string_bytes};
-ghost use Rattle.spec_output.specs.Words.{AreAskedFor, are_names, axis_words, begins_with_dash, kind_words, target_words};
+ghost use Rattle.spec_requests.specs.Words.{AreAskedFor, are_names, axis_words, begins_with_dash, kind_words, target_words};
 
 /// The names of the files that the words ask for.
 pub(crate) fn asked(words: &[String]) -> Option<&[String]>

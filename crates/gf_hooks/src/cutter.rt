@@ -1,8 +1,8 @@
 // A closure that cuts spans, and the rule that it follows.
 ghost use Rattle.std.specs.Prelude.{◌≡◌, ℤ, ◌<ℤ◌};
-ghost use Rattle.spec_events.specs.Cuts.{CanCut, cut_of};
+ghost use Rattle.spec_trees.specs.Cuts.{CanCut, cut_of};
 
-use spec_events::CutRule;
+use spec_trees::CutRule;
 
 /// A closure that is asked where the span from a first time to a second one is cut.
 pub type Cut = Box<dyn Fn(i64, i64) -> i64 + Send + Sync>;
@@ -20,7 +20,8 @@ impl Cutter {
     /// Keeps a closure that can be called at each span that can be cut, and answers the rule's cut of it.
     pub fn new(rule: CutRule, cut: Cut) -> Cutter
         requires callable { (a b : ℤ) → CanCut a b → Cut.pre cut a b }
-        requires answers { (a b time : ℤ) → CanCut a b → Cut.post cut a b time → time ≡ cut_of rule a b }
+        requires answers { (a b time : ℤ) → CanCut a b
+            → Cut.post cut a b time → time ≡ cut_of rule a b }
         ensures { result.rule ≡ rule }
     {
         Cutter { rule, cut }

@@ -10,7 +10,7 @@ mod rules;
 
 pub use cutter::{Cut, Cutter};
 pub use rules::rule_cut;
-pub use spec_events::CutRule;
+pub use spec_trees::CutRule;
 
 #[cfg(test)]
 mod tests;

@@ -1,9 +1,9 @@
 // The cuts of the named rules.
 ghost use Rattle.std.specs.Prelude.{◌≡◌};
-ghost use Rattle.spec_events.specs.declared.cuts.CutRule.TheVariants.{Third};
-ghost use Rattle.spec_events.specs.Cuts.{CanCut, cut_of};
+ghost use Rattle.spec_trees.specs.declared.cuts.CutRule.TheVariants.{Third};
+ghost use Rattle.spec_trees.specs.Cuts.{CanCut, cut_of};
 
-use spec_events::CutRule;
+use spec_trees::CutRule;
 
 // The cut at the first third, but no less than one second past `a`.
 fn third_cut(a: i64, b: i64) -> i64

@@ -1,6 +1,6 @@
 // Cuts through stored closures of both rules.
 ghost use Rattle.std.specs.Prelude.{◌≡◌, IfOk};
-ghost use Rattle.spec_events.specs.Cuts.{CanCut, cut_of};
+ghost use Rattle.spec_trees.specs.Cuts.{CanCut, cut_of};
 
 use super::*;
 use std::alloc::Global;

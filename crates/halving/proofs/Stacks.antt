@@ -1,13 +1,12 @@
 -- A node more on the stack, and one less.
 use Rattle.std.proofs.Common.{◌≡◌, ◌+◌, ◌*◌, ◌-◌, ◌<◌, List, [], ◌∷◌, ◌++◌, length, sym, ap, ◌∙◌, subst, Some, None, append_assoc, length-append, arith}
 use Rattle.std.proofs.lemmas.List.{append-nil}
-use Rattle.spec_events.specs.declared.tree.Node.{Node}
-use Rattle.spec_events.specs.declared.tree.Leaf.{Leaf}
-use Rattle.spec_events.specs.declared.tree.Mark.{Mark}
-use Rattle.spec_events.specs.Tree.{mark_of}
-use Rattle.spec_events.specs.Tree.{Rules, IsValid, IsSound, width, leaf_of, leaves}
+use Rattle.spec_trees.specs.declared.tree.Node.{Node}
+use Rattle.spec_trees.specs.declared.tree.Leaf.{Leaf}
+use Rattle.spec_trees.specs.declared.tree.Mark.{Mark}
+use Rattle.spec_trees.specs.Tree.{mark_of, Rules, IsValid, IsSound, width, leaf_of, leaves}
 use Rattle.halving.specs.Pending.{pending, AllValid, weight}
-use Rattle.spec_events.proofs.Leaves.{some_width, parts_width, no_mark, leaves_settled, leaves_split}
+use Rattle.spec_trees.proofs.Leaves.{some_width, parts_width, no_mark, leaves_settled, leaves_split}
 
 pub pending_push : (t : Rules) (ns : List Node) (n : Node) → pending t (ns ++ n ∷ []) ≡ leaves t n ++ pending t ns
 pending_push t [] n = sym (append-nil (leaves t n))

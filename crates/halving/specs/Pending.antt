@@ -1,8 +1,8 @@
 -- Nodes that wait on a stack, the next one last.
 use Rattle.std.specs.Prelude.{ℕ, ◌+◌, ◌*◌, ◌-◌, List, [], ◌∷◌, ◌++◌}
-use Rattle.spec_events.specs.declared.tree.Node.{Node}
-use Rattle.spec_events.specs.declared.tree.Leaf.{Leaf}
-use Rattle.spec_events.specs.Tree.{Rules, IsValid, width, leaves}
+use Rattle.spec_trees.specs.declared.tree.Node.{Node}
+use Rattle.spec_trees.specs.declared.tree.Leaf.{Leaf}
+use Rattle.spec_trees.specs.Tree.{Rules, IsValid, width, leaves}
 
 -- the leaves of all nodes that wait, from left to right
 abbrev pub pending : Rules → List Node → List Leaf

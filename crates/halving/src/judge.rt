@@ -1,9 +1,9 @@
 // Who decides which nodes are split, and where.
 ghost use Rattle.std.specs.Prelude.{◌≡◌};
-ghost use Rattle.spec_events.specs.Tree.{Cuts, IsSound, IsValid, Rules};
-ghost use Rattle.spec_events.specs.declared.tree.Verdict.TheVariants.{Split};
+ghost use Rattle.spec_trees.specs.Tree.{Cuts, IsSound, IsValid, Rules};
+ghost use Rattle.spec_trees.specs.declared.tree.Verdict.TheVariants.{Split};
 
-use spec_events::{Node, Verdict};
+use spec_trees::{Node, Verdict};
 
 /// Decides which nodes are split, and where. Neither changes, and both are known of each valid node.
 pub trait Judge: Sync {

@@ -1,7 +1,7 @@
 //! Trees of spans that are cut in two: who decides which nodes are split and where, and the leaves of a root.
 //!
 //! In come a judge and a root; out come the root's leaves from left to right, which follow one another from its first
-//! time to its last. The judge's meanings are `Rules` of `spec_events`, which never change; what a verdict says of the
+//! time to its last. The judge's meanings are `Rules` of `spec_trees`, which never change; what a verdict says of the
 //! times of a node is the judge's own affair.
 #![tactic(auto)]
 
@@ -10,7 +10,7 @@ mod run;
 
 pub use judge::{Judge, rules_are_sound};
 pub use run::{RunError, run_one};
-pub use spec_events::{Leaf, Mark, Node, Turn, Verdict};
+pub use spec_trees::{Leaf, Mark, Node, Turn, Verdict};
 
 #[cfg(test)]
 mod tests;

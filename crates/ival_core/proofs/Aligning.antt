@@ -2,7 +2,8 @@
 use Rattle.std.proofs.Common.{◌≡◌, ℕ, refl, ℤ, pos, ◌+ℤ◌, ◌*ℤ◌, ◌≤ℤ◌, arith}
 use Rattle.std.specs.Int.{int_min, int_max}
 use Rattle.std.proofs.lemmas.Int.{ints}
-use Rattle.spec_intervals.specs.Interval.{Interval, floor_div, ceil_div, narrow, scale, signed_sq, signed_square, aligned_lower, aligned_upper, sum_up, join_up, meet_up}
+use Rattle.spec_intervals.specs.Interval.{Interval, narrow, scale, signed_sq, signed_square, aligned_lower, aligned_upper, sum_up, join_up, meet_up}
+use Rattle.spec_numbers.specs.Numbers.{floor_div, ceil_div}
 
 module _ (x y : Interval) (lo hi s : ℤ) (e : s ≡ (aligned_lower x y).s) where
   pub sum_up-is : lo ≡ (aligned_lower x y).lo +ℤ (aligned_upper x y).lo → hi ≡ (aligned_lower x y).hi +ℤ (aligned_upper x y).hi → narrow lo hi s ≡ sum_up x y

@@ -5,8 +5,9 @@ use Rattle.std.proofs.lemmas.Nat.{mul-le}
 use Rattle.std.proofs.Math.Nat.{div-eq_of_lt, pow-le-pow_right, one-le-pow}
 use Rattle.std.proofs.lemmas.Bool.{cases_lt}
 use mir.Syntax.{w128}
-use Rattle.spec_intervals.specs.Interval.{floor_div, ceil_div}
-use Rattle.spec_intervals.proofs.Floor.{floor_div-le, floor_div-lt, floor_div-small, unsigned_abs-neg}
+use Rattle.spec_numbers.specs.Numbers.{floor_div, ceil_div}
+use Rattle.spec_numbers.proofs.Floor.{floor_div-le, floor_div-lt, floor_div-small}
+use Rattle.spec_numbers.proofs.Sizes.{unsigned_abs-neg}
 
 -- a mantissa of 64 bits at an exponent
 pub mant_wide : (z : ℤ) → FitsSigned w64 z → FitsSigned w128 z

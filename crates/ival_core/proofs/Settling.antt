@@ -4,10 +4,11 @@ use Rattle.std.proofs.lemmas.Int.{ints}
 use Rattle.std.proofs.lemmas.Nat.{pow_pos}
 use mir.Syntax.{w128}
 use mir.Val.{SFits}
-use Rattle.spec_intervals.specs.Interval.{IsIval, end_limit, floor_div, ceil_div, fits_after, first_fit, narrow_shift, settled, narrow_by, narrow}
-use Rattle.spec_intervals.proofs.Order.{lin}
-use Rattle.spec_intervals.proofs.Floor.{is_small-both, ordered_quotients}
-use Rattle.spec_intervals.proofs.Narrow.{narrow_shift-fits}
+use Rattle.spec_intervals.specs.Interval.{IsIval, end_limit, fits_after, first_fit, narrow_shift, settled, narrow_by, narrow}
+use Rattle.spec_numbers.specs.Numbers.{floor_div, ceil_div}
+use Rattle.spec_numbers.proofs.Order.{lin}
+use Rattle.spec_intervals.proofs.Narrow.{is_small-both, narrow_shift-fits}
+use Rattle.spec_numbers.proofs.Floor.{ordered_quotients}
 
 pub settled-zero : (lo hi s : ℤ) → lo ≡ pos 0 → hi ≡ pos 0 → record { lo = lo; hi = hi; s = pos 0 } ≡ settled lo hi s
 unfolding settled

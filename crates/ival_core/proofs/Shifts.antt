@@ -4,7 +4,8 @@ use Rattle.std.proofs.lemmas.Int.{ints, clamps, to_z_pos, unsigned_abs-mul, fits
 use Rattle.std.proofs.lemmas.Nat.{one_shl, mul-le}
 use Rattle.std.proofs.Math.Nat.{div-eq_of_lt, pow-le-pow_right}
 use mir.Syntax.{w128}
-use Rattle.spec_intervals.specs.Interval.{floor_div, greatest4, least4}
+use Rattle.spec_numbers.specs.Numbers.{floor_div}
+use Rattle.spec_intervals.specs.Interval.{greatest4, least4}
 use Rattle.std.specs.Int.{int_max, int_min}
 
 -- past 2^64 a small end is divided to 0 or -1

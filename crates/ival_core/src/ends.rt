@@ -2,7 +2,8 @@
 
 ghost use Rattle.std.specs.Prelude.{◌≡◌, ◌≤◌, ◌<◌, ◌^◌, ◌*◌, ◌≤ℤ◌, ◌+ℤ◌, ◌*ℤ◌, pos, unsigned_abs};
 ghost use Rattle.std.specs.Int.{int_gap};
-ghost use Rattle.spec_intervals.specs.Interval.{IsExponent, exponent_limit, end_limit, lift_limit, floor_div, ceil_div, narrow_shift, least4, greatest4, signed_sq};
+ghost use Rattle.spec_intervals.specs.Interval.{IsExponent, exponent_limit, end_limit, lift_limit, narrow_shift, least4, greatest4, signed_sq};
+ghost use Rattle.spec_numbers.specs.Numbers.{floor_div, ceil_div};
 
 /// The greatest size of an end, 2^62: the product of two ends is within 128 bits.
 const END_LIMIT: u128 = 1 << 62;

@@ -2,9 +2,10 @@
 use Rattle.std.proofs.Common.{◌≡◌, ◌∙◌, List, [], ◌∷◌, ◌++◌, ap, sym, append_assoc, ℕ}
 use Rattle.spec_text.specs.Lines.{TokenLine}
 use Rattle.spec_header.specs.HeaderLines.{header}
-use Rattle.spec_header.specs.Sections.{FileLine}
+use Rattle.spec_sections.specs.Sections.{FileLine}
 use Rattle.de_header.specs.declared.state.State.{State}
-use Rattle.de_header.specs.Reader.{line_of, says}
+use Rattle.spec_sections.specs.FileLines.{line_of}
+use Rattle.de_header.specs.Reader.{says}
 
 -- what is said of the lines to come is said of a header of these and of those
 pub record IsOfHeader (state : State) : Type 0 where

@@ -1,7 +1,7 @@
 // Positions of three axes at single times of a granule.
 ghost use Rattle.std.specs.Prelude.{◌≡◌, ◌<◌, All, IfOk, length, pos, ◌≤ℤ◌, ◌+ℤ◌};
 ghost use Rattle.spec_ephemeris.specs.Ephemeris.{IsBodyNumber};
-ghost use Rattle.cheby_enclose.specs.Granules.{IsEvaluable};
+ghost use Rattle.spec_motions.specs.Granules.{IsEvaluable};
 
 use cheby_enclose::{Bases, Terms, arguments, position_over};
 use eph_model::Granule;

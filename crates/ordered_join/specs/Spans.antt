@@ -1,6 +1,6 @@
 -- What the walk over leaves asks of each.
 use Rattle.std.specs.Prelude.{◌<ℤ◌}
-use Rattle.spec_events.specs.declared.tree.Leaf.{Leaf}
+use Rattle.spec_trees.specs.declared.tree.Leaf.{Leaf}
 
 -- the leaf stands for some time
 abbrev pub HasTime : Leaf → Type 0

@@ -1,10 +1,10 @@
 // From leaves in order to windows.
 ghost use Rattle.std.specs.Prelude.{◌≡◌, ◌++◌, [], All, IfOk, OnOk};
-ghost use Rattle.spec_events.specs.Windows.{window_of, windows};
-ghost use Rattle.spec_events.specs.Runs.{ended, longer};
+ghost use Rattle.spec_trees.specs.Windows.{window_of, windows};
+ghost use Rattle.spec_trees.specs.Runs.{ended, longer};
 ghost use Rattle.ordered_join.specs.Spans.{HasTime};
 
-use spec_events::{Holds, Leaf, Mark, Window};
+use spec_trees::{Holds, Leaf, Mark, Window};
 use std::alloc::{AllocError, Global};
 
 // The window of a leaf by itself.

@@ -7,7 +7,7 @@ mod joining;
 mod ordering;
 
 pub use ordering::{Memory, windows};
-pub use spec_events::{Holds, Window};
+pub use spec_trees::{Holds, Window};
 
 #[cfg(test)]
 mod tests;

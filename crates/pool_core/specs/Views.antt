@@ -1,7 +1,7 @@
 -- How contracts see a pool.
 use Rattle.std.specs.Prelude.{◌≡◌, Some, None}
-use Rattle.spec_events.specs.declared.tree.Node.{Node}
-use Rattle.spec_events.specs.Tree.{Rules, IsValid}
+use Rattle.spec_trees.specs.declared.tree.Node.{Node}
+use Rattle.spec_trees.specs.Tree.{Rules, IsValid}
 use Rattle.spec_pool.specs.Pool.{Holding, holding, State}
 
 -- its judge, its root and its state

@@ -1,6 +1,6 @@
 // The marks of verdicts.
 ghost use Rattle.std.specs.Prelude.{◌≡◌};
-ghost use Rattle.spec_events.specs.Tree.{mark_of};
+ghost use Rattle.spec_trees.specs.Tree.{mark_of};
 
 use halving::{Mark, Verdict};
 

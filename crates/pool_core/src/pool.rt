@@ -1,6 +1,6 @@
 // The pool of all workers.
 ghost use Rattle.std.specs.Prelude.{◌≡◌, ◌≤◌, List, [], ◌∷◌, ◌++◌, IsTrue, ◌↔◌, OnOk, OnErr, IfOk, IfErr};
-ghost use Rattle.spec_events.specs.Tree.{IsValid};
+ghost use Rattle.spec_trees.specs.Tree.{IsValid};
 ghost use Rattle.spec_pool.specs.Pool.{Holding, Steals, Steps, Refuses, opening};
 ghost use Rattle.spec_pool.specs.Tiling.{IsDone};
 ghost use Rattle.spec_pool.specs.declared.step.Step.TheVariants.{Push, Keep, Pop, TakeKept, Steal, Enter};

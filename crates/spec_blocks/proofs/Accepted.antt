@@ -5,10 +5,9 @@ use Rattle.spec_ephemeris.specs.declared.header.Header.{Header}
 use Rattle.spec_ephemeris.specs.Header.{IsHeader}
 use Rattle.spec_ephemeris.specs.Ephemeris.{Ephemeris, IsEphemeris}
 use Rattle.spec_header.specs.HeaderLines.{header}
-use Rattle.spec_header.specs.Sections.{FileLine}
+use Rattle.spec_sections.specs.Sections.{FileLine}
 use Rattle.spec_header.proofs.Accepted.{accepted_header}
-use Rattle.spec_header.proofs.ColumnsMeet.{holds_also}
-use Rattle.spec_header.proofs.Holding.{Holds, holds_ok, then_any}
+use Rattle.spec_sections.proofs.Holding.{holds_also, Holds, holds_ok, then_any}
 use Rattle.spec_blocks.specs.Blocks.{block, blocks, blocks_behind, ephemeris, no_blocks, with_numbers}
 use Rattle.spec_blocks.proofs.Numbers.{block_holds}
 use Rattle.spec_blocks.proofs.Blocks.{IsWith, is_with, none_checked}

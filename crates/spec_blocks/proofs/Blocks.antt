@@ -13,32 +13,25 @@ use Rattle.spec_ephemeris.specs.Header.{IsHeader, IsColumn, Takes, is_present, c
 use Rattle.spec_ephemeris.specs.Ephemeris.{Ephemeris, IsEphemeris, IsStart, IsBlock, IsBodyNumber, AreBodiesBounded, empty_ephemeris}
 use Rattle.spec_ephemeris.specs.Series.{IsInUnits}
 use Rattle.spec_ephemeris.proofs.Pushing.{pushed}
-use Rattle.spec_header.specs.declared.rules.BrokenRule.{BrokenRule}
-use Rattle.spec_header.specs.HeaderRules.{seconds_within, within_days, seconds_of_days}
-use Rattle.spec_header.specs.Sections.{◌>>=◌}
-use Rattle.spec_header.proofs.Holding.{Holds, holds_ok}
-use Rattle.spec_header.proofs.ColumnsMeet.{get_take}
+use Rattle.spec_sections.specs.declared.rules.BrokenRule.{BrokenRule}
+use Rattle.spec_text.specs.Days.{seconds_of_julian_date}
+use Rattle.spec_text.specs.declared.days.DaysFault.{DaysFault}
+use Rattle.spec_text.specs.declared.limits.TheConstants.{LAST_JULIAN_DAY}
+use Rattle.spec_text.proofs.Spans.{seconds_few}
+use Rattle.spec_sections.specs.Sections.{◌>>=◌}
+use Rattle.spec_sections.proofs.Holding.{Holds, holds_ok}
+use Rattle.spec_numbers.proofs.Lists.{get_take}
 use Rattle.spec_blocks.specs.BlockRules.{coefficient_rule, follows, has_length, is_passed_over, is_place_of, is_place_of_body, is_too_large, time_by, time_of}
 use Rattle.spec_blocks.specs.Blocks.{accept, begun, no_blocks, with_numbers}
 use Rattle.spec_blocks.specs.Read.{AreRead}
 
 -- ---- times
-within_holds : (d : Decimal) (o : Option ℕ) → Holds (λ s. s ≤ 86400 * 5000000) (within_days 5000000 d o)
-within_holds d None = tt
-within_holds d (Some s) = elim (cases_Bool (int_lt d.mant (pos 0))) [
-  | inl negative ↦ rw negative tt
-  | inr positive ↦ elim (cases_lt (86400 * 5000000) s) [
-    | inl many ↦ rw (positive, lt-ltb (86400 * 5000000) s many) tt
-    | inr most ↦ rw (positive, le-ltb (86400 * 5000000) s most) most
-  ]
-]
-
-time_by_holds : (r : Result ℕ BrokenRule) → Holds (λ s. s ≤ 86400 * 5000000) r → Holds IsStart (time_by r)
+time_by_holds : (r : Result ℕ DaysFault) → Holds (λ s. s ≤ 86400 * 5000000) r → Holds IsStart (time_by r)
 time_by_holds (Ok s) few = (omega (arith, ints), omega (arith, ints, few))
 time_by_holds (Err b) few = tt
 
 pub time_holds : (d : Decimal) → Holds IsStart (time_of d)
-time_holds d = time_by_holds (seconds_within 5000000 d) (within_holds d (seconds_of_days d))
+time_holds d = time_by_holds (seconds_of_julian_date d) (seconds_few LAST_JULIAN_DAY d)
 
 -- ---- places
 found_place : (number : ℕ) (cs : List Column) (i place : ℕ) (c : Column) → slice_get cs i ≡ Some c → is_present c ≡ true → Takes (number + i) c place

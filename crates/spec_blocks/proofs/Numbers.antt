@@ -11,10 +11,10 @@ use Rattle.spec_text.specs.declared.decimals.NumberFault.{NumberFault}
 use Rattle.spec_text.proofs.Answering.{bounds, reads_by}
 use Rattle.spec_ephemeris.specs.Ephemeris.{Ephemeris}
 use Rattle.spec_ephemeris.specs.Series.{IsInUnits}
-use Rattle.spec_header.specs.declared.rules.BrokenRule.{BrokenRule}
-use Rattle.spec_header.specs.Sections.{FileLine, FileWord, ◌>>=◌, at_line, behind_words, first_words, one_line}
-use Rattle.spec_header.proofs.Holding.{Holds, holds_ok, then_any}
-use Rattle.spec_blocks.specs.declared.rules.TheConstants.{TRUNCATED}
+use Rattle.spec_sections.specs.declared.rules.BrokenRule.{BrokenRule}
+use Rattle.spec_sections.specs.Sections.{FileLine, FileWord, ◌>>=◌, at_line, after_words, first_words, one_line}
+use Rattle.spec_sections.proofs.Holding.{Holds, all_words, at_holds, holds_ok, then_any}
+use Rattle.spec_faults.specs.declared.numbers.TheConstants.{TRUNCATED}
 use Rattle.spec_blocks.specs.BlockRules.{number_by, number_rule, record_line, value_rule}
 use Rattle.spec_blocks.specs.Blocks.{block, further_words, numbers_of, zeros_of}
 use Rattle.spec_blocks.specs.Read.{AreRead}
@@ -70,10 +70,6 @@ module _ (before : Ephemeris) (numbers : List Decimal) where
   pub number_holds : (word : List ℕ) → Holds (Meets before numbers) (number_rule before numbers word)
   number_holds word = by_reading (reading word) (units_of_reading word)
 
-at_holds : {A : Type 0} (Q : A → Type 0) (file number : ℕ) (r : Result A BrokenRule) → Holds Q r → Holds Q (at_line file number r)
-at_holds Q file number (Ok x) holds = holds
-at_holds Q file number (Err b) holds = tt
-
 -- the numbers that a block has so far
 abbrev pub Counted : Ephemeris → ℕ → List Decimal → Type 0
 Counted before n all = AreRead before all × (length all ≡ n)
@@ -88,19 +84,12 @@ numbers_hold before numbers (word ∷ words) read =
     subst (λ (n : ℕ). Holds (Counted before n) (numbers_of before (numbers ++ d ∷ []) words)) count
     (numbers_hold before (numbers ++ d ∷ []) words (read_more before numbers d read meets.0 meets.1)))
 
--- a section of words has all of them
-all_words : (late n : ℕ) (lines : List FileLine) → Holds (λ (rest : List FileLine). length (first_words n lines) ≡ n) (behind_words late n lines)
-all_words late n lines = elim (cases_eq (length (first_words n lines)) n) [
-  | inl same ↦ rw (eq-eqb _ _ same) same
-  | inr other ↦ rw (ne_eqb _ _ other) tt
-]
-
 pub block_holds : (before : Ephemeris) (lines : List FileLine) → Holds (λ found. Counted before before.header.ncoeff found.0) (block before lines)
 block_holds before lines =
     let n = before.header.ncoeff in
     then_any (λ (found : List Decimal × List FileLine). Counted before n found.0) (one_line TRUNCATED (record_line n) lines) _ (λ heading a.
     then_any (λ (found : List Decimal × List FileLine). Counted before n found.0) (numbers_of before [] (first_words n heading.1)) _ (λ all b.
     then_any (λ (found : List Decimal × List FileLine). Counted before n found.0) (zeros_of (further_words n heading.1)) _ (λ zeros c.
-    then_any (λ (found : List Decimal × List FileLine). Counted before n found.0) (behind_words TRUNCATED n heading.1) _ (λ rest d.
+    then_any (λ (found : List Decimal × List FileLine). Counted before n found.0) (after_words TRUNCATED n heading.1) _ (λ rest d.
     let counted = holds_ok _ _ all b (numbers_hold before [] (first_words n heading.1) (none_read before)) in
     (counted.0, omega (arith, counted.1, holds_ok (λ (rest : List FileLine). length (first_words n heading.1) ≡ n) _ rest d (all_words TRUNCATED n heading.1)))))))

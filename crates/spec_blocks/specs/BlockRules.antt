@@ -1,18 +1,18 @@
 -- The rules of the words of blocks, each given the blocks before and the numbers before it in its block. Times are
 -- seconds of TDB since J2000.
 use Rattle.std.specs.Prelude.{ℕ, suc, ◌+◌, ◌*◌, ◌^◌, ◌==◌, ◌&&◌, ◌||◌, nat_lt, nat_le, int_le, int_lt, unsigned_abs, Bool, false, List, [], ◌∷◌, length, take, slice_get, Option, Some, Result, Ok, Err, ℤ, pos, ◌+ℤ◌, if◌then◌else◌}
-use Rattle.spec_text.specs.Reading.{fault_number, reading}
+use Rattle.spec_text.specs.Days.{seconds_of_julian_date, size_over, size_under}
+use Rattle.spec_text.specs.declared.days.DaysFault.{DaysFault}
+use Rattle.spec_text.specs.Reading.{fault_number, reading, whole_at}
 use Rattle.spec_text.specs.declared.decimals.Decimal.{Decimal}
 use Rattle.spec_text.specs.declared.decimals.NumberFault.{NumberFault}
 use Rattle.spec_ephemeris.specs.declared.header.Column.{Column}
 use Rattle.spec_ephemeris.specs.declared.limits.TheConstants.{BODY_COLUMNS, FIRST_TIME, MOST_BLOCKS}
 use Rattle.spec_ephemeris.specs.Header.{column_size, is_present}
 use Rattle.spec_ephemeris.specs.Ephemeris.{Ephemeris, end_of}
-use Rattle.spec_header.specs.declared.rules.BrokenRule.{BrokenRule}
-use Rattle.spec_header.specs.declared.rules.TheConstants.{LAST_JULIAN_DAY}
-use Rattle.spec_header.specs.HeaderRules.{broken, seconds_within, size_over, size_under, whole_at}
-use Rattle.spec_header.specs.Sections.{◌>>=◌}
-use Rattle.spec_blocks.specs.declared.rules.TheConstants.{RECORD_LINE, NCOEFF_DIFFERS, BLOCK_SPAN, BLOCK_GAP, NUMBER, TOO_LARGE, TOO_MANY_BLOCKS, TRAILING_NUMBERS}
+use Rattle.spec_sections.specs.declared.rules.BrokenRule.{BrokenRule}
+use Rattle.spec_sections.specs.Sections.{◌>>=◌, broken}
+use Rattle.spec_faults.specs.declared.numbers.TheConstants.{RECORD_LINE, NCOEFF_DIFFERS, BLOCK_SPAN, BLOCK_GAP, NUMBER, TOO_LARGE, TOO_MANY_BLOCKS, TRAILING_NUMBERS}
 
 -- the record number may be any
 abbrev pub record_numbers : ℕ → Option ℕ → Option ℕ → Result (Unit {0}) BrokenRule
@@ -29,13 +29,13 @@ abbrev pub number_by : Result Decimal NumberFault → Result Decimal BrokenRule
 number_by (Ok d) = Ok d
 number_by (Err fault) = Err (broken NUMBER (fault_number fault))
 
-abbrev pub time_by : Result ℕ BrokenRule → Result ℤ BrokenRule
+abbrev pub time_by : Result ℕ DaysFault → Result ℤ BrokenRule
 time_by (Ok seconds) = Ok (FIRST_TIME +ℤ pos seconds)
 time_by (Err fault) = Err (broken BLOCK_SPAN 0)
 
 -- the time of a Julian date from 0 to 5,000,000 that is a whole number of seconds
 abbrev pub time_of : Decimal → Result ℤ BrokenRule
-time_of date = time_by (seconds_within LAST_JULIAN_DAY date)
+time_of date = time_by (seconds_of_julian_date date)
 
 -- a block that ends no later than the last of the blocks before it
 abbrev pub is_passed_over : Ephemeris → ℤ → Bool

@@ -3,10 +3,10 @@ use Rattle.std.specs.Prelude.{ℕ, zero, suc, ◌-◌, ◌==◌, List, [], ◌�
 use Rattle.spec_text.specs.declared.decimals.Decimal.{Decimal}
 use Rattle.spec_ephemeris.specs.declared.header.Header.{Header}
 use Rattle.spec_ephemeris.specs.Ephemeris.{Ephemeris, empty_ephemeris, with_block}
-use Rattle.spec_header.specs.declared.rules.BrokenRule.{BrokenRule}
+use Rattle.spec_sections.specs.declared.rules.BrokenRule.{BrokenRule}
 use Rattle.spec_header.specs.HeaderLines.{header}
-use Rattle.spec_header.specs.Sections.{FileLine, FileWord, Stop, ended, ◌>>=◌, at_line, behind_words, first_words, one_line, word_of}
-use Rattle.spec_blocks.specs.declared.rules.TheConstants.{NO_BLOCK, TRUNCATED}
+use Rattle.spec_sections.specs.Sections.{FileLine, FileWord, Stop, ended, ◌>>=◌, at_line, after_words, first_words, one_line, word_of}
+use Rattle.spec_faults.specs.declared.numbers.TheConstants.{NO_BLOCK, TRUNCATED}
 use Rattle.spec_blocks.specs.BlockRules.{is_passed_over, number_rule, record_line, time_of, trailing_rule}
 
 -- words as numbers, each by its rule, behind these numbers of a block that stands behind the blocks before
@@ -30,7 +30,7 @@ abbrev pub further_numbers : Ephemeris → ℕ → List Decimal → List FileLin
 further_numbers before n numbers lines = do
   all ← numbers_of before numbers (first_words n lines)
   zeros ← zeros_of (further_words n lines)
-  rest ← behind_words TRUNCATED n lines
+  rest ← after_words TRUNCATED n lines
   Ok (all, rest)
 
 -- a block behind the blocks before: a record line, and the lines that hold NCOEFF words

@@ -5,7 +5,7 @@ use Rattle.spec_text.specs.declared.decimals.Decimal.{Decimal}
 use Rattle.spec_ephemeris.specs.declared.header.Header.{Header}
 use Rattle.spec_ephemeris.specs.Ephemeris.{Ephemeris}
 use Rattle.spec_header.specs.Examples.{column}
-use Rattle.spec_header.specs.Sections.{FileLine, Stop, breaks}
+use Rattle.spec_sections.specs.Sections.{FileLine, Stop, breaks}
 
 abbrev pub decimal : ℤ → ℤ → Decimal
 decimal mant exp = record { mant = mant; exp = exp }

@@ -1,10 +1,9 @@
 // Worked examples of the definitions: blocks of five numbers and one day, and the first fault where a line is changed.
 ghost use Rattle.std.specs.Prelude.{◌≡◌, [], ◌∷◌, ◌++◌, ◌-◌, Err, Ok, codes, false, negsuc, pos, true};
 ghost use Rattle.spec_ephemeris.specs.declared.limits.TheConstants.{FIRST_TIME, LAST_TIME, MOST_BLOCKS};
-ghost use Rattle.spec_header.specs.HeaderRules.{broken};
-ghost use Rattle.spec_header.specs.Sections.{ended};
+ghost use Rattle.spec_sections.specs.Sections.{broken, ended};
 ghost use Rattle.spec_header.specs.Examples.{small_header};
-ghost use Rattle.spec_blocks.specs.declared.rules.TheConstants.{BLOCK_GAP, BLOCK_SPAN, TOO_MANY_BLOCKS};
+ghost use Rattle.spec_faults.specs.declared.numbers.TheConstants.{BLOCK_GAP, BLOCK_SPAN, TOO_MANY_BLOCKS};
 ghost use Rattle.spec_blocks.specs.BlockRules.{follows, is_place_of_body, is_too_large, time_of};
 ghost use Rattle.spec_blocks.specs.Blocks.{blocks};
 ghost use Rattle.spec_blocks.specs.Examples.{day_header, days, decimal, first_day, lines_from, lines_of, numbers_of_first_day, numbers_of_second_day, refused, second_day};

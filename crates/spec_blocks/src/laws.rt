@@ -3,7 +3,7 @@ ghost use Rattle.std.specs.Prelude.{◌≡◌, ◌<◌, List, Ok};
 ghost use Rattle.spec_ephemeris.specs.Header.{IsHeader};
 ghost use Rattle.spec_ephemeris.specs.declared.header.Header.{Header};
 ghost use Rattle.spec_ephemeris.specs.Ephemeris.{Ephemeris, IsEphemeris};
-ghost use Rattle.spec_header.specs.Sections.{FileLine};
+ghost use Rattle.spec_sections.specs.Sections.{FileLine};
 ghost use Rattle.spec_blocks.specs.Blocks.{blocks, ephemeris};
 
 /// The blocks of accepted lines are a checked ephemeris of the given header, with one block or more.

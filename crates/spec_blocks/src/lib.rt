@@ -5,7 +5,6 @@
 
 mod examples;
 mod laws;
-mod rules;
 
 pub use examples::{
     blocks_end_early, blocks_follow_one_another, blocks_go_on_in_the_next_file,
@@ -13,7 +12,3 @@ pub use examples::{
     times_of_julian_dates, words_behind_a_block_are_zeros,
 };
 pub use laws::{accepted_blocks_are_an_ephemeris, accepted_lines_are_an_ephemeris};
-pub use rules::{
-    BLOCK_GAP, BLOCK_SPAN, NCOEFF_DIFFERS, NO_BLOCK, NUMBER, RECORD_LINE, TOO_LARGE,
-    TOO_MANY_BLOCKS, TRAILING_NUMBERS, TRUNCATED,
-};

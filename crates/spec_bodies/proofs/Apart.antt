@@ -1,6 +1,6 @@
 -- (E + m) - E is m, and E - (E + m) is 0 - m, as fractions multiplied across.
 use Rattle.std.proofs.Common.{[], ◌∷◌, pos}
-use Rattle.spec_intervals.proofs.Ring.{v, k as lit, ◌⊕◌, ◌⊖◌, ◌⊗◌, ring}
+use Rattle.spec_numbers.proofs.Ring.{v, k as lit, ◌⊕◌, ◌⊖◌, ◌⊗◌, ring}
 use Rattle.spec_intervals.specs.Fraction.{Fraction, fraction, fraction_add, fraction_sub}
 use Rattle.spec_bodies.specs.Meanings.{AreEqual}
 

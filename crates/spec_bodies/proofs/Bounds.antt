@@ -3,23 +3,18 @@ use Rattle.std.proofs.Common.{ℕ, zero, suc, ◌+◌, ◌≤◌, max, arith, su
 use Rattle.std.proofs.lemmas.Int.{ints}
 use Rattle.spec_intervals.specs.Interval.{Interval, product}
 use Rattle.spec_intervals.specs.Fraction.{Fraction}
-use Rattle.spec_expressions.specs.Enclosure.{Enclosure, IsSpan, AllWithin, enclosure}
+use Rattle.spec_intervals.specs.Enclosure.{Enclosure, IsSpan, AllWithin, enclosure}
 use Rattle.spec_bodies.specs.declared.frame.Frame.{Frame}
 use Rattle.spec_bodies.specs.declared.frame.Frame.TheVariants.{Eq, Ecl}
 use Rattle.spec_bodies.specs.declared.source.Source.{Source}
 use Rattle.spec_bodies.specs.declared.source.Source.TheVariants.{OwnColumn, EarthOfPair, MoonOfPair, Origin}
-use Rattle.spec_bodies.specs.Coordinates.{Factor, Coordinate, nothing, of_column, times, plus, less, seen, in_frame}
+use Rattle.spec_bodies.specs.declared.factor.Factor.{Factor}
+use Rattle.spec_bodies.specs.Coordinates.{Coordinate, nothing, of_column, times, plus, less, displacement, in_frame}
 use Rattle.spec_bodies.specs.Meanings.{factor_interval, enclosure_of}
-use Rattle.spec_bodies.specs.Reading.{AllColumns, lowest, highest, IsLow, IsShort, IsFactor}
-use Rattle.spec_bodies.proofs.Exponents.{IsBetween, AreBetween, between-more, between-all_within, product-between, enclosure-between, nothing-between, sum_of-between, difference_of-between}
+use Rattle.spec_bodies.specs.Reading.{AllColumns, column_lowest, column_highest, lowest, highest, IsLow, IsShort, IsFactor}
+use Rattle.spec_intervals.proofs.Exponents.{IsBetween, between-more, product-between}
+use Rattle.spec_intervals.proofs.EnclosureExponents.{AreBetween, all-more, between-all_within, enclosure-between, nothing-between, sum_of-between, difference_of-between}
 use Rattle.spec_bodies.proofs.Factors.{times_factor}
-
-more : (l h m n : ℕ) (e : Enclosure) → l ≤ m → h ≤ n → AreBetween l h e → AreBetween m n e
-more l h m n e p q is = record {
-  mid = between-more l h m n e.mid p q is.mid;
-  range = between-more l (h + 63) m (n + 63) e.range p (omega (arith, q)) is.range;
-  step = between-more l h m n e.step p q is.step;
-}
 
 multiplied : (c t : Interval) (l h : ℕ) → IsFactor c → IsBetween l h t → IsBetween (l + 60) (h + 2) (product c t)
 multiplied c t l h factor is =
@@ -36,7 +31,7 @@ scaled a b span c x l h factor is =
     (multiplied c x.step l h factor is.step)
 
 module _ (a b : ℤ) (span : IsSpan a b) (answer : ℕ → ℕ → Enclosure) (factors : Factor → Fraction) (are : (f : Factor) → IsFactor (factor_interval (factors f))) where
-  pub between_of : (c : Coordinate) → AllColumns (λ number axis. AreBetween 84 2 (answer number axis)) c → AreBetween (lowest c) (highest c) (enclosure_of answer factors a b c)
+  pub between_of : (c : Coordinate) → AllColumns (λ number axis. AreBetween column_lowest column_highest (answer number axis)) c → AreBetween (lowest c) (highest c) (enclosure_of answer factors a b c)
   between_of nothing all = nothing-between a b span
   between_of (of_column number axis) all = all
   between_of (times f x) all =
@@ -44,31 +39,31 @@ module _ (a b : ℤ) (span : IsSpan a b) (answer : ℕ → ℕ → Enclosure) (f
       (scaled a b span (factor_interval (factors f)) (enclosure_of answer factors a b x) (lowest x) (highest x) (are f) (between_of x all))
   between_of (plus x y) all =
       sum_of-between a b span (max (lowest x) (lowest y)) (max (highest x) (highest y)) (enclosure_of answer factors a b x) (enclosure_of answer factors a b y)
-      (more (lowest x) (highest x) _ _ (enclosure_of answer factors a b x) (omega arith) (omega arith) (between_of x all.0))
-      (more (lowest y) (highest y) _ _ (enclosure_of answer factors a b y) (omega arith) (omega arith) (between_of y all.1))
+      (all-more (lowest x) (highest x) _ _ (enclosure_of answer factors a b x) (omega arith) (omega arith) (between_of x all.0))
+      (all-more (lowest y) (highest y) _ _ (enclosure_of answer factors a b y) (omega arith) (omega arith) (between_of y all.1))
   between_of (less x y) all =
       difference_of-between a b span (max (lowest x) (lowest y)) (max (highest x) (highest y)) (enclosure_of answer factors a b x) (enclosure_of answer factors a b y)
-      (more (lowest x) (highest x) _ _ (enclosure_of answer factors a b x) (omega arith) (omega arith) (between_of x all.0))
-      (more (lowest y) (highest y) _ _ (enclosure_of answer factors a b y) (omega arith) (omega arith) (between_of y all.1))
+      (all-more (lowest x) (highest x) _ _ (enclosure_of answer factors a b x) (omega arith) (omega arith) (between_of x all.0))
+      (all-more (lowest y) (highest y) _ _ (enclosure_of answer factors a b y) (omega arith) (omega arith) (between_of y all.1))
 
 -- ---- the formulas of bodies
-pub seen_low : (axis : ℕ) (target observer : Source) → IsLow 144 7 (seen target observer axis)
-seen_low axis (OwnColumn n) (OwnColumn m) = record { low = omega arith; high = omega arith }
-seen_low axis (OwnColumn n) EarthOfPair = record { low = omega arith; high = omega arith }
-seen_low axis (OwnColumn n) MoonOfPair = record { low = omega arith; high = omega arith }
-seen_low axis (OwnColumn n) Origin = record { low = omega arith; high = omega arith }
-seen_low axis EarthOfPair (OwnColumn m) = record { low = omega arith; high = omega arith }
-seen_low axis EarthOfPair EarthOfPair = record { low = omega arith; high = omega arith }
-seen_low axis EarthOfPair MoonOfPair = record { low = omega arith; high = omega arith }
-seen_low axis EarthOfPair Origin = record { low = omega arith; high = omega arith }
-seen_low axis MoonOfPair (OwnColumn m) = record { low = omega arith; high = omega arith }
-seen_low axis MoonOfPair EarthOfPair = record { low = omega arith; high = omega arith }
-seen_low axis MoonOfPair MoonOfPair = record { low = omega arith; high = omega arith }
-seen_low axis MoonOfPair Origin = record { low = omega arith; high = omega arith }
-seen_low axis Origin (OwnColumn m) = record { low = omega arith; high = omega arith }
-seen_low axis Origin EarthOfPair = record { low = omega arith; high = omega arith }
-seen_low axis Origin MoonOfPair = record { low = omega arith; high = omega arith }
-seen_low axis Origin Origin = record { low = omega arith; high = omega arith }
+pub displacement_low : (axis : ℕ) (target observer : Source) → IsLow 144 7 (displacement target observer axis)
+displacement_low axis (OwnColumn n) (OwnColumn m) = record { low = omega arith; high = omega arith }
+displacement_low axis (OwnColumn n) EarthOfPair = record { low = omega arith; high = omega arith }
+displacement_low axis (OwnColumn n) MoonOfPair = record { low = omega arith; high = omega arith }
+displacement_low axis (OwnColumn n) Origin = record { low = omega arith; high = omega arith }
+displacement_low axis EarthOfPair (OwnColumn m) = record { low = omega arith; high = omega arith }
+displacement_low axis EarthOfPair EarthOfPair = record { low = omega arith; high = omega arith }
+displacement_low axis EarthOfPair MoonOfPair = record { low = omega arith; high = omega arith }
+displacement_low axis EarthOfPair Origin = record { low = omega arith; high = omega arith }
+displacement_low axis MoonOfPair (OwnColumn m) = record { low = omega arith; high = omega arith }
+displacement_low axis MoonOfPair EarthOfPair = record { low = omega arith; high = omega arith }
+displacement_low axis MoonOfPair MoonOfPair = record { low = omega arith; high = omega arith }
+displacement_low axis MoonOfPair Origin = record { low = omega arith; high = omega arith }
+displacement_low axis Origin (OwnColumn m) = record { low = omega arith; high = omega arith }
+displacement_low axis Origin EarthOfPair = record { low = omega arith; high = omega arith }
+displacement_low axis Origin MoonOfPair = record { low = omega arith; high = omega arith }
+displacement_low axis Origin Origin = record { low = omega arith; high = omega arith }
 
 pub in_frame_low : (frame : Frame) (axis : ℕ) (own : ℕ → Coordinate) → ((axis : ℕ) → IsLow 144 7 (own axis)) → IsShort (in_frame frame own axis)
 in_frame_low Eq axis own is = let l = (is axis).low in let h = (is axis).high in record { low = omega (arith, l); high = omega (arith, h) }

@@ -10,11 +10,12 @@ use Rattle.spec_ephemeris.specs.declared.header.Column.{Column}
 use Rattle.spec_ephemeris.specs.declared.limits.TheConstants.{BODY_COLUMNS}
 use Rattle.spec_ephemeris.specs.Header.{has_column, is_present, components}
 use Rattle.spec_ephemeris.specs.Ephemeris.{Ephemeris, Granule, IsEphemeris, IsGranuleAt, IsBorder, IsBodyNumber, granule_end, end_of, axis_series}
-use Rattle.spec_ephemeris.proofs.Granules.{one_granule}
+use Rattle.spec_ephemeris.proofs.Granules.{one_granule, granules_end as end_by_granules}
 use Rattle.spec_ephemeris.proofs.GranuleNumbers.{numbers_count, numbers_bounded}
-use Rattle.spec_enclosures.specs.Enclosures.{IsSeries, IsSpan}
-use Rattle.spec_bodies.specs.Granules.{column_of, granule_length, granule_index, granule_of_index, granule_at, series_at}
-use Rattle.spec_bodies.proofs.GranuleAt.{IsIndex, is_column, some_granules, shares, some_length, end_by_granules, at_index, from_start, index_of_time, granule_of_time}
+use Rattle.spec_motions.specs.Enclosures.{IsSeries, IsSpanOf}
+use Rattle.spec_ephemeris.specs.Granules.{column_of, granule_length, granule_index, granule_of_index, granule_at, series_at}
+use Rattle.spec_ephemeris.proofs.GranuleAt.{IsIndex, shares, some_length, at_index, from_start, index_of_time, granule_of_time}
+use Rattle.spec_ephemeris.proofs.ColumnRules.{is_column, some_granules}
 
 some_coefficients : (c : Column) → IsTrue (is_present c) → 1 ≤ c.coefs
 some_coefficients c present = grind (arith, present)
@@ -93,7 +94,7 @@ module _ (e : Ephemeris) (number : ℕ) (checked : IsEphemeris e) (there : IsTru
   pub same_series : (axis : ℕ) (t : ℤ) → a ≤ℤ t → t ≤ℤ b → series_at e number axis t ≡ series_at e number axis a
   same_series axis t at to = ap (λ g. axis_series g (column_of e number).coefs axis) (stays_here t at to)
 
-  pub span_of : (axis : ℕ) → IsSpan (series_at e number axis a) a b
+  pub span_of : (axis : ℕ) → IsSpanOf (series_at e number axis a) a b
   span_of axis =
       let first = stays a (omega (arith, ints)) ab in
       let last = stays b ab (omega (arith, ints)) in

@@ -8,14 +8,17 @@ use Rattle.std.proofs.Math.Nat.{one-le-pow}
 use borrow.Author.Differences.{up, down}
 use lib.Signed.{lt_z}
 use Rattle.spec_text.specs.declared.decimals.Decimal.{Decimal}
-use Rattle.spec_intervals.specs.Interval.{Interval, interval, end_limit, floor_div, ceil_div, cosine_exponent, first_fit, narrow_shift, zero_end, settled, narrow_by, narrow, sum, is_zero, least4, greatest4, product, meet_up, meet}
-use Rattle.spec_intervals.proofs.Ring.{v, k as lit, ◌⊗◌, ring}
-use Rattle.spec_intervals.proofs.Order.{lin}
-use Rattle.spec_intervals.proofs.Floor.{floor_div-lt, floor_div-small, ceil_div-small}
+use Rattle.spec_intervals.specs.Interval.{Interval, interval, end_limit, cosine_exponent, first_fit, narrow_shift, zero_end, settled, narrow_by, narrow, sum, is_zero, least4, greatest4, product, meet_up, meet, zero_interval}
+use Rattle.spec_numbers.specs.Numbers.{floor_div, ceil_div}
+use Rattle.spec_numbers.proofs.Integers.{times_one}
+use Rattle.spec_numbers.proofs.Ring.{v, k as lit, ◌⊗◌, ring}
+use Rattle.spec_numbers.proofs.Order.{lin}
+use Rattle.spec_numbers.proofs.Floor.{floor_div-lt, floor_div-small, ceil_div-small, floor_div-one as floor_one, ceil_div-one as ceil_one}
 use Rattle.spec_ephemeris.specs.Header.{IsMassRatio}
-use Rattle.spec_expressions.specs.Enclosure.{Enclosure, offsets, centred, enclosure, zero_interval, constant_of, product_of}
-use Rattle.spec_expressions.proofs.Offsets.{floor_one, ceil_one, narrow-small}
-use Rattle.spec_bodies.specs.Coordinates.{Factor, moon_share, cosine, sine}
+use Rattle.spec_intervals.specs.Enclosure.{Enclosure, offsets, centred, enclosure, constant_of, product_of}
+use Rattle.spec_intervals.proofs.Offsets.{narrow-small}
+use Rattle.spec_bodies.specs.declared.factor.Factor.{Factor}
+use Rattle.spec_bodies.specs.declared.factor.Factor.TheVariants.{MoonShare, Cosine, Sine}
 use Rattle.spec_bodies.specs.Reading.{IsFactor}
 use Rattle.spec_bodies.specs.Meanings.{share_beside, factor, factor_interval}
 
@@ -68,9 +71,6 @@ least_of_itself z = omega (arith, ints, clamps)
 
 greatest_of_itself : (z : ℤ) → int_max z z ≡ z
 greatest_of_itself z = omega (arith, ints, clamps)
-
-times_one : (z : ℤ) → z *ℤ pos 1 ≡ z
-times_one z = ring (z ∷ []) (v 0 ⊗ lit (pos 1)) (v 0) tt
 
 settled_some : (lo hi s : ℤ) → (zero_end lo && zero_end hi) ≡ false → settled lo hi s ≡ interval lo hi s
 unfolding settled
@@ -152,9 +152,9 @@ share_is ratio is =
     few d n = omega arith
 
 pub factor_is : (ratio : Decimal) → IsMassRatio ratio → (f : Factor) → IsFactor (factor_interval (factor ratio f))
-factor_is ratio is moon_share = share_is ratio is
-factor_is ratio is cosine = from_fraction _ _ (omega arith) (omega (arith, ints)) (omega arith)
-factor_is ratio is sine = from_fraction _ _ (omega arith) (omega (arith, ints)) (omega arith)
+factor_is ratio is MoonShare = share_is ratio is
+factor_is ratio is Cosine = from_fraction _ _ (omega arith) (omega (arith, ints)) (omega arith)
+factor_is ratio is Sine = from_fraction _ _ (omega arith) (omega (arith, ints)) (omega arith)
 
 -- narrowing leaves a factor as it is
 pub narrowed_factor : (n : ℤ) (d : ℕ) → 0 < d → pos d ≤ℤ (n *ℤ pos (2 ^ 60)) → unsigned_abs (n *ℤ pos (2 ^ 60)) ≤ end_limit * d

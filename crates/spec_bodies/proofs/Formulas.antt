@@ -4,18 +4,22 @@ use Rattle.std.specs.Prelude.{All}
 use Rattle.std.proofs.Math.Nat.{one-le-pow}
 use borrow.Author.Differences.{down}
 use Rattle.spec_text.specs.declared.decimals.Decimal.{Decimal}
-use Rattle.spec_intervals.proofs.Floor.{floor_div-le, ceil_div-ge}
-use Rattle.spec_intervals.specs.Interval.{floor_div, ceil_div}
+use Rattle.spec_numbers.proofs.Floor.{floor_div-le, ceil_div-ge}
+use Rattle.spec_numbers.specs.Numbers.{floor_div, ceil_div}
 use Rattle.spec_intervals.specs.Fraction.{Fraction, IsFraction, Holds, fraction}
-use Rattle.spec_expressions.specs.Enclosure.{Enclosure, IsEnclosure, AllFractions, zero_interval}
-use Rattle.spec_expressions.proofs.Compare.{IsFraction-mul, Holds-zero}
-use Rattle.spec_expressions.proofs.Enclosed.{IsEnclosure-constant, IsEnclosure-sum, IsEnclosure-difference, IsEnclosure-product}
+use Rattle.spec_intervals.specs.Enclosure.{Enclosure, IsEnclosure, AllFractions}
+use Rattle.spec_intervals.specs.Interval.{zero_interval}
+use Rattle.spec_numbers.proofs.Naturals.{positive_product as IsFraction-mul}
+use Rattle.spec_intervals.proofs.Compare.{Holds-zero}
+use Rattle.spec_intervals.proofs.Enclosed.{IsEnclosure-constant, IsEnclosure-sum, IsEnclosure-difference, IsEnclosure-product}
 use Rattle.spec_bodies.specs.declared.frame.Frame.{Frame}
 use Rattle.spec_bodies.specs.declared.frame.Frame.TheVariants.{Eq, Ecl}
 use Rattle.spec_bodies.specs.declared.source.Source.{Source}
 use Rattle.spec_bodies.specs.declared.source.Source.TheVariants.{OwnColumn, EarthOfPair, MoonOfPair, Origin}
 use Rattle.spec_bodies.specs.Sources.{used}
-use Rattle.spec_bodies.specs.Coordinates.{Factor, moon_share, cosine, sine, Coordinate, nothing, of_column, times, plus, less, seen, in_frame}
+use Rattle.spec_bodies.specs.declared.factor.Factor.{Factor}
+use Rattle.spec_bodies.specs.declared.factor.Factor.TheVariants.{MoonShare, Cosine, Sine}
+use Rattle.spec_bodies.specs.Coordinates.{Coordinate, nothing, of_column, times, plus, less, displacement, in_frame}
 use Rattle.spec_bodies.specs.Reading.{AllColumns}
 use Rattle.spec_bodies.specs.Meanings.{factor, factor_interval, exact_of, enclosure_of}
 
@@ -27,23 +31,23 @@ all_columns P Q weaker (plus x y) all = (all_columns P Q weaker x all.0, all_col
 all_columns P Q weaker (less x y) all = (all_columns P Q weaker x all.0, all_columns P Q weaker y all.1)
 
 -- seen from an observer, a target is made of the columns in use
-pub seen_columns : (P : ℕ → ℕ → Type 0) (axis : ℕ) (target observer : Source) → All (λ n. P n axis) (used target observer) → AllColumns P (seen target observer axis)
-seen_columns P axis (OwnColumn n) (OwnColumn m) all = (all 0 0 (omega arith), all 1 0 (omega arith))
-seen_columns P axis (OwnColumn n) EarthOfPair all = (all 0 0 (omega arith), (all 1 0 (omega arith), all 2 0 (omega arith)))
-seen_columns P axis (OwnColumn n) MoonOfPair all = (all 0 0 (omega arith), ((all 1 0 (omega arith), all 2 0 (omega arith)), all 2 0 (omega arith)))
-seen_columns P axis (OwnColumn n) Origin all = all 0 0 (omega arith)
-seen_columns P axis EarthOfPair (OwnColumn m) all = ((all 0 0 (omega arith), all 1 0 (omega arith)), all 2 0 (omega arith))
-seen_columns P axis EarthOfPair EarthOfPair all = ((all 0 0 (omega arith), all 1 0 (omega arith)), (all 0 0 (omega arith), all 1 0 (omega arith)))
-seen_columns P axis EarthOfPair MoonOfPair all = (tt, all 0 0 (omega arith))
-seen_columns P axis EarthOfPair Origin all = (all 0 0 (omega arith), all 1 0 (omega arith))
-seen_columns P axis MoonOfPair (OwnColumn m) all = (((all 0 0 (omega arith), all 1 0 (omega arith)), all 1 0 (omega arith)), all 2 0 (omega arith))
-seen_columns P axis MoonOfPair EarthOfPair all = all 0 0 (omega arith)
-seen_columns P axis MoonOfPair MoonOfPair all = (((all 0 0 (omega arith), all 1 0 (omega arith)), all 1 0 (omega arith)), ((all 0 0 (omega arith), all 1 0 (omega arith)), all 1 0 (omega arith)))
-seen_columns P axis MoonOfPair Origin all = ((all 0 0 (omega arith), all 1 0 (omega arith)), all 1 0 (omega arith))
-seen_columns P axis Origin (OwnColumn m) all = (tt, all 0 0 (omega arith))
-seen_columns P axis Origin EarthOfPair all = (tt, (all 0 0 (omega arith), all 1 0 (omega arith)))
-seen_columns P axis Origin MoonOfPair all = (tt, ((all 0 0 (omega arith), all 1 0 (omega arith)), all 1 0 (omega arith)))
-seen_columns P axis Origin Origin all = tt
+pub displacement_columns : (P : ℕ → ℕ → Type 0) (axis : ℕ) (target observer : Source) → All (λ n. P n axis) (used target observer) → AllColumns P (displacement target observer axis)
+displacement_columns P axis (OwnColumn n) (OwnColumn m) all = (all 0 0 (omega arith), all 1 0 (omega arith))
+displacement_columns P axis (OwnColumn n) EarthOfPair all = (all 0 0 (omega arith), (all 1 0 (omega arith), all 2 0 (omega arith)))
+displacement_columns P axis (OwnColumn n) MoonOfPair all = (all 0 0 (omega arith), ((all 1 0 (omega arith), all 2 0 (omega arith)), all 2 0 (omega arith)))
+displacement_columns P axis (OwnColumn n) Origin all = all 0 0 (omega arith)
+displacement_columns P axis EarthOfPair (OwnColumn m) all = ((all 0 0 (omega arith), all 1 0 (omega arith)), all 2 0 (omega arith))
+displacement_columns P axis EarthOfPair EarthOfPair all = ((all 0 0 (omega arith), all 1 0 (omega arith)), (all 0 0 (omega arith), all 1 0 (omega arith)))
+displacement_columns P axis EarthOfPair MoonOfPair all = (tt, all 0 0 (omega arith))
+displacement_columns P axis EarthOfPair Origin all = (all 0 0 (omega arith), all 1 0 (omega arith))
+displacement_columns P axis MoonOfPair (OwnColumn m) all = (((all 0 0 (omega arith), all 1 0 (omega arith)), all 1 0 (omega arith)), all 2 0 (omega arith))
+displacement_columns P axis MoonOfPair EarthOfPair all = all 0 0 (omega arith)
+displacement_columns P axis MoonOfPair MoonOfPair all = (((all 0 0 (omega arith), all 1 0 (omega arith)), all 1 0 (omega arith)), ((all 0 0 (omega arith), all 1 0 (omega arith)), all 1 0 (omega arith)))
+displacement_columns P axis MoonOfPair Origin all = ((all 0 0 (omega arith), all 1 0 (omega arith)), all 1 0 (omega arith))
+displacement_columns P axis Origin (OwnColumn m) all = (tt, all 0 0 (omega arith))
+displacement_columns P axis Origin EarthOfPair all = (tt, (all 0 0 (omega arith), all 1 0 (omega arith)))
+displacement_columns P axis Origin MoonOfPair all = (tt, ((all 0 0 (omega arith), all 1 0 (omega arith)), all 1 0 (omega arith)))
+displacement_columns P axis Origin Origin all = tt
 
 -- and so it is in a frame
 pub in_frame_columns : (P : ℕ → ℕ → Type 0) (frame : Frame) (axis : ℕ) (own : ℕ → Coordinate) → axis < 3
@@ -58,9 +62,9 @@ share_positive : (a b : ℕ) → 1 ≤ a → 0 < a + b
 share_positive a b h = omega (arith, h)
 
 pub IsFraction-factor : (ratio : Decimal) (f : Factor) → IsFraction (factor ratio f)
-IsFraction-factor ratio moon_share = share_positive (10 ^ down ratio.exp) _ (one-le-pow (down ratio.exp) 10 (omega arith))
-IsFraction-factor ratio cosine = omega arith
-IsFraction-factor ratio sine = omega arith
+IsFraction-factor ratio MoonShare = share_positive (10 ^ down ratio.exp) _ (one-le-pow (down ratio.exp) 10 (omega arith))
+IsFraction-factor ratio Cosine = omega arith
+IsFraction-factor ratio Sine = omega arith
 
 pub Holds-factor_interval : (r : Fraction) → IsFraction r → Holds (factor_interval r) r
 unfolding factor_interval

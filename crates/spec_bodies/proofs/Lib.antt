@@ -1,10 +1,9 @@
-pub mod GranuleAt
 pub mod Formulas
 pub mod InUse
 pub mod Columns
 pub mod Held
-pub mod Exponents
 pub mod Factors
 pub mod Sizes
+pub mod Series
 pub mod Bounds
 pub mod Apart

@@ -1,25 +1,26 @@
 -- The exponents of the intervals of a series: the sums that are narrowed are below 2^130 in size.
 use Rattle.std.proofs.Common.{◌≡◌, ℕ, zero, suc, ◌+◌, ◌*◌, ◌^◌, ◌<◌, ◌≤◌, arith, List, [], ◌∷◌, length, drop, ℤ, pos, ◌+ℤ◌, ◌*ℤ◌, neg_ℤ, ◌≤ℤ◌, Bool, true, false, unsigned_abs, length-drop}
 use Rattle.std.specs.Prelude.{All, if◌then◌else◌}
-use Rattle.std.specs.Int.{int_min, int_max}
 use Rattle.std.proofs.lemmas.Int.{ints, unsigned_abs-mul}
 use Rattle.std.proofs.lemmas.Nat.{mul-le}
 use Rattle.std.proofs.lemmas.List.{length-map}
 use Rattle.std.proofs.lemmas.List.Elements.{All-map, All-weaker, All-head, All-tail, All-drop}
 use lib.Signed.{lt_z}
 use Rattle.spec_text.specs.declared.decimals.Decimal.{Decimal}
-use Rattle.spec_intervals.specs.Interval.{end_limit, floor_div, ceil_div, least4, greatest4, scale}
-use Rattle.spec_intervals.proofs.Floor.{floor_div-small, ceil_div-small}
+use Rattle.spec_intervals.specs.Interval.{end_limit, least4, greatest4, scale, zero_interval as no_change}
+use Rattle.spec_numbers.specs.Numbers.{floor_div, ceil_div}
+use Rattle.spec_numbers.proofs.Floor.{floor_div-small, ceil_div-small}
+use Rattle.spec_numbers.proofs.Sizes.{sum_size, product_size, least_size, greatest_size}
 use Rattle.spec_chebyshev.specs.declared.ends.Ival62.{Ival62}
 use Rattle.spec_chebyshev.specs.Rows.{r_size, t_row, u_row, q_row, r_row, EndsWithin, IsArguments}
 use Rattle.spec_chebyshev.proofs.Arguments.{IsArguments-argument}
 use Rattle.spec_chebyshev.proofs.RowEnds.{EndsWithin-t, EndsWithin-u, EndsWithin-q, EndsWithin-r}
 use Rattle.spec_ephemeris.specs.Series.{Series, argument_at}
 use Rattle.spec_ephemeris.specs.Ephemeris.{IsBodyNumber}
-use Rattle.spec_expressions.proofs.Exponents.{distance-within}
-use Rattle.spec_enclosures.specs.Sums.{coefficient, times, slope_row, slope_difference_row, sum_low, sum_high}
-use Rattle.spec_enclosures.specs.Enclosures.{IsSeries, IsSpan, arguments, coefficients_of, position_over, position_step_over, velocity_over, velocity_step_over, position_interval, position_step_interval, velocity_interval, velocity_step_interval, zero_interval as no_change}
-use Rattle.spec_bodies.proofs.Exponents.{IsBetween, narrow-between, zero-between}
+use Rattle.spec_intervals.proofs.Exponents.{distance-within, IsBetween, narrow-between, zero-between}
+use Rattle.spec_motions.specs.Sums.{coefficient, times, slope_row, slope_difference_row, sum_low, sum_high}
+use Rattle.spec_motions.specs.Enclosures.{IsSeries, IsSpanOf, arguments, coefficients_of, position_over, position_step_over, velocity_over, velocity_step_over, position_interval, position_step_interval, velocity_interval, velocity_step_interval}
+use Rattle.spec_bodies.specs.Reading.{column_lowest, column_highest}
 
 -- ---- ends at most n in size
 pub record AreAtMost (n : ℕ) (e : Ival62) : Type 0 where
@@ -44,24 +45,6 @@ of_multiple k m n e few is =
         omega (arith, both, more, few)
 
 -- ---- sums over a row
-product_size : (a c : ℤ) (m n : ℕ) → unsigned_abs a ≤ m → unsigned_abs c ≤ n → unsigned_abs (a *ℤ c) ≤ m * n
-product_size a c m n p q = rw (unsigned_abs-mul a c) (mul-le (unsigned_abs a) (unsigned_abs c) m n p q)
-
-least_size : (a b c d : ℤ) (n : ℕ) → unsigned_abs a ≤ n → unsigned_abs b ≤ n → unsigned_abs c ≤ n → unsigned_abs d ≤ n → unsigned_abs (int_min (int_min a b) (int_min c d)) ≤ n
-least_size a b c d n p q r s = two (int_min a b) (int_min c d) (two a b p q) (two c d r s)
-  where
-    two : (a b : ℤ) → unsigned_abs a ≤ n → unsigned_abs b ≤ n → unsigned_abs (int_min a b) ≤ n
-    two a b p q = grind (arith, ints)
-
-greatest_size : (a b c d : ℤ) (n : ℕ) → unsigned_abs a ≤ n → unsigned_abs b ≤ n → unsigned_abs c ≤ n → unsigned_abs d ≤ n → unsigned_abs (int_max (int_max a b) (int_max c d)) ≤ n
-greatest_size a b c d n p q r s = two (int_max a b) (int_max c d) (two a b p q) (two c d r s)
-  where
-    two : (a b : ℤ) → unsigned_abs a ≤ n → unsigned_abs b ≤ n → unsigned_abs (int_max a b) ≤ n
-    two a b p q = grind (arith, ints)
-
-more_size : (a b : ℤ) (m n : ℕ) → unsigned_abs a ≤ m → unsigned_abs b ≤ n → unsigned_abs (a +ℤ b) ≤ m + n
-more_size a b m n p q = omega (arith, ints, p, q)
-
 module _ (row : ℕ → Ival62) (m n : ℕ) where
   sums_size : (k : ℕ) (cs : List Ival62) → All (AreAtMost m) cs → ((j : ℕ) → k ≤ j → j < k + length cs → AreAtMost n (row j))
       → (unsigned_abs (sum_low row k cs) ≤ length cs * (m * n)) × (unsigned_abs (sum_high row k cs) ≤ length cs * (m * n))
@@ -74,8 +57,8 @@ module _ (row : ℕ → Ival62) (m n : ℕ) where
       let lh = product_size c.lo (row k).hi m n own.lo entry.hi in
       let hl = product_size c.hi (row k).lo m n own.hi entry.lo in
       let hh = product_size c.hi (row k).hi m n own.hi entry.hi in
-      let low = more_size (least4 c.lo c.hi (row k).lo (row k).hi) (sum_low row (suc k) cs) (m * n) (length cs * (m * n)) (least_size (c.lo *ℤ (row k).lo) (c.lo *ℤ (row k).hi) (c.hi *ℤ (row k).lo) (c.hi *ℤ (row k).hi) (m * n) ll lh hl hh) rest.0 in
-      let high = more_size (greatest4 c.lo c.hi (row k).lo (row k).hi) (sum_high row (suc k) cs) (m * n) (length cs * (m * n)) (greatest_size (c.lo *ℤ (row k).lo) (c.lo *ℤ (row k).hi) (c.hi *ℤ (row k).lo) (c.hi *ℤ (row k).hi) (m * n) ll lh hl hh) rest.1 in
+      let low = sum_size (least4 c.lo c.hi (row k).lo (row k).hi) (sum_low row (suc k) cs) (m * n) (length cs * (m * n)) (least_size (c.lo *ℤ (row k).lo) (c.lo *ℤ (row k).hi) (c.hi *ℤ (row k).lo) (c.hi *ℤ (row k).hi) (m * n) ll lh hl hh) rest.0 in
+      let high = sum_size (greatest4 c.lo c.hi (row k).lo (row k).hi) (sum_high row (suc k) cs) (m * n) (length cs * (m * n)) (greatest_size (c.lo *ℤ (row k).lo) (c.lo *ℤ (row k).hi) (c.hi *ℤ (row k).lo) (c.hi *ℤ (row k).hi) (m * n) ll lh hl hh) rest.1 in
       let one : (length cs + 1) * (m * n) ≡ m * n + length cs * (m * n) = next (length cs) (m * n) in
       (omega (arith, low, one), omega (arith, high, one))
     where
@@ -123,11 +106,11 @@ of_quotients m lo hi s length some p q =
         omega (arith, twice, many, small)
 
 scaled-between : (m : ℕ) (lo hi s : ℤ) (length : ℕ) → 1 ≤ length → unsigned_abs lo ≤ end_limit * 2 ^ m → unsigned_abs hi ≤ end_limit * 2 ^ m → end_limit * 2 ^ m * 2 ≤ end_limit * 2 ^ (m + 1)
-    → neg_ℤ (pos 84) ≤ℤ s → (s +ℤ pos (m + 1)) ≤ℤ pos 2 → IsBetween 84 2 (scale lo hi s length)
+    → neg_ℤ (pos column_lowest) ≤ℤ s → (s +ℤ pos (m + 1)) ≤ℤ pos column_highest → IsBetween column_lowest column_highest (scale lo hi s length)
 unfolding scale
 scaled-between m lo hi s length some p q twice low high =
     let shared = of_quotients m lo hi s length some p q in
-    narrow-between (m + 1) 84 2 (floor_div (pos 2 *ℤ lo) length) (ceil_div (pos 2 *ℤ hi) length) s (omega (arith, shared.0, twice)) (omega (arith, shared.1, twice)) low high
+    narrow-between (m + 1) column_lowest column_highest (floor_div (pos 2 *ℤ lo) length) (ceil_div (pos 2 *ℤ hi) length) s (omega (arith, shared.0, twice)) (omega (arith, shared.1, twice)) low high
 
 module _ (s : Series) (is : IsSeries s) where
   coefficients_small : All (AreAtMost (2 ^ 62)) (coefficients_of s)
@@ -159,7 +142,7 @@ module _ (s : Series) (is : IsSeries s) where
         let all : length (drop 1 (coefficients_of s)) * (2 ^ 62 * 2 ^ 63) ≤ 32 * (2 ^ 62 * 2 ^ 63) = mul-le (length (drop 1 (coefficients_of s))) (2 ^ 62 * 2 ^ 63) 32 (2 ^ 62 * 2 ^ 63) (omega (arith, left, count)) (omega arith) in
         (omega (arith, size.0, all), omega (arith, size.1, all))
 
-  module _ (a b : ℤ) (span : IsSpan s a b) where
+  module _ (a b : ℤ) (span : IsSpanOf s a b) where
     arguments_are : IsArguments (arguments s a b)
     arguments_are =
         let long = is.long in
@@ -168,41 +151,41 @@ module _ (s : Series) (is : IsSeries s) where
         let to = span.to in
         IsArguments-argument (argument_at s a) (argument_at s b) (pos s.duration) (omega (arith, ints, long)) (omega (arith, ints, from)) (omega (arith, ints, ordered)) (omega (arith, ints, to))
 
-    pub position-between : IsBetween 84 2 (position_interval s a b)
+    pub position-between : IsBetween column_lowest column_highest (position_interval s a b)
     unfolding position_over
     position-between =
         let sizes = from_first (t_row (arguments s a b)) (λ k p q. t_small (arguments s a b) arguments_are k q) (t_small (arguments s a b) arguments_are 0 (omega arith)) in
-        narrow-between 68 84 2 _ _ (neg_ℤ (pos 84)) sizes.0 sizes.1 (omega (arith, ints)) (omega (arith, ints))
+        narrow-between 68 column_lowest column_highest _ _ (neg_ℤ (pos 84)) sizes.0 sizes.1 (omega (arith, ints)) (omega (arith, ints))
 
-    pub velocity-between : IsBetween 84 2 (velocity_interval s a b)
+    pub velocity-between : IsBetween column_lowest column_highest (velocity_interval s a b)
     unfolding velocity_over
     velocity-between =
         let sizes = from_second (slope_row (arguments s a b)) (slope_small (arguments s a b) arguments_are) in
         scaled-between 68 _ _ (neg_ℤ (pos 74)) s.duration is.long sizes.0 sizes.1 (omega arith) (omega (arith, ints)) (omega (arith, ints))
 
-    pub position_step-between : IsBetween 84 2 (position_step_interval s a b)
+    pub position_step-between : IsBetween column_lowest column_highest (position_step_interval s a b)
     unfolding position_step_over
     position_step-between = by (lt_z a b)
       where
-        wide : IsBetween 84 2 (position_step_over (coefficients_of s) (arguments s a b) s.duration)
+        wide : IsBetween column_lowest column_highest (position_step_over (coefficients_of s) (arguments s a b) s.duration)
         wide =
             let sizes = from_first (q_row (arguments s a b)) (λ k p q. q_small (arguments s a b) arguments_are k q) (q_small (arguments s a b) arguments_are 0 (omega arith)) in
             scaled-between 68 _ _ (neg_ℤ (pos 70)) s.duration is.long sizes.0 sizes.1 (omega arith) (omega (arith, ints)) (omega (arith, ints))
 
-        by : (c : Bool) → IsBetween 84 2 (if c then position_step_over (coefficients_of s) (arguments s a b) s.duration else no_change)
+        by : (c : Bool) → IsBetween column_lowest column_highest (if c then position_step_over (coefficients_of s) (arguments s a b) s.duration else no_change)
         by true = wide
-        by false = zero-between 84 2
+        by false = zero-between column_lowest column_highest
 
-    pub velocity_step-between : IsBetween 84 2 (velocity_step_interval s a b)
+    pub velocity_step-between : IsBetween column_lowest column_highest (velocity_step_interval s a b)
     unfolding velocity_step_over
     velocity_step-between = by (lt_z a b)
       where
-        wide : IsBetween 84 2 (velocity_step_over (coefficients_of s) (arguments s a b) s.duration)
+        wide : IsBetween column_lowest column_highest (velocity_step_over (coefficients_of s) (arguments s a b) s.duration)
         wide =
             let sizes = from_second (slope_difference_row (arguments s a b)) (slope_difference_small (arguments s a b) arguments_are) in
             let once = of_quotients 68 (sum_low (slope_difference_row (arguments s a b)) 1 (drop 1 (coefficients_of s))) (sum_high (slope_difference_row (arguments s a b)) 1 (drop 1 (coefficients_of s))) (neg_ℤ (pos 68)) s.duration is.long sizes.0 sizes.1 in
             scaled-between 69 _ _ (neg_ℤ (pos 68)) s.duration is.long (omega (arith, once.0)) (omega (arith, once.1)) (omega arith) (omega (arith, ints)) (omega (arith, ints))
 
-        by : (c : Bool) → IsBetween 84 2 (if c then velocity_step_over (coefficients_of s) (arguments s a b) s.duration else no_change)
+        by : (c : Bool) → IsBetween column_lowest column_highest (if c then velocity_step_over (coefficients_of s) (arguments s a b) s.duration else no_change)
         by true = wide
-        by false = zero-between 84 2
+        by false = zero-between column_lowest column_highest

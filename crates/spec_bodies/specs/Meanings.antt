@@ -3,20 +3,25 @@
 use Rattle.std.specs.Prelude.{◌≡◌, ℕ, ◌+◌, ◌*◌, ◌^◌, ℤ, pos, neg_ℤ, ◌*ℤ◌, unsigned_abs}
 use borrow.Author.Differences.{up, down}
 use Rattle.spec_text.specs.declared.decimals.Decimal.{Decimal}
-use Rattle.spec_intervals.specs.Interval.{Interval, interval, floor_div, ceil_div, cosine_exponent}
+use Rattle.spec_numbers.specs.Numbers.{floor_div, ceil_div}
+use Rattle.spec_intervals.specs.Interval.{Interval, interval, cosine_exponent, zero_interval}
 use Rattle.spec_intervals.specs.Fraction.{Fraction, fraction, fraction_add, fraction_sub, fraction_mul, decimal}
-use Rattle.spec_expressions.specs.Enclosure.{Enclosure, zero_interval, constant_of, sum_of, difference_of, product_of}
-use Rattle.spec_bodies.specs.Coordinates.{Factor, moon_share, cosine, sine, Coordinate, nothing, of_column, times, plus, less}
+use Rattle.spec_intervals.specs.Enclosure.{Enclosure, constant_of, sum_of, difference_of, product_of}
+use Rattle.spec_bodies.specs.declared.factor.Factor.{Factor}
+use Rattle.spec_bodies.specs.declared.factor.Factor.TheVariants.{MoonShare, Cosine, Sine}
+use Rattle.spec_bodies.specs.Coordinates.{Coordinate, nothing, of_column, times, plus, less}
 
 -- ---- the factors
 -- 1 / (1 + m 10^q)
 abbrev pub share_beside : Decimal → Fraction
 share_beside ratio = fraction (pos (10 ^ down ratio.exp)) (10 ^ down ratio.exp + unsigned_abs ratio.mant * 10 ^ up ratio.exp)
 
+-- by the header's mass ratio; the others are those of 84381.448 arc seconds, the obliquity of the ecliptic of J2000 in the
+-- IAU 1976 system of constants and in SPICE's ECLIPJ2000, with 15 decimals
 abbrev pub factor : Decimal → Factor → Fraction
-factor ratio moon_share = share_beside ratio
-factor ratio cosine = decimal (pos 917482062069182) (neg_ℤ (pos 15))
-factor ratio sine = decimal (pos 397777155931914) (neg_ℤ (pos 15))
+factor ratio MoonShare = share_beside ratio
+factor ratio Cosine = decimal (pos 917482062069182) (neg_ℤ (pos 15))
+factor ratio Sine = decimal (pos 397777155931914) (neg_ℤ (pos 15))
 
 -- in units of 2^-60, rounded outward
 unfoldable pub factor_interval : Fraction → Interval
@@ -41,3 +46,7 @@ enclosure_of column factors a b (less x y) = difference_of a b (enclosure_of col
 -- two fractions are one number
 abbrev pub AreEqual : Fraction → Fraction → Type 0
 AreEqual r t = r.numerator *ℤ pos t.denominator ≡ t.numerator *ℤ pos r.denominator
+
+-- two formulas have one exact value, whatever the columns and the factors
+abbrev pub AlwaysAgree : Coordinate → Coordinate → Type 0
+AlwaysAgree c d = (column : ℕ → ℕ → ℤ → Fraction) (factors : Factor → Fraction) (t : ℤ) → AreEqual (exact_of column factors c t) (exact_of column factors d t)

@@ -25,17 +25,24 @@ pub record IsReadable (v : View) (number axis : ℕ) : Type 0 where
   pub usable : IsUsable v number
   pub along : axis < 3
 
--- how far down and up exponents go: those of columns from -84 to 2
+-- how far down and up exponents go. Sums of products of a column's coefficients, at -24, with a row, at -60, stand at -84
+-- before they are narrowed, and at 2 at most after; a factor is at -60, and a product of ends below 2^62 rises by 62 at most
+abbrev pub column_lowest : ℕ
+column_lowest = 84
+
+abbrev pub column_highest : ℕ
+column_highest = 2
+
 abbrev pub lowest : Coordinate → ℕ
 lowest nothing = 0
-lowest (of_column number axis) = 84
+lowest (of_column number axis) = column_lowest
 lowest (times f x) = lowest x + 60
 lowest (plus x y) = max (lowest x) (lowest y)
 lowest (less x y) = max (lowest x) (lowest y)
 
 abbrev pub highest : Coordinate → ℕ
 highest nothing = 0
-highest (of_column number axis) = 2
+highest (of_column number axis) = column_highest
 highest (times f x) = highest x + 2
 highest (plus x y) = max (highest x) (highest y) + 1
 highest (less x y) = max (highest x) (highest y) + 1
@@ -45,8 +52,9 @@ pub record IsLow (l h : ℕ) (c : Coordinate) : Type 0 where
   pub low : lowest c ≤ l
   pub high : highest c ≤ h
 
+-- as every coordinate of a body in a frame is: two factors and four sums, one within the other
 abbrev pub IsShort : Coordinate → Type 0
-IsShort = IsLow 204 10
+IsShort = IsLow (column_lowest + 120) 10
 
 -- an interval that is not 0, with small ends, at the exponent of factors
 pub record IsFactor (c : Interval) : Type 0 where

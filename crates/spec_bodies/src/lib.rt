@@ -6,9 +6,13 @@
 #![tactic(auto)]
 
 pub mod examples;
+mod factor;
 mod frame;
 pub mod laws;
+mod quantity;
 mod source;
 
+pub use factor::Factor;
 pub use frame::Frame;
+pub use quantity::Quantity;
 pub use source::Source;

@@ -1,14 +1,17 @@
 -- The interval of arguments of a span of seconds.
 use Rattle.std.proofs.Common.{ℕ, ◌*◌, ◌^◌, ◌<◌, ◌≤◌, arith, ℤ, pos, negsuc, ◌*ℤ◌, neg_ℤ, ◌≤ℤ◌, ◌<ℤ◌, unsigned_abs}
 use Rattle.std.proofs.lemmas.Int.{ints}
-use Rattle.spec_intervals.specs.Interval.{floor_div, ceil_div}
-use Rattle.spec_intervals.proofs.Order.{lin, le-mul}
-use Rattle.spec_intervals.proofs.Floor.{floor_div-le, ceil_div-ge, floor_div-small, ceil_div-small, ordered_quotients}
+use Rattle.spec_numbers.specs.Numbers.{floor_div, ceil_div}
+use Rattle.spec_numbers.proofs.Order.{lin, le-mul}
+use Rattle.spec_numbers.proofs.Floor.{floor_div-le, ceil_div-ge, floor_div-small, ceil_div-small, ordered_quotients}
 use Rattle.spec_chebyshev.specs.Differences.{Within}
 use Rattle.spec_chebyshev.specs.Rows.{argument_of, HoldsIn, IsArguments}
 
-size_within : (z : ℤ) (m : ℕ) → unsigned_abs z ≤ m → Within z (pos m)
+pub size_within : (z : ℤ) (m : ℕ) → unsigned_abs z ≤ m → Within z (pos m)
 size_within z m h = record { low = omega (arith, ints); high = omega (arith, ints) }
+
+pub within_size : (z : ℤ) (m : ℕ) → Within z (pos m) → unsigned_abs z ≤ m
+within_size z m w = let l = w.low in let h = w.high in omega (arith, ints)
 
 pub HoldsIn-argument : (ua ub u l : ℤ) → pos 0 <ℤ l → ua ≤ℤ u → u ≤ℤ ub → HoldsIn 60 (argument_of ua ub l) u l
 unfolding argument_of

@@ -4,3 +4,4 @@ pub mod Quotients
 pub mod RowLaws
 pub mod RowEnds
 pub mod Arguments
+pub mod Bounds

@@ -1,10 +1,11 @@
 -- What the polynomials cleared of fractions obey: T and U by each other, the circle, and the size of T.
 use Rattle.std.proofs.Common.{◌≡◌, ℕ, zero, suc, arith, refl, ap, ◌∙◌, [], ◌∷◌, ℤ, pos, negsuc, ◌+ℤ◌, ◌-ℤ◌, ◌*ℤ◌, neg_ℤ, ◌≤ℤ◌}
-use Rattle.spec_intervals.specs.Chebyshev.{cleared_t, cleared_u, power}
+use Rattle.spec_chebyshev.specs.Polynomials.{cleared_t, cleared_u}
+use Rattle.spec_numbers.specs.Numbers.{power}
 use Rattle.spec_chebyshev.specs.Differences.{difference_t, difference_u}
-use Rattle.spec_intervals.proofs.Ring.{Poly, v, k as lit, ◌⊕◌, ◌⊖◌, ◌⊗◌, minus, ring}
-use Rattle.spec_intervals.proofs.Order.{lin, nonneg-square}
-use Rattle.spec_intervals.proofs.Whole.{nonneg-mul}
+use Rattle.spec_numbers.proofs.Ring.{Poly, v, k as lit, ◌⊕◌, ◌⊖◌, ◌⊗◌, minus, ring}
+use Rattle.spec_numbers.proofs.Order.{lin, nonneg-square}
+use Rattle.spec_numbers.proofs.Whole.{nonneg-mul}
 
 -- ---- T (k + 2) = u T (k + 1) - (l^2 - u^2) U k, and U (k + 1) = T (k + 1) + u U k
 t_step : (u l a w h w1 : ℤ) → h ≡ u *ℤ a -ℤ (l *ℤ l -ℤ u *ℤ u) *ℤ w → w1 ≡ a +ℤ u *ℤ w → pos 2 *ℤ u *ℤ h -ℤ l *ℤ l *ℤ a ≡ u *ℤ h -ℤ (l *ℤ l -ℤ u *ℤ u) *ℤ w1

@@ -4,10 +4,11 @@ use Rattle.std.proofs.lemmas.Int.{ints}
 use Rattle.std.proofs.lemmas.Nat.{pow_pos}
 use Rattle.std.specs.Int.{int_min, int_max}
 use Rattle.spec_intervals.specs.Interval.{least4, greatest4}
-use Rattle.spec_intervals.proofs.Ring.{v, k as lit, ◌⊕◌, ◌⊖◌, ◌⊗◌, minus, ring}
-use Rattle.spec_intervals.proofs.Order.{lin, le-mul, le-mul_cancel}
-use Rattle.spec_intervals.proofs.Whole.{nonneg-mul}
-use Rattle.spec_intervals.proofs.Products.{corner_low, corner_high, least4-le, greatest4-ge}
+use Rattle.spec_numbers.proofs.Ring.{v, k as lit, ◌⊕◌, ◌⊖◌, ◌⊗◌, minus, ring}
+use Rattle.spec_numbers.proofs.Order.{lin, le-mul, le-mul_cancel}
+use Rattle.spec_numbers.proofs.Whole.{nonneg-mul}
+use Rattle.spec_numbers.proofs.Corners.{corner_low, corner_high}
+use Rattle.spec_intervals.proofs.Products.{least4-le, greatest4-ge}
 
 -- a cut at a bound that the exact value keeps
 pub cut_low : (a b d n : ℤ) → (a *ℤ d) ≤ℤ n → (b *ℤ d) ≤ℤ n → (int_max a b *ℤ d) ≤ℤ n

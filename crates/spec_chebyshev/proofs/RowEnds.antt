@@ -4,20 +4,18 @@ use Rattle.std.proofs.lemmas.Int.{ints, clamps}
 use Rattle.std.proofs.lemmas.Nat.{pow_pos}
 use Rattle.std.proofs.Math.Nat.{one-le-pow, pow-suc, pow-zero, mul_comm}
 use Rattle.std.specs.Int.{int_min, int_max}
-use Rattle.spec_intervals.specs.Chebyshev.{cleared_t, cleared_u, power}
-use Rattle.spec_intervals.specs.Interval.{floor_div, ceil_div, least4, greatest4}
-use Rattle.spec_intervals.proofs.Order.{lin, le-mul}
-use Rattle.spec_intervals.proofs.Floor.{floor_div-small, ceil_div-small}
+use Rattle.spec_chebyshev.specs.Polynomials.{cleared_t, cleared_u}
+use Rattle.spec_numbers.specs.Numbers.{power, floor_div, ceil_div}
+use Rattle.spec_intervals.specs.Interval.{least4, greatest4}
+use Rattle.spec_numbers.proofs.Naturals.{power-pos}
+use Rattle.spec_numbers.proofs.Order.{lin, le-mul}
+use Rattle.spec_numbers.proofs.Floor.{floor_div-small, ceil_div-small}
 use Rattle.spec_chebyshev.specs.declared.ends.Ival62.{Ival62}
 use Rattle.spec_chebyshev.specs.Differences.{difference_t, difference_u, IsArgument, Within}
 use Rattle.spec_chebyshev.specs.Rows.{t_size, u_size, q_size, r_size, t_unit, u_unit, q_unit, r_unit, shifted, nothing, next, t_row, u_row, q_row, r_row, HoldsIn, EndsWithin, IsArguments}
 use Rattle.spec_chebyshev.proofs.Sizes.{Within-t, Within-u, Within-q, Within-r}
 use Rattle.spec_chebyshev.proofs.RowLaws.{HoldsIn-t, HoldsIn-u, HoldsIn-q, HoldsIn-r}
 use Rattle.spec_chebyshev.proofs.Quotients.{below_limit, above_limit}
-
-power-pos : (a k : ℕ) → power (pos a) k ≡ pos (a ^ k)
-power-pos a zero = ap pos (sym (pow-zero a))
-power-pos a (suc k) = ap (λ z. pos a *ℤ z) (power-pos a k) ∙ ap pos (mul_comm a (a ^ k) ∙ sym (pow-suc a k))
 
 -- the two outer sides of an entry
 pub record Cut (limit : ℕ) (e : Ival62) : Type 0 where

@@ -1,12 +1,14 @@
 -- Each entry of a row holds the exact polynomial, or divided difference, wherever x holds the arguments.
 use Rattle.std.proofs.Common.{◌≡◌, ℕ, zero, suc, ◌*◌, ◌^◌, arith, refl, sym, [], ◌∷◌, ℤ, pos, ◌+ℤ◌, ◌-ℤ◌, ◌*ℤ◌, neg_ℤ, ◌≤ℤ◌}
 use Rattle.std.proofs.lemmas.Nat.{pow_pos}
-use Rattle.spec_intervals.specs.Chebyshev.{cleared_t, cleared_u, power}
-use Rattle.spec_intervals.specs.Interval.{floor_div, ceil_div, least4, greatest4}
-use Rattle.spec_intervals.proofs.Ring.{v, k as lit, ◌⊕◌, ◌⊖◌, ◌⊗◌, ring}
-use Rattle.spec_intervals.proofs.Order.{lin, le-mul, le-mul_cancel}
-use Rattle.spec_intervals.proofs.Whole.{nonneg-mul}
-use Rattle.spec_intervals.proofs.Floor.{floor_div-le, ceil_div-ge}
+use Rattle.spec_chebyshev.specs.Polynomials.{cleared_t, cleared_u}
+use Rattle.spec_numbers.specs.Numbers.{power, floor_div, ceil_div}
+use Rattle.spec_intervals.specs.Interval.{least4, greatest4}
+use Rattle.spec_numbers.proofs.Ring.{v, k as lit, ◌⊕◌, ◌⊖◌, ◌⊗◌, ring}
+use Rattle.spec_numbers.proofs.Integers.{times_one}
+use Rattle.spec_numbers.proofs.Order.{lin, le-mul, le-mul_cancel}
+use Rattle.spec_numbers.proofs.Whole.{nonneg-mul}
+use Rattle.spec_numbers.proofs.Floor.{floor_div-le, ceil_div-ge}
 use Rattle.spec_chebyshev.specs.declared.ends.Ival62.{Ival62}
 use Rattle.spec_chebyshev.specs.Differences.{difference_t, difference_u, IsArgument, Within}
 use Rattle.spec_chebyshev.specs.Rows.{t_unit, u_unit, q_unit, r_unit, q_size, r_size, shifted, nothing, next, t_row, u_row, q_row, r_row, HoldsIn}
@@ -76,9 +78,6 @@ HoldsIn-times s e n d l l0 h =
     turn : (f : ℤ) → f *ℤ (l *ℤ d) ≡ f *ℤ d *ℤ l
     turn f = ring (f ∷ l ∷ d ∷ []) (v 0 ⊗ (v 1 ⊗ v 2)) (v 0 ⊗ v 2 ⊗ v 1) tt
 
-one_right : (p : ℤ) → p *ℤ pos 1 ≡ p
-one_right p = ring (p ∷ []) (v 0 ⊗ lit (pos 1)) (v 0) tt
-
 plain_step : (u l n1 n0 : ℤ) → pos 2 *ℤ u *ℤ n1 -ℤ l *ℤ l *ℤ n0 ≡ pos 2 *ℤ u *ℤ n1 +ℤ pos 0 -ℤ l *ℤ l *ℤ n0
 plain_step u l n1 n0 = ring (u ∷ l ∷ n1 ∷ n0 ∷ []) (lit (pos 2) ⊗ v 0 ⊗ v 2 ⊖ v 1 ⊗ v 1 ⊗ v 3) (lit (pos 2) ⊗ v 0 ⊗ v 2 ⊕ lit (pos 0) ⊖ v 1 ⊗ v 1 ⊗ v 3) tt
 
@@ -92,7 +91,7 @@ module _ (x : Ival62) (u l : ℤ) (h : IsArgument u l) (hx : HoldsIn 60 x u l) w
 
   t_two : (k : ℕ) → HoldsIn 60 (t_row x k) (cleared_t u l k) (power l k) × HoldsIn 60 (t_row x (suc k)) (cleared_t u l (suc k)) (power l (suc k))
   unfolding t_row
-  t_two zero = (record { low = omega (arith, lin); high = omega (arith, lin) }, record { low = rw (one_right l) hx.low; high = rw (one_right l) hx.high })
+  t_two zero = (record { low = omega (arith, lin); high = omega (arith, lin) }, record { low = rw (times_one l) hx.low; high = rw (times_one l) hx.high })
   t_two (suc k) =
       let ih : HoldsIn 60 (t_row x k) (cleared_t u l k) (power l k) × HoldsIn 60 (t_row x (suc k)) (cleared_t u l (suc k)) (power l (suc k)) = t_two k in (
         ih.1,
@@ -101,7 +100,7 @@ module _ (x : Ival62) (u l : ℤ) (h : IsArgument u l) (hx : HoldsIn 60 x u l) w
 
   u_two : (k : ℕ) → HoldsIn 50 (u_row x k) (cleared_u u l k) (power l k) × HoldsIn 50 (u_row x (suc k)) (cleared_u u l (suc k)) (power l (suc k))
   unfolding u_row
-  u_two zero = (record { low = omega (arith, lin); high = omega (arith, lin) }, rw (one_right l) (HoldsIn-shifted 60 50 9 x u l refl length_nonneg hx))
+  u_two zero = (record { low = omega (arith, lin); high = omega (arith, lin) }, rw (times_one l) (HoldsIn-shifted 60 50 9 x u l refl length_nonneg hx))
   u_two (suc k) =
       let ih : HoldsIn 50 (u_row x k) (cleared_u u l k) (power l k) × HoldsIn 50 (u_row x (suc k)) (cleared_u u l (suc k)) (power l (suc k)) = u_two k in (
         ih.1,

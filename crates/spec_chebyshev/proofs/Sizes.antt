@@ -1,12 +1,14 @@
 -- The sums that divided differences are, and the sizes of the polynomials and of their divided differences.
 use Rattle.std.proofs.Common.{◌≡◌, ℕ, zero, suc, ◌+◌, ◌*◌, arith, refl, ap, [], ◌∷◌, ℤ, pos, ◌+ℤ◌, ◌-ℤ◌, ◌*ℤ◌, neg_ℤ, ◌≤ℤ◌}
-use Rattle.spec_intervals.specs.Chebyshev.{cleared_t, cleared_u, power}
+use Rattle.spec_chebyshev.specs.Polynomials.{cleared_t, cleared_u}
+use Rattle.spec_numbers.specs.Numbers.{power}
 use Rattle.spec_chebyshev.specs.Differences.{difference_t, difference_u, weighted_sum, t_weight, u_weight, IsArgument, Within}
 use Rattle.spec_chebyshev.specs.Rows.{t_size, u_size, q_size, r_size}
-use Rattle.spec_intervals.proofs.Ring.{Poly, v, k as lit, ◌⊕◌, ◌⊖◌, ◌⊗◌, minus, ring}
-use Rattle.spec_intervals.proofs.Order.{lin}
-use Rattle.spec_intervals.proofs.Whole.{nonneg-mul}
-use Rattle.spec_intervals.proofs.Products.{corner_low, corner_high}
+use Rattle.spec_numbers.proofs.Ring.{Poly, v, k as lit, ◌⊕◌, ◌⊖◌, ◌⊗◌, minus, ring}
+use Rattle.spec_numbers.proofs.Integers.{times_one}
+use Rattle.spec_numbers.proofs.Order.{lin}
+use Rattle.spec_numbers.proofs.Whole.{nonneg-mul}
+use Rattle.spec_numbers.proofs.Corners.{corner_low, corner_high}
 use Rattle.spec_chebyshev.proofs.Polynomials.{mixed, nonneg-power, cleared_t-above, cleared_t-below}
 
 -- ---- the sum obeys the recurrence in i, and so the divided difference is a sum
@@ -156,15 +158,12 @@ u_weights a l h j =
     let e : pos 2 *ℤ (pos (suc j) *ℤ power l j) ≡ (pos 2 *ℤ pos (suc j)) *ℤ power l j = ring (pos (suc j) ∷ power l j ∷ []) (lit (pos 2) ⊗ (v 0 ⊗ v 1)) ((lit (pos 2) ⊗ v 0) ⊗ v 1) tt in
     rw e at w
 
-one_right : (p : ℤ) → p *ℤ pos 1 ≡ p
-one_right p = ring (p ∷ []) (v 0 ⊗ lit (pos 1)) (v 0) tt
-
 pub Within-q : (a u l : ℤ) (k : ℕ) → IsArgument a l → IsArgument u l → Within (l *ℤ difference_t a u l k) (pos (q_size k) *ℤ power l k)
 Within-q a u l k ha hu =
     let w : Within (l *ℤ weighted_sum (t_weight a l) u l k 0) (pos (total t_total k 0) *ℤ (power l k *ℤ pos 1)) = Within-sum (t_weight a l) t_total u l hu (t_weights a l ha) k 0 in
-    rw (difference_t-sum a u l k) (rw (total_is_square k, one_right (power l k)) at w)
+    rw (difference_t-sum a u l k) (rw (total_is_square k, times_one (power l k)) at w)
 
 pub Within-r : (a u l : ℤ) (k : ℕ) → IsArgument a l → IsArgument u l → Within (l *ℤ difference_u a u l k) (pos (r_size k) *ℤ power l k)
 Within-r a u l k ha hu =
     let w : Within (l *ℤ weighted_sum (u_weight a l) u l k 0) (pos (total u_total k 0) *ℤ (power l k *ℤ pos 1)) = Within-sum (u_weight a l) u_total u l hu (u_weights a l ha) k 0 in
-    rw (difference_u-sum a u l k) (rw (total_is_third k, one_right (power l k)) at w)
+    rw (difference_u-sum a u l k) (rw (total_is_third k, times_one (power l k)) at w)

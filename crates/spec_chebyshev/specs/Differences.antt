@@ -1,7 +1,7 @@
 -- The divided differences of the Chebyshev polynomials, cleared of fractions: for x' = a / l and x = u / l,
 -- (P_k(x') - P_k(x)) / (x' - x) is a whole number over l^(k-1).
 use Rattle.std.specs.Prelude.{ℕ, zero, suc, ℤ, pos, neg_ℤ, ◌+ℤ◌, ◌-ℤ◌, ◌*ℤ◌, ◌≤ℤ◌, ◌<ℤ◌}
-use Rattle.spec_intervals.specs.Chebyshev.{cleared_t, cleared_u}
+use Rattle.spec_chebyshev.specs.Polynomials.{cleared_t, cleared_u}
 
 -- of T_k: Q_(k+2) = 2 x Q_(k+1) + 2 T_(k+1)(x') - Q_k
 abbrev pub difference_t : ℤ → ℤ → ℤ → ℕ → ℤ

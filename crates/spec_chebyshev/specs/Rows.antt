@@ -2,7 +2,8 @@
 -- Every entry is an interval in the unit of its row, rounded outward and cut to the size that the exact values keep.
 use Rattle.std.specs.Prelude.{ℕ, zero, suc, ◌*◌, ◌/◌, ◌^◌, ℤ, pos, neg_ℤ, unsigned_abs, ◌+ℤ◌, ◌-ℤ◌, ◌*ℤ◌, ◌≤ℤ◌, List, slice_index_or}
 use Rattle.std.specs.Int.{int_min, int_max}
-use Rattle.spec_intervals.specs.Interval.{floor_div, ceil_div, least4, greatest4}
+use Rattle.spec_numbers.specs.Numbers.{floor_div, ceil_div}
+use Rattle.spec_intervals.specs.Interval.{least4, greatest4}
 use Rattle.spec_chebyshev.specs.Differences.{Within}
 use Rattle.spec_chebyshev.specs.declared.ends.Ival62.{Ival62}
 

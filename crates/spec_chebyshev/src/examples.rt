@@ -1,8 +1,16 @@
 // Worked values of each definition, by computation.
 
 ghost use Rattle.std.specs.Prelude.{◌≡◌, ◌^◌, pos, neg_ℤ};
+ghost use Rattle.spec_chebyshev.specs.Polynomials.{cleared_t, cleared_u};
 ghost use Rattle.spec_chebyshev.specs.Differences.{difference_t, difference_u};
 ghost use Rattle.spec_chebyshev.specs.Rows.{ends, r_size, shifted, t_row, u_row, q_row, r_row, argument_of};
+
+/// At x = 1/2: T_3 = 4 x^3 - 3 x is -1, U_2 = 4 x^2 - 1 is 0 and U_3 = 8 x^3 - 4 x is -1, each times 2^k.
+pub fn chebyshev_polynomials()
+    ensures t_3 { cleared_t (pos 1) (pos 2) 3 ≡ neg_ℤ (pos 8) }
+    ensures u_2 { cleared_u (pos 1) (pos 2) 2 ≡ pos 0 }
+    ensures u_3 { cleared_u (pos 1) (pos 2) 3 ≡ neg_ℤ (pos 8) }
+{}
 
 /// From 1/2 to 1, T_3 goes from -1 to 1 and U_2 from 0 to 3: the differences over 1/2 are 4 and 6, over l^2 and l.
 pub fn divided_differences()

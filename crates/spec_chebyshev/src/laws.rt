@@ -1,8 +1,9 @@
 // What the Chebyshev polynomials obey, in whole numbers: each law is the contract of a function with nothing to do.
 // At x = u / l the polynomials of degree k are `cleared_t u l k` and `cleared_u u l k` over l^k.
 
-ghost use Rattle.std.specs.Prelude.{◌≡◌, ℕ, suc, ◌*◌, ◌^◌, ℤ, pos, neg_ℤ, ◌+ℤ◌, ◌-ℤ◌, ◌*ℤ◌, ◌≤ℤ◌, ◌<ℤ◌};
-ghost use Rattle.spec_intervals.specs.Chebyshev.{cleared_t, cleared_u, power};
+ghost use Rattle.std.specs.Prelude.{◌≡◌, ℕ, suc, ◌*◌, ◌^◌, ◌<◌, ℤ, pos, neg_ℤ, ◌+ℤ◌, ◌-ℤ◌, ◌*ℤ◌, ◌≤ℤ◌, ◌<ℤ◌};
+ghost use Rattle.spec_chebyshev.specs.Polynomials.{cleared_t, cleared_u};
+ghost use Rattle.spec_numbers.specs.Numbers.{power};
 ghost use Rattle.spec_chebyshev.specs.Differences.{difference_t, difference_u, weighted_sum, t_weight, u_weight, IsArgument, Within};
 ghost use Rattle.spec_chebyshev.specs.declared.ends.Ival62.{Ival62};
 ghost use Rattle.spec_chebyshev.specs.Rows.{t_size, u_size, q_size, r_size, t_unit, u_unit, q_unit, r_unit, t_row, u_row, q_row, r_row, argument_of, HoldsIn, EndsWithin, IsArguments};
@@ -81,4 +82,12 @@ pub fn rows_within()
     ensures u { (x : Ival62) → IsArguments x → (k : ℕ) → EndsWithin (u_size k * 2 ^ u_unit) (u_row x k) }
     ensures q { (x : Ival62) → IsArguments x → (k : ℕ) → EndsWithin (q_size k * 2 ^ q_unit) (q_row x k) }
     ensures r { (x : Ival62) → IsArguments x → (k : ℕ) → EndsWithin (r_size k * 2 ^ r_unit) (r_row x k) }
+{}
+
+/// The first 32 entries of each row are within 2^60, so that their ends fit 64 bits.
+pub fn first_entries_fit()
+    ensures t { (x : Ival62) → IsArguments x → (k : ℕ) → EndsWithin (2 ^ 60) (t_row x k) }
+    ensures u { (x : Ival62) → IsArguments x → (k : ℕ) → k < 32 → EndsWithin (2 ^ 60) (u_row x k) }
+    ensures q { (x : Ival62) → IsArguments x → (k : ℕ) → k < 32 → EndsWithin (2 ^ 60) (q_row x k) }
+    ensures r { (x : Ival62) → IsArguments x → (k : ℕ) → k < 32 → EndsWithin (2 ^ 60) (r_row x k) }
 {}

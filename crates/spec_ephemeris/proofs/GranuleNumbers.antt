@@ -1,12 +1,12 @@
 -- A granule's numbers stand within its block, and those of a body are bounded.
 use Rattle.std.proofs.Common.{◌≡◌, ℕ, zero, suc, ◌+◌, ◌-◌, ◌*◌, ◌<◌, ◌≤◌, List, [], ◌∷◌, length, take, drop, slice_index_or, Some, refl, arith, ◌∙◌, length-take-le, length-drop, get_or-take, get_or-drop}
 use Rattle.std.specs.Prelude.{All, slice_get}
+use Rattle.spec_numbers.proofs.Naturals.{row_fits}
 use Rattle.spec_text.specs.declared.decimals.Decimal.{Decimal}
 use Rattle.spec_ephemeris.specs.declared.header.Column.{Column}
 use Rattle.spec_ephemeris.specs.declared.limits.TheConstants.{BODY_COLUMNS}
 use Rattle.spec_ephemeris.specs.Header.{IsColumn, Takes, granule_size}
 use Rattle.spec_ephemeris.specs.Ephemeris.{Ephemeris, IsEphemeris, IsBodyNumber, block_numbers, granule_numbers}
-use Rattle.spec_ephemeris.proofs.Pushing.{block_fits}
 
 -- the run of a list from `first` on lies within it
 length_of_run : {X : Type 0} (xs : List X) (first size : ℕ) → first + size ≤ length xs → length (take size (drop first xs)) ≡ size
@@ -20,7 +20,7 @@ get_some (x ∷ xs) (suc i) d below = get_some xs i d (omega (arith, below))
 -- a block has as many numbers as the header says
 pub block_length : (e : Ephemeris) (block : ℕ) → IsEphemeris e → block < e.blocks → length (block_numbers e block) ≡ e.header.ncoeff
 block_length e block checked below =
-    let fits : block * e.header.ncoeff + e.header.ncoeff ≤ e.blocks * e.header.ncoeff = block_fits block e.blocks e.header.ncoeff below in
+    let fits : block * e.header.ncoeff + e.header.ncoeff ≤ e.blocks * e.header.ncoeff = row_fits block e.blocks e.header.ncoeff below in
     length_of_run e.numbers (block * e.header.ncoeff) e.header.ncoeff (omega (arith, fits, checked.whole))
 
 -- the granules of a column end where the column does
@@ -28,7 +28,7 @@ run_fits : (e : Ephemeris) (number : ℕ) (c : Column) (inner : ℕ) → IsEphem
     → (c.start - 1 + inner * granule_size number c) + granule_size number c ≤ e.header.ncoeff
 run_fits e number c inner checked is below =
     let rules = checked.header.columns number c is in
-    let fits : inner * granule_size number c + granule_size number c ≤ c.granules * granule_size number c = block_fits inner c.granules (granule_size number c) below in
+    let fits : inner * granule_size number c + granule_size number c ≤ c.granules * granule_size number c = row_fits inner c.granules (granule_size number c) below in
     omega (arith, rules.start, rules.last, fits)
 
 pub numbers_count : (e : Ephemeris) (number : ℕ) (c : Column) (block inner : ℕ) → IsEphemeris e → IsColumn e.header number c
@@ -44,7 +44,7 @@ place_taken : (e : Ephemeris) (number : ℕ) (c : Column) (inner k : ℕ) → Is
 place_taken e number c inner k checked is of_block below =
     let rules = checked.header.columns number c is in
     let size : ℕ = granule_size number c in
-    let fits : inner * size + size ≤ c.granules * size = block_fits inner c.granules size of_block in
+    let fits : inner * size + size ≤ c.granules * size = row_fits inner c.granules size of_block in
     record { from = omega (arith, rules.start); before = omega (arith, rules.start, fits, below) }
 
 -- the numbers of a body's granule are bounded

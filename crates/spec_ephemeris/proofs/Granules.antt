@@ -4,10 +4,10 @@ use Rattle.std.proofs.lemmas.Int.{ints}
 use Rattle.std.proofs.lemmas.Nat.{mul-le, same_from_place}
 use Rattle.std.proofs.lemmas.Bool.{cases_lt}
 use Rattle.std.proofs.Math.Nat.{eq_of_mul-eq-mul_right}
+use Rattle.spec_numbers.proofs.Naturals.{exchanged_factors, row_fits}
 use Rattle.spec_ephemeris.specs.declared.header.Column.{Column}
-use Rattle.spec_ephemeris.specs.declared.header.Header.{Header}
-use Rattle.spec_ephemeris.specs.Header.{IsColumn}
 use Rattle.spec_ephemeris.specs.Ephemeris.{Ephemeris, IsEphemeris, Granule, IsGranuleAt, granule_end, granule_numbers, block_numbers, end_of, IsPreferred, IsNearest}
+use Rattle.spec_ephemeris.proofs.ColumnRules.{one_column, some_granules}
 
 preferred_once : (a b t s : ℤ) → IsPreferred a b t s → IsPreferred a b s t → t ≡ s
 preferred_once a b t s (inl one) (inl other) = absurd (omega (arith, one, other))
@@ -20,11 +20,6 @@ nearest_once P a b None None one other = refl
 nearest_once P a b None (Some s) one other = absurd (one s other.0)
 nearest_once P a b (Some t) None one other = absurd (other t one.0)
 nearest_once P a b (Some t) (Some s) one other = ap Some (preferred_once a b t s (one.1 s other.0) (other.1 t one.0))
-
--- one number has one column
-pub one_column : (h : Header) (number : ℕ) (c d : Column) → IsColumn h number c → IsColumn h number d → c ≡ d
-one_column h number c d one other =
-    let both : Some c ≡ Some d = sym one.listed ∙ other.listed in (cc)
 
 -- where t belongs to the granule of index m, a granule that begins by t has no greater index
 no_later : (start t : ℤ) (k m count l : ℕ) → 0 < l → k < count → (start +ℤ pos (k * l)) ≤ℤ t
@@ -40,22 +35,18 @@ no_later start t k m count l some below from upto = elim (cases_lt m k) [
       ]))
 ]
 
-turned : (a b c : ℕ) → a * (b * c) ≡ a * c * b
-turned a b c = omega arith
+pub granules_end : (e : Ephemeris) (l gr : ℕ) → e.header.block_seconds ≡ pos (l * gr) → end_of e ≡ e.start +ℤ pos (e.blocks * gr * l)
+granules_end e l gr shares = rw shares (ap (λ n. e.start +ℤ pos n) (exchanged_factors e.blocks l gr))
 
-granules_end : (e : Ephemeris) (l gr : ℕ) → e.header.block_seconds ≡ pos (l * gr) → end_of e ≡ e.start +ℤ pos (e.blocks * gr * l)
-granules_end e l gr shares = rw shares (ap (λ n. e.start +ℤ pos n) (turned e.blocks l gr))
-
-some_length : (e : Ephemeris) (l gr : ℕ) → IsEphemeris e → e.header.block_seconds ≡ pos (l * gr) → 0 < l
+pub some_length : (e : Ephemeris) (l gr : ℕ) → IsEphemeris e → e.header.block_seconds ≡ pos (l * gr) → 0 < l
 some_length e l gr checked shares = elim (cases_lt 0 l) [
   | inl some ↦ some
   | inr none ↦ (let nothing : l * gr ≤ 0 * gr = mul-le l gr 0 gr none (omega arith) in
       let shortest = checked.header.shortest in absurd (omega (arith, ints, nothing, shares, shortest)))
 ]
 
-within : (block blocks inner gr : ℕ) → block < blocks → inner < gr → block * gr + inner < blocks * gr
-within block blocks inner gr one other =
-    let step : (block + 1) * gr ≤ blocks * gr = mul-le (block + 1) gr blocks gr (omega (arith, one)) (omega arith) in omega (arith, step, other)
+inside : (block blocks inner gr : ℕ) → block < blocks → inner < gr → block * gr + inner < blocks * gr
+inside block blocks inner gr one other = let row = row_fits block blocks gr one in omega (arith, other, row)
 
 -- the index of a granule that a time belongs to is no greater than another's
 index_once : (e : Ephemeris) (t : ℤ) (g h : Granule) (k m gr : ℕ) → IsEphemeris e → e.header.block_seconds ≡ pos (g.duration * gr)
@@ -69,9 +60,6 @@ index_once e t g h k m gr checked shares duration below g_start h_start from upt
 same_numbers : (number : ℕ) (c : Column) (e : Ephemeris) (i j k m : ℕ) → i ≡ j → k ≡ m
     → granule_numbers number c i (block_numbers e k) ≡ granule_numbers number c j (block_numbers e m)
 same_numbers number c e i j k m one other = rw (one, other) refl
-
-some_granules : (c : Column) (h : Header) (number : ℕ) → IsColumn h number c → 0 < c.granules
-some_granules c h number is = let present = is.present in grind (arith, present)
 
 pub one_granule : (e : Ephemeris) (number : ℕ) (t : ℤ) (g h : Granule) → IsEphemeris e → IsGranuleAt e number t g → IsGranuleAt e number t h → g ≡ h
 one_granule e number t g h checked one other =
@@ -88,8 +76,8 @@ one_granule e number t g h checked one other =
     let b_start : h.start ≡ e.start +ℤ pos ((b.block * gr + b.inner) * h.duration) = rw column at b.start in
     let k : ℕ = a.block * gr + a.inner in
     let m : ℕ = b.block * gr + b.inner in
-    let least : k ≤ m = index_once e t g h k m gr checked a.shares duration (within a.block e.blocks a.inner gr a.of_ephemeris a.of_block) a.start b_start one.from other.upto in
-    let greatest : m ≤ k = index_once e t h g m k gr checked shares (sym duration) (within b.block e.blocks b.inner gr b.of_ephemeris b_inner) b_start a.start other.from one.upto in
+    let least : k ≤ m = index_once e t g h k m gr checked a.shares duration (inside a.block e.blocks a.inner gr a.of_ephemeris a.of_block) a.start b_start one.from other.upto in
+    let greatest : m ≤ k = index_once e t h g m k gr checked shares (sym duration) (inside b.block e.blocks b.inner gr b.of_ephemeris b_inner) b_start a.start other.from one.upto in
     let place = same_from_place a.block a.inner b.block b.inner gr a.of_block b_inner (omega (arith, least, greatest)) in
     let b_coefs : h.coefs ≡ granule_numbers number a.column b.inner (block_numbers e b.block) = rw column at b.coefs in
     let coefs : g.coefs ≡ h.coefs = a.coefs ∙ (same_numbers number a.column e a.inner b.inner a.block b.block place.1 place.0 ∙ sym b_coefs) in

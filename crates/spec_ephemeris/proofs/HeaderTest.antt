@@ -1,7 +1,8 @@
 -- A test of a header's rules that computes.
-use Rattle.std.proofs.Common.{◌≡◌, ℕ, zero, suc, ◌+◌, ◌/◌, ◌%◌, ◌<◌, ◌==◌, nat_le, Bool, true, false, not, ◌&&◌, ◌||◌, IsTrue, List, [], ◌∷◌, length, slice_get, Some, None, pos, ◌≤ℤ◌, int_le, unsigned_abs, refl, subst, arith}
+use Rattle.std.proofs.Common.{◌≡◌, ℕ, zero, suc, ◌+◌, ◌/◌, ◌%◌, ◌<◌, ◌==◌, nat_le, Bool, true, false, not, ◌&&◌, ◌||◌, IsTrue, List, [], ◌∷◌, length, slice_get, Some, None, pos, ◌≤ℤ◌, int_le, unsigned_abs, subst, arith}
 use Rattle.std.proofs.lemmas.Nat.{div-add-mod'}
 use Rattle.std.proofs.lemmas.Int.{ints}
+use Rattle.spec_numbers.proofs.Booleans.{both_first, both_second}
 use Rattle.spec_ephemeris.specs.declared.header.Column.{Column}
 use Rattle.spec_ephemeris.specs.declared.header.Header.{Header}
 use Rattle.spec_ephemeris.specs.Header.{IsColumn, IsHeader, IsMassRatio, MeetsColumnRules, AreApart, column_size, is_present}
@@ -49,14 +50,6 @@ no_column c e = absurd (cc)
 of_present : (present test : Bool) → IsTrue present → (not present || test) ≡ true → test ≡ true
 of_present true test is holds = holds
 of_present false test is holds = let never : false ≡ true = is in absurd (cc)
-
-both_first : (a b : Bool) → (a && b) ≡ true → a ≡ true
-both_first true b holds = refl
-both_first false b holds = holds
-
-both_second : (a b : Bool) → (a && b) ≡ true → b ≡ true
-both_second true b holds = holds
-both_second false b holds = absurd (cc)
 
 rules_at : (h : Header) (n : ℕ) (cs : List Column) → pos 0 ≤ℤ h.block_seconds → columns_test h n cs ≡ true
     → (i : ℕ) (c : Column) → slice_get cs i ≡ Some c → IsTrue (is_present c) → MeetsColumnRules h (n + i) c

@@ -1,8 +1,8 @@
 -- One block more keeps an ephemeris checked.
 use Rattle.std.proofs.Common.{◌≡◌, ℕ, ◌+◌, ◌*◌, ◌<◌, ◌≤◌, List, ◌++◌, length, take, drop, ap, subst, sym, ◌∙◌, arith, length-append, length-drop, drop_at, take_all, ◌⊎◌, inl, inr}
 use Rattle.std.proofs.lemmas.List.{take-append-le, drop-append-le}
-use Rattle.std.proofs.lemmas.Nat.{mul-le}
 use Rattle.std.proofs.lemmas.Bool.{cases_lt}
+use Rattle.spec_numbers.proofs.Naturals.{row_fits}
 use Rattle.spec_text.specs.declared.decimals.Decimal.{Decimal}
 use Rattle.spec_ephemeris.specs.declared.header.Header.{Header}
 use Rattle.spec_ephemeris.specs.declared.limits.TheConstants.{MOST_BLOCKS}
@@ -12,13 +12,9 @@ use Rattle.spec_ephemeris.specs.Ephemeris.{Ephemeris, IsEphemeris, IsBlock, AreB
 abbrev of_block : {X : Type 0} → ℕ → ℕ → List X → List X
 of_block n k xs = take n (drop (k * n) xs)
 
--- a block lies within the numbers
-pub block_fits : (k blocks n : ℕ) → k < blocks → k * n + n ≤ blocks * n
-block_fits k blocks n below = let step : (k + 1) * n ≤ blocks * n = mul-le (k + 1) n blocks n (omega (arith, below)) (omega arith) in omega (arith, step)
-
 earlier : {X : Type 0} (n k blocks : ℕ) (xs ys : List X) → length xs ≡ blocks * n → k < blocks → of_block n k (xs ++ ys) ≡ of_block n k xs
 earlier n k blocks xs ys whole below =
-    let fits : k * n + n ≤ blocks * n = block_fits k blocks n below in
+    let fits : k * n + n ≤ blocks * n = row_fits k blocks n below in
     let starts : k * n ≤ length xs = omega (arith, fits, whole) in
     let rest : n ≤ length (drop (k * n) xs) = rw (length-drop (k * n) xs) (omega (arith, fits, whole)) in
     ap (take n) (drop-append-le (k * n) xs ys starts) ∙ take-append-le n (drop (k * n) xs) ys rest

@@ -1,11 +1,11 @@
 -- The checked ephemeris, the granule of a column at a time, and the borders of granules.
 -- Times are seconds of TDB since J2000.
-use Rattle.std.specs.Prelude.{◌≡◌, ◌⊎◌, ℕ, suc, ◌+◌, ◌-◌, ◌*◌, ◌<◌, ◌≤◌, ◌==◌, Bool, false, ◌&&◌, List, [], ◌∷◌, ◌++◌, length, take, drop, slice_get, Contains, Option, None, Some, ℤ, pos, ◌+ℤ◌, ◌-ℤ◌, ◌*ℤ◌, ◌≤ℤ◌, ◌<ℤ◌, unsigned_abs}
+use Rattle.std.specs.Prelude.{◌≡◌, ◌⊎◌, ℕ, suc, ◌+◌, ◌-◌, ◌*◌, ◌<◌, ◌≤◌, List, [], ◌++◌, length, take, drop, slice_get, Contains, Option, None, Some, ℤ, pos, ◌+ℤ◌, ◌-ℤ◌, ◌*ℤ◌, ◌≤ℤ◌, ◌<ℤ◌, unsigned_abs}
 use Rattle.spec_text.specs.declared.decimals.Decimal.{Decimal}
 use Rattle.spec_ephemeris.specs.declared.header.Column.{Column}
 use Rattle.spec_ephemeris.specs.declared.header.Header.{Header}
-use Rattle.spec_ephemeris.specs.declared.limits.TheConstants.{BODY_COLUMNS, MOST_BLOCKS, SHORTEST_BLOCK, LONGEST_BLOCK, FIRST_TIME, LAST_TIME}
-use Rattle.spec_ephemeris.specs.Header.{IsColumn, IsHeader, Takes, column_at, granule_size}
+use Rattle.spec_ephemeris.specs.declared.limits.TheConstants.{BODY_COLUMNS, MOST_BLOCKS, FIRST_TIME, LAST_TIME}
+use Rattle.spec_ephemeris.specs.Header.{IsColumn, IsHeader, Takes, granule_size}
 use Rattle.spec_ephemeris.specs.Series.{Series, IsCoefficient, IsInUnits}
 
 -- the header, the time at which the first block begins, and the blocks: their count, and the numbers of one after the
@@ -93,43 +93,6 @@ pub record IsGranuleAt (e : Ephemeris) (number : ℕ) (t : ℤ) (g : Granule) : 
 -- the series of one axis, counted from 0, of a granule with n coefficients an axis
 abbrev pub axis_series : Granule → ℕ → ℕ → Series
 axis_series g n axis = record { start = g.start; duration = g.duration; coefficients = take n (drop (axis * n) g.coefs) }
-
--- ---- an ephemeris in which Mercury's x is a line
-abbrev pub MERCURY : ℕ
-MERCURY = 1
-
--- the column has two coefficients and one granule
-abbrev pub is_line_column : Option Column → Bool
-is_line_column None = false
-is_line_column (Some c) = (c.coefs == 2) && (c.granules == 1)
-
--- Mercury's column has two coefficients and one granule, and there is one block
-abbrev pub is_line : Ephemeris → Bool
-is_line e = is_line_column (column_at e.header.columns MERCURY) && (e.blocks == 1)
-
--- the place before the first of a column
-abbrev pub before_column : Option Column → ℕ
-before_column None = 0
-before_column (Some c) = c.start - 1
-
--- Mercury's x over the one block: the first two numbers of its column
-abbrev pub mercury_x : Ephemeris → Series
-mercury_x e = record {
-  start = e.start;
-  duration = unsigned_abs e.header.block_seconds;
-  coefficients = take 2 (drop (before_column (column_at e.header.columns MERCURY)) e.numbers);
-}
-
--- a series of two coefficients of a body, over a granule that may be a block
-pub record IsLine (s : Series) : Type 0 where
-  pub c0 : Decimal
-  pub c1 : Decimal
-  pub coefficients : s.coefficients ≡ c0 ∷ c1 ∷ []
-  pub constant : IsBodyNumber c0
-  pub slope : IsBodyNumber c1
-  pub start : IsStart s.start
-  pub shortest : SHORTEST_BLOCK ≤ℤ pos s.duration
-  pub longest : pos s.duration ≤ℤ LONGEST_BLOCK
 
 -- ---- borders
 -- a border of a column is the start of any of its granules but the first

@@ -10,9 +10,9 @@ use Rattle.spec_ephemeris.specs.Ephemeris.{Ephemeris}
 abbrev pub whole : ℤ → Decimal
 whole m = record { mant = m; exp = pos 0 }
 
--- a fraction is this many km
-abbrev pub IsKm : Fraction → ℤ → Type 0
-IsKm r km = r.numerator ≡ km *ℤ pos r.denominator
+-- a fraction is this whole number
+abbrev pub IsWhole : Fraction → ℤ → Type 0
+IsWhole r n = r.numerator ≡ n *ℤ pos r.denominator
 
 -- x over 32 days where it grows by 1 km each second, from 0.138240000000000000D+07 km below 0 to as much above 0
 abbrev pub growing_x : Series
@@ -72,7 +72,3 @@ abbrev pub growing_block : List Decimal
 growing_block =
     record { mant = pos 245154450000000000; exp = neg_ℤ (pos 11) } ∷ record { mant = pos 245157650000000000; exp = neg_ℤ (pos 11) }
     ∷ whole (pos 0) ∷ record { mant = pos 138240000000000000; exp = neg_ℤ (pos 11) } ∷ replicate 22 (whole (pos 0))
-
--- Mercury is absent
-abbrev pub without_mercury : Ephemeris
-without_mercury = record { header = record four_columns { columns = column 3 0 0 ∷ [] }; start = neg_ℤ (pos 43200); blocks = 1; numbers = growing_block }

@@ -1,4 +1,6 @@
 pub mod Series
+pub mod Velocity
 pub mod Header
 pub mod Ephemeris
+pub mod Granules
 pub mod Examples

@@ -4,7 +4,8 @@ use Rattle.std.specs.Prelude.{ℕ, suc, ◌*◌, ◌-◌, ◌^◌, List, [], ◌
 use Rattle.spec_text.specs.declared.decimals.Decimal.{Decimal}
 use Rattle.spec_intervals.specs.Fraction.{Fraction}
 use Rattle.spec_intervals.specs.Interval.{IsDistance}
-use Rattle.spec_intervals.specs.Chebyshev.{cleared_t, power}
+use Rattle.spec_chebyshev.specs.Polynomials.{cleared_t}
+use Rattle.spec_numbers.specs.Numbers.{power}
 
 -- a granule begins at `start` and takes `duration`; over it the coordinate is the sum of c_k T_k, with c_0 first
 pub record Series : Type 0 where
@@ -32,14 +33,15 @@ IsCoefficient d = IsDistance d.mant d.exp
 abbrev pub scaled : Decimal → ℤ
 scaled d = d.mant *ℤ pos (10 ^ to_nat (pos 140 +ℤ d.exp))
 
--- the sum of c_k T_k(u / l) from k on, in units of 10^-140, times l to the number of coefficients less one
-abbrev pub cleared_sum : ℤ → ℤ → ℕ → List Decimal → ℤ
-cleared_sum u l k [] = pos 0
-cleared_sum u l k (c ∷ cs) = scaled c *ℤ (cleared_t u l k *ℤ power l (length cs)) +ℤ cleared_sum u l (suc k) cs
+-- the sum of c_k P_k(u / l) from k on, where P_k(u / l) is a whole number `p k` over a power of l: in units of 10^-140,
+-- times that power for the last k
+abbrev pub cleared_sum : (ℕ → ℤ) → ℤ → ℕ → List Decimal → ℤ
+cleared_sum p l k [] = pos 0
+cleared_sum p l k (c ∷ cs) = scaled c *ℤ (p k *ℤ power l (length cs)) +ℤ cleared_sum p l (suc k) cs
 
--- the exact position at a time
+-- the exact position at a time: the sum of c_k T_k
 abbrev pub position : Series → ℤ → Fraction
 position s t = record {
-  numerator = cleared_sum (argument_at s t) (pos s.duration) 0 s.coefficients;
+  numerator = cleared_sum (cleared_t (argument_at s t) (pos s.duration)) (pos s.duration) 0 s.coefficients;
   denominator = 10 ^ 140 * s.duration ^ (length s.coefficients - 1);
 }

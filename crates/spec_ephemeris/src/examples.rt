@@ -1,9 +1,10 @@
 // Worked values of the definitions, by computation.
-ghost use Rattle.std.specs.Prelude.{◌≡◌, ◌+◌, ◌-◌, ◌^◌, true, false, ◌++◌, ◌∷◌, [], pos, neg_ℤ};
+ghost use Rattle.std.specs.Prelude.{◌≡◌, ◌+◌, ◌-◌, ◌^◌, true, false, pos, neg_ℤ};
 ghost use Rattle.spec_ephemeris.specs.Header.{IsHeader, column_size, has_column};
-ghost use Rattle.spec_ephemeris.specs.Ephemeris.{IsPreferred, is_line, mercury_x};
+ghost use Rattle.spec_ephemeris.specs.Ephemeris.{IsPreferred};
 ghost use Rattle.spec_ephemeris.specs.Series.{IsCoefficient, argument_at, position};
-ghost use Rattle.spec_ephemeris.specs.Examples.{IsKm, whole, growing_x, parabola, column, de405, four_columns, of_four_columns, growing_block, overlapping, without_mercury};
+ghost use Rattle.spec_ephemeris.specs.Velocity.{velocity};
+ghost use Rattle.spec_ephemeris.specs.Examples.{IsWhole, whole, growing_x, parabola, column, de405, four_columns, overlapping};
 
 /// The argument of a block of 2,764,800 seconds runs from minus its length to its length, two for each second.
 pub fn arguments()
@@ -15,18 +16,25 @@ pub fn arguments()
 
 /// A line that grows by 1 km each second passes 0 in the middle of its block.
 pub fn positions_on_a_line()
-    ensures at_start { IsKm (position growing_x (neg_ℤ (pos 43200))) (neg_ℤ (pos 1382400)) }
-    ensures one_second_earlier { IsKm (position growing_x (pos 1339199)) (neg_ℤ (pos 1)) }
-    ensures in_the_middle { IsKm (position growing_x (pos 1339200)) (pos 0) }
-    ensures one_second_later { IsKm (position growing_x (pos 1339201)) (pos 1) }
-    ensures at_end { IsKm (position growing_x (pos 2721600)) (pos 1382400) }
+    ensures at_start { IsWhole (position growing_x (neg_ℤ (pos 43200))) (neg_ℤ (pos 1382400)) }
+    ensures one_second_earlier { IsWhole (position growing_x (pos 1339199)) (neg_ℤ (pos 1)) }
+    ensures in_the_middle { IsWhole (position growing_x (pos 1339200)) (pos 0) }
+    ensures one_second_later { IsWhole (position growing_x (pos 1339201)) (pos 1) }
+    ensures at_end { IsWhole (position growing_x (pos 2721600)) (pos 1382400) }
 {}
 
 /// 1 + 2 x + 3 (2 x^2 - 1) is 2 at x = -1, -2 at x = 0 and 6 at x = 1.
 pub fn positions_on_a_parabola()
-    ensures at_start { IsKm (position parabola (pos 100)) (pos 2) }
-    ensures in_the_middle { IsKm (position parabola (pos 105)) (neg_ℤ (pos 2)) }
-    ensures at_end { IsKm (position parabola (pos 110)) (pos 6) }
+    ensures at_start { IsWhole (position parabola (pos 100)) (pos 2) }
+    ensures in_the_middle { IsWhole (position parabola (pos 105)) (neg_ℤ (pos 2)) }
+    ensures at_end { IsWhole (position parabola (pos 110)) (pos 6) }
+{}
+
+/// A line that grows by 1 km each second has that velocity. The parabola has the slope 2 + 12 x, and x grows by 1/5 each
+/// second.
+pub fn velocities()
+    ensures line { IsWhole (velocity growing_x (pos 1339000)) (pos 1) }
+    ensures parabola_at_start { IsWhole (velocity parabola (pos 100)) (neg_ℤ (pos 2)) }
 {}
 
 /// A coefficient of a position is below 2^36 km in size.
@@ -57,16 +65,6 @@ pub fn headers()
     ensures four { IsHeader four_columns }
     ensures of_de405 { IsHeader de405 }
     ensures two_on_one_place { IsHeader overlapping → ⊥ }
-{}
-
-/// With one block and two coefficients of Mercury, its x is a line. With two blocks it isn't, and where Mercury is
-/// absent it isn't.
-pub fn ephemerides_with_a_line()
-    ensures one_block { is_line (of_four_columns 1 growing_block) ≡ true }
-    ensures its_line { mercury_x (of_four_columns 1 growing_block) ≡ growing_x }
-    ensures two_blocks { is_line (of_four_columns 2 (growing_block ++ growing_block)) ≡ false }
-    ensures no_block { is_line (of_four_columns 0 []) ≡ false }
-    ensures absent { is_line without_mercury ≡ false }
 {}
 
 /// Of two times as far from the middle the smaller is preferred, and before both one that is nearer.

@@ -5,17 +5,19 @@
 
 mod body;
 mod examples;
+mod granule;
 mod header;
 mod laws;
 mod limits;
 
 pub use body::Body;
 pub use examples::{
-    arguments, columns_that_are_present, ephemerides_with_a_line, headers, places_of_columns,
-    positions_on_a_line, positions_on_a_parabola, preferred_times, sizes_of_coefficients,
+    arguments, columns_that_are_present, headers, places_of_columns, positions_on_a_line,
+    positions_on_a_parabola, preferred_times, sizes_of_coefficients, velocities,
 };
+pub use granule::Granule;
 pub use header::{Column, Columns, Header};
-pub use laws::{a_time_has_one_granule, mercury_x_is_a_line, one_border_is_nearest};
+pub use laws::{a_time_has_one_granule, granule_of_a_time, one_border_is_nearest};
 pub use limits::{
     BODY_COLUMNS, COLUMNS, DAY, FEWEST_NUMBERS, FIRST_PLACE, FIRST_TIME, GREATEST_MASS_RATIO,
     LAST_TIME, LEAST_MASS_RATIO, LONGEST_BLOCK, MOST_BLOCKS, MOST_COEFFICIENTS, MOST_NUMBERS,

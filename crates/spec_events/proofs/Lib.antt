@@ -1,15 +1,1 @@
-pub mod Leaves
-pub mod Covering
-pub mod Runs
 pub mod Windowing
-pub mod Units
-pub mod Range
-pub mod Signed
-pub mod Sound
-pub mod Lines
-pub mod Told
-pub mod Found
-pub mod Ordering
-pub mod Rearranged
-pub mod Placing
-pub mod Cutting

@@ -1,20 +1,23 @@
--- The windows of leaves that cover a span, each of which is as told, are the windows of the span's events.
-use Rattle.std.proofs.Common.{◌≡◌, suc, List, [], ◌∷◌, Option, Some, None, All, Any, ℤ, pos, ◌+ℤ◌, ◌≤ℤ◌, ◌<ℤ◌, ◌⊎◌, inl, inr, arith, refl, sym, ap, subst}
+-- The windows of leaves that cover a span, each of which has the right mark, are the windows of the span's events.
+use Rattle.std.proofs.Common.{◌≡◌, suc, List, [], ◌∷◌, Option, Some, None, Any, ℤ, pos, ◌+ℤ◌, ◌≤ℤ◌, ◌<ℤ◌, ◌⊎◌, inl, inr, arith, refl, sym, ap, subst}
 use Rattle.std.proofs.lemmas.Int.{ints}
 use Rattle.std.proofs.lemmas.List.Elements.{All-nil, All-cons, All-head, All-tail, All-weaker}
-use Rattle.spec_events.specs.declared.tree.Node.{Node}
-use Rattle.spec_events.specs.declared.tree.Leaf.{Leaf}
-use Rattle.spec_events.specs.declared.tree.Mark.{Mark}
-use Rattle.spec_events.specs.declared.tree.Mark.TheVariants as M
-use Rattle.spec_events.specs.declared.tree.Turn.{Turn}
-use Rattle.spec_events.specs.declared.window.Holds.{Holds}
-use Rattle.spec_events.specs.declared.window.Holds.TheVariants as H
-use Rattle.spec_events.specs.declared.window.Window.{Window}
-use Rattle.spec_events.specs.Events.{IsEvent, IsIn, IsWithin, HoldsOne, AreInOrder, AreWindows}
-use Rattle.spec_events.specs.Tree.{Covers}
-use Rattle.spec_events.specs.Windows.{window_of, windows, Told, AllTold}
-use Rattle.spec_events.specs.Runs.{longer, ended, joined}
-use Rattle.spec_events.proofs.Runs.{joined_are_windows}
+use Rattle.spec_trees.specs.declared.tree.Node.{Node}
+use Rattle.spec_trees.specs.declared.tree.Leaf.{Leaf}
+use Rattle.spec_trees.specs.declared.tree.Mark.{Mark}
+use Rattle.spec_trees.specs.declared.tree.Mark.TheVariants as M
+use Rattle.spec_trees.specs.declared.tree.Turn.{Turn}
+use Rattle.spec_trees.specs.declared.window.Holds.{Holds}
+use Rattle.spec_trees.specs.declared.window.Holds.TheVariants as H
+use Rattle.spec_trees.specs.declared.window.Window.{Window}
+use Rattle.spec_trees.specs.Placement.{IsIn, IsWithin}
+use Rattle.spec_events.specs.Events.{IsEvent, HoldsOne, AreWindows}
+use Rattle.spec_trees.specs.Tree.{Covers}
+use Rattle.spec_trees.specs.Windows.{window_of, windows}
+use Rattle.spec_events.specs.Marks.{IsRightMark, AreRightlyMarked}
+use Rattle.spec_trees.specs.Runs.{longer, ended, joined}
+use Rattle.spec_trees.proofs.Placing.{covers_forward, earlier, in_order-cons}
+use Rattle.spec_trees.proofs.Runs.{joined_are_windows}
 
 any_first : (Q : Window → Type 0) (w : Window) (ws : List Window) → Q w → Any Q (w ∷ ws)
 any_first Q w ws q = (0, w, omega arith, refl, q)
@@ -24,17 +27,6 @@ any_later Q w ws a = (suc a.0, a.1, omega (arith, a.2), a.3, a.4)
 
 order : (t m : ℤ) → (t ≤ℤ m) ⊎ (m <ℤ t)
 order t m = grind (arith, ints)
-
-in_order : (w : Window) (upto : ℤ) (ws : List Window) → All (IsWithin w.last upto) ws → AreInOrder ws → AreInOrder (w ∷ ws)
-in_order w upto [] h o = tt
-in_order w upto (v ∷ ws) h o = ((All-head (IsWithin w.last upto) v ws h).from, o)
-
-earlier : (low mid upto : ℤ) → low ≤ℤ mid → (w : Window) → IsWithin mid upto w → IsWithin low upto w
-earlier low mid upto h w i = record { from = omega (arith, ints, h, i.from); ordered = i.ordered; to = i.to }
-
-pub covers_forward : (ls : List Leaf) (a b : ℤ) → Covers a ls b → a ≤ℤ b
-covers_forward [] a b c = omega (arith, ints, c)
-covers_forward (l ∷ ls) a b c = omega (arith, ints, c.0, c.1, covers_forward ls l.node.b b c.2)
 
 module _ (P U : ℤ → Type 0) where
   -- times without an event in front
@@ -67,7 +59,7 @@ module _ (P U : ℤ → Type 0) where
   front low upto w ws f i j h g = record {
     within = All-cons (IsWithin low upto) w ws (record { from = omega (arith, ints, f); ordered = omega (arith, ints, f, i); to = j })
         (All-weaker (IsWithin w.last upto) (IsWithin low upto) (earlier low w.last upto (omega (arith, ints, i))) ws g.within);
-    in_order = in_order w upto ws g.within g.in_order;
+    in_order = in_order-cons w upto ws (omega (arith, ints, f, i)) g.within g.in_order;
     every_event = λ t a b e. by t a b e (order t w.last);
     certain = All-cons (λ v. (turn : Turn) → v.holds ≡ H.Certain turn → HoldsOne P turn v) w ws (λ turn e. certain_as w turn h e) g.certain;
     undecided = All-cons (λ v. v.holds ≡ H.Undecided → (t : ℤ) → IsIn v t → U t) w ws (open_as w h) g.undecided;
@@ -87,7 +79,7 @@ module _ (P U : ℤ → Type 0) where
   close (Some w) low a upto ws r j g =
       front low upto w ws r.0 (omega (arith, ints, r.1, r.2)) (omega (arith, ints, r.1, j)) (subst (λ (h : Holds). HoldsAs w h) (sym r.3) r.4) (subst (λ (z : ℤ). AreWindows P U z upto ws) (sym r.1) g)
 
-  stretch : (run : Option Window) (low : ℤ) (n : Node) → IsRun run low n.a → n.a <ℤ n.b → Told P U n M.Undecided → IsRun (Some (longer run n)) low n.b
+  stretch : (run : Option Window) (low : ℤ) (n : Node) → IsRun run low n.a → n.a <ℤ n.b → IsRightMark P U n M.Undecided → IsRun (Some (longer run n)) low n.b
   stretch None low n r i h = (ap (λ z. z +ℤ pos 1) (sym r), refl, omega (arith, ints, r, i), refl, λ t k. h t (omega (arith, ints, k.from)) k.to)
   stretch (Some w) low n r i h = (r.0, refl, omega (arith, ints, r.2, i), refl, λ t k. by t k (order t w.last))
     where
@@ -105,7 +97,7 @@ module _ (P U : ℤ → Type 0) where
   }
 
   -- one leaf in front
-  step : (m : Mark) (run : Option Window) (low b : ℤ) (n : Node) (ls : List Leaf) → IsRun run low n.a → n.a <ℤ n.b → n.b ≤ℤ b → Told P U n m
+  step : (m : Mark) (run : Option Window) (low b : ℤ) (n : Node) (ls : List Leaf) → IsRun run low n.a → n.a <ℤ n.b → n.b ≤ℤ b → IsRightMark P U n m
       → ((r : Option Window) (l : ℤ) → IsRun r l n.b → AreWindows P U l b (joined r ls)) → AreWindows P U low b (joined run (record { node = n; mark = m } ∷ ls))
   step M.Clear run low b n ls r w j h rest =
       close run low n.a b (joined None ls) r (omega (arith, ints, w, j)) (skip n.a n.b b (joined None ls) (omega (arith, ints)) h (rest None n.b refl))
@@ -113,14 +105,14 @@ module _ (P U : ℤ → Type 0) where
       close run low n.a b (window_of n (H.Certain turn) ∷ joined None ls) r (omega (arith, ints, w, j)) (front n.a b (window_of n (H.Certain turn)) (joined None ls) refl w j h (rest None n.b refl))
   step M.Undecided run low b n ls r w j h rest = rest (Some (longer run n)) low (stretch run low n r w h)
 
-  abbrev IsTold : Leaf → Type 0
-  IsTold l = Told P U l.node l.mark
+  abbrev HasRightMark : Leaf → Type 0
+  HasRightMark l = IsRightMark P U l.node l.mark
 
-  joined_are : (ls : List Leaf) (run : Option Window) (low a b : ℤ) → IsRun run low a → Covers a ls b → AllTold P U ls → AreWindows P U low b (joined run ls)
+  joined_are : (ls : List Leaf) (run : Option Window) (low a b : ℤ) → IsRun run low a → Covers a ls b → AreRightlyMarked P U ls → AreWindows P U low b (joined run ls)
   joined_are [] run low a b r c h = close run low a b [] r (omega (arith, ints, c)) (subst (λ (z : ℤ). AreWindows P U a z []) c (nothing a))
   joined_are (l ∷ ls) run low a b r c h =
-      step l.mark run low b l.node ls (subst (λ (z : ℤ). IsRun run low z) (sym c.0) r) c.1 (covers_forward ls l.node.b b c.2) (All-head IsTold l ls h) (λ s k q. joined_are ls s k l.node.b b q c.2 (All-tail IsTold l ls h))
+      step l.mark run low b l.node ls (subst (λ (z : ℤ). IsRun run low z) (sym c.0) r) c.1 (covers_forward ls l.node.b b c.2) (All-head HasRightMark l ls h) (λ s k q. joined_are ls s k l.node.b b q c.2 (All-tail HasRightMark l ls h))
 
-  pub windows_are : (a b : ℤ) (ls : List Leaf) → Covers a ls b → AllTold P U ls → AreWindows P U a b (windows ls)
+  pub windows_are : (a b : ℤ) (ls : List Leaf) → Covers a ls b → AreRightlyMarked P U ls → AreWindows P U a b (windows ls)
   windows_are a b ls c h =
       subst (λ (ws : List Window). AreWindows P U a b ws) (joined_are_windows ls) (joined_are ls None a a b refl c h)

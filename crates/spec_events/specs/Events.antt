@@ -1,10 +1,11 @@
 -- When an event happens, and what a window of time promises of the events in it.
 -- P says of each time whether a function is at least 0 there. Times are seconds of TDB since J2000.
-use Rattle.std.specs.Prelude.{◌≡◌, ◌⊎◌, List, [], ◌∷◌, All, Any, ℤ, pos, ◌-ℤ◌, ◌≤ℤ◌, ◌<ℤ◌}
-use Rattle.spec_events.specs.declared.tree.Turn.{Turn}
-use Rattle.spec_events.specs.declared.tree.Turn.TheVariants.{Rise, Fall}
-use Rattle.spec_events.specs.declared.window.Holds.TheVariants.{Certain, Undecided}
-use Rattle.spec_events.specs.declared.window.Window.{Window}
+use Rattle.std.specs.Prelude.{◌≡◌, ◌⊎◌, Bool, true, List, All, Any, ℤ, pos, ◌-ℤ◌, ◌≤ℤ◌, ◌<ℤ◌}
+use Rattle.spec_trees.specs.declared.tree.Turn.{Turn}
+use Rattle.spec_trees.specs.declared.tree.Turn.TheVariants.{Rise, Fall}
+use Rattle.spec_trees.specs.declared.window.Holds.TheVariants.{Certain, Undecided}
+use Rattle.spec_trees.specs.declared.window.Window.{Window}
+use Rattle.spec_trees.specs.Placement.{AreInOrder, AreWithin, IsIn}
 
 -- P changes from the time before to this one, in this direction
 abbrev pub IsTurn : (ℤ → Type 0) → Turn → ℤ → Type 0
@@ -15,32 +16,12 @@ IsTurn P Fall t = P (t -ℤ pos 1) × (P t → ⊥)
 abbrev pub IsEvent : (ℤ → Type 0) → ℤ → Type 0
 IsEvent P t = IsTurn P Rise t ⊎ IsTurn P Fall t
 
--- the window's times are those from its first to its last
-pub record IsIn (window : Window) (t : ℤ) : Type 0 where
-  pub from : window.first ≤ℤ t
-  pub to : t ≤ℤ window.last
-
--- it holds a time, and lies after one time and up to another
-pub record IsWithin (after upto : ℤ) (window : Window) : Type 0 where
-  pub from : after <ℤ window.first
-  pub ordered : window.first ≤ℤ window.last
-  pub to : window.last ≤ℤ upto
-
 -- exactly one event lies in the window, and it is a turn in this direction
 pub record HoldsOne (P : ℤ → Type 0) (turn : Turn) (window : Window) : Type 0 where
   pub time : ℤ
   pub inside : IsIn window time
   pub turns : IsTurn P turn time
   pub alone : (t : ℤ) → IsIn window t → IsEvent P t → t ≡ time
-
-abbrev pub AreWithin : ℤ → ℤ → List Window → Type 0
-AreWithin after upto ws = All (IsWithin after upto) ws
-
--- each window ends before the next begins
-abbrev pub AreInOrder : List Window → Type 0
-AreInOrder [] = Unit {0}
-AreInOrder (w ∷ []) = Unit {0}
-AreInOrder (w ∷ v ∷ ws) = (w.last <ℤ v.first) × AreInOrder (v ∷ ws)
 
 -- each event after one time and up to another lies in a window
 abbrev pub HoldEvents : (ℤ → Type 0) → ℤ → ℤ → List Window → Type 0
@@ -61,3 +42,7 @@ pub record AreWindows (P U : ℤ → Type 0) (after upto : ℤ) (ws : List Windo
   pub every_event : HoldEvents P after upto ws
   pub certain : AreCertain P ws
   pub undecided : AreOpen U ws
+
+-- a fact of times that a test decides
+abbrev pub Passes : (ℤ → Bool) → ℤ → Type 0
+Passes test t = test t ≡ true

@@ -1,9 +1,2 @@
 pub mod Events
-pub mod Tree
-pub mod Windows
-pub mod Runs
-pub mod Order
-pub mod LineSearch
-pub mod Examples
-pub mod Cuts
-pub mod CutExamples
+pub mod Marks

@@ -1,13 +1,13 @@
 -- Leaves whose value is the time itself are enclosed.
 use Rattle.std.proofs.Common.{ℕ, ◌^◌, ◌≤◌, arith, ℤ, pos, ◌≤ℤ◌, unsigned_abs}
 use Rattle.std.proofs.lemmas.Int.{ints}
-use Rattle.spec_intervals.proofs.Order.{lin}
+use Rattle.spec_numbers.proofs.Order.{lin}
 use Rattle.spec_intervals.proofs.Narrow.{Holds-narrow}
 use Rattle.spec_intervals.specs.Interval.{narrow}
 use Rattle.spec_intervals.specs.Fraction.{Holds, fraction}
-use Rattle.spec_expressions.specs.Enclosure.{IsEnclosure, AllFractions, IsSpan, AllWithin, IsWithin, middle, change}
-use Rattle.spec_expressions.proofs.Centred.{middle_between}
-use Rattle.spec_expressions.proofs.Exponents.{narrow-within}
+use Rattle.spec_intervals.specs.Enclosure.{IsEnclosure, AllFractions, IsSpan, AllWithin, IsWithin, middle, change}
+use Rattle.spec_intervals.proofs.Centred.{middle_between}
+use Rattle.spec_intervals.proofs.Exponents.{narrow-within}
 use Rattle.spec_expressions.specs.Examples.{clock, clock_over}
 use Rattle.spec_expressions.specs.Expression.{Leaf}
 

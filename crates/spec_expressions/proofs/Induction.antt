@@ -5,12 +5,12 @@ use borrow.Author.Differences.{down}
 use Rattle.spec_intervals.proofs.Decimals.{Holds-from_decimal}
 use Rattle.spec_intervals.specs.Interval.{distance_exponent, cosine_exponent, from_decimal}
 use Rattle.spec_intervals.specs.Fraction.{Fraction, IsFraction, decimal}
-use Rattle.spec_expressions.specs.Enclosure.{Enclosure, IsEnclosure, AllFractions}
+use Rattle.spec_intervals.specs.Enclosure.{Enclosure, IsEnclosure, AllFractions}
 use Rattle.spec_expressions.specs.Expression.{Leaf, position, velocity, IsLeaf, exact_of, enclosure_of, HasLeaves}
 use Rattle.spec_expressions.specs.declared.expressions.Expr.{Expr}
 use Rattle.spec_expressions.specs.declared.expressions.Expr.TheVariants.{Pos, Vel, Length, Cosine, Add', Sub', Mul', SignedSquare'}
-use Rattle.spec_expressions.proofs.Compare.{IsFraction-mul}
-use Rattle.spec_expressions.proofs.Enclosed.{IsEnclosure-constant, IsEnclosure-sum, IsEnclosure-difference, IsEnclosure-product, IsEnclosure-signed_square}
+use Rattle.spec_numbers.proofs.Naturals.{positive_product}
+use Rattle.spec_intervals.proofs.Enclosed.{IsEnclosure-constant, IsEnclosure-sum, IsEnclosure-difference, IsEnclosure-product, IsEnclosure-signed_square}
 
 pub IsFraction-decimal : (m q : ℤ) → IsFraction (decimal m q)
 IsFraction-decimal m q = one-le-pow (down q) 10 (omega arith)
@@ -21,10 +21,10 @@ module _ (exact : Leaf → ℤ → Fraction) (a b : ℤ) (numbers : (l : Leaf) �
   AllFractions-of (Vel target axis) h t p q = numbers (velocity target axis) h t p q
   AllFractions-of (Length d) h t p q = IsFraction-decimal d.mant d.exp
   AllFractions-of (Cosine d) h t p q = IsFraction-decimal d.mant d.exp
-  AllFractions-of (Add' r x s y) h t p q = IsFraction-mul _ _ (AllFractions-of x h.0 t p q) (AllFractions-of y h.1 t p q)
-  AllFractions-of (Sub' r x s y) h t p q = IsFraction-mul _ _ (AllFractions-of x h.0 t p q) (AllFractions-of y h.1 t p q)
-  AllFractions-of (Mul' r x s y) h t p q = IsFraction-mul _ _ (AllFractions-of x h.0 t p q) (AllFractions-of y h.1 t p q)
-  AllFractions-of (SignedSquare' r x) h t p q = IsFraction-mul _ _ (AllFractions-of x h t p q) (AllFractions-of x h t p q)
+  AllFractions-of (Add' r x s y) h t p q = positive_product _ _ (AllFractions-of x h.0 t p q) (AllFractions-of y h.1 t p q)
+  AllFractions-of (Sub' r x s y) h t p q = positive_product _ _ (AllFractions-of x h.0 t p q) (AllFractions-of y h.1 t p q)
+  AllFractions-of (Mul' r x s y) h t p q = positive_product _ _ (AllFractions-of x h.0 t p q) (AllFractions-of y h.1 t p q)
+  AllFractions-of (SignedSquare' r x) h t p q = positive_product _ _ (AllFractions-of x h t p q) (AllFractions-of x h t p q)
 
   module _ (ab : a ≤ℤ b) (answer : Leaf → Enclosure) (leaves : (l : Leaf) → IsLeaf l → IsEnclosure (exact l) a b (answer l)) where
     pub IsEnclosure-of : (e : Expr) → HasLeaves e → IsEnclosure (exact_of exact e) a b (enclosure_of answer a b e)

@@ -1,10 +1,4 @@
-pub mod Compare
-pub mod SquareChanges
-pub mod Centred
-pub mod Enclosed
 pub mod Induction
-pub mod Exponents
 pub mod Reach
-pub mod Offsets
-pub mod ExampleRows
 pub mod Clock
+pub mod Building

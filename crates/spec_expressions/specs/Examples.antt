@@ -3,7 +3,7 @@ use Rattle.std.specs.Prelude.{ℤ, pos, neg_ℤ}
 use Rattle.spec_text.specs.declared.decimals.Decimal.{Decimal}
 use Rattle.spec_intervals.specs.Interval.{interval, narrow}
 use Rattle.spec_intervals.specs.Fraction.{Fraction, fraction}
-use Rattle.spec_expressions.specs.Enclosure.{Enclosure, middle}
+use Rattle.spec_intervals.specs.Enclosure.{Enclosure, middle}
 use Rattle.spec_expressions.specs.Expression.{Leaf}
 
 abbrev pub clock : Leaf → ℤ → Fraction
@@ -11,9 +11,6 @@ clock leaf t = fraction t 1
 
 abbrev pub clock_over : ℤ → ℤ → Leaf → Enclosure
 clock_over a b leaf = record { mid = narrow (middle a b) (middle a b) (pos 0); range = narrow a b (pos 0); step = narrow (pos 1) (pos 1) (pos 0) }
-
-abbrev pub from_minus_three_to_minus_one : Enclosure
-from_minus_three_to_minus_one = record { mid = interval (neg_ℤ (pos 2)) (neg_ℤ (pos 2)) (pos 0); range = interval (neg_ℤ (pos 3)) (neg_ℤ (pos 1)) (pos 0); step = interval (pos 1) (pos 1) (pos 0) }
 
 -- 0.5
 abbrev pub half_of : Decimal

@@ -2,7 +2,7 @@
 use Rattle.std.specs.Prelude.{ℕ, ◌+◌, ◌<◌, ◌≤◌, ⊤, max, ℤ}
 use Rattle.spec_intervals.specs.Interval.{from_decimal, distance_exponent, cosine_exponent, IsDistance, IsCosine}
 use Rattle.spec_intervals.specs.Fraction.{Fraction, decimal, fraction_add, fraction_sub, fraction_mul, fraction_signed_square}
-use Rattle.spec_expressions.specs.Enclosure.{Enclosure, constant_of, sum_of, difference_of, product_of, signed_square_of}
+use Rattle.spec_intervals.specs.Enclosure.{Enclosure, IsEnclosure, AllFractions, AllWithin, constant_of, sum_of, difference_of, product_of, signed_square_of}
 use Rattle.spec_expressions.specs.declared.expressions.Expr.{Expr}
 use Rattle.spec_expressions.specs.declared.expressions.Expr.TheVariants.{Pos, Vel, Length, Cosine, Add', Sub', Mul', SignedSquare'}
 
@@ -15,6 +15,16 @@ pub data Leaf : Type 0 where
 abbrev pub IsLeaf : Leaf → Type 0
 IsLeaf (position target axis) = (target < 2) × (axis < 3)
 IsLeaf (velocity target axis) = (target < 2) × (axis < 3)
+
+-- ---- what is asked of the meanings of all leaves, over the times from a to b
+abbrev pub LeavesAreNumbers : (Leaf → ℤ → Fraction) → ℤ → ℤ → Type 0
+LeavesAreNumbers exact a b = (leaf : Leaf) → IsLeaf leaf → AllFractions (exact leaf) a b
+
+abbrev pub LeavesAreEnclosed : (Leaf → ℤ → Fraction) → ℤ → ℤ → (Leaf → Enclosure) → Type 0
+LeavesAreEnclosed exact a b answer = (leaf : Leaf) → IsLeaf leaf → IsEnclosure (exact leaf) a b (answer leaf)
+
+abbrev pub LeavesAreWithin : ℕ → (Leaf → Enclosure) → Type 0
+LeavesAreWithin n answer = (leaf : Leaf) → IsLeaf leaf → AllWithin n (answer leaf)
 
 -- ---- the first meaning: the exact value at a time, given that of each leaf
 abbrev pub exact_of : (Leaf → ℤ → Fraction) → Expr → ℤ → Fraction
@@ -94,3 +104,10 @@ pub record IsFormula (e : Expr) : Type 0 where
   pub nodes_within : nodes e ≤ node_limit
   pub degree_within : degree e ≤ degree_limit
   pub constants : HasConstants e
+
+-- the greatest exponents of the leaves and of every part of a formula's enclosure
+abbrev pub leaf_exponent : ℕ
+leaf_exponent = 1024
+
+abbrev pub part_exponent : ℕ
+part_exponent = 24000

@@ -1,3 +1,3 @@
-pub mod Enclosure
 pub mod Expression
 pub mod Examples
+pub mod Built

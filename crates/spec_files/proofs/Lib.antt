@@ -1,1 +1,6 @@
 pub mod Joining
+pub mod MoreLines
+pub mod MoreHeader
+pub mod MoreBlocks
+pub mod FirstFault
+pub mod Exclusions

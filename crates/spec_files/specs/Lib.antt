@@ -1,2 +1,4 @@
 pub mod Texts
 pub mod Outcome
+pub mod Files
+pub mod Reading

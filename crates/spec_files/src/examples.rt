@@ -1,6 +1,6 @@
 // Worked examples of the definitions.
 ghost use Rattle.std.specs.Prelude.{◌≡◌, [], ◌∷◌, ◌++◌, Err, None, Some, codes, replicate};
-ghost use Rattle.spec_files.specs.Outcome.{broken, outcome};
+ghost use Rattle.spec_files.specs.Outcome.{first_fault, outcome};
 ghost use Rattle.spec_files.specs.Texts.{at_end, first_cut, fault_at, joined};
 
 /// Lines keep their file and their number in it; a text may go on where the one before it ended.
@@ -13,7 +13,7 @@ pub fn texts_are_joined()
     ensures end { at_end (codes "KSIZE= 52\n\nGROUP\n" ∷ codes "1030\n " ∷ []) 22 ≡ (1, fault_at 3 22) }
 {}
 
-/// Nothing is read behind a line that is too long. A broken rule on an earlier line comes first; that texts end too early
+/// Nothing is read behind a line that is too long. A first_fault rule on an earlier line comes first; that texts end too early
 /// is their fault only at the end of all.
 #[tactic(none)]
 pub fn texts_are_refused()
@@ -22,6 +22,6 @@ pub fn texts_are_refused()
     ensures read { joined (codes "1" ∷ (codes "2\n" ++ replicate 4097 32) ∷ codes "3" ∷ [])
         ≡ record { file = 0; number = 1; words = codes "1" ∷ [] } ∷ record { file = 1; number = 1; words = codes "2" ∷ [] } ∷ [] }
     ensures early { outcome (codes "KSIZE= 52 NCOEFF= 26\n" ∷ [] ∷ []) ≡ Err (1, fault_at 1 22) }
-    ensures not_yet { broken (codes "KSIZE= 52 NCOEFF= 26\n" ∷ [] ∷ []) ≡ None }
-    ensures first { broken (codes "KSIZE= 52\n" ∷ replicate 4097 32 ∷ []) ≡ Some (0, fault_at 1 10) }
+    ensures not_yet { first_fault (codes "KSIZE= 52 NCOEFF= 26\n" ∷ [] ∷ []) ≡ None }
+    ensures first { first_fault (codes "KSIZE= 52\n" ∷ replicate 4097 32 ∷ []) ≡ Some (0, fault_at 1 10) }
 {}

@@ -8,5 +8,7 @@ mod laws;
 mod limits;
 
 pub use examples::{texts_are_joined, texts_are_refused};
-pub use laws::{broken_texts_are_refused, later_texts_follow};
+pub use laws::{
+    first_faults_stay, later_texts_follow, one_answer_is_true, texts_with_a_fault_are_refused,
+};
 pub use limits::{FILE_TOO_LARGE, MOST_FILES, TOO_MANY_FILES};

@@ -6,17 +6,19 @@ use Rattle.std.proofs.lemmas.List.{length-take-le}
 use Rattle.std.proofs.lemmas.Option.{none-some, slice_get_within}
 use Rattle.std.proofs.lemmas.Int.{ints}
 use Rattle.std.proofs.Math.Nat.{div-add-mod, mul_comm}
+use Rattle.spec_numbers.proofs.Lists.{get_take}
 use Rattle.spec_text.specs.declared.decimals.Decimal.{Decimal}
 use Rattle.spec_ephemeris.specs.Header.{AreApart, IsColumn, IsHeader, IsShared, MeetsColumnRules, column_size, is_present}
 use Rattle.spec_ephemeris.specs.declared.header.Column.{Column}
 use Rattle.spec_ephemeris.specs.declared.header.Header.{Header}
+use Rattle.spec_faults.specs.declared.numbers.TheConstants.{ENDED}
 use Rattle.spec_header.specs.ColumnRules.{columns_of, columns_row, is_out_of_place, overlap, present_column, row}
 use Rattle.spec_header.specs.HeaderLines.{header, names}
 use Rattle.spec_header.specs.HeaderRules.{emrat_from, first_line, group, is_mass_ratio, name_count, span, value_count}
-use Rattle.spec_header.specs.Sections.{FileLine, from_word}
+use Rattle.spec_sections.specs.Sections.{FileLine, from_word}
 use Rattle.spec_header.proofs.Bounds.{IsBlock, IsNcoeff, first_line_holds, span_holds, then_ratio}
-use Rattle.spec_header.proofs.ColumnsMeet.{EachMeets, apart, columns_length, first_broken, get_take, holds_also, no_overlap, row_holds, rule_holds}
-use Rattle.spec_header.proofs.Holding.{Holds, holds_ok, then_any, then_line}
+use Rattle.spec_header.proofs.ColumnsMeet.{EachMeets, apart, columns_length, first_broken, no_overlap, row_holds, rule_holds}
+use Rattle.spec_sections.proofs.Holding.{holds_also, Holds, holds_ok, then_any, then_line}
 use Rattle.spec_header.proofs.Ratios.{mass_ratio_is}
 
 module _ (n s : ℕ) (d : Decimal) (cs : List Column) (each : EachMeets n s [] cs) where
@@ -103,21 +105,21 @@ columns_hold n s starts coefs words starts_is coefs_is =
 pub accepted : (lines : List FileLine) → Holds IsAccepted (header lines)
 unfolding header
 accepted lines =
-    then_line IsAccepted first_line lines _ (λ w0 ncoeff ncoeff_is.
-    then_line IsAccepted (group (codes "1010") 1010) ncoeff.1 _ (λ w1 titles titles_is.
-    then_line IsAccepted (group (codes "1030") 1030) (from_word (codes "GROUP") titles.1) _ (λ w2 dates dates_is.
-    then_line IsAccepted span dates.1 _ (λ w3 block block_is.
-    then_line IsAccepted (group (codes "1040") 1040) block.1 _ (λ w4 constants constants_is.
-    then_line IsAccepted name_count constants.1 _ (λ w5 count count_is.
+    then_line IsAccepted ENDED first_line lines _ (λ w0 ncoeff ncoeff_is.
+    then_line IsAccepted ENDED (group (codes "1010") 1010) ncoeff.1 _ (λ w1 titles titles_is.
+    then_line IsAccepted ENDED (group (codes "1030") 1030) (from_word (codes "GROUP") titles.1) _ (λ w2 dates dates_is.
+    then_line IsAccepted ENDED span dates.1 _ (λ w3 block block_is.
+    then_line IsAccepted ENDED (group (codes "1040") 1040) block.1 _ (λ w4 constants constants_is.
+    then_line IsAccepted ENDED name_count constants.1 _ (λ w5 count count_is.
     then_any IsAccepted (names count.0 count.1) _ (λ named named_is.
-    then_line IsAccepted (group (codes "1041") 1041) named.1 _ (λ w6 values values_is.
-    then_line IsAccepted (value_count count.0 (emrat_from 0 named.0)) values.1 _ (λ w7 place place_is.
+    then_line IsAccepted ENDED (group (codes "1041") 1041) named.1 _ (λ w6 values values_is.
+    then_line IsAccepted ENDED (value_count count.0 (emrat_from 0 named.0)) values.1 _ (λ w7 place place_is.
     then_ratio IsAccepted _ (λ emrat emrat_is.
-    then_line IsAccepted (group (codes "1050") 1050) emrat.1 _ (λ w8 places places_is.
-    then_line IsAccepted row places.1 _ (λ w9 starts starts_is.
-    then_line IsAccepted row starts.1 _ (λ w10 coefs coefs_is.
-    then_line IsAccepted (columns_row ncoeff.0 block.0 starts.0 coefs.0) coefs.1 _ (λ w11 columns columns_is.
-    then_line IsAccepted (group (codes "1070") 1070) columns.1 _ (λ w12 end end_is.
+    then_line IsAccepted ENDED (group (codes "1050") 1050) emrat.1 _ (λ w8 places places_is.
+    then_line IsAccepted ENDED row places.1 _ (λ w9 starts starts_is.
+    then_line IsAccepted ENDED row starts.1 _ (λ w10 coefs coefs_is.
+    then_line IsAccepted ENDED (columns_row ncoeff.0 block.0 starts.0 coefs.0) coefs.1 _ (λ w11 columns columns_is.
+    then_line IsAccepted ENDED (group (codes "1070") 1070) columns.1 _ (λ w12 end end_is.
     let some = holds_ok (λ ns. length ns ≡ 13) (row w9) starts.0 starts_is (row_holds w9) in
     let more = holds_ok (λ ns. length ns ≡ 13) (row w10) coefs.0 coefs_is (row_holds w10) in
     let met = holds_ok _ (columns_row ncoeff.0 block.0 starts.0 coefs.0 w11) columns.0 columns_is (columns_hold ncoeff.0 block.0 starts.0 coefs.0 w11 some more) in

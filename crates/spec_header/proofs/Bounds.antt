@@ -2,13 +2,16 @@
 use Rattle.std.proofs.Common.{◌≡◌, ℕ, ◌*◌, ◌≤◌, Bool, true, false, List, Option, None, Some, Result, Ok, Err, inl, inr, arith, ne_eqb, if◌then◌else◌, pos}
 use Rattle.std.specs.Prelude.{int_lt, slice_get}
 use Rattle.std.proofs.lemmas.Bool.{cases_Bool, cases_eq, cases_lt, lt-ltb, le-ltb}
-use Rattle.spec_text.specs.Reading.{reading}
+use Rattle.spec_text.specs.Reading.{reading, whole_at}
 use Rattle.spec_text.specs.declared.decimals.Decimal.{Decimal}
 use Rattle.spec_text.specs.declared.decimals.NumberFault.{NumberFault}
 use Rattle.spec_header.specs.HeaderLines.{mass_ratio_among, mass_ratio_at}
-use Rattle.spec_header.specs.HeaderRules.{block_length, decimal_at, decimal_by, first_line, is_mass_ratio, mass_ratio_of, ncoeff_of, not_none, seconds_within, span, whole_at, within_days, seconds_of_days}
-use Rattle.spec_header.specs.Sections.{FileLine, FileWord, Stop, ◌>>=◌, at_line, behind_words, first_words}
-use Rattle.spec_header.proofs.Holding.{Holds, holds_ok, then_any}
+use Rattle.spec_header.specs.HeaderRules.{block_length, days_by, decimal_at, decimal_by, first_line, is_mass_ratio, mass_ratio_of, ncoeff_of, not_none, span}
+use Rattle.spec_text.specs.Days.{seconds_of_julian_date, seconds_within}
+use Rattle.spec_text.proofs.Spans.{seconds_few}
+use Rattle.spec_text.specs.declared.days.DaysFault.{DaysFault}
+use Rattle.spec_sections.specs.Sections.{FileLine, FileWord, Stop, ◌>>=◌, at_line, after_words, first_words}
+use Rattle.spec_sections.proofs.Holding.{Holds, holds_ok, then_any}
 
 abbrev pub IsNcoeff : ℕ → Type 0
 IsNcoeff n = (3 ≤ n) × (n ≤ 4096)
@@ -39,37 +42,34 @@ some_seconds s most = elim (cases_eq s 0) [
   | inr some ↦ rw (ne_eqb s 0 some) (omega (arith, some), most)
 ]
 
-within_holds : (d : Decimal) (o : Option ℕ) → Holds (λ s. s ≤ 2764800) (within_days 32 d o)
-within_holds d None = tt
-within_holds d (Some s) = elim (cases_Bool (int_lt d.mant (pos 0))) [
-  | inl negative ↦ rw negative tt
-  | inr positive ↦ elim (cases_lt (86400 * 32) s) [
-    | inl many ↦ rw (positive, lt-ltb (86400 * 32) s many) tt
-    | inr most ↦ rw (positive, le-ltb (86400 * 32) s most) most
-  ]
-]
+days_hold : (Q : ℕ → Type 0) (r : Result ℕ DaysFault) → Holds Q r → Holds Q (days_by r)
+days_hold Q (Ok s) holds = holds
+days_hold Q (Err fault) holds = tt
 
 block_holds : (d : Decimal) → Holds IsBlock (block_length d)
-block_holds d = then_any IsBlock (seconds_within 32 d) not_none (λ s is. some_seconds s (holds_ok (λ s. s ≤ 2764800) (seconds_within 32 d) s is (within_holds d (seconds_of_days d))))
+block_holds d =
+    then_any IsBlock (days_by (seconds_within 32 d)) not_none (λ s is.
+    some_seconds s (holds_ok (λ s. s ≤ 2764800) (days_by (seconds_within 32 d)) s is
+    (days_hold (λ s. s ≤ 2764800) (seconds_within 32 d) (seconds_few 32 d))))
 
 pub span_holds : (words : List (List ℕ)) → Holds IsBlock (span words)
 span_holds words =
     then_any IsBlock (decimal_at (slice_get words 0)) _ (λ start a.
-    then_any IsBlock (seconds_within 5000000 start) _ (λ first b.
+    then_any IsBlock (days_by (seconds_of_julian_date start)) _ (λ first b.
     then_any IsBlock (decimal_at (slice_get words 1)) _ (λ final c.
-    then_any IsBlock (seconds_within 5000000 final) _ (λ last e.
+    then_any IsBlock (days_by (seconds_of_julian_date final)) _ (λ last e.
     then_any IsBlock (decimal_at (slice_get words 2)) _ (λ days f. block_holds days)))))
 
 module _ {B : Type 0} (Q : B → Type 0) (k : Decimal × List FileLine → Result B Stop) (all : (x : Decimal × List FileLine) → is_mass_ratio x.0 ≡ true → Holds Q (k x)) where
-  behind_ratio : (d : Decimal) (b : Result (List FileLine) Stop) → is_mass_ratio d ≡ true → Holds Q ((b >>= λ rest. Ok (d, rest)) >>= k)
-  behind_ratio d (Ok rest) is = all (d, rest) is
-  behind_ratio d (Err e) is = tt
+  after_ratio : (d : Decimal) (b : Result (List FileLine) Stop) → is_mass_ratio d ≡ true → Holds Q ((b >>= λ rest. Ok (d, rest)) >>= k)
+  after_ratio d (Ok rest) is = all (d, rest) is
+  after_ratio d (Err e) is = tt
 
   read_ratio : (file line : ℕ) (r : Result Decimal NumberFault) (b : Result (List FileLine) Stop)
       → Holds Q ((at_line file line (decimal_by r >>= mass_ratio_of) >>= λ d. b >>= λ rest. Ok (d, rest)) >>= k)
   read_ratio file line (Err f) b = tt
   read_ratio file line (Ok d) b = elim (cases_Bool (is_mass_ratio d)) [
-    | inl is ↦ rw is (behind_ratio d b is)
+    | inl is ↦ rw is (after_ratio d b is)
     | inr other ↦ rw other tt
   ]
 
@@ -78,4 +78,4 @@ module _ {B : Type 0} (Q : B → Type 0) (k : Decimal × List FileLine → Resul
   ratio_at (Some word) b = read_ratio word.file word.line (reading word.text) b
 
   pub then_ratio : (n place : ℕ) (lines : List FileLine) → Holds Q (mass_ratio_among n place lines >>= k)
-  then_ratio n place lines = ratio_at (slice_get (first_words n lines) place) (behind_words 22 n lines)
+  then_ratio n place lines = ratio_at (slice_get (first_words n lines) place) (after_words 22 n lines)

@@ -4,10 +4,9 @@ use Rattle.spec_text.specs.Reading.{whole_of}
 use Rattle.spec_ephemeris.specs.declared.header.Column.{Column}
 use Rattle.spec_ephemeris.specs.declared.limits.TheConstants.{COLUMNS, FIRST_PLACE, MOST_COEFFICIENTS}
 use Rattle.spec_ephemeris.specs.Header.{column_size, is_present}
-use Rattle.spec_header.specs.declared.rules.BrokenRule.{BrokenRule}
-use Rattle.spec_header.specs.declared.rules.TheConstants.{COLUMN_COUNT, COLUMN_PLACE, COEFFICIENT_COUNT, GRANULE_NOT_WHOLE, HEADER_NUMBER}
-use Rattle.spec_header.specs.HeaderRules.{broken}
-use Rattle.spec_header.specs.Sections.{◌>>=◌}
+use Rattle.spec_sections.specs.declared.rules.BrokenRule.{BrokenRule}
+use Rattle.spec_faults.specs.declared.numbers.TheConstants.{COLUMN_COUNT, COLUMN_PLACE, COEFFICIENT_COUNT, GRANULE_NOT_WHOLE, HEADER_NUMBER}
+use Rattle.spec_sections.specs.Sections.{broken, ◌>>=◌}
 
 abbrev pub whole_number : Option ℕ → Result ℕ BrokenRule
 whole_number None = Err (broken HEADER_NUMBER 1)

@@ -4,7 +4,7 @@ use Rattle.spec_text.specs.Bytes.{line_feed}
 use Rattle.spec_text.specs.declared.decimals.Fault.{Fault}
 use Rattle.spec_ephemeris.specs.declared.header.Column.{Column}
 use Rattle.spec_ephemeris.specs.declared.header.Header.{Header}
-use Rattle.spec_header.specs.Sections.{FileLine}
+use Rattle.spec_sections.specs.Sections.{FileLine}
 
 -- blocks of 26 numbers and 32 days, with the columns of Mercury, the barycentre, the Moon and the Sun
 abbrev pub rows : List (List ℕ)

@@ -1,22 +1,17 @@
 -- The rules of the lines of a header, each on the words of one line, with the first rule that is broken from left to right.
-use Rattle.std.specs.Prelude.{ℕ, suc, ◌*◌, ◌/◌, ◌%◌, ◌^◌, ◌==◌, ◌&&◌, ◌||◌, nat_lt, nat_le, int_lt, unsigned_abs, pos, Bool, List, [], ◌∷◌, length, slice_get, Option, None, Some, Result, Ok, Err, codes, if◌then◌else◌}
+use Rattle.std.specs.Prelude.{ℕ, suc, ◌*◌, ◌==◌, ◌&&◌, ◌||◌, nat_lt, nat_le, int_lt, pos, Bool, List, [], ◌∷◌, length, slice_get, Option, None, Some, Result, Ok, Err, codes, if◌then◌else◌}
 use Rattle.std.specs.Str.{bytes_eq}
-use borrow.Author.Differences.{up, down}
-use Rattle.spec_text.specs.Reading.{fault_number, reading, whole_of}
+use Rattle.spec_text.specs.Days.{seconds_of_julian_date, seconds_within, size_over, size_under}
+use Rattle.spec_text.specs.Reading.{fault_number, reading, whole_at}
+use Rattle.spec_text.specs.declared.days.DaysFault.{DaysFault}
+use Rattle.spec_text.specs.declared.days.DaysFault.TheVariants.{NotWholeSecond, OutOfRange}
 use Rattle.spec_text.specs.declared.decimals.Decimal.{Decimal}
 use Rattle.spec_text.specs.declared.decimals.NumberFault.{NumberFault}
 use Rattle.spec_ephemeris.specs.declared.limits.TheConstants.{FEWEST_NUMBERS, MOST_NUMBERS, LEAST_MASS_RATIO, GREATEST_MASS_RATIO}
-use Rattle.spec_header.specs.declared.rules.BrokenRule.{BrokenRule}
-use Rattle.spec_header.specs.declared.rules.TheConstants.{FIRST_LINE, GROUP_MISSING, JD_NOT_WHOLE_SECOND, COUNT_MISMATCH, EMRAT_MISSING, EMRAT_RANGE, LIMIT, HEADER_NUMBER, LAST_JULIAN_DAY, MOST_BLOCK_DAYS, MOST_CONSTANTS}
-use Rattle.spec_header.specs.Sections.{◌>>=◌, is_word}
-
-abbrev pub broken : ℕ → ℕ → BrokenRule
-broken number detail = record { number = number; detail = detail }
-
--- the whole number at a place of a line, if one stands there
-abbrev pub whole_at : Option (List ℕ) → Option ℕ
-whole_at None = None
-whole_at (Some word) = whole_of word
+use Rattle.spec_faults.specs.declared.numbers.TheConstants.{FIRST_LINE, GROUP_MISSING, JD_NOT_WHOLE_SECOND, COUNT_MISMATCH, EMRAT_MISSING, EMRAT_RANGE, LIMIT, HEADER_NUMBER}
+use Rattle.spec_header.specs.declared.limits.TheConstants.{MOST_BLOCK_DAYS, MOST_CONSTANTS}
+use Rattle.spec_sections.specs.declared.rules.BrokenRule.{BrokenRule}
+use Rattle.spec_sections.specs.Sections.{◌>>=◌, broken, is_word}
 
 -- NCOEFF is from 3 to 4,096
 abbrev pub ncoeff_of : Option ℕ → Result ℕ BrokenRule
@@ -44,43 +39,28 @@ abbrev pub decimal_at : Option (List ℕ) → Result Decimal BrokenRule
 decimal_at None = Err (broken HEADER_NUMBER 1)
 decimal_at (Some word) = decimal_by (reading word)
 
--- the size of a decimal is size_over / size_under
-abbrev pub size_over : Decimal → ℕ
-size_over d = unsigned_abs d.mant * 10 ^ up d.exp
+abbrev pub days_rule : DaysFault → BrokenRule
+days_rule NotWholeSecond = broken JD_NOT_WHOLE_SECOND 0
+days_rule OutOfRange = broken LIMIT 0
 
-abbrev pub size_under : Decimal → ℕ
-size_under d = 10 ^ down d.exp
-
-abbrev pub quotient : ℕ → ℕ → Option ℕ
-quotient n m = if n % m == 0 then Some (n / m) else None
-
--- so many days, whatever their sign, in seconds, if these are a whole number. J2000 is a whole number of days, so a
--- Julian date is a whole number of seconds from J2000 on exactly where it is one from day 0 on.
-abbrev pub seconds_of_days : Decimal → Option ℕ
-seconds_of_days d = quotient (86400 * size_over d) (size_under d)
-
-abbrev pub within_days : ℕ → Decimal → Option ℕ → Result ℕ BrokenRule
-within_days most d None = Err (broken JD_NOT_WHOLE_SECOND 0)
-within_days most d (Some seconds) = if int_lt d.mant (pos 0) || nat_lt (86400 * most) seconds then Err (broken LIMIT 0) else Ok seconds
-
--- a number of days, from 0 to this one, in seconds
-abbrev pub seconds_within : ℕ → Decimal → Result ℕ BrokenRule
-seconds_within most d = within_days most d (seconds_of_days d)
+abbrev pub days_by : Result ℕ DaysFault → Result ℕ BrokenRule
+days_by (Ok seconds) = Ok seconds
+days_by (Err fault) = Err (days_rule fault)
 
 abbrev pub not_none : ℕ → Result ℕ BrokenRule
 not_none seconds = if seconds == 0 then Err (broken LIMIT 0) else Ok seconds
 
 -- the days of a block, from one second to 32 days, in seconds
 abbrev pub block_length : Decimal → Result ℕ BrokenRule
-block_length days = seconds_within MOST_BLOCK_DAYS days >>= not_none
+block_length days = days_by (seconds_within MOST_BLOCK_DAYS days) >>= not_none
 
 -- three decimals: the first and the last Julian date, and the days of a block, whose seconds are told
 abbrev pub span : List (List ℕ) → Result ℕ BrokenRule
 span words = do
   start ← decimal_at (slice_get words 0)
-  first ← seconds_within LAST_JULIAN_DAY start
+  first ← days_by (seconds_of_julian_date start)
   final ← decimal_at (slice_get words 1)
-  last ← seconds_within LAST_JULIAN_DAY final
+  last ← days_by (seconds_of_julian_date final)
   days ← decimal_at (slice_get words 2)
   block_length days
 

@@ -1,4 +1,3 @@
-pub mod Sections
 pub mod HeaderRules
 pub mod ColumnRules
 pub mod HeaderLines

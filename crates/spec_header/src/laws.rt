@@ -3,7 +3,7 @@ ghost use Rattle.std.specs.Prelude.{◌≡◌, List, Ok};
 ghost use Rattle.spec_ephemeris.specs.Header.{IsHeader};
 ghost use Rattle.spec_ephemeris.specs.declared.header.Header.{Header};
 ghost use Rattle.spec_header.specs.HeaderLines.{header};
-ghost use Rattle.spec_header.specs.Sections.{FileLine};
+ghost use Rattle.spec_sections.specs.Sections.{FileLine};
 
 /// The header of an accepted list of lines meets the rules of a header.
 pub fn accepted_headers_meet_the_rules()

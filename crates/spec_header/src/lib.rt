@@ -4,16 +4,14 @@
 #![tactic(auto)]
 
 mod examples;
+mod facts;
 mod laws;
-mod rules;
+mod limits;
 
 pub use examples::{
     a_header_is_read, some_words_are_passed_over, the_columns_are_refused,
     the_constants_are_refused, the_first_lines_are_refused,
 };
+pub use facts::{BlockShape, Facts};
 pub use laws::accepted_headers_meet_the_rules;
-pub use rules::{
-    BrokenRule, COEFFICIENT_COUNT, COLUMN_COUNT, COLUMN_PLACE, COUNT_MISMATCH, EMRAT_MISSING,
-    EMRAT_RANGE, ENDED, FIRST_LINE, GRANULE_NOT_WHOLE, GROUP_MISSING, HEADER_NUMBER,
-    JD_NOT_WHOLE_SECOND, LAST_JULIAN_DAY, LIMIT, LINE_TOO_LONG, MOST_BLOCK_DAYS, MOST_CONSTANTS,
-};
+pub use limits::{MOST_BLOCK_DAYS, MOST_CONSTANTS};

@@ -2,17 +2,16 @@
 use Rattle.std.proofs.Common.{◌≡◌, ℕ, ◌*◌, ◌^◌, ◌<◌, ◌≤◌, arith, ap, [], ◌∷◌, ℤ, pos, ◌*ℤ◌, ◌≤ℤ◌}
 use Rattle.std.proofs.Math.Nat.{one-le-pow, mul_comm}
 use borrow.Author.Differences.{up, down}
-use Rattle.spec_intervals.specs.Interval.{floor_div, ceil_div, from_decimal, decimal_top, decimal_bottom}
+use Rattle.spec_numbers.specs.Numbers.{floor_div, ceil_div}
+use Rattle.spec_intervals.specs.Interval.{from_decimal, decimal_top, decimal_bottom}
 use Rattle.spec_intervals.specs.Fraction.{Holds, decimal}
-use Rattle.spec_intervals.proofs.Ring.{v, ◌⊗◌, ring}
-use Rattle.spec_intervals.proofs.Order.{lin}
-use Rattle.spec_intervals.proofs.Floor.{floor_div-le, ceil_div-ge}
-
-positive : (a b : ℕ) → 1 ≤ a → 1 ≤ b → 0 < a * b
-positive a b p q = grind arith
+use Rattle.spec_numbers.proofs.Ring.{v, ◌⊗◌, ring}
+use Rattle.spec_numbers.proofs.Naturals.{positive_product}
+use Rattle.spec_numbers.proofs.Order.{lin}
+use Rattle.spec_numbers.proofs.Floor.{floor_div-le, ceil_div-ge}
 
 pub bottom_pos : (q s : ℤ) → 0 < decimal_bottom q s
-bottom_pos q s = positive (10 ^ down q) (2 ^ up s) (one-le-pow (down q) 10 (omega arith)) (one-le-pow (up s) 2 (omega arith))
+bottom_pos q s = positive_product (10 ^ down q) (2 ^ up s) (one-le-pow (down q) 10 (omega arith)) (one-le-pow (up s) 2 (omega arith))
 
 turned : (z : ℤ) (a b : ℕ) → z *ℤ pos (a * b) ≡ z *ℤ pos (b * a)
 turned z a b = ap (λ n. z *ℤ pos n) (mul_comm a b)

@@ -3,12 +3,21 @@ use Rattle.std.proofs.Common.{◌≡◌, ℕ, zero, suc, ◌+◌, ◌*◌, ◌^�
 use Rattle.std.proofs.lemmas.Int.{ints}
 use Rattle.std.proofs.lemmas.Nat.{pow-add, pow_pos}
 use borrow.Author.Differences.{up, down}
-use Rattle.spec_intervals.specs.Interval.{end_limit, IsIval, zero_end, floor_div, ceil_div, fits_after, first_fit, narrow_shift, settled, narrow_by, narrow}
+use Rattle.spec_intervals.specs.Interval.{end_limit, IsIval, is_small, zero_end, fits_after, first_fit, narrow_shift, settled, narrow_by, narrow}
+use Rattle.spec_numbers.specs.Numbers.{floor_div, ceil_div}
 use Rattle.spec_intervals.specs.Fraction.{Fraction, Holds, AtMost, AtLeast}
-use Rattle.spec_intervals.proofs.Ring.{v, ◌⊗◌, minus, ring}
-use Rattle.spec_intervals.proofs.Order.{lin, le-mul, le-mul_cancel}
-use Rattle.spec_intervals.proofs.Floor.{floor_div-small, ceil_div-small, is_small-from, is_small-both, floor_div-le, ceil_div-ge, ordered_quotients}
+use Rattle.spec_numbers.proofs.Ring.{v, ◌⊗◌, minus, ring}
+use Rattle.spec_numbers.proofs.Order.{lin, le-mul, le-mul_cancel}
+use Rattle.spec_numbers.proofs.Floor.{floor_div-small, ceil_div-small, floor_div-le, ceil_div-ge, ordered_quotients}
+use Rattle.spec_numbers.proofs.Booleans.{both_true}
+use Rattle.std.proofs.lemmas.Bool.Decides.{nat_tests}
 use Rattle.std.proofs.lemmas.Bool.{false≢true, cases_lt}
+
+pub is_small-from : (z : ℤ) → unsigned_abs z ≤ end_limit → is_small z ≡ true
+is_small-from z h = grind (arith, nat_tests)
+
+pub is_small-both : (x y : ℤ) → (is_small x && is_small y) ≡ true → (unsigned_abs x ≤ end_limit) × (unsigned_abs y ≤ end_limit)
+is_small-both x y t = grind (arith, nat_tests)
 
 pub first_fit-is : (n k m : ℕ) (lo hi : ℤ) → k ≤ m → m ≤ k + n → fits_after m lo hi ≡ true → ((j : ℕ) → k ≤ j → j < m → fits_after j lo hi ≡ false) → first_fit n k lo hi ≡ m
 unfolding first_fit
@@ -25,9 +34,6 @@ first_fit-is (suc n) k m lo hi p q t f =
 lt-pow : (n : ℕ) → n < 2 ^ n
 lt-pow zero = omega arith
 lt-pow (suc n) = let p : n < 2 ^ n = lt-pow n in omega arith
-
-both_true : (a b : Bool) → a ≡ true → b ≡ true → (a && b) ≡ true
-both_true a b p q = rw (p, q)
 
 -- ends of at most 2^62 * 2^k fit after k halvings, and ends in order that fit after k are no greater
 pub sizes-fit : (k : ℕ) (lo hi : ℤ) → unsigned_abs lo ≤ end_limit * 2 ^ k → unsigned_abs hi ≤ end_limit * 2 ^ k → fits_after k lo hi ≡ true
@@ -102,6 +108,13 @@ pub narrow_shift-least : (lo hi : ℤ) (k : ℕ) → k < narrow_shift lo hi → 
 unfolding narrow_shift
 narrow_shift-least lo hi k h =
     first_fit-least (unsigned_abs lo + unsigned_abs hi) 0 lo hi k (omega arith) h
+
+pub narrow_shift-le : (m : ℕ) (lo hi : ℤ) → fits_after m lo hi ≡ true → narrow_shift lo hi ≤ m
+narrow_shift-le m lo hi enough = by (cases_lt m (narrow_shift lo hi))
+  where
+    by : (m < narrow_shift lo hi) ⊎ (narrow_shift lo hi ≤ m) → narrow_shift lo hi ≤ m
+    by (inl less) = absurd (false≢true (sym (narrow_shift-least lo hi m less) ∙ enough))
+    by (inr at_most) = at_most
 
 -- what is narrowed is an interval of the code
 zero_ends : (lo hi : ℤ) → (zero_end lo && zero_end hi) ≡ true → (lo ≡ pos 0) × (hi ≡ pos 0)

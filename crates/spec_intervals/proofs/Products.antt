@@ -1,60 +1,15 @@
 -- The product of two intervals holds the product of what they hold.
-use Rattle.std.proofs.Common.{◌≡◌, ℕ, ◌+◌, ◌*◌, ◌^◌, arith, sym, ap, ◌∙◌, [], ◌∷◌, ℤ, pos, negsuc, ◌+ℤ◌, ◌*ℤ◌, neg_ℤ, ◌≤ℤ◌, ◌⊎◌, inl, inr}
+use Rattle.std.proofs.Common.{◌≡◌, ℕ, ◌+◌, ◌*◌, ◌^◌, arith, sym, ap, ◌∙◌, [], ◌∷◌, ℤ, pos, ◌+ℤ◌, ◌*ℤ◌, ◌≤ℤ◌}
 use Rattle.std.proofs.lemmas.Int.{ints, clamps}
 use Rattle.std.proofs.lemmas.Nat.{pow-add}
 use Rattle.std.specs.Int.{int_min, int_max}
 use borrow.Author.Differences.{up, down}
 use Rattle.spec_intervals.specs.Interval.{Interval, narrow, least4, greatest4, product}
 use Rattle.spec_intervals.specs.Fraction.{Fraction, Holds, AtMost, AtLeast, fraction_mul}
-use Rattle.spec_intervals.proofs.Ring.{v, ◌⊗◌, minus, ring}
-use Rattle.spec_intervals.proofs.Order.{lin, le-mul}
+use Rattle.spec_numbers.proofs.Corners.{corner_low, corner_high}
+use Rattle.spec_numbers.proofs.Ring.{v, ◌⊗◌, ring}
+use Rattle.spec_numbers.proofs.Order.{lin, le-mul}
 use Rattle.spec_intervals.proofs.Narrow.{rescale_low, rescale_high, Holds-narrow}
-
-pub sign_cases : (z : ℤ) → (pos 0 ≤ℤ z) ⊎ (z ≤ℤ pos 0)
-sign_cases (pos n) = inl (omega (arith, lin))
-sign_cases (negsuc n) = inr (omega (arith, lin))
-
--- from here on `a * c` grows with a where c >= 0, and falls where c <= 0
-le-mul_neg : (a b c : ℤ) → c ≤ℤ pos 0 → a ≤ℤ b → (b *ℤ c) ≤ℤ (a *ℤ c)
-le-mul_neg a b c h q =
-    let p : (a *ℤ neg_ℤ c) ≤ℤ (b *ℤ neg_ℤ c) = le-mul a b (neg_ℤ c) (omega (arith, lin)) q in
-    let e : a *ℤ neg_ℤ c ≡ neg_ℤ (a *ℤ c) = ring (a ∷ c ∷ []) (v 0 ⊗ minus (v 1)) (minus (v 0 ⊗ v 1)) tt in
-    let f : b *ℤ neg_ℤ c ≡ neg_ℤ (b *ℤ c) = ring (b ∷ c ∷ []) (v 0 ⊗ minus (v 1)) (minus (v 0 ⊗ v 1)) tt in
-    omega (arith, lin)
-
-comm : (a b : ℤ) → a *ℤ b ≡ b *ℤ a
-comm a b = ring (a ∷ b ∷ []) (v 0 ⊗ v 1) (v 1 ⊗ v 0) tt
-
--- a bound of the products with both ends is a bound of each product between
-between_low : (m x c d y : ℤ) → c ≤ℤ y → y ≤ℤ d → m ≤ℤ (x *ℤ c) → m ≤ℤ (x *ℤ d) → m ≤ℤ (x *ℤ y)
-between_low m x c d y p q r s = by (sign_cases x)
-  where
-    by : (pos 0 ≤ℤ x) ⊎ (x ≤ℤ pos 0) → m ≤ℤ (x *ℤ y)
-    by (inl h) =
-        let g : (c *ℤ x) ≤ℤ (y *ℤ x) = le-mul c y x h p in
-        let e : c *ℤ x ≡ x *ℤ c = comm c x in
-        let f : y *ℤ x ≡ x *ℤ y = comm y x in omega (arith, lin)
-    by (inr h) =
-        let g : (d *ℤ x) ≤ℤ (y *ℤ x) = le-mul_neg y d x h q in
-        let e : d *ℤ x ≡ x *ℤ d = comm d x in
-        let f : y *ℤ x ≡ x *ℤ y = comm y x in omega (arith, lin)
-
-pub corner_low : (m a b c d x y : ℤ) → a ≤ℤ x → x ≤ℤ b → c ≤ℤ y → y ≤ℤ d → m ≤ℤ (a *ℤ c) → m ≤ℤ (a *ℤ d) → m ≤ℤ (b *ℤ c) → m ≤ℤ (b *ℤ d) → m ≤ℤ (x *ℤ y)
-corner_low m a b c d x y p q r s ac ad bc bd =
-    let low : m ≤ℤ (a *ℤ y) = between_low m a c d y r s ac ad in
-    let high : m ≤ℤ (b *ℤ y) = between_low m b c d y r s bc bd in
-    let e : y *ℤ a ≡ a *ℤ y = comm y a in
-    let f : y *ℤ b ≡ b *ℤ y = comm y b in
-    let g : y *ℤ x ≡ x *ℤ y = comm y x in
-    let h : m ≤ℤ (y *ℤ x) = between_low m y a b x p q (omega (arith, lin)) (omega (arith, lin)) in
-    omega (arith, lin)
-
-pub corner_high : (m a b c d x y : ℤ) → a ≤ℤ x → x ≤ℤ b → c ≤ℤ y → y ≤ℤ d → (a *ℤ c) ≤ℤ m → (a *ℤ d) ≤ℤ m → (b *ℤ c) ≤ℤ m → (b *ℤ d) ≤ℤ m → (x *ℤ y) ≤ℤ m
-corner_high m a b c d x y p q r s ac ad bc bd =
-    let e : (w z : ℤ) → neg_ℤ w *ℤ z ≡ neg_ℤ (w *ℤ z) = λ w z. ring (w ∷ z ∷ []) (minus (v 0) ⊗ v 1) (minus (v 0 ⊗ v 1)) tt in
-    let h : neg_ℤ m ≤ℤ (neg_ℤ x *ℤ y) = corner_low (neg_ℤ m) (neg_ℤ b) (neg_ℤ a) c d (neg_ℤ x) y (omega (arith, lin)) (omega (arith, lin)) r s (rw (e b c) (omega (arith, lin))) (rw (e b d) (omega (arith, lin))) (rw (e a c) (omega (arith, lin))) (rw (e a d) (omega (arith, lin))) in
-    let g : neg_ℤ x *ℤ y ≡ neg_ℤ (x *ℤ y) = e x y in
-    omega (arith, lin)
 
 pub least4-le : (a b c d : ℤ) → (least4 a b c d ≤ℤ (a *ℤ c)) × (least4 a b c d ≤ℤ (a *ℤ d)) × (least4 a b c d ≤ℤ (b *ℤ c)) × (least4 a b c d ≤ℤ (b *ℤ d))
 least4-le a b c d = least_of (a *ℤ c) (a *ℤ d) (b *ℤ c) (b *ℤ d)

@@ -5,12 +5,15 @@ use Rattle.std.proofs.lemmas.Nat.{pow_pos}
 use Rattle.std.specs.Int.{int_min, int_max}
 use borrow.Author.Differences.{up, down}
 use lib.Signed.{le_z}
-use Rattle.spec_intervals.proofs.Ring.{v, k as lit, ◌⊕◌, ◌⊖◌, ◌⊗◌, minus, ring}
-use Rattle.spec_intervals.proofs.Order.{lin, le-mul, le-mul_cancel}
-use Rattle.spec_intervals.proofs.Floor.{floor_div-le, ceil_div-ge}
+use Rattle.spec_numbers.proofs.Ring.{v, k as lit, ◌⊕◌, ◌⊖◌, ◌⊗◌, minus, ring}
+use Rattle.spec_numbers.proofs.Naturals.{positive_product}
+use Rattle.spec_numbers.proofs.Order.{lin, le-mul, le-mul_cancel}
+use Rattle.spec_numbers.proofs.Floor.{floor_div-le, ceil_div-ge}
 use Rattle.spec_intervals.specs.Fraction.{Fraction, IsFraction, Holds, AtMost, AtLeast, fraction_add, fraction_sub, fraction_scale, Overlaps}
+use Rattle.spec_intervals.proofs.Compare.{AtMost-less, AtLeast-more}
 use Rattle.spec_intervals.proofs.Narrow.{low-floor, high-ceil, Holds-narrow}
-use Rattle.spec_intervals.specs.Interval.{Interval, floor_div, ceil_div, surplus, lift, aligned_lower, aligned_upper, negated, difference, join_up, join, meet_up, meet, scale}
+use Rattle.spec_intervals.specs.Interval.{Interval, surplus, lift, aligned_lower, aligned_upper, negated, difference, join_up, join, meet_up, meet, scale}
+use Rattle.spec_numbers.specs.Numbers.{floor_div, ceil_div}
 use Rattle.std.specs.Prelude.{if◌then◌else◌}
 use Rattle.spec_intervals.proofs.Sums.{Holds-sum, lift_low, lift_high, meets}
 
@@ -58,15 +61,6 @@ module _ (x y : Interval) (r : Fraction) (h : x.s ≤ℤ y.s) where
 
   pub lowered-high : Holds y r → AtLeast (aligned_upper x y).hi (aligned_lower x y).s r
   lowered-high q = lift_high y.hi y.s (x.s +ℤ pos (surplus x y)) (lift x y) r (meets x.s y.s h) q.high
-
--- an end further out bounds no less
-AtMost-less : (w z s : ℤ) (r : Fraction) → w ≤ℤ z → AtMost z s r → AtMost w s r
-AtMost-less w z s r h g =
-    let x : (w *ℤ pos (2 ^ up s * r.denominator)) ≤ℤ (z *ℤ pos (2 ^ up s * r.denominator)) = le-mul w z (pos (2 ^ up s * r.denominator)) (omega (arith, lin)) h in omega (arith, lin)
-
-AtLeast-more : (z w s : ℤ) (r : Fraction) → z ≤ℤ w → AtLeast z s r → AtLeast w s r
-AtLeast-more z w s r h g =
-    let x : (z *ℤ pos (2 ^ up s * r.denominator)) ≤ℤ (w *ℤ pos (2 ^ up s * r.denominator)) = le-mul z w (pos (2 ^ up s * r.denominator)) (omega (arith, lin)) h in omega (arith, lin)
 
 min_bounds : (p q : ℤ) → (int_min p q ≤ℤ p) × (int_min p q ≤ℤ q)
 min_bounds p q = omega (arith, ints, clamps)
@@ -141,12 +135,9 @@ Holds-meet x y r p q = by (le_z x.s y.s) refl
     by false e = Holds-meet_up y x r (omega (arith, lin)) q p
 
 -- ends between which a number lies are in order
-positive : (m n : ℕ) → 0 < m → 0 < n → 0 < m * n
-positive m n p q = grind arith
-
 pub ends-in_order : (l h s : ℤ) (r : Fraction) → IsFraction r → AtMost l s r → AtLeast h s r → l ≤ℤ h
 ends-in_order l h s r d p q =
-    le-mul_cancel l h (2 ^ up s * r.denominator) (positive (2 ^ up s) r.denominator (pow_pos (up s)) d) (omega (arith, lin))
+    le-mul_cancel l h (2 ^ up s * r.denominator) (positive_product (2 ^ up s) r.denominator (pow_pos (up s)) d) (omega (arith, lin))
 
 -- so the ends of a meet are in order where some number lies in both
 pub meet-in_order : (x y : Interval) → x.s ≤ℤ y.s → Overlaps x y → int_max (aligned_lower x y).lo (aligned_upper x y).lo ≤ℤ int_min (aligned_lower x y).hi (aligned_upper x y).hi

@@ -9,7 +9,8 @@ use Rattle.spec_intervals.specs.declared.signs.Sign.TheVariants.{Yes, No, Open}
 use Rattle.spec_intervals.specs.Interval.{Interval}
 use Rattle.spec_intervals.specs.Fraction.{Fraction, IsFraction, Holds}
 use Rattle.spec_intervals.specs.Signs.{sign_of}
-use Rattle.spec_intervals.proofs.Order.{lin, le-mul, le-mul_cancel}
+use Rattle.spec_numbers.proofs.Naturals.{positive_product}
+use Rattle.spec_numbers.proofs.Order.{lin, le-mul, le-mul_cancel}
 
 yes-low : (x : Interval) → sign_of x ≡ Yes → pos 0 ≤ℤ x.lo
 yes-low x e = by (le_z (pos 0) x.lo) (lt_z x.hi (pos 0)) refl refl e
@@ -39,12 +40,9 @@ below z n h p =
     let b : (z *ℤ pos n) ≤ℤ (neg_ℤ (pos 1) *ℤ pos n) = le-mul z (neg_ℤ (pos 1)) (pos n) (omega (arith, lin)) (omega (arith, lin)) in
     omega (arith, ints)
 
-positive : (m n : ℕ) → 0 < m → 0 < n → 0 < m * n
-positive m n p q = grind arith
-
 pub no-negative : (x : Interval) (r : Fraction) → sign_of x ≡ No → IsFraction r → Holds x r → r.numerator <ℤ pos 0
 no-negative x r e d h =
-    let a : (x.hi *ℤ pos (2 ^ up x.s * r.denominator)) <ℤ pos 0 = below x.hi (2 ^ up x.s * r.denominator) (no-high x e) (positive (2 ^ up x.s) r.denominator (pow_pos (up x.s)) d) in
+    let a : (x.hi *ℤ pos (2 ^ up x.s * r.denominator)) <ℤ pos 0 = below x.hi (2 ^ up x.s * r.denominator) (no-high x e) (positive_product (2 ^ up x.s) r.denominator (pow_pos (up x.s)) d) in
     by (r.numerator) h.high a
   where
     by : (n : ℤ) → (n *ℤ pos (2 ^ down x.s)) ≤ℤ (x.hi *ℤ pos (2 ^ up x.s * r.denominator)) → (x.hi *ℤ pos (2 ^ up x.s * r.denominator)) <ℤ pos 0 → n <ℤ pos 0

@@ -3,15 +3,12 @@ use Rattle.std.proofs.Common.{◌≡◌, ℕ, suc, ◌+◌, ◌*◌, ◌^◌, ar
 use Rattle.std.proofs.lemmas.Int.{ints}
 use Rattle.std.proofs.lemmas.Nat.{pow-add}
 use borrow.Author.Differences.{up, down}
-use Rattle.spec_intervals.proofs.Ring.{v, ◌⊗◌, ring}
-use Rattle.spec_intervals.proofs.Order.{lin, le-mul}
+use Rattle.spec_numbers.proofs.Ring.{v, ◌⊗◌, ring}
+use Rattle.spec_numbers.proofs.Order.{lin, le-mul}
 use Rattle.spec_intervals.specs.Fraction.{Fraction, Holds, AtMost, AtLeast, fraction_signed_square}
 use Rattle.spec_intervals.proofs.Narrow.{rescale_low, rescale_high, Holds-narrow}
 use Rattle.spec_intervals.specs.Interval.{Interval, signed_sq, signed_square}
-use Rattle.spec_intervals.proofs.Floor.{unsigned_abs-neg}
-
-sq_nonneg : (a : ℕ) → pos 0 ≤ℤ (pos a *ℤ pos a)
-sq_nonneg a = omega (arith, ints)
+use Rattle.spec_numbers.proofs.Sizes.{scaled_size}
 
 -- z |z| grows with z
 pub signed_sq-le : (x y : ℤ) → x ≤ℤ y → signed_sq x ≤ℤ signed_sq y
@@ -28,13 +25,9 @@ signed_sq-le (negsuc a) (negsuc b) h =
     let e : pos (suc a) *ℤ pos (suc b) ≡ pos (suc b) *ℤ pos (suc a) = ring (pos (suc a) ∷ pos (suc b) ∷ []) (v 0 ⊗ v 1) (v 1 ⊗ v 0) tt in
     omega (arith, lin)
 
-size-scaled : (z : ℤ) (n : ℕ) → unsigned_abs (z *ℤ pos n) ≡ unsigned_abs z * n
-size-scaled (pos m) n = refl
-size-scaled (negsuc m) n = unsigned_abs-neg (pos (suc m * n))
-
-signed_sq-scaled : (z : ℤ) (n : ℕ) → signed_sq (z *ℤ pos n) ≡ signed_sq z *ℤ pos (n * n)
+pub signed_sq-scaled : (z : ℤ) (n : ℕ) → signed_sq (z *ℤ pos n) ≡ signed_sq z *ℤ pos (n * n)
 signed_sq-scaled z n =
-    ap (λ m. z *ℤ pos n *ℤ pos m) (size-scaled z n) ∙ ring (z ∷ pos n ∷ pos (unsigned_abs z) ∷ []) (v 0 ⊗ v 1 ⊗ (v 2 ⊗ v 1)) (v 0 ⊗ v 2 ⊗ (v 1 ⊗ v 1)) tt
+    ap (λ m. z *ℤ pos n *ℤ pos m) (scaled_size z n) ∙ ring (z ∷ pos n ∷ pos (unsigned_abs z) ∷ []) (v 0 ⊗ v 1 ⊗ (v 2 ⊗ v 1)) (v 0 ⊗ v 2 ⊗ (v 1 ⊗ v 1)) tt
 
 -- the comparison with p|p| for the comparison with p
 square_low : (lo s : ℤ) (r : Fraction) → AtMost lo s r → AtMost (signed_sq lo) (s +ℤ s) (fraction_signed_square r)

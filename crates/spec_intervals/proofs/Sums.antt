@@ -6,10 +6,11 @@ use Rattle.std.proofs.lemmas.Nat.{pow_pos}
 use Rattle.std.specs.Int.{int_gap}
 use lib.Signed.{le_z}
 use borrow.Author.Differences.{up, down}
-use Rattle.spec_intervals.specs.Interval.{Interval, floor_div, ceil_div, surplus, lift, sum_up, sum, is_zero, zero_end}
+use Rattle.spec_intervals.specs.Interval.{Interval, surplus, lift, sum_up, sum, is_zero, zero_end}
+use Rattle.spec_numbers.specs.Numbers.{floor_div, ceil_div}
 use Rattle.spec_intervals.specs.Fraction.{Fraction, Holds, AtMost, AtLeast, fraction_add}
-use Rattle.spec_intervals.proofs.Ring.{v, k as lit, ◌⊕◌, ◌⊗◌, ring}
-use Rattle.spec_intervals.proofs.Order.{lin, le-mul, le-mul_cancel}
+use Rattle.spec_numbers.proofs.Ring.{v, k as lit, ◌⊕◌, ◌⊗◌, ring}
+use Rattle.spec_numbers.proofs.Order.{lin, le-mul, le-mul_cancel}
 use Rattle.spec_intervals.proofs.Narrow.{rescale_low, rescale_high, shifted, low-floor, high-ceil, Holds-narrow}
 
 -- y * 2^m at an exponent m lower

@@ -3,7 +3,8 @@
 use Rattle.std.specs.Prelude.{ℕ, zero, suc, ◌+◌, ◌-◌, ◌*◌, ◌^◌, ◌<◌, min, Bool, true, false, ◌&&◌, nat_le, if◌then◌else◌, ◌≤◌, ◌≤ℤ◌, ℤ, pos, negsuc, ◌+ℤ◌, ◌-ℤ◌, ◌*ℤ◌, neg_ℤ, unsigned_abs}
 use Rattle.std.specs.Int.{int_min, int_max, int_gap}
 use borrow.Author.Differences.{up, down}
-use lib.Signed.{shr_z, le_z}
+use lib.Signed.{le_z}
+use Rattle.spec_numbers.specs.Numbers.{floor_div, ceil_div}
 
 -- all numbers from lo * 2^s to hi * 2^s
 pub record Interval : Type 0 where
@@ -13,6 +14,10 @@ pub record Interval : Type 0 where
 
 abbrev pub interval : ℤ → ℤ → ℤ → Interval
 interval lo hi s = record { lo = lo; hi = hi; s = s }
+
+-- 0 alone
+abbrev pub zero_interval : Interval
+zero_interval = interval (pos 0) (pos 0) (pos 0)
 
 -- the greatest size of an end, so that the product of two ends is within 128 bits
 abbrev pub end_limit : ℕ
@@ -34,13 +39,6 @@ pub record IsIval (t : Interval) : Type 0 where
   pub ordered : t.lo ≤ℤ t.hi
   pub lo_small : unsigned_abs t.lo ≤ end_limit
   pub hi_small : unsigned_abs t.hi ≤ end_limit
-
--- z / d rounded down, and rounded up, for d > 0
-abbrev pub floor_div : ℤ → ℕ → ℤ
-floor_div z d = shr_z z d
-
-abbrev pub ceil_div : ℤ → ℕ → ℤ
-ceil_div z d = neg_ℤ (shr_z (neg_ℤ z) d)
 
 -- ---- narrowing: both ends are halved together, as often as it takes until neither is past the limit
 abbrev pub is_small : ℤ → Bool
@@ -66,7 +64,7 @@ zero_end (negsuc n) = false
 
 -- where both ends are 0, the exponent is 0
 unfoldable pub settled : ℤ → ℤ → ℤ → Interval
-settled lo hi s = if zero_end lo && zero_end hi then interval (pos 0) (pos 0) (pos 0) else interval lo hi s
+settled lo hi s = if zero_end lo && zero_end hi then zero_interval else interval lo hi s
 
 unfoldable pub narrow_by : ℕ → ℤ → ℤ → ℤ → Interval
 narrow_by k lo hi s = settled (floor_div lo (2 ^ k)) (ceil_div hi (2 ^ k)) (s +ℤ pos k)

@@ -1,4 +1,5 @@
 pub mod Interval
 pub mod Fraction
-pub mod Chebyshev
 pub mod Signs
+pub mod Enclosure
+pub mod Examples

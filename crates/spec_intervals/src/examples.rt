@@ -1,10 +1,10 @@
 // Worked values of each definition, by computation.
 
 ghost use Rattle.std.specs.Prelude.{◌≡◌, ◌+◌, ◌^◌, ◌+ℤ◌, pos, neg_ℤ};
-ghost use Rattle.spec_intervals.specs.Interval.{interval, floor_div, ceil_div, narrow, sum, difference, product, join, meet, signed_square, scale, from_decimal, distance_exponent, cosine_exponent};
+ghost use Rattle.spec_intervals.specs.Interval.{interval, narrow, sum, difference, product, join, meet, signed_square, scale, from_decimal, distance_exponent, cosine_exponent};
+ghost use Rattle.spec_numbers.specs.Numbers.{floor_div, ceil_div};
 ghost use Rattle.spec_intervals.specs.Fraction.{Holds, fraction, fraction_add, fraction_signed_square, fraction_scale, decimal};
 ghost use Rattle.spec_intervals.specs.Signs.{sign_of};
-ghost use Rattle.spec_intervals.specs.Chebyshev.{cleared_t, cleared_u};
 ghost use Rattle.spec_intervals.specs.declared.signs.Sign.TheVariants.{Yes, No, Open};
 
 /// Low ends are rounded down and high ends up, for numbers below 0 too.
@@ -88,11 +88,4 @@ pub fn signs()
     ensures zero { sign_of (interval (pos 0) (pos 0) (pos 0)) ≡ Yes }
     ensures to_zero { sign_of (interval (neg_ℤ (pos 1)) (pos 0) (pos 0)) ≡ Open }
     ensures below_zero { sign_of (interval (neg_ℤ (pos 2)) (neg_ℤ (pos 1)) (pos 0)) ≡ No }
-{}
-
-/// At x = 1/2: T_3 = 4 x^3 - 3 x is -1, U_2 = 4 x^2 - 1 is 0 and U_3 = 8 x^3 - 4 x is -1, each times 2^k.
-pub fn chebyshev_polynomials()
-    ensures t_3 { cleared_t (pos 1) (pos 2) 3 ≡ neg_ℤ (pos 8) }
-    ensures u_2 { cleared_u (pos 1) (pos 2) 2 ≡ pos 0 }
-    ensures u_3 { cleared_u (pos 1) (pos 2) 3 ≡ neg_ℤ (pos 8) }
 {}

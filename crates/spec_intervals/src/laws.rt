@@ -1,7 +1,7 @@
 // What is true of the rules, whatever the numbers: each law is the contract of a function with nothing to do.
 
 ghost use Rattle.std.specs.Prelude.{◌≡◌, ℕ, ◌<◌, ◌≤ℤ◌, ◌<ℤ◌, ℤ, pos, true, false};
-ghost use Rattle.spec_intervals.specs.Interval.{Interval, IsIval, interval, fits_after, narrow_shift, narrow, sum, difference, product, join, meet, signed_square, scale, from_decimal};
+ghost use Rattle.spec_intervals.specs.Interval.{Interval, IsIval, interval, fits_after, narrow_shift, narrow, sum, difference, product, join, meet, signed_square, scale, from_decimal, distance_exponent, cosine_exponent, IsDistance, IsCosine};
 ghost use Rattle.spec_intervals.specs.Fraction.{Fraction, IsFraction, Holds, fraction_add, fraction_sub, fraction_mul, fraction_signed_square, fraction_scale, decimal};
 ghost use Rattle.spec_intervals.specs.Signs.{sign_of};
 ghost use Rattle.spec_intervals.specs.declared.signs.Sign.TheVariants.{Yes, No};
@@ -57,6 +57,12 @@ pub fn scale_holds()
 /// The interval of a decimal holds the decimal, at any exponent.
 pub fn decimal_holds()
     ensures { (m q s : ℤ) → Holds (from_decimal m q s) (decimal m q) }
+{}
+
+/// A length below 2^36 in units of 2^-24, and a cosine in units of 2^-60, have ends in order and within the limit.
+pub fn decimals_fit()
+    ensures distance { (m q : ℤ) → IsDistance m q → IsIval (from_decimal m q distance_exponent) }
+    ensures cosine { (m q : ℤ) → IsCosine m q → IsIval (from_decimal m q cosine_exponent) }
 {}
 
 /// Where the sign is `Yes` every number held is at least 0, and where it is `No` every number held is below 0.

@@ -4,11 +4,11 @@ use Rattle.std.proofs.lemmas.List.{append-nil}
 use Rattle.std.proofs.lemmas.List.Elements.{All-from_recursion, recursion_from_All}
 use Rattle.std.proofs.lemmas.List.Sorted.{sum_by-IsPermutation}
 use Rattle.std.specs.List.{AllByRecursion}
-use Rattle.spec_events.specs.declared.tree.Node.{Node}
-use Rattle.spec_events.specs.declared.tree.Leaf.{Leaf}
-use Rattle.spec_events.specs.declared.tree.Verdict.TheVariants.{Split}
-use Rattle.spec_events.specs.Tree.{Rules, IsValid, IsSound, leaf_of, leaves}
-use Rattle.spec_events.proofs.Leaves.{leaves_settled, leaves_split}
+use Rattle.spec_trees.specs.declared.tree.Node.{Node}
+use Rattle.spec_trees.specs.declared.tree.Leaf.{Leaf}
+use Rattle.spec_trees.specs.declared.tree.Verdict.TheVariants.{Split}
+use Rattle.spec_trees.specs.Tree.{Rules, IsValid, IsSound, leaf_of, leaves}
+use Rattle.spec_trees.proofs.Leaves.{leaves_settled, leaves_split}
 use Rattle.spec_pool.specs.declared.step.Step.{Step}
 use Rattle.spec_pool.specs.declared.step.Step.TheVariants.{Push, Keep, Pop, TakeKept, Steal, Enter}
 use Rattle.spec_pool.specs.Pool.{Holding, State, At, Steps, Runs}

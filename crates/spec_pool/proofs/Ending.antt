@@ -2,14 +2,14 @@
 use Rattle.std.proofs.Common.{◌≡◌, ℕ, zero, suc, ◌+◌, ◌⊎◌, inl, inr, List, [], ◌∷◌, ◌++◌, map, flat_map, All, Option, Some, None, slice_get, slice_set, IsPermutation, refl, sym, ap, ◌∙◌, subst, arith}
 use Rattle.std.proofs.lemmas.List.Elements.{All-from_recursion, recursion_from_All}
 use Rattle.std.specs.List.{AllByRecursion}
-use Rattle.spec_events.specs.declared.tree.Node.{Node}
-use Rattle.spec_events.specs.declared.tree.Leaf.{Leaf}
-use Rattle.spec_events.specs.declared.tree.Mark.{Mark}
-use Rattle.spec_events.specs.Tree.{Rules, IsValid, IsSound, IsLeaf, AreLeaves, mark_of, leaf_of, leaves}
-use Rattle.spec_events.specs.Order.{in_order}
-use Rattle.spec_events.proofs.Leaves.{no_mark, leaves_settled}
-use Rattle.spec_events.proofs.Covering.{leaves_cover}
-use Rattle.spec_events.proofs.Rearranged.{rearranged_in_order}
+use Rattle.spec_trees.specs.declared.tree.Node.{Node}
+use Rattle.spec_trees.specs.declared.tree.Leaf.{Leaf}
+use Rattle.spec_trees.specs.declared.tree.Mark.{Mark}
+use Rattle.spec_trees.specs.Tree.{Rules, IsValid, IsSound, IsLeaf, AreLeaves, mark_of, leaf_of, leaves}
+use Rattle.spec_trees.specs.Order.{in_order}
+use Rattle.spec_trees.proofs.Leaves.{no_mark, leaves_settled}
+use Rattle.spec_trees.proofs.Covering.{leaves_cover}
+use Rattle.spec_trees.proofs.Rearranged.{rearranged_in_order}
 use Rattle.spec_pool.specs.declared.step.Step.{Step}
 use Rattle.spec_pool.specs.declared.step.Step.TheVariants.{Push, Pop, TakeKept, Enter}
 use Rattle.spec_pool.specs.Pool.{Holding, holding, nothing, State, state, Pushes, Pops, TakesKept, Enters, At, Steps}

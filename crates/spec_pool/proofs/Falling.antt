@@ -1,12 +1,12 @@
 -- Each step lowers what is left to do by one.
 use Rattle.std.proofs.Common.{◌≡◌, ℕ, zero, suc, ◌+◌, ◌*◌, ◌-◌, ◌<◌, ◌≤◌, ℤ, ◌<ℤ◌, List, [], ◌∷◌, ◌++◌, length, refl, sym, ap, ◌∙◌, option_to_list, sum_by, length-append, arith}
 use Rattle.std.proofs.lemmas.Int.{ints}
-use Rattle.spec_events.specs.declared.tree.Node.{Node}
-use Rattle.spec_events.specs.declared.tree.Leaf.{Leaf}
-use Rattle.spec_events.specs.declared.tree.Verdict.TheVariants.{Split}
-use Rattle.spec_events.specs.Tree.{Rules, IsValid, IsSound, Covers, leaf_of, leaves}
-use Rattle.spec_events.proofs.Covering.{leaves_cover}
-use Rattle.spec_events.proofs.Leaves.{leaves_settled, leaves_split}
+use Rattle.spec_trees.specs.declared.tree.Node.{Node}
+use Rattle.spec_trees.specs.declared.tree.Leaf.{Leaf}
+use Rattle.spec_trees.specs.declared.tree.Verdict.TheVariants.{Split}
+use Rattle.spec_trees.specs.Tree.{Rules, IsValid, IsSound, Covers, leaf_of, leaves}
+use Rattle.spec_trees.proofs.Covering.{leaves_cover}
+use Rattle.spec_trees.proofs.Leaves.{leaves_settled, leaves_split}
 use Rattle.spec_pool.specs.declared.step.Step.{Step}
 use Rattle.spec_pool.specs.declared.step.Step.TheVariants.{Push, Keep, Pop, TakeKept, Steal, Enter}
 use Rattle.spec_pool.specs.Pool.{Holding, State, Pushes, Keeps, Pops, TakesKept, Gets, GivesUp, Enters, At, Steps, Runs}

@@ -1,8 +1,8 @@
 -- What a step does to the weights of all nodes.
 use Rattle.std.proofs.Common.{◌≡◌, ℕ, ◌+◌, ◌≤◌, List, [], ◌∷◌, ◌++◌, map, flat_map, refl, sym, ap, ◌∙◌, Option, Some, None, option_to_list, arith}
-use Rattle.spec_events.specs.declared.tree.Node.{Node}
-use Rattle.spec_events.specs.declared.tree.Leaf.{Leaf}
-use Rattle.spec_events.specs.Tree.{Rules}
+use Rattle.spec_trees.specs.declared.tree.Node.{Node}
+use Rattle.spec_trees.specs.declared.tree.Leaf.{Leaf}
+use Rattle.spec_trees.specs.Tree.{Rules}
 use Rattle.spec_pool.specs.Pool.{Holding, State, Pushes, Keeps, Pops, TakesKept, Gets, GivesUp, Enters, At}
 use Rattle.spec_pool.specs.Tiling.{held, nodes}
 use Rattle.spec_pool.proofs.Weights.{weigh, weigh-append, weigh-push, weigh-set, weigh-get, weigh-map, weigh-flat, weigh-same}

@@ -1,11 +1,11 @@
 -- What one worker and one deque have to account for. A step of the running pool changes one worker's account, and the
 -- account of one deque, as these definitions say, whatever the other workers do meanwhile.
 use Rattle.std.specs.Prelude.{◌≡◌, ℕ, List, [], ◌∷◌, ◌++◌, Option, Some, None, map, flat_map, slice_get, All, IsPermutation, option_to_list}
-use Rattle.spec_events.specs.declared.tree.Node.{Node}
-use Rattle.spec_events.specs.declared.tree.Leaf.{Leaf}
-use Rattle.spec_events.specs.declared.tree.Mark.{Mark}
-use Rattle.spec_events.specs.declared.tree.Verdict.TheVariants.{Split}
-use Rattle.spec_events.specs.Tree.{Rules, mark_of, leaf_of, leaves}
+use Rattle.spec_trees.specs.declared.tree.Node.{Node}
+use Rattle.spec_trees.specs.declared.tree.Leaf.{Leaf}
+use Rattle.spec_trees.specs.declared.tree.Mark.{Mark}
+use Rattle.spec_trees.specs.declared.tree.Verdict.TheVariants.{Split}
+use Rattle.spec_trees.specs.Tree.{Rules, mark_of, leaf_of, leaves}
 use Rattle.spec_pool.specs.declared.step.Step.{Step}
 use Rattle.spec_pool.specs.declared.step.Step.TheVariants.{Push, Keep, Pop, TakeKept, Steal, Enter}
 use Rattle.spec_pool.specs.Pool.{State, At}

@@ -2,14 +2,14 @@
 -- halved until it is no wider than 50 seconds.
 use Rattle.std.proofs.Common.{◌≡◌, ◌+◌, ◌<◌, Bool, ◌&&◌, true, false, nat_lt, ℤ, pos, ◌-ℤ◌, ◌<ℤ◌, ◌≤ℤ◌, int_lt, int_le, if◌then◌else◌, refl, arith}
 use Rattle.std.proofs.lemmas.Int.{ints}
-use Rattle.spec_events.specs.declared.cuts.CutRule.TheVariants.{Half}
-use Rattle.spec_events.specs.declared.tree.Node.{Node}
-use Rattle.spec_events.specs.declared.tree.Turn.TheVariants.{Rise}
-use Rattle.spec_events.specs.declared.tree.Verdict.TheVariants.{Clear, One, Split}
-use Rattle.spec_events.specs.Cuts.{CanCut, cut_of}
-use Rattle.spec_events.specs.CutExamples.{parts_at}
-use Rattle.spec_events.specs.Tree.{Rules, IsCut, IsSound, IsValid}
-use Rattle.spec_events.proofs.Cutting.{cut_inside}
+use Rattle.spec_trees.specs.declared.cuts.CutRule.TheVariants.{Half}
+use Rattle.spec_trees.specs.declared.tree.Node.{Node}
+use Rattle.spec_trees.specs.declared.tree.Turn.TheVariants.{Rise}
+use Rattle.spec_trees.specs.declared.tree.Verdict.TheVariants.{Clear, One, Split}
+use Rattle.spec_trees.specs.Cuts.{CanCut, cut_of}
+use Rattle.spec_trees.specs.CutExamples.{parts_at}
+use Rattle.spec_trees.specs.Tree.{Rules, IsCut, IsSound, IsValid}
+use Rattle.spec_trees.proofs.Cutting.{cut_inside}
 
 abbrev pub holds_crossing : Node → Bool
 holds_crossing n = int_lt n.a (pos 1339200) && int_le (pos 1339200) n.b

@@ -1,6 +1,6 @@
 // Worked values of the definitions, by computation.
 ghost use Rattle.std.specs.Prelude.{◌≡◌, pos, map, ◌∷◌, []};
-ghost use Rattle.spec_events.specs.Tree.{leaves};
+ghost use Rattle.spec_trees.specs.Tree.{leaves};
 ghost use Rattle.spec_pool.specs.Pool.{opening};
 ghost use Rattle.spec_pool.specs.Tiling.{todo};
 ghost use Rattle.spec_pool.specs.Examples.{crossing, four_hundred};

@@ -1,8 +1,8 @@
 // What every run of the pool keeps, whoever takes the steps and in whatever order.
 ghost use Rattle.std.specs.Prelude.{◌≡◌, ℕ, ◌+◌, ◌<◌, ◌⊎◌, List, length};
-ghost use Rattle.spec_events.specs.declared.tree.Node.{Node};
-ghost use Rattle.spec_events.specs.Tree.{Rules, IsSound, IsValid, leaves};
-ghost use Rattle.spec_events.specs.Order.{in_order};
+ghost use Rattle.spec_trees.specs.declared.tree.Node.{Node};
+ghost use Rattle.spec_trees.specs.Tree.{Rules, IsSound, IsValid, leaves};
+ghost use Rattle.spec_trees.specs.Order.{in_order};
 ghost use Rattle.spec_pool.specs.declared.step.Step.{Step};
 ghost use Rattle.spec_pool.specs.Pool.{State, Steps, Runs, opening};
 ghost use Rattle.spec_pool.specs.Accounts.{Account, Accounts, Accounted, AllAccounted, AreAccounts, Balances, AllBalance};

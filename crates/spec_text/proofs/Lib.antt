@@ -6,3 +6,4 @@ pub mod Answering
 pub mod LineLemmas
 pub mod TokenLemmas
 pub mod Wholes
+pub mod Spans

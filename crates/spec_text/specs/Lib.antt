@@ -2,4 +2,5 @@ pub mod Bytes
 pub mod Decimals
 pub mod Splitting
 pub mod Reading
+pub mod Days
 pub mod Lines

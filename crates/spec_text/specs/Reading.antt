@@ -65,3 +65,8 @@ abbrev pub whole_of : List ℕ → Option ℕ
 whole_of word =
     if list_all is_ascii_digit word && (nat_lt 0 (length word) && nat_le (length word) MOST_WHOLE_DIGITS) then Some (value word)
     else None
+
+-- the whole number at a place of a line, if one stands there
+abbrev pub whole_at : Option (List ℕ) → Option ℕ
+whole_at None = None
+whole_at (Some word) = whole_of word

@@ -1,7 +1,8 @@
 // What the definitions come to.
-ghost use Rattle.std.specs.Prelude.{◌≡◌, ◌<◌, false, true, List, [], ◌∷◌, ◌++◌, ◌^◌, length, All, Ok, Result, Some, ℕ};
+ghost use Rattle.std.specs.Prelude.{◌≡◌, ◌*◌, ◌<◌, ◌≤◌, false, true, List, [], ◌∷◌, ◌++◌, ◌^◌, length, All, IfOk, Ok, Result, Some, ℕ};
 ghost use Rattle.std.specs.Str.Lines.{strip_carriage_return};
 ghost use Rattle.spec_text.specs.Bytes.{line_feed};
+ghost use Rattle.spec_text.specs.Days.{seconds_within};
 ghost use Rattle.spec_text.specs.Lines.{is_line_feed, is_separator, lines, tokens};
 ghost use Rattle.spec_text.specs.Reading.{IsWithinBounds, Reads, reading, whole_of};
 ghost use Rattle.spec_text.specs.declared.decimals.Decimal.{Decimal};
@@ -23,6 +24,12 @@ pub fn decimals_are_bounded()
 #[tactic(auto, using(crate::proofs::Wholes::whole_bound))]
 pub fn whole_numbers_are_bounded()
     ensures { (word : List ℕ) (n : ℕ) → whole_of word ≡ Some n → n < 10 ^ 9 }
+{}
+
+/// A number of days comes to no more seconds than the most days.
+#[tactic(auto, using(crate::proofs::Spans::seconds_few))]
+pub fn days_are_bounded()
+    ensures { (most : ℕ) (days : Decimal) → IfOk (seconds_within most days) (λ s. s ≤ 86400 * most) }
 {}
 
 /// A line ends at its line feed; the last may do without.

@@ -1,21 +1,23 @@
 //! What lines, tokens and decimals are: the types and definitions that contracts cite, and the laws about them.
 #![tactic(auto)]
 
+mod days;
 mod decimals;
 mod examples;
 mod laws;
 mod limits;
 
+pub use days::DaysFault;
 pub use decimals::{Decimal, Fault, NumberFault};
 pub use examples::{
     decimals_are_read, decimals_are_refused, lines_are_cut_into_tokens, texts_are_cut_into_lines,
     whole_numbers_are_read,
 };
 pub use laws::{
-    decimals_are_bounded, every_word_has_one_answer, lines_end_at_line_feeds,
+    days_are_bounded, decimals_are_bounded, every_word_has_one_answer, lines_end_at_line_feeds,
     tokens_end_at_separators, whole_numbers_are_bounded,
 };
 pub use limits::{
-    MOST_DIGITS, MOST_EXPONENT, MOST_LINE_BYTES, MOST_TEXT_BYTES, MOST_WHOLE_DIGITS,
-    MOST_WORD_BYTES,
+    DAY_SECONDS, LAST_JULIAN_DAY, MOST_DIGITS, MOST_EXPONENT, MOST_LINE_BYTES, MOST_TEXT_BYTES,
+    MOST_WHOLE_DIGITS, MOST_WORD_BYTES,
 };

@@ -17,3 +17,9 @@ pub const MOST_EXPONENT: u64 = 99;
 
 /// The most digits of a whole number, zeros at the front too.
 pub const MOST_WHOLE_DIGITS: usize = 9;
+
+/// The seconds of a day. There are no leap seconds in TDB.
+pub const DAY_SECONDS: u64 = 86_400;
+
+/// The last Julian date that a text may name.
+pub const LAST_JULIAN_DAY: u64 = 5_000_000;

@@ -2,7 +2,7 @@ use Rattle.std.proofs.Common.{arith, ◌≡◌, ◌∙◌, ap, ◌^◌, ◌≤�
 use Rattle.std.proofs.lemmas.Int.{ints, to_z-of_z}
 use mir.Syntax.{w16}
 use lib.Signed.{lt_z}
-use Rattle.spec_intervals.proofs.Order.{lin}
+use Rattle.spec_numbers.proofs.Order.{lin}
 use borrow.Author.Differences.{down}
 use Rattle.body_states.proofs.Masses.{some_tens, few_tens, down_is}
 use Rattle.body_states.proofs.factors.lesser_mass.Goals as goal

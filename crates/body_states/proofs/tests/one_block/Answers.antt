@@ -1,5 +1,5 @@
 use Rattle.std.proofs.Common.{rules}
-use Rattle.eph_model.proofs.SmallNumbers.{all_bounded}
+use Rattle.spec_ephemeris.proofs.SmallNumbers.{all_bounded}
 use Rattle.body_states.proofs.tests.one_block.Goals as goal
 
 pub push_block-requires-clause-block : goal.push_block-requires-clause-block

@@ -2,10 +2,10 @@ use Rattle.std.proofs.Common.{rules, ◌≡◌, ◌∙◌, true, w64, unsigned_a
 use Rattle.std.proofs.lemmas.Int.{to_z-of_z}
 use mir.Val.{SFits}
 use lib.Signed.{lt_z}
-use Rattle.spec_enclosures.specs.Enclosures.{position_step_over, position_step_interval, arguments}
-use Rattle.spec_enclosures.proofs.HeldChanges.{Holds-position_step}
-use Rattle.cheby_enclose.specs.Granules.{series_of}
-use Rattle.cheby_enclose.proofs.GranuleSeries.{IsSeries-of, IsSpan-of}
+use Rattle.spec_motions.specs.Enclosures.{position_step_over, position_step_interval, arguments}
+use Rattle.spec_motions.proofs.HeldChanges.{Holds-position_step}
+use Rattle.spec_ephemeris.specs.Granules.{series_of}
+use Rattle.spec_motions.proofs.GranuleSeries.{IsSeries-of, IsSpan-of}
 use Rattle.cheby_difference.proofs.positions.position_step.Goals as goal
 use Rattle.cheby_difference.proofs.positions.position_step.Goals.{After-position_step_over}
 

@@ -4,10 +4,10 @@ use mir.Syntax.{w128}
 use mir.Val.{SFits}
 use Rattle.spec_intervals.specs.Interval.{scale}
 use Rattle.spec_chebyshev.specs.Rows.{entry, q_row}
-use Rattle.spec_enclosures.specs.Sums.{sum_low, sum_high}
-use Rattle.spec_enclosures.specs.Enclosures.{position_step_over}
-use Rattle.cheby_laws.proofs.Bounds.{q_within}
-use Rattle.cheby_enclose.proofs.LoopSums.{low_same, high_same, sums_ordered}
+use Rattle.spec_motions.specs.Sums.{sum_low, sum_high}
+use Rattle.spec_motions.specs.Enclosures.{position_step_over}
+use Rattle.spec_chebyshev.proofs.Bounds.{q_within}
+use Rattle.spec_motions.proofs.RowSums.{low_same, high_same, sums_ordered}
 use Rattle.cheby_difference.proofs.scaled.position_step_over.Goals as goal
 use Rattle.cheby_difference.proofs.scaled.position_step_over.Goals.{After-row_sum-sum}
 

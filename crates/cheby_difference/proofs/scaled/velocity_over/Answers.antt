@@ -4,9 +4,9 @@ use mir.Syntax.{w128}
 use mir.Val.{SFits}
 use Rattle.spec_intervals.specs.Interval.{scale}
 use Rattle.spec_chebyshev.specs.Rows.{entry, u_row}
-use Rattle.spec_enclosures.specs.Sums.{slope_row, sum_low, sum_high}
-use Rattle.spec_enclosures.specs.Enclosures.{velocity_over}
-use Rattle.cheby_enclose.proofs.LoopSums.{sums_ordered, low_slopes_same, high_slopes_same}
+use Rattle.spec_motions.specs.Sums.{slope_row, sum_low, sum_high}
+use Rattle.spec_motions.specs.Enclosures.{velocity_over}
+use Rattle.spec_motions.proofs.RowSums.{sums_ordered, low_slopes_same, high_slopes_same}
 use Rattle.cheby_difference.proofs.SlopeRows.{IsSlopeRow-u}
 use Rattle.cheby_difference.proofs.scaled.velocity_over.Goals as goal
 use Rattle.cheby_difference.proofs.scaled.velocity_over.Goals.{After-slope_sum-sum}

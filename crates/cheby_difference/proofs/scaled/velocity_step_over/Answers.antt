@@ -2,13 +2,15 @@ use Rattle.std.proofs.Common.{rules, ◌≡◌, ◌∙◌, pos, neg_ℤ, to_z, o
 use Rattle.std.proofs.lemmas.Int.{ints, to_z-of_z}
 use mir.Syntax.{w128}
 use mir.Val.{SFits}
-use Rattle.spec_intervals.specs.Interval.{scale, floor_div, ceil_div}
-use Rattle.spec_intervals.proofs.Floor.{ordered_quotients}
+use Rattle.spec_intervals.specs.Interval.{scale}
+use Rattle.spec_numbers.specs.Numbers.{floor_div, ceil_div}
+use Rattle.spec_numbers.proofs.Floor.{ordered_quotients}
 use Rattle.spec_chebyshev.specs.Rows.{entry, r_row}
-use Rattle.spec_enclosures.specs.Sums.{slope_difference_row, sum_low, sum_high}
-use Rattle.spec_enclosures.specs.Enclosures.{velocity_step_over}
-use Rattle.cheby_enclose.proofs.LoopSums.{sums_ordered, low_slopes_same, high_slopes_same}
-use Rattle.cheby_difference.proofs.SlopeRows.{IsSlopeRow-r, doubles_ordered}
+use Rattle.spec_motions.specs.Sums.{slope_difference_row, sum_low, sum_high}
+use Rattle.spec_motions.specs.Enclosures.{velocity_step_over}
+use Rattle.spec_motions.proofs.RowSums.{sums_ordered, low_slopes_same, high_slopes_same}
+use Rattle.cheby_difference.proofs.SlopeRows.{IsSlopeRow-r}
+use Rattle.spec_numbers.proofs.Integers.{doubles_ordered}
 use Rattle.cheby_difference.proofs.scaled.velocity_step_over.Goals as goal
 use Rattle.cheby_difference.proofs.scaled.velocity_step_over.Goals.{After-once_scaled-sum}
 

@@ -1,4 +1,4 @@
-use Rattle.cheby_enclose.proofs.SmallCoefficients.{one_more}
+use Rattle.spec_ephemeris.proofs.SmallNumbers.{one_more}
 use Rattle.cheby_difference.proofs.tests.coefficients.Goals as goal
 
 pub loop-pair-preserved : goal.loop-pair-preserved

@@ -1,10 +1,10 @@
 use Rattle.std.proofs.Common.{rules, ◌≡◌, ◌∙◌, w64, unsigned_abs}
 use Rattle.std.proofs.lemmas.Int.{to_z-of_z}
 use mir.Val.{SFits}
-use Rattle.spec_enclosures.specs.Enclosures.{velocity_over, velocity_interval, arguments}
-use Rattle.spec_enclosures.proofs.HeldChanges.{Holds-velocity}
-use Rattle.cheby_enclose.specs.Granules.{series_of}
-use Rattle.cheby_enclose.proofs.GranuleSeries.{IsSeries-of, IsSpan-of}
+use Rattle.spec_motions.specs.Enclosures.{velocity_over, velocity_interval, arguments}
+use Rattle.spec_motions.proofs.HeldChanges.{Holds-velocity}
+use Rattle.spec_ephemeris.specs.Granules.{series_of}
+use Rattle.spec_motions.proofs.GranuleSeries.{IsSeries-of, IsSpan-of}
 use Rattle.cheby_difference.proofs.velocities.velocity.Goals as goal
 use Rattle.cheby_difference.proofs.velocities.velocity.Goals.{After-velocity_over}
 

@@ -2,12 +2,9 @@ use Rattle.std.proofs.Common.{rules, ◌≡◌, ◌∙◌, sym, arith, pos, negs
 use Rattle.std.proofs.lemmas.Int.{ints, to_z-of_z}
 use mir.Val.{SFits}
 use Rattle.spec_chebyshev.specs.Rows.{argument_of}
+use Rattle.spec_numbers.proofs.Sizes.{own_size}
 use Rattle.cheby_enclose.proofs.granules.arguments.Goals as goal
 use Rattle.cheby_enclose.proofs.granules.arguments.Goals.{After-numerator-2}
-
-own_length : (z : ℤ) → pos 1 ≤ℤ z → pos (unsigned_abs z) ≡ z
-own_length (pos n) h = refl
-own_length (negsuc n) h = absurd (omega (arith, ints, h))
 
 first : (c : After-numerator-2) → c.numerator.result ≡ (pos 2 *ℤ (c.args.a -ℤ c.args.g.now.start)) -ℤ c.args.g.now.seconds
 first c =
@@ -37,7 +34,7 @@ returns-clause-equals c = λ axis. (
     let f : SFits w64 c.numerator.result = record { sfits = c.numerator.type_inv } in
     let g : SFits w64 c.numerator-2.result = record { sfits = c.numerator-2.type_inv } in
     let n : SFits w64 c.args.g.now.seconds = search rules in
-    let l : pos (unsigned_abs c.args.g.now.seconds) ≡ c.args.g.now.seconds = own_length c.args.g.now.seconds c.requires.granule.long in
+    let l : pos (unsigned_abs c.args.g.now.seconds) ≡ c.args.g.now.seconds = own_size c.args.g.now.seconds c.requires.granule.long in
     let e : c.argument.result ≡ argument_of c.numerator.result c.numerator-2.result c.args.g.now.seconds = simp to_z-of_z at c.argument.ensures.equals in
     let p = first d ∙ ap (λ (z : ℤ). (pos 2 *ℤ (c.args.a -ℤ c.args.g.now.start)) -ℤ z) (sym l) in
     let q = second d ∙ ap (λ (z : ℤ). (pos 2 *ℤ (c.args.b -ℤ c.args.g.now.start)) -ℤ z) (sym l) in

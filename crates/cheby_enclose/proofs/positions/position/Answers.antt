@@ -1,11 +1,11 @@
 use Rattle.std.proofs.Common.{◌≡◌, ◌∙◌, ℤ, subst, arith}
-use Rattle.spec_intervals.proofs.Order.{lin}
+use Rattle.spec_numbers.proofs.Order.{lin}
 use Rattle.std.proofs.lemmas.Int.{to_z-of_z}
-use Rattle.spec_enclosures.specs.Enclosures.{IsTight, position_over, position_interval, arguments}
-use Rattle.spec_enclosures.proofs.HeldSpans.{Holds-position}
-use Rattle.spec_enclosures.proofs.Tight.{IsTight-position}
-use Rattle.cheby_enclose.specs.Granules.{series_of}
-use Rattle.cheby_enclose.proofs.GranuleSeries.{IsSeries-of, IsSpan-of}
+use Rattle.spec_motions.specs.Enclosures.{IsTight, position_over, position_interval, arguments}
+use Rattle.spec_motions.proofs.HeldSpans.{Holds-position}
+use Rattle.spec_motions.proofs.Tight.{IsTight-position}
+use Rattle.spec_ephemeris.specs.Granules.{series_of}
+use Rattle.spec_motions.proofs.GranuleSeries.{IsSeries-of, IsSpan-of}
 use Rattle.cheby_enclose.proofs.positions.position.Goals as goal
 use Rattle.cheby_enclose.proofs.positions.position.Goals.{After-position_over}
 

@@ -4,10 +4,10 @@ use mir.Syntax.{w128}
 use mir.Val.{SFits}
 use Rattle.spec_intervals.specs.Interval.{narrow}
 use Rattle.spec_chebyshev.specs.Rows.{entry, t_row}
-use Rattle.spec_enclosures.specs.Sums.{sum_low, sum_high}
-use Rattle.spec_enclosures.specs.Enclosures.{position_over}
-use Rattle.cheby_laws.proofs.Bounds.{t_within}
-use Rattle.cheby_enclose.proofs.LoopSums.{low_same, high_same, sums_ordered}
+use Rattle.spec_motions.specs.Sums.{sum_low, sum_high}
+use Rattle.spec_motions.specs.Enclosures.{position_over}
+use Rattle.spec_chebyshev.proofs.Bounds.{t_within}
+use Rattle.spec_motions.proofs.RowSums.{low_same, high_same, sums_ordered}
 use Rattle.cheby_enclose.proofs.positions.position_over.Goals as goal
 use Rattle.cheby_enclose.proofs.positions.position_over.Goals.{After-row_sum-sum}
 

@@ -2,7 +2,7 @@ use Rattle.std.proofs.Common.{rules, ◌∙◌}
 use Rattle.std.proofs.lemmas.Int.{to_z-of_z}
 use mir.Syntax.{w128}
 use mir.Val.{SFits}
-use Rattle.cheby_laws.proofs.Bounds.{unit_fits, widened}
+use Rattle.spec_chebyshev.proofs.Bounds.{unit_fits, widened}
 use Rattle.cheby_enclose.proofs.sums.product.Goals as goal
 
 pub returns-clause-lo : goal.returns-clause-lo

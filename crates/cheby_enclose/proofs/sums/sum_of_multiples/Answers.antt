@@ -1,7 +1,9 @@
 use Rattle.std.proofs.Common.{◌≡◌, ℕ, ◌<◌, ◌≤◌, ◌*◌, ◌^◌, ◌+◌, ◌-◌, suc, max, sym, subst, ℤ, arith, length, get_or, unsigned_abs, ◌*ℤ◌, pos}
 use Rattle.spec_chebyshev.specs.Rows.{entry, nothing}
-use Rattle.cheby_enclose.specs.Rows.{entry_size, slope_sizes}
-use Rattle.cheby_enclose.proofs.LoopSums.{low_multiple, high_multiple, least_size, greatest_size, sum_size, multiple_size, size_more, sizes_grow, total_from_one, EndsWithin-size}
+use Rattle.spec_motions.specs.RowSizes.{entry_size, slope_sizes}
+use Rattle.spec_numbers.proofs.Sizes.{sum_size}
+use Rattle.spec_motions.proofs.EndSizes.{least_size, greatest_size}
+use Rattle.spec_motions.proofs.RowSums.{low_multiple, high_multiple, multiple_size, size_more, sizes_grow, total_from_one, EndsWithin-size}
 use Rattle.cheby_enclose.proofs.sums.sum_of_multiples.Goals as goal
 use Rattle.cheby_enclose.proofs.sums.sum_of_multiples.Goals.{After-product}
 

@@ -1,7 +1,7 @@
 use Rattle.std.proofs.Common.{◌≡◌, ◌≤◌, length, drop, max, ◌+ℤ◌, unsigned_abs}
 use Rattle.spec_chebyshev.specs.Rows.{entry}
-use Rattle.spec_enclosures.specs.Sums.{multiples, sum_low, sum_high}
-use Rattle.cheby_enclose.specs.Rows.{slope_sizes, entry_size}
+use Rattle.spec_motions.specs.Sums.{multiples, sum_low, sum_high}
+use Rattle.spec_motions.specs.RowSizes.{slope_sizes, entry_size}
 use Rattle.cheby_enclose.proofs.sums.sum_of_multiples.Given as goal
 
 abbrev pub invariant-loop-k : goal.invariant-loop-k

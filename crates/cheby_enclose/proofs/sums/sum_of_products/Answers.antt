@@ -1,7 +1,9 @@
 use Rattle.std.proofs.Common.{◌≤◌, ◌*◌, ◌^◌, arith, get_or, unsigned_abs}
 use Rattle.spec_intervals.specs.Interval.{least4, greatest4}
 use Rattle.spec_chebyshev.specs.Rows.{entry, nothing, EndsWithin}
-use Rattle.cheby_enclose.proofs.LoopSums.{low_more, high_more, least_size, greatest_size, sum_size}
+use Rattle.spec_numbers.proofs.Sizes.{sum_size}
+use Rattle.spec_motions.proofs.EndSizes.{least_size, greatest_size}
+use Rattle.spec_motions.proofs.RowSums.{low_more, high_more}
 use Rattle.cheby_enclose.proofs.sums.sum_of_products.Goals as goal
 
 pub loop-k-preserved : goal.loop-k-preserved

@@ -1,6 +1,6 @@
 use Rattle.std.proofs.Common.{◌≡◌, ◌≤◌, ◌*◌, ◌^◌, drop, ◌+ℤ◌, unsigned_abs}
 use Rattle.spec_chebyshev.specs.Rows.{entry}
-use Rattle.spec_enclosures.specs.Sums.{sum_low, sum_high}
+use Rattle.spec_motions.specs.Sums.{sum_low, sum_high}
 use Rattle.cheby_enclose.proofs.sums.sum_of_products.Given as goal
 
 abbrev pub invariant-loop-k : goal.invariant-loop-k

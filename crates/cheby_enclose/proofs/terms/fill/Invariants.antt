@@ -1,5 +1,5 @@
 use Rattle.std.proofs.Common.{◌≡◌, length, map, take}
-use Rattle.spec_enclosures.specs.Sums.{coefficient}
+use Rattle.spec_motions.specs.Sums.{coefficient}
 use Rattle.cheby_enclose.proofs.terms.fill.Given as goal
 
 abbrev pub invariant-loop-k : goal.invariant-loop-k

@@ -4,7 +4,7 @@ use mir.Syntax.{w16, w128}
 use mir.Val.{SFits}
 use Rattle.spec_chebyshev.specs.Rows.{ends}
 use Rattle.spec_intervals.specs.Interval.{Interval, from_decimal}
-use Rattle.spec_enclosures.specs.Sums.{coefficient}
+use Rattle.spec_motions.specs.Sums.{coefficient}
 use Rattle.cheby_enclose.proofs.TermLists.{low_size, high_size, narrowed}
 use Rattle.cheby_enclose.proofs.terms.term.Goals as goal
 

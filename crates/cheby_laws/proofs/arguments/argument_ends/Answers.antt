@@ -1,6 +1,6 @@
 use Rattle.std.proofs.Common.{◌≡◌, ◌∙◌, to_z, of_z, w64, ◌^◌, pos, ◌*ℤ◌, unsigned_abs}
 use Rattle.std.proofs.lemmas.Int.{to_z-of_z}
-use Rattle.spec_intervals.specs.Interval.{floor_div, ceil_div}
+use Rattle.spec_numbers.specs.Numbers.{floor_div, ceil_div}
 use Rattle.spec_chebyshev.specs.Rows.{argument_of}
 use Rattle.cheby_laws.proofs.arguments.argument_ends.Goals as goal
 

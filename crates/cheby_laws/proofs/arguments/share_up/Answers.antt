@@ -2,7 +2,7 @@ use Rattle.std.proofs.Common.{◌≡◌, ◌∙◌, w64, ◌^◌, pos, neg_ℤ, 
 use Rattle.std.proofs.lemmas.Int.{to_z-of_z}
 use mir.Syntax.{w128}
 use mir.Val.{SFits}
-use Rattle.spec_intervals.specs.Interval.{floor_div}
+use Rattle.spec_numbers.specs.Numbers.{floor_div}
 use Rattle.cheby_laws.proofs.arguments.share_up.Goals as goal
 
 pub returns : goal.returns

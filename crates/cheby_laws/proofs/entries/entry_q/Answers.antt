@@ -1,6 +1,7 @@
 use Rattle.std.proofs.Common.{arith, ◌≡◌, ◌∙◌, ◌-◌, ◌≤◌, ◌*◌, ◌^◌}
 use Rattle.spec_chebyshev.specs.Rows.{q_row, entry, q_size, shifted, t_row}
-use Rattle.cheby_laws.proofs.Bounds.{q_within, q_row-step, t_within, EndsWithin-shifted}
+use Rattle.spec_chebyshev.proofs.Bounds.{q_within, t_within, EndsWithin-shifted}
+use Rattle.cheby_laws.proofs.RowSteps.{q_row-step}
 use Rattle.cheby_laws.proofs.entries.entry_q.Goals as goal
 
 pub next_entry-requires-clause-e_in : goal.next_entry-requires-clause-e_in

@@ -1,6 +1,7 @@
 use Rattle.std.proofs.Common.{arith, ◌≡◌, ◌∙◌, ◌-◌, ◌≤◌, ◌*◌, ◌^◌}
 use Rattle.spec_chebyshev.specs.Rows.{r_row, entry, r_size, shifted, u_row}
-use Rattle.cheby_laws.proofs.Bounds.{r_within, r_row-step, u_within, EndsWithin-shifted}
+use Rattle.spec_chebyshev.proofs.Bounds.{r_within, u_within, EndsWithin-shifted}
+use Rattle.cheby_laws.proofs.RowSteps.{r_row-step}
 use Rattle.cheby_laws.proofs.entries.entry_r.Goals as goal
 
 pub next_entry-requires-clause-e_in : goal.next_entry-requires-clause-e_in

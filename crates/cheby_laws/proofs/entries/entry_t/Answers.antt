@@ -1,6 +1,7 @@
 use Rattle.std.proofs.Common.{arith, ◌≡◌, ◌∙◌, ◌-◌, ◌≤◌}
 use Rattle.spec_chebyshev.specs.Rows.{t_row, entry}
-use Rattle.cheby_laws.proofs.Bounds.{t_within, t_row-step}
+use Rattle.spec_chebyshev.proofs.Bounds.{t_within}
+use Rattle.cheby_laws.proofs.RowSteps.{t_row-step}
 use Rattle.cheby_laws.proofs.entries.entry_t.Goals as goal
 
 pub next_entry-requires-clause-e_in : goal.next_entry-requires-clause-e_in

@@ -1,6 +1,7 @@
 use Rattle.std.proofs.Common.{arith, ◌≡◌, ◌∙◌, ◌-◌, ◌≤◌, ◌*◌, ◌^◌}
 use Rattle.spec_chebyshev.specs.Rows.{u_row, entry, u_size}
-use Rattle.cheby_laws.proofs.Bounds.{u_within, u_row-step}
+use Rattle.spec_chebyshev.proofs.Bounds.{u_within}
+use Rattle.cheby_laws.proofs.RowSteps.{u_row-step}
 use Rattle.cheby_laws.proofs.entries.entry_u.Goals as goal
 
 pub next_entry-requires-clause-e_in : goal.next_entry-requires-clause-e_in

@@ -3,7 +3,7 @@ use Rattle.std.proofs.lemmas.Int.{to_z-of_z}
 use Rattle.std.specs.Int.{int_min}
 use mir.Syntax.{w128}
 use mir.Val.{SFits}
-use Rattle.spec_intervals.specs.Interval.{ceil_div}
+use Rattle.spec_numbers.specs.Numbers.{ceil_div}
 use Rattle.cheby_laws.proofs.steps.high_end_of.Goals as goal
 
 pub returns-clause-equals : goal.returns-clause-equals

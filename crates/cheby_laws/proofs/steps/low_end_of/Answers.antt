@@ -3,7 +3,7 @@ use Rattle.std.proofs.lemmas.Int.{to_z-of_z}
 use Rattle.std.specs.Int.{int_max}
 use mir.Syntax.{w128}
 use mir.Val.{SFits}
-use Rattle.spec_intervals.specs.Interval.{floor_div}
+use Rattle.spec_numbers.specs.Numbers.{floor_div}
 use Rattle.cheby_laws.proofs.steps.low_end_of.Goals as goal
 
 pub returns-clause-equals : goal.returns-clause-equals

@@ -4,7 +4,8 @@ use mir.Syntax.{w128}
 use mir.Val.{SFits}
 use Rattle.spec_intervals.specs.Interval.{least4, greatest4}
 use Rattle.spec_chebyshev.specs.Rows.{next, low_end, high_end}
-use Rattle.cheby_laws.proofs.Bounds.{size, unit_fits, widened, least4_bound, greatest4_bound}
+use Rattle.spec_chebyshev.proofs.Arguments.{within_size}
+use Rattle.spec_chebyshev.proofs.Bounds.{unit_fits, widened, least4_bound, greatest4_bound}
 use Rattle.cheby_laws.proofs.steps.next_entry.Goals as goal
 
 pub low_end_of-lo-requires-clause-least_in : goal.low_end_of-lo-requires-clause-least_in
@@ -12,14 +13,14 @@ low_end_of-lo-requires-clause-least_in c =
     let x = c.requires.x_in in
     let e = c.requires.e_in in
     let r : SFits w128 c.products-least.result.0 = search rules in
-    rw (to_z-of_z w128 c.products-least.result.0 r, c.products-least.ensures.least) (least4_bound c.args.x.lo c.args.x.hi c.args.e.lo c.args.e.hi (size _ _ x.lo) (size _ _ x.hi) (size _ _ e.lo) (size _ _ e.hi))
+    rw (to_z-of_z w128 c.products-least.result.0 r, c.products-least.ensures.least) (least4_bound c.args.x.lo c.args.x.hi c.args.e.lo c.args.e.hi (within_size _ _ x.lo) (within_size _ _ x.hi) (within_size _ _ e.lo) (within_size _ _ e.hi))
 
 pub high_end_of-hi-requires-clause-greatest_in : goal.high_end_of-hi-requires-clause-greatest_in
 high_end_of-hi-requires-clause-greatest_in c =
     let x = c.requires.x_in in
     let e = c.requires.e_in in
     let r : SFits w128 c.products-least.result.1 = search rules in
-    rw (to_z-of_z w128 c.products-least.result.1 r, c.products-least.ensures.greatest) (greatest4_bound c.args.x.lo c.args.x.hi c.args.e.lo c.args.e.hi (size _ _ x.lo) (size _ _ x.hi) (size _ _ e.lo) (size _ _ e.hi))
+    rw (to_z-of_z w128 c.products-least.result.1 r, c.products-least.ensures.greatest) (greatest4_bound c.args.x.lo c.args.x.hi c.args.e.lo c.args.e.hi (within_size _ _ x.lo) (within_size _ _ x.hi) (within_size _ _ e.lo) (within_size _ _ e.hi))
 
 pub returns : goal.returns
 unfolding next

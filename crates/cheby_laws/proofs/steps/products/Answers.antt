@@ -1,4 +1,4 @@
-use Rattle.cheby_laws.proofs.Bounds.{unit_fits, widened}
+use Rattle.spec_chebyshev.proofs.Bounds.{unit_fits, widened}
 use Rattle.cheby_laws.proofs.steps.products.Goals as goal
 
 pub returns-clause-least : goal.returns-clause-least

@@ -1,4 +1,4 @@
-use Rattle.de_blocks.proofs.SameFile.{same_file}
+use Rattle.de_blocks.specs.SameFile.{same_file}
 use Rattle.de_blocks.proofs.laws.readers_of_blocks_say_the_same_in_every_file.Goals as goal
 
 pub returns : goal.returns

@@ -1,4 +1,4 @@
-use Rattle.de_header.proofs.SameFile.{same_file}
+use Rattle.de_header.specs.SameFile.{same_file}
 use Rattle.de_header.proofs.laws.open_readers_say_the_same_in_every_file.Goals as goal
 
 pub returns : goal.returns

@@ -1,7 +1,7 @@
 use Rattle.std.proofs.Common.{refl, arith}
 use Rattle.std.proofs.lemmas.Int.{ints}
 use Rattle.spec_ephemeris.proofs.HeaderTest.{passes}
-use Rattle.eph_model.proofs.SmallNumbers.{all_bounded}
+use Rattle.spec_ephemeris.proofs.SmallNumbers.{all_bounded}
 use Rattle.eph_model.proofs.tests.several_granules.Goals as goal
 
 pub empty-ephemeris-requires-clause-header : goal.empty-ephemeris-requires-clause-header

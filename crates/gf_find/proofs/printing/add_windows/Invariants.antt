@@ -1,5 +1,5 @@
 use Rattle.std.proofs.Common.{◌≡◌, ◌++◌, take}
-use Rattle.spec_output.specs.Report.{window_lines}
+use Rattle.spec_reports.specs.Report.{window_lines}
 use Rattle.gf_find.proofs.printing.add_windows.Given as goal
 
 abbrev pub invariant-loop-window : goal.invariant-loop-window

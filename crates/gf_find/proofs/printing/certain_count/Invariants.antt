@@ -1,5 +1,5 @@
 use Rattle.std.proofs.Common.{◌≡◌, take}
-use Rattle.spec_output.specs.Report.{certain_count}
+use Rattle.spec_reports.specs.Report.{certain_count}
 use Rattle.gf_find.proofs.printing.certain_count.Given as goal
 
 abbrev pub invariant-loop-window : goal.invariant-loop-window

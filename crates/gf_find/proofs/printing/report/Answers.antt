@@ -1,6 +1,6 @@
 use Rattle.std.proofs.Common.{◌≡◌, ◌++◌, ◌∙◌, ap}
 use Rattle.std.proofs.lemmas.Int.{to_z-of_z}
-use Rattle.spec_output.specs.Report.{request_line}
+use Rattle.spec_reports.specs.Report.{request_line}
 use Rattle.gf_find.proofs.printing.report.Goals as goal
 
 pub returns : goal.returns

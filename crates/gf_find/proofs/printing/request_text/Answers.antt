@@ -1,5 +1,5 @@
 use Rattle.std.proofs.Common.{refl}
-use Rattle.spec_output.specs.Report.{request_text}
+use Rattle.spec_reports.specs.Report.{request_text}
 use Rattle.gf_find.proofs.printing.request_text.Goals as goal
 
 pub returns : goal.returns

@@ -1,5 +1,5 @@
 use Rattle.std.proofs.Common.{◌≡◌, drop, map, string_bytes}
-use Rattle.spec_output.specs.Words.{are_names}
+use Rattle.spec_requests.specs.Words.{are_names}
 use Rattle.gf_find.proofs.words.are_names.Given as goal
 
 abbrev pub invariant-loop-word : goal.invariant-loop-word

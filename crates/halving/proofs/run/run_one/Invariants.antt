@@ -1,5 +1,5 @@
 use Rattle.std.proofs.Common.{◌≡◌, ◌≤◌, ◌++◌, length}
-use Rattle.spec_events.specs.Tree.{leaves}
+use Rattle.spec_trees.specs.Tree.{leaves}
 use Rattle.halving.specs.Pending.{pending, AllValid, weight}
 use Rattle.halving.proofs.run.run_one.Given as goal
 

@@ -2,9 +2,9 @@ use Rattle.std.proofs.Common.{arith, ◌≡◌, ◌∙◌, ap, sym, to_z, of_z, 
 use Rattle.std.proofs.lemmas.Int.{to_z-of_z}
 use lib.Signed.{lt_z}
 use mir.Syntax.{w128}
-use Rattle.spec_intervals.specs.Interval.{floor_div}
-use Rattle.spec_intervals.proofs.Order.{lin}
-use Rattle.spec_intervals.proofs.Floor.{floor_div-le, ceil_div-exact, ceil_div-next}
+use Rattle.spec_numbers.specs.Numbers.{floor_div}
+use Rattle.spec_numbers.proofs.Order.{lin}
+use Rattle.spec_numbers.proofs.Floor.{floor_div-le, ceil_div-exact, ceil_div-next}
 use Rattle.ival_core.proofs.Powers.{multiple_fits, multiple_is, next_fits}
 use Rattle.ival_core.proofs.decimals.ceil_over.Goals as goal
 

@@ -2,8 +2,8 @@ use Rattle.std.proofs.Common.{arith, ◌≡◌, ◌∙◌, ◌^◌, pos, ap, sym
 use Rattle.std.proofs.lemmas.Int.{ints, to_z-of_z}
 use mir.Syntax.{w128}
 use mir.Val.{SFits}
-use Rattle.spec_intervals.specs.Interval.{floor_div, ceil_div}
-use Rattle.ival_core.proofs.DecimalEnds.{whole-low, whole-high, tenths-low, tenths-high, whole-size}
+use Rattle.spec_numbers.specs.Numbers.{floor_div, ceil_div}
+use Rattle.spec_intervals.proofs.DecimalEnds.{whole-low, whole-high, tenths-low, tenths-high, whole-size}
 use Rattle.ival_core.proofs.decimals.decimal_ends.Goals as goal
 use Rattle.ival_core.proofs.decimals.decimal_ends.Goals.{After-unsigned_abs-n}
 

@@ -2,7 +2,7 @@ use Rattle.std.proofs.Common.{arith, ◌≡◌, ◌∙◌, ap, ◌≤◌, ◌^�
 use Rattle.std.proofs.lemmas.Int.{to_z-of_z}
 use mir.Syntax.{w128}
 use mir.Val.{SFits}
-use Rattle.spec_intervals.specs.Interval.{floor_div, ceil_div}
+use Rattle.spec_numbers.specs.Numbers.{floor_div, ceil_div}
 use Rattle.ival_core.proofs.Powers.{ten_pos, ten_bound, tenths_capped, ceil_capped}
 use Rattle.ival_core.proofs.decimals.tenths.Goals as goal
 use Rattle.ival_core.proofs.decimals.tenths.Goals.{After-ten_to-d}

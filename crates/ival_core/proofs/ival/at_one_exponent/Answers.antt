@@ -3,9 +3,10 @@ use Rattle.std.proofs.lemmas.Int.{ints, to_z-of_z}
 use Rattle.std.specs.Int.{int_gap}
 use mir.Syntax.{w128}
 use mir.Val.{SFits}
-use Rattle.spec_intervals.specs.Interval.{Interval, floor_div, ceil_div, surplus, lift}
-use Rattle.spec_intervals.proofs.Floor.{ordered_quotients}
-use Rattle.spec_intervals.proofs.Order.{le-mul}
+use Rattle.spec_intervals.specs.Interval.{Interval, surplus, lift}
+use Rattle.spec_numbers.specs.Numbers.{floor_div, ceil_div}
+use Rattle.spec_numbers.proofs.Floor.{ordered_quotients}
+use Rattle.spec_numbers.proofs.Order.{le-mul}
 use Rattle.std.proofs.lemmas.Nat.{pow_pos}
 use Rattle.ival_core.proofs.Shifts.{small_fits, exponent_sum}
 use Rattle.ival_core.proofs.ival.at_one_exponent.Goals as goal

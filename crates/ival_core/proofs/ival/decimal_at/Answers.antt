@@ -2,8 +2,9 @@ use Rattle.std.proofs.Common.{◌≡◌, rules}
 use Rattle.std.proofs.lemmas.Int.{to_z-of_z}
 use mir.Syntax.{w128}
 use mir.Val.{SFits}
-use Rattle.spec_intervals.specs.Interval.{floor_div, ceil_div, decimal_top, decimal_bottom}
-use Rattle.ival_core.proofs.DecimalEnds.{decimal-IsIval, from_decimal-parts}
+use Rattle.spec_numbers.specs.Numbers.{floor_div, ceil_div}
+use Rattle.spec_intervals.specs.Interval.{decimal_top, decimal_bottom}
+use Rattle.spec_intervals.proofs.DecimalEnds.{decimal-IsIval, from_decimal-parts}
 use Rattle.ival_core.proofs.ival.decimal_at.Goals as goal
 
 pub invariant_of-result : goal.invariant_of-result

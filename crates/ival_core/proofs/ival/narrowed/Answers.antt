@@ -2,7 +2,7 @@ use Rattle.std.proofs.Common.{◌≡◌, ◌∙◌, ◌^◌, arith, to_z, of_z, 
 use Rattle.std.proofs.lemmas.Int.{ints, to_z-of_z}
 use mir.Syntax.{w128}
 use mir.Val.{SFits}
-use Rattle.spec_intervals.specs.Interval.{floor_div, ceil_div}
+use Rattle.spec_numbers.specs.Numbers.{floor_div, ceil_div}
 use Rattle.ival_core.proofs.Settling.{halved-IsIval, halved-narrow}
 use Rattle.ival_core.proofs.ival.narrowed.Goals as goal
 use Rattle.ival_core.proofs.ival.narrowed.Goals.{After-halved_up}

@@ -2,7 +2,7 @@ use Rattle.std.proofs.Common.{◌≡◌, ◌∙◌, ◌^◌, arith, ap, to_z, of
 use Rattle.std.proofs.lemmas.Int.{ints, to_z-of_z}
 use mir.Syntax.{w128}
 use mir.Val.{SFits}
-use Rattle.spec_intervals.specs.Interval.{floor_div}
+use Rattle.spec_numbers.specs.Numbers.{floor_div}
 use Rattle.ival_core.proofs.Settling.{least_from, below_least, narrow-of}
 use Rattle.ival_core.proofs.ival.narrowed_any.Goals as goal
 

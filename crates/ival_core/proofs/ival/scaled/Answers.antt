@@ -2,8 +2,8 @@ use Rattle.std.proofs.Common.{◌≡◌, ◌∙◌, arith, to_z, of_z, pos, ◌*
 use Rattle.std.proofs.lemmas.Int.{ints, to_z-of_z}
 use mir.Syntax.{w128}
 use mir.Val.{SFits}
-use Rattle.spec_intervals.specs.Interval.{floor_div, ceil_div}
-use Rattle.spec_intervals.proofs.Floor.{ordered_quotients}
+use Rattle.spec_numbers.specs.Numbers.{floor_div, ceil_div}
+use Rattle.spec_numbers.proofs.Floor.{ordered_quotients}
 use Rattle.ival_core.proofs.Aligning.{scale-is, doubles_ordered}
 use Rattle.ival_core.proofs.ival.scaled.Goals as goal
 use Rattle.ival_core.proofs.ival.scaled.Goals.{After-share_up}

@@ -1,8 +1,8 @@
 use Rattle.std.proofs.Common.{◌≡◌, ◌≤◌, ◌++◌, List, [], length, drop, ◌∙◌, ap, sym, arith}
 use Rattle.std.proofs.lemmas.List.{drop_all}
-use Rattle.spec_events.specs.declared.tree.Leaf.{Leaf}
-use Rattle.spec_events.specs.Runs.{joined}
-use Rattle.spec_events.proofs.Runs.{joined_are_windows}
+use Rattle.spec_trees.specs.declared.tree.Leaf.{Leaf}
+use Rattle.spec_trees.specs.Runs.{joined}
+use Rattle.spec_trees.proofs.Runs.{joined_are_windows}
 use Rattle.ordered_join.proofs.joining.joined.Goals as goal
 
 pub returns : goal.returns

@@ -1,5 +1,5 @@
 use Rattle.std.proofs.Common.{◌≡◌, ◌++◌, drop, None}
-use Rattle.spec_events.specs.Runs.{joined}
+use Rattle.spec_trees.specs.Runs.{joined}
 use Rattle.ordered_join.proofs.joining.joined.Given as goal
 
 abbrev pub invariant-loop-leaf : goal.invariant-loop-leaf

@@ -1,5 +1,5 @@
 use Rattle.std.proofs.Common.{◌≡◌, take}
-use Rattle.spec_events.specs.Order.{booked_leaves}
+use Rattle.spec_trees.specs.Order.{booked_leaves}
 use Rattle.ordered_join.proofs.ordering.leaves.Given as goal
 
 abbrev pub invariant-loop-entry : goal.invariant-loop-entry

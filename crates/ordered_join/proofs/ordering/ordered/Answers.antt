@@ -1,8 +1,8 @@
 use Rattle.std.proofs.Common.{◌∙◌, ap, rules}
 use Rattle.std.proofs.lemmas.List.Sorted.{answers_always}
-use Rattle.spec_events.specs.declared.tree.Leaf.{Leaf}
-use Rattle.spec_events.specs.Order.{in_order}
-use Rattle.spec_events.proofs.Ordering.{sorted_is}
+use Rattle.spec_trees.specs.declared.tree.Leaf.{Leaf}
+use Rattle.spec_trees.specs.Order.{in_order}
+use Rattle.spec_trees.proofs.Ordering.{sorted_is}
 use Rattle.ordered_join.proofs.ordering.ordered.Goals as goal
 
 pub returns : goal.returns

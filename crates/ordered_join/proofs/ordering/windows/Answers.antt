@@ -1,4 +1,4 @@
-use Rattle.spec_events.proofs.Placing.{windows_within, windows_in_order}
+use Rattle.spec_trees.proofs.Placing.{windows_within, windows_in_order}
 use Rattle.ordered_join.proofs.Covering.{all_have_time}
 use Rattle.ordered_join.proofs.ordering.windows.Goals as goal
 

@@ -1,6 +1,6 @@
 use Rattle.std.proofs.Common.{refl, arith}
 use Rattle.std.proofs.lemmas.Int.{ints}
-use Rattle.spec_events.specs.Order.{inserted, in_order}
+use Rattle.spec_trees.specs.Order.{inserted, in_order}
 use Rattle.ordered_join.proofs.tests.a_book_out_of_order.Goals as goal
 
 pub windows-requires : goal.windows-requires

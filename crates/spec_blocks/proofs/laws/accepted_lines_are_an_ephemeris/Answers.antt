@@ -1,4 +1,4 @@
-use Rattle.spec_header.proofs.Holding.{holds_ok}
+use Rattle.spec_sections.proofs.Holding.{holds_ok}
 use Rattle.spec_blocks.specs.Blocks.{ephemeris}
 use Rattle.spec_blocks.proofs.Accepted.{HasBlocks, ephemeris_holds}
 use Rattle.spec_blocks.proofs.laws.accepted_lines_are_an_ephemeris.Goals as goal

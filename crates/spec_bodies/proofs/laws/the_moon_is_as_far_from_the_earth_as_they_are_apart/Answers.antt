@@ -6,6 +6,6 @@ use Rattle.spec_bodies.proofs.laws.the_moon_is_as_far_from_the_earth_as_they_are
 
 pub returns : goal.returns
 returns c = record {
-  moon = λ column factors axis t. sum_less (exact_of column factors (earth axis) t) (column moon_column axis t);
-  earth = λ column factors axis t. less_sum (exact_of column factors (earth axis) t) (column moon_column axis t);
+  moon = λ axis column factors t. sum_less (exact_of column factors (earth axis) t) (column moon_column axis t);
+  earth = λ axis column factors t. less_sum (exact_of column factors (earth axis) t) (column moon_column axis t);
 }

@@ -1,7 +1,6 @@
-use Rattle.std.proofs.Common.{refl, arith}
+use Rattle.std.proofs.Common.{refl, arith, pos}
 use Rattle.spec_intervals.specs.Fraction.{fraction}
-use Rattle.std.proofs.Common.{pos}
-use Rattle.spec_expressions.proofs.Compare.{Holds-zero}
+use Rattle.spec_intervals.proofs.Compare.{Holds-zero}
 use Rattle.body_states.proofs.states.BodyStates.nothing.Goals as goal
 
 pub constant-requires-clause-number : goal.constant-requires-clause-number

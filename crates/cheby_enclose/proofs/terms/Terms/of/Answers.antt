@@ -1,8 +1,8 @@
 use Rattle.std.proofs.Common.{◌≡◌, ◌+◌, ◌-◌, ◌*◌, ◌∙◌, arith}
 use Rattle.std.proofs.lemmas.List.{length-map}
-use Rattle.spec_enclosures.specs.Sums.{coefficient}
-use Rattle.cheby_enclose.specs.Granules.{series_of}
-use Rattle.cheby_enclose.proofs.GranuleSeries.{series_length}
+use Rattle.spec_motions.specs.Sums.{coefficient}
+use Rattle.spec_ephemeris.specs.Granules.{series_of}
+use Rattle.spec_motions.proofs.GranuleSeries.{series_length}
 use Rattle.cheby_enclose.proofs.terms.Terms.of.Goals as goal
 
 pub returns-clause-count : goal.returns-clause-count

@@ -1,6 +1,7 @@
-use Rattle.std.proofs.Common.{◌≡◌, ap, subst, sym, ◌∙◌, Ok, Err}
+use Rattle.std.proofs.Common.{◌≡◌, ap, subst, sym, ◌∙◌, Ok, Err, ℕ}
 use Rattle.spec_ephemeris.specs.declared.header.Header.{Header}
 use Rattle.spec_blocks.specs.BlockRules.{record_line}
+use Rattle.spec_sections.specs.Sections.{line_fault}
 use Rattle.de_blocks.specs.Reader.{Progress, Takes}
 use Rattle.de_blocks.specs.declared.answers.BlockError.TheVariants as errors
 use Rattle.de_blocks.specs.declared.state.Place.TheVariants.{Inside}
@@ -20,6 +21,6 @@ returns-in-Err c =
     let rule : record_line c.self.inside.accepted.header.ncoeff c.args.line.now.tokens ≡ Err c.in-Err.broken =
     ap (λ (h : Header). record_line h.ncoeff c.args.line.now.tokens) (sym c.header.ensures.same) ∙ sym c.record_line.ensures ∙ c.in-Err.is in
     rw c.refuse.ensures.result
-    (subst (λ (p : Progress). Takes p c.args.line.now (Err (errors.Fault c.fault_at.result)) c.refuse.new.self) c.self.view_is
-    (takes_bad_record c.self.inside.accepted c.self.inside.numbers.items c.self.inside.place c.refuse.new.self c.args.line.now c.in-Err.broken c.fault_at.result
-    (ap (λ (p : Progress). p.place) c.self.view_is ∙ c.requires) rule c.fault_at.ensures c.refuse.ensures.refused))
+    (subst (λ (p : Progress). Takes p c.args.line.now (Err (errors.Fault c.at_line.result)) c.refuse.new.self) c.self.view_is
+    (takes_bad_record c.self.inside.accepted c.self.inside.numbers.items c.self.inside.place c.refuse.new.self c.args.line.now c.in-Err.broken c.at_line.result
+    (ap (λ (p : Progress). p.place) c.self.view_is ∙ c.requires) rule (c.at_line.ensures ∙ ap (λ (n : ℕ). line_fault n c.in-Err.broken) c.number.ensures) c.refuse.ensures.refused))

@@ -1,5 +1,5 @@
 use Rattle.std.proofs.Common.{[], ap, subst, ◌∙◌, Err}
-use Rattle.spec_blocks.specs.declared.rules.TheConstants.{TRUNCATED}
+use Rattle.spec_faults.specs.declared.numbers.TheConstants.{TRUNCATED}
 use Rattle.de_blocks.specs.Reader.{Ends, Progress, says}
 use Rattle.de_blocks.specs.declared.answers.BlockError.TheVariants as errors
 use Rattle.de_blocks.proofs.Steps.{at, late, ends_between, ends_inside, ends_refused}

@@ -1,4 +1,5 @@
-use Rattle.std.proofs.Common.{ap, subst, ◌∙◌, Ok, Err}
+use Rattle.std.proofs.Common.{ap, subst, ◌∙◌, Ok, Err, ℕ}
+use Rattle.spec_sections.specs.Sections.{line_fault}
 use Rattle.de_blocks.specs.Reader.{Progress, Takes}
 use Rattle.de_blocks.specs.declared.answers.BlockError.TheVariants as errors
 use Rattle.de_blocks.proofs.Steps.{at, fits_after, took, took_bad}
@@ -18,7 +19,7 @@ returns-in-Ok c =
 pub returns-in-Err-Broken : goal.returns-in-Err-Broken
 returns-in-Err-Broken c =
     rw c.refuse.ensures.result
-    (subst (λ (p : Progress). Takes p c.args.line.now (Err (errors.Fault c.fault_at.result)) c.refuse.new.self) c.self.view_is
+    (subst (λ (p : Progress). Takes p c.args.line.now (Err (errors.Fault c.at_line.result)) c.refuse.new.self) c.self.view_is
     (took_bad c.self.inside.accepted c.self.inside.numbers.items c.take_line.new.numbers.items c.take_line.new.before c.self.inside.place c.refuse.new.self c.args.line.now
-    c.take_line.result c.in-Err-Broken.field-0 c.in-Err-Broken.broken c.fault_at.result (ap (λ (p : Progress). p.place) c.self.view_is ∙ c.requires) c.self.invariant
-    c.in-Err-Broken.field-0-is c.in-Err-Broken.ensures c.fault_at.ensures c.refuse.ensures.refused))
+    c.take_line.result c.in-Err-Broken.field-0 c.in-Err-Broken.broken c.at_line.result (ap (λ (p : Progress). p.place) c.self.view_is ∙ c.requires) c.self.invariant
+    c.in-Err-Broken.field-0-is c.in-Err-Broken.ensures (c.at_line.ensures ∙ ap (λ (n : ℕ). line_fault n c.in-Err-Broken.broken) c.number.ensures) c.refuse.ensures.refused))

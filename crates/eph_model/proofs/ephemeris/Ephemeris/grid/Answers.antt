@@ -1,4 +1,5 @@
-use Rattle.eph_model.proofs.Rules.{shared, few}
+use Rattle.spec_ephemeris.proofs.ColumnRules.{few}
+use Rattle.eph_model.proofs.Rules.{shared}
 use Rattle.eph_model.proofs.ephemeris.Ephemeris.grid.Goals as goal
 
 pub granule_seconds-seconds-requires-clause-shared :

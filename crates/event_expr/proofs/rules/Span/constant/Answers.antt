@@ -1,6 +1,6 @@
 use Rattle.event_expr.proofs.Steps.{part-wide, shared-constant}
 use Rattle.std.proofs.Common.{◌∙◌, sym}
-use Rattle.spec_expressions.specs.Enclosure.{constant_of}
+use Rattle.spec_intervals.specs.Enclosure.{constant_of}
 use Rattle.event_expr.proofs.rules.Span.constant.Goals as goal
 
 pub wide-requires-clause-mid_within : goal.wide-requires-clause-mid_within

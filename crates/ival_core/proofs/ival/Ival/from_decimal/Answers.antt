@@ -3,7 +3,7 @@ use borrow.Author.Differences.{up, down}
 use Rattle.std.proofs.lemmas.Int.{to_z-of_z}
 use Rattle.spec_intervals.specs.Interval.{distance_exponent, cosine_exponent, from_decimal}
 use Rattle.spec_intervals.proofs.Decimals.{Holds-from_decimal}
-use Rattle.ival_core.proofs.DecimalEnds.{distance-size, cosine-size}
+use Rattle.spec_intervals.proofs.DecimalEnds.{distance-size, cosine-size}
 use Rattle.ival_core.proofs.ival.Ival.from_decimal.Goals as goal
 use Rattle.ival_core.proofs.ival.Ival.from_decimal.Goals.{Start, After-decimal_at}
 

@@ -3,7 +3,7 @@ use borrow.Author.Differences.{up}
 use Rattle.std.proofs.lemmas.Int.{ints}
 use Rattle.spec_intervals.specs.Interval.{interval}
 use Rattle.spec_intervals.specs.Fraction.{Holds, fraction}
-use Rattle.spec_intervals.proofs.Order.{lin, le-mul}
+use Rattle.spec_numbers.proofs.Order.{lin, le-mul}
 use Rattle.ival_core.proofs.ival.tests.made_round_zero.Goals as goal
 
 -- ends on the two sides of 0 hold 0

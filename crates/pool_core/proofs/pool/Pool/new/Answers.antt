@@ -1,6 +1,6 @@
 use Rattle.std.proofs.Common.{◌≡◌, sym, subst}
 use Rattle.std.specs.Prelude.{List, []}
-use Rattle.spec_events.specs.declared.tree.Leaf.{Leaf}
+use Rattle.spec_trees.specs.declared.tree.Leaf.{Leaf}
 use Rattle.spec_pool.specs.Pool.{Holding, state}
 use Rattle.spec_pool.specs.Tiling.{Conserves}
 use Rattle.spec_pool.proofs.Beginning.{opening_conserves}

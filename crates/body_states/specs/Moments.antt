@@ -1,0 +1,14 @@
+-- The states of a view over one span of times.
+use Rattle.std.specs.Prelude.{ℕ, ℤ}
+use Rattle.spec_intervals.specs.Enclosure.{Enclosure}
+use Rattle.spec_bodies.specs.declared.quantity.Quantity.{Quantity}
+use Rattle.spec_bodies.specs.Views.{View, coordinate_enclosure}
+
+pub record Moment : Type 0 where
+  pub view : View
+  pub first : ℤ
+  pub last : ℤ
+
+-- the enclosures of a target, by quantity and axis
+abbrev pub target_enclosure : View → ℤ → ℤ → ℕ → Quantity → ℕ → Enclosure
+target_enclosure v a b target quantity axis = coordinate_enclosure v quantity target axis a b

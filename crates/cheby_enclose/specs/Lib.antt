@@ -1,2 +1,0 @@
-pub mod Granules
-pub mod Rows

@@ -1,0 +1,11 @@
+mod MercuryX
+mod Units
+mod Range
+mod Signed
+mod Straight
+mod Marked
+mod Found
+mod Arguments
+mod Cutting
+mod Series
+mod Entries

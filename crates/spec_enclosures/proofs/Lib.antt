@@ -1,7 +1,0 @@
-pub mod Same
-pub mod PlainSums
-pub mod HeldSums
-pub mod HeldSpans
-pub mod HeldChanges
-pub mod Widths
-pub mod Tight

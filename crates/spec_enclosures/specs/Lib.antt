@@ -1,4 +1,0 @@
-pub mod Velocity
-pub mod Sums
-pub mod Enclosures
-pub mod Examples

@@ -1,0 +1,18 @@
+// A granule as it is read from an ephemeris.
+
+use spec_text::Decimal;
+
+/// A granule of a column: the span of time over which each component of the column is one Chebyshev series.
+#[derive(Clone, Copy)]
+pub struct Granule<'a> {
+    /// The time at which it begins, in seconds of TDB since J2000.
+    pub start: i64,
+    /// Its length in seconds.
+    pub seconds: i64,
+    /// The coefficients of one component.
+    pub n: usize,
+    /// The components.
+    pub comps: usize,
+    /// The coefficients in km, component after component, in each those of T_0, T_1 and so on.
+    pub coefs: &'a [Decimal],
+}

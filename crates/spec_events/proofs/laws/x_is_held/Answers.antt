@@ -1,5 +1,0 @@
-use Rattle.spec_events.proofs.Range.{Holds-x_range}
-use Rattle.spec_events.proofs.laws.x_is_held.Goals as goal
-
-pub returns : goal.returns
-returns c = record { holds = λ s a b t h p q. Holds-x_range s a b t h p q }

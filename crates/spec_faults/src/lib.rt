@@ -1,0 +1,17 @@
+//! The faults that a run reports: the one table of their numbers and names, which definitions and code look up. What
+//! breaks a rule is said where the rule stands; this crate knows only how it is reported.
+#![tactic(auto)]
+
+mod laws;
+mod numbers;
+mod table;
+
+pub use laws::{faults_are_looked_up, numbers_rise};
+pub use numbers::{
+    BLOCK_GAP, BLOCK_SPAN, COEFFICIENT_COUNT, COLUMN_COUNT, COLUMN_PLACE, COUNT_MISMATCH,
+    EMRAT_MISSING, EMRAT_RANGE, ENDED, FILE_TOO_LARGE, FIRST_LINE, GRANULE_NOT_WHOLE,
+    GROUP_MISSING, HEADER_NUMBER, JD_NOT_WHOLE_SECOND, LIMIT, LINE_TOO_LONG, NCOEFF_DIFFERS,
+    NO_BLOCK, NOT_BUILT, NUMBER, RECORD_LINE, TOO_LARGE, TOO_MANY_BLOCKS, TOO_MANY_FILES,
+    TRAILING_NUMBERS, TRUNCATED, WORDS_NOT_BUILT,
+};
+pub use table::{FAULTS, FaultKind, fault_kind};

@@ -1,0 +1,85 @@
+// The numbers under which faults are reported.
+
+/// A line has more than 4,096 bytes.
+pub const LINE_TOO_LONG: u8 = 4;
+
+/// There are more than 64 files. The fault is that of the 65th, at line 0.
+pub const TOO_MANY_FILES: u8 = 5;
+
+/// A file has more than 268,435,456 bytes. The fault is at line 0.
+pub const FILE_TOO_LARGE: u8 = 6;
+
+/// The files are accepted, and nothing is built yet for what they hold. The fault stands after the last line of all.
+pub const NOT_BUILT: u8 = 7;
+
+/// The first line isn't `KSIZE=`, any word, `NCOEFF=` and a whole number.
+pub const FIRST_LINE: u8 = 10;
+
+/// Another line stands where `GROUP` and a number must stand. The detail is the number of the group.
+pub const GROUP_MISSING: u8 = 11;
+
+/// A Julian date, or the days of a block, are no whole number of seconds.
+pub const JD_NOT_WHOLE_SECOND: u8 = 12;
+
+/// There are not as many values as names.
+pub const COUNT_MISMATCH: u8 = 13;
+
+/// No name is `EMRAT`.
+pub const EMRAT_MISSING: u8 = 14;
+
+/// The value of `EMRAT` isn't from 1 to 1,000.
+pub const EMRAT_RANGE: u8 = 15;
+
+/// A line hasn't one word for each column.
+pub const COLUMN_COUNT: u8 = 16;
+
+/// A place of a column lies outside the block, is one of the two of its dates, or belongs to an earlier column.
+pub const COLUMN_PLACE: u8 = 17;
+
+/// A column has more than 32 coefficients.
+pub const COEFFICIENT_COUNT: u8 = 18;
+
+/// A granule of a column isn't a whole number of seconds.
+pub const GRANULE_NOT_WHOLE: u8 = 19;
+
+/// A number of the header is out of bounds.
+pub const LIMIT: u8 = 20;
+
+/// A word of the header is no number. The detail is the number of a `NumberFault`.
+pub const HEADER_NUMBER: u8 = 21;
+
+/// The text ends before `GROUP 1070`.
+pub const ENDED: u8 = 22;
+
+/// A block doesn't begin with two whole numbers.
+pub const RECORD_LINE: u8 = 30;
+
+/// The second number of a record line isn't that of the header.
+pub const NCOEFF_DIFFERS: u8 = 31;
+
+/// A Julian date of a block is no time from day 0 to day 5,000,000, or the block hasn't the header's length.
+pub const BLOCK_SPAN: u8 = 32;
+
+/// A block doesn't begin where the last one ended.
+pub const BLOCK_GAP: u8 = 33;
+
+/// A word of a block is no number. The detail is the number of a `NumberFault`.
+pub const NUMBER: u8 = 34;
+
+/// A coefficient of a body is 2^36 km or more in size.
+pub const TOO_LARGE: u8 = 35;
+
+/// The text ends within a block.
+pub const TRUNCATED: u8 = 36;
+
+/// The text ends before the first block.
+pub const NO_BLOCK: u8 = 37;
+
+/// There are more blocks than an ephemeris has.
+pub const TOO_MANY_BLOCKS: u8 = 38;
+
+/// After the last number of a block stands a word that isn't zero.
+pub const TRAILING_NUMBERS: u8 = 39;
+
+/// The words of the command line ask for what isn't built yet.
+pub const WORDS_NOT_BUILT: u8 = 64;

@@ -1,0 +1,9 @@
+pub mod ClearedSums
+pub mod HeldSums
+pub mod HeldSpans
+pub mod HeldChanges
+pub mod Widths
+pub mod Tight
+pub mod RowSums
+pub mod GranuleSeries
+pub mod EndSizes

@@ -1,0 +1,4 @@
+pub mod Sums
+pub mod Enclosures
+pub mod RowSizes
+pub mod Granules

@@ -1,0 +1,10 @@
+pub mod Whole
+pub mod Ring
+pub mod Order
+pub mod Sizes
+pub mod Floor
+pub mod Corners
+pub mod Naturals
+pub mod Integers
+pub mod Lists
+pub mod Booleans

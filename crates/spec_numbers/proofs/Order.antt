@@ -1,0 +1,35 @@
+-- The order of the integers under sums and products.
+use Rattle.std.proofs.Common.{◌≡◌, ℕ, zero, suc, ◌*◌, ◌<◌, arith, refl, ap, ◌∙◌, [], ◌∷◌, ℤ, pos, negsuc, ◌-ℤ◌, ◌*ℤ◌, ◌≤ℤ◌, ◌<ℤ◌}
+use Rattle.std.proofs.lemmas.Int.{ints, by_lt_z}
+use borrow.Author.Differences.{up, down, fits_out, same_out, Apart-out, lt_T, le_T, lt_not, le_not, lt-true, lt-false, le-true, le-false, true-lt, false-lt, true-le, false-le, not_negative_out, lt_out, le_out, fits_in, same_in, lt_in, le_in, below_in, at_most_in, not_negative_in, true_is_lt, false_is_lt, true_is_le, false_is_le, sum_is_lem, neg_is, abs_is, mag_is}
+use Rattle.spec_numbers.proofs.Whole.{nonneg-mul}
+use Rattle.spec_numbers.proofs.Ring.{v, ◌⊖◌, ◌⊗◌, ring}
+
+-- linear arithmetic over the integers, a product as an unknown
+pub ruleset lin = (fits_out, same_out, Apart-out, lt_T, le_T, lt_not, le_not, lt-true, lt-false, le-true, le-false, true-lt, false-lt, true-le, false-le, not_negative_out, lt_out, le_out, fits_in, same_in, lt_in, le_in, below_in, at_most_in, not_negative_in, true_is_lt, false_is_lt, true_is_le, false_is_le, sum_is_lem, neg_is, abs_is, mag_is)
+
+pub le_by : (a b d : ℤ) → b -ℤ a ≡ d → pos 0 ≤ℤ d → a ≤ℤ b
+le_by a b d e h = omega (arith, lin)
+
+pub le-mul : (a b c : ℤ) → pos 0 ≤ℤ c → a ≤ℤ b → (a *ℤ c) ≤ℤ (b *ℤ c)
+le-mul a b c h q =
+    let e : b *ℤ c -ℤ a *ℤ c ≡ (b -ℤ a) *ℤ c = ring (a ∷ b ∷ c ∷ []) (v 1 ⊗ v 2 ⊖ v 0 ⊗ v 2) ((v 1 ⊖ v 0) ⊗ v 2) tt in
+    le_by (a *ℤ c) (b *ℤ c) ((b -ℤ a) *ℤ c) e (nonneg-mul (b -ℤ a) c (omega (arith, lin)) h)
+
+pub le-mul_cancel : (a b : ℤ) (c : ℕ) → 0 < c → (a *ℤ pos c) ≤ℤ (b *ℤ pos c) → a ≤ℤ b
+le-mul_cancel a b c h q = by (a -ℤ b) refl
+  where
+    by : (d : ℤ) → a -ℤ b ≡ d → a ≤ℤ b
+    by (pos zero) e = omega (arith, lin)
+    by (negsuc n) e = omega (arith, lin)
+    by (pos (suc n)) e =
+        let p : a *ℤ pos c -ℤ b *ℤ pos c ≡ (a -ℤ b) *ℤ pos c = ring (a ∷ b ∷ pos c ∷ []) (v 0 ⊗ v 2 ⊖ v 1 ⊗ v 2) ((v 0 ⊖ v 1) ⊗ v 2) tt in
+        let r : a *ℤ pos c -ℤ b *ℤ pos c ≡ pos (suc n * c) = p ∙ ap (λ x. x *ℤ pos c) e in
+        absurd (omega (arith, lin, h))
+
+pub lt-mul_cancel : (a b : ℤ) (d : ℕ) → (a *ℤ pos d) <ℤ (b *ℤ pos d) → a <ℤ b
+lt-mul_cancel a b d h = by_lt_z a b (λ p. p) (λ q. let g : (b *ℤ pos d) ≤ℤ (a *ℤ pos d) = le-mul b a (pos d) (omega (arith, lin)) q in absurd (omega (arith, lin)))
+
+pub nonneg-square : (a : ℤ) → pos 0 ≤ℤ (a *ℤ a)
+nonneg-square (pos n) = omega (arith, ints)
+nonneg-square (negsuc n) = omega (arith, ints)

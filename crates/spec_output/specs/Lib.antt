@@ -1,5 +1,0 @@
-pub mod Report
-pub mod Words
-pub mod Files
-pub mod Faults
-pub mod Answers

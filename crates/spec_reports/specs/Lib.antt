@@ -1,0 +1,4 @@
+pub mod Report
+pub mod Messages
+pub mod Writing
+pub mod Reported

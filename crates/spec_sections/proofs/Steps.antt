@@ -1,0 +1,17 @@
+-- Steps one after the other.
+use Rattle.std.proofs.Common.{◌≡◌, ℕ, Result, Ok, Err, refl}
+use Rattle.spec_sections.specs.declared.rules.BrokenRule.{BrokenRule}
+use Rattle.spec_sections.specs.Sections.{◌>>=◌, at_line}
+
+pub bind_assoc : {A B C E : Type 0} (r : Result A E) (f : A → Result B E) (g : B → Result C E) → ((r >>= f) >>= g) ≡ (r >>= λ x. f x >>= g)
+bind_assoc (Ok x) f g = refl
+bind_assoc (Err e) f g = refl
+
+pub bind_same : {A B E : Type 0} (r : Result A E) (f g : A → Result B E) → ((x : A) → r ≡ Ok x → f x ≡ g x) → (r >>= f) ≡ (r >>= g)
+bind_same (Ok x) f g same = same x refl
+bind_same (Err e) f g same = refl
+
+pub bind_at : {A B : Type 0} (file number : ℕ) (r : Result A BrokenRule) (f : A → Result B BrokenRule)
+    → (at_line file number r >>= λ x. at_line file number (f x)) ≡ at_line file number (r >>= f)
+bind_at file number (Ok x) f = refl
+bind_at file number (Err b) f = refl

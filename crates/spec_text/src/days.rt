@@ -1,0 +1,10 @@
+// Numbers of days.
+
+/// Why a number of days isn't taken. Of both it is the first.
+#[derive(Clone, Copy, Debug, PartialEq, Eq)]
+pub enum DaysFault {
+    /// It is no whole number of seconds.
+    NotWholeSecond,
+    /// It is below 0, or more than the most.
+    OutOfRange,
+}

@@ -1,0 +1,7 @@
+pub mod Leaves
+pub mod Covering
+pub mod Cutting
+pub mod Ordering
+pub mod Rearranged
+pub mod Runs
+pub mod Placing

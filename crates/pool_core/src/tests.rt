@@ -1,9 +1,9 @@
 // Ten steps of two workers over a tree of four leaves, and what the opening state refuses.
 ghost use Rattle.std.specs.Prelude.{◌≡◌, ◌<◌};
-ghost use Rattle.spec_events.specs.declared.cuts.CutRule.TheVariants.{Half};
-ghost use Rattle.spec_events.specs.Cuts.{CanCut, cut_of};
-ghost use Rattle.spec_events.specs.CutExamples.{parts_at};
-ghost use Rattle.spec_events.specs.Tree.{IsValid};
+ghost use Rattle.spec_trees.specs.declared.cuts.CutRule.TheVariants.{Half};
+ghost use Rattle.spec_trees.specs.Cuts.{CanCut, cut_of};
+ghost use Rattle.spec_trees.specs.CutExamples.{parts_at};
+ghost use Rattle.spec_trees.specs.Tree.{IsValid};
 ghost use Rattle.spec_pool.specs.Examples.{crossing, crossing_is_sound, four_hundred};
 
 use super::*;

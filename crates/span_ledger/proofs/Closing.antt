@@ -5,7 +5,7 @@ use Rattle.std.specs.List.{All}
 use mathlib.Core.Option as M
 use lib.ListN.{get_elem?}
 use Rattle.atomic_table.specs.Table.{Final, Seen, rest}
-use Rattle.spec_events.specs.declared.book.Booked.{Booked}
+use Rattle.spec_trees.specs.declared.book.Booked.{Booked}
 use Rattle.span_ledger.specs.declared.desk.LedgerSeat.{LedgerSeat}
 use Rattle.spec_pool.specs.declared.ledger.Part.{Part}
 use Rattle.span_ledger.specs.declared.ledger.View.{View}

@@ -15,11 +15,11 @@ use Rattle.std.specs.BTreeMap.{BTreeMap, get, is_at, Updates}
 use mathlib.Core.Option as O
 use lib.ListN.{get_elem?}
 use Rattle.atomic_table.proofs.Lists.{at_longer, at_last}
-use Rattle.spec_events.specs.declared.tree.Leaf.{Leaf}
-use Rattle.spec_events.specs.declared.tree.Mark.{Mark}
-use Rattle.spec_events.specs.declared.tree.Mark.TheVariants.{Clear, One, Undecided}
-use Rattle.spec_events.specs.declared.tree.Turn.TheVariants.{Rise, Fall}
-use Rattle.spec_events.specs.declared.book.Booked.{Booked}
+use Rattle.spec_trees.specs.declared.tree.Leaf.{Leaf}
+use Rattle.spec_trees.specs.declared.tree.Mark.{Mark}
+use Rattle.spec_trees.specs.declared.tree.Mark.TheVariants.{Clear, One, Undecided}
+use Rattle.spec_trees.specs.declared.tree.Turn.TheVariants.{Rise, Fall}
+use Rattle.spec_trees.specs.declared.book.Booked.{Booked}
 use Rattle.spec_pool.specs.History.{by_seat, Fresh, Stands, width_of, widths}
 use Rattle.spec_pool.specs.Marks.{mark_number}
 use Rattle.span_ledger.specs.Indexes.{Key, key_cmp, key_of, Registered}

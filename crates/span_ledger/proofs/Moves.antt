@@ -1,15 +1,14 @@
 -- Each kind of step keeps the rule.
-use Rattle.std.proofs.Common.{◌≡◌, ◌≢◌, ⊎_elim, inl, inr, ℕ, suc, ◌+◌, ◌-◌, ◌%◌, ◌^◌, ◌<◌, ◌≤◌, ◌==◌, List, [], ◌∷◌, ◌++◌, length, Option, Some, refl, sym, ap, ◌∙◌, subst, slice_set, slice_index, append_assoc, length-append, arith}
+use Rattle.std.proofs.Common.{◌≡◌, ◌≢◌, ⊎_elim, inl, inr, ℕ, suc, ◌+◌, ◌-◌, ◌%◌, ◌^◌, ◌<◌, ◌≤◌, ◌==◌, List, [], ◌∷◌, ◌++◌, length, Option, Some, refl, sym, ap, ◌∙◌, subst, slice_set, slice_index, append_assoc, length-append, arith, true, false, ◌≤ℤ◌}
 use Rattle.std.proofs.lemmas.List.{append-nil}
 use mathlib.Core.Option as M
 use lib.ListN.{get_elem?}
-use Rattle.std.proofs.Common.{true, false, ◌≤ℤ◌}
 use Rattle.std.proofs.lemmas.Bool.Decides.{nat_tests}
 use native.Mathlib.Decide.{dec_le}
 use Rattle.atomic_table.specs.Table.{State, Act, keeps, takes, gives, Valid, homes_after, carried_after, Allows}
 use Rattle.atomic_table.proofs.Lists.{set_again, at_longer}
-use Rattle.spec_events.specs.declared.tree.Leaf.{Leaf}
-use Rattle.spec_events.specs.declared.book.Booked.{Booked}
+use Rattle.spec_trees.specs.declared.tree.Leaf.{Leaf}
+use Rattle.spec_trees.specs.declared.book.Booked.{Booked}
 use Rattle.spec_pool.specs.declared.ledger.Part.{Part}
 use Rattle.span_ledger.specs.declared.ledger.View.{View}
 use Rattle.spec_pool.specs.declared.ledger.Terms.{Terms}

@@ -5,7 +5,7 @@ use lib.ListN.{get_elem?}
 use native.Mathlib.Decide.{ℕ_discrete}
 use Rattle.atomic_table.specs.Table.{Final, Seen, Splits, Joins}
 use Rattle.atomic_table.proofs.Lists.{at_set, at_snoc}
-use Rattle.spec_events.specs.declared.book.Booked.{Booked}
+use Rattle.spec_trees.specs.declared.book.Booked.{Booked}
 use Rattle.spec_pool.specs.declared.ledger.Part.{Part}
 use Rattle.span_ledger.specs.declared.ledger.View.{View}
 use Rattle.spec_pool.specs.declared.ledger.Terms.{Terms}

@@ -6,8 +6,8 @@ use Rattle.std.specs.Ordering.{ordering_then, int_cmp, nat_cmp}
 use Rattle.std.specs.BTreeMap.{BTreeMap, get}
 use mathlib.Core.Option as O
 use lib.ListN.{get_elem?}
-use Rattle.spec_events.specs.declared.tree.Leaf.{Leaf}
-use Rattle.spec_events.specs.declared.book.Booked.{Booked}
+use Rattle.spec_trees.specs.declared.tree.Leaf.{Leaf}
+use Rattle.spec_trees.specs.declared.book.Booked.{Booked}
 use Rattle.spec_pool.specs.History.{by_seat, widths}
 use Rattle.spec_pool.specs.Marks.{mark_number}
 

@@ -4,9 +4,9 @@ use Rattle.std.specs.Prelude.{◌≡◌, ◌≢◌, ◌⊎◌, ◌≤◌, ◌<�
 use mathlib.Core.Option as M
 use lib.ListN.{get_elem?}
 use Rattle.atomic_table.specs.Table.{State, Me, Step}
-use Rattle.spec_events.specs.declared.tree.Leaf.{Leaf}
-use Rattle.spec_events.specs.declared.tree.Node.{Node}
-use Rattle.spec_events.specs.declared.book.Booked.{Booked}
+use Rattle.spec_trees.specs.declared.tree.Leaf.{Leaf}
+use Rattle.spec_trees.specs.declared.tree.Node.{Node}
+use Rattle.spec_trees.specs.declared.book.Booked.{Booked}
 use Rattle.spec_pool.specs.declared.ledger.Part.{Part}
 use Rattle.span_ledger.specs.declared.ledger.View.{View}
 use Rattle.spec_pool.specs.declared.ledger.Terms.{Terms}

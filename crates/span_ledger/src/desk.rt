@@ -3,7 +3,7 @@ ghost use Rattle.std.specs.Prelude.{◌≡◌, ◌<◌, ◌≤◌, length};
 ghost use Rattle.span_ledger.specs.Rule.{the_part};
 
 use crate::ledger::{Ledger, Raw};
-use spec_events::Node;
+use spec_trees::Node;
 
 /// A locked book of leaves. Contracts see its `terms`: the root, the limit and the number of seats.
 #[derive(Drop)]

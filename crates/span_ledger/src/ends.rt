@@ -6,7 +6,7 @@ ghost use Rattle.span_ledger.specs.Seats.{IsMissing, IsNew, IsSeatOf, part, term
 use crate::desk::{LedgerSeat, SpanLedger};
 use crate::ledger::{Ledger, Ways};
 use crate::register::Register;
-use spec_events::{Book, Node};
+use spec_trees::{Book, Node};
 use spec_pool::{CloseError, Memory, Terms};
 use std::alloc::Global;
 

@@ -1,13 +1,13 @@
 // Entering a leaf under the lock.
 ghost use Rattle.std.specs.Prelude.{◌≡◌, ◌+◌, ◌<◌, ◌≤◌, ◌≤ℤ◌, [], ◌∷◌, ◌++◌, length, List, Some, IsTrue, IsFalse};
-ghost use Rattle.spec_events.specs.declared.book.Booked.{Booked};
+ghost use Rattle.spec_trees.specs.declared.book.Booked.{Booked};
 ghost use Rattle.spec_pool.specs.History.{StartsWith, Stands, LiesIn, Tells, Entering, saw, repeated};
 ghost use Rattle.span_ledger.specs.Rule.{the_part, with_part, Writes, IsIdle, HasBook, TakesBook};
 ghost use Rattle.span_ledger.specs.Seats.{IsSeatOf, part, terms};
 
 use crate::desk::{LedgerSeat, SpanLedger};
 use crate::ledger::{Add, Free, Lock, Raw};
-use spec_events::{Booked, Leaf};
+use spec_trees::{Booked, Leaf};
 use spec_pool::Entry;
 use std::sync::Wait;
 use std::thread;

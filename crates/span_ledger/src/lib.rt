@@ -10,5 +10,5 @@ mod ledger;
 mod register;
 
 pub use desk::{LedgerSeat, SpanLedger};
-pub use spec_events::{Book, Booked};
+pub use spec_trees::{Book, Booked};
 pub use spec_pool::{CloseError, Entry, Memory};

@@ -5,7 +5,7 @@ ghost use Rattle.spec_pool.specs.History.{Fresh, Stands};
 ghost use Rattle.spec_pool.specs.Marks.{mark_number};
 ghost use Rattle.span_ledger.specs.Indexes.{key_of};
 
-use spec_events::{Booked, Leaf, Mark, Turn};
+use spec_trees::{Booked, Leaf, Mark, Turn};
 use std::alloc::{AllocError, Global};
 use std::collections::BTreeMap;
 use std::marker::Model;
@@ -22,7 +22,7 @@ pub struct Register {
 
 impl Model for Register {
     ghost use Rattle.std.specs.Prelude.{List};
-    ghost use Rattle.spec_events.specs.declared.book.Booked.{Booked};
+    ghost use Rattle.spec_trees.specs.declared.book.Booked.{Booked};
     ghost use Rattle.span_ledger.specs.Indexes.{Registered};
 
     ghost Value = { List Booked };

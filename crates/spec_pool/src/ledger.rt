@@ -1,5 +1,5 @@
 // What is fixed of a ledger, what a seat of it knows, and what it answers.
-use spec_events::{Booked, Leaf, Node};
+use spec_trees::{Booked, Leaf, Node};
 use std::collections::LinkedList;
 
 /// What is fixed when a ledger is made: leaves lie in `root`, at most `limit` of them are entered, and the numbers of

@@ -1,7 +1,7 @@
 use Rattle.std.proofs.Common.{List, Some, length, ◌∷◌, ◌++◌, [], ap, ◌∙◌, subst, arith}
 use mathlib.Core.Option.{none}
 use Rattle.atomic_table.specs.Table.{step}
-use Rattle.spec_events.specs.declared.book.Booked.{Booked}
+use Rattle.spec_trees.specs.declared.book.Booked.{Booked}
 use Rattle.spec_pool.specs.History.{Fresh}
 use Rattle.span_ledger.specs.Rule.{the_part}
 use Rattle.span_ledger.proofs.Closing.{one_taken, found_book, after_put}

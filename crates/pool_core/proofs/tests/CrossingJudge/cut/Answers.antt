@@ -1,11 +1,11 @@
 use Rattle.std.proofs.Common.{◌∙◌, ap, ◌≡◌, ℤ, w64, arith}
 use Rattle.std.proofs.lemmas.Int.{ints, fits_signed_from_abs, to_z-of_z}
 use mir.Val.{SFits}
-use Rattle.spec_events.specs.declared.cuts.CutRule.TheVariants.{Half}
-use Rattle.spec_events.specs.Cuts.{cut_of}
-use Rattle.spec_events.specs.CutExamples.{parts_at}
+use Rattle.spec_trees.specs.declared.cuts.CutRule.TheVariants.{Half}
+use Rattle.spec_trees.specs.Cuts.{cut_of}
+use Rattle.spec_trees.specs.CutExamples.{parts_at}
 use Rattle.spec_pool.specs.Examples.{crossing, crossing_is_sound}
-use Rattle.halving.proofs.Parts.{AreParts, sound_parts}
+use Rattle.spec_trees.proofs.Parts.{AreParts, sound_parts}
 use Rattle.pool_core.proofs.tests.CrossingJudge.cut.Goals as goal
 
 are_parts : (c : goal.After-parts_at) → AreParts crossing c.args.node c.parts_at.result

@@ -1,6 +1,6 @@
 use Rattle.std.proofs.Common.{◌≡◌, ◌+◌, List, length}
 use Rattle.std.specs.List.{All}
-use Rattle.spec_events.specs.declared.book.Booked.{Booked}
+use Rattle.spec_trees.specs.declared.book.Booked.{Booked}
 use Rattle.spec_pool.specs.History.{FitsPart, EachFits}
 use Rattle.span_ledger.specs.Rule.{the_part}
 use Rattle.span_ledger.proofs.desk.SpanLedger.close.Given as goal

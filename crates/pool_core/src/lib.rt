@@ -1,7 +1,6 @@
 //! A pool of workers, without threads.
 #![tactic(auto)]
 
-mod marks;
 mod pool;
 mod worker;
 

@@ -83,12 +83,7 @@ fn results_are_those_of_the_reference(rt: HostRuntime) {
             (57, 1009979979874690531, 176),
             (228, 4039919919498762125, 174),
         ),
-        (
-            Rule::Sum,
-            (-LIMIT, 1, -55),
-            (0, 0, 0),
-            (-LIMIT, 1, -55),
-        ),
+        (Rule::Sum, (-LIMIT, 1, -55), (0, 0, 0), (-LIMIT, 1, -55)),
         (
             Rule::Sum,
             (3, 5, 0),
@@ -137,12 +132,7 @@ fn results_are_those_of_the_reference(rt: HostRuntime) {
             (-1, 283505592423530418, 115),
             (-16, 4536089478776486688, 111),
         ),
-        (
-            Rule::Join,
-            (1, 1, -84),
-            (1, LIMIT, 20),
-            (0, LIMIT, 20),
-        ),
+        (Rule::Join, (1, 1, -84), (1, LIMIT, 20), (0, LIMIT, 20)),
         (
             Rule::Square,
             (-3328034229942826194, LIMIT / 2, -24),
@@ -220,11 +210,7 @@ fn shares_of_a_second_are_those_of_the_reference(rt: HostRuntime) {
             1099511627776,
             (-4611686018427387904, 0, -45),
         ),
-        (
-            (-1, MOST, -74),
-            2,
-            (-1, 4611686018427387904, -10),
-        ),
+        ((-1, MOST, -74), 2, (-1, 4611686018427387904, -10)),
         (
             (4611686018427387904, MOST, -70),
             i64::MAX,

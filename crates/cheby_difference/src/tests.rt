@@ -135,6 +135,11 @@ fn changes_are_those_of_the_reference(rt: HostRuntime) {
         let [step, velocity, velocity_step] = intervals(&rt, case.coefs, granule, case.span);
         assert_eq!(rt; step.parts(), case.step, "in {:?}", case.span);
         assert_eq!(rt; velocity.parts(), case.velocity, "in {:?}", case.span);
-        assert_eq!(rt; velocity_step.parts(), case.velocity_step, "in {:?}", case.span);
+        assert_eq!(rt;
+            velocity_step.parts(),
+            case.velocity_step,
+            "in {:?}",
+            case.span
+        );
     }
 }

@@ -1,4 +1,4 @@
--- What a reader says behind a line.
+-- What a reader says after a line.
 use Rattle.std.proofs.Common.{◌≡◌, ℕ, ◌<◌, ◌≤◌, List, [], ◌∷◌, length, take, Result, Ok, Err, refl, sym, ap, ◌∙◌, subst, inl, inr, arith, eq-eqb, ne_eqb}
 use Rattle.std.proofs.lemmas.Bool.{cases_eq}
 use Rattle.spec_text.specs.Lines.{TokenLine}
@@ -10,7 +10,7 @@ use Rattle.spec_sections.specs.Sections.{FileLine, Stop, ended, breaks as breaks
 use Rattle.spec_sections.proofs.Holding.{holds_ok}
 use Rattle.spec_faults.specs.declared.numbers.TheConstants.{TRUNCATED}
 use Rattle.spec_blocks.specs.BlockRules.{record_line}
-use Rattle.spec_blocks.specs.Blocks.{blocks_behind, further_numbers, with_numbers}
+use Rattle.spec_blocks.specs.Blocks.{blocks_after, further_numbers, with_numbers}
 use Rattle.spec_blocks.specs.Read.{AreRead}
 use Rattle.spec_sections.specs.FileLines.{line_of}
 use Rattle.de_blocks.specs.declared.answers.BlockError.{BlockError}
@@ -45,10 +45,10 @@ answer_between before = elim (cases_eq before.blocks 0) [
 ]
 
 -- ---- a record line
-behind_heading : (m : ℕ) (before : Ephemeris) (rest : List FileLine) → length rest ≤ m
-    → (further_numbers before before.header.ncoeff [] rest >>= λ found. blocks_behind m (with_numbers before found.0) found.1)
+after_heading : (m : ℕ) (before : Ephemeris) (rest : List FileLine) → length rest ≤ m
+    → (further_numbers before before.header.ncoeff [] rest >>= λ found. blocks_after m (with_numbers before found.0) found.1)
     ≡ (further_numbers before before.header.ncoeff [] rest >>= λ found. from_record (with_numbers before found.0) found.1)
-behind_heading m before rest le =
+after_heading m before rest le =
     bind_same (further_numbers before before.header.ncoeff [] rest) _ _ (λ found is.
     let fewer = holds_ok (λ found. length found.1 ≤ length rest) (further_numbers before before.header.ncoeff [] rest) found is (further_fewer before before.header.ncoeff [] rest) in
     enough m (length found.1) (with_numbers before found.0) found.1 (omega (arith, fewer, le)) (omega arith))
@@ -57,7 +57,7 @@ pub begins : (before : Ephemeris) (line : FileLine) (rest : List FileLine) → r
     → from_record before (line ∷ rest) ≡ from_numbers before [] rest
 begins before line rest is =
     let none : before.header.ncoeff ≡ wanted before [] = omega arith in
-    rw is (behind_heading (length rest) before rest (omega arith)
+    rw is (after_heading (length rest) before rest (omega arith)
     ∙ ap (λ (n : ℕ). further_numbers before n [] rest >>= λ found. from_record (with_numbers before found.0) found.1) none)
 
 pub no_record : (before : Ephemeris) (line : FileLine) (rest : List FileLine) (b : BrokenRule) → record_line before.header.ncoeff line.words ≡ Err b

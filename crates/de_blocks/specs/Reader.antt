@@ -5,7 +5,7 @@ use Rattle.spec_text.specs.declared.decimals.Decimal.{Decimal}
 use Rattle.spec_text.specs.declared.decimals.Fault.{Fault}
 use Rattle.spec_ephemeris.specs.Ephemeris.{Ephemeris, IsEphemeris}
 use Rattle.spec_sections.specs.Sections.{FileLine, Stop, ended, breaks, ◌>>=◌}
-use Rattle.spec_blocks.specs.Blocks.{blocks_behind, further_numbers, with_numbers}
+use Rattle.spec_blocks.specs.Blocks.{blocks_after, further_numbers, with_numbers}
 use Rattle.spec_blocks.specs.Read.{AreRead}
 use Rattle.spec_sections.specs.FileLines.{line_of, stopped_at}
 use Rattle.de_blocks.specs.declared.answers.BlockError.{BlockError}
@@ -26,9 +26,9 @@ pub record Progress : Type 0 where
 
 -- the blocks that begin with these lines
 abbrev pub from_record : Ephemeris → List FileLine → Says
-from_record before lines = blocks_behind (length lines) before lines
+from_record before lines = blocks_after (length lines) before lines
 
--- what a block still wants behind these numbers, and the blocks behind it
+-- what a block still wants after these numbers, and the blocks after it
 abbrev pub from_numbers : Ephemeris → List Decimal → List FileLine → Says
 from_numbers before numbers lines = further_numbers before (wanted before numbers) numbers lines >>= λ found. from_record (with_numbers before found.0) found.1
 

@@ -22,7 +22,7 @@ use spec_text::{Decimal, Fault};
 use std::alloc::Global;
 use std::marker::Model;
 
-/// A reader of the blocks behind a header, in the rest of its file and in the files that follow.
+/// A reader of the blocks after a header, in the rest of its file and in the files that follow.
 #[derive(Drop)]
 pub struct BlockReader {
     accepted: Ephemeris,
@@ -50,7 +50,7 @@ fn ended(line: u32, number: u8) -> BlockError
     })
 }
 
-// The blocks, where the lines end behind one of them.
+// The blocks, where the lines end after one of them.
 fn whole(accepted: Ephemeris, line: u32) -> Result<Ephemeris, BlockError>
     ensures end { Ends line (from_record accepted []) result }
     ensures rules { IfOk result HasBlocks }
@@ -63,7 +63,7 @@ fn whole(accepted: Ephemeris, line: u32) -> Result<Ephemeris, BlockError>
 }
 
 impl BlockReader {
-    /// A reader that waits for the first line behind the header. It takes no memory.
+    /// A reader that waits for the first line after the header. It takes no memory.
     pub fn new(alloc: Global, header: Header) -> Self
         requires { IsHeader header }
         ensures blocks { (file : ℕ) (lines : List FileLine) → says file result lines ≡ blocks header lines }
@@ -122,7 +122,7 @@ impl BlockReader {
         }
     }
 
-    /// Reads the next line. `Fault` comes at the first line that breaks a rule and at every line behind it. After
+    /// Reads the next line. `Fault` comes at the first line that breaks a rule and at every line after it. After
     /// `Memory` the reader is as it was before the line.
     pub fn line(&mut self, line: &Line<'_>) -> Result<(), BlockError>
         ensures says { IsNotMemory result → (file : ℕ) (rest : List FileLine) → says file self.new rest ≡ says file self.old (line_of file line.now ∷ rest) }

@@ -11,7 +11,7 @@ use std::alloc::{AllocError, Global};
 use std::process::Abort;
 use std::test::Fail;
 
-// The lines of a block, from line 17 on. The header that stands before them is told by `four_columns`.
+// The lines of a block, from line 17 on. The header that stands before them is `four_columns`.
 const LINES: [&str; 10] = [
     "1 26",
     "0.245154450000000000D+07 0.245157650000000000D+07 0.0",
@@ -194,7 +194,7 @@ fn text_with(alloc: Global, changes: &[(usize, &'static str)]) -> Result<Vec<u8>
     Ok(text)
 }
 
-// Gives a reader all lines of a text, those behind a fault too, and answers the number behind the last.
+// Gives a reader all lines of a text, those after a fault too, and answers the number after the last.
 fn read_text(reader: &mut BlockReader, text: &[u8]) -> u32
     requires { length text.now ≤ MOST_TEXT_BYTES }
 {
@@ -254,7 +254,7 @@ fn blocks_that_are_accepted(rt: HostRuntime) -> Result<(), Fail> {
 
 // A second file begins with the block of the first, and goes on with the next block.
 #[test]
-fn a_repeated_block_is_passed_over(rt: HostRuntime) -> Result<(), Fail> {
+fn a_repeated_block_is_skipped(rt: HostRuntime) -> Result<(), Fail> {
     let alloc = rt.alloc();
     let mut reader = new_reader(alloc)?;
     let first = text_with(alloc, &[])?;
@@ -295,7 +295,7 @@ fn check_refusal(rt: &impl Abort, reader: &mut BlockReader, text: &[u8]) {
     }
 }
 
-// A block after a gap: the lines behind it, and the end, give the same fault.
+// A block after a gap: the lines after it, and the end, give the same fault.
 #[test]
 fn a_refusal_is_given_again(rt: HostRuntime) -> Result<(), Fail> {
     let alloc = rt.alloc();

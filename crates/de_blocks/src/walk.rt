@@ -9,7 +9,7 @@ use eph_model::Ephemeris;
 use spec_sections::BrokenRule;
 use spec_text::Decimal;
 
-// Puts the number that a word is behind the others.
+// Puts the number that a word is after the others.
 fn push_number(before: &Ephemeris, numbers: &mut Vec<Decimal>, word: &[u8]) -> Result<(), Refusal>
     requires { length numbers.old.items < before.now.header.ncoeff }
     ensures { Pushes before.now numbers.old.items word.now result numbers.new.items }
@@ -55,8 +55,8 @@ fn check_zeros(words: Words<'_>) -> Result<(), BrokenRule>
     Ok(())
 }
 
-// Reads a line behind the numbers of a block that isn't whole yet. Where it fails, some of the line's numbers may stand
-// behind those that were there before.
+// Reads a line after the numbers of a block that isn't whole yet. Where it fails, some of the line's numbers may stand
+// after those that were there before.
 pub(crate) fn read_line(
     before: &Ephemeris,
     numbers: &mut Vec<Decimal>,

@@ -26,7 +26,8 @@ fn whole(lo: i64, hi: i64) -> Ival
 
 fn times(a: i64, b: i64) -> Enclosure
     requires { IsSpan a b }
-    ensures { result ≡ record { mid = narrow (middle a b) (middle a b) (pos 0); range = narrow a b (pos 0); step = narrow (pos 1) (pos 1) (pos 0) } }
+    ensures { result ≡ triple (narrow (middle a b) (middle a b) (pos 0)) (narrow a b (pos 0))
+        (narrow (pos 1) (pos 1) (pos 0)) }
 {
     let m = middle(a, b);
     Enclosure {

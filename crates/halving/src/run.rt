@@ -1,10 +1,10 @@
 // The leaves of a root, by one walk.
 ghost use Rattle.std.specs.Prelude.{◌≡◌, ◌<◌, ◌≤◌, [], ◌∷◌, ◌++◌, length, Err, IfOk, IfErr, OnOk};
-ghost use Rattle.spec_trees.specs.Tree.{Covers, IsValid, leaf_count, leaves, mark_of};
+ghost use Rattle.spec_trees.specs.Tree.{Covers, IsValid, leaf_count, leaves};
 ghost use Rattle.halving.specs.declared.run.RunError.TheVariants.{TooMany, Memory};
 
 use crate::judge::{Judge, rules_are_sound};
-use spec_trees::{Leaf, Mark, Node, Verdict};
+use spec_trees::{Leaf, Node};
 use std::alloc::Global;
 
 /// Why a walk has no leaves to give: they are more than the limit, or there was no memory for them.
@@ -12,18 +12,6 @@ use std::alloc::Global;
 pub enum RunError {
     TooMany,
     Memory,
-}
-
-// The mark of a leaf with this verdict. A node that is to be split is no leaf.
-fn mark(verdict: Verdict) -> Option<Mark>
-    ensures { result ≡ mark_of verdict }
-{
-    match verdict {
-        Verdict::Clear => Some(Mark::Clear),
-        Verdict::One(turn) => Some(Mark::One(turn)),
-        Verdict::Split => None,
-        Verdict::Undecided => Some(Mark::Undecided),
-    }
 }
 
 // One item more, at the end.
@@ -56,7 +44,7 @@ pub fn run_one<J: Judge>(
     let mut waiting = Vec::new(alloc);
     append(&mut waiting, root)?;
     while let Some(node) = waiting.pop() {
-        match mark(judge.judge(node)) {
+        match judge.judge(node).mark() {
             Some(mark) => {
                 if found.len() == limit as usize {
                     return Err(RunError::TooMany);

@@ -33,7 +33,7 @@ columns_length n (s ∷ ss) (c ∷ cs) [] a b d = d
 columns_length zero (s ∷ ss) (c ∷ cs) (g ∷ gs) a b d = absurd (omega (arith, a))
 columns_length (suc n) (s ∷ ss) (c ∷ cs) (g ∷ gs) a b d = omega (arith, columns_length n ss cs gs (omega (arith, a)) (omega (arith, b)) (omega (arith, d)))
 
--- each of these columns behind the earlier ones meets its rule
+-- each of these columns after the earlier ones meets its rule
 abbrev pub EachMeets : ℕ → ℕ → List Column → List Column → Type 0
 EachMeets n s before cs = (i : ℕ) (c : Column) → slice_get cs i ≡ Some c → column_rule n s (before ++ take i cs) c ≡ Ok tt
 

@@ -5,7 +5,7 @@ ghost use Rattle.spec_bodies.specs.Coordinates.{nothing, of_column, times, less,
 ghost use Rattle.spec_bodies.specs.Reading.{IsUsable};
 ghost use Rattle.spec_bodies.specs.Views.{Fits, coordinate_of, framed};
 ghost use Rattle.event_expr.specs.States.{parts};
-ghost use Rattle.body_states.specs.Answers.{CanAsk, CanRead, Answers, IsAnswer, sum_answer, difference_answer, scaled_answer, displacement_of, ecliptic_displacement};
+ghost use Rattle.body_states.specs.Answers.{CanAsk, CanRead, Answers, IsAnswer, sum_answer, difference_answer, scaled_answer, displacement_of, ecliptic_of};
 
 use crate::granule_span::GranuleSpan;
 use crate::motions::{ColumnMotions, Motions};
@@ -43,8 +43,8 @@ impl<'e> BodyStates<'e> {
     // sine of the obliquity.
     fn ecliptic(&self, source: Source, axis: usize, question: &Question) -> Enclosure
         requires question { CanAsk self.now question.now }
-        requires readable { CanRead self.now (ecliptic_displacement self.now source axis) }
-        ensures { Answers self.now question.now (ecliptic_displacement self.now source axis) result }
+        requires readable { CanRead self.now (ecliptic_of self.now source axis) }
+        ensures { Answers self.now question.now (ecliptic_of self.now source axis) result }
     {
         match axis {
             0 => self.displacement(source, 0, question),
@@ -55,8 +55,8 @@ impl<'e> BodyStates<'e> {
 
     fn ecliptic_y(&self, source: Source, question: &Question) -> Enclosure
         requires question { CanAsk self.now question.now }
-        requires readable { CanRead self.now (ecliptic_displacement self.now source 1) }
-        ensures { Answers self.now question.now (ecliptic_displacement self.now source 1) result }
+        requires readable { CanRead self.now (ecliptic_of self.now source 1) }
+        ensures { Answers self.now question.now (ecliptic_of self.now source 1) result }
     {
         let y = self.scaled_displacement(Factor::Cosine, source, 1, question);
         let z = self.scaled_displacement(Factor::Sine, source, 2, question);
@@ -65,8 +65,8 @@ impl<'e> BodyStates<'e> {
 
     fn ecliptic_z(&self, source: Source, question: &Question) -> Enclosure
         requires question { CanAsk self.now question.now }
-        requires readable { CanRead self.now (ecliptic_displacement self.now source 2) }
-        ensures { Answers self.now question.now (ecliptic_displacement self.now source 2) result }
+        requires readable { CanRead self.now (ecliptic_of self.now source 2) }
+        ensures { Answers self.now question.now (ecliptic_of self.now source 2) result }
     {
         let z = self.scaled_displacement(Factor::Cosine, source, 2, question);
         let y = self.scaled_displacement(Factor::Sine, source, 1, question);

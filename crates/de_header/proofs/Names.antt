@@ -2,6 +2,7 @@
 use Rattle.std.proofs.Common.{◌≡◌, ℕ, zero, suc, ◌+◌, ◌<◌, ◌≤◌, true, false, List, [], ◌∷◌, length, take, drop, Option, Some, refl, sym, ap, ◌∙◌, arith}
 use Rattle.std.specs.Prelude.{slice_get, codes}
 use Rattle.std.proofs.lemmas.List.{length-take-le}
+use Rattle.spec_numbers.proofs.Lists.{get_take}
 use Rattle.spec_sections.specs.Sections.{is_word}
 use Rattle.spec_header.specs.HeaderRules.{emrat_from}
 
@@ -16,12 +17,6 @@ an_emrat : (ws : List (List ℕ)) (i k : ℕ) → i < length ws → is_word (sli
 an_emrat [] i k below test = absurd (omega arith)
 an_emrat (w ∷ ws) zero k below test = rw test refl
 an_emrat (w ∷ ws) (suc i) k below test = an_emrat ws i k (omega arith) test
-
-pub get_take : {X : Type 0} (xs : List X) (n i : ℕ) → i < n → slice_get (take n xs) i ≡ slice_get xs i
-get_take xs zero i below = absurd (omega arith)
-get_take [] (suc n) i below = refl
-get_take (x ∷ xs) (suc n) zero below = refl
-get_take (x ∷ xs) (suc n) (suc i) below = get_take xs n i (omega arith)
 
 pub found_here : (ts : List (List ℕ)) (n i start : ℕ) → n ≤ length ts → i < n → is_word (slice_get ts i) (codes "EMRAT") ≡ true
     → emrat_from (start + i) (drop i (take n ts)) ≡ emrat_from start (take n ts) → Some (start + i) ≡ emrat_from start (take n ts)

@@ -8,7 +8,7 @@ use Rattle.spec_faults.specs.declared.numbers.TheConstants.{ENDED}
 use Rattle.spec_header.specs.HeaderLines.{mass_ratio_among, names}
 use Rattle.spec_header.specs.HeaderRules.{mass_ratio}
 use Rattle.spec_sections.proofs.WordSections.{after_no_words, after_words_of_line, no_words}
-use Rattle.de_header.proofs.Names.{get_take}
+use Rattle.spec_numbers.proofs.Lists.{get_take}
 use Rattle.spec_sections.specs.Sections.{FileLine, FileWord, Stop, ended, ◌>>=◌, at_line, after_words, first_words, lines_after, word_of}
 
 abbrev map_some : {X Y : Type 0} → (X → Y) → Option X → Option Y
@@ -18,13 +18,13 @@ map_some f (Some x) = Some (f x)
 some_map : {X Y : Type 0} (f : X → Y) (x y : X) → Some x ≡ Some y → Some (f x) ≡ Some (f y)
 some_map f x y is = ap (map_some f) is
 
-pub behind_none : (n : ℕ) (lines : List FileLine) → n ≡ 0 → after_words ENDED n lines ≡ Ok lines
-behind_none n lines is = after_no_words ENDED n lines is
+pub after_none : (n : ℕ) (lines : List FileLine) → n ≡ 0 → after_words ENDED n lines ≡ Ok lines
+after_none n lines is = after_no_words ENDED n lines is
 
 -- a line takes its words from those that are left
-pub behind_line : (n here : ℕ) (line : FileLine) (rest : List FileLine) → 0 < n → here ≡ min n (length line.words)
+pub after_line : (n here : ℕ) (line : FileLine) (rest : List FileLine) → 0 < n → here ≡ min n (length line.words)
     → after_words ENDED n (line ∷ rest) ≡ after_words ENDED (n - here) rest
-behind_line n here line rest some here_is = after_words_of_line ENDED n here line rest some here_is
+after_line n here line rest some here_is = after_words_of_line ENDED n here line rest some here_is
 
 -- the texts of words
 abbrev pub text_of : FileWord → List ℕ
@@ -51,12 +51,12 @@ texts_line n here line rest here_is =
     ∙ ap (λ (k : ℕ). take here line.words ++ map text_of (first_words k rest)) left
 
 pub names_none : (n : ℕ) (lines : List FileLine) → n ≡ 0 → names n lines ≡ Ok ([], lines)
-names_none n lines is = rw (behind_none n lines is, no_words n lines is) refl
+names_none n lines is = rw (after_none n lines is, no_words n lines is) refl
 
 abbrev with_names : List (List ℕ) → List FileLine → Result (List (List ℕ) × List FileLine) Stop
 with_names texts rest = Ok (texts, rest)
 
--- names behind others
+-- names after others
 abbrev pub after_names : List (List ℕ) → List (List ℕ) × List FileLine → Result (List (List ℕ) × List FileLine) Stop
 after_names texts x = Ok (texts ++ x.0, x.1)
 
@@ -67,7 +67,7 @@ texted (Err e) xs ys = refl
 pub names_line : (n here : ℕ) (line : FileLine) (rest : List FileLine) → 0 < n → here ≡ min n (length line.words)
     → names n (line ∷ rest) ≡ (names (n - here) rest >>= after_names (take here line.words))
 names_line n here line rest some here_is =
-    ap (λ (r : Result (List FileLine) Stop). r >>= with_names (map text_of (first_words n (line ∷ rest)))) (behind_line n here line rest some here_is)
+    ap (λ (r : Result (List FileLine) Stop). r >>= with_names (map text_of (first_words n (line ∷ rest)))) (after_line n here line rest some here_is)
     ∙ ap (λ (t : List (List ℕ)). after_words ENDED (n - here) rest >>= with_names t) (texts_line n here line rest here_is)
     ∙ texted (after_words ENDED (n - here) rest) (take here line.words) (map text_of (first_words (n - here) rest))
 
@@ -77,12 +77,12 @@ get_front [] ys k x is = absurd (none-some x is)
 get_front (y ∷ xs) ys zero x is = is
 get_front (y ∷ xs) ys (suc k) x is = get_front xs ys k x is
 
-get_behind : {X : Type 0} (xs ys : List X) (k n : ℕ) → length xs ≡ n → n ≤ k → slice_get (xs ++ ys) k ≡ slice_get ys (k - n)
-get_behind [] ys k n none le = let same : k ≡ k - n = omega (arith, none) in ap (slice_get ys) same
-get_behind (x ∷ xs) ys zero n some le = absurd (omega (arith, some, le))
-get_behind (x ∷ xs) ys (suc k) n some le =
+get_after : {X : Type 0} (xs ys : List X) (k n : ℕ) → length xs ≡ n → n ≤ k → slice_get (xs ++ ys) k ≡ slice_get ys (k - n)
+get_after [] ys k n none le = let same : k ≡ k - n = omega (arith, none) in ap (slice_get ys) same
+get_after (x ∷ xs) ys zero n some le = absurd (omega (arith, some, le))
+get_after (x ∷ xs) ys (suc k) n some le =
     let same : k - length xs ≡ suc k - n = omega (arith, some) in
-    get_behind xs ys k (length xs) refl (omega (arith, some, le)) ∙ ap (slice_get ys) same
+    get_after xs ys k (length xs) refl (omega (arith, some, le)) ∙ ap (slice_get ys) same
 
 get_map : {X Y : Type 0} (f : X → Y) (xs : List X) (k : ℕ) (x : X) → slice_get xs k ≡ Some x → slice_get (map f xs) k ≡ Some (f x)
 get_map f [] k x is = absurd (none-some x is)
@@ -96,12 +96,12 @@ word_here n here k line rest word here_is below is =
     get_front (map (word_of line) (take n line.words)) _ k (word_of line word)
     (get_map (word_of line) (take n line.words) k word (get_take line.words n k (omega (arith, here_is, below)) ∙ is))
 
--- a place behind the words of this line
+-- a place after the words of this line
 word_later : (n here k : ℕ) (line : FileLine) (rest : List FileLine) → here ≡ min n (length line.words) → here ≤ k
     → slice_get (first_words n (line ∷ rest)) k ≡ slice_get (first_words (n - here) rest) (k - here)
 word_later n here k line rest here_is le =
     let left : n - length line.words ≡ n - here = omega (arith, here_is) in
-    get_behind (map (word_of line) (take n line.words)) (first_words (n - length line.words) rest) k here
+    get_after (map (word_of line) (take n line.words)) (first_words (n - length line.words) rest) k here
     (length-map (take n line.words) (word_of line) ∙ length-take n line.words ∙ sym here_is) le
     ∙ ap (λ (j : ℕ). slice_get (first_words j rest) (k - here)) left
 
@@ -113,7 +113,7 @@ pub ratio_later : (n here k : ℕ) (line : FileLine) (rest : List FileLine) → 
     → mass_ratio_among n k (line ∷ rest) ≡ mass_ratio_among (n - here) (k - here) rest
 ratio_later n here k line rest here_is le = elim (cases_eq n 0) [
   | inl none ↦ nothing_at k (line ∷ rest) n none ∙ sym (nothing_at (k - here) rest (n - here) (omega (arith, none)))
-  | inr some ↦ rw (word_later n here k line rest here_is le, behind_line n here line rest (omega (arith, some)) here_is) refl
+  | inr some ↦ rw (word_later n here k line rest here_is le, after_line n here line rest (omega (arith, some)) here_is) refl
 ]
 
 pub ratio_here : (n here k : ℕ) (line : FileLine) (rest : List FileLine) (word : List ℕ) → here ≡ min n (length line.words) → k < here
@@ -121,4 +121,4 @@ pub ratio_here : (n here k : ℕ) (line : FileLine) (rest : List FileLine) (word
     → mass_ratio_among n k (line ∷ rest)
     ≡ (at_line line.file line.number (mass_ratio word) >>= λ emrat. after_words ENDED (n - here) rest >>= λ lines. Ok (emrat, lines))
 ratio_here n here k line rest word here_is below is =
-    rw (word_here n here k line rest word here_is below is, behind_line n here line rest (omega (arith, here_is, below)) here_is) refl
+    rw (word_here n here k line rest word here_is below is, after_line n here line rest (omega (arith, here_is, below)) here_is) refl

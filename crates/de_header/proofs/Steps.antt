@@ -1,4 +1,4 @@
--- What is still to be said behind a line of counted words.
+-- What is left to read after a line of counted words.
 use Rattle.std.proofs.Common.{◌≡◌, ℕ, suc, ◌+◌, ◌-◌, ◌<◌, ◌≤◌, min, List, [], ◌∷◌, ◌++◌, length, take, Option, None, Some, Result, Ok, Err, refl, sym, ap, ◌∙◌, inl, inr, arith}
 use Rattle.std.specs.Prelude.{slice_get, codes}
 use Rattle.std.specs.Str.{bytes_eq}
@@ -7,13 +7,13 @@ use Rattle.std.proofs.lemmas.List.{length-take}
 use Rattle.spec_text.specs.declared.decimals.Decimal.{Decimal}
 use Rattle.spec_sections.specs.declared.rules.BrokenRule.{BrokenRule}
 use Rattle.spec_faults.specs.declared.numbers.TheConstants.{ENDED}
-use Rattle.spec_header.specs.HeaderLines.{names, HeaderOrStop as Says}
+use Rattle.spec_header.specs.HeaderLines.{names, HeaderOrStop, facts_of, from_column_group, from_value_group, from_values}
 use Rattle.spec_header.specs.HeaderRules.{emrat_from, mass_ratio}
 use Rattle.spec_sections.specs.Sections.{FileLine, Stop, ◌>>=◌, at_line, after_words}
-use Rattle.de_header.specs.declared.state.Facts.{Facts}
-use Rattle.de_header.specs.declared.state.Frame.{Frame}
-use Rattle.de_header.specs.Reader.{facts_of, from_column_group, from_names, from_value_group, from_values, from_values_behind, or_else}
-use Rattle.de_header.proofs.Runs.{after_names, behind_line, behind_none, names_line, names_none, ratio_here, ratio_later}
+use Rattle.spec_header.specs.declared.facts.Facts.{Facts}
+use Rattle.spec_header.specs.declared.facts.BlockShape.{BlockShape}
+use Rattle.de_header.specs.Reader.{from_more_names, from_more_values, or_else}
+use Rattle.de_header.proofs.Runs.{after_names, after_line, after_none, names_line, names_none, ratio_here, ratio_later}
 
 or_else_again : (a b c : Option ℕ) → or_else a (or_else b c) ≡ or_else (or_else a b) c
 or_else_again None b c = refl
@@ -32,69 +32,69 @@ emrat_append k m (x ∷ xs) ys is = elim (cases_Bool (bytes_eq x (codes "EMRAT")
   | inr test ↦ rw test (emrat_append (suc k) m xs ys (omega (arith, is)))
 ]
 
-module _ (frame : Frame) (count : ℕ) where
-  abbrev named : ℕ → Option ℕ → List (List ℕ) × List FileLine → Says
-  named passed emrat x = from_value_group frame count (or_else emrat (emrat_from passed x.0)) x.1
+module _ (shape : BlockShape) (count : ℕ) where
+  abbrev named : ℕ → Option ℕ → List (List ℕ) × List FileLine → HeaderOrStop
+  named passed emrat x = from_value_group shape count (or_else emrat (emrat_from passed x.0)) x.1
 
-  named_behind : (r : Result (List (List ℕ) × List FileLine) Stop) (words : List (List ℕ)) (found later : Option ℕ) (passed m : ℕ)
+  named_after : (r : Result (List (List ℕ) × List FileLine) Stop) (words : List (List ℕ)) (found later : Option ℕ) (passed m : ℕ)
       → m ≡ passed + length words → later ≡ or_else found (emrat_from passed words)
       → ((r >>= after_names words) >>= named passed found) ≡ (r >>= named m later)
-  named_behind (Err e) words found later passed m m_is later_is = refl
-  named_behind (Ok x) words found later passed m m_is later_is =
-      ap (λ (e : Option ℕ). from_value_group frame count e x.1)
+  named_after (Err e) words found later passed m m_is later_is = refl
+  named_after (Ok x) words found later passed m m_is later_is =
+      ap (λ (e : Option ℕ). from_value_group shape count e x.1)
       (ap (or_else found) (emrat_append passed m words x.0 m_is) ∙ or_else_again found (emrat_from passed words) (emrat_from m x.0)
       ∙ ap (λ (e : Option ℕ). or_else e (emrat_from m x.0)) (sym later_is))
 
   pub no_names_left : (left passed : ℕ) (emrat : Option ℕ) (rest : List FileLine) → left ≡ 0
-      → from_value_group frame count emrat rest ≡ from_names frame count left passed emrat rest
+      → from_value_group shape count emrat rest ≡ from_more_names shape count left passed emrat rest
   no_names_left left passed emrat rest none =
-      ap (λ (e : Option ℕ). from_value_group frame count e rest) (sym (or_else_none emrat))
+      ap (λ (e : Option ℕ). from_value_group shape count e rest) (sym (or_else_none emrat))
       ∙ sym (ap (λ (r : Result (List (List ℕ) × List FileLine) Stop). r >>= named passed emrat) (names_none left rest none))
 
   pub names_passed : (left here passed : ℕ) (found later : Option ℕ) (line : FileLine) (rest : List FileLine) → 0 < left
       → here ≡ min left (length line.words) → later ≡ or_else found (emrat_from passed (take here line.words))
-      → from_names frame count left passed found (line ∷ rest) ≡ from_names frame count (left - here) (passed + here) later rest
+      → from_more_names shape count left passed found (line ∷ rest) ≡ from_more_names shape count (left - here) (passed + here) later rest
   names_passed left here passed found later line rest some here_is later_is =
       let all : length (take here line.words) ≡ here = length-take here line.words ∙ omega (arith, here_is) in
       ap (λ (r : Result (List (List ℕ) × List FileLine) Stop). r >>= named passed found) (names_line left here line rest some here_is)
-      ∙ named_behind (names (left - here) rest) (take here line.words) found later passed (passed + here) (omega (arith, all)) later_is
+      ∙ named_after (names (left - here) rest) (take here line.words) found later passed (passed + here) (omega (arith, all)) later_is
 
-pub no_values_left : (facts : Facts) (left : ℕ) (rest : List FileLine) → left ≡ 0 → from_column_group facts rest ≡ from_values_behind facts left rest
-no_values_left facts left rest none = sym (ap (λ (r : Result (List FileLine) Stop). r >>= from_column_group facts) (behind_none left rest none))
+pub no_values_left : (facts : Facts) (left : ℕ) (rest : List FileLine) → left ≡ 0 → from_column_group facts rest ≡ from_more_values facts left rest
+no_values_left facts left rest none = sym (ap (λ (r : Result (List FileLine) Stop). r >>= from_column_group facts) (after_none left rest none))
 
 pub values_passed : (facts : Facts) (left here : ℕ) (line : FileLine) (rest : List FileLine) → 0 < left → here ≡ min left (length line.words)
-    → from_values_behind facts left (line ∷ rest) ≡ from_values_behind facts (left - here) rest
+    → from_more_values facts left (line ∷ rest) ≡ from_more_values facts (left - here) rest
 values_passed facts left here line rest some here_is =
-    ap (λ (r : Result (List FileLine) Stop). r >>= from_column_group facts) (behind_line left here line rest some here_is)
+    ap (λ (r : Result (List FileLine) Stop). r >>= from_column_group facts) (after_line left here line rest some here_is)
 
 abbrev with_ratio : Decimal → List FileLine → Result (Decimal × List FileLine) Stop
 with_ratio d rest = Ok (d, rest)
 
-module _ (frame : Frame) where
-  abbrev rated : Decimal × List FileLine → Says
-  rated emrat = from_column_group (facts_of frame emrat.0) emrat.1
+module _ (shape : BlockShape) where
+  abbrev rated : Decimal × List FileLine → HeaderOrStop
+  rated emrat = from_column_group (facts_of shape emrat.0) emrat.1
 
   pub values_later : (left here before : ℕ) (line : FileLine) (rest : List FileLine) → here ≡ min left (length line.words) → here ≤ before
-      → from_values frame left before (line ∷ rest) ≡ from_values frame (left - here) (before - here) rest
+      → from_values shape left before (line ∷ rest) ≡ from_values shape (left - here) (before - here) rest
   values_later left here before line rest here_is le =
       ap (λ (r : Result (Decimal × List FileLine) Stop). r >>= rated) (ratio_later left here before line rest here_is le)
 
-  rated_behind : (d : Decimal) (r : Result (List FileLine) Stop) → ((r >>= with_ratio d) >>= rated) ≡ (r >>= from_column_group (facts_of frame d))
-  rated_behind d (Ok x) = refl
-  rated_behind d (Err e) = refl
+  rated_after : (d : Decimal) (r : Result (List FileLine) Stop) → ((r >>= with_ratio d) >>= rated) ≡ (r >>= from_column_group (facts_of shape d))
+  rated_after d (Ok x) = refl
+  rated_after d (Err e) = refl
 
   pub value_here : (left here before : ℕ) (line : FileLine) (rest : List FileLine) (word : List ℕ) (d : Decimal)
       → here ≡ min left (length line.words) → before < here → slice_get line.words before ≡ Some word → mass_ratio word ≡ Ok d
-      → from_values frame left before (line ∷ rest) ≡ from_values_behind (facts_of frame d) (left - here) rest
+      → from_values shape left before (line ∷ rest) ≡ from_more_values (facts_of shape d) (left - here) rest
   value_here left here before line rest word d here_is below is read =
       ap (λ (r : Result (Decimal × List FileLine) Stop). r >>= rated)
       (ratio_here left here before line rest word here_is below is
       ∙ ap (λ (r : Result Decimal BrokenRule). at_line line.file line.number r >>= λ emrat. after_words ENDED (left - here) rest >>= with_ratio emrat) read)
-      ∙ rated_behind d (after_words ENDED (left - here) rest)
+      ∙ rated_after d (after_words ENDED (left - here) rest)
 
   pub value_breaks : (left here before : ℕ) (line : FileLine) (rest : List FileLine) (word : List ℕ) (broken : BrokenRule)
       → here ≡ min left (length line.words) → before < here → slice_get line.words before ≡ Some word → mass_ratio word ≡ Err broken
-      → from_values frame left before (line ∷ rest) ≡ at_line line.file line.number (Err broken)
+      → from_values shape left before (line ∷ rest) ≡ at_line line.file line.number (Err broken)
   value_breaks left here before line rest word broken here_is below is read =
       ap (λ (r : Result (Decimal × List FileLine) Stop). r >>= rated)
       (ratio_here left here before line rest word here_is below is

@@ -2,7 +2,7 @@
 use Rattle.std.proofs.Common.{◌≡◌, ℕ, List, refl}
 use Rattle.spec_sections.specs.Sections.{FileLine}
 use Rattle.de_header.specs.declared.state.State.{State}
-use Rattle.de_header.specs.declared.state.State.TheVariants.{First, TitleGroup, Titles, Span, NameGroup, NameCount, Names, ValueGroup, ValueCount, ValuesBefore, ValuesBehind, ColumnGroup, Starts, Coefficients, Granules, EndGroup, Whole, Refused}
+use Rattle.de_header.specs.declared.state.State.TheVariants.{First, TitleGroup, Titles, Span, NameGroup, NameCount, Names, ValueGroup, ValueCount, ValuesBefore, ValuesAfter, ColumnGroup, Starts, Coefficients, Granules, EndGroup, Whole, Refused}
 use Rattle.de_header.specs.Reader.{IsOpen, says}
 
 pub same_file : (state : State) (lines : List FileLine) (f g : ℕ) → IsOpen state → says f state lines ≡ says g state lines
@@ -11,13 +11,13 @@ same_file First lines f g wants = refl
 same_file (TitleGroup ncoeff) lines f g wants = refl
 same_file (Titles ncoeff) lines f g wants = refl
 same_file (Span ncoeff) lines f g wants = refl
-same_file (NameGroup frame) lines f g wants = refl
-same_file (NameCount frame) lines f g wants = refl
-same_file (Names frame count left passed emrat) lines f g wants = refl
-same_file (ValueGroup frame count emrat) lines f g wants = refl
-same_file (ValueCount frame count emrat) lines f g wants = refl
-same_file (ValuesBefore frame left before) lines f g wants = refl
-same_file (ValuesBehind facts left) lines f g wants = refl
+same_file (NameGroup shape) lines f g wants = refl
+same_file (NameCount shape) lines f g wants = refl
+same_file (Names shape count left passed emrat) lines f g wants = refl
+same_file (ValueGroup shape count emrat) lines f g wants = refl
+same_file (ValueCount shape count emrat) lines f g wants = refl
+same_file (ValuesBefore shape left before) lines f g wants = refl
+same_file (ValuesAfter facts left) lines f g wants = refl
 same_file (ColumnGroup facts) lines f g wants = refl
 same_file (Starts facts) lines f g wants = refl
 same_file (Coefficients facts starts) lines f g wants = refl

@@ -17,4 +17,4 @@ pub use laws::open_readers_say_the_same_in_every_file;
 pub use reader::HeaderReader;
 pub use spec_ephemeris::{Column, Columns, Header};
 pub use spec_text::Fault;
-pub use state::{Facts, Frame, State};
+pub use state::State;

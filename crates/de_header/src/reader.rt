@@ -1,7 +1,7 @@
 // The reader.
 ghost use Rattle.std.specs.Prelude.{◌≡◌, ◌∷◌, [], ◌+◌, ◌≤◌, ◌<◌, IfErr, IfOk, List, None, Err, Ok, ℕ, length, min, take};
 ghost use Rattle.spec_text.specs.declared.decimals.Fault.{Fault};
-ghost use Rattle.spec_header.specs.declared.rules.TheConstants.{MOST_CONSTANTS};
+ghost use Rattle.spec_header.specs.declared.limits.TheConstants.{MOST_CONSTANTS};
 ghost use Rattle.spec_ephemeris.specs.Header.{IsHeader};
 ghost use Rattle.spec_header.specs.HeaderLines.{header, header_of};
 ghost use Rattle.spec_header.specs.HeaderRules.{emrat_from};
@@ -9,18 +9,18 @@ ghost use Rattle.spec_sections.specs.Sections.{FileLine};
 ghost use Rattle.de_header.specs.declared.state.State.TheVariants as states;
 ghost use Rattle.de_header.specs.declared.answers.HeaderError.TheVariants as errors;
 ghost use Rattle.de_header.specs.declared.answers.Step.TheVariants as steps;
-ghost use Rattle.de_header.specs.Reader.{Ends, Fits, IsBehindNames, IsBehindValues, IsNotDone, IsNotWhole, IsOpen, IsRefused, IsWhole, Moves, answer, from_names, from_values_behind, or_else, says};
-ghost use Rattle.spec_sections.specs.FileLines.{line_of};
+ghost use Rattle.de_header.specs.Reader.{Ends, Fits, GivesAgain, HasRead, IsAfterNames, IsAfterValues, IsAt, IsNotDone, IsNotWhole, IsOpen, IsRefused, IsWhole, KeepsFault, Moves, answer, from_more_names, from_more_values, or_else, says};
 
 use crate::answers::{HeaderError, Step};
 use crate::columns::{columns_row, row};
-use crate::state::{Facts, Frame, State};
+use crate::state::State;
 use crate::words::{
     find_emrat, first_line, group, is_group, mass_ratio, name_count, span, value_count,
 };
 use de_text::Line;
-use spec_ephemeris::{Column, Columns, Header};
+use spec_ephemeris::{COLUMNS, Column, Columns, Header};
 use spec_faults::ENDED;
+use spec_header::{BlockShape, Facts};
 use spec_sections::BrokenRule;
 use spec_text::Fault;
 use std::alloc::Global;
@@ -47,21 +47,21 @@ fn emrat_or(found: Option<u32>, line: &Line<'_>, n: u32, start: u32) -> Option<u
 
 // The state in which so many names are left, and others are passed.
 #[tactic(auto, unfolding(crate::specs::Reader::says), using(crate::proofs::Steps::no_names_left))]
-fn to_names(frame: Frame, count: u32, left: u32, passed: u32, emrat: Option<u32>) -> State
+fn to_names(shape: BlockShape, count: u32, left: u32, passed: u32, emrat: Option<u32>) -> State
     requires few { passed + left ≤ MOST_CONSTANTS }
     requires count { count ≤ MOST_CONSTANTS }
-    ensures says { (file : ℕ) (rest : List FileLine) → says file result rest ≡ from_names frame count left passed emrat rest }
+    ensures place { IsAt result (from_more_names shape count left passed emrat) }
     ensures fits { Fits result }
 {
     if left == 0 {
         State::ValueGroup {
-            frame,
+            shape,
             count,
             emrat,
         }
     } else {
         State::Names {
-            frame,
+            shape,
             count,
             left,
             passed,
@@ -70,48 +70,53 @@ fn to_names(frame: Frame, count: u32, left: u32, passed: u32, emrat: Option<u32>
     }
 }
 
-// The state behind the names on a line.
+// The state after the names on a line.
 fn pass_names(
-    frame: Frame,
+    shape: BlockShape,
     count: u32,
     left: u32,
     passed: u32,
     emrat: Option<u32>,
     line: &Line<'_>,
 ) -> State
-    requires { Fits (states.Names frame count left passed emrat) }
-    ensures moves { Moves (states.Names frame count left passed emrat) line.now (Ok result) }
+    requires { Fits (states.Names shape count left passed emrat) }
+    ensures moves { Moves (states.Names shape count left passed emrat) line.now (Ok result) }
     ensures fits { Fits result }
 {
     let here = words_here(left, line);
     let emrat = emrat_or(emrat, line, here, passed);
-    to_names(frame, count, left - here, passed + here, emrat)
+    to_names(shape, count, left - here, passed + here, emrat)
 }
 
-// The state in which so many values are left behind that of `EMRAT`.
+// The state in which so many values are left after that of `EMRAT`.
 #[tactic(auto, unfolding(crate::specs::Reader::says), using(crate::proofs::Steps::no_values_left))]
-fn to_values_behind(facts: Facts, left: u32) -> State
+fn to_more_values(facts: Facts, left: u32) -> State
     requires { left ≤ MOST_CONSTANTS }
-    ensures says { (file : ℕ) (rest : List FileLine) → says file result rest ≡ from_values_behind facts left rest }
+    ensures place { IsAt result (from_more_values facts left) }
     ensures fits { Fits result }
 {
     if left == 0 {
         State::ColumnGroup { facts }
     } else {
-        State::ValuesBehind { facts, left }
+        State::ValuesAfter { facts, left }
     }
 }
 
-// The state behind the values on a line, where that of `EMRAT` is still to come.
-fn pass_values(frame: Frame, left: u32, before: u32, line: &Line<'_>) -> Result<State, BrokenRule>
+// The state after the values on a line, where that of `EMRAT` is still to come.
+fn pass_values(
+    shape: BlockShape,
+    left: u32,
+    before: u32,
+    line: &Line<'_>,
+) -> Result<State, BrokenRule>
     requires { left ≤ MOST_CONSTANTS }
-    ensures moves { Moves (states.ValuesBefore frame left before) line.now result }
+    ensures moves { Moves (states.ValuesBefore shape left before) line.now result }
     ensures fits { IfOk result Fits }
 {
     let here = words_here(left, line);
     if here <= before {
         return Ok(State::ValuesBefore {
-            frame,
+            shape,
             left: left - here,
             before: before - here,
         });
@@ -120,30 +125,30 @@ fn pass_values(frame: Frame, left: u32, before: u32, line: &Line<'_>) -> Result<
         Err(broken) => Err(broken),
         Ok(emrat) => {
             let facts = Facts {
-                ncoeff: frame.ncoeff,
-                block_seconds: frame.block_seconds,
+                ncoeff: shape.ncoeff,
+                block_seconds: shape.block_seconds,
                 emrat,
             };
-            Ok(to_values_behind(facts, left - here))
+            Ok(to_more_values(facts, left - here))
         }
     }
 }
 
-// The state behind the values on a line.
-fn pass_values_behind(facts: Facts, left: u32, line: &Line<'_>) -> State
-    requires { Fits (states.ValuesBehind facts left) }
-    ensures moves { Moves (states.ValuesBehind facts left) line.now (Ok result) }
+// The state after the values on a line.
+fn pass_more_values(facts: Facts, left: u32, line: &Line<'_>) -> State
+    requires { Fits (states.ValuesAfter facts left) }
+    ensures moves { Moves (states.ValuesAfter facts left) line.now (Ok result) }
     ensures fits { Fits result }
 {
     let here = words_here(left, line);
-    to_values_behind(facts, left - here)
+    to_more_values(facts, left - here)
 }
 
-// The state behind a line of the columns, or the first rule that the line breaks.
+// The state after a line of the columns, or the first rule that the line breaks.
 #[tactic(auto, unfolding(crate::specs::Reader::says))]
-fn step_behind_values(state: State, line: &Line<'_>) -> Result<State, BrokenRule>
+fn step_after_values(state: State, line: &Line<'_>) -> Result<State, BrokenRule>
     requires open { IsOpen state }
-    requires behind { IsBehindValues state }
+    requires after { IsAfterValues state }
     ensures moves { Moves state line.now result }
     ensures fits { IfOk result Fits }
 {
@@ -180,51 +185,51 @@ fn step_behind_values(state: State, line: &Line<'_>) -> Result<State, BrokenRule
     }
 }
 
-// The state behind a line that wants one, once the names are passed, or the first rule that the line breaks.
+// The state after a line that wants one, once the names are passed, or the first rule that the line breaks.
 #[tactic(auto, unfolding(crate::specs::Reader::says))]
-fn step_behind_names(state: State, line: &Line<'_>) -> Result<State, BrokenRule>
+fn step_after_names(state: State, line: &Line<'_>) -> Result<State, BrokenRule>
     requires open { IsOpen state }
-    requires behind { IsBehindNames state }
+    requires after { IsAfterNames state }
     requires fits { Fits state }
     ensures moves { Moves state line.now result }
     ensures fits { IfOk result Fits }
 {
     match state {
         State::ValueGroup {
-            frame,
+            shape,
             count,
             emrat,
         } => {
             group(b"1041", 1041, line)?;
             Ok(State::ValueCount {
-                frame,
+                shape,
                 count,
                 emrat,
             })
         }
         State::ValueCount {
-            frame,
+            shape,
             count,
             emrat,
         } => {
             let before = value_count(count, emrat, line)?;
             Ok(State::ValuesBefore {
-                frame,
+                shape,
                 left: count,
                 before,
             })
         }
         State::ValuesBefore {
-            frame,
+            shape,
             left,
             before,
-        } => pass_values(frame, left, before, line),
-        State::ValuesBehind { facts, left } => Ok(pass_values_behind(facts, left, line)),
-        state => step_behind_values(state, line),
+        } => pass_values(shape, left, before, line),
+        State::ValuesAfter { facts, left } => Ok(pass_more_values(facts, left, line)),
+        state => step_after_values(state, line),
     }
 }
 
-// The state behind a title, or behind the first line that begins with `GROUP`.
+// The state after a title, or after the first line that begins with `GROUP`.
 #[tactic(auto, unfolding(crate::specs::Reader::says))]
 fn pass_title(ncoeff: u32, line: &Line<'_>) -> Result<State, BrokenRule>
     ensures moves { Moves (states.Titles ncoeff) line.now result }
@@ -238,7 +243,7 @@ fn pass_title(ncoeff: u32, line: &Line<'_>) -> Result<State, BrokenRule>
     }
 }
 
-// The state behind a line that wants one, or the first rule that the line breaks.
+// The state after a line that wants one, or the first rule that the line breaks.
 #[tactic(auto, unfolding(crate::specs::Reader::says))]
 fn step(state: State, line: &Line<'_>) -> Result<State, BrokenRule>
     requires open { IsOpen state }
@@ -258,37 +263,37 @@ fn step(state: State, line: &Line<'_>) -> Result<State, BrokenRule>
         State::Titles { ncoeff } => pass_title(ncoeff, line),
         State::Span { ncoeff } => {
             let block_seconds = span(line)?;
-            let frame = Frame {
+            let shape = BlockShape {
                 ncoeff,
                 block_seconds,
             };
-            Ok(State::NameGroup { frame })
+            Ok(State::NameGroup { shape })
         }
-        State::NameGroup { frame } => {
+        State::NameGroup { shape } => {
             group(b"1040", 1040, line)?;
-            Ok(State::NameCount { frame })
+            Ok(State::NameCount { shape })
         }
-        State::NameCount { frame } => {
+        State::NameCount { shape } => {
             let count = name_count(line)?;
-            Ok(to_names(frame, count, count, 0, None))
+            Ok(to_names(shape, count, count, 0, None))
         }
         State::Names {
-            frame,
+            shape,
             count,
             left,
             passed,
             emrat,
-        } => Ok(pass_names(frame, count, left, passed, emrat, line)),
-        state => step_behind_names(state, line),
+        } => Ok(pass_names(shape, count, left, passed, emrat, line)),
+        state => step_after_names(state, line),
     }
 }
 
-// The state behind a line, where the first rule that a line breaks is kept.
+// The state after a line, where the first rule that a line breaks is kept.
 #[tactic(auto, unfolding(crate::specs::Reader::says))]
 fn next(state: State, line: &Line<'_>) -> State
     requires open { IsNotWhole state }
     requires fits { Fits state }
-    ensures says { (file : ℕ) (rest : List FileLine) → says file result rest ≡ says file state (line_of file line.now ∷ rest) }
+    ensures says { HasRead state line.now result }
     ensures kept { (fault : Fault) → IsRefused state fault → IsRefused result fault }
     ensures fits { Fits result }
 {
@@ -303,13 +308,13 @@ fn next(state: State, line: &Line<'_>) -> State
 
 // What a state answers.
 #[tactic(auto, unfolding(crate::specs::Reader::says))]
-fn told(state: State) -> Result<Step, HeaderError>
+fn answer_of(state: State) -> Result<Step, HeaderError>
     requires { Fits state }
     ensures answer { result ≡ answer (says 0 state []) }
     ensures more { result ≡ Ok steps.More → IsOpen state }
     ensures not_done { IsNotDone result → IsNotWhole state }
     ensures done { result ≡ Ok steps.Done → IsWhole state }
-    ensures refused { (fault : Fault) → result ≡ Err (errors.Fault fault) → IsRefused state fault }
+    ensures refused { KeepsFault state result }
     ensures kept { (fault : Fault) → IsRefused state fault → result ≡ Err (errors.Fault fault) }
 {
     match state {
@@ -320,7 +325,7 @@ fn told(state: State) -> Result<Step, HeaderError>
 }
 
 // The header, unless there is no memory for its columns.
-fn whole(alloc: Global, facts: Facts, columns: [Column; 13]) -> Result<Header, HeaderError>
+fn whole(alloc: Global, facts: Facts, columns: [Column; COLUMNS]) -> Result<Header, HeaderError>
     ensures { (end : ℕ) → Ends end (Ok (header_of facts columns, [])) result }
 {
     match Vec::from_array(alloc, columns) {
@@ -337,7 +342,8 @@ fn whole(alloc: Global, facts: Facts, columns: [Column; 13]) -> Result<Header, H
 // What a state comes to where the lines end.
 #[tactic(auto, unfolding(crate::specs::Reader::says))]
 fn header_at_end(alloc: Global, state: State, line: u32) -> Result<Header, HeaderError>
-    ensures { Ends line (says 0 state []) result }
+    ensures end { Ends line (says 0 state []) result }
+    ensures memory { result ≡ Err errors.Memory → IsWhole state }
 {
     match state {
         State::Whole { facts, columns } => whole(alloc, facts, columns),
@@ -346,7 +352,7 @@ fn header_at_end(alloc: Global, state: State, line: u32) -> Result<Header, Heade
     }
 }
 
-/// A reader of the header of a file, or of several files one behind the other.
+/// A reader of the header of a file, or of several files one after the other.
 #[derive(Drop)]
 pub struct HeaderReader {
     state: State,
@@ -366,7 +372,7 @@ impl Model for HeaderReader {
 impl HeaderReader {
     /// A reader that waits for the first line.
     pub fn new() -> Self
-        ensures header { (file : ℕ) (lines : List FileLine) → says file result lines ≡ header lines }
+        ensures header { IsAt result header }
         ensures open { IsOpen result × IsNotWhole result }
     {
         HeaderReader {
@@ -375,20 +381,20 @@ impl HeaderReader {
     }
 
     /// Reads the next line. `Done` comes at the line that ends the header, and `Fault` at the first line that breaks a
-    /// rule and at every line behind it. A line takes no memory, so `Memory` never comes here.
+    /// rule and at every line after it. A line takes no memory, so `Memory` never comes here.
     pub fn line(&mut self, line: &Line<'_>) -> Result<Step, HeaderError>
         requires { IsNotWhole self.old }
-        ensures says { (file : ℕ) (rest : List FileLine) → says file self.new rest ≡ says file self.old (line_of file line.now ∷ rest) }
+        ensures says { HasRead self.old line.now self.new }
         ensures answer { result ≡ answer (says 0 self.new []) }
         ensures more { result ≡ Ok steps.More → IsOpen self.new }
         ensures not_done { IsNotDone result → IsNotWhole self.new }
         ensures done { result ≡ Ok steps.Done → IsWhole self.new }
-        ensures refused { (fault : Fault) → result ≡ Err (errors.Fault fault) → IsRefused self.new fault }
-        ensures kept { (fault : Fault) → IsRefused self.old fault → IsRefused self.new fault × (result ≡ Err (errors.Fault fault)) }
+        ensures refused { KeepsFault self.new result }
+        ensures kept { GivesAgain self.old self.new result }
         ensures no_memory_is_wanted { result ≡ Err errors.Memory → ⊥ }
     {
         self.state = next(self.state, line);
-        told(self.state)
+        answer_of(self.state)
     }
 
     /// The header, where the lines end at this number, that of the last file's lines plus 1. `Fault` is the kept
@@ -396,7 +402,9 @@ impl HeaderReader {
     /// which `new` speaks, the header meets the rules of a header.
     pub fn end(self, alloc: Global, line: u32) -> Result<Header, HeaderError>
         ensures end { Ends line (says 0 self []) result }
-        ensures rules { (lines : List FileLine) → says 0 self [] ≡ header lines → IfOk result IsHeader }
+        ensures memory { result ≡ Err errors.Memory → IsWhole self }
+        ensures rules { (lines : List FileLine) → says 0 self [] ≡ header lines
+            → IfOk result IsHeader }
     {
         header_at_end(alloc, self.state, line)
     }

@@ -1,26 +1,7 @@
 // How far a reader has come, with what it has read.
-use spec_ephemeris::Column;
-use spec_text::{Decimal, Fault};
-
-/// What the lines before the names told.
-#[derive(Clone, Copy, Debug, PartialEq, Eq)]
-pub struct Frame {
-    /// The numbers of a block.
-    pub ncoeff: u32,
-    /// The length of a block, in seconds.
-    pub block_seconds: u32,
-}
-
-/// What the lines before the columns told.
-#[derive(Clone, Copy, Debug, PartialEq, Eq)]
-pub struct Facts {
-    /// The numbers of a block.
-    pub ncoeff: u32,
-    /// The length of a block, in seconds.
-    pub block_seconds: u32,
-    /// The mass of the Earth over that of the Moon.
-    pub emrat: Decimal,
-}
+use spec_ephemeris::{COLUMNS, Column};
+use spec_header::{BlockShape, Facts};
+use spec_text::Fault;
 
 /// What a reader waits for, and what it keeps. A place of `EMRAT` is counted from 0.
 #[derive(Clone, Copy, Debug, PartialEq, Eq)]
@@ -41,15 +22,15 @@ pub enum State {
     },
     /// `GROUP 1040`.
     NameGroup {
-        frame: Frame,
+        shape: BlockShape,
     },
     /// The count of names.
     NameCount {
-        frame: Frame,
+        shape: BlockShape,
     },
     /// Names, of which some are passed and some are left.
     Names {
-        frame: Frame,
+        shape: BlockShape,
         count: u32,
         left: u32,
         passed: u32,
@@ -57,24 +38,24 @@ pub enum State {
     },
     /// `GROUP 1041`.
     ValueGroup {
-        frame: Frame,
+        shape: BlockShape,
         count: u32,
         emrat: Option<u32>,
     },
     /// The count of values.
     ValueCount {
-        frame: Frame,
+        shape: BlockShape,
         count: u32,
         emrat: Option<u32>,
     },
     /// Values, of which so many stand before that of `EMRAT`.
     ValuesBefore {
-        frame: Frame,
+        shape: BlockShape,
         left: u32,
         before: u32,
     },
-    /// Values behind that of `EMRAT`.
-    ValuesBehind {
+    /// Values after that of `EMRAT`.
+    ValuesAfter {
         facts: Facts,
         left: u32,
     },
@@ -89,23 +70,23 @@ pub enum State {
     /// The coefficients of the columns.
     Coefficients {
         facts: Facts,
-        starts: [u32; 13],
+        starts: [u32; COLUMNS],
     },
     /// The granules of the columns.
     Granules {
         facts: Facts,
-        starts: [u32; 13],
-        coefs: [u32; 13],
+        starts: [u32; COLUMNS],
+        coefs: [u32; COLUMNS],
     },
     /// `GROUP 1070`.
     EndGroup {
         facts: Facts,
-        columns: [Column; 13],
+        columns: [Column; COLUMNS],
     },
     /// Nothing: the header is whole.
     Whole {
         facts: Facts,
-        columns: [Column; 13],
+        columns: [Column; COLUMNS],
     },
     /// Nothing: the first fault was met.
     Refused(Fault),

@@ -1,10 +1,10 @@
--- What contracts see of an enclosure that the code answers, and the limit of its exponents.
+-- The times of a span, and the limits of exponents.
 use Rattle.std.specs.Prelude.{ℕ, ℤ}
 use Rattle.spec_intervals.specs.Enclosure.{Enclosure}
-use Rattle.ival_core.specs.declared.ival.Enclosure.{Enclosure as Answered}
 
-abbrev pub parts : Answered → Enclosure
-parts e = record { mid = e.mid; range = e.range; step = e.step }
+-- an enclosure, as what its three intervals are
+abbrev pub parts : Enclosure → Enclosure
+parts e = e
 
 -- the greatest size of an exponent that states answer
 abbrev pub state_exponent : ℕ

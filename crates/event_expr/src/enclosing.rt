@@ -4,27 +4,23 @@ ghost use Rattle.std.specs.Prelude.{◌≡◌, ◌≤ℤ◌, ◌<ℤ◌, ℤ};
 ghost use Rattle.spec_intervals.specs.Fraction.{Holds};
 ghost use Rattle.spec_intervals.specs.Enclosure.{middle, change};
 ghost use Rattle.spec_expressions.specs.Expression.{exact_of, enclosure_of, IsFormula};
-ghost use Rattle.event_expr.specs.States.{parts};
 
 use crate::formula::Formula;
 use crate::rules::Span;
 use crate::states::States;
-use ival_core::{Enclosure, Ival};
+use ival_core::{COSINE_EXPONENT, DISTANCE_EXPONENT, Enclosure, Ival};
 use spec_expressions::Expr;
-
-/// The exponents of 2 at which constants are taken.
-const LENGTH_EXPONENT: i32 = -24;
-
-const COSINE_EXPONENT: i32 = -60;
 
 /// The enclosure of a formula over the times from `a` to `b`, by interval arithmetic on what the states answer. The
 /// states are asked for each leaf once, and no memory is taken.
 pub fn enclose<S: States>(f: &Formula, states: &S, a: i64, b: i64) -> Enclosure
     requires fits { S.fits states.now a b }
-    ensures equals { parts result ≡ enclosure_of (λ leaf. S.answer states.now leaf a b) a b f.now }
+    ensures equals { result ≡ enclosure_of (λ leaf. S.answer states.now leaf a b) a b f.now }
     ensures mid { Holds result.mid (exact_of (S.exact states.now) f.now (middle a b)) }
-    ensures range { (t : ℤ) → a ≤ℤ t → t ≤ℤ b → Holds result.range (exact_of (S.exact states.now) f.now t) }
-    ensures step { (t : ℤ) → a ≤ℤ t → t <ℤ b → Holds result.step (change (exact_of (S.exact states.now) f.now) t) }
+    ensures range { (t : ℤ) → a ≤ℤ t → t ≤ℤ b
+        → Holds result.range (exact_of (S.exact states.now) f.now t) }
+    ensures step { (t : ℤ) → a ≤ℤ t → t <ℤ b
+        → Holds result.step (change (exact_of (S.exact states.now) f.now) t) }
 {
     enclose_at(f.expr(), states, &Span::new(a, b))
 }
@@ -33,13 +29,14 @@ pub fn enclose<S: States>(f: &Formula, states: &S, a: i64, b: i64) -> Enclosure
 fn enclose_at<S: States>(expr: &Expr, states: &S, span: &Span) -> Enclosure
     requires formula { IsFormula expr.now }
     requires fits { S.fits states.now span.now.first span.now.last }
-    ensures { parts result ≡ enclosure_of (λ leaf. S.answer states.now leaf span.now.first span.now.last) span.now.first span.now.last expr.now }
+    ensures { result ≡ enclosure_of (λ leaf. S.answer states.now leaf span.now.first span.now.last)
+        span.now.first span.now.last expr.now }
 {
     match expr {
         Expr::Pos { target, axis } => states.pos(*target, *axis, span.first(), span.last()),
         Expr::Vel { target, axis } => states.vel(*target, *axis, span.first(), span.last()),
         Expr::Length(length) => {
-            span.constant(Ival::from_decimal(length.mant, length.exp, LENGTH_EXPONENT))
+            span.constant(Ival::from_decimal(length.mant, length.exp, DISTANCE_EXPONENT))
         }
         Expr::Cosine(cosine) => {
             span.constant(Ival::from_decimal(cosine.mant, cosine.exp, COSINE_EXPONENT))

@@ -5,7 +5,7 @@
 //! at each time and from each time to the next. No call takes memory, and the states are asked once for each leaf.
 #![tactic(auto)]
 
-mod constants;
+pub mod builders;
 mod enclosing;
 mod formula;
 mod limits;

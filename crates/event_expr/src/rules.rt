@@ -6,7 +6,7 @@ ghost use Rattle.spec_intervals.specs.Interval.{Interval, end_limit};
 ghost use Rattle.spec_intervals.specs.Fraction.{Overlaps};
 ghost use Rattle.spec_intervals.specs.Enclosure.{IsSpan, IsWithin, AllWithin, Encloses, middle, centred, enclosure, constant_of, sum_of, difference_of, product_of, signed_square_of, twice_size};
 ghost use Rattle.spec_expressions.specs.Expression.{part_exponent};
-ghost use Rattle.event_expr.specs.States.{parts, wide_exponent};
+ghost use Rattle.event_expr.specs.States.{wide_exponent};
 
 use ival_core::{Enclosure, Ival};
 use std::marker::Model;
@@ -65,7 +65,7 @@ impl Span {
     pub fn constant(&self, value: Ival) -> Enclosure
         requires within { IsWithin part_exponent value }
         requires number { Overlaps value value }
-        ensures { parts result ≡ constant_of self.now.first self.now.last value }
+        ensures { result ≡ constant_of self.now.first self.now.last value }
     {
         if self.is_wide() {
             self.wide(value, value, Ival::zero())
@@ -76,11 +76,11 @@ impl Span {
 
     /// The sum.
     pub fn sum(&self, x: Enclosure, y: Enclosure) -> Enclosure
-        requires x_within { AllWithin part_exponent (parts x) }
-        requires y_within { AllWithin part_exponent (parts y) }
-        requires x_encloses { Encloses self.now.first self.now.last (parts x) }
-        requires y_encloses { Encloses self.now.first self.now.last (parts y) }
-        ensures { parts result ≡ sum_of self.now.first self.now.last (parts x) (parts y) }
+        requires x_within { AllWithin part_exponent x }
+        requires y_within { AllWithin part_exponent y }
+        requires x_encloses { Encloses self.now.first self.now.last x }
+        requires y_encloses { Encloses self.now.first self.now.last y }
+        ensures { result ≡ sum_of self.now.first self.now.last x y }
     {
         let mid = x.mid.add(y.mid);
         if self.is_wide() {
@@ -92,11 +92,11 @@ impl Span {
 
     /// The first less the second.
     pub fn difference(&self, x: Enclosure, y: Enclosure) -> Enclosure
-        requires x_within { AllWithin part_exponent (parts x) }
-        requires y_within { AllWithin part_exponent (parts y) }
-        requires x_encloses { Encloses self.now.first self.now.last (parts x) }
-        requires y_encloses { Encloses self.now.first self.now.last (parts y) }
-        ensures { parts result ≡ difference_of self.now.first self.now.last (parts x) (parts y) }
+        requires x_within { AllWithin part_exponent x }
+        requires y_within { AllWithin part_exponent y }
+        requires x_encloses { Encloses self.now.first self.now.last x }
+        requires y_encloses { Encloses self.now.first self.now.last y }
+        ensures { result ≡ difference_of self.now.first self.now.last x y }
     {
         let mid = x.mid.sub(y.mid);
         if self.is_wide() {
@@ -108,11 +108,11 @@ impl Span {
 
     /// The product. Its change is `x' (y' - y) + y (x' - x)`, with the later value of the first operand.
     pub fn product(&self, x: Enclosure, y: Enclosure) -> Enclosure
-        requires x_within { AllWithin part_exponent (parts x) }
-        requires y_within { AllWithin part_exponent (parts y) }
-        requires x_encloses { Encloses self.now.first self.now.last (parts x) }
-        requires y_encloses { Encloses self.now.first self.now.last (parts y) }
-        ensures { parts result ≡ product_of self.now.first self.now.last (parts x) (parts y) }
+        requires x_within { AllWithin part_exponent x }
+        requires y_within { AllWithin part_exponent y }
+        requires x_encloses { Encloses self.now.first self.now.last x }
+        requires y_encloses { Encloses self.now.first self.now.last y }
+        ensures { result ≡ product_of self.now.first self.now.last x y }
     {
         let mid = x.mid.mul(y.mid);
         if self.is_wide() {
@@ -125,9 +125,9 @@ impl Span {
 
     /// The signed square. Its change lies between 0 and the change of the operand times twice its greatest size.
     pub fn signed_square(&self, x: Enclosure) -> Enclosure
-        requires within { AllWithin part_exponent (parts x) }
-        requires encloses { Encloses self.now.first self.now.last (parts x) }
-        ensures { parts result ≡ signed_square_of self.now.first self.now.last (parts x) }
+        requires within { AllWithin part_exponent x }
+        requires encloses { Encloses self.now.first self.now.last x }
+        ensures { result ≡ signed_square_of self.now.first self.now.last x }
     {
         let mid = x.mid.signed_square();
         if self.is_wide() {
@@ -148,7 +148,8 @@ impl Span {
     /// At a single time the range is the mid and nothing changes, whatever the other parts.
     pub fn single(&self, mid: Ival) -> Enclosure
         requires { lt_z self.now.first self.now.last ≡ false }
-        ensures { (plain step : Interval) → parts result ≡ enclosure self.now.first self.now.last mid plain step }
+        ensures { (plain step : Interval)
+            → result ≡ enclosure self.now.first self.now.last mid plain step }
     {
         Enclosure {
             mid,
@@ -164,7 +165,7 @@ impl Span {
         requires plain_within { IsWithin wide_exponent plain }
         requires step_within { IsWithin wide_exponent step }
         requires shared { Overlaps plain (centred self.now.first self.now.last mid step) }
-        ensures { parts result ≡ enclosure self.now.first self.now.last mid plain step }
+        ensures { result ≡ enclosure self.now.first self.now.last mid plain step }
     {
         let centred = mid.add(step.mul(self.distances));
         Enclosure {

@@ -4,7 +4,7 @@ ghost use Rattle.std.specs.Prelude.{◌≡◌, ◌<◌, ℕ, ℤ};
 ghost use Rattle.spec_intervals.specs.Fraction.{Fraction};
 ghost use Rattle.spec_intervals.specs.Enclosure.{IsEnclosure, AllFractions, IsSpan, AllWithin, Enclosure as Parts};
 ghost use Rattle.spec_expressions.specs.Expression.{Leaf, position, velocity, IsLeaf};
-ghost use Rattle.event_expr.specs.States.{parts, state_exponent};
+ghost use Rattle.event_expr.specs.States.{state_exponent};
 
 use ival_core::Enclosure;
 
@@ -25,24 +25,27 @@ pub trait States {
         requires target { target < 2 }
         requires axis { axis < 3 }
         requires fits { fits self.now a b }
-        ensures { parts result ≡ answer self.now (position target axis) a b };
+        ensures { result ≡ answer self.now (position target axis) a b };
 
     /// The enclosure of a coordinate of a target's velocity over the times from `a` to `b`.
     fn vel(&self, target: u8, axis: u8, a: i64, b: i64) -> Enclosure
         requires target { target < 2 }
         requires axis { axis < 3 }
         requires fits { fits self.now a b }
-        ensures { parts result ≡ answer self.now (velocity target axis) a b };
+        ensures { result ≡ answer self.now (velocity target axis) a b };
 
     /// The times that fit are in order, and at most 2^50 in size.
     ghost spans: { (s : Self) (a b : ℤ) → fits s a b → IsSpan a b };
 
     /// The exact value is a number at each time that is asked for.
-    ghost numbers: { (s : Self) (leaf : Leaf) (a b : ℤ) → IsLeaf leaf → fits s a b → AllFractions (exact s leaf) a b };
+    ghost numbers: { (s : Self) (leaf : Leaf) (a b : ℤ) → IsLeaf leaf → fits s a b
+        → AllFractions (exact s leaf) a b };
 
     /// What is answered holds the exact value: in the middle, at each time, and from each time to the next.
-    ghost holds: { (s : Self) (leaf : Leaf) (a b : ℤ) → IsLeaf leaf → fits s a b → IsEnclosure (exact s leaf) a b (answer s leaf a b) };
+    ghost holds: { (s : Self) (leaf : Leaf) (a b : ℤ) → IsLeaf leaf → fits s a b
+        → IsEnclosure (exact s leaf) a b (answer s leaf a b) };
 
     /// What is answered has exponents within the limit.
-    ghost within: { (s : Self) (leaf : Leaf) (a b : ℤ) → IsLeaf leaf → fits s a b → AllWithin state_exponent (answer s leaf a b) };
+    ghost within: { (s : Self) (leaf : Leaf) (a b : ℤ) → IsLeaf leaf → fits s a b
+        → AllWithin state_exponent (answer s leaf a b) };
 }

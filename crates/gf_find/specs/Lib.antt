@@ -1,5 +1,4 @@
-pub mod Reading
-pub mod Progress
-pub mod Found
-pub mod Entries
-pub mod Lines
+pub mod Statuses
+pub mod Answers
+pub mod Reported
+pub mod Errors

@@ -1,23 +1,16 @@
 //! The search as a whole: words and the bytes of files come in, and a report or the line of a fault goes out, with a
-//! status. Nothing of its inside is public but the call itself.
+//! status. Nothing of its inside is public but the call itself and its statuses.
 #![tactic(auto)]
 
-mod book;
-mod faults;
-mod files;
-mod judge;
-mod line;
-mod mercury;
-mod prepare;
+mod answer;
+mod messages;
 mod printing;
-mod reader;
-mod reading;
-mod search;
-mod signs;
+mod statuses;
 mod top;
 mod words;
+mod writing;
 
+pub use statuses::{
+    FILES_REFUSED, NOT_READ, NOT_WRITTEN, OUT_OF_MEMORY, REPORTED, WORDS_REFUSED,
+};
 pub use top::finder;
-
-#[cfg(test)]
-mod tests;

@@ -1,31 +1,32 @@
 // The call that the program makes.
-ghost use Rattle.std.specs.Prelude.{◌≡◌, ◌≢◌, ◌⊎◌, ◌↔◌, List, ℕ, IsSome, Some, map, slice_get, string_bytes};
+ghost use Rattle.std.specs.Prelude.{◌≡◌, ◌≢◌, ◌⊎◌, ◌↔◌, ◌<◌, List, ℕ, IsSome, Some, length, slice_get};
 ghost use Rattle.std.specs.Io.KnownBytes.{Appends, Keeps};
-ghost use Rattle.gf_edges.specs.Edges.{Rose};
 ghost use Rattle.spec_text.specs.declared.decimals.Fault.{Fault};
-ghost use Rattle.spec_ephemeris.specs.Ephemeris.{Ephemeris, end_of};
-ghost use Rattle.line_search.specs.MercuryX.{mercury_x};
-ghost use Rattle.spec_events.specs.Events.{AreCertain, AreOpen, HoldEvents};
-ghost use Rattle.spec_trees.specs.Placement.{AreInOrder};
-ghost use Rattle.line_search.specs.Search.{IsLeftOpen, IsUp, found_windows};
-ghost use Rattle.gf_find.specs.Answers.{Asks, FailsToRead, RefusesFile};
-ghost use Rattle.spec_reports.specs.Messages.{file_text, memory_text, read_text, words_text, write_text};
-ghost use Rattle.spec_output.specs.Files.{AppendsSome, IsTold};
-ghost use Rattle.spec_reports.specs.Report.{report};
+ghost use Rattle.spec_ephemeris.specs.Ephemeris.{Ephemeris};
+ghost use Rattle.spec_files.specs.declared.limits.TheConstants.{MOST_FILES};
 ghost use Rattle.spec_requests.specs.Words.{AreAskedFor};
-ghost use Rattle.gf_find.specs.Found.{HasName};
+ghost use Rattle.spec_reports.specs.Messages.{file_text, memory_text, read_text, words_text, write_text};
+ghost use Rattle.spec_reports.specs.Writing.{AppendsPart, Receives};
+ghost use Rattle.gf_edges.specs.Edges.{Rose};
+ghost use Rattle.gf_find.specs.Statuses.{IsAnswered, IsStatus, IsUnanswered};
+ghost use Rattle.gf_find.specs.Answers.{Asks, FailsToRead, RefusesFile, texts_of};
+ghost use Rattle.gf_find.specs.Reported.{IsCutShort, IsReported};
+ghost use Rattle.gf_find.specs.Errors.{HasName};
 
-use crate::faults::{file_text, read_text};
-use crate::files::{say, write_whole};
-use crate::prepare::prepare;
-use crate::reading::Stop;
+use crate::answer::answer;
+use crate::messages::{file_line, read_line, words_line};
+use crate::statuses::{
+    FILES_REFUSED, NOT_READ, NOT_WRITTEN, OUT_OF_MEMORY, REPORTED, WORDS_REFUSED,
+};
 use crate::words::asked;
+use crate::writing::{write_line, write_whole};
 use gf_edges::{Failed, Gate, Shelf, Sink};
+use gf_files::FilesError;
 use spec_text::Fault;
-use std::alloc::Global;
+use std::alloc::{AllocError, Global};
 
 /// Searches as the words of the command line, without the program's name, ask: writes the report to `out`, or the line
-/// of a fault to `err`, and answers the status. The words are `find --kind coord --target mercury --axis x FILE..`.
+/// of an error to `err`, and answers the status. The words are `find --kind coord --target mercury --axis x FILE..`.
 ///
 /// | Status | Meaning |
 /// |---|---|
@@ -34,8 +35,7 @@ use std::alloc::Global;
 /// | 3 | the files have a first fault, there are too many, or Mercury's x is no line in them |
 /// | 4 | a file couldn't be read |
 /// | 5 | the report couldn't be written whole |
-/// | 8 | want of memory |
-#[tactic(auto, using(crate::proofs::Findings::in_order, crate::proofs::Findings::every_event, crate::proofs::Findings::certain, crate::proofs::Findings::undecided))]
+/// | 8 | out of memory |
 pub fn finder<S: Shelf, O: Sink, E: Sink, G: Gate>(
     alloc: Global,
     words: &[String],
@@ -45,121 +45,134 @@ pub fn finder<S: Shelf, O: Sink, E: Sink, G: Gate>(
     _gate: &G,
 ) -> u8
     // With status 0 the words name files that are accepted, with an ephemeris in which Mercury's x is a line, and `out`
-    // gained the report of the windows of its events over the whole span, and nothing else.
-    ensures reported { result ≡ 0 → (e : Ephemeris) × Asks (map string_bytes words.now) (S.files shelf.old) e
-        × Appends (O.bytes out.old) (O.bytes out.new) (report e.start (end_of e) (found_windows (mercury_x e))) }
-
-    // Those windows are disjoint and in order, hold every event of the span, ...
-    ensures in_order { (e : Ephemeris) → Asks (map string_bytes words.now) (S.files shelf.old) e → AreInOrder (found_windows (mercury_x e)) }
-    ensures every_event { (e : Ephemeris) → Asks (map string_bytes words.now) (S.files shelf.old) e
-        → HoldEvents (IsUp (mercury_x e)) e.start (end_of e) (found_windows (mercury_x e)) }
-
-    // ... each certain one holds exactly one, and an undecided one is made of single seconds that are left open.
-    ensures certain { (e : Ephemeris) → Asks (map string_bytes words.now) (S.files shelf.old) e → AreCertain (IsUp (mercury_x e)) (found_windows (mercury_x e)) }
-    ensures undecided { (e : Ephemeris) → Asks (map string_bytes words.now) (S.files shelf.old) e → AreOpen (IsLeftOpen (mercury_x e)) (found_windows (mercury_x e)) }
+    // gained the report of the windows of its events over the whole span, and nothing else: windows that are disjoint,
+    // in order and hold every event, each certain one exactly one.
+    ensures reported { result ≡ REPORTED
+        → IsReported words.now (S.files shelf.old) (O.bytes out.old) (O.bytes out.new) }
 
     // Each other status has its cause.
-    ensures words { (result ≡ 2) ↔ ((names : List (List ℕ)) → AreAskedFor (map string_bytes words.now) names → ⊥) }
-    ensures file { result ≡ 3 → (name : List ℕ) × (fault : Fault) × RefusesFile (map string_bytes words.now) (S.files shelf.old) name fault
-        × IsTold (E.bytes err.old) (E.bytes err.new) (E.faults err.old) (E.faults err.new) (file_text name fault) }
-    ensures read { result ≡ 4 → (name : List ℕ)
-        × FailsToRead (map string_bytes words.now) (S.files shelf.old) (S.faults shelf.old) (S.faults shelf.new) name
-        × IsTold (E.bytes err.old) (E.bytes err.new) (E.faults err.old) (E.faults err.new) (read_text name) }
-    ensures write { result ≡ 5 → Rose (O.faults out.old) (O.faults out.new)
-        × ((e : Ephemeris) × Asks (map string_bytes words.now) (S.files shelf.old) e
-        × AppendsSome (O.bytes out.old) (O.bytes out.new) (report e.start (end_of e) (found_windows (mercury_x e)))) }
-    ensures known { (result ≡ 0) ⊎ ((result ≡ 2) ⊎ ((result ≡ 3) ⊎ ((result ≡ 4) ⊎ ((result ≡ 5) ⊎ (result ≡ 8))))) }
+    ensures known { IsStatus result }
+    ensures words { (result ≡ WORDS_REFUSED)
+        ↔ ((names : List (List ℕ)) → AreAskedFor (texts_of words.now) names → ⊥) }
+    ensures file { result ≡ FILES_REFUSED → (name : List ℕ) × (fault : Fault)
+        × RefusesFile words.now (S.files shelf.old) name fault
+        × Receives E.bytes E.faults err.old err.new (file_text name fault) }
+    ensures read { result ≡ NOT_READ → (name : List ℕ)
+        × FailsToRead words.now (S.files shelf.old) (S.faults shelf.old) (S.faults shelf.new) name
+        × Receives E.bytes E.faults err.old err.new (read_text name) }
+    ensures write { result ≡ NOT_WRITTEN
+        → IsCutShort words.now (S.files shelf.old) (O.bytes out.old) (O.bytes out.new) }
+    ensures write_fault { result ≡ NOT_WRITTEN → Rose (O.faults out.old) (O.faults out.new) }
 
-    // What is asked is answered, and what is to be refused is refused, unless something failed or memory is wanting.
-    ensures complete { (e : Ephemeris) → IsSome (S.files shelf.old) → Asks (map string_bytes words.now) (S.files shelf.old) e
-        → (result ≡ 0) ⊎ ((result ≡ 8) ⊎ (Rose (S.faults shelf.old) (S.faults shelf.new) ⊎ Rose (O.faults out.old) (O.faults out.new))) }
-    ensures refused { (name : List ℕ) (fault : Fault) → IsSome (S.files shelf.old) → RefusesFile (map string_bytes words.now) (S.files shelf.old) name fault
-        → (result ≡ 3) ⊎ ((result ≡ 8) ⊎ Rose (S.faults shelf.old) (S.faults shelf.new)) }
+    // What is asked is answered, and what is to be refused is refused, unless something failed or memory is out.
+    ensures complete { (e : Ephemeris) → IsSome (S.files shelf.old) → Asks words.now (S.files shelf.old) e
+        → (result ≡ REPORTED) ⊎ ((result ≡ OUT_OF_MEMORY)
+        ⊎ (Rose (S.faults shelf.old) (S.faults shelf.new) ⊎ Rose (O.faults out.old) (O.faults out.new))) }
+    ensures refused { (name : List ℕ) (fault : Fault) → IsSome (S.files shelf.old)
+        → RefusesFile words.now (S.files shelf.old) name fault
+        → (result ≡ FILES_REFUSED) ⊎ ((result ≡ OUT_OF_MEMORY)
+        ⊎ Rose (S.faults shelf.old) (S.faults shelf.new)) }
+
+    // No file is opened where the words are refused, or name too many.
+    ensures words_come_first { result ≡ WORDS_REFUSED → shelf.new ≡ shelf.old }
+    ensures names_are_counted_first { (names : List (List ℕ)) → AreAskedFor (texts_of words.now) names
+        → MOST_FILES < length names → shelf.new ≡ shelf.old }
 
     // Nothing else is written.
-    ensures out_unchanged { result ≢ 0 → result ≢ 5 → Keeps (O.bytes out.old) (O.bytes out.new) }
-    ensures err_unchanged { result ≡ 0 → Keeps (E.bytes err.old) (E.bytes err.new) }
-    ensures words_told { result ≡ 2 → IsTold (E.bytes err.old) (E.bytes err.new) (E.faults err.old) (E.faults err.new) words_text }
-    ensures write_told { result ≡ 5 → IsTold (E.bytes err.old) (E.bytes err.new) (E.faults err.old) (E.faults err.new) write_text }
-    ensures memory_told { result ≡ 8 → IsTold (E.bytes err.old) (E.bytes err.new) (E.faults err.old) (E.faults err.new) memory_text }
+    ensures out_unchanged { result ≢ REPORTED → result ≢ NOT_WRITTEN
+        → Keeps (O.bytes out.old) (O.bytes out.new) }
+    ensures err_unchanged { result ≡ REPORTED → Keeps (E.bytes err.old) (E.bytes err.new) }
+    ensures words_line { result ≡ WORDS_REFUSED
+        → Receives E.bytes E.faults err.old err.new words_text }
+    ensures write_line { result ≡ NOT_WRITTEN
+        → Receives E.bytes E.faults err.old err.new write_text }
+    ensures memory_line { result ≡ OUT_OF_MEMORY
+        → Receives E.bytes E.faults err.old err.new memory_text }
 {
     let Some(names) = asked(words) else {
-        say(err, b"finder: words: 64 NotBuilt\n");
-        return 2;
+        write_line(err, words_line());
+        return WORDS_REFUSED;
     };
-    match prepare(alloc, shelf, names) {
-        Ok(text) => put(out, err, &text),
-        Err(stop) => refuse(alloc, err, names, stop),
+    match answer(alloc, shelf, names) {
+        Ok(text) => write_report(out, err, &text),
+        Err(error) => write_error(alloc, err, names, error),
     }
 }
 
 // Writes the report, and answers the status.
-fn put<O: Sink, E: Sink>(out: &mut O, err: &mut E, text: &[u8]) -> u8
-    ensures known { (result ≡ 0) ⊎ (result ≡ 5) }
-    ensures whole { result ≡ 0 → Appends (O.bytes out.old) (O.bytes out.new) text.now }
-    ensures part { result ≡ 5 → AppendsSome (O.bytes out.old) (O.bytes out.new) text.now }
-    ensures cause { result ≡ 5 → Rose (O.faults out.old) (O.faults out.new) }
-    ensures err_unchanged { result ≡ 0 → Keeps (E.bytes err.old) (E.bytes err.new) }
-    ensures told { result ≡ 5 → IsTold (E.bytes err.old) (E.bytes err.new) (E.faults err.old) (E.faults err.new) write_text }
+fn write_report<O: Sink, E: Sink>(out: &mut O, err: &mut E, text: &[u8]) -> u8
+    ensures known { IsAnswered result }
+    ensures whole { result ≡ REPORTED → Appends (O.bytes out.old) (O.bytes out.new) text.now }
+    ensures part { result ≡ NOT_WRITTEN → AppendsPart (O.bytes out.old) (O.bytes out.new) text.now }
+    ensures cause { result ≡ NOT_WRITTEN → Rose (O.faults out.old) (O.faults out.new) }
+    ensures err_unchanged { result ≡ REPORTED → Keeps (E.bytes err.old) (E.bytes err.new) }
+    ensures line { result ≡ NOT_WRITTEN → Receives E.bytes E.faults err.old err.new write_text }
 {
     match write_whole(out, text) {
-        Ok(()) => 0,
+        Ok(()) => REPORTED,
         Err(Failed) => {
-            say(err, b"finder: write fault\n");
-            5
+            write_line(err, b"finder: write fault\n");
+            NOT_WRITTEN
         }
     }
 }
 
-// Tells why there is no report, and answers the status.
-fn refuse<E: Sink>(alloc: Global, err: &mut E, names: &[String], stop: Stop) -> u8
-    requires { HasName (map string_bytes names.now) stop }
-    ensures known { (result ≡ 3) ⊎ ((result ≡ 4) ⊎ (result ≡ 8)) }
-    ensures file { result ≡ 3 → (file : ℕ) × (fault : Fault) × (name : List ℕ) × (stop ≡ Stop.File file fault) × (slice_get (map string_bytes names.now) file ≡ Some name)
-        × IsTold (E.bytes err.old) (E.bytes err.new) (E.faults err.old) (E.faults err.new) (file_text name fault) }
-    ensures read { result ≡ 4 → (file : ℕ) × (name : List ℕ) × (stop ≡ Stop.Read file) × (slice_get (map string_bytes names.now) file ≡ Some name)
-        × IsTold (E.bytes err.old) (E.bytes err.new) (E.faults err.old) (E.faults err.new) (read_text name) }
-    ensures memory { result ≡ 8 → IsTold (E.bytes err.old) (E.bytes err.new) (E.faults err.old) (E.faults err.new) memory_text }
+// Writes why there is no report, and answers the status.
+fn write_error<E: Sink>(alloc: Global, err: &mut E, names: &[String], error: FilesError) -> u8
+    requires { HasName (texts_of names.now) error }
+    ensures known { IsUnanswered result }
+    ensures file { result ≡ FILES_REFUSED → (file : ℕ) × (fault : Fault) × (name : List ℕ)
+        × (error ≡ FilesError.Fault file fault) × (slice_get (texts_of names.now) file ≡ Some name)
+        × Receives E.bytes E.faults err.old err.new (file_text name fault) }
+    ensures read { result ≡ NOT_READ → (file : ℕ) × (name : List ℕ)
+        × (error ≡ FilesError.NotRead file) × (slice_get (texts_of names.now) file ≡ Some name)
+        × Receives E.bytes E.faults err.old err.new (read_text name) }
+    ensures memory { result ≡ OUT_OF_MEMORY
+        → Receives E.bytes E.faults err.old err.new memory_text }
 {
-    match stop {
-        Stop::File { file, fault } => refuse_file(alloc, err, &names[file], fault),
-        Stop::Read { file } => refuse_read(alloc, err, &names[file]),
-        Stop::Memory => want_memory(err),
+    match error {
+        FilesError::Fault { file, fault } => write_file_fault(alloc, err, &names[file], fault),
+        FilesError::NotRead { file } => write_read_fault(alloc, err, &names[file]),
+        FilesError::Memory => write_out_of_memory(err),
     }
 }
 
-fn refuse_file<E: Sink>(alloc: Global, err: &mut E, name: &str, fault: Fault) -> u8
-    ensures known { (result ≡ 3) ⊎ (result ≡ 8) }
-    ensures file { result ≡ 3 → IsTold (E.bytes err.old) (E.bytes err.new) (E.faults err.old) (E.faults err.new) (file_text name.now fault) }
-    ensures memory { result ≡ 8 → IsTold (E.bytes err.old) (E.bytes err.new) (E.faults err.old) (E.faults err.new) memory_text }
+fn write_file_fault<E: Sink>(alloc: Global, err: &mut E, name: &str, fault: Fault) -> u8
+    ensures known { (result ≡ FILES_REFUSED) ⊎ (result ≡ OUT_OF_MEMORY) }
+    ensures file { result ≡ FILES_REFUSED
+        → Receives E.bytes E.faults err.old err.new (file_text name.now fault) }
+    ensures memory { result ≡ OUT_OF_MEMORY
+        → Receives E.bytes E.faults err.old err.new memory_text }
 {
-    match file_text(alloc, name, fault) {
-        Ok(text) => {
-            say(err, &text);
-            3
+    match file_line(alloc, name, fault) {
+        Ok(line) => {
+            write_line(err, &line);
+            FILES_REFUSED
         }
-        Err(_) => want_memory(err),
+        Err(AllocError) => write_out_of_memory(err),
     }
 }
 
-fn refuse_read<E: Sink>(alloc: Global, err: &mut E, name: &str) -> u8
-    ensures known { (result ≡ 4) ⊎ (result ≡ 8) }
-    ensures read { result ≡ 4 → IsTold (E.bytes err.old) (E.bytes err.new) (E.faults err.old) (E.faults err.new) (read_text name.now) }
-    ensures memory { result ≡ 8 → IsTold (E.bytes err.old) (E.bytes err.new) (E.faults err.old) (E.faults err.new) memory_text }
+fn write_read_fault<E: Sink>(alloc: Global, err: &mut E, name: &str) -> u8
+    ensures known { (result ≡ NOT_READ) ⊎ (result ≡ OUT_OF_MEMORY) }
+    ensures read { result ≡ NOT_READ
+        → Receives E.bytes E.faults err.old err.new (read_text name.now) }
+    ensures memory { result ≡ OUT_OF_MEMORY
+        → Receives E.bytes E.faults err.old err.new memory_text }
 {
-    match read_text(alloc, name) {
-        Ok(text) => {
-            say(err, &text);
-            4
+    match read_line(alloc, name) {
+        Ok(line) => {
+            write_line(err, &line);
+            NOT_READ
         }
-        Err(_) => want_memory(err),
+        Err(AllocError) => write_out_of_memory(err),
     }
 }
 
-fn want_memory<E: Sink>(err: &mut E) -> u8
-    ensures status { result ≡ 8 }
-    ensures told { IsTold (E.bytes err.old) (E.bytes err.new) (E.faults err.old) (E.faults err.new) memory_text }
+fn write_out_of_memory<E: Sink>(err: &mut E) -> u8
+    ensures status { result ≡ OUT_OF_MEMORY }
+    ensures line { Receives E.bytes E.faults err.old err.new memory_text }
 {
-    say(err, b"finder: out of memory\n");
-    8
+    write_line(err, b"finder: out of memory\n");
+    OUT_OF_MEMORY
 }

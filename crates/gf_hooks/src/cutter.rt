@@ -20,7 +20,8 @@ impl Cutter {
     /// Keeps a closure that can be called at each span that can be cut, and answers the rule's cut of it.
     pub fn new(rule: CutRule, cut: Cut) -> Cutter
         requires callable { (a b : ℤ) → CanCut a b → Cut.pre cut a b }
-        requires answers { (a b time : ℤ) → CanCut a b → Cut.post cut a b time → time ≡ cut_of rule a b }
+        requires answers { (a b time : ℤ) → CanCut a b
+            → Cut.post cut a b time → time ≡ cut_of rule a b }
         ensures { result.rule ≡ rule }
     {
         Cutter { rule, cut }

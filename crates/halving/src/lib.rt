@@ -1,7 +1,7 @@
 //! Trees of spans that are cut in two: who decides which nodes are split and where, and the leaves of a root.
 //!
 //! In come a judge and a root; out come the root's leaves from left to right, which follow one another from its first
-//! time to its last. The judge's meanings are `Rules` of `spec_events`, which never change; what a verdict says of the
+//! time to its last. The judge's meanings are `Rules` of `spec_trees`, which never change; what a verdict says of the
 //! times of a node is the judge's own affair.
 #![tactic(auto)]
 

@@ -1,10 +1,10 @@
 // The leaves of a root, by one walk.
-ghost use Rattle.std.specs.Prelude.{◌≡◌, ◌<◌, ◌≤◌, [], ◌∷◌, ◌++◌, length, IfOk, IfErr, OnOk};
-ghost use Rattle.spec_trees.specs.Tree.{Covers, IsValid, leaves, mark_of};
+ghost use Rattle.std.specs.Prelude.{◌≡◌, ◌<◌, ◌≤◌, [], ◌∷◌, ◌++◌, length, Err, IfOk, IfErr, OnOk};
+ghost use Rattle.spec_trees.specs.Tree.{Covers, IsValid, leaf_count, leaves};
 ghost use Rattle.halving.specs.declared.run.RunError.TheVariants.{TooMany, Memory};
 
 use crate::judge::{Judge, rules_are_sound};
-use spec_trees::{Leaf, Mark, Node, Verdict};
+use spec_trees::{Leaf, Node};
 use std::alloc::Global;
 
 /// Why a walk has no leaves to give: they are more than the limit, or there was no memory for them.
@@ -14,20 +14,8 @@ pub enum RunError {
     Memory,
 }
 
-// The mark of a leaf with this verdict. A node that is to be split is no leaf.
-fn mark(verdict: Verdict) -> Option<Mark>
-    ensures { result ≡ mark_of verdict }
-{
-    match verdict {
-        Verdict::Clear => Some(Mark::Clear),
-        Verdict::One(turn) => Some(Mark::One(turn)),
-        Verdict::Split => None,
-        Verdict::Undecided => Some(Mark::Undecided),
-    }
-}
-
-// Puts an item at the end.
-fn put<T: Drop>(list: &mut Vec<T>, item: T) -> Result<(), RunError>
+// One item more, at the end.
+fn append<T: Drop>(list: &mut Vec<T>, item: T) -> Result<(), RunError>
     ensures ok { OnOk result (list.new.items ≡ list.old.items ++ item ∷ []) }
     ensures err { IfErr result (λ e. e ≡ Memory) }
 {
@@ -49,24 +37,24 @@ pub fn run_one<J: Judge>(
     ensures leaves { IfOk result (λ found. found.items ≡ leaves (J.rules judge.now) root) }
     ensures cover { IfOk result (λ found. Covers root.a found.items root.b) }
     ensures few { IfOk result (λ found. length found.items ≤ limit) }
-    ensures too_many { IfErr result (λ error. error ≡ TooMany → limit < length (leaves (J.rules judge.now) root)) }
+    ensures too_many { result ≡ Err TooMany → limit < leaf_count (J.rules judge.now) root }
 {
     rules_are_sound(judge);
     let mut found = Vec::new(alloc);
     let mut waiting = Vec::new(alloc);
-    put(&mut waiting, root)?;
+    append(&mut waiting, root)?;
     while let Some(node) = waiting.pop() {
-        match mark(judge.judge(node)) {
+        match judge.judge(node).mark() {
             Some(mark) => {
                 if found.len() == limit as usize {
                     return Err(RunError::TooMany);
                 }
-                put(&mut found, Leaf { node, mark })?;
+                append(&mut found, Leaf { node, mark })?;
             }
             None => {
                 let (left, right) = judge.cut(node);
-                put(&mut waiting, right)?;
-                put(&mut waiting, left)?;
+                append(&mut waiting, right)?;
+                append(&mut waiting, left)?;
             }
         }
     }

@@ -1,5 +1,6 @@
-pub mod Shifts
-pub mod Powers
-pub mod Settling
-pub mod Shortest
-pub mod Aligning
+mod Shifts
+mod Powers
+mod Settling
+mod Shortest
+mod Aligning
+mod DecimalSizes

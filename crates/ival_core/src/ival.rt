@@ -17,6 +17,12 @@ use std::marker::Model;
 #[cfg(test)]
 mod tests;
 
+/// The exponent of 2 at which the decimals of distances in km are taken.
+pub const DISTANCE_EXPONENT: i32 = -24;
+
+/// The exponent of 2 at which the decimals of cosines are taken.
+pub const COSINE_EXPONENT: i32 = -60;
+
 /// By how many powers of 2 an end is multiplied at most.
 const LIFT_LIMIT: u32 = 60;
 
@@ -40,17 +46,9 @@ impl Model for Ival {
     ghost inverse = { λ t. record { lo = t.lo; hi = t.hi; s = t.s } };
 }
 
-/// What is known of a quantity over a span of time: its value in the middle, all its values, and its change from any
-/// second to the next.
-#[derive(Clone, Copy, Debug, PartialEq, Eq)]
-pub struct Enclosure {
-    /// Holds the value at the middle second.
-    pub mid: Ival,
-    /// Holds the value at each second.
-    pub range: Ival,
-    /// Holds the difference from each second to the next.
-    pub step: Ival,
-}
+/// What is known of a quantity over a span of times: intervals that hold its value in the middle, all its values, and its
+/// change from any time to the next.
+pub type Enclosure = spec_intervals::Enclosure<Ival>;
 
 impl Ival {
     /// The three numbers of the interval: low end, high end, exponent of 2.
@@ -110,7 +108,8 @@ impl Ival {
         requires exponent { IsExponent self.s }
         requires other_exponent { IsExponent other.s }
         ensures equals { result ≡ sum self other }
-        ensures holds { (r t : Fraction) → Holds self r → Holds other t → Holds result (fraction_add r t) }
+        ensures holds { (r t : Fraction) → Holds self r → Holds other t
+            → Holds result (fraction_add r t) }
     {
         sum_of(self, other)
     }
@@ -120,7 +119,8 @@ impl Ival {
         requires exponent { IsExponent self.s }
         requires other_exponent { IsExponent other.s }
         ensures equals { result ≡ difference self other }
-        ensures holds { (r t : Fraction) → Holds self r → Holds other t → Holds result (fraction_sub r t) }
+        ensures holds { (r t : Fraction) → Holds self r → Holds other t
+            → Holds result (fraction_sub r t) }
     {
         difference_of(self, other)
     }
@@ -130,7 +130,8 @@ impl Ival {
         requires exponent { IsExponent self.s }
         requires other_exponent { IsExponent other.s }
         ensures equals { result ≡ product self other }
-        ensures holds { (r t : Fraction) → Holds self r → Holds other t → Holds result (fraction_mul r t) }
+        ensures holds { (r t : Fraction) → Holds self r → Holds other t
+            → Holds result (fraction_mul r t) }
     {
         product_of(self, other)
     }
@@ -174,7 +175,8 @@ impl Ival {
         requires exponent { IsExponent s }
         requires length { pos 1 ≤ℤ seconds }
         ensures equals { result ≡ scale lo hi s (unsigned_abs seconds) }
-        ensures holds { (r : Fraction) → Holds (interval lo hi s) r → Holds result (fraction_scale r (unsigned_abs seconds)) }
+        ensures holds { (r : Fraction) → Holds (interval lo hi s) r
+            → Holds result (fraction_scale r (unsigned_abs seconds)) }
     {
         scaled(lo, hi, s, seconds)
     }

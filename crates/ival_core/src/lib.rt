@@ -8,7 +8,9 @@
 mod decimals;
 mod ends;
 mod ival;
+mod sizes;
 
 pub use ends::product_ends;
-pub use ival::{Enclosure, Ival};
+pub use ival::{COSINE_EXPONENT, DISTANCE_EXPONENT, Enclosure, Ival};
+pub use sizes::{is_cosine, is_distance};
 pub use spec_intervals::Sign;

@@ -1,5 +1,5 @@
 -- Where Mercury's x is a line: its two coefficients, and the granule of each time.
-use Rattle.std.proofs.Common.{◌≡◌, ℕ, zero, suc, ◌+◌, ◌-◌, ◌*◌, ◌<◌, ◌≤◌, ◌==◌, true, ◌&&◌, List, [], ◌∷◌, length, take, drop, slice_get, Option, Some, None, ℤ, pos, negsuc, ◌+ℤ◌, ◌*ℤ◌, ◌≤ℤ◌, unsigned_abs, refl, sym, ◌∙◌, ap, arith}
+use Rattle.std.proofs.Common.{◌≡◌, ℕ, zero, suc, ◌+◌, ◌-◌, ◌*◌, ◌<◌, ◌≤◌, ◌==◌, true, ◌&&◌, List, [], ◌∷◌, length, take, drop, slice_get, Option, Some, None, ℤ, pos, ◌+ℤ◌, ◌*ℤ◌, unsigned_abs, refl, sym, ◌∙◌, ap, arith}
 use Rattle.std.proofs.lemmas.Int.{ints}
 use Rattle.spec_text.specs.declared.decimals.Decimal.{Decimal}
 use Rattle.spec_ephemeris.specs.declared.header.Column.{Column}
@@ -8,6 +8,7 @@ use Rattle.spec_ephemeris.proofs.ColumnRules.{one_column}
 use Rattle.spec_ephemeris.specs.Ephemeris.{Ephemeris, IsEphemeris, IsBodyNumber, end_of, Granule, IsGranuleAt, block_numbers, granule_numbers, axis_series}
 use Rattle.line_search.specs.MercuryX.{IsLine, MERCURY, is_line_column, is_line, mercury_x}
 use Rattle.line_search.specs.Search.{series_end}
+use Rattle.spec_numbers.proofs.Sizes.{own_size}
 
 -- what a line asks of its column and of the blocks
 pub record IsLineOf (e : Ephemeris) (c : Column) : Type 0 where
@@ -128,13 +129,9 @@ mercury_x_line e checked holds = let found = line_of e holds in line_is e checke
 pub mercury_x_series : (e : Ephemeris) (t : ℤ) (g : Granule) → IsEphemeris e → is_line e ≡ true → IsGranuleAt e MERCURY t g → axis_series g 2 0 ≡ mercury_x e
 mercury_x_series e t g checked holds at = let found = line_of e holds in series_is e checked found.0 found.1 t g at
 
-whole_seconds : (z : ℤ) → pos 1 ≤ℤ z → pos (unsigned_abs z) ≡ z
-whole_seconds (pos n) some = refl
-whole_seconds (negsuc n) some = absurd (omega (arith, ints, some))
-
 -- the one block is the whole span
 pub ends_with_block : (e : Ephemeris) → IsEphemeris e → is_line e ≡ true → series_end (mercury_x e) ≡ end_of e
 ends_with_block e checked holds =
     let line = line_of e holds in
-    let seconds : pos (unsigned_abs e.header.block_seconds) ≡ e.header.block_seconds = whole_seconds e.header.block_seconds checked.header.shortest in
+    let seconds : pos (unsigned_abs e.header.block_seconds) ≡ e.header.block_seconds = own_size e.header.block_seconds checked.header.shortest in
     ap (λ (z : ℤ). e.start +ℤ z) (seconds ∙ omega (arith, ints)) ∙ ap (λ (n : ℕ). e.start +ℤ (pos n *ℤ e.header.block_seconds)) (sym line.1.block)

@@ -40,7 +40,9 @@ pub fn middle_of_32_days()
 /// it is 10^-9 km below 0 there, which no interval tells from 0; and it is -5 km throughout.
 pub fn windows_of_lines()
     ensures rises { windows_of_32_days (whole (pos 0)) as_written ≡ rise_in_the_middle }
-    ensures falls { windows_of_32_days (whole (pos 0)) (whole (neg_ℤ (pos 1382400))) ≡ fall_after_the_middle }
-    ensures close_to_zero { windows_of_32_days close_below_zero (whole (pos 1382400)) ≡ undecided_in_the_middle }
+    ensures falls { windows_of_32_days (whole (pos 0)) (whole (neg_ℤ (pos 1382400)))
+        ≡ fall_after_the_middle }
+    ensures close_to_zero { windows_of_32_days close_below_zero (whole (pos 1382400))
+        ≡ undecided_in_the_middle }
     ensures constant { windows_of_32_days (whole (neg_ℤ (pos 5))) (whole (pos 0)) ≡ [] }
 {}

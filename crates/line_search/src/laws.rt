@@ -19,18 +19,22 @@ pub fn mercury_x_is_a_line()
     ensures line { (e : Ephemeris) → IsEphemeris e → is_line e ≡ true → IsLine (mercury_x e) }
     ensures series { (e : Ephemeris) (t : ℤ) (g : Granule) → IsEphemeris e → is_line e ≡ true
         → IsGranuleAt e MERCURY t g → axis_series g 2 0 ≡ mercury_x e }
-    ensures end { (e : Ephemeris) → IsEphemeris e → is_line e ≡ true → series_end (mercury_x e) ≡ end_of e }
+    ensures end { (e : Ephemeris) → IsEphemeris e → is_line e ≡ true
+        → series_end (mercury_x e) ≡ end_of e }
 {}
 
 /// The interval of a line from one time to another holds it at each time between.
 pub fn x_is_held()
-    ensures holds { (s : Series) (a b t : ℤ) → IsLine s → a ≤ℤ t → t ≤ℤ b → Holds (x_range s a b) (position s t) }
+    ensures holds { (s : Series) (a b t : ℤ) → IsLine s → a ≤ℤ t → t ≤ℤ b
+        → Holds (x_range s a b) (position s t) }
 {}
 
 /// Where the sign of that interval is known, the line has it at each time between.
 pub fn known_signs_are_those_of_x()
-    ensures yes { (s : Series) (a b t : ℤ) → IsLine s → a ≤ℤ t → t ≤ℤ b → sign_on s a b ≡ Yes → IsUp s t }
-    ensures no { (s : Series) (a b t : ℤ) → IsLine s → a ≤ℤ t → t ≤ℤ b → sign_on s a b ≡ No → IsUp s t → ⊥ }
+    ensures yes { (s : Series) (a b t : ℤ) → IsLine s → a ≤ℤ t → t ≤ℤ b
+        → sign_on s a b ≡ Yes → IsUp s t }
+    ensures no { (s : Series) (a b t : ℤ) → IsLine s → a ≤ℤ t → t ≤ℤ b
+        → sign_on s a b ≡ No → IsUp s t → ⊥ }
 {}
 
 /// The rules of the search are sound, and its root is valid.
@@ -53,7 +57,8 @@ pub fn marks_are_right()
 pub fn search_finds_the_events()
     ensures within { (s : Series) → IsLine s → AreWithin s.start (series_end s) (found_windows s) }
     ensures in_order { (s : Series) → IsLine s → AreInOrder (found_windows s) }
-    ensures every_event { (s : Series) → IsLine s → HoldEvents (IsUp s) s.start (series_end s) (found_windows s) }
+    ensures every_event { (s : Series) → IsLine s
+        → HoldEvents (IsUp s) s.start (series_end s) (found_windows s) }
     ensures certain { (s : Series) → IsLine s → AreCertain (IsUp s) (found_windows s) }
     ensures undecided { (s : Series) → IsLine s → AreOpen (IsLeftOpen s) (found_windows s) }
 {}

@@ -1,12 +1,10 @@
 // The windows of a book.
 ghost use Rattle.std.specs.Prelude.{◌≡◌, IfOk};
 ghost use Rattle.spec_trees.specs.Placement.{AreInOrder, AreWithin};
-ghost use Rattle.spec_trees.specs.Order.{booked_leaves, ordered_leaves};
-ghost use Rattle.spec_trees.specs.Tree.{Covers};
-ghost use Rattle.spec_trees.specs.Windows.{windows};
+ghost use Rattle.spec_trees.specs.Order.{CoverRoot, book_windows, booked_leaves, ordered_leaves};
 
 use crate::joining::joined;
-use span_ledger::{Book, Booked};
+use spec_trees::{Book, Booked};
 use spec_trees::{Leaf, Window};
 use std::alloc::{AllocError, Global};
 use thiserror::Error;
@@ -26,8 +24,8 @@ impl From<AllocError> for Memory {
 /// gap or overlap, in whatever order they were entered. Times are seconds of TDB since J2000. The leaves are sorted
 /// once.
 pub fn windows(alloc: Global, book: &Book) -> Result<Vec<Window>, Memory>
-    requires cover { Covers book.now.root.a (ordered_leaves book.now.entries.items) book.now.root.b }
-    ensures windows { IfOk result (λ found. found.items ≡ windows (ordered_leaves book.now.entries.items)) }
+    requires cover { CoverRoot book.now.root book.now.entries.items }
+    ensures windows { IfOk result (λ found. found.items ≡ book_windows book.now.entries.items) }
     ensures within { IfOk result (λ found. AreWithin book.now.root.a book.now.root.b found.items) }
     ensures in_order { IfOk result (λ found. AreInOrder found.items) }
 {

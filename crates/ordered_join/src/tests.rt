@@ -1,10 +1,14 @@
-// Books of a few leaves, as they came, and their windows.
-ghost use Rattle.std.specs.Prelude.{◌≡◌};
+// Books of a few leaves and of many, and their windows.
+ghost use Rattle.std.specs.Prelude.{◌≡◌, ◌+◌, IfOk, pos};
+ghost use Rattle.spec_trees.specs.declared.tree.Mark.TheVariants.{One};
+ghost use Rattle.spec_trees.specs.declared.tree.Turn.TheVariants.{Rise};
 ghost use Rattle.spec_trees.specs.Examples.{booked, leaf, node, window};
+ghost use Rattle.spec_trees.specs.Order.{CoverRoot};
 
 use crate::*;
-use span_ledger::{Book, Booked};
+use spec_trees::{Book, Booked};
 use spec_trees::{Leaf, Mark, Node, Turn};
+use std::alloc::{AllocError, Global};
 use std::test::Fail;
 
 const fn node(a: i64, b: i64) -> Node
@@ -58,76 +62,47 @@ fn a_book_out_of_order(rt: HostRuntime) -> Result<(), Fail> {
     Ok(())
 }
 
-#[test]
-fn a_clear_leaf_parts_undecided_ones(rt: HostRuntime) -> Result<(), Fail> {
-    let alloc = rt.alloc();
-    let entries = [
-        entry(2, 3, Mark::Undecided),
-        entry(3, 9, Mark::Clear),
-        entry(1, 2, Mark::Clear),
-        entry(0, 1, Mark::Undecided),
-    ];
-    let book = Book {
-        root: node(0, 9),
-        entries: Vec::from_array(alloc, entries)?,
-    };
-    let found = windows(alloc, &book)?;
-    let expected = [
-        window(1, 1, Holds::Undecided),
-        window(3, 3, Holds::Undecided),
-    ];
-    assert_eq!(rt; found.as_slice(), expected.as_slice());
-    Ok(())
+// The entry of a second in which a rise lies.
+fn rise_after(second: u32) -> Booked
+    ensures { result ≡ booked (leaf (pos second) (pos (second + 1)) (One Rise)) }
+{
+    let a = i64::from(second);
+    entry(a, a + 1, RISE)
 }
 
-#[test]
-fn certain_windows_stand_alone(rt: HostRuntime) -> Result<(), Fail> {
-    let alloc = rt.alloc();
-    let entries = [
-        entry(6, 7, Mark::Undecided),
-        entry(5, 6, Mark::Undecided),
-        entry(2, 5, RISE),
-        entry(1, 2, FALL),
-        entry(-4, 1, Mark::Undecided),
-    ];
-    let book = Book {
-        root: node(-4, 7),
-        entries: Vec::from_array(alloc, entries)?,
-    };
-    let found = windows(alloc, &book)?;
-    let expected = [
-        window(-3, 1, Holds::Undecided),
-        window(2, 2, Holds::Certain(Turn::Fall)),
-        window(3, 5, Holds::Certain(Turn::Rise)),
-        window(6, 7, Holds::Undecided),
-    ];
-    assert_eq!(rt; found.as_slice(), expected.as_slice());
-    Ok(())
+fn seconds(count: u32) -> Node
+    ensures { result ≡ node (pos 0) (pos count) }
+{
+    node(0, i64::from(count))
 }
 
-#[test]
-fn a_leaf_of_all_times(rt: HostRuntime) -> Result<(), Fail> {
-    let alloc = rt.alloc();
-    let entries = [entry(i64::MIN, i64::MAX, FALL)];
-    let book = Book {
-        root: node(i64::MIN, i64::MAX),
-        entries: Vec::from_array(alloc, entries)?,
-    };
-    let found = windows(alloc, &book)?;
-    let expected = [window(i64::MIN + 1, i64::MAX, Holds::Certain(Turn::Fall))];
-    assert_eq!(rt; found.as_slice(), expected.as_slice());
-    Ok(())
+// A book of so many seconds, in each of which a rise lies.
+fn rises(alloc: Global, count: u32) -> Result<Book, AllocError>
+    ensures { IfOk result (λ book. CoverRoot book.root book.entries.items) }
+{
+    let mut entries = Vec::new(alloc);
+    for second in 0..count {
+        entries.push(rise_after(second))?;
+    }
+    Ok(Book {
+        root: seconds(count),
+        entries,
+    })
 }
 
+// A book is never too large while there is memory.
 #[test]
-fn clear_leaves_have_no_window(rt: HostRuntime) -> Result<(), Fail> {
-    let alloc = rt.alloc();
-    let entries = [entry(3, 5, Mark::Clear), entry(0, 3, Mark::Clear)];
-    let book = Book {
-        root: node(0, 5),
-        entries: Vec::from_array(alloc, entries)?,
-    };
-    let found = windows(alloc, &book)?;
-    assert!(rt; found.is_empty());
+fn a_book_of_many_leaves(rt: HostRuntime) -> Result<(), Fail> {
+    let book = rises(rt.alloc(), 1_000)?;
+    let found = windows(rt.alloc(), &book)?;
+    assert_eq!(rt; found.len(), 1_000);
+    assert_eq!(rt;
+        found.first(),
+        Some(&window(1, 1, Holds::Certain(Turn::Rise)))
+    );
+    assert_eq!(rt;
+        found.last(),
+        Some(&window(1_000, 1_000, Holds::Certain(Turn::Rise)))
+    );
     Ok(())
 }

@@ -1,9 +1,11 @@
 //! A pool of workers, without threads.
 #![tactic(auto)]
 
-mod marks;
 mod pool;
 mod worker;
 
 pub use pool::Pool;
 pub use worker::StepError;
+
+#[cfg(test)]
+mod tests;

@@ -7,7 +7,6 @@ ghost use Rattle.spec_pool.specs.Pool.{Holding, holding, nothing, Pushes, Keeps,
 ghost use Rattle.pool_core.specs.Views.{HoldsValid, empty_handed};
 ghost use Rattle.pool_core.specs.declared.worker.StepError.TheVariants.{Refused, Memory};
 
-use crate::marks::mark;
 use halving::{Judge, Leaf, Node, Verdict};
 use std::alloc::Global;
 use std::collections::VecDeque;
@@ -104,7 +103,7 @@ impl Worker {
         if self.hand.is_some() {
             return Err(StepError::Refused);
         }
-        let Some(node) = self.deque.pop_front() else {
+        let Some(node) = self.give_up() else {
             return Err(StepError::Refused);
         };
         self.hand = Some(node);
@@ -158,7 +157,7 @@ impl Worker {
         ensures none { IfNone result ((l : Leaf) (y : Holding) → ¬ Enters (J.rules judge.now) l self.now y) }
     {
         let node = self.hand?;
-        let mark = mark(judge.judge(node))?;
+        let mark = judge.judge(node).mark()?;
         Some(Leaf { node, mark })
     }
 

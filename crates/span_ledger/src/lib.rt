@@ -1,6 +1,14 @@
-//! The book in which leaves are entered. Leaves of a root come in, in whatever order they are found, each by a seat;
-//! what goes out is a book with each of them, in order of arrival. So far it has the plain types alone, which stand
-//! beside their definitions and are passed on here.
+//! The book in which leaves are entered, under a lock. Leaves of a root come in, in whatever order they are found and
+//! by any number of threads, each by a seat; what goes out is a book with each of them once, in order of arrival. Each
+//! seat knows which entries are its own, and all that it has seen stays.
 #![tactic(auto)]
 
+mod desk;
+mod ends;
+mod enter;
+mod ledger;
+mod register;
+
+pub use desk::{LedgerSeat, SpanLedger};
 pub use spec_trees::{Book, Booked};
+pub use spec_pool::{CloseError, Entry, Memory};

@@ -20,8 +20,8 @@ use Rattle.spec_text.specs.declared.limits.TheConstants.{LAST_JULIAN_DAY}
 use Rattle.spec_text.proofs.Spans.{seconds_few}
 use Rattle.spec_sections.specs.Sections.{◌>>=◌}
 use Rattle.spec_sections.proofs.Holding.{Holds, holds_ok}
-use Rattle.spec_header.proofs.ColumnsMeet.{get_take}
-use Rattle.spec_blocks.specs.BlockRules.{coefficient_rule, follows, has_length, is_passed_over, is_place_of, is_place_of_body, is_too_large, time_by, time_of}
+use Rattle.spec_numbers.proofs.Lists.{get_take}
+use Rattle.spec_blocks.specs.BlockRules.{coefficient_rule, follows, has_length, is_skipped, is_place_of, is_place_of_body, is_too_large, time_by, time_of}
 use Rattle.spec_blocks.specs.Blocks.{accept, begun, no_blocks, with_numbers}
 use Rattle.spec_blocks.specs.Read.{AreRead}
 
@@ -121,7 +121,7 @@ room false false x y = tt
 
 accepted_with : (before : Ephemeris) (numbers : List Decimal) (start end : ℤ) → IsEphemeris before → IsBlock before.header numbers → IsStart start
     → follows before start end ≡ Ok tt → IsWith before (accept before numbers (Ok start) (Ok end))
-accepted_with before numbers start end checked fits is rule = elim (cases_Bool (is_passed_over before end)) [
+accepted_with before numbers start end checked fits is rule = elim (cases_Bool (is_skipped before end)) [
   | inl passed ↦
       let some = ltb-true 0 before.blocks ((and_parts (nat_lt 0 before.blocks) _ passed).0) in
       rw passed (record { checked = checked; header = refl; some = some })

@@ -1,19 +1,14 @@
-//! What the blocks behind a header are. The lines of files come in, as words with their places; what goes out is the
+//! What the blocks after a header are. The lines of files come in, as words with their places; what goes out is the
 //! ephemeris, or the first fault. Here are the definitions, worked examples of them, and what they come to; nothing is
 //! read.
 #![tactic(auto)]
 
 mod examples;
 mod laws;
-mod rules;
 
 pub use examples::{
-    blocks_end_early, blocks_follow_one_another, blocks_go_on_in_the_next_file,
-    numbers_are_refused, places_of_bodies, record_lines_are_refused, spans_are_refused,
-    times_of_julian_dates, words_behind_a_block_are_zeros,
+    angles_may_be_large, blocks_end_early, blocks_follow_one_another,
+    blocks_go_on_in_the_next_file, numbers_are_refused, places_of_bodies, record_lines_are_refused,
+    spans_are_refused, times_of_julian_dates, words_after_a_block_are_zeros,
 };
-pub use laws::{accepted_blocks_are_an_ephemeris, accepted_lines_are_an_ephemeris};
-pub use rules::{
-    BLOCK_GAP, BLOCK_SPAN, NCOEFF_DIFFERS, NO_BLOCK, NUMBER, RECORD_LINE, TOO_LARGE,
-    TOO_MANY_BLOCKS, TRAILING_NUMBERS, TRUNCATED,
-};
+pub use laws::accepted_blocks_are_an_ephemeris;

@@ -1,11 +1,10 @@
 -- Texts behind texts.
-use Rattle.std.proofs.Common.{◌≡◌, ℕ, suc, ◌+◌, List, [], ◌∷◌, ◌++◌, length, Option, None, Some, Result, Ok, Err, refl, sym, ap, ◌∙◌, append_assoc, arith, subst}
+use Rattle.std.proofs.Common.{◌≡◌, ℕ, suc, ◌+◌, List, [], ◌∷◌, ◌++◌, length, Option, None, Some, Err, refl, sym, ap, ◌∙◌, append_assoc, arith}
 use Rattle.spec_text.specs.declared.decimals.Fault.{Fault}
-use Rattle.spec_ephemeris.specs.Ephemeris.{Ephemeris}
-use Rattle.spec_sections.specs.Sections.{FileLine, Stop, ended, breaks}
-use Rattle.spec_blocks.specs.Blocks.{ephemeris}
-use Rattle.spec_files.specs.Texts.{cut_off, file_lines, first_cut_from, joined, joined_from, or_later, where_whole}
-use Rattle.spec_files.specs.Outcome.{first_fault as broken, outcome, outcome_by}
+use Rattle.spec_sections.specs.Sections.{FileLine}
+use Rattle.spec_files.specs.Lines.{ephemeris}
+use Rattle.spec_files.specs.Texts.{cut_off, file_lines, first_cut_from, joined, joined_from, or_later}
+use Rattle.spec_files.specs.Outcome.{first_fault, outcome, outcome_by}
 
 -- where a text is cut off, it is the first
 whole_first : (file : ℕ) (cut : Option Fault) (later : Option (ℕ × Fault)) → or_later file cut later ≡ None → (cut ≡ None) × (later ≡ None)
@@ -31,6 +30,6 @@ cut_more file (text ∷ texts) later whole =
     let next : (file + 1) + length texts ≡ file + suc (length texts) = omega arith in
     rw (w.0) (cut_more (file + 1) texts later w.1 ∙ ap (λ (n : ℕ). first_cut_from n later) next)
 
-pub broken_refused : (texts : List (List ℕ)) (file : ℕ) (fault : Fault) → broken texts ≡ Some (file, fault) → outcome texts ≡ Err (file, fault)
+pub first_fault_refused : (texts : List (List ℕ)) (file : ℕ) (fault : Fault) → first_fault texts ≡ Some (file, fault) → outcome texts ≡ Err (file, fault)
 unfolding outcome
-broken_refused texts file fault is = ap (λ (b : Option (ℕ × Fault)). outcome_by b texts (ephemeris (joined texts))) is
+first_fault_refused texts file fault is = ap (λ (b : Option (ℕ × Fault)). outcome_by b texts (ephemeris (joined texts))) is

@@ -6,6 +6,7 @@ use Rattle.std.proofs.lemmas.List.{length-take-le}
 use Rattle.std.proofs.lemmas.Option.{none-some, slice_get_within}
 use Rattle.std.proofs.lemmas.Int.{ints}
 use Rattle.std.proofs.Math.Nat.{div-add-mod, mul_comm}
+use Rattle.spec_numbers.proofs.Lists.{get_take}
 use Rattle.spec_text.specs.declared.decimals.Decimal.{Decimal}
 use Rattle.spec_ephemeris.specs.Header.{AreApart, IsColumn, IsHeader, IsShared, MeetsColumnRules, column_size, is_present}
 use Rattle.spec_ephemeris.specs.declared.header.Column.{Column}
@@ -16,7 +17,7 @@ use Rattle.spec_header.specs.HeaderLines.{header, names}
 use Rattle.spec_header.specs.HeaderRules.{emrat_from, first_line, group, is_mass_ratio, name_count, span, value_count}
 use Rattle.spec_sections.specs.Sections.{FileLine, from_word}
 use Rattle.spec_header.proofs.Bounds.{IsBlock, IsNcoeff, first_line_holds, span_holds, then_ratio}
-use Rattle.spec_header.proofs.ColumnsMeet.{EachMeets, apart, columns_length, first_broken, get_take, no_overlap, row_holds, rule_holds}
+use Rattle.spec_header.proofs.ColumnsMeet.{EachMeets, apart, columns_length, first_broken, no_overlap, row_holds, rule_holds}
 use Rattle.spec_sections.proofs.Holding.{holds_also, Holds, holds_ok, then_any, then_line}
 use Rattle.spec_header.proofs.Ratios.{mass_ratio_is}
 

@@ -3,7 +3,7 @@ use Rattle.std.proofs.Common.{◌≡◌, ℕ, zero, suc, ◌+◌, ◌<◌, ◌&&
 use Rattle.std.specs.Prelude.{slice_get}
 use Rattle.std.proofs.lemmas.Bool.{cases_eq, false≢true, lt-ltb, or_parts}
 use Rattle.std.proofs.lemmas.List.{append-nil, append_assoc, length-append}
-use Rattle.std.proofs.lemmas.Option.{none-some}
+use Rattle.std.proofs.lemmas.Option.{none-some, same_Some}
 use Rattle.spec_text.specs.Reading.{whole_of}
 use Rattle.spec_ephemeris.specs.Header.{AreApart, column_size, is_present}
 use Rattle.spec_ephemeris.specs.declared.header.Column.{Column}
@@ -33,21 +33,14 @@ columns_length n (s ∷ ss) (c ∷ cs) [] a b d = d
 columns_length zero (s ∷ ss) (c ∷ cs) (g ∷ gs) a b d = absurd (omega (arith, a))
 columns_length (suc n) (s ∷ ss) (c ∷ cs) (g ∷ gs) a b d = omega (arith, columns_length n ss cs gs (omega (arith, a)) (omega (arith, b)) (omega (arith, d)))
 
-abbrev or_this : {X : Type 0} → X → Option X → X
-or_this x None = x
-or_this x (Some y) = y
-
-pub same_some : {X : Type 0} (x y : X) → Some x ≡ Some y → x ≡ y
-same_some x y is = ap (or_this x) is
-
--- each of these columns behind the earlier ones meets its rule
+-- each of these columns after the earlier ones meets its rule
 abbrev pub EachMeets : ℕ → ℕ → List Column → List Column → Type 0
 EachMeets n s before cs = (i : ℕ) (c : Column) → slice_get cs i ≡ Some c → column_rule n s (before ++ take i cs) c ≡ Ok tt
 
 each_meets : (n s : ℕ) (before : List Column) (c : Column) (cs : List Column) → column_rule n s before c ≡ Ok tt → EachMeets n s (before ++ c ∷ []) cs
     → EachMeets n s before (c ∷ cs)
 each_meets n s before c cs here later zero d get =
-    ap (λ (l : List Column). column_rule n s l d) (append-nil before) ∙ ap (column_rule n s before) (sym (same_some c d get)) ∙ here
+    ap (λ (l : List Column). column_rule n s l d) (append-nil before) ∙ ap (column_rule n s before) (sym (same_Some c d get)) ∙ here
 each_meets n s before c cs here later (suc i) d get =
     ap (λ (l : List Column). column_rule n s l d) (sym (append_assoc before (c ∷ []) (take i cs))) ∙ later i d get
 
@@ -71,7 +64,7 @@ pub no_overlap : (i : ℕ) (c : Column) (j : ℕ) (ds : List Column) → overlap
 no_overlap i c j [] none k d get present = absurd (none-some d get)
 no_overlap i c j (e ∷ ds) none zero d get present =
     let parts = or_parts (is_present e && overlap i c j e) (overlaps_any i c (suc j) ds) none in
-    let same : e ≡ d = same_some e d get in
+    let same : e ≡ d = same_Some e d get in
     let here : (is_present d && overlap i c j d) ≡ false = ap (λ (x : Column). is_present x && overlap i c j x) (sym same) ∙ parts.0 in
     let number : j + 0 ≡ j = omega arith in
     ap (λ (k : ℕ). overlap i c k d) number ∙ ap (λ (b : Bool). b && overlap i c j d) (sym present) ∙ here
@@ -86,9 +79,3 @@ apart i c j d none place one other =
     let second : nat_lt c.start (d.start + column_size j d) ≡ true = lt-ltb _ _ (omega (arith, other.before, one.from)) in
     let both : overlap j d i c ≡ true = rw (first, second) refl in
     false≢true (sym none ∙ both)
-
-pub get_take : {X : Type 0} (xs : List X) (n i : ℕ) → i < n → slice_get (take n xs) i ≡ slice_get xs i
-get_take xs zero i below = absurd (omega (arith, below))
-get_take [] (suc n) i below = refl
-get_take (x ∷ xs) (suc n) zero below = refl
-get_take (x ∷ xs) (suc n) (suc i) below = get_take xs n i (omega (arith, below))

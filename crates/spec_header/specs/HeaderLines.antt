@@ -3,7 +3,10 @@ use Rattle.std.specs.Prelude.{ℕ, ◌+◌, pos, List, [], ◌∷◌, length, ma
 use Rattle.spec_text.specs.Lines.{Numbered, is_too_long, lines, text_lines, tokens}
 use Rattle.spec_text.specs.declared.decimals.Decimal.{Decimal}
 use Rattle.spec_text.specs.declared.decimals.Fault.{Fault}
+use Rattle.spec_ephemeris.specs.declared.header.Column.{Column}
 use Rattle.spec_ephemeris.specs.declared.header.Header.{Header}
+use Rattle.spec_header.specs.declared.facts.BlockShape.{BlockShape}
+use Rattle.spec_header.specs.declared.facts.Facts.{Facts}
 use Rattle.spec_faults.specs.declared.numbers.TheConstants.{ENDED}
 use Rattle.spec_header.specs.ColumnRules.{columns_row, row}
 use Rattle.spec_header.specs.HeaderRules.{emrat_from, first_line, group, mass_ratio, name_count, span, value_count}
@@ -25,25 +28,100 @@ mass_ratio_among n place lines = do
   rest ← after_words ENDED n lines
   Ok (emrat, rest)
 
--- the header of the lines of all files, and the lines after it, or why they are refused
-unfoldable pub header : List FileLine → Result (Header × List FileLine) Stop
-header lines = do
+-- the header and the lines after it, or why the lines are refused
+abbrev pub HeaderOrStop : Type 0
+HeaderOrStop = Result (Header × List FileLine) Stop
+
+abbrev pub facts_of : BlockShape → Decimal → Facts
+facts_of shape emrat = record { ncoeff = shape.ncoeff; block_seconds = shape.block_seconds; emrat = emrat }
+
+abbrev pub header_of : Facts → List Column → Header
+header_of facts columns =
+    record { ncoeff = facts.ncoeff; block_seconds = pos facts.block_seconds; emrat = facts.emrat; columns = columns }
+
+-- A header is, in this order: the first line, GROUP 1010, titles, GROUP 1030, the span, GROUP 1040, the count of names,
+-- names, GROUP 1041, the count of values, values, GROUP 1050, the starts, the coefficients and the granules of the
+-- columns, and GROUP 1070. What follows is the rest of a header from each of these sections on, the last one first: it
+-- cuts that section off the lines, and goes on with the next.
+
+abbrev pub from_end_group : Facts → List Column → List FileLine → HeaderOrStop
+from_end_group facts columns lines = do
+  end ← one_line ENDED (group (codes "1070") 1070) lines
+  Ok (header_of facts columns, end.1)
+
+abbrev pub from_granules : Facts → List ℕ → List ℕ → List FileLine → HeaderOrStop
+from_granules facts starts coefs lines = do
+  columns ← one_line ENDED (columns_row facts.ncoeff facts.block_seconds starts coefs) lines
+  from_end_group facts columns.0 columns.1
+
+abbrev pub from_coefficients : Facts → List ℕ → List FileLine → HeaderOrStop
+from_coefficients facts starts lines = do
+  coefs ← one_line ENDED row lines
+  from_granules facts starts coefs.0 coefs.1
+
+abbrev pub from_starts : Facts → List FileLine → HeaderOrStop
+from_starts facts lines = do
+  starts ← one_line ENDED row lines
+  from_coefficients facts starts.0 starts.1
+
+abbrev pub from_column_group : Facts → List FileLine → HeaderOrStop
+from_column_group facts lines = do
+  places ← one_line ENDED (group (codes "1050") 1050) lines
+  from_starts facts places.1
+
+abbrev pub from_values : BlockShape → ℕ → ℕ → List FileLine → HeaderOrStop
+from_values shape count place lines = do
+  emrat ← mass_ratio_among count place lines
+  from_column_group (facts_of shape emrat.0) emrat.1
+
+abbrev pub from_value_count : BlockShape → ℕ → Option ℕ → List FileLine → HeaderOrStop
+from_value_count shape count emrat lines = do
+  place ← one_line ENDED (value_count count emrat) lines
+  from_values shape count place.0 place.1
+
+abbrev pub from_value_group : BlockShape → ℕ → Option ℕ → List FileLine → HeaderOrStop
+from_value_group shape count emrat lines = do
+  values ← one_line ENDED (group (codes "1041") 1041) lines
+  from_value_count shape count emrat values.1
+
+abbrev pub from_names : BlockShape → ℕ → List FileLine → HeaderOrStop
+from_names shape count lines = do
+  named ← names count lines
+  from_value_group shape count (emrat_from 0 named.0) named.1
+
+abbrev pub from_name_count : BlockShape → List FileLine → HeaderOrStop
+from_name_count shape lines = do
+  count ← one_line ENDED name_count lines
+  from_names shape count.0 count.1
+
+abbrev pub from_name_group : BlockShape → List FileLine → HeaderOrStop
+from_name_group shape lines = do
+  constants ← one_line ENDED (group (codes "1040") 1040) lines
+  from_name_count shape constants.1
+
+abbrev pub from_span : ℕ → List FileLine → HeaderOrStop
+from_span ncoeff lines = do
+  block ← one_line ENDED span lines
+  from_name_group (record { ncoeff = ncoeff; block_seconds = block.0 }) block.1
+
+abbrev pub from_titles : ℕ → List FileLine → HeaderOrStop
+from_titles ncoeff lines = do
+  dates ← one_line ENDED (group (codes "1030") 1030) (from_word (codes "GROUP") lines)
+  from_span ncoeff dates.1
+
+abbrev pub from_title_group : ℕ → List FileLine → HeaderOrStop
+from_title_group ncoeff lines = do
+  titles ← one_line ENDED (group (codes "1010") 1010) lines
+  from_titles ncoeff titles.1
+
+abbrev pub from_first_line : List FileLine → HeaderOrStop
+from_first_line lines = do
   ncoeff ← one_line ENDED first_line lines
-  titles ← one_line ENDED (group (codes "1010") 1010) ncoeff.1
-  dates ← one_line ENDED (group (codes "1030") 1030) (from_word (codes "GROUP") titles.1)
-  block ← one_line ENDED span dates.1
-  constants ← one_line ENDED (group (codes "1040") 1040) block.1
-  count ← one_line ENDED name_count constants.1
-  named ← names count.0 count.1
-  values ← one_line ENDED (group (codes "1041") 1041) named.1
-  place ← one_line ENDED (value_count count.0 (emrat_from 0 named.0)) values.1
-  emrat ← mass_ratio_among count.0 place.0 place.1
-  places ← one_line ENDED (group (codes "1050") 1050) emrat.1
-  starts ← one_line ENDED row places.1
-  coefs ← one_line ENDED row starts.1
-  columns ← one_line ENDED (columns_row ncoeff.0 block.0 starts.0 coefs.0) coefs.1
-  end ← one_line ENDED (group (codes "1070") 1070) columns.1
-  Ok (record { ncoeff = ncoeff.0; block_seconds = pos block.0; emrat = emrat.0; columns = columns.0 }, end.1)
+  from_title_group ncoeff.0 ncoeff.1
+
+-- the header of the lines of all files, and the lines after it, or why they are refused
+unfoldable pub header : List FileLine → HeaderOrStop
+header lines = from_first_line lines
 
 -- why the lines of a file end too early: one is too long, or the file ends under this number
 abbrev pub ending : ℕ → ℕ → Option Fault → Fault

@@ -4,13 +4,15 @@ use Rattle.std.specs.Prelude.{ℕ, ◌*◌, ◌^◌, ◌≤◌, max, if◌then�
 use lib.Signed.{lt_z}
 use Rattle.spec_intervals.specs.Interval.{Interval, interval, zero_interval, end_limit, narrow, sum, difference, product, meet, signed_square}
 use Rattle.spec_numbers.specs.Numbers.{floor_div}
+use Rattle.spec_intervals.specs.declared.enclosure.Enclosure.{Enclosure as EnclosureOf}
 use Rattle.spec_intervals.specs.Fraction.{Fraction, IsFraction, Holds, fraction_sub}
 
 -- what holds the value in the middle, every value, and every change from one time to the next
-pub record Enclosure : Type 0 where
-  pub mid : Interval
-  pub range : Interval
-  pub step : Interval
+abbrev pub Enclosure : Type 0
+Enclosure = EnclosureOf Interval
+
+abbrev pub triple : Interval → Interval → Interval → Enclosure
+triple mid range step = record { mid = mid; range = range; step = step }
 
 abbrev pub middle : ℤ → ℤ → ℤ
 middle a b = floor_div (a +ℤ b) 2

@@ -7,9 +7,11 @@
 //! `examples` works values of each definition out. `proofs/` has the lemmas under these.
 #![tactic(auto)]
 
+mod enclosure;
 pub mod enclosures;
 pub mod examples;
 pub mod laws;
 mod signs;
 
+pub use enclosure::Enclosure;
 pub use signs::Sign;

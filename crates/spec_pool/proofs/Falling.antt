@@ -4,13 +4,13 @@ use Rattle.std.proofs.lemmas.Int.{ints}
 use Rattle.spec_trees.specs.declared.tree.Node.{Node}
 use Rattle.spec_trees.specs.declared.tree.Leaf.{Leaf}
 use Rattle.spec_trees.specs.declared.tree.Verdict.TheVariants.{Split}
-use Rattle.spec_trees.specs.Tree.{Rules, IsValid, IsSound, Covers, leaf_of, leaves}
+use Rattle.spec_trees.specs.Tree.{Rules, IsValid, IsSound, Covers, leaf_of, leaf_count, leaves}
 use Rattle.spec_trees.proofs.Covering.{leaves_cover}
 use Rattle.spec_trees.proofs.Leaves.{leaves_settled, leaves_split}
 use Rattle.spec_pool.specs.declared.step.Step.{Step}
 use Rattle.spec_pool.specs.declared.step.Step.TheVariants.{Push, Keep, Pop, TakeKept, Steal, Enter}
 use Rattle.spec_pool.specs.Pool.{Holding, State, Pushes, Keeps, Pops, TakesKept, Gets, GivesUp, Enters, At, Steps, Runs}
-use Rattle.spec_pool.specs.Tiling.{Conserves, leaf_count, todo_of, todo}
+use Rattle.spec_pool.specs.Tiling.{Conserves, todo_of, todo}
 use Rattle.spec_pool.proofs.Weights.{weigh, weigh-append, weigh-push, weigh-same, sum_is_weigh}
 use Rattle.spec_pool.proofs.Finding.{is_node, is_itself}
 use Rattle.spec_pool.proofs.Moving.{weigh_hand, weigh_holding, weigh_all, hand_weigh, at_weigh, at_le}

@@ -9,6 +9,7 @@ use Rattle.spec_trees.specs.declared.tree.Leaf.{Leaf}
 use Rattle.spec_trees.specs.declared.tree.Mark.{Mark}
 use Rattle.spec_trees.specs.declared.tree.Mark.TheVariants.{Clear, One, Undecided}
 use Rattle.spec_trees.specs.declared.tree.Turn.TheVariants.{Rise, Fall}
+use Rattle.spec_pool.specs.Marks.{mark_number}
 use Rattle.spec_pool.proofs.Weights.{weigh, weigh-append}
 
 -- ---- any test of sameness
@@ -82,13 +83,7 @@ pub nodes_permuted : (xs ys : List Node) → ((h : Node → ℕ) → weigh h xs 
 nodes_permuted xs ys e = permuted same_node node_is node_itself xs ys e
 
 -- ---- leaves
-abbrev mark_number : Mark → ℕ
-mark_number Clear = 0
-mark_number (One Rise) = 1
-mark_number (One Fall) = 2
-mark_number Undecided = 3
-
-mark_is : (m n : Mark) → mark_number m ≡ mark_number n → m ≡ n
+pub mark_is : (m n : Mark) → mark_number m ≡ mark_number n → m ≡ n
 mark_is Clear Clear e = refl
 mark_is Clear (One Rise) e = absurd (omega (arith, e))
 mark_is Clear (One Fall) e = absurd (omega (arith, e))

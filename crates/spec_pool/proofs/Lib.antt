@@ -5,3 +5,5 @@ pub mod Keeping
 pub mod Falling
 pub mod Ending
 pub mod Beginning
+pub mod Accounting
+pub mod Balancing

@@ -87,10 +87,10 @@ pub record Enters (t : Rules) (leaf : Leaf) (x y : Holding) : Type 0 where
 
 -- ---- what each step does to the pool
 
--- the worker w goes by R, and the others stay
-pub record At (w : ℕ) (R : Holding → Holding → Type 0) (xs ys : List Holding) : Type 0 where
-  pub old : Holding
-  pub new : Holding
+-- the element at w goes by R, and the others stay
+pub record At {A : Type 0} (w : ℕ) (R : A → A → Type 0) (xs ys : List A) : Type 0 where
+  pub old : A
+  pub new : A
   pub here : slice_get xs w ≡ Some old
   pub goes : R old new
   pub others : ys ≡ slice_set xs w new

@@ -1,8 +1,8 @@
 -- What every run keeps: the nodes of all places, put in order, tile the root.
-use Rattle.std.specs.Prelude.{◌≡◌, ℕ, ◌+◌, ◌*◌, ◌-◌, ℤ, ◌<ℤ◌, List, [], ◌∷◌, ◌++◌, length, map, flat_map, sum_by, All, IsPermutation, option_to_list}
+use Rattle.std.specs.Prelude.{◌≡◌, ℕ, ◌+◌, ◌*◌, ◌-◌, ℤ, ◌<ℤ◌, List, [], ◌∷◌, ◌++◌, map, flat_map, sum_by, All, IsPermutation, option_to_list}
 use Rattle.spec_trees.specs.declared.tree.Node.{Node}
 use Rattle.spec_trees.specs.declared.tree.Leaf.{Leaf}
-use Rattle.spec_trees.specs.Tree.{Rules, IsValid, AreLeaves, leaves}
+use Rattle.spec_trees.specs.Tree.{Rules, IsValid, AreLeaves, leaf_count, leaves}
 use Rattle.spec_pool.specs.Pool.{Holding, nothing, State}
 
 -- the nodes that a worker holds
@@ -30,9 +30,6 @@ pub record Conserves (t : Rules) (root : Node) (s : State) : Type 0 where
   pub same : IsPermutation (nodes s) ordered
   pub tiles : Tiles t root ordered
   pub entered : AreLeaves t s.entered
-
-abbrev pub leaf_count : Rules → Node → ℕ
-leaf_count t n = length (leaves t n)
 
 -- the steps that are left for a worker: 3n - 2 for a node of n leaves in its hand, 3n - 1 for one that lies elsewhere
 abbrev pub todo_of : Rules → Holding → ℕ

@@ -30,11 +30,13 @@ fault_text number detail = decimal number ++ codes " " ++ title number detail
 abbrev pub words_text : List ℕ
 words_text = codes "finder: words: " ++ fault_text WORDS_NOT_BUILT 0 ++ codes "\n"
 
--- the file of this name has a fault; its line is counted from 1, and 0 where the fault is of the whole file
-unfoldable pub file_text : List ℕ → Fault → List ℕ
-file_text name fault =
-    codes "finder: file " ++ name ++ codes " line " ++ decimal fault.line ++ codes ": "
-    ++ fault_text fault.number fault.detail ++ codes "\n"
+-- the line is counted from 1, and 0 where the fault is of the whole file
+abbrev pub place_text : List ℕ → ℕ → List ℕ
+place_text name line = codes "finder: file " ++ name ++ codes " line " ++ (decimal line ++ codes ": ")
+
+-- the file of this name has a fault
+abbrev pub file_text : List ℕ → Fault → List ℕ
+file_text name fault = place_text name fault.line ++ fault_text fault.number fault.detail ++ codes "\n"
 
 -- the file of this name couldn't be read
 abbrev pub read_text : List ℕ → List ℕ

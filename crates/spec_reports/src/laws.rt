@@ -1,7 +1,7 @@
 // What the definitions of texts say of small cases.
 ghost use Rattle.std.specs.Prelude.{◌≡◌, [], ◌∷◌, ◌++◌, Some, codes};
 ghost use Rattle.std.specs.Fmt.{decimal};
-ghost use Rattle.spec_reports.specs.Messages.{title};
+ghost use Rattle.spec_reports.specs.Messages.{title, words_text};
 ghost use Rattle.spec_reports.specs.Writing.{AppendsPart};
 
 /// A fault is printed by its name, some with a detail. A number without a row in the table has no name.
@@ -10,6 +10,11 @@ pub fn faults_are_named()
     ensures detail { title 11 1030 ≡ codes "GroupMissing " ++ decimal 1030 }
     ensures words { title 64 0 ≡ codes "NotBuilt" }
     ensures no_row { title 23 0 ≡ [] }
+{}
+
+/// The line of words that ask for what isn't built yet.
+pub fn the_line_of_words()
+    ensures { words_text ≡ codes "finder: words: 64 NotBuilt\n" }
 {}
 
 /// A sink that fails holds a front of the text, which isn't all of it.

@@ -4,4 +4,4 @@
 
 mod laws;
 
-pub use laws::{faults_are_named, texts_are_written};
+pub use laws::{faults_are_named, texts_are_written, the_line_of_words};

@@ -2,7 +2,7 @@
 use Rattle.std.specs.Prelude.{ℕ, List, [], ◌∷◌, Option, None, Some, if◌then◌else◌}
 use Rattle.spec_text.specs.Lines.{Numbered, TokenLine, is_too_long, tokens}
 use Rattle.spec_text.specs.declared.decimals.Fault.{Fault}
-use Rattle.spec_sections.specs.declared.rules.TheConstants.{LINE_TOO_LONG}
+use Rattle.spec_faults.specs.declared.numbers.TheConstants.{LINE_TOO_LONG}
 use Rattle.spec_sections.specs.Sections.{FileLine, Stop, ended, breaks, broken, line_fault}
 
 -- a line of this file

@@ -5,4 +5,4 @@
 
 mod rules;
 
-pub use rules::{BrokenRule, LINE_TOO_LONG};
+pub use rules::BrokenRule;

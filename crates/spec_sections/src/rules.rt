@@ -32,6 +32,3 @@ impl BrokenRule {
         }
     }
 }
-
-/// A line has more than 4,096 bytes.
-pub const LINE_TOO_LONG: u8 = 4;

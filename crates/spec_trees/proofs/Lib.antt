@@ -5,3 +5,4 @@ pub mod Ordering
 pub mod Rearranged
 pub mod Runs
 pub mod Placing
+pub mod Parts

@@ -1,4 +1,4 @@
--- The rules of a judge that splits what is wider than two seconds, for worked values and tests.
+-- The rules of a judge that splits what is wider than two units, for worked values and tests.
 use Rattle.std.specs.Prelude.{◌+◌, List, [], ◌∷◌, ℕ, Bool, ◌&&◌, nat_lt, ℤ, pos, ◌-ℤ◌, int_lt, if◌then◌else◌}
 use Rattle.spec_trees.specs.declared.cuts.CutRule.{CutRule}
 use Rattle.spec_trees.specs.declared.tree.Leaf.{Leaf}
@@ -28,7 +28,7 @@ pairs rule = record {
 abbrev pub clear_at : ℕ → ℤ → ℤ → Leaf
 clear_at depth a b = leaf_of (record { a = a; b = b; depth = depth }) M.Clear
 
--- the leaves of eight seconds that are halved
+-- the leaves of eight units that are halved
 abbrev pub halved : List Leaf
 halved =
     clear_at 2 (pos 0) (pos 2)
@@ -37,7 +37,7 @@ halved =
     ∷ clear_at 2 (pos 6) (pos 8)
     ∷ []
 
--- and of eight seconds that are cut at their first third
+-- and of eight units that are cut at their first third
 abbrev pub cut_at_thirds : List Leaf
 cut_at_thirds =
     clear_at 1 (pos 0) (pos 2)

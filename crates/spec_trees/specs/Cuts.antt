@@ -10,13 +10,13 @@ abbrev pub cut_of : CutRule → ℤ → ℤ → ℤ
 cut_of Half a b = a +ℤ int_div (b -ℤ a) (pos 2)
 cut_of Third a b = a +ℤ int_max (pos 1) (int_div (b -ℤ a) (pos 3))
 
--- [a, b] is wider than one second, so that some time lies strictly inside, and its ends are within 2^50
+-- [a, b] is wider than one unit of time, so that some time lies strictly inside, and its ends are within 2^50
 pub record CanCut (a b : ℤ) : Type 0 where
   pub wide : (a +ℤ pos 1) <ℤ b
   pub low : neg_ℤ (pos (2 ^ 50)) ≤ℤ a
   pub high : b ≤ℤ pos (2 ^ 50)
 
--- wider than one second
+-- wider than one unit of time
 abbrev pub is_wide : Node → Bool
 is_wide n = int_lt (pos 1) (n.b -ℤ n.a)
 

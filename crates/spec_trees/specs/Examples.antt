@@ -25,13 +25,13 @@ booked l = record { leaf = l; seat = 0 }
 abbrev pub window : ℤ → ℤ → Holds → Window
 window first last holds = record { first = first; last = last; holds = holds }
 
--- each node wider than one second is split
-abbrev pub seconds : Rules
-seconds = record { first = pos 0; last = pos 8; deepest = 0; verdict = λ n. if is_wide n then V.Split else V.Clear; parts = halves }
+-- each node wider than one unit is split
+abbrev pub single_units : Rules
+single_units = record { first = pos 0; last = pos 8; deepest = 0; verdict = λ n. if is_wide n then V.Split else V.Clear; parts = halves }
 
--- three seconds, each a leaf of its own
-abbrev pub three_seconds : List Leaf
-three_seconds = leaf (pos 0) (pos 1) Clear ∷ leaf (pos 1) (pos 2) Clear ∷ leaf (pos 2) (pos 3) Clear ∷ []
+-- three units of time, each a leaf of its own
+abbrev pub three_units : List Leaf
+three_units = leaf (pos 0) (pos 1) Clear ∷ leaf (pos 1) (pos 2) Clear ∷ leaf (pos 2) (pos 3) Clear ∷ []
 
 -- two undecided leaves after a clear one, one with one event, and an undecided one
 abbrev pub five_leaves : List Leaf

@@ -1,5 +1,5 @@
 -- The tree of a root, and its leaves from left to right.
-use Rattle.std.specs.Prelude.{◌≡◌, ℕ, zero, suc, ◌^◌, ◌≤◌, ℤ, pos, neg_ℤ, ◌-ℤ◌, ◌<ℤ◌, ◌≤ℤ◌, List, [], ◌∷◌, ◌++◌, All, Option, Some, None}
+use Rattle.std.specs.Prelude.{◌≡◌, ℕ, zero, suc, ◌^◌, ◌≤◌, ℤ, pos, neg_ℤ, ◌-ℤ◌, ◌<ℤ◌, ◌≤ℤ◌, List, [], ◌∷◌, ◌++◌, length, All, Option, Some, None}
 use Rattle.std.specs.Int.RustNames.{unsigned_abs}
 use Rattle.spec_trees.specs.declared.tree.Node.{Node}
 use Rattle.spec_trees.specs.declared.tree.Leaf.{Leaf}
@@ -64,6 +64,10 @@ leaves_within t (suc k) n = elim (mark_of (t.verdict n)) [
 -- the node itself where it is not split, and else the leaves of its left part and then those of its right part
 unfoldable pub leaves : Rules → Node → List Leaf
 leaves t n = leaves_within t (width n) n
+
+-- how many leaves it has
+abbrev pub leaf_count : Rules → Node → ℕ
+leaf_count t n = length (leaves t n)
 
 -- the leaves follow one another from a to b, without gap or overlap
 abbrev pub Covers : ℤ → List Leaf → ℤ → Type 0

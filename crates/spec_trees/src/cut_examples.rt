@@ -6,16 +6,16 @@ ghost use Rattle.spec_trees.specs.CutExamples.{cut_at_thirds, halved, pairs};
 ghost use Rattle.spec_trees.specs.Examples.{node};
 ghost use Rattle.spec_trees.specs.Tree.{leaves};
 
-/// The middle and the first third are rounded down, and a third is never less than one second past the start.
+/// The middle and the first third are rounded down, and a third is never less than one unit of time past the start.
 pub fn cuts_of_spans()
     ensures half { cut_of Half (pos 0) (pos 8) ≡ pos 4 }
     ensures half_of_an_odd_width { cut_of Half (neg_ℤ (pos 3)) (pos 0) ≡ neg_ℤ (pos 2) }
     ensures third { cut_of Third (pos 0) (pos 8) ≡ pos 2 }
-    ensures third_of_two_seconds { cut_of Third (pos 4) (pos 6) ≡ pos 5 }
+    ensures third_of_two_units { cut_of Third (pos 4) (pos 6) ≡ pos 5 }
 {}
 
-/// Eight seconds, cut until no node is wider than two.
-pub fn leaves_of_eight_seconds()
+/// Eight units of time, cut until no node is wider than two.
+pub fn leaves_of_eight_units()
     ensures by_half { leaves (pairs Half) (node (pos 0) (pos 8)) ≡ halved }
     ensures by_third { leaves (pairs Third) (node (pos 0) (pos 8)) ≡ cut_at_thirds }
 {}

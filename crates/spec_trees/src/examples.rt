@@ -1,14 +1,14 @@
 // Worked values of trees, leaves and windows, by computation.
 ghost use Rattle.std.specs.Prelude.{◌≡◌, ℤ, pos, neg_ℤ};
 ghost use Rattle.spec_trees.specs.Cuts.{middle};
-ghost use Rattle.spec_trees.specs.Examples.{five_leaves, four_entries, four_leaves, node, seconds, three_seconds, three_windows};
+ghost use Rattle.spec_trees.specs.Examples.{five_leaves, four_entries, four_leaves, node, single_units, three_units, three_windows};
 ghost use Rattle.spec_trees.specs.Order.{ordered_leaves};
 ghost use Rattle.spec_trees.specs.Tree.{leaves};
 ghost use Rattle.spec_trees.specs.Windows.{windows};
 
-/// Three seconds are cut after the first, and the two after it after the second.
-pub fn leaves_of_three_seconds()
-    ensures { leaves seconds (node (pos 0) (pos 3)) ≡ three_seconds }
+/// Three units of time are cut after the first, and the two after it after the second.
+pub fn leaves_of_three_units()
+    ensures { leaves single_units (node (pos 0) (pos 3)) ≡ three_units }
 {}
 
 /// Adjacent undecided leaves share a window, a clear leaf has none, and a leaf with one event stands between.

@@ -13,10 +13,10 @@ mod tree;
 mod window;
 
 pub use book::{Book, Booked};
-pub use cut_examples::{cuts_of_spans, leaves_of_eight_seconds};
+pub use cut_examples::{cuts_of_spans, leaves_of_eight_units};
 pub use cut_laws::cuts_lie_inside;
 pub use cuts::CutRule;
-pub use examples::{leaves_of_three_seconds, leaves_put_in_order, middles, windows_of_five_leaves};
+pub use examples::{leaves_of_three_units, leaves_put_in_order, middles, windows_of_five_leaves};
 pub use laws::{
     a_cover_is_in_order, a_rearranged_cover_is_put_in_order, a_stable_sort_puts_in_order,
     leaves_cover_the_node, leaves_of_the_parts, windows_are_in_order, windows_from_the_left,

@@ -25,6 +25,23 @@ pub enum Verdict {
     Undecided,
 }
 
+impl Verdict {
+    ghost use Rattle.std.specs.Prelude.{◌≡◌};
+    ghost use Rattle.spec_trees.specs.Tree.{mark_of};
+
+    /// The mark of a leaf with this verdict. A node that is to be split is no leaf.
+    pub fn mark(self) -> Option<Mark>
+        ensures { result ≡ mark_of self }
+    {
+        match self {
+            Verdict::Clear => Some(Mark::Clear),
+            Verdict::One(turn) => Some(Mark::One(turn)),
+            Verdict::Split => None,
+            Verdict::Undecided => Some(Mark::Undecided),
+        }
+    }
+}
+
 /// What is known of a leaf.
 #[derive(Clone, Copy, PartialEq, Eq, Debug)]
 pub enum Mark {

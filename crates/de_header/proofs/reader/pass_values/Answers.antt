@@ -7,14 +7,14 @@ use Rattle.de_header.proofs.reader.pass_values.Goals as goal
 pub returns-then-here-before-clause-moves : goal.returns-then-here-before-clause-moves
 unfolding says
 returns-then-here-before-clause-moves c = λ file rest.
-    values_later c.args.frame c.args.left c.words_here-here.result c.args.before _ rest c.words_here-here.ensures c.if-here-before.true
+    values_later c.args.shape c.args.left c.words_here-here.result c.args.before _ rest c.words_here-here.ensures c.if-here-before.true
 
 pub returns-in-Err-clause-moves : goal.returns-in-Err-clause-moves
 unfolding says
 returns-in-Err-clause-moves c = λ file rest.
     let within : c.args.before < length c.args.line.now.tokens = omega (arith, c.words_here-here.ensures, c.if-here-before.false) in
     let word = slice_get-get_or c.args.line.now.tokens c.args.before [] within in
-    value_breaks c.args.frame c.args.left c.words_here-here.result c.args.before _ rest _ c.in-Err.broken c.words_here-here.ensures
+    value_breaks c.args.shape c.args.left c.words_here-here.result c.args.before _ rest _ c.in-Err.broken c.words_here-here.ensures
     (omega (arith, c.if-here-before.false)) word (sym (c.mass_ratio.ensures _ word) ∙ c.in-Err.is)
 
 pub returns-in-Ok-clause-moves : goal.returns-in-Ok-clause-moves
@@ -22,6 +22,6 @@ unfolding says
 returns-in-Ok-clause-moves c = λ file rest.
     let within : c.args.before < length c.args.line.now.tokens = omega (arith, c.words_here-here.ensures, c.if-here-before.false) in
     let word = slice_get-get_or c.args.line.now.tokens c.args.before [] within in
-    value_here c.args.frame c.args.left c.words_here-here.result c.args.before _ rest _ c.in-Ok.emrat c.words_here-here.ensures
+    value_here c.args.shape c.args.left c.words_here-here.result c.args.before _ rest _ c.in-Ok.emrat c.words_here-here.ensures
     (omega (arith, c.if-here-before.false)) word (sym (c.mass_ratio.ensures _ word) ∙ c.in-Ok.is)
-    ∙ sym (c.to_values_behind.ensures.says file rest)
+    ∙ sym (c.to_more_values.ensures.place file rest)

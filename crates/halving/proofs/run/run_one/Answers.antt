@@ -24,25 +24,25 @@ loop-node-smaller-in-Continue-branch-2 g c = settle_falls _ _ _ _ c.in-Some.ensu
 pub loop-node-preserved-in-Continue-branch-2 : goal.loop-node-preserved-in-Continue-branch-2
 loop-node-preserved-in-Continue-branch-2 g c =
     let is = ap mark_of (sym c.judge.ensures) ∙ sym c.in-Some-mark.ensures in
-    let put = c.in_ok-put-in-Some-mark.ensures.ok in
+    let added = c.in_ok-append-in-Some-mark.ensures.ok in
     record {
       valid = (popped _ _ _ _ c.in-Some.ensures.items c.loop-node.invariant.valid).0;
       joined =
           settles _ c.rules_are_sound.ensures _ _ _ _ _ _ c.in-Some.ensures.items c.loop-node.invariant.valid is c.loop-node.invariant.joined
-          ∙ ap (λ l. l ++ pending (g.J.Judge.rules c.args.judge.now) c.pop.new.self.items) (sym put);
-      few = rw put (omega (arith, length-append {A = Leaf}));
+          ∙ ap (λ l. l ++ pending (g.J.Judge.rules c.args.judge.now) c.pop.new.self.items) (sym added);
+      few = rw added (omega (arith, length-append {A = Leaf}));
     }
 
 pub loop-node-smaller : goal.loop-node-smaller
 loop-node-smaller g c =
     let is = ap mark_of (sym c.judge.ensures) ∙ sym c.in-None.ensures in
-    rw (c.in_ok-put-in-None-2.ensures.ok, c.in_ok-put-in-None.ensures.ok, c.cut.ensures.parts)
+    rw (c.in_ok-append-in-None-2.ensures.ok, c.in_ok-append-in-None.ensures.ok, c.cut.ensures.parts)
     (split_falls _ c.rules_are_sound.ensures _ _ _ c.in-Some.ensures.items c.loop-node.invariant.valid is)
 
 pub loop-node-preserved : goal.loop-node-preserved
 loop-node-preserved g c =
     let is = ap mark_of (sym c.judge.ensures) ∙ sym c.in-None.ensures in
-    rw (c.in_ok-put-in-None-2.ensures.ok, c.in_ok-put-in-None.ensures.ok, c.cut.ensures.parts) (record {
+    rw (c.in_ok-append-in-None-2.ensures.ok, c.in_ok-append-in-None.ensures.ok, c.cut.ensures.parts) (record {
       valid = split_valid _ c.rules_are_sound.ensures _ _ _ c.in-Some.ensures.items c.loop-node.invariant.valid is;
       joined = splits _ c.rules_are_sound.ensures _ _ _ _ _ c.in-Some.ensures.items c.loop-node.invariant.valid is c.loop-node.invariant.joined;
       few = c.loop-node.invariant.few;

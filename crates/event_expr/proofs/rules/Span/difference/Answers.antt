@@ -1,7 +1,6 @@
 use Rattle.spec_intervals.specs.Interval.{difference}
 use Rattle.std.proofs.Common.{◌∙◌, sym}
 use Rattle.spec_intervals.specs.Enclosure.{difference_of}
-use Rattle.event_expr.specs.States.{parts}
 use Rattle.event_expr.proofs.Steps.{difference-wide, shared-difference}
 use Rattle.event_expr.proofs.rules.Span.difference.Goals as goal
 
@@ -16,7 +15,7 @@ wide-requires-clause-step_within c = rw c.sub-then-is_wide.ensures.equals (diffe
 
 pub wide-requires-clause-shared : goal.wide-requires-clause-shared
 wide-requires-clause-shared c =
-    rw (c.sub.ensures.equals, c.sub-mid.ensures.equals, c.sub-then-is_wide.ensures.equals) (shared-difference c.args.self.now.first c.args.self.now.last (sym c.is_wide.ensures ∙ c.if-is_wide.true) (parts c.args.x) (parts c.args.y) c.requires.x_encloses c.requires.y_encloses)
+    rw (c.sub.ensures.equals, c.sub-mid.ensures.equals, c.sub-then-is_wide.ensures.equals) (shared-difference c.args.self.now.first c.args.self.now.last (sym c.is_wide.ensures ∙ c.if-is_wide.true) c.args.x c.args.y c.requires.x_encloses c.requires.y_encloses)
 
 pub returns-then-is_wide : goal.returns-then-is_wide
 unfolding difference_of

@@ -1,7 +1,6 @@
 use Rattle.spec_intervals.specs.Interval.{sum, product}
 use Rattle.std.proofs.Common.{◌∙◌, sym}
 use Rattle.spec_intervals.specs.Enclosure.{product_of}
-use Rattle.event_expr.specs.States.{parts}
 use Rattle.event_expr.proofs.Steps.{product-wide, product-part, product-exponent, sums-wide, shared-product}
 use Rattle.event_expr.proofs.rules.Span.product.Goals as goal
 
@@ -23,7 +22,7 @@ wide-requires-clause-step_within c =
 
 pub wide-requires-clause-shared : goal.wide-requires-clause-shared
 wide-requires-clause-shared c =
-    rw (c.mul-then-is_wide-2.ensures.equals, c.mul-mid.ensures.equals, c.add-step.ensures.equals, c.mul.ensures.equals, c.mul-then-is_wide.ensures.equals) (shared-product c.args.self.now.first c.args.self.now.last (sym c.is_wide.ensures ∙ c.if-is_wide.true) (parts c.args.x) (parts c.args.y) c.requires.x_encloses c.requires.y_encloses)
+    rw (c.mul-then-is_wide-2.ensures.equals, c.mul-mid.ensures.equals, c.add-step.ensures.equals, c.mul.ensures.equals, c.mul-then-is_wide.ensures.equals) (shared-product c.args.self.now.first c.args.self.now.last (sym c.is_wide.ensures ∙ c.if-is_wide.true) c.args.x c.args.y c.requires.x_encloses c.requires.y_encloses)
 
 pub returns-then-is_wide : goal.returns-then-is_wide
 unfolding product_of

@@ -1,7 +1,6 @@
 use Rattle.std.proofs.Common.{◌∙◌, sym}
 use Rattle.spec_intervals.specs.Interval.{product, signed_square}
 use Rattle.spec_intervals.specs.Enclosure.{signed_square_of, twice_size}
-use Rattle.event_expr.specs.States.{parts}
 use Rattle.event_expr.proofs.Steps.{signed_square-wide, square_step-wide, twice_size-exponent, shared-signed_square}
 use Rattle.event_expr.proofs.rules.Span.signed_square.Goals as goal
 
@@ -20,7 +19,7 @@ wide-requires-clause-step_within c =
 
 pub wide-requires-clause-shared : goal.wide-requires-clause-shared
 wide-requires-clause-shared c =
-    rw (c.signed_square.ensures.equals, c.signed_square-mid.ensures.equals, c.mul-step.ensures.equals, c.twice_size.ensures) (shared-signed_square c.args.self.now.first c.args.self.now.last (sym c.is_wide.ensures ∙ c.if-is_wide.true) (parts c.args.x) c.requires.encloses)
+    rw (c.signed_square.ensures.equals, c.signed_square-mid.ensures.equals, c.mul-step.ensures.equals, c.twice_size.ensures) (shared-signed_square c.args.self.now.first c.args.self.now.last (sym c.is_wide.ensures ∙ c.if-is_wide.true) c.args.x c.requires.encloses)
 
 pub returns-then-is_wide : goal.returns-then-is_wide
 unfolding signed_square_of

@@ -1,7 +1,6 @@
 use Rattle.spec_intervals.specs.Interval.{sum}
 use Rattle.std.proofs.Common.{◌∙◌, sym}
 use Rattle.spec_intervals.specs.Enclosure.{sum_of}
-use Rattle.event_expr.specs.States.{parts}
 use Rattle.event_expr.proofs.Steps.{sum-wide, shared-sum}
 use Rattle.event_expr.proofs.rules.Span.sum.Goals as goal
 
@@ -16,7 +15,7 @@ wide-requires-clause-step_within c = rw c.add-then-is_wide.ensures.equals (sum-w
 
 pub wide-requires-clause-shared : goal.wide-requires-clause-shared
 wide-requires-clause-shared c =
-    rw (c.add.ensures.equals, c.add-mid.ensures.equals, c.add-then-is_wide.ensures.equals) (shared-sum c.args.self.now.first c.args.self.now.last (sym c.is_wide.ensures ∙ c.if-is_wide.true) (parts c.args.x) (parts c.args.y) c.requires.x_encloses c.requires.y_encloses)
+    rw (c.add.ensures.equals, c.add-mid.ensures.equals, c.add-then-is_wide.ensures.equals) (shared-sum c.args.self.now.first c.args.self.now.last (sym c.is_wide.ensures ∙ c.if-is_wide.true) c.args.x c.args.y c.requires.x_encloses c.requires.y_encloses)
 
 pub returns-then-is_wide : goal.returns-then-is_wide
 unfolding sum_of

@@ -1,0 +1,9 @@
+pub mod InFile
+pub mod Left
+pub mod HeaderSays
+pub mod BlockSays
+pub mod Readers
+pub mod Feeding
+pub mod Passing
+pub mod Runs
+pub mod NameLists

@@ -1,0 +1,8 @@
+use Rattle.std.proofs.Common.{◌∙◌, sym}
+use Rattle.gf_files.proofs.Feeding.{leads_long}
+use Rattle.gf_files.proofs.reader.feed.Goals as goal
+
+pub returns-in-TooLong : goal.returns-in-TooLong
+returns-in-TooLong c =
+    leads_long c.args.reader c.args.text.now c.loop-line.reader c.loop-line.lines.left c.in-TooLong.line c.requires.small c.loop-line.invariant.leads
+    (sym c.line.ensures.step ∙ c.in-TooLong.is)

@@ -1,0 +1,3 @@
+pub mod Errors
+pub mod Reader
+pub mod Read

@@ -1,0 +1,34 @@
+-- How far files were read.
+use Rattle.std.specs.Prelude.{◌≡◌, ℕ, List, ◌++◌, Option, None}
+use Rattle.spec_text.specs.declared.decimals.Fault.{Fault}
+use Rattle.spec_sections.specs.Sections.{FileLine}
+use Rattle.spec_files.specs.Lines.{ephemeris}
+use Rattle.spec_files.specs.Files.{AreFiles, IsFile}
+use Rattle.spec_files.specs.Outcome.{first_fault}
+use Rattle.spec_files.specs.Texts.{end_line, first_cut, joined}
+use Rattle.gf_edges.specs.Edges.{Files}
+use Rattle.gf_files.specs.declared.reader.Fed.{Fed}
+use Rattle.gf_files.specs.declared.reader.Reader.{Reader}
+use Rattle.gf_files.specs.Reader.{IsFed, IsFirstFault, IsReady, ephemeris_after}
+
+-- the file of this name was taken to its end
+pub record TakesFile (files : Option Files) (name : List ℕ) (reader : Reader) (fed : Fed) : Type 0 where
+  pub text : List ℕ
+  pub there : IsFile files name text
+  pub took : IsFed reader text fed
+
+-- the file of this name has the first fault, whatever files follow
+pub record StopsAtFile (files : Option Files) (name : List ℕ) (reader : Reader) (fault : Fault) : Type 0 where
+  pub text : List ℕ
+  pub there : IsFile files name text
+  pub first : IsFirstFault reader text fault
+
+-- the files of these names were taken to their ends
+pub record HaveRead (files : Option Files) (names : List (List ℕ)) (reader : Reader) (end : ℕ) : Type 0 where
+  pub texts : List (List ℕ)
+  pub there : AreFiles files names texts
+  pub same : (rest : List FileLine) → ephemeris_after 0 reader rest ≡ ephemeris (joined texts ++ rest)
+  pub ready : IsReady reader
+  pub whole : first_cut texts ≡ None
+  pub sound : first_fault texts ≡ None
+  pub ends : end ≡ end_line texts

@@ -1,0 +1,15 @@
+//! Files by their names into an ephemeris. A shelf and names come in; out goes the ephemeris that the texts of these
+//! files are, or the first fault with its file, or the file that couldn't be read. No file is opened after one that has
+//! a fault or can't be read.
+#![tactic(auto)]
+
+mod errors;
+mod file;
+mod files;
+mod reader;
+
+pub use errors::FilesError;
+pub use files::{Accepted, read_files};
+
+#[cfg(test)]
+mod tests;

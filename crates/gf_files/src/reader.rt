@@ -1,0 +1,154 @@
+// The lines of several files, one file after the other: to the header's reader, and then to that of the blocks.
+ghost use Rattle.std.specs.Prelude.{◌≡◌, ◌≤◌, ◌∷◌, [], List, ℕ, length};
+ghost use Rattle.spec_text.specs.declared.limits.TheConstants.{MOST_TEXT_BYTES};
+ghost use Rattle.spec_sections.specs.Sections.{FileLine};
+ghost use Rattle.spec_files.specs.Lines.{ephemeris};
+ghost use Rattle.de_header.specs.Reader as headers;
+ghost use Rattle.gf_files.specs.declared.reader.Reader.TheVariants as readers;
+ghost use Rattle.gf_files.specs.Reader.{Feeds, Finishes, IsOfHeader, IsReady, Moves, TookLine, WantsMore, ephemeris_after};
+
+use crate::errors::FileError;
+use de_blocks::{BlockError, BlockReader};
+use de_header::{HeaderError, HeaderReader, Step};
+use de_text::{Line, LineStep, Tokens};
+use eph_model::Ephemeris;
+use spec_faults::LINE_TOO_LONG;
+use spec_text::Fault;
+use std::alloc::Global;
+
+/// What the next line belongs to.
+#[derive(Drop)]
+pub(crate) enum Reader {
+    Header(HeaderReader),
+    Blocks(BlockReader),
+}
+
+/// A reader that took a whole text.
+#[derive(Drop)]
+pub(crate) struct Fed {
+    pub reader: Reader,
+    /// The number of the text's lines plus 1.
+    pub end_line: u32,
+}
+
+/// A reader that waits for the first line of all.
+pub(crate) fn first_reader() -> Reader
+    ensures ready { IsReady result }
+    ensures first { (file : ℕ) (lines : List FileLine)
+        → ephemeris_after file result lines ≡ ephemeris lines }
+{
+    Reader::Header(HeaderReader::new())
+}
+
+// The reader of the blocks of a header that is whole.
+fn begin_blocks(alloc: Global, header: HeaderReader, line: &Line<'_>) -> Result<Reader, FileError>
+    requires whole { headers.IsWhole header }
+    requires of_header { IsOfHeader header }
+    ensures { (old : Reader) → TookLine old line.now (readers.Header header)
+        → Moves old line.now result }
+{
+    match header.end(alloc, line.number()) {
+        Ok(header) => Ok(Reader::Blocks(BlockReader::new(alloc, header))),
+        Err(HeaderError::Fault(fault)) => Err(FileError::Fault(fault)),
+        Err(HeaderError::Memory) => Err(FileError::Memory),
+    }
+}
+
+// The reader after a line, while the header goes on.
+fn take_header_line(
+    alloc: Global,
+    mut reader: HeaderReader,
+    line: &Line<'_>,
+) -> Result<Reader, FileError>
+    requires { WantsMore reader }
+    ensures { Moves (readers.Header reader) line.now result }
+{
+    match reader.line(line) {
+        Ok(Step::More) => Ok(Reader::Header(reader)),
+        Ok(Step::Done) => begin_blocks(alloc, reader, line),
+        Err(HeaderError::Fault(fault)) => Err(FileError::Fault(fault)),
+        Err(HeaderError::Memory) => Err(FileError::Memory),
+    }
+}
+
+// The reader after a line of the blocks.
+fn take_block_line(mut reader: BlockReader, line: &Line<'_>) -> Result<Reader, FileError>
+    requires { IsReady (readers.Blocks reader) }
+    ensures { Moves (readers.Blocks reader) line.now result }
+{
+    match reader.line(line) {
+        Ok(()) => Ok(Reader::Blocks(reader)),
+        Err(BlockError::Fault(fault)) => Err(FileError::Fault(fault)),
+        Err(BlockError::Memory) => Err(FileError::Memory),
+    }
+}
+
+// The reader after a line.
+fn take_line(alloc: Global, reader: Reader, line: &Line<'_>) -> Result<Reader, FileError>
+    requires { IsReady reader }
+    ensures { Moves reader line.now result }
+{
+    match reader {
+        Reader::Header(reader) => take_header_line(alloc, reader, line),
+        Reader::Blocks(reader) => take_block_line(reader, line),
+    }
+}
+
+/// The reader after a text, or the first fault of the text.
+pub(crate) fn feed(alloc: Global, mut reader: Reader, text: &[u8]) -> Result<Fed, FileError>
+    requires small { length text.now ≤ MOST_TEXT_BYTES }
+    requires ready { IsReady reader }
+    ensures { Feeds reader text.now result }
+{
+    let mut lines = Tokens::new(text);
+    loop {
+        match lines.line() {
+            LineStep::Line(line) => reader = take_line(alloc, reader, &line)?,
+            LineStep::TooLong(line) => {
+                return Err(FileError::Fault(Fault {
+                    line,
+                    number: LINE_TOO_LONG,
+                    detail: 0,
+                }));
+            }
+            LineStep::End => {
+                let end_line = lines.end_line();
+                return Ok(Fed { reader, end_line });
+            }
+        }
+    }
+}
+
+// The ephemeris of the blocks that were read, where the lines end at this number.
+fn end_blocks(reader: BlockReader, line: u32) -> Result<Ephemeris, FileError>
+    ensures { Finishes line (ephemeris_after 0 (readers.Blocks reader) []) result }
+{
+    match reader.end(line) {
+        Ok(ephemeris) => Ok(ephemeris),
+        Err(BlockError::Fault(fault)) => Err(FileError::Fault(fault)),
+        Err(BlockError::Memory) => Err(FileError::Memory),
+    }
+}
+
+// The same where the lines end in the header.
+fn end_header(alloc: Global, reader: HeaderReader, line: u32) -> Result<Ephemeris, FileError>
+    requires { WantsMore reader }
+    ensures { Finishes line (ephemeris_after 0 (readers.Header reader) []) result }
+{
+    match reader.end(alloc, line) {
+        Ok(header) => end_blocks(BlockReader::new(alloc, header), line),
+        Err(HeaderError::Fault(fault)) => Err(FileError::Fault(fault)),
+        Err(HeaderError::Memory) => Err(FileError::Memory),
+    }
+}
+
+/// The ephemeris of all lines, where the last file's lines end at this number.
+pub(crate) fn end(alloc: Global, reader: Reader, line: u32) -> Result<Ephemeris, FileError>
+    requires { IsReady reader }
+    ensures { Finishes line (ephemeris_after 0 reader []) result }
+{
+    match reader {
+        Reader::Header(reader) => end_header(alloc, reader, line),
+        Reader::Blocks(reader) => end_blocks(reader, line),
+    }
+}

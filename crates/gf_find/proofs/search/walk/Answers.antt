@@ -1,9 +1,0 @@
-use Rattle.std.proofs.Common.{arith}
-use Rattle.gf_find.proofs.Entries.{few}
-use Rattle.gf_find.proofs.search.walk.Goals as goal
-
-pub unreachable-requires : goal.unreachable-requires
-unreachable-requires g c =
-    let most = few c.args.judge.now.line c.args.judge.now.in_limits c.args.node c.requires in
-    let more = c.in-Err-TooMany.ensures.too_many c.in-Err-TooMany.field-0-is in
-    omega (arith, most, more)

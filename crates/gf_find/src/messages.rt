@@ -1,0 +1,94 @@
+// The lines of errors.
+ghost use Rattle.std.specs.Prelude.{◌≡◌, ◌++◌, IfOk, OnOk};
+ghost use Rattle.std.specs.Fmt.{decimal};
+ghost use Rattle.spec_faults.specs.Shown.{kind_of};
+ghost use Rattle.spec_reports.specs.Messages.{detail_text, fault_text, file_text, kind_text, read_text, title, words_text};
+
+use spec_faults::{FaultKind, fault_kind};
+use spec_text::Fault;
+use std::alloc::{AllocError, Global};
+
+/// The line of words that ask for what isn't built yet.
+pub(crate) fn words_line() -> &'static [u8]
+    ensures { result.now ≡ words_text }
+{
+    b"finder: words: 64 NotBuilt\n"
+}
+
+// A number, and a text after it.
+fn add_number(text: &mut Vec<u8>, number: u32, after: &[u8]) -> Result<(), AllocError>
+    ensures { OnOk result (text.new.items ≡ text.old.items ++ (decimal number ++ after.now)) }
+{
+    let mut buffer = itoa::Buffer::new();
+    text.extend_from_slice(buffer.format(number).as_bytes())?;
+    text.extend_from_slice(after)
+}
+
+// A name between two texts.
+fn add_named(text: &mut Vec<u8>, before: &[u8], name: &str, after: &[u8]) -> Result<(), AllocError>
+    ensures { OnOk result (text.new.items
+        ≡ text.old.items ++ (before.now ++ name.now ++ after.now)) }
+{
+    text.extend_from_slice(before)?;
+    text.extend_from_slice(name.as_bytes())?;
+    text.extend_from_slice(after)
+}
+
+// The detail of a fault after a blank, where it has one.
+fn add_detail(text: &mut Vec<u8>, has_detail: bool, detail: u16) -> Result<(), AllocError>
+    ensures { OnOk result (text.new.items ≡ text.old.items ++ detail_text has_detail detail) }
+{
+    if has_detail {
+        text.extend_from_slice(b" ")?;
+        add_number(text, u32::from(detail), b"")
+    } else {
+        Ok(())
+    }
+}
+
+// The name of a kind of fault, and the detail where it has one.
+fn add_kind(text: &mut Vec<u8>, kind: FaultKind, detail: u16) -> Result<(), AllocError>
+    ensures { OnOk result (text.new.items ≡ text.old.items ++ kind_text (kind_of kind) detail) }
+{
+    text.extend_from_slice(kind.name.as_bytes())?;
+    add_detail(text, kind.has_detail, detail)
+}
+
+// The name of the fault with this number, and its detail where it has one.
+fn add_title(text: &mut Vec<u8>, number: u8, detail: u16) -> Result<(), AllocError>
+    ensures { OnOk result (text.new.items ≡ text.old.items ++ title number detail) }
+{
+    match fault_kind(number) {
+        Some(kind) => add_kind(text, kind, detail),
+        None => Ok(()),
+    }
+}
+
+// The number of a fault, its name and its detail.
+fn add_fault(text: &mut Vec<u8>, number: u8, detail: u16) -> Result<(), AllocError>
+    ensures { OnOk result (text.new.items ≡ text.old.items ++ fault_text number detail) }
+{
+    add_number(text, u32::from(number), b" ")?;
+    add_title(text, number, detail)
+}
+
+/// The line of a file that is refused.
+pub(crate) fn file_line(alloc: Global, name: &str, fault: Fault) -> Result<Vec<u8>, AllocError>
+    ensures { IfOk result (λ text. text.items ≡ file_text name.now fault) }
+{
+    let mut text = Vec::new(alloc);
+    add_named(&mut text, b"finder: file ", name, b" line ")?;
+    add_number(&mut text, fault.line, b": ")?;
+    add_fault(&mut text, fault.number, fault.detail)?;
+    text.extend_from_slice(b"\n")?;
+    Ok(text)
+}
+
+/// The line of a file that couldn't be read.
+pub(crate) fn read_line(alloc: Global, name: &str) -> Result<Vec<u8>, AllocError>
+    ensures { IfOk result (λ text. text.items ≡ read_text name.now) }
+{
+    let mut text = Vec::new(alloc);
+    add_named(&mut text, b"finder: read fault ", name, b"\n")?;
+    Ok(text)
+}

@@ -1,0 +1,5 @@
+pub mod Closing
+pub mod Moves
+pub mod Seats
+pub mod Indexing
+pub mod Views

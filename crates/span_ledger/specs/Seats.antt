@@ -1,0 +1,34 @@
+-- How contracts see a ledger and its seats.
+use Rattle.std.specs.Prelude.{◌≡◌, ℕ, []}
+use Rattle.atomic_table.specs.Seated.{TableId}
+use Rattle.spec_pool.specs.declared.ledger.Part.{Part}
+use Rattle.spec_pool.specs.declared.ledger.Terms.{Terms}
+use Rattle.spec_pool.specs.declared.ledger.CloseError.{CloseError}
+use Rattle.spec_pool.specs.declared.ledger.CloseError.TheVariants.{Missing}
+use Rattle.spec_pool.specs.History.{part_of}
+use Rattle.span_ledger.specs.declared.desk.LedgerSeat.{LedgerSeat}
+use Rattle.span_ledger.specs.declared.desk.SpanLedger.{SpanLedger}
+use Rattle.span_ledger.specs.Rule.{the_part}
+
+-- the root, the limit and the number of seats
+abbrev pub terms : SpanLedger → Terms
+terms ledger = ledger.table.shared.key
+
+-- a seat's number, the entries that it made, the leaves that stood already when it entered them, and the history as it
+-- last saw it
+abbrev pub part : LedgerSeat → Part
+part seat = the_part seat.raw.me.0.parts
+
+abbrev pub IsSeatOf : SpanLedger → LedgerSeat → Type 0
+IsSeatOf ledger seat = seat.raw.table_id ≡ ledger.table.shared.table_id
+
+-- the seat is of the table z, has the number k and has entered nothing
+abbrev pub IsMade : TableId → ℕ → LedgerSeat → Type 0
+IsMade z k seat = (seat.raw.table_id ≡ z) × (part seat ≡ part_of k [] [] [])
+
+abbrev pub IsNew : SpanLedger → ℕ → LedgerSeat → Type 0
+IsNew ledger k seat = IsMade ledger.table.shared.table_id k seat
+
+-- the two numbers that are told
+abbrev pub IsMissing : ℕ → ℕ → CloseError → Type 0
+IsMissing given made (Missing g m) = (g ≡ given) × (m ≡ made)

@@ -1,0 +1,100 @@
+// Making a ledger with its seats, and closing it.
+ghost use Rattle.std.specs.Prelude.{◌≡◌, ◌≢◌, ℕ, slice_index_or, ◌<◌, ◌≤◌, ◌^◌, length, IfOk, IfErr, All};
+ghost use Rattle.spec_pool.specs.History.{FitsPart, Sound, terms_of};
+ghost use Rattle.span_ledger.specs.Seats.{IsMissing, IsNew, IsSeatOf, part, terms};
+
+use crate::desk::{LedgerSeat, SpanLedger};
+use crate::ledger::{Ledger, Ways};
+use crate::register::Register;
+use spec_trees::{Book, Node};
+use spec_pool::{CloseError, Memory, Terms};
+use std::alloc::Global;
+
+const BOOK: usize = 0;
+
+impl SpanLedger {
+    /// An empty ledger for leaves of a root, of at most `limit` of them, and its 1 to 64 seats, whose numbers are their
+    /// places.
+    pub fn new(
+        alloc: Global,
+        root: Node,
+        limit: u32,
+        seats: u32,
+    ) -> Result<(SpanLedger, Vec<LedgerSeat>), Memory>
+        requires seats { (1 ≤ seats) × (seats ≤ 64) }
+        ensures terms { IfOk result (λ r. terms r.0 ≡ terms_of root limit seats) }
+        ensures count { IfOk result (λ r. length r.1.items ≡ seats) }
+        ensures made { IfOk result (λ r. (k : ℕ) (d : _) → k < length r.1.items → IsNew r.0 k (slice_index_or r.1.items k d)) }
+    {
+        let mut slots = Vec::new(alloc);
+        let Ok(_) = slots.push(Some(Register::new(alloc))) else {
+            return Err(Memory);
+        };
+        let terms = Terms { root, limit, seats };
+        let Ok((table, first)) = Ledger::new(alloc, &[0, 0], slots, &terms) else {
+            return Err(Memory);
+        };
+        let mut maker = first;
+        let mut made = Vec::new(alloc);
+        let mut number = 0;
+        while number < seats - 1 {
+            let raw = table.shared.split_seat::<Ways>(&mut maker);
+            let Ok(_) = made.push(LedgerSeat { raw, number }) else {
+                return Err(Memory);
+            };
+            number += 1;
+        }
+        let Ok(_) = made.push(LedgerSeat { raw: maker, number }) else {
+            return Err(Memory);
+        };
+        Ok((
+            SpanLedger {
+                table,
+                root,
+                limit,
+                seats,
+            },
+            made,
+        ))
+    }
+
+    /// Takes all seats back and hands out the book, or counts those that are missing. It takes no memory.
+    pub fn close(self, mut seats: Vec<LedgerSeat>) -> Result<Book, CloseError>
+        requires ours { All (IsSeatOf self) seats.items }
+        requires few { length seats.items < 2 ^ 32 }
+        ensures root { IfOk result (λ book. book.root ≡ (terms self).root) }
+        ensures sound { IfOk result (λ book. Sound (terms self) book.entries.items) }
+        ensures seats { IfOk result (λ book. All (λ s. FitsPart book.entries.items (part s)) seats.items) }
+        ensures all { IfOk result (λ book. length seats.items ≡ (terms self).seats) }
+        ensures missing { IfErr result (λ e. length seats.items ≢ (terms self).seats) }
+        ensures numbers { IfErr result (λ e. IsMissing (length seats.items) (terms self).seats e) }
+    {
+        let given = seats.len() as u32;
+        if given != self.seats {
+            return Err(CloseError::Missing {
+                given,
+                made: self.seats,
+            });
+        }
+        let Some(last) = seats.pop() else {
+            unreachable!()
+        };
+        let LedgerSeat {
+            raw: mut all,
+            number: _,
+        } = last;
+        while let Some(seat) = seats.pop() {
+            let LedgerSeat { raw, number: _ } = seat;
+            self.table.shared.join_seat::<Ways>(&mut all, raw);
+        }
+        let mut closed = self.table.close_with(all);
+        let Some(register) = closed.take(BOOK) else {
+            unreachable!()
+        };
+        closed.free();
+        Ok(Book {
+            root: self.root,
+            entries: register.into_entries(),
+        })
+    }
+}

@@ -1,0 +1,138 @@
+// Entering a leaf under the lock.
+ghost use Rattle.std.specs.Prelude.{◌≡◌, ◌+◌, ◌<◌, ◌≤◌, ◌≤ℤ◌, [], ◌∷◌, ◌++◌, length, List, Some, IsTrue, IsFalse};
+ghost use Rattle.spec_trees.specs.declared.book.Booked.{Booked};
+ghost use Rattle.spec_pool.specs.History.{StartsWith, Stands, LiesIn, Tells, Entering, saw, repeated};
+ghost use Rattle.span_ledger.specs.Rule.{the_part, with_part, Writes, IsIdle, HasBook, TakesBook};
+ghost use Rattle.span_ledger.specs.Seats.{IsSeatOf, part, terms};
+
+use crate::desk::{LedgerSeat, SpanLedger};
+use crate::ledger::{Add, Free, Lock, Raw};
+use spec_trees::{Booked, Leaf};
+use spec_pool::Entry;
+use std::sync::Wait;
+use std::thread;
+
+const LOCK: usize = 0;
+
+const COUNT: usize = 1;
+
+const BOOK: usize = 0;
+
+// Tries to take the lock, and the book with it.
+fn try_lock(ledger: &SpanLedger, raw: &mut Raw) -> bool
+    requires ours { raw.old.table_id ≡ ledger.now.table.shared.table_id }
+    requires idle { IsIdle raw.old.me }
+    ensures same { raw.new.table_id ≡ raw.old.table_id }
+    ensures taken { IsTrue result → TakesBook raw.old.me raw.new.me }
+    ensures refused { IsFalse result → raw.new.me ≡ raw.old.me }
+{
+    ledger.table.shared.swap::<Lock>(raw, LOCK, 1) != 1
+}
+
+// Writes an entry into the book that the seat holds, unless it stands there or may not.
+fn write(ledger: &SpanLedger, raw: &mut Raw, entry: Booked) -> Entry
+    requires ours { raw.old.table_id ≡ ledger.now.table.shared.table_id }
+    requires held { HasBook raw.old.me }
+    requires own { (entry.seat ≡ (the_part raw.old.me.0.parts).number) × (entry.seat < 64) }
+    requires inside { LiesIn (terms ledger.now).root entry.leaf }
+    ensures same { raw.new.table_id ≡ raw.old.table_id }
+    ensures told { Writes ledger.now.limit raw.old.me entry result raw.new.me }
+{
+    let Some(mut register) = ledger.table.shared.exchange(raw, BOOK, None) else {
+        unreachable!()
+    };
+    if let Some(place) = register.find(entry.leaf) {
+        ledger.table.shared.exchange(raw, BOOK, Some(register));
+        return Entry::Again { place };
+    }
+    let place = register.len();
+    if place >= ledger.limit as usize {
+        ledger.table.shared.exchange(raw, BOOK, Some(register));
+        return Entry::Full;
+    }
+    let added = register.add(entry);
+    ledger.table.shared.exchange(raw, BOOK, Some(register));
+    let Ok(()) = added else {
+        return Entry::Memory;
+    };
+    ledger.table.shared.fetch_add::<Add>(raw, COUNT, 1);
+    Entry::Entered {
+        place: place as u32,
+    }
+}
+
+// Gives the lock and the book back.
+fn release(ledger: &SpanLedger, raw: &mut Raw)
+    requires ours { raw.old.table_id ≡ ledger.now.table.shared.table_id }
+    requires held { HasBook raw.old.me }
+    ensures same { raw.new.table_id ≡ raw.old.table_id }
+    ensures free { raw.new.me ≡ (with_part raw.old.me.0 0 (the_part raw.old.me.0.parts), []) }
+{
+    ledger.table.shared.store::<Free>(raw, LOCK, 0);
+}
+
+// Gives them back, and notes that the leaf at a place was to be entered again.
+fn release_again(ledger: &SpanLedger, raw: &mut Raw, place: u32, leaf: Leaf)
+    requires ours { raw.old.table_id ≡ ledger.now.table.shared.table_id }
+    requires held { HasBook raw.old.me }
+    requires stands { Stands leaf (the_part raw.old.me.0.parts).seen place }
+    ensures same { raw.new.table_id ≡ raw.old.table_id }
+    ensures free { raw.new.me ≡ (with_part raw.old.me.0 0 (repeated (the_part raw.old.me.0.parts) leaf), []) }
+{
+    ledger
+        .table
+        .shared
+        .store::<Free>(raw, LOCK, place as u64 + 2);
+}
+
+// Takes the lock, once it is free.
+fn lock<R: Wait>(rt: &R, ledger: &SpanLedger, raw: &mut Raw)
+    requires ours { raw.old.table_id ≡ ledger.now.table.shared.table_id }
+    requires idle { IsIdle raw.old.me }
+    ensures same { raw.new.table_id ≡ raw.old.table_id }
+    ensures taken { TakesBook raw.old.me raw.new.me }
+{
+    for _ in rt.forever() {
+        if try_lock(ledger, raw) {
+            break;
+        }
+        thread::yield_now();
+    }
+}
+
+// Writes an entry, and gives the lock and the book back.
+fn put(ledger: &SpanLedger, raw: &mut Raw, entry: Booked) -> Entry
+    requires ours { raw.old.table_id ≡ ledger.now.table.shared.table_id }
+    requires held { HasBook raw.old.me }
+    requires own { (entry.seat ≡ (the_part raw.old.me.0.parts).number) × (entry.seat < 64) }
+    requires inside { LiesIn (terms ledger.now).root entry.leaf }
+    ensures same { raw.new.table_id ≡ raw.old.table_id }
+    ensures idle { (raw.new.me.0.holds ≡ 0) × (raw.new.me.1 ≡ []) × (length raw.new.me.0.parts ≡ 1) }
+    ensures told { Tells ledger.now.limit (the_part raw.old.me.0.parts).seen entry (the_part raw.old.me.0.parts) (the_part raw.new.me.0.parts) result }
+{
+    let entered = write(ledger, raw, entry);
+    if let Entry::Again { place } = entered {
+        release_again(ledger, raw, place, entry.leaf);
+        return entered;
+    }
+    release(ledger, raw);
+    entered
+}
+
+impl SpanLedger {
+    /// Enters a leaf of the root under the seat's number, unless it stands already or as many leaves as the limit stand.
+    /// It waits for the lock. Two leaves are the same where their nodes and their marks are.
+    pub fn enter<R: Wait>(&self, rt: &R, seat: &mut LedgerSeat, leaf: Leaf) -> Entry
+        requires ours { IsSeatOf self.now seat.old }
+        requires inside { LiesIn (terms self.now).root leaf }
+        ensures ours { IsSeatOf self.now seat.new }
+        ensures entering { Entering (terms self.now).limit leaf (part seat.old) (part seat.new) result }
+    {
+        lock(rt, self, &mut seat.raw);
+        let entry = Booked {
+            leaf,
+            seat: seat.number,
+        };
+        put(self, &mut seat.raw, entry)
+    }
+}

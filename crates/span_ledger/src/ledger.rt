@@ -1,0 +1,76 @@
+// The table under the ledger, with its rule: the lock, the count of entries, and the slot of the register.
+use crate::register::Register;
+use atomic_table::{Join, Play, Seat, Split, Table, TableRule};
+use spec_pool::{Part, Terms};
+use std::alloc::Global;
+use std::collections::LinkedList;
+
+/// What a seat of the table knows: whether it has the lock, from which to which it may still make numbers of seats, and
+/// its parts of the history, one for each number. Contracts alone speak of it; no value of it is made.
+pub struct View {
+    pub holds: u64,
+    pub low: u64,
+    pub high: u64,
+    pub parts: LinkedList<Part>,
+}
+
+/// The rule of the ledger.
+pub struct Law;
+
+impl TableRule<Option<Register>, View, Terms> for Law {
+    ghost use Rattle.span_ledger.specs.Rule.{Kept, newcomer};
+
+    ghost holds = { Kept };
+
+    ghost first = { newcomer };
+}
+
+/// Taking the lock, and the register with it, or finding it taken.
+pub struct Lock;
+
+impl Play<Option<Register>, View> for Lock {
+    ghost use Rattle.span_ledger.specs.Rule.{Locks};
+
+    ghost then = { Locks };
+}
+
+/// Entering what the register has gained.
+pub struct Add;
+
+impl Play<Option<Register>, View> for Add {
+    ghost use Rattle.span_ledger.specs.Rule.{Adds};
+
+    ghost then = { Adds };
+}
+
+/// Giving back the register and the lock.
+pub struct Free;
+
+impl Play<Option<Register>, View> for Free {
+    ghost use Rattle.span_ledger.specs.Rule.{Frees};
+
+    ghost then = { Frees };
+}
+
+/// Making seats, and joining them.
+pub struct Ways;
+
+impl Split<View> for Ways {
+    ghost use Rattle.span_ledger.specs.Rule.{maker_after, made};
+
+    ghost left = { maker_after };
+
+    ghost right = { made };
+}
+
+impl Join<View> for Ways {
+    ghost use Rattle.span_ledger.specs.Rule.{joined, spent as nothing};
+
+    ghost both = { joined };
+
+    ghost spent = { nothing };
+}
+
+pub type Raw = Seat<Option<Register>, View>;
+
+pub type Ledger = Table<Option<Register>, View, Terms, Law, Global>;

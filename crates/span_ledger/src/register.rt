@@ -1,0 +1,126 @@
+// What lies under the lock: the entries, and beside them where each leaf stands, the sum of the widths and the counts.
+ghost use Rattle.std.specs.Prelude.{◌≡◌, ◌-◌, ◌-ℤ◌, ◌+◌, ◌^◌, ◌<◌, ◌≤◌, [], ◌∷◌, ◌++◌, length, OnOk, OnErr, IfSome, IfNone};
+ghost use Rattle.std.specs.Int.RustNames.{unsigned_abs};
+ghost use Rattle.spec_pool.specs.History.{Fresh, Stands};
+ghost use Rattle.spec_pool.specs.Marks.{mark_number};
+ghost use Rattle.span_ledger.specs.Indexes.{key_of};
+
+use spec_trees::{Booked, Leaf, Mark, Turn};
+use std::alloc::{AllocError, Global};
+use std::collections::BTreeMap;
+use std::marker::Model;
+
+/// A history, with an index of its leaves. Contracts see the list of its entries. The index has the ends, the depth and
+/// the mark's number of each leaf, in this order, and its place.
+#[derive(Drop)]
+pub struct Register {
+    entries: Vec<Booked>,
+    index: BTreeMap<((i64, i64), (u32, u32)), u32>,
+    width: u128,
+    counts: [u32; 64],
+}
+
+impl Model for Register {
+    ghost use Rattle.std.specs.Prelude.{List};
+    ghost use Rattle.spec_trees.specs.declared.book.Booked.{Booked};
+    ghost use Rattle.span_ledger.specs.Indexes.{Registered};
+
+    ghost Value = { List Booked };
+
+    ghost view = { λ r. r.entries.items };
+
+    ghost invariant = { λ r. Registered r.entries.items r.index r.width r.counts };
+}
+
+fn mark_number(mark: Mark) -> u32
+    ensures { result ≡ mark_number mark }
+{
+    match mark {
+        Mark::Clear => 0,
+        Mark::One(Turn::Rise) => 1,
+        Mark::One(Turn::Fall) => 2,
+        Mark::Undecided => 3,
+    }
+}
+
+// A leaf as the index orders it.
+fn leaf_key(leaf: Leaf) -> ((i64, i64), (u32, u32))
+    ensures { result ≡ key_of leaf }
+{
+    (
+        (leaf.node.a, leaf.node.b),
+        (leaf.node.depth, mark_number(leaf.mark)),
+    )
+}
+
+fn leaf_width(leaf: Leaf) -> u128
+    ensures value { result ≡ unsigned_abs (leaf.node.b -ℤ leaf.node.a) }
+    ensures bound { result ≤ 2 ^ 64 }
+{
+    leaf.node.b.abs_diff(leaf.node.a) as u128
+}
+
+impl Register {
+    /// A register with no entries.
+    pub fn new(alloc: Global) -> Register
+        ensures { result ≡ [] }
+    {
+        let counts = [0; 64];
+        Register {
+            entries: Vec::new(alloc),
+            index: BTreeMap::new(alloc),
+            width: 0,
+            counts,
+        }
+    }
+
+    /// The number of entries.
+    pub fn len(&self) -> usize
+        ensures { result ≡ length self.now }
+    {
+        self.entries.len()
+    }
+
+    /// Where a leaf stands, by one look-up in the index.
+    pub fn find(&self, leaf: Leaf) -> Option<u32>
+        ensures some { IfSome result (λ place. Stands leaf self.now place) }
+        ensures none { IfNone result (Fresh leaf self.now) }
+    {
+        self.index.get(&leaf_key(leaf)).copied()
+    }
+
+    /// Adds an entry at the end. Out of memory, the register is as before.
+    pub fn add(&mut self, entry: Booked) -> Result<(), AllocError>
+        requires fresh { Fresh entry.leaf self.old }
+        requires room { length self.old < 2 ^ 32 - 1 }
+        requires seat { entry.seat < 64 }
+        ensures ok { OnOk result (self.new ≡ self.old ++ entry ∷ []) }
+        ensures err { OnErr result (self.new ≡ self.old) }
+    {
+        let place = self.entries.len() as u32;
+        let wide = leaf_width(entry.leaf);
+        let Ok(_) = self.entries.push(entry) else {
+            return Err(AllocError);
+        };
+        let Ok(_) = self.index.insert(leaf_key(entry.leaf), place) else {
+            self.entries.pop();
+            return Err(AllocError);
+        };
+        self.counts[entry.seat as usize] += 1;
+        self.width += wide;
+        Ok(())
+    }
+
+    /// The entries in order of arrival.
+    pub fn into_entries(self) -> Vec<Booked>
+        ensures { result.items ≡ self }
+    {
+        let Register {
+            entries,
+            index: _,
+            width: _,
+            counts: _,
+        } = self;
+        entries
+    }
+}

@@ -12,6 +12,7 @@ use Rattle.spec_faults.specs.declared.numbers.TheConstants.{TRUNCATED}
 use Rattle.spec_blocks.specs.BlockRules.{number_rule, trailing_rule}
 use Rattle.spec_blocks.specs.Blocks.{further_numbers, further_words, numbers_of, zeros_of}
 use Rattle.spec_blocks.specs.Read.{AreRead}
+use Rattle.spec_blocks.proofs.FurtherWords.{none_further}
 use Rattle.spec_blocks.proofs.Numbers.{Counted, Meets, number_holds, read_more}
 use Rattle.de_blocks.specs.Steps.{numbers_on, on_line, wanted, zeros_on}
 
@@ -42,10 +43,6 @@ zeros_here line [] = refl
 zeros_here line (word ∷ words) =
     bind_same (at_line line.file line.number (trailing_rule word)) _ _ (λ u is. zeros_here line words)
     ∙ bind_at line.file line.number (trailing_rule word) (λ u. zeros_on words)
-
-none_further : (n : ℕ) (lines : List FileLine) → n ≡ 0 → further_words n lines ≡ []
-none_further n [] is = refl
-none_further n (line ∷ rest) is = rw (eq-eqb n 0 is) refl
 
 -- ---- the numbers of a line
 pub on_holds : (before : Ephemeris) (numbers : List Decimal) (words : List (List ℕ)) → AreRead before numbers

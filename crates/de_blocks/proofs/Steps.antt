@@ -74,9 +74,9 @@ unfolding says
 takes_record before numbers place line is_between fits is =
     let none : numbers ≡ [] = sym fits.kept ∙ ap (λ (p : Place). numbers_at p numbers) is_between in
     record {
-      said = λ known file rest. ap (λ (l : List Decimal). from_numbers before l rest) none ∙ sym (begins before (line_of file line) rest is)
+      read = λ known file rest. ap (λ (l : List Decimal). from_numbers before l rest) none ∙ sym (begins before (line_of file line) rest is)
           ∙ sym (ap (λ (p : Place). says_at file p before numbers (line_of file line ∷ rest)) is_between);
-      told = λ known. sym (ap answer (ends_within before numbers (omega (arith, fits.few))));
+      answers = λ known. sym (ap answer (ends_within before numbers (omega (arith, fits.few))));
       goes_on = λ ok. tt;
       kept = λ fault no. absurd (cc);
       unchanged = λ no. absurd (cc);
@@ -87,9 +87,9 @@ pub takes_broken : (old new : Progress) (line : TokenLine) (fault : Fault) → n
     → ((file : ℕ) (rest : List FileLine) → says file old (line_of file line ∷ rest) ≡ Err (breaks_rule file fault))
     → Takes old line (Err (errors.Fault fault)) new
 unfolding says
-takes_broken old new line fault refused said = record {
-  said = λ known file rest. ap (λ (p : Place). says_at file p new.accepted new.numbers rest) refused ∙ sym (said file rest);
-  told = λ known. sym (ap (λ (p : Place). answer (says_at 0 p new.accepted new.numbers [])) refused);
+takes_broken old new line fault refused breaks_it = record {
+  read = λ known file rest. ap (λ (p : Place). says_at file p new.accepted new.numbers rest) refused ∙ sym (breaks_it file rest);
+  answers = λ known. sym (ap (λ (p : Place). answer (says_at 0 p new.accepted new.numbers [])) refused);
   goes_on = λ no. absurd (cc);
   kept = λ f is. refused ∙ ap (λ (r : Result (Unit {0}) BlockError). place_of fault r) is;
   unchanged = λ no. absurd (cc);
@@ -97,8 +97,8 @@ takes_broken old new line fault refused said = record {
 
 pub takes_nothing : (old new : Progress) (line : TokenLine) → new ≡ old → Takes old line (Err errors.Memory) new
 takes_nothing old new line same = record {
-  said = λ known. absurd known;
-  told = λ known. absurd known;
+  read = λ known. absurd known;
+  answers = λ known. absurd known;
   goes_on = λ no. absurd (cc);
   kept = λ fault no. absurd (cc);
   unchanged = λ is. same;
@@ -112,11 +112,11 @@ takes_more before after numbers new place line is_inside fits is few same =
     let some : 0 < wanted before numbers = omega (arith, fits.few) in
     let meets = holds_ok (Accepted before numbers line.tokens) (on_line before numbers line.tokens) new is (accepted before numbers line.tokens fits.read) in
     record {
-      said = λ known file rest. ap (λ (e : Ephemeris). from_numbers e new rest) same
+      read = λ known file rest. ap (λ (e : Ephemeris). from_numbers e new rest) same
           ∙ sym (ap (λ (r : Result (List Decimal × List FileLine) Stop). r >>= λ found. from_record (with_numbers before found.0) found.1)
           (goes_on before numbers (line_of file line) rest some new meets few))
           ∙ sym (ap (λ (p : Place). says_at file p before numbers (line_of file line ∷ rest)) is_inside);
-      told = λ known. sym (ap (λ (e : Ephemeris). answer (from_numbers e new [])) same ∙ ap answer (ends_within before new (omega (arith, few))));
+      answers = λ known. sym (ap (λ (e : Ephemeris). answer (from_numbers e new [])) same ∙ ap answer (ends_within before new (omega (arith, few))));
       goes_on = λ ok. tt;
       kept = λ fault no. absurd (cc);
       unchanged = λ no. absurd (cc);
@@ -130,11 +130,11 @@ takes_whole before after numbers all new place line is_inside fits is whole with
     let some : 0 < wanted before numbers = omega (arith, fits.few) in
     let meets = holds_ok (Accepted before numbers line.tokens) (on_line before numbers line.tokens) all is (accepted before numbers line.tokens fits.read) in
     record {
-      said = λ known file rest. ap (λ (e : Ephemeris). from_record e rest) with
+      read = λ known file rest. ap (λ (e : Ephemeris). from_record e rest) with
           ∙ sym (ap (λ (r : Result (List Decimal × List FileLine) Stop). r >>= λ found. from_record (with_numbers before found.0) found.1)
           (ends before numbers (line_of file line) rest some all meets whole))
           ∙ sym (ap (λ (p : Place). says_at file p before numbers (line_of file line ∷ rest)) is_inside);
-      told = λ known. sym (answer_between after);
+      answers = λ known. sym (answer_between after);
       goes_on = λ ok. tt;
       kept = λ fault no. absurd (cc);
       unchanged = λ no. absurd (cc);

@@ -41,6 +41,14 @@ says_at file (Refused fault) before numbers lines = Err (breaks file fault)
 unfoldable pub says : ℕ → Progress → List FileLine → Says
 says file reader lines = says_at file reader.place reader.accepted reader.numbers lines
 
+-- the reader says this of all lines to come, in whatever file
+abbrev pub IsAt : Progress → (List FileLine → Says) → Type 0
+IsAt reader rest_of_blocks = (file : ℕ) (lines : List FileLine) → says file reader lines ≡ rest_of_blocks lines
+
+-- the new reader is the old one after this line
+abbrev pub HasRead : Progress → TokenLine → Progress → Type 0
+HasRead old line new = (file : ℕ) (rest : List FileLine) → says file new rest ≡ says file old (line_of file line ∷ rest)
+
 abbrev pub IsUnrefusedPlace : Place → Type 0
 IsUnrefusedPlace (Refused fault) = ⊥
 IsUnrefusedPlace place = Unit {0}
@@ -77,12 +85,20 @@ abbrev pub IsNotMemory : Result (Unit {0}) BlockError → Type 0
 IsNotMemory (Err errors.Memory) = ⊥
 IsNotMemory result = Unit {0}
 
+-- a fault that is answered is the one that the reader keeps
+abbrev pub KeepsFault : Progress → Result (Unit {0}) BlockError → Type 0
+KeepsFault reader result = (fault : Fault) → result ≡ Err (errors.Fault fault) → IsRefused reader fault
+
+-- a fault that was kept is kept and answered again
+abbrev pub GivesAgain : Progress → Progress → Result (Unit {0}) BlockError → Type 0
+GivesAgain old new result = (fault : Fault) → IsRefused old fault → IsRefused new fault × (result ≡ Err (errors.Fault fault))
+
 -- a line takes a reader from one state to the next, with this answer
 pub record Takes (old : Progress) (line : TokenLine) (result : Result (Unit {0}) BlockError) (new : Progress) : Type 0 where
-  pub said : IsNotMemory result → (file : ℕ) (rest : List FileLine) → says file new rest ≡ says file old (line_of file line ∷ rest)
-  pub told : IsNotMemory result → result ≡ answer (says 0 new [])
+  pub read : IsNotMemory result → HasRead old line new
+  pub answers : IsNotMemory result → result ≡ answer (says 0 new [])
   pub goes_on : result ≡ Ok tt → IsNotRefused new
-  pub kept : (fault : Fault) → result ≡ Err (errors.Fault fault) → IsRefused new fault
+  pub kept : KeepsFault new result
   pub unchanged : result ≡ Err errors.Memory → new ≡ old
 
 -- where the lines end at this number, what is said of no more lines

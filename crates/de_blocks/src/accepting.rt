@@ -20,7 +20,8 @@ fn push_first(before: &mut Ephemeris, start: i64, numbers: &[Decimal]) -> Result
     requires block { IsBlock before.old.header numbers.now }
     requires room { before.old.blocks < MOST_BLOCKS }
     requires start { IsStart start }
-    ensures added { OnOk result (before.new ≡ starting_at (with_block before.old numbers.now) start) }
+    ensures added { OnOk result
+        (before.new ≡ starting_at (with_block before.old numbers.now) start) }
     ensures memory { OnErr result (before.new ≡ before.old) }
 {
     before.push_block(numbers)?;
@@ -83,7 +84,8 @@ pub(crate) fn take_line(
     requires checked { IsEphemeris before.old }
     requires read { AreRead before.old numbers.old.items }
     requires few { length numbers.old.items < before.old.header.ncoeff }
-    ensures { TakesLine before.old numbers.old.items line.now.tokens result before.new numbers.new.items }
+    ensures { TakesLine before.old numbers.old.items line.now.tokens result before.new
+        numbers.new.items }
 {
     let ncoeff = before.header().ncoeff as usize;
     match read_line(before, numbers, line) {

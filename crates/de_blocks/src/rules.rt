@@ -5,8 +5,11 @@ ghost use Rattle.spec_blocks.specs.BlockRules.{coefficient_rule, first_date, fol
 
 use de_text::{Line, read_decimal, seconds_of_julian_date, size_over, size_under};
 use eph_model::{Ephemeris, is_present, place_after};
-use spec_faults::{BLOCK_GAP, BLOCK_SPAN, NCOEFF_DIFFERS, NUMBER, RECORD_LINE, TOO_LARGE, TOO_MANY_BLOCKS, TRAILING_NUMBERS};
 use spec_ephemeris::{BODY_COLUMNS, Column, FIRST_TIME, MOST_BLOCKS};
+use spec_faults::{
+    BLOCK_GAP, BLOCK_SPAN, NCOEFF_DIFFERS, NUMBER, RECORD_LINE, TOO_LARGE, TOO_MANY_BLOCKS,
+    TRAILING_NUMBERS,
+};
 use spec_sections::BrokenRule;
 use spec_text::Decimal;
 

@@ -30,7 +30,8 @@ fn read_numbers(
     words: &mut Words<'_>,
 ) -> Result<(), Refusal>
     requires { length numbers.old.items < before.now.header.ncoeff }
-    ensures reads { ReadsNumbers before.now numbers.old.items words.old result numbers.new.items words.new }
+    ensures reads { ReadsNumbers before.now numbers.old.items words.old result numbers.new.items
+        words.new }
     ensures front { take (length numbers.old.items) numbers.new.items ≡ numbers.old.items }
 {
     let ncoeff = before.header().ncoeff as usize;
@@ -63,7 +64,8 @@ pub(crate) fn read_line(
     line: &Line<'_>,
 ) -> Result<(), Refusal>
     requires { length numbers.old.items < before.now.header.ncoeff }
-    ensures reads { Reads (on_line before.now numbers.old.items line.now.tokens) result numbers.new.items }
+    ensures reads { Reads (on_line before.now numbers.old.items line.now.tokens) result
+        numbers.new.items }
     ensures front { take (length numbers.old.items) numbers.new.items ≡ numbers.old.items }
 {
     let mut words = line.words();

@@ -44,7 +44,8 @@ pub(crate) fn first_reader() -> Reader
 fn begin_blocks(alloc: Global, header: HeaderReader, line: &Line<'_>) -> Result<Reader, FileError>
     requires whole { headers.IsWhole header }
     requires of_header { IsOfHeader header }
-    ensures { (old : Reader) → TookLine old line.now (readers.Header header) → Moves old line.now result }
+    ensures { (old : Reader) → TookLine old line.now (readers.Header header)
+        → Moves old line.now result }
 {
     match header.end(alloc, line.number()) {
         Ok(header) => Ok(Reader::Blocks(BlockReader::new(alloc, header))),

@@ -32,14 +32,15 @@ pub fn later_texts_follow()
 #[tactic(auto, using(crate::proofs::FirstFault::first_fault_stays))]
 pub fn first_faults_stay()
     ensures { (texts later : List (List ℕ)) (file : ℕ) (fault : Fault)
-        → first_fault texts ≡ Some (file, fault) → first_fault (texts ++ later) ≡ Some (file, fault) }
+        → first_fault texts ≡ Some (file, fault)
+        → first_fault (texts ++ later) ≡ Some (file, fault) }
 {}
 
 /// A fault that texts have whatever follows is their first.
 #[tactic(auto, using(crate::proofs::Joining::first_fault_refused))]
 pub fn texts_with_a_fault_are_refused()
-    ensures { (texts : List (List ℕ)) (file : ℕ) (fault : Fault) → first_fault texts ≡ Some (file, fault)
-        → outcome texts ≡ Err (file, fault) }
+    ensures { (texts : List (List ℕ)) (file : ℕ) (fault : Fault)
+        → first_fault texts ≡ Some (file, fault) → outcome texts ≡ Err (file, fault) }
 {}
 
 /// Of files that are known, one alone is true: they are accepted, and in one way; they are refused; or one of them isn't

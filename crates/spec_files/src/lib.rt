@@ -7,7 +7,7 @@ mod examples;
 mod laws;
 mod limits;
 
-pub use examples::{texts_are_joined, texts_are_refused};
+pub use examples::{named_files_are_read, texts_are_joined, texts_are_refused};
 pub use laws::{
     first_faults_stay, later_texts_follow, one_answer_is_true, texts_with_a_fault_are_refused,
 };

@@ -9,8 +9,8 @@ mod laws;
 mod limits;
 
 pub use examples::{
-    a_header_is_read, some_words_are_skipped, the_columns_are_refused,
-    the_constants_are_refused, the_first_lines_are_refused,
+    a_header_is_read, some_words_are_skipped, the_columns_are_refused, the_constants_are_refused,
+    the_first_lines_are_refused,
 };
 pub use facts::{BlockShape, Facts};
 pub use laws::accepted_headers_meet_the_rules;

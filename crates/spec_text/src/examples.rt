@@ -24,7 +24,8 @@ pub fn decimals_are_refused()
     ensures no_exponent { reading (codes "1d") ≡ Err NotNumber }
     ensures no_digit { reading (codes ".") ≡ Err NotNumber }
     ensures zeros_at_the_end { reading (codes "1000000000000000000") ≡ Err TooManyDigits }
-    ensures zeros_at_the_front { reading (codes "0000000000000000001") ≡ Ok (decimal (pos 1) (pos 0)) }
+    ensures zeros_at_the_front { reading (codes "0000000000000000001")
+        ≡ Ok (decimal (pos 1) (pos 0)) }
     ensures far { reading (codes "0e-100") ≡ Err ExponentRange }
     ensures digits_before_exponent { reading (codes "1234567890123456789e100") ≡ Err TooManyDigits }
 {}
@@ -46,7 +47,8 @@ pub fn julian_dates_are_seconds()
     ensures half { seconds_of_julian_date (decimal (pos 5) (neg_ℤ (pos 1))) ≡ Ok 43200 }
     ensures too_late { seconds_of_julian_date (decimal (pos 5000001) (pos 0)) ≡ Err OutOfRange }
     ensures too_early { seconds_of_julian_date (decimal (neg_ℤ (pos 1)) (pos 0)) ≡ Err OutOfRange }
-    ensures both { seconds_of_julian_date (decimal (neg_ℤ (pos 1)) (neg_ℤ (pos 6))) ≡ Err NotWholeSecond }
+    ensures both { seconds_of_julian_date (decimal (neg_ℤ (pos 1)) (neg_ℤ (pos 6)))
+        ≡ Err NotWholeSecond }
     ensures no_sign { seconds_of_days (decimal (neg_ℤ (pos 2)) (pos 0)) ≡ Some 172800 }
 {}
 
@@ -64,6 +66,6 @@ pub fn lines_are_cut_into_tokens()
     ensures separators { tokens (codes " \tEMRAT  81\tAU 1 ")
         ≡ codes "EMRAT" ∷ codes "81" ∷ codes "AU" ∷ codes "1" ∷ [] }
     ensures blank { tokens (codes " \t ") ≡ [] }
-    ensures numbers { text_lines (codes "one\n \t\n\n2 3\n") ≡ record { number = 1; bytes = codes "one" }
-        ∷ record { number = 4; bytes = codes "2 3" } ∷ [] }
+    ensures numbers { text_lines (codes "one\n \t\n\n2 3\n")
+        ≡ record { number = 1; bytes = codes "one" } ∷ record { number = 4; bytes = codes "2 3" } ∷ [] }
 {}

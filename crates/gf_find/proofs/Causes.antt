@@ -10,8 +10,9 @@ use Rattle.gf_edges.specs.Edges.{Files, Rose}
 use Rattle.gf_files.specs.declared.errors.FilesError.{FilesError}
 use Rattle.gf_files.specs.declared.errors.FilesError.TheVariants as errors
 use Rattle.line_search.specs.MercuryX.{is_line}
-use Rattle.gf_find.specs.Answers.{AreNotSearched, AreSearched, Asks, FailsToRead, IsRefused, RefusesFile, Words, texts_of}
+use Rattle.gf_find.specs.Answers.{AreNotSearched, AreSearched, Asks, IsRefused, RefusesFile}
 use Rattle.gf_find.specs.Errors.{HasName}
+use Rattle.gf_find.specs.Words.{Words, texts_of}
 
 abbrev Texts : Type 0
 Texts = List (List ℕ)
@@ -38,7 +39,7 @@ refused_is_read known names place fault count now file (inr other) failed =
 -- what the words ask for isn't refused
 pub asks_not_refused : (words : Words) (files : Option Files) (names : Texts) (e : Ephemeris) (file : ℕ) (fault : Fault) → IsSome files
     → AreAskedFor (texts_of words) names → IsRefused files names file fault → Asks words files e → ⊥
-asks_not_refused words None names e file fault known asked refused asks = absurd known
+asks_not_refused words None names e file fault known asked refused asks = absurd (cc)
 asks_not_refused words (Some files) names e file fault known asked refused asks =
     searched_not_refused files names e file fault
     (subst (λ (ns : Texts). AreSearched (Some files) ns e) (one_list (texts_of words) asks.names names asks.asked asked) asks.searched) refused
@@ -46,7 +47,7 @@ asks_not_refused words (Some files) names e file fault known asked refused asks 
 -- what the words ask for is read, unless the outside failed
 pub asks_is_read : (words : Words) (files : Option Files) (names : Texts) (e : Ephemeris) (count now file : ℕ) → IsSome files
     → AreAskedFor (texts_of words) names → IsNotRead files names count now file → Asks words files e → Rose count now
-asks_is_read words None names e count now file known asked failed asks = absurd known
+asks_is_read words None names e count now file known asked failed asks = absurd (cc)
 asks_is_read words (Some files) names e count now file known asked failed asks =
     let searched = subst (λ (ns : Texts). AreSearched (Some files) ns e) (one_list (texts_of words) asks.names names asks.asked asked) asks.searched in
     accepted_not_lacking files names e searched.end count now file searched.accepted failed
@@ -54,7 +55,7 @@ asks_is_read words (Some files) names e count now file known asked failed asks =
 -- what is refused isn't searched
 pub refuses_not_searched : (words : Words) (files : Option Files) (names : Texts) (e : Ephemeris) (name : List ℕ) (fault : Fault) → IsSome files
     → AreAskedFor (texts_of words) names → AreSearched files names e → RefusesFile words files name fault → ⊥
-refuses_not_searched words None names e name fault known asked searched refuses = absurd known
+refuses_not_searched words None names e name fault known asked searched refuses = absurd (cc)
 refuses_not_searched words (Some files) names e name fault known asked searched refuses =
     searched_not_refused files names e refuses.file fault searched
     (subst (λ (ns : Texts). IsRefused (Some files) ns refuses.file fault) (one_list (texts_of words) refuses.names names refuses.asked asked) refuses.cause)
@@ -62,7 +63,7 @@ refuses_not_searched words (Some files) names e name fault known asked searched 
 -- what is refused is read, unless the outside failed
 pub refuses_is_read : (words : Words) (files : Option Files) (names : Texts) (name : List ℕ) (fault : Fault) (count now file : ℕ) → IsSome files
     → AreAskedFor (texts_of words) names → IsNotRead files names count now file → RefusesFile words files name fault → Rose count now
-refuses_is_read words None names name fault count now file known asked failed refuses = absurd known
+refuses_is_read words None names name fault count now file known asked failed refuses = absurd (cc)
 refuses_is_read words (Some files) names name fault count now file known asked failed refuses =
     refused_is_read files names refuses.file fault count now file
     (subst (λ (ns : Texts). IsRefused (Some files) ns refuses.file fault) (one_list (texts_of words) refuses.names names refuses.asked asked) refuses.cause) failed

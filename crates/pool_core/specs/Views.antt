@@ -1,8 +1,12 @@
 -- How contracts see a pool.
-use Rattle.std.specs.Prelude.{◌≡◌, Some, None}
+use Rattle.std.specs.Prelude.{◌≡◌, Some, None, Result, IfErr}
+use Rattle.spec_trees.specs.declared.tree.Leaf.{Leaf}
 use Rattle.spec_trees.specs.declared.tree.Node.{Node}
 use Rattle.spec_trees.specs.Tree.{Rules, IsValid}
-use Rattle.spec_pool.specs.Pool.{Holding, holding, State}
+use Rattle.spec_pool.specs.declared.step.Step.{Step}
+use Rattle.spec_pool.specs.Pool.{Holding, holding, Enters, State, Steps, Refuses}
+use Rattle.pool_core.specs.declared.worker.StepError.{StepError}
+use Rattle.pool_core.specs.declared.worker.StepError.TheVariants.{Refused}
 
 -- its judge, its root and its state
 pub record Seen (J : Type 0) : Type 0 where
@@ -19,3 +23,26 @@ HoldsValid t x = (n : Node) → x.hand ≡ Some n → IsValid t n
 
 abbrev pub empty_handed : Holding → Holding
 empty_handed x = holding None x.deque x.kept
+
+-- the step takes the pool from one state to another
+abbrev pub Takes : {J : Type 0} → Rules → Seen J → Step → Seen J → Type 0
+Takes t old step new = Steps t old.state step new.state
+
+-- where the answer is `Refused`, no state comes of the step
+abbrev pub IsRefusal : {J : Type 0} → Rules → Seen J → Step → Result (Unit {0}) StepError → Type 0
+IsRefusal t v step r = IfErr r (λ e. e ≡ Refused → Refuses t v.state step)
+
+-- nothing comes of what a worker holds by R
+abbrev pub IsStuck : (Holding → Holding → Type 0) → Holding → Type 0
+IsStuck R x = (y : Holding) → ¬ R x y
+
+-- what is so where the answer is `Refused`
+abbrev pub IfRefused : Result (Unit {0}) StepError → Type 0 → Type 0
+IfRefused r p = IfErr r (λ e. e ≡ Refused → p)
+
+-- the leaf that the hand's node is, and that there is none
+abbrev pub HoldsLeaf : Rules → Holding → Leaf → Type 0
+HoldsLeaf t x leaf = Enters t leaf x (empty_handed x)
+
+abbrev pub HoldsNoLeaf : Rules → Holding → Type 0
+HoldsNoLeaf t x = (leaf : Leaf) (y : Holding) → ¬ Enters t leaf x y

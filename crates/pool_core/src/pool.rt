@@ -1,10 +1,10 @@
 // The pool of all workers.
 ghost use Rattle.std.specs.Prelude.{◌≡◌, ◌≤◌, List, [], ◌∷◌, ◌++◌, IsTrue, ◌↔◌, OnOk, OnErr, IfOk, IfErr};
 ghost use Rattle.spec_trees.specs.Tree.{IsValid};
-ghost use Rattle.spec_pool.specs.Pool.{Holding, Steals, Steps, Refuses, opening};
+ghost use Rattle.spec_pool.specs.Pool.{Holding, Steals, opening};
 ghost use Rattle.spec_pool.specs.Tiling.{IsDone};
 ghost use Rattle.spec_pool.specs.declared.step.Step.TheVariants.{Push, Keep, Pop, TakeKept, Steal, Enter};
-ghost use Rattle.pool_core.specs.Views.{seen};
+ghost use Rattle.pool_core.specs.Views.{IsRefusal, Takes, seen};
 ghost use Rattle.pool_core.specs.declared.worker.StepError.TheVariants.{Refused, Memory};
 
 use crate::worker::{StepError, Worker};
@@ -31,7 +31,8 @@ impl<J: Judge> Model for Pool<J> {
 
     ghost view = { λ p. seen p.judge p.root (state p.workers.items p.entered.items) };
 
-    ghost invariant = { λ p. Conserves (J.rules p.judge) p.root (state p.workers.items p.entered.items) };
+    ghost invariant = { λ p.
+        Conserves (J.rules p.judge) p.root (state p.workers.items p.entered.items) };
 }
 
 // The workers at the start: the first has the root in its hand, the others have nothing.
@@ -68,8 +69,8 @@ impl<J: Judge> Pool<J> {
     /// Takes a step: `Refused` where its condition is false or a number is past the workers. After a refusal the pool
     /// is unchanged, and so it is where there was no memory for the step.
     pub fn step(&mut self, step: Step) -> Result<(), StepError>
-        ensures ok { OnOk result (Steps (J.rules self.old.judge) self.old.state step self.new.state) }
-        ensures refused { IfErr result (λ e. e ≡ Refused → Refuses (J.rules self.old.judge) self.old.state step) }
+        ensures ok { OnOk result (Takes (J.rules self.old.judge) self.old step self.new) }
+        ensures refused { IsRefusal (J.rules self.old.judge) self.old step result }
         ensures unchanged { OnErr result (self.new ≡ self.old) }
         ensures same { self.new ≡ record self.old { state = self.new.state } }
     {
@@ -99,8 +100,8 @@ impl<J: Judge> Pool<J> {
 
     // Worker `w` splits its node and puts the right part on its deque.
     fn push(&mut self, w: u32) -> Result<(), StepError>
-        ensures ok { OnOk result (Steps (J.rules self.old.judge) self.old.state (Push w) self.new.state) }
-        ensures refused { IfErr result (λ e. e ≡ Refused → Refuses (J.rules self.old.judge) self.old.state (Push w)) }
+        ensures ok { OnOk result (Takes (J.rules self.old.judge) self.old (Push w) self.new) }
+        ensures refused { IsRefusal (J.rules self.old.judge) self.old (Push w) result }
         ensures unchanged { OnErr result (self.new ≡ self.old) }
         ensures same { self.new ≡ record self.old { state = self.new.state } }
     {
@@ -115,8 +116,8 @@ impl<J: Judge> Pool<J> {
 
     // Worker `w` splits its node and puts the right part on its kept stack.
     fn keep(&mut self, w: u32) -> Result<(), StepError>
-        ensures ok { OnOk result (Steps (J.rules self.old.judge) self.old.state (Keep w) self.new.state) }
-        ensures refused { IfErr result (λ e. e ≡ Refused → Refuses (J.rules self.old.judge) self.old.state (Keep w)) }
+        ensures ok { OnOk result (Takes (J.rules self.old.judge) self.old (Keep w) self.new) }
+        ensures refused { IsRefusal (J.rules self.old.judge) self.old (Keep w) result }
         ensures unchanged { OnErr result (self.new ≡ self.old) }
         ensures same { self.new ≡ record self.old { state = self.new.state } }
     {
@@ -131,8 +132,8 @@ impl<J: Judge> Pool<J> {
 
     // Worker `w` takes the front of its deque.
     fn pop(&mut self, w: u32) -> Result<(), StepError>
-        ensures ok { OnOk result (Steps (J.rules self.old.judge) self.old.state (Pop w) self.new.state) }
-        ensures refused { IfErr result (λ e. e ≡ Refused → Refuses (J.rules self.old.judge) self.old.state (Pop w)) }
+        ensures ok { OnOk result (Takes (J.rules self.old.judge) self.old (Pop w) self.new) }
+        ensures refused { IsRefusal (J.rules self.old.judge) self.old (Pop w) result }
         ensures unchanged { OnErr result (self.new ≡ self.old) }
         ensures same { self.new ≡ record self.old { state = self.new.state } }
     {
@@ -147,8 +148,8 @@ impl<J: Judge> Pool<J> {
 
     // Worker `w` takes the top of its kept stack.
     fn take_kept(&mut self, w: u32) -> Result<(), StepError>
-        ensures ok { OnOk result (Steps (J.rules self.old.judge) self.old.state (TakeKept w) self.new.state) }
-        ensures refused { IfErr result (λ e. e ≡ Refused → Refuses (J.rules self.old.judge) self.old.state (TakeKept w)) }
+        ensures ok { OnOk result (Takes (J.rules self.old.judge) self.old (TakeKept w) self.new) }
+        ensures refused { IsRefusal (J.rules self.old.judge) self.old (TakeKept w) result }
         ensures unchanged { OnErr result (self.new ≡ self.old) }
         ensures same { self.new ≡ record self.old { state = self.new.state } }
     {
@@ -163,8 +164,8 @@ impl<J: Judge> Pool<J> {
 
     // Worker `w` takes the front of the deque of worker `from`.
     fn steal(&mut self, w: u32, from: u32) -> Result<(), StepError>
-        ensures ok { OnOk result (Steps (J.rules self.old.judge) self.old.state (Steal w from) self.new.state) }
-        ensures refused { IfErr result (λ e. e ≡ Refused → Refuses (J.rules self.old.judge) self.old.state (Steal w from)) }
+        ensures ok { OnOk result (Takes (J.rules self.old.judge) self.old (Steal w from) self.new) }
+        ensures refused { IsRefusal (J.rules self.old.judge) self.old (Steal w from) result }
         ensures unchanged { OnErr result (self.new ≡ self.old) }
         ensures same { self.new ≡ record self.old { state = self.new.state } }
     {
@@ -174,8 +175,8 @@ impl<J: Judge> Pool<J> {
 
     // Worker `w` enters the leaf in its hand.
     fn enter(&mut self, w: u32) -> Result<(), StepError>
-        ensures ok { OnOk result (Steps (J.rules self.old.judge) self.old.state (Enter w) self.new.state) }
-        ensures refused { IfErr result (λ e. e ≡ Refused → Refuses (J.rules self.old.judge) self.old.state (Enter w)) }
+        ensures ok { OnOk result (Takes (J.rules self.old.judge) self.old (Enter w) self.new) }
+        ensures refused { IsRefusal (J.rules self.old.judge) self.old (Enter w) result }
         ensures unchanged { OnErr result (self.new ≡ self.old) }
         ensures same { self.new ≡ record self.old { state = self.new.state } }
     {

@@ -42,7 +42,6 @@ fn middle(a: i64, b: i64) -> i64
     a + (b - a) / 2
 }
 
-
 impl Judge for Crossing {
     ghost rules = { λ _. crossing };
 

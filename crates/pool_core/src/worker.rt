@@ -4,7 +4,7 @@ ghost use Rattle.spec_trees.specs.declared.tree.Node.{Node};
 ghost use Rattle.spec_trees.specs.declared.tree.Leaf.{Leaf};
 ghost use Rattle.spec_trees.specs.Tree.{IsValid};
 ghost use Rattle.spec_pool.specs.Pool.{Holding, holding, nothing, Pushes, Keeps, Pops, TakesKept, Gets, GivesUp, Enters};
-ghost use Rattle.pool_core.specs.Views.{HoldsValid, empty_handed};
+ghost use Rattle.pool_core.specs.Views.{HoldsLeaf, HoldsNoLeaf, HoldsValid, IfRefused, IsStuck, empty_handed};
 ghost use Rattle.pool_core.specs.declared.worker.StepError.TheVariants.{Refused, Memory};
 
 use halving::{Judge, Leaf, Node, Verdict};
@@ -56,7 +56,7 @@ impl Worker {
     pub fn push<J: Judge>(&mut self, judge: &J) -> Result<(), StepError>
         requires { HoldsValid (J.rules judge.now) self.old }
         ensures ok { OnOk result (Pushes (J.rules judge.now) self.old self.new) }
-        ensures refused { IfErr result (λ e. e ≡ Refused → (y : Holding) → ¬ Pushes (J.rules judge.now) self.old y) }
+        ensures refused { IfRefused result (IsStuck (Pushes (J.rules judge.now)) self.old) }
         ensures unchanged { OnErr result (self.new ≡ self.old) }
     {
         let Some(node) = self.hand else {
@@ -77,7 +77,7 @@ impl Worker {
     pub fn keep<J: Judge>(&mut self, judge: &J) -> Result<(), StepError>
         requires { HoldsValid (J.rules judge.now) self.old }
         ensures ok { OnOk result (Keeps (J.rules judge.now) self.old self.new) }
-        ensures refused { IfErr result (λ e. e ≡ Refused → (y : Holding) → ¬ Keeps (J.rules judge.now) self.old y) }
+        ensures refused { IfRefused result (IsStuck (Keeps (J.rules judge.now)) self.old) }
         ensures unchanged { OnErr result (self.new ≡ self.old) }
     {
         let Some(node) = self.hand else {
@@ -97,7 +97,7 @@ impl Worker {
     /// Takes the front of the deque into the empty hand.
     pub fn pop(&mut self) -> Result<(), StepError>
         ensures ok { OnOk result (Pops self.old self.new) }
-        ensures refused { OnErr result ((y : Holding) → ¬ Pops self.old y) }
+        ensures refused { OnErr result (IsStuck Pops self.old) }
         ensures unchanged { OnErr result (self.new ≡ self.old) }
     {
         if self.hand.is_some() {
@@ -113,7 +113,7 @@ impl Worker {
     /// Takes the top of the kept stack into the empty hand.
     pub fn take_kept(&mut self) -> Result<(), StepError>
         ensures ok { OnOk result (TakesKept self.old self.new) }
-        ensures refused { OnErr result ((y : Holding) → ¬ TakesKept self.old y) }
+        ensures refused { OnErr result (IsStuck TakesKept self.old) }
         ensures unchanged { OnErr result (self.new ≡ self.old) }
     {
         if self.hand.is_some() {
@@ -153,8 +153,8 @@ impl Worker {
     /// The leaf that the node in the hand is, if it isn't to be split.
     pub fn leaf<J: Judge>(&self, judge: &J) -> Option<Leaf>
         requires { HoldsValid (J.rules judge.now) self.now }
-        ensures some { IfSome result (λ l. Enters (J.rules judge.now) l self.now (empty_handed self.now)) }
-        ensures none { IfNone result ((l : Leaf) (y : Holding) → ¬ Enters (J.rules judge.now) l self.now y) }
+        ensures some { IfSome result (λ l. HoldsLeaf (J.rules judge.now) self.now l) }
+        ensures none { IfNone result (HoldsNoLeaf (J.rules judge.now) self.now) }
     {
         let node = self.hand?;
         let mark = judge.judge(node).mark()?;

@@ -136,3 +136,10 @@ pub record TakesBook (m n : Sat) : Type 0 where
   pub log : List Booked
   pub more : StartsWith log (the_part m.0.parts).seen
   pub after : n ≡ (with_part m.0 1 (saw (the_part m.0.parts) log), (0, Some log) ∷ [])
+
+abbrev pub own_part : Sat → Part
+own_part m = the_part m.0.parts
+
+-- the seat without lock and book, with this part
+abbrev pub freed : Sat → Part → Sat
+freed m p = (with_part m.0 0 p, [])

@@ -1,11 +1,12 @@
 -- How contracts see a ledger and its seats.
-use Rattle.std.specs.Prelude.{◌≡◌, ℕ, []}
+use Rattle.std.specs.Prelude.{◌≡◌, ◌<◌, ℕ, pos, List, [], length, slice_index_or, All}
 use Rattle.atomic_table.specs.Seated.{TableId}
+use Rattle.spec_trees.specs.declared.book.Booked.{Booked}
 use Rattle.spec_pool.specs.declared.ledger.Part.{Part}
 use Rattle.spec_pool.specs.declared.ledger.Terms.{Terms}
 use Rattle.spec_pool.specs.declared.ledger.CloseError.{CloseError}
 use Rattle.spec_pool.specs.declared.ledger.CloseError.TheVariants.{Missing}
-use Rattle.spec_pool.specs.History.{part_of}
+use Rattle.spec_pool.specs.History.{FitsPart, part_of}
 use Rattle.span_ledger.specs.declared.desk.LedgerSeat.{LedgerSeat}
 use Rattle.span_ledger.specs.declared.desk.SpanLedger.{SpanLedger}
 use Rattle.span_ledger.specs.Rule.{the_part}
@@ -29,6 +30,18 @@ IsMade z k seat = (seat.raw.table_id ≡ z) × (part seat ≡ part_of k [] [] []
 abbrev pub IsNew : SpanLedger → ℕ → LedgerSeat → Type 0
 IsNew ledger k seat = IsMade ledger.table.shared.table_id k seat
 
+-- the seats are of the ledger, have their places as numbers and have entered nothing
+abbrev pub AreNew : SpanLedger → List LedgerSeat → Type 0
+AreNew ledger seats = (k : ℕ) (d : LedgerSeat) → k < length seats → IsNew ledger k (slice_index_or seats k d)
+
+-- what each seat knows fits the history
+abbrev pub AllFit : List Booked → List LedgerSeat → Type 0
+AllFit log seats = All (λ s. FitsPart log (part s)) seats
+
 -- the two numbers that are told
 abbrev pub IsMissing : ℕ → ℕ → CloseError → Type 0
 IsMissing given made (Missing g m) = (g ≡ given) × (m ≡ made)
+
+-- the root of a test: a thousand seconds for each number of a seat
+abbrev pub IsThousands : SpanLedger → Type 0
+IsThousands ledger = ((terms ledger).root.a ≡ pos 0) × ((terms ledger).root.b ≡ pos 64000)

@@ -1,13 +1,13 @@
 // Making a ledger with its seats, and closing it.
-ghost use Rattle.std.specs.Prelude.{◌≡◌, ◌≢◌, ℕ, slice_index_or, ◌<◌, ◌≤◌, ◌^◌, length, IfOk, IfErr, All};
-ghost use Rattle.spec_pool.specs.History.{FitsPart, Sound, terms_of};
-ghost use Rattle.span_ledger.specs.Seats.{IsMissing, IsNew, IsSeatOf, part, terms};
+ghost use Rattle.std.specs.Prelude.{◌≡◌, ◌≢◌, ◌<◌, ◌≤◌, ◌^◌, length, IfOk, IfErr, All};
+ghost use Rattle.spec_pool.specs.History.{Sound, terms_of};
+ghost use Rattle.span_ledger.specs.Seats.{AllFit, AreNew, IsMissing, IsSeatOf, part, terms};
 
 use crate::desk::{LedgerSeat, SpanLedger};
 use crate::ledger::{Ledger, Ways};
 use crate::register::Register;
-use spec_trees::{Book, Node};
 use spec_pool::{CloseError, Memory, Terms};
+use spec_trees::{Book, Node};
 use std::alloc::Global;
 
 const BOOK: usize = 0;
@@ -24,7 +24,7 @@ impl SpanLedger {
         requires seats { (1 ≤ seats) × (seats ≤ 64) }
         ensures terms { IfOk result (λ r. terms r.0 ≡ terms_of root limit seats) }
         ensures count { IfOk result (λ r. length r.1.items ≡ seats) }
-        ensures made { IfOk result (λ r. (k : ℕ) (d : _) → k < length r.1.items → IsNew r.0 k (slice_index_or r.1.items k d)) }
+        ensures made { IfOk result (λ r. AreNew r.0 r.1.items) }
     {
         let mut slots = Vec::new(alloc);
         let Ok(_) = slots.push(Some(Register::new(alloc))) else {
@@ -64,7 +64,7 @@ impl SpanLedger {
         requires few { length seats.items < 2 ^ 32 }
         ensures root { IfOk result (λ book. book.root ≡ (terms self).root) }
         ensures sound { IfOk result (λ book. Sound (terms self) book.entries.items) }
-        ensures seats { IfOk result (λ book. All (λ s. FitsPart book.entries.items (part s)) seats.items) }
+        ensures seats { IfOk result (λ book. AllFit book.entries.items seats.items) }
         ensures all { IfOk result (λ book. length seats.items ≡ (terms self).seats) }
         ensures missing { IfErr result (λ e. length seats.items ≢ (terms self).seats) }
         ensures numbers { IfErr result (λ e. IsMissing (length seats.items) (terms self).seats e) }
@@ -96,5 +96,15 @@ impl SpanLedger {
             root: self.root,
             entries: register.into_entries(),
         })
+    }
+}
+
+impl LedgerSeat {
+    /// The seat's number.
+    pub fn number(&self) -> u32
+        ensures number { result ≡ (part self.now).number }
+        ensures small { result < 64 }
+    {
+        self.number
     }
 }

@@ -2,13 +2,13 @@
 ghost use Rattle.std.specs.Prelude.{◌≡◌, ◌+◌, ◌<◌, ◌≤◌, ◌≤ℤ◌, [], ◌∷◌, ◌++◌, length, List, Some, IsTrue, IsFalse};
 ghost use Rattle.spec_trees.specs.declared.book.Booked.{Booked};
 ghost use Rattle.spec_pool.specs.History.{StartsWith, Stands, LiesIn, Tells, Entering, saw, repeated};
-ghost use Rattle.span_ledger.specs.Rule.{the_part, with_part, Writes, IsIdle, HasBook, TakesBook};
+ghost use Rattle.span_ledger.specs.Rule.{HasBook, IsIdle, TakesBook, Writes, freed, own_part};
 ghost use Rattle.span_ledger.specs.Seats.{IsSeatOf, part, terms};
 
 use crate::desk::{LedgerSeat, SpanLedger};
 use crate::ledger::{Add, Free, Lock, Raw};
-use spec_trees::{Booked, Leaf};
 use spec_pool::Entry;
+use spec_trees::{Booked, Leaf};
 use std::sync::Wait;
 use std::thread;
 
@@ -33,7 +33,7 @@ fn try_lock(ledger: &SpanLedger, raw: &mut Raw) -> bool
 fn write(ledger: &SpanLedger, raw: &mut Raw, entry: Booked) -> Entry
     requires ours { raw.old.table_id ≡ ledger.now.table.shared.table_id }
     requires held { HasBook raw.old.me }
-    requires own { (entry.seat ≡ (the_part raw.old.me.0.parts).number) × (entry.seat < 64) }
+    requires own { (entry.seat ≡ (own_part raw.old.me).number) × (entry.seat < 64) }
     requires inside { LiesIn (terms ledger.now).root entry.leaf }
     ensures same { raw.new.table_id ≡ raw.old.table_id }
     ensures told { Writes ledger.now.limit raw.old.me entry result raw.new.me }
@@ -66,7 +66,7 @@ fn release(ledger: &SpanLedger, raw: &mut Raw)
     requires ours { raw.old.table_id ≡ ledger.now.table.shared.table_id }
     requires held { HasBook raw.old.me }
     ensures same { raw.new.table_id ≡ raw.old.table_id }
-    ensures free { raw.new.me ≡ (with_part raw.old.me.0 0 (the_part raw.old.me.0.parts), []) }
+    ensures free { raw.new.me ≡ freed raw.old.me (own_part raw.old.me) }
 {
     ledger.table.shared.store::<Free>(raw, LOCK, 0);
 }
@@ -75,9 +75,9 @@ fn release(ledger: &SpanLedger, raw: &mut Raw)
 fn release_again(ledger: &SpanLedger, raw: &mut Raw, place: u32, leaf: Leaf)
     requires ours { raw.old.table_id ≡ ledger.now.table.shared.table_id }
     requires held { HasBook raw.old.me }
-    requires stands { Stands leaf (the_part raw.old.me.0.parts).seen place }
+    requires stands { Stands leaf (own_part raw.old.me).seen place }
     ensures same { raw.new.table_id ≡ raw.old.table_id }
-    ensures free { raw.new.me ≡ (with_part raw.old.me.0 0 (repeated (the_part raw.old.me.0.parts) leaf), []) }
+    ensures free { raw.new.me ≡ freed raw.old.me (repeated (own_part raw.old.me) leaf) }
 {
     ledger
         .table
@@ -104,11 +104,12 @@ fn lock<R: Wait>(rt: &R, ledger: &SpanLedger, raw: &mut Raw)
 fn put(ledger: &SpanLedger, raw: &mut Raw, entry: Booked) -> Entry
     requires ours { raw.old.table_id ≡ ledger.now.table.shared.table_id }
     requires held { HasBook raw.old.me }
-    requires own { (entry.seat ≡ (the_part raw.old.me.0.parts).number) × (entry.seat < 64) }
+    requires own { (entry.seat ≡ (own_part raw.old.me).number) × (entry.seat < 64) }
     requires inside { LiesIn (terms ledger.now).root entry.leaf }
     ensures same { raw.new.table_id ≡ raw.old.table_id }
-    ensures idle { (raw.new.me.0.holds ≡ 0) × (raw.new.me.1 ≡ []) × (length raw.new.me.0.parts ≡ 1) }
-    ensures told { Tells ledger.now.limit (the_part raw.old.me.0.parts).seen entry (the_part raw.old.me.0.parts) (the_part raw.new.me.0.parts) result }
+    ensures idle { IsIdle raw.new.me }
+    ensures told { Tells ledger.now.limit (own_part raw.old.me).seen entry
+        (own_part raw.old.me) (own_part raw.new.me) result }
 {
     let entered = write(ledger, raw, entry);
     if let Entry::Again { place } = entered {
@@ -126,7 +127,8 @@ impl SpanLedger {
         requires ours { IsSeatOf self.now seat.old }
         requires inside { LiesIn (terms self.now).root leaf }
         ensures ours { IsSeatOf self.now seat.new }
-        ensures entering { Entering (terms self.now).limit leaf (part seat.old) (part seat.new) result }
+        ensures entering { Entering (terms self.now).limit leaf
+            (part seat.old) (part seat.new) result }
     {
         lock(rt, self, &mut seat.raw);
         let entry = Booked {

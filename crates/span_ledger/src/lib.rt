@@ -10,5 +10,8 @@ mod ledger;
 mod register;
 
 pub use desk::{LedgerSeat, SpanLedger};
-pub use spec_trees::{Book, Booked};
 pub use spec_pool::{CloseError, Entry, Memory};
+pub use spec_trees::{Book, Booked};
+
+#[cfg(test)]
+mod tests;

@@ -140,8 +140,7 @@ step_changes t s (Push w) s' c p m =
     let q : Deque = found.0 in
     let r : Deque = record q { items = q.items ++ right ∷ []; put = q.put ++ right ∷ [] } in
     let puts : PutsRight t right a b = record { node = d.node; in_hand = o.hand ∙ d.in_hand; split = d.split; part = refl; after = refl } in
-    let gains : GainsBack right q r = record { after = refl } in
-    (
+    let gains : GainsBack right q r = record { after = refl } in (
       accounts (slice_set c.workers w b) (slice_set c.deques w r),
       (right, at_account (PutsRight t right) c w step.old o b puts, record { old = q; new = r; here = found.1; goes = gains; others = refl }),
       with_both s s' c m w step.old step.new step.here step.others b r (ap held_hand (sym d.after)) (o.kept ∙ ap held_kept (sym d.after)) (ap (λ (l : List Node). l ++ right ∷ []) found.2 ∙ ap held_deque (sym d.after)),
@@ -153,8 +152,7 @@ step_changes t s (Keep w) s' c p m =
     let a : Account = o.account in
     let right : Node = (t.parts d.node).1 in
     let b : Account = record a { hand = Some (t.parts d.node).0; kept = a.kept ++ right ∷ [] } in
-    let keeps : KeepsRight t a b = record { node = d.node; in_hand = o.hand ∙ d.in_hand; split = d.split; after = refl } in
-    (
+    let keeps : KeepsRight t a b = record { node = d.node; in_hand = o.hand ∙ d.in_hand; split = d.split; after = refl } in (
       accounts (slice_set c.workers w b) c.deques,
       (at_account (KeepsRight t) c w step.old o b keeps, refl),
       with_worker s s' c m w step.old step.new step.here step.others b (ap held_hand (sym d.after)) (ap (λ (l : List Node). l ++ right ∷ []) o.kept ∙ ap held_kept (sym d.after)) (ap held_deque d.after),
@@ -170,8 +168,7 @@ step_changes t s (Pop w) s' c p m =
     let q : Deque = found.0 in
     let r : Deque = record q { items = d.rest; taken = q.taken ++ n ∷ [] } in
     let takes : TakesNode n a b = record { empty = o.hand ∙ d.empty; after = refl } in
-    let loses : LosesFront n q r = record { rest = d.rest; front = found.2 ∙ d.front; after = refl } in
-    (
+    let loses : LosesFront n q r = record { rest = d.rest; front = found.2 ∙ d.front; after = refl } in (
       accounts (slice_set c.workers w b) (slice_set c.deques w r),
       (n, at_account (TakesNode n) c w step.old o b takes, record { old = q; new = r; here = found.1; goes = loses; others = refl }),
       with_both s s' c m w step.old step.new step.here step.others b r (ap held_hand (sym d.after)) (o.kept ∙ ap held_kept (sym d.after)) (ap held_deque (sym d.after)),
@@ -182,8 +179,7 @@ step_changes t s (TakeKept w) s' c p m =
     let o = of_worker s c w step.old m step.here in
     let a : Account = o.account in
     let b : Account = record a { hand = Some d.node; kept = d.rest } in
-    let takes : TakesTop a b = record { node = d.node; rest = d.rest; empty = o.hand ∙ d.empty; top = o.kept ∙ d.top; after = refl } in
-    (
+    let takes : TakesTop a b = record { node = d.node; rest = d.rest; empty = o.hand ∙ d.empty; top = o.kept ∙ d.top; after = refl } in (
       accounts (slice_set c.workers w b) c.deques,
       (at_account TakesTop c w step.old o b takes, refl),
       with_worker s s' c m w step.old step.new step.here step.others b (ap held_hand (sym d.after)) (ap held_kept (sym d.after)) (ap held_deque d.after),
@@ -204,8 +200,7 @@ step_changes t s (Steal w from) s' c p m =
     let o = of_worker mid c' w get.old between get.here in
     let a : Account = o.account in
     let b : Account = record a { hand = Some n; taken = a.taken ++ n ∷ [] } in
-    let takes : TakesNode n a b = record { empty = o.hand ∙ get.goes.empty; after = refl } in
-    (
+    let takes : TakesNode n a b = record { empty = o.hand ∙ get.goes.empty; after = refl } in (
       accounts (slice_set c.workers w b) (slice_set c.deques from r),
       (n, at_account (TakesNode n) c' w get.old o b takes, record { old = q; new = r; here = found.1; goes = loses; others = refl }),
       with_worker mid s' c' between w get.old get.new get.here get.others b (ap held_hand (sym get.goes.after)) (o.kept ∙ ap held_kept (sym get.goes.after)) (ap held_deque get.goes.after),
@@ -216,8 +211,7 @@ step_changes t s (Enter w) s' c p m =
     let o = of_worker s c w step.old m step.here in
     let a : Account = o.account in
     let b : Account = record a { hand = None; entered = a.entered ++ leaf_of d.node d.mark ∷ [] } in
-    let enters : EntersNode t a b = record { node = d.node; mark = d.mark; in_hand = o.hand ∙ d.in_hand; marked = d.marked; after = refl } in
-    (
+    let enters : EntersNode t a b = record { node = d.node; mark = d.mark; in_hand = o.hand ∙ d.in_hand; marked = d.marked; after = refl } in (
       accounts (slice_set c.workers w b) c.deques,
       (at_account (EntersNode t) c w step.old o b enters, refl),
       with_worker s s' c m w step.old step.new step.here step.others b (ap held_hand (sym d.after)) (o.kept ∙ ap held_kept (sym d.after)) (ap held_deque d.after),

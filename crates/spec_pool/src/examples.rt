@@ -7,9 +7,7 @@ ghost use Rattle.spec_pool.specs.Examples.{crossing, four_hundred};
 
 /// Four hundred seconds with one crossing have four leaves, so a pool has ten steps to take.
 pub fn ten_steps_for_four_leaves()
-    ensures leaves {
-        map (λ l. l.node.a) (leaves crossing four_hundred)
-        ≡ pos 1339000 ∷ pos 1339100 ∷ pos 1339150 ∷ pos 1339200 ∷ []
-    }
+    ensures leaves { map (λ l. l.node.a) (leaves crossing four_hundred)
+        ≡ pos 1339000 ∷ pos 1339100 ∷ pos 1339150 ∷ pos 1339200 ∷ [] }
     ensures todo { todo crossing (opening four_hundred 2) ≡ 10 }
 {}

@@ -91,6 +91,7 @@ impl Shelf for EndlessShelf {
 }
 
 // Three files, the call of the shelf that fails, the names that are opened, and the error.
+#[derive(Clone, Copy)]
 struct Row {
     texts: [(&'static str, &'static str); 3],
     failing: u64,

@@ -1,6 +1,7 @@
 -- The words name one list of files, and of files that are known one thing alone is true.
-use Rattle.std.proofs.Common.{◌≡◌, ◌⊎◌, ◌+◌, ◌<◌, ℕ, zero, suc, Bool, true, false, List, [], ◌∷◌, length, drop, Option, None, Some, refl, sym, ap, ◌∙◌, subst, arith, inl, inr}
-use Rattle.std.specs.Prelude.{IsSome, slice_get}
+use Rattle.std.proofs.Common.{◌≡◌, ◌⊎◌, ◌+◌, ◌<◌, ℕ, Bool, true, false, List, length, drop, Option, None, Some, refl, sym, ap, ◌∙◌, subst, arith, inl, inr}
+use Rattle.std.proofs.lemmas.Option.{slice_get_within}
+use Rattle.std.specs.Prelude.{IsSome}
 use Rattle.spec_text.specs.declared.decimals.Fault.{Fault}
 use Rattle.spec_ephemeris.specs.Ephemeris.{Ephemeris}
 use Rattle.spec_requests.specs.Words.{AreAskedFor}
@@ -68,12 +69,6 @@ refuses_is_read words (Some files) names name fault count now file known asked f
     refused_is_read files names refuses.file fault count now file
     (subst (λ (ns : Texts). IsRefused (Some files) ns refuses.file fault) (one_list (texts_of words) refuses.names names refuses.asked asked) refuses.cause) failed
 
-some_inside : (names : Texts) (i : ℕ) (name : List ℕ) → slice_get names i ≡ Some name → i < length names
-some_inside [] zero name is = absurd (cc)
-some_inside [] (suc i) name is = absurd (cc)
-some_inside (n ∷ names) zero name is = omega arith
-some_inside (n ∷ names) (suc i) name is = let inner = some_inside names i name is in omega (arith, inner)
-
 refused_inside : (files : Option Files) (names : Texts) (file : ℕ) (fault : Fault) → IsRefused files names file fault → file < length names
 refused_inside files names file fault (inl (inl many)) = let first = many.first in let more = many.many in omega (arith, first, more)
 refused_inside files names file fault (inl (inr first)) = first.inside
@@ -84,5 +79,5 @@ pub has_name : (files : Option Files) (names : Texts) (count now : ℕ) (error :
     → ((file : ℕ) (fault : Fault) → error ≡ errors.Fault file fault → IsRefused files names file fault)
     → ((file : ℕ) → error ≡ errors.NotRead file → IsNotRead files names count now file) → HasName names error
 has_name files names count now (errors.Fault file fault) refused failed = refused_inside files names file fault (refused file fault refl)
-has_name files names count now (errors.NotRead file) refused failed = let is = failed file refl in some_inside names file is.name is.here
+has_name files names count now (errors.NotRead file) refused failed = let is = failed file refl in slice_get_within names file is.name is.here
 has_name files names count now errors.Memory refused failed = tt

@@ -35,53 +35,28 @@ GROUP 1070
 0.0 0.0 0.0
 ";
 
-// What a file holds: lines of the text above, from one number to before another, some of them changed; then blocks of
-// zeros, each of which begins where the last ended; and then one word of so many zeros.
+// What a file holds.
 #[derive(Clone, Copy)]
-struct Text {
-    from: usize,
-    end: usize,
-    changes: &'static [(usize, &'static str)],
-    blocks: i64,
-    zeros: usize,
+enum Text<'a> {
+    /// The lines of the text above from one number to before another, some of them changed.
+    Part(usize, usize, &'a [(usize, &'a str)]),
+    /// The whole text above, some lines changed.
+    Changed(&'a [(usize, &'a str)]),
+    /// The header, and so many blocks of zeros.
+    Blocks(i64),
+    /// One word of so many zeros.
+    Zeros(usize),
 }
 
-const fn lines(from: usize, end: usize, changes: &'static [(usize, &'static str)]) -> Text {
-    Text {
-        from,
-        end,
-        changes,
-        blocks: 0,
-        zeros: 0,
-    }
-}
+use Text::{Blocks, Changed, Part, Zeros};
 
-// The whole text with these lines changed.
-const fn changed(changes: &'static [(usize, &'static str)]) -> Text {
-    lines(1, 27, changes)
-}
+const WHOLE: Text<'static> = Changed(&[]);
 
-// The header, and so many blocks of zeros.
-const fn blocks(blocks: i64) -> Text {
-    Text {
-        blocks,
-        ..lines(1, 17, &[])
-    }
-}
+const HEADER: Text<'static> = Part(1, 17, &[]);
 
-// One word of so many zeros.
-const fn zeros(zeros: usize) -> Text {
-    Text {
-        zeros,
-        ..lines(1, 1, &[])
-    }
-}
+const BLOCK: Text<'static> = Part(17, 27, &[]);
 
-const WHOLE: Text = changed(&[]);
-
-const HEADER: Text = lines(1, 17, &[]);
-
-const BLOCK: Text = lines(17, 27, &[]);
+type Files<'a> = &'a [(&'a str, Text<'a>)];
 
 // How the outside behaves: which call of the shelf and of the output fails, the most that one write takes, and the room
 // of the error output.
@@ -102,13 +77,13 @@ const SOUND: Outside = Outside {
 
 // A run: its words and files, and what it is to answer and write. Of a report the windows and counts are told.
 #[derive(Clone, Copy)]
-struct Run {
-    words: &'static str,
-    files: &'static [(&'static str, Text)],
+struct Run<'a> {
+    words: &'a str,
+    files: Files<'a>,
     outside: Outside,
     status: u8,
-    out: &'static str,
-    err: &'static str,
+    out: &'a str,
+    err: &'a str,
 }
 
 const A: &str = "find --kind coord --target mercury --axis x a";
@@ -123,11 +98,7 @@ const TOO_MANY: &str =
 const RISE: &str = "C 1339200 1339200 rise\nEND certain 1 undecided 0\n";
 
 // A run that writes a report.
-const fn reports(
-    words: &'static str,
-    files: &'static [(&'static str, Text)],
-    out: &'static str,
-) -> Run {
+fn reports<'a>(words: &'a str, files: Files<'a>, out: &'a str) -> Run<'a> {
     Run {
         words,
         files,
@@ -139,10 +110,10 @@ const fn reports(
 }
 
 // A run that refuses its words.
-const fn refuses_words(words: &'static str) -> Run {
+fn refuses_words<'a>(words: &'a str, files: Files<'a>) -> Run<'a> {
     Run {
         words,
-        files: &[("a", WHOLE)],
+        files,
         outside: SOUND,
         status: WORDS_REFUSED,
         out: "",
@@ -151,11 +122,7 @@ const fn refuses_words(words: &'static str) -> Run {
 }
 
 // A run that refuses a file.
-const fn refuses(
-    words: &'static str,
-    files: &'static [(&'static str, Text)],
-    err: &'static str,
-) -> Run {
+fn refuses<'a>(words: &'a str, files: Files<'a>, err: &'a str) -> Run<'a> {
     Run {
         words,
         files,
@@ -167,10 +134,10 @@ const fn refuses(
 }
 
 // A run of two whole files that fails to read one.
-const fn fails_to_read(shelf_fails: u64, err: &'static str) -> Run {
+fn fails_to_read<'a>(shelf_fails: u64, files: Files<'a>, err: &'a str) -> Run<'a> {
     Run {
         words: A_B,
-        files: &[("a", WHOLE), ("b", BLOCK)],
+        files,
         outside: Outside {
             shelf_fails,
             ..SOUND
@@ -181,171 +148,151 @@ const fn fails_to_read(shelf_fails: u64, err: &'static str) -> Run {
     }
 }
 
-const REPORTS: [Run; 12] = [
-    reports(A, &[("a", WHOLE)], RISE),
-    reports(
+// Words, files, and the windows and counts that are reported.
+const REPORTS: [(&'static str, Files<'static>, &'static str); 11] = [
+    (A, &[("a", WHOLE)], RISE),
+    (
         A,
-        &[("a", changed(&[(19, "-1382400 0.0 0.0")]))],
+        &[("a", Changed(&[(19, "-1382400 0.0 0.0")]))],
         "C 1339201 1339201 fall\nEND certain 1 undecided 0\n",
     ),
-    reports(
+    (
         A,
         &[(
             "a",
-            changed(&[(18, "2451544.5 2451576.5 -5"), (19, "0 0.0 0.0")]),
+            Changed(&[(18, "2451544.5 2451576.5 -5"), (19, "0 0.0 0.0")]),
         )],
         "END certain 0 undecided 0\n",
     ),
-    reports(
+    (
         A,
-        &[("a", changed(&[(18, "2451544.5 2451576.5 -1234567.25")]))],
+        &[("a", Changed(&[(18, "2451544.5 2451576.5 -1234567.25")]))],
         "C 2573768 2573768 rise\nEND certain 1 undecided 0\n",
     ),
-    reports(
+    (
         A,
         &[(
             "a",
-            changed(&[(18, "2451544.5 2451576.5 .7"), (19, "-3 0.0 0.0")]),
+            Changed(&[(18, "2451544.5 2451576.5 .7"), (19, "-3 0.0 0.0")]),
         )],
         "U 1661760 1661761\nEND certain 0 undecided 1\n",
     ),
-    reports(
+    (
         A,
         &[(
             "a",
-            changed(&[(18, "2451544.5 2451576.5 0.1D-11"), (19, "0 0.0 0.0")]),
+            Changed(&[(18, "2451544.5 2451576.5 0.1D-11"), (19, "0 0.0 0.0")]),
         )],
         "END certain 0 undecided 0\n",
     ),
-    reports(A_B, &[("a", lines(1, 1, &[])), ("b", WHOLE)], RISE),
-    reports(
+    (A_B, &[("a", Part(1, 1, &[])), ("b", WHOLE)], RISE),
+    (
         A_B,
-        &[("a", lines(1, 9, &[])), ("b", lines(9, 27, &[]))],
+        &[("a", Part(1, 9, &[])), ("b", Part(9, 27, &[]))],
         RISE,
     ),
-    reports(
+    (
         A_B,
-        &[("b", lines(18, 27, &[])), ("a", lines(1, 18, &[]))],
+        &[("b", Part(18, 27, &[])), ("a", Part(1, 18, &[]))],
         RISE,
     ),
-    reports(A_B, &[("a", WHOLE), ("b", BLOCK)], RISE),
-    reports(
+    (A_B, &[("a", WHOLE), ("b", BLOCK)], RISE),
+    (
         A_B_C,
         &[
-            ("a", lines(1, 2, &[])),
-            ("b", lines(2, 20, &[])),
-            ("c", lines(20, 27, &[])),
+            ("a", Part(1, 2, &[])),
+            ("b", Part(2, 20, &[])),
+            ("c", Part(20, 27, &[])),
         ],
         RISE,
     ),
-    Run {
-        outside: Outside {
-            out_fails: 2,
-            out_piece: 4096,
-            ..SOUND
-        },
-        ..reports(A, &[("a", WHOLE)], RISE)
-    },
 ];
 
-const OUTER_FAULTS: [Run; 13] = [
-    refuses_words("find --kind coord --target mercury --axis y a"),
-    refuses_words("find --kind coord --axis x --target mercury a"),
-    refuses_words("find --kind coord --target mercury --axis x a -b"),
-    refuses_words("find --kind coord --target mercury --axis x"),
-    refuses(TOO_MANY, &[], "finder: file z line 0: 5 TooManyFiles\n"),
-    fails_to_read(1, "finder: read fault a\n"),
-    fails_to_read(3, "finder: read fault a\n"),
-    fails_to_read(4, "finder: read fault b\n"),
-    fails_to_read(6, "finder: read fault b\n"),
-    Run {
-        files: &[("a", WHOLE)],
-        ..fails_to_read(0, "finder: read fault b\n")
-    },
-    Run {
-        outside: Outside {
-            out_fails: 2,
-            ..SOUND
-        },
-        status: NOT_WRITTEN,
-        err: "finder: write fault\n",
-        ..reports(A, &[("a", WHOLE)], "FIND coord targe")
-    },
-    refuses(
+// Words that ask for nothing that is built.
+const OTHER_WORDS: [&str; 4] = [
+    "find --kind coord --target mercury --axis y a",
+    "find --kind coord --axis x --target mercury a",
+    "find --kind coord --target mercury --axis x a -b",
+    "find --kind coord --target mercury --axis x",
+];
+
+// The call of the shelf that fails, and the file that is named. Of files a and b the calls 1 to 3 are of a.
+const READ_FAULTS: [(u64, Files<'static>, &'static str); 5] = [
+    (1, &[("a", WHOLE), ("b", BLOCK)], "finder: read fault a\n"),
+    (3, &[("a", WHOLE), ("b", BLOCK)], "finder: read fault a\n"),
+    (4, &[("a", WHOLE), ("b", BLOCK)], "finder: read fault b\n"),
+    (6, &[("a", WHOLE), ("b", BLOCK)], "finder: read fault b\n"),
+    (0, &[("a", WHOLE)], "finder: read fault b\n"),
+];
+
+// Words, files, and the line of the fault.
+const HEADER_FAULTS: [(&'static str, Files<'static>, &'static str); 15] = [
+    (TOO_MANY, &[], "finder: file z line 0: 5 TooManyFiles\n"),
+    (
         A_B,
-        &[("a", changed(&[(1, "KSIZE= 52")]))],
+        &[("a", Changed(&[(1, "KSIZE= 52")]))],
         "finder: file a line 1: 10 FirstLine\n",
     ),
-    Run {
-        outside: Outside {
-            err_room: 10,
-            ..SOUND
-        },
-        ..refuses(A, &[("a", changed(&[(1, "KSIZE= 52")]))], "finder: fi")
-    },
-];
-
-const HEADER_FAULTS: [Run; 13] = [
-    refuses(
+    (
         A,
-        &[("a", changed(&[(1, "KSIZE= 52 NCOEFF= 2")]))],
+        &[("a", Changed(&[(1, "KSIZE= 52 NCOEFF= 2")]))],
         "finder: file a line 1: 20 Limit\n",
     ),
-    refuses(
+    (
         A,
-        &[("a", changed(&[(4, "GROUP 1031")]))],
+        &[("a", Changed(&[(4, "GROUP 1031")]))],
         "finder: file a line 4: 11 GroupMissing 1030\n",
     ),
-    refuses(
+    (
         A,
-        &[("a", changed(&[(5, "2451544.50 2451576.50")]))],
+        &[("a", Changed(&[(5, "2451544.50 2451576.50")]))],
         "finder: file a line 5: 21 HeaderNumber 1\n",
     ),
-    refuses(
+    (
         A,
-        &[("a", changed(&[(5, "2451544.500001 2451576.50 32.")]))],
+        &[("a", Changed(&[(5, "2451544.500001 2451576.50 32.")]))],
         "finder: file a line 5: 12 JdNotWholeSecond\n",
     ),
-    refuses(
+    (
         A,
-        &[("a", changed(&[(7, "2001")]))],
+        &[("a", Changed(&[(7, "2001")]))],
         "finder: file a line 7: 20 Limit\n",
     ),
-    refuses(
+    (
         A,
-        &[("a", changed(&[(8, "EMRAT0")]))],
+        &[("a", Changed(&[(8, "EMRAT0")]))],
         "finder: file a line 10: 14 EmratMissing\n",
     ),
-    refuses(
+    (
         A,
-        &[("a", changed(&[(10, "2")]))],
+        &[("a", Changed(&[(10, "2")]))],
         "finder: file a line 10: 13 CountMismatch\n",
     ),
-    refuses(
+    (
         A,
-        &[("a", changed(&[(11, "0.5")]))],
+        &[("a", Changed(&[(11, "0.5")]))],
         "finder: file a line 11: 15 EmratRange\n",
     ),
-    refuses(
+    (
         A,
-        &[("a", changed(&[(13, "3 9 9 15 15 15 15 15 15 15 21 27")]))],
+        &[("a", Changed(&[(13, "3 9 9 15 15 15 15 15 15 15 21 27")]))],
         "finder: file a line 13: 16 ColumnCount\n",
     ),
-    refuses(
+    (
         A,
-        &[("a", changed(&[(14, "33 0 2 0 0 0 0 0 0 2 2 0 0")]))],
+        &[("a", Changed(&[(14, "33 0 2 0 0 0 0 0 0 2 2 0 0")]))],
         "finder: file a line 15: 18 CoefficientCount\n",
     ),
-    refuses(
+    (
         A,
-        &[("a", changed(&[(13, "3 9 9 15 15 15 15 15 15 15 22 27 27")]))],
+        &[("a", Changed(&[(13, "3 9 9 15 15 15 15 15 15 15 22 27 27")]))],
         "finder: file a line 15: 17 ColumnPlace\n",
     ),
-    refuses(
+    (
         A,
         &[(
             "a",
-            changed(&[
+            Changed(&[
                 (5, "2451544.50 2451576.50 0.0003125"),
                 (14, "1 0 2 0 0 0 0 0 0 2 2 0 0"),
                 (15, "2 0 1 0 0 0 0 0 0 1 1 0 0"),
@@ -353,111 +300,105 @@ const HEADER_FAULTS: [Run; 13] = [
         )],
         "finder: file a line 15: 19 GranuleNotWhole\n",
     ),
-    refuses(
+    (
         A,
-        &[("a", lines(1, 16, &[]))],
+        &[("a", Part(1, 16, &[]))],
         "finder: file a line 16: 22 Ended\n",
     ),
 ];
 
-const BLOCK_FAULTS: [Run; 11] = [
-    refuses(
+const BLOCK_FAULTS: [(&'static str, Files<'static>, &'static str); 11] = [
+    (
         A,
-        &[("a", changed(&[(17, "1")]))],
+        &[("a", Changed(&[(17, "1")]))],
         "finder: file a line 17: 30 RecordLine\n",
     ),
-    refuses(
+    (
         A,
-        &[("a", changed(&[(17, "1 27")]))],
+        &[("a", Changed(&[(17, "1 27")]))],
         "finder: file a line 17: 31 NcoeffDiffers\n",
     ),
-    refuses(
+    (
         A,
-        &[("a", changed(&[(18, "2451544.5 2451560.5 0.0")]))],
+        &[("a", Changed(&[(18, "2451544.5 2451560.5 0.0")]))],
         "finder: file a line 18: 32 BlockSpan\n",
     ),
-    refuses(
+    (
         A,
-        &[("a", changed(&[(18, "2451544.5 2451576.5 0.1D+12")]))],
+        &[("a", Changed(&[(18, "2451544.5 2451576.5 0.1D+12")]))],
         "finder: file a line 18: 35 TooLarge\n",
     ),
-    refuses(
+    (
         A,
-        &[("a", changed(&[(26, "0.0 0.0 1.0")]))],
+        &[("a", Changed(&[(26, "0.0 0.0 1.0")]))],
         "finder: file a line 26: 39 TrailingNumbers\n",
     ),
-    refuses(
+    (
         A,
         &[(
             "a",
-            lines(1, 23, &[(19, "1382400 0.1234567890123456789D+01 0.0")]),
+            Part(1, 23, &[(19, "1382400 0.1234567890123456789D+01 0.0")]),
         )],
         "finder: file a line 19: 34 Number 2\n",
     ),
-    refuses(
+    (
         A,
-        &[("a", lines(1, 26, &[]))],
+        &[("a", Part(1, 26, &[]))],
         "finder: file a line 26: 36 Truncated\n",
     ),
-    refuses(
-        A,
-        &[(
-            "a",
-            Text {
-                zeros: 1,
-                ..lines(1, 26, &[])
-            },
-        )],
-        "finder: file a line 27: 36 Truncated\n",
+    (
+        A_B,
+        &[("a", Part(1, 26, &[])), ("b", Zeros(1))],
+        "finder: file b line 2: 36 Truncated\n",
     ),
-    refuses(A, &[("a", HEADER)], "finder: file a line 17: 37 NoBlock\n"),
-    refuses(
+    (A, &[("a", HEADER)], "finder: file a line 17: 37 NoBlock\n"),
+    (
         A,
-        &[("a", blocks(2))],
+        &[("a", Blocks(2))],
         "finder: file a line 37: 7 NotBuilt\n",
     ),
-    refuses(
+    (
         A,
-        &[("a", blocks(16_385))],
+        &[("a", Blocks(16_385))],
         "finder: file a line 163858: 38 TooManyBlocks\n",
     ),
 ];
 
-const FAULTS_OF_TWO_FILES: [Run; 6] = [
-    refuses(
+const FAULTS_OF_TWO_FILES: [(&'static str, Files<'static>, &'static str); 6] = [
+    (
         A_B,
         &[("a", WHOLE), ("b", WHOLE)],
         "finder: file b line 1: 30 RecordLine\n",
     ),
-    refuses(
+    (
         A_B,
         &[
             ("a", WHOLE),
             (
                 "b",
-                lines(17, 27, &[(17, "2 26"), (18, "2451608.5 2451640.5 0.0")]),
+                Part(17, 27, &[(17, "2 26"), (18, "2451608.5 2451640.5 0.0")]),
             ),
         ],
         "finder: file b line 2: 33 BlockGap\n",
     ),
-    refuses(
+    (
         A_B,
-        &[("a", WHOLE), ("b", zeros(4097))],
+        &[("a", WHOLE), ("b", Zeros(4097))],
         "finder: file b line 1: 4 LineTooLong\n",
     ),
-    refuses(
+    (
         A_B,
-        &[("a", zeros(4097)), ("b", WHOLE)],
+        &[("a", Zeros(4097)), ("b", WHOLE)],
         "finder: file a line 1: 4 LineTooLong\n",
     ),
-    refuses(
+    (
         A_B,
-        &[("a", HEADER), ("b", lines(17, 18, &[(17, "")]))],
+        &[("a", HEADER), ("b", Part(17, 18, &[(17, "")]))],
         "finder: file b line 2: 37 NoBlock\n",
     ),
-    refuses(
+    (
         A_B,
-        &[("a", HEADER), ("b", lines(17, 18, &[]))],
+        &[("a", HEADER), ("b", Part(17, 18, &[]))],
         "finder: file b line 2: 36 Truncated\n",
     ),
 ];
@@ -472,12 +413,17 @@ fn line_of<'a>(changes: &[(usize, &'a str)], number: usize, line: &'a str) -> &'
     line
 }
 
-fn add_lines(bytes: &mut Vec<u8>, text: &Text) -> Result<(), AllocError> {
+fn add_part(
+    bytes: &mut Vec<u8>,
+    from: usize,
+    end: usize,
+    changes: &[(usize, &str)],
+) -> Result<(), AllocError> {
     let mut number = 0usize;
     for line in LINE.split('\n') {
         number = number.saturating_add(1);
-        if text.from <= number && number < text.end {
-            bytes.extend_from_slice(line_of(text.changes, number, line).as_bytes())?;
+        if from <= number && number < end {
+            bytes.extend_from_slice(line_of(changes, number, line).as_bytes())?;
             bytes.push(b'\n')?;
         }
     }
@@ -507,12 +453,23 @@ fn add_blocks(alloc: Global, bytes: &mut Vec<u8>, count: i64) -> Result<(), Allo
     Ok(())
 }
 
+fn add_zeros(bytes: &mut Vec<u8>, count: usize) -> Result<(), AllocError> {
+    for _ in 0..count {
+        bytes.push(b'0')?;
+    }
+    Ok(())
+}
+
 fn bytes_of(alloc: Global, text: &Text) -> Result<Vec<u8>, AllocError> {
     let mut bytes = Vec::new(alloc);
-    add_lines(&mut bytes, text)?;
-    add_blocks(alloc, &mut bytes, text.blocks)?;
-    for _ in 0..text.zeros {
-        bytes.push(b'0')?;
+    match *text {
+        Part(from, end, changes) => add_part(&mut bytes, from, end, changes)?,
+        Changed(changes) => add_part(&mut bytes, 1, 27, changes)?,
+        Blocks(count) => {
+            add_part(&mut bytes, 1, 17, &[])?;
+            add_blocks(alloc, &mut bytes, count)?;
+        }
+        Zeros(count) => add_zeros(&mut bytes, count)?,
     }
     Ok(bytes)
 }
@@ -551,7 +508,7 @@ struct Outcome {
     err: Vec<u8>,
 }
 
-fn outcome(alloc: Global, run: &Run) -> Result<Outcome, AllocError> {
+fn execute(alloc: Global, run: &Run) -> Result<Outcome, AllocError> {
     let words = words_of(alloc, run.words)?;
     let mut shelf = shelf_of(alloc, run)?;
     let mut out = sink(
@@ -582,23 +539,89 @@ fn expected(alloc: Global, run: &Run) -> Result<Vec<u8>, AllocError> {
     Ok(text)
 }
 
+// The run answers and writes what it is to.
+fn is_right(alloc: Global, run: &Run) -> Result<bool, AllocError> {
+    let found = execute(alloc, run)?;
+    let out = expected(alloc, run)?;
+    let same_out = found.out.as_slice() == out.as_slice();
+    let same_err = found.err.as_slice() == run.err.as_bytes();
+    Ok(found.status == run.status && same_out && same_err)
+}
+
 #[test]
-fn runs_answer_and_write_what_is_due(rt: HostRuntime) -> Result<(), Fail> {
+fn windows_are_reported(rt: HostRuntime) -> Result<(), Fail> {
+    let alloc = rt.alloc();
+    for (words, files, out) in &REPORTS {
+        assert!(rt; is_right(alloc, &reports(words, files, out))?, "{out}");
+    }
+    Ok(())
+}
+
+#[test]
+fn first_faults_are_written(rt: HostRuntime) -> Result<(), Fail> {
     let alloc = rt.alloc();
     let tables = [
-        REPORTS.as_slice(),
-        OUTER_FAULTS.as_slice(),
         HEADER_FAULTS.as_slice(),
         BLOCK_FAULTS.as_slice(),
         FAULTS_OF_TWO_FILES.as_slice(),
     ];
     for table in tables {
-        for run in table {
-            let found = outcome(alloc, run)?;
-            assert_eq!(rt; found.status, run.status, "{}{}", run.out, run.err);
-            assert_eq!(rt; found.out.as_slice(), expected(alloc, run)?.as_slice());
-            assert_eq!(rt; found.err.as_slice(), run.err.as_bytes());
+        for (words, files, err) in table {
+            assert!(rt; is_right(alloc, &refuses(words, files, err))?, "{err}");
         }
     }
+    Ok(())
+}
+
+#[test]
+fn words_and_the_shelf_are_refused(rt: HostRuntime) -> Result<(), Fail> {
+    let alloc = rt.alloc();
+    for words in &OTHER_WORDS {
+        assert!(rt;
+            is_right(alloc, &refuses_words(words, &[("a", WHOLE)]))?,
+            "{words}"
+        );
+    }
+    for (shelf_fails, files, err) in &READ_FAULTS {
+        assert!(rt;
+            is_right(alloc, &fails_to_read(*shelf_fails, files, err))?,
+            "{shelf_fails}"
+        );
+    }
+    Ok(())
+}
+
+// Each write offers the whole rest of the text: an output that takes 4,096 bytes a call is called once, so that its
+// second call can't fail; one that takes 16 holds as many where its second call fails.
+#[test]
+fn outputs_fail(rt: HostRuntime) -> Result<(), Fail> {
+    let alloc = rt.alloc();
+    let whole = Run {
+        outside: Outside {
+            out_fails: 2,
+            out_piece: 4096,
+            ..SOUND
+        },
+        ..reports(A, &[("a", WHOLE)], RISE)
+    };
+    assert!(rt; is_right(alloc, &whole)?);
+    let part = Run {
+        outside: Outside {
+            out_fails: 2,
+            ..SOUND
+        },
+        status: NOT_WRITTEN,
+        err: "finder: write fault\n",
+        ..reports(A, &[("a", WHOLE)], "FIND coord targe")
+    };
+    assert!(rt; is_right(alloc, &part)?);
+    let short = Run {
+        outside: Outside {
+            err_room: 10,
+            ..SOUND
+        },
+        ..refuses(A, &[("a", HEADER)], "finder: fi")
+    };
+    assert!(rt; is_right(alloc, &short)?);
     Ok(())
 }

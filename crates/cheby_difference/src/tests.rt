@@ -1,4 +1,6 @@
 // Velocities and changes of an exact reference.
+ghost use Rattle.std.specs.Prelude.{◌<◌, ◌≤ℤ◌, ◌+ℤ◌};
+ghost use Rattle.spec_motions.specs.Granules.{IsEvaluable};
 
 use crate::{position_step, velocity, velocity_step};
 use cheby_enclose::is_evaluable;
@@ -70,6 +72,14 @@ fn intervals(
     (start, seconds): (i64, i64),
     (a, b): (i64, i64),
 ) -> [Ival; 3] {
+    assert!(rt; -(1 << 50) <= start);
+    assert!(rt; start <= 1 << 50);
+    assert!(rt; 1 <= seconds);
+    assert!(rt; seconds <= 1 << 40);
+    assert!(rt; start <= a);
+    assert!(rt; a <= b);
+    let end = start + seconds;
+    assert!(rt; b <= end);
     let granule = Granule {
         start,
         seconds,
@@ -78,14 +88,20 @@ fn intervals(
         coefs,
     };
     assert!(rt; is_evaluable(&granule));
-    assert!(rt; start <= a);
-    assert!(rt; a <= b);
-    let end = start + seconds;
-    assert!(rt; b <= end);
+    all_three(&granule, a, b)
+}
+
+fn all_three(g: &Granule, a: i64, b: i64) -> [Ival; 3]
+    requires granule { IsEvaluable g.now }
+    requires axis { 0 < g.now.comps }
+    requires from { g.now.start ≤ℤ a }
+    requires order { a ≤ℤ b }
+    requires upto { b ≤ℤ (g.now.start +ℤ g.now.seconds) }
+{
     [
-        position_step(&granule, 0, a, b),
-        velocity(&granule, 0, a, b),
-        velocity_step(&granule, 0, a, b),
+        position_step(g, 0, a, b),
+        velocity(g, 0, a, b),
+        velocity_step(g, 0, a, b),
     ]
 }
 

@@ -52,27 +52,35 @@ struct Case<'a> {
     parts: (i128, i128, i32),
 }
 
-// The interval of a case.
-fn interval(rt: &impl Abort, case: Case<'_>) -> Ival {
-    assert!(rt; 1 <= case.n);
-    let granule = Granule {
-        start: case.start,
-        seconds: case.seconds,
-        n: case.n,
-        comps: case.coefs.len() / case.n,
-        coefs: case.coefs,
-    };
-    position_in(rt, &granule, case.axis, case.span)
-}
-
-fn position_in(rt: &impl Abort, granule: &Granule<'_>, axis: usize, (a, b): (i64, i64)) -> Ival {
-    assert!(rt; is_evaluable(granule));
-    assert!(rt; axis < granule.comps);
-    assert!(rt; granule.start <= a);
+// The interval of one axis of a granule.
+fn interval(
+    rt: &impl Abort,
+    coefs: &[Decimal],
+    n: usize,
+    (start, seconds): (i64, i64),
+    axis: usize,
+    (a, b): (i64, i64),
+) -> Ival {
+    assert!(rt; 1 <= n);
+    let comps = coefs.len() / n;
+    assert!(rt; axis < comps);
+    assert!(rt; -(1 << 50) <= start);
+    assert!(rt; start <= 1 << 50);
+    assert!(rt; 1 <= seconds);
+    assert!(rt; seconds <= 1 << 40);
+    assert!(rt; start <= a);
     assert!(rt; a <= b);
-    let end = granule.start + granule.seconds;
+    let end = start + seconds;
     assert!(rt; b <= end);
-    position(granule, axis, a, b)
+    let granule = Granule {
+        start,
+        seconds,
+        n,
+        comps,
+        coefs,
+    };
+    assert!(rt; is_evaluable(&granule));
+    position(&granule, axis, a, b)
 }
 
 #[test]
@@ -117,7 +125,8 @@ fn positions_are_those_of_the_reference(rt: HostRuntime) {
         },
     ];
     for case in cases {
-        let found = interval(&rt, case);
+        let granule = (case.start, case.seconds);
+        let found = interval(&rt, case.coefs, case.n, granule, case.axis, case.span);
         assert_eq!(rt; found.parts(), case.parts, "in {:?}", case.span);
         let negative = case.parts.1 < 0;
         assert_eq!(rt; found.sign() == Sign::No, negative, "in {:?}", case.span);

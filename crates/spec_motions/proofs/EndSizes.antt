@@ -1,5 +1,5 @@
 -- How large the least and the greatest product of the ends of two intervals are at most.
-use Rattle.std.proofs.Common.{ℕ, ◌*◌, ◌≤◌, ℤ, ◌*ℤ◌, unsigned_abs}
+use Rattle.std.proofs.Common.{ℕ, ◌*◌, ◌≤◌, ◌*ℤ◌, unsigned_abs}
 use Rattle.spec_intervals.specs.Interval.{least4, greatest4}
 use Rattle.spec_numbers.proofs.Sizes.{product_size, least_size as least_of_four, greatest_size as greatest_of_four}
 use Rattle.spec_chebyshev.specs.declared.ends.Ival62.{Ival62}

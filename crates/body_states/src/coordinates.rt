@@ -185,8 +185,9 @@ impl<'e> BodyStates<'e> {
         requires fits { Fits self.now times.now.first times.now.last }
         requires usable { IsUsable self.now number }
         ensures times { result.times.now ≡ times.now }
-        ensures series { (axis : ℕ) → axis < 3
-            → series_of result.granule axis ≡ series_at self.now.ephemeris number axis times.now.first }
+        ensures series { let e = self.now.ephemeris in
+            (axis : ℕ) → axis < 3
+            → series_of result.granule axis ≡ series_at e number axis times.now.first }
     {
         GranuleSpan {
             granule: self.ephemeris.granule(number, times.first()),

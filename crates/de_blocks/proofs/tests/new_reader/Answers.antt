@@ -7,5 +7,5 @@ use Rattle.de_blocks.proofs.tests.new_reader.Goals as goal
 
 pub new-requires : goal.new-requires
 new-requires c =
-    rw c.in_ok-header.ensures (passes (bodies_and_angles 26 (column 27 0 0) (column 27 0 0))
+    rw (c.in_ok-header.ensures, c.column.ensures, c.column-2.ensures) (passes (bodies_and_angles 26 (column 27 0 0) (column 27 0 0))
     (record { least = omega (arith, ints); greatest = omega (arith, ints) }) refl refl)

@@ -7,5 +7,5 @@ use Rattle.de_blocks.proofs.tests.reader_of_angles.Goals as goal
 
 pub new-requires : goal.new-requires
 new-requires c =
-    rw c.in_ok-header.ensures (passes (bodies_and_angles 31 (column 27 1 1) (column 29 1 1))
+    rw (c.in_ok-header.ensures, c.column.ensures, c.column-2.ensures) (passes (bodies_and_angles 31 (column 27 1 1) (column 29 1 1))
     (record { least = omega (arith, ints); greatest = omega (arith, ints) }) refl refl)

@@ -1,5 +1,5 @@
 // A ledger of two leaves, one that is closed with a seat missing, and one that two threads fill.
-ghost use Rattle.std.specs.Prelude.{All, pos, ◌≡◌, ◌≤ℤ◌, ◌<ℤ◌, ◌+ℤ◌};
+ghost use Rattle.std.specs.Prelude.{All, pos, ◌≡◌, ◌<◌, ◌+◌};
 ghost use Rattle.span_ledger.specs.Seats.{IsSeatOf, IsThousands};
 
 use super::*;
@@ -21,11 +21,13 @@ const THOUSANDS: Node = Node {
     depth: 0,
 };
 
-// The second after `a`.
-fn leaf_at(a: i64) -> Leaf
-    requires { (pos 0 ≤ℤ a) × (a <ℤ pos 64000) }
-    ensures { (result.node.a ≡ a) × (result.node.b ≡ a +ℤ pos 1) }
+// The second after `time`.
+fn leaf_at(time: u32) -> Leaf
+    requires { time < 64000 }
+    ensures begins { result.node.a ≡ pos time }
+    ensures ends { result.node.b ≡ pos (time + 1) }
 {
+    let a = time as i64;
     Leaf {
         node: Node {
             a,
@@ -89,7 +91,7 @@ fn enter_thousand<R: Wait>(rt: &R, ledger: &SpanLedger, seat: &mut LedgerSeat)
     requires root { IsThousands ledger.now }
     ensures { IsSeatOf ledger.now seat.new }
 {
-    let first = seat.number as i64 * 1000;
+    let first = seat.number() * 1000;
     for k in 0..1000 {
         ledger.enter(rt, seat, leaf_at(first + k));
     }

@@ -5,7 +5,8 @@ ghost use Rattle.gf_edges.specs.States.{SinkState, given, taken};
 
 /// A file is found by its whole name, and of two with one name the first counts.
 pub fn files_are_found_by_name()
-    ensures first_of_two { file_of (codes "a") ((codes "b", 1 ∷ []) ∷ (codes "a", 2 ∷ []) ∷ (codes "a", 3 ∷ []) ∷ [])
+    ensures first_of_two { file_of (codes "a")
+        ((codes "b", 1 ∷ []) ∷ (codes "a", 2 ∷ []) ∷ (codes "a", 3 ∷ []) ∷ [])
         ≡ Some (2 ∷ []) }
     ensures missing { file_of (codes "a") ((codes "ab", 1 ∷ []) ∷ ([], 2 ∷ []) ∷ []) ≡ None }
     ensures empty_name { file_of [] ((codes "ab", 1 ∷ []) ∷ ([], 2 ∷ []) ∷ []) ≡ Some (2 ∷ []) }

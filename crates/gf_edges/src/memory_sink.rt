@@ -101,7 +101,8 @@ impl Sink for MemorySink {
         ensures count { self.new.faults < 2 ^ 64 }
         ensures fails { IsErr result ↔ IsToFail self.old.failing self.old.calls }
         ensures takes { IfOk result (λ n. n ≡ taken piece.now self.old) }
-        ensures faults { RisesWhere (IsToFail self.old.failing self.old.calls ⊎ IsStuck self.old piece.now)
+        ensures faults { RisesWhere
+            (IsToFail self.old.failing self.old.calls ⊎ IsStuck self.old piece.now)
             self.old.faults self.new.faults }
         ensures calls { self.new.calls ≡ raised self.old.calls }
         ensures limits { (self.new.room ≡ self.old.room) × (self.new.piece ≡ self.old.piece) }

@@ -1,4 +1,4 @@
--- Texts behind texts.
+-- Texts after texts.
 use Rattle.std.proofs.Common.{◌≡◌, ℕ, suc, ◌+◌, List, [], ◌∷◌, ◌++◌, length, Option, None, Some, Err, refl, sym, ap, ◌∙◌, append_assoc, arith}
 use Rattle.spec_text.specs.declared.decimals.Fault.{Fault}
 use Rattle.spec_sections.specs.Sections.{FileLine}

@@ -3,10 +3,10 @@
 use Rattle.std.proofs.Common.{◌≡◌, ◌≢◌, ◌<◌, ◌≤◌, ◌+◌, ◌-◌, ℕ, min, Bool, true, false, List, [], ◌∷◌, ◌++◌, length, map, take, drop, Result, Ok, Err, refl, sym, ap, ◌∙◌, subst, arith, inl, inr, append-nil, append_assoc, eq-eqb, ne_eqb}
 use Rattle.std.specs.Prelude.{slice_get, if◌then◌else◌}
 use Rattle.std.proofs.lemmas.Bool.{cases_eq}
-use Rattle.std.proofs.lemmas.List.{drop_all, length-append, length-map, length-take}
+use Rattle.std.proofs.lemmas.List.{drop_all}
 use Rattle.spec_sections.specs.declared.rules.BrokenRule.{BrokenRule}
 use Rattle.spec_sections.specs.Sections.{FileLine, FileWord, Stop, ended, breaks, ◌>>=◌, at_line, after_words, first_words, from_word, is_word, lines_after, one_line, word_of}
-use Rattle.spec_sections.proofs.WordSections.{no_words}
+use Rattle.spec_sections.proofs.WordSections.{all_after, length_first, no_words}
 use Rattle.spec_blocks.specs.Blocks.{further_words}
 
 -- what more lines come to, where these come to this: the value with the further lines after it, or the same broken rule
@@ -67,8 +67,7 @@ first_words-more n (line ∷ rest) later =
     let here = map (word_of line) (take n line.words) in
     let left = n - length line.words in
     let some = first_words left rest in
-    let size : length (here ++ some) ≡ min n (length line.words) + length some =
-    length-append here some ∙ ap (λ (k : ℕ). k + length some) (length-map (take n line.words) (word_of line) ∙ length-take n line.words) in
+    let size : length (here ++ some) ≡ min n (length line.words) + length some = length_first n line rest in
     let still : left - length some ≡ n - length (here ++ some) = omega (arith, size) in
     ap (λ (ws : List FileWord). here ++ ws) (first_words-more left rest later ∙ ap (λ (k : ℕ). some ++ first_words k later) still)
     ∙ sym (append_assoc here some (first_words (n - length (here ++ some)) later))
@@ -80,26 +79,16 @@ pub record AreWords (late n : ℕ) (lines later : List FileLine) : Type 0 where
   pub fewer : after_words late n lines ≡ Ok (lines_after n lines)
   pub more : after_words late n (lines ++ later) ≡ Ok (lines_after n lines ++ later)
 
-all_after : (n : ℕ) (lines : List FileLine) → n ≡ 0 → lines_after n lines ≡ lines
-all_after n [] is = refl
-all_after n (line ∷ rest) is = rw is refl
-
 none_further : (n : ℕ) (lines : List FileLine) → n ≡ 0 → further_words n lines ≡ []
 none_further n [] is = refl
 none_further n (line ∷ rest) is = rw is refl
-
-size_of_first : (n : ℕ) (line : FileLine) (rest : List FileLine)
-    → length (first_words n (line ∷ rest)) ≡ min n (length line.words) + length (first_words (n - length line.words) rest)
-size_of_first n line rest =
-    length-append (map (word_of line) (take n line.words)) (first_words (n - length line.words) rest)
-    ∙ ap (λ (k : ℕ). k + length (first_words (n - length line.words) rest)) (length-map (take n line.words) (word_of line) ∙ length-take n line.words)
 
 lines_after-more : (n : ℕ) (lines later : List FileLine) → length (first_words n lines) ≡ n → lines_after n (lines ++ later) ≡ lines_after n lines ++ later
 lines_after-more n [] later all = all_after n later (sym all)
 lines_after-more n (line ∷ rest) later all = elim (cases_eq n 0) [
   | inl none ↦ all_after n (line ∷ (rest ++ later)) none ∙ ap (λ (l : List FileLine). l ++ later) (sym (all_after n (line ∷ rest) none))
   | inr some ↦
-      let size = size_of_first n line rest in
+      let size = length_first n line rest in
       rw (ne_eqb n 0 some) (lines_after-more (n - length line.words) rest later (omega (arith, size, all)))
 ]
 
@@ -108,7 +97,7 @@ further_words-more n [] later all = none_further n later (sym all)
 further_words-more n (line ∷ rest) later all = elim (cases_eq n 0) [
   | inl none ↦ none_further n (line ∷ (rest ++ later)) none ∙ sym (none_further n (line ∷ rest) none)
   | inr some ↦
-      let size = size_of_first n line rest in
+      let size = length_first n line rest in
       rw (ne_eqb n 0 some)
       (ap (λ (ws : List FileWord). map (word_of line) (drop n line.words) ++ ws) (further_words-more (n - length line.words) rest later (omega (arith, size, all))))
 ]
@@ -118,7 +107,7 @@ no_further n [] few = refl
 no_further n (line ∷ rest) few = elim (cases_eq n 0) [
   | inl none ↦ none_further n (line ∷ rest) none
   | inr some ↦
-      let size = size_of_first n line rest in
+      let size = length_first n line rest in
       let here : drop n line.words ≡ [] = drop_all n line.words (omega (arith, size, few)) in
       rw (ne_eqb n 0 some)
       ((λ i. map (word_of line) (here i) ++ further_words (n - length line.words) rest) ∙ no_further (n - length line.words) rest (omega (arith, size, few)))
@@ -142,4 +131,4 @@ not_words late n lines other = rw (ne_eqb _ _ other) refl
 -- there are at most n first words
 pub at_most_words : (n : ℕ) (lines : List FileLine) → length (first_words n lines) ≤ n
 at_most_words n [] = omega arith
-at_most_words n (line ∷ rest) = let size = size_of_first n line rest in let below = at_most_words (n - length line.words) rest in omega (arith, size, below)
+at_most_words n (line ∷ rest) = let size = length_first n line rest in let below = at_most_words (n - length line.words) rest in omega (arith, size, below)

@@ -54,6 +54,6 @@ end_line [] = 1
 end_line (text ∷ []) = length (lines text) + 1
 end_line (text ∷ next ∷ rest) = end_line (next ∷ rest)
 
--- the fault of this number behind the last line of all
+-- the fault of this number after the last line of all
 abbrev pub at_end : List (List ℕ) → ℕ → ℕ × Fault
 at_end texts number = (length texts - 1, fault_at (end_line texts) number)

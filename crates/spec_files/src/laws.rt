@@ -50,12 +50,15 @@ pub fn one_answer_is_true()
     ensures accepted { (files : Files) (names : List (List ℕ)) (e f : Ephemeris) (end stop : ℕ)
         → AreAccepted (Some files) names e end → AreAccepted (Some files) names f stop
         → (e ≡ f) × (end ≡ stop) }
-    ensures not_refused { (files : Files) (names : List (List ℕ)) (e : Ephemeris) (end file : ℕ) (fault : Fault)
+    ensures not_refused { (files : Files) (names : List (List ℕ)) (e : Ephemeris)
+        (end file : ℕ) (fault : Fault)
         → AreAccepted (Some files) names e end → AreRefused (Some files) names file fault → ⊥ }
-    ensures accepted_is_read { (files : Files) (names : List (List ℕ)) (e : Ephemeris) (end before now file : ℕ)
+    ensures accepted_is_read { (files : Files) (names : List (List ℕ)) (e : Ephemeris)
+        (end before now file : ℕ)
         → AreAccepted (Some files) names e end → IsNotRead (Some files) names before now file
         → Rose before now }
-    ensures refused_is_read { (files : Files) (names : List (List ℕ)) (place : ℕ) (fault : Fault) (before now file : ℕ)
+    ensures refused_is_read { (files : Files) (names : List (List ℕ)) (place : ℕ) (fault : Fault)
+        (before now file : ℕ)
         → AreRefused (Some files) names place fault → IsNotRead (Some files) names before now file
         → Rose before now }
 {}

@@ -405,7 +405,8 @@ const FAULTS_OF_TWO_FILES: [(&'static str, Files<'static>, &'static str); 6] = [
 
 fn add_row(bytes: &mut Vec<u8>, row: &str) -> Result<(), AllocError> {
     bytes.extend_from_slice(row.as_bytes())?;
-    bytes.push(b'\n')
+    bytes.push(b'\n')?;
+    Ok(())
 }
 
 // A line, or what it is changed to.

@@ -403,14 +403,25 @@ const FAULTS_OF_TWO_FILES: [(&'static str, Files<'static>, &'static str); 6] = [
     ),
 ];
 
-// The line with this number where it is changed.
-fn line_of<'a>(changes: &[(usize, &'a str)], number: usize, line: &'a str) -> &'a str {
+fn add_row(bytes: &mut Vec<u8>, row: &str) -> Result<(), AllocError> {
+    bytes.extend_from_slice(row.as_bytes())?;
+    bytes.push(b'\n')?;
+    Ok(())
+}
+
+// A line, or what it is changed to.
+fn add_line(
+    bytes: &mut Vec<u8>,
+    changes: &[(usize, &str)],
+    number: usize,
+    line: &str,
+) -> Result<(), AllocError> {
     for (place, other) in changes {
         if *place == number {
-            return other;
+            return add_row(bytes, other);
         }
     }
-    line
+    add_row(bytes, line)
 }
 
 fn add_part(
@@ -423,8 +434,7 @@ fn add_part(
     for line in LINE.split('\n') {
         number = number.saturating_add(1);
         if from <= number && number < end {
-            bytes.extend_from_slice(line_of(changes, number, line).as_bytes())?;
-            bytes.push(b'\n')?;
+            add_line(bytes, changes, number, line)?;
         }
     }
     Ok(())

@@ -1,44 +1,35 @@
 -- The enclosure of a short formula over columns that can be read is within the limits of the rules, and encloses a value.
-use Rattle.std.proofs.Common.{◌≡◌, ◌∙◌, ℕ, ◌≤◌, arith, sym, subst, ℤ, ◌≤ℤ◌}
+use Rattle.std.proofs.Common.{ℕ, ◌≤◌, arith, sym, subst, ℤ, ◌≤ℤ◌}
 use Rattle.std.proofs.lemmas.Int.{ints}
-use Rattle.spec_intervals.specs.Interval.{Interval}
-use Rattle.spec_intervals.specs.Fraction.{Fraction, IsFraction, Holds, Overlaps}
+use Rattle.spec_intervals.specs.Fraction.{IsFraction, Holds, Overlaps}
 use Rattle.spec_intervals.specs.Enclosure.{Enclosure, IsWithin, AllWithin, Encloses, constant_of}
-use Rattle.spec_expressions.specs.Expression.{part_exponent}
 use Rattle.spec_intervals.proofs.Enclosed.{IsEnclosure-constant}
 use Rattle.spec_intervals.proofs.Exponents.{IsWithin-more}
+use Rattle.spec_expressions.specs.Expression.{part_exponent}
+use Rattle.spec_bodies.specs.declared.factor.Factor.{Factor}
+use Rattle.spec_bodies.specs.declared.factor.Factor.TheVariants.{MoonShare}
 use Rattle.spec_bodies.specs.declared.source.Source.{Source}
 use Rattle.spec_bodies.specs.declared.source.Source.TheVariants.{OwnColumn, EarthOfPair, MoonOfPair, Origin}
-use Rattle.spec_bodies.specs.Coordinates.{Factor, moon_share, Coordinate, nothing, of_column, times, earth, barycentric, seen}
-use Rattle.spec_bodies.specs.Meanings.{factor, factor_interval, enclosure_of}
-use Rattle.spec_bodies.specs.Reading.{AllColumns, IsReadable, IsShort, IsFactor}
-use Rattle.spec_bodies.specs.Views.{View, IsView, Fits}
-use Rattle.spec_bodies.proofs.Bounds.{seen_low}
+use Rattle.spec_bodies.specs.Coordinates.{nothing, of_column, times, earth, barycentric_coordinate, displacement}
+use Rattle.spec_bodies.specs.Meanings.{factor_interval}
+use Rattle.spec_bodies.specs.Reading.{IsShort, IsFactor}
+use Rattle.spec_bodies.specs.Views.{View, IsView, Fits, factor_of}
+use Rattle.spec_bodies.proofs.Bounds.{displacement_low}
 use Rattle.spec_bodies.proofs.Factors.{factor_is, constant_is}
-use Rattle.spec_bodies.proofs.Formulas.{Holds-factor_interval}
-use Rattle.spec_bodies.proofs.Held.{positions_enclosed, velocities_enclosed, positions_within, velocities_within}
-use Rattle.body_states.specs.declared.asked.Quantity.{Quantity}
-use Rattle.body_states.specs.declared.asked.Quantity.TheVariants.{Position, Velocity}
-use Rattle.body_states.specs.Answers.{Question, IsAnswer, column_enclosure}
+use Rattle.spec_bodies.proofs.Formulas.{IsFraction-factor, Holds-factor_interval}
+use Rattle.spec_bodies.proofs.Held.{formula_encloses, formula_within}
+use Rattle.body_states.specs.declared.question.Question.{Question}
+use Rattle.body_states.specs.Answers.{IsAnswer}
 
-pub more : (m n : ℕ) (e : Enclosure) → m ≤ n → AllWithin m e → AllWithin n e
+more : (m n : ℕ) (e : Enclosure) → m ≤ n → AllWithin m e → AllWithin n e
 more m n e p is = record { mid = IsWithin-more m n e.mid p is.mid; range = IsWithin-more m n e.range p is.range; step = IsWithin-more m n e.step p is.step }
 
-module _ (v : View) (a b : ℤ) (fits : Fits v a b) (c : Coordinate) (readable : AllColumns (IsReadable v) c) where
-  encloses_at : (k : Quantity) → Encloses a b (enclosure_of (column_enclosure v k a b) (factor v.ephemeris.header.emrat) a b c)
-  encloses_at Position = positions_enclosed v a b fits c readable
-  encloses_at Velocity = velocities_enclosed v a b fits c readable
+pub good_encloses : (v : View) (q : Question) → Fits v q.times.now.first q.times.now.last → (e : Enclosure) → IsAnswer v q e → Encloses q.times.now.first q.times.now.last e
+good_encloses v q fits e is = subst (Encloses q.times.now.first q.times.now.last) (sym is.is) (formula_encloses v q.times.now.first q.times.now.last fits q.quantity is.formula is.readable)
 
-  within_at : IsShort c → (k : Quantity) → AllWithin 256 (enclosure_of (column_enclosure v k a b) (factor v.ephemeris.header.emrat) a b c)
-  within_at short Position = positions_within v a b fits c readable short
-  within_at short Velocity = velocities_within v a b fits c readable short
-
-pub good_encloses : (v : View) (q : Question) → Fits v q.first q.last → (e : Enclosure) → IsAnswer v q e → Encloses q.first q.last e
-good_encloses v q fits e is = subst (Encloses q.first q.last) (sym is.is) (encloses_at v q.first q.last fits is.formula is.readable q.quantity)
-
-pub good_within : (v : View) (q : Question) → Fits v q.first q.last → (e : Enclosure) → IsAnswer v q e → AllWithin part_exponent e
+pub good_within : (v : View) (q : Question) → Fits v q.times.now.first q.times.now.last → (e : Enclosure) → IsAnswer v q e → AllWithin part_exponent e
 good_within v q fits e is =
-    more 256 part_exponent e (omega arith) (subst (AllWithin 256) (sym is.is) (within_at v q.first q.last fits is.formula is.readable is.short q.quantity))
+    more 256 part_exponent e (omega arith) (subst (AllWithin 256) (sym is.is) (formula_within v q.times.now.first q.times.now.last fits q.quantity is.formula is.readable is.short))
 
 -- ---- formulas that are short
 pub column_short : (number axis : ℕ) → IsShort (of_column number axis)
@@ -47,39 +38,45 @@ column_short number axis = record { low = omega arith; high = omega arith }
 pub nothing_short : IsShort nothing
 nothing_short = record { low = omega arith; high = omega arith }
 
-pub share_short : (number axis : ℕ) → IsShort (times moon_share (of_column number axis))
+pub share_short : (number axis : ℕ) → IsShort (times MoonShare (of_column number axis))
 share_short number axis = record { low = omega arith; high = omega arith }
 
 pub earth_short : (axis : ℕ) → IsShort (earth axis)
 earth_short axis = record { low = omega arith; high = omega arith }
 
-pub barycentric_short : (axis : ℕ) (source : Source) → IsShort (barycentric source axis)
+pub barycentric_short : (axis : ℕ) (source : Source) → IsShort (barycentric_coordinate source axis)
 barycentric_short axis (OwnColumn n) = record { low = omega arith; high = omega arith }
 barycentric_short axis EarthOfPair = record { low = omega arith; high = omega arith }
 barycentric_short axis MoonOfPair = record { low = omega arith; high = omega arith }
 barycentric_short axis Origin = record { low = omega arith; high = omega arith }
 
-pub seen_short : (axis : ℕ) (target observer : Source) → IsShort (seen target observer axis)
-seen_short axis target observer = let l = (seen_low axis target observer).low in let h = (seen_low axis target observer).high in record { low = omega (arith, l); high = omega (arith, h) }
+pub displacement_short : (axis : ℕ) (target observer : Source) → IsShort (displacement target observer axis)
+displacement_short axis target observer = let l = (displacement_low axis target observer).low in let h = (displacement_low axis target observer).high in record { low = omega (arith, l); high = omega (arith, h) }
 
-pub turned_short : (f : Factor) (axis : ℕ) (target observer : Source) → IsShort (times f (seen target observer axis))
-turned_short f axis target observer = let l = (seen_low axis target observer).low in let h = (seen_low axis target observer).high in record { low = omega (arith, l); high = omega (arith, h) }
+pub scaled_short : (f : Factor) (axis : ℕ) (target observer : Source) → IsShort (times f (displacement target observer axis))
+scaled_short f axis target observer = let l = (displacement_low axis target observer).low in let h = (displacement_low axis target observer).high in record { low = omega (arith, l); high = omega (arith, h) }
 
--- a factor of the view
-pub view_factor : (v : View) → IsView v → (f : Factor) → IsFactor (factor_interval (factor v.ephemeris.header.emrat f))
-view_factor v is f = factor_is v.ephemeris.header.emrat is.checked.header.ratio f
+-- ---- a factor of the view
+module _ (v : View) (is : IsView v) (f : Factor) where
+  factor_of_view : IsFactor (factor_interval (factor_of v f))
+  factor_of_view = factor_is v.ephemeris.header.emrat is.checked.header.ratio f
 
-pub factor_number : (c : Interval) (r : Fraction) → IsFraction r → c ≡ factor_interval r → Overlaps c c
-factor_number c r is same = let held = subst (λ t. Holds t r) (sym same) (Holds-factor_interval r is) in record { common = r; is_fraction = is; in_first = held; in_second = held }
+  number : IsFraction (factor_of v f)
+  number = IsFraction-factor v.ephemeris.header.emrat f
 
-pub factor_within : (c : Interval) → IsFactor c → IsWithin part_exponent c
-factor_within c is = let s = is.exponent in record { lo_small = is.lo_small; hi_small = is.hi_small; exponent = omega (arith, ints, s) }
+  held : Holds (factor_interval (factor_of v f)) (factor_of v f)
+  held = Holds-factor_interval (factor_of v f) number
 
-pub unchanging_within : (a b : ℤ) (c : Interval) (e : Enclosure) → IsFactor c → e ≡ constant_of a b c → AllWithin part_exponent e
-unchanging_within a b c e is same =
-    subst (AllWithin part_exponent) (sym (same ∙ constant_is a b c is)) (record { mid = factor_within c is; range = factor_within c is; step = record { lo_small = omega arith; hi_small = omega arith; exponent = omega arith } })
+  pub factor_number : Overlaps (factor_interval (factor_of v f)) (factor_interval (factor_of v f))
+  factor_number = record { common = factor_of v f; is_fraction = number; in_first = held; in_second = held }
 
-pub constant_encloses : (a b : ℤ) → a ≤ℤ b → (c : Interval) (r : Fraction) (e : Enclosure) → IsFraction r → c ≡ factor_interval r → e ≡ constant_of a b c → Encloses a b e
-constant_encloses a b ab c r e is same shown =
-    let held = subst (λ t. Holds t r) (sym same) (Holds-factor_interval r is) in
-    subst (Encloses a b) (sym shown) (record { exact = λ t. r; numbers = λ t p q. is; is_enclosure = IsEnclosure-constant a b ab r is c held })
+  pub factor_within : IsWithin part_exponent (factor_interval (factor_of v f))
+  factor_within = let s = factor_of_view.exponent in record { lo_small = factor_of_view.lo_small; hi_small = factor_of_view.hi_small; exponent = omega (arith, ints, s) }
+
+  pub constant_within : (a b : ℤ) → AllWithin part_exponent (constant_of a b (factor_interval (factor_of v f)))
+  constant_within a b =
+      subst (AllWithin part_exponent) (sym (constant_is a b (factor_interval (factor_of v f)) factor_of_view))
+      (record { mid = factor_within; range = factor_within; step = record { lo_small = omega arith; hi_small = omega arith; exponent = omega arith } })
+
+  pub constant_encloses : (a b : ℤ) → a ≤ℤ b → Encloses a b (constant_of a b (factor_interval (factor_of v f)))
+  constant_encloses a b ab = record { exact = λ t. factor_of v f; numbers = λ t p q. number; is_enclosure = IsEnclosure-constant a b ab (factor_of v f) number (factor_interval (factor_of v f)) held }

@@ -2,5 +2,5 @@ pub mod Masses
 pub mod Good
 pub mod SeriesParts
 pub mod Reading
-pub mod WideParts
+pub mod Sums
 pub mod Kept

@@ -10,56 +10,40 @@ use Rattle.spec_ephemeris.specs.Ephemeris.{Granule, IsBodyNumber, IsGranuleAt, I
 use Rattle.spec_ephemeris.proofs.Granules.{one_granule}
 use Rattle.spec_ephemeris.specs.declared.granule.Granule.{Granule as Read}
 use Rattle.spec_motions.specs.Enclosures.{IsSpanOf}
-use Rattle.spec_ephemeris.specs.Granules.{column_or_none, granule_at, series_at, series_of}
-use Rattle.spec_bodies.specs.Reading.{IsReadable}
+use Rattle.spec_ephemeris.specs.Granules.{column_or_none, granule_at, series_at, granule_of, series_of}
+use Rattle.spec_bodies.specs.Reading.{IsUsable}
 use Rattle.spec_bodies.specs.Views.{View, Fits}
 use Rattle.spec_ephemeris.proofs.GranuleAt.{granule_of_time}
 use Rattle.spec_bodies.proofs.Columns.{span_of}
 use Rattle.spec_motions.specs.Granules.{IsEvaluable}
-use Rattle.spec_motions.proofs.GranuleSeries.{own_length}
-
-abbrev IsThree : ℕ → Type 0
-IsThree n = n ≡ 3
-
-pub three_components : (number : ℕ) → number ≤ BODY_COLUMNS → components number ≡ 3
-three_components number body = by (nat_eq number 12) refl
-  where
-    by : (b : Bool) → nat_eq number 12 ≡ b → IsThree (if b then 2 else 3)
-    by true is = absurd (omega (arith, body, eqb-true number 12 is))
-    by false is = refl
-
-pub axis_within : (number axis comps : ℕ) → number ≤ BODY_COLUMNS → axis < 3 → comps ≡ components number → axis < comps
-axis_within number axis comps body three is = let n = three_components number body in omega (arith, n, three, is)
+use Rattle.spec_numbers.proofs.Sizes.{own_size}
 
 count_is : (n : ℕ) (o : Option Column) → IsTrue (is_present_at o) → IfSome o (λ c. n ≡ c.coefs) → n ≡ (column_or_none o).coefs
 count_is n None there is = absurd (cc)
 count_is n (Some c) there is = is
 
-abbrev granule_of : Read → Granule
-granule_of g = record { start = g.start; duration = unsigned_abs g.seconds; coefs = g.coefs.now }
-
-module _ (v : View) (a b : ℤ) (fits : Fits v a b) (number axis : ℕ) (readable : IsReadable v number axis) (g : Read)
+module _ (v : View) (a b : ℤ) (fits : Fits v a b) (number : ℕ) (usable : IsUsable v number) (g : Read)
     (is : IsGranuleAt v.ephemeris number a (granule_of g)) (count : IfSome (column_at v.ephemeris.header.columns number) (λ c. g.n ≡ c.coefs)) (long : pos 1 ≤ℤ g.seconds) where
   same_granule : granule_of g ≡ granule_at v.ephemeris number a
   same_granule =
       let ab = fits.ordered in
       let last = fits.upto in
-      one_granule v.ephemeris number a (granule_of g) (granule_at v.ephemeris number a) fits.view.checked is (granule_of_time v.ephemeris number a fits.view.checked readable.usable.there fits.view.block fits.from (omega (arith, ints, ab, last)))
+      one_granule v.ephemeris number a (granule_of g) (granule_at v.ephemeris number a) fits.view.checked is (granule_of_time v.ephemeris number a fits.view.checked usable.there fits.view.block fits.from (omega (arith, ints, ab, last)))
 
-  pub series_is : series_of g axis ≡ series_at v.ephemeris number axis a
-  series_is = λ i. axis_series (same_granule i) (count_is g.n (column_at v.ephemeris.header.columns number) readable.usable.there count i) axis
+  pub series_is : (axis : ℕ) → series_of g axis ≡ series_at v.ephemeris number axis a
+  series_is axis = λ i. axis_series (same_granule i) (count_is g.n (column_at v.ephemeris.header.columns number) usable.there count i) axis
 
   none_of : (t : ℤ) → IsBorder v.ephemeris number t → a <ℤ t → t ≤ℤ b → ⊥
-  none_of t border after upto = fits.no_border t (record { number = number; listed = readable.usable.in_use; border = border; after = after; upto = upto })
+  none_of t border after upto = fits.no_border t (record { number = number; listed = usable.in_use; border = border; after = after; upto = upto })
 
-  own_span : IsSpanOf (series_of g axis) a b
-  own_span = subst (λ s. IsSpanOf s a b) (sym series_is) (span_of v.ephemeris number fits.view.checked readable.usable.there fits.view.block a b fits.from fits.ordered fits.upto none_of axis)
+  own_span : IsSpanOf (series_of g 0) a b
+  own_span = subst (λ s. IsSpanOf s a b) (sym (series_is 0)) (span_of v.ephemeris number fits.view.checked usable.there fits.view.block a b fits.from fits.ordered fits.upto none_of 0)
 
   pub from_start : g.start ≤ℤ a
   from_start = own_span.from
 
   pub upto_end : b ≤ℤ (g.start +ℤ g.seconds)
-  upto_end = let same : pos (unsigned_abs g.seconds) ≡ g.seconds = own_length g.seconds long in rw same at own_span.to
+  upto_end = let same : pos (unsigned_abs g.seconds) ≡ g.seconds = own_size g.seconds long in rw same at own_span.to
 
 pub evaluable : (g : Read) (number : ℕ) → number ≤ BODY_COLUMNS → (1 ≤ g.n) × (g.n ≤ 32) → length g.coefs.now ≡ g.comps * g.n → (number ≤ BODY_COLUMNS → All IsBodyNumber g.coefs.now)
     → (pos 1 ≤ℤ g.seconds) × (g.seconds ≤ℤ pos (2 ^ 40)) → (neg_ℤ (pos (2 ^ 50)) ≤ℤ g.start) × (g.start ≤ℤ pos (2 ^ 50)) → IsEvaluable g

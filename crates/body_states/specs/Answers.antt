@@ -54,5 +54,5 @@ scaled_answer v q f = product_of q.times.now.first q.times.now.last (constant_of
 abbrev pub displacement_of : View → Source → ℕ → Coordinate
 displacement_of v source = displacement source v.observer
 
-abbrev pub ecliptic_displacement : View → Source → ℕ → Coordinate
-ecliptic_displacement v source = ecliptic_coordinate (displacement_of v source)
+abbrev pub ecliptic_of : View → Source → ℕ → Coordinate
+ecliptic_of v source = ecliptic_coordinate (displacement_of v source)

@@ -10,5 +10,5 @@ pub record Moment : Type 0 where
   pub last : ℤ
 
 -- the enclosures of a target, by quantity and axis
-abbrev pub target_enclosure : View → ℤ → ℤ → ℕ → Quantity → ℕ → Enclosure
-target_enclosure v a b target quantity axis = coordinate_enclosure v quantity target axis a b
+abbrev pub target_state : View → ℤ → ℤ → ℕ → Quantity → ℕ → Enclosure
+target_state v a b target quantity axis = coordinate_enclosure v quantity target axis a b

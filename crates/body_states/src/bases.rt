@@ -27,6 +27,7 @@ pub(crate) fn all_bases(arguments: Ival62, n: usize) -> Bases
     ensures rows { AreAll n result }
 {
     let mut bases = plain_bases(arguments, n);
+    let arguments = bases.arguments;
     basis_q(arguments, n, &mut bases.rows);
     basis_r(arguments, n, &mut bases.rows);
     bases

@@ -5,7 +5,7 @@ ghost use Rattle.spec_bodies.specs.Coordinates.{nothing, of_column, times, less,
 ghost use Rattle.spec_bodies.specs.Reading.{IsUsable};
 ghost use Rattle.spec_bodies.specs.Views.{Fits, coordinate_of, framed};
 ghost use Rattle.event_expr.specs.States.{parts};
-ghost use Rattle.body_states.specs.Answers.{CanAsk, CanRead, Answers, IsAnswer, sum_answer, difference_answer, scaled_answer, displacement_of, ecliptic_displacement};
+ghost use Rattle.body_states.specs.Answers.{CanAsk, CanRead, Answers, IsAnswer, sum_answer, difference_answer, scaled_answer, displacement_of, ecliptic_of};
 
 use crate::granule_span::GranuleSpan;
 use crate::motions::{ColumnMotions, Motions};
@@ -43,22 +43,34 @@ impl<'e> BodyStates<'e> {
     // sine of the obliquity.
     fn ecliptic(&self, source: Source, axis: usize, question: &Question) -> Enclosure
         requires question { CanAsk self.now question.now }
-        requires readable { CanRead self.now (ecliptic_displacement self.now source axis) }
-        ensures { Answers self.now question.now (ecliptic_displacement self.now source axis) result }
+        requires readable { CanRead self.now (ecliptic_of self.now source axis) }
+        ensures { Answers self.now question.now (ecliptic_of self.now source axis) result }
     {
         match axis {
             0 => self.displacement(source, 0, question),
-            1 => {
-                let y = self.scaled_displacement(Factor::Cosine, source, 1, question);
-                let z = self.scaled_displacement(Factor::Sine, source, 2, question);
-                self.sum(y, z, question)
-            }
-            _ => {
-                let z = self.scaled_displacement(Factor::Cosine, source, 2, question);
-                let y = self.scaled_displacement(Factor::Sine, source, 1, question);
-                self.difference(z, y, question)
-            }
+            1 => self.ecliptic_y(source, question),
+            _ => self.ecliptic_z(source, question),
         }
+    }
+
+    fn ecliptic_y(&self, source: Source, question: &Question) -> Enclosure
+        requires question { CanAsk self.now question.now }
+        requires readable { CanRead self.now (ecliptic_of self.now source 1) }
+        ensures { Answers self.now question.now (ecliptic_of self.now source 1) result }
+    {
+        let y = self.scaled_displacement(Factor::Cosine, source, 1, question);
+        let z = self.scaled_displacement(Factor::Sine, source, 2, question);
+        self.sum(y, z, question)
+    }
+
+    fn ecliptic_z(&self, source: Source, question: &Question) -> Enclosure
+        requires question { CanAsk self.now question.now }
+        requires readable { CanRead self.now (ecliptic_of self.now source 2) }
+        ensures { Answers self.now question.now (ecliptic_of self.now source 2) result }
+    {
+        let z = self.scaled_displacement(Factor::Cosine, source, 2, question);
+        let y = self.scaled_displacement(Factor::Sine, source, 1, question);
+        self.difference(z, y, question)
     }
 
     // A factor times a coordinate of a source relative to the observer.
@@ -71,10 +83,8 @@ impl<'e> BodyStates<'e> {
     ) -> Enclosure
         requires question { CanAsk self.now question.now }
         requires readable { CanRead self.now (displacement_of self.now source axis) }
-        ensures {
-            let own = displacement_of self.now source axis in
-            Answers self.now question.now (times factor own) result
-        }
+        ensures { let own = displacement_of self.now source axis in
+            Answers self.now question.now (times factor own) result }
     {
         let own = self.displacement(source, axis, question);
         self.scaled(factor, own, question)
@@ -102,11 +112,9 @@ impl<'e> BodyStates<'e> {
         requires question { CanAsk self.now question.now }
         requires own { CanRead self.now (barycentric_coordinate source axis) }
         requires observer { CanRead self.now (barycentric_coordinate self.now.observer axis) }
-        ensures {
-            let own = barycentric_coordinate source axis in
+        ensures { let own = barycentric_coordinate source axis in
             let observer = barycentric_coordinate self.now.observer axis in
-            Answers self.now question.now (less own observer) result
-        }
+            Answers self.now question.now (less own observer) result }
     {
         let own = self.barycentric(source, axis, question);
         let observer = self.barycentric(self.observer, axis, question);
@@ -177,10 +185,9 @@ impl<'e> BodyStates<'e> {
         requires fits { Fits self.now times.now.first times.now.last }
         requires usable { IsUsable self.now number }
         ensures times { result.times.now ≡ times.now }
-        ensures series {
+        ensures series { let e = self.now.ephemeris in
             (axis : ℕ) → axis < 3
-                → series_of result.granule axis ≡ series_at self.now.ephemeris number axis times.now.first
-        }
+            → series_of result.granule axis ≡ series_at e number axis times.now.first }
     {
         GranuleSpan {
             granule: self.ephemeris.granule(number, times.first()),
@@ -225,10 +232,8 @@ impl<'e> BodyStates<'e> {
 
 // What is known of a column.
 fn known(columns: &[ColumnMotions], number: usize) -> Option<&Motions>
-    ensures {
-        IfSome result
-            (λ motions. Contains columns.now (record { number = number; motions = motions.now }))
-    }
+    ensures { IfSome result
+        (λ motions. Contains columns.now (record { number = number; motions = motions.now })) }
 {
     if number < columns.len() {
         let column = &columns[number];

@@ -102,7 +102,11 @@ fn share(part: u64, whole: u64) -> Ival
 {
     let top = u128::from(part) * ONE;
     let whole = u128::from(whole);
-    Ival::of(quotient_down(top, whole), quotient_up(top, whole), UNIT_EXPONENT)
+    Ival::of(
+        quotient_down(top, whole),
+        quotient_up(top, whole),
+        UNIT_EXPONENT,
+    )
 }
 
 fn quotient_down(top: u128, whole: u128) -> i128

@@ -6,7 +6,7 @@ ghost use Rattle.spec_bodies.proofs.Held.{times_span, fractions_of_states, state
 ghost use Rattle.event_expr.specs.States.{parts};
 ghost use Rattle.body_states.specs.Answers.{IsKnown};
 ghost use Rattle.body_states.specs.Motions.{IsMotion, AreMotions};
-ghost use Rattle.body_states.specs.Moments.{target_enclosure};
+ghost use Rattle.body_states.specs.Moments.{target_state};
 
 use crate::motions::{ColumnMotions, Motion, Motions};
 use crate::question::Question;
@@ -29,17 +29,15 @@ pub struct Snapshot<'s, 'e> {
 }
 
 impl<'s, 'e> Model for Snapshot<'s, 'e> {
-    ghost use Rattle.body_states.specs.Moments.{Moment, target_enclosure};
+    ghost use Rattle.body_states.specs.Moments.{Moment, target_state};
     ghost use Rattle.body_states.specs.Motions.{AreMotions};
 
     ghost Value = { Moment };
 
     ghost view = { λ s. record { view = s.states.now; first = s.from; last = s.upto } };
 
-    ghost invariant = {
-        λ s. AreMotions (target_enclosure s.states.now s.from s.upto 0) s.first_target
-        × AreMotions (target_enclosure s.states.now s.from s.upto 1) s.second_target
-    };
+    ghost invariant = { λ s. AreMotions (target_state s.states.now s.from s.upto 0) s.first_target
+        × AreMotions (target_state s.states.now s.from s.upto 1) s.second_target };
 }
 
 impl<'e> BodyStates<'e> {
@@ -65,7 +63,7 @@ impl<'e> BodyStates<'e> {
         requires target { target < 2 }
         requires fits { Fits self.now times.now.first times.now.last }
         requires known { All (IsKnown self.now times.now.first times.now.last) columns.now }
-        ensures { AreMotions (target_enclosure self.now times.now.first times.now.last target) result }
+        ensures { AreMotions (target_state self.now times.now.first times.now.last target) result }
     {
         Motions {
             x: self.motion(target, 0, times, columns),
@@ -80,10 +78,8 @@ impl<'e> BodyStates<'e> {
         requires axis { axis < 3 }
         requires fits { Fits self.now times.now.first times.now.last }
         requires known { All (IsKnown self.now times.now.first times.now.last) columns.now }
-        ensures {
-            let enclosures = target_enclosure self.now times.now.first times.now.last target in
-            IsMotion (λ quantity. enclosures quantity axis) result
-        }
+        ensures { let enclosures = target_state self.now times.now.first times.now.last target in
+            IsMotion (λ quantity. enclosures quantity axis) result }
     {
         let position = Question {
             quantity: Quantity::Position,
@@ -132,10 +128,8 @@ impl<'s, 'e> Snapshot<'s, 'e> {
     // The motions of a target, by its number.
     fn target(&self, target: u8) -> &Motions
         requires { target < 2 }
-        ensures {
-            let enclosures = target_enclosure self.now.view self.now.first self.now.last target in
-            AreMotions enclosures result.now
-        }
+        ensures { let enclosures = target_state self.now.view self.now.first self.now.last target in
+            AreMotions enclosures result.now }
     {
         match target {
             0 => &self.first_target,
@@ -147,10 +141,8 @@ impl<'s, 'e> Snapshot<'s, 'e> {
     fn state(&self, quantity: Quantity, target: u8, axis: u8) -> Enclosure
         requires target { target < 2 }
         requires axis { axis < 3 }
-        ensures {
-            let enclosures = target_enclosure self.now.view self.now.first self.now.last target in
-            parts result ≡ enclosures quantity axis
-        }
+        ensures { let enclosures = target_state self.now.view self.now.first self.now.last target in
+            parts result ≡ enclosures quantity axis }
     {
         self.target(target).along(usize::from(axis)).of(quantity)
     }
@@ -184,22 +176,27 @@ impl<'s, 'e> States for Snapshot<'s, 'e> {
 fn unknown() -> ColumnMotions
     ensures { result.number ≡ 0 }
 {
-    let zero = Ival::zero();
-    let nothing = Enclosure {
-        mid: zero,
-        range: zero,
-        step: zero,
-    };
-    let still = Motion {
-        position: nothing,
-        velocity: nothing,
-    };
     ColumnMotions {
         number: 0,
         motions: Motions {
-            x: still,
-            y: still,
-            z: still,
+            x: no_motion(),
+            y: no_motion(),
+            z: no_motion(),
         },
+    }
+}
+
+fn no_motion() -> Motion {
+    Motion {
+        position: zero_enclosure(),
+        velocity: zero_enclosure(),
+    }
+}
+
+fn zero_enclosure() -> Enclosure {
+    Enclosure {
+        mid: Ival::zero(),
+        range: Ival::zero(),
+        step: Ival::zero(),
     }
 }

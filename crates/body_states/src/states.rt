@@ -31,20 +31,24 @@ impl<'e> Model for BodyStates<'e> {
 
     ghost Value = { View };
 
-    ghost view = {
-        λ s. record {
-            ephemeris = s.ephemeris.now; first = s.first; second = s.second; observer = s.observer; frame = s.frame
-        }
-    };
+    ghost view = { λ s. record {
+      ephemeris = s.ephemeris.now;
+      first = s.first;
+      second = s.second;
+      observer = s.observer;
+      frame = s.frame;
+    } };
 
-    ghost invariant = {
-        λ s. IsView (record {
-            ephemeris = s.ephemeris.now; first = s.first; second = s.second; observer = s.observer; frame = s.frame
-        })
+    ghost invariant = { λ s. IsView (record {
+      ephemeris = s.ephemeris.now;
+      first = s.first;
+      second = s.second;
+      observer = s.observer;
+      frame = s.frame;
+    })
         × (take s.in_use.count s.in_use.numbers ≡ columns_in_use s.first s.second s.observer)
         × (s.in_use.count ≤ 11)
-        × AreFactors s.ephemeris.now.header.emrat s.factors
-    };
+        × AreFactors s.ephemeris.now.header.emrat s.factors };
 }
 
 impl<'e> BodyStates<'e> {

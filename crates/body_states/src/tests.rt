@@ -1,22 +1,21 @@
-// Bodies of two small ephemerides, against an exact reference.
+// Bodies of a small ephemeris, against an exact reference.
 ghost use Rattle.std.specs.Prelude.{◌≡◌, ◌<◌, ◌≤ℤ◌, All, IfOk, IsTrue};
 ghost use Rattle.std.specs.List.{list_all};
 ghost use Rattle.spec_ephemeris.specs.Header.{IsHeader, has_column};
 ghost use Rattle.spec_ephemeris.specs.Ephemeris.{IsBodyNumber, end_of};
-ghost use Rattle.spec_ephemeris.specs.Examples.{column, four_columns};
+ghost use Rattle.spec_ephemeris.specs.Examples.{column};
 ghost use Rattle.spec_expressions.specs.Expression.{HasLeaves};
 ghost use Rattle.spec_bodies.specs.Sources.{source_of, needed};
 ghost use Rattle.spec_bodies.specs.Views.{Fits};
 ghost use Rattle.body_states.specs.Examples.{short_blocks};
 
-use crate::asked::Quantity;
 use crate::sources::{EMB_COLUMN, MOON_COLUMN, source_of};
 use crate::*;
 use eph_model::{Column, Columns, Header};
+use event_expr::builders::{difference, length, position, product, signed_square, sum, velocity};
 use event_expr::{Expr, Formula, enclose};
 use ival_core::Enclosure;
 use spec_bodies::Source;
-use spec_intervals::Sign;
 use spec_text::Decimal;
 use std::alloc::{AllocError, Global};
 use std::process::Abort;
@@ -29,37 +28,6 @@ const GREATEST_SIZE: i64 = 68_719_476_735_999_999;
 const FIRST_TIME: i64 = -211_813_488_000;
 
 const LAST_TIME: i64 = 220_186_512_000;
-
-/// A block of four columns in units of 10^-6 km, its Julian dates as 0: Mercury's x is t - 1339200 km, the Moon's seen
-/// from the Earth is 82 times as much.
-const LINES: [i64; 26] = [
-    0,
-    0,
-    0,
-    1_382_400_000_000,
-    0,
-    0,
-    0,
-    0,
-    0,
-    0,
-    0,
-    0,
-    0,
-    0,
-    0,
-    113_356_800_000_000,
-    0,
-    0,
-    0,
-    0,
-    0,
-    0,
-    0,
-    0,
-    0,
-    0,
-];
 
 /// A block of Mercury, the Earth-Moon barycentre and the Moon in units of 10^-6 km, its Julian dates as 0.
 const SHORT_BLOCK: [i64; 62] = [
@@ -137,36 +105,6 @@ const fn column(start: u32, coefs: u32, granules: u32) -> Column
     }
 }
 
-// Mercury, the Earth-Moon barycentre, the Moon and the Sun, each with two coefficients and one granule.
-fn four_columns(alloc: Global) -> Result<Header, AllocError>
-    ensures { IfOk result (λ h. h ≡ four_columns) }
-{
-    let columns = [
-        column(3, 2, 1),
-        column(9, 0, 0),
-        column(9, 2, 1),
-        column(15, 0, 0),
-        column(15, 0, 0),
-        column(15, 0, 0),
-        column(15, 0, 0),
-        column(15, 0, 0),
-        column(15, 0, 0),
-        column(15, 2, 1),
-        column(21, 2, 1),
-        column(27, 0, 0),
-        column(27, 0, 0),
-    ];
-    Ok(Header {
-        ncoeff: 26,
-        block_seconds: 2_764_800,
-        emrat: Decimal {
-            mant: 810_000_000_000_000_000,
-            exp: -16,
-        },
-        columns: Columns::new(Vec::from_array(alloc, columns)?),
-    })
-}
-
 // Mercury, the Earth-Moon barycentre and the Moon, with one, three and nine granules.
 fn short_blocks(alloc: Global) -> Result<Header, AllocError>
     ensures { IfOk result (λ h. h ≡ short_blocks) }
@@ -225,11 +163,6 @@ fn one_block(
     let mut ephemeris = Ephemeris::empty(alloc, header, start);
     ephemeris.push_block(&block)?;
     Ok(ephemeris)
-}
-
-// From -43200 to 2721600.
-fn lines(rt: &impl Abort, alloc: Global) -> Result<Ephemeris, Fail> {
-    one_block(rt, alloc, four_columns(alloc)?, -43_200, &LINES)
 }
 
 // From -26106867 to -26106462, in granules of 405, 135 and 45 seconds.
@@ -306,60 +239,15 @@ fn parts(enclosure: &Enclosure) -> Parts {
     ]
 }
 
-fn position(target: u8, axis: u8) -> Expr
-    requires target { target < 2 }
-    requires axis { axis < 3 }
-    ensures { HasLeaves result }
+// The enclosure over a snapshot of the states.
+fn enclosed_by_snapshot(formula: &Formula, states: &BodyStates, a: i64, b: i64) -> Enclosure
+    requires { Fits states.now a b }
 {
-    Expr::Pos { target, axis }
+    let snapshot = states.at(a, b);
+    enclose(formula, &snapshot, a, b)
 }
 
-fn velocity(target: u8, axis: u8) -> Expr
-    requires target { target < 2 }
-    requires axis { axis < 3 }
-    ensures { HasLeaves result }
-{
-    Expr::Vel { target, axis }
-}
-
-fn length(mant: i64, exp: i16) -> Expr
-    ensures { HasLeaves result }
-{
-    Expr::Length(Decimal { mant, exp })
-}
-
-fn sum(alloc: Global, x: Expr, y: Expr) -> Result<Expr, AllocError>
-    requires x { HasLeaves x }
-    requires y { HasLeaves y }
-    ensures { IfOk result HasLeaves }
-{
-    Ok(Expr::Add(Box::new(alloc, x)?, Box::new(alloc, y)?))
-}
-
-fn difference(alloc: Global, x: Expr, y: Expr) -> Result<Expr, AllocError>
-    requires x { HasLeaves x }
-    requires y { HasLeaves y }
-    ensures { IfOk result HasLeaves }
-{
-    Ok(Expr::Sub(Box::new(alloc, x)?, Box::new(alloc, y)?))
-}
-
-fn product(alloc: Global, x: Expr, y: Expr) -> Result<Expr, AllocError>
-    requires x { HasLeaves x }
-    requires y { HasLeaves y }
-    ensures { IfOk result HasLeaves }
-{
-    Ok(Expr::Mul(Box::new(alloc, x)?, Box::new(alloc, y)?))
-}
-
-fn signed_square(alloc: Global, x: Expr) -> Result<Expr, AllocError>
-    requires { HasLeaves x }
-    ensures { IfOk result HasLeaves }
-{
-    Ok(Expr::SignedSquare(Box::new(alloc, x)?))
-}
-
-// The formula has this enclosure.
+// The formula has this enclosure, over the states themselves and over a snapshot of them.
 fn check_formula(
     rt: &impl Abort,
     ephemeris: &Ephemeris,
@@ -375,19 +263,31 @@ fn check_formula(
     check_times(rt, ephemeris, &states, a, b);
     match Formula::new(expr) {
         Err(_) => assert!(rt; false),
-        Ok(formula) => assert_eq!(rt; parts(&enclose(&formula, &states, a, b)), expected),
+        Ok(formula) => {
+            assert_eq!(rt; parts(&enclose(&formula, &states, a, b)), expected);
+            assert_eq!(rt;
+                parts(&enclosed_by_snapshot(&formula, &states, a, b)),
+                expected
+            );
+        }
     }
 }
 
-// The enclosure of a coordinate: a quantity of a target, counted from 0, along an axis.
-fn coordinate(
-    rt: &impl Abort,
-    ephemeris: &Ephemeris,
+// Which coordinate is asked for: a quantity of a target along an axis, both counted from 0; over which times; and what
+// the reference answers.
+#[derive(Clone, Copy)]
+struct Row {
     scene: Scene,
-    (quantity, target, axis): (Quantity, u8, u8),
-    (a, b): (i64, i64),
-) -> Enclosure {
-    let states = states(rt, ephemeris, scene);
+    coordinate: (Quantity, u8, u8),
+    times: (i64, i64),
+    parts: Parts,
+}
+
+// The enclosure of a coordinate.
+fn coordinate(rt: &impl Abort, ephemeris: &Ephemeris, row: &Row) -> Enclosure {
+    let (quantity, target, axis) = row.coordinate;
+    let (a, b) = row.times;
+    let states = states(rt, ephemeris, row.scene);
     check_times(rt, ephemeris, &states, a, b);
     assert!(rt; target < 2);
     assert!(rt; axis < 3);
@@ -398,194 +298,122 @@ fn coordinate(
 }
 
 #[test]
-fn the_earth_falls_where_the_moon_rises(rt: HostRuntime) -> Result<(), Fail> {
-    let ephemeris = lines(&rt, rt.alloc())?;
-    let scene = (Body::Earth, Body::Earth, Body::Ssb, Frame::Eq);
-    let x = (Quantity::Position, 0, 0);
-    let before = coordinate(&rt, &ephemeris, scene, x, (1_339_199, 1_339_199));
-    assert!(rt; before.range.sign() == Sign::Yes);
-    let after = coordinate(&rt, &ephemeris, scene, x, (1_339_201, 1_339_201));
-    assert!(rt; after.range.sign() == Sign::No);
-    Ok(())
-}
-
-#[test]
-fn columns_are_those_in_use(rt: HostRuntime) -> Result<(), Fail> {
-    let ephemeris = lines(&rt, rt.alloc())?;
-    let alone = states(
-        &rt,
-        &ephemeris,
-        (Body::Moon, Body::Moon, Body::Earth, Frame::Eq),
-    );
-    assert_eq!(rt; alone.columns(), [10].as_slice());
-    let both = states(
-        &rt,
-        &ephemeris,
-        (Body::Moon, Body::Sun, Body::Earth, Frame::Eq),
-    );
-    assert_eq!(rt; both.columns(), [3, 10, 11].as_slice());
-    let sun = states(
-        &rt,
-        &ephemeris,
-        (Body::Sun, Body::Sun, Body::Ssb, Frame::Ecl),
-    );
-    assert_eq!(rt; sun.columns(), [11].as_slice());
-    Ok(())
-}
-
-#[test]
-fn x_is_the_same_in_both_frames(rt: HostRuntime) -> Result<(), Fail> {
-    let ephemeris = lines(&rt, rt.alloc())?;
-    let x = (Quantity::Position, 0, 0);
-    let times = (1_339_100, 1_339_200);
-    for frame in [Frame::Eq, Frame::Ecl] {
-        let scene = (Body::Moon, Body::Mercury, Body::Earth, frame);
-        let found = coordinate(&rt, &ephemeris, scene, x, times);
-        assert_eq!(rt;
-            parts(&found),
-            [
-                (-2_308_094_809_027_389_450, -2_308_094_809_027_334_100, -49),
-                (-2_308_094_809_027_384_325, 0, -48),
-                (2_954_361_355_555_045_376, 2_954_361_355_555_045_376, -55)
-            ]
-        );
-    }
-    Ok(())
-}
-
-/// What is asked, over which times, and the parts of the answer.
-type Row = (Scene, (Quantity, u8, u8), (i64, i64), Parts);
-
-#[test]
-fn positions_are_those_of_the_reference(rt: HostRuntime) -> Result<(), Fail> {
+fn coordinates_are_those_of_the_reference(rt: HostRuntime) -> Result<(), Fail> {
     let ephemeris = short(&rt, rt.alloc())?;
-    let rows: [Row; 8] = [
-        (
-            (Body::Moon, Body::Emb, Body::Earth, Frame::Eq),
-            (Quantity::Position, 1, 1),
-            (-26_106_761, -26_106_759),
-            [
+    let rows: [Row; 11] = [
+        Row {
+            scene: (Body::Moon, Body::Emb, Body::Earth, Frame::Eq),
+            coordinate: (Quantity::Position, 1, 1),
+            times: (-26_106_761, -26_106_759),
+            parts: [
                 (-488, 488, -32),
                 (-43_005_697_005_300_952, 43_005_697_005_300_952, -59),
                 (-43_005_631_507_049_688, 43_005_631_507_049_688, -59),
             ],
-        ),
-        (
-            (Body::Mercury, Body::Mercury, Body::Ssb, Frame::Ecl),
-            (Quantity::Position, 0, 1),
-            (-26_106_719, -26_106_718),
-            [
+        },
+        Row {
+            scene: (Body::Mercury, Body::Mercury, Body::Ssb, Frame::Ecl),
+            coordinate: (Quantity::Position, 0, 1),
+            times: (-26_106_719, -26_106_718),
+            parts: [
                 (-3_010_191_628_551_687_801, -3_010_191_628_551_676_144, -37),
                 (-3_010_191_652_432_764_091, -3_010_191_628_551_676_144, -37),
                 (-3_205_263_804_075_617_380, -3_205_263_801_915_811_899, -64),
             ],
-        ),
-        (
-            (Body::Mercury, Body::Moon, Body::Ssb, Frame::Eq),
-            (Quantity::Position, 1, 2),
-            (-26_106_631, -26_106_607),
-            [
+        },
+        Row {
+            scene: (Body::Mercury, Body::Moon, Body::Ssb, Frame::Eq),
+            coordinate: (Quantity::Position, 1, 2),
+            times: (-26_106_631, -26_106_607),
+            parts: [
                 (4_008_679_982_086_998_757, 4_008_679_982_123_473_674, -48),
                 (1_475_731_230_452_638_363, 2_532_948_751_654_089_161, -47),
                 (2_819_246_723_151_258_752, 2_819_246_723_159_212_397, -53),
             ],
-        ),
-        (
-            (Body::Earth, Body::Mercury, Body::Ssb, Frame::Ecl),
-            (Quantity::Position, 1, 1),
-            (-26_106_649, -26_106_647),
-            [
+        },
+        Row {
+            scene: (Body::Earth, Body::Mercury, Body::Ssb, Frame::Ecl),
+            coordinate: (Quantity::Position, 1, 1),
+            times: (-26_106_649, -26_106_647),
+            parts: [
                 (-3_010_193_324_108_104_697, -3_010_193_324_108_093_652, -37),
                 (-3_010_193_347_989_181_004, -3_010_193_300_227_017_361, -37),
                 (-3_205_263_804_075_617_380, -3_205_263_801_915_811_899, -64),
             ],
-        ),
-        (
-            (Body::Mercury, Body::Earth, Body::Emb, Frame::Eq),
-            (Quantity::Position, 0, 1),
-            (-26_106_597, -26_106_597),
-            [
+        },
+        Row {
+            scene: (Body::Mercury, Body::Earth, Body::Emb, Frame::Eq),
+            coordinate: (Quantity::Position, 0, 1),
+            times: (-26_106_597, -26_106_597),
+            parts: [
                 (-3_214_882_106_069_925_888, -3_214_882_106_069_919_744, -35),
                 (-3_214_882_106_069_925_888, -3_214_882_106_069_919_744, -35),
                 (0, 0, 0),
             ],
-        ),
-        (
-            (Body::Mercury, Body::Mercury, Body::Moon, Frame::Eq),
-            (Quantity::Position, 1, 2),
-            (-26_106_676, -26_106_674),
-            [
+        },
+        Row {
+            scene: (Body::Mercury, Body::Mercury, Body::Moon, Frame::Eq),
+            coordinate: (Quantity::Position, 1, 2),
+            times: (-26_106_676, -26_106_674),
+            parts: [
                 (-2_866_463_196_224_988_655, -2_866_463_196_224_811_219, -40),
                 (-2_866_807_822_844_051_660, -2_866_118_569_605_746_920, -40),
                 (-2_823_181_263_374_743_741, -2_823_181_263_364_138_880, -53),
             ],
-        ),
-        (
-            (Body::Mercury, Body::Moon, Body::Ssb, Frame::Ecl),
-            (Quantity::Position, 0, 0),
-            (-26_106_779, -26_106_779),
-            [
+        },
+        Row {
+            scene: (Body::Mercury, Body::Moon, Body::Ssb, Frame::Ecl),
+            coordinate: (Quantity::Position, 0, 0),
+            times: (-26_106_779, -26_106_779),
+            parts: [
                 (-4_447_787_234_655_388_336, -4_447_787_234_655_183_151, -41),
                 (-4_447_787_234_655_388_336, -4_447_787_234_655_183_151, -41),
                 (0, 0, 0),
             ],
-        ),
-        (
-            (Body::Earth, Body::Mercury, Body::Emb, Frame::Ecl),
-            (Quantity::Position, 1, 2),
-            (-26_106_643, -26_106_643),
-            [
+        },
+        Row {
+            scene: (Body::Earth, Body::Mercury, Body::Emb, Frame::Ecl),
+            coordinate: (Quantity::Position, 1, 2),
+            times: (-26_106_643, -26_106_643),
+            parts: [
                 (2_605_665_899_967_833_533, 2_605_665_899_967_875_263, -38),
                 (2_605_665_899_967_833_533, 2_605_665_899_967_875_263, -38),
                 (0, 0, 0),
             ],
-        ),
-    ];
-    for (scene, asked, times, expected) in rows {
-        let found = coordinate(&rt, &ephemeris, scene, asked, times);
-        assert_eq!(rt; parts(&found), expected);
-    }
-    Ok(())
-}
-
-#[test]
-fn velocities_are_those_of_the_reference(rt: HostRuntime) -> Result<(), Fail> {
-    let ephemeris = short(&rt, rt.alloc())?;
-    let rows: [Row; 3] = [
-        (
-            (Body::Emb, Body::Mercury, Body::Ssb, Frame::Ecl),
-            (Quantity::Velocity, 1, 0),
-            (-26_106_596, -26_106_582),
-            [
+        },
+        Row {
+            scene: (Body::Emb, Body::Mercury, Body::Ssb, Frame::Ecl),
+            coordinate: (Quantity::Velocity, 1, 0),
+            times: (-26_106_596, -26_106_582),
+            parts: [
                 (-4_184_197_265_574_699_312, -4_184_197_265_532_279_881, -57),
                 (-4_184_197_265_574_699_312, -4_184_197_265_532_279_881, -57),
                 (0, 0, 0),
             ],
-        ),
-        (
-            (Body::Earth, Body::Emb, Body::Ssb, Frame::Eq),
-            (Quantity::Velocity, 0, 0),
-            (-26_106_597, -26_106_594),
-            [
+        },
+        Row {
+            scene: (Body::Earth, Body::Emb, Body::Ssb, Frame::Eq),
+            coordinate: (Quantity::Velocity, 0, 0),
+            times: (-26_106_597, -26_106_594),
+            parts: [
                 (-3_029_452_947_953_464_662, -3_029_452_947_953_462_996, -36),
                 (-3_075_008_631_340_916_736, -2_938_341_581_178_557_613, -36),
                 (2_915_563_736_796_972_017, 2_915_563_736_796_972_248, -42),
             ],
-        ),
-        (
-            (Body::Moon, Body::Mercury, Body::Ssb, Frame::Ecl),
-            (Quantity::Velocity, 0, 0),
-            (-26_106_858, -26_106_857),
-            [
+        },
+        Row {
+            scene: (Body::Moon, Body::Mercury, Body::Ssb, Frame::Ecl),
+            coordinate: (Quantity::Velocity, 0, 0),
+            times: (-26_106_858, -26_106_857),
+            parts: [
                 (-3_202_276_189_587_971_251, -3_202_276_189_579_089_682, -51),
                 (-3_202_282_651_214_736_452, -3_202_276_189_579_089_682, -51),
                 (-846_938_358_812_894_868, -846_938_343_368_451_700, -68),
             ],
-        ),
+        },
     ];
-    for (scene, asked, times, expected) in rows {
-        let found = coordinate(&rt, &ephemeris, scene, asked, times);
-        assert_eq!(rt; parts(&found), expected);
+    for row in rows {
+        assert_eq!(rt; parts(&coordinate(&rt, &ephemeris, &row)), row.parts);
     }
     Ok(())
 }
@@ -615,7 +443,7 @@ fn a_formula_of_positions_and_velocities(rt: HostRuntime) -> Result<(), Fail> {
 fn a_formula_of_two_targets(rt: HostRuntime) -> Result<(), Fail> {
     let alloc = rt.alloc();
     let apart = difference(alloc, position(0, 1), position(1, 1))?;
-    let border = signed_square(alloc, length(25, -1))?;
+    let border = signed_square(alloc, length(Decimal { mant: 25, exp: -1 }))?;
     check_formula(
         &rt,
         &short(&rt, alloc)?,

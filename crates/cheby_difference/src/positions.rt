@@ -1,11 +1,10 @@
 // Changes of a position from each time of a span to the next.
-ghost use Rattle.std.specs.Prelude.{◌≡◌, ℕ, ◌<◌, ◌≤◌, ℤ, ◌≤ℤ◌, ◌<ℤ◌, ◌+ℤ◌};
-ghost use Rattle.spec_intervals.specs.Fraction.{Holds};
-ghost use Rattle.spec_chebyshev.specs.Rows.{q_row, entry, IsArguments};
+ghost use Rattle.std.specs.Prelude.{◌≡◌, ◌<◌, ◌≤◌, ◌≤ℤ◌, ◌+ℤ◌};
+ghost use Rattle.spec_chebyshev.specs.Rows.{q_row, IsArguments};
 ghost use Rattle.spec_ephemeris.specs.Series.{position};
-ghost use Rattle.spec_intervals.specs.Enclosure.{change};
-ghost use Rattle.spec_motions.specs.Enclosures.{position_step_interval};
+ghost use Rattle.spec_motions.specs.Enclosures.{HoldsChanges, position_step_interval};
 ghost use Rattle.spec_intervals.specs.Interval.{zero_interval};
+ghost use Rattle.spec_motions.specs.RowSizes.{IsRow};
 ghost use Rattle.spec_motions.specs.Granules.{IsEvaluable};
 ghost use Rattle.spec_ephemeris.specs.Granules.{series_of};
 
@@ -25,7 +24,7 @@ pub fn position_step(g: &Granule, axis: usize, a: i64, b: i64) -> Ival
     requires order { a ≤ℤ b }
     requires upto { b ≤ℤ (g.now.start +ℤ g.now.seconds) }
     ensures equals { result ≡ position_step_interval (series_of g.now axis) a b }
-    ensures holds { (t : ℤ) → a ≤ℤ t → t <ℤ b → Holds result (change (position (series_of g.now axis)) t) }
+    ensures holds { HoldsChanges (position (series_of g.now axis)) a b result }
     ensures one_time { a ≡ b → result ≡ zero_interval }
 {
     if a < b {
@@ -42,7 +41,7 @@ fn differences(arguments: Ival62, n: usize) -> Bases
     requires arguments { IsArguments arguments }
     requires few { n ≤ 32 }
     ensures arguments { result.arguments ≡ arguments }
-    ensures q { (k : ℕ) → k < n → entry result.rows.q k ≡ q_row arguments k }
+    ensures q { IsRow n result.rows.q (q_row arguments) }
 {
     let mut bases = Bases::over(arguments, n);
     basis_q(arguments, n, &mut bases.rows);

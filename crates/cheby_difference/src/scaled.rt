@@ -1,17 +1,19 @@
 // Sums over the rows of the bases, scaled by what an argument gains in one second.
-ghost use Rattle.std.specs.Prelude.{◌≡◌, ℕ, suc, ◌<◌, ◌≤◌, ◌^◌, length, pos, unsigned_abs, ◌≤ℤ◌, ◌*ℤ◌};
+ghost use Rattle.std.specs.Prelude.{◌≡◌, ◌<◌, ◌^◌, length, pos, unsigned_abs, ◌≤ℤ◌, ◌*ℤ◌};
 ghost use Rattle.spec_numbers.specs.Numbers.{floor_div, ceil_div};
-ghost use Rattle.spec_chebyshev.specs.Rows.{u_row, q_row, r_row, entry, IsArguments};
+ghost use Rattle.spec_chebyshev.specs.Rows.{u_row, q_row, r_row, IsArguments};
+ghost use Rattle.spec_motions.specs.RowSizes.{IsRow, IsShorterRow};
 ghost use Rattle.spec_motions.specs.Enclosures.{position_step_over, velocity_over, velocity_step_over};
 
 use cheby_enclose::{Bases, Terms, WideEnds, row_sum, slope_sum};
 use ival_core::Ival;
 
 /// The interval of the changes of a coordinate from each time to the next, in km: the sum of the products of its terms
-/// with the row of Q, scaled once. The granule takes so many seconds.
+/// with the row of Q, the divided differences of T, times the `2 / seconds` that an argument gains in a second. The
+/// granule takes so many seconds.
 pub fn position_step_over(terms: &Terms, bases: &Bases, seconds: i64) -> Ival
     requires arguments { IsArguments bases.now.arguments }
-    requires q { (k : ℕ) → k < length terms.now → entry bases.now.rows.q k ≡ q_row bases.now.arguments k }
+    requires q { IsRow (length terms.now) bases.now.rows.q (q_row bases.now.arguments) }
     requires long { pos 1 ≤ℤ seconds }
     ensures { result ≡ position_step_over terms.now bases.now.arguments (unsigned_abs seconds) }
 {
@@ -19,10 +21,11 @@ pub fn position_step_over(terms: &Terms, bases: &Bases, seconds: i64) -> Ival
     Ival::scale(sum.lo, sum.hi, -70, seconds)
 }
 
-/// The interval of the velocity along one axis, in km per second: the sum of k C_k U_(k-1), scaled once.
+/// The interval of the velocity along one axis, in km per second: the derivative of JPL's sum, by `T_k' = k U_(k-1)`, as
+/// the sum of k C_k U_(k-1) times `2 / seconds`.
 pub fn velocity_over(terms: &Terms, bases: &Bases, seconds: i64) -> Ival
     requires arguments { IsArguments bases.now.arguments }
-    requires u { (k : ℕ) → suc k < length terms.now → entry bases.now.rows.u k ≡ u_row bases.now.arguments k }
+    requires u { IsShorterRow (length terms.now) bases.now.rows.u (u_row bases.now.arguments) }
     requires long { pos 1 ≤ℤ seconds }
     ensures { result ≡ velocity_over terms.now bases.now.arguments (unsigned_abs seconds) }
 {
@@ -31,10 +34,10 @@ pub fn velocity_over(terms: &Terms, bases: &Bases, seconds: i64) -> Ival
 }
 
 /// The interval of the changes of the velocity along one axis from each time to the next, in km per second: the sum of
-/// k C_k R_(k-1), scaled twice and narrowed once.
+/// k C_k R_(k-1), with the divided differences R of U, times `2 / seconds` twice and narrowed once.
 pub fn velocity_step_over(terms: &Terms, bases: &Bases, seconds: i64) -> Ival
     requires arguments { IsArguments bases.now.arguments }
-    requires r { (k : ℕ) → suc k < length terms.now → entry bases.now.rows.r k ≡ r_row bases.now.arguments k }
+    requires r { IsShorterRow (length terms.now) bases.now.rows.r (r_row bases.now.arguments) }
     requires long { pos 1 ≤ℤ seconds }
     ensures { result ≡ velocity_step_over terms.now bases.now.arguments (unsigned_abs seconds) }
 {

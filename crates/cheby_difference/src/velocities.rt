@@ -1,11 +1,10 @@
 // Velocities, and their changes from each time of a span to the next.
-ghost use Rattle.std.specs.Prelude.{◌≡◌, ℕ, ◌<◌, ◌≤◌, ℤ, ◌≤ℤ◌, ◌<ℤ◌, ◌+ℤ◌};
-ghost use Rattle.spec_intervals.specs.Fraction.{Holds};
-ghost use Rattle.spec_chebyshev.specs.Rows.{u_row, r_row, entry, IsArguments};
+ghost use Rattle.std.specs.Prelude.{◌≡◌, ◌<◌, ◌≤◌, ◌≤ℤ◌, ◌+ℤ◌};
+ghost use Rattle.spec_chebyshev.specs.Rows.{u_row, r_row, IsArguments};
 ghost use Rattle.spec_ephemeris.specs.Velocity.{velocity};
-ghost use Rattle.spec_intervals.specs.Enclosure.{change};
-ghost use Rattle.spec_motions.specs.Enclosures.{velocity_interval, velocity_step_interval};
+ghost use Rattle.spec_motions.specs.Enclosures.{HoldsChanges, HoldsEach, velocity_interval, velocity_step_interval};
 ghost use Rattle.spec_intervals.specs.Interval.{zero_interval};
+ghost use Rattle.spec_motions.specs.RowSizes.{IsRow};
 ghost use Rattle.spec_motions.specs.Granules.{IsEvaluable};
 ghost use Rattle.spec_ephemeris.specs.Granules.{series_of};
 
@@ -25,7 +24,7 @@ pub fn velocity(g: &Granule, axis: usize, a: i64, b: i64) -> Ival
     requires order { a ≤ℤ b }
     requires upto { b ≤ℤ (g.now.start +ℤ g.now.seconds) }
     ensures equals { result ≡ velocity_interval (series_of g.now axis) a b }
-    ensures holds { (t : ℤ) → a ≤ℤ t → t ≤ℤ b → Holds result (velocity (series_of g.now axis) t) }
+    ensures holds { HoldsEach (velocity (series_of g.now axis)) a b result }
 {
     let terms = Terms::of(g, axis);
     let bases = slopes(arguments(g, a, b), g.n);
@@ -41,7 +40,7 @@ pub fn velocity_step(g: &Granule, axis: usize, a: i64, b: i64) -> Ival
     requires order { a ≤ℤ b }
     requires upto { b ≤ℤ (g.now.start +ℤ g.now.seconds) }
     ensures equals { result ≡ velocity_step_interval (series_of g.now axis) a b }
-    ensures holds { (t : ℤ) → a ≤ℤ t → t <ℤ b → Holds result (change (velocity (series_of g.now axis)) t) }
+    ensures holds { HoldsChanges (velocity (series_of g.now axis)) a b result }
     ensures one_time { a ≡ b → result ≡ zero_interval }
 {
     if a < b {
@@ -58,7 +57,7 @@ fn slopes(arguments: Ival62, n: usize) -> Bases
     requires arguments { IsArguments arguments }
     requires few { n ≤ 32 }
     ensures arguments { result.arguments ≡ arguments }
-    ensures u { (k : ℕ) → k < n → entry result.rows.u k ≡ u_row arguments k }
+    ensures u { IsRow n result.rows.u (u_row arguments) }
 {
     let mut bases = Bases::new(arguments);
     basis_u(arguments, n, &mut bases.rows);
@@ -70,7 +69,7 @@ fn slope_differences(arguments: Ival62, n: usize) -> Bases
     requires arguments { IsArguments arguments }
     requires few { n ≤ 32 }
     ensures arguments { result.arguments ≡ arguments }
-    ensures r { (k : ℕ) → k < n → entry result.rows.r k ≡ r_row arguments k }
+    ensures r { IsRow n result.rows.r (r_row arguments) }
 {
     let mut bases = slopes(arguments, n);
     basis_r(arguments, n, &mut bases.rows);

@@ -1,14 +1,17 @@
 // Where the times of a span stand in a granule.
-ghost use Rattle.std.specs.Prelude.{◌≡◌, ℕ, ◌≤◌, ◌^◌, ◌≤ℤ◌, ◌+ℤ◌, ◌-ℤ◌, ◌*ℤ◌, neg_ℤ, pos, unsigned_abs};
+ghost use Rattle.std.specs.Prelude.{◌≡◌, ℕ, ◌≤◌, ◌*◌, ◌^◌, ◌≤ℤ◌, ◌+ℤ◌, ◌-ℤ◌, ◌*ℤ◌, neg_ℤ, pos, unsigned_abs, ◌↔◌, All, IsTrue};
 ghost use Rattle.spec_chebyshev.specs.Rows.{IsArguments};
 ghost use Rattle.spec_ephemeris.specs.Series.{argument_at};
 ghost use Rattle.spec_motions.specs.Enclosures.{arguments};
+ghost use Rattle.spec_ephemeris.specs.Ephemeris.{IsBodyNumber};
 ghost use Rattle.spec_motions.specs.Granules.{IsEvaluable};
 ghost use Rattle.spec_ephemeris.specs.Granules.{series_of};
 
 use cheby_laws::argument;
 use eph_model::Granule;
+use ival_core::is_distance;
 use spec_chebyshev::Ival62;
+use spec_text::Decimal;
 
 /// The arguments of the polynomials from time `a` to time `b`, in seconds of TDB since J2000, rounded outward in units of
 /// 2^-60. They go from -1 at the granule's start to 1 at its end.
@@ -25,6 +28,60 @@ pub fn arguments(g: &Granule, a: i64, b: i64) -> Ival62
         numerator(b, g.start, g.seconds),
         g.seconds,
     )
+}
+
+/// Whether a granule can be evaluated: the test of what the calls here, and those of velocities and changes, require of
+/// one. It has from 1 to 32 coefficients for each component, each a whole number of units of 10^-140 km and below 2^36 km
+/// in size; it takes from 1 to 2^40 seconds, and begins at most 2^50 seconds from J2000.
+pub fn is_evaluable(g: &Granule) -> bool
+    ensures { IsTrue result ↔ IsEvaluable g.now }
+{
+    if !is_count(g.n) {
+        return false;
+    }
+    if !are_rows(g.coefs.len(), g.comps, g.n) {
+        return false;
+    }
+    if !is_time(g.start, g.seconds) {
+        return false;
+    }
+    are_body_numbers(g.coefs)
+}
+
+// Whether a component may have so many coefficients.
+fn is_count(n: usize) -> bool
+    ensures { IsTrue result ↔ ((1 ≤ n) × (n ≤ 32)) }
+{
+    1 <= n && n <= 32
+}
+
+// Whether so many numbers are rows of n.
+fn are_rows(numbers: usize, rows: usize, n: usize) -> bool
+    requires { 1 ≤ n }
+    ensures { IsTrue result ↔ (numbers ≡ rows * n) }
+{
+    numbers % n == 0 && numbers / n == rows
+}
+
+// Whether a granule may begin then and take so long.
+fn is_time(start: i64, seconds: i64) -> bool
+    ensures { IsTrue result
+        ↔ ((unsigned_abs start ≤ 2 ^ 50) × (pos 1 ≤ℤ seconds) × (seconds ≤ℤ pos (2 ^ 40))) }
+{
+    start.unsigned_abs() <= 1 << 50 && 1 <= seconds && seconds <= 1 << 40
+}
+
+// Whether all are coefficients of a body.
+fn are_body_numbers(coefs: &[Decimal]) -> bool
+    ensures { IsTrue result ↔ All IsBodyNumber coefs.now }
+{
+    coefs.iter().all(|c| is_body_number(*c))
+}
+
+fn is_body_number(c: Decimal) -> bool
+    ensures { IsTrue result ↔ IsBodyNumber c }
+{
+    is_distance(c.mant, c.exp) && -140 <= c.exp
 }
 
 // u of a time, whose argument is u / seconds.

@@ -13,7 +13,7 @@ mod terms;
 #[cfg(test)]
 mod tests;
 
-pub use granules::arguments;
+pub use granules::{arguments, is_evaluable};
 pub use positions::{Bases, position, position_over};
 pub use sums::{WideEnds, row_sum, slope_sum};
 pub use terms::Terms;

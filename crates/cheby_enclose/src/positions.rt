@@ -1,9 +1,10 @@
 // The interval of a coordinate over a span of times.
-ghost use Rattle.std.specs.Prelude.{◌≡◌, ℕ, ◌<◌, ◌≤◌, length, ℤ, ◌≤ℤ◌, ◌+ℤ◌};
-ghost use Rattle.spec_intervals.specs.Fraction.{Holds};
-ghost use Rattle.spec_chebyshev.specs.Rows.{t_row, entry, IsArguments};
+ghost use Rattle.std.specs.Prelude.{◌≡◌, ◌<◌, ◌≤◌, length, ◌≤ℤ◌, ◌+ℤ◌};
+ghost use Rattle.spec_chebyshev.specs.Rows.{t_row, IsArguments};
 ghost use Rattle.spec_ephemeris.specs.Series.{position};
-ghost use Rattle.spec_motions.specs.Enclosures.{IsTight, position_interval, position_over};
+ghost use Rattle.spec_motions.specs.Enclosures.{HoldsEach, IsTight, position_interval, position_over};
+ghost use Rattle.spec_motions.specs.RowSizes.{IsRow};
+ghost use Rattle.cheby_enclose.specs.Bases.{no_rows};
 ghost use Rattle.spec_motions.specs.Granules.{IsEvaluable};
 ghost use Rattle.spec_ephemeris.specs.Granules.{series_of};
 
@@ -15,8 +16,8 @@ use eph_model::Granule;
 use ival_core::Ival;
 use spec_chebyshev::Ival62;
 
-/// An interval of arguments, and the rows of the bases over it. Which rows are made, and how far, is the caller's
-/// matter: `basis_t`, `basis_u`, `basis_q` and `basis_r` write them into `rows`.
+/// An interval of arguments in units of 2^-60, and the rows of the bases over it. Which rows are made, and how far, is the
+/// caller's matter: `basis_t`, `basis_u`, `basis_q` and `basis_r` write them into `rows`.
 #[derive(Drop)]
 pub struct Bases {
     pub arguments: Ival62,
@@ -26,7 +27,8 @@ pub struct Bases {
 impl Bases {
     /// An interval of arguments with no row made: every entry is 0.
     pub fn new(arguments: Ival62) -> Self
-        ensures { result.arguments ≡ arguments }
+        ensures arguments { result.arguments ≡ arguments }
+        ensures rows { result.rows ≡ no_rows }
     {
         let nothing = [Ival62 { lo: 0, hi: 0 }; 32];
         let rows = Basis {
@@ -38,12 +40,13 @@ impl Bases {
         Bases { arguments, rows }
     }
 
-    /// The first `n` entries of T over an interval of arguments, as positions need them.
+    /// The first `n` entries of T over an interval of arguments, as positions need them. What the other rows hold is left
+    /// open.
     pub fn over(arguments: Ival62, n: usize) -> Self
         requires arguments { IsArguments arguments }
         requires few { n ≤ 32 }
         ensures arguments { result.arguments ≡ arguments }
-        ensures t { (k : ℕ) → k < n → entry result.rows.t k ≡ t_row arguments k }
+        ensures t { IsRow n result.rows.t (t_row arguments) }
     {
         let mut bases = Bases::new(arguments);
         basis_t(arguments, n, &mut bases.rows);
@@ -51,18 +54,20 @@ impl Bases {
     }
 }
 
-/// The interval of a coordinate, in km: the sum of the products of its terms with the row of T, narrowed once.
+/// The interval of a coordinate, in km: JPL's sum of `c_k T_k(x)`, as the sum of the products of the terms with the row of
+/// T in 128 bits, narrowed once to ends of at most 2^62 in size.
 pub fn position_over(terms: &Terms, bases: &Bases) -> Ival
     requires arguments { IsArguments bases.now.arguments }
-    requires t { (k : ℕ) → k < length terms.now → entry bases.now.rows.t k ≡ t_row bases.now.arguments k }
+    requires t { IsRow (length terms.now) bases.now.rows.t (t_row bases.now.arguments) }
     ensures { result ≡ position_over terms.now bases.now.arguments }
 {
     let sum = row_sum(terms, &bases.rows.t);
     Ival::of(sum.lo, sum.hi, -84)
 }
 
-/// The interval of one coordinate of a granule, in km, from time `a` to time `b`, in seconds of TDB since J2000. Axes are
-/// counted from 0. Over one time it is at most the sum of `|c_k| 3^(k+1) 2^-59`, and `(n + 2) 2^-23`, km wide.
+/// The interval of one coordinate of a granule, in km, from time `a` to time `b`, in seconds of TDB since J2000: it holds
+/// JPL's Chebyshev sum at each of these times. Axes are counted from 0. Over one time it is at most the sum of
+/// `|c_k| 3^(k+1) 2^-59`, and `(n + 2) 2^-23`, km wide.
 pub fn position(g: &Granule, axis: usize, a: i64, b: i64) -> Ival
     requires granule { IsEvaluable g.now }
     requires axis { axis < g.now.comps }
@@ -70,7 +75,7 @@ pub fn position(g: &Granule, axis: usize, a: i64, b: i64) -> Ival
     requires order { a ≤ℤ b }
     requires upto { b ≤ℤ (g.now.start +ℤ g.now.seconds) }
     ensures equals { result ≡ position_interval (series_of g.now axis) a b }
-    ensures holds { (t : ℤ) → a ≤ℤ t → t ≤ℤ b → Holds result (position (series_of g.now axis) t) }
+    ensures holds { HoldsEach (position (series_of g.now axis)) a b result }
     ensures tight { a ≡ b → IsTight (series_of g.now axis).coefficients result }
 {
     let terms = Terms::of(g, axis);

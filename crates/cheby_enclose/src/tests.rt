@@ -1,198 +1,68 @@
-// Values from an exact reference.
-ghost use Rattle.std.specs.Prelude.{◌≡◌, ◌<◌, ◌≤◌, All, IfOk, length};
-ghost use Rattle.spec_ephemeris.specs.Ephemeris.{IsBodyNumber};
+// Positions of an exact reference.
 
-use crate::position;
+use crate::{is_evaluable, position};
 use eph_model::Granule;
-use ival_core::Sign;
+use ival_core::{Ival, Sign};
 use spec_text::Decimal;
-use std::alloc::{AllocError, Global};
 use std::process::Abort;
-use std::test::Fail;
 
-const TWO_AXES: [(i64, i16); 4] = [(500, -8), (600, -8), (0, -8), (138240000000000, -8)];
-
-const MERCURY: [(i64, i16); 14] = [
-    (5790000000000000, -8),
-    (-1564864864861800, -8),
-    (422936449975900, -8),
-    (-114307148610900, -8),
-    (30893824006000, -8),
-    (-8349682072900, -8),
-    (2256670963100, -8),
-    (-609910889000, -8),
-    (164841020300, -8),
-    (-44551322400, -8),
-    (12041275800, -8),
-    (-3253940000, -8),
-    (879991000, -8),
-    (-237190900, -8),
-];
-
-// Granules of random numbers follow: all three axes, or the one that is evaluated.
-const ONE_NUMBER: [(i64, i16); 3] = [
-    (-6871947673599999999, -8),
-    (-6871947673599999999, -8),
-    (-6871947673599999999, -8),
-];
-
-const TINY_NUMBERS: [(i64, i16); 3] = [
-    (-394931338865407717, -116),
-    (-353021587374065472, -23),
-    (-745883812412626503, -129),
-];
-
-const GREATEST_LINES: [(i64, i16); 6] = [
-    (-6871947673599999999, -8),
-    (6871947673599999999, -8),
-    (-6871947673599999999, -8),
-    (6871947673599999999, -8),
-    (-6871947673599999999, -8),
-    (-6871947673599999999, -8),
-];
-
-const PARABOLA: [(i64, i16); 3] = [
-    (-6871947673599999999, -8),
-    (6871947673599999999, -8),
-    (-6871947673599999999, -8),
-];
-
-const MIXED_PARABOLAS: [(i64, i16); 9] = [
-    (-517394362392904501, -83),
-    (-396634773648938581, -68),
-    (-281561214177380013, -24),
-    (-993291203348240827, -42),
-    (-511300431512323537, -131),
-    (-719649093815574898, -110),
-    (571667271767850475, -112),
-    (-456785483141275349, -126),
-    (456024652111447189, -102),
-];
-
-const MIXED_CUBIC: [(i64, i16); 4] = [
-    (22429406310710635, -70),
-    (-435671937705559767, -103),
-    (541958718678081744, -18),
-    (-834726606079471449, -46),
-];
-
-const GREATEST: [(i64, i16); 32] = [
-    (6871947673599999999, -8),
-    (-6871947673599999999, -8),
-    (6871947673599999999, -8),
-    (6871947673599999999, -8),
-    (-6871947673599999999, -8),
-    (-6871947673599999999, -8),
-    (-6871947673599999999, -8),
-    (6871947673599999999, -8),
-    (6871947673599999999, -8),
-    (6871947673599999999, -8),
-    (-6871947673599999999, -8),
-    (-6871947673599999999, -8),
-    (6871947673599999999, -8),
-    (-6871947673599999999, -8),
-    (-6871947673599999999, -8),
-    (-6871947673599999999, -8),
-    (-6871947673599999999, -8),
-    (-6871947673599999999, -8),
-    (-6871947673599999999, -8),
-    (-6871947673599999999, -8),
-    (6871947673599999999, -8),
-    (6871947673599999999, -8),
-    (-6871947673599999999, -8),
-    (6871947673599999999, -8),
-    (-6871947673599999999, -8),
-    (6871947673599999999, -8),
-    (6871947673599999999, -8),
-    (6871947673599999999, -8),
-    (-6871947673599999999, -8),
-    (6871947673599999999, -8),
-    (6871947673599999999, -8),
-    (-6871947673599999999, -8),
-];
-
-const MIXED: [(i64, i16); 32] = [
-    (725620562447800715, -69),
-    (271602337792523229, -81),
-    (-725812172780169152, -84),
-    (625113152914711301, -81),
-    (-47477948693438518, -37),
-    (534471484822247069, -53),
-    (-543279037906924895, -86),
-    (-842706733655895092, -102),
-    (-402792517097780309, -23),
-    (378411311333743865, -38),
-    (625103847720408973, -39),
-    (-384290843495240410, -73),
-    (16441538280731020, -38),
-    (-123581857096053988, -82),
-    (-44329594272223739, -108),
-    (358892042034773674, -104),
-    (767835526297645337, -38),
-    (460655693408657261, -137),
-    (200031998420561016, -25),
-    (-232936425880059131, -73),
-    (122497548649096297, -97),
-    (-680573110665980572, -140),
-    (223536693059731414, -54),
-    (-222216392320445155, -69),
-    (-827107307345850663, -22),
-    (108611836929132609, -93),
-    (409779028933606266, -116),
-    (-914444967131051773, -102),
-    (-34163449865482292, -139),
-    (559943511474087788, -42),
-    (393292808226301414, -47),
-    (-760686924542760749, -23),
-];
-
-/// The greatest size of a mantissa here: at an exponent of -8 just below 2^36 km.
-const GREATEST_SIZE: i64 = 6_871_947_673_599_999_999;
-
-// A coefficient in km, of its mantissa and its exponent.
-#[tactic(auto, using(crate::proofs::SmallCoefficients::small_coefficient))]
-fn coefficient(rt: &impl Abort, mant: i64, exp: i16) -> Decimal
-    ensures { IsBodyNumber result }
-{
-    assert!(rt; -140 <= exp);
-    assert!(rt; exp <= -8);
-    assert!(rt; -GREATEST_SIZE <= mant);
-    assert!(rt; mant <= GREATEST_SIZE);
+// A number of km, as its mantissa and its exponent.
+const fn km(mant: i64, exp: i16) -> Decimal {
     Decimal { mant, exp }
 }
 
-// Coefficients in km, of mantissas and exponents.
-fn coefficients(
-    rt: &impl Abort,
-    alloc: Global,
-    written: &[(i64, i16)],
-) -> Result<Vec<Decimal>, AllocError>
-    ensures count { IfOk result (λ v. length v.items ≡ length written.now) }
-    ensures bodies { IfOk result (λ v. All IsBodyNumber v.items) }
-{
-    let mut made = Vec::new(alloc);
-    for pair in written {
-        let (mant, exp) = *pair;
-        made.push(coefficient(rt, mant, exp))?;
-    }
-    Ok(made)
+// Two axes: the second grows by 1 km each second and passes 0 in the middle.
+fn lines() -> [Decimal; 4] {
+    [km(500, -8), km(600, -8), km(0, -8), km(138240000000000, -8)]
 }
 
-// The interval of a coordinate of a granule of one or two components, and its sign.
-fn enclosed(
+// Three axes of random numbers, from 10^-114 to 10^-5 km in size.
+fn parabolas() -> [Decimal; 9] {
+    [
+        km(-517394362392904501, -83),
+        km(-396634773648938581, -68),
+        km(-281561214177380013, -24),
+        km(-993291203348240827, -42),
+        km(-511300431512323537, -131),
+        km(-719649093815574898, -110),
+        km(571667271767850475, -112),
+        km(-456785483141275349, -126),
+        km(456024652111447189, -102),
+    ]
+}
+
+// 32 numbers just below 2^36 km in size, of random signs.
+fn greatest() -> [Decimal; 32] {
+    let (p, m) = (km(6871947673599999999, -8), km(-6871947673599999999, -8));
+    [
+        p, m, p, p, m, m, m, p, p, p, m, m, p, m, m, m, m, m, m, m, p, p, m, p, m, p, p, p, m, p,
+        p, m,
+    ]
+}
+
+/// One axis of a granule over a span of times, and the ends and the exponent of its interval.
+#[derive(Clone, Copy)]
+struct Case<'a> {
+    coefs: &'a [Decimal],
+    n: usize,
+    start: i64,
+    seconds: i64,
+    axis: usize,
+    span: (i64, i64),
+    parts: (i128, i128, i32),
+}
+
+// The interval of one axis of a granule.
+fn interval(
     rt: &impl Abort,
-    alloc: Global,
-    written: &[(i64, i16)],
+    coefs: &[Decimal],
     n: usize,
     (start, seconds): (i64, i64),
     axis: usize,
     (a, b): (i64, i64),
-) -> Result<((i128, i128, i32), Sign), Fail> {
-    let coefs = coefficients(rt, alloc, written)?;
+) -> Ival {
     assert!(rt; 1 <= n);
-    assert!(rt; n <= 32);
     let comps = coefs.len() / n;
-    assert!(rt; coefs.len() == comps * n);
     assert!(rt; axis < comps);
     assert!(rt; -(1 << 50) <= start);
     assert!(rt; start <= 1 << 50);
@@ -207,195 +77,58 @@ fn enclosed(
         seconds,
         n,
         comps,
-        coefs: &coefs,
+        coefs,
     };
-    let interval = position(&granule, axis, a, b);
-    Ok((interval.parts(), interval.sign()))
+    assert!(rt; is_evaluable(&granule));
+    position(&granule, axis, a, b)
 }
 
 #[test]
-fn a_line_passes_0(rt: HostRuntime) -> Result<(), Fail> {
-    let block = (-43_200, 2_764_800);
-    let (middle, _) = enclosed(
-        &rt,
-        rt.alloc(),
-        &TWO_AXES,
-        2,
-        block,
-        1,
-        (1_339_200, 1_339_200),
-    )?;
-    assert_eq!(&rt; middle, (0, 0, 0));
-    let (_, sign) = enclosed(
-        &rt,
-        rt.alloc(),
-        &TWO_AXES,
-        2,
-        block,
-        1,
-        (1_339_000, 1_339_100),
-    )?;
-    assert_eq!(&rt; sign, Sign::No);
-    Ok(())
-}
-
-#[test]
-fn positions_are_those_of_the_reference(rt: HostRuntime) -> Result<(), Fail> {
-    assert_eq!(&rt;
-        enclosed(
-            &rt,
-            rt.alloc(),
-            &TWO_AXES,
-            2,
-            (-43200, 2764800),
-            1,
-            (1339000, 1339100)
-        )?
-        .0,
-        (-3602879701896412800, -1801439850948184800, -54)
-    );
-    assert_eq!(&rt;
-        enclosed(
-            &rt,
-            rt.alloc(),
-            &MERCURY,
-            14,
-            (0, 691200),
-            0,
-            (345600, 345600)
-        )?
-        .0,
-        (3708002897298386944, 3708002897298411520, -36)
-    );
-    assert_eq!(&rt;
-        enclosed(
-            &rt,
-            rt.alloc(),
-            &MERCURY,
-            14,
-            (0, 691200),
-            0,
-            (100000, 100777)
-        )?
-        .0,
-        (2330596310922938925, 2333504733030630655, -35)
-    );
-    assert_eq!(&rt;
-        enclosed(
-            &rt,
-            rt.alloc(),
-            &MERCURY,
-            14,
-            (0, 691200),
-            0,
-            (691199, 691200)
-        )?
-        .0,
-        (3132286891479058400, 3132298673404102823, -36)
-    );
-    assert_eq!(&rt;
-        enclosed(
-            &rt,
-            rt.alloc(),
-            &ONE_NUMBER,
-            1,
-            (-1125899906842624, 1),
-            2,
-            (-1125899906842624, -1125899906842623)
-        )?
-        .0,
-        (-4611686018427387904, -4611686018427387900, -26)
-    );
-    assert_eq!(&rt;
-        enclosed(
-            &rt,
-            rt.alloc(),
-            &TINY_NUMBERS,
-            1,
-            (0, 1099511627776),
-            0,
-            (0, 0)
-        )?
-        .0,
-        (-1152921504606846976, 0, -84)
-    );
-    assert_eq!(&rt;
-        enclosed(
-            &rt,
-            rt.alloc(),
-            &GREATEST_LINES,
-            2,
-            (349520593503521, 7),
-            1,
-            (349520593503521, 349520593503528)
-        )?
-        .0,
-        (-4611686018427387904, 2, -25)
-    );
-    assert_eq!(&rt;
-        enclosed(
-            &rt,
-            rt.alloc(),
-            &PARABOLA,
-            3,
-            (0, 1099511627775),
-            0,
-            (826368202093, 826368202770)
-        )?
-        .0,
-        (-3748276395659404285, -3748272015772545024, -34)
-    );
-    assert_eq!(&rt;
-        enclosed(
-            &rt,
-            rt.alloc(),
-            &MIXED_PARABOLAS,
-            3,
-            (0, 2764800),
-            2,
-            (0, 2692133)
-        )?
-        .0,
-        (-2245238736228113983, 3458764513820540928, -84)
-    );
-    assert_eq!(&rt;
-        enclosed(
-            &rt,
-            rt.alloc(),
-            &MIXED_CUBIC,
-            4,
-            (-943791662689821, 27),
-            0,
-            (-943791662689810, -943791662689794)
-        )?
-        .0,
-        (-2499344136440643584, 2499344187343959685, -62)
-    );
-    assert_eq!(&rt;
-        enclosed(
-            &rt,
-            rt.alloc(),
-            &GREATEST,
-            32,
-            (0, 1099511627775),
-            0,
-            (978565623363, 978565624109)
-        )?
-        .0,
-        (1052464154938605083, 3988272842743283006, -23)
-    );
-    assert_eq!(&rt;
-        enclosed(
-            &rt,
-            rt.alloc(),
-            &MIXED,
-            32,
-            (-43200, 2764800),
-            0,
-            (201644, 2721600)
-        )?
-        .0,
-        (-3629502471771743944, 3632153099474305024, -75)
-    );
-    Ok(())
+fn positions_are_those_of_the_reference(rt: HostRuntime) {
+    let (lines, parabolas, greatest) = (lines(), parabolas(), greatest());
+    let cases = [
+        Case {
+            coefs: &lines,
+            n: 2,
+            start: -43200,
+            seconds: 2764800,
+            axis: 1,
+            span: (1339200, 1339200),
+            parts: (0, 0, 0),
+        },
+        Case {
+            coefs: &lines,
+            n: 2,
+            start: -43200,
+            seconds: 2764800,
+            axis: 1,
+            span: (1339000, 1339100),
+            parts: (-3602879701896412800, -1801439850948184800, -54),
+        },
+        Case {
+            coefs: &parabolas,
+            n: 3,
+            start: 0,
+            seconds: 2764800,
+            axis: 2,
+            span: (0, 2692133),
+            parts: (-2245238736228113983, 3458764513820540928, -84),
+        },
+        Case {
+            coefs: &greatest,
+            n: 32,
+            start: 0,
+            seconds: 1099511627775,
+            axis: 0,
+            span: (978565623363, 978565624109),
+            parts: (1052464154938605083, 3988272842743283006, -23),
+        },
+    ];
+    for case in cases {
+        let granule = (case.start, case.seconds);
+        let found = interval(&rt, case.coefs, case.n, granule, case.axis, case.span);
+        assert_eq!(rt; found.parts(), case.parts, "in {:?}", case.span);
+        let negative = case.parts.1 < 0;
+        assert_eq!(rt; found.sign() == Sign::No, negative, "in {:?}", case.span);
+    }
 }

@@ -32,7 +32,8 @@ pub fn basis_t(x: Ival62, n: usize, out: &mut Basis)
     ensures u_same { out.new.u ≡ out.old.u }
     ensures q_same { out.new.q ≡ out.old.q }
     ensures r_same { out.new.r ≡ out.old.r }
-    ensures holds { (u l : ℤ) → IsArgument u l → HoldsIn 60 x u l → (k : ℕ) → k < n → HoldsIn t_unit (entry out.new.t k) (cleared_t u l k) (power l k) }
+    ensures holds { (u l : ℤ) → IsArgument u l → HoldsIn 60 x u l → (k : ℕ) → k < n
+        → HoldsIn t_unit (entry out.new.t k) (cleared_t u l k) (power l k) }
 {
     fill_t(x, n, &mut out.t);
 }
@@ -47,7 +48,8 @@ pub fn basis_u(x: Ival62, n: usize, out: &mut Basis)
     ensures t_same { out.new.t ≡ out.old.t }
     ensures q_same { out.new.q ≡ out.old.q }
     ensures r_same { out.new.r ≡ out.old.r }
-    ensures holds { (u l : ℤ) → IsArgument u l → HoldsIn 60 x u l → (k : ℕ) → k < n → HoldsIn u_unit (entry out.new.u k) (cleared_u u l k) (power l k) }
+    ensures holds { (u l : ℤ) → IsArgument u l → HoldsIn 60 x u l → (k : ℕ) → k < n
+        → HoldsIn u_unit (entry out.new.u k) (cleared_u u l k) (power l k) }
 {
     fill_u(x, n, &mut out.u);
 }
@@ -63,7 +65,9 @@ pub fn basis_q(x: Ival62, n: usize, out: &mut Basis)
     ensures t_same { out.new.t ≡ out.old.t }
     ensures u_same { out.new.u ≡ out.old.u }
     ensures r_same { out.new.r ≡ out.old.r }
-    ensures holds { (a u l : ℤ) → IsArgument a l → IsArgument u l → HoldsIn 60 x a l → HoldsIn 60 x u l → (k : ℕ) → k < n → HoldsIn q_unit (entry out.new.q k) (l *ℤ difference_t a u l k) (power l k) }
+    ensures holds { (a u l : ℤ) → IsArgument a l → IsArgument u l → HoldsIn 60 x a l
+        → HoldsIn 60 x u l → (k : ℕ) → k < n
+        → HoldsIn q_unit (entry out.new.q k) (l *ℤ difference_t a u l k) (power l k) }
 {
     fill_q(x, n, &out.t, &mut out.q);
 }
@@ -79,7 +83,9 @@ pub fn basis_r(x: Ival62, n: usize, out: &mut Basis)
     ensures t_same { out.new.t ≡ out.old.t }
     ensures u_same { out.new.u ≡ out.old.u }
     ensures q_same { out.new.q ≡ out.old.q }
-    ensures holds { (a u l : ℤ) → IsArgument a l → IsArgument u l → HoldsIn 60 x a l → HoldsIn 60 x u l → (k : ℕ) → k < n → HoldsIn r_unit (entry out.new.r k) (l *ℤ difference_u a u l k) (power l k) }
+    ensures holds { (a u l : ℤ) → IsArgument a l → IsArgument u l → HoldsIn 60 x a l
+        → HoldsIn 60 x u l → (k : ℕ) → k < n
+        → HoldsIn r_unit (entry out.new.r k) (l *ℤ difference_u a u l k) (power l k) }
 {
     fill_r(x, n, &out.u, &mut out.r);
 }

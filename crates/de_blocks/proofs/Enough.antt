@@ -10,9 +10,9 @@ use Rattle.spec_sections.proofs.Steps.{bind_same}
 use Rattle.spec_sections.proofs.WordSections.{after_fewer}
 use Rattle.spec_faults.specs.declared.numbers.TheConstants.{TRUNCATED}
 use Rattle.spec_blocks.specs.BlockRules.{record_line}
-use Rattle.spec_blocks.specs.Blocks.{block, blocks_behind, further_numbers, further_words, numbers_of, with_numbers, zeros_of}
+use Rattle.spec_blocks.specs.Blocks.{block, blocks_after, further_numbers, further_words, numbers_of, with_numbers, zeros_of}
 
--- the lines behind a block are fewer
+-- the lines after a block are fewer
 pub further_fewer : (before : Ephemeris) (n : ℕ) (numbers : List Decimal) (lines : List FileLine)
     → Holds (λ found. length found.1 ≤ length lines) (further_numbers before n numbers lines)
 further_fewer before n numbers lines =
@@ -33,7 +33,7 @@ heading_fewer before file number rest (Err b) = tt
 block_fewer : (before : Ephemeris) (line : FileLine) (rest : List FileLine) → Holds (λ found. length found.1 ≤ length rest) (block before (line ∷ rest))
 block_fewer before line rest = heading_fewer before line.file line.number rest (record_line before.header.ncoeff line.words)
 
-pub enough : (m n : ℕ) (before : Ephemeris) (lines : List FileLine) → length lines ≤ m → length lines ≤ n → blocks_behind m before lines ≡ blocks_behind n before lines
+pub enough : (m n : ℕ) (before : Ephemeris) (lines : List FileLine) → length lines ≤ m → length lines ≤ n → blocks_after m before lines ≡ blocks_after n before lines
 enough zero zero before lines one other = refl
 enough zero (suc n) before [] one other = refl
 enough (suc m) zero before [] one other = refl

@@ -1,4 +1,3 @@
-pub mod Places
 pub mod Times
 pub mod Large
 pub mod OnLines

@@ -1,4 +1,4 @@
--- A line within a block, and what the block wants behind it.
+-- A line within a block, and what the block wants after it.
 use Rattle.std.proofs.Common.{◌≡◌, ◌≢◌, ℕ, ◌+◌, ◌-◌, ◌<◌, ◌≤◌, min, List, [], ◌∷◌, ◌++◌, length, map, take, drop, Result, Ok, Err, refl, sym, ap, ◌∙◌, arith, eq-eqb, ne_eqb}
 use Rattle.std.proofs.lemmas.List.{length-append, length-take, length-drop}
 use Rattle.spec_text.specs.declared.decimals.Decimal.{Decimal}
@@ -12,10 +12,11 @@ use Rattle.spec_faults.specs.declared.numbers.TheConstants.{TRUNCATED}
 use Rattle.spec_blocks.specs.BlockRules.{number_rule, trailing_rule}
 use Rattle.spec_blocks.specs.Blocks.{further_numbers, further_words, numbers_of, zeros_of}
 use Rattle.spec_blocks.specs.Read.{AreRead}
+use Rattle.spec_blocks.proofs.FurtherWords.{none_further}
 use Rattle.spec_blocks.proofs.Numbers.{Counted, Meets, number_holds, read_more}
 use Rattle.de_blocks.specs.Steps.{numbers_on, on_line, wanted, zeros_on}
 
--- ---- words one behind the other
+-- ---- words one after the other
 numbers_append : (before : Ephemeris) (numbers : List Decimal) (xs ys : List FileWord)
     → numbers_of before numbers (xs ++ ys) ≡ (numbers_of before numbers xs >>= λ mid. numbers_of before mid ys)
 numbers_append before numbers [] ys = refl
@@ -42,10 +43,6 @@ zeros_here line [] = refl
 zeros_here line (word ∷ words) =
     bind_same (at_line line.file line.number (trailing_rule word)) _ _ (λ u is. zeros_here line words)
     ∙ bind_at line.file line.number (trailing_rule word) (λ u. zeros_on words)
-
-none_further : (n : ℕ) (lines : List FileLine) → n ≡ 0 → further_words n lines ≡ []
-none_further n [] is = refl
-none_further n (line ∷ rest) is = rw (eq-eqb n 0 is) refl
 
 -- ---- the numbers of a line
 pub on_holds : (before : Ephemeris) (numbers : List Decimal) (words : List (List ℕ)) → AreRead before numbers
@@ -77,7 +74,7 @@ abbrev err_or : {A : Type 0} → BrokenRule → Result A BrokenRule → BrokenRu
 err_or b (Ok x) = b
 err_or b (Err e) = e
 
--- ---- a line, and what is wanted behind it
+-- ---- a line, and what is wanted after it
 module _ (before : Ephemeris) (numbers : List Decimal) (line : FileLine) (rest : List FileLine) (some : 0 < wanted before numbers) where
   abbrev k : ℕ
   k = wanted before numbers
@@ -85,12 +82,12 @@ module _ (before : Ephemeris) (numbers : List Decimal) (line : FileLine) (rest :
   abbrev here : Result (List Decimal) BrokenRule
   here = numbers_on before numbers (take k line.words)
 
-  -- the numbers, the zeros and the lines behind, each after those of this line
+  -- the numbers, the zeros and the lines after, each after those of this line
   abbrev apart : Result (List Decimal × List FileLine) Stop
   apart =
       (at_line line.file line.number here >>= λ mid. numbers_of before mid (first_words (k - length line.words) rest)) >>= λ all.
       (at_line line.file line.number (zeros_on (drop k line.words)) >>= λ zero. zeros_of (further_words (k - length line.words) rest)) >>= λ zeros.
-      after_words TRUNCATED (k - min k (length line.words)) rest >>= λ behind. Ok (all, behind)
+      after_words TRUNCATED (k - min k (length line.words)) rest >>= λ after. Ok (all, after)
 
   pub is_apart : further_numbers before k numbers (line ∷ rest) ≡ apart
   is_apart =
@@ -105,7 +102,7 @@ module _ (before : Ephemeris) (numbers : List Decimal) (line : FileLine) (rest :
       rw (ne_eqb k 0 not_none) (zeros_append (map (word_of line) (drop k line.words)) (further_words (k - length line.words) rest)
       ∙ ap (λ (r : Result (Unit {0}) Stop). r >>= λ zero. zeros_of (further_words (k - length line.words) rest)) (zeros_here line (drop k line.words))) in
       let third = after_words_of_line TRUNCATED k (min k (length line.words)) line rest some refl in
-      λ i. first i >>= λ all. second i >>= λ zeros. third i >>= λ behind. Ok (all, behind)
+      λ i. first i >>= λ all. second i >>= λ zeros. third i >>= λ after. Ok (all, after)
 
   -- a line that leaves the block open
   pub goes_on : (all : List Decimal) → Accepted before numbers line.words all → length all < before.header.ncoeff

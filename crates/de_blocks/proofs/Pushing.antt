@@ -1,4 +1,4 @@
--- A block behind the blocks before it.
+-- A block after the blocks before it.
 use Rattle.std.proofs.Common.{◌≡◌, ℕ, ◌+◌, ◌*◌, ◌<◌, ◌≤◌, List, [], ◌∷◌, ◌++◌, length, Result, Ok, Err, refl, ap, ◌∙◌, arith, ℤ, eq-eqb, false, get_or, pos, if◌then◌else◌, nat_lt, true}
 use Rattle.std.specs.Prelude.{OnOk}
 use Rattle.spec_text.specs.declared.decimals.Decimal.{Decimal}
@@ -9,7 +9,7 @@ use Rattle.std.proofs.lemmas.Bool.{ltb-true}
 use Rattle.spec_sections.specs.Sections.{broken}
 use Rattle.spec_sections.proofs.Holding.{holds_ok}
 use Rattle.spec_faults.specs.declared.numbers.TheConstants.{BLOCK_SPAN}
-use Rattle.spec_blocks.specs.BlockRules.{coefficient_rule, follows, has_length, is_behind_gap, is_passed_over, second_date, time_of, value_rule}
+use Rattle.spec_blocks.specs.BlockRules.{coefficient_rule, follows, has_length, is_after_gap, is_skipped, second_date, time_of, value_rule}
 use Rattle.spec_blocks.specs.Blocks.{begun, with_numbers}
 use Rattle.spec_blocks.specs.Read.{AreRead}
 use Rattle.spec_blocks.proofs.Blocks.{is_block, right_length, room}
@@ -40,7 +40,7 @@ block_of before [] checked read whole = absurd (omega (arith, checked.header.few
 block_of before (first ∷ []) checked read whole = absurd (omega (arith, checked.header.fewest, whole))
 block_of before (first ∷ second ∷ rest) checked read whole = is_block before first second rest checked.header read whole
 
--- a block of these dates that isn't passed over
+-- a block of these dates that isn't skipped
 pub record IsNew (before : Ephemeris) (numbers : List Decimal) (start : ℤ) : Type 0 where
   pub room : before.blocks < MOST_BLOCKS
   pub is : with_numbers before numbers ≡ with_block (begun before start) numbers
@@ -50,21 +50,21 @@ abbrev pub date_at : List Decimal → ℕ → Result ℤ BrokenRule
 date_at numbers i = time_of (get_or numbers i (record { mant = pos 0; exp = pos 0 }))
 
 pub new_block : (before : Ephemeris) (numbers : List Decimal) (start end : ℤ) → IsEphemeris before → AreRead before numbers → length numbers ≡ before.header.ncoeff
-    → date_at numbers 0 ≡ Ok start → date_at numbers 1 ≡ Ok end → is_passed_over before end ≡ false → IsNew before numbers start
+    → date_at numbers 0 ≡ Ok start → date_at numbers 1 ≡ Ok end → is_skipped before end ≡ false → IsNew before numbers start
 new_block before [] start end checked read whole a b new = absurd (omega (arith, checked.header.fewest, whole))
 new_block before (first ∷ []) start end checked read whole a b new = absurd (omega (arith, checked.header.fewest, whole))
 new_block before (first ∷ second ∷ rest) start end checked read whole a b new =
     let rule : second_date before first second ≡ Ok tt = read.rules 1 second refl in
     let dated : (if has_length before.header.block_seconds start end then follows before start end else Err (broken BLOCK_SPAN 0)) ≡ Ok tt = rw (a, b) at rule in
-    let behind : follows before start end ≡ Ok tt = right_length (has_length before.header.block_seconds start end) (follows before start end) (broken BLOCK_SPAN 0) dated in
-    let fewer = holds_ok _ _ tt (rw new at behind) (room (is_behind_gap before start) (nat_lt before.blocks MOST_BLOCKS) _ _) in
+    let after : follows before start end ≡ Ok tt = right_length (has_length before.header.block_seconds start end) (follows before start end) (broken BLOCK_SPAN 0) dated in
+    let fewer = holds_ok _ _ tt (rw new at after) (room (is_after_gap before start) (nat_lt before.blocks MOST_BLOCKS) _ _) in
     record { room = ltb-true before.blocks MOST_BLOCKS fewer.1; is = rw (a, b, new) refl }
 
-pub passed_over : (before : Ephemeris) (numbers : List Decimal) (start end : ℤ) → date_at numbers 0 ≡ Ok start → date_at numbers 1 ≡ Ok end
-    → is_passed_over before end ≡ true → before ≡ with_numbers before numbers
-passed_over before [] start end a b passed = refl
-passed_over before (first ∷ []) start end a b passed = refl
-passed_over before (first ∷ second ∷ rest) start end a b passed = rw (a, b, passed) refl
+pub skipped : (before : Ephemeris) (numbers : List Decimal) (start end : ℤ) → date_at numbers 0 ≡ Ok start → date_at numbers 1 ≡ Ok end
+    → is_skipped before end ≡ true → before ≡ with_numbers before numbers
+skipped before [] start end a b passed = refl
+skipped before (first ∷ []) start end a b passed = refl
+skipped before (first ∷ second ∷ rest) start end a b passed = rw (a, b, passed) refl
 
 pub of_coefficient : (before : Ephemeris) (numbers : List Decimal) (d : Decimal) → 2 ≤ length numbers
     → coefficient_rule before.header.columns (length numbers + 1) d ≡ value_rule before numbers d

@@ -1,4 +1,4 @@
--- What a reader says behind a line.
+-- What a reader says after a line.
 use Rattle.std.proofs.Common.{◌≡◌, ℕ, ◌<◌, ◌≤◌, List, [], ◌∷◌, length, take, Result, Ok, Err, refl, sym, ap, ◌∙◌, subst, inl, inr, arith, eq-eqb, ne_eqb}
 use Rattle.std.proofs.lemmas.Bool.{cases_eq}
 use Rattle.spec_text.specs.Lines.{TokenLine}
@@ -10,7 +10,7 @@ use Rattle.spec_sections.specs.Sections.{FileLine, Stop, ended, breaks as breaks
 use Rattle.spec_sections.proofs.Holding.{holds_ok}
 use Rattle.spec_faults.specs.declared.numbers.TheConstants.{TRUNCATED}
 use Rattle.spec_blocks.specs.BlockRules.{record_line}
-use Rattle.spec_blocks.specs.Blocks.{blocks_behind, further_numbers, with_numbers}
+use Rattle.spec_blocks.specs.Blocks.{blocks_after, further_numbers, with_numbers}
 use Rattle.spec_blocks.specs.Read.{AreRead}
 use Rattle.spec_sections.specs.FileLines.{line_of}
 use Rattle.de_blocks.specs.declared.answers.BlockError.{BlockError}
@@ -45,10 +45,10 @@ answer_between before = elim (cases_eq before.blocks 0) [
 ]
 
 -- ---- a record line
-behind_heading : (m : ℕ) (before : Ephemeris) (rest : List FileLine) → length rest ≤ m
-    → (further_numbers before before.header.ncoeff [] rest >>= λ found. blocks_behind m (with_numbers before found.0) found.1)
+after_heading : (m : ℕ) (before : Ephemeris) (rest : List FileLine) → length rest ≤ m
+    → (further_numbers before before.header.ncoeff [] rest >>= λ found. blocks_after m (with_numbers before found.0) found.1)
     ≡ (further_numbers before before.header.ncoeff [] rest >>= λ found. from_record (with_numbers before found.0) found.1)
-behind_heading m before rest le =
+after_heading m before rest le =
     bind_same (further_numbers before before.header.ncoeff [] rest) _ _ (λ found is.
     let fewer = holds_ok (λ found. length found.1 ≤ length rest) (further_numbers before before.header.ncoeff [] rest) found is (further_fewer before before.header.ncoeff [] rest) in
     enough m (length found.1) (with_numbers before found.0) found.1 (omega (arith, fewer, le)) (omega arith))
@@ -57,7 +57,7 @@ pub begins : (before : Ephemeris) (line : FileLine) (rest : List FileLine) → r
     → from_record before (line ∷ rest) ≡ from_numbers before [] rest
 begins before line rest is =
     let none : before.header.ncoeff ≡ wanted before [] = omega arith in
-    rw is (behind_heading (length rest) before rest (omega arith)
+    rw is (after_heading (length rest) before rest (omega arith)
     ∙ ap (λ (n : ℕ). further_numbers before n [] rest >>= λ found. from_record (with_numbers before found.0) found.1) none)
 
 pub no_record : (before : Ephemeris) (line : FileLine) (rest : List FileLine) (b : BrokenRule) → record_line before.header.ncoeff line.words ≡ Err b
@@ -74,9 +74,9 @@ unfolding says
 takes_record before numbers place line is_between fits is =
     let none : numbers ≡ [] = sym fits.kept ∙ ap (λ (p : Place). numbers_at p numbers) is_between in
     record {
-      said = λ known file rest. ap (λ (l : List Decimal). from_numbers before l rest) none ∙ sym (begins before (line_of file line) rest is)
+      read = λ known file rest. ap (λ (l : List Decimal). from_numbers before l rest) none ∙ sym (begins before (line_of file line) rest is)
           ∙ sym (ap (λ (p : Place). says_at file p before numbers (line_of file line ∷ rest)) is_between);
-      told = λ known. sym (ap answer (ends_within before numbers (omega (arith, fits.few))));
+      answers = λ known. sym (ap answer (ends_within before numbers (omega (arith, fits.few))));
       goes_on = λ ok. tt;
       kept = λ fault no. absurd (cc);
       unchanged = λ no. absurd (cc);
@@ -87,9 +87,9 @@ pub takes_broken : (old new : Progress) (line : TokenLine) (fault : Fault) → n
     → ((file : ℕ) (rest : List FileLine) → says file old (line_of file line ∷ rest) ≡ Err (breaks_rule file fault))
     → Takes old line (Err (errors.Fault fault)) new
 unfolding says
-takes_broken old new line fault refused said = record {
-  said = λ known file rest. ap (λ (p : Place). says_at file p new.accepted new.numbers rest) refused ∙ sym (said file rest);
-  told = λ known. sym (ap (λ (p : Place). answer (says_at 0 p new.accepted new.numbers [])) refused);
+takes_broken old new line fault refused breaks_it = record {
+  read = λ known file rest. ap (λ (p : Place). says_at file p new.accepted new.numbers rest) refused ∙ sym (breaks_it file rest);
+  answers = λ known. sym (ap (λ (p : Place). answer (says_at 0 p new.accepted new.numbers [])) refused);
   goes_on = λ no. absurd (cc);
   kept = λ f is. refused ∙ ap (λ (r : Result (Unit {0}) BlockError). place_of fault r) is;
   unchanged = λ no. absurd (cc);
@@ -97,8 +97,8 @@ takes_broken old new line fault refused said = record {
 
 pub takes_nothing : (old new : Progress) (line : TokenLine) → new ≡ old → Takes old line (Err errors.Memory) new
 takes_nothing old new line same = record {
-  said = λ known. absurd known;
-  told = λ known. absurd known;
+  read = λ known. absurd known;
+  answers = λ known. absurd known;
   goes_on = λ no. absurd (cc);
   kept = λ fault no. absurd (cc);
   unchanged = λ is. same;
@@ -112,11 +112,11 @@ takes_more before after numbers new place line is_inside fits is few same =
     let some : 0 < wanted before numbers = omega (arith, fits.few) in
     let meets = holds_ok (Accepted before numbers line.tokens) (on_line before numbers line.tokens) new is (accepted before numbers line.tokens fits.read) in
     record {
-      said = λ known file rest. ap (λ (e : Ephemeris). from_numbers e new rest) same
+      read = λ known file rest. ap (λ (e : Ephemeris). from_numbers e new rest) same
           ∙ sym (ap (λ (r : Result (List Decimal × List FileLine) Stop). r >>= λ found. from_record (with_numbers before found.0) found.1)
           (goes_on before numbers (line_of file line) rest some new meets few))
           ∙ sym (ap (λ (p : Place). says_at file p before numbers (line_of file line ∷ rest)) is_inside);
-      told = λ known. sym (ap (λ (e : Ephemeris). answer (from_numbers e new [])) same ∙ ap answer (ends_within before new (omega (arith, few))));
+      answers = λ known. sym (ap (λ (e : Ephemeris). answer (from_numbers e new [])) same ∙ ap answer (ends_within before new (omega (arith, few))));
       goes_on = λ ok. tt;
       kept = λ fault no. absurd (cc);
       unchanged = λ no. absurd (cc);
@@ -130,11 +130,11 @@ takes_whole before after numbers all new place line is_inside fits is whole with
     let some : 0 < wanted before numbers = omega (arith, fits.few) in
     let meets = holds_ok (Accepted before numbers line.tokens) (on_line before numbers line.tokens) all is (accepted before numbers line.tokens fits.read) in
     record {
-      said = λ known file rest. ap (λ (e : Ephemeris). from_record e rest) with
+      read = λ known file rest. ap (λ (e : Ephemeris). from_record e rest) with
           ∙ sym (ap (λ (r : Result (List Decimal × List FileLine) Stop). r >>= λ found. from_record (with_numbers before found.0) found.1)
           (ends before numbers (line_of file line) rest some all meets whole))
           ∙ sym (ap (λ (p : Place). says_at file p before numbers (line_of file line ∷ rest)) is_inside);
-      told = λ known. sym (answer_between after);
+      answers = λ known. sym (answer_between after);
       goes_on = λ ok. tt;
       kept = λ fault no. absurd (cc);
       unchanged = λ no. absurd (cc);

@@ -12,7 +12,7 @@ use Rattle.de_blocks.specs.declared.answers.Refusal.TheVariants.{Broken, Memory}
 -- what a loop over words keeps
 pub record Keeps (before : Ephemeris) (old new : List Decimal) (words left : List (List ℕ)) : Type 0 where
   pub same : numbers_on before old (take (wanted before old) words) ≡ numbers_on before new (take (wanted before new) left)
-  pub behind : drop (wanted before old) words ≡ drop (wanted before new) left
+  pub after : drop (wanted before old) words ≡ drop (wanted before new) left
   pub front : take (length old) new ≡ old
   pub more : length old ≤ length new
   pub few : length new ≤ before.header.ncoeff
@@ -34,7 +34,7 @@ keeps_on before old mid new words left rest word keeps is few (d, rule, pushed) 
     let begins : take (length old) (mid ++ d ∷ []) ≡ old = take-append-le (length old) mid (d ∷ []) keeps.more ∙ keeps.front in
     subst (λ (l : List Decimal). Keeps before old l words rest) (sym pushed) (record {
       same = keeps.same ∙ step;
-      behind = keeps.behind ∙ later;
+      after = keeps.after ∙ later;
       front = begins;
       more = omega (arith, keeps.more, length-append mid (d ∷ []));
       few = omega (arith, few, length-append mid (d ∷ []));

@@ -5,7 +5,7 @@ use Rattle.spec_text.specs.declared.decimals.Decimal.{Decimal}
 use Rattle.spec_text.specs.declared.decimals.Fault.{Fault}
 use Rattle.spec_ephemeris.specs.Ephemeris.{Ephemeris, IsEphemeris}
 use Rattle.spec_sections.specs.Sections.{FileLine, Stop, ended, breaks, ◌>>=◌}
-use Rattle.spec_blocks.specs.Blocks.{blocks_behind, further_numbers, with_numbers}
+use Rattle.spec_blocks.specs.Blocks.{blocks_after, further_numbers, with_numbers}
 use Rattle.spec_blocks.specs.Read.{AreRead}
 use Rattle.spec_sections.specs.FileLines.{line_of, stopped_at}
 use Rattle.de_blocks.specs.declared.answers.BlockError.{BlockError}
@@ -26,9 +26,9 @@ pub record Progress : Type 0 where
 
 -- the blocks that begin with these lines
 abbrev pub from_record : Ephemeris → List FileLine → Says
-from_record before lines = blocks_behind (length lines) before lines
+from_record before lines = blocks_after (length lines) before lines
 
--- what a block still wants behind these numbers, and the blocks behind it
+-- what a block still wants after these numbers, and the blocks after it
 abbrev pub from_numbers : Ephemeris → List Decimal → List FileLine → Says
 from_numbers before numbers lines = further_numbers before (wanted before numbers) numbers lines >>= λ found. from_record (with_numbers before found.0) found.1
 
@@ -40,6 +40,14 @@ says_at file (Refused fault) before numbers lines = Err (breaks file fault)
 -- what a reader that reads this file says of the lines to come
 unfoldable pub says : ℕ → Progress → List FileLine → Says
 says file reader lines = says_at file reader.place reader.accepted reader.numbers lines
+
+-- the reader says this of all lines to come, in whatever file
+abbrev pub IsAt : Progress → (List FileLine → Says) → Type 0
+IsAt reader rest_of_blocks = (file : ℕ) (lines : List FileLine) → says file reader lines ≡ rest_of_blocks lines
+
+-- the new reader is the old one after this line
+abbrev pub HasRead : Progress → TokenLine → Progress → Type 0
+HasRead old line new = (file : ℕ) (rest : List FileLine) → says file new rest ≡ says file old (line_of file line ∷ rest)
 
 abbrev pub IsUnrefusedPlace : Place → Type 0
 IsUnrefusedPlace (Refused fault) = ⊥
@@ -77,12 +85,20 @@ abbrev pub IsNotMemory : Result (Unit {0}) BlockError → Type 0
 IsNotMemory (Err errors.Memory) = ⊥
 IsNotMemory result = Unit {0}
 
+-- a fault that is answered is the one that the reader keeps
+abbrev pub KeepsFault : Progress → Result (Unit {0}) BlockError → Type 0
+KeepsFault reader result = (fault : Fault) → result ≡ Err (errors.Fault fault) → IsRefused reader fault
+
+-- a fault that was kept is kept and answered again
+abbrev pub GivesAgain : Progress → Progress → Result (Unit {0}) BlockError → Type 0
+GivesAgain old new result = (fault : Fault) → IsRefused old fault → IsRefused new fault × (result ≡ Err (errors.Fault fault))
+
 -- a line takes a reader from one state to the next, with this answer
 pub record Takes (old : Progress) (line : TokenLine) (result : Result (Unit {0}) BlockError) (new : Progress) : Type 0 where
-  pub said : IsNotMemory result → (file : ℕ) (rest : List FileLine) → says file new rest ≡ says file old (line_of file line ∷ rest)
-  pub told : IsNotMemory result → result ≡ answer (says 0 new [])
+  pub read : IsNotMemory result → HasRead old line new
+  pub answers : IsNotMemory result → result ≡ answer (says 0 new [])
   pub goes_on : result ≡ Ok tt → IsNotRefused new
-  pub kept : (fault : Fault) → result ≡ Err (errors.Fault fault) → IsRefused new fault
+  pub kept : KeepsFault new result
   pub unchanged : result ≡ Err errors.Memory → new ≡ old
 
 -- where the lines end at this number, what is said of no more lines

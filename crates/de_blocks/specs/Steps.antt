@@ -11,7 +11,7 @@ use Rattle.de_blocks.specs.declared.state.Place.TheVariants.{Between, Inside, Re
 use Rattle.de_blocks.specs.declared.answers.Refusal.{Refusal}
 use Rattle.de_blocks.specs.declared.answers.Refusal.TheVariants.{Broken, Memory}
 
--- words as numbers behind these
+-- words as numbers after these
 abbrev pub numbers_on : Ephemeris → List Decimal → List (List ℕ) → Result (List Decimal) BrokenRule
 numbers_on before numbers [] = Ok numbers
 numbers_on before numbers (word ∷ words) = number_rule before numbers word >>= λ d. numbers_on before (numbers ++ d ∷ []) words
@@ -20,7 +20,7 @@ abbrev pub zeros_on : List (List ℕ) → Result (Unit {0}) BrokenRule
 zeros_on [] = Ok tt
 zeros_on (word ∷ words) = trailing_rule word >>= λ zero. zeros_on words
 
--- how many numbers a block wants behind these
+-- how many numbers a block wants after these
 abbrev pub wanted : Ephemeris → List Decimal → ℕ
 wanted before numbers = before.header.ncoeff - length numbers
 
@@ -31,7 +31,7 @@ on_line before numbers words = do
   zeros ← zeros_on (drop (wanted before numbers) words)
   Ok all
 
--- the numbers are those that the rules give, or the first broken rule is told; for want of memory there may be neither
+-- the numbers are those that the rules give, or there is the first broken rule; out of memory there may be neither
 abbrev pub Reads : Result (List Decimal) BrokenRule → Result (Unit {0}) Refusal → List Decimal → Type 0
 Reads ruled (Ok done) new = ruled ≡ Ok new
 Reads ruled (Err (Broken broken)) new = ruled ≡ Err broken
@@ -43,20 +43,20 @@ Pushes before numbers word (Ok done) new = (d : Decimal) × (number_rule before 
 Pushes before numbers word (Err (Broken broken)) new = (number_rule before numbers word ≡ Err broken) × (new ≡ numbers)
 Pushes before numbers word (Err Memory) new = new ≡ numbers
 
--- the same of the numbers alone, and the words that are left behind them
+-- the same of the numbers alone, and the words that are left after them
 abbrev pub ReadsNumbers : Ephemeris → List Decimal → List (List ℕ) → Result (Unit {0}) Refusal → List Decimal → List (List ℕ) → Type 0
 ReadsNumbers before numbers words (Ok done) new left =
     (numbers_on before numbers (take (wanted before numbers) words) ≡ Ok new) × (left ≡ drop (wanted before numbers) words)
 ReadsNumbers before numbers words (Err (Broken broken)) new left = numbers_on before numbers (take (wanted before numbers) words) ≡ Err broken
 ReadsNumbers before numbers words (Err Memory) new left = Unit {0}
 
--- a whole block is one of the blocks, and its numbers are gone; for want of memory all is as it was
+-- a whole block is one of the blocks, and its numbers are gone; out of memory all is as it was
 abbrev pub TakesBlock : Ephemeris → List Decimal → Result Place Refusal → Ephemeris → List Decimal → Type 0
 TakesBlock before numbers (Ok Between) after new = (after ≡ with_numbers before numbers) × (new ≡ [])
 TakesBlock before numbers (Err Memory) after new = (after ≡ before) × (new ≡ numbers)
 TakesBlock before numbers result after new = ⊥
 
--- a line within a block leaves the block open, or makes it whole, or breaks a rule; for want of memory there may be no
+-- a line within a block leaves the block open, or makes it whole, or breaks a rule; out of memory there may be no
 -- answer. Where there is none the blocks stay as they were, and the numbers begin with those that there were.
 abbrev pub TakesLine : Ephemeris → List Decimal → List (List ℕ) → Result Place Refusal → Ephemeris → List Decimal → Type 0
 TakesLine before numbers words (Ok Inside) after new =

@@ -1,4 +1,4 @@
-// A whole block, behind the blocks before it.
+// A whole block, after the blocks before it.
 ghost use Rattle.std.specs.Prelude.{◌≡◌, ◌<◌, OnOk, OnErr, length};
 ghost use Rattle.spec_ephemeris.specs.declared.limits.TheConstants.{MOST_BLOCKS};
 ghost use Rattle.spec_ephemeris.specs.Ephemeris.{IsBlock, IsEphemeris, IsStart, with_block};
@@ -8,7 +8,7 @@ ghost use Rattle.eph_model.specs.Starting.{starting_at};
 ghost use Rattle.de_blocks.specs.Steps.{TakesBlock, TakesLine};
 
 use crate::answers::Refusal;
-use crate::rules::{is_passed_over, time_of};
+use crate::rules::{is_skipped, time_of};
 use crate::state::Place;
 use crate::walk::read_line;
 use de_text::Line;
@@ -20,7 +20,8 @@ fn push_first(before: &mut Ephemeris, start: i64, numbers: &[Decimal]) -> Result
     requires block { IsBlock before.old.header numbers.now }
     requires room { before.old.blocks < MOST_BLOCKS }
     requires start { IsStart start }
-    ensures added { OnOk result (before.new ≡ starting_at (with_block before.old numbers.now) start) }
+    ensures added { OnOk result
+        (before.new ≡ starting_at (with_block before.old numbers.now) start) }
     ensures memory { OnErr result (before.new ≡ before.old) }
 {
     before.push_block(numbers)?;
@@ -44,7 +45,7 @@ fn push(before: &mut Ephemeris, start: i64, numbers: &[Decimal]) -> Result<(), M
     }
 }
 
-// Takes in a block whose numbers meet their rules, where it isn't passed over.
+// Takes in a block whose numbers meet their rules, where it isn't skipped.
 pub(crate) fn accept(before: &mut Ephemeris, numbers: &[Decimal]) -> Result<(), Memory>
     requires checked { IsEphemeris before.old }
     requires read { AreRead before.old numbers.now }
@@ -53,12 +54,12 @@ pub(crate) fn accept(before: &mut Ephemeris, numbers: &[Decimal]) -> Result<(), 
     ensures memory { OnErr result (before.new ≡ before.old) }
 {
     match (time_of(numbers[0]), time_of(numbers[1])) {
-        (Ok(start), Ok(end)) if !is_passed_over(before, end) => push(before, start, numbers),
+        (Ok(start), Ok(end)) if !is_skipped(before, end) => push(before, start, numbers),
         _ => Ok(()),
     }
 }
 
-// Takes in a whole block, whose numbers are not kept behind it.
+// Takes in a whole block, whose numbers are not kept after it.
 fn take_block(before: &mut Ephemeris, numbers: &mut Vec<Decimal>) -> Result<Place, Refusal>
     requires checked { IsEphemeris before.old }
     requires read { AreRead before.old numbers.old.items }
@@ -83,7 +84,8 @@ pub(crate) fn take_line(
     requires checked { IsEphemeris before.old }
     requires read { AreRead before.old numbers.old.items }
     requires few { length numbers.old.items < before.old.header.ncoeff }
-    ensures { TakesLine before.old numbers.old.items line.now.tokens result before.new numbers.new.items }
+    ensures { TakesLine before.old numbers.old.items line.now.tokens result before.new
+        numbers.new.items }
 {
     let ncoeff = before.header().ncoeff as usize;
     match read_line(before, numbers, line) {

@@ -1,4 +1,4 @@
-//! The blocks of a file, read line by line behind its header. Lines come in, as the text reader cuts them; what goes out
+//! The blocks of a file, read line by line after its header. Lines come in, as the text reader cuts them; what goes out
 //! is the ephemeris, or the first fault. The numbers of a block are kept in one vector until the block is whole.
 #![tactic(auto)]
 

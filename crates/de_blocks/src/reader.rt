@@ -4,9 +4,8 @@ ghost use Rattle.spec_text.specs.declared.decimals.Fault.{Fault};
 ghost use Rattle.spec_ephemeris.specs.Header.{IsHeader};
 ghost use Rattle.spec_sections.specs.Sections.{FileLine};
 ghost use Rattle.spec_blocks.specs.Blocks.{blocks};
-ghost use Rattle.spec_sections.specs.FileLines.{line_of};
 ghost use Rattle.de_blocks.specs.declared.answers.BlockError.TheVariants as errors;
-ghost use Rattle.de_blocks.specs.Reader.{Ends, HasBlocks, IsNotMemory, IsNotRefused, IsRefused, Takes, answer, from_record, says};
+ghost use Rattle.de_blocks.specs.Reader.{Ends, GivesAgain, HasBlocks, HasRead, IsAt, IsNotMemory, IsNotRefused, IsRefused, KeepsFault, Takes, answer, from_record, says};
 ghost use Rattle.de_blocks.specs.declared.state.Place.TheVariants as places;
 
 use crate::accepting::take_line;
@@ -15,14 +14,14 @@ use crate::rules::record_line;
 use crate::state::Place;
 use de_text::Line;
 use eph_model::Ephemeris;
-use spec_faults::{NO_BLOCK, TRUNCATED};
 use spec_ephemeris::Header;
+use spec_faults::{NO_BLOCK, TRUNCATED};
 use spec_sections::BrokenRule;
 use spec_text::{Decimal, Fault};
 use std::alloc::Global;
 use std::marker::Model;
 
-/// A reader of the blocks behind a header, in the rest of its file and in the files that follow.
+/// A reader of the blocks after a header, in the rest of its file and in the files that follow.
 #[derive(Drop)]
 pub struct BlockReader {
     accepted: Ephemeris,
@@ -35,9 +34,17 @@ impl Model for BlockReader {
 
     ghost Value = { Progress };
 
-    ghost view = { λ r. record { accepted = r.accepted; numbers = r.numbers.items; place = r.place } };
+    ghost view = { λ r. record {
+      accepted = r.accepted;
+      numbers = r.numbers.items;
+      place = r.place;
+    } };
 
-    ghost invariant = { λ r. Fits (record { accepted = r.accepted; numbers = r.numbers.items; place = r.place }) };
+    ghost invariant = { λ r. Fits (record {
+      accepted = r.accepted;
+      numbers = r.numbers.items;
+      place = r.place;
+    }) };
 }
 
 fn ended(line: u32, number: u8) -> BlockError
@@ -50,7 +57,7 @@ fn ended(line: u32, number: u8) -> BlockError
     })
 }
 
-// The blocks, where the lines end behind one of them.
+// The blocks, where the lines end after one of them.
 fn whole(accepted: Ephemeris, line: u32) -> Result<Ephemeris, BlockError>
     ensures end { Ends line (from_record accepted []) result }
     ensures rules { IfOk result HasBlocks }
@@ -63,10 +70,10 @@ fn whole(accepted: Ephemeris, line: u32) -> Result<Ephemeris, BlockError>
 }
 
 impl BlockReader {
-    /// A reader that waits for the first line behind the header. It takes no memory.
+    /// A reader that waits for the first line after the header. It takes no memory.
     pub fn new(alloc: Global, header: Header) -> Self
         requires { IsHeader header }
-        ensures blocks { (file : ℕ) (lines : List FileLine) → says file result lines ≡ blocks header lines }
+        ensures blocks { IsAt result (blocks header) }
         ensures not_refused { IsNotRefused result }
     {
         BlockReader {
@@ -122,14 +129,14 @@ impl BlockReader {
         }
     }
 
-    /// Reads the next line. `Fault` comes at the first line that breaks a rule and at every line behind it. After
+    /// Reads the next line. `Fault` comes at the first line that breaks a rule and at every line after it. After
     /// `Memory` the reader is as it was before the line.
     pub fn line(&mut self, line: &Line<'_>) -> Result<(), BlockError>
-        ensures says { IsNotMemory result → (file : ℕ) (rest : List FileLine) → says file self.new rest ≡ says file self.old (line_of file line.now ∷ rest) }
+        ensures says { IsNotMemory result → HasRead self.old line.now self.new }
         ensures answer { IsNotMemory result → result ≡ answer (says 0 self.new []) }
         ensures not_refused { result ≡ Ok tt → IsNotRefused self.new }
-        ensures refused { (fault : Fault) → result ≡ Err (errors.Fault fault) → IsRefused self.new fault }
-        ensures kept { (fault : Fault) → IsRefused self.old fault → IsRefused self.new fault × (result ≡ Err (errors.Fault fault)) }
+        ensures refused { KeepsFault self.new result }
+        ensures kept { GivesAgain self.old self.new result }
         ensures memory { result ≡ Err errors.Memory → self.new ≡ self.old }
     {
         match self.place {

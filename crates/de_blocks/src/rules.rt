@@ -1,13 +1,15 @@
 // The rules of the words of blocks.
 ghost use Rattle.std.specs.Prelude.{◌≡◌, ◌≤◌, ◌<◌, ◌+◌, ◌*◌, ◌^◌, IfOk, Ok, length, min, slice_get};
 ghost use Rattle.spec_ephemeris.specs.Ephemeris.{IsStart};
-ghost use Rattle.spec_ephemeris.specs.Header.{column_size, components, is_present};
-ghost use Rattle.spec_blocks.specs.BlockRules.{coefficient_rule, first_date, follows, has_length, is_behind_gap, is_passed_over, is_place, is_place_of, is_place_of_body, is_too_large, number_rule, record_line, second_date, time_of, trailing_rule, value_rule};
+ghost use Rattle.spec_blocks.specs.BlockRules.{coefficient_rule, first_date, follows, has_length, is_after_gap, is_skipped, is_place, is_place_of, is_place_of_body, is_too_large, number_rule, record_line, second_date, time_of, trailing_rule, value_rule};
 
-use de_text::{Line, read_decimal, seconds_of_julian_date};
-use eph_model::Ephemeris;
-use spec_faults::{BLOCK_GAP, BLOCK_SPAN, NCOEFF_DIFFERS, NUMBER, RECORD_LINE, TOO_LARGE, TOO_MANY_BLOCKS, TRAILING_NUMBERS};
-use spec_ephemeris::{BODY_COLUMNS, Column, FIRST_TIME, MOST_BLOCKS, NUTATIONS};
+use de_text::{Line, read_decimal, seconds_of_julian_date, size_over, size_under};
+use eph_model::{Ephemeris, is_present, place_after};
+use spec_ephemeris::{BODY_COLUMNS, Column, FIRST_TIME, MOST_BLOCKS};
+use spec_faults::{
+    BLOCK_GAP, BLOCK_SPAN, NCOEFF_DIFFERS, NUMBER, RECORD_LINE, TOO_LARGE, TOO_MANY_BLOCKS,
+    TRAILING_NUMBERS,
+};
 use spec_sections::BrokenRule;
 use spec_text::Decimal;
 
@@ -40,15 +42,15 @@ pub(crate) fn time_of(date: Decimal) -> Result<i64, BrokenRule>
     }
 }
 
-// A block that ends no later than the last one is passed over.
-pub(crate) fn is_passed_over(before: &Ephemeris, end: i64) -> bool
-    ensures { result ≡ is_passed_over before.now end }
+// A block that ends no later than the last one is skipped.
+pub(crate) fn is_skipped(before: &Ephemeris, end: i64) -> bool
+    ensures { result ≡ is_skipped before.now end }
 {
     0 < before.blocks() && end <= before.end()
 }
 
-fn is_behind_gap(before: &Ephemeris, start: i64) -> bool
-    ensures { result ≡ is_behind_gap before.now start }
+fn is_after_gap(before: &Ephemeris, start: i64) -> bool
+    ensures { result ≡ is_after_gap before.now start }
 {
     0 < before.blocks() && (start < before.end() || before.end() < start)
 }
@@ -56,9 +58,9 @@ fn is_behind_gap(before: &Ephemeris, start: i64) -> bool
 fn follows(before: &Ephemeris, start: i64, end: i64) -> Result<(), BrokenRule>
     ensures { result ≡ follows before.now start end }
 {
-    if is_passed_over(before, end) {
+    if is_skipped(before, end) {
         Ok(())
-    } else if is_behind_gap(before, start) {
+    } else if is_after_gap(before, start) {
         Err(BrokenRule::new(BLOCK_GAP, 0))
     } else if before.blocks() < MOST_BLOCKS {
         Ok(())
@@ -94,54 +96,19 @@ fn second_date(before: &Ephemeris, first: Decimal, second: Decimal) -> Result<()
     }
 }
 
-// 10^n, where n counts for no more than 11: 10^11 is past 2^36, and 2^36 times 10^11 past 2^63.
-fn power_of_ten(n: u16) -> u128
-    ensures { result ≡ 10 ^ min n 11 }
+// Whether a decimal is 2^36 or more in size.
+#[tactic(auto, using(crate::proofs::Large::large_by_capped))]
+fn is_large(d: Decimal) -> bool
+    ensures { result ≡ is_too_large d }
 {
-    10_u128.pow(u32::from(n.min(11)))
-}
-
-// Whether mant * 10^exp is 2^36 or more in size.
-fn is_large(mant: i64, exp: i16) -> bool
-    ensures { result ≡ is_too_large (record { mant = mant; exp = exp }) }
-{
-    let size = u128::from(mant.unsigned_abs());
-    let power = power_of_ten(exp.unsigned_abs());
-    if exp < 0 {
-        LARGE * power <= size
-    } else {
-        LARGE <= size * power
-    }
-}
-
-// Nutations have two components, and every other column has three.
-fn components(number: usize) -> u128
-    ensures value { result ≡ components number }
-    ensures few { result ≤ 3 }
-{
-    if number == NUTATIONS { 2 } else { 3 }
-}
-
-// The place behind the last one of the column of this number.
-#[tactic(auto, using(crate::proofs::Places::size_fits))]
-fn end_of(number: usize, column: Column) -> u128
-    ensures { result ≡ column.start + column_size number column }
-{
-    let granule = components(number) * u128::from(column.coefs);
-    u128::from(column.start) + granule * u128::from(column.granules)
-}
-
-fn is_present(column: Column) -> bool
-    ensures { result ≡ is_present column }
-{
-    column.coefs > 0 && column.granules > 0
+    LARGE.saturating_mul(size_under(d)) <= size_over(d)
 }
 
 // Whether a place belongs to the column of this number.
 fn is_place(number: usize, column: Column, place: u32) -> bool
     ensures { result ≡ is_place number column place }
 {
-    is_present(column) && column.start <= place && u128::from(place) < end_of(number, column)
+    is_present(column) && column.start <= place && u128::from(place) < place_after(number, column)
 }
 
 // Whether a place belongs to one of the columns, which are counted from 1.
@@ -170,14 +137,14 @@ fn coefficient_rule(columns: &[Column], place: u32, d: Decimal) -> Result<(), Br
     requires { length columns.now ≡ 13 }
     ensures { result ≡ coefficient_rule columns.now place d }
 {
-    if is_large(d.mant, d.exp) && is_place_of_body(columns, place) {
+    if is_large(d) && is_place_of_body(columns, place) {
         Err(BrokenRule::new(TOO_LARGE, 0))
     } else {
         Ok(())
     }
 }
 
-// The rule of a number behind the numbers of its block.
+// The rule of a number after the numbers of its block.
 fn value_rule(before: &Ephemeris, numbers: &[Decimal], d: Decimal) -> Result<(), BrokenRule>
     requires { length numbers.now < before.now.header.ncoeff }
     ensures { result ≡ value_rule before.now numbers.now d }
@@ -193,7 +160,7 @@ fn value_rule(before: &Ephemeris, numbers: &[Decimal], d: Decimal) -> Result<(),
     }
 }
 
-// A word as the number behind the numbers of its block.
+// A word as the number after the numbers of its block.
 pub(crate) fn number_rule(
     before: &Ephemeris,
     numbers: &[Decimal],
@@ -211,7 +178,7 @@ pub(crate) fn number_rule(
     }
 }
 
-// A word behind the last number of a block.
+// A word after the last number of a block.
 pub(crate) fn trailing_rule(word: &[u8]) -> Result<(), BrokenRule>
     ensures { result ≡ trailing_rule word.now }
 {

@@ -1,6 +1,7 @@
 // Blocks and their first faults, as an independent reader in exact arithmetic gives them.
 ghost use Rattle.std.specs.Prelude.{◌≡◌, ◌≤◌, IfOk, length};
-ghost use Rattle.spec_ephemeris.specs.Examples.{column, four_columns};
+ghost use Rattle.spec_ephemeris.specs.Examples.{column};
+ghost use Rattle.spec_blocks.specs.Examples.{bodies_and_angles};
 ghost use Rattle.spec_text.specs.declared.limits.TheConstants.{MOST_TEXT_BYTES};
 
 use super::*;
@@ -11,7 +12,7 @@ use std::alloc::{AllocError, Global};
 use std::process::Abort;
 use std::test::Fail;
 
-// The lines of a block, from line 17 on. The header that stands before them is told by `four_columns`.
+// The lines of a block, from line 17 on.
 const LINES: [&str; 10] = [
     "1 26",
     "0.245154450000000000D+07 0.245157650000000000D+07 0.0",
@@ -30,99 +31,105 @@ const HEADER_LINES: usize = 16;
 // Other lines at some places.
 type Changes = &'static [(usize, &'static str)];
 
-const ACCEPTED: [Changes; 3] = [
-    &[(18, "2451544.5 2451576.5 68719476735.9")],
-    &[(26, "0.0 0.0 0.0 0.0")],
-    &[(26, "0.0 0")],
+const ACCEPTED: [(&str, Changes); 4] = [
+    ("below 2^36", &[(18, "2451544.5 2451576.5 68719476735.9")]),
+    ("a zero further on", &[(26, "0.0 0.0 0.0 0.0")]),
+    ("a zero in place of 0.0", &[(26, "0.0 0.0 0")]),
+    ("record 0", &[(17, "0 26")]),
 ];
 
-// The line, the number and the detail of the first fault.
-const REFUSED: [(Changes, (u32, u8, u16)); 34] = [
-    (&[(17, "1")], (17, 30, 0)),
-    (&[(17, "1 27")], (17, 31, 0)),
-    (&[(17, "1 26 0")], (17, 30, 0)),
-    (&[(17, "1.0 26")], (17, 30, 0)),
-    (&[(17, "1 0000000026")], (17, 30, 0)),
-    (&[(17, "x 27")], (17, 30, 0)),
+// The last lines of a block, from place 25 on: those from 27 on are angles.
+const ANGLES: [(&str, &str, bool); 3] = [
+    ("small angles", "0 0 1 1 1 1 1", true),
+    ("large angles", "0 0 1D99 -1D99 1D99 1D99 -1D99", true),
+    ("a large place", "0 1D99 1 1 1 1 1", false),
+];
+
+// A name, other lines, and the line, the number and the detail of the first fault.
+const REFUSED: [(&str, Changes, (u32, u8, u16)); 27] = [
+    ("one number", &[(17, "1")], (17, 30, 0)),
+    ("three numbers", &[(17, "1 26 0")], (17, 30, 0)),
+    ("a point", &[(17, "1.0 26")], (17, 30, 0)),
+    ("another count", &[(17, "1 27")], (17, 31, 0)),
+    ("no number before a count", &[(17, "x 27")], (17, 30, 0)),
     (
-        &[(18, "0.245154450000000000D+07 0.245156050000000000D+07 0.0")],
+        "a short block",
+        &[(18, "2451544.5 2451560.5 0.0")],
         (18, 32, 0),
     ),
-    (&[(18, "2451544.5 2451576.50001 0.0")], (18, 32, 0)),
-    (&[(18, "2451544.500001 x 0.0")], (18, 32, 0)),
-    (&[(18, "-1 x 0.0")], (18, 32, 0)),
-    (&[(18, "2451544.5 5000000.5 0.0")], (18, 32, 0)),
-    (&[(18, "2451544.5x 2451576.5 0.0")], (18, 34, 1)),
-    (&[(18, "2451544.5 1234567890123456789 0.0")], (18, 34, 2)),
-    (&[(18, "2451544.5 1e100 0.0")], (18, 34, 3)),
-    (&[(18, "2451544.5 2451576.5 0.1D+12")], (18, 35, 0)),
-    (&[(18, "2451544.5 2451576.5 -68719476736")], (18, 35, 0)),
-    (&[(26, "0.0 0.0 1D11")], (26, 39, 0)),
-    (&[(26, "0.0 0.0 1.0")], (26, 39, 0)),
-    (&[(26, "0.0 0.0 x")], (26, 39, 0)),
-    (&[(26, "0.0")], (27, 36, 0)),
-    (&[(26, "")], (27, 36, 0)),
-    (&[(26, "0.0 1d11 x")], (26, 35, 0)),
-    (&[(26, "0.0 x 1")], (26, 34, 1)),
     (
-        &[(26, "0.0 0.0 0.0\n2 26\n2451576.5 2451608.5 0")],
+        "a part of a second",
+        &[(18, "2451544.5 2451576.50001 0.0")],
+        (18, 32, 0),
+    ),
+    (
+        "the first of two dates",
+        &[(18, "2451544.500001 x 0.0")],
+        (18, 32, 0),
+    ),
+    ("a date before day 0", &[(18, "-1 x 0.0")], (18, 32, 0)),
+    (
+        "past the last date",
+        &[(18, "2451544.5 5000000.5 0.0")],
+        (18, 32, 0),
+    ),
+    (
+        "a date in letters",
+        &[(18, "2451544.5x 2451576.5 0.0")],
+        (18, 34, 1),
+    ),
+    (
+        "many digits",
+        &[(18, "2451544.5 1234567890123456789 0.0")],
+        (18, 34, 2),
+    ),
+    (
+        "a far exponent",
+        &[(18, "2451544.5 1e100 0.0")],
+        (18, 34, 3),
+    ),
+    (
+        "2^36",
+        &[(18, "2451544.5 2451576.5 -68719476736")],
+        (18, 35, 0),
+    ),
+    (
+        "a large exponent",
+        &[(18, "2451544.5 2451576.5 1D99")],
+        (18, 35, 0),
+    ),
+    ("a word further on", &[(26, "0.0 0.0 1.0")], (26, 39, 0)),
+    ("no number further on", &[(26, "0.0 0.0 x")], (26, 39, 0)),
+    ("large before letters", &[(26, "0.0 1d11 x")], (26, 35, 0)),
+    ("letters before more", &[(26, "0.0 x 1")], (26, 34, 1)),
+    ("no last number", &[(26, "0.0")], (27, 36, 0)),
+    ("no second block", &[(26, "0 0 0\n2 26")], (28, 36, 0)),
+    (
+        "no end of a second block",
+        &[(26, "0 0 0\n2 26\n2451576.5 2451608.5 0")],
         (29, 36, 0),
     ),
     (
-        &[(26, "0.0 0.0 0.0\n2 26\n2451576.50001 2451608.5 x")],
-        (28, 32, 0),
-    ),
-    (
-        &[(26, "0.0 0.0 0.0\n2 26\n2451576.5 2451608.5 x")],
-        (28, 34, 1),
-    ),
-    (
-        &[(26, "0.0 0.0 0.0\n2 26\n2451577.5 2451609.5 x")],
+        "a gap",
+        &[(26, "0 0 0\n2 26\n2451577.5 2451609.5 x")],
         (28, 33, 0),
     ),
     (
-        &[(26, "0.0 0.0 0.0\n2 26\n2451575.5 2451607.5 x")],
+        "an overlap",
+        &[(26, "0 0 0\n2 26\n2451575.5 2451607.5 x")],
         (28, 33, 0),
     ),
     (
-        &[(26, "0.0 0.0 0.0\n2 26\n2451543.5 2451575.5 x")],
+        "within a skipped block",
+        &[(26, "0 0 0\n2 26\n2451543.5 2451575.5 x")],
         (28, 34, 1),
     ),
     (
-        &[(26, "0.0 0.0 0.0\n2 26\n2451544.5 2451576.5 1D11")],
+        "large in a skipped block",
+        &[(26, "0 0 0\n2 26\n2451544.5 2451576.5 1D11")],
         (28, 35, 0),
     ),
-    (&[(26, "0.0 0.0 0.0\nGROUP 1010")], (27, 30, 0)),
-    (&[(26, "0.0 0.0 0.0\n2 26")], (28, 36, 0)),
-    (
-        &[
-            (18, ""),
-            (19, ""),
-            (20, ""),
-            (21, ""),
-            (22, ""),
-            (23, ""),
-            (24, ""),
-            (25, ""),
-            (26, ""),
-        ],
-        (27, 36, 0),
-    ),
-    (
-        &[
-            (17, ""),
-            (18, ""),
-            (19, ""),
-            (20, ""),
-            (21, ""),
-            (22, ""),
-            (23, ""),
-            (24, ""),
-            (25, ""),
-            (26, ""),
-        ],
-        (27, 37, 0),
-    ),
+    ("another group", &[(26, "0 0 0\nGROUP 1010")], (27, 30, 0)),
 ];
 
 const fn column(start: u32, coefs: u32, granules: u32) -> Column
@@ -135,9 +142,15 @@ const fn column(start: u32, coefs: u32, granules: u32) -> Column
     }
 }
 
-// Mercury, the Earth-Moon barycentre, the Moon and the Sun, each with two coefficients and one granule.
-fn four_columns(alloc: Global) -> Result<Header, AllocError>
-    ensures { IfOk result (λ h. h ≡ four_columns) }
+// Mercury, the Earth-Moon barycentre, the Moon and the Sun, each with two coefficients and one granule, and the columns
+// of nutations and librations.
+fn bodies_and_angles(
+    alloc: Global,
+    ncoeff: u32,
+    nutations: Column,
+    librations: Column,
+) -> Result<Header, AllocError>
+    ensures { IfOk result (λ h. h ≡ bodies_and_angles ncoeff nutations librations) }
 {
     let columns = [
         column(3, 2, 1),
@@ -151,11 +164,11 @@ fn four_columns(alloc: Global) -> Result<Header, AllocError>
         column(15, 0, 0),
         column(15, 2, 1),
         column(21, 2, 1),
-        column(27, 0, 0),
-        column(27, 0, 0),
+        nutations,
+        librations,
     ];
     Ok(Header {
-        ncoeff: 26,
+        ncoeff,
         block_seconds: 2_764_800,
         emrat: Decimal {
             mant: 810_000_000_000_000_000,
@@ -165,8 +178,15 @@ fn four_columns(alloc: Global) -> Result<Header, AllocError>
     })
 }
 
+// A reader of blocks of 26 numbers, without angles.
 fn new_reader(alloc: Global) -> Result<BlockReader, AllocError> {
-    let header = four_columns(alloc)?;
+    let header = bodies_and_angles(alloc, 26, column(27, 0, 0), column(27, 0, 0))?;
+    Ok(BlockReader::new(alloc, header))
+}
+
+// A reader of blocks of 31 numbers, the last five of which are angles.
+fn reader_of_angles(alloc: Global) -> Result<BlockReader, AllocError> {
+    let header = bodies_and_angles(alloc, 31, column(27, 1, 1), column(29, 1, 1))?;
     Ok(BlockReader::new(alloc, header))
 }
 
@@ -194,7 +214,7 @@ fn text_with(alloc: Global, changes: &[(usize, &'static str)]) -> Result<Vec<u8>
     Ok(text)
 }
 
-// Gives a reader all lines of a text, those behind a fault too, and answers the number behind the last.
+// Gives a reader all lines of a text, those after a fault too, and answers the number after the last.
 fn read_text(reader: &mut BlockReader, text: &[u8]) -> u32
     requires { length text.now ≤ MOST_TEXT_BYTES }
 {
@@ -216,60 +236,70 @@ fn read(rt: &impl Abort, reader: &mut BlockReader, text: &[u8]) -> u32 {
 #[test]
 fn blocks_that_are_refused(rt: HostRuntime) -> Result<(), Fail> {
     let alloc = rt.alloc();
-    for (i, (changes, (line, number, detail))) in REFUSED.iter().enumerate() {
-        let text = text_with(alloc, *changes)?;
+    for (name, changes, (line, number, detail)) in REFUSED {
+        let text = text_with(alloc, changes)?;
         let mut reader = new_reader(alloc)?;
         let end = read(&rt, &mut reader, &text);
         match reader.end(end) {
             Err(BlockError::Fault(fault)) => {
-                assert_eq!(rt; fault.line, *line, "the line of case {i}");
-                assert_eq!(rt; fault.number, *number, "the number of case {i}");
-                assert_eq!(rt; fault.detail, *detail, "the detail of case {i}");
+                assert_eq!(rt; fault.line, line, "the line of {name}");
+                assert_eq!(rt; fault.number, number, "the number of {name}");
+                assert_eq!(rt; fault.detail, detail, "the detail of {name}");
             }
-            Err(BlockError::Memory) => assert!(rt; false, "no memory in case {i}"),
-            Ok(_) => assert!(rt; false, "case {i} is accepted"),
+            Err(BlockError::Memory) => assert!(rt; false, "no memory for {name}"),
+            Ok(_) => assert!(rt; false, "{name} is accepted"),
         }
     }
     Ok(())
 }
 
+// The blocks that a reader has read are so many, from half a day before J2000 on.
+fn check_blocks(rt: &impl Abort, reader: BlockReader, name: &str, blocks: u32) {
+    match reader.end(1) {
+        Ok(ephemeris) => {
+            assert_eq!(rt; ephemeris.blocks(), blocks, "the blocks of {name}");
+            assert_eq!(rt; ephemeris.start(), -43_200, "the start of {name}");
+        }
+        Err(_) => assert!(rt; false, "{name} is refused"),
+    }
+}
+
 #[test]
 fn blocks_that_are_accepted(rt: HostRuntime) -> Result<(), Fail> {
     let alloc = rt.alloc();
-    for (i, changes) in ACCEPTED.iter().enumerate() {
-        let text = text_with(alloc, *changes)?;
+    for (name, changes) in ACCEPTED {
+        let text = text_with(alloc, changes)?;
         let mut reader = new_reader(alloc)?;
-        let end = read(&rt, &mut reader, &text);
-        match reader.end(end) {
-            Ok(ephemeris) => {
-                assert_eq!(rt; ephemeris.blocks(), 1, "the blocks of case {i}");
-                assert_eq!(rt; ephemeris.start(), -43_200, "the start of case {i}");
-                assert_eq!(rt; ephemeris.end(), 2_721_600, "the end of case {i}");
-            }
-            Err(_) => assert!(rt; false, "case {i} is refused"),
-        }
+        let _end = read(&rt, &mut reader, &text);
+        check_blocks(&rt, reader, name, 1);
+    }
+    Ok(())
+}
+
+// Angles have no bounds, and bodies have.
+#[test]
+fn angles_are_of_any_size(rt: HostRuntime) -> Result<(), Fail> {
+    let alloc = rt.alloc();
+    for (name, last, is_accepted) in ANGLES {
+        let text = text_with(alloc, &[(17, "1 31"), (26, last)])?;
+        let mut reader = reader_of_angles(alloc)?;
+        let _end = read(&rt, &mut reader, &text);
+        assert_eq!(rt; reader.end(1).is_ok(), is_accepted, "{name}");
     }
     Ok(())
 }
 
 // A second file begins with the block of the first, and goes on with the next block.
 #[test]
-fn a_repeated_block_is_passed_over(rt: HostRuntime) -> Result<(), Fail> {
+fn a_repeated_block_is_skipped(rt: HostRuntime) -> Result<(), Fail> {
     let alloc = rt.alloc();
     let mut reader = new_reader(alloc)?;
     let first = text_with(alloc, &[])?;
     let _end = read(&rt, &mut reader, &first);
     let _end = read(&rt, &mut reader, &first);
     let second = text_with(alloc, &[(17, "2 26"), (18, "2451576.5 2451608.5 5")])?;
-    let end = read(&rt, &mut reader, &second);
-    match reader.end(end) {
-        Ok(ephemeris) => {
-            assert_eq!(rt; ephemeris.blocks(), 2);
-            assert_eq!(rt; ephemeris.start(), -43_200);
-            assert_eq!(rt; ephemeris.end(), 5_486_400);
-        }
-        Err(_) => assert!(rt; false, "the blocks are refused"),
-    }
+    let _end = read(&rt, &mut reader, &second);
+    check_blocks(&rt, reader, "two files", 2);
     Ok(())
 }
 
@@ -284,6 +314,7 @@ fn is_gap(answer: &Result<(), BlockError>) -> bool {
     )
 }
 
+// After its record line, a text is refused by a gap again and again.
 fn check_refusal(rt: &impl Abort, reader: &mut BlockReader, text: &[u8]) {
     assert!(rt; text.len() <= MOST_TEXT_BYTES);
     let mut tokens = Tokens::new(text);
@@ -295,7 +326,7 @@ fn check_refusal(rt: &impl Abort, reader: &mut BlockReader, text: &[u8]) {
     }
 }
 
-// A block after a gap: the lines behind it, and the end, give the same fault.
+// A block after a gap: the lines after it, and the end, give the same fault.
 #[test]
 fn a_refusal_is_given_again(rt: HostRuntime) -> Result<(), Fail> {
     let alloc = rt.alloc();
@@ -305,10 +336,7 @@ fn a_refusal_is_given_again(rt: HostRuntime) -> Result<(), Fail> {
     let late = text_with(alloc, &[(18, "2451608.5 2451640.5 0")])?;
     check_refusal(&rt, &mut reader, &late);
     match reader.end(1) {
-        Err(BlockError::Fault(fault)) => {
-            assert_eq!(rt; fault.line, 18);
-            assert_eq!(rt; fault.number, 33);
-        }
+        Err(BlockError::Fault(fault)) => assert_eq!(rt; (fault.line, fault.number), (18, 33)),
         _ => assert!(rt; false, "another answer at the end"),
     }
     Ok(())

@@ -9,7 +9,7 @@ use eph_model::Ephemeris;
 use spec_sections::BrokenRule;
 use spec_text::Decimal;
 
-// Puts the number that a word is behind the others.
+// Puts the number that a word is after the others.
 fn push_number(before: &Ephemeris, numbers: &mut Vec<Decimal>, word: &[u8]) -> Result<(), Refusal>
     requires { length numbers.old.items < before.now.header.ncoeff }
     ensures { Pushes before.now numbers.old.items word.now result numbers.new.items }
@@ -30,7 +30,8 @@ fn read_numbers(
     words: &mut Words<'_>,
 ) -> Result<(), Refusal>
     requires { length numbers.old.items < before.now.header.ncoeff }
-    ensures reads { ReadsNumbers before.now numbers.old.items words.old result numbers.new.items words.new }
+    ensures reads { ReadsNumbers before.now numbers.old.items words.old result numbers.new.items
+        words.new }
     ensures front { take (length numbers.old.items) numbers.new.items ≡ numbers.old.items }
 {
     let ncoeff = before.header().ncoeff as usize;
@@ -55,15 +56,16 @@ fn check_zeros(words: Words<'_>) -> Result<(), BrokenRule>
     Ok(())
 }
 
-// Reads a line behind the numbers of a block that isn't whole yet. Where it fails, some of the line's numbers may stand
-// behind those that were there before.
+// Reads a line after the numbers of a block that isn't whole yet. Where it fails, some of the line's numbers may stand
+// after those that were there before.
 pub(crate) fn read_line(
     before: &Ephemeris,
     numbers: &mut Vec<Decimal>,
     line: &Line<'_>,
 ) -> Result<(), Refusal>
     requires { length numbers.old.items < before.now.header.ncoeff }
-    ensures reads { Reads (on_line before.now numbers.old.items line.now.tokens) result numbers.new.items }
+    ensures reads { Reads (on_line before.now numbers.old.items line.now.tokens) result
+        numbers.new.items }
     ensures front { take (length numbers.old.items) numbers.new.items ≡ numbers.old.items }
 {
     let mut words = line.words();

@@ -2,18 +2,11 @@
 use Rattle.std.proofs.Common.{◌≡◌, ℕ, zero, suc, ◌+◌, ◌*◌, ◌<◌, ◌≤◌, ◌^◌, List, [], ◌∷◌, ◌++◌, length, get_or, take, drop, set, None, Some, Result, Ok, Err, refl, sym, ap, ◌∙◌, arith}
 use Rattle.std.specs.Prelude.{slice_get}
 use Rattle.std.proofs.lemmas.List.{take_more_set, take_all, drop_all}
-use Rattle.std.proofs.lemmas.Nat.{mul-le}
 use Rattle.spec_ephemeris.specs.declared.header.Column.{Column}
 use Rattle.spec_sections.specs.declared.rules.BrokenRule.{BrokenRule}
 use Rattle.spec_header.specs.ColumnRules.{columns_of, row, whole_numbers}
 use Rattle.spec_sections.specs.Sections.{broken}
 use Rattle.spec_text.specs.Reading.{whole_at}
-
-pub size_fits : (k c g start : ℕ) → k ≤ 3 → c < 2 ^ 32 → g < 2 ^ 32 → start < 2 ^ 32 → start + k * c * g < 2 ^ 128
-size_fits k c g start few c_fits g_fits s_fits =
-    let inner : k * c ≤ 3 * 2 ^ 32 = mul-le k c 3 (2 ^ 32) few (omega (arith, c_fits)) in
-    let outer : k * c * g ≤ (3 * 2 ^ 32) * 2 ^ 32 = mul-le (k * c) g (3 * 2 ^ 32) (2 ^ 32) inner (omega (arith, g_fits)) in
-    omega (arith, outer, s_fits)
 
 abbrev column_at : List ℕ → List ℕ → List ℕ → ℕ → Column
 column_at starts coefs granules i = record { start = get_or starts i 0; coefs = get_or coefs i 0; granules = get_or granules i 0 }

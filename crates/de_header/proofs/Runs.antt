@@ -56,7 +56,7 @@ names_none n lines is = rw (after_none n lines is, no_words n lines is) refl
 abbrev with_names : List (List ℕ) → List FileLine → Result (List (List ℕ) × List FileLine) Stop
 with_names texts rest = Ok (texts, rest)
 
--- names behind others
+-- names after others
 abbrev pub after_names : List (List ℕ) → List (List ℕ) × List FileLine → Result (List (List ℕ) × List FileLine) Stop
 after_names texts x = Ok (texts ++ x.0, x.1)
 
@@ -77,12 +77,12 @@ get_front [] ys k x is = absurd (none-some x is)
 get_front (y ∷ xs) ys zero x is = is
 get_front (y ∷ xs) ys (suc k) x is = get_front xs ys k x is
 
-get_behind : {X : Type 0} (xs ys : List X) (k n : ℕ) → length xs ≡ n → n ≤ k → slice_get (xs ++ ys) k ≡ slice_get ys (k - n)
-get_behind [] ys k n none le = let same : k ≡ k - n = omega (arith, none) in ap (slice_get ys) same
-get_behind (x ∷ xs) ys zero n some le = absurd (omega (arith, some, le))
-get_behind (x ∷ xs) ys (suc k) n some le =
+get_after : {X : Type 0} (xs ys : List X) (k n : ℕ) → length xs ≡ n → n ≤ k → slice_get (xs ++ ys) k ≡ slice_get ys (k - n)
+get_after [] ys k n none le = let same : k ≡ k - n = omega (arith, none) in ap (slice_get ys) same
+get_after (x ∷ xs) ys zero n some le = absurd (omega (arith, some, le))
+get_after (x ∷ xs) ys (suc k) n some le =
     let same : k - length xs ≡ suc k - n = omega (arith, some) in
-    get_behind xs ys k (length xs) refl (omega (arith, some, le)) ∙ ap (slice_get ys) same
+    get_after xs ys k (length xs) refl (omega (arith, some, le)) ∙ ap (slice_get ys) same
 
 get_map : {X Y : Type 0} (f : X → Y) (xs : List X) (k : ℕ) (x : X) → slice_get xs k ≡ Some x → slice_get (map f xs) k ≡ Some (f x)
 get_map f [] k x is = absurd (none-some x is)
@@ -96,12 +96,12 @@ word_here n here k line rest word here_is below is =
     get_front (map (word_of line) (take n line.words)) _ k (word_of line word)
     (get_map (word_of line) (take n line.words) k word (get_take line.words n k (omega (arith, here_is, below)) ∙ is))
 
--- a place behind the words of this line
+-- a place after the words of this line
 word_later : (n here k : ℕ) (line : FileLine) (rest : List FileLine) → here ≡ min n (length line.words) → here ≤ k
     → slice_get (first_words n (line ∷ rest)) k ≡ slice_get (first_words (n - here) rest) (k - here)
 word_later n here k line rest here_is le =
     let left : n - length line.words ≡ n - here = omega (arith, here_is) in
-    get_behind (map (word_of line) (take n line.words)) (first_words (n - length line.words) rest) k here
+    get_after (map (word_of line) (take n line.words)) (first_words (n - length line.words) rest) k here
     (length-map (take n line.words) (word_of line) ∙ length-take n line.words ∙ sym here_is) le
     ∙ ap (λ (j : ℕ). slice_get (first_words j rest) (k - here)) left
 

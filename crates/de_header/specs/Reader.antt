@@ -60,6 +60,14 @@ says file (EndGroup facts columns) lines = from_end_group facts columns lines
 says file (Whole facts columns) lines = Ok (header_of facts columns, lines)
 says file (Refused fault) lines = Err (breaks file fault)
 
+-- the reader stands where this is the rest of a header, in whatever file
+abbrev pub IsAt : State → (List FileLine → HeaderOrStop) → Type 0
+IsAt state rest_of_header = (file : ℕ) (lines : List FileLine) → says file state lines ≡ rest_of_header lines
+
+-- the new state is that of the old one after this line
+abbrev pub HasRead : State → TokenLine → State → Type 0
+HasRead old line new = (file : ℕ) (rest : List FileLine) → says file new rest ≡ says file old (line_of file line ∷ rest)
+
 -- where a line meets its rules, the next state says the same; else the first broken rule is the line's
 abbrev pub Moves : State → TokenLine → Result State BrokenRule → Type 0
 Moves state line (Ok new) = (file : ℕ) (rest : List FileLine) → says file state (line_of file line ∷ rest) ≡ says file new rest
@@ -121,6 +129,14 @@ count_of state = 0
 -- where words are counted some are still to come, and all counts are within the limit
 abbrev pub Fits : State → Type 0
 Fits state = (0 < left_of state) × (passed_of state + left_of state ≤ MOST_CONSTANTS) × (count_of state ≤ MOST_CONSTANTS)
+
+-- a fault that is answered is the one that the state keeps
+abbrev pub KeepsFault : State → Result Step HeaderError → Type 0
+KeepsFault state result = (fault : Fault) → result ≡ Err (errors.Fault fault) → IsRefused state fault
+
+-- a fault that was kept is kept and answered again
+abbrev pub GivesAgain : State → State → Result Step HeaderError → Type 0
+GivesAgain old new result = (fault : Fault) → IsRefused old fault → IsRefused new fault × (result ≡ Err (errors.Fault fault))
 
 -- the answer to a line, where this is said of no more lines: that more are wanted, the first fault, or the whole header
 abbrev pub answer_of : Stop → Result Step HeaderError

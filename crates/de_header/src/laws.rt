@@ -7,5 +7,6 @@ ghost use Rattle.de_header.specs.Reader.{IsOpen, says};
 /// A reader that wants more lines takes them from any file: what it says of them doesn't depend on the file that it
 /// read so far.
 pub fn open_readers_say_the_same_in_every_file()
-    ensures { (state : State) (lines : List FileLine) (f g : ℕ) → IsOpen state → says f state lines ≡ says g state lines }
+    ensures { (state : State) (lines : List FileLine) (f g : ℕ) → IsOpen state
+        → says f state lines ≡ says g state lines }
 {}

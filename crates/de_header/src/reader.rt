@@ -9,8 +9,7 @@ ghost use Rattle.spec_sections.specs.Sections.{FileLine};
 ghost use Rattle.de_header.specs.declared.state.State.TheVariants as states;
 ghost use Rattle.de_header.specs.declared.answers.HeaderError.TheVariants as errors;
 ghost use Rattle.de_header.specs.declared.answers.Step.TheVariants as steps;
-ghost use Rattle.de_header.specs.Reader.{Ends, Fits, IsAfterNames, IsAfterValues, IsNotDone, IsNotWhole, IsOpen, IsRefused, IsWhole, Moves, answer, from_more_names, from_more_values, or_else, says};
-ghost use Rattle.spec_sections.specs.FileLines.{line_of};
+ghost use Rattle.de_header.specs.Reader.{Ends, Fits, GivesAgain, HasRead, IsAfterNames, IsAfterValues, IsAt, IsNotDone, IsNotWhole, IsOpen, IsRefused, IsWhole, KeepsFault, Moves, answer, from_more_names, from_more_values, or_else, says};
 
 use crate::answers::{HeaderError, Step};
 use crate::columns::{columns_row, row};
@@ -19,9 +18,9 @@ use crate::words::{
     find_emrat, first_line, group, is_group, mass_ratio, name_count, span, value_count,
 };
 use de_text::Line;
-use spec_ephemeris::{Column, Columns, Header};
-use spec_header::{BlockShape, Facts};
+use spec_ephemeris::{COLUMNS, Column, Columns, Header};
 use spec_faults::ENDED;
+use spec_header::{BlockShape, Facts};
 use spec_sections::BrokenRule;
 use spec_text::Fault;
 use std::alloc::Global;
@@ -51,7 +50,7 @@ fn emrat_or(found: Option<u32>, line: &Line<'_>, n: u32, start: u32) -> Option<u
 fn to_names(shape: BlockShape, count: u32, left: u32, passed: u32, emrat: Option<u32>) -> State
     requires few { passed + left ≤ MOST_CONSTANTS }
     requires count { count ≤ MOST_CONSTANTS }
-    ensures says { (file : ℕ) (rest : List FileLine) → says file result rest ≡ from_more_names shape count left passed emrat rest }
+    ensures place { IsAt result (from_more_names shape count left passed emrat) }
     ensures fits { Fits result }
 {
     if left == 0 {
@@ -71,7 +70,7 @@ fn to_names(shape: BlockShape, count: u32, left: u32, passed: u32, emrat: Option
     }
 }
 
-// The state behind the names on a line.
+// The state after the names on a line.
 fn pass_names(
     shape: BlockShape,
     count: u32,
@@ -89,11 +88,11 @@ fn pass_names(
     to_names(shape, count, left - here, passed + here, emrat)
 }
 
-// The state in which so many values are left behind that of `EMRAT`.
+// The state in which so many values are left after that of `EMRAT`.
 #[tactic(auto, unfolding(crate::specs::Reader::says), using(crate::proofs::Steps::no_values_left))]
 fn to_more_values(facts: Facts, left: u32) -> State
     requires { left ≤ MOST_CONSTANTS }
-    ensures says { (file : ℕ) (rest : List FileLine) → says file result rest ≡ from_more_values facts left rest }
+    ensures place { IsAt result (from_more_values facts left) }
     ensures fits { Fits result }
 {
     if left == 0 {
@@ -103,7 +102,7 @@ fn to_more_values(facts: Facts, left: u32) -> State
     }
 }
 
-// The state behind the values on a line, where that of `EMRAT` is still to come.
+// The state after the values on a line, where that of `EMRAT` is still to come.
 fn pass_values(
     shape: BlockShape,
     left: u32,
@@ -135,7 +134,7 @@ fn pass_values(
     }
 }
 
-// The state behind the values on a line.
+// The state after the values on a line.
 fn pass_more_values(facts: Facts, left: u32, line: &Line<'_>) -> State
     requires { Fits (states.ValuesAfter facts left) }
     ensures moves { Moves (states.ValuesAfter facts left) line.now (Ok result) }
@@ -145,11 +144,11 @@ fn pass_more_values(facts: Facts, left: u32, line: &Line<'_>) -> State
     to_more_values(facts, left - here)
 }
 
-// The state behind a line of the columns, or the first rule that the line breaks.
+// The state after a line of the columns, or the first rule that the line breaks.
 #[tactic(auto, unfolding(crate::specs::Reader::says))]
 fn step_after_values(state: State, line: &Line<'_>) -> Result<State, BrokenRule>
     requires open { IsOpen state }
-    requires behind { IsAfterValues state }
+    requires after { IsAfterValues state }
     ensures moves { Moves state line.now result }
     ensures fits { IfOk result Fits }
 {
@@ -186,11 +185,11 @@ fn step_after_values(state: State, line: &Line<'_>) -> Result<State, BrokenRule>
     }
 }
 
-// The state behind a line that wants one, once the names are passed, or the first rule that the line breaks.
+// The state after a line that wants one, once the names are passed, or the first rule that the line breaks.
 #[tactic(auto, unfolding(crate::specs::Reader::says))]
 fn step_after_names(state: State, line: &Line<'_>) -> Result<State, BrokenRule>
     requires open { IsOpen state }
-    requires behind { IsAfterNames state }
+    requires after { IsAfterNames state }
     requires fits { Fits state }
     ensures moves { Moves state line.now result }
     ensures fits { IfOk result Fits }
@@ -230,7 +229,7 @@ fn step_after_names(state: State, line: &Line<'_>) -> Result<State, BrokenRule>
     }
 }
 
-// The state behind a title, or behind the first line that begins with `GROUP`.
+// The state after a title, or after the first line that begins with `GROUP`.
 #[tactic(auto, unfolding(crate::specs::Reader::says))]
 fn pass_title(ncoeff: u32, line: &Line<'_>) -> Result<State, BrokenRule>
     ensures moves { Moves (states.Titles ncoeff) line.now result }
@@ -244,7 +243,7 @@ fn pass_title(ncoeff: u32, line: &Line<'_>) -> Result<State, BrokenRule>
     }
 }
 
-// The state behind a line that wants one, or the first rule that the line breaks.
+// The state after a line that wants one, or the first rule that the line breaks.
 #[tactic(auto, unfolding(crate::specs::Reader::says))]
 fn step(state: State, line: &Line<'_>) -> Result<State, BrokenRule>
     requires open { IsOpen state }
@@ -289,12 +288,12 @@ fn step(state: State, line: &Line<'_>) -> Result<State, BrokenRule>
     }
 }
 
-// The state behind a line, where the first rule that a line breaks is kept.
+// The state after a line, where the first rule that a line breaks is kept.
 #[tactic(auto, unfolding(crate::specs::Reader::says))]
 fn next(state: State, line: &Line<'_>) -> State
     requires open { IsNotWhole state }
     requires fits { Fits state }
-    ensures says { (file : ℕ) (rest : List FileLine) → says file result rest ≡ says file state (line_of file line.now ∷ rest) }
+    ensures says { HasRead state line.now result }
     ensures kept { (fault : Fault) → IsRefused state fault → IsRefused result fault }
     ensures fits { Fits result }
 {
@@ -315,7 +314,7 @@ fn answer_of(state: State) -> Result<Step, HeaderError>
     ensures more { result ≡ Ok steps.More → IsOpen state }
     ensures not_done { IsNotDone result → IsNotWhole state }
     ensures done { result ≡ Ok steps.Done → IsWhole state }
-    ensures refused { (fault : Fault) → result ≡ Err (errors.Fault fault) → IsRefused state fault }
+    ensures refused { KeepsFault state result }
     ensures kept { (fault : Fault) → IsRefused state fault → result ≡ Err (errors.Fault fault) }
 {
     match state {
@@ -326,7 +325,7 @@ fn answer_of(state: State) -> Result<Step, HeaderError>
 }
 
 // The header, unless there is no memory for its columns.
-fn whole(alloc: Global, facts: Facts, columns: [Column; 13]) -> Result<Header, HeaderError>
+fn whole(alloc: Global, facts: Facts, columns: [Column; COLUMNS]) -> Result<Header, HeaderError>
     ensures { (end : ℕ) → Ends end (Ok (header_of facts columns, [])) result }
 {
     match Vec::from_array(alloc, columns) {
@@ -353,7 +352,7 @@ fn header_at_end(alloc: Global, state: State, line: u32) -> Result<Header, Heade
     }
 }
 
-/// A reader of the header of a file, or of several files one behind the other.
+/// A reader of the header of a file, or of several files one after the other.
 #[derive(Drop)]
 pub struct HeaderReader {
     state: State,
@@ -373,7 +372,7 @@ impl Model for HeaderReader {
 impl HeaderReader {
     /// A reader that waits for the first line.
     pub fn new() -> Self
-        ensures header { (file : ℕ) (lines : List FileLine) → says file result lines ≡ header lines }
+        ensures header { IsAt result header }
         ensures open { IsOpen result × IsNotWhole result }
     {
         HeaderReader {
@@ -382,16 +381,16 @@ impl HeaderReader {
     }
 
     /// Reads the next line. `Done` comes at the line that ends the header, and `Fault` at the first line that breaks a
-    /// rule and at every line behind it. A line takes no memory, so `Memory` never comes here.
+    /// rule and at every line after it. A line takes no memory, so `Memory` never comes here.
     pub fn line(&mut self, line: &Line<'_>) -> Result<Step, HeaderError>
         requires { IsNotWhole self.old }
-        ensures says { (file : ℕ) (rest : List FileLine) → says file self.new rest ≡ says file self.old (line_of file line.now ∷ rest) }
+        ensures says { HasRead self.old line.now self.new }
         ensures answer { result ≡ answer (says 0 self.new []) }
         ensures more { result ≡ Ok steps.More → IsOpen self.new }
         ensures not_done { IsNotDone result → IsNotWhole self.new }
         ensures done { result ≡ Ok steps.Done → IsWhole self.new }
-        ensures refused { (fault : Fault) → result ≡ Err (errors.Fault fault) → IsRefused self.new fault }
-        ensures kept { (fault : Fault) → IsRefused self.old fault → IsRefused self.new fault × (result ≡ Err (errors.Fault fault)) }
+        ensures refused { KeepsFault self.new result }
+        ensures kept { GivesAgain self.old self.new result }
         ensures no_memory_is_wanted { result ≡ Err errors.Memory → ⊥ }
     {
         self.state = next(self.state, line);
@@ -404,7 +403,8 @@ impl HeaderReader {
     pub fn end(self, alloc: Global, line: u32) -> Result<Header, HeaderError>
         ensures end { Ends line (says 0 self []) result }
         ensures memory { result ≡ Err errors.Memory → IsWhole self }
-        ensures rules { (lines : List FileLine) → says 0 self [] ≡ header lines → IfOk result IsHeader }
+        ensures rules { (lines : List FileLine) → says 0 self [] ≡ header lines
+            → IfOk result IsHeader }
     {
         header_at_end(alloc, self.state, line)
     }

@@ -1,5 +1,5 @@
 // How far a reader has come, with what it has read.
-use spec_ephemeris::Column;
+use spec_ephemeris::{COLUMNS, Column};
 use spec_header::{BlockShape, Facts};
 use spec_text::Fault;
 
@@ -54,7 +54,7 @@ pub enum State {
         left: u32,
         before: u32,
     },
-    /// Values behind that of `EMRAT`.
+    /// Values after that of `EMRAT`.
     ValuesAfter {
         facts: Facts,
         left: u32,
@@ -70,23 +70,23 @@ pub enum State {
     /// The coefficients of the columns.
     Coefficients {
         facts: Facts,
-        starts: [u32; 13],
+        starts: [u32; COLUMNS],
     },
     /// The granules of the columns.
     Granules {
         facts: Facts,
-        starts: [u32; 13],
-        coefs: [u32; 13],
+        starts: [u32; COLUMNS],
+        coefs: [u32; COLUMNS],
     },
     /// `GROUP 1070`.
     EndGroup {
         facts: Facts,
-        columns: [Column; 13],
+        columns: [Column; COLUMNS],
     },
     /// Nothing: the header is whole.
     Whole {
         facts: Facts,
-        columns: [Column; 13],
+        columns: [Column; COLUMNS],
     },
     /// Nothing: the first fault was met.
     Refused(Fault),

@@ -7,7 +7,9 @@ ghost use Rattle.spec_header.specs.HeaderRules.{decimal_at, emrat_from, first_li
 use crate::bounds::{block_length, check_julian_date, is_mass_ratio};
 use de_text::{Decimal, Line, read_decimal};
 use spec_ephemeris::{FEWEST_NUMBERS, MOST_NUMBERS};
-use spec_faults::{COUNT_MISMATCH, EMRAT_MISSING, EMRAT_RANGE, FIRST_LINE, GROUP_MISSING, HEADER_NUMBER, LIMIT};
+use spec_faults::{
+    COUNT_MISMATCH, EMRAT_MISSING, EMRAT_RANGE, FIRST_LINE, GROUP_MISSING, HEADER_NUMBER, LIMIT,
+};
 use spec_header::MOST_CONSTANTS;
 use spec_sections::BrokenRule;
 
@@ -129,7 +131,8 @@ fn mass_ratio_of(d: Decimal) -> Result<Decimal, BrokenRule>
 // The value of `EMRAT`, which is the word at this place of the line.
 pub(crate) fn mass_ratio(line: &Line<'_>, place: u32) -> Result<Decimal, BrokenRule>
     requires { place < length line.now.tokens }
-    ensures { (word : List ℕ) → slice_get line.now.tokens place ≡ Some word → result ≡ mass_ratio word }
+    ensures { (word : List ℕ) → slice_get line.now.tokens place ≡ Some word
+        → result ≡ mass_ratio word }
 {
     let d = decimal_at(line, place as usize)?;
     mass_ratio_of(d)

@@ -15,11 +15,11 @@ pub digits_end : (bs : List ℕ) (i : ℕ) → i < length bs → is_ascii_digit 
 digits_end bs i below other =
     at_drop_more digits_at bs i 0 below ∙ rw other (ap (λ (l : List ℕ). ([], l)) (sym (drop_more bs i 0 below)))
 
--- the number behind a digit more
+-- the number after a digit more
 pub value_step : (n : ℕ) (bs : List ℕ) (i : ℕ) → i < length bs → is_ascii_digit (get_or bs i 0) ≡ true
     → value_after (10 * n + (get_or bs i 0 - 48)) (digits_at (drop (i + 1) bs)).0 ≡ value_after n (digits_at (drop i bs)).0
 value_step n bs i below digit = ap (λ (p : List ℕ × List ℕ). value_after n p.0) (sym (digits_more bs i below digit))
 
--- the number behind which digits are left, once it has reached the cap
+-- the number after which digits are left, once it has reached the cap
 pub value_many : (start n cap : ℕ) (bs ds : List ℕ) → cap ≤ n → value_after n ds ≡ value_after start bs → cap ≡ min (value_after start bs) cap
 value_many start n cap bs ds large same = omega (arith, large, value_after_ge n ds, same)

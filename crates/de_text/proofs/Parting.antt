@@ -14,7 +14,7 @@ parted sign whole fraction None parts negative mantissa places exponent some = a
 parted sign whole fraction (Some e) parts negative mantissa places exponent some =
     rw (ne_eqb _ 0 some) (record { negative = negative; mantissa = mantissa; places = places; exponent_negative = exponent.0; exponent = exponent.1 })
 
--- behind the sign, behind the digits before the point, and behind those after it
+-- after the sign, after the digits before the point, and after those after it
 pub split_is : (word signless pointed last : List ℕ) (number count : ℕ) (parts : Parts)
     → parts.negative ≡ is_minus (sign_at word).0 → signless ≡ (sign_at word).1
     → number ≡ min (value (digits_at signless).0) (10 ^ 18) → count ≡ length (digits_at signless).0 → pointed ≡ (digits_at signless).1
@@ -25,14 +25,14 @@ split_is word signless pointed last number count parts negative signless_is numb
     let sign = sign_at word in
     let whole = digits_at sign.1 in
     let fraction = fraction_at whole.1 in
-    let behind_whole : pointed ≡ whole.1 = pointed_is ∙ ap (λ (l : List ℕ). (digits_at l).1) signless_is in
-    let behind_all : last ≡ fraction.1 = last_is ∙ ap (λ (l : List ℕ). (fraction_at l).1) behind_whole in
+    let rest_whole : pointed ≡ whole.1 = pointed_is ∙ ap (λ (l : List ℕ). (digits_at l).1) signless_is in
+    let rest_all : last ≡ fraction.1 = last_is ∙ ap (λ (l : List ℕ). (fraction_at l).1) rest_whole in
     let whole_number : number ≡ min (value whole.0) (10 ^ 18) = number_is ∙ ap (λ (l : List ℕ). min (value (digits_at l).0) (10 ^ 18)) signless_is in
     let whole_count : count ≡ length whole.0 = count_is ∙ ap (λ (l : List ℕ). length (digits_at l).0) signless_is in
     let both : parts.mantissa ≡ min (value_after number (after_point fraction.0)) (10 ^ 18) =
-    mantissa ∙ ap (λ (l : List ℕ). min (value_after number (after_point (fraction_at l).0)) (10 ^ 18)) behind_whole in
-    let after : parts.places ≡ length (after_point fraction.0) = places ∙ ap (λ (l : List ℕ). length (after_point (fraction_at l).0)) behind_whole in
+    mantissa ∙ ap (λ (l : List ℕ). min (value_after number (after_point (fraction_at l).0)) (10 ^ 18)) rest_whole in
+    let after : parts.places ≡ length (after_point fraction.0) = places ∙ ap (λ (l : List ℕ). length (after_point (fraction_at l).0)) rest_whole in
     parted sign.0 whole.0 fraction.0 (exponent_at fraction.1) parts negative
     (capped_both number parts.mantissa whole.0 (after_point fraction.0) whole_number both) after
-    (subst (λ (l : List ℕ). ShowsExponent (exponent_at l) (Some (parts.exponent_negative, parts.exponent))) behind_all exponent)
+    (subst (λ (l : List ℕ). ShowsExponent (exponent_at l) (Some (parts.exponent_negative, parts.exponent))) rest_all exponent)
     (λ e. absurd (omega (arith, some, whole_count, after, length-append whole.0 (after_point fraction.0), e)))

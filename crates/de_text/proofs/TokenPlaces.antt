@@ -20,12 +20,12 @@ some_len line text start zero is below here at =
     absurd (cc)
 some_len line text start (suc n) is below here at = omega arith
 
--- a token behind separators
-pub token_behind : (line text : List ℕ) (start n : ℕ) → text ≡ drop start line → start < length line
+-- a token after separators
+pub token_after : (line text : List ℕ) (start n : ℕ) → text ≡ drop start line → start < length line
     → ((k : ℕ) → k < start → is_separator (get_or line k 0) ≡ true) → is_separator (get_or line start 0) ≡ false
     → n ≤ length text → ((k : ℕ) → k < n → is_separator (get_or text k 0) ≡ false) → (n < length text → is_separator (get_or text n 0) ≡ true)
     → tokens line ≡ take n text ∷ tokens (drop n text)
-token_behind line text start n is below before here within inside at =
+token_after line text start n is below before here within inside at =
     skip line start (omega arith) before ∙ ap tokens (sym is)
     ∙ token_at text n (some_len line text start n is below here at) within inside at
 

@@ -1,8 +1,13 @@
 -- What the parts of a word have to do with the numeral that it is.
-use Rattle.std.specs.Prelude.{◌≡◌, ℕ, ◌≤◌, ◌^◌, min, Bool, true, false, length, Option, None, Some}
+use Rattle.std.specs.Prelude.{◌≡◌, ℕ, ◌≤◌, ◌^◌, min, Bool, true, false, List, length, Option, None, Some}
 use Rattle.spec_text.specs.declared.limits.TheConstants.{MOST_WORD_BYTES}
+use Rattle.spec_text.specs.Splitting.{fraction_at}
 use Rattle.spec_text.specs.Decimals.{Sign, minus, Exponent, Numeral, after_point, digits, exponent_size, value}
 use Rattle.de_text.specs.declared.parts.Parts.{Parts}
+
+-- the digits after a point at the front of a text
+abbrev pub fraction_digits : List ℕ → List ℕ
+fraction_digits text = after_point (fraction_at text).0
 
 abbrev pub is_minus : Sign → Bool
 is_minus minus = true

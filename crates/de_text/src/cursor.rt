@@ -3,7 +3,7 @@ ghost use Rattle.std.specs.Prelude.{◌≡◌, ◌+◌, ◌<◌, ◌≤◌, leng
 ghost use Rattle.std.specs.Option.{option_copied};
 ghost use Rattle.spec_text.specs.Lines.{lines, text_lines};
 ghost use Rattle.spec_text.specs.Reading.{whole_at};
-ghost use Rattle.de_text.specs.Cursor.{counted_behind};
+ghost use Rattle.de_text.specs.Cursor.{counted_after};
 ghost use Rattle.de_text.specs.Steps.{lines_after, step_of};
 
 use crate::decimal::read_whole;
@@ -83,7 +83,7 @@ pub enum LineStep<'a> {
     End,
 }
 
-/// A cursor over the lines of a text. It passes over blank lines, and stays for good at a line that is too long.
+/// A cursor over the lines of a text. It skips blank lines, and stays for good at a line that is too long.
 #[derive(Debug, Drop)]
 pub struct Tokens<'a> {
     rest: &'a [u8],
@@ -94,38 +94,39 @@ impl<'a> Model for Tokens<'a> {
     ghost use Rattle.std.specs.Prelude.{◌+◌, ◌≤◌, length};
     ghost use Rattle.spec_text.specs.Lines.{lines};
     ghost use Rattle.spec_text.specs.declared.limits.TheConstants.{MOST_TEXT_BYTES};
-    ghost use Rattle.de_text.specs.Cursor.{Cursor, counted_behind};
+    ghost use Rattle.de_text.specs.Cursor.{Cursor, counted_after};
 
     ghost Value = { Cursor };
 
     ghost view = { λ t. record {
-      left = counted_behind t.passed t.rest.now;
+      left = counted_after t.passed t.rest.now;
       end_line = t.passed + length (lines t.rest.now) + 1;
     } };
 
     ghost invariant = { λ t. t.passed + length t.rest.now ≤ MOST_TEXT_BYTES };
 }
 
-// The next step in a text behind this many lines; the text behind it, and how many lines stand before that.
+// The next step in a text after this many lines; the text after it, and how many lines stand before that.
 fn next_line<'a>(text: &'a [u8], before: u32) -> (LineStep<'a>, &'a [u8], u32)
     requires { before + length text.now ≤ MOST_TEXT_BYTES }
-    ensures step { result.0 ≡ step_of (counted_behind before text.now) }
-    ensures left { counted_behind result.2 result.1.now ≡ lines_after (counted_behind before text.now) }
+    ensures step { result.0 ≡ step_of (counted_after before text.now) }
+    ensures left { counted_after result.2 result.1.now
+        ≡ lines_after (counted_after before text.now) }
     ensures end { result.2 + length (lines result.1.now) ≡ before + length (lines text.now) }
     ensures fits { result.2 + length result.1.now ≤ before + length text.now }
 {
     let mut rest = text;
     let mut passed = before;
     while !rest.is_empty() {
-        let (bytes, behind) = cut_line(rest);
+        let (bytes, after) = cut_line(rest);
         let number = passed + 1;
         if bytes.len() > MOST_LINE_BYTES {
             return (LineStep::TooLong(number), rest, passed);
         }
         if cut_token(bytes).is_some() {
-            return (LineStep::Line(Line { number, bytes }), behind, number);
+            return (LineStep::Line(Line { number, bytes }), after, number);
         }
-        rest = behind;
+        rest = after;
         passed = number;
     }
     (LineStep::End, rest, passed)
@@ -144,7 +145,7 @@ impl<'a> Tokens<'a> {
         }
     }
 
-    /// The next line that isn't blank, in order. A line that is too long is told again by every later call.
+    /// The next line that isn't blank, in order. A line that is too long is given again by every later call.
     pub fn line(&mut self) -> LineStep<'a>
         ensures step { result ≡ step_of self.old.left }
         ensures left { self.new.left ≡ lines_after self.old.left }

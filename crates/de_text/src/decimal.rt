@@ -23,7 +23,8 @@ fn signed(negative: bool, size: u64) -> i64
 // The decimal of the parts, or the second or the third fault.
 fn assemble(parts: &Parts) -> Result<Decimal, NumberFault>
     requires { IsOfShortWord parts.now }
-    ensures { (n : Numeral) → AreDigits (digits n) → Shows n parts.now → result ≡ reading_of (Some n) }
+    ensures { (n : Numeral) → AreDigits (digits n) → Shows n parts.now
+        → result ≡ reading_of (Some n) }
 {
     if parts.mantissa >= CAP {
         return Err(NumberFault::TooManyDigits);

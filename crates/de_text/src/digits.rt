@@ -6,7 +6,7 @@ ghost use Rattle.spec_text.specs.Splitting.{digits_at};
 // Ten to the number of digits that a decimal may have. A greater number counts as this one.
 pub(crate) const CAP: u64 = 1_000_000_000_000_000_000;
 
-// The digits at the front of a text: the number that they write behind an earlier one, at most `CAP`, and how many
+// The digits at the front of a text: the number that they write after an earlier one, at most `CAP`, and how many
 // there are.
 #[derive(Clone, Copy)]
 pub(crate) struct Digits<'a> {

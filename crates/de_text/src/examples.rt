@@ -4,7 +4,7 @@ ghost use Rattle.spec_text.specs.Lines.{text_lines};
 ghost use Rattle.de_text.specs.Steps.{lines_after, step_of};
 ghost use Rattle.de_text.specs.declared.cursor.LineStep.TheVariants.{End, Line, TooLong};
 
-/// A cursor passes over blank lines and counts them, and stays at a line that is too long.
+/// A cursor skips blank lines and counts them, and stays at a line that is too long.
 pub fn a_cursor_steps_from_line_to_line()
     ensures first { step_of (text_lines (codes "\n \nEMRAT  81.3\r\nlast"))
         ≡ Line (record { number = 3; tokens = codes "EMRAT" ∷ codes "81.3" ∷ [] }) }
@@ -13,5 +13,6 @@ pub fn a_cursor_steps_from_line_to_line()
     ensures end { step_of (text_lines (codes "\n \n\t")) ≡ End }
     ensures longest { step_of (text_lines (replicate 4096 32)) ≡ End }
     ensures too_long { step_of (text_lines (replicate 4097 32)) ≡ TooLong 1 }
-    ensures again { step_of (lines_after (record { number = 7; bytes = replicate 4097 32 } ∷ [])) ≡ TooLong 7 }
+    ensures again { step_of (lines_after (record { number = 7; bytes = replicate 4097 32 } ∷ []))
+        ≡ TooLong 7 }
 {}

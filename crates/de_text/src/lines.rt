@@ -40,8 +40,8 @@ pub(crate) fn line_count(text: &[u8]) -> usize
     let mut rest = text;
     let mut count = 0;
     while !rest.is_empty() {
-        let (_, behind) = cut_line(rest);
-        rest = behind;
+        let (_, after) = cut_line(rest);
+        rest = after;
         count += 1;
     }
     count

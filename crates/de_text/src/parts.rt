@@ -1,8 +1,8 @@
 // The parts of a numeral, cut from the front of a word.
 ghost use Rattle.std.specs.Prelude.{◌≡◌, ◌≤◌, ◌^◌, length, min};
-ghost use Rattle.spec_text.specs.Decimals.{after_point, value_after};
+ghost use Rattle.spec_text.specs.Decimals.{value_after};
 ghost use Rattle.spec_text.specs.Splitting.{exponent_at, fraction_at, numeral_of, sign_at};
-ghost use Rattle.de_text.specs.Parts.{ShowsExponent, Splits, is_minus};
+ghost use Rattle.de_text.specs.Parts.{ShowsExponent, Splits, fraction_digits, is_minus};
 
 use crate::digits::{Digits, take_digits};
 
@@ -31,8 +31,8 @@ fn take_sign(word: &[u8]) -> (bool, &[u8])
 // A point and digits at the front. Without a point there are none.
 fn take_fraction(start: u64, text: &[u8]) -> Digits<'_>
     requires { start ≤ 10 ^ 18 }
-    ensures number { result.number ≡ min (value_after start (after_point (fraction_at text.now).0)) (10 ^ 18) }
-    ensures count { result.count ≡ length (after_point (fraction_at text.now).0) }
+    ensures number { result.number ≡ min (value_after start (fraction_digits text.now)) (10 ^ 18) }
+    ensures count { result.count ≡ length (fraction_digits text.now) }
     ensures rest { result.rest.now ≡ (fraction_at text.now).1 }
 {
     match text {

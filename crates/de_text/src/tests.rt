@@ -135,7 +135,7 @@ fn words_that_have_a_fault(rt: HostRuntime) {
     assert!(rt; numbers == [1, 2, 3]);
 }
 
-// The words of a line are these, and none come behind them.
+// The words of a line are these, and none come after them.
 fn check_words(rt: &impl Abort, line: &Line<'_>, tokens: &[&[u8]]) {
     let number = line.number();
     let mut words = line.words();

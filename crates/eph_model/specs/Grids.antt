@@ -1,8 +1,12 @@
 -- The borders of a grid.
-use Rattle.std.specs.Prelude.{◌≡◌, ℕ, ◌*◌, ◌<◌, ℤ, pos, ◌+ℤ◌, ◌<ℤ◌, ◌≤ℤ◌}
+use Rattle.std.specs.Prelude.{◌≡◌, ℕ, ◌*◌, ◌<◌, ℤ, pos, ◌+ℤ◌, ◌-ℤ◌, ◌<ℤ◌, ◌≤ℤ◌}
 use Rattle.spec_ephemeris.specs.Header.{IsColumn}
 use Rattle.spec_ephemeris.specs.Ephemeris.{Ephemeris}
 use Rattle.eph_model.specs.declared.grid.Grid.{Grid}
+
+-- twice the middle of a and b, counted from the first granule
+abbrev pub twice_middle : Grid → ℤ → ℤ → ℤ
+twice_middle g a b = (a -ℤ g.start) +ℤ (b -ℤ g.start)
 
 -- t is the start of the granule of this index, a border in (a, b]
 pub record IsBorderAt (g : Grid) (index : ℕ) (a b t : ℤ) : Type 0 where

@@ -29,7 +29,8 @@ impl From<AllocError> for Memory {
 }
 
 /// A header that meets the rules, the time at which the first block begins, and the numbers of the blocks, each of
-/// which begins where the one before it ends. Times are seconds of TDB since J2000.
+/// which begins where the one before it ends, as JPL's ASCII files of development ephemerides have them. Times are
+/// seconds of TDB since J2000.
 #[derive(Drop)]
 pub struct Ephemeris {
     header: Header,
@@ -43,9 +44,19 @@ impl Model for Ephemeris {
 
     ghost Value = { Ephemeris };
 
-    ghost view = { λ e. record { header = e.header; start = e.start; blocks = e.blocks; numbers = e.numbers.items } };
+    ghost view = { λ e. record {
+      header = e.header;
+      start = e.start;
+      blocks = e.blocks;
+      numbers = e.numbers.items;
+    } };
 
-    ghost invariant = { λ e. IsEphemeris (record { header = e.header; start = e.start; blocks = e.blocks; numbers = e.numbers.items }) };
+    ghost invariant = { λ e. IsEphemeris (record {
+      header = e.header;
+      start = e.start;
+      blocks = e.blocks;
+      numbers = e.numbers.items;
+    }) };
 }
 
 impl Ephemeris {
@@ -63,7 +74,8 @@ impl Ephemeris {
         }
     }
 
-    /// Adds one block of as many numbers as the header says, after the last. After `Memory` nothing has changed.
+    /// Adds one block of as many numbers as the header says, after the last: its two Julian dates, and the coefficients
+    /// of its columns in km. After `Memory` nothing has changed.
     pub fn push_block(&mut self, numbers: &[Decimal]) -> Result<(), Memory>
         requires block { IsBlock self.old.header numbers.now }
         requires room { self.old.blocks < MOST_BLOCKS }
@@ -75,7 +87,7 @@ impl Ephemeris {
         Ok(())
     }
 
-    /// Says that the first block begins at this time, and the others behind it.
+    /// Lets the first block begin at this time, in seconds of TDB since J2000, and the others after it.
     pub fn start_at(&mut self, start: i64)
         requires { IsStart start }
         ensures { self.new ≡ starting_at self.old start }
@@ -126,7 +138,8 @@ impl Ephemeris {
     fn grid(&self, column: usize) -> Grid
         requires { IsTrue (has_column self.now.header column) }
         ensures grid { IsGridOf self.now column result }
-        ensures coefficients { (1 ≤ result.column.coefs) × (result.column.coefs ≤ MOST_COEFFICIENTS) }
+        ensures coefficients { (1 ≤ result.column.coefs)
+            × (result.column.coefs ≤ MOST_COEFFICIENTS) }
     {
         let column = present_column(self.header.columns.as_slice(), column);
         let seconds = granule_seconds(self.header.block_seconds, column.granules);
@@ -147,7 +160,8 @@ impl Ephemeris {
         requires from { self.now.start ≤ℤ t }
         requires upto { t ≤ℤ end_of self.now }
         ensures granule { IsGranuleAt self.now column t (granule_of result) }
-        ensures coefficients { IfSome (column_at self.now.header.columns column) (λ c. result.n ≡ c.coefs) }
+        ensures coefficients { IfSome (column_at self.now.header.columns column)
+            (λ c. result.n ≡ c.coefs) }
         ensures components { result.comps ≡ components column }
         ensures count { length result.coefs.now ≡ result.comps * result.n }
         ensures few { (1 ≤ result.n) × (result.n ≤ 32) }
@@ -197,7 +211,8 @@ impl Ephemeris {
         requires present { IsColumn self.now.header number column }
         requires block { block < self.now.blocks }
         requires inner { inner < column.granules }
-        ensures numbers { result.now ≡ granule_numbers number column inner (block_numbers self.now block) }
+        ensures numbers { result.now
+            ≡ granule_numbers number column inner (block_numbers self.now block) }
         ensures count { length result.now ≡ granule_size number column }
         ensures bodies { number ≤ BODY_COLUMNS → All IsBodyNumber result.now }
     {

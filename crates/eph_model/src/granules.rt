@@ -46,7 +46,8 @@ pub(crate) fn numbers_at(
 ) -> &[Decimal]
     requires block { block * ncoeff + ncoeff ≤ length numbers.now }
     requires within { first + size ≤ ncoeff }
-    ensures { result.now ≡ take size (drop first (take ncoeff (drop (block * ncoeff) numbers.now))) }
+    ensures { result.now
+        ≡ take size (drop first (take ncoeff (drop (block * ncoeff) numbers.now))) }
 {
     let from = block * ncoeff;
     let block = &numbers[from..from + ncoeff];
@@ -83,7 +84,8 @@ fn index_at(offset: u64, seconds: u64, count: u64) -> u64
     requires within { offset ≤ count * seconds }
     ensures in_range { result < count }
     ensures from { result * seconds ≤ offset }
-    ensures upto { (offset < (result + 1) * seconds) ⊎ ((offset ≡ (result + 1) * seconds) × (result + 1 ≡ count)) }
+    ensures upto { (offset < (result + 1) * seconds)
+        ⊎ ((offset ≡ (result + 1) * seconds) × (result + 1 ≡ count)) }
 {
     (offset / seconds).min(count - 1)
 }

@@ -2,6 +2,7 @@
 use Rattle.std.specs.Prelude.{ℕ, ℤ}
 use Rattle.spec_intervals.specs.Enclosure.{Enclosure}
 
+-- an enclosure, as what its three intervals are
 abbrev pub parts : Enclosure → Enclosure
 parts e = e
 

@@ -17,8 +17,10 @@ pub fn enclose<S: States>(f: &Formula, states: &S, a: i64, b: i64) -> Enclosure
     requires fits { S.fits states.now a b }
     ensures equals { result ≡ enclosure_of (λ leaf. S.answer states.now leaf a b) a b f.now }
     ensures mid { Holds result.mid (exact_of (S.exact states.now) f.now (middle a b)) }
-    ensures range { (t : ℤ) → a ≤ℤ t → t ≤ℤ b → Holds result.range (exact_of (S.exact states.now) f.now t) }
-    ensures step { (t : ℤ) → a ≤ℤ t → t <ℤ b → Holds result.step (change (exact_of (S.exact states.now) f.now) t) }
+    ensures range { (t : ℤ) → a ≤ℤ t → t ≤ℤ b
+        → Holds result.range (exact_of (S.exact states.now) f.now t) }
+    ensures step { (t : ℤ) → a ≤ℤ t → t <ℤ b
+        → Holds result.step (change (exact_of (S.exact states.now) f.now) t) }
 {
     enclose_at(f.expr(), states, &Span::new(a, b))
 }
@@ -27,7 +29,8 @@ pub fn enclose<S: States>(f: &Formula, states: &S, a: i64, b: i64) -> Enclosure
 fn enclose_at<S: States>(expr: &Expr, states: &S, span: &Span) -> Enclosure
     requires formula { IsFormula expr.now }
     requires fits { S.fits states.now span.now.first span.now.last }
-    ensures { result ≡ enclosure_of (λ leaf. S.answer states.now leaf span.now.first span.now.last) span.now.first span.now.last expr.now }
+    ensures { result ≡ enclosure_of (λ leaf. S.answer states.now leaf span.now.first span.now.last)
+        span.now.first span.now.last expr.now }
 {
     match expr {
         Expr::Pos { target, axis } => states.pos(*target, *axis, span.first(), span.last()),

@@ -35,8 +35,10 @@ impl Formula {
         requires { HasLeaves expr }
         ensures made { IfOk result (λ formula. formula ≡ expr) }
         ensures nodes { (result ≡ Err Nodes) ↔ (node_limit < nodes expr) }
-        ensures degree { (result ≡ Err Degree) ↔ ((nodes expr ≤ node_limit) × (degree_limit < degree expr)) }
-        ensures constant { (result ≡ Err Constant) ↔ ((nodes expr ≤ node_limit) × (degree expr ≤ degree_limit) × (HasConstants expr → ⊥)) }
+        ensures degree { (result ≡ Err Degree)
+            ↔ ((nodes expr ≤ node_limit) × (degree_limit < degree expr)) }
+        ensures constant { (result ≡ Err Constant)
+            ↔ ((nodes expr ≤ node_limit) × (degree expr ≤ degree_limit) × (HasConstants expr → ⊥)) }
     {
         match limits_kept(&expr) {
             Err(fault) => Err(fault),

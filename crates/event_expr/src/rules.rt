@@ -148,7 +148,8 @@ impl Span {
     /// At a single time the range is the mid and nothing changes, whatever the other parts.
     pub fn single(&self, mid: Ival) -> Enclosure
         requires { lt_z self.now.first self.now.last ≡ false }
-        ensures { (plain step : Interval) → result ≡ enclosure self.now.first self.now.last mid plain step }
+        ensures { (plain step : Interval)
+            → result ≡ enclosure self.now.first self.now.last mid plain step }
     {
         Enclosure {
             mid,

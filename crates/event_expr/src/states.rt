@@ -38,11 +38,14 @@ pub trait States {
     ghost spans: { (s : Self) (a b : ℤ) → fits s a b → IsSpan a b };
 
     /// The exact value is a number at each time that is asked for.
-    ghost numbers: { (s : Self) (leaf : Leaf) (a b : ℤ) → IsLeaf leaf → fits s a b → AllFractions (exact s leaf) a b };
+    ghost numbers: { (s : Self) (leaf : Leaf) (a b : ℤ) → IsLeaf leaf → fits s a b
+        → AllFractions (exact s leaf) a b };
 
     /// What is answered holds the exact value: in the middle, at each time, and from each time to the next.
-    ghost holds: { (s : Self) (leaf : Leaf) (a b : ℤ) → IsLeaf leaf → fits s a b → IsEnclosure (exact s leaf) a b (answer s leaf a b) };
+    ghost holds: { (s : Self) (leaf : Leaf) (a b : ℤ) → IsLeaf leaf → fits s a b
+        → IsEnclosure (exact s leaf) a b (answer s leaf a b) };
 
     /// What is answered has exponents within the limit.
-    ghost within: { (s : Self) (leaf : Leaf) (a b : ℤ) → IsLeaf leaf → fits s a b → AllWithin state_exponent (answer s leaf a b) };
+    ghost within: { (s : Self) (leaf : Leaf) (a b : ℤ) → IsLeaf leaf → fits s a b
+        → AllWithin state_exponent (answer s leaf a b) };
 }

@@ -29,7 +29,8 @@ pub trait Shelf {
     fn open(&mut self, name: &str) -> Result<(), Failed>
         ensures ready { OnOk result (ready self.new) }
         ensures bytes { OnOk result (Opens (files self.old) name.now (left self.new)) }
-        ensures failed { OnErr result (Rose (faults self.old) (faults self.new) ⊎ Lacks (files self.old) name.now) }
+        ensures failed { OnErr result (Rose (faults self.old) (faults self.new)
+            ⊎ Lacks (files self.old) name.now) }
         ensures closed { OnErr result (ready self.new → ⊥) }
         ensures files { files self.new ≡ files self.old }
         ensures later { faults self.old ≤ faults self.new }
@@ -59,7 +60,8 @@ pub trait Sink {
     fn write(&mut self, piece: &[u8]) -> Result<usize, Failed>
         ensures bound { WritesAtMost result piece.now }
         ensures bytes { WriteAppends (bytes self.old) (bytes self.new) result piece.now }
-        ensures stuck { IfOk result (λ n. n ≡ 0 → 0 < length piece.now → Rose (faults self.old) (faults self.new)) }
+        ensures stuck { IfOk result (λ n. n ≡ 0 → 0 < length piece.now
+            → Rose (faults self.old) (faults self.new)) }
         ensures cause { HasCause (faults self.old) (faults self.new) result }
         ensures count { faults self.new < 2 ^ 64 };
 }

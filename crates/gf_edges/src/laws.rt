@@ -5,14 +5,17 @@ ghost use Rattle.gf_edges.specs.States.{SinkState, given, taken};
 
 /// A file is found by its whole name, and of two with one name the first counts.
 pub fn files_are_found_by_name()
-    ensures first_of_two { file_of (codes "a") ((codes "b", 1 ∷ []) ∷ (codes "a", 2 ∷ []) ∷ (codes "a", 3 ∷ []) ∷ []) ≡ Some (2 ∷ []) }
+    ensures first_of_two { file_of (codes "a") ((codes "b", 1 ∷ []) ∷ (codes "a", 2 ∷ []) ∷ (codes "a", 3 ∷ []) ∷ [])
+        ≡ Some (2 ∷ []) }
     ensures missing { file_of (codes "a") ((codes "ab", 1 ∷ []) ∷ ([], 2 ∷ []) ∷ []) ≡ None }
     ensures empty_name { file_of [] ((codes "ab", 1 ∷ []) ∷ ([], 2 ∷ []) ∷ []) ≡ Some (2 ∷ []) }
     ensures opens { Opens (Some ((codes "a", 1 ∷ 2 ∷ []) ∷ [])) (codes "a") (Some (1 ∷ 2 ∷ [])) }
     ensures told_missing { Lacks (Some []) (codes "a") }
     ensures not_told { Lacks None (codes "a") → ⊥ }
-    ensures first_counts { (name bytes : List ℕ) (rest : Files) → file_of name ((name, bytes) ∷ rest) ≡ Some bytes }
-    ensures others_are_passed { (name other bytes : List ℕ) (rest : Files) → other ≢ name → file_of name ((other, bytes) ∷ rest) ≡ file_of name rest }
+    ensures first_counts { (name bytes : List ℕ) (rest : Files)
+        → file_of name ((name, bytes) ∷ rest) ≡ Some bytes }
+    ensures others_are_skipped { (name other bytes : List ℕ) (rest : Files)
+        → other ≢ name → file_of name ((other, bytes) ∷ rest) ≡ file_of name rest }
 {}
 
 /// A count rises by one, and stands at its last value.
@@ -30,5 +33,6 @@ pub fn pieces_are_as_long_as_can_be()
     ensures by_buffer { given (1 ∷ 2 ∷ 3 ∷ []) (0 ∷ []) 2 ≡ 1 }
     ensures by_end { given (1 ∷ []) (0 ∷ 0 ∷ []) 2 ≡ 1 }
     ensures at_end { given [] (0 ∷ 0 ∷ []) 2 ≡ 0 }
-    ensures by_room { (s : SinkState) → s.room ≡ 5 → s.piece ≡ 4 → s.bytes ≡ 1 ∷ 2 ∷ 3 ∷ [] → taken (7 ∷ 8 ∷ 9 ∷ []) s ≡ 2 }
+    ensures by_room { (s : SinkState) → s.room ≡ 5 → s.piece ≡ 4 → s.bytes ≡ 1 ∷ 2 ∷ 3 ∷ []
+        → taken (7 ∷ 8 ∷ 9 ∷ []) s ≡ 2 }
 {}

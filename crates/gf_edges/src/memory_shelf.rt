@@ -46,7 +46,8 @@ impl Model for MemoryShelf {
 // The index of the first entry with this name.
 fn index_of(files: &[(String, Vec<u8>)], name: &str) -> Option<usize>
     ensures absent { IfNone result (file_of name.now (entries files.now) ≡ None) }
-    ensures there { IfSome result (λ i. file_of name.now (entries files.now) ≡ Some (bytes_at files.now i)) }
+    ensures there { IfSome result (λ i.
+        file_of name.now (entries files.now) ≡ Some (bytes_at files.now i)) }
 {
     for (i, entry) in files.iter().enumerate() {
         if entry.0.as_str() == name {
@@ -116,13 +117,16 @@ impl Shelf for MemoryShelf {
     fn open(&mut self, name: &str) -> Result<(), Failed>
         ensures ready { OnOk result (IsSome self.new.left) }
         ensures bytes { OnOk result (Opens (Some self.old.files) name.now self.new.left) }
-        ensures failed { OnErr result (Rose self.old.faults self.new.faults ⊎ Lacks (Some self.old.files) name.now) }
+        ensures failed { OnErr result (Rose self.old.faults self.new.faults
+            ⊎ Lacks (Some self.old.files) name.now) }
         ensures closed { OnErr result (IsSome self.new.left → ⊥) }
         ensures files { Some self.new.files ≡ Some self.old.files }
         ensures later { self.old.faults ≤ self.new.faults }
         ensures count { self.new.faults < 2 ^ 64 }
-        ensures fails { IsErr result ↔ (IsToFail self.old.failing self.old.calls ⊎ (file_of name.now self.old.files ≡ None)) }
-        ensures faults { RisesWhere (IsToFail self.old.failing self.old.calls) self.old.faults self.new.faults }
+        ensures fails { IsErr result ↔ (IsToFail self.old.failing self.old.calls
+            ⊎ (file_of name.now self.old.files ≡ None)) }
+        ensures faults { RisesWhere (IsToFail self.old.failing self.old.calls)
+            self.old.faults self.new.faults }
         ensures calls { self.new.calls ≡ raised self.old.calls }
         ensures piece { self.new.piece ≡ self.old.piece }
         ensures failing { self.new.failing ≡ self.old.failing }
@@ -149,8 +153,10 @@ impl Shelf for MemoryShelf {
         ensures cause { HasCause self.old.faults self.new.faults result }
         ensures count { self.new.faults < 2 ^ 64 }
         ensures fails { IsErr result ↔ IsToFail self.old.failing self.old.calls }
-        ensures gives { IfOk result (λ n. IfSome self.old.left (λ left. n ≡ given left buf.old self.old.piece)) }
-        ensures faults { RisesWhere (IsToFail self.old.failing self.old.calls) self.old.faults self.new.faults }
+        ensures gives { IfOk result (λ n.
+            IfSome self.old.left (λ left. n ≡ given left buf.old self.old.piece)) }
+        ensures faults { RisesWhere (IsToFail self.old.failing self.old.calls)
+            self.old.faults self.new.faults }
         ensures calls { self.new.calls ≡ raised self.old.calls }
         ensures piece { self.new.piece ≡ self.old.piece }
         ensures failing { self.new.failing ≡ self.old.failing }

@@ -42,12 +42,13 @@ impl Model for MemorySink {
       faults = s.calls.faults;
     } };
 
-    ghost invariant = { λ s. (vec_len s.taken ≤ s.room) × (s.room ≤ vec_capacity s.taken) × (1 ≤ s.piece) };
+    ghost invariant = { λ s.
+        (vec_len s.taken ≤ s.room) × (s.room ≤ vec_capacity s.taken) × (1 ≤ s.piece) };
 }
 
 impl MemorySink {
     /// A sink with no bytes, that holds at most `room` bytes and takes at most `piece` of them in one write. The calls
-    /// whose numbers are in `failing` fail and take nothing. The room is taken here; want of it is `Memory`.
+    /// whose numbers are in `failing` fail and take nothing. The room is taken here; where there is none, the error is `Memory`.
     pub fn new(alloc: Global, room: usize, piece: usize, failing: Vec<u64>) -> Result<Self, Memory>
         requires { 1 ≤ piece }
         ensures empty { IfOk result (λ s. s.bytes ≡ []) }
@@ -94,12 +95,14 @@ impl Sink for MemorySink {
     fn write(&mut self, piece: &[u8]) -> Result<usize, Failed>
         ensures bound { WritesAtMost result piece.now }
         ensures bytes { WriteAppends (Some self.old.bytes) (Some self.new.bytes) result piece.now }
-        ensures stuck { IfOk result (λ n. n ≡ 0 → 0 < length piece.now → Rose self.old.faults self.new.faults) }
+        ensures stuck { IfOk result (λ n. n ≡ 0 → 0 < length piece.now
+            → Rose self.old.faults self.new.faults) }
         ensures cause { HasCause self.old.faults self.new.faults result }
         ensures count { self.new.faults < 2 ^ 64 }
         ensures fails { IsErr result ↔ IsToFail self.old.failing self.old.calls }
         ensures takes { IfOk result (λ n. n ≡ taken piece.now self.old) }
-        ensures faults { RisesWhere (IsToFail self.old.failing self.old.calls ⊎ IsStuck self.old piece.now) self.old.faults self.new.faults }
+        ensures faults { RisesWhere (IsToFail self.old.failing self.old.calls ⊎ IsStuck self.old piece.now)
+            self.old.faults self.new.faults }
         ensures calls { self.new.calls ≡ raised self.old.calls }
         ensures limits { (self.new.room ≡ self.old.room) × (self.new.piece ≡ self.old.piece) }
         ensures failing { self.new.failing ≡ self.old.failing }

@@ -2,6 +2,7 @@
 use Rattle.std.proofs.Common.{◌≡◌, ◌<◌, ◌≤◌, ◌+◌, ◌-◌, ℕ, zero, suc, List, [], ◌∷◌, ◌++◌, length, map, take, get_or, sym, ap, ◌∙◌, arith, subst, inl, inr, ◌⊎◌, Option, Some, Ok, Err}
 use Rattle.std.specs.Prelude.{String, slice_get, string_bytes}
 use Rattle.std.specs.declared.alloc.Global.{Global}
+use Rattle.std.proofs.lemmas.Option.{slice_get_within}
 use Rattle.std.proofs.lemmas.List.{length-take, take_all}
 use Rattle.gf_edges.specs.Edges.{Files, Lacks, Rose}
 use Rattle.spec_text.specs.declared.decimals.Fault.{Fault}
@@ -38,17 +39,11 @@ one_name_more [] (suc i) name there = absurd (cc)
 one_name_more (n ∷ names) zero name there = let same : n ≡ name = cc in λ k. same k ∷ []
 one_name_more (n ∷ names) (suc i) name there = ap (λ (l : Texts). n ∷ l) (one_name_more names i name there)
 
-pub inside_names : (names : Texts) (i : ℕ) (name : List ℕ) → slice_get names i ≡ Some name → i < length names
-inside_names [] zero name there = absurd (cc)
-inside_names [] (suc i) name there = absurd (cc)
-inside_names (n ∷ names) zero name there = omega arith
-inside_names (n ∷ names) (suc i) name there = let inner = inside_names names i name there in omega (arith, inner)
-
 -- the number of the names before a place
 before_place : (names : Texts) (i : ℕ) (name : List ℕ) → slice_get names i ≡ Some name → length (take i names) ≡ i
 before_place names i name there =
     let front = length-take i names in
-    let inside = inside_names names i name there in
+    let inside = slice_get_within names i name there in
     omega (arith, front, inside)
 
 module _ (files : Option Files) (names : Texts) (i : ℕ) (name : List ℕ) (there : slice_get names i ≡ Some name) where
@@ -66,7 +61,7 @@ module _ (files : Option Files) (names : Texts) (i : ℕ) (name : List ℕ) (the
       let place : length read.texts ≡ i = as_many files (take i names) read.texts read.there ∙ before_place names i name there in
       record {
         few = few;
-        inside = inside_names names i name there;
+        inside = slice_get_within names i name there;
         texts = read.texts ++ stops.text ∷ [];
         there = subst (λ (ns : Texts). AreFiles files ns (read.texts ++ stops.text ∷ [])) (sym (one_name_more names i name there) ∙ ap (λ (n : ℕ). take n names) next)
             (files_more files (take i names) read.texts name stops.text read.there stops.there);

@@ -4,7 +4,7 @@ use Rattle.spec_text.specs.declared.decimals.Fault.{Fault}
 use Rattle.spec_ephemeris.specs.Ephemeris.{Ephemeris}
 use Rattle.spec_header.specs.HeaderLines.{header}
 use Rattle.spec_sections.specs.Sections.{FileLine, Stop, ended, breaks}
-use Rattle.spec_blocks.specs.Blocks.{ephemeris}
+use Rattle.spec_files.specs.Lines.{ephemeris}
 use Rattle.spec_files.specs.Files.{AreFiles, IsFile}
 use Rattle.spec_files.specs.Outcome.{fault_or_cut, first_fault, outcome, outcome_by}
 use Rattle.spec_files.specs.Reading.{StaysFirst}

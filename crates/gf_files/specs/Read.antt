@@ -2,7 +2,7 @@
 use Rattle.std.specs.Prelude.{◌≡◌, ℕ, List, ◌++◌, Option, None}
 use Rattle.spec_text.specs.declared.decimals.Fault.{Fault}
 use Rattle.spec_sections.specs.Sections.{FileLine}
-use Rattle.spec_blocks.specs.Blocks.{ephemeris}
+use Rattle.spec_files.specs.Lines.{ephemeris}
 use Rattle.spec_files.specs.Files.{AreFiles, IsFile}
 use Rattle.spec_files.specs.Outcome.{first_fault}
 use Rattle.spec_files.specs.Texts.{end_line, first_cut, joined}

@@ -4,7 +4,7 @@ use std::alloc::AllocError;
 use thiserror::Error;
 
 /// Why the reading of files ends without an ephemeris. Files are counted from 0.
-#[derive(Clone, Copy, Debug, Error)]
+#[derive(Clone, Copy, Debug, PartialEq, Eq, Error)]
 pub enum FilesError {
     /// This file has the first fault, or is the first of too many.
     #[error("a file has a fault")]

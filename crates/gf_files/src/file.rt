@@ -33,7 +33,8 @@ fn read_rest<S: Shelf>(alloc: Global, shelf: &mut S) -> Result<Vec<u8>, FileErro
     ensures large { (fault : Fault) → IsErrOf result (FileError.Fault fault)
         → (read : List ℕ) × Consumes (S.left shelf.old) (S.left shelf.new) read
         × (length read ≡ MOST_TEXT_BYTES + 1) }
-    ensures failed { IsErrOf result FileError.NotRead → Rose (S.faults shelf.old) (S.faults shelf.new) }
+    ensures failed { IsErrOf result FileError.NotRead
+        → Rose (S.faults shelf.old) (S.faults shelf.new) }
     ensures files { S.files shelf.new ≡ S.files shelf.old }
     ensures later { S.faults shelf.old ≤ S.faults shelf.new }
 {

@@ -11,8 +11,8 @@ use crate::file::read_file;
 use crate::reader::{Fed, Reader, end, feed, first_reader};
 use eph_model::Ephemeris;
 use gf_edges::Shelf;
-use spec_files::MOST_FILES;
 use spec_faults::TOO_MANY_FILES;
+use spec_files::MOST_FILES;
 use spec_text::Fault;
 use std::alloc::Global;
 
@@ -54,7 +54,8 @@ fn take_files<S: Shelf>(alloc: Global, shelf: &mut S, names: &[String]) -> Resul
     ensures fault { (file : ℕ) (fault : Fault) → IsErrOf result (FilesError.Fault file fault)
         → HasFirstFault (S.files shelf.old) (map string_bytes names.now) file fault }
     ensures not_read { (file : ℕ) → IsErrOf result (FilesError.NotRead file)
-        → IsNotRead (S.files shelf.old) (map string_bytes names.now) (S.faults shelf.old) (S.faults shelf.new) file }
+        → IsNotRead (S.files shelf.old) (map string_bytes names.now)
+        (S.faults shelf.old) (S.faults shelf.new) file }
     ensures files { S.files shelf.new ≡ S.files shelf.old }
     ensures later { S.faults shelf.old ≤ S.faults shelf.new }
 {
@@ -85,7 +86,8 @@ pub fn read_files<S: Shelf>(
     ensures fault { (file : ℕ) (fault : Fault) → IsErrOf result (FilesError.Fault file fault)
         → AreRefused (S.files shelf.old) (map string_bytes names.now) file fault }
     ensures not_read { (file : ℕ) → IsErrOf result (FilesError.NotRead file)
-        → IsNotRead (S.files shelf.old) (map string_bytes names.now) (S.faults shelf.old) (S.faults shelf.new) file }
+        → IsNotRead (S.files shelf.old) (map string_bytes names.now)
+        (S.faults shelf.old) (S.faults shelf.new) file }
     ensures names_are_counted_first { MOST_FILES < length names.now → shelf.new ≡ shelf.old }
     ensures files { S.files shelf.new ≡ S.files shelf.old }
     ensures later { S.faults shelf.old ≤ S.faults shelf.new }

@@ -10,3 +10,6 @@ mod reader;
 
 pub use errors::FilesError;
 pub use files::{Accepted, read_files};
+
+#[cfg(test)]
+mod tests;

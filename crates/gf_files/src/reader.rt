@@ -2,7 +2,7 @@
 ghost use Rattle.std.specs.Prelude.{◌≡◌, ◌≤◌, ◌∷◌, [], List, ℕ, length};
 ghost use Rattle.spec_text.specs.declared.limits.TheConstants.{MOST_TEXT_BYTES};
 ghost use Rattle.spec_sections.specs.Sections.{FileLine};
-ghost use Rattle.spec_blocks.specs.Blocks.{ephemeris};
+ghost use Rattle.spec_files.specs.Lines.{ephemeris};
 ghost use Rattle.de_header.specs.Reader as headers;
 ghost use Rattle.gf_files.specs.declared.reader.Reader.TheVariants as readers;
 ghost use Rattle.gf_files.specs.Reader.{Feeds, Finishes, IsOfHeader, IsReady, Moves, TookLine, WantsMore, ephemeris_after};
@@ -44,7 +44,8 @@ pub(crate) fn first_reader() -> Reader
 fn begin_blocks(alloc: Global, header: HeaderReader, line: &Line<'_>) -> Result<Reader, FileError>
     requires whole { headers.IsWhole header }
     requires of_header { IsOfHeader header }
-    ensures { (old : Reader) → TookLine old line.now (readers.Header header) → Moves old line.now result }
+    ensures { (old : Reader) → TookLine old line.now (readers.Header header)
+        → Moves old line.now result }
 {
     match header.end(alloc, line.number()) {
         Ok(header) => Ok(Reader::Blocks(BlockReader::new(alloc, header))),

@@ -1,6 +1,5 @@
 -- What a run answers to the words of its command line and to its files. Files are counted from 0.
-use Rattle.std.specs.Prelude.{◌≡◌, ◌⊎◌, ◌+◌, ℕ, List, length, map, slice_get, Option, Some, String, string_bytes, false, true}
-use Rattle.std.specs.declared.alloc.Global.{Global}
+use Rattle.std.specs.Prelude.{◌≡◌, ◌⊎◌, ◌+◌, ℕ, List, length, slice_get, Option, Some, false, true}
 use Rattle.spec_faults.specs.declared.numbers.TheConstants.{NOT_BUILT}
 use Rattle.spec_text.specs.declared.decimals.Fault.{Fault}
 use Rattle.spec_ephemeris.specs.Ephemeris.{Ephemeris}
@@ -9,13 +8,7 @@ use Rattle.spec_files.specs.Texts.{fault_at}
 use Rattle.spec_requests.specs.Words.{AreAskedFor}
 use Rattle.gf_edges.specs.Edges.{Files}
 use Rattle.line_search.specs.MercuryX.{is_line}
-
--- words as code keeps them, and their bytes
-abbrev pub Words : Type 0
-Words = List (String Global)
-
-abbrev pub texts_of : Words → List (List ℕ)
-texts_of words = map string_bytes words
+use Rattle.gf_find.specs.Words.{Words, texts_of}
 
 -- the files of these names are accepted with this ephemeris, and Mercury's x is a line in it
 pub record AreSearched (files : Option Files) (names : List (List ℕ)) (e : Ephemeris) : Type 0 where

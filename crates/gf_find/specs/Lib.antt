@@ -1,4 +1,5 @@
 pub mod Statuses
+pub mod Words
 pub mod Answers
 pub mod Reported
 pub mod Errors

@@ -8,7 +8,8 @@ use Rattle.spec_reports.specs.Writing.{AppendsPart}
 use Rattle.gf_edges.specs.Edges.{Files}
 use Rattle.line_search.specs.MercuryX.{mercury_x}
 use Rattle.line_search.specs.Search.{AreMercuryWindows, IsLeftOpen, IsUp, found_windows}
-use Rattle.gf_find.specs.Answers.{AreSearched, Asks, Words}
+use Rattle.gf_find.specs.Answers.{AreSearched, Asks}
+use Rattle.gf_find.specs.Words.{Words}
 
 -- the report of windows over the whole span of an ephemeris
 abbrev pub report_of : Ephemeris → List Window → List ℕ

@@ -5,8 +5,9 @@ ghost use Rattle.spec_files.specs.declared.limits.TheConstants.{MOST_FILES};
 ghost use Rattle.spec_files.specs.Reading.{IsNotRead};
 ghost use Rattle.line_search.specs.MercuryX.{is_line};
 ghost use Rattle.line_search.specs.Search.{AreMercuryWindows};
-ghost use Rattle.gf_find.specs.Answers.{IsRefused, texts_of};
+ghost use Rattle.gf_find.specs.Answers.{IsRefused};
 ghost use Rattle.gf_find.specs.Reported.{IsReportOf, report_of, windows_of};
+ghost use Rattle.gf_find.specs.Words.{texts_of};
 
 use crate::printing::report;
 use eph_model::Ephemeris;
@@ -20,7 +21,8 @@ use std::alloc::{AllocError, Global};
 // The report of an ephemeris in which Mercury's x is a line.
 fn line_report(alloc: Global, ephemeris: &Ephemeris) -> Result<Vec<u8>, AllocError>
     requires { is_line ephemeris.now ≡ true }
-    ensures windows { IfOk result (λ text. AreMercuryWindows ephemeris.now (windows_of ephemeris.now)) }
+    ensures windows { IfOk result (λ text.
+        AreMercuryWindows ephemeris.now (windows_of ephemeris.now)) }
     ensures report { IfOk result (λ text.
         text.items ≡ report_of ephemeris.now (windows_of ephemeris.now)) }
 {

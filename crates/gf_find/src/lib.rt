@@ -10,7 +10,8 @@ mod top;
 mod words;
 mod writing;
 
-pub use statuses::{
-    FILES_REFUSED, NOT_READ, NOT_WRITTEN, OUT_OF_MEMORY, REPORTED, WORDS_REFUSED,
-};
+pub use statuses::{FILES_REFUSED, NOT_READ, NOT_WRITTEN, OUT_OF_MEMORY, REPORTED, WORDS_REFUSED};
 pub use top::finder;
+
+#[cfg(test)]
+mod tests;

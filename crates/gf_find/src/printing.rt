@@ -99,7 +99,8 @@ fn add_counts(
     m: usize,
     stop: &[u8],
 ) -> Result<(), AllocError>
-    ensures { OnOk result (text.new.items ≡ text.old.items ++ (one.now ++ decimal n ++ two.now ++ decimal m ++ stop.now)) }
+    ensures { OnOk result (text.new.items ≡ text.old.items
+        ++ (one.now ++ decimal n ++ two.now ++ decimal m ++ stop.now)) }
 {
     add_named(text, one, n)?;
     add_named(text, two, m)?;
@@ -117,7 +118,8 @@ fn add_rest(
     m: usize,
     stop: &[u8],
 ) -> Result<(), AllocError>
-    ensures { OnOk result (text.new.items ≡ text.old.items ++ (window_lines windows.now ++ one.now ++ decimal n ++ two.now ++ decimal m ++ stop.now)) }
+    ensures { OnOk result (text.new.items ≡ text.old.items
+        ++ (window_lines windows.now ++ one.now ++ decimal n ++ two.now ++ decimal m ++ stop.now)) }
 {
     add_windows(text, windows)?;
     add_counts(text, one, n, two, m, stop)
@@ -138,7 +140,8 @@ fn add_request(
     to: i64,
     stop: &[u8],
 ) -> Result<(), AllocError>
-    ensures { OnOk result (text.new.items ≡ text.old.items ++ (request.now ++ times from to ++ stop.now)) }
+    ensures { OnOk result (text.new.items ≡ text.old.items
+        ++ (request.now ++ times from to ++ stop.now)) }
 {
     add_times(text, request, from, to)?;
     text.extend_from_slice(stop)
@@ -173,4 +176,30 @@ pub(crate) fn report(
         b"\n",
     )?;
     Ok(text)
+}
+
+#[cfg(test)]
+mod tests {
+    use super::*;
+    use std::test::Fail;
+
+    #[test]
+    fn a_report_of_many_windows_is_whole(rt: HostRuntime) -> Result<(), Fail> {
+        let alloc = rt.alloc();
+        let mut windows = Vec::new(alloc);
+        let mut rest = Vec::new(alloc);
+        for time in 0i64..1_000 {
+            windows.push(Window {
+                first: time,
+                last: time,
+                holds: Holds::Undecided,
+            })?;
+            let line = format!(in alloc; "U {time} {time}\n")?;
+            rest.extend_from_slice(line.as_bytes())?;
+        }
+        rest.extend_from_slice(b"END certain 0 undecided 1000\n")?;
+        let text = report(alloc, 0, 1_000, &windows)?;
+        assert!(rt; text.as_slice().ends_with(rest.as_slice()));
+        Ok(())
+    }
 }

@@ -4,13 +4,14 @@ ghost use Rattle.std.specs.Io.KnownBytes.{Appends, Keeps};
 ghost use Rattle.spec_text.specs.declared.decimals.Fault.{Fault};
 ghost use Rattle.spec_ephemeris.specs.Ephemeris.{Ephemeris};
 ghost use Rattle.spec_files.specs.declared.limits.TheConstants.{MOST_FILES};
-ghost use Rattle.spec_requests.specs.Words.{AreAskedFor};
+ghost use Rattle.spec_requests.specs.Words.{AreAskedFor, AskForNothing};
 ghost use Rattle.spec_reports.specs.Messages.{file_text, memory_text, read_text, words_text, write_text};
 ghost use Rattle.spec_reports.specs.Writing.{AppendsPart, Receives};
 ghost use Rattle.gf_edges.specs.Edges.{Rose};
 ghost use Rattle.gf_find.specs.Statuses.{IsAnswered, IsStatus, IsUnanswered};
-ghost use Rattle.gf_find.specs.Answers.{Asks, FailsToRead, RefusesFile, texts_of};
+ghost use Rattle.gf_find.specs.Answers.{Asks, FailsToRead, RefusesFile};
 ghost use Rattle.gf_find.specs.Reported.{IsCutShort, IsReported};
+ghost use Rattle.gf_find.specs.Words.{texts_of};
 ghost use Rattle.gf_find.specs.Errors.{HasName};
 
 use crate::answer::answer;
@@ -52,8 +53,7 @@ pub fn finder<S: Shelf, O: Sink, E: Sink, G: Gate>(
 
     // Each other status has its cause.
     ensures known { IsStatus result }
-    ensures words { (result ≡ WORDS_REFUSED)
-        ↔ ((names : List (List ℕ)) → AreAskedFor (texts_of words.now) names → ⊥) }
+    ensures words { (result ≡ WORDS_REFUSED) ↔ AskForNothing (texts_of words.now) }
     ensures file { result ≡ FILES_REFUSED → (name : List ℕ) × (fault : Fault)
         × RefusesFile words.now (S.files shelf.old) name fault
         × Receives E.bytes E.faults err.old err.new (file_text name fault) }
@@ -65,9 +65,11 @@ pub fn finder<S: Shelf, O: Sink, E: Sink, G: Gate>(
     ensures write_fault { result ≡ NOT_WRITTEN → Rose (O.faults out.old) (O.faults out.new) }
 
     // What is asked is answered, and what is to be refused is refused, unless something failed or memory is out.
-    ensures complete { (e : Ephemeris) → IsSome (S.files shelf.old) → Asks words.now (S.files shelf.old) e
+    ensures complete { (e : Ephemeris) → IsSome (S.files shelf.old)
+        → Asks words.now (S.files shelf.old) e
         → (result ≡ REPORTED) ⊎ ((result ≡ OUT_OF_MEMORY)
-        ⊎ (Rose (S.faults shelf.old) (S.faults shelf.new) ⊎ Rose (O.faults out.old) (O.faults out.new))) }
+        ⊎ (Rose (S.faults shelf.old) (S.faults shelf.new)
+        ⊎ Rose (O.faults out.old) (O.faults out.new))) }
     ensures refused { (name : List ℕ) (fault : Fault) → IsSome (S.files shelf.old)
         → RefusesFile words.now (S.files shelf.old) name fault
         → (result ≡ FILES_REFUSED) ⊎ ((result ≡ OUT_OF_MEMORY)
@@ -75,8 +77,9 @@ pub fn finder<S: Shelf, O: Sink, E: Sink, G: Gate>(
 
     // No file is opened where the words are refused, or name too many.
     ensures words_come_first { result ≡ WORDS_REFUSED → shelf.new ≡ shelf.old }
-    ensures names_are_counted_first { (names : List (List ℕ)) → AreAskedFor (texts_of words.now) names
-        → MOST_FILES < length names → shelf.new ≡ shelf.old }
+    ensures names_are_counted_first { (names : List (List ℕ))
+        → AreAskedFor (texts_of words.now) names → MOST_FILES < length names
+        → shelf.new ≡ shelf.old }
 
     // Nothing else is written.
     ensures out_unchanged { result ≢ REPORTED → result ≢ NOT_WRITTEN

@@ -21,9 +21,6 @@ module _ (x y : Interval) (lo hi s : ℤ) (e : s ≡ (aligned_lower x y).s) wher
 pub sums_ordered : (a b c d : ℤ) → a ≤ℤ b → c ≤ℤ d → (a +ℤ c) ≤ℤ (b +ℤ d)
 sums_ordered a b c d p q = omega (arith, ints)
 
-pub doubles_ordered : (a b : ℤ) → a ≤ℤ b → (pos 2 *ℤ a) ≤ℤ (pos 2 *ℤ b)
-doubles_ordered a b p = omega (arith, ints)
-
 pub scale-is : (lo hi s : ℤ) (n : ℕ) (a b : ℤ) → a ≡ floor_div (pos 2 *ℤ lo) n → b ≡ ceil_div (pos 2 *ℤ hi) n → narrow a b s ≡ scale lo hi s n
 unfolding scale
 scale-is lo hi s n a b p q = rw (p, q) refl

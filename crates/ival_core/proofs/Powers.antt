@@ -52,9 +52,6 @@ tenths_capped z n m h e = by (cases_lt n 38)
     by (inl r) = let f : m ≡ n = omega arith in ap (λ k. floor_div z (10 ^ k)) f
     by (inr r) = let f : m ≡ 38 = omega arith in ap (λ k. floor_div z (10 ^ k)) f ∙ tenths_past z (10 ^ 38) (10 ^ n) h (omega arith) (ten_above n r)
 
-pub ten_fits : (n : ℕ) → n ≤ 38 → 10 ^ n < 2 ^ 128
-ten_fits n h = let p : 10 ^ n ≤ 10 ^ 38 = ten_bound n h in omega arith
-
 -- a whole number that is at most 2^60 times 10^n is 0, or n is at most 18
 ten_large : (n : ℕ) → 18 < n → 10 ^ 19 ≤ 10 ^ n
 ten_large n h = let g : 19 ≤ n = omega arith in pow-le-pow_right (omega arith) g

@@ -1,12 +1,12 @@
 -- Shifts of small ends.
 use Rattle.std.proofs.Common.{◌≡◌, ℕ, ◌*◌, ◌/◌, ◌%◌, ◌^◌, ◌≤◌, arith, sym, ap, ◌∙◌, ℤ, pos, negsuc, ◌+ℤ◌, ◌*ℤ◌, unsigned_abs, to_z, of_z, w32, w64, FitsSigned}
-use Rattle.std.proofs.lemmas.Int.{ints, clamps, to_z_pos, unsigned_abs-mul, fits_signed_from_abs}
+use Rattle.std.proofs.lemmas.Int.{ints, to_z_pos, unsigned_abs-mul, fits_signed_from_abs}
 use Rattle.std.proofs.lemmas.Nat.{one_shl, mul-le}
 use Rattle.std.proofs.Math.Nat.{div-eq_of_lt, pow-le-pow_right}
 use mir.Syntax.{w128}
 use Rattle.spec_numbers.specs.Numbers.{floor_div}
+use Rattle.spec_numbers.proofs.Sizes.{product_size, least_size, greatest_size}
 use Rattle.spec_intervals.specs.Interval.{greatest4, least4}
-use Rattle.std.specs.Int.{int_max, int_min}
 
 -- past 2^64 a small end is divided to 0 or -1
 pub floor_div-past : (z : ℤ) (d e : ℕ) → unsigned_abs z ≤ 2 ^ 62 → 2 ^ 63 ≤ d → 2 ^ 63 ≤ e → floor_div z d ≡ floor_div z e
@@ -46,21 +46,14 @@ product_fits a b p q =
     fits_signed_from_abs w128 (a *ℤ b) (omega arith)
 
 pub product_bound : (a b : ℤ) → unsigned_abs a ≤ 2 ^ 62 → unsigned_abs b ≤ 2 ^ 62 → unsigned_abs (a *ℤ b) ≤ 2 ^ 124
-product_bound a b p q = rw (unsigned_abs-mul a b) (mul-le (unsigned_abs a) (unsigned_abs b) (2 ^ 62) (2 ^ 62) p q)
+product_bound a b p q = product_size a b (2 ^ 62) (2 ^ 62) p q
 
-pub greatest_bound : (a b c d : ℤ) → unsigned_abs a ≤ 2 ^ 62 → unsigned_abs b ≤ 2 ^ 62 → unsigned_abs c ≤ 2 ^ 62 → unsigned_abs d ≤ 2 ^ 62 → unsigned_abs (greatest4 a b c d) ≤ 2 ^ 124
-greatest_bound a b c d p q r s =
-    largest (a *ℤ c) (a *ℤ d) (b *ℤ c) (b *ℤ d) (product_bound a c p r) (product_bound a d p s) (product_bound b c q r) (product_bound b d q s)
-  where
-    largest : (w x y z : ℤ) → unsigned_abs w ≤ 2 ^ 124 → unsigned_abs x ≤ 2 ^ 124 → unsigned_abs y ≤ 2 ^ 124 → unsigned_abs z ≤ 2 ^ 124 → unsigned_abs (int_max (int_max w x) (int_max y z)) ≤ 2 ^ 124
-    largest w x y z h i j k = omega (arith, ints, clamps)
+module _ (a b c d : ℤ) (p : unsigned_abs a ≤ 2 ^ 62) (q : unsigned_abs b ≤ 2 ^ 62) (r : unsigned_abs c ≤ 2 ^ 62) (s : unsigned_abs d ≤ 2 ^ 62) where
+  pub greatest_bound : unsigned_abs (greatest4 a b c d) ≤ 2 ^ 124
+  greatest_bound = greatest_size (a *ℤ c) (a *ℤ d) (b *ℤ c) (b *ℤ d) (2 ^ 124) (product_bound a c p r) (product_bound a d p s) (product_bound b c q r) (product_bound b d q s)
 
-pub least_bound : (a b c d : ℤ) → unsigned_abs a ≤ 2 ^ 62 → unsigned_abs b ≤ 2 ^ 62 → unsigned_abs c ≤ 2 ^ 62 → unsigned_abs d ≤ 2 ^ 62 → unsigned_abs (least4 a b c d) ≤ 2 ^ 124
-least_bound a b c d p q r s =
-    smallest (a *ℤ c) (a *ℤ d) (b *ℤ c) (b *ℤ d) (product_bound a c p r) (product_bound a d p s) (product_bound b c q r) (product_bound b d q s)
-  where
-    smallest : (w x y z : ℤ) → unsigned_abs w ≤ 2 ^ 124 → unsigned_abs x ≤ 2 ^ 124 → unsigned_abs y ≤ 2 ^ 124 → unsigned_abs z ≤ 2 ^ 124 → unsigned_abs (int_min (int_min w x) (int_min y z)) ≤ 2 ^ 124
-    smallest w x y z h i j k = omega (arith, ints, clamps)
+  pub least_bound : unsigned_abs (least4 a b c d) ≤ 2 ^ 124
+  least_bound = least_size (a *ℤ c) (a *ℤ d) (b *ℤ c) (b *ℤ d) (2 ^ 124) (product_bound a c p r) (product_bound a d p s) (product_bound b c q r) (product_bound b d q s)
 
 -- a small end is within 64 bits
 pub small_narrow : (z : ℤ) → unsigned_abs z ≤ 2 ^ 62 → FitsSigned w64 z

@@ -108,7 +108,8 @@ impl Ival {
         requires exponent { IsExponent self.s }
         requires other_exponent { IsExponent other.s }
         ensures equals { result ≡ sum self other }
-        ensures holds { (r t : Fraction) → Holds self r → Holds other t → Holds result (fraction_add r t) }
+        ensures holds { (r t : Fraction) → Holds self r → Holds other t
+            → Holds result (fraction_add r t) }
     {
         sum_of(self, other)
     }
@@ -118,7 +119,8 @@ impl Ival {
         requires exponent { IsExponent self.s }
         requires other_exponent { IsExponent other.s }
         ensures equals { result ≡ difference self other }
-        ensures holds { (r t : Fraction) → Holds self r → Holds other t → Holds result (fraction_sub r t) }
+        ensures holds { (r t : Fraction) → Holds self r → Holds other t
+            → Holds result (fraction_sub r t) }
     {
         difference_of(self, other)
     }
@@ -128,7 +130,8 @@ impl Ival {
         requires exponent { IsExponent self.s }
         requires other_exponent { IsExponent other.s }
         ensures equals { result ≡ product self other }
-        ensures holds { (r t : Fraction) → Holds self r → Holds other t → Holds result (fraction_mul r t) }
+        ensures holds { (r t : Fraction) → Holds self r → Holds other t
+            → Holds result (fraction_mul r t) }
     {
         product_of(self, other)
     }
@@ -172,7 +175,8 @@ impl Ival {
         requires exponent { IsExponent s }
         requires length { pos 1 ≤ℤ seconds }
         ensures equals { result ≡ scale lo hi s (unsigned_abs seconds) }
-        ensures holds { (r : Fraction) → Holds (interval lo hi s) r → Holds result (fraction_scale r (unsigned_abs seconds)) }
+        ensures holds { (r : Fraction) → Holds (interval lo hi s) r
+            → Holds result (fraction_scale r (unsigned_abs seconds)) }
     {
         scaled(lo, hi, s, seconds)
     }

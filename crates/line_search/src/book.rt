@@ -3,7 +3,7 @@ ghost use Rattle.std.specs.Prelude.{◌≡◌, IfOk};
 ghost use Rattle.line_search.specs.Entries.{entered};
 
 use halving::{Leaf, Node};
-use span_ledger::{Book, Booked};
+use spec_trees::{Book, Booked};
 use std::alloc::{AllocError, Global};
 
 /// The book of a root, in which seat 0 entered the leaves from left to right.

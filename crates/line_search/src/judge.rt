@@ -8,7 +8,7 @@ use crate::line::{Line, line_range, span_argument};
 use crate::signs::verdict_of;
 use gf_hooks::Cutter;
 use halving::{Judge, Node, Verdict};
-use ival_core::{Ival, Sign};
+use ival_core::{DISTANCE_EXPONENT, Ival, Sign};
 
 /// Judges the nodes of a line's granule, and cuts them in their middle.
 #[derive(Drop)]
@@ -32,8 +32,8 @@ impl LineJudge {
     {
         LineJudge {
             line,
-            constant: Ival::from_decimal(line.c0.mant, line.c0.exp, -24),
-            slope: Ival::from_decimal(line.c1.mant, line.c1.exp, -24),
+            constant: Ival::from_decimal(line.c0.mant, line.c0.exp, DISTANCE_EXPONENT),
+            slope: Ival::from_decimal(line.c1.mant, line.c1.exp, DISTANCE_EXPONENT),
             cutter,
         }
     }
@@ -73,7 +73,7 @@ impl Judge for LineJudge {
     ghost sound = { λ judge. line_is_sound judge.line judge.in_limits };
 }
 
-// Wider than one second.
+// Wider than one unit of time.
 fn is_wide(a: i64, b: i64) -> bool
     requires low { neg_ℤ (pos (2 ^ 50)) ≤ℤ a }
     requires order { a ≤ℤ b }

@@ -12,6 +12,9 @@ use ival_core::{Ival, product_ends};
 use spec_chebyshev::Ival62;
 use spec_text::Decimal;
 
+/// The unit of the line's values: 2^-24 km times the 2^-60 of the argument.
+const LINE_EXPONENT: i32 = -84;
+
 /// A coordinate that is `c0` + `c1` T_1 over a granule, in km. The granule begins at `start`, in seconds of TDB since
 /// J2000, and takes `seconds`.
 #[derive(Clone, Copy)]
@@ -70,7 +73,7 @@ fn line_between(constant: Ival, slope: Ival, low: i128, high: i128) -> Ival
     Ival::of(
         added(constant_low, least),
         added(constant_high, greatest),
-        -84,
+        LINE_EXPONENT,
     )
 }
 

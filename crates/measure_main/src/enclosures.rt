@@ -24,7 +24,8 @@ pub(crate) struct Span {
 
 /// Mercury and Venus seen from the Earth, where the ephemeris has a block and their columns.
 pub(crate) fn planets(ephemeris: &Ephemeris) -> Option<BodyStates<'_>>
-    ensures seen { IfSome result (λ states. states ≡ view_of ephemeris.now (Mercury ∷ Venus ∷ []) Earth Eq) }
+    ensures seen { IfSome result
+        (λ states. states ≡ view_of ephemeris.now (Mercury ∷ Venus ∷ []) Earth Eq) }
     ensures view { IfSome result IsView }
 {
     if ephemeris.blocks() == 0 {

@@ -2,6 +2,7 @@
 ghost use Rattle.std.specs.Prelude.{◌<◌, IfOk};
 ghost use Rattle.spec_expressions.specs.Expression.{HasLeaves};
 
+use event_expr::builders::{cosine, difference, dot, position, product, signed_square};
 use event_expr::{Expr, ExprFault, Formula};
 use spec_text::Decimal;
 use std::alloc::{AllocError, Global};
@@ -19,51 +20,6 @@ pub(crate) enum Function {
 // The cosine of separations.
 const COSINE: Decimal = Decimal { mant: 8, exp: -1 };
 
-fn position(target: u8, axis: u8) -> Expr
-    requires target { target < 2 }
-    requires axis { axis < 3 }
-    ensures { HasLeaves result }
-{
-    Expr::Pos { target, axis }
-}
-
-fn cosine(value: Decimal) -> Expr
-    ensures { HasLeaves result }
-{
-    Expr::Cosine(value)
-}
-
-fn sum(alloc: Global, x: Expr, y: Expr) -> Result<Expr, AllocError>
-    requires x { HasLeaves x }
-    requires y { HasLeaves y }
-    ensures { IfOk result HasLeaves }
-{
-    Ok(Expr::Add(Box::new(alloc, x)?, Box::new(alloc, y)?))
-}
-
-fn difference(alloc: Global, x: Expr, y: Expr) -> Result<Expr, AllocError>
-    requires x { HasLeaves x }
-    requires y { HasLeaves y }
-    ensures { IfOk result HasLeaves }
-{
-    Ok(Expr::Sub(Box::new(alloc, x)?, Box::new(alloc, y)?))
-}
-
-fn product(alloc: Global, x: Expr, y: Expr) -> Result<Expr, AllocError>
-    requires x { HasLeaves x }
-    requires y { HasLeaves y }
-    ensures { IfOk result HasLeaves }
-{
-    Ok(Expr::Mul(Box::new(alloc, x)?, Box::new(alloc, y)?))
-}
-
-fn signed_square(alloc: Global, x: Expr) -> Result<Expr, AllocError>
-    requires { HasLeaves x }
-    ensures { IfOk result HasLeaves }
-{
-    Ok(Expr::SignedSquare(Box::new(alloc, x)?))
-}
-
 // The product of an axis of one target with an axis of another.
 fn product_of_axes(alloc: Global, x: (u8, u8), y: (u8, u8)) -> Result<Expr, AllocError>
     requires x_target { x.0 < 2 }
@@ -73,18 +29,6 @@ fn product_of_axes(alloc: Global, x: (u8, u8), y: (u8, u8)) -> Result<Expr, Allo
     ensures { IfOk result HasLeaves }
 {
     product(alloc, position(x.0, x.1), position(y.0, y.1))
-}
-
-// The dot product of two targets.
-fn dot(alloc: Global, a: u8, b: u8) -> Result<Expr, AllocError>
-    requires a { a < 2 }
-    requires b { b < 2 }
-    ensures { IfOk result HasLeaves }
-{
-    let x = product_of_axes(alloc, (a, 0), (b, 0))?;
-    let y = product_of_axes(alloc, (a, 1), (b, 1))?;
-    let z = product_of_axes(alloc, (a, 2), (b, 2))?;
-    sum(alloc, sum(alloc, x, y)?, z)
 }
 
 fn conjunction(alloc: Global) -> Result<Expr, AllocError>

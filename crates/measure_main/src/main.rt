@@ -25,10 +25,10 @@ use words::words;
 #[derive(Drop)]
 enum Work {
     Bases(u32),
-    Enclosures(Function, u32, Vec<u8>),
+    Enclosures(Function, u32, String),
     Positions(u32),
     Products(u32),
-    Words(u32, Vec<u8>),
+    Words(u32, String),
 }
 
 fn work_of(name: &str, rounds: &str) -> Option<Work> {
@@ -41,35 +41,33 @@ fn work_of(name: &str, rounds: &str) -> Option<Work> {
     }
 }
 
-// The work on the text of a file.
-fn work_on(name: &str, rounds: &str, text: Vec<u8>) -> Option<Work> {
+// The work on a file.
+fn work_on(name: &str, rounds: &str, file: String) -> Option<Work> {
     let rounds = rounds.parse::<u32>().ok()?;
     match name {
-        "conj" => Some(Work::Enclosures(Function::Conjunction, rounds, text)),
-        "sep" => Some(Work::Enclosures(Function::Separation, rounds, text)),
-        "words" => Some(Work::Words(rounds, text)),
+        "conj" => Some(Work::Enclosures(Function::Conjunction, rounds, file)),
+        "sep" => Some(Work::Enclosures(Function::Separation, rounds, file)),
+        "words" => Some(Work::Words(rounds, file)),
         _ => None,
     }
 }
 
 // What the words of the command line ask for.
-fn asked(rt: &HostRuntime) -> Result<Option<Work>, io::Error> {
+fn work_of_words(rt: &HostRuntime) -> Result<Option<Work>, io::Error> {
     let mut words = Vec::new(rt.alloc());
     for word in env::args(rt)?.skip(1) {
         words.push(word)?;
     }
     match words.as_slice() {
         [name, rounds] => Ok(work_of(name.as_str(), rounds.as_str())),
-        [name, rounds, file] => {
-            let text = fs::read(rt, file.as_str())?;
-            Ok(work_on(name.as_str(), rounds.as_str(), text))
-        }
+        [name, rounds, file] => Ok(work_on(name.as_str(), rounds.as_str(), file.clone()?)),
         _ => Ok(None),
     }
 }
 
-fn tell_words(rt: &HostRuntime, rounds: u32, text: &[u8]) -> Result<ExitCode, io::Error> {
-    let Some(tally) = words(text, rounds) else {
+fn tell_words(rt: &HostRuntime, rounds: u32, file: &str) -> Result<ExitCode, io::Error> {
+    let text = fs::read(rt, file)?;
+    let Some(tally) = words(&text, rounds) else {
         eprintln!(rt; "measure_main: the text is too long")?;
         return Ok(ExitCode::from(2));
     };
@@ -84,19 +82,19 @@ fn measure_enclosures(
     rt: &HostRuntime,
     function: Function,
     rounds: u32,
-    text: &[u8],
+    file: String,
 ) -> Result<ExitCode, io::Error> {
-    if tell_enclosures(rt, function, rounds, text)? {
+    if tell_enclosures(rt, function, rounds, file)? {
         return Ok(ExitCode::from(0));
     }
     eprintln!(rt;
-        "measure_main: the text is no ephemeris of Mercury, Venus, the Earth and the Moon"
+        "measure_main: the file is no ephemeris of Mercury, Venus, the Earth and the Moon"
     )?;
     Ok(ExitCode::from(2))
 }
 
 fn main(rt: HostRuntime) -> Result<ExitCode, io::Error> {
-    match asked(&rt)? {
+    match work_of_words(&rt)? {
         Some(Work::Bases(rounds)) => {
             let sum = bases(rounds);
             println!(&rt; "bases {rounds} checksum {sum}")?;
@@ -105,14 +103,14 @@ fn main(rt: HostRuntime) -> Result<ExitCode, io::Error> {
             let sum = positions(rt.alloc(), rounds)?;
             println!(&rt; "positions {rounds} checksum {sum}")?;
         }
-        Some(Work::Enclosures(function, rounds, text)) => {
-            return measure_enclosures(&rt, function, rounds, text.as_slice());
+        Some(Work::Enclosures(function, rounds, file)) => {
+            return measure_enclosures(&rt, function, rounds, file);
         }
         Some(Work::Products(rounds)) => {
             let sum = products(rt.alloc(), rounds)?;
             println!(&rt; "products {rounds} checksum {sum}")?;
         }
-        Some(Work::Words(rounds, text)) => return tell_words(&rt, rounds, text.as_slice()),
+        Some(Work::Words(rounds, file)) => return tell_words(&rt, rounds, file.as_str()),
         None => {
             eprintln!(&rt;
                 "measure_main: bases, positions or products ROUNDS, or one of conj, sep and words ROUNDS FILE"

@@ -40,15 +40,15 @@ fn tell_spans(
     Ok(())
 }
 
-/// Prints the mid and the range over each hour of the first block of a text, and the checksum of so many rounds of
-/// enclosures over these hours. It is `false` where the text is no ephemeris of the planets.
+/// Prints the mid and the range over each hour of the first block of a file, and the checksum of so many rounds of
+/// enclosures over these hours. It is `false` where the file is no ephemeris of the planets.
 pub(crate) fn tell_enclosures(
     rt: &HostRuntime,
     function: Function,
     rounds: u32,
-    text: &[u8],
+    file: String,
 ) -> Result<bool, io::Error> {
-    let Some(ephemeris) = ephemeris_of(rt.alloc(), text) else {
+    let Some(ephemeris) = ephemeris_of(rt, file)? else {
         return Ok(false);
     };
     let Some(states) = planets(&ephemeris) else {

@@ -4,8 +4,7 @@ ghost use Rattle.spec_trees.specs.Placement.{AreInOrder, AreWithin};
 ghost use Rattle.spec_trees.specs.Order.{CoverRoot, book_windows, booked_leaves, ordered_leaves};
 
 use crate::joining::joined;
-use span_ledger::{Book, Booked};
-use spec_trees::{Leaf, Window};
+use spec_trees::{Book, Booked, Leaf, Window};
 use std::alloc::{AllocError, Global};
 use thiserror::Error;
 

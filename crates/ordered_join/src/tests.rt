@@ -6,8 +6,7 @@ ghost use Rattle.spec_trees.specs.Examples.{booked, leaf, node, window};
 ghost use Rattle.spec_trees.specs.Order.{CoverRoot};
 
 use crate::*;
-use span_ledger::{Book, Booked};
-use spec_trees::{Leaf, Mark, Node, Turn};
+use spec_trees::{Book, Booked, Leaf, Mark, Node, Turn};
 use std::alloc::{AllocError, Global};
 use std::test::Fail;
 

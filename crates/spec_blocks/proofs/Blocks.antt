@@ -8,7 +8,7 @@ use Rattle.std.proofs.lemmas.Int.{ints}
 use Rattle.spec_text.specs.declared.decimals.Decimal.{Decimal}
 use Rattle.spec_ephemeris.specs.declared.header.Column.{Column}
 use Rattle.spec_ephemeris.specs.declared.header.Header.{Header}
-use Rattle.spec_ephemeris.specs.declared.limits.TheConstants.{MOST_BLOCKS}
+use Rattle.spec_ephemeris.specs.declared.limits.TheConstants.{BODY_COLUMNS, MOST_BLOCKS}
 use Rattle.spec_ephemeris.specs.Header.{IsHeader, IsColumn, Takes, is_present, column_size}
 use Rattle.spec_ephemeris.specs.Ephemeris.{Ephemeris, IsEphemeris, IsStart, IsBlock, IsBodyNumber, AreBodiesBounded, empty_ephemeris}
 use Rattle.spec_ephemeris.specs.Series.{IsInUnits}
@@ -16,17 +16,17 @@ use Rattle.spec_ephemeris.proofs.Pushing.{pushed}
 use Rattle.spec_sections.specs.declared.rules.BrokenRule.{BrokenRule}
 use Rattle.spec_text.specs.Days.{seconds_of_julian_date}
 use Rattle.spec_text.specs.declared.days.DaysFault.{DaysFault}
-use Rattle.spec_text.specs.declared.limits.TheConstants.{LAST_JULIAN_DAY}
+use Rattle.spec_text.specs.declared.limits.TheConstants.{DAY_SECONDS, LAST_JULIAN_DAY}
 use Rattle.spec_text.proofs.Spans.{seconds_few}
 use Rattle.spec_sections.specs.Sections.{◌>>=◌}
 use Rattle.spec_sections.proofs.Holding.{Holds, holds_ok}
 use Rattle.spec_numbers.proofs.Lists.{get_take}
-use Rattle.spec_blocks.specs.BlockRules.{coefficient_rule, follows, has_length, is_passed_over, is_place_of, is_place_of_body, is_too_large, time_by, time_of}
+use Rattle.spec_blocks.specs.BlockRules.{coefficient_rule, follows, has_length, is_skipped, is_place_of, is_place_of_body, is_too_large, time_by, time_of}
 use Rattle.spec_blocks.specs.Blocks.{accept, begun, no_blocks, with_numbers}
 use Rattle.spec_blocks.specs.Read.{AreRead}
 
 -- ---- times
-time_by_holds : (r : Result ℕ DaysFault) → Holds (λ s. s ≤ 86400 * 5000000) r → Holds IsStart (time_by r)
+time_by_holds : (r : Result ℕ DaysFault) → Holds (λ s. s ≤ DAY_SECONDS * LAST_JULIAN_DAY) r → Holds IsStart (time_by r)
 time_by_holds (Ok s) few = (omega (arith, ints), omega (arith, ints, few))
 time_by_holds (Err b) few = tt
 
@@ -49,11 +49,11 @@ found_place number (d ∷ cs) (suc i) place c at present takes =
     or_right (is_present d && (nat_le d.start place && nat_lt place (d.start + column_size number d))) _
     (found_place (suc number) cs i place c at present (subst (λ (m : ℕ). Takes m c place) k takes))
 
-body_place : (h : Header) (number place : ℕ) (c : Column) → IsColumn h number c → number ≤ 11 → Takes number c place → is_place_of_body h.columns place ≡ true
+body_place : (h : Header) (number place : ℕ) (c : Column) → IsColumn h number c → number ≤ BODY_COLUMNS → Takes number c place → is_place_of_body h.columns place ≡ true
 body_place h zero place c is few takes = absurd (none-some c is.listed)
 body_place h (suc i) place c is few takes =
     let number : suc i ≡ 1 + i = omega arith in
-    found_place 1 (take 11 h.columns) i place c (get_take h.columns 11 i (omega (arith, few)) ∙ is.listed) is.present
+    found_place 1 (take BODY_COLUMNS h.columns) i place c (get_take h.columns BODY_COLUMNS i (omega (arith, few)) ∙ is.listed) is.present
     (subst (λ (k : ℕ). Takes k c place) number takes)
 
 not_large : (a b : Bool) (x : BrokenRule) → b ≡ true → Holds (λ (u : Unit {0}). a ≡ false) (if a && b then Err x else Ok tt)
@@ -121,7 +121,7 @@ room false false x y = tt
 
 accepted_with : (before : Ephemeris) (numbers : List Decimal) (start end : ℤ) → IsEphemeris before → IsBlock before.header numbers → IsStart start
     → follows before start end ≡ Ok tt → IsWith before (accept before numbers (Ok start) (Ok end))
-accepted_with before numbers start end checked fits is rule = elim (cases_Bool (is_passed_over before end)) [
+accepted_with before numbers start end checked fits is rule = elim (cases_Bool (is_skipped before end)) [
   | inl passed ↦
       let some = ltb-true 0 before.blocks ((and_parts (nat_lt 0 before.blocks) _ passed).0) in
       rw passed (record { checked = checked; header = refl; some = some })

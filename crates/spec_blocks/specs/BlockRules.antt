@@ -38,25 +38,25 @@ abbrev pub time_of : Decimal → Result ℤ BrokenRule
 time_of date = time_by (seconds_of_julian_date date)
 
 -- a block that ends no later than the last of the blocks before it
-abbrev pub is_passed_over : Ephemeris → ℤ → Bool
-is_passed_over before end = nat_lt 0 before.blocks && int_le end (end_of before)
+abbrev pub is_skipped : Ephemeris → ℤ → Bool
+is_skipped before end = nat_lt 0 before.blocks && int_le end (end_of before)
 
 -- a block that doesn't begin where the last of the blocks before it ends
-abbrev pub is_behind_gap : Ephemeris → ℤ → Bool
-is_behind_gap before start = nat_lt 0 before.blocks && (int_lt start (end_of before) || int_lt (end_of before) start)
+abbrev pub is_after_gap : Ephemeris → ℤ → Bool
+is_after_gap before start = nat_lt 0 before.blocks && (int_lt start (end_of before) || int_lt (end_of before) start)
 
--- a block from start to end, behind the blocks before it
+-- a block from start to end, after the blocks before it
 abbrev pub follows : Ephemeris → ℤ → ℤ → Result (Unit {0}) BrokenRule
 follows before start end =
-    if is_passed_over before end then Ok tt
-    else if is_behind_gap before start then Err (broken BLOCK_GAP 0)
+    if is_skipped before end then Ok tt
+    else if is_after_gap before start then Err (broken BLOCK_GAP 0)
     else if nat_lt before.blocks MOST_BLOCKS then Ok tt
     else Err (broken TOO_MANY_BLOCKS 0)
 
 abbrev pub has_length : ℤ → ℤ → ℤ → Bool
 has_length length start end = int_le (start +ℤ length) end && int_le end (start +ℤ length)
 
--- the second date of a block, behind the first
+-- the second date of a block, after the first
 abbrev pub second_date : Ephemeris → Decimal → Decimal → Result (Unit {0}) BrokenRule
 second_date before first second = do
   start ← time_of first
@@ -86,13 +86,13 @@ coefficient_rule columns place d = if is_too_large d && is_place_of_body columns
 abbrev pub first_date : Decimal → Result (Unit {0}) BrokenRule
 first_date date = time_of date >>= λ start. Ok tt
 
--- a number of a block: the first two are dates, and the others have the places behind those of the numbers before them
+-- a number of a block: the first two are dates, and the others have the places after those of the numbers before them
 abbrev pub value_rule : Ephemeris → List Decimal → Decimal → Result (Unit {0}) BrokenRule
 value_rule before [] d = first_date d
 value_rule before (first ∷ []) d = second_date before first d
 value_rule before (first ∷ second ∷ numbers) d = coefficient_rule before.header.columns (length numbers + 3) d
 
--- a word, as the number behind these
+-- a word, as the number after these
 abbrev pub number_rule : Ephemeris → List Decimal → List ℕ → Result Decimal BrokenRule
 number_rule before numbers word = do
   d ← number_by (reading word)
@@ -103,6 +103,6 @@ abbrev pub zero_by : Result Decimal NumberFault → Result (Unit {0}) BrokenRule
 zero_by (Ok d) = if unsigned_abs d.mant == 0 then Ok tt else Err (broken TRAILING_NUMBERS 0)
 zero_by (Err fault) = Err (broken TRAILING_NUMBERS 0)
 
--- a word behind the last number of a block
+-- a word after the last number of a block
 abbrev pub trailing_rule : List ℕ → Result (Unit {0}) BrokenRule
 trailing_rule word = zero_by (reading word)

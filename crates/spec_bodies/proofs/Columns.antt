@@ -7,7 +7,7 @@ use Rattle.std.proofs.lemmas.Bool.{cases_lt, eqb-true}
 use Rattle.std.proofs.lemmas.List.Elements.{All-take, All-drop}
 use Rattle.spec_text.specs.declared.decimals.Decimal.{Decimal}
 use Rattle.spec_ephemeris.specs.declared.header.Column.{Column}
-use Rattle.spec_ephemeris.specs.declared.limits.TheConstants.{BODY_COLUMNS}
+use Rattle.spec_ephemeris.specs.declared.limits.TheConstants.{BODY_COLUMNS, NUTATIONS}
 use Rattle.spec_ephemeris.specs.Header.{has_column, is_present, components}
 use Rattle.spec_ephemeris.specs.Ephemeris.{Ephemeris, Granule, IsEphemeris, IsGranuleAt, IsBorder, IsBodyNumber, granule_end, end_of, axis_series}
 use Rattle.spec_ephemeris.proofs.Granules.{one_granule, granules_end as end_by_granules}
@@ -22,6 +22,14 @@ some_coefficients c present = grind (arith, present)
 
 abbrev IsThree : ℕ → Type 0
 IsThree n = n ≡ 3
+
+-- every column of a body has three components
+pub three_components : (number : ℕ) → number ≤ BODY_COLUMNS → components number ≡ 3
+three_components number body = by (nat_eq number NUTATIONS) refl
+  where
+    by : (b : Bool) → nat_eq number NUTATIONS ≡ b → IsThree (if b then 2 else 3)
+    by true is = absurd (omega (arith, body, eqb-true number NUTATIONS is))
+    by false is = refl
 
 -- the end of a granule before the end of all is a border
 pub end_is_border : (e : Ephemeris) (number : ℕ) (index : ℕ) → IsEphemeris e → IsTrue (has_column e.header number)
@@ -125,13 +133,6 @@ module _ (e : Ephemeris) (number : ℕ) (checked : IsEphemeris e) (there : IsTru
         bodies = All-take IsBodyNumber (column_of e number).coefs (drop (axis * (column_of e number).coefs) here.coefs) (All-drop IsBodyNumber (axis * (column_of e number).coefs) here.coefs bounded);
       }
     where
-      three_components : (number : ℕ) → number ≤ BODY_COLUMNS → components number ≡ 3
-      three_components number body = by (nat_eq number 12) refl
-        where
-          by : (b : Bool) → nat_eq number 12 ≡ b → IsThree (if b then 2 else 3)
-          by true is = absurd (omega (arith, body, eqb-true number 12 is))
-          by false is = refl
-
       length_of_axis : (number n axis : ℕ) (coefs : List Decimal) → axis < 3 → number ≤ BODY_COLUMNS → length coefs ≡ components number * n → length (take n (drop (axis * n) coefs)) ≡ n
       length_of_axis number n axis coefs three body count =
           let whole : length coefs ≡ 3 * n = rw (three_components number body) at count in

@@ -9,7 +9,7 @@ use Rattle.spec_numbers.specs.Numbers.{floor_div, ceil_div}
 use Rattle.spec_intervals.specs.Fraction.{Fraction, IsFraction, Holds, fraction}
 use Rattle.spec_intervals.specs.Enclosure.{Enclosure, IsEnclosure, AllFractions}
 use Rattle.spec_intervals.specs.Interval.{zero_interval}
-use Rattle.spec_numbers.proofs.Naturals.{positive_product as IsFraction-mul}
+use Rattle.spec_numbers.proofs.Naturals.{positive_product}
 use Rattle.spec_intervals.proofs.Compare.{Holds-zero}
 use Rattle.spec_intervals.proofs.Enclosed.{IsEnclosure-constant, IsEnclosure-sum, IsEnclosure-difference, IsEnclosure-product}
 use Rattle.spec_bodies.specs.declared.frame.Frame.{Frame}
@@ -84,9 +84,9 @@ module _ (a b : ℤ) (ab : a ≤ℤ b) (column : ℕ → ℕ → ℤ → Fractio
   pub AllFractions-coordinate : (c : Coordinate) → AllColumns (IsHeld a b column answer) c → AllFractions (exact_of column factors c) a b
   AllFractions-coordinate nothing all t p q = omega arith
   AllFractions-coordinate (of_column number axis) all t p q = all.0 t p q
-  AllFractions-coordinate (times f x) all t p q = IsFraction-mul _ _ (fractions f) (AllFractions-coordinate x all t p q)
-  AllFractions-coordinate (plus x y) all t p q = IsFraction-mul _ _ (AllFractions-coordinate x all.0 t p q) (AllFractions-coordinate y all.1 t p q)
-  AllFractions-coordinate (less x y) all t p q = IsFraction-mul _ _ (AllFractions-coordinate x all.0 t p q) (AllFractions-coordinate y all.1 t p q)
+  AllFractions-coordinate (times f x) all t p q = positive_product _ _ (fractions f) (AllFractions-coordinate x all t p q)
+  AllFractions-coordinate (plus x y) all t p q = positive_product _ _ (AllFractions-coordinate x all.0 t p q) (AllFractions-coordinate y all.1 t p q)
+  AllFractions-coordinate (less x y) all t p q = positive_product _ _ (AllFractions-coordinate x all.0 t p q) (AllFractions-coordinate y all.1 t p q)
 
   pub IsEnclosure-coordinate : (c : Coordinate) → AllColumns (IsHeld a b column answer) c → IsEnclosure (exact_of column factors c) a b (enclosure_of answer factors a b c)
   IsEnclosure-coordinate nothing all = IsEnclosure-constant a b ab (fraction (pos 0) 1) (omega arith) zero_interval (Holds-zero (fraction (pos 0) 1) refl)

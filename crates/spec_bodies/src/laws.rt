@@ -30,8 +30,10 @@ pub fn exact_values_are_numbers()
 
 /// One of the Earth and the Moon seen from the other is the difference of their places, whatever the columns say.
 pub fn the_moon_is_as_far_from_the_earth_as_they_are_apart()
-    ensures moon { (axis : ℕ) → AlwaysAgree (displacement MoonOfPair EarthOfPair axis) (less (moon axis) (earth axis)) }
-    ensures earth { (axis : ℕ) → AlwaysAgree (displacement EarthOfPair MoonOfPair axis) (less (earth axis) (moon axis)) }
+    ensures moon { (axis : ℕ)
+        → AlwaysAgree (displacement MoonOfPair EarthOfPair axis) (less (moon axis) (earth axis)) }
+    ensures earth { (axis : ℕ)
+        → AlwaysAgree (displacement EarthOfPair MoonOfPair axis) (less (earth axis) (moon axis)) }
 {}
 
 /// The columns in use are there.

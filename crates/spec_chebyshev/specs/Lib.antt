@@ -1,3 +1,4 @@
 pub mod Polynomials
 pub mod Differences
 pub mod Rows
+pub mod Examples

@@ -11,12 +11,14 @@ pub fn a_time_has_one_granule()
 
 /// The granule that a time is divided into is the granule of the time, and no other is.
 pub fn granule_of_a_time()
-    ensures is { (e : Ephemeris) (number : ℕ) (t : ℤ) → HasTime e number t → IsGranuleAt e number t (granule_at e number t) }
+    ensures is { (e : Ephemeris) (number : ℕ) (t : ℤ) → HasTime e number t
+        → IsGranuleAt e number t (granule_at e number t) }
     ensures only { (e : Ephemeris) (number : ℕ) (t : ℤ) (g : Granule) → HasTime e number t
         → IsGranuleAt e number t g → g ≡ granule_at e number t }
 {}
 
 /// A span has one nearest border, or none.
 pub fn one_border_is_nearest()
-    ensures { (e : Ephemeris) (columns : List ℕ) (a b : ℤ) (x y : Option ℤ) → IsNearestBorder e columns a b x → IsNearestBorder e columns a b y → x ≡ y }
+    ensures { (e : Ephemeris) (columns : List ℕ) (a b : ℤ) (x y : Option ℤ)
+        → IsNearestBorder e columns a b x → IsNearestBorder e columns a b y → x ≡ y }
 {}

@@ -1,6 +1,9 @@
 //! What an ephemeris says: the types and definitions that contracts cite, worked values of them, and their laws. A header
 //! and the numbers of blocks come in; what goes out is what a header must be, which granule a column has at a time and
-//! where its borders are, and the exact position that the numbers give there.
+//! where its borders are, and the exact position and velocity that the numbers give there.
+//!
+//! The source is JPL's ASCII form of its development ephemerides (DE): GROUP 1050 of a header is the table of columns,
+//! GROUP 1070 the blocks, and a position is JPL's sum of `c_k T_k(x)` over the granule that holds the time.
 #![tactic(auto)]
 
 mod body;

@@ -1,10 +1,10 @@
 -- What was made of expressions has coordinates that there are, where they have, and means what they mean together.
-use Rattle.std.proofs.Common.{◌≡◌, ℤ, sym, ap, subst}
+use Rattle.std.proofs.Common.{◌≡◌, ℤ, sym, subst}
 use Rattle.spec_intervals.specs.Fraction.{Fraction, fraction_add, fraction_sub, fraction_mul, fraction_signed_square}
 use Rattle.spec_expressions.specs.Expression.{Leaf, exact_of, HasLeaves}
 use Rattle.spec_expressions.specs.Built.{Equals, IsSum, IsDifference, IsProduct, IsSignedSquare}
 use Rattle.spec_expressions.specs.declared.expressions.Expr.{Expr}
-use Rattle.spec_expressions.specs.declared.expressions.Expr.TheVariants.{Pos, Vel, Length, Cosine, Add', Sub', Mul', SignedSquare'}
+use Rattle.spec_expressions.specs.declared.expressions.Expr.TheVariants.{Add', Sub', Mul', SignedSquare'}
 
 -- ---- what is known of the parts
 module _ (P Q : Expr → Type 0) (x y : Expr) (px : P x) (qy : Q y) where

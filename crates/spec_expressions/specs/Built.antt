@@ -1,7 +1,7 @@
 -- Which expression was made of others, whatever stands in for its boxes.
 use Rattle.std.specs.Prelude.{◌≡◌, ℕ}
 use Rattle.spec_expressions.specs.declared.expressions.Expr.{Expr}
-use Rattle.spec_expressions.specs.declared.expressions.Expr.TheVariants.{Pos, Vel, Length, Cosine, Add', Sub', Mul', SignedSquare'}
+use Rattle.spec_expressions.specs.declared.expressions.Expr.TheVariants.{Pos, Add', Sub', Mul', SignedSquare'}
 
 abbrev pub Equals : Expr → Expr → Type 0
 Equals x e = e ≡ x

@@ -1,7 +1,7 @@
 -- Leaves and decimals of the worked examples: every coordinate is the time itself.
 use Rattle.std.specs.Prelude.{ℤ, pos, neg_ℤ}
 use Rattle.spec_text.specs.declared.decimals.Decimal.{Decimal}
-use Rattle.spec_intervals.specs.Interval.{interval, narrow}
+use Rattle.spec_intervals.specs.Interval.{narrow}
 use Rattle.spec_intervals.specs.Fraction.{Fraction, fraction}
 use Rattle.spec_intervals.specs.Enclosure.{Enclosure, middle}
 use Rattle.spec_expressions.specs.Expression.{Leaf}

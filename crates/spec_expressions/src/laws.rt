@@ -13,32 +13,29 @@ pub fn expressions_are_enclosed()
     ensures numbers { (exact : Leaf → ℤ → Fraction) (a b : ℤ) → LeavesAreNumbers exact a b
         → (e : Expr) → HasLeaves e → AllFractions (exact_of exact e) a b }
     ensures holds { (exact : Leaf → ℤ → Fraction) (a b : ℤ) → LeavesAreNumbers exact a b → a ≤ℤ b
-        → (answer : Leaf → Enclosure) → LeavesAreEnclosed exact a b answer
-        → (e : Expr) → HasLeaves e → IsEnclosure (exact_of exact e) a b (enclosure_of answer a b e) }
+        → (answer : Leaf → Enclosure) → LeavesAreEnclosed exact a b answer → (e : Expr)
+        → HasLeaves e → IsEnclosure (exact_of exact e) a b (enclosure_of answer a b e) }
 {}
 
 /// In the enclosure of a formula no exponent passes the limit, so that every rule can be applied.
 pub fn exponents_stay_within()
-    ensures { (a b : ℤ) → IsSpan a b → (answer : Leaf → Enclosure) → LeavesAreWithin leaf_exponent answer
-        → (e : Expr) → IsFormula e → AllWithin part_exponent (enclosure_of answer a b e) }
+    ensures { (a b : ℤ) → IsSpan a b → (answer : Leaf → Enclosure)
+        → LeavesAreWithin leaf_exponent answer → (e : Expr) → IsFormula e
+        → AllWithin part_exponent (enclosure_of answer a b e) }
 {}
 
 /// What was made of expressions means the sum, and so on, of what they mean.
 pub fn built_expressions_mean()
-    ensures sum {
-        (exact : Leaf → ℤ → Fraction) (t : ℤ) (x y e : Expr) → IsSum (Equals x) (Equals y) e
-        → exact_of exact e t ≡ fraction_add (exact_of exact x t) (exact_of exact y t)
-    }
-    ensures difference {
-        (exact : Leaf → ℤ → Fraction) (t : ℤ) (x y e : Expr) → IsDifference (Equals x) (Equals y) e
-        → exact_of exact e t ≡ fraction_sub (exact_of exact x t) (exact_of exact y t)
-    }
-    ensures product {
-        (exact : Leaf → ℤ → Fraction) (t : ℤ) (x y e : Expr) → IsProduct (Equals x) (Equals y) e
-        → exact_of exact e t ≡ fraction_mul (exact_of exact x t) (exact_of exact y t)
-    }
-    ensures signed_square {
-        (exact : Leaf → ℤ → Fraction) (t : ℤ) (x e : Expr) → IsSignedSquare (Equals x) e
-        → exact_of exact e t ≡ fraction_signed_square (exact_of exact x t)
-    }
+    ensures sum { (exact : Leaf → ℤ → Fraction) (t : ℤ) (x y e : Expr)
+        → IsSum (Equals x) (Equals y) e
+        → exact_of exact e t ≡ fraction_add (exact_of exact x t) (exact_of exact y t) }
+    ensures difference { (exact : Leaf → ℤ → Fraction) (t : ℤ) (x y e : Expr)
+        → IsDifference (Equals x) (Equals y) e
+        → exact_of exact e t ≡ fraction_sub (exact_of exact x t) (exact_of exact y t) }
+    ensures product { (exact : Leaf → ℤ → Fraction) (t : ℤ) (x y e : Expr)
+        → IsProduct (Equals x) (Equals y) e
+        → exact_of exact e t ≡ fraction_mul (exact_of exact x t) (exact_of exact y t) }
+    ensures signed_square { (exact : Leaf → ℤ → Fraction) (t : ℤ) (x e : Expr)
+        → IsSignedSquare (Equals x) e
+        → exact_of exact e t ≡ fraction_signed_square (exact_of exact x t) }
 {}

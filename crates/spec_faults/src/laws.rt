@@ -10,9 +10,13 @@ pub fn numbers_rise()
 /// A fault is looked up by its number; a number without a row has no kind.
 #[tactic(auto, unfolding(crate::specs::Faults::fault_kind))]
 pub fn faults_are_looked_up()
-    ensures whole_file { fault_kind 4 ≡ Some (record { number = 4; name = codes "LineTooLong"; has_detail = false }) }
-    ensures header { fault_kind 11 ≡ Some (record { number = 11; name = codes "GroupMissing"; has_detail = true }) }
-    ensures block { fault_kind 39 ≡ Some (record { number = 39; name = codes "TrailingNumbers"; has_detail = false }) }
-    ensures words { fault_kind 64 ≡ Some (record { number = 64; name = codes "NotBuilt"; has_detail = false }) }
+    ensures whole_file { fault_kind 4
+        ≡ Some (record { number = 4; name = codes "LineTooLong"; has_detail = false }) }
+    ensures header { fault_kind 11
+        ≡ Some (record { number = 11; name = codes "GroupMissing"; has_detail = true }) }
+    ensures block { fault_kind 39
+        ≡ Some (record { number = 39; name = codes "TrailingNumbers"; has_detail = false }) }
+    ensures words { fault_kind 64
+        ≡ Some (record { number = 64; name = codes "NotBuilt"; has_detail = false }) }
     ensures no_row { fault_kind 23 ≡ None }
 {}

@@ -59,7 +59,8 @@ pub fn fault_kind(number: u8) -> Option<FaultKind>
 
 // The kind of fault of the first of these rows with this number.
 fn kind_among(rows: &[(u8, &'static str, bool)], number: u8) -> Option<FaultKind>
-    ensures found { IfSome result (λ kind. kind_among (kinds_of rows.now) number ≡ Some (kind_of kind)) }
+    ensures found { IfSome result (λ kind.
+        kind_among (kinds_of rows.now) number ≡ Some (kind_of kind)) }
     ensures not_found { IfNone result (kind_among (kinds_of rows.now) number ≡ None) }
 {
     match rows {

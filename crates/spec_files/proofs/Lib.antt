@@ -1,3 +1,4 @@
+pub mod Lines
 pub mod Joining
 pub mod MoreLines
 pub mod MoreHeader

@@ -10,7 +10,8 @@ use Rattle.spec_sections.specs.declared.rules.BrokenRule.{BrokenRule}
 use Rattle.spec_sections.specs.Sections.{FileLine, FileWord, Stop, ended, breaks, ◌>>=◌, at_line, first_words}
 use Rattle.spec_faults.specs.declared.numbers.TheConstants.{NO_BLOCK, TRUNCATED}
 use Rattle.spec_blocks.specs.BlockRules.{number_rule, record_line}
-use Rattle.spec_blocks.specs.Blocks.{block, blocks, blocks_behind, ephemeris, further_numbers, further_words, no_blocks, numbers_of, with_numbers, zeros_of}
+use Rattle.spec_blocks.specs.Blocks.{block, blocks, blocks_after, further_numbers, further_words, no_blocks, numbers_of, with_numbers, zeros_of}
+use Rattle.spec_files.specs.Lines.{ephemeris}
 use Rattle.spec_files.proofs.MoreHeader.{header_keeps}
 use Rattle.spec_files.proofs.MoreLines.{Keeps, KeepsFault, are_words, at_most_words, first_words-more, line_keeps, no_further, not_words, section_end, section_then}
 
@@ -64,20 +65,20 @@ no_fault_where : (none : Bool) (e : Ephemeris) (more : Result Ephemeris Stop) �
 no_fault_where true e more = tt
 no_fault_where false e more = tt
 
-blocks_behind_keep : (later : List FileLine) (m n : ℕ) (before : Ephemeris) (lines : List FileLine) → m ≤ n
-    → KeepsFault (blocks_behind m before lines) (blocks_behind n before (lines ++ later))
-blocks_behind_keep later m n before [] within = no_fault_where (before.blocks == 0) before (blocks_behind n before later)
-blocks_behind_keep later zero n before (line ∷ rest) within = tt
-blocks_behind_keep later (suc m) zero before (line ∷ rest) within = absurd (omega (arith, within))
-blocks_behind_keep later (suc m) (suc n) before (line ∷ rest) within =
-    section_end later _ _ (λ found. blocks_behind m (with_numbers before found.0) found.1) (λ found. blocks_behind n (with_numbers before found.0) found.1)
-    (block_keeps later before (line ∷ rest)) (λ found. blocks_behind_keep later m n (with_numbers before found.0) found.1 (omega (arith, within)))
+blocks_after_keep : (later : List FileLine) (m n : ℕ) (before : Ephemeris) (lines : List FileLine) → m ≤ n
+    → KeepsFault (blocks_after m before lines) (blocks_after n before (lines ++ later))
+blocks_after_keep later m n before [] within = no_fault_where (before.blocks == 0) before (blocks_after n before later)
+blocks_after_keep later zero n before (line ∷ rest) within = tt
+blocks_after_keep later (suc m) zero before (line ∷ rest) within = absurd (omega (arith, within))
+blocks_after_keep later (suc m) (suc n) before (line ∷ rest) within =
+    section_end later _ _ (λ found. blocks_after m (with_numbers before found.0) found.1) (λ found. blocks_after n (with_numbers before found.0) found.1)
+    (block_keeps later before (line ∷ rest)) (λ found. blocks_after_keep later m n (with_numbers before found.0) found.1 (omega (arith, within)))
 
 blocks_keep : (later : List FileLine) (h : Header) (lines : List FileLine) → KeepsFault (blocks h lines) (blocks h (lines ++ later))
 unfolding blocks
 blocks_keep later h lines =
     let size = length-append lines later in
-    blocks_behind_keep later (length lines) (length (lines ++ later)) (no_blocks h) lines (omega (arith, size))
+    blocks_after_keep later (length lines) (length (lines ++ later)) (no_blocks h) lines (omega (arith, size))
 
 -- lines that break a rule break it whatever lines follow
 pub ephemeris_keeps : (lines later : List FileLine) → KeepsFault (ephemeris lines) (ephemeris (lines ++ later))

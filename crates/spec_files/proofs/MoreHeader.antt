@@ -7,7 +7,7 @@ use Rattle.spec_sections.specs.declared.rules.BrokenRule.{BrokenRule}
 use Rattle.spec_faults.specs.declared.numbers.TheConstants.{ENDED}
 use Rattle.spec_header.specs.HeaderLines.{header, mass_ratio_among, mass_ratio_at, names}
 use Rattle.spec_header.specs.HeaderRules.{mass_ratio}
-use Rattle.spec_sections.specs.Sections.{FileLine, FileWord, ◌>>=◌, at_line, behind_words, first_words}
+use Rattle.spec_sections.specs.Sections.{FileLine, FileWord, ◌>>=◌, at_line, after_words, first_words}
 use Rattle.spec_files.proofs.MoreLines.{Keeps, are_words, first_words-more, line_keeps, not_words, section_then, word_keeps}
 
 -- a place in a list is the same in a longer one
@@ -24,21 +24,21 @@ names_keep later n lines = elim (cases_eq (length (first_words n lines)) n) [
 ]
 
 rest_keeps : (later : List FileLine) (n : ℕ) (emrat : Decimal) (lines : List FileLine)
-    → Keeps later (behind_words ENDED n lines >>= λ rest. Ok (emrat, rest)) (behind_words ENDED n (lines ++ later) >>= λ rest. Ok (emrat, rest))
+    → Keeps later (after_words ENDED n lines >>= λ rest. Ok (emrat, rest)) (after_words ENDED n (lines ++ later) >>= λ rest. Ok (emrat, rest))
 rest_keeps later n emrat lines = elim (cases_eq (length (first_words n lines)) n) [
   | inl all ↦ let are = are_words ENDED n lines later all in rw (are.fewer, are.more) refl
   | inr other ↦ rw (not_words ENDED n lines other) tt
 ]
 
 ratio_keeps : (later : List FileLine) (n file number : ℕ) (lines : List FileLine) (ratio : Result Decimal BrokenRule)
-    → Keeps later (at_line file number ratio >>= λ emrat. behind_words ENDED n lines >>= λ rest. Ok (emrat, rest))
-    (at_line file number ratio >>= λ emrat. behind_words ENDED n (lines ++ later) >>= λ rest. Ok (emrat, rest))
+    → Keeps later (at_line file number ratio >>= λ emrat. after_words ENDED n lines >>= λ rest. Ok (emrat, rest))
+    (at_line file number ratio >>= λ emrat. after_words ENDED n (lines ++ later) >>= λ rest. Ok (emrat, rest))
 ratio_keeps later n file number lines (Ok emrat) = rest_keeps later n emrat lines
 ratio_keeps later n file number lines (Err rule) = refl
 
 word_ratio_keeps : (later : List FileLine) (n : ℕ) (lines : List FileLine) (few more : Option FileWord) → ((word : FileWord) → few ≡ Some word → more ≡ Some word)
-    → Keeps later (mass_ratio_at few >>= λ emrat. behind_words ENDED n lines >>= λ rest. Ok (emrat, rest))
-    (mass_ratio_at more >>= λ emrat. behind_words ENDED n (lines ++ later) >>= λ rest. Ok (emrat, rest))
+    → Keeps later (mass_ratio_at few >>= λ emrat. after_words ENDED n lines >>= λ rest. Ok (emrat, rest))
+    (mass_ratio_at more >>= λ emrat. after_words ENDED n (lines ++ later) >>= λ rest. Ok (emrat, rest))
 word_ratio_keeps later n lines None more same = tt
 word_ratio_keeps later n lines (Some word) more same = rw (same word refl) (ratio_keeps later n word.file word.line lines (mass_ratio word.text))
 

@@ -5,7 +5,7 @@ use Rattle.std.specs.Prelude.{slice_get, if◌then◌else◌}
 use Rattle.std.proofs.lemmas.Bool.{cases_eq}
 use Rattle.std.proofs.lemmas.List.{drop_all, length-append, length-map, length-take}
 use Rattle.spec_sections.specs.declared.rules.BrokenRule.{BrokenRule}
-use Rattle.spec_sections.specs.Sections.{FileLine, FileWord, Stop, ended, breaks, ◌>>=◌, at_line, behind_words, first_words, from_word, is_word, lines_behind, one_line, word_of}
+use Rattle.spec_sections.specs.Sections.{FileLine, FileWord, Stop, ended, breaks, ◌>>=◌, at_line, after_words, first_words, from_word, is_word, lines_after, one_line, word_of}
 use Rattle.spec_sections.proofs.WordSections.{no_words}
 use Rattle.spec_blocks.specs.Blocks.{further_words}
 
@@ -77,10 +77,10 @@ first_words-more n (line ∷ rest) later =
 pub record AreWords (late n : ℕ) (lines later : List FileLine) : Type 0 where
   pub words : first_words n (lines ++ later) ≡ first_words n lines
   pub further : further_words n (lines ++ later) ≡ further_words n lines
-  pub fewer : behind_words late n lines ≡ Ok (lines_behind n lines)
-  pub more : behind_words late n (lines ++ later) ≡ Ok (lines_behind n lines ++ later)
+  pub fewer : after_words late n lines ≡ Ok (lines_after n lines)
+  pub more : after_words late n (lines ++ later) ≡ Ok (lines_after n lines ++ later)
 
-all_after : (n : ℕ) (lines : List FileLine) → n ≡ 0 → lines_behind n lines ≡ lines
+all_after : (n : ℕ) (lines : List FileLine) → n ≡ 0 → lines_after n lines ≡ lines
 all_after n [] is = refl
 all_after n (line ∷ rest) is = rw is refl
 
@@ -94,13 +94,13 @@ size_of_first n line rest =
     length-append (map (word_of line) (take n line.words)) (first_words (n - length line.words) rest)
     ∙ ap (λ (k : ℕ). k + length (first_words (n - length line.words) rest)) (length-map (take n line.words) (word_of line) ∙ length-take n line.words)
 
-lines_behind-more : (n : ℕ) (lines later : List FileLine) → length (first_words n lines) ≡ n → lines_behind n (lines ++ later) ≡ lines_behind n lines ++ later
-lines_behind-more n [] later all = all_after n later (sym all)
-lines_behind-more n (line ∷ rest) later all = elim (cases_eq n 0) [
+lines_after-more : (n : ℕ) (lines later : List FileLine) → length (first_words n lines) ≡ n → lines_after n (lines ++ later) ≡ lines_after n lines ++ later
+lines_after-more n [] later all = all_after n later (sym all)
+lines_after-more n (line ∷ rest) later all = elim (cases_eq n 0) [
   | inl none ↦ all_after n (line ∷ (rest ++ later)) none ∙ ap (λ (l : List FileLine). l ++ later) (sym (all_after n (line ∷ rest) none))
   | inr some ↦
       let size = size_of_first n line rest in
-      rw (ne_eqb n 0 some) (lines_behind-more (n - length line.words) rest later (omega (arith, size, all)))
+      rw (ne_eqb n 0 some) (lines_after-more (n - length line.words) rest later (omega (arith, size, all)))
 ]
 
 further_words-more : (n : ℕ) (lines later : List FileLine) → length (first_words n lines) ≡ n → further_words n (lines ++ later) ≡ further_words n lines
@@ -133,10 +133,10 @@ are_words late n lines later all =
       words = words;
       further = further_words-more n lines later all;
       fewer = rw (eq-eqb _ _ all) refl;
-      more = rw (eq-eqb _ _ (ap length words ∙ all), lines_behind-more n lines later all) refl;
+      more = rw (eq-eqb _ _ (ap length words ∙ all), lines_after-more n lines later all) refl;
     }
 
-pub not_words : (late n : ℕ) (lines : List FileLine) → length (first_words n lines) ≢ n → behind_words late n lines ≡ Err (ended late)
+pub not_words : (late n : ℕ) (lines : List FileLine) → length (first_words n lines) ≢ n → after_words late n lines ≡ Err (ended late)
 not_words late n lines other = rw (ne_eqb _ _ other) refl
 
 -- there are at most n first words

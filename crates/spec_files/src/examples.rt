@@ -1,5 +1,8 @@
 // Worked examples of the definitions.
-ghost use Rattle.std.specs.Prelude.{◌≡◌, [], ◌∷◌, ◌++◌, Err, None, Some, codes, replicate};
+ghost use Rattle.std.specs.Prelude.{◌≡◌, ◌<◌, [], ◌∷◌, ◌++◌, Err, List, None, Some, codes, length, replicate, ℕ};
+ghost use Rattle.spec_text.specs.declared.limits.TheConstants.{MOST_TEXT_BYTES};
+ghost use Rattle.spec_faults.specs.declared.numbers.TheConstants.{ENDED, FIRST_LINE, LINE_TOO_LONG};
+ghost use Rattle.spec_files.specs.Files.{AreFiles, HasLeft, IsFile, IsLongFile};
 ghost use Rattle.spec_files.specs.Outcome.{first_fault, outcome};
 ghost use Rattle.spec_files.specs.Texts.{at_end, first_cut, fault_at, joined};
 
@@ -10,18 +13,35 @@ pub fn texts_are_joined()
         ≡ record { file = 0; number = 1; words = codes "KSIZE=" ∷ codes "52" ∷ [] }
         ∷ record { file = 0; number = 3; words = codes "GROUP" ∷ [] }
         ∷ record { file = 1; number = 1; words = codes "1030" ∷ [] } ∷ [] }
-    ensures end { at_end (codes "KSIZE= 52\n\nGROUP\n" ∷ codes "1030\n " ∷ []) 22 ≡ (1, fault_at 3 22) }
+    ensures end { at_end (codes "KSIZE= 52\n\nGROUP\n" ∷ codes "1030\n " ∷ []) ENDED
+        ≡ (1, fault_at 3 ENDED) }
 {}
 
-/// Nothing is read behind a line that is too long. A first_fault rule on an earlier line comes first; that texts end too early
+/// Nothing is read after a line that is too long. A broken rule on an earlier line comes first; that texts end too early
 /// is their fault only at the end of all.
 #[tactic(none)]
 pub fn texts_are_refused()
     ensures whole { first_cut (codes "1\n2" ∷ [] ∷ []) ≡ None }
-    ensures long { first_cut (codes "1" ∷ (codes "2\n" ++ replicate 4097 32) ∷ codes "3" ∷ []) ≡ Some (1, fault_at 2 4) }
+    ensures long { first_cut (codes "1" ∷ (codes "2\n" ++ replicate 4097 32) ∷ codes "3" ∷ [])
+        ≡ Some (1, fault_at 2 LINE_TOO_LONG) }
     ensures read { joined (codes "1" ∷ (codes "2\n" ++ replicate 4097 32) ∷ codes "3" ∷ [])
-        ≡ record { file = 0; number = 1; words = codes "1" ∷ [] } ∷ record { file = 1; number = 1; words = codes "2" ∷ [] } ∷ [] }
-    ensures early { outcome (codes "KSIZE= 52 NCOEFF= 26\n" ∷ [] ∷ []) ≡ Err (1, fault_at 1 22) }
+        ≡ record { file = 0; number = 1; words = codes "1" ∷ [] }
+        ∷ record { file = 1; number = 1; words = codes "2" ∷ [] } ∷ [] }
+    ensures early { outcome (codes "KSIZE= 52 NCOEFF= 26\n" ∷ [] ∷ [])
+        ≡ Err (1, fault_at 1 ENDED) }
     ensures not_yet { first_fault (codes "KSIZE= 52 NCOEFF= 26\n" ∷ [] ∷ []) ≡ None }
-    ensures first { first_fault (codes "KSIZE= 52\n" ∷ replicate 4097 32 ∷ []) ≡ Some (0, fault_at 1 10) }
+    ensures first { first_fault (codes "KSIZE= 52\n" ∷ replicate 4097 32 ∷ [])
+        ≡ Some (0, fault_at 1 FIRST_LINE) }
+{}
+
+/// Of a file that is known its bytes are known, and where no files are known nothing is said.
+pub fn named_files_are_read()
+    ensures file { IsFile (Some ((codes "a", 7 ∷ 8 ∷ []) ∷ [])) (codes "a") (7 ∷ 8 ∷ []) }
+    ensures files { AreFiles (Some ((codes "a", 7 ∷ []) ∷ (codes "b", 8 ∷ []) ∷ []))
+        (codes "b" ∷ codes "a" ∷ []) ((8 ∷ []) ∷ (7 ∷ []) ∷ []) }
+    ensures not_known { IsFile None (codes "a") (7 ∷ []) }
+    ensures long { (bytes : List ℕ) → MOST_TEXT_BYTES < length bytes
+        → IsLongFile (Some ((codes "a", bytes) ∷ [])) (codes "a") }
+    ensures not_long { IsLongFile (Some ((codes "a", 7 ∷ 8 ∷ []) ∷ [])) (codes "a") → ⊥ }
+    ensures left { HasLeft (Some ((codes "a", 7 ∷ 8 ∷ []) ∷ [])) (codes "a") 1 (Some (8 ∷ [])) }
 {}

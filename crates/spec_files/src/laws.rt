@@ -1,11 +1,22 @@
 // What the definitions come to.
-ghost use Rattle.std.specs.Prelude.{◌≡◌, ◌++◌, ◌+◌, List, None, Some, Err, length, ℕ};
+ghost use Rattle.std.specs.Prelude.{◌≡◌, ◌++◌, ◌+◌, ◌<◌, List, None, Some, Ok, Err, length, ℕ};
 ghost use Rattle.spec_text.specs.declared.decimals.Fault.{Fault};
-ghost use Rattle.spec_ephemeris.specs.Ephemeris.{Ephemeris};
+ghost use Rattle.spec_ephemeris.specs.Ephemeris.{Ephemeris, IsEphemeris};
+ghost use Rattle.spec_sections.specs.Sections.{FileLine};
+ghost use Rattle.spec_files.specs.Lines.{ephemeris};
 ghost use Rattle.gf_edges.specs.Edges.{Files, Rose};
 ghost use Rattle.spec_files.specs.Texts.{first_cut_from, joined_from};
 ghost use Rattle.spec_files.specs.Outcome.{first_fault, outcome};
 ghost use Rattle.spec_files.specs.Reading.{AreAccepted, AreRefused, IsNotRead};
+
+/// Accepted lines are a checked ephemeris with one block or more.
+#[tactic(none)]
+pub fn accepted_lines_are_an_ephemeris()
+    ensures checked { (lines : List FileLine) (e : Ephemeris)
+        → ephemeris lines ≡ Ok e → IsEphemeris e }
+    ensures some { (lines : List FileLine) (e : Ephemeris)
+        → ephemeris lines ≡ Ok e → 0 < e.blocks }
+{}
 
 /// After texts that can be read to their ends, the lines and the first cut of later ones follow.
 #[tactic(auto, using(crate::proofs::Joining::joined_more, crate::proofs::Joining::cut_more))]
@@ -21,14 +32,15 @@ pub fn later_texts_follow()
 #[tactic(auto, using(crate::proofs::FirstFault::first_fault_stays))]
 pub fn first_faults_stay()
     ensures { (texts later : List (List ℕ)) (file : ℕ) (fault : Fault)
-        → first_fault texts ≡ Some (file, fault) → first_fault (texts ++ later) ≡ Some (file, fault) }
+        → first_fault texts ≡ Some (file, fault)
+        → first_fault (texts ++ later) ≡ Some (file, fault) }
 {}
 
 /// A fault that texts have whatever follows is their first.
 #[tactic(auto, using(crate::proofs::Joining::first_fault_refused))]
 pub fn texts_with_a_fault_are_refused()
-    ensures { (texts : List (List ℕ)) (file : ℕ) (fault : Fault) → first_fault texts ≡ Some (file, fault)
-        → outcome texts ≡ Err (file, fault) }
+    ensures { (texts : List (List ℕ)) (file : ℕ) (fault : Fault)
+        → first_fault texts ≡ Some (file, fault) → outcome texts ≡ Err (file, fault) }
 {}
 
 /// Of files that are known, one alone is true: they are accepted, and in one way; they are refused; or one of them isn't

@@ -1,14 +1,14 @@
 //! What several files are together: their texts come in, and one list of lines goes out, or where a text can't be read
-//! on; and what all of them come to, an ephemeris or the first fault. Here are definitions, worked examples and what
-//! they come to; nothing is read.
+//! on; what all of them come to, an ephemeris or the first fault; and what the reading of named files comes to. Here are
+//! definitions, worked examples and what they come to; nothing is read.
 #![tactic(auto)]
 
 mod examples;
 mod laws;
 mod limits;
 
-pub use examples::{texts_are_joined, texts_are_refused};
+pub use examples::{named_files_are_read, texts_are_joined, texts_are_refused};
 pub use laws::{
     first_faults_stay, later_texts_follow, one_answer_is_true, texts_with_a_fault_are_refused,
 };
-pub use limits::{FILE_TOO_LARGE, MOST_FILES, TOO_MANY_FILES};
+pub use limits::MOST_FILES;

@@ -10,6 +10,7 @@ use Rattle.spec_numbers.proofs.Lists.{get_take}
 use Rattle.spec_text.specs.declared.decimals.Decimal.{Decimal}
 use Rattle.spec_ephemeris.specs.Header.{AreApart, IsColumn, IsHeader, IsShared, MeetsColumnRules, column_size, is_present}
 use Rattle.spec_ephemeris.specs.declared.header.Column.{Column}
+use Rattle.spec_ephemeris.specs.declared.limits.TheConstants.{COLUMNS, FIRST_PLACE, MOST_COEFFICIENTS}
 use Rattle.spec_ephemeris.specs.declared.header.Header.{Header}
 use Rattle.spec_faults.specs.declared.numbers.TheConstants.{ENDED}
 use Rattle.spec_header.specs.ColumnRules.{columns_of, columns_row, is_out_of_place, overlap, present_column, row}
@@ -27,7 +28,7 @@ module _ (n s : ℕ) (d : Decimal) (cs : List Column) (each : EachMeets n s [] c
 
   -- what the rules say of a present column
   pub record Facts (i : ℕ) (c : Column) : Type 0 where
-    pub few : nat_lt 32 c.coefs ≡ false
+    pub few : nat_lt MOST_COEFFICIENTS c.coefs ≡ false
     pub place : is_out_of_place n (take i cs) (suc i) c ≡ false
     pub whole : (s % c.granules == 0) ≡ true
 
@@ -37,7 +38,7 @@ module _ (n s : ℕ) (d : Decimal) (cs : List Column) (each : EachMeets n s [] c
       let number : length (take i cs) + 1 ≡ suc i = omega (arith, length-take-le i cs (omega (arith, within))) in
       let met : present_column n s (take i cs) (suc i) c ≡ Ok tt = rw (present, number) at (each i c get) in
       let parts = holds_ok _ (present_column n s (take i cs) (suc i) c) tt met
-      (first_broken (nat_lt 32 c.coefs) (is_out_of_place n (take i cs) (suc i) c) (s % c.granules == 0) _ _ _) in
+      (first_broken (nat_lt MOST_COEFFICIENTS c.coefs) (is_out_of_place n (take i cs) (suc i) c) (s % c.granules == 0) _ _ _) in
       record { few = parts.0; place = parts.1; whole = parts.2 }
 
   get_at : (number : ℕ) (c : Column) → IsColumn h number c → (i : ℕ) × (number ≡ suc i) × (slice_get cs i ≡ Some c)
@@ -52,9 +53,9 @@ module _ (n s : ℕ) (d : Decimal) (cs : List Column) (each : EachMeets n s [] c
 
   meets_at : (i : ℕ) (c : Column) → Facts i c → MeetsColumnRules h (suc i) c
   meets_at i c f =
-      let place = or_parts (nat_lt c.start 3) _ f.place in
+      let place = or_parts (nat_lt c.start FIRST_PLACE) _ f.place in
       let rest = or_parts (nat_lt (n + 1) (c.start + column_size (suc i) c)) _ place.1 in
-      record { coefficients = ltb-false 32 c.coefs f.few; start = ltb-false c.start 3 place.0; last = ltb-false (n + 1) _ rest.0; granules = granules_share c.granules f.whole }
+      record { coefficients = ltb-false MOST_COEFFICIENTS c.coefs f.few; start = ltb-false c.start FIRST_PLACE place.0; last = ltb-false (n + 1) _ rest.0; granules = granules_share c.granules f.whole }
 
   meets : (number : ℕ) (c : Column) → IsColumn h number c → MeetsColumnRules h number c
   meets number c is =
@@ -64,7 +65,7 @@ module _ (n s : ℕ) (d : Decimal) (cs : List Column) (each : EachMeets n s [] c
   apart_at : (i j : ℕ) (c d : Column) → i < j → slice_get cs i ≡ Some c → slice_get cs j ≡ Some d → is_present c ≡ true → is_present d ≡ true → AreApart (suc i) c (suc j) d
   apart_at i j c d less one other present both =
       let f = facts j d other both in
-      let place = or_parts (nat_lt d.start 3) _ f.place in
+      let place = or_parts (nat_lt d.start FIRST_PLACE) _ f.place in
       let rest = or_parts (nat_lt (n + 1) (d.start + column_size (suc j) d)) _ place.1 in
       let number : suc i ≡ 1 + i = omega arith in
       apart (suc i) c (suc j) d (ap (λ (k : ℕ). overlap (suc j) d k c) number ∙ no_overlap (suc j) d 1 (take j cs) rest.1 i c (get_take cs j i less ∙ one) present)
@@ -76,7 +77,7 @@ module _ (n s : ℕ) (d : Decimal) (cs : List Column) (each : EachMeets n s [] c
       subst (λ (k : ℕ). AreApart k c j d) (sym at.1) (subst (λ (m : ℕ). AreApart (suc at.0) c m d) (sym to.1)
       (apart_at at.0 to.0 c d (omega (arith, less, at.1, to.1)) at.2 to.2 one.present other.present))
 
-  is_header : IsNcoeff n → IsBlock s → is_mass_ratio d ≡ true → length cs ≡ 13 → IsHeader h
+  is_header : IsNcoeff n → IsBlock s → is_mass_ratio d ≡ true → length cs ≡ COLUMNS → IsHeader h
   is_header ncoeff block ratio count = record {
     fewest = ncoeff.0;
     most = ncoeff.1;
@@ -91,13 +92,13 @@ module _ (n s : ℕ) (d : Decimal) (cs : List Column) (each : EachMeets n s [] c
 abbrev IsAccepted : Header × List FileLine → Type 0
 IsAccepted x = IsHeader x.0
 
-pub columns_hold : (n s : ℕ) (starts coefs : List ℕ) (words : List (List ℕ)) → length starts ≡ 13 → length coefs ≡ 13
-    → Holds (λ cs. (length cs ≡ 13) × EachMeets n s [] cs) (columns_row n s starts coefs words)
+pub columns_hold : (n s : ℕ) (starts coefs : List ℕ) (words : List (List ℕ)) → length starts ≡ COLUMNS → length coefs ≡ COLUMNS
+    → Holds (λ cs. (length cs ≡ COLUMNS) × EachMeets n s [] cs) (columns_row n s starts coefs words)
 columns_hold n s starts coefs words starts_is coefs_is =
-    then_any (λ (cs : List Column). (length cs ≡ 13) × EachMeets n s [] cs) (row words) _ (λ granules is.
-    holds_also (λ all. (all ≡ columns_of starts coefs granules) × EachMeets n s [] (columns_of starts coefs granules)) (λ cs. (length cs ≡ 13) × EachMeets n s [] cs) _
+    then_any (λ (cs : List Column). (length cs ≡ COLUMNS) × EachMeets n s [] cs) (row words) _ (λ granules is.
+    holds_also (λ all. (all ≡ columns_of starts coefs granules) × EachMeets n s [] (columns_of starts coefs granules)) (λ cs. (length cs ≡ COLUMNS) × EachMeets n s [] cs) _
     (λ all facts. (
-      ap length facts.0 ∙ columns_length 13 starts coefs granules starts_is coefs_is (holds_ok (λ ns. length ns ≡ 13) (row words) granules is (row_holds words)),
+      ap length facts.0 ∙ columns_length COLUMNS starts coefs granules starts_is coefs_is (holds_ok (λ ns. length ns ≡ COLUMNS) (row words) granules is (row_holds words)),
       subst (EachMeets n s []) (sym facts.0) facts.1,
     ))
     (rule_holds n s [] (columns_of starts coefs granules)))
@@ -120,8 +121,8 @@ accepted lines =
     then_line IsAccepted ENDED row starts.1 _ (λ w10 coefs coefs_is.
     then_line IsAccepted ENDED (columns_row ncoeff.0 block.0 starts.0 coefs.0) coefs.1 _ (λ w11 columns columns_is.
     then_line IsAccepted ENDED (group (codes "1070") 1070) columns.1 _ (λ w12 end end_is.
-    let some = holds_ok (λ ns. length ns ≡ 13) (row w9) starts.0 starts_is (row_holds w9) in
-    let more = holds_ok (λ ns. length ns ≡ 13) (row w10) coefs.0 coefs_is (row_holds w10) in
+    let some = holds_ok (λ ns. length ns ≡ COLUMNS) (row w9) starts.0 starts_is (row_holds w9) in
+    let more = holds_ok (λ ns. length ns ≡ COLUMNS) (row w10) coefs.0 coefs_is (row_holds w10) in
     let met = holds_ok _ (columns_row ncoeff.0 block.0 starts.0 coefs.0 w11) columns.0 columns_is (columns_hold ncoeff.0 block.0 starts.0 coefs.0 w11 some more) in
     is_header ncoeff.0 block.0 emrat.0 columns.0 met.1 (holds_ok IsNcoeff (first_line w0) ncoeff.0 ncoeff_is (first_line_holds w0))
     (holds_ok IsBlock (span w3) block.0 block_is (span_holds w3)) emrat_is met.0)))))) count.0 place.0 place.1)))))))))

@@ -7,6 +7,7 @@ use Rattle.std.proofs.lemmas.Option.{none-some, same_Some}
 use Rattle.spec_text.specs.Reading.{whole_of}
 use Rattle.spec_ephemeris.specs.Header.{AreApart, column_size, is_present}
 use Rattle.spec_ephemeris.specs.declared.header.Column.{Column}
+use Rattle.spec_ephemeris.specs.declared.limits.TheConstants.{COLUMNS}
 use Rattle.spec_sections.specs.declared.rules.BrokenRule.{BrokenRule}
 use Rattle.spec_header.specs.ColumnRules.{column_rule, columns_of, columns_rule, overlap, overlaps_any, row, whole_number, whole_numbers}
 use Rattle.spec_sections.proofs.Holding.{Holds, holds_also, then_any}
@@ -19,11 +20,11 @@ numbers_length before (word ∷ words) =
     holds_also (λ ns. length ns ≡ length (before ++ n ∷ []) + length words) (λ ns. length ns ≡ length before + length (word ∷ words)) _
     (λ ns same. omega (arith, same, length-append before (n ∷ []))) (numbers_length (before ++ n ∷ []) words))
 
-pub row_holds : (words : List (List ℕ)) → Holds (λ ns. length ns ≡ 13) (row words)
-row_holds words = elim (cases_eq (length words) 13) [
-  | inl all ↦ rw (eq-eqb (length words) 13 all)
-      (holds_also (λ ns. length ns ≡ 0 + length words) (λ ns. length ns ≡ 13) (whole_numbers [] words) (λ ns same. omega (arith, same, all)) (numbers_length [] words))
-  | inr other ↦ rw (ne_eqb (length words) 13 other) tt
+pub row_holds : (words : List (List ℕ)) → Holds (λ ns. length ns ≡ COLUMNS) (row words)
+row_holds words = elim (cases_eq (length words) COLUMNS) [
+  | inl all ↦ rw (eq-eqb (length words) COLUMNS all)
+      (holds_also (λ ns. length ns ≡ 0 + length words) (λ ns. length ns ≡ COLUMNS) (whole_numbers [] words) (λ ns same. omega (arith, same, all)) (numbers_length [] words))
+  | inr other ↦ rw (ne_eqb (length words) COLUMNS other) tt
 ]
 
 pub columns_length : (n : ℕ) (ss cs gs : List ℕ) → length ss ≡ n → length cs ≡ n → length gs ≡ n → length (columns_of ss cs gs) ≡ n
@@ -33,7 +34,7 @@ columns_length n (s ∷ ss) (c ∷ cs) [] a b d = d
 columns_length zero (s ∷ ss) (c ∷ cs) (g ∷ gs) a b d = absurd (omega (arith, a))
 columns_length (suc n) (s ∷ ss) (c ∷ cs) (g ∷ gs) a b d = omega (arith, columns_length n ss cs gs (omega (arith, a)) (omega (arith, b)) (omega (arith, d)))
 
--- each of these columns behind the earlier ones meets its rule
+-- each of these columns after the earlier ones meets its rule
 abbrev pub EachMeets : ℕ → ℕ → List Column → List Column → Type 0
 EachMeets n s before cs = (i : ℕ) (c : Column) → slice_get cs i ≡ Some c → column_rule n s (before ++ take i cs) c ≡ Ok tt
 

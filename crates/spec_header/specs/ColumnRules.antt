@@ -12,7 +12,7 @@ abbrev pub whole_number : Option ℕ → Result ℕ BrokenRule
 whole_number None = Err (broken HEADER_NUMBER 1)
 whole_number (Some n) = Ok n
 
--- these numbers, and the words behind them as whole numbers
+-- these numbers, and the words after them as whole numbers
 abbrev pub whole_numbers : List ℕ → List (List ℕ) → Result (List ℕ) BrokenRule
 whole_numbers before [] = Ok before
 whole_numbers before (word ∷ words) = whole_number (whole_of word) >>= λ n. whole_numbers (before ++ n ∷ []) words
@@ -39,7 +39,7 @@ abbrev pub is_out_of_place : ℕ → List Column → ℕ → Column → Bool
 is_out_of_place ncoeff earlier i c =
     nat_lt c.start FIRST_PLACE || (nat_lt (ncoeff + 1) (c.start + column_size i c) || overlaps_any i c 1 earlier)
 
--- a present column behind the earlier ones, in a block of so many numbers and seconds
+-- a present column after the earlier ones, in a block of so many numbers and seconds
 abbrev pub present_column : ℕ → ℕ → List Column → ℕ → Column → Result (Unit {0}) BrokenRule
 present_column ncoeff seconds earlier i c =
     if nat_lt MOST_COEFFICIENTS c.coefs then Err (broken COEFFICIENT_COUNT 0)
@@ -56,6 +56,6 @@ abbrev pub columns_rule : ℕ → ℕ → List Column → List Column → Result
 columns_rule ncoeff seconds earlier [] = Ok earlier
 columns_rule ncoeff seconds earlier (c ∷ cs) = column_rule ncoeff seconds earlier c >>= λ _. columns_rule ncoeff seconds (earlier ++ c ∷ []) cs
 
--- the third line, behind the first two, and the columns of the three lines
+-- the third line, after the first two, and the columns of the three lines
 abbrev pub columns_row : ℕ → ℕ → List ℕ → List ℕ → List (List ℕ) → Result (List Column) BrokenRule
 columns_row ncoeff seconds starts coefs words = row words >>= λ granules. columns_rule ncoeff seconds [] (columns_of starts coefs granules)

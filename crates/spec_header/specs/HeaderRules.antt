@@ -54,7 +54,7 @@ not_none seconds = if seconds == 0 then Err (broken LIMIT 0) else Ok seconds
 abbrev pub block_length : Decimal → Result ℕ BrokenRule
 block_length days = days_by (seconds_within MOST_BLOCK_DAYS days) >>= not_none
 
--- three decimals: the first and the last Julian date, and the days of a block, whose seconds are told
+-- three decimals: the first and the last Julian date, and the days of a block, whose seconds are the answer
 abbrev pub span : List (List ℕ) → Result ℕ BrokenRule
 span words = do
   start ← decimal_at (slice_get words 0)
@@ -85,7 +85,7 @@ abbrev pub value_count_of : ℕ → Option ℕ → Option ℕ → Result ℕ Bro
 value_count_of names emrat None = Err (broken HEADER_NUMBER 1)
 value_count_of names emrat (Some n) = if n == names then emrat_place_of emrat else Err (broken COUNT_MISMATCH 0)
 
--- the count of the values is that of the names, one of which is EMRAT; its place is told
+-- the count of the values is that of the names, one of which is EMRAT; its place is the answer
 abbrev pub value_count : ℕ → Option ℕ → List (List ℕ) → Result ℕ BrokenRule
 value_count names emrat words = value_count_of names emrat (whole_at (slice_get words 0))
 

@@ -7,5 +7,6 @@ ghost use Rattle.spec_sections.specs.Sections.{FileLine};
 
 /// The header of an accepted list of lines meets the rules of a header.
 pub fn accepted_headers_meet_the_rules()
-    ensures { (lines : List FileLine) (h : Header) (rest : List FileLine) → header lines ≡ Ok (h, rest) → IsHeader h }
+    ensures { (lines : List FileLine) (h : Header) (rest : List FileLine)
+        → header lines ≡ Ok (h, rest) → IsHeader h }
 {}

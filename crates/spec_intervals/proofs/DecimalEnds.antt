@@ -1,5 +1,5 @@
 -- The quotient that the ends of a decimal are, by the signs of its two exponents.
-use Rattle.std.proofs.Common.{◌≡◌, ℕ, zero, suc, ◌*◌, ◌^◌, ◌≤◌, arith, refl, ap, ◌∙◌, [], ◌∷◌, ℤ, pos, negsuc, neg_ℤ, ◌*ℤ◌, ◌≤ℤ◌, unsigned_abs}
+use Rattle.std.proofs.Common.{◌≡◌, ℕ, zero, suc, ◌*◌, ◌^◌, ◌≤◌, arith, refl, ap, ◌∙◌, [], ◌∷◌, ℤ, pos, negsuc, ◌*ℤ◌, ◌≤ℤ◌, unsigned_abs}
 use Rattle.std.proofs.lemmas.Int.{ints, unsigned_abs-mul}
 use borrow.Author.Differences.{up, down}
 use Rattle.spec_intervals.specs.Interval.{IsIval, IsDistance, IsCosine, end_limit, distance_exponent, cosine_exponent, interval, decimal_top, decimal_bottom, from_decimal}

@@ -1,5 +1,5 @@
 -- A decimal at an exponent lies within its two roundings.
-use Rattle.std.proofs.Common.{◌≡◌, ℕ, ◌*◌, ◌^◌, ◌<◌, ◌≤◌, arith, ap, [], ◌∷◌, ℤ, pos, ◌*ℤ◌, ◌≤ℤ◌}
+use Rattle.std.proofs.Common.{◌≡◌, ℕ, ◌*◌, ◌^◌, ◌<◌, arith, ap, [], ◌∷◌, ℤ, pos, ◌*ℤ◌, ◌≤ℤ◌}
 use Rattle.std.proofs.Math.Nat.{one-le-pow, mul_comm}
 use borrow.Author.Differences.{up, down}
 use Rattle.spec_numbers.specs.Numbers.{floor_div, ceil_div}

@@ -1,7 +1,6 @@
 -- Between which limits the rules on enclosures keep the exponents.
-use Rattle.std.proofs.Common.{ℕ, ◌+◌, ◌≤◌, arith, ℤ, pos, neg_ℤ, Bool, true, false}
+use Rattle.std.proofs.Common.{ℕ, ◌+◌, ◌≤◌, arith, ℤ, Bool, true, false}
 use Rattle.std.specs.Prelude.{if◌then◌else◌}
-use Rattle.std.proofs.lemmas.Int.{ints}
 use lib.Signed.{lt_z}
 use Rattle.spec_intervals.specs.Interval.{Interval, zero_interval, sum, difference, product, meet, signed_square}
 use Rattle.spec_intervals.specs.Enclosure.{Enclosure, IsSpan, IsWithin, AllWithin, offsets, centred, enclosure, twice_size, constant_of, sum_of, difference_of, product_of, signed_square_of}

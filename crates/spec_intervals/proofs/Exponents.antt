@@ -11,7 +11,7 @@ use lib.Signed.{le_z}
 use Rattle.spec_numbers.specs.Numbers.{floor_div, ceil_div}
 use Rattle.spec_numbers.proofs.Order.{lin}
 use Rattle.spec_numbers.proofs.Floor.{floor_div-small, ceil_div-small}
-use Rattle.spec_numbers.proofs.Sizes.{unsigned_abs-neg, sum_size, product_size, scaled_size, either_size, four_sizes}
+use Rattle.spec_numbers.proofs.Sizes.{unsigned_abs-neg, sum_size, product_size, either_size, four_sizes}
 use Rattle.spec_intervals.specs.Interval.{Interval, zero_interval, end_limit, narrow_shift, zero_end, settled, narrow_by, narrow, surplus, lift, sum_up, sum, is_zero, negated, difference, least4, greatest4, product, meet_up, meet, signed_sq, signed_square, decimal_top, decimal_bottom, from_decimal, distance_exponent, cosine_exponent, IsDistance, IsCosine}
 use Rattle.spec_intervals.specs.Enclosure.{IsWithin, twice_size}
 use Rattle.spec_intervals.proofs.Narrow.{is_small-both, sizes-fit, narrow_shift-fits, narrow_shift-le}

@@ -11,6 +11,9 @@ use Rattle.spec_intervals.specs.Fraction.{Fraction, IsFraction, Holds, fraction_
 abbrev pub Enclosure : Type 0
 Enclosure = EnclosureOf Interval
 
+abbrev pub triple : Interval → Interval → Interval → Enclosure
+triple mid range step = record { mid = mid; range = range; step = step }
+
 abbrev pub middle : ℤ → ℤ → ℤ
 middle a b = floor_div (a +ℤ b) 2
 

@@ -14,23 +14,27 @@ pub fn shift_is_least()
 
 /// Narrowing keeps what was held, and gives ends that are in order and within the limit.
 pub fn narrowing_holds()
-    ensures holds { (lo hi s : ℤ) (r : Fraction) → Holds (interval lo hi s) r → Holds (narrow lo hi s) r }
+    ensures holds { (lo hi s : ℤ) (r : Fraction) → Holds (interval lo hi s) r
+        → Holds (narrow lo hi s) r }
     ensures is_ival { (lo hi s : ℤ) → lo ≤ℤ hi → IsIval (narrow lo hi s) }
 {}
 
 /// The sum of two intervals holds the sum of any two numbers that they hold.
 pub fn sum_holds()
-    ensures { (x y : Interval) (r t : Fraction) → Holds x r → Holds y t → Holds (sum x y) (fraction_add r t) }
+    ensures { (x y : Interval) (r t : Fraction) → Holds x r → Holds y t
+        → Holds (sum x y) (fraction_add r t) }
 {}
 
 /// The product of two intervals holds the product of any two numbers that they hold.
 pub fn product_holds()
-    ensures { (x y : Interval) (r t : Fraction) → Holds x r → Holds y t → Holds (product x y) (fraction_mul r t) }
+    ensures { (x y : Interval) (r t : Fraction) → Holds x r → Holds y t
+        → Holds (product x y) (fraction_mul r t) }
 {}
 
 /// The difference of two intervals holds the difference of any two numbers that they hold.
 pub fn difference_holds()
-    ensures { (x y : Interval) (r t : Fraction) → Holds x r → Holds y t → Holds (difference x y) (fraction_sub r t) }
+    ensures { (x y : Interval) (r t : Fraction) → Holds x r → Holds y t
+        → Holds (difference x y) (fraction_sub r t) }
 {}
 
 /// The join holds whatever one of the two intervals holds.
@@ -46,12 +50,14 @@ pub fn meet_holds()
 
 /// The signed square of an interval holds r |r| of any number r that it holds.
 pub fn signed_square_holds()
-    ensures { (x : Interval) (r : Fraction) → Holds x r → Holds (signed_square x) (fraction_signed_square r) }
+    ensures { (x : Interval) (r : Fraction) → Holds x r
+        → Holds (signed_square x) (fraction_signed_square r) }
 {}
 
 /// A scaled interval holds 2 r / length of any number r between the ends.
 pub fn scale_holds()
-    ensures { (lo hi s : ℤ) (length : ℕ) (r : Fraction) → 0 < length → Holds (interval lo hi s) r → Holds (scale lo hi s length) (fraction_scale r length) }
+    ensures { (lo hi s : ℤ) (length : ℕ) (r : Fraction) → 0 < length → Holds (interval lo hi s) r
+        → Holds (scale lo hi s length) (fraction_scale r length) }
 {}
 
 /// The interval of a decimal holds the decimal, at any exponent.
@@ -67,6 +73,8 @@ pub fn decimals_fit()
 
 /// Where the sign is `Yes` every number held is at least 0, and where it is `No` every number held is below 0.
 pub fn sign_tells()
-    ensures yes { (x : Interval) (r : Fraction) → sign_of x ≡ Yes → Holds x r → pos 0 ≤ℤ r.numerator }
-    ensures no { (x : Interval) (r : Fraction) → sign_of x ≡ No → IsFraction r → Holds x r → r.numerator <ℤ pos 0 }
+    ensures yes { (x : Interval) (r : Fraction) → sign_of x ≡ Yes → Holds x r
+        → pos 0 ≤ℤ r.numerator }
+    ensures no { (x : Interval) (r : Fraction) → sign_of x ≡ No → IsFraction r → Holds x r
+        → r.numerator <ℤ pos 0 }
 {}

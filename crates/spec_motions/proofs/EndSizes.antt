@@ -1,27 +1,23 @@
 -- How large the least and the greatest product of the ends of two intervals are at most.
-use Rattle.std.proofs.Common.{ℕ, ◌*◌, ◌≤◌, arith, ℤ, pos, ◌*ℤ◌, unsigned_abs}
-use Rattle.std.proofs.lemmas.Int.{ints}
+use Rattle.std.proofs.Common.{ℕ, ◌*◌, ◌≤◌, ◌*ℤ◌, unsigned_abs}
 use Rattle.spec_intervals.specs.Interval.{least4, greatest4}
 use Rattle.spec_numbers.proofs.Sizes.{product_size, least_size as least_of_four, greatest_size as greatest_of_four}
 use Rattle.spec_chebyshev.specs.declared.ends.Ival62.{Ival62}
-use Rattle.spec_chebyshev.specs.Differences.{Within}
 use Rattle.spec_chebyshev.specs.Rows.{EndsWithin}
-
-pub size_of : (z : ℤ) (m : ℕ) → Within z (pos m) → unsigned_abs z ≤ m
-size_of z m w = let l = w.low in let h = w.high in omega (arith, ints)
+use Rattle.spec_chebyshev.proofs.Arguments.{within_size}
 
 module _ (c e : Ival62) (m n : ℕ) (hc : EndsWithin m c) (he : EndsWithin n e) where
   ll : unsigned_abs (c.lo *ℤ e.lo) ≤ m * n
-  ll = product_size c.lo e.lo m n (size_of c.lo m hc.lo) (size_of e.lo n he.lo)
+  ll = product_size c.lo e.lo m n (within_size c.lo m hc.lo) (within_size e.lo n he.lo)
 
   lh : unsigned_abs (c.lo *ℤ e.hi) ≤ m * n
-  lh = product_size c.lo e.hi m n (size_of c.lo m hc.lo) (size_of e.hi n he.hi)
+  lh = product_size c.lo e.hi m n (within_size c.lo m hc.lo) (within_size e.hi n he.hi)
 
   hl : unsigned_abs (c.hi *ℤ e.lo) ≤ m * n
-  hl = product_size c.hi e.lo m n (size_of c.hi m hc.hi) (size_of e.lo n he.lo)
+  hl = product_size c.hi e.lo m n (within_size c.hi m hc.hi) (within_size e.lo n he.lo)
 
   hh : unsigned_abs (c.hi *ℤ e.hi) ≤ m * n
-  hh = product_size c.hi e.hi m n (size_of c.hi m hc.hi) (size_of e.hi n he.hi)
+  hh = product_size c.hi e.hi m n (within_size c.hi m hc.hi) (within_size e.hi n he.hi)
 
   pub least_size : unsigned_abs (least4 c.lo c.hi e.lo e.hi) ≤ m * n
   least_size = least_of_four (c.lo *ℤ e.lo) (c.lo *ℤ e.hi) (c.hi *ℤ e.lo) (c.hi *ℤ e.hi) (m * n) ll lh hl hh

@@ -15,7 +15,7 @@ use Rattle.spec_chebyshev.specs.Differences.{IsArgument}
 use Rattle.spec_chebyshev.specs.Rows.{nothing, next, t_row, HoldsIn, EndsWithin, IsArguments}
 use Rattle.spec_chebyshev.proofs.RowEnds.{EndsWithin-t}
 use Rattle.spec_chebyshev.proofs.RowLaws.{HoldsIn-t}
-use Rattle.spec_motions.proofs.EndSizes.{size_of}
+use Rattle.spec_chebyshev.proofs.Arguments.{within_size}
 
 -- ---- quotients rounded outward are less than two units further apart
 pub quotients_gap : (lo hi : ℤ) (d : ℕ) → 0 < d → ((ceil_div hi d -ℤ floor_div lo d) *ℤ pos d) <ℤ ((hi -ℤ lo) +ℤ pos (2 * d))
@@ -59,8 +59,8 @@ module _ (c e : Ival62) (m n wc we : ℕ) (hc : EndsWithin m c) (he : EndsWithin
   below_all : (x y : ℤ) → unsigned_abs x ≤ m → unsigned_abs (x -ℤ c.lo) ≤ wc → unsigned_abs (x -ℤ c.hi) ≤ wc → unsigned_abs (y -ℤ e.lo) ≤ we → unsigned_abs (y -ℤ e.hi) ≤ we → (x *ℤ y -ℤ pos B) ≤ℤ least4 c.lo c.hi e.lo e.hi
   below_all x y hx xl xh yl yh =
       min_above (x *ℤ y -ℤ pos B) (int_min (c.lo *ℤ e.lo) (c.lo *ℤ e.hi)) (int_min (c.hi *ℤ e.lo) (c.hi *ℤ e.hi))
-      (min_above (x *ℤ y -ℤ pos B) (c.lo *ℤ e.lo) (c.lo *ℤ e.hi) (near x c.lo y e.lo m n wc we hx (size_of e.lo n he.lo) xl yl) (near x c.lo y e.hi m n wc we hx (size_of e.hi n he.hi) xl yh))
-      (min_above (x *ℤ y -ℤ pos B) (c.hi *ℤ e.lo) (c.hi *ℤ e.hi) (near x c.hi y e.lo m n wc we hx (size_of e.lo n he.lo) xh yl) (near x c.hi y e.hi m n wc we hx (size_of e.hi n he.hi) xh yh))
+      (min_above (x *ℤ y -ℤ pos B) (c.lo *ℤ e.lo) (c.lo *ℤ e.hi) (near x c.lo y e.lo m n wc we hx (within_size e.lo n he.lo) xl yl) (near x c.lo y e.hi m n wc we hx (within_size e.hi n he.hi) xl yh))
+      (min_above (x *ℤ y -ℤ pos B) (c.hi *ℤ e.lo) (c.hi *ℤ e.hi) (near x c.hi y e.lo m n wc we hx (within_size e.lo n he.lo) xh yl) (near x c.hi y e.hi m n wc we hx (within_size e.hi n he.hi) xh yh))
 
   c_ll : unsigned_abs (c.lo -ℤ c.lo) ≤ wc
   c_ll = omega (arith, lin)
@@ -92,10 +92,10 @@ module _ (c e : Ival62) (m n wc we : ℕ) (hc : EndsWithin m c) (he : EndsWithin
   pub product_width : greatest4 c.lo c.hi e.lo e.hi ≤ℤ (least4 c.lo c.hi e.lo e.hi +ℤ pos B)
   product_width =
       let least = least4 c.lo c.hi e.lo e.hi in
-      let ll = moved (c.lo *ℤ e.lo) (pos B) least (below_all c.lo e.lo (size_of c.lo m hc.lo) c_ll c_lh e_ll e_lh) in
-      let lh = moved (c.lo *ℤ e.hi) (pos B) least (below_all c.lo e.hi (size_of c.lo m hc.lo) c_ll c_lh e_hl e_hh) in
-      let hl = moved (c.hi *ℤ e.lo) (pos B) least (below_all c.hi e.lo (size_of c.hi m hc.hi) c_hl c_hh e_ll e_lh) in
-      let hh = moved (c.hi *ℤ e.hi) (pos B) least (below_all c.hi e.hi (size_of c.hi m hc.hi) c_hl c_hh e_hl e_hh) in
+      let ll = moved (c.lo *ℤ e.lo) (pos B) least (below_all c.lo e.lo (within_size c.lo m hc.lo) c_ll c_lh e_ll e_lh) in
+      let lh = moved (c.lo *ℤ e.hi) (pos B) least (below_all c.lo e.hi (within_size c.lo m hc.lo) c_ll c_lh e_hl e_hh) in
+      let hl = moved (c.hi *ℤ e.lo) (pos B) least (below_all c.hi e.lo (within_size c.hi m hc.hi) c_hl c_hh e_ll e_lh) in
+      let hh = moved (c.hi *ℤ e.hi) (pos B) least (below_all c.hi e.hi (within_size c.hi m hc.hi) c_hl c_hh e_hl e_hh) in
       max_below (least +ℤ pos B) (int_max (c.lo *ℤ e.lo) (c.lo *ℤ e.hi)) (int_max (c.hi *ℤ e.lo) (c.hi *ℤ e.hi)) (max_below (least +ℤ pos B) (c.lo *ℤ e.lo) (c.lo *ℤ e.hi) ll lh) (max_below (least +ℤ pos B) (c.hi *ℤ e.lo) (c.hi *ℤ e.hi) hl hh)
 
 positive : (k : ℕ) → 0 < 3 ^ k

@@ -1,11 +1,13 @@
 -- The intervals of position and velocity over a span of times within one granule, and those of their changes from each
 -- time to the next. Positions are in km and velocities in km per second.
-use Rattle.std.specs.Prelude.{ℕ, suc, ◌+◌, ◌*◌, ◌^◌, ◌≤◌, List, [], ◌∷◌, length, map, drop, All, ℤ, pos, neg_ℤ, unsigned_abs, ◌+ℤ◌, ◌-ℤ◌, ◌*ℤ◌, ◌≤ℤ◌, if◌then◌else◌}
+use Rattle.std.specs.Prelude.{ℕ, suc, ◌+◌, ◌*◌, ◌^◌, ◌≤◌, List, [], ◌∷◌, length, map, drop, All, ℤ, pos, neg_ℤ, unsigned_abs, ◌+ℤ◌, ◌-ℤ◌, ◌*ℤ◌, ◌≤ℤ◌, ◌<ℤ◌, if◌then◌else◌}
 use borrow.Author.Differences.{up, down}
 use lib.Signed.{lt_z}
 use Rattle.spec_text.specs.declared.decimals.Decimal.{Decimal}
 use Rattle.spec_intervals.specs.Interval.{Interval, zero_interval, narrow, scale}
 use Rattle.spec_numbers.specs.Numbers.{floor_div, ceil_div}
+use Rattle.spec_intervals.specs.Fraction.{Fraction, Holds}
+use Rattle.spec_intervals.specs.Enclosure.{change}
 use Rattle.spec_chebyshev.specs.declared.ends.Ival62.{Ival62}
 use Rattle.spec_chebyshev.specs.Rows.{t_row, q_row, argument_of}
 use Rattle.spec_ephemeris.specs.Series.{Series, argument_at, scaled}
@@ -67,6 +69,14 @@ pub record IsSpanOf (s : Series) (a b : ℤ) : Type 0 where
   pub from : s.start ≤ℤ a
   pub ordered : a ≤ℤ b
   pub to : b ≤ℤ (s.start +ℤ pos s.duration)
+
+-- an interval holds a quantity at each time from a to b
+abbrev pub HoldsEach : (ℤ → Fraction) → ℤ → ℤ → Interval → Type 0
+HoldsEach exact a b i = (t : ℤ) → a ≤ℤ t → t ≤ℤ b → Holds i (exact t)
+
+-- and its change from each time to the next
+abbrev pub HoldsChanges : (ℤ → Fraction) → ℤ → ℤ → Interval → Type 0
+HoldsChanges exact a b i = (t : ℤ) → a ≤ℤ t → t <ℤ b → Holds i (change exact t)
 
 -- ---- how wide a position at one time is at most, in km: the sum of |c_k| 3^(k+1) 2^-59, and (n + 2) 2^-23 for n
 -- coefficients

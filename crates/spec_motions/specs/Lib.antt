@@ -2,3 +2,4 @@ pub mod Sums
 pub mod Enclosures
 pub mod RowSizes
 pub mod Granules
+pub mod Examples

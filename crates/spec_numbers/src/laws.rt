@@ -26,8 +26,8 @@ pub fn quotients()
 
 /// A number that is at most the products of the ends is at most each product between the ends.
 pub fn corners()
-    ensures { (m a b c d x y : ℤ) → a ≤ℤ x → x ≤ℤ b → c ≤ℤ y → y ≤ℤ d
-        → m ≤ℤ (a *ℤ c) → m ≤ℤ (a *ℤ d) → m ≤ℤ (b *ℤ c) → m ≤ℤ (b *ℤ d) → m ≤ℤ (x *ℤ y) }
+    ensures { (m a b c d x y : ℤ) → a ≤ℤ x → x ≤ℤ b → c ≤ℤ y → y ≤ℤ d → m ≤ℤ (a *ℤ c)
+        → m ≤ℤ (a *ℤ d) → m ≤ℤ (b *ℤ c) → m ≤ℤ (b *ℤ d) → m ≤ℤ (x *ℤ y) }
 {}
 
 /// The size of a product is the product of the sizes, where one factor is natural.

@@ -29,3 +29,11 @@ pub record AreAskedFor (words names : List (List ℕ)) : Type 0 where
   pub all : words ≡ search_words ++ names
   pub some : 0 < length names
   pub no_option : IsTrue (are_names names)
+
+-- the words ask for nothing
+abbrev pub AskForNothing : List (List ℕ) → Type 0
+AskForNothing words = (names : List (List ℕ)) → AreAskedFor words names → ⊥
+
+-- the words don't begin with these
+abbrev pub BeginOtherwise : List (List ℕ) → List (List ℕ) → Type 0
+BeginOtherwise front words = (rest : List (List ℕ)) → words ≡ front ++ rest → ⊥

@@ -11,7 +11,7 @@ no_words n [] is = refl
 no_words n (line ∷ rest) is =
     ap (λ (k : ℕ). map (word_of line) (take k line.words) ++ first_words (n - length line.words) rest) is ∙ no_words (n - length line.words) rest (omega (arith, is))
 
-all_after : (n : ℕ) (lines : List FileLine) → n ≡ 0 → lines_after n lines ≡ lines
+pub all_after : (n : ℕ) (lines : List FileLine) → n ≡ 0 → lines_after n lines ≡ lines
 all_after n [] is = refl
 all_after n (line ∷ rest) is = rw is refl
 
@@ -20,7 +20,7 @@ after_no_words late n lines is =
     let test : (length (first_words n lines) == n) ≡ true = eq-eqb _ _ (ap length (no_words n lines is) ∙ sym is) in
     rw (test, all_after n lines is) refl
 
-length_first : (n : ℕ) (line : FileLine) (rest : List FileLine)
+pub length_first : (n : ℕ) (line : FileLine) (rest : List FileLine)
     → length (first_words n (line ∷ rest)) ≡ min n (length line.words) + length (first_words (n - length line.words) rest)
 length_first n line rest =
     length-append (map (word_of line) (take n line.words)) (first_words (n - length line.words) rest)

@@ -4,7 +4,7 @@ use Rattle.std.proofs.lemmas.Bool.{cases_eq}
 use Rattle.std.proofs.Math.Nat.{pow-succ', pow-le-pow_right, mul-le-mul_left}
 use Rattle.spec_text.specs.Decimals.{AreDigits, significant, value_after, value}
 
--- digits behind n make a number of its size
+-- digits after n make a number of its size
 pub value_after_low : (n : ℕ) (bs : List ℕ) → n * 10 ^ length bs ≤ value_after n bs
 value_after_low n [] = omega arith
 value_after_low n (b ∷ bs) = rw pow-succ' (omega (arith, value_after_low (10 * n + (b - 48)) bs))

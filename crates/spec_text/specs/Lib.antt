@@ -4,3 +4,4 @@ pub mod Splitting
 pub mod Reading
 pub mod Days
 pub mod Lines
+pub mod Examples

@@ -1,25 +1,31 @@
 // Worked examples of the definitions.
 ghost use Rattle.std.specs.Prelude.{◌≡◌, [], ◌∷◌, Err, None, Ok, Some, codes, neg_ℤ, pos};
+ghost use Rattle.spec_text.specs.Days.{seconds_of_days, seconds_of_julian_date};
+ghost use Rattle.spec_text.specs.Examples.{decimal};
 ghost use Rattle.spec_text.specs.Lines.{lines, text_lines, tokens};
 ghost use Rattle.spec_text.specs.Reading.{reading, whole_of};
+ghost use Rattle.spec_text.specs.declared.days.DaysFault.TheVariants.{NotWholeSecond, OutOfRange};
 ghost use Rattle.spec_text.specs.declared.decimals.NumberFault.TheVariants.{ExponentRange, NotNumber, TooManyDigits};
 
 /// JPL's files write a mark `D` and 18 digits; a point may end the digits, or begin them.
 pub fn decimals_are_read()
-    ensures jpl { reading (codes "0.230542450000000000D+07") ≡ Ok (record { mant = pos 230542450000000000; exp = neg_ℤ (pos 11) }) }
-    ensures point_at_the_end { reading (codes "32.") ≡ Ok (record { mant = pos 32; exp = pos 0 }) }
-    ensures point_at_the_front { reading (codes ".5") ≡ Ok (record { mant = pos 5; exp = neg_ℤ (pos 1) }) }
-    ensures below_zero { reading (codes "-.5") ≡ Ok (record { mant = neg_ℤ (pos 5); exp = neg_ℤ (pos 1) }) }
-    ensures no_point { reading (codes "1E+05") ≡ Ok (record { mant = pos 1; exp = pos 5 }) }
-    ensures zero { reading (codes "-0.00e7") ≡ Ok (record { mant = pos 0; exp = pos 0 }) }
+    ensures jpl { reading (codes "0.230542450000000000D+07")
+        ≡ Ok (decimal (pos 230542450000000000) (neg_ℤ (pos 11))) }
+    ensures point_at_the_end { reading (codes "32.") ≡ Ok (decimal (pos 32) (pos 0)) }
+    ensures point_at_the_front { reading (codes ".5") ≡ Ok (decimal (pos 5) (neg_ℤ (pos 1))) }
+    ensures below_zero { reading (codes "-.5") ≡ Ok (decimal (neg_ℤ (pos 5)) (neg_ℤ (pos 1))) }
+    ensures no_point { reading (codes "1E+05") ≡ Ok (decimal (pos 1) (pos 5)) }
+    ensures zero { reading (codes "-0.00e7") ≡ Ok (decimal (pos 0) (pos 0)) }
 {}
 
-/// The first fault that applies is told; zeros at the front don't count among the 18 digits, and zeros at the end do.
+/// The answer is the first fault that applies; zeros at the front don't count among the 18 digits, and zeros at the end
+/// do.
 pub fn decimals_are_refused()
     ensures no_exponent { reading (codes "1d") ≡ Err NotNumber }
     ensures no_digit { reading (codes ".") ≡ Err NotNumber }
     ensures zeros_at_the_end { reading (codes "1000000000000000000") ≡ Err TooManyDigits }
-    ensures zeros_at_the_front { reading (codes "0000000000000000001") ≡ Ok (record { mant = pos 1; exp = pos 0 }) }
+    ensures zeros_at_the_front { reading (codes "0000000000000000001")
+        ≡ Ok (decimal (pos 1) (pos 0)) }
     ensures far { reading (codes "0e-100") ≡ Err ExponentRange }
     ensures digits_before_exponent { reading (codes "1234567890123456789e100") ≡ Err TooManyDigits }
 {}
@@ -33,6 +39,19 @@ pub fn whole_numbers_are_read()
     ensures signed { whole_of (codes "+1") ≡ None }
 {}
 
+/// Julian dates in seconds from date 0 on; where two faults apply, the answer is the first.
+#[tactic(none)]
+pub fn julian_dates_are_seconds()
+    ensures day { seconds_of_julian_date (decimal (pos 1) (pos 0)) ≡ Ok 86400 }
+    ensures last { seconds_of_julian_date (decimal (pos 5) (pos 6)) ≡ Ok 432000000000 }
+    ensures half { seconds_of_julian_date (decimal (pos 5) (neg_ℤ (pos 1))) ≡ Ok 43200 }
+    ensures too_late { seconds_of_julian_date (decimal (pos 5000001) (pos 0)) ≡ Err OutOfRange }
+    ensures too_early { seconds_of_julian_date (decimal (neg_ℤ (pos 1)) (pos 0)) ≡ Err OutOfRange }
+    ensures both { seconds_of_julian_date (decimal (neg_ℤ (pos 1)) (neg_ℤ (pos 6)))
+        ≡ Err NotWholeSecond }
+    ensures no_sign { seconds_of_days (decimal (neg_ℤ (pos 2)) (pos 0)) ≡ Some 172800 }
+{}
+
 /// One carriage return before a line feed, or at the end of the text, belongs to the line end.
 pub fn texts_are_cut_into_lines()
     ensures returns { lines (codes "one\r\ntwo\r") ≡ codes "one" ∷ codes "two" ∷ [] }
@@ -44,7 +63,8 @@ pub fn texts_are_cut_into_lines()
 
 /// Blanks and tabs part tokens, and a line of them alone counts as a line, but isn't read.
 pub fn lines_are_cut_into_tokens()
-    ensures separators { tokens (codes " \tKSIZE=  52\tNCOEFF= 26 ") ≡ codes "KSIZE=" ∷ codes "52" ∷ codes "NCOEFF=" ∷ codes "26" ∷ [] }
+    ensures separators { tokens (codes " \tEMRAT  81\tAU 1 ")
+        ≡ codes "EMRAT" ∷ codes "81" ∷ codes "AU" ∷ codes "1" ∷ [] }
     ensures blank { tokens (codes " \t ") ≡ [] }
     ensures numbers { text_lines (codes "one\n \t\n\n2 3\n")
         ≡ record { number = 1; bytes = codes "one" } ∷ record { number = 4; bytes = codes "2 3" } ∷ [] }

@@ -7,11 +7,13 @@ ghost use Rattle.spec_text.specs.Lines.{is_line_feed, is_separator, lines, token
 ghost use Rattle.spec_text.specs.Reading.{IsWithinBounds, Reads, reading, whole_of};
 ghost use Rattle.spec_text.specs.declared.decimals.Decimal.{Decimal};
 ghost use Rattle.spec_text.specs.declared.decimals.NumberFault.{NumberFault};
+ghost use Rattle.spec_text.specs.declared.limits.TheConstants.{DAY_SECONDS};
 
 /// Every word has an answer, and only one: that which `reading` computes.
 #[tactic(auto, using(crate::proofs::Answering::one_answer, crate::proofs::Answering::reads_reading))]
 pub fn every_word_has_one_answer()
-    ensures one { (word : List ℕ) (a b : Result Decimal NumberFault) → Reads word a → Reads word b → a ≡ b }
+    ensures one { (word : List ℕ) (a b : Result Decimal NumberFault)
+        → Reads word a → Reads word b → a ≡ b }
     ensures computed { (word : List ℕ) → Reads word (reading word) }
 {}
 
@@ -29,7 +31,8 @@ pub fn whole_numbers_are_bounded()
 /// A number of days comes to no more seconds than the most days.
 #[tactic(auto, using(crate::proofs::Spans::seconds_few))]
 pub fn days_are_bounded()
-    ensures { (most : ℕ) (days : Decimal) → IfOk (seconds_within most days) (λ s. s ≤ 86400 * most) }
+    ensures { (most : ℕ) (days : Decimal)
+        → IfOk (seconds_within most days) (λ seconds. seconds ≤ DAY_SECONDS * most) }
 {}
 
 /// A line ends at its line feed; the last may do without.
@@ -46,8 +49,11 @@ pub fn lines_end_at_line_feeds()
 #[tactic(auto, using(crate::proofs::TokenLemmas::skip_one, crate::proofs::TokenLemmas::first_token, crate::proofs::TokenLemmas::last_token))]
 pub fn tokens_end_at_separators()
     ensures none { tokens [] ≡ [] }
-    ensures skipped { (b : ℕ) (rest : List ℕ) → is_separator b ≡ true → tokens (b ∷ rest) ≡ tokens rest }
-    ensures first { (word : List ℕ) (b : ℕ) (rest : List ℕ) → All (λ b. is_separator b ≡ false) word → 0 < length word
-        → is_separator b ≡ true → tokens (word ++ b ∷ rest) ≡ word ∷ tokens rest }
-    ensures last { (word : List ℕ) → All (λ b. is_separator b ≡ false) word → 0 < length word → tokens word ≡ word ∷ [] }
+    ensures skipped { (b : ℕ) (rest : List ℕ) → is_separator b ≡ true
+        → tokens (b ∷ rest) ≡ tokens rest }
+    ensures first { (word : List ℕ) (b : ℕ) (rest : List ℕ)
+        → All (λ b. is_separator b ≡ false) word → 0 < length word → is_separator b ≡ true
+        → tokens (word ++ b ∷ rest) ≡ word ∷ tokens rest }
+    ensures last { (word : List ℕ) → All (λ b. is_separator b ≡ false) word → 0 < length word
+        → tokens word ≡ word ∷ [] }
 {}

@@ -10,8 +10,8 @@ mod limits;
 pub use days::DaysFault;
 pub use decimals::{Decimal, Fault, NumberFault};
 pub use examples::{
-    decimals_are_read, decimals_are_refused, lines_are_cut_into_tokens, texts_are_cut_into_lines,
-    whole_numbers_are_read,
+    decimals_are_read, decimals_are_refused, julian_dates_are_seconds, lines_are_cut_into_tokens,
+    texts_are_cut_into_lines, whole_numbers_are_read,
 };
 pub use laws::{
     days_are_bounded, decimals_are_bounded, every_word_has_one_answer, lines_end_at_line_feeds,

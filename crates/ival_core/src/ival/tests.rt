@@ -4,320 +4,167 @@ ghost use Rattle.std.specs.Prelude.{pos};
 ghost use Rattle.spec_intervals.specs.Interval.{IsExponent};
 ghost use Rattle.spec_intervals.specs.Fraction.{Holds, fraction};
 
-use super::{Ival, Sign};
+use super::Ival;
 use std::process::Abort;
 
+/// Low end, high end, exponent.
+type Numbers = (i128, i128, i32);
+
+/// A rule that takes any two intervals; the last two don't look at the second.
+#[derive(Clone, Copy, Debug)]
+enum Rule {
+    Sum,
+    Difference,
+    Product,
+    Join,
+    Square,
+    Narrowed,
+}
+
 /// The interval of three numbers of a table.
-fn made(rt: &impl Abort, numbers: (i128, i128, i32)) -> Ival
+fn made(rt: &impl Abort, numbers: Numbers) -> Ival
     ensures { IsExponent result.s }
 {
     let (lo, hi, s) = numbers;
-    assert!(rt; lo <= hi && -65536 <= s && s <= 65536);
+    assert!(rt; lo <= hi);
+    assert!(rt; -65536 <= s);
+    assert!(rt; s <= 65536);
     let x = Ival::of(lo, hi, s);
     let (_, _, exponent) = x.parts();
-    assert!(rt; -65536 <= exponent && exponent <= 65536);
+    assert!(rt; -65536 <= exponent);
+    assert!(rt; exponent <= 65536);
     x
 }
 
 /// The same of numbers round 0, so that two such intervals have a number in common.
-fn made_round_zero(rt: &impl Abort, numbers: (i128, i128, i32)) -> Ival
+fn made_round_zero(rt: &impl Abort, numbers: Numbers) -> Ival
     ensures exponent { IsExponent result.s }
     ensures zero { Holds result (fraction (pos 0) 1) }
 {
     let (lo, hi, s) = numbers;
     assert!(rt; lo <= 0);
     assert!(rt; 0 <= hi);
-    assert!(rt; -65536 <= s && s <= 65536);
+    assert!(rt; -65536 <= s);
+    assert!(rt; s <= 65536);
     let x = Ival::of(lo, hi, s);
     let (_, _, exponent) = x.parts();
-    assert!(rt; -65536 <= exponent && exponent <= 65536);
+    assert!(rt; -65536 <= exponent);
+    assert!(rt; exponent <= 65536);
     x
 }
 
+fn result_of(rule: Rule, x: Ival, y: Ival) -> Ival
+    requires x { IsExponent x.s }
+    requires y { IsExponent y.s }
+{
+    match rule {
+        Rule::Sum => x.add(y),
+        Rule::Difference => x.sub(y),
+        Rule::Product => x.mul(y),
+        Rule::Join => x.join(y),
+        Rule::Square => x.signed_square(),
+        Rule::Narrowed => x,
+    }
+}
+
 #[test]
-fn ends_are_halved_until_they_fit(rt: HostRuntime) {
-    let rows = [
+fn results_are_those_of_the_reference(rt: HostRuntime) {
+    const LIMIT: i128 = 1 << 62;
+    let rows: [(Rule, Numbers, Numbers, Numbers); 16] = [
         (
-            (-4611686018427387905, 4611686018427387904, 35),
-            (-2305843009213693953, 2305843009213693952, 36),
+            Rule::Sum,
+            (1, LIMIT / 2, 7),
+            (-2962686340922807954, 1, 0),
+            (-23145987038459437, LIMIT / 2 + 1, 7),
         ),
         (
+            Rule::Sum,
+            (LIMIT, LIMIT, 5),
+            (57, 1009979979874690531, 176),
+            (228, 4039919919498762125, 174),
+        ),
+        (Rule::Sum, (-LIMIT, 1, -55), (0, 0, 0), (-LIMIT, 1, -55)),
+        (
+            Rule::Sum,
+            (3, 5, 0),
+            (1, 2, 60),
+            (LIMIT / 4 + 3, LIMIT / 2 + 5, 0),
+        ),
+        (
+            Rule::Sum,
+            (3, 5, 0),
+            (1, 2, 61),
+            (LIMIT / 4 + 1, LIMIT / 2 + 3, 1),
+        ),
+        (
+            Rule::Difference,
+            (0, 0, 0),
+            (-1, LIMIT / 2, -58),
+            (-LIMIT / 2, 1, -58),
+        ),
+        (
+            Rule::Difference,
+            (330115094508092324, 330115094508092324, 95),
+            (-LIMIT, 0, 0),
+            (2640920756064738592, 2640920756064738593, 92),
+        ),
+        (
+            Rule::Product,
+            (37, LIMIT / 2, 5),
+            (-3688276043547304886, LIMIT, -84),
+            (-3688276043547304886, LIMIT, -18),
+        ),
+        (
+            Rule::Product,
+            (-LIMIT, -LIMIT, -70),
+            (-LIMIT, LIMIT, 0),
+            (-LIMIT, LIMIT, -8),
+        ),
+        (
+            Rule::Product,
+            (-LIMIT, -1, -24),
+            (-1684600713502306984, LIMIT, -24),
+            (-LIMIT, 1684600713502306984, 14),
+        ),
+        (
+            Rule::Join,
+            (-LIMIT, -LIMIT, -84),
+            (-1, 283505592423530418, 115),
+            (-16, 4536089478776486688, 111),
+        ),
+        (Rule::Join, (1, 1, -84), (1, LIMIT, 20), (0, LIMIT, 20)),
+        (
+            Rule::Square,
+            (-3328034229942826194, LIMIT / 2, -24),
+            (0, 0, 0),
+            (-2401683850855062594, LIMIT / 4, 14),
+        ),
+        (
+            Rule::Narrowed,
+            (-LIMIT - 1, LIMIT, 35),
+            (0, 0, 0),
+            (-LIMIT / 2 - 1, LIMIT / 2, 36),
+        ),
+        (
+            Rule::Narrowed,
+            (i128::MIN, i128::MIN, 0),
+            (0, 0, 0),
+            (-LIMIT, -LIMIT, 65),
+        ),
+        (
+            Rule::Narrowed,
             (
                 -74917979586341425427519319270193852080,
                 137987181751532765372088780171896933339,
                 -84,
             ),
+            (0, 0, 0),
             (-2030655905643401157, 3740150055754099429, -19),
         ),
-        (
-            (4611686018427387904, 4611686018427387904, -38),
-            (4611686018427387904, 4611686018427387904, -38),
-        ),
-        ((-2, 4611686018427387905, 68), (-1, 2305843009213693953, 69)),
-        ((-8, 0, 92), (-8, 0, 92)),
-        ((0, i128::MAX, -54), (0, 4611686018427387904, 11)),
-        (
-            (i128::MIN, i128::MIN, 0),
-            (-4611686018427387904, -4611686018427387904, 65),
-        ),
-        (
-            (i128::MIN, i128::MAX, -65530),
-            (-4611686018427387904, 4611686018427387904, -65465),
-        ),
-        ((0, 0, 9), (0, 0, 0)),
     ];
-    for (numbers, want) in rows {
-        let x = made(&rt, numbers);
-        assert_eq!(rt; x.parts(), want, "narrowed {numbers:?}");
-    }
-}
-
-#[test]
-fn sums_are_those_of_the_reference(rt: HostRuntime) {
-    let rows = [
-        (
-            (1, 2305843009213693952, 7),
-            (-2962686340922807954, 1, 0),
-            (-23145987038459437, 2305843009213693953, 7),
-        ),
-        (
-            (-4611686018427387904, 822603562463560367, -193),
-            (-4611686018427387904, -4611686018427387904, -180),
-            (-2306124484190404608, -2305792801476727181, -179),
-        ),
-        (
-            (0, 52, 0),
-            (-4611686018427387904, -3601288864243662712, -66),
-            (-4503599627370496, 3743478006315764721, -56),
-        ),
-        (
-            (-4611686018427387904, 4611686018427387904, -24),
-            (-1, 0, -25),
-            (-2305843009213693953, 2305843009213693952, -23),
-        ),
-        (
-            (4611686018427387904, 4611686018427387904, 5),
-            (57, 1009979979874690531, 176),
-            (228, 4039919919498762125, 174),
-        ),
-        (
-            (-4611686018427387904, 1, -55),
-            (0, 0, 0),
-            (-4611686018427387904, 1, -55),
-        ),
-        (
-            (-2376712993055231122, 1, 5),
-            (1, 71, 5),
-            (-2376712993055231121, 72, 5),
-        ),
-        ((0, 30, 223), (-1, 1, -206), (-1, 4323455642275676161, 166)),
-        (
-            (3, 5, 0),
-            (1, 2, 60),
-            (1152921504606846979, 2305843009213693957, 0),
-        ),
-        (
-            (3, 5, 0),
-            (1, 2, 61),
-            (1152921504606846977, 2305843009213693955, 1),
-        ),
-        (
-            (-3, 5, 0),
-            (-4611686018427387904, 4611686018427387904, 200),
-            (-2305843009213693953, 2305843009213693953, 201),
-        ),
-    ];
-    for (first, second, want) in rows {
-        let sum = made(&rt, first).add(made(&rt, second));
-        assert_eq!(rt; sum.parts(), want, "{first:?} and {second:?}");
-    }
-}
-
-#[test]
-fn products_are_those_of_the_reference(rt: HostRuntime) {
-    let rows = [
-        (
-            (-1, 1, -84),
-            (-4611686018427387904, 0, 270),
-            (-4611686018427387904, 4611686018427387904, 186),
-        ),
-        (
-            (37, 2305843009213693952, 5),
-            (-3688276043547304886, 4611686018427387904, -84),
-            (-3688276043547304886, 4611686018427387904, -18),
-        ),
-        (
-            (-4611686018427387904, -4611686018427387904, -70),
-            (-4611686018427387904, 4611686018427387904, 0),
-            (-4611686018427387904, 4611686018427387904, -8),
-        ),
-        (
-            (1, 1444167062438933748, 5),
-            (-1, 49, -24),
-            (-90260441402433360, 4422761628719234604, -15),
-        ),
-        (
-            (0, 0, 0),
-            (3509181583370502290, 3509181583370502290, -84),
-            (0, 0, 0),
-        ),
-        (
-            (89, 2305843009213693952, -84),
-            (-1645630684840927248, 36, 5),
-            (-3291261369681854496, 72, -19),
-        ),
-        (
-            (-4611686018427387904, -1, -24),
-            (-1684600713502306984, 4611686018427387904, -24),
-            (-4611686018427387904, 1684600713502306984, 14),
-        ),
-        (
-            (-1, 4611686018427387904, -208),
-            (-1, 96, 0),
-            (-36028797018963968, 3458764513820540928, -201),
-        ),
-        (
-            (-84, 0, -1),
-            (2305843009213693952, 4611686018427387904, -84),
-            (-3026418949592973312, 0, -78),
-        ),
-    ];
-    for (first, second, want) in rows {
-        let product = made(&rt, first).mul(made(&rt, second));
-        assert_eq!(rt; product.parts(), want, "{first:?} and {second:?}");
-    }
-}
-
-#[test]
-fn decimals_are_rounded_down_and_up(rt: HostRuntime) {
-    assert_eq!(rt;
-        Ival::from_decimal(990734045308599232, -99, -24).parts(),
-        (0, 1, -24)
-    );
-    assert_eq!(rt;
-        Ival::from_decimal(-545087177546552042, -10, -24).parts(),
-        (-914504531652886, -914504531652885, -24)
-    );
-    assert_eq!(rt;
-        Ival::from_decimal(343597383680000001, -7, -24).parts(),
-        (576460752303423489, 576460752303423490, -24)
-    );
-    assert_eq!(rt;
-        Ival::from_decimal(1, 10, -24).parts(),
-        (167772160000000000, 167772160000000000, -24)
-    );
-    assert_eq!(rt;
-        Ival::from_decimal(i64::MIN, -32768, -24).parts(),
-        (-1, 0, -24)
-    );
-    assert_eq!(rt; Ival::from_decimal(0, 32767, -24).parts(), (0, 0, -24));
-    assert_eq!(rt;
-        Ival::from_decimal(-101531421489396967, -38, -24).parts(),
-        (-1, 0, -24)
-    );
-    assert_eq!(rt;
-        Ival::from_decimal(91319707426209450, -17, -60).parts(),
-        (1052844544860824564, 1052844544860824565, -60)
-    );
-    assert_eq!(rt;
-        Ival::from_decimal(-61061034432209295, -17, -60).parts(),
-        (-703985796904332306, -703985796904332305, -60)
-    );
-    assert_eq!(rt;
-        Ival::from_decimal(1, 0, -60).parts(),
-        (1152921504606846976, 1152921504606846976, -60)
-    );
-}
-
-#[test]
-fn a_sign_is_told_where_all_numbers_have_it(rt: HostRuntime) {
-    let rows = [
-        ((0, 4, 3), Sign::Yes),
-        ((-1, 4, 3), Sign::Open),
-        ((-4, 0, 3), Sign::Open),
-        ((-4, -1, 3), Sign::No),
-    ];
-    for (numbers, want) in rows {
-        let x = made(&rt, numbers);
-        assert_eq!(rt; x.sign(), want, "the sign of {numbers:?}");
-    }
-    assert_eq!(rt; Ival::zero().sign(), Sign::Yes);
-}
-
-#[test]
-fn differences_are_those_of_the_reference(rt: HostRuntime) {
-    let rows = [
-        ((-1, 1, 5), (0, 0, 0), (-1, 1, 5)),
-        (
-            (0, 0, 0),
-            (-1, 2305843009213693952, -58),
-            (-2305843009213693952, 1, -58),
-        ),
-        (
-            (-2517535504047535676, 1, -24),
-            (-51, 2305843009213693952, -182),
-            (-2517535504047535677, 2, -24),
-        ),
-        (
-            (-4611686018427387904, 26, 5),
-            (0, 1, 233),
-            (-1152921504606846977, 1, 173),
-        ),
-        (
-            (-30, 4611686018427387904, 0),
-            (-1, 0, -24),
-            (-15, 2305843009213693953, 1),
-        ),
-        (
-            (330115094508092324, 330115094508092324, 95),
-            (-4611686018427387904, 0, 0),
-            (2640920756064738592, 2640920756064738593, 92),
-        ),
-        (
-            (-1, 0, 0),
-            (-4611686018427387904, -1, 0),
-            (0, 4611686018427387904, 0),
-        ),
-    ];
-    for (first, second, want) in rows {
-        let difference = made(&rt, first).sub(made(&rt, second));
-        assert_eq!(rt; difference.parts(), want, "{first:?} and {second:?}");
-    }
-}
-
-#[test]
-fn joins_are_those_of_the_reference(rt: HostRuntime) {
-    let rows = [
-        (
-            (-4449929276295673026, 1, -18),
-            (-37, 0, 21),
-            (-4449929276295673026, 1, -18),
-        ),
-        (
-            (-4611686018427387904, -4611686018427387904, -84),
-            (-1, 283505592423530418, 115),
-            (-16, 4536089478776486688, 111),
-        ),
-        ((0, 1, -176), (0, 1, 0), (0, 1152921504606846976, -60)),
-        (
-            (63, 2305843009213693952, 0),
-            (-23, -23, 0),
-            (-23, 2305843009213693952, 0),
-        ),
-        (
-            (-1, -1, -24),
-            (0, 2305843009213693952, -40),
-            (-65536, 2305843009213693952, -40),
-        ),
-        (
-            (1, 1, -84),
-            (1, 4611686018427387904, 20),
-            (0, 4611686018427387904, 20),
-        ),
-    ];
-    for (first, second, want) in rows {
-        let joined = made(&rt, first).join(made(&rt, second));
-        assert_eq!(rt; joined.parts(), want, "{first:?} and {second:?}");
+    for (rule, first, second, want) in rows {
+        let found = result_of(rule, made(&rt, first), made(&rt, second));
+        assert_eq!(rt; found.parts(), want, "{rule:?} {first:?} {second:?}");
     }
 }
 
@@ -331,24 +178,9 @@ fn meets_are_those_of_the_reference(rt: HostRuntime) {
             (-3484666515601357, 4503599627370496, -55),
         ),
         (
-            (-23, 4611686018427387904, 39),
-            (-12, 2305843009213693953, 40),
-            (-23, 4611686018427387904, 39),
-        ),
-        (
             (-4611686018427387904, 1, -84),
             (-1, 3822888174689735080, -3),
             (-2199023255552, 1, -63),
-        ),
-        (
-            (0, 1, -14),
-            (-4611686018427387904, 557107634436436159, 5),
-            (0, 1, -14),
-        ),
-        (
-            (0, 4611686018427387904, 5),
-            (0, 2305843009213693953, 6),
-            (0, 4611686018427387904, 5),
         ),
     ];
     for (first, second, want) in rows {
@@ -358,74 +190,41 @@ fn meets_are_those_of_the_reference(rt: HostRuntime) {
 }
 
 #[test]
-fn signed_squares_are_those_of_the_reference(rt: HostRuntime) {
-    let rows = [
-        ((-1, 0, 0), (-1, 0, 0)),
-        (
-            (-3328034229942826194, 2305843009213693952, -24),
-            (-2401683850855062594, 1152921504606846976, 14),
-        ),
-        ((-98, -98, -203), (-9604, -9604, -406)),
-        (
-            (-4611686018427387904, -94, -55),
-            (-4611686018427387904, 0, -48),
-        ),
-        ((1, 80, -24), (1, 6400, -48)),
-        (
-            (2305843009213693952, 2305843009213693952, 5),
-            (4611686018427387904, 4611686018427387904, 70),
-        ),
-    ];
-    for (numbers, want) in rows {
-        let square = made(&rt, numbers).signed_square();
-        assert_eq!(rt; square.parts(), want, "the square of {numbers:?}");
-    }
+fn decimals_are_rounded_down_and_up(rt: HostRuntime) {
+    let length = Ival::from_decimal(-545087177546552042, -10, -24).parts();
+    assert_eq!(rt; length, (-914504531652886, -914504531652885, -24));
+    let least = Ival::from_decimal(i64::MIN, -32768, -24).parts();
+    assert_eq!(rt; least, (-1, 0, -24));
+    let zero = Ival::from_decimal(0, 32767, -24).parts();
+    assert_eq!(rt; zero, (0, 0, -24));
+    let cosine = Ival::from_decimal(91319707426209450, -17, -60).parts();
+    assert_eq!(rt; cosine, (1052844544860824564, 1052844544860824565, -60));
 }
 
 #[test]
 fn shares_of_a_second_are_those_of_the_reference(rt: HostRuntime) {
-    let rows: [((i128, i128, i32), i64, (i128, i128, i32)); 7] = [
+    const MOST: i128 = (1 << 126) - 1;
+    let rows: [(Numbers, i64, Numbers); 4] = [
         (
-            (-85070591730234615865843651857942052863, 0, -70),
+            (-MOST, 0, -70),
             1099511627776,
             (-4611686018427387904, 0, -45),
         ),
+        ((-1, MOST, -74), 2, (-1, 4611686018427387904, -10)),
         (
-            (-85070591730234615865843651857942052863, 1, -70),
-            534192108381,
-            (-2373023824837388508, 1, -43),
-        ),
-        (
-            (-1, 85070591730234615865843651857942052863, -74),
-            2,
-            (-1, 4611686018427387904, -10),
-        ),
-        (
-            (
-                4611686018427387904,
-                85070591730234615865843651857942052863,
-                -70,
-            ),
-            9223372036854775807,
+            (4611686018427387904, MOST, -70),
+            i64::MAX,
             (0, 2305843009213693953, -67),
         ),
         ((-2, -1, -74), 7, (-1, 0, -74)),
-        (
-            (-4611686018427387905, 4611686018427387905, -74),
-            579227286752,
-            (-15923580, 15923580, -74),
-        ),
-        (
-            (-1, 4611686018427387905, -74),
-            1,
-            (-1, 2305843009213693953, -72),
-        ),
     ];
-    let most: i128 = 1 << 126;
     for ((lo, hi, s), seconds, want) in rows {
-        assert!(rt;
-            -most < lo && lo <= hi && hi < most && -65536 <= s && s <= 65536 && seconds >= 1
-        );
+        assert!(rt; -MOST <= lo);
+        assert!(rt; lo <= hi);
+        assert!(rt; hi <= MOST);
+        assert!(rt; -65536 <= s);
+        assert!(rt; s <= 65536);
+        assert!(rt; seconds >= 1);
         let share = Ival::scale(lo, hi, s, seconds);
         assert_eq!(rt; share.parts(), want, "{lo} to {hi} over {seconds}");
     }

@@ -1,19 +1,12 @@
 use Rattle.std.proofs.Common.{◌≡◌, ◌<◌, IsTrue, ℕ, zero, suc, Bool, true, false, ◌&&◌, List, [], ◌∷◌, length, slice_index_or, rules, refl, arith}
 use Rattle.std.specs.List.{list_all}
+use Rattle.spec_numbers.proofs.Booleans.{both_first, both_second}
 use Rattle.spec_ephemeris.specs.declared.body.Body.{Body}
 use Rattle.spec_ephemeris.specs.Header.{has_column}
 use Rattle.spec_ephemeris.specs.Ephemeris.{Ephemeris}
 use Rattle.spec_bodies.specs.Sources.{source_of, needed}
 use Rattle.spec_bodies.specs.Views.{HasColumns}
 use Rattle.body_states.proofs.tests.states.Goals as goal
-
-both_first : (a b : Bool) → (a && b) ≡ true → a ≡ true
-both_first true b holds = refl
-both_first false b holds = holds
-
-both_second : (a b : Bool) → (a && b) ≡ true → b ≡ true
-both_second true b holds = holds
-both_second false b holds = absurd (cc)
 
 -- what a test finds of all
 each : (test : ℕ → Bool) (xs : List ℕ) → list_all test xs ≡ true → (i : ℕ) (d : ℕ) → i < length xs → IsTrue (test (slice_index_or xs i d))

@@ -7,4 +7,4 @@ pub returns-clause-moves : goal.returns-clause-moves
 unfolding says
 returns-clause-moves c = λ file rest.
     values_passed c.args.facts c.args.left c.words_here-here.result _ rest c.requires.0 c.words_here-here.ensures
-    ∙ sym (c.to_more_values.ensures.says file rest)
+    ∙ sym (c.to_more_values.ensures.place file rest)

@@ -8,4 +8,4 @@ unfolding says
 returns-clause-moves c = λ file rest.
     names_passed c.args.shape c.args.count c.args.left c.words_here-here.result c.args.passed c.args.emrat _ _ rest
     c.requires.0 c.words_here-here.ensures c.emrat_or-emrat.ensures
-    ∙ sym (c.to_names.ensures.says file rest)
+    ∙ sym (c.to_names.ensures.place file rest)

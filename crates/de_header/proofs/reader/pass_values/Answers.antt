@@ -24,4 +24,4 @@ returns-in-Ok-clause-moves c = λ file rest.
     let word = slice_get-get_or c.args.line.now.tokens c.args.before [] within in
     value_here c.args.shape c.args.left c.words_here-here.result c.args.before _ rest _ c.in-Ok.emrat c.words_here-here.ensures
     (omega (arith, c.if-here-before.false)) word (sym (c.mass_ratio.ensures _ word) ∙ c.in-Ok.is)
-    ∙ sym (c.to_more_values.ensures.says file rest)
+    ∙ sym (c.to_more_values.ensures.place file rest)

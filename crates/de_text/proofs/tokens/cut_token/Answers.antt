@@ -2,7 +2,7 @@ use Rattle.std.proofs.Common.{◌<◌, ◌∷◌, length, sym, ap, ◌∙◌, ar
 use Rattle.std.proofs.lemmas.List.{take_rest}
 use Rattle.spec_text.specs.Lines.{tokens}
 use Rattle.spec_text.proofs.TokenLemmas.{blank_line}
-use Rattle.de_text.proofs.TokenPlaces.{token_behind, some_len}
+use Rattle.de_text.proofs.TokenPlaces.{token_after, some_len}
 use Rattle.de_text.proofs.tokens.cut_token.Goals as goal
 
 pub returns-then-start-line-clause-blank : goal.returns-then-start-line-clause-blank
@@ -12,7 +12,7 @@ pub returns-clause-token : goal.returns-clause-token
 returns-clause-token c =
     let start = c.blank_len-start.result in
     let below : start < length c.args.line.now = omega (arith, c.blank_len-start.ensures.within, c.if-start-line.false) in
-    token_behind c.args.line.now _ start c.token_len-end.result (take_rest c.args.line.now start) below c.blank_len-start.ensures.before
+    token_after c.args.line.now _ start c.token_len-end.result (take_rest c.args.line.now start) below c.blank_len-start.ensures.before
     (c.blank_len-start.ensures.at below) c.token_len-end.ensures.within c.token_len-end.ensures.before c.token_len-end.ensures.at
     ∙ (λ i. sym c.split_at.ensures.front i ∷ tokens (sym c.split_at.ensures.back i))
 

@@ -8,12 +8,12 @@ pub returns-in-Some : goal.returns-in-Some
 unfolding title
 returns-in-Some c =
     let P : Option Kind → Type 0 =
-        λ found. OnOk c.add_kind.result (c.add_kind.new.text.items ≡ c.args.text.now.items ++ kind_title found c.args.detail) in
+    λ found. OnOk c.add_kind.result (c.add_kind.new.text.items ≡ c.args.text.now.items ++ kind_title found c.args.detail) in
     subst P (sym c.in-Some.ensures.found) c.add_kind.ensures
 
 pub returns-in-None : goal.returns-in-None
 unfolding title
 returns-in-None c =
     let P : Option Kind → Type 0 =
-        λ found. c.args.text.now.items ≡ c.args.text.now.items ++ kind_title found c.args.detail in
+    λ found. c.args.text.now.items ≡ c.args.text.now.items ++ kind_title found c.args.detail in
     subst P (sym c.in-None.ensures.not_found) (sym (append-nil c.args.text.now.items))

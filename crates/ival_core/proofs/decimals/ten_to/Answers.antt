@@ -1,4 +1,4 @@
-use Rattle.ival_core.proofs.Powers.{ten_fits}
+use Rattle.spec_numbers.proofs.Naturals.{ten_fits}
 use Rattle.ival_core.proofs.decimals.ten_to.Goals as goal
 
 pub pow-requires : goal.pow-requires

@@ -4,7 +4,8 @@ use mir.Syntax.{w128}
 use mir.Val.{SFits}
 use Rattle.spec_numbers.specs.Numbers.{floor_div, ceil_div}
 use Rattle.spec_numbers.proofs.Floor.{ordered_quotients}
-use Rattle.ival_core.proofs.Aligning.{scale-is, doubles_ordered}
+use Rattle.ival_core.proofs.Aligning.{scale-is}
+use Rattle.spec_numbers.proofs.Integers.{doubles_ordered}
 use Rattle.ival_core.proofs.ival.scaled.Goals as goal
 use Rattle.ival_core.proofs.ival.scaled.Goals.{After-share_up}
 

@@ -18,6 +18,6 @@ pub returns-clause-first_of_two : goal.returns-clause-first_of_two
 unfolding blocks
 returns-clause-first_of_two c = refl
 
-pub returns-clause-of_a_block_passed_over : goal.returns-clause-of_a_block_passed_over
+pub returns-clause-of_a_skipped_block : goal.returns-clause-of_a_skipped_block
 unfolding blocks
-returns-clause-of_a_block_passed_over c = refl
+returns-clause-of_a_skipped_block c = refl

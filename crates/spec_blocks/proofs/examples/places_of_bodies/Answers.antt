@@ -10,8 +10,8 @@ returns-clause-mercury c = refl
 pub returns-clause-sun : goal.returns-clause-sun
 returns-clause-sun c = refl
 
-pub returns-clause-behind : goal.returns-clause-behind
-returns-clause-behind c = refl
+pub returns-clause-after : goal.returns-clause-after
+returns-clause-after c = refl
 
 pub returns-clause-least_size : goal.returns-clause-least_size
 returns-clause-least_size c = refl

@@ -22,6 +22,10 @@ pub returns-clause-other_count : goal.returns-clause-other_count
 unfolding blocks
 returns-clause-other_count c = refl
 
-pub returns-clause-behind_a_block : goal.returns-clause-behind_a_block
+pub returns-clause-record_zero : goal.returns-clause-record_zero
 unfolding blocks
-returns-clause-behind_a_block c = refl
+returns-clause-record_zero c = refl
+
+pub returns-clause-after_a_block : goal.returns-clause-after_a_block
+unfolding blocks
+returns-clause-after_a_block c = refl

@@ -22,18 +22,15 @@ pub returns-clause-half : goal.returns-clause-half
 unfolding blocks
 returns-clause-half c = refl
 
-pub returns-clause-passed_over : goal.returns-clause-passed_over
+pub returns-clause-skipped : goal.returns-clause-skipped
 unfolding blocks
-returns-clause-passed_over c = refl
+returns-clause-skipped c = refl
 
 pub returns-clause-most : goal.returns-clause-most
-unfolding blocks
 returns-clause-most c = refl
 
 pub returns-clause-too_many : goal.returns-clause-too_many
-unfolding blocks
 returns-clause-too_many c = refl
 
-pub returns-clause-one_more_passed_over : goal.returns-clause-one_more_passed_over
-unfolding blocks
-returns-clause-one_more_passed_over c = refl
+pub returns-clause-one_more_skipped : goal.returns-clause-one_more_skipped
+returns-clause-one_more_skipped c = refl

@@ -19,5 +19,5 @@ returns-clause-too_late c = refl
 pub returns-clause-too_early : goal.returns-clause-too_early
 returns-clause-too_early c = refl
 
-pub returns-clause-part_of_a_second : goal.returns-clause-part_of_a_second
-returns-clause-part_of_a_second c = refl
+pub returns-clause-part : goal.returns-clause-part
+returns-clause-part c = refl

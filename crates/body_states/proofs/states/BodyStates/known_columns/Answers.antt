@@ -7,15 +7,15 @@ use Rattle.body_states.proofs.states.BodyStates.known_columns.Goals as goal
 
 pub loop-number-init : goal.loop-number-init
 loop-number-init c =
-    let a = c.args.asked.now.first in
-    let b = c.args.asked.now.last in (
+    let a = c.args.times.now.first in
+    let b = c.args.times.now.last in (
       All-replicate (IsKnown c.args.self.now a b) 12 c.unknown-columns.result (unknown_is_known c.args.self.now a b c.unknown-columns.result c.unknown-columns.ensures),
       refl,
     )
 
 pub loop-number-preserved : goal.loop-number-preserved
 loop-number-preserved c = (
-  All-set (IsKnown c.args.self.now c.args.asked.now.first c.args.asked.now.last) c.loop-number.columns _ c.column_motions.result c.column_motions.ensures c.loop-number.invariant.0,
+  All-set (IsKnown c.args.self.now c.args.times.now.first c.args.times.now.last) c.loop-number.columns _ c.column_motions.result c.column_motions.ensures c.loop-number.invariant.0,
   length-set c.loop-number.columns _ c.column_motions.result ∙ c.loop-number.invariant.1,
 )
 

@@ -4,4 +4,4 @@ use Rattle.body_states.specs.Answers.{IsKnown}
 use Rattle.body_states.proofs.states.BodyStates.known_columns.Given as goal
 
 abbrev pub invariant-loop-number : goal.invariant-loop-number
-invariant-loop-number l = All (IsKnown l.fn.self l.fn.asked.first l.fn.asked.last) l.columns × (length l.columns ≡ 12)
+invariant-loop-number l = All (IsKnown l.fn.self l.fn.times.first l.fn.times.last) l.columns × (length l.columns ≡ 12)

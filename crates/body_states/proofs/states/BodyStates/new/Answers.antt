@@ -10,13 +10,11 @@ invariant_of-result c =
       record {
         checked = c.header.ensures.checked;
         block = c.requires.block;
-        first = subst (IsThere c.args.eph.now) (sym c.source_of-first.ensures) (body_there c.args.eph.now _ (c.requires.present 1 _ (omega (arith, two))));
-        second = subst (IsThere c.args.eph.now) (sym c.source_of-second.ensures) (body_there c.args.eph.now _ (c.requires.present 2 _ (omega (arith, two))));
-        observer = subst (IsThere c.args.eph.now) (sym c.source_of-observer.ensures) (body_there c.args.eph.now _ (c.requires.present 0 Ssb (omega (arith, two))));
+        first = subst (IsThere c.args.ephemeris.now) (sym c.source_of-first.ensures) (body_there c.args.ephemeris.now _ (c.requires.present 1 _ (omega (arith, two))));
+        second = subst (IsThere c.args.ephemeris.now) (sym c.source_of-second.ensures) (body_there c.args.ephemeris.now _ (c.requires.present 2 _ (omega (arith, two))));
+        observer = subst (IsThere c.args.ephemeris.now) (sym c.source_of-observer.ensures) (body_there c.args.ephemeris.now _ (c.requires.present 0 Ssb (omega (arith, two))));
       },
-      c.of-2.ensures.numbers,
-      c.of-2.ensures.few,
-      rw c.header.ensures.same at c.of.ensures.moon_share,
-      c.of.ensures.cosine,
-      c.of.ensures.sine,
+      c.of.ensures.numbers,
+      c.of.ensures.few,
+      rw c.header.ensures.same at c.new.ensures,
     )

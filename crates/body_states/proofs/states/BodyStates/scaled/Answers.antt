@@ -1,18 +1,48 @@
-use Rattle.body_states.proofs.Good.{good_encloses, good_within, factor_number, unchanging_within, constant_encloses}
+use Rattle.std.proofs.Common.{◌∙◌, ap, sym, subst}
+use Rattle.spec_intervals.specs.Enclosure.{Encloses, AllWithin, constant_of, product_of}
+use Rattle.spec_expressions.specs.Expression.{part_exponent}
+use Rattle.event_expr.specs.States.{parts}
+use Rattle.body_states.proofs.Good.{good_encloses, good_within, factor_number, factor_within, constant_within, constant_encloses}
 use Rattle.body_states.proofs.states.BodyStates.scaled.Goals as goal
 
+pub constant-constant-requires-clause-within : goal.constant-constant-requires-clause-within
+constant-constant-requires-clause-within c =
+    let e = ap (λ v. v.ephemeris) c.self.view_is in
+    let same = c.interval.ensures ∙ (rw e at (c.self.invariant.3 c.args.factor)) in
+    rw same (factor_within c.args.self.now c.requires.question.fits.view c.args.factor)
+
 pub constant-constant-requires-clause-number : goal.constant-constant-requires-clause-number
-constant-constant-requires-clause-number c = factor_number c.args.factor c.requires.number.number c.requires.number.is_fraction c.requires.number.is
+constant-constant-requires-clause-number c =
+    let e = ap (λ v. v.ephemeris) c.self.view_is in
+    let same = c.interval.ensures ∙ (rw e at (c.self.invariant.3 c.args.factor)) in
+    rw same (factor_number c.args.self.now c.requires.question.fits.view c.args.factor)
 
 pub product-requires-clause-x_within : goal.product-requires-clause-x_within
-product-requires-clause-x_within c = unchanging_within _ _ c.args.factor _ c.requires.factor c.constant-constant.ensures
+product-requires-clause-x_within c =
+    let a = c.args.question.now.times.now.first in
+    let b = c.args.question.now.times.now.last in
+    let e = ap (λ v. v.ephemeris) c.self.view_is in
+    let same = c.interval.ensures ∙ (rw e at (c.self.invariant.3 c.args.factor)) in
+    subst (AllWithin part_exponent) (sym (c.constant-constant.ensures ∙ ap (constant_of a b) same)) (constant_within c.args.self.now c.requires.question.fits.view c.args.factor a b)
 
 pub product-requires-clause-y_within : goal.product-requires-clause-y_within
-product-requires-clause-y_within c = good_within c.args.self.now c.args.asked.now c.requires.asked.fits _ c.requires.x
+product-requires-clause-y_within c = good_within c.args.self.now c.args.question.now c.requires.question.fits _ c.requires.x
 
 pub product-requires-clause-x_encloses : goal.product-requires-clause-x_encloses
 product-requires-clause-x_encloses c =
-    rw (c.span-2.ensures.first, c.span-2.ensures.last) (constant_encloses c.args.asked.now.first c.args.asked.now.last c.requires.asked.fits.ordered c.args.factor c.requires.number.number _ c.requires.number.is_fraction c.requires.number.is (rw (c.span.ensures.first, c.span.ensures.last) at c.constant-constant.ensures))
+    let a = c.args.question.now.times.now.first in
+    let b = c.args.question.now.times.now.last in
+    let e = ap (λ v. v.ephemeris) c.self.view_is in
+    let same = c.interval.ensures ∙ (rw e at (c.self.invariant.3 c.args.factor)) in
+    subst (Encloses a b) (sym (c.constant-constant.ensures ∙ ap (constant_of a b) same)) (constant_encloses c.args.self.now c.requires.question.fits.view c.args.factor a b c.requires.question.fits.ordered)
 
 pub product-requires-clause-y_encloses : goal.product-requires-clause-y_encloses
-product-requires-clause-y_encloses c = rw (c.span-2.ensures.first, c.span-2.ensures.last) (good_encloses c.args.self.now c.args.asked.now c.requires.asked.fits _ c.requires.x)
+product-requires-clause-y_encloses c = good_encloses c.args.self.now c.args.question.now c.requires.question.fits _ c.requires.x
+
+pub returns : goal.returns
+returns c =
+    let a = c.args.question.now.times.now.first in
+    let b = c.args.question.now.times.now.last in
+    let e = ap (λ v. v.ephemeris) c.self.view_is in
+    let same = c.interval.ensures ∙ (rw e at (c.self.invariant.3 c.args.factor)) in
+    c.product.ensures ∙ ap (λ k. product_of a b k (parts c.args.x)) (c.constant-constant.ensures ∙ ap (constant_of a b) same)

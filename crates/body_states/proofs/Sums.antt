@@ -1,0 +1,56 @@
+-- Sums over bases that are made once are the intervals of the series.
+use Rattle.std.proofs.Common.{◌≡◌, ◌∙◌, ℕ, ◌<◌, true, refl, arith, List, ℤ, ◌+ℤ◌, ◌≤ℤ◌, unsigned_abs}
+use Rattle.std.proofs.lemmas.Int.{ints}
+use lib.Signed.{lt_z}
+use Rattle.spec_chebyshev.specs.declared.ends.Ival62.{Ival62}
+use Rattle.spec_intervals.specs.Interval.{Interval}
+use Rattle.spec_intervals.specs.Enclosure.{middle}
+use Rattle.spec_intervals.proofs.Centred.{middle_between}
+use Rattle.spec_ephemeris.specs.Granules.{series_of}
+use Rattle.spec_ephemeris.specs.Series.{Series}
+use Rattle.spec_motions.specs.Enclosures.{arguments, coefficients_of}
+use Rattle.spec_motions.proofs.GranuleSeries.{IsSeries-of, IsSpan-of}
+use Rattle.spec_bodies.specs.declared.quantity.Quantity.{Quantity}
+use Rattle.spec_bodies.specs.declared.quantity.Quantity.TheVariants.{Position, Velocity}
+use Rattle.spec_bodies.specs.Views.{value_interval, step_interval}
+use Rattle.body_states.specs.declared.granule_span.GranuleSpan.{GranuleSpan}
+use Rattle.cheby_enclose.specs.declared.positions.Bases.{Bases}
+use Rattle.body_states.specs.Bases.{IsCentre, IsWhole, value_over, step_over}
+use Rattle.body_states.proofs.SeriesParts.{AreParts, series_parts}
+
+pub value_over-arguments : (quantity : Quantity) (s : Series) (a b : ℤ) → value_over quantity (coefficients_of s) (arguments s a b) s.duration ≡ value_interval quantity s a b
+value_over-arguments Position s a b = refl
+value_over-arguments Velocity s a b = refl
+
+pub step_over-arguments : (quantity : Quantity) (s : Series) (a b : ℤ) → lt_z a b ≡ true → step_over quantity (coefficients_of s) (arguments s a b) s.duration ≡ step_interval quantity s a b
+step_over-arguments Position s a b several = rw several refl
+step_over-arguments Velocity s a b several = rw several refl
+
+pub span_parts : (s : GranuleSpan) (quantity : Quantity) (axis : ℕ) → axis < 3
+    → AreParts s.times.now.first s.times.now.last (value_interval quantity (series_of s.granule axis) (middle s.times.now.first s.times.now.last) (middle s.times.now.first s.times.now.last)) (value_interval quantity (series_of s.granule axis) s.times.now.first s.times.now.last) (step_interval quantity (series_of s.granule axis) s.times.now.first s.times.now.last)
+span_parts s quantity axis three =
+    let within : axis < s.granule.comps = rw s.axes three in
+    series_parts (series_of s.granule axis) quantity s.times.now.first s.times.now.last (IsSeries-of s.granule s.evaluable axis within)
+    (IsSpan-of s.granule s.evaluable axis within s.times.now.first s.times.now.last s.from s.order s.upto)
+
+-- ---- the times and their middle are within the granule, and near
+pub middle_near : (s : GranuleSpan) → (s.granule.start ≤ℤ middle s.times.now.first s.times.now.last) × (middle s.times.now.first s.times.now.last ≤ℤ (s.granule.start +ℤ s.granule.seconds))
+middle_near s =
+    let between = middle_between s.times.now.first s.times.now.last s.order in
+    let from = s.from in
+    let upto = s.upto in
+    (omega (arith, ints, between.0, from), omega (arith, ints, between.1, upto))
+
+-- ---- sums by the coefficients of an axis are the intervals of its series
+module _ (s : GranuleSpan) (quantity : Quantity) (axis : ℕ) (terms : List Ival62) (are : terms ≡ coefficients_of (series_of s.granule axis)) (t : Interval) where
+  pub mid_is : (bases : Bases) → IsCentre s bases → t ≡ value_over quantity terms bases.arguments (unsigned_abs s.granule.seconds)
+      → t ≡ value_interval quantity (series_of s.granule axis) (middle s.times.now.first s.times.now.last) (middle s.times.now.first s.times.now.last)
+  mid_is bases is e = e ∙ (λ i. value_over quantity (are i) (is.over axis i) (unsigned_abs s.granule.seconds)) ∙ value_over-arguments quantity (series_of s.granule axis) _ _
+
+  pub range_is : (bases : Bases) → IsWhole s bases → t ≡ value_over quantity terms bases.arguments (unsigned_abs s.granule.seconds)
+      → t ≡ value_interval quantity (series_of s.granule axis) s.times.now.first s.times.now.last
+  range_is bases is e = e ∙ (λ i. value_over quantity (are i) (is.over axis i) (unsigned_abs s.granule.seconds)) ∙ value_over-arguments quantity (series_of s.granule axis) _ _
+
+  pub step_is : (bases : Bases) → IsWhole s bases → lt_z s.times.now.first s.times.now.last ≡ true → t ≡ step_over quantity terms bases.arguments (unsigned_abs s.granule.seconds)
+      → t ≡ step_interval quantity (series_of s.granule axis) s.times.now.first s.times.now.last
+  step_is bases is several e = e ∙ (λ i. step_over quantity (are i) (is.over axis i) (unsigned_abs s.granule.seconds)) ∙ step_over-arguments quantity (series_of s.granule axis) _ _ several

@@ -1,0 +1,11 @@
+use Rattle.std.proofs.Common.{rules, ◌∙◌, FitsSigned, w64}
+use Rattle.std.proofs.lemmas.Int.{to_z-of_z}
+use Rattle.body_states.proofs.granule_span.GranuleSpan.whole.Goals as goal
+
+pub returns : goal.returns
+returns c =
+    let fa : FitsSigned w64 c.first.result = search rules in
+    let fb : FitsSigned w64 c.last.result = search rules in
+    let sa = to_z-of_z w64 c.first.result fa ∙ c.first.ensures in
+    let sb = to_z-of_z w64 c.last.result fb ∙ c.last.ensures in
+    record { over = λ axis. c.all_bases.ensures.arguments ∙ (rw (sa, sb) at (c.arguments-arguments.ensures.equals axis)); rows = c.all_bases.ensures.rows }

@@ -1,7 +1,7 @@
 #!/bin/sh
 # Times entries into the ledger by 1 and by 4 seats, each in a thread of its own, beside a C program that does the same
 # under a pthread mutex with the ordered tree of the C library as its index, in one run, and prints entries a second and
-# their ratio. All leaves are different. Run by hand, once `rt run` in crates/measure_ledger has built the program.
+# the ratio of the times. All leaves are different. Run by hand, once `rt run` in crates/measure_ledger has built the program.
 set -e
 cd "$(dirname "$0")/.."
 ours=crates/measure_ledger/out/measure_ledger
@@ -24,7 +24,7 @@ measure() {
     done
     cmp "$work/ours.out" "$work/peer.out"
     awk -v a="$(least ours.times)" -v b="$(least peer.times)" -v n="$1" -v m="$2" 'BEGIN {
-        printf "%d seats, %d leaves: ours %.0f entries a second, C %.0f, ratio %.2f\n", n, n * m, n * m / a, n * m / b, b / a
+        printf "%d seats, %d leaves: ours %.0f entries a second, C %.0f, ratio %.2f\n", n, n * m, n * m / a, n * m / b, a / b
     }'
 }
 

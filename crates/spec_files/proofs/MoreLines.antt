@@ -4,6 +4,7 @@ use Rattle.std.proofs.Common.{◌≡◌, ◌≢◌, ◌<◌, ◌≤◌, ◌+◌,
 use Rattle.std.specs.Prelude.{slice_get, if◌then◌else◌}
 use Rattle.std.proofs.lemmas.Bool.{cases_eq}
 use Rattle.std.proofs.lemmas.List.{drop_all}
+use Rattle.spec_blocks.proofs.FurtherWords.{none_further}
 use Rattle.spec_sections.specs.declared.rules.BrokenRule.{BrokenRule}
 use Rattle.spec_sections.specs.Sections.{FileLine, FileWord, Stop, ended, breaks, ◌>>=◌, at_line, after_words, first_words, from_word, is_word, lines_after, one_line, word_of}
 use Rattle.spec_sections.proofs.WordSections.{all_after, length_first, no_words}
@@ -78,10 +79,6 @@ pub record AreWords (late n : ℕ) (lines later : List FileLine) : Type 0 where
   pub further : further_words n (lines ++ later) ≡ further_words n lines
   pub fewer : after_words late n lines ≡ Ok (lines_after n lines)
   pub more : after_words late n (lines ++ later) ≡ Ok (lines_after n lines ++ later)
-
-none_further : (n : ℕ) (lines : List FileLine) → n ≡ 0 → further_words n lines ≡ []
-none_further n [] is = refl
-none_further n (line ∷ rest) is = rw is refl
 
 lines_after-more : (n : ℕ) (lines later : List FileLine) → length (first_words n lines) ≡ n → lines_after n (lines ++ later) ≡ lines_after n lines ++ later
 lines_after-more n [] later all = all_after n later (sym all)

@@ -67,5 +67,6 @@ pub fn lines_are_cut_into_tokens()
         ≡ codes "EMRAT" ∷ codes "81" ∷ codes "AU" ∷ codes "1" ∷ [] }
     ensures blank { tokens (codes " \t ") ≡ [] }
     ensures numbers { text_lines (codes "one\n \t\n\n2 3\n")
-        ≡ record { number = 1; bytes = codes "one" } ∷ record { number = 4; bytes = codes "2 3" } ∷ [] }
+        ≡ record { number = 1; bytes = codes "one" }
+        ∷ record { number = 4; bytes = codes "2 3" } ∷ [] }
 {}

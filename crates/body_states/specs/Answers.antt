@@ -7,8 +7,6 @@ use Rattle.spec_bodies.specs.Coordinates.{Coordinate, displacement, ecliptic_coo
 use Rattle.spec_bodies.specs.Meanings.{factor_interval}
 use Rattle.spec_bodies.specs.Views.{View, Fits, factor_of, column_enclosure, formula_enclosure}
 use Rattle.spec_bodies.specs.Reading.{IsUsable, IsReadable, IsShort, AllColumns}
-use Rattle.event_expr.specs.States.{parts}
-use Rattle.ival_core.specs.declared.ival.Enclosure.{Enclosure as Answered}
 use Rattle.body_states.specs.declared.question.Question.{Question}
 use Rattle.body_states.specs.declared.motions.ColumnMotions.{ColumnMotions}
 use Rattle.body_states.specs.Motions.{AreMotions}
@@ -30,8 +28,8 @@ CanRead v c = AllColumns (IsReadable v) c
 abbrev pub answer_of : View → Question → Coordinate → Enclosure
 answer_of v q c = formula_enclosure v q.quantity q.times.now.first q.times.now.last c
 
-abbrev pub Answers : View → Question → Coordinate → Answered → Type 0
-Answers v q c e = parts e ≡ answer_of v q c
+abbrev pub Answers : View → Question → Coordinate → Enclosure → Type 0
+Answers v q c e = e ≡ answer_of v q c
 
 -- the enclosure is that of some formula over columns in use
 pub record IsAnswer (v : View) (q : Question) (e : Enclosure) : Type 0 where

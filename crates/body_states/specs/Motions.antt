@@ -5,8 +5,6 @@ use Rattle.spec_ephemeris.specs.Granules.{series_of}
 use Rattle.spec_bodies.specs.declared.quantity.Quantity.{Quantity}
 use Rattle.spec_bodies.specs.declared.quantity.Quantity.TheVariants.{Position, Velocity}
 use Rattle.spec_bodies.specs.Views.{series_enclosure}
-use Rattle.event_expr.specs.States.{parts}
-use Rattle.ival_core.specs.declared.ival.Enclosure.{Enclosure as Answered}
 use Rattle.body_states.specs.declared.granule_span.GranuleSpan.{GranuleSpan}
 use Rattle.body_states.specs.declared.motions.Motion.{Motion}
 use Rattle.body_states.specs.declared.motions.Motions.{Motions}
@@ -16,13 +14,13 @@ along m zero = m.x
 along m (suc zero) = m.y
 along m (suc (suc axis)) = m.z
 
-abbrev pub of_quantity : Motion → Quantity → Answered
+abbrev pub of_quantity : Motion → Quantity → Enclosure
 of_quantity m Position = m.position
 of_quantity m Velocity = m.velocity
 
 -- both quantities have the enclosures of an axis
 abbrev pub IsMotion : (Quantity → Enclosure) → Motion → Type 0
-IsMotion enclosures m = (quantity : Quantity) → parts (of_quantity m quantity) ≡ enclosures quantity
+IsMotion enclosures m = (quantity : Quantity) → of_quantity m quantity ≡ enclosures quantity
 
 -- and that along each axis
 abbrev pub AreMotions : (Quantity → ℕ → Enclosure) → Motions → Type 0

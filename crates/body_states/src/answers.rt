@@ -2,7 +2,6 @@
 ghost use Rattle.std.specs.Prelude.{◌≡◌, ◌<◌};
 ghost use Rattle.spec_bodies.specs.Views.{Fits, target_of, exact_state, state_enclosure, coordinate_enclosure};
 ghost use Rattle.spec_bodies.proofs.Held.{times_span, fractions_of_states, states_held, states_within};
-ghost use Rattle.event_expr.specs.States.{parts};
 
 use crate::question::Question;
 use crate::states::BodyStates;
@@ -41,7 +40,7 @@ impl<'e> BodyStates<'e> {
         requires target { target < 2 }
         requires axis { axis < 3 }
         requires fits { Fits self.now a b }
-        ensures { parts result ≡ coordinate_enclosure self.now quantity target axis a b }
+        ensures { result ≡ coordinate_enclosure self.now quantity target axis a b }
     {
         let times = Span::new(a, b);
         let question = Question {

@@ -4,7 +4,6 @@ ghost use Rattle.spec_ephemeris.specs.Granules.{series_at, series_of};
 ghost use Rattle.spec_bodies.specs.Coordinates.{nothing, of_column, times, less, earth, moon, barycentric_coordinate};
 ghost use Rattle.spec_bodies.specs.Reading.{IsUsable};
 ghost use Rattle.spec_bodies.specs.Views.{Fits, coordinate_of, framed};
-ghost use Rattle.event_expr.specs.States.{parts};
 ghost use Rattle.body_states.specs.Answers.{CanAsk, CanRead, Answers, IsAnswer, sum_answer, difference_answer, scaled_answer, displacement_of, ecliptic_of};
 
 use crate::granule_span::GranuleSpan;
@@ -204,8 +203,8 @@ impl<'e> BodyStates<'e> {
 
     fn scaled(&self, factor: Factor, x: Enclosure, question: &Question) -> Enclosure
         requires question { CanAsk self.now question.now }
-        requires x { IsAnswer self.now question.now (parts x) }
-        ensures { parts result ≡ scaled_answer self.now question.now factor (parts x) }
+        requires x { IsAnswer self.now question.now x }
+        ensures { result ≡ scaled_answer self.now question.now factor x }
     {
         let constant = question.times.constant(self.factors.interval(factor));
         question.times.product(constant, x)
@@ -213,18 +212,18 @@ impl<'e> BodyStates<'e> {
 
     fn sum(&self, x: Enclosure, y: Enclosure, question: &Question) -> Enclosure
         requires question { CanAsk self.now question.now }
-        requires x { IsAnswer self.now question.now (parts x) }
-        requires y { IsAnswer self.now question.now (parts y) }
-        ensures { parts result ≡ sum_answer question.now (parts x) (parts y) }
+        requires x { IsAnswer self.now question.now x }
+        requires y { IsAnswer self.now question.now y }
+        ensures { result ≡ sum_answer question.now x y }
     {
         question.times.sum(x, y)
     }
 
     fn difference(&self, x: Enclosure, y: Enclosure, question: &Question) -> Enclosure
         requires question { CanAsk self.now question.now }
-        requires x { IsAnswer self.now question.now (parts x) }
-        requires y { IsAnswer self.now question.now (parts y) }
-        ensures { parts result ≡ difference_answer question.now (parts x) (parts y) }
+        requires x { IsAnswer self.now question.now x }
+        requires y { IsAnswer self.now question.now y }
+        ensures { result ≡ difference_answer question.now x y }
     {
         question.times.difference(x, y)
     }

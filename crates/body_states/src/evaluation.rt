@@ -3,7 +3,6 @@ ghost use Rattle.std.specs.Prelude.{◌≡◌, ◌<◌, length, pos, unsigned_ab
 ghost use Rattle.spec_intervals.specs.Enclosure.{middle};
 ghost use Rattle.spec_motions.specs.Enclosures.{coefficients_of};
 ghost use Rattle.spec_ephemeris.specs.Granules.{series_of};
-ghost use Rattle.event_expr.specs.States.{parts};
 ghost use Rattle.body_states.specs.Motions.{IsMotion, AreMotions, enclosure_along};
 ghost use Rattle.body_states.specs.Bases.{ArePlain, AreAll, IsCentre, IsWhole, IsWholeOfSeveral, value_over, step_over};
 
@@ -31,7 +30,7 @@ impl<'g> GranuleSpan<'g> {
     /// The enclosure of a position, in km, or of a velocity, in km per second, along an axis that is counted from 0.
     pub fn enclosure(&self, quantity: Quantity, axis: usize) -> Enclosure
         requires { axis < 3 }
-        ensures { parts result ≡ enclosure_along self.now quantity axis }
+        ensures { result ≡ enclosure_along self.now quantity axis }
     {
         let terms = Terms::of(&self.granule, axis);
         let centre = self.centre();
@@ -81,7 +80,7 @@ impl<'g> GranuleSpan<'g> {
         requires count { length terms.now ≡ self.now.granule.n }
         requires centre { IsCentre self.now centre.now }
         requires whole { IsWholeOfSeveral self.now whole.now }
-        ensures { parts result ≡ enclosure_along self.now quantity axis }
+        ensures { result ≡ enclosure_along self.now quantity axis }
     {
         let seconds = self.granule.seconds;
         let mid = value_over(quantity, terms, centre, seconds);

@@ -3,7 +3,6 @@ ghost use Rattle.std.specs.Prelude.{◌≡◌, ◌<◌, All, ℕ};
 ghost use Rattle.spec_bodies.specs.Reading.{IsUsable};
 ghost use Rattle.spec_bodies.specs.Views.{Fits, state_enclosure, exact_state, coordinate_enclosure};
 ghost use Rattle.spec_bodies.proofs.Held.{times_span, fractions_of_states, states_held, states_within};
-ghost use Rattle.event_expr.specs.States.{parts};
 ghost use Rattle.body_states.specs.Answers.{IsKnown};
 ghost use Rattle.body_states.specs.Motions.{IsMotion, AreMotions};
 ghost use Rattle.body_states.specs.Moments.{target_state};
@@ -142,7 +141,7 @@ impl<'s, 'e> Snapshot<'s, 'e> {
         requires target { target < 2 }
         requires axis { axis < 3 }
         ensures { let enclosures = target_state self.now.view self.now.first self.now.last target in
-            parts result ≡ enclosures quantity axis }
+            result ≡ enclosures quantity axis }
     {
         self.target(target).along(usize::from(axis)).of(quantity)
     }

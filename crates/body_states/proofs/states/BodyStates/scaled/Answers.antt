@@ -1,7 +1,6 @@
 use Rattle.std.proofs.Common.{◌∙◌, ap, sym, subst}
 use Rattle.spec_intervals.specs.Enclosure.{Encloses, AllWithin, constant_of, product_of}
 use Rattle.spec_expressions.specs.Expression.{part_exponent}
-use Rattle.event_expr.specs.States.{parts}
 use Rattle.body_states.proofs.Good.{good_encloses, good_within, factor_number, factor_within, constant_within, constant_encloses}
 use Rattle.body_states.proofs.states.BodyStates.scaled.Goals as goal
 
@@ -45,4 +44,4 @@ returns c =
     let b = c.args.question.now.times.now.last in
     let e = ap (λ v. v.ephemeris) c.self.view_is in
     let same = c.interval.ensures ∙ (rw e at (c.self.invariant.3 c.args.factor)) in
-    c.product.ensures ∙ ap (λ k. product_of a b k (parts c.args.x)) (c.constant-constant.ensures ∙ ap (constant_of a b) same)
+    c.product.ensures ∙ ap (λ k. product_of a b k c.args.x) (c.constant-constant.ensures ∙ ap (constant_of a b) same)

@@ -1,8 +1,8 @@
 -- What a worker's own step does to the pool.
-use Rattle.std.proofs.Common.{◌≡◌, ◌≢◌, ℕ, zero, suc, ◌+◌, ◌<◌, ◌≤◌, List, [], ◌∷◌, ◌++◌, refl, sym, ap, ◌∙◌, subst, Option, Some, None, Result, Ok, Err, OnOk, OnErr, IfErr, slice_get, slice_set, arith}
+use Rattle.std.proofs.Common.{◌≡◌, ◌≢◌, ℕ, zero, suc, List, [], ◌∷◌, ◌++◌, refl, sym, ap, ◌∙◌, subst, Some, Result, Ok, Err, OnOk, OnErr, IfErr, slice_get, slice_set, arith}
 use Rattle.spec_trees.specs.declared.tree.Node.{Node}
 use Rattle.spec_trees.specs.declared.tree.Leaf.{Leaf}
-use Rattle.spec_trees.specs.Tree.{Rules, IsValid, IsSound}
+use Rattle.spec_trees.specs.Tree.{Rules, IsSound}
 use Rattle.spec_pool.specs.declared.step.Step.{Step}
 use Rattle.spec_pool.specs.declared.step.Step.TheVariants.{Steal, Enter}
 use Rattle.spec_pool.specs.Pool.{Holding, State, state, At, Gets, GivesUp, Enters, Steals, Steps, Refuses}
@@ -13,7 +13,7 @@ use Rattle.spec_pool.proofs.Moving.{weigh_hand, weigh_holding}
 use Rattle.spec_pool.proofs.Keeping.{valid_one, step_conserves}
 use Rattle.pool_core.specs.Views.{HoldsValid, empty_handed}
 use Rattle.pool_core.specs.declared.worker.StepError.{StepError}
-use Rattle.pool_core.specs.declared.worker.StepError.TheVariants.{Refused, Memory}
+use Rattle.pool_core.specs.declared.worker.StepError.TheVariants.{Refused}
 
 pub hand_valid : (t : Rules) (root : Node) (workers : List Holding) (entered : List Leaf) (w : ℕ) (x : Holding) → Conserves t root (state workers entered) → slice_get workers w ≡ Some x → HoldsValid t x
 hand_valid t root workers entered w x c at n e =

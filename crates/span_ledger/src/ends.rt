@@ -1,5 +1,5 @@
 // Making a ledger with its seats, and closing it.
-ghost use Rattle.std.specs.Prelude.{◌≡◌, ◌≢◌, ◌<◌, ◌≤◌, ◌^◌, length, IfOk, IfErr, All};
+ghost use Rattle.std.specs.Prelude.{◌≡◌, ◌≢◌, ◌<◌, ◌≤◌, length, min, IfOk, IfErr, All};
 ghost use Rattle.spec_pool.specs.History.{Sound, terms_of};
 ghost use Rattle.span_ledger.specs.Seats.{AllFit, AreNew, IsMissing, IsSeatOf, part, terms};
 
@@ -58,10 +58,10 @@ impl SpanLedger {
         ))
     }
 
-    /// Takes all seats back and hands out the book, or counts those that are missing. It takes no memory.
+    /// Takes all seats back and hands out the book, or answers how many were given where they aren't all. It takes no
+    /// memory.
     pub fn close(self, mut seats: Vec<LedgerSeat>) -> Result<Book, CloseError>
-        requires ours { All (IsSeatOf self) seats.items }
-        requires few { length seats.items < 2 ^ 32 }
+        requires { All (IsSeatOf self) seats.items }
         ensures root { IfOk result (λ book. book.root ≡ (terms self).root) }
         ensures sound { IfOk result (λ book. Sound (terms self) book.entries.items) }
         ensures seats { IfOk result (λ book. AllFit book.entries.items seats.items) }
@@ -69,10 +69,9 @@ impl SpanLedger {
         ensures missing { IfErr result (λ e. length seats.items ≢ (terms self).seats) }
         ensures numbers { IfErr result (λ e. IsMissing (length seats.items) (terms self).seats e) }
     {
-        let given = seats.len() as u32;
-        if given != self.seats {
+        if seats.len() != self.seats as usize {
             return Err(CloseError::Missing {
-                given,
+                given: capped(seats.len()),
                 made: self.seats,
             });
         }
@@ -97,6 +96,13 @@ impl SpanLedger {
             entries: register.into_entries(),
         })
     }
+}
+
+// A count as a number of 32 bits; a greater one, which no ledger has seats for, is the greatest of these.
+fn capped(count: usize) -> u32
+    ensures { result ≡ min count 4294967295 }
+{
+    count.min(4_294_967_295) as u32
 }
 
 impl LedgerSeat {

@@ -1,21 +1,11 @@
 -- Each step changes the accounts as they say, and accounts balance.
-use Rattle.std.proofs.Common.{◌≡◌, ◌≢◌, ℕ, zero, suc, ◌+◌, List, [], ◌∷◌, ◌++◌, map, flat_map, All, Option, Some, None, slice_get, slice_set, IsPermutation, option_to_list, append_assoc, refl, sym, ap, ◌∙◌, subst, arith}
-use Rattle.std.proofs.lemmas.List.{append-nil}
-use Rattle.std.proofs.lemmas.List.Elements.{All-set, All-from_recursion, recursion_from_All}
-use Rattle.std.specs.List.{AllByRecursion}
+use Rattle.std.proofs.Common.{◌≡◌, ℕ, zero, suc, List, [], ◌∷◌, ◌++◌, map, Option, Some, None, slice_get, slice_set, refl, sym, ap, ◌∙◌}
 use Rattle.spec_trees.specs.declared.tree.Node.{Node}
-use Rattle.spec_trees.specs.declared.tree.Leaf.{Leaf}
-use Rattle.spec_trees.specs.Tree.{Rules, IsValid, IsSound, leaf_of, leaves}
-use Rattle.spec_trees.proofs.Leaves.{leaves_settled, leaves_split}
+use Rattle.spec_trees.specs.Tree.{Rules, leaf_of}
 use Rattle.spec_pool.specs.declared.step.Step.{Step}
 use Rattle.spec_pool.specs.declared.step.Step.TheVariants.{Push, Keep, Pop, TakeKept, Steal, Enter}
-use Rattle.spec_pool.specs.Pool.{Holding, State, At, Pushes, Keeps, Pops, TakesKept, Gets, GivesUp, Enters, Steps, Runs}
-use Rattle.spec_pool.specs.Tiling.{Conserves}
-use Rattle.spec_pool.specs.Accounts.{Account, Deque, Accounts, PutsRight, KeepsRight, TakesNode, TakesTop, EntersNode, GainsBack, LosesFront, Accounted, AllAccounted, AreAccounts, leaves_of, own, Balances, IsBalanced, AllBalance}
-use Rattle.spec_pool.proofs.Weights.{weigh, weigh-append, weigh-push, weigh-flat, weigh-get}
-use Rattle.spec_pool.proofs.Finding.{is_node, is_itself, leaves_permuted}
-use Rattle.spec_pool.proofs.Moving.{weigh_hand, weigh_holding}
-use Rattle.spec_pool.proofs.Keeping.{valid_one, step_conserves}
+use Rattle.spec_pool.specs.Pool.{Holding, State, At, Steps}
+use Rattle.spec_pool.specs.Accounts.{Account, Deque, Accounts, PutsRight, KeepsRight, TakesNode, TakesTop, EntersNode, GainsBack, LosesFront, Accounted, AreAccounts}
 
 -- ---- lists that agree by what is seen of their elements
 module _ {A B C : Type 0} (f : A → C) (g : B → C) where

@@ -1,5 +1,5 @@
 -- Accounts that change as the steps say balance, over every run.
-use Rattle.std.proofs.Common.{◌≡◌, ◌≢◌, ℕ, zero, suc, ◌+◌, ◌≤◌, ◌⊎◌, inl, inr, List, [], ◌∷◌, ◌++◌, map, flat_map, All, Option, Some, None, slice_get, slice_set, IsPermutation, option_to_list, append_assoc, refl, sym, ap, ◌∙◌, subst, arith}
+use Rattle.std.proofs.Common.{◌≡◌, ℕ, zero, suc, ◌+◌, ◌⊎◌, inl, inr, List, [], ◌∷◌, ◌++◌, map, All, Some, slice_get, slice_set, IsPermutation, option_to_list, append_assoc, refl, sym, ap, ◌∙◌, subst, arith}
 use Rattle.std.proofs.lemmas.List.{append-nil}
 use Rattle.std.proofs.lemmas.List.Elements.{All-from_recursion, recursion_from_All}
 use Rattle.std.proofs.lemmas.List.Sorted.{sum_by-IsPermutation}
@@ -11,11 +11,11 @@ use Rattle.spec_trees.specs.Tree.{Rules, IsValid, IsSound, leaf_of, leaves}
 use Rattle.spec_trees.proofs.Leaves.{leaves_settled, leaves_split}
 use Rattle.spec_pool.specs.declared.step.Step.{Step}
 use Rattle.spec_pool.specs.declared.step.Step.TheVariants.{Push, Keep, Pop, TakeKept, Steal, Enter}
-use Rattle.spec_pool.specs.Pool.{Holding, State, At, Steps, Runs}
+use Rattle.spec_pool.specs.Pool.{Holding, State, At, Runs}
 use Rattle.spec_pool.specs.Tiling.{Conserves}
 use Rattle.spec_pool.specs.Accounts.{Account, Deque, Accounts, PutsRight, KeepsRight, TakesNode, TakesTop, EntersNode, GainsBack, LosesFront, Accounted, AllAccounted, AreAccounts, leaves_of, own, Balances, IsBalanced, AllBalance}
 use Rattle.spec_pool.proofs.Weights.{weigh, weigh-append, weigh-push, weigh-flat, weigh-get, sum_is_weigh}
-use Rattle.spec_pool.proofs.Finding.{is_node, is_itself, leaves_permuted}
+use Rattle.spec_pool.proofs.Finding.{is_node, leaves_permuted}
 use Rattle.spec_pool.proofs.Moving.{weigh_hand, weigh_holding, hand_weigh}
 use Rattle.spec_pool.proofs.Keeping.{valid_one, step_conserves}
 use Rattle.spec_pool.proofs.Accounting.{step_changes, seen_same, hand_of, held_hand}

@@ -1,10 +1,10 @@
 -- The opening state is the root alone.
-use Rattle.std.proofs.Common.{◌≡◌, ℕ, zero, suc, ◌+◌, ◌-◌, List, [], ◌∷◌, ◌++◌, Some, None, replicate, slice_get, slice_set, refl, arith}
+use Rattle.std.proofs.Common.{◌≡◌, ℕ, zero, suc, ◌-◌, [], ◌∷◌, replicate, refl, arith}
 use Rattle.std.proofs.lemmas.List.{append-nil}
 use Rattle.std.proofs.lemmas.List.Elements.{All-nil, All-cons}
 use Rattle.spec_trees.specs.declared.tree.Node.{Node}
-use Rattle.spec_trees.specs.Tree.{Rules, IsValid, IsSound, IsLeaf, leaves}
-use Rattle.spec_pool.specs.Pool.{Holding, holding, nothing, State, opening}
+use Rattle.spec_trees.specs.Tree.{Rules, IsValid, IsLeaf, leaves}
+use Rattle.spec_pool.specs.Pool.{nothing, opening}
 use Rattle.spec_pool.specs.Tiling.{Tiles, Conserves}
 use Rattle.spec_pool.proofs.Weights.{weigh}
 use Rattle.spec_pool.proofs.Moving.{weigh_holding, weigh_all}

@@ -1,11 +1,11 @@
 -- A pool in which some worker holds a node accepts a step, and one in which none does has entered all leaves.
-use Rattle.std.proofs.Common.{◌≡◌, ℕ, zero, suc, ◌+◌, ◌⊎◌, inl, inr, List, [], ◌∷◌, ◌++◌, map, flat_map, All, Option, Some, None, slice_get, slice_set, IsPermutation, refl, sym, ap, ◌∙◌, subst, arith}
+use Rattle.std.proofs.Common.{◌≡◌, ℕ, suc, ◌+◌, ◌⊎◌, inl, inr, List, [], ◌∷◌, ◌++◌, Option, Some, None, slice_get, slice_set, refl, sym, ap, ◌∙◌, subst, arith}
 use Rattle.std.proofs.lemmas.List.Elements.{All-from_recursion, recursion_from_All}
 use Rattle.std.specs.List.{AllByRecursion}
 use Rattle.spec_trees.specs.declared.tree.Node.{Node}
 use Rattle.spec_trees.specs.declared.tree.Leaf.{Leaf}
 use Rattle.spec_trees.specs.declared.tree.Mark.{Mark}
-use Rattle.spec_trees.specs.Tree.{Rules, IsValid, IsSound, IsLeaf, AreLeaves, mark_of, leaf_of, leaves}
+use Rattle.spec_trees.specs.Tree.{Rules, IsValid, IsSound, IsLeaf, mark_of, leaf_of, leaves}
 use Rattle.spec_trees.specs.Order.{in_order}
 use Rattle.spec_trees.proofs.Leaves.{no_mark, leaves_settled}
 use Rattle.spec_trees.proofs.Covering.{leaves_cover}
@@ -16,7 +16,7 @@ use Rattle.spec_pool.specs.Pool.{Holding, holding, nothing, State, state, Pushes
 use Rattle.spec_pool.specs.Tiling.{Conserves, todo, IsDone}
 use Rattle.spec_pool.proofs.Weights.{weigh, weigh-flat}
 use Rattle.spec_pool.proofs.Finding.{leaves_permuted}
-use Rattle.spec_pool.proofs.Moving.{weigh_holding, weigh_all}
+use Rattle.spec_pool.proofs.Moving.{weigh_holding}
 use Rattle.spec_pool.proofs.Keeping.{ordered_weigh}
 use Rattle.spec_pool.proofs.Falling.{left_for, todo_is, step_falls}
 

@@ -1,19 +1,19 @@
 -- Each step lowers what is left to do by one.
-use Rattle.std.proofs.Common.{◌≡◌, ℕ, zero, suc, ◌+◌, ◌*◌, ◌-◌, ◌<◌, ◌≤◌, ℤ, ◌<ℤ◌, List, [], ◌∷◌, ◌++◌, length, refl, sym, ap, ◌∙◌, option_to_list, sum_by, length-append, arith}
+use Rattle.std.proofs.Common.{◌≡◌, ℕ, ◌+◌, ◌*◌, ◌-◌, ◌<◌, ℤ, ◌<ℤ◌, List, [], ◌∷◌, ◌++◌, length, ap, ◌∙◌, option_to_list, length-append, arith}
 use Rattle.std.proofs.lemmas.Int.{ints}
 use Rattle.spec_trees.specs.declared.tree.Node.{Node}
 use Rattle.spec_trees.specs.declared.tree.Leaf.{Leaf}
 use Rattle.spec_trees.specs.declared.tree.Verdict.TheVariants.{Split}
-use Rattle.spec_trees.specs.Tree.{Rules, IsValid, IsSound, Covers, leaf_of, leaf_count, leaves}
+use Rattle.spec_trees.specs.Tree.{Rules, IsValid, IsSound, Covers, leaf_count, leaves}
 use Rattle.spec_trees.proofs.Covering.{leaves_cover}
 use Rattle.spec_trees.proofs.Leaves.{leaves_settled, leaves_split}
 use Rattle.spec_pool.specs.declared.step.Step.{Step}
 use Rattle.spec_pool.specs.declared.step.Step.TheVariants.{Push, Keep, Pop, TakeKept, Steal, Enter}
-use Rattle.spec_pool.specs.Pool.{Holding, State, Pushes, Keeps, Pops, TakesKept, Gets, GivesUp, Enters, At, Steps, Runs}
+use Rattle.spec_pool.specs.Pool.{Holding, State, Pushes, Keeps, Pops, TakesKept, Gets, GivesUp, Enters, Steps, Runs}
 use Rattle.spec_pool.specs.Tiling.{Conserves, todo_of, todo}
 use Rattle.spec_pool.proofs.Weights.{weigh, weigh-append, weigh-push, weigh-same, sum_is_weigh}
 use Rattle.spec_pool.proofs.Finding.{is_node, is_itself}
-use Rattle.spec_pool.proofs.Moving.{weigh_hand, weigh_holding, weigh_all, hand_weigh, at_weigh, at_le}
+use Rattle.spec_pool.proofs.Moving.{weigh_hand, weigh_holding, hand_weigh, at_weigh, at_le}
 use Rattle.spec_pool.proofs.Keeping.{valid_one, step_conserves}
 
 nonempty : (l : List Leaf) (a b : ℤ) → Covers a l b → a <ℤ b → 0 < length l

@@ -1,16 +1,16 @@
 -- Each step keeps the tiling.
-use Rattle.std.proofs.Common.{◌≡◌, ℕ, zero, suc, ◌+◌, ◌<◌, ◌≤◌, ℤ, List, [], ◌∷◌, ◌++◌, flat_map, All, IsPermutation, refl, sym, ap, ◌∙◌, subst, append_assoc, arith}
-use Rattle.std.proofs.lemmas.List.Elements.{All-from_recursion, recursion_from_All, All-push, All-nil}
+use Rattle.std.proofs.Common.{◌≡◌, ℕ, ◌+◌, ◌≤◌, ℤ, List, [], ◌∷◌, ◌++◌, flat_map, All, IsPermutation, sym, ap, ◌∙◌, subst, append_assoc, arith}
+use Rattle.std.proofs.lemmas.List.Elements.{All-from_recursion, recursion_from_All, All-push}
 use Rattle.std.proofs.lemmas.List.Sorted.{sum_by-IsPermutation}
 use Rattle.std.specs.List.{AllByRecursion}
 use Rattle.spec_trees.specs.declared.tree.Node.{Node}
 use Rattle.spec_trees.specs.declared.tree.Leaf.{Leaf}
 use Rattle.spec_trees.specs.declared.tree.Verdict.TheVariants.{Split}
-use Rattle.spec_trees.specs.Tree.{Rules, IsValid, IsSound, IsCut, IsLeaf, AreLeaves, mark_of, leaf_of, leaves}
-use Rattle.spec_trees.proofs.Leaves.{leaves_settled, leaves_split}
+use Rattle.spec_trees.specs.Tree.{Rules, IsValid, IsSound, IsCut, IsLeaf, AreLeaves, leaves}
+use Rattle.spec_trees.proofs.Leaves.{leaves_split}
 use Rattle.spec_pool.specs.declared.step.Step.{Step}
 use Rattle.spec_pool.specs.declared.step.Step.TheVariants.{Push, Keep, Pop, TakeKept, Steal, Enter}
-use Rattle.spec_pool.specs.Pool.{Holding, State, Pushes, Keeps, Pops, TakesKept, Gets, GivesUp, Enters, At, Steps, Runs}
+use Rattle.spec_pool.specs.Pool.{State, Pushes, Keeps, Pops, TakesKept, Gets, GivesUp, Enters, Steps, Runs}
 use Rattle.spec_pool.specs.Tiling.{nodes, Follow, Tiles, Conserves}
 use Rattle.spec_pool.proofs.Weights.{weigh, weigh-append, weigh-push, sum_is_weigh}
 use Rattle.spec_pool.proofs.Finding.{is_node, is_itself, find, nodes_permuted}

@@ -1,5 +1,5 @@
 -- Sums over lists by recursion, which compute, and what changing one element does to them.
-use Rattle.std.proofs.Common.{◌≡◌, ℕ, zero, suc, ◌+◌, ◌≤◌, List, [], ◌∷◌, ◌++◌, map, flat_map, refl, sym, ap, ◌∙◌, Option, Some, None, slice_get, slice_set, sum_by, arith}
+use Rattle.std.proofs.Common.{◌≡◌, ℕ, zero, suc, ◌+◌, ◌≤◌, List, [], ◌∷◌, ◌++◌, map, flat_map, refl, ap, Some, slice_get, slice_set, sum_by, arith}
 use Rattle.std.proofs.lemmas.List.Sums.{sum_by-cons}
 
 abbrev pub weigh : {A : Type 0} → (A → ℕ) → List A → ℕ

@@ -1,6 +1,6 @@
 -- The rules of a judge that looks for one crossing, for worked values and tests: a span that holds second 1339200 is
 -- halved until it is no wider than 50 seconds.
-use Rattle.std.proofs.Common.{◌≡◌, ◌+◌, ◌<◌, Bool, ◌&&◌, true, false, nat_lt, ℤ, pos, ◌-ℤ◌, ◌<ℤ◌, ◌≤ℤ◌, int_lt, int_le, if◌then◌else◌, refl, arith}
+use Rattle.std.proofs.Common.{◌≡◌, ◌<◌, Bool, ◌&&◌, nat_lt, pos, ◌-ℤ◌, ◌<ℤ◌, int_lt, int_le, if◌then◌else◌, refl, arith}
 use Rattle.std.proofs.lemmas.Int.{ints}
 use Rattle.spec_trees.specs.declared.cuts.CutRule.TheVariants.{Half}
 use Rattle.spec_trees.specs.declared.tree.Node.{Node}

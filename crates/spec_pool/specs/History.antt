@@ -1,5 +1,5 @@
 -- The history of a ledger: its entries in order of arrival, what is sound of them, and what each seat knows of them.
-use Rattle.std.specs.Prelude.{◌≡◌, ◌≢◌, ◌≤◌, ◌<◌, ℕ, ◌+◌, ◌==◌, ℤ, ◌-ℤ◌, ◌≤ℤ◌, List, [], ◌∷◌, ◌++◌, length, ⊤, if◌then◌else◌}
+use Rattle.std.specs.Prelude.{◌≡◌, ◌≢◌, ◌≤◌, ◌<◌, ℕ, ◌+◌, ◌==◌, ◌-ℤ◌, ◌≤ℤ◌, List, [], ◌∷◌, ◌++◌, length, ⊤, if◌then◌else◌}
 use Rattle.std.specs.Int.RustNames.{unsigned_abs}
 use mathlib.Core.Option as M
 use lib.ListN.{get_elem?}

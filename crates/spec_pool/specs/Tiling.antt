@@ -1,7 +1,6 @@
 -- What every run keeps: the nodes of all places, put in order, tile the root.
 use Rattle.std.specs.Prelude.{◌≡◌, ℕ, ◌+◌, ◌*◌, ◌-◌, ℤ, ◌<ℤ◌, List, [], ◌∷◌, ◌++◌, map, flat_map, sum_by, All, IsPermutation, option_to_list}
 use Rattle.spec_trees.specs.declared.tree.Node.{Node}
-use Rattle.spec_trees.specs.declared.tree.Leaf.{Leaf}
 use Rattle.spec_trees.specs.Tree.{Rules, IsValid, AreLeaves, leaf_count, leaves}
 use Rattle.spec_pool.specs.Pool.{Holding, nothing, State}
 

@@ -1,4 +1,4 @@
-use Rattle.std.proofs.Common.{◌≡◌, ◌<◌, length, get_or, Some, slice_get, slice_set, length-set, arith}
+use Rattle.std.proofs.Common.{get_or, slice_set, length-set, arith}
 use Rattle.std.proofs.lemmas.Option.{slice_get-get_or}
 use Rattle.spec_pool.specs.Pool.{Holding}
 use Rattle.pool_core.proofs.Stepping.{steals, no_steal}

@@ -1,4 +1,4 @@
-use Rattle.std.proofs.Common.{◌≡◌, ℕ, ◌+◌, ◌-◌, ◌≤◌, List, [], ◌∷◌, ◌++◌, Some, None, replicate, sym, ap, ◌∙◌, arith}
+use Rattle.std.proofs.Common.{◌≡◌, ℕ, ◌+◌, ◌-◌, ◌≤◌, List, [], ◌∷◌, ◌++◌, Some, replicate, sym, ap, ◌∙◌, arith}
 use Rattle.std.proofs.lemmas.Grind.{replicate_next}
 use Rattle.spec_pool.specs.Pool.{Holding, holding, nothing}
 use Rattle.pool_core.proofs.pool.opening_workers.Goals as goal

@@ -1,4 +1,4 @@
-use Rattle.std.proofs.Common.{◌≡◌, ◌<◌, length, Some, arith}
+use Rattle.std.proofs.Common.{length, arith}
 use Rattle.std.proofs.lemmas.Option.{slice_get_read}
 use Rattle.spec_pool.specs.declared.step.Step.TheVariants.{Keep}
 use Rattle.spec_pool.specs.Pool.{state, Keeps}

@@ -1,8 +1,3 @@
-use Rattle.std.proofs.Common.{◌≡◌, sym, subst}
-use Rattle.std.specs.Prelude.{List, []}
-use Rattle.spec_trees.specs.declared.tree.Leaf.{Leaf}
-use Rattle.spec_pool.specs.Pool.{Holding, state}
-use Rattle.spec_pool.specs.Tiling.{Conserves}
 use Rattle.spec_pool.proofs.Beginning.{opening_conserves}
 use Rattle.pool_core.proofs.pool.Pool.new.Goals as goal
 

@@ -1,10 +1,10 @@
-use Rattle.std.proofs.Common.{◌≡◌, ◌<◌, length, Some, arith}
+use Rattle.std.proofs.Common.{length, arith}
 use Rattle.std.proofs.lemmas.Option.{slice_get_read}
 use Rattle.spec_pool.specs.declared.step.Step.TheVariants.{TakeKept}
 use Rattle.spec_pool.specs.Pool.{state, TakesKept}
 use Rattle.spec_pool.specs.Tiling.{Conserves}
 use Rattle.spec_pool.proofs.Keeping.{step_conserves}
-use Rattle.pool_core.proofs.Stepping.{hand_valid, goes_ok, refused_on, keeps}
+use Rattle.pool_core.proofs.Stepping.{goes_ok, refused_on, keeps}
 use Rattle.pool_core.proofs.pool.Pool.take_kept.Goals as goal
 
 pub invariant_of-self : goal.invariant_of-self

@@ -8,7 +8,7 @@ use Rattle.span_ledger.proofs.desk.SpanLedger.close.Goals as goal
 pub loop-seat-init : goal.loop-seat-init
 loop-seat-init c =
     let items = c.in-Some.ensures.items in
-    let a = All-pop (λ (s : LedgerSeat). s.raw.table_id ≡ c.args.self.table.shared.table_id) _ _ (Some c.in-Some.last) items c.requires.ours in
+    let a = All-pop (λ (s : LedgerSeat). s.raw.table_id ≡ c.args.self.table.shared.table_id) _ _ (Some c.in-Some.last) items c.requires in
     record {
       table = a.1;
       idle = c.in-Some.last.idle;
@@ -43,19 +43,19 @@ loop-seat-preserved c =
 pub unreachable-requires-in_default-take : goal.unreachable-requires-in_default-take
 unreachable-requires-in_default-take c =
     let i = c.loop-seat.invariant in
-    let x = found_whole c.args.self.table.shared.key _ c.loop-seat.all.me.0 _ _ _ i.idle (omega (arith, i.count, c.in_default-pop.ensures.cases.0, c.args.self.seats_are, c.if-given-self.false, c.len-given.ensures, c.requires.few)) c.close_with-closed.ensures.values.2 c.take.ensures.value in
+    let x = found_whole c.args.self.table.shared.key _ c.loop-seat.all.me.0 _ _ _ i.idle (omega (arith, i.count, c.in_default-pop.ensures.cases.0, c.args.self.seats_are, c.if-len-self.false, c.len.ensures)) c.close_with-closed.ensures.values.2 c.take.ensures.value in
     absurd (c.in_default-take.not-Some x.0 x.1)
 
 pub returns-clause-sound : goal.returns-clause-sound
 returns-clause-sound c =
     let i = c.loop-seat.invariant in
-    let x = found_whole c.args.self.table.shared.key _ c.loop-seat.all.me.0 _ _ _ i.idle (omega (arith, i.count, c.in_default-pop.ensures.cases.0, c.args.self.seats_are, c.if-given-self.false, c.len-given.ensures, c.requires.few)) c.close_with-closed.ensures.values.2 c.take.ensures.value in
+    let x = found_whole c.args.self.table.shared.key _ c.loop-seat.all.me.0 _ _ _ i.idle (omega (arith, i.count, c.in_default-pop.ensures.cases.0, c.args.self.seats_are, c.if-len-self.false, c.len.ensures)) c.close_with-closed.ensures.values.2 c.take.ensures.value in
     let y = whole c.args.self.table.shared.key c.loop-seat.all.me.0 _ c.in-Some-take.register x c.in-Some-take.is in
     rw c.into_entries.ensures y.0
 
 pub returns-clause-seats : goal.returns-clause-seats
 returns-clause-seats c =
     let i = c.loop-seat.invariant in
-    let x = found_whole c.args.self.table.shared.key _ c.loop-seat.all.me.0 _ _ _ i.idle (omega (arith, i.count, c.in_default-pop.ensures.cases.0, c.args.self.seats_are, c.if-given-self.false, c.len-given.ensures, c.requires.few)) c.close_with-closed.ensures.values.2 c.take.ensures.value in
+    let x = found_whole c.args.self.table.shared.key _ c.loop-seat.all.me.0 _ _ _ i.idle (omega (arith, i.count, c.in_default-pop.ensures.cases.0, c.args.self.seats_are, c.if-len-self.false, c.len.ensures)) c.close_with-closed.ensures.values.2 c.take.ensures.value in
     let y = whole c.args.self.table.shared.key c.loop-seat.all.me.0 _ c.in-Some-take.register x c.in-Some-take.is in
     rw c.into_entries.ensures (i.kept c.in-Some-take.register y.1 (none_known _ _ (omega (arith, c.in_default-pop.ensures.cases.0))))

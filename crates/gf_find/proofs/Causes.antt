@@ -1,5 +1,5 @@
 -- The words name one list of files, and of files that are known one thing alone is true.
-use Rattle.std.proofs.Common.{◌≡◌, ◌⊎◌, ◌+◌, ◌<◌, ℕ, Bool, true, false, List, length, drop, Option, None, Some, refl, sym, ap, ◌∙◌, subst, arith, inl, inr}
+use Rattle.std.proofs.Common.{◌≡◌, ◌<◌, ℕ, true, false, List, length, drop, Option, None, Some, refl, sym, ap, ◌∙◌, subst, arith, inl, inr}
 use Rattle.std.proofs.lemmas.Option.{slice_get_within}
 use Rattle.std.specs.Prelude.{IsSome}
 use Rattle.spec_text.specs.declared.decimals.Fault.{Fault}
@@ -11,7 +11,7 @@ use Rattle.gf_edges.specs.Edges.{Files, Rose}
 use Rattle.gf_files.specs.declared.errors.FilesError.{FilesError}
 use Rattle.gf_files.specs.declared.errors.FilesError.TheVariants as errors
 use Rattle.line_search.specs.MercuryX.{is_line}
-use Rattle.gf_find.specs.Answers.{AreNotSearched, AreSearched, Asks, IsRefused, RefusesFile}
+use Rattle.gf_find.specs.Answers.{AreSearched, Asks, IsRefused, RefusesFile}
 use Rattle.gf_find.specs.Errors.{HasName}
 use Rattle.gf_find.specs.Words.{Words, texts_of}
 

@@ -1,4 +1,4 @@
-use Rattle.std.proofs.Common.{◌≡◌, ◌∙◌, ◌<◌, arith, inl, inr, length, refl, List, ℕ, Err, ap, string_bytes, subst, sym}
+use Rattle.std.proofs.Common.{◌∙◌, arith, inl, inr, length, List, ℕ, Err, ap, string_bytes, subst}
 use Rattle.std.proofs.lemmas.List.{length-map}
 use Rattle.std.specs.Io.KnownBytes.{Appends}
 use Rattle.spec_reports.specs.Writing.{AppendsPart}

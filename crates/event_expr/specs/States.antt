@@ -1,10 +1,5 @@
 -- The times of a span, and the limits of exponents.
 use Rattle.std.specs.Prelude.{ℕ, ℤ}
-use Rattle.spec_intervals.specs.Enclosure.{Enclosure}
-
--- an enclosure, as what its three intervals are
-abbrev pub parts : Enclosure → Enclosure
-parts e = e
 
 -- the greatest size of an exponent that states answer
 abbrev pub state_exponent : ℕ

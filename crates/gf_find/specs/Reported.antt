@@ -7,7 +7,7 @@ use Rattle.spec_reports.specs.Reported.{Reports}
 use Rattle.spec_reports.specs.Writing.{AppendsPart}
 use Rattle.gf_edges.specs.Edges.{Files}
 use Rattle.line_search.specs.MercuryX.{mercury_x}
-use Rattle.line_search.specs.Search.{AreMercuryWindows, IsLeftOpen, IsUp, found_windows}
+use Rattle.line_search.specs.Search.{AreMercuryWindows, IsLeftOpen, PassesZero, found_windows}
 use Rattle.gf_find.specs.Answers.{AreSearched, Asks}
 use Rattle.gf_find.specs.Words.{Words}
 
@@ -22,7 +22,7 @@ windows_of e = found_windows (mercury_x e)
 -- known bytes grew by the report of the times at which Mercury's x passes 0, over the whole span of an ephemeris
 abbrev pub ReportsMercury : Ephemeris → Option (List ℕ) → Option (List ℕ) → Type 0
 ReportsMercury e old new =
-    Reports (IsUp (mercury_x e)) (IsLeftOpen (mercury_x e)) e.start (end_of e) (windows_of e) (report_of e) old new
+    Reports (PassesZero (mercury_x e)) (IsLeftOpen (mercury_x e)) e.start (end_of e) (windows_of e) (report_of e) old new
 
 -- the words name files that are searched, and known bytes grew by the report of that search
 pub record IsReported (words : Words) (files : Option Files) (old new : Option (List ℕ)) : Type 0 where

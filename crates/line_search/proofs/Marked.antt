@@ -14,7 +14,7 @@ use Rattle.spec_trees.specs.declared.tree.Verdict.TheVariants as V
 use Rattle.spec_events.specs.Events.{IsEvent, IsTurn}
 use Rattle.spec_trees.specs.Tree.{mark_of}
 use Rattle.spec_events.specs.Marks.{IsRightMark}
-use Rattle.line_search.specs.Search.{IsUp, IsLeftOpen, verdict_by, verdict, sign_on, slope_sign}
+use Rattle.line_search.specs.Search.{IsUp, PassesZero, IsLeftOpen, verdict_by, verdict, sign_on, slope_sign}
 use Rattle.spec_trees.specs.Cuts.{is_wide}
 use Rattle.line_search.proofs.Range.{at_time}
 use Rattle.line_search.proofs.Signed.{yes_up, no_down, apart}
@@ -36,11 +36,11 @@ undecided_by : (wide : Bool) (whole at_a at_b slope : Sign) → mark_of (verdict
 undecided_by wide whole at_a at_b slope e = grind arith
 
 -- ---- where nothing changes there is no event
-no_event_up : (P : ℤ → Type 0) (t : ℤ) → P (t -ℤ pos 1) → P t → IsEvent P t → ⊥
+no_event_up : (P : ℤ → Type 0) (t : ℤ) → P (t -ℤ pos 1) → P t → IsEvent (IsTurn P) t → ⊥
 no_event_up P t p q (inl e) = e.0 p
 no_event_up P t p q (inr e) = e.1 q
 
-no_event_down : (P : ℤ → Type 0) (t : ℤ) → (P (t -ℤ pos 1) → ⊥) → (P t → ⊥) → IsEvent P t → ⊥
+no_event_down : (P : ℤ → Type 0) (t : ℤ) → (P (t -ℤ pos 1) → ⊥) → (P t → ⊥) → IsEvent (IsTurn P) t → ⊥
 no_event_down P t p q (inl e) = q e.1
 no_event_down P t p q (inr e) = p e.0
 
@@ -73,7 +73,7 @@ module _ (s : Series) (h : IsLine s) where
   at_down : (t : ℤ) → sign_on s t t ≡ No → x t <ℤ pos 0
   at_down t e = known_down t t e t (omega (arith, ints)) (omega (arith, ints))
 
-  no_event : (a b : ℤ) → IsClear (sign_on s a b) (sign_on s a a) (sign_on s b b) → (t : ℤ) → a <ℤ t → t ≤ℤ b → IsEvent (IsUp s) t → ⊥
+  no_event : (a b : ℤ) → IsClear (sign_on s a b) (sign_on s a a) (sign_on s b b) → (t : ℤ) → a <ℤ t → t ≤ℤ b → IsEvent (PassesZero s) t → ⊥
   no_event a b (inl k) t p q e =
       no_event_up (IsUp s) t (known_up a b k (t -ℤ pos 1) (omega (arith, ints, p)) (omega (arith, ints, q))) (known_up a b k t (omega (arith, ints, p)) q) e
   no_event a b (inr (inl k)) t p q e =
@@ -96,7 +96,7 @@ module _ (s : Series) (h : IsLine s) where
   only_time : (n : Node) (t : ℤ) → n.b -ℤ pos 1 ≡ n.a → n.a <ℤ t → t ≤ℤ n.b → t ≡ n.b
   only_time n t w p q = omega (arith, ints, w, p, q)
 
-  pub is_right : (n : Node) (m : Mark) → n.a <ℤ n.b → mark_of (verdict s n) ≡ Some m → IsRightMark (IsUp s) (IsLeftOpen s) n m
+  pub is_right : (n : Node) (m : Mark) → n.a <ℤ n.b → mark_of (verdict s n) ≡ Some m → IsRightMark (PassesZero s) (IsLeftOpen s) n m
   is_right n M.Clear i e = no_event n.a n.b (clear_by (is_wide n) (sign_on s n.a n.b) (sign_on s n.a n.a) (sign_on s n.b n.b) (slope_sign s) e)
   is_right n (M.One turn) i e =
       let r = one_by (is_wide n) (sign_on s n.a n.b) (sign_on s n.a n.a) (sign_on s n.b n.b) (slope_sign s) turn e in

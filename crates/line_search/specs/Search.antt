@@ -19,12 +19,16 @@ use Rattle.spec_trees.specs.declared.window.Window.{Window}
 use Rattle.spec_trees.specs.Cuts.{halves, is_wide}
 use Rattle.spec_trees.specs.Tree.{Rules, leaves}
 use Rattle.spec_trees.specs.Windows.{windows}
-use Rattle.spec_events.specs.Events.{AreWindows}
+use Rattle.spec_events.specs.Events.{AreWindows, IsTurn}
 use Rattle.line_search.specs.MercuryX.{mercury_x}
 
 -- the coordinate is at least 0
 abbrev pub IsUp : Series → ℤ → Type 0
 IsUp s t = pos 0 ≤ℤ (position s t).numerator
+
+-- the coordinate passes 0 in this direction, from the second before to this one
+abbrev pub PassesZero : Series → Turn → ℤ → Type 0
+PassesZero s = IsTurn (IsUp s)
 
 -- the time at which the granule ends
 abbrev pub series_end : Series → ℤ
@@ -130,8 +134,8 @@ pub record IsLeftOpen (s : Series) (t : ℤ) : Type 0 where
 -- the windows of the events of a line over its granule: they lie in it in order, hold every event, each certain one
 -- exactly one, and what is undecided is left open
 abbrev pub AreLineWindows : Series → List Window → Type 0
-AreLineWindows s ws = AreWindows (IsUp s) (IsLeftOpen s) s.start (series_end s) ws
+AreLineWindows s ws = AreWindows (PassesZero s) (IsLeftOpen s) s.start (series_end s) ws
 
 -- the windows of the events of Mercury's x over the whole ephemeris
 abbrev pub AreMercuryWindows : Ephemeris → List Window → Type 0
-AreMercuryWindows e ws = AreWindows (IsUp (mercury_x e)) (IsLeftOpen (mercury_x e)) e.start (end_of e) ws
+AreMercuryWindows e ws = AreWindows (PassesZero (mercury_x e)) (IsLeftOpen (mercury_x e)) e.start (end_of e) ws

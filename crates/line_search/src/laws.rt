@@ -11,7 +11,7 @@ ghost use Rattle.spec_trees.specs.declared.tree.Node.{Node};
 ghost use Rattle.spec_trees.specs.Placement.{AreInOrder, AreWithin};
 ghost use Rattle.spec_trees.specs.Tree.{IsSound, IsValid, mark_of};
 ghost use Rattle.line_search.specs.MercuryX.{IsLine, MERCURY, is_line, mercury_x};
-ghost use Rattle.line_search.specs.Search.{AreMercuryWindows, IsLeftOpen, IsUp, found_windows, root, rules, series_end, sign_on, x_range};
+ghost use Rattle.line_search.specs.Search.{AreMercuryWindows, IsLeftOpen, IsUp, PassesZero, found_windows, root, rules, series_end, sign_on, x_range};
 
 /// Where Mercury's x is a line, its series is one of two coefficients of a body, it is the series of the granule of
 /// each time, and it ends with the ephemeris.
@@ -47,7 +47,7 @@ pub fn search_is_sound()
 /// in a node with one, and the sign of the line is open at an end of an undecided node, which is one second wide.
 pub fn marks_are_right()
     ensures right { (s : Series) (n : Node) (m : Mark) → IsLine s → IsValid (rules s) n
-        → mark_of ((rules s).verdict n) ≡ Some m → IsRightMark (IsUp s) (IsLeftOpen s) n m }
+        → mark_of ((rules s).verdict n) ≡ Some m → IsRightMark (PassesZero s) (IsLeftOpen s) n m }
 {}
 
 /// The windows that the search finds lie within the granule, are pairwise disjoint and in order, and together they
@@ -58,8 +58,8 @@ pub fn search_finds_the_events()
     ensures within { (s : Series) → IsLine s → AreWithin s.start (series_end s) (found_windows s) }
     ensures in_order { (s : Series) → IsLine s → AreInOrder (found_windows s) }
     ensures every_event { (s : Series) → IsLine s
-        → HoldEvents (IsUp s) s.start (series_end s) (found_windows s) }
-    ensures certain { (s : Series) → IsLine s → AreCertain (IsUp s) (found_windows s) }
+        → HoldEvents (PassesZero s) s.start (series_end s) (found_windows s) }
+    ensures certain { (s : Series) → IsLine s → AreCertain (PassesZero s) (found_windows s) }
     ensures undecided { (s : Series) → IsLine s → AreOpen (IsLeftOpen s) (found_windows s) }
 {}
 

@@ -1,1 +1,4 @@
 pub mod Windowing
+mod Lasting
+pub mod Judging
+pub mod Evidence

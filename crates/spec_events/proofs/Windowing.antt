@@ -11,7 +11,7 @@ use Rattle.spec_trees.specs.declared.window.Holds.{Holds}
 use Rattle.spec_trees.specs.declared.window.Holds.TheVariants as H
 use Rattle.spec_trees.specs.declared.window.Window.{Window}
 use Rattle.spec_trees.specs.Placement.{IsIn, IsWithin}
-use Rattle.spec_events.specs.Events.{IsEvent, HoldsOne, AreWindows}
+use Rattle.spec_events.specs.Events.{IsEvent, HasNoEvent, HoldsOne, AreWindows}
 use Rattle.spec_trees.specs.Tree.{Covers}
 use Rattle.spec_trees.specs.Windows.{window_of, windows}
 use Rattle.spec_events.specs.Marks.{IsRightMark, AreRightlyMarked}
@@ -28,9 +28,9 @@ any_later Q w ws a = (suc a.0, a.1, omega (arith, a.2), a.3, a.4)
 order : (t m : ℤ) → (t ≤ℤ m) ⊎ (m <ℤ t)
 order t m = grind (arith, ints)
 
-module _ (P U : ℤ → Type 0) where
+module _ (E : Turn → ℤ → Type 0) (U : ℤ → Type 0) where
   -- times without an event in front
-  skip : (low mid upto : ℤ) (ws : List Window) → low ≤ℤ mid → ((t : ℤ) → low <ℤ t → t ≤ℤ mid → IsEvent P t → ⊥) → AreWindows P U mid upto ws → AreWindows P U low upto ws
+  skip : (low mid upto : ℤ) (ws : List Window) → low ≤ℤ mid → HasNoEvent E low mid → AreWindows E U mid upto ws → AreWindows E U low upto ws
   skip low mid upto ws h none g = record {
     within = All-weaker (IsWithin mid upto) (IsWithin low upto) (earlier low mid upto h) ws g.within;
     in_order = g.in_order;
@@ -39,33 +39,33 @@ module _ (P U : ℤ → Type 0) where
     undecided = g.undecided;
   }
     where
-      by : (t : ℤ) → low <ℤ t → t ≤ℤ upto → IsEvent P t → (t ≤ℤ mid) ⊎ (mid <ℤ t) → Any (λ w. IsIn w t) ws
+      by : (t : ℤ) → low <ℤ t → t ≤ℤ upto → IsEvent E t → (t ≤ℤ mid) ⊎ (mid <ℤ t) → Any (λ w. IsIn w t) ws
       by t a b e (inl p) = absurd (none t a p e)
       by t a b e (inr p) = g.every_event t p b e
 
   -- what a window says by what it holds
   abbrev HoldsAs : Window → Holds → Type 0
-  HoldsAs w (H.Certain turn) = HoldsOne P turn w
+  HoldsAs w (H.Certain turn) = HoldsOne E turn w
   HoldsAs w H.Undecided = (t : ℤ) → IsIn w t → U t
 
-  certain_as : (w : Window) (turn : Turn) → HoldsAs w w.holds → w.holds ≡ H.Certain turn → HoldsOne P turn w
+  certain_as : (w : Window) (turn : Turn) → HoldsAs w w.holds → w.holds ≡ H.Certain turn → HoldsOne E turn w
   certain_as w turn h e = subst (HoldsAs w) e h
 
   open_as : (w : Window) → HoldsAs w w.holds → w.holds ≡ H.Undecided → (t : ℤ) → IsIn w t → U t
   open_as w h e = subst (HoldsAs w) e h
 
   -- a window in front
-  front : (low upto : ℤ) (w : Window) (ws : List Window) → w.first ≡ low +ℤ pos 1 → low <ℤ w.last → w.last ≤ℤ upto → HoldsAs w w.holds → AreWindows P U w.last upto ws → AreWindows P U low upto (w ∷ ws)
+  front : (low upto : ℤ) (w : Window) (ws : List Window) → w.first ≡ low +ℤ pos 1 → low <ℤ w.last → w.last ≤ℤ upto → HoldsAs w w.holds → AreWindows E U w.last upto ws → AreWindows E U low upto (w ∷ ws)
   front low upto w ws f i j h g = record {
     within = All-cons (IsWithin low upto) w ws (record { from = omega (arith, ints, f); ordered = omega (arith, ints, f, i); to = j })
         (All-weaker (IsWithin w.last upto) (IsWithin low upto) (earlier low w.last upto (omega (arith, ints, i))) ws g.within);
     in_order = in_order-cons w upto ws (omega (arith, ints, f, i)) g.within g.in_order;
     every_event = λ t a b e. by t a b e (order t w.last);
-    certain = All-cons (λ v. (turn : Turn) → v.holds ≡ H.Certain turn → HoldsOne P turn v) w ws (λ turn e. certain_as w turn h e) g.certain;
+    certain = All-cons (λ v. (turn : Turn) → v.holds ≡ H.Certain turn → HoldsOne E turn v) w ws (λ turn e. certain_as w turn h e) g.certain;
     undecided = All-cons (λ v. v.holds ≡ H.Undecided → (t : ℤ) → IsIn v t → U t) w ws (open_as w h) g.undecided;
   }
     where
-      by : (t : ℤ) → low <ℤ t → t ≤ℤ upto → IsEvent P t → (t ≤ℤ w.last) ⊎ (w.last <ℤ t) → Any (λ v. IsIn v t) (w ∷ ws)
+      by : (t : ℤ) → low <ℤ t → t ≤ℤ upto → IsEvent E t → (t ≤ℤ w.last) ⊎ (w.last <ℤ t) → Any (λ v. IsIn v t) (w ∷ ws)
       by t a b e (inl p) = any_first (λ v. IsIn v t) w ws (record { from = omega (arith, ints, f, a); to = p })
       by t a b e (inr p) = any_later (λ v. IsIn v t) w ws (g.every_event t p b e)
 
@@ -74,12 +74,12 @@ module _ (P U : ℤ → Type 0) where
   IsRun None low a = low ≡ a
   IsRun (Some w) low a = (w.first ≡ low +ℤ pos 1) × (w.last ≡ a) × (low <ℤ a) × (w.holds ≡ H.Undecided) × HoldsAs w H.Undecided
 
-  close : (run : Option Window) (low a upto : ℤ) (ws : List Window) → IsRun run low a → a ≤ℤ upto → AreWindows P U a upto ws → AreWindows P U low upto (ended run ws)
-  close None low a upto ws r j g = subst (λ (z : ℤ). AreWindows P U z upto ws) (sym r) g
+  close : (run : Option Window) (low a upto : ℤ) (ws : List Window) → IsRun run low a → a ≤ℤ upto → AreWindows E U a upto ws → AreWindows E U low upto (ended run ws)
+  close None low a upto ws r j g = subst (λ (z : ℤ). AreWindows E U z upto ws) (sym r) g
   close (Some w) low a upto ws r j g =
-      front low upto w ws r.0 (omega (arith, ints, r.1, r.2)) (omega (arith, ints, r.1, j)) (subst (λ (h : Holds). HoldsAs w h) (sym r.3) r.4) (subst (λ (z : ℤ). AreWindows P U z upto ws) (sym r.1) g)
+      front low upto w ws r.0 (omega (arith, ints, r.1, r.2)) (omega (arith, ints, r.1, j)) (subst (λ (h : Holds). HoldsAs w h) (sym r.3) r.4) (subst (λ (z : ℤ). AreWindows E U z upto ws) (sym r.1) g)
 
-  stretch : (run : Option Window) (low : ℤ) (n : Node) → IsRun run low n.a → n.a <ℤ n.b → IsRightMark P U n M.Undecided → IsRun (Some (longer run n)) low n.b
+  stretch : (run : Option Window) (low : ℤ) (n : Node) → IsRun run low n.a → n.a <ℤ n.b → IsRightMark E U n M.Undecided → IsRun (Some (longer run n)) low n.b
   stretch None low n r i h = (ap (λ z. z +ℤ pos 1) (sym r), refl, omega (arith, ints, r, i), refl, λ t k. h t (omega (arith, ints, k.from)) k.to)
   stretch (Some w) low n r i h = (r.0, refl, omega (arith, ints, r.2, i), refl, λ t k. by t k (order t w.last))
     where
@@ -87,18 +87,18 @@ module _ (P U : ℤ → Type 0) where
       by t k (inl p) = r.4 t (record { from = k.from; to = p })
       by t k (inr p) = h t (omega (arith, ints, r.1, p)) k.to
 
-  nothing : (a : ℤ) → AreWindows P U a a []
+  nothing : (a : ℤ) → AreWindows E U a a []
   nothing a = record {
     within = All-nil (IsWithin a a);
     in_order = tt;
     every_event = λ t p q e. absurd (omega (arith, ints));
-    certain = All-nil (λ v. (turn : Turn) → v.holds ≡ H.Certain turn → HoldsOne P turn v);
+    certain = All-nil (λ v. (turn : Turn) → v.holds ≡ H.Certain turn → HoldsOne E turn v);
     undecided = All-nil (λ v. v.holds ≡ H.Undecided → (t : ℤ) → IsIn v t → U t);
   }
 
   -- one leaf in front
-  step : (m : Mark) (run : Option Window) (low b : ℤ) (n : Node) (ls : List Leaf) → IsRun run low n.a → n.a <ℤ n.b → n.b ≤ℤ b → IsRightMark P U n m
-      → ((r : Option Window) (l : ℤ) → IsRun r l n.b → AreWindows P U l b (joined r ls)) → AreWindows P U low b (joined run (record { node = n; mark = m } ∷ ls))
+  step : (m : Mark) (run : Option Window) (low b : ℤ) (n : Node) (ls : List Leaf) → IsRun run low n.a → n.a <ℤ n.b → n.b ≤ℤ b → IsRightMark E U n m
+      → ((r : Option Window) (l : ℤ) → IsRun r l n.b → AreWindows E U l b (joined r ls)) → AreWindows E U low b (joined run (record { node = n; mark = m } ∷ ls))
   step M.Clear run low b n ls r w j h rest =
       close run low n.a b (joined None ls) r (omega (arith, ints, w, j)) (skip n.a n.b b (joined None ls) (omega (arith, ints)) h (rest None n.b refl))
   step (M.One turn) run low b n ls r w j h rest =
@@ -106,13 +106,13 @@ module _ (P U : ℤ → Type 0) where
   step M.Undecided run low b n ls r w j h rest = rest (Some (longer run n)) low (stretch run low n r w h)
 
   abbrev HasRightMark : Leaf → Type 0
-  HasRightMark l = IsRightMark P U l.node l.mark
+  HasRightMark l = IsRightMark E U l.node l.mark
 
-  joined_are : (ls : List Leaf) (run : Option Window) (low a b : ℤ) → IsRun run low a → Covers a ls b → AreRightlyMarked P U ls → AreWindows P U low b (joined run ls)
-  joined_are [] run low a b r c h = close run low a b [] r (omega (arith, ints, c)) (subst (λ (z : ℤ). AreWindows P U a z []) c (nothing a))
+  joined_are : (ls : List Leaf) (run : Option Window) (low a b : ℤ) → IsRun run low a → Covers a ls b → AreRightlyMarked E U ls → AreWindows E U low b (joined run ls)
+  joined_are [] run low a b r c h = close run low a b [] r (omega (arith, ints, c)) (subst (λ (z : ℤ). AreWindows E U a z []) c (nothing a))
   joined_are (l ∷ ls) run low a b r c h =
       step l.mark run low b l.node ls (subst (λ (z : ℤ). IsRun run low z) (sym c.0) r) c.1 (covers_forward ls l.node.b b c.2) (All-head HasRightMark l ls h) (λ s k q. joined_are ls s k l.node.b b q c.2 (All-tail HasRightMark l ls h))
 
-  pub windows_are : (a b : ℤ) (ls : List Leaf) → Covers a ls b → AreRightlyMarked P U ls → AreWindows P U a b (windows ls)
+  pub windows_are : (a b : ℤ) (ls : List Leaf) → Covers a ls b → AreRightlyMarked E U ls → AreWindows E U a b (windows ls)
   windows_are a b ls c h =
-      subst (λ (ws : List Window). AreWindows P U a b ws) (joined_are_windows ls) (joined_are ls None a a b refl c h)
+      subst (λ (ws : List Window). AreWindows E U a b ws) (joined_are_windows ls) (joined_are ls None a a b refl c h)

@@ -1,6 +1,9 @@
 -- When an event happens, and what a window of time promises of the events in it.
--- P says of each time whether a function is at least 0 there. Times are seconds of TDB since J2000.
-use Rattle.std.specs.Prelude.{◌≡◌, ◌⊎◌, Bool, true, List, All, Any, ℤ, pos, ◌-ℤ◌, ◌≤ℤ◌, ◌<ℤ◌}
+-- E says of a direction and a time whether a turn in that direction happens then, and P of a time whether a condition
+-- holds. Times are seconds of TDB since J2000.
+use Rattle.std.specs.Prelude.{◌≡◌, ◌⊎◌, Bool, true, false, List, All, Any, ℤ, pos, ◌-ℤ◌, ◌≤ℤ◌, ◌<ℤ◌}
+use Rattle.spec_events.specs.declared.dir.Dir.{Dir}
+use Rattle.spec_events.specs.declared.dir.Dir.TheVariants as D
 use Rattle.spec_trees.specs.declared.tree.Turn.{Turn}
 use Rattle.spec_trees.specs.declared.tree.Turn.TheVariants.{Rise, Fall}
 use Rattle.spec_trees.specs.declared.window.Holds.TheVariants.{Certain, Undecided}
@@ -12,37 +15,63 @@ abbrev pub IsTurn : (ℤ → Type 0) → Turn → ℤ → Type 0
 IsTurn P Rise t = (P (t -ℤ pos 1) → ⊥) × P t
 IsTurn P Fall t = P (t -ℤ pos 1) × (P t → ⊥)
 
--- P changes from the time before to this one
-abbrev pub IsEvent : (ℤ → Type 0) → ℤ → Type 0
-IsEvent P t = IsTurn P Rise t ⊎ IsTurn P Fall t
+-- the direction is one of those that are asked for
+abbrev pub wants : Dir → Turn → Bool
+wants D.Any turn = true
+wants D.Rise Rise = true
+wants D.Rise Fall = false
+wants D.Fall Rise = false
+wants D.Fall Fall = true
+
+-- P turns in this direction, which is wanted, and G is so of the time
+pub record IsWantedTurn (P : ℤ → Type 0) (dir : Dir) (G : ℤ → Type 0) (turn : Turn) (t : ℤ) : Type 0 where
+  pub wanted : wants dir turn ≡ true
+  pub turns : IsTurn P turn t
+  pub guarded : G t
+
+-- what is so of every time: the guard of an event that has none
+abbrev pub Always : ℤ → Type 0
+Always t = Unit {0}
+
+-- a turn happens, in one direction or the other
+abbrev pub IsEvent : (Turn → ℤ → Type 0) → ℤ → Type 0
+IsEvent E t = E Rise t ⊎ E Fall t
+
+-- no event happens after one time and up to another
+abbrev pub HasNoEvent : (Turn → ℤ → Type 0) → ℤ → ℤ → Type 0
+HasNoEvent E after upto = (t : ℤ) → after <ℤ t → t ≤ℤ upto → IsEvent E t → ⊥
 
 -- exactly one event lies in the window, and it is a turn in this direction
-pub record HoldsOne (P : ℤ → Type 0) (turn : Turn) (window : Window) : Type 0 where
+pub record HoldsOne (E : Turn → ℤ → Type 0) (turn : Turn) (window : Window) : Type 0 where
   pub time : ℤ
   pub inside : IsIn window time
-  pub turns : IsTurn P turn time
-  pub alone : (t : ℤ) → IsIn window t → IsEvent P t → t ≡ time
+  pub turns : E turn time
+  pub alone : (t : ℤ) → IsIn window t → IsEvent E t → t ≡ time
 
 -- each event after one time and up to another lies in a window
-abbrev pub HoldEvents : (ℤ → Type 0) → ℤ → ℤ → List Window → Type 0
-HoldEvents P after upto ws = (t : ℤ) → after <ℤ t → t ≤ℤ upto → IsEvent P t → Any (λ w. IsIn w t) ws
+abbrev pub HoldEvents : (Turn → ℤ → Type 0) → ℤ → ℤ → List Window → Type 0
+HoldEvents E after upto ws = (t : ℤ) → after <ℤ t → t ≤ℤ upto → IsEvent E t → Any (λ w. IsIn w t) ws
 
 -- each certain window holds exactly one event, a turn in its direction
-abbrev pub AreCertain : (ℤ → Type 0) → List Window → Type 0
-AreCertain P ws = All (λ w. (turn : Turn) → w.holds ≡ Certain turn → HoldsOne P turn w) ws
+abbrev pub AreCertain : (Turn → ℤ → Type 0) → List Window → Type 0
+AreCertain E ws = All (λ w. (turn : Turn) → w.holds ≡ Certain turn → HoldsOne E turn w) ws
 
 -- U is so of each time of each undecided window
 abbrev pub AreOpen : (ℤ → Type 0) → List Window → Type 0
 AreOpen U ws = All (λ w. w.holds ≡ Undecided → (t : ℤ) → IsIn w t → U t) ws
 
--- the windows of the events of P after one time and up to another, where U is so of what is left undecided
-pub record AreWindows (P U : ℤ → Type 0) (after upto : ℤ) (ws : List Window) : Type 0 where
+-- the windows of the events after one time and up to another, where U is so of what is left undecided
+pub record AreWindows (E : Turn → ℤ → Type 0) (U : ℤ → Type 0) (after upto : ℤ) (ws : List Window) : Type 0 where
   pub within : AreWithin after upto ws
   pub in_order : AreInOrder ws
-  pub every_event : HoldEvents P after upto ws
-  pub certain : AreCertain P ws
+  pub every_event : HoldEvents E after upto ws
+  pub certain : AreCertain E ws
   pub undecided : AreOpen U ws
 
 -- a fact of times that a test decides
 abbrev pub Passes : (ℤ → Bool) → ℤ → Type 0
 Passes test t = test t ≡ true
+
+-- events that a test decides
+abbrev pub Happens : (Turn → ℤ → Bool) → Turn → ℤ → Type 0
+Happens test turn t = test turn t ≡ true

@@ -1,2 +1,5 @@
 pub mod Events
+pub mod Functions
 pub mod Marks
+pub mod Verdict
+pub mod Soundness

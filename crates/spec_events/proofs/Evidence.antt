@@ -16,7 +16,7 @@ use Rattle.spec_intervals.specs.Enclosure.{change}
 use Rattle.spec_intervals.specs.Signs.{sign_of}
 use Rattle.spec_intervals.proofs.SignLaws.{yes-not_negative, no-negative}
 use Rattle.spec_trees.specs.declared.tree.Node.{Node}
-use Rattle.spec_events.specs.Functions.{IsNotNegative, Guard, GuardHolds, GuardsHold, is_so}
+use Rattle.spec_events.specs.Functions.{IsNotNegative, Guard, GuardHolds, GuardsHold, IsOnSide}
 use Rattle.spec_events.specs.Verdict.{certifies, is_certified, is_refuted}
 use Rattle.spec_events.specs.Soundness.{Tells, Lasts, IsNot, AreSound, GuardEvidence, Evidence, finding_of, findings_of, guard_of, guards_of, IsGuardHeld, IsEvidence}
 
@@ -67,7 +67,7 @@ module _ (exact : ℤ → Fraction) (a b : ℤ) (numbers : (t : ℤ) → a ≤�
       x (up_by (exact (t +ℤ pos 1)).numerator (exact t).numerator (exact (t +ℤ pos 1)).denominator (exact t).denominator (numbers (t +ℤ pos 1) (omega (arith, lin)) (omega (arith, lin))) (omega (arith, lin)) y)
 
 -- ---- guards
-certified_one : (at_least : Bool) (exact : ℤ → Fraction) (interval : Interval) (t : ℤ) → IsFraction (exact t) → Holds interval (exact t) → (sign : Sign) → sign_of interval ≡ sign → certifies at_least sign ≡ true → is_so at_least exact t
+certified_one : (at_least : Bool) (exact : ℤ → Fraction) (interval : Interval) (t : ℤ) → IsFraction (exact t) → Holds interval (exact t) → (sign : Sign) → sign_of interval ≡ sign → certifies at_least sign ≡ true → IsOnSide at_least exact t
 certified_one true exact interval t d h Yes e k = yes-not_negative interval (exact t) e h
 certified_one false exact interval t d h No e k = no-negative interval (exact t) e d h
 certified_one true exact interval t d h No e k = absurd (false≢true k)
@@ -75,7 +75,7 @@ certified_one true exact interval t d h Open e k = absurd (false≢true k)
 certified_one false exact interval t d h Yes e k = absurd (false≢true k)
 certified_one false exact interval t d h Open e k = absurd (false≢true k)
 
-refuted_one : (at_least : Bool) (exact : ℤ → Fraction) (interval : Interval) (t : ℤ) → IsFraction (exact t) → Holds interval (exact t) → (sign : Sign) → sign_of interval ≡ sign → certifies (not at_least) sign ≡ true → is_so at_least exact t → ⊥
+refuted_one : (at_least : Bool) (exact : ℤ → Fraction) (interval : Interval) (t : ℤ) → IsFraction (exact t) → Holds interval (exact t) → (sign : Sign) → sign_of interval ≡ sign → certifies (not at_least) sign ≡ true → IsOnSide at_least exact t → ⊥
 refuted_one true exact interval t d h No e k x = not_both (exact t).numerator x (no-negative interval (exact t) e d h)
 refuted_one false exact interval t d h Yes e k x = not_both (exact t).numerator (yes-not_negative interval (exact t) e h) x
 refuted_one true exact interval t d h Yes e k x = false≢true k

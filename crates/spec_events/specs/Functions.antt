@@ -19,12 +19,13 @@ pub record Guard : Type 0 where
   pub exact : ℤ → Fraction
   pub at_least : Bool
 
-abbrev pub is_so : Bool → (ℤ → Fraction) → ℤ → Type 0
-is_so true exact t = IsNotNegative exact t
-is_so false exact t = IsNegative exact t
+-- at least 0, or below 0
+abbrev pub IsOnSide : Bool → (ℤ → Fraction) → ℤ → Type 0
+IsOnSide true exact t = IsNotNegative exact t
+IsOnSide false exact t = IsNegative exact t
 
 abbrev pub GuardHolds : Guard → ℤ → Type 0
-GuardHolds g t = is_so g.at_least g.exact t
+GuardHolds g t = IsOnSide g.at_least g.exact t
 
 -- every guard holds
 abbrev pub GuardsHold : List Guard → ℤ → Type 0

@@ -3,3 +3,4 @@ pub mod Functions
 pub mod Marks
 pub mod Verdict
 pub mod Soundness
+pub mod VerdictExamples

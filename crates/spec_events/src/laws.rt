@@ -1,5 +1,5 @@
 // The laws about events, and about the windows of a covered span.
-ghost use Rattle.std.specs.Prelude.{◌≡◌, List, Bool, ℤ, ◌↔◌};
+ghost use Rattle.std.specs.Prelude.{◌≡◌, ◌<◌, ◌≤◌, ◌⊎◌, ◌↔◌, List, Bool, true, ℤ, ◌<ℤ◌};
 ghost use Rattle.spec_intervals.specs.Fraction.{Fraction};
 ghost use Rattle.spec_events.specs.declared.dir.Dir.{Dir};
 ghost use Rattle.spec_events.specs.declared.dir.Dir.TheVariants.{Any};
@@ -11,9 +11,10 @@ ghost use Rattle.spec_events.specs.Verdict.{Criteria, Findings, verdict};
 ghost use Rattle.spec_trees.specs.declared.tree.Leaf.{Leaf};
 ghost use Rattle.spec_trees.specs.declared.tree.Node.{Node};
 ghost use Rattle.spec_trees.specs.declared.tree.Turn.{Turn};
-ghost use Rattle.spec_trees.specs.declared.tree.Verdict.TheVariants.{Clear, One};
+ghost use Rattle.spec_trees.specs.declared.tree.Verdict.TheVariants.{Clear, One, Split, Undecided};
 ghost use Rattle.spec_trees.specs.declared.window.Holds.TheVariants.{Certain};
-ghost use Rattle.spec_trees.specs.Tree.{Covers};
+ghost use Rattle.spec_trees.specs.Cuts.{is_wide};
+ghost use Rattle.spec_trees.specs.Tree.{Covers, width};
 ghost use Rattle.spec_trees.specs.Windows.{window_of, windows};
 
 /// Where any direction is wanted and there is no guard, the events are the turns.
@@ -63,4 +64,16 @@ pub fn a_node_with_one_holds_one()
 pub fn enclosures_give_findings()
     ensures sound { (exact : ℤ → Fraction) (n : Node) (e : Evidence) → IsEvidence exact n e
         → AreSound (IsNotNegative exact) (GuardsHold (guards_of e)) n (findings_of e) }
+{}
+
+/// A node into which a border falls is split where it is wider than one unit of time, whatever else is found there.
+pub fn wide_nodes_at_a_border_are_split()
+    ensures split { (c : Criteria) (n : Node) (f : Findings) → f.crosses ≡ true
+        → is_wide n ≡ true → verdict c n f ≡ Split }
+{}
+
+/// An undecided node is no wider than the width that is asked for, or as deep as the depth.
+pub fn undecided_nodes_are_at_a_limit()
+    ensures limit { (c : Criteria) (n : Node) (f : Findings) → n.a <ℤ n.b → 0 < c.width
+        → verdict c n f ≡ Undecided → (width n ≤ c.width) ⊎ (c.depth ≤ n.depth) }
 {}

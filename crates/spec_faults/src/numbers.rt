@@ -81,5 +81,26 @@ pub const TOO_MANY_BLOCKS: u8 = 38;
 /// After the last number of a block stands a word that isn't zero.
 pub const TRAILING_NUMBERS: u8 = 39;
 
+/// A column that the event needs isn't there.
+pub const BODY_ABSENT: u8 = 50;
+
+/// Two of the target, the second body and the observer are one body.
+pub const SAME_BODY: u8 = 51;
+
+/// A reference value or a radius is out of its range.
+pub const REFERENCE_RANGE: u8 = 52;
+
+/// There is no word.
+pub const NO_COMMAND: u8 = 60;
+
+/// The first word is no command.
+pub const UNKNOWN_COMMAND: u8 = 61;
+
+/// The words after the command aren't of its form.
+pub const WORDS: u8 = 62;
+
+/// A value is missing, isn't used here, or isn't of its form. The name of its option is printed after the fault's.
+pub const BAD_VALUE: u8 = 63;
+
 /// The words of the command line ask for what isn't built yet.
 pub const WORDS_NOT_BUILT: u8 = 64;

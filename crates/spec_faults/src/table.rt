@@ -7,7 +7,7 @@ use crate::numbers::*;
 
 /// All faults, in the order of their numbers: the number under which one is reported, its name, and whether a detail is
 /// printed after the name.
-pub const FAULTS: [(u8, &str, bool); 28] = [
+pub const FAULTS: [(u8, &str, bool); 35] = [
     (LINE_TOO_LONG, "LineTooLong", false),
     (TOO_MANY_FILES, "TooManyFiles", false),
     (FILE_TOO_LARGE, "FileTooLarge", false),
@@ -35,6 +35,13 @@ pub const FAULTS: [(u8, &str, bool); 28] = [
     (NO_BLOCK, "NoBlock", false),
     (TOO_MANY_BLOCKS, "TooManyBlocks", false),
     (TRAILING_NUMBERS, "TrailingNumbers", false),
+    (BODY_ABSENT, "BodyAbsent", false),
+    (SAME_BODY, "SameBody", false),
+    (REFERENCE_RANGE, "ReferenceRange", false),
+    (NO_COMMAND, "NoCommand", false),
+    (UNKNOWN_COMMAND, "UnknownCommand", false),
+    (WORDS, "Words", false),
+    (BAD_VALUE, "BadValue", false),
     (WORDS_NOT_BUILT, "NotBuilt", false),
 ];
 

@@ -45,6 +45,14 @@ impl Formula {
         }
     }
 
+    /// An expression that is known to keep the limits, as a formula.
+    pub fn of(expr: Expr) -> Formula
+        requires { IsFormula (term expr) }
+        ensures { result ≡ term expr }
+    {
+        Formula { expr }
+    }
+
     /// The expression.
     pub(crate) fn expr(&self) -> &Expr
         ensures whole { term result.now ≡ self.now }

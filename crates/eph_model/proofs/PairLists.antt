@@ -1,14 +1,13 @@
 -- Pairs beside numbers, one after the other.
-use Rattle.std.proofs.Common.{◌≡◌, ℕ, zero, suc, ◌+◌, ◌^◌, ◌<◌, ◌≤◌, slice_index_or, nat_le, true, append_assoc, sym, List, [], ◌∷◌, ◌++◌, length, map, take, drop, All, ℤ, unsigned_abs, w64, to_z, of_z, FitsSigned, refl, ap, ◌∙◌, arith}
+use Rattle.std.proofs.Common.{◌≡◌, ℕ, zero, suc, ◌+◌, ◌^◌, ◌<◌, ◌≤◌, slice_index_or, append_assoc, sym, List, [], ◌∷◌, ◌++◌, length, map, take, drop, All, ℤ, unsigned_abs, w64, to_z, of_z, FitsSigned, refl, ap, ◌∙◌, arith}
 use Rattle.std.proofs.lemmas.Int.{ints, to_z-of_z}
 use Rattle.std.proofs.lemmas.List.{take_more}
 use Rattle.std.proofs.lemmas.List.Elements.{All-head, All-tail}
 use mir.Syntax.{w128}
 use Rattle.spec_text.specs.declared.decimals.Decimal.{Decimal}
 use Rattle.spec_ephemeris.specs.declared.granule.Rounded.{Rounded}
-use Rattle.spec_ephemeris.specs.declared.limits.TheConstants.{BODY_COLUMNS}
 use Rattle.spec_ephemeris.specs.Ephemeris.{IsBodyNumber}
-use Rattle.spec_ephemeris.specs.Rounding.{pair_of, pairs_of}
+use Rattle.spec_ephemeris.specs.Rounding.{pair_of}
 use Rattle.eph_model.specs.Pairs.{IsPair, ArePairs}
 
 pub pairs_length : (ds : List Decimal) (ps : List Rounded) → ArePairs ds ps → length ps ≡ length ds
@@ -54,9 +53,6 @@ pairs_within ds ps from ncoeff first size are =
     pairs_take size (drop first (take ncoeff (drop from ds))) (drop first (take ncoeff (drop from ps)))
     (pairs_drop first (take ncoeff (drop from ds)) (take ncoeff (drop from ps))
     (pairs_take ncoeff (drop from ds) (drop from ps) (pairs_drop from ds ps are)))
-
-pub pairs_of_body : (number : ℕ) (numbers : List Decimal) → number ≤ BODY_COLUMNS → map pair_of numbers ≡ pairs_of number numbers
-pairs_of_body number numbers body = let holds : nat_le number BODY_COLUMNS ≡ true = grind (arith, body) in rw holds refl
 
 -- one number more with its pair
 pub pairs_more : (before numbers : List Decimal) (k : ℕ) (d : Decimal) (p : Rounded) (old new : List Rounded) → k < length numbers

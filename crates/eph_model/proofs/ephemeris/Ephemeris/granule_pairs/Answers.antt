@@ -6,8 +6,9 @@ use Rattle.spec_ephemeris.specs.declared.limits.TheConstants.{BODY_COLUMNS}
 use Rattle.spec_ephemeris.specs.Header.{granule_size}
 use Rattle.spec_ephemeris.specs.Ephemeris.{Ephemeris, IsEphemeris, IsBodyNumber, block_numbers, granule_numbers}
 use Rattle.spec_ephemeris.proofs.GranuleNumbers.{numbers_bounded}
+use Rattle.spec_ephemeris.proofs.Rounding.{pairs_of_body}
 use Rattle.eph_model.specs.Pairs.{ArePairs}
-use Rattle.eph_model.proofs.PairLists.{pairs_length, pairs_within, pairs_are, pairs_of_body}
+use Rattle.eph_model.proofs.PairLists.{pairs_length, pairs_within, pairs_are}
 use Rattle.eph_model.proofs.ephemeris.Ephemeris.granule_pairs.Goals as goal
 
 pub numbers_at-requires-clause-block : goal.numbers_at-requires-clause-block

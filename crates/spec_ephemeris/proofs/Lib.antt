@@ -1,8 +1,11 @@
 pub mod HeaderTest
 pub mod ColumnRules
 pub mod Granules
+pub mod Nearer
+pub mod NearestBorders
 pub mod GranuleAt
 pub mod Pushing
 pub mod GranuleNumbers
 pub mod SmallNumbers
 pub mod Units
+pub mod Rounding

@@ -2,6 +2,7 @@
 use Rattle.std.specs.Prelude.{◌≡◌, ℕ, List, replicate, [], ◌∷◌, ℤ, pos, neg_ℤ, ◌*ℤ◌}
 use Rattle.spec_text.specs.declared.decimals.Decimal.{Decimal}
 use Rattle.spec_intervals.specs.Fraction.{Fraction}
+use Rattle.spec_ephemeris.specs.declared.granule.Rounded.{Rounded}
 use Rattle.spec_ephemeris.specs.declared.header.Column.{Column}
 use Rattle.spec_ephemeris.specs.declared.header.Header.{Header}
 use Rattle.spec_ephemeris.specs.Series.{Series}
@@ -9,6 +10,13 @@ use Rattle.spec_ephemeris.specs.Ephemeris.{Ephemeris}
 
 abbrev pub whole : ℤ → Decimal
 whole m = record { mant = m; exp = pos 0 }
+
+-- a number of units of 10^-12
+abbrev pub tiny : ℤ → Decimal
+tiny m = record { mant = m; exp = neg_ℤ (pos 12) }
+
+abbrev pub pair : ℤ → ℤ → Rounded
+pair lo hi = record { lo = lo; hi = hi }
 
 -- a fraction is this whole number
 abbrev pub IsWhole : Fraction → ℤ → Type 0
@@ -51,6 +59,10 @@ de405 = record {
       column 3 14 4 ∷ column 171 10 2 ∷ column 231 13 2 ∷ column 309 11 1 ∷ column 342 8 1 ∷ column 366 7 1 ∷ column 387 6 1
       ∷ column 405 6 1 ∷ column 423 6 1 ∷ column 441 13 8 ∷ column 753 11 2 ∷ column 819 10 4 ∷ column 899 10 4 ∷ [];
 }
+
+-- blocks of that header, with no numbers written
+abbrev pub blocks_of_de405 : ℕ → Ephemeris
+blocks_of_de405 blocks = record { header = de405; start = neg_ℤ (pos 43200); blocks = blocks; numbers = [] }
 
 -- a column of two coefficients that begins within Mercury's
 abbrev pub overlapping : Header

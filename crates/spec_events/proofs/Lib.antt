@@ -2,4 +2,4 @@ pub mod Windowing
 mod Lasting
 pub mod Judging
 pub mod Evidence
-mod Limits
+pub mod Limits

@@ -3,8 +3,7 @@
 use Rattle.std.specs.Prelude.{ℕ, ◌+◌, ◌<◌, ◌≤◌, Bool, ◌&&◌, ◌||◌, nat_lt, int_lt, if◌then◌else◌, List, map, Option, None, Some, is_some, ℤ, pos, ◌-ℤ◌}
 use Rattle.spec_intervals.specs.Fraction.{Fraction}
 use Rattle.spec_intervals.specs.Enclosure.{Enclosure}
-use Rattle.spec_expressions.specs.Expression.{Leaf}
-use Rattle.spec_expressions.specs.Term.{Term, exact_of, enclosure_of}
+use Rattle.spec_expressions.specs.Term.{Leaf, Term, exact_of, enclosure_of}
 use Rattle.spec_ephemeris.specs.Borders.{nearest_border}
 use Rattle.spec_bodies.specs.Views.{View, IsView, columns_of, exact_state, state_enclosure}
 use Rattle.spec_trees.specs.declared.cuts.CutRule.{CutRule}

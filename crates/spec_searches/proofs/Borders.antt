@@ -1,5 +1,5 @@
 -- What the border is that falls into a span, and which times fit a view.
-use Rattle.std.proofs.Common.{◌≡◌, Bool, false, Option, None, Some, is_some, ℤ, ◌≤ℤ◌, ◌<ℤ◌, refl, subst, arith}
+use Rattle.std.proofs.Common.{◌≡◌, false, Option, None, Some, is_some, ℤ, ◌≤ℤ◌, ◌<ℤ◌, subst, arith}
 use Rattle.std.proofs.lemmas.Int.{ints}
 use Rattle.spec_ephemeris.specs.Borders.{nearest_border}
 use Rattle.spec_ephemeris.specs.Ephemeris.{IsBorderIn, IsNearestBorder, end_of}

@@ -1,5 +1,5 @@
 -- The windows that a search finds are those of its events.
-use Rattle.std.proofs.Common.{◌≡◌, ◌≤◌, ◌⊎◌, inl, inr, ℕ, List, Option, Some, ℤ, ◌≤ℤ◌, ◌<ℤ◌, refl, ap, ◌∙◌, subst, arith}
+use Rattle.std.proofs.Common.{◌≡◌, ◌≤◌, ◌⊎◌, inl, inr, List, Some, ℤ, ◌≤ℤ◌, ◌<ℤ◌, refl, ap, ◌∙◌, subst, arith}
 use Rattle.std.proofs.lemmas.List.Elements.{All-weaker}
 use Rattle.spec_intervals.specs.Fraction.{Fraction}
 use Rattle.spec_expressions.specs.Term.{exact_of}
@@ -10,7 +10,7 @@ use Rattle.spec_trees.specs.declared.tree.Mark.TheVariants as M
 use Rattle.spec_trees.specs.declared.tree.Node.{Node}
 use Rattle.spec_trees.specs.declared.tree.Turn.{Turn}
 use Rattle.spec_trees.specs.declared.tree.Verdict.{Verdict}
-use Rattle.spec_trees.specs.declared.tree.Verdict.TheVariants.{Clear, One, Split, Undecided}
+use Rattle.spec_trees.specs.declared.tree.Verdict.TheVariants.{Clear, One, Undecided}
 use Rattle.spec_trees.specs.declared.window.Holds.TheVariants.{Certain}
 use Rattle.spec_trees.specs.Tree.{IsLeaf, IsValid, leaves, mark_of, width}
 use Rattle.spec_trees.specs.Windows.{window_of}

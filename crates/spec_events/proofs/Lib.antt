@@ -3,3 +3,4 @@ mod Lasting
 pub mod Judging
 pub mod Evidence
 pub mod Limits
+pub mod Stages

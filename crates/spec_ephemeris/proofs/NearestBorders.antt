@@ -1,6 +1,6 @@
 -- The nearest border of columns, as the function gives it, is the nearest of all their borders.
 use Rattle.std.proofs.Common.{◌≡◌, ◌⊎◌, ℕ, zero, suc, ◌+◌, ◌*◌, ◌<◌, ◌≤◌, Bool, true, false, ◌&&◌, if◌then◌else◌, IsTrue, List, [], ◌∷◌, Option, Some, None, ℤ, pos, ◌+ℤ◌, ◌<ℤ◌, ◌≤ℤ◌, int_lt, int_le, refl, arith, inl, inr, ap, sym, ◌∙◌}
-use Rattle.std.specs.Prelude.{Contains}
+use Rattle.std.specs.Prelude.{All, Contains}
 use Rattle.std.proofs.lemmas.Int.{ints}
 use Rattle.std.proofs.lemmas.Nat.{mul-le}
 use Rattle.std.proofs.lemmas.Bool.{cases_lt}
@@ -10,7 +10,7 @@ use Rattle.spec_ephemeris.specs.declared.header.Column.{Column}
 use Rattle.spec_ephemeris.specs.Header.{IsColumn, has_column}
 use Rattle.spec_ephemeris.specs.Ephemeris.{Ephemeris, IsEphemeris, Granule, IsGranule, IsBorder, IsBorderIn, IsNearest, IsNearestBorder}
 use Rattle.spec_ephemeris.specs.Granules.{column_of, granule_length, granule_of_index}
-use Rattle.spec_ephemeris.specs.Borders.{time_in, granule_start, nearest_of, border_count, nearest_of_column, nearest_border, HasColumns}
+use Rattle.spec_ephemeris.specs.Borders.{time_in, granule_start, nearest_of, border_count, nearest_of_column, nearest_border}
 use Rattle.spec_ephemeris.proofs.ColumnRules.{one_column, is_column, some_granules}
 use Rattle.spec_ephemeris.proofs.GranuleAt.{shares, some_length, at_index}
 use Rattle.spec_ephemeris.proofs.Nearer.{nearest_of_two, same}
@@ -152,13 +152,14 @@ first_or_later : (x y : ℕ) (xs : List ℕ) → Contains (x ∷ xs) y → (x �
 first_or_later x y xs (zero, below, is) = inl is
 first_or_later x y xs (suc k, below, is) = inr (k, omega (arith, below), is)
 
-pub nearest_of_all : (e : Ephemeris) (numbers : List ℕ) (a b : ℤ) → HasColumns e numbers → IsNearestBorder e numbers a b (nearest_border e numbers a b)
+pub nearest_of_all : (e : Ephemeris) (numbers : List ℕ) (a b : ℤ) → IsEphemeris e → All (λ number. IsTrue (has_column e.header number)) numbers
+    → IsNearestBorder e numbers a b (nearest_border e numbers a b)
 unfolding nearest_border
-nearest_of_all e [] a b has = λ s border. let none = border.listed.1 in absurd (omega (arith, none))
-nearest_of_all e (number ∷ numbers) a b has =
-    let rest : HasColumns e numbers = record { checked = has.checked; columns = λ k d below. has.columns (suc k) d (omega (arith, below)) } in
+nearest_of_all e [] a b checked there = λ s border. let none = border.listed.1 in absurd (omega (arith, none))
+nearest_of_all e (number ∷ numbers) a b checked there =
+    let rest : All (λ number. IsTrue (has_column e.header number)) numbers = λ k d below. there (suc k) d (omega (arith, below)) in
     nearest_of_two (IsColumnBorder e number a b) (IsBorderIn e numbers a b) (IsBorderIn e (number ∷ numbers) a b) a b _ _
-    (nearest_of_one e number has.checked (has.columns 0 0 (omega arith)) a b) (nearest_of_all e numbers a b rest)
+    (nearest_of_one e number checked (there 0 0 (omega arith)) a b) (nearest_of_all e numbers a b checked rest)
     (λ s is. record { number = number; listed = first_listed number numbers; border = is.border; after = is.after; upto = is.upto })
     (λ s is. record { number = is.number; listed = listed_later number is.number numbers is.listed; border = is.border; after = is.after; upto = is.upto })
     (λ s is. elim (first_or_later number is.number numbers is.listed) [

@@ -1,8 +1,7 @@
 use Rattle.std.proofs.Common.{arith, ◌≡◌, ℕ, List, take, to_z, of_z, w64}
 use Rattle.std.proofs.lemmas.Int.{ints, to_z-of_z}
 use Rattle.std.proofs.lemmas.List.{take_all}
-use Rattle.spec_ephemeris.specs.Ephemeris.{Ephemeris, IsEphemeris, IsBorderIn}
-use Rattle.spec_ephemeris.specs.Borders.{HasColumns}
+use Rattle.spec_ephemeris.specs.Ephemeris.{Ephemeris, IsBorderIn}
 use Rattle.spec_ephemeris.proofs.Granules.{nearest_once}
 use Rattle.spec_ephemeris.proofs.NearestBorders.{nearest_of_all}
 use Rattle.eph_model.specs.Grids.{IsGridBorder}
@@ -47,6 +46,5 @@ returns c =
     let same_a : to_z w64 (of_z w64 c.args.a) ≡ c.args.a = to_z-of_z w64 c.args.a c.ranges.a in
     let same_b : to_z w64 (of_z w64 c.args.b) ≡ c.args.b = to_z-of_z w64 c.args.b c.ranges.b in
     let all : take c.loop-column.column-index columns ≡ columns = take_all c.loop-column.column-index columns c.loop-column-test.false in
-    let has : HasColumns e columns = record { checked = c.header-_header.ensures.checked; columns = c.requires.present } in
     nearest_once (IsBorderIn e columns c.args.a c.args.b) c.args.a c.args.b _ _
-    (rw (same_a, same_b, all) at c.loop-column.invariant) (nearest_of_all e columns c.args.a c.args.b has)
+    (rw (same_a, same_b, all) at c.loop-column.invariant) (nearest_of_all e columns c.args.a c.args.b c.header-header.ensures.checked c.requires.present)

@@ -1,23 +1,23 @@
 -- The function and the conditions of an ask that has no fault are formulas.
-use Rattle.std.proofs.Common.{◌≡◌, ◌<◌, ◌≤◌, ◌×◌, ℕ, Bool, true, ◌&&◌, None, List, [], ◌∷◌, arith}
+use Rattle.std.proofs.Common.{◌≡◌, ◌<◌, ◌≤◌, ℕ, true, ◌&&◌, None, [], ◌∷◌, arith}
 use Rattle.std.specs.Prelude.{All}
 use Rattle.std.proofs.lemmas.Bool.{and_parts}
 use Rattle.std.proofs.lemmas.List.Elements.{All-nil, All-cons}
 use Rattle.spec_text.specs.declared.decimals.Decimal.{Decimal}
-use Rattle.spec_intervals.specs.Interval.{IsDistance, IsCosine}
+use Rattle.spec_intervals.specs.Interval.{IsDistance}
 use Rattle.spec_ephemeris.specs.Ephemeris.{Ephemeris}
 use Rattle.spec_expressions.specs.declared.vectors.Vector.{Vector}
 use Rattle.spec_expressions.specs.declared.vectors.Vector.TheVariants.{Position, Velocity}
-use Rattle.spec_expressions.specs.Term.{Term, nodes, degree, HasLeaves, HasConstants, IsFormula}
-use Rattle.spec_expressions.specs.Vectors.{IsVector, coordinate, dot, squared_length}
-use Rattle.spec_searches.specs.Event.{Condition, IsCondition, AreFormulas}
+use Rattle.spec_expressions.specs.Term.{nodes, degree, HasLeaves, HasConstants, IsFormula}
+use Rattle.spec_expressions.specs.Vectors.{IsVector, coordinate, dot}
+use Rattle.spec_searches.specs.Event.{IsCondition, AreFormulas}
 use Rattle.spec_kinds.specs.declared.ask.Ask.{Ask}
 use Rattle.spec_kinds.specs.declared.kind.Kind.{Kind}
 use Rattle.spec_kinds.specs.declared.kind.Kind.TheVariants as K
 use Rattle.spec_kinds.specs.declared.shadow.Shadow.{Shadow}
 use Rattle.spec_kinds.specs.declared.shadow.Shadow.TheVariants.{Any, Full, Annular}
 use Rattle.spec_kinds.specs.Vectors.{target, second, target_velocity, second_velocity, plane_dot, plane_cross}
-use Rattle.spec_kinds.specs.Shadows.{shadow_function, shadow_conditions, farther, larger}
+use Rattle.spec_kinds.specs.Shadows.{at_least_0, below_0, shadow_function, shadow_conditions, farther, larger}
 use Rattle.spec_kinds.specs.Kinds.{kind_function, kind_conditions, event_of}
 use Rattle.spec_kinds.specs.Asks.{IsAsk}
 use Rattle.spec_kinds.specs.Faults.{is_radius, are_in_range, fault_of}
@@ -132,9 +132,9 @@ module _ (front back : Decimal) (p : IsDistance front.mant front.exp) (q : IsDis
   }
 
   shadow_conditions_formulas : (shadow : Shadow) → All IsCondition (shadow_conditions shadow front back)
-  shadow_conditions_formulas Any = All-cons IsCondition _ [] farther_formula (All-nil IsCondition)
-  shadow_conditions_formulas Full = All-cons IsCondition _ _ farther_formula (All-cons IsCondition _ [] larger_formula (All-nil IsCondition))
-  shadow_conditions_formulas Annular = All-cons IsCondition _ _ farther_formula (All-cons IsCondition _ [] larger_formula (All-nil IsCondition))
+  shadow_conditions_formulas Any = All-cons IsCondition (at_least_0 farther) [] farther_formula (All-nil IsCondition)
+  shadow_conditions_formulas Full = All-cons IsCondition (at_least_0 farther) (at_least_0 (larger front back) ∷ []) farther_formula (All-cons IsCondition (at_least_0 (larger front back)) [] larger_formula (All-nil IsCondition))
+  shadow_conditions_formulas Annular = All-cons IsCondition (at_least_0 farther) (below_0 (larger front back) ∷ []) farther_formula (All-cons IsCondition (below_0 (larger front back)) [] larger_formula (All-nil IsCondition))
 
 -- ---- the rows of the table
 crossing_formula : (u v : Vector) → HasLeaves (plane_cross u v) → HasConstants (plane_cross u v) → nodes (plane_cross u v) ≤ 128 → degree (plane_cross u v) ≤ 16 → IsFormula (plane_cross u v)
@@ -187,10 +187,10 @@ row_function K.SepExt axis v w along is = record {
   leaves = (((a'b, ab'), (aa, bb)), (ab, ((aa', bb), (aa, bb'))));
   nodes_within = omega arith;
   degree_within = omega arith;
-  constants =
-      ( ((dot_free target_velocity second, dot_free target second_velocity), (dot_free target target, dot_free second second))
-      , (dot_free target second, ((dot_free target target_velocity, dot_free second second), (dot_free target target, dot_free second second_velocity)))
-      );
+  constants = (
+    ((dot_free target_velocity second, dot_free target second_velocity), (dot_free target target, dot_free second second)),
+    (dot_free target second, ((dot_free target target_velocity, dot_free second second), (dot_free target target, dot_free second second_velocity))),
+  );
 }
 row_function K.Any axis v w along is = let r = radii v w is in shadow_formula v w r.0 r.1 Any
 row_function K.Full axis v w along is = let r = radii v w is in shadow_formula v w r.0 r.1 Full
@@ -200,8 +200,8 @@ pub row_conditions : (kind : Kind) (v w : Decimal) → are_in_range kind v w ≡
 row_conditions K.Coord v w is = All-nil IsCondition
 row_conditions K.Radius v w is = All-nil IsCondition
 row_conditions K.Apsis v w is = All-nil IsCondition
-row_conditions K.Conj v w is = All-cons IsCondition _ [] both_along (All-nil IsCondition)
-row_conditions K.Oppo v w is = All-cons IsCondition _ [] both_along (All-nil IsCondition)
+row_conditions K.Conj v w is = All-cons IsCondition (at_least_0 (plane_dot target second)) [] both_along (All-nil IsCondition)
+row_conditions K.Oppo v w is = All-cons IsCondition (below_0 (plane_dot target second)) [] both_along (All-nil IsCondition)
 row_conditions K.Station v w is = All-nil IsCondition
 row_conditions K.Sep v w is = All-nil IsCondition
 row_conditions K.SepExt v w is = All-nil IsCondition

@@ -1,5 +1,5 @@
 -- What is so of an ask that has no fault.
-use Rattle.std.proofs.Common.{◌≡◌, ◌≢◌, ◌<◌, ◌×◌, Bool, true, false, ◌||◌, not, List, [], ◌∷◌, Option, None, Some, unwrap_or, if◌then◌else◌, refl, arith}
+use Rattle.std.proofs.Common.{◌≡◌, ◌≢◌, ◌<◌, Bool, true, false, ◌||◌, not, [], ◌∷◌, Option, None, Some, unwrap_or, if◌then◌else◌, refl}
 use Rattle.std.specs.Prelude.{All, IfSome}
 use Rattle.std.specs.List.{list_all}
 use Rattle.std.proofs.lemmas.Bool.{and_parts}
@@ -10,7 +10,6 @@ use Rattle.spec_ephemeris.specs.Ephemeris.{Ephemeris, IsEphemeris}
 use Rattle.spec_bodies.specs.Views.{HasBody, IsView}
 use Rattle.spec_bodies.proofs.InUse.{body_there as source_there}
 use Rattle.spec_kinds.specs.declared.ask.Ask.{Ask}
-use Rattle.spec_kinds.specs.declared.fault.EventFault.{EventFault}
 use Rattle.spec_kinds.specs.declared.fault.EventFault.TheVariants.{BodyAbsent, SameBody, ReferenceRange}
 use Rattle.spec_kinds.specs.Asks.{IsAsk, targets_of, before, bodies_of}
 use Rattle.spec_kinds.specs.Faults.{has_body, is_same, has_twice, are_in_range, fault_of}
@@ -23,7 +22,7 @@ pub record IsServed (e : Ephemeris) (ask : Ask) : Type 0 where
   pub apart : has_twice (bodies_of ask) ≡ false
   pub in_range : are_in_range ask.kind ask.value1 ask.value2 ≡ true
 
-first_of_none : (there twice in_range : Bool) → (if not there then Some BodyAbsent else if twice then Some SameBody else if not in_range then Some ReferenceRange else None) ≡ None {A = EventFault} → (there ≡ true) × (twice ≡ false) × (in_range ≡ true)
+first_of_none : (there twice in_range : Bool) → (if not there then Some BodyAbsent else if twice then Some SameBody else if not in_range then Some ReferenceRange else None) ≡ None → (there ≡ true) × (twice ≡ false) × (in_range ≡ true)
 first_of_none true false true is = (refl, refl, refl)
 first_of_none true false false is = absurd (cc)
 first_of_none true true in_range is = absurd (cc)
@@ -65,7 +64,7 @@ pub present : (e : Ephemeris) (ask : Ask) → fault_of e ask ≡ None → All (H
 present e ask is =
     let there = all_pass (has_body e) ask.target ask.second ask.observer (served e ask is).there in
     All-cons (HasBody e) ask.observer (targets_of ask) (body_there e ask.observer there.2)
-        (all_of_two (HasBody e) ask.target (unwrap_or ask.second ask.target) (body_there e ask.target there.0) (body_there e _ there.1))
+    (all_of_two (HasBody e) ask.target (unwrap_or ask.second ask.target) (body_there e ask.target there.0) (body_there e _ there.1))
 
 pub apart : (e : Ephemeris) (ask : Ask) → fault_of e ask ≡ None → All (λ target. target ≢ ask.observer) (targets_of ask)
 apart e ask is =

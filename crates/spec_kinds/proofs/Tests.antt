@@ -1,5 +1,5 @@
 -- What the tests of faults mean.
-use Rattle.std.proofs.Common.{◌≡◌, ◌≢◌, ◌<◌, ◌≤◌, ◌==◌, ◌×◌, ℕ, Bool, true, false, ◌||◌, refl, sym, ap, ◌∙◌, arith, eq-eqb}
+use Rattle.std.proofs.Common.{◌≡◌, ◌≢◌, true, false, ap, eq-eqb}
 use Rattle.std.proofs.lemmas.Bool.{and_parts, ltb-true, leb-true}
 use Rattle.std.proofs.lemmas.List.Sums.{AllPass-from_list_all, list_all-from_AllPass}
 use Rattle.spec_text.specs.declared.decimals.Decimal.{Decimal}
@@ -9,7 +9,7 @@ use Rattle.spec_ephemeris.specs.Header.{has_column}
 use Rattle.spec_ephemeris.specs.Ephemeris.{Ephemeris}
 use Rattle.spec_bodies.specs.Sources.{source_of, needed}
 use Rattle.spec_bodies.specs.Views.{HasBody}
-use Rattle.spec_kinds.specs.Faults.{has_body, is_same, body_number, is_distance, is_cosine, is_negative, is_radius}
+use Rattle.spec_kinds.specs.Faults.{has_body, is_same, body_number, is_distance, is_cosine, is_radius}
 
 pub body_there : (e : Ephemeris) (body : Body) → has_body e body ≡ true → HasBody e body
 body_there e body is = AllPass-from_list_all (λ number. has_column e.header number) (needed (source_of body)) is

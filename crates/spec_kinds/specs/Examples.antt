@@ -1,8 +1,7 @@
 -- Asks over a block in which Mercury, the Earth-Moon barycentre, the Moon and the Sun are, and no other body.
-use Rattle.std.specs.Prelude.{◌∷◌, [], Option, None, Some, ℤ, pos, neg_ℤ, ℕ}
+use Rattle.std.specs.Prelude.{None, Some, pos, neg_ℤ}
 use Rattle.spec_text.specs.declared.decimals.Decimal.{Decimal}
 use Rattle.spec_ephemeris.specs.declared.body.Body.{Body}
-use Rattle.spec_ephemeris.specs.declared.body.Body.TheVariants.{Ssb}
 use Rattle.spec_ephemeris.specs.Examples.{whole}
 use Rattle.spec_bodies.specs.declared.frame.Frame.TheVariants.{Eq}
 use Rattle.spec_events.specs.declared.dir.Dir.TheVariants as D

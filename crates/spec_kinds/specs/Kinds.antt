@@ -29,8 +29,8 @@ apsis_function = dot target target_velocity
 abbrev pub separation_function : Decimal → Term
 separation_function angle =
     difference
-        (signed_square (dot target second))
-        (product (signed_square (cosine angle)) (product (dot target target) (dot second second)))
+    (signed_square (dot target second))
+    (product (signed_square (cosine angle)) (product (dot target target) (dot second second)))
 
 -- D' = a' b + a b'
 abbrev pub dot_change : Term
@@ -40,12 +40,12 @@ dot_change = sum (dot target_velocity second) (dot target second_velocity)
 abbrev pub separation_change : Term
 separation_change =
     difference
-        (product dot_change (product (dot target target) (dot second second)))
-        (product
-            (dot target second)
-            (sum
-                (product (dot target target_velocity) (dot second second))
-                (product (dot target target) (dot second second_velocity))))
+    (product dot_change (product (dot target target) (dot second second)))
+    (product
+    (dot target second)
+    (sum
+    (product (dot target target_velocity) (dot second second))
+    (product (dot target target) (dot second second_velocity))))
 
 -- ---- the rows
 abbrev pub kind_function : Kind → ℕ → Decimal → Decimal → Term

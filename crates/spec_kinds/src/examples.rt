@@ -19,12 +19,12 @@ pub fn functions_of_kinds()
         ≡ difference (leaf (position 0 0)) (length (whole (pos 5))) }
     ensures station { function_of (of_one K.Station Mercury Earth (whole (pos 0)))
         ≡ difference (product (leaf (position 0 0)) (leaf (velocity 0 1)))
-            (product (leaf (position 0 1)) (leaf (velocity 0 0))) }
+        (product (leaf (position 0 1)) (leaf (velocity 0 0))) }
     ensures conjunction { conditions_of (of_two K.Conj Mercury Sun Earth (whole (pos 0)) (whole (pos 0)))
         ≡ record {
-            term = sum (product (leaf (position 0 0)) (leaf (position 1 0)))
-                (product (leaf (position 0 1)) (leaf (position 1 1)));
-            at_least = true;
+          term = sum (product (leaf (position 0 0)) (leaf (position 1 0)))
+              (product (leaf (position 0 1)) (leaf (position 1 1)));
+          at_least = true;
         } ∷ [] }
 {}
 

@@ -1,6 +1,6 @@
 -- The nearest border of columns, as the function gives it, is the nearest of all their borders.
 use Rattle.std.proofs.Common.{◌≡◌, ◌⊎◌, ℕ, zero, suc, ◌+◌, ◌*◌, ◌<◌, ◌≤◌, Bool, true, false, ◌&&◌, if◌then◌else◌, IsTrue, List, [], ◌∷◌, Option, Some, None, ℤ, pos, ◌+ℤ◌, ◌<ℤ◌, ◌≤ℤ◌, int_lt, int_le, refl, arith, inl, inr, ap, sym, ◌∙◌}
-use Rattle.std.specs.Prelude.{Contains}
+use Rattle.std.specs.Prelude.{All, Contains}
 use Rattle.std.proofs.lemmas.Int.{ints}
 use Rattle.std.proofs.lemmas.Nat.{mul-le}
 use Rattle.std.proofs.lemmas.Bool.{cases_lt}
@@ -10,7 +10,7 @@ use Rattle.spec_ephemeris.specs.declared.header.Column.{Column}
 use Rattle.spec_ephemeris.specs.Header.{IsColumn, has_column}
 use Rattle.spec_ephemeris.specs.Ephemeris.{Ephemeris, IsEphemeris, Granule, IsGranule, IsBorder, IsBorderIn, IsNearest, IsNearestBorder}
 use Rattle.spec_ephemeris.specs.Granules.{column_of, granule_length, granule_of_index}
-use Rattle.spec_ephemeris.specs.Borders.{time_in, granule_start, nearest_of, border_count, nearest_of_column, nearest_border, HasColumns}
+use Rattle.spec_ephemeris.specs.Borders.{time_in, granule_start, nearest_of, border_count, nearest_of_column, nearest_border}
 use Rattle.spec_ephemeris.proofs.ColumnRules.{one_column, is_column, some_granules}
 use Rattle.spec_ephemeris.proofs.GranuleAt.{shares, some_length, at_index}
 use Rattle.spec_ephemeris.proofs.Nearer.{nearest_of_two, same}
@@ -40,13 +40,13 @@ one_time a b t = time_if a b t (int_lt a t && int_le t b) refl
 
 -- ---- the first borders of a column
 -- s is the start of one of the granules from the second on, so many, and lies in (a, b]
-record IsAmong (e : Ephemeris) (c : Column) (a b : ℤ) (count : ℕ) (s : ℤ) : Type 0 where
-  index : ℕ
-  later : 0 < index
-  within : index ≤ count
-  is : s ≡ granule_start e c index
-  after : a <ℤ s
-  upto : s ≤ℤ b
+pub record IsAmong (e : Ephemeris) (c : Column) (a b : ℤ) (count : ℕ) (s : ℤ) : Type 0 where
+  pub index : ℕ
+  pub later : 0 < index
+  pub within : index ≤ count
+  pub is : s ≡ granule_start e c index
+  pub after : a <ℤ s
+  pub upto : s ≤ℤ b
 
 last_or_before : (e : Ephemeris) (c : Column) (a b : ℤ) (count : ℕ) (s : ℤ) → IsAmong e c a b (suc count) s
     → (IsAmong e c a b count s) ⊎ (IsTimeIn a b (granule_start e c (suc count)) s)
@@ -70,18 +70,18 @@ nearest_among e c a b (suc count) =
 
 -- ---- the borders of a column
 -- s is a border of the column in (a, b]
-record IsColumnBorder (e : Ephemeris) (number : ℕ) (a b s : ℤ) : Type 0 where
-  border : IsBorder e number s
-  after : a <ℤ s
-  upto : s ≤ℤ b
+pub record IsColumnBorder (e : Ephemeris) (number : ℕ) (a b s : ℤ) : Type 0 where
+  pub border : IsBorder e number s
+  pub after : a <ℤ s
+  pub upto : s ≤ℤ b
 
 -- where all that holds of one holds of the other, they have one nearest
-nearest_as : (P Q : ℤ → Type 0) (a b : ℤ) (o : Option ℤ) → ((s : ℤ) → P s → Q s) → ((s : ℤ) → Q s → P s) → IsNearest P a b o → IsNearest Q a b o
+pub nearest_as : (P Q : ℤ → Type 0) (a b : ℤ) (o : Option ℤ) → ((s : ℤ) → P s → Q s) → ((s : ℤ) → Q s → P s) → IsNearest P a b o → IsNearest Q a b o
 nearest_as P Q a b None there back nearest = λ s is. nearest s (back s is)
 nearest_as P Q a b (Some t) there back nearest = (there t nearest.0, λ s is. nearest.1 s (back s is))
 
 module _ (e : Ephemeris) (number : ℕ) (checked : IsEphemeris e) (there : IsTrue (has_column e.header number)) where
-  border_of : (a b s : ℤ) → IsAmong e (column_of e number) a b (border_count e (column_of e number)) s → IsColumnBorder e number a b s
+  pub border_of : (a b s : ℤ) → IsAmong e (column_of e number) a b (border_count e (column_of e number)) s → IsColumnBorder e number a b s
   border_of a b s is =
       let l : ℕ = granule_length e (column_of e number) in
       let past : 1 * 1 ≤ is.index * l = mul-le 1 1 is.index l is.later (some_length e number checked there) in
@@ -115,7 +115,7 @@ module _ (e : Ephemeris) (number : ℕ) (checked : IsEphemeris e) (there : IsTru
     | inr none ↦ (let nothing : index * l ≤ 0 * l = mul-le index l 0 l none (omega arith) in absurd (omega (arith, ints, nothing, is, later)))
   ]
 
-  among : (a b s : ℤ) → IsColumnBorder e number a b s → IsAmong e (column_of e number) a b (border_count e (column_of e number)) s
+  pub among : (a b s : ℤ) → IsColumnBorder e number a b s → IsAmong e (column_of e number) a b (border_count e (column_of e number)) s
   among a b s is =
       let c : Column = column_of e number in
       let granule : IsGranule e number is.border.granule = is.border.is in
@@ -152,13 +152,14 @@ first_or_later : (x y : ℕ) (xs : List ℕ) → Contains (x ∷ xs) y → (x �
 first_or_later x y xs (zero, below, is) = inl is
 first_or_later x y xs (suc k, below, is) = inr (k, omega (arith, below), is)
 
-pub nearest_of_all : (e : Ephemeris) (numbers : List ℕ) (a b : ℤ) → HasColumns e numbers → IsNearestBorder e numbers a b (nearest_border e numbers a b)
+pub nearest_of_all : (e : Ephemeris) (numbers : List ℕ) (a b : ℤ) → IsEphemeris e → All (λ number. IsTrue (has_column e.header number)) numbers
+    → IsNearestBorder e numbers a b (nearest_border e numbers a b)
 unfolding nearest_border
-nearest_of_all e [] a b has = λ s border. let none = border.listed.1 in absurd (omega (arith, none))
-nearest_of_all e (number ∷ numbers) a b has =
-    let rest : HasColumns e numbers = record { checked = has.checked; columns = λ k d below. has.columns (suc k) d (omega (arith, below)) } in
+nearest_of_all e [] a b checked there = λ s border. let none = border.listed.1 in absurd (omega (arith, none))
+nearest_of_all e (number ∷ numbers) a b checked there =
+    let rest : All (λ number. IsTrue (has_column e.header number)) numbers = λ k d below. there (suc k) d (omega (arith, below)) in
     nearest_of_two (IsColumnBorder e number a b) (IsBorderIn e numbers a b) (IsBorderIn e (number ∷ numbers) a b) a b _ _
-    (nearest_of_one e number has.checked (has.columns 0 0 (omega arith)) a b) (nearest_of_all e numbers a b rest)
+    (nearest_of_one e number checked (there 0 0 (omega arith)) a b) (nearest_of_all e numbers a b checked rest)
     (λ s is. record { number = number; listed = first_listed number numbers; border = is.border; after = is.after; upto = is.upto })
     (λ s is. record { number = is.number; listed = listed_later number is.number numbers is.listed; border = is.border; after = is.after; upto = is.upto })
     (λ s is. elim (first_or_later number is.number numbers is.listed) [

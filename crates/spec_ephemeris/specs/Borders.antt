@@ -1,9 +1,8 @@
 -- The border of columns that is nearest to the middle of a span, as a function.
 -- A border of a column is the start of any of its granules but the first. Times are seconds of TDB since J2000.
-use Rattle.std.specs.Prelude.{ℕ, zero, suc, ◌-◌, ◌*◌, nat_lt, ◌==◌, Bool, ◌&&◌, ◌||◌, IsTrue, All, if◌then◌else◌, List, [], ◌∷◌, Option, None, Some, ℤ, pos, ◌+ℤ◌, int_lt, int_le}
+use Rattle.std.specs.Prelude.{ℕ, zero, suc, ◌-◌, ◌*◌, nat_lt, ◌==◌, Bool, ◌&&◌, ◌||◌, if◌then◌else◌, List, [], ◌∷◌, Option, None, Some, ℤ, pos, ◌+ℤ◌, int_lt, int_le}
 use Rattle.spec_ephemeris.specs.declared.header.Column.{Column}
-use Rattle.spec_ephemeris.specs.Header.{has_column}
-use Rattle.spec_ephemeris.specs.Ephemeris.{Ephemeris, IsEphemeris, off_middle}
+use Rattle.spec_ephemeris.specs.Ephemeris.{Ephemeris, off_middle}
 use Rattle.spec_ephemeris.specs.Granules.{column_of, granule_length}
 
 -- whether t is nearer to the middle of a and b than s, or as near and no later
@@ -41,8 +40,3 @@ nearest_of_column e number a b = nearest_of e (column_of e number) a b (border_c
 unfoldable pub nearest_border : Ephemeris → List ℕ → ℤ → ℤ → Option ℤ
 nearest_border e [] a b = None
 nearest_border e (number ∷ numbers) a b = preferred a b (nearest_of_column e number a b) (nearest_border e numbers a b)
-
--- all the columns are there
-pub record HasColumns (e : Ephemeris) (numbers : List ℕ) : Type 0 where
-  pub checked : IsEphemeris e
-  pub columns : All (λ number. IsTrue (has_column e.header number)) numbers

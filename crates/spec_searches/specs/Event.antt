@@ -2,8 +2,7 @@
 -- bodies' coordinates.
 use Rattle.std.specs.Prelude.{Bool, List, All, map, ℤ}
 use Rattle.spec_intervals.specs.Fraction.{Fraction}
-use Rattle.spec_expressions.specs.Expression.{Leaf}
-use Rattle.spec_expressions.specs.Term.{Term, IsFormula, exact_of}
+use Rattle.spec_expressions.specs.Term.{Leaf, Term, IsFormula, exact_of}
 use Rattle.spec_trees.specs.declared.tree.Turn.{Turn}
 use Rattle.spec_events.specs.declared.dir.Dir.{Dir}
 use Rattle.spec_events.specs.Functions.{Guard, EventsOf}

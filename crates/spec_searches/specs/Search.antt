@@ -1,10 +1,9 @@
 -- A search for an event over the times of an ephemeris: the verdict of each node of its tree, by enclosures alone, and the
 -- two parts of a node that is cut. Times are seconds of TDB since J2000.
-use Rattle.std.specs.Prelude.{ℕ, ◌+◌, ◌<◌, ◌≤◌, Bool, ◌&&◌, ◌||◌, nat_lt, int_lt, if◌then◌else◌, List, map, Option, None, Some, is_some, ℤ, pos, ◌-ℤ◌}
+use Rattle.std.specs.Prelude.{ℕ, ◌+◌, ◌<◌, ◌≤◌, Bool, ◌&&◌, ◌||◌, nat_lt, int_lt, if◌then◌else◌, map, Option, None, Some, is_some, ℤ, pos, ◌-ℤ◌}
 use Rattle.spec_intervals.specs.Fraction.{Fraction}
 use Rattle.spec_intervals.specs.Enclosure.{Enclosure}
-use Rattle.spec_expressions.specs.Expression.{Leaf}
-use Rattle.spec_expressions.specs.Term.{Term, exact_of, enclosure_of}
+use Rattle.spec_expressions.specs.Term.{Leaf, Term, enclosure_of}
 use Rattle.spec_ephemeris.specs.Borders.{nearest_border}
 use Rattle.spec_bodies.specs.Views.{View, IsView, columns_of, exact_state, state_enclosure}
 use Rattle.spec_trees.specs.declared.cuts.CutRule.{CutRule}
@@ -39,27 +38,27 @@ criteria s = record { dir = s.event.dir; width = s.width; depth = s.depth }
 abbrev pub events : Search → Turn → ℤ → Type 0
 events s = events_by (exact_state s.view) s.event
 
--- ---- what is found at a node, given the exact value of each coordinate at each time, and its enclosure over each span
--- the guards of a node that is one unit wide are asked at its one time
+-- ---- what is found at a node
+-- the enclosure of a formula over the times from a to b, given that of each coordinate over each span
+abbrev pub enclosure_over : (Leaf → ℤ → ℤ → Enclosure) → Term → ℤ → ℤ → Enclosure
+enclosure_over answer term a b = enclosure_of (λ l. answer l a b) a b term
+
+-- conditions are asked at the one time of a node that is one unit wide, and else over the whole node
 abbrev pub guards_from : Node → ℤ
 guards_from n = if is_wide n then n.a else n.b
 
-module _ (leaf : Leaf → ℤ → Fraction) (answer : Leaf → ℤ → ℤ → Enclosure) where
-  -- the enclosure of a formula over the times from a to b
-  abbrev pub enclosure_over : Term → ℤ → ℤ → Enclosure
-  enclosure_over term a b = enclosure_of (λ l. answer l a b) a b term
+-- given the exact value of each coordinate at each time too
+abbrev pub guard_evidence : (Leaf → ℤ → Fraction) → (Leaf → ℤ → ℤ → Enclosure) → Node → Condition → GuardEvidence
+guard_evidence exact answer n c = record { guard = guard_of exact c; interval = (enclosure_over answer c.term (guards_from n) n.b).range }
 
-  abbrev pub guard_evidence : Node → Condition → GuardEvidence
-  guard_evidence n c = record { guard = guard_of leaf c; interval = (enclosure_over c.term (guards_from n) n.b).range }
-
-  abbrev pub evidence : Event → Bool → Node → Evidence
-  evidence e crosses n = record {
-    crosses = crosses;
-    first = enclosure_over e.function n.a n.a;
-    last = enclosure_over e.function n.b n.b;
-    whole = enclosure_over e.function n.a n.b;
-    guards = map (guard_evidence n) e.conditions;
-  }
+abbrev pub evidence : (Leaf → ℤ → Fraction) → (Leaf → ℤ → ℤ → Enclosure) → Event → Bool → Node → Evidence
+evidence exact answer e crosses n = record {
+  crosses = crosses;
+  first = enclosure_over answer e.function n.a n.a;
+  last = enclosure_over answer e.function n.b n.b;
+  whole = enclosure_over answer e.function n.a n.b;
+  guards = map (guard_evidence exact answer n) e.conditions;
+}
 
 -- ---- the verdict
 -- the border of the columns in use that is nearest to the middle of a node, if one lies in it

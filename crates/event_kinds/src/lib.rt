@@ -4,12 +4,16 @@
 //! velocities of two targets, of which the first is the ask's target. Nothing here evaluates them, or knows of times.
 #![tactic(auto)]
 
+mod asks;
 mod faults;
 mod guarded;
 mod rows;
 mod table;
+#[cfg(test)]
+mod tests;
 mod vectors;
 
+pub use asks::{is_ask, takes_second};
 pub use faults::KindFault;
 pub use guarded::{Event, Guard};
 pub use spec_bodies::Frame;

@@ -1,0 +1,12 @@
+//! Texts that are generated. A number of blocks and a seed come in; what goes out is a text of JPL's form, as long as one
+//! likes and always accepted, with DE405's columns and with coefficients that are drawn from the seed. Nothing is read.
+#![tactic(auto)]
+
+mod blocks;
+mod draws;
+mod generator;
+mod terms;
+mod words;
+
+pub use generator::{Memory, generate};
+pub use spec_generated::MOST_GENERATED;

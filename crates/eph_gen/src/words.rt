@@ -1,0 +1,55 @@
+// The words of generated blocks.
+ghost use Rattle.std.specs.Prelude.{◌≡◌, ◌+◌, ◌-◌, ◌<◌, ◌≤◌, ◌++◌, ℕ, OnOk, string_bytes};
+ghost use Rattle.spec_generated.specs.Draws.{draws_upto, state_after};
+ghost use Rattle.spec_generated.specs.Words.{block_word, coefficient_word, date_word, zero_word};
+
+use crate::draws::Draws;
+use crate::terms::{millionths, term_at};
+use spec_ephemeris::FIRST_PLACE;
+use spec_generated::{BLOCK_DATES, FIRST_DATE, MOST_GENERATED, NCOEFF};
+use std::alloc::AllocError;
+use std::fmt::Write;
+
+// The Julian date at which a block begins.
+fn add_date(text: &mut String, block: u32) -> Result<(), AllocError>
+    requires { block ≤ MOST_GENERATED }
+    ensures { OnOk result (string_bytes text.new ≡ string_bytes text.old ++ date_word block) }
+{
+    let date = FIRST_DATE + u64::from(block) * BLOCK_DATES;
+    write!(text, "0.{date:018}D+07")
+}
+
+// A coefficient in millionths of a km.
+fn add_coefficient(text: &mut String, millionths: i64) -> Result<(), AllocError>
+    ensures { OnOk result
+        (string_bytes text.new ≡ string_bytes text.old ++ coefficient_word millionths) }
+{
+    if millionths < 0 {
+        text.push('-')?;
+    }
+    let size = millionths.unsigned_abs();
+    write!(text, "0.{size:018}D+12")
+}
+
+/// The word at a place, counted from 1, of a block, counted from 0. The draws are those after the place before.
+pub fn add_word(
+    text: &mut String,
+    block: u32,
+    place: u32,
+    draws: &mut Draws,
+) -> Result<(), AllocError>
+    requires few { block < MOST_GENERATED }
+    requires some { 0 < place }
+    ensures word { (state : ℕ) → draws.old ≡ state_after state (draws_upto (place - 1)) → OnOk result
+        (string_bytes text.new ≡ string_bytes text.old ++ block_word state block place) }
+    ensures drawn { (state : ℕ) → draws.old ≡ state_after state (draws_upto (place - 1)) → OnOk result
+        (draws.new ≡ state_after state (draws_upto place)) }
+{
+    if place < FIRST_PLACE {
+        add_date(text, block + (place - 1))
+    } else if NCOEFF < place {
+        text.push_str("0.000000000000000000D+00")
+    } else {
+        add_coefficient(text, millionths(term_at(place), draws.draw()))
+    }
+}

@@ -52,6 +52,6 @@ pub fn add_block(text: &mut String, block: u32, draws: &mut Draws) -> Result<(),
     ensures drawn { OnOk result (draws.new ≡ state_after draws.old DRAWS) }
 {
     let record = block + 1;
-    write!(text, "{record} {NCOEFF}\n")?;
+    writeln!(text, "{record} {NCOEFF}")?;
     add_rows(text, block, draws)
 }

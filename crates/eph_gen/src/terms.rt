@@ -1,5 +1,5 @@
 // The coefficients of generated blocks.
-ghost use Rattle.std.specs.Prelude.{◌≡◌, ◌<◌};
+ghost use Rattle.std.specs.Prelude.{◌≡◌, ◌+◌, ◌<◌, ◌^◌, ◌-ℤ◌, ◌*ℤ◌, length, pos};
 ghost use Rattle.spec_ephemeris.specs.declared.limits.TheConstants.{MOST_COEFFICIENTS};
 ghost use Rattle.spec_blocks.specs.BlockRules.{is_place};
 ghost use Rattle.spec_generated.specs.Coefficients.{columns_of, millionths, term_among, term_at};
@@ -18,6 +18,7 @@ pub fn term_at(place: u32) -> Term
 
 // The term of a place that belongs to one of these columns, the first of which has this number.
 fn term_among(number: usize, columns: &[(u32, u32, u32, u32)], place: u32) -> Term
+    requires { number + length columns.now < 2 ^ 32 }
     ensures { result ≡ term_among number (columns_of columns.now) place }
 {
     match columns {
@@ -50,10 +51,17 @@ fn is_place(number: usize, column: Column, place: u32) -> bool
     is_present(column) && column.start <= place && u128::from(place) < place_after(number, column)
 }
 
-/// The coefficient of a term for what was drawn, in millionths of a km.
+// What is drawn, as a number from -2^31 on, times a scale.
+fn numerator(draw: u32, scale: u32) -> i64
+    ensures { result ≡ (pos draw -ℤ pos (2 ^ 31)) *ℤ pos scale }
+{
+    (i64::from(draw) - 0x8000_0000) * i64::from(scale)
+}
+
+/// The coefficient of a term for what was drawn, in millionths of a km, rounded towards zero.
 pub fn millionths(term: Term, draw: u32) -> i64
     requires { term.degree < MOST_COEFFICIENTS }
     ensures { result ≡ millionths term draw }
 {
-    (i64::from(draw) - 0x8000_0000) * i64::from(term.scale) / 4_i64.pow(term.degree)
+    numerator(draw, term.scale) / 4_i64.pow(term.degree)
 }

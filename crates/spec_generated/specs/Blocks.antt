@@ -31,12 +31,12 @@ state_of seed block = state_after seed (DRAWS * block)
 -- the lines of so many blocks from this one on
 unfoldable pub lines_from : ℕ → ℕ → ℕ → List (List ℕ)
 lines_from seed block zero = []
-lines_from seed block (suc blocks) = block_lines (state_of seed block) block ++ lines_from seed (suc block) blocks
+lines_from seed block (suc blocks) = block_lines (state_of seed block) block ++ lines_from seed (block + 1) blocks
 
 -- the numbers at so many places, from this one on
 unfoldable pub numbers_from : (ℕ → Decimal) → ℕ → ℕ → List Decimal
 numbers_from number place zero = []
-numbers_from number place (suc places) = number place ∷ numbers_from number (suc place) places
+numbers_from number place (suc places) = number place ∷ numbers_from number (place + 1) places
 
 -- the numbers of a block that begins with this state
 unfoldable pub block_numbers : ℕ → ℕ → List Decimal

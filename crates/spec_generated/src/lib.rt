@@ -5,8 +5,10 @@
 
 mod columns;
 mod examples;
+mod laws;
 mod limits;
 
 pub use columns::{COLUMNS, Term};
 pub use examples::{coefficients_are_drawn, the_first_lines_of_seed_seven};
+pub use laws::generated_texts_are_accepted;
 pub use limits::{BLOCK_DATES, DRAWS, FACTOR, FIRST_DATE, INCREMENT, MOST_GENERATED, NCOEFF, ROWS};

@@ -3,3 +3,7 @@ pub mod Numbers
 pub mod Sizes
 pub mod Times
 pub mod Lines
+pub mod BlockWords
+pub mod Rows
+pub mod Before
+pub mod Accepted

@@ -1,14 +1,13 @@
 -- The blocks before a block, and with it.
-use Rattle.std.proofs.Common.{◌≡◌, ◌≢◌, ◌+◌, ◌-◌, ◌*◌, ◌<◌, ◌≤◌, ◌==◌, ℕ, zero, suc, true, false, List, [], ◌∷◌, ◌++◌, length, Result, Ok, refl, sym, ap, ◌∙◌, arith, lit<, lit≤, subst, inl, inr, ℤ, pos, neg_ℤ, ◌<ℤ◌, eq-eqb, ne_eqb, if◌then◌else◌, nat_lt}
-use Rattle.std.specs.Prelude.{◌+ℤ◌, ◌*ℤ◌, int_le, int_lt}
-use Rattle.std.proofs.lemmas.Bool.{cases_eq, le-ltb, lt-ltb}
+use Rattle.std.proofs.Common.{◌≡◌, ◌≢◌, ◌+◌, ◌<◌, ◌≤◌, ℕ, zero, suc, true, false, List, Ok, refl, ap, ◌∙◌, arith, lit<, inl, inr, ℤ, pos, neg_ℤ, ne_eqb}
+use Rattle.std.specs.Prelude.{int_le, int_lt}
+use Rattle.std.proofs.lemmas.Bool.{cases_eq, lt-ltb}
 use Rattle.std.proofs.lemmas.Int.{ints}
 use Rattle.spec_text.specs.Reading.{reading}
 use Rattle.spec_text.specs.declared.decimals.Decimal.{Decimal}
 use Rattle.spec_ephemeris.specs.Ephemeris.{Ephemeris, end_of}
 use Rattle.spec_ephemeris.specs.Examples.{de405}
 use Rattle.spec_ephemeris.specs.declared.header.Header.{Header}
-use Rattle.spec_sections.specs.declared.rules.BrokenRule.{BrokenRule}
 use Rattle.spec_blocks.specs.BlockRules.{follows, has_length, is_after_gap, is_skipped, number_rule, second_date, time_of, value_rule}
 use Rattle.spec_blocks.specs.Blocks.{accept, no_blocks, with_numbers}
 use Rattle.spec_generated.specs.Blocks.{block_numbers, numbers_from, numbers_of, state_of}

@@ -1,7 +1,7 @@
 -- The words of a block: what they are made of, and what they are read as.
-use Rattle.std.proofs.Common.{◌≡◌, ◌+◌, ◌-◌, ◌*◌, ◌/◌, ◌%◌, ◌^◌, ◌<◌, ◌≤◌, ℕ, zero, suc, true, false, List, [], ◌∷◌, ◌++◌, length, Ok, refl, sym, ap, ◌∙◌, arith, lit<, lit≤, rules, subst, inl, inr, ℤ, pos, negsuc, nat_lt}
-use Rattle.std.specs.Prelude.{codes, unsigned_abs}
-use Rattle.std.specs.Fmt.{decimal, digits}
+use Rattle.std.proofs.Common.{◌≡◌, ◌+◌, ◌-◌, ◌*◌, ◌/◌, ◌^◌, ◌<◌, ◌≤◌, ℕ, suc, false, List, [], ◌∷◌, length, Ok, refl, sym, ap, ◌∙◌, arith, lit<, lit≤, rules, subst, inl, inr, ℤ, pos, negsuc}
+use Rattle.std.specs.Prelude.{unsigned_abs}
+use Rattle.std.specs.Fmt.{decimal}
 use Rattle.std.proofs.Math.Nat.{div-lt_iff_lt-mul, mod-lt}
 use Rattle.std.proofs.lemmas.Bool.{cases_lt, le-ltb, lt-ltb}
 use Rattle.std.proofs.lemmas.Fmt.{decimal_nonempty, length-decimal-le}

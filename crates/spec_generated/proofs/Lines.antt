@@ -1,17 +1,15 @@
 -- Lines of words, and the text that they make.
-use Rattle.std.proofs.Common.{◌≡◌, ◌≢◌, ◌+◌, ◌-◌, ◌*◌, ◌<◌, ◌≤◌, ◌==◌, ℕ, zero, suc, Bool, true, false, List, [], ◌∷◌, ◌++◌, length, get_or, map, None, Some, refl, sym, ap, ◌∙◌, arith, lit<, lit≤, inl, inr, append-nil, eq-eqb, ne_eqb, nat_lt}
+use Rattle.std.proofs.Common.{◌≡◌, ◌+◌, ◌-◌, ◌*◌, ◌<◌, ◌≤◌, ℕ, zero, suc, false, List, [], ◌∷◌, ◌++◌, length, get_or, None, refl, ap, ◌∙◌, arith, append-nil, ne_eqb, nat_lt}
 use Rattle.std.specs.List.{All}
 use Rattle.std.specs.Str.Lines.{strip_carriage_return}
 use Rattle.std.proofs.lemmas.Bool.{le-ltb, lt-ltb}
-use Rattle.std.proofs.lemmas.List.{length-append, get_or_default}
-use Rattle.std.specs.Prelude.{Option, slice_index}
-use Rattle.spec_text.specs.declared.decimals.Fault.{Fault}
+use Rattle.std.proofs.lemmas.List.{length-append}
+use Rattle.std.specs.Prelude.{slice_index}
 use Rattle.spec_text.specs.Lines.{Numbered, counted_lines, is_line_feed, is_separator, lines, numbered_from, text_lines, tokens}
 use Rattle.spec_text.proofs.LineLemmas.{first_line}
-use Rattle.spec_text.proofs.TokenLemmas.{first_token, last_token}
 use Rattle.spec_sections.specs.FileLines.{first_long, readable}
 use Rattle.spec_sections.specs.Sections.{FileLine}
-use Rattle.spec_files.specs.Texts.{cut_off, first_cut, joined}
+use Rattle.spec_files.specs.Texts.{first_cut, joined}
 use Rattle.spec_generated.specs.Generated.{joined_lines}
 
 -- the bytes are this one or later ones

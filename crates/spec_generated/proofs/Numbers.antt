@@ -1,14 +1,14 @@
 -- What the words of generated blocks are read as.
-use Rattle.std.proofs.Common.{◌≡◌, ◌+◌, ◌-◌, ◌^◌, ◌<◌, ◌≤◌, ◌==◌, ℕ, List, [], ◌∷◌, ◌++◌, length, Some, Ok, refl, sym, ap, ◌∙◌, arith, lit<, lit≤, subst, ℤ, pos, negsuc, neg_ℤ, suc, if◌then◌else◌, inl, inr, eq-eqb, ne_eqb}
+use Rattle.std.proofs.Common.{◌≡◌, ◌^◌, ◌<◌, ◌≤◌, ◌==◌, ℕ, [], ◌∷◌, ◌++◌, length, Some, Ok, refl, sym, ap, ◌∙◌, arith, lit≤, ℤ, pos, negsuc, suc, if◌then◌else◌, inl, ne_eqb}
 use Rattle.std.specs.Prelude.{◌-ℤ◌, unsigned_abs}
-use Rattle.std.proofs.lemmas.Bool.{cases_eq, le-ltb}
+use Rattle.std.proofs.lemmas.Bool.{le-ltb}
 use Rattle.std.proofs.lemmas.List.{length-append}
 use Rattle.spec_text.specs.declared.decimals.Decimal.{Decimal}
-use Rattle.spec_text.specs.Decimals.{AreDigits, Exponent, IsExponent, IsNumeral, Numeral, Sign, Spells, after_point, digits, minus, plus, sign_text, significant, text, unsigned, value}
-use Rattle.spec_text.specs.Reading.{SpellsShort, decimal_of, exponent_value, reading, signed}
+use Rattle.spec_text.specs.Decimals.{AreDigits, Exponent, IsExponent, IsNumeral, Numeral, Sign, digits, minus, plus, sign_text, significant, unsigned, value}
+use Rattle.spec_text.specs.Reading.{SpellsShort, decimal_of, reading, signed}
 use Rattle.spec_text.proofs.Answering.{reads_is}
-use Rattle.spec_generated.specs.Words.{coefficient_number, coefficient_word, date_number, date_of, date_word, fraction_word, padded_digits, sign_word}
-use Rattle.spec_generated.proofs.Digits.{IsPadded, fewer_significant, is_padded}
+use Rattle.spec_generated.specs.Words.{coefficient_number, coefficient_word, date_number, date_of, date_word, fraction_word, padded_digits}
+use Rattle.spec_generated.proofs.Digits.{fewer_significant, is_padded}
 
 -- an exponent of two digits
 abbrev exponent : ℕ → ℕ → Exponent

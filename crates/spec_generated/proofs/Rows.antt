@@ -1,5 +1,5 @@
 -- The rows of a block, word by word.
-use Rattle.std.proofs.Common.{◌≡◌, ◌≢◌, ◌+◌, ◌-◌, ◌*◌, ◌<◌, ◌≤◌, ◌==◌, min, ℕ, zero, suc, true, false, List, [], ◌∷◌, ◌++◌, length, map, take, drop, Ok, refl, sym, ap, ◌∙◌, arith, lit<, lit≤, eq-eqb, ne_eqb}
+use Rattle.std.proofs.Common.{◌≡◌, ◌≢◌, ◌+◌, ◌-◌, ◌*◌, ◌<◌, ◌≤◌, ℕ, zero, suc, List, [], ◌∷◌, ◌++◌, length, map, take, drop, Ok, refl, sym, ap, ◌∙◌, arith, lit<, lit≤, ne_eqb}
 use Rattle.std.proofs.lemmas.List.{drop_all, length-append, take_all}
 use Rattle.spec_text.specs.declared.decimals.Decimal.{Decimal}
 use Rattle.spec_text.specs.Lines.{tokens}
@@ -9,7 +9,7 @@ use Rattle.spec_sections.specs.Sections.{FileLine, FileWord, first_words, lines_
 use Rattle.spec_sections.proofs.WordSections.{length_first}
 use Rattle.spec_blocks.specs.BlockRules.{number_rule, trailing_rule}
 use Rattle.spec_blocks.specs.Blocks.{further_words, numbers_of, zeros_of}
-use Rattle.spec_generated.specs.Blocks.{numbers_from, row, rows_from}
+use Rattle.spec_generated.specs.Blocks.{numbers_from, rows_from}
 use Rattle.spec_generated.proofs.BlockWords.{IsWord}
 use Rattle.spec_generated.proofs.Lines.{ArePlain, IsPlain, from_append, from_less, lines_at, no_separators}
 

@@ -1,17 +1,13 @@
 -- How large coefficients are.
-use Rattle.std.proofs.Common.{◌≡◌, ◌+◌, ◌-◌, ◌*◌, ◌/◌, ◌%◌, ◌^◌, ◌<◌, ◌≤◌, ℕ, suc, true, false, List, [], ◌∷◌, refl, ap, ◌∙◌, arith, lit<, lit≤, inl, inr, ℤ, pos, negsuc, neg_ℤ, if◌then◌else◌, eq-eqb, ne_eqb}
-use Rattle.std.specs.Prelude.{◌-ℤ◌, ◌*ℤ◌, int_div, unsigned_abs, nat_le}
+use Rattle.std.proofs.Common.{◌≡◌, ◌*◌, ◌/◌, ◌^◌, ◌<◌, ◌≤◌, ℕ, suc, false, List, [], ◌∷◌, refl, arith, lit≤, inl, inr, ℤ, pos, negsuc, eq-eqb, ne_eqb}
+use Rattle.std.specs.Prelude.{◌-ℤ◌, ◌*ℤ◌, int_div, unsigned_abs}
 use Rattle.std.proofs.Math.Nat.{div-le_self}
-use Rattle.std.proofs.lemmas.Bool.{cases_Bool, cases_eq, le-ltb, lt-leb}
+use Rattle.std.proofs.lemmas.Bool.{cases_Bool, cases_eq, lt-leb}
 use Rattle.std.proofs.lemmas.Int.{ints}
 use Rattle.spec_numbers.proofs.Sizes.{product_size, unsigned_abs-neg}
-use Rattle.spec_text.specs.Days.{size_over, size_under}
-use Rattle.spec_text.specs.declared.decimals.Decimal.{Decimal}
 use Rattle.spec_blocks.specs.BlockRules.{is_place, is_too_large}
 use Rattle.spec_generated.specs.Coefficients.{ScaledColumn, millionths, scaled_columns, term_among, term_at}
-use Rattle.spec_generated.specs.Draws.{drawn}
 use Rattle.spec_generated.specs.Words.{coefficient_number}
-use Rattle.spec_generated.specs.declared.columns.Term.{Term}
 
 -- a quotient is no larger than what is divided
 quotient_small : (z : ℤ) (n : ℕ) → unsigned_abs (int_div z (pos n)) ≤ unsigned_abs z

@@ -1,10 +1,10 @@
 -- The times of blocks.
-use Rattle.std.proofs.Common.{◌≡◌, ◌+◌, ◌-◌, ◌*◌, ◌/◌, ◌%◌, ◌^◌, ◌<◌, ◌≤◌, ◌==◌, ℕ, true, false, Some, Ok, refl, ap, ◌∙◌, arith, lit<, ℤ, pos, neg_ℤ, if◌then◌else◌, eq-eqb, ne_eqb}
-use Rattle.std.specs.Prelude.{◌+ℤ◌, ◌*ℤ◌, Option, nat_lt}
+use Rattle.std.proofs.Common.{◌≡◌, ◌+◌, ◌*◌, ◌^◌, ◌<◌, ◌≤◌, ℕ, Some, Ok, refl, ap, arith, lit<, ℤ, pos, neg_ℤ}
+use Rattle.std.specs.Prelude.{◌+ℤ◌}
 use Rattle.std.proofs.Math.Nat.{mul-div_cancel, mul-mod_left}
 use Rattle.std.proofs.lemmas.Bool.{le-ltb}
 use Rattle.std.proofs.lemmas.Int.{ints}
-use Rattle.spec_text.specs.Days.{quotient, seconds_of_days, seconds_of_julian_date, within_days}
+use Rattle.spec_text.specs.Days.{quotient, seconds_of_days}
 use Rattle.spec_blocks.specs.BlockRules.{time_of}
 use Rattle.spec_generated.specs.Words.{date_number, date_of}
 

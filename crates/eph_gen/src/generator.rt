@@ -1,6 +1,7 @@
 // A generated text.
-ghost use Rattle.std.specs.Prelude.{◌≡◌, ◌<◌, ◌≤◌, IfOk};
-ghost use Rattle.spec_generated.specs.Generated.{generated_text, header_lines, joined_lines};
+ghost use Rattle.std.specs.Prelude.{◌≡◌, ◌<◌, ◌≤◌, [], ◌∷◌, IfOk, Ok};
+ghost use Rattle.spec_files.specs.Outcome.{outcome};
+ghost use Rattle.spec_generated.specs.Generated.{generated_ephemeris, generated_text, header_lines, joined_lines};
 
 use crate::blocks::add_block;
 use crate::draws::Draws;
@@ -48,7 +49,9 @@ GROUP 1070
 pub fn generate(alloc: Global, blocks: u32, seed: u64) -> Result<Vec<u8>, Memory>
     requires some { 0 < blocks }
     requires few { blocks ≤ MOST_GENERATED }
-    ensures { IfOk result (λ text. text.items ≡ generated_text blocks seed) }
+    ensures text { IfOk result (λ text. text.items ≡ generated_text blocks seed) }
+    ensures accepted { IfOk result (λ text.
+        outcome (text.items ∷ []) ≡ Ok (generated_ephemeris blocks seed)) }
 {
     let mut text = String::from_str(alloc, header())?;
     let mut draws = Draws::new(seed);

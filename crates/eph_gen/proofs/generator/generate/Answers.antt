@@ -1,9 +1,11 @@
-use Rattle.std.proofs.Common.{◌≡◌, ◌+◌, ◌-◌, ◌*◌, ℕ, arith, sym, ap, ◌∙◌, ◌++◌}
+use Rattle.std.proofs.Common.{◌≡◌, ◌+◌, ◌-◌, ◌*◌, ℕ, List, [], ◌∷◌, arith, sym, ap, ◌∙◌, ◌++◌}
 use Rattle.std.specs.Prelude.{string_bytes}
 use Rattle.spec_generated.specs.Blocks.{block_lines, lines_from, state_of}
 use Rattle.spec_generated.specs.Draws.{state_after}
 use Rattle.spec_generated.specs.Generated.{generated_text, header_lines, joined_lines}
 use Rattle.eph_gen.proofs.Joining.{block_left, blocks_end, joined_append, state_more}
+use Rattle.spec_files.specs.Outcome.{outcome}
+use Rattle.spec_generated.proofs.Accepted.{text_accepted}
 use Rattle.eph_gen.proofs.generator.generate.Goals as goal
 
 pub loop-block-init : goal.loop-block-init
@@ -28,9 +30,17 @@ loop-block-preserved c =
       c.in_ok-add_block.ensures.drawn ∙ ap (λ (state : ℕ). state_after state 1016) drawn ∙ state_more seed (1016 * block) 1016 ∙ ap (state_after seed) next,
     )
 
-pub returns : goal.returns
-returns c =
+-- the text that is made
+whole : (c : goal.After-into_bytes) → c.into_bytes.result.items ≡ generated_text c.args.blocks c.args.seed
+whole c =
     let none : c.args.blocks - c.loop-block.block ≡ 0 = omega arith in
     ap (λ v. v.items) c.into_bytes.ensures.value
     ∙ sym (blocks_end c.args.seed c.loop-block.block (c.args.blocks - c.loop-block.block) (string_bytes c.loop-block.text) none)
     ∙ c.loop-block.invariant.0
+
+pub returns-clause-text : goal.returns-clause-text
+returns-clause-text c = whole c
+
+pub returns-clause-accepted : goal.returns-clause-accepted
+returns-clause-accepted c =
+    ap (λ (text : List ℕ). outcome (text ∷ [])) (whole c) ∙ (text_accepted c.args.blocks c.args.seed c.requires.some c.requires.few).accepted

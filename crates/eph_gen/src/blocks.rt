@@ -2,7 +2,7 @@
 ghost use Rattle.std.specs.Prelude.{◌≡◌, ◌+◌, ◌-◌, ◌*◌, ◌<◌, ◌≤◌, ◌++◌, ◌∷◌, [], ℕ, OnOk, string_bytes};
 ghost use Rattle.spec_text.specs.Bytes.{line_feed};
 ghost use Rattle.spec_generated.specs.Blocks.{block_lines, record_line, row, rows_from};
-ghost use Rattle.spec_generated.specs.Draws.{draws_upto, state_after};
+ghost use Rattle.spec_generated.specs.Draws.{IsUpto, state_after};
 ghost use Rattle.spec_generated.specs.Generated.{joined_lines};
 ghost use Rattle.spec_generated.specs.Words.{block_word};
 
@@ -17,11 +17,11 @@ fn add_row(text: &mut String, block: u32, place: u32, draws: &mut Draws) -> Resu
     requires few { block < MOST_GENERATED }
     requires some { 0 < place }
     requires inside { place ≤ NCOEFF }
-    ensures row { (state : ℕ) → draws.old ≡ state_after state (draws_upto (place - 1)) → OnOk result
+    ensures row { (state : ℕ) → IsUpto state (place - 1) draws.old → OnOk result
         (string_bytes text.new
         ≡ string_bytes text.old ++ (row (block_word state block) place ++ line_feed ∷ [])) }
-    ensures drawn { (state : ℕ) → draws.old ≡ state_after state (draws_upto (place - 1)) → OnOk result
-        (draws.new ≡ state_after state (draws_upto (place + 2))) }
+    ensures drawn { (state : ℕ) → IsUpto state (place - 1) draws.old → OnOk result
+        (IsUpto state (place + 2) draws.new) }
 {
     add_word(text, block, place, draws)?;
     text.push(' ')?;

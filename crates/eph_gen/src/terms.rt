@@ -63,5 +63,6 @@ pub fn millionths(term: Term, draw: u32) -> i64
     requires { term.degree < MOST_COEFFICIENTS }
     ensures { result ≡ millionths term draw }
 {
-    numerator(draw, term.scale) / 4_i64.pow(term.degree)
+    let divisor = 4_i64.pow(term.degree);
+    numerator(draw, term.scale) / divisor
 }

@@ -1,6 +1,6 @@
 // The words of generated blocks.
 ghost use Rattle.std.specs.Prelude.{◌≡◌, ◌+◌, ◌-◌, ◌<◌, ◌≤◌, ◌++◌, ℕ, OnOk, string_bytes};
-ghost use Rattle.spec_generated.specs.Draws.{draws_upto, state_after};
+ghost use Rattle.spec_generated.specs.Draws.{IsUpto};
 ghost use Rattle.spec_generated.specs.Words.{block_word, coefficient_word, date_word, fraction_word, sign_word};
 
 use crate::draws::Draws;
@@ -52,10 +52,10 @@ pub fn add_word(
 ) -> Result<(), AllocError>
     requires few { block < MOST_GENERATED }
     requires some { 0 < place }
-    ensures word { (state : ℕ) → draws.old ≡ state_after state (draws_upto (place - 1)) → OnOk result
+    ensures word { (state : ℕ) → IsUpto state (place - 1) draws.old → OnOk result
         (string_bytes text.new ≡ string_bytes text.old ++ block_word state block place) }
-    ensures drawn { (state : ℕ) → draws.old ≡ state_after state (draws_upto (place - 1)) → OnOk result
-        (draws.new ≡ state_after state (draws_upto place)) }
+    ensures drawn { (state : ℕ) → IsUpto state (place - 1) draws.old → OnOk result
+        (IsUpto state place draws.new) }
 {
     if place < FIRST_PLACE {
         add_date(text, block + (place - 1))

@@ -1,5 +1,5 @@
 -- Draws: a state of 64 bits is multiplied and added to, and its upper half is what is drawn.
-use Rattle.std.specs.Prelude.{ℕ, zero, suc, ◌+◌, ◌-◌, ◌*◌, ◌/◌, ◌%◌, ◌^◌, min}
+use Rattle.std.specs.Prelude.{◌≡◌, ℕ, zero, suc, ◌+◌, ◌-◌, ◌*◌, ◌/◌, ◌%◌, ◌^◌, min}
 use Rattle.spec_generated.specs.declared.limits.TheConstants.{DRAWS, FACTOR, INCREMENT}
 
 abbrev pub next_state : ℕ → ℕ
@@ -18,3 +18,7 @@ drawn state = state / 2 ^ 32
 -- the last number take none
 abbrev pub draws_upto : ℕ → ℕ
 draws_upto place = min (place - 2) DRAWS
+
+-- the state now, in a block that begins with this state, after the draws up to this place
+abbrev pub IsUpto : ℕ → ℕ → ℕ → Type 0
+IsUpto state place now = now ≡ state_after state (draws_upto place)

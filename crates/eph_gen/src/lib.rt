@@ -1,5 +1,5 @@
-//! Texts that are generated. A number of blocks and a seed come in; what goes out is a text of JPL's form, as long as one
-//! likes and always accepted, with DE405's columns and with coefficients that are drawn from the seed. Nothing is read.
+//! Texts that are generated. A number of blocks, at most 40, and a seed come in; what goes out is a text of JPL's form
+//! with DE405's columns and with coefficients that are drawn from the seed, which is always accepted. Nothing is read.
 #![tactic(auto)]
 
 mod blocks;

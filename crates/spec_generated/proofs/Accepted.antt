@@ -13,7 +13,7 @@ use Rattle.spec_text.specs.declared.decimals.Decimal.{Decimal}
 use Rattle.spec_text.proofs.Complete.{digit_tests}
 use Rattle.spec_text.proofs.TokenLemmas.{first_token, last_token}
 use Rattle.spec_text.proofs.Wholes.{value_small, whole_is}
-use Rattle.spec_ephemeris.specs.Ephemeris.{Ephemeris}
+use Rattle.spec_ephemeris.specs.Ephemeris.{Ephemeris, IsEphemeris}
 use Rattle.spec_ephemeris.specs.Examples.{de405}
 use Rattle.spec_ephemeris.specs.declared.header.Header.{Header}
 use Rattle.spec_sections.specs.Sections.{FileLine, Stop, first_words, lines_after}
@@ -24,6 +24,8 @@ use Rattle.spec_faults.specs.declared.numbers.TheConstants.{TRUNCATED}
 use Rattle.spec_files.specs.Lines.{ephemeris}
 use Rattle.spec_files.specs.Outcome.{fault_or_cut, first_fault, outcome, outcome_by}
 use Rattle.spec_files.specs.Texts.{first_cut, joined}
+use Rattle.spec_sections.proofs.Holding.{holds_ok}
+use Rattle.spec_files.proofs.Lines.{HasBlocks, ephemeris_holds}
 use Rattle.spec_files.proofs.MoreHeader.{header_keeps}
 use Rattle.spec_files.proofs.MoreLines.{Keeps, are_words}
 use Rattle.spec_generated.specs.Blocks.{block_lines, block_numbers, lines_from, numbers_from, record_line, rows_from, state_of}
@@ -262,3 +264,8 @@ text_accepted count seed some few =
     let size : length ls ≤ 1000000 = omega (arith, length-append header_lines (lines_from seed 0 count), header_count, lines_count seed 0 count, few) in
     let file = is_file ls plain size in
     accepted_by (joined_lines ls) (generated_ephemeris count seed) file.whole (ap ephemeris file.lines ∙ lines_read seed count some few)
+
+pub text_checked : (count seed : ℕ) → 0 < count → count ≤ 40 → IsEphemeris (generated_ephemeris count seed)
+text_checked count seed some few =
+    let ls = lines_at 1 (header_lines ++ lines_from seed 0 count) in
+    (holds_ok HasBlocks (ephemeris ls) (generated_ephemeris count seed) (lines_read seed count some few) (ephemeris_holds ls)).0

@@ -14,7 +14,7 @@ use Rattle.spec_generated.specs.Draws.{drawn, draws_upto, state_after}
 use Rattle.spec_generated.specs.Words.{block_number, block_word, coefficient_at, coefficient_number, coefficient_word, date_number, date_of, date_word, fraction_word, padded_digits, zero_word}
 use Rattle.spec_generated.proofs.Digits.{decimal_digits, is_padded}
 use Rattle.spec_generated.proofs.Lines.{AreFrom, from_append}
-use Rattle.spec_generated.proofs.Numbers.{coefficient_reads, date_reads}
+use Rattle.spec_generated.proofs.Readings.{coefficient_reads, date_reads}
 use Rattle.spec_generated.proofs.Sizes.{millionths_small, not_large}
 
 -- a word of printed bytes without blanks

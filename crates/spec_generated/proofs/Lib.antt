@@ -1,5 +1,6 @@
-pub mod Digits
 pub mod Numbers
+pub mod Digits
+pub mod Readings
 pub mod Sizes
 pub mod Times
 pub mod Lines
@@ -7,3 +8,4 @@ pub mod BlockWords
 pub mod Rows
 pub mod Before
 pub mod Accepted
+pub mod Terms

@@ -1,18 +1,13 @@
 -- How large coefficients are.
-use Rattle.std.proofs.Common.{◌≡◌, ◌*◌, ◌/◌, ◌^◌, ◌<◌, ◌≤◌, ℕ, suc, false, List, [], ◌∷◌, refl, arith, lit≤, inl, inr, ℤ, pos, negsuc, eq-eqb, ne_eqb}
-use Rattle.std.specs.Prelude.{◌-ℤ◌, ◌*ℤ◌, int_div, unsigned_abs}
-use Rattle.std.proofs.Math.Nat.{div-le_self}
+use Rattle.std.proofs.Common.{◌≡◌, ◌*◌, ◌^◌, ◌<◌, ◌≤◌, ℕ, suc, false, List, [], ◌∷◌, refl, arith, lit≤, inl, inr, ℤ, pos, eq-eqb, ne_eqb}
+use Rattle.std.specs.Prelude.{◌-ℤ◌, ◌*ℤ◌, unsigned_abs}
 use Rattle.std.proofs.lemmas.Bool.{cases_Bool, cases_eq, lt-leb}
 use Rattle.std.proofs.lemmas.Int.{ints}
-use Rattle.spec_numbers.proofs.Sizes.{product_size, unsigned_abs-neg}
+use Rattle.spec_numbers.proofs.Sizes.{product_size}
+use Rattle.spec_generated.proofs.Numbers.{quotient_small}
 use Rattle.spec_blocks.specs.BlockRules.{is_place, is_too_large}
 use Rattle.spec_generated.specs.Coefficients.{ScaledColumn, millionths, scaled_columns, term_among, term_at}
 use Rattle.spec_generated.specs.Words.{coefficient_number}
-
--- a quotient is no larger than what is divided
-quotient_small : (z : ℤ) (n : ℕ) → unsigned_abs (int_div z (pos n)) ≤ unsigned_abs z
-quotient_small (pos m) n = div-le_self m n
-quotient_small (negsuc m) n = rw (unsigned_abs-neg (pos (suc m / n))) (div-le_self (suc m) n)
 
 drawn_small : (draw : ℕ) → draw < 2 ^ 32 → unsigned_abs (pos draw -ℤ pos (2 ^ 31)) ≤ 2 ^ 31
 drawn_small draw below = omega (arith, ints, below)

@@ -1,6 +1,7 @@
 -- The coefficients of generated blocks.
-use Rattle.std.specs.Prelude.{ℕ, suc, ◌-◌, ◌%◌, ◌^◌, List, [], ◌∷◌, map, ℤ, pos, ◌-ℤ◌, ◌*ℤ◌, int_div, if◌then◌else◌}
+use Rattle.std.specs.Prelude.{◌≡◌, ℕ, zero, suc, ◌+◌, ◌-◌, ◌*◌, ◌%◌, ◌^◌, ◌<◌, List, [], ◌∷◌, map, slice_get, Option, None, Some, ℤ, pos, ◌-ℤ◌, ◌*ℤ◌, int_div, if◌then◌else◌}
 use Rattle.spec_ephemeris.specs.declared.header.Column.{Column}
+use Rattle.spec_ephemeris.specs.Header.{components, granule_size}
 use Rattle.spec_blocks.specs.BlockRules.{is_place}
 use Rattle.spec_generated.specs.declared.columns.Term.{Term}
 use Rattle.spec_generated.specs.declared.columns.TheConstants.{COLUMNS}
@@ -29,6 +30,22 @@ term_among number (c ∷ cs) place =
 -- the term of a place of a block, counted from 1
 unfoldable pub term_at : ℕ → Term
 term_at place = term_among 1 scaled_columns place
+
+-- columns are counted from 1
+abbrev pub scaled_at : ℕ → Option ScaledColumn
+scaled_at zero = None
+scaled_at (suc number) = slice_get scaled_columns number
+
+-- the place of the coefficient of T_k of an axis of a granule of a column; axes and granules are counted from 0
+abbrev pub place_of : ℕ → Column → ℕ → ℕ → ℕ → ℕ
+place_of number c granule axis k = c.start + granule * granule_size number c + axis * c.coefs + k
+
+-- a coefficient of a column that the table has
+pub record IsTermAt (number : ℕ) (c : ScaledColumn) (granule axis k : ℕ) : Type 0 where
+  pub listed : scaled_at number ≡ Some c
+  pub granules : granule < c.column.granules
+  pub axes : axis < components number
+  pub degrees : k < c.column.coefs
 
 -- the coefficient of a term for what was drawn, in millionths of a km: a number from -2^31 on, below 2^31, times the scale,
 -- over 4 for each degree, rounded towards zero

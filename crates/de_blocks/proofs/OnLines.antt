@@ -1,5 +1,5 @@
 -- A line within a block, and what the block wants after it.
-use Rattle.std.proofs.Common.{◌≡◌, ◌≢◌, ℕ, ◌+◌, ◌-◌, ◌<◌, ◌≤◌, min, List, [], ◌∷◌, ◌++◌, length, map, take, drop, Result, Ok, Err, refl, sym, ap, ◌∙◌, arith, eq-eqb, ne_eqb}
+use Rattle.std.proofs.Common.{◌≡◌, ◌≢◌, ℕ, ◌+◌, ◌-◌, ◌<◌, ◌≤◌, min, List, [], ◌∷◌, ◌++◌, length, map, take, drop, Result, Ok, Err, refl, sym, ap, ◌∙◌, arith, ne_eqb}
 use Rattle.std.proofs.lemmas.List.{length-append, length-take, length-drop}
 use Rattle.spec_text.specs.declared.decimals.Decimal.{Decimal}
 use Rattle.spec_ephemeris.specs.Ephemeris.{Ephemeris}

@@ -1,10 +1,12 @@
 // The rules of the words of blocks.
 ghost use Rattle.std.specs.Prelude.{◌≡◌, ◌≤◌, ◌<◌, ◌+◌, ◌*◌, ◌^◌, IfOk, Ok, length, min, slice_get};
+ghost use Rattle.spec_ephemeris.specs.declared.limits.TheConstants.{COLUMNS};
 ghost use Rattle.spec_ephemeris.specs.Ephemeris.{IsStart};
 ghost use Rattle.spec_blocks.specs.BlockRules.{coefficient_rule, first_date, follows, has_length, is_after_gap, is_skipped, is_place, is_place_of, is_place_of_body, is_too_large, number_rule, record_line, second_date, time_of, trailing_rule, value_rule};
 
-use de_text::{Line, read_decimal, seconds_of_julian_date, size_over, size_under};
+use de_text::{Line, read_decimal, seconds_of_julian_date};
 use eph_model::{Ephemeris, is_present, place_after};
+use ival_core::is_distance;
 use spec_ephemeris::{BODY_COLUMNS, Column, FIRST_TIME, MOST_BLOCKS};
 use spec_faults::{
     BLOCK_GAP, BLOCK_SPAN, NCOEFF_DIFFERS, NUMBER, RECORD_LINE, TOO_LARGE, TOO_MANY_BLOCKS,
@@ -12,9 +14,6 @@ use spec_faults::{
 };
 use spec_sections::BrokenRule;
 use spec_text::Decimal;
-
-// The coefficients of bodies are below this many km in size.
-const LARGE: u128 = 1 << 36;
 
 // The line before the numbers of a block.
 pub(crate) fn record_line(ncoeff: u32, line: &Line<'_>) -> Result<(), BrokenRule>
@@ -97,11 +96,11 @@ fn second_date(before: &Ephemeris, first: Decimal, second: Decimal) -> Result<()
 }
 
 // Whether a decimal is 2^36 or more in size.
-#[tactic(auto, using(crate::proofs::Large::large_by_capped))]
+#[tactic(auto, using(crate::proofs::Large::large_by_test))]
 fn is_large(d: Decimal) -> bool
     ensures { result ≡ is_too_large d }
 {
-    LARGE.saturating_mul(size_under(d)) <= size_over(d)
+    !is_distance(d.mant, d.exp)
 }
 
 // Whether a place belongs to the column of this number.
@@ -113,7 +112,7 @@ fn is_place(number: usize, column: Column, place: u32) -> bool
 
 // Whether a place belongs to one of the columns, which are counted from 1.
 fn is_place_of_any(columns: &[Column], place: u32) -> bool
-    requires { length columns.now ≤ 13 }
+    requires { length columns.now ≤ COLUMNS }
     ensures { result ≡ is_place_of 1 columns.now place }
 {
     for (i, column) in columns.iter().enumerate() {
@@ -126,7 +125,7 @@ fn is_place_of_any(columns: &[Column], place: u32) -> bool
 
 // Whether a place of a block, counted from 1, belongs to a body.
 fn is_place_of_body(columns: &[Column], place: u32) -> bool
-    requires { length columns.now ≡ 13 }
+    requires { length columns.now ≡ COLUMNS }
     ensures { result ≡ is_place_of_body columns.now place }
 {
     is_place_of_any(&columns[..BODY_COLUMNS], place)
@@ -134,7 +133,7 @@ fn is_place_of_body(columns: &[Column], place: u32) -> bool
 
 // The rule of a number that is no date.
 fn coefficient_rule(columns: &[Column], place: u32, d: Decimal) -> Result<(), BrokenRule>
-    requires { length columns.now ≡ 13 }
+    requires { length columns.now ≡ COLUMNS }
     ensures { result ≡ coefficient_rule columns.now place d }
 {
     if is_large(d) && is_place_of_body(columns, place) {

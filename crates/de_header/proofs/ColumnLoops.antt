@@ -2,6 +2,8 @@
 use Rattle.std.proofs.Common.{◌≡◌, ℕ, zero, suc, ◌+◌, ◌*◌, ◌<◌, ◌≤◌, ◌^◌, List, [], ◌∷◌, ◌++◌, length, get_or, take, drop, set, None, Some, Result, Ok, Err, refl, sym, ap, ◌∙◌, arith}
 use Rattle.std.specs.Prelude.{slice_get}
 use Rattle.std.proofs.lemmas.List.{take_more_set, take_all, drop_all}
+use Rattle.spec_faults.specs.declared.numbers.TheConstants.{HEADER_NUMBER}
+use Rattle.spec_ephemeris.specs.declared.limits.TheConstants.{COLUMNS}
 use Rattle.spec_ephemeris.specs.declared.header.Column.{Column}
 use Rattle.spec_sections.specs.declared.rules.BrokenRule.{BrokenRule}
 use Rattle.spec_header.specs.ColumnRules.{columns_of, row, whole_numbers}
@@ -32,11 +34,11 @@ pub columns_all : (i : ℕ) (ss cs gs : List ℕ) (out : List Column) → length
     → take i out ≡ columns_of (take i ss) (take i cs) (take i gs) → out ≡ columns_of ss cs gs
 columns_all i ss cs gs out o a b d is = rw (take_all i out o, take_all i ss a, take_all i cs b, take_all i gs d) at is
 
-pub row_of_all : (words : List (List ℕ)) → length words ≡ 13 → row words ≡ whole_numbers [] words
+pub row_of_all : (words : List (List ℕ)) → length words ≡ COLUMNS → row words ≡ whole_numbers [] words
 row_of_all words is = rw is refl
 
 pub row_stops : (words : List (List ℕ)) (i : ℕ) (before : List ℕ) → i < length words → None ≡ whole_at (slice_get words i)
-    → whole_numbers before (drop i words) ≡ Err (broken 21 1)
+    → whole_numbers before (drop i words) ≡ Err (broken HEADER_NUMBER 1)
 row_stops [] i before below none = absurd (omega (arith, below))
 row_stops (w ∷ ws) zero before below none = rw (← none) refl
 row_stops (w ∷ ws) (suc i) before below none = row_stops ws i before (omega (arith, below)) none

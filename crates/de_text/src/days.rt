@@ -5,6 +5,7 @@ ghost use borrow.Author.Differences.{up, down};
 ghost use Rattle.spec_text.specs.Days.{seconds_of_days, seconds_of_julian_date, seconds_within, size_over, size_under};
 ghost use Rattle.de_text.specs.Sizes.{capped};
 
+use ival_core::power_of_ten;
 use spec_text::{DAY_SECONDS, DaysFault, Decimal, LAST_JULIAN_DAY};
 
 const DAY: u128 = DAY_SECONDS as u128;
@@ -13,13 +14,13 @@ const DAY: u128 = DAY_SECONDS as u128;
 const MOST_POWER: u32 = 38;
 
 #[tactic(auto, using(spec_numbers::proofs::Naturals::ten_fits, crate::proofs::Sizes::great_power))]
-fn power_of_ten(exp: u32) -> u128
+fn capped_power(exp: u32) -> u128
     ensures { result ≡ min (10 ^ exp) (2 ^ 128 - 1) }
 {
     if exp > MOST_POWER {
         u128::MAX
     } else {
-        10_u128.pow(exp)
+        power_of_ten(exp)
     }
 }
 
@@ -45,7 +46,7 @@ pub fn size_over(d: Decimal) -> u128
     ensures size { result ≡ min (size_over d) (2 ^ 128 - 1) }
     ensures mant { unsigned_abs d.mant ≤ 2 ^ 63 }
 {
-    u128::from(d.mant.unsigned_abs()).saturating_mul(power_of_ten(exponent_above(d)))
+    u128::from(d.mant.unsigned_abs()).saturating_mul(capped_power(exponent_above(d)))
 }
 
 /// The power of ten under `size_over`, or the greatest number of 128 bits where it is past that.
@@ -54,7 +55,7 @@ pub fn size_under(d: Decimal) -> u128
     ensures size { result ≡ min (size_under d) (2 ^ 128 - 1) }
     ensures some { 0 < result }
 {
-    power_of_ten(exponent_below(d))
+    capped_power(exponent_below(d))
 }
 
 // So many days, whatever their sign, in seconds, if these are a whole number.

@@ -10,6 +10,7 @@ mod ends;
 mod ival;
 mod sizes;
 
+pub use decimals::power_of_ten;
 pub use ends::product_ends;
 pub use ival::{COSINE_EXPONENT, DISTANCE_EXPONENT, Enclosure, Ival};
 pub use sizes::{is_cosine, is_distance};

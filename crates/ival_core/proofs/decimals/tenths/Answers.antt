@@ -5,15 +5,15 @@ use mir.Val.{SFits}
 use Rattle.spec_numbers.specs.Numbers.{floor_div, ceil_div}
 use Rattle.ival_core.proofs.Powers.{ten_pos, ten_bound, tenths_capped, ceil_capped}
 use Rattle.ival_core.proofs.decimals.tenths.Goals as goal
-use Rattle.ival_core.proofs.decimals.tenths.Goals.{After-ten_to-d}
+use Rattle.ival_core.proofs.decimals.tenths.Goals.{After-power_of_ten-d}
 
-divisor_positive : (c : After-ten_to-d) → 1 ≤ c.ten_to-d.result
-divisor_positive c = rw c.ten_to-d.ensures (ten_pos c.min.result)
+divisor_positive : (c : After-power_of_ten-d) → 1 ≤ c.power_of_ten-d.result
+divisor_positive c = rw c.power_of_ten-d.ensures (ten_pos c.min.result)
 
-divisor_within : (c : After-ten_to-d) → c.ten_to-d.result ≤ 10 ^ 38
+divisor_within : (c : After-power_of_ten-d) → c.power_of_ten-d.result ≤ 10 ^ 38
 divisor_within c =
     let m : c.min.result ≡ min c.args.n 38 = c.min.ensures in
-    rw c.ten_to-d.ensures (ten_bound c.min.result (omega arith))
+    rw c.power_of_ten-d.ensures (ten_bound c.min.result (omega arith))
 
 pub floor_over-low-requires-clause-positive : goal.floor_over-low-requires-clause-positive
 floor_over-low-requires-clause-positive c = let p = divisor_positive c in omega arith
@@ -23,22 +23,22 @@ floor_over-low-requires-clause-within c = let p = divisor_within c in omega arit
 
 pub ceil_over-high-requires-clause-positive : goal.ceil_over-high-requires-clause-positive
 ceil_over-high-requires-clause-positive c =
-    let p = divisor_positive (goal.at.ceil_over-high-requires-clause-positive c).After-ten_to-d in omega arith
+    let p = divisor_positive (goal.at.ceil_over-high-requires-clause-positive c).After-power_of_ten-d in omega arith
 
 pub ceil_over-high-requires-clause-within : goal.ceil_over-high-requires-clause-within
 ceil_over-high-requires-clause-within c =
-    let p = divisor_within (goal.at.ceil_over-high-requires-clause-within c).After-ten_to-d in omega arith
+    let p = divisor_within (goal.at.ceil_over-high-requires-clause-within c).After-power_of_ten-d in omega arith
 
 pub returns-clause-low : goal.returns-clause-low
 returns-clause-low c =
     let z = c.ranges.z in
     let r : SFits w128 c.floor_over-low.result = record { sfits = c.floor_over-low.type_inv } in
-    let q : c.floor_over-low.result ≡ floor_div c.args.z c.ten_to-d.result = simp to_z-of_z at c.floor_over-low.ensures in
-    to_z-of_z w128 c.floor_over-low.result r ∙ (q ∙ (ap (floor_div c.args.z) c.ten_to-d.ensures ∙ tenths_capped c.args.z c.args.n c.min.result c.requires c.min.ensures))
+    let q : c.floor_over-low.result ≡ floor_div c.args.z c.power_of_ten-d.result = simp to_z-of_z at c.floor_over-low.ensures in
+    to_z-of_z w128 c.floor_over-low.result r ∙ (q ∙ (ap (floor_div c.args.z) c.power_of_ten-d.ensures ∙ tenths_capped c.args.z c.args.n c.min.result c.requires c.min.ensures))
 
 pub returns-clause-high : goal.returns-clause-high
 returns-clause-high c =
     let z = c.ranges.z in
     let r : SFits w128 c.ceil_over-high.result = record { sfits = c.ceil_over-high.type_inv } in
-    let q : c.ceil_over-high.result ≡ ceil_div c.args.z c.ten_to-d.result = simp to_z-of_z at c.ceil_over-high.ensures in
-    to_z-of_z w128 c.ceil_over-high.result r ∙ (q ∙ (ap (ceil_div c.args.z) c.ten_to-d.ensures ∙ ceil_capped c.args.z c.args.n c.min.result c.requires c.min.ensures))
+    let q : c.ceil_over-high.result ≡ ceil_div c.args.z c.power_of_ten-d.result = simp to_z-of_z at c.ceil_over-high.ensures in
+    to_z-of_z w128 c.ceil_over-high.result r ∙ (q ∙ (ap (ceil_div c.args.z) c.power_of_ten-d.ensures ∙ ceil_capped c.args.z c.args.n c.min.result c.requires c.min.ensures))

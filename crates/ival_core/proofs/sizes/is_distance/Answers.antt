@@ -9,7 +9,7 @@ returns-then-exp-lt0 c =
     let q = c.ranges.exp in
     let size : c.from-size.result ≡ unsigned_abs c.args.mant = c.from-size.ensures ∙ simp to_z-of_z at c.unsigned_abs.ensures.value in
     let exponent : c.unsigned_abs-2.result ≡ unsigned_abs c.args.exp = simp to_z-of_z at c.unsigned_abs-2.ensures.value in
-    let power : 2 ^ 36 * c.power_of_ten-power.result ≡ 2 ^ 36 * 10 ^ min (unsigned_abs c.args.exp) 19 = ap (λ n. 2 ^ 36 * n) (c.power_of_ten-power.ensures ∙ ap (λ n. 10 ^ min n 19) exponent) in
+    let power : 2 ^ 36 * c.capped_power-power.result ≡ 2 ^ 36 * 10 ^ min (unsigned_abs c.args.exp) 19 = ap (λ n. 2 ^ 36 * n) (c.capped_power-power.ensures ∙ ap (λ n. 10 ^ min n 19) exponent) in
     tested_lt _ _ _ _ _ size power (distance-divided c.args.mant c.args.exp (omega (arith, ints)) (omega (arith, ints)))
 
 pub returns-else-exp-lt0 : goal.returns-else-exp-lt0
@@ -18,6 +18,6 @@ returns-else-exp-lt0 c =
     let q = c.ranges.exp in
     let size : c.from-size.result ≡ unsigned_abs c.args.mant = c.from-size.ensures ∙ simp to_z-of_z at c.unsigned_abs.ensures.value in
     let exponent : c.unsigned_abs-2.result ≡ unsigned_abs c.args.exp = simp to_z-of_z at c.unsigned_abs-2.ensures.value in
-    let power : c.power_of_ten-power.result ≡ 10 ^ min (unsigned_abs c.args.exp) 19 = c.power_of_ten-power.ensures ∙ ap (λ n. 10 ^ min n 19) exponent in
-    let both : c.from-size.result * c.power_of_ten-power.result ≡ unsigned_abs c.args.mant * 10 ^ min (unsigned_abs c.args.exp) 19 = λ i. size i * power i in
+    let power : c.capped_power-power.result ≡ 10 ^ min (unsigned_abs c.args.exp) 19 = c.capped_power-power.ensures ∙ ap (λ n. 10 ^ min n 19) exponent in
+    let both : c.from-size.result * c.capped_power-power.result ≡ unsigned_abs c.args.mant * 10 ^ min (unsigned_abs c.args.exp) 19 = λ i. size i * power i in
     tested_lt _ _ _ _ _ both refl (distance-multiplied c.args.mant c.args.exp (omega (arith, ints)))

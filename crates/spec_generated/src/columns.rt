@@ -1,8 +1,8 @@
 // The columns of generated texts.
 
 /// The columns of JPL's DE405, in their order: the start, the coefficients of a component and the granules of a block,
-/// as its header says; and the scale of the column's coefficients, in units of 2^31 millionths of a km. The scale is
-/// that of the greatest coefficients, those of T_0.
+/// as its header says; and the scale, which is the greatest size of a coefficient of T_0 in units of 2^31 millionths of
+/// a km (2,147.483648 km).
 pub const COLUMNS: [(u32, u32, u32, u32); 13] = [
     (3, 14, 4, 27_000),
     (171, 10, 2, 50_000),
@@ -22,7 +22,7 @@ pub const COLUMNS: [(u32, u32, u32, u32); 13] = [
 /// What a coefficient depends on besides its draw.
 #[derive(Clone, Copy, Debug, PartialEq, Eq)]
 pub struct Term {
-    /// The scale of its column, in units of 2^31 millionths of a km.
+    /// The scale of its column: the greatest size of a coefficient of T_0, in units of 2^31 millionths of a km.
     pub scale: u32,
     /// The degree of its Chebyshev polynomial.
     pub degree: u32,

@@ -1,7 +1,8 @@
 // What the definition of a generated text comes to.
-ghost use Rattle.std.specs.Prelude.{◌≡◌, ◌<◌, ◌≤◌, [], ◌∷◌, None, Ok, ℕ};
-ghost use Rattle.spec_generated.specs.Coefficients.{IsTermAt, ScaledColumn, place_of, term_at};
+ghost use Rattle.std.specs.Prelude.{◌≡◌, ◌<◌, ◌≤◌, [], ◌∷◌, None, Ok, map, ℕ};
+ghost use Rattle.spec_generated.specs.Coefficients.{IsTermAt, ScaledColumn, place_of, scaled_columns, term_at};
 ghost use Rattle.spec_ephemeris.specs.Ephemeris.{IsEphemeris};
+ghost use Rattle.spec_ephemeris.specs.Examples.{de405};
 ghost use Rattle.spec_files.specs.Outcome.{first_fault, outcome};
 ghost use Rattle.spec_generated.specs.Generated.{generated_ephemeris, generated_text};
 ghost use Rattle.spec_generated.specs.declared.limits.TheConstants.{MOST_GENERATED};
@@ -17,11 +18,12 @@ pub fn generated_texts_are_accepted()
         → IsEphemeris (generated_ephemeris blocks seed) }
 {}
 
-/// At the place of the coefficient of T_k of an axis of a granule, by the order in which a block holds them, stands a
-/// coefficient of that column's scale and of degree k.
+/// The columns are those of the header. At the place of the coefficient of T_k of an axis of a granule, by the order in
+/// which a block holds them, stands a coefficient of that column's scale and of degree k.
 #[tactic(auto, using(crate::proofs::Terms::term_place))]
 pub fn places_have_terms()
-    ensures { (number granule axis k : ℕ) (c : ScaledColumn) → IsTermAt number c granule axis k
+    ensures columns { map (λ c. c.column) scaled_columns ≡ de405.columns }
+    ensures terms { (number granule axis k : ℕ) (c : ScaledColumn) → IsTermAt number c granule axis k
         → term_at (place_of number c.column granule axis k)
         ≡ record { scale = c.scale; degree = k } }
 {}

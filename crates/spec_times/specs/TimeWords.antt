@@ -1,5 +1,5 @@
 -- The time that a word stands for: a whole number, or a calendar and a clock.
-use Rattle.std.specs.Prelude.{ℕ, ◌==◌, ◌&&◌, Bool, true, false, nat_lt, int_le, int_lt, List, [], ◌∷◌, length, take, drop, codes, Option, None, Some, Result, Ok, Err, ℤ, pos, neg_ℤ, if◌then◌else◌}
+use Rattle.std.specs.Prelude.{ℕ, ◌≤ℤ◌, ◌==◌, ◌&&◌, Bool, true, false, nat_lt, int_le, int_lt, List, [], ◌∷◌, length, take, drop, codes, Option, None, Some, Result, Ok, Err, ℤ, pos, neg_ℤ, if◌then◌else◌}
 use Rattle.std.specs.Char.{is_ascii_digit}
 use Rattle.std.specs.List.{list_all}
 use Rattle.spec_text.specs.Bytes.{minus_sign, digit_zero}
@@ -76,6 +76,10 @@ shown word =
 -- ---- the time
 
 -- a time from Julian date 0 to Julian date 5,000,000
+pub record IsTime (time : ℤ) : Type 0 where
+  pub low : FIRST_TIME ≤ℤ time
+  pub high : time ≤ℤ LAST_TIME
+
 abbrev pub within_limits : ℤ → Result ℤ TimeFault
 within_limits time = if int_le FIRST_TIME time && int_le time LAST_TIME then Ok time else Err OutOfRange
 

@@ -7,6 +7,7 @@
 #![tactic(auto)]
 
 mod faults;
+mod laws;
 mod limits;
 
 pub use faults::TimeFault;

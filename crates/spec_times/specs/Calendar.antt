@@ -4,7 +4,8 @@ use Rattle.std.specs.Prelude.{ℕ, zero, suc, ◌+◌, ◌*◌, ◌/◌, ◌%◌
 use Rattle.std.specs.Int.{int_div_euclid, int_rem_euclid}
 use Rattle.jiff_core.specs.Calendar.{days_from_civil, days_in_month}
 use Rattle.spec_text.specs.Bytes.{minus_sign, digit_zero}
-use Rattle.spec_times.specs.declared.limits.TheConstants.{DAY, HALF_DAY, J2000_DAY, YEARS, YEARS_BEFORE_0}
+use Rattle.spec_ephemeris.specs.declared.limits.TheConstants.{DAY}
+use Rattle.spec_times.specs.declared.limits.TheConstants.{HALF_DAY, J2000_DAY}
 
 -- a date and a time of day. The year before 1 is 0, and the year before that is -1
 pub record CalendarTime : Type 0 where
@@ -36,7 +37,7 @@ second_of_day c = c.hour * 3600 + c.minute * 60 + c.second
 
 -- the midnight that begins a day, which is told by its number: days since 1970-01-01
 abbrev pub midnight : ℤ → ℤ
-midnight day = (day -ℤ pos J2000_DAY) *ℤ pos DAY -ℤ pos HALF_DAY
+midnight day = (day -ℤ J2000_DAY) *ℤ DAY -ℤ HALF_DAY
 
 -- the time that a calendar and a clock show, in a year from -9999 to 9999
 abbrev pub time_of_calendar : CalendarTime → ℤ
@@ -44,20 +45,23 @@ time_of_calendar c = midnight (days_from_civil c.year c.month c.day) +ℤ pos (s
 
 -- the number of the day that a time lies in
 abbrev pub day_number : ℤ → ℤ
-day_number time = int_div_euclid (time +ℤ pos HALF_DAY) (pos DAY) +ℤ pos J2000_DAY
+day_number time = int_div_euclid (time +ℤ HALF_DAY) DAY +ℤ J2000_DAY
 
 -- what has passed since its midnight
 abbrev pub clock : ℤ → ℕ
-clock time = unsigned_abs (int_rem_euclid (time +ℤ pos HALF_DAY) (pos DAY))
+clock time = unsigned_abs (int_rem_euclid (time +ℤ HALF_DAY) DAY)
 
 -- the last of the numbers from 1 to n whose start isn't past the day; 0 where there is none
 unfoldable pub last_begun : (ℕ → ℤ) → ℤ → ℕ → ℕ
 last_begun start day zero = 0
 last_begun start day (suc n) = if int_le (start (suc n)) day then suc n else last_begun start day n
 
--- years are counted from -9999, which is the first that `jiff_core` has, to 9999, the last
+-- years are counted from -9999, which is the first whose days have numbers, to 9999, the last
 abbrev pub year_at : ℕ → ℤ
-year_at n = pos n -ℤ pos YEARS_BEFORE_0
+year_at n = pos n -ℤ pos 10_000
+
+abbrev pub years : ℕ
+years = 19_999
 
 -- the number of the first day of a year, and of a month of it
 abbrev pub new_year : ℕ → ℤ
@@ -68,7 +72,7 @@ new_month year month = days_from_civil year month 1
 
 -- the year of a day is the last that begins on it or before it, its month the last of the year that does
 abbrev pub year_of : ℤ → ℤ
-year_of day = year_at (last_begun new_year day YEARS)
+year_of day = year_at (last_begun new_year day years)
 
 abbrev pub month_of : ℤ → ℕ
 month_of day = last_begun (new_month (year_of day)) day 12

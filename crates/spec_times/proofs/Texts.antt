@@ -8,7 +8,8 @@ use Rattle.jiff_core.proofs.SignedLemmas.{signed_arith}
 use Rattle.jiff_core.proofs.CalendarLemmas.{days_in_month_bounds}
 use Rattle.spec_text.specs.Bytes.{digit_zero}
 use Rattle.spec_text.specs.Decimals.{value}
-use Rattle.spec_times.specs.Calendar.{CalendarTime, digits, rest_text, year_text, calendar_text, is_calendar_time}
+use Rattle.spec_times.specs.Calendar.{digits, year_text, time_of_day_text, calendar_text, is_calendar_time}
+use Rattle.spec_times.specs.declared.calendar.CalendarTime.{CalendarTime}
 use Rattle.spec_times.specs.TimeWords.{has_form, year_form, negative_year_form, whole_time, shown, calendar_after, time_of, time_within}
 use Rattle.std.specs.Prelude.{codes}
 
@@ -30,6 +31,14 @@ six : (n : ℕ) → n < 1000000 → value (digits 6 n) ≡ n
 six n h = omega arith
 
 -- ---- the form of a text
+
+-- `-MM-DDTHH:MM:SS`
+abbrev rest_text : CalendarTime → List ℕ
+rest_text c = (45 ∷ digits 2 c.month) ++ (45 ∷ digits 2 c.day) ++ time_of_day_text c.hour c.minute c.second
+
+-- the text of the same date and time of day in another year
+abbrev text_in : ℤ → CalendarTime → List ℕ
+text_in year c = year_text year ++ (45 ∷ digits 2 c.month) ++ (45 ∷ digits 2 c.day) ++ time_of_day_text c.hour c.minute c.second
 
 -- the numbers of a calendar time after its year have two digits
 pub record IsShort (c : CalendarTime) : Type 0 where
@@ -98,8 +107,8 @@ shown_text : (c : CalendarTime) → IsWritten c.year → IsShort c → shown (ca
 shown_text c h s = go c.year refl h
   where
     go : (y : ℤ) → c.year ≡ y → IsWritten y → shown (calendar_text c) ≡ Some c
-    go (pos n) e k = ap (λ (y : ℤ). shown (year_text y ++ rest_text c)) e ∙ shown_year n c k e s
-    go (negsuc n) e k = ap (λ (y : ℤ). shown (year_text y ++ rest_text c)) e ∙ shown_negative_year n c k e s
+    go (pos n) e k = ap (λ (y : ℤ). shown (text_in y c)) e ∙ shown_year n c k e s
+    go (negsuc n) e k = ap (λ (y : ℤ). shown (text_in y c)) e ∙ shown_negative_year n c k e s
 
 pub time_of_text : (c : CalendarTime) → is_calendar_time c ≡ true → IsWritten c.year → time_of (calendar_text c) ≡ time_within c
 unfolding time_of

@@ -6,7 +6,8 @@ use Rattle.std.specs.Int.{int_div_euclid, int_rem_euclid}
 use Rattle.jiff_core.specs.Calendar.{days_from_civil, days_in_month, IsCivilDate, IsEpochDay, IsYear}
 use Rattle.jiff_core.proofs.SignedLemmas.{signed_arith}
 use Rattle.spec_ephemeris.specs.declared.limits.TheConstants.{FIRST_TIME, LAST_TIME}
-use Rattle.spec_times.specs.Calendar.{CalendarTime, year_of, month_of, day_of_month, day_number, clock, midnight, second_of_day, calendar_at, calendar_time, calendar_text, is_between, is_date, is_time_of_day, is_calendar_time, time_of_calendar, time_text}
+use Rattle.spec_times.specs.Calendar.{year_of, month_of, day_of_month, day_number, clock, midnight, second_of_day, calendar_at, calendar_time, calendar_text, is_between, is_date, is_time_of_day, is_calendar_time, time_of_calendar, time_text}
+use Rattle.spec_times.specs.declared.calendar.CalendarTime.{CalendarTime}
 use Rattle.spec_times.specs.TimeWords.{IsTime, time_of, time_within, within_limits}
 use Rattle.spec_times.proofs.Dates.{date_of_day, one_date}
 use Rattle.spec_times.proofs.Texts.{time_of_text, written}
@@ -62,5 +63,12 @@ unfolding time_text
 text_is_read time is =
     let civil = (date_of_day (day_number time) (day_is time is)).civil in
     let c = calendar_time time in
-    let late : int_lt c.year (neg_ℤ (pos 9999)) ≡ false = lt_false c.year (neg_ℤ (pos 9999)) civil.0.0 in
-    time_of_text c (calendar_holds time is) (written c.year civil.0) ∙ rw (late, calendar_is time is) (within time is)
+    let not_early : int_lt c.year (neg_ℤ (pos 9999)) ≡ false = lt_false c.year (neg_ℤ (pos 9999)) civil.0.0 in
+    let not_late : int_lt (pos 9999) c.year ≡ false = lt_false (pos 9999) c.year civil.0.1 in
+    time_of_text c (calendar_holds time is) (written c.year civil.0) ∙ rw (not_early, not_late, calendar_is time is) (within time is)
+
+-- the date of this day is what calendar and clock show
+pub calendar_of_date : (time : ℤ) (y : ℤ) (m d : ℕ) → IsTime time → IsCivilDate y m d → days_from_civil y m d ≡ day_number time → (year_of (day_number time) ≡ y) × (month_of (day_number time) ≡ m) × (day_of_month (day_number time) ≡ d)
+calendar_of_date time y m d is h e =
+    let found = date_of_day (day_number time) (day_is time is) in
+    one_date (year_of (day_number time)) (month_of (day_number time)) (day_of_month (day_number time)) y m d found.civil h (found.number ∙ sym e)

@@ -5,16 +5,8 @@ use Rattle.std.specs.Int.{int_div_euclid, int_rem_euclid}
 use Rattle.jiff_core.specs.Calendar.{days_from_civil, days_in_month}
 use Rattle.spec_text.specs.Bytes.{minus_sign, digit_zero}
 use Rattle.spec_ephemeris.specs.declared.limits.TheConstants.{DAY}
+use Rattle.spec_times.specs.declared.calendar.CalendarTime.{CalendarTime}
 use Rattle.spec_times.specs.declared.limits.TheConstants.{HALF_DAY, J2000_DAY}
-
--- a date and a time of day. The year before 1 is 0, and the year before that is -1
-pub record CalendarTime : Type 0 where
-  pub year : ℤ
-  pub month : ℕ
-  pub day : ℕ
-  pub hour : ℕ
-  pub minute : ℕ
-  pub second : ℕ
 
 -- n lies from low to high, both included
 abbrev pub is_between : ℕ → ℕ → ℕ → Bool
@@ -106,15 +98,21 @@ abbrev pub year_text : ℤ → List ℕ
 year_text (pos n) = digits 4 n
 year_text (negsuc n) = minus_sign ∷ digits 6 (suc n)
 
--- `-MM-DDTHH:MM:SS`
-abbrev pub rest_text : CalendarTime → List ℕ
-rest_text c =
-    minus_sign ∷ digits 2 c.month ++ (minus_sign ∷ digits 2 c.day
-    ++ (84 ∷ digits 2 c.hour ++ (58 ∷ digits 2 c.minute ++ (58 ∷ digits 2 c.second))))
+-- `YYYY-MM-DD`
+abbrev pub date_text : ℤ → ℕ → ℕ → List ℕ
+date_text year month day = year_text year ++ (minus_sign ∷ digits 2 month) ++ (minus_sign ∷ digits 2 day)
+
+-- `THH:MM:SS`
+abbrev pub time_of_day_text : ℕ → ℕ → ℕ → List ℕ
+time_of_day_text hour minute second = (84 ∷ digits 2 hour) ++ (58 ∷ digits 2 minute) ++ (58 ∷ digits 2 second)
+
+-- the same of so many seconds since midnight
+abbrev pub clock_text : ℕ → List ℕ
+clock_text seconds = time_of_day_text (seconds / 3600) (seconds / 60 % 60) (seconds % 60)
 
 -- `YYYY-MM-DDTHH:MM:SS`
 abbrev pub calendar_text : CalendarTime → List ℕ
-calendar_text c = year_text c.year ++ rest_text c
+calendar_text c = date_text c.year c.month c.day ++ time_of_day_text c.hour c.minute c.second
 
 -- the text of a time
 unfoldable pub time_text : ℤ → List ℕ

@@ -9,5 +9,8 @@ pub const J2000_DAY: i64 = 10_957;
 /// The first year whose days have numbers. Years before it end before the first time.
 pub const FIRST_YEAR: i64 = -9_999;
 
+/// The last year whose days have numbers. Years after it begin after the last time.
+pub const LAST_YEAR: i64 = 9_999;
+
 /// The most digits of a time that is written as a whole number.
 pub const MOST_TIME_DIGITS: usize = 12;

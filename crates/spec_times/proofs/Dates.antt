@@ -1,14 +1,12 @@
 -- The date of a day: it is one of the calendar, its day is that day, and no other date's is.
-use Rattle.std.proofs.Common.{◌≡◌, ℕ, zero, suc, ◌+◌, ◌-◌, ◌<◌, ◌≤◌, ◌⊎◌, inl, inr, Bool, true, false, refl, sym, ap, ◌∙◌, arith, ℤ, pos, negsuc, neg_ℤ, ◌+ℤ◌, ◌-ℤ◌, ◌<ℤ◌, ◌≤ℤ◌, unsigned_abs, int_le, cond}
-use Rattle.std.proofs.lemmas.Bool.{cases_Bool, cases_lt, cases_eq}
-use Rattle.jiff_core.specs.Calendar.{days_from_civil, days_in_month, days_in_year, IsCivilDate, IsEpochDay, IsYear}
-use Rattle.jiff_core.specs.Date.{epoch_day}
+use Rattle.std.proofs.Common.{◌≡◌, ℕ, zero, suc, ◌+◌, ◌<◌, ◌≤◌, inl, inr, true, false, refl, arith, ℤ, pos, negsuc, neg_ℤ, ◌+ℤ◌, ◌-ℤ◌, ◌<ℤ◌, ◌≤ℤ◌, unsigned_abs, int_le}
+use Rattle.std.proofs.lemmas.Bool.{cases_Bool, cases_eq}
+use Rattle.jiff_core.specs.Calendar.{days_from_civil, days_in_month, IsCivilDate, IsEpochDay, IsYear}
 use Rattle.jiff_core.specs.declared.civil.date.Date.{Date}
 use Rattle.jiff_core.proofs.SignedLemmas.{signed_arith}
 use Rattle.jiff_core.proofs.CalendarLemmas.{days_in_month_bounds}
 use Rattle.jiff_core.proofs.DateLemmas.{epoch_day_injective, days_from_civil-day, days_from_civil-next_month, days_from_civil-next_year, days_from_civil-min, days_from_civil-max}
 use Rattle.spec_times.specs.Calendar.{last_begun, year_at, new_year, new_month, year_of, month_of, day_of_month}
-use borrow.Author.Differences.{up, down}
 
 -- ---- the last that has begun
 
@@ -30,10 +28,11 @@ pub last_begun_is : (start : ℕ → ℤ) (day : ℤ) (n : ℕ) → start 1 ≤�
 last_begun_is start day zero first some = absurd (omega arith)
 last_begun_is start day (suc n) first some = elim (cases_Bool (int_le (start (suc n)) day)) [
   | inl begun ↦ rw (last_begun-true start day n begun) (record {
-      low = omega arith;
-      high = omega arith;
-      begun = omega (arith, signed_arith);
-      later = λ j after most. absurd (omega arith) })
+    low = omega arith;
+    high = omega arith;
+    begun = omega (arith, signed_arith);
+    later = λ j after most. absurd (omega arith);
+  })
   | inr not_begun ↦ elim (cases_eq n 0) [
     | inl zero_is ↦ let one : suc n ≡ 1 = omega arith in absurd (omega (arith, signed_arith, rw one at not_begun))
     | inr more ↦ let before = last_begun_is start day n first (omega arith) in
@@ -44,7 +43,8 @@ last_begun_is start day (suc n) first some = elim (cases_Bool (int_le (start (su
           later = λ j after most. elim (cases_eq j (suc n)) [
             | inl same ↦ rw same (omega (arith, signed_arith))
             | inr other ↦ before.later j after (omega arith)
-          ] })
+          ];
+        })
   ]
 ]
 
@@ -79,7 +79,8 @@ year_of_day day k h is = record {
   ends = elim (cases_eq k 19999) [
     | inl last ↦ rw last (omega (arith, signed_arith, h.1, days_from_civil-max))
     | inr before ↦ omega (arith, signed_arith, next_year k, is.later (suc k) (omega arith) (omega arith))
-  ] }
+  ];
+}
 
 -- ---- months
 
@@ -99,7 +100,8 @@ month_of_day year day m ends is = record {
     | inr before ↦
         let after = is.later (m + 1) (omega arith) (omega arith) in
         omega (arith, signed_arith, days_from_civil-next_month year m (days_in_month year m) is.low refl, after)
-  ] }
+  ];
+}
 
 -- ---- the date of a day
 

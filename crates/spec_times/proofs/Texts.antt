@@ -1,12 +1,11 @@
 -- The text of a calendar time is read as that calendar time.
-use Rattle.std.proofs.Common.{◌≡◌, ℕ, suc, neg_ℤ, ◌+◌, ◌-◌, ◌*◌, ◌/◌, ◌%◌, ◌<◌, ◌≤◌, ◌==◌, ◌&&◌, nat_lt, Bool, true, false, List, [], ◌∷◌, ◌++◌, Option, None, Some, refl, sym, ap, ◌∙◌, arith, ℤ, pos, negsuc, ◌<ℤ◌, ◌≤ℤ◌, take, drop}
+use Rattle.std.proofs.Common.{◌≡◌, ℕ, suc, neg_ℤ, ◌+◌, ◌/◌, ◌%◌, ◌<◌, ◌==◌, nat_lt, true, false, List, ◌∷◌, ◌++◌, None, Some, refl, sym, ap, ◌∙◌, arith, ℤ, pos, negsuc}
 use Rattle.std.specs.Char.{is_ascii_digit}
-use Rattle.std.proofs.lemmas.Bool.{ne_eqb, lt-ltb, and_from}
+use Rattle.std.proofs.lemmas.Bool.{ne_eqb, lt-ltb}
 use Rattle.std.proofs.lemmas.Bool.Decides.{nat_tests}
-use Rattle.jiff_core.specs.Calendar.{days_in_month, IsYear}
+use Rattle.jiff_core.specs.Calendar.{IsYear}
 use Rattle.jiff_core.proofs.SignedLemmas.{signed_arith}
 use Rattle.jiff_core.proofs.CalendarLemmas.{days_in_month_bounds}
-use Rattle.spec_text.specs.Bytes.{digit_zero}
 use Rattle.spec_text.specs.Decimals.{value}
 use Rattle.spec_times.specs.Calendar.{digits, year_text, time_of_day_text, calendar_text, is_calendar_time}
 use Rattle.spec_times.specs.declared.calendar.CalendarTime.{CalendarTime}
@@ -83,7 +82,8 @@ rest_shown c year same s = λ i. record {
   day = two c.day s.day i;
   hour = two c.hour s.hour i;
   minute = two c.minute s.minute i;
-  second = two c.second s.second i }
+  second = two c.second s.second i;
+}
 
 year_fits : (n : ℕ) (c : CalendarTime) → has_form year_form (digits 4 n ++ rest_text c) ≡ true
 year_fits n c = rw (digit (n / 10 / 10 / 10), digit (n / 10 / 10), digit (n / 10), digit n) (rest_fits c)

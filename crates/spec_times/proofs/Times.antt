@@ -1,14 +1,14 @@
 -- The calendar time of a time is the one that shows it, and its text is read as the time.
-use Rattle.std.proofs.Common.{◌≡◌, ℕ, ◌+◌, ◌-◌, ◌*◌, ◌/◌, ◌%◌, ◌<◌, ◌≤◌, ◌⊎◌, inl, inr, ◌&&◌, nat_lt, int_le, int_lt, Bool, true, false, Ok, refl, sym, ap, ◌∙◌, arith, ℤ, pos, negsuc, neg_ℤ, ◌+ℤ◌, ◌-ℤ◌, ◌*ℤ◌, ◌≤ℤ◌, unsigned_abs}
-use Rattle.std.proofs.lemmas.Bool.{cases_Bool, and_from, lt-ltb, le-leb}
+use Rattle.std.proofs.Common.{◌≡◌, ℕ, ◌+◌, ◌*◌, ◌/◌, ◌%◌, ◌<◌, ◌≤◌, inl, inr, int_le, int_lt, true, false, Ok, refl, sym, ◌∙◌, arith, ℤ, pos, negsuc, neg_ℤ, ◌+ℤ◌, ◌*ℤ◌, ◌≤ℤ◌, unsigned_abs}
+use Rattle.std.proofs.lemmas.Bool.{cases_Bool, and_from, lt-ltb}
 use Rattle.std.proofs.lemmas.Bool.Decides.{nat_tests}
 use Rattle.std.specs.Int.{int_div_euclid, int_rem_euclid}
-use Rattle.jiff_core.specs.Calendar.{days_from_civil, days_in_month, IsCivilDate, IsEpochDay, IsYear}
+use Rattle.jiff_core.specs.Calendar.{days_from_civil, days_in_month, IsCivilDate, IsEpochDay}
 use Rattle.jiff_core.proofs.SignedLemmas.{signed_arith}
 use Rattle.spec_ephemeris.specs.declared.limits.TheConstants.{FIRST_TIME, LAST_TIME}
-use Rattle.spec_times.specs.Calendar.{year_of, month_of, day_of_month, day_number, clock, midnight, second_of_day, calendar_at, calendar_time, calendar_text, is_between, is_date, is_time_of_day, is_calendar_time, time_of_calendar, time_text}
+use Rattle.spec_times.specs.Calendar.{year_of, month_of, day_of_month, day_number, clock, midnight, calendar_at, calendar_time, is_between, is_date, is_time_of_day, is_calendar_time, time_of_calendar, time_text}
 use Rattle.spec_times.specs.declared.calendar.CalendarTime.{CalendarTime}
-use Rattle.spec_times.specs.TimeWords.{IsTime, time_of, time_within, within_limits}
+use Rattle.spec_times.specs.TimeWords.{IsTime, time_of, within_limits}
 use Rattle.spec_times.proofs.Dates.{date_of_day, one_date}
 use Rattle.spec_times.proofs.Texts.{time_of_text, written}
 
@@ -49,10 +49,10 @@ calendar_is time is =
     (λ i. midnight (number i) +ℤ pos (seconds_are (clock time) i)) ∙ whole_is time
 
 le_true : (a b : ℤ) → a ≤ℤ b → int_le a b ≡ true
-le_true a b h = elim (cases_Bool (int_le a b)) [ | inl t ↦ t | inr f ↦ absurd (omega (arith, signed_arith)) ]
+le_true a b h = elim (cases_Bool (int_le a b)) [ inl t ↦ t | inr f ↦ absurd (omega (arith, signed_arith)) ]
 
 lt_false : (a b : ℤ) → b ≤ℤ a → int_lt a b ≡ false
-lt_false a b h = elim (cases_Bool (int_lt a b)) [ | inl t ↦ absurd (omega (arith, signed_arith)) | inr f ↦ f ]
+lt_false a b h = elim (cases_Bool (int_lt a b)) [ inl t ↦ absurd (omega (arith, signed_arith)) | inr f ↦ f ]
 
 within : (time : ℤ) → IsTime time → within_limits time ≡ Ok time
 within time is =

@@ -1,5 +1,5 @@
 // The calendar text of a time.
-ghost use Rattle.std.specs.Prelude.{◌≡◌, ◌<◌, ◌++◌, ◌∷◌, pos, IfOk, OnOk, string_bytes};
+ghost use Rattle.std.specs.Prelude.{◌≡◌, ◌<◌, ◌++◌, ◌∷◌, pos, IfOk, OnOk, string_bytes, unsigned_abs};
 ghost use Rattle.std.specs.Fmt.{decimal};
 ghost use Rattle.jiff_core.specs.Calendar.{IsEpochDay, IsYear};
 ghost use Rattle.jiff_core.specs.Date.{epoch_day};
@@ -28,8 +28,18 @@ pub(crate) fn add_time(text: &mut String, time: i64) -> Result<(), AllocError>
     requires { IsTime time }
     ensures { OnOk result (string_bytes text.new ≡ string_bytes text.old ++ time_text time) }
 {
-    add_date(text, date_of(time))?;
-    add_clock(text, clock_of(time))
+    add_calendar(text, date_of(time), clock_of(time))
+}
+
+// A date and a time of day, which comes so many seconds after midnight.
+fn add_calendar(text: &mut String, date: Date, clock: u32) -> Result<(), AllocError>
+    requires { clock < 86_400 }
+    ensures { OnOk result (string_bytes text.new
+        ≡ string_bytes text.old
+        ++ (date_text date.year date.month date.day ++ clock_text clock)) }
+{
+    add_date(text, date)?;
+    add_clock(text, clock)
 }
 
 // The date of the day that the time lies in.
@@ -77,7 +87,10 @@ fn add_year(text: &mut String, year: i16) -> Result<(), AllocError>
 }
 
 // What stands before the four digits of a year.
-fn year_sign(year: i16) -> &'static str {
+fn year_sign(year: i16) -> &'static str
+    requires { IsYear year }
+    ensures { result.now ++ digits 4 (unsigned_abs year) ≡ year_text year }
+{
     if year < 0 { "-00" } else { "" }
 }
 

@@ -1,13 +1,14 @@
 // The time that a word stands for.
-ghost use Rattle.std.specs.Prelude.{◌≡◌, ◌≤◌, ◌<◌, ◌+◌, ◌*◌, ◌^◌, pos, IfSome, length, true};
-ghost use Rattle.jiff_core.specs.Calendar.{days_from_civil, days_in_month, IsYear};
+ghost use Rattle.std.specs.Prelude.{◌≡◌, ◌≤◌, ◌<◌, ◌+◌, ◌*◌, ◌^◌, length};
+ghost use Rattle.std.specs.Char.{is_ascii_digit};
+ghost use Rattle.std.specs.List.{list_all};
 ghost use Rattle.spec_text.specs.Decimals.{value};
+ghost use Rattle.spec_times.specs.Calendar.{is_between};
 ghost use Rattle.spec_times.specs.TimeWords.{are_time_digits, fits, has_form, negated_of, time_of, whole_of, whole_time, within_limits};
 
+use crate::showing::time_shown;
 use spec_ephemeris::{FIRST_TIME, LAST_TIME};
 use spec_times::{MOST_TIME_DIGITS, TimeFault};
-
-use crate::showing::time_shown;
 
 /// The time that a word stands for, in seconds of TDB since J2000: a whole number, which is an optional `-` and 1 to 12
 /// digits, or a calendar text `YYYY-MM-DDTHH:MM:SS`, in which a year below 0 has a `-` and six digits. `NotTime` where
@@ -67,16 +68,26 @@ fn negated_of(digits: &[u8]) -> Option<i64>
 fn are_time_digits(word: &[u8]) -> bool
     ensures { result ≡ are_time_digits word.now }
 {
+    are_digits(word) && is_between(1, MOST_TIME_DIGITS as u64, word.len() as u64)
+}
+
+fn are_digits(word: &[u8]) -> bool
+    ensures { result ≡ list_all is_ascii_digit word.now }
+{
     word.iter().all(|byte| byte.is_ascii_digit())
-        && 1 <= word.len()
-        && word.len() <= MOST_TIME_DIGITS
+}
+
+pub(crate) fn is_between(low: u64, high: u64, n: u64) -> bool
+    ensures { result ≡ is_between low high n }
+{
+    low <= n && n <= high
 }
 
 /// The number that digits write. There are at most 12.
 pub(crate) fn value(digits: &[u8]) -> u64
     requires { length digits.now ≤ 12 }
     ensures value { result ≡ value digits.now }
-    ensures bound { result ≤ 23 * 10 ^ length digits.now }
+    ensures bound { result < 10 ^ 14 }
 {
     let mut value: u64 = 0;
     for digit in digits {

@@ -1,10 +1,10 @@
 // What a word shows on calendar and clock, and the time of it.
-ghost use Rattle.std.specs.Prelude.{◌≡◌, ◌≤◌, ◌+◌, length, true, Some};
-ghost use Rattle.jiff_core.specs.Calendar.{days_from_civil, days_in_month, IsYear};
-ghost use Rattle.spec_times.specs.Calendar.{is_between, is_calendar_time, is_date, is_time_of_day, time_of_calendar};
+ghost use Rattle.std.specs.Prelude.{◌≡◌, ◌<◌, ◌≤◌, ◌+◌, ◌^◌, length, true, Some};
+ghost use Rattle.jiff_core.specs.Calendar.{days_from_civil, days_in_month, IsEpochDay, IsWithin, IsYear};
+ghost use Rattle.spec_times.specs.Calendar.{is_calendar_time, is_date, midnight, is_time_of_day, second_of_day, time_of_calendar};
 ghost use Rattle.spec_times.specs.TimeWords.{calendar_after, negative_year_form, shown, time_shown, time_within, two_digits_at, year_form};
 
-use crate::reading::{has_form, value, within_limits};
+use crate::reading::{has_form, is_between, value, within_limits};
 use jiff_core::civil::{Date, days_in_month};
 use spec_ephemeris::DAY;
 use spec_times::{CalendarTime, FIRST_YEAR, HALF_DAY, J2000_DAY, LAST_YEAR, TimeFault};
@@ -84,19 +84,14 @@ fn two_digits_at(place: usize, word: &[u8]) -> u64
 fn is_date(shown: CalendarTime) -> bool
     ensures { result ≡ is_date shown }
 {
-    is_between(1, 12, shown.month) && is_between(1, month_length(shown.year, shown.month), shown.day)
+    is_between(1, 12, shown.month)
+        && is_between(1, month_length(shown.year, shown.month), shown.day)
 }
 
 fn is_time_of_day(shown: CalendarTime) -> bool
     ensures { result ≡ is_time_of_day shown }
 {
     shown.hour < 24 && shown.minute < 60 && shown.second < 60
-}
-
-fn is_between(low: u64, high: u64, n: u64) -> bool
-    ensures { result ≡ is_between low high n }
-{
-    low <= n && n <= high
 }
 
 // The days of a month of any year: years 400 apart are alike.
@@ -125,14 +120,31 @@ fn time_of_calendar(shown: CalendarTime) -> i64
     requires shown { is_calendar_time shown ≡ true }
     ensures { result ≡ time_of_calendar shown }
 {
-    let seconds = shown.hour * 3_600 + shown.minute * 60 + shown.second;
-    (day_number(shown) - J2000_DAY) * DAY - HALF_DAY + seconds as i64
+    midnight(day_number(shown)) + second_of_day(shown) as i64
+}
+
+// The midnight that begins a day.
+fn midnight(day: i64) -> i64
+    requires { IsEpochDay day }
+    ensures value { result ≡ midnight day }
+    ensures bound { IsWithin (10 ^ 12) result }
+{
+    (day - J2000_DAY) * DAY - HALF_DAY
+}
+
+fn second_of_day(shown: CalendarTime) -> u64
+    requires { is_calendar_time shown ≡ true }
+    ensures value { result ≡ second_of_day shown }
+    ensures bound { result < 86_400 }
+{
+    shown.hour * 3_600 + shown.minute * 60 + shown.second
 }
 
 fn day_number(shown: CalendarTime) -> i64
     requires year { IsYear shown.year }
     requires shown { is_calendar_time shown ≡ true }
-    ensures { result ≡ days_from_civil shown.year shown.month shown.day }
+    ensures value { result ≡ days_from_civil shown.year shown.month shown.day }
+    ensures bound { IsEpochDay result }
 {
     let date = Date::new(shown.year as i16, shown.month as i8, shown.day as i8).unwrap();
     date.to_unix_epoch_day() as i64

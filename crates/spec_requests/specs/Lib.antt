@@ -1,1 +1,5 @@
 pub mod Words
+pub mod Names
+pub mod Options
+pub mod Commands
+pub mod Requests

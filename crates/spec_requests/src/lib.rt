@@ -3,9 +3,21 @@
 #![tactic(auto)]
 
 mod examples;
+mod limits;
 mod request;
+mod request_examples;
+mod tables;
 mod text;
 
 pub use examples::words_ask_for_files;
+pub use limits::{
+    MOST_DEPTH, MOST_DIGITS_OF_A_COUNT, MOST_DIGITS_OF_A_SEED, MOST_DIGITS_OF_BLOCKS,
+    MOST_GENERATED_BLOCKS, MOST_SEED, MOST_WIDTH, MOST_WORKERS,
+};
 pub use request::{FindAsk, Named, Request, WordFault};
+pub use request_examples::{faults_of_words, requests_of_words};
+pub use tables::{
+    AXES, COMMANDS, CUTS, CommandName, DIRS, FIND_OPTIONS, FRAMES, GEN_OPTIONS, GEN_WORDS, KINDS,
+    LAYOUTS, TARGETS, Use, VIEWPOINTS,
+};
 pub use text::{FileNames, Text};

@@ -1,7 +1,7 @@
 -- The commands as `clap` sees them, and what it reads in words.
-use Rattle.std.specs.Prelude.{ℕ, Bool, true, not, List, [], ◌∷◌, ◌++◌, map, Option, Some, codes, unwrap_or}
+use Rattle.std.specs.Prelude.{Bool, true, not, List, [], ◌∷◌, ◌++◌, map, Some, codes, unwrap_or}
 use Rattle.clap.specs.Walk.{Rule, all_of, first_of, is_empty}
-use Rattle.clap.specs.Simple.{App, matches_of, new_app, new_rule, with_rule, on_top}
+use Rattle.clap.specs.Simple.{App, matches_of, new_app, new_rule, on_top}
 use Rattle.clap.specs.Faults.{fault_of}
 use Rattle.clap.specs.declared.builder.action.ArgAction.TheVariants.{Append}
 use Rattle.spec_requests.specs.declared.request.Named.{Named}

@@ -3,3 +3,4 @@ pub mod Names
 pub mod Options
 pub mod Commands
 pub mod Requests
+pub mod Examples

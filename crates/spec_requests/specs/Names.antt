@@ -1,17 +1,12 @@
 -- What words name, by the tables of names, and the names themselves.
-use Rattle.std.specs.Prelude.{ℕ, List, [], ◌∷◌, ◌++◌, Option, None, Some, if◌then◌else◌, codes}
+use Rattle.std.specs.Prelude.{ℕ, List, [], ◌∷◌, ◌++◌, map, Option, None, Some, if◌then◌else◌, codes}
 use Rattle.std.specs.Borrow.{Bor}
 use Rattle.std.specs.Str.{bytes_eq}
 use Rattle.spec_ephemeris.specs.declared.body.Body.{Body}
-use Rattle.spec_ephemeris.specs.declared.body.Body.TheVariants as body
 use Rattle.spec_bodies.specs.declared.frame.Frame.{Frame}
-use Rattle.spec_bodies.specs.declared.frame.Frame.TheVariants as frame
 use Rattle.spec_events.specs.declared.dir.Dir.{Dir}
-use Rattle.spec_events.specs.declared.dir.Dir.TheVariants as dir
 use Rattle.spec_trees.specs.declared.cuts.CutRule.{CutRule}
-use Rattle.spec_trees.specs.declared.cuts.CutRule.TheVariants as cut
 use Rattle.spec_kinds.specs.declared.kind.Kind.{Kind}
-use Rattle.spec_kinds.specs.declared.kind.Kind.TheVariants as kind
 use Rattle.spec_requests.specs.declared.request.Named.{Named}
 use Rattle.spec_requests.specs.declared.request.Named.TheVariants as opt
 use Rattle.spec_requests.specs.declared.tables.CommandName.{CommandName}
@@ -22,39 +17,74 @@ Text = List ℕ
 
 -- names, each with what it stands for
 abbrev pub Table : Type 0 → Type 0
-Table X = List (Bor Text × X)
+Table X = List (Text × X)
+
+-- the table as code reads it
+abbrev pub rows_of : {X : Type 0} → List (Bor Text × X) → Table X
+rows_of rows = map (λ row. (row.0.now, row.1)) rows
 
 -- what the word stands for: the value beside the first name that it is
 abbrev pub named : {X : Type 0} → Table X → Text → Option X
 named [] word = None
-named (row ∷ rows) word = if bytes_eq row.0.now word then Some row.1 else named rows word
+named (row ∷ rows) word = if bytes_eq row.0 word then Some row.1 else named rows word
+
+-- ---- the tables
+
+abbrev pub commands : Table CommandName
+commands = map (λ row. (row.0.now, row.1)) COMMANDS
+
+abbrev pub kinds : Table Kind
+kinds = map (λ row. (row.0.now, row.1)) KINDS
+
+abbrev pub targets : Table Body
+targets = map (λ row. (row.0.now, row.1)) TARGETS
+
+abbrev pub viewpoints : Table Body
+viewpoints = map (λ row. (row.0.now, row.1)) VIEWPOINTS
+
+abbrev pub frames : Table Frame
+frames = map (λ row. (row.0.now, row.1)) FRAMES
+
+abbrev pub axes : Table ℕ
+axes = map (λ row. (row.0.now, row.1)) AXES
+
+abbrev pub dirs : Table Dir
+dirs = map (λ row. (row.0.now, row.1)) DIRS
+
+abbrev pub cuts : Table CutRule
+cuts = map (λ row. (row.0.now, row.1)) CUTS
+
+abbrev pub layouts : Table ℕ
+layouts = map (λ row. (row.0.now, row.1)) LAYOUTS
+
+-- ---- what a word is
 
 unfoldable pub command_of : Text → Option CommandName
-command_of = named COMMANDS
+command_of = named commands
 
 unfoldable pub kind_of : Text → Option Kind
-kind_of = named KINDS
+kind_of = named kinds
 
 unfoldable pub target_of : Text → Option Body
-target_of = named TARGETS
+target_of = named targets
 
 unfoldable pub observer_of : Text → Option Body
-observer_of = named (TARGETS ++ VIEWPOINTS)
+observer_of = named (targets ++ viewpoints)
 
 unfoldable pub frame_of : Text → Option Frame
-frame_of = named FRAMES
+frame_of = named frames
 
 unfoldable pub axis_of : Text → Option ℕ
-axis_of = named AXES
+axis_of = named axes
 
 unfoldable pub dir_of : Text → Option Dir
-dir_of = named DIRS
+dir_of = named dirs
 
 unfoldable pub cut_of : Text → Option CutRule
-cut_of = named CUTS
+cut_of = named cuts
 
 unfoldable pub layout_of : Text → Option ℕ
-layout_of = named LAYOUTS
+layout_of = named layouts
 
 -- the option's name, which follows two dashes, or the name of a word of `gen`
 abbrev pub option_name : Named → Text

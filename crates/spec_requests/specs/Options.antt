@@ -1,5 +1,5 @@
 -- The table of options: what form the value of each has, which kinds of events use it, and which is the first that is bad.
-use Rattle.std.specs.Prelude.{ℕ, ◌&&◌, ◌||◌, Bool, true, false, not, nat_lt, nat_le, List, length, Option, None, Some, is_some, if◌then◌else◌, find, ℤ}
+use Rattle.std.specs.Prelude.{ℕ, ◌&&◌, ◌||◌, Bool, true, false, not, nat_lt, nat_le, length, Option, None, Some, is_some, if◌then◌else◌, find, ℤ}
 use Rattle.std.specs.Char.{is_ascii_digit}
 use Rattle.std.specs.List.{list_all}
 use Rattle.std.specs.Result.{result_ok}
@@ -14,7 +14,7 @@ use Rattle.spec_requests.specs.declared.request.Named.{Named}
 use Rattle.spec_requests.specs.declared.request.Named.TheVariants as opt
 use Rattle.spec_requests.specs.declared.tables.Use.{Use}
 use Rattle.spec_requests.specs.declared.tables.Use.TheVariants.{Needed, Optional, Unused}
-use Rattle.spec_requests.specs.declared.tables.TheConstants.{FIND_OPTIONS, GEN_WORDS, GEN_OPTIONS}
+use Rattle.spec_requests.specs.declared.tables.TheConstants.{FIND_OPTIONS}
 use Rattle.spec_requests.specs.declared.limits.TheConstants.{MOST_DIGITS_OF_A_COUNT, MOST_WIDTH, MOST_DEPTH, MOST_WORKERS, MOST_DIGITS_OF_BLOCKS, MOST_GENERATED_BLOCKS, MOST_DIGITS_OF_A_SEED, MOST_SEED}
 use Rattle.spec_requests.specs.Names.{Text, kind_of, target_of, observer_of, frame_of, axis_of, dir_of, cut_of, layout_of}
 

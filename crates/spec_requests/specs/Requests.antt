@@ -1,5 +1,5 @@
 -- What words ask for, or why they ask for nothing.
-use Rattle.std.specs.Prelude.{ℕ, ◌&&◌, Bool, true, false, List, [], ◌∷◌, ◌++◌, Option, None, Some, Result, Ok, Err, if◌then◌else◌, find, codes, unwrap_or, option_and_then, ℤ, pos}
+use Rattle.std.specs.Prelude.{List, [], ◌∷◌, ◌++◌, Option, None, Some, Result, Ok, Err, if◌then◌else◌, find, codes, unwrap_or, option_and_then, pos}
 use Rattle.spec_text.specs.declared.decimals.Decimal.{Decimal}
 use Rattle.spec_ephemeris.specs.declared.body.Body.TheVariants.{Mercury, Ssb}
 use Rattle.spec_bodies.specs.declared.frame.Frame.TheVariants.{Eq}
@@ -16,7 +16,7 @@ use Rattle.spec_requests.specs.declared.request.WordFault.{WordFault}
 use Rattle.spec_requests.specs.declared.request.WordFault.TheVariants.{NoCommand, UnknownCommand, Words, BadValue}
 use Rattle.spec_requests.specs.declared.tables.CommandName.{CommandName}
 use Rattle.spec_requests.specs.declared.tables.CommandName.TheVariants as command
-use Rattle.spec_requests.specs.declared.tables.Use.TheVariants.{Optional, Unused}
+use Rattle.spec_requests.specs.declared.tables.Use.TheVariants.{Optional}
 use Rattle.spec_requests.specs.declared.tables.TheConstants.{GEN_WORDS, GEN_OPTIONS}
 use Rattle.spec_requests.specs.Names.{Text, command_of, kind_of, target_of, observer_of, frame_of, axis_of, dir_of, cut_of}
 use Rattle.spec_requests.specs.Options.{Values, is_unused, use_of_ref, takes_radii, is_bad, bad_option, decimal_of, instant_of, width_of, depth_of, workers_of, blocks_of, seed_of}

@@ -15,7 +15,9 @@ pub use limits::{
     MOST_GENERATED_BLOCKS, MOST_SEED, MOST_WIDTH, MOST_WORKERS,
 };
 pub use request::{FindAsk, Named, Request, WordFault};
-pub use request_examples::{faults_of_words, requests_of_words};
+pub use request_examples::{
+    faults_of_searches, faults_of_words, requests_of_words, searches_of_words,
+};
 pub use tables::{
     AXES, COMMANDS, CUTS, CommandName, DIRS, FIND_OPTIONS, FRAMES, GEN_OPTIONS, GEN_WORDS, KINDS,
     LAYOUTS, TARGETS, Use, VIEWPOINTS,

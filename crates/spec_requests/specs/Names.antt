@@ -1,12 +1,17 @@
 -- What words name, by the tables of names, and the names themselves.
-use Rattle.std.specs.Prelude.{ℕ, List, [], ◌∷◌, ◌++◌, map, Option, None, Some, if◌then◌else◌, codes}
+use Rattle.std.specs.Prelude.{ℕ, ◌==◌, List, [], ◌∷◌, ◌++◌, map, Option, None, Some, if◌then◌else◌, codes}
 use Rattle.std.specs.Borrow.{Bor}
 use Rattle.std.specs.Str.{bytes_eq}
 use Rattle.spec_ephemeris.specs.declared.body.Body.{Body}
+use Rattle.spec_ephemeris.specs.declared.body.Body.TheVariants as body
 use Rattle.spec_bodies.specs.declared.frame.Frame.{Frame}
+use Rattle.spec_bodies.specs.declared.frame.Frame.TheVariants as frame
 use Rattle.spec_events.specs.declared.dir.Dir.{Dir}
+use Rattle.spec_events.specs.declared.dir.Dir.TheVariants as dir
 use Rattle.spec_trees.specs.declared.cuts.CutRule.{CutRule}
+use Rattle.spec_trees.specs.declared.cuts.CutRule.TheVariants as cut
 use Rattle.spec_kinds.specs.declared.kind.Kind.{Kind}
+use Rattle.spec_kinds.specs.declared.kind.Kind.TheVariants as kind
 use Rattle.spec_requests.specs.declared.request.Named.{Named}
 use Rattle.spec_requests.specs.declared.request.Named.TheVariants as opt
 use Rattle.spec_requests.specs.declared.tables.CommandName.{CommandName}
@@ -107,3 +112,50 @@ option_name opt.Cut = codes "cut"
 option_name opt.Layout = codes "layout"
 option_name opt.Blocks = codes "blocks"
 option_name opt.Seed = codes "seed"
+
+-- ---- the names of what words stand for
+
+abbrev pub kind_name : Kind → Text
+kind_name kind.Coord = codes "coord"
+kind_name kind.Radius = codes "radius"
+kind_name kind.Apsis = codes "apsis"
+kind_name kind.Conj = codes "conj"
+kind_name kind.Oppo = codes "oppo"
+kind_name kind.Station = codes "station"
+kind_name kind.Sep = codes "sep"
+kind_name kind.SepExt = codes "sepext"
+kind_name kind.Any = codes "any"
+kind_name kind.Full = codes "full"
+kind_name kind.Annular = codes "annular"
+
+abbrev pub body_name : Body → Text
+body_name body.Mercury = codes "mercury"
+body_name body.Venus = codes "venus"
+body_name body.Emb = codes "emb"
+body_name body.Mars = codes "mars"
+body_name body.Jupiter = codes "jupiter"
+body_name body.Saturn = codes "saturn"
+body_name body.Uranus = codes "uranus"
+body_name body.Neptune = codes "neptune"
+body_name body.Pluto = codes "pluto"
+body_name body.Moon = codes "moon"
+body_name body.Sun = codes "sun"
+body_name body.Earth = codes "earth"
+body_name body.Ssb = codes "ssb"
+
+abbrev pub frame_name : Frame → Text
+frame_name frame.Eq = codes "eq"
+frame_name frame.Ecl = codes "ecl"
+
+abbrev pub dir_name : Dir → Text
+dir_name dir.Any = codes "any"
+dir_name dir.Rise = codes "rise"
+dir_name dir.Fall = codes "fall"
+
+abbrev pub cut_name : CutRule → Text
+cut_name cut.Half = codes "half"
+cut_name cut.Third = codes "third"
+
+-- the axes of a frame are x, y and z in the order of their numbers
+abbrev pub axis_name : ℕ → Text
+axis_name axis = if axis == 0 then codes "x" else if axis == 1 then codes "y" else codes "z"

@@ -4,6 +4,7 @@
 
 mod examples;
 mod limits;
+mod names;
 mod request;
 mod request_examples;
 mod tables;
@@ -14,6 +15,7 @@ pub use limits::{
     MOST_DEPTH, MOST_DIGITS_OF_A_COUNT, MOST_DIGITS_OF_A_SEED, MOST_DIGITS_OF_BLOCKS,
     MOST_GENERATED_BLOCKS, MOST_SEED, MOST_WIDTH, MOST_WORKERS,
 };
+pub use names::{axis_name, body_name, cut_name, dir_name, frame_name, kind_name, option_name};
 pub use request::{FindAsk, Named, Request, WordFault};
 pub use request_examples::{
     faults_of_searches, faults_of_words, requests_of_words, searches_of_words,

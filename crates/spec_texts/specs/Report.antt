@@ -12,6 +12,7 @@ use Rattle.spec_kinds.specs.declared.kind.Kind.TheVariants.{Coord}
 use Rattle.spec_requests.specs.declared.request.FindAsk.{FindAsk}
 use Rattle.spec_requests.specs.Names.{axis_name, body_name, cut_name, dir_name, frame_name, kind_name}
 use Rattle.spec_times.specs.Calendar.{time_text}
+use Rattle.spec_times.specs.TimeWords.{IsTime}
 
 -- ---- the request
 
@@ -62,6 +63,11 @@ abbrev pub line_of : ℤ → ℤ → Holds → List ℕ
 line_of first last (Certain Rise) = codes "C " ++ span_text first last ++ codes " rise\n"
 line_of first last (Certain Fall) = codes "C " ++ span_text first last ++ codes " fall\n"
 line_of first last Undecided = codes "U " ++ span_text first last ++ codes "\n"
+
+-- a window from a time to another that have texts
+pub record HasTimes (w : Window) : Type 0 where
+  pub first : IsTime w.first
+  pub last : IsTime w.last
 
 abbrev pub window_lines : List Window → List ℕ
 window_lines ws = flat_map (λ w. line_of w.first w.last w.holds) ws

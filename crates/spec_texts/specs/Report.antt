@@ -48,6 +48,9 @@ event_text find =
     codes "FIND " ++ kind_name find.ask.kind ++ bodies_text find.ask ++ axes_text find.ask
     ++ (codes " values " ++ find.values)
 
+abbrev pub query_text : FindAsk → List ℕ
+query_text find = event_text find ++ search_text find
+
 -- two times
 abbrev pub span_text : ℤ → ℤ → List ℕ
 span_text first last = time_text first ++ codes " " ++ time_text last
@@ -55,7 +58,7 @@ span_text first last = time_text first ++ codes " " ++ time_text last
 -- the line of a request, searched from one time to another
 abbrev pub request_line : FindAsk → ℤ → ℤ → List ℕ
 request_line find from to =
-    event_text find ++ search_text find ++ (codes " span " ++ span_text from to) ++ codes "\n"
+    query_text find ++ (codes " span " ++ span_text from to ++ codes "\n")
 
 -- ---- the windows
 
@@ -85,7 +88,7 @@ undecided_count ws = count_by (λ w. not (is_certain w.holds)) ws
 -- how many windows there are of both sorts
 abbrev pub end_line : List Window → List ℕ
 end_line ws =
-    codes "END certain " ++ decimal (certain_count ws) ++ (codes " undecided " ++ decimal (undecided_count ws)) ++ codes "\n"
+    codes "END certain " ++ decimal (certain_count ws) ++ (codes " undecided " ++ decimal (undecided_count ws) ++ codes "\n")
 
 -- ---- the report
 
@@ -96,7 +99,7 @@ report find from to ws = request_line find from to ++ window_lines ws ++ end_lin
 
 abbrev pub generation_line : ℕ → ℕ → ℕ → List ℕ
 generation_line blocks seed bytes =
-    codes "GEN 405 blocks " ++ decimal blocks ++ (codes " seed " ++ decimal seed) ++ (codes " bytes " ++ decimal bytes) ++ codes "\n"
+    codes "GEN 405 blocks " ++ decimal blocks ++ (codes " seed " ++ decimal seed) ++ (codes " bytes " ++ decimal bytes ++ codes "\n")
 
 -- so many blocks from this seed make so many bytes, in which these windows were found
 abbrev pub generation : ℕ → ℕ → ℕ → List Window → List ℕ

@@ -1,5 +1,5 @@
 -- What is printed of an ephemeris: its span and sizes, and a line for each column that it has.
-use Rattle.std.specs.Prelude.{ℕ, zero, suc, ◌+◌, ◌==◌, List, [], ◌∷◌, ◌++◌, codes, Option, None, Some, slice_get, if◌then◌else◌}
+use Rattle.std.specs.Prelude.{ℕ, ◌+◌, ◌-◌, ◌==◌, List, [], ◌∷◌, ◌++◌, codes, Option, None, Some, slice_get, if◌then◌else◌}
 use Rattle.std.specs.Fmt.{decimal, signed_decimal}
 use Rattle.spec_ephemeris.specs.declared.body.Body.{Body}
 use Rattle.spec_ephemeris.specs.declared.header.Column.{Column}
@@ -16,10 +16,10 @@ span_of e = codes "CHECK start " ++ time_text e.start ++ (codes " end " ++ time_
 abbrev pub sizes_of : Ephemeris → List ℕ
 sizes_of e =
     codes " block " ++ signed_decimal e.header.block_seconds ++ (codes " blocks " ++ decimal e.blocks)
-    ++ (codes " ncoeff " ++ decimal e.header.ncoeff)
+    ++ (codes " ncoeff " ++ decimal e.header.ncoeff ++ codes "\n")
 
 abbrev pub ephemeris_line : Ephemeris → List ℕ
-ephemeris_line e = span_of e ++ sizes_of e ++ codes "\n"
+ephemeris_line e = span_of e ++ sizes_of e
 
 -- a column without a body holds angles
 abbrev pub name_of_column : Option Body → ℕ → List ℕ
@@ -28,13 +28,12 @@ name_of_column None number = if number == NUTATIONS then codes "nutations" else 
 
 -- columns are counted from 1
 abbrev pub column_name : ℕ → List ℕ
-column_name zero = []
-column_name (suc place) = name_of_column (slice_get COLUMN_BODIES place) (suc place)
+column_name number = name_of_column (slice_get COLUMN_BODIES (number - 1)) number
 
 abbrev pub column_line : ℕ → Column → List ℕ
 column_line number c =
     codes "COLUMN " ++ column_name number ++ (codes " coefficients " ++ decimal c.coefs)
-    ++ (codes " granules " ++ decimal c.granules) ++ codes "\n"
+    ++ (codes " granules " ++ decimal c.granules ++ codes "\n")
 
 -- only a column that is present has a line
 abbrev pub line_if_present : ℕ → Column → List ℕ

@@ -34,3 +34,17 @@ pub(crate) fn add_signed_number(
     let mut buffer = itoa::Buffer::new();
     add_pair(text, name, buffer.format(number))
 }
+
+/// A name and a number, and the end of the line.
+pub(crate) fn add_last_number(
+    text: &mut String,
+    name: &str,
+    number: u64,
+    end: &str,
+) -> Result<(), AllocError>
+    ensures { OnOk result (string_bytes text.new
+        ≡ string_bytes text.old ++ (name.now ++ decimal number ++ end.now)) }
+{
+    add_number(text, name, number)?;
+    text.push_str(end)
+}

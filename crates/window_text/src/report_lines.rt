@@ -1,12 +1,12 @@
 // The texts of a search.
 ghost use Rattle.std.specs.Prelude.{◌≡◌, ◌++◌, All, IfOk, OnOk, string_bytes};
-ghost use Rattle.spec_texts.specs.Report.{HasTimes, axes_text, axis_of_kind, bodies_text, end_line, event_text, generation, generation_line, line_of, report, request_line, search_text, second_name, span_text, window_lines};
+ghost use Rattle.spec_texts.specs.Report.{HasTimes, axes_text, axis_of_kind, bodies_text, end_line, event_text, generation, generation_line, line_of, query_text, report, request_line, search_text, second_name, span_text, window_lines};
 ghost use Rattle.spec_times.specs.TimeWords.{IsTime};
 
 use crate::Memory;
 use crate::counting::{certain_count, undecided_count};
 use crate::printing::add_time;
-use crate::pieces::{add_number, add_pair, add_signed_number};
+use crate::pieces::{add_last_number, add_number, add_pair, add_signed_number};
 use spec_ephemeris::Body;
 use spec_kinds::{Ask, Kind};
 use spec_requests::{
@@ -65,9 +65,15 @@ fn add_request_line(
     ensures { OnOk result (string_bytes text.new
         ≡ string_bytes text.old ++ request_line find.now from to) }
 {
-    add_event(text, find)?;
-    add_search(text, find)?;
+    add_query(text, find)?;
     add_line_end(text, " span ", from, to, "\n")
+}
+
+fn add_query(text: &mut String, find: &FindAsk) -> Result<(), AllocError>
+    ensures { OnOk result (string_bytes text.new ≡ string_bytes text.old ++ query_text find.now) }
+{
+    add_event(text, find)?;
+    add_search(text, find)
 }
 
 fn add_event(text: &mut String, find: &FindAsk) -> Result<(), AllocError>
@@ -186,8 +192,7 @@ fn add_end_line(text: &mut String, windows: &[Window]) -> Result<(), AllocError>
     ensures { OnOk result (string_bytes text.new ≡ string_bytes text.old ++ end_line windows.now) }
 {
     add_number(text, "END certain ", certain_count(windows) as u64)?;
-    add_number(text, " undecided ", undecided_count(windows) as u64)?;
-    text.push_str("\n")
+    add_last_number(text, " undecided ", undecided_count(windows) as u64, "\n")
 }
 
 fn add_generation_line(
@@ -201,6 +206,5 @@ fn add_generation_line(
 {
     add_number(text, "GEN 405 blocks ", blocks as u64)?;
     add_number(text, " seed ", seed)?;
-    add_number(text, " bytes ", bytes as u64)?;
-    text.push_str("\n")
+    add_last_number(text, " bytes ", bytes as u64, "\n")
 }

@@ -1,11 +1,12 @@
 // What is printed of an ephemeris.
-ghost use Rattle.std.specs.Prelude.{◌≡◌, ◌++◌, None, IfOk, OnOk, string_bytes};
+ghost use Rattle.std.specs.Prelude.{◌≡◌, ◌<◌, ◌++◌, None, IfOk, OnOk, string_bytes};
 ghost use Rattle.spec_ephemeris.specs.Ephemeris.{end_of};
 ghost use Rattle.spec_texts.specs.Summary.{column_line, column_lines, column_name, ephemeris_line, line_if_present, name_of_column, sizes_of, span_of, summary};
+ghost use Rattle.spec_times.specs.Calendar.{time_text};
 ghost use Rattle.spec_times.specs.TimeWords.{IsTime};
 
 use crate::Memory;
-use crate::pieces::{add_number, add_pair, add_signed_number};
+use crate::pieces::{add_last_number, add_number, add_pair, add_signed_number};
 use crate::printing::add_time;
 use eph_model::Ephemeris;
 use spec_ephemeris::{Column, NUTATIONS};
@@ -33,8 +34,7 @@ fn add_ephemeris_line(text: &mut String, ephemeris: &Ephemeris) -> Result<(), Al
         ≡ string_bytes text.old ++ ephemeris_line ephemeris.now) }
 {
     add_span(text, ephemeris)?;
-    add_sizes(text, ephemeris)?;
-    text.push_str("\n")
+    add_sizes(text, ephemeris)
 }
 
 fn add_span(text: &mut String, ephemeris: &Ephemeris) -> Result<(), AllocError>
@@ -42,10 +42,17 @@ fn add_span(text: &mut String, ephemeris: &Ephemeris) -> Result<(), AllocError>
     requires end { IsTime (end_of ephemeris.now) }
     ensures { OnOk result (string_bytes text.new ≡ string_bytes text.old ++ span_of ephemeris.now) }
 {
-    text.push_str("CHECK start ")?;
-    add_time(text, ephemeris.start())?;
-    text.push_str(" end ")?;
-    add_time(text, ephemeris.end())
+    add_named_time(text, "CHECK start ", ephemeris.start())?;
+    add_named_time(text, " end ", ephemeris.end())
+}
+
+fn add_named_time(text: &mut String, name: &str, time: i64) -> Result<(), AllocError>
+    requires { IsTime time }
+    ensures { OnOk result (string_bytes text.new
+        ≡ string_bytes text.old ++ (name.now ++ time_text time)) }
+{
+    text.push_str(name)?;
+    add_time(text, time)
 }
 
 fn add_sizes(text: &mut String, ephemeris: &Ephemeris) -> Result<(), AllocError>
@@ -54,7 +61,7 @@ fn add_sizes(text: &mut String, ephemeris: &Ephemeris) -> Result<(), AllocError>
     let header = ephemeris.header();
     add_signed_number(text, " block ", header.block_seconds)?;
     add_number(text, " blocks ", ephemeris.blocks() as u64)?;
-    add_number(text, " ncoeff ", header.ncoeff as u64)
+    add_last_number(text, " ncoeff ", header.ncoeff as u64, "\n")
 }
 
 // A line for each column that is present.
@@ -69,6 +76,7 @@ fn add_columns(text: &mut String, columns: &[Column]) -> Result<(), AllocError>
 }
 
 fn add_if_present(text: &mut String, number: usize, column: Column) -> Result<(), AllocError>
+    requires { 0 < number }
     ensures { OnOk result (string_bytes text.new
         ≡ string_bytes text.old ++ line_if_present number column) }
 {
@@ -80,22 +88,20 @@ fn add_if_present(text: &mut String, number: usize, column: Column) -> Result<()
 }
 
 fn add_column(text: &mut String, number: usize, column: Column) -> Result<(), AllocError>
+    requires { 0 < number }
     ensures { OnOk result (string_bytes text.new
         ≡ string_bytes text.old ++ column_line number column) }
 {
     add_pair(text, "COLUMN ", column_name(number))?;
     add_number(text, " coefficients ", column.coefs as u64)?;
-    add_number(text, " granules ", column.granules as u64)?;
-    text.push_str("\n")
+    add_last_number(text, " granules ", column.granules as u64, "\n")
 }
 
 // The name of a column, counted from 1.
 fn column_name(number: usize) -> &'static str
+    requires { 0 < number }
     ensures { result.now ≡ column_name number }
 {
-    if number == 0 {
-        return "";
-    }
     match COLUMN_BODIES.get(number - 1) {
         Some(body) => body_name(*body),
         None => angles_name(number),

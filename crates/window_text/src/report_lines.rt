@@ -5,13 +5,11 @@ ghost use Rattle.spec_times.specs.TimeWords.{IsTime};
 
 use crate::Memory;
 use crate::counting::{certain_count, undecided_count};
-use crate::printing::add_time;
 use crate::pieces::{add_last_number, add_number, add_pair, add_signed_number};
+use crate::printing::add_time;
 use spec_ephemeris::Body;
 use spec_kinds::{Ask, Kind};
-use spec_requests::{
-    FindAsk, axis_name, body_name, cut_name, dir_name, frame_name, kind_name,
-};
+use spec_requests::{FindAsk, axis_name, body_name, cut_name, dir_name, frame_name, kind_name};
 use spec_trees::{Holds, Turn, Window};
 use std::alloc::{AllocError, Global};
 
@@ -54,12 +52,7 @@ pub fn generation(
 
 // ---- the request
 
-fn add_request_line(
-    text: &mut String,
-    find: &FindAsk,
-    from: i64,
-    to: i64,
-) -> Result<(), AllocError>
+fn add_request_line(text: &mut String, find: &FindAsk, from: i64, to: i64) -> Result<(), AllocError>
     requires from { IsTime from }
     requires to { IsTime to }
     ensures { OnOk result (string_bytes text.new

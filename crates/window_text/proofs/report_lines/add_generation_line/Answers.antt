@@ -1,4 +1,4 @@
-use Rattle.std.proofs.Common.{◌≡◌, ◌++◌, codes}
+use Rattle.std.proofs.Common.{◌++◌, codes}
 use Rattle.std.specs.Fmt.{decimal}
 use Rattle.window_text.proofs.Appended.{three_pieces}
 use Rattle.window_text.proofs.report_lines.add_generation_line.Goals as goal

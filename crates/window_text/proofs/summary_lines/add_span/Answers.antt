@@ -1,4 +1,4 @@
-use Rattle.std.proofs.Common.{◌≡◌, ◌++◌, codes, to_z-of_z, FitsSigned, w64}
+use Rattle.std.proofs.Common.{◌++◌, codes, to_z-of_z, FitsSigned, w64}
 use Rattle.spec_times.specs.Calendar.{time_text}
 use Rattle.window_text.proofs.Appended.{two_pieces}
 use Rattle.window_text.proofs.summary_lines.add_span.Goals as goal

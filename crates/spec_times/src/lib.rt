@@ -1,0 +1,17 @@
+//! What times are on the calendar: the types and definitions that contracts cite, worked values of them, and their laws.
+//! Times are seconds of TDB since J2000, 2000-01-01T12:00:00. A time comes in and its calendar text goes out; a word
+//! comes in, and the time that it stands for goes out.
+//!
+//! The calendar is the proleptic Gregorian one, as ISO 8601 extends it, with a year 0; the number of a date's day is
+//! `jiff_core`'s.
+#![tactic(auto)]
+
+mod calendar;
+mod faults;
+mod laws;
+mod limits;
+
+pub use calendar::CalendarTime;
+pub use faults::TimeFault;
+pub use laws::{days_have_one_date, times_are_read_back};
+pub use limits::{FIRST_YEAR, HALF_DAY, J2000_DAY, LAST_YEAR, MOST_TIME_DIGITS};

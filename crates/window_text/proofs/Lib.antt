@@ -1,0 +1,4 @@
+mod Digits
+mod Forms
+mod Dates
+mod Appended

@@ -1,0 +1,6 @@
+use Rattle.std.proofs.Common.{◌≡◌, take}
+use Rattle.spec_texts.specs.Report.{certain_count}
+use Rattle.window_text.proofs.counting.certain_count.Given as goal
+
+abbrev pub invariant-loop-window : goal.invariant-loop-window
+invariant-loop-window l = l.count ≡ certain_count (take l.window-index l.windows)

@@ -1,0 +1,10 @@
+use Rattle.std.proofs.Common.{◌++◌, codes, to_z-of_z}
+use Rattle.spec_texts.specs.Report.{query_text, span_text}
+use Rattle.window_text.proofs.Appended.{two_pieces}
+use Rattle.window_text.proofs.report_lines.add_request_line.Goals as goal
+
+pub returns : goal.returns
+returns c =
+    let from = c.ranges.from in
+    let to = c.ranges.to in
+    two_pieces c.add_line_end.result _ _ _ (query_text c.args.find.now) (codes " span " ++ span_text c.args.from c.args.to ++ codes "\n") c.in_ok-add_query.ensures (simp to_z-of_z at c.add_line_end.ensures)

@@ -1,0 +1,29 @@
+// How many windows there are of each sort.
+ghost use Rattle.std.specs.Prelude.{◌≡◌};
+ghost use Rattle.spec_texts.specs.Report.{certain_count, undecided_count};
+
+use spec_trees::{Holds, Window};
+
+pub(crate) fn certain_count(windows: &[Window]) -> usize
+    ensures { result ≡ certain_count windows.now }
+{
+    let mut count: usize = 0;
+    for window in windows {
+        if let Holds::Certain(_) = window.holds {
+            count += 1;
+        }
+    }
+    count
+}
+
+pub(crate) fn undecided_count(windows: &[Window]) -> usize
+    ensures { result ≡ undecided_count windows.now }
+{
+    let mut count: usize = 0;
+    for window in windows {
+        if let Holds::Undecided = window.holds {
+            count += 1;
+        }
+    }
+    count
+}

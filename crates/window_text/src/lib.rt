@@ -1,0 +1,21 @@
+//! Texts of times, and of what a search found. A time comes in, and its calendar text goes out; a word comes in, and the
+//! time that it stands for goes out; a request with its span and windows comes in, or an ephemeris, and the bytes of a
+//! report or a summary go out. Times are seconds of TDB since J2000.
+#![tactic(auto)]
+
+mod counting;
+mod memory;
+mod pieces;
+mod printing;
+mod reading;
+mod report_lines;
+mod showing;
+mod summary_lines;
+
+pub use memory::Memory;
+pub use printing::time_text;
+pub use reading::read_time;
+pub use report_lines::{generation, report};
+pub use spec_requests::FindAsk;
+pub use spec_times::TimeFault;
+pub use summary_lines::summary;

@@ -1,0 +1,203 @@
+// The texts of a search.
+ghost use Rattle.std.specs.Prelude.{◌≡◌, ◌++◌, All, IfOk, OnOk, string_bytes};
+ghost use Rattle.spec_texts.specs.Report.{HasTimes, axes_text, axis_of_kind, bodies_text, end_line, event_text, generation, generation_line, line_of, query_text, report, request_line, search_text, second_name, span_text, window_lines};
+ghost use Rattle.spec_times.specs.TimeWords.{IsTime};
+
+use crate::Memory;
+use crate::counting::{certain_count, undecided_count};
+use crate::pieces::{add_last_number, add_number, add_pair, add_signed_number};
+use crate::printing::add_time;
+use spec_ephemeris::Body;
+use spec_kinds::{Ask, Kind};
+use spec_requests::{FindAsk, axis_name, body_name, cut_name, dir_name, frame_name, kind_name};
+use spec_trees::{Holds, Turn, Window};
+use std::alloc::{AllocError, Global};
+
+/// The report of the windows that a search found between two times: the request, a line for each window, and the counts.
+/// Times are seconds of TDB since J2000, and are printed as calendar texts.
+pub fn report(
+    alloc: Global,
+    find: &FindAsk,
+    from: i64,
+    to: i64,
+    windows: &[Window],
+) -> Result<Vec<u8>, Memory>
+    requires from { IsTime from }
+    requires to { IsTime to }
+    requires windows { All HasTimes windows.now }
+    ensures { IfOk result (λ text. text.items ≡ report find.now from to windows.now) }
+{
+    let mut text = String::new(alloc);
+    add_request_line(&mut text, find, from, to)?;
+    add_windows(&mut text, windows)?;
+    add_end_line(&mut text, windows)?;
+    Ok(text.into_bytes())
+}
+
+/// The two lines of a search in a generated text, which has so many blocks and bytes.
+pub fn generation(
+    alloc: Global,
+    blocks: u32,
+    seed: u64,
+    bytes: usize,
+    windows: &[Window],
+) -> Result<Vec<u8>, Memory>
+    ensures { IfOk result (λ text. text.items ≡ generation blocks seed bytes windows.now) }
+{
+    let mut text = String::new(alloc);
+    add_generation_line(&mut text, blocks, seed, bytes)?;
+    add_end_line(&mut text, windows)?;
+    Ok(text.into_bytes())
+}
+
+// ---- the request
+
+fn add_request_line(text: &mut String, find: &FindAsk, from: i64, to: i64) -> Result<(), AllocError>
+    requires from { IsTime from }
+    requires to { IsTime to }
+    ensures { OnOk result (string_bytes text.new
+        ≡ string_bytes text.old ++ request_line find.now from to) }
+{
+    add_query(text, find)?;
+    add_line_end(text, " span ", from, to, "\n")
+}
+
+fn add_query(text: &mut String, find: &FindAsk) -> Result<(), AllocError>
+    ensures { OnOk result (string_bytes text.new ≡ string_bytes text.old ++ query_text find.now) }
+{
+    add_event(text, find)?;
+    add_search(text, find)
+}
+
+fn add_event(text: &mut String, find: &FindAsk) -> Result<(), AllocError>
+    ensures { OnOk result (string_bytes text.new ≡ string_bytes text.old ++ event_text find.now) }
+{
+    add_pair(text, "FIND ", kind_name(find.ask.kind))?;
+    add_bodies(text, find.ask)?;
+    add_axes(text, find.ask)?;
+    add_pair(text, " values ", find.values.as_str())
+}
+
+fn add_bodies(text: &mut String, ask: Ask) -> Result<(), AllocError>
+    ensures { OnOk result (string_bytes text.new ≡ string_bytes text.old ++ bodies_text ask) }
+{
+    add_pair(text, " target ", body_name(ask.target))?;
+    add_pair(text, " second ", second_name(ask.second))?;
+    add_pair(text, " observer ", body_name(ask.observer))
+}
+
+fn second_name(second: Option<Body>) -> &'static str
+    ensures { result.now ≡ second_name second }
+{
+    match second {
+        Some(body) => body_name(body),
+        None => "-",
+    }
+}
+
+fn add_axes(text: &mut String, ask: Ask) -> Result<(), AllocError>
+    ensures { OnOk result (string_bytes text.new ≡ string_bytes text.old ++ axes_text ask) }
+{
+    add_pair(text, " frame ", frame_name(ask.frame))?;
+    add_pair(text, " axis ", axis_of_kind(ask.kind, ask.axis))
+}
+
+// Only a coordinate has an axis.
+fn axis_of_kind(kind: Kind, axis: u8) -> &'static str
+    ensures { result.now ≡ axis_of_kind kind axis }
+{
+    match kind {
+        Kind::Coord => axis_name(axis),
+        _ => "-",
+    }
+}
+
+fn add_search(text: &mut String, find: &FindAsk) -> Result<(), AllocError>
+    ensures { OnOk result (string_bytes text.new ≡ string_bytes text.old ++ search_text find.now) }
+{
+    add_pair(text, " dir ", dir_name(find.ask.dir))?;
+    add_signed_number(text, " width ", find.width)?;
+    add_number(text, " depth ", find.depth as u64)?;
+    add_pair(text, " cut ", cut_name(find.cut))
+}
+
+// ---- the windows
+
+fn add_windows(text: &mut String, windows: &[Window]) -> Result<(), AllocError>
+    requires { All HasTimes windows.now }
+    ensures { OnOk result (string_bytes text.new
+        ≡ string_bytes text.old ++ window_lines windows.now) }
+{
+    for window in windows {
+        add_window(text, *window)?;
+    }
+    Ok(())
+}
+
+fn add_window(text: &mut String, window: Window) -> Result<(), AllocError>
+    requires { HasTimes window }
+    ensures { OnOk result (string_bytes text.new
+        ≡ string_bytes text.old ++ line_of window.first window.last window.holds) }
+{
+    match window.holds {
+        Holds::Certain(Turn::Rise) => {
+            add_line_end(text, "C ", window.first, window.last, " rise\n")
+        }
+        Holds::Certain(Turn::Fall) => {
+            add_line_end(text, "C ", window.first, window.last, " fall\n")
+        }
+        Holds::Undecided => add_line_end(text, "U ", window.first, window.last, "\n"),
+    }
+}
+
+// Two times, between a text and the end of the line.
+fn add_line_end(
+    text: &mut String,
+    name: &str,
+    first: i64,
+    last: i64,
+    end: &str,
+) -> Result<(), AllocError>
+    requires first { IsTime first }
+    requires last { IsTime last }
+    ensures { OnOk result (string_bytes text.new
+        ≡ string_bytes text.old ++ (name.now ++ span_text first last ++ end.now)) }
+{
+    text.push_str(name)?;
+    add_span(text, first, last)?;
+    text.push_str(end)
+}
+
+fn add_span(text: &mut String, first: i64, last: i64) -> Result<(), AllocError>
+    requires first { IsTime first }
+    requires last { IsTime last }
+    ensures { OnOk result (string_bytes text.new
+        ≡ string_bytes text.old ++ span_text first last) }
+{
+    add_time(text, first)?;
+    text.push_str(" ")?;
+    add_time(text, last)
+}
+
+// ---- the counts
+
+fn add_end_line(text: &mut String, windows: &[Window]) -> Result<(), AllocError>
+    ensures { OnOk result (string_bytes text.new ≡ string_bytes text.old ++ end_line windows.now) }
+{
+    add_number(text, "END certain ", certain_count(windows) as u64)?;
+    add_last_number(text, " undecided ", undecided_count(windows) as u64, "\n")
+}
+
+fn add_generation_line(
+    text: &mut String,
+    blocks: u32,
+    seed: u64,
+    bytes: usize,
+) -> Result<(), AllocError>
+    ensures { OnOk result (string_bytes text.new
+        ≡ string_bytes text.old ++ generation_line blocks seed bytes) }
+{
+    add_number(text, "GEN 405 blocks ", blocks as u64)?;
+    add_number(text, " seed ", seed)?;
+    add_last_number(text, " bytes ", bytes as u64, "\n")
+}

@@ -1,0 +1,119 @@
+// What is printed of an ephemeris.
+ghost use Rattle.std.specs.Prelude.{◌≡◌, ◌<◌, ◌++◌, None, IfOk, OnOk, string_bytes};
+ghost use Rattle.spec_ephemeris.specs.Ephemeris.{end_of};
+ghost use Rattle.spec_texts.specs.Summary.{column_line, column_lines, column_name, ephemeris_line, line_if_present, name_of_column, sizes_of, span_of, summary};
+ghost use Rattle.spec_times.specs.Calendar.{time_text};
+ghost use Rattle.spec_times.specs.TimeWords.{IsTime};
+
+use crate::Memory;
+use crate::pieces::{add_last_number, add_number, add_pair, add_signed_number};
+use crate::printing::add_time;
+use eph_model::Ephemeris;
+use spec_ephemeris::{Column, NUTATIONS};
+use spec_requests::body_name;
+use spec_texts::COLUMN_BODIES;
+use std::alloc::{AllocError, Global};
+
+/// What an ephemeris holds: its start and end as calendar texts, the seconds of a block, the number of blocks and
+/// NCOEFF, and a line for each column that is present.
+pub fn summary(alloc: Global, ephemeris: &Ephemeris) -> Result<Vec<u8>, Memory>
+    requires start { IsTime ephemeris.now.start }
+    requires end { IsTime (end_of ephemeris.now) }
+    ensures { IfOk result (λ text. text.items ≡ summary ephemeris.now) }
+{
+    let mut text = String::new(alloc);
+    add_ephemeris_line(&mut text, ephemeris)?;
+    add_columns(&mut text, ephemeris.header().columns.as_slice())?;
+    Ok(text.into_bytes())
+}
+
+fn add_ephemeris_line(text: &mut String, ephemeris: &Ephemeris) -> Result<(), AllocError>
+    requires start { IsTime ephemeris.now.start }
+    requires end { IsTime (end_of ephemeris.now) }
+    ensures { OnOk result (string_bytes text.new
+        ≡ string_bytes text.old ++ ephemeris_line ephemeris.now) }
+{
+    add_span(text, ephemeris)?;
+    add_sizes(text, ephemeris)
+}
+
+fn add_span(text: &mut String, ephemeris: &Ephemeris) -> Result<(), AllocError>
+    requires start { IsTime ephemeris.now.start }
+    requires end { IsTime (end_of ephemeris.now) }
+    ensures { OnOk result (string_bytes text.new ≡ string_bytes text.old ++ span_of ephemeris.now) }
+{
+    add_named_time(text, "CHECK start ", ephemeris.start())?;
+    add_named_time(text, " end ", ephemeris.end())
+}
+
+fn add_named_time(text: &mut String, name: &str, time: i64) -> Result<(), AllocError>
+    requires { IsTime time }
+    ensures { OnOk result (string_bytes text.new
+        ≡ string_bytes text.old ++ (name.now ++ time_text time)) }
+{
+    text.push_str(name)?;
+    add_time(text, time)
+}
+
+fn add_sizes(text: &mut String, ephemeris: &Ephemeris) -> Result<(), AllocError>
+    ensures { OnOk result (string_bytes text.new ≡ string_bytes text.old ++ sizes_of ephemeris.now) }
+{
+    let header = ephemeris.header();
+    add_signed_number(text, " block ", header.block_seconds)?;
+    add_number(text, " blocks ", ephemeris.blocks() as u64)?;
+    add_last_number(text, " ncoeff ", header.ncoeff as u64, "\n")
+}
+
+// A line for each column that is present.
+fn add_columns(text: &mut String, columns: &[Column]) -> Result<(), AllocError>
+    ensures { OnOk result (string_bytes text.new
+        ≡ string_bytes text.old ++ column_lines 1 columns.now) }
+{
+    for place in 0..columns.len() {
+        add_if_present(text, place + 1, columns[place])?;
+    }
+    Ok(())
+}
+
+fn add_if_present(text: &mut String, number: usize, column: Column) -> Result<(), AllocError>
+    requires { 0 < number }
+    ensures { OnOk result (string_bytes text.new
+        ≡ string_bytes text.old ++ line_if_present number column) }
+{
+    if column.coefs > 0 && column.granules > 0 {
+        add_column(text, number, column)
+    } else {
+        Ok(())
+    }
+}
+
+fn add_column(text: &mut String, number: usize, column: Column) -> Result<(), AllocError>
+    requires { 0 < number }
+    ensures { OnOk result (string_bytes text.new
+        ≡ string_bytes text.old ++ column_line number column) }
+{
+    add_pair(text, "COLUMN ", column_name(number))?;
+    add_number(text, " coefficients ", column.coefs as u64)?;
+    add_last_number(text, " granules ", column.granules as u64, "\n")
+}
+
+// The name of a column, counted from 1.
+fn column_name(number: usize) -> &'static str
+    requires { 0 < number }
+    ensures { result.now ≡ column_name number }
+{
+    match COLUMN_BODIES.get(number - 1) {
+        Some(body) => body_name(*body),
+        None => angles_name(number),
+    }
+}
+
+fn angles_name(number: usize) -> &'static str
+    ensures { result.now ≡ name_of_column None number }
+{
+    if number == NUTATIONS {
+        "nutations"
+    } else {
+        "librations"
+    }
+}

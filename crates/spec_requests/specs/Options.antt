@@ -4,7 +4,7 @@ use Rattle.std.specs.Char.{is_ascii_digit}
 use Rattle.std.specs.List.{list_all}
 use Rattle.std.specs.Result.{result_ok}
 use Rattle.spec_text.specs.declared.decimals.Decimal.{Decimal}
-use Rattle.spec_text.specs.Decimals.{value}
+use Rattle.std.specs.Str.Parse.{digits_value}
 use Rattle.spec_text.specs.Reading.{reading}
 use Rattle.spec_times.specs.TimeWords.{time_of}
 use Rattle.spec_kinds.specs.Asks.{takes_second}
@@ -27,7 +27,8 @@ are_digits most word = list_all is_ascii_digit word && (nat_lt 0 (length word) &
 -- the number from `least` to `most` that a word of so many digits is
 unfoldable pub number_of : ℕ → ℕ → ℕ → Text → Option ℕ
 number_of digits least most word =
-    if are_digits digits word && (nat_le least (value word) && nat_le (value word) most) then Some (value word) else None
+    if are_digits digits word && (nat_le least (digits_value 10 word) && nat_le (digits_value 10 word) most)
+    then Some (digits_value 10 word) else None
 
 abbrev pub width_of : Text → Option ℕ
 width_of = number_of MOST_DIGITS_OF_A_COUNT 1 MOST_WIDTH

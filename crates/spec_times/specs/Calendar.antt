@@ -4,16 +4,9 @@ use Rattle.std.specs.Prelude.{ℕ, zero, suc, ◌+◌, ◌*◌, ◌/◌, ◌%◌
 use Rattle.std.specs.Int.{int_div_euclid, int_rem_euclid}
 use Rattle.jiff_core.specs.Calendar.{days_from_civil, days_in_month}
 use Rattle.spec_text.specs.Bytes.{minus_sign, digit_zero}
-use Rattle.spec_times.specs.declared.limits.TheConstants.{DAY, HALF_DAY, J2000_DAY, YEARS, YEARS_BEFORE_0}
-
--- a date and a time of day. The year before 1 is 0, and the year before that is -1
-pub record CalendarTime : Type 0 where
-  pub year : ℤ
-  pub month : ℕ
-  pub day : ℕ
-  pub hour : ℕ
-  pub minute : ℕ
-  pub second : ℕ
+use Rattle.spec_ephemeris.specs.declared.limits.TheConstants.{DAY}
+use Rattle.spec_times.specs.declared.calendar.CalendarTime.{CalendarTime}
+use Rattle.spec_times.specs.declared.limits.TheConstants.{HALF_DAY, J2000_DAY}
 
 -- n lies from low to high, both included
 abbrev pub is_between : ℕ → ℕ → ℕ → Bool
@@ -36,7 +29,7 @@ second_of_day c = c.hour * 3600 + c.minute * 60 + c.second
 
 -- the midnight that begins a day, which is told by its number: days since 1970-01-01
 abbrev pub midnight : ℤ → ℤ
-midnight day = (day -ℤ pos J2000_DAY) *ℤ pos DAY -ℤ pos HALF_DAY
+midnight day = (day -ℤ J2000_DAY) *ℤ DAY -ℤ HALF_DAY
 
 -- the time that a calendar and a clock show, in a year from -9999 to 9999
 abbrev pub time_of_calendar : CalendarTime → ℤ
@@ -44,20 +37,23 @@ time_of_calendar c = midnight (days_from_civil c.year c.month c.day) +ℤ pos (s
 
 -- the number of the day that a time lies in
 abbrev pub day_number : ℤ → ℤ
-day_number time = int_div_euclid (time +ℤ pos HALF_DAY) (pos DAY) +ℤ pos J2000_DAY
+day_number time = int_div_euclid (time +ℤ HALF_DAY) DAY +ℤ J2000_DAY
 
 -- what has passed since its midnight
 abbrev pub clock : ℤ → ℕ
-clock time = unsigned_abs (int_rem_euclid (time +ℤ pos HALF_DAY) (pos DAY))
+clock time = unsigned_abs (int_rem_euclid (time +ℤ HALF_DAY) DAY)
 
 -- the last of the numbers from 1 to n whose start isn't past the day; 0 where there is none
 unfoldable pub last_begun : (ℕ → ℤ) → ℤ → ℕ → ℕ
 last_begun start day zero = 0
 last_begun start day (suc n) = if int_le (start (suc n)) day then suc n else last_begun start day n
 
--- years are counted from -9999, which is the first that `jiff_core` has, to 9999, the last
+-- years are counted from -9999, which is the first whose days have numbers, to 9999, the last
 abbrev pub year_at : ℕ → ℤ
-year_at n = pos n -ℤ pos YEARS_BEFORE_0
+year_at n = pos n -ℤ pos 10_000
+
+abbrev pub years : ℕ
+years = 19_999
 
 -- the number of the first day of a year, and of a month of it
 abbrev pub new_year : ℕ → ℤ
@@ -68,7 +64,7 @@ new_month year month = days_from_civil year month 1
 
 -- the year of a day is the last that begins on it or before it, its month the last of the year that does
 abbrev pub year_of : ℤ → ℤ
-year_of day = year_at (last_begun new_year day YEARS)
+year_of day = year_at (last_begun new_year day years)
 
 abbrev pub month_of : ℤ → ℕ
 month_of day = last_begun (new_month (year_of day)) day 12
@@ -102,15 +98,21 @@ abbrev pub year_text : ℤ → List ℕ
 year_text (pos n) = digits 4 n
 year_text (negsuc n) = minus_sign ∷ digits 6 (suc n)
 
--- `-MM-DDTHH:MM:SS`
-abbrev pub rest_text : CalendarTime → List ℕ
-rest_text c =
-    minus_sign ∷ digits 2 c.month ++ (minus_sign ∷ digits 2 c.day
-    ++ (84 ∷ digits 2 c.hour ++ (58 ∷ digits 2 c.minute ++ (58 ∷ digits 2 c.second))))
+-- `YYYY-MM-DD`
+abbrev pub date_text : ℤ → ℕ → ℕ → List ℕ
+date_text year month day = year_text year ++ (minus_sign ∷ digits 2 month) ++ (minus_sign ∷ digits 2 day)
+
+-- `THH:MM:SS`
+abbrev pub time_of_day_text : ℕ → ℕ → ℕ → List ℕ
+time_of_day_text hour minute second = (84 ∷ digits 2 hour) ++ (58 ∷ digits 2 minute) ++ (58 ∷ digits 2 second)
+
+-- the same of so many seconds since midnight
+abbrev pub clock_text : ℕ → List ℕ
+clock_text seconds = time_of_day_text (seconds / 3600) (seconds / 60 % 60) (seconds % 60)
 
 -- `YYYY-MM-DDTHH:MM:SS`
 abbrev pub calendar_text : CalendarTime → List ℕ
-calendar_text c = year_text c.year ++ rest_text c
+calendar_text c = date_text c.year c.month c.day ++ time_of_day_text c.hour c.minute c.second
 
 -- the text of a time
 unfoldable pub time_text : ℤ → List ℕ

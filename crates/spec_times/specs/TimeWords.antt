@@ -1,14 +1,15 @@
 -- The time that a word stands for: a whole number, or a calendar and a clock.
-use Rattle.std.specs.Prelude.{ℕ, ◌==◌, ◌&&◌, Bool, true, false, nat_lt, int_le, int_lt, List, [], ◌∷◌, length, take, drop, codes, Option, None, Some, Result, Ok, Err, ℤ, pos, neg_ℤ, if◌then◌else◌}
+use Rattle.std.specs.Prelude.{ℕ, ◌≤ℤ◌, ◌==◌, ◌&&◌, ◌||◌, Bool, true, false, nat_lt, int_le, int_lt, List, [], ◌∷◌, length, take, drop, codes, Option, None, Some, Result, Ok, Err, ℤ, pos, neg_ℤ, if◌then◌else◌}
 use Rattle.std.specs.Char.{is_ascii_digit}
 use Rattle.std.specs.List.{list_all}
 use Rattle.spec_text.specs.Bytes.{minus_sign, digit_zero}
 use Rattle.spec_text.specs.Decimals.{value}
 use Rattle.spec_ephemeris.specs.declared.limits.TheConstants.{FIRST_TIME, LAST_TIME}
-use Rattle.spec_times.specs.Calendar.{CalendarTime, is_between, is_calendar_time, time_of_calendar}
+use Rattle.spec_times.specs.Calendar.{is_between, is_calendar_time, time_of_calendar}
+use Rattle.spec_times.specs.declared.calendar.CalendarTime.{CalendarTime}
 use Rattle.spec_times.specs.declared.faults.TimeFault.{TimeFault}
 use Rattle.spec_times.specs.declared.faults.TimeFault.TheVariants.{NotTime, OutOfRange}
-use Rattle.spec_times.specs.declared.limits.TheConstants.{MOST_TIME_DIGITS, FIRST_YEAR}
+use Rattle.spec_times.specs.declared.limits.TheConstants.{FIRST_YEAR, LAST_YEAR, MOST_TIME_DIGITS}
 
 -- ---- the whole-number form: perhaps a minus sign, and 1 to 12 digits
 
@@ -76,12 +77,18 @@ shown word =
 -- ---- the time
 
 -- a time from Julian date 0 to Julian date 5,000,000
+pub record IsTime (time : ℤ) : Type 0 where
+  pub low : FIRST_TIME ≤ℤ time
+  pub high : time ≤ℤ LAST_TIME
+
 abbrev pub within_limits : ℤ → Result ℤ TimeFault
 within_limits time = if int_le FIRST_TIME time && int_le time LAST_TIME then Ok time else Err OutOfRange
 
--- the years before -9999 end before Julian date 0
+-- the years before -9999 end before Julian date 0, and those after 9999 begin after Julian date 5,000,000
 abbrev pub time_within : CalendarTime → Result ℤ TimeFault
-time_within c = if int_lt c.year FIRST_YEAR then Err OutOfRange else within_limits (time_of_calendar c)
+time_within c =
+    if int_lt c.year FIRST_YEAR || int_lt LAST_YEAR c.year then Err OutOfRange
+    else within_limits (time_of_calendar c)
 
 abbrev pub time_shown : Option CalendarTime → Result ℤ TimeFault
 time_shown None = Err NotTime

@@ -6,8 +6,12 @@
 //! `jiff_core`'s.
 #![tactic(auto)]
 
+mod calendar;
 mod faults;
+mod laws;
 mod limits;
 
+pub use calendar::CalendarTime;
 pub use faults::TimeFault;
-pub use limits::{DAY, FIRST_YEAR, HALF_DAY, J2000_DAY, MOST_TIME_DIGITS, YEARS, YEARS_BEFORE_0};
+pub use laws::{days_have_one_date, times_are_read_back};
+pub use limits::{FIRST_YEAR, HALF_DAY, J2000_DAY, LAST_YEAR, MOST_TIME_DIGITS};

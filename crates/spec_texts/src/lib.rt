@@ -1,0 +1,8 @@
+//! What a search and the check of files print: the definitions that contracts cite, as lists of bytes. A request, its
+//! span and its windows come in, or an ephemeris; the bytes of a report or a summary go out. Times are seconds of TDB
+//! since J2000, printed as calendar texts.
+#![tactic(auto)]
+
+mod columns;
+
+pub use columns::COLUMN_BODIES;

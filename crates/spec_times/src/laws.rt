@@ -1,0 +1,25 @@
+// Laws of times.
+ghost use Rattle.std.specs.Prelude.{◌≡◌, ℕ, ℤ, Ok, true};
+ghost use Rattle.jiff_core.specs.Calendar.{days_from_civil, IsCivilDate, IsEpochDay};
+ghost use Rattle.spec_times.specs.Calendar.{calendar_time, day_of_month, is_calendar_time, month_of, time_of_calendar, time_text, year_of};
+ghost use Rattle.spec_times.specs.TimeWords.{IsTime, time_of};
+
+/// The date of each day from -9999-01-01 to 9999-12-31 is one of the calendar, and it is the one with this day's number.
+
+pub fn days_have_one_date()
+    ensures civil { (day : ℤ) → IsEpochDay day
+        → IsCivilDate (year_of day) (month_of day) (day_of_month day) }
+    ensures number { (day : ℤ) → IsEpochDay day
+        → days_from_civil (year_of day) (month_of day) (day_of_month day) ≡ day }
+    ensures one { (y : ℤ) (m d : ℕ) (other : ℤ) (month day : ℕ) → IsCivilDate y m d
+        → IsCivilDate other month day → days_from_civil y m d ≡ days_from_civil other month day
+        → (y ≡ other) × (m ≡ month) × (d ≡ day) }
+{}
+
+/// A time from Julian date 0 to Julian date 5,000,000 is the one that its calendar time shows, which is one of the
+/// calendar, and its text is read as the time.
+pub fn times_are_read_back()
+    ensures calendar { (time : ℤ) → IsTime time → is_calendar_time (calendar_time time) ≡ true }
+    ensures shown { (time : ℤ) → IsTime time → time_of_calendar (calendar_time time) ≡ time }
+    ensures read { (time : ℤ) → IsTime time → time_of (time_text time) ≡ Ok time }
+{}

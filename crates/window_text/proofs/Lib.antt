@@ -1,0 +1,3 @@
+mod Digits
+mod Forms
+mod Dates

@@ -1,0 +1,5 @@
+use Rattle.window_text.proofs.Digits.{IsValue}
+use Rattle.window_text.proofs.reading.value.Given as goal
+
+abbrev pub invariant-loop-digit : goal.invariant-loop-digit
+invariant-loop-digit l = IsValue l.digits l.digit-index l.value

@@ -1,0 +1,129 @@
+// The calendar text of a time.
+ghost use Rattle.std.specs.Prelude.{◌≡◌, ◌<◌, ◌++◌, ◌∷◌, pos, IfOk, OnOk, string_bytes, unsigned_abs};
+ghost use Rattle.std.specs.Fmt.{decimal};
+ghost use Rattle.jiff_core.specs.Calendar.{IsEpochDay, IsYear};
+ghost use Rattle.jiff_core.specs.Date.{epoch_day};
+ghost use Rattle.spec_times.specs.Calendar.{calendar_time, clock, clock_text, date_text, day_number, digits, time_text, year_text};
+ghost use Rattle.spec_times.specs.TimeWords.{IsTime};
+
+use crate::Memory;
+use jiff_core::civil::Date;
+use spec_ephemeris::DAY;
+use spec_times::{HALF_DAY, J2000_DAY};
+use std::alloc::{AllocError, Global};
+
+/// The calendar text `YYYY-MM-DDTHH:MM:SS` of a time, in seconds of TDB since J2000, from Julian date 0 to Julian date
+/// 5,000,000. A year below 0 has a sign and six digits; the year before 1 is 0.
+pub fn time_text(alloc: Global, time: i64) -> Result<String, Memory>
+    requires { IsTime time }
+    ensures { IfOk result (λ text. string_bytes text ≡ time_text time) }
+{
+    let mut text = String::new(alloc);
+    add_time(&mut text, time)?;
+    Ok(text)
+}
+
+/// A text, and the calendar text of a time behind it.
+pub(crate) fn add_time(text: &mut String, time: i64) -> Result<(), AllocError>
+    requires { IsTime time }
+    ensures { OnOk result (string_bytes text.new ≡ string_bytes text.old ++ time_text time) }
+{
+    add_calendar(text, date_of(time), clock_of(time))
+}
+
+// A date and a time of day, which comes so many seconds after midnight.
+fn add_calendar(text: &mut String, date: Date, clock: u32) -> Result<(), AllocError>
+    requires { clock < 86_400 }
+    ensures { OnOk result (string_bytes text.new
+        ≡ string_bytes text.old
+        ++ (date_text date.year date.month date.day ++ clock_text clock)) }
+{
+    add_date(text, date)?;
+    add_clock(text, clock)
+}
+
+// The date of the day that the time lies in.
+fn date_of(time: i64) -> Date
+    requires { IsTime time }
+    ensures { epoch_day result ≡ day_number time }
+{
+    let day = (time + HALF_DAY).div_euclid(DAY) + J2000_DAY;
+    Date::from_unix_epoch_day(day).unwrap()
+}
+
+// The seconds from its midnight on.
+fn clock_of(time: i64) -> u32
+    requires { IsTime time }
+    ensures value { result ≡ clock time }
+    ensures bound { result < 86_400 }
+{
+    (time + HALF_DAY).rem_euclid(DAY) as u32
+}
+
+fn add_date(text: &mut String, date: Date) -> Result<(), AllocError>
+    ensures { OnOk result (string_bytes text.new
+        ≡ string_bytes text.old ++ date_text date.year date.month date.day) }
+{
+    add_year(text, date.year)?;
+    add_field(text, "-", date.month as u32)?;
+    add_field(text, "-", date.day as u32)
+}
+
+fn add_clock(text: &mut String, clock: u32) -> Result<(), AllocError>
+    requires { clock < 86_400 }
+    ensures { OnOk result (string_bytes text.new ≡ string_bytes text.old ++ clock_text clock) }
+{
+    add_field(text, "T", clock / 3_600)?;
+    add_field(text, ":", clock / 60 % 60)?;
+    add_field(text, ":", clock % 60)
+}
+
+fn add_year(text: &mut String, year: i16) -> Result<(), AllocError>
+    requires { IsYear year }
+    ensures { OnOk result (string_bytes text.new ≡ string_bytes text.old ++ year_text year) }
+{
+    text.push_str(year_sign(year))?;
+    add_four_digits(text, year.unsigned_abs() as u32)
+}
+
+// What stands before the four digits of a year.
+fn year_sign(year: i16) -> &'static str
+    requires { IsYear year }
+    ensures { result.now ++ digits 4 (unsigned_abs year) ≡ year_text year }
+{
+    if year < 0 { "-00" } else { "" }
+}
+
+fn add_four_digits(text: &mut String, n: u32) -> Result<(), AllocError>
+    requires { n < 10_000 }
+    ensures { OnOk result (string_bytes text.new ≡ string_bytes text.old ++ digits 4 n) }
+{
+    add_two_digits(text, n / 100)?;
+    add_two_digits(text, n % 100)
+}
+
+// A mark, and two digits behind it.
+fn add_field(text: &mut String, mark: &str, n: u32) -> Result<(), AllocError>
+    requires { n < 100 }
+    ensures { OnOk result (string_bytes text.new
+        ≡ string_bytes text.old ++ (mark.now ++ digits 2 n)) }
+{
+    text.push_str(mark)?;
+    add_two_digits(text, n)
+}
+
+fn add_two_digits(text: &mut String, n: u32) -> Result<(), AllocError>
+    requires { n < 100 }
+    ensures { OnOk result (string_bytes text.new ≡ string_bytes text.old ++ digits 2 n) }
+{
+    let mut buffer = itoa::Buffer::new();
+    text.push_str(leading_zero(n))?;
+    text.push_str(buffer.format(n))
+}
+
+fn leading_zero(n: u32) -> &'static str
+    requires { n < 100 }
+    ensures { result.now ++ decimal n ≡ digits 2 n }
+{
+    if n < 10 { "0" } else { "" }
+}

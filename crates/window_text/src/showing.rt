@@ -1,0 +1,151 @@
+// What a word shows on calendar and clock, and the time of it.
+ghost use Rattle.std.specs.Prelude.{◌≡◌, ◌<◌, ◌≤◌, ◌+◌, ◌^◌, length, true, Some};
+ghost use Rattle.jiff_core.specs.Calendar.{days_from_civil, days_in_month, IsEpochDay, IsWithin, IsYear};
+ghost use Rattle.spec_times.specs.Calendar.{is_calendar_time, is_date, midnight, is_time_of_day, second_of_day, time_of_calendar};
+ghost use Rattle.spec_times.specs.TimeWords.{calendar_after, negative_year_form, shown, time_shown, time_within, two_digits_at, year_form};
+
+use crate::reading::{has_form, is_between, value, within_limits};
+use jiff_core::civil::{Date, days_in_month};
+use spec_ephemeris::DAY;
+use spec_times::{CalendarTime, FIRST_YEAR, HALF_DAY, J2000_DAY, LAST_YEAR, TimeFault};
+
+/// The time that a word shows on calendar and clock.
+pub(crate) fn time_shown(word: &[u8]) -> Result<i64, TimeFault>
+    ensures { result ≡ time_shown (shown word.now) }
+{
+    match shown(word) {
+        Some(shown) => time_of(shown),
+        None => Err(TimeFault::NotTime),
+    }
+}
+
+fn time_of(shown: CalendarTime) -> Result<i64, TimeFault>
+    ensures { result ≡ time_shown (Some shown) }
+{
+    if is_date(shown) && is_time_of_day(shown) {
+        time_within(shown)
+    } else {
+        Err(TimeFault::NotTime)
+    }
+}
+
+// ---- what a word shows
+
+fn shown(word: &[u8]) -> Option<CalendarTime>
+    ensures { result ≡ shown word.now }
+{
+    if has_form(year_form(), word) {
+        let year = value(&word[..4]) as i64;
+        return Some(calendar_after(year, &word[4..]));
+    }
+    if has_form(negative_year_form(), word) && 0 < value(&word[1..7]) {
+        let year = value(&word[1..7]) as i64;
+        return Some(calendar_after(-year, &word[7..]));
+    }
+    None
+}
+
+fn year_form() -> &'static [u8]
+    ensures { result.now ≡ year_form }
+{
+    b"0000-00-00T00:00:00"
+}
+
+fn negative_year_form() -> &'static [u8]
+    ensures { result.now ≡ negative_year_form }
+{
+    b"-000000-00-00T00:00:00"
+}
+
+// What `-MM-DDTHH:MM:SS` shows behind a year.
+fn calendar_after(year: i64, rest: &[u8]) -> CalendarTime
+    requires { length rest.now ≡ 15 }
+    ensures { result ≡ calendar_after year rest.now }
+{
+    CalendarTime {
+        year,
+        month: two_digits_at(1, rest),
+        day: two_digits_at(4, rest),
+        hour: two_digits_at(7, rest),
+        minute: two_digits_at(10, rest),
+        second: two_digits_at(13, rest),
+    }
+}
+
+fn two_digits_at(place: usize, word: &[u8]) -> u64
+    requires { place + 2 ≤ length word.now }
+    ensures { result ≡ two_digits_at place word.now }
+{
+    value(&word[place..place + 2])
+}
+
+// ---- whether calendar and clock show it
+
+fn is_date(shown: CalendarTime) -> bool
+    ensures { result ≡ is_date shown }
+{
+    is_between(1, 12, shown.month)
+        && is_between(1, month_length(shown.year, shown.month), shown.day)
+}
+
+fn is_time_of_day(shown: CalendarTime) -> bool
+    ensures { result ≡ is_time_of_day shown }
+{
+    shown.hour < 24 && shown.minute < 60 && shown.second < 60
+}
+
+// The days of a month of any year: years 400 apart are alike.
+fn month_length(year: i64, month: u64) -> u64
+    requires { month ≤ 12 }
+    ensures value { result ≡ days_in_month year month }
+{
+    days_in_month((year % 400) as i16, month as u8) as u64
+}
+
+// ---- the time of it
+
+fn time_within(shown: CalendarTime) -> Result<i64, TimeFault>
+    requires { is_calendar_time shown ≡ true }
+    ensures { result ≡ time_within shown }
+{
+    if shown.year < FIRST_YEAR || LAST_YEAR < shown.year {
+        Err(TimeFault::OutOfRange)
+    } else {
+        within_limits(time_of_calendar(shown))
+    }
+}
+
+fn time_of_calendar(shown: CalendarTime) -> i64
+    requires year { IsYear shown.year }
+    requires shown { is_calendar_time shown ≡ true }
+    ensures { result ≡ time_of_calendar shown }
+{
+    midnight(day_number(shown)) + second_of_day(shown) as i64
+}
+
+// The midnight that begins a day.
+fn midnight(day: i64) -> i64
+    requires { IsEpochDay day }
+    ensures value { result ≡ midnight day }
+    ensures bound { IsWithin (10 ^ 12) result }
+{
+    (day - J2000_DAY) * DAY - HALF_DAY
+}
+
+fn second_of_day(shown: CalendarTime) -> u64
+    requires { is_calendar_time shown ≡ true }
+    ensures value { result ≡ second_of_day shown }
+    ensures bound { result < 86_400 }
+{
+    shown.hour * 3_600 + shown.minute * 60 + shown.second
+}
+
+fn day_number(shown: CalendarTime) -> i64
+    requires year { IsYear shown.year }
+    requires shown { is_calendar_time shown ≡ true }
+    ensures value { result ≡ days_from_civil shown.year shown.month shown.day }
+    ensures bound { IsEpochDay result }
+{
+    let date = Date::new(shown.year as i16, shown.month as i8, shown.day as i8).unwrap();
+    date.to_unix_epoch_day() as i64
+}

@@ -1,0 +1,5 @@
+mod Tables
+mod Parsing
+mod Faults
+mod Rules
+mod Firsts

@@ -1,0 +1,1 @@
+// What words ask for.

@@ -1,0 +1,1 @@
+// The generated text that words ask for.

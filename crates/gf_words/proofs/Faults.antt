@@ -1,9 +1,8 @@
 -- What a parse's error says of the words.
-use Rattle.std.proofs.Common.{◌≡◌, ◌∙◌, ◌⊎◌, ◌&&◌, Bool, true, false, not, List, [], ◌∷◌, refl, sym, ap, inl, inr, arith}
+use Rattle.std.proofs.Common.{◌≡◌, ◌∙◌, ◌⊎◌, true, false, not, List, [], ◌∷◌, refl, ap, inl, inr, arith}
 use Rattle.std.proofs.lemmas.Bool.Decides.{nat_tests}
-use Rattle.clap.specs.Walk.{is_empty, rows_of}
-use Rattle.clap.specs.Simple.{App, HasMatchesOf, is_simple, matches_of}
-use Rattle.clap.specs.Matches.{found_of}
+use Rattle.clap.specs.Walk.{is_empty}
+use Rattle.clap.specs.Simple.{App, HasMatchesOf, is_simple}
 use Rattle.clap.specs.Faults.{fault_of, is_free_app, is_simple_and_free}
 use Rattle.clap.specs.Simple.{built}
 use Rattle.clap.specs.Kinds.{HasKind, IsAmong, Kinds}

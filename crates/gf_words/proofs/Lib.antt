@@ -3,3 +3,5 @@ mod Parsing
 mod Faults
 mod Rules
 mod Firsts
+mod Answering
+mod Asking

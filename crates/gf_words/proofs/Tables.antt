@@ -1,5 +1,5 @@
 -- What words name in two tables, one behind the other.
-use Rattle.std.proofs.Common.{◌≡◌, ◌++◌, ℕ, List, [], ◌∷◌, Option, Some, None, Bool, true, false, refl, sym, ◌∙◌, cond}
+use Rattle.std.proofs.Common.{◌≡◌, ◌++◌, [], ◌∷◌, Some, None, Bool, true, false, refl, cond}
 use Rattle.std.specs.Str.{bytes_eq}
 use Rattle.spec_requests.specs.Names.{Table, Text, named}
 

@@ -1,5 +1,5 @@
 -- What `clap` read, as values of options and names of files.
-use Rattle.std.specs.Prelude.{◌≡◌, ℕ, false, List, [], Option, codes, option_map, unwrap_or}
+use Rattle.std.specs.Prelude.{◌≡◌, false, List, [], Option, codes, option_map, unwrap_or}
 use Rattle.std.specs.Borrow.{Bor}
 use Rattle.clap.specs.Walk.{all_of, first_of, rows_of}
 use Rattle.clap.specs.Simple.{App, matches_of}

@@ -1,5 +1,5 @@
 // The forms of values: what a word stands for.
-ghost use Rattle.std.specs.Prelude.{◌≡◌, ◌++◌, ◌&&◌, None, Some, if◌then◌else◌, length, nat_le, nat_lt};
+ghost use Rattle.std.specs.Prelude.{◌≡◌, ◌++◌, ◌&&◌, ◌≤◌, IfSome, None, Some, if◌then◌else◌, length, nat_le, nat_lt};
 ghost use Rattle.std.specs.Char.{is_ascii_digit};
 ghost use Rattle.std.specs.List.{list_all};
 ghost use Rattle.spec_requests.specs.Names.{axis_of, command_of, cut_of, dir_of, frame_of, kind_of, layout_of, named, observer_of, rows_of, target_of};
@@ -113,7 +113,8 @@ fn are_digits(word: &str, most: usize) -> bool
 
 // The number from `least` to `most` that a word of 1 to `digits` digits is.
 fn number(word: &str, digits: usize, least: u64, most: u64) -> Option<u64>
-    ensures { result ≡ number_of digits least most word.now }
+    ensures number { result ≡ number_of digits least most word.now }
+    ensures most { IfSome result (λ number. number ≤ most) }
 {
     if !are_digits(word, digits) {
         return None;
@@ -126,7 +127,9 @@ fn number(word: &str, digits: usize, least: u64, most: u64) -> Option<u64>
 
 // The number, where it lies from `least` to `most`.
 fn within(number: u64, least: u64, most: u64) -> Option<u64>
-    ensures { result ≡ (if nat_le least number && nat_le number most then Some number else None) }
+    ensures within { result ≡ (if nat_le least number && nat_le number most then Some number
+        else None) }
+    ensures most { IfSome result (λ number. number ≤ most) }
 {
     if least <= number && number <= most {
         Some(number)
@@ -135,28 +138,40 @@ fn within(number: u64, least: u64, most: u64) -> Option<u64>
     }
 }
 
-pub(crate) fn width(word: &str) -> Option<u64>
+pub(crate) fn width(word: &str) -> Option<u32>
     ensures { result ≡ width_of word.now }
 {
-    number(word, MOST_DIGITS_OF_A_COUNT, 1, MOST_WIDTH)
+    match number(word, MOST_DIGITS_OF_A_COUNT, 1, MOST_WIDTH) {
+        Some(number) => Some(number as u32),
+        None => None,
+    }
 }
 
-pub(crate) fn depth(word: &str) -> Option<u64>
+pub(crate) fn depth(word: &str) -> Option<u32>
     ensures { result ≡ depth_of word.now }
 {
-    number(word, MOST_DIGITS_OF_A_COUNT, 0, MOST_DEPTH)
+    match number(word, MOST_DIGITS_OF_A_COUNT, 0, MOST_DEPTH) {
+        Some(number) => Some(number as u32),
+        None => None,
+    }
 }
 
-pub(crate) fn workers(word: &str) -> Option<u64>
+pub(crate) fn workers(word: &str) -> Option<u32>
     ensures { result ≡ workers_of word.now }
 {
-    number(word, MOST_DIGITS_OF_A_COUNT, 1, MOST_WORKERS)
+    match number(word, MOST_DIGITS_OF_A_COUNT, 1, MOST_WORKERS) {
+        Some(number) => Some(number as u32),
+        None => None,
+    }
 }
 
-pub(crate) fn blocks(word: &str) -> Option<u64>
+pub(crate) fn blocks(word: &str) -> Option<u32>
     ensures { result ≡ blocks_of word.now }
 {
-    number(word, MOST_DIGITS_OF_BLOCKS, 1, MOST_GENERATED_BLOCKS)
+    match number(word, MOST_DIGITS_OF_BLOCKS, 1, MOST_GENERATED_BLOCKS) {
+        Some(number) => Some(number as u32),
+        None => None,
+    }
 }
 
 pub(crate) fn seed(word: &str) -> Option<u64>

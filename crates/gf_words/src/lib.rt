@@ -10,5 +10,5 @@ mod requests;
 mod searches;
 mod texts;
 
-//pub use requests::request;
+pub use requests::request;
 pub use spec_requests::{FindAsk, Named, Request, WordFault};

@@ -11,7 +11,10 @@ use spec_requests::{FileNames, Named, WordFault, option_name};
 use std::alloc::{AllocError, Global};
 
 /// What the command reads in the words, of which the first is its name.
-pub(crate) fn read<'a>(command: Command<'a>, words: &'a [String]) -> Result<ArgMatches<'a>, WordFault>
+pub(crate) fn read<'a>(
+    command: Command<'a>,
+    words: &'a [String],
+) -> Result<ArgMatches<'a>, WordFault>
     requires { is_simple_and_free (app_of command) ≡ true }
     ensures read { IfOk result (IsReading (app_of command.entry) (map string_bytes words.entry.now)) }
     ensures refused { IfErr result (λ e. (e ≡ WordFault.Memory) ⊎ ((e ≡ WordFault.Words)

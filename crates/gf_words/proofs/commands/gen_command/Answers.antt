@@ -1,4 +1,4 @@
-use Rattle.std.proofs.Common.{[], ◌∷◌, ◌∙◌, ap, map}
+use Rattle.std.proofs.Common.{◌∙◌, ap, map}
 use Rattle.clap.specs.Simple.{app_of}
 use Rattle.spec_requests.specs.declared.tables.TheConstants.{GEN_OPTIONS, GEN_WORDS}
 use Rattle.spec_requests.specs.Commands.{gen_command, option_rule, word_rule}

@@ -1,4 +1,4 @@
-use Rattle.std.proofs.Common.{◌≡◌, ◌∙◌, sym, Bool}
+use Rattle.std.proofs.Common.{◌∙◌, sym, Bool}
 use Rattle.spec_requests.specs.declared.request.Named.{Named}
 use Rattle.spec_requests.specs.declared.tables.TheConstants.{GEN_OPTIONS, GEN_WORDS}
 use Rattle.spec_requests.specs.declared.tables.Use.TheVariants.{Optional}

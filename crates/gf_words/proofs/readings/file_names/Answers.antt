@@ -1,4 +1,4 @@
-use Rattle.std.proofs.Common.{◌≡◌, ◌∙◌, ℕ, List, [], Option, codes, ap, map, string_bytes, unwrap_or}
+use Rattle.std.proofs.Common.{◌∙◌, List, [], Option, codes, ap, map, string_bytes, unwrap_or}
 use Rattle.clap.specs.Matches.{found_of}
 use Rattle.clap.proofs.WalkLemmas.{raw_values-rows}
 use Rattle.spec_requests.specs.Names.{Text}

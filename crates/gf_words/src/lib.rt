@@ -8,6 +8,8 @@ mod options;
 mod readings;
 mod requests;
 mod searches;
+#[cfg(test)]
+mod tests;
 mod texts;
 
 pub use requests::request;

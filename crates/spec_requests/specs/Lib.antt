@@ -1,1 +1,6 @@
 pub mod Words
+pub mod Names
+pub mod Options
+pub mod Commands
+pub mod Requests
+pub mod Examples

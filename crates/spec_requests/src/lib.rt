@@ -1,7 +1,27 @@
 //! What the words of the command line ask for: the definitions that contracts cite. Words come in; what is asked goes
-//! out.
+//! out, or the fault of the words.
 #![tactic(auto)]
 
 mod examples;
+mod limits;
+mod names;
+mod request;
+mod request_examples;
+mod tables;
+mod text;
 
 pub use examples::words_ask_for_files;
+pub use limits::{
+    MOST_DEPTH, MOST_DIGITS_OF_A_COUNT, MOST_DIGITS_OF_A_SEED, MOST_DIGITS_OF_BLOCKS,
+    MOST_GENERATED_BLOCKS, MOST_SEED, MOST_WIDTH, MOST_WORKERS,
+};
+pub use names::{axis_name, body_name, cut_name, dir_name, frame_name, kind_name, option_name};
+pub use request::{FindAsk, Named, Request, WordFault};
+pub use request_examples::{
+    faults_of_searches, faults_of_words, requests_of_words, searches_of_words,
+};
+pub use tables::{
+    AXES, COMMANDS, CUTS, CommandName, DIRS, FIND_OPTIONS, FRAMES, GEN_OPTIONS, GEN_WORDS, KINDS,
+    LAYOUTS, TARGETS, Use, VIEWPOINTS,
+};
+pub use text::{FileNames, Text};

@@ -1,0 +1,7 @@
+mod Tables
+mod Parsing
+mod Faults
+mod Rules
+mod Firsts
+mod Answering
+mod Asking

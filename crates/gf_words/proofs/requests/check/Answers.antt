@@ -1,0 +1,21 @@
+use Rattle.std.proofs.Common.{◌∙◌, ap, map, string_bytes}
+use Rattle.clap.specs.Simple.{app_of}
+use Rattle.clap.specs.Faults.{is_simple_and_free}
+use Rattle.spec_requests.specs.Commands.{check_command}
+use Rattle.spec_requests.specs.Requests.{check_request}
+use Rattle.gf_words.proofs.Answering.{check_answers, check_is_simple, check_refuses, refused_known}
+use Rattle.gf_words.proofs.requests.check.Goals as goal
+
+pub read-requires : goal.read-requires
+read-requires c = ap is_simple_and_free c.in-Ok.ensures ∙ check_is_simple
+
+pub returns-in-Ok-read : goal.returns-in-Ok-read
+returns-in-Ok-read c =
+    check_answers (app_of c.in-Ok.command) (map string_bytes c.args.words.now) c.in-Ok-read.matches c.checked.result
+    c.in-Ok.ensures c.in-Ok-read.ensures.read c.checked.ensures
+
+pub returns-in-Err-read : goal.returns-in-Err-read
+returns-in-Err-read c =
+    refused_known (app_of c.in-Ok.command) check_command (map string_bytes c.args.words.now) c.in-Err-read.fault
+    (check_request (map string_bytes c.args.words.now)) c.in-Ok.ensures
+    (check_refuses (map string_bytes c.args.words.now)) c.in-Err-read.ensures.refused

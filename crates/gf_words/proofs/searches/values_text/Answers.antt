@@ -1,0 +1,29 @@
+use Rattle.std.proofs.Common.{◌∙◌, sym, ap}
+use Rattle.spec_requests.specs.Names.{Text}
+use Rattle.spec_requests.specs.Options.{is_unused}
+use Rattle.gf_words.specs.Readings.{values_of}
+use Rattle.gf_words.proofs.Answering.{no_text, radii_text, ref_text}
+use Rattle.gf_words.proofs.Rules.{made_along}
+use Rattle.gf_words.proofs.searches.values_text.Goals as goal
+
+pub returns-then-takes_radii : goal.returns-then-takes_radii
+returns-then-takes_radii c =
+    made_along (λ (text : Text). text) c.text_of_two.result _ _
+    (radii_text (values_of c.args.matches.now) c.args.kind c.word_or-first.result.now c.word_or.result.now
+    (sym c.takes_radii.ensures ∙ c.if-takes_radii.true) c.word_or-first.ensures c.word_or.ensures)
+    c.text_of_two.ensures
+
+pub returns-then-is_unused : goal.returns-then-is_unused
+returns-then-is_unused c =
+    made_along (λ (text : Text). text) c.text.result _ _
+    (no_text (values_of c.args.matches.now) c.args.kind (sym c.takes_radii.ensures ∙ c.if-takes_radii.false)
+    (ap is_unused (sym c.use_of_ref.ensures) ∙ sym c.is_unused.ensures ∙ c.if-is_unused.true))
+    c.text.ensures
+
+pub returns : goal.returns
+returns c =
+    made_along (λ (text : Text). text) c.text-2.result _ _
+    (ref_text (values_of c.args.matches.now) c.args.kind c.word_or-2.result.now
+    (sym c.takes_radii.ensures ∙ c.if-takes_radii.false)
+    (ap is_unused (sym c.use_of_ref.ensures) ∙ sym c.is_unused.ensures ∙ c.if-is_unused.false) c.word_or-2.ensures)
+    c.text-2.ensures

@@ -1,0 +1,194 @@
+// The forms of values: what a word stands for.
+ghost use Rattle.std.specs.Prelude.{◌≡◌, ◌++◌, ◌&&◌, ◌≤◌, IfSome, None, Some, if◌then◌else◌, length, nat_le, nat_lt};
+ghost use Rattle.std.specs.Char.{is_ascii_digit};
+ghost use Rattle.std.specs.List.{list_all};
+ghost use Rattle.spec_requests.specs.Names.{axis_of, command_of, cut_of, dir_of, frame_of, kind_of, layout_of, named, observer_of, rows_of, target_of};
+ghost use Rattle.spec_requests.specs.Options.{are_digits, blocks_of, decimal_of, depth_of, instant_of, number_of, seed_of, width_of, workers_of};
+
+use de_text::read_decimal;
+use spec_bodies::Frame;
+use spec_ephemeris::Body;
+use spec_events::Dir;
+use spec_kinds::Kind;
+use spec_requests::{
+    AXES, COMMANDS, CUTS, CommandName, DIRS, FRAMES, KINDS, LAYOUTS, MOST_DEPTH,
+    MOST_DIGITS_OF_A_COUNT, MOST_DIGITS_OF_A_SEED, MOST_DIGITS_OF_BLOCKS, MOST_GENERATED_BLOCKS,
+    MOST_SEED, MOST_WIDTH, MOST_WORKERS, TARGETS, VIEWPOINTS,
+};
+use spec_text::Decimal;
+use spec_trees::CutRule;
+use window_text::read_time;
+
+// What the word stands for: the value beside the first name of the table that it is.
+fn named<T: Copy>(table: &[(&'static str, T)], word: &str) -> Option<T>
+    ensures { result ≡ named (rows_of table.now) word.now }
+{
+    match table {
+        [(name, value), rest @ ..] => {
+            if *name == word {
+                Some(*value)
+            } else {
+                named(rest, word)
+            }
+        }
+        [] => None,
+    }
+}
+
+pub(crate) fn command(word: &str) -> Option<CommandName>
+    ensures { result ≡ command_of word.now }
+{
+    named(&COMMANDS, word)
+}
+
+pub(crate) fn kind(word: &str) -> Option<Kind>
+    ensures { result ≡ kind_of word.now }
+{
+    named(&KINDS, word)
+}
+
+pub(crate) fn target(word: &str) -> Option<Body>
+    ensures { result ≡ target_of word.now }
+{
+    named(&TARGETS, word)
+}
+
+pub(crate) fn observer(word: &str) -> Option<Body>
+    ensures { result ≡ observer_of word.now }
+{
+    match named(&TARGETS, word) {
+        Some(body) => Some(body),
+        None => named(&VIEWPOINTS, word),
+    }
+}
+
+pub(crate) fn frame(word: &str) -> Option<Frame>
+    ensures { result ≡ frame_of word.now }
+{
+    named(&FRAMES, word)
+}
+
+pub(crate) fn axis(word: &str) -> Option<u8>
+    ensures { result ≡ axis_of word.now }
+{
+    named(&AXES, word)
+}
+
+pub(crate) fn dir(word: &str) -> Option<Dir>
+    ensures { result ≡ dir_of word.now }
+{
+    named(&DIRS, word)
+}
+
+pub(crate) fn cut(word: &str) -> Option<CutRule>
+    ensures { result ≡ cut_of word.now }
+{
+    named(&CUTS, word)
+}
+
+pub(crate) fn layout(word: &str) -> Option<u16>
+    ensures { result ≡ layout_of word.now }
+{
+    named(&LAYOUTS, word)
+}
+
+fn all_digits(bytes: &[u8]) -> bool
+    ensures { result ≡ list_all is_ascii_digit bytes.now }
+{
+    bytes.iter().all(|b| b.is_ascii_digit())
+}
+
+fn is_length_up_to(bytes: &[u8], most: usize) -> bool
+    ensures { result ≡ (nat_lt 0 (length bytes.now) && nat_le (length bytes.now) most) }
+{
+    !bytes.is_empty() && bytes.len() <= most
+}
+
+// The word is 1 to `most` digits.
+fn are_digits(word: &str, most: usize) -> bool
+    ensures { result ≡ are_digits most word.now }
+{
+    all_digits(word.as_bytes()) && is_length_up_to(word.as_bytes(), most)
+}
+
+// The number from `least` to `most` that a word of 1 to `digits` digits is.
+fn number(word: &str, digits: usize, least: u64, most: u64) -> Option<u64>
+    ensures number { result ≡ number_of digits least most word.now }
+    ensures most { IfSome result (λ number. number ≤ most) }
+{
+    if !are_digits(word, digits) {
+        return None;
+    }
+    match word.parse::<u64>() {
+        Ok(number) => within(number, least, most),
+        Err(_) => None,
+    }
+}
+
+// The number, where it lies from `least` to `most`.
+fn within(number: u64, least: u64, most: u64) -> Option<u64>
+    ensures within { result ≡ (if nat_le least number && nat_le number most then Some number
+        else None) }
+    ensures most { IfSome result (λ number. number ≤ most) }
+{
+    if least <= number && number <= most {
+        Some(number)
+    } else {
+        None
+    }
+}
+
+pub(crate) fn width(word: &str) -> Option<u32>
+    ensures { result ≡ width_of word.now }
+{
+    match number(word, MOST_DIGITS_OF_A_COUNT, 1, MOST_WIDTH) {
+        Some(number) => Some(number as u32),
+        None => None,
+    }
+}
+
+pub(crate) fn depth(word: &str) -> Option<u32>
+    ensures { result ≡ depth_of word.now }
+{
+    match number(word, MOST_DIGITS_OF_A_COUNT, 0, MOST_DEPTH) {
+        Some(number) => Some(number as u32),
+        None => None,
+    }
+}
+
+pub(crate) fn workers(word: &str) -> Option<u32>
+    ensures { result ≡ workers_of word.now }
+{
+    match number(word, MOST_DIGITS_OF_A_COUNT, 1, MOST_WORKERS) {
+        Some(number) => Some(number as u32),
+        None => None,
+    }
+}
+
+pub(crate) fn blocks(word: &str) -> Option<u32>
+    ensures { result ≡ blocks_of word.now }
+{
+    match number(word, MOST_DIGITS_OF_BLOCKS, 1, MOST_GENERATED_BLOCKS) {
+        Some(number) => Some(number as u32),
+        None => None,
+    }
+}
+
+pub(crate) fn seed(word: &str) -> Option<u64>
+    ensures { result ≡ seed_of word.now }
+{
+    number(word, MOST_DIGITS_OF_A_SEED, 0, MOST_SEED)
+}
+
+pub(crate) fn decimal(word: &str) -> Option<Decimal>
+    ensures { result ≡ decimal_of word.now }
+{
+    read_decimal(word.as_bytes()).ok()
+}
+
+// The time that the word stands for, in seconds of TDB since J2000.
+pub(crate) fn instant(word: &str) -> Option<i64>
+    ensures { result ≡ instant_of word.now }
+{
+    read_time(word.as_bytes()).ok()
+}

@@ -1,0 +1,16 @@
+//! The words of a command line, read. Words come in; out goes the request that they make, or the first fault that
+//! they have: no command, an unknown one, words that can't be read, an option that is bad.
+#![tactic(auto)]
+
+mod commands;
+mod forms;
+mod options;
+mod readings;
+mod requests;
+mod searches;
+#[cfg(test)]
+mod tests;
+mod texts;
+
+pub use requests::request;
+pub use spec_requests::{FindAsk, Named, Request, WordFault};

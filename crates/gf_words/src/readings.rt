@@ -1,0 +1,63 @@
+// What `clap` reads in words.
+ghost use Rattle.std.specs.Prelude.{◌≡◌, ◌⊎◌, IfErr, IfOk, false, map, option_map, string_bytes, true, unwrap_or};
+ghost use Rattle.clap.specs.Faults.{is_simple_and_free};
+ghost use Rattle.clap.specs.Simple.{app_of};
+ghost use Rattle.spec_requests.specs.Commands.{is_refused};
+ghost use Rattle.gf_words.specs.Readings.{IsReading, file_names_of, text_in, values_of, word_fault};
+
+use clap::error::ErrorKind;
+use clap::{ArgMatches, Command};
+use spec_requests::{FileNames, Named, WordFault, option_name};
+use std::alloc::{AllocError, Global};
+
+/// What the command reads in the words, of which the first is its name.
+pub(crate) fn read<'a>(
+    command: Command<'a>,
+    words: &'a [String],
+) -> Result<ArgMatches<'a>, WordFault>
+    requires { is_simple_and_free (app_of command) ≡ true }
+    ensures read { IfOk result (IsReading (app_of command.entry) (map string_bytes words.entry.now)) }
+    ensures refused { IfErr result (λ e. (e ≡ WordFault.Memory) ⊎ ((e ≡ WordFault.Words)
+        × (is_refused (app_of command.entry) (map string_bytes words.entry.now) ≡ true))) }
+{
+    match command.try_get_matches_from(words) {
+        Ok(matches) => Ok(matches),
+        Err(error) => Err(fault(error.kind())),
+    }
+}
+
+fn fault(kind: ErrorKind) -> WordFault
+    ensures { result ≡ word_fault kind }
+{
+    match kind {
+        ErrorKind::OutOfMemory => WordFault::Memory,
+        _ => WordFault::Words,
+    }
+}
+
+/// The value of an option, or the word of `gen` with this name.
+pub(crate) fn value<'a>(matches: &ArgMatches<'a>, option: Named) -> Option<&'a str>
+    ensures { text_in result ≡ values_of matches.now option }
+{
+    matches.get_str(option_name(option))
+}
+
+/// The files that the words name, in their order.
+pub(crate) fn file_names(alloc: Global, matches: &ArgMatches<'_>) -> Result<FileNames, AllocError>
+    ensures { IfOk result (λ names. names ≡ file_names_of matches.now) }
+{
+    match matches.get_strs("FILE") {
+        Some(names) => copies(alloc, names),
+        None => Ok(FileNames::new(Vec::new(alloc))),
+    }
+}
+
+fn copies(alloc: Global, texts: &[&str]) -> Result<FileNames, AllocError>
+    ensures { IfOk result (λ names. names ≡ map (λ text. text.now) texts.now) }
+{
+    let mut names = Vec::new(alloc);
+    for text in texts {
+        names.push(String::from_str(alloc, text)?)?;
+    }
+    Ok(FileNames::new(names))
+}

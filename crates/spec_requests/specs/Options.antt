@@ -1,0 +1,141 @@
+-- The table of options: what form the value of each has, which kinds of events use it, and which is the first that is bad.
+use Rattle.std.specs.Prelude.{ℕ, ◌&&◌, ◌||◌, Bool, true, false, not, nat_lt, nat_le, length, Option, None, Some, is_some, if◌then◌else◌, find, ℤ}
+use Rattle.std.specs.Char.{is_ascii_digit}
+use Rattle.std.specs.List.{list_all}
+use Rattle.std.specs.Result.{result_ok}
+use Rattle.spec_text.specs.declared.decimals.Decimal.{Decimal}
+use Rattle.std.specs.Str.Parse.{digits_value}
+use Rattle.spec_text.specs.Reading.{reading}
+use Rattle.spec_times.specs.TimeWords.{time_of}
+use Rattle.spec_kinds.specs.Asks.{takes_second}
+use Rattle.spec_kinds.specs.declared.kind.Kind.{Kind}
+use Rattle.spec_kinds.specs.declared.kind.Kind.TheVariants as kind
+use Rattle.spec_requests.specs.declared.request.Named.{Named}
+use Rattle.spec_requests.specs.declared.request.Named.TheVariants as opt
+use Rattle.spec_requests.specs.declared.tables.Use.{Use}
+use Rattle.spec_requests.specs.declared.tables.Use.TheVariants.{Needed, Optional, Unused}
+use Rattle.spec_requests.specs.declared.tables.TheConstants.{FIND_OPTIONS}
+use Rattle.spec_requests.specs.declared.limits.TheConstants.{MOST_DIGITS_OF_A_COUNT, MOST_WIDTH, MOST_DEPTH, MOST_WORKERS, MOST_DIGITS_OF_BLOCKS, MOST_GENERATED_BLOCKS, MOST_DIGITS_OF_A_SEED, MOST_SEED}
+use Rattle.spec_requests.specs.Names.{Text, kind_of, target_of, observer_of, frame_of, axis_of, dir_of, cut_of, layout_of}
+
+-- ---- forms
+
+-- the word is 1 to `most` digits
+abbrev pub are_digits : ℕ → Text → Bool
+are_digits most word = list_all is_ascii_digit word && (nat_lt 0 (length word) && nat_le (length word) most)
+
+-- the number from `least` to `most` that a word of so many digits is
+unfoldable pub number_of : ℕ → ℕ → ℕ → Text → Option ℕ
+number_of digits least most word =
+    if are_digits digits word && (nat_le least (digits_value 10 word) && nat_le (digits_value 10 word) most)
+    then Some (digits_value 10 word) else None
+
+abbrev pub width_of : Text → Option ℕ
+width_of = number_of MOST_DIGITS_OF_A_COUNT 1 MOST_WIDTH
+
+abbrev pub depth_of : Text → Option ℕ
+depth_of = number_of MOST_DIGITS_OF_A_COUNT 0 MOST_DEPTH
+
+abbrev pub workers_of : Text → Option ℕ
+workers_of = number_of MOST_DIGITS_OF_A_COUNT 1 MOST_WORKERS
+
+abbrev pub blocks_of : Text → Option ℕ
+blocks_of = number_of MOST_DIGITS_OF_BLOCKS 1 MOST_GENERATED_BLOCKS
+
+abbrev pub seed_of : Text → Option ℕ
+seed_of = number_of MOST_DIGITS_OF_A_SEED 0 MOST_SEED
+
+unfoldable pub decimal_of : Text → Option Decimal
+decimal_of word = result_ok (reading word)
+
+unfoldable pub instant_of : Text → Option ℤ
+instant_of word = result_ok (time_of word)
+
+-- the word has the form of the option's values
+abbrev pub is_of_form : Named → Text → Bool
+is_of_form opt.Kind word = is_some (kind_of word)
+is_of_form opt.Target word = is_some (target_of word)
+is_of_form opt.Second word = is_some (target_of word)
+is_of_form opt.Observer word = is_some (observer_of word)
+is_of_form opt.Frame word = is_some (frame_of word)
+is_of_form opt.Axis word = is_some (axis_of word)
+is_of_form opt.Ref word = is_some (decimal_of word)
+is_of_form opt.Radius1 word = is_some (decimal_of word)
+is_of_form opt.Radius2 word = is_some (decimal_of word)
+is_of_form opt.Dir word = is_some (dir_of word)
+is_of_form opt.From word = is_some (instant_of word)
+is_of_form opt.To word = is_some (instant_of word)
+is_of_form opt.Width word = is_some (width_of word)
+is_of_form opt.Depth word = is_some (depth_of word)
+is_of_form opt.Workers word = is_some (workers_of word)
+is_of_form opt.Cut word = is_some (cut_of word)
+is_of_form opt.Layout word = is_some (layout_of word)
+is_of_form opt.Blocks word = is_some (blocks_of word)
+is_of_form opt.Seed word = is_some (seed_of word)
+
+-- ---- uses
+
+-- events of the kind lie between two discs, whose radii are asked for
+abbrev pub takes_radii : Kind → Bool
+takes_radii kind.Any = true
+takes_radii kind.Full = true
+takes_radii kind.Annular = true
+takes_radii _ = false
+
+abbrev pub use_of_second : Kind → Use
+use_of_second kind = if takes_second kind then Needed else Unused
+
+abbrev pub use_of_frame : Kind → Use
+use_of_frame kind.Coord = Optional
+use_of_frame kind.Conj = Optional
+use_of_frame kind.Oppo = Optional
+use_of_frame kind.Station = Optional
+use_of_frame _ = Unused
+
+abbrev pub use_of_axis : Kind → Use
+use_of_axis kind.Coord = Needed
+use_of_axis _ = Unused
+
+abbrev pub use_of_ref : Kind → Use
+use_of_ref kind.Coord = Optional
+use_of_ref kind.Radius = Needed
+use_of_ref kind.Sep = Needed
+use_of_ref _ = Unused
+
+abbrev pub use_of_radius : Kind → Use
+use_of_radius kind = if takes_radii kind then Needed else Unused
+
+-- how a kind uses an option of `find`
+abbrev pub use_of : Named → Kind → Use
+use_of opt.Kind kind = Needed
+use_of opt.Target kind = Needed
+use_of opt.Second kind = use_of_second kind
+use_of opt.Frame kind = use_of_frame kind
+use_of opt.Axis kind = use_of_axis kind
+use_of opt.Ref kind = use_of_ref kind
+use_of opt.Radius1 kind = use_of_radius kind
+use_of opt.Radius2 kind = use_of_radius kind
+use_of _ kind = Optional
+
+-- ---- the first that is bad
+
+abbrev pub is_needed : Use → Bool
+is_needed Needed = true
+is_needed _ = false
+
+abbrev pub is_unused : Use → Bool
+is_unused Unused = true
+is_unused _ = false
+
+-- the option is needed and not there, isn't used and is there, or its value is not of its form
+abbrev pub is_bad : Named → Use → Option Text → Bool
+is_bad option usage None = is_needed usage
+is_bad option usage (Some word) = is_unused usage || not (is_of_form option word)
+
+-- which value each option has
+abbrev pub Values : Type 0
+Values = Named → Option Text
+
+-- the first option that a kind finds bad
+unfoldable pub bad_option : Values → Kind → Option Named
+bad_option values kind = find (λ option. is_bad option (use_of option kind) (values option)) FIND_OPTIONS

@@ -1,0 +1,25 @@
+// The limits of numbers in words.
+
+/// The most digits of a number that is a width, a depth or a count of workers.
+pub const MOST_DIGITS_OF_A_COUNT: usize = 7;
+
+/// The widest window of one event that a search may be asked for, in seconds. The narrowest is 1.
+pub const MOST_WIDTH: u64 = 1_000_000;
+
+/// The most cuts of a node that a search may be asked for.
+pub const MOST_DEPTH: u64 = 40;
+
+/// The most workers of a search. There is at least one.
+pub const MOST_WORKERS: u64 = 64;
+
+/// The most digits of a number of blocks.
+pub const MOST_DIGITS_OF_BLOCKS: usize = 2;
+
+/// The most blocks of a generated text. There is at least one.
+pub const MOST_GENERATED_BLOCKS: u64 = 40;
+
+/// The most digits of a seed.
+pub const MOST_DIGITS_OF_A_SEED: usize = 20;
+
+/// The greatest seed: the greatest number of 64 bits.
+pub const MOST_SEED: u64 = u64::MAX;

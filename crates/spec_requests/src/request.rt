@@ -1,0 +1,88 @@
+// What the words of a command line ask for.
+
+use crate::text::{FileNames, Text};
+use spec_kinds::Ask;
+use spec_trees::CutRule;
+
+/// A search: the event, the span and how it is searched, and the files that it reads.
+#[derive(Drop)]
+pub struct FindAsk {
+    /// The kind of event, its bodies, frame and numbers.
+    pub ask: Ask,
+    /// The numbers of the event as a report prints them: the words of the command line, joined by a comma, or `-`.
+    pub values: Text,
+    /// Where the span begins, in seconds of TDB since J2000. None: where the files begin.
+    pub from: Option<i64>,
+    /// Where the span ends, in seconds of TDB since J2000. None: where the files end.
+    pub to: Option<i64>,
+    /// The widest window of one event, in seconds: 1 to 1,000,000.
+    pub width: i64,
+    /// How often a node may be cut by the cut rule: 0 to 40.
+    pub depth: u32,
+    /// How many workers search: 1 to 64.
+    pub workers: u32,
+    /// Where a node is cut.
+    pub cut: CutRule,
+    /// The files in their order, at least one.
+    pub files: FileNames,
+}
+
+/// What a command line asks for.
+#[derive(Drop)]
+pub enum Request {
+    /// The windows of an event.
+    Find(FindAsk),
+    /// What the files hold.
+    Check {
+        /// The files in their order, at least one.
+        files: FileNames,
+    },
+    /// A generated text, and what a search finds in it.
+    Gen {
+        /// The blocks of the text: 1 to 40.
+        blocks: u32,
+        /// The number from which the text is made.
+        seed: u64,
+        /// How many workers search: 1 to 64.
+        workers: u32,
+    },
+}
+
+/// An option of `find`, or a word of `gen`.
+#[derive(Clone, Copy, Debug, PartialEq, Eq)]
+pub enum Named {
+    Kind,
+    Target,
+    Second,
+    Observer,
+    Frame,
+    Axis,
+    Ref,
+    Radius1,
+    Radius2,
+    Dir,
+    From,
+    To,
+    Width,
+    Depth,
+    Workers,
+    Cut,
+    Layout,
+    Blocks,
+    Seed,
+}
+
+/// Why words ask for nothing.
+#[derive(Clone, Copy, Debug, PartialEq, Eq)]
+pub enum WordFault {
+    /// Fault 60: there is no word.
+    NoCommand,
+    /// Fault 61: the first word is none of `find`, `check` and `gen`.
+    UnknownCommand,
+    /// Fault 62: the words after it can't be read as options and files.
+    Words,
+    /// Fault 63: the option is needed and not there, isn't used and there, or its value is not of its form.
+    BadValue(Named),
+    /// There was no memory.
+    Memory,
+}

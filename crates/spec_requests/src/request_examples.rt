@@ -1,0 +1,43 @@
+// Worked values of requests.
+ghost use Rattle.std.specs.Prelude.{◌≡◌, ◌∷◌, [], Ok, Err, codes};
+ghost use Rattle.spec_requests.specs.Requests.{request_of};
+ghost use Rattle.spec_requests.specs.Examples.{with_search, search_in};
+ghost use Rattle.spec_requests.specs.declared.request.Named.TheVariants as opt;
+ghost use Rattle.spec_requests.specs.declared.request.WordFault.TheVariants.{NoCommand, UnknownCommand, Words, BadValue};
+ghost use Rattle.spec_requests.specs.declared.request.Request.TheVariants.{Find, Check, Gen};
+
+/// Files are named in any number, also after `--`. A generated text is asked for by three words.
+pub fn requests_of_words()
+    ensures check { request_of (codes "check" ∷ codes "a" ∷ codes "--" ∷ codes "-b" ∷ [])
+        ≡ Ok (Check (codes "a" ∷ codes "-b" ∷ [])) }
+    ensures generated { request_of (codes "gen" ∷ codes "405" ∷ codes "3" ∷ codes "7" ∷ [])
+        ≡ Ok (Gen 3 7 1) }
+{}
+
+/// No word, another command, no file, too many blocks.
+pub fn faults_of_words()
+    ensures no_word { request_of [] ≡ Err NoCommand }
+    ensures other { request_of (codes "search" ∷ codes "a" ∷ []) ≡ Err UnknownCommand }
+    ensures no_file { request_of (codes "check" ∷ []) ≡ Err Words }
+    ensures blocks { request_of (codes "gen" ∷ codes "405" ∷ codes "41" ∷ codes "7" ∷ [])
+        ≡ Err (BadValue opt.Blocks) }
+{}
+
+/// What is left out has its default, and an option may stand behind a file.
+pub fn searches_of_words()
+    ensures defaults { request_of (with_search (codes "a" ∷ [])) ≡ Ok (Find (search_in (codes "a"))) }
+    ensures behind { request_of (with_search (codes "a" ∷ codes "--depth=40" ∷ []))
+        ≡ Ok (Find (search_in (codes "a"))) }
+{}
+
+/// A coordinate is of one body, a date has to be in the calendar, and 64 workers are the most.
+pub fn faults_of_searches()
+    ensures second { request_of (with_search (codes "--second" ∷ codes "venus" ∷ codes "a" ∷ []))
+        ≡ Err (BadValue opt.Second) }
+    ensures date { request_of (with_search (codes "--from=2000-02-30T00:00:00" ∷ codes "a" ∷ []))
+        ≡ Err (BadValue opt.From) }
+    ensures workers { request_of (with_search (codes "--workers" ∷ codes "65" ∷ codes "a" ∷ []))
+        ≡ Err (BadValue opt.Workers) }
+    ensures empty { request_of (with_search (codes "--cut=" ∷ codes "a" ∷ []))
+        ≡ Err (BadValue opt.Cut) }
+{}

@@ -1,0 +1,78 @@
+// Texts and lists of names, as contracts see them.
+ghost use Rattle.std.specs.Prelude.{◌≡◌, map, string_bytes};
+
+use std::marker::Model;
+
+/// A text. Contracts see its bytes.
+#[derive(Drop)]
+pub struct Text {
+    string: String,
+}
+
+impl Model for Text {
+    ghost use Rattle.std.specs.Prelude.{ℕ, List, string_bytes};
+
+    ghost Value = { List ℕ };
+
+    ghost view = { λ t. string_bytes t.string };
+}
+
+impl Text {
+    /// The text of a string. It takes no memory.
+    pub fn new(string: String) -> Self
+        ensures { result ≡ string_bytes string }
+    {
+        Text { string }
+    }
+
+    /// The text as a string. It takes no memory.
+    pub fn into_string(self) -> String
+        ensures { string_bytes result ≡ self }
+    {
+        self.string
+    }
+
+    /// The text's characters.
+    pub fn as_str(&self) -> &str
+        ensures { result.now ≡ self.now }
+    {
+        self.string.as_str()
+    }
+}
+
+/// The names of files, in their order. Contracts see the bytes of each.
+#[derive(Drop)]
+pub struct FileNames {
+    names: Vec<String>,
+}
+
+impl Model for FileNames {
+    ghost use Rattle.std.specs.Prelude.{ℕ, List, map, string_bytes};
+
+    ghost Value = { List (List ℕ) };
+
+    ghost view = { λ f. map string_bytes f.names.items };
+}
+
+impl FileNames {
+    /// The names of a vector, in its order. It takes no memory.
+    pub fn new(names: Vec<String>) -> Self
+        ensures { result ≡ map string_bytes names.items }
+    {
+        FileNames { names }
+    }
+
+    /// The names as a vector, in their order. It takes no memory.
+    pub fn into_vec(self) -> Vec<String>
+        ensures { map string_bytes result.items ≡ self }
+    {
+        self.names
+    }
+
+    /// The names in their order.
+    pub fn as_slice(&self) -> &[String]
+        ensures { map string_bytes result.now ≡ self.now }
+    {
+        &self.names
+    }
+}

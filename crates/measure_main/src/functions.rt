@@ -19,6 +19,7 @@ pub(crate) enum Function {
 
 // The positions of both bodies.
 const A: Vector = Vector::Position(0);
+
 const B: Vector = Vector::Position(1);
 
 // The cosine of separations.

@@ -1,3 +1,4 @@
 pub mod Dates
 pub mod Texts
 pub mod Times
+mod Worked

@@ -4,10 +4,10 @@
 pub const MOST_DIGITS_OF_A_COUNT: usize = 7;
 
 /// The widest window of one event that a search may be asked for, in seconds. The narrowest is 1.
-pub const MOST_WIDTH: u64 = 1_000_000;
+pub const MOST_WIDTH: u64 = spec_searches::MOST_WIDTH as u64;
 
 /// The most cuts of a node that a search may be asked for.
-pub const MOST_DEPTH: u64 = 40;
+pub const MOST_DEPTH: u64 = spec_searches::MOST_DEPTH as u64;
 
 /// The most workers of a search. There is at least one.
 pub const MOST_WORKERS: u64 = 64;
@@ -23,3 +23,12 @@ pub const MOST_DIGITS_OF_A_SEED: usize = 20;
 
 /// The greatest seed: the greatest number of 64 bits.
 pub const MOST_SEED: u64 = u64::MAX;
+
+/// The width of a search that is asked for none, in seconds.
+pub const DEFAULT_WIDTH: u32 = 1;
+
+/// The depth of a search that is asked for none.
+pub const DEFAULT_DEPTH: u32 = 40;
+
+/// The workers of a search, or of a generated text, that is asked for none.
+pub const DEFAULT_WORKERS: u32 = 1;

@@ -2,3 +2,4 @@ pub mod Dates
 pub mod Texts
 pub mod Times
 mod Worked
+mod Words

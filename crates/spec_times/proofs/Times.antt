@@ -12,11 +12,11 @@ use Rattle.spec_times.specs.TimeWords.{IsTime, time_of, within_limits}
 use Rattle.spec_times.proofs.Dates.{date_of_day, one_date}
 use Rattle.spec_times.proofs.Texts.{time_of_text, written}
 
-clock_is : (z : ℤ) → unsigned_abs (int_rem_euclid z (pos 86400)) < 86400
+pub clock_is : (z : ℤ) → unsigned_abs (int_rem_euclid z (pos 86400)) < 86400
 clock_is (pos n) = omega arith
 clock_is (negsuc n) = omega arith
 
-parts_of : (z : ℤ) → int_div_euclid z (pos 86400) *ℤ pos 86400 +ℤ pos (unsigned_abs (int_rem_euclid z (pos 86400))) ≡ z
+pub parts_of : (z : ℤ) → int_div_euclid z (pos 86400) *ℤ pos 86400 +ℤ pos (unsigned_abs (int_rem_euclid z (pos 86400))) ≡ z
 parts_of (pos n) = omega (arith, signed_arith)
 parts_of (negsuc n) = omega (arith, signed_arith)
 

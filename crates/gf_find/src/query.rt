@@ -1,0 +1,45 @@
+// What is searched for.
+ghost use Rattle.std.specs.Prelude.{◌≡◌};
+ghost use Rattle.gf_find.specs.Queries.{mercury_x};
+
+use spec_bodies::Frame;
+use spec_ephemeris::Body;
+use spec_events::Dir;
+use spec_kinds::{Ask, Kind};
+use spec_text::Decimal;
+use spec_trees::CutRule;
+
+/// A search: the events that are asked for, how wide the window of one may be, in seconds, how deep nodes are cut, and
+/// where.
+#[derive(Clone, Copy)]
+pub(crate) struct Query {
+    pub(crate) ask: Ask,
+    pub(crate) width: u32,
+    pub(crate) depth: u32,
+    pub(crate) cut: CutRule,
+}
+
+const ZERO: Decimal = Decimal { mant: 0, exp: 0 };
+
+/// The search for the times at which Mercury's x, seen from the barycentre of the solar system, passes 0, with every
+/// option at its default.
+pub(crate) fn mercury_x() -> Query
+    ensures { result ≡ mercury_x }
+{
+    Query {
+        ask: Ask {
+            kind: Kind::Coord,
+            target: Body::Mercury,
+            second: None,
+            observer: Body::Ssb,
+            frame: Frame::Eq,
+            axis: 0,
+            value1: ZERO,
+            value2: ZERO,
+            dir: Dir::Any,
+        },
+        width: 1,
+        depth: 40,
+        cut: CutRule::Half,
+    }
+}

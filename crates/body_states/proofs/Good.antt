@@ -5,7 +5,7 @@ use Rattle.spec_intervals.specs.Fraction.{IsFraction, Holds, Overlaps}
 use Rattle.spec_intervals.specs.Enclosure.{Enclosure, IsWithin, AllWithin, Encloses, constant_of}
 use Rattle.spec_intervals.proofs.Enclosed.{IsEnclosure-constant}
 use Rattle.spec_intervals.proofs.Exponents.{IsWithin-more}
-use Rattle.spec_expressions.specs.Expression.{part_exponent}
+use Rattle.spec_expressions.specs.Term.{part_exponent}
 use Rattle.spec_bodies.specs.declared.factor.Factor.{Factor}
 use Rattle.spec_bodies.specs.declared.factor.Factor.TheVariants.{MoonShare}
 use Rattle.spec_bodies.specs.declared.source.Source.{Source}

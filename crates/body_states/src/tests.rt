@@ -4,7 +4,7 @@ ghost use Rattle.std.specs.List.{list_all};
 ghost use Rattle.spec_ephemeris.specs.Header.{IsHeader, has_column};
 ghost use Rattle.spec_ephemeris.specs.Ephemeris.{IsBodyNumber, end_of};
 ghost use Rattle.spec_ephemeris.specs.Examples.{column};
-ghost use Rattle.spec_expressions.specs.Expression.{HasLeaves};
+ghost use Rattle.spec_expressions.specs.Term.{term, HasLeaves};
 ghost use Rattle.spec_bodies.specs.Sources.{source_of, needed};
 ghost use Rattle.spec_bodies.specs.Views.{Fits};
 ghost use Rattle.body_states.specs.Examples.{short_blocks};
@@ -256,7 +256,7 @@ fn check_formula(
     times: (i64, i64),
     expected: Parts,
 )
-    requires { HasLeaves expr }
+    requires { HasLeaves (term expr) }
 {
     let (a, b) = times;
     let states = states(rt, ephemeris, scene);

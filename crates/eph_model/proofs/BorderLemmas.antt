@@ -6,7 +6,7 @@ use Rattle.std.proofs.lemmas.Bool.{cases_lt}
 use Rattle.spec_ephemeris.specs.Ephemeris.{IsPreferred}
 use Rattle.eph_model.specs.declared.grid.Grid.{Grid}
 use Rattle.eph_model.specs.Grids.{IsBorderAt, IsGridBorder}
-use Rattle.eph_model.proofs.Nearer.{nearer, IsCovered}
+use Rattle.spec_ephemeris.proofs.Nearer.{nearer, IsCovered}
 
 -- n is at the middle of a and b or before it, and n + l is past it; both count from `start`
 record IsAround (start a b : ℤ) (n l : ℕ) : Type 0 where

@@ -6,17 +6,15 @@ use Rattle.std.proofs.lemmas.Bool.{cases_lt}
 use Rattle.std.proofs.Math.Nat.{eq_of_mul-eq-mul_right}
 use Rattle.std.proofs.lemmas.List.{take_more}
 use Rattle.std.proofs.lemmas.List.Elements.{Contains-append_left, Contains-push, Contains-push_cases}
-use Rattle.spec_ephemeris.specs.declared.header.Column.{Column}
-use Rattle.spec_ephemeris.specs.declared.header.Header.{Header}
-use Rattle.spec_ephemeris.specs.Header.{IsColumn}
 use Rattle.spec_ephemeris.specs.Ephemeris.{Ephemeris, Granule, IsGranule, IsBorder, IsBorderIn, IsNearest, end_of, granule_numbers, block_numbers}
 use Rattle.eph_model.specs.declared.grid.Grid.{Grid}
 use Rattle.eph_model.specs.Grids.{IsGridOf, IsGridBorder}
-use Rattle.eph_model.specs.Preferred.{preferred, IsShort}
+use Rattle.spec_ephemeris.specs.Borders.{preferred}
+use Rattle.eph_model.specs.Short.{IsShort}
 use Rattle.eph_model.proofs.GridLemmas.{at_index, ends}
 use Rattle.spec_numbers.proofs.Naturals.{row_fits}
 use Rattle.spec_ephemeris.proofs.ColumnRules.{one_column}
-use Rattle.eph_model.proofs.Nearer.{nearest_of_two, same, IsCovered}
+use Rattle.spec_ephemeris.proofs.Nearer.{nearest_of_two, same, IsCovered}
 
 length_of : (e : Ephemeris) (number : ℕ) (g : Grid) (r : Granule) → IsGridOf e number g → IsGranule e number r → r.duration ≡ g.seconds
 length_of e number g r is granule =

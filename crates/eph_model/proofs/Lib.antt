@@ -1,5 +1,4 @@
 pub mod Rules
 pub mod GridLemmas
 pub mod BorderLemmas
-pub mod Nearer
 pub mod ColumnBorders

@@ -1,3 +1,3 @@
 pub mod Grids
-pub mod Preferred
+pub mod Short
 pub mod Starting

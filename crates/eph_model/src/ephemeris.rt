@@ -2,8 +2,9 @@
 ghost use Rattle.std.specs.Prelude.{◌≡◌, ◌*◌, ◌^◌, ◌<◌, ◌≤◌, ◌≤ℤ◌, ◌<ℤ◌, pos, neg_ℤ, OnOk, OnErr, All, IfSome, IsTrue, length, unsigned_abs};
 ghost use Rattle.spec_ephemeris.specs.declared.limits.TheConstants.{BODY_COLUMNS, MOST_BLOCKS, MOST_COEFFICIENTS};
 ghost use Rattle.spec_ephemeris.specs.Header.{IsHeader, IsColumn, column_at, components, granule_size, has_column};
-ghost use Rattle.spec_ephemeris.specs.Ephemeris.{IsStart, IsBlock, IsBodyNumber, IsEphemeris, empty_ephemeris, with_block, end_of, IsGranuleAt, IsNearestBorder, block_numbers, granule_numbers};
+ghost use Rattle.spec_ephemeris.specs.Ephemeris.{IsStart, IsBlock, IsBodyNumber, IsEphemeris, empty_ephemeris, with_block, end_of, IsGranuleAt, block_numbers, granule_numbers};
 ghost use Rattle.spec_ephemeris.specs.Granules.{granule_of};
+ghost use Rattle.spec_ephemeris.specs.Borders.{nearest_border};
 ghost use Rattle.eph_model.specs.Starting.{starting_at};
 ghost use Rattle.eph_model.specs.Grids.{IsGridOf};
 
@@ -190,8 +191,9 @@ impl Ephemeris {
         requires from { self.now.start ≤ℤ a }
         requires order { a <ℤ b }
         requires upto { b ≤ℤ end_of self.now }
-        ensures { IsNearestBorder self.now columns.now a b result }
+        ensures { result ≡ nearest_border self.now columns.now a b }
     {
+        let _header = self.header();
         let mut nearest = None;
         for &column in columns {
             let own = self.grid(column).border_near(a, b);

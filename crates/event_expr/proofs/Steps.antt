@@ -5,7 +5,7 @@ use Rattle.spec_numbers.proofs.Order.{lin}
 use Rattle.spec_intervals.specs.Interval.{Interval, IsExponent, narrow, sum, difference, product, meet, signed_square, zero_interval}
 use Rattle.spec_intervals.specs.Fraction.{Overlaps, fraction_add, fraction_sub, fraction_mul, fraction_signed_square}
 use Rattle.spec_intervals.specs.Enclosure.{Enclosure, IsSpan, IsWithin, Encloses, middle, offsets, centred, enclosure, twice_size}
-use Rattle.spec_expressions.specs.Expression.{part_exponent}
+use Rattle.spec_expressions.specs.Term.{part_exponent}
 use Rattle.spec_intervals.proofs.Exponents.{IsWithin-more, sum-within, difference-within, product-within, signed_square-within, twice_size-within}
 use Rattle.spec_intervals.proofs.Offsets.{offsets-within, offsets-narrow}
 use Rattle.spec_intervals.proofs.EnclosureExponents.{centred-within}

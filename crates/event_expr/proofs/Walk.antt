@@ -5,9 +5,7 @@ use Rattle.spec_text.specs.declared.decimals.Decimal.{Decimal}
 use Rattle.spec_intervals.specs.Interval.{Interval, IsDistance, IsCosine, from_decimal, distance_exponent, cosine_exponent}
 use Rattle.spec_intervals.specs.Fraction.{Fraction, Holds, Overlaps, decimal}
 use Rattle.spec_intervals.specs.Enclosure.{Enclosure, IsEnclosure, AllFractions, IsSpan, IsWithin, AllWithin, Encloses}
-use Rattle.spec_expressions.specs.Expression.{leaf_exponent, part_exponent, Leaf, IsLeaf, exact_of, enclosure_of, IsFormula}
-use Rattle.spec_expressions.specs.declared.expressions.Expr.{Expr}
-use Rattle.spec_expressions.specs.declared.expressions.Expr.TheVariants.{Pos, Vel, Length, Cosine, Add', Sub', Mul', SignedSquare'}
+use Rattle.spec_expressions.specs.Term.{leaf_exponent, part_exponent, Leaf, IsLeaf, Term, leaf, length, cosine, sum, difference, product, signed_square, exact_of, enclosure_of, IsFormula}
 use Rattle.spec_intervals.proofs.Exponents.{IsWithin-more, distance-within, cosine-within}
 use Rattle.spec_expressions.proofs.Induction.{AllFractions-of, IsEnclosure-of, IsFraction-decimal}
 use Rattle.spec_expressions.proofs.Reach.{AllWithin-of}
@@ -24,7 +22,7 @@ pub known : (exact : Leaf → ℤ → Fraction) (answer : Leaf → Enclosure) (a
 known exact answer a b s n h w =
     record { span = s; numbers = n; holds = h; within = λ l p. let x = w l p in record { mid = IsWithin-more state_exponent leaf_exponent (answer l).mid (omega arith) x.mid; range = IsWithin-more state_exponent leaf_exponent (answer l).range (omega arith) x.range; step = IsWithin-more state_exponent leaf_exponent (answer l).step (omega arith) x.step } }
 
-module _ (exact : Leaf → ℤ → Fraction) (answer : Leaf → Enclosure) (a b : ℤ) (k : Known exact answer a b) (e : Expr) (f : IsFormula e) (r : Enclosure) (is : r ≡ enclosure_of answer a b e) where
+module _ (exact : Leaf → ℤ → Fraction) (answer : Leaf → Enclosure) (a b : ℤ) (k : Known exact answer a b) (e : Term) (f : IsFormula e) (r : Enclosure) (is : r ≡ enclosure_of answer a b e) where
   pub part-within : AllWithin part_exponent r
   part-within = rw is (AllWithin-of a b k.span answer k.within e f)
 
@@ -35,34 +33,32 @@ module _ (exact : Leaf → ℤ → Fraction) (answer : Leaf → Enclosure) (a b 
   part-encloses = record { exact = exact_of exact e; numbers = AllFractions-of exact a b k.numbers e f.leaves; is_enclosure = part-is_enclosure }
 
 -- ---- the parts of a formula are formulas
-abbrev pub PartsAre : Expr → Type 0
-PartsAre (Pos target axis) = ⊤
-PartsAre (Vel target axis) = ⊤
-PartsAre (Length d) = IsDistance d.mant d.exp
-PartsAre (Cosine d) = IsCosine d.mant d.exp
-PartsAre (Add' p x q y) = IsFormula x × IsFormula y
-PartsAre (Sub' p x q y) = IsFormula x × IsFormula y
-PartsAre (Mul' p x q y) = IsFormula x × IsFormula y
-PartsAre (SignedSquare' p x) = IsFormula x
+abbrev pub PartsAre : Term → Type 0
+PartsAre (leaf l) = IsLeaf l
+PartsAre (length d) = IsDistance d.mant d.exp
+PartsAre (cosine d) = IsCosine d.mant d.exp
+PartsAre (sum x y) = IsFormula x × IsFormula y
+PartsAre (difference x y) = IsFormula x × IsFormula y
+PartsAre (product x y) = IsFormula x × IsFormula y
+PartsAre (signed_square x) = IsFormula x
 
-pub formula-parts : (e : Expr) → IsFormula e → PartsAre e
-formula-parts (Pos target axis) f = tt
-formula-parts (Vel target axis) f = tt
-formula-parts (Length d) f = f.constants
-formula-parts (Cosine d) f = f.constants
-formula-parts (Add' p x q y) f =
+pub formula-parts : (e : Term) → IsFormula e → PartsAre e
+formula-parts (leaf l) f = f.leaves
+formula-parts (length d) f = f.constants
+formula-parts (cosine d) f = f.constants
+formula-parts (sum x y) f =
     let n = f.nodes_within in
     let d = f.degree_within in
     (record { leaves = f.leaves.0; nodes_within = omega arith; degree_within = omega arith; constants = f.constants.0 }, record { leaves = f.leaves.1; nodes_within = omega arith; degree_within = omega arith; constants = f.constants.1 })
-formula-parts (Sub' p x q y) f =
+formula-parts (difference x y) f =
     let n = f.nodes_within in
     let d = f.degree_within in
     (record { leaves = f.leaves.0; nodes_within = omega arith; degree_within = omega arith; constants = f.constants.0 }, record { leaves = f.leaves.1; nodes_within = omega arith; degree_within = omega arith; constants = f.constants.1 })
-formula-parts (Mul' p x q y) f =
+formula-parts (product x y) f =
     let n = f.nodes_within in
     let d = f.degree_within in
     (record { leaves = f.leaves.0; nodes_within = omega arith; degree_within = omega arith; constants = f.constants.0 }, record { leaves = f.leaves.1; nodes_within = omega arith; degree_within = omega arith; constants = f.constants.1 })
-formula-parts (SignedSquare' p x) f =
+formula-parts (signed_square x) f =
     let n = f.nodes_within in
     let d = f.degree_within in
     record { leaves = f.leaves; nodes_within = omega arith; degree_within = omega arith; constants = f.constants }
@@ -87,5 +83,5 @@ pub one_part : (op : Enclosure → Enclosure) (u x r : Enclosure) → x ≡ u �
 one_part op u x r e h = h ∙ ap op e
 
 -- ---- the whole, over a span that was made of two times
-pub over : (answer : Leaf → ℤ → ℤ → Enclosure) (r : Enclosure) (first last a b : ℤ) (d e : Expr) → first ≡ a → last ≡ b → d ≡ e → r ≡ enclosure_of (λ l. answer l first last) first last d → r ≡ enclosure_of (λ l. answer l a b) a b e
+pub over : (answer : Leaf → ℤ → ℤ → Enclosure) (r : Enclosure) (first last a b : ℤ) (d e : Term) → first ≡ a → last ≡ b → d ≡ e → r ≡ enclosure_of (λ l. answer l first last) first last d → r ≡ enclosure_of (λ l. answer l a b) a b e
 over answer r first last a b d e p q s h = h ∙ (λ i. enclosure_of (λ l. answer l (p i) (q i)) (p i) (q i) (s i))

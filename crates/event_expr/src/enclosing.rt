@@ -3,7 +3,7 @@
 ghost use Rattle.std.specs.Prelude.{◌≡◌, ◌≤ℤ◌, ◌<ℤ◌, ℤ};
 ghost use Rattle.spec_intervals.specs.Fraction.{Holds};
 ghost use Rattle.spec_intervals.specs.Enclosure.{middle, change};
-ghost use Rattle.spec_expressions.specs.Expression.{exact_of, enclosure_of, IsFormula};
+ghost use Rattle.spec_expressions.specs.Term.{term, exact_of, enclosure_of, IsFormula};
 
 use crate::formula::Formula;
 use crate::rules::Span;
@@ -27,10 +27,10 @@ pub fn enclose<S: States>(f: &Formula, states: &S, a: i64, b: i64) -> Enclosure
 
 /// The enclosure of a formula's expression or of a part of it.
 fn enclose_at<S: States>(expr: &Expr, states: &S, span: &Span) -> Enclosure
-    requires formula { IsFormula expr.now }
+    requires formula { IsFormula (term expr.now) }
     requires fits { S.fits states.now span.now.first span.now.last }
     ensures { result ≡ enclosure_of (λ leaf. S.answer states.now leaf span.now.first span.now.last)
-        span.now.first span.now.last expr.now }
+        span.now.first span.now.last (term expr.now) }
 {
     match expr {
         Expr::Pos { target, axis } => states.pos(*target, *axis, span.first(), span.last()),

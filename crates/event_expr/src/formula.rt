@@ -1,7 +1,7 @@
 // Formulas: expressions within limits.
 
 ghost use Rattle.std.specs.Prelude.{◌≡◌, ◌↔◌, ◌<◌, ◌≤◌, IfOk, Err};
-ghost use Rattle.spec_expressions.specs.Expression.{nodes, degree, HasConstants, HasLeaves, IsFormula, node_limit, degree_limit};
+ghost use Rattle.spec_expressions.specs.Term.{term, nodes, degree, HasConstants, HasLeaves, IsFormula, node_limit, degree_limit};
 ghost use Rattle.event_expr.specs.declared.limits.ExprFault.TheVariants.{Nodes, Degree, Constant};
 
 use crate::limits::{ExprFault, limits_kept};
@@ -15,30 +15,29 @@ pub struct Formula {
 }
 
 impl Model for Formula {
-    ghost use Rattle.spec_expressions.specs.Expression.{IsFormula};
-    ghost use Rattle.spec_expressions.specs.declared.expressions.Expr.{Expr};
-    ghost use Rattle.spec_expressions.specs.contracts.expressions.Expr as e;
-    ghost use Rattle.std.specs.Coded.{codes};
+    ghost use Rattle.spec_expressions.specs.Term.{Term, term, IsFormula};
+    ghost use Rattle.spec_expressions.specs.Code.{term_code};
 
-    ghost Value = { Expr };
+    ghost Value = { Term };
 
-    ghost coded = { Prim.hlevel (codes, e.the_row.coded) };
+    ghost coded = { term_code };
 
-    ghost view = { λ f. f.expr };
+    ghost view = { λ f. term f.expr };
 
-    ghost invariant = { λ f. IsFormula f.expr };
+    ghost invariant = { λ f. IsFormula (term f.expr) };
 }
 
 impl Formula {
     /// The expression as a formula, or the first limit that it passes. No memory is taken.
     pub fn new(expr: Expr) -> Result<Formula, ExprFault>
-        requires { HasLeaves expr }
-        ensures made { IfOk result (λ formula. formula ≡ expr) }
-        ensures nodes { (result ≡ Err Nodes) ↔ (node_limit < nodes expr) }
+        requires { HasLeaves (term expr) }
+        ensures made { IfOk result (λ formula. formula ≡ term expr) }
+        ensures nodes { (result ≡ Err Nodes) ↔ (node_limit < nodes (term expr)) }
         ensures degree { (result ≡ Err Degree)
-            ↔ ((nodes expr ≤ node_limit) × (degree_limit < degree expr)) }
+            ↔ ((nodes (term expr) ≤ node_limit) × (degree_limit < degree (term expr))) }
         ensures constant { (result ≡ Err Constant)
-            ↔ ((nodes expr ≤ node_limit) × (degree expr ≤ degree_limit) × (HasConstants expr → ⊥)) }
+            ↔ ((nodes (term expr) ≤ node_limit) × (degree (term expr) ≤ degree_limit)
+            × (HasConstants (term expr) → ⊥)) }
     {
         match limits_kept(&expr) {
             Err(fault) => Err(fault),
@@ -48,8 +47,8 @@ impl Formula {
 
     /// The expression.
     pub(crate) fn expr(&self) -> &Expr
-        ensures whole { result.now ≡ self.now }
-        ensures formula { IsFormula result.now }
+        ensures whole { term result.now ≡ self.now }
+        ensures formula { IsFormula (term result.now) }
     {
         &self.expr
     }

@@ -17,5 +17,5 @@ mod tests;
 pub use enclosing::enclose;
 pub use formula::Formula;
 pub use limits::ExprFault;
-pub use spec_expressions::Expr;
+pub use spec_expressions::{Expr, Vector};
 pub use states::States;

@@ -5,7 +5,7 @@ ghost use lib.Signed.{lt_z};
 ghost use Rattle.spec_intervals.specs.Interval.{Interval, end_limit};
 ghost use Rattle.spec_intervals.specs.Fraction.{Overlaps};
 ghost use Rattle.spec_intervals.specs.Enclosure.{IsSpan, IsWithin, AllWithin, Encloses, middle, centred, enclosure, constant_of, sum_of, difference_of, product_of, signed_square_of, twice_size};
-ghost use Rattle.spec_expressions.specs.Expression.{part_exponent};
+ghost use Rattle.spec_expressions.specs.Term.{part_exponent};
 ghost use Rattle.event_expr.specs.States.{wide_exponent};
 
 use ival_core::{Enclosure, Ival};

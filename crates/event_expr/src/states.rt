@@ -3,7 +3,7 @@
 ghost use Rattle.std.specs.Prelude.{◌≡◌, ◌<◌, ℕ, ℤ};
 ghost use Rattle.spec_intervals.specs.Fraction.{Fraction};
 ghost use Rattle.spec_intervals.specs.Enclosure.{IsEnclosure, AllFractions, IsSpan, AllWithin, Enclosure as Parts};
-ghost use Rattle.spec_expressions.specs.Expression.{Leaf, position, velocity, IsLeaf};
+ghost use Rattle.spec_expressions.specs.Term.{Leaf, position, velocity, IsLeaf};
 ghost use Rattle.event_expr.specs.States.{state_exponent};
 
 use ival_core::Enclosure;

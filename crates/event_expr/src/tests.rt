@@ -3,14 +3,13 @@
 ghost use Rattle.std.specs.Prelude.{◌≡◌, ◌≤◌, ◌<◌, ◌≤ℤ◌, ℤ, pos, IfOk, unsigned_abs};
 ghost use Rattle.spec_intervals.specs.Interval.{narrow};
 ghost use Rattle.spec_intervals.specs.Enclosure.{IsSpan, middle, time_limit, triple};
-ghost use Rattle.spec_expressions.specs.Expression.{HasLeaves};
-ghost use Rattle.spec_expressions.specs.declared.expressions.Expr.{Expr};
+ghost use Rattle.spec_expressions.specs.Term.{term, HasLeaves};
 
 use crate::builders::{
     cosine, difference, dot, length, position, product, signed_square, sum, velocity,
 };
 use crate::rules::middle;
-use crate::{Expr, ExprFault, Formula, States, enclose};
+use crate::{Expr, ExprFault, Formula, States, Vector, enclose};
 use ival_core::{Enclosure, Ival};
 use spec_text::Decimal;
 use std::alloc::{AllocError, Global};
@@ -76,7 +75,7 @@ fn decimal(mant: i64, exp: i16) -> Decimal {
 
 /// The sum of so many cosines 1/2.
 fn sum_of_halves(alloc: Global, count: u32) -> Result<Expr, AllocError>
-    ensures { IfOk result HasLeaves }
+    ensures { IfOk result (λ e. HasLeaves (term e)) }
 {
     let mut total = cosine(decimal(5, -1));
     for _ in 1..count {
@@ -87,7 +86,7 @@ fn sum_of_halves(alloc: Global, count: u32) -> Result<Expr, AllocError>
 
 /// The product of so many of one length.
 fn product_of_lengths(alloc: Global, count: u32, mant: i64, exp: i16) -> Result<Expr, AllocError>
-    ensures { IfOk result HasLeaves }
+    ensures { IfOk result (λ e. HasLeaves (term e)) }
 {
     let mut total = length(decimal(mant, exp));
     for _ in 1..count {
@@ -98,7 +97,7 @@ fn product_of_lengths(alloc: Global, count: u32, mant: i64, exp: i16) -> Result<
 
 /// The expression is refused with this fault, or is a formula.
 fn check(rt: &impl Abort, expr: Expr, fault: Option<ExprFault>)
-    requires { HasLeaves expr }
+    requires { HasLeaves (term expr) }
 {
     match Formula::new(expr) {
         Ok(_) => assert!(rt; fault.is_none()),
@@ -157,7 +156,7 @@ type Row = (i64, i64, Numbers, Numbers, Numbers);
 
 /// The formula has these enclosures over the clock.
 fn check_rows(rt: &impl Abort, expr: Expr, rows: &[Row])
-    requires { HasLeaves expr }
+    requires { HasLeaves (term expr) }
 {
     match Formula::new(expr) {
         Err(_) => assert!(rt; false),
@@ -222,12 +221,13 @@ fn a_product_is_that_of_the_reference(rt: HostRuntime) -> Result<(), AllocError>
     Ok(())
 }
 
-/// `D |D| - D D` with the dot product of the positions, 3 t^2, is 0 at each time.
+/// `D |D| - D D` with dot products that are 3 t^2, is 0 at each time.
 #[test]
 fn a_dot_product_is_its_own_size(rt: HostRuntime) -> Result<(), AllocError> {
     let alloc = rt.alloc();
-    let square = product(alloc, dot(alloc, 0, 1)?, dot(alloc, 1, 0)?)?;
-    let signed = signed_square(alloc, dot(alloc, 0, 0)?)?;
+    let (a, b) = (Vector::Position(0), Vector::Velocity(1));
+    let square = product(alloc, dot(alloc, a, b)?, dot(alloc, b, a)?)?;
+    let signed = signed_square(alloc, dot(alloc, a, a)?)?;
     let rows = [(-3, -3, (0, 0, 0), (0, 0, 0), (0, 0, 0))];
     check_rows(&rt, difference(alloc, signed, square)?, &rows);
     Ok(())

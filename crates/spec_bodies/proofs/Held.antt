@@ -9,7 +9,7 @@ use Rattle.spec_ephemeris.specs.Series.{Series}
 use Rattle.spec_ephemeris.specs.Ephemeris.{IsBorder}
 use Rattle.spec_motions.specs.Enclosures.{IsSeries, IsSpanOf}
 use Rattle.spec_intervals.specs.Enclosure.{IsEnclosure, Encloses, AllFractions, AllWithin, IsSpan, change, middle}
-use Rattle.spec_expressions.specs.Expression.{Leaf, position as position_of, velocity as velocity_of, IsLeaf}
+use Rattle.spec_expressions.specs.Term.{Leaf, position as position_of, velocity as velocity_of, IsLeaf}
 use Rattle.spec_intervals.proofs.Centred.{middle_between}
 use Rattle.spec_intervals.proofs.Enclosed.{IsEnclosure-parts}
 use Rattle.spec_bodies.specs.Sources.{used}

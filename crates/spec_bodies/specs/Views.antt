@@ -12,7 +12,7 @@ use Rattle.spec_ephemeris.specs.Ephemeris.{Ephemeris, IsEphemeris, IsBorderIn, e
 use Rattle.spec_ephemeris.specs.Velocity.{velocity}
 use Rattle.spec_motions.specs.Enclosures.{position_interval, position_step_interval, velocity_interval, velocity_step_interval}
 use Rattle.spec_intervals.specs.Enclosure.{Enclosure, enclosure, middle}
-use Rattle.spec_expressions.specs.Expression.{Leaf, position as position_of, velocity as velocity_of}
+use Rattle.spec_expressions.specs.Term.{Leaf, position as position_of, velocity as velocity_of}
 use Rattle.spec_bodies.specs.declared.frame.Frame.{Frame}
 use Rattle.spec_bodies.specs.declared.source.Source.{Source}
 use Rattle.spec_bodies.specs.declared.factor.Factor.{Factor}

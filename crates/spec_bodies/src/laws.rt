@@ -2,7 +2,7 @@
 
 ghost use Rattle.std.specs.Prelude.{◌≡◌, ◌<◌, ℕ, ℤ};
 ghost use Rattle.spec_intervals.specs.Enclosure.{IsEnclosure, AllFractions, AllWithin, IsSpan};
-ghost use Rattle.spec_expressions.specs.Expression.{Leaf, IsLeaf};
+ghost use Rattle.spec_expressions.specs.Term.{Leaf, IsLeaf};
 ghost use Rattle.spec_bodies.specs.declared.source.Source.TheVariants.{EarthOfPair, MoonOfPair};
 ghost use Rattle.spec_bodies.specs.Coordinates.{less, earth, moon, displacement};
 ghost use Rattle.spec_bodies.specs.Meanings.{AlwaysAgree};

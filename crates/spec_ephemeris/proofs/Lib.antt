@@ -1,6 +1,8 @@
 pub mod HeaderTest
 pub mod ColumnRules
 pub mod Granules
+pub mod Nearer
+pub mod NearestBorders
 pub mod GranuleAt
 pub mod Pushing
 pub mod GranuleNumbers

@@ -52,6 +52,10 @@ de405 = record {
       ∷ column 405 6 1 ∷ column 423 6 1 ∷ column 441 13 8 ∷ column 753 11 2 ∷ column 819 10 4 ∷ column 899 10 4 ∷ [];
 }
 
+-- blocks of that header, with no numbers written
+abbrev pub blocks_of_de405 : ℕ → Ephemeris
+blocks_of_de405 blocks = record { header = de405; start = neg_ℤ (pos 43200); blocks = blocks; numbers = [] }
+
 -- a column of two coefficients that begins within Mercury's
 abbrev pub overlapping : Header
 overlapping = record {

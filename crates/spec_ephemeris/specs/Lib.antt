@@ -3,4 +3,5 @@ pub mod Velocity
 pub mod Header
 pub mod Ephemeris
 pub mod Granules
+pub mod Borders
 pub mod Examples

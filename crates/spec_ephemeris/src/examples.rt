@@ -1,10 +1,11 @@
 // Worked values of the definitions, by computation.
-ghost use Rattle.std.specs.Prelude.{◌≡◌, ◌+◌, ◌-◌, ◌^◌, true, false, pos, neg_ℤ};
+ghost use Rattle.std.specs.Prelude.{◌≡◌, ◌+◌, ◌-◌, ◌^◌, true, false, [], ◌∷◌, None, Some, pos, neg_ℤ};
 ghost use Rattle.spec_ephemeris.specs.Header.{IsHeader, column_size, has_column};
 ghost use Rattle.spec_ephemeris.specs.Ephemeris.{IsPreferred};
+ghost use Rattle.spec_ephemeris.specs.Borders.{nearest_border};
 ghost use Rattle.spec_ephemeris.specs.Series.{IsCoefficient, argument_at, position};
 ghost use Rattle.spec_ephemeris.specs.Velocity.{velocity};
-ghost use Rattle.spec_ephemeris.specs.Examples.{IsWhole, whole, growing_x, parabola, column, de405, four_columns, overlapping};
+ghost use Rattle.spec_ephemeris.specs.Examples.{IsWhole, whole, growing_x, parabola, column, de405, blocks_of_de405, four_columns, of_four_columns, overlapping};
 
 /// The argument of a block of 2,764,800 seconds runs from minus its length to its length, two for each second.
 pub fn arguments()
@@ -72,4 +73,27 @@ pub fn preferred_times()
     ensures smaller { IsPreferred (pos 0) (pos 4) (pos 1) (pos 3) }
     ensures larger { IsPreferred (pos 0) (pos 4) (pos 3) (pos 1) → ⊥ }
     ensures nearer { IsPreferred (pos 0) (pos 10) (pos 6) (pos 3) }
+{}
+
+/// Two blocks of 32 days have one border between them, in a span that ends with it and not in one that begins with it.
+pub fn borders_of_two_blocks()
+    ensures upto { nearest_border (of_four_columns 2 []) (1 ∷ []) (pos 2721599) (pos 2721600)
+        ≡ Some (pos 2721600) }
+    ensures after { nearest_border (of_four_columns 2 []) (1 ∷ []) (pos 2721600) (pos 2721601)
+        ≡ None }
+    ensures end_of_all { nearest_border (of_four_columns 2 []) (1 ∷ []) (pos 5486399) (pos 5486400)
+        ≡ None }
+{}
+
+/// In DE405 a granule of Mercury has 8 days, and one of Venus 16.
+pub fn borders_of_de405()
+    ensures smaller_of_two { nearest_border (blocks_of_de405 2) (1 ∷ []) (pos 593600) (pos 1393600)
+        ≡ Some (pos 648000) }
+    ensures nearer { nearest_border (blocks_of_de405 2) (1 ∷ []) (pos 593600) (pos 1393602)
+        ≡ Some (pos 1339200) }
+    ensures of_one { nearest_border (blocks_of_de405 2) (2 ∷ []) (pos 593600) (pos 1393600)
+        ≡ Some (pos 1339200) }
+    ensures of_both { nearest_border (blocks_of_de405 2) (2 ∷ 1 ∷ []) (pos 593600) (pos 1393600)
+        ≡ Some (pos 648000) }
+    ensures of_none { nearest_border (blocks_of_de405 2) [] (pos 593600) (pos 1393600) ≡ None }
 {}

@@ -1,6 +1,8 @@
 // Laws of granules and borders.
-ghost use Rattle.std.specs.Prelude.{◌≡◌, List, Option, ℕ, ℤ};
+ghost use Rattle.std.specs.Prelude.{◌≡◌, ◌↔◌, All, IsTrue, List, Option, ℕ, ℤ};
 ghost use Rattle.spec_ephemeris.specs.Granules.{HasTime, granule_at};
+ghost use Rattle.spec_ephemeris.specs.Header.{has_column};
+ghost use Rattle.spec_ephemeris.specs.Borders.{nearest_border};
 ghost use Rattle.spec_ephemeris.specs.Ephemeris.{Ephemeris, Granule, IsEphemeris, IsGranuleAt, IsNearestBorder};
 
 /// A time of the ephemeris has one granule of a column.
@@ -21,4 +23,11 @@ pub fn granule_of_a_time()
 pub fn one_border_is_nearest()
     ensures { (e : Ephemeris) (columns : List ℕ) (a b : ℤ) (x y : Option ℤ)
         → IsNearestBorder e columns a b x → IsNearestBorder e columns a b y → x ≡ y }
+{}
+
+/// The border that the function gives is the nearest of columns that are there, and no other is.
+pub fn nearest_border_of_columns()
+    ensures { (e : Ephemeris) (columns : List ℕ) (a b : ℤ) (x : Option ℤ) → IsEphemeris e
+        → All (λ column. IsTrue (has_column e.header column)) columns
+        → IsNearestBorder e columns a b x ↔ (x ≡ nearest_border e columns a b) }
 {}

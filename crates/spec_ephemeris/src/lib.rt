@@ -15,12 +15,15 @@ mod limits;
 
 pub use body::Body;
 pub use examples::{
-    arguments, columns_that_are_present, headers, places_of_columns, positions_on_a_line,
-    positions_on_a_parabola, preferred_times, sizes_of_coefficients, velocities,
+    arguments, borders_of_de405, borders_of_two_blocks, columns_that_are_present, headers,
+    places_of_columns, positions_on_a_line, positions_on_a_parabola, preferred_times,
+    sizes_of_coefficients, velocities,
 };
 pub use granule::Granule;
 pub use header::{Column, Columns, Header};
-pub use laws::{a_time_has_one_granule, granule_of_a_time, one_border_is_nearest};
+pub use laws::{
+    a_time_has_one_granule, granule_of_a_time, nearest_border_of_columns, one_border_is_nearest,
+};
 pub use limits::{
     BODY_COLUMNS, COLUMNS, DAY, FEWEST_NUMBERS, FIRST_PLACE, FIRST_TIME, GREATEST_MASS_RATIO,
     LAST_TIME, LEAST_MASS_RATIO, LONGEST_BLOCK, MOST_BLOCKS, MOST_COEFFICIENTS, MOST_NUMBERS,

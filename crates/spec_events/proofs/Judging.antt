@@ -83,12 +83,12 @@ module _ (P G : ℤ → Type 0) (decide : (t : ℤ) → P t ⊎ IsNot P t) (c : 
   steady : is_steady n f ≡ true → IsSteady
   steady h = by (or_cases (is_monotone f) (not (is_wide n)) h)
     where
-      by_step : f.crosses ≡ false → (rises f ≡ true) ⊎ (falls f ≡ true) → IsSteady
+      by_step : f.crosses ≡ false → (rises f.step ≡ true) ⊎ (falls f.step ≡ true) → IsSteady
       by_step k (inl r) = inl (s.rising k r)
       by_step k (inr r) = inr (s.falling k r)
 
       by : (is_monotone f ≡ true) ⊎ (not (is_wide n) ≡ true) → IsSteady
-      by (inl m) = let x = and_parts (not f.crosses) (rises f || falls f) m in by_step (was_not f.crosses x.0) (or_cases (rises f) (falls f) x.1)
+      by (inl m) = let x = and_parts (not f.crosses) (rises f.step || falls f.step) m in by_step (was_not f.crosses x.0) (or_cases (rises f.step) (falls f.step) x.1)
       by (inr u) = unit_is_steady (was_not (is_wide n) u)
 
   -- no turn that is wanted, and so no event
@@ -135,10 +135,10 @@ module _ (P G : ℤ → Type 0) (decide : (t : ℤ) → P t ⊎ IsNot P t) (c : 
       by (inr e) (inl g) = fall_wanted e.0 (no_fall P n.a n.b g)
       by (inr e) (inr g) = absurd (lasts (IsNot P) n.a n.b g n.a n.b (omega (arith, lin)) ordered (omega (arith, lin)) (s.first.no e.1) (s.last.yes e.2))
 
-  clear_by_steps : f.crosses ≡ false → steps_against c.dir f ≡ true → IsClear
+  clear_by_steps : f.crosses ≡ false → steps_against c.dir f.step ≡ true → IsClear
   clear_by_steps k h = by c.dir refl h
     where
-      by : (dir : Dir) → c.dir ≡ dir → steps_against dir f ≡ true → IsClear
+      by : (dir : Dir) → c.dir ≡ dir → steps_against dir f.step ≡ true → IsClear
       by D.Any d h = absurd (false≢true h)
       by D.Rise d h = rise_wanted d (no_rise P decide n.a n.b (s.falling k h))
       by D.Fall d h = fall_wanted d (no_fall P n.a n.b (s.rising k h))
@@ -150,19 +150,19 @@ module _ (P G : ℤ → Type 0) (decide : (t : ℤ) → P t ⊎ IsNot P t) (c : 
   pub none_in_clear : is_clear c n f ≡ true → IsClear
   none_in_clear h = let x = and_parts (is_readable n f.crosses) _ h in over x.0 (or_cases (has_one_sign f) _ x.1)
     where
-      at_guard : is_readable n f.crosses ≡ true → ((not f.crosses && steps_against c.dir f) ≡ true) ⊎ (list_any is_refuted f.guards ≡ true) → IsClear
-      at_guard r (inl h) = let x = and_parts (not f.crosses) (steps_against c.dir f) h in clear_by_steps (was_not f.crosses x.0) x.1
+      at_guard : is_readable n f.crosses ≡ true → ((not f.crosses && steps_against c.dir f.step) ≡ true) ⊎ (list_any is_refuted f.guards ≡ true) → IsClear
+      at_guard r (inl h) = let x = and_parts (not f.crosses) (steps_against c.dir f.step) h in clear_by_steps (was_not f.crosses x.0) x.1
       at_guard r (inr h) = clear_by_guard r h
 
-      against : is_readable n f.crosses ≡ true → ((differ_against c.dir f.at_first f.at_last && is_steady n f) ≡ true) ⊎ (((not f.crosses && steps_against c.dir f) || list_any is_refuted f.guards) ≡ true) → IsClear
+      against : is_readable n f.crosses ≡ true → ((differ_against c.dir f.at_first f.at_last && is_steady n f) ≡ true) ⊎ (((not f.crosses && steps_against c.dir f.step) || list_any is_refuted f.guards) ≡ true) → IsClear
       against r (inl h) = let x = and_parts (differ_against c.dir f.at_first f.at_last) (is_steady n f) h in clear_against x.0 (steady x.1)
-      against r (inr h) = at_guard r (or_cases (not f.crosses && steps_against c.dir f) (list_any is_refuted f.guards) h)
+      against r (inr h) = at_guard r (or_cases (not f.crosses && steps_against c.dir f.step) (list_any is_refuted f.guards) h)
 
-      agreeing : is_readable n f.crosses ≡ true → ((agree f.at_first f.at_last && is_steady n f) ≡ true) ⊎ (((differ_against c.dir f.at_first f.at_last && is_steady n f) || ((not f.crosses && steps_against c.dir f) || list_any is_refuted f.guards)) ≡ true) → IsClear
+      agreeing : is_readable n f.crosses ≡ true → ((agree f.at_first f.at_last && is_steady n f) ≡ true) ⊎ (((differ_against c.dir f.at_first f.at_last && is_steady n f) || ((not f.crosses && steps_against c.dir f.step) || list_any is_refuted f.guards)) ≡ true) → IsClear
       agreeing r (inl h) = let x = and_parts (agree f.at_first f.at_last) (is_steady n f) h in clear_agreeing x.0 (steady x.1)
       agreeing r (inr h) = against r (or_cases (differ_against c.dir f.at_first f.at_last && is_steady n f) _ h)
 
-      over : is_readable n f.crosses ≡ true → (has_one_sign f ≡ true) ⊎ (((agree f.at_first f.at_last && is_steady n f) || ((differ_against c.dir f.at_first f.at_last && is_steady n f) || ((not f.crosses && steps_against c.dir f) || list_any is_refuted f.guards))) ≡ true) → IsClear
+      over : is_readable n f.crosses ≡ true → (has_one_sign f ≡ true) ⊎ (((agree f.at_first f.at_last && is_steady n f) || ((differ_against c.dir f.at_first f.at_last && is_steady n f) || ((not f.crosses && steps_against c.dir f.step) || list_any is_refuted f.guards))) ≡ true) → IsClear
       over r (inl h) = clear_over h
       over r (inr h) = agreeing r (or_cases (agree f.at_first f.at_last && is_steady n f) _ h)
 

@@ -2,4 +2,5 @@ pub mod Windowing
 mod Lasting
 pub mod Judging
 pub mod Evidence
-mod Limits
+pub mod Limits
+pub mod Stages

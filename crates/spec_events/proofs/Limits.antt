@@ -38,3 +38,17 @@ undecided_at_limit c n f h some e = by (is_clear c n f) (is_one c n f) (is_split
     by false true r k e = cc
     by false false true k e = cc
     by false false false k e = at_limit c n f h some k
+
+-- a node that is split is wide, and a border falls into it or it isn't as deep as the depth
+pub split_may_be_cut : (c : Criteria) (n : Node) (f : Findings) → verdict c n f ≡ Split → (is_wide n && (f.crosses || nat_lt n.depth c.depth)) ≡ true
+unfolding verdict
+split_may_be_cut c n f e = by (is_clear c n f) (is_one c n f) (is_split c n f) refl e
+  where
+    wider : (w x y z : Bool) → (w && (x || (y && z))) ≡ true → (w && (x || z)) ≡ true
+    wider w x y z e = grind arith
+
+    by : (p q r : Bool) → is_split c n f ≡ r → (if p then Clear else if q then One (turn_to f.at_last) else if r then Split else Undecided) ≡ Split → (is_wide n && (f.crosses || nat_lt n.depth c.depth)) ≡ true
+    by true q r k e = cc
+    by false true r k e = cc
+    by false false true k e = wider (is_wide n) f.crosses (nat_lt c.width (width n)) (nat_lt n.depth c.depth) k
+    by false false false k e = cc

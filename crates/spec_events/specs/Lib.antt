@@ -4,3 +4,4 @@ pub mod Marks
 pub mod Verdict
 pub mod Soundness
 pub mod VerdictExamples
+pub mod Stages

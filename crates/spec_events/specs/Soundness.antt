@@ -29,8 +29,8 @@ pub record AreSound (P G : ℤ → Type 0) (n : Node) (f : Findings) : Type 0 wh
   pub first : Tells f.at_first (P n.a)
   pub last : Tells f.at_last (P n.b)
   pub over : f.crosses ≡ false → (t : ℤ) → n.a ≤ℤ t → t ≤ℤ n.b → Tells f.over (P t)
-  pub rising : f.crosses ≡ false → rises f ≡ true → Lasts P n.a n.b
-  pub falling : f.crosses ≡ false → falls f ≡ true → Lasts (IsNot P) n.a n.b
+  pub rising : f.crosses ≡ false → rises f.step ≡ true → Lasts P n.a n.b
+  pub falling : f.crosses ≡ false → falls f.step ≡ true → Lasts (IsNot P) n.a n.b
   pub certified : is_readable n f.crosses ≡ true → list_all is_certified f.guards ≡ true → (t : ℤ) → n.a <ℤ t → t ≤ℤ n.b → G t
   pub refuted : is_readable n f.crosses ≡ true → list_any is_refuted f.guards ≡ true → (t : ℤ) → n.a <ℤ t → t ≤ℤ n.b → G t → ⊥
 

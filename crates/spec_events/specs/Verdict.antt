@@ -79,17 +79,21 @@ is_certified g = certifies g.at_least g.sign
 abbrev pub is_refuted : GuardFinding → Bool
 is_refuted g = certifies (not g.at_least) g.sign
 
--- ---- steps
+-- ---- steps, by what holds them
 -- the function rises, or stays, from each time to the next
-abbrev pub rises : Findings → Bool
-rises f = le_z (pos 0) f.step.lo
+abbrev pub rises : Interval → Bool
+rises step = le_z (pos 0) step.lo
 
 -- it falls, or stays
-abbrev pub falls : Findings → Bool
-falls f = le_z f.step.hi (pos 0)
+abbrev pub falls : Interval → Bool
+falls step = le_z step.hi (pos 0)
+
+-- it doesn't do both
+abbrev pub is_one_way : Interval → Bool
+is_one_way step = rises step || falls step
 
 abbrev pub is_monotone : Findings → Bool
-is_monotone f = not f.crosses && (rises f || falls f)
+is_monotone f = not f.crosses && is_one_way f.step
 
 -- so that both ends tell the turns between them
 abbrev pub is_steady : Node → Findings → Bool
@@ -105,10 +109,10 @@ abbrev pub has_one_sign : Findings → Bool
 has_one_sign f = not f.crosses && is_known f.over
 
 -- its steps lead against the direction that is wanted
-abbrev pub steps_against : Dir → Findings → Bool
-steps_against D.Any f = false
-steps_against D.Rise f = falls f
-steps_against D.Fall f = rises f
+abbrev pub steps_against : Dir → Interval → Bool
+steps_against D.Any step = false
+steps_against D.Rise step = falls step
+steps_against D.Fall step = rises step
 
 abbrev pub is_clear : Criteria → Node → Findings → Bool
 is_clear c n f =
@@ -116,7 +120,7 @@ is_clear c n f =
     && (has_one_sign f
     || ((agree f.at_first f.at_last && is_steady n f)
     || ((differ_against c.dir f.at_first f.at_last && is_steady n f)
-    || ((not f.crosses && steps_against c.dir f)
+    || ((not f.crosses && steps_against c.dir f.step)
     || list_any is_refuted f.guards))))
 
 abbrev pub is_one : Criteria → Node → Findings → Bool

@@ -7,6 +7,7 @@ ghost use Rattle.spec_events.specs.Events.{Always, AreWindows, Happens, HasNoEve
 ghost use Rattle.spec_events.specs.Functions.{EventsOf, Guard, GuardsHold, IsNotNegative};
 ghost use Rattle.spec_events.specs.Marks.{AreRightlyMarked};
 ghost use Rattle.spec_events.specs.Soundness.{AreSound, Evidence, IsEvidence, findings_of, guards_of};
+ghost use Rattle.spec_events.specs.Stages.{staged_verdict};
 ghost use Rattle.spec_events.specs.Verdict.{Criteria, Findings, verdict};
 ghost use Rattle.spec_trees.specs.declared.tree.Leaf.{Leaf};
 ghost use Rattle.spec_trees.specs.declared.tree.Node.{Node};
@@ -76,4 +77,10 @@ pub fn wide_nodes_at_a_border_are_split()
 pub fn undecided_nodes_are_at_a_limit()
     ensures limit { (c : Criteria) (n : Node) (f : Findings) → n.a <ℤ n.b → 0 < c.width
         → verdict c n f ≡ Undecided → (width n ≤ c.width) ⊎ (c.depth ≤ n.depth) }
+{}
+
+/// The verdict in the order in which a node is looked at is the verdict: what isn't looked at doesn't change it.
+pub fn verdicts_in_stages()
+    ensures same { (c : Criteria) (n : Node) (f : Findings) → n.a <ℤ n.b → 0 < c.width
+        → verdict c n f ≡ staged_verdict c n f }
 {}

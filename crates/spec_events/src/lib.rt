@@ -13,8 +13,8 @@ pub use dir::Dir;
 pub use examples::{guarded_turns, turns};
 pub use laws::{
     a_clear_node_holds_no_event, a_node_with_one_holds_one, enclosures_give_findings,
-    turns_are_wanted, undecided_nodes_are_at_a_limit, wide_nodes_at_a_border_are_split,
-    windows_of_a_covered_span,
+    turns_are_wanted, undecided_nodes_are_at_a_limit, verdicts_in_stages,
+    wide_nodes_at_a_border_are_split, windows_of_a_covered_span,
 };
 pub use verdict_examples::{
     events_of_a_line, verdicts_at_a_border, verdicts_by_criteria_and_guards, verdicts_of_a_line,

@@ -1,4 +1,3 @@
 pub mod Induction
 pub mod Reach
 pub mod Clock
-pub mod Building

@@ -4,7 +4,7 @@ use Rattle.spec_text.specs.declared.decimals.Decimal.{Decimal}
 use Rattle.spec_intervals.specs.Interval.{narrow}
 use Rattle.spec_intervals.specs.Fraction.{Fraction, fraction}
 use Rattle.spec_intervals.specs.Enclosure.{Enclosure, middle}
-use Rattle.spec_expressions.specs.Expression.{Leaf}
+use Rattle.spec_expressions.specs.Term.{Leaf}
 
 abbrev pub clock : Leaf → ℤ → Fraction
 clock leaf t = fraction t 1

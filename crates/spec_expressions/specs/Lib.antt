@@ -1,3 +1,4 @@
-pub mod Expression
+pub mod Term
+pub mod Code
+pub mod Vectors
 pub mod Examples
-pub mod Built

@@ -1,6 +1,6 @@
 use Rattle.std.proofs.Common.{◌∙◌, ap, sym, subst}
 use Rattle.spec_intervals.specs.Enclosure.{Encloses, AllWithin, constant_of, product_of}
-use Rattle.spec_expressions.specs.Expression.{part_exponent}
+use Rattle.spec_expressions.specs.Term.{part_exponent}
 use Rattle.body_states.proofs.Good.{good_encloses, good_within, factor_number, factor_within, constant_within, constant_encloses}
 use Rattle.body_states.proofs.states.BodyStates.scaled.Goals as goal
 

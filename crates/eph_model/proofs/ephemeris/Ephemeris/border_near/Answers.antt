@@ -1,7 +1,9 @@
-use Rattle.std.proofs.Common.{arith, ◌≡◌, take, to_z, of_z, w64}
+use Rattle.std.proofs.Common.{arith, ◌≡◌, ℕ, List, take, to_z, of_z, w64}
 use Rattle.std.proofs.lemmas.Int.{ints, to_z-of_z}
 use Rattle.std.proofs.lemmas.List.{take_all}
-use Rattle.spec_ephemeris.specs.Ephemeris.{IsBorderIn}
+use Rattle.spec_ephemeris.specs.Ephemeris.{Ephemeris, IsBorderIn}
+use Rattle.spec_ephemeris.proofs.Granules.{nearest_once}
+use Rattle.spec_ephemeris.proofs.NearestBorders.{nearest_of_all}
 use Rattle.eph_model.specs.Grids.{IsGridBorder}
 use Rattle.eph_model.proofs.ColumnBorders.{none_yet, one_more, short}
 use Rattle.eph_model.proofs.GridLemmas.{ends}
@@ -39,7 +41,10 @@ border_near-own-requires-clause-upto c =
 
 pub returns : goal.returns
 returns c =
+    let e : Ephemeris = c.args.self.now in
+    let columns : List ℕ = c.args.columns.now in
     let same_a : to_z w64 (of_z w64 c.args.a) ≡ c.args.a = to_z-of_z w64 c.args.a c.ranges.a in
     let same_b : to_z w64 (of_z w64 c.args.b) ≡ c.args.b = to_z-of_z w64 c.args.b c.ranges.b in
-    let all : take c.loop-column.column-index c.args.columns.now ≡ c.args.columns.now = take_all c.loop-column.column-index c.args.columns.now c.loop-column-test.false in
-    rw (same_a, same_b, all) at c.loop-column.invariant
+    let all : take c.loop-column.column-index columns ≡ columns = take_all c.loop-column.column-index columns c.loop-column-test.false in
+    nearest_once (IsBorderIn e columns c.args.a c.args.b) c.args.a c.args.b _ _
+    (rw (same_a, same_b, all) at c.loop-column.invariant) (nearest_of_all e columns c.args.a c.args.b c.header-header.ensures.checked c.requires.present)

@@ -2,7 +2,7 @@ use Rattle.std.proofs.Common.{◌≡◌, ◌+◌, to_z, of_z, w64}
 use Rattle.std.proofs.lemmas.Int.{to_z-of_z}
 use Rattle.eph_model.specs.Grids.{IsBorderAt, IsGridBorder}
 use Rattle.eph_model.proofs.BorderLemmas.{covered}
-use Rattle.eph_model.proofs.Nearer.{nearest_of_two}
+use Rattle.spec_ephemeris.proofs.Nearer.{nearest_of_two}
 use Rattle.eph_model.proofs.grid.Grid.border_near.Goals as goal
 
 pub returns : goal.returns

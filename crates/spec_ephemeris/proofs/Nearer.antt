@@ -3,7 +3,7 @@ use Rattle.std.proofs.Common.{◌≡◌, ◌⊎◌, ℕ, ◌<◌, ◌≤◌, nat
 use Rattle.std.proofs.lemmas.Int.{ints}
 use Rattle.std.proofs.lemmas.Bool.{cases_lt}
 use Rattle.spec_ephemeris.specs.Ephemeris.{off_middle, IsPreferred, IsNearest}
-use Rattle.eph_model.specs.Preferred.{is_preferred, preferred}
+use Rattle.spec_ephemeris.specs.Borders.{is_preferred, preferred}
 
 -- the order of two times at two distances
 abbrev IsBefore : ℕ → ℤ → ℕ → ℤ → Type 0

@@ -1,0 +1,4 @@
+pub mod Borders
+pub mod Parts
+pub mod Evidence
+pub mod Finding

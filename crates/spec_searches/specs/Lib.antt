@@ -1,0 +1,3 @@
+pub mod Event
+pub mod Search
+pub mod Found

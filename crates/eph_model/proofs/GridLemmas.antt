@@ -1,8 +1,13 @@
 -- The granules of a grid are those of its column.
-use Rattle.std.proofs.Common.{◌≡◌, ◌⊎◌, ℕ, ◌+◌, ◌*◌, ◌/◌, ◌%◌, ◌<◌, ◌≤◌, ℤ, pos, ◌+ℤ◌, ◌<ℤ◌, ◌≤ℤ◌, ◌^◌, unsigned_abs, to_z, w64, refl, ap, sym, ◌∙◌, arith, inl, inr}
-use Rattle.std.proofs.lemmas.Nat.{div_below, mod_below, div-add-mod', mul-le}
+use Rattle.std.proofs.Common.{◌≡◌, ℕ, ◌-◌, ◌*◌, ◌/◌, ◌%◌, ◌<◌, ◌≤◌, min, ℤ, pos, ◌+ℤ◌, ◌-ℤ◌, ◌^◌, unsigned_abs, to_z, w64, refl, ap, sym, ◌∙◌, arith}
+use Rattle.std.proofs.lemmas.Nat.{mul-le}
+use Rattle.std.proofs.Math.Nat.{mul-div_cancel}
 use Rattle.std.proofs.lemmas.Int.{ints}
-use Rattle.spec_ephemeris.specs.Ephemeris.{Ephemeris, Granule, IsGranule, IsGranuleAt, granule_end, granule_numbers, block_numbers, end_of}
+use Rattle.spec_ephemeris.specs.declared.header.Column.{Column}
+use Rattle.spec_ephemeris.specs.Series.{to_nat}
+use Rattle.spec_ephemeris.specs.Ephemeris.{Ephemeris, Granule, granule_numbers, block_numbers, end_of}
+use Rattle.spec_ephemeris.specs.Granules.{column_or_none, column_of, granule_length, granule_index, granule_of_index, granule_at}
+use Rattle.spec_ephemeris.specs.Borders.{granule_start}
 use Rattle.spec_ephemeris.proofs.Granules.{granules_end}
 use Rattle.eph_model.specs.declared.grid.Grid.{Grid}
 use Rattle.eph_model.specs.Grids.{IsGridOf}
@@ -11,48 +16,42 @@ use Rattle.eph_model.specs.Grids.{IsGridOf}
 pub ends : (e : Ephemeris) (number : ℕ) (g : Grid) → IsGridOf e number g → end_of e ≡ g.start +ℤ pos (g.count * g.seconds)
 ends e number g is = rw (is.start, is.count) (granules_end e g.seconds g.column.granules is.shares)
 
--- one granule more is one length more
-step : (start : ℤ) (index seconds : ℕ) → start +ℤ pos ((index + 1) * seconds) ≡ (start +ℤ pos (index * seconds)) +ℤ pos seconds
-step start index seconds = let more : (index + 1) * seconds ≡ index * seconds + seconds = omega arith in omega (arith, ints, more)
+-- the column of the grid, and the length of its granules, are those of the number
+pub column_is : (e : Ephemeris) (number : ℕ) (g : Grid) → IsGridOf e number g → g.column ≡ column_of e number
+column_is e number g is = sym (ap column_or_none is.column.listed)
 
--- the granule at an index: its block and its place in the block are quotient and remainder
-pub at_index : (e : Ephemeris) (number : ℕ) (g : Grid) (index : ℕ) (r : Granule) → IsGridOf e number g
-    → 0 < g.column.granules → index < g.count
-    → r.start ≡ g.start +ℤ pos (index * g.seconds) → r.duration ≡ g.seconds
-    → r.coefs ≡ granule_numbers number g.column (index % g.column.granules) (block_numbers e (index / g.column.granules))
-    → IsGranule e number r
-at_index e number g index r is some below start duration coefs = record {
-  column = g.column;
-  is = is.column;
-  block = index / g.column.granules;
-  of_ephemeris = div_below index g.column.granules e.blocks some (omega (arith, below, is.count));
-  inner = index % g.column.granules;
-  of_block = mod_below index g.column.granules some;
-  shares = rw duration is.shares;
-  start = rw (duration, div-add-mod' index g.column.granules, ← is.start) start;
-  coefs = coefs;
-}
+pub length_is : (e : Ephemeris) (number : ℕ) (g : Grid) → IsGridOf e number g → g.seconds ≡ granule_length e g.column
+length_is e number g is =
+    let quotient : g.seconds * g.column.granules / g.column.granules ≡ g.seconds = mul-div_cancel g.seconds g.shared in
+    rw is.shares (sym quotient)
 
-upto_end : (e : Ephemeris) (number : ℕ) (t : ℤ) (g : Grid) (index : ℕ) (r : Granule) → IsGridOf e number g
-    → (t <ℤ (g.start +ℤ pos ((index + 1) * g.seconds))) ⊎ ((t ≡ g.start +ℤ pos ((index + 1) * g.seconds)) × (index + 1 ≡ g.count))
-    → r.start ≡ g.start +ℤ pos (index * g.seconds) → r.duration ≡ g.seconds
-    → (t <ℤ granule_end r) ⊎ ((t ≡ granule_end r) × (t ≡ end_of e))
-upto_end e number t g index r is (inl before) start duration = inl (rw (start, duration, ← step g.start index g.seconds) before)
-upto_end e number t g index r is (inr last) start duration =
-    inr (rw (start, duration) (last.0 ∙ step g.start index g.seconds), last.0 ∙ (ap (λ n. g.start +ℤ pos (n * g.seconds)) last.1 ∙ sym (ends e number g is)))
+pub starts_at : (e : Ephemeris) (number : ℕ) (g : Grid) (index : ℕ) → IsGridOf e number g → g.start +ℤ pos (index * g.seconds) ≡ granule_start e (column_of e number) index
+starts_at e number g index is =
+    (λ i. is.start i +ℤ pos (index * length_is e number g is i)) ∙ (λ i. granule_start e (column_is e number g is i) index)
+
+pub count_is : (e : Ephemeris) (number : ℕ) (g : Grid) → IsGridOf e number g → g.count ≡ e.blocks * (column_of e number).granules
+count_is e number g is = is.count ∙ (λ i. e.blocks * (column_is e number g is i).granules)
+
+-- the granule of an index, as the code reads it
+of_column : (e : Ephemeris) (number : ℕ) (index : ℕ) (c : Column) (r : Granule)
+    → r.start ≡ e.start +ℤ pos (index * granule_length e c) → r.duration ≡ granule_length e c
+    → r.coefs ≡ granule_numbers number c (index % c.granules) (block_numbers e (index / c.granules))
+    → r ≡ granule_of_index e number c index
+of_column e number index c r start duration coefs = λ i. record { start = start i; duration = duration i; coefs = coefs i }
 
 -- the granule of a time, as the code finds it
 pub found : (e : Ephemeris) (number : ℕ) (t : ℤ) (g : Grid) (index : ℕ) (r : Granule) → IsGridOf e number g
-    → 0 < g.column.granules → index < g.count → (g.start +ℤ pos (index * g.seconds)) ≤ℤ t
-    → (t <ℤ (g.start +ℤ pos ((index + 1) * g.seconds))) ⊎ ((t ≡ g.start +ℤ pos ((index + 1) * g.seconds)) × (index + 1 ≡ g.count))
+    → index ≡ min (to_nat (t -ℤ g.start) / g.seconds) (g.count - 1)
     → r.start ≡ g.start +ℤ pos (index * g.seconds) → r.duration ≡ g.seconds
     → r.coefs ≡ granule_numbers number g.column (index % g.column.granules) (block_numbers e (index / g.column.granules))
-    → IsGranuleAt e number t r
-found e number t g index r is some below from upto start duration coefs = record {
-  granule = at_index e number g index r is some below start duration coefs;
-  from = rw start from;
-  upto = upto_end e number t g index r is upto start duration;
-}
+    → r ≡ granule_at e number t
+found e number t g index r is divided start duration coefs =
+    let length : g.seconds ≡ granule_length e g.column = length_is e number g is in
+    let starts : r.start ≡ e.start +ℤ pos (index * granule_length e g.column) = start ∙ (λ i. is.start i +ℤ pos (index * length i)) in
+    let at : index ≡ granule_index e g.column t = divided ∙ (λ i. min (to_nat (t -ℤ is.start i) / length i) (is.count i - 1)) in
+    let one : r ≡ granule_of_index e number g.column index = of_column e number index g.column r starts (duration ∙ length) coefs in
+    let column : g.column ≡ column_of e number = column_is e number g is in
+    one ∙ (ap (granule_of_index e number g.column) at ∙ (λ i. granule_of_index e number (column i) (granule_index e (column i) t)))
 
 -- a granule is no longer than all of them
 pub length_within : (count seconds : ℕ) → 0 < count → count * seconds ≤ 2 ^ 36 → seconds ≤ 2 ^ 36

@@ -2,8 +2,8 @@
 ghost use Rattle.std.specs.Prelude.{◌≡◌, ◌*◌, ◌^◌, ◌<◌, ◌≤◌, ◌≤ℤ◌, ◌<ℤ◌, pos, neg_ℤ, OnOk, OnErr, All, IfSome, IsTrue, length, unsigned_abs};
 ghost use Rattle.spec_ephemeris.specs.declared.limits.TheConstants.{BODY_COLUMNS, MOST_BLOCKS, MOST_COEFFICIENTS};
 ghost use Rattle.spec_ephemeris.specs.Header.{IsHeader, IsColumn, column_at, components, granule_size, has_column};
-ghost use Rattle.spec_ephemeris.specs.Ephemeris.{IsStart, IsBlock, IsBodyNumber, IsEphemeris, empty_ephemeris, with_block, end_of, IsGranuleAt, block_numbers, granule_numbers};
-ghost use Rattle.spec_ephemeris.specs.Granules.{granule_of};
+ghost use Rattle.spec_ephemeris.specs.Ephemeris.{IsStart, IsBlock, IsBodyNumber, IsEphemeris, empty_ephemeris, with_block, end_of, block_numbers, granule_numbers};
+ghost use Rattle.spec_ephemeris.specs.Granules.{granule_of, granule_at};
 ghost use Rattle.spec_ephemeris.specs.Borders.{nearest_border};
 ghost use Rattle.eph_model.specs.Starting.{starting_at};
 ghost use Rattle.eph_model.specs.Grids.{IsGridOf};
@@ -160,7 +160,7 @@ impl Ephemeris {
         requires block { 0 < self.now.blocks }
         requires from { self.now.start ≤ℤ t }
         requires upto { t ≤ℤ end_of self.now }
-        ensures granule { IsGranuleAt self.now column t (granule_of result) }
+        ensures granule { granule_of result ≡ granule_at self.now column t }
         ensures coefficients { IfSome (column_at self.now.header.columns column)
             (λ c. result.n ≡ c.coefs) }
         ensures components { result.comps ≡ components column }

@@ -1,5 +1,6 @@
 // The granule of a time: which it is, how long it is, and where its numbers stand.
-ghost use Rattle.std.specs.Prelude.{◌≡◌, ◌⊎◌, ◌+◌, ◌*◌, ◌<◌, ◌≤◌, IsTrue, Some, length, take, drop, pos, ◌+ℤ◌, ◌<ℤ◌, ◌≤ℤ◌};
+ghost use Rattle.std.specs.Prelude.{◌≡◌, ◌+◌, ◌-◌, ◌*◌, ◌/◌, ◌<◌, ◌≤◌, min, IsTrue, Some, length, take, drop, pos, ◌+ℤ◌, ◌-ℤ◌, ◌<ℤ◌, ◌≤ℤ◌};
+ghost use Rattle.spec_ephemeris.specs.Series.{to_nat};
 ghost use Rattle.spec_ephemeris.specs.Header.{IsShared, column_at, is_present, is_present_at};
 
 use crate::grid::Grid;
@@ -69,9 +70,7 @@ impl Grid {
         requires from { self.start ≤ℤ t }
         requires upto { t ≤ℤ (self.start +ℤ pos (self.count * self.seconds)) }
         ensures in_range { result < self.count }
-        ensures from { (self.start +ℤ pos (result * self.seconds)) ≤ℤ t }
-        ensures upto { (t <ℤ (self.start +ℤ pos ((result + 1) * self.seconds)))
-            ⊎ ((t ≡ self.start +ℤ pos ((result + 1) * self.seconds)) × (result + 1 ≡ self.count)) }
+        ensures index { result ≡ min (to_nat (t -ℤ self.start) / self.seconds) (self.count - 1) }
     {
         index_at((t - self.start) as u64, self.seconds, self.count)
     }
@@ -81,11 +80,7 @@ impl Grid {
 fn index_at(offset: u64, seconds: u64, count: u64) -> u64
     requires length { 0 < seconds }
     requires some { 0 < count }
-    requires within { offset ≤ count * seconds }
-    ensures in_range { result < count }
-    ensures from { result * seconds ≤ offset }
-    ensures upto { (offset < (result + 1) * seconds)
-        ⊎ ((offset ≡ (result + 1) * seconds) × (result + 1 ≡ count)) }
+    ensures { result ≡ min (offset / seconds) (count - 1) }
 {
     (offset / seconds).min(count - 1)
 }

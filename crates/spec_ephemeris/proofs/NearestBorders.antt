@@ -40,13 +40,13 @@ one_time a b t = time_if a b t (int_lt a t && int_le t b) refl
 
 -- ---- the first borders of a column
 -- s is the start of one of the granules from the second on, so many, and lies in (a, b]
-record IsAmong (e : Ephemeris) (c : Column) (a b : ℤ) (count : ℕ) (s : ℤ) : Type 0 where
-  index : ℕ
-  later : 0 < index
-  within : index ≤ count
-  is : s ≡ granule_start e c index
-  after : a <ℤ s
-  upto : s ≤ℤ b
+pub record IsAmong (e : Ephemeris) (c : Column) (a b : ℤ) (count : ℕ) (s : ℤ) : Type 0 where
+  pub index : ℕ
+  pub later : 0 < index
+  pub within : index ≤ count
+  pub is : s ≡ granule_start e c index
+  pub after : a <ℤ s
+  pub upto : s ≤ℤ b
 
 last_or_before : (e : Ephemeris) (c : Column) (a b : ℤ) (count : ℕ) (s : ℤ) → IsAmong e c a b (suc count) s
     → (IsAmong e c a b count s) ⊎ (IsTimeIn a b (granule_start e c (suc count)) s)
@@ -70,18 +70,18 @@ nearest_among e c a b (suc count) =
 
 -- ---- the borders of a column
 -- s is a border of the column in (a, b]
-record IsColumnBorder (e : Ephemeris) (number : ℕ) (a b s : ℤ) : Type 0 where
-  border : IsBorder e number s
-  after : a <ℤ s
-  upto : s ≤ℤ b
+pub record IsColumnBorder (e : Ephemeris) (number : ℕ) (a b s : ℤ) : Type 0 where
+  pub border : IsBorder e number s
+  pub after : a <ℤ s
+  pub upto : s ≤ℤ b
 
 -- where all that holds of one holds of the other, they have one nearest
-nearest_as : (P Q : ℤ → Type 0) (a b : ℤ) (o : Option ℤ) → ((s : ℤ) → P s → Q s) → ((s : ℤ) → Q s → P s) → IsNearest P a b o → IsNearest Q a b o
+pub nearest_as : (P Q : ℤ → Type 0) (a b : ℤ) (o : Option ℤ) → ((s : ℤ) → P s → Q s) → ((s : ℤ) → Q s → P s) → IsNearest P a b o → IsNearest Q a b o
 nearest_as P Q a b None there back nearest = λ s is. nearest s (back s is)
 nearest_as P Q a b (Some t) there back nearest = (there t nearest.0, λ s is. nearest.1 s (back s is))
 
 module _ (e : Ephemeris) (number : ℕ) (checked : IsEphemeris e) (there : IsTrue (has_column e.header number)) where
-  border_of : (a b s : ℤ) → IsAmong e (column_of e number) a b (border_count e (column_of e number)) s → IsColumnBorder e number a b s
+  pub border_of : (a b s : ℤ) → IsAmong e (column_of e number) a b (border_count e (column_of e number)) s → IsColumnBorder e number a b s
   border_of a b s is =
       let l : ℕ = granule_length e (column_of e number) in
       let past : 1 * 1 ≤ is.index * l = mul-le 1 1 is.index l is.later (some_length e number checked there) in
@@ -115,7 +115,7 @@ module _ (e : Ephemeris) (number : ℕ) (checked : IsEphemeris e) (there : IsTru
     | inr none ↦ (let nothing : index * l ≤ 0 * l = mul-le index l 0 l none (omega arith) in absurd (omega (arith, ints, nothing, is, later)))
   ]
 
-  among : (a b s : ℤ) → IsColumnBorder e number a b s → IsAmong e (column_of e number) a b (border_count e (column_of e number)) s
+  pub among : (a b s : ℤ) → IsColumnBorder e number a b s → IsAmong e (column_of e number) a b (border_count e (column_of e number)) s
   among a b s is =
       let c : Column = column_of e number in
       let granule : IsGranule e number is.border.granule = is.border.is in

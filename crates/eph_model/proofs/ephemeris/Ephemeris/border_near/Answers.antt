@@ -5,7 +5,7 @@ use Rattle.spec_ephemeris.specs.Ephemeris.{Ephemeris, IsBorderIn}
 use Rattle.spec_ephemeris.proofs.Granules.{nearest_once}
 use Rattle.spec_ephemeris.proofs.NearestBorders.{nearest_of_all}
 use Rattle.eph_model.specs.Grids.{IsGridBorder}
-use Rattle.eph_model.proofs.ColumnBorders.{none_yet, one_more, short}
+use Rattle.eph_model.proofs.ColumnBorders.{nearest_of_grid, none_yet, one_more, short}
 use Rattle.eph_model.proofs.GridLemmas.{ends}
 use Rattle.eph_model.proofs.ephemeris.Ephemeris.border_near.Goals as goal
 
@@ -30,9 +30,11 @@ preferred-nearest-requires-clause-second c =
 
 pub loop-column-preserved : goal.loop-column-preserved
 loop-column-preserved c =
+    let own = nearest_of_grid c.args.self.now _ c.grid.result c.header-header.ensures.checked (c.requires.present c.loop-column.column-index 0 c.loop-column-test.true) c.grid.ensures.grid
+    _ _ c.border_near-own.result c.border_near-own.ensures in
     rw c.preferred-nearest.ensures
-    (one_more c.args.self.now c.args.columns.now c.loop-column.column-index c.grid.result _ _ c.loop-column.nearest c.border_near-own.result
-    c.loop-column-test.true c.grid.ensures.grid c.loop-column.invariant c.border_near-own.ensures)
+    (one_more c.args.self.now c.args.columns.now c.loop-column.column-index _ _ c.loop-column.nearest c.border_near-own.result
+    c.loop-column-test.true c.loop-column.invariant own)
 
 pub border_near-own-requires-clause-upto : goal.border_near-own-requires-clause-upto
 border_near-own-requires-clause-upto c =

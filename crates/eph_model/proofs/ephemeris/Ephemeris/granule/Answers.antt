@@ -12,14 +12,13 @@ index_at-index-requires-clause-upto c =
 pub returns-clause-granule : goal.returns-clause-granule
 returns-clause-granule c =
     let grid = c.grid-grid.result in
-    let some : 0 < grid.column.granules = search rules in
     let fits : FitsSigned w64 c.time_of.result = search rules in
     let start : to_z w64 (of_z w64 c.time_of.result) ≡ grid.start +ℤ pos (c.index_at-index.result * grid.seconds) = to_z-of_z w64 c.time_of.result fits ∙ c.time_of.ensures in
     let few : 0 < grid.count = omega (arith, c.index_at-index.ensures.in_range) in
     let duration : unsigned_abs (to_z w64 grid.seconds) ≡ grid.seconds = length_passed grid.seconds (length_within grid.count grid.seconds few grid.within) in
     let same : to_z w64 (of_z w64 c.args.t) ≡ c.args.t = to_z-of_z w64 c.args.t c.ranges.t in
     found c.args.self.now c.args.column c.args.t grid c.index_at-index.result _ c.grid-grid.ensures.grid
-    some c.index_at-index.ensures.in_range (rw same at c.index_at-index.ensures.from) (rw same at c.index_at-index.ensures.upto) start duration (rw c.from-granules.ensures at c.granule_numbers.ensures.numbers)
+    (rw same at c.index_at-index.ensures.index) start duration (rw c.from-granules.ensures at c.granule_numbers.ensures.numbers)
 
 pub returns-clause-duration : goal.returns-clause-duration
 returns-clause-duration c =

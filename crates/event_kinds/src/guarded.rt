@@ -1,0 +1,96 @@
+// Events and their guards, as formulas.
+ghost use Rattle.std.specs.Prelude.{◌≡◌};
+ghost use Rattle.spec_searches.specs.Event.{AreFormulas};
+
+use event_expr::Formula;
+use spec_events::Dir;
+use std::marker::Model;
+
+/// What has to hold at an event: that a formula is at least 0, or that it is below 0.
+#[derive(Drop)]
+pub struct Guard {
+    pub(crate) g: Formula,
+    pub(crate) at_least: bool,
+}
+
+impl Model for Guard {
+    ghost use Rattle.spec_searches.specs.Event.{Condition};
+    ghost use Rattle.event_kinds.specs.Codes.{condition_code};
+
+    ghost Value = { Condition };
+
+    ghost coded = { condition_code };
+
+    ghost view = { λ guard. record { term = guard.g; at_least = guard.at_least } };
+}
+
+impl Guard {
+    /// The formula.
+    pub fn formula(&self) -> &Formula
+        ensures { result.now ≡ self.now.term }
+    {
+        &self.g
+    }
+
+    /// Whether the formula has to be at least 0, or else below 0.
+    pub fn at_least(&self) -> bool
+        ensures { result ≡ self.now.at_least }
+    {
+        self.at_least
+    }
+}
+
+/// An event: the times at which a function passes 0 in a wanted direction while its guards hold.
+#[derive(Drop)]
+pub struct Event {
+    pub(crate) f: Formula,
+    pub(crate) guards: Vec<Guard>,
+    pub(crate) dir: Dir,
+}
+
+impl Model for Event {
+    ghost use Rattle.std.specs.Coded.{codes};
+    ghost use Rattle.spec_searches.specs.Event.{Event, AreFormulas};
+    ghost use Rattle.spec_expressions.specs.Code.{term_code};
+    ghost use Rattle.event_kinds.specs.Codes.{condition_code};
+
+    ghost Value = { Event };
+
+    ghost coded = { Prim.hlevel (codes, term_code, condition_code) };
+
+    ghost view = { λ event. record {
+      function = event.f;
+      conditions = event.guards.items;
+      dir = event.dir;
+    } };
+
+    ghost invariant = { λ event. AreFormulas (record {
+      function = event.f;
+      conditions = event.guards.items;
+      dir = event.dir;
+    }) };
+}
+
+impl Event {
+    /// The function.
+    pub fn function(&self) -> &Formula
+        ensures function { result.now ≡ self.now.function }
+        ensures formulas { AreFormulas self.now }
+    {
+        &self.f
+    }
+
+    /// The guards, all of which have to hold.
+    pub fn guards(&self) -> &[Guard]
+        ensures { result.now ≡ self.now.conditions }
+    {
+        self.guards.as_slice()
+    }
+
+    /// Which passes of 0 are wanted.
+    pub fn dir(&self) -> Dir
+        ensures { result ≡ self.now.dir }
+    {
+        self.dir
+    }
+}

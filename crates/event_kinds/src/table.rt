@@ -1,0 +1,129 @@
+// The table of kinds.
+ghost use Rattle.std.specs.Prelude.{◌≡◌, ◌<◌, [], ◌∷◌, IfOk, IfErr, OnOk, IsTrue, None};
+ghost use Rattle.spec_expressions.specs.Term.{term, IsFormula};
+ghost use Rattle.spec_kinds.specs.Asks.{IsAsk};
+ghost use Rattle.spec_kinds.specs.Faults.{is_radius, are_in_range, fault_of};
+ghost use Rattle.spec_kinds.specs.Kinds.{event_of};
+ghost use Rattle.spec_kinds.specs.Shadows.{shadow_function, shadow_conditions};
+ghost use Rattle.spec_kinds.specs.Vectors.{target, second, plane_dot, plane_cross};
+ghost use Rattle.event_kinds.specs.Faults.{event_fault_of};
+
+use crate::guarded::{Event, Guard};
+use crate::faults::{KindFault, fault};
+use crate::rows::{
+    apsis_function, coordinate_function, radius_function, separation_change, separation_function,
+};
+use crate::vectors::{SECOND, TARGET, TARGET_VELOCITY, plane_cross, plane_dot};
+use eph_model::Ephemeris;
+use event_expr::Expr;
+use occult_spheres::{formula, occult};
+use spec_events::Dir;
+use spec_kinds::{Ask, Kind, Shadow};
+use std::alloc::{AllocError, Global};
+
+/// The event of an ask over an ephemeris, as formulas over the positions, in km, and the velocities, in km a second, of
+/// the target (number 0) and of the second body (number 1), seen from the observer in the frame. What `Coord`, `Radius`
+/// and `Apsis`, `Sep` and `SepExt`, and `Any`, `Full` and `Annular` mean is SPICE's, by `gfposc`, `gfdist`, `gfsep` and
+/// `gfoclt`. An error is the first fault of the ask, or says that memory ran out, where it has none.
+pub fn event(alloc: Global, eph: &Ephemeris, ask: &Ask) -> Result<Event, KindFault>
+    requires { IsAsk ask.now }
+    ensures made { IfOk result (λ event. event ≡ event_of ask.now) }
+    ensures accepted { OnOk result (fault_of eph.now ask.now ≡ None) }
+    ensures refused { IfErr result (λ error. event_fault_of error ≡ fault_of eph.now ask.now) }
+{
+    match fault(eph, *ask) {
+        Some(fault) => Err(KindFault::of(fault)),
+        None => match row(alloc, *ask) {
+            Ok(event) => Ok(event),
+            Err(_) => Err(KindFault::Memory),
+        },
+    }
+}
+
+// The row of the ask's kind, or an error where memory runs out.
+fn row(alloc: Global, ask: Ask) -> Result<Event, AllocError>
+    requires axis { ask.axis < 3 }
+    requires in_range { IsTrue (are_in_range ask.kind ask.value1 ask.value2) }
+    ensures { IfOk result (λ event. event ≡ event_of ask) }
+{
+    match ask.kind {
+        Kind::Coord => {
+            let f = coordinate_function(alloc, ask.axis, ask.value1)?;
+            Ok(unguarded(alloc, f, ask.dir))
+        }
+        Kind::Radius => {
+            let f = radius_function(alloc, ask.value1)?;
+            Ok(unguarded(alloc, f, ask.dir))
+        }
+        Kind::Apsis => {
+            let f = apsis_function(alloc)?;
+            Ok(unguarded(alloc, f, ask.dir))
+        }
+        Kind::Conj => aligned(alloc, true, ask.dir),
+        Kind::Oppo => aligned(alloc, false, ask.dir),
+        Kind::Station => {
+            let f = plane_cross(alloc, TARGET, TARGET_VELOCITY)?;
+            Ok(unguarded(alloc, f, ask.dir))
+        }
+        Kind::Sep => {
+            let f = separation_function(alloc, ask.value1)?;
+            Ok(unguarded(alloc, f, ask.dir))
+        }
+        Kind::SepExt => {
+            let f = separation_change(alloc)?;
+            Ok(unguarded(alloc, f, ask.dir))
+        }
+        Kind::Any => occultation(alloc, Shadow::Any, ask),
+        Kind::Full => occultation(alloc, Shadow::Full, ask),
+        Kind::Annular => occultation(alloc, Shadow::Annular, ask),
+    }
+}
+
+// The event of a function, with no guard.
+fn unguarded(alloc: Global, f: Expr, dir: Dir) -> Event
+    requires { IsFormula (term f) }
+    ensures { result ≡ record { function = term f; conditions = []; dir = dir } }
+{
+    Event {
+        f: formula(f),
+        guards: Vec::new(alloc),
+        dir,
+    }
+}
+
+// Target and second body in one plane with the z axis: on one side of it, or on opposite sides.
+fn aligned(alloc: Global, one_side: bool, dir: Dir) -> Result<Event, AllocError>
+    ensures { IfOk result (λ event. event ≡ record {
+        function = plane_cross target second;
+        conditions = record { term = plane_dot target second; at_least = one_side } ∷ [];
+        dir = dir;
+    }) }
+{
+    let f = formula(plane_cross(alloc, TARGET, SECOND)?);
+    let g = formula(plane_dot(alloc, TARGET, SECOND)?);
+    let mut guards = Vec::new(alloc);
+    guards.push(Guard { g, at_least: one_side })?;
+    Ok(Event { f, guards, dir })
+}
+
+// An occultation of the second body by the target.
+fn occultation(alloc: Global, shadow: Shadow, ask: Ask) -> Result<Event, AllocError>
+    requires front { IsTrue (is_radius ask.value1) }
+    requires back { IsTrue (is_radius ask.value2) }
+    ensures { IfOk result (λ event. event ≡ record {
+        function = shadow_function shadow ask.value1 ask.value2;
+        conditions = shadow_conditions shadow ask.value1 ask.value2;
+        dir = ask.dir;
+    }) }
+{
+    let parts = occult(alloc, shadow, ask.value1, ask.value2)?;
+    let mut guards = Vec::new(alloc);
+    for (g, at_least) in parts.guards {
+        guards.push(Guard { g, at_least })?;
+    }
+    Ok(Event {
+        f: parts.f,
+        guards,
+        dir: ask.dir,
+    })
+}

@@ -1,0 +1,51 @@
+// The function and the guards of an occultation.
+ghost use Rattle.std.specs.Prelude.{◌≡◌, IfOk, IsTrue, map};
+ghost use Rattle.spec_kinds.specs.Faults.{is_radius};
+ghost use Rattle.spec_kinds.specs.Shadows.{shadow_function, shadow_conditions};
+ghost use Rattle.occult_spheres.specs.Guards.{condition_of};
+
+use crate::formulas::formula;
+use crate::terms::{farther, function, larger};
+use event_expr::Formula;
+use spec_kinds::Shadow;
+use spec_text::Decimal;
+use std::alloc::{AllocError, Global};
+
+/// Memory ran out.
+pub type Memory = AllocError;
+
+/// An occultation as formulas.
+#[derive(Drop)]
+pub struct OccultParts {
+    /// The function: it is at least 0 where the discs overlap, or one of them lies within the other.
+    pub f: Formula,
+    /// The guards, each with whether it has to be at least 0, or else below 0.
+    pub guards: Vec<(Formula, bool)>,
+}
+
+/// The occultation of a sphere of the radius `back` by a sphere of the radius `front`, as by SPICE's `gfoclt`. Radii are
+/// in km, at least 0 and below 2^36. For an observer outside both spheres the function is at least 0 exactly where the
+/// discs overlap (`Any`), or where one lies within the other (`Full`, `Annular`); the guards say that the front body is no
+/// farther than the other, and which disc is the larger. An error comes only where memory runs out.
+pub fn occult(
+    alloc: Global,
+    kind: Shadow,
+    front: Decimal,
+    back: Decimal,
+) -> Result<OccultParts, Memory>
+    requires front { IsTrue (is_radius front) }
+    requires back { IsTrue (is_radius back) }
+    ensures function { IfOk result (λ parts. parts.f ≡ shadow_function kind front back) }
+    ensures guards { IfOk result (λ parts. map condition_of parts.guards.items
+        ≡ shadow_conditions kind front back) }
+{
+    let f = formula(function(alloc, kind, front, back)?);
+    let mut guards = Vec::new(alloc);
+    guards.push((formula(farther(alloc)?), true))?;
+    match kind {
+        Shadow::Any => {}
+        Shadow::Full => guards.push((formula(larger(alloc, front, back)?), true))?,
+        Shadow::Annular => guards.push((formula(larger(alloc, front, back)?), false))?,
+    }
+    Ok(OccultParts { f, guards })
+}

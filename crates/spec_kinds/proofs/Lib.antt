@@ -1,0 +1,4 @@
+pub mod Tests
+pub mod Served
+pub mod Formulas
+pub mod Searching

@@ -1,0 +1,51 @@
+// What is true of asks: each law is the contract of a function with nothing to do.
+
+ghost use Rattle.std.specs.Prelude.{◌≡◌, ◌≢◌, ◌↔◌, ◌<◌, ◌≤◌, ℕ, ◌∷◌, All, IsTrue, None};
+ghost use Rattle.spec_text.specs.declared.decimals.Decimal.{Decimal};
+ghost use Rattle.spec_intervals.specs.Interval.{IsDistance, IsCosine};
+ghost use Rattle.spec_trees.specs.declared.cuts.CutRule.{CutRule};
+ghost use Rattle.spec_ephemeris.specs.declared.body.Body.{Body};
+ghost use Rattle.spec_ephemeris.specs.declared.body.Body.TheVariants.{Ssb};
+ghost use Rattle.spec_ephemeris.specs.Ephemeris.{Ephemeris, IsEphemeris};
+ghost use Rattle.spec_bodies.specs.Views.{HasBody, IsView};
+ghost use Rattle.spec_searches.specs.declared.limits.TheConstants.{MOST_WIDTH, MOST_DEPTH};
+ghost use Rattle.spec_searches.specs.Event.{AreFormulas};
+ghost use Rattle.spec_searches.specs.Search.{IsSearch};
+ghost use Rattle.spec_kinds.specs.declared.ask.Ask.{Ask};
+ghost use Rattle.spec_kinds.specs.Asks.{IsAsk, targets_of};
+ghost use Rattle.spec_kinds.specs.Faults.{fault_of, has_body, is_same, is_distance, is_cosine};
+ghost use Rattle.spec_kinds.specs.Kinds.{event_of};
+ghost use Rattle.spec_kinds.specs.Searches.{view_of_ask, search_of};
+
+/// Where an ask has no fault, its function and its conditions are formulas.
+pub fn events_are_formulas()
+    ensures { (e : Ephemeris) (ask : Ask) → IsAsk ask → fault_of e ask ≡ None
+        → AreFormulas (event_of ask) }
+{}
+
+/// Where it has none, the columns of its bodies are there, and no target is the observer.
+pub fn targets_are_there()
+    ensures present { (e : Ephemeris) (ask : Ask) → fault_of e ask ≡ None
+        → All (HasBody e) (ask.observer ∷ targets_of ask) }
+    ensures bodies { (ask : Ask) → IsAsk ask → All (λ target. target ≢ Ssb) (targets_of ask) }
+    ensures apart { (e : Ephemeris) (ask : Ask) → fault_of e ask ≡ None
+        → All (λ target. target ≢ ask.observer) (targets_of ask) }
+    ensures view { (e : Ephemeris) (ask : Ask) → IsEphemeris e → 0 < e.blocks
+        → fault_of e ask ≡ None → IsView (view_of_ask e ask) }
+{}
+
+/// So it means a search.
+pub fn asks_mean_searches()
+    ensures { (e : Ephemeris) (ask : Ask) (width depth : ℕ) (cut : CutRule)
+        → IsEphemeris e → 0 < e.blocks → IsAsk ask → fault_of e ask ≡ None
+        → 0 < width → width ≤ MOST_WIDTH → depth ≤ MOST_DEPTH
+        → IsSearch (search_of e ask width depth cut) }
+{}
+
+/// What the tests of faults mean.
+pub fn tests_mean()
+    ensures body { (e : Ephemeris) (body : Body) → IsTrue (has_body e body) ↔ HasBody e body }
+    ensures same { (one other : Body) → IsTrue (is_same one other) ↔ (one ≡ other) }
+    ensures distance { (d : Decimal) → IsTrue (is_distance d) ↔ IsDistance d.mant d.exp }
+    ensures cosine { (d : Decimal) → IsTrue (is_cosine d) ↔ IsCosine d.mant d.exp }
+{}

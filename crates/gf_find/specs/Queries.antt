@@ -1,5 +1,5 @@
 -- What is searched for, and what the search of an ephemeris comes to. The span is that of the ephemeris.
-use Rattle.std.specs.Prelude.{◌≡◌, ℕ, ◌<◌, ◌≤◌, ℤ, pos, List, None, Some}
+use Rattle.std.specs.Prelude.{◌≡◌, ◌<◌, ◌≤◌, ◌≤ℤ◌, pos, unsigned_abs, List, None, Some}
 use Rattle.spec_text.specs.declared.decimals.Decimal.{Decimal}
 use Rattle.spec_ephemeris.specs.declared.body.Body.TheVariants.{Mercury, Ssb}
 use Rattle.spec_ephemeris.specs.Ephemeris.{Ephemeris, end_of}
@@ -24,8 +24,8 @@ use Rattle.gf_find.specs.declared.query.Query.{Query}
 
 pub record IsQuery (q : Query) : Type 0 where
   pub ask : IsAsk q.ask
-  pub some_width : 0 < q.width
-  pub width : q.width ≤ MOST_WIDTH
+  pub some_width : pos 1 ≤ℤ q.width
+  pub width : q.width ≤ℤ pos MOST_WIDTH
   pub depth : q.depth ≤ MOST_DEPTH
 
 -- ---- the query that the words ask for
@@ -47,11 +47,11 @@ passes_zero = record {
 }
 
 abbrev pub mercury_x : Query
-mercury_x = record { ask = passes_zero; width = 1; depth = 40; cut = Half }
+mercury_x = record { ask = passes_zero; width = pos 1; depth = 40; cut = Half }
 
 -- ---- its search of an ephemeris
 abbrev pub search : Query → Ephemeris → Search
-search q e = search_of e q.ask q.width q.depth q.cut
+search q e = search_of e q.ask (unsigned_abs q.width) q.depth q.cut
 
 -- the whole span of the ephemeris
 abbrev pub span : Ephemeris → Node

@@ -14,7 +14,7 @@ use spec_trees::CutRule;
 #[derive(Clone, Copy)]
 pub(crate) struct Query {
     pub(crate) ask: Ask,
-    pub(crate) width: u32,
+    pub(crate) width: i64,
     pub(crate) depth: u32,
     pub(crate) cut: CutRule,
 }

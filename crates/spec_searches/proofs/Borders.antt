@@ -9,7 +9,7 @@ use Rattle.spec_bodies.proofs.InUse.{present_in_use}
 
 module _ (v : View) (is : IsView v) where
   nearest_is : (a b : ℤ) → IsNearestBorder v.ephemeris (columns_of v) a b (nearest_border v.ephemeris (columns_of v) a b)
-  nearest_is a b = nearest_of_all v.ephemeris (columns_of v) a b (record { checked = is.checked; columns = present_in_use v is })
+  nearest_is a b = nearest_of_all v.ephemeris (columns_of v) a b is.checked (present_in_use v is)
 
   pub border_within : (a b border : ℤ) → nearest_border v.ephemeris (columns_of v) a b ≡ Some border → (a <ℤ border) × (border ≤ℤ b)
   border_within a b border e =

@@ -1,5 +1,6 @@
 -- The words name one list of files, and of files that are known one thing alone is true.
-use Rattle.std.proofs.Common.{◌≡◌, ◌⊎◌, ◌<◌, ◌≤◌, ℕ, List, length, drop, Option, None, Some, refl, sym, ap, ◌∙◌, subst, arith, inl, inr}
+use Rattle.std.proofs.Common.{◌≡◌, ◌⊎◌, ◌<◌, ◌≤◌, ℕ, List, length, drop, Option, None, Some, refl, sym, ap, ◌∙◌, subst, arith, inl, inr, lit<, lit≤}
+use Rattle.std.proofs.lemmas.Int.{ints}
 use Rattle.std.proofs.lemmas.Option.{slice_get_within}
 use Rattle.std.specs.Prelude.{IsSome}
 use Rattle.spec_text.specs.declared.decimals.Fault.{Fault}
@@ -10,11 +11,12 @@ use Rattle.spec_files.specs.Reading.{AreRefused, IsNotRead}
 use Rattle.spec_files.proofs.Exclusions.{accepted_not_lacking, accepted_not_refused, accepted_once, refused_not_lacking}
 use Rattle.gf_edges.specs.Edges.{Files, Rose}
 use Rattle.gf_find.specs.declared.query.Query.{Query}
+use Rattle.gf_find.specs.declared.query.TheConstants.{MERCURY_X}
 use Rattle.gf_find.specs.declared.refusal.Refusal.{Refusal}
 use Rattle.gf_find.specs.declared.refusal.Refusal.TheVariants as R
 use Rattle.gf_find.specs.declared.statuses.TheConstants.{FILES_REFUSED, EVENT_REFUSED, TOO_MANY_LEAVES, OUT_OF_MEMORY}
 use Rattle.gf_find.specs.Answers.{Asks, HoldEphemeris, RefusesFile}
-use Rattle.gf_find.specs.Queries.{HasFault, HasTooManyLeaves, IsSearchable, mercury_x}
+use Rattle.gf_find.specs.Queries.{HasFault, HasTooManyLeaves, IsQuery, IsSearchable}
 use Rattle.gf_find.specs.Refusals.{HasName, StopsRun, StopsSearch, status_of}
 use Rattle.gf_find.specs.Words.{Words, texts_of}
 
@@ -57,13 +59,22 @@ module _ (known : Files) (names : Texts) where
   stops_at_file q file fault count now R.TooManyLeaves refused stops = absurd (held_not_refused (HasTooManyLeaves q) file fault stops refused)
   stops_at_file q file fault count now R.Memory refused stops = inr (inr refl)
 
+-- ---- of the query
+pub mercury_is_query : IsQuery MERCURY_X
+mercury_is_query = record {
+  ask = record { second = refl; target = λ same. absurd (cc); other = tt; axis = lit< tt };
+  some_width = omega (arith, ints);
+  width = omega (arith, ints);
+  depth = lit≤ tt;
+}
+
 -- ---- of the search of an ephemeris
 module _ (q : Query) (e : Ephemeris) where
-  pub searchable_not_faulty : (fault : EventFault) → IsSearchable q e → HasFault fault q e → ⊥
-  searchable_not_faulty fault s faulty = let is = s.sound in absurd (cc)
+  pub faulty_not_searchable : (fault : EventFault) → IsSearchable q e → HasFault fault q e → ⊥
+  faulty_not_searchable fault s faulty = let is = s.sound in absurd (cc)
 
-  pub searchable_not_many : IsSearchable q e → HasTooManyLeaves q e → ⊥
-  searchable_not_many s many = let few = s.few in let more = many.many in omega (arith, few, more)
+  pub many_not_searchable : IsSearchable q e → HasTooManyLeaves q e → ⊥
+  many_not_searchable s many = let few = s.few in let more = many.many in omega (arith, few, more)
 
   faulty_not_many : (fault : EventFault) → HasFault fault q e → HasTooManyLeaves q e → ⊥
   faulty_not_many fault faulty many = let is = many.sound in absurd (cc)
@@ -71,8 +82,8 @@ module _ (q : Query) (e : Ephemeris) where
   pub stops_searchable : (r : Refusal) → IsSearchable q e → StopsSearch q e r → status_of r ≡ OUT_OF_MEMORY
   stops_searchable (R.File file fault) s stops = absurd stops
   stops_searchable (R.NotRead file) s stops = absurd stops
-  stops_searchable (R.Event fault) s stops = absurd (searchable_not_faulty fault s stops)
-  stops_searchable R.TooManyLeaves s stops = absurd (searchable_not_many s stops)
+  stops_searchable (R.Event fault) s stops = absurd (faulty_not_searchable fault s stops)
+  stops_searchable R.TooManyLeaves s stops = absurd (many_not_searchable s stops)
   stops_searchable R.Memory s stops = refl
 
   pub stops_faulty : (fault : EventFault) (r : Refusal) → HasFault fault q e → StopsSearch q e r
@@ -93,9 +104,9 @@ module _ (q : Query) (e : Ephemeris) where
 -- ---- of a run
 -- what the words ask for, of the files that they name
 pub asked_of : (words : Words) (files : Option Files) (names : Texts) (P : Query → Ephemeris → Type 0) → AreAskedFor (texts_of words) names
-    → Asks words files P → HoldEphemeris files names (P mercury_x)
+    → Asks words files P → HoldEphemeris files names (P MERCURY_X)
 asked_of words files names P asked asks =
-    subst (λ (ns : Texts). HoldEphemeris files ns (P mercury_x)) (one_list (texts_of words) asks.names names asks.asked asked) asks.held
+    subst (λ (ns : Texts). HoldEphemeris files ns (P MERCURY_X)) (one_list (texts_of words) asks.names names asks.asked asked) asks.held
 
 pub refused_of : (words : Words) (files : Option Files) (names : Texts) (name : List ℕ) (fault : Fault) → AreAskedFor (texts_of words) names
     → (refuses : RefusesFile words files name fault) → AreRefused files names refuses.file fault

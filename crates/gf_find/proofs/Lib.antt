@@ -1,3 +1,6 @@
 pub mod Gains
 pub mod WordLemmas
 pub mod Causes
+pub mod Wanted
+pub mod Entries
+pub mod Accepted

@@ -6,7 +6,7 @@ use Rattle.spec_files.specs.Reading.{AreAccepted, AreRefused, IsNotRead}
 use Rattle.spec_requests.specs.Words.{AreAskedFor}
 use Rattle.gf_edges.specs.Edges.{Files}
 use Rattle.gf_find.specs.declared.query.Query.{Query}
-use Rattle.gf_find.specs.Queries.{mercury_x}
+use Rattle.gf_find.specs.declared.query.TheConstants.{MERCURY_X}
 use Rattle.gf_find.specs.Words.{Words, texts_of}
 
 -- the files of these names are accepted, with an ephemeris of which P is so
@@ -20,7 +20,7 @@ pub record HoldEphemeris (files : Option Files) (names : List (List ℕ)) (P : E
 pub record Asks (words : Words) (files : Option Files) (P : Query → Ephemeris → Type 0) : Type 0 where
   pub names : List (List ℕ)
   pub asked : AreAskedFor (texts_of words) names
-  pub held : HoldEphemeris files names (P mercury_x)
+  pub held : HoldEphemeris files names (P MERCURY_X)
 
 -- the words name files of which the one with this name is refused with this fault
 pub record RefusesFile (words : Words) (files : Option Files) (name : List ℕ) (fault : Fault) : Type 0 where

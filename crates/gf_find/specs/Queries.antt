@@ -1,21 +1,14 @@
 -- What is searched for, and what the search of an ephemeris comes to. The span is that of the ephemeris.
 use Rattle.std.specs.Prelude.{◌≡◌, ◌<◌, ◌≤◌, ◌≤ℤ◌, pos, unsigned_abs, List, None, Some}
-use Rattle.spec_text.specs.declared.decimals.Decimal.{Decimal}
-use Rattle.spec_ephemeris.specs.declared.body.Body.TheVariants.{Mercury, Ssb}
 use Rattle.spec_ephemeris.specs.Ephemeris.{Ephemeris, end_of}
-use Rattle.spec_bodies.specs.declared.frame.Frame.TheVariants.{Eq}
-use Rattle.spec_trees.specs.declared.cuts.CutRule.TheVariants.{Half}
 use Rattle.spec_trees.specs.declared.tree.Node.{Node}
 use Rattle.spec_trees.specs.declared.window.Window.{Window}
 use Rattle.spec_trees.specs.Tree.{leaf_count}
-use Rattle.spec_events.specs.declared.dir.Dir.TheVariants.{Any}
 use Rattle.spec_events.specs.Events.{AreWindows}
 use Rattle.spec_searches.specs.declared.limits.TheConstants.{MOST_DEPTH, MOST_WIDTH}
 use Rattle.spec_searches.specs.Search.{Search, events}
 use Rattle.spec_searches.specs.Found.{IsLeftUndecided, root, rules, windows_of}
-use Rattle.spec_kinds.specs.declared.ask.Ask.{Ask}
 use Rattle.spec_kinds.specs.declared.fault.EventFault.{EventFault}
-use Rattle.spec_kinds.specs.declared.kind.Kind.TheVariants.{Coord}
 use Rattle.spec_kinds.specs.Asks.{IsAsk}
 use Rattle.spec_kinds.specs.Faults.{fault_of}
 use Rattle.spec_kinds.specs.Searches.{search_of}
@@ -28,28 +21,7 @@ pub record IsQuery (q : Query) : Type 0 where
   pub width : q.width ≤ℤ pos MOST_WIDTH
   pub depth : q.depth ≤ MOST_DEPTH
 
--- ---- the query that the words ask for
-abbrev pub zero_km : Decimal
-zero_km = record { mant = pos 0; exp = pos 0 }
-
--- Mercury's x, seen from the barycentre of the solar system, passes 0 in either direction
-abbrev pub passes_zero : Ask
-passes_zero = record {
-  kind = Coord;
-  target = Mercury;
-  second = None;
-  observer = Ssb;
-  frame = Eq;
-  axis = 0;
-  value1 = zero_km;
-  value2 = zero_km;
-  dir = Any;
-}
-
-abbrev pub mercury_x : Query
-mercury_x = record { ask = passes_zero; width = pos 1; depth = 40; cut = Half }
-
--- ---- its search of an ephemeris
+-- ---- the search of an ephemeris
 abbrev pub search : Query → Ephemeris → Search
 search q e = search_of e q.ask (unsigned_abs q.width) q.depth q.cut
 

@@ -1,5 +1,5 @@
 -- Why a run has no report, and what its status tells of it.
-use Rattle.std.specs.Prelude.{ℕ, ◌<◌, List, length, ⊥, Option}
+use Rattle.std.specs.Prelude.{ℕ, ◌<◌, List, length, Option}
 use Rattle.spec_ephemeris.specs.Ephemeris.{Ephemeris}
 use Rattle.spec_files.specs.Reading.{AreRefused, IsNotRead}
 use Rattle.gf_edges.specs.Edges.{Files}

@@ -1,5 +1,5 @@
 // The windows of leaves that one walk gave.
-ghost use Rattle.std.specs.Prelude.{◌≡◌, ◌<◌, IfOk, Err};
+ghost use Rattle.std.specs.Prelude.{◌≡◌, ◌<◌, ◌≤◌, IfOk, Err};
 ghost use Rattle.spec_reports.specs.declared.limits.TheConstants.{MOST_LEAVES};
 ghost use Rattle.spec_trees.specs.Tree.{Covers, IsValid, leaf_count, leaves};
 ghost use Rattle.spec_trees.specs.Windows.{windows};
@@ -33,7 +33,8 @@ fn windows_of(alloc: Global, root: Node, leaves: &[Leaf]) -> Result<Vec<Window>,
     ensures { IfOk result (λ found. found.items ≡ windows leaves.now) }
 {
     let book = booked(alloc, root, leaves)?;
-    windows(alloc, &book)
+    let found = windows(alloc, &book)?;
+    Ok(found)
 }
 
 /// The windows of the leaves of a root, or `TooMany` where these are more than a search may have.

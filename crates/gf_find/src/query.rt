@@ -1,7 +1,4 @@
 // What is searched for.
-ghost use Rattle.std.specs.Prelude.{◌≡◌};
-ghost use Rattle.gf_find.specs.Queries.{mercury_x};
-
 use spec_bodies::Frame;
 use spec_ephemeris::Body;
 use spec_events::Dir;
@@ -19,27 +16,21 @@ pub(crate) struct Query {
     pub(crate) cut: CutRule,
 }
 
-const ZERO: Decimal = Decimal { mant: 0, exp: 0 };
-
-/// The search for the times at which Mercury's x, seen from the barycentre of the solar system, passes 0, with every
-/// option at its default.
-pub(crate) fn mercury_x() -> Query
-    ensures { result ≡ mercury_x }
-{
-    Query {
-        ask: Ask {
-            kind: Kind::Coord,
-            target: Body::Mercury,
-            second: None,
-            observer: Body::Ssb,
-            frame: Frame::Eq,
-            axis: 0,
-            value1: ZERO,
-            value2: ZERO,
-            dir: Dir::Any,
-        },
-        width: 1,
-        depth: 40,
-        cut: CutRule::Half,
-    }
-}
+/// The search for the times at which Mercury's x, seen from the barycentre of the solar system, passes 0 in either
+/// direction, with every option at its default.
+pub(crate) const MERCURY_X: Query = Query {
+    ask: Ask {
+        kind: Kind::Coord,
+        target: Body::Mercury,
+        second: None,
+        observer: Body::Ssb,
+        frame: Frame::Eq,
+        axis: 0,
+        value1: Decimal { mant: 0, exp: 0 },
+        value2: Decimal { mant: 0, exp: 0 },
+        dir: Dir::Any,
+    },
+    width: 1,
+    depth: 40,
+    cut: CutRule::Half,
+};

@@ -13,12 +13,12 @@ ghost use Rattle.gf_find.specs.Answers.{Asks, FailsToRead, RefusesFile};
 ghost use Rattle.gf_find.specs.Queries.{HasFault, HasTooManyLeaves, IsSearchable};
 ghost use Rattle.gf_find.specs.Refusals.{HasName};
 ghost use Rattle.gf_find.specs.Reported.{IsCutShort, IsReported};
-ghost use Rattle.gf_find.specs.Statuses.{IsAnswered, IsRefused, IsStatus};
+ghost use Rattle.gf_find.specs.Statuses.{IsAnswered, IsRefused, IsStatus, IsUnanswered};
 ghost use Rattle.gf_find.specs.Words.{texts_of};
 
 use crate::answer::answer;
 use crate::messages::{event_line, file_line, leaves_line, read_line, words_line};
-use crate::query::mercury_x;
+use crate::query::MERCURY_X;
 use crate::refusal::Refusal;
 use crate::statuses::{
     EVENT_REFUSED, FILES_REFUSED, NOT_READ, NOT_WRITTEN, OUT_OF_MEMORY, REPORTED, TOO_MANY_LEAVES,
@@ -117,7 +117,7 @@ pub fn finder<S: Shelf, O: Sink, E: Sink, G: Gate>(
         write_line(err, words_line());
         return WORDS_REFUSED;
     };
-    match answer(alloc, shelf, names, &mercury_x()) {
+    match answer(alloc, shelf, names, &MERCURY_X) {
         Ok(text) => write_report(out, err, &text),
         Err(refusal) => write_refusal(alloc, err, names, refusal),
     }
@@ -144,6 +144,7 @@ fn write_report<O: Sink, E: Sink>(out: &mut O, err: &mut E, text: &[u8]) -> u8
 // Writes why there is no report, and answers the status.
 fn write_refusal<E: Sink>(alloc: Global, err: &mut E, names: &[String], refusal: Refusal) -> u8
     requires { HasName (texts_of names.now) refusal }
+    ensures known { IsUnanswered result }
     ensures status { IsRefused refusal result }
     ensures file { result ≡ FILES_REFUSED → (file : ℕ) × (fault : Fault) × (name : List ℕ)
         × (refusal ≡ Refusal.File file fault) × (slice_get (texts_of names.now) file ≡ Some name)

@@ -1,37 +1,24 @@
 -- The granule that a column is read from has the series of the column, and the span lies within it.
-use Rattle.std.proofs.Common.{◌≡◌, ℕ, ◌<◌, ◌≤◌, IsTrue, Bool, true, false, nat_eq, sym, subst, arith, refl, Option, None, Some, ℤ, pos, neg_ℤ, ◌^◌, ◌*◌, length, ◌+ℤ◌, ◌<ℤ◌, ◌≤ℤ◌, unsigned_abs}
+use Rattle.std.proofs.Common.{◌≡◌, ℕ, ◌<◌, ◌≤◌, IsTrue, Bool, true, false, nat_eq, sym, ◌∙◌, subst, arith, refl, Option, None, Some, ℤ, pos, neg_ℤ, ◌^◌, ◌*◌, length, ◌+ℤ◌, ◌<ℤ◌, ◌≤ℤ◌, unsigned_abs}
 use Rattle.std.specs.Prelude.{All, IfSome, if◌then◌else◌}
 use Rattle.std.proofs.lemmas.Int.{ints}
-use Rattle.std.proofs.lemmas.Bool.{eqb-true}
-use Rattle.spec_ephemeris.specs.declared.header.Column.{Column}
 use Rattle.spec_ephemeris.specs.declared.limits.TheConstants.{BODY_COLUMNS}
-use Rattle.spec_ephemeris.specs.Header.{column_at, components, is_present_at}
-use Rattle.spec_ephemeris.specs.Ephemeris.{Granule, IsBodyNumber, IsGranuleAt, IsBorder, axis_series}
-use Rattle.spec_ephemeris.proofs.Granules.{one_granule}
+use Rattle.spec_ephemeris.specs.Ephemeris.{IsBodyNumber, IsBorder, axis_series}
+use Rattle.spec_ephemeris.specs.Rounding.{pairs_of}
+use Rattle.spec_ephemeris.proofs.Rounding.{pairs_of_body}
 use Rattle.spec_ephemeris.specs.declared.granule.Granule.{Granule as Read}
 use Rattle.spec_motions.specs.Enclosures.{IsSpanOf}
-use Rattle.spec_ephemeris.specs.Granules.{column_or_none, granule_at, series_at, granule_of, series_of}
+use Rattle.spec_ephemeris.specs.Granules.{column_of, granule_at, series_at, granule_of, series_of}
 use Rattle.spec_bodies.specs.Reading.{IsUsable}
 use Rattle.spec_bodies.specs.Views.{View, Fits}
-use Rattle.spec_ephemeris.proofs.GranuleAt.{granule_of_time}
 use Rattle.spec_bodies.proofs.Columns.{span_of}
 use Rattle.spec_motions.specs.Granules.{IsEvaluable}
 use Rattle.spec_numbers.proofs.Sizes.{own_size}
 
-count_is : (n : ℕ) (o : Option Column) → IsTrue (is_present_at o) → IfSome o (λ c. n ≡ c.coefs) → n ≡ (column_or_none o).coefs
-count_is n None there is = absurd (cc)
-count_is n (Some c) there is = is
-
 module _ (v : View) (a b : ℤ) (fits : Fits v a b) (number : ℕ) (usable : IsUsable v number) (g : Read)
-    (is : IsGranuleAt v.ephemeris number a (granule_of g)) (count : IfSome (column_at v.ephemeris.header.columns number) (λ c. g.n ≡ c.coefs)) (long : pos 1 ≤ℤ g.seconds) where
-  same_granule : granule_of g ≡ granule_at v.ephemeris number a
-  same_granule =
-      let ab = fits.ordered in
-      let last = fits.upto in
-      one_granule v.ephemeris number a (granule_of g) (granule_at v.ephemeris number a) fits.view.checked is (granule_of_time v.ephemeris number a fits.view.checked usable.there fits.view.block fits.from (omega (arith, ints, ab, last)))
-
+    (is : granule_of g ≡ granule_at v.ephemeris number a) (count : g.n ≡ (column_of v.ephemeris number).coefs) (long : pos 1 ≤ℤ g.seconds) where
   pub series_is : (axis : ℕ) → series_of g axis ≡ series_at v.ephemeris number axis a
-  series_is axis = λ i. axis_series (same_granule i) (count_is g.n (column_at v.ephemeris.header.columns number) usable.there count i) axis
+  series_is axis = λ i. axis_series (is i) (count i) axis
 
   none_of : (t : ℤ) → IsBorder v.ephemeris number t → a <ℤ t → t ≤ℤ b → ⊥
   none_of t border after upto = fits.no_border t (record { number = number; listed = usable.in_use; border = border; after = after; upto = upto })
@@ -45,13 +32,14 @@ module _ (v : View) (a b : ℤ) (fits : Fits v a b) (number : ℕ) (usable : IsU
   pub upto_end : b ≤ℤ (g.start +ℤ g.seconds)
   upto_end = let same : pos (unsigned_abs g.seconds) ≡ g.seconds = own_size g.seconds long in rw same at own_span.to
 
-pub evaluable : (g : Read) (number : ℕ) → number ≤ BODY_COLUMNS → (1 ≤ g.n) × (g.n ≤ 32) → length g.coefs.now ≡ g.comps * g.n → (number ≤ BODY_COLUMNS → All IsBodyNumber g.coefs.now)
+pub evaluable : (g : Read) (number : ℕ) → number ≤ BODY_COLUMNS → (1 ≤ g.n) × (g.n ≤ 32) → length g.coefs.now ≡ g.comps * g.n → (number ≤ BODY_COLUMNS → All IsBodyNumber g.coefs.now) → g.rounded.now ≡ pairs_of number g.coefs.now
     → (pos 1 ≤ℤ g.seconds) × (g.seconds ≤ℤ pos (2 ^ 40)) → (neg_ℤ (pos (2 ^ 50)) ≤ℤ g.start) × (g.start ≤ℤ pos (2 ^ 50)) → IsEvaluable g
-evaluable g number body few count bodies duration start = record {
+evaluable g number body few count bodies pairs duration start = record {
   some = few.0;
   few = few.1;
   count = count;
   bodies = bodies body;
+  pairs = pairs ∙ sym (pairs_of_body number g.coefs.now body);
   long = duration.0;
   short = duration.1;
   start = near g.start start.0 start.1;

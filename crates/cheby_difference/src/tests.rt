@@ -4,10 +4,12 @@ ghost use Rattle.spec_motions.specs.Granules.{IsEvaluable};
 
 use crate::{position_step, velocity, velocity_step};
 use cheby_enclose::is_evaluable;
-use eph_model::Granule;
-use ival_core::Ival;
+use eph_model::{Granule, Rounded, pair_of};
+use ival_core::{Ival, is_distance};
 use spec_text::Decimal;
+use std::alloc::{AllocError, Global};
 use std::process::Abort;
+use std::test::Fail;
 
 // A number of km, as its mantissa and its exponent.
 const fn km(mant: i64, exp: i16) -> Decimal {
@@ -65,10 +67,20 @@ struct Case<'a> {
     velocity_step: Parts,
 }
 
+// The pairs of coefficients.
+fn pairs(rt: &impl Abort, alloc: Global, coefs: &[Decimal]) -> Result<Vec<Rounded>, AllocError> {
+    let mut pairs = Vec::new(alloc);
+    for &c in coefs {
+        assert!(rt; is_distance(c.mant, c.exp));
+        pairs.push(pair_of(c))?;
+    }
+    Ok(pairs)
+}
+
 // The three intervals of a span.
 fn intervals(
     rt: &impl Abort,
-    coefs: &[Decimal],
+    (coefs, rounded): (&[Decimal], &[Rounded]),
     (start, seconds): (i64, i64),
     (a, b): (i64, i64),
 ) -> [Ival; 3] {
@@ -86,6 +98,7 @@ fn intervals(
         n: coefs.len(),
         comps: 1,
         coefs,
+        rounded,
     };
     assert!(rt; is_evaluable(&granule));
     all_three(&granule, a, b)
@@ -106,7 +119,7 @@ fn all_three(g: &Granule, a: i64, b: i64) -> [Ival; 3]
 }
 
 #[test]
-fn changes_are_those_of_the_reference(rt: HostRuntime) {
+fn changes_are_those_of_the_reference(rt: HostRuntime) -> Result<(), Fail> {
     let (orbit, cubic, parabola) = (orbit(), cubic(), parabola());
     let cases = [
         Case {
@@ -148,7 +161,9 @@ fn changes_are_those_of_the_reference(rt: HostRuntime) {
     ];
     for case in cases {
         let granule = (case.start, case.seconds);
-        let [step, velocity, velocity_step] = intervals(&rt, case.coefs, granule, case.span);
+        let rounded = pairs(&rt, rt.alloc(), case.coefs)?;
+        let numbers = (case.coefs, rounded.as_slice());
+        let [step, velocity, velocity_step] = intervals(&rt, numbers, granule, case.span);
         assert_eq!(rt; step.parts(), case.step, "in {:?}", case.span);
         assert_eq!(rt; velocity.parts(), case.velocity, "in {:?}", case.span);
         assert_eq!(rt;
@@ -158,4 +173,5 @@ fn changes_are_those_of_the_reference(rt: HostRuntime) {
             case.span
         );
     }
+    Ok(())
 }

@@ -1,50 +1,39 @@
--- The intervals of coefficients, one after the other.
-use Rattle.std.proofs.Common.{◌≡◌, ℕ, zero, suc, ◌+◌, ◌*◌, ◌^◌, ◌<◌, ◌≤◌, arith, refl, sym, ap, ◌∙◌, List, [], ◌∷◌, ◌++◌, length, map, take, get_or, set, All, ℤ, pos, negsuc, unsigned_abs, w64, to_z, of_z, FitsSigned}
-use Rattle.std.proofs.lemmas.Int.{ints, unsigned_abs-mul, to_z-of_z}
-use Rattle.std.proofs.lemmas.List.{take_more_set, length-map}
+-- The intervals of pairs and of coefficients, one after the other.
+use Rattle.std.proofs.Common.{◌≡◌, ℕ, ◌+◌, ◌^◌, ◌<◌, ◌≤◌, refl, sym, ap, ◌∙◌, List, [], ◌∷◌, ◌++◌, length, map, take, drop, get_or, set, All}
+use Rattle.std.proofs.lemmas.List.{map_more, take_more_set, length-map, take-map, drop-map}
+use Rattle.std.proofs.lemmas.List.Elements.{All-nil, All-cons, All-head, All-tail}
 use Rattle.spec_text.specs.declared.decimals.Decimal.{Decimal}
+use Rattle.spec_intervals.specs.Interval.{IsDistance}
 use Rattle.spec_chebyshev.specs.declared.ends.Ival62.{Ival62}
-use Rattle.spec_chebyshev.specs.Differences.{Within}
 use Rattle.spec_chebyshev.specs.Rows.{EndsWithin}
 use Rattle.spec_chebyshev.proofs.Arguments.{size_within}
-use Rattle.spec_intervals.specs.Interval.{IsDistance, decimal_top, decimal_bottom, from_decimal}
-use Rattle.spec_numbers.proofs.Floor.{floor_div-small, ceil_div-small}
-use Rattle.spec_intervals.proofs.Decimals.{bottom_pos}
-use Rattle.spec_intervals.proofs.DecimalEnds.{distance-size}
+use Rattle.spec_ephemeris.specs.declared.granule.Rounded.{Rounded}
 use Rattle.spec_ephemeris.specs.Ephemeris.{IsBodyNumber}
+use Rattle.spec_ephemeris.specs.Rounding.{pair_of}
+use Rattle.spec_ephemeris.proofs.Rounding.{low_size, high_size}
 use Rattle.spec_motions.specs.Sums.{coefficient}
 use Rattle.spec_motions.specs.RowSizes.{AreTerms}
-use Rattle.std.proofs.lemmas.List.Elements.{All-nil, All-cons, All-head, All-tail}
-use borrow.Author.Differences.{up, down}
-use mir.Syntax.{w128}
+use Rattle.cheby_enclose.specs.Pairs.{term_of}
 
-mapped_more : (cs : List Decimal) (k : ℕ) (d : Decimal) → k < length cs → map coefficient (take (suc k) cs) ≡ map coefficient (take k cs) ++ coefficient (get_or cs k d) ∷ []
-mapped_more [] k d h = absurd (omega (arith, h))
-mapped_more (c ∷ cs) zero d h = refl
-mapped_more (c ∷ cs) (suc k) d h = ap (λ (l : List Ival62). coefficient c ∷ l) (mapped_more cs k d (omega (arith, h)))
+pub terms_more : (ps : List Rounded) (out : List Ival62) (k : ℕ) (d : Rounded) → k < length ps → k < length out → take k out ≡ map term_of (take k ps)
+    → take (k + 1) (set out k (term_of (get_or ps k d))) ≡ map term_of (take (k + 1) ps)
+terms_more ps out k d h o is =
+    take_more_set out k (term_of (get_or ps k d)) o ∙ ap (λ (l : List Ival62). l ++ term_of (get_or ps k d) ∷ []) is ∙ sym (map_more term_of ps k d h)
 
-pub terms_more : (cs : List Decimal) (out : List Ival62) (k : ℕ) (d : Decimal) → k < length cs → k < length out → take k out ≡ map coefficient (take k cs)
-    → take (k + 1) (set out k (coefficient (get_or cs k d))) ≡ map coefficient (take (k + 1) cs)
-terms_more cs out k d h o is =
-    let next : suc k ≡ k + 1 = omega arith in
-    take_more_set out k (coefficient (get_or cs k d)) o ∙ ap (λ (l : List Ival62). l ++ coefficient (get_or cs k d) ∷ []) is ∙ sym (mapped_more cs k d h)
-    ∙ ap (λ (j : ℕ). map coefficient (take j cs)) next
+-- ---- the pair of a coefficient is its interval
+terms_are : (cs : List Decimal) → map term_of (map pair_of cs) ≡ map coefficient cs
+terms_are [] = refl
+terms_are (c ∷ cs) = ap (λ (l : List Ival62). coefficient c ∷ l) (terms_are cs)
+
+pub terms_of_axis : (cs : List Decimal) (ps : List Rounded) (from n : ℕ) → ps ≡ map pair_of cs
+    → map term_of (take n (drop from ps)) ≡ map coefficient (take n (drop from cs))
+terms_of_axis cs ps from n is =
+    ap (λ (l : List Rounded). map term_of (take n (drop from l))) is
+    ∙ ap (λ (l : List Rounded). map term_of (take n l)) (drop-map pair_of from cs)
+    ∙ ap (map term_of) (take-map pair_of n (drop from cs))
+    ∙ terms_are (take n (drop from cs))
 
 -- ---- each is small
-top_size : (m q : ℤ) → IsDistance m q → unsigned_abs (decimal_top m q (negsuc 23)) ≤ 2 ^ 60 * decimal_bottom q (negsuc 23)
-top_size m q h =
-    let e : unsigned_abs (decimal_top m q (negsuc 23)) ≡ unsigned_abs m * (10 ^ up q * 2 ^ 24) = unsigned_abs-mul m (pos (10 ^ up q * 2 ^ 24)) in
-    let g : unsigned_abs m * (10 ^ up q * 2 ^ 24) ≤ 2 ^ 60 * 10 ^ down q = distance-size m q (negsuc 23) refl h in
-    rw e (omega (arith, g))
-
-pub low_size : (c : Decimal) → IsDistance c.mant c.exp → unsigned_abs (coefficient c).lo ≤ 2 ^ 60
-unfolding from_decimal
-low_size c h = floor_div-small (decimal_top c.mant c.exp (negsuc 23)) (decimal_bottom c.exp (negsuc 23)) (2 ^ 60) (bottom_pos c.exp (negsuc 23)) (top_size c.mant c.exp h)
-
-pub high_size : (c : Decimal) → IsDistance c.mant c.exp → unsigned_abs (coefficient c).hi ≤ 2 ^ 60
-unfolding from_decimal
-high_size c h = ceil_div-small (decimal_top c.mant c.exp (negsuc 23)) (decimal_bottom c.exp (negsuc 23)) (2 ^ 60) (bottom_pos c.exp (negsuc 23)) (top_size c.mant c.exp h)
-
 pub EndsWithin-coefficient : (c : Decimal) → IsDistance c.mant c.exp → EndsWithin (2 ^ 60) (coefficient c)
 EndsWithin-coefficient c h = record { lo = size_within (coefficient c).lo (2 ^ 60) (low_size c h); hi = size_within (coefficient c).hi (2 ^ 60) (high_size c h) }
 
@@ -54,10 +43,3 @@ all_small (c ∷ cs) h = All-cons (EndsWithin (2 ^ 60)) (coefficient c) (map coe
 
 pub AreTerms-coefficients : (cs : List Decimal) → length cs ≤ 32 → All IsBodyNumber cs → AreTerms (map coefficient cs)
 AreTerms-coefficients cs few h = record { few = rw (length-map cs coefficient) few; small = all_small cs h }
-
--- a small end in 64 bits
-small_fits : (z : ℤ) → unsigned_abs z ≤ 2 ^ 60 → FitsSigned w64 z
-small_fits z h = omega (arith, ints)
-
-pub narrowed : (r z : ℤ) → FitsSigned w128 r → r ≡ z → unsigned_abs z ≤ 2 ^ 60 → to_z w64 (of_z w64 (to_z w128 (of_z w128 r))) ≡ z
-narrowed r z f e h = ap (λ (y : ℤ). to_z w64 (of_z w64 y)) (to_z-of_z w128 r f ∙ e) ∙ to_z-of_z w64 z (small_fits z h)

@@ -1,14 +1,16 @@
 // Where the times of a span stand in a granule.
-ghost use Rattle.std.specs.Prelude.{◌≡◌, ℕ, ◌≤◌, ◌*◌, ◌^◌, ◌≤ℤ◌, ◌+ℤ◌, ◌-ℤ◌, ◌*ℤ◌, neg_ℤ, pos, unsigned_abs, ◌↔◌, All, IsTrue};
+ghost use Rattle.std.specs.Prelude.{◌≡◌, ℕ, ◌≤◌, ◌*◌, ◌^◌, ◌≤ℤ◌, ◌+ℤ◌, ◌-ℤ◌, ◌*ℤ◌, neg_ℤ, pos, unsigned_abs, ◌↔◌, All, IsTrue, map};
 ghost use Rattle.spec_chebyshev.specs.Rows.{IsArguments};
 ghost use Rattle.spec_ephemeris.specs.Series.{argument_at};
 ghost use Rattle.spec_motions.specs.Enclosures.{arguments};
 ghost use Rattle.spec_ephemeris.specs.Ephemeris.{IsBodyNumber};
+ghost use Rattle.spec_ephemeris.specs.Rounding.{pair_of};
+ghost use Rattle.spec_intervals.specs.Interval.{IsDistance};
 ghost use Rattle.spec_motions.specs.Granules.{IsEvaluable};
 ghost use Rattle.spec_ephemeris.specs.Granules.{series_of};
 
 use cheby_laws::argument;
-use eph_model::Granule;
+use eph_model::{Granule, Rounded, pair_of};
 use ival_core::is_distance;
 use spec_chebyshev::Ival62;
 use spec_text::Decimal;
@@ -32,7 +34,7 @@ pub fn arguments(g: &Granule, a: i64, b: i64) -> Ival62
 
 /// Whether a granule can be evaluated: the test of what the calls here, and those of velocities and changes, require of
 /// one. It has from 1 to 32 coefficients for each component, each a whole number of units of 10^-140 km and below 2^36 km
-/// in size; it takes from 1 to 2^40 seconds, and begins at most 2^50 seconds from J2000.
+/// in size, and beside them their pairs; it takes from 1 to 2^40 seconds, and begins at most 2^50 seconds from J2000.
 pub fn is_evaluable(g: &Granule) -> bool
     ensures { IsTrue result ↔ IsEvaluable g.now }
 {
@@ -45,7 +47,7 @@ pub fn is_evaluable(g: &Granule) -> bool
     if !is_time(g.start, g.seconds) {
         return false;
     }
-    are_body_numbers(g.coefs)
+    are_body_numbers(g.coefs) && are_pairs(g.coefs, g.rounded)
 }
 
 // Whether a component may have so many coefficients.
@@ -82,6 +84,30 @@ fn is_body_number(c: Decimal) -> bool
     ensures { IsTrue result ↔ IsBodyNumber c }
 {
     is_distance(c.mant, c.exp) && -140 <= c.exp
+}
+
+// Whether the pairs are those of the coefficients, in the same order.
+fn are_pairs(coefs: &[Decimal], pairs: &[Rounded]) -> bool
+    requires { All IsBodyNumber coefs.now }
+    ensures { IsTrue result ↔ (pairs.now ≡ map pair_of coefs.now) }
+{
+    if coefs.len() != pairs.len() {
+        return false;
+    }
+    for k in 0..coefs.len() {
+        if !is_pair(coefs[k], pairs[k]) {
+            return false;
+        }
+    }
+    true
+}
+
+fn is_pair(c: Decimal, pair: Rounded) -> bool
+    requires { IsDistance c.mant c.exp }
+    ensures { IsTrue result ↔ (pair ≡ pair_of c) }
+{
+    let own = pair_of(c);
+    own.lo == pair.lo && own.hi == pair.hi
 }
 
 // u of a time, whose argument is u / seconds.

@@ -1,22 +1,17 @@
 // The coefficients of one axis as intervals.
-ghost use Rattle.std.specs.Prelude.{◌≡◌, ◌≤◌, ◌<◌, ◌*◌, ◌^◌, List, All, length, map, take, drop, unsigned_abs};
-ghost use Rattle.spec_intervals.specs.Interval.{IsDistance};
-ghost use Rattle.spec_chebyshev.specs.Rows.{EndsWithin};
-ghost use Rattle.spec_ephemeris.specs.Ephemeris.{IsBodyNumber};
-ghost use Rattle.spec_motions.specs.Sums.{coefficient};
+ghost use Rattle.std.specs.Prelude.{◌≡◌, ◌≤◌, ◌<◌, length, map, take};
+ghost use Rattle.cheby_enclose.specs.Pairs.{term_of};
 ghost use Rattle.spec_motions.specs.Enclosures.{coefficients_of};
 ghost use Rattle.spec_motions.specs.Granules.{IsEvaluable};
 ghost use Rattle.spec_ephemeris.specs.Granules.{series_of};
 ghost use Rattle.spec_motions.specs.RowSizes.{AreTerms};
 
-use eph_model::Granule;
-use ival_core::Ival;
+use eph_model::{Granule, Rounded};
 use spec_chebyshev::Ival62;
-use spec_text::Decimal;
 use std::marker::Model;
 
-/// The coefficients of one axis of a granule as intervals, in units of 2^-24 km: that of T_0 first. To make them costs
-/// a division each, so a caller keeps them for all spans within the granule.
+/// The coefficients of one axis of a granule as intervals, in units of 2^-24 km: that of T_0 first. They are read from the
+/// granule's pairs, and serve all spans within the granule.
 #[derive(Drop)]
 pub struct Terms {
     ends: [Ival62; 32],
@@ -44,19 +39,18 @@ impl Terms {
         ensures count { length result ≡ g.now.n }
     {
         let from = axis * g.n;
-        Terms::of_slice(&g.coefs[from..from + g.n])
+        Terms::of_slice(&g.rounded[from..from + g.n])
     }
 
-    fn of_slice(coefs: &[Decimal]) -> Self
-        requires few { length coefs.now ≤ 32 }
-        requires bodies { All IsBodyNumber coefs.now }
-        ensures { result ≡ map coefficient coefs.now }
+    fn of_slice(pairs: &[Rounded]) -> Self
+        requires { AreTerms (map term_of pairs.now) }
+        ensures { result ≡ map term_of pairs.now }
     {
         let mut ends = [Ival62 { lo: 0, hi: 0 }; 32];
-        fill(coefs, &mut ends);
+        fill(pairs, &mut ends);
         Terms {
             ends,
-            n: coefs.len(),
+            n: pairs.len(),
         }
     }
 
@@ -69,25 +63,22 @@ impl Terms {
     }
 }
 
-// Writes the intervals of the coefficients.
-fn fill(coefs: &[Decimal], ends: &mut [Ival62; 32])
-    requires few { length coefs.now ≤ 32 }
-    requires bodies { All IsBodyNumber coefs.now }
-    ensures terms { take (length coefs.now) ends.new ≡ map coefficient coefs.now }
+// Writes the intervals of pairs.
+fn fill(pairs: &[Rounded], ends: &mut [Ival62; 32])
+    requires { length pairs.now ≤ 32 }
+    ensures { take (length pairs.now) ends.new ≡ map term_of pairs.now }
 {
-    for k in 0..coefs.len() {
-        ends[k] = term(coefs[k]);
+    for k in 0..pairs.len() {
+        ends[k] = term_of(pairs[k]);
     }
 }
 
-// The interval of a coefficient.
-fn term(c: Decimal) -> Ival62
-    requires { IsDistance c.mant c.exp }
-    ensures { result ≡ coefficient c }
+// The interval of a pair.
+fn term_of(pair: Rounded) -> Ival62
+    ensures { result ≡ term_of pair }
 {
-    let (lo, hi, _) = Ival::from_decimal(c.mant, c.exp, -24).parts();
     Ival62 {
-        lo: lo as i64,
-        hi: hi as i64,
+        lo: pair.lo,
+        hi: pair.hi,
     }
 }

@@ -1,10 +1,12 @@
 // Positions of an exact reference.
 
 use crate::{is_evaluable, position};
-use eph_model::Granule;
-use ival_core::{Ival, Sign};
+use eph_model::{Granule, Rounded, pair_of};
+use ival_core::{Ival, Sign, is_distance};
 use spec_text::Decimal;
+use std::alloc::{AllocError, Global};
 use std::process::Abort;
+use std::test::Fail;
 
 // A number of km, as its mantissa and its exponent.
 const fn km(mant: i64, exp: i16) -> Decimal {
@@ -52,10 +54,20 @@ struct Case<'a> {
     parts: (i128, i128, i32),
 }
 
+// The pairs of coefficients.
+fn pairs(rt: &impl Abort, alloc: Global, coefs: &[Decimal]) -> Result<Vec<Rounded>, AllocError> {
+    let mut pairs = Vec::new(alloc);
+    for &c in coefs {
+        assert!(rt; is_distance(c.mant, c.exp));
+        pairs.push(pair_of(c))?;
+    }
+    Ok(pairs)
+}
+
 // The interval of one axis of a granule.
 fn interval(
     rt: &impl Abort,
-    coefs: &[Decimal],
+    (coefs, rounded): (&[Decimal], &[Rounded]),
     n: usize,
     (start, seconds): (i64, i64),
     axis: usize,
@@ -78,13 +90,14 @@ fn interval(
         n,
         comps,
         coefs,
+        rounded,
     };
     assert!(rt; is_evaluable(&granule));
     position(&granule, axis, a, b)
 }
 
 #[test]
-fn positions_are_those_of_the_reference(rt: HostRuntime) {
+fn positions_are_those_of_the_reference(rt: HostRuntime) -> Result<(), Fail> {
     let (lines, parabolas, greatest) = (lines(), parabolas(), greatest());
     let cases = [
         Case {
@@ -126,9 +139,12 @@ fn positions_are_those_of_the_reference(rt: HostRuntime) {
     ];
     for case in cases {
         let granule = (case.start, case.seconds);
-        let found = interval(&rt, case.coefs, case.n, granule, case.axis, case.span);
+        let rounded = pairs(&rt, rt.alloc(), case.coefs)?;
+        let numbers = (case.coefs, rounded.as_slice());
+        let found = interval(&rt, numbers, case.n, granule, case.axis, case.span);
         assert_eq!(rt; found.parts(), case.parts, "in {:?}", case.span);
         let negative = case.parts.1 < 0;
         assert_eq!(rt; found.sign() == Sign::No, negative, "in {:?}", case.span);
     }
+    Ok(())
 }

@@ -1,6 +1,6 @@
 -- The granules of a grid are those of its column.
 use Rattle.std.proofs.Common.{◌≡◌, ℕ, ◌-◌, ◌*◌, ◌/◌, ◌%◌, ◌<◌, ◌≤◌, min, ℤ, pos, ◌+ℤ◌, ◌-ℤ◌, ◌^◌, unsigned_abs, to_z, w64, refl, ap, sym, ◌∙◌, arith}
-use Rattle.std.proofs.lemmas.Nat.{mul-le}
+use Rattle.std.proofs.lemmas.Nat.{div_below, mul-le}
 use Rattle.std.proofs.Math.Nat.{mul-div_cancel}
 use Rattle.std.proofs.lemmas.Int.{ints}
 use Rattle.spec_ephemeris.specs.declared.header.Column.{Column}
@@ -31,6 +31,10 @@ starts_at e number g index is =
 
 pub count_is : (e : Ephemeris) (number : ℕ) (g : Grid) → IsGridOf e number g → g.count ≡ e.blocks * (column_of e number).granules
 count_is e number g is = is.count ∙ (λ i. e.blocks * (column_is e number g is i).granules)
+
+-- the block of an index
+pub block_of : (e : Ephemeris) (number : ℕ) (g : Grid) (index : ℕ) → IsGridOf e number g → index < g.count → index / g.column.granules < e.blocks
+block_of e number g index is below = div_below index g.column.granules e.blocks g.shared (omega (arith, below, is.count))
 
 -- the granule of an index, as the code reads it
 of_column : (e : Ephemeris) (number : ℕ) (index : ℕ) (c : Column) (r : Granule)

@@ -2,3 +2,4 @@ pub mod Rules
 pub mod GridLemmas
 pub mod BorderLemmas
 pub mod ColumnBorders
+pub mod PairLists

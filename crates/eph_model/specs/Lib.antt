@@ -1,3 +1,4 @@
 pub mod Grids
+pub mod Pairs
 pub mod Short
 pub mod Starting

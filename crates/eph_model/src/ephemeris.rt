@@ -1,18 +1,20 @@
 // The checked ephemeris.
-ghost use Rattle.std.specs.Prelude.{◌≡◌, ◌*◌, ◌^◌, ◌<◌, ◌≤◌, ◌≤ℤ◌, ◌<ℤ◌, pos, neg_ℤ, OnOk, OnErr, All, IfSome, IsTrue, length, unsigned_abs};
+ghost use Rattle.std.specs.Prelude.{◌≡◌, ◌+◌, ◌-◌, ◌*◌, ◌^◌, ◌<◌, ◌≤◌, ◌≤ℤ◌, ◌<ℤ◌, pos, neg_ℤ, OnOk, OnErr, All, IsTrue, length, unsigned_abs};
 ghost use Rattle.spec_ephemeris.specs.declared.limits.TheConstants.{BODY_COLUMNS, MOST_BLOCKS, MOST_COEFFICIENTS};
-ghost use Rattle.spec_ephemeris.specs.Header.{IsHeader, IsColumn, column_at, components, granule_size, has_column};
+ghost use Rattle.spec_ephemeris.specs.Header.{IsHeader, IsColumn, components, granule_size, has_column};
 ghost use Rattle.spec_ephemeris.specs.Ephemeris.{IsStart, IsBlock, IsBodyNumber, IsEphemeris, empty_ephemeris, with_block, end_of, block_numbers, granule_numbers};
-ghost use Rattle.spec_ephemeris.specs.Granules.{granule_of, granule_at};
+ghost use Rattle.spec_ephemeris.specs.Granules.{column_of, granule_of, granule_at};
 ghost use Rattle.spec_ephemeris.specs.Borders.{nearest_border};
+ghost use Rattle.spec_ephemeris.specs.Rounding.{pairs_of};
 ghost use Rattle.eph_model.specs.Starting.{starting_at};
 ghost use Rattle.eph_model.specs.Grids.{IsGridOf};
 
 use crate::borders::preferred;
 use crate::columns::{components, is_present};
-use crate::granules::{column_of, granule_seconds, numbers_at, present_column};
+use crate::granules::{column_of, granule_place, granule_seconds, numbers_at, present_column};
 use crate::grid::Grid;
-use spec_ephemeris::{Column, Granule, Header};
+use crate::rounding::push_pairs;
+use spec_ephemeris::{BODY_COLUMNS, Column, Granule, Header, Rounded};
 use spec_text::Decimal;
 use std::alloc::{AllocError, Global};
 use std::marker::Model;
@@ -38,10 +40,12 @@ pub struct Ephemeris {
     start: i64,
     blocks: u32,
     numbers: Vec<Decimal>,
+    pairs: Vec<Rounded>,
 }
 
 impl Model for Ephemeris {
     ghost use Rattle.spec_ephemeris.specs.Ephemeris.{Ephemeris, IsEphemeris};
+    ghost use Rattle.eph_model.specs.Pairs.{ArePairs};
 
     ghost Value = { Ephemeris };
 
@@ -57,7 +61,7 @@ impl Model for Ephemeris {
       start = e.start;
       blocks = e.blocks;
       numbers = e.numbers.items;
-    }) };
+    }) × ArePairs e.numbers.items e.pairs.items };
 }
 
 impl Ephemeris {
@@ -72,18 +76,21 @@ impl Ephemeris {
             start,
             blocks: 0,
             numbers: Vec::new(alloc),
+            pairs: Vec::new(alloc),
         }
     }
 
     /// Adds one block of as many numbers as the header says, after the last: its two Julian dates, and the coefficients
-    /// of its columns in km. After `Memory` nothing has changed.
+    /// of its columns in km, each of which is rounded once, here. After `Memory` nothing has changed.
     pub fn push_block(&mut self, numbers: &[Decimal]) -> Result<(), Memory>
         requires block { IsBlock self.old.header numbers.now }
         requires room { self.old.blocks < MOST_BLOCKS }
         ensures added { OnOk result (self.new ≡ with_block self.old numbers.now) }
         ensures memory { OnErr result (self.new ≡ self.old) }
     {
+        self.pairs.reserve(numbers.len())?;
         self.numbers.extend_from_slice(numbers)?;
+        push_pairs(&mut self.pairs, numbers)?;
         self.blocks += 1;
         Ok(())
     }
@@ -161,14 +168,14 @@ impl Ephemeris {
         requires from { self.now.start ≤ℤ t }
         requires upto { t ≤ℤ end_of self.now }
         ensures granule { granule_of result ≡ granule_at self.now column t }
-        ensures coefficients { IfSome (column_at self.now.header.columns column)
-            (λ c. result.n ≡ c.coefs) }
+        ensures coefficients { result.n ≡ (column_of self.now column).coefs }
         ensures components { result.comps ≡ components column }
         ensures count { length result.coefs.now ≡ result.comps * result.n }
         ensures few { (1 ≤ result.n) × (result.n ≤ 32) }
         ensures duration { (pos 1 ≤ℤ result.seconds) × (result.seconds ≤ℤ pos (2 ^ 40)) }
         ensures start { (neg_ℤ (pos (2 ^ 50)) ≤ℤ result.start) × (result.start ≤ℤ pos (2 ^ 50)) }
         ensures bodies { column ≤ BODY_COLUMNS → All IsBodyNumber result.coefs.now }
+        ensures rounded { result.rounded.now ≡ pairs_of column result.coefs.now }
     {
         let grid = self.grid(column);
         let index = grid.index_at(t);
@@ -180,6 +187,7 @@ impl Ephemeris {
             n: grid.column.coefs as usize,
             comps: components(column),
             coefs: self.granule_numbers(column, grid.column, block, inner),
+            rounded: self.granule_pairs(column, grid.column, block, inner),
         }
     }
 
@@ -218,9 +226,28 @@ impl Ephemeris {
         ensures count { length result.now ≡ granule_size number column }
         ensures bodies { number ≤ BODY_COLUMNS → All IsBodyNumber result.now }
     {
-        let ncoeff = self.header.ncoeff as usize;
-        let size = components(number) * column.coefs as usize;
-        let first = column.start as usize - 1 + inner * size;
-        numbers_at(&self.numbers, ncoeff, block, first, size)
+        let (first, size) = granule_place(&self.header, number, column, inner);
+        numbers_at(
+            &self.numbers,
+            self.header.ncoeff as usize,
+            block,
+            first,
+            size,
+        )
+    }
+
+    // The pairs of the numbers of a granule of a body, and none of another column.
+    fn granule_pairs(&self, number: usize, column: Column, block: usize, inner: usize) -> &[Rounded]
+        requires present { IsColumn self.now.header number column }
+        requires block { block < self.now.blocks }
+        requires inner { inner < column.granules }
+        ensures { result.now
+            ≡ pairs_of number (granule_numbers number column inner (block_numbers self.now block)) }
+    {
+        if BODY_COLUMNS < number {
+            return &self.pairs[..0];
+        }
+        let (first, size) = granule_place(&self.header, number, column, inner);
+        numbers_at(&self.pairs, self.header.ncoeff as usize, block, first, size)
     }
 }

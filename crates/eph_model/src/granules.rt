@@ -1,11 +1,11 @@
 // The granule of a time: which it is, how long it is, and where its numbers stand.
 ghost use Rattle.std.specs.Prelude.{◌≡◌, ◌+◌, ◌-◌, ◌*◌, ◌/◌, ◌<◌, ◌≤◌, min, IsTrue, Some, length, take, drop, pos, ◌+ℤ◌, ◌-ℤ◌, ◌<ℤ◌, ◌≤ℤ◌};
 ghost use Rattle.spec_ephemeris.specs.Series.{to_nat};
-ghost use Rattle.spec_ephemeris.specs.Header.{IsShared, column_at, is_present, is_present_at};
+ghost use Rattle.spec_ephemeris.specs.Header.{IsColumn, IsHeader, IsShared, column_at, granule_size, is_present, is_present_at};
 
+use crate::columns::components;
 use crate::grid::Grid;
-use spec_ephemeris::Column;
-use spec_text::Decimal;
+use spec_ephemeris::{Column, Header};
 
 // The column of a number, counted from 1.
 pub(crate) fn column_of(columns: &[Column], number: usize) -> Option<Column>
@@ -37,14 +37,34 @@ pub(crate) fn granule_seconds(block: i64, granules: u32) -> u64
     block as u64 / u64::from(granules)
 }
 
-// The numbers of a block from `first` on, which is counted from 0.
-pub(crate) fn numbers_at(
-    numbers: &[Decimal],
+// The place of the first number of a granule in a block, counted from 0, and how many there are. The block's granules are
+// counted from 0 too.
+pub(crate) fn granule_place(
+    header: &Header,
+    number: usize,
+    column: Column,
+    inner: usize,
+) -> (usize, usize)
+    requires header { IsHeader header.now }
+    requires present { IsColumn header.now number column }
+    requires inner { inner < column.granules }
+    ensures first { result.0 ≡ column.start - 1 + inner * granule_size number column }
+    ensures size { result.1 ≡ granule_size number column }
+    ensures within { result.0 + result.1 ≤ header.now.ncoeff }
+{
+    let size = components(number) * column.coefs as usize;
+    let first = column.start as usize - 1 + inner * size;
+    (first, size)
+}
+
+// The numbers of a block, or what stands beside them, from `first` on, which is counted from 0.
+pub(crate) fn numbers_at<T>(
+    numbers: &[T],
     ncoeff: usize,
     block: usize,
     first: usize,
     size: usize,
-) -> &[Decimal]
+) -> &[T]
     requires block { block * ncoeff + ncoeff ≤ length numbers.now }
     requires within { first + size ≤ ncoeff }
     ensures { result.now

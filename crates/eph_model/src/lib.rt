@@ -10,9 +10,11 @@ mod columns;
 mod ephemeris;
 mod granules;
 mod grid;
+mod rounding;
 #[cfg(test)]
 mod tests;
 
 pub use columns::{components, is_present, place_after};
 pub use ephemeris::{Ephemeris, Memory};
-pub use spec_ephemeris::{Body, Column, Columns, Granule, Header};
+pub use rounding::pair_of;
+pub use spec_ephemeris::{Body, Column, Columns, Granule, Header, Rounded};

@@ -1,6 +1,5 @@
 -- What the walk over an expression owes the rules, from what the states keep.
 use Rattle.std.proofs.Common.{◌≡◌, ◌∙◌, arith, ap, ℤ}
-use Rattle.std.specs.Prelude.{⊤}
 use Rattle.spec_text.specs.declared.decimals.Decimal.{Decimal}
 use Rattle.spec_intervals.specs.Interval.{Interval, IsDistance, IsCosine, from_decimal, distance_exponent, cosine_exponent}
 use Rattle.spec_intervals.specs.Fraction.{Fraction, Holds, Overlaps, decimal}

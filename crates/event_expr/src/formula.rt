@@ -2,8 +2,10 @@
 
 ghost use Rattle.std.specs.Prelude.{◌≡◌, ◌↔◌, ◌<◌, ◌≤◌, IfOk, Err};
 ghost use Rattle.spec_expressions.specs.Term.{term, nodes, degree, HasConstants, HasLeaves, IsFormula, node_limit, degree_limit};
+ghost use Rattle.event_expr.specs.Leaves.{leaves_of};
 ghost use Rattle.event_expr.specs.declared.limits.ExprFault.TheVariants.{Nodes, Degree, Constant};
 
+use crate::leaves::{Leaves, leaves_of};
 use crate::limits::{ExprFault, limits_kept};
 use spec_expressions::Expr;
 use std::marker::Model;
@@ -43,6 +45,21 @@ impl Formula {
             Err(fault) => Err(fault),
             Ok(()) => Ok(Formula { expr }),
         }
+    }
+
+    /// An expression that is known to keep the limits, as a formula.
+    pub fn of(expr: Expr) -> Formula
+        requires { IsFormula (term expr) }
+        ensures { result ≡ term expr }
+    {
+        Formula { expr }
+    }
+
+    /// The coordinates that the formula names. No memory is taken.
+    pub fn leaves(&self) -> Leaves
+        ensures { result ≡ leaves_of self.now }
+    {
+        leaves_of(&self.expr)
     }
 
     /// The expression.

@@ -4,14 +4,18 @@
 //! velocities of two targets, of which the first is the ask's target. Nothing here evaluates them, or knows of times.
 #![tactic(auto)]
 
-mod guarded;
+mod asks;
 mod faults;
+mod guarded;
 mod rows;
 mod table;
+#[cfg(test)]
+mod tests;
 mod vectors;
 
-pub use guarded::{Event, Guard};
+pub use asks::{is_ask, takes_second};
 pub use faults::KindFault;
+pub use guarded::{Event, Guard};
 pub use spec_bodies::Frame;
 pub use spec_events::Dir;
 pub use spec_kinds::{Ask, EventFault, Kind};

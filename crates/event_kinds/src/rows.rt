@@ -23,7 +23,11 @@ pub fn coordinate_function(alloc: Global, axis: u8, value: Decimal) -> Result<Ex
 pub fn radius_function(alloc: Global, value: Decimal) -> Result<Expr, AllocError>
     ensures { IfOk result (λ e. term e ≡ radius_function value) }
 {
-    difference(alloc, dot(alloc, TARGET, TARGET)?, squared_length(alloc, value)?)
+    difference(
+        alloc,
+        dot(alloc, TARGET, TARGET)?,
+        squared_length(alloc, value)?,
+    )
 }
 
 /// Half of what changes the square of the target's distance, in square km a second.
@@ -39,7 +43,11 @@ pub fn separation_function(alloc: Global, angle: Decimal) -> Result<Expr, AllocE
     ensures { IfOk result (λ e. term e ≡ separation_function angle) }
 {
     let square = signed_square(alloc, dot(alloc, TARGET, SECOND)?)?;
-    let distances = product(alloc, dot(alloc, TARGET, TARGET)?, dot(alloc, SECOND, SECOND)?)?;
+    let distances = product(
+        alloc,
+        dot(alloc, TARGET, TARGET)?,
+        dot(alloc, SECOND, SECOND)?,
+    )?;
     let angle_square = signed_square(alloc, cosine(angle))?;
     difference(alloc, square, product(alloc, angle_square, distances)?)
 }
@@ -59,7 +67,11 @@ fn dot_change(alloc: Global) -> Result<Expr, AllocError>
 pub fn separation_change(alloc: Global) -> Result<Expr, AllocError>
     ensures { IfOk result (λ e. term e ≡ separation_change) }
 {
-    let distances = product(alloc, dot(alloc, TARGET, TARGET)?, dot(alloc, SECOND, SECOND)?)?;
+    let distances = product(
+        alloc,
+        dot(alloc, TARGET, TARGET)?,
+        dot(alloc, SECOND, SECOND)?,
+    )?;
     let turning = product(alloc, dot_change(alloc)?, distances)?;
     let first = product(
         alloc,
@@ -71,6 +83,10 @@ pub fn separation_change(alloc: Global) -> Result<Expr, AllocError>
         dot(alloc, TARGET, TARGET)?,
         dot(alloc, SECOND, SECOND_VELOCITY)?,
     )?;
-    let receding = product(alloc, dot(alloc, TARGET, SECOND)?, sum(alloc, first, second)?)?;
+    let receding = product(
+        alloc,
+        dot(alloc, TARGET, SECOND)?,
+        sum(alloc, first, second)?,
+    )?;
     difference(alloc, turning, receding)
 }

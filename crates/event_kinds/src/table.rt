@@ -1,21 +1,22 @@
 // The table of kinds.
-ghost use Rattle.std.specs.Prelude.{◌≡◌, ◌<◌, [], ◌∷◌, IfOk, IfErr, OnOk, IsTrue, None};
+ghost use Rattle.std.specs.Prelude.{◌≡◌, ◌<◌, [], ◌∷◌, IfOk, IfErr, OnOk, IsTrue, None, map};
 ghost use Rattle.spec_expressions.specs.Term.{term, IsFormula};
 ghost use Rattle.spec_kinds.specs.Asks.{IsAsk};
 ghost use Rattle.spec_kinds.specs.Faults.{is_radius, are_in_range, fault_of};
 ghost use Rattle.spec_kinds.specs.Kinds.{event_of};
 ghost use Rattle.spec_kinds.specs.Shadows.{shadow_function, shadow_conditions};
 ghost use Rattle.spec_kinds.specs.Vectors.{target, second, plane_dot, plane_cross};
+ghost use Rattle.occult_spheres.specs.Guards.{condition_of};
 ghost use Rattle.event_kinds.specs.Faults.{event_fault_of};
 
-use crate::guarded::{Event, Guard};
 use crate::faults::{KindFault, fault};
+use crate::guarded::{Event, Guard};
 use crate::rows::{
     apsis_function, coordinate_function, radius_function, separation_change, separation_function,
 };
 use crate::vectors::{SECOND, TARGET, TARGET_VELOCITY, plane_cross, plane_dot};
 use eph_model::Ephemeris;
-use event_expr::Expr;
+use event_expr::{Expr, Formula};
 use occult_spheres::{formula, occult};
 use spec_events::Dir;
 use spec_kinds::{Ask, Kind, Shadow};
@@ -94,15 +95,18 @@ fn unguarded(alloc: Global, f: Expr, dir: Dir) -> Event
 // Target and second body in one plane with the z axis: on one side of it, or on opposite sides.
 fn aligned(alloc: Global, one_side: bool, dir: Dir) -> Result<Event, AllocError>
     ensures { IfOk result (λ event. event ≡ record {
-        function = plane_cross target second;
-        conditions = record { term = plane_dot target second; at_least = one_side } ∷ [];
-        dir = dir;
+      function = plane_cross target second;
+      conditions = record { term = plane_dot target second; at_least = one_side } ∷ [];
+      dir = dir;
     }) }
 {
     let f = formula(plane_cross(alloc, TARGET, SECOND)?);
     let g = formula(plane_dot(alloc, TARGET, SECOND)?);
     let mut guards = Vec::new(alloc);
-    guards.push(Guard { g, at_least: one_side })?;
+    guards.push(Guard {
+        g,
+        at_least: one_side,
+    })?;
     Ok(Event { f, guards, dir })
 }
 
@@ -111,19 +115,27 @@ fn occultation(alloc: Global, shadow: Shadow, ask: Ask) -> Result<Event, AllocEr
     requires front { IsTrue (is_radius ask.value1) }
     requires back { IsTrue (is_radius ask.value2) }
     ensures { IfOk result (λ event. event ≡ record {
-        function = shadow_function shadow ask.value1 ask.value2;
-        conditions = shadow_conditions shadow ask.value1 ask.value2;
-        dir = ask.dir;
+      function = shadow_function shadow ask.value1 ask.value2;
+      conditions = shadow_conditions shadow ask.value1 ask.value2;
+      dir = ask.dir;
     }) }
 {
     let parts = occult(alloc, shadow, ask.value1, ask.value2)?;
-    let mut guards = Vec::new(alloc);
-    for (g, at_least) in parts.guards {
-        guards.push(Guard { g, at_least })?;
-    }
+    let guards = guards_of(alloc, parts.guards)?;
     Ok(Event {
         f: parts.f,
         guards,
         dir: ask.dir,
     })
+}
+
+// Formulas, each with whether it has to be at least 0, as guards.
+fn guards_of(alloc: Global, pairs: Vec<(Formula, bool)>) -> Result<Vec<Guard>, AllocError>
+    ensures { IfOk result (λ guards. guards.items ≡ map condition_of pairs.items) }
+{
+    let mut guards = Vec::new(alloc);
+    for (g, at_least) in pairs {
+        guards.push(Guard { g, at_least })?;
+    }
+    Ok(guards)
 }

@@ -3,9 +3,7 @@ ghost use Rattle.std.specs.Prelude.{◌≡◌, IfOk};
 ghost use Rattle.spec_expressions.specs.Term.{term};
 ghost use Rattle.spec_kinds.specs.Shadows.{between, tangents, shadow_function, farther, larger};
 
-use event_expr::builders::{
-    difference, dot, length, product, signed_square, squared_length, sum,
-};
+use event_expr::builders::{difference, dot, length, product, signed_square, squared_length, sum};
 use event_expr::{Expr, Vector};
 use spec_kinds::Shadow;
 use spec_text::Decimal;
@@ -18,12 +16,7 @@ const FRONT: Vector = Vector::Position(0);
 const BACK: Vector = Vector::Position(1);
 
 // The dot product of the places, and the product of the radii added or subtracted.
-fn between(
-    alloc: Global,
-    shadow: Shadow,
-    front: Decimal,
-    back: Decimal,
-) -> Result<Expr, AllocError>
+fn between(alloc: Global, shadow: Shadow, front: Decimal, back: Decimal) -> Result<Expr, AllocError>
     ensures { IfOk result (λ e. term e ≡ between shadow front back) }
 {
     let places = dot(alloc, FRONT, BACK)?;
@@ -38,7 +31,11 @@ fn between(
 fn tangents(alloc: Global, front: Decimal, back: Decimal) -> Result<Expr, AllocError>
     ensures { IfOk result (λ e. term e ≡ tangents front back) }
 {
-    let near = difference(alloc, dot(alloc, FRONT, FRONT)?, squared_length(alloc, front)?)?;
+    let near = difference(
+        alloc,
+        dot(alloc, FRONT, FRONT)?,
+        squared_length(alloc, front)?,
+    )?;
     let far = difference(alloc, dot(alloc, BACK, BACK)?, squared_length(alloc, back)?)?;
     product(alloc, near, far)
 }
@@ -67,7 +64,15 @@ pub fn farther(alloc: Global) -> Result<Expr, AllocError>
 pub fn larger(alloc: Global, front: Decimal, back: Decimal) -> Result<Expr, AllocError>
     ensures { IfOk result (λ e. term e ≡ larger front back) }
 {
-    let front_disc = product(alloc, squared_length(alloc, front)?, dot(alloc, BACK, BACK)?)?;
-    let back_disc = product(alloc, squared_length(alloc, back)?, dot(alloc, FRONT, FRONT)?)?;
+    let front_disc = product(
+        alloc,
+        squared_length(alloc, front)?,
+        dot(alloc, BACK, BACK)?,
+    )?;
+    let back_disc = product(
+        alloc,
+        squared_length(alloc, back)?,
+        dot(alloc, FRONT, FRONT)?,
+    )?;
     difference(alloc, front_disc, back_disc)
 }

@@ -4,8 +4,9 @@ use Rattle.std.specs.Prelude.{All, slice_get}
 use Rattle.spec_numbers.proofs.Naturals.{row_fits}
 use Rattle.spec_text.specs.declared.decimals.Decimal.{Decimal}
 use Rattle.spec_ephemeris.specs.declared.header.Column.{Column}
+use Rattle.spec_ephemeris.specs.declared.header.Header.{Header}
 use Rattle.spec_ephemeris.specs.declared.limits.TheConstants.{BODY_COLUMNS}
-use Rattle.spec_ephemeris.specs.Header.{IsColumn, Takes, granule_size}
+use Rattle.spec_ephemeris.specs.Header.{IsHeader, IsColumn, Takes, granule_size}
 use Rattle.spec_ephemeris.specs.Ephemeris.{Ephemeris, IsEphemeris, IsBodyNumber, block_numbers, granule_numbers}
 
 -- the run of a list from `first` on lies within it
@@ -24,10 +25,10 @@ block_length e block checked below =
     length_of_run e.numbers (block * e.header.ncoeff) e.header.ncoeff (omega (arith, fits, checked.whole))
 
 -- the granules of a column end where the column does
-run_fits : (e : Ephemeris) (number : ℕ) (c : Column) (inner : ℕ) → IsEphemeris e → IsColumn e.header number c → inner < c.granules
-    → (c.start - 1 + inner * granule_size number c) + granule_size number c ≤ e.header.ncoeff
-run_fits e number c inner checked is below =
-    let rules = checked.header.columns number c is in
+pub run_fits : (h : Header) (number : ℕ) (c : Column) (inner : ℕ) → IsHeader h → IsColumn h number c → inner < c.granules
+    → (c.start - 1 + inner * granule_size number c) + granule_size number c ≤ h.ncoeff
+run_fits h number c inner header is below =
+    let rules = header.columns number c is in
     let fits : inner * granule_size number c + granule_size number c ≤ c.granules * granule_size number c = row_fits inner c.granules (granule_size number c) below in
     omega (arith, rules.start, rules.last, fits)
 
@@ -35,7 +36,7 @@ pub numbers_count : (e : Ephemeris) (number : ℕ) (c : Column) (block inner : �
     → block < e.blocks → inner < c.granules → length (granule_numbers number c inner (block_numbers e block)) ≡ granule_size number c
 numbers_count e number c block inner checked is of_ephemeris of_block =
     let whole = block_length e block checked of_ephemeris in
-    let fits = run_fits e number c inner checked is of_block in
+    let fits = run_fits e.header number c inner checked.header is of_block in
     length_of_run (block_numbers e block) (c.start - 1 + inner * granule_size number c) (granule_size number c) (omega (arith, whole, fits))
 
 -- the place of a number of a granule is one of its column's
@@ -57,7 +58,7 @@ numbers_bounded e number c block inner checked is of_ephemeris of_block body = �
     let count = numbers_count e number c block inner checked is of_ephemeris of_block in
     let below : k < size = omega (arith, within, count) in
     let whole = block_length e block checked of_ephemeris in
-    let fits = run_fits e number c inner checked is of_block in
+    let fits = run_fits e.header number c inner checked.header is of_block in
     let there : slice_get numbers (first + k) ≡ Some (slice_index_or numbers (first + k) d) = get_some numbers (first + k) d (omega (arith, whole, fits, below)) in
     let same : slice_index_or (take size (drop first numbers)) k d ≡ slice_index_or numbers (first + k) d = get_or-take size (drop first numbers) k d below ∙ get_or-drop first numbers k d in
     rw same (checked.bodies block of_ephemeris number (first + k) c _ is body (place_taken e number c inner k checked is of_block below) there)

@@ -8,3 +8,4 @@ pub mod Pushing
 pub mod GranuleNumbers
 pub mod SmallNumbers
 pub mod Units
+pub mod Rounding

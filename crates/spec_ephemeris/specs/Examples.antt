@@ -2,6 +2,7 @@
 use Rattle.std.specs.Prelude.{◌≡◌, ℕ, List, replicate, [], ◌∷◌, ℤ, pos, neg_ℤ, ◌*ℤ◌}
 use Rattle.spec_text.specs.declared.decimals.Decimal.{Decimal}
 use Rattle.spec_intervals.specs.Fraction.{Fraction}
+use Rattle.spec_ephemeris.specs.declared.granule.Rounded.{Rounded}
 use Rattle.spec_ephemeris.specs.declared.header.Column.{Column}
 use Rattle.spec_ephemeris.specs.declared.header.Header.{Header}
 use Rattle.spec_ephemeris.specs.Series.{Series}
@@ -9,6 +10,13 @@ use Rattle.spec_ephemeris.specs.Ephemeris.{Ephemeris}
 
 abbrev pub whole : ℤ → Decimal
 whole m = record { mant = m; exp = pos 0 }
+
+-- a number of units of 10^-12
+abbrev pub tiny : ℤ → Decimal
+tiny m = record { mant = m; exp = neg_ℤ (pos 12) }
+
+abbrev pub pair : ℤ → ℤ → Rounded
+pair lo hi = record { lo = lo; hi = hi }
 
 -- a fraction is this whole number
 abbrev pub IsWhole : Fraction → ℤ → Type 0

@@ -1,4 +1,5 @@
 pub mod Series
+pub mod Rounding
 pub mod Velocity
 pub mod Header
 pub mod Ephemeris

@@ -3,9 +3,10 @@ ghost use Rattle.std.specs.Prelude.{◌≡◌, ◌+◌, ◌-◌, ◌^◌, true, 
 ghost use Rattle.spec_ephemeris.specs.Header.{IsHeader, column_size, has_column};
 ghost use Rattle.spec_ephemeris.specs.Ephemeris.{IsPreferred};
 ghost use Rattle.spec_ephemeris.specs.Borders.{nearest_border};
+ghost use Rattle.spec_ephemeris.specs.Rounding.{pair_of, pairs_of};
 ghost use Rattle.spec_ephemeris.specs.Series.{IsCoefficient, argument_at, position};
 ghost use Rattle.spec_ephemeris.specs.Velocity.{velocity};
-ghost use Rattle.spec_ephemeris.specs.Examples.{IsWhole, whole, growing_x, parabola, column, de405, blocks_of_de405, four_columns, of_four_columns, overlapping};
+ghost use Rattle.spec_ephemeris.specs.Examples.{IsWhole, whole, pair, tiny, growing_x, parabola, column, de405, blocks_of_de405, four_columns, of_four_columns, overlapping};
 
 /// The argument of a block of 2,764,800 seconds runs from minus its length to its length, two for each second.
 pub fn arguments()
@@ -96,4 +97,14 @@ pub fn borders_of_de405()
     ensures of_both { nearest_border (blocks_of_de405 2) (2 ∷ 1 ∷ []) (pos 593600) (pos 1393600)
         ≡ Some (pos 648000) }
     ensures of_none { nearest_border (blocks_of_de405 2) [] (pos 593600) (pos 1393600) ≡ None }
+{}
+
+/// 10^-12 km above and below 0 lies between two whole numbers of units, and a whole number of km is one of them. The
+/// angles of nutations and librations are not rounded.
+pub fn rounded_numbers()
+    ensures above_zero { pair_of (tiny (pos 1)) ≡ pair (pos 0) (pos 1) }
+    ensures below_zero { pair_of (tiny (neg_ℤ (pos 1))) ≡ pair (neg_ℤ (pos 1)) (pos 0) }
+    ensures whole { pair_of (whole (pos 1382400)) ≡ pair (pos 23192823398400) (pos 23192823398400) }
+    ensures sun { pairs_of 11 (whole (pos 1) ∷ []) ≡ pair (pos 16777216) (pos 16777216) ∷ [] }
+    ensures nutations { pairs_of 12 (whole (pos 1) ∷ []) ≡ [] }
 {}

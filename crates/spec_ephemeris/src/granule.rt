@@ -15,4 +15,15 @@ pub struct Granule<'a> {
     pub comps: usize,
     /// The coefficients in km, component after component, in each those of T_0, T_1 and so on.
     pub coefs: &'a [Decimal],
+    /// Each of the coefficients rounded down and up, in the same order, where the column is one of a body, and else none.
+    pub rounded: &'a [Rounded],
+}
+
+/// A number `v` of km rounded down and up to a whole number of units of 2^-24 km: `floor(v 2^24)` and `ceil(v 2^24)`.
+#[derive(Clone, Copy, Debug, PartialEq, Eq)]
+pub struct Rounded {
+    /// The number rounded down.
+    pub lo: i64,
+    /// The number rounded up.
+    pub hi: i64,
 }

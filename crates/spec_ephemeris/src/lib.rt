@@ -19,7 +19,7 @@ pub use examples::{
     places_of_columns, positions_on_a_line, positions_on_a_parabola, preferred_times,
     sizes_of_coefficients, velocities,
 };
-pub use granule::Granule;
+pub use granule::{Granule, Rounded};
 pub use header::{Column, Columns, Header};
 pub use laws::{
     a_time_has_one_granule, granule_of_a_time, nearest_border_of_columns, one_border_is_nearest,

@@ -3,7 +3,7 @@ use Rattle.std.specs.Prelude.{◌≡◌, ℕ, ℤ, Bool, true, false, List, [], 
 use Rattle.std.specs.Coded.{Coded, code_by, coded×, coded⊎, coded_ℕ, coded_ℤ, coded_bool, coded_list}
 use mathlib.Core.Logic.{inl, inr}
 use mathlib.Core.Path.{refl, ◌∙◌, ap}
-use Rattle.spec_expressions.specs.Term.{Leaf, position, velocity, Term, leaf, length, cosine, sum, difference, product, signed_square}
+use Rattle.spec_expressions.specs.Term.{position, velocity, Term, leaf, length, cosine, sum, difference, product, signed_square}
 
 -- a leaf, which may be a velocity, by target and axis; a constant, which may be a cosine; or one of four operations
 abbrev Part : Type 0

@@ -95,7 +95,7 @@ ab' = dot_leaves target second_velocity first_position second_speed
 
 -- ---- shadows
 module _ (front back : Decimal) (p : IsDistance front.mant front.exp) (q : IsDistance back.mant back.exp) where
-  shadow_formula : (shadow : Shadow) → IsFormula (shadow_function shadow front back)
+  pub shadow_formula : (shadow : Shadow) → IsFormula (shadow_function shadow front back)
   shadow_formula Any = record {
     leaves = ((ab, (tt, tt)), ((aa, (tt, tt)), (bb, (tt, tt))));
     nodes_within = omega arith;
@@ -131,7 +131,7 @@ module _ (front back : Decimal) (p : IsDistance front.mant front.exp) (q : IsDis
     constants = (((p, p), dot_free second second), ((q, q), dot_free target target));
   }
 
-  shadow_conditions_formulas : (shadow : Shadow) → All IsCondition (shadow_conditions shadow front back)
+  pub shadow_conditions_formulas : (shadow : Shadow) → All IsCondition (shadow_conditions shadow front back)
   shadow_conditions_formulas Any = All-cons IsCondition (at_least_0 farther) [] farther_formula (All-nil IsCondition)
   shadow_conditions_formulas Full = All-cons IsCondition (at_least_0 farther) (at_least_0 (larger front back) ∷ []) farther_formula (All-cons IsCondition (at_least_0 (larger front back)) [] larger_formula (All-nil IsCondition))
   shadow_conditions_formulas Annular = All-cons IsCondition (at_least_0 farther) (below_0 (larger front back) ∷ []) farther_formula (All-cons IsCondition (below_0 (larger front back)) [] larger_formula (All-nil IsCondition))

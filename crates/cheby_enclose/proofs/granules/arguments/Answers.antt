@@ -1,4 +1,4 @@
-use Rattle.std.proofs.Common.{rules, ◌≡◌, ◌∙◌, sym, arith, pos, negsuc, w64, ap, ℤ, ◌≤ℤ◌, ◌-ℤ◌, ◌*ℤ◌, unsigned_abs, refl}
+use Rattle.std.proofs.Common.{rules, ◌≡◌, ◌∙◌, sym, arith, pos, w64, ap, ℤ, ◌-ℤ◌, ◌*ℤ◌, unsigned_abs}
 use Rattle.std.proofs.lemmas.Int.{ints, to_z-of_z}
 use mir.Val.{SFits}
 use Rattle.spec_chebyshev.specs.Rows.{argument_of}

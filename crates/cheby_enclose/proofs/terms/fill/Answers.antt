@@ -4,5 +4,5 @@ use Rattle.cheby_enclose.proofs.terms.fill.Goals as goal
 
 pub returns : goal.returns
 returns c =
-    let e : c.loop-k.k ≡ length c.args.coefs.now = omega arith in
-    record { terms = rw (e, take_all (length c.args.coefs.now) c.args.coefs.now (omega arith)) at c.loop-k.invariant.0 }
+    let e : c.loop-k.k ≡ length c.args.pairs.now = omega arith in
+    rw (e, take_all (length c.args.pairs.now) c.args.pairs.now (omega arith)) at c.loop-k.invariant.0

@@ -15,7 +15,7 @@ invariant_of-result c =
     let a = c.args.times.now.first in
     let b = c.args.times.now.last in
     record {
-      evaluable = evaluable c.granule.result c.args.number c.requires.usable.of_body g.few g.count g.bodies g.duration g.start;
+      evaluable = evaluable c.granule.result c.args.number c.requires.usable.of_body g.few g.count g.bodies g.rounded g.duration g.start;
       axes = g.components ∙ three_components c.args.number c.requires.usable.of_body;
       from = from_start c.args.self.now a b c.requires.fits c.args.number c.requires.usable c.granule.result is count g.duration.0;
       order = c.requires.fits.ordered;

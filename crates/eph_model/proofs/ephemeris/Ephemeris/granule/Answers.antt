@@ -1,13 +1,21 @@
-use Rattle.std.proofs.Common.{rules, arith, ℕ, ◌≡◌, ◌<◌, ◌≤◌, ◌*◌, pos, ◌+ℤ◌, unsigned_abs, to_z, of_z, FitsSigned, w64, ◌∙◌}
+use Rattle.std.proofs.Common.{rules, arith, ℕ, ◌≡◌, ◌<◌, ◌≤◌, ◌*◌, pos, ◌+ℤ◌, unsigned_abs, ap, to_z, of_z, FitsSigned, w64, ◌∙◌}
 use Rattle.std.proofs.lemmas.Int.{ints, to_z-of_z}
 use Rattle.std.proofs.lemmas.Nat.{mul-le}
-use Rattle.eph_model.proofs.GridLemmas.{ends, found, length_within, length_passed}
+use Rattle.spec_ephemeris.specs.declared.header.Column.{Column}
+use Rattle.eph_model.proofs.GridLemmas.{block_of, column_is, ends, found, length_within, length_passed}
 use Rattle.eph_model.proofs.ephemeris.Ephemeris.granule.Goals as goal
 
 pub index_at-index-requires-clause-upto : goal.index_at-index-requires-clause-upto
 index_at-index-requires-clause-upto c =
     let last = ends c.args.self.now c.args.column c.grid-grid.result c.grid-grid.ensures.grid in
     rw (← last) (omega (arith, ints, c.requires.upto))
+
+pub granule_pairs-requires-clause-block : goal.granule_pairs-requires-clause-block
+granule_pairs-requires-clause-block c =
+    rw c.from-granules.ensures (block_of c.args.self.now c.args.column c.grid-grid.result c.index_at-index.result c.grid-grid.ensures.grid c.index_at-index.ensures.in_range)
+
+pub returns-clause-coefficients : goal.returns-clause-coefficients
+returns-clause-coefficients c = ap (λ (column : Column). column.coefs) (column_is c.args.self.now c.args.column c.grid-grid.result c.grid-grid.ensures.grid)
 
 pub returns-clause-granule : goal.returns-clause-granule
 returns-clause-granule c =

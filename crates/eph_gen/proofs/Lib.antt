@@ -1,0 +1,4 @@
+pub mod Padded
+pub mod Places
+pub mod Pieces
+pub mod Joining

@@ -1,0 +1,62 @@
+// A generated text.
+ghost use Rattle.std.specs.Prelude.{◌≡◌, ◌<◌, ◌≤◌, [], ◌∷◌, IfOk, Ok};
+ghost use Rattle.spec_files.specs.Outcome.{outcome};
+ghost use Rattle.spec_generated.specs.Generated.{generated_ephemeris, generated_text, header_lines, joined_lines};
+
+use crate::blocks::add_block;
+use crate::draws::Draws;
+use spec_generated::MOST_GENERATED;
+use std::alloc::{AllocError, Global};
+use thiserror::Error;
+
+/// Memory ran out.
+#[derive(Debug, Drop, Error)]
+#[error("out of memory")]
+pub struct Memory;
+
+impl From<AllocError> for Memory {
+    fn from(_: AllocError) -> Self {
+        Memory
+    }
+}
+
+// The lines before the blocks.
+fn header() -> &'static str
+    ensures { result.now ≡ joined_lines header_lines }
+{
+    "KSIZE= 2036 NCOEFF= 1018
+GROUP 1010
+GENERATED TEXT
+GROUP 1030
+2451536.50 2525008.50 32.
+GROUP 1040
+1
+EMRAT
+GROUP 1041
+1
+0.813005600000000000D+02
+GROUP 1050
+3 171 231 309 342 366 387 405 423 441 753 819 899
+14 10 13 11 8 7 6 6 6 13 11 10 10
+4 2 2 1 1 1 1 1 1 8 2 4 4
+GROUP 1070
+"
+}
+
+/// The text of a number of blocks and a seed: JPL's form of DE405's columns, with blocks of 32 days from Julian date
+/// 2451536.5 on. Each coefficient takes one draw, in the order of the places over all blocks. The text is accepted as the
+/// one file, whatever the seed; its granules don't join smoothly. A block takes about 26,000 bytes.
+pub fn generate(alloc: Global, blocks: u32, seed: u64) -> Result<Vec<u8>, Memory>
+    requires some { 0 < blocks }
+    requires few { blocks ≤ MOST_GENERATED }
+    ensures text { IfOk result (λ text. text.items ≡ generated_text blocks seed) }
+    ensures accepted { IfOk result (λ text.
+        outcome (text.items ∷ []) ≡ Ok (generated_ephemeris blocks seed)) }
+{
+    let mut text = String::from_str(alloc, header())?;
+    let mut draws = Draws::new(seed);
+    for block in 0..blocks {
+        add_block(&mut text, block, &mut draws)?;
+    }
+    Ok(text.into_bytes())
+}

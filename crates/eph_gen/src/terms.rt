@@ -1,0 +1,68 @@
+// The coefficients of generated blocks.
+ghost use Rattle.std.specs.Prelude.{◌≡◌, ◌+◌, ◌<◌, ◌^◌, ◌-ℤ◌, ◌*ℤ◌, length, pos};
+ghost use Rattle.spec_ephemeris.specs.declared.limits.TheConstants.{MOST_COEFFICIENTS};
+ghost use Rattle.spec_blocks.specs.BlockRules.{is_place};
+ghost use Rattle.spec_generated.specs.Coefficients.{columns_of, millionths, term_among, term_at};
+
+use eph_model::{is_present, place_after};
+use spec_ephemeris::Column;
+use spec_generated::{COLUMNS, Term};
+
+/// The term of a place of a block, counted from 1: the scale of its column, and the degree of its polynomial.
+pub fn term_at(place: u32) -> Term
+    ensures term { result ≡ term_at place }
+    ensures low { result.degree < MOST_COEFFICIENTS }
+{
+    term_among(1, &COLUMNS, place)
+}
+
+// The term of a place that belongs to one of these columns, the first of which has this number.
+fn term_among(number: usize, columns: &[(u32, u32, u32, u32)], place: u32) -> Term
+    requires { number + length columns.now < 2 ^ 32 }
+    ensures { result ≡ term_among number (columns_of columns.now) place }
+{
+    match columns {
+        [(start, coefs, granules, scale), rest @ ..] => {
+            let column = Column {
+                start: *start,
+                coefs: *coefs,
+                granules: *granules,
+            };
+            if is_place(number, column, place) {
+                Term {
+                    scale: *scale,
+                    degree: (place - column.start) % column.coefs,
+                }
+            } else {
+                term_among(number + 1, rest, place)
+            }
+        }
+        [] => Term {
+            scale: 0,
+            degree: 0,
+        },
+    }
+}
+
+// Whether a place belongs to a column.
+fn is_place(number: usize, column: Column, place: u32) -> bool
+    ensures { result ≡ is_place number column place }
+{
+    is_present(column) && column.start <= place && u128::from(place) < place_after(number, column)
+}
+
+// What is drawn, as a number from -2^31 on, times a scale.
+fn numerator(draw: u32, scale: u32) -> i64
+    ensures { result ≡ (pos draw -ℤ pos (2 ^ 31)) *ℤ pos scale }
+{
+    (i64::from(draw) - 0x8000_0000) * i64::from(scale)
+}
+
+/// The coefficient of a term for what was drawn, in millionths of a km, rounded towards zero.
+pub fn millionths(term: Term, draw: u32) -> i64
+    requires { term.degree < MOST_COEFFICIENTS }
+    ensures { result ≡ millionths term draw }
+{
+    let divisor = 4_i64.pow(term.degree);
+    numerator(draw, term.scale) / divisor
+}

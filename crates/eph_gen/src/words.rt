@@ -1,0 +1,67 @@
+// The words of generated blocks.
+ghost use Rattle.std.specs.Prelude.{◌≡◌, ◌+◌, ◌-◌, ◌<◌, ◌≤◌, ◌++◌, ℕ, OnOk, string_bytes};
+ghost use Rattle.spec_generated.specs.Draws.{IsUpto};
+ghost use Rattle.spec_generated.specs.Words.{block_word, coefficient_word, date_word, fraction_word, sign_word};
+
+use crate::draws::Draws;
+use crate::terms::{millionths, term_at};
+use spec_ephemeris::FIRST_PLACE;
+use spec_generated::{BLOCK_DATES, FIRST_DATE, MOST_GENERATED, NCOEFF};
+use std::alloc::AllocError;
+use std::fmt::Write;
+
+// `0.`, 18 digits and an exponent.
+fn add_fraction(text: &mut String, size: u64, exponent: &str) -> Result<(), AllocError>
+    ensures { OnOk result
+        (string_bytes text.new ≡ string_bytes text.old ++ fraction_word size exponent.now) }
+{
+    write!(text, "0.{size:018}{exponent}")
+}
+
+// The sign of a number below 0.
+fn add_sign(text: &mut String, number: i64) -> Result<(), AllocError>
+    ensures { OnOk result (string_bytes text.new ≡ string_bytes text.old ++ sign_word number) }
+{
+    if number < 0 { text.push('-') } else { Ok(()) }
+}
+
+// The Julian date at which a block begins.
+fn add_date(text: &mut String, block: u32) -> Result<(), AllocError>
+    requires { block ≤ MOST_GENERATED }
+    ensures { OnOk result (string_bytes text.new ≡ string_bytes text.old ++ date_word block) }
+{
+    let date = FIRST_DATE + u64::from(block) * BLOCK_DATES;
+    add_fraction(text, date, "D+07")
+}
+
+// A coefficient in millionths of a km.
+fn add_coefficient(text: &mut String, millionths: i64) -> Result<(), AllocError>
+    ensures { OnOk result
+        (string_bytes text.new ≡ string_bytes text.old ++ coefficient_word millionths) }
+{
+    add_sign(text, millionths)?;
+    add_fraction(text, millionths.unsigned_abs(), "D+12")
+}
+
+/// The word at a place, counted from 1, of a block, counted from 0. The draws are those after the place before.
+pub fn add_word(
+    text: &mut String,
+    block: u32,
+    place: u32,
+    draws: &mut Draws,
+) -> Result<(), AllocError>
+    requires few { block < MOST_GENERATED }
+    requires some { 0 < place }
+    ensures word { (state : ℕ) → IsUpto state (place - 1) draws.old → OnOk result
+        (string_bytes text.new ≡ string_bytes text.old ++ block_word state block place) }
+    ensures drawn { (state : ℕ) → IsUpto state (place - 1) draws.old → OnOk result
+        (IsUpto state place draws.new) }
+{
+    if place < FIRST_PLACE {
+        add_date(text, block + (place - 1))
+    } else if NCOEFF < place {
+        text.push_str("0.000000000000000000D+00")
+    } else {
+        add_coefficient(text, millionths(term_at(place), draws.draw()))
+    }
+}

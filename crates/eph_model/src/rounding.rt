@@ -1,0 +1,47 @@
+// Numbers rounded once, and the pairs that are kept beside them.
+ghost use Rattle.std.specs.Prelude.{◌≡◌, ◌+◌, ◌≤◌, ◌++◌, List, length, OnOk, IsOk, vec_len, vec_capacity};
+ghost use Rattle.spec_text.specs.declared.decimals.Decimal.{Decimal};
+ghost use Rattle.spec_intervals.specs.Interval.{IsDistance};
+ghost use Rattle.spec_ephemeris.specs.Rounding.{pair_of};
+ghost use Rattle.eph_model.specs.Pairs.{IsPair, ArePairs};
+
+use ival_core::{DISTANCE_EXPONENT, Ival, is_distance};
+use spec_ephemeris::Rounded;
+use spec_text::Decimal;
+use std::alloc::AllocError;
+
+/// A number of km below 2^36 in size, rounded down and up to a whole number of units of 2^-24 km.
+pub fn pair_of(number: Decimal) -> Rounded
+    requires { IsDistance number.mant number.exp }
+    ensures { result ≡ pair_of number }
+{
+    let (lo, hi, _) = Ival::from_decimal(number.mant, number.exp, DISTANCE_EXPONENT).parts();
+    Rounded {
+        lo: lo as i64,
+        hi: hi as i64,
+    }
+}
+
+// The pair that is kept beside a number. Beside one that is no number of a body it is never read.
+fn kept_pair(number: Decimal) -> Rounded
+    ensures { IsPair number result }
+{
+    if is_distance(number.mant, number.exp) {
+        pair_of(number)
+    } else {
+        Rounded { lo: 0, hi: 0 }
+    }
+}
+
+// Adds the pairs of numbers for which there is room.
+pub(crate) fn push_pairs(pairs: &mut Vec<Rounded>, numbers: &[Decimal]) -> Result<(), AllocError>
+    requires room { vec_len pairs.old + length numbers.now ≤ vec_capacity pairs.old }
+    ensures done { IsOk result }
+    ensures pairs { OnOk result ((before : List Decimal) → ArePairs before pairs.old.items
+        → ArePairs (before ++ numbers.now) pairs.new.items) }
+{
+    for &number in numbers {
+        pairs.push(kept_pair(number))?;
+    }
+    Ok(())
+}

@@ -1,0 +1,11 @@
+pub mod Numbers
+pub mod Digits
+pub mod Readings
+pub mod Sizes
+pub mod Times
+pub mod Lines
+pub mod BlockWords
+pub mod Rows
+pub mod Before
+pub mod Accepted
+pub mod Terms

@@ -1,0 +1,5 @@
+pub mod Draws
+pub mod Coefficients
+pub mod Words
+pub mod Blocks
+pub mod Generated

@@ -4,3 +4,4 @@ pub mod Causes
 pub mod Wanted
 pub mod Entries
 pub mod Accepted
+pub mod Searching

@@ -1,6 +1,7 @@
 -- Why a run has no report, and what its status tells of it.
-use Rattle.std.specs.Prelude.{ℕ, ◌<◌, List, length, Option}
+use Rattle.std.specs.Prelude.{ℕ, ◌<◌, List, length, Option, None, Some}
 use Rattle.spec_ephemeris.specs.Ephemeris.{Ephemeris}
+use Rattle.spec_kinds.specs.declared.fault.EventFault.{EventFault}
 use Rattle.spec_files.specs.Reading.{AreRefused, IsNotRead}
 use Rattle.gf_edges.specs.Edges.{Files}
 use Rattle.gf_files.specs.declared.errors.FilesError.{FilesError}
@@ -20,7 +21,12 @@ of_files (F.Fault file fault) = File file fault
 of_files (F.NotRead file) = NotRead file
 of_files F.Memory = Memory
 
--- and what one of a walk of the tree is
+-- what a fault of an event is, or the lack of memory where it has none
+abbrev pub of_fault : Option EventFault → Refusal
+of_fault (Some fault) = Event fault
+of_fault None = Memory
+
+-- what an error of a walk of the tree is
 abbrev pub of_run : RunError → Refusal
 of_run R.TooMany = TooManyLeaves
 of_run R.Memory = Memory

@@ -1,9 +1,10 @@
 // Why a run has no report.
+use event_kinds::KindFault;
 use gf_files::FilesError;
 use halving::RunError;
 use spec_kinds::EventFault;
 use spec_text::Fault;
-use std::alloc::{AllocError, AllocFailed};
+use std::alloc::AllocError;
 use thiserror::Error;
 
 /// Why a run has no report. Files are counted from 0.
@@ -37,6 +38,21 @@ impl From<FilesError> for Refusal {
             FilesError::Fault { file, fault } => Refusal::File { file, fault },
             FilesError::NotRead { file } => Refusal::NotRead { file },
             FilesError::Memory => Refusal::Memory,
+        }
+    }
+}
+
+impl From<KindFault> for Refusal {
+    ghost use Rattle.std.specs.Prelude.{◌≡◌};
+    ghost use Rattle.event_kinds.specs.Faults.{event_fault_of};
+    ghost use Rattle.gf_find.specs.Refusals.{of_fault};
+
+    ghost from_gives = { λ error refusal. refusal ≡ of_fault (event_fault_of error) };
+
+    fn from(error: KindFault) -> Self {
+        match error.event_fault() {
+            Some(fault) => Refusal::Event(fault),
+            None => Refusal::Memory,
         }
     }
 }

@@ -1,8 +1,7 @@
 -- The words name one list of files, and of files that are known one thing alone is true.
-use Rattle.std.proofs.Common.{◌≡◌, ◌⊎◌, ◌<◌, ◌≤◌, ℕ, List, length, drop, Option, None, Some, refl, sym, ap, ◌∙◌, subst, arith, inl, inr, lit<, lit≤}
+use Rattle.std.proofs.Common.{◌≡◌, ◌⊎◌, ◌<◌, ℕ, List, length, drop, Option, Some, refl, sym, ap, ◌∙◌, subst, arith, inl, inr, lit<, lit≤}
 use Rattle.std.proofs.lemmas.Int.{ints}
 use Rattle.std.proofs.lemmas.Option.{slice_get_within}
-use Rattle.std.specs.Prelude.{IsSome}
 use Rattle.spec_text.specs.declared.decimals.Fault.{Fault}
 use Rattle.spec_ephemeris.specs.Ephemeris.{Ephemeris}
 use Rattle.spec_kinds.specs.declared.fault.EventFault.{EventFault}

@@ -1,5 +1,5 @@
 -- What a run answers to the words of its command line and to its files. Files are counted from 0.
-use Rattle.std.specs.Prelude.{◌≡◌, ℕ, List, length, slice_get, Option, Some}
+use Rattle.std.specs.Prelude.{◌≡◌, ℕ, List, slice_get, Option, Some}
 use Rattle.spec_text.specs.declared.decimals.Fault.{Fault}
 use Rattle.spec_ephemeris.specs.Ephemeris.{Ephemeris}
 use Rattle.spec_files.specs.Reading.{AreAccepted, AreRefused, IsNotRead}

@@ -6,8 +6,6 @@ use Rattle.spec_files.specs.Reading.{AreRefused, IsNotRead}
 use Rattle.gf_edges.specs.Edges.{Files}
 use Rattle.gf_files.specs.declared.errors.FilesError.{FilesError}
 use Rattle.gf_files.specs.declared.errors.FilesError.TheVariants as F
-use Rattle.halving.specs.declared.run.RunError.{RunError}
-use Rattle.halving.specs.declared.run.RunError.TheVariants as R
 use Rattle.gf_find.specs.declared.query.Query.{Query}
 use Rattle.gf_find.specs.declared.refusal.Refusal.{Refusal}
 use Rattle.gf_find.specs.declared.refusal.Refusal.TheVariants.{File, NotRead, Event, TooManyLeaves, Memory}
@@ -25,11 +23,6 @@ of_files F.Memory = Memory
 abbrev pub of_fault : Option EventFault → Refusal
 of_fault (Some fault) = Event fault
 of_fault None = Memory
-
--- what an error of a walk of the tree is
-abbrev pub of_run : RunError → Refusal
-of_run R.TooMany = TooManyLeaves
-of_run R.Memory = Memory
 
 -- a search has this cause to find nothing
 abbrev pub StopsSearch : Query → Ephemeris → Refusal → Type 0

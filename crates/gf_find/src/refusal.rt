@@ -1,7 +1,6 @@
 // Why a run has no report.
 use event_kinds::KindFault;
 use gf_files::FilesError;
-use halving::RunError;
 use spec_kinds::EventFault;
 use spec_text::Fault;
 use std::alloc::AllocError;
@@ -53,20 +52,6 @@ impl From<KindFault> for Refusal {
         match error.event_fault() {
             Some(fault) => Refusal::Event(fault),
             None => Refusal::Memory,
-        }
-    }
-}
-
-impl From<RunError> for Refusal {
-    ghost use Rattle.std.specs.Prelude.{◌≡◌};
-    ghost use Rattle.gf_find.specs.Refusals.{of_run};
-
-    ghost from_gives = { λ error refusal. refusal ≡ of_run error };
-
-    fn from(error: RunError) -> Self {
-        match error {
-            RunError::TooMany => Refusal::TooManyLeaves,
-            RunError::Memory => Refusal::Memory,
         }
     }
 }

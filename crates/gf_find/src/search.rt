@@ -15,6 +15,7 @@ use eph_model::Ephemeris;
 use event_judge::EventJudge;
 use event_kinds::{Event, event};
 use gf_hooks::{Cutter, rule_cut};
+use halving::RunError;
 use spec_trees::{Node, Window};
 use std::alloc::Global;
 
@@ -64,15 +65,20 @@ pub(crate) fn search(
 {
     let event = event(alloc, ephemeris, &query.ask)?;
     let rule = query.cut;
-    let cut = Box::new(
+    let Ok(cut) = Box::new(
         alloc,
         move |a: i64, b: i64| -> i64
             requires { CanCut a b }
             ensures { result ≡ cut_of rule a b }
         { rule_cut(rule, a, b) },
-    )?;
+    ) else {
+        return Err(Refusal::Memory);
+    };
     let root = span(ephemeris);
     let judge = judge_of(ephemeris, query, event, Cutter::new(rule, cut));
-    let found = windows_by(alloc, &judge, root)?;
-    Ok(found)
+    match windows_by(alloc, &judge, root) {
+        Ok(found) => Ok(found),
+        Err(RunError::TooMany) => Err(Refusal::TooManyLeaves),
+        Err(RunError::Memory) => Err(Refusal::Memory),
+    }
 }

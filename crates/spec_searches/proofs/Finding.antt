@@ -71,10 +71,10 @@ module _ (s : Search) (is : IsSearch s) where
   pub leaves_are_right : (n : Node) → IsValid (rules s) n → AreRightlyMarked (events s) (IsLeftUndecided s) (leaves (rules s) n)
   leaves_are_right n valid =
       All-weaker (IsLeaf (rules s)) (λ l. IsRightMark (events s) (IsLeftUndecided s) l.node l.mark) leaf_is_right (leaves (rules s) n)
-      (leaves_are (rules s) (rules_are_sound s is) n valid)
+      (leaves_are (rules s) (rules_are_sound s is.view) n valid)
 
   pub windows_are_found : (first last : ℤ) → IsSpan s first last → AreWindows (events s) (IsLeftUndecided s) first last (windows_of s first last)
   windows_are_found first last span =
-      let valid = root_is_valid s is first last span in
+      let valid = root_is_valid s is.view first last span in
       windows_are (events s) (IsLeftUndecided s) first last (leaves (rules s) (root first last))
-      (leaves_cover (rules s) (rules_are_sound s is) (root first last) valid) (leaves_are_right (root first last) valid)
+      (leaves_cover (rules s) (rules_are_sound s is.view) (root first last) valid) (leaves_are_right (root first last) valid)

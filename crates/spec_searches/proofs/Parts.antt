@@ -3,6 +3,7 @@ use Rattle.std.proofs.Common.{◌≡◌, ℕ, ◌+◌, ◌≤◌, ◌^◌, ◌�
 use Rattle.std.proofs.lemmas.Int.{ints}
 use Rattle.std.proofs.lemmas.Bool.{and_parts, or_cases, both_ways, ltb-true}
 use Rattle.spec_ephemeris.specs.Ephemeris.{end_of}
+use Rattle.spec_bodies.specs.Views.{IsView}
 use Rattle.spec_bodies.proofs.Held.{times_span}
 use Rattle.spec_trees.specs.declared.tree.Node.{Node}
 use Rattle.spec_trees.specs.declared.tree.Verdict.TheVariants.{Split}
@@ -11,7 +12,7 @@ use Rattle.spec_trees.specs.Tree.{Cuts, IsSound, IsValid}
 use Rattle.spec_trees.proofs.Cutting.{cut_inside}
 use Rattle.spec_events.specs.Soundness.{findings_of}
 use Rattle.spec_events.proofs.Limits.{split_may_be_cut}
-use Rattle.spec_searches.specs.Search.{Search, IsSearch, border_cut, border_in, criteria, crosses, evidence_at, may_be_cut, parts_at, parts_by, verdict_of}
+use Rattle.spec_searches.specs.Search.{Search, border_cut, border_in, criteria, crosses, evidence_at, may_be_cut, parts_at, parts_by, verdict_of}
 use Rattle.spec_searches.specs.Found.{IsSpan, root, rules}
 use Rattle.spec_searches.proofs.Borders.{border_within, time_fits}
 
@@ -26,18 +27,22 @@ later : (start length : ℤ) (count : ℕ) → pos 1 ≤ℤ length → start ≤
 later start (pos length) count some = omega (arith, ints)
 later start (negsuc length) count some = absurd (omega (arith, ints, some))
 
-module _ (s : Search) (is : IsSearch s) where
+pub split_may : (s : Search) (n : Node) → verdict_of s n ≡ Split → may_be_cut s n ≡ true
+unfolding verdict_of
+split_may s n split = split_may_be_cut (criteria s) n (findings_of (evidence_at s n)) split
+
+module _ (s : Search) (is : IsView s.view) where
   some_time : s.view.ephemeris.start ≤ℤ end_of s.view.ephemeris
-  some_time = later s.view.ephemeris.start s.view.ephemeris.header.block_seconds s.view.ephemeris.blocks is.view.checked.header.shortest
+  some_time = later s.view.ephemeris.start s.view.ephemeris.header.block_seconds s.view.ephemeris.blocks is.checked.header.shortest
 
   pub first_near : neg_ℤ (pos (2 ^ 50)) ≤ℤ s.view.ephemeris.start
   first_near =
-      let near = (times_span s.view s.view.ephemeris.start s.view.ephemeris.start (time_fits s.view is.view s.view.ephemeris.start (omega (arith, ints)) some_time)).first_near in
+      let near = (times_span s.view s.view.ephemeris.start s.view.ephemeris.start (time_fits s.view is s.view.ephemeris.start (omega (arith, ints)) some_time)).first_near in
       omega (arith, ints, near)
 
   pub last_near : end_of s.view.ephemeris ≤ℤ pos (2 ^ 50)
   last_near =
-      let near = (times_span s.view (end_of s.view.ephemeris) (end_of s.view.ephemeris) (time_fits s.view is.view (end_of s.view.ephemeris) some_time (omega (arith, ints)))).last_near in
+      let near = (times_span s.view (end_of s.view.ephemeris) (end_of s.view.ephemeris) (time_fits s.view is (end_of s.view.ephemeris) some_time (omega (arith, ints)))).last_near in
       omega (arith, ints, near)
 
   module _ (n : Node) (valid : IsValid (rules s) n) where
@@ -64,7 +69,7 @@ module _ (s : Search) (is : IsSearch s) where
       where
         by : is_wide n ≡ true → (crosses s n ≡ true) ⊎ (nat_lt n.depth s.depth ≡ true) → (found : Option ℤ) → border_in s n ≡ found → AreParts (parts_by s.cut found n)
         by wide either (Some border) e =
-            let within = border_within s.view is.view n.a n.b border e in
+            let within = border_within s.view is n.a n.b border e in
             let inside = border_cut_inside n border wide within.0 within.1 in
             parts_at_time (border_cut n border) n.depth inside.0 inside.1 valid.depth
         by wide (inl crossing) None e = absurd (both_ways (crosses s n) (ap is_some e) crossing)
@@ -73,15 +78,11 @@ module _ (s : Search) (is : IsSearch s) where
             let inside = cut_inside s.cut n.a n.b (can_cut wide) in
             parts_at_time (cut_of s.cut n.a n.b) (n.depth + 1) inside.0 inside.1 (omega (arith, deeper))
 
-  pub split_may : (n : Node) → verdict_of s n ≡ Split → may_be_cut s n ≡ true
-  unfolding verdict_of
-  split_may n split = split_may_be_cut (criteria s) n (findings_of (evidence_at s n)) split
-
   pub rules_are_sound : IsSound (rules s)
   rules_are_sound = record {
     low = first_near;
     high = last_near;
-    cut = λ n valid split. let are = parts_are n valid (split_may n split) in record { cuts = are.0; left = are.1; right = are.2 };
+    cut = λ n valid split. let are = parts_are n valid (split_may s n split) in record { cuts = are.0; left = are.1; right = are.2 };
   }
 
   pub root_is_valid : (first last : ℤ) → IsSpan s first last → IsValid (rules s) (root first last)

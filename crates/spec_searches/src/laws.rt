@@ -30,7 +30,7 @@ pub fn verdicts_are_true()
 
 /// A node that is split may be cut, and the parts of a valid node that may be cut are valid and cut it.
 pub fn nodes_that_may_be_cut()
-    ensures split { (s : Search) (n : Node) → IsSearch s → verdict_of s n ≡ Split
+    ensures split { (s : Search) (n : Node) → verdict_of s n ≡ Split
         → may_be_cut s n ≡ true }
     ensures cuts { (s : Search) (n : Node) → IsSearch s → IsValid (rules s) n
         → may_be_cut s n ≡ true → Cuts n (parts s n).0 (parts s n).1 }

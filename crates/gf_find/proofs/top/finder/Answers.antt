@@ -1,10 +1,10 @@
-use Rattle.std.proofs.Common.{◌∙◌, arith, inl, inr, length, List, ℕ, Err, ap, string_bytes, subst}
+use Rattle.std.proofs.Common.{◌∙◌, arith, inl, inr, length, List, ℕ, ap, string_bytes, subst}
 use Rattle.std.proofs.lemmas.List.{length-map}
 use Rattle.std.specs.Io.KnownBytes.{Appends}
 use Rattle.spec_reports.specs.Writing.{AppendsPart}
 use Rattle.gf_find.specs.declared.query.TheConstants.{MERCURY_X}
 use Rattle.gf_find.specs.declared.refusal.Refusal.{Refusal}
-use Rattle.gf_find.specs.Queries.{HasFault, HasTooManyLeaves, IsSearchable}
+use Rattle.gf_find.specs.Queries.{HasFault, HasTooManyLeaves}
 use Rattle.gf_find.specs.Refusals.{StopsRun}
 use Rattle.gf_find.specs.Reported.{IsReport}
 use Rattle.gf_find.specs.Words.{texts_of}

@@ -1,0 +1,59 @@
+-- The times of a valid node are near J2000, so that its width can be taken.
+use Rattle.std.proofs.Common.{◌≡◌, ◌<◌, ◌^◌, ◌⊎◌, inl, inr, true, nat_lt, None, Some, is_some, ap, ℤ, pos, neg_ℤ, ◌-ℤ◌, ◌≤ℤ◌, arith}
+use Rattle.std.proofs.lemmas.Int.{ints, fits_signed_from_abs}
+use Rattle.std.proofs.lemmas.Bool.{and_parts, or_cases, both_ways as no_fact, ltb-true}
+use mir.Syntax.{w64}
+use mir.Val.{SFits}
+use Rattle.spec_trees.specs.declared.tree.Node.{Node}
+use Rattle.spec_trees.specs.Cuts.{CanCut, is_wide}
+use Rattle.spec_bodies.specs.Views.{IsView}
+use Rattle.spec_searches.specs.Search.{Search, border_in, crosses, may_be_cut}
+use Rattle.spec_searches.specs.Found.{rules}
+use Rattle.spec_searches.proofs.Borders.{border_within}
+use Rattle.spec_searches.proofs.Parts.{can_cut, rules_are_sound}
+use Rattle.spec_trees.specs.Tree.{IsSound, IsValid, Rules}
+
+module _ (t : Rules) (sound : IsSound t) (n : Node) (valid : IsValid t n) where
+  pub a_low : neg_ℤ (pos (2 ^ 50)) ≤ℤ n.a
+  a_low = let low = sound.low in let from = valid.from in omega (arith, ints, low, from)
+
+  pub b_high : n.b ≤ℤ pos (2 ^ 50)
+  b_high = let high = sound.high in let to = valid.to in omega (arith, ints, high, to)
+
+  pub a_fits : SFits w64 n.a
+  a_fits = let low = a_low in let high = b_high in let inside = valid.inside in fits_signed_from_abs w64 n.a (omega (arith, ints, low, high, inside))
+
+  pub b_fits : SFits w64 n.b
+  b_fits = let low = a_low in let high = b_high in let inside = valid.inside in fits_signed_from_abs w64 n.b (omega (arith, ints, low, high, inside))
+
+  pub width_fits : SFits w64 (n.b -ℤ n.a)
+  width_fits = let low = a_low in let high = b_high in let inside = valid.inside in fits_signed_from_abs w64 (n.b -ℤ n.a) (omega (arith, ints, low, high, inside))
+
+-- a node that may be cut can be cut by a rule, and a border in it is near too
+module _ (s : Search) (is : IsView s.view) (n : Node) (valid : IsValid (rules s) n) where
+  pub border_low : (border : ℤ) → border_in s n ≡ Some border → neg_ℤ (pos (2 ^ 60)) ≤ℤ border
+  border_low border e =
+      let within = border_within s.view is n.a n.b border e in
+      let after = within.0 in
+      let low = a_low (rules s) (rules_are_sound s is) n valid in
+      omega (arith, ints, after, low)
+
+  pub border_fits : (border : ℤ) → border_in s n ≡ Some border → SFits w64 border
+  border_fits border e =
+      let within = border_within s.view is n.a n.b border e in
+      let after = within.0 in
+      let upto = within.1 in
+      let low = a_low (rules s) (rules_are_sound s is) n valid in
+      let high = b_high (rules s) (rules_are_sound s is) n valid in
+      fits_signed_from_abs w64 border (omega (arith, ints, after, upto, low, high))
+
+  pub cut_inside : may_be_cut s n ≡ true → CanCut n.a n.b
+  cut_inside may = can_cut s is n valid (and_parts (is_wide n) _ may).0
+
+  -- where no border falls into it, it isn't as deep as the depth
+  pub deeper : may_be_cut s n ≡ true → border_in s n ≡ None → n.depth < s.depth
+  deeper may none = by (or_cases (crosses s n) (nat_lt n.depth s.depth) (and_parts (is_wide n) _ may).1)
+    where
+      by : (crosses s n ≡ true) ⊎ (nat_lt n.depth s.depth ≡ true) → n.depth < s.depth
+      by (inl crossing) = absurd (no_fact (crosses s n) (ap is_some none) crossing)
+      by (inr above) = ltb-true n.depth s.depth above

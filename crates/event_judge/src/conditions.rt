@@ -1,0 +1,37 @@
+// What is known of conditions over one span of times.
+ghost use Rattle.std.specs.Prelude.{◌≡◌};
+ghost use Rattle.std.specs.List.{list_all, list_any};
+ghost use Rattle.spec_events.specs.Verdict.{is_certified, is_refuted};
+ghost use Rattle.event_judge.specs.Moments.{finding_in};
+
+use crate::signs::certifies;
+use crate::span_states::SpanStates;
+use event_kinds::Guard;
+
+// The condition holds at each of these times.
+fn is_certified(guard: &Guard, states: &SpanStates) -> bool
+    ensures { result ≡ is_certified (finding_in states.now guard.now) }
+{
+    certifies(guard.at_least(), states.sign(guard.formula()))
+}
+
+// It is false at each of them.
+fn is_refuted(guard: &Guard, states: &SpanStates) -> bool
+    ensures { result ≡ is_refuted (finding_in states.now guard.now) }
+{
+    certifies(!guard.at_least(), states.sign(guard.formula()))
+}
+
+/// Each condition holds at each of these times.
+pub(crate) fn are_certified(guards: &[Guard], states: &SpanStates) -> bool
+    ensures { result ≡ list_all (λ guard. is_certified (finding_in states.now guard)) guards.now }
+{
+    guards.iter().all(|guard| is_certified(guard, states))
+}
+
+/// Some condition is false at each of them.
+pub(crate) fn is_one_refuted(guards: &[Guard], states: &SpanStates) -> bool
+    ensures { result ≡ list_any (λ guard. is_refuted (finding_in states.now guard)) guards.now }
+{
+    guards.iter().any(|guard| is_refuted(guard, states))
+}

@@ -1,0 +1,108 @@
+// A search for an event of two bodies.
+ghost use Rattle.std.specs.Prelude.{◌≡◌, ◌<◌, ◌≤ℤ◌, pos, unsigned_abs};
+
+use body_states::BodyStates;
+use eph_model::Ephemeris;
+use event_kinds::Event;
+use gf_hooks::CutRule;
+use std::marker::Model;
+
+/// A search for an event of two bodies over the times of an ephemeris, in seconds of TDB since J2000.
+#[derive(Drop)]
+pub struct EventSearch<'e> {
+    states: BodyStates<'e>,
+    ephemeris: &'e Ephemeris,
+    event: Event,
+    width: u64,
+    depth: u32,
+    rule: CutRule,
+}
+
+impl<'e> Model for EventSearch<'e> {
+    ghost use Rattle.std.specs.Prelude.{◌≡◌, ◌<◌};
+    ghost use Rattle.std.specs.Coded.{codes};
+    ghost use Rattle.spec_expressions.specs.Code.{term_code};
+    ghost use Rattle.spec_searches.specs.Search.{Search};
+
+    ghost Value = { Search };
+
+    ghost coded = { Prim.hlevel (codes, term_code) };
+
+    ghost view = { λ s. record {
+      view = s.states;
+      event = s.event;
+      width = s.width;
+      depth = s.depth;
+      cut = s.rule;
+    } };
+
+    ghost invariant = { λ s. (s.ephemeris.now ≡ s.states.ephemeris) × (0 < s.width) };
+}
+
+impl<'e> EventSearch<'e> {
+    /// The search for an event of the two targets of the states, which read this ephemeris, where nodes are split down to
+    /// the width, in seconds, and to the depth, and are cut by the rule.
+    pub(crate) fn new(
+        states: BodyStates<'e>,
+        ephemeris: &'e Ephemeris,
+        event: Event,
+        width: i64,
+        depth: u32,
+        rule: CutRule,
+    ) -> EventSearch<'e>
+        requires ephemeris { ephemeris.now ≡ states.ephemeris }
+        requires some_width { pos 1 ≤ℤ width }
+        ensures { result ≡ record {
+          view = states.entry;
+          event = event;
+          width = unsigned_abs width;
+          depth = depth;
+          cut = rule;
+        } }
+    {
+        EventSearch {
+            states,
+            ephemeris,
+            event,
+            width: width.unsigned_abs(),
+            depth,
+            rule,
+        }
+    }
+
+    /// The states of the two bodies.
+    pub(crate) fn states(&self) -> &BodyStates<'e>
+        ensures { result.now ≡ self.now.view }
+    {
+        &self.states
+    }
+
+    /// The ephemeris that they read.
+    pub(crate) fn ephemeris(&self) -> &'e Ephemeris
+        ensures { result.now ≡ self.now.view.ephemeris }
+    {
+        self.ephemeris
+    }
+
+    /// The event.
+    pub(crate) fn event(&self) -> &Event
+        ensures { result.now ≡ self.now.event }
+    {
+        &self.event
+    }
+
+    /// The width down to which nodes are split, in seconds.
+    pub(crate) fn width(&self) -> u64
+        ensures width { result ≡ self.now.width }
+        ensures some { 0 < self.now.width }
+    {
+        self.width
+    }
+
+    /// The depth down to which nodes are split.
+    pub(crate) fn depth(&self) -> u32
+        ensures { result ≡ self.now.depth }
+    {
+        self.depth
+    }
+}

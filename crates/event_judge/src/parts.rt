@@ -1,0 +1,54 @@
+// The parts of a node that is cut.
+ghost use Rattle.std.specs.Prelude.{◌≡◌, ◌≤◌, ◌^◌, ◌≤ℤ◌, pos, neg_ℤ, true};
+ghost use Rattle.spec_searches.specs.Search.{border_cut, may_be_cut, parts, parts_at};
+
+use crate::valid_node::ValidNode;
+use gf_hooks::Cutter;
+use halving::Node;
+
+// The two parts of a node that is cut at a time, at a depth.
+fn parts_at(time: i64, depth: u32, node: Node) -> (Node, Node)
+    ensures { result ≡ parts_at time depth node }
+{
+    (
+        Node {
+            a: node.a,
+            b: time,
+            depth,
+        },
+        Node {
+            a: time,
+            b: node.b,
+            depth,
+        },
+    )
+}
+
+// Where a node is cut into which a border falls: at the time before it, or at it where that time is the first.
+fn border_cut(node: Node, border: i64) -> i64
+    requires { neg_ℤ (pos (2 ^ 60)) ≤ℤ border }
+    ensures { result ≡ border_cut node border }
+{
+    if node.a < border - 1 {
+        border - 1
+    } else {
+        border
+    }
+}
+
+impl<'s, 'e> ValidNode<'s, 'e> {
+    /// The parts of a node that may be cut: at the border in it, at its own depth; or by the cutter, one deeper.
+    pub(crate) fn parts(self, cutter: &Cutter) -> (Node, Node)
+        requires rule { cutter.now.rule ≡ self.search.now.cut }
+        requires may { may_be_cut self.search.now self.node ≡ true }
+        ensures { result ≡ parts self.entry.search.now self.entry.node }
+    {
+        let node = self.node;
+        let _columns = self.search.states().columns();
+        let _deepest = self.search.depth();
+        match self.border() {
+            Some(border) => parts_at(border_cut(node, border), node.depth, node),
+            None => parts_at(cutter.cut(node.a, node.b), node.depth + 1, node),
+        }
+    }
+}

@@ -1,0 +1,202 @@
+// The verdict of a node, by what is looked at in turn.
+ghost use Rattle.std.specs.Prelude.{◌≡◌, ◌-ℤ◌, nat_le, false, true};
+ghost use Rattle.spec_trees.specs.Cuts.{is_wide};
+ghost use Rattle.spec_trees.specs.Tree.{width};
+ghost use Rattle.spec_events.specs.Stages.{end_verdict, is_above_limits, limit_verdict, open_verdict, unit_verdict};
+ghost use Rattle.spec_searches.specs.Search.{border_in, criteria, crosses, verdict_of};
+ghost use Rattle.event_judge.specs.Found.{enclosure_at, first_moment, guards_at, is_certified_at, is_refuted_at, is_turnless_by, last_moment, sign_at, whole_moment};
+
+use crate::conditions::{are_certified, is_one_refuted};
+use crate::signs::{differ, has_no_turn, is_one_way, is_turnless, turn_to};
+use crate::span_states::SpanStates;
+use crate::valid_node::ValidNode;
+use halving::Verdict;
+use ival_core::{Enclosure, Sign};
+
+impl<'s, 'e> ValidNode<'s, 'e> {
+    /// The border of the columns in use in the node, the nearest to its middle.
+    pub(crate) fn border(self) -> Option<i64>
+        ensures { result ≡ border_in self.entry.search.now self.entry.node }
+    {
+        let columns = self.search.states().columns();
+        self.search
+            .ephemeris()
+            .border_near(columns, self.node.a, self.node.b)
+    }
+
+    // The number of its times.
+    fn width(self) -> u64
+        ensures { result ≡ width self.entry.node }
+    {
+        (self.node.b - self.node.a).unsigned_abs()
+    }
+
+    // Wider than one second.
+    fn is_wide(self) -> bool
+        ensures { result ≡ is_wide self.entry.node }
+    {
+        self.width() > 1
+    }
+
+    // No wider than the width of the search.
+    fn is_narrow(self) -> bool
+        ensures { result ≡ nat_le (width self.entry.node) self.entry.search.now.width }
+    {
+        self.width() <= self.search.width()
+    }
+
+    // Wider than the width, and not as deep as the depth.
+    fn is_above_limits(self) -> bool
+        ensures { result ≡ is_above_limits (criteria self.entry.search.now) self.entry.node }
+    {
+        !self.is_narrow() && self.node.depth < self.search.depth()
+    }
+
+    // The states at its first time.
+    fn first(self) -> SpanStates<'s, 'e>
+        ensures { result ≡ first_moment self.entry.search.now self.entry.node }
+    {
+        let states = self.search.states();
+        let _columns = states.columns();
+        SpanStates::new(states, self.node.a, self.node.a)
+    }
+
+    // The states at its last time.
+    fn last(self) -> SpanStates<'s, 'e>
+        ensures { result ≡ last_moment self.entry.search.now self.entry.node }
+    {
+        let states = self.search.states();
+        let _columns = states.columns();
+        SpanStates::new(states, self.node.b, self.node.b)
+    }
+
+    // The states over all its times, where no border falls into it.
+    fn whole(self) -> SpanStates<'s, 'e>
+        requires { crosses self.search.now self.node ≡ false }
+        ensures { result ≡ whole_moment self.entry.search.now self.entry.node }
+    {
+        let states = self.search.states();
+        let _columns = states.columns();
+        SpanStates::new(states, self.node.a, self.node.b)
+    }
+
+    // The enclosure of the function over some times.
+    fn enclosure(self, states: &SpanStates) -> Enclosure
+        ensures { result ≡ enclosure_at self.entry.search.now states.now }
+    {
+        states.enclosure(self.search.event().function())
+    }
+
+    // Its sign.
+    fn sign(self, states: &SpanStates) -> Sign
+        ensures { result ≡ sign_at self.entry.search.now states.now }
+    {
+        self.enclosure(states).range.sign()
+    }
+
+    // An enclosure of the function tells that it has no turn that is wanted.
+    fn is_turnless(self, over: &Enclosure) -> bool
+        ensures { result ≡ is_turnless_by self.entry.search.now over.now }
+    {
+        is_turnless(self.search.event().dir(), over.range.sign(), over.step)
+    }
+
+    // Some condition is false at each of some times.
+    fn is_refuted(self, states: &SpanStates) -> bool
+        ensures { result ≡ is_refuted_at self.entry.search.now states.now }
+    {
+        is_one_refuted(self.search.event().guards(), states)
+    }
+
+    // Each condition holds at each of some times.
+    fn is_certified(self, states: &SpanStates) -> bool
+        ensures { result ≡ is_certified_at self.entry.search.now states.now }
+    {
+        are_certified(self.search.event().guards(), states)
+    }
+
+    // What is said where nothing decides.
+    fn limit_verdict(self) -> Verdict
+        ensures { result ≡ limit_verdict (criteria self.entry.search.now) self.entry.node }
+    {
+        if self.is_above_limits() {
+            Verdict::Split
+        } else {
+            Verdict::Undecided
+        }
+    }
+
+    // What is said by the signs at the ends, which tell the turns between them, with the conditions over some times.
+    fn end_verdict(self, states: &SpanStates, first: Sign, last: Sign) -> Verdict
+        ensures { result ≡ end_verdict (criteria self.entry.search.now) self.entry.node
+            (guards_at self.entry.search.now states.now) first last }
+    {
+        let dir = self.search.event().dir();
+        if has_no_turn(dir, first, last) {
+            Verdict::Clear
+        } else if self.is_narrow() && differ(dir, first, last) && self.is_certified(states) {
+            Verdict::One(turn_to(last))
+        } else {
+            self.limit_verdict()
+        }
+    }
+
+    // The verdict of a node that is one second wide, by the states at its two times.
+    fn unit_verdict(self) -> Verdict
+        ensures { let s = self.entry.search.now in
+            let last = last_moment s self.entry.node in
+            result ≡ unit_verdict (criteria s) self.entry.node (guards_at s last)
+            (sign_at s (first_moment s self.entry.node)) (sign_at s last) }
+    {
+        let last = self.last();
+        if self.is_refuted(&last) {
+            Verdict::Clear
+        } else {
+            self.end_verdict(&last, self.sign(&self.first()), self.sign(&last))
+        }
+    }
+
+    // The verdict of a node into which no border falls.
+    fn open_verdict(self) -> Verdict
+        requires { crosses self.search.now self.node ≡ false }
+        ensures { result ≡ verdict_of self.entry.search.now self.entry.node }
+    {
+        let _width = self.search.width();
+        let whole = self.whole();
+        let over = self.enclosure(&whole);
+        if self.is_turnless(&over) {
+            Verdict::Clear
+        } else if !self.is_wide() {
+            self.unit_verdict()
+        } else if self.is_refuted(&whole) {
+            Verdict::Clear
+        } else if is_one_way(over.step) {
+            self.end_verdict(&whole, self.sign(&self.first()), self.sign(&self.last()))
+        } else {
+            self.limit_verdict()
+        }
+    }
+
+    // The verdict of a node into which a border falls.
+    fn border_verdict(self) -> Verdict
+        requires { crosses self.search.now self.node ≡ true }
+        ensures { result ≡ verdict_of self.entry.search.now self.entry.node }
+    {
+        let _width = self.search.width();
+        if self.is_wide() {
+            Verdict::Split
+        } else {
+            self.unit_verdict()
+        }
+    }
+
+    /// The verdict of the node.
+    pub(crate) fn verdict(self) -> Verdict
+        ensures { result ≡ verdict_of self.entry.search.now self.entry.node }
+    {
+        match self.border() {
+            None => self.open_verdict(),
+            Some(_) => self.border_verdict(),
+        }
+    }
+}

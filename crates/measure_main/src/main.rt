@@ -9,6 +9,7 @@ mod functions;
 mod positions;
 mod products;
 mod reading;
+mod searches;
 mod telling;
 mod words;
 
@@ -16,9 +17,11 @@ use bases::bases;
 use functions::Function;
 use positions::positions;
 use products::products;
+use searches::ask_of;
+use spec_kinds::Ask;
 use std::process::ExitCode;
 use std::{env, fs, io};
-use telling::tell_enclosures;
+use telling::{tell_enclosures, tell_searches};
 use words::words;
 
 // A piece of work, and how often it is done.
@@ -28,6 +31,7 @@ enum Work {
     Enclosures(Function, u32, String),
     Positions(u32),
     Products(u32),
+    Searches(Ask, u32, String),
     Words(u32, String),
 }
 
@@ -52,6 +56,11 @@ fn work_on(name: &str, rounds: &str, file: String) -> Option<Work> {
     }
 }
 
+// The search for the events of a kind in a file.
+fn work_of_search(name: &str, rounds: &str, file: String) -> Option<Work> {
+    Some(Work::Searches(ask_of(name)?, rounds.parse::<u32>().ok()?, file))
+}
+
 // What the words of the command line ask for.
 fn work_of_words(rt: &HostRuntime) -> Result<Option<Work>, io::Error> {
     let mut words = Vec::new(rt.alloc());
@@ -61,6 +70,9 @@ fn work_of_words(rt: &HostRuntime) -> Result<Option<Work>, io::Error> {
     match words.as_slice() {
         [name, rounds] => Ok(work_of(name.as_str(), rounds.as_str())),
         [name, rounds, file] => Ok(work_on(name.as_str(), rounds.as_str(), file.clone()?)),
+        [search, name, rounds, file] if search.as_str() == "search" => {
+            Ok(work_of_search(name.as_str(), rounds.as_str(), file.clone()?))
+        }
         _ => Ok(None),
     }
 }
@@ -93,6 +105,19 @@ fn measure_enclosures(
     Ok(ExitCode::from(2))
 }
 
+fn measure_searches(
+    rt: &HostRuntime,
+    ask: Ask,
+    rounds: u32,
+    file: String,
+) -> Result<ExitCode, io::Error> {
+    if tell_searches(rt, &ask, rounds, file)? {
+        return Ok(ExitCode::from(0));
+    }
+    eprintln!(rt; "measure_main: the file is no ephemeris of the bodies of the search")?;
+    Ok(ExitCode::from(2))
+}
+
 fn main(rt: HostRuntime) -> Result<ExitCode, io::Error> {
     match work_of_words(&rt)? {
         Some(Work::Bases(rounds)) => {
@@ -110,10 +135,13 @@ fn main(rt: HostRuntime) -> Result<ExitCode, io::Error> {
             let sum = products(rt.alloc(), rounds)?;
             println!(&rt; "products {rounds} checksum {sum}")?;
         }
+        Some(Work::Searches(ask, rounds, file)) => {
+            return measure_searches(&rt, ask, rounds, file);
+        }
         Some(Work::Words(rounds, file)) => return tell_words(&rt, rounds, file.as_str()),
         None => {
             eprintln!(&rt;
-                "measure_main: bases, positions or products ROUNDS, or one of conj, sep and words ROUNDS FILE"
+                "measure_main: bases, positions or products ROUNDS; conj, sep or words ROUNDS FILE; or search KIND ROUNDS FILE"
             )?;
             return Ok(ExitCode::from(2));
         }

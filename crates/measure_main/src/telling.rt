@@ -1,12 +1,14 @@
-// The measurement of enclosures, with the lines that it prints.
+// The measurements of enclosures and searches, with the lines that they print.
 ghost use Rattle.std.specs.Prelude.{All};
 ghost use Rattle.spec_bodies.specs.Views.{Fits, IsView};
 
 use crate::enclosures::{Span, enclosures, hours, over, planets};
 use crate::functions::{Function, formula_of};
 use crate::reading::ephemeris_of;
+use crate::searches::search;
 use body_states::BodyStates;
 use event_expr::Formula;
+use spec_kinds::Ask;
 use std::io;
 
 // A line with the mid and the range over a span: ends and exponent of 2 of each.
@@ -62,5 +64,29 @@ pub(crate) fn tell_enclosures(
     let sum = enclosures(&formula, &states, &spans, rounds);
     let count = spans.len();
     println!(rt; "rounds {rounds} hours {count} checksum {sum}")?;
+    Ok(true)
+}
+
+/// Prints what the search for an ask finds in a file, which is made as often as there are rounds. It is `false` where the
+/// file is no ephemeris of the bodies, or where memory runs out.
+pub(crate) fn tell_searches(
+    rt: &HostRuntime,
+    ask: &Ask,
+    rounds: u32,
+    file: String,
+) -> Result<bool, io::Error> {
+    let Some(ephemeris) = ephemeris_of(rt, file)? else {
+        return Ok(false);
+    };
+    let mut leaves = 0;
+    let mut events = 0;
+    for _ in 0..rounds {
+        let Some(tally) = search(rt.alloc(), &ephemeris, ask) else {
+            return Ok(false);
+        };
+        leaves = tally.leaves;
+        events = tally.events;
+    }
+    println!(rt; "search {rounds} leaves {leaves} events {events}")?;
     Ok(true)
 }

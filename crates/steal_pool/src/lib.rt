@@ -2,7 +2,12 @@
 #![tactic(auto)]
 
 mod ends;
+mod seat;
 mod view;
+mod work;
+mod worker;
 
 pub use ends::{Owner, Thief};
+pub use seat::{PoolError, PoolSeat};
 pub use view::{Naming, View};
+pub use worker::Pushed;

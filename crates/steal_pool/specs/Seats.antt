@@ -1,16 +1,16 @@
 -- A worker's seat at the pool: what it has and knows, what it entered, and what a piece of its work balances.
-use Rattle.std.specs.Prelude.{◌≡◌, ◌⊎◌, ◌≤◌, ℕ, List, ◌++◌, length, map, Option, Some, IsPermutation}
+use Rattle.std.specs.Prelude.{◌≡◌, ◌⊎◌, ◌≤◌, ℕ, List, ◌++◌, length, map, Option, Some, None, IsPermutation}
 use Rattle.spec_trees.specs.declared.tree.Node.{Node}
 use Rattle.spec_trees.specs.declared.tree.Leaf.{Leaf}
 use Rattle.spec_trees.specs.declared.tree.Mark.{Mark}
-use Rattle.spec_trees.specs.Tree.{Rules, leaf_of, mark_of}
+use Rattle.spec_trees.specs.Tree.{IsValid, Rules, leaf_of, mark_of}
 use Rattle.spec_pool.specs.declared.ledger.Part.{Part}
 use Rattle.spec_pool.specs.declared.ledger.Terms.{Terms}
 use Rattle.spec_pool.specs.History.{Fresh}
 use Rattle.spec_pool.specs.Accounts.{Account, Balances, TakesNode, TakesTop}
 use Rattle.steal_pool.specs.declared.seat.PoolError.{PoolError}
 use Rattle.steal_pool.specs.Rule.{DequeId, End}
-use Rattle.steal_pool.specs.Workers.{Holder, taken_by}
+use Rattle.steal_pool.specs.Workers.{Holder, IsNew, taken_by}
 
 -- the rules by which the valid nodes are those that lie in the root
 abbrev pub rules_within : Rules → Node → Rules
@@ -94,3 +94,11 @@ pub record SameSeat (s s' : Seat) : Type 0 where
 abbrev pub IsFull : Rules → Seat → Type 0
 IsFull t s = (n : Node) × (m : Mark) × (s.worker.hand ≡ Some n) × (mark_of (t.verdict n) ≡ Some m)
     × (s.terms.limit ≤ length s.part.seen) × Fresh (leaf_of n m) s.part.seen
+
+-- the valid nodes of a pool are those of its judge that lie in the root, which is one of them
+abbrev pub IsNamed : Rules → Rules → Node → Type 0
+IsNamed t r root = (t ≡ rules_within r root) × IsValid r root
+
+-- a seat that has done nothing yet, with this in its hand
+abbrev pub NewSeat : Part → Terms → Option Node → Seat → Type 0
+NewSeat part terms hand s = IsNew part.number hand s.worker × (s.part ≡ part) × (s.terms ≡ terms) × (s.refusal ≡ None)

@@ -3,7 +3,7 @@ use Rattle.std.specs.Prelude.{◌≡◌, ◌⊎◌, ℕ, ◌+◌, ◌≤◌, Lis
 use Rattle.spec_trees.specs.declared.tree.Node.{Node}
 use Rattle.spec_trees.specs.declared.tree.Verdict.TheVariants.{Split}
 use Rattle.spec_trees.specs.Tree.{Rules, IsValid}
-use Rattle.steal_pool.specs.Rule.{AreValid, End, IsUsedUp, takes_one, with_put, with_view}
+use Rattle.steal_pool.specs.Rule.{AreValid, End, IsUsedUp, opening, takes_one, with_put, with_view}
 
 -- the end of its own deque, its passes on the other deques, how many nodes it put on its own since a pop of its own
 -- last gave nothing, the node in its hand, and its kept stack with the top last
@@ -71,3 +71,7 @@ Takes n w v = TakesKept n w v ⊎ TakesOwn n w v ⊎ TakesOther n (looked w) v
 -- it found none: where no pass on its deque is out, what it put there is what it took there
 abbrev pub FindsNone : Holder → Holder → Type 0
 FindsNone w v = (w.kept ≡ []) × IsUsedUp w.own.view × (v ≡ looked w)
+
+-- a worker that has put and taken nothing, and has no pass
+abbrev pub IsNew : ℕ → Option Node → Holder → Type 0
+IsNew number hand w = (w.own.worker ≡ number) × (w.own.view ≡ opening) × (w.passes ≡ []) × (w.since ≡ 0) × (w.hand ≡ hand) × (w.kept ≡ [])

@@ -2,6 +2,7 @@
 #![tactic(auto)]
 
 mod ends;
+mod making;
 mod seat;
 mod view;
 mod work;

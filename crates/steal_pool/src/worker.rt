@@ -1,14 +1,16 @@
 // A worker: the end of its own deque, its passes on the others, its hand and its kept stack.
-ghost use Rattle.std.specs.Prelude.{◌≡◌, ◌<◌, ◌≤◌, [], Some, None, MatchOption, IsTrue, IsFalse, IfSome, length};
+ghost use Rattle.std.specs.Prelude.{◌≡◌, ◌<◌, ◌≤◌, [], Some, None, MatchOption, IsTrue, IsFalse, IfOk, IfSome, length};
 ghost use Rattle.spec_trees.specs.declared.tree.Node.{Node};
 ghost use Rattle.spec_trees.specs.Tree.{IsSound, IsValid};
 ghost use Rattle.steal_pool.specs.Rule.{IsUsedUp};
-ghost use Rattle.steal_pool.specs.Workers.{FindsNone, IsSplit, TookOne, Takes, TakesKept, TakesOther, TakesOwn, looked, on_deque, on_stack, with_hand};
-ghost use Rattle.steal_pool.specs.declared.worker.Pushed.TheVariants.{OnDeque, Kept, Memory};
+ghost use Rattle.steal_pool.specs.Workers.{FindsNone, IsNew, IsSplit, TookOne, Takes, TakesKept, TakesOther, TakesOwn, looked, on_deque, on_stack, with_hand};
+ghost use Rattle.steal_pool.specs.declared.worker.Pushed.TheVariants.{OnDeque, Kept, Memory as OutOfMemory};
 
 use crate::ends::{Owner, ROOM, Thief};
 use crate::view::Naming;
+use spec_pool::Memory;
 use spec_trees::Node;
+use std::alloc::Global;
 use std::marker::Model;
 
 /// The most looks at other workers' deques in one search for a node.
@@ -56,6 +58,21 @@ fn steal_from<N: Naming>(passes: &mut [Thief<N>], scans: u32) -> Option<Node>
 }
 
 impl<N: Naming> Worker<N> {
+    /// A worker with this number and a deque that holds nothing. It has no pass on another deque.
+    pub fn new(alloc: Global, number: u32, hand: Option<Node>) -> Result<Worker<N>, Memory>
+        requires hand { (n : Node) → hand ≡ Some n → IsValid N.rules n }
+        ensures new { IfOk result (λ w. IsNew number hand w) }
+    {
+        let own = Owner::<N>::open(alloc, number)?;
+        Ok(Worker {
+            own,
+            passes: Vec::new(alloc),
+            since: 0,
+            hand,
+            kept: Vec::new(alloc),
+        })
+    }
+
     /// The node in the hand.
     pub fn node(&self) -> Option<Node>
         ensures hand { result ≡ self.now.hand }
@@ -173,7 +190,7 @@ impl<N: Naming> Worker<N> {
         ensures deque { result ≡ OnDeque → self.new ≡ on_deque self.old left right }
         ensures few { result ≡ OnDeque → self.old.since < 64 }
         ensures kept { result ≡ Kept → self.new ≡ on_stack self.old left right }
-        ensures memory { (n : Node) → result ≡ Memory n → (n ≡ right) × (self.new ≡ self.old) }
+        ensures memory { (n : Node) → result ≡ OutOfMemory n → (n ≡ right) × (self.new ≡ self.old) }
         ensures first { length self.old.own.view.put < 64 → result ≡ OnDeque }
     {
         if self.offer(left, right) {

@@ -1,0 +1,69 @@
+-- What entering a leaf, and putting a right part away, say of a seat's work, by what was answered.
+use Rattle.std.proofs.Common.{◌≡◌, inl, inr, ℕ, ◌+◌, ◌≤◌, List, length, Some, None, refl, sym, ap, ◌∙◌, subst, arith}
+use Rattle.spec_trees.specs.declared.tree.Node.{Node}
+use Rattle.spec_trees.specs.declared.tree.Leaf.{Leaf}
+use Rattle.spec_trees.specs.declared.book.Booked.{Booked}
+use Rattle.spec_trees.specs.Tree.{Rules, IsLeaf, IsSound, IsValid}
+use Rattle.spec_pool.specs.declared.ledger.Part.{Part}
+use Rattle.spec_pool.specs.declared.ledger.Entry.{Entry}
+use Rattle.spec_pool.specs.declared.ledger.Entry.TheVariants.{Entered, Again, Full, Memory}
+use Rattle.spec_pool.specs.History.{Entering, Fresh, Tells, booked}
+use Rattle.spec_pool.proofs.Weights.{weigh-push}
+use Rattle.steal_pool.specs.declared.worker.Pushed.{Pushed}
+use Rattle.steal_pool.specs.declared.worker.Pushed.TheVariants as P
+use Rattle.steal_pool.specs.Workers.{Holder, IsSplit, on_deque, on_stack, with_hand}
+use Rattle.steal_pool.specs.Seats.{SameSeat, Seat, Works, with_refusal}
+use Rattle.steal_pool.proofs.Accounts.{Worked, entered_weight, enter_works, idle_works, split_works, works_more}
+
+-- ---- entering
+module _ (limit : ℕ) (leaf : Leaf) (p q : Part) (r : Entry) (m : Entering limit leaf p q r) where
+  told : (x : Entry) → r ≡ x → Tells limit m.log (booked leaf p.number) p q x
+  told x e = subst (λ (y : Entry). Tells limit m.log (booked leaf p.number) p q y) e m.tells
+
+  pub entered_more : (place : ℕ) → r ≡ Entered place → (h : Leaf → ℕ) → entered_weight h q ≡ entered_weight h p + h leaf
+  entered_more place e h =
+      let t = told (Entered place) e in omega (arith, ap (entered_weight h) t.2, weigh-push (λ (b : Booked). h b.leaf) p.mine (booked leaf p.number))
+
+  pub again_more : (place : ℕ) → r ≡ Again place → (h : Leaf → ℕ) → entered_weight h q ≡ entered_weight h p + h leaf
+  again_more place e h =
+      let t = told (Again place) e in omega (arith, ap (entered_weight h) t.1, weigh-push h p.again leaf)
+
+  pub full_same : r ≡ Full → (q.mine ≡ p.mine) × (q.again ≡ p.again)
+  full_same e = let t = told Full e in (ap (λ (x : Part). x.mine) t.2, ap (λ (x : Part). x.again) t.2)
+
+  pub full_seen : r ≡ Full → (limit ≤ length q.seen) × Fresh leaf q.seen
+  full_seen e =
+      let t = told Full e in
+      let seen : q.seen ≡ m.log = ap (λ (x : Part). x.seen) t.2 in
+      (subst (λ (l : List Booked). limit ≤ length l) (sym seen) t.1, subst (λ (l : List Booked). Fresh leaf l) (sym seen) t.0)
+
+  pub memory_same : r ≡ Memory → (q.mine ≡ p.mine) × (q.again ≡ p.again)
+  memory_same e = let t = told Memory e in (ap (λ (x : Part). x.mine) t, ap (λ (x : Part). x.again) t)
+
+pub leaf_works : (t : Rules) (w v : Holder) (p q : Part) (leaf : Leaf) → IsSound t → IsLeaf t leaf → w.hand ≡ Some leaf.node → v ≡ with_hand w None → ((h : Leaf → ℕ) → entered_weight h q ≡ entered_weight h p + h leaf) → Worked t w p v q
+leaf_works t w v p q leaf sound is hand e more = enter_works t w v p q leaf.node leaf.mark sound is.valid is.marked hand e more
+
+pub same_works : (t : Rules) (w : Holder) (p q : Part) → (q.mine ≡ p.mine) × (q.again ≡ p.again) → Worked t w p w q
+same_works t w p q e = idle_works t w p w q refl refl refl refl e.0 e.1
+
+-- ---- putting a right part away
+pub push_works : (t : Rules) (w v : Holder) (p : Part) (left right : Node) → IsSound t → ((n : Node) → w.hand ≡ Some n → IsValid t n) → IsSplit t w left right
+    → (r : Pushed) → (r ≡ P.OnDeque → v ≡ on_deque w left right) → (r ≡ P.Kept → v ≡ on_stack w left right) → ((n : Node) → r ≡ P.Memory n → (n ≡ right) × (v ≡ w)) → Worked t w p v p
+push_works t w v p left right sound valid split P.OnDeque deque kept memory = split_works t w v p left right sound valid split (inl (deque refl))
+push_works t w v p left right sound valid split P.Kept deque kept memory = split_works t w v p left right sound valid split (inr (kept refl))
+push_works t w v p left right sound valid split (P.Memory n) deque kept memory =
+    let e = (memory n refl).1 in
+    subst (λ (u : Holder). Worked t w p u p) (sym e) (same_works t w p p (refl, refl))
+
+-- ---- pieces of a seat's work
+pub same_more : (a b c : Seat) → SameSeat a b → SameSeat b c → SameSeat a c
+same_more a b c x y = record { ways = y.ways ∙ x.ways; terms = y.terms ∙ x.terms; number = y.number ∙ x.number }
+
+pub seat_idle : (t : Rules) (s : Seat) → Works t s s
+seat_idle t s = same_works t s.worker s.part s.part (refl, refl)
+
+pub seat_more : (t : Rules) (a b c : Seat) → Works t a b → Works t b c → Works t a c
+seat_more t a b c x y = works_more t a.worker a.part b.worker b.part c.worker c.part x y
+
+pub seat_refused : (t : Rules) (a b c d : Seat) (e : _) → Works t a b → Works t b c → d ≡ with_refusal c e → Works t a d
+seat_refused t a b c d e x y is = subst (λ (s : Seat). Works t a s) (sym is) (seat_more t a b c x y)

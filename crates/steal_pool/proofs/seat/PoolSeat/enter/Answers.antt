@@ -1,0 +1,33 @@
+use Rattle.std.proofs.Common.{ap, ◌∙◌}
+use Rattle.span_ledger.specs.Seats.{part}
+use Rattle.steal_pool.proofs.Entering.{again_more, entered_more, full_same, full_seen, leaf_works, memory_same, same_works}
+use Rattle.steal_pool.proofs.Within.{named_sound}
+use Rattle.steal_pool.proofs.seat.PoolSeat.enter.Goals as goal
+
+pub returns-in-Entered-clause-works : goal.returns-in-Entered-clause-works
+returns-in-Entered-clause-works g c = rw (← c.self.view_is) (leaf_works g.N.Naming.rules c.self.inside.worker c.lay_down.new.self (part c.self.inside.entries) (part c.enter.new.seat) c.args.leaf
+    (named_sound _ _ _ c.self.invariant.0 c.self.invariant.1 c.rules_are_sound.ensures) c.requires.leaf (ap (λ s. s.worker.hand) c.self.view_is ∙ c.requires.hand) c.lay_down.ensures
+    (entered_more _ _ _ _ _ c.enter.ensures.entering _ c.in-Entered.is))
+
+pub returns-in-Again-clause-works : goal.returns-in-Again-clause-works
+returns-in-Again-clause-works g c = rw (← c.self.view_is) (leaf_works g.N.Naming.rules c.self.inside.worker c.lay_down-in-Again.new.self (part c.self.inside.entries) (part c.enter.new.seat) c.args.leaf
+    (named_sound _ _ _ c.self.invariant.0 c.self.invariant.1 c.rules_are_sound.ensures) c.requires.leaf (ap (λ s. s.worker.hand) c.self.view_is ∙ c.requires.hand) c.lay_down-in-Again.ensures
+    (again_more _ _ _ _ _ c.enter.ensures.entering _ c.in-Again.is))
+
+pub returns-in-Full-clause-works : goal.returns-in-Full-clause-works
+returns-in-Full-clause-works g c = rw (← c.self.view_is) (same_works g.N.Naming.rules c.self.inside.worker (part c.self.inside.entries) (part c.enter.new.seat)
+    (full_same _ _ _ _ _ c.enter.ensures.entering c.in-Full.is))
+
+pub returns-in-Full-clause-full : goal.returns-in-Full-clause-full
+returns-in-Full-clause-full g c = λ _. let seen = full_seen _ _ _ _ _ c.enter.ensures.entering c.in-Full.is in (
+  c.args.leaf.node,
+  c.args.leaf.mark,
+  ap (λ s. s.worker.hand) c.self.view_is ∙ c.requires.hand,
+  c.requires.leaf.marked,
+  seen.0,
+  seen.1,
+)
+
+pub returns-in-Memory-clause-works : goal.returns-in-Memory-clause-works
+returns-in-Memory-clause-works g c = rw (← c.self.view_is) (same_works g.N.Naming.rules c.self.inside.worker (part c.self.inside.entries) (part c.enter.new.seat)
+    (memory_same _ _ _ _ _ c.enter.ensures.entering c.in-Memory.is))

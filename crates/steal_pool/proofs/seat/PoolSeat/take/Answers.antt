@@ -1,0 +1,15 @@
+use Rattle.std.proofs.Common.{refl, ap, ◌∙◌}
+use Rattle.span_ledger.specs.Seats.{part}
+use Rattle.steal_pool.proofs.Taking.{taken_gets, taken_works, taken_ways}
+use Rattle.steal_pool.proofs.seat.PoolSeat.take.Goals as goal
+
+pub returns-clause-taken : goal.returns-clause-taken
+returns-clause-taken g c = rw (← c.self.view_is) (taken_gets c.take.result c.self.inside.worker c.take.new.self (part c.self.inside.entries)
+    (ap (λ s. s.worker.hand) c.self.view_is ∙ c.requires.empty) c.take.ensures.taken)
+
+pub returns-clause-works : goal.returns-clause-works
+returns-clause-works g c = rw (← c.self.view_is) (taken_works g.N.Naming.rules c.take.result c.self.inside.worker c.take.new.self (part c.self.inside.entries)
+    (ap (λ s. s.worker.hand) c.self.view_is ∙ c.requires.empty) c.take.ensures.taken)
+
+pub returns-clause-same : goal.returns-clause-same
+returns-clause-same g c = rw (← c.self.view_is) (record { ways = taken_ways c.take.result c.self.inside.worker c.take.new.self c.take.ensures.taken; terms = refl; number = refl })

@@ -1,0 +1,26 @@
+use Rattle.std.proofs.Common.{refl, ◌∙◌}
+use Rattle.steal_pool.proofs.Entering.{same_more, seat_idle, seat_more, seat_refused}
+use Rattle.steal_pool.proofs.seat.PoolSeat.work.Goals as goal
+
+pub loop-init : goal.loop-init
+loop-init g c = record { works = seat_idle g.N.Naming.rules c.args.self.now; same = record { ways = refl; terms = refl; number = refl }; free = c.requires.free }
+
+pub returns-in-Err-clause-works : goal.returns-in-Err-clause-works
+returns-in-Err-clause-works g c = seat_refused g.N.Naming.rules c.args.self.now c.loop.self c.step.new.self c.refuse.new.self _ c.loop.invariant.works c.step.ensures.works c.refuse.ensures
+
+pub loop-preserved-in_default : goal.loop-preserved-in_default
+loop-preserved-in_default g c = record {
+  works = seat_more g.N.Naming.rules c.args.self.now c.loop.self c.step.new.self c.loop.invariant.works c.step.ensures.works;
+  same = same_more c.args.self.now c.loop.self c.step.new.self c.loop.invariant.same c.step.ensures.same;
+  free = c.step.ensures.refusal ∙ c.loop.invariant.free;
+}
+
+pub loop-preserved : goal.loop-preserved
+loop-preserved g c = record {
+  works = seat_more g.N.Naming.rules c.args.self.now c.loop.self c.take.new.self c.loop.invariant.works c.take.ensures.works;
+  same = same_more c.args.self.now c.loop.self c.take.new.self c.loop.invariant.same c.take.ensures.same;
+  free = c.take.ensures.refusal ∙ c.loop.invariant.free;
+}
+
+pub returns-in-None-take-clause-works : goal.returns-in-None-take-clause-works
+returns-in-None-take-clause-works g c = seat_more g.N.Naming.rules c.args.self.now c.loop.self c.take.new.self c.loop.invariant.works c.take.ensures.works

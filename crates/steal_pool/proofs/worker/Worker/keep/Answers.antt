@@ -1,0 +1,9 @@
+use Rattle.std.proofs.Common.{sym, subst}
+use Rattle.steal_pool.specs.Workers.{Holder, IsSplit}
+use Rattle.steal_pool.proofs.Standing.{more_stands}
+use Rattle.steal_pool.proofs.worker.Worker.keep.Goals as goal
+
+pub invariant_of-self : goal.invariant_of-self
+invariant_of-self g c = more_stands g.N.Naming.rules _ _ c.args.left c.args.right c.self.invariant c.requires.sound
+    (subst (λ (w : Holder). IsSplit g.N.Naming.rules w c.args.left c.args.right) (sym c.self.view_is) c.requires.split)
+    c.in-Ok.ensures.items

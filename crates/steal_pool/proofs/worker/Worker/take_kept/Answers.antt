@@ -1,0 +1,5 @@
+use Rattle.steal_pool.proofs.Standing.{kept_stands}
+use Rattle.steal_pool.proofs.worker.Worker.take_kept.Goals as goal
+
+pub invariant_of-self : goal.invariant_of-self
+invariant_of-self g c = kept_stands g.N.Naming.rules _ _ _ c.self.invariant c.in-Some.ensures.items

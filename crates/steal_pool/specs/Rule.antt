@@ -1,0 +1,90 @@
+-- The rule of one deque. Its owner and each pass on it know what they put and what they took; put together, the nodes
+-- that it holds and those that anybody took are those that its owner put on it.
+use Rattle.std.specs.Prelude.{◌≡◌, ℕ, ◌+◌, ◌-◌, pos, List, [], ◌∷◌, ◌++◌, flat_map, sum_by, IsPermutation}
+use Rattle.std.specs.List.{AllByRecursion}
+use Rattle.std.specs.Global.{Global}
+use Rattle.spec_trees.specs.declared.tree.Node.{Node}
+use Rattle.spec_trees.specs.declared.tree.Verdict.TheVariants.{Clear}
+use Rattle.spec_trees.specs.Tree.{Rules, IsValid}
+use Rattle.steal_pool.specs.declared.view.View.{View}
+
+-- rules by which no node is split, for a name that no call has picked yet
+abbrev pub no_rules : Rules
+no_rules = record { first = pos 0; last = pos 0; deepest = 0; verdict = λ n. Clear; parts = λ n. (n, n) }
+
+abbrev pub AreValid : Rules → List Node → Type 0
+AreValid t ns = AllByRecursion (IsValid t) ns
+
+-- ---- what an end of a deque knows
+abbrev pub view_of : ℕ → ℕ → ℕ → List Node → List Node → View
+view_of owner made out put taken = record { owner = owner; made = made; out = out; put = put; taken = taken }
+
+-- the owner's view of a new deque, that of a new pass, and that of a pass that was joined
+abbrev pub opening : View
+opening = view_of 1 0 0 [] []
+
+abbrev pub pass_out : View
+pass_out = view_of 0 0 1 [] []
+
+abbrev pub spent : View
+spent = view_of 0 0 0 [] []
+
+-- ---- what each kind of step does to a view
+abbrev pub with_put : View → List Node → View
+with_put v xs = view_of v.owner v.made v.out (v.put ++ xs) v.taken
+
+abbrev pub with_taken : View → List Node → View
+with_taken v xs = view_of v.owner v.made v.out v.put (v.taken ++ xs)
+
+abbrev pub made_one : View → View
+made_one v = view_of v.owner (v.made + 1) v.out v.put v.taken
+
+abbrev pub joined_one : View → View → View
+joined_one v w = view_of v.owner (v.made - 1) v.out v.put (v.taken ++ w.taken)
+
+-- the nodes xs, which are valid, were taken
+abbrev pub HasTaken : Rules → View → List Node → View → Type 0
+HasTaken t v xs w = (w ≡ with_taken v xs) × AreValid t xs
+
+-- where no pass is out, the nodes that the owner put are those that it took
+abbrev pub IsUsedUp : View → Type 0
+IsUsedUp v = v.made ≡ 0 → IsPermutation v.put v.taken
+
+-- ---- the rule
+-- only the owner's view has put nodes and has made passes, and a view that is neither the owner's nor out is empty
+pub record Fits (v : View) : Type 0 where
+  pub put : v.owner ≡ 0 → v.put ≡ []
+  pub made : v.owner ≡ 0 → v.made ≡ 0
+  pub taken : v.owner + v.out ≡ 0 → v.taken ≡ []
+
+-- the nodes that were put are those that were taken with those that the deque holds, all of them valid; there is one
+-- owner, and as many passes are out as it has made and not joined
+pub record Balanced (t : Rules) (items : List Node) (views : List View) : Type 0 where
+  pub balance : IsPermutation (flat_map (λ v. v.put) views) (flat_map (λ v. v.taken) views ++ items)
+  pub valid : AreValid t items
+  pub one_owner : sum_by (λ v. v.owner) views ≡ 1
+  pub counted : sum_by (λ v. v.out) views ≡ sum_by (λ v. v.made) views
+  pub fit : AllByRecursion Fits views
+
+-- ---- how contracts see an end of a deque
+abbrev pub DequeId : Type 0
+DequeId = (ℕ × ℕ) × Global
+
+-- the number of the worker whose deque it is, which deque that is, and what the end knows
+pub record End : Type 0 where
+  pub worker : ℕ
+  pub deque : DequeId
+  pub view : View
+
+abbrev pub end_of : ℕ → DequeId → View → End
+end_of worker deque view = record { worker = worker; deque = deque; view = view }
+
+abbrev pub with_view : End → View → End
+with_view e v = end_of e.worker e.deque v
+
+-- two ends of the same worker's deque
+abbrev pub SameDeque : End → End → Type 0
+SameDeque e f = (e.worker ≡ f.worker) × (e.deque ≡ f.deque)
+
+abbrev pub takes_one : End → Node → End
+takes_one e n = with_view e (with_taken e.view (n ∷ []))

@@ -1,0 +1,104 @@
+-- A worker's seat at the pool: what it has and knows, what it entered, and what a piece of its work balances.
+use Rattle.std.specs.Prelude.{◌≡◌, ◌⊎◌, ◌≤◌, ℕ, List, ◌++◌, length, map, Option, Some, None, IsPermutation}
+use Rattle.spec_trees.specs.declared.tree.Node.{Node}
+use Rattle.spec_trees.specs.declared.tree.Leaf.{Leaf}
+use Rattle.spec_trees.specs.declared.tree.Mark.{Mark}
+use Rattle.spec_trees.specs.Tree.{IsValid, Rules, leaf_of, mark_of}
+use Rattle.spec_pool.specs.declared.ledger.Part.{Part}
+use Rattle.spec_pool.specs.declared.ledger.Terms.{Terms}
+use Rattle.spec_pool.specs.History.{Fresh}
+use Rattle.spec_pool.specs.Accounts.{Account, Balances, TakesNode, TakesTop}
+use Rattle.steal_pool.specs.declared.seat.PoolError.{PoolError}
+use Rattle.steal_pool.specs.Rule.{DequeId, End}
+use Rattle.steal_pool.specs.Workers.{Holder, IsNew, taken_by}
+
+-- the rules by which the valid nodes are those that lie in the root
+abbrev pub rules_within : Rules → Node → Rules
+rules_within t root = record { first = root.a; last = root.b; deepest = t.deepest; verdict = t.verdict; parts = t.parts }
+
+-- the worker, its part of the ledger's history, the terms of the ledger, and the refusal that it keeps
+pub record Seat : Type 0 where
+  pub worker : Holder
+  pub part : Part
+  pub terms : Terms
+  pub refusal : Option PoolError
+
+abbrev pub seat_of : Holder → Part → Terms → Option PoolError → Seat
+seat_of worker part terms refusal = record { worker = worker; part = part; terms = terms; refusal = refusal }
+
+abbrev pub with_worker : Seat → Holder → Seat
+with_worker s w = seat_of w s.part s.terms s.refusal
+
+abbrev pub with_refusal : Seat → Option PoolError → Seat
+with_refusal s refusal = seat_of s.worker s.part s.terms refusal
+
+abbrev pub IsHolding : Seat → Type 0
+IsHolding s = (n : Node) × (s.worker.hand ≡ Some n)
+
+-- ---- its account
+-- the leaves for which the ledger answered that they are entered now, and that they stood already
+abbrev pub entered_by : Part → List Leaf
+entered_by p = map (λ e. e.leaf) p.mine ++ p.again
+
+abbrev pub account_of : Holder → Part → Account
+account_of w p = record { hand = w.hand; kept = w.kept; put = w.own.view.put; taken = taken_by w; entered = entered_by p }
+
+abbrev pub account : Seat → Account
+account s = account_of s.worker s.part
+
+-- the same account, but for the order of the nodes that were taken and of the leaves that were entered
+pub record IsLike (a b : Account) : Type 0 where
+  pub hand : b.hand ≡ a.hand
+  pub kept : b.kept ≡ a.kept
+  pub put : b.put ≡ a.put
+  pub taken : IsPermutation a.taken b.taken
+  pub entered : IsPermutation a.entered b.entered
+
+-- the seat's account changes by R
+abbrev pub Changes : (Account → Account → Type 0) → Seat → Seat → Type 0
+Changes R s s' = (b : Account) × R (account s) b × IsLike b (account s')
+
+-- a node comes into the empty hand, from the kept stack or from some deque
+abbrev pub Gets : Node → Account → Account → Type 0
+Gets n a b = (b.hand ≡ Some n) × (TakesTop a b ⊎ TakesNode n a b)
+
+-- the seat's account balances over a piece of work
+abbrev pub Works : Rules → Seat → Seat → Type 0
+Works t s s' = Changes (Balances t) s s'
+
+-- ---- what stays
+-- whose deque an end is of, and which deque that is
+abbrev pub place_of : End → ℕ × DequeId
+place_of e = (e.worker, e.deque)
+
+-- its deque, the passes on it that it made and didn't join, and the deques that its own passes are of
+pub record Ways : Type 0 where
+  pub own : ℕ × DequeId
+  pub made : ℕ
+  pub others : List (ℕ × DequeId)
+
+abbrev pub ways_of : ℕ × DequeId → ℕ → List (ℕ × DequeId) → Ways
+ways_of own made others = record { own = own; made = made; others = others }
+
+abbrev pub ways : Holder → Ways
+ways w = ways_of (place_of w.own) w.own.view.made (map place_of w.passes)
+
+-- the same ways, ledger and number
+pub record SameSeat (s s' : Seat) : Type 0 where
+  pub ways : ways s'.worker ≡ ways s.worker
+  pub terms : s'.terms ≡ s.terms
+  pub number : s'.part.number ≡ s.part.number
+
+-- ---- refusals
+-- the hand holds a leaf that isn't among the entries that the seat has seen, and these are as many as the limit
+abbrev pub IsFull : Rules → Seat → Type 0
+IsFull t s = (n : Node) × (m : Mark) × (s.worker.hand ≡ Some n) × (mark_of (t.verdict n) ≡ Some m)
+    × (s.terms.limit ≤ length s.part.seen) × Fresh (leaf_of n m) s.part.seen
+
+-- the valid nodes of a pool are those of its judge that lie in the root, which is one of them
+abbrev pub IsNamed : Rules → Rules → Node → Type 0
+IsNamed t r root = (t ≡ rules_within r root) × IsValid r root
+
+-- a seat that has done nothing yet, with this in its hand
+abbrev pub NewSeat : Part → Terms → Option Node → Seat → Type 0
+NewSeat part terms hand s = IsNew part.number hand s.worker × (s.part ≡ part) × (s.terms ≡ terms) × (s.refusal ≡ None)

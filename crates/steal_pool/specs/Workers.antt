@@ -1,0 +1,77 @@
+-- What a worker has and knows, and what pushing a node and taking one change of it.
+use Rattle.std.specs.Prelude.{◌≡◌, ◌⊎◌, ℕ, ◌+◌, ◌≤◌, List, [], ◌∷◌, ◌++◌, length, flat_map, Option, Some, slice_get, slice_set}
+use Rattle.spec_trees.specs.declared.tree.Node.{Node}
+use Rattle.spec_trees.specs.declared.tree.Verdict.TheVariants.{Split}
+use Rattle.spec_trees.specs.Tree.{Rules, IsValid}
+use Rattle.steal_pool.specs.Rule.{AreValid, End, IsUsedUp, opening, takes_one, with_put, with_view}
+
+-- the end of its own deque, its passes on the other deques, how many nodes it put on its own since a pop of its own
+-- last gave nothing, the node in its hand, and its kept stack with the top last
+pub record Holder : Type 0 where
+  pub own : End
+  pub passes : List End
+  pub since : ℕ
+  pub hand : Option Node
+  pub kept : List Node
+
+abbrev pub holder_of : End → List End → ℕ → Option Node → List Node → Holder
+holder_of own passes since hand kept = record { own = own; passes = passes; since = since; hand = hand; kept = kept }
+
+-- all nodes that it took from deques
+abbrev pub taken_by : Holder → List Node
+taken_by w = w.own.view.taken ++ flat_map (λ e. e.view.taken) w.passes
+
+-- what is true of each worker
+pub record Stands (t : Rules) (w : Holder) : Type 0 where
+  pub hand : (n : Node) → w.hand ≡ Some n → IsValid t n
+  pub kept : AreValid t w.kept
+  pub since : w.since ≤ length w.own.view.put
+
+abbrev pub with_hand : Holder → Option Node → Holder
+with_hand w hand = holder_of w.own w.passes w.since hand w.kept
+
+-- ---- putting the right part of a node away
+-- the node in the hand is to be split into left and right
+abbrev pub IsSplit : Rules → Holder → Node → Node → Type 0
+IsSplit t w left right = (n : Node) × (w.hand ≡ Some n) × (t.verdict n ≡ Split) × (t.parts n ≡ (left, right))
+
+-- the node in the hand is to be split, and this is its right part
+abbrev pub IsRight : Rules → Holder → Node → Type 0
+IsRight t w right = (n : Node) × (w.hand ≡ Some n) × (t.verdict n ≡ Split) × (right ≡ (t.parts n).1)
+
+-- the right part stands on the own deque, or on the kept stack, and the left part in the hand
+abbrev pub on_deque : Holder → Node → Node → Holder
+on_deque w left right = holder_of (with_view w.own (with_put w.own.view (right ∷ []))) w.passes (w.since + 1) (Some left) w.kept
+
+abbrev pub on_stack : Holder → Node → Node → Holder
+on_stack w left right = holder_of w.own w.passes w.since (Some left) (w.kept ++ right ∷ [])
+
+-- ---- taking a node
+-- one pass took a node, and the others are as they were
+abbrev pub TookOne : Node → List End → List End → Type 0
+TookOne n es fs = (k : ℕ) × (e : End) × (slice_get es k ≡ Some e) × (fs ≡ slice_set es k (takes_one e n))
+
+-- a pop of the own deque gave nothing
+abbrev pub looked : Holder → Holder
+looked w = holder_of w.own w.passes 0 w.hand w.kept
+
+-- the worker took n: from the kept stack, from its own deque, or from another by one pass
+abbrev pub TakesKept : Node → Holder → Holder → Type 0
+TakesKept n w v = (rest : List Node) × (w.kept ≡ rest ++ n ∷ []) × (v ≡ holder_of w.own w.passes w.since (Some n) rest)
+
+abbrev pub TakesOwn : Node → Holder → Holder → Type 0
+TakesOwn n w v = v ≡ holder_of (takes_one w.own n) w.passes w.since (Some n) w.kept
+
+abbrev pub TakesOther : Node → Holder → Holder → Type 0
+TakesOther n w v = (es : List End) × TookOne n w.passes es × (v ≡ holder_of w.own es w.since (Some n) w.kept)
+
+abbrev pub Takes : Node → Holder → Holder → Type 0
+Takes n w v = TakesKept n w v ⊎ TakesOwn n w v ⊎ TakesOther n (looked w) v
+
+-- it found none: where no pass on its deque is out, what it put there is what it took there
+abbrev pub FindsNone : Holder → Holder → Type 0
+FindsNone w v = (w.kept ≡ []) × IsUsedUp w.own.view × (v ≡ looked w)
+
+-- a worker that has put and taken nothing, and has no pass
+abbrev pub IsNew : ℕ → Option Node → Holder → Type 0
+IsNew number hand w = (w.own.worker ≡ number) × (w.own.view ≡ opening) × (w.passes ≡ []) × (w.since ≡ 0) × (w.hand ≡ hand) × (w.kept ≡ [])

@@ -1,0 +1,143 @@
+// The ends of a deque: that of its owner, and that of each worker that may steal from it.
+ghost use Rattle.std.specs.Prelude.{◌≡◌, ◌+◌, ◌<◌, ◌≤◌, [], ◌∷◌, length, IfOk, OnOk, IfErr, IfSome, IfNone};
+ghost use Rattle.spec_trees.specs.Tree.{IsValid};
+ghost use Rattle.crossbeam_deque.specs.Steals.{MatchSteal};
+ghost use Rattle.steal_pool.specs.Rule.{opening, pass_out, with_put, made_one, joined_one, IsUsedUp, SameDeque, with_view, takes_one};
+
+use crate::view::{Balance, Naming, Puts, Steals, Takes, View, Ways};
+use crossbeam_deque::{Pass, Steal, Stealer, Worker};
+use spec_pool::Memory;
+use spec_trees::Node;
+use std::alloc::Global;
+use std::marker::Model;
+
+/// The first slots of a deque, so that its first 64 pushes never fail.
+pub const ROOM: usize = 64;
+
+/// The end of the worker that pushes on a deque. Contracts see whose it is, which deque, and what was put and taken.
+#[derive(Drop)]
+pub struct Owner<N: Naming> {
+    number: u32,
+    worker: Worker<Node, Global, View, Balance<N>>,
+}
+
+impl<N: Naming> Model for Owner<N> {
+    ghost use Rattle.std.specs.Prelude.{◌≡◌, ◌≤◌, length};
+    ghost use Rattle.crossbeam_deque.specs.Handles.{worker_view, worker_flavor, worker_deque, worker_index, worker_capacity};
+    ghost use Rattle.steal_pool.specs.Rule.{End, end_of};
+
+    ghost Value = { End };
+
+    ghost view = { λ o. end_of o.number (worker_deque o.worker) (worker_view o.worker) };
+
+    ghost invariant = { λ o. ((worker_view o.worker).owner ≡ 1) × (worker_flavor o.worker ≡ 0)
+        × (worker_index o.worker ≤ length (worker_view o.worker).put) × (64 ≤ worker_capacity o.worker) };
+}
+
+/// A pass on another worker's deque.
+#[derive(Drop)]
+pub struct Thief<N: Naming> {
+    number: u32,
+    stealer: Stealer<Node, Global, View, Balance<N>>,
+    pass: Pass<Node, View>,
+}
+
+impl<N: Naming> Model for Thief<N> {
+    ghost use Rattle.std.specs.Prelude.{◌≡◌};
+    ghost use Rattle.crossbeam_deque.specs.Handles.{view as seen, IsPassOf, stealer_deque};
+    ghost use Rattle.steal_pool.specs.Rule.{End, end_of};
+
+    ghost Value = { End };
+
+    ghost view = { λ t. end_of t.number (stealer_deque t.stealer) (seen t.pass) };
+
+    ghost invariant = { λ t. IsPassOf (stealer_deque t.stealer) t.pass × ((seen t.pass).owner ≡ 0) × ((seen t.pass).out ≡ 1) };
+}
+
+impl<N: Naming> Owner<N> {
+    /// A deque that holds nothing, of the worker with this number. Its nodes leave it in the order in which they came.
+    pub fn open(alloc: Global, number: u32) -> Result<Owner<N>, Memory>
+        ensures number { IfOk result (λ o. o.worker ≡ number) }
+        ensures empty { IfOk result (λ o. o.view ≡ opening) }
+    {
+        let worker = Worker::<Node, Global, View, Balance<N>>::fifo_as(alloc, ROOM)?;
+        Ok(Owner { number, worker })
+    }
+
+    /// Puts a node at the back, or hands it back. It never does so at the first 64 pushes.
+    pub fn push(&mut self, node: Node) -> Result<(), Node>
+        requires valid { IsValid N.rules node }
+        ensures put { OnOk result (self.new ≡ with_view self.old (with_put self.old.view (node ∷ []))) }
+        ensures back { IfErr result (λ n. (n ≡ node) × (self.new ≡ self.old)) }
+        ensures refused { IfErr result (λ n. 64 ≤ length self.old.view.put) }
+    {
+        self.worker.push_as::<Puts>(node)
+    }
+
+    /// Takes the node at the front. Where there is none and no pass is out, the nodes that were put are those that were
+    /// taken, each as often.
+    pub fn pop(&mut self) -> Option<Node>
+        ensures taken { IfSome result (λ n. (self.new ≡ takes_one self.old n) × IsValid N.rules n) }
+        ensures none { IfNone result ((self.new ≡ self.old) × IsUsedUp self.old.view) }
+    {
+        self.worker.pop_as::<Takes<N>>()
+    }
+
+    /// A pass on the deque, for another worker.
+    pub fn make_pass(&mut self) -> Result<Thief<N>, Memory>
+        ensures made { OnOk result (self.new ≡ with_view self.old (made_one self.old.view)) }
+        ensures pass { IfOk result (λ t. SameDeque t self.old × (t.view ≡ pass_out)) }
+        ensures refused { IfErr result (λ e. self.new ≡ self.old) }
+    {
+        let stealer = self.worker.stealer()?;
+        let pass = self.worker.another::<Ways>();
+        Ok(Thief {
+            number: self.number,
+            stealer,
+            pass,
+        })
+    }
+
+    /// Joins a pass: what it took stands with what the owner took.
+    pub fn join_pass(&mut self, thief: Thief<N>)
+        requires ours { thief.deque ≡ self.old.deque }
+        requires made { 0 < self.old.view.made }
+        ensures joined { self.new ≡ with_view self.old (joined_one self.old.view thief.view) }
+    {
+        self.worker.absorb::<Ways>(thief.pass);
+    }
+}
+
+impl<N: Naming> Thief<N> {
+    /// The number of the worker whose deque it is.
+    pub fn worker(&self) -> u32
+        ensures { result ≡ self.now.worker }
+    {
+        self.number
+    }
+
+    // Looks once at the front, and takes the node there.
+    fn scan(&mut self) -> Steal<Node>
+        ensures { MatchSteal result (self.new ≡ self.old) (self.new ≡ self.old)
+            (λ n. (self.new ≡ takes_one self.old n) × IsValid N.rules n) }
+    {
+        self.stealer.steal_as::<Steals<N>>(&mut self.pass)
+    }
+
+    /// Takes the node at the front, by at most `scans` looks, which are counted down.
+    pub fn steal(&mut self, scans: &mut u32) -> Option<Node>
+        ensures taken { IfSome result (λ n. (self.new ≡ takes_one self.old n) × IsValid N.rules n) }
+        ensures none { IfNone result (self.new ≡ self.old) }
+        ensures fewer { scans.new ≤ scans.old }
+    {
+        while *scans > 0 {
+            *scans -= 1;
+            match self.scan() {
+                Steal::Success(node) => return Some(node),
+                Steal::Empty => return None,
+                Steal::Retry => {}
+            }
+        }
+        None
+    }
+}

@@ -1,0 +1,14 @@
+//! Workers that split the nodes of a tree and steal them from one another, each with a deque of its own.
+#![tactic(auto)]
+
+mod ends;
+mod making;
+mod seat;
+mod view;
+mod work;
+mod worker;
+
+pub use ends::{Owner, Thief};
+pub use seat::{PoolError, PoolSeat};
+pub use view::{Naming, View};
+pub use worker::Pushed;

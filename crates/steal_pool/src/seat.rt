@@ -1,0 +1,41 @@
+// The seats of a pool: a worker with the right to enter leaves into the ledger.
+use crate::view::Naming;
+use crate::worker::Worker;
+use gf_edges::Gate;
+use halving::Judge;
+use span_ledger::{LedgerSeat, SpanLedger};
+use std::marker::Model;
+
+/// Why a worker stops before its work is done: the root has more leaves than the limit, or memory ran out.
+#[derive(Clone, Copy, Debug, PartialEq, Eq)]
+pub enum PoolError {
+    TooMany,
+    Memory,
+}
+
+/// A worker of a pool, with its judge, its ledger and its gate. Contracts see what it holds, its part of the ledger's
+/// history, the ledger's terms and the refusal that it keeps.
+#[derive(Drop)]
+pub struct PoolSeat<'p, N: Naming, J: Judge, G: Gate> {
+    pub(crate) worker: Worker<N>,
+    pub(crate) entries: LedgerSeat,
+    pub(crate) refusal: Option<PoolError>,
+    pub(crate) judge: &'p J,
+    pub(crate) ledger: &'p SpanLedger,
+    pub(crate) gate: &'p G,
+}
+
+impl<'p, N: Naming, J: Judge, G: Gate> Model for PoolSeat<'p, N, J, G> {
+    ghost use Rattle.std.specs.Prelude.{◌≡◌};
+    ghost use Rattle.spec_trees.specs.Tree.{IsValid};
+    ghost use Rattle.span_ledger.specs.Seats.{IsSeatOf, part, terms};
+    ghost use Rattle.steal_pool.specs.Seats.{Seat, rules_within, seat_of};
+
+    ghost Value = { Seat };
+
+    ghost view = { λ s. seat_of s.worker (part s.entries) (terms s.ledger.now) s.refusal };
+
+    ghost invariant = { λ s. (N.rules ≡ rules_within (J.rules s.judge.now) (terms s.ledger.now).root)
+        × IsValid (J.rules s.judge.now) (terms s.ledger.now).root
+        × IsSeatOf s.ledger.now s.entries };
+}

@@ -1,0 +1,177 @@
+// What a seat does: it puts the right part of a node away, takes the next node, and works until it finds none.
+ghost use Rattle.std.specs.Prelude.{◌≡◌, ◌<◌, ◌≤◌, [], Some, None, IfSome, IfNone, OnOk, IfErr, length};
+ghost use Rattle.spec_trees.specs.declared.tree.Node.{Node};
+ghost use Rattle.spec_trees.specs.Tree.{IsLeaf, IsValid, mark_of};
+ghost use Rattle.spec_trees.specs.declared.tree.Verdict.TheVariants.{Split};
+ghost use Rattle.spec_pool.specs.Accounts.{PutsRight, KeepsRight};
+ghost use Rattle.steal_pool.specs.Rule.{IsUsedUp};
+ghost use Rattle.steal_pool.specs.Workers.{IsRight};
+ghost use Rattle.steal_pool.specs.Seats.{Changes, Gets, IsFull, IsHolding, SameSeat, Works, with_refusal};
+ghost use Rattle.steal_pool.specs.declared.worker.Pushed.TheVariants.{OnDeque, Kept, Memory};
+ghost use Rattle.steal_pool.specs.declared.seat.PoolError.TheVariants.{TooMany, Memory as OutOfMemory};
+
+use crate::seat::{PoolError, PoolSeat};
+use crate::view::Naming;
+use crate::worker::Pushed;
+use gf_edges::Gate;
+use halving::{Judge, Mark, Node, rules_are_sound};
+use spec_pool::Entry;
+use spec_trees::Leaf;
+use std::sync::Wait;
+
+impl<'p, N: Naming, J: Judge, G: Gate> PoolSeat<'p, N, J, G> {
+    /// Puts the right part of the node in the hand, which is to be split, at the back of the own deque or on the own
+    /// kept stack; the left part stays in the hand. The kept stack takes it where the deque hands it back, and where 64
+    /// nodes were put on the deque since a pop of its owner last gave nothing.
+    pub fn push(&mut self, right: Node) -> Pushed
+        requires right { IsRight N.rules self.old.worker right }
+        ensures deque { result ≡ OnDeque → Changes (PutsRight N.rules right) self.old self.new }
+        ensures few { result ≡ OnDeque → self.old.worker.since < 64 }
+        ensures kept { result ≡ Kept → Changes (KeepsRight N.rules) self.old self.new }
+        ensures memory { (n : Node) → result ≡ Memory n → (n ≡ right) × (self.new ≡ self.old) }
+        ensures first { length self.old.worker.own.view.put < 64 → result ≡ OnDeque }
+        ensures same { SameSeat self.old self.new }
+    {
+        rules_are_sound(self.judge);
+        let Some(node) = self.worker.node() else {
+            unreachable!()
+        };
+        let (left, _) = self.judge.cut(node);
+        self.worker.push(left, right)
+    }
+
+    /// Takes the next node into the empty hand: the top of the own kept stack, else the front of the own deque, else
+    /// that of another worker's, by at most 10,000 looks at these. Nothing is said of the other deques where none is
+    /// found. It takes no memory and waits for nobody.
+    pub fn take(&mut self) -> Option<Node>
+        requires empty { self.old.worker.hand ≡ None }
+        ensures taken { IfSome result (λ n. Changes (Gets n) self.old self.new) }
+        ensures kept { IfNone result ((self.old.worker.kept ≡ []) × (self.new.worker.kept ≡ [])) }
+        ensures hand { IfNone result (self.new.worker.hand ≡ None) }
+        ensures used_up { IfNone result (IsUsedUp self.new.worker.own.view) }
+        ensures works { Works N.rules self.old self.new }
+        ensures same { SameSeat self.old self.new }
+        ensures refusal { self.new.refusal ≡ self.old.refusal }
+    {
+        self.worker.take()
+    }
+
+    // The node in the hand.
+    fn node(&self) -> Option<Node>
+        ensures hand { result ≡ self.now.worker.hand }
+        ensures valid { IfSome result (IsValid N.rules) }
+    {
+        self.worker.node()
+    }
+
+    // Keeps the refusal.
+    fn refuse(&mut self, error: PoolError)
+        ensures { self.new ≡ with_refusal self.old (Some error) }
+    {
+        self.refusal = Some(error);
+    }
+
+    // Enters the leaf of the node in the hand.
+    fn enter<R: Wait>(&mut self, rt: &R, leaf: Leaf) -> Result<(), PoolError>
+        requires hand { self.old.worker.hand ≡ Some leaf.node }
+        requires leaf { IsLeaf N.rules leaf }
+        ensures works { Works N.rules self.old self.new }
+        ensures same { SameSeat self.old self.new }
+        ensures refusal { self.new.refusal ≡ self.old.refusal }
+        ensures holds { IfErr result (λ e. self.new.worker.hand ≡ self.old.worker.hand) }
+        ensures full { IfErr result (λ e. e ≡ TooMany → IsFull N.rules self.new) }
+    {
+        rules_are_sound(self.judge);
+        match self.ledger.enter(rt, &mut self.entries, leaf) {
+            Entry::Entered { place: _ } => {
+                self.worker.lay_down();
+                Ok(())
+            }
+            Entry::Again { place: _ } => {
+                self.worker.lay_down();
+                Ok(())
+            }
+            Entry::Full => Err(PoolError::TooMany),
+            Entry::Memory => Err(PoolError::Memory),
+        }
+    }
+
+    // Splits the node in the hand.
+    fn split(&mut self, node: Node) -> Result<(), PoolError>
+        requires hand { self.old.worker.hand ≡ Some node }
+        requires valid { IsValid N.rules node }
+        requires split { N.rules.verdict node ≡ Split }
+        ensures works { Works N.rules self.old self.new }
+        ensures same { SameSeat self.old self.new }
+        ensures refusal { self.new.refusal ≡ self.old.refusal }
+        ensures holds { IfErr result (λ e. self.new.worker.hand ≡ self.old.worker.hand) }
+        ensures memory { IfErr result (λ e. e ≡ OutOfMemory) }
+    {
+        rules_are_sound(self.judge);
+        let (left, right) = self.judge.cut(node);
+        match self.worker.push(left, right) {
+            Pushed::OnDeque => Ok(()),
+            Pushed::Kept => Ok(()),
+            Pushed::Memory(_) => Err(PoolError::Memory),
+        }
+    }
+
+    // What the judge says of a node, once the gate is passed.
+    fn verdict(&self, node: Node) -> Option<Mark>
+        requires valid { IsValid N.rules node }
+        ensures { result ≡ mark_of (N.rules.verdict node) }
+    {
+        self.gate.pass(self.entries.number());
+        self.judge.judge(node).mark()
+    }
+
+    // Enters the node in the hand as a leaf, or splits it.
+    fn step<R: Wait>(&mut self, rt: &R, node: Node) -> Result<(), PoolError>
+        requires hand { self.old.worker.hand ≡ Some node }
+        requires valid { IsValid N.rules node }
+        ensures works { Works N.rules self.old self.new }
+        ensures same { SameSeat self.old self.new }
+        ensures refusal { self.new.refusal ≡ self.old.refusal }
+        ensures holds { IfErr result (λ e. self.new.worker.hand ≡ self.old.worker.hand) }
+        ensures full { IfErr result (λ e. e ≡ TooMany → IsFull N.rules self.new) }
+    {
+        match self.verdict(node) {
+            Some(mark) => self.enter(rt, Leaf { node, mark }),
+            None => self.split(node),
+        }
+    }
+
+    /// Works on the node in the hand and on all that it takes, until it finds none or is refused. The gate is passed
+    /// before each judging. After a refusal the hand still holds the node that was being worked on, and the seat keeps
+    /// the refusal. It waits for the ledger's lock.
+    pub fn work<R: Wait>(&mut self, rt: &R) -> Result<(), PoolError>
+        requires free { self.old.refusal ≡ None }
+        ensures works { Works N.rules self.old self.new }
+        ensures same { SameSeat self.old self.new }
+        ensures hand { OnOk result (self.new.worker.hand ≡ None) }
+        ensures kept { OnOk result (self.new.worker.kept ≡ []) }
+        ensures used_up { OnOk result (IsUsedUp self.new.worker.own.view) }
+        ensures free { OnOk result (self.new.refusal ≡ None) }
+        ensures refusal { IfErr result (λ e. self.new.refusal ≡ Some e) }
+        ensures holds { IfErr result (λ e. IsHolding self.new) }
+        ensures full { IfErr result (λ e. e ≡ TooMany → IsFull N.rules self.new) }
+    {
+        for _ in rt.forever() {
+            match self.node() {
+                Some(node) => {
+                    if let Err(error) = self.step(rt, node) {
+                        self.refuse(error);
+                        return Err(error);
+                    }
+                }
+                None => {
+                    match self.take() {
+                        Some(_) => {}
+                        None => return Ok(()),
+                    }
+                }
+            }
+        }
+        unreachable!()
+    }
+}

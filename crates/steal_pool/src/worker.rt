@@ -1,0 +1,204 @@
+// A worker: the end of its own deque, its passes on the others, its hand and its kept stack.
+ghost use Rattle.std.specs.Prelude.{◌≡◌, ◌<◌, ◌≤◌, [], Some, None, MatchOption, IsTrue, IsFalse, IfOk, IfSome, length};
+ghost use Rattle.spec_trees.specs.declared.tree.Node.{Node};
+ghost use Rattle.spec_trees.specs.Tree.{IsSound, IsValid};
+ghost use Rattle.steal_pool.specs.Rule.{IsUsedUp};
+ghost use Rattle.steal_pool.specs.Workers.{FindsNone, IsNew, IsSplit, TookOne, Takes, TakesKept, TakesOther, TakesOwn, looked, on_deque, on_stack, with_hand};
+ghost use Rattle.steal_pool.specs.declared.worker.Pushed.TheVariants.{OnDeque, Kept, Memory as OutOfMemory};
+
+use crate::ends::{Owner, ROOM, Thief};
+use crate::view::Naming;
+use spec_pool::Memory;
+use spec_trees::Node;
+use std::alloc::Global;
+use std::marker::Model;
+
+/// The most looks at other workers' deques in one search for a node.
+const SCANS: u32 = 10_000;
+
+/// Where the right part of a node was put: on the own deque, on the own kept stack, or nowhere for want of memory.
+#[derive(Debug, Drop, PartialEq, Eq)]
+pub enum Pushed {
+    OnDeque,
+    Kept,
+    Memory(Node),
+}
+
+#[derive(Drop)]
+pub struct Worker<N: Naming> {
+    own: Owner<N>,
+    passes: Vec<Thief<N>>,
+    since: usize,
+    hand: Option<Node>,
+    kept: Vec<Node>,
+}
+
+impl<N: Naming> Model for Worker<N> {
+    ghost use Rattle.steal_pool.specs.Workers.{Holder, Stands, holder_of};
+
+    ghost Value = { Holder };
+
+    ghost view = { λ w. holder_of w.own w.passes.items w.since w.hand w.kept.items };
+
+    ghost invariant = { λ w. Stands N.rules (holder_of w.own w.passes.items w.since w.hand w.kept.items) };
+}
+
+// Takes the front of the first deque that gives a node, by at most `scans` looks at all of them.
+fn steal_from<N: Naming>(passes: &mut [Thief<N>], scans: u32) -> Option<Node>
+    ensures taken { MatchOption result (passes.new ≡ passes.old)
+        (λ n. TookOne n passes.old passes.new × IsValid N.rules n) }
+{
+    let mut left = scans;
+    for pass in passes.iter_mut() {
+        if let Some(node) = pass.steal(&mut left) {
+            return Some(node);
+        }
+    }
+    None
+}
+
+impl<N: Naming> Worker<N> {
+    /// A worker with this number and a deque that holds nothing. It has no pass on another deque.
+    pub fn new(alloc: Global, number: u32, hand: Option<Node>) -> Result<Worker<N>, Memory>
+        requires hand { (n : Node) → hand ≡ Some n → IsValid N.rules n }
+        ensures new { IfOk result (λ w. IsNew number hand w) }
+    {
+        let own = Owner::<N>::open(alloc, number)?;
+        Ok(Worker {
+            own,
+            passes: Vec::new(alloc),
+            since: 0,
+            hand,
+            kept: Vec::new(alloc),
+        })
+    }
+
+    /// The node in the hand.
+    pub fn node(&self) -> Option<Node>
+        ensures hand { result ≡ self.now.hand }
+        ensures valid { IfSome result (IsValid N.rules) }
+    {
+        self.hand
+    }
+
+    /// Empties the hand, once its node is entered.
+    pub fn lay_down(&mut self)
+        ensures { self.new ≡ with_hand self.old None }
+    {
+        self.hand = None;
+    }
+
+    // Takes the top of the kept stack into the empty hand.
+    fn take_kept(&mut self) -> Option<Node>
+        ensures taken { MatchOption result ((self.old.kept ≡ []) × (self.new ≡ self.old))
+            (λ n. TakesKept n self.old self.new) }
+    {
+        match self.kept.pop() {
+            Some(node) => {
+                self.hand = Some(node);
+                Some(node)
+            }
+            None => None,
+        }
+    }
+
+    // Takes the front of the own deque into the empty hand, or notes that it gave nothing.
+    fn take_own(&mut self) -> Option<Node>
+        ensures taken { MatchOption result (IsUsedUp self.old.own.view × (self.new ≡ looked self.old))
+            (λ n. TakesOwn n self.old self.new) }
+    {
+        match self.own.pop() {
+            Some(node) => {
+                self.hand = Some(node);
+                Some(node)
+            }
+            None => {
+                self.since = 0;
+                None
+            }
+        }
+    }
+
+    // Takes the front of another worker's deque into the empty hand.
+    fn take_other(&mut self) -> Option<Node>
+        ensures taken { MatchOption result (self.new ≡ self.old) (λ n. TakesOther n self.old self.new) }
+    {
+        match steal_from(self.passes.as_mut_slice(), SCANS) {
+            Some(node) => {
+                self.hand = Some(node);
+                Some(node)
+            }
+            None => None,
+        }
+    }
+
+    /// Takes the next node into the empty hand: the top of the kept stack, else the front of the own deque, else that of
+    /// another one, by at most 10,000 looks. It takes no memory.
+    pub fn take(&mut self) -> Option<Node>
+        ensures taken { MatchOption result (FindsNone self.old self.new) (λ n. Takes n self.old self.new) }
+    {
+        if let Some(node) = self.take_kept() {
+            return Some(node);
+        }
+        if let Some(node) = self.take_own() {
+            return Some(node);
+        }
+        self.take_other()
+    }
+
+    // Puts the right part on the own deque, unless 64 nodes were put there since it last gave nothing, or it is full.
+    fn offer(&mut self, left: Node, right: Node) -> bool
+        requires split { IsSplit N.rules self.old left right }
+        requires sound { IsSound N.rules }
+        ensures put { IsTrue result → (self.new ≡ on_deque self.old left right) × (self.old.since < 64) }
+        ensures refused { IsFalse result → (self.new ≡ self.old) × (64 ≤ length self.old.own.view.put) }
+    {
+        if self.since >= ROOM {
+            return false;
+        }
+        match self.own.push(right) {
+            Ok(()) => {
+                self.since += 1;
+                self.hand = Some(left);
+                true
+            }
+            Err(_) => false,
+        }
+    }
+
+    // Puts the right part on the kept stack.
+    fn keep(&mut self, left: Node, right: Node) -> bool
+        requires split { IsSplit N.rules self.old left right }
+        requires sound { IsSound N.rules }
+        ensures put { IsTrue result → self.new ≡ on_stack self.old left right }
+        ensures refused { IsFalse result → self.new ≡ self.old }
+    {
+        match self.kept.push(right) {
+            Ok(()) => {
+                self.hand = Some(left);
+                true
+            }
+            Err(_) => false,
+        }
+    }
+
+    /// Puts the right part of the node in the hand on the own deque, or else on the kept stack; the left part stays in
+    /// the hand. At most 64 nodes go to the deque in a row without a pop that gives nothing, so it never holds more.
+    pub fn push(&mut self, left: Node, right: Node) -> Pushed
+        requires split { IsSplit N.rules self.old left right }
+        requires sound { IsSound N.rules }
+        ensures deque { result ≡ OnDeque → self.new ≡ on_deque self.old left right }
+        ensures few { result ≡ OnDeque → self.old.since < 64 }
+        ensures kept { result ≡ Kept → self.new ≡ on_stack self.old left right }
+        ensures memory { (n : Node) → result ≡ OutOfMemory n → (n ≡ right) × (self.new ≡ self.old) }
+        ensures first { length self.old.own.view.put < 64 → result ≡ OnDeque }
+    {
+        if self.offer(left, right) {
+            return Pushed::OnDeque;
+        }
+        if self.keep(left, right) {
+            return Pushed::Kept;
+        }
+        Pushed::Memory(right)
+    }
+}

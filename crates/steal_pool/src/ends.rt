@@ -51,7 +51,8 @@ impl<N: Naming> Model for Thief<N> {
 
     ghost view = { λ t. end_of t.number (stealer_deque t.stealer) (seen t.pass) };
 
-    ghost invariant = { λ t. IsPassOf (stealer_deque t.stealer) t.pass × ((seen t.pass).owner ≡ 0) × ((seen t.pass).out ≡ 1) };
+    ghost invariant = { λ t. IsPassOf (stealer_deque t.stealer) t.pass
+        × ((seen t.pass).owner ≡ 0) × ((seen t.pass).out ≡ 1) };
 }
 
 impl<N: Naming> Owner<N> {
@@ -67,7 +68,8 @@ impl<N: Naming> Owner<N> {
     /// Puts a node at the back, or hands it back. It never does so at the first 64 pushes.
     pub fn push(&mut self, node: Node) -> Result<(), Node>
         requires valid { IsValid N.rules node }
-        ensures put { OnOk result (self.new ≡ with_view self.old (with_put self.old.view (node ∷ []))) }
+        ensures put { OnOk result
+            (self.new ≡ with_view self.old (with_put self.old.view (node ∷ []))) }
         ensures back { IfErr result (λ n. (n ≡ node) × (self.new ≡ self.old)) }
         ensures refused { IfErr result (λ n. 64 ≤ length self.old.view.put) }
     {

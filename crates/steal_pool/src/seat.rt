@@ -35,7 +35,8 @@ impl<'p, N: Naming, J: Judge, G: Gate> Model for PoolSeat<'p, N, J, G> {
 
     ghost view = { λ s. seat_of s.worker (part s.entries) (terms s.ledger.now) s.refusal };
 
-    ghost invariant = { λ s. (N.rules ≡ rules_within (J.rules s.judge.now) (terms s.ledger.now).root)
+    ghost invariant = { λ s.
+        (N.rules ≡ rules_within (J.rules s.judge.now) (terms s.ledger.now).root)
         × IsValid (J.rules s.judge.now) (terms s.ledger.now).root
         × IsSeatOf s.ledger.now s.entries };
 }

@@ -104,7 +104,8 @@ impl<N: Naming> Worker<N> {
 
     // Takes the front of the own deque into the empty hand, or notes that it gave nothing.
     fn take_own(&mut self) -> Option<Node>
-        ensures taken { MatchOption result (IsUsedUp self.old.own.view × (self.new ≡ looked self.old))
+        ensures taken { MatchOption result
+            (IsUsedUp self.old.own.view × (self.new ≡ looked self.old))
             (λ n. TakesOwn n self.old self.new) }
     {
         match self.own.pop() {
@@ -121,7 +122,8 @@ impl<N: Naming> Worker<N> {
 
     // Takes the front of another worker's deque into the empty hand.
     fn take_other(&mut self) -> Option<Node>
-        ensures taken { MatchOption result (self.new ≡ self.old) (λ n. TakesOther n self.old self.new) }
+        ensures taken { MatchOption result (self.new ≡ self.old)
+            (λ n. TakesOther n self.old self.new) }
     {
         match steal_from(self.passes.as_mut_slice(), SCANS) {
             Some(node) => {
@@ -135,7 +137,8 @@ impl<N: Naming> Worker<N> {
     /// Takes the next node into the empty hand: the top of the kept stack, else the front of the own deque, else that of
     /// another one, by at most 10,000 looks. It takes no memory.
     pub fn take(&mut self) -> Option<Node>
-        ensures taken { MatchOption result (FindsNone self.old self.new) (λ n. Takes n self.old self.new) }
+        ensures taken { MatchOption result (FindsNone self.old self.new)
+            (λ n. Takes n self.old self.new) }
     {
         if let Some(node) = self.take_kept() {
             return Some(node);
@@ -150,8 +153,10 @@ impl<N: Naming> Worker<N> {
     fn offer(&mut self, left: Node, right: Node) -> bool
         requires split { IsSplit N.rules self.old left right }
         requires sound { IsSound N.rules }
-        ensures put { IsTrue result → (self.new ≡ on_deque self.old left right) × (self.old.since < 64) }
-        ensures refused { IsFalse result → (self.new ≡ self.old) × (64 ≤ length self.old.own.view.put) }
+        ensures put { IsTrue result
+            → (self.new ≡ on_deque self.old left right) × (self.old.since < 64) }
+        ensures refused { IsFalse result
+            → (self.new ≡ self.old) × (64 ≤ length self.old.own.view.put) }
     {
         if self.since >= ROOM {
             return false;

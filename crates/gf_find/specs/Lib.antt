@@ -1,5 +1,7 @@
-pub mod Statuses
 pub mod Words
+pub mod Queries
 pub mod Answers
 pub mod Reported
-pub mod Errors
+pub mod Refusals
+pub mod Statuses
+pub mod Entries

@@ -3,14 +3,21 @@
 #![tactic(auto)]
 
 mod answer;
+mod book;
 mod messages;
 mod printing;
+mod query;
+mod refusal;
+mod search;
 mod statuses;
 mod top;
 mod words;
 mod writing;
 
-pub use statuses::{FILES_REFUSED, NOT_READ, NOT_WRITTEN, OUT_OF_MEMORY, REPORTED, WORDS_REFUSED};
+pub use statuses::{
+    EVENT_REFUSED, FILES_REFUSED, NOT_READ, NOT_WRITTEN, OUT_OF_MEMORY, REPORTED, TOO_MANY_LEAVES,
+    WORDS_REFUSED,
+};
 pub use top::finder;
 
 #[cfg(test)]

@@ -2,7 +2,7 @@
 ghost use Rattle.std.specs.Prelude.{◌≡◌, ◌++◌, IfOk, OnOk};
 ghost use Rattle.std.specs.Fmt.{decimal};
 ghost use Rattle.spec_faults.specs.Shown.{kind_of};
-ghost use Rattle.spec_reports.specs.Messages.{detail_text, fault_text, file_text, kind_text, read_text, title, words_text};
+ghost use Rattle.spec_reports.specs.Messages.{detail_text, event_text, fault_text, file_text, kind_text, leaves_text, read_text, title, words_text};
 
 use spec_faults::{FaultKind, fault_kind};
 use spec_text::Fault;
@@ -13,6 +13,13 @@ pub(crate) fn words_line() -> &'static [u8]
     ensures { result.now ≡ words_text }
 {
     b"finder: words: 64 NotBuilt\n"
+}
+
+/// The line of a search that has more leaves than it may have.
+pub(crate) fn leaves_line() -> &'static [u8]
+    ensures { result.now ≡ leaves_text }
+{
+    b"finder: more than 33554432 leaves\n"
 }
 
 // A number, and a text after it.
@@ -90,5 +97,16 @@ pub(crate) fn read_line(alloc: Global, name: &str) -> Result<Vec<u8>, AllocError
 {
     let mut text = Vec::new(alloc);
     add_named(&mut text, b"finder: read fault ", name, b"\n")?;
+    Ok(text)
+}
+
+/// The line of an event that can't be searched for, by the number of the cause.
+pub(crate) fn event_line(alloc: Global, number: u8) -> Result<Vec<u8>, AllocError>
+    ensures { IfOk result (λ text. text.items ≡ event_text number) }
+{
+    let mut text = Vec::new(alloc);
+    text.extend_from_slice(b"finder: event: ")?;
+    add_fault(&mut text, number, 0)?;
+    text.extend_from_slice(b"\n")?;
     Ok(text)
 }

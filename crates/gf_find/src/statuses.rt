@@ -6,7 +6,7 @@ pub const REPORTED: u8 = 0;
 /// The words of the command line ask for nothing that is built.
 pub const WORDS_REFUSED: u8 = 2;
 
-/// The files have a first fault, there are too many of them, or nothing is built yet for their ephemeris.
+/// The files have a first fault, or there are too many of them.
 pub const FILES_REFUSED: u8 = 3;
 
 /// A file couldn't be read.
@@ -15,5 +15,11 @@ pub const NOT_READ: u8 = 4;
 /// The report couldn't be written whole.
 pub const NOT_WRITTEN: u8 = 5;
 
+/// The event can't be searched for in the files.
+pub const EVENT_REFUSED: u8 = 7;
+
 /// Out of memory.
 pub const OUT_OF_MEMORY: u8 = 8;
+
+/// The search has more leaves than it may have.
+pub const TOO_MANY_LEAVES: u8 = 9;

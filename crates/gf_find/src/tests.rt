@@ -75,7 +75,7 @@ const SOUND: Outside = Outside {
     err_room: 4096,
 };
 
-// A run: its words and files, and what it is to answer and write. Of a report the windows and counts are told.
+// A run: its words and files, and what it is to answer and write. Of a report, what follows the start of its span.
 #[derive(Clone, Copy)]
 struct Run<'a> {
     words: &'a str,
@@ -95,7 +95,7 @@ const A_B_C: &str = "find --kind coord --target mercury --axis x a b c";
 const TOO_MANY: &str =
     "find --kind coord --target mercury --axis x a a a a a a a a a a a a a a a a a a a a a a a a a a a a a a a a a a a a a a a a a a a a a a a a a a a a a a a a a a a a a a a a z a";
 
-const RISE: &str = "C 1339200 1339200 rise\nEND certain 1 undecided 0\n";
+const RISE: &str = "2721600\nC 1339200 1339200 rise\nEND certain 1 undecided 0\n";
 
 // A run that writes a report.
 fn reports<'a>(words: &'a str, files: Files<'a>, out: &'a str) -> Run<'a> {
@@ -133,6 +133,18 @@ fn refuses<'a>(words: &'a str, files: Files<'a>, err: &'a str) -> Run<'a> {
     }
 }
 
+// A run whose event can't be searched for.
+fn refuses_event<'a>(files: Files<'a>, err: &'a str) -> Run<'a> {
+    Run {
+        words: A,
+        files,
+        outside: SOUND,
+        status: EVENT_REFUSED,
+        out: "",
+        err,
+    }
+}
+
 // A run of two whole files that fails to read one.
 fn fails_to_read<'a>(shelf_fails: u64, files: Files<'a>, err: &'a str) -> Run<'a> {
     Run {
@@ -148,13 +160,25 @@ fn fails_to_read<'a>(shelf_fails: u64, files: Files<'a>, err: &'a str) -> Run<'a
     }
 }
 
-// Words, files, and the windows and counts that are reported.
-const REPORTS: [(&'static str, Files<'static>, &'static str); 11] = [
+// Lines of a text with three coefficients for Mercury, in which x is 0 in the middle and below 0 at every other time.
+const PARABOLA: [(usize, &'static str); 8] = [
+    (1, "KSIZE= 52 NCOEFF= 29"),
+    (13, "3 12 12 18 18 18 18 18 18 18 24 30 30"),
+    (14, "3 0 2 0 0 0 0 0 0 2 2 0 0"),
+    (15, "1 0 1 0 0 0 0 0 0 1 1 0 0"),
+    (17, "1 29"),
+    (18, "2451544.5 2451576.5 -1000000"),
+    (19, "0.0 -1000000 0.0"),
+    (26, "0.0 0.0 0.0\n0.0 0.0 0.0"),
+];
+
+// Words, files, and the end of the span, the windows and the counts that are reported.
+const REPORTS: [(&'static str, Files<'static>, &'static str); 13] = [
     (A, &[("a", WHOLE)], RISE),
     (
         A,
         &[("a", Changed(&[(19, "-1382400 0.0 0.0")]))],
-        "C 1339201 1339201 fall\nEND certain 1 undecided 0\n",
+        "2721600\nC 1339201 1339201 fall\nEND certain 1 undecided 0\n",
     ),
     (
         A,
@@ -162,12 +186,12 @@ const REPORTS: [(&'static str, Files<'static>, &'static str); 11] = [
             "a",
             Changed(&[(18, "2451544.5 2451576.5 -5"), (19, "0 0.0 0.0")]),
         )],
-        "END certain 0 undecided 0\n",
+        "2721600\nEND certain 0 undecided 0\n",
     ),
     (
         A,
         &[("a", Changed(&[(18, "2451544.5 2451576.5 -1234567.25")]))],
-        "C 2573768 2573768 rise\nEND certain 1 undecided 0\n",
+        "2721600\nC 2573768 2573768 rise\nEND certain 1 undecided 0\n",
     ),
     (
         A,
@@ -175,7 +199,7 @@ const REPORTS: [(&'static str, Files<'static>, &'static str); 11] = [
             "a",
             Changed(&[(18, "2451544.5 2451576.5 .7"), (19, "-3 0.0 0.0")]),
         )],
-        "U 1661760 1661761\nEND certain 0 undecided 1\n",
+        "2721600\nU 1661760 1661761\nEND certain 0 undecided 1\n",
     ),
     (
         A,
@@ -183,7 +207,7 @@ const REPORTS: [(&'static str, Files<'static>, &'static str); 11] = [
             "a",
             Changed(&[(18, "2451544.5 2451576.5 0.1D-11"), (19, "0 0.0 0.0")]),
         )],
-        "END certain 0 undecided 0\n",
+        "2721600\nEND certain 0 undecided 0\n",
     ),
     (A_B, &[("a", Part(1, 1, &[])), ("b", WHOLE)], RISE),
     (
@@ -205,6 +229,33 @@ const REPORTS: [(&'static str, Files<'static>, &'static str); 11] = [
             ("c", Part(20, 27, &[])),
         ],
         RISE,
+    ),
+    (
+        A,
+        &[("a", Changed(&PARABOLA))],
+        "2721600\nC 1339200 1339200 rise\nC 1339201 1339201 fall\nEND certain 2 undecided 0\n",
+    ),
+    (
+        A_B,
+        &[
+            (
+                "a",
+                Changed(&[(18, "2451544.5 2451576.5 -5"), (19, "0 0.0 0.0")]),
+            ),
+            (
+                "b",
+                Part(
+                    17,
+                    27,
+                    &[
+                        (17, "2 26"),
+                        (18, "2451576.5 2451608.5 5"),
+                        (19, "0 0.0 0.0"),
+                    ],
+                ),
+            ),
+        ],
+        "5486400\nC 2721600 2721600 rise\nEND certain 1 undecided 0\n",
     ),
 ];
 
@@ -307,7 +358,7 @@ const HEADER_FAULTS: [(&'static str, Files<'static>, &'static str); 15] = [
     ),
 ];
 
-const BLOCK_FAULTS: [(&'static str, Files<'static>, &'static str); 11] = [
+const BLOCK_FAULTS: [(&'static str, Files<'static>, &'static str); 10] = [
     (
         A,
         &[("a", Changed(&[(17, "1")]))],
@@ -352,11 +403,6 @@ const BLOCK_FAULTS: [(&'static str, Files<'static>, &'static str); 11] = [
         "finder: file b line 2: 36 Truncated\n",
     ),
     (A, &[("a", HEADER)], "finder: file a line 17: 37 NoBlock\n"),
-    (
-        A,
-        &[("a", Blocks(2))],
-        "finder: file a line 37: 7 NotBuilt\n",
-    ),
     (
         A,
         &[("a", Blocks(16_385))],
@@ -537,9 +583,9 @@ fn execute(alloc: Global, run: &Run) -> Result<Outcome, AllocError> {
 }
 
 const REQUEST: &str =
-    "FIND coord target mercury second - observer ssb frame eq axis x values 0 dir any width 1 depth 40 cut half span -43200 2721600\n";
+    "FIND coord target mercury second - observer ssb frame eq axis x values 0 dir any width 1 depth 40 cut half span -43200 ";
 
-// What a run is to write: of a report, the request comes first.
+// What a run is to write: of a report, the request comes first, up to the start of its span.
 fn expected(alloc: Global, run: &Run) -> Result<Vec<u8>, AllocError> {
     let mut text = Vec::new(alloc);
     if run.status == REPORTED {
@@ -580,6 +626,18 @@ fn first_faults_are_written(rt: HostRuntime) -> Result<(), Fail> {
             assert!(rt; is_right(alloc, &refuses(words, files, err))?, "{err}");
         }
     }
+    Ok(())
+}
+
+// Mercury is absent.
+#[test]
+fn events_are_refused(rt: HostRuntime) -> Result<(), Fail> {
+    let alloc = rt.alloc();
+    let run = refuses_event(
+        &[("a", Changed(&[(14, "0 0 2 0 0 0 0 0 0 2 2 0 0")]))],
+        "finder: event: 50 BodyAbsent\n",
+    );
+    assert!(rt; is_right(alloc, &run)?);
     Ok(())
 }
 

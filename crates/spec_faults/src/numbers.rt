@@ -9,9 +9,6 @@ pub const TOO_MANY_FILES: u8 = 5;
 /// A file has more than 268,435,456 bytes. The fault is at line 0.
 pub const FILE_TOO_LARGE: u8 = 6;
 
-/// The files are accepted, and nothing is built yet for what they hold. The fault stands after the last line of all.
-pub const NOT_BUILT: u8 = 7;
-
 /// The first line isn't `KSIZE=`, any word, `NCOEFF=` and a whole number.
 pub const FIRST_LINE: u8 = 10;
 

@@ -7,11 +7,10 @@ use crate::numbers::*;
 
 /// All faults, in the order of their numbers: the number under which one is reported, its name, and whether a detail is
 /// printed after the name.
-pub const FAULTS: [(u8, &str, bool); 35] = [
+pub const FAULTS: [(u8, &str, bool); 34] = [
     (LINE_TOO_LONG, "LineTooLong", false),
     (TOO_MANY_FILES, "TooManyFiles", false),
     (FILE_TOO_LARGE, "FileTooLarge", false),
-    (NOT_BUILT, "NotBuilt", false),
     (FIRST_LINE, "FirstLine", false),
     (GROUP_MISSING, "GroupMissing", true),
     (JD_NOT_WHOLE_SECOND, "JdNotWholeSecond", false),

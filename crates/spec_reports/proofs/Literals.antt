@@ -1,14 +1,56 @@
 -- Lines whose bytes are known.
-use Rattle.std.proofs.Common.{◌≡◌, ℕ, List, [], ◌∷◌, ◌++◌, ◌∙◌, ap, lit<, lit≤}
+use Rattle.std.proofs.Common.{◌≡◌, ◌+◌, ◌/◌, ◌%◌, ◌≤◌, ◌<◌, ◌^◌, ℕ, List, [], ◌∷◌, ◌++◌, ◌∙◌, ap, lit<, lit≤}
 use Rattle.std.proofs.lemmas.Fmt.{decimal_digit, decimal_step}
 use Rattle.std.specs.Prelude.{codes}
 use Rattle.std.specs.Fmt.{decimal}
 use Rattle.spec_faults.specs.Faults.{fault_kind}
-use Rattle.spec_reports.specs.Messages.{title, words_text}
+use Rattle.spec_reports.specs.Messages.{event_text, leaves_text, title, words_text}
+
+-- a number whose digits but the last are known
+number : (n : ℕ) (front : List ℕ) → 10 ≤ n → n < 2 ^ 64 → decimal (n / 10) ≡ front → decimal n ≡ front ++ ((48 + n % 10) ∷ [])
+number n front low high is = decimal_step n low high ∙ ap (λ (tens : List ℕ). tens ++ ((48 + n % 10) ∷ [])) is
 
 number_64 : decimal 64 ≡ codes "64"
-number_64 = decimal_step 64 (lit≤ tt) (lit< tt) ∙ ap (λ (tens : List ℕ). tens ++ (52 ∷ [])) (decimal_digit 6 (lit< tt))
+number_64 = number 64 (codes "6") (lit≤ tt) (lit< tt) (decimal_digit 6 (lit< tt))
 
 pub words_line : words_text ≡ codes "finder: words: 64 NotBuilt\n"
 unfolding title fault_kind
 words_line = ap (λ (number : List ℕ). codes "finder: words: " ++ (number ++ codes " " ++ title 64 0) ++ codes "\n") number_64
+
+number_50 : decimal 50 ≡ codes "50"
+number_50 = number 50 (codes "5") (lit≤ tt) (lit< tt) (decimal_digit 5 (lit< tt))
+
+number_51 : decimal 51 ≡ codes "51"
+number_51 = number 51 (codes "5") (lit≤ tt) (lit< tt) (decimal_digit 5 (lit< tt))
+
+number_52 : decimal 52 ≡ codes "52"
+number_52 = number 52 (codes "5") (lit≤ tt) (lit< tt) (decimal_digit 5 (lit< tt))
+
+event_line : (n : ℕ) (word : List ℕ) → decimal n ≡ word → event_text n ≡ codes "finder: event: " ++ (word ++ codes " " ++ title n 0) ++ codes "\n"
+event_line n word is = ap (λ (number : List ℕ). codes "finder: event: " ++ (number ++ codes " " ++ title n 0) ++ codes "\n") is
+
+pub absent_line : event_text 50 ≡ codes "finder: event: 50 BodyAbsent\n"
+unfolding title fault_kind
+absent_line = event_line 50 (codes "50") number_50
+
+pub same_line : event_text 51 ≡ codes "finder: event: 51 SameBody\n"
+unfolding title fault_kind
+same_line = event_line 51 (codes "51") number_51
+
+pub reference_line : event_text 52 ≡ codes "finder: event: 52 ReferenceRange\n"
+unfolding title fault_kind
+reference_line = event_line 52 (codes "52") number_52
+
+number_3355 : decimal 3355 ≡ codes "3355"
+number_3355 =
+    number 3355 (codes "335") (lit≤ tt) (lit< tt)
+    (number 335 (codes "33") (lit≤ tt) (lit< tt) (number 33 (codes "3") (lit≤ tt) (lit< tt) (decimal_digit 3 (lit< tt))))
+
+number_33554432 : decimal 33554432 ≡ codes "33554432"
+number_33554432 =
+    number 33554432 (codes "3355443") (lit≤ tt) (lit< tt)
+    (number 3355443 (codes "335544") (lit≤ tt) (lit< tt)
+    (number 335544 (codes "33554") (lit≤ tt) (lit< tt) (number 33554 (codes "3355") (lit≤ tt) (lit< tt) number_3355)))
+
+pub leaves_line : leaves_text ≡ codes "finder: more than 33554432 leaves\n"
+leaves_line = ap (λ (number : List ℕ). codes "finder: more than " ++ number ++ codes " leaves\n") number_33554432

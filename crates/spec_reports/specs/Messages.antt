@@ -4,6 +4,7 @@ use Rattle.std.specs.Fmt.{decimal}
 use Rattle.spec_text.specs.declared.decimals.Fault.{Fault}
 use Rattle.spec_faults.specs.Faults.{Kind, fault_kind}
 use Rattle.spec_faults.specs.declared.numbers.TheConstants.{WORDS_NOT_BUILT}
+use Rattle.spec_reports.specs.declared.limits.TheConstants.{MOST_LEAVES}
 
 abbrev pub detail_text : Bool → ℕ → List ℕ
 detail_text false detail = []
@@ -41,6 +42,14 @@ file_text name fault = place_text name fault.line ++ fault_text fault.number fau
 -- the file of this name couldn't be read
 abbrev pub read_text : List ℕ → List ℕ
 read_text name = codes "finder: read fault " ++ name ++ codes "\n"
+
+-- the event can't be searched for, for the cause of this number
+abbrev pub event_text : ℕ → List ℕ
+event_text number = codes "finder: event: " ++ fault_text number 0 ++ codes "\n"
+
+-- the search has more leaves than it may have
+abbrev pub leaves_text : List ℕ
+leaves_text = codes "finder: more than " ++ decimal MOST_LEAVES ++ codes " leaves\n"
 
 abbrev pub write_text : List ℕ
 write_text = codes "finder: write fault\n"

@@ -1,7 +1,7 @@
 // What the definitions of texts say of small cases.
 ghost use Rattle.std.specs.Prelude.{◌≡◌, [], ◌∷◌, ◌++◌, Some, codes};
 ghost use Rattle.std.specs.Fmt.{decimal};
-ghost use Rattle.spec_reports.specs.Messages.{title, words_text};
+ghost use Rattle.spec_reports.specs.Messages.{event_text, leaves_text, title, words_text};
 ghost use Rattle.spec_reports.specs.Writing.{AppendsPart};
 
 /// A fault is printed by its name, some with a detail. A number without a row in the table has no name.
@@ -15,6 +15,18 @@ pub fn faults_are_named()
 /// The line of words that ask for what isn't built yet.
 pub fn the_line_of_words()
     ensures { words_text ≡ codes "finder: words: 64 NotBuilt\n" }
+{}
+
+/// The lines of events that can't be searched for.
+pub fn the_lines_of_events()
+    ensures absent { event_text 50 ≡ codes "finder: event: 50 BodyAbsent\n" }
+    ensures same { event_text 51 ≡ codes "finder: event: 51 SameBody\n" }
+    ensures reference { event_text 52 ≡ codes "finder: event: 52 ReferenceRange\n" }
+{}
+
+/// The line of a search that has too many leaves.
+pub fn the_line_of_leaves()
+    ensures { leaves_text ≡ codes "finder: more than 33554432 leaves\n" }
 {}
 
 /// A sink that fails holds a front of the text, which isn't all of it.

@@ -3,5 +3,9 @@
 #![tactic(auto)]
 
 mod laws;
+mod limits;
 
-pub use laws::{faults_are_named, texts_are_written, the_line_of_words};
+pub use laws::{
+    faults_are_named, texts_are_written, the_line_of_leaves, the_line_of_words, the_lines_of_events,
+};
+pub use limits::MOST_LEAVES;

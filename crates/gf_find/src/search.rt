@@ -1,0 +1,78 @@
+// The search of an ephemeris for the events of a query.
+ghost use Rattle.std.specs.Prelude.{◌≡◌, ◌<◌, IfErr, IfOk, None};
+ghost use Rattle.spec_ephemeris.specs.Ephemeris.{IsEphemeris};
+ghost use Rattle.spec_trees.specs.Cuts.{CanCut, cut_of};
+ghost use Rattle.spec_kinds.specs.Faults.{fault_of};
+ghost use Rattle.spec_kinds.specs.Kinds.{event_of};
+ghost use Rattle.gf_find.specs.Queries.{IsFound, IsQuery, search, span};
+ghost use Rattle.gf_find.specs.Refusals.{StopsSearch};
+
+use crate::book::windows_by;
+use crate::query::Query;
+use crate::refusal::Refusal;
+use body_states::BodyStates;
+use eph_model::Ephemeris;
+use event_judge::EventJudge;
+use event_kinds::{Event, event};
+use gf_hooks::{Cutter, rule_cut};
+use spec_trees::{Node, Window};
+use std::alloc::Global;
+
+// The judge of a query whose ask has no fault.
+fn judge_of<'e>(
+    ephemeris: &'e Ephemeris,
+    query: &Query,
+    event: Event,
+    cutter: Cutter,
+) -> EventJudge<'e>
+    requires block { 0 < ephemeris.now.blocks }
+    requires query { IsQuery query.now }
+    requires sound { fault_of ephemeris.now query.now.ask ≡ None }
+    requires event { event ≡ event_of query.now.ask }
+    requires rule { cutter.rule ≡ query.now.cut }
+    ensures { result.search ≡ search query.now ephemeris.now }
+{
+    let ask = query.ask;
+    let second = ask.second.unwrap_or(ask.target);
+    let states = BodyStates::new(ephemeris, [ask.target, second], ask.observer, ask.frame);
+    EventJudge::new(states, ephemeris, event, query.width, query.depth, cutter)
+}
+
+// The whole span of an ephemeris.
+fn span(ephemeris: &Ephemeris) -> Node
+    ensures span { result ≡ span ephemeris.now }
+    ensures checked { IsEphemeris ephemeris.now }
+{
+    let _header = ephemeris.header();
+    Node {
+        a: ephemeris.start(),
+        b: ephemeris.end(),
+        depth: 0,
+    }
+}
+
+/// The windows of a query's events over the whole span of an ephemeris, in seconds of TDB since J2000.
+pub(crate) fn search(
+    alloc: Global,
+    ephemeris: &Ephemeris,
+    query: &Query,
+) -> Result<Vec<Window>, Refusal>
+    requires block { 0 < ephemeris.now.blocks }
+    requires query { IsQuery query.now }
+    ensures found { IfOk result (λ found. IsFound query.now ephemeris.now found.items) }
+    ensures stopped { IfErr result (StopsSearch query.now ephemeris.now) }
+{
+    let event = event(alloc, ephemeris, &query.ask)?;
+    let rule = query.cut;
+    let cut = Box::new(
+        alloc,
+        move |a: i64, b: i64| -> i64
+            requires { CanCut a b }
+            ensures { result ≡ cut_of rule a b }
+        { rule_cut(rule, a, b) },
+    )?;
+    let root = span(ephemeris);
+    let judge = judge_of(ephemeris, query, event, Cutter::new(rule, cut));
+    let found = windows_by(alloc, &judge, root)?;
+    Ok(found)
+}

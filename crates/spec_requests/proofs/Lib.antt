@@ -1,1 +1,3 @@
 pub mod OnLiterals
+pub mod LimitLemmas
+pub mod NameLemmas

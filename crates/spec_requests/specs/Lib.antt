@@ -4,3 +4,4 @@ pub mod Options
 pub mod Commands
 pub mod Requests
 pub mod Examples
+pub mod Limits

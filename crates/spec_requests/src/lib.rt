@@ -3,6 +3,7 @@
 #![tactic(auto)]
 
 mod examples;
+mod laws;
 mod limits;
 mod names;
 mod request;
@@ -11,6 +12,7 @@ mod tables;
 mod text;
 
 pub use examples::words_ask_for_files;
+pub use laws::{names_are_read_back, searches_keep_to_limits};
 pub use limits::{
     MOST_DEPTH, MOST_DIGITS_OF_A_COUNT, MOST_DIGITS_OF_A_SEED, MOST_DIGITS_OF_BLOCKS,
     MOST_GENERATED_BLOCKS, MOST_SEED, MOST_WIDTH, MOST_WORKERS,

@@ -4,10 +4,10 @@
 pub const MOST_DIGITS_OF_A_COUNT: usize = 7;
 
 /// The widest window of one event that a search may be asked for, in seconds. The narrowest is 1.
-pub const MOST_WIDTH: u64 = 1_000_000;
+pub const MOST_WIDTH: u64 = spec_searches::MOST_WIDTH as u64;
 
 /// The most cuts of a node that a search may be asked for.
-pub const MOST_DEPTH: u64 = 40;
+pub const MOST_DEPTH: u64 = spec_searches::MOST_DEPTH as u64;
 
 /// The most workers of a search. There is at least one.
 pub const MOST_WORKERS: u64 = 64;

@@ -1,0 +1,210 @@
+-- What words ask for keeps to the limits.
+use Rattle.std.proofs.Common.{◌≡◌, ◌≢◌, ◌∙◌, ◌<◌, ◌≤◌, ◌&&◌, ℕ, Bool, true, false, not, zero, suc, List, [], ◌∷◌, length, get_or, Option, Some, None, Result, Ok, Err, IfSome, is_some, cond, find, nat_lt, nat_le, option_and_then, unwrap_or, refl, sym, ap, subst, arith, lit<, true≢false}
+use Rattle.std.specs.Str.{bytes_eq}
+use Rattle.std.specs.List.{list_all}
+use Rattle.std.specs.Str.Parse.{digits_value}
+use Rattle.std.proofs.lemmas.Bool.{leb-true, ltb-true}
+use Rattle.std.proofs.lemmas.Int.{ints}
+use Rattle.clap.proofs.WalkLemmas.{both}
+use Rattle.spec_ephemeris.specs.declared.body.Body.{Body}
+use Rattle.spec_ephemeris.specs.declared.body.Body.TheVariants.{Mercury, Ssb}
+use Rattle.spec_kinds.specs.Asks.{IsAsk, takes_second}
+use Rattle.spec_kinds.specs.declared.kind.Kind.{Kind}
+use Rattle.spec_requests.specs.declared.request.FindAsk.{FindAsk}
+use Rattle.spec_requests.specs.declared.request.Request.{Request}
+use Rattle.spec_requests.specs.declared.request.Request.TheVariants.{Find, Check}
+use Rattle.spec_requests.specs.declared.request.Named.{Named}
+use Rattle.spec_requests.specs.declared.request.Named.TheVariants as opt
+use Rattle.spec_requests.specs.declared.request.WordFault.{WordFault}
+use Rattle.spec_requests.specs.declared.request.WordFault.TheVariants.{Words}
+use Rattle.spec_requests.specs.declared.tables.CommandName.{CommandName}
+use Rattle.spec_requests.specs.declared.tables.CommandName.TheVariants as command
+use Rattle.spec_requests.specs.declared.tables.Use.TheVariants.{Needed, Unused}
+use Rattle.spec_requests.specs.declared.tables.TheConstants.{FIND_OPTIONS}
+use Rattle.spec_requests.specs.declared.limits.TheConstants.{MOST_DIGITS_OF_A_COUNT, MOST_WIDTH, MOST_DEPTH, MOST_WORKERS}
+use Rattle.spec_requests.specs.Names.{Table, Text, axis_of, axes, command_of, kind_of, named, target_of, targets}
+use Rattle.spec_requests.specs.Options.{Values, are_digits, bad_option, depth_of, is_bad, number_of, use_of, width_of, workers_of}
+use Rattle.spec_requests.specs.Commands.{check_command, files_in, find_command, gen_command, is_refused, values_in}
+use Rattle.spec_requests.specs.Requests.{ask_of, bad_word, checked_search, checked_text, request_for, request_of, search_by, search_of, search_of_kind, text_by, text_of, value_or}
+use Rattle.spec_requests.specs.Limits.{IsWithinLimits}
+
+-- ---- values of tables and numbers
+
+-- what a word names passes a test that all values of the table pass
+all_named : {X : Type 0} (p : X → Bool) (rows : Table X) (word : Text) → list_all (λ row. p row.1) rows ≡ true
+    → IfSome (named rows word) (λ x. p x ≡ true)
+all_named p [] word all = tt
+all_named p (row ∷ rows) word all =
+    let parts = both (p row.1) (list_all (λ r. p r.1) rows) all in
+    first (bytes_eq row.0 word) parts.0 (all_named p rows word parts.1)
+  where
+    first : (b : Bool) → p row.1 ≡ true → IfSome (named rows word) (λ x. p x ≡ true)
+        → IfSome (cond b (Some row.1) (named rows word)) (λ x. p x ≡ true)
+    first true here rest = here
+    first false here rest = rest
+
+-- a value, or a default, passes a test that both pass
+passes_or : {X : Type 0} (p : X → Bool) (default : X) (form : Text → Option X) (given : Option Text)
+    → ((word : Text) → IfSome (form word) (λ x. p x ≡ true)) → p default ≡ true → p (value_or form default given) ≡ true
+passes_or {X = X} p default form None all here = here
+passes_or {X = X} p default form (Some word) all here = one (form word) (all word)
+  where
+    one : (found : Option X) → IfSome found (λ x. p x ≡ true) → p (unwrap_or found default) ≡ true
+    one None rest = here
+    one (Some x) rest = rest
+
+-- the same of a value that may be left out
+passes_if : {X : Type 0} (p : X → Bool) (form : Text → Option X) (given : Option Text)
+    → ((word : Text) → IfSome (form word) (λ x. p x ≡ true)) → IfSome (option_and_then form given) (λ x. p x ≡ true)
+passes_if p form None all = tt
+passes_if p form (Some word) all = all word
+
+abbrev is_target : Body → Bool
+is_target Ssb = false
+is_target _ = true
+
+not_ssb : (body : Body) → is_target body ≡ true → body ≢ Ssb
+not_ssb body target same = true≢false (sym target ∙ ap is_target same)
+
+none_ssb : (found : Option Body) → IfSome found (λ body. is_target body ≡ true) → IfSome found (λ body. body ≢ Ssb)
+none_ssb None all = tt
+none_ssb (Some body) all = not_ssb body all
+
+targets_are : (word : Text) → IfSome (target_of word) (λ body. is_target body ≡ true)
+unfolding target_of
+targets_are word = all_named is_target targets word refl
+
+abbrev is_axis : ℕ → Bool
+is_axis axis = nat_lt axis 3
+
+axes_are : (word : Text) → IfSome (axis_of word) (λ axis. is_axis axis ≡ true)
+unfolding axis_of
+axes_are word = all_named is_axis axes word refl
+
+abbrev lies_in : ℕ → ℕ → ℕ → Bool
+lies_in least most n = nat_le least n && nat_le n most
+
+numbers_are : (digits least most : ℕ) (word : Text) → IfSome (number_of digits least most word) (λ n. lies_in least most n ≡ true)
+unfolding number_of
+numbers_are digits least most word = one (are_digits digits word) (lies_in least most (digits_value 10 word)) refl
+  where
+    one : (b within : Bool) → lies_in least most (digits_value 10 word) ≡ within
+        → IfSome (cond (b && within) (Some (digits_value 10 word)) None) (λ n. lies_in least most n ≡ true)
+    one false within is = tt
+    one true false is = tt
+    one true true is = is
+
+-- ---- options
+
+parts : (b : Bool) (rest : Option Named) (x : Named) → cond b (Some x) rest ≡ None → (b ≡ false) × (rest ≡ None)
+parts true rest x none = absurd (cc)
+parts false rest x none = (refl, none)
+
+-- where none passes, each fails
+each_fails : (p : Named → Bool) (xs : List Named) (i : ℕ) (d : Named) → find p xs ≡ None → i < length xs
+    → p (get_or xs i d) ≡ false
+each_fails p [] i d none below = absurd (omega arith)
+each_fails p (x ∷ xs) zero d none below = (parts (p x) (find p xs) x none).0
+each_fails p (x ∷ xs) (suc i) d none below = each_fails p xs i d (parts (p x) (find p xs) x none).1 (omega arith)
+
+not_false : (b : Bool) → not b ≡ false → b ≡ true
+not_false true e = refl
+not_false false e = absurd (true≢false e)
+
+second_is : (takes : Bool) (given : Option Text) → is_bad opt.Second (cond takes Needed Unused) given ≡ false
+    → is_some (option_and_then target_of given) ≡ takes
+second_is true None good = absurd (true≢false good)
+second_is true (Some word) good = not_false (is_some (target_of word)) good
+second_is false None good = refl
+second_is false (Some word) good = absurd (true≢false good)
+
+good_second : (values : Values) (kind : Kind) → bad_option values kind ≡ None
+    → is_bad opt.Second (cond (takes_second kind) Needed Unused) (values opt.Second) ≡ false
+unfolding bad_option
+good_second values kind none =
+    each_fails (λ option. is_bad option (use_of option kind) (values option)) FIND_OPTIONS 2 opt.Kind none (lit< tt)
+
+ask_is : (values : Values) (kind : Kind) → bad_option values kind ≡ None → IsAsk (ask_of values kind)
+unfolding ask_of
+ask_is values kind none = record {
+  second = second_is (takes_second kind) (values opt.Second) (good_second values kind none);
+  target = not_ssb _ (passes_or is_target Mercury target_of (values opt.Target) targets_are refl);
+  other = none_ssb _ (passes_if is_target target_of (values opt.Second) targets_are);
+  axis = ltb-true _ _ (passes_or is_axis 0 axis_of (values opt.Axis) axes_are refl);
+}
+
+lies_low : (least most n : ℕ) → lies_in least most n ≡ true → least ≤ n
+lies_low least most n within = leb-true least n (both (nat_le least n) (nat_le n most) within).0
+
+lies_high : (least most n : ℕ) → lies_in least most n ≡ true → n ≤ most
+lies_high least most n within = leb-true n most (both (nat_le least n) (nat_le n most) within).1
+
+search_is : (values : Values) (kind : Kind) (files : List Text) → bad_option values kind ≡ None
+    → IsWithinLimits (search_of values kind files)
+unfolding search_of
+search_is values kind files none =
+    let width = passes_or (lies_in 1 MOST_WIDTH) 1 width_of (values opt.Width)
+    (numbers_are MOST_DIGITS_OF_A_COUNT 1 MOST_WIDTH) refl in
+    let depth = passes_or (lies_in 0 MOST_DEPTH) 40 depth_of (values opt.Depth)
+    (numbers_are MOST_DIGITS_OF_A_COUNT 0 MOST_DEPTH) refl in
+    let workers = passes_or (lies_in 1 MOST_WORKERS) 1 workers_of (values opt.Workers)
+    (numbers_are MOST_DIGITS_OF_A_COUNT 1 MOST_WORKERS) refl in
+    let some_width = lies_low 1 MOST_WIDTH (value_or width_of 1 (values opt.Width)) width in
+    let most_width = lies_high 1 MOST_WIDTH (value_or width_of 1 (values opt.Width)) width in
+    record {
+      ask = ask_is values kind none;
+      some_width = omega (arith, ints);
+      width = omega (arith, ints);
+      depth = lies_high 0 MOST_DEPTH (value_or depth_of 40 (values opt.Depth)) depth;
+      some_workers = lies_low 1 MOST_WORKERS (value_or workers_of 1 (values opt.Workers)) workers;
+      workers = lies_high 1 MOST_WORKERS (value_or workers_of 1 (values opt.Workers)) workers;
+    }
+
+-- ---- from a request back to its options
+
+of_option : (values : Values) (kind : Kind) (files : List Text) (f : FindAsk) (bad : Option Named) → bad_option values kind ≡ bad
+    → checked_search values kind files bad ≡ Ok (Find f) → IsWithinLimits f
+of_option values kind files f (Some option) is e = absurd (cc)
+of_option values kind files f None is e =
+    let same : search_of values kind files ≡ f = cc in subst IsWithinLimits same (search_is values kind files is)
+
+of_kind : (values : Values) (files : List Text) (f : FindAsk) (found : Option Kind) → search_of_kind values files found ≡ Ok (Find f)
+    → IsWithinLimits f
+of_kind values files f None e = absurd (cc)
+of_kind values files f (Some kind) e = of_option values kind files f (bad_option values kind) refl e
+
+of_search : (refused : Bool) (values : Values) (files : List Text) (f : FindAsk)
+    → cond refused (Err Words) (search_by values files) ≡ Ok (Find f) → IsWithinLimits f
+unfolding search_by
+of_search true values files f e = absurd (cc)
+of_search false values files f e = of_kind values files f (option_and_then kind_of (values opt.Kind)) e
+
+of_check : (refused : Bool) (request : Result Request WordFault) (files : List Text) (f : FindAsk) → request ≡ Ok (Check files)
+    → cond refused (Err Words) request ≡ Ok (Find f) → IsWithinLimits f
+of_check true request files f is e = absurd (cc)
+of_check false request files f is e = absurd (cc)
+
+of_word : (values : Values) (f : FindAsk) (bad : Option Named) → checked_text values bad ≡ Ok (Find f) → IsWithinLimits f
+unfolding text_of
+of_word values f (Some option) e = absurd (cc)
+of_word values f None e = absurd (cc)
+
+of_text : (refused : Bool) (values : Values) (f : FindAsk) → cond refused (Err Words) (text_by values) ≡ Ok (Find f)
+    → IsWithinLimits f
+unfolding text_by
+of_text true values f e = absurd (cc)
+of_text false values f e = of_word values f (bad_word values) e
+
+of_command : (name : Option CommandName) (words : List Text) (f : FindAsk) → request_for name words ≡ Ok (Find f)
+    → IsWithinLimits f
+of_command None words f e = absurd (cc)
+of_command (Some command.Find) words f e =
+    of_search (is_refused find_command words) (values_in find_command words) (files_in find_command words) f e
+of_command (Some command.Check) words f e =
+    of_check (is_refused check_command words) _ (files_in check_command words) f refl e
+of_command (Some command.Gen) words f e = of_text (is_refused gen_command words) (values_in gen_command words) f e
+
+pub searches_keep_to_limits : (words : List Text) (f : FindAsk) → request_of words ≡ Ok (Find f) → IsWithinLimits f
+unfolding request_of
+searches_keep_to_limits [] f e = absurd (cc)
+searches_keep_to_limits (word ∷ words) f e = of_command (command_of word) (word ∷ words) f e

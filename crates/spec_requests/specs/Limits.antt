@@ -1,0 +1,14 @@
+-- What a search that words ask for keeps to.
+use Rattle.std.specs.Prelude.{◌≤◌, pos, ◌≤ℤ◌}
+use Rattle.spec_kinds.specs.Asks.{IsAsk}
+use Rattle.spec_requests.specs.declared.request.FindAsk.{FindAsk}
+use Rattle.spec_requests.specs.declared.limits.TheConstants.{MOST_WIDTH, MOST_DEPTH, MOST_WORKERS}
+
+-- the event can be asked of an ephemeris, and the numbers lie in their limits
+pub record IsWithinLimits (find : FindAsk) : Type 0 where
+  pub ask : IsAsk find.ask
+  pub some_width : pos 1 ≤ℤ find.width
+  pub width : find.width ≤ℤ pos MOST_WIDTH
+  pub depth : find.depth ≤ MOST_DEPTH
+  pub some_workers : 1 ≤ find.workers
+  pub workers : find.workers ≤ MOST_WORKERS

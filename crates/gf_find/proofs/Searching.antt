@@ -1,5 +1,5 @@
 -- The search of a query over an ephemeris is one, and what it finds are the windows of the query's events.
-use Rattle.std.proofs.Common.{◌≡◌, ◌<◌, ◌≤◌, ◌*◌, ℕ, ℤ, pos, negsuc, ◌+ℤ◌, ◌*ℤ◌, ◌<ℤ◌, ◌≤ℤ◌, List, Option, None, Some, sym, subst, arith}
+use Rattle.std.proofs.Common.{◌≡◌, ◌<◌, ◌≤◌, ◌*◌, ℕ, ℤ, pos, negsuc, ◌+ℤ◌, ◌*ℤ◌, ◌<ℤ◌, ◌≤ℤ◌, List, Option, None, Some, refl, sym, subst, arith}
 use Rattle.std.proofs.lemmas.Int.{ints}
 use Rattle.std.specs.Prelude.{unsigned_abs}
 use Rattle.spec_numbers.proofs.Naturals.{positive_product}
@@ -14,9 +14,11 @@ use Rattle.spec_kinds.specs.declared.fault.EventFault.{EventFault}
 use Rattle.spec_kinds.specs.Faults.{fault_of}
 use Rattle.spec_kinds.proofs.Searching.{search_is}
 use Rattle.spec_reports.specs.declared.limits.TheConstants.{MOST_LEAVES}
+use Rattle.halving.specs.declared.run.RunError.{RunError}
+use Rattle.halving.specs.declared.run.RunError.TheVariants as R
 use Rattle.gf_find.specs.declared.query.Query.{Query}
 use Rattle.gf_find.specs.Queries.{AreFound, IsFound, IsQuery, found_windows, search, span}
-use Rattle.gf_find.specs.Refusals.{StopsSearch, of_fault}
+use Rattle.gf_find.specs.Refusals.{StopsSearch, of_fault, of_run}
 
 -- some blocks of some length
 later : (start length : ℤ) (count : ℕ) → pos 1 ≤ℤ length → 0 < count → start <ℤ (start +ℤ (pos count *ℤ length))
@@ -59,3 +61,9 @@ module _ (q : Query) (e : Ephemeris) (checked : IsEphemeris e) (block : 0 < e.bl
 pub fault_stops : (q : Query) (e : Ephemeris) (fault : Option EventFault) → fault ≡ fault_of e q.ask → StopsSearch q e (of_fault fault)
 fault_stops q e (Some fault) is = sym is
 fault_stops q e None is = tt
+
+-- and so do too many leaves, or the lack of memory
+pub run_stops : (q : Query) (e : Ephemeris) → fault_of e q.ask ≡ None → (error : RunError)
+    → (error ≡ R.TooMany → MOST_LEAVES < leaf_count (rules (search q e)) (span e)) → StopsSearch q e (of_run error)
+run_stops q e sound R.TooMany many = record { sound = sound; many = many refl }
+run_stops q e sound R.Memory many = tt

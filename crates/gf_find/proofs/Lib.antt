@@ -1,7 +1,6 @@
 pub mod Gains
-pub mod WordLemmas
-pub mod Causes
-pub mod Wanted
 pub mod Entries
+pub mod Ending
 pub mod Accepted
+pub mod Causes
 pub mod Searching

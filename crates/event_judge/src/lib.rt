@@ -22,3 +22,6 @@ pub use event_search::EventSearch;
 pub use gf_hooks::Cutter;
 pub use halving::{Judge, Node, Verdict};
 pub use judge::EventJudge;
+
+#[cfg(test)]
+mod tests;

@@ -11,10 +11,7 @@ use spec_trees::Turn;
 fn is_known(sign: Sign) -> bool
     ensures { result ≡ is_known sign }
 {
-    match sign {
-        Sign::Yes | Sign::No => true,
-        Sign::Open => false,
-    }
+    matches!(sign, Sign::Yes | Sign::No)
 }
 
 // From each time to the next it rises or stays.

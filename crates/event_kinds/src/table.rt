@@ -17,7 +17,7 @@ use crate::rows::{
 use crate::vectors::{SECOND, TARGET, TARGET_VELOCITY, plane_cross, plane_dot};
 use eph_model::Ephemeris;
 use event_expr::{Expr, Formula};
-use occult_spheres::{formula, occult};
+use occult_spheres::occult;
 use spec_events::Dir;
 use spec_kinds::{Ask, Kind, Shadow};
 use std::alloc::{AllocError, Global};
@@ -86,7 +86,7 @@ fn unguarded(alloc: Global, f: Expr, dir: Dir) -> Event
     ensures { result ≡ record { function = term f; conditions = []; dir = dir } }
 {
     Event {
-        f: formula(f),
+        f: Formula::of(f),
         guards: Vec::new(alloc),
         dir,
     }
@@ -100,8 +100,8 @@ fn aligned(alloc: Global, one_side: bool, dir: Dir) -> Result<Event, AllocError>
       dir = dir;
     }) }
 {
-    let f = formula(plane_cross(alloc, TARGET, SECOND)?);
-    let g = formula(plane_dot(alloc, TARGET, SECOND)?);
+    let f = Formula::of(plane_cross(alloc, TARGET, SECOND)?);
+    let g = Formula::of(plane_dot(alloc, TARGET, SECOND)?);
     let mut guards = Vec::new(alloc);
     guards.push(Guard {
         g,

@@ -19,7 +19,9 @@ use spec_bodies::Frame;
 use spec_ephemeris::Body;
 use spec_events::Dir;
 use spec_kinds::{Ask, Kind};
-use spec_requests::{FindAsk, Named, Request, Text, Use, WordFault};
+use spec_requests::{
+    DEFAULT_DEPTH, DEFAULT_WIDTH, DEFAULT_WORKERS, FindAsk, Named, Request, Text, Use, WordFault,
+};
 use spec_text::Decimal;
 use spec_trees::CutRule;
 use std::alloc::{AllocError, Global};
@@ -154,27 +156,27 @@ fn instant(matches: &ArgMatches<'_>, option: Named) -> Option<i64>
 }
 
 fn width(matches: &ArgMatches<'_>) -> u32
-    ensures { result ≡ value_or width_of 1 (values_of matches.now opt.Width) }
+    ensures { result ≡ value_or width_of DEFAULT_WIDTH (values_of matches.now opt.Width) }
 {
     value(matches, Named::Width)
         .and_then(forms::width)
-        .unwrap_or(1)
+        .unwrap_or(DEFAULT_WIDTH)
 }
 
 fn depth(matches: &ArgMatches<'_>) -> u32
-    ensures { result ≡ value_or depth_of 40 (values_of matches.now opt.Depth) }
+    ensures { result ≡ value_or depth_of DEFAULT_DEPTH (values_of matches.now opt.Depth) }
 {
     value(matches, Named::Depth)
         .and_then(forms::depth)
-        .unwrap_or(40)
+        .unwrap_or(DEFAULT_DEPTH)
 }
 
 pub(crate) fn workers(matches: &ArgMatches<'_>) -> u32
-    ensures { result ≡ value_or workers_of 1 (values_of matches.now opt.Workers) }
+    ensures { result ≡ value_or workers_of DEFAULT_WORKERS (values_of matches.now opt.Workers) }
 {
     value(matches, Named::Workers)
         .and_then(forms::workers)
-        .unwrap_or(1)
+        .unwrap_or(DEFAULT_WORKERS)
 }
 
 fn cut(matches: &ArgMatches<'_>) -> CutRule

@@ -1,10 +1,11 @@
 // Positions of three axes at single times of a granule.
-ghost use Rattle.std.specs.Prelude.{◌≡◌, ◌<◌, All, IfOk, length, pos, ◌≤ℤ◌, ◌+ℤ◌};
+ghost use Rattle.std.specs.Prelude.{◌≡◌, ◌<◌, All, IfOk, length, map, pos, ◌≤ℤ◌, ◌+ℤ◌};
 ghost use Rattle.spec_ephemeris.specs.Ephemeris.{IsBodyNumber};
+ghost use Rattle.spec_ephemeris.specs.Rounding.{pair_of};
 ghost use Rattle.spec_motions.specs.Granules.{IsEvaluable};
 
 use cheby_enclose::{Bases, Terms, arguments, position_over};
-use eph_model::Granule;
+use eph_model::{Granule, Rounded, pair_of};
 use ival_core::Ival;
 use spec_text::Decimal;
 use std::alloc::{AllocError, Global};
@@ -53,6 +54,18 @@ fn coefficients(alloc: Global) -> Result<Vec<Decimal>, AllocError>
     Ok(made)
 }
 
+// The pairs of coefficients.
+fn pairs(alloc: Global, coefs: &[Decimal]) -> Result<Vec<Rounded>, AllocError>
+    requires { All IsBodyNumber coefs.now }
+    ensures { IfOk result (λ v. v.items ≡ map pair_of coefs.now) }
+{
+    let mut made = Vec::new(alloc);
+    for &c in coefs {
+        made.push(pair_of(c))?;
+    }
+    Ok(made)
+}
+
 // The whole km of the low end, folded into a checksum.
 fn fold(sum: u64, position: &Ival) -> u64 {
     let (lo, _, s) = position.parts();
@@ -95,9 +108,10 @@ fn round(sum: u64, g: &Granule, axes: &Axes) -> u64
     sum
 }
 
-fn measured(coefs: &[Decimal], rounds: u32) -> u64
+fn measured(coefs: &[Decimal], rounded: &[Rounded], rounds: u32) -> u64
     requires count { length coefs.now ≡ 42 }
     requires bodies { All IsBodyNumber coefs.now }
+    requires pairs { rounded.now ≡ map pair_of coefs.now }
 {
     let g = Granule {
         start: 0,
@@ -105,6 +119,7 @@ fn measured(coefs: &[Decimal], rounds: u32) -> u64
         n: COEFFICIENTS,
         comps: 3,
         coefs,
+        rounded,
     };
     let axes = Axes {
         x: Terms::of(&g, 0),
@@ -121,5 +136,6 @@ fn measured(coefs: &[Decimal], rounds: u32) -> u64
 /// The checksum of so many rounds of three positions at 64 times.
 pub(crate) fn positions(alloc: Global, rounds: u32) -> Result<u64, AllocError> {
     let coefs = coefficients(alloc)?;
-    Ok(measured(&coefs, rounds))
+    let rounded = pairs(alloc, &coefs)?;
+    Ok(measured(&coefs, &rounded, rounds))
 }

@@ -4,11 +4,9 @@
 //! first is in front. Nothing here knows which bodies they are, or who observes them.
 #![tactic(auto)]
 
-mod formulas;
 mod parts;
 mod terms;
 
 pub use event_expr::Formula;
-pub use formulas::formula;
 pub use parts::{Memory, OccultParts, occult};
 pub use spec_kinds::Shadow;

@@ -4,7 +4,6 @@ ghost use Rattle.spec_kinds.specs.Faults.{is_radius};
 ghost use Rattle.spec_kinds.specs.Shadows.{shadow_function, shadow_conditions};
 ghost use Rattle.occult_spheres.specs.Guards.{condition_of};
 
-use crate::formulas::formula;
 use crate::terms::{farther, function, larger};
 use event_expr::Formula;
 use spec_kinds::Shadow;
@@ -39,13 +38,13 @@ pub fn occult(
     ensures guards { IfOk result (λ parts. map condition_of parts.guards.items
         ≡ shadow_conditions kind front back) }
 {
-    let f = formula(function(alloc, kind, front, back)?);
+    let f = Formula::of(function(alloc, kind, front, back)?);
     let mut guards = Vec::new(alloc);
-    guards.push((formula(farther(alloc)?), true))?;
+    guards.push((Formula::of(farther(alloc)?), true))?;
     match kind {
         Shadow::Any => {}
-        Shadow::Full => guards.push((formula(larger(alloc, front, back)?), true))?,
-        Shadow::Annular => guards.push((formula(larger(alloc, front, back)?), false))?,
+        Shadow::Full => guards.push((Formula::of(larger(alloc, front, back)?), true))?,
+        Shadow::Annular => guards.push((Formula::of(larger(alloc, front, back)?), false))?,
     }
     Ok(OccultParts { f, guards })
 }

@@ -17,6 +17,7 @@ use Rattle.spec_requests.specs.declared.request.WordFault.TheVariants.{NoCommand
 use Rattle.spec_requests.specs.declared.tables.CommandName.{CommandName}
 use Rattle.spec_requests.specs.declared.tables.CommandName.TheVariants as command
 use Rattle.spec_requests.specs.declared.tables.Use.TheVariants.{Optional}
+use Rattle.spec_requests.specs.declared.limits.TheConstants.{DEFAULT_WIDTH, DEFAULT_DEPTH, DEFAULT_WORKERS}
 use Rattle.spec_requests.specs.declared.tables.TheConstants.{GEN_WORDS, GEN_OPTIONS}
 use Rattle.spec_requests.specs.Names.{Text, command_of, kind_of, target_of, observer_of, frame_of, axis_of, dir_of, cut_of}
 use Rattle.spec_requests.specs.Options.{Values, is_unused, use_of_ref, takes_radii, is_bad, bad_option, decimal_of, instant_of, width_of, depth_of, workers_of, blocks_of, seed_of}
@@ -63,9 +64,9 @@ search_of values kind files = record {
   values = values_text values kind;
   from = option_and_then instant_of (values opt.From);
   to = option_and_then instant_of (values opt.To);
-  width = pos (value_or width_of 1 (values opt.Width));
-  depth = value_or depth_of 40 (values opt.Depth);
-  workers = value_or workers_of 1 (values opt.Workers);
+  width = pos (value_or width_of DEFAULT_WIDTH (values opt.Width));
+  depth = value_or depth_of DEFAULT_DEPTH (values opt.Depth);
+  workers = value_or workers_of DEFAULT_WORKERS (values opt.Workers);
   cut = value_or cut_of Half (values opt.Cut);
   files = files;
 }
@@ -90,7 +91,7 @@ bad_word values = find (λ option. is_bad option Optional (values option)) (GEN_
 
 unfoldable pub text_of : Values → Request
 text_of values = Gen (value_or blocks_of 1 (values opt.Blocks)) (value_or seed_of 0 (values opt.Seed))
-    (value_or workers_of 1 (values opt.Workers))
+    (value_or workers_of DEFAULT_WORKERS (values opt.Workers))
 
 abbrev pub checked_text : Values → Option Named → Result Request WordFault
 checked_text values None = Ok (text_of values)

@@ -23,3 +23,12 @@ pub const MOST_DIGITS_OF_A_SEED: usize = 20;
 
 /// The greatest seed: the greatest number of 64 bits.
 pub const MOST_SEED: u64 = u64::MAX;
+
+/// The width of a search that is asked for none, in seconds.
+pub const DEFAULT_WIDTH: u32 = 1;
+
+/// The depth of a search that is asked for none.
+pub const DEFAULT_DEPTH: u32 = 40;
+
+/// The workers of a search, or of a generated text, that is asked for none.
+pub const DEFAULT_WORKERS: u32 = 1;

@@ -3,6 +3,7 @@
 use crate::text::{FileNames, Text};
 use spec_kinds::Ask;
 use spec_trees::CutRule;
+use thiserror::Error;
 
 /// A search: the event, the span and how it is searched, and the files that it reads.
 #[derive(Drop)]
@@ -73,16 +74,21 @@ pub enum Named {
 }
 
 /// Why words ask for nothing.
-#[derive(Clone, Copy, Debug, PartialEq, Eq)]
+#[derive(Clone, Copy, Debug, PartialEq, Eq, Error)]
 pub enum WordFault {
     /// Fault 60: there is no word.
+    #[error("there is no word")]
     NoCommand,
     /// Fault 61: the first word is none of `find`, `check` and `gen`.
+    #[error("the first word is no command")]
     UnknownCommand,
     /// Fault 62: the words after it can't be read as options and files.
+    #[error("the words can't be read as options and files")]
     Words,
     /// Fault 63: the option is needed and not there, isn't used and there, or its value is not of its form.
+    #[error("an option is missing, not used or not of its form")]
     BadValue(Named),
     /// There was no memory.
+    #[error("out of memory")]
     Memory,
 }

@@ -3,6 +3,7 @@
 //! A view of two bodies comes in, with a function and conditions as formulas; the tree's rules and windows go out.
 #![tactic(auto)]
 
+pub mod examples;
 pub mod laws;
 mod limits;
 

@@ -4,5 +4,7 @@
 #![tactic(auto)]
 
 mod columns;
+mod examples;
 
 pub use columns::COLUMN_BODIES;
+pub use examples::{columns_have_names, dashes_stand_for_nothing, windows_are_counted};

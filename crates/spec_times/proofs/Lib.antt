@@ -1,3 +1,5 @@
 pub mod Dates
 pub mod Texts
 pub mod Times
+mod Worked
+mod Words

@@ -1,5 +1,5 @@
 -- The text of a calendar time is read as that calendar time.
-use Rattle.std.proofs.Common.{◌≡◌, ℕ, suc, neg_ℤ, ◌+◌, ◌/◌, ◌%◌, ◌<◌, ◌==◌, nat_lt, true, false, List, ◌∷◌, ◌++◌, None, Some, refl, sym, ap, ◌∙◌, arith, ℤ, pos, negsuc}
+use Rattle.std.proofs.Common.{◌≡◌, ℕ, suc, neg_ℤ, ◌+◌, ◌/◌, ◌%◌, ◌<◌, ◌≤ℤ◌, ◌==◌, nat_lt, true, false, List, ◌∷◌, ◌++◌, None, Some, refl, sym, ap, ◌∙◌, arith, ℤ, pos, negsuc}
 use Rattle.std.specs.Char.{is_ascii_digit}
 use Rattle.std.proofs.lemmas.Bool.{ne_eqb, lt-ltb}
 use Rattle.std.proofs.lemmas.Bool.Decides.{nat_tests}
@@ -113,3 +113,11 @@ shown_text c h s = go c.year refl h
 pub time_of_text : (c : CalendarTime) → is_calendar_time c ≡ true → IsWritten c.year → time_of (calendar_text c) ≡ time_within c
 unfolding time_of
 time_of_text c is h = rw (not_whole c, shown_text c h (short c is), is) refl
+
+-- years from -999999 to 9999 have a text
+year_written : (y : ℤ) → neg_ℤ (pos 999999) ≤ℤ y → y ≤ℤ pos 9999 → IsWritten y
+year_written (pos n) low high = omega (arith, signed_arith)
+year_written (negsuc n) low high = omega (arith, signed_arith)
+
+pub time_of_written : (c : CalendarTime) → is_calendar_time c ≡ true → neg_ℤ (pos 999999) ≤ℤ c.year → c.year ≤ℤ pos 9999 → time_of (calendar_text c) ≡ time_within c
+time_of_written c is low high = time_of_text c is (year_written c.year low high)

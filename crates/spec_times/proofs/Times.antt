@@ -1,22 +1,22 @@
 -- The calendar time of a time is the one that shows it, and its text is read as the time.
-use Rattle.std.proofs.Common.{◌≡◌, ℕ, ◌+◌, ◌*◌, ◌/◌, ◌%◌, ◌<◌, ◌≤◌, inl, inr, int_le, int_lt, true, false, Ok, refl, sym, ◌∙◌, arith, ℤ, pos, negsuc, neg_ℤ, ◌+ℤ◌, ◌*ℤ◌, ◌≤ℤ◌, unsigned_abs}
+use Rattle.std.proofs.Common.{◌≡◌, ◌++◌, ℕ, ◌+◌, ◌*◌, ◌/◌, ◌%◌, ◌<◌, ◌≤◌, inl, inr, int_le, int_lt, true, false, Ok, refl, sym, ◌∙◌, arith, ℤ, pos, negsuc, neg_ℤ, ◌+ℤ◌, ◌*ℤ◌, ◌≤ℤ◌, unsigned_abs}
 use Rattle.std.proofs.lemmas.Bool.{cases_Bool, and_from, lt-ltb}
 use Rattle.std.proofs.lemmas.Bool.Decides.{nat_tests}
 use Rattle.std.specs.Int.{int_div_euclid, int_rem_euclid}
 use Rattle.jiff_core.specs.Calendar.{days_from_civil, days_in_month, IsCivilDate, IsEpochDay}
 use Rattle.jiff_core.proofs.SignedLemmas.{signed_arith}
 use Rattle.spec_ephemeris.specs.declared.limits.TheConstants.{FIRST_TIME, LAST_TIME}
-use Rattle.spec_times.specs.Calendar.{year_of, month_of, day_of_month, day_number, clock, midnight, calendar_at, calendar_time, is_between, is_date, is_time_of_day, is_calendar_time, time_of_calendar, time_text}
+use Rattle.spec_times.specs.Calendar.{year_of, month_of, day_of_month, day_number, clock, midnight, calendar_at, calendar_time, is_between, is_date, is_time_of_day, is_calendar_time, time_of_calendar, time_text, date_text, clock_text}
 use Rattle.spec_times.specs.declared.calendar.CalendarTime.{CalendarTime}
 use Rattle.spec_times.specs.TimeWords.{IsTime, time_of, within_limits}
 use Rattle.spec_times.proofs.Dates.{date_of_day, one_date}
 use Rattle.spec_times.proofs.Texts.{time_of_text, written}
 
-clock_is : (z : ℤ) → unsigned_abs (int_rem_euclid z (pos 86400)) < 86400
+pub clock_is : (z : ℤ) → unsigned_abs (int_rem_euclid z (pos 86400)) < 86400
 clock_is (pos n) = omega arith
 clock_is (negsuc n) = omega arith
 
-parts_of : (z : ℤ) → int_div_euclid z (pos 86400) *ℤ pos 86400 +ℤ pos (unsigned_abs (int_rem_euclid z (pos 86400))) ≡ z
+pub parts_of : (z : ℤ) → int_div_euclid z (pos 86400) *ℤ pos 86400 +ℤ pos (unsigned_abs (int_rem_euclid z (pos 86400))) ≡ z
 parts_of (pos n) = omega (arith, signed_arith)
 parts_of (negsuc n) = omega (arith, signed_arith)
 
@@ -72,3 +72,9 @@ pub calendar_of_date : (time : ℤ) (y : ℤ) (m d : ℕ) → IsTime time → Is
 calendar_of_date time y m d is h e =
     let found = date_of_day (day_number time) (day_is time is) in
     one_date (year_of (day_number time)) (month_of (day_number time)) (day_of_month (day_number time)) y m d found.civil h (found.number ∙ sym e)
+
+pub text_of_date : (time : ℤ) (y : ℤ) (m d : ℕ) → IsTime time → IsCivilDate y m d → days_from_civil y m d ≡ day_number time → time_text time ≡ date_text y m d ++ clock_text (clock time)
+unfolding time_text
+text_of_date time y m d is h e =
+    let parts = calendar_of_date time y m d is h e in
+    λ i. date_text (parts.0 i) (parts.1 i) (parts.2 i) ++ clock_text (clock time)

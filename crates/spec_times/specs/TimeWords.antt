@@ -66,11 +66,15 @@ year_digits word = value (take 4 word)
 abbrev pub negative_year_digits : List ℕ → ℕ
 negative_year_digits word = value (take 6 (drop 1 word))
 
--- what a word shows in this form; a year 0 has no sign
+-- a year below 0; no year is -0
+abbrev pub has_negative_year : List ℕ → Bool
+has_negative_year word = has_form negative_year_form word && nat_lt 0 (negative_year_digits word)
+
+-- what a word shows in this form
 abbrev pub shown : List ℕ → Option CalendarTime
 shown word =
     if has_form year_form word then Some (calendar_after (pos (year_digits word)) (drop 4 word))
-    else if has_form negative_year_form word && nat_lt 0 (negative_year_digits word)
+    else if has_negative_year word
     then Some (calendar_after (neg_ℤ (pos (negative_year_digits word))) (drop 7 word))
     else None
 

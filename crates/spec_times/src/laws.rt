@@ -1,8 +1,9 @@
 // Laws of times.
-ghost use Rattle.std.specs.Prelude.{◌≡◌, ℕ, ℤ, Ok, true};
+ghost use Rattle.std.specs.Prelude.{◌≡◌, ◌≤ℤ◌, ◌⊎◌, List, Some, neg_ℤ, pos, ℕ, ℤ, Ok, true};
 ghost use Rattle.jiff_core.specs.Calendar.{days_from_civil, IsCivilDate, IsEpochDay};
-ghost use Rattle.spec_times.specs.Calendar.{calendar_time, day_of_month, is_calendar_time, month_of, time_of_calendar, time_text, year_of};
-ghost use Rattle.spec_times.specs.TimeWords.{IsTime, time_of};
+ghost use Rattle.spec_times.specs.Calendar.{calendar_text, calendar_time, day_of_month, is_calendar_time, month_of, time_of_calendar, time_text, year_of};
+ghost use Rattle.spec_times.specs.declared.calendar.CalendarTime.{CalendarTime};
+ghost use Rattle.spec_times.specs.TimeWords.{IsTime, time_of, time_within, whole_time};
 
 /// The date of each day from -9999-01-01 to 9999-12-31 is one of the calendar, and it is the one with this day's number.
 
@@ -22,4 +23,17 @@ pub fn times_are_read_back()
     ensures calendar { (time : ℤ) → IsTime time → is_calendar_time (calendar_time time) ≡ true }
     ensures shown { (time : ℤ) → IsTime time → time_of_calendar (calendar_time time) ≡ time }
     ensures read { (time : ℤ) → IsTime time → time_of (time_text time) ≡ Ok time }
+{}
+
+/// The text of every date and time of day is read: as its time, or as out of range. So a word is out of range only where
+/// its date is one of the calendar.
+pub fn calendar_texts_are_read()
+    ensures { (c : CalendarTime) → is_calendar_time c ≡ true → neg_ℤ (pos 999_999) ≤ℤ c.year
+        → c.year ≤ℤ pos 9_999 → time_of (calendar_text c) ≡ time_within c }
+{}
+
+/// A word that is read as a time is a whole number, or it is the text of that time, byte for byte.
+pub fn words_of_a_time()
+    ensures { (word : List ℕ) (time : ℤ) → time_of word ≡ Ok time
+        → (whole_time word ≡ Some time) ⊎ (word ≡ time_text time) }
 {}

@@ -1,21 +1,11 @@
--- The date and the time of day that the code finds for a time make its text.
-use Rattle.std.proofs.Common.{◌≡◌, ℕ, ◌++◌, ◌<◌, ◌≤◌, true, ℤ, pos, to_z, of_z, to_z-of_z, w8, w16, w64, sym, arith}
+-- Days and dates as the code has them.
+use Rattle.std.proofs.Common.{◌≡◌, ℕ, ◌<◌, ◌≤◌, true, ℤ, pos, to_z, of_z, to_z-of_z, w8, w16, w64, arith}
 use Rattle.std.proofs.lemmas.Bool.Decides.{nat_tests}
 use Rattle.std.proofs.lemmas.Int.{to_z_pos}
 use Rattle.jiff_core.specs.Calendar.{days_in_month, IsDate, IsYear}
 use Rattle.jiff_core.proofs.SignedLemmas.{signed_arith, fits_between}
 use Rattle.spec_times.specs.declared.calendar.CalendarTime.{CalendarTime}
-use Rattle.jiff_core.specs.declared.civil.date.Date.{Date}
-use Rattle.jiff_core.specs.Date.{epoch_day}
-use Rattle.spec_times.specs.Calendar.{is_calendar_time, clock, clock_text, date_text, day_number, time_text}
-use Rattle.spec_times.specs.TimeWords.{IsTime}
-use Rattle.spec_times.proofs.Times.{calendar_of_date}
-
-pub text_of_date : (time : ℤ) (d : Date) (seconds : ℕ) → IsTime time → epoch_day d ≡ day_number time → seconds ≡ clock time → date_text d.year d.month d.day ++ clock_text seconds ≡ time_text time
-unfolding time_text
-text_of_date time d seconds is day same =
-    let parts = calendar_of_date time d.year d.month d.day is (d.year_in, d.month_in, d.day_in) day in
-    λ i. date_text (sym parts.0 i) (sym parts.1 i) (sym parts.2 i) ++ clock_text (same i)
+use Rattle.spec_times.specs.Calendar.{is_calendar_time}
 
 -- ---- a date that a word shows
 

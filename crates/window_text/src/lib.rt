@@ -19,3 +19,6 @@ pub use report_lines::{generation, report};
 pub use spec_requests::FindAsk;
 pub use spec_times::TimeFault;
 pub use summary_lines::summary;
+
+#[cfg(test)]
+mod tests;

@@ -2,7 +2,7 @@
 ghost use Rattle.std.specs.Prelude.{◌≡◌, ◌<◌, ◌≤◌, ◌+◌, ◌^◌, length, true, Some};
 ghost use Rattle.jiff_core.specs.Calendar.{days_from_civil, days_in_month, IsEpochDay, IsWithin, IsYear};
 ghost use Rattle.spec_times.specs.Calendar.{is_calendar_time, is_date, midnight, is_time_of_day, second_of_day, time_of_calendar};
-ghost use Rattle.spec_times.specs.TimeWords.{calendar_after, negative_year_form, shown, time_shown, time_within, two_digits_at, year_form};
+ghost use Rattle.spec_times.specs.TimeWords.{calendar_after, has_negative_year, negative_year_form, shown, time_shown, time_within, two_digits_at, year_form};
 
 use crate::reading::{has_form, is_between, value, within_limits};
 use jiff_core::civil::{Date, days_in_month};
@@ -38,11 +38,18 @@ fn shown(word: &[u8]) -> Option<CalendarTime>
         let year = value(&word[..4]) as i64;
         return Some(calendar_after(year, &word[4..]));
     }
-    if has_form(negative_year_form(), word) && 0 < value(&word[1..7]) {
+    if has_negative_year(word) {
         let year = value(&word[1..7]) as i64;
         return Some(calendar_after(-year, &word[7..]));
     }
     None
+}
+
+// A year below 0; no year is -0.
+fn has_negative_year(word: &[u8]) -> bool
+    ensures { result ≡ has_negative_year word.now }
+{
+    has_form(negative_year_form(), word) && 0 < value(&word[1..7])
 }
 
 fn year_form() -> &'static [u8]

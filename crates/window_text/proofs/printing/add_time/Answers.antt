@@ -1,5 +1,5 @@
 use Rattle.std.proofs.Common.{to_z-of_z}
-use Rattle.window_text.proofs.Dates.{text_of_date}
+use Rattle.spec_times.proofs.Times.{text_of_date}
 use Rattle.window_text.proofs.printing.add_time.Goals as goal
 
 pub returns : goal.returns
@@ -7,5 +7,6 @@ returns c =
     let fits = c.ranges.time in
     let day = simp to_z-of_z at c.date_of.ensures in
     let seconds = simp to_z-of_z at c.clock_of.ensures.value in
-    let is = text_of_date c.args.time c.date_of.result c.clock_of.result c.requires day seconds in
-    rw (← is) c.add_calendar.ensures
+    let date = c.date_of.result in
+    let is = text_of_date c.args.time date.year date.month date.day c.requires (date.year_in, date.month_in, date.day_in) day in
+    rw (is, ← seconds) c.add_calendar.ensures

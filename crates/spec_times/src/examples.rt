@@ -1,0 +1,35 @@
+// Worked values of times and of words for them.
+ghost use Rattle.std.specs.Prelude.{◌≡◌, codes, neg_ℤ, pos, Err, Ok};
+ghost use Rattle.spec_ephemeris.specs.declared.limits.TheConstants.{FIRST_TIME, LAST_TIME};
+ghost use Rattle.spec_times.specs.Calendar.{time_text};
+ghost use Rattle.spec_times.specs.TimeWords.{time_of};
+ghost use Rattle.spec_times.specs.declared.faults.TimeFault.TheVariants.{NotTime, OutOfRange};
+
+/// J2000 is noon; the first time lies in a year below 0, which has a sign and six digits.
+pub fn times_have_texts()
+    ensures j2000 { time_text (pos 0) ≡ codes "2000-01-01T12:00:00" }
+    ensures leap_day { time_text (pos 5140799) ≡ codes "2000-02-29T23:59:59" }
+    ensures first { time_text FIRST_TIME ≡ codes "-004713-11-24T12:00:00" }
+    ensures last { time_text LAST_TIME ≡ codes "8977-06-07T12:00:00" }
+{}
+
+/// A whole number may have zeros at its front, and 12 digits.
+#[tactic(none)]
+pub fn whole_numbers_are_times()
+    ensures minus { time_of (codes "-1") ≡ Ok (neg_ℤ (pos 1)) }
+    ensures zeros { time_of (codes "00") ≡ Ok (pos 0) }
+    ensures first { time_of (codes "-211813488000") ≡ Ok FIRST_TIME }
+    ensures too_late { time_of (codes "220186512001") ≡ Err OutOfRange }
+    ensures plus { time_of (codes "+1") ≡ Err NotTime }
+    ensures too_long { time_of (codes "1000000000000") ≡ Err NotTime }
+{}
+
+/// 1900 had no leap day; no year is -0; a year that `jiff_core` has no days of is out of range; midnight is hour 0.
+#[tactic(none)]
+pub fn dates_must_exist()
+    ensures no_leap_day { time_of (codes "1900-02-29T00:00:00") ≡ Err NotTime }
+    ensures minus_zero { time_of (codes "-000000-01-01T00:00:00") ≡ Err NotTime }
+    ensures far { time_of (codes "-999999-01-01T00:00:00") ≡ Err OutOfRange }
+    ensures hour { time_of (codes "2000-01-01T24:00:00") ≡ Err NotTime }
+    ensures few_digits { time_of (codes "-0004-02-29T00:00:00") ≡ Err NotTime }
+{}

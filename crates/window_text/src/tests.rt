@@ -1,0 +1,275 @@
+// Words and texts of times, a report and a summary, as an exact reference has them.
+ghost use Rattle.std.specs.Prelude.{◌≡◌, All, IfOk};
+ghost use Rattle.spec_ephemeris.specs.Header.{IsHeader};
+ghost use Rattle.spec_ephemeris.specs.Ephemeris.{IsBodyNumber};
+
+use crate::*;
+use eph_model::Ephemeris;
+use spec_bodies::Frame;
+use spec_ephemeris::{Body, Column, Columns, FIRST_TIME, Header, LAST_TIME, MOST_BLOCKS};
+use spec_events::Dir;
+use spec_kinds::{Ask, Kind};
+use spec_requests::{FileNames, Text};
+use spec_text::Decimal;
+use spec_trees::{CutRule, Holds, Turn, Window};
+use std::alloc::{AllocError, Global};
+use std::process::Abort;
+use std::test::Fail;
+
+// Words, the time of each, and its text.
+const TIMES: [(&str, i64, &str); 10] = [
+    (
+        "-004713-11-24T12:00:00",
+        -211_813_488_000,
+        "-004713-11-24T12:00:00",
+    ),
+    (
+        "8977-06-07T12:00:00",
+        220_186_512_000,
+        "8977-06-07T12:00:00",
+    ),
+    (
+        "0000-02-29T00:00:00",
+        -63_108_849_600,
+        "0000-02-29T00:00:00",
+    ),
+    (
+        "-000004-02-29T00:00:00",
+        -63_235_080_000,
+        "-000004-02-29T00:00:00",
+    ),
+    ("2000-02-29T23:59:59", 5_140_799, "2000-02-29T23:59:59"),
+    (
+        "-000788-04-10T15:54:51",
+        -87_972_120_309,
+        "-000788-04-10T15:54:51",
+    ),
+    ("-0", 0, "2000-01-01T12:00:00"),
+    ("00", 0, "2000-01-01T12:00:00"),
+    ("-1", -1, "2000-01-01T11:59:59"),
+    ("220186512000", 220_186_512_000, "8977-06-07T12:00:00"),
+];
+
+// Words that stand for no time.
+const NO_TIMES: [(&str, TimeFault); 14] = [
+    ("-004713-11-24T11:59:59", TimeFault::OutOfRange),
+    ("8977-06-07T12:00:01", TimeFault::OutOfRange),
+    ("-999999-01-01T00:00:00", TimeFault::OutOfRange),
+    ("-211813488001", TimeFault::OutOfRange),
+    ("999999999999", TimeFault::OutOfRange),
+    ("1000000000000", TimeFault::NotTime),
+    ("-000000-01-01T00:00:00", TimeFault::NotTime),
+    ("-0004-02-29T00:00:00", TimeFault::NotTime),
+    ("1900-02-29T00:00:00", TimeFault::NotTime),
+    ("2000-04-31T00:00:00", TimeFault::NotTime),
+    ("2000-01-01T24:00:00", TimeFault::NotTime),
+    ("2000-01-01t12:00:00", TimeFault::NotTime),
+    ("+1", TimeFault::NotTime),
+    ("", TimeFault::NotTime),
+];
+
+// The time is printed so.
+fn check_text(rt: &impl Abort, alloc: Global, time: i64, expected: &str) -> Result<(), Fail> {
+    assert!(rt; FIRST_TIME <= time);
+    assert!(rt; time <= LAST_TIME);
+    let text = time_text(alloc, time)?;
+    assert!(rt; text.as_str() == expected, "the text of {time}");
+    Ok(())
+}
+
+#[test]
+fn times_are_read_and_printed(rt: HostRuntime) -> Result<(), Fail> {
+    for (word, time, text) in TIMES {
+        assert!(rt;
+            read_time(word.as_bytes()) == Ok(time),
+            "the time of {word}"
+        );
+        check_text(&rt, rt.alloc(), time, text)?;
+    }
+    for (word, fault) in NO_TIMES {
+        assert!(rt;
+            read_time(word.as_bytes()) == Err(fault),
+            "the fault of {word}"
+        );
+    }
+    Ok(())
+}
+
+// Mercury's x passes 0.
+fn mercury_crossing(alloc: Global) -> Result<FindAsk, AllocError> {
+    let zero = Decimal { mant: 0, exp: 0 };
+    Ok(FindAsk {
+        ask: Ask {
+            kind: Kind::Coord,
+            target: Body::Mercury,
+            second: None,
+            observer: Body::Ssb,
+            frame: Frame::Eq,
+            axis: 0,
+            value1: zero,
+            value2: zero,
+            dir: Dir::Any,
+        },
+        values: Text::new(String::from_str(alloc, "0")?),
+        from: None,
+        to: None,
+        width: 1,
+        depth: 40,
+        workers: 1,
+        cut: CutRule::Half,
+        files: FileNames::new(Vec::new(alloc)),
+    })
+}
+
+const CROSSING: &str =
+    "FIND coord target mercury second - observer ssb frame eq axis x values 0 dir any width 1 depth 40 cut half span 2000-01-01T00:00:00 2000-02-02T00:00:00
+C 2000-01-17T00:00:00 2000-01-17T00:00:00 rise
+END certain 1 undecided 0
+";
+
+#[test]
+fn a_report_is_printed(rt: HostRuntime) -> Result<(), Fail> {
+    let alloc = rt.alloc();
+    let find = mercury_crossing(alloc)?;
+    let rise = Window {
+        first: 1_339_200,
+        last: 1_339_200,
+        holds: Holds::Certain(Turn::Rise),
+    };
+    let text = report(alloc, &find, -43_200, 2_721_600, &[rise])?;
+    assert!(rt; text.as_slice() == CROSSING.as_bytes());
+    Ok(())
+}
+
+// The columns of DE405.
+fn de405(alloc: Global) -> Result<Header, AllocError>
+    ensures { IfOk result IsHeader }
+{
+    let columns = [
+        Column {
+            start: 3,
+            coefs: 14,
+            granules: 4,
+        },
+        Column {
+            start: 171,
+            coefs: 10,
+            granules: 2,
+        },
+        Column {
+            start: 231,
+            coefs: 13,
+            granules: 2,
+        },
+        Column {
+            start: 309,
+            coefs: 11,
+            granules: 1,
+        },
+        Column {
+            start: 342,
+            coefs: 8,
+            granules: 1,
+        },
+        Column {
+            start: 366,
+            coefs: 7,
+            granules: 1,
+        },
+        Column {
+            start: 387,
+            coefs: 6,
+            granules: 1,
+        },
+        Column {
+            start: 405,
+            coefs: 6,
+            granules: 1,
+        },
+        Column {
+            start: 423,
+            coefs: 6,
+            granules: 1,
+        },
+        Column {
+            start: 441,
+            coefs: 13,
+            granules: 8,
+        },
+        Column {
+            start: 753,
+            coefs: 11,
+            granules: 2,
+        },
+        Column {
+            start: 819,
+            coefs: 10,
+            granules: 4,
+        },
+        Column {
+            start: 899,
+            coefs: 10,
+            granules: 4,
+        },
+    ];
+    Ok(Header {
+        ncoeff: 1018,
+        block_seconds: 2_764_800,
+        emrat: Decimal {
+            mant: 8_130_056,
+            exp: -5,
+        },
+        columns: Columns::new(Vec::from_array(alloc, columns)?),
+    })
+}
+
+fn zeros(alloc: Global) -> Result<Vec<Decimal>, AllocError>
+    ensures { IfOk result (λ v. All IsBodyNumber v.items) }
+{
+    let mut numbers = Vec::new(alloc);
+    for _place in 0..1018u32 {
+        numbers.push(Decimal { mant: 0, exp: 0 })?;
+    }
+    Ok(numbers)
+}
+
+fn push_zeros(rt: &impl Abort, alloc: Global, ephemeris: &mut Ephemeris) -> Result<(), Fail> {
+    let numbers = zeros(alloc)?;
+    assert!(rt; numbers.len() == ephemeris.header().ncoeff as usize);
+    assert!(rt; ephemeris.blocks() < MOST_BLOCKS);
+    ephemeris.push_block(&numbers)?;
+    Ok(())
+}
+
+const THREE_BLOCKS: &str =
+    "CHECK start 1999-12-24T00:00:00 end 2000-03-29T00:00:00 block 2764800 blocks 3 ncoeff 1018
+COLUMN mercury coefficients 14 granules 4
+COLUMN venus coefficients 10 granules 2
+COLUMN emb coefficients 13 granules 2
+COLUMN mars coefficients 11 granules 1
+COLUMN jupiter coefficients 8 granules 1
+COLUMN saturn coefficients 7 granules 1
+COLUMN uranus coefficients 6 granules 1
+COLUMN neptune coefficients 6 granules 1
+COLUMN pluto coefficients 6 granules 1
+COLUMN moon coefficients 13 granules 8
+COLUMN sun coefficients 11 granules 2
+COLUMN nutations coefficients 10 granules 4
+COLUMN librations coefficients 10 granules 4
+";
+
+#[test]
+fn a_summary_is_printed(rt: HostRuntime) -> Result<(), Fail> {
+    let alloc = rt.alloc();
+    let mut ephemeris = Ephemeris::empty(alloc, de405(alloc)?, -734_400);
+    for _ in 0..3 {
+        push_zeros(&rt, alloc, &mut ephemeris)?;
+    }
+    assert!(rt; FIRST_TIME <= ephemeris.start());
+    assert!(rt; ephemeris.start() <= LAST_TIME);
+    assert!(rt; FIRST_TIME <= ephemeris.end());
+    assert!(rt; ephemeris.end() <= LAST_TIME);
+    let text = summary(alloc, &ephemeris)?;
+    assert!(rt; text.as_slice() == THREE_BLOCKS.as_bytes());
+    Ok(())
+}

@@ -2,7 +2,7 @@
 use Rattle.std.proofs.Common.{◌≡◌, ◌<◌, ℕ, ◌≤ℤ◌, List, [], ◌∷◌, Option, None, Some, Result, Ok, Err}
 use Rattle.spec_text.specs.declared.decimals.Fault.{Fault}
 use Rattle.spec_ephemeris.specs.declared.limits.TheConstants.{LAST_TIME}
-use Rattle.spec_ephemeris.specs.Ephemeris.{Ephemeris, end_of}
+use Rattle.spec_ephemeris.specs.Ephemeris.{Ephemeris, IsEphemeris, end_of}
 use Rattle.spec_sections.specs.Sections.{Stop, ended, breaks}
 use Rattle.spec_sections.proofs.Holding.{holds_ok}
 use Rattle.spec_files.specs.Lines.{ephemeris}
@@ -28,6 +28,9 @@ lines_are texts e is = of_lines (first_fault texts) texts (ephemeris (joined tex
 module _ (files : Option Files) (names : List (List ℕ)) (e : Ephemeris) (held : HaveEphemeris files names e) where
   are : ephemeris (joined held.accepted.texts) ≡ Ok e
   are = lines_are held.accepted.texts e held.accepted.accepted
+
+  pub is_checked : IsEphemeris e
+  is_checked = (holds_ok HasBlocks (ephemeris (joined held.accepted.texts)) e are (ephemeris_holds (joined held.accepted.texts))).0
 
   pub has_block : 0 < e.blocks
   has_block = (holds_ok HasBlocks (ephemeris (joined held.accepted.texts)) e are (ephemeris_holds (joined held.accepted.texts))).1

@@ -1,5 +1,6 @@
 -- Of files that are known a run comes to one status alone.
 use Rattle.std.proofs.Common.{◌≡◌, ◌⊎◌, ◌<◌, ℕ, List, [], ◌∷◌, length, Option, None, Some, Result, Ok, Err, refl, sym, ap, ◌∙◌, subst, arith, inl, inr}
+use Rattle.std.proofs.lemmas.Option.{slice_get_within}
 use Rattle.std.specs.Prelude.{IsSome, slice_get}
 use Rattle.spec_text.specs.declared.decimals.Fault.{Fault}
 use Rattle.spec_ephemeris.specs.Ephemeris.{Ephemeris}
@@ -34,7 +35,7 @@ module _ (known : Files) (names : Texts) (count now : ℕ) where
       (p.ephemeris, p.is, subst Q (sym (accepted_once known names p.ephemeris q.ephemeris p.held.end q.held.end p.held.accepted q.held.accepted).0) q.is)
 
   -- nothing stops the reading of accepted files but a failing shelf
-  held_stops : (P : Ephemeris → Type 0) (r : Refusal) → HoldEphemeris (Some known) names P → FilesStop (Some known) names count now r → Rose count now
+  pub held_stops : (P : Ephemeris → Type 0) (r : Refusal) → HoldEphemeris (Some known) names P → FilesStop (Some known) names count now r → Rose count now
   held_stops P r p (inl none) = absurd (none_held (Some known) p.ephemeris (subst (λ (ns : Texts). HaveEphemeris (Some known) ns p.ephemeris) none.none p.held))
   held_stops P r p (inr (inl refused)) = absurd (accepted_not_refused known names p.ephemeris p.held.end refused.file refused.fault p.held.accepted refused.cause)
   held_stops P r p (inr (inr lack)) = accepted_not_lacking known names p.ephemeris p.held.end count now lack.file p.held.accepted lack.cause
@@ -75,3 +76,7 @@ pub known_once : (files : Option Files) (count now : ℕ) (asked : Result Reques
     → ComesTo asked files count now a → ComesTo asked files count now b → Rose count now ⊎ (status_by a ≡ status_by b)
 known_once None count now asked a b known p q = absurd (cc)
 known_once (Some told) count now asked a b known p q = comes_once told count now asked a b p q
+
+-- a file that couldn't be read is one of those that are named
+pub missing_inside : (files : Option Files) (names : Texts) (count now file : ℕ) → IsNotRead files names count now file → file < length names
+missing_inside files names count now file lack = slice_get_within names file lack.name lack.here

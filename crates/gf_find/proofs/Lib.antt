@@ -4,3 +4,7 @@ pub mod Ending
 pub mod Accepted
 pub mod Causes
 pub mod Searching
+pub mod Asked
+pub mod Times
+pub mod Answered
+pub mod Reporting

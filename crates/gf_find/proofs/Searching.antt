@@ -1,5 +1,5 @@
 -- The search of a query over a span of an ephemeris is one, and what it finds are the windows of the query's events.
-use Rattle.std.proofs.Common.{◌≡◌, ◌⊎◌, ◌<◌, ◌≤◌, ◌*◌, ℕ, Bool, true, false, nat_lt, if◌then◌else◌, ℤ, pos, negsuc, ◌+ℤ◌, ◌*ℤ◌, ◌<ℤ◌, ◌≤ℤ◌, List, Option, None, Some, Result, Ok, Err, refl, sym, ap, ◌∙◌, subst, arith, inl, inr}
+use Rattle.std.proofs.Common.{◌≡◌, ◌⊎◌, ◌<◌, ◌≤◌, ◌*◌, ℕ, Bool, true, false, nat_lt, if◌then◌else◌, ℤ, pos, negsuc, ◌+ℤ◌, ◌*ℤ◌, ◌<ℤ◌, ◌≤ℤ◌, List, Option, None, Some, Result, Ok, Err, refl, sym, ap, ◌∙◌, subst, arith, inl, inr, lit<, lit≤}
 use Rattle.std.proofs.lemmas.Bool.{lt-ltb, le-ltb}
 use Rattle.std.proofs.lemmas.Int.{ints}
 use Rattle.std.specs.Prelude.{unsigned_abs}
@@ -15,22 +15,20 @@ use Rattle.spec_kinds.specs.declared.fault.EventFault.{EventFault}
 use Rattle.spec_kinds.specs.Faults.{fault_of}
 use Rattle.spec_kinds.proofs.Searching.{search_is}
 use Rattle.spec_reports.specs.declared.limits.TheConstants.{MOST_LEAVES}
-use Rattle.halving.specs.declared.run.RunError.{RunError}
-use Rattle.halving.specs.declared.run.RunError.TheVariants as R
 use Rattle.gf_find.specs.declared.query.Query.{Query}
 use Rattle.gf_find.specs.declared.query.Span.{Span}
 use Rattle.gf_find.specs.declared.refusal.Refusal.{Refusal}
 use Rattle.gf_find.specs.declared.refusal.Refusal.TheVariants.{Memory, TooManyLeaves}
 use Rattle.gf_find.specs.Outcomes.{found, searched, searched_by}
-use Rattle.gf_find.specs.Queries.{AreFound, IsQuery, is_within, search, whole_span, windows_in}
-use Rattle.gf_find.specs.Refusals.{of_fault, of_run}
+use Rattle.gf_find.specs.Queries.{AreFound, IsQuery, conjunctions, is_within, search, whole_span, windows_in}
+use Rattle.gf_find.specs.Refusals.{of_fault}
 use Rattle.gf_find.specs.Texts.{IsFound}
 
 -- ---- the leaves of a search
 few_searched : (s : Search) (span : Span) → leaf_count (rules s) (root span.from span.upto) ≤ MOST_LEAVES → searched s span ≡ Ok (windows_in s span)
 unfolding searched
 few_searched s span few =
-    ap (λ (many : Bool). if many then Err TooManyLeaves else Ok (windows_in s span)) (le-ltb (leaf_count (rules s) (root span.from span.upto)) MOST_LEAVES few)
+    ap (λ (many : Bool). if many then Err TooManyLeaves else Ok (windows_in s span)) (le-ltb MOST_LEAVES (leaf_count (rules s) (root span.from span.upto)) few)
 
 many_searched : (s : Search) (span : Span) → MOST_LEAVES < leaf_count (rules s) (root span.from span.upto) → searched s span ≡ Err TooManyLeaves
 unfolding searched
@@ -50,6 +48,15 @@ abs_some (negsuc n) some = absurd (omega (arith, ints, some))
 abs_most : (z : ℤ) (n : ℕ) → pos 1 ≤ℤ z → z ≤ℤ pos n → unsigned_abs z ≤ n
 abs_most (pos m) n some most = omega (arith, ints, most)
 abs_most (negsuc m) n some most = absurd (omega (arith, ints, some))
+
+-- the search of a generated text keeps to the limits
+pub conjunctions_are : IsQuery conjunctions
+conjunctions_are = record {
+  ask = record { second = refl; target = λ same. absurd (cc); other = λ same. absurd (cc); axis = lit< tt };
+  some_width = omega (arith, ints);
+  width = omega (arith, ints);
+  depth = lit≤ tt;
+}
 
 -- the span is one of the search
 inside : (q : Query) (e : Ephemeris) (span : Span) → is_within span e ≡ true → IsSpan (search q e) span.from span.upto
@@ -81,16 +88,16 @@ module _ (q : Query) (e : Ephemeris) (span : Span) (checked : IsEphemeris e) (bl
 
   pub windows_found : (ws : List Window) → ws ≡ windows_in (search q e) span → leaf_count (rules (search q e)) (root span.from span.upto) ≤ MOST_LEAVES → IsFound q e span ws
   windows_found ws same few = record {
-    found = found_is ∙ few_searched (search q e) span few ∙ ap (λ (vs : List Window). Ok vs) (sym same);
+    checked = checked;
+    within = within;
+    comes = found_is ∙ few_searched (search q e) span few ∙ ap (λ (vs : List Window). Ok vs) (sym same);
     same = same;
     windows = subst (λ (vs : List Window). AreFound (search q e) span vs) (sym same) are_found;
   }
 
-  -- too many leaves, or the lack of memory, stop the search
-  pub run_stops : (error : RunError) → (error ≡ R.TooMany → MOST_LEAVES < leaf_count (rules (search q e)) (root span.from span.upto))
-      → (of_run error ≡ Memory) ⊎ (found q e span ≡ Err (of_run error))
-  run_stops R.TooMany many = inr (found_is ∙ many_searched (search q e) span (many refl))
-  run_stops R.Memory many = inl refl
+  -- too many leaves stop the search
+  pub leaves_stop : MOST_LEAVES < leaf_count (rules (search q e)) (root span.from span.upto) → found q e span ≡ Err TooManyLeaves
+  leaves_stop many = found_is ∙ many_searched (search q e) span many
 
 -- a fault of the event stops its search
 pub fault_stops : (q : Query) (e : Ephemeris) (span : Span) (fault : Option EventFault) → fault ≡ fault_of e q.ask

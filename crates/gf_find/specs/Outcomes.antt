@@ -5,7 +5,7 @@ use Rattle.std.specs.Prelude.{◌≡◌, ◌⊎◌, ℕ, nat_lt, Bool, true, fal
 use Rattle.std.specs.declared.alloc.Global.{Global}
 use Rattle.spec_text.specs.declared.decimals.Fault.{Fault}
 use Rattle.spec_faults.specs.declared.numbers.TheConstants.{WORDS}
-use Rattle.spec_ephemeris.specs.Ephemeris.{Ephemeris, end_of}
+use Rattle.spec_ephemeris.specs.Ephemeris.{Ephemeris}
 use Rattle.spec_trees.specs.declared.window.Window.{Window}
 use Rattle.spec_trees.specs.Tree.{leaf_count}
 use Rattle.spec_searches.specs.Search.{Search}
@@ -56,7 +56,7 @@ found q e span = searched_by (fault_of e q.ask) (search q e) span
 -- the same, unless the span isn't one of the ephemeris
 abbrev pub found_within : Bool → Query → Ephemeris → Span → Result (List Window) Refusal
 found_within true q e span = found q e span
-found_within false q e span = Err (R.Outside span.from span.upto e.start (end_of e))
+found_within false q e span = Err (R.Outside span (whole_span e))
 
 -- a text of the windows
 abbrev pub text_by : (List Window → List ℕ) → Result (List Window) Refusal → Outcome

@@ -8,8 +8,7 @@ use Rattle.spec_requests.specs.declared.request.WordFault.{WordFault}
 use Rattle.spec_requests.specs.declared.request.WordFault.TheVariants as W
 use Rattle.spec_requests.specs.Names.{option_name}
 use Rattle.spec_reports.specs.Messages.{words_text, file_text, read_text, outside_text, event_text, leaves_text, memory_text}
-use Rattle.halving.specs.declared.run.RunError.{RunError}
-use Rattle.halving.specs.declared.run.RunError.TheVariants as R
+use Rattle.gf_find.specs.declared.query.Span.{Span}
 use Rattle.gf_find.specs.declared.refusal.Refusal.{Refusal}
 use Rattle.gf_find.specs.declared.refusal.Refusal.TheVariants.{Words, File, NotRead, Outside, Event, TooManyLeaves, Memory}
 use Rattle.gf_find.specs.declared.statuses.TheConstants.{WORDS_REFUSED, FILES_REFUSED, NOT_READ, SPAN_REFUSED, EVENT_REFUSED, OUT_OF_MEMORY, TOO_MANY_LEAVES}
@@ -19,7 +18,7 @@ abbrev pub status_of : Refusal → ℕ
 status_of (Words number option) = WORDS_REFUSED
 status_of (File name fault) = FILES_REFUSED
 status_of (NotRead name) = NOT_READ
-status_of (Outside from upto start end) = SPAN_REFUSED
+status_of (Outside span whole) = SPAN_REFUSED
 status_of (Event fault) = EVENT_REFUSED
 status_of TooManyLeaves = TOO_MANY_LEAVES
 status_of Memory = OUT_OF_MEMORY
@@ -29,7 +28,7 @@ abbrev pub line_of : Refusal → List ℕ
 line_of (Words number option) = words_text number (option_map option_name option)
 line_of (File name fault) = file_text name fault
 line_of (NotRead name) = read_text name
-line_of (Outside from upto start end) = outside_text from upto start end
+line_of (Outside span whole) = outside_text span.from span.upto whole.from whole.upto
 line_of (Event fault) = event_text (number_of fault)
 line_of TooManyLeaves = leaves_text
 line_of Memory = memory_text
@@ -46,8 +45,3 @@ of_words W.Memory = Memory
 abbrev pub of_fault : Option EventFault → Refusal
 of_fault (Some fault) = Event fault
 of_fault None = Memory
-
--- what an error of a walk of the tree is
-abbrev pub of_run : RunError → Refusal
-of_run R.TooMany = TooManyLeaves
-of_run R.Memory = Memory

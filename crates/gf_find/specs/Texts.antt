@@ -1,6 +1,6 @@
 -- The texts that a run makes, each with what it says.
-use Rattle.std.specs.Prelude.{◌≡◌, ℕ, List, Option, Ok}
-use Rattle.spec_ephemeris.specs.Ephemeris.{Ephemeris}
+use Rattle.std.specs.Prelude.{◌≡◌, ℕ, true, List, Option, Ok}
+use Rattle.spec_ephemeris.specs.Ephemeris.{Ephemeris, IsEphemeris}
 use Rattle.spec_trees.specs.declared.window.Window.{Window}
 use Rattle.spec_requests.specs.declared.request.FindAsk.{FindAsk}
 use Rattle.spec_requests.specs.declared.request.Request.{Request}
@@ -10,12 +10,14 @@ use Rattle.spec_texts.specs.Summary.{summary}
 use Rattle.gf_edges.specs.Edges.{Files}
 use Rattle.gf_find.specs.declared.query.Query.{Query}
 use Rattle.gf_find.specs.declared.query.Span.{Span}
-use Rattle.gf_find.specs.Queries.{AreFound, query_of, search, span_of, windows_in}
+use Rattle.gf_find.specs.Queries.{AreFound, is_within, query_of, search, span_of, windows_in}
 use Rattle.gf_find.specs.Outcomes.{Ask, HoldEphemeris, Words, found, generated_search, generated_span, generation_by, generation_of, report_of}
 
 -- the windows that a query finds in a span of an ephemeris, which are those of its events
 pub record IsFound (q : Query) (e : Ephemeris) (span : Span) (ws : List Window) : Type 0 where
-  pub found : found q e span ≡ Ok ws
+  pub checked : IsEphemeris e
+  pub within : is_within span e ≡ true
+  pub comes : found q e span ≡ Ok ws
   pub same : ws ≡ windows_in (search q e) span
   pub windows : AreFound (search q e) span ws
 

@@ -1,5 +1,5 @@
 // From the words of a command line to the text that they ask for.
-ghost use Rattle.std.specs.Prelude.{◌≡◌, ◌∷◌, [], ◌⊎◌, ◌<◌, ◌≤◌, ◌≤ℤ◌, Err, IfErr, IfOk, Ok};
+ghost use Rattle.std.specs.Prelude.{◌≡◌, ◌∷◌, [], ◌⊎◌, ◌<◌, ◌≤◌, ◌≤ℤ◌, Err, IfErr, IfOk, Ok, length, string_bytes};
 ghost use Rattle.spec_ephemeris.specs.Ephemeris.{end_of};
 ghost use Rattle.spec_ephemeris.specs.Ephemeris as e;
 ghost use Rattle.spec_files.specs.Outcome.{outcome};
@@ -38,10 +38,8 @@ fn report_of(alloc: Global, ephemeris: &Ephemeris, find: &FindAsk) -> Result<Vec
     let span = span_of(find, ephemeris);
     if !is_within(span, ephemeris) {
         return Err(Refusal::Outside {
-            from: span.from,
-            upto: span.upto,
-            start: ephemeris.start(),
-            end: ephemeris.end(),
+            span,
+            whole: whole_span(ephemeris),
         });
     }
     let windows = search(alloc, ephemeris, &query_of(find), span)?;
@@ -85,17 +83,62 @@ fn summary_of_files<S: Shelf>(
     Ok(text)
 }
 
-// The ephemeris of a generated text, which is read as the one file of a shelf.
+fn no_name(alloc: Global) -> String
+    ensures { string_bytes result ≡ [] }
+{
+    String::new(alloc)
+}
+
+// The ephemeris of a text, which is read as the one file of a shelf.
 fn ephemeris_of_text(alloc: Global, text: &[u8]) -> Result<Ephemeris, Refusal>
     ensures read { IfOk result (λ e. outcome (text.now ∷ []) ≡ Ok e) }
     ensures refused { (e : e.Ephemeris) → outcome (text.now ∷ []) ≡ Ok e
         → IfErr result (λ refusal. refusal ≡ Refusal.Memory) }
 {
     let mut shelf = TextShelf::new(text);
-    ephemeris_of(alloc, &mut shelf, &[String::new(alloc)])
+    ephemeris_of(alloc, &mut shelf, &[no_name(alloc)])
+}
+
+// The two lines of the ephemeris of a generated text that has so many bytes.
+fn lines_of(
+    alloc: Global,
+    blocks: u32,
+    seed: u64,
+    bytes: usize,
+    ephemeris: &Ephemeris,
+) -> Result<Vec<u8>, Refusal>
+    requires some { 0 < blocks }
+    requires bytes { bytes ≡ length (generated_text blocks seed) }
+    requires same { ephemeris.now ≡ generated_ephemeris blocks seed }
+    ensures lines { IfOk result (λ text. IsGeneration blocks seed text.items) }
+    ensures stopped { IfErr result (λ refusal. (refusal ≡ Refusal.Memory)
+        ⊎ (generation_of blocks seed ≡ Err refusal)) }
+{
+    let _header = ephemeris.header();
+    let windows = search(alloc, ephemeris, &conjunctions(), whole_span(ephemeris))?;
+    let lines = generation(alloc, blocks, seed, bytes, &windows)?;
+    Ok(lines)
 }
 
 // The two lines of a generated text.
+fn lines_of_text(
+    alloc: Global,
+    blocks: u32,
+    seed: u64,
+    text: &[u8],
+) -> Result<Vec<u8>, Refusal>
+    requires some { 0 < blocks }
+    requires text { text.now ≡ generated_text blocks seed }
+    requires accepted { outcome (text.now ∷ []) ≡ Ok (generated_ephemeris blocks seed) }
+    ensures lines { IfOk result (λ text. IsGeneration blocks seed text.items) }
+    ensures stopped { IfErr result (λ refusal. (refusal ≡ Refusal.Memory)
+        ⊎ (generation_of blocks seed ≡ Err refusal)) }
+{
+    let ephemeris = ephemeris_of_text(alloc, text)?;
+    lines_of(alloc, blocks, seed, text.len(), &ephemeris)
+}
+
+// The two lines of the generated text of so many blocks from this seed.
 fn generation_of(alloc: Global, blocks: u32, seed: u64) -> Result<Vec<u8>, Refusal>
     requires some { 0 < blocks }
     requires few { blocks ≤ MOST_GENERATED }
@@ -104,10 +147,7 @@ fn generation_of(alloc: Global, blocks: u32, seed: u64) -> Result<Vec<u8>, Refus
         ⊎ (generation_of blocks seed ≡ Err refusal)) }
 {
     let text = generate(alloc, blocks, seed)?;
-    let ephemeris = ephemeris_of_text(alloc, &text)?;
-    let windows = search(alloc, &ephemeris, &conjunctions(), whole_span(&ephemeris))?;
-    let lines = generation(alloc, blocks, seed, text.len(), &windows)?;
-    Ok(lines)
+    lines_of_text(alloc, blocks, seed, &text)
 }
 
 /// The text that the words ask for.

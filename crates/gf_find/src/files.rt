@@ -1,5 +1,5 @@
 // The ephemeris of named files.
-ghost use Rattle.std.specs.Prelude.{◌≡◌, ◌⊎◌, IfErr, IfOk};
+ghost use Rattle.std.specs.Prelude.{◌≡◌, ◌⊎◌, ◌<◌, ℕ, List, Some, IfErr, IfOk, length, slice_get};
 ghost use Rattle.gf_find.specs.Outcomes.{FilesStop, HaveEphemeris, texts_of};
 ghost use Rattle.gf_find.specs.Reported.{AreNotOpened};
 
@@ -18,21 +18,25 @@ fn text(alloc: Global, name: &str) -> Result<Text, AllocError>
     Ok(Text::new(String::from_str(alloc, name)?))
 }
 
-// The file of this name has this fault.
-fn refused(alloc: Global, name: &str, fault: Fault) -> Refusal
-    ensures { (result ≡ Refusal.Memory) ⊎ (result ≡ Refusal.File name.now fault) }
+// This file has this fault.
+fn refused(alloc: Global, names: &[String], file: usize, fault: Fault) -> Refusal
+    requires { file < length names.now }
+    ensures { (result ≡ Refusal.Memory) ⊎ ((name : List ℕ)
+        × (slice_get (texts_of names.now) file ≡ Some name) × (result ≡ Refusal.File name fault)) }
 {
-    match text(alloc, name) {
+    match text(alloc, &names[file]) {
         Ok(name) => Refusal::File { name, fault },
         Err(AllocError) => Refusal::Memory,
     }
 }
 
-// The file of this name couldn't be read.
-fn not_read(alloc: Global, name: &str) -> Refusal
-    ensures { (result ≡ Refusal.Memory) ⊎ (result ≡ Refusal.NotRead name.now) }
+// This file couldn't be read.
+fn not_read(alloc: Global, names: &[String], file: usize) -> Refusal
+    requires { file < length names.now }
+    ensures { (result ≡ Refusal.Memory) ⊎ ((name : List ℕ)
+        × (slice_get (texts_of names.now) file ≡ Some name) × (result ≡ Refusal.NotRead name)) }
 {
-    match text(alloc, name) {
+    match text(alloc, &names[file]) {
         Ok(name) => Refusal::NotRead { name },
         Err(AllocError) => Refusal::Memory,
     }
@@ -58,8 +62,8 @@ pub(crate) fn ephemeris_of<S: Shelf>(
     }
     match read_files(alloc, shelf, names) {
         Ok(found) => Ok(found.ephemeris),
-        Err(FilesError::Fault { file, fault }) => Err(refused(alloc, &names[file], fault)),
-        Err(FilesError::NotRead { file }) => Err(not_read(alloc, &names[file])),
+        Err(FilesError::Fault { file, fault }) => Err(refused(alloc, names, file, fault)),
+        Err(FilesError::NotRead { file }) => Err(not_read(alloc, names, file)),
         Err(FilesError::Memory) => Err(Refusal::Memory),
     }
 }

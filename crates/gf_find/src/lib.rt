@@ -23,3 +23,4 @@ pub use statuses::{
 };
 pub use top::finder;
 
+

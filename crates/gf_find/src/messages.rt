@@ -6,6 +6,7 @@ ghost use Rattle.spec_reports.specs.Messages.{after_blank, detail_text, event_te
 ghost use Rattle.spec_requests.specs.Names.{option_name};
 ghost use Rattle.gf_find.specs.Refusals.{line_of};
 
+use crate::query::Span;
 use crate::refusal::Refusal;
 use spec_faults::{FaultKind, fault_kind};
 use spec_requests::{Named, option_name};
@@ -142,35 +143,31 @@ fn add_time(text: &mut Vec<u8>, time: i64) -> Result<(), AllocError>
     text.extend_from_slice(buffer.format(time).as_bytes())
 }
 
-// Two times, before a text.
-fn add_times(text: &mut Vec<u8>, first: i64, last: i64, after: &[u8]) -> Result<(), AllocError>
-    ensures { OnOk result (text.new.items ≡ text.old.items ++ (times first last ++ after.now)) }
+// The two times of a span, before a text.
+fn add_span(text: &mut Vec<u8>, span: Span, after: &[u8]) -> Result<(), AllocError>
+    ensures { OnOk result (text.new.items
+        ≡ text.old.items ++ (times span.from span.upto ++ after.now)) }
 {
-    add_time(text, first)?;
+    add_time(text, span.from)?;
     text.extend_from_slice(b" ")?;
-    add_time(text, last)?;
+    add_time(text, span.upto)?;
     text.extend_from_slice(after)
 }
 
-// The line of a span that isn't one of the files.
-fn outside_line(
-    alloc: Global,
-    from: i64,
-    upto: i64,
-    start: i64,
-    end: i64,
-) -> Result<Vec<u8>, AllocError>
-    ensures { IfOk result (λ text. text.items ≡ outside_text from upto start end) }
+// The line of a span that isn't one of the files, which have the other as their whole span.
+fn outside_line(alloc: Global, span: Span, whole: Span) -> Result<Vec<u8>, AllocError>
+    ensures { IfOk result (λ text.
+        text.items ≡ outside_text span.from span.upto whole.from whole.upto) }
 {
     let mut text = Vec::new(alloc);
     text.extend_from_slice(b"finder: span: ")?;
-    add_times(&mut text, from, upto, b" not within ")?;
-    add_times(&mut text, start, end, b"\n")?;
+    add_span(&mut text, span, b" not within ")?;
+    add_span(&mut text, whole, b"\n")?;
     Ok(text)
 }
 
 // The line of a run that is out of memory.
-pub(crate) fn memory_line() -> &'static [u8]
+fn memory_line() -> &'static [u8]
     ensures { result.now ≡ memory_text }
 {
     b"finder: out of memory\n"
@@ -184,12 +181,7 @@ pub(crate) fn line_of(alloc: Global, refusal: &Refusal) -> Result<Vec<u8>, Alloc
         Refusal::Words { number, option } => words_line(alloc, *number, *option),
         Refusal::File { name, fault } => file_line(alloc, name.as_str(), *fault),
         Refusal::NotRead { name } => read_line(alloc, name.as_str()),
-        Refusal::Outside {
-            from,
-            upto,
-            start,
-            end,
-        } => outside_line(alloc, *from, *upto, *start, *end),
+        Refusal::Outside { span, whole } => outside_line(alloc, *span, *whole),
         Refusal::Event(fault) => event_line(alloc, fault.number()),
         Refusal::TooManyLeaves => leaves_line().to_vec(alloc),
         Refusal::Memory => memory_line().to_vec(alloc),

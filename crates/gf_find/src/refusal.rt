@@ -1,7 +1,6 @@
 // Why a run has nothing to write to its output.
 use eph_gen::Memory as TextMemory;
 use event_kinds::KindFault;
-use halving::RunError;
 use spec_faults::{BAD_VALUE, NO_COMMAND, UNKNOWN_COMMAND, WORDS};
 use spec_kinds::EventFault;
 use spec_requests::{Named, Text, WordFault};
@@ -9,12 +8,13 @@ use spec_text::Fault;
 use std::alloc::AllocError;
 use window_text::Memory as ReportMemory;
 
+use crate::query::Span;
 use crate::statuses::{
     EVENT_REFUSED, FILES_REFUSED, NOT_READ, OUT_OF_MEMORY, SPAN_REFUSED, TOO_MANY_LEAVES,
     WORDS_REFUSED,
 };
 
-/// Why a run has nothing to write to its output. Times are seconds of TDB since J2000.
+/// Why a run has nothing to write to its output.
 #[derive(Drop)]
 pub enum Refusal {
     /// The words ask for nothing, by the fault of this number, which an option may have.
@@ -23,13 +23,8 @@ pub enum Refusal {
     File { name: Text, fault: Fault },
     /// The file of this name couldn't be read.
     NotRead { name: Text },
-    /// This span isn't one of the files, which begin and end at these times.
-    Outside {
-        from: i64,
-        upto: i64,
-        start: i64,
-        end: i64,
-    },
+    /// The span isn't one of the files, whose whole span the other is.
+    Outside { span: Span, whole: Span },
     /// The event can't be searched for in the files.
     Event(EventFault),
     /// The search has more leaves than it may have.
@@ -98,20 +93,6 @@ impl From<KindFault> for Refusal {
         match error.event_fault() {
             Some(fault) => Refusal::Event(fault),
             None => Refusal::Memory,
-        }
-    }
-}
-
-impl From<RunError> for Refusal {
-    ghost use Rattle.std.specs.Prelude.{◌≡◌};
-    ghost use Rattle.gf_find.specs.Refusals.{of_run};
-
-    ghost from_gives = { λ error refusal. refusal ≡ of_run error };
-
-    fn from(error: RunError) -> Self {
-        match error {
-            RunError::TooMany => Refusal::TooManyLeaves,
-            RunError::Memory => Refusal::Memory,
         }
     }
 }

@@ -17,6 +17,7 @@ use eph_model::Ephemeris;
 use event_judge::EventJudge;
 use event_kinds::{Event, event};
 use gf_hooks::{Cutter, rule_cut};
+use halving::RunError;
 use spec_trees::{Node, Window};
 use std::alloc::Global;
 
@@ -70,15 +71,20 @@ pub(crate) fn search(
 {
     let event = event(alloc, ephemeris, &query.ask)?;
     let rule = query.cut;
-    let cut = Box::new(
+    let Ok(cut) = Box::new(
         alloc,
         move |a: i64, b: i64| -> i64
             requires { CanCut a b }
             ensures { result ≡ cut_of rule a b }
         { rule_cut(rule, a, b) },
-    )?;
+    ) else {
+        return Err(Refusal::Memory);
+    };
     let root = root_of(ephemeris, span);
     let judge = judge_of(ephemeris, query, event, Cutter::new(rule, cut));
-    let windows = windows_by(alloc, &judge, root)?;
-    Ok(windows)
+    match windows_by(alloc, &judge, root) {
+        Ok(windows) => Ok(windows),
+        Err(RunError::TooMany) => Err(Refusal::TooManyLeaves),
+        Err(RunError::Memory) => Err(Refusal::Memory),
+    }
 }

@@ -4,7 +4,7 @@ ghost use Rattle.std.specs.Io.KnownBytes.{Appends, Keeps};
 ghost use Rattle.spec_requests.specs.declared.request.FindAsk.{FindAsk};
 ghost use Rattle.spec_requests.specs.declared.request.Request.TheVariants.{Find, Check, Gen};
 ghost use Rattle.spec_requests.specs.Requests.{request_of};
-ghost use Rattle.spec_reports.specs.Messages.{write_text};
+ghost use Rattle.spec_reports.specs.Messages.{memory_text, write_text};
 ghost use Rattle.spec_reports.specs.Writing.{AppendsPart, Receives};
 ghost use Rattle.gf_edges.specs.Edges.{Rose};
 ghost use Rattle.gf_find.specs.Outcomes.{Ask, HaveCause, HaveOutcome, HoldEphemeris, texts_of};
@@ -12,7 +12,7 @@ ghost use Rattle.gf_find.specs.Refusals.{line_of, status_of};
 ghost use Rattle.gf_find.specs.Reported.{OpensNone, ReportsEvents, ReportsGeneration, ReportsPart, ReportsSummary};
 
 use crate::answer::answer;
-use crate::messages::{line_of, memory_line};
+use crate::messages::line_of;
 use crate::refusal::Refusal;
 use crate::statuses::{NOT_WRITTEN, OUT_OF_MEMORY, REPORTED};
 use crate::writing::{write_line, write_whole};
@@ -123,9 +123,14 @@ fn write_refusal<E: Sink>(alloc: Global, err: &mut E, refusal: &Refusal) -> u8
             write_line(err, &line);
             refusal.status()
         }
-        Err(AllocError) => {
-            write_line(err, memory_line());
-            OUT_OF_MEMORY
-        }
+        Err(AllocError) => write_out_of_memory(err),
     }
+}
+
+fn write_out_of_memory<E: Sink>(err: &mut E) -> u8
+    ensures status { result ≡ OUT_OF_MEMORY }
+    ensures line { Receives E.bytes E.faults err.old err.new memory_text }
+{
+    write_line(err, b"finder: out of memory\n");
+    OUT_OF_MEMORY
 }

@@ -54,7 +54,7 @@ times first last = signed_decimal first ++ codes " " ++ signed_decimal last
 
 -- a span doesn't lie within the files, which begin and end at these times
 abbrev pub outside_text : ℤ → ℤ → ℤ → ℤ → List ℕ
-outside_text from upto start end = codes "finder: span: " ++ times from upto ++ codes " not within " ++ times start end ++ codes "\n"
+outside_text from upto start end = codes "finder: span: " ++ (times from upto ++ codes " not within ") ++ (times start end ++ codes "\n")
 
 -- the event can't be searched for, for the cause of this number
 abbrev pub event_text : ℕ → List ℕ

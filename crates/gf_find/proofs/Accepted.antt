@@ -5,6 +5,7 @@ use Rattle.spec_ephemeris.specs.declared.limits.TheConstants.{LAST_TIME}
 use Rattle.spec_ephemeris.specs.Ephemeris.{Ephemeris, IsEphemeris, end_of}
 use Rattle.spec_sections.specs.Sections.{Stop, ended, breaks}
 use Rattle.spec_sections.proofs.Holding.{holds_ok}
+use Rattle.spec_header.specs.HeaderLines.{header}
 use Rattle.spec_files.specs.Lines.{ephemeris}
 use Rattle.spec_files.specs.Outcome.{first_fault, outcome, outcome_by}
 use Rattle.spec_files.specs.Files.{AreFiles}
@@ -39,9 +40,10 @@ module _ (files : Option Files) (names : List (List ℕ)) (e : Ephemeris) (held 
   ends_in_time = holds_ok EndsInTime (ephemeris (joined held.accepted.texts)) e are (lines_end (joined held.accepted.texts)) has_block
 
 -- no files are no ephemeris
+none_are : (files : Option Files) (texts : List (List ℕ)) (e : Ephemeris) → AreFiles files [] texts → ephemeris (joined texts) ≡ Ok e → ⊥
+unfolding header
+none_are files [] e there is = absurd (cc)
+none_are files (text ∷ texts) e there is = absurd there
+
 pub none_held : (files : Option Files) (e : Ephemeris) → HaveEphemeris files [] e → ⊥
-none_held files e held = none held.accepted.texts held.accepted.there (lines_are held.accepted.texts e held.accepted.accepted)
-  where
-    none : (texts : List (List ℕ)) → AreFiles files [] texts → ephemeris (joined texts) ≡ Ok e → ⊥
-    none [] there is = absurd (cc)
-    none (text ∷ texts) there is = absurd there
+none_held files e held = none_are files held.accepted.texts e held.accepted.there (lines_are held.accepted.texts e held.accepted.accepted)

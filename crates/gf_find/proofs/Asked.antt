@@ -84,3 +84,9 @@ module _ (blocks seed workers : ℕ) where
   unfolding request_of
   blocks_are_few [] e = absurd (cc)
   blocks_are_few (word ∷ words) e = of_command (command_of word) (word ∷ words) e
+
+pub blocks_are_some : (words : List Text) (blocks seed workers : ℕ) → request_of words ≡ Ok (Gen blocks seed workers) → 0 < blocks
+blocks_are_some words blocks seed workers e = (blocks_are_few blocks seed workers words e).some
+
+pub blocks_are_within : (words : List Text) (blocks seed workers : ℕ) → request_of words ≡ Ok (Gen blocks seed workers) → blocks ≤ MOST_GENERATED
+blocks_are_within words blocks seed workers e = (blocks_are_few blocks seed workers words e).few

@@ -24,10 +24,11 @@ abbrev pub EndsInTime : Ephemeris → Type 0
 EndsInTime e = 0 < e.blocks → end_of e ≤ℤ LAST_TIME
 
 -- ---- one block more
-one_more : (start length : ℤ) (count : ℕ) → (start +ℤ (pos (count + 1) *ℤ length)) ≡ ((start +ℤ (pos count *ℤ length)) +ℤ length)
-one_more start length count =
-    let split : pos (count + 1) *ℤ length ≡ (pos count *ℤ length) +ℤ length =
-    ap (λ z. z *ℤ length) (omega (arith, ints)) ∙ add-mul (pos count) (pos 1) length ∙ ap (λ z. (pos count *ℤ length) +ℤ z) (one-mul length) in
+one_more : (start duration : ℤ) (count : ℕ) → (start +ℤ (pos (count + 1) *ℤ duration)) ≡ ((start +ℤ (pos count *ℤ duration)) +ℤ duration)
+one_more start duration count =
+    let more : pos (count + 1) ≡ (pos count +ℤ pos 1) = omega (arith, ints) in
+    let split : (pos (count + 1) *ℤ duration) ≡ ((pos count *ℤ duration) +ℤ duration) =
+    ap (λ (z : ℤ). z *ℤ duration) more ∙ add-mul (pos count) (pos 1) duration ∙ ap (λ (z : ℤ). (pos count *ℤ duration) +ℤ z) (one-mul duration) in
     omega (arith, ints, split)
 
 -- the block lies where its dates say
@@ -39,9 +40,10 @@ lies length start end r x is = elim (cases_Bool (has_length length start end)) [
   | inr not ↦ let other : Err x ≡ Ok tt = rw not at is in absurd (cc)
 ]
 
-no_gap : (a b : Bool) (x y : BrokenRule) → (if a then Err x else if b then Ok tt else Err y) ≡ Ok tt → a ≡ false
-no_gap true b x y is = absurd (cc)
-no_gap false b x y is = refl
+no_gap : (a b : Bool) (x y : BrokenRule) → Holds (λ (u : Unit {0}). a ≡ false) (if a then Err x else if b then Ok tt else Err y)
+no_gap true b x y = tt
+no_gap false true x y = refl
+no_gap false false x y = tt
 
 -- where there are blocks, a block without a gap begins where they end
 joins : (before : Ephemeris) (start : ℤ) → 0 < before.blocks → is_after_gap before start ≡ false → start ≡ end_of before
@@ -78,7 +80,7 @@ accepted_ends : (before : Ephemeris) (numbers : List Decimal) (start end : ℤ) 
     → follows before start end ≡ Ok tt → EndsInTime (accept before numbers (Ok start) (Ok end))
 accepted_ends before numbers start end ends late length rule = elim (cases_Bool (is_skipped before end)) [
   | inl passed ↦ rw passed ends
-  | inr new ↦ rw new (λ some. more_ends before numbers start end late length (no_gap (is_after_gap before start) (nat_lt before.blocks MOST_BLOCKS) _ _ (rw new at rule)))
+  | inr new ↦ rw new (λ some. more_ends before numbers start end late length (holds_ok _ _ tt (rw new at rule) (no_gap (is_after_gap before start) (nat_lt before.blocks MOST_BLOCKS) _ _)))
 ]
 
 abbrev dates : Ephemeris → Result ℤ BrokenRule → Result ℤ BrokenRule → BrokenRule → Result (Unit {0}) BrokenRule

@@ -56,6 +56,11 @@ text_is_read text kept names e r is same named stops =
     let rose : Rose 0 0 = held_stops (one_file text) ([] ∷ []) 0 0 (λ f. f ≡ e) r (record { ephemeris = e; held = text_held text e is; is = refl }) here in
     absurd (omega (arith, rose))
 
+pub text_stops : (text kept : List ℕ) (names : List (List ℕ)) (e : Ephemeris) → outcome (text ∷ []) ≡ Ok e → kept ≡ text → names ≡ [] ∷ []
+    → (r : Refusal) → (r ≡ Memory) ⊎ FilesStop (Some (one_file kept)) names 0 0 r → r ≡ Memory
+text_stops text kept names e is same named r (inl none) = none
+text_stops text kept names e is same named r (inr stops) = absurd (text_is_read text kept names e r is same named stops)
+
 -- ---- a generated text
 conjunctions_served : (blocks seed : ℕ) → fault_of (generated_ephemeris blocks seed) conjunctions.ask ≡ None
 unfolding fault_of generated_ephemeris

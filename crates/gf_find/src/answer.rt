@@ -1,5 +1,5 @@
 // From the words of a command line to the text that they ask for.
-ghost use Rattle.std.specs.Prelude.{◌≡◌, ◌∷◌, [], ◌⊎◌, ◌<◌, ◌≤◌, ◌≤ℤ◌, Err, IfErr, IfOk, Ok, length, string_bytes};
+ghost use Rattle.std.specs.Prelude.{All, ◌≡◌, ◌∷◌, [], ◌⊎◌, ◌<◌, ◌≤◌, ◌≤ℤ◌, Err, IfErr, IfOk, Ok, length, string_bytes};
 ghost use Rattle.spec_ephemeris.specs.Ephemeris.{end_of};
 ghost use Rattle.spec_ephemeris.specs.Ephemeris as e;
 ghost use Rattle.spec_files.specs.Outcome.{outcome};
@@ -8,13 +8,15 @@ ghost use Rattle.spec_generated.specs.declared.limits.TheConstants.{MOST_GENERAT
 ghost use Rattle.spec_generated.specs.Generated.{generated_ephemeris, generated_text};
 ghost use Rattle.spec_requests.specs.Limits.{IsWithinLimits};
 ghost use Rattle.spec_requests.specs.Requests.{request_of};
+ghost use Rattle.spec_times.specs.TimeWords.{IsTime};
+ghost use Rattle.spec_texts.specs.Report.{HasTimes, generation, report};
 ghost use Rattle.spec_texts.specs.Summary.{summary};
 ghost use Rattle.gf_find.specs.Outcomes.{FilesComeTo, HaveCause, HoldEphemeris, generation_of, report_of, summary_of, texts_of};
 ghost use Rattle.gf_find.specs.Reported.{AreNotOpened, OpensNone};
 ghost use Rattle.gf_find.specs.Texts.{IsAnswered, IsGeneration, IsReport};
 
 use crate::files::ephemeris_of;
-use crate::query::{conjunctions, is_within, query_of, span_of, whole_span};
+use crate::query::{Span, conjunctions, is_within, query_of, span_of, whole_span};
 use crate::refusal::Refusal;
 use crate::search::search;
 use crate::text_shelf::TextShelf;
@@ -23,8 +25,27 @@ use eph_model::Ephemeris;
 use gf_edges::Shelf;
 use gf_words::request;
 use spec_requests::{FindAsk, Request};
+use spec_trees::Window;
 use std::alloc::Global;
 use window_text::{generation, report, summary};
+
+// The report of windows in a span.
+fn report_in(
+    alloc: Global,
+    find: &FindAsk,
+    span: Span,
+    windows: &[Window],
+) -> Result<Vec<u8>, Refusal>
+    requires from { IsTime span.from }
+    requires upto { IsTime span.upto }
+    requires windows { All HasTimes windows.now }
+    ensures text { IfOk result (λ text.
+        text.items ≡ report find.now span.from span.upto windows.now) }
+    ensures memory { IfErr result (λ refusal. refusal ≡ Refusal.Memory) }
+{
+    let text = report(alloc, find, span.from, span.upto, windows)?;
+    Ok(text)
+}
 
 // The report of a search of an ephemeris.
 fn report_of(alloc: Global, ephemeris: &Ephemeris, find: &FindAsk) -> Result<Vec<u8>, Refusal>
@@ -43,8 +64,7 @@ fn report_of(alloc: Global, ephemeris: &Ephemeris, find: &FindAsk) -> Result<Vec
         });
     }
     let windows = search(alloc, ephemeris, &query_of(find), span)?;
-    let text = report(alloc, find, span.from, span.upto, &windows)?;
-    Ok(text)
+    report_in(alloc, find, span, &windows)
 }
 
 // The report of the files of a search.
@@ -99,6 +119,21 @@ fn ephemeris_of_text(alloc: Global, text: &[u8]) -> Result<Ephemeris, Refusal>
     ephemeris_of(alloc, &mut shelf, &[no_name(alloc)])
 }
 
+// The two lines of windows in a generated text that has so many bytes.
+fn lines_of_windows(
+    alloc: Global,
+    blocks: u32,
+    seed: u64,
+    bytes: usize,
+    windows: &[Window],
+) -> Result<Vec<u8>, Refusal>
+    ensures text { IfOk result (λ text. text.items ≡ generation blocks seed bytes windows.now) }
+    ensures memory { IfErr result (λ refusal. refusal ≡ Refusal.Memory) }
+{
+    let lines = generation(alloc, blocks, seed, bytes, windows)?;
+    Ok(lines)
+}
+
 // The two lines of the ephemeris of a generated text that has so many bytes.
 fn lines_of(
     alloc: Global,
@@ -115,9 +150,10 @@ fn lines_of(
         ⊎ (generation_of blocks seed ≡ Err refusal)) }
 {
     let _header = ephemeris.header();
-    let windows = search(alloc, ephemeris, &conjunctions(), whole_span(ephemeris))?;
-    let lines = generation(alloc, blocks, seed, bytes, &windows)?;
-    Ok(lines)
+    match search(alloc, ephemeris, &conjunctions(), whole_span(ephemeris)) {
+        Ok(windows) => lines_of_windows(alloc, blocks, seed, bytes, &windows),
+        Err(refusal) => Err(refusal),
+    }
 }
 
 // The two lines of a generated text.

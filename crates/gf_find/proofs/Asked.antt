@@ -1,12 +1,11 @@
 -- What words ask for lies within the limits of what answers it.
-use Rattle.std.proofs.Common.{◌≡◌, ◌<◌, ◌≤◌, ◌&&◌, ℕ, Bool, true, false, nat_le, List, [], ◌∷◌, Option, Some, None, Result, Ok, Err, cond, option_and_then, unwrap_or, refl, sym, ap, ◌∙◌, subst, arith}
+use Rattle.std.proofs.Common.{◌≡◌, ◌<◌, ◌≤◌, ◌&&◌, ℕ, Bool, true, false, nat_le, List, [], ◌∷◌, Option, Some, None, Result, Ok, Err, cond, option_and_then, unwrap_or, refl, subst, arith}
 use Rattle.std.specs.Str.Parse.{digits_value}
-use Rattle.std.proofs.lemmas.Bool.{leb-true, and_parts}
+use Rattle.std.proofs.lemmas.Bool.{leb-true}
 use Rattle.spec_kinds.specs.declared.kind.Kind.{Kind}
 use Rattle.spec_generated.specs.declared.limits.TheConstants.{MOST_GENERATED}
-use Rattle.spec_requests.specs.declared.request.FindAsk.{FindAsk}
 use Rattle.spec_requests.specs.declared.request.Request.{Request}
-use Rattle.spec_requests.specs.declared.request.Request.TheVariants.{Find, Check, Gen}
+use Rattle.spec_requests.specs.declared.request.Request.TheVariants.{Check, Gen}
 use Rattle.spec_requests.specs.declared.request.Named.{Named}
 use Rattle.spec_requests.specs.declared.request.Named.TheVariants as opt
 use Rattle.spec_requests.specs.declared.request.WordFault.{WordFault}
@@ -17,7 +16,7 @@ use Rattle.spec_requests.specs.declared.limits.TheConstants.{MOST_DIGITS_OF_BLOC
 use Rattle.spec_requests.specs.Names.{Text, command_of, kind_of}
 use Rattle.spec_requests.specs.Options.{Values, are_digits, bad_option, blocks_of, number_of}
 use Rattle.spec_requests.specs.Commands.{check_command, files_in, find_command, gen_command, is_refused, values_in}
-use Rattle.spec_requests.specs.Requests.{bad_word, checked_search, checked_text, request_for, request_of, search_by, search_of, search_of_kind, text_by, text_of, value_or}
+use Rattle.spec_requests.specs.Requests.{bad_word, checked_search, checked_text, request_for, request_of, search_by, search_of_kind, text_by, text_of, value_or}
 
 pub record IsGenerated (blocks : ℕ) : Type 0 where
   pub some : 0 < blocks

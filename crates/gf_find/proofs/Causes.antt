@@ -1,5 +1,5 @@
 -- Of files that are known a run comes to one status alone.
-use Rattle.std.proofs.Common.{◌≡◌, ◌⊎◌, ◌<◌, ℕ, List, [], ◌∷◌, length, Option, None, Some, Result, Ok, Err, refl, sym, ap, ◌∙◌, subst, arith, inl, inr}
+use Rattle.std.proofs.Common.{◌≡◌, ◌⊎◌, ◌<◌, ℕ, List, [], ◌∷◌, length, Option, None, Some, Result, Ok, Err, sym, ap, ◌∙◌, subst, arith, inl, inr}
 use Rattle.std.proofs.lemmas.Option.{slice_get_within}
 use Rattle.std.specs.Prelude.{IsSome, slice_get}
 use Rattle.spec_text.specs.declared.decimals.Fault.{Fault}
@@ -11,7 +11,7 @@ use Rattle.spec_requests.specs.declared.request.Request.TheVariants.{Find, Check
 use Rattle.spec_requests.specs.declared.request.WordFault.{WordFault}
 use Rattle.gf_edges.specs.Edges.{Files, Rose}
 use Rattle.gf_find.specs.declared.refusal.Refusal.{Refusal}
-use Rattle.gf_find.specs.Outcomes.{ComesTo, FilesComeTo, FilesStop, HaveEphemeris, HoldEphemeris, LackFile, NameNoFile, Outcome, RefuseFile, report_of, status_by, summary_of}
+use Rattle.gf_find.specs.Outcomes.{ComesTo, FilesComeTo, FilesStop, HaveEphemeris, HoldEphemeris, Outcome, report_of, status_by, summary_of}
 use Rattle.gf_find.specs.Refusals.{status_of}
 use Rattle.gf_find.proofs.Accepted.{none_held}
 

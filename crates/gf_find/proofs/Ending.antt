@@ -1,5 +1,5 @@
 -- An accepted ephemeris ends no later than Julian date 5,000,000.
-use Rattle.std.proofs.Common.{◌≡◌, ℕ, zero, suc, ◌+◌, ◌*◌, ◌<◌, ◌==◌, ◌&&◌, ◌||◌, nat_lt, Bool, true, false, List, [], ◌∷◌, length, Option, Result, Ok, Err, refl, sym, ap, ◌∙◌, subst, inl, inr, arith, if◌then◌else◌, eq-eqb, ne_eqb, ℤ, pos, ◌+ℤ◌, ◌*ℤ◌, ◌≤ℤ◌, int_le, int_lt}
+use Rattle.std.proofs.Common.{◌≡◌, ℕ, zero, suc, ◌+◌, ◌<◌, ◌&&◌, ◌||◌, nat_lt, Bool, true, false, List, [], ◌∷◌, length, Result, Ok, Err, refl, ap, ◌∙◌, inl, inr, arith, if◌then◌else◌, eq-eqb, ne_eqb, ℤ, pos, ◌+ℤ◌, ◌*ℤ◌, ◌≤ℤ◌, int_le, int_lt}
 use Rattle.std.proofs.lemmas.Bool.{cases_Bool, cases_eq, and_parts, lt-ltb}
 use Rattle.std.proofs.lemmas.Int.{ints}
 use Rattle.std.proofs.Math.IntN.{zero-*ℤ}
@@ -7,11 +7,10 @@ use Rattle.spec_numbers.proofs.Whole.{add-mul, one-mul}
 use Rattle.spec_text.specs.declared.decimals.Decimal.{Decimal}
 use Rattle.spec_ephemeris.specs.declared.header.Header.{Header}
 use Rattle.spec_ephemeris.specs.declared.limits.TheConstants.{LAST_TIME, MOST_BLOCKS}
-use Rattle.spec_ephemeris.specs.Header.{IsHeader}
 use Rattle.spec_ephemeris.specs.Ephemeris.{Ephemeris, IsStart, end_of, with_block}
 use Rattle.spec_sections.specs.declared.rules.BrokenRule.{BrokenRule}
 use Rattle.spec_sections.specs.Sections.{FileLine, ◌>>=◌}
-use Rattle.spec_sections.proofs.Holding.{Holds, holds_ok, holds_also, then_any}
+use Rattle.spec_sections.proofs.Holding.{Holds, holds_ok, then_any}
 use Rattle.spec_blocks.specs.BlockRules.{follows, has_length, is_after_gap, is_skipped, time_of}
 use Rattle.spec_blocks.specs.Blocks.{accept, block, blocks, blocks_after, begun, no_blocks, with_numbers}
 use Rattle.spec_blocks.specs.Read.{AreRead}

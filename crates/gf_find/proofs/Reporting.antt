@@ -1,23 +1,21 @@
 -- The texts of what a search found.
-use Rattle.std.proofs.Common.{◌≡◌, ◌⊎◌, ◌<◌, ℕ, Bool, true, List, [], ◌∷◌, length, Option, None, Some, Result, Ok, Err, refl, sym, ap, ◌∙◌, subst, arith, inl, inr}
-use Rattle.spec_ephemeris.specs.Ephemeris.{Ephemeris, IsEphemeris}
+use Rattle.std.proofs.Common.{◌≡◌, ◌⊎◌, ◌<◌, ℕ, Bool, List, [], ◌∷◌, length, Option, None, Some, Ok, Err, refl, sym, ap, ◌∙◌, subst, arith, inl, inr}
+use Rattle.spec_ephemeris.specs.Ephemeris.{Ephemeris}
 use Rattle.spec_trees.specs.declared.window.Window.{Window}
 use Rattle.spec_kinds.specs.declared.fault.EventFault.{EventFault}
-use Rattle.spec_kinds.specs.Asks.{IsAsk}
 use Rattle.spec_kinds.specs.Faults.{fault_of}
 use Rattle.spec_files.specs.Outcome.{outcome}
 use Rattle.spec_files.specs.Texts.{end_line}
 use Rattle.spec_generated.specs.Generated.{generated_ephemeris, generated_text}
 use Rattle.spec_requests.specs.declared.request.FindAsk.{FindAsk}
-use Rattle.spec_requests.specs.Limits.{IsWithinLimits}
 use Rattle.spec_texts.specs.Report.{generation, report}
 use Rattle.gf_edges.specs.Edges.{Rose}
 use Rattle.gf_find.specs.declared.query.Query.{Query}
 use Rattle.gf_find.specs.declared.query.Span.{Span}
 use Rattle.gf_find.specs.declared.refusal.Refusal.{Refusal}
 use Rattle.gf_find.specs.declared.refusal.Refusal.TheVariants.{Memory}
-use Rattle.gf_find.specs.Outcomes.{FilesStop, HaveEphemeris, found, found_within, generated_search, generated_span, generation_by, generation_of, report_of, searched, searched_by, text_by}
-use Rattle.gf_find.specs.Queries.{AreFound, IsQuery, conjunctions, is_within, query_of, search, span_of, whole_span, windows_in}
+use Rattle.gf_find.specs.Outcomes.{FilesStop, HaveEphemeris, found, found_within, generated_search, generated_span, generation_by, generation_of, searched, searched_by, text_by}
+use Rattle.gf_find.specs.Queries.{AreFound, conjunctions, query_of, search, span_of, whole_span}
 use Rattle.gf_find.specs.Texts.{IsFound, IsGeneration, IsReport}
 use Rattle.gf_find.proofs.Causes.{held_stops}
 

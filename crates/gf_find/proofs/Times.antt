@@ -1,5 +1,5 @@
 -- The times of an accepted ephemeris, of a span within it and of windows in such a span have texts.
-use Rattle.std.proofs.Common.{◌≡◌, ◌<◌, ℕ, Bool, true, ℤ, pos, ◌+ℤ◌, ◌*ℤ◌, ◌≤ℤ◌, ◌<ℤ◌, List, [], ◌∷◌, Option, All, subst, arith}
+use Rattle.std.proofs.Common.{◌≡◌, ℕ, true, ◌≤ℤ◌, List, Option, All, arith}
 use Rattle.std.proofs.lemmas.Int.{ints}
 use Rattle.std.proofs.lemmas.List.Elements.{All-weaker}
 use Rattle.spec_ephemeris.specs.declared.limits.TheConstants.{LAST_TIME}

@@ -8,7 +8,6 @@ use Rattle.spec_requests.specs.declared.request.WordFault.{WordFault}
 use Rattle.spec_requests.specs.declared.request.WordFault.TheVariants as W
 use Rattle.spec_requests.specs.Names.{option_name}
 use Rattle.spec_reports.specs.Messages.{words_text, file_text, read_text, outside_text, event_text, leaves_text, memory_text}
-use Rattle.gf_find.specs.declared.query.Span.{Span}
 use Rattle.gf_find.specs.declared.refusal.Refusal.{Refusal}
 use Rattle.gf_find.specs.declared.refusal.Refusal.TheVariants.{Words, File, NotRead, Outside, Event, TooManyLeaves, Memory}
 use Rattle.gf_find.specs.declared.statuses.TheConstants.{WORDS_REFUSED, FILES_REFUSED, NOT_READ, SPAN_REFUSED, EVENT_REFUSED, OUT_OF_MEMORY, TOO_MANY_LEAVES}

@@ -14,8 +14,6 @@ use Rattle.spec_reports.specs.Writing.{AppendsPart}
 use Rattle.spec_texts.specs.Report.{report}
 use Rattle.spec_texts.specs.Summary.{summary}
 use Rattle.gf_edges.specs.Edges.{Files}
-use Rattle.gf_find.specs.declared.query.Query.{Query}
-use Rattle.gf_find.specs.declared.query.Span.{Span}
 use Rattle.gf_find.specs.Queries.{query_of, search, span_of, windows_in}
 use Rattle.gf_find.specs.Outcomes.{HaveOutcome, Words, generated_search, generated_span, generation_by}
 

@@ -68,11 +68,7 @@ fn report_of(alloc: Global, ephemeris: &Ephemeris, find: &FindAsk) -> Result<Vec
 }
 
 // The report of the files of a search.
-fn find_in_files<S: Shelf>(
-    alloc: Global,
-    shelf: &mut S,
-    find: &FindAsk,
-) -> Result<Vec<u8>, Refusal>
+fn find_in_files<S: Shelf>(alloc: Global, shelf: &mut S, find: &FindAsk) -> Result<Vec<u8>, Refusal>
     requires { IsWithinLimits find.now }
     ensures report { IfOk result (λ text. HoldEphemeris
         (S.files shelf.old) find.now.files (IsReport find.now text.items)) }
@@ -157,12 +153,7 @@ fn lines_of(
 }
 
 // The two lines of a generated text.
-fn lines_of_text(
-    alloc: Global,
-    blocks: u32,
-    seed: u64,
-    text: &[u8],
-) -> Result<Vec<u8>, Refusal>
+fn lines_of_text(alloc: Global, blocks: u32, seed: u64, text: &[u8]) -> Result<Vec<u8>, Refusal>
     requires some { 0 < blocks }
     requires text { text.now ≡ generated_text blocks seed }
     requires accepted { outcome (text.now ∷ []) ≡ Ok (generated_ephemeris blocks seed) }

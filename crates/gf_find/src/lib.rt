@@ -22,5 +22,3 @@ pub use statuses::{
     TOO_MANY_LEAVES, WORDS_REFUSED,
 };
 pub use top::finder;
-
-

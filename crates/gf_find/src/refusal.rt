@@ -1,4 +1,9 @@
 // Why a run has nothing to write to its output.
+use crate::query::Span;
+use crate::statuses::{
+    EVENT_REFUSED, FILES_REFUSED, NOT_READ, OUT_OF_MEMORY, SPAN_REFUSED, TOO_MANY_LEAVES,
+    WORDS_REFUSED,
+};
 use eph_gen::Memory as TextMemory;
 use event_kinds::KindFault;
 use spec_faults::{BAD_VALUE, NO_COMMAND, UNKNOWN_COMMAND, WORDS};
@@ -7,12 +12,6 @@ use spec_requests::{Named, Text, WordFault};
 use spec_text::Fault;
 use std::alloc::AllocError;
 use window_text::Memory as ReportMemory;
-
-use crate::query::Span;
-use crate::statuses::{
-    EVENT_REFUSED, FILES_REFUSED, NOT_READ, OUT_OF_MEMORY, SPAN_REFUSED, TOO_MANY_LEAVES,
-    WORDS_REFUSED,
-};
 
 /// Why a run has nothing to write to its output.
 #[derive(Drop)]

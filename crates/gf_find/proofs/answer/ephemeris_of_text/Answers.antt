@@ -1,4 +1,4 @@
-use Rattle.std.proofs.Common.{◌≡◌, List, [], ◌∷◌, ℕ, ap}
+use Rattle.std.proofs.Common.{List, [], ◌∷◌, ℕ, ap}
 use Rattle.gf_find.proofs.Answered.{err_also}
 use Rattle.gf_find.proofs.Reporting.{text_stops}
 use Rattle.gf_find.proofs.answer.ephemeris_of_text.Goals as goal

@@ -1,11 +1,10 @@
-use Rattle.std.proofs.Common.{◌≡◌, ◌<◌, ◌∙◌, ap, sym, subst, List, ℕ, true, arith}
+use Rattle.std.proofs.Common.{◌≡◌, ◌<◌, ◌∙◌, ap, sym, subst, List, ℕ, true}
 use Rattle.spec_ephemeris.specs.Ephemeris.{Ephemeris}
 use Rattle.std.specs.Prelude.{Vec}
 use Rattle.std.specs.declared.alloc.Global.{Global}
 use Rattle.spec_sections.proofs.Holding.{holds_also}
 use Rattle.spec_trees.specs.declared.window.Window.{Window}
 use Rattle.spec_texts.specs.Report.{generation}
-use Rattle.gf_find.specs.declared.query.Query.{Query}
 use Rattle.gf_find.specs.declared.query.Span.{Span}
 use Rattle.gf_find.specs.Queries.{IsQuery, is_within}
 use Rattle.gf_find.specs.declared.refusal.Refusal.{Refusal}

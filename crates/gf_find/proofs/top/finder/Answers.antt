@@ -1,4 +1,4 @@
-use Rattle.std.proofs.Common.{◌≡◌, ◌∙◌, inl, inr, List, ℕ, Ok, Err, subst, sym}
+use Rattle.std.proofs.Common.{◌∙◌, inl, inr, List, ℕ, subst, sym}
 use Rattle.std.specs.Io.KnownBytes.{Appends}
 use Rattle.spec_reports.specs.Writing.{AppendsPart}
 use Rattle.gf_find.proofs.Answered.{cause_is, checks, comes_to, finds, generates, not_reported, not_unwritten, refused_exactly, refused_only, text_not_refused}

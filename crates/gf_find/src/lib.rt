@@ -22,3 +22,6 @@ pub use statuses::{
     TOO_MANY_LEAVES, WORDS_REFUSED,
 };
 pub use top::finder;
+
+#[cfg(test)]
+mod tests;

@@ -1,15 +1,19 @@
--- An ephemeris that is accepted has a block.
-use Rattle.std.proofs.Common.{◌≡◌, ◌<◌, ℕ, List, Option, None, Some, Result, Ok, Err}
+-- An ephemeris that is accepted has a block, and ends in time.
+use Rattle.std.proofs.Common.{◌≡◌, ◌<◌, ℕ, ◌≤ℤ◌, List, [], ◌∷◌, Option, None, Some, Result, Ok, Err}
 use Rattle.spec_text.specs.declared.decimals.Fault.{Fault}
-use Rattle.spec_ephemeris.specs.Ephemeris.{Ephemeris}
+use Rattle.spec_ephemeris.specs.declared.limits.TheConstants.{LAST_TIME}
+use Rattle.spec_ephemeris.specs.Ephemeris.{Ephemeris, IsEphemeris, end_of}
 use Rattle.spec_sections.specs.Sections.{Stop, ended, breaks}
 use Rattle.spec_sections.proofs.Holding.{holds_ok}
+use Rattle.spec_header.specs.HeaderLines.{header}
 use Rattle.spec_files.specs.Lines.{ephemeris}
 use Rattle.spec_files.specs.Outcome.{first_fault, outcome, outcome_by}
-use Rattle.spec_files.specs.Reading.{AreAccepted}
+use Rattle.spec_files.specs.Files.{AreFiles}
 use Rattle.spec_files.specs.Texts.{joined}
 use Rattle.spec_files.proofs.Lines.{HasBlocks, ephemeris_holds}
 use Rattle.gf_edges.specs.Edges.{Files}
+use Rattle.gf_find.specs.Outcomes.{HaveEphemeris}
+use Rattle.gf_find.proofs.Ending.{EndsInTime, lines_end}
 
 -- what comes out is what the lines are
 of_lines : (fault : Option (ℕ × Fault)) (texts : List (List ℕ)) (found : Result Ephemeris Stop) (e : Ephemeris) → outcome_by fault texts found ≡ Ok e → found ≡ Ok e
@@ -22,6 +26,24 @@ lines_are : (texts : List (List ℕ)) (e : Ephemeris) → outcome texts ≡ Ok e
 unfolding outcome
 lines_are texts e is = of_lines (first_fault texts) texts (ephemeris (joined texts)) e is
 
-pub has_block : (files : Option Files) (names : List (List ℕ)) (e : Ephemeris) (end : ℕ) → AreAccepted files names e end → 0 < e.blocks
-has_block files names e end a =
-    (holds_ok HasBlocks (ephemeris (joined a.texts)) e (lines_are a.texts e a.accepted) (ephemeris_holds (joined a.texts))).1
+module _ (files : Option Files) (names : List (List ℕ)) (e : Ephemeris) (held : HaveEphemeris files names e) where
+  are : ephemeris (joined held.accepted.texts) ≡ Ok e
+  are = lines_are held.accepted.texts e held.accepted.accepted
+
+  pub is_checked : IsEphemeris e
+  is_checked = (holds_ok HasBlocks (ephemeris (joined held.accepted.texts)) e are (ephemeris_holds (joined held.accepted.texts))).0
+
+  pub has_block : 0 < e.blocks
+  has_block = (holds_ok HasBlocks (ephemeris (joined held.accepted.texts)) e are (ephemeris_holds (joined held.accepted.texts))).1
+
+  pub ends_in_time : end_of e ≤ℤ LAST_TIME
+  ends_in_time = holds_ok EndsInTime (ephemeris (joined held.accepted.texts)) e are (lines_end (joined held.accepted.texts)) has_block
+
+-- no files are no ephemeris
+none_are : (files : Option Files) (texts : List (List ℕ)) (e : Ephemeris) → AreFiles files [] texts → ephemeris (joined texts) ≡ Ok e → ⊥
+unfolding header
+none_are files [] e there is = absurd (cc)
+none_are files (text ∷ texts) e there is = absurd there
+
+pub none_held : (files : Option Files) (e : Ephemeris) → HaveEphemeris files [] e → ⊥
+none_held files e held = none_are files held.accepted.texts e held.accepted.there (lines_are held.accepted.texts e held.accepted.accepted)

@@ -1,7 +1,10 @@
 pub mod Gains
-pub mod WordLemmas
-pub mod Causes
-pub mod Wanted
 pub mod Entries
+pub mod Ending
 pub mod Accepted
+pub mod Causes
 pub mod Searching
+pub mod Asked
+pub mod Times
+pub mod Answered
+pub mod Reporting

@@ -1,22 +1,38 @@
--- The search of a query over an ephemeris is one, and what it finds are the windows of the query's events.
-use Rattle.std.proofs.Common.{◌≡◌, ◌<◌, ◌≤◌, ℕ, ℤ, pos, negsuc, ◌+ℤ◌, ◌*ℤ◌, ◌<ℤ◌, ◌≤ℤ◌, List, Option, None, Some, sym, subst, arith}
+-- The search of a query over a span of an ephemeris is one, and what it finds are the windows of the query's events.
+use Rattle.std.proofs.Common.{◌≡◌, ◌⊎◌, ◌<◌, ◌≤◌, ℕ, Bool, true, if◌then◌else◌, ℤ, pos, negsuc, ◌+ℤ◌, ◌*ℤ◌, ◌<ℤ◌, ◌≤ℤ◌, List, Option, None, Some, Ok, Err, refl, sym, ap, ◌∙◌, subst, arith, inl, inr, lit<, lit≤}
+use Rattle.std.proofs.lemmas.Bool.{lt-ltb, le-ltb}
 use Rattle.std.proofs.lemmas.Int.{ints}
 use Rattle.std.specs.Prelude.{unsigned_abs}
 use Rattle.spec_numbers.proofs.Naturals.{positive_product}
-use Rattle.spec_ephemeris.specs.Ephemeris.{Ephemeris, IsEphemeris, end_of}
+use Rattle.spec_ephemeris.specs.Ephemeris.{Ephemeris, IsEphemeris}
 use Rattle.spec_trees.specs.declared.window.Window.{Window}
 use Rattle.spec_trees.specs.Tree.{IsValid, leaf_count}
 use Rattle.spec_searches.specs.declared.limits.TheConstants.{MOST_WIDTH}
-use Rattle.spec_searches.specs.Search.{IsSearch}
-use Rattle.spec_searches.specs.Found.{IsSpan, rules}
+use Rattle.spec_searches.specs.Search.{IsSearch, Search}
+use Rattle.spec_searches.specs.Found.{IsSpan, root, rules}
 use Rattle.spec_searches.proofs.Finding.{windows_are_found}
 use Rattle.spec_kinds.specs.declared.fault.EventFault.{EventFault}
 use Rattle.spec_kinds.specs.Faults.{fault_of}
 use Rattle.spec_kinds.proofs.Searching.{search_is}
 use Rattle.spec_reports.specs.declared.limits.TheConstants.{MOST_LEAVES}
 use Rattle.gf_find.specs.declared.query.Query.{Query}
-use Rattle.gf_find.specs.Queries.{AreFound, IsFound, IsQuery, found_windows, search, span}
-use Rattle.gf_find.specs.Refusals.{StopsSearch, of_fault}
+use Rattle.gf_find.specs.declared.query.Span.{Span}
+use Rattle.gf_find.specs.declared.refusal.Refusal.TheVariants.{Memory, TooManyLeaves}
+use Rattle.gf_find.specs.Outcomes.{found, searched, searched_by}
+use Rattle.gf_find.specs.Queries.{AreFound, IsQuery, conjunctions, is_within, search, whole_span, windows_in}
+use Rattle.gf_find.specs.Refusals.{of_fault}
+use Rattle.gf_find.specs.Texts.{IsFound}
+
+-- ---- the leaves of a search
+few_searched : (s : Search) (span : Span) → leaf_count (rules s) (root span.from span.upto) ≤ MOST_LEAVES → searched s span ≡ Ok (windows_in s span)
+unfolding searched
+few_searched s span few =
+    ap (λ (many : Bool). if many then Err TooManyLeaves else Ok (windows_in s span)) (le-ltb MOST_LEAVES (leaf_count (rules s) (root span.from span.upto)) few)
+
+many_searched : (s : Search) (span : Span) → MOST_LEAVES < leaf_count (rules s) (root span.from span.upto) → searched s span ≡ Err TooManyLeaves
+unfolding searched
+many_searched s span many =
+    ap (λ (many : Bool). if many then Err TooManyLeaves else Ok (windows_in s span)) (lt-ltb MOST_LEAVES (leaf_count (rules s) (root span.from span.upto)) many)
 
 -- some blocks of some length
 later : (start length : ℤ) (count : ℕ) → pos 1 ≤ℤ length → 0 < count → start <ℤ (start +ℤ (pos count *ℤ length))
@@ -32,30 +48,58 @@ abs_most : (z : ℤ) (n : ℕ) → pos 1 ≤ℤ z → z ≤ℤ pos n → unsigne
 abs_most (pos m) n some most = omega (arith, ints, most)
 abs_most (negsuc m) n some most = absurd (omega (arith, ints, some))
 
-module _ (q : Query) (e : Ephemeris) (checked : IsEphemeris e) (block : 0 < e.blocks) (is : IsQuery q) (sound : fault_of e q.ask ≡ None) where
-  searched : IsSearch (search q e)
-  searched =
+-- the search of a generated text keeps to the limits
+pub conjunctions_are : IsQuery conjunctions
+conjunctions_are = record {
+  ask = record { second = refl; target = λ same. absurd (cc); other = λ same. absurd (cc); axis = lit< tt };
+  some_width = omega (arith, ints);
+  width = omega (arith, ints);
+  depth = lit≤ tt;
+}
+
+-- the span is one of the search
+inside : (q : Query) (e : Ephemeris) (span : Span) → is_within span e ≡ true → IsSpan (search q e) span.from span.upto
+inside q e span within = record {
+  from = grind (arith, ints, within);
+  ordered = grind (arith, ints, within);
+  to = grind (arith, ints, within);
+}
+
+pub whole_within : (e : Ephemeris) → IsEphemeris e → 0 < e.blocks → is_within (whole_span e) e ≡ true
+whole_within e checked block =
+    let after = later e.start e.header.block_seconds e.blocks (omega (arith, ints, checked.header.shortest)) block in
+    grind (arith, ints, after)
+
+pub root_valid : (q : Query) (e : Ephemeris) (span : Span) → is_within span e ≡ true → IsValid (rules (search q e)) (root span.from span.upto)
+root_valid q e span within = let is = inside q e span within in record { from = is.from; inside = is.ordered; to = is.to; depth = omega arith }
+
+module _ (q : Query) (e : Ephemeris) (span : Span) (checked : IsEphemeris e) (block : 0 < e.blocks) (is : IsQuery q) (within : is_within span e ≡ true) (sound : fault_of e q.ask ≡ None) where
+  searchable : IsSearch (search q e)
+  searchable =
       search_is e q.ask (unsigned_abs q.width) q.depth q.cut checked block is.ask sound (abs_some q.width is.some_width)
       (abs_most q.width MOST_WIDTH is.some_width is.width) is.depth
 
-  whole : IsSpan (search q e) e.start (end_of e)
-  whole = record {
-    from = omega (arith, ints);
-    ordered = later e.start e.header.block_seconds e.blocks (omega (arith, ints, checked.header.shortest)) block;
-    to = omega (arith, ints);
-  }
+  are_found : AreFound (search q e) span (windows_in (search q e) span)
+  are_found = windows_are_found (search q e) searchable span.from span.upto (inside q e span within)
 
-  pub span_valid : IsValid (rules (search q e)) (span e)
-  span_valid = record { from = whole.from; inside = whole.ordered; to = whole.to; depth = omega arith }
+  found_is : found q e span ≡ searched (search q e) span
+  found_is = ap (λ (fault : Option EventFault). searched_by fault (search q e) span) sound
 
-  pub windows_found : (ws : List Window) → ws ≡ found_windows q e → leaf_count (rules (search q e)) (span e) ≤ MOST_LEAVES → IsFound q e ws
+  pub windows_found : (ws : List Window) → ws ≡ windows_in (search q e) span → leaf_count (rules (search q e)) (root span.from span.upto) ≤ MOST_LEAVES → IsFound q e span ws
   windows_found ws same few = record {
-    searchable = record { sound = sound; few = few };
+    checked = checked;
+    within = within;
+    comes = found_is ∙ few_searched (search q e) span few ∙ ap (λ (vs : List Window). Ok vs) (sym same);
     same = same;
-    windows = subst (λ (vs : List Window). AreFound q e vs) (sym same) (windows_are_found (search q e) searched e.start (end_of e) whole);
+    windows = subst (λ (vs : List Window). AreFound (search q e) span vs) (sym same) are_found;
   }
+
+  -- too many leaves stop the search
+  pub leaves_stop : MOST_LEAVES < leaf_count (rules (search q e)) (root span.from span.upto) → found q e span ≡ Err TooManyLeaves
+  leaves_stop many = found_is ∙ many_searched (search q e) span many
 
 -- a fault of the event stops its search
-pub fault_stops : (q : Query) (e : Ephemeris) (fault : Option EventFault) → fault ≡ fault_of e q.ask → StopsSearch q e (of_fault fault)
-fault_stops q e (Some fault) is = sym is
-fault_stops q e None is = tt
+pub fault_stops : (q : Query) (e : Ephemeris) (span : Span) (fault : Option EventFault) → fault ≡ fault_of e q.ask
+    → (of_fault fault ≡ Memory) ⊎ (found q e span ≡ Err (of_fault fault))
+fault_stops q e span (Some fault) is = inr (ap (λ (f : Option EventFault). searched_by f (search q e) span) (sym is))
+fault_stops q e span None is = inl refl

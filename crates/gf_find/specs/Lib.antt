@@ -1,7 +1,6 @@
-pub mod Words
 pub mod Queries
-pub mod Answers
-pub mod Reported
 pub mod Refusals
-pub mod Statuses
+pub mod Outcomes
+pub mod Reported
+pub mod Texts
 pub mod Entries

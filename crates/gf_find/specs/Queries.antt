@@ -1,19 +1,23 @@
--- What is searched for, and what the search of an ephemeris comes to. The span is that of the ephemeris.
-use Rattle.std.specs.Prelude.{◌≡◌, ◌<◌, ◌≤◌, ◌≤ℤ◌, pos, unsigned_abs, List, None, Some}
+-- What is searched for, and over which times: what the words of `find` ask of an ephemeris, and the search of a generated
+-- text.
+use Rattle.std.specs.Prelude.{◌≤◌, ◌≤ℤ◌, ◌&&◌, Bool, int_le, int_lt, pos, unsigned_abs, unwrap_or, List, Some}
+use Rattle.spec_ephemeris.specs.declared.body.Body.TheVariants.{Mercury, Venus, Earth}
 use Rattle.spec_ephemeris.specs.Ephemeris.{Ephemeris, end_of}
-use Rattle.spec_trees.specs.declared.tree.Node.{Node}
+use Rattle.spec_bodies.specs.declared.frame.Frame.TheVariants.{Eq}
+use Rattle.spec_trees.specs.declared.cuts.CutRule.TheVariants.{Half}
+use Rattle.spec_events.specs.declared.dir.Dir.TheVariants.{Any}
+use Rattle.spec_kinds.specs.declared.kind.Kind.TheVariants.{Conj}
+use Rattle.spec_requests.specs.Requests.{nought}
 use Rattle.spec_trees.specs.declared.window.Window.{Window}
-use Rattle.spec_trees.specs.Tree.{leaf_count}
 use Rattle.spec_events.specs.Events.{AreWindows}
 use Rattle.spec_searches.specs.declared.limits.TheConstants.{MOST_DEPTH, MOST_WIDTH}
 use Rattle.spec_searches.specs.Search.{Search, events}
-use Rattle.spec_searches.specs.Found.{IsLeftUndecided, root, rules, windows_of}
-use Rattle.spec_kinds.specs.declared.fault.EventFault.{EventFault}
+use Rattle.spec_searches.specs.Found.{IsLeftUndecided, windows_of}
 use Rattle.spec_kinds.specs.Asks.{IsAsk}
-use Rattle.spec_kinds.specs.Faults.{fault_of}
 use Rattle.spec_kinds.specs.Searches.{search_of}
-use Rattle.spec_reports.specs.declared.limits.TheConstants.{MOST_LEAVES}
+use Rattle.spec_requests.specs.declared.request.FindAsk.{FindAsk}
 use Rattle.gf_find.specs.declared.query.Query.{Query}
+use Rattle.gf_find.specs.declared.query.Span.{Span}
 
 pub record IsQuery (q : Query) : Type 0 where
   pub ask : IsAsk q.ask
@@ -21,38 +25,39 @@ pub record IsQuery (q : Query) : Type 0 where
   pub width : q.width ≤ℤ pos MOST_WIDTH
   pub depth : q.depth ≤ MOST_DEPTH
 
--- ---- the search of an ephemeris
+abbrev pub query_of : FindAsk → Query
+query_of find = record { ask = find.ask; width = find.width; depth = find.depth; cut = find.cut }
+
+-- the search of an ephemeris
 abbrev pub search : Query → Ephemeris → Search
 search q e = search_of e q.ask (unsigned_abs q.width) q.depth q.cut
 
--- the whole span of the ephemeris
-abbrev pub span : Ephemeris → Node
-span e = root e.start (end_of e)
+-- the search of a generated text: for the conjunctions of Mercury and Venus seen from the Earth, with every option at its
+-- default
+abbrev pub conjunctions : Query
+conjunctions = record {
+  ask = record { kind = Conj; target = Mercury; second = Some Venus; observer = Earth; frame = Eq; axis = 0; value1 = nought; value2 = nought; dir = Any };
+  width = pos 1;
+  depth = 40;
+  cut = Half;
+}
 
-abbrev pub found_windows : Query → Ephemeris → List Window
-found_windows q e = windows_of (search q e) e.start (end_of e)
+-- ---- spans: the times after one and up to another
+abbrev pub whole_span : Ephemeris → Span
+whole_span e = record { from = e.start; upto = end_of e }
 
--- the windows of the query's events over the whole span
-abbrev pub AreFound : Query → Ephemeris → List Window → Type 0
-AreFound q e ws = AreWindows (events (search q e)) (IsLeftUndecided (search q e)) e.start (end_of e) ws
+-- the ephemeris begins or ends the span where the words don't
+abbrev pub span_of : FindAsk → Ephemeris → Span
+span_of find e = record { from = unwrap_or find.from e.start; upto = unwrap_or find.to (end_of e) }
 
--- ---- whether there is an answer
--- the events can't be searched for in the ephemeris, for this cause
-abbrev pub HasFault : EventFault → Query → Ephemeris → Type 0
-HasFault fault q e = fault_of e q.ask ≡ Some fault
+-- the span holds a time, and lies within the ephemeris
+abbrev pub is_within : Span → Ephemeris → Bool
+is_within span e = int_le e.start span.from && (int_lt span.from span.upto && int_le span.upto (end_of e))
 
--- they can, but the tree of the search has more leaves than it may have
-pub record HasTooManyLeaves (q : Query) (e : Ephemeris) : Type 0 where
-  pub sound : fault_of e q.ask ≡ None
-  pub many : MOST_LEAVES < leaf_count (rules (search q e)) (span e)
+-- ---- windows
+abbrev pub windows_in : Search → Span → List Window
+windows_in s span = windows_of s span.from span.upto
 
--- they can, and the tree has no more
-pub record IsSearchable (q : Query) (e : Ephemeris) : Type 0 where
-  pub sound : fault_of e q.ask ≡ None
-  pub few : leaf_count (rules (search q e)) (span e) ≤ MOST_LEAVES
-
--- the windows of a query that is searchable
-pub record IsFound (q : Query) (e : Ephemeris) (ws : List Window) : Type 0 where
-  pub searchable : IsSearchable q e
-  pub same : ws ≡ found_windows q e
-  pub windows : AreFound q e ws
+-- the windows of a search's events in a span
+abbrev pub AreFound : Search → Span → List Window → Type 0
+AreFound s span ws = AreWindows (events s) (IsLeftUndecided s) span.from span.upto ws

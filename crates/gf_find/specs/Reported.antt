@@ -1,36 +1,52 @@
--- The report of a run.
-use Rattle.std.specs.Prelude.{◌≡◌, ℕ, List, Option}
-use Rattle.spec_ephemeris.specs.Ephemeris.{Ephemeris, end_of}
+-- What a run that isn't refused writes to its output, by the command. Known bytes were the first list, and are the second.
+use Rattle.std.specs.Prelude.{◌≡◌, ◌⊎◌, ◌<◌, ℕ, List, length, Option, Result, Ok, Err}
+use Rattle.std.specs.Io.KnownBytes.{Appends}
+use Rattle.spec_ephemeris.specs.Ephemeris.{Ephemeris}
 use Rattle.spec_searches.specs.Search.{events}
 use Rattle.spec_searches.specs.Found.{IsLeftUndecided}
-use Rattle.spec_reports.specs.Report.{report}
+use Rattle.spec_files.specs.declared.limits.TheConstants.{MOST_FILES}
+use Rattle.spec_requests.specs.declared.request.FindAsk.{FindAsk}
+use Rattle.spec_requests.specs.declared.request.Request.{Request}
+use Rattle.spec_requests.specs.declared.request.Request.TheVariants.{Find, Check, Gen}
+use Rattle.spec_requests.specs.declared.request.WordFault.{WordFault}
 use Rattle.spec_reports.specs.Reported.{Reports}
 use Rattle.spec_reports.specs.Writing.{AppendsPart}
+use Rattle.spec_texts.specs.Report.{report}
+use Rattle.spec_texts.specs.Summary.{summary}
 use Rattle.gf_edges.specs.Edges.{Files}
-use Rattle.gf_find.specs.declared.query.Query.{Query}
-use Rattle.gf_find.specs.Answers.{Asks}
-use Rattle.gf_find.specs.Queries.{AreFound, IsSearchable, found_windows, search}
-use Rattle.gf_find.specs.Words.{Words}
+use Rattle.gf_find.specs.Queries.{query_of, search, span_of, windows_in}
+use Rattle.gf_find.specs.Outcomes.{HaveOutcome, Words, generated_search, generated_span, generation_by}
 
--- the report of what a query finds in an ephemeris
-abbrev pub report_of : Query → Ephemeris → List ℕ
-report_of q e = report e.start (end_of e) (found_windows q e)
+-- the report of the windows of the events that are asked for, over the span that is asked for
+abbrev pub ReportsEvents : FindAsk → Option (List ℕ) → Option (List ℕ) → Ephemeris → Type 0
+ReportsEvents find old new e =
+    let s = search (query_of find) e in
+    let span = span_of find e in
+    Reports (events s) (IsLeftUndecided s) span.from span.upto (windows_in s span) (report find span.from span.upto) old new
 
--- known bytes grew by the report of the windows of the query's events over the whole span of the ephemeris
-abbrev pub ReportsEvents : Option (List ℕ) → Option (List ℕ) → Query → Ephemeris → Type 0
-ReportsEvents old new q e =
-    Reports (events (search q e)) (IsLeftUndecided (search q e)) e.start (end_of e) (found_windows q e) (report e.start (end_of e)) old new
+-- the summary of the ephemeris
+abbrev pub ReportsSummary : Option (List ℕ) → Option (List ℕ) → Ephemeris → Type 0
+ReportsSummary old new e = Appends old new (summary e)
 
--- the words ask for a query over files that are accepted, and known bytes grew by the report of its events
-abbrev pub IsReported : Words → Option Files → Option (List ℕ) → Option (List ℕ) → Type 0
-IsReported words files old new = Asks words files (ReportsEvents old new)
+-- the two lines of the windows of a search over the whole of a generated text
+abbrev pub ReportsGeneration : ℕ → ℕ → Option (List ℕ) → Option (List ℕ) → Type 0
+ReportsGeneration blocks seed old new =
+    let s = generated_search blocks seed in
+    let span = generated_span blocks seed in
+    Reports (events s) (IsLeftUndecided s) span.from span.upto (windows_in s span) (generation_by blocks seed) old new
 
--- and known bytes grew by a part of the report
-abbrev pub IsCutShort : Words → Option Files → Option (List ℕ) → Option (List ℕ) → Type 0
-IsCutShort words files old new = Asks words files (λ q e. AppendsPart old new (report_of q e))
+-- a part of the text that the run comes to, which isn't all of it
+abbrev pub ReportsPart : Words → Option Files → ℕ → ℕ → Option (List ℕ) → Option (List ℕ) → Type 0
+ReportsPart words files count now old new = (text : List ℕ) × HaveOutcome words files count now (Ok text) × AppendsPart old new text
 
--- the text is the report of what a query finds in an ephemeris
-pub record IsReport (text : List ℕ) (q : Query) (e : Ephemeris) : Type 0 where
-  pub searchable : IsSearchable q e
-  pub windows : AreFound q e (found_windows q e)
-  pub printed : text ≡ report_of q e
+-- ---- whether a file is opened
+-- none is where there are too many names, or no name
+abbrev pub AreNotOpened : List (List ℕ) → Type 0
+AreNotOpened names = (length names ≡ 0) ⊎ (MOST_FILES < length names)
+
+-- none is where words ask for nothing, or for a generated text
+abbrev pub OpensNone : Result Request WordFault → Type 0
+OpensNone (Err fault) = Unit {0}
+OpensNone (Ok (Find find)) = AreNotOpened find.files
+OpensNone (Ok (Check names)) = AreNotOpened names
+OpensNone (Ok (Gen blocks seed workers)) = Unit {0}

@@ -1,48 +1,197 @@
-// From named files to the text of their report.
-ghost use Rattle.std.specs.Prelude.{◌≡◌, ◌<◌, IfErr, IfOk, length};
-ghost use Rattle.spec_files.specs.declared.limits.TheConstants.{MOST_FILES};
-ghost use Rattle.gf_find.specs.Answers.{HoldEphemeris};
-ghost use Rattle.gf_find.specs.Queries.{IsQuery};
-ghost use Rattle.gf_find.specs.Refusals.{StopsRun, StopsSearch};
-ghost use Rattle.gf_find.specs.Reported.{IsReport};
-ghost use Rattle.gf_find.specs.Words.{texts_of};
+// From the words of a command line to the text that they ask for.
+ghost use Rattle.std.specs.Prelude.{All, ◌≡◌, ◌∷◌, [], ◌⊎◌, ◌<◌, ◌≤◌, ◌≤ℤ◌, Err, IfErr, IfOk, Ok, length, string_bytes};
+ghost use Rattle.spec_ephemeris.specs.Ephemeris.{end_of};
+ghost use Rattle.spec_ephemeris.specs.Ephemeris as e;
+ghost use Rattle.spec_files.specs.Outcome.{outcome};
+ghost use Rattle.spec_ephemeris.specs.declared.limits.TheConstants.{LAST_TIME};
+ghost use Rattle.spec_generated.specs.declared.limits.TheConstants.{MOST_GENERATED};
+ghost use Rattle.spec_generated.specs.Generated.{generated_ephemeris, generated_text};
+ghost use Rattle.spec_requests.specs.Limits.{IsWithinLimits};
+ghost use Rattle.spec_requests.specs.Requests.{request_of};
+ghost use Rattle.spec_times.specs.TimeWords.{IsTime};
+ghost use Rattle.spec_texts.specs.Report.{HasTimes, generation, report};
+ghost use Rattle.spec_texts.specs.Summary.{summary};
+ghost use Rattle.gf_find.specs.Outcomes.{FilesComeTo, HaveCause, HoldEphemeris, generation_of, report_of, summary_of, texts_of};
+ghost use Rattle.gf_find.specs.Reported.{AreNotOpened, OpensNone};
+ghost use Rattle.gf_find.specs.Texts.{IsAnswered, IsGeneration, IsReport};
 
-use crate::printing::report;
-use crate::query::Query;
+use crate::files::ephemeris_of;
+use crate::query::{Span, conjunctions, is_within, query_of, span_of, whole_span};
 use crate::refusal::Refusal;
 use crate::search::search;
+use crate::text_shelf::TextShelf;
+use eph_gen::generate;
 use eph_model::Ephemeris;
 use gf_edges::Shelf;
-use gf_files::read_files;
+use gf_words::request;
+use spec_requests::{FindAsk, Request};
+use spec_trees::Window;
 use std::alloc::Global;
+use window_text::{generation, report, summary};
 
-// The report of an ephemeris.
-fn report_of(alloc: Global, ephemeris: &Ephemeris, query: &Query) -> Result<Vec<u8>, Refusal>
-    requires block { 0 < ephemeris.now.blocks }
-    requires query { IsQuery query.now }
-    ensures report { IfOk result (λ text. IsReport text.items query.now ephemeris.now) }
-    ensures stopped { IfErr result (StopsSearch query.now ephemeris.now) }
+// The report of windows in a span.
+fn report_in(
+    alloc: Global,
+    find: &FindAsk,
+    span: Span,
+    windows: &[Window],
+) -> Result<Vec<u8>, Refusal>
+    requires from { IsTime span.from }
+    requires upto { IsTime span.upto }
+    requires windows { All HasTimes windows.now }
+    ensures text { IfOk result (λ text.
+        text.items ≡ report find.now span.from span.upto windows.now) }
+    ensures memory { IfErr result (λ refusal. refusal ≡ Refusal.Memory) }
 {
-    let windows = search(alloc, ephemeris, query)?;
-    let text = report(alloc, ephemeris.start(), ephemeris.end(), &windows)?;
+    let text = report(alloc, find, span.from, span.upto, windows)?;
     Ok(text)
 }
 
-/// The report of the files of these names.
-pub(crate) fn answer<S: Shelf>(
+// The report of a search of an ephemeris.
+fn report_of(alloc: Global, ephemeris: &Ephemeris, find: &FindAsk) -> Result<Vec<u8>, Refusal>
+    requires block { 0 < ephemeris.now.blocks }
+    requires end { end_of ephemeris.now ≤ℤ LAST_TIME }
+    requires limits { IsWithinLimits find.now }
+    ensures report { IfOk result (λ text. IsReport find.now text.items ephemeris.now) }
+    ensures stopped { IfErr result (λ refusal. (refusal ≡ Refusal.Memory)
+        ⊎ (report_of find.now ephemeris.now ≡ Err refusal)) }
+{
+    let span = span_of(find, ephemeris);
+    if !is_within(span, ephemeris) {
+        return Err(Refusal::Outside {
+            span,
+            whole: whole_span(ephemeris),
+        });
+    }
+    let windows = search(alloc, ephemeris, &query_of(find), span)?;
+    report_in(alloc, find, span, &windows)
+}
+
+// The report of the files of a search.
+fn find_in_files<S: Shelf>(alloc: Global, shelf: &mut S, find: &FindAsk) -> Result<Vec<u8>, Refusal>
+    requires { IsWithinLimits find.now }
+    ensures report { IfOk result (λ text. HoldEphemeris
+        (S.files shelf.old) find.now.files (IsReport find.now text.items)) }
+    ensures stopped { IfErr result (λ refusal. (refusal ≡ Refusal.Memory)
+        ⊎ FilesComeTo (S.files shelf.old) find.now.files (S.faults shelf.old) (S.faults shelf.new)
+        (report_of find.now) (Err refusal)) }
+    ensures unopened { AreNotOpened find.now.files → shelf.new ≡ shelf.old }
+{
+    let ephemeris = ephemeris_of(alloc, shelf, find.files.as_slice())?;
+    report_of(alloc, &ephemeris, find)
+}
+
+// The summary of files.
+fn summary_of_files<S: Shelf>(
     alloc: Global,
     shelf: &mut S,
     names: &[String],
-    query: &Query,
 ) -> Result<Vec<u8>, Refusal>
-    requires some { 0 < length names.now }
-    requires query { IsQuery query.now }
-    ensures report { IfOk result (λ text. HoldEphemeris
-        (S.files shelf.old) (texts_of names.now) (IsReport text.items query.now)) }
-    ensures stopped { IfErr result (StopsRun
-        (S.files shelf.old) (texts_of names.now) query.now (S.faults shelf.old) (S.faults shelf.new)) }
-    ensures names_are_counted_first { MOST_FILES < length names.now → shelf.new ≡ shelf.old }
+    ensures summary { IfOk result (λ text. HoldEphemeris
+        (S.files shelf.old) (texts_of names.now) (λ e. text.items ≡ summary e)) }
+    ensures stopped { IfErr result (λ refusal. (refusal ≡ Refusal.Memory)
+        ⊎ FilesComeTo (S.files shelf.old) (texts_of names.now)
+        (S.faults shelf.old) (S.faults shelf.new) summary_of (Err refusal)) }
+    ensures unopened { AreNotOpened (texts_of names.now) → shelf.new ≡ shelf.old }
 {
-    let found = read_files(alloc, shelf, names)?;
-    report_of(alloc, &found.ephemeris, query)
+    let ephemeris = ephemeris_of(alloc, shelf, names)?;
+    let text = summary(alloc, &ephemeris)?;
+    Ok(text)
+}
+
+fn no_name(alloc: Global) -> String
+    ensures { string_bytes result ≡ [] }
+{
+    String::new(alloc)
+}
+
+// The ephemeris of a text, which is read as the one file of a shelf.
+fn ephemeris_of_text(alloc: Global, text: &[u8]) -> Result<Ephemeris, Refusal>
+    ensures read { IfOk result (λ e. outcome (text.now ∷ []) ≡ Ok e) }
+    ensures refused { (e : e.Ephemeris) → outcome (text.now ∷ []) ≡ Ok e
+        → IfErr result (λ refusal. refusal ≡ Refusal.Memory) }
+{
+    let mut shelf = TextShelf::new(text);
+    ephemeris_of(alloc, &mut shelf, &[no_name(alloc)])
+}
+
+// The two lines of windows in a generated text that has so many bytes.
+fn lines_of_windows(
+    alloc: Global,
+    blocks: u32,
+    seed: u64,
+    bytes: usize,
+    windows: &[Window],
+) -> Result<Vec<u8>, Refusal>
+    ensures text { IfOk result (λ text. text.items ≡ generation blocks seed bytes windows.now) }
+    ensures memory { IfErr result (λ refusal. refusal ≡ Refusal.Memory) }
+{
+    let lines = generation(alloc, blocks, seed, bytes, windows)?;
+    Ok(lines)
+}
+
+// The two lines of the ephemeris of a generated text that has so many bytes.
+fn lines_of(
+    alloc: Global,
+    blocks: u32,
+    seed: u64,
+    bytes: usize,
+    ephemeris: &Ephemeris,
+) -> Result<Vec<u8>, Refusal>
+    requires some { 0 < blocks }
+    requires bytes { bytes ≡ length (generated_text blocks seed) }
+    requires same { ephemeris.now ≡ generated_ephemeris blocks seed }
+    ensures lines { IfOk result (λ text. IsGeneration blocks seed text.items) }
+    ensures stopped { IfErr result (λ refusal. (refusal ≡ Refusal.Memory)
+        ⊎ (generation_of blocks seed ≡ Err refusal)) }
+{
+    let _header = ephemeris.header();
+    match search(alloc, ephemeris, &conjunctions(), whole_span(ephemeris)) {
+        Ok(windows) => lines_of_windows(alloc, blocks, seed, bytes, &windows),
+        Err(refusal) => Err(refusal),
+    }
+}
+
+// The two lines of a generated text.
+fn lines_of_text(alloc: Global, blocks: u32, seed: u64, text: &[u8]) -> Result<Vec<u8>, Refusal>
+    requires some { 0 < blocks }
+    requires text { text.now ≡ generated_text blocks seed }
+    requires accepted { outcome (text.now ∷ []) ≡ Ok (generated_ephemeris blocks seed) }
+    ensures lines { IfOk result (λ text. IsGeneration blocks seed text.items) }
+    ensures stopped { IfErr result (λ refusal. (refusal ≡ Refusal.Memory)
+        ⊎ (generation_of blocks seed ≡ Err refusal)) }
+{
+    let ephemeris = ephemeris_of_text(alloc, text)?;
+    lines_of(alloc, blocks, seed, text.len(), &ephemeris)
+}
+
+// The two lines of the generated text of so many blocks from this seed.
+fn generation_of(alloc: Global, blocks: u32, seed: u64) -> Result<Vec<u8>, Refusal>
+    requires some { 0 < blocks }
+    requires few { blocks ≤ MOST_GENERATED }
+    ensures lines { IfOk result (λ text. IsGeneration blocks seed text.items) }
+    ensures stopped { IfErr result (λ refusal. (refusal ≡ Refusal.Memory)
+        ⊎ (generation_of blocks seed ≡ Err refusal)) }
+{
+    let text = generate(alloc, blocks, seed)?;
+    lines_of_text(alloc, blocks, seed, &text)
+}
+
+/// The text that the words ask for.
+pub(crate) fn answer<S: Shelf>(
+    alloc: Global,
+    words: &[String],
+    shelf: &mut S,
+) -> Result<Vec<u8>, Refusal>
+    ensures answered { IfOk result (λ text.
+        IsAnswered words.now (S.files shelf.old) text.items) }
+    ensures refused { IfErr result (λ refusal. HaveCause words.now
+        (S.files shelf.old) (S.faults shelf.old) (S.faults shelf.new) refusal) }
+    ensures unopened { OpensNone (request_of (texts_of words.now)) → shelf.new ≡ shelf.old }
+{
+    match request(alloc, words)? {
+        Request::Find(find) => find_in_files(alloc, shelf, &find),
+        Request::Check { files } => summary_of_files(alloc, shelf, files.as_slice()),
+        Request::Gen { blocks, seed, .. } => generation_of(alloc, blocks, seed),
+    }
 }

@@ -1,22 +1,25 @@
-//! The search as a whole: words and the bytes of files come in, and a report or the line of a fault goes out, with a
-//! status. Nothing of its inside is public but the call itself and its statuses.
+//! The search as a whole: words and the bytes of files come in, and a report, a summary or the line of a fault goes out,
+//! with a status. What is public is the call itself with its statuses, and the types of which its contract speaks: why a
+//! run is refused, what is searched for and over which span.
 #![tactic(auto)]
 
 mod answer;
 mod book;
+mod files;
 mod messages;
-mod printing;
 mod query;
 mod refusal;
 mod search;
 mod statuses;
+mod text_shelf;
 mod top;
-mod words;
 mod writing;
 
+pub use query::{Query, Span};
+pub use refusal::Refusal;
 pub use statuses::{
-    EVENT_REFUSED, FILES_REFUSED, NOT_READ, NOT_WRITTEN, OUT_OF_MEMORY, REPORTED, TOO_MANY_LEAVES,
-    WORDS_REFUSED,
+    EVENT_REFUSED, FILES_REFUSED, NOT_READ, NOT_WRITTEN, OUT_OF_MEMORY, REPORTED, SPAN_REFUSED,
+    TOO_MANY_LEAVES, WORDS_REFUSED,
 };
 pub use top::finder;
 

@@ -1,22 +1,20 @@
 // The lines of errors.
-ghost use Rattle.std.specs.Prelude.{◌≡◌, ◌++◌, IfOk, OnOk};
-ghost use Rattle.std.specs.Fmt.{decimal};
+ghost use Rattle.std.specs.Prelude.{◌≡◌, ◌++◌, IfOk, OnOk, option_map};
+ghost use Rattle.std.specs.Fmt.{decimal, signed_decimal};
 ghost use Rattle.spec_faults.specs.Shown.{kind_of};
-ghost use Rattle.spec_reports.specs.Messages.{detail_text, event_text, fault_text, file_text, kind_text, leaves_text, read_text, title, words_text};
+ghost use Rattle.spec_reports.specs.Messages.{after_blank, detail_text, event_text, fault_text, file_text, kind_text, leaves_text, memory_text, outside_text, read_text, times, title, words_text};
+ghost use Rattle.spec_requests.specs.Names.{option_name};
+ghost use Rattle.gf_find.specs.Refusals.{line_of};
 
+use crate::query::Span;
+use crate::refusal::Refusal;
 use spec_faults::{FaultKind, fault_kind};
+use spec_requests::{Named, option_name};
 use spec_text::Fault;
 use std::alloc::{AllocError, Global};
 
-/// The line of words that ask for what isn't built yet.
-pub(crate) fn words_line() -> &'static [u8]
-    ensures { result.now ≡ words_text }
-{
-    b"finder: words: 64 NotBuilt\n"
-}
-
-/// The line of a search that has more leaves than it may have.
-pub(crate) fn leaves_line() -> &'static [u8]
+// The line of a search that has more leaves than it may have.
+fn leaves_line() -> &'static [u8]
     ensures { result.now ≡ leaves_text }
 {
     b"finder: more than 33554432 leaves\n"
@@ -79,8 +77,8 @@ fn add_fault(text: &mut Vec<u8>, number: u8, detail: u16) -> Result<(), AllocErr
     add_title(text, number, detail)
 }
 
-/// The line of a file that is refused.
-pub(crate) fn file_line(alloc: Global, name: &str, fault: Fault) -> Result<Vec<u8>, AllocError>
+// The line of a file that is refused.
+fn file_line(alloc: Global, name: &str, fault: Fault) -> Result<Vec<u8>, AllocError>
     ensures { IfOk result (λ text. text.items ≡ file_text name.now fault) }
 {
     let mut text = Vec::new(alloc);
@@ -91,8 +89,8 @@ pub(crate) fn file_line(alloc: Global, name: &str, fault: Fault) -> Result<Vec<u
     Ok(text)
 }
 
-/// The line of a file that couldn't be read.
-pub(crate) fn read_line(alloc: Global, name: &str) -> Result<Vec<u8>, AllocError>
+// The line of a file that couldn't be read.
+fn read_line(alloc: Global, name: &str) -> Result<Vec<u8>, AllocError>
     ensures { IfOk result (λ text. text.items ≡ read_text name.now) }
 {
     let mut text = Vec::new(alloc);
@@ -100,8 +98,8 @@ pub(crate) fn read_line(alloc: Global, name: &str) -> Result<Vec<u8>, AllocError
     Ok(text)
 }
 
-/// The line of an event that can't be searched for, by the number of the cause.
-pub(crate) fn event_line(alloc: Global, number: u8) -> Result<Vec<u8>, AllocError>
+// The line of an event that can't be searched for, by the number of the cause.
+fn event_line(alloc: Global, number: u8) -> Result<Vec<u8>, AllocError>
     ensures { IfOk result (λ text. text.items ≡ event_text number) }
 {
     let mut text = Vec::new(alloc);
@@ -109,4 +107,83 @@ pub(crate) fn event_line(alloc: Global, number: u8) -> Result<Vec<u8>, AllocErro
     add_fault(&mut text, number, 0)?;
     text.extend_from_slice(b"\n")?;
     Ok(text)
+}
+
+// The name of an option after a blank, where there is one.
+fn add_option(text: &mut Vec<u8>, option: Option<Named>) -> Result<(), AllocError>
+    ensures { OnOk result (text.new.items
+        ≡ text.old.items ++ after_blank (option_map option_name option)) }
+{
+    match option {
+        Some(option) => {
+            text.extend_from_slice(b" ")?;
+            text.extend_from_slice(option_name(option).as_bytes())
+        }
+        None => Ok(()),
+    }
+}
+
+// The line of words that ask for nothing.
+fn words_line(alloc: Global, number: u8, option: Option<Named>) -> Result<Vec<u8>, AllocError>
+    ensures { IfOk result (λ text.
+        text.items ≡ words_text number (option_map option_name option)) }
+{
+    let mut text = Vec::new(alloc);
+    text.extend_from_slice(b"finder: words: ")?;
+    add_fault(&mut text, number, 0)?;
+    add_option(&mut text, option)?;
+    text.extend_from_slice(b"\n")?;
+    Ok(text)
+}
+
+fn add_time(text: &mut Vec<u8>, time: i64) -> Result<(), AllocError>
+    ensures { OnOk result (text.new.items ≡ text.old.items ++ signed_decimal time) }
+{
+    let mut buffer = itoa::Buffer::new();
+    text.extend_from_slice(buffer.format(time).as_bytes())
+}
+
+// The two times of a span, before a text.
+fn add_span(text: &mut Vec<u8>, span: Span, after: &[u8]) -> Result<(), AllocError>
+    ensures { OnOk result (text.new.items
+        ≡ text.old.items ++ (times span.from span.upto ++ after.now)) }
+{
+    add_time(text, span.from)?;
+    text.extend_from_slice(b" ")?;
+    add_time(text, span.upto)?;
+    text.extend_from_slice(after)
+}
+
+// The line of a span that isn't one of the files, which have the other as their whole span.
+fn outside_line(alloc: Global, span: Span, whole: Span) -> Result<Vec<u8>, AllocError>
+    ensures { IfOk result (λ text.
+        text.items ≡ outside_text span.from span.upto whole.from whole.upto) }
+{
+    let mut text = Vec::new(alloc);
+    text.extend_from_slice(b"finder: span: ")?;
+    add_span(&mut text, span, b" not within ")?;
+    add_span(&mut text, whole, b"\n")?;
+    Ok(text)
+}
+
+// The line of a run that is out of memory.
+fn memory_line() -> &'static [u8]
+    ensures { result.now ≡ memory_text }
+{
+    b"finder: out of memory\n"
+}
+
+/// The line of a run that is refused.
+pub(crate) fn line_of(alloc: Global, refusal: &Refusal) -> Result<Vec<u8>, AllocError>
+    ensures { IfOk result (λ text. text.items ≡ line_of refusal.now) }
+{
+    match refusal {
+        Refusal::Words { number, option } => words_line(alloc, *number, *option),
+        Refusal::File { name, fault } => file_line(alloc, name.as_str(), *fault),
+        Refusal::NotRead { name } => read_line(alloc, name.as_str()),
+        Refusal::Outside { span, whole } => outside_line(alloc, *span, *whole),
+        Refusal::Event(fault) => event_line(alloc, fault.number()),
+        Refusal::TooManyLeaves => leaves_line().to_vec(alloc),
+        Refusal::Memory => memory_line().to_vec(alloc),
+    }
 }

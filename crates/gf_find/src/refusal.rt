@@ -1,42 +1,82 @@
-// Why a run has no report.
+// Why a run has nothing to write to its output.
+use crate::query::Span;
+use crate::statuses::{
+    EVENT_REFUSED, FILES_REFUSED, NOT_READ, OUT_OF_MEMORY, SPAN_REFUSED, TOO_MANY_LEAVES,
+    WORDS_REFUSED,
+};
+use eph_gen::Memory as TextMemory;
 use event_kinds::KindFault;
-use gf_files::FilesError;
+use spec_faults::{BAD_VALUE, NO_COMMAND, UNKNOWN_COMMAND, WORDS};
 use spec_kinds::EventFault;
+use spec_requests::{Named, Text, WordFault};
 use spec_text::Fault;
 use std::alloc::AllocError;
-use thiserror::Error;
+use window_text::Memory as ReportMemory;
 
-/// Why a run has no report. Files are counted from 0.
-#[derive(Clone, Copy, Debug, PartialEq, Eq, Error)]
-pub(crate) enum Refusal {
-    /// This file has the first fault, or is the first of too many.
-    #[error("a file has a fault")]
-    File { file: usize, fault: Fault },
-    /// This file couldn't be read.
-    #[error("a file couldn't be read")]
-    NotRead { file: usize },
+/// Why a run has nothing to write to its output.
+#[derive(Drop)]
+pub enum Refusal {
+    /// The words ask for nothing, by the fault of this number, which an option may have.
+    Words { number: u8, option: Option<Named> },
+    /// The file of this name has the first fault, or is the first of too many.
+    File { name: Text, fault: Fault },
+    /// The file of this name couldn't be read.
+    NotRead { name: Text },
+    /// The span isn't one of the files, whose whole span the other is.
+    Outside { span: Span, whole: Span },
     /// The event can't be searched for in the files.
-    #[error("the event can't be searched for")]
     Event(EventFault),
     /// The search has more leaves than it may have.
-    #[error("there are too many leaves")]
     TooManyLeaves,
     /// Out of memory.
-    #[error("out of memory")]
     Memory,
 }
 
-impl From<FilesError> for Refusal {
+impl Refusal {
     ghost use Rattle.std.specs.Prelude.{◌≡◌};
-    ghost use Rattle.gf_find.specs.Refusals.{of_files};
+    ghost use Rattle.gf_find.specs.Refusals.{status_of};
 
-    ghost from_gives = { λ error refusal. refusal ≡ of_files error };
+    /// The status of a run that is refused.
+    pub fn status(&self) -> u8
+        ensures { result ≡ status_of self.now }
+    {
+        match self {
+            Refusal::Words { .. } => WORDS_REFUSED,
+            Refusal::File { .. } => FILES_REFUSED,
+            Refusal::NotRead { .. } => NOT_READ,
+            Refusal::Outside { .. } => SPAN_REFUSED,
+            Refusal::Event(_) => EVENT_REFUSED,
+            Refusal::TooManyLeaves => TOO_MANY_LEAVES,
+            Refusal::Memory => OUT_OF_MEMORY,
+        }
+    }
+}
 
-    fn from(error: FilesError) -> Self {
-        match error {
-            FilesError::Fault { file, fault } => Refusal::File { file, fault },
-            FilesError::NotRead { file } => Refusal::NotRead { file },
-            FilesError::Memory => Refusal::Memory,
+impl From<WordFault> for Refusal {
+    ghost use Rattle.std.specs.Prelude.{◌≡◌};
+    ghost use Rattle.gf_find.specs.Refusals.{of_words};
+
+    ghost from_gives = { λ fault refusal. refusal ≡ of_words fault };
+
+    fn from(fault: WordFault) -> Self {
+        match fault {
+            WordFault::NoCommand => Refusal::Words {
+                number: NO_COMMAND,
+                option: None,
+            },
+            WordFault::UnknownCommand => Refusal::Words {
+                number: UNKNOWN_COMMAND,
+                option: None,
+            },
+            WordFault::Words => Refusal::Words {
+                number: WORDS,
+                option: None,
+            },
+            WordFault::BadValue(option) => Refusal::Words {
+                number: BAD_VALUE,
+                option: Some(option),
+            },
+            WordFault::Memory => Refusal::Memory,
         }
     }
 }
@@ -63,6 +103,28 @@ impl From<AllocError> for Refusal {
     ghost from_gives = { λ _ refusal. refusal ≡ Memory };
 
     fn from(_: AllocError) -> Self {
+        Refusal::Memory
+    }
+}
+
+impl From<ReportMemory> for Refusal {
+    ghost use Rattle.std.specs.Prelude.{◌≡◌};
+    ghost use Rattle.gf_find.specs.declared.refusal.Refusal.TheVariants.{Memory};
+
+    ghost from_gives = { λ _ refusal. refusal ≡ Memory };
+
+    fn from(_: ReportMemory) -> Self {
+        Refusal::Memory
+    }
+}
+
+impl From<TextMemory> for Refusal {
+    ghost use Rattle.std.specs.Prelude.{◌≡◌};
+    ghost use Rattle.gf_find.specs.declared.refusal.Refusal.TheVariants.{Memory};
+
+    ghost from_gives = { λ _ refusal. refusal ≡ Memory };
+
+    fn from(_: TextMemory) -> Self {
         Refusal::Memory
     }
 }

@@ -1,14 +1,16 @@
 // The search of an ephemeris for the events of a query.
-ghost use Rattle.std.specs.Prelude.{◌≡◌, ◌<◌, IfErr, IfOk, None};
+ghost use Rattle.std.specs.Prelude.{◌≡◌, ◌⊎◌, ◌<◌, IfErr, IfOk, IsTrue, None, Err};
 ghost use Rattle.spec_ephemeris.specs.Ephemeris.{IsEphemeris};
 ghost use Rattle.spec_trees.specs.Cuts.{CanCut, cut_of};
 ghost use Rattle.spec_kinds.specs.Faults.{fault_of};
 ghost use Rattle.spec_kinds.specs.Kinds.{event_of};
-ghost use Rattle.gf_find.specs.Queries.{IsFound, IsQuery, search, span};
-ghost use Rattle.gf_find.specs.Refusals.{StopsSearch};
+ghost use Rattle.spec_searches.specs.Found.{root};
+ghost use Rattle.gf_find.specs.Outcomes.{found};
+ghost use Rattle.gf_find.specs.Queries.{IsQuery, is_within, search};
+ghost use Rattle.gf_find.specs.Texts.{IsFound};
 
 use crate::book::windows_by;
-use crate::query::Query;
+use crate::query::{Query, Span};
 use crate::refusal::Refusal;
 use body_states::BodyStates;
 use eph_model::Ephemeris;
@@ -39,29 +41,33 @@ fn judge_of<'e>(
     EventJudge::new(states, ephemeris, event, query.width, query.depth, cutter)
 }
 
-// The whole span of an ephemeris.
-fn span(ephemeris: &Ephemeris) -> Node
-    ensures span { result ≡ span ephemeris.now }
+// The root of a span of an ephemeris.
+fn root_of(ephemeris: &Ephemeris, span: Span) -> Node
+    ensures root { result ≡ root span.from span.upto }
     ensures checked { IsEphemeris ephemeris.now }
 {
     let _header = ephemeris.header();
     Node {
-        a: ephemeris.start(),
-        b: ephemeris.end(),
+        a: span.from,
+        b: span.upto,
         depth: 0,
     }
 }
 
-/// The windows of a query's events over the whole span of an ephemeris, in seconds of TDB since J2000.
+/// The windows of a query's events over a span of an ephemeris, in seconds of TDB since J2000.
 pub(crate) fn search(
     alloc: Global,
     ephemeris: &Ephemeris,
     query: &Query,
+    span: Span,
 ) -> Result<Vec<Window>, Refusal>
     requires block { 0 < ephemeris.now.blocks }
     requires query { IsQuery query.now }
-    ensures found { IfOk result (λ found. IsFound query.now ephemeris.now found.items) }
-    ensures stopped { IfErr result (StopsSearch query.now ephemeris.now) }
+    requires within { IsTrue (is_within span ephemeris.now) }
+    ensures found { IfOk result (λ windows.
+        IsFound query.now ephemeris.now span windows.items) }
+    ensures stopped { IfErr result (λ refusal. (refusal ≡ Refusal.Memory)
+        ⊎ (found query.now ephemeris.now span ≡ Err refusal)) }
 {
     let event = event(alloc, ephemeris, &query.ask)?;
     let rule = query.cut;
@@ -74,10 +80,10 @@ pub(crate) fn search(
     ) else {
         return Err(Refusal::Memory);
     };
-    let root = span(ephemeris);
+    let root = root_of(ephemeris, span);
     let judge = judge_of(ephemeris, query, event, Cutter::new(rule, cut));
     match windows_by(alloc, &judge, root) {
-        Ok(found) => Ok(found),
+        Ok(windows) => Ok(windows),
         Err(RunError::TooMany) => Err(Refusal::TooManyLeaves),
         Err(RunError::Memory) => Err(Refusal::Memory),
     }

@@ -1,9 +1,9 @@
 // The statuses of a run.
 
-/// The report was written whole.
+/// What the words ask for was written whole.
 pub const REPORTED: u8 = 0;
 
-/// The words of the command line ask for nothing that is built.
+/// The words of the command line ask for nothing.
 pub const WORDS_REFUSED: u8 = 2;
 
 /// The files have a first fault, or there are too many of them.
@@ -12,8 +12,11 @@ pub const FILES_REFUSED: u8 = 3;
 /// A file couldn't be read.
 pub const NOT_READ: u8 = 4;
 
-/// The report couldn't be written whole.
+/// What the words ask for couldn't be written whole.
 pub const NOT_WRITTEN: u8 = 5;
+
+/// The span that is asked for isn't one of the files.
+pub const SPAN_REFUSED: u8 = 6;
 
 /// The event can't be searched for in the files.
 pub const EVENT_REFUSED: u8 = 7;

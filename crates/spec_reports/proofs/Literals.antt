@@ -1,5 +1,5 @@
 -- Lines whose bytes are known.
-use Rattle.std.proofs.Common.{◌≡◌, ◌+◌, ◌/◌, ◌%◌, ◌≤◌, ◌<◌, ◌^◌, ℕ, List, [], ◌∷◌, ◌++◌, ◌∙◌, ap, lit<, lit≤}
+use Rattle.std.proofs.Common.{◌≡◌, ◌+◌, ◌/◌, ◌%◌, ◌≤◌, ◌<◌, ◌^◌, ℕ, None, Some, List, [], ◌∷◌, ◌++◌, ◌∙◌, ap, lit<, lit≤}
 use Rattle.std.proofs.lemmas.Fmt.{decimal_digit, decimal_step}
 use Rattle.std.specs.Prelude.{codes}
 use Rattle.std.specs.Fmt.{decimal}
@@ -10,12 +10,19 @@ use Rattle.spec_reports.specs.Messages.{event_text, leaves_text, title, words_te
 number : (n : ℕ) (front : List ℕ) → 10 ≤ n → n < 2 ^ 64 → decimal (n / 10) ≡ front → decimal n ≡ front ++ ((48 + n % 10) ∷ [])
 number n front low high is = decimal_step n low high ∙ ap (λ (tens : List ℕ). tens ++ ((48 + n % 10) ∷ [])) is
 
-number_64 : decimal 64 ≡ codes "64"
-number_64 = number 64 (codes "6") (lit≤ tt) (lit< tt) (decimal_digit 6 (lit< tt))
+number_60 : decimal 60 ≡ codes "60"
+number_60 = number 60 (codes "6") (lit≤ tt) (lit< tt) (decimal_digit 6 (lit< tt))
 
-pub words_line : words_text ≡ codes "finder: words: 64 NotBuilt\n"
+number_63 : decimal 63 ≡ codes "63"
+number_63 = number 63 (codes "6") (lit≤ tt) (lit< tt) (decimal_digit 6 (lit< tt))
+
+pub no_word_line : words_text 60 None ≡ codes "finder: words: 60 NoCommand\n"
 unfolding title fault_kind
-words_line = ap (λ (number : List ℕ). codes "finder: words: " ++ (number ++ codes " " ++ title 64 0) ++ codes "\n") number_64
+no_word_line = ap (λ (number : List ℕ). codes "finder: words: " ++ (number ++ codes " " ++ title 60 0) ++ [] ++ codes "\n") number_60
+
+pub option_line : words_text 63 (Some (codes "width")) ≡ codes "finder: words: 63 BadValue width\n"
+unfolding title fault_kind
+option_line = ap (λ (number : List ℕ). codes "finder: words: " ++ (number ++ codes " " ++ title 63 0) ++ codes " width" ++ codes "\n") number_63
 
 number_50 : decimal 50 ≡ codes "50"
 number_50 = number 50 (codes "5") (lit≤ tt) (lit< tt) (decimal_digit 5 (lit< tt))

@@ -1,4 +1,3 @@
-pub mod Report
 pub mod Messages
 pub mod Writing
 pub mod Reported

@@ -1,9 +1,8 @@
 -- The lines that a run without a report writes to standard error.
-use Rattle.std.specs.Prelude.{ℕ, List, [], ◌++◌, Bool, true, false, codes, Option, None, Some}
-use Rattle.std.specs.Fmt.{decimal}
+use Rattle.std.specs.Prelude.{ℕ, ℤ, List, [], ◌++◌, Bool, true, false, codes, Option, None, Some}
+use Rattle.std.specs.Fmt.{decimal, signed_decimal}
 use Rattle.spec_text.specs.declared.decimals.Fault.{Fault}
 use Rattle.spec_faults.specs.Faults.{Kind, fault_kind}
-use Rattle.spec_faults.specs.declared.numbers.TheConstants.{WORDS_NOT_BUILT}
 use Rattle.spec_reports.specs.declared.limits.TheConstants.{MOST_LEAVES}
 
 abbrev pub detail_text : Bool → ℕ → List ℕ
@@ -27,9 +26,15 @@ title number detail = kind_title (fault_kind number) detail
 abbrev pub fault_text : ℕ → ℕ → List ℕ
 fault_text number detail = decimal number ++ codes " " ++ title number detail
 
--- the words of the command line ask for what isn't built yet
-abbrev pub words_text : List ℕ
-words_text = codes "finder: words: " ++ fault_text WORDS_NOT_BUILT 0 ++ codes "\n"
+-- a text after a blank, where there is one
+abbrev pub after_blank : Option (List ℕ) → List ℕ
+after_blank None = []
+after_blank (Some text) = codes " " ++ text
+
+-- the words of the command line ask for nothing, for the cause of this number; the option that is bad follows, where
+-- there is one
+abbrev pub words_text : ℕ → Option (List ℕ) → List ℕ
+words_text number option = codes "finder: words: " ++ fault_text number 0 ++ after_blank option ++ codes "\n"
 
 -- the line is counted from 1, and 0 where the fault is of the whole file
 abbrev pub place_text : List ℕ → ℕ → List ℕ
@@ -42,6 +47,14 @@ file_text name fault = place_text name fault.line ++ fault_text fault.number fau
 -- the file of this name couldn't be read
 abbrev pub read_text : List ℕ → List ℕ
 read_text name = codes "finder: read fault " ++ name ++ codes "\n"
+
+-- two times, in seconds of TDB since J2000
+abbrev pub times : ℤ → ℤ → List ℕ
+times first last = signed_decimal first ++ codes " " ++ signed_decimal last
+
+-- a span doesn't lie within the files, which begin and end at these times
+abbrev pub outside_text : ℤ → ℤ → ℤ → ℤ → List ℕ
+outside_text from upto start end = codes "finder: span: " ++ (times from upto ++ codes " not within ") ++ (times start end ++ codes "\n")
 
 -- the event can't be searched for, for the cause of this number
 abbrev pub event_text : ℕ → List ℕ

@@ -1,5 +1,5 @@
 // What the definitions of texts say of small cases.
-ghost use Rattle.std.specs.Prelude.{◌≡◌, [], ◌∷◌, ◌++◌, Some, codes};
+ghost use Rattle.std.specs.Prelude.{◌≡◌, [], ◌∷◌, ◌++◌, None, Some, codes};
 ghost use Rattle.std.specs.Fmt.{decimal};
 ghost use Rattle.spec_reports.specs.Messages.{event_text, leaves_text, title, words_text};
 ghost use Rattle.spec_reports.specs.Writing.{AppendsPart};
@@ -8,13 +8,15 @@ ghost use Rattle.spec_reports.specs.Writing.{AppendsPart};
 pub fn faults_are_named()
     ensures name { title 6 0 ≡ codes "FileTooLarge" }
     ensures detail { title 11 1030 ≡ codes "GroupMissing " ++ decimal 1030 }
-    ensures words { title 64 0 ≡ codes "NotBuilt" }
+    ensures words { title 60 0 ≡ codes "NoCommand" }
     ensures no_row { title 23 0 ≡ [] }
 {}
 
-/// The line of words that ask for what isn't built yet.
-pub fn the_line_of_words()
-    ensures { words_text ≡ codes "finder: words: 64 NotBuilt\n" }
+/// The lines of words that ask for nothing.
+pub fn the_lines_of_words()
+    ensures no_word { words_text 60 None ≡ codes "finder: words: 60 NoCommand\n" }
+    ensures option { words_text 63 (Some (codes "width"))
+        ≡ codes "finder: words: 63 BadValue width\n" }
 {}
 
 /// The lines of events that can't be searched for.

@@ -1,5 +1,18 @@
-use Rattle.gf_find.proofs.Accepted.{has_block}
+use Rattle.std.proofs.Common.{◌≡◌, Ok, rules}
+use Rattle.spec_requests.specs.declared.request.Request.TheVariants.{Find}
+use Rattle.spec_requests.specs.Requests.{request_of}
+use Rattle.spec_requests.proofs.LimitLemmas.{searches_keep_to_limits}
+use Rattle.gf_find.specs.Outcomes.{texts_of}
+use Rattle.gf_find.proofs.Asked.{blocks_are_some, blocks_are_within}
 use Rattle.gf_find.proofs.answer.answer.Goals as goal
 
-pub report_of-requires-clause-block : goal.report_of-requires-clause-block
-report_of-requires-clause-block g c = has_block _ _ _ _ c.in_ok-found.ensures.accepted
+pub find_in_files-requires : goal.find_in_files-requires
+find_in_files-requires g c =
+    let asked : request_of (texts_of c.args.words.now) ≡ Ok (Find c.in-Find.find) = search rules in
+    searches_keep_to_limits _ _ asked
+
+pub generation_of-requires-clause-some : goal.generation_of-requires-clause-some
+generation_of-requires-clause-some g c = search (rules, blocks_are_some)
+
+pub generation_of-requires-clause-few : goal.generation_of-requires-clause-few
+generation_of-requires-clause-few g c = search (rules, blocks_are_within)

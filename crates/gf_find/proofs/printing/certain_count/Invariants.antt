@@ -1,6 +1,0 @@
-use Rattle.std.proofs.Common.{◌≡◌, take}
-use Rattle.spec_reports.specs.Report.{certain_count}
-use Rattle.gf_find.proofs.printing.certain_count.Given as goal
-
-abbrev pub invariant-loop-window : goal.invariant-loop-window
-invariant-loop-window l = l.count ≡ certain_count (take l.window-index l.windows)

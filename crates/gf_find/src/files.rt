@@ -1,0 +1,69 @@
+// The ephemeris of named files.
+ghost use Rattle.std.specs.Prelude.{◌≡◌, ◌⊎◌, ◌<◌, ℕ, List, Some, IfErr, IfOk, length, slice_get};
+ghost use Rattle.gf_find.specs.Outcomes.{FilesStop, HaveEphemeris, texts_of};
+ghost use Rattle.gf_find.specs.Reported.{AreNotOpened};
+
+use crate::refusal::Refusal;
+use eph_model::Ephemeris;
+use gf_edges::Shelf;
+use gf_files::{FilesError, read_files};
+use spec_faults::WORDS;
+use spec_requests::Text;
+use spec_text::Fault;
+use std::alloc::{AllocError, Global};
+
+fn text(alloc: Global, name: &str) -> Result<Text, AllocError>
+    ensures { IfOk result (λ text. text ≡ name.now) }
+{
+    Ok(Text::new(String::from_str(alloc, name)?))
+}
+
+// This file has this fault.
+fn refused(alloc: Global, names: &[String], file: usize, fault: Fault) -> Refusal
+    requires { file < length names.now }
+    ensures { (result ≡ Refusal.Memory) ⊎ ((name : List ℕ)
+        × (slice_get (texts_of names.now) file ≡ Some name) × (result ≡ Refusal.File name fault)) }
+{
+    match text(alloc, &names[file]) {
+        Ok(name) => Refusal::File { name, fault },
+        Err(AllocError) => Refusal::Memory,
+    }
+}
+
+// This file couldn't be read.
+fn not_read(alloc: Global, names: &[String], file: usize) -> Refusal
+    requires { file < length names.now }
+    ensures { (result ≡ Refusal.Memory) ⊎ ((name : List ℕ)
+        × (slice_get (texts_of names.now) file ≡ Some name) × (result ≡ Refusal.NotRead name)) }
+{
+    match text(alloc, &names[file]) {
+        Ok(name) => Refusal::NotRead { name },
+        Err(AllocError) => Refusal::Memory,
+    }
+}
+
+/// The ephemeris of the files of these names. No name at all is a fault of the words.
+pub(crate) fn ephemeris_of<S: Shelf>(
+    alloc: Global,
+    shelf: &mut S,
+    names: &[String],
+) -> Result<Ephemeris, Refusal>
+    ensures accepted { IfOk result (λ e. HaveEphemeris (S.files shelf.old) (texts_of names.now) e) }
+    ensures refused { IfErr result (λ refusal. (refusal ≡ Refusal.Memory)
+        ⊎ FilesStop (S.files shelf.old) (texts_of names.now)
+        (S.faults shelf.old) (S.faults shelf.new) refusal) }
+    ensures unopened { AreNotOpened (texts_of names.now) → shelf.new ≡ shelf.old }
+{
+    if names.is_empty() {
+        return Err(Refusal::Words {
+            number: WORDS,
+            option: None,
+        });
+    }
+    match read_files(alloc, shelf, names) {
+        Ok(found) => Ok(found.ephemeris),
+        Err(FilesError::Fault { file, fault }) => Err(refused(alloc, names, file, fault)),
+        Err(FilesError::NotRead { file }) => Err(not_read(alloc, names, file)),
+        Err(FilesError::Memory) => Err(Refusal::Memory),
+    }
+}

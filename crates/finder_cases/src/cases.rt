@@ -69,13 +69,16 @@ fn add_record<'a>(
     Ok(())
 }
 
-/// All cases of a packed text, in order.
+/// All cases of a packed text, in order. Each record takes a byte at least, so there are no more of them than bytes.
 pub(crate) fn cases<'a>(alloc: Global, text: &'a [u8]) -> Result<Vec<Case<'a>>, CasesError> {
     let mut records = Records::new(text);
     let mut texts = Vec::new(alloc);
     let mut cases = Vec::new(alloc);
     let mut case = None;
-    while let Some(record) = records.record() {
+    for _ in 0..text.len() {
+        let Some(record) = records.record() else {
+            break;
+        };
         match (record, &mut case) {
             (Record::Text(name, bytes), _) => texts.push((name, bytes))?,
             (Record::Case(name), None) => case = Some(Case::named(alloc, name)),

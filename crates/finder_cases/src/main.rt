@@ -17,6 +17,7 @@ use std::process::ExitCode;
 use std::{env, fs, io, str};
 
 const DIFFERENT: u8 = 1;
+
 const NOT_READ: u8 = 2;
 
 // How many cases were run, and how many of them differ.

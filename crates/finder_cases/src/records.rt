@@ -1,6 +1,6 @@
 // The records of a packed text. Each begins with a line; where that ends in a length, so many bytes and a line feed
 // follow.
-ghost use Rattle.std.specs.Prelude.{◌<◌, length, OnSome};
+ghost use Rattle.std.specs.Prelude.{◌≡◌, length, IfSome};
 
 use std::str;
 
@@ -41,13 +41,13 @@ impl<'a> Records<'a> {
     }
 
     // The bytes before the line feed at this place, which is passed.
-    fn piece(&mut self, length: usize) -> Option<&'a [u8]>
-        ensures shorter { OnSome result (length self.new.rest.now < length self.old.rest.now) }
+    fn piece(&mut self, count: usize) -> Option<&'a [u8]>
+        ensures { IfSome result (λ piece. length piece.now ≡ count) }
     {
-        if self.rest.len() <= length || self.rest[length] != b'\n' {
+        if self.rest.len() <= count || self.rest[count] != b'\n' {
             return None;
         }
-        let (piece, rest) = self.rest.split_at(length);
+        let (piece, rest) = self.rest.split_at(count);
         self.rest = &rest[1..];
         Some(piece)
     }
@@ -62,8 +62,8 @@ impl<'a> Records<'a> {
     }
 
     fn line(&mut self) -> Option<&'a str> {
-        let length = self.rest.iter().position(|byte| *byte == b'\n')?;
-        str::from_utf8(self.piece(length)?).ok()
+        let count = self.rest.iter().position(|byte| *byte == b'\n')?;
+        str::from_utf8(self.piece(count)?).ok()
     }
 
     /// The next record, or none at the end and where the text isn't in this form.

@@ -1,0 +1,96 @@
+//! The program that shows that the call agrees with an exact reference. In come the names of files of cases: runs with
+//! their words, their files and what they are to answer and write. Out go the cases whose status, output or error output
+//! differs by a byte, and how many there are.
+//!
+//! The expected bytes were made by another program, which computes with exact fractions and shares no code, and no
+//! definition, with this repository. So what is compared here is no work of the searcher: the proofs say that the code
+//! does what the definitions say, and these runs show that the definitions say what they should.
+#![tactic(auto)]
+
+mod cases;
+mod records;
+mod runs;
+
+use cases::{Case, CasesError, cases};
+use runs::{Answer, agrees, run};
+use std::process::ExitCode;
+use std::{env, fs, io, str};
+
+const DIFFERENT: u8 = 1;
+
+const NOT_READ: u8 = 2;
+
+// How many cases were run, and how many of them differ.
+#[derive(Clone, Copy)]
+struct Tally {
+    cases: u64,
+    differing: u64,
+}
+
+fn print_text(rt: &HostRuntime, title: &str, bytes: &[u8]) -> io::Result<()> {
+    match str::from_utf8(bytes) {
+        Ok(text) => println!(rt; "  {title} {text}"),
+        Err(_) => println!(rt; "  {title} is no text"),
+    }
+}
+
+// Prints a case that differs: its words, what it is to answer and write, and what it did.
+fn print_difference(rt: &HostRuntime, case: &Case<'_>, answer: &Answer) -> io::Result<()> {
+    let name = case.name;
+    println!(rt; "{name} differs")?;
+    for word in &case.words {
+        println!(rt; "  word {word}")?;
+    }
+    let expected = case.status;
+    let status = answer.status;
+    println!(rt; "  status {status}, not {expected}")?;
+    print_text(rt, "expected output", case.out)?;
+    print_text(rt, "output", &answer.out)?;
+    print_text(rt, "expected error output", case.err)?;
+    print_text(rt, "error output", &answer.err)
+}
+
+// Runs cases, and prints those that differ.
+fn run_all(rt: &HostRuntime, cases: &[Case<'_>]) -> io::Result<Tally> {
+    let mut tally = Tally {
+        cases: 0,
+        differing: 0,
+    };
+    for case in cases {
+        let answer = run(rt.alloc(), case)?;
+        tally.cases = tally.cases.saturating_add(1);
+        if !agrees(case, &answer) {
+            tally.differing = tally.differing.saturating_add(1);
+            print_difference(rt, case, &answer)?;
+        }
+    }
+    Ok(tally)
+}
+
+// Runs the cases of a file, or of none that has no such form.
+fn run_file(rt: &HostRuntime, name: &str) -> io::Result<Option<Tally>> {
+    let text = fs::read(rt, name)?;
+    match cases(rt.alloc(), &text) {
+        Ok(cases) => Ok(Some(run_all(rt, &cases)?)),
+        Err(CasesError::Malformed) => Ok(None),
+        Err(CasesError::Memory) => Err(io::ErrorKind::OutOfMemory.into()),
+    }
+}
+
+fn main(rt: HostRuntime) -> io::Result<ExitCode> {
+    let mut differing = 0u64;
+    for name in env::args(&rt)?.skip(1) {
+        let Some(tally) = run_file(&rt, &name)? else {
+            eprintln!(&rt; "finder_cases: {name} isn't in the form of cases")?;
+            return Ok(ExitCode::from(NOT_READ));
+        };
+        differing = differing.saturating_add(tally.differing);
+        let count = tally.cases;
+        let different = tally.differing;
+        println!(&rt; "{name}: {count} cases, {different} differ")?;
+    }
+    if differing == 0 {
+        return Ok(ExitCode::from(0));
+    }
+    Ok(ExitCode::from(DIFFERENT))
+}

@@ -1,0 +1,69 @@
+// Cases, run by the call that the program makes.
+ghost use Rattle.std.specs.Prelude.{◌≡◌, ◌↔◌, IsTrue};
+
+use crate::cases::Case;
+use gf_edges::{Memory, MemoryShelf, MemorySink, OpenGate};
+use gf_find::finder;
+use std::alloc::{AllocError, Global};
+
+// How many bytes an output takes beyond those that are expected, so that what is too much is seen.
+const SPARE_ROOM: usize = 4096;
+
+// How many bytes are read or written at a time.
+const PIECE: usize = 65536;
+
+/// What a run answered and wrote.
+#[derive(Drop)]
+pub(crate) struct Answer {
+    pub(crate) status: u8,
+    pub(crate) out: Vec<u8>,
+    pub(crate) err: Vec<u8>,
+}
+
+fn words_of(alloc: Global, case: &Case<'_>) -> Result<Vec<String>, AllocError> {
+    let mut words = Vec::new(alloc);
+    for word in &case.words {
+        words.push(String::from_str(alloc, word)?)?;
+    }
+    Ok(words)
+}
+
+fn shelf_of(alloc: Global, case: &Case<'_>) -> Result<MemoryShelf, AllocError> {
+    let mut files = Vec::new(alloc);
+    for (name, bytes) in &case.files {
+        files.push((String::from_str(alloc, name)?, bytes.to_vec(alloc)?))?;
+    }
+    Ok(MemoryShelf::new(files, PIECE, Vec::new(alloc)))
+}
+
+fn sink_for(alloc: Global, expected: &[u8]) -> Result<MemorySink, AllocError> {
+    let room = expected.len().saturating_add(SPARE_ROOM);
+    match MemorySink::new(alloc, room, PIECE, Vec::new(alloc)) {
+        Ok(sink) => Ok(sink),
+        Err(Memory) => Err(AllocError),
+    }
+}
+
+/// Runs a case.
+pub(crate) fn run(alloc: Global, case: &Case<'_>) -> Result<Answer, AllocError> {
+    let words = words_of(alloc, case)?;
+    let mut shelf = shelf_of(alloc, case)?;
+    let mut out = sink_for(alloc, case.out)?;
+    let mut err = sink_for(alloc, case.err)?;
+    let status = finder(alloc, &words, &mut shelf, &mut out, &mut err, &OpenGate);
+    Ok(Answer {
+        status,
+        out: out.bytes().to_vec(alloc)?,
+        err: err.bytes().to_vec(alloc)?,
+    })
+}
+
+/// Whether a run answered and wrote what its case says, byte for byte.
+pub(crate) fn agrees(case: &Case<'_>, answer: &Answer) -> bool
+    ensures { IsTrue result ↔ (answer.now.status ≡ case.now.status)
+        × (answer.now.out.items ≡ case.now.out.now) × (answer.now.err.items ≡ case.now.err.now) }
+{
+    answer.status == case.status
+        && answer.out.as_slice() == case.out
+        && answer.err.as_slice() == case.err
+}

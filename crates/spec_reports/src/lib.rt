@@ -6,6 +6,7 @@ mod laws;
 mod limits;
 
 pub use laws::{
-    faults_are_named, texts_are_written, the_line_of_leaves, the_lines_of_words, the_lines_of_events,
+    faults_are_named, texts_are_written, the_line_of_leaves, the_lines_of_events,
+    the_lines_of_words,
 };
 pub use limits::MOST_LEAVES;

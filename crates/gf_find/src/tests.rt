@@ -1,11 +1,13 @@
 // What no clause can say: that runs are answered while memory lasts, and what failing devices hold. Words of a command
 // line over one file `a`, with the status and what is written.
+ghost use Rattle.std.specs.Prelude.{◌≤◌};
+
 use crate::*;
 use gf_edges::{MemoryShelf, MemorySink, OpenGate};
 use std::alloc::{AllocError, Global};
 use std::test::Fail;
 
-const E1: &str = "KSIZE= 52 NCOEFF= 26
+const HEADER: &str = "KSIZE= 52 NCOEFF= 26
 GROUP 1010
 E1 TEST EPHEMERIS
 GROUP 1030
@@ -21,10 +23,14 @@ GROUP 1050
 2 0 2 0 0 0 0 0 0 2 2 0 0
 1 0 1 0 0 0 0 0 0 1 1 0 0
 GROUP 1070
-1 26
+";
+
+const BLOCK: &str = "1 26
 0.245154450000000000D+07 0.245157650000000000D+07 0.0
 0.138240000000000000D+07 0.0 0.0
-0.0 0.0 0.0
+";
+
+const ZEROS: &str = "0.0 0.0 0.0
 0.0 0.0 0.0
 0.0 0.0 0.0
 0.0 0.0 0.0
@@ -32,6 +38,15 @@ GROUP 1070
 0.0 0.0 0.0
 0.0 0.0 0.0
 ";
+
+// What an output has room for, what it takes a call, and which call of it and of the error output fails.
+#[derive(Clone, Copy)]
+struct Outputs {
+    room: usize,
+    piece: usize,
+    fails: u64,
+    err_fails: u64,
+}
 
 // The words, the calls of the shelf and of the output that fail, the status, and what is written to both outputs.
 const ROWS: [(&str, u64, u64, u8, &str, &str); 14] = [
@@ -153,31 +168,155 @@ fn words_of(alloc: Global, line: &str) -> Result<Vec<String>, AllocError> {
     Ok(words)
 }
 
-fn shelf(alloc: Global, fails: u64) -> Result<MemoryShelf, AllocError> {
-    let mut files = Vec::new(alloc);
-    files.push((String::from_str(alloc, "a")?, E1.as_bytes().to_vec(alloc)?))?;
-    Ok(MemoryShelf::new(files, 4096, [fails].to_vec(alloc)?))
+// A file in which Mercury's x rises through 0.
+fn rising(alloc: Global) -> Result<Vec<u8>, AllocError> {
+    let mut text = HEADER.as_bytes().to_vec(alloc)?;
+    text.extend_from_slice(BLOCK.as_bytes())?;
+    text.extend_from_slice(ZEROS.as_bytes())?;
+    Ok(text)
 }
 
-fn sink(alloc: Global, fails: u64) -> Result<MemorySink, AllocError> {
-    match MemorySink::new(alloc, 4096, 16, [fails].to_vec(alloc)?) {
+// A file of so many blocks.
+fn blocks(alloc: Global, count: i64) -> Result<Vec<u8>, AllocError> {
+    let mut text = HEADER.as_bytes().to_vec(alloc)?;
+    let mut day: i64 = 2_451_544;
+    for _ in 0..count {
+        let next = day.saturating_add(32);
+        let dates = format!(in alloc; "1 26\n{day}.5 {next}.5 0.0\n0.0 0.0 0.0\n")?;
+        text.extend_from_slice(dates.as_bytes())?;
+        text.extend_from_slice(ZEROS.as_bytes())?;
+        day = next;
+    }
+    Ok(text)
+}
+
+fn sink(alloc: Global, room: usize, piece: usize, fails: u64) -> Result<MemorySink, AllocError>
+    requires { 1 ≤ piece }
+{
+    match MemorySink::new(alloc, room, piece, [fails].to_vec(alloc)?) {
         Ok(sink) => Ok(sink),
         Err(_) => Err(AllocError),
     }
+}
+
+// What a run answered and wrote.
+#[derive(Drop)]
+struct Answer {
+    status: u8,
+    out: Vec<u8>,
+    err: Vec<u8>,
+}
+
+// Runs words over one file `a`.
+fn run(
+    alloc: Global,
+    words: &[String],
+    file: Vec<u8>,
+    shelf_fails: u64,
+    outputs: Outputs,
+) -> Result<Answer, AllocError> {
+    let mut files = Vec::new(alloc);
+    files.push((String::from_str(alloc, "a")?, file))?;
+    let mut shelf = MemoryShelf::new(files, 4096, [shelf_fails].to_vec(alloc)?);
+    let mut out = sink(alloc, outputs.room, outputs.piece.max(1), outputs.fails)?;
+    let mut err = sink(alloc, 4096, 16, outputs.err_fails)?;
+    let status = finder(alloc, words, &mut shelf, &mut out, &mut err, &OpenGate);
+    Ok(Answer {
+        status,
+        out: out.bytes().to_vec(alloc)?,
+        err: err.bytes().to_vec(alloc)?,
+    })
 }
 
 // The run answers the status and writes this.
 fn is_right(alloc: Global, row: (&str, u64, u64, u8, &str, &str)) -> Result<bool, AllocError> {
     let (line, shelf_fails, out_fails, status, written, told) = row;
     let words = words_of(alloc, line)?;
-    let mut shelf = shelf(alloc, shelf_fails)?;
-    let mut out = sink(alloc, out_fails)?;
-    let mut err = sink(alloc, 0)?;
-    let answer = finder(alloc, &words, &mut shelf, &mut out, &mut err, &OpenGate);
-    let same_out = out.bytes() == written.as_bytes();
-    let same_err = err.bytes() == told.as_bytes();
-    Ok(answer == status && same_out && same_err)
+    let outputs = Outputs {
+        fails: out_fails,
+        ..SOUND
+    };
+    let answer = run(alloc, &words, rising(alloc)?, shelf_fails, outputs)?;
+    let same_out = answer.out.as_slice() == written.as_bytes();
+    let same_err = answer.err.as_slice() == told.as_bytes();
+    Ok(answer.status == status && same_out && same_err)
 }
+
+const SOUND: Outputs = Outputs {
+    room: 4096,
+    piece: 16,
+    fails: 0,
+    err_fails: 0,
+};
+
+const RISE: &str = "find --kind coord --target mercury --axis x a";
+
+const PAST_THE_END: &str = "find --kind coord --target mercury --axis x --to 2721601 a";
+
+// Words with outputs, the status, how many of the report's 225 bytes the output has then, and what the error output has.
+// Each write offers the whole rest of the text: an output that takes 4,096 bytes a call is called once.
+const OUTPUTS: [(&'static str, Outputs, u8, usize, &'static str); 5] = [
+    (
+        RISE,
+        Outputs {
+            room: 4096,
+            piece: 4096,
+            fails: 2,
+            err_fails: 0,
+        },
+        REPORTED,
+        225,
+        "",
+    ),
+    (
+        RISE,
+        Outputs {
+            room: 4096,
+            piece: 16,
+            fails: 15,
+            err_fails: 0,
+        },
+        NOT_WRITTEN,
+        224,
+        "finder: write fault\n",
+    ),
+    (
+        RISE,
+        Outputs {
+            room: 4096,
+            piece: 16,
+            fails: 16,
+            err_fails: 0,
+        },
+        REPORTED,
+        225,
+        "",
+    ),
+    (
+        RISE,
+        Outputs {
+            room: 100,
+            piece: 16,
+            fails: 0,
+            err_fails: 0,
+        },
+        NOT_WRITTEN,
+        100,
+        "finder: write fault\n",
+    ),
+    (
+        PAST_THE_END,
+        Outputs {
+            room: 4096,
+            piece: 16,
+            fails: 0,
+            err_fails: 1,
+        },
+        SPAN_REFUSED,
+        0,
+        "",
+    ),
+];
 
 #[test]
 fn runs_are_answered(rt: HostRuntime) -> Result<(), Fail> {
@@ -185,5 +324,44 @@ fn runs_are_answered(rt: HostRuntime) -> Result<(), Fail> {
     for row in &ROWS {
         assert!(rt; is_right(alloc, *row)?, "{}", row.0);
     }
+    Ok(())
+}
+
+#[test]
+fn outputs_fail(rt: HostRuntime) -> Result<(), Fail> {
+    let alloc = rt.alloc();
+    for (line, outputs, status, count, told) in &OUTPUTS {
+        let words = words_of(alloc, line)?;
+        let answer = run(alloc, &words, rising(alloc)?, 0, *outputs)?;
+        assert!(rt; answer.status == *status, "{line}");
+        assert!(rt; answer.out.len() == *count, "{line}");
+        assert!(rt; answer.err.as_slice() == told.as_bytes(), "{line}");
+    }
+    Ok(())
+}
+
+#[test]
+fn too_many_files_are_refused(rt: HostRuntime) -> Result<(), Fail> {
+    let alloc = rt.alloc();
+    let mut words = words_of(alloc, "check")?;
+    for _ in 0..64 {
+        words.push(String::from_str(alloc, "a")?)?;
+    }
+    words.push(String::from_str(alloc, "z")?)?;
+    let answer = run(alloc, &words, rising(alloc)?, 0, SOUND)?;
+    assert!(rt; answer.status == FILES_REFUSED);
+    assert!(rt; answer.err.as_slice() == "finder: file z line 0: 5 TooManyFiles\n".as_bytes());
+    Ok(())
+}
+
+#[test]
+fn too_many_blocks_are_refused(rt: HostRuntime) -> Result<(), Fail> {
+    let alloc = rt.alloc();
+    let words = words_of(alloc, "check a")?;
+    let answer = run(alloc, &words, blocks(alloc, 16_385)?, 0, SOUND)?;
+    assert!(rt; answer.status == FILES_REFUSED);
+    assert!(rt;
+        answer.err.as_slice() == "finder: file a line 163858: 38 TooManyBlocks\n".as_bytes()
+    );
     Ok(())
 }

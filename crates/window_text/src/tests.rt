@@ -2,6 +2,7 @@
 ghost use Rattle.std.specs.Prelude.{◌≡◌, All, IfOk};
 ghost use Rattle.spec_ephemeris.specs.Header.{IsHeader};
 ghost use Rattle.spec_ephemeris.specs.Ephemeris.{IsBodyNumber};
+ghost use Rattle.spec_texts.specs.Report.{HasTimes};
 
 use crate::*;
 use eph_model::Ephemeris;
@@ -138,6 +139,43 @@ fn a_report_is_printed(rt: HostRuntime) -> Result<(), Fail> {
     };
     let text = report(alloc, &find, -43_200, 2_721_600, &[rise])?;
     assert!(rt; text.as_slice() == CROSSING.as_bytes());
+    Ok(())
+}
+
+// A time that is left undecided.
+fn undecided_second() -> Window
+    ensures { HasTimes result }
+{
+    Window {
+        first: 0,
+        last: 0,
+        holds: Holds::Undecided,
+    }
+}
+
+fn thousand_windows(alloc: Global) -> Result<Vec<Window>, AllocError>
+    ensures { IfOk result (λ v. All HasTimes v.items) }
+{
+    let mut windows = Vec::new(alloc);
+    for _place in 0..1000u32 {
+        windows.push(undecided_second())?;
+    }
+    Ok(windows)
+}
+
+#[test]
+fn a_report_of_many_windows_has_a_line_for_each(rt: HostRuntime) -> Result<(), Fail> {
+    let alloc = rt.alloc();
+    let find = mercury_crossing(alloc)?;
+    let windows = thousand_windows(alloc)?;
+    let text = report(alloc, &find, -43_200, 2_721_600, &windows)?;
+    let mut lines = 0u32;
+    for byte in text.as_slice() {
+        if *byte == b'\n' {
+            lines = lines.saturating_add(1);
+        }
+    }
+    assert_eq!(rt; lines, 1002);
     Ok(())
 }
 

@@ -1,4 +1,4 @@
-/* Events of five kinds in plain C doubles, over all blocks of a text of DE405 by JPL: the function is evaluated at steps
+/* Events of ten kinds in plain C doubles, over all blocks of a text of DE405 by JPL: the function is evaluated at steps
    of so many hours, and where its sign changes from one step to the next, the change is bisected to a second. Nothing
    bounds an error, and two changes within a step are missed. Prints how many changes were found and how many values were
    computed in a round, and a checksum of the seconds found.
@@ -14,7 +14,7 @@ enum { MERCURY, VENUS, EMB, MOON, SUN, BODIES, AXES = 3, COLUMNS = 13, HOUR = 36
 
 /* The place of a body's column in the header. */
 static const int COLUMN[BODIES] = { 0, 1, 2, 9, 10 };
-static const double COSINE = 0.998, MOON_RADIUS = 8115.5, SUN_RADIUS = 696000;
+static const double COSINE = 0.998, DISTANCE = 384400, MOON_RADIUS = 1737.4, ENLARGED_RADIUS = 8115.5, SUN_RADIUS = 696000;
 
 struct column { int first, coefficients, granules; };
 struct file { int count, blocks; long start, seconds; double share, *numbers; struct column columns[COLUMNS]; };
@@ -141,6 +141,18 @@ static struct state seen(const struct file *f, int body, long t) {
 
 static double dot(const double *a, const double *b) { return a[0] * b[0] + a[1] * b[1] + a[2] * b[2]; }
 
+static double coordinate(const struct file *f, long t) { return seen(f, MERCURY, t).p[0]; }
+
+static double distance(const struct file *f, long t) {
+    struct state a = seen(f, MOON, t);
+    return dot(a.p, a.p) - DISTANCE * DISTANCE;
+}
+
+static double apsis(const struct file *f, long t) {
+    struct state a = seen(f, MOON, t);
+    return dot(a.p, a.v);
+}
+
 static double conjunction(const struct file *f, long t) {
     struct state a = seen(f, MERCURY, t), b = seen(f, VENUS, t);
     return a.p[0] * b.p[1] - a.p[1] * b.p[0];
@@ -157,21 +169,30 @@ static double separation(const struct file *f, long t) {
     return d * fabs(d) - COSINE * COSINE * (dot(a.p, a.p) * dot(b.p, b.p));
 }
 
-static double eclipse(const struct file *f, long t) {
-    struct state a = seen(f, MOON, t), b = seen(f, SUN, t);
-    double d = dot(a.p, b.p) + MOON_RADIUS * SUN_RADIUS;
-    return d * fabs(d) - (dot(a.p, a.p) - MOON_RADIUS * MOON_RADIUS) * (dot(b.p, b.p) - SUN_RADIUS * SUN_RADIUS);
+static double separation_change(const struct file *f, long t) {
+    struct state a = seen(f, MERCURY, t), b = seen(f, VENUS, t);
+    double aa = dot(a.p, a.p), bb = dot(b.p, b.p);
+    return (dot(a.v, b.p) + dot(a.p, b.v)) * (aa * bb) - dot(a.p, b.p) * (dot(a.p, a.v) * bb + aa * dot(b.p, b.v));
 }
 
-static double apsis(const struct file *f, long t) {
-    struct state a = seen(f, MOON, t);
-    return dot(a.p, a.v);
+/* At least 0 where the discs of the radii overlap (`both` positive), or one lies within the other (negative). */
+static double shadow(const struct file *f, long t, double front, double both) {
+    struct state a = seen(f, MOON, t), b = seen(f, SUN, t);
+    double d = dot(a.p, b.p) + both;
+    return d * fabs(d) - (dot(a.p, a.p) - front * front) * (dot(b.p, b.p) - SUN_RADIUS * SUN_RADIUS);
 }
+
+static double touching(const struct file *f, long t) { return shadow(f, t, ENLARGED_RADIUS, ENLARGED_RADIUS * SUN_RADIUS); }
+
+static double covering(const struct file *f, long t) { return shadow(f, t, ENLARGED_RADIUS, -ENLARGED_RADIUS * SUN_RADIUS); }
+
+static double within(const struct file *f, long t) { return shadow(f, t, MOON_RADIUS, -MOON_RADIUS * SUN_RADIUS); }
 
 /* A kind, its function, and the step of its search in hours. */
 static const struct kind { const char *name; double (*function)(const struct file *, long); int hours; } KINDS[] = {
-    { "conj", conjunction, 24 }, { "station", station, 24 }, { "sep", separation, 24 }, { "any", eclipse, 1 },
-    { "apsis", apsis, 24 },
+    { "coord", coordinate, 24 }, { "radius", distance, 24 }, { "apsis", apsis, 24 }, { "conj", conjunction, 24 },
+    { "station", station, 24 }, { "sep", separation, 24 }, { "sepext", separation_change, 24 }, { "any", touching, 1 },
+    { "full", covering, 1 }, { "annular", within, 1 },
 };
 
 static unsigned long values;
@@ -213,7 +234,7 @@ int main(int argc, char **argv) {
     const struct kind *k = 0;
     for (size_t i = 0; i < sizeof KINDS / sizeof *KINDS; i++)
         if (!strcmp(KINDS[i].name, argv[1])) k = &KINDS[i];
-    if (!k) fail("the kind is conj, station, sep, any or apsis");
+    if (!k) fail("the kind is coord, radius, apsis, conj, station, sep, sepext, any, full or annular");
     unsigned rounds = strtoul(argv[2], 0, 10);
     read_file(&f, argv[3]);
     uint64_t sum = 0;

@@ -1,8 +1,9 @@
 #!/bin/sh
-# Times searches for the events of five kinds over a file: how many nodes are judged in a second, beside C that takes
-# steps and bisects in plain doubles, which bounds no error and sees no two events within a step, in one run. Both print
-# how many events they found. Run by hand, as `bench/searches.sh FILE`, once `rt run` in crates/measure_main has built the
-# program; FILE is JPL's text of DE405 with a header and blocks.
+# Times searches for the events of ten kinds over a file: how many nodes are judged in a second, beside C with the same
+# interval arithmetic, whose leaves and enclosures have to be the same bit for bit, and beside C that takes steps and
+# bisects in plain doubles, which bounds no error and sees no two events within a step, in one run. Run by hand, as
+# `bench/searches.sh FILE`, once `rt run` in crates/measure_main has built the program; FILE is JPL's text of DE405 with a
+# header and blocks.
 set -e
 [ -r "$1" ] || { echo "usage: bench/searches.sh FILE, FILE a text of DE405 by JPL" >&2; exit 2; }
 file=$(realpath "$1")
@@ -11,7 +12,8 @@ ours=crates/measure_main/out/measure_main
 [ -x "$ours" ] || { echo "build it first: cd crates/measure_main && rt run -- products 1" >&2; exit 1; }
 work=$(mktemp -d)
 trap 'rm -rf "$work"' EXIT
-cc -O2 -o "$work/peer" bench/searches.c -lm
+cc -O2 -o "$work/nodes" bench/nodes.c
+cc -O2 -o "$work/doubles" bench/searches.c -lm
 
 # Adds the time of the user for so many rounds of a kind to a file of times.
 run() {
@@ -26,33 +28,44 @@ least() {
 }
 
 # Of five runs of each, turn about, the least time, by which the machine's other work counts least; less that of a run of
-# next to no work, which is spent on reading the file. The words are a kind, the rounds of ours and those of C.
+# one round, which is spent on reading the file. The words are a kind, the rounds of both with intervals and those of
+# doubles.
 measure() {
-    rm -f "$work"/ours.* "$work"/peer.[0-9]*
+    rm -f "$work"/ours.* "$work"/nodes.[0-9o]* "$work"/doubles.[0-9o]*
     for turn in 1 2 3 4 5; do
-        run ours 0 "$ours" search "$1"
-        run peer 0 "$work/peer" "$1"
+        run ours 1 "$ours" search "$1"
+        run nodes 1 "$work/nodes" "$1"
+        run doubles 1 "$work/doubles" "$1"
         run ours "$2" "$ours" search "$1"
-        run peer "$3" "$work/peer" "$1"
+        run nodes "$2" "$work/nodes" "$1"
+        run doubles "$3" "$work/doubles" "$1"
     done
+    sum=$(awk '{ print $8 }' "$work/ours.out")
+    [ "$sum" = "$(awk '{ print $10 }' "$work/nodes.out")" ] || { echo "$1: the checksums differ" >&2; exit 1; }
     leaves=$(awk '{ print $4 }' "$work/ours.out")
     events=$(awk '{ print $6 }' "$work/ours.out")
-    changes=$(awk '{ print $4 }' "$work/peer.out")
-    values=$(awk '{ print $6 }' "$work/peer.out")
-    awk -v a="$(least "ours.$2")" -v a0="$(least ours.0)" -v b="$(least "peer.$3")" -v b0="$(least peer.0)" \
-        -v n="$2" -v m="$3" -v leaves="$leaves" -v events="$events" -v changes="$changes" -v values="$values" \
-        -v name="$1" 'BEGIN {
+    changes=$(awk '{ print $4 }' "$work/doubles.out")
+    values=$(awk '{ print $6 }' "$work/doubles.out")
+    awk -v a="$(least "ours.$2")" -v a1="$(least ours.1)" -v b="$(least "nodes.$2")" -v b1="$(least nodes.1)" \
+        -v c="$(least "doubles.$3")" -v c1="$(least doubles.1)" -v n="$2" -v m="$3" -v leaves="$leaves" \
+        -v events="$events" -v changes="$changes" -v values="$values" -v name="$1" 'BEGIN {
         nodes = 2 * leaves - 1
-        ours = (a - a0) / n
-        peer = (b - b0) / m
-        printf "%s: ours %d events, %d nodes, %.1f ms, %d nodes a second; ", name, events, nodes, ours * 1e3, nodes / ours
-        printf "C %d changes, %d values, %.3f ms, %d values a second; ratio of times %.0f\n", \
-            changes, values, peer * 1e3, values / peer, ours / peer
+        ours = (a - a1) / (n - 1)
+        same = (b - b1) / (n - 1)
+        doubles = (c - c1) / (m - 1)
+        printf "%s: ours %d events, %d nodes, %.2f ms, %.2f us a node; ", name, events, nodes, ours * 1e3, ours * 1e6 / nodes
+        printf "the same in C %.2f us a node, ratio %.2f; ", same * 1e6 / nodes, ours / same
+        printf "doubles %d changes, %d values, %.3f ms, ratio of times %.1f\n", changes, values, doubles * 1e3, ours / doubles
     }'
 }
 
-measure conj 10 3000
-measure station 10 3000
-measure sep 10 3000
-measure any 5 200
-measure apsis 10 2000
+measure coord 1000 5000
+measure radius 200 2000
+measure apsis 100 2000
+measure conj 500 5000
+measure station 200 2000
+measure sep 80 2000
+measure sepext 80 2000
+measure any 150 200
+measure full 150 200
+measure annular 200 200

@@ -39,8 +39,8 @@ pub(crate) fn planets(ephemeris: &Ephemeris) -> Option<BodyStates<'_>>
     }
 }
 
-// Whether the times lie in the ephemeris, with no border of a column in use between them.
-fn fits(ephemeris: &Ephemeris, states: &BodyStates<'_>, from: i64, to: i64) -> bool
+/// Whether the times lie in the ephemeris, with no border of a column in use between them.
+pub(crate) fn fits(ephemeris: &Ephemeris, states: &BodyStates<'_>, from: i64, to: i64) -> bool
     requires view { IsView states.now }
     requires of { states.now.ephemeris ≡ ephemeris.now }
     ensures { IsTrue result → Fits states.now from to }
@@ -103,7 +103,8 @@ pub(crate) fn over(formula: &Formula, states: &BodyStates<'_>, span: Span) -> En
     enclose(formula, &snapshot, span.from, span.to)
 }
 
-fn fold_parts(sum: u64, enclosure: &Enclosure) -> u64 {
+/// The three intervals of an enclosure, folded into a checksum.
+pub(crate) fn fold_parts(sum: u64, enclosure: &Enclosure) -> u64 {
     let sum = fold(sum, &enclosure.mid);
     let sum = fold(sum, &enclosure.range);
     fold(sum, &enclosure.step)

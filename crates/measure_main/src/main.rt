@@ -4,6 +4,7 @@
 #![tactic(auto)]
 
 mod bases;
+mod checksums;
 mod enclosures;
 mod functions;
 mod positions;

@@ -29,13 +29,20 @@ fn interval(i: u32) -> Ival
     Ival::from_decimal(mant, -6, -24)
 }
 
+/// A number, mixed into a checksum.
+pub(crate) fn mixed(sum: u64, value: u64) -> u64 {
+    sum.wrapping_mul(MULTIPLIER).wrapping_add(value)
+}
+
 /// The ends and the exponent of an interval, folded into a checksum.
 pub(crate) fn fold(sum: u64, x: &Ival) -> u64 {
     let (lo, hi, s) = x.parts();
     let signs = u64::from(lo < 0) ^ u64::from(hi < 0).rotate_left(1);
     let ends = size(lo) ^ size(hi).rotate_left(32);
-    let value = ends ^ signs.rotate_left(62) ^ u64::from(s.unsigned_abs());
-    sum.wrapping_mul(MULTIPLIER).wrapping_add(value)
+    mixed(
+        sum,
+        ends ^ signs.rotate_left(62) ^ u64::from(s.unsigned_abs()),
+    )
 }
 
 // The size of an end, which is at most 2^62.

@@ -1,11 +1,13 @@
 // Searches of an ephemeris for the events of some kinds, one second narrow.
 ghost use Rattle.std.specs.Prelude.{◌≡◌, ◌<◌, ◌<ℤ◌, None};
 ghost use Rattle.spec_ephemeris.specs.Ephemeris.{end_of};
+ghost use Rattle.spec_bodies.specs.Views.{IsView};
 ghost use Rattle.spec_trees.specs.Cuts.{CanCut, cut_of};
 ghost use Rattle.spec_trees.specs.declared.cuts.CutRule.TheVariants.{Half};
 ghost use Rattle.spec_kinds.specs.Asks.{IsAsk};
 ghost use Rattle.spec_kinds.specs.Faults.{fault_of};
 
+use crate::checksums::checksum;
 use body_states::BodyStates;
 use eph_model::{Body, Ephemeris};
 use event_judge::EventJudge;
@@ -17,14 +19,6 @@ use spec_events::Dir;
 use spec_kinds::{Ask, Kind};
 use spec_text::Decimal;
 use std::alloc::Global;
-
-/// What a search found: how many leaves its tree has, and how many of them hold an event. Each node is judged once, so
-/// that 2 times the leaves less 1 are judged.
-#[derive(Clone, Copy)]
-pub(crate) struct Tally {
-    pub leaves: usize,
-    pub events: usize,
-}
 
 const ZERO: Decimal = Decimal { mant: 0, exp: 0 };
 
@@ -43,24 +37,62 @@ fn seen_from_earth(kind: Kind, target: Body, second: Option<Body>, values: [Deci
     }
 }
 
-/// The ask of a name: a conjunction of Mercury and Venus, a station of Mercury, an angle of Mercury and Venus whose
-/// cosine is 0.998, an apsis of the Moon, or that the Moon, enlarged by the Earth's radius, touches the Sun.
+// The events of a kind of a body alone.
+fn of_one(kind: Kind, target: Body, value: Decimal) -> Ask {
+    seen_from_earth(kind, target, None, [value, ZERO])
+}
+
+// The events of a kind of Mercury and Venus.
+fn of_planets(kind: Kind, value: Decimal) -> Ask {
+    seen_from_earth(kind, Body::Mercury, Some(Body::Venus), [value, ZERO])
+}
+
+// The occultations of a kind of the Sun, of 696,000 km, by a sphere in the place of the Moon.
+fn of_sun(kind: Kind, radius: Decimal) -> Ask {
+    let sun = Decimal { mant: 696, exp: 3 };
+    seen_from_earth(kind, Body::Moon, Some(Body::Sun), [radius, sun])
+}
+
+/// The ask of a kind by its name: Mercury in the plane in which x is 0, its stations, its conjunctions with Venus, their
+/// angle of which the cosine is 0.998 and their least and greatest angles; the Moon at 384,400 km and its apsides; that
+/// the Moon, enlarged by the Earth's radius, touches the Sun or covers it, and that the Moon lies in the Sun's disc.
 pub(crate) fn ask_of(name: &str) -> Option<Ask> {
-    let venus = Some(Body::Venus);
     let cosine = Decimal { mant: 998, exp: -3 };
+    let distance = Decimal { mant: 3844, exp: 2 };
     let moon = Decimal {
+        mant: 17_374,
+        exp: -1,
+    };
+    let enlarged = Decimal {
         mant: 81_155,
         exp: -1,
     };
-    let sun = Decimal { mant: 696, exp: 3 };
     match name {
-        "conj" => Some(seen_from_earth(Kind::Conj, Body::Mercury, venus, [ZERO, ZERO])),
-        "station" => Some(seen_from_earth(Kind::Station, Body::Mercury, None, [ZERO, ZERO])),
-        "sep" => Some(seen_from_earth(Kind::Sep, Body::Mercury, venus, [cosine, ZERO])),
-        "any" => Some(seen_from_earth(Kind::Any, Body::Moon, Some(Body::Sun), [moon, sun])),
-        "apsis" => Some(seen_from_earth(Kind::Apsis, Body::Moon, None, [ZERO, ZERO])),
+        "coord" => Some(of_one(Kind::Coord, Body::Mercury, ZERO)),
+        "radius" => Some(of_one(Kind::Radius, Body::Moon, distance)),
+        "apsis" => Some(of_one(Kind::Apsis, Body::Moon, ZERO)),
+        "conj" => Some(of_planets(Kind::Conj, ZERO)),
+        "station" => Some(of_one(Kind::Station, Body::Mercury, ZERO)),
+        "sep" => Some(of_planets(Kind::Sep, cosine)),
+        "sepext" => Some(of_planets(Kind::SepExt, ZERO)),
+        "any" => Some(of_sun(Kind::Any, enlarged)),
+        "full" => Some(of_sun(Kind::Full, enlarged)),
+        "annular" => Some(of_sun(Kind::Annular, moon)),
         _ => None,
     }
+}
+
+/// The states of the bodies of an ask that has no fault in it.
+pub(crate) fn states_of<'e>(ephemeris: &'e Ephemeris, ask: &Ask) -> BodyStates<'e>
+    requires block { 0 < ephemeris.now.blocks }
+    requires sound { fault_of ephemeris.now ask.now ≡ None }
+    ensures view { IsView result }
+    ensures of { result.ephemeris ≡ ephemeris.now }
+{
+    let second = ask.second.unwrap_or(ask.target);
+    let states = BodyStates::new(ephemeris, [ask.target, second], ask.observer, ask.frame);
+    let _columns = states.columns();
+    states
 }
 
 // The leaves of the whole span of an ephemeris, for an ask that has no fault in it.
@@ -70,8 +102,7 @@ fn leaves(alloc: Global, ephemeris: &Ephemeris, ask: &Ask, event: Event) -> Opti
     requires ask { IsAsk ask.now }
     requires sound { fault_of ephemeris.now ask.now ≡ None }
 {
-    let second = ask.second.unwrap_or(ask.target);
-    let states = BodyStates::new(ephemeris, [ask.target, second], ask.observer, ask.frame);
+    let states = states_of(ephemeris, ask);
     let Ok(halves) = Box::new(
         alloc,
         |a: i64, b: i64| -> i64
@@ -91,23 +122,36 @@ fn leaves(alloc: Global, ephemeris: &Ephemeris, ask: &Ask, event: Event) -> Opti
     run_one(alloc, &judge, root, u32::MAX).ok()
 }
 
-fn tally_of(leaves: &[Leaf]) -> Tally {
-    Tally {
-        leaves: leaves.len(),
-        events: leaves
-            .iter()
-            .filter(|leaf| matches!(leaf.mark, Mark::One(_)))
-            .count(),
-    }
+/// How many leaves hold an event.
+pub(crate) fn events_of(leaves: &[Leaf]) -> usize {
+    leaves
+        .iter()
+        .filter(|leaf| matches!(leaf.mark, Mark::One(_)))
+        .count()
 }
 
-/// What the search for an ask finds in an ephemeris; none where it can't be made, or where memory runs out.
-pub(crate) fn search(alloc: Global, ephemeris: &Ephemeris, ask: &Ask) -> Option<Tally> {
+/// The leaves of the search for an ask in an ephemeris; none where it can't be made, or where memory runs out. Each node
+/// is judged once, so that 2 times the leaves less 1 are judged.
+pub(crate) fn search(alloc: Global, ephemeris: &Ephemeris, ask: &Ask) -> Option<Vec<Leaf>> {
     if ephemeris.blocks() == 0 || ephemeris.end() <= ephemeris.start() || !is_ask(ask) {
         return None;
     }
-    match event(alloc, ephemeris, ask) {
-        Ok(event) => Some(tally_of(&leaves(alloc, ephemeris, ask, event)?)),
-        Err(_) => None,
+    let event = event(alloc, ephemeris, ask).ok()?;
+    leaves(alloc, ephemeris, ask, event)
+}
+
+/// The checksum of leaves, and of what is known of the function and the guards of an ask over them; none where there are
+/// none.
+pub(crate) fn checksum_of(
+    alloc: Global,
+    ephemeris: &Ephemeris,
+    ask: &Ask,
+    leaves: &[Leaf],
+) -> Option<u64> {
+    if ephemeris.blocks() == 0 || !is_ask(ask) {
+        return None;
     }
+    let event = event(alloc, ephemeris, ask).ok()?;
+    let states = states_of(ephemeris, ask);
+    Some(checksum(leaves, ephemeris, &states, &event))
 }

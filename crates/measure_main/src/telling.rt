@@ -5,7 +5,7 @@ ghost use Rattle.spec_bodies.specs.Views.{Fits, IsView};
 use crate::enclosures::{Span, enclosures, hours, over, planets};
 use crate::functions::{Function, formula_of};
 use crate::reading::ephemeris_of;
-use crate::searches::search;
+use crate::searches::{checksum_of, events_of, search};
 use body_states::BodyStates;
 use event_expr::Formula;
 use spec_kinds::Ask;
@@ -78,15 +78,18 @@ pub(crate) fn tell_searches(
     let Some(ephemeris) = ephemeris_of(rt, file)? else {
         return Ok(false);
     };
-    let mut leaves = 0;
-    let mut events = 0;
+    let mut leaves = Vec::new(rt.alloc());
     for _ in 0..rounds {
-        let Some(tally) = search(rt.alloc(), &ephemeris, ask) else {
+        let Some(found) = search(rt.alloc(), &ephemeris, ask) else {
             return Ok(false);
         };
-        leaves = tally.leaves;
-        events = tally.events;
+        leaves = found;
     }
-    println!(rt; "search {rounds} leaves {leaves} events {events}")?;
+    let Some(sum) = checksum_of(rt.alloc(), &ephemeris, ask, &leaves) else {
+        return Ok(false);
+    };
+    let count = leaves.len();
+    let events = events_of(&leaves);
+    println!(rt; "search {rounds} leaves {count} events {events} checksum {sum}")?;
     Ok(true)
 }

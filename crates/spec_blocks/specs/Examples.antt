@@ -1,5 +1,5 @@
 -- Blocks of five numbers and one day, and what becomes of them where a line is changed.
-use Rattle.std.specs.Prelude.{ℕ, suc, List, [], ◌∷◌, ◌++◌, codes, replicate, take, Result, Ok, Err, ℤ, pos, negsuc}
+use Rattle.std.specs.Prelude.{ℕ, suc, List, [], ◌∷◌, ◌++◌, codes, replicate, take, Result, Ok, Err, pos, negsuc}
 use Rattle.spec_text.specs.Examples.{decimal}
 use Rattle.spec_text.specs.Lines.{tokens}
 use Rattle.spec_text.specs.declared.decimals.Decimal.{Decimal}

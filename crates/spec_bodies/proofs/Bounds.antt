@@ -1,5 +1,5 @@
 -- The exponents of the enclosure of a coordinate, by its formula.
-use Rattle.std.proofs.Common.{ℕ, zero, suc, ◌+◌, ◌≤◌, max, arith, subst, sym, ℤ}
+use Rattle.std.proofs.Common.{ℕ, zero, suc, ◌+◌, max, arith, subst, sym, ℤ}
 use Rattle.std.proofs.lemmas.Int.{ints}
 use Rattle.spec_intervals.specs.Interval.{Interval, product}
 use Rattle.spec_intervals.specs.Fraction.{Fraction}

@@ -1,6 +1,6 @@
 -- A quantity of a series over a span: it is a number at each time, its intervals hold it and its changes, and their
 -- exponents are small.
-use Rattle.std.proofs.Common.{◌*◌, ◌^◌, arith, ℤ, pos, ◌+ℤ◌, ◌<ℤ◌, ◌≤ℤ◌}
+use Rattle.std.proofs.Common.{◌^◌, arith, ℤ, pos, ◌+ℤ◌, ◌<ℤ◌, ◌≤ℤ◌}
 use Rattle.std.proofs.lemmas.Int.{ints}
 use Rattle.spec_numbers.proofs.Naturals.{positive_multiple}
 use Rattle.spec_intervals.specs.Fraction.{IsFraction, Holds, fraction_sub}

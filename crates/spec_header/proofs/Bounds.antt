@@ -1,6 +1,6 @@
 -- The numbers of an accepted header are within bounds.
-use Rattle.std.proofs.Common.{◌≡◌, ℕ, ◌*◌, ◌≤◌, Bool, true, false, List, Option, None, Some, Result, Ok, Err, inl, inr, arith, ne_eqb, if◌then◌else◌, pos}
-use Rattle.std.specs.Prelude.{int_lt, slice_get}
+use Rattle.std.proofs.Common.{◌≡◌, ℕ, ◌*◌, ◌≤◌, Bool, true, false, List, Option, None, Some, Result, Ok, Err, inl, inr, arith, ne_eqb, if◌then◌else◌}
+use Rattle.std.specs.Prelude.{slice_get}
 use Rattle.std.proofs.lemmas.Bool.{cases_Bool, cases_eq, cases_lt, lt-ltb, le-ltb}
 use Rattle.spec_text.specs.declared.limits.TheConstants.{DAY_SECONDS}
 use Rattle.spec_text.specs.Reading.{reading, whole_at}

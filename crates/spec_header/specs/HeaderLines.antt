@@ -1,6 +1,6 @@
 -- The header of a list of lines.
-use Rattle.std.specs.Prelude.{ℕ, ◌+◌, pos, List, [], ◌∷◌, length, map, slice_get, Result, Ok, Err, Option, None, Some, codes, if◌then◌else◌}
-use Rattle.spec_text.specs.Lines.{Numbered, is_too_long, lines, text_lines, tokens}
+use Rattle.std.specs.Prelude.{ℕ, ◌+◌, pos, List, length, map, slice_get, Result, Ok, Err, Option, None, Some, codes}
+use Rattle.spec_text.specs.Lines.{Numbered, lines, text_lines}
 use Rattle.spec_text.specs.declared.decimals.Decimal.{Decimal}
 use Rattle.spec_text.specs.declared.decimals.Fault.{Fault}
 use Rattle.spec_ephemeris.specs.declared.header.Column.{Column}

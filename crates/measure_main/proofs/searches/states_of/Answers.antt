@@ -3,7 +3,7 @@ use Rattle.std.specs.Prelude.{All}
 use Rattle.spec_ephemeris.specs.declared.body.Body.{Body}
 use Rattle.spec_bodies.specs.Views.{HasBody}
 use Rattle.spec_kinds.proofs.Served.{apart, present}
-use Rattle.measure_main.proofs.searches.leaves.Goals as goal
+use Rattle.measure_main.proofs.searches.states_of.Goals as goal
 
 pub new-states-requires-clause-present : goal.new-states-requires-clause-present
 new-states-requires-clause-present c =

@@ -1,11 +1,14 @@
 -- Nodes that are dealt to workers, from left to right, each with its verdict.
-use Rattle.std.specs.Prelude.{◌≡◌, ◌≢◌, ◌⊎◌, ℕ, ◌<◌, ◌≤◌, ◌++◌, List, length, All, slice_index_or}
+use Rattle.std.specs.Prelude.{◌≡◌, ◌≢◌, ◌⊎◌, ℕ, ◌<◌, ◌≤◌, ◌++◌, List, length, All, slice_index_or, Result, Err, IfOk, Vec}
 use Rattle.std.specs.List.{flat_map}
+use Rattle.std.specs.declared.alloc.Global.{Global}
 use Rattle.spec_trees.specs.declared.tree.Leaf.{Leaf}
 use Rattle.spec_trees.specs.declared.tree.Node.{Node}
 use Rattle.spec_trees.specs.declared.tree.Verdict.{Verdict}
 use Rattle.spec_trees.specs.declared.tree.Verdict.TheVariants as V
 use Rattle.spec_trees.specs.Tree.{Rules, IsValid, leaves, width}
+use Rattle.halving.specs.declared.run.RunError.{RunError}
+use Rattle.halving.specs.declared.run.RunError.TheVariants.{TooMany}
 use Rattle.halving.specs.declared.shares.Share.{Share}
 
 -- a valid node with its verdict
@@ -46,3 +49,9 @@ pub record AreEnough (workers : ℕ) (shares : List Share) : Type 0 where
   pub some : 0 < length shares
   pub most : length shares ≤ workers
   pub all_cut : length shares < workers → NoneIsSplit shares
+
+-- what a walk gives whose leaves are these: they, where they are within the limit; there are more where it says so
+pub record IsWalk (ls : List Leaf) (limit : ℕ) (result : Result (Vec Leaf Global) RunError) : Type 0 where
+  pub leaves : IfOk result (λ found. found.items ≡ ls)
+  pub few : IfOk result (λ found. length found.items ≤ limit)
+  pub too_many : result ≡ Err TooMany → limit < length ls

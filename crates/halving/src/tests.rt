@@ -1,7 +1,7 @@
 // Whole walks of trees that are as deep as their root is wide.
-ghost use Rattle.std.specs.Prelude.{◌≡◌, ◌<◌};
+ghost use Rattle.std.specs.Prelude.{◌≡◌, ◌<◌, ◌≤◌};
 ghost use Rattle.spec_trees.specs.CutExamples.{parts_at};
-ghost use Rattle.halving.specs.TestJudges.{comb, comb_is_sound, seconds};
+ghost use Rattle.halving.specs.TestJudges.{comb, comb_is_sound, seconds, thirds, thirds_are_sound};
 
 use super::*;
 use std::test::*;
@@ -47,6 +47,28 @@ impl Judge for Comb {
     ghost sound = { λ _. comb_is_sound };
 }
 
+// Cuts what is wider than two seconds at its first third.
+struct Thirds;
+
+impl Judge for Thirds {
+    ghost rules = { λ _. thirds };
+
+    fn judge(&self, node: Node) -> Verdict {
+        if node.b - node.a > 2 && node.depth < 100 {
+            Verdict::Split
+        } else {
+            Verdict::Clear
+        }
+    }
+
+    fn cut(&self, node: Node) -> (Node, Node) {
+        let width = node.b - node.a;
+        parts_at(node.a + (width / 3).max(1), node)
+    }
+
+    ghost sound = { λ _. thirds_are_sound };
+}
+
 // A root of so many seconds.
 fn seconds(count: i64) -> Node
     ensures { result ≡ seconds count }
@@ -82,4 +104,35 @@ fn a_deep_tree(rt: HostRuntime) -> Result<(), Fail> {
     assert_eq!(rt; leaves.first().map(|leaf| leaf.node.depth), Some(19_999));
     assert_eq!(rt; leaves.last().map(|leaf| leaf.node.depth), Some(1));
     Ok(())
+}
+
+// Whether so many workers give the five leaves of eight seconds, and no more than a limit of four.
+fn five_leaves_by(rt: &HostRuntime, workers: u32) -> Result<(), Fail>
+    requires { (1 ≤ workers) × (workers ≤ 64) }
+{
+    assert_eq!(rt;
+        run_shares(rt, rt.alloc(), &Thirds, seconds(8), workers, 4),
+        Err(RunError::TooMany)
+    );
+    let Ok(leaves) = run_shares(rt, rt.alloc(), &Thirds, seconds(8), workers, 5) else {
+        assert!(rt; false);
+        return Ok(());
+    };
+    let mut ends = Vec::new(rt.alloc());
+    for leaf in leaves.iter() {
+        ends.push((leaf.node.b, leaf.node.depth))?;
+    }
+    assert_eq!(rt;
+        ends.as_slice(),
+        [(2, 1), (4, 2), (5, 3), (6, 4), (8, 4)].as_slice()
+    );
+    Ok(())
+}
+
+#[test]
+fn five_leaves_by_any_number_of_workers(rt: HostRuntime) -> Result<(), Fail> {
+    five_leaves_by(&rt, 1)?;
+    five_leaves_by(&rt, 2)?;
+    five_leaves_by(&rt, 3)?;
+    five_leaves_by(&rt, 64)
 }

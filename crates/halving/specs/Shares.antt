@@ -1,5 +1,5 @@
 -- Nodes that are dealt to workers, from left to right, each with its verdict.
-use Rattle.std.specs.Prelude.{◌≡◌, ◌≢◌, ◌⊎◌, ℕ, ◌<◌, ◌≤◌, ◌++◌, List, length, All, slice_index_or, Result, Err, IfOk, Vec}
+use Rattle.std.specs.Prelude.{◌≡◌, ℕ, ◌<◌, ◌≤◌, List, length, All, slice_index_or, Result, Err, IfOk, Vec}
 use Rattle.std.specs.List.{flat_map}
 use Rattle.std.specs.declared.alloc.Global.{Global}
 use Rattle.spec_trees.specs.declared.tree.Leaf.{Leaf}

@@ -1,5 +1,5 @@
 // The leaves of a root, by workers that walk shares of its tree.
-ghost use Rattle.std.specs.Prelude.{◌≡◌, ◌+◌, ◌<◌, ◌≤◌, [], ◌∷◌, ◌++◌, length, take, drop, All, List, Err, IfOk, IfErr, IfSome, IfNone, OnOk, slice_index_or};
+ghost use Rattle.std.specs.Prelude.{◌≡◌, ◌+◌, ◌<◌, ◌≤◌, ◌++◌, length, List, Err, IfOk, IfErr, IfSome, IfNone, OnOk, slice_index_or};
 ghost use Rattle.std.specs.List.{insert};
 ghost use Rattle.std.specs.Thread.{IsSync};
 ghost use Rattle.spec_trees.specs.Tree.{Covers, IsValid, leaf_count, leaves};
@@ -78,7 +78,8 @@ fn cut_share<J: Judge>(judge: &J, shares: &mut Vec<Share>, place: usize) -> Resu
     requires judged { AreJudged (J.rules judge.now) shares.old.items }
     requires widest { IsWidest shares.old.items place }
     ensures judged { OnOk result (AreJudged (J.rules judge.now) shares.new.items) }
-    ensures leaves { OnOk result (leaves_of (J.rules judge.now) shares.new.items ≡ leaves_of (J.rules judge.now) shares.old.items) }
+    ensures leaves { OnOk result (leaves_of (J.rules judge.now) shares.new.items
+        ≡ leaves_of (J.rules judge.now) shares.old.items) }
     ensures length { OnOk result (length shares.new.items ≡ length shares.old.items + 1) }
     ensures err { IfErr result (λ e. e ≡ Memory) }
 {
@@ -99,7 +100,8 @@ fn deal<J: Judge>(
     requires workers { 1 ≤ workers }
     requires valid { IsValid (J.rules judge.now) root }
     ensures judged { IfOk result (λ shares. AreJudged (J.rules judge.now) shares.items) }
-    ensures leaves { IfOk result (λ shares. leaves_of (J.rules judge.now) shares.items ≡ leaves (J.rules judge.now) root) }
+    ensures leaves { IfOk result (λ shares. leaves_of (J.rules judge.now) shares.items
+        ≡ leaves (J.rules judge.now) root) }
     ensures enough { IfOk result (λ shares. AreEnough workers shares.items) }
     ensures err { IfErr result (λ e. e ≡ Memory) }
 {
@@ -120,7 +122,8 @@ fn put_together(
     right: Result<Vec<Leaf>, RunError>,
     limit: u32,
 ) -> Result<Vec<Leaf>, RunError>
-    ensures { (xs ys : List Leaf) → IsWalk xs limit left → IsWalk ys limit right → IsWalk (xs ++ ys) limit result }
+    ensures { (xs ys : List Leaf) → IsWalk xs limit left → IsWalk ys limit right
+        → IsWalk (xs ++ ys) limit result }
 {
     let mut found = match left {
         Ok(found) => found,

@@ -1,9 +1,11 @@
 // Whole walks of trees that are as deep as their root is wide.
-ghost use Rattle.std.specs.Prelude.{◌≡◌, ◌<◌, ◌≤◌};
+ghost use Rattle.std.specs.Prelude.{◌≡◌, ◌<◌};
 ghost use Rattle.spec_trees.specs.CutExamples.{parts_at};
 ghost use Rattle.halving.specs.TestJudges.{comb, comb_is_sound, seconds, thirds, thirds_are_sound};
 
 use super::*;
+use crate::run::append;
+use std::alloc::Global;
 use std::test::*;
 
 // The parts of a node that is cut at a time, one deeper.
@@ -106,33 +108,61 @@ fn a_deep_tree(rt: HostRuntime) -> Result<(), Fail> {
     Ok(())
 }
 
-// Whether so many workers give the five leaves of eight seconds, and no more than a limit of four.
-fn five_leaves_by(rt: &HostRuntime, workers: u32) -> Result<(), Fail>
-    requires { (1 ≤ workers) × (workers ≤ 64) }
-{
-    assert_eq!(rt;
-        run_shares(rt, rt.alloc(), &Thirds, seconds(8), workers, 4),
-        Err(RunError::TooMany)
-    );
-    let Ok(leaves) = run_shares(rt, rt.alloc(), &Thirds, seconds(8), workers, 5) else {
-        assert!(rt; false);
-        return Ok(());
-    };
-    let mut ends = Vec::new(rt.alloc());
-    for leaf in leaves.iter() {
-        ends.push((leaf.node.b, leaf.node.depth))?;
+// Eight seconds, cut at their first third until no leaf is wider than two.
+fn five_leaves(alloc: Global) -> Result<Vec<Leaf>, RunError> {
+    let mut leaves = Vec::new(alloc);
+    for (a, b, depth) in [(0, 2, 1), (2, 4, 2), (4, 5, 3), (5, 6, 4), (6, 8, 4)] {
+        append(
+            &mut leaves,
+            Leaf {
+                node: Node { a, b, depth },
+                mark: Mark::Clear,
+            },
+        )?;
     }
-    assert_eq!(rt;
-        ends.as_slice(),
-        [(2, 1), (4, 2), (5, 3), (6, 4), (8, 4)].as_slice()
-    );
-    Ok(())
+    Ok(leaves)
 }
 
 #[test]
-fn five_leaves_by_any_number_of_workers(rt: HostRuntime) -> Result<(), Fail> {
-    five_leaves_by(&rt, 1)?;
-    five_leaves_by(&rt, 2)?;
-    five_leaves_by(&rt, 3)?;
-    five_leaves_by(&rt, 64)
+fn five_leaves_by_any_number_of_workers(rt: HostRuntime) {
+    let alloc = rt.alloc();
+    let root = seconds(8);
+    assert_eq!(rt;
+        run_shares(&rt, alloc, &Thirds, root, 1, 5),
+        five_leaves(alloc)
+    );
+    assert_eq!(rt;
+        run_shares(&rt, alloc, &Thirds, root, 2, 5),
+        five_leaves(alloc)
+    );
+    assert_eq!(rt;
+        run_shares(&rt, alloc, &Thirds, root, 3, 5),
+        five_leaves(alloc)
+    );
+    assert_eq!(rt;
+        run_shares(&rt, alloc, &Thirds, root, 64, 5),
+        five_leaves(alloc)
+    );
+}
+
+#[test]
+fn a_limit_is_kept_by_any_number_of_workers(rt: HostRuntime) {
+    let alloc = rt.alloc();
+    let root = seconds(8);
+    assert_eq!(rt;
+        run_shares(&rt, alloc, &Thirds, root, 1, 4),
+        Err(RunError::TooMany)
+    );
+    assert_eq!(rt;
+        run_shares(&rt, alloc, &Thirds, root, 2, 4),
+        Err(RunError::TooMany)
+    );
+    assert_eq!(rt;
+        run_shares(&rt, alloc, &Thirds, root, 3, 4),
+        Err(RunError::TooMany)
+    );
+    assert_eq!(rt;
+        run_shares(&rt, alloc, &Thirds, root, 64, 4),
+        Err(RunError::TooMany)
+    );
 }

@@ -1,1 +1,2 @@
+mod Dealing
 mod Stacks

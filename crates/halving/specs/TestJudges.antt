@@ -1,9 +1,11 @@
 -- The rules of the tests' judge, which are sound.
-use Rattle.std.proofs.Common.{◌≡◌, ◌<◌, Bool, ◌&&◌, ℤ, pos, ◌-ℤ◌, ◌<ℤ◌, refl, arith, nat_lt, int_lt, if◌then◌else◌}
+use Rattle.std.proofs.Common.{◌≡◌, ◌<◌, Bool, ◌&&◌, ℤ, pos, ◌-ℤ◌, ◌<ℤ◌, int_div, refl, arith, nat_lt, int_lt, if◌then◌else◌}
 use Rattle.std.proofs.lemmas.Int.{ints}
+use Rattle.std.specs.Int.{int_max}
 use Rattle.spec_trees.specs.declared.tree.Node.{Node}
 use Rattle.spec_trees.specs.declared.tree.Verdict.TheVariants.{Clear, Split}
-use Rattle.spec_trees.specs.CutExamples.{parts_at}
+use Rattle.spec_trees.specs.declared.cuts.CutRule.TheVariants.{Third}
+use Rattle.spec_trees.specs.CutExamples.{pairs, parts_at}
 use Rattle.spec_trees.specs.Tree.{Rules, IsCut, IsSound, IsValid}
 
 -- a comb: each node wider than one second loses its last second, and the tree is as deep as the root is wide
@@ -35,3 +37,26 @@ comb_cut n v e = let w = comb_wide n e in record {
 
 pub comb_is_sound : IsSound comb
 comb_is_sound = record { low = omega (arith, ints); high = omega (arith, ints); cut = comb_cut }
+
+-- each node wider than two seconds is cut at its first third
+abbrev pub thirds : Rules
+thirds = pairs Third
+
+thirds_wide : (n : Node) → thirds.verdict n ≡ Split → (pos 2 <ℤ (n.b -ℤ n.a)) × (n.depth < 100)
+thirds_wide n e = grind (arith, ints)
+
+third_inside : (w : ℤ) → pos 2 <ℤ w → (pos 0 <ℤ int_max (pos 1) (int_div w (pos 3))) × (int_max (pos 1) (int_div w (pos 3)) <ℤ w)
+third_inside w h = grind (arith, ints)
+
+thirds_cut : (n : Node) → IsValid thirds n → thirds.verdict n ≡ Split → IsCut thirds n
+thirds_cut n v e =
+    let w = thirds_wide n e in
+    let t = third_inside (n.b -ℤ n.a) w.0 in
+    record {
+      cuts = record { from = refl; meet = refl; to = refl };
+      left = record { from = v.from; inside = omega (arith, ints, t.0); to = omega (arith, ints, t.1, v.to); depth = omega (arith, w.1) };
+      right = record { from = omega (arith, ints, t.0, v.from); inside = omega (arith, ints, t.1); to = v.to; depth = omega (arith, w.1) };
+    }
+
+pub thirds_are_sound : IsSound thirds
+thirds_are_sound = record { low = omega (arith, ints); high = omega (arith, ints); cut = thirds_cut }

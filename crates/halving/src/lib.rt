@@ -7,9 +7,11 @@
 
 mod judge;
 mod run;
+mod shares;
 
 pub use judge::{Judge, rules_are_sound};
 pub use run::{RunError, run_one};
+pub use shares::run_shares;
 pub use spec_trees::{Leaf, Mark, Node, Turn, Verdict};
 
 #[cfg(test)]

@@ -15,7 +15,7 @@ pub enum RunError {
 }
 
 // One item more, at the end.
-fn append<T: Drop>(list: &mut Vec<T>, item: T) -> Result<(), RunError>
+pub(crate) fn append<T: Drop>(list: &mut Vec<T>, item: T) -> Result<(), RunError>
     ensures ok { OnOk result (list.new.items ≡ list.old.items ++ item ∷ []) }
     ensures err { IfErr result (λ e. e ≡ Memory) }
 {

@@ -9,8 +9,8 @@ ghost use borrow.Author.Differences.{up, down};
 use crate::decimals::decimal_ends;
 use crate::divider::Divider;
 use crate::ends::{
-    added, ceil_shift, exponent_gap, floor_shift, greater_size, half_down, high_end, is_small, leading_shift,
-    least_shift, lifted, low_end, product_ends, small_end, square_end,
+    added, ceil_shift, exponent_gap, floor_shift, greater_size, half_down, high_end, is_small,
+    leading_shift, least_shift, lifted, low_end, product_ends, small_end, square_end,
 };
 use spec_intervals::Sign;
 use std::marker::Model;
@@ -303,7 +303,11 @@ fn decimal_at(mant: i64, exp: i16, s: i32) -> Ival
     let (lo, hi) = decimal_ends(mant, exp, s);
     let low = small_end(lo);
     let high = small_end(hi);
-    Ival { lo: low, hi: high, s }
+    Ival {
+        lo: low,
+        hi: high,
+        s,
+    }
 }
 
 #[inline(always)]

@@ -28,6 +28,14 @@ pub fn is_small(size: u128) -> bool
     size <= END_LIMIT
 }
 
+/// Whether a number is at most 2^124 in size, as products of ends are.
+#[inline(always)]
+pub fn is_moderate(z: i128) -> bool
+    ensures { IsTrue result ↔ unsigned_abs z ≤ 2 ^ 124 }
+{
+    z.unsigned_abs() <= 1 << 124
+}
+
 /// How often two ends in order of this greater size are halved until neither is past the limit.
 ///
 /// The end of the greater size is a low end below 0 or a high end above 0, so it is rounded away from 0, and the

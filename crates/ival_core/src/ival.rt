@@ -9,8 +9,8 @@ ghost use borrow.Author.Differences.{up, down};
 use crate::decimals::decimal_ends;
 use crate::divider::Divider;
 use crate::ends::{
-    added, ceil_shift, exponent_gap, floor_shift, greater_size, half_down, high_end, is_small,
-    leading_shift, least_shift, lifted, low_end, product_ends, small_end, square_end,
+    added, ceil_shift, exponent_gap, floor_shift, greater_size, half_down, high_end, is_moderate,
+    is_small, leading_shift, least_shift, lifted, low_end, product_ends, small_end, square_end,
 };
 use spec_intervals::Sign;
 use std::marker::Model;
@@ -277,7 +277,11 @@ fn narrowed_wide(lo: i128, hi: i128, s: i32) -> Ival
     requires exponent { unsigned_abs s ≤ 4 * exponent_limit }
     ensures { result ≡ narrow lo hi s }
 {
-    halved(lo, hi, s, least_shift(lo, hi))
+    if is_moderate(lo) && is_moderate(hi) {
+        narrowed(lo, hi, s)
+    } else {
+        halved(lo, hi, s, least_shift(lo, hi))
+    }
 }
 
 /// Narrows any two ends in order. Where the high end is -2^127 the low end is too, and the halves are exact.

@@ -4,7 +4,7 @@ ghost use Rattle.std.specs.Prelude.{pos};
 ghost use Rattle.spec_intervals.specs.Interval.{IsExponent};
 ghost use Rattle.spec_intervals.specs.Fraction.{Holds, fraction};
 
-use super::Ival;
+use super::{Divider, Ival};
 use std::process::Abort;
 
 /// Low end, high end, exponent.
@@ -204,7 +204,7 @@ fn decimals_are_rounded_down_and_up(rt: HostRuntime) {
 #[test]
 fn shares_of_a_second_are_those_of_the_reference(rt: HostRuntime) {
     const MOST: i128 = (1 << 126) - 1;
-    let rows: [(Numbers, i64, Numbers); 4] = [
+    let rows: [(Numbers, i64, Numbers); 8] = [
         (
             (-MOST, 0, -70),
             1099511627776,
@@ -217,6 +217,26 @@ fn shares_of_a_second_are_those_of_the_reference(rt: HostRuntime) {
             (0, 2305843009213693953, -67),
         ),
         ((-2, -1, -74), 7, (-1, 0, -74)),
+        (
+            (-1, 4611686018427387905, -74),
+            1,
+            (-1, 2305843009213693953, -72),
+        ),
+        (
+            (MOST, MOST, -74),
+            2,
+            (4611686018427387903, 4611686018427387904, -10),
+        ),
+        (
+            (4611686018427387904, MOST, -70),
+            7,
+            (0, 2635249153387078803, -7),
+        ),
+        (
+            (-MOST, 1, -70),
+            534192108381,
+            (-2373023824837388508, 1, -43),
+        ),
     ];
     for ((lo, hi, s), seconds, want) in rows {
         assert!(rt; -MOST <= lo);
@@ -227,5 +247,11 @@ fn shares_of_a_second_are_those_of_the_reference(rt: HostRuntime) {
         assert!(rt; seconds >= 1);
         let share = Ival::scale(lo, hi, s, seconds);
         assert_eq!(rt; share.parts(), want, "{lo} to {hi} over {seconds}");
+        let again = Ival::scale_by(lo, hi, s, &Divider::of(seconds));
+        assert_eq!(rt;
+            again.parts(),
+            want,
+            "{lo} to {hi} by a divider of {seconds}"
+        );
     }
 }

@@ -1,6 +1,6 @@
 // Worked values from an exact reference.
 
-ghost use Rattle.std.specs.Prelude.{pos};
+ghost use Rattle.std.specs.Prelude.{◌<◌, ◌^◌, ◌≤ℤ◌, pos, unsigned_abs};
 ghost use Rattle.spec_intervals.specs.Interval.{IsExponent};
 ghost use Rattle.spec_intervals.specs.Fraction.{Holds, fraction};
 
@@ -201,6 +201,21 @@ fn decimals_are_rounded_down_and_up(rt: HostRuntime) {
     assert_eq!(rt; cosine, (1052844544860824564, 1052844544860824565, -60));
 }
 
+/// The share over so many seconds, and the same by a divider.
+fn shares(lo: i128, hi: i128, s: i32, seconds: i64) -> (Ival, Ival)
+    requires ordered { lo ≤ℤ hi }
+    requires lo_size { unsigned_abs lo < 2 ^ 126 }
+    requires hi_size { unsigned_abs hi < 2 ^ 126 }
+    requires exponent { IsExponent s }
+    requires length { pos 1 ≤ℤ seconds }
+{
+    let divider = Divider::of(seconds);
+    (
+        Ival::scale(lo, hi, s, seconds),
+        Ival::scale_by(lo, hi, s, &divider),
+    )
+}
+
 #[test]
 fn shares_of_a_second_are_those_of_the_reference(rt: HostRuntime) {
     const MOST: i128 = (1 << 126) - 1;
@@ -245,9 +260,8 @@ fn shares_of_a_second_are_those_of_the_reference(rt: HostRuntime) {
         assert!(rt; -65536 <= s);
         assert!(rt; s <= 65536);
         assert!(rt; seconds >= 1);
-        let share = Ival::scale(lo, hi, s, seconds);
+        let (share, again) = shares(lo, hi, s, seconds);
         assert_eq!(rt; share.parts(), want, "{lo} to {hi} over {seconds}");
-        let again = Ival::scale_by(lo, hi, s, &Divider::of(seconds));
         assert_eq!(rt;
             again.parts(),
             want,

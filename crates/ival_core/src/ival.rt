@@ -47,8 +47,8 @@ impl Model for Ival {
     ghost inverse = { λ t. record { lo = t.lo; hi = t.hi; s = t.s } };
 }
 
-/// What is known of a quantity over a span of times: intervals that hold its value in the middle, all its values, and its
-/// change from any time to the next.
+/// What is known of a quantity over a span of times: intervals that hold its value in the middle, all its values, and
+/// its change from any time to the next.
 pub type Enclosure = spec_intervals::Enclosure<Ival>;
 
 impl Ival {

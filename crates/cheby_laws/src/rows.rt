@@ -1,7 +1,7 @@
 // Rows, written for as many entries as are asked, with the last two entries at hand.
 
-ghost use Rattle.std.specs.Prelude.{◌≡◌, ℕ, ◌<◌, ◌≤◌, ◌⊎◌};
-ghost use Rattle.spec_chebyshev.specs.Rows.{t_row, u_row, q_row, r_row, entry, IsArguments};
+ghost use Rattle.std.specs.Prelude.{◌≡◌, ℕ, ◌<◌, ◌≤◌};
+ghost use Rattle.spec_chebyshev.specs.Rows.{ends, t_row, u_row, q_row, r_row, entry, IsArguments};
 
 use crate::entries::{NOTHING, T_LIMIT, next_q, next_r, next_u};
 use crate::steps::{coarser, next_entry};
@@ -172,8 +172,7 @@ fn begin(n: usize, first: Ival62, second: Ival62, row: &mut Row)
 /// The interval of one number.
 #[inline(always)]
 fn exactly(z: i64) -> Ival62
-    ensures lo { result.lo ≡ z }
-    ensures hi { result.hi ≡ z }
+    ensures { result ≡ ends z z }
 {
     Ival62 { lo: z, hi: z }
 }

@@ -5,7 +5,7 @@ ghost use Rattle.std.specs.Int.{int_min, int_max};
 ghost use Rattle.spec_numbers.specs.Numbers.{floor_div, ceil_div};
 ghost use Rattle.spec_chebyshev.specs.Rows.{next, shifted, EndsWithin};
 
-use ival_core::ordered_product_ends;
+use ival_core::product_ends;
 use spec_chebyshev::Ival62;
 
 /// `2 x e + extra - before`, rounded outward and cut to `limit` in size: the next entry of a row, with `x` in units of
@@ -21,7 +21,7 @@ pub(crate) fn next_entry(x: Ival62, e: Ival62, extra: Ival62, before: Ival62, li
     requires limit_in { limit ≤ 2 ^ 60 }
     ensures { result ≡ next limit x e extra before }
 {
-    let (least, greatest) = ordered_product_ends(x.lo, x.hi, e.lo, e.hi);
+    let (least, greatest) = product_ends(x.lo, x.hi, e.lo, e.hi);
     Ival62 {
         lo: low_end(quotient_down(least), extra.lo, before.hi, limit),
         hi: high_end(quotient_up(greatest), extra.hi, before.lo, limit),

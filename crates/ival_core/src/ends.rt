@@ -115,24 +115,6 @@ pub fn product_ends(a: i128, b: i128, c: i128, d: i128) -> (i128, i128)
     (least, greatest)
 }
 
-/// The least and the greatest product of a number from `a` to `b` with one from `c` to `d`.
-#[inline(always)]
-pub fn ordered_product_ends(a: i64, b: i64, c: i64, d: i64) -> (i128, i128)
-    requires ordered { a ≤ℤ b }
-    requires other_ordered { c ≤ℤ d }
-    requires a_small { unsigned_abs a ≤ end_limit }
-    requires b_small { unsigned_abs b ≤ end_limit }
-    requires c_small { unsigned_abs c ≤ end_limit }
-    requires d_small { unsigned_abs d ≤ end_limit }
-    ensures least { result.0 ≡ least4 a b c d }
-    ensures greatest { result.1 ≡ greatest4 a b c d }
-    ensures ordered { result.0 ≤ℤ result.1 }
-    ensures least_bound { unsigned_abs result.0 ≤ 2 ^ 124 }
-    ensures greatest_bound { unsigned_abs result.1 ≤ 2 ^ 124 }
-{
-    product_ends(a as i128, b as i128, c as i128, d as i128)
-}
-
 /// `z |z|` of a small end.
 pub fn square_end(z: i128) -> i128
     requires { unsigned_abs z ≤ end_limit }

@@ -4,3 +4,4 @@ mod Settling
 mod Shortest
 mod Aligning
 mod DecimalSizes
+mod Signs

@@ -1,7 +1,7 @@
 // Steps on the ends of intervals, each on plain whole numbers.
 
 ghost use Rattle.std.specs.Prelude.{◌≡◌, ◌≤◌, ◌<◌, ◌^◌, ◌*◌, ◌≤ℤ◌, ◌+ℤ◌, ◌*ℤ◌, pos, unsigned_abs};
-ghost use Rattle.std.specs.Int.{int_gap};
+ghost use Rattle.std.specs.Int.{int_gap, int_min, int_max};
 ghost use Rattle.spec_intervals.specs.Interval.{IsExponent, exponent_limit, end_limit, lift_limit, narrow_shift, least4, greatest4, signed_sq};
 ghost use Rattle.spec_numbers.specs.Numbers.{floor_div, ceil_div};
 
@@ -98,7 +98,7 @@ fn times(a: i128, b: i128) -> i128
 }
 
 /// The least and the greatest product of `a` or `b` with `c` or `d`.
-pub fn product_ends(a: i128, b: i128, c: i128, d: i128) -> (i128, i128)
+pub fn corner_products(a: i128, b: i128, c: i128, d: i128) -> (i128, i128)
     requires a_small { unsigned_abs a ≤ end_limit }
     requires b_small { unsigned_abs b ≤ end_limit }
     requires c_small { unsigned_abs c ≤ end_limit }
@@ -124,22 +124,101 @@ pub fn square_end(z: i128) -> i128
     times(z, z.abs())
 }
 
-/// `floor(2 z / seconds)`.
-pub fn share_down(z: i128, seconds: i64) -> i128
-    requires size { unsigned_abs z < 2 ^ 126 }
-    requires length { pos 1 ≤ℤ seconds }
-    ensures equals { result ≡ floor_div (pos 2 *ℤ z) (unsigned_abs seconds) }
-    ensures bound { unsigned_abs result < 2 ^ 127 }
+/// The product of two ends, by one multiplication of 64-bit numbers.
+#[inline(always)]
+fn times62(a: i64, b: i64) -> i128
+    requires a_small { unsigned_abs a ≤ end_limit }
+    requires b_small { unsigned_abs b ≤ end_limit }
+    ensures equals { result ≡ a *ℤ b }
+    ensures bound { unsigned_abs result ≤ 2 ^ 124 }
 {
-    (2 * z).div_euclid(seconds as i128)
+    a as i128 * b as i128
 }
 
-/// `ceil(2 z / seconds)`.
-pub fn share_up(z: i128, seconds: i64) -> i128
-    requires size { unsigned_abs z < 2 ^ 126 }
-    requires length { pos 1 ≤ℤ seconds }
-    ensures equals { result ≡ ceil_div (pos 2 *ℤ z) (unsigned_abs seconds) }
-    ensures bound { unsigned_abs result < 2 ^ 127 }
+/// The lesser of `a z` and `b z`, for `a <= b`.
+#[inline(always)]
+fn lesser_product(a: i64, b: i64, z: i64) -> i128
+    requires ordered { a ≤ℤ b }
+    requires a_small { unsigned_abs a ≤ end_limit }
+    requires b_small { unsigned_abs b ≤ end_limit }
+    requires z_small { unsigned_abs z ≤ end_limit }
+    ensures { result ≡ int_min (a *ℤ z) (b *ℤ z) }
 {
-    -share_down(-z, seconds)
+    if z >= 0 { times62(a, z) } else { times62(b, z) }
+}
+
+/// The greater of `a z` and `b z`, for `a <= b`.
+#[inline(always)]
+fn greater_product(a: i64, b: i64, z: i64) -> i128
+    requires ordered { a ≤ℤ b }
+    requires a_small { unsigned_abs a ≤ end_limit }
+    requires b_small { unsigned_abs b ≤ end_limit }
+    requires z_small { unsigned_abs z ≤ end_limit }
+    ensures { result ≡ int_max (a *ℤ z) (b *ℤ z) }
+{
+    if z >= 0 { times62(b, z) } else { times62(a, z) }
+}
+
+/// The least and the greatest product, where 0 lies between `a` and `b`.
+#[inline(always)]
+fn products_across(a: i64, b: i64, c: i64, d: i64) -> (i128, i128)
+    requires below { a ≤ℤ pos 0 }
+    requires above { pos 0 ≤ℤ b }
+    requires ordered { c ≤ℤ d }
+    requires a_small { unsigned_abs a ≤ end_limit }
+    requires b_small { unsigned_abs b ≤ end_limit }
+    requires c_small { unsigned_abs c ≤ end_limit }
+    requires d_small { unsigned_abs d ≤ end_limit }
+    ensures least { result.0 ≡ least4 a b c d }
+    ensures greatest { result.1 ≡ greatest4 a b c d }
+{
+    if c >= 0 {
+        (times62(a, d), times62(b, d))
+    } else if d <= 0 {
+        (times62(b, c), times62(a, c))
+    } else {
+        let least = times62(a, d).min(times62(b, c));
+        let greatest = times62(a, c).max(times62(b, d));
+        (least, greatest)
+    }
+}
+
+/// The least and the greatest product, by signs: where one of the two intervals has a sign, its ends name the two
+/// products that these are.
+#[inline(always)]
+fn products_by_sign(a: i64, b: i64, c: i64, d: i64) -> (i128, i128)
+    requires ordered { a ≤ℤ b }
+    requires other_ordered { c ≤ℤ d }
+    requires a_small { unsigned_abs a ≤ end_limit }
+    requires b_small { unsigned_abs b ≤ end_limit }
+    requires c_small { unsigned_abs c ≤ end_limit }
+    requires d_small { unsigned_abs d ≤ end_limit }
+    ensures least { result.0 ≡ least4 a b c d }
+    ensures greatest { result.1 ≡ greatest4 a b c d }
+{
+    if a >= 0 {
+        (lesser_product(a, b, c), greater_product(a, b, d))
+    } else if b <= 0 {
+        (lesser_product(a, b, d), greater_product(a, b, c))
+    } else {
+        products_across(a, b, c, d)
+    }
+}
+
+/// The least and the greatest product of a number from `a` to `b` with one from `c` to `d`.
+#[inline(always)]
+pub fn product_ends(a: i64, b: i64, c: i64, d: i64) -> (i128, i128)
+    requires ordered { a ≤ℤ b }
+    requires other_ordered { c ≤ℤ d }
+    requires a_small { unsigned_abs a ≤ end_limit }
+    requires b_small { unsigned_abs b ≤ end_limit }
+    requires c_small { unsigned_abs c ≤ end_limit }
+    requires d_small { unsigned_abs d ≤ end_limit }
+    ensures least { result.0 ≡ least4 a b c d }
+    ensures greatest { result.1 ≡ greatest4 a b c d }
+    ensures ordered { result.0 ≤ℤ result.1 }
+    ensures least_bound { unsigned_abs result.0 ≤ 2 ^ 124 }
+    ensures greatest_bound { unsigned_abs result.1 ≤ 2 ^ 124 }
+{
+    products_by_sign(a, b, c, d)
 }

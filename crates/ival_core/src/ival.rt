@@ -7,9 +7,10 @@ ghost use Rattle.spec_intervals.specs.Signs.{sign_of};
 ghost use borrow.Author.Differences.{up, down};
 
 use crate::decimals::decimal_ends;
+use crate::divider::Divider;
 use crate::ends::{
-    added, ceil_shift, exponent_gap, floor_shift, halved_down, halved_up, least_shift, lifted,
-    product_ends, share_down, share_up, square_end,
+    added, ceil_shift, corner_products, exponent_gap, floor_shift, halved_down, halved_up,
+    least_shift, lifted, square_end,
 };
 use spec_intervals::Sign;
 use std::marker::Model;
@@ -181,6 +182,19 @@ impl Ival {
         scaled(lo, hi, s, seconds)
     }
 
+    /// `scale` by a divider that is made once for many intervals.
+    pub fn scale_by(lo: i128, hi: i128, s: i32, divider: &Divider) -> Ival
+        requires ordered { lo ≤ℤ hi }
+        requires lo_size { unsigned_abs lo < 2 ^ 126 }
+        requires hi_size { unsigned_abs hi < 2 ^ 126 }
+        requires exponent { IsExponent s }
+        ensures equals { result ≡ scale lo hi s divider.now }
+        ensures holds { (r : Fraction) → Holds (interval lo hi s) r
+            → Holds result (fraction_scale r divider.now) }
+    {
+        scaled_by(lo, hi, s, divider)
+    }
+
     /// The interval turned round 0.
     fn negated(self) -> Ival
         ensures { result ≡ negated self }
@@ -252,7 +266,7 @@ fn product_of(x: Ival, y: Ival) -> Ival
     ensures { result ≡ product x y }
 {
     let s = x.s + y.s;
-    let (lo, hi) = product_ends(x.lo, x.hi, y.lo, y.hi);
+    let (lo, hi) = corner_products(x.lo, x.hi, y.lo, y.hi);
     narrowed(lo, hi, s)
 }
 
@@ -365,7 +379,19 @@ fn scaled(lo: i128, hi: i128, s: i32, seconds: i64) -> Ival
     requires length { pos 1 ≤ℤ seconds }
     ensures { result ≡ scale lo hi s (unsigned_abs seconds) }
 {
-    narrowed(share_down(lo, seconds), share_up(hi, seconds), s)
+    let divider = Divider::of(seconds);
+    scaled_by(lo, hi, s, &divider)
+}
+
+fn scaled_by(lo: i128, hi: i128, s: i32, divider: &Divider) -> Ival
+    requires ordered { lo ≤ℤ hi }
+    requires lo_size { unsigned_abs lo < 2 ^ 126 }
+    requires hi_size { unsigned_abs hi < 2 ^ 126 }
+    requires exponent { IsExponent s }
+    ensures equals { result ≡ scale lo hi s divider.now }
+    ensures positive { 1 ≤ divider.now }
+{
+    narrowed(divider.down(2 * lo), divider.up(2 * hi), s)
 }
 
 /// The ends of two intervals at one exponent `s`: those of the interval that was lower are rounded outward, those of

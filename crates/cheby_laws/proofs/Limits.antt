@@ -1,5 +1,5 @@
 -- Limits and ends in 64 bits.
-use Rattle.std.proofs.Common.{◌≡◌, ℕ, ◌^◌, ◌≤◌, arith, ◌∙◌, pos, ◌-ℤ◌, neg_ℤ, w64, to_z, of_z}
+use Rattle.std.proofs.Common.{◌≡◌, ℕ, ◌^◌, ◌≤◌, arith, pos, ◌-ℤ◌, neg_ℤ, w64, to_z, of_z}
 use Rattle.std.proofs.lemmas.Int.{ints, to_z-of_z, to_z_pos}
 use mir.Val.{SFits}
 

@@ -1,4 +1,4 @@
-use Rattle.std.proofs.Common.{rules, arith, ◌≡◌, ◌≢◌, ◌∙◌, ◌-◌, ◌<◌, ◌≤◌, length, refl, get_or-set_other, get_or-set_same, below_more}
+use Rattle.std.proofs.Common.{rules, arith, ◌≡◌, ◌≢◌, ◌∙◌, ◌<◌, ◌≤◌, length, refl, get_or-set_other, get_or-set_same, below_more}
 use Rattle.std.proofs.Math.ListN.{length-set}
 use Rattle.spec_chebyshev.specs.Rows.{entry, u_row, r_row}
 use Rattle.cheby_laws.proofs.RowSteps.{first_two, made_last, last_before}

@@ -1,4 +1,4 @@
-use Rattle.std.proofs.Common.{◌≡◌, ◌∙◌, ap, pos, neg_ℤ, ◌+ℤ◌, ◌-ℤ◌, w64}
+use Rattle.std.proofs.Common.{◌≡◌, ◌∙◌, pos, neg_ℤ, ◌+ℤ◌, ◌-ℤ◌, w64}
 use Rattle.std.proofs.lemmas.Int.{to_z-of_z}
 use Rattle.std.specs.Int.{int_max}
 use mir.Val.{SFits}

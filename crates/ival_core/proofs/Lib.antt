@@ -5,3 +5,4 @@ mod Shortest
 mod Aligning
 mod DecimalSizes
 mod Signs
+mod Quotients

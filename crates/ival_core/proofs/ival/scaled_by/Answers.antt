@@ -23,12 +23,12 @@ hi_is c =
     let r : SFits w128 c.up.result = record { sfits = c.up.type_inv } in
     to_z-of_z w128 c.up.result r ∙ (simp to_z-of_z at c.up.ensures.equals)
 
-pub narrowed-requires-clause-ordered : goal.narrowed-requires-clause-ordered
-narrowed-requires-clause-ordered c =
+pub narrowed_wide-requires-clause-ordered : goal.narrowed_wide-requires-clause-ordered
+narrowed_wide-requires-clause-ordered c =
     rw (lo_is c, hi_is c) (ordered_quotients (pos 2 *ℤ c.args.lo) (pos 2 *ℤ c.args.hi) c.args.divider.now c.down.ensures.positive (doubles_ordered c.args.lo c.args.hi c.requires.ordered))
 
 pub returns-clause-equals : goal.returns-clause-equals
 returns-clause-equals c =
     let d = (goal.at.returns-clause-equals c).After-up in
     let s = c.ranges.s in
-    (simp to_z-of_z at c.narrowed.ensures) ∙ scale-is c.args.lo c.args.hi c.args.s c.args.divider.now _ _ (lo_is d) (hi_is d)
+    (simp to_z-of_z at c.narrowed_wide.ensures) ∙ scale-is c.args.lo c.args.hi c.args.s c.args.divider.now _ _ (lo_is d) (hi_is d)

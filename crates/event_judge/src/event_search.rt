@@ -3,9 +3,27 @@ ghost use Rattle.std.specs.Prelude.{◌≡◌, ◌<◌, ◌≤ℤ◌, pos, unsig
 
 use body_states::BodyStates;
 use eph_model::Ephemeris;
-use event_kinds::Event;
+use event_expr::Leaves;
+use event_kinds::{Event, Guard};
 use gf_hooks::CutRule;
 use std::marker::Model;
+
+// The coordinates that some guards name.
+fn coordinates_of_guards(guards: &[Guard]) -> Leaves {
+    let mut leaves = Leaves::none();
+    for guard in guards {
+        leaves = leaves.union(guard.formula().leaves());
+    }
+    leaves
+}
+
+// The coordinates that an event's function and its guards name.
+fn coordinates_of(event: &Event) -> Leaves {
+    event
+        .function()
+        .leaves()
+        .union(coordinates_of_guards(event.guards()))
+}
 
 /// A search for an event of two bodies over the times of an ephemeris, in seconds of TDB since J2000.
 #[derive(Drop)]
@@ -13,6 +31,7 @@ pub struct EventSearch<'e> {
     states: BodyStates<'e>,
     ephemeris: &'e Ephemeris,
     event: Event,
+    asked: Leaves,
     width: u64,
     depth: u32,
     rule: CutRule,
@@ -60,10 +79,12 @@ impl<'e> EventSearch<'e> {
           cut = rule;
         } }
     {
+        let asked = coordinates_of(&event);
         EventSearch {
             states,
             ephemeris,
             event,
+            asked,
             width: width.unsigned_abs(),
             depth,
             rule,
@@ -89,6 +110,11 @@ impl<'e> EventSearch<'e> {
         ensures { result.now ≡ self.now.event }
     {
         &self.event
+    }
+
+    /// The coordinates that its function and its guards name.
+    pub(crate) fn asked(&self) -> &Leaves {
+        &self.asked
     }
 
     /// The width down to which nodes are split, in seconds.

@@ -2,6 +2,7 @@
 #![tactic(auto)]
 
 mod ends;
+mod finishing;
 mod making;
 mod seat;
 mod view;
@@ -9,6 +10,8 @@ mod work;
 mod worker;
 
 pub use ends::{Owner, Thief};
+pub use finishing::{FinishError, finish};
+pub use making::make;
 pub use seat::{PoolError, PoolSeat};
 pub use view::{Naming, View};
 pub use worker::Pushed;

@@ -2,3 +2,4 @@ pub mod Rule
 pub mod Workers
 pub mod Seats
 pub mod Pools
+pub mod Passes

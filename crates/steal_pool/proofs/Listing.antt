@@ -71,6 +71,31 @@ module _ {A : Type 0} where
   weigh_none f [] each = refl
   weigh_none f (x ∷ xs) each = omega (arith, each 0 x refl, weigh_none f xs (λ k y e. each (suc k) y e))
 
+  pub set_length : (xs : List A) (i : ℕ) (y : A) → length (slice_set xs i y) ≡ length xs
+  set_length [] i y = refl
+  set_length (x ∷ xs) zero y = refl
+  set_length (x ∷ xs) (suc i) y = omega (arith, set_length xs i y)
+
+module _ {A B : Type 0} (f : A → B) where
+  pub map_push : (xs : List A) (x : A) → map f (xs ++ x ∷ []) ≡ map f xs ++ f x ∷ []
+  map_push [] x = refl
+  map_push (y ∷ xs) x = ap (λ (l : List B). f y ∷ l) (map_push xs x)
+
+  pub map_set : (xs : List A) (i : ℕ) (y : A) → map f (slice_set xs i y) ≡ slice_set (map f xs) i (f y)
+  map_set [] i y = refl
+  map_set (x ∷ xs) zero y = refl
+  map_set (x ∷ xs) (suc i) y = ap (λ (l : List B). f x ∷ l) (map_set xs i y)
+
+  pub map_at : (xs : List A) (k : ℕ) (x : A) → slice_get xs k ≡ Some x → slice_get (map f xs) k ≡ Some (f x)
+  map_at [] k x e = absurd cc
+  map_at (y ∷ xs) zero x e = let same : y ≡ x = cc in ap (λ (z : A). Some (f z)) same
+  map_at (y ∷ xs) (suc k) x e = map_at xs k x e
+
+  pub map_from : (xs : List A) (k : ℕ) (y : B) → slice_get (map f xs) k ≡ Some y → (x : A) × (slice_get xs k ≡ Some x) × (f x ≡ y)
+  map_from [] k y e = absurd cc
+  map_from (x ∷ xs) zero y e = (x, refl, cc)
+  map_from (x ∷ xs) (suc k) y e = map_from xs k y e
+
 -- ---- lists beside one another
 module _ {A B : Type 0} (R : A → B → Type 0) where
   pub beside_push : (xs : List A) (ys : List B) (x : A) (y : B) → Beside R xs ys → R x y → Beside R (xs ++ x ∷ []) (ys ++ y ∷ [])

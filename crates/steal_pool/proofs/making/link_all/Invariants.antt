@@ -4,5 +4,5 @@ use Rattle.steal_pool.proofs.making.link_all.Given as goal
 
 abbrev pub invariant-loop-i : goal.invariant-loop-i
 invariant-loop-i g l = record {
-  linking : Linking l.ledger.now l.fn.root (length l.initial.seats) l.i 0 l.seats;
+  linking : Linking l.ledger l.fn.root (length l.initial.seats) l.i 0 l.seats;
 }

@@ -1,22 +1,9 @@
-use Rattle.std.proofs.Common.{rules, ◌≡◌, ◌≤◌, ◌<◌, ◌+◌, Some, IfOk, OnOk, length, ℕ, ◌-◌, ◌*◌, ◌/◌, ◌%◌, Bool, true, false, nat_eq, nat_lt, List, [], ◌∷◌, ◌++◌, slice_index_or, slice_set, bit_and, bit_or, Fits, w8, w32, w64, Bor, MutBor}
-use Rattle.std.specs.List.{AllByRecursion}
-use Rattle.spec_trees.specs.declared.tree.Node.{Node}
-use Rattle.spec_trees.specs.Tree.{IsValid}
-use Rattle.span_ledger.specs.Seats.{AreNew, IsSeatOf, part, table_of, terms}
-use Rattle.steal_pool.specs.Seats.{IsNamed, NewSeat}
-use Rattle.steal_pool.specs.Pools.{AccountFor, AllBegin, AreLinked, Beside, HaveAllPasses, first_hand}
-use Rattle.steal_pool.specs.Workers.{new_pass}
-use Rattle.steal_pool.specs.Passes.{Linking, Links, LinksOther, Opens, gained, lent}
+use Rattle.std.proofs.Common.{arith, ap, ◌∙◌}
+use Rattle.steal_pool.proofs.Beginning.{linking_more, linking_next}
 use Rattle.steal_pool.proofs.making.link_one.Goals as goal
 
--- src/making.rt:137:5
-pub loop-j-init : goal.loop-j-init
-loop-j-init g c = ?
-
--- src/making.rt:137:5
 pub loop-j-preserved : goal.loop-j-preserved
-loop-j-preserved g c = ?
+loop-j-preserved g c = record { linking = linking_more _ _ _ _ _ _ _ c.loop-j.invariant.linking c.in_ok-link_other.ensures.links }
 
--- src/making.rt:127:1
 pub returns : goal.returns
-returns g c = ?
+returns g c = record { linking = linking_next _ _ _ _ _ _ (omega (arith, c.loop-j-test.false)) c.loop-j.invariant.linking }

@@ -4,5 +4,5 @@ use Rattle.steal_pool.proofs.making.link_one.Given as goal
 
 abbrev pub invariant-loop-j : goal.invariant-loop-j
 invariant-loop-j g l = record {
-  linking : Linking l.ledger.now l.fn.root (length l.initial.seats) l.i l.j l.seats;
+  linking : Linking l.ledger l.fn.root (length l.initial.seats) l.i l.j l.seats;
 }

@@ -1,30 +1,13 @@
-use Rattle.std.proofs.Common.{rules, ◌≡◌, ◌≤◌, ◌<◌, ◌+◌, Some, IfOk, OnOk, length, ℕ, ◌-◌, ◌*◌, ◌/◌, ◌%◌, Bool, true, false, nat_eq, nat_lt, List, [], ◌∷◌, ◌++◌, slice_index_or, slice_set, bit_and, bit_or, Fits, w8, w32, w64, Bor, MutBor}
-use Rattle.std.specs.List.{AllByRecursion}
-use Rattle.spec_trees.specs.declared.tree.Node.{Node}
-use Rattle.spec_trees.specs.Tree.{IsValid}
-use Rattle.span_ledger.specs.Seats.{AreNew, IsSeatOf, part, table_of, terms}
-use Rattle.steal_pool.specs.Seats.{IsNamed, NewSeat}
-use Rattle.steal_pool.specs.Pools.{AccountFor, AllBegin, AreLinked, Beside, HaveAllPasses, first_hand}
-use Rattle.steal_pool.specs.Workers.{new_pass}
-use Rattle.steal_pool.specs.Passes.{Linking, Links, LinksOther, Opens, gained, lent}
+use Rattle.std.proofs.Common.{◌≡◌, ◌∷◌, ◌++◌, length, arith, sym, ap, ◌∙◌, subst}
+use Rattle.std.proofs.lemmas.List.{with_items_is}
+use Rattle.steal_pool.specs.Pools.{AccountFor, AllBegin, AreLinked, HaveAllPasses}
+use Rattle.steal_pool.specs.Passes.{Linking}
+use Rattle.steal_pool.proofs.Beginning.{opened_linking, linked_whole}
+use Rattle.steal_pool.proofs.Together.{begin_account}
 use Rattle.steal_pool.proofs.making.make.Goals as goal
 
--- src/making.rt:181:5
 pub link_all-requires-clause-linking : goal.link_all-requires-clause-linking
-link_all-requires-clause-linking g c κs within = ?
+link_all-requires-clause-linking g c κs within = opened_linking c.args.ledger.now c.args.root c.args.entries.items c.as_mut_slice.result.now c.requires.fresh (rw c.as_mut_slice.ensures.value c.in_ok-seats.ensures)
 
--- src/making.rt:161:1
-pub returns-clause-count : goal.returns-clause-count
-returns-clause-count g c = ?
-
--- src/making.rt:161:1
-pub returns-clause-begin : goal.returns-clause-begin
-returns-clause-begin g c = ?
-
--- src/making.rt:161:1
-pub returns-clause-passes : goal.returns-clause-passes
-returns-clause-passes g c = ?
-
--- src/making.rt:161:1
-pub returns-clause-account : goal.returns-clause-account
-returns-clause-account g c = ?
+pub returns : goal.returns
+returns g c = ?

@@ -7,6 +7,6 @@ use Rattle.steal_pool.proofs.making.open_seats.Given as goal
 
 abbrev pub invariant-loop-entry : goal.invariant-loop-entry
 invariant-loop-entry g l = record {
-  opened : Beside (Opens l.ledger.now l.fn.root) l.yielded l.seats.items;
+  opened : Beside (Opens l.ledger l.fn.root) l.yielded l.seats.items;
   whole : l.fn.entries.items ≡ l.yielded ++ l.entry-iterator.rest.items;
 }

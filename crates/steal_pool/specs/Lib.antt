@@ -3,3 +3,4 @@ pub mod Workers
 pub mod Seats
 pub mod Pools
 pub mod Passes
+pub mod Closing

@@ -1,3 +1,4 @@
 pub mod Rule
 pub mod Workers
 pub mod Seats
+pub mod TestJudges

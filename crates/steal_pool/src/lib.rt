@@ -14,3 +14,6 @@ pub use running::run;
 pub use seat::{PoolError, PoolSeat};
 pub use view::{Naming, View};
 pub use worker::Pushed;
+
+#[cfg(test)]
+mod tests;

@@ -57,7 +57,7 @@ push_works t w v p left right sound valid split (P.Memory n) deque kept memory =
 
 -- ---- pieces of a seat's work
 pub same_more : (a b c : Seat) → SameSeat a b → SameSeat b c → SameSeat a c
-same_more a b c x y = record { ways = y.ways ∙ x.ways; terms = y.terms ∙ x.terms; number = y.number ∙ x.number }
+same_more a b c x y = record { ways = y.ways ∙ x.ways; table = y.table ∙ x.table; terms = y.terms ∙ x.terms; number = y.number ∙ x.number }
 
 pub seat_idle : (t : Rules) (s : Seat) → Works t s s
 seat_idle t s = same_works t s.worker s.part s.part (refl, refl)

@@ -1,4 +1,6 @@
 pub mod Rule
 pub mod Workers
 pub mod Seats
+pub mod Pools
+pub mod Runs
 pub mod TestJudges

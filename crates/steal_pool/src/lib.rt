@@ -2,6 +2,7 @@
 #![tactic(auto)]
 
 mod ends;
+mod finishing;
 mod making;
 mod running;
 mod seat;
@@ -10,6 +11,8 @@ mod work;
 mod worker;
 
 pub use ends::{Owner, Thief};
+pub use finishing::{FinishError, finish};
+pub use making::make;
 pub use running::run;
 pub use seat::{PoolError, PoolSeat};
 pub use view::{Naming, View};

@@ -3,7 +3,7 @@ use Rattle.steal_pool.proofs.Entering.{same_more, seat_idle, seat_more, seat_ref
 use Rattle.steal_pool.proofs.seat.PoolSeat.work.Goals as goal
 
 pub loop-init : goal.loop-init
-loop-init g c = record { works = seat_idle g.N.Naming.rules c.args.self.now; same = record { ways = refl; terms = refl; number = refl }; free = c.requires.free }
+loop-init g c = record { works = seat_idle g.N.Naming.rules c.args.self.now; same = record { ways = refl; table = refl; terms = refl; number = refl }; free = c.requires.free }
 
 pub returns-in-Err-clause-works : goal.returns-in-Err-clause-works
 returns-in-Err-clause-works g c = seat_refused g.N.Naming.rules c.args.self.now c.loop.self c.step.new.self c.refuse.new.self _ c.loop.invariant.works c.step.ensures.works c.refuse.ensures

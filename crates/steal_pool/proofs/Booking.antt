@@ -98,11 +98,14 @@ module _ (log : List Booked) (ps : List Part) (n : Numbered 0 ps) (f : Fit log p
   )
 
 -- ---- at most one leaf of a cover begins at a time
-abbrev begins : ℤ → Leaf → ℕ
-begins x l = if unsigned_abs (x -ℤ l.node.a) == 0 then 1 else 0
+abbrev one_if : Bool → ℕ
+one_if d = if d then 1 else 0
 
-begins_apart : (x a : ℤ) → x <ℤ a → (if unsigned_abs (x -ℤ a) == 0 then 1 else 0) ≡ 0
-begins_apart x a h = let d : unsigned_abs (x -ℤ a) ≢ 0 = λ e. omega (arith, ints) in grind (arith, nat_tests)
+abbrev begins : ℤ → Leaf → ℕ
+begins x l = one_if (unsigned_abs (x -ℤ l.node.a) == 0)
+
+begins_apart : (x a : ℤ) → x <ℤ a → one_if (unsigned_abs (x -ℤ a) == 0) ≡ 0
+begins_apart x a h = let d : 0 < unsigned_abs (x -ℤ a) = omega (arith, ints) in grind (arith, nat_tests)
 
 begins_here : (l : Leaf) → begins l.node.a l ≡ 1
 begins_here l = let d : unsigned_abs (l.node.a -ℤ l.node.a) ≡ 0 = omega (arith, ints) in grind (arith, nat_tests)
@@ -115,26 +118,26 @@ none_before x a b (l ∷ ls) c h = omega (
   none_before x l.node.b b ls c.2 (omega (arith, ints, c.0, c.1, h)),
 )
 
-at_most_one : (d : Bool) → (if d then 1 else 0) ≤ 1
+at_most_one : (d : Bool) → one_if d ≤ 1
 at_most_one true = omega arith
 at_most_one false = omega arith
 
+once_more : (x a b : ℤ) (l : Leaf) (ls : List Leaf) → Covers a (l ∷ ls) b → weigh (begins x) ls ≤ 1 → (d : Bool) → (unsigned_abs (x -ℤ l.node.a) == 0) ≡ d → weigh (begins x) (l ∷ ls) ≤ 1
+once_more x a b l ls c rest true e =
+    let z : unsigned_abs (x -ℤ l.node.a) ≡ 0 = grind (arith, nat_tests) in
+    omega (arith, at_most_one (unsigned_abs (x -ℤ l.node.a) == 0), none_before x l.node.b b ls c.2 (omega (arith, ints, c.1, z)))
+once_more x a b l ls c rest false e =
+    let z : begins x l ≡ 0 = ap one_if e in
+    omega (arith, z, rest)
+
 once : (x a b : ℤ) (ls : List Leaf) → Covers a ls b → weigh (begins x) ls ≤ 1
 once x a b [] c = omega arith
-once x a b (l ∷ ls) c = by (unsigned_abs (x -ℤ l.node.a) == 0) refl
-  where
-    by : (d : Bool) → (unsigned_abs (x -ℤ l.node.a) == 0) ≡ d → weigh (begins x) (l ∷ ls) ≤ 1
-    by true e =
-        let z : unsigned_abs (x -ℤ l.node.a) ≡ 0 = grind (arith, nat_tests) in
-        omega (arith, at_most_one (unsigned_abs (x -ℤ l.node.a) == 0), none_before x l.node.b b ls c.2 (omega (arith, ints, c.1, z)))
-    by false e =
-        let z : begins x l ≡ 0 = ap (λ (d : Bool). if d then 1 else 0) e in
-        omega (arith, z, once x l.node.b b ls c.2)
+once x a b (l ∷ ls) c = once_more x a b l ls c (once x l.node.b b ls c.2) (unsigned_abs (x -ℤ l.node.a) == 0) refl
 
 -- ---- none stood already
 stands_weigh : (h : Leaf → ℕ) (log : List Booked) (i : ℕ) (e : Booked) → get_elem? log i ≡ M.some e → h e.leaf ≤ weigh (λ (b : Booked). h b.leaf) log
 stands_weigh h [] i e at = absurd (M.some-ne-none e (sym at))
-stands_weigh h (x ∷ xs) zero e at = let same : h x.leaf ≡ h e.leaf = ap (λ (b : Booked). h b.leaf) cc in omega (arith, same)
+stands_weigh h (x ∷ xs) zero e at = let is : x ≡ e = cc in let same : h x.leaf ≡ h e.leaf = ap (λ (b : Booked). h b.leaf) is in omega (arith, same)
 stands_weigh h (x ∷ xs) (suc i) e at = omega (arith, stands_weigh h xs i e at)
 
 stand_append : (log : List Booked) (xs ys : List Leaf) → AllStand log xs → AllStand log ys → AllStand log (xs ++ ys)

@@ -1,5 +1,5 @@
 -- What all seats of a pool have together stays the same over the work of each.
-use Rattle.std.proofs.Common.{◌≡◌, ℕ, zero, suc, ◌+◌, List, [], ◌∷◌, ◌++◌, map, flat_map, length, Some, None, slice_get, slice_set, IsPermutation, option_to_list, refl, sym, ap, ◌∙◌, subst, arith}
+use Rattle.std.proofs.Common.{◌≡◌, ℕ, zero, suc, ◌+◌, List, [], ◌∷◌, ◌++◌, map, flat_map, length, Some, None, slice_get, slice_set, get_or, ◌<◌, IsPermutation, option_to_list, refl, sym, ap, ◌∙◌, subst, arith}
 use Rattle.std.specs.List.{AllByRecursion, AllZip}
 use Rattle.spec_trees.specs.declared.tree.Node.{Node}
 use Rattle.spec_trees.specs.declared.tree.Leaf.{Leaf}
@@ -124,10 +124,9 @@ pub idle_all : (t : Rules) (ss : List Seat) → AllZip (IsLater t) ss ss
 idle_all t [] = tt
 idle_all t (s ∷ ss) = (is_idle t s, idle_all t ss)
 
-pub later_set : (t : Rules) (ss : List Seat) (k : ℕ) (s s' : Seat) → slice_get ss k ≡ Some s → IsLater t s s' → AllZip (IsLater t) ss (slice_set ss k s')
-later_set t [] k s s' at e = absurd cc
-later_set t (x ∷ xs) zero s s' at e = let same : s ≡ x = cc in (subst (λ (y : Seat). IsLater t y s') same e, idle_all t xs)
-later_set t (x ∷ xs) (suc k) s s' at e = (is_idle t x, later_set t xs k s s' at e)
+pub later_first : (t : Rules) (ss : List Seat) (d s' : Seat) → 0 < length ss → IsLater t (get_or ss 0 d) s' → AllZip (IsLater t) ss (slice_set ss 0 s')
+later_first t [] d s' some e = absurd (omega arith)
+later_first t (x ∷ xs) d s' some e = (e, idle_all t xs)
 
 pub free_set : (ss : List Seat) (k : ℕ) (s : Seat) → s.refusal ≡ None → AreFree ss → AreFree (slice_set ss k s)
 free_set [] k s e f = tt
@@ -150,3 +149,9 @@ left_all t [] [] z = tt
 left_all t [] (y ∷ ys) z = absurd z
 left_all t (x ∷ xs) [] z = absurd z
 left_all t (x ∷ xs) (y ∷ ys) z = (z.0.left, left_all t xs ys z.1)
+
+pub zip_of : {A : Type 0} (R : A → A → Type 0) (xs ys : List A) → length ys ≡ length xs → ((k : ℕ) (d : A) → k < length xs → R (get_or xs k d) (get_or ys k d)) → AllZip R xs ys
+zip_of R [] [] e f = tt
+zip_of R [] (y ∷ ys) e f = absurd (omega (arith, e))
+zip_of R (x ∷ xs) [] e f = absurd (omega (arith, e))
+zip_of R (x ∷ xs) (y ∷ ys) e f = (f 0 x (omega arith), zip_of R xs ys (omega (arith, e)) (λ k d h. f (suc k) d (omega (arith, h))))

@@ -4,6 +4,7 @@ use Rattle.std.proofs.lemmas.List.Elements.{All-from_recursion, recursion_from_A
 use Rattle.std.specs.List.{AllByRecursion, AllZip}
 use mathlib.Core.Option as M
 use lib.ListN.{get_elem?}
+use Rattle.spec_trees.specs.declared.book.Book.{Book}
 use Rattle.spec_trees.specs.declared.book.Booked.{Booked}
 use Rattle.spec_trees.specs.declared.tree.Leaf.{Leaf}
 use Rattle.spec_trees.specs.declared.tree.Node.{Node}
@@ -20,8 +21,9 @@ use Rattle.span_ledger.specs.Seats.{AllFit, IsSeatOf, part, seat_table, table_of
 use Rattle.steal_pool.specs.Seats.{Seat, entered_by, rules_within}
 use Rattle.std.specs.Global.{Global}
 use Rattle.steal_pool.specs.declared.finishing.FinishError.{FinishError}
-use Rattle.steal_pool.specs.declared.finishing.FinishError.TheVariants.{TooMany}
-use Rattle.steal_pool.specs.Pools.{AllBegin, Begins, ComeBack, IfTooMany, IsLeftOver, entered_in}
+use Rattle.steal_pool.specs.declared.finishing.FinishError.TheVariants.{TooMany, Memory}
+use Rattle.steal_pool.specs.declared.seat.PoolError.{PoolError}
+use Rattle.steal_pool.specs.Pools.{AllBegin, Begins, ComeBack, IfTooMany, IsLeftOver, IsRefused, entered_in}
 use Rattle.steal_pool.specs.Runs.{AreAll, AreFree, AreSeatsOf, HasSeenAll, HaveEntered, IsLater, IsOverfull, IsSeatAt}
 use Rattle.steal_pool.proofs.Booking.{Fit, Numbered, book_in_order, more_than, parts_entered}
 
@@ -164,3 +166,28 @@ ok_of {A = A} {E = E} P r x e p = subst (λ (y : Result A E). IfOk y P) e p
 
 pub full_of : (P : List LedgerSeat → Leaf → Type 0) (r : Result (Vec LedgerSeat Global) FinishError) (es : Vec LedgerSeat Global) (leaf : Leaf) → r ≡ Err (TooMany es leaf) → IfErr r (λ e. IfTooMany e P) → P es.items leaf
 full_of P r es leaf e p = subst (λ (y : Result (Vec LedgerSeat Global) FinishError). IfErr y (λ x. IfTooMany x P)) e p
+
+module _ (t : Rules) (root : Node) (ledger : SpanLedger) (ss : List Seat) (seats : AreSeatsOf ledger ss) (count : length ss ≡ (terms ledger).seats) where
+  pub ended_ok : (r : Result (Vec LedgerSeat Global) FinishError) → IfOk r (λ v. ComeBack ss v.items) → IfOk r (λ v. IsPermutation (entered_in v.items) (leaves t root)) → IfOk r (λ v. AreAll ledger v.items × HaveEntered t root v.items)
+  ended_ok (Ok v) b p = (come_back ledger ss seats count v.items b, p)
+  ended_ok (Err e) b p = tt
+
+  pub ended_full : (r : Result (Vec LedgerSeat Global) FinishError) → IfErr r (λ e. IfTooMany e (λ es leaf. ComeBack ss es)) → IfErr r (λ e. IfTooMany e (IsRefused ss)) → IfErr r (λ e. IfTooMany e (IsLeftOver t root))
+      → IfErr r (λ e. IfTooMany e (λ es leaf. AreAll ledger es × IsOverfull t root (terms ledger).limit es leaf))
+  ended_full (Ok v) b f o = tt
+  ended_full (Err Memory) b f o = tt
+  ended_full (Err (TooMany es leaf)) b f o =
+      let of = seats f.0 f.1 f.3 in
+      (come_back ledger ss seats count es.items b, (o, (f.0, f.2, f.4, omega (arith, ap (λ (x : Terms). x.limit) of.1, f.5))))
+
+-- ---- the answer
+pub leaves_ok : (t r : Rules) (root : Node) → t ≡ rules_within r root → (x : Result Book PoolError) → IfOk x (λ b. ordered_leaves b.entries.items ≡ leaves t root) → IfOk x (λ b. ordered_leaves b.entries.items ≡ leaves r root)
+leaves_ok t r root e (Ok b) is = is ∙ leaves_named t r root e
+leaves_ok t r root e (Err x) is = tt
+
+pub count_named : (t r : Rules) (root : Node) (terms : Terms) (limit : ℕ) → t ≡ rules_within r root → terms.limit ≡ limit → terms.limit < leaf_count t root → limit < leaf_count r root
+count_named t r root terms limit e is more = omega (arith, is, more, ap length (leaves_named t r root e))
+
+pub cover_ok : (r : Rules) (root : Node) → IsSound r → IsValid r root → (x : Result Book PoolError) → IfOk x (λ b. ordered_leaves b.entries.items ≡ leaves r root) → IfOk x (λ b. CoverRoot root b.entries.items)
+cover_ok r root s v (Ok b) is = subst (λ (ls : List Leaf). Covers root.a ls root.b) (sym is) (leaves_cover r s root v)
+cover_ok r root s v (Err x) is = tt

@@ -1,4 +1,4 @@
-use Rattle.std.proofs.Common.{rules}
+use Rattle.std.proofs.Common.{ap, ◌∙◌, Err}
 use Rattle.spec_pool.specs.declared.ledger.Terms.{Terms}
 use Rattle.span_ledger.specs.Seats.{terms}
 use Rattle.steal_pool.specs.Runs.{AreAll, HaveEntered, IsOverfull}
@@ -12,5 +12,5 @@ returns-in-Ok-clause-leaves g c =
 
 pub returns-in-Err-TooMany-clause-too_many : goal.returns-in-Err-TooMany-clause-too_many
 returns-in-Err-TooMany-clause-too_many g c = λ e.
-    let r = full_of (λ es leaf. AreAll c.args.ledger es × IsOverfull g.N.Naming.rules c.args.root (terms c.args.ledger).limit es leaf) c.args.ended c.in-Err-TooMany.seats c.in-Err-TooMany.field-0-1 ? c.requires.full in
+    let r = full_of (λ es leaf. AreAll c.args.ledger es × IsOverfull g.N.Naming.rules c.args.root (terms c.args.ledger).limit es leaf) c.args.ended c.in-Err-TooMany.seats c.in-Err-TooMany.field-0-1 (c.in-Err-TooMany.is ∙ ap Err c.in-Err-TooMany.field-0-is) c.requires.full in
     closed_too_many c.args.ledger c.closed-book.result.entries.items c.in-Err-TooMany.seats.items r.0 c.closed-book.ensures.sound c.closed-book.ensures.fit g.N.Naming.rules c.args.root c.in-Err-TooMany.field-0-1 r.1

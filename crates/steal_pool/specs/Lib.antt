@@ -4,3 +4,4 @@ pub mod Seats
 pub mod Pools
 pub mod Runs
 pub mod TestJudges
+pub mod Passes

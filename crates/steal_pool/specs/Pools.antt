@@ -19,6 +19,13 @@ use Rattle.steal_pool.specs.Rule.{DequeId, End}
 use Rattle.steal_pool.specs.Workers.{Holder, taken_by}
 use Rattle.steal_pool.specs.Seats.{Seat, Ways, account, entered_by, ways}
 
+-- two lists are as long, and R holds of each element and the one beside it
+abbrev pub Beside : {A B : Type 0} → (A → B → Type 0) → List A → List B → Type 0
+Beside R [] [] = ⊤
+Beside R [] (y ∷ ys) = ⊥
+Beside R (x ∷ xs) [] = ⊥
+Beside R (x ∷ xs) (y ∷ ys) = R x y × Beside R xs ys
+
 -- ---- the passes
 abbrev pub ways_of_all : List Seat → List Ways
 ways_of_all ss = map (λ s. ways s.worker) ss

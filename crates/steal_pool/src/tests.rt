@@ -1,10 +1,8 @@
-// Seats that work off whole trees: what they push and take, and the book that they leave.
-ghost use Rattle.std.specs.Prelude.{◌≡◌, ◌<◌, ◌≤◌, Some, pos};
+// Seats that work off whole trees: what they push and take, the books that they leave, and workers that meet.
+ghost use Rattle.std.specs.Prelude.{◌≡◌, ◌<◌, pos};
 ghost use Rattle.spec_trees.specs.declared.cuts.CutRule.TheVariants.{Half, Third};
 ghost use Rattle.spec_trees.specs.Cuts.{CanCut, cut_of};
 ghost use Rattle.spec_trees.specs.CutExamples.{parts_at};
-ghost use Rattle.span_ledger.specs.Seats.{IsSeatOf, terms};
-ghost use Rattle.steal_pool.specs.Seats.{IsNamed};
 ghost use Rattle.steal_pool.specs.TestJudges.{crossing, crossing_is_sound, span, stairs, stairs_are_sound, thirds, thirds_are_sound};
 
 use super::*;
@@ -15,6 +13,7 @@ use std::alloc::Global;
 use std::marker::Brand;
 use std::process::Abort;
 use std::sync::Wait;
+use std::sync::atomic::{AtomicU64, Ordering};
 use std::test::*;
 
 // A root at depth 0.
@@ -43,14 +42,22 @@ fn parts_at(time: i64, node: Node) -> (Node, Node)
     (left, right)
 }
 
-// Takes the last second off what begins at 0, all at depth 0.
-struct Stairs;
+// Cuts what is wider than two seconds at its first third.
+struct Thirds;
 
-impl Judge for Stairs {
-    ghost rules = { λ _. stairs };
+fn first_third(a: i64, b: i64) -> i64
+    requires { CanCut a b }
+    ensures { result ≡ cut_of Third a b }
+{
+    let third = (b - a) / 3;
+    if third < 1 { a + 1 } else { a + third }
+}
+
+impl Judge for Thirds {
+    ghost rules = { λ _. thirds };
 
     fn judge(&self, node: Node) -> Verdict {
-        if node.a < 1 && 1 < node.b {
+        if node.b - node.a > 2 && node.depth < 100 {
             Verdict::Split
         } else {
             Verdict::Clear
@@ -58,64 +65,114 @@ impl Judge for Stairs {
     }
 
     fn cut(&self, node: Node) -> (Node, Node) {
-        (span(node.a, node.b - 1), span(node.b - 1, node.b))
+        parts_at(first_third(node.a, node.b), node)
     }
 
-    ghost sound = { λ _. stairs_are_sound };
+    ghost sound = { λ _. thirds_are_sound };
 }
 
-// The right part of the node in the hand, put away, or nothing where that node isn't to be split.
-fn push_right<N: Naming, J: Judge, G: Gate>(seat: &mut PoolSeat<N, J, G>) -> Option<Pushed> {
-    let node = seat.worker.node()?;
-    match seat.judge.judge(node).mark() {
-        Some(_) => None,
-        None => {
-            let (_, right) = seat.judge.cut(node);
-            Some(seat.push(right))
+// Halves what holds second 1339200, down to 50 seconds.
+struct Crossing;
+
+fn middle(a: i64, b: i64) -> i64
+    requires { CanCut a b }
+    ensures { result ≡ cut_of Half a b }
+{
+    a + (b - a) / 2
+}
+
+impl Judge for Crossing {
+    ghost rules = { λ _. crossing };
+
+    fn judge(&self, node: Node) -> Verdict {
+        if node.a < 1_339_200 && 1_339_200 <= node.b {
+            if node.b - node.a > 50 && node.depth < 100 {
+                Verdict::Split
+            } else {
+                Verdict::One(Turn::Rise)
+            }
+        } else {
+            Verdict::Clear
         }
     }
+
+    fn cut(&self, node: Node) -> (Node, Node) {
+        parts_at(middle(node.a, node.b), node)
+    }
+
+    ghost sound = { λ _. crossing_is_sound };
 }
 
-// One seat over a hundred seconds of stairs.
-fn hundred_stairs<N: Naming, R: Abort + Wait>(
-    rt: &R,
-    alloc: Global,
-    ledger: SpanLedger,
-    entries: LedgerSeat,
-) -> Result<(), Fail>
-    requires rules { IsNamed N.rules stairs (terms ledger).root }
-    requires ours { IsSeatOf ledger entries }
-    requires root { (terms ledger).root ≡ span (pos 0) (pos 100) }
-{
-    let root = span(0, 100);
-    let Ok(mut seat) = PoolSeat::<N, Stairs, OpenGate>::new(
-        alloc,
-        &Stairs,
-        &ledger,
-        entries,
-        Some(root),
-        &OpenGate,
-    ) else {
-        assert!(rt; false);
-        return Ok(());
-    };
-    for _ in 0..64 {
-        assert_eq!(rt; push_right(&mut seat), Some(Pushed::OnDeque));
+#[test]
+fn any_number_of_workers_finds_the_leaves(rt: HostRuntime) -> Result<(), Fail> {
+    for workers in [1u32, 2, 64] {
+        let Ok(book) = run(&rt, rt.alloc(), &Thirds, span(0, 8), workers, 5, &OpenGate) else {
+            assert!(rt; false);
+            return Ok(());
+        };
+        assert_eq!(rt; book.entries.len(), 5);
     }
-    assert_eq!(rt; push_right(&mut seat), Some(Pushed::Kept));
-    assert_eq!(rt; seat.work(rt), Ok(()));
     Ok(())
 }
 
 #[test]
-fn one_seat_keeps_what_its_deque_does_not_take(rt: HostRuntime) -> Result<(), Fail> {
-    let Ok((ledger, mut seats)) = SpanLedger::new(rt.alloc(), span(0, 100), 100, 1) else {
+fn one_leaf_more_than_the_limit(rt: HostRuntime) -> Result<(), Fail> {
+    for workers in [1u32, 2, 64] {
+        match run(&rt, rt.alloc(), &Thirds, span(0, 8), workers, 4, &OpenGate) {
+            Ok(_) => assert!(rt; false),
+            Err(error) => assert_eq!(rt; error, PoolError::TooMany),
+        }
+    }
+    Ok(())
+}
+
+const TURNS: u64 = 200_000_000;
+
+// Holds worker 0 at its second pass until worker 1 has come, and worker 1 at its first until worker 0 has come to its
+// second.
+#[derive(Drop)]
+struct Meeting {
+    first: AtomicU64,
+    second: AtomicU64,
+    given_up: AtomicU64,
+}
+
+impl Meeting {
+    fn wait_for(&self, passes: &AtomicU64, least: u64) {
+        for _ in 0..TURNS {
+            if passes.load(Ordering::SeqCst) >= least {
+                return;
+            }
+        }
+        self.given_up.store(1, Ordering::SeqCst);
+    }
+}
+
+impl Gate for Meeting {
+    fn pass(&self, worker: u32) {
+        if worker == 0 {
+            if self.first.fetch_add(1, Ordering::SeqCst) == 1 {
+                self.wait_for(&self.second, 1);
+            }
+        } else if self.second.fetch_add(1, Ordering::SeqCst) == 0 {
+            self.wait_for(&self.first, 2);
+        }
+    }
+}
+
+#[test]
+fn two_workers_meet(rt: HostRuntime) -> Result<(), Fail> {
+    let gate = Meeting {
+        first: AtomicU64::new(0),
+        second: AtomicU64::new(0),
+        given_up: AtomicU64::new(0),
+    };
+    let root = span(-43_200, 2_721_600);
+    let Ok(book) = run(&rt, rt.alloc(), &Crossing, root, 2, 1000, &gate) else {
         assert!(rt; false);
         return Ok(());
     };
-    let Some(entries) = seats.pop() else {
-        assert!(rt; false);
-        return Ok(());
-    };
-    hundred_stairs::<Brand, _>(&rt, rt.alloc(), ledger, entries)
+    assert!(rt; book.entries.len() > 2);
+    assert_eq!(rt; gate.given_up.load(Ordering::SeqCst), 0);
+    Ok(())
 }

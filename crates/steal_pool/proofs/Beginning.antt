@@ -10,11 +10,11 @@ use Rattle.spec_pool.specs.History.{part_of}
 use Rattle.spec_pool.proofs.Weights.{weigh, sum_is_weigh}
 use Rattle.span_ledger.specs.declared.desk.LedgerSeat.{LedgerSeat}
 use Rattle.span_ledger.specs.declared.desk.SpanLedger.{SpanLedger}
-use Rattle.span_ledger.specs.Seats.{AreNew, IsSeatOf, part}
+use Rattle.span_ledger.specs.Seats.{AreNew, IsSeatOf, part, table_of, terms}
 use Rattle.steal_pool.specs.Rule.{DequeId, End, opening, view_of}
 use Rattle.steal_pool.specs.declared.view.View.{View}
 use Rattle.steal_pool.specs.Workers.{Holder, new_pass, taken_by}
-use Rattle.steal_pool.specs.Seats.{Seat, Ways, place_of, ways}
+use Rattle.steal_pool.specs.Seats.{NewSeat, Seat, Ways, place_of, ways}
 use Rattle.steal_pool.specs.Pools.{AllBegin, AreLinked, Begins, Beside, HaveAllPasses, IsOwned, Linked, first_hand, other_numbers, pass_numbers, passes_on, ways_of_all}
 use Rattle.steal_pool.specs.Passes.{Linking, Links, LinksOther, Opens, gained, lent, numbers_so_far}
 use Rattle.steal_pool.proofs.Listing.{all_each, beside_get, beside_length, get_same, get_other, keep_each, one_some, weigh_none, within, map_push, map_set, map_at, map_from, set_length}
@@ -69,6 +69,13 @@ opened_begins ledger root k e s is o =
       terms = o.3;
       refusal = o.4;
     }
+
+pub opens_by : (ledger : SpanLedger) (root : Node) (e : LedgerSeat) (s : Seat) (hand : Option Node) (number : ℕ) → number ≡ (part e).number → hand ≡ first_hand root number
+    → NewSeat (part e) (table_of ledger) (terms ledger) hand s → Opens ledger root e s
+opens_by ledger root e s hand number is held o = subst (λ (x : Option Node). NewSeat (part e) (table_of ledger) (terms ledger) x s) (held ∙ ap (first_hand root) is) o
+
+pub new_ours : (ledger : SpanLedger) (es : List LedgerSeat) → AreNew ledger es → AllByRecursion (IsSeatOf ledger) es
+new_ours ledger es new = all_each (IsSeatOf ledger) es (λ k e at. subst (IsSeatOf ledger) (get_or_from_slice_get es k e e at) (new k e (within es k e at)).0)
 
 module _ (ledger : SpanLedger) (root : Node) (es : List LedgerSeat) (ss : List Seat) (new : AreNew ledger es) (b : Beside (Opens ledger root) es ss) where
   opened_at : (k : ℕ) (s : Seat) → slice_get ss k ≡ Some s → (e : LedgerSeat) × (slice_get es k ≡ Some e) × Opens ledger root e s

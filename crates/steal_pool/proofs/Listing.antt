@@ -1,6 +1,7 @@
 -- Lists in which one element changes, and lists that stand beside one another.
-use Rattle.std.proofs.Common.{◌≡◌, ◌≢◌, ◌⊎◌, inl, inr, ℕ, zero, suc, ◌+◌, ◌<◌, List, [], ◌∷◌, ◌++◌, map, flat_map, length, Option, Some, None, slice_get, slice_set, get_or, refl, sym, ap, ◌∙◌, subst, arith}
+use Rattle.std.proofs.Common.{◌≡◌, ◌≢◌, ◌⊎◌, inl, inr, ℕ, zero, suc, ◌+◌, ◌<◌, List, [], ◌∷◌, ◌++◌, map, flat_map, length, Option, Some, None, slice_get, slice_set, get_or, append_assoc, refl, sym, ap, ◌∙◌, subst, arith}
 use Rattle.std.proofs.lemmas.Bool.{cases_eq}
+use Rattle.std.proofs.lemmas.List.{append-nil}
 use Rattle.std.specs.List.{AllByRecursion}
 use Rattle.spec_pool.proofs.Weights.{weigh}
 use Rattle.steal_pool.specs.Pools.{Beside}
@@ -76,6 +77,29 @@ module _ {A : Type 0} where
   set_length (x ∷ xs) zero y = refl
   set_length (x ∷ xs) (suc i) y = omega (arith, set_length xs i y)
 
+  -- a list that is gone through
+  pub whole_step : (all front rest more : List A) (x : A) → all ≡ front ++ rest → rest ≡ x ∷ more → all ≡ (front ++ x ∷ []) ++ more
+  whole_step all front rest more x e f = e ∙ ap (λ (l : List A). front ++ l) f ∙ sym (append_assoc front (x ∷ []) more)
+
+  pub nothing : (xs : List A) → length xs ≡ 0 → xs ≡ []
+  nothing [] e = refl
+  nothing (x ∷ xs) e = absurd (omega (arith, e))
+
+  pub whole_end : (all front rest : List A) → all ≡ front ++ rest → length rest ≡ 0 → all ≡ front
+  whole_end all front rest e none = e ∙ ap (λ (l : List A). front ++ l) (nothing rest none) ∙ append-nil front
+
+  pub all_at_end : (P : A → Type 0) (all front rest more : List A) (x : A) → AllByRecursion P all → all ≡ front ++ rest → rest ≡ x ∷ more → P x
+  all_at_end P all front rest more x every e f = (all_right P front (x ∷ more) (subst (AllByRecursion P) (e ∙ ap (λ (l : List A). front ++ l) f) every)).0
+
+  pub set_same : (xs : List A) (i : ℕ) (x : A) → slice_get xs i ≡ Some x → slice_set xs i x ≡ xs
+  set_same [] i x e = refl
+  set_same (y ∷ xs) zero x e = let same : y ≡ x = cc in ap (λ (z : A). z ∷ xs) (sym same)
+  set_same (y ∷ xs) (suc i) x e = ap (λ (l : List A). y ∷ l) (set_same xs i x e)
+
+  pub length_push : (xs : List A) (x : A) → length (xs ++ x ∷ []) ≡ length xs + 1
+  length_push [] x = refl
+  length_push (y ∷ xs) x = omega (arith, length_push xs x)
+
 module _ {A B : Type 0} (f : A → B) where
   pub map_push : (xs : List A) (x : A) → map f (xs ++ x ∷ []) ≡ map f xs ++ f x ∷ []
   map_push [] x = refl
@@ -85,6 +109,27 @@ module _ {A B : Type 0} (f : A → B) where
   map_set [] i y = refl
   map_set (x ∷ xs) zero y = refl
   map_set (x ∷ xs) (suc i) y = ap (λ (l : List B). f x ∷ l) (map_set xs i y)
+
+  pub map_keep : (xs : List A) (i : ℕ) (x y : A) → slice_get xs i ≡ Some x → f y ≡ f x → map f (slice_set xs i y) ≡ map f xs
+  map_keep [] i x y e same = refl
+  map_keep (z ∷ xs) zero x y e same = let is : z ≡ x = cc in ap (λ (b : B). b ∷ map f xs) (same ∙ ap f (sym is))
+  map_keep (z ∷ xs) (suc i) x y e same = ap (λ (l : List B). f z ∷ l) (map_keep xs i x y e same)
+
+  pub map_length : (xs ys : List A) → map f ys ≡ map f xs → length ys ≡ length xs
+  map_length xs ys e = sym (counts ys) ∙ ap length e ∙ counts xs
+    where
+      counts : (zs : List A) → length (map f zs) ≡ length zs
+      counts [] = refl
+      counts (z ∷ zs) = omega (arith, counts zs)
+
+  pub map_all : (P : A → Type 0) (xs ys : List A) → ((x y : A) → f y ≡ f x → P x → P y) → map f ys ≡ map f xs → AllByRecursion P xs → AllByRecursion P ys
+  map_all P [] [] step e all = tt
+  map_all P [] (y ∷ ys) step e all = absurd cc
+  map_all P (x ∷ xs) [] step e all = absurd cc
+  map_all P (x ∷ xs) (y ∷ ys) step e all =
+      let first : f y ≡ f x = cc in
+      let more : map f ys ≡ map f xs = cc in
+      (step x y first all.0, map_all P xs ys step more all.1)
 
   pub map_at : (xs : List A) (k : ℕ) (x : A) → slice_get xs k ≡ Some x → slice_get (map f xs) k ≡ Some (f x)
   map_at [] k x e = absurd cc

@@ -1,5 +1,5 @@
 -- How the passes of a pool's seats are made, and how they are joined again.
-use Rattle.std.specs.Prelude.{◌≡◌, ◌≢◌, ◌+◌, ℕ, ◌==◌, List, [], ◌∷◌, ◌++◌, length, map, flat_map, Option, Some, if◌then◌else◌, nat_lt, slice_get, slice_set, IsPermutation}
+use Rattle.std.specs.Prelude.{◌≡◌, ◌≢◌, ◌<◌, ℕ, ◌==◌, List, [], ◌∷◌, ◌++◌, length, map, Option, Some, if◌then◌else◌, nat_lt, slice_get, slice_set, IsPermutation}
 use Rattle.spec_trees.specs.declared.tree.Node.{Node}
 use Rattle.span_ledger.specs.declared.desk.LedgerSeat.{LedgerSeat}
 use Rattle.span_ledger.specs.declared.desk.SpanLedger.{SpanLedger}
@@ -70,3 +70,10 @@ pub record Joined (ss qs : List Seat) : Type 0 where
 
 abbrev pub HasNoPass : Seat → Type 0
 HasNoPass s = s.worker.passes ≡ []
+
+abbrev pub HasNoPassAt : ℕ → List Seat → Type 0
+HasNoPassAt i ss = (s : Seat) → slice_get ss i ≡ Some s → HasNoPass s
+
+-- the seats before n
+abbrev pub NoPassBefore : ℕ → List Seat → Type 0
+NoPassBefore n ss = (k : ℕ) (s : Seat) → slice_get ss k ≡ Some s → k < n → HasNoPass s

@@ -3,6 +3,7 @@
 
 mod ends;
 mod finishing;
+mod joining;
 mod making;
 mod running;
 mod seat;

@@ -76,9 +76,9 @@ module _ (ledger : SpanLedger) (ss : List Seat) (seats : AreSeatsOf ledger ss) (
   come_back es b = record {
     count = back_length (λ (e : LedgerSeat). (seat_table e, (part e).number)) (λ (s : Seat). (s.table, s.part.number)) es ss b ∙ count;
     each = λ k e at.
-      let r = back_at (λ (e : LedgerSeat). (seat_table e, (part e).number)) (λ (s : Seat). (s.table, s.part.number)) es ss b k e at in
-      let s = seats k r.0 r.1 in
-      (ap (λ y. y.0) r.2 ∙ s.0, ap (λ y. y.1) r.2 ∙ s.2);
+        let r = back_at (λ (e : LedgerSeat). (seat_table e, (part e).number)) (λ (s : Seat). (s.table, s.part.number)) es ss b k e at in
+        let s = seats k r.0 r.1 in
+        (ap (λ y. y.0) r.2 ∙ s.0, ap (λ y. y.1) r.2 ∙ s.2);
   }
 
 -- ---- the parts
@@ -135,7 +135,7 @@ module _ (ledger : SpanLedger) (log : List Booked) (es : List LedgerSeat) (all :
       let over = o.0 in
       let seen = o.1 in
       let more = more_than log (parts es) numbers fits below (leaves t root) over.0 leaf (part seen.1).seen (seen_parts seen.0 seen.1 seen.2).seen
-          (subst (λ ls. IsPermutation (ls ++ leaf ∷ over.0) (leaves t root)) entered_parts over.1) in
+      (subst (λ ls. IsPermutation (ls ++ leaf ∷ over.0) (leaves t root)) entered_parts over.1) in
       omega (arith, more, seen.3)
 
 -- ---- rules within the root have the same leaves

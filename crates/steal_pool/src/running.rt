@@ -94,7 +94,7 @@ fn begin_and_work<R: Threads + Wait + Sync, N: Naming + Send + Sync, J: Judge, G
 }
 
 // The seats of a pool over a ledger, once all have worked.
-fn worked<'p, R: Threads + Wait + Sync, N: Naming + Send + Sync, J: Judge, G: Gate>(
+pub(crate) fn worked<'p, R: Threads + Wait + Sync, N: Naming + Send + Sync, J: Judge, G: Gate>(
     rt: &R,
     alloc: Global,
     judge: &'p J,

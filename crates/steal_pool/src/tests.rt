@@ -1,11 +1,14 @@
 // Seats that work off whole trees: what they push and take, the books that they leave, and workers that meet.
-ghost use Rattle.std.specs.Prelude.{◌≡◌, ◌<◌, pos};
+ghost use Rattle.std.specs.Prelude.{◌≡◌, ◌<◌, pos, neg_ℤ, length};
+ghost use Rattle.span_ledger.specs.Seats.{AreNew, IsSeatOf, terms};
+ghost use Rattle.steal_pool.specs.Seats.{IsNamed};
 ghost use Rattle.spec_trees.specs.declared.cuts.CutRule.TheVariants.{Half, Third};
 ghost use Rattle.spec_trees.specs.Cuts.{CanCut, cut_of};
 ghost use Rattle.spec_trees.specs.CutExamples.{parts_at};
 ghost use Rattle.steal_pool.specs.TestJudges.{crossing, crossing_is_sound, span, stairs, stairs_are_sound, thirds, thirds_are_sound};
 
 use super::*;
+use crate::running::worked;
 use gf_edges::{Gate, OpenGate};
 use halving::{Judge, Node, Turn, Verdict};
 use span_ledger::{LedgerSeat, SpanLedger};
@@ -15,6 +18,7 @@ use std::process::Abort;
 use std::sync::Wait;
 use std::sync::atomic::{AtomicU64, Ordering};
 use std::test::*;
+use std::thread::Threads;
 
 // A root at depth 0.
 fn span(a: i64, b: i64) -> Node
@@ -103,6 +107,27 @@ impl Judge for Crossing {
     ghost sound = { λ _. crossing_is_sound };
 }
 
+// Takes the last second off what begins at 0, all at depth 0.
+struct Stairs;
+
+impl Judge for Stairs {
+    ghost rules = { λ _. stairs };
+
+    fn judge(&self, node: Node) -> Verdict {
+        if node.a < 1 && 1 < node.b {
+            Verdict::Split
+        } else {
+            Verdict::Clear
+        }
+    }
+
+    fn cut(&self, node: Node) -> (Node, Node) {
+        (span(node.a, node.b - 1), span(node.b - 1, node.b))
+    }
+
+    ghost sound = { λ _. stairs_are_sound };
+}
+
 #[test]
 fn any_number_of_workers_finds_the_leaves(rt: HostRuntime) -> Result<(), Fail> {
     for workers in [1u32, 2, 64] {
@@ -175,4 +200,163 @@ fn two_workers_meet(rt: HostRuntime) -> Result<(), Fail> {
     assert!(rt; book.entries.len() > 2);
     assert_eq!(rt; gate.given_up.load(Ordering::SeqCst), 0);
     Ok(())
+}
+
+// The right part of the node in the hand, put away, or nothing where that node isn't to be split.
+fn push_right<N: Naming, J: Judge, G: Gate>(seat: &mut PoolSeat<N, J, G>) -> Option<Pushed> {
+    let node = seat.worker.node()?;
+    match seat.verdict(node) {
+        Some(_) => None,
+        None => {
+            let (_, right) = seat.judge.cut(node);
+            Some(seat.push(right))
+        }
+    }
+}
+
+// The next node, taken into an empty hand.
+fn take_next<N: Naming, J: Judge, G: Gate>(seat: &mut PoolSeat<N, J, G>) -> Option<Node> {
+    match seat.worker.node() {
+        Some(_) => None,
+        None => seat.take(),
+    }
+}
+
+// A seat over a hundred seconds of stairs, which holds the root.
+fn push_stairs<N: Naming>(
+    rt: &impl Abort,
+    alloc: Global,
+    ledger: &SpanLedger,
+    entries: LedgerSeat,
+) -> Result<(), Fail>
+    requires rules { IsNamed N.rules stairs (span (pos 0) (pos 100)) }
+    requires root { (terms ledger.now).root ≡ span (pos 0) (pos 100) }
+    requires ours { IsSeatOf ledger.now entries }
+{
+    let hand = Some(span(0, 100));
+    let Ok(mut seat) = PoolSeat::<N, Stairs, OpenGate>::new(
+        alloc, &Stairs, ledger, entries, hand, &OpenGate,
+    ) else {
+        assert!(rt; false);
+        return Ok(());
+    };
+    for _ in 0..64 {
+        assert_eq!(rt; push_right(&mut seat), Some(Pushed::OnDeque));
+    }
+    assert_eq!(rt; push_right(&mut seat), Some(Pushed::Kept));
+    Ok(())
+}
+
+#[test]
+fn a_deque_takes_64_nodes_in_a_row(rt: HostRuntime) -> Result<(), Fail> {
+    let Ok((ledger, mut seats)) = SpanLedger::new(rt.alloc(), span(0, 100), 100, 1) else {
+        assert!(rt; false);
+        return Ok(());
+    };
+    assert_eq!(rt; seats.len(), 1);
+    let entries = seats.remove(0);
+    push_stairs::<Brand>(&rt, rt.alloc(), &ledger, entries)
+}
+
+#[test]
+fn nodes_that_were_kept_are_entered(rt: HostRuntime) -> Result<(), Fail> {
+    let Ok(book) = run(&rt, rt.alloc(), &Stairs, span(0, 100), 1, 100, &OpenGate) else {
+        assert!(rt; false);
+        return Ok(());
+    };
+    assert_eq!(rt; book.entries.len(), 100);
+    Ok(())
+}
+
+// Two seats in one thread, the second of which takes what the first puts on its deque.
+fn take_from_other<N: Naming>(
+    rt: &impl Abort,
+    alloc: Global,
+    ledger: &SpanLedger,
+    entries: Vec<LedgerSeat>,
+) -> Result<(), Fail>
+    requires rules { IsNamed N.rules crossing (span (pos 1339000) (pos 1339400)) }
+    requires root { (terms ledger.now).root ≡ span (pos 1339000) (pos 1339400) }
+    requires two { length entries.items ≡ 2 }
+    requires all { length entries.items ≡ (terms ledger.now).seats }
+    requires fresh { AreNew ledger.now entries.items }
+{
+    let root = span(1_339_000, 1_339_400);
+    let Ok(mut seats) = make::<N, Crossing, OpenGate>(
+        alloc, &Crossing, ledger, entries, root, &OpenGate,
+    ) else {
+        assert!(rt; false);
+        return Ok(());
+    };
+    let right = Node {
+        a: 1_339_200,
+        b: 1_339_400,
+        depth: 1,
+    };
+    assert_eq!(rt; push_right(&mut seats[0]), Some(Pushed::OnDeque));
+    assert_eq!(rt; take_next(&mut seats[1]), Some(right));
+    Ok(())
+}
+
+#[test]
+fn a_seat_takes_what_another_put_on_its_deque(rt: HostRuntime) -> Result<(), Fail> {
+    let root = span(1_339_000, 1_339_400);
+    let Ok((ledger, entries)) = SpanLedger::new(rt.alloc(), root, 100, 2) else {
+        assert!(rt; false);
+        return Ok(());
+    };
+    take_from_other::<Brand>(&rt, rt.alloc(), &ledger, entries)
+}
+
+// Counts its passes.
+#[derive(Drop)]
+struct Counting {
+    passes: AtomicU64,
+}
+
+impl Gate for Counting {
+    fn pass(&self, _worker: u32) {
+        self.passes.fetch_add(1, Ordering::SeqCst);
+    }
+}
+
+// Four seats that work in threads of their own, and what is left for the end of their pool.
+fn leave_nothing<N: Naming + Send + Sync, R: Abort + Threads + Wait + Sync>(
+    rt: &R,
+    alloc: Global,
+    ledger: &SpanLedger,
+    entries: Vec<LedgerSeat>,
+) -> Result<(), Fail>
+    requires rules { IsNamed N.rules crossing (span (neg_ℤ (pos 43200)) (pos 2721600)) }
+    requires root { (terms ledger.now).root ≡ span (neg_ℤ (pos 43200)) (pos 2721600) }
+    requires four { length entries.items ≡ 4 }
+    requires all { length entries.items ≡ (terms ledger.now).seats }
+    requires fresh { AreNew ledger.now entries.items }
+{
+    let gate = Counting {
+        passes: AtomicU64::new(0),
+    };
+    let root = span(-43_200, 2_721_600);
+    let Ok(seats) = worked::<R, N, Crossing, Counting>(
+        rt, alloc, &Crossing, ledger, entries, root, &gate,
+    ) else {
+        assert!(rt; false);
+        return Ok(());
+    };
+    let passes = gate.passes.load(Ordering::SeqCst);
+    assert!(rt; passes > 2);
+    let ended = finish(rt, alloc, seats);
+    assert!(rt; ended.is_ok());
+    assert_eq!(rt; gate.passes.load(Ordering::SeqCst), passes);
+    Ok(())
+}
+
+#[test]
+fn workers_leave_nothing_for_the_end(rt: HostRuntime) -> Result<(), Fail> {
+    let root = span(-43_200, 2_721_600);
+    let Ok((ledger, entries)) = SpanLedger::new(rt.alloc(), root, 1000, 4) else {
+        assert!(rt; false);
+        return Ok(());
+    };
+    leave_nothing::<Brand, _>(&rt, rt.alloc(), &ledger, entries)
 }

@@ -157,9 +157,9 @@ module _ (i : ℕ) (ss qs : List Seat) (x : JoinsLast i ss qs) where
 
   pub joins_before : NoPassBefore i ss → NoPassBefore i qs
   joins_before none = subst (NoPassBefore i) (sym x.7) (
-    keep_each (λ k s. k < i → HasNoPass s) between x.3.worker x.2 (joined x.2 x.3) x.6 (λ p. p)
-    (keep_each (λ k s. k < i → HasNoPass s) ss i x.0 x.1 x.4 (λ p b. absurd (omega (arith, b))) none)
-  )
+      keep_each (λ k s. k < i → HasNoPass s) between x.3.worker x.2 (joined x.2 x.3) x.6 (λ p. p)
+      (keep_each (λ k s. k < i → HasNoPass s) ss i x.0 x.1 x.4 (λ p b. absurd (omega (arith, b))) none)
+      )
 
 pub before_more : (i : ℕ) (ss : List Seat) → NoPassBefore i ss → HasNoPassAt i ss → NoPassBefore (i + 1) ss
 before_more i ss none last k s at b = elim (cases_eq k i) [

@@ -48,8 +48,6 @@ owned_set ws i w v at own pass (u, here, is) = elim (cases_eq pass.0 i) [
   | inr apart ↦ (u, get_other ws i pass.0 v apart ∙ here, is)
 ]
 
-
-
 Owned : List Ways → List Ways → Type 0
 Owned ws vs = AllByRecursion (λ w. AllByRecursion (IsOwned ws) w.others) vs
 

@@ -126,13 +126,13 @@ owner_takes t port v mine xs items views least most kept at =
         λ none. (
           xs ++ items,
           let out : weigh (λ (u : View). u.out) views ≡ 0 = omega (arith, none, b.counted, made_only views port v b.fit b.one_owner at mine) in
-          nodes_permuted v.put (v.taken ++ (xs ++ items)) (λ h. omega (
-            arith,
-            b.balance h,
-            weigh-append h v.taken (xs ++ items),
-            owner_only (λ (u : View). weigh h u.put) views port v (λ u f o p. ap (weigh h) (f.put o)) b.fit b.one_owner out at mine,
-            owner_only (λ (u : View). weigh h u.taken) views port v (λ u f o p. ap (weigh h) (f.taken (omega arith))) b.fit b.one_owner out at mine,
-          )),
+              nodes_permuted v.put (v.taken ++ (xs ++ items)) (λ h. omega (
+                arith,
+                b.balance h,
+                weigh-append h v.taken (xs ++ items),
+                owner_only (λ (u : View). weigh h u.put) views port v (λ u f o p. ap (weigh h) (f.put o)) b.fit b.one_owner out at mine,
+                owner_only (λ (u : View). weigh h u.taken) views port v (λ u f o p. ap (weigh h) (f.taken (omega arith))) b.fit b.one_owner out at mine,
+              )),
         ),
       ),
     )

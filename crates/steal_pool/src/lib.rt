@@ -5,6 +5,7 @@ mod ends;
 mod finishing;
 mod joining;
 mod making;
+mod running;
 mod seat;
 mod view;
 mod work;
@@ -13,6 +14,10 @@ mod worker;
 pub use ends::{Owner, Thief};
 pub use finishing::{FinishError, finish};
 pub use making::make;
+pub use running::run;
 pub use seat::{PoolError, PoolSeat};
 pub use view::{Naming, View};
 pub use worker::Pushed;
+
+#[cfg(test)]
+mod tests;

@@ -31,6 +31,7 @@ impl<'p, N: Naming, J: Judge, G: Gate> PoolSeat<'p, N, J, G> {
         ensures memory { (n : Node) → result ≡ Memory n → (n ≡ right) × (self.new ≡ self.old) }
         ensures first { length self.old.worker.own.view.put < 64 → result ≡ OnDeque }
         ensures same { SameSeat self.old self.new }
+        ensures refusal { self.new.refusal ≡ self.old.refusal }
     {
         rules_are_sound(self.judge);
         let Some(node) = self.worker.node() else {
@@ -57,7 +58,7 @@ impl<'p, N: Naming, J: Judge, G: Gate> PoolSeat<'p, N, J, G> {
     }
 
     // The node in the hand.
-    fn node(&self) -> Option<Node>
+    pub(crate) fn node(&self) -> Option<Node>
         ensures hand { result ≡ self.now.worker.hand }
         ensures valid { IfSome result (IsValid N.rules) }
     {
@@ -97,7 +98,7 @@ impl<'p, N: Naming, J: Judge, G: Gate> PoolSeat<'p, N, J, G> {
     }
 
     // Splits the node in the hand.
-    fn split(&mut self, node: Node) -> Result<(), PoolError>
+    pub(crate) fn split(&mut self, node: Node) -> Result<(), PoolError>
         requires hand { self.old.worker.hand ≡ Some node }
         requires valid { IsValid N.rules node }
         requires split { N.rules.verdict node ≡ Split }

@@ -99,9 +99,11 @@ ended t ss us qs j linked none w = record {
     free_before : KeepNone us ⊎ (qs ≡ us) → KeepNone qs → KeepNone us
     free_before (inl x) all = x
     free_before (inr e) all = subst KeepNone e all
+
     not_memory : (xs : List Seat) → KeepNone xs → NoneIsOutOfMemory xs
     not_memory [] all = tt
     not_memory (x ∷ xs) all = ((λ e. absurd cc), not_memory xs all.1)
+
     memory_before : KeepNone us ⊎ (qs ≡ us) → NoneIsOutOfMemory qs → NoneIsOutOfMemory us
     memory_before (inl x) all = not_memory us x
     memory_before (inr e) all = subst NoneIsOutOfMemory e all
@@ -116,6 +118,7 @@ module _ (t : Rules) (ss qs : List Seat) (es : List LedgerSeat) (d : Ended t ss 
     where
       flat : (fs : List LedgerSeat) → weigh h (entered_in fs) ≡ weigh (λ (e : LedgerSeat). entered_weight h (part e)) fs
       flat fs = weigh-flat (λ (e : LedgerSeat). entered_by (part e)) h fs ∙ weigh-same (λ (e : LedgerSeat). weigh h (entered_by (part e))) (λ (e : LedgerSeat). entered_weight h (part e)) fs (λ e. entered_weigh h (part e))
+
       same : (xs : List Seat) (fs : List LedgerSeat) → Beside Leaves xs fs → weigh (λ (e : LedgerSeat). entered_weight h (part e)) fs ≡ entered_sum h xs
       same [] [] c = refl
       same [] (f ∷ fs) c = absurd c
@@ -170,9 +173,9 @@ pub all_entered : (t : Rules) (ss qs : List Seat) (es : List LedgerSeat) → End
 all_entered t ss qs es d b free root a =
     let used = d.used free in
     let deque : (k : ℕ) (s : Seat) → slice_get qs k ≡ Some s → (h : Node → ℕ) → weigh h s.worker.own.view.put ≡ taken_weight h s.worker =
-        λ k s at h. same_weights h s.worker.own.view.put s.worker.own.view.taken (all_get HasUsedUp qs k s used at (none_made t ss qs es d b k s at)) ∙ sym (own_only t ss qs es d b h k s at) in
+    λ k s at h. same_weights h s.worker.own.view.put s.worker.own.view.taken (all_get HasUsedUp qs k s used at (none_made t ss qs es d b k s at)) ∙ sym (own_only t ss qs es d b h k s at) in
     let empty : (h : Leaf → ℕ) (k : ℕ) (s : Seat) → slice_get qs k ≡ Some s → own_weight t h s.worker ≡ 0 =
-        λ h k s at. let e = (all_get (IsLeft t) qs k s d.left at).empty (all_get (λ x. x.refusal ≡ None) qs k s free at) in omega (arith, ap (weigh_hand (by_leaves t h)) e.0, ap (weigh (by_leaves t h)) e.1) in
+    λ h k s at. let e = (all_get (IsLeft t) qs k s d.left at).empty (all_get (λ x. x.refusal ≡ None) qs k s free at) in omega (arith, ap (weigh_hand (by_leaves t h)) e.0, ap (weigh (by_leaves t h)) e.1) in
     leaves_permuted (entered_in es) (leaves t root) (λ h. omega (
       arith,
       account_weighs t root qs (d.account root a) h,

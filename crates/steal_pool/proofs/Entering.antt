@@ -82,5 +82,6 @@ left_refused t s q e is full = subst (IsLeft t) (sym is) (record { empty = λ f.
   where
     no_none : (x : PoolError) → Some x ≡ None → ⊥
     no_none x f = cc
+
     one_error : (x y : PoolError) → Some x ≡ Some y → x ≡ y
     one_error x y f = cc

@@ -127,10 +127,7 @@ fn full_leaf<'p, N: Naming, J: Judge, G: Gate>(seats: &[PoolSeat<'p, N, J, G>]) 
 }
 
 // Each worker works off its own deque, unless a seat keeps a refusal, until one is refused.
-fn work_off<'p, R: Wait, N: Naming, J: Judge, G: Gate>(
-    rt: &R,
-    seats: &mut [PoolSeat<'p, N, J, G>],
-)
+fn work_off<'p, R: Wait, N: Naming, J: Judge, G: Gate>(rt: &R, seats: &mut [PoolSeat<'p, N, J, G>])
     requires left { AllByRecursion (IsLeft N.rules) seats.old }
     ensures { WorkOff N.rules seats.old seats.new }
 {
@@ -146,10 +143,7 @@ fn work_off<'p, R: Wait, N: Naming, J: Judge, G: Gate>(
 }
 
 // Joins all passes, and lets each worker work off its own deque.
-fn end_work<'p, R: Wait, N: Naming, J: Judge, G: Gate>(
-    rt: &R,
-    seats: &mut [PoolSeat<'p, N, J, G>],
-)
+fn end_work<'p, R: Wait, N: Naming, J: Judge, G: Gate>(rt: &R, seats: &mut [PoolSeat<'p, N, J, G>])
     requires linked { AreLinked seats.old }
     requires left { AllByRecursion (IsLeft N.rules) seats.old }
     ensures { Ended N.rules seats.old seats.new }

@@ -1,29 +1,14 @@
 // A search for an event of two bodies.
 ghost use Rattle.std.specs.Prelude.{◌≡◌, ◌<◌, ◌≤ℤ◌, pos, unsigned_abs};
+ghost use Rattle.event_judge.specs.Wanted.{event_leaves};
 
+use crate::wanted::wanted_leaves;
 use body_states::BodyStates;
 use eph_model::Ephemeris;
 use event_expr::Leaves;
-use event_kinds::{Event, Guard};
+use event_kinds::Event;
 use gf_hooks::CutRule;
 use std::marker::Model;
-
-// The coordinates that some guards name.
-fn coordinates_of_guards(guards: &[Guard]) -> Leaves {
-    let mut leaves = Leaves::none();
-    for guard in guards {
-        leaves = leaves.union(guard.formula().leaves());
-    }
-    leaves
-}
-
-// The coordinates that an event's function and its guards name.
-fn coordinates_of(event: &Event) -> Leaves {
-    event
-        .function()
-        .leaves()
-        .union(coordinates_of_guards(event.guards()))
-}
 
 /// A search for an event of two bodies over the times of an ephemeris, in seconds of TDB since J2000.
 #[derive(Drop)]
@@ -31,7 +16,8 @@ pub struct EventSearch<'e> {
     states: BodyStates<'e>,
     ephemeris: &'e Ephemeris,
     event: Event,
-    asked: Leaves,
+    /// The coordinates that the event names.
+    wanted: Leaves,
     width: u64,
     depth: u32,
     rule: CutRule,
@@ -42,6 +28,7 @@ impl<'e> Model for EventSearch<'e> {
     ghost use Rattle.std.specs.Coded.{codes};
     ghost use Rattle.spec_expressions.specs.Code.{term_code};
     ghost use Rattle.spec_searches.specs.Search.{Search};
+    ghost use Rattle.event_judge.specs.Wanted.{event_leaves};
 
     ghost Value = { Search };
 
@@ -55,7 +42,9 @@ impl<'e> Model for EventSearch<'e> {
       cut = s.rule;
     } };
 
-    ghost invariant = { λ s. (s.ephemeris.now ≡ s.states.ephemeris) × (0 < s.width) };
+    ghost invariant = { λ s. (s.ephemeris.now ≡ s.states.ephemeris)
+        × (0 < s.width)
+        × (s.wanted ≡ event_leaves s.event) };
 }
 
 impl<'e> EventSearch<'e> {
@@ -79,12 +68,12 @@ impl<'e> EventSearch<'e> {
           cut = rule;
         } }
     {
-        let asked = coordinates_of(&event);
+        let wanted = wanted_leaves(&event);
         EventSearch {
             states,
             ephemeris,
             event,
-            asked,
+            wanted,
             width: width.unsigned_abs(),
             depth,
             rule,
@@ -112,9 +101,11 @@ impl<'e> EventSearch<'e> {
         &self.event
     }
 
-    /// The coordinates that its function and its guards name.
-    pub(crate) fn asked(&self) -> &Leaves {
-        &self.asked
+    /// The coordinates that its function or a guard of it names.
+    pub(crate) fn wanted(&self) -> &Leaves
+        ensures { result.now ≡ event_leaves self.now.event }
+    {
+        &self.wanted
     }
 
     /// The width down to which nodes are split, in seconds.

@@ -8,7 +8,7 @@ use event_expr::{Formula, Leaves, enclose};
 use ival_core::{Enclosure, Sign};
 use std::marker::Model;
 
-/// The states of both targets over the times from a first to a last. What formulas ask of them is made once.
+/// The states of both targets over the times from a first to a last, made once for all formulas.
 #[derive(Drop)]
 pub(crate) struct SpanStates<'s, 'e> {
     snapshot: Snapshot<'s, 'e>,
@@ -31,10 +31,10 @@ impl<'s, 'e> Model for SpanStates<'s, 'e> {
 }
 
 impl<'s, 'e> SpanStates<'s, 'e> {
-    /// The states over the times from `from` to `upto`, of which these coordinates are asked.
+    /// The states over the times from `from` to `upto`, of which the wanted coordinates are made at once.
     pub(crate) fn new(
         states: &'s BodyStates<'e>,
-        asked: &Leaves,
+        wanted: &Leaves,
         from: i64,
         upto: i64,
     ) -> SpanStates<'s, 'e>
@@ -42,7 +42,7 @@ impl<'s, 'e> SpanStates<'s, 'e> {
         ensures { result ≡ moment states.now from upto }
     {
         SpanStates {
-            snapshot: states.at(from, upto, asked),
+            snapshot: states.at(from, upto, wanted),
             from,
             upto,
         }

@@ -3,7 +3,6 @@ use Rattle.std.proofs.Common.{◌≡◌, ◌≢◌, ◌⊎◌, inl, inr, ℕ, ze
 use Rattle.std.proofs.lemmas.Bool.{cases_eq}
 use Rattle.std.proofs.lemmas.Option.{slice_get-get_or}
 use Rattle.std.specs.List.{AllByRecursion}
-use Rattle.atomic_table.specs.Seated.{TableId}
 use Rattle.spec_trees.specs.declared.tree.Node.{Node}
 use Rattle.spec_trees.specs.declared.tree.Leaf.{Leaf}
 use Rattle.spec_trees.specs.Tree.{IsSound, IsValid, Rules, leaf_of, leaves, mark_of}
@@ -19,18 +18,17 @@ use Rattle.spec_pool.proofs.Moving.{hand_weigh, weigh_hand}
 use Rattle.spec_pool.proofs.Weights.{weigh, weigh-append, weigh-flat, weigh-map, weigh-same, sum_is_weigh}
 use Rattle.span_ledger.specs.declared.desk.LedgerSeat.{LedgerSeat}
 use Rattle.span_ledger.specs.Seats.{part}
-use Rattle.steal_pool.specs.declared.view.View.{View}
 use Rattle.steal_pool.specs.declared.seat.PoolError.{PoolError}
 use Rattle.steal_pool.specs.declared.seat.PoolError.TheVariants.{TooMany, Memory}
-use Rattle.steal_pool.specs.Rule.{DequeId, End, IsUsedUp}
+use Rattle.steal_pool.specs.Rule.{DequeId, End}
 use Rattle.steal_pool.specs.Seats.{IsFull, IsLeft, SameSeat, Seat, Ways, Works, entered_by, place_of, ways}
-use Rattle.steal_pool.specs.Pools.{AccountFor, AreLinked, Beside, ComeBack, IsLeftOver, IsRefused, KeepNone, Linked, NoneIsOutOfMemory, entered_in, own_of, passes_on, right_of, seat_right, taken_of, ways_of_all}
+use Rattle.steal_pool.specs.Pools.{AccountFor, AreLinked, Beside, ComeBack, IsLeftOver, IsRefused, KeepNone, NoneIsOutOfMemory, entered_in, own_of, passes_on, right_of, seat_right, taken_of, ways_of_all}
 use Rattle.steal_pool.specs.Passes.{HasNoPass, Joined, lasting}
 use Rattle.steal_pool.specs.Closing.{AllUsedUp, Changes, Ended, HasUsedUp, IsFullOf, Leaves, NoneIsFull, SomeIsFull, WorkOff}
 use Rattle.steal_pool.proofs.Entering.{same_more, seat_idle, seat_more}
 use Rattle.steal_pool.proofs.Accounts.{entered_weigh, entered_weight, own_weight, same_weights, taken_weight}
 use Rattle.steal_pool.proofs.Together.{account_weighs, changed_account, changed_linked, entered_sum, own_of_weigh, own_sum, put_sum, taken_of_weigh, taken_sum, weighs_account}
-use Rattle.steal_pool.proofs.Listing.{all_each, all_get, beside_all, beside_at, beside_map, beside_self, beside_set, get_other, get_same, one_some, within, map_all, map_at, map_from, map_length, nothing, weigh_none}
+use Rattle.steal_pool.proofs.Listing.{all_each, all_get, beside_all, beside_at, beside_map, beside_self, beside_set, get_other, get_same, one_some, within, map_all, map_at, map_from, weigh_none}
 
 map_twice : {A B C : Type 0} (f : A → B) (g : B → C) (xs : List A) → map (λ x. g (f x)) xs ≡ map g (map f xs)
 map_twice f g [] = refl

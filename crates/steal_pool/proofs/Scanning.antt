@@ -1,16 +1,15 @@
 -- Walks over the seats of a pool at its end.
-use Rattle.std.proofs.Common.{◌≡◌, ◌≢◌, ◌⊎◌, inl, inr, Bool, true, false, ℕ, zero, suc, ◌+◌, ◌<◌, ◌≤◌, List, [], ◌∷◌, length, Option, Some, None, Result, Ok, Err, IfErr, OnOk, slice_get, slice_set, get_or, refl, sym, ap, ◌∙◌, subst, arith}
+use Rattle.std.proofs.Common.{◌≡◌, inl, inr, Bool, true, false, ℕ, zero, suc, ◌+◌, ◌<◌, ◌≤◌, List, [], ◌∷◌, length, Option, Some, None, Result, Ok, Err, IfErr, OnOk, slice_get, slice_set, get_or, refl, sym, ap, ◌∙◌, subst, arith}
 use Rattle.std.specs.Result.{is_err}
 use Rattle.std.proofs.lemmas.Bool.{cases_eq}
 use Rattle.std.specs.List.{AllByRecursion}
 use Rattle.spec_trees.specs.Tree.{Rules}
 use Rattle.steal_pool.specs.declared.seat.PoolError.{PoolError}
-use Rattle.steal_pool.specs.Rule.{IsUsedUp}
 use Rattle.steal_pool.specs.Seats.{IsLeft, SameSeat, Seat, Works}
 use Rattle.steal_pool.specs.Pools.{Beside, KeepNone}
-use Rattle.steal_pool.specs.Closing.{AllUsedUp, Changes, HasUsedUp, WorkOff}
+use Rattle.steal_pool.specs.Closing.{Changes, WorkOff}
 use Rattle.steal_pool.proofs.Entering.{same_more, seat_idle, seat_more}
-use Rattle.steal_pool.proofs.Listing.{all_each, all_get, all_set, beside_self, beside_set, get_other, get_same, within}
+use Rattle.steal_pool.proofs.Listing.{all_each, all_get, all_set, beside_set, get_other, get_same, within}
 
 -- what holds of the elements before n
 abbrev pub Before : {A : Type 0} → (A → Type 0) → ℕ → List A → Type 0

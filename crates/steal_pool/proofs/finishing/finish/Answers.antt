@@ -1,4 +1,4 @@
-use Rattle.std.proofs.Common.{◌≡◌, length, arith, sym, ap, ◌∙◌, subst, refl}
+use Rattle.std.proofs.Common.{sym, ◌∙◌, subst, refl}
 use Rattle.std.proofs.lemmas.List.{with_items_is}
 use Rattle.steal_pool.specs.Pools.{Beside, KeepNone, NoneIsOutOfMemory, right_of}
 use Rattle.steal_pool.specs.Closing.{Ended, Leaves, NoneIsFull, SomeIsFull}

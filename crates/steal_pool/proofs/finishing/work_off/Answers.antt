@@ -1,4 +1,4 @@
-use Rattle.std.proofs.Common.{◌≡◌, None, inl, inr, refl, sym, ap, ◌∙◌, arith}
+use Rattle.std.proofs.Common.{◌≡◌, None, inl, inr, refl, arith}
 use Rattle.std.proofs.lemmas.Option.{slice_get-get_or}
 use Rattle.steal_pool.specs.Seats.{IsLeft}
 use Rattle.steal_pool.proofs.Listing.{all_get, all_set}

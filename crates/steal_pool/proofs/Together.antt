@@ -33,7 +33,7 @@ entered_of_weigh h ss =
     weigh-flat (λ (s : Seat). entered_by s.part) h ss
     ∙ weigh-same (λ (s : Seat). weigh h (entered_by s.part)) (λ (s : Seat). entered_weight h s.part) ss (λ s. entered_weigh h s.part)
 
-own_of_weigh : (t : Rules) (h : Leaf → ℕ) (ss : List Seat) → weigh (by_leaves t h) (own_of ss) ≡ own_sum t h ss
+pub own_of_weigh : (t : Rules) (h : Leaf → ℕ) (ss : List Seat) → weigh (by_leaves t h) (own_of ss) ≡ own_sum t h ss
 own_of_weigh t h ss =
     weigh-flat (λ (s : Seat). own (account s)) (by_leaves t h) ss
     ∙ weigh-same (λ (s : Seat). weigh (by_leaves t h) (own (account s))) (λ (s : Seat). own_weight t h s.worker) ss

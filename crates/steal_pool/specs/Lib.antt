@@ -5,3 +5,4 @@ pub mod Pools
 pub mod Runs
 pub mod TestJudges
 pub mod Passes
+pub mod Closing

@@ -6,7 +6,7 @@ ghost use Rattle.spec_trees.specs.declared.tree.Verdict.TheVariants.{Split};
 ghost use Rattle.spec_pool.specs.Accounts.{PutsRight, KeepsRight};
 ghost use Rattle.steal_pool.specs.Rule.{IsUsedUp};
 ghost use Rattle.steal_pool.specs.Workers.{IsRight};
-ghost use Rattle.steal_pool.specs.Seats.{Changes, Gets, IsFull, IsHolding, SameSeat, Works, with_refusal};
+ghost use Rattle.steal_pool.specs.Seats.{Changes, Gets, IsFull, IsHolding, IsLeft, SameSeat, Works, with_refusal};
 ghost use Rattle.steal_pool.specs.declared.worker.Pushed.TheVariants.{OnDeque, Kept, Memory};
 ghost use Rattle.steal_pool.specs.declared.seat.PoolError.TheVariants.{TooMany, Memory as OutOfMemory};
 
@@ -156,6 +156,7 @@ impl<'p, N: Naming, J: Judge, G: Gate> PoolSeat<'p, N, J, G> {
         ensures refusal { IfErr result (λ e. self.new.refusal ≡ Some e) }
         ensures holds { IfErr result (λ e. IsHolding self.new) }
         ensures full { IfErr result (λ e. e ≡ TooMany → IsFull N.rules self.new) }
+        ensures left { IsLeft N.rules self.new }
     {
         for _ in rt.forever() {
             match self.node() {

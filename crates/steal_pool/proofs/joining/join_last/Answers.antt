@@ -9,10 +9,10 @@ pub offset_bounds-seats-owner : goal.offset_bounds-seats-owner
 offset_bounds-seats-owner g c = let within = read_within c.args.seats.now c.args.i c.index-seats-i.result c.give_pass.new.self c.in-Some.pass c.worker-owner.result c.requires.inside c.in-Some.ensures c.requires.linked c.worker-owner.ensures in search rules
 
 pub join_pass-requires-clause-ours : goal.join_pass-requires-clause-ours
-join_pass-requires-clause-ours g c = (read_fits c.args.seats.now c.args.i c.index-seats-i.result c.give_pass.new.self c.in-Some.pass c.worker-owner.result c.requires.inside c.in-Some.ensures c.requires.linked c.worker-owner.ensures _).0
+join_pass-requires-clause-ours g c κs within = (read_fits c.args.seats.now c.args.i c.index-seats-i.result c.give_pass.new.self c.in-Some.pass c.worker-owner.result c.requires.inside c.in-Some.ensures c.requires.linked c.worker-owner.ensures _).0
 
 pub join_pass-requires-clause-made : goal.join_pass-requires-clause-made
-join_pass-requires-clause-made g c = (read_fits c.args.seats.now c.args.i c.index-seats-i.result c.give_pass.new.self c.in-Some.pass c.worker-owner.result c.requires.inside c.in-Some.ensures c.requires.linked c.worker-owner.ensures _).1
+join_pass-requires-clause-made g c κs within = (read_fits c.args.seats.now c.args.i c.index-seats-i.result c.give_pass.new.self c.in-Some.pass c.worker-owner.result c.requires.inside c.in-Some.ensures c.requires.linked c.worker-owner.ensures _).1
 
 pub returns-in-Some-clause-joins : goal.returns-in-Some-clause-joins
 returns-in-Some-clause-joins g c = λ _. read_joins c.args.seats.now c.args.i c.index-seats-i.result c.give_pass.new.self c.in-Some.pass c.worker-owner.result c.requires.inside c.in-Some.ensures c.requires.linked c.worker-owner.ensures _ _ c.join_pass.ensures.joined

@@ -3,11 +3,10 @@ use Rattle.std.proofs.Common.{◌≡◌, ◌≢◌, ◌⊎◌, inl, inr, ℕ, ze
 use Rattle.std.proofs.lemmas.Bool.{cases_eq}
 use Rattle.std.proofs.lemmas.Option.{slice_get-get_or}
 use Rattle.std.specs.List.{AllByRecursion}
+use Rattle.atomic_table.specs.Seated.{TableId}
 use Rattle.spec_trees.specs.declared.tree.Node.{Node}
 use Rattle.spec_trees.specs.declared.tree.Leaf.{Leaf}
-use Rattle.spec_trees.specs.Tree.{IsSound, IsValid, Rules, leaf_of, leaves, mark_of}
-use Rattle.spec_trees.specs.declared.tree.Mark.{Mark}
-use Rattle.spec_trees.proofs.Leaves.{leaves_settled}
+use Rattle.spec_trees.specs.Tree.{Rules, leaves}
 use Rattle.spec_pool.specs.declared.ledger.Part.{Part}
 use Rattle.spec_pool.specs.declared.ledger.Terms.{Terms}
 use Rattle.spec_pool.specs.Accounts.{leaves_of}
@@ -18,17 +17,17 @@ use Rattle.spec_pool.proofs.Moving.{hand_weigh, weigh_hand}
 use Rattle.spec_pool.proofs.Weights.{weigh, weigh-append, weigh-flat, weigh-map, weigh-same, sum_is_weigh}
 use Rattle.span_ledger.specs.declared.desk.LedgerSeat.{LedgerSeat}
 use Rattle.span_ledger.specs.Seats.{part}
+use Rattle.steal_pool.specs.declared.view.View.{View}
 use Rattle.steal_pool.specs.declared.seat.PoolError.{PoolError}
 use Rattle.steal_pool.specs.declared.seat.PoolError.TheVariants.{TooMany, Memory}
-use Rattle.steal_pool.specs.Rule.{DequeId, End}
-use Rattle.steal_pool.specs.Seats.{IsFull, IsLeft, SameSeat, Seat, Ways, Works, entered_by, place_of, ways}
-use Rattle.steal_pool.specs.Pools.{AccountFor, AreLinked, Beside, ComeBack, IsLeftOver, IsRefused, KeepNone, NoneIsOutOfMemory, entered_in, own_of, passes_on, right_of, seat_right, taken_of, ways_of_all}
+use Rattle.steal_pool.specs.Rule.{DequeId, End, IsUsedUp}
+use Rattle.steal_pool.specs.Seats.{IsFull, IsLeft, SameSeat, Seat, Ways, entered_by, place_of, ways}
+use Rattle.steal_pool.specs.Pools.{AccountFor, AreLinked, Beside, ComeBack, IsLeftOver, IsRefused, KeepNone, Linked, NoneIsOutOfMemory, entered_in, own_of, passes_on, right_of, seat_right, taken_of, ways_of_all}
 use Rattle.steal_pool.specs.Passes.{HasNoPass, Joined, lasting}
 use Rattle.steal_pool.specs.Closing.{AllUsedUp, Changes, Ended, HasUsedUp, IsFullOf, Leaves, NoneIsFull, SomeIsFull, WorkOff}
-use Rattle.steal_pool.proofs.Entering.{same_more, seat_idle, seat_more}
 use Rattle.steal_pool.proofs.Accounts.{entered_weigh, entered_weight, own_weight, same_weights, taken_weight}
 use Rattle.steal_pool.proofs.Together.{account_weighs, changed_account, changed_linked, entered_sum, own_of_weigh, own_sum, put_sum, taken_of_weigh, taken_sum, weighs_account}
-use Rattle.steal_pool.proofs.Listing.{all_each, all_get, beside_all, beside_at, beside_map, beside_self, beside_set, get_other, get_same, one_some, within, map_all, map_at, map_from, weigh_none}
+use Rattle.steal_pool.proofs.Listing.{all_get, beside_all, beside_at, beside_map, map_all, map_at, map_from, map_length, nothing, weigh_none}
 
 map_twice : {A B C : Type 0} (f : A → B) (g : B → C) (xs : List A) → map (λ x. g (f x)) xs ≡ map g (map f xs)
 map_twice f g [] = refl
@@ -241,37 +240,3 @@ some_refused t ss qs es leaf d b (k, q, at, f) =
       subst (λ (p : Part). s.0.terms.limit ≤ length p.seen) (sym e.2.part) (omega (arith, f.limit, ap (λ (x : Terms). x.limit) s.2)),
       subst (λ (p : Part). Fresh leaf p.seen) (sym e.2.part) f.fresh,
     )
-
--- ---- seat i, read as the default d or another, worked
-module _ (t : Rules) (ss us : List Seat) (i : ℕ) (d q : Seat) (inside : i < length us) where
-  pub changes_one : Beside (Changes t) ss us → SameSeat (get_or us i d) q → Works t (get_or us i d) q → Beside (Changes t) ss (slice_set us i q)
-  changes_one b same works = beside_set (Changes t) ss us i (get_or us i d) q (slice_get-get_or us i d inside) (λ x c. (same_more x (get_or us i d) q c.0 same, seat_more t x (get_or us i d) q c.1 works)) b
-
-  pub used_one : HasUsedUp q → ((k : ℕ) (s : Seat) → slice_get us k ≡ Some s → k < i → HasUsedUp s) → (k : ℕ) (s : Seat) → slice_get (slice_set us i q) k ≡ Some s → k < i + 1 → HasUsedUp s
-  used_one new old k s at b = elim (cases_eq k i) [
-    | inl same ↦ subst HasUsedUp (one_some (slice_get (slice_set us i q) i) q s (get_same us i (get_or us i d) q (slice_get-get_or us i d inside)) (ap (slice_get (slice_set us i q)) (sym same) ∙ at)) new
-    | inr apart ↦ old k s (sym (get_other us i k q apart) ∙ at) (omega (arith, apart, b))
-  ]
-
-  pub not_free : (e : PoolError) → q.refusal ≡ Some e → KeepNone (slice_set us i q) → ⊥
-  not_free e is free = some_none q.refusal e (all_get (λ s. s.refusal ≡ None) (slice_set us i q) i q free (get_same us i (get_or us i d) q (slice_get-get_or us i d inside))) is
-    where
-      some_none : (x : Option PoolError) (f : PoolError) → x ≡ None → x ≡ Some f → ⊥
-      some_none x f a b = cc
-
-pub unchanged : (t : Rules) (ss : List Seat) → Beside (Changes t) ss ss
-unchanged t ss = beside_self (Changes t) ss (λ s. (record { ways = refl; table = refl; terms = refl; number = refl }, seat_idle t s))
-
-pub all_used : (us : List Seat) (n : ℕ) → length us ≤ n → ((k : ℕ) (s : Seat) → slice_get us k ≡ Some s → k < n → HasUsedUp s) → AllUsedUp us
-all_used us n len used = all_each HasUsedUp us (λ k s at. used k s at (omega (arith, len, within us k s at)))
-
--- ---- the leaf of a seat that is full
-pub full_of : (t : Rules) → IsSound t → (s : Seat) (n : Node) (m : Mark) → IsValid t n → Some n ≡ s.worker.hand → Some m ≡ mark_of (t.verdict n) → IsFull t s → IsFullOf t (leaf_of n m) s
-full_of t sound s n m valid hand marked (n', m', held, is, limit, fresh) =
-    let same : n' ≡ n = one_some s.worker.hand n' n held (sym hand) in
-    let mark : m' ≡ m = one_some (mark_of (t.verdict n)) m' m (ap (λ (x : Node). mark_of (t.verdict x)) (sym same) ∙ is) (sym marked) in record {
-      hand = sym hand;
-      leaves = leaves_settled t sound n valid m (sym marked);
-      limit = limit;
-      fresh = subst (λ (l : Leaf). Fresh l s.part.seen) (λ i. leaf_of (same i) (mark i)) fresh;
-    }

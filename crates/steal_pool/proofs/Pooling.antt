@@ -1,5 +1,5 @@
 -- What all seats of a pool have together stays the same over the work of each.
-use Rattle.std.proofs.Common.{◌≡◌, ℕ, zero, suc, ◌+◌, List, [], ◌∷◌, ◌++◌, length, None, slice_set, get_or, ◌<◌, option_to_list, refl, sym, ap, ◌∙◌, subst, arith}
+use Rattle.std.proofs.Common.{◌≡◌, ℕ, zero, suc, ◌+◌, List, [], ◌∷◌, ◌++◌, map, flat_map, length, Some, None, slice_get, slice_set, get_or, ◌<◌, IsPermutation, option_to_list, refl, sym, ap, ◌∙◌, subst, arith}
 use Rattle.std.specs.List.{AllByRecursion, AllZip}
 use Rattle.spec_trees.specs.declared.tree.Node.{Node}
 use Rattle.spec_trees.specs.declared.tree.Leaf.{Leaf}
@@ -9,11 +9,11 @@ use Rattle.spec_pool.proofs.Balancing.{by_leaves}
 use Rattle.spec_pool.proofs.Finding.{leaves_permuted}
 use Rattle.spec_pool.proofs.Moving.{weigh_hand, hand_weigh}
 use Rattle.spec_pool.proofs.Weights.{weigh, weigh-append, weigh-flat, weigh-same}
-use Rattle.steal_pool.specs.Workers.{taken_by}
-use Rattle.steal_pool.specs.Seats.{IsLeft, Seat, Works, account, entered_by}
+use Rattle.steal_pool.specs.Workers.{Holder, taken_by}
+use Rattle.steal_pool.specs.Seats.{IsLeft, SameSeat, Seat, Ways, Works, account, entered_by, ways}
 use Rattle.steal_pool.specs.Pools.{AccountFor, AreLinked, Linked, entered_of, own_of, put_of, taken_of, ways_of_all}
 use Rattle.steal_pool.specs.Runs.{AreFree, HasWorked, IsLater}
-use Rattle.steal_pool.proofs.Accounts.{does, entered_weigh, entered_weight, own_weight, same_weights, taken_weigh, taken_weight}
+use Rattle.steal_pool.proofs.Accounts.{Does, does, entered_weigh, entered_weight, own_weight, same_weights, taken_weigh, taken_weight}
 use Rattle.steal_pool.proofs.Entering.{same_more, seat_idle, seat_more}
 
 -- ---- weights of what one seat has, and of what all have

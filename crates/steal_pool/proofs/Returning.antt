@@ -1,6 +1,6 @@
 -- What the seats of a run are, from their making to their coming back, and what a run answers.
-use Rattle.std.proofs.Common.{◌≡◌, ℕ, zero, suc, ◌+◌, ◌<◌, ◌++◌, List, [], ◌∷◌, map, flat_map, length, Option, Some, None, Result, Ok, Err, Vec, IfOk, IfErr, slice_get, IsPermutation, refl, sym, ap, ◌∙◌, subst, arith}
-use Rattle.std.proofs.lemmas.List.Elements.{recursion_from_All}
+use Rattle.std.proofs.Common.{◌≡◌, ℕ, zero, suc, ◌+◌, ◌<◌, ◌≤◌, ◌++◌, List, [], ◌∷◌, map, flat_map, length, All, Option, Some, None, Result, Ok, Err, Vec, IfOk, IfErr, slice_get, IsPermutation, refl, sym, ap, ◌∙◌, subst, arith}
+use Rattle.std.proofs.lemmas.List.Elements.{All-from_recursion, recursion_from_All}
 use Rattle.std.specs.List.{AllByRecursion, AllZip}
 use mathlib.Core.Option as M
 use lib.ListN.{get_elem?}
@@ -14,17 +14,17 @@ use Rattle.spec_trees.specs.Order.{CoverRoot, ordered_leaves}
 use Rattle.spec_trees.proofs.Covering.{leaves_cover}
 use Rattle.spec_pool.specs.declared.ledger.Part.{Part}
 use Rattle.spec_pool.specs.declared.ledger.Terms.{Terms}
-use Rattle.spec_pool.specs.History.{FitsPart, Lies, Sound}
+use Rattle.spec_pool.specs.History.{FitsPart, Lies, Sound, part_of}
 use Rattle.span_ledger.specs.declared.desk.LedgerSeat.{LedgerSeat}
 use Rattle.span_ledger.specs.declared.desk.SpanLedger.{SpanLedger}
-use Rattle.span_ledger.specs.Seats.{AllFit, part, seat_table, terms}
+use Rattle.span_ledger.specs.Seats.{AllFit, IsSeatOf, part, seat_table, table_of, terms}
 use Rattle.steal_pool.specs.Seats.{Seat, entered_by, rules_within}
 use Rattle.std.specs.Global.{Global}
 use Rattle.steal_pool.specs.declared.finishing.FinishError.{FinishError}
 use Rattle.steal_pool.specs.declared.finishing.FinishError.TheVariants.{TooMany, Memory}
 use Rattle.steal_pool.specs.declared.seat.PoolError.{PoolError}
 use Rattle.steal_pool.specs.Pools.{AllBegin, Begins, ComeBack, IfTooMany, IsLeftOver, IsRefused, entered_in}
-use Rattle.steal_pool.specs.Runs.{AreAll, AreFree, AreSeatsOf, HaveEntered, IsLater, IsOverfull, IsSeatAt}
+use Rattle.steal_pool.specs.Runs.{AreAll, AreFree, AreSeatsOf, HasSeenAll, HaveEntered, IsLater, IsOverfull, IsSeatAt}
 use Rattle.steal_pool.proofs.Booking.{Fit, Numbered, book_in_order, more_than, parts_entered}
 
 -- ---- lists by place

@@ -1,15 +1,21 @@
 -- Walks over the seats of a pool at its end.
-use Rattle.std.proofs.Common.{◌≡◌, inl, inr, Bool, true, false, ℕ, zero, suc, ◌+◌, ◌<◌, ◌≤◌, List, [], ◌∷◌, length, Option, Some, None, Result, Ok, Err, IfErr, OnOk, slice_get, slice_set, get_or, refl, sym, ap, ◌∙◌, subst, arith}
+use Rattle.std.proofs.Common.{◌≡◌, ◌≢◌, ◌⊎◌, inl, inr, Bool, true, false, ℕ, zero, suc, ◌+◌, ◌<◌, ◌≤◌, List, [], ◌∷◌, length, Option, Some, None, Result, Ok, Err, IfErr, OnOk, slice_get, slice_set, get_or, refl, sym, ap, ◌∙◌, subst, arith}
 use Rattle.std.specs.Result.{is_err}
 use Rattle.std.proofs.lemmas.Bool.{cases_eq}
 use Rattle.std.specs.List.{AllByRecursion}
-use Rattle.spec_trees.specs.Tree.{Rules}
+use Rattle.spec_trees.specs.declared.tree.Leaf.{Leaf}
+use Rattle.spec_trees.specs.declared.tree.Mark.{Mark}
+use Rattle.spec_trees.specs.declared.tree.Node.{Node}
+use Rattle.spec_trees.specs.Tree.{IsSound, IsValid, Rules, leaf_of, mark_of}
+use Rattle.spec_trees.proofs.Leaves.{leaves_settled}
+use Rattle.spec_pool.specs.History.{Fresh}
 use Rattle.steal_pool.specs.declared.seat.PoolError.{PoolError}
-use Rattle.steal_pool.specs.Seats.{IsLeft, SameSeat, Seat, Works}
+use Rattle.steal_pool.specs.Rule.{IsUsedUp}
+use Rattle.steal_pool.specs.Seats.{IsFull, IsLeft, SameSeat, Seat, Works}
 use Rattle.steal_pool.specs.Pools.{Beside, KeepNone}
-use Rattle.steal_pool.specs.Closing.{Changes, WorkOff}
+use Rattle.steal_pool.specs.Closing.{AllUsedUp, Changes, HasUsedUp, IsFullOf, WorkOff}
 use Rattle.steal_pool.proofs.Entering.{same_more, seat_idle, seat_more}
-use Rattle.steal_pool.proofs.Listing.{all_each, all_get, all_set, beside_set, get_other, get_same, within}
+use Rattle.steal_pool.proofs.Listing.{all_each, all_get, all_set, beside_self, beside_set, get_other, get_same, within}
 
 -- what holds of the elements before n
 abbrev pub Before : {A : Type 0} → (A → Type 0) → ℕ → List A → Type 0
@@ -71,3 +77,18 @@ stops t ss qs i q r at same works left refusal b all free = record {
   used = λ none. absurd (refusal (all_get (λ s. s.refusal ≡ None) (slice_set qs i r) i r none (get_same qs i q r at)));
   refusals = inl free;
 }
+
+-- ---- the leaf for which a ledger was full
+same_in : {A : Type 0} (x y : A) → Some x ≡ Some y → x ≡ y
+same_in x y e = cc
+
+pub full_of : (t : Rules) → IsSound t → (s : Seat) (node : Node) (mark : Mark) → IsValid t node → Some node ≡ s.worker.hand → mark_of (t.verdict node) ≡ Some mark → IsFull t s → IsFullOf t (leaf_of node mark) s
+full_of t sound s node mark valid hand marked (n, m, held, is, most, fresh) =
+    let same : n ≡ node = same_in n node (sym held ∙ sym hand) in
+    let same_mark : m ≡ mark = same_in m mark (sym is ∙ (ap (λ (x : Node). mark_of (t.verdict x)) same ∙ marked)) in
+    record {
+      hand = sym hand;
+      leaves = leaves_settled t sound node valid mark marked;
+      limit = most;
+      fresh = subst (λ (l : Leaf). Fresh l s.part.seen) (λ i. leaf_of (same i) (same_mark i)) fresh;
+    }

@@ -1,5 +1,5 @@
 -- What the seats of a pool have together, by weights.
-use Rattle.std.proofs.Common.{◌≡◌, ℕ, suc, ◌+◌, ◌<◌, List, [], ◌∷◌, ◌++◌, length, Option, Some, None, option_to_list, refl, sym, ap, ◌∙◌, subst, arith}
+use Rattle.std.proofs.Common.{◌≡◌, ℕ, zero, suc, ◌+◌, ◌<◌, ◌==◌, List, [], ◌∷◌, ◌++◌, map, flat_map, length, Option, Some, None, IsPermutation, option_to_list, slice_get, if◌then◌else◌, refl, sym, ap, ◌∙◌, subst, arith}
 use Rattle.std.proofs.lemmas.Bool.Decides.{nat_tests}
 use Rattle.spec_trees.specs.declared.tree.Node.{Node}
 use Rattle.spec_trees.specs.declared.tree.Leaf.{Leaf}
@@ -89,11 +89,11 @@ hand_of_other k root e = grind (arith, nat_tests, e)
 begin_own : (t : Rules) (h : Leaf → ℕ) (ledger : SpanLedger) (root : Node) (k : ℕ) (s : Seat) → Begins ledger k (first_hand root k) s → 0 < k → own_weight t h s.worker ≡ 0
 begin_own t h ledger root k s b p = omega (arith, ap (weigh_hand (by_leaves t h)) (b.hand ∙ hand_of_other k root p), ap (weigh (by_leaves t h)) b.kept)
 
-begin_taken : (g : Node → ℕ) (ledger : SpanLedger) (k : ℕ) (held : Option Node) (s : Seat) → Begins ledger k held s → taken_weight g s.worker ≡ 0
-begin_taken g ledger k held s b = sym (taken_weigh g s.worker) ∙ ap (weigh g) b.taken
+begin_taken : (g : Node → ℕ) (ledger : SpanLedger) (k : ℕ) (node : Option Node) (s : Seat) → Begins ledger k node s → taken_weight g s.worker ≡ 0
+begin_taken g ledger k node s b = sym (taken_weigh g s.worker) ∙ ap (weigh g) b.taken
 
-begin_entered : (h : Leaf → ℕ) (ledger : SpanLedger) (k : ℕ) (held : Option Node) (s : Seat) → Begins ledger k held s → entered_weight h s.part ≡ 0
-begin_entered h ledger k held s b = ap (entered_weight h) b.part
+begin_entered : (h : Leaf → ℕ) (ledger : SpanLedger) (k : ℕ) (node : Option Node) (s : Seat) → Begins ledger k node s → entered_weight h s.part ≡ 0
+begin_entered h ledger k node s b = ap (entered_weight h) b.part
 
 pub begin_account : (t : Rules) (ledger : SpanLedger) (root : Node) (ss : List Seat) → 0 < length ss → AllBegin ledger root ss → AccountFor t root ss
 begin_account t ledger root [] some all = absurd (omega (arith, some))

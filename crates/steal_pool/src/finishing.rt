@@ -135,9 +135,8 @@ fn work_off<'p, R: Wait, N: Naming, J: Judge, G: Gate>(rt: &R, seats: &mut [Pool
         return;
     }
     for i in 0..seats.len() {
-        match seats[i].work(rt) {
-            Ok(()) => {}
-            Err(_) => return,
+        if seats[i].work(rt).is_err() {
+            return;
         }
     }
 }

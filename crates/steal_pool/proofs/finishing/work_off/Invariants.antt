@@ -1,8 +1,8 @@
-use Rattle.std.proofs.Common.{◌≡◌, ◌<◌, ℕ, Some, slice_get}
 use Rattle.std.specs.List.{AllByRecursion}
-use Rattle.steal_pool.specs.Seats.{IsLeft, Seat}
+use Rattle.steal_pool.specs.Seats.{IsLeft}
 use Rattle.steal_pool.specs.Pools.{Beside, KeepNone}
 use Rattle.steal_pool.specs.Closing.{Changes, HasUsedUp}
+use Rattle.steal_pool.proofs.Scanning.{Before}
 use Rattle.steal_pool.proofs.finishing.work_off.Given as goal
 
 abbrev pub invariant-loop-i : goal.invariant-loop-i
@@ -10,5 +10,5 @@ invariant-loop-i g l = record {
   changes : Beside (Changes g.N.Naming.rules) l.initial.seats l.seats;
   left : AllByRecursion (IsLeft g.N.Naming.rules) l.seats;
   free : KeepNone l.seats;
-  used : (k : ℕ) (s : Seat) → slice_get l.seats k ≡ Some s → k < l.i → HasUsedUp s;
+  used : Before HasUsedUp l.i l.seats;
 }

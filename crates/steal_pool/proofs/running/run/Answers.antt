@@ -1,3 +1,4 @@
+use Rattle.std.proofs.Common.{refl}
 use Rattle.steal_pool.proofs.Returning.{cover_ok}
 use Rattle.steal_pool.proofs.running.run.Goals as goal
 

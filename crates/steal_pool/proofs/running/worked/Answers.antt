@@ -1,4 +1,4 @@
-use Rattle.std.proofs.Common.{List, rules, sym, subst}
+use Rattle.std.proofs.Common.{◌≡◌, List, rules, sym, subst, ◌∙◌}
 use Rattle.std.proofs.lemmas.List.{with_items_is, places}
 use Rattle.steal_pool.specs.Pools.{AccountFor, AllBegin, AreLinked}
 use Rattle.steal_pool.specs.Seats.{Seat}

@@ -1,9 +1,9 @@
 #!/bin/sh
-# Times `finder` on two large texts beside `wc -l` on the same files, in one run, and prints for each its status, its
-# times and the peak of its memory. The first text has 16,384 small blocks, the second 32
-# million bytes in JPL's own layout. Run by hand, as `bench/reading.sh FILE PROGRAM`: FILE is JPL's text of DE405 with a
-# header and blocks; PROGRAM may be left out, and is then the one that `rt run` in crates/finder_main has built. Where
-# `rt run` in crates/measure_main was done too, it also prints the time of lines, words and decimals alone.
+# Times `finder` on two large texts beside a C program that reads the numbers of the same files by `strtod`, in one run,
+# and prints for each its status, its times and the peak of its memory. The first text has 16,384 small blocks, the
+# second 32 million bytes in JPL's own layout. Run by hand, as `bench/reading.sh FILE PROGRAM`: FILE is JPL's text of
+# DE405 with a header and blocks; PROGRAM may be left out, and is then the one that `rt run` in crates/finder_main has
+# built. Where `rt run` in crates/measure_main was done too, it also prints the time of lines, words and decimals alone.
 set -e
 [ -r "$1" ] || { echo "usage: bench/reading.sh FILE [PROGRAM], FILE a text of DE405 by JPL" >&2; exit 2; }
 source=$(realpath "$1")
@@ -13,11 +13,16 @@ reader=$here/../crates/measure_main/out/measure_main
 [ -x "$ours" ] || { echo "build it first: cd crates/finder_main && rt run" >&2; exit 1; }
 work=$(mktemp -d)
 trap 'rm -rf "$work"' EXIT
+cc -O2 -o "$work/peer" "$here/reading.c" -lm
 python3 "$here/texts.py" small "$work/small.asc"
 python3 "$here/texts.py" large "$work/large.asc" "$source"
 
-# Of the runs in a file of times, that with the least time of the processor, by which the machine's other work counts
-# least.
+# The least time of the processor in a file of times, of the runs by which the machine's other work counts least.
+least_time() {
+    awk '{ print $1 + $2 }' "$1" | sort -n | head -n 1
+}
+
+# The run with that time.
 least() {
     awk '{ print $1 + $2, $0 }' "$2" | sort -n | head -n 1 | awk -v name="$1" \
         '{ printf "  %s: status %s, user %s s, system %s s, elapsed %s s, peak %.1f MB\n", name, $6, $2, $3, $4, $5 / 1024 }'
@@ -28,13 +33,15 @@ measure() {
     echo "$1: $(wc -c < "$work/$1") bytes, $(wc -l < "$work/$1") lines"
     rm -f "$work/ours.times" "$work/peer.times"
     for run in 1 2 3 4 5; do
-        /usr/bin/time -q -f '%U %S %e %M %x' -a -o "$work/ours.times" \
-            "$ours" find --kind coord --target mercury --axis x "$work/$1" > "$work/ours.out" 2>&1 || true
-        /usr/bin/time -q -f '%U %S %e %M %x' -a -o "$work/peer.times" wc -l "$work/$1" > "$work/peer.out"
+        /usr/bin/time -q -f '%U %S %e %M %x' -a -o "$work/ours.times" "$ours" check "$work/$1" > "$work/ours.out" 2>&1 || true
+        /usr/bin/time -q -f '%U %S %e %M %x' -a -o "$work/peer.times" "$work/peer" "$work/$1" > "$work/peer.out"
     done
-    least finder "$work/ours.times"
-    least "wc -l" "$work/peer.times"
-    echo "  finder says, in $(wc -l < "$work/ours.out") lines, at last: $(tail -n 1 "$work/ours.out")"
+    least "finder check" "$work/ours.times"
+    least "C with strtod" "$work/peer.times"
+    awk -v a="$(least_time "$work/ours.times")" -v b="$(least_time "$work/peer.times")" \
+        'BEGIN { printf "  ratio of the times of the processor: %.2f\n", a / b }'
+    echo "  finder says at last: $(tail -n 1 "$work/ours.out")"
+    echo "  C says: $(cat "$work/peer.out")"
 }
 
 # The words of the text, read as decimals by measure_main where that is built: the time of ten rounds less that of none.

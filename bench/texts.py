@@ -2,11 +2,15 @@
 
     texts.py small FILE           16,384 blocks of a layout of 26 numbers: Mercury, the Earth-Moon barycentre, the Moon
                                   and the Sun with two coefficients each
-    texts.py large FILE SOURCE    JPL's header and blocks of SOURCE, repeated with running dates to 32 million bytes
+    texts.py large FILE SOURCE    JPL's header and blocks of SOURCE, repeated with running dates to 32 million bytes,
+                                  which are a century of DE405
+    texts.py blocks COUNT FILE SOURCE
+                                  the same up to so many blocks
 
 Every block begins where the one before it ended. The header's dates stay as they are.
 """
 
+import itertools
 import sys
 
 DAYS = 32
@@ -72,8 +76,8 @@ def moved(block, number, start):
     return f"{number + 1:6}{record[6:]}" + dates + "".join(rest)
 
 
-def large(source):
-    """The header, then the blocks again and again."""
+def repeated(source):
+    """The header, then the blocks again and again, without an end."""
     with open(source, encoding="ascii", newline="") as file:
         lines = file.read().splitlines(keepends=True)
     records = [i for i, line in enumerate(lines) if len(line.split()) == 2 and line.split()[0].isdigit()]
@@ -81,11 +85,18 @@ def large(source):
     blocks = [lines[i:j] for i, j in zip(records, records[1:] + [len(lines)])]
     start = half_days(blocks[0][1].split()[0])
     yield header
-    size, number = len(header), 0
-    while size < LARGE_BYTES:
-        text = moved(blocks[number % len(blocks)], number, start)
+    for number in itertools.count():
+        yield moved(blocks[number % len(blocks)], number, start)
+
+
+def large(source):
+    """The first of these texts that make 32 million bytes."""
+    size = 0
+    for text in repeated(source):
         yield text
-        size, number = size + len(text), number + 1
+        size += len(text)
+        if size >= LARGE_BYTES:
+            return
 
 
 def main(words):
@@ -94,6 +105,8 @@ def main(words):
             texts = small()
         case ["large", name, source]:
             texts = large(source)
+        case ["blocks", count, name, source]:
+            texts = itertools.islice(repeated(source), int(count) + 1)
         case _:
             sys.exit(__doc__)
     with open(name, "w", encoding="ascii", newline="") as file:

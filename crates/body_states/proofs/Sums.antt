@@ -14,7 +14,7 @@ use Rattle.spec_bodies.specs.declared.quantity.Quantity.{Quantity}
 use Rattle.spec_bodies.specs.declared.quantity.Quantity.TheVariants.{Position, Velocity}
 use Rattle.spec_bodies.specs.Views.{value_interval, step_interval}
 use Rattle.body_states.specs.declared.granule_span.GranuleSpan.{GranuleSpan}
-use Rattle.cheby_enclose.specs.declared.positions.Bases.{Bases}
+use Rattle.body_states.specs.declared.bases.Rows.{Rows}
 use Rattle.body_states.specs.Bases.{IsCentre, IsWhole, value_over, step_over}
 use Rattle.body_states.proofs.SeriesParts.{AreParts, series_parts}
 
@@ -43,14 +43,14 @@ middle_near s =
 
 -- ---- sums by the coefficients of an axis are the intervals of its series
 module _ (s : GranuleSpan) (quantity : Quantity) (axis : ℕ) (terms : List Ival62) (are : terms ≡ coefficients_of (series_of s.granule axis)) (t : Interval) where
-  pub mid_is : (bases : Bases) → IsCentre s bases → t ≡ value_over quantity terms bases.arguments (unsigned_abs s.granule.seconds)
+  pub mid_is : (bases : Rows) → IsCentre s quantity bases → t ≡ value_over quantity terms bases.arguments (unsigned_abs s.granule.seconds)
       → t ≡ value_interval quantity (series_of s.granule axis) (middle s.times.now.first s.times.now.last) (middle s.times.now.first s.times.now.last)
   mid_is bases is e = e ∙ (λ i. value_over quantity (are i) (is.over axis i) (unsigned_abs s.granule.seconds)) ∙ value_over-arguments quantity (series_of s.granule axis) _ _
 
-  pub range_is : (bases : Bases) → IsWhole s bases → t ≡ value_over quantity terms bases.arguments (unsigned_abs s.granule.seconds)
+  pub range_is : (bases : Rows) → IsWhole s quantity bases → t ≡ value_over quantity terms bases.arguments (unsigned_abs s.granule.seconds)
       → t ≡ value_interval quantity (series_of s.granule axis) s.times.now.first s.times.now.last
   range_is bases is e = e ∙ (λ i. value_over quantity (are i) (is.over axis i) (unsigned_abs s.granule.seconds)) ∙ value_over-arguments quantity (series_of s.granule axis) _ _
 
-  pub step_is : (bases : Bases) → IsWhole s bases → lt_z s.times.now.first s.times.now.last ≡ true → t ≡ step_over quantity terms bases.arguments (unsigned_abs s.granule.seconds)
+  pub step_is : (bases : Rows) → IsWhole s quantity bases → lt_z s.times.now.first s.times.now.last ≡ true → t ≡ step_over quantity terms bases.arguments (unsigned_abs s.granule.seconds)
       → t ≡ step_interval quantity (series_of s.granule axis) s.times.now.first s.times.now.last
   step_is bases is several e = e ∙ (λ i. step_over quantity (are i) (is.over axis i) (unsigned_abs s.granule.seconds)) ∙ step_over-arguments quantity (series_of s.granule axis) _ _ several

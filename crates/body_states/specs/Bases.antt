@@ -1,47 +1,55 @@
 -- Rows of the bases, and sums over them.
-use Rattle.std.specs.Prelude.{◌≡◌, true, ℕ, ◌<◌, List, ℤ}
+use Rattle.std.specs.Prelude.{◌≡◌, true, ℕ, List, ℤ}
 use lib.Signed.{lt_z}
 use Rattle.spec_intervals.specs.Interval.{Interval}
 use Rattle.spec_intervals.specs.Enclosure.{middle}
 use Rattle.spec_chebyshev.specs.declared.ends.Ival62.{Ival62}
-use Rattle.spec_chebyshev.specs.Rows.{t_row, u_row, q_row, r_row, entry, IsArguments}
+use Rattle.spec_chebyshev.specs.Rows.{t_row, u_row, q_row, r_row, IsArguments}
 use Rattle.spec_ephemeris.specs.declared.granule.Granule.{Granule}
 use Rattle.spec_ephemeris.specs.Granules.{series_of}
 use Rattle.spec_motions.specs.Enclosures.{arguments, position_over, position_step_over, velocity_over, velocity_step_over}
 use Rattle.spec_bodies.specs.declared.quantity.Quantity.{Quantity}
 use Rattle.spec_bodies.specs.declared.quantity.Quantity.TheVariants.{Position, Velocity}
-use Rattle.cheby_enclose.specs.declared.positions.Bases.{Bases}
+use Rattle.spec_motions.specs.RowSizes.{IsRow, IsShorterRow}
+use Rattle.body_states.specs.declared.bases.Rows.{Rows}
 use Rattle.body_states.specs.declared.granule_span.GranuleSpan.{GranuleSpan}
 
--- the first n entries of T and U
-pub record ArePlain (n : ℕ) (bases : Bases) : Type 0 where
-  pub unit : IsArguments bases.arguments
-  pub t : (k : ℕ) → k < n → entry bases.rows.t k ≡ t_row bases.arguments k
-  pub u : (k : ℕ) → k < n → entry bases.rows.u k ≡ u_row bases.arguments k
+-- the first entries of the row of a quantity's values, as many as sums over n terms take: T for positions, U for
+-- velocities
+abbrev pub AreValues : Quantity → ℕ → Rows → Type 0
+AreValues Position n rows = IsRow n rows.values (t_row rows.arguments)
+AreValues Velocity n rows = IsShorterRow n rows.values (u_row rows.arguments)
 
--- and those of Q and R
-pub record AreAll (n : ℕ) (bases : Bases) : Type 0 where
-  pub plain : ArePlain n bases
-  pub q : (k : ℕ) → k < n → entry bases.rows.q k ≡ q_row bases.arguments k
-  pub r : (k : ℕ) → k < n → entry bases.rows.r k ≡ r_row bases.arguments k
+-- and of that of its changes: Q for positions, R for velocities
+abbrev pub AreSteps : Quantity → ℕ → Rows → Type 0
+AreSteps Position n rows = IsRow n rows.steps (q_row rows.arguments)
+AreSteps Velocity n rows = IsShorterRow n rows.steps (r_row rows.arguments)
+
+pub record ArePlain (quantity : Quantity) (n : ℕ) (rows : Rows) : Type 0 where
+  pub unit : IsArguments rows.arguments
+  pub values : AreValues quantity n rows
+
+pub record AreAll (quantity : Quantity) (n : ℕ) (rows : Rows) : Type 0 where
+  pub plain : ArePlain quantity n rows
+  pub steps : AreSteps quantity n rows
 
 -- the arguments are those of the times from a to b in a granule
-abbrev pub AreOver : Granule → ℤ → ℤ → Bases → Type 0
-AreOver g a b bases = (axis : ℕ) → bases.arguments ≡ arguments (series_of g axis) a b
+abbrev pub AreOver : Granule → ℤ → ℤ → Rows → Type 0
+AreOver g a b rows = (axis : ℕ) → rows.arguments ≡ arguments (series_of g axis) a b
 
--- T and U in the middle of the times
-pub record IsCentre (s : GranuleSpan) (bases : Bases) : Type 0 where
-  pub over : AreOver s.granule (middle s.times.now.first s.times.now.last) (middle s.times.now.first s.times.now.last) bases
-  pub rows : ArePlain s.granule.n bases
+-- the row of values in the middle of the times
+pub record IsCentre (s : GranuleSpan) (quantity : Quantity) (made : Rows) : Type 0 where
+  pub over : AreOver s.granule (middle s.times.now.first s.times.now.last) (middle s.times.now.first s.times.now.last) made
+  pub rows : ArePlain quantity s.granule.n made
 
--- all four over all times
-pub record IsWhole (s : GranuleSpan) (bases : Bases) : Type 0 where
-  pub over : AreOver s.granule s.times.now.first s.times.now.last bases
-  pub rows : AreAll s.granule.n bases
+-- both rows over all times
+pub record IsWhole (s : GranuleSpan) (quantity : Quantity) (made : Rows) : Type 0 where
+  pub over : AreOver s.granule s.times.now.first s.times.now.last made
+  pub rows : AreAll quantity s.granule.n made
 
 -- which only several times need
-abbrev pub IsWholeOfSeveral : GranuleSpan → Bases → Type 0
-IsWholeOfSeveral s bases = lt_z s.times.now.first s.times.now.last ≡ true → IsWhole s bases
+abbrev pub IsWholeOfSeveral : GranuleSpan → Quantity → Rows → Type 0
+IsWholeOfSeveral s quantity made = lt_z s.times.now.first s.times.now.last ≡ true → IsWhole s quantity made
 
 -- ---- sums over the rows, by terms, arguments and a length in seconds
 abbrev pub value_over : Quantity → List Ival62 → Ival62 → ℕ → Interval

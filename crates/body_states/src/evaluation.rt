@@ -6,14 +6,14 @@ ghost use Rattle.spec_ephemeris.specs.Granules.{series_of};
 ghost use Rattle.body_states.specs.Motions.{AreAlong, AreMotions, enclosure_along};
 ghost use Rattle.body_states.specs.Bases.{ArePlain, AreAll, IsCentre, IsWhole, IsWholeOfSeveral, value_over, step_over};
 
-use crate::bases::{all_bases, plain_bases};
+use crate::bases::{Rows, all_rows, plain_rows};
 use crate::granule_span::GranuleSpan;
 use crate::motions::{AxisEnclosures, Motions};
 use crate::question::QuantityAxes;
-use cheby_difference::{position_step_over, velocity_over, velocity_step_over};
-use cheby_enclose::{Bases, Terms, arguments, position_over};
+use cheby_difference::{position_step_over_row, velocity_over_row, velocity_step_over_row};
+use cheby_enclose::{Terms, arguments, position_over_row};
 use event_expr::Axes;
-use ival_core::{Enclosure, Ival};
+use ival_core::{Divider, Enclosure, Ival};
 use spec_bodies::Quantity;
 
 impl<'g> GranuleSpan<'g> {
@@ -32,9 +32,9 @@ impl<'g> GranuleSpan<'g> {
         ensures { AreAlong (enclosure_along self.now quantity) result }
     {
         if axes.x || axes.y || axes.z {
-            let centre = self.centre();
+            let centre = self.centre(quantity);
             if self.times.is_wide() {
-                self.enclosures_by(quantity, axes, &centre, &self.whole())
+                self.enclosures_by(quantity, axes, &centre, &self.whole(quantity))
             } else {
                 self.enclosures_by(quantity, axes, &centre, &centre)
             }
@@ -49,9 +49,9 @@ impl<'g> GranuleSpan<'g> {
         ensures { result ≡ enclosure_along self.now quantity axis }
     {
         let terms = Terms::of(&self.granule, axis);
-        let centre = self.centre();
+        let centre = self.centre(quantity);
         if self.times.is_wide() {
-            self.enclosure_by(quantity, axis, &terms, &centre, &self.whole())
+            self.enclosure_by(quantity, axis, &terms, &centre, &self.whole(quantity))
         } else {
             self.enclosure_by(quantity, axis, &terms, &centre, &centre)
         }
@@ -61,11 +61,11 @@ impl<'g> GranuleSpan<'g> {
         &self,
         quantity: Quantity,
         axes: Axes,
-        centre: &Bases,
-        whole: &Bases,
+        centre: &Rows,
+        whole: &Rows,
     ) -> AxisEnclosures
-        requires centre { IsCentre self.now centre.now }
-        requires whole { IsWholeOfSeveral self.now whole.now }
+        requires centre { IsCentre self.now quantity centre.now }
+        requires whole { IsWholeOfSeveral self.now quantity whole.now }
         ensures { AreAlong (enclosure_along self.now quantity) result }
     {
         AxisEnclosures {
@@ -81,12 +81,12 @@ impl<'g> GranuleSpan<'g> {
         is_needed: bool,
         quantity: Quantity,
         axis: usize,
-        centre: &Bases,
-        whole: &Bases,
+        centre: &Rows,
+        whole: &Rows,
     ) -> Option<Enclosure>
         requires axis { axis < 3 }
-        requires centre { IsCentre self.now centre.now }
-        requires whole { IsWholeOfSeveral self.now whole.now }
+        requires centre { IsCentre self.now quantity centre.now }
+        requires whole { IsWholeOfSeveral self.now quantity whole.now }
         ensures { IfSome result (λ e. e ≡ enclosure_along self.now quantity axis) }
     {
         if is_needed {
@@ -103,14 +103,14 @@ impl<'g> GranuleSpan<'g> {
         quantity: Quantity,
         axis: usize,
         terms: &Terms,
-        centre: &Bases,
-        whole: &Bases,
+        centre: &Rows,
+        whole: &Rows,
     ) -> Enclosure
         requires axis { axis < 3 }
         requires terms { terms.now ≡ coefficients_of (series_of self.now.granule axis) }
         requires count { length terms.now ≡ self.now.granule.n }
-        requires centre { IsCentre self.now centre.now }
-        requires whole { IsWholeOfSeveral self.now whole.now }
+        requires centre { IsCentre self.now quantity centre.now }
+        requires whole { IsWholeOfSeveral self.now quantity whole.now }
         ensures { result ≡ enclosure_along self.now quantity axis }
     {
         let seconds = self.granule.seconds;
@@ -124,20 +124,20 @@ impl<'g> GranuleSpan<'g> {
         }
     }
 
-    // T and U in the middle of the times.
-    fn centre(&self) -> Bases
-        ensures { IsCentre self.now result }
+    // The row of values in the middle of the times.
+    fn centre(&self, quantity: Quantity) -> Rows
+        ensures { IsCentre self.now quantity result }
     {
         let m = self.middle();
-        plain_bases(arguments(&self.granule, m, m), self.granule.n)
+        plain_rows(quantity, arguments(&self.granule, m, m), self.granule.n)
     }
 
-    // T, U, Q and R over all times.
-    fn whole(&self) -> Bases
-        ensures { IsWhole self.now result }
+    // Both rows over all times.
+    fn whole(&self, quantity: Quantity) -> Rows
+        ensures { IsWhole self.now quantity result }
     {
         let arguments = arguments(&self.granule, self.times.first(), self.times.last());
-        all_bases(arguments, self.granule.n)
+        all_rows(quantity, arguments, self.granule.n)
     }
 
     // The time halfway, or the last before it.
@@ -150,25 +150,29 @@ impl<'g> GranuleSpan<'g> {
 }
 
 // The interval of a quantity, by the coefficients of one axis and the length of the granule in seconds.
-fn value_over(quantity: Quantity, terms: &Terms, bases: &Bases, seconds: i64) -> Ival
-    requires rows { ArePlain (length terms.now) bases.now }
+fn value_over(quantity: Quantity, terms: &Terms, rows: &Rows, seconds: i64) -> Ival
+    requires rows { ArePlain quantity (length terms.now) rows.now }
     requires long { pos 1 ≤ℤ seconds }
-    ensures { result ≡ value_over quantity terms.now bases.now.arguments (unsigned_abs seconds) }
+    ensures { result ≡ value_over quantity terms.now rows.now.arguments (unsigned_abs seconds) }
 {
     match quantity {
-        Quantity::Position => position_over(terms, bases),
-        Quantity::Velocity => velocity_over(terms, bases, seconds),
+        Quantity::Position => position_over_row(terms, rows.arguments, &rows.values),
+        Quantity::Velocity => {
+            let divider = Divider::of(seconds);
+            velocity_over_row(terms, rows.arguments, &rows.values, &divider)
+        }
     }
 }
 
 // The interval of its change in one second.
-fn step_over(quantity: Quantity, terms: &Terms, bases: &Bases, seconds: i64) -> Ival
-    requires rows { AreAll (length terms.now) bases.now }
+fn step_over(quantity: Quantity, terms: &Terms, rows: &Rows, seconds: i64) -> Ival
+    requires rows { AreAll quantity (length terms.now) rows.now }
     requires long { pos 1 ≤ℤ seconds }
-    ensures { result ≡ step_over quantity terms.now bases.now.arguments (unsigned_abs seconds) }
+    ensures { result ≡ step_over quantity terms.now rows.now.arguments (unsigned_abs seconds) }
 {
+    let divider = Divider::of(seconds);
     match quantity {
-        Quantity::Position => position_step_over(terms, bases, seconds),
-        Quantity::Velocity => velocity_step_over(terms, bases, seconds),
+        Quantity::Position => position_step_over_row(terms, rows.arguments, &rows.steps, &divider),
+        Quantity::Velocity => velocity_step_over_row(terms, rows.arguments, &rows.steps, &divider),
     }
 }

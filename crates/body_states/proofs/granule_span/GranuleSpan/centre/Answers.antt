@@ -6,4 +6,4 @@ pub returns : goal.returns
 returns c =
     let fm : FitsSigned w64 c.middle-m.result = search rules in
     let sm = to_z-of_z w64 c.middle-m.result fm ∙ c.middle-m.ensures in
-    record { over = λ axis. c.plain_bases.ensures.arguments ∙ (rw sm at (c.arguments.ensures.equals axis)); rows = c.plain_bases.ensures.rows }
+    record { over = λ axis. c.plain_rows.ensures.arguments ∙ (rw sm at (c.arguments.ensures.equals axis)); rows = c.plain_rows.ensures.rows }

@@ -44,3 +44,7 @@ returns-else-is_wide c =
     let s = series_of c.args.self.now.granule c.args.axis in
     let mid = mid_is c.args.self.now c.args.quantity c.args.axis c.args.terms.now c.requires.terms c.value_over-mid.result c.args.centre.now c.requires.centre (let n : SFits w64 c.args.self.now.granule.seconds = search rules in let e : c.value_over-mid.result ≡ value_over c.args.quantity c.args.terms.now c.args.centre.now.arguments (unsigned_abs c.args.self.now.granule.seconds) = simp to_z-of_z at c.value_over-mid.ensures in e) in
     c.single.ensures (value_interval c.args.quantity s a b) (step_interval c.args.quantity s a b) ∙ λ i. enclosure a b (mid i) (value_interval c.args.quantity s a b) (step_interval c.args.quantity s a b)
+
+pub step_over-step-requires-clause-rows : goal.step_over-step-requires-clause-rows
+step_over-step-requires-clause-rows c =
+    rw c.requires.count (c.requires.whole (sym c.is_wide.ensures ∙ c.if-is_wide.true)).rows

@@ -8,4 +8,4 @@ returns c =
     let fb : FitsSigned w64 c.last.result = search rules in
     let sa = to_z-of_z w64 c.first.result fa ∙ c.first.ensures in
     let sb = to_z-of_z w64 c.last.result fb ∙ c.last.ensures in
-    record { over = λ axis. c.all_bases.ensures.arguments ∙ (rw (sa, sb) at (c.arguments-arguments.ensures.equals axis)); rows = c.all_bases.ensures.rows }
+    record { over = λ axis. c.all_rows.ensures.arguments ∙ (rw (sa, sb) at (c.arguments-arguments.ensures.equals axis)); rows = c.all_rows.ensures.rows }

@@ -1,6 +1,7 @@
 //! The program that shows that the call agrees with an exact reference. In come the names of files of cases: runs with
-//! their words, their files and what they are to answer and write. Out go the cases whose status, output or error output
-//! differs by a byte, and how many there are.
+//! their words, their files and what they are to answer and write. A search that names no number of workers is run four
+//! times: by one worker, and by 2, 7 and 64. Out go the runs whose status, output or error output differs by a byte, and
+//! how many runs there are.
 //!
 //! The expected bytes were made by another program, which computes with exact fractions and shares no code, and no
 //! definition, with this repository. So what is compared here is no work of the searcher: the proofs say that the code
@@ -12,7 +13,7 @@ mod records;
 mod runs;
 
 use cases::{Case, CasesError, cases};
-use runs::{Answer, agrees, run};
+use runs::{Answer, agrees, run, takes_workers};
 use std::process::ExitCode;
 use std::{env, fs, io, str};
 
@@ -20,10 +21,14 @@ const DIFFERENT: u8 = 1;
 
 const NOT_READ: u8 = 2;
 
-// How many cases were run, and how many of them differ.
+// How many workers a search is run by, in turn, after the run of its case as it stands.
+const WORKERS: [&str; 3] = ["2", "7", "64"];
+
+// How many cases were run, how often, and how many of these runs differ.
 #[derive(Clone, Copy)]
 struct Tally {
     cases: u64,
+    runs: u64,
     differing: u64,
 }
 
@@ -50,18 +55,42 @@ fn print_difference(rt: &HostRuntime, case: &Case<'_>, answer: &Answer) -> io::R
     print_text(rt, "error output", &answer.err)
 }
 
-// Runs cases, and prints those that differ.
+// Runs a case, by so many workers where they are given, and prints a run that differs.
+fn run_by(
+    rt: &HostRuntime,
+    case: &Case<'_>,
+    workers: Option<&str>,
+    tally: &mut Tally,
+) -> io::Result<()> {
+    let answer = run(rt, case, workers)?;
+    tally.runs = tally.runs.saturating_add(1);
+    if !agrees(case, &answer) {
+        tally.differing = tally.differing.saturating_add(1);
+        print_difference(rt, case, &answer)?;
+    }
+    Ok(())
+}
+
+// Runs a search by each number of workers.
+fn run_by_workers(rt: &HostRuntime, case: &Case<'_>, tally: &mut Tally) -> io::Result<()> {
+    for workers in WORKERS {
+        run_by(rt, case, Some(workers), tally)?;
+    }
+    Ok(())
+}
+
+// Runs cases, and prints the runs that differ.
 fn run_all(rt: &HostRuntime, cases: &[Case<'_>]) -> io::Result<Tally> {
     let mut tally = Tally {
         cases: 0,
+        runs: 0,
         differing: 0,
     };
     for case in cases {
-        let answer = run(rt.alloc(), case)?;
         tally.cases = tally.cases.saturating_add(1);
-        if !agrees(case, &answer) {
-            tally.differing = tally.differing.saturating_add(1);
-            print_difference(rt, case, &answer)?;
+        run_by(rt, case, None, &mut tally)?;
+        if takes_workers(&case.words) {
+            run_by_workers(rt, case, &mut tally)?;
         }
     }
     Ok(tally)
@@ -86,8 +115,9 @@ fn main(rt: HostRuntime) -> io::Result<ExitCode> {
         };
         differing = differing.saturating_add(tally.differing);
         let count = tally.cases;
+        let runs = tally.runs;
         let different = tally.differing;
-        println!(&rt; "{name}: {count} cases, {different} differ")?;
+        println!(&rt; "{name}: {count} cases, {runs} runs, {different} differ")?;
     }
     if differing == 0 {
         return Ok(ExitCode::from(0));

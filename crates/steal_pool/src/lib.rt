@@ -3,12 +3,14 @@
 
 mod ends;
 mod making;
+mod running;
 mod seat;
 mod view;
 mod work;
 mod worker;
 
 pub use ends::{Owner, Thief};
+pub use running::run;
 pub use seat::{PoolError, PoolSeat};
 pub use view::{Naming, View};
 pub use worker::Pushed;

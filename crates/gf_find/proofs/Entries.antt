@@ -4,14 +4,15 @@ use Rattle.spec_trees.specs.declared.book.Booked.{Booked}
 use Rattle.spec_trees.specs.declared.tree.Leaf.{Leaf}
 use Rattle.spec_trees.specs.Order.{booked_leaves, in_order, inserted, ordered_leaves}
 
+placed : (l m : Leaf) (ms later : List Leaf) (earlier : Bool) → length later ≡ suc (length ms)
+    → length (if earlier then m ∷ later else l ∷ m ∷ ms) ≡ suc (suc (length ms))
+placed l m ms later true more = ap suc more
+placed l m ms later false more = refl
+
 one_more : (l : Leaf) (ls : List Leaf) → length (inserted l ls) ≡ suc (length ls)
 unfolding inserted
 one_more l [] = refl
-one_more l (m ∷ ms) = by (int_lt m.node.a l.node.a)
-  where
-    by : (earlier : Bool) → length (if earlier then m ∷ inserted l ms else l ∷ m ∷ ms) ≡ suc (suc (length ms))
-    by true = ap suc (one_more l ms)
-    by false = refl
+one_more l (m ∷ ms) = placed l m ms (inserted l ms) (int_lt m.node.a l.node.a) (one_more l ms)
 
 as_many : (entries : List Booked) → length (ordered_leaves entries) ≡ length entries
 unfolding in_order

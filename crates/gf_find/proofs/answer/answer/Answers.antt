@@ -6,8 +6,8 @@ use Rattle.gf_find.specs.Outcomes.{texts_of}
 use Rattle.gf_find.proofs.Asked.{blocks_are_some, blocks_are_within, workers_are_some, workers_are_within}
 use Rattle.gf_find.proofs.answer.answer.Goals as goal
 
-pub find_in_files-requires : goal.find_in_files-requires
-find_in_files-requires g c =
+pub find_in_files-requires-after_bounds : goal.find_in_files-requires-after_bounds
+find_in_files-requires-after_bounds g c κs lives =
     let asked : request_of (texts_of c.args.words.now) ≡ Ok (Find c.in-Find.find) = search rules in
     searches_keep_to_limits _ _ asked
 

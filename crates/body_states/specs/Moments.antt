@@ -3,6 +3,7 @@ use Rattle.std.specs.Prelude.{ℕ, ℤ}
 use Rattle.spec_intervals.specs.Enclosure.{Enclosure}
 use Rattle.spec_bodies.specs.declared.quantity.Quantity.{Quantity}
 use Rattle.spec_bodies.specs.Views.{View, coordinate_enclosure}
+use Rattle.body_states.specs.declared.question.Question.{Question}
 
 pub record Moment : Type 0 where
   pub view : View
@@ -12,3 +13,7 @@ pub record Moment : Type 0 where
 -- the enclosures of a target, by quantity and axis
 abbrev pub target_state : View → ℤ → ℤ → ℕ → Quantity → ℕ → Enclosure
 target_state v a b target quantity axis = coordinate_enclosure v quantity target axis a b
+
+-- what is asked of a target, by axis
+abbrev pub question_state : View → Question → ℕ → ℕ → Enclosure
+question_state v q target axis = coordinate_enclosure v q.quantity target axis q.times.now.first q.times.now.last

@@ -1,30 +1,33 @@
 -- Positions and velocities of a column along each axis.
-use Rattle.std.specs.Prelude.{◌≡◌, ℕ, zero, suc, ◌<◌}
+use Rattle.std.specs.Prelude.{◌≡◌, ℕ, zero, suc, Option, IfSome}
 use Rattle.spec_intervals.specs.Enclosure.{Enclosure}
 use Rattle.spec_ephemeris.specs.Granules.{series_of}
 use Rattle.spec_bodies.specs.declared.quantity.Quantity.{Quantity}
 use Rattle.spec_bodies.specs.declared.quantity.Quantity.TheVariants.{Position, Velocity}
 use Rattle.spec_bodies.specs.Views.{series_enclosure}
 use Rattle.body_states.specs.declared.granule_span.GranuleSpan.{GranuleSpan}
-use Rattle.body_states.specs.declared.motions.Motion.{Motion}
+use Rattle.body_states.specs.declared.motions.AxisEnclosures.{AxisEnclosures}
 use Rattle.body_states.specs.declared.motions.Motions.{Motions}
 
-abbrev pub along : Motions → ℕ → Motion
+abbrev pub along : AxisEnclosures → ℕ → Option Enclosure
 along m zero = m.x
 along m (suc zero) = m.y
 along m (suc (suc axis)) = m.z
 
-abbrev pub of_quantity : Motion → Quantity → Enclosure
+abbrev pub of_quantity : Motions → Quantity → AxisEnclosures
 of_quantity m Position = m.position
 of_quantity m Velocity = m.velocity
 
--- both quantities have the enclosures of an axis
-abbrev pub IsMotion : (Quantity → Enclosure) → Motion → Type 0
-IsMotion enclosures m = (quantity : Quantity) → of_quantity m quantity ≡ enclosures quantity
+-- what is known along each axis is right
+pub record AreAlong (enclosures : ℕ → Enclosure) (m : AxisEnclosures) : Type 0 where
+  pub x : IfSome m.x (λ e. e ≡ enclosures 0)
+  pub y : IfSome m.y (λ e. e ≡ enclosures 1)
+  pub z : IfSome m.z (λ e. e ≡ enclosures 2)
 
--- and that along each axis
-abbrev pub AreMotions : (Quantity → ℕ → Enclosure) → Motions → Type 0
-AreMotions enclosures m = (axis : ℕ) → axis < 3 → IsMotion (λ quantity. enclosures quantity axis) (along m axis)
+-- and that of both quantities
+pub record AreMotions (enclosures : Quantity → ℕ → Enclosure) (m : Motions) : Type 0 where
+  pub position : AreAlong (enclosures Position) m.position
+  pub velocity : AreAlong (enclosures Velocity) m.velocity
 
 -- the enclosure of a quantity along an axis, over times within a granule
 abbrev pub enclosure_along : GranuleSpan → Quantity → ℕ → Enclosure

@@ -35,8 +35,15 @@ impl<'e> States for BodyStates<'e> {
 }
 
 impl<'e> BodyStates<'e> {
-    // The enclosure of a quantity of a target along an axis.
-    fn state(&self, quantity: Quantity, target: u8, axis: u8, a: i64, b: i64) -> Enclosure
+    /// The enclosure of a quantity of a target along an axis, read from its columns.
+    pub(crate) fn state(
+        &self,
+        quantity: Quantity,
+        target: u8,
+        axis: u8,
+        a: i64,
+        b: i64,
+    ) -> Enclosure
         requires target { target < 2 }
         requires axis { axis < 3 }
         requires fits { Fits self.now a b }

@@ -164,7 +164,10 @@ impl<'e> BodyStates<'e> {
         ensures { Answers self.now question.now (of_column number axis) result }
     {
         match known(question.columns, number) {
-            Some(motions) => motions.along(axis).of(question.quantity),
+            Some(motions) => match motions.of(question.quantity).along(axis) {
+                Some(enclosure) => enclosure,
+                None => self.read(number, axis, question),
+            },
             None => self.read(number, axis, question),
         }
     }

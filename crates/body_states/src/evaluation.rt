@@ -1,29 +1,45 @@
 // The motions of a column over times within a granule, with each basis made once.
-ghost use Rattle.std.specs.Prelude.{◌≡◌, ◌<◌, length, pos, unsigned_abs, ◌≤ℤ◌};
+ghost use Rattle.std.specs.Prelude.{◌≡◌, ◌<◌, IfSome, length, pos, unsigned_abs, ◌≤ℤ◌};
 ghost use Rattle.spec_intervals.specs.Enclosure.{middle};
 ghost use Rattle.spec_motions.specs.Enclosures.{coefficients_of};
 ghost use Rattle.spec_ephemeris.specs.Granules.{series_of};
-ghost use Rattle.body_states.specs.Motions.{IsMotion, AreMotions, enclosure_along};
+ghost use Rattle.body_states.specs.Motions.{AreAlong, AreMotions, enclosure_along};
 ghost use Rattle.body_states.specs.Bases.{ArePlain, AreAll, IsCentre, IsWhole, IsWholeOfSeveral, value_over, step_over};
 
 use crate::bases::{all_bases, plain_bases};
 use crate::granule_span::GranuleSpan;
-use crate::motions::{Motion, Motions};
+use crate::motions::{AxisEnclosures, Motions};
+use crate::question::QuantityAxes;
 use cheby_difference::{position_step_over, velocity_over, velocity_step_over};
 use cheby_enclose::{Bases, Terms, arguments, position_over};
+use event_expr::Axes;
 use ival_core::{Enclosure, Ival};
 use spec_bodies::Quantity;
 
 impl<'g> GranuleSpan<'g> {
-    /// The motions along the three axes.
-    pub fn motions(&self) -> Motions
+    /// The motions along some axes.
+    pub fn motions(&self, axes: &QuantityAxes) -> Motions
         ensures { AreMotions (enclosure_along self.now) result }
     {
-        let centre = self.centre();
-        if self.times.is_wide() {
-            self.motions_by(&centre, &self.whole())
+        Motions {
+            position: self.enclosures(Quantity::Position, axes.position),
+            velocity: self.enclosures(Quantity::Velocity, axes.velocity),
+        }
+    }
+
+    // The enclosures of a quantity along some axes.
+    fn enclosures(&self, quantity: Quantity, axes: Axes) -> AxisEnclosures
+        ensures { AreAlong (enclosure_along self.now quantity) result }
+    {
+        if axes.x || axes.y || axes.z {
+            let centre = self.centre();
+            if self.times.is_wide() {
+                self.enclosures_by(quantity, axes, &centre, &self.whole())
+            } else {
+                self.enclosures_by(quantity, axes, &centre, &centre)
+            }
         } else {
-            self.motions_by(&centre, &centre)
+            AxisEnclosures::none()
         }
     }
 
@@ -41,28 +57,43 @@ impl<'g> GranuleSpan<'g> {
         }
     }
 
-    fn motions_by(&self, centre: &Bases, whole: &Bases) -> Motions
+    fn enclosures_by(
+        &self,
+        quantity: Quantity,
+        axes: Axes,
+        centre: &Bases,
+        whole: &Bases,
+    ) -> AxisEnclosures
         requires centre { IsCentre self.now centre.now }
         requires whole { IsWholeOfSeveral self.now whole.now }
-        ensures { AreMotions (enclosure_along self.now) result }
+        ensures { AreAlong (enclosure_along self.now quantity) result }
     {
-        Motions {
-            x: self.motion_by(0, centre, whole),
-            y: self.motion_by(1, centre, whole),
-            z: self.motion_by(2, centre, whole),
+        AxisEnclosures {
+            x: self.enclosure_if(axes.x, quantity, 0, centre, whole),
+            y: self.enclosure_if(axes.y, quantity, 1, centre, whole),
+            z: self.enclosure_if(axes.z, quantity, 2, centre, whole),
         }
     }
 
-    fn motion_by(&self, axis: usize, centre: &Bases, whole: &Bases) -> Motion
+    // The enclosure along an axis, where it is needed.
+    fn enclosure_if(
+        &self,
+        is_needed: bool,
+        quantity: Quantity,
+        axis: usize,
+        centre: &Bases,
+        whole: &Bases,
+    ) -> Option<Enclosure>
         requires axis { axis < 3 }
         requires centre { IsCentre self.now centre.now }
         requires whole { IsWholeOfSeveral self.now whole.now }
-        ensures { IsMotion (λ quantity. enclosure_along self.now quantity axis) result }
+        ensures { IfSome result (λ e. e ≡ enclosure_along self.now quantity axis) }
     {
-        let terms = Terms::of(&self.granule, axis);
-        Motion {
-            position: self.enclosure_by(Quantity::Position, axis, &terms, centre, whole),
-            velocity: self.enclosure_by(Quantity::Velocity, axis, &terms, centre, whole),
+        if is_needed {
+            let terms = Terms::of(&self.granule, axis);
+            Some(self.enclosure_by(quantity, axis, &terms, centre, whole))
+        } else {
+            None
         }
     }
 

@@ -1,5 +1,6 @@
 // What is asked of a body.
 use crate::motions::ColumnMotions;
+use event_expr::Axes;
 use event_expr::rules::Span;
 use spec_bodies::Quantity;
 
@@ -10,4 +11,11 @@ pub(crate) struct Question<'q> {
     pub quantity: Quantity,
     pub times: &'q Span,
     pub columns: &'q [ColumnMotions],
+}
+
+/// Along which axes of the files each quantity is needed.
+#[derive(Clone, Copy)]
+pub(crate) struct QuantityAxes {
+    pub position: Axes,
+    pub velocity: Axes,
 }

@@ -1,23 +1,23 @@
 // The states of both targets over one span of times.
-ghost use Rattle.std.specs.Prelude.{◌≡◌, ◌<◌, All, ℕ};
+ghost use Rattle.std.specs.Prelude.{◌≡◌, ◌<◌, All, ℕ, IfSome};
 ghost use Rattle.spec_bodies.specs.Reading.{IsUsable};
 ghost use Rattle.spec_bodies.specs.Views.{Fits, state_enclosure, exact_state, coordinate_enclosure};
 ghost use Rattle.spec_bodies.proofs.Held.{times_span, fractions_of_states, states_held, states_within};
-ghost use Rattle.body_states.specs.Answers.{IsKnown};
-ghost use Rattle.body_states.specs.Motions.{IsMotion, AreMotions};
-ghost use Rattle.body_states.specs.Moments.{target_state};
+ghost use Rattle.body_states.specs.Answers.{CanAsk, IsKnown};
+ghost use Rattle.body_states.specs.Motions.{AreAlong, AreMotions};
+ghost use Rattle.body_states.specs.Moments.{question_state, target_state};
 
-use crate::motions::{ColumnMotions, Motion, Motions};
-use crate::question::Question;
+use crate::motions::{AxisEnclosures, ColumnMotions, Motions};
+use crate::question::{QuantityAxes, Question};
 use crate::states::BodyStates;
-use event_expr::States;
 use event_expr::rules::Span;
-use ival_core::{Enclosure, Ival};
-use spec_bodies::Quantity;
+use event_expr::{Axes, Leaves, States, Vector};
+use ival_core::Enclosure;
+use spec_bodies::{Frame, Quantity};
 use std::marker::Model;
 
-/// The states of both targets over the times from a first to a last, made once: what is answered for these times costs
-/// nothing more.
+/// The states of both targets over the times from a first to a last. What was wanted of them is made once: to answer it
+/// for these times costs nothing more.
 #[derive(Drop)]
 pub struct Snapshot<'s, 'e> {
     states: &'s BodyStates<'e>,
@@ -40,45 +40,55 @@ impl<'s, 'e> Model for Snapshot<'s, 'e> {
 }
 
 impl<'e> BodyStates<'e> {
-    /// The states of both targets over the times from `a` to `b`, in seconds of TDB since J2000. Each basis of a column
-    /// in use is made once.
-    pub fn at(&self, a: i64, b: i64) -> Snapshot<'_, 'e>
+    /// The states of both targets over the times from `a` to `b`, in seconds of TDB since J2000, of which the wanted ones
+    /// are made at once, with each basis of a column in use made once. What isn't wanted is read when it is asked for.
+    pub fn at(&self, a: i64, b: i64, wanted: &Leaves) -> Snapshot<'_, 'e>
         requires { Fits self.now a b }
         ensures { result ≡ record { view = self.now; first = a; last = b } }
     {
         let times = Span::new(a, b);
-        let columns = self.known_columns(self.columns(), &times);
+        let columns = self.known_columns(self.columns(), &times, &self.own_leaves(wanted));
         Snapshot {
             states: self,
             from: a,
             upto: b,
-            first_target: self.motions(0, &times, &columns),
-            second_target: self.motions(1, &times, &columns),
+            first_target: self.motions(0, &times, &columns, wanted),
+            second_target: self.motions(1, &times, &columns, wanted),
         }
     }
 
-    // The motions of a target along each axis.
-    fn motions(&self, target: u8, times: &Span, columns: &[ColumnMotions]) -> Motions
+    // The axes of the files along which both targets' quantities are needed.
+    fn own_leaves(&self, wanted: &Leaves) -> QuantityAxes {
+        let position = wanted.first_position.union(wanted.second_position);
+        let velocity = wanted.first_velocity.union(wanted.second_velocity);
+        QuantityAxes {
+            position: self.own_axes(position),
+            velocity: self.own_axes(velocity),
+        }
+    }
+
+    // The axes of the files that axes of the frame are made of: y and z of the ecliptic are turned by the obliquity.
+    fn own_axes(&self, axes: Axes) -> Axes {
+        let is_turned = self.frame == Frame::Ecl && (axes.y || axes.z);
+        Axes {
+            x: axes.x,
+            y: axes.y || is_turned,
+            z: axes.z || is_turned,
+        }
+    }
+
+    // The wanted motions of a target along each axis.
+    fn motions(
+        &self,
+        target: u8,
+        times: &Span,
+        columns: &[ColumnMotions],
+        wanted: &Leaves,
+    ) -> Motions
         requires target { target < 2 }
         requires fits { Fits self.now times.now.first times.now.last }
         requires known { All (IsKnown self.now times.now.first times.now.last) columns.now }
         ensures { AreMotions (target_state self.now times.now.first times.now.last target) result }
-    {
-        Motions {
-            x: self.motion(target, 0, times, columns),
-            y: self.motion(target, 1, times, columns),
-            z: self.motion(target, 2, times, columns),
-        }
-    }
-
-    // The motion of a target along an axis.
-    fn motion(&self, target: u8, axis: usize, times: &Span, columns: &[ColumnMotions]) -> Motion
-        requires target { target < 2 }
-        requires axis { axis < 3 }
-        requires fits { Fits self.now times.now.first times.now.last }
-        requires known { All (IsKnown self.now times.now.first times.now.last) columns.now }
-        ensures { let enclosures = target_state self.now times.now.first times.now.last target in
-            IsMotion (λ quantity. enclosures quantity axis) result }
     {
         let position = Question {
             quantity: Quantity::Position,
@@ -90,27 +100,65 @@ impl<'e> BodyStates<'e> {
             times,
             columns,
         };
-        Motion {
-            position: self.coordinate(target, axis, &position),
-            velocity: self.coordinate(target, axis, &velocity),
+        Motions {
+            position: self.along_axes(target, &position, wanted.axes(Vector::Position(target))),
+            velocity: self.along_axes(target, &velocity, wanted.axes(Vector::Velocity(target))),
         }
     }
 
-    // The motions of some columns, each at its number.
-    fn known_columns(&self, numbers: &[usize], times: &Span) -> [ColumnMotions; 12]
+    // What is asked of a target along the wanted axes.
+    fn along_axes(&self, target: u8, question: &Question, wanted: Axes) -> AxisEnclosures
+        requires target { target < 2 }
+        requires question { CanAsk self.now question.now }
+        ensures { AreAlong (question_state self.now question.now target) result }
+    {
+        AxisEnclosures {
+            x: self.along_axis(target, 0, question, wanted.x),
+            y: self.along_axis(target, 1, question, wanted.y),
+            z: self.along_axis(target, 2, question, wanted.z),
+        }
+    }
+
+    // What is asked of a target along an axis, where it is wanted.
+    fn along_axis(
+        &self,
+        target: u8,
+        axis: usize,
+        question: &Question,
+        is_wanted: bool,
+    ) -> Option<Enclosure>
+        requires target { target < 2 }
+        requires axis { axis < 3 }
+        requires question { CanAsk self.now question.now }
+        ensures { IfSome result (λ e. e ≡ question_state self.now question.now target axis) }
+    {
+        if is_wanted {
+            Some(self.coordinate(target, axis, question))
+        } else {
+            None
+        }
+    }
+
+    // The motions of some columns along some axes, each at its number.
+    fn known_columns(
+        &self,
+        numbers: &[usize],
+        times: &Span,
+        axes: &QuantityAxes,
+    ) -> [ColumnMotions; 12]
         requires fits { Fits self.now times.now.first times.now.last }
         requires usable { All (IsUsable self.now) numbers.now }
         ensures { All (IsKnown self.now times.now.first times.now.last) result }
     {
         let mut columns = [unknown(); 12];
         for number in numbers {
-            columns[*number] = self.column_motions(*number, times);
+            columns[*number] = self.column_motions(*number, times, axes);
         }
         columns
     }
 
-    // The motions of a column.
-    fn column_motions(&self, number: usize, times: &Span) -> ColumnMotions
+    // The motions of a column along some axes.
+    fn column_motions(&self, number: usize, times: &Span, axes: &QuantityAxes) -> ColumnMotions
         requires fits { Fits self.now times.now.first times.now.last }
         requires usable { IsUsable self.now number }
         ensures { IsKnown self.now times.now.first times.now.last result }
@@ -118,7 +166,7 @@ impl<'e> BodyStates<'e> {
         let span = self.granule_span(number, times);
         ColumnMotions {
             number,
-            motions: span.motions(),
+            motions: span.motions(axes),
         }
     }
 }
@@ -136,14 +184,21 @@ impl<'s, 'e> Snapshot<'s, 'e> {
         }
     }
 
-    // The enclosure of a quantity of a target along an axis.
-    fn state(&self, quantity: Quantity, target: u8, axis: u8) -> Enclosure
+    // The enclosure of a quantity of a target along an axis over its times from `a` to `b`, as it was made, or else as it
+    // is read.
+    fn state(&self, quantity: Quantity, target: u8, axis: u8, a: i64, b: i64) -> Enclosure
         requires target { target < 2 }
         requires axis { axis < 3 }
+        requires first { a ≡ self.now.first }
+        requires last { b ≡ self.now.last }
+        requires fits { Fits self.now.view a b }
         ensures { let enclosures = target_state self.now.view self.now.first self.now.last target in
             result ≡ enclosures quantity axis }
     {
-        self.target(target).along(usize::from(axis)).of(quantity)
+        match self.target(target).of(quantity).along(usize::from(axis)) {
+            Some(enclosure) => enclosure,
+            None => self.states.state(quantity, target, axis, a, b),
+        }
     }
 }
 
@@ -154,12 +209,12 @@ impl<'s, 'e> States for Snapshot<'s, 'e> {
 
     ghost fits = { λ s a b. (a ≡ s.first) × (b ≡ s.last) × Fits s.view a b };
 
-    fn pos(&self, target: u8, axis: u8, _a: i64, _b: i64) -> Enclosure {
-        self.state(Quantity::Position, target, axis)
+    fn pos(&self, target: u8, axis: u8, a: i64, b: i64) -> Enclosure {
+        self.state(Quantity::Position, target, axis, a, b)
     }
 
-    fn vel(&self, target: u8, axis: u8, _a: i64, _b: i64) -> Enclosure {
-        self.state(Quantity::Velocity, target, axis)
+    fn vel(&self, target: u8, axis: u8, a: i64, b: i64) -> Enclosure {
+        self.state(Quantity::Velocity, target, axis, a, b)
     }
 
     ghost spans = { λ s a b fits. times_span s.view a b fits.2 };
@@ -177,25 +232,6 @@ fn unknown() -> ColumnMotions
 {
     ColumnMotions {
         number: 0,
-        motions: Motions {
-            x: no_motion(),
-            y: no_motion(),
-            z: no_motion(),
-        },
-    }
-}
-
-fn no_motion() -> Motion {
-    Motion {
-        position: zero_enclosure(),
-        velocity: zero_enclosure(),
-    }
-}
-
-fn zero_enclosure() -> Enclosure {
-    Enclosure {
-        mid: Ival::zero(),
-        range: Ival::zero(),
-        step: Ival::zero(),
+        motions: Motions::none(),
     }
 }

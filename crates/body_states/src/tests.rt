@@ -13,7 +13,7 @@ use crate::sources::{EMB_COLUMN, MOON_COLUMN, source_of};
 use crate::*;
 use eph_model::{Column, Columns, Header};
 use event_expr::builders::{difference, length, position, product, signed_square, sum, velocity};
-use event_expr::{Expr, Formula, enclose};
+use event_expr::{Expr, Formula, Leaves, enclose};
 use ival_core::Enclosure;
 use spec_bodies::Source;
 use spec_text::Decimal;
@@ -239,11 +239,17 @@ fn parts(enclosure: &Enclosure) -> Parts {
     ]
 }
 
-// The enclosure over a snapshot of the states.
-fn enclosed_by_snapshot(formula: &Formula, states: &BodyStates, a: i64, b: i64) -> Enclosure
+// The enclosure over a snapshot of the states of which some coordinates were wanted.
+fn enclosed_by_snapshot(
+    formula: &Formula,
+    states: &BodyStates,
+    wanted: &Leaves,
+    a: i64,
+    b: i64,
+) -> Enclosure
     requires { Fits states.now a b }
 {
-    let snapshot = states.at(a, b);
+    let snapshot = states.at(a, b, wanted);
     enclose(formula, &snapshot, a, b)
 }
 
@@ -265,10 +271,12 @@ fn check_formula(
         Err(_) => assert!(rt; false),
         Ok(formula) => {
             assert_eq!(rt; parts(&enclose(&formula, &states, a, b)), expected);
-            assert_eq!(rt;
-                parts(&enclosed_by_snapshot(&formula, &states, a, b)),
-                expected
-            );
+            for wanted in [formula.leaves(), Leaves::none()] {
+                assert_eq!(rt;
+                    parts(&enclosed_by_snapshot(&formula, &states, &wanted, a, b)),
+                    expected
+                );
+            }
         }
     }
 }

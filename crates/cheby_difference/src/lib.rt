@@ -2,8 +2,8 @@
 //!
 //! In comes a granule of a checked ephemeris, an axis and a span of times within the granule; out come intervals that
 //! hold the exact velocity at each of these times, and the exact changes of position and of velocity from each time to
-//! the next, with the same bits for the same operands on every machine. Callers that need several of them make the
-//! coefficients' intervals and the bases once and take sums over them. No call takes memory or fails.
+//! the next, with the same bits for the same operands on every machine. Callers that need several of them make the rows
+//! of the bases once and take sums over them. No call takes memory or fails.
 #![tactic(auto)]
 
 mod positions;
@@ -13,5 +13,8 @@ mod tests;
 mod velocities;
 
 pub use positions::position_step;
-pub use scaled::{position_step_over, velocity_over, velocity_step_over};
+pub use scaled::{
+    position_step_over, position_step_over_row, velocity_over, velocity_over_row,
+    velocity_step_over, velocity_step_over_row,
+};
 pub use velocities::{velocity, velocity_step};

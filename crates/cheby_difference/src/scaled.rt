@@ -1,82 +1,121 @@
 // Sums over the rows of the bases, scaled by what an argument gains in one second.
-ghost use Rattle.std.specs.Prelude.{◌≡◌, ◌<◌, ◌^◌, length, pos, unsigned_abs, ◌≤ℤ◌, ◌*ℤ◌};
+ghost use Rattle.std.specs.Prelude.{◌≡◌, ◌<◌, ◌≤◌, ◌^◌, length, pos, unsigned_abs, ◌≤ℤ◌, ◌*ℤ◌};
 ghost use Rattle.spec_numbers.specs.Numbers.{floor_div, ceil_div};
 ghost use Rattle.spec_chebyshev.specs.Rows.{u_row, q_row, r_row, IsArguments};
 ghost use Rattle.spec_motions.specs.RowSizes.{IsRow, IsShorterRow};
 ghost use Rattle.spec_motions.specs.Enclosures.{position_step_over, velocity_over, velocity_step_over};
 
 use cheby_enclose::{Bases, Terms, WideEnds, row_sum, slope_sum};
-use ival_core::Ival;
+use cheby_laws::Row;
+use ival_core::{Divider, Ival};
+use spec_chebyshev::Ival62;
 
-/// The interval of the changes of a coordinate from each time to the next, in km: the sum of the products of its terms
-/// with the row of Q, the divided differences of T, times the `2 / seconds` that an argument gains in a second. The
-/// granule takes so many seconds.
+/// The interval of the changes of a coordinate from each time to the next, in km, as `position_step_over_row` of the row
+/// of Q. The granule takes so many seconds.
 pub fn position_step_over(terms: &Terms, bases: &Bases, seconds: i64) -> Ival
     requires arguments { IsArguments bases.now.arguments }
     requires q { IsRow (length terms.now) bases.now.rows.q (q_row bases.now.arguments) }
     requires long { pos 1 ≤ℤ seconds }
     ensures { result ≡ position_step_over terms.now bases.now.arguments (unsigned_abs seconds) }
 {
-    let sum = row_sum(terms, &bases.rows.q);
-    Ival::scale(sum.lo, sum.hi, -70, seconds)
+    let divider = Divider::of(seconds);
+    position_step_over_row(terms, bases.arguments, &bases.rows.q, &divider)
 }
 
-/// The interval of the velocity along one axis, in km per second: the derivative of JPL's sum, by `T_k' = k U_(k-1)`, as
-/// the sum of k C_k U_(k-1) times `2 / seconds`.
+/// The interval of the velocity along one axis, in km per second, as `velocity_over_row` of the row of U.
 pub fn velocity_over(terms: &Terms, bases: &Bases, seconds: i64) -> Ival
     requires arguments { IsArguments bases.now.arguments }
     requires u { IsShorterRow (length terms.now) bases.now.rows.u (u_row bases.now.arguments) }
     requires long { pos 1 ≤ℤ seconds }
     ensures { result ≡ velocity_over terms.now bases.now.arguments (unsigned_abs seconds) }
 {
-    let sum = slope_sum(terms, &bases.rows.u);
-    Ival::scale(sum.lo, sum.hi, -74, seconds)
+    let divider = Divider::of(seconds);
+    velocity_over_row(terms, bases.arguments, &bases.rows.u, &divider)
 }
 
-/// The interval of the changes of the velocity along one axis from each time to the next, in km per second: the sum of
-/// k C_k R_(k-1), with the divided differences R of U, times `2 / seconds` twice and narrowed once.
+/// The interval of the changes of the velocity along one axis from each time to the next, in km per second, as
+/// `velocity_step_over_row` of the row of R.
 pub fn velocity_step_over(terms: &Terms, bases: &Bases, seconds: i64) -> Ival
     requires arguments { IsArguments bases.now.arguments }
     requires r { IsShorterRow (length terms.now) bases.now.rows.r (r_row bases.now.arguments) }
     requires long { pos 1 ≤ℤ seconds }
     ensures { result ≡ velocity_step_over terms.now bases.now.arguments (unsigned_abs seconds) }
 {
-    let sum = once_scaled(slope_sum(terms, &bases.rows.r), seconds);
-    Ival::scale(sum.lo, sum.hi, -68, seconds)
+    let divider = Divider::of(seconds);
+    velocity_step_over_row(terms, bases.arguments, &bases.rows.r, &divider)
+}
+
+/// The interval of the changes of a coordinate from each time to the next, in km, over the arguments `x`: the sum of the
+/// products of its terms with the row of Q, the divided differences of T, times the `2 / seconds` that an argument gains
+/// in a second. The divider is that of the granule's seconds.
+#[inline(always)]
+pub fn position_step_over_row(terms: &Terms, x: Ival62, q: &Row, divider: &Divider) -> Ival
+    requires arguments { IsArguments x }
+    requires q { IsRow (length terms.now) q.now (q_row x) }
+    ensures { result ≡ position_step_over terms.now x divider.now }
+{
+    let sum = row_sum(terms, q);
+    Ival::scale_by(sum.lo, sum.hi, -70, divider)
+}
+
+/// The interval of the velocity along one axis, in km per second: the derivative of JPL's sum, by `T_k' = k U_(k-1)`, as
+/// the sum of k C_k U_(k-1) times `2 / seconds`.
+#[inline(always)]
+pub fn velocity_over_row(terms: &Terms, x: Ival62, u: &Row, divider: &Divider) -> Ival
+    requires arguments { IsArguments x }
+    requires u { IsShorterRow (length terms.now) u.now (u_row x) }
+    ensures { result ≡ velocity_over terms.now x divider.now }
+{
+    let sum = slope_sum(terms, u);
+    Ival::scale_by(sum.lo, sum.hi, -74, divider)
+}
+
+/// The interval of the changes of the velocity along one axis from each time to the next, in km per second: the sum of
+/// k C_k R_(k-1), with the divided differences R of U, times `2 / seconds` twice and narrowed once.
+#[inline(always)]
+pub fn velocity_step_over_row(terms: &Terms, x: Ival62, r: &Row, divider: &Divider) -> Ival
+    requires arguments { IsArguments x }
+    requires r { IsShorterRow (length terms.now) r.now (r_row x) }
+    ensures { result ≡ velocity_step_over terms.now x divider.now }
+{
+    let sum = once_scaled(slope_sum(terms, r), divider);
+    Ival::scale_by(sum.lo, sum.hi, -68, divider)
 }
 
 // 2 / seconds times both ends, rounded outward and not narrowed.
-fn once_scaled(sum: WideEnds, seconds: i64) -> WideEnds
+#[inline(always)]
+fn once_scaled(sum: WideEnds, divider: &Divider) -> WideEnds
     requires lo_size { unsigned_abs sum.lo < 2 ^ 125 }
     requires hi_size { unsigned_abs sum.hi < 2 ^ 125 }
-    requires long { pos 1 ≤ℤ seconds }
-    ensures lo { result.lo ≡ floor_div (pos 2 *ℤ sum.lo) (unsigned_abs seconds) }
-    ensures hi { result.hi ≡ ceil_div (pos 2 *ℤ sum.hi) (unsigned_abs seconds) }
+    ensures lo { result.lo ≡ floor_div (pos 2 *ℤ sum.lo) divider.now }
+    ensures hi { result.hi ≡ ceil_div (pos 2 *ℤ sum.hi) divider.now }
     ensures lo_size { unsigned_abs result.lo < 2 ^ 126 }
     ensures hi_size { unsigned_abs result.hi < 2 ^ 126 }
+    ensures positive { 1 ≤ divider.now }
 {
     WideEnds {
-        lo: share_down(sum.lo, seconds),
-        hi: share_up(sum.hi, seconds),
+        lo: share_down(sum.lo, divider),
+        hi: share_up(sum.hi, divider),
     }
 }
 
 // `floor(2 z / seconds)`.
-fn share_down(z: i128, seconds: i64) -> i128
+#[inline(always)]
+fn share_down(z: i128, divider: &Divider) -> i128
     requires size { unsigned_abs z < 2 ^ 125 }
-    requires long { pos 1 ≤ℤ seconds }
-    ensures equals { result ≡ floor_div (pos 2 *ℤ z) (unsigned_abs seconds) }
+    ensures equals { result ≡ floor_div (pos 2 *ℤ z) divider.now }
     ensures bound { unsigned_abs result < 2 ^ 126 }
+    ensures positive { 1 ≤ divider.now }
 {
-    (2 * z).div_euclid(seconds as i128)
+    divider.down(2 * z)
 }
 
 // `ceil(2 z / seconds)`.
-fn share_up(z: i128, seconds: i64) -> i128
+#[inline(always)]
+fn share_up(z: i128, divider: &Divider) -> i128
     requires size { unsigned_abs z < 2 ^ 125 }
-    requires long { pos 1 ≤ℤ seconds }
-    ensures equals { result ≡ ceil_div (pos 2 *ℤ z) (unsigned_abs seconds) }
+    ensures equals { result ≡ ceil_div (pos 2 *ℤ z) divider.now }
     ensures bound { unsigned_abs result < 2 ^ 126 }
 {
-    -share_down(-z, seconds)
+    divider.up(2 * z)
 }

@@ -1,19 +1,16 @@
 // Velocities, and their changes from each time of a span to the next.
-ghost use Rattle.std.specs.Prelude.{◌≡◌, ◌<◌, ◌≤◌, ◌≤ℤ◌, ◌+ℤ◌};
-ghost use Rattle.spec_chebyshev.specs.Rows.{u_row, r_row, IsArguments};
+ghost use Rattle.std.specs.Prelude.{◌≡◌, ◌<◌, ◌≤ℤ◌, ◌+ℤ◌};
 ghost use Rattle.spec_ephemeris.specs.Velocity.{velocity};
 ghost use Rattle.spec_motions.specs.Enclosures.{HoldsChanges, HoldsEach, velocity_interval, velocity_step_interval};
 ghost use Rattle.spec_intervals.specs.Interval.{zero_interval};
-ghost use Rattle.spec_motions.specs.RowSizes.{IsRow};
 ghost use Rattle.spec_motions.specs.Granules.{IsEvaluable};
 ghost use Rattle.spec_ephemeris.specs.Granules.{series_of};
 
-use crate::scaled::{velocity_over, velocity_step_over};
-use cheby_enclose::{Bases, Terms, arguments};
-use cheby_laws::{basis_r, basis_u};
+use crate::scaled::{velocity_over_row, velocity_step_over_row};
+use cheby_enclose::{Terms, arguments, empty_row};
+use cheby_laws::{fill_u, fill_ur};
 use eph_model::Granule;
-use ival_core::Ival;
-use spec_chebyshev::Ival62;
+use ival_core::{Divider, Ival};
 
 /// The interval of the velocity of one axis of a granule, in km per second, from time `a` to time `b`, in seconds of TDB
 /// since J2000: the derivative of its Chebyshev series (JPL). Axes are counted from 0.
@@ -27,8 +24,11 @@ pub fn velocity(g: &Granule, axis: usize, a: i64, b: i64) -> Ival
     ensures holds { HoldsEach (velocity (series_of g.now axis)) a b result }
 {
     let terms = Terms::of(g, axis);
-    let bases = slopes(arguments(g, a, b), g.n);
-    velocity_over(&terms, &bases, g.seconds)
+    let x = arguments(g, a, b);
+    let mut u = empty_row();
+    fill_u(x, g.n, &mut u);
+    let divider = Divider::of(g.seconds);
+    velocity_over_row(&terms, x, &u, &divider)
 }
 
 /// The interval of the changes of the velocity of one axis of a granule, in km per second, from each time to the next,
@@ -45,33 +45,13 @@ pub fn velocity_step(g: &Granule, axis: usize, a: i64, b: i64) -> Ival
 {
     if a < b {
         let terms = Terms::of(g, axis);
-        let bases = slope_differences(arguments(g, a, b), g.n);
-        velocity_step_over(&terms, &bases, g.seconds)
+        let x = arguments(g, a, b);
+        let mut u = empty_row();
+        let mut r = empty_row();
+        fill_ur(x, g.n, &mut u, &mut r);
+        let divider = Divider::of(g.seconds);
+        velocity_step_over_row(&terms, x, &r, &divider)
     } else {
         Ival::zero()
     }
-}
-
-// The row of U.
-fn slopes(arguments: Ival62, n: usize) -> Bases
-    requires arguments { IsArguments arguments }
-    requires few { n ≤ 32 }
-    ensures arguments { result.arguments ≡ arguments }
-    ensures u { IsRow n result.rows.u (u_row arguments) }
-{
-    let mut bases = Bases::new(arguments);
-    basis_u(arguments, n, &mut bases.rows);
-    bases
-}
-
-// The rows of U and R.
-fn slope_differences(arguments: Ival62, n: usize) -> Bases
-    requires arguments { IsArguments arguments }
-    requires few { n ≤ 32 }
-    ensures arguments { result.arguments ≡ arguments }
-    ensures r { IsRow n result.rows.r (r_row arguments) }
-{
-    let mut bases = slopes(arguments, n);
-    basis_r(arguments, n, &mut bases.rows);
-    bases
 }

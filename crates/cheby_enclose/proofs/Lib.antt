@@ -1,1 +1,2 @@
 pub mod TermLists
+mod PairProducts

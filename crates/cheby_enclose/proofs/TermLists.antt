@@ -1,24 +1,24 @@
 -- The intervals of pairs and of coefficients, one after the other.
-use Rattle.std.proofs.Common.{◌≡◌, ℕ, ◌+◌, ◌^◌, ◌<◌, ◌≤◌, refl, sym, ap, ◌∙◌, List, [], ◌∷◌, ◌++◌, length, map, take, drop, get_or, set, All}
-use Rattle.std.proofs.lemmas.List.{map_more, take_more_set, length-map, take-map, drop-map}
-use Rattle.std.proofs.lemmas.List.Elements.{All-nil, All-cons, All-head, All-tail}
+use Rattle.std.proofs.Common.{◌≡◌, ℕ, ◌+◌, ◌-◌, ◌^◌, ◌<◌, ◌≤◌, arith, refl, ap, ◌∙◌, subst, List, [], ◌∷◌, length, map, take, drop, get_or, All, ℤ, pos, negsuc, ◌+ℤ◌, ◌*ℤ◌, ◌≤ℤ◌, ◌<ℤ◌}
+use Rattle.std.proofs.lemmas.List.{length-map, length-take, take-map, drop-map, get_or-map}
+use Rattle.std.proofs.lemmas.List.Elements.{All-nil, All-cons, All-head, All-tail, All-take, All-drop}
 use Rattle.spec_text.specs.declared.decimals.Decimal.{Decimal}
-use Rattle.spec_intervals.specs.Interval.{IsDistance}
+use Rattle.spec_numbers.specs.Numbers.{floor_div, ceil_div}
+use Rattle.spec_numbers.proofs.Ring.{v, k as lit, ◌⊕◌, ◌⊗◌, ring}
+use Rattle.spec_numbers.proofs.Order.{lin, lt-mul_cancel}
+use Rattle.spec_numbers.proofs.Floor.{floor_div-lt, ceil_div-lt, ordered_quotients}
+use Rattle.spec_intervals.specs.Interval.{IsDistance, from_decimal, decimal_top, decimal_bottom, least4, greatest4}
+use Rattle.spec_intervals.proofs.Decimals.{bottom_pos}
 use Rattle.spec_chebyshev.specs.declared.ends.Ival62.{Ival62}
-use Rattle.spec_chebyshev.specs.Rows.{EndsWithin}
+use Rattle.spec_chebyshev.specs.Rows.{nothing}
 use Rattle.spec_chebyshev.proofs.Arguments.{size_within}
 use Rattle.spec_ephemeris.specs.declared.granule.Rounded.{Rounded}
 use Rattle.spec_ephemeris.specs.Ephemeris.{IsBodyNumber}
 use Rattle.spec_ephemeris.specs.Rounding.{pair_of}
 use Rattle.spec_ephemeris.proofs.Rounding.{low_size, high_size}
-use Rattle.spec_motions.specs.Sums.{coefficient}
-use Rattle.spec_motions.specs.RowSizes.{AreTerms}
-use Rattle.cheby_enclose.specs.Pairs.{term_of}
-
-pub terms_more : (ps : List Rounded) (out : List Ival62) (k : ℕ) (d : Rounded) → k < length ps → k < length out → take k out ≡ map term_of (take k ps)
-    → take (k + 1) (set out k (term_of (get_or ps k d))) ≡ map term_of (take (k + 1) ps)
-terms_more ps out k d h o is =
-    take_more_set out k (term_of (get_or ps k d)) o ∙ ap (λ (l : List Ival62). l ++ term_of (get_or ps k d) ∷ []) is ∙ sym (map_more term_of ps k d h)
+use Rattle.spec_motions.specs.Sums.{coefficient, multiples, sum_low, sum_high}
+use Rattle.spec_motions.proofs.RowSums.{low_more, high_more, low_multiple, high_multiple}
+use Rattle.cheby_enclose.specs.Pairs.{term_of, IsPair, ArePairs}
 
 -- ---- the pair of a coefficient is its interval
 terms_are : (cs : List Decimal) → map term_of (map pair_of cs) ≡ map coefficient cs
@@ -33,13 +33,60 @@ terms_of_axis cs ps from n is =
     ∙ ap (map term_of) (take-map pair_of n (drop from cs))
     ∙ terms_are (take n (drop from cs))
 
--- ---- each is small
-pub EndsWithin-coefficient : (c : Decimal) → IsDistance c.mant c.exp → EndsWithin (2 ^ 60) (coefficient c)
-EndsWithin-coefficient c h = record { lo = size_within (coefficient c).lo (2 ^ 60) (low_size c h); hi = size_within (coefficient c).hi (2 ^ 60) (high_size c h) }
+-- ---- and a floor beside its ceiling
+next_to : (z : ℤ) (d : ℕ) → 0 < d → ceil_div z d ≤ℤ (floor_div z d +ℤ pos 1)
+next_to z d h =
+    let f : z <ℤ (floor_div z d *ℤ pos d +ℤ pos d) = floor_div-lt z d h in
+    let b : (ceil_div z d *ℤ pos d) <ℤ (z +ℤ pos d) = ceil_div-lt z d h in
+    let m : (floor_div z d +ℤ pos 2) *ℤ pos d ≡ (floor_div z d *ℤ pos d +ℤ pos d) +ℤ pos d = ring (floor_div z d ∷ pos d ∷ []) ((v 0 ⊕ lit (pos 2)) ⊗ v 1) (((v 0 ⊗ v 1) ⊕ v 1) ⊕ v 1) tt in
+    let q : ceil_div z d <ℤ (floor_div z d +ℤ pos 2) = lt-mul_cancel (ceil_div z d) (floor_div z d +ℤ pos 2) d (rw m (omega (arith, lin))) in
+    omega (arith, lin)
 
-all_small : (cs : List Decimal) → All IsBodyNumber cs → All (EndsWithin (2 ^ 60)) (map coefficient cs)
-all_small [] h = All-nil (EndsWithin (2 ^ 60))
-all_small (c ∷ cs) h = All-cons (EndsWithin (2 ^ 60)) (coefficient c) (map coefficient cs) (EndsWithin-coefficient c (All-head IsBodyNumber c cs h).small) (all_small cs (All-tail IsBodyNumber c cs h))
+pub IsPair-of : (c : Decimal) → IsDistance c.mant c.exp → IsPair (pair_of c)
+unfolding from_decimal
+IsPair-of c h = record {
+  small = record { lo = size_within (pair_of c).lo (2 ^ 60) (low_size c h); hi = size_within (pair_of c).hi (2 ^ 60) (high_size c h) };
+  ordered = ordered_quotients (decimal_top c.mant c.exp (negsuc 23)) (decimal_top c.mant c.exp (negsuc 23)) (decimal_bottom c.exp (negsuc 23)) (bottom_pos c.exp (negsuc 23)) (omega (arith, lin));
+  close = next_to (decimal_top c.mant c.exp (negsuc 23)) (decimal_bottom c.exp (negsuc 23)) (bottom_pos c.exp (negsuc 23));
+}
 
-pub AreTerms-coefficients : (cs : List Decimal) → length cs ≤ 32 → All IsBodyNumber cs → AreTerms (map coefficient cs)
-AreTerms-coefficients cs few h = record { few = rw (length-map cs coefficient) few; small = all_small cs h }
+all_pairs : (cs : List Decimal) → All IsBodyNumber cs → All IsPair (map pair_of cs)
+all_pairs [] h = All-nil IsPair
+all_pairs (c ∷ cs) h = All-cons IsPair (pair_of c) (map pair_of cs) (IsPair-of c (All-head IsBodyNumber c cs h).small) (all_pairs cs (All-tail IsBodyNumber c cs h))
+
+pub ArePairs-axis : (cs : List Decimal) (ps : List Rounded) (from n : ℕ) → n ≤ 32 → All IsBodyNumber cs → ps ≡ map pair_of cs → ArePairs (take n (drop from ps))
+ArePairs-axis cs ps from n few bodies is = record {
+  few = let t = length-take n (drop from ps) in omega (arith, t, few);
+  pairs = All-take IsPair n (drop from ps) (All-drop IsPair from ps (rw is (all_pairs cs bodies)));
+}
+
+-- ---- one term more of a sum from the left
+abbrev pub none : Rounded
+none = record { lo = pos 0; hi = pos 0 }
+
+pub term_at : (ps : List Rounded) (k : ℕ) → k < length ps → get_or (map term_of ps) k nothing ≡ term_of (get_or ps k none)
+term_at ps k h = get_or-map term_of ps k none nothing h
+
+pub below_terms : (ps : List Rounded) (k : ℕ) → k < length ps → k < length (map term_of ps)
+below_terms ps k h = rw (length-map ps term_of) h
+
+module _ (row : ℕ → Ival62) (ps : List Rounded) (k : ℕ) (sum whole : ℤ) (below : k < length ps) where
+  abbrev pair : Rounded
+  pair = get_or ps k none
+
+  abbrev cs : List Ival62
+  cs = map term_of ps
+
+  pub pair_low : sum +ℤ sum_low row k (drop k cs) ≡ whole → (sum +ℤ least4 pair.lo pair.hi (row k).lo (row k).hi) +ℤ sum_low row (k + 1) (drop (k + 1) cs) ≡ whole
+  pair_low h = subst (λ (c : Ival62). (sum +ℤ least4 c.lo c.hi (row k).lo (row k).hi) +ℤ sum_low row (k + 1) (drop (k + 1) cs) ≡ whole) (term_at ps k below) (low_more row cs k sum whole (below_terms ps k below) h)
+
+  pub pair_high : sum +ℤ sum_high row k (drop k cs) ≡ whole → (sum +ℤ greatest4 pair.lo pair.hi (row k).lo (row k).hi) +ℤ sum_high row (k + 1) (drop (k + 1) cs) ≡ whole
+  pair_high h = subst (λ (c : Ival62). (sum +ℤ greatest4 c.lo c.hi (row k).lo (row k).hi) +ℤ sum_high row (k + 1) (drop (k + 1) cs) ≡ whole) (term_at ps k below) (high_more row cs k sum whole (below_terms ps k below) h)
+
+  pub pair_low_multiple : 1 ≤ k → sum +ℤ sum_low (multiples row) k (drop k cs) ≡ whole
+      → (sum +ℤ (pos k *ℤ least4 pair.lo pair.hi (row (k - 1)).lo (row (k - 1)).hi)) +ℤ sum_low (multiples row) (k + 1) (drop (k + 1) cs) ≡ whole
+  pair_low_multiple one h = subst (λ (c : Ival62). (sum +ℤ (pos k *ℤ least4 c.lo c.hi (row (k - 1)).lo (row (k - 1)).hi)) +ℤ sum_low (multiples row) (k + 1) (drop (k + 1) cs) ≡ whole) (term_at ps k below) (low_multiple row cs sum whole k one (below_terms ps k below) h)
+
+  pub pair_high_multiple : 1 ≤ k → sum +ℤ sum_high (multiples row) k (drop k cs) ≡ whole
+      → (sum +ℤ (pos k *ℤ greatest4 pair.lo pair.hi (row (k - 1)).lo (row (k - 1)).hi)) +ℤ sum_high (multiples row) (k + 1) (drop (k + 1) cs) ≡ whole
+  pair_high_multiple one h = subst (λ (c : Ival62). (sum +ℤ (pos k *ℤ greatest4 c.lo c.hi (row (k - 1)).lo (row (k - 1)).hi)) +ℤ sum_high (multiples row) (k + 1) (drop (k + 1) cs) ≡ whole) (term_at ps k below) (high_multiple row cs sum whole k one (below_terms ps k below) h)

@@ -1,8 +1,29 @@
--- The intervals of pairs.
+-- The intervals of pairs, and rows whose ends are in order.
+use Rattle.std.specs.Prelude.{ℕ, suc, ◌<◌, ◌≤◌, ◌^◌, List, length, All, pos, ◌+ℤ◌, ◌≤ℤ◌}
 use Rattle.spec_chebyshev.specs.declared.ends.Ival62.{Ival62}
-use Rattle.spec_chebyshev.specs.Rows.{ends}
+use Rattle.spec_chebyshev.specs.Rows.{ends, entry, EndsWithin}
 use Rattle.spec_ephemeris.specs.declared.granule.Rounded.{Rounded}
 
 -- a coefficient from its pair, in units of 2^-24 km
 abbrev pub term_of : Rounded → Ival62
 term_of p = ends p.lo p.hi
+
+-- the floor and the ceiling of a number below 2^60 in size: at most 1 apart, so that no number lies strictly between them,
+-- and 0 neither
+pub record IsPair (p : Rounded) : Type 0 where
+  pub small : EndsWithin (2 ^ 60) (term_of p)
+  pub ordered : p.lo ≤ℤ p.hi
+  pub close : p.hi ≤ℤ (p.lo +ℤ pos 1)
+
+-- the pairs of the coefficients of one axis
+pub record ArePairs (ps : List Rounded) : Type 0 where
+  pub few : length ps ≤ 32
+  pub pairs : All IsPair ps
+
+-- the first n entries of a row have their ends in order
+abbrev pub IsOrderedRow : List Ival62 → ℕ → Type 0
+IsOrderedRow row n = (k : ℕ) → k < n → (entry row k).lo ≤ℤ (entry row k).hi
+
+-- the first entries have, one less than n
+abbrev pub IsOrderedShorterRow : List Ival62 → ℕ → Type 0
+IsOrderedShorterRow row n = (k : ℕ) → suc k < n → (entry row k).lo ≤ℤ (entry row k).hi

@@ -2,18 +2,19 @@
 //!
 //! In comes a granule of a checked ephemeris, an axis and a span of times within the granule; out comes an interval that
 //! holds the exact position at each of these times, with the same bits for the same operands on every machine. Callers
-//! that need several axes, or velocities and changes too, make the coefficients' intervals and the bases once and take
-//! sums over them. Every position is a sum of products in 128 bits, narrowed once. No call takes memory or fails.
+//! that need several axes, or velocities and changes too, make the rows of the bases once and take sums over them. Every
+//! position is a sum of products in 128 bits, narrowed once. No call takes memory or fails.
 #![tactic(auto)]
 
 mod granules;
 mod positions;
+mod products;
 mod sums;
 mod terms;
 #[cfg(test)]
 mod tests;
 
 pub use granules::{arguments, is_evaluable};
-pub use positions::{Bases, position, position_over};
+pub use positions::{Bases, empty_row, position, position_over, position_over_row};
 pub use sums::{WideEnds, row_sum, slope_sum};
 pub use terms::Terms;

@@ -4,14 +4,14 @@ ghost use Rattle.spec_chebyshev.specs.Rows.{t_row, IsArguments};
 ghost use Rattle.spec_ephemeris.specs.Series.{position};
 ghost use Rattle.spec_motions.specs.Enclosures.{HoldsEach, IsTight, position_interval, position_over};
 ghost use Rattle.spec_motions.specs.RowSizes.{IsRow};
-ghost use Rattle.cheby_enclose.specs.Bases.{no_rows};
+ghost use Rattle.cheby_enclose.specs.Bases.{no_row, no_rows};
 ghost use Rattle.spec_motions.specs.Granules.{IsEvaluable};
 ghost use Rattle.spec_ephemeris.specs.Granules.{series_of};
 
 use crate::granules::arguments;
 use crate::sums::row_sum;
 use crate::terms::Terms;
-use cheby_laws::{Basis, basis_t};
+use cheby_laws::{Basis, Row, basis_t, fill_t};
 use eph_model::Granule;
 use ival_core::Ival;
 use spec_chebyshev::Ival62;
@@ -30,12 +30,11 @@ impl Bases {
         ensures arguments { result.arguments ≡ arguments }
         ensures rows { result.rows ≡ no_rows }
     {
-        let nothing = [Ival62 { lo: 0, hi: 0 }; 32];
         let rows = Basis {
-            t: nothing,
-            u: nothing,
-            q: nothing,
-            r: nothing,
+            t: empty_row(),
+            u: empty_row(),
+            q: empty_row(),
+            r: empty_row(),
         };
         Bases { arguments, rows }
     }
@@ -54,14 +53,33 @@ impl Bases {
     }
 }
 
-/// The interval of a coordinate, in km: JPL's sum of `c_k T_k(x)`, as the sum of the products of the terms with the row of
-/// T in 128 bits, narrowed once to ends of at most 2^62 in size.
+/// A row with no entry made: every entry is 0.
+#[inline(always)]
+pub fn empty_row() -> Row
+    ensures { result ≡ no_row }
+{
+    [Ival62 { lo: 0, hi: 0 }; 32]
+}
+
+/// The interval of a coordinate, in km, as `position_over_row` of the row of T.
+#[inline(always)]
 pub fn position_over(terms: &Terms, bases: &Bases) -> Ival
     requires arguments { IsArguments bases.now.arguments }
     requires t { IsRow (length terms.now) bases.now.rows.t (t_row bases.now.arguments) }
     ensures { result ≡ position_over terms.now bases.now.arguments }
 {
-    let sum = row_sum(terms, &bases.rows.t);
+    position_over_row(terms, bases.arguments, &bases.rows.t)
+}
+
+/// The interval of a coordinate, in km, over the arguments `x`: JPL's sum of `c_k T_k(x)`, as the sum of the products of
+/// the terms with the row of T in 128 bits, narrowed once to ends of at most 2^62 in size.
+#[inline(always)]
+pub fn position_over_row(terms: &Terms, x: Ival62, t: &Row) -> Ival
+    requires arguments { IsArguments x }
+    requires t { IsRow (length terms.now) t.now (t_row x) }
+    ensures { result ≡ position_over terms.now x }
+{
+    let sum = row_sum(terms, t);
     Ival::of(sum.lo, sum.hi, -84)
 }
 
@@ -79,6 +97,8 @@ pub fn position(g: &Granule, axis: usize, a: i64, b: i64) -> Ival
     ensures tight { a ≡ b → IsTight (series_of g.now axis).coefficients result }
 {
     let terms = Terms::of(g, axis);
-    let bases = Bases::over(arguments(g, a, b), g.n);
-    position_over(&terms, &bases)
+    let x = arguments(g, a, b);
+    let mut t = empty_row();
+    fill_t(x, g.n, &mut t);
+    position_over_row(&terms, x, &t)
 }

@@ -4,7 +4,7 @@ ghost use Rattle.std.specs.Prelude.{◌≡◌, ◌≤◌, ◌*◌, ◌^◌, ◌�
 ghost use Rattle.spec_numbers.specs.Numbers.{floor_div, ceil_div};
 ghost use Rattle.spec_chebyshev.specs.Rows.{argument_of, HoldsIn, IsArguments};
 
-use crate::steps::{back, negated};
+use ival_core::Divider;
 use spec_chebyshev::Ival62;
 
 /// The number 1 in units of 2^-60.
@@ -23,41 +23,64 @@ pub fn argument(ua: i64, ub: i64, seconds: i64) -> Ival62
     ensures unit { IsArguments result }
     ensures holds { (u : ℤ) → ua ≤ℤ u → u ≤ℤ ub → HoldsIn 60 result u seconds }
 {
-    argument_ends(ua, ub, seconds)
+    argument_by(ua, ub, &Divider::of(seconds))
 }
 
-fn argument_ends(ua: i64, ub: i64, seconds: i64) -> Ival62
-    requires length { pos 1 ≤ℤ seconds }
-    requires low_size { unsigned_abs ua ≤ unsigned_abs seconds }
-    requires high_size { unsigned_abs ub ≤ unsigned_abs seconds }
-    ensures { result ≡ argument_of ua ub seconds }
+/// The same, by a divider that is made once for all spans of a granule.
+#[inline(always)]
+pub fn argument_by(ua: i64, ub: i64, divider: &Divider) -> Ival62
+    requires length { 1 ≤ divider.now }
+    requires from_start { neg_ℤ (pos divider.now) ≤ℤ ua }
+    requires ordered { ua ≤ℤ ub }
+    requires to_end { ub ≤ℤ pos divider.now }
+    ensures equals { result ≡ argument_of ua ub (pos divider.now) }
+    ensures unit { IsArguments result }
+    ensures holds { (u : ℤ) → ua ≤ℤ u → u ≤ℤ ub → HoldsIn 60 result u (pos divider.now) }
+{
+    argument_ends(ua, ub, divider)
+}
+
+/// The argument of one time, `u / seconds`: both ends from one division.
+#[inline(always)]
+pub fn argument_of(u: i64, divider: &Divider) -> Ival62
+    requires length { 1 ≤ divider.now }
+    requires from_start { neg_ℤ (pos divider.now) ≤ℤ u }
+    requires to_end { u ≤ℤ pos divider.now }
+    ensures equals { result ≡ argument_of u u (pos divider.now) }
+    ensures unit { IsArguments result }
+    ensures holds { HoldsIn 60 result u (pos divider.now) }
+{
+    one_argument(u, divider)
+}
+
+#[inline(always)]
+fn argument_ends(ua: i64, ub: i64, divider: &Divider) -> Ival62
+    requires length { 1 ≤ divider.now }
+    requires low_size { unsigned_abs ua ≤ divider.now }
+    requires high_size { unsigned_abs ub ≤ divider.now }
+    ensures { result ≡ argument_of ua ub (pos divider.now) }
 {
     Ival62 {
-        lo: share_down(ua, seconds),
-        hi: share_up(ub, seconds),
+        lo: back(divider.down(scaled(ua))),
+        hi: back(divider.up(scaled(ub))),
     }
 }
 
-/// `floor(u 2^60 / seconds)` of an argument.
-fn share_down(u: i64, seconds: i64) -> i64
-    requires length { pos 1 ≤ℤ seconds }
-    requires size { unsigned_abs u ≤ unsigned_abs seconds }
-    ensures equals { result ≡ floor_div (u *ℤ pos (2 ^ 60)) (unsigned_abs seconds) }
-    ensures bound { unsigned_abs result ≤ 2 ^ 60 }
+#[inline(always)]
+fn one_argument(u: i64, divider: &Divider) -> Ival62
+    requires length { 1 ≤ divider.now }
+    requires size { unsigned_abs u ≤ divider.now }
+    ensures { result ≡ argument_of u u (pos divider.now) }
 {
-    back(quotient(scaled(u), seconds))
-}
-
-/// `ceil(u 2^60 / seconds)` of an argument.
-fn share_up(u: i64, seconds: i64) -> i64
-    requires length { pos 1 ≤ℤ seconds }
-    requires size { unsigned_abs u ≤ unsigned_abs seconds }
-    ensures { result ≡ ceil_div (u *ℤ pos (2 ^ 60)) (unsigned_abs seconds) }
-{
-    back(negated(quotient(negated(scaled(u)), seconds)))
+    let (lo, hi) = divider.both(scaled(u));
+    Ival62 {
+        lo: back(lo),
+        hi: back(hi),
+    }
 }
 
 /// `u 2^60`.
+#[inline(always)]
 fn scaled(u: i64) -> i128
     ensures equals { result ≡ u *ℤ pos (2 ^ 60) }
     ensures bound { unsigned_abs result ≤ 2 ^ 123 }
@@ -66,12 +89,11 @@ fn scaled(u: i64) -> i128
     u as i128 * ONE
 }
 
-/// `floor(z / seconds)`.
-fn quotient(z: i128, seconds: i64) -> i128
-    requires length { pos 1 ≤ℤ seconds }
-    requires size { unsigned_abs z ≤ 2 ^ 60 * unsigned_abs seconds }
-    ensures equals { result ≡ floor_div z (unsigned_abs seconds) }
-    ensures bound { unsigned_abs result ≤ 2 ^ 60 }
+/// A small number in 64 bits.
+#[inline(always)]
+fn back(z: i128) -> i64
+    requires { unsigned_abs z ≤ 2 ^ 60 }
+    ensures { result ≡ z }
 {
-    z.div_euclid(seconds as i128)
+    z as i64
 }

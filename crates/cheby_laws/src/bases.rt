@@ -6,7 +6,7 @@ ghost use Rattle.spec_numbers.specs.Numbers.{power};
 ghost use Rattle.spec_chebyshev.specs.Differences.{difference_t, difference_u, IsArgument};
 ghost use Rattle.spec_chebyshev.specs.Rows.{t_row, u_row, q_row, r_row, t_unit, u_unit, q_unit, r_unit, entry, HoldsIn, IsArguments};
 
-use crate::entries::{entry_q, entry_r, entry_t, entry_u};
+use crate::rows::{Row, fill_q, fill_r, fill_t, fill_u};
 use spec_chebyshev::Ival62;
 
 /// The rows of one interval of arguments, of up to 32 coefficients; entry `k` belongs to degree `k`.
@@ -16,10 +16,10 @@ use spec_chebyshev::Ival62;
 /// 2^-44.
 #[derive(Drop)]
 pub struct Basis {
-    pub t: [Ival62; 32],
-    pub u: [Ival62; 32],
-    pub q: [Ival62; 32],
-    pub r: [Ival62; 32],
+    pub t: Row,
+    pub u: Row,
+    pub q: Row,
+    pub r: Row,
 }
 
 /// Writes the first `n` entries of `out.t`: `T_0` is 1, `T_1` is `x`, and `T_(k+1)` is `2 x T_k - T_(k-1)`, cut to 1 in
@@ -88,50 +88,4 @@ pub fn basis_r(x: Ival62, n: usize, out: &mut Basis)
         → HoldsIn r_unit (entry out.new.r k) (l *ℤ difference_u a u l k) (power l k) }
 {
     fill_r(x, n, &out.u, &mut out.r);
-}
-
-fn fill_t(x: Ival62, n: usize, t: &mut [Ival62; 32])
-    requires n_in { n ≤ 32 }
-    requires x_in { IsArguments x }
-    ensures row { (k : ℕ) → k < n → entry t.new k ≡ t_row x k }
-    ensures rest { (k : ℕ) → n ≤ k → entry t.new k ≡ entry t.old k }
-{
-    for k in 0..n {
-        t[k] = entry_t(x, k, t);
-    }
-}
-
-fn fill_u(x: Ival62, n: usize, u: &mut [Ival62; 32])
-    requires n_in { n ≤ 32 }
-    requires x_in { IsArguments x }
-    ensures row { (k : ℕ) → k < n → entry u.new k ≡ u_row x k }
-    ensures rest { (k : ℕ) → n ≤ k → entry u.new k ≡ entry u.old k }
-{
-    for k in 0..n {
-        u[k] = entry_u(x, k, u);
-    }
-}
-
-fn fill_q(x: Ival62, n: usize, t: &[Ival62; 32], q: &mut [Ival62; 32])
-    requires n_in { n ≤ 32 }
-    requires x_in { IsArguments x }
-    requires t_given { (k : ℕ) → k < n → entry t.now k ≡ t_row x k }
-    ensures row { (k : ℕ) → k < n → entry q.new k ≡ q_row x k }
-    ensures rest { (k : ℕ) → n ≤ k → entry q.new k ≡ entry q.old k }
-{
-    for k in 0..n {
-        q[k] = entry_q(x, k, t, q);
-    }
-}
-
-fn fill_r(x: Ival62, n: usize, u: &[Ival62; 32], r: &mut [Ival62; 32])
-    requires n_in { n ≤ 32 }
-    requires x_in { IsArguments x }
-    requires u_given { (k : ℕ) → k < n → entry u.now k ≡ u_row x k }
-    ensures row { (k : ℕ) → k < n → entry r.new k ≡ r_row x k }
-    ensures rest { (k : ℕ) → n ≤ k → entry r.new k ≡ entry r.old k }
-{
-    for k in 0..n {
-        r[k] = entry_r(x, k, u, r);
-    }
 }

@@ -11,10 +11,12 @@
 mod arguments;
 mod bases;
 mod entries;
+mod rows;
 mod steps;
 
-pub use arguments::argument;
+pub use arguments::{argument, argument_by, argument_of};
 pub use bases::{Basis, basis_q, basis_r, basis_t, basis_u};
+pub use rows::{Row, fill_t, fill_tq, fill_u, fill_ur};
 pub use spec_chebyshev::Ival62;
 
 #[cfg(test)]

@@ -1,9 +1,12 @@
 // Values from an exact reference.
 
-ghost use Rattle.std.specs.Prelude.{◌≤◌};
+ghost use Rattle.std.specs.Prelude.{◌<◌, ◌≤◌};
 ghost use Rattle.spec_chebyshev.specs.Rows.{IsArguments};
 
-use crate::{Basis, Ival62, argument, basis_q, basis_r, basis_t, basis_u};
+use crate::{
+    Basis, Ival62, argument, argument_of, basis_q, basis_r, basis_t, basis_u, fill_tq, fill_ur,
+};
+use ival_core::Divider;
 use std::process::Abort;
 
 const ONE: i64 = 1_152_921_504_606_846_976;
@@ -18,23 +21,47 @@ fn arguments(rt: &impl Abort, lo: i64, hi: i64) -> Ival62
     Ival62 { lo, hi }
 }
 
+/// Four rows of zeros.
+fn zeros() -> Basis {
+    let zeros = [Ival62 { lo: 0, hi: 0 }; 32];
+    Basis {
+        t: zeros,
+        u: zeros,
+        q: zeros,
+        r: zeros,
+    }
+}
+
 /// The four rows to `n` entries, all other entries 0.
 fn rows_of(x: Ival62, n: usize) -> Basis
     requires n_in { n ≤ 32 }
     requires x_in { IsArguments x }
 {
-    let zeros = [Ival62 { lo: 0, hi: 0 }; 32];
-    let mut basis = Basis {
-        t: zeros,
-        u: zeros,
-        q: zeros,
-        r: zeros,
-    };
+    let mut basis = zeros();
     basis_t(x, n, &mut basis);
     basis_u(x, n, &mut basis);
     basis_q(x, n, &mut basis);
     basis_r(x, n, &mut basis);
     basis
+}
+
+/// The same, two rows at a time.
+fn pairs_of(x: Ival62, n: usize) -> Basis
+    requires n_in { n ≤ 32 }
+    requires x_in { IsArguments x }
+{
+    let mut basis = zeros();
+    fill_tq(x, n, &mut basis.t, &mut basis.q);
+    fill_ur(x, n, &mut basis.u, &mut basis.r);
+    basis
+}
+
+/// The ends of entry `k` of each row.
+fn entries(basis: &Basis, k: usize) -> [(i64, i64); 4]
+    requires { k < 32 }
+{
+    let (t, u, q, r) = (basis.t[k], basis.u[k], basis.q[k], basis.r[k]);
+    [(t.lo, t.hi), (u.lo, u.hi), (q.lo, q.hi), (r.lo, r.hi)]
 }
 
 #[test]
@@ -58,6 +85,13 @@ fn arguments_are_those_of_the_reference(rt: HostRuntime) {
         let x = argument(ua, ub, seconds);
         assert_eq!(rt; (x.lo, x.hi), want, "{ua} to {ub} over {seconds}");
     }
+}
+
+#[test]
+fn one_time_has_one_argument(rt: HostRuntime) {
+    let seven = Divider::of(7);
+    let x = argument_of(-6, &seven);
+    assert_eq!(rt; (x.lo, x.hi), (-988218432520154551, -988218432520154550));
 }
 
 #[test]
@@ -133,11 +167,8 @@ fn rows_are_those_of_the_reference(rt: HostRuntime) {
     for ((lo, hi), n, k, want) in rows {
         assert!(rt; k < n);
         assert!(rt; n <= 32);
-        let basis = rows_of(arguments(&rt, lo, hi), n);
-        let (t, u, q, r) = (basis.t[k], basis.u[k], basis.q[k], basis.r[k]);
-        assert_eq!(rt; (t.lo, t.hi), want[0], "T {k} from {lo} to {hi}");
-        assert_eq!(rt; (u.lo, u.hi), want[1], "U {k} from {lo} to {hi}");
-        assert_eq!(rt; (q.lo, q.hi), want[2], "Q {k} from {lo} to {hi}");
-        assert_eq!(rt; (r.lo, r.hi), want[3], "R {k} from {lo} to {hi}");
+        let x = arguments(&rt, lo, hi);
+        assert_eq!(rt; entries(&rows_of(x, n), k), want, "{k} from {lo} to {hi}");
+        assert_eq!(rt; entries(&pairs_of(x, n), k), want, "{k} from {lo} to {hi}");
     }
 }

@@ -1,8 +1,11 @@
 // A search for an event of two bodies.
 ghost use Rattle.std.specs.Prelude.{◌≡◌, ◌<◌, ◌≤ℤ◌, pos, unsigned_abs};
+ghost use Rattle.event_judge.specs.Wanted.{event_leaves};
 
+use crate::wanted::wanted_leaves;
 use body_states::BodyStates;
 use eph_model::Ephemeris;
+use event_expr::Leaves;
 use event_kinds::Event;
 use gf_hooks::CutRule;
 use std::marker::Model;
@@ -13,6 +16,8 @@ pub struct EventSearch<'e> {
     states: BodyStates<'e>,
     ephemeris: &'e Ephemeris,
     event: Event,
+    /// The coordinates that the event names.
+    wanted: Leaves,
     width: u64,
     depth: u32,
     rule: CutRule,
@@ -23,6 +28,7 @@ impl<'e> Model for EventSearch<'e> {
     ghost use Rattle.std.specs.Coded.{codes};
     ghost use Rattle.spec_expressions.specs.Code.{term_code};
     ghost use Rattle.spec_searches.specs.Search.{Search};
+    ghost use Rattle.event_judge.specs.Wanted.{event_leaves};
 
     ghost Value = { Search };
 
@@ -36,7 +42,9 @@ impl<'e> Model for EventSearch<'e> {
       cut = s.rule;
     } };
 
-    ghost invariant = { λ s. (s.ephemeris.now ≡ s.states.ephemeris) × (0 < s.width) };
+    ghost invariant = { λ s. (s.ephemeris.now ≡ s.states.ephemeris)
+        × (0 < s.width)
+        × (s.wanted ≡ event_leaves s.event) };
 }
 
 impl<'e> EventSearch<'e> {
@@ -60,10 +68,12 @@ impl<'e> EventSearch<'e> {
           cut = rule;
         } }
     {
+        let wanted = wanted_leaves(&event);
         EventSearch {
             states,
             ephemeris,
             event,
+            wanted,
             width: width.unsigned_abs(),
             depth,
             rule,
@@ -89,6 +99,13 @@ impl<'e> EventSearch<'e> {
         ensures { result.now ≡ self.now.event }
     {
         &self.event
+    }
+
+    /// The coordinates that its function or a guard of it names.
+    pub(crate) fn wanted(&self) -> &Leaves
+        ensures { result.now ≡ event_leaves self.now.event }
+    {
+        &self.wanted
     }
 
     /// The width down to which nodes are split, in seconds.

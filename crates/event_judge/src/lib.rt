@@ -15,6 +15,7 @@ mod signs;
 mod span_states;
 mod valid_node;
 mod verdicts;
+mod wanted;
 
 pub use body_states::BodyStates;
 pub use event_kinds::Event;

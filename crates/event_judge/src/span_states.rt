@@ -4,7 +4,7 @@ ghost use Rattle.spec_bodies.specs.Views.{Fits};
 ghost use Rattle.event_judge.specs.Moments.{enclosure_in, moment, sign_in};
 
 use body_states::{BodyStates, Snapshot};
-use event_expr::{Formula, enclose};
+use event_expr::{Formula, Leaves, enclose};
 use ival_core::{Enclosure, Sign};
 use std::marker::Model;
 
@@ -31,13 +31,18 @@ impl<'s, 'e> Model for SpanStates<'s, 'e> {
 }
 
 impl<'s, 'e> SpanStates<'s, 'e> {
-    /// The states over the times from `from` to `upto`.
-    pub(crate) fn new(states: &'s BodyStates<'e>, from: i64, upto: i64) -> SpanStates<'s, 'e>
+    /// The states over the times from `from` to `upto`, of which the wanted coordinates are made at once.
+    pub(crate) fn new(
+        states: &'s BodyStates<'e>,
+        wanted: &Leaves,
+        from: i64,
+        upto: i64,
+    ) -> SpanStates<'s, 'e>
         requires { Fits states.now from upto }
         ensures { result ≡ moment states.now from upto }
     {
         SpanStates {
-            snapshot: states.at(from, upto),
+            snapshot: states.at(from, upto, wanted),
             from,
             upto,
         }

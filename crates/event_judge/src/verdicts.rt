@@ -58,7 +58,7 @@ impl<'s, 'e> ValidNode<'s, 'e> {
     {
         let states = self.search.states();
         let _columns = states.columns();
-        SpanStates::new(states, self.node.a, self.node.a)
+        SpanStates::new(states, self.search.wanted(), self.node.a, self.node.a)
     }
 
     // The states at its last time.
@@ -67,7 +67,7 @@ impl<'s, 'e> ValidNode<'s, 'e> {
     {
         let states = self.search.states();
         let _columns = states.columns();
-        SpanStates::new(states, self.node.b, self.node.b)
+        SpanStates::new(states, self.search.wanted(), self.node.b, self.node.b)
     }
 
     // The states over all its times, where no border falls into it.
@@ -77,7 +77,7 @@ impl<'s, 'e> ValidNode<'s, 'e> {
     {
         let states = self.search.states();
         let _columns = states.columns();
-        SpanStates::new(states, self.node.a, self.node.b)
+        SpanStates::new(states, self.search.wanted(), self.node.a, self.node.b)
     }
 
     // The enclosure of the function over some times.

@@ -42,11 +42,15 @@ comb_is_sound = record { low = omega (arith, ints); high = omega (arith, ints); 
 abbrev pub thirds : Rules
 thirds = pairs Third
 
-thirds_wide : (n : Node) → thirds.verdict n ≡ Split → (pos 2 <ℤ (n.b -ℤ n.a)) × (n.depth < 100)
+pub thirds_wide : (n : Node) → thirds.verdict n ≡ Split → (pos 2 <ℤ (n.b -ℤ n.a)) × (n.depth < 100)
 thirds_wide n e = grind (arith, ints)
 
 third_inside : (w : ℤ) → pos 2 <ℤ w → (pos 0 <ℤ int_max (pos 1) (int_div w (pos 3))) × (int_max (pos 1) (int_div w (pos 3)) <ℤ w)
 third_inside w h = grind (arith, ints)
+
+-- a third of what is wider than two seconds is at least one
+pub third_is : (w : ℤ) → pos 2 <ℤ w → int_max (pos 1) (int_div w (pos 3)) ≡ int_div w (pos 3)
+third_is w h = grind (arith, ints)
 
 thirds_cut : (n : Node) → IsValid thirds n → thirds.verdict n ≡ Split → IsCut thirds n
 thirds_cut n v e =

@@ -64,8 +64,7 @@ impl Judge for Thirds {
     }
 
     fn cut(&self, node: Node) -> (Node, Node) {
-        let width = node.b - node.a;
-        parts_at(node.a + (width / 3).max(1), node)
+        parts_at(node.a + (node.b - node.a) / 3, node)
     }
 
     ghost sound = { λ _. thirds_are_sound };

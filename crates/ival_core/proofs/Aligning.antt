@@ -1,5 +1,6 @@
 -- What the steps at one exponent come to, as the rules state it.
-use Rattle.std.proofs.Common.{◌≡◌, ℕ, refl, ℤ, pos, ◌+ℤ◌, ◌*ℤ◌, ◌≤ℤ◌, arith}
+use Rattle.std.proofs.Common.{◌≡◌, ℕ, ◌^◌, ◌<◌, refl, ℤ, pos, negsuc, ◌+ℤ◌, ◌*ℤ◌, ◌≤ℤ◌, unsigned_abs, arith, FitsSigned}
+use mir.Syntax.{w128}
 use Rattle.std.specs.Int.{int_min, int_max}
 use Rattle.std.proofs.lemmas.Int.{ints}
 use Rattle.spec_intervals.specs.Interval.{Interval, narrow, scale, signed_sq, signed_square, aligned_lower, aligned_upper, sum_up, join_up, meet_up}
@@ -28,3 +29,7 @@ scale-is lo hi s n a b p q = rw (p, q) refl
 pub signed_square-is : (x : Interval) (lo hi s : ℤ) → lo ≡ signed_sq x.lo → hi ≡ signed_sq x.hi → s ≡ x.s +ℤ x.s → narrow lo hi s ≡ signed_square x
 unfolding signed_square
 signed_square-is x lo hi s p q e = rw (p, q, e) refl
+
+pub doubled_fits : (z : ℤ) → unsigned_abs z < 2 ^ 126 → FitsSigned w128 (pos 2 *ℤ z)
+doubled_fits (pos n) h = omega (arith, ints)
+doubled_fits (negsuc n) h = omega (arith, ints)

@@ -4,3 +4,5 @@ mod Settling
 mod Shortest
 mod Aligning
 mod DecimalSizes
+mod Signs
+mod Quotients

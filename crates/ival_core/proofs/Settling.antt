@@ -1,5 +1,5 @@
 -- Where both ends are 0, and where they are not.
-use Rattle.std.proofs.Common.{◌≡◌, ℕ, zero, suc, ◌-◌, of_z, ◌^◌, ◌≤◌, arith, refl, ap, ◌∙◌, ℤ, pos, negsuc, neg_ℤ, ◌+ℤ◌, ◌≤ℤ◌, true, unsigned_abs}
+use Rattle.std.proofs.Common.{◌≡◌, ℕ, zero, suc, ◌-◌, of_z, ◌^◌, ◌≤◌, arith, refl, sym, ap, ◌∙◌, ℤ, pos, negsuc, neg_ℤ, ◌+ℤ◌, ◌≤ℤ◌, true, unsigned_abs}
 use Rattle.std.proofs.lemmas.Int.{ints}
 use Rattle.std.proofs.lemmas.Nat.{pow_pos}
 use mir.Syntax.{w128}
@@ -7,8 +7,8 @@ use mir.Val.{SFits}
 use Rattle.spec_intervals.specs.Interval.{IsIval, end_limit, fits_after, first_fit, narrow_shift, settled, narrow_by, narrow}
 use Rattle.spec_numbers.specs.Numbers.{floor_div, ceil_div}
 use Rattle.spec_numbers.proofs.Order.{lin}
-use Rattle.spec_intervals.proofs.Narrow.{is_small-both, narrow_shift-fits}
-use Rattle.spec_numbers.proofs.Floor.{ordered_quotients}
+use Rattle.spec_intervals.proofs.Narrow.{is_small-both, narrow_shift-fits, narrow_shift-is, sizes-fit}
+use Rattle.spec_numbers.proofs.Floor.{ordered_quotients, floor_div-one, ceil_div-one}
 
 pub settled-zero : (lo hi s : ℤ) → lo ≡ pos 0 → hi ≡ pos 0 → record { lo = lo; hi = hi; s = pos 0 } ≡ settled lo hi s
 unfolding settled
@@ -23,11 +23,16 @@ settled-other (pos (suc a)) hi s n = refl
 settled-other (negsuc a) hi s n = refl
 
 -- what the least number of halvings leaves is an interval, and settled it is the narrowed one
+module _ (lo hi : ℤ) (k : ℕ) (is : k ≡ narrow_shift lo hi) where
+  pub halved-small : (unsigned_abs (floor_div lo (2 ^ k)) ≤ end_limit) × (unsigned_abs (ceil_div hi (2 ^ k)) ≤ end_limit)
+  halved-small =
+      let f : fits_after k lo hi ≡ true = ap (λ n. fits_after n lo hi) is ∙ narrow_shift-fits lo hi in
+      is_small-both (floor_div lo (2 ^ k)) (ceil_div hi (2 ^ k)) f
+
 module _ (lo hi a b : ℤ) (k : ℕ) (is : k ≡ narrow_shift lo hi) (p : a ≡ floor_div lo (2 ^ k)) (q : b ≡ ceil_div hi (2 ^ k)) where
   pub halved-IsIval : (e : ℤ) → lo ≤ℤ hi → IsIval (record { lo = a; hi = b; s = e })
   halved-IsIval e o =
-      let f : fits_after k lo hi ≡ true = ap (λ n. fits_after n lo hi) is ∙ narrow_shift-fits lo hi in
-      let w : (unsigned_abs (floor_div lo (2 ^ k)) ≤ end_limit) × (unsigned_abs (ceil_div hi (2 ^ k)) ≤ end_limit) = is_small-both (floor_div lo (2 ^ k)) (ceil_div hi (2 ^ k)) f in
+      let w : (unsigned_abs (floor_div lo (2 ^ k)) ≤ end_limit) × (unsigned_abs (ceil_div hi (2 ^ k)) ≤ end_limit) = halved-small lo hi k is in
       rw (p, q) (record { ordered = ordered_quotients lo hi (2 ^ k) (pow_pos k) o; lo_small = w.0; hi_small = w.1 })
 
   pub halved-narrow : (s e : ℤ) → e ≡ s +ℤ pos k → settled a b e ≡ narrow lo hi s
@@ -49,3 +54,9 @@ below_least lo hi f e o = omega (arith, ints)
 
 pub narrow-of : (lo hi s a b e : ℤ) → lo ≡ neg_ℤ (pos (2 ^ 127)) → hi ≡ neg_ℤ (pos (2 ^ 127)) → a ≡ neg_ℤ (pos (2 ^ 126)) → b ≡ neg_ℤ (pos (2 ^ 126)) → e ≡ s +ℤ pos 1 → narrow a b e ≡ narrow lo hi s
 narrow-of lo hi s a b e p q r t w = rw (p, q, r, t) (narrow-least s e w)
+
+-- ends that are not past the limit stay
+pub narrow-small : (lo hi s : ℤ) → unsigned_abs lo ≤ end_limit → unsigned_abs hi ≤ end_limit → settled lo hi s ≡ narrow lo hi s
+narrow-small lo hi s p q =
+    let m : 0 ≡ narrow_shift lo hi = sym (narrow_shift-is 0 lo hi (sizes-fit 0 lo hi (omega arith) (omega arith)) (λ j h. absurd (omega arith))) in
+    halved-narrow lo hi lo hi 0 m (sym (floor_div-one lo)) (sym (ceil_div-one hi)) s s (omega (arith, lin))

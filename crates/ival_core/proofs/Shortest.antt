@@ -40,3 +40,11 @@ lead m r h q = by (cases_lt r 61)
     by : (r < 61) ⊎ (61 ≤ r) → 61 ≤ r
     by (inl s) = let w : r ≤ 60 = omega arith in let p : 2 ^ r ≤ 2 ^ 60 = pow-le-pow_right (omega arith) w in absurd (omega arith)
     by (inr s) = s
+
+-- a size of at most 2^124 is halved at most 62 times
+pub few_halvings : (m r : ℕ) → 2 ^ r ≤ m - 1 → m ≤ 2 ^ 124 → r - 61 ≤ 62
+few_halvings m r p q = by (cases_lt r 124)
+  where
+    by : (r < 124) ⊎ (124 ≤ r) → r - 61 ≤ 62
+    by (inl s) = omega arith
+    by (inr s) = let w : 2 ^ 124 ≤ 2 ^ r = pow-le-pow_right (omega arith) s in absurd (omega arith)

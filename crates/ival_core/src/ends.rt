@@ -1,54 +1,116 @@
 // Steps on the ends of intervals, each on plain whole numbers.
 
-ghost use Rattle.std.specs.Prelude.{◌≡◌, ◌≤◌, ◌<◌, ◌^◌, ◌*◌, ◌≤ℤ◌, ◌+ℤ◌, ◌*ℤ◌, pos, unsigned_abs};
-ghost use Rattle.std.specs.Int.{int_gap};
+ghost use Rattle.std.specs.Prelude.{◌≡◌, ◌↔◌, ◌≤◌, ◌<◌, ◌^◌, ◌*◌, ◌≤ℤ◌, ◌+ℤ◌, ◌*ℤ◌, pos, unsigned_abs, max, IsTrue};
+ghost use Rattle.std.specs.Int.{int_gap, int_min, int_max};
 ghost use Rattle.spec_intervals.specs.Interval.{IsExponent, exponent_limit, end_limit, lift_limit, narrow_shift, least4, greatest4, signed_sq};
 ghost use Rattle.spec_numbers.specs.Numbers.{floor_div, ceil_div};
 
 /// The greatest size of an end, 2^62: the product of two ends is within 128 bits.
 const END_LIMIT: u128 = 1 << 62;
 
-/// How often two ends in order are halved until neither is past the limit.
+/// The greater size of two ends in order.
+#[inline(always)]
+pub fn greater_size(lo: i128, hi: i128) -> u128
+    requires ordered { lo ≤ℤ hi }
+    requires lo_bound { unsigned_abs lo ≤ 2 ^ 124 }
+    requires hi_bound { unsigned_abs hi ≤ 2 ^ 124 }
+    ensures equals { result ≡ max (unsigned_abs lo) (unsigned_abs hi) }
+    ensures bound { result ≤ 2 ^ 124 }
+{
+    hi.max(-lo) as u128
+}
+
+/// Whether two ends of this size are not past the limit.
+#[inline(always)]
+pub fn is_small(size: u128) -> bool
+    ensures { IsTrue result ↔ size ≤ end_limit }
+{
+    size <= END_LIMIT
+}
+
+/// Whether a number is at most 2^124 in size, as products of ends are.
+#[inline(always)]
+pub fn is_moderate(z: i128) -> bool
+    ensures { IsTrue result ↔ unsigned_abs z ≤ 2 ^ 124 }
+{
+    z.unsigned_abs() <= 1 << 124
+}
+
+/// How often two ends in order of this greater size are halved until neither is past the limit.
 ///
 /// The end of the greater size is a low end below 0 or a high end above 0, so it is rounded away from 0, and the
 /// leading bit of that size alone tells the number of halvings.
-pub fn least_shift(lo: i128, hi: i128) -> u32
-    requires { lo ≤ℤ hi }
+#[inline(always)]
+pub fn leading_shift(lo: i128, hi: i128, size: u128) -> u32
+    requires ordered { lo ≤ℤ hi }
+    requires is { size ≡ max (max (unsigned_abs lo) (unsigned_abs hi)) end_limit }
     ensures equals { result ≡ narrow_shift lo hi }
-    ensures bound { result ≤ 65 }
+    ensures bound { result ≤ 66 }
+    ensures few { size ≤ 2 ^ 124 → result ≤ 62 }
 {
-    let size = lo.unsigned_abs().max(hi.unsigned_abs()).max(END_LIMIT);
     (size - 1).ilog2() - 61
 }
 
-/// `floor(z / 2^k)` of any number, for the few halvings of a narrowing.
-pub fn halved_down(z: i128, k: u32) -> i128
-    requires { k ≤ 65 }
+/// The same of any two ends in order.
+pub fn least_shift(lo: i128, hi: i128) -> u32
+    requires { lo ≤ℤ hi }
+    ensures equals { result ≡ narrow_shift lo hi }
+    ensures bound { result ≤ 66 }
+{
+    let size = lo.unsigned_abs().max(hi.unsigned_abs()).max(END_LIMIT);
+    leading_shift(lo, hi, size)
+}
+
+/// `z` as an end that is not past the limit.
+#[inline(always)]
+pub fn small_end(z: i128) -> i64
+    requires { unsigned_abs z ≤ end_limit }
+    ensures { result ≡ z }
+{
+    z as i64
+}
+
+/// `floor(z / 2^k)`, where it is an end.
+#[inline(always)]
+pub fn low_end(z: i128, k: u32) -> i64
+    requires few { k ≤ 66 }
+    requires small { unsigned_abs (floor_div z (2 ^ k)) ≤ end_limit }
     ensures { result ≡ floor_div z (2 ^ k) }
 {
-    z >> k
+    (z >> k) as i64
 }
 
-/// `ceil(z / 2^k)` of any number that can be negated.
-pub fn halved_up(z: i128, k: u32) -> i128
-    requires few { k ≤ 65 }
+/// `ceil(z / 2^k)` of a number that can be negated, where it is an end.
+#[inline(always)]
+pub fn high_end(z: i128, k: u32) -> i64
+    requires few { k ≤ 66 }
     requires above_least { unsigned_abs z < 2 ^ 127 }
+    requires small { unsigned_abs (ceil_div z (2 ^ k)) ≤ end_limit }
     ensures { result ≡ ceil_div z (2 ^ k) }
 {
-    -(-z >> k)
+    -((-z >> k) as i64)
 }
 
-/// `floor(z / 2^k)` of a small end, for any `k`.
-pub fn floor_shift(z: i128, k: u32) -> i128
+/// The half, rounded down.
+pub fn half_down(z: i128) -> i128
+    ensures { result ≡ floor_div z 2 }
+{
+    z >> 1
+}
+
+/// `floor(z / 2^k)` of an end, for any `k`.
+#[inline(always)]
+pub fn floor_shift(z: i64, k: u32) -> i128
     requires { unsigned_abs z ≤ end_limit }
     ensures equals { result ≡ floor_div z (2 ^ k) }
     ensures small { unsigned_abs result ≤ end_limit }
 {
-    if k < 64 { z >> k } else { z >> 64 }
+    (z >> k.min(63)) as i128
 }
 
-/// `ceil(z / 2^k)` of a small end, for any `k`.
-pub fn ceil_shift(z: i128, k: u32) -> i128
+/// `ceil(z / 2^k)` of an end, for any `k`.
+#[inline(always)]
+pub fn ceil_shift(z: i64, k: u32) -> i128
     requires { unsigned_abs z ≤ end_limit }
     ensures equals { result ≡ ceil_div z (2 ^ k) }
     ensures small { unsigned_abs result ≤ end_limit }
@@ -56,27 +118,30 @@ pub fn ceil_shift(z: i128, k: u32) -> i128
     -floor_shift(-z, k)
 }
 
-/// `z * 2^m` of a small end.
-pub fn lifted(z: i128, m: u32) -> i128
+/// `z * 2^m` of an end.
+#[inline(always)]
+pub fn lifted(z: i64, m: u32) -> i128
     requires small { unsigned_abs z ≤ end_limit }
     requires within { m ≤ lift_limit }
     ensures equals { result ≡ z *ℤ pos (2 ^ m) }
     ensures bound { unsigned_abs result ≤ 2 ^ 122 }
 {
-    z * (1i128 << m)
+    z as i128 * (1i128 << (m % 64))
 }
 
 /// The sum of a small end and one that was lifted.
+#[inline(always)]
 pub fn added(a: i128, b: i128) -> i128
     requires a_small { unsigned_abs a ≤ end_limit }
     requires b_small { unsigned_abs b ≤ 2 ^ 122 }
     ensures equals { result ≡ a +ℤ b }
-    ensures bound { unsigned_abs result < 2 ^ 127 }
+    ensures bound { unsigned_abs result ≤ 2 ^ 123 }
 {
     a + b
 }
 
 /// How far one exponent is above another.
+#[inline(always)]
 pub fn exponent_gap(s: i32, t: i32) -> u32
     requires order { s ≤ℤ t }
     requires exponent { IsExponent s }
@@ -87,18 +152,92 @@ pub fn exponent_gap(s: i32, t: i32) -> u32
     (t - s) as u32
 }
 
-/// The product of two small ends, by one multiplication of 64-bit numbers.
-fn times(a: i128, b: i128) -> i128
+/// The product of two ends, by one multiplication of 64-bit numbers.
+#[inline(always)]
+fn times(a: i64, b: i64) -> i128
     requires a_small { unsigned_abs a ≤ end_limit }
     requires b_small { unsigned_abs b ≤ end_limit }
     ensures equals { result ≡ a *ℤ b }
     ensures bound { unsigned_abs result ≤ 2 ^ 124 }
 {
-    (a as i64) as i128 * (b as i64) as i128
+    a as i128 * b as i128
 }
 
-/// The least and the greatest product of `a` or `b` with `c` or `d`.
-pub fn product_ends(a: i128, b: i128, c: i128, d: i128) -> (i128, i128)
+/// The lesser of `a z` and `b z`, for `a <= b`.
+#[inline(always)]
+fn lesser_product(a: i64, b: i64, z: i64) -> i128
+    requires ordered { a ≤ℤ b }
+    requires a_small { unsigned_abs a ≤ end_limit }
+    requires b_small { unsigned_abs b ≤ end_limit }
+    requires z_small { unsigned_abs z ≤ end_limit }
+    ensures { result ≡ int_min (a *ℤ z) (b *ℤ z) }
+{
+    if z >= 0 { times(a, z) } else { times(b, z) }
+}
+
+/// The greater of `a z` and `b z`, for `a <= b`.
+#[inline(always)]
+fn greater_product(a: i64, b: i64, z: i64) -> i128
+    requires ordered { a ≤ℤ b }
+    requires a_small { unsigned_abs a ≤ end_limit }
+    requires b_small { unsigned_abs b ≤ end_limit }
+    requires z_small { unsigned_abs z ≤ end_limit }
+    ensures { result ≡ int_max (a *ℤ z) (b *ℤ z) }
+{
+    if z >= 0 { times(b, z) } else { times(a, z) }
+}
+
+/// The least and the greatest product, where 0 lies between `a` and `b`.
+#[inline(always)]
+fn products_across(a: i64, b: i64, c: i64, d: i64) -> (i128, i128)
+    requires below { a ≤ℤ pos 0 }
+    requires above { pos 0 ≤ℤ b }
+    requires ordered { c ≤ℤ d }
+    requires a_small { unsigned_abs a ≤ end_limit }
+    requires b_small { unsigned_abs b ≤ end_limit }
+    requires c_small { unsigned_abs c ≤ end_limit }
+    requires d_small { unsigned_abs d ≤ end_limit }
+    ensures least { result.0 ≡ least4 a b c d }
+    ensures greatest { result.1 ≡ greatest4 a b c d }
+{
+    if c >= 0 {
+        (times(a, d), times(b, d))
+    } else if d <= 0 {
+        (times(b, c), times(a, c))
+    } else {
+        let least = times(a, d).min(times(b, c));
+        let greatest = times(a, c).max(times(b, d));
+        (least, greatest)
+    }
+}
+
+/// The least and the greatest product, by signs: where one of the two intervals has a sign, its ends name the two
+/// products that these are.
+#[inline(always)]
+fn products_by_sign(a: i64, b: i64, c: i64, d: i64) -> (i128, i128)
+    requires ordered { a ≤ℤ b }
+    requires other_ordered { c ≤ℤ d }
+    requires a_small { unsigned_abs a ≤ end_limit }
+    requires b_small { unsigned_abs b ≤ end_limit }
+    requires c_small { unsigned_abs c ≤ end_limit }
+    requires d_small { unsigned_abs d ≤ end_limit }
+    ensures least { result.0 ≡ least4 a b c d }
+    ensures greatest { result.1 ≡ greatest4 a b c d }
+{
+    if a >= 0 {
+        (lesser_product(a, b, c), greater_product(a, b, d))
+    } else if b <= 0 {
+        (lesser_product(a, b, d), greater_product(a, b, c))
+    } else {
+        products_across(a, b, c, d)
+    }
+}
+
+/// The least and the greatest product of a number from `a` to `b` with one from `c` to `d`.
+#[inline(always)]
+pub fn product_ends(a: i64, b: i64, c: i64, d: i64) -> (i128, i128)
+    requires ordered { a ≤ℤ b }
+    requires other_ordered { c ≤ℤ d }
     requires a_small { unsigned_abs a ≤ end_limit }
     requires b_small { unsigned_abs b ≤ end_limit }
     requires c_small { unsigned_abs c ≤ end_limit }
@@ -109,37 +248,15 @@ pub fn product_ends(a: i128, b: i128, c: i128, d: i128) -> (i128, i128)
     ensures least_bound { unsigned_abs result.0 ≤ 2 ^ 124 }
     ensures greatest_bound { unsigned_abs result.1 ≤ 2 ^ 124 }
 {
-    let (ac, ad, bc, bd) = (times(a, c), times(a, d), times(b, c), times(b, d));
-    let least = ac.min(ad).min(bc.min(bd));
-    let greatest = ac.max(ad).max(bc.max(bd));
-    (least, greatest)
+    products_by_sign(a, b, c, d)
 }
 
-/// `z |z|` of a small end.
-pub fn square_end(z: i128) -> i128
+/// `z |z|` of an end.
+#[inline(always)]
+pub fn square_end(z: i64) -> i128
     requires { unsigned_abs z ≤ end_limit }
     ensures equals { result ≡ signed_sq z }
     ensures bound { unsigned_abs result ≤ 2 ^ 124 }
 {
     times(z, z.abs())
-}
-
-/// `floor(2 z / seconds)`.
-pub fn share_down(z: i128, seconds: i64) -> i128
-    requires size { unsigned_abs z < 2 ^ 126 }
-    requires length { pos 1 ≤ℤ seconds }
-    ensures equals { result ≡ floor_div (pos 2 *ℤ z) (unsigned_abs seconds) }
-    ensures bound { unsigned_abs result < 2 ^ 127 }
-{
-    (2 * z).div_euclid(seconds as i128)
-}
-
-/// `ceil(2 z / seconds)`.
-pub fn share_up(z: i128, seconds: i64) -> i128
-    requires size { unsigned_abs z < 2 ^ 126 }
-    requires length { pos 1 ≤ℤ seconds }
-    ensures equals { result ≡ ceil_div (pos 2 *ℤ z) (unsigned_abs seconds) }
-    ensures bound { unsigned_abs result < 2 ^ 127 }
-{
-    -share_down(-z, seconds)
 }

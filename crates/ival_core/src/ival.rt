@@ -1,15 +1,16 @@
 // The interval, and the calls that make one from others.
 
 ghost use Rattle.std.specs.Prelude.{◌≡◌, ◌≤◌, ◌<◌, ◌^◌, ◌*◌, ◌≤ℤ◌, ℤ, pos, neg_ℤ, unsigned_abs, ◌⊎◌};
-ghost use Rattle.spec_intervals.specs.Interval.{Interval, IsIval, IsExponent, exponent_limit, IsDistance, IsCosine, end_limit, distance_exponent, cosine_exponent, interval, narrow, settled, aligned_lower, aligned_upper, is_zero, sum, sum_up, negated, difference, product, join, join_up, meet, meet_up, signed_square, scale, from_decimal};
+ghost use Rattle.spec_intervals.specs.Interval.{Interval, IsIval, IsExponent, exponent_limit, narrow_shift, IsDistance, IsCosine, end_limit, distance_exponent, cosine_exponent, interval, narrow, settled, aligned_lower, aligned_upper, is_zero, sum, sum_up, negated, difference, product, join, join_up, meet, meet_up, signed_square, scale, from_decimal};
 ghost use Rattle.spec_intervals.specs.Fraction.{Fraction, Holds, Overlaps, fraction_add, fraction_sub, fraction_mul, fraction_signed_square, fraction_scale, decimal};
 ghost use Rattle.spec_intervals.specs.Signs.{sign_of};
 ghost use borrow.Author.Differences.{up, down};
 
 use crate::decimals::decimal_ends;
+use crate::divider::Divider;
 use crate::ends::{
-    added, ceil_shift, exponent_gap, floor_shift, halved_down, halved_up, least_shift, lifted,
-    product_ends, share_down, share_up, square_end,
+    added, ceil_shift, exponent_gap, floor_shift, greater_size, half_down, high_end, is_moderate,
+    is_small, leading_shift, least_shift, lifted, low_end, product_ends, small_end, square_end,
 };
 use spec_intervals::Sign;
 use std::marker::Model;
@@ -29,8 +30,8 @@ const LIFT_LIMIT: u32 = 60;
 /// All numbers from `lo * 2^s` to `hi * 2^s`, with `lo <= hi` and both at most 2^62 in size.
 #[derive(Clone, Copy, Debug, PartialEq, Eq)]
 pub struct Ival {
-    lo: i128,
-    hi: i128,
+    lo: i64,
+    hi: i64,
     s: i32,
 }
 
@@ -46,18 +47,19 @@ impl Model for Ival {
     ghost inverse = { λ t. record { lo = t.lo; hi = t.hi; s = t.s } };
 }
 
-/// What is known of a quantity over a span of times: intervals that hold its value in the middle, all its values, and its
-/// change from any time to the next.
+/// What is known of a quantity over a span of times: intervals that hold its value in the middle, all its values, and
+/// its change from any time to the next.
 pub type Enclosure = spec_intervals::Enclosure<Ival>;
 
 impl Ival {
     /// The three numbers of the interval: low end, high end, exponent of 2.
+    #[inline(always)]
     pub fn parts(&self) -> (i128, i128, i32)
         ensures lo { result.0 ≡ self.now.lo }
         ensures hi { result.1 ≡ self.now.hi }
         ensures exponent { result.2 ≡ self.now.s }
     {
-        (self.lo, self.hi, self.s)
+        (self.lo as i128, self.hi as i128, self.s)
     }
 
     /// The interval from `lo * 2^s` to `hi * 2^s`, narrowed: both ends are halved together, rounded outward, until
@@ -72,6 +74,7 @@ impl Ival {
     }
 
     /// The interval of 0 alone.
+    #[inline(always)]
     pub fn zero() -> Ival
         ensures { result ≡ interval (pos 0) (pos 0) (pos 0) }
     {
@@ -91,6 +94,7 @@ impl Ival {
     }
 
     /// Whether all numbers held are at least 0 (`Yes`), all are below 0 (`No`), or neither is known (`Open`).
+    #[inline(always)]
     pub fn sign(&self) -> Sign
         ensures { result ≡ sign_of self.now }
     {
@@ -104,6 +108,7 @@ impl Ival {
     }
 
     /// The sum: the ends are added at one exponent and narrowed. An interval of 0 alone adds nothing.
+    #[inline(always)]
     pub fn add(self, other: Ival) -> Ival
         requires exponent { IsExponent self.s }
         requires other_exponent { IsExponent other.s }
@@ -115,6 +120,7 @@ impl Ival {
     }
 
     /// The difference: the sum with the other interval turned round 0.
+    #[inline(always)]
     pub fn sub(self, other: Ival) -> Ival
         requires exponent { IsExponent self.s }
         requires other_exponent { IsExponent other.s }
@@ -126,6 +132,7 @@ impl Ival {
     }
 
     /// The product: the least and the greatest of the four products of ends, narrowed.
+    #[inline(always)]
     pub fn mul(self, other: Ival) -> Ival
         requires exponent { IsExponent self.s }
         requires other_exponent { IsExponent other.s }
@@ -137,6 +144,7 @@ impl Ival {
     }
 
     /// From the lesser low end to the greater high end, at one exponent and narrowed.
+    #[inline(always)]
     pub fn join(self, other: Ival) -> Ival
         requires exponent { IsExponent self.s }
         requires other_exponent { IsExponent other.s }
@@ -147,6 +155,7 @@ impl Ival {
     }
 
     /// From the greater low end to the lesser high end, at one exponent and narrowed.
+    #[inline(always)]
     pub fn meet(self, other: Ival) -> Ival
         requires exponent { IsExponent self.s }
         requires other_exponent { IsExponent other.s }
@@ -158,6 +167,7 @@ impl Ival {
     }
 
     /// `x |x|`, which keeps the sign and grows with `x`: the signed squares of the ends, narrowed.
+    #[inline(always)]
     pub fn signed_square(self) -> Ival
         requires { IsExponent self.s }
         ensures equals { result ≡ signed_square self }
@@ -168,6 +178,7 @@ impl Ival {
 
     /// `2 / seconds` times the numbers from `lo * 2^s` to `hi * 2^s`, rounded outward and narrowed. The argument of a
     /// polynomial over a span of that many seconds goes from -1 to 1, so `2 / seconds` is what it gains in a second.
+    #[inline(always)]
     pub fn scale(lo: i128, hi: i128, s: i32, seconds: i64) -> Ival
         requires ordered { lo ≤ℤ hi }
         requires lo_size { unsigned_abs lo < 2 ^ 126 }
@@ -181,7 +192,22 @@ impl Ival {
         scaled(lo, hi, s, seconds)
     }
 
+    /// `scale` by a divider that is made once for many intervals.
+    #[inline(always)]
+    pub fn scale_by(lo: i128, hi: i128, s: i32, divider: &Divider) -> Ival
+        requires ordered { lo ≤ℤ hi }
+        requires lo_size { unsigned_abs lo < 2 ^ 126 }
+        requires hi_size { unsigned_abs hi < 2 ^ 126 }
+        requires exponent { IsExponent s }
+        ensures equals { result ≡ scale lo hi s divider.now }
+        ensures holds { (r : Fraction) → Holds (interval lo hi s) r
+            → Holds result (fraction_scale r divider.now) }
+    {
+        scaled_by(lo, hi, s, divider)
+    }
+
     /// The interval turned round 0.
+    #[inline(always)]
     fn negated(self) -> Ival
         ensures { result ≡ negated self }
     {
@@ -192,6 +218,7 @@ impl Ival {
         }
     }
 
+    #[inline(always)]
     fn is_zero(&self) -> bool
         ensures { result ≡ is_zero self.now }
     {
@@ -199,8 +226,9 @@ impl Ival {
     }
 }
 
-/// The interval of two small ends, with the exponent 0 where both are 0.
-fn settle(lo: i128, hi: i128, s: i32) -> Ival
+/// The interval of two ends, with the exponent 0 where both are 0.
+#[inline(always)]
+fn settle(lo: i64, hi: i64, s: i32) -> Ival
     requires { IsIval (interval lo hi s) }
     ensures { result ≡ settled lo hi s }
 {
@@ -211,15 +239,49 @@ fn settle(lo: i128, hi: i128, s: i32) -> Ival
     }
 }
 
-/// Narrows two ends in order, of which the high one can be negated.
+/// Halves two ends `k` times, which is what it takes.
+#[inline(always)]
+fn halved(lo: i128, hi: i128, s: i32, k: u32) -> Ival
+    requires ordered { lo ≤ℤ hi }
+    requires above_least { unsigned_abs hi < 2 ^ 127 }
+    requires exponent { unsigned_abs s ≤ 4 * exponent_limit }
+    requires least { k ≡ narrow_shift lo hi }
+    requires few { k ≤ 66 }
+    ensures { result ≡ narrow lo hi s }
+{
+    settle(low_end(lo, k), high_end(hi, k), s + k as i32)
+}
+
+/// Narrows two ends in order, as products and sums of ends are. Halved fewer than 64 times, as `% 64` tells the
+/// compiler.
+#[inline(always)]
 fn narrowed(lo: i128, hi: i128, s: i32) -> Ival
+    requires ordered { lo ≤ℤ hi }
+    requires lo_bound { unsigned_abs lo ≤ 2 ^ 124 }
+    requires hi_bound { unsigned_abs hi ≤ 2 ^ 124 }
+    requires exponent { unsigned_abs s ≤ 4 * exponent_limit }
+    ensures { result ≡ narrow lo hi s }
+{
+    let size = greater_size(lo, hi);
+    if is_small(size) {
+        settle(small_end(lo), small_end(hi), s)
+    } else {
+        halved(lo, hi, s, leading_shift(lo, hi, size) % 64)
+    }
+}
+
+/// Narrows two ends in order, of which the high one can be negated.
+fn narrowed_wide(lo: i128, hi: i128, s: i32) -> Ival
     requires ordered { lo ≤ℤ hi }
     requires above_least { unsigned_abs hi < 2 ^ 127 }
     requires exponent { unsigned_abs s ≤ 4 * exponent_limit }
     ensures { result ≡ narrow lo hi s }
 {
-    let k = least_shift(lo, hi);
-    settle(halved_down(lo, k), halved_up(hi, k), s + k as i32)
+    if is_moderate(lo) && is_moderate(hi) {
+        narrowed(lo, hi, s)
+    } else {
+        halved(lo, hi, s, least_shift(lo, hi))
+    }
 }
 
 /// Narrows any two ends in order. Where the high end is -2^127 the low end is too, and the halves are exact.
@@ -230,9 +292,9 @@ fn narrowed_any(lo: i128, hi: i128, s: i32) -> Ival
 {
     let is_least = hi == i128::MIN;
     if is_least {
-        narrowed(halved_down(lo, 1), halved_down(hi, 1), s + 1)
+        narrowed_wide(half_down(lo), half_down(hi), s + 1)
     } else {
-        narrowed(lo, hi, s)
+        narrowed_wide(lo, hi, s)
     }
 }
 
@@ -243,9 +305,16 @@ fn decimal_at(mant: i64, exp: i16, s: i32) -> Ival
     ensures { result ≡ from_decimal mant exp s }
 {
     let (lo, hi) = decimal_ends(mant, exp, s);
-    Ival { lo, hi, s }
+    let low = small_end(lo);
+    let high = small_end(hi);
+    Ival {
+        lo: low,
+        hi: high,
+        s,
+    }
 }
 
+#[inline(always)]
 fn product_of(x: Ival, y: Ival) -> Ival
     requires exponent { IsExponent x.s }
     requires other_exponent { IsExponent y.s }
@@ -257,6 +326,7 @@ fn product_of(x: Ival, y: Ival) -> Ival
 }
 
 #[tactic(auto, unfolding(spec_intervals::specs::Interval::sum))]
+#[inline(always)]
 fn sum_of(x: Ival, y: Ival) -> Ival
     requires exponent { IsExponent x.s }
     requires other_exponent { IsExponent y.s }
@@ -274,6 +344,7 @@ fn sum_of(x: Ival, y: Ival) -> Ival
 }
 
 /// The sum of two intervals, the first at the lower exponent.
+#[inline(always)]
 fn sum_upward(x: Ival, y: Ival) -> Ival
     requires order { x.s ≤ℤ y.s }
     requires exponent { IsExponent x.s }
@@ -287,6 +358,7 @@ fn sum_upward(x: Ival, y: Ival) -> Ival
 }
 
 #[tactic(auto, unfolding(spec_intervals::specs::Interval::difference))]
+#[inline(always)]
 fn difference_of(x: Ival, y: Ival) -> Ival
     requires exponent { IsExponent x.s }
     requires other_exponent { IsExponent y.s }
@@ -296,6 +368,7 @@ fn difference_of(x: Ival, y: Ival) -> Ival
 }
 
 #[tactic(auto, unfolding(spec_intervals::specs::Interval::join))]
+#[inline(always)]
 fn join_of(x: Ival, y: Ival) -> Ival
     requires exponent { IsExponent x.s }
     requires other_exponent { IsExponent y.s }
@@ -309,6 +382,7 @@ fn join_of(x: Ival, y: Ival) -> Ival
 }
 
 /// The join of two intervals, the first at the lower exponent.
+#[inline(always)]
 fn join_upward(x: Ival, y: Ival) -> Ival
     requires order { x.s ≤ℤ y.s }
     requires exponent { IsExponent x.s }
@@ -322,6 +396,7 @@ fn join_upward(x: Ival, y: Ival) -> Ival
 }
 
 #[tactic(auto, unfolding(spec_intervals::specs::Interval::meet))]
+#[inline(always)]
 fn meet_of(x: Ival, y: Ival) -> Ival
     requires exponent { IsExponent x.s }
     requires other_exponent { IsExponent y.s }
@@ -336,6 +411,7 @@ fn meet_of(x: Ival, y: Ival) -> Ival
 }
 
 /// The meet of two intervals, the first at the lower exponent.
+#[inline(always)]
 fn meet_upward(x: Ival, y: Ival) -> Ival
     requires order { x.s ≤ℤ y.s }
     requires exponent { IsExponent x.s }
@@ -349,6 +425,7 @@ fn meet_upward(x: Ival, y: Ival) -> Ival
     narrowed(lo, hi, at.s)
 }
 
+#[inline(always)]
 fn signed_square_of(x: Ival) -> Ival
     requires { IsExponent x.s }
     ensures { result ≡ signed_square x }
@@ -357,6 +434,7 @@ fn signed_square_of(x: Ival) -> Ival
     narrowed(square_end(x.lo), square_end(x.hi), s)
 }
 
+#[inline(always)]
 fn scaled(lo: i128, hi: i128, s: i32, seconds: i64) -> Ival
     requires ordered { lo ≤ℤ hi }
     requires lo_size { unsigned_abs lo < 2 ^ 126 }
@@ -365,7 +443,20 @@ fn scaled(lo: i128, hi: i128, s: i32, seconds: i64) -> Ival
     requires length { pos 1 ≤ℤ seconds }
     ensures { result ≡ scale lo hi s (unsigned_abs seconds) }
 {
-    narrowed(share_down(lo, seconds), share_up(hi, seconds), s)
+    let divider = Divider::of(seconds);
+    scaled_by(lo, hi, s, &divider)
+}
+
+#[inline(always)]
+fn scaled_by(lo: i128, hi: i128, s: i32, divider: &Divider) -> Ival
+    requires ordered { lo ≤ℤ hi }
+    requires lo_size { unsigned_abs lo < 2 ^ 126 }
+    requires hi_size { unsigned_abs hi < 2 ^ 126 }
+    requires exponent { IsExponent s }
+    ensures equals { result ≡ scale lo hi s divider.now }
+    ensures positive { 1 ≤ divider.now }
+{
+    narrowed_wide(divider.down(2 * lo), divider.up(2 * hi), s)
 }
 
 /// The ends of two intervals at one exponent `s`: those of the interval that was lower are rounded outward, those of
@@ -380,6 +471,7 @@ struct Aligned {
 }
 
 /// Brings two intervals to one exponent, the first at the lower one.
+#[inline(always)]
 fn at_one_exponent(x: Ival, y: Ival) -> Aligned
     requires order { x.s ≤ℤ y.s }
     requires exponent { IsExponent x.s }

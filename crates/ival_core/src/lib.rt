@@ -6,11 +6,13 @@
 #![tactic(auto)]
 
 mod decimals;
+mod divider;
 mod ends;
 mod ival;
 mod sizes;
 
 pub use decimals::power_of_ten;
+pub use divider::Divider;
 pub use ends::product_ends;
 pub use ival::{COSINE_EXPONENT, DISTANCE_EXPONENT, Enclosure, Ival};
 pub use sizes::{is_cosine, is_distance};

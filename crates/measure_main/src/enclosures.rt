@@ -99,7 +99,7 @@ pub(crate) fn hours(
 pub(crate) fn over(formula: &Formula, states: &BodyStates<'_>, span: Span) -> Enclosure
     requires { Fits states.now span.from span.to }
 {
-    let snapshot = states.at(span.from, span.to);
+    let snapshot = states.at(span.from, span.to, &formula.leaves());
     enclose(formula, &snapshot, span.from, span.to)
 }
 

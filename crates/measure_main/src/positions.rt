@@ -27,10 +27,10 @@ const MULTIPLIER: u64 = 6_364_136_223_846_793_005;
 
 // The terms of the three axes.
 #[derive(Drop)]
-struct Axes {
-    x: Terms,
-    y: Terms,
-    z: Terms,
+struct Axes<'g> {
+    x: Terms<'g>,
+    y: Terms<'g>,
+    z: Terms<'g>,
 }
 
 fn coefficient(i: u32) -> Decimal

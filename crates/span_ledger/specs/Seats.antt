@@ -20,8 +20,15 @@ terms ledger = ledger.table.shared.key
 abbrev pub part : LedgerSeat → Part
 part seat = the_part seat.raw.me.0.parts
 
+-- which table lies under a ledger, and of which table a seat is
+abbrev pub table_of : SpanLedger → TableId
+table_of ledger = ledger.table.shared.table_id
+
+abbrev pub seat_table : LedgerSeat → TableId
+seat_table seat = seat.raw.table_id
+
 abbrev pub IsSeatOf : SpanLedger → LedgerSeat → Type 0
-IsSeatOf ledger seat = seat.raw.table_id ≡ ledger.table.shared.table_id
+IsSeatOf ledger seat = seat_table seat ≡ table_of ledger
 
 -- the seat is of the table z, has the number k and has entered nothing
 abbrev pub IsMade : TableId → ℕ → LedgerSeat → Type 0

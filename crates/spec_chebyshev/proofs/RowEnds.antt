@@ -1,4 +1,5 @@
--- The ends of every entry are within the size that the exact values keep, so that the next step does not overflow.
+-- The ends of every entry are in order, and within the size that the exact values keep, so that the next step does not
+-- overflow.
 use Rattle.std.proofs.Common.{ℕ, zero, suc, ◌*◌, ◌^◌, ◌<◌, ◌≤◌, arith, ℤ, pos, ◌+ℤ◌, ◌-ℤ◌, ◌*ℤ◌, neg_ℤ, ◌≤ℤ◌, unsigned_abs}
 use Rattle.std.proofs.lemmas.Int.{ints, clamps}
 use Rattle.std.proofs.lemmas.Nat.{pow_pos}
@@ -8,7 +9,7 @@ use Rattle.spec_chebyshev.specs.Polynomials.{cleared_t, cleared_u}
 use Rattle.spec_numbers.specs.Numbers.{power, floor_div, ceil_div}
 use Rattle.spec_intervals.specs.Interval.{least4, greatest4}
 use Rattle.spec_numbers.proofs.Naturals.{power-pos}
-use Rattle.spec_numbers.proofs.Order.{lin, le-mul}
+use Rattle.spec_numbers.proofs.Order.{lin, le-mul, le-mul_cancel}
 use Rattle.spec_numbers.proofs.Floor.{floor_div-small, ceil_div-small}
 use Rattle.spec_chebyshev.specs.declared.ends.Ival62.{Ival62}
 use Rattle.spec_chebyshev.specs.Differences.{difference_t, difference_u, IsArgument, Within}
@@ -43,6 +44,15 @@ ends_within s B k e N h w c =
       lo = record { low = c.low; high = below_limit e.lo N (pos B) (pos (2 ^ s)) ((2 ^ 60) ^ k) d0 s0 h2.low w2.high };
       hi = record { low = above_limit e.hi N (pos B) (pos (2 ^ s)) ((2 ^ 60) ^ k) d0 s0 h2.high w2.low; high = c.high };
     }
+
+-- an entry that holds a value has its ends in order
+ordered_ends : (s k : ℕ) (e : Ival62) (N : ℤ) → HoldsIn s e N (power (pos (2 ^ 60)) k) → e.lo ≤ℤ e.hi
+ordered_ends s k e N h =
+    let g : HoldsIn s e N (pos ((2 ^ 60) ^ k)) = rw (power-pos (2 ^ 60) k) at h in
+    let d0 : 0 < (2 ^ 60) ^ k = one-le-pow _ _ (omega arith) in
+    let a = g.low in
+    let b = g.high in
+    le-mul_cancel e.lo e.hi ((2 ^ 60) ^ k) d0 (omega (arith, lin))
 
 -- 2^60 in size is divided by 2^9 to 2^51
 half_low : (z : ℤ) → Within z (pos (2 ^ 60)) → neg_ℤ (pos (2 ^ 51)) ≤ℤ floor_div z (2 ^ 9)
@@ -104,3 +114,15 @@ module _ (x : Ival62) (h : IsArguments x) where
 
   pub EndsWithin-r : (k : ℕ) → EndsWithin (r_size k * 2 ^ r_unit) (r_row x k)
   EndsWithin-r k = ends_within 44 (r_size k) k (r_row x k) (pos (2 ^ 60) *ℤ difference_u x.lo x.lo (pos (2 ^ 60)) k) (HoldsIn-r x x.lo x.lo (pos (2 ^ 60)) arg arg own own k) (Within-r x.lo x.lo (pos (2 ^ 60)) k arg arg) (r_cut k)
+
+  pub t_ordered : (k : ℕ) → (t_row x k).lo ≤ℤ (t_row x k).hi
+  t_ordered k = ordered_ends 60 k (t_row x k) (cleared_t x.lo (pos (2 ^ 60)) k) (HoldsIn-t x x.lo (pos (2 ^ 60)) arg own k)
+
+  pub u_ordered : (k : ℕ) → (u_row x k).lo ≤ℤ (u_row x k).hi
+  u_ordered k = ordered_ends 50 k (u_row x k) (cleared_u x.lo (pos (2 ^ 60)) k) (HoldsIn-u x x.lo (pos (2 ^ 60)) arg own k)
+
+  pub q_ordered : (k : ℕ) → (q_row x k).lo ≤ℤ (q_row x k).hi
+  q_ordered k = ordered_ends 46 k (q_row x k) (pos (2 ^ 60) *ℤ difference_t x.lo x.lo (pos (2 ^ 60)) k) (HoldsIn-q x x.lo x.lo (pos (2 ^ 60)) arg arg own own k)
+
+  pub r_ordered : (k : ℕ) → (r_row x k).lo ≤ℤ (r_row x k).hi
+  r_ordered k = ordered_ends 44 k (r_row x k) (pos (2 ^ 60) *ℤ difference_u x.lo x.lo (pos (2 ^ 60)) k) (HoldsIn-r x x.lo x.lo (pos (2 ^ 60)) arg arg own own k)

@@ -114,6 +114,14 @@ pub fn rows_within()
         → EndsWithin (r_size k * 2 ^ r_unit) (r_row x k) }
 {}
 
+/// The ends of every entry are in order.
+pub fn rows_ordered()
+    ensures t { (x : Ival62) → IsArguments x → (k : ℕ) → (t_row x k).lo ≤ℤ (t_row x k).hi }
+    ensures u { (x : Ival62) → IsArguments x → (k : ℕ) → (u_row x k).lo ≤ℤ (u_row x k).hi }
+    ensures q { (x : Ival62) → IsArguments x → (k : ℕ) → (q_row x k).lo ≤ℤ (q_row x k).hi }
+    ensures r { (x : Ival62) → IsArguments x → (k : ℕ) → (r_row x k).lo ≤ℤ (r_row x k).hi }
+{}
+
 /// The first 32 entries of each row are within 2^60, so that their ends fit 64 bits.
 pub fn first_entries_fit()
     ensures t { (x : Ival62) → IsArguments x → (k : ℕ) → EndsWithin (2 ^ 60) (t_row x k) }

@@ -1,3 +1,8 @@
 pub mod Rule
 pub mod Workers
 pub mod Seats
+pub mod Pools
+pub mod Runs
+pub mod TestJudges
+pub mod Passes
+pub mod Closing

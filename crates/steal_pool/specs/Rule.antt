@@ -50,6 +50,14 @@ HasTaken t v xs w = (w ≡ with_taken v xs) × AreValid t xs
 abbrev pub IsUsedUp : View → Type 0
 IsUsedUp v = v.made ≡ 0 → IsPermutation v.put v.taken
 
+-- where no pass is out, the nodes that the owner put are those that it took and some that are left
+abbrev pub HasLeft : View → Type 0
+HasLeft v = v.made ≡ 0 → (left : List Node) × IsPermutation v.put (v.taken ++ left)
+
+-- the owner took these nodes, and before it did the deque had all that nobody took
+abbrev pub OwnerTakes : Rules → View → List Node → View → Type 0
+OwnerTakes t v xs w = HasTaken t v xs w × HasLeft v
+
 -- ---- the rule
 -- only the owner's view has put nodes and has made passes, and a view that is neither the owner's nor out is empty
 pub record Fits (v : View) : Type 0 where

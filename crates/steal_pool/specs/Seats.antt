@@ -1,5 +1,6 @@
 -- A worker's seat at the pool: what it has and knows, what it entered, and what a piece of its work balances.
-use Rattle.std.specs.Prelude.{◌≡◌, ◌⊎◌, ◌≤◌, ℕ, List, ◌++◌, length, map, Option, Some, None, IsPermutation}
+use Rattle.std.specs.Prelude.{◌≡◌, ◌⊎◌, ◌≤◌, ℕ, List, [], ◌++◌, length, map, Option, Some, None, IsPermutation}
+use Rattle.atomic_table.specs.Seated.{TableId}
 use Rattle.spec_trees.specs.declared.tree.Node.{Node}
 use Rattle.spec_trees.specs.declared.tree.Leaf.{Leaf}
 use Rattle.spec_trees.specs.declared.tree.Mark.{Mark}
@@ -9,6 +10,7 @@ use Rattle.spec_pool.specs.declared.ledger.Terms.{Terms}
 use Rattle.spec_pool.specs.History.{Fresh}
 use Rattle.spec_pool.specs.Accounts.{Account, Balances, TakesNode, TakesTop}
 use Rattle.steal_pool.specs.declared.seat.PoolError.{PoolError}
+use Rattle.steal_pool.specs.declared.seat.PoolError.TheVariants.{TooMany}
 use Rattle.steal_pool.specs.Rule.{DequeId, End}
 use Rattle.steal_pool.specs.Workers.{Holder, IsNew, taken_by}
 
@@ -16,21 +18,23 @@ use Rattle.steal_pool.specs.Workers.{Holder, IsNew, taken_by}
 abbrev pub rules_within : Rules → Node → Rules
 rules_within t root = record { first = root.a; last = root.b; deepest = t.deepest; verdict = t.verdict; parts = t.parts }
 
--- the worker, its part of the ledger's history, the terms of the ledger, and the refusal that it keeps
+-- the worker, its part of the ledger's history, the table and the terms of the ledger, and the refusal that it keeps
 pub record Seat : Type 0 where
   pub worker : Holder
   pub part : Part
+  pub table : TableId
   pub terms : Terms
   pub refusal : Option PoolError
 
-abbrev pub seat_of : Holder → Part → Terms → Option PoolError → Seat
-seat_of worker part terms refusal = record { worker = worker; part = part; terms = terms; refusal = refusal }
+abbrev pub seat_of : Holder → Part → TableId → Terms → Option PoolError → Seat
+seat_of worker part table terms refusal =
+    record { worker = worker; part = part; table = table; terms = terms; refusal = refusal }
 
 abbrev pub with_worker : Seat → Holder → Seat
-with_worker s w = seat_of w s.part s.terms s.refusal
+with_worker s w = seat_of w s.part s.table s.terms s.refusal
 
 abbrev pub with_refusal : Seat → Option PoolError → Seat
-with_refusal s refusal = seat_of s.worker s.part s.terms refusal
+with_refusal s refusal = seat_of s.worker s.part s.table s.terms refusal
 
 abbrev pub IsHolding : Seat → Type 0
 IsHolding s = (n : Node) × (s.worker.hand ≡ Some n)
@@ -86,6 +90,7 @@ ways w = ways_of (place_of w.own) w.own.view.made (map place_of w.passes)
 -- the same ways, ledger and number
 pub record SameSeat (s s' : Seat) : Type 0 where
   pub ways : ways s'.worker ≡ ways s.worker
+  pub table : s'.table ≡ s.table
   pub terms : s'.terms ≡ s.terms
   pub number : s'.part.number ≡ s.part.number
 
@@ -100,5 +105,11 @@ abbrev pub IsNamed : Rules → Rules → Node → Type 0
 IsNamed t r root = (t ≡ rules_within r root) × IsValid r root
 
 -- a seat that has done nothing yet, with this in its hand
-abbrev pub NewSeat : Part → Terms → Option Node → Seat → Type 0
-NewSeat part terms hand s = IsNew part.number hand s.worker × (s.part ≡ part) × (s.terms ≡ terms) × (s.refusal ≡ None)
+abbrev pub NewSeat : Part → TableId → Terms → Option Node → Seat → Type 0
+NewSeat part table terms hand s =
+    IsNew part.number hand s.worker × (s.part ≡ part) × (s.table ≡ table) × (s.terms ≡ terms) × (s.refusal ≡ None)
+
+-- a seat as `work` leaves it: it holds nothing, or keeps a refusal, and keeps `TooMany` only where it is full
+pub record IsLeft (t : Rules) (s : Seat) : Type 0 where
+  pub empty : s.refusal ≡ None → (s.worker.hand ≡ None) × (s.worker.kept ≡ [])
+  pub full : s.refusal ≡ Some TooMany → IsFull t s

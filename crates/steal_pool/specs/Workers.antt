@@ -3,7 +3,8 @@ use Rattle.std.specs.Prelude.{◌≡◌, ◌⊎◌, ℕ, ◌+◌, ◌≤◌, Lis
 use Rattle.spec_trees.specs.declared.tree.Node.{Node}
 use Rattle.spec_trees.specs.declared.tree.Verdict.TheVariants.{Split}
 use Rattle.spec_trees.specs.Tree.{Rules, IsValid}
-use Rattle.steal_pool.specs.Rule.{AreValid, End, IsUsedUp, opening, takes_one, with_put, with_view}
+use Rattle.steal_pool.specs.Rule.{AreValid, End, IsUsedUp, end_of, joined_one, made_one, opening, pass_out, takes_one, with_put, with_view}
+use Rattle.steal_pool.specs.declared.view.View.{View}
 
 -- the end of its own deque, its passes on the other deques, how many nodes it put on its own since a pop of its own
 -- last gave nothing, the node in its hand, and its kept stack with the top last
@@ -71,6 +72,30 @@ Takes n w v = TakesKept n w v ⊎ TakesOwn n w v ⊎ TakesOther n (looked w) v
 -- it found none: where no pass on its deque is out, what it put there is what it took there
 abbrev pub FindsNone : Holder → Holder → Type 0
 FindsNone w v = (w.kept ≡ []) × IsUsedUp w.own.view × (v ≡ looked w)
+
+-- ---- passes
+abbrev pub with_own : Holder → View → Holder
+with_own w v = holder_of (with_view w.own v) w.passes w.since w.hand w.kept
+
+abbrev pub with_passes : Holder → List End → Holder
+with_passes w passes = holder_of w.own passes w.since w.hand w.kept
+
+-- a new pass on its deque, for another worker, and the worker once it has made it
+abbrev pub new_pass : Holder → End
+new_pass w = end_of w.own.worker w.own.deque pass_out
+
+abbrev pub lends : Holder → Holder
+lends w = with_own w (made_one w.own.view)
+
+-- it has one pass more, it gave its last pass away, or it joined a pass on its deque
+abbrev pub gains : Holder → End → Holder
+gains w e = with_passes w (w.passes ++ e ∷ [])
+
+abbrev pub Gives : End → Holder → Holder → Type 0
+Gives e w v = (w.passes ≡ v.passes ++ e ∷ []) × (v ≡ with_passes w v.passes)
+
+abbrev pub joins : Holder → End → Holder
+joins w e = with_own w (joined_one w.own.view e.view)
 
 -- a worker that has put and taken nothing, and has no pass
 abbrev pub IsNew : ℕ → Option Node → Holder → Type 0

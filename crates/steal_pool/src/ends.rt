@@ -2,7 +2,7 @@
 ghost use Rattle.std.specs.Prelude.{◌≡◌, ◌+◌, ◌<◌, ◌≤◌, [], ◌∷◌, length, IfOk, OnOk, IfErr, IfSome, IfNone};
 ghost use Rattle.spec_trees.specs.Tree.{IsValid};
 ghost use Rattle.crossbeam_deque.specs.Steals.{MatchSteal};
-ghost use Rattle.steal_pool.specs.Rule.{opening, pass_out, with_put, made_one, joined_one, IsUsedUp, SameDeque, with_view, takes_one};
+ghost use Rattle.steal_pool.specs.Rule.{HasLeft, opening, pass_out, with_put, made_one, joined_one, IsUsedUp, SameDeque, with_view, takes_one};
 
 use crate::view::{Balance, Naming, Puts, Steals, Takes, View, Ways};
 use crossbeam_deque::{Pass, Steal, Stealer, Worker};
@@ -81,6 +81,7 @@ impl<N: Naming> Owner<N> {
     pub fn pop(&mut self) -> Option<Node>
         ensures taken { IfSome result (λ n. (self.new ≡ takes_one self.old n) × IsValid N.rules n) }
         ensures none { IfNone result ((self.new ≡ self.old) × IsUsedUp self.old.view) }
+        ensures left { HasLeft self.old.view }
     {
         self.worker.pop_as::<Takes<N>>()
     }

@@ -2,6 +2,8 @@
 #![tactic(auto)]
 
 mod ends;
+mod finishing;
+mod joining;
 mod making;
 mod running;
 mod seat;
@@ -10,7 +12,12 @@ mod work;
 mod worker;
 
 pub use ends::{Owner, Thief};
+pub use finishing::{FinishError, finish};
+pub use making::make;
 pub use running::run;
 pub use seat::{PoolError, PoolSeat};
 pub use view::{Naming, View};
 pub use worker::Pushed;
+
+#[cfg(test)]
+mod tests;

@@ -1,10 +1,15 @@
-// Making a seat.
-ghost use Rattle.std.specs.Prelude.{◌≡◌, Some, IfOk};
+// Making the seats of a pool, with a pass of each on the deque of each other.
+ghost use Rattle.std.specs.Prelude.{◌≡◌, ◌≤◌, ◌<◌, ◌+◌, Some, IfOk, OnOk, length};
+ghost use Rattle.std.specs.List.{AllByRecursion};
 ghost use Rattle.spec_trees.specs.declared.tree.Node.{Node};
 ghost use Rattle.spec_trees.specs.Tree.{IsValid};
-ghost use Rattle.span_ledger.specs.Seats.{IsSeatOf, part, terms};
+ghost use Rattle.span_ledger.specs.Seats.{AreNew, IsSeatOf, part, table_of, terms};
 ghost use Rattle.steal_pool.specs.Seats.{IsNamed, NewSeat};
+ghost use Rattle.steal_pool.specs.Pools.{AccountFor, AllBegin, AreLinked, Beside, HaveAllPasses, first_hand};
+ghost use Rattle.steal_pool.specs.Workers.{new_pass};
+ghost use Rattle.steal_pool.specs.Passes.{Linking, Links, LinksOther, Opens, gained, lent};
 
+use crate::ends::Thief;
 use crate::seat::PoolSeat;
 use crate::view::Naming;
 use crate::worker::Worker;
@@ -28,7 +33,8 @@ impl<'p, N: Naming, J: Judge, G: Gate> PoolSeat<'p, N, J, G> {
         requires rules { IsNamed N.rules (J.rules judge.now) (terms ledger.now).root }
         requires ours { IsSeatOf ledger.now entries }
         requires hand { (n : Node) → hand ≡ Some n → IsValid N.rules n }
-        ensures made { IfOk result (λ s. NewSeat (part entries) (terms ledger.now) hand s) }
+        ensures made { IfOk result
+            (λ s. NewSeat (part entries) (table_of ledger.now) (terms ledger.now) hand s) }
     {
         let worker = Worker::<N>::new(alloc, entries.number(), hand)?;
         Ok(PoolSeat {
@@ -40,4 +46,138 @@ impl<'p, N: Naming, J: Judge, G: Gate> PoolSeat<'p, N, J, G> {
             gate,
         })
     }
+
+    // A pass on its deque, for another seat.
+    fn lend_pass(&mut self) -> Result<Thief<N>, Memory>
+        ensures made { OnOk result (self.new ≡ lent self.old) }
+        ensures pass { IfOk result (λ e. e ≡ new_pass self.old.worker) }
+    {
+        self.worker.lend_pass()
+    }
+
+    // Keeps a pass on another seat's deque.
+    fn keep_pass(&mut self, pass: Thief<N>) -> Result<(), Memory>
+        ensures { OnOk result (self.new ≡ gained self.old pass) }
+    {
+        self.worker.keep_pass(pass)
+    }
+}
+
+// What is in the hand of a seat with this number when it is made.
+fn first_hand(root: Node, number: u32) -> Option<Node>
+    ensures { result ≡ first_hand root number }
+{
+    if number == 0 { Some(root) } else { None }
+}
+
+// The seats, one for each seat of the ledger, without passes.
+fn open_seats<'p, N: Naming, J: Judge, G: Gate>(
+    alloc: Global,
+    judge: &'p J,
+    ledger: &'p SpanLedger,
+    entries: Vec<LedgerSeat>,
+    root: Node,
+    gate: &'p G,
+) -> Result<Vec<PoolSeat<'p, N, J, G>>, Memory>
+    requires rules { IsNamed N.rules (J.rules judge.now) root }
+    requires root { (terms ledger.now).root ≡ root }
+    requires ours { AllByRecursion (IsSeatOf ledger.now) entries.items }
+    ensures { IfOk result (λ v. Beside (Opens ledger.now root) entries.items v.items) }
+{
+    let mut seats = Vec::new(alloc);
+    for entry in entries {
+        let hand = first_hand(root, entry.number());
+        let seat = PoolSeat::new(alloc, judge, ledger, entry, hand, gate)?;
+        let Ok(_) = seats.push(seat) else {
+            return Err(Memory);
+        };
+    }
+    Ok(seats)
+}
+
+// Gives seat `i` a pass on the deque of seat `j`.
+fn link<'p, N: Naming, J: Judge, G: Gate>(
+    seats: &mut [PoolSeat<'p, N, J, G>],
+    i: usize,
+    j: usize,
+) -> Result<(), Memory>
+    requires inside { (i < length seats.old) × (j < length seats.old) }
+    ensures links { OnOk result (Links i j seats.old seats.new) }
+{
+    let pass = seats[j].lend_pass()?;
+    seats[i].keep_pass(pass)
+}
+
+// Gives seat `i` a pass on the deque of seat `j`, unless they are the same.
+fn link_other<'p, N: Naming, J: Judge, G: Gate>(
+    seats: &mut [PoolSeat<'p, N, J, G>],
+    i: usize,
+    j: usize,
+) -> Result<(), Memory>
+    requires inside { (i < length seats.old) × (j < length seats.old) }
+    ensures links { OnOk result (LinksOther i j seats.old seats.new) }
+{
+    if i == j {
+        return Ok(());
+    }
+    link(seats, i, j)
+}
+
+// Gives seat `i` a pass on the deque of each other.
+fn link_one<'p, N: Naming, J: Judge, G: Gate>(
+    ledger: &SpanLedger,
+    root: Node,
+    seats: &mut [PoolSeat<'p, N, J, G>],
+    i: usize,
+) -> Result<(), Memory>
+    requires inside { i < length seats.old }
+    requires linking { Linking ledger.now root (length seats.old) i 0 seats.old }
+    ensures linking { OnOk result (Linking ledger.now root (length seats.old) (i + 1) 0 seats.new) }
+{
+    for j in 0..seats.len() {
+        link_other(seats, i, j)?;
+    }
+    Ok(())
+}
+
+// Gives each seat a pass on the deque of each other.
+fn link_all<'p, N: Naming, J: Judge, G: Gate>(
+    ledger: &SpanLedger,
+    root: Node,
+    seats: &mut [PoolSeat<'p, N, J, G>],
+) -> Result<(), Memory>
+    requires linking { Linking ledger.now root (length seats.old) 0 0 seats.old }
+    ensures linking { OnOk result
+        (Linking ledger.now root (length seats.old) (length seats.old) 0 seats.new) }
+{
+    for i in 0..seats.len() {
+        link_one(ledger, root, seats, i)?;
+    }
+    Ok(())
+}
+
+/// The seats of a pool, one for each seat of the ledger, with the root in the hand of the first. Each has a deque of its
+/// own, which takes 64 nodes without allocating, and a pass on the deque of each other.
+pub fn make<'p, N: Naming, J: Judge, G: Gate>(
+    alloc: Global,
+    judge: &'p J,
+    ledger: &'p SpanLedger,
+    entries: Vec<LedgerSeat>,
+    root: Node,
+    gate: &'p G,
+) -> Result<Vec<PoolSeat<'p, N, J, G>>, Memory>
+    requires rules { IsNamed N.rules (J.rules judge.now) root }
+    requires root { (terms ledger.now).root ≡ root }
+    requires count { (1 ≤ length entries.items) × (length entries.items ≤ 64) }
+    requires all { length entries.items ≡ (terms ledger.now).seats }
+    requires fresh { AreNew ledger.now entries.items }
+    ensures count { IfOk result (λ v. length v.items ≡ length entries.items) }
+    ensures begin { IfOk result (λ v. AllBegin ledger.now root v.items) }
+    ensures passes { IfOk result (λ v. HaveAllPasses v.items) }
+    ensures linked { IfOk result (λ v. AreLinked v.items) }
+    ensures account { IfOk result (λ v. AccountFor N.rules root v.items) }
+{
+    let mut seats = open_seats(alloc, judge, ledger, entries, root, gate)?;
+    link_all(ledger, root, seats.as_mut_slice())?;
+    Ok(seats)
 }

@@ -1,28 +1,206 @@
 // All leaves of a root, entered by workers that run at once.
-ghost use Rattle.std.specs.Prelude.{◌≡◌, ◌<◌, ◌≤◌, length, Err, IfOk};
-ghost use Rattle.spec_trees.specs.Tree.{IsValid, leaf_count, leaves};
+ghost use Rattle.std.specs.Prelude.{◌≡◌, ◌<◌, ◌≤◌, Some, None, Ok, Err, IfOk, IfErr, length, slice_get, slice_index_or, ℕ};
+ghost use Rattle.std.specs.List.{AllByRecursion, AllZip};
+ghost use Rattle.spec_trees.specs.Tree.{IsSound, IsValid, leaf_count, leaves};
 ghost use Rattle.spec_trees.specs.Order.{CoverRoot, ordered_leaves};
+ghost use Rattle.spec_pool.specs.History.{Sound};
+ghost use Rattle.span_ledger.specs.Seats.{AllFit, AreNew, terms};
+ghost use Rattle.steal_pool.specs.Seats.{IsLeft, IsNamed, Seat};
+ghost use Rattle.steal_pool.specs.Pools.{AccountFor, AreLinked, IfTooMany};
+ghost use Rattle.steal_pool.specs.Runs.{AreAll, AreFree, AreSeatsOf, HasWorked, HaveEntered, IsLater, IsOverfull};
 ghost use Rattle.steal_pool.specs.declared.seat.PoolError.TheVariants.{TooMany};
 
-use crate::seat::PoolError;
+use crate::finishing::{FinishError, finish};
+use crate::making::make;
+use crate::seat::{PoolError, PoolSeat};
+use crate::view::Naming;
 use gf_edges::Gate;
-use halving::Judge;
-use span_ledger::Book;
+use halving::{Judge, rules_are_sound};
+use span_ledger::{Book, LedgerSeat, SpanLedger};
+use spec_pool::Memory;
 use spec_trees::Node;
 use std::alloc::Global;
+use std::marker::Brand;
 use std::sync::Wait;
+use std::thread;
 use std::thread::Threads;
 
-/// The leaves of a valid root, each entered once, by up to 64 workers at once: put in order they are the root's leaves
-/// from left to right. `TooMany` where they are more than `limit`. The gate is passed before each judging.
-pub fn run<R: Threads + Wait + Sync, J: Judge, G: Gate>(
-    _rt: &R,
-    _alloc: Global,
+/// The most workers of a run.
+const MOST: usize = 64;
+
+impl<'p, N: Naming, J: Judge, G: Gate> PoolSeat<'p, N, J, G> {
+    // Passes the gate and judges the root, which is in the hand. Where it is to be split, and other workers wait for
+    // its right part, that goes on the deque.
+    fn begin(&mut self, root: Node, shared: bool)
+        requires hand { self.old.worker.hand ≡ Some root }
+        requires valid { IsValid N.rules root }
+        ensures later { IsLater N.rules self.old self.new }
+        ensures refusal { self.new.refusal ≡ self.old.refusal }
+    {
+        let None = self.verdict(root) else {
+            return;
+        };
+        if !shared {
+            return;
+        }
+        let _ = self.split(root);
+    }
+
+    // Works until there is no more to do, or until it is refused.
+    fn work_off<R: Wait>(&mut self, rt: &R)
+        requires free { self.old.refusal ≡ None }
+        ensures { HasWorked N.rules self.old self.new }
+    {
+        let _ = self.work(rt);
+    }
+}
+
+// All seats work at once, each in a thread of its own.
+fn work_all<R: Threads + Wait + Sync, N: Naming + Send + Sync, J: Judge, G: Gate>(
+    rt: &R,
+    seats: &mut [PoolSeat<N, J, G>],
+)
+    requires free { AreFree seats.old }
+    ensures worked { (k : ℕ) (d : Seat) → k < length seats.old
+        → HasWorked N.rules (slice_index_or seats.old k d) (slice_index_or seats.new k d) }
+{
+    thread::for_each_mut(
+        rt,
+        seats,
+        MOST,
+        &|_, seat: &mut PoolSeat<N, J, G>|
+            requires { seat.now.refusal ≡ None }
+            ensures { HasWorked N.rules seat.entry.now seat.exit.now }
+        { seat.work_off(rt) },
+    );
+}
+
+// The first seat, which has the root in its hand, begins, and then all work at once.
+fn begin_and_work<R: Threads + Wait + Sync, N: Naming + Send + Sync, J: Judge, G: Gate>(
+    rt: &R,
+    seats: &mut [PoolSeat<N, J, G>],
+    root: Node,
+)
+    requires some { 0 < length seats.old }
+    requires hand { (s : Seat) → slice_get seats.old 0 ≡ Some s → s.worker.hand ≡ Some root }
+    requires valid { IsValid N.rules root }
+    requires free { AreFree seats.old }
+    ensures later { AllZip (IsLater N.rules) seats.old seats.new }
+    ensures left { AllByRecursion (IsLeft N.rules) seats.new }
+{
+    let shared = seats.len() > 1;
+    seats[0].begin(root, shared);
+    work_all(rt, seats);
+}
+
+// The seats of a pool over a ledger, once all have worked.
+pub(crate) fn worked<'p, R: Threads + Wait + Sync, N: Naming + Send + Sync, J: Judge, G: Gate>(
+    rt: &R,
+    alloc: Global,
+    judge: &'p J,
+    ledger: &'p SpanLedger,
+    entries: Vec<LedgerSeat>,
+    root: Node,
+    gate: &'p G,
+) -> Result<Vec<PoolSeat<'p, N, J, G>>, Memory>
+    requires rules { IsNamed N.rules (J.rules judge.now) root }
+    requires root { (terms ledger.now).root ≡ root }
+    requires count { (1 ≤ length entries.items) × (length entries.items ≤ 64) }
+    requires all { length entries.items ≡ (terms ledger.now).seats }
+    requires fresh { AreNew ledger.now entries.items }
+    ensures count { IfOk result (λ v. length v.items ≡ length entries.items) }
+    ensures linked { IfOk result (λ v. AreLinked v.items) }
+    ensures left { IfOk result (λ v. AllByRecursion (IsLeft N.rules) v.items) }
+    ensures account { IfOk result (λ v. AccountFor N.rules root v.items) }
+    ensures seats { IfOk result (λ v. AreSeatsOf ledger.now v.items) }
+{
+    rules_are_sound(judge);
+    let mut seats = make::<N, J, G>(alloc, judge, ledger, entries, root, gate)?;
+    begin_and_work(rt, seats.as_mut_slice(), root);
+    Ok(seats)
+}
+
+// The book of a ledger, all of whose seats have come back.
+fn closed(ledger: SpanLedger, seats: Vec<LedgerSeat>) -> Book
+    requires all { AreAll ledger seats.items }
+    ensures root { result.root ≡ (terms ledger).root }
+    ensures sound { Sound (terms ledger) result.entries.items }
+    ensures fit { AllFit result.entries.items seats.items }
+{
+    let Ok(book) = ledger.close(seats) else {
+        unreachable!()
+    };
+    book
+}
+
+// The book that a pool leaves, or why there is none.
+fn book_of<N: Naming>(
+    ledger: SpanLedger,
+    root: Node,
+    ended: Result<Vec<LedgerSeat>, FinishError>,
+) -> Result<Book, PoolError>
+    requires sound { IsSound N.rules }
+    requires valid { IsValid N.rules root }
+    requires root { (terms ledger).root ≡ root }
+    requires ok { IfOk ended (λ v. AreAll ledger v.items × HaveEntered N.rules root v.items) }
+    requires full { IfErr ended (λ e. IfTooMany e
+        (λ es leaf. AreAll ledger es × IsOverfull N.rules root (terms ledger).limit es leaf)) }
+    ensures root { IfOk result (λ book. book.root ≡ root) }
+    ensures leaves { IfOk result
+        (λ book. ordered_leaves book.entries.items ≡ leaves N.rules root) }
+    ensures few { IfOk result (λ book. length book.entries.items ≤ (terms ledger).limit) }
+    ensures too_many { result ≡ Err TooMany → (terms ledger).limit < leaf_count N.rules root }
+{
+    match ended {
+        Ok(seats) => Ok(closed(ledger, seats)),
+        Err(FinishError::TooMany { seats, leaf: _ }) => {
+            let _book = closed(ledger, seats);
+            Err(PoolError::TooMany)
+        }
+        Err(FinishError::Memory) => Err(PoolError::Memory),
+    }
+}
+
+// A run over nodes that are valid by the rules that its caller names.
+fn run_named<R: Threads + Wait + Sync, N: Naming + Send + Sync, J: Judge, G: Gate>(
+    rt: &R,
+    alloc: Global,
     judge: &J,
     root: Node,
     workers: u32,
     limit: u32,
-    _gate: &G,
+    gate: &G,
+) -> Result<Book, PoolError>
+    requires workers { (1 ≤ workers) × (workers ≤ 64) }
+    requires rules { IsNamed N.rules (J.rules judge.now) root }
+    ensures root { IfOk result (λ book. book.root ≡ root) }
+    ensures leaves { IfOk result (λ book.
+        ordered_leaves book.entries.items ≡ leaves (J.rules judge.now) root) }
+    ensures few { IfOk result (λ book. length book.entries.items ≤ limit) }
+    ensures too_many { result ≡ Err TooMany → limit < leaf_count (J.rules judge.now) root }
+{
+    rules_are_sound(judge);
+    let Ok((ledger, entries)) = SpanLedger::new(alloc, root, limit, workers) else {
+        return Err(PoolError::Memory);
+    };
+    let Ok(seats) = worked::<R, N, J, G>(rt, alloc, judge, &ledger, entries, root, gate) else {
+        return Err(PoolError::Memory);
+    };
+    let ended = finish(rt, alloc, seats);
+    book_of::<N>(ledger, root, ended)
+}
+
+/// The leaves of a valid root, each entered once, by up to 64 workers at once: put in order they are the root's leaves
+/// from left to right. `TooMany` where they are more than `limit`. The gate is passed before each judging, and by the
+/// first worker once more for the root, before the others start.
+pub fn run<R: Threads + Wait + Sync, J: Judge, G: Gate>(
+    rt: &R,
+    alloc: Global,
+    judge: &J,
+    root: Node,
+    workers: u32,
+    limit: u32,
+    gate: &G,
 ) -> Result<Book, PoolError>
     requires workers { (1 ≤ workers) × (workers ≤ 64) }
     requires valid { IsValid (J.rules judge.now) root }
@@ -33,5 +211,6 @@ pub fn run<R: Threads + Wait + Sync, J: Judge, G: Gate>(
     ensures few { IfOk result (λ book. length book.entries.items ≤ limit) }
     ensures too_many { result ≡ Err TooMany → limit < leaf_count (J.rules judge.now) root }
 {
-    Err(PoolError::Memory)
+    rules_are_sound(judge);
+    run_named::<R, Brand, J, G>(rt, alloc, judge, root, workers, limit, gate)
 }

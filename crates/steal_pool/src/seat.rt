@@ -14,7 +14,7 @@ pub enum PoolError {
 }
 
 /// A worker of a pool, with its judge, its ledger and its gate. Contracts see what it holds, its part of the ledger's
-/// history, the ledger's terms and the refusal that it keeps.
+/// history, the ledger's table and terms, and the refusal that it keeps.
 #[derive(Drop)]
 pub struct PoolSeat<'p, N: Naming, J: Judge, G: Gate> {
     pub(crate) worker: Worker<N>,
@@ -28,12 +28,13 @@ pub struct PoolSeat<'p, N: Naming, J: Judge, G: Gate> {
 impl<'p, N: Naming, J: Judge, G: Gate> Model for PoolSeat<'p, N, J, G> {
     ghost use Rattle.std.specs.Prelude.{◌≡◌};
     ghost use Rattle.spec_trees.specs.Tree.{IsValid};
-    ghost use Rattle.span_ledger.specs.Seats.{IsSeatOf, part, terms};
+    ghost use Rattle.span_ledger.specs.Seats.{IsSeatOf, part, table_of, terms};
     ghost use Rattle.steal_pool.specs.Seats.{Seat, rules_within, seat_of};
 
     ghost Value = { Seat };
 
-    ghost view = { λ s. seat_of s.worker (part s.entries) (terms s.ledger.now) s.refusal };
+    ghost view = { λ s. seat_of s.worker (part s.entries) (table_of s.ledger.now)
+        (terms s.ledger.now) s.refusal };
 
     ghost invariant = { λ s.
         (N.rules ≡ rules_within (J.rules s.judge.now) (terms s.ledger.now).root)

@@ -61,9 +61,9 @@ pub struct Takes<N> {
 }
 
 impl<N: Naming> Outcome<Node, View> for Takes<N> {
-    ghost use Rattle.steal_pool.specs.Rule.{HasTaken, IsUsedUp};
+    ghost use Rattle.steal_pool.specs.Rule.{OwnerTakes, IsUsedUp};
 
-    ghost then = { HasTaken N.rules };
+    ghost then = { OwnerTakes N.rules };
 
     ghost empty = { IsUsedUp };
 }

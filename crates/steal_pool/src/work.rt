@@ -6,7 +6,7 @@ ghost use Rattle.spec_trees.specs.declared.tree.Verdict.TheVariants.{Split};
 ghost use Rattle.spec_pool.specs.Accounts.{PutsRight, KeepsRight};
 ghost use Rattle.steal_pool.specs.Rule.{IsUsedUp};
 ghost use Rattle.steal_pool.specs.Workers.{IsRight};
-ghost use Rattle.steal_pool.specs.Seats.{Changes, Gets, IsFull, IsHolding, SameSeat, Works, with_refusal};
+ghost use Rattle.steal_pool.specs.Seats.{Changes, Gets, IsFull, IsHolding, IsLeft, SameSeat, Works, with_refusal};
 ghost use Rattle.steal_pool.specs.declared.worker.Pushed.TheVariants.{OnDeque, Kept, Memory};
 ghost use Rattle.steal_pool.specs.declared.seat.PoolError.TheVariants.{TooMany, Memory as OutOfMemory};
 
@@ -31,6 +31,7 @@ impl<'p, N: Naming, J: Judge, G: Gate> PoolSeat<'p, N, J, G> {
         ensures memory { (n : Node) → result ≡ Memory n → (n ≡ right) × (self.new ≡ self.old) }
         ensures first { length self.old.worker.own.view.put < 64 → result ≡ OnDeque }
         ensures same { SameSeat self.old self.new }
+        ensures refusal { self.new.refusal ≡ self.old.refusal }
     {
         rules_are_sound(self.judge);
         let Some(node) = self.worker.node() else {
@@ -57,7 +58,7 @@ impl<'p, N: Naming, J: Judge, G: Gate> PoolSeat<'p, N, J, G> {
     }
 
     // The node in the hand.
-    fn node(&self) -> Option<Node>
+    pub(crate) fn node(&self) -> Option<Node>
         ensures hand { result ≡ self.now.worker.hand }
         ensures valid { IfSome result (IsValid N.rules) }
     {
@@ -97,7 +98,7 @@ impl<'p, N: Naming, J: Judge, G: Gate> PoolSeat<'p, N, J, G> {
     }
 
     // Splits the node in the hand.
-    fn split(&mut self, node: Node) -> Result<(), PoolError>
+    pub(crate) fn split(&mut self, node: Node) -> Result<(), PoolError>
         requires hand { self.old.worker.hand ≡ Some node }
         requires valid { IsValid N.rules node }
         requires split { N.rules.verdict node ≡ Split }
@@ -117,7 +118,7 @@ impl<'p, N: Naming, J: Judge, G: Gate> PoolSeat<'p, N, J, G> {
     }
 
     // What the judge says of a node, once the gate is passed.
-    fn verdict(&self, node: Node) -> Option<Mark>
+    pub(crate) fn verdict(&self, node: Node) -> Option<Mark>
         requires valid { IsValid N.rules node }
         ensures { result ≡ mark_of (N.rules.verdict node) }
     {
@@ -155,6 +156,7 @@ impl<'p, N: Naming, J: Judge, G: Gate> PoolSeat<'p, N, J, G> {
         ensures refusal { IfErr result (λ e. self.new.refusal ≡ Some e) }
         ensures holds { IfErr result (λ e. IsHolding self.new) }
         ensures full { IfErr result (λ e. e ≡ TooMany → IsFull N.rules self.new) }
+        ensures left { IsLeft N.rules self.new }
     {
         for _ in rt.forever() {
             match self.node() {

@@ -1,9 +1,9 @@
 // A worker: the end of its own deque, its passes on the others, its hand and its kept stack.
-ghost use Rattle.std.specs.Prelude.{◌≡◌, ◌<◌, ◌≤◌, [], Some, None, MatchOption, IsTrue, IsFalse, IfOk, IfSome, length};
+ghost use Rattle.std.specs.Prelude.{◌≡◌, ◌<◌, ◌≤◌, [], Some, None, MatchOption, IsTrue, IsFalse, IfOk, IfSome, OnOk, length};
 ghost use Rattle.spec_trees.specs.declared.tree.Node.{Node};
 ghost use Rattle.spec_trees.specs.Tree.{IsSound, IsValid};
-ghost use Rattle.steal_pool.specs.Rule.{IsUsedUp};
-ghost use Rattle.steal_pool.specs.Workers.{FindsNone, IsNew, IsSplit, TookOne, Takes, TakesKept, TakesOther, TakesOwn, looked, on_deque, on_stack, with_hand};
+ghost use Rattle.steal_pool.specs.Rule.{HasLeft, IsUsedUp};
+ghost use Rattle.steal_pool.specs.Workers.{FindsNone, IsNew, IsSplit, TookOne, Takes, TakesKept, TakesOther, TakesOwn, Gives, gains, joins, lends, looked, new_pass, on_deque, on_stack, with_hand};
 ghost use Rattle.steal_pool.specs.declared.worker.Pushed.TheVariants.{OnDeque, Kept, Memory as OutOfMemory};
 
 use crate::ends::{Owner, ROOM, Thief};
@@ -205,5 +205,48 @@ impl<N: Naming> Worker<N> {
             return Pushed::Kept;
         }
         Pushed::Memory(right)
+    }
+
+    /// A pass on its own deque, for another worker.
+    pub fn lend_pass(&mut self) -> Result<Thief<N>, Memory>
+        ensures made { OnOk result (self.new ≡ lends self.old) }
+        ensures pass { IfOk result (λ e. e ≡ new_pass self.old) }
+    {
+        self.own.make_pass()
+    }
+
+    /// Keeps a pass on another worker's deque.
+    pub fn keep_pass(&mut self, pass: Thief<N>) -> Result<(), Memory>
+        ensures { OnOk result (self.new ≡ gains self.old pass) }
+    {
+        let Ok(_) = self.passes.push(pass) else {
+            return Err(Memory);
+        };
+        Ok(())
+    }
+
+    /// Gives its last pass away, if it has one.
+    pub fn give_pass(&mut self) -> Option<Thief<N>>
+        ensures { MatchOption result ((self.old.passes ≡ []) × (self.new ≡ self.old))
+            (λ e. Gives e self.old self.new) }
+    {
+        self.passes.pop()
+    }
+
+    /// Joins a pass on its own deque: what the pass took stands with what the worker took there.
+    pub fn join_pass(&mut self, pass: Thief<N>)
+        requires ours { pass.deque ≡ self.old.own.deque }
+        requires made { 0 < self.old.own.view.made }
+        ensures joined { self.new ≡ joins self.old pass }
+    {
+        self.own.join_pass(pass);
+    }
+
+    /// Looks at its own deque for the last time. Where no pass is out, what was put there is what was taken and what is
+    /// left.
+    pub fn leave(mut self)
+        ensures { HasLeft self.own.view }
+    {
+        let _left = self.own.pop();
     }
 }

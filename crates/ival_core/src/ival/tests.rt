@@ -1,10 +1,10 @@
 // Worked values from an exact reference.
 
-ghost use Rattle.std.specs.Prelude.{pos};
+ghost use Rattle.std.specs.Prelude.{◌<◌, ◌^◌, ◌≤ℤ◌, pos, unsigned_abs};
 ghost use Rattle.spec_intervals.specs.Interval.{IsExponent};
 ghost use Rattle.spec_intervals.specs.Fraction.{Holds, fraction};
 
-use super::Ival;
+use super::{Divider, Ival};
 use std::process::Abort;
 
 /// Low end, high end, exponent.
@@ -201,10 +201,25 @@ fn decimals_are_rounded_down_and_up(rt: HostRuntime) {
     assert_eq!(rt; cosine, (1052844544860824564, 1052844544860824565, -60));
 }
 
+/// The share over so many seconds, and the same by a divider.
+fn shares(lo: i128, hi: i128, s: i32, seconds: i64) -> (Ival, Ival)
+    requires ordered { lo ≤ℤ hi }
+    requires lo_size { unsigned_abs lo < 2 ^ 126 }
+    requires hi_size { unsigned_abs hi < 2 ^ 126 }
+    requires exponent { IsExponent s }
+    requires length { pos 1 ≤ℤ seconds }
+{
+    let divider = Divider::of(seconds);
+    (
+        Ival::scale(lo, hi, s, seconds),
+        Ival::scale_by(lo, hi, s, &divider),
+    )
+}
+
 #[test]
 fn shares_of_a_second_are_those_of_the_reference(rt: HostRuntime) {
     const MOST: i128 = (1 << 126) - 1;
-    let rows: [(Numbers, i64, Numbers); 4] = [
+    let rows: [(Numbers, i64, Numbers); 8] = [
         (
             (-MOST, 0, -70),
             1099511627776,
@@ -217,6 +232,26 @@ fn shares_of_a_second_are_those_of_the_reference(rt: HostRuntime) {
             (0, 2305843009213693953, -67),
         ),
         ((-2, -1, -74), 7, (-1, 0, -74)),
+        (
+            (-1, 4611686018427387905, -74),
+            1,
+            (-1, 2305843009213693953, -72),
+        ),
+        (
+            (MOST, MOST, -74),
+            2,
+            (4611686018427387903, 4611686018427387904, -10),
+        ),
+        (
+            (4611686018427387904, MOST, -70),
+            7,
+            (0, 2635249153387078803, -7),
+        ),
+        (
+            (-MOST, 1, -70),
+            534192108381,
+            (-2373023824837388508, 1, -43),
+        ),
     ];
     for ((lo, hi, s), seconds, want) in rows {
         assert!(rt; -MOST <= lo);
@@ -225,7 +260,12 @@ fn shares_of_a_second_are_those_of_the_reference(rt: HostRuntime) {
         assert!(rt; -65536 <= s);
         assert!(rt; s <= 65536);
         assert!(rt; seconds >= 1);
-        let share = Ival::scale(lo, hi, s, seconds);
+        let (share, again) = shares(lo, hi, s, seconds);
         assert_eq!(rt; share.parts(), want, "{lo} to {hi} over {seconds}");
+        assert_eq!(rt;
+            again.parts(),
+            want,
+            "{lo} to {hi} by a divider of {seconds}"
+        );
     }
 }

@@ -7,20 +7,20 @@ use Rattle.spec_motions.proofs.HeldChanges.{Holds-position_step}
 use Rattle.spec_ephemeris.specs.Granules.{series_of}
 use Rattle.spec_motions.proofs.GranuleSeries.{IsSeries-of, IsSpan-of}
 use Rattle.cheby_difference.proofs.positions.position_step.Goals as goal
-use Rattle.cheby_difference.proofs.positions.position_step.Goals.{After-position_step_over}
+use Rattle.cheby_difference.proofs.positions.position_step.Goals.{After-position_step_over_row}
 
-equals : (c : After-position_step_over) → c.position_step_over.result ≡ position_step_interval (series_of c.args.g.now c.args.axis) c.args.a c.args.b
+equals : (c : After-position_step_over_row) → c.position_step_over_row.result ≡ position_step_interval (series_of c.args.g.now c.args.axis) c.args.a c.args.b
 equals c =
     let a = c.ranges.a in
     let b = c.ranges.b in
     let s = series_of c.args.g.now c.args.axis in
-    let e : c.arguments.result ≡ arguments s c.args.a c.args.b = simp to_z-of_z at (c.arguments.ensures.equals c.args.axis) in
-    let x : c.differences-bases.result.arguments ≡ arguments s c.args.a c.args.b = c.differences-bases.ensures.arguments ∙ e in
+    let x : c.arguments-x.result ≡ arguments s c.args.a c.args.b = simp to_z-of_z at (c.arguments-x.ensures.equals c.args.axis) in
     let t = c.of-terms.ensures.terms in
     let n : SFits w64 c.args.g.now.seconds = search rules in
-    let r : c.position_step_over.result ≡ position_step_over c.of-terms.result c.differences-bases.result.arguments (unsigned_abs c.args.g.now.seconds) = simp to_z-of_z at c.position_step_over.ensures in
+    let d : c.of-divider.result ≡ unsigned_abs c.args.g.now.seconds = simp to_z-of_z at c.of-divider.ensures in
+    let r = c.position_step_over_row.ensures in
     let w : lt_z c.args.a c.args.b ≡ true = simp to_z-of_z at c.if-a-b.true in
-    rw w (r ∙ λ i. position_step_over (t i) (x i) (unsigned_abs c.args.g.now.seconds))
+    rw w (r ∙ λ i. position_step_over (t i) (x i) (d i))
 
 pub returns-then-a-b-clause-equals : goal.returns-then-a-b-clause-equals
 returns-then-a-b-clause-equals c = equals c

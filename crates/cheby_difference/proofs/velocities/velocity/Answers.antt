@@ -6,19 +6,19 @@ use Rattle.spec_motions.proofs.HeldChanges.{Holds-velocity}
 use Rattle.spec_ephemeris.specs.Granules.{series_of}
 use Rattle.spec_motions.proofs.GranuleSeries.{IsSeries-of, IsSpan-of}
 use Rattle.cheby_difference.proofs.velocities.velocity.Goals as goal
-use Rattle.cheby_difference.proofs.velocities.velocity.Goals.{After-velocity_over}
+use Rattle.cheby_difference.proofs.velocities.velocity.Goals.{After-velocity_over_row}
 
-equals : (c : After-velocity_over) → c.velocity_over.result ≡ velocity_interval (series_of c.args.g.now c.args.axis) c.args.a c.args.b
+equals : (c : After-velocity_over_row) → c.velocity_over_row.result ≡ velocity_interval (series_of c.args.g.now c.args.axis) c.args.a c.args.b
 equals c =
     let a = c.ranges.a in
     let b = c.ranges.b in
     let s = series_of c.args.g.now c.args.axis in
-    let e : c.arguments.result ≡ arguments s c.args.a c.args.b = simp to_z-of_z at (c.arguments.ensures.equals c.args.axis) in
-    let x : c.slopes-bases.result.arguments ≡ arguments s c.args.a c.args.b = c.slopes-bases.ensures.arguments ∙ e in
+    let x : c.arguments-x.result ≡ arguments s c.args.a c.args.b = simp to_z-of_z at (c.arguments-x.ensures.equals c.args.axis) in
     let t = c.of-terms.ensures.terms in
     let n : SFits w64 c.args.g.now.seconds = search rules in
-    let r : c.velocity_over.result ≡ velocity_over c.of-terms.result c.slopes-bases.result.arguments (unsigned_abs c.args.g.now.seconds) = simp to_z-of_z at c.velocity_over.ensures in
-    r ∙ λ i. velocity_over (t i) (x i) (unsigned_abs c.args.g.now.seconds)
+    let d : c.of-divider.result ≡ unsigned_abs c.args.g.now.seconds = simp to_z-of_z at c.of-divider.ensures in
+    let r = c.velocity_over_row.ensures in
+    r ∙ λ i. velocity_over (t i) (x i) (d i)
 
 pub returns-clause-equals : goal.returns-clause-equals
 returns-clause-equals c = equals c

@@ -7,20 +7,20 @@ use Rattle.spec_motions.proofs.HeldChanges.{Holds-velocity_step}
 use Rattle.spec_ephemeris.specs.Granules.{series_of}
 use Rattle.spec_motions.proofs.GranuleSeries.{IsSeries-of, IsSpan-of}
 use Rattle.cheby_difference.proofs.velocities.velocity_step.Goals as goal
-use Rattle.cheby_difference.proofs.velocities.velocity_step.Goals.{After-velocity_step_over}
+use Rattle.cheby_difference.proofs.velocities.velocity_step.Goals.{After-velocity_step_over_row}
 
-equals : (c : After-velocity_step_over) → c.velocity_step_over.result ≡ velocity_step_interval (series_of c.args.g.now c.args.axis) c.args.a c.args.b
+equals : (c : After-velocity_step_over_row) → c.velocity_step_over_row.result ≡ velocity_step_interval (series_of c.args.g.now c.args.axis) c.args.a c.args.b
 equals c =
     let a = c.ranges.a in
     let b = c.ranges.b in
     let s = series_of c.args.g.now c.args.axis in
-    let e : c.arguments.result ≡ arguments s c.args.a c.args.b = simp to_z-of_z at (c.arguments.ensures.equals c.args.axis) in
-    let x : c.slope_differences-bases.result.arguments ≡ arguments s c.args.a c.args.b = c.slope_differences-bases.ensures.arguments ∙ e in
+    let x : c.arguments-x.result ≡ arguments s c.args.a c.args.b = simp to_z-of_z at (c.arguments-x.ensures.equals c.args.axis) in
     let t = c.of-terms.ensures.terms in
     let n : SFits w64 c.args.g.now.seconds = search rules in
-    let r : c.velocity_step_over.result ≡ velocity_step_over c.of-terms.result c.slope_differences-bases.result.arguments (unsigned_abs c.args.g.now.seconds) = simp to_z-of_z at c.velocity_step_over.ensures in
+    let d : c.of-divider.result ≡ unsigned_abs c.args.g.now.seconds = simp to_z-of_z at c.of-divider.ensures in
+    let r = c.velocity_step_over_row.ensures in
     let w : lt_z c.args.a c.args.b ≡ true = simp to_z-of_z at c.if-a-b.true in
-    rw w (r ∙ λ i. velocity_step_over (t i) (x i) (unsigned_abs c.args.g.now.seconds))
+    rw w (r ∙ λ i. velocity_step_over (t i) (x i) (d i))
 
 pub returns-then-a-b-clause-equals : goal.returns-then-a-b-clause-equals
 returns-then-a-b-clause-equals c = equals c

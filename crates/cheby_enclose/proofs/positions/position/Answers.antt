@@ -7,16 +7,15 @@ use Rattle.spec_motions.proofs.Tight.{IsTight-position}
 use Rattle.spec_ephemeris.specs.Granules.{series_of}
 use Rattle.spec_motions.proofs.GranuleSeries.{IsSeries-of, IsSpan-of}
 use Rattle.cheby_enclose.proofs.positions.position.Goals as goal
-use Rattle.cheby_enclose.proofs.positions.position.Goals.{After-position_over}
+use Rattle.cheby_enclose.proofs.positions.position.Goals.{After-position_over_row}
 
-equals : (c : After-position_over) → c.position_over.result ≡ position_interval (series_of c.args.g.now c.args.axis) c.args.a c.args.b
+equals : (c : After-position_over_row) → c.position_over_row.result ≡ position_interval (series_of c.args.g.now c.args.axis) c.args.a c.args.b
 equals c =
     let a = c.ranges.a in
     let b = c.ranges.b in
-    let e : c.arguments.result ≡ arguments (series_of c.args.g.now c.args.axis) c.args.a c.args.b = simp to_z-of_z at (c.arguments.ensures.equals c.args.axis) in
-    let x : c.over-bases.result.arguments ≡ arguments (series_of c.args.g.now c.args.axis) c.args.a c.args.b = c.over-bases.ensures.arguments ∙ e in
+    let x : c.arguments-x.result ≡ arguments (series_of c.args.g.now c.args.axis) c.args.a c.args.b = simp to_z-of_z at (c.arguments-x.ensures.equals c.args.axis) in
     let t = c.of-terms.ensures.terms in
-    c.position_over.ensures ∙ λ i. position_over (t i) (x i)
+    c.position_over_row.ensures ∙ λ i. position_over (t i) (x i)
 
 pub returns-clause-equals : goal.returns-clause-equals
 returns-clause-equals c = equals c

@@ -1,9 +1,11 @@
 use Rattle.std.proofs.Common.{◌≡◌, ℕ, ◌<◌, ◌≤◌, ◌*◌, ◌^◌, ◌+◌, ◌-◌, suc, max, sym, subst, ℤ, arith, length, get_or, unsigned_abs, ◌*ℤ◌, pos}
-use Rattle.spec_chebyshev.specs.Rows.{entry, nothing}
+use Rattle.spec_chebyshev.specs.Rows.{entry}
 use Rattle.spec_motions.specs.RowSizes.{entry_size, slope_sizes}
 use Rattle.spec_numbers.proofs.Sizes.{sum_size}
 use Rattle.spec_motions.proofs.EndSizes.{least_size, greatest_size}
-use Rattle.spec_motions.proofs.RowSums.{low_multiple, high_multiple, multiple_size, size_more, sizes_grow, total_from_one, EndsWithin-size}
+use Rattle.cheby_enclose.specs.Pairs.{term_of}
+use Rattle.cheby_enclose.proofs.TermLists.{none, pair_low_multiple, pair_high_multiple}
+use Rattle.spec_motions.proofs.RowSums.{multiple_size, size_more, sizes_grow, total_from_one, EndsWithin-size}
 use Rattle.cheby_enclose.proofs.sums.sum_of_multiples.Goals as goal
 use Rattle.cheby_enclose.proofs.sums.sum_of_multiples.Goals.{After-product}
 
@@ -11,29 +13,29 @@ module _ (c : After-product) where
   abbrev k : ℕ
   k = c.loop-k.k
 
-  before : suc (k - 1) < length c.args.terms.now
+  before : suc (k - 1) < length c.args.pairs.now
   before = let p = c.loop-k-test.true in omega (arith, p)
 
   small_low : unsigned_abs c.product.result.lo ≤ 2 ^ 60 * 2 ^ 60
-  small_low = rw c.product.ensures.lo (least_size (get_or c.args.terms.now k nothing) (entry c.args.row.now (k - 1)) (2 ^ 60) (2 ^ 60) (c.requires.terms.small k nothing c.loop-k-test.true) (c.requires.row.small (k - 1) before))
+  small_low = rw c.product.ensures.lo (least_size (term_of (get_or c.args.pairs.now k none)) (entry c.args.row.now (k - 1)) (2 ^ 60) (2 ^ 60) ((c.requires.pairs.pairs k none c.loop-k-test.true).small) (c.requires.row.small (k - 1) before))
 
   small_high : unsigned_abs c.product.result.hi ≤ 2 ^ 60 * 2 ^ 60
-  small_high = rw c.product.ensures.hi (greatest_size (get_or c.args.terms.now k nothing) (entry c.args.row.now (k - 1)) (2 ^ 60) (2 ^ 60) (c.requires.terms.small k nothing c.loop-k-test.true) (c.requires.row.small (k - 1) before))
+  small_high = rw c.product.ensures.hi (greatest_size (term_of (get_or c.args.pairs.now k none)) (entry c.args.row.now (k - 1)) (2 ^ 60) (2 ^ 60) ((c.requires.pairs.pairs k none c.loop-k-test.true).small) (c.requires.row.small (k - 1) before))
 
   low_size : unsigned_abs (pos k *ℤ c.product.result.lo) ≤ k * (2 ^ 60 * entry_size c.args.row.now (k - 1))
   low_size =
-      let here = get_or c.args.terms.now k nothing in
+      let here = term_of (get_or c.args.pairs.now k none) in
       let e = entry c.args.row.now (k - 1) in
       let m = entry_size c.args.row.now (k - 1) in
-      let r : unsigned_abs c.product.result.lo ≤ 2 ^ 60 * entry_size c.args.row.now (k - 1) = subst (λ (z : ℤ). unsigned_abs z ≤ 2 ^ 60 * entry_size c.args.row.now (k - 1)) (sym c.product.ensures.lo) (least_size here e (2 ^ 60) m (c.requires.terms.small k nothing c.loop-k-test.true) (EndsWithin-size c.args.row.now (k - 1))) in
+      let r : unsigned_abs c.product.result.lo ≤ 2 ^ 60 * entry_size c.args.row.now (k - 1) = subst (λ (z : ℤ). unsigned_abs z ≤ 2 ^ 60 * entry_size c.args.row.now (k - 1)) (sym c.product.ensures.lo) (least_size here e (2 ^ 60) m ((c.requires.pairs.pairs k none c.loop-k-test.true).small) (EndsWithin-size c.args.row.now (k - 1))) in
       multiple_size k c.product.result.lo (2 ^ 60 * m) r
 
   high_size : unsigned_abs (pos k *ℤ c.product.result.hi) ≤ k * (2 ^ 60 * entry_size c.args.row.now (k - 1))
   high_size =
-      let here = get_or c.args.terms.now k nothing in
+      let here = term_of (get_or c.args.pairs.now k none) in
       let e = entry c.args.row.now (k - 1) in
       let m = entry_size c.args.row.now (k - 1) in
-      let r : unsigned_abs c.product.result.hi ≤ 2 ^ 60 * entry_size c.args.row.now (k - 1) = subst (λ (z : ℤ). unsigned_abs z ≤ 2 ^ 60 * entry_size c.args.row.now (k - 1)) (sym c.product.ensures.hi) (greatest_size here e (2 ^ 60) m (c.requires.terms.small k nothing c.loop-k-test.true) (EndsWithin-size c.args.row.now (k - 1))) in
+      let r : unsigned_abs c.product.result.hi ≤ 2 ^ 60 * entry_size c.args.row.now (k - 1) = subst (λ (z : ℤ). unsigned_abs z ≤ 2 ^ 60 * entry_size c.args.row.now (k - 1)) (sym c.product.ensures.hi) (greatest_size here e (2 ^ 60) m ((c.requires.pairs.pairs k none c.loop-k-test.true).small) (EndsWithin-size c.args.row.now (k - 1))) in
       multiple_size k c.product.result.hi (2 ^ 60 * m) r
 
   more : slope_sizes (entry_size c.args.row.now) k + k * (2 ^ 60 * entry_size c.args.row.now (k - 1)) ≡ slope_sizes (entry_size c.args.row.now) (k + 1)
@@ -41,7 +43,7 @@ module _ (c : After-product) where
 
   bounded : slope_sizes (entry_size c.args.row.now) (k + 1) < 2 ^ 125
   bounded =
-      let g = sizes_grow (entry_size c.args.row.now) (k + 1) (length c.args.terms.now) (let p = c.loop-k-test.true in omega (arith, p)) in
+      let g = sizes_grow (entry_size c.args.row.now) (k + 1) (length c.args.pairs.now) (let p = c.loop-k-test.true in omega (arith, p)) in
       let t = c.requires.row.total in
       omega (arith, g, t)
 
@@ -88,13 +90,13 @@ loop-k-preserved c =
     let d = (goal.at.loop-k-preserved c).After-product in
     let inv = c.loop-k.invariant in
     let row = entry c.args.row.now in
-    let terms = c.args.terms.now in
+    let pairs = c.args.pairs.now in
     let m = more d in
     let sl = sum_size c.loop-k.sum.lo (pos c.loop-k.k *ℤ c.product.result.lo) _ _ inv.lo_size (low_size d) in
     let sh = sum_size c.loop-k.sum.hi (pos c.loop-k.k *ℤ c.product.result.hi) _ _ inv.hi_size (high_size d) in
     record {
-      lo = rw (c.added-sum.ensures.lo, c.multiple.ensures.lo, c.product.ensures.lo) (low_multiple row terms c.loop-k.sum.lo _ c.loop-k.k c.loop-k.auto.k c.loop-k-test.true inv.lo);
-      hi = rw (c.added-sum.ensures.hi, c.multiple.ensures.hi, c.product.ensures.hi) (high_multiple row terms c.loop-k.sum.hi _ c.loop-k.k c.loop-k.auto.k c.loop-k-test.true inv.hi);
+      lo = rw (c.added-sum.ensures.lo, c.multiple.ensures.lo, c.product.ensures.lo) (pair_low_multiple row pairs c.loop-k.k c.loop-k.sum.lo _ c.loop-k-test.true c.loop-k.auto.k inv.lo);
+      hi = rw (c.added-sum.ensures.hi, c.multiple.ensures.hi, c.product.ensures.hi) (pair_high_multiple row pairs c.loop-k.k c.loop-k.sum.hi _ c.loop-k-test.true c.loop-k.auto.k inv.hi);
       within = let p = c.loop-k-test.true in omega (arith, p);
       lo_size = rw (c.added-sum.ensures.lo, c.multiple.ensures.lo) (omega (arith, sl, m));
       hi_size = rw (c.added-sum.ensures.hi, c.multiple.ensures.hi) (omega (arith, sh, m));
@@ -102,14 +104,14 @@ loop-k-preserved c =
 
 pub returns-clause-lo_size : goal.returns-clause-lo_size
 returns-clause-lo_size c =
-    let g = sizes_grow (entry_size c.args.row.now) c.loop-k.k (max 1 (length c.args.terms.now)) c.loop-k.invariant.within in
-    let t = total_from_one (entry_size c.args.row.now) (length c.args.terms.now) c.requires.row.total in
+    let g = sizes_grow (entry_size c.args.row.now) c.loop-k.k (max 1 (length c.args.pairs.now)) c.loop-k.invariant.within in
+    let t = total_from_one (entry_size c.args.row.now) (length c.args.pairs.now) c.requires.row.total in
     let p = c.loop-k.invariant.lo_size in
     omega (arith, g, t, p)
 
 pub returns-clause-hi_size : goal.returns-clause-hi_size
 returns-clause-hi_size c =
-    let g = sizes_grow (entry_size c.args.row.now) c.loop-k.k (max 1 (length c.args.terms.now)) c.loop-k.invariant.within in
-    let t = total_from_one (entry_size c.args.row.now) (length c.args.terms.now) c.requires.row.total in
+    let g = sizes_grow (entry_size c.args.row.now) c.loop-k.k (max 1 (length c.args.pairs.now)) c.loop-k.invariant.within in
+    let t = total_from_one (entry_size c.args.row.now) (length c.args.pairs.now) c.requires.row.total in
     let p = c.loop-k.invariant.hi_size in
     omega (arith, g, t, p)

@@ -1,26 +1,14 @@
-use Rattle.std.proofs.Common.{arith, ◌≡◌, pos, ◌<ℤ◌}
-use Rattle.std.proofs.lemmas.Int.{to_z-of_z}
-use Rattle.spec_numbers.proofs.Order.{lin}
-use Rattle.spec_chebyshev.specs.Rows.{argument_of}
-use Rattle.spec_chebyshev.proofs.Arguments.{HoldsIn-argument, IsArguments-argument}
+use Rattle.std.proofs.Common.{arith, ◌≡◌, pos, subst, unsigned_abs}
+use Rattle.std.proofs.lemmas.Int.{ints, to_z-of_z}
+use Rattle.spec_chebyshev.specs.Rows.{HoldsIn}
 use Rattle.cheby_laws.proofs.arguments.argument.Goals as goal
-
-pub returns-clause-unit : goal.returns-clause-unit
-returns-clause-unit c =
-    let a = c.ranges.ua in
-    let b = c.ranges.ub in
-    let l = c.ranges.seconds in
-    let e : c.argument_ends.result ≡ argument_of c.args.ua c.args.ub c.args.seconds = simp to_z-of_z at c.argument_ends.ensures in
-    let p = c.requires.length in
-    let positive : pos 0 <ℤ c.args.seconds = omega (arith, lin) in
-    rw e (IsArguments-argument c.args.ua c.args.ub c.args.seconds positive c.requires.from_start c.requires.ordered c.requires.to_end)
 
 pub returns-clause-holds : goal.returns-clause-holds
 returns-clause-holds c u f t =
     let a = c.ranges.ua in
     let b = c.ranges.ub in
     let l = c.ranges.seconds in
-    let e : c.argument_ends.result ≡ argument_of c.args.ua c.args.ub c.args.seconds = simp to_z-of_z at c.argument_ends.ensures in
-    let p = c.requires.length in
-    let positive : pos 0 <ℤ c.args.seconds = omega (arith, lin) in
-    rw e (HoldsIn-argument c.args.ua c.args.ub u c.args.seconds positive f t)
+    let g : c.of.result ≡ unsigned_abs c.args.seconds = simp to_z-of_z at c.of.ensures in
+    let d : pos c.of.result ≡ c.args.seconds = omega (arith, ints) in
+    let h = simp to_z-of_z at c.argument_by.ensures.holds in
+    subst (λ z. HoldsIn 60 c.argument_by.result u z) d (h u f t)

@@ -1,5 +1,7 @@
-use Rattle.std.proofs.Common.{◌≡◌, ◌∙◌, to_z, of_z, w64, ◌^◌, pos, ◌*ℤ◌, unsigned_abs}
+use Rattle.std.proofs.Common.{◌≡◌, ◌∙◌, to_z, of_z, w64, ◌^◌, pos, ◌*ℤ◌}
 use Rattle.std.proofs.lemmas.Int.{to_z-of_z}
+use mir.Syntax.{w128}
+use mir.Val.{SFits}
 use Rattle.spec_numbers.specs.Numbers.{floor_div, ceil_div}
 use Rattle.spec_chebyshev.specs.Rows.{argument_of}
 use Rattle.cheby_laws.proofs.arguments.argument_ends.Goals as goal
@@ -9,9 +11,16 @@ unfolding argument_of
 returns c =
     let a = c.ranges.ua in
     let b = c.ranges.ub in
-    let l = c.ranges.seconds in
-    let d : c.share_down.result ≡ floor_div (c.args.ua *ℤ pos (2 ^ 60)) (unsigned_abs c.args.seconds) = simp to_z-of_z at c.share_down.ensures.equals in
-    let u : c.share_up.result ≡ ceil_div (c.args.ub *ℤ pos (2 ^ 60)) (unsigned_abs c.args.seconds) = simp to_z-of_z at c.share_up.ensures in
-    let dr : to_z w64 (of_z w64 c.share_down.result) ≡ floor_div (c.args.ua *ℤ pos (2 ^ 60)) (unsigned_abs c.args.seconds) = to_z-of_z w64 c.share_down.result (record { sfits = c.share_down.type_inv }) ∙ d in
-    let ur : to_z w64 (of_z w64 c.share_up.result) ≡ ceil_div (c.args.ub *ℤ pos (2 ^ 60)) (unsigned_abs c.args.seconds) = to_z-of_z w64 c.share_up.result (record { sfits = c.share_up.type_inv }) ∙ u in
-    rw (dr, ur)
+    let s1 : SFits w128 c.scaled.result = record { sfits = c.scaled.type_inv } in
+    let s2 : SFits w128 c.scaled-2.result = record { sfits = c.scaled-2.type_inv } in
+    let d1 : SFits w128 c.down.result = record { sfits = c.down.type_inv } in
+    let u1 : SFits w128 c.up.result = record { sfits = c.up.type_inv } in
+    let s : c.scaled.result ≡ c.args.ua *ℤ pos (2 ^ 60) = simp to_z-of_z at c.scaled.ensures.equals in
+    let t : c.scaled-2.result ≡ c.args.ub *ℤ pos (2 ^ 60) = simp to_z-of_z at c.scaled-2.ensures.equals in
+    let d : c.down.result ≡ floor_div c.scaled.result c.args.divider.now = simp to_z-of_z at c.down.ensures.equals in
+    let u : c.up.result ≡ ceil_div c.scaled-2.result c.args.divider.now = simp to_z-of_z at c.up.ensures.equals in
+    let l : c.back.result ≡ c.down.result = simp to_z-of_z at c.back.ensures in
+    let h : c.back-2.result ≡ c.up.result = simp to_z-of_z at c.back-2.ensures in
+    let lr : to_z w64 (of_z w64 c.back.result) ≡ floor_div (c.args.ua *ℤ pos (2 ^ 60)) c.args.divider.now = to_z-of_z w64 c.back.result (record { sfits = c.back.type_inv }) ∙ (l ∙ (d ∙ rw s)) in
+    let hr : to_z w64 (of_z w64 c.back-2.result) ≡ ceil_div (c.args.ub *ℤ pos (2 ^ 60)) c.args.divider.now = to_z-of_z w64 c.back-2.result (record { sfits = c.back-2.type_inv }) ∙ (h ∙ (u ∙ rw t)) in
+    rw (lr, hr)

@@ -1,11 +1,23 @@
-use Rattle.std.proofs.Common.{arith, ◌^◌, ◌≤◌}
+use Rattle.std.proofs.Common.{◌^◌, w64}
 use Rattle.std.proofs.lemmas.Int.{to_z-of_z}
-use Rattle.ival_core.proofs.Shifts.{floor_div-past, pow_above, floor_small}
+use mir.Syntax.{w128}
+use mir.Val.{SFits}
+use Rattle.spec_numbers.specs.Numbers.{floor_div}
+use Rattle.ival_core.proofs.Shifts.{capped_shift, shift_small, small_narrow, small_fits}
 use Rattle.ival_core.proofs.ends.floor_shift.Goals as goal
 
-pub returns-else-k-lt64-clause-equals : goal.returns-else-k-lt64-clause-equals
-returns-else-k-lt64-clause-equals c =
+pub returns-clause-equals : goal.returns-clause-equals
+returns-clause-equals c =
     let z = c.ranges.z in
-    let p : 2 ^ 64 ≤ 2 ^ c.args.k = pow_above 64 c.args.k c.if-k-lt64.false in
-    let f = floor_small c.args.z c.requires in
-    rw (← floor_div-past c.args.z (2 ^ 64) (2 ^ c.args.k) c.requires (omega arith) (omega arith)) (simp to_z-of_z)
+    let b = shift_small c.args.z c.min.result c.requires in
+    let f : SFits w64 (floor_div c.args.z (2 ^ c.min.result)) = small_narrow _ b in
+    let g : SFits w128 (floor_div c.args.z (2 ^ c.min.result)) = small_fits _ b in
+    simp to_z-of_z (capped_shift c.args.z c.args.k c.min.result c.requires c.min.ensures)
+
+pub returns-clause-small : goal.returns-clause-small
+returns-clause-small c =
+    let z = c.ranges.z in
+    let b = shift_small c.args.z c.min.result c.requires in
+    let f : SFits w64 (floor_div c.args.z (2 ^ c.min.result)) = small_narrow _ b in
+    let g : SFits w128 (floor_div c.args.z (2 ^ c.min.result)) = small_fits _ b in
+    simp to_z-of_z b

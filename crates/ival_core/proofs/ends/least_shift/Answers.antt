@@ -1,19 +1,14 @@
-use Rattle.std.proofs.Common.{arith, ◌≡◌, ◌∙◌, max, ap, unsigned_abs}
+use Rattle.std.proofs.Common.{◌≡◌, ◌∙◌, max, ap, unsigned_abs}
 use Rattle.std.proofs.lemmas.Int.{to_z-of_z}
 use Rattle.spec_intervals.specs.Interval.{end_limit}
-use Rattle.ival_core.proofs.Shortest.{shift-is, lead}
 use Rattle.ival_core.proofs.ends.least_shift.Goals as goal
 
-pub overflow_sub-result : goal.overflow_sub-result
-overflow_sub-result c =
-    lead c.max-size.result c.ilog2.result (omega (arith, c.max-size.ensures)) c.ilog2.ensures.next_power_gt
-
-pub returns-clause-equals : goal.returns-clause-equals
-returns-clause-equals c =
+pub leading_shift-requires-clause-is : goal.leading_shift-requires-clause-is
+leading_shift-requires-clause-is c =
     let l = c.ranges.lo in
     let h = c.ranges.hi in
     let a : c.unsigned_abs.result ≡ unsigned_abs c.args.lo = simp to_z-of_z at c.unsigned_abs.ensures.value in
     let b : c.unsigned_abs-2.result ≡ unsigned_abs c.args.hi = simp to_z-of_z at c.unsigned_abs-2.ensures.value in
     let m : c.max.result ≡ max c.unsigned_abs.result c.unsigned_abs-2.result = c.max.ensures in
     let e : c.max-size.result ≡ max (max (unsigned_abs c.args.lo) (unsigned_abs c.args.hi)) end_limit = c.max-size.ensures ∙ ap (λ n. max n end_limit) (m ∙ (ap (λ n. max n c.unsigned_abs-2.result) a ∙ ap (max (unsigned_abs c.args.lo)) b)) in
-    shift-is c.args.lo c.args.hi c.max-size.result c.ilog2.result c.requires e c.ilog2.ensures.power_le c.ilog2.ensures.next_power_gt (lead c.max-size.result c.ilog2.result (omega (arith, c.max-size.ensures)) c.ilog2.ensures.next_power_gt)
+    simp to_z-of_z e

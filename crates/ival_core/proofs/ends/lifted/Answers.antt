@@ -1,20 +1,27 @@
+use Rattle.std.proofs.Common.{◌≡◌, ◌%◌, arith}
 use Rattle.std.proofs.lemmas.Int.{to_z-of_z}
-use Rattle.ival_core.proofs.Shifts.{one_shifted, lift_bound, lift_fits}
+use Rattle.ival_core.proofs.Shifts.{one_shifted, lift_bound, lift_fits, small_fits}
 use Rattle.ival_core.proofs.ends.lifted.Goals as goal
 
 pub overflow_mul-result : goal.overflow_mul-result
 overflow_mul-result c =
     let z = c.ranges.z in
-    rw (one_shifted c.args.m c.requires.within) (simp to_z-of_z (lift_fits c.args.z c.args.m c.requires.small c.requires.within))
+    let w = small_fits c.args.z c.requires.small in
+    let e : c.args.m % 64 ≡ c.args.m = (let h = c.requires.within in omega arith) in
+    rw (e, one_shifted c.args.m c.requires.within) (simp to_z-of_z (lift_fits c.args.z c.args.m c.requires.small c.requires.within))
 
 pub returns-clause-equals : goal.returns-clause-equals
 returns-clause-equals c =
     let z = c.ranges.z in
+    let w = small_fits c.args.z c.requires.small in
     let f = lift_fits c.args.z c.args.m c.requires.small c.requires.within in
-    rw (one_shifted c.args.m c.requires.within) (simp to_z-of_z)
+    let e : c.args.m % 64 ≡ c.args.m = (let h = c.requires.within in omega arith) in
+    rw (e, one_shifted c.args.m c.requires.within) (simp to_z-of_z)
 
 pub returns-clause-bound : goal.returns-clause-bound
 returns-clause-bound c =
     let z = c.ranges.z in
+    let w = small_fits c.args.z c.requires.small in
     let f = lift_fits c.args.z c.args.m c.requires.small c.requires.within in
-    rw (one_shifted c.args.m c.requires.within) (simp to_z-of_z (lift_bound c.args.z c.args.m c.requires.small c.requires.within))
+    let e : c.args.m % 64 ≡ c.args.m = (let h = c.requires.within in omega arith) in
+    rw (e, one_shifted c.args.m c.requires.within) (simp to_z-of_z (lift_bound c.args.z c.args.m c.requires.small c.requires.within))

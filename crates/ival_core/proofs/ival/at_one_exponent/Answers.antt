@@ -8,7 +8,7 @@ use Rattle.spec_numbers.specs.Numbers.{floor_div, ceil_div}
 use Rattle.spec_numbers.proofs.Floor.{ordered_quotients}
 use Rattle.spec_numbers.proofs.Order.{le-mul}
 use Rattle.std.proofs.lemmas.Nat.{pow_pos}
-use Rattle.ival_core.proofs.Shifts.{small_fits, exponent_sum}
+use Rattle.ival_core.proofs.Shifts.{small_narrow, exponent_sum}
 use Rattle.ival_core.proofs.ival.at_one_exponent.Goals as goal
 use Rattle.ival_core.proofs.ival.at_one_exponent.Goals.{After-lifted-upper_hi}
 
@@ -35,28 +35,28 @@ surplus_is c =
 
 lower_lo_is : (c : After-lifted-upper_hi) → to_z w128 (of_z w128 c.floor_shift-lower_lo.result) ≡ floor_div c.args.x.lo (2 ^ surplus c.args.x c.args.y)
 lower_lo_is c =
-    let a = small_fits c.x.inside.lo c.x.invariant.lo_small in
+    let a = small_narrow c.x.inside.lo c.x.invariant.lo_small in
     let r : SFits w128 c.floor_shift-lower_lo.result = record { sfits = c.floor_shift-lower_lo.type_inv } in
     let e : c.floor_shift-lower_lo.result ≡ floor_div c.x.inside.lo (2 ^ (c.exponent_gap-d.result - c.min-m.result)) = simp to_z-of_z at c.floor_shift-lower_lo.ensures.equals in
     to_z-of_z w128 c.floor_shift-lower_lo.result r ∙ (e ∙ (ap (λ n. floor_div c.x.inside.lo (2 ^ n)) (surplus_is c) ∙ ap (λ (t : Interval). floor_div t.lo (2 ^ surplus c.args.x c.args.y)) c.x.view_is))
 
 lower_hi_is : (c : After-lifted-upper_hi) → to_z w128 (of_z w128 c.ceil_shift-lower_hi.result) ≡ ceil_div c.args.x.hi (2 ^ surplus c.args.x c.args.y)
 lower_hi_is c =
-    let a = small_fits c.x.inside.hi c.x.invariant.hi_small in
+    let a = small_narrow c.x.inside.hi c.x.invariant.hi_small in
     let r : SFits w128 c.ceil_shift-lower_hi.result = record { sfits = c.ceil_shift-lower_hi.type_inv } in
     let e : c.ceil_shift-lower_hi.result ≡ ceil_div c.x.inside.hi (2 ^ (c.exponent_gap-d.result - c.min-m.result)) = simp to_z-of_z at c.ceil_shift-lower_hi.ensures.equals in
     to_z-of_z w128 c.ceil_shift-lower_hi.result r ∙ (e ∙ (ap (λ n. ceil_div c.x.inside.hi (2 ^ n)) (surplus_is c) ∙ ap (λ (t : Interval). ceil_div t.hi (2 ^ surplus c.args.x c.args.y)) c.x.view_is))
 
 upper_lo_is : (c : After-lifted-upper_hi) → to_z w128 (of_z w128 c.lifted-upper_lo.result) ≡ c.args.y.lo *ℤ pos (2 ^ lift c.args.x c.args.y)
 upper_lo_is c =
-    let a = small_fits c.y.inside.lo c.y.invariant.lo_small in
+    let a = small_narrow c.y.inside.lo c.y.invariant.lo_small in
     let r : SFits w128 c.lifted-upper_lo.result = record { sfits = c.lifted-upper_lo.type_inv } in
     let e : c.lifted-upper_lo.result ≡ c.y.inside.lo *ℤ pos (2 ^ c.min-m.result) = simp to_z-of_z at c.lifted-upper_lo.ensures.equals in
     to_z-of_z w128 c.lifted-upper_lo.result r ∙ (e ∙ (ap (λ n. c.y.inside.lo *ℤ pos (2 ^ n)) (lift_is c) ∙ ap (λ (t : Interval). t.lo *ℤ pos (2 ^ lift c.args.x c.args.y)) c.y.view_is))
 
 upper_hi_is : (c : After-lifted-upper_hi) → to_z w128 (of_z w128 c.lifted-upper_hi.result) ≡ c.args.y.hi *ℤ pos (2 ^ lift c.args.x c.args.y)
 upper_hi_is c =
-    let a = small_fits c.y.inside.hi c.y.invariant.hi_small in
+    let a = small_narrow c.y.inside.hi c.y.invariant.hi_small in
     let r : SFits w128 c.lifted-upper_hi.result = record { sfits = c.lifted-upper_hi.type_inv } in
     let e : c.lifted-upper_hi.result ≡ c.y.inside.hi *ℤ pos (2 ^ c.min-m.result) = simp to_z-of_z at c.lifted-upper_hi.ensures.equals in
     to_z-of_z w128 c.lifted-upper_hi.result r ∙ (e ∙ (ap (λ n. c.y.inside.hi *ℤ pos (2 ^ n)) (lift_is c) ∙ ap (λ (t : Interval). t.hi *ℤ pos (2 ^ lift c.args.x c.args.y)) c.y.view_is))

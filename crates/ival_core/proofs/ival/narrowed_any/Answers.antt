@@ -10,12 +10,12 @@ pub returns-then-is_least : goal.returns-then-is_least
 returns-then-is_least c =
     let l = c.ranges.lo in
     let h = c.ranges.hi in
-    let f : SFits w128 c.halved_down.result = record { sfits = c.halved_down.type_inv } in
-    let g : SFits w128 c.halved_down-then-is_least.result = record { sfits = c.halved_down-then-is_least.type_inv } in
+    let f : SFits w128 c.half_down.result = record { sfits = c.half_down.type_inv } in
+    let g : SFits w128 c.half_down-then-is_least.result = record { sfits = c.half_down-then-is_least.type_inv } in
     let b : c.args.hi ≡ neg_ℤ (pos (2 ^ 127)) = least_from c.args.hi h c.if-is_least.true in
     let a : c.args.lo ≡ neg_ℤ (pos (2 ^ 127)) = below_least c.args.lo c.args.hi l b c.requires.ordered in
-    let p : c.halved_down.result ≡ floor_div c.args.lo (2 ^ 1) = simp to_z-of_z at c.halved_down.ensures in
-    let q : c.halved_down-then-is_least.result ≡ floor_div c.args.hi (2 ^ 1) = simp to_z-of_z at c.halved_down-then-is_least.ensures in
-    let p' : to_z w128 (of_z w128 c.halved_down.result) ≡ neg_ℤ (pos (2 ^ 126)) = to_z-of_z w128 c.halved_down.result f ∙ (p ∙ ap (λ z. floor_div z (2 ^ 1)) a) in
-    let q' : to_z w128 (of_z w128 c.halved_down-then-is_least.result) ≡ neg_ℤ (pos (2 ^ 126)) = to_z-of_z w128 c.halved_down-then-is_least.result g ∙ (q ∙ ap (λ z. floor_div z (2 ^ 1)) b) in
-    c.narrowed.ensures ∙ narrow-of c.args.lo c.args.hi c.args.s _ _ _ a b p' q' (let e = c.requires.exponent in omega (arith, ints))
+    let p : c.half_down.result ≡ floor_div c.args.lo 2 = simp to_z-of_z at c.half_down.ensures in
+    let q : c.half_down-then-is_least.result ≡ floor_div c.args.hi 2 = simp to_z-of_z at c.half_down-then-is_least.ensures in
+    let p' : to_z w128 (of_z w128 c.half_down.result) ≡ neg_ℤ (pos (2 ^ 126)) = to_z-of_z w128 c.half_down.result f ∙ (p ∙ ap (λ z. floor_div z 2) a) in
+    let q' : to_z w128 (of_z w128 c.half_down-then-is_least.result) ≡ neg_ℤ (pos (2 ^ 126)) = to_z-of_z w128 c.half_down-then-is_least.result g ∙ (q ∙ ap (λ z. floor_div z 2) b) in
+    c.narrowed_wide.ensures ∙ narrow-of c.args.lo c.args.hi c.args.s _ _ _ a b p' q' (let e = c.requires.exponent in omega (arith, ints))

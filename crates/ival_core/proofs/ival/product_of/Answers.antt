@@ -4,7 +4,7 @@ use mir.Syntax.{w128}
 use mir.Val.{SFits}
 use Rattle.spec_intervals.specs.Interval.{Interval, least4, greatest4}
 use Rattle.spec_intervals.proofs.Products.{product-parts, corners_ordered}
-use Rattle.ival_core.proofs.Shifts.{small_fits}
+use Rattle.ival_core.proofs.Shifts.{small_narrow}
 use Rattle.ival_core.proofs.ival.product_of.Goals as goal
 use Rattle.ival_core.proofs.ival.product_of.Goals.{After-product_ends-lo}
 
@@ -16,19 +16,19 @@ t_of c = ap (λ (t : Interval). t.s) c.y.view_is
 
 lo_is : (c : After-product_ends-lo) → to_z w128 (of_z w128 c.product_ends-lo.result.0) ≡ least4 c.x.inside.lo c.x.inside.hi c.y.inside.lo c.y.inside.hi
 lo_is c =
-    let a = small_fits c.x.inside.lo c.x.invariant.lo_small in
-    let b = small_fits c.x.inside.hi c.x.invariant.hi_small in
-    let d = small_fits c.y.inside.lo c.y.invariant.lo_small in
-    let e = small_fits c.y.inside.hi c.y.invariant.hi_small in
+    let a = small_narrow c.x.inside.lo c.x.invariant.lo_small in
+    let b = small_narrow c.x.inside.hi c.x.invariant.hi_small in
+    let d = small_narrow c.y.inside.lo c.y.invariant.lo_small in
+    let e = small_narrow c.y.inside.hi c.y.invariant.hi_small in
     let r : SFits w128 c.product_ends-lo.result.0 = search rules in
     to_z-of_z w128 c.product_ends-lo.result.0 r ∙ (simp to_z-of_z at c.product_ends-lo.ensures.least)
 
 hi_is : (c : After-product_ends-lo) → to_z w128 (of_z w128 c.product_ends-lo.result.1) ≡ greatest4 c.x.inside.lo c.x.inside.hi c.y.inside.lo c.y.inside.hi
 hi_is c =
-    let a = small_fits c.x.inside.lo c.x.invariant.lo_small in
-    let b = small_fits c.x.inside.hi c.x.invariant.hi_small in
-    let d = small_fits c.y.inside.lo c.y.invariant.lo_small in
-    let e = small_fits c.y.inside.hi c.y.invariant.hi_small in
+    let a = small_narrow c.x.inside.lo c.x.invariant.lo_small in
+    let b = small_narrow c.x.inside.hi c.x.invariant.hi_small in
+    let d = small_narrow c.y.inside.lo c.y.invariant.lo_small in
+    let e = small_narrow c.y.inside.hi c.y.invariant.hi_small in
     let r : SFits w128 c.product_ends-lo.result.1 = search rules in
     to_z-of_z w128 c.product_ends-lo.result.1 r ∙ (simp to_z-of_z at c.product_ends-lo.ensures.greatest)
 

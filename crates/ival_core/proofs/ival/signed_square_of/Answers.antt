@@ -5,19 +5,19 @@ use mir.Val.{SFits}
 use Rattle.spec_intervals.specs.Interval.{Interval, signed_sq}
 use Rattle.spec_intervals.proofs.Squares.{signed_sq-le}
 use Rattle.ival_core.proofs.Aligning.{signed_square-is}
-use Rattle.ival_core.proofs.Shifts.{small_fits}
+use Rattle.ival_core.proofs.Shifts.{small_narrow}
 use Rattle.ival_core.proofs.ival.signed_square_of.Goals as goal
 use Rattle.ival_core.proofs.ival.signed_square_of.Goals.{After-square_end-2}
 
 lo_is : (c : After-square_end-2) → to_z w128 (of_z w128 c.square_end.result) ≡ signed_sq c.x.inside.lo
 lo_is c =
-    let a = small_fits c.x.inside.lo c.x.invariant.lo_small in
+    let a = small_narrow c.x.inside.lo c.x.invariant.lo_small in
     let r : SFits w128 c.square_end.result = record { sfits = c.square_end.type_inv } in
     to_z-of_z w128 c.square_end.result r ∙ (simp to_z-of_z at c.square_end.ensures.equals)
 
 hi_is : (c : After-square_end-2) → to_z w128 (of_z w128 c.square_end-2.result) ≡ signed_sq c.x.inside.hi
 hi_is c =
-    let a = small_fits c.x.inside.hi c.x.invariant.hi_small in
+    let a = small_narrow c.x.inside.hi c.x.invariant.hi_small in
     let r : SFits w128 c.square_end-2.result = record { sfits = c.square_end-2.type_inv } in
     to_z-of_z w128 c.square_end-2.result r ∙ (simp to_z-of_z at c.square_end-2.ensures.equals)
 

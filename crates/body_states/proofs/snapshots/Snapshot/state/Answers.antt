@@ -1,8 +1,22 @@
-use Rattle.std.proofs.Common.{◌∙◌, ap}
-use Rattle.body_states.specs.Motions.{of_quantity}
+use Rattle.std.proofs.Common.{rules, ◌≡◌, Some, ap, w64}
+use mir.Val.{SFits}
+use Rattle.std.proofs.lemmas.Int.{to_z-of_z}
+use Rattle.body_states.specs.Motions.{along, of_quantity}
+use Rattle.body_states.specs.Moments.{Moment, target_state}
+use Rattle.body_states.proofs.Kept.{right_of}
 use Rattle.body_states.proofs.snapshots.Snapshot.state.Goals as goal
 
-pub returns : goal.returns
-returns c =
-    let own = rw c.from.ensures at c.along.ensures in
-    (c.of.ensures ∙ ap (λ m. of_quantity m c.args.quantity) own) ∙ c.target.ensures c.args.axis c.requires.axis c.args.quantity
+pub returns-in-Some : goal.returns-in-Some
+returns-in-Some c =
+    let s = c.args.self.now in
+    let from = rw c.from.ensures at c.along.ensures in
+    let kept : along (of_quantity c.target.result.now c.args.quantity) c.args.axis ≡ Some c.in-Some.enclosure = search rules in
+    right_of (target_state s.view s.first s.last c.args.target) c.target.result.now c.args.quantity c.args.axis _ c.requires.axis c.target.ensures kept
+
+pub returns-in-None : goal.returns-in-None
+returns-in-None c =
+    let a : SFits w64 c.args.a = c.ranges.a in
+    let b : SFits w64 c.args.b = c.ranges.b in
+    let read = simp to_z-of_z at c.state.ensures in
+    let same = ap (λ (m : Moment). m.view) c.self.view_is in
+    rw (c.requires.first, c.requires.last, same) at read

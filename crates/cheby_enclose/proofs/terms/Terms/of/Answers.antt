@@ -2,9 +2,10 @@ use Rattle.std.proofs.Common.{◌≡◌, ◌+◌, ◌-◌, ◌*◌, ◌∙◌, a
 use Rattle.std.proofs.lemmas.List.{length-map}
 use Rattle.spec_ephemeris.specs.Granules.{series_of}
 use Rattle.spec_motions.specs.Sums.{coefficient}
-use Rattle.spec_motions.proofs.GranuleSeries.{IsSeries-of, series_length}
+use Rattle.spec_motions.proofs.GranuleSeries.{series_length}
 use Rattle.cheby_enclose.specs.Pairs.{term_of}
-use Rattle.cheby_enclose.proofs.TermLists.{AreTerms-coefficients, terms_of_axis}
+use Rattle.cheby_enclose.specs.Pairs.{ArePairs}
+use Rattle.cheby_enclose.proofs.TermLists.{ArePairs-axis, terms_of_axis}
 use Rattle.cheby_enclose.proofs.terms.Terms.of.Goals as goal
 use Rattle.cheby_enclose.proofs.terms.Terms.of.Goals.{Start}
 
@@ -17,16 +18,16 @@ terms_are c =
     ap (λ n. map term_of (take n (drop from c.args.g.now.rounded.now))) e
     ∙ terms_of_axis c.args.g.now.coefs.now c.args.g.now.rounded.now from c.args.g.now.n c.requires.granule.pairs
 
-pub of_slice-requires : goal.of_slice-requires
-of_slice-requires c =
-    let d = (goal.at.of_slice-requires c).Start in
-    let is = IsSeries-of c.args.g.now c.requires.granule c.args.axis c.requires.axis in
-    rw (terms_are d) (AreTerms-coefficients (series_of c.args.g.now c.args.axis).coefficients is.few is.bodies)
+pub of_pairs-requires : goal.of_pairs-requires
+of_pairs-requires c =
+    let from = c.args.axis * c.args.g.now.n in
+    let e : from + c.args.g.now.n - from ≡ c.args.g.now.n = omega arith in
+    rw e (ArePairs-axis c.args.g.now.coefs.now c.args.g.now.rounded.now from c.args.g.now.n c.requires.granule.few c.requires.granule.bodies c.requires.granule.pairs)
 
 pub returns-clause-terms : goal.returns-clause-terms
-returns-clause-terms c = c.of_slice.ensures ∙ terms_are (goal.at.returns-clause-terms c).Start
+returns-clause-terms c = c.of_pairs.ensures ∙ terms_are (goal.at.returns-clause-terms c).Start
 
 pub returns-clause-count : goal.returns-clause-count
 returns-clause-count c =
-    rw (c.of_slice.ensures, terms_are (goal.at.returns-clause-count c).Start)
+    rw (c.of_pairs.ensures, terms_are (goal.at.returns-clause-count c).Start)
     (length-map (series_of c.args.g.now c.args.axis).coefficients coefficient ∙ series_length c.args.g.now c.requires.granule c.args.axis c.requires.axis)

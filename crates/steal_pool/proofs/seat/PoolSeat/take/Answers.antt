@@ -12,4 +12,4 @@ returns-clause-works g c = rw (← c.self.view_is) (taken_works g.N.Naming.rules
     (ap (λ s. s.worker.hand) c.self.view_is ∙ c.requires.empty) c.take.ensures.taken)
 
 pub returns-clause-same : goal.returns-clause-same
-returns-clause-same g c = rw (← c.self.view_is) (record { ways = taken_ways c.take.result c.self.inside.worker c.take.new.self c.take.ensures.taken; terms = refl; number = refl })
+returns-clause-same g c = rw (← c.self.view_is) (record { ways = taken_ways c.take.result c.self.inside.worker c.take.new.self c.take.ensures.taken; table = refl; terms = refl; number = refl })

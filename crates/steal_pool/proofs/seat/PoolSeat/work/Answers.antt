@@ -1,9 +1,9 @@
 use Rattle.std.proofs.Common.{refl, ◌∙◌}
-use Rattle.steal_pool.proofs.Entering.{same_more, seat_idle, seat_more, seat_refused}
+use Rattle.steal_pool.proofs.Entering.{left_done, left_refused, same_more, seat_idle, seat_more, seat_refused}
 use Rattle.steal_pool.proofs.seat.PoolSeat.work.Goals as goal
 
 pub loop-init : goal.loop-init
-loop-init g c = record { works = seat_idle g.N.Naming.rules c.args.self.now; same = record { ways = refl; terms = refl; number = refl }; free = c.requires.free }
+loop-init g c = record { works = seat_idle g.N.Naming.rules c.args.self.now; same = record { ways = refl; table = refl; terms = refl; number = refl }; free = c.requires.free }
 
 pub returns-in-Err-clause-works : goal.returns-in-Err-clause-works
 returns-in-Err-clause-works g c = seat_refused g.N.Naming.rules c.args.self.now c.loop.self c.step.new.self c.refuse.new.self _ c.loop.invariant.works c.step.ensures.works c.refuse.ensures
@@ -24,3 +24,9 @@ loop-preserved g c = record {
 
 pub returns-in-None-take-clause-works : goal.returns-in-None-take-clause-works
 returns-in-None-take-clause-works g c = seat_more g.N.Naming.rules c.args.self.now c.loop.self c.take.new.self c.loop.invariant.works c.take.ensures.works
+
+pub returns-in-Err-clause-left : goal.returns-in-Err-clause-left
+returns-in-Err-clause-left g c = left_refused g.N.Naming.rules c.step.new.self c.refuse.new.self c.in-Err.error c.refuse.ensures c.in-Err.ensures.full
+
+pub returns-in-None-take-clause-left : goal.returns-in-None-take-clause-left
+returns-in-None-take-clause-left g c = left_done g.N.Naming.rules c.take.new.self (c.take.ensures.refusal ∙ c.loop.invariant.free) c.in-None-take.ensures.hand c.in-None-take.ensures.kept.1

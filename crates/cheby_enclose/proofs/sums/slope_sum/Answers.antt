@@ -1,5 +1,0 @@
-use Rattle.cheby_enclose.proofs.sums.slope_sum.Goals as goal
-
-pub sum_of_multiples-requires-clause-row : goal.sum_of_multiples-requires-clause-row
-sum_of_multiples-requires-clause-row c =
-    rw c.as_slice.ensures.same (c.requires (rw c.as_slice.ensures.same at c.as_slice.ensures.terms.few))

@@ -1,0 +1,242 @@
+// Division by one number, again and again.
+
+ghost use Rattle.std.specs.Prelude.{◌≡◌, ◌≤◌, ◌<◌, ◌+◌, ◌*◌, ◌^◌, ◌/◌, ◌%◌, ◌≤ℤ◌, ℕ, pos, unsigned_abs};
+ghost use Rattle.spec_numbers.specs.Numbers.{floor_div, ceil_div};
+
+use std::marker::Model;
+
+/// A number of seconds, at least 1, by which many numbers are divided: a quotient is guessed by a multiplication with a
+/// kept inverse, and checked.
+#[derive(Drop)]
+pub struct Divider {
+    seconds: u64,
+    /// The seconds, their first bit moved to the front.
+    front: u64,
+    /// How far they are moved.
+    shift: u32,
+    /// `floor((2^128 - 1) / front) - 2^64`.
+    inverse: u64,
+}
+
+impl Model for Divider {
+    ghost use Rattle.std.specs.Prelude.{ℕ, ◌≤◌};
+
+    ghost Value = { ℕ };
+
+    ghost view = { λ a. a.seconds };
+
+    ghost invariant = { λ a. 1 ≤ a.seconds };
+}
+
+/// A quotient and its rest.
+#[derive(Clone, Copy)]
+struct Part {
+    quotient: u64,
+    rest: u64,
+}
+
+/// A quotient of any size and its rest.
+#[derive(Clone, Copy)]
+struct Whole {
+    quotient: u128,
+    rest: u64,
+}
+
+/// The upper 64 bits.
+#[inline(always)]
+fn high_half(x: u128) -> u64
+    ensures { result ≡ x / 2 ^ 64 }
+{
+    (x >> 64) as u64
+}
+
+/// The lower 64 bits.
+#[inline(always)]
+fn low_half(x: u128) -> u64
+    ensures { result ≡ x % 2 ^ 64 }
+{
+    (x % (1 << 64)) as u64
+}
+
+/// The number of two halves.
+#[inline(always)]
+fn joined(high: u64, low: u64) -> u128
+    ensures { result ≡ high * 2 ^ 64 + low }
+{
+    (high as u128) * (1 << 64) + low as u128
+}
+
+/// The quotient of a number below `seconds 2^64`, by a division.
+#[inline(never)]
+fn divided(x: u128, seconds: u64) -> Part
+    requires positive { 1 ≤ seconds }
+    requires size { x < seconds * 2 ^ 64 }
+    ensures parts { result.quotient * seconds + result.rest ≡ x }
+    ensures less { result.rest < seconds }
+{
+    let d = seconds as u128;
+    Part {
+        quotient: (x / d) as u64,
+        rest: (x % d) as u64,
+    }
+}
+
+/// The quotient of a number below `seconds 2^64`: the guess, where it is right.
+#[inline(always)]
+fn checked(x: u128, guess: u64, seconds: u64) -> Part
+    requires positive { 1 ≤ seconds }
+    requires size { x < seconds * 2 ^ 64 }
+    ensures parts { result.quotient * seconds + result.rest ≡ x }
+    ensures less { result.rest < seconds }
+{
+    let product = guess as u128 * seconds as u128;
+    if product <= x && x - product < seconds as u128 {
+        Part {
+            quotient: guess,
+            rest: (x - product) as u64,
+        }
+    } else {
+        divided(x, seconds)
+    }
+}
+
+/// The quotient rounded down of a number, from that of its size.
+#[inline(always)]
+fn rounded_down(z: i128, quotient: u128, rest: u64) -> i128
+    requires { quotient < 2 ^ 127 }
+    ensures { (d : ℕ) → quotient * d + rest ≡ unsigned_abs z → rest < d → result ≡ floor_div z d }
+{
+    if z >= 0 {
+        quotient as i128
+    } else if rest == 0 {
+        -(quotient as i128)
+    } else {
+        -(quotient as i128) - 1
+    }
+}
+
+/// The quotient rounded up of a number, from that of its size.
+#[inline(always)]
+fn rounded_up(z: i128, quotient: u128, rest: u64) -> i128
+    requires size { quotient < 2 ^ 127 }
+    requires spare { 1 ≤ rest → quotient < 2 ^ 126 }
+    ensures { (d : ℕ) → quotient * d + rest ≡ unsigned_abs z → rest < d → result ≡ ceil_div z d }
+{
+    if z < 0 {
+        -(quotient as i128)
+    } else if rest == 0 {
+        quotient as i128
+    } else {
+        quotient as i128 + 1
+    }
+}
+
+impl Divider {
+    /// The divider by so many seconds.
+    pub fn of(seconds: i64) -> Divider
+        requires { pos 1 ≤ℤ seconds }
+        ensures { result ≡ unsigned_abs seconds }
+    {
+        let seconds = seconds as u64;
+        let shift = seconds.leading_zeros();
+        let front = seconds << shift.min(63);
+        let inverse = low_half(u128::MAX / front.max(1) as u128);
+        Divider {
+            seconds,
+            front,
+            shift,
+            inverse,
+        }
+    }
+
+    /// The quotient of a number below `seconds 2^64`, most likely. That it is right is checked, and nowhere claimed.
+    #[inline(always)]
+    fn guess(&self, x: u128) -> u64 {
+        let y = x << (self.shift % 64);
+        let high = high_half(y);
+        let estimate = (self.inverse as u128 * high as u128).wrapping_add(y);
+        let guess = high_half(estimate).wrapping_add(1);
+        let rest = low_half(y).wrapping_sub(guess.wrapping_mul(self.front));
+        if rest > low_half(estimate) {
+            guess.wrapping_sub(1)
+        } else if rest >= self.front {
+            guess.wrapping_add(1)
+        } else {
+            guess
+        }
+    }
+
+    /// The quotient of a number below `seconds 2^64`.
+    #[inline(always)]
+    fn part(&self, x: u128) -> Part
+        requires { x < self.now * 2 ^ 64 }
+        ensures parts { result.quotient * self.now + result.rest ≡ x }
+        ensures less { result.rest < self.now }
+    {
+        checked(x, self.guess(x), self.seconds)
+    }
+
+    /// The quotient of any number, in one step or two.
+    #[inline(always)]
+    fn whole(&self, x: u128) -> Whole
+        ensures parts { result.quotient * self.now + result.rest ≡ x }
+        ensures less { result.rest < self.now }
+        ensures bound { result.quotient ≤ x }
+    {
+        let (high, low) = (high_half(x), low_half(x));
+        if high < self.seconds {
+            let part = self.part(x);
+            Whole {
+                quotient: part.quotient as u128,
+                rest: part.rest,
+            }
+        } else {
+            let first = self.part(high as u128);
+            let second = self.part(joined(first.rest, low));
+            Whole {
+                quotient: joined(first.quotient, second.quotient),
+                rest: second.rest,
+            }
+        }
+    }
+
+    /// `floor(z / seconds)`.
+    #[inline(always)]
+    pub fn down(&self, z: i128) -> i128
+        requires { unsigned_abs z < 2 ^ 127 }
+        ensures equals { result ≡ floor_div z self.now }
+        ensures bound { unsigned_abs result < 2 ^ 127 }
+        ensures positive { 1 ≤ self.now }
+    {
+        let whole = self.whole(z.unsigned_abs());
+        rounded_down(z, whole.quotient, whole.rest)
+    }
+
+    /// `ceil(z / seconds)`.
+    #[inline(always)]
+    pub fn up(&self, z: i128) -> i128
+        requires { unsigned_abs z < 2 ^ 127 }
+        ensures equals { result ≡ ceil_div z self.now }
+        ensures bound { unsigned_abs result < 2 ^ 127 }
+        ensures positive { 1 ≤ self.now }
+    {
+        let whole = self.whole(z.unsigned_abs());
+        rounded_up(z, whole.quotient, whole.rest)
+    }
+
+    /// `floor(z / seconds)` and `ceil(z / seconds)`.
+    #[inline(always)]
+    pub fn both(&self, z: i128) -> (i128, i128)
+        requires { unsigned_abs z < 2 ^ 127 }
+        ensures low { result.0 ≡ floor_div z self.now }
+        ensures high { result.1 ≡ ceil_div z self.now }
+        ensures low_bound { unsigned_abs result.0 < 2 ^ 127 }
+        ensures high_bound { unsigned_abs result.1 < 2 ^ 127 }
+        ensures positive { 1 ≤ self.now }
+    {
+        let whole = self.whole(z.unsigned_abs());
+        let low = rounded_down(z, whole.quotient, whole.rest);
+        let high = rounded_up(z, whole.quotient, whole.rest);
+        (low, high)
+    }
+}

@@ -1,0 +1,18 @@
+use Rattle.std.proofs.Common.{◌≡◌, ◌≢◌, inl, inr, Some, None, List, refl, sym, ap, subst, ◌∙◌, arith, rules}
+use Rattle.steal_pool.specs.Seats.{Seat}
+use Rattle.steal_pool.specs.declared.seat.PoolError.TheVariants.{TooMany, Memory as OutOfMemory}
+use Rattle.steal_pool.proofs.Scanning.{at_index, before_all, before_more, before_none}
+use Rattle.steal_pool.proofs.finishing.is_out_of_memory.Goals as goal
+
+abbrev Fine : Seat → Type 0
+Fine s = s.refusal ≢ Some OutOfMemory
+
+pub loop-i-init : goal.loop-i-init
+loop-i-init g c = before_none Fine c.args.seats.now
+
+pub loop-i-preserved : goal.loop-i-preserved
+loop-i-preserved g c =
+    before_more Fine c.args.seats.now c.loop-i.i c.index-seats-i.result (at_index c.args.seats.now c.loop-i.i c.index-seats-i.result c.loop-i-test.true c.index-seats-i.is) (c.if-is_out_of_memory.ensures.none refl) c.loop-i.invariant
+
+pub returns : goal.returns
+returns g c = record { none = λ _. before_all Fine c.args.seats.now c.loop-i.i (omega (arith, c.loop-i-test.false)) c.loop-i.invariant }

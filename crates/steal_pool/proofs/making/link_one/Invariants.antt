@@ -1,0 +1,8 @@
+use Rattle.std.proofs.Common.{length}
+use Rattle.steal_pool.specs.Passes.{Linking}
+use Rattle.steal_pool.proofs.making.link_one.Given as goal
+
+abbrev pub invariant-loop-j : goal.invariant-loop-j
+invariant-loop-j g l = record {
+  linking : Linking l.ledger l.fn.root (length l.initial.seats) l.i l.j l.seats;
+}

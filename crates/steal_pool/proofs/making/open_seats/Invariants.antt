@@ -1,0 +1,12 @@
+use Rattle.std.proofs.Common.{◌≡◌, ◌++◌}
+use Rattle.std.specs.List.{AllByRecursion}
+use Rattle.span_ledger.specs.Seats.{IsSeatOf}
+use Rattle.steal_pool.specs.Pools.{Beside}
+use Rattle.steal_pool.specs.Passes.{Opens}
+use Rattle.steal_pool.proofs.making.open_seats.Given as goal
+
+abbrev pub invariant-loop-entry : goal.invariant-loop-entry
+invariant-loop-entry g l = record {
+  opened : Beside (Opens l.ledger l.fn.root) l.yielded l.seats.items;
+  whole : l.fn.entries.items ≡ l.yielded ++ l.entry-iterator.rest.items;
+}

@@ -1,0 +1,67 @@
+-- What the end of a pool's work leaves, and what its seats say when they leave.
+use Rattle.std.specs.Prelude.{◌≡◌, ◌≢◌, ◌⊎◌, ◌≤◌, ◌<◌, ℕ, List, [], ◌∷◌, length, map, Option, Some, None, slice_get}
+use Rattle.std.specs.List.{AllByRecursion}
+use Rattle.spec_trees.specs.declared.tree.Node.{Node}
+use Rattle.spec_trees.specs.declared.tree.Leaf.{Leaf}
+use Rattle.spec_trees.specs.Tree.{Rules, leaves}
+use Rattle.spec_pool.specs.History.{Fresh}
+use Rattle.span_ledger.specs.declared.desk.LedgerSeat.{LedgerSeat}
+use Rattle.span_ledger.specs.Seats.{part, seat_table}
+use Rattle.steal_pool.specs.declared.seat.PoolError.TheVariants.{TooMany}
+use Rattle.steal_pool.specs.Rule.{HasLeft, IsUsedUp}
+use Rattle.steal_pool.specs.Seats.{IsLeft, SameSeat, Seat, Works}
+use Rattle.steal_pool.specs.Pools.{AccountFor, AreLinked, Beside, KeepNone, NoneIsOutOfMemory, right_of}
+use Rattle.steal_pool.specs.Passes.{HasNoPass}
+
+-- a seat worked
+abbrev pub Changes : Rules → Seat → Seat → Type 0
+Changes t s q = SameSeat s q × Works t s q
+
+abbrev pub HasUsedUp : Seat → Type 0
+HasUsedUp s = IsUsedUp s.worker.own.view
+
+abbrev pub AllUsedUp : List Seat → Type 0
+AllUsedUp ss = AllByRecursion HasUsedUp ss
+
+-- where none keeps a refusal, each worked off its own deque; else they worked so far
+pub record WorkOff (t : Rules) (ss qs : List Seat) : Type 0 where
+  pub changes : Beside (Changes t) ss qs
+  pub left : AllByRecursion (IsLeft t) qs
+  pub used : KeepNone qs → AllUsedUp qs
+  pub refusals : KeepNone ss ⊎ (qs ≡ ss)
+
+-- the work of a pool has ended
+pub record Ended (t : Rules) (ss qs : List Seat) : Type 0 where
+  pub rights : map right_of qs ≡ map right_of ss
+  pub terms : map (λ s. s.terms) qs ≡ map (λ s. s.terms) ss
+  pub linked : AreLinked qs
+  pub none : AllByRecursion HasNoPass qs
+  pub left : AllByRecursion (IsLeft t) qs
+  pub used : KeepNone qs → AllUsedUp qs
+  pub free : KeepNone qs → KeepNone ss
+  pub memory : NoneIsOutOfMemory qs → NoneIsOutOfMemory ss
+  pub account : (root : Node) → AccountFor t root ss → AccountFor t root qs
+
+-- the leaf is that of the node in the hand, and isn't among the entries that the seat has seen, which are as many as the
+-- limit
+pub record IsFullOf (t : Rules) (leaf : Leaf) (s : Seat) : Type 0 where
+  pub hand : s.worker.hand ≡ Some leaf.node
+  pub leaves : leaves t leaf.node ≡ leaf ∷ []
+  pub limit : s.terms.limit ≤ length s.part.seen
+  pub fresh : Fresh leaf s.part.seen
+
+abbrev pub SomeIsFull : Rules → Leaf → List Seat → Type 0
+SomeIsFull t leaf ss = (k : ℕ) × (s : Seat) × (slice_get ss k ≡ Some s) × IsFullOf t leaf s
+
+abbrev pub NoneIsFull : List Seat → Type 0
+NoneIsFull ss = AllByRecursion (λ s. s.refusal ≢ Some TooMany) ss
+
+-- the seats before n keep no refusal
+abbrev pub KeepNoneBefore : ℕ → List Seat → Type 0
+KeepNoneBefore n ss = (k : ℕ) (s : Seat) → slice_get ss k ≡ Some s → k < n → s.refusal ≡ None
+
+-- a seat leaves, and this is its right to enter leaves
+pub record Leaves (s : Seat) (e : LedgerSeat) : Type 0 where
+  pub part : part e ≡ s.part
+  pub table : seat_table e ≡ s.table
+  pub left : HasLeft s.worker.own.view

@@ -1,0 +1,138 @@
+-- The seats of one pool: how their passes belong together, what they have and enter together, how they begin, and what
+-- comes back of them.
+use Rattle.std.specs.Prelude.{◌≡◌, ◌≢◌, ◌≤◌, ℕ, zero, suc, ◌==◌, List, [], ◌∷◌, ◌++◌, length, map, flat_map, sum_by, Option, Some, None, ⊤, if◌then◌else◌, slice_get, IsPermutation}
+use Rattle.std.specs.List.{AllByRecursion}
+use Rattle.atomic_table.specs.Seated.{TableId}
+use Rattle.spec_trees.specs.declared.tree.Node.{Node}
+use Rattle.spec_trees.specs.declared.tree.Leaf.{Leaf}
+use Rattle.spec_trees.specs.Tree.{Rules, leaves}
+use Rattle.spec_pool.specs.declared.ledger.Terms.{Terms}
+use Rattle.spec_pool.specs.Accounts.{leaves_of, own}
+use Rattle.spec_pool.specs.History.{Fresh, part_of}
+use Rattle.span_ledger.specs.declared.desk.LedgerSeat.{LedgerSeat}
+use Rattle.span_ledger.specs.declared.desk.SpanLedger.{SpanLedger}
+use Rattle.span_ledger.specs.Seats.{part, seat_table, table_of, terms}
+use Rattle.steal_pool.specs.declared.finishing.FinishError.{FinishError}
+use Rattle.steal_pool.specs.declared.finishing.FinishError.TheVariants.{TooMany, Memory}
+use Rattle.steal_pool.specs.declared.seat.PoolError.TheVariants.{Memory as OutOfMemory}
+use Rattle.steal_pool.specs.Rule.{DequeId, End}
+use Rattle.steal_pool.specs.Workers.{Holder, taken_by}
+use Rattle.steal_pool.specs.Seats.{Seat, Ways, account, entered_by, ways}
+
+-- two lists are as long, and R holds of each element and the one beside it
+abbrev pub Beside : {A B : Type 0} → (A → B → Type 0) → List A → List B → Type 0
+Beside R [] [] = ⊤
+Beside R [] (y ∷ ys) = ⊥
+Beside R (x ∷ xs) [] = ⊥
+Beside R (x ∷ xs) (y ∷ ys) = R x y × Beside R xs ys
+
+-- ---- the passes
+abbrev pub ways_of_all : List Seat → List Ways
+ways_of_all ss = map (λ s. ways s.worker) ss
+
+-- a pass is on the deque of the worker that it names
+abbrev pub IsOwned : List Ways → ℕ × DequeId → Type 0
+IsOwned ws pass = (w : Ways) × (slice_get ws pass.0 ≡ Some w) × (w.own ≡ pass)
+
+-- how many of a worker's passes are on the deque of worker k
+abbrev pub passes_on : ℕ → Ways → ℕ
+passes_on k w = sum_by (λ pass. if pass.0 == k then 1 else 0) w.others
+
+-- each pass is on the deque of the worker that it names, and each owner has made as many passes as there are on its deque
+pub record Linked (ws : List Ways) : Type 0 where
+  pub owned : AllByRecursion (λ w. AllByRecursion (IsOwned ws) w.others) ws
+  pub counted : (k : ℕ) (w : Ways) → slice_get ws k ≡ Some w → w.made ≡ sum_by (passes_on k) ws
+
+abbrev pub AreLinked : List Seat → Type 0
+AreLinked ss = Linked (ways_of_all ss)
+
+-- the numbers below n but k, in order
+abbrev pub other_numbers : ℕ → ℕ → List ℕ
+other_numbers zero k = []
+other_numbers (suc n) k = if n == k then other_numbers n k else other_numbers n k ++ n ∷ []
+
+-- of which workers' deques its passes are
+abbrev pub pass_numbers : Seat → List ℕ
+pass_numbers s = map (λ e. e.worker) s.worker.passes
+
+-- each has one pass on the deque of each other
+abbrev pub HaveAllPasses : List Seat → Type 0
+HaveAllPasses ss = (k : ℕ) (s : Seat) → slice_get ss k ≡ Some s → pass_numbers s ≡ other_numbers (length ss) k
+
+-- ---- what the seats have together
+-- the leaves that are entered, and the nodes in hands and on kept stacks, those that were put on deques and those that
+-- were taken from them
+abbrev pub entered_of : List Seat → List Leaf
+entered_of ss = flat_map (λ s. entered_by s.part) ss
+
+abbrev pub own_of : List Seat → List Node
+own_of ss = flat_map (λ s. own (account s)) ss
+
+abbrev pub put_of : List Seat → List Node
+put_of ss = flat_map (λ s. s.worker.own.view.put) ss
+
+abbrev pub taken_of : List Seat → List Node
+taken_of ss = flat_map (λ s. taken_by s.worker) ss
+
+-- the leaves that are entered, those of what the workers have for themselves and those of what they put on deques are
+-- the root's and those of what was taken from deques, each as often
+abbrev pub AccountFor : Rules → Node → List Seat → Type 0
+AccountFor t root ss =
+    IsPermutation (entered_of ss ++ leaves_of t (own_of ss ++ put_of ss)) (leaves t root ++ leaves_of t (taken_of ss))
+
+-- ---- how they begin
+abbrev pub first_hand : Node → ℕ → Option Node
+first_hand root k = if k == 0 then Some root else None
+
+-- a seat of the ledger that has the number k and this in its hand, and has put, taken and entered nothing
+pub record Begins (ledger : SpanLedger) (k : ℕ) (node : Option Node) (s : Seat) : Type 0 where
+  pub worker : s.worker.own.worker ≡ k
+  pub hand : s.worker.hand ≡ node
+  pub kept : s.worker.kept ≡ []
+  pub since : s.worker.since ≡ 0
+  pub put : s.worker.own.view.put ≡ []
+  pub taken : taken_by s.worker ≡ []
+  pub part : s.part ≡ part_of k [] [] []
+  pub table : s.table ≡ table_of ledger
+  pub terms : s.terms ≡ terms ledger
+  pub refusal : s.refusal ≡ None
+
+-- each seat has its place as its number; the root is in the hand of the first, and all else is empty
+abbrev pub AllBegin : SpanLedger → Node → List Seat → Type 0
+AllBegin ledger root ss = (k : ℕ) (s : Seat) → slice_get ss k ≡ Some s → Begins ledger k (first_hand root k) s
+
+-- ---- what comes back
+-- of which ledger's table, and under which number
+abbrev pub right_of : Seat → TableId × ℕ
+right_of s = (s.table, s.part.number)
+
+abbrev pub seat_right : LedgerSeat → TableId × ℕ
+seat_right e = (seat_table e, (part e).number)
+
+-- the ledger seats of these seats, in order
+abbrev pub ComeBack : List Seat → List LedgerSeat → Type 0
+ComeBack ss es = map seat_right es ≡ map right_of ss
+
+-- the leaves for which the ledger answered one of them that they are entered now, or that they stood already
+abbrev pub entered_in : List LedgerSeat → List Leaf
+entered_in es = flat_map (λ e. entered_by (part e)) es
+
+-- one of them has seen as many entries as the limit, and the leaf isn't among them
+abbrev pub IsRefused : List Seat → List LedgerSeat → Leaf → Type 0
+IsRefused ss es leaf =
+    (k : ℕ) × (s : Seat) × (e : LedgerSeat) × (slice_get ss k ≡ Some s) × (slice_get es k ≡ Some e)
+    × (s.terms.limit ≤ length (part e).seen) × Fresh leaf (part e).seen
+
+-- what is entered, this leaf and some more are the root's leaves, each as often
+abbrev pub IsLeftOver : Rules → Node → List LedgerSeat → Leaf → Type 0
+IsLeftOver t root es leaf = (others : List Leaf) × IsPermutation (entered_in es ++ leaf ∷ others) (leaves t root)
+
+abbrev pub IfTooMany : FinishError → (List LedgerSeat → Leaf → Type 0) → Type 0
+IfTooMany (TooMany es leaf) P = P es.items leaf
+IfTooMany Memory P = ⊤
+
+abbrev pub KeepNone : List Seat → Type 0
+KeepNone ss = AllByRecursion (λ s. s.refusal ≡ None) ss
+
+abbrev pub NoneIsOutOfMemory : List Seat → Type 0
+NoneIsOutOfMemory ss = AllByRecursion (λ s. s.refusal ≢ Some OutOfMemory) ss

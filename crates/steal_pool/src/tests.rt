@@ -1,0 +1,362 @@
+// Seats that work off whole trees: what they push and take, the books that they leave, and workers that meet.
+ghost use Rattle.std.specs.Prelude.{◌≡◌, ◌<◌, pos, neg_ℤ, length};
+ghost use Rattle.span_ledger.specs.Seats.{AreNew, IsSeatOf, terms};
+ghost use Rattle.steal_pool.specs.Seats.{IsNamed};
+ghost use Rattle.spec_trees.specs.declared.cuts.CutRule.TheVariants.{Half, Third};
+ghost use Rattle.spec_trees.specs.Cuts.{CanCut, cut_of};
+ghost use Rattle.spec_trees.specs.CutExamples.{parts_at};
+ghost use Rattle.steal_pool.specs.TestJudges.{crossing, crossing_is_sound, span, stairs, stairs_are_sound, thirds, thirds_are_sound};
+
+use super::*;
+use crate::running::worked;
+use gf_edges::{Gate, OpenGate};
+use halving::{Judge, Node, Turn, Verdict};
+use span_ledger::{LedgerSeat, SpanLedger};
+use std::alloc::Global;
+use std::marker::Brand;
+use std::process::Abort;
+use std::sync::Wait;
+use std::sync::atomic::{AtomicU64, Ordering};
+use std::test::*;
+use std::thread::Threads;
+
+// A root at depth 0.
+fn span(a: i64, b: i64) -> Node
+    ensures { result ≡ span a b }
+{
+    Node { a, b, depth: 0 }
+}
+
+// The parts of a node that is cut at a time, one deeper.
+fn parts_at(time: i64, node: Node) -> (Node, Node)
+    requires { node.depth < 100 }
+    ensures { result ≡ parts_at time node }
+{
+    let depth = node.depth + 1;
+    let left = Node {
+        a: node.a,
+        b: time,
+        depth,
+    };
+    let right = Node {
+        a: time,
+        b: node.b,
+        depth,
+    };
+    (left, right)
+}
+
+// Cuts what is wider than two seconds at its first third.
+struct Thirds;
+
+fn first_third(a: i64, b: i64) -> i64
+    requires { CanCut a b }
+    ensures { result ≡ cut_of Third a b }
+{
+    let third = (b - a) / 3;
+    if third < 1 { a + 1 } else { a + third }
+}
+
+impl Judge for Thirds {
+    ghost rules = { λ _. thirds };
+
+    fn judge(&self, node: Node) -> Verdict {
+        if node.b - node.a > 2 && node.depth < 100 {
+            Verdict::Split
+        } else {
+            Verdict::Clear
+        }
+    }
+
+    fn cut(&self, node: Node) -> (Node, Node) {
+        parts_at(first_third(node.a, node.b), node)
+    }
+
+    ghost sound = { λ _. thirds_are_sound };
+}
+
+// Halves what holds second 1339200, down to 50 seconds.
+struct Crossing;
+
+fn middle(a: i64, b: i64) -> i64
+    requires { CanCut a b }
+    ensures { result ≡ cut_of Half a b }
+{
+    a + (b - a) / 2
+}
+
+impl Judge for Crossing {
+    ghost rules = { λ _. crossing };
+
+    fn judge(&self, node: Node) -> Verdict {
+        if node.a < 1_339_200 && 1_339_200 <= node.b {
+            if node.b - node.a > 50 && node.depth < 100 {
+                Verdict::Split
+            } else {
+                Verdict::One(Turn::Rise)
+            }
+        } else {
+            Verdict::Clear
+        }
+    }
+
+    fn cut(&self, node: Node) -> (Node, Node) {
+        parts_at(middle(node.a, node.b), node)
+    }
+
+    ghost sound = { λ _. crossing_is_sound };
+}
+
+// Takes the last second off what begins at 0, all at depth 0.
+struct Stairs;
+
+impl Judge for Stairs {
+    ghost rules = { λ _. stairs };
+
+    fn judge(&self, node: Node) -> Verdict {
+        if node.a < 1 && 1 < node.b {
+            Verdict::Split
+        } else {
+            Verdict::Clear
+        }
+    }
+
+    fn cut(&self, node: Node) -> (Node, Node) {
+        (span(node.a, node.b - 1), span(node.b - 1, node.b))
+    }
+
+    ghost sound = { λ _. stairs_are_sound };
+}
+
+#[test]
+fn any_number_of_workers_finds_the_leaves(rt: HostRuntime) -> Result<(), Fail> {
+    for workers in [1u32, 2, 64] {
+        let Ok(book) = run(&rt, rt.alloc(), &Thirds, span(0, 8), workers, 5, &OpenGate) else {
+            assert!(rt; false);
+            return Ok(());
+        };
+        assert_eq!(rt; book.entries.len(), 5);
+    }
+    Ok(())
+}
+
+#[test]
+fn one_leaf_more_than_the_limit(rt: HostRuntime) -> Result<(), Fail> {
+    for workers in [1u32, 2, 64] {
+        match run(&rt, rt.alloc(), &Thirds, span(0, 8), workers, 4, &OpenGate) {
+            Ok(_) => assert!(rt; false),
+            Err(error) => assert_eq!(rt; error, PoolError::TooMany),
+        }
+    }
+    Ok(())
+}
+
+const TURNS: u64 = 200_000_000;
+
+// Holds worker 0 at its second pass until worker 1 has come, and worker 1 at its first until worker 0 has come to its
+// second.
+#[derive(Drop)]
+struct Meeting {
+    first: AtomicU64,
+    second: AtomicU64,
+    given_up: AtomicU64,
+}
+
+impl Meeting {
+    fn wait_for(&self, passes: &AtomicU64, least: u64) {
+        for _ in 0..TURNS {
+            if passes.load(Ordering::SeqCst) >= least {
+                return;
+            }
+        }
+        self.given_up.store(1, Ordering::SeqCst);
+    }
+}
+
+impl Gate for Meeting {
+    fn pass(&self, worker: u32) {
+        if worker == 0 {
+            if self.first.fetch_add(1, Ordering::SeqCst) == 1 {
+                self.wait_for(&self.second, 1);
+            }
+        } else if self.second.fetch_add(1, Ordering::SeqCst) == 0 {
+            self.wait_for(&self.first, 2);
+        }
+    }
+}
+
+#[test]
+fn two_workers_meet(rt: HostRuntime) -> Result<(), Fail> {
+    let gate = Meeting {
+        first: AtomicU64::new(0),
+        second: AtomicU64::new(0),
+        given_up: AtomicU64::new(0),
+    };
+    let root = span(-43_200, 2_721_600);
+    let Ok(book) = run(&rt, rt.alloc(), &Crossing, root, 2, 1000, &gate) else {
+        assert!(rt; false);
+        return Ok(());
+    };
+    assert!(rt; book.entries.len() > 2);
+    assert_eq!(rt; gate.given_up.load(Ordering::SeqCst), 0);
+    Ok(())
+}
+
+// The right part of the node in the hand, put away, or nothing where that node isn't to be split.
+fn push_right<N: Naming, J: Judge, G: Gate>(seat: &mut PoolSeat<N, J, G>) -> Option<Pushed> {
+    let node = seat.worker.node()?;
+    match seat.verdict(node) {
+        Some(_) => None,
+        None => {
+            let (_, right) = seat.judge.cut(node);
+            Some(seat.push(right))
+        }
+    }
+}
+
+// The next node, taken into an empty hand.
+fn take_next<N: Naming, J: Judge, G: Gate>(seat: &mut PoolSeat<N, J, G>) -> Option<Node> {
+    match seat.worker.node() {
+        Some(_) => None,
+        None => seat.take(),
+    }
+}
+
+// A seat over a hundred seconds of stairs, which holds the root.
+fn push_stairs<N: Naming>(
+    rt: &impl Abort,
+    alloc: Global,
+    ledger: &SpanLedger,
+    entries: LedgerSeat,
+) -> Result<(), Fail>
+    requires rules { IsNamed N.rules stairs (span (pos 0) (pos 100)) }
+    requires root { (terms ledger.now).root ≡ span (pos 0) (pos 100) }
+    requires ours { IsSeatOf ledger.now entries }
+{
+    let hand = Some(span(0, 100));
+    let Ok(mut seat) = PoolSeat::<N, Stairs, OpenGate>::new(
+        alloc, &Stairs, ledger, entries, hand, &OpenGate,
+    ) else {
+        assert!(rt; false);
+        return Ok(());
+    };
+    for _ in 0..64 {
+        assert_eq!(rt; push_right(&mut seat), Some(Pushed::OnDeque));
+    }
+    assert_eq!(rt; push_right(&mut seat), Some(Pushed::Kept));
+    Ok(())
+}
+
+#[test]
+fn a_deque_takes_64_nodes_in_a_row(rt: HostRuntime) -> Result<(), Fail> {
+    let Ok((ledger, mut seats)) = SpanLedger::new(rt.alloc(), span(0, 100), 100, 1) else {
+        assert!(rt; false);
+        return Ok(());
+    };
+    assert_eq!(rt; seats.len(), 1);
+    let entries = seats.remove(0);
+    push_stairs::<Brand>(&rt, rt.alloc(), &ledger, entries)
+}
+
+#[test]
+fn nodes_that_were_kept_are_entered(rt: HostRuntime) -> Result<(), Fail> {
+    let Ok(book) = run(&rt, rt.alloc(), &Stairs, span(0, 100), 1, 100, &OpenGate) else {
+        assert!(rt; false);
+        return Ok(());
+    };
+    assert_eq!(rt; book.entries.len(), 100);
+    Ok(())
+}
+
+// Two seats in one thread, the second of which takes what the first puts on its deque.
+fn take_from_other<N: Naming>(
+    rt: &impl Abort,
+    alloc: Global,
+    ledger: &SpanLedger,
+    entries: Vec<LedgerSeat>,
+) -> Result<(), Fail>
+    requires rules { IsNamed N.rules crossing (span (pos 1339000) (pos 1339400)) }
+    requires root { (terms ledger.now).root ≡ span (pos 1339000) (pos 1339400) }
+    requires two { length entries.items ≡ 2 }
+    requires all { length entries.items ≡ (terms ledger.now).seats }
+    requires fresh { AreNew ledger.now entries.items }
+{
+    let root = span(1_339_000, 1_339_400);
+    let Ok(mut seats) = make::<N, Crossing, OpenGate>(
+        alloc, &Crossing, ledger, entries, root, &OpenGate,
+    ) else {
+        assert!(rt; false);
+        return Ok(());
+    };
+    let right = Node {
+        a: 1_339_200,
+        b: 1_339_400,
+        depth: 1,
+    };
+    assert_eq!(rt; push_right(&mut seats[0]), Some(Pushed::OnDeque));
+    assert_eq!(rt; take_next(&mut seats[1]), Some(right));
+    Ok(())
+}
+
+#[test]
+fn a_seat_takes_what_another_put_on_its_deque(rt: HostRuntime) -> Result<(), Fail> {
+    let root = span(1_339_000, 1_339_400);
+    let Ok((ledger, entries)) = SpanLedger::new(rt.alloc(), root, 100, 2) else {
+        assert!(rt; false);
+        return Ok(());
+    };
+    take_from_other::<Brand>(&rt, rt.alloc(), &ledger, entries)
+}
+
+// Counts its passes.
+#[derive(Drop)]
+struct Counting {
+    passes: AtomicU64,
+}
+
+impl Gate for Counting {
+    fn pass(&self, _worker: u32) {
+        self.passes.fetch_add(1, Ordering::SeqCst);
+    }
+}
+
+// Four seats that work in threads of their own, and what is left for the end of their pool.
+fn leave_nothing<N: Naming + Send + Sync, R: Abort + Threads + Wait + Sync>(
+    rt: &R,
+    alloc: Global,
+    ledger: &SpanLedger,
+    entries: Vec<LedgerSeat>,
+) -> Result<(), Fail>
+    requires rules { IsNamed N.rules crossing (span (neg_ℤ (pos 43200)) (pos 2721600)) }
+    requires root { (terms ledger.now).root ≡ span (neg_ℤ (pos 43200)) (pos 2721600) }
+    requires four { length entries.items ≡ 4 }
+    requires all { length entries.items ≡ (terms ledger.now).seats }
+    requires fresh { AreNew ledger.now entries.items }
+{
+    let gate = Counting {
+        passes: AtomicU64::new(0),
+    };
+    let root = span(-43_200, 2_721_600);
+    let Ok(seats) = worked::<R, N, Crossing, Counting>(
+        rt, alloc, &Crossing, ledger, entries, root, &gate,
+    ) else {
+        assert!(rt; false);
+        return Ok(());
+    };
+    let passes = gate.passes.load(Ordering::SeqCst);
+    assert!(rt; passes > 2);
+    let ended = finish(rt, alloc, seats);
+    assert!(rt; ended.is_ok());
+    assert_eq!(rt; gate.passes.load(Ordering::SeqCst), passes);
+    Ok(())
+}
+
+#[test]
+fn workers_leave_nothing_for_the_end(rt: HostRuntime) -> Result<(), Fail> {
+    let root = span(-43_200, 2_721_600);
+    let Ok((ledger, entries)) = SpanLedger::new(rt.alloc(), root, 1000, 4) else {
+        assert!(rt; false);
+        return Ok(());
+    };
+    leave_nothing::<Brand, _>(&rt, rt.alloc(), &ledger, entries)
+}

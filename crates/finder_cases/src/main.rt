@@ -15,6 +15,8 @@ mod runs;
 use cases::{Case, CasesError, cases};
 use runs::{Answer, agrees, run, takes_workers};
 use std::process::ExitCode;
+use std::sync::Wait;
+use std::thread::Threads;
 use std::{env, fs, io, str};
 
 const DIFFERENT: u8 = 1;
@@ -56,31 +58,41 @@ fn print_difference(rt: &HostRuntime, case: &Case<'_>, answer: &Answer) -> io::R
 }
 
 // Runs a case, by so many workers where they are given, and prints a run that differs.
-fn run_by(
-    rt: &HostRuntime,
+fn run_by<R: Threads + Wait + Sync>(
+    host: &HostRuntime,
+    rt: &R,
     case: &Case<'_>,
     workers: Option<&str>,
     tally: &mut Tally,
 ) -> io::Result<()> {
-    let answer = run(rt, case, workers)?;
+    let answer = run(rt, host.alloc(), case, workers)?;
     tally.runs = tally.runs.saturating_add(1);
     if !agrees(case, &answer) {
         tally.differing = tally.differing.saturating_add(1);
-        print_difference(rt, case, &answer)?;
+        print_difference(host, case, &answer)?;
     }
     Ok(())
 }
 
 // Runs a search by each number of workers.
-fn run_by_workers(rt: &HostRuntime, case: &Case<'_>, tally: &mut Tally) -> io::Result<()> {
+fn run_by_workers<R: Threads + Wait + Sync>(
+    host: &HostRuntime,
+    rt: &R,
+    case: &Case<'_>,
+    tally: &mut Tally,
+) -> io::Result<()> {
     for workers in WORKERS {
-        run_by(rt, case, Some(workers), tally)?;
+        run_by(host, rt, case, Some(workers), tally)?;
     }
     Ok(())
 }
 
 // Runs cases, and prints the runs that differ.
-fn run_all(rt: &HostRuntime, cases: &[Case<'_>]) -> io::Result<Tally> {
+fn run_all<R: Threads + Wait + Sync>(
+    host: &HostRuntime,
+    rt: &R,
+    cases: &[Case<'_>],
+) -> io::Result<Tally> {
     let mut tally = Tally {
         cases: 0,
         runs: 0,
@@ -88,19 +100,23 @@ fn run_all(rt: &HostRuntime, cases: &[Case<'_>]) -> io::Result<Tally> {
     };
     for case in cases {
         tally.cases = tally.cases.saturating_add(1);
-        run_by(rt, case, None, &mut tally)?;
+        run_by(host, rt, case, None, &mut tally)?;
         if takes_workers(&case.words) {
-            run_by_workers(rt, case, &mut tally)?;
+            run_by_workers(host, rt, case, &mut tally)?;
         }
     }
     Ok(tally)
 }
 
 // Runs the cases of a file, or of none that has no such form.
-fn run_file(rt: &HostRuntime, name: &str) -> io::Result<Option<Tally>> {
-    let text = fs::read(rt, name)?;
-    match cases(rt.alloc(), &text) {
-        Ok(cases) => Ok(Some(run_all(rt, &cases)?)),
+fn run_file<R: Threads + Wait + Sync>(
+    host: &HostRuntime,
+    rt: &R,
+    name: &str,
+) -> io::Result<Option<Tally>> {
+    let text = fs::read(host, name)?;
+    match cases(host.alloc(), &text) {
+        Ok(cases) => Ok(Some(run_all(host, rt, &cases)?)),
         Err(CasesError::Malformed) => Ok(None),
         Err(CasesError::Memory) => Err(io::ErrorKind::OutOfMemory.into()),
     }
@@ -109,7 +125,7 @@ fn run_file(rt: &HostRuntime, name: &str) -> io::Result<Option<Tally>> {
 fn main(rt: HostRuntime) -> io::Result<ExitCode> {
     let mut differing = 0u64;
     for name in env::args(&rt)?.skip(1) {
-        let Some(tally) = run_file(&rt, &name)? else {
+        let Some(tally) = run_file(&rt, &rt, &name)? else {
             eprintln!(&rt; "finder_cases: {name} isn't in the form of cases")?;
             return Ok(ExitCode::from(NOT_READ));
         };

@@ -5,6 +5,8 @@ use crate::cases::Case;
 use gf_edges::{Memory, MemoryShelf, MemorySink, OpenGate};
 use gf_find::finder;
 use std::alloc::{AllocError, Global};
+use std::sync::Wait;
+use std::thread::Threads;
 
 // How many bytes an output takes beyond those that are expected, so that what is too much is seen.
 const SPARE_ROOM: usize = 4096;
@@ -63,12 +65,12 @@ fn sink_for(alloc: Global, expected: &[u8]) -> Result<MemorySink, AllocError> {
 }
 
 /// Runs a case, by so many workers where their number is given.
-pub(crate) fn run(
-    rt: &HostRuntime,
+pub(crate) fn run<R: Threads + Wait + Sync>(
+    rt: &R,
+    alloc: Global,
     case: &Case<'_>,
     workers: Option<&str>,
 ) -> Result<Answer, AllocError> {
-    let alloc = rt.alloc();
     let words = words_of(alloc, case, workers)?;
     let mut shelf = shelf_of(alloc, case)?;
     let mut out = sink_for(alloc, case.out)?;

@@ -1,6 +1,7 @@
 //! The program that shows that the call agrees with an exact reference. In come the names of files of cases: runs with
-//! their words, their files and what they are to answer and write. Out go the cases whose status, output or error output
-//! differs by a byte, and how many there are.
+//! their words, their files and what they are to answer and write. A search that names no number of workers is run four
+//! times: by one worker, and by 2, 7 and 64. Out go the runs whose status, output or error output differs by a byte, and
+//! how many runs there are.
 //!
 //! The expected bytes were made by another program, which computes with exact fractions and shares no code, and no
 //! definition, with this repository. So what is compared here is no work of the searcher: the proofs say that the code
@@ -12,18 +13,24 @@ mod records;
 mod runs;
 
 use cases::{Case, CasesError, cases};
-use runs::{Answer, agrees, run};
+use runs::{Answer, agrees, run, takes_workers};
 use std::process::ExitCode;
+use std::sync::Wait;
+use std::thread::Threads;
 use std::{env, fs, io, str};
 
 const DIFFERENT: u8 = 1;
 
 const NOT_READ: u8 = 2;
 
-// How many cases were run, and how many of them differ.
+// How many workers a search is run by, in turn, after the run of its case as it stands.
+const WORKERS: [&str; 3] = ["2", "7", "64"];
+
+// How many cases were run, how often, and how many of these runs differ.
 #[derive(Clone, Copy)]
 struct Tally {
     cases: u64,
+    runs: u64,
     differing: u64,
 }
 
@@ -50,28 +57,66 @@ fn print_difference(rt: &HostRuntime, case: &Case<'_>, answer: &Answer) -> io::R
     print_text(rt, "error output", &answer.err)
 }
 
-// Runs cases, and prints those that differ.
-fn run_all(rt: &HostRuntime, cases: &[Case<'_>]) -> io::Result<Tally> {
+// Runs a case, by so many workers where they are given, and prints a run that differs.
+fn run_by<R: Threads + Wait + Sync>(
+    host: &HostRuntime,
+    rt: &R,
+    case: &Case<'_>,
+    workers: Option<&str>,
+    tally: &mut Tally,
+) -> io::Result<()> {
+    let answer = run(rt, host.alloc(), case, workers)?;
+    tally.runs = tally.runs.saturating_add(1);
+    if !agrees(case, &answer) {
+        tally.differing = tally.differing.saturating_add(1);
+        print_difference(host, case, &answer)?;
+    }
+    Ok(())
+}
+
+// Runs a search by each number of workers.
+fn run_by_workers<R: Threads + Wait + Sync>(
+    host: &HostRuntime,
+    rt: &R,
+    case: &Case<'_>,
+    tally: &mut Tally,
+) -> io::Result<()> {
+    for workers in WORKERS {
+        run_by(host, rt, case, Some(workers), tally)?;
+    }
+    Ok(())
+}
+
+// Runs cases, and prints the runs that differ.
+fn run_all<R: Threads + Wait + Sync>(
+    host: &HostRuntime,
+    rt: &R,
+    cases: &[Case<'_>],
+) -> io::Result<Tally> {
     let mut tally = Tally {
         cases: 0,
+        runs: 0,
         differing: 0,
     };
     for case in cases {
-        let answer = run(rt.alloc(), case)?;
         tally.cases = tally.cases.saturating_add(1);
-        if !agrees(case, &answer) {
-            tally.differing = tally.differing.saturating_add(1);
-            print_difference(rt, case, &answer)?;
+        run_by(host, rt, case, None, &mut tally)?;
+        if takes_workers(&case.words) {
+            run_by_workers(host, rt, case, &mut tally)?;
         }
     }
     Ok(tally)
 }
 
 // Runs the cases of a file, or of none that has no such form.
-fn run_file(rt: &HostRuntime, name: &str) -> io::Result<Option<Tally>> {
-    let text = fs::read(rt, name)?;
-    match cases(rt.alloc(), &text) {
-        Ok(cases) => Ok(Some(run_all(rt, &cases)?)),
+fn run_file<R: Threads + Wait + Sync>(
+    host: &HostRuntime,
+    rt: &R,
+    name: &str,
+) -> io::Result<Option<Tally>> {
+    let text = fs::read(host, name)?;
+    match cases(host.alloc(), &text) {
+        Ok(cases) => Ok(Some(run_all(host, rt, &cases)?)),
         Err(CasesError::Malformed) => Ok(None),
         Err(CasesError::Memory) => Err(io::ErrorKind::OutOfMemory.into()),
     }
@@ -80,14 +125,15 @@ fn run_file(rt: &HostRuntime, name: &str) -> io::Result<Option<Tally>> {
 fn main(rt: HostRuntime) -> io::Result<ExitCode> {
     let mut differing = 0u64;
     for name in env::args(&rt)?.skip(1) {
-        let Some(tally) = run_file(&rt, &name)? else {
+        let Some(tally) = run_file(&rt, &rt, &name)? else {
             eprintln!(&rt; "finder_cases: {name} isn't in the form of cases")?;
             return Ok(ExitCode::from(NOT_READ));
         };
         differing = differing.saturating_add(tally.differing);
         let count = tally.cases;
+        let runs = tally.runs;
         let different = tally.differing;
-        println!(&rt; "{name}: {count} cases, {different} differ")?;
+        println!(&rt; "{name}: {count} cases, {runs} runs, {different} differ")?;
     }
     if differing == 0 {
         return Ok(ExitCode::from(0));

@@ -5,6 +5,8 @@ use crate::cases::Case;
 use gf_edges::{Memory, MemoryShelf, MemorySink, OpenGate};
 use gf_find::finder;
 use std::alloc::{AllocError, Global};
+use std::sync::Wait;
+use std::thread::Threads;
 
 // How many bytes an output takes beyond those that are expected, so that what is too much is seen.
 const SPARE_ROOM: usize = 4096;
@@ -20,9 +22,27 @@ pub(crate) struct Answer {
     pub(crate) err: Vec<u8>,
 }
 
-fn words_of(alloc: Global, case: &Case<'_>) -> Result<Vec<String>, AllocError> {
+/// Whether the words are those of a search, and name no number of workers themselves.
+pub(crate) fn takes_workers(words: &[&str]) -> bool {
+    let is_search = matches!(words.first(), Some(&"find") | Some(&"gen"));
+    is_search && words.iter().all(|word| !word.starts_with("--workers"))
+}
+
+// The words of a case, with a number of workers after the command where one is given.
+fn words_of(
+    alloc: Global,
+    case: &Case<'_>,
+    workers: Option<&str>,
+) -> Result<Vec<String>, AllocError> {
     let mut words = Vec::new(alloc);
-    for word in &case.words {
+    let Some((command, others)) = case.words.split_first() else {
+        return Ok(words);
+    };
+    words.push(String::from_str(alloc, command)?)?;
+    if let Some(count) = workers {
+        words.push(format!(in alloc; "--workers={count}")?)?;
+    }
+    for word in others {
         words.push(String::from_str(alloc, word)?)?;
     }
     Ok(words)
@@ -44,13 +64,18 @@ fn sink_for(alloc: Global, expected: &[u8]) -> Result<MemorySink, AllocError> {
     }
 }
 
-/// Runs a case.
-pub(crate) fn run(alloc: Global, case: &Case<'_>) -> Result<Answer, AllocError> {
-    let words = words_of(alloc, case)?;
+/// Runs a case, by so many workers where their number is given.
+pub(crate) fn run<R: Threads + Wait + Sync>(
+    rt: &R,
+    alloc: Global,
+    case: &Case<'_>,
+    workers: Option<&str>,
+) -> Result<Answer, AllocError> {
+    let words = words_of(alloc, case, workers)?;
     let mut shelf = shelf_of(alloc, case)?;
     let mut out = sink_for(alloc, case.out)?;
     let mut err = sink_for(alloc, case.err)?;
-    let status = finder(alloc, &words, &mut shelf, &mut out, &mut err, &OpenGate);
+    let status = finder(rt, alloc, &words, &mut shelf, &mut out, &mut err, &OpenGate);
     Ok(Answer {
         status,
         out: out.bytes().to_vec(alloc)?,

@@ -40,6 +40,7 @@ fn main(rt: HostRuntime) -> ExitCode {
     let mut err = StdSink::err(&rt);
     let status = match words(&rt) {
         Ok(words) => finder(
+            &rt,
             rt.alloc(),
             &words,
             &mut shelf,

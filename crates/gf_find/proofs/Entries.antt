@@ -1,19 +1,23 @@
--- The leaves of a book are those that were entered.
-use Rattle.std.proofs.Common.{◌≡◌, List, [], ◌∷◌, ℤ, refl, sym, ap, ◌∙◌, subst}
+-- A book put in order has as many leaves as entries.
+use Rattle.std.proofs.Common.{◌≡◌, ◌≤◌, ◌∙◌, ℕ, suc, Bool, true, false, List, [], ◌∷◌, length, if◌then◌else◌, int_lt, refl, sym, ap, subst}
 use Rattle.spec_trees.specs.declared.book.Booked.{Booked}
 use Rattle.spec_trees.specs.declared.tree.Leaf.{Leaf}
-use Rattle.spec_trees.specs.Order.{booked_leaves, in_order, ordered_leaves}
-use Rattle.spec_trees.specs.Tree.{Covers}
-use Rattle.spec_trees.proofs.Ordering.{cover_in_order}
-use Rattle.gf_find.specs.Entries.{entered}
+use Rattle.spec_trees.specs.Order.{booked_leaves, in_order, inserted, ordered_leaves}
 
-leaves_entered : (ls : List Leaf) → booked_leaves (entered ls) ≡ ls
-leaves_entered [] = refl
-leaves_entered (l ∷ ls) = ap (λ (ms : List Leaf). l ∷ ms) (leaves_entered ls)
+placed : (l m : Leaf) (ms later : List Leaf) (earlier : Bool) → length later ≡ suc (length ms)
+    → length (if earlier then m ∷ later else l ∷ m ∷ ms) ≡ suc (suc (length ms))
+placed l m ms later true more = ap suc more
+placed l m ms later false more = refl
 
-module _ (a b : ℤ) (ls : List Leaf) (cover : Covers a ls b) (entries : List Booked) (is : entries ≡ entered ls) where
-  pub ordered : ordered_leaves entries ≡ ls
-  ordered = ap in_order (ap booked_leaves is ∙ leaves_entered ls) ∙ cover_in_order a b ls cover
+one_more : (l : Leaf) (ls : List Leaf) → length (inserted l ls) ≡ suc (length ls)
+unfolding inserted
+one_more l [] = refl
+one_more l (m ∷ ms) = placed l m ms (inserted l ms) (int_lt m.node.a l.node.a) (one_more l ms)
 
-  pub ordered_cover : Covers a (ordered_leaves entries) b
-  ordered_cover = subst (λ (ms : List Leaf). Covers a ms b) (sym ordered) cover
+as_many : (entries : List Booked) → length (ordered_leaves entries) ≡ length entries
+unfolding in_order
+as_many [] = refl
+as_many (e ∷ es) = one_more e.leaf (in_order (booked_leaves es)) ∙ ap suc (as_many es)
+
+pub no_more : (entries : List Booked) (ls : List Leaf) (limit : ℕ) → ordered_leaves entries ≡ ls → length entries ≤ limit → length ls ≤ limit
+no_more entries ls limit is few = subst (λ (n : ℕ). n ≤ limit) (sym (as_many entries) ∙ ap length is) few

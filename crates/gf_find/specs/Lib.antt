@@ -3,4 +3,3 @@ pub mod Refusals
 pub mod Outcomes
 pub mod Reported
 pub mod Texts
-pub mod Entries

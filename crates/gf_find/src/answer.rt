@@ -7,6 +7,7 @@ ghost use Rattle.spec_ephemeris.specs.declared.limits.TheConstants.{LAST_TIME};
 ghost use Rattle.spec_generated.specs.declared.limits.TheConstants.{MOST_GENERATED};
 ghost use Rattle.spec_generated.specs.Generated.{generated_ephemeris, generated_text};
 ghost use Rattle.spec_requests.specs.Limits.{IsWithinLimits};
+ghost use Rattle.spec_requests.specs.declared.limits.TheConstants.{MOST_WORKERS};
 ghost use Rattle.spec_requests.specs.Requests.{request_of};
 ghost use Rattle.spec_times.specs.TimeWords.{IsTime};
 ghost use Rattle.spec_texts.specs.Report.{HasTimes, generation, report};
@@ -22,11 +23,13 @@ use crate::search::search;
 use crate::text_shelf::TextShelf;
 use eph_gen::generate;
 use eph_model::Ephemeris;
-use gf_edges::Shelf;
+use gf_edges::{Gate, Shelf};
 use gf_words::request;
 use spec_requests::{FindAsk, Request};
 use spec_trees::Window;
 use std::alloc::Global;
+use std::sync::Wait;
+use std::thread::Threads;
 use window_text::{generation, report, summary};
 
 // The report of windows in a span.
@@ -48,7 +51,13 @@ fn report_in(
 }
 
 // The report of a search of an ephemeris.
-fn report_of(alloc: Global, ephemeris: &Ephemeris, find: &FindAsk) -> Result<Vec<u8>, Refusal>
+fn report_of<R: Threads + Wait + Sync, G: Gate>(
+    rt: &R,
+    alloc: Global,
+    ephemeris: &Ephemeris,
+    find: &FindAsk,
+    gate: &G,
+) -> Result<Vec<u8>, Refusal>
     requires block { 0 < ephemeris.now.blocks }
     requires end { end_of ephemeris.now ≤ℤ LAST_TIME }
     requires limits { IsWithinLimits find.now }
@@ -63,12 +72,26 @@ fn report_of(alloc: Global, ephemeris: &Ephemeris, find: &FindAsk) -> Result<Vec
             whole: whole_span(ephemeris),
         });
     }
-    let windows = search(alloc, ephemeris, &query_of(find), span)?;
+    let windows = search(
+        rt,
+        alloc,
+        ephemeris,
+        &query_of(find),
+        span,
+        find.workers,
+        gate,
+    )?;
     report_in(alloc, find, span, &windows)
 }
 
 // The report of the files of a search.
-fn find_in_files<S: Shelf>(alloc: Global, shelf: &mut S, find: &FindAsk) -> Result<Vec<u8>, Refusal>
+fn find_in_files<R: Threads + Wait + Sync, S: Shelf, G: Gate>(
+    rt: &R,
+    alloc: Global,
+    shelf: &mut S,
+    find: &FindAsk,
+    gate: &G,
+) -> Result<Vec<u8>, Refusal>
     requires { IsWithinLimits find.now }
     ensures report { IfOk result (λ text. HoldEphemeris
         (S.files shelf.old) find.now.files (IsReport find.now text.items)) }
@@ -78,7 +101,7 @@ fn find_in_files<S: Shelf>(alloc: Global, shelf: &mut S, find: &FindAsk) -> Resu
     ensures unopened { AreNotOpened find.now.files → shelf.new ≡ shelf.old }
 {
     let ephemeris = ephemeris_of(alloc, shelf, find.files.as_slice())?;
-    report_of(alloc, &ephemeris, find)
+    report_of(rt, alloc, &ephemeris, find, gate)
 }
 
 // The summary of files.
@@ -131,14 +154,19 @@ fn lines_of_windows(
 }
 
 // The two lines of the ephemeris of a generated text that has so many bytes.
-fn lines_of(
+fn lines_of<R: Threads + Wait + Sync, G: Gate>(
+    rt: &R,
     alloc: Global,
     blocks: u32,
     seed: u64,
+    workers: u32,
     bytes: usize,
     ephemeris: &Ephemeris,
+    gate: &G,
 ) -> Result<Vec<u8>, Refusal>
     requires some { 0 < blocks }
+    requires some_workers { 1 ≤ workers }
+    requires workers { workers ≤ MOST_WORKERS }
     requires bytes { bytes ≡ length (generated_text blocks seed) }
     requires same { ephemeris.now ≡ generated_ephemeris blocks seed }
     ensures lines { IfOk result (λ text. IsGeneration blocks seed text.items) }
@@ -146,15 +174,26 @@ fn lines_of(
         ⊎ (generation_of blocks seed ≡ Err refusal)) }
 {
     let _header = ephemeris.header();
-    match search(alloc, ephemeris, &conjunctions(), whole_span(ephemeris)) {
+    let span = whole_span(ephemeris);
+    match search(rt, alloc, ephemeris, &conjunctions(), span, workers, gate) {
         Ok(windows) => lines_of_windows(alloc, blocks, seed, bytes, &windows),
         Err(refusal) => Err(refusal),
     }
 }
 
 // The two lines of a generated text.
-fn lines_of_text(alloc: Global, blocks: u32, seed: u64, text: &[u8]) -> Result<Vec<u8>, Refusal>
+fn lines_of_text<R: Threads + Wait + Sync, G: Gate>(
+    rt: &R,
+    alloc: Global,
+    blocks: u32,
+    seed: u64,
+    workers: u32,
+    text: &[u8],
+    gate: &G,
+) -> Result<Vec<u8>, Refusal>
     requires some { 0 < blocks }
+    requires some_workers { 1 ≤ workers }
+    requires workers { workers ≤ MOST_WORKERS }
     requires text { text.now ≡ generated_text blocks seed }
     requires accepted { outcome (text.now ∷ []) ≡ Ok (generated_ephemeris blocks seed) }
     ensures lines { IfOk result (λ text. IsGeneration blocks seed text.items) }
@@ -162,26 +201,46 @@ fn lines_of_text(alloc: Global, blocks: u32, seed: u64, text: &[u8]) -> Result<V
         ⊎ (generation_of blocks seed ≡ Err refusal)) }
 {
     let ephemeris = ephemeris_of_text(alloc, text)?;
-    lines_of(alloc, blocks, seed, text.len(), &ephemeris)
+    lines_of(
+        rt,
+        alloc,
+        blocks,
+        seed,
+        workers,
+        text.len(),
+        &ephemeris,
+        gate,
+    )
 }
 
 // The two lines of the generated text of so many blocks from this seed.
-fn generation_of(alloc: Global, blocks: u32, seed: u64) -> Result<Vec<u8>, Refusal>
+fn generation_of<R: Threads + Wait + Sync, G: Gate>(
+    rt: &R,
+    alloc: Global,
+    blocks: u32,
+    seed: u64,
+    workers: u32,
+    gate: &G,
+) -> Result<Vec<u8>, Refusal>
     requires some { 0 < blocks }
+    requires some_workers { 1 ≤ workers }
+    requires workers { workers ≤ MOST_WORKERS }
     requires few { blocks ≤ MOST_GENERATED }
     ensures lines { IfOk result (λ text. IsGeneration blocks seed text.items) }
     ensures stopped { IfErr result (λ refusal. (refusal ≡ Refusal.Memory)
         ⊎ (generation_of blocks seed ≡ Err refusal)) }
 {
     let text = generate(alloc, blocks, seed)?;
-    lines_of_text(alloc, blocks, seed, &text)
+    lines_of_text(rt, alloc, blocks, seed, workers, &text, gate)
 }
 
 /// The text that the words ask for.
-pub(crate) fn answer<S: Shelf>(
+pub(crate) fn answer<R: Threads + Wait + Sync, S: Shelf, G: Gate>(
+    rt: &R,
     alloc: Global,
     words: &[String],
     shelf: &mut S,
+    gate: &G,
 ) -> Result<Vec<u8>, Refusal>
     ensures answered { IfOk result (λ text.
         IsAnswered words.now (S.files shelf.old) text.items) }
@@ -190,8 +249,12 @@ pub(crate) fn answer<S: Shelf>(
     ensures unopened { OpensNone (request_of (texts_of words.now)) → shelf.new ≡ shelf.old }
 {
     match request(alloc, words)? {
-        Request::Find(find) => find_in_files(alloc, shelf, &find),
+        Request::Find(find) => find_in_files(rt, alloc, shelf, &find, gate),
         Request::Check { files } => summary_of_files(alloc, shelf, files.as_slice()),
-        Request::Gen { blocks, seed, .. } => generation_of(alloc, blocks, seed),
+        Request::Gen {
+            blocks,
+            seed,
+            workers,
+        } => generation_of(rt, alloc, blocks, seed, workers, gate),
     }
 }

@@ -1,7 +1,8 @@
 // The search of an ephemeris for the events of a query.
-ghost use Rattle.std.specs.Prelude.{◌≡◌, ◌⊎◌, ◌<◌, IfErr, IfOk, IsTrue, None, Err};
+ghost use Rattle.std.specs.Prelude.{◌≡◌, ◌⊎◌, ◌<◌, ◌≤◌, IfErr, IfOk, IsTrue, None, Err};
 ghost use Rattle.spec_ephemeris.specs.Ephemeris.{IsEphemeris};
 ghost use Rattle.spec_trees.specs.Cuts.{CanCut, cut_of};
+ghost use Rattle.spec_requests.specs.declared.limits.TheConstants.{MOST_WORKERS};
 ghost use Rattle.spec_kinds.specs.Faults.{fault_of};
 ghost use Rattle.spec_kinds.specs.Kinds.{event_of};
 ghost use Rattle.spec_searches.specs.Found.{root};
@@ -16,10 +17,13 @@ use body_states::BodyStates;
 use eph_model::Ephemeris;
 use event_judge::EventJudge;
 use event_kinds::{Event, event};
+use gf_edges::Gate;
 use gf_hooks::{Cutter, rule_cut};
-use halving::RunError;
 use spec_trees::{Node, Window};
 use std::alloc::Global;
+use std::sync::Wait;
+use std::thread::Threads;
+use steal_pool::PoolError;
 
 // The judge of a query whose ask has no fault.
 fn judge_of<'e>(
@@ -54,13 +58,19 @@ fn root_of(ephemeris: &Ephemeris, span: Span) -> Node
     }
 }
 
-/// The windows of a query's events over a span of an ephemeris, in seconds of TDB since J2000.
-pub(crate) fn search(
+/// The windows of a query's events over a span of an ephemeris, in seconds of TDB since J2000, which so many workers look
+/// for.
+pub(crate) fn search<R: Threads + Wait + Sync, G: Gate>(
+    rt: &R,
     alloc: Global,
     ephemeris: &Ephemeris,
     query: &Query,
     span: Span,
+    workers: u32,
+    gate: &G,
 ) -> Result<Vec<Window>, Refusal>
+    requires some { 1 ≤ workers }
+    requires workers { workers ≤ MOST_WORKERS }
     requires block { 0 < ephemeris.now.blocks }
     requires query { IsQuery query.now }
     requires within { IsTrue (is_within span ephemeris.now) }
@@ -82,9 +92,9 @@ pub(crate) fn search(
     };
     let root = root_of(ephemeris, span);
     let judge = judge_of(ephemeris, query, event, Cutter::new(rule, cut));
-    match windows_by(alloc, &judge, root) {
+    match windows_by(rt, alloc, &judge, root, workers, gate) {
         Ok(windows) => Ok(windows),
-        Err(RunError::TooMany) => Err(Refusal::TooManyLeaves),
-        Err(RunError::Memory) => Err(Refusal::Memory),
+        Err(PoolError::TooMany) => Err(Refusal::TooManyLeaves),
+        Err(PoolError::Memory) => Err(Refusal::Memory),
     }
 }

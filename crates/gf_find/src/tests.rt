@@ -5,7 +5,9 @@ ghost use Rattle.std.specs.Prelude.{◌≤◌};
 use crate::*;
 use gf_edges::{MemoryShelf, MemorySink, OpenGate};
 use std::alloc::{AllocError, Global};
+use std::sync::Wait;
 use std::test::Fail;
+use std::thread::Threads;
 
 const HEADER: &str = "KSIZE= 52 NCOEFF= 26
 GROUP 1010
@@ -208,7 +210,8 @@ struct Answer {
 }
 
 // Runs words over one file `a`.
-fn run(
+fn run<R: Threads + Wait + Sync>(
+    rt: &R,
     alloc: Global,
     words: &[String],
     file: Vec<u8>,
@@ -220,7 +223,7 @@ fn run(
     let mut shelf = MemoryShelf::new(files, 4096, [shelf_fails].to_vec(alloc)?);
     let mut out = sink(alloc, outputs.room, outputs.piece.max(1), outputs.fails)?;
     let mut err = sink(alloc, 4096, 16, outputs.err_fails)?;
-    let status = finder(alloc, words, &mut shelf, &mut out, &mut err, &OpenGate);
+    let status = finder(rt, alloc, words, &mut shelf, &mut out, &mut err, &OpenGate);
     Ok(Answer {
         status,
         out: out.bytes().to_vec(alloc)?,
@@ -229,14 +232,18 @@ fn run(
 }
 
 // The run answers the status and writes this.
-fn is_right(alloc: Global, row: (&str, u64, u64, u8, &str, &str)) -> Result<bool, AllocError> {
+fn is_right<R: Threads + Wait + Sync>(
+    rt: &R,
+    alloc: Global,
+    row: (&str, u64, u64, u8, &str, &str),
+) -> Result<bool, AllocError> {
     let (line, shelf_fails, out_fails, status, written, told) = row;
     let words = words_of(alloc, line)?;
     let outputs = Outputs {
         fails: out_fails,
         ..SOUND
     };
-    let answer = run(alloc, &words, rising(alloc)?, shelf_fails, outputs)?;
+    let answer = run(rt, alloc, &words, rising(alloc)?, shelf_fails, outputs)?;
     let same_out = answer.out.as_slice() == written.as_bytes();
     let same_err = answer.err.as_slice() == told.as_bytes();
     Ok(answer.status == status && same_out && same_err)
@@ -322,7 +329,7 @@ const OUTPUTS: [(&'static str, Outputs, u8, usize, &'static str); 5] = [
 fn runs_are_answered(rt: HostRuntime) -> Result<(), Fail> {
     let alloc = rt.alloc();
     for row in &ROWS {
-        assert!(rt; is_right(alloc, *row)?, "{}", row.0);
+        assert!(rt; is_right(&rt, alloc, *row)?, "{}", row.0);
     }
     Ok(())
 }
@@ -332,7 +339,7 @@ fn outputs_fail(rt: HostRuntime) -> Result<(), Fail> {
     let alloc = rt.alloc();
     for (line, outputs, status, count, told) in &OUTPUTS {
         let words = words_of(alloc, line)?;
-        let answer = run(alloc, &words, rising(alloc)?, 0, *outputs)?;
+        let answer = run(&rt, alloc, &words, rising(alloc)?, 0, *outputs)?;
         assert!(rt; answer.status == *status, "{line}");
         assert!(rt; answer.out.len() == *count, "{line}");
         assert!(rt; answer.err.as_slice() == told.as_bytes(), "{line}");
@@ -348,7 +355,7 @@ fn too_many_files_are_refused(rt: HostRuntime) -> Result<(), Fail> {
         words.push(String::from_str(alloc, "a")?)?;
     }
     words.push(String::from_str(alloc, "z")?)?;
-    let answer = run(alloc, &words, rising(alloc)?, 0, SOUND)?;
+    let answer = run(&rt, alloc, &words, rising(alloc)?, 0, SOUND)?;
     assert!(rt; answer.status == FILES_REFUSED);
     assert!(rt; answer.err.as_slice() == "finder: file z line 0: 5 TooManyFiles\n".as_bytes());
     Ok(())
@@ -358,7 +365,7 @@ fn too_many_files_are_refused(rt: HostRuntime) -> Result<(), Fail> {
 fn too_many_blocks_are_refused(rt: HostRuntime) -> Result<(), Fail> {
     let alloc = rt.alloc();
     let words = words_of(alloc, "check a")?;
-    let answer = run(alloc, &words, blocks(alloc, 16_385)?, 0, SOUND)?;
+    let answer = run(&rt, alloc, &words, blocks(alloc, 16_385)?, 0, SOUND)?;
     assert!(rt; answer.status == FILES_REFUSED);
     assert!(rt;
         answer.err.as_slice() == "finder: file a line 163858: 38 TooManyBlocks\n".as_bytes()

@@ -18,6 +18,8 @@ use crate::statuses::{NOT_WRITTEN, OUT_OF_MEMORY, REPORTED};
 use crate::writing::{write_line, write_whole};
 use gf_edges::{Failed, Gate, Shelf, Sink};
 use std::alloc::{AllocError, Global};
+use std::sync::Wait;
+use std::thread::Threads;
 
 /// Does what the words of the command line, without the program's name, ask for: writes a text to `out`, or the line of
 /// an error to `err`, and answers the status. The words are `find` with options and files, `check` with files, or `gen`
@@ -34,13 +36,14 @@ use std::alloc::{AllocError, Global};
 /// | 7 | the event can't be searched for in the files: a body is absent, two are the same, a number is out of range |
 /// | 8 | out of memory |
 /// | 9 | the search has more than 33,554,432 leaves |
-pub fn finder<S: Shelf, O: Sink, E: Sink, G: Gate>(
+pub fn finder<R: Threads + Wait + Sync, S: Shelf, O: Sink, E: Sink, G: Gate>(
+    rt: &R,
     alloc: Global,
     words: &[String],
     shelf: &mut S,
     out: &mut O,
     err: &mut E,
-    _gate: &G,
+    gate: &G,
 ) -> u8
     // With status 0 `out` gained what the words ask for, and nothing else. For `find` that is the report of the windows of
     // the events in the files over the span: windows that are disjoint, in order and hold every event, each certain one
@@ -88,7 +91,7 @@ pub fn finder<S: Shelf, O: Sink, E: Sink, G: Gate>(
         → Keeps (O.bytes out.old) (O.bytes out.new) }
     ensures err_unchanged { result ≡ REPORTED → Keeps (E.bytes err.old) (E.bytes err.new) }
 {
-    match answer(alloc, words, shelf) {
+    match answer(rt, alloc, words, shelf, gate) {
         Ok(text) => write_text(out, err, &text),
         Err(refusal) => write_refusal(alloc, err, &refusal),
     }

@@ -16,7 +16,8 @@ pub(crate) fn read<'a>(
     words: &'a [String],
 ) -> Result<ArgMatches<'a>, WordFault>
     requires { is_simple_and_free (app_of command) ≡ true }
-    ensures read { IfOk result (IsReading (app_of command.entry) (map string_bytes words.entry.now)) }
+    ensures read { IfOk result
+        (IsReading (app_of command.entry) (map string_bytes words.entry.now)) }
     ensures refused { IfErr result (λ e. (e ≡ WordFault.Memory) ⊎ ((e ≡ WordFault.Words)
         × (is_refused (app_of command.entry) (map string_bytes words.entry.now) ≡ true))) }
 {

@@ -16,7 +16,7 @@ pub fn faults_are_looked_up()
         ≡ Some (record { number = 11; name = codes "GroupMissing"; has_detail = true }) }
     ensures block { fault_kind 39
         ≡ Some (record { number = 39; name = codes "TrailingNumbers"; has_detail = false }) }
-    ensures words { fault_kind 64
-        ≡ Some (record { number = 64; name = codes "NotBuilt"; has_detail = false }) }
+    ensures words { fault_kind 63
+        ≡ Some (record { number = 63; name = codes "BadValue"; has_detail = false }) }
     ensures no_row { fault_kind 23 ≡ None }
 {}

@@ -98,6 +98,3 @@ pub const WORDS: u8 = 62;
 
 /// A value is missing, isn't used here, or isn't of its form. The name of its option is printed after the fault's.
 pub const BAD_VALUE: u8 = 63;
-
-/// The words of the command line ask for what isn't built yet.
-pub const WORDS_NOT_BUILT: u8 = 64;

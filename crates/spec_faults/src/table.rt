@@ -7,7 +7,7 @@ use crate::numbers::*;
 
 /// All faults, in the order of their numbers: the number under which one is reported, its name, and whether a detail is
 /// printed after the name.
-pub const FAULTS: [(u8, &str, bool); 34] = [
+pub const FAULTS: [(u8, &str, bool); 33] = [
     (LINE_TOO_LONG, "LineTooLong", false),
     (TOO_MANY_FILES, "TooManyFiles", false),
     (FILE_TOO_LARGE, "FileTooLarge", false),
@@ -41,7 +41,6 @@ pub const FAULTS: [(u8, &str, bool); 34] = [
     (UNKNOWN_COMMAND, "UnknownCommand", false),
     (WORDS, "Words", false),
     (BAD_VALUE, "BadValue", false),
-    (WORDS_NOT_BUILT, "NotBuilt", false),
 ];
 
 /// One kind of fault: how it is reported.

@@ -2,7 +2,6 @@
 //! out, or the fault of the words.
 #![tactic(auto)]
 
-mod examples;
 mod laws;
 mod limits;
 mod names;
@@ -11,7 +10,6 @@ mod request_examples;
 mod tables;
 mod text;
 
-pub use examples::words_ask_for_files;
 pub use laws::{names_are_read_back, searches_keep_to_limits};
 pub use limits::{
     DEFAULT_DEPTH, DEFAULT_WIDTH, DEFAULT_WORKERS, MOST_DEPTH, MOST_DIGITS_OF_A_COUNT,

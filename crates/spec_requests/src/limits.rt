@@ -16,7 +16,7 @@ pub const MOST_WORKERS: u64 = 64;
 pub const MOST_DIGITS_OF_BLOCKS: usize = 2;
 
 /// The most blocks of a generated text. There is at least one.
-pub const MOST_GENERATED_BLOCKS: u64 = 40;
+pub const MOST_GENERATED_BLOCKS: u64 = spec_generated::MOST_GENERATED as u64;
 
 /// The most digits of a seed.
 pub const MOST_DIGITS_OF_A_SEED: usize = 20;

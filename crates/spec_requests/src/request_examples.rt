@@ -25,7 +25,8 @@ pub fn faults_of_words()
 
 /// What is left out has its default, and an option may stand behind a file.
 pub fn searches_of_words()
-    ensures defaults { request_of (with_search (codes "a" ∷ [])) ≡ Ok (Find (search_in (codes "a"))) }
+    ensures defaults { request_of (with_search (codes "a" ∷ []))
+        ≡ Ok (Find (search_in (codes "a"))) }
     ensures behind { request_of (with_search (codes "a" ∷ codes "--depth=40" ∷ []))
         ≡ Ok (Find (search_in (codes "a"))) }
 {}

@@ -3,11 +3,11 @@ use Rattle.spec_requests.specs.declared.request.Request.TheVariants.{Find}
 use Rattle.spec_requests.specs.Requests.{request_of}
 use Rattle.spec_requests.proofs.LimitLemmas.{searches_keep_to_limits}
 use Rattle.gf_find.specs.Outcomes.{texts_of}
-use Rattle.gf_find.proofs.Asked.{blocks_are_some, blocks_are_within}
+use Rattle.gf_find.proofs.Asked.{blocks_are_some, blocks_are_within, workers_are_some, workers_are_within}
 use Rattle.gf_find.proofs.answer.answer.Goals as goal
 
-pub find_in_files-requires : goal.find_in_files-requires
-find_in_files-requires g c =
+pub find_in_files-requires-after_bounds : goal.find_in_files-requires-after_bounds
+find_in_files-requires-after_bounds g c κs lives =
     let asked : request_of (texts_of c.args.words.now) ≡ Ok (Find c.in-Find.find) = search rules in
     searches_keep_to_limits _ _ asked
 
@@ -16,3 +16,9 @@ generation_of-requires-clause-some g c = search (rules, blocks_are_some)
 
 pub generation_of-requires-clause-few : goal.generation_of-requires-clause-few
 generation_of-requires-clause-few g c = search (rules, blocks_are_within)
+
+pub generation_of-requires-clause-some_workers : goal.generation_of-requires-clause-some_workers
+generation_of-requires-clause-some_workers g c = search (rules, workers_are_some)
+
+pub generation_of-requires-clause-workers : goal.generation_of-requires-clause-workers
+generation_of-requires-clause-workers g c = search (rules, workers_are_within)

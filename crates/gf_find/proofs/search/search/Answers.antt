@@ -9,8 +9,8 @@ use Rattle.gf_find.specs.Queries.{search}
 use Rattle.gf_find.proofs.Searching.{leaves_stop, root_valid, windows_found}
 use Rattle.gf_find.proofs.search.search.Goals as goal
 
-pub windows_by-requires-after_bounds : goal.windows_by-requires-after_bounds
-windows_by-requires-after_bounds c κs =
+pub windows_by-requires-clause-valid : goal.windows_by-requires-clause-valid
+windows_by-requires-clause-valid g c κs lives =
     let q = c.args.query.now in
     let e = c.args.ephemeris.now in
     let valid = root_valid q e c.args.span c.requires.within in
@@ -18,7 +18,7 @@ windows_by-requires-after_bounds c κs =
     (subst (λ (n : Node). IsValid (rules (search q e)) n) (sym c.root_of-root.ensures.root) valid)
 
 pub returns-in-Ok-windows_by-clause-found : goal.returns-in-Ok-windows_by-clause-found
-returns-in-Ok-windows_by-clause-found c =
+returns-in-Ok-windows_by-clause-found g c =
     let is = c.judge_of-judge.ensures in
     let whole = c.root_of-root.ensures.root in
     windows_found c.args.query.now c.args.ephemeris.now c.args.span c.root_of-root.ensures.checked c.requires.block c.requires.query c.requires.within c.in_ok-event.ensures.accepted
@@ -27,7 +27,7 @@ returns-in-Ok-windows_by-clause-found c =
     (subst (λ (n : ℕ). n ≤ MOST_LEAVES) (λ i. leaf_count (rules (is i)) (whole i)) c.in-Ok-windows_by.ensures.few)
 
 pub returns-in-Err-TooMany-clause-stopped : goal.returns-in-Err-TooMany-clause-stopped
-returns-in-Err-TooMany-clause-stopped c =
+returns-in-Err-TooMany-clause-stopped g c =
     let is = c.judge_of-judge.ensures in
     let whole = c.root_of-root.ensures.root in
     inr (leaves_stop c.args.query.now c.args.ephemeris.now c.args.span c.root_of-root.ensures.checked c.requires.block c.requires.query c.requires.within c.in_ok-event.ensures.accepted

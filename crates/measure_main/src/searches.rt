@@ -85,6 +85,7 @@ pub(crate) fn ask_of(name: &str) -> Option<Ask> {
 /// The states of the bodies of an ask that has no fault in it.
 pub(crate) fn states_of<'e>(ephemeris: &'e Ephemeris, ask: &Ask) -> BodyStates<'e>
     requires block { 0 < ephemeris.now.blocks }
+    requires ask { IsAsk ask.now }
     requires sound { fault_of ephemeris.now ask.now ≡ None }
     ensures view { IsView result }
     ensures of { result.ephemeris ≡ ephemeris.now }

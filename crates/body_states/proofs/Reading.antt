@@ -1,6 +1,6 @@
 -- The granule that a column is read from has the series of the column, and the span lies within it.
-use Rattle.std.proofs.Common.{◌≡◌, ℕ, ◌<◌, ◌≤◌, IsTrue, Bool, true, false, nat_eq, sym, ◌∙◌, subst, arith, refl, Option, None, Some, ℤ, pos, neg_ℤ, ◌^◌, ◌*◌, length, ◌+ℤ◌, ◌<ℤ◌, ◌≤ℤ◌, unsigned_abs}
-use Rattle.std.specs.Prelude.{All, IfSome, if◌then◌else◌}
+use Rattle.std.proofs.Common.{◌≡◌, ℕ, ◌≤◌, sym, ◌∙◌, subst, arith, ℤ, pos, neg_ℤ, ◌^◌, ◌*◌, length, ◌+ℤ◌, ◌<ℤ◌, ◌≤ℤ◌, unsigned_abs}
+use Rattle.std.specs.Prelude.{All}
 use Rattle.std.proofs.lemmas.Int.{ints}
 use Rattle.spec_ephemeris.specs.declared.limits.TheConstants.{BODY_COLUMNS}
 use Rattle.spec_ephemeris.specs.Ephemeris.{IsBodyNumber, IsBorder, axis_series}

@@ -17,43 +17,58 @@ pub(crate) struct Rows {
     pub steps: Row,
 }
 
-// Rows of which no entry is made.
-fn no_rows(arguments: Ival62) -> Rows
-    ensures { result.arguments ≡ arguments }
-{
-    Rows {
-        arguments,
-        values: empty_row(),
-        steps: empty_row(),
+impl Rows {
+    /// Rows of which no entry is made.
+    pub fn none() -> Rows {
+        Rows {
+            arguments: Ival62 { lo: 0, hi: 0 },
+            values: empty_row(),
+            steps: empty_row(),
+        }
+    }
+
+    /// Makes the first `n` entries of the row of values.
+    pub fn make_plain(&mut self, quantity: Quantity, arguments: Ival62, n: usize)
+        requires arguments { IsArguments arguments }
+        requires few { n ≤ 32 }
+        ensures arguments { self.new.arguments ≡ arguments }
+        ensures rows { ArePlain quantity n self.new }
+    {
+        self.arguments = arguments;
+        match quantity {
+            Quantity::Position => fill_t(arguments, n, &mut self.values),
+            Quantity::Velocity => fill_u(arguments, n, &mut self.values),
+        }
+    }
+
+    /// Makes the first `n` entries of both rows.
+    pub fn make_all(&mut self, quantity: Quantity, arguments: Ival62, n: usize)
+        requires arguments { IsArguments arguments }
+        requires few { n ≤ 32 }
+        ensures arguments { self.new.arguments ≡ arguments }
+        ensures rows { AreAll quantity n self.new }
+    {
+        self.arguments = arguments;
+        match quantity {
+            Quantity::Position => fill_tq(arguments, n, &mut self.values, &mut self.steps),
+            Quantity::Velocity => fill_ur(arguments, n, &mut self.values, &mut self.steps),
+        }
     }
 }
 
-/// The first `n` entries of the row of values.
-pub(crate) fn plain_rows(quantity: Quantity, arguments: Ival62, n: usize) -> Rows
-    requires arguments { IsArguments arguments }
-    requires few { n ≤ 32 }
-    ensures arguments { result.arguments ≡ arguments }
-    ensures rows { ArePlain quantity n result }
-{
-    let mut rows = no_rows(arguments);
-    match quantity {
-        Quantity::Position => fill_t(arguments, n, &mut rows.values),
-        Quantity::Velocity => fill_u(arguments, n, &mut rows.values),
-    }
-    rows
+/// Room for the rows in the middle of a span and over the whole of it, which serves one column after the other.
+#[derive(Drop)]
+pub(crate) struct RowRoom {
+    pub centre: Rows,
+    pub whole: Rows,
 }
 
-/// The first `n` entries of both rows.
-pub(crate) fn all_rows(quantity: Quantity, arguments: Ival62, n: usize) -> Rows
-    requires arguments { IsArguments arguments }
-    requires few { n ≤ 32 }
-    ensures arguments { result.arguments ≡ arguments }
-    ensures rows { AreAll quantity n result }
-{
-    let mut rows = no_rows(arguments);
-    match quantity {
-        Quantity::Position => fill_tq(arguments, n, &mut rows.values, &mut rows.steps),
-        Quantity::Velocity => fill_ur(arguments, n, &mut rows.values, &mut rows.steps),
+impl RowRoom {
+    /// Room in which no row is made.
+    pub fn new() -> RowRoom {
+        RowRoom {
+            centre: Rows::none(),
+            whole: Rows::none(),
+        }
     }
-    rows
 }

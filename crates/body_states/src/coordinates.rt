@@ -237,8 +237,8 @@ fn known(columns: &[ColumnMotions], number: usize) -> Option<&Motions>
     ensures { IfSome result
         (λ motions. Contains columns.now (record { number = number; motions = motions.now })) }
 {
-    if number < columns.len() {
-        let column = &columns[number];
+    for place in 0..columns.len() {
+        let column = &columns[place];
         if column.number == number {
             return Some(&column.motions);
         }

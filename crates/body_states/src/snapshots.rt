@@ -7,6 +7,7 @@ ghost use Rattle.body_states.specs.Answers.{CanAsk, IsKnown};
 ghost use Rattle.body_states.specs.Motions.{AreAlong, AreMotions};
 ghost use Rattle.body_states.specs.Moments.{question_state, target_state};
 
+use crate::bases::RowRoom;
 use crate::motions::{AxisEnclosures, ColumnMotions, Motions};
 use crate::question::{QuantityAxes, Question};
 use crate::states::BodyStates;
@@ -139,26 +140,33 @@ impl<'e> BodyStates<'e> {
         }
     }
 
-    // The motions of some columns along some axes, each at its number.
+    // The motions of some columns along some axes; of at most as many as two bodies and the Earth are made of.
     fn known_columns(
         &self,
         numbers: &[usize],
         times: &Span,
         axes: &QuantityAxes,
-    ) -> [ColumnMotions; 12]
+    ) -> [ColumnMotions; 4]
         requires fits { Fits self.now times.now.first times.now.last }
         requires usable { All (IsUsable self.now) numbers.now }
         ensures { All (IsKnown self.now times.now.first times.now.last) result }
     {
-        let mut columns = [unknown(); 12];
-        for number in numbers {
-            columns[*number] = self.column_motions(*number, times, axes);
+        let mut columns = [unknown(); 4];
+        let mut room = RowRoom::new();
+        for place in 0..numbers.len().min(4) {
+            columns[place] = self.column_motions(numbers[place], times, axes, &mut room);
         }
         columns
     }
 
     // The motions of a column along some axes.
-    fn column_motions(&self, number: usize, times: &Span, axes: &QuantityAxes) -> ColumnMotions
+    fn column_motions(
+        &self,
+        number: usize,
+        times: &Span,
+        axes: &QuantityAxes,
+        room: &mut RowRoom,
+    ) -> ColumnMotions
         requires fits { Fits self.now times.now.first times.now.last }
         requires usable { IsUsable self.now number }
         ensures { IsKnown self.now times.now.first times.now.last result }
@@ -166,7 +174,7 @@ impl<'e> BodyStates<'e> {
         let span = self.granule_span(number, times);
         ColumnMotions {
             number,
-            motions: span.motions(axes),
+            motions: span.motions(axes, room),
         }
     }
 }

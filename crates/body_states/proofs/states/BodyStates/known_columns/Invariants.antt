@@ -3,5 +3,5 @@ use Rattle.std.specs.Prelude.{All}
 use Rattle.body_states.specs.Answers.{IsKnown}
 use Rattle.body_states.proofs.states.BodyStates.known_columns.Given as goal
 
-abbrev pub invariant-loop-number : goal.invariant-loop-number
-invariant-loop-number l = All (IsKnown l.fn.self l.fn.times.first l.fn.times.last) l.columns × (length l.columns ≡ 12)
+abbrev pub invariant-loop-place : goal.invariant-loop-place
+invariant-loop-place l = All (IsKnown l.fn.self l.fn.times.first l.fn.times.last) l.columns × (length l.columns ≡ 4)

@@ -1,6 +1,6 @@
 use Rattle.std.proofs.Common.{rules, ◌∙◌, FitsSigned, w64}
 use Rattle.std.proofs.lemmas.Int.{to_z-of_z}
-use Rattle.body_states.proofs.granule_span.GranuleSpan.whole.Goals as goal
+use Rattle.body_states.proofs.granule_span.GranuleSpan.make_whole.Goals as goal
 
 pub returns : goal.returns
 returns c =
@@ -8,4 +8,4 @@ returns c =
     let fb : FitsSigned w64 c.last.result = search rules in
     let sa = to_z-of_z w64 c.first.result fa ∙ c.first.ensures in
     let sb = to_z-of_z w64 c.last.result fb ∙ c.last.ensures in
-    record { over = λ axis. c.all_rows.ensures.arguments ∙ (rw (sa, sb) at (c.arguments-arguments.ensures.equals axis)); rows = c.all_rows.ensures.rows }
+    record { over = λ axis. c.make_all.ensures.arguments ∙ (rw (sa, sb) at (c.arguments-arguments.ensures.equals axis)); rows = c.make_all.ensures.rows }

@@ -1,2 +1,1 @@
 pub mod TermLists
-mod PairProducts

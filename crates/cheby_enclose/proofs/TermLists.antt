@@ -1,12 +1,10 @@
 -- The intervals of pairs and of coefficients, one after the other.
-use Rattle.std.proofs.Common.{◌≡◌, ℕ, ◌+◌, ◌-◌, ◌^◌, ◌<◌, ◌≤◌, arith, refl, ap, ◌∙◌, subst, List, [], ◌∷◌, length, map, take, drop, get_or, All, ℤ, pos, negsuc, ◌+ℤ◌, ◌*ℤ◌, ◌≤ℤ◌, ◌<ℤ◌}
+use Rattle.std.proofs.Common.{◌≡◌, ℕ, ◌+◌, ◌-◌, ◌^◌, ◌<◌, ◌≤◌, arith, refl, ap, ◌∙◌, subst, List, [], ◌∷◌, length, map, take, drop, get_or, All, ℤ, pos, negsuc, ◌+ℤ◌, ◌*ℤ◌}
 use Rattle.std.proofs.lemmas.List.{length-map, length-take, take-map, drop-map, get_or-map}
 use Rattle.std.proofs.lemmas.List.Elements.{All-nil, All-cons, All-head, All-tail, All-take, All-drop}
 use Rattle.spec_text.specs.declared.decimals.Decimal.{Decimal}
-use Rattle.spec_numbers.specs.Numbers.{floor_div, ceil_div}
-use Rattle.spec_numbers.proofs.Ring.{v, k as lit, ◌⊕◌, ◌⊗◌, ring}
-use Rattle.spec_numbers.proofs.Order.{lin, lt-mul_cancel}
-use Rattle.spec_numbers.proofs.Floor.{floor_div-lt, ceil_div-lt, ordered_quotients}
+use Rattle.spec_numbers.proofs.Order.{lin}
+use Rattle.spec_numbers.proofs.Floor.{ordered_quotients}
 use Rattle.spec_intervals.specs.Interval.{IsDistance, from_decimal, decimal_top, decimal_bottom, least4, greatest4}
 use Rattle.spec_intervals.proofs.Decimals.{bottom_pos}
 use Rattle.spec_chebyshev.specs.declared.ends.Ival62.{Ival62}
@@ -33,21 +31,12 @@ terms_of_axis cs ps from n is =
     ∙ ap (map term_of) (take-map pair_of n (drop from cs))
     ∙ terms_are (take n (drop from cs))
 
--- ---- and a floor beside its ceiling
-next_to : (z : ℤ) (d : ℕ) → 0 < d → ceil_div z d ≤ℤ (floor_div z d +ℤ pos 1)
-next_to z d h =
-    let f : z <ℤ (floor_div z d *ℤ pos d +ℤ pos d) = floor_div-lt z d h in
-    let b : (ceil_div z d *ℤ pos d) <ℤ (z +ℤ pos d) = ceil_div-lt z d h in
-    let m : (floor_div z d +ℤ pos 2) *ℤ pos d ≡ (floor_div z d *ℤ pos d +ℤ pos d) +ℤ pos d = ring (floor_div z d ∷ pos d ∷ []) ((v 0 ⊕ lit (pos 2)) ⊗ v 1) (((v 0 ⊗ v 1) ⊕ v 1) ⊕ v 1) tt in
-    let q : ceil_div z d <ℤ (floor_div z d +ℤ pos 2) = lt-mul_cancel (ceil_div z d) (floor_div z d +ℤ pos 2) d (rw m (omega (arith, lin))) in
-    omega (arith, lin)
-
+-- ---- and each pair is in order and small
 pub IsPair-of : (c : Decimal) → IsDistance c.mant c.exp → IsPair (pair_of c)
 unfolding from_decimal
 IsPair-of c h = record {
   small = record { lo = size_within (pair_of c).lo (2 ^ 60) (low_size c h); hi = size_within (pair_of c).hi (2 ^ 60) (high_size c h) };
   ordered = ordered_quotients (decimal_top c.mant c.exp (negsuc 23)) (decimal_top c.mant c.exp (negsuc 23)) (decimal_bottom c.exp (negsuc 23)) (bottom_pos c.exp (negsuc 23)) (omega (arith, lin));
-  close = next_to (decimal_top c.mant c.exp (negsuc 23)) (decimal_bottom c.exp (negsuc 23)) (bottom_pos c.exp (negsuc 23));
 }
 
 all_pairs : (cs : List Decimal) → All IsBodyNumber cs → All IsPair (map pair_of cs)

@@ -8,7 +8,6 @@
 
 mod granules;
 mod positions;
-mod products;
 mod sums;
 mod terms;
 #[cfg(test)]

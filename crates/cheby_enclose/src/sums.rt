@@ -6,10 +6,10 @@ ghost use Rattle.spec_motions.specs.Sums.{multiples, sum_low, sum_high};
 ghost use Rattle.spec_motions.specs.RowSizes.{IsSmallRow, IsSlopeRow};
 ghost use Rattle.cheby_enclose.specs.Pairs.{term_of, IsPair, ArePairs, IsOrderedRow, IsOrderedShorterRow};
 
-use crate::products::{greatest, least};
 use crate::terms::Terms;
 use cheby_laws::Row;
 use eph_model::Rounded;
+use ival_core::product_ends;
 use spec_chebyshev::Ival62;
 
 /// The ends of an interval in 128 bits, before it is narrowed.
@@ -81,7 +81,8 @@ fn sum_of_multiples(pairs: &[Rounded], row: &Row) -> WideEnds
     sum
 }
 
-// The least and the greatest product of two ends.
+// The least and the greatest product of two ends. A pair has one sign, since its ends are the floor and the ceiling of one
+// number, so that two multiplications are made.
 #[inline(always)]
 fn product(c: Rounded, e: Ival62) -> WideEnds
     requires pair { IsPair c }
@@ -90,10 +91,8 @@ fn product(c: Rounded, e: Ival62) -> WideEnds
     ensures lo { result.lo ≡ least4 c.lo c.hi e.lo e.hi }
     ensures hi { result.hi ≡ greatest4 c.lo c.hi e.lo e.hi }
 {
-    WideEnds {
-        lo: least(c, e),
-        hi: greatest(c, e),
-    }
+    let (lo, hi) = product_ends(c.lo, c.hi, e.lo, e.hi);
+    WideEnds { lo, hi }
 }
 
 // k times both ends.

@@ -40,38 +40,15 @@ stair_cut n v e = let w = stair_is_wide n e in record {
 pub stairs_are_sound : IsSound stairs
 stairs_are_sound = record { low = omega (arith, ints); high = omega (arith, ints); cut = stair_cut }
 
--- ---- thirds: a node wider than two is cut at its first third
-abbrev pub thirds : Rules
-thirds = pairs Third
-
-third_is_wide : (n : Node) → thirds.verdict n ≡ Split → (pos 2 <ℤ (n.b -ℤ n.a)) × (n.depth < 100)
-third_is_wide n e = grind (arith, ints)
-
-third_can_cut : (n : Node) → IsValid thirds n → pos 2 <ℤ (n.b -ℤ n.a) → CanCut n.a n.b
-third_can_cut n v w = record { wide = omega (arith, ints, w); low = omega (arith, ints, v.from); high = omega (arith, ints, v.to) }
-
-third_cut : (n : Node) → IsValid thirds n → thirds.verdict n ≡ Split → IsCut thirds n
-third_cut n v e =
-    let w = third_is_wide n e in
-    let inside = cut_inside Third n.a n.b (third_can_cut n v w.0) in
-    record {
-      cuts = record { from = refl; meet = refl; to = refl };
-      left = record { from = v.from; inside = inside.0; to = omega (arith, ints, inside.1, v.to); depth = omega (arith, w.1) };
-      right = record { from = omega (arith, ints, inside.0, v.from); inside = inside.1; to = v.to; depth = omega (arith, w.1) };
-    }
-
-pub thirds_are_sound : IsSound thirds
-thirds_are_sound = record { low = omega (arith, ints); high = omega (arith, ints); cut = third_cut }
-
--- ---- crossing: a node that holds second 1339200 is halved until it is no wider than 50 seconds
+-- ---- a crossing in 32 days: a node that holds second 1339200 is halved until it is no wider than 50 seconds
 abbrev pub holds_crossing : Node → Bool
 holds_crossing n = int_lt n.a (pos 1339200) && int_le (pos 1339200) n.b
 
 abbrev pub is_wide : Node → Bool
 is_wide n = int_lt (pos 50) (n.b -ℤ n.a) && nat_lt n.depth 100
 
-abbrev pub crossing : Rules
-crossing = record {
+abbrev pub long_crossing : Rules
+long_crossing = record {
   first = neg_ℤ (pos 43200);
   last = pos 2721600;
   deepest = 100;
@@ -79,13 +56,13 @@ crossing = record {
   parts = λ n. parts_at (cut_of Half n.a n.b) n;
 }
 
-crossing_is_wide : (n : Node) → crossing.verdict n ≡ Split → (pos 50 <ℤ (n.b -ℤ n.a)) × (n.depth < 100)
+crossing_is_wide : (n : Node) → long_crossing.verdict n ≡ Split → (pos 50 <ℤ (n.b -ℤ n.a)) × (n.depth < 100)
 crossing_is_wide n e = grind (arith, ints)
 
-crossing_can_cut : (n : Node) → IsValid crossing n → pos 50 <ℤ (n.b -ℤ n.a) → CanCut n.a n.b
+crossing_can_cut : (n : Node) → IsValid long_crossing n → pos 50 <ℤ (n.b -ℤ n.a) → CanCut n.a n.b
 crossing_can_cut n v w = record { wide = omega (arith, ints, w); low = omega (arith, ints, v.from); high = omega (arith, ints, v.to) }
 
-crossing_cut : (n : Node) → IsValid crossing n → crossing.verdict n ≡ Split → IsCut crossing n
+crossing_cut : (n : Node) → IsValid long_crossing n → long_crossing.verdict n ≡ Split → IsCut long_crossing n
 crossing_cut n v e =
     let w = crossing_is_wide n e in
     let inside = cut_inside Half n.a n.b (crossing_can_cut n v w.0) in
@@ -95,5 +72,5 @@ crossing_cut n v e =
       right = record { from = omega (arith, ints, inside.0, v.from); inside = inside.1; to = v.to; depth = omega (arith, w.1) };
     }
 
-pub crossing_is_sound : IsSound crossing
-crossing_is_sound = record { low = omega (arith, ints); high = omega (arith, ints); cut = crossing_cut }
+pub long_crossing_is_sound : IsSound long_crossing
+long_crossing_is_sound = record { low = omega (arith, ints); high = omega (arith, ints); cut = crossing_cut }

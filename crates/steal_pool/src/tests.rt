@@ -5,7 +5,8 @@ ghost use Rattle.steal_pool.specs.Seats.{IsNamed};
 ghost use Rattle.spec_trees.specs.declared.cuts.CutRule.TheVariants.{Half, Third};
 ghost use Rattle.spec_trees.specs.Cuts.{CanCut, cut_of};
 ghost use Rattle.spec_trees.specs.CutExamples.{parts_at};
-ghost use Rattle.steal_pool.specs.TestJudges.{crossing, crossing_is_sound, span, stairs, stairs_are_sound, thirds, thirds_are_sound};
+ghost use Rattle.halving.specs.TestJudges.{thirds, thirds_are_sound};
+ghost use Rattle.steal_pool.specs.TestJudges.{long_crossing, long_crossing_is_sound, span, stairs, stairs_are_sound};
 
 use super::*;
 use crate::running::worked;
@@ -86,7 +87,7 @@ fn middle(a: i64, b: i64) -> i64
 }
 
 impl Judge for Crossing {
-    ghost rules = { λ _. crossing };
+    ghost rules = { λ _. long_crossing };
 
     fn judge(&self, node: Node) -> Verdict {
         if node.a < 1_339_200 && 1_339_200 <= node.b {
@@ -104,7 +105,7 @@ impl Judge for Crossing {
         parts_at(middle(node.a, node.b), node)
     }
 
-    ghost sound = { λ _. crossing_is_sound };
+    ghost sound = { λ _. long_crossing_is_sound };
 }
 
 // Takes the last second off what begins at 0, all at depth 0.
@@ -275,7 +276,7 @@ fn take_from_other<N: Naming>(
     ledger: &SpanLedger,
     entries: Vec<LedgerSeat>,
 ) -> Result<(), Fail>
-    requires rules { IsNamed N.rules crossing (span (pos 1339000) (pos 1339400)) }
+    requires rules { IsNamed N.rules long_crossing (span (pos 1339000) (pos 1339400)) }
     requires root { (terms ledger.now).root ≡ span (pos 1339000) (pos 1339400) }
     requires two { length entries.items ≡ 2 }
     requires all { length entries.items ≡ (terms ledger.now).seats }
@@ -327,7 +328,7 @@ fn leave_nothing<N: Naming + Send + Sync, R: Abort + Threads + Wait + Sync>(
     ledger: &SpanLedger,
     entries: Vec<LedgerSeat>,
 ) -> Result<(), Fail>
-    requires rules { IsNamed N.rules crossing (span (neg_ℤ (pos 43200)) (pos 2721600)) }
+    requires rules { IsNamed N.rules long_crossing (span (neg_ℤ (pos 43200)) (pos 2721600)) }
     requires root { (terms ledger.now).root ≡ span (neg_ℤ (pos 43200)) (pos 2721600) }
     requires four { length entries.items ≡ 4 }
     requires all { length entries.items ≡ (terms ledger.now).seats }

@@ -4,7 +4,6 @@ use Rattle.spec_ephemeris.specs.Granules.{series_of}
 use Rattle.spec_motions.specs.Sums.{coefficient}
 use Rattle.spec_motions.proofs.GranuleSeries.{series_length}
 use Rattle.cheby_enclose.specs.Pairs.{term_of}
-use Rattle.cheby_enclose.specs.Pairs.{ArePairs}
 use Rattle.cheby_enclose.proofs.TermLists.{ArePairs-axis, terms_of_axis}
 use Rattle.cheby_enclose.proofs.terms.Terms.of.Goals as goal
 use Rattle.cheby_enclose.proofs.terms.Terms.of.Goals.{Start}

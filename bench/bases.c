@@ -15,32 +15,54 @@ static wide greatest(wide a, wide b) { return a > b ? a : b; }
 static int64_t down(wide z, wide d) { return (int64_t)(z / d - (z % d < 0)); }
 static struct ends coarser(struct ends e, int k) { struct ends c = { e.lo >> k, -(-e.hi >> k) }; return c; }
 
-static struct ends next(struct ends x, struct ends e, struct ends extra, struct ends before, uint64_t limit) {
-    wide ac = (wide)x.lo * e.lo, ad = (wide)x.lo * e.hi, bc = (wide)x.hi * e.lo, bd = (wide)x.hi * e.hi;
-    wide low = (least(least(ac, ad), least(bc, bd)) >> 59) + extra.lo - before.hi;
-    wide high = -(-greatest(greatest(ac, ad), greatest(bc, bd)) >> 59) + extra.hi - before.lo;
-    struct ends n = { (int64_t)greatest(low, -(wide)limit), (int64_t)least(high, limit) };
+struct products { wide least, greatest; };
+
+static inline __attribute__((always_inline)) struct products products_of(int64_t a, int64_t b, int64_t c, int64_t d) {
+    struct products p;
+    if (a >= 0) {
+        p.least = (wide)(c >= 0 ? a : b) * c;
+        p.greatest = (wide)(d >= 0 ? b : a) * d;
+    } else if (b <= 0) {
+        p.least = (wide)(d >= 0 ? a : b) * d;
+        p.greatest = (wide)(c >= 0 ? b : a) * c;
+    } else if (c >= 0) {
+        p.least = (wide)a * d;
+        p.greatest = (wide)b * d;
+    } else if (d <= 0) {
+        p.least = (wide)b * c;
+        p.greatest = (wide)a * c;
+    } else {
+        p.least = least((wide)a * d, (wide)b * c);
+        p.greatest = greatest((wide)a * c, (wide)b * d);
+    }
+    return p;
+}
+
+static inline __attribute__((always_inline)) struct ends next(struct ends x, struct ends e, struct ends extra, struct ends before, int64_t limit) {
+    struct products p = products_of(x.lo, x.hi, e.lo, e.hi);
+    int64_t low = (int64_t)(p.least >> 59) + extra.lo - before.hi;
+    int64_t high = (int64_t)(-(-p.greatest >> 59)) + extra.hi - before.lo;
+    struct ends n = { low > -limit ? low : -limit, high < limit ? high : limit };
     return n;
 }
 
 static void fill(struct ends x, struct ends *t, struct ends *u, struct ends *q, struct ends *r) {
     struct ends none = { 0, 0 };
-    for (uint64_t k = 0; k < COEFFICIENTS; k++) {
-        if (k == 0) {
-            t[0] = (struct ends){ 1LL << 60, 1LL << 60 };
-            u[0] = (struct ends){ 1LL << 50, 1LL << 50 };
-            q[0] = r[0] = none;
-        } else if (k == 1) {
-            t[1] = x;
-            u[1] = coarser(x, 9);
-            q[1] = (struct ends){ 1LL << 46, 1LL << 46 };
-            r[1] = (struct ends){ 1LL << 45, 1LL << 45 };
-        } else {
-            t[k] = next(x, t[k - 1], none, t[k - 2], 1ULL << 60);
-            u[k] = next(x, u[k - 1], none, u[k - 2], (k + 1) << 50);
-            q[k] = next(x, q[k - 1], coarser(t[k - 1], 13), q[k - 2], (k * k) << 46);
-            r[k] = next(x, r[k - 1], coarser(u[k - 1], 5), r[k - 2], (k * (k + 1) * (k + 2) / 3) << 44);
-        }
+    struct ends t0 = { 1LL << 60, 1LL << 60 }, u0 = { 1LL << 50, 1LL << 50 }, q0 = none, r0 = none;
+    struct ends t1 = x, u1 = coarser(x, 9), q1 = { 1LL << 46, 1LL << 46 }, r1 = { 1LL << 45, 1LL << 45 };
+    t[0] = t0; t[1] = t1; q[0] = q0; q[1] = q1;
+    for (int64_t k = 2; k < COEFFICIENTS; k++) {
+        struct ends qn = next(x, q1, coarser(t1, 13), q0, (k * k) << 46);
+        struct ends tn = next(x, t1, none, t0, 1LL << 60);
+        t[k] = tn; q[k] = qn;
+        t0 = t1; t1 = tn; q0 = q1; q1 = qn;
+    }
+    u[0] = u0; u[1] = u1; r[0] = r0; r[1] = r1;
+    for (int64_t k = 2; k < COEFFICIENTS; k++) {
+        struct ends rn = next(x, r1, coarser(u1, 5), r0, (k * (k + 1) * (k + 2) / 3) << 44);
+        struct ends un = next(x, u1, none, u0, (k + 1) << 50);
+        u[k] = un; r[k] = rn;
+        u0 = u1; u1 = un; r0 = r1; r1 = rn;
     }
 }
 

@@ -1,5 +1,5 @@
-/* Products of intervals as measure_main makes them, in plain C with __int128: the ends of 64-bit size, the four
-   products, the least and the greatest of them, narrowed by the leading bit. Prints the same checksum. */
+/* Products of intervals as measure_main makes them, in plain C with __int128: the ends of 64-bit size, the least
+   and the greatest of the four products, narrowed by the leading bit. Prints the same checksum. */
 #include <stdint.h>
 #include <stdio.h>
 #include <stdlib.h>
@@ -26,9 +26,27 @@ static struct interval narrow(wide lo, wide hi, int32_t s) {
     return x;
 }
 
+/* The least and the greatest product by the signs of the ends: two products where one of the intervals has a sign. */
 static struct interval mul(struct interval x, struct interval y) {
-    wide ac = (wide)x.lo * y.lo, ad = (wide)x.lo * y.hi, bc = (wide)x.hi * y.lo, bd = (wide)x.hi * y.hi;
-    return narrow(least(least(ac, ad), least(bc, bd)), greatest(greatest(ac, ad), greatest(bc, bd)), x.s + y.s);
+    int64_t a = x.lo, b = x.hi, c = y.lo, d = y.hi;
+    wide lo, hi;
+    if (a >= 0) {
+        lo = (wide)(c >= 0 ? a : b) * c;
+        hi = (wide)(d >= 0 ? b : a) * d;
+    } else if (b <= 0) {
+        lo = (wide)(d >= 0 ? a : b) * d;
+        hi = (wide)(c >= 0 ? b : a) * c;
+    } else if (c >= 0) {
+        lo = (wide)a * d;
+        hi = (wide)b * d;
+    } else if (d <= 0) {
+        lo = (wide)b * c;
+        hi = (wide)a * c;
+    } else {
+        lo = least((wide)a * d, (wide)b * c);
+        hi = greatest((wide)a * c, (wide)b * d);
+    }
+    return narrow(lo, hi, x.s + y.s);
 }
 
 static struct interval from_decimal(int64_t mant) { /* mant * 10^-6 at exponent -24 */

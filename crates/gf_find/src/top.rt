@@ -73,7 +73,8 @@ pub fn finder<R: Threads + Wait + Sync, S: Shelf, O: Sink, E: Sink, G: Gate>(
 
     // A run that has a text writes it, and one that has a cause is refused, unless something failed or memory is out.
     ensures complete { (text : List ℕ) → IsSome (S.files shelf.old)
-        → HaveOutcome words.now (S.files shelf.old) (S.faults shelf.old) (S.faults shelf.new) (Ok text)
+        → HaveOutcome words.now (S.files shelf.old) (S.faults shelf.old) (S.faults shelf.new)
+        (Ok text)
         → (result ≡ REPORTED) ⊎ ((result ≡ OUT_OF_MEMORY)
         ⊎ (Rose (S.faults shelf.old) (S.faults shelf.new)
         ⊎ Rose (O.faults out.old) (O.faults out.new))) }

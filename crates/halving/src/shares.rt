@@ -161,11 +161,13 @@ fn walk_shares<R: Threads + Sync, J: Judge>(
     let (first, second) = join(
         rt,
         || -> Result<Vec<Leaf>, RunError>
-            requires { IsSync R.row × (0 < length left.now) × AreJudged (J.rules judge.now) left.now }
+            requires { IsSync R.row × (0 < length left.now)
+                × AreJudged (J.rules judge.now) left.now }
             ensures { IsWalk (leaves_of (J.rules judge.entry.now) left.entry.now) limit result }
         { walk_shares(rt, alloc, judge, left, limit) },
         || -> Result<Vec<Leaf>, RunError>
-            requires { IsSync R.row × (0 < length right.now) × AreJudged (J.rules judge.now) right.now }
+            requires { IsSync R.row × (0 < length right.now)
+                × AreJudged (J.rules judge.now) right.now }
             ensures { IsWalk (leaves_of (J.rules judge.entry.now) right.entry.now) limit result }
         { walk_shares(rt, alloc, judge, right, limit) },
     );

@@ -163,6 +163,31 @@ fn times(a: i64, b: i64) -> i128
     a as i128 * b as i128
 }
 
+/// Which of `a <= b` gives the lesser product with `z`. An end is chosen and then multiplied, so that no branch hangs on a
+/// sign that can't be foreseen.
+#[inline(always)]
+fn lesser_end(a: i64, b: i64, z: i64) -> i64
+    requires ordered { a ≤ℤ b }
+    requires a_small { unsigned_abs a ≤ end_limit }
+    requires b_small { unsigned_abs b ≤ end_limit }
+    ensures least { result *ℤ z ≡ int_min (a *ℤ z) (b *ℤ z) }
+    ensures small { unsigned_abs result ≤ end_limit }
+{
+    if z >= 0 { a } else { b }
+}
+
+/// Which of `a <= b` gives the greater product with `z`.
+#[inline(always)]
+fn greater_end(a: i64, b: i64, z: i64) -> i64
+    requires ordered { a ≤ℤ b }
+    requires a_small { unsigned_abs a ≤ end_limit }
+    requires b_small { unsigned_abs b ≤ end_limit }
+    ensures greatest { result *ℤ z ≡ int_max (a *ℤ z) (b *ℤ z) }
+    ensures small { unsigned_abs result ≤ end_limit }
+{
+    if z >= 0 { b } else { a }
+}
+
 /// The lesser of `a z` and `b z`, for `a <= b`.
 #[inline(always)]
 fn lesser_product(a: i64, b: i64, z: i64) -> i128
@@ -172,7 +197,7 @@ fn lesser_product(a: i64, b: i64, z: i64) -> i128
     requires z_small { unsigned_abs z ≤ end_limit }
     ensures { result ≡ int_min (a *ℤ z) (b *ℤ z) }
 {
-    if z >= 0 { times(a, z) } else { times(b, z) }
+    times(lesser_end(a, b, z), z)
 }
 
 /// The greater of `a z` and `b z`, for `a <= b`.
@@ -184,7 +209,7 @@ fn greater_product(a: i64, b: i64, z: i64) -> i128
     requires z_small { unsigned_abs z ≤ end_limit }
     ensures { result ≡ int_max (a *ℤ z) (b *ℤ z) }
 {
-    if z >= 0 { times(b, z) } else { times(a, z) }
+    times(greater_end(a, b, z), z)
 }
 
 /// The least and the greatest product, where 0 lies between `a` and `b`.

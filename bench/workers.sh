@@ -62,8 +62,8 @@ measure() {
         awk -v way="$way" -v a="$(milliseconds "$way" "$2")" -v single="$(milliseconds "${way%.*}.1" "$2")" \
             -v one="$one" 'BEGIN {
             split(way, part, ".")
-            printf "  %s, workers %d: %.3f ms, %.2f times as fast as 1 worker, %.2f times as one walk\n", \
-                part[1], part[2], a, single / a, one / a
+            printf "  %s, %d %s: %.3f ms, %.2f times as fast as with 1 worker, %.2f times as one walk\n", \
+                part[1], part[2], part[2] == 1 ? "worker" : "workers", a, single / a, one / a
         }'
     done
 }

@@ -142,7 +142,8 @@ pub(crate) fn events_of(leaves: &[Leaf]) -> usize {
 }
 
 /// The leaves of the search for an ask in an ephemeris, by such a walk; none where it can't be made, or where memory runs
-/// out. One walk judges each node once, 2 times the leaves less 1; workers judge those once more that are dealt to them.
+/// out. One walk judges each node once, 2 times the leaves less 1; a pool judges the root once more, and shares the nodes
+/// that are dealt.
 pub(crate) fn search<R: Threads + Wait + Sync>(
     rt: &R,
     alloc: Global,

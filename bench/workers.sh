@@ -1,67 +1,74 @@
 #!/bin/sh
-# Times searches by 1, 2 and 4 workers over FILE, JPL's text of a year of DE405, and by 1 and 4 over twenty years, the
-# blocks of FILE repeated with running dates, in one run. For each it prints the time that passes, and that of one worker
-# as a multiple of it. All numbers of workers have to write the same bytes. Run by hand on a machine with four processors
-# that are free, as `bench/workers.sh FILE PROGRAM..`: each PROGRAM is a build of `finder_main`, so that two ways to share
-# work can be seen side by side; where none is given, it is the one that `rt run` in crates/finder_main has built.
+# Times searches by 1, 2 and 4 workers over FILE, JPL's text of a year of DE405, and over twenty years, the blocks of FILE
+# repeated with running dates, in one run: by the pool, whose workers steal from one another, beside workers that walk
+# shares dealt before all begin, and beside one walk without threads. For each it prints the time that passes in a search,
+# without reading the file, and how many times as fast it is as with one worker and as one walk. All have to find the same
+# leaves. Run by hand on a machine with four processors that are free, as `bench/workers.sh FILE [PROGRAM]`, PROGRAM being
+# a build of `measure_main`; where none is given, the one that `rt run` in crates/measure_main has built.
 set -e
-[ -r "$1" ] || { echo "usage: bench/workers.sh FILE [PROGRAM..], FILE a text of DE405 by JPL" >&2; exit 2; }
+[ -r "$1" ] || { echo "usage: bench/workers.sh FILE [PROGRAM], FILE a text of DE405 by JPL" >&2; exit 2; }
 year=$(realpath "$1")
-shift
 here=$(realpath "$(dirname "$0")")
-[ $# -gt 0 ] || set -- "$here/../crates/finder_main/out/finder_main"
+program=$(realpath -m "${2:-$here/../crates/measure_main/out/measure_main}")
+[ -x "$program" ] || { echo "build it first: cd crates/measure_main && rt run" >&2; exit 1; }
 work=$(mktemp -d)
 trap 'rm -rf "$work"' EXIT
 years=$work/years.asc
 python3 "$here/texts.py" blocks 228 "$years" "$year"
+ways="search pool.1 pool.2 pool.4 shares.1 shares.2 shares.4"
 
-# Adds the time that passes in so many runs of a program to a file of times. The words are the file's name, the number
-# of runs, the program and its words.
+# Adds the time that passes, in nanoseconds, to a file of times. The words are a way to search, a kind, the rounds and a
+# file. The way is `search`, or `pool` or `shares` with the number of workers after a dot.
 run() {
-    times=$work/$1 count=$2
-    shift 2
-    /usr/bin/time -f %e -a -o "$times" sh -c \
-        'out=$1; n=$2; shift 2; while [ "$n" -gt 0 ]; do "$@" >"$out"; n=$((n - 1)); done' sh "$times.out" "$count" "$@"
-}
-
-least() {
-    sort -n "$work/$1" | head -n 1
-}
-
-# Of five turns of each number of workers the least time, less that of as many readings of the file. The words are a
-# program, a name of the search, the runs in a turn, a file and the numbers of workers.
-measure() {
-    program=$1 name=$2 count=$3 file=$4
-    shift 4
-    case $name in
-        conj) words="--kind conj --target moon --second sun --observer earth --frame ecl" ;;
-        *) words="--kind sep --target mercury --second venus --observer earth --ref 0.998" ;;
+    case $1 in
+        search) words="search $2" ;;
+        *) words="${1%.*} $2 ${1#*.}" ;;
     esac
+    from=$(date +%s%N)
+    # The words of the search are several.
+    # shellcheck disable=SC2086
+    "$program" $words "$3" "$4" >"$work/$1.out"
+    echo $(($(date +%s%N) - from)) >>"$work/$1.$3.times"
+}
+
+# The milliseconds of a search by a way in so many rounds: of all turns the least time, by which the machine's other work
+# counts least, less that of a run of one round, which is spent on reading the file and on the checksum.
+milliseconds() {
+    sort -n "$work/$1.$2.times" | head -n 1 >"$work/least"
+    sort -n "$work/$1.1.times" | head -n 1 >>"$work/least"
+    awk -v n="$2" 'NR == 1 { all = $1 } NR == 2 { printf "%.3f\n", (all - $1) / (n - 1) / 1e6 }' "$work/least"
+}
+
+# The leaves, the events and the checksum, which have to be those of one walk.
+found() {
+    awk '{ print $4, "leaves,", $6, "events, checksum", $8 }' "$work/$1.out"
+}
+
+# The words are a kind, the rounds, a file and its name.
+measure() {
+    rm -f "$work"/*.times
     for turn in 1 2 3 4 5; do
-        run check "$count" "$program" check "$file"
-        for workers in "$@"; do
-            # The words of the search are several.
-            # shellcheck disable=SC2086
-            run "$workers" "$count" "$program" find $words --workers "$workers" "$file"
+        for way in $ways; do
+            run "$way" "$1" 1 "$3"
+            run "$way" "$1" "$2" "$3"
         done
     done
-    for workers in "$@"; do
-        cmp "$work/1.out" "$work/$workers.out"
-        awk -v a="$(least "$workers")" -v one="$(least 1)" -v check="$(least check)" -v n="$count" -v name="$name" \
-            -v w="$workers" -v last="$(tail -n 1 "$work/1.out")" 'BEGIN {
-            printf "  %s, %d workers: %.1f ms, %.2f times as fast as one (%s)\n", \
-                name, w, (a - check) / n * 1e3, (one - check) / (a - check), last
+    echo "$1 over $4: $(found search)"
+    one=$(milliseconds search "$2")
+    echo "  one walk: $one ms"
+    for way in $ways; do
+        [ "$(found "$way")" = "$(found search)" ] || { echo "$1 over $4: $way differs" >&2; exit 1; }
+        [ "$way" != search ] || continue
+        awk -v way="$way" -v a="$(milliseconds "$way" "$2")" -v single="$(milliseconds "${way%.*}.1" "$2")" \
+            -v one="$one" 'BEGIN {
+            split(way, part, ".")
+            printf "  %s, %d %s: %.3f ms, %.2f times as fast as with 1 worker, %.2f times as one walk\n", \
+                part[1], part[2], part[2] == 1 ? "worker" : "workers", a, single / a, one / a
         }'
     done
-    rm -f "$work"/check* "$work"/[0-9]*
 }
 
-for program in "$@"; do
-    [ -x "$program" ] || { echo "build it first: cd crates/finder_main && rt run" >&2; exit 1; }
-    echo "$program over a year"
-    measure "$program" sep 20 "$year" 1 2 4
-    measure "$program" conj 20 "$year" 1 2 4
-    echo "$program over twenty years"
-    measure "$program" sep 2 "$years" 1 4
-    measure "$program" conj 2 "$years" 1 4
-done
+measure sep 100 "$year" "a year"
+measure conj 800 "$year" "a year"
+measure sep 8 "$years" "twenty years"
+measure conj 60 "$years" "twenty years"

@@ -12,7 +12,9 @@ mod products;
 mod reading;
 mod searches;
 mod telling;
+mod walks;
 mod words;
+mod workers;
 
 use bases::bases;
 use functions::Function;
@@ -21,9 +23,13 @@ use products::products;
 use searches::ask_of;
 use spec_kinds::Ask;
 use std::process::ExitCode;
+use std::sync::Wait;
+use std::thread::Threads;
 use std::{env, fs, io};
 use telling::{tell_enclosures, tell_searches};
+use walks::Walk;
 use words::words;
+use workers::Workers;
 
 // A piece of work, and how often it is done.
 #[derive(Drop)]
@@ -32,7 +38,7 @@ enum Work {
     Enclosures(Function, u32, String),
     Positions(u32),
     Products(u32),
-    Searches(Ask, u32, String),
+    Searches(Ask, Walk, u32, String),
     Words(u32, String),
 }
 
@@ -58,8 +64,30 @@ fn work_on(name: &str, rounds: &str, file: String) -> Option<Work> {
 }
 
 // The search for the events of a kind in a file.
-fn work_of_search(name: &str, rounds: &str, file: String) -> Option<Work> {
-    Some(Work::Searches(ask_of(name)?, rounds.parse::<u32>().ok()?, file))
+fn work_of_search(name: &str, walk: Walk, rounds: &str, file: String) -> Option<Work> {
+    let rounds = rounds.parse::<u32>().ok()?;
+    Some(Work::Searches(ask_of(name)?, walk, rounds, file))
+}
+
+// A walk by workers.
+fn walk_of(name: &str, workers: &str) -> Option<Walk> {
+    let workers = Workers::new(workers.parse::<u32>().ok()?)?;
+    match name {
+        "pool" => Some(Walk::Pool(workers)),
+        "shares" => Some(Walk::Shares(workers)),
+        _ => None,
+    }
+}
+
+// The search by workers for the events of a kind in a file.
+fn work_of_workers(
+    walk: &str,
+    name: &str,
+    workers: &str,
+    rounds: &str,
+    file: String,
+) -> Option<Work> {
+    work_of_search(name, walk_of(walk, workers)?, rounds, file)
 }
 
 // What the words of the command line ask for.
@@ -72,8 +100,15 @@ fn work_of_words(rt: &HostRuntime) -> Result<Option<Work>, io::Error> {
         [name, rounds] => Ok(work_of(name.as_str(), rounds.as_str())),
         [name, rounds, file] => Ok(work_on(name.as_str(), rounds.as_str(), file.clone()?)),
         [search, name, rounds, file] if search.as_str() == "search" => {
-            Ok(work_of_search(name.as_str(), rounds.as_str(), file.clone()?))
+            Ok(work_of_search(name.as_str(), Walk::One, rounds.as_str(), file.clone()?))
         }
+        [walk, name, workers, rounds, file] => Ok(work_of_workers(
+            walk.as_str(),
+            name.as_str(),
+            workers.as_str(),
+            rounds.as_str(),
+            file.clone()?,
+        )),
         _ => Ok(None),
     }
 }
@@ -106,16 +141,18 @@ fn measure_enclosures(
     Ok(ExitCode::from(2))
 }
 
-fn measure_searches(
-    rt: &HostRuntime,
+fn measure_searches<R: Threads + Wait + Sync>(
+    host: &HostRuntime,
+    rt: &R,
     ask: Ask,
+    walk: Walk,
     rounds: u32,
     file: String,
 ) -> Result<ExitCode, io::Error> {
-    if tell_searches(rt, &ask, rounds, file)? {
+    if tell_searches(host, rt, &ask, walk, rounds, file)? {
         return Ok(ExitCode::from(0));
     }
-    eprintln!(rt; "measure_main: the file is no ephemeris of the bodies of the search")?;
+    eprintln!(host; "measure_main: the file is no ephemeris of the bodies of the search")?;
     Ok(ExitCode::from(2))
 }
 
@@ -136,13 +173,13 @@ fn main(rt: HostRuntime) -> Result<ExitCode, io::Error> {
             let sum = products(rt.alloc(), rounds)?;
             println!(&rt; "products {rounds} checksum {sum}")?;
         }
-        Some(Work::Searches(ask, rounds, file)) => {
-            return measure_searches(&rt, ask, rounds, file);
+        Some(Work::Searches(ask, walk, rounds, file)) => {
+            return measure_searches(&rt, &rt, ask, walk, rounds, file);
         }
         Some(Work::Words(rounds, file)) => return tell_words(&rt, rounds, file.as_str()),
         None => {
             eprintln!(&rt;
-                "measure_main: bases, positions or products ROUNDS; conj, sep or words ROUNDS FILE; or search KIND ROUNDS FILE"
+                "measure_main: bases, positions or products ROUNDS; conj, sep or words ROUNDS FILE; search KIND ROUNDS FILE; or pool or shares KIND WORKERS ROUNDS FILE, with 1 to 64 workers"
             )?;
             return Ok(ExitCode::from(2));
         }

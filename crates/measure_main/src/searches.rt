@@ -8,17 +8,20 @@ ghost use Rattle.spec_kinds.specs.Asks.{IsAsk};
 ghost use Rattle.spec_kinds.specs.Faults.{fault_of};
 
 use crate::checksums::checksum;
+use crate::walks::{Walk, leaves_by};
 use body_states::BodyStates;
 use eph_model::{Body, Ephemeris};
 use event_judge::EventJudge;
 use event_kinds::{Event, event, is_ask};
 use gf_hooks::{CutRule, Cutter, rule_cut};
-use halving::{Leaf, Mark, Node, run_one};
+use halving::{Leaf, Mark, Node};
 use spec_bodies::Frame;
 use spec_events::Dir;
 use spec_kinds::{Ask, Kind};
 use spec_text::Decimal;
 use std::alloc::Global;
+use std::sync::Wait;
+use std::thread::Threads;
 
 const ZERO: Decimal = Decimal { mant: 0, exp: 0 };
 
@@ -97,7 +100,14 @@ pub(crate) fn states_of<'e>(ephemeris: &'e Ephemeris, ask: &Ask) -> BodyStates<'
 }
 
 // The leaves of the whole span of an ephemeris, for an ask that has no fault in it.
-fn leaves(alloc: Global, ephemeris: &Ephemeris, ask: &Ask, event: Event) -> Option<Vec<Leaf>>
+fn leaves<R: Threads + Wait + Sync>(
+    rt: &R,
+    alloc: Global,
+    ephemeris: &Ephemeris,
+    ask: &Ask,
+    event: Event,
+    walk: Walk,
+) -> Option<Vec<Leaf>>
     requires block { 0 < ephemeris.now.blocks }
     requires span { ephemeris.now.start <ℤ end_of ephemeris.now }
     requires ask { IsAsk ask.now }
@@ -120,7 +130,7 @@ fn leaves(alloc: Global, ephemeris: &Ephemeris, ask: &Ask, event: Event) -> Opti
         b: ephemeris.end(),
         depth: 0,
     };
-    run_one(alloc, &judge, root, u32::MAX).ok()
+    leaves_by(rt, alloc, &judge, root, walk)
 }
 
 /// How many leaves hold an event.
@@ -131,14 +141,21 @@ pub(crate) fn events_of(leaves: &[Leaf]) -> usize {
         .count()
 }
 
-/// The leaves of the search for an ask in an ephemeris; none where it can't be made, or where memory runs out. Each node
-/// is judged once, so that 2 times the leaves less 1 are judged.
-pub(crate) fn search(alloc: Global, ephemeris: &Ephemeris, ask: &Ask) -> Option<Vec<Leaf>> {
+/// The leaves of the search for an ask in an ephemeris, by such a walk; none where it can't be made, or where memory runs
+/// out. One walk judges each node once, 2 times the leaves less 1; a pool judges the root once more, and shares the nodes
+/// that are dealt.
+pub(crate) fn search<R: Threads + Wait + Sync>(
+    rt: &R,
+    alloc: Global,
+    ephemeris: &Ephemeris,
+    ask: &Ask,
+    walk: Walk,
+) -> Option<Vec<Leaf>> {
     if ephemeris.blocks() == 0 || ephemeris.end() <= ephemeris.start() || !is_ask(ask) {
         return None;
     }
     let event = event(alloc, ephemeris, ask).ok()?;
-    leaves(alloc, ephemeris, ask, event)
+    leaves(rt, alloc, ephemeris, ask, event, walk)
 }
 
 /// The checksum of leaves, and of what is known of the function and the guards of an ask over them; none where there are

@@ -18,13 +18,14 @@ use Rattle.spec_pool.specs.History.{FitsPart, Lies, Sound, part_of}
 use Rattle.span_ledger.specs.declared.desk.LedgerSeat.{LedgerSeat}
 use Rattle.span_ledger.specs.declared.desk.SpanLedger.{SpanLedger}
 use Rattle.span_ledger.specs.Seats.{AllFit, IsSeatOf, part, seat_table, table_of, terms}
-use Rattle.steal_pool.specs.Seats.{Seat, entered_by, rules_within}
+use Rattle.steal_pool.specs.Seats.{SameSeat, Seat, entered_by, rules_within, ways}
 use Rattle.std.specs.Global.{Global}
 use Rattle.steal_pool.specs.declared.finishing.FinishError.{FinishError}
 use Rattle.steal_pool.specs.declared.finishing.FinishError.TheVariants.{TooMany, Memory}
 use Rattle.steal_pool.specs.declared.seat.PoolError.{PoolError}
-use Rattle.steal_pool.specs.Pools.{AllBegin, Begins, ComeBack, IfTooMany, IsLeftOver, IsRefused, entered_in}
+use Rattle.steal_pool.specs.Pools.{AllBegin, AreLinked, Begins, Beside, ComeBack, Linked, IfTooMany, IsLeftOver, IsRefused, entered_in}
 use Rattle.steal_pool.specs.Runs.{AreAll, AreFree, AreSeatsOf, HasSeenAll, HaveEntered, IsLater, IsOverfull, IsSeatAt}
+use Rattle.steal_pool.proofs.Listing.{all_left, all_right, beside_get, beside_map, beside_push, beside_self}
 use Rattle.steal_pool.proofs.Booking.{Fit, Numbered, book_in_order, more_than, parts_entered}
 
 -- ---- lists by place
@@ -46,13 +47,33 @@ before t (x ∷ xs) [] z k q at = absurd z
 before t (x ∷ xs) (y ∷ ys) z zero q at = let same : y ≡ q = cc in (x, refl, subst (λ (v : Seat). IsLater t x v) same z.0)
 before t (x ∷ xs) (y ∷ ys) z (suc k) q at = before t xs ys z.1 k q at
 
-seat_at : (t : Rules) (ledger : SpanLedger) (root : Node) (k : ℕ) (hand : Option Node) (s q : Seat) → Begins ledger k hand s → IsLater t s q → IsSeatAt ledger k q
-seat_at t ledger root k hand s q b l =
-    (l.same.table ∙ b.table, l.same.terms ∙ b.terms, l.same.number ∙ ap (λ (p : Part). p.number) b.part)
+seat_at : (ledger : SpanLedger) (k : ℕ) (hand : Option Node) (s q : Seat) → Begins ledger k hand s → SameSeat s q → IsSeatAt ledger k q
+seat_at ledger k hand s q b same = (same.table ∙ b.table, same.terms ∙ b.terms, same.number ∙ ap (λ (p : Part). p.number) b.part)
 
 pub begin_seats : (t : Rules) (ledger : SpanLedger) (root : Node) (ss qs : List Seat) → AllBegin ledger root ss → AllZip (IsLater t) ss qs → AreSeatsOf ledger qs
 begin_seats t ledger root ss qs b z k q at =
-    let r = before t ss qs z k q at in seat_at t ledger root k _ r.0 q (b k r.0 r.1) r.2
+    let r = before t ss qs z k q at in seat_at ledger k _ r.0 q (b k r.0 r.1) r.2.same
+
+-- ---- seats that are taken out of the list of all one by one, from its end, and put back
+pub free_last : (ss front : List Seat) (s : Seat) → AreFree ss → ss ≡ front ++ s ∷ [] → AreFree front × (s.refusal ≡ None)
+free_last ss front s all e =
+    let split : AreFree (front ++ s ∷ []) = subst AreFree e all in
+    (all_left (λ (x : Seat). x.refusal ≡ None) front (s ∷ []) split, (all_right (λ (x : Seat). x.refusal ≡ None) front (s ∷ []) split).0)
+
+pub same_last : (ss qs front back : List Seat) (s q : Seat) → Beside SameSeat front back → SameSeat s q → ss ≡ front ++ s ∷ [] → qs ≡ back ++ q ∷ [] → Beside SameSeat ss qs
+same_last ss qs front back s q b same e f =
+    subst (λ (xs : List Seat). Beside SameSeat xs qs) (sym e) (subst (Beside SameSeat (front ++ s ∷ [])) (sym f) (beside_push SameSeat front back s q b same))
+
+pub same_all : (ss : List Seat) → Beside SameSeat ss ss
+same_all ss = beside_self SameSeat ss (λ s. record { ways = refl; table = refl; terms = refl; number = refl })
+
+pub same_linked : (ss qs : List Seat) → Beside SameSeat ss qs → AreLinked ss → AreLinked qs
+same_linked ss qs b l =
+    subst Linked (sym (beside_map SameSeat (λ (s : Seat). ways s.worker) (λ (s : Seat). ways s.worker) ss qs (λ s q c. c.ways) b)) l
+
+pub same_seats : (ledger : SpanLedger) (root : Node) (ss qs : List Seat) → AllBegin ledger root ss → Beside SameSeat ss qs → AreSeatsOf ledger qs
+same_seats ledger root ss qs b z k q at =
+    let r = beside_get SameSeat ss qs k q z at in seat_at ledger k _ r.0 q (b k r.0 r.1) r.2
 
 -- ---- coming back
 same_head : {A : Type 0} (x y : A) (xs ys : List A) → x ∷ xs ≡ y ∷ ys → (x ≡ y) × (xs ≡ ys)

@@ -121,7 +121,7 @@ pub(crate) fn worked<'p, R: Threads + Wait + Sync, N: Naming + Send + Sync, J: J
 }
 
 // The book of a ledger, all of whose seats have come back.
-fn closed(ledger: SpanLedger, seats: Vec<LedgerSeat>) -> Book
+pub(crate) fn closed(ledger: SpanLedger, seats: Vec<LedgerSeat>) -> Book
     requires all { AreAll ledger seats.items }
     ensures root { result.root ≡ (terms ledger).root }
     ensures sound { Sound (terms ledger) result.entries.items }

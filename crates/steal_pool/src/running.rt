@@ -152,7 +152,10 @@ fn book_of<N: Naming>(
     ensures too_many { result ≡ Err TooMany → (terms ledger).limit < leaf_count N.rules root }
 {
     match ended {
-        Ok(seats) => Ok(closed(ledger, seats)),
+        Ok(seats) => {
+            let book = closed(ledger, seats);
+            Ok(book)
+        }
         Err(FinishError::TooMany { seats, leaf: _ }) => {
             let _book = closed(ledger, seats);
             Err(PoolError::TooMany)

@@ -1,5 +1,5 @@
 -- Passes that are joined.
-use Rattle.std.proofs.Common.{◌≡◌, ◌≢◌, ◌⊎◌, inl, inr, ℕ, zero, suc, ◌+◌, ◌-◌, ◌<◌, List, [], ◌∷◌, ◌++◌, map, length, Option, Some, None, slice_get, slice_set, get_or, IsPermutation, refl, sym, ap, ◌∙◌, subst, arith}
+use Rattle.std.proofs.Common.{◌≡◌, inl, inr, ℕ, ◌+◌, ◌<◌, List, [], ◌∷◌, ◌++◌, map, length, Some, slice_get, slice_set, get_or, refl, sym, ap, ◌∙◌, subst, arith}
 use Rattle.std.proofs.lemmas.Bool.{cases_eq}
 use Rattle.std.proofs.lemmas.Option.{slice_get-get_or}
 use Rattle.std.proofs.lemmas.List.Sorted.{IsPermutation-refl, IsPermutation-trans}
@@ -8,9 +8,9 @@ use Rattle.spec_trees.specs.declared.tree.Node.{Node}
 use Rattle.spec_pool.proofs.Finding.{nodes_permuted}
 use Rattle.spec_pool.proofs.Weights.{weigh, weigh-append, weigh-set}
 use Rattle.steal_pool.specs.Rule.{DequeId, End}
-use Rattle.steal_pool.specs.Workers.{Gives, Holder, with_passes}
+use Rattle.steal_pool.specs.Workers.{Holder}
 use Rattle.steal_pool.specs.Seats.{Seat, Ways, place_of, ways, with_worker}
-use Rattle.steal_pool.specs.Pools.{AreLinked, IsOwned, Linked, taken_of, ways_of_all}
+use Rattle.steal_pool.specs.Pools.{AreLinked, Linked, taken_of, ways_of_all}
 use Rattle.steal_pool.specs.Passes.{GivesPass, HasNoPass, HasNoPassAt, Joined, JoinsLast, NoPassBefore, joined, lasting, lasting_of}
 use Rattle.steal_pool.proofs.Accounts.{taken_weight}
 use Rattle.steal_pool.proofs.Together.{taken_of_weigh, taken_sum}

@@ -1,12 +1,12 @@
 // All leaves of a root, entered by workers that run at once.
 ghost use Rattle.std.specs.Prelude.{◌≡◌, ◌<◌, ◌≤◌, Some, None, Ok, Err, IfOk, IfErr, length, slice_get, slice_index_or, ℕ};
-ghost use Rattle.std.specs.List.{AllByRecursion, AllZip};
+ghost use Rattle.std.specs.List.{AllByRecursion};
 ghost use Rattle.spec_trees.specs.Tree.{IsSound, IsValid, leaf_count, leaves};
 ghost use Rattle.spec_trees.specs.Order.{CoverRoot, ordered_leaves};
 ghost use Rattle.spec_pool.specs.History.{Sound};
 ghost use Rattle.span_ledger.specs.Seats.{AllFit, AreNew, terms};
 ghost use Rattle.steal_pool.specs.Seats.{IsLeft, IsNamed, Seat};
-ghost use Rattle.steal_pool.specs.Pools.{AccountFor, AreLinked, IfTooMany};
+ghost use Rattle.steal_pool.specs.Pools.{AccountFor, AreLinked, Beside, IfTooMany};
 ghost use Rattle.steal_pool.specs.Runs.{AreAll, AreFree, AreSeatsOf, HasWorked, HaveEntered, IsLater, IsOverfull};
 ghost use Rattle.steal_pool.specs.declared.seat.PoolError.TheVariants.{TooMany};
 
@@ -85,7 +85,7 @@ fn begin_and_work<R: Threads + Wait + Sync, N: Naming + Send + Sync, J: Judge, G
     requires hand { (s : Seat) → slice_get seats.old 0 ≡ Some s → s.worker.hand ≡ Some root }
     requires valid { IsValid N.rules root }
     requires free { AreFree seats.old }
-    ensures later { AllZip (IsLater N.rules) seats.old seats.new }
+    ensures later { Beside (IsLater N.rules) seats.old seats.new }
     ensures left { AllByRecursion (IsLeft N.rules) seats.new }
 {
     let shared = seats.len() > 1;

@@ -1,8 +1,9 @@
 use Rattle.std.proofs.Common.{◌≡◌, inl, inr, None, refl, arith, slice_index_or}
 use Rattle.steal_pool.specs.Seats.{IsLeft, Seat}
-use Rattle.steal_pool.specs.Closing.{Changes, HasUsedUp}
-use Rattle.steal_pool.proofs.Listing.{all_get, all_set, beside_self}
-use Rattle.steal_pool.proofs.Scanning.{at_get, before_all, before_none, before_set, change_one, changes_self, refused, stops, went}
+use Rattle.steal_pool.specs.Closing.{HasUsedUp}
+use Rattle.steal_pool.proofs.Pooling.{idle_all}
+use Rattle.steal_pool.proofs.Listing.{all_get, all_set}
+use Rattle.steal_pool.proofs.Scanning.{at_get, before_all, before_none, before_set, change_one, refused, stops, went}
 use Rattle.steal_pool.proofs.finishing.work_off.Goals as goal
 
 abbrev IsFree : Seat → Type 0
@@ -10,7 +11,7 @@ IsFree s = s.refusal ≡ None
 
 pub returns-then-not-keep_none : goal.returns-then-not-keep_none
 returns-then-not-keep_none g c = record {
-  changes = beside_self (Changes g.N.Naming.rules) c.args.seats.now (changes_self g.N.Naming.rules);
+  changes = idle_all g.N.Naming.rules c.args.seats.now;
   left = c.requires.left;
   used = λ all. absurd (c.if-not-keep_none.ensures.some refl all);
   refusals = inr refl;
@@ -18,7 +19,7 @@ returns-then-not-keep_none g c = record {
 
 pub loop-i-init : goal.loop-i-init
 loop-i-init g c = record {
-  changes = beside_self (Changes g.N.Naming.rules) c.args.seats.now (changes_self g.N.Naming.rules);
+  changes = idle_all g.N.Naming.rules c.args.seats.now;
   left = c.requires.left;
   free = c.if-not-keep_none.ensures.all refl;
   used = before_none HasUsedUp c.args.seats.now;

@@ -1,5 +1,4 @@
 use Rattle.std.proofs.Common.{ap, ◌∙◌, Err}
-use Rattle.spec_pool.specs.declared.ledger.Terms.{Terms}
 use Rattle.span_ledger.specs.Seats.{terms}
 use Rattle.steal_pool.specs.Runs.{AreAll, HaveEntered, IsOverfull}
 use Rattle.steal_pool.proofs.Returning.{closed_in_order, closed_too_many, ok_of, full_of}

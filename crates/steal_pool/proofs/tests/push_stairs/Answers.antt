@@ -1,9 +1,10 @@
-use Rattle.std.proofs.Common.{refl, ◌∙◌}
+use Rattle.std.proofs.Common.{◌∙◌}
 use Rattle.steal_pool.proofs.Entering.{same_more}
+use Rattle.steal_pool.proofs.Pooling.{same_self}
 use Rattle.steal_pool.proofs.tests.push_stairs.Goals as goal
 
 pub loop-init : goal.loop-init
-loop-init g c = record { same = record { ways = refl; table = refl; terms = refl; number = refl }; free = c.requires.free }
+loop-init g c = record { same = same_self c.args.seat.now; free = c.requires.free }
 
 pub loop-preserved : goal.loop-preserved
 loop-preserved g c = record {

@@ -1,7 +1,8 @@
 -- Walks over the seats of a pool at its end.
-use Rattle.std.proofs.Common.{◌≡◌, inl, inr, Bool, true, false, ℕ, zero, suc, ◌+◌, ◌<◌, ◌≤◌, List, [], ◌∷◌, length, Some, None, Result, Ok, Err, IfErr, OnOk, slice_get, slice_set, get_or, refl, sym, ap, ◌∙◌, subst, arith}
+use Rattle.std.proofs.Common.{◌≡◌, inl, inr, Bool, true, false, ℕ, ◌+◌, ◌<◌, ◌≤◌, List, length, Some, None, Result, Ok, Err, IfErr, OnOk, slice_get, slice_set, get_or, sym, ap, ◌∙◌, subst, arith}
 use Rattle.std.specs.Result.{is_err}
 use Rattle.std.proofs.lemmas.Bool.{cases_eq}
+use Rattle.std.proofs.lemmas.Option.{slice_get-get_or}
 use Rattle.std.specs.List.{AllByRecursion}
 use Rattle.spec_trees.specs.declared.tree.Leaf.{Leaf}
 use Rattle.spec_trees.specs.declared.tree.Mark.{Mark}
@@ -22,13 +23,8 @@ abbrev pub Before : {A : Type 0} → (A → Type 0) → ℕ → List A → Type 
 Before {A = A} P n xs = (k : ℕ) (x : A) → slice_get xs k ≡ Some x → k < n → P x
 
 module _ {A : Type 0} where
-  pub at_get : (xs : List A) (i : ℕ) (d : A) → i < length xs → slice_get xs i ≡ Some (get_or xs i d)
-  at_get [] i d h = absurd (omega arith)
-  at_get (x ∷ xs) zero d h = refl
-  at_get (x ∷ xs) (suc i) d h = at_get xs i d (omega (arith, h))
-
   pub at_index : (xs : List A) (i : ℕ) (x : A) → i < length xs → x ≡ get_or xs i x → slice_get xs i ≡ Some x
-  at_index xs i x h e = at_get xs i x h ∙ ap Some (sym e)
+  at_index xs i x h e = slice_get-get_or xs i x h ∙ ap Some (sym e)
 
   pub before_none : (P : A → Type 0) (xs : List A) → Before P 0 xs
   before_none P xs k x at h = absurd (omega (arith, h))

@@ -71,9 +71,6 @@ module _ (t : Rules) (root : Node) (ss : List Seat) where
     taken_of_weigh (by_leaves t h) ss,
   )
 
-  Weighed : Type 0
-  Weighed = (h : Leaf → ℕ) → entered_sum h ss + own_sum t h ss + put_sum (by_leaves t h) ss ≡ by_leaves t h root + taken_sum (by_leaves t h) ss
-
   pub account_weighs : AccountFor t root ss → (h : Leaf → ℕ) → entered_sum h ss + own_sum t h ss + put_sum (by_leaves t h) ss ≡ by_leaves t h root + taken_sum (by_leaves t h) ss
   account_weighs p h = omega (arith, same_weights h had came p, had_weigh h, came_weigh h)
 

@@ -1,5 +1,5 @@
 -- Seats that are opened, and get their passes.
-use Rattle.std.proofs.Common.{◌≡◌, ◌≢◌, ◌⊎◌, inl, inr, ℕ, zero, suc, ◌+◌, ◌<◌, ◌≤◌, ◌==◌, List, [], ◌∷◌, ◌++◌, map, flat_map, length, Option, Some, None, slice_get, slice_set, sum_by, get_or, slice_index_or, if◌then◌else◌, nat_lt, append_assoc, refl, sym, ap, ◌∙◌, subst, arith}
+use Rattle.std.proofs.Common.{◌≡◌, ◌≢◌, inl, inr, ℕ, suc, ◌+◌, ◌<◌, ◌==◌, List, [], ◌∷◌, ◌++◌, map, flat_map, length, Option, Some, slice_get, slice_set, sum_by, if◌then◌else◌, append_assoc, refl, sym, ap, ◌∙◌, subst, arith}
 use Rattle.std.proofs.lemmas.Bool.{cases_eq}
 use Rattle.std.proofs.lemmas.Bool.Decides.{nat_tests}
 use Rattle.std.proofs.lemmas.Option.{get_or_from_slice_get}
@@ -7,17 +7,17 @@ use Rattle.std.specs.List.{AllByRecursion}
 use Rattle.spec_trees.specs.declared.tree.Node.{Node}
 use Rattle.spec_pool.specs.declared.ledger.Part.{Part}
 use Rattle.spec_pool.specs.History.{part_of}
-use Rattle.spec_pool.proofs.Weights.{weigh, sum_is_weigh}
+use Rattle.spec_pool.proofs.Weights.{sum_is_weigh}
 use Rattle.span_ledger.specs.declared.desk.LedgerSeat.{LedgerSeat}
 use Rattle.span_ledger.specs.declared.desk.SpanLedger.{SpanLedger}
 use Rattle.span_ledger.specs.Seats.{AreNew, IsSeatOf, part, table_of, terms}
-use Rattle.steal_pool.specs.Rule.{DequeId, End, opening, view_of}
+use Rattle.steal_pool.specs.Rule.{DequeId, End}
 use Rattle.steal_pool.specs.declared.view.View.{View}
-use Rattle.steal_pool.specs.Workers.{Holder, new_pass, taken_by}
+use Rattle.steal_pool.specs.Workers.{new_pass}
 use Rattle.steal_pool.specs.Seats.{NewSeat, Seat, Ways, place_of, ways}
 use Rattle.steal_pool.specs.Pools.{AllBegin, AreLinked, Begins, Beside, HaveAllPasses, IsOwned, Linked, first_hand, other_numbers, pass_numbers, passes_on, ways_of_all}
 use Rattle.steal_pool.specs.Passes.{Linking, Links, LinksOther, Opens, gained, lent, numbers_so_far}
-use Rattle.steal_pool.proofs.Listing.{all_each, beside_get, beside_length, get_same, get_other, keep_each, one_some, weigh_none, within, map_push, map_set, map_at, map_from, set_length}
+use Rattle.steal_pool.proofs.Listing.{all_each, beside_get, get_same, get_other, keep_each, one_some, weigh_none, within, map_push, map_set, map_at, map_from, set_length}
 use Rattle.steal_pool.proofs.Linking.{linked_more}
 
 -- ---- the numbers of the passes

@@ -1,9 +1,8 @@
 -- The book that is closed after a run holds the root's leaves, each once.
-use Rattle.std.proofs.Common.{◌≡◌, ◌≢◌, inl, inr, ◌⊎◌, ℕ, zero, suc, ◌+◌, ◌<◌, ◌≤◌, ◌==◌, ◌++◌, Bool, true, false, if◌then◌else◌, nat_lt, ℤ, ◌-ℤ◌, ◌<ℤ◌, List, [], ◌∷◌, map, flat_map, length, All, Option, Some, None, slice_get, IsPermutation, refl, sym, ap, ◌∙◌, subst, arith}
+use Rattle.std.proofs.Common.{◌≡◌, ℕ, zero, suc, ◌+◌, ◌<◌, ◌≤◌, ◌==◌, ◌++◌, Bool, true, false, if◌then◌else◌, nat_lt, ℤ, ◌-ℤ◌, ◌<ℤ◌, List, [], ◌∷◌, flat_map, length, IsPermutation, refl, sym, ap, ◌∙◌, subst, arith}
 use Rattle.std.proofs.lemmas.Int.{ints}
 use Rattle.std.proofs.lemmas.Bool.Decides.{nat_tests}
 use Rattle.std.specs.Int.RustNames.{unsigned_abs}
-use Rattle.std.proofs.lemmas.List.Elements.{recursion_from_All}
 use Rattle.std.specs.List.{AllByRecursion}
 use mathlib.Core.Option as M
 use lib.ListN.{get_elem?}
@@ -11,11 +10,11 @@ use Rattle.spec_trees.specs.declared.book.Booked.{Booked}
 use Rattle.spec_trees.specs.declared.tree.Leaf.{Leaf}
 use Rattle.spec_trees.specs.declared.tree.Node.{Node}
 use Rattle.spec_trees.specs.Tree.{Covers, Rules, IsSound, IsValid, leaves}
-use Rattle.spec_trees.specs.Order.{booked_leaves, in_order, ordered_leaves}
+use Rattle.spec_trees.specs.Order.{booked_leaves, ordered_leaves}
 use Rattle.spec_trees.proofs.Covering.{leaves_cover}
 use Rattle.spec_trees.proofs.Rearranged.{rearranged_in_order}
 use Rattle.spec_pool.specs.declared.ledger.Part.{Part}
-use Rattle.spec_pool.specs.History.{AllStand, FitsPart, Stands, StartsWith, by_seat}
+use Rattle.spec_pool.specs.History.{AllStand, FitsPart, StartsWith, by_seat}
 use Rattle.spec_pool.proofs.Finding.{leaves_permuted}
 use Rattle.spec_pool.proofs.Weights.{weigh, weigh-append, weigh-flat, weigh-map, weigh-same}
 use Rattle.steal_pool.specs.Seats.{entered_by}

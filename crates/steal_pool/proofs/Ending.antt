@@ -1,9 +1,6 @@
 -- The end of a pool's work, and what its seats say together when they leave.
-use Rattle.std.proofs.Common.{◌≡◌, ◌≢◌, ◌⊎◌, inl, inr, ℕ, zero, suc, ◌+◌, ◌<◌, ◌≤◌, List, [], ◌∷◌, ◌++◌, map, length, Option, Some, None, slice_get, slice_set, sum_by, get_or, option_to_list, if◌then◌else◌, ◌==◌, IsPermutation, refl, sym, ap, ◌∙◌, subst, arith}
-use Rattle.std.proofs.lemmas.Bool.{cases_eq}
-use Rattle.std.proofs.lemmas.Option.{slice_get-get_or}
+use Rattle.std.proofs.Common.{◌≡◌, ◌≢◌, ◌⊎◌, inl, inr, ℕ, zero, suc, ◌+◌, ◌≤◌, List, [], ◌∷◌, ◌++◌, map, length, Option, Some, None, slice_get, sum_by, option_to_list, if◌then◌else◌, ◌==◌, IsPermutation, refl, sym, ap, ◌∙◌, subst, arith}
 use Rattle.std.specs.List.{AllByRecursion}
-use Rattle.atomic_table.specs.Seated.{TableId}
 use Rattle.spec_trees.specs.declared.tree.Node.{Node}
 use Rattle.spec_trees.specs.declared.tree.Leaf.{Leaf}
 use Rattle.spec_trees.specs.Tree.{Rules, leaves}
@@ -17,17 +14,18 @@ use Rattle.spec_pool.proofs.Moving.{hand_weigh, weigh_hand}
 use Rattle.spec_pool.proofs.Weights.{weigh, weigh-append, weigh-flat, weigh-map, weigh-same, sum_is_weigh}
 use Rattle.span_ledger.specs.declared.desk.LedgerSeat.{LedgerSeat}
 use Rattle.span_ledger.specs.Seats.{part}
-use Rattle.steal_pool.specs.declared.view.View.{View}
 use Rattle.steal_pool.specs.declared.seat.PoolError.{PoolError}
 use Rattle.steal_pool.specs.declared.seat.PoolError.TheVariants.{TooMany, Memory}
-use Rattle.steal_pool.specs.Rule.{DequeId, End, IsUsedUp}
-use Rattle.steal_pool.specs.Seats.{IsFull, IsLeft, SameSeat, Seat, Ways, entered_by, place_of, ways}
-use Rattle.steal_pool.specs.Pools.{AccountFor, AreLinked, Beside, ComeBack, IsLeftOver, IsRefused, KeepNone, Linked, NoneIsOutOfMemory, entered_in, own_of, passes_on, right_of, seat_right, taken_of, ways_of_all}
+use Rattle.steal_pool.specs.Rule.{DequeId, End}
+use Rattle.steal_pool.specs.Seats.{IsLeft, Seat, Ways, entered_by, place_of, ways}
+use Rattle.steal_pool.specs.Pools.{AccountFor, AreLinked, Beside, ComeBack, IsLeftOver, IsRefused, KeepNone, NoneIsOutOfMemory, entered_in, own_of, passes_on, right_of, seat_right, taken_of, ways_of_all}
 use Rattle.steal_pool.specs.Passes.{HasNoPass, Joined, lasting}
-use Rattle.steal_pool.specs.Closing.{AllUsedUp, Changes, Ended, HasUsedUp, IsFullOf, Leaves, NoneIsFull, SomeIsFull, WorkOff}
+use Rattle.steal_pool.specs.Closing.{Ended, HasUsedUp, Leaves, NoneIsFull, SomeIsFull, WorkOff}
 use Rattle.steal_pool.proofs.Accounts.{entered_weigh, entered_weight, own_weight, same_weights, taken_weight}
-use Rattle.steal_pool.proofs.Together.{account_weighs, changed_account, changed_linked, entered_sum, own_of_weigh, own_sum, put_sum, taken_of_weigh, taken_sum, weighs_account}
-use Rattle.steal_pool.proofs.Listing.{all_get, beside_all, beside_at, beside_map, map_all, map_at, map_from, map_length, nothing, weigh_none}
+use Rattle.steal_pool.specs.Runs.{IsLater}
+use Rattle.steal_pool.proofs.Pooling.{later_same, same_linked}
+use Rattle.steal_pool.proofs.Together.{account_later, account_weighs, entered_sum, own_of_weigh, own_sum, put_sum, taken_of_weigh, taken_sum, weighs_account}
+use Rattle.steal_pool.proofs.Listing.{all_get, beside_all, beside_at, beside_map, map_all, map_at, map_from, weigh_none}
 
 map_twice : {A B C : Type 0} (f : A → B) (g : B → C) (xs : List A) → map (λ x. g (f x)) xs ≡ map g (map f xs)
 map_twice f g [] = refl
@@ -69,28 +67,28 @@ module _ (t : Rules) (ss us : List Seat) (j : Joined ss us) where
   ))
 
 -- ---- each worked
-changed_none : (t : Rules) (s q : Seat) → Changes t s q → HasNoPass s → HasNoPass q
-changed_none t s q c none =
-    map_nothing q.worker.passes (ap (λ (w : Ways). w.others) c.0.ways ∙ ap (map place_of) none)
+later_none : (t : Rules) (s q : Seat) → IsLater t s q → HasNoPass s → HasNoPass q
+later_none t s q c none =
+    map_nothing q.worker.passes (ap (λ (w : Ways). w.others) c.same.ways ∙ ap (map place_of) none)
   where
     map_nothing : (es : List End) → map place_of es ≡ [] → es ≡ []
     map_nothing [] e = refl
     map_nothing (x ∷ es) e = absurd cc
 
-changed_right : (t : Rules) (s q : Seat) → Changes t s q → right_of q ≡ right_of s
-changed_right t s q c = λ i. (c.0.table i, c.0.number i)
+later_right : (t : Rules) (s q : Seat) → IsLater t s q → right_of q ≡ right_of s
+later_right t s q c = λ i. (c.same.table i, c.same.number i)
 
 pub ended : (t : Rules) (ss us qs : List Seat) → Joined ss us → AreLinked us → AllByRecursion HasNoPass us → WorkOff t us qs → Ended t ss qs
 ended t ss us qs j linked none w = record {
-  rights = beside_map (Changes t) right_of right_of us qs (changed_right t) w.changes ∙ lasting_map t ss us j right_of;
-  terms = beside_map (Changes t) (λ (s : Seat). s.terms) (λ (s : Seat). s.terms) us qs (λ s q c. c.0.terms) w.changes ∙ lasting_map t ss us j (λ (s : Seat). s.terms);
-  linked = changed_linked t us qs w.changes linked;
-  none = beside_all (Changes t) HasNoPass HasNoPass us qs (changed_none t) w.changes none;
+  rights = beside_map (IsLater t) right_of right_of us qs (later_right t) w.changes ∙ lasting_map t ss us j right_of;
+  terms = beside_map (IsLater t) (λ (s : Seat). s.terms) (λ (s : Seat). s.terms) us qs (λ s q c. c.same.terms) w.changes ∙ lasting_map t ss us j (λ (s : Seat). s.terms);
+  linked = same_linked us qs (later_same t us qs w.changes) linked;
+  none = beside_all (IsLater t) HasNoPass HasNoPass us qs (later_none t) w.changes none;
   left = w.left;
   used = w.used;
   free = λ all. joined_free t ss us j (free_before w.refusals all);
   memory = λ all. joined_memory t ss us j (memory_before w.refusals all);
-  account = λ root a. changed_account t root us qs w.changes (joined_account t ss us j root a);
+  account = λ root a. account_later t root us qs w.changes (joined_account t ss us j root a);
 }
   where
     free_before : KeepNone us ⊎ (qs ≡ us) → KeepNone qs → KeepNone us

@@ -1,21 +1,19 @@
 -- Passes that are joined.
-use Rattle.std.proofs.Common.{◌≡◌, ◌≢◌, ◌⊎◌, inl, inr, ℕ, zero, suc, ◌+◌, ◌-◌, ◌<◌, List, [], ◌∷◌, ◌++◌, map, length, Option, Some, None, slice_get, slice_set, get_or, IsPermutation, refl, sym, ap, ◌∙◌, subst, arith}
-use Rattle.std.proofs.lemmas.Bool.{cases_eq}
+use Rattle.std.proofs.Common.{◌≡◌, ℕ, ◌+◌, ◌<◌, List, [], ◌∷◌, ◌++◌, map, length, Some, slice_get, slice_set, get_or, refl, sym, ap, ◌∙◌, subst, arith}
 use Rattle.std.proofs.lemmas.Option.{slice_get-get_or}
 use Rattle.std.proofs.lemmas.List.Sorted.{IsPermutation-refl, IsPermutation-trans}
-use Rattle.std.specs.List.{AllByRecursion}
 use Rattle.spec_trees.specs.declared.tree.Node.{Node}
 use Rattle.spec_pool.proofs.Finding.{nodes_permuted}
 use Rattle.spec_pool.proofs.Weights.{weigh, weigh-append, weigh-set}
 use Rattle.steal_pool.specs.Rule.{DequeId, End}
-use Rattle.steal_pool.specs.Workers.{Gives, Holder, with_passes}
+use Rattle.steal_pool.specs.Workers.{Holder}
 use Rattle.steal_pool.specs.Seats.{Seat, Ways, place_of, ways, with_worker}
-use Rattle.steal_pool.specs.Pools.{AreLinked, IsOwned, Linked, taken_of, ways_of_all}
+use Rattle.steal_pool.specs.Pools.{AreLinked, Linked, taken_of, ways_of_all}
 use Rattle.steal_pool.specs.Passes.{GivesPass, HasNoPass, HasNoPassAt, Joined, JoinsLast, NoPassBefore, joined, lasting, lasting_of}
 use Rattle.steal_pool.proofs.Accounts.{taken_weight}
 use Rattle.steal_pool.proofs.Together.{taken_of_weigh, taken_sum}
 use Rattle.steal_pool.proofs.Linking.{linked_less, owner_has, owner_is}
-use Rattle.steal_pool.proofs.Listing.{all_each, keep_each, map_at, map_from, map_keep, map_length, map_push, map_set, one_some, set_same, length_push, within}
+use Rattle.steal_pool.proofs.Listing.{keep_each, map_at, map_from, map_keep, map_length, map_push, map_set, one_some, set_same, length_push, within}
 
 abbrev seen : Seat → Ways
 seen s = ways s.worker
@@ -160,12 +158,3 @@ module _ (i : ℕ) (ss qs : List Seat) (x : JoinsLast i ss qs) where
       keep_each (λ k s. k < i → HasNoPass s) between x.3.worker x.2 (joined x.2 x.3) x.6 (λ p. p)
       (keep_each (λ k s. k < i → HasNoPass s) ss i x.0 x.1 x.4 (λ p b. absurd (omega (arith, b))) none)
       )
-
-pub before_more : (i : ℕ) (ss : List Seat) → NoPassBefore i ss → HasNoPassAt i ss → NoPassBefore (i + 1) ss
-before_more i ss none last k s at b = elim (cases_eq k i) [
-  | inl same ↦ last s (ap (slice_get ss) (sym same) ∙ at)
-  | inr apart ↦ none k s at (omega (arith, apart, b))
-]
-
-pub before_all : (i : ℕ) (ss : List Seat) → length ss ≡ i → NoPassBefore i ss → AllByRecursion HasNoPass ss
-before_all i ss len none = all_each HasNoPass ss (λ k s at. none k s at (omega (arith, len, within ss k s at)))

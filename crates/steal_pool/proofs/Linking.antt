@@ -1,11 +1,11 @@
 -- Passes that are made and joined keep the seats linked.
-use Rattle.std.proofs.Common.{◌≡◌, ◌≢◌, ◌⊎◌, inl, inr, ℕ, zero, suc, ◌+◌, ◌-◌, ◌<◌, ◌==◌, List, [], ◌∷◌, ◌++◌, map, length, Option, Some, None, slice_get, slice_set, sum_by, if◌then◌else◌, refl, sym, ap, ◌∙◌, subst, arith}
+use Rattle.std.proofs.Common.{◌≡◌, ◌≢◌, inl, inr, ℕ, ◌+◌, ◌-◌, ◌<◌, ◌==◌, List, [], ◌∷◌, ◌++◌, Some, slice_get, slice_set, sum_by, if◌then◌else◌, refl, sym, ap, ◌∙◌, subst, arith}
 use Rattle.std.proofs.lemmas.Bool.{cases_eq}
 use Rattle.std.proofs.lemmas.Bool.Decides.{nat_tests}
 use Rattle.std.specs.List.{AllByRecursion}
-use Rattle.spec_pool.proofs.Weights.{weigh, weigh-append, weigh-get, weigh-set, sum_is_weigh}
+use Rattle.spec_pool.proofs.Weights.{weigh, weigh-append, weigh-set, sum_is_weigh}
 use Rattle.steal_pool.specs.Rule.{DequeId}
-use Rattle.steal_pool.specs.Seats.{Ways, ways_of}
+use Rattle.steal_pool.specs.Seats.{Ways}
 use Rattle.steal_pool.specs.Pools.{IsOwned, Linked, passes_on}
 use Rattle.steal_pool.proofs.Listing.{get_same, get_other, keep_each, all_get, all_set, all_more, all_push, all_left, all_right, one_some}
 

@@ -1,5 +1,5 @@
 -- Lists in which one element changes, and lists that stand beside one another.
-use Rattle.std.proofs.Common.{◌≡◌, ◌≢◌, ◌⊎◌, inl, inr, ℕ, zero, suc, ◌+◌, ◌<◌, List, [], ◌∷◌, ◌++◌, map, flat_map, length, Option, Some, None, slice_get, slice_set, get_or, append_assoc, refl, sym, ap, ◌∙◌, subst, arith}
+use Rattle.std.proofs.Common.{◌≡◌, ◌≢◌, inl, inr, ℕ, zero, suc, ◌+◌, ◌<◌, List, [], ◌∷◌, ◌++◌, map, length, Option, Some, slice_get, slice_set, append_assoc, refl, sym, ap, ◌∙◌, subst, arith}
 use Rattle.std.proofs.lemmas.Bool.{cases_eq}
 use Rattle.std.proofs.lemmas.List.{append-nil}
 use Rattle.std.specs.List.{AllByRecursion}
@@ -187,12 +187,6 @@ module _ {A B : Type 0} (R : A → B → Type 0) where
   beside_set (u ∷ xs) [] i y y' e step b = absurd b
   beside_set (u ∷ xs) (v ∷ ys) zero y y' e step b = let same : v ≡ y = cc in (step u (subst (R u) same b.0), b.1)
   beside_set (u ∷ xs) (v ∷ ys) (suc i) y y' e step b = (b.0, beside_set xs ys i y y' e step b.1)
-
-  pub beside_each : (xs : List A) (ys : List B) → length ys ≡ length xs → ((k : ℕ) (x : A) (y : B) → slice_get xs k ≡ Some x → slice_get ys k ≡ Some y → R x y) → Beside R xs ys
-  beside_each [] [] len each = tt
-  beside_each [] (v ∷ ys) len each = absurd (omega (arith, len))
-  beside_each (u ∷ xs) [] len each = absurd (omega (arith, len))
-  beside_each (u ∷ xs) (v ∷ ys) len each = (each 0 u v refl refl, beside_each xs ys (omega (arith, len)) (λ k x y e f. each (suc k) x y e f))
 
 pub beside_self : {A : Type 0} (R : A → A → Type 0) (xs : List A) → ((x : A) → R x x) → Beside R xs xs
 beside_self R [] each = tt

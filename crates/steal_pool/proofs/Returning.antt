@@ -1,7 +1,7 @@
 -- What the seats of a run are, from their making to their coming back, and what a run answers.
-use Rattle.std.proofs.Common.{◌≡◌, ℕ, zero, suc, ◌+◌, ◌<◌, ◌≤◌, ◌++◌, List, [], ◌∷◌, map, flat_map, length, All, Option, Some, None, Result, Ok, Err, Vec, IfOk, IfErr, slice_get, IsPermutation, refl, sym, ap, ◌∙◌, subst, arith}
-use Rattle.std.proofs.lemmas.List.Elements.{All-from_recursion, recursion_from_All}
-use Rattle.std.specs.List.{AllByRecursion, AllZip}
+use Rattle.std.proofs.Common.{◌≡◌, ℕ, zero, suc, ◌+◌, ◌<◌, ◌++◌, List, [], ◌∷◌, map, flat_map, length, Option, Some, None, Result, Ok, Err, Vec, IfOk, IfErr, slice_get, IsPermutation, refl, sym, ap, ◌∙◌, subst, arith}
+use Rattle.std.proofs.lemmas.List.Elements.{recursion_from_All}
+use Rattle.std.specs.List.{AllByRecursion}
 use mathlib.Core.Option as M
 use lib.ListN.{get_elem?}
 use Rattle.spec_trees.specs.declared.book.Book.{Book}
@@ -14,45 +14,47 @@ use Rattle.spec_trees.specs.Order.{CoverRoot, ordered_leaves}
 use Rattle.spec_trees.proofs.Covering.{leaves_cover}
 use Rattle.spec_pool.specs.declared.ledger.Part.{Part}
 use Rattle.spec_pool.specs.declared.ledger.Terms.{Terms}
-use Rattle.spec_pool.specs.History.{FitsPart, Lies, Sound, part_of}
+use Rattle.spec_pool.specs.History.{FitsPart, Lies, Sound}
 use Rattle.span_ledger.specs.declared.desk.LedgerSeat.{LedgerSeat}
 use Rattle.span_ledger.specs.declared.desk.SpanLedger.{SpanLedger}
-use Rattle.span_ledger.specs.Seats.{AllFit, IsSeatOf, part, seat_table, table_of, terms}
-use Rattle.steal_pool.specs.Seats.{Seat, entered_by, rules_within}
+use Rattle.span_ledger.specs.Seats.{AllFit, part, seat_table, terms}
+use Rattle.steal_pool.specs.Seats.{SameSeat, Seat, entered_by, rules_within}
 use Rattle.std.specs.Global.{Global}
 use Rattle.steal_pool.specs.declared.finishing.FinishError.{FinishError}
 use Rattle.steal_pool.specs.declared.finishing.FinishError.TheVariants.{TooMany, Memory}
 use Rattle.steal_pool.specs.declared.seat.PoolError.{PoolError}
-use Rattle.steal_pool.specs.Pools.{AllBegin, Begins, ComeBack, IfTooMany, IsLeftOver, IsRefused, entered_in}
-use Rattle.steal_pool.specs.Runs.{AreAll, AreFree, AreSeatsOf, HasSeenAll, HaveEntered, IsLater, IsOverfull, IsSeatAt}
+use Rattle.steal_pool.specs.Pools.{AllBegin, Begins, Beside, ComeBack, IfTooMany, IsLeftOver, IsRefused, entered_in}
+use Rattle.steal_pool.specs.Runs.{AreAll, AreFree, AreSeatsOf, HaveEntered, IsOverfull, IsSeatAt}
+use Rattle.steal_pool.proofs.Listing.{all_each, all_left, all_right, beside_get, beside_push, beside_self}
+use Rattle.steal_pool.proofs.Pooling.{same_self}
 use Rattle.steal_pool.proofs.Booking.{Fit, Numbered, book_in_order, more_than, parts_entered}
-
--- ---- lists by place
-pub each_of : {A : Type 0} (P : A → Type 0) (xs : List A) → ((k : ℕ) (x : A) → slice_get xs k ≡ Some x → P x) → AllByRecursion P xs
-each_of P [] f = tt
-each_of P (x ∷ xs) f = (f 0 x refl, each_of P xs (λ k y at. f (suc k) y at))
 
 -- ---- the beginning
 pub begin_hand : (ledger : SpanLedger) (root : Node) (ss : List Seat) → AllBegin ledger root ss → (s : Seat) → slice_get ss 0 ≡ Some s → s.worker.hand ≡ Some root
 begin_hand ledger root ss b s at = (b 0 s at).hand
 
 pub begin_free : (ledger : SpanLedger) (root : Node) (ss : List Seat) → AllBegin ledger root ss → AreFree ss
-begin_free ledger root ss b = each_of (λ (s : Seat). s.refusal ≡ None) ss (λ k s at. (b k s at).refusal)
+begin_free ledger root ss b = all_each (λ (s : Seat). s.refusal ≡ None) ss (λ k s at. (b k s at).refusal)
 
-before : (t : Rules) (ss qs : List Seat) → AllZip (IsLater t) ss qs → (k : ℕ) (q : Seat) → slice_get qs k ≡ Some q → (s : Seat) × (slice_get ss k ≡ Some s) × IsLater t s q
-before t [] [] z k q at = absurd cc
-before t [] (y ∷ ys) z k q at = absurd z
-before t (x ∷ xs) [] z k q at = absurd z
-before t (x ∷ xs) (y ∷ ys) z zero q at = let same : y ≡ q = cc in (x, refl, subst (λ (v : Seat). IsLater t x v) same z.0)
-before t (x ∷ xs) (y ∷ ys) z (suc k) q at = before t xs ys z.1 k q at
+seat_at : (ledger : SpanLedger) (k : ℕ) (hand : Option Node) (s q : Seat) → Begins ledger k hand s → SameSeat s q → IsSeatAt ledger k q
+seat_at ledger k hand s q b same = (same.table ∙ b.table, same.terms ∙ b.terms, same.number ∙ ap (λ (p : Part). p.number) b.part)
 
-seat_at : (t : Rules) (ledger : SpanLedger) (root : Node) (k : ℕ) (hand : Option Node) (s q : Seat) → Begins ledger k hand s → IsLater t s q → IsSeatAt ledger k q
-seat_at t ledger root k hand s q b l =
-    (l.same.table ∙ b.table, l.same.terms ∙ b.terms, l.same.number ∙ ap (λ (p : Part). p.number) b.part)
+pub same_seats : (ledger : SpanLedger) (root : Node) (ss qs : List Seat) → AllBegin ledger root ss → Beside SameSeat ss qs → AreSeatsOf ledger qs
+same_seats ledger root ss qs b z k q at =
+    let r = beside_get SameSeat ss qs k q z at in seat_at ledger k _ r.0 q (b k r.0 r.1) r.2
 
-pub begin_seats : (t : Rules) (ledger : SpanLedger) (root : Node) (ss qs : List Seat) → AllBegin ledger root ss → AllZip (IsLater t) ss qs → AreSeatsOf ledger qs
-begin_seats t ledger root ss qs b z k q at =
-    let r = before t ss qs z k q at in seat_at t ledger root k _ r.0 q (b k r.0 r.1) r.2
+-- ---- seats that are taken out of the list of all one by one, from its end, and put back
+pub free_last : (ss front : List Seat) (s : Seat) → AreFree ss → ss ≡ front ++ s ∷ [] → AreFree front × (s.refusal ≡ None)
+free_last ss front s all e =
+    let split : AreFree (front ++ s ∷ []) = subst AreFree e all in
+    (all_left (λ (x : Seat). x.refusal ≡ None) front (s ∷ []) split, (all_right (λ (x : Seat). x.refusal ≡ None) front (s ∷ []) split).0)
+
+pub same_last : (ss qs front back : List Seat) (s q : Seat) → Beside SameSeat front back → SameSeat s q → ss ≡ front ++ s ∷ [] → qs ≡ back ++ q ∷ [] → Beside SameSeat ss qs
+same_last ss qs front back s q b same e f =
+    subst (λ (xs : List Seat). Beside SameSeat xs qs) (sym e) (subst (Beside SameSeat (front ++ s ∷ [])) (sym f) (beside_push SameSeat front back s q b same))
+
+pub same_all : (ss : List Seat) → Beside SameSeat ss ss
+same_all ss = beside_self SameSeat ss same_self
 
 -- ---- coming back
 same_head : {A : Type 0} (x y : A) (xs ys : List A) → x ∷ xs ≡ y ∷ ys → (x ≡ y) × (xs ≡ ys)

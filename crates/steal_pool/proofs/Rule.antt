@@ -7,7 +7,7 @@ use Rattle.spec_pool.proofs.Finding.{nodes_permuted}
 use Rattle.spec_pool.proofs.Weights.{weigh, weigh-append, weigh-flat, sum_is_weigh}
 use Rattle.crossbeam_deque.specs.Tasks.{Pushes, Takes, Finds, Forks, Merges}
 use Rattle.steal_pool.specs.declared.view.View.{View}
-use Rattle.steal_pool.specs.Rule.{AreValid, Balanced, HasLeft, HasTaken, IsUsedUp, OwnerTakes, spent, pass_out, with_put, with_taken, made_one, joined_one}
+use Rattle.steal_pool.specs.Rule.{AreValid, Balanced, HasTaken, IsUsedUp, OwnerTakes, spent, pass_out, with_put, with_taken, made_one, joined_one}
 use Rattle.steal_pool.proofs.Totals.{AllFit, total_set, fit_get, fit_set, fit_push, owner_only, made_only}
 
 -- ---- the rule by weights
@@ -110,9 +110,6 @@ takes t port v may xs items views least most kept at = let b = weighed t (xs ++ 
   }),
   (refl, valid_left t xs items b.valid),
 )
-
-pub used_left : (v : View) → IsUsedUp v → HasLeft v
-used_left v u none = ([], nodes_permuted v.put (v.taken ++ []) (λ h. omega (arith, same_weights v.put v.taken (u none) h, weigh-append h v.taken [])))
 
 -- where the owner takes nodes, those that were put and not taken are these and the rest
 pub owner_takes : (t : Rules) (port : ℕ) (v : View) → v.owner ≡ 1 → Takes (Balanced t) port v 1 (OwnerTakes t v)

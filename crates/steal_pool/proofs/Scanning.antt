@@ -1,7 +1,8 @@
 -- Walks over the seats of a pool at its end.
-use Rattle.std.proofs.Common.{◌≡◌, ◌≢◌, ◌⊎◌, inl, inr, Bool, true, false, ℕ, zero, suc, ◌+◌, ◌<◌, ◌≤◌, List, [], ◌∷◌, length, Option, Some, None, Result, Ok, Err, IfErr, OnOk, slice_get, slice_set, get_or, refl, sym, ap, ◌∙◌, subst, arith}
+use Rattle.std.proofs.Common.{◌≡◌, inl, inr, Bool, true, false, ℕ, ◌+◌, ◌<◌, ◌≤◌, List, length, Some, None, Result, Ok, Err, IfErr, OnOk, slice_get, slice_set, get_or, sym, ap, ◌∙◌, subst, arith}
 use Rattle.std.specs.Result.{is_err}
 use Rattle.std.proofs.lemmas.Bool.{cases_eq}
+use Rattle.std.proofs.lemmas.Option.{slice_get-get_or}
 use Rattle.std.specs.List.{AllByRecursion}
 use Rattle.spec_trees.specs.declared.tree.Leaf.{Leaf}
 use Rattle.spec_trees.specs.declared.tree.Mark.{Mark}
@@ -10,35 +11,27 @@ use Rattle.spec_trees.specs.Tree.{IsSound, IsValid, Rules, leaf_of, mark_of}
 use Rattle.spec_trees.proofs.Leaves.{leaves_settled}
 use Rattle.spec_pool.specs.History.{Fresh}
 use Rattle.steal_pool.specs.declared.seat.PoolError.{PoolError}
-use Rattle.steal_pool.specs.Rule.{IsUsedUp}
 use Rattle.steal_pool.specs.Seats.{IsFull, IsLeft, SameSeat, Seat, Works}
 use Rattle.steal_pool.specs.Pools.{Beside, KeepNone}
-use Rattle.steal_pool.specs.Closing.{AllUsedUp, Changes, HasUsedUp, IsFullOf, WorkOff}
-use Rattle.steal_pool.proofs.Entering.{same_more, seat_idle, seat_more}
-use Rattle.steal_pool.proofs.Listing.{all_each, all_get, all_set, beside_self, beside_set, get_other, get_same, within}
+use Rattle.steal_pool.specs.Closing.{IsFullOf, WorkOff}
+use Rattle.steal_pool.specs.Runs.{IsLater}
+use Rattle.steal_pool.proofs.Pooling.{goes_on}
+use Rattle.steal_pool.proofs.Listing.{all_each, all_get, all_set, beside_set, get_other, get_same, one_some, within}
 
 -- what holds of the elements before n
 abbrev pub Before : {A : Type 0} → (A → Type 0) → ℕ → List A → Type 0
 Before {A = A} P n xs = (k : ℕ) (x : A) → slice_get xs k ≡ Some x → k < n → P x
 
 module _ {A : Type 0} where
-  pub at_get : (xs : List A) (i : ℕ) (d : A) → i < length xs → slice_get xs i ≡ Some (get_or xs i d)
-  at_get [] i d h = absurd (omega arith)
-  at_get (x ∷ xs) zero d h = refl
-  at_get (x ∷ xs) (suc i) d h = at_get xs i d (omega (arith, h))
-
   pub at_index : (xs : List A) (i : ℕ) (x : A) → i < length xs → x ≡ get_or xs i x → slice_get xs i ≡ Some x
-  at_index xs i x h e = at_get xs i x h ∙ ap Some (sym e)
-
-  some_same : (o : Option A) (x y : A) → o ≡ Some x → o ≡ Some y → x ≡ y
-  some_same o x y e f = cc
+  at_index xs i x h e = slice_get-get_or xs i x h ∙ ap Some (sym e)
 
   pub before_none : (P : A → Type 0) (xs : List A) → Before P 0 xs
   before_none P xs k x at h = absurd (omega (arith, h))
 
   pub before_more : (P : A → Type 0) (xs : List A) (i : ℕ) (x : A) → slice_get xs i ≡ Some x → P x → Before P i xs → Before P (i + 1) xs
   before_more P xs i x at p b k y e h = elim (cases_eq k i) [
-    | inl same ↦ subst P (some_same (slice_get xs i) x y at (ap (slice_get xs) (sym same) ∙ e)) p
+    | inl same ↦ subst P (one_some (slice_get xs i) x y at (ap (slice_get xs) (sym same) ∙ e)) p
     | inr apart ↦ b k y e (omega (arith, h, apart))
   ]
 
@@ -48,19 +41,13 @@ module _ {A : Type 0} where
   -- an element changes
   pub before_set : (P : A → Type 0) (xs : List A) (i : ℕ) (x y : A) → slice_get xs i ≡ Some x → P y → Before P i xs → Before P (i + 1) (slice_set xs i y)
   before_set P xs i x y at p b k z e h = elim (cases_eq k i) [
-    | inl same ↦ subst P (some_same (slice_get (slice_set xs i y) i) y z (get_same xs i x y at) (ap (slice_get (slice_set xs i y)) (sym same) ∙ e)) p
+    | inl same ↦ subst P (one_some (slice_get (slice_set xs i y) i) y z (get_same xs i x y at) (ap (slice_get (slice_set xs i y)) (sym same) ∙ e)) p
     | inr apart ↦ b k z (sym (get_other xs i k y apart) ∙ e) (omega (arith, h, apart))
   ]
 
 -- ---- each works off its deque
-pub changes_self : (t : Rules) (s : Seat) → Changes t s s
-changes_self t s = (record { ways = refl; table = refl; terms = refl; number = refl }, seat_idle t s)
-
-pub changes_more : (t : Rules) (a b c : Seat) → Changes t a b → SameSeat b c → Works t b c → Changes t a c
-changes_more t a b c x same works = (same_more a b c x.0 same, seat_more t a b c x.1 works)
-
-pub change_one : (t : Rules) (ss qs : List Seat) (i : ℕ) (q r : Seat) → slice_get qs i ≡ Some q → SameSeat q r → Works t q r → Beside (Changes t) ss qs → Beside (Changes t) ss (slice_set qs i r)
-change_one t ss qs i q r at same works b = beside_set (Changes t) ss qs i q r at (λ s c. changes_more t s q r c same works) b
+pub change_one : (t : Rules) (ss qs : List Seat) (i : ℕ) (q r : Seat) → slice_get qs i ≡ Some q → SameSeat q r → Works t q r → Beside (IsLater t) ss qs → Beside (IsLater t) ss (slice_set qs i r)
+change_one t ss qs i q r at same works b = beside_set (IsLater t) ss qs i q r at (λ s c. goes_on t s q r c same works) b
 
 pub refused : {A : Type 0} (r : Result A PoolError) (s : Seat) (b : Bool) → b ≡ is_err r → b ≡ true → IfErr r (λ e. s.refusal ≡ Some e) → s.refusal ≡ None → ⊥
 refused (Ok x) s b v t p none = absurd (cc)
@@ -70,7 +57,7 @@ pub went : {A : Type 0} (P : Type 0) (r : Result A PoolError) (b : Bool) → b �
 went P (Ok x) b v f p = p
 went P (Err e) b v f p = absurd cc
 
-pub stops : (t : Rules) (ss qs : List Seat) (i : ℕ) (q r : Seat) → slice_get qs i ≡ Some q → SameSeat q r → Works t q r → IsLeft t r → (r.refusal ≡ None → ⊥) → Beside (Changes t) ss qs → AllByRecursion (IsLeft t) qs → KeepNone ss → WorkOff t ss (slice_set qs i r)
+pub stops : (t : Rules) (ss qs : List Seat) (i : ℕ) (q r : Seat) → slice_get qs i ≡ Some q → SameSeat q r → Works t q r → IsLeft t r → (r.refusal ≡ None → ⊥) → Beside (IsLater t) ss qs → AllByRecursion (IsLeft t) qs → KeepNone ss → WorkOff t ss (slice_set qs i r)
 stops t ss qs i q r at same works left refusal b all free = record {
   changes = change_one t ss qs i q r at same works b;
   left = all_set (IsLeft t) qs i r left all;

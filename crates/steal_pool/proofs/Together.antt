@@ -1,5 +1,5 @@
 -- What the seats of a pool have together, by weights.
-use Rattle.std.proofs.Common.{◌≡◌, ℕ, zero, suc, ◌+◌, ◌<◌, ◌==◌, List, [], ◌∷◌, ◌++◌, map, flat_map, length, Option, Some, None, IsPermutation, option_to_list, slice_get, if◌then◌else◌, refl, sym, ap, ◌∙◌, subst, arith}
+use Rattle.std.proofs.Common.{◌≡◌, ℕ, suc, ◌+◌, ◌<◌, List, [], ◌∷◌, ◌++◌, length, Option, Some, None, option_to_list, refl, sym, ap, ◌∙◌, arith}
 use Rattle.std.proofs.lemmas.Bool.Decides.{nat_tests}
 use Rattle.spec_trees.specs.declared.tree.Node.{Node}
 use Rattle.spec_trees.specs.declared.tree.Leaf.{Leaf}
@@ -11,10 +11,11 @@ use Rattle.spec_pool.proofs.Moving.{weigh_hand, hand_weigh}
 use Rattle.spec_pool.proofs.Weights.{weigh, weigh-append, weigh-flat, weigh-same}
 use Rattle.span_ledger.specs.declared.desk.SpanLedger.{SpanLedger}
 use Rattle.steal_pool.specs.Workers.{taken_by}
-use Rattle.steal_pool.specs.Seats.{SameSeat, Seat, Works, account, entered_by, ways}
-use Rattle.steal_pool.specs.Pools.{AccountFor, AllBegin, AreLinked, Begins, Beside, Linked, entered_of, first_hand, own_of, put_of, taken_of}
+use Rattle.steal_pool.specs.Seats.{Seat, Works, account, entered_by}
+use Rattle.steal_pool.specs.Pools.{AccountFor, AllBegin, Begins, Beside, entered_of, first_hand, own_of, put_of, taken_of}
+use Rattle.steal_pool.specs.Runs.{IsLater}
 use Rattle.steal_pool.proofs.Accounts.{does, entered_weigh, entered_weight, own_weight, same_weights, taken_weigh, taken_weight}
-use Rattle.steal_pool.proofs.Listing.{beside_map, weigh_none}
+use Rattle.steal_pool.proofs.Listing.{weigh_none}
 
 abbrev pub entered_sum : (Leaf → ℕ) → List Seat → ℕ
 entered_sum h ss = weigh (λ (s : Seat). entered_weight h s.part) ss
@@ -70,9 +71,6 @@ module _ (t : Rules) (root : Node) (ss : List Seat) where
     taken_of_weigh (by_leaves t h) ss,
   )
 
-  Weighed : Type 0
-  Weighed = (h : Leaf → ℕ) → entered_sum h ss + own_sum t h ss + put_sum (by_leaves t h) ss ≡ by_leaves t h root + taken_sum (by_leaves t h) ss
-
   pub account_weighs : AccountFor t root ss → (h : Leaf → ℕ) → entered_sum h ss + own_sum t h ss + put_sum (by_leaves t h) ss ≡ by_leaves t h root + taken_sum (by_leaves t h) ss
   account_weighs p h = omega (arith, same_weights h had came p, had_weigh h, came_weigh h)
 
@@ -89,11 +87,11 @@ hand_of_other k root e = grind (arith, nat_tests, e)
 begin_own : (t : Rules) (h : Leaf → ℕ) (ledger : SpanLedger) (root : Node) (k : ℕ) (s : Seat) → Begins ledger k (first_hand root k) s → 0 < k → own_weight t h s.worker ≡ 0
 begin_own t h ledger root k s b p = omega (arith, ap (weigh_hand (by_leaves t h)) (b.hand ∙ hand_of_other k root p), ap (weigh (by_leaves t h)) b.kept)
 
-begin_taken : (g : Node → ℕ) (ledger : SpanLedger) (k : ℕ) (node : Option Node) (s : Seat) → Begins ledger k node s → taken_weight g s.worker ≡ 0
-begin_taken g ledger k node s b = sym (taken_weigh g s.worker) ∙ ap (weigh g) b.taken
+begin_taken : (g : Node → ℕ) (ledger : SpanLedger) (k : ℕ) (hand : Option Node) (s : Seat) → Begins ledger k hand s → taken_weight g s.worker ≡ 0
+begin_taken g ledger k hand s b = sym (taken_weigh g s.worker) ∙ ap (weigh g) b.taken
 
-begin_entered : (h : Leaf → ℕ) (ledger : SpanLedger) (k : ℕ) (node : Option Node) (s : Seat) → Begins ledger k node s → entered_weight h s.part ≡ 0
-begin_entered h ledger k node s b = ap (entered_weight h) b.part
+begin_entered : (h : Leaf → ℕ) (ledger : SpanLedger) (k : ℕ) (hand : Option Node) (s : Seat) → Begins ledger k hand s → entered_weight h s.part ≡ 0
+begin_entered h ledger k hand s b = ap (entered_weight h) b.part
 
 pub begin_account : (t : Rules) (ledger : SpanLedger) (root : Node) (ss : List Seat) → 0 < length ss → AllBegin ledger root ss → AccountFor t root ss
 begin_account t ledger root [] some all = absurd (omega (arith, some))
@@ -120,18 +118,12 @@ works_sums t s q w h = let d = does t s.worker s.part q.worker q.part w in omega
   d.3.3 h,
 )
 
-abbrev pub Changed : Rules → Seat → Seat → Type 0
-Changed t s q = SameSeat s q × Works t s q
-
-pub changed_sums : (t : Rules) (ss qs : List Seat) → Beside (Changed t) ss qs → (h : Leaf → ℕ)
+later_sums : (t : Rules) (ss qs : List Seat) → Beside (IsLater t) ss qs → (h : Leaf → ℕ)
     → entered_sum h qs + own_sum t h qs + put_sum (by_leaves t h) qs + taken_sum (by_leaves t h) ss ≡ entered_sum h ss + own_sum t h ss + put_sum (by_leaves t h) ss + taken_sum (by_leaves t h) qs
-changed_sums t [] [] b h = refl
-changed_sums t [] (q ∷ qs) b h = absurd b
-changed_sums t (s ∷ ss) [] b h = absurd b
-changed_sums t (s ∷ ss) (q ∷ qs) b h = omega (arith, works_sums t s q b.0.1 h, changed_sums t ss qs b.1 h)
+later_sums t [] [] b h = refl
+later_sums t [] (q ∷ qs) b h = absurd b
+later_sums t (s ∷ ss) [] b h = absurd b
+later_sums t (s ∷ ss) (q ∷ qs) b h = omega (arith, works_sums t s q b.0.works h, later_sums t ss qs b.1 h)
 
-pub changed_account : (t : Rules) (root : Node) (ss qs : List Seat) → Beside (Changed t) ss qs → AccountFor t root ss → AccountFor t root qs
-changed_account t root ss qs b a = weighs_account t root qs (λ h. omega (arith, account_weighs t root ss a h, changed_sums t ss qs b h))
-
-pub changed_linked : (t : Rules) (ss qs : List Seat) → Beside (Changed t) ss qs → AreLinked ss → AreLinked qs
-changed_linked t ss qs b l = subst Linked (sym (beside_map (Changed t) (λ (s : Seat). ways s.worker) (λ (s : Seat). ways s.worker) ss qs (λ s q c. c.0.ways) b)) l
+pub account_later : (t : Rules) (root : Node) (ss qs : List Seat) → Beside (IsLater t) ss qs → AccountFor t root ss → AccountFor t root qs
+account_later t root ss qs b a = weighs_account t root qs (λ h. omega (arith, account_weighs t root ss a h, later_sums t ss qs b h))

@@ -1,5 +1,5 @@
 -- Rules whose valid nodes lie in a root.
-use Rattle.std.proofs.Common.{◌≡◌, ◌≤ℤ◌, ap, sym, ◌∙◌, subst, arith}
+use Rattle.std.proofs.Common.{◌≡◌, ap, sym, ◌∙◌, subst, arith}
 use Rattle.std.proofs.lemmas.Int.{ints}
 use Rattle.spec_trees.specs.declared.tree.Node.{Node}
 use Rattle.spec_trees.specs.Tree.{Rules, IsSound, IsValid}
@@ -32,15 +32,6 @@ within_sound r root s v = record {
 module _ (t r : Rules) (root : Node) (e : t ≡ rules_within r root) (v : IsValid r root) where
   pub named_sound : IsSound r → IsSound t
   named_sound s = subst IsSound (sym e) (within_sound r root s v)
-
-  pub named_valid : (n : Node) → IsValid t n → IsValid r n
-  named_valid n m = widen r root n v (subst (λ (x : Rules). IsValid x n) e m)
-
-  pub named_low : (n : Node) → IsValid t n → root.a ≤ℤ n.a
-  named_low n m = (subst (λ (x : Rules). IsValid x n) e m).from
-
-  pub named_high : (n : Node) → IsValid t n → n.b ≤ℤ root.b
-  named_high n m = (subst (λ (x : Rules). IsValid x n) e m).to
 
   pub named_parts : (n : Node) (both : Node × Node) → both ≡ r.parts n → t.parts n ≡ both
   named_parts n both is = ap (λ (x : Rules). x.parts n) e ∙ sym is

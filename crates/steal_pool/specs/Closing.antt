@@ -1,5 +1,5 @@
 -- What the end of a pool's work leaves, and what its seats say when they leave.
-use Rattle.std.specs.Prelude.{◌≡◌, ◌≢◌, ◌⊎◌, ◌≤◌, ◌<◌, ℕ, List, [], ◌∷◌, length, map, Option, Some, None, slice_get}
+use Rattle.std.specs.Prelude.{◌≡◌, ◌≢◌, ◌⊎◌, ◌≤◌, ℕ, List, [], ◌∷◌, length, map, Some, slice_get}
 use Rattle.std.specs.List.{AllByRecursion}
 use Rattle.spec_trees.specs.declared.tree.Node.{Node}
 use Rattle.spec_trees.specs.declared.tree.Leaf.{Leaf}
@@ -9,13 +9,10 @@ use Rattle.span_ledger.specs.declared.desk.LedgerSeat.{LedgerSeat}
 use Rattle.span_ledger.specs.Seats.{part, seat_table}
 use Rattle.steal_pool.specs.declared.seat.PoolError.TheVariants.{TooMany}
 use Rattle.steal_pool.specs.Rule.{HasLeft, IsUsedUp}
-use Rattle.steal_pool.specs.Seats.{IsLeft, SameSeat, Seat, Works}
+use Rattle.steal_pool.specs.Seats.{IsLeft, Seat}
 use Rattle.steal_pool.specs.Pools.{AccountFor, AreLinked, Beside, KeepNone, NoneIsOutOfMemory, right_of}
 use Rattle.steal_pool.specs.Passes.{HasNoPass}
-
--- a seat worked
-abbrev pub Changes : Rules → Seat → Seat → Type 0
-Changes t s q = SameSeat s q × Works t s q
+use Rattle.steal_pool.specs.Runs.{IsLater}
 
 abbrev pub HasUsedUp : Seat → Type 0
 HasUsedUp s = IsUsedUp s.worker.own.view
@@ -25,7 +22,7 @@ AllUsedUp ss = AllByRecursion HasUsedUp ss
 
 -- where none keeps a refusal, each worked off its own deque; else they worked so far
 pub record WorkOff (t : Rules) (ss qs : List Seat) : Type 0 where
-  pub changes : Beside (Changes t) ss qs
+  pub changes : Beside (IsLater t) ss qs
   pub left : AllByRecursion (IsLeft t) qs
   pub used : KeepNone qs → AllUsedUp qs
   pub refusals : KeepNone ss ⊎ (qs ≡ ss)
@@ -55,10 +52,6 @@ SomeIsFull t leaf ss = (k : ℕ) × (s : Seat) × (slice_get ss k ≡ Some s) ×
 
 abbrev pub NoneIsFull : List Seat → Type 0
 NoneIsFull ss = AllByRecursion (λ s. s.refusal ≢ Some TooMany) ss
-
--- the seats before n keep no refusal
-abbrev pub KeepNoneBefore : ℕ → List Seat → Type 0
-KeepNoneBefore n ss = (k : ℕ) (s : Seat) → slice_get ss k ≡ Some s → k < n → s.refusal ≡ None
 
 -- a seat leaves, and this is its right to enter leaves
 pub record Leaves (s : Seat) (e : LedgerSeat) : Type 0 where

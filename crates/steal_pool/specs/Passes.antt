@@ -1,5 +1,5 @@
 -- How the passes of a pool's seats are made, and how they are joined again.
-use Rattle.std.specs.Prelude.{◌≡◌, ◌≢◌, ◌<◌, ℕ, ◌==◌, List, [], ◌∷◌, ◌++◌, length, map, Option, Some, if◌then◌else◌, nat_lt, slice_get, slice_set, IsPermutation}
+use Rattle.std.specs.Prelude.{◌≡◌, ◌≢◌, ◌<◌, ℕ, ◌==◌, List, [], length, map, Some, if◌then◌else◌, nat_lt, slice_get, slice_set, IsPermutation}
 use Rattle.spec_trees.specs.declared.tree.Node.{Node}
 use Rattle.span_ledger.specs.declared.desk.LedgerSeat.{LedgerSeat}
 use Rattle.span_ledger.specs.declared.desk.SpanLedger.{SpanLedger}

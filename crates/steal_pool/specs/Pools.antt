@@ -6,7 +6,6 @@ use Rattle.atomic_table.specs.Seated.{TableId}
 use Rattle.spec_trees.specs.declared.tree.Node.{Node}
 use Rattle.spec_trees.specs.declared.tree.Leaf.{Leaf}
 use Rattle.spec_trees.specs.Tree.{Rules, leaves}
-use Rattle.spec_pool.specs.declared.ledger.Terms.{Terms}
 use Rattle.spec_pool.specs.Accounts.{leaves_of, own}
 use Rattle.spec_pool.specs.History.{Fresh, part_of}
 use Rattle.span_ledger.specs.declared.desk.LedgerSeat.{LedgerSeat}
@@ -15,8 +14,8 @@ use Rattle.span_ledger.specs.Seats.{part, seat_table, table_of, terms}
 use Rattle.steal_pool.specs.declared.finishing.FinishError.{FinishError}
 use Rattle.steal_pool.specs.declared.finishing.FinishError.TheVariants.{TooMany, Memory}
 use Rattle.steal_pool.specs.declared.seat.PoolError.TheVariants.{Memory as OutOfMemory}
-use Rattle.steal_pool.specs.Rule.{DequeId, End}
-use Rattle.steal_pool.specs.Workers.{Holder, taken_by}
+use Rattle.steal_pool.specs.Rule.{DequeId}
+use Rattle.steal_pool.specs.Workers.{taken_by}
 use Rattle.steal_pool.specs.Seats.{Seat, Ways, account, entered_by, ways}
 
 -- two lists are as long, and R holds of each element and the one beside it

@@ -1,6 +1,6 @@
 -- What a run does with the seats of a pool, and what comes back of them.
-use Rattle.std.specs.Prelude.{◌≡◌, ◌≤◌, ℕ, List, length, Option, Some, None, slice_get, IsPermutation}
-use Rattle.std.specs.List.{AllByRecursion, AllZip}
+use Rattle.std.specs.Prelude.{◌≡◌, ◌≤◌, ℕ, List, length, Some, None, slice_get, IsPermutation}
+use Rattle.std.specs.List.{AllByRecursion}
 use Rattle.spec_trees.specs.declared.tree.Node.{Node}
 use Rattle.spec_trees.specs.declared.tree.Leaf.{Leaf}
 use Rattle.spec_trees.specs.Tree.{Rules, leaves}

@@ -1,13 +1,12 @@
 -- The rules of the tests' judges, which are sound.
-use Rattle.std.proofs.Common.{◌≡◌, ◌+◌, ◌<◌, Bool, ◌&&◌, nat_lt, ℕ, ℤ, pos, neg_ℤ, ◌-ℤ◌, ◌<ℤ◌, ◌≤ℤ◌, int_lt, int_le, if◌then◌else◌, refl, arith}
+use Rattle.std.proofs.Common.{◌≡◌, ◌<◌, Bool, ◌&&◌, nat_lt, ℤ, pos, neg_ℤ, ◌-ℤ◌, ◌<ℤ◌, int_lt, int_le, if◌then◌else◌, refl, arith}
 use Rattle.std.proofs.lemmas.Int.{ints}
-use Rattle.spec_trees.specs.declared.cuts.CutRule.{CutRule}
-use Rattle.spec_trees.specs.declared.cuts.CutRule.TheVariants.{Half, Third}
+use Rattle.spec_trees.specs.declared.cuts.CutRule.TheVariants.{Half}
 use Rattle.spec_trees.specs.declared.tree.Node.{Node}
 use Rattle.spec_trees.specs.declared.tree.Turn.TheVariants.{Rise}
 use Rattle.spec_trees.specs.declared.tree.Verdict.TheVariants.{Clear, One, Split}
 use Rattle.spec_trees.specs.Cuts.{CanCut, cut_of}
-use Rattle.spec_trees.specs.CutExamples.{pairs, parts_at, wider_than_two}
+use Rattle.spec_trees.specs.CutExamples.{parts_at}
 use Rattle.spec_trees.specs.Tree.{Rules, IsCut, IsSound, IsValid}
 use Rattle.spec_trees.proofs.Cutting.{cut_inside}
 

@@ -182,7 +182,8 @@ pub fn finish<'p, R: Wait, N: Naming, J: Judge, G: Gate>(
     ensures leaves { (root : Node) → AccountFor N.rules root seats.entry.items → IfOk result
         (λ v. IsPermutation (entered_in v.items) (leaves N.rules root)) }
     ensures too_many { IfErr result (λ e. IfTooMany e (λ es leaf. ComeBack seats.entry.items es)) }
-    ensures memory { IfErr result (λ e. IfTooMany e (λ es leaf. NoneIsOutOfMemory seats.entry.items)) }
+    ensures memory { IfErr result
+        (λ e. IfTooMany e (λ es leaf. NoneIsOutOfMemory seats.entry.items)) }
     ensures refused { IfErr result (λ e. IfTooMany e (IsRefused seats.entry.items)) }
     ensures left_over { (root : Node) → AccountFor N.rules root seats.entry.items → IfErr result
         (λ e. IfTooMany e (IsLeftOver N.rules root)) }

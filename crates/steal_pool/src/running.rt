@@ -1,12 +1,12 @@
 // All leaves of a root, entered by workers that run at once.
 ghost use Rattle.std.specs.Prelude.{◌≡◌, ◌<◌, ◌≤◌, Some, None, Ok, Err, IfOk, IfErr, length, slice_get, slice_index_or, ℕ};
-ghost use Rattle.std.specs.List.{AllByRecursion, AllZip};
+ghost use Rattle.std.specs.List.{AllByRecursion};
 ghost use Rattle.spec_trees.specs.Tree.{IsSound, IsValid, leaf_count, leaves};
 ghost use Rattle.spec_trees.specs.Order.{CoverRoot, ordered_leaves};
 ghost use Rattle.spec_pool.specs.History.{Sound};
 ghost use Rattle.span_ledger.specs.Seats.{AllFit, AreNew, terms};
 ghost use Rattle.steal_pool.specs.Seats.{IsLeft, IsNamed, Seat};
-ghost use Rattle.steal_pool.specs.Pools.{AccountFor, AreLinked, IfTooMany};
+ghost use Rattle.steal_pool.specs.Pools.{AccountFor, AreLinked, Beside, IfTooMany};
 ghost use Rattle.steal_pool.specs.Runs.{AreAll, AreFree, AreSeatsOf, HasWorked, HaveEntered, IsLater, IsOverfull};
 ghost use Rattle.steal_pool.specs.declared.seat.PoolError.TheVariants.{TooMany};
 
@@ -85,7 +85,7 @@ fn begin_and_work<R: Threads + Wait + Sync, N: Naming + Send + Sync, J: Judge, G
     requires hand { (s : Seat) → slice_get seats.old 0 ≡ Some s → s.worker.hand ≡ Some root }
     requires valid { IsValid N.rules root }
     requires free { AreFree seats.old }
-    ensures later { AllZip (IsLater N.rules) seats.old seats.new }
+    ensures later { Beside (IsLater N.rules) seats.old seats.new }
     ensures left { AllByRecursion (IsLeft N.rules) seats.new }
 {
     let shared = seats.len() > 1;
@@ -121,7 +121,7 @@ pub(crate) fn worked<'p, R: Threads + Wait + Sync, N: Naming + Send + Sync, J: J
 }
 
 // The book of a ledger, all of whose seats have come back.
-fn closed(ledger: SpanLedger, seats: Vec<LedgerSeat>) -> Book
+pub(crate) fn closed(ledger: SpanLedger, seats: Vec<LedgerSeat>) -> Book
     requires all { AreAll ledger seats.items }
     ensures root { result.root ≡ (terms ledger).root }
     ensures sound { Sound (terms ledger) result.entries.items }
@@ -152,7 +152,10 @@ fn book_of<N: Naming>(
     ensures too_many { result ≡ Err TooMany → (terms ledger).limit < leaf_count N.rules root }
 {
     match ended {
-        Ok(seats) => Ok(closed(ledger, seats)),
+        Ok(seats) => {
+            let book = closed(ledger, seats);
+            Ok(book)
+        }
         Err(FinishError::TooMany { seats, leaf: _ }) => {
             let _book = closed(ledger, seats);
             Err(PoolError::TooMany)

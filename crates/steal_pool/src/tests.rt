@@ -1,7 +1,7 @@
 // Seats that work off whole trees: what they push and take, the books that they leave, and workers that meet.
-ghost use Rattle.std.specs.Prelude.{◌≡◌, ◌<◌, pos, neg_ℤ, length};
-ghost use Rattle.span_ledger.specs.Seats.{AreNew, IsSeatOf, terms};
-ghost use Rattle.steal_pool.specs.Seats.{IsNamed};
+ghost use Rattle.std.specs.Prelude.{◌≡◌, ◌<◌, None, pos, neg_ℤ, length};
+ghost use Rattle.span_ledger.specs.Seats.{AreNew, terms};
+ghost use Rattle.steal_pool.specs.Seats.{IsLeft, IsNamed, SameSeat};
 ghost use Rattle.spec_trees.specs.declared.cuts.CutRule.TheVariants.{Half, Third};
 ghost use Rattle.spec_trees.specs.Cuts.{CanCut, cut_of};
 ghost use Rattle.spec_trees.specs.CutExamples.{parts_at};
@@ -9,10 +9,10 @@ ghost use Rattle.halving.specs.TestJudges.{thirds, thirds_are_sound};
 ghost use Rattle.steal_pool.specs.TestJudges.{long_crossing, long_crossing_is_sound, span, stairs, stairs_are_sound};
 
 use super::*;
-use crate::running::worked;
+use crate::running::{closed, worked};
 use gf_edges::{Gate, OpenGate};
 use halving::{Judge, Node, Turn, Verdict};
-use span_ledger::{LedgerSeat, SpanLedger};
+use span_ledger::{Book, LedgerSeat, SpanLedger};
 use std::alloc::Global;
 use std::marker::Brand;
 use std::process::Abort;
@@ -204,7 +204,10 @@ fn two_workers_meet(rt: HostRuntime) -> Result<(), Fail> {
 }
 
 // The right part of the node in the hand, put away, or nothing where that node isn't to be split.
-fn push_right<N: Naming, J: Judge, G: Gate>(seat: &mut PoolSeat<N, J, G>) -> Option<Pushed> {
+fn push_right<N: Naming, J: Judge, G: Gate>(seat: &mut PoolSeat<N, J, G>) -> Option<Pushed>
+    ensures same { SameSeat seat.old seat.new }
+    ensures refusal { seat.new.refusal ≡ seat.old.refusal }
+{
     let node = seat.worker.node()?;
     match seat.verdict(node) {
         Some(_) => None,
@@ -216,47 +219,74 @@ fn push_right<N: Naming, J: Judge, G: Gate>(seat: &mut PoolSeat<N, J, G>) -> Opt
 }
 
 // The next node, taken into an empty hand.
-fn take_next<N: Naming, J: Judge, G: Gate>(seat: &mut PoolSeat<N, J, G>) -> Option<Node> {
+fn take_next<N: Naming, J: Judge, G: Gate>(seat: &mut PoolSeat<N, J, G>) -> Option<Node>
+    ensures same { SameSeat seat.old seat.new }
+    ensures refusal { seat.new.refusal ≡ seat.old.refusal }
+{
     match seat.worker.node() {
         Some(_) => None,
         None => seat.take(),
     }
 }
 
-// A seat over a hundred seconds of stairs, which holds the root.
-fn push_stairs<N: Naming>(
-    rt: &impl Abort,
-    alloc: Global,
-    ledger: &SpanLedger,
-    entries: LedgerSeat,
-) -> Result<(), Fail>
-    requires rules { IsNamed N.rules stairs (span (pos 0) (pos 100)) }
-    requires root { (terms ledger.now).root ≡ span (pos 0) (pos 100) }
-    requires ours { IsSeatOf ledger.now entries }
+// A seat over a hundred seconds of stairs, which holds the root: it puts 64 nodes on its deque and one on its kept
+// stack, and then it works.
+fn push_stairs<N: Naming, R: Abort + Wait>(rt: &R, seat: &mut PoolSeat<N, Stairs, OpenGate>)
+    requires free { seat.old.refusal ≡ None }
+    ensures same { SameSeat seat.old seat.new }
+    ensures left { IsLeft N.rules seat.new }
 {
-    let hand = Some(span(0, 100));
-    let Ok(mut seat) = PoolSeat::<N, Stairs, OpenGate>::new(
-        alloc, &Stairs, ledger, entries, hand, &OpenGate,
-    ) else {
-        assert!(rt; false);
-        return Ok(());
-    };
     for _ in 0..64 {
-        assert_eq!(rt; push_right(&mut seat), Some(Pushed::OnDeque));
+        assert_eq!(rt; push_right(seat), Some(Pushed::OnDeque));
     }
-    assert_eq!(rt; push_right(&mut seat), Some(Pushed::Kept));
-    Ok(())
+    assert_eq!(rt; push_right(seat), Some(Pushed::Kept));
+    assert!(rt; seat.work(rt).is_ok());
+}
+
+// The book of the only seat of a pool, once it filled its deque and worked.
+fn book_of_one<N: Naming, R: Abort + Wait>(
+    rt: &R,
+    alloc: Global,
+    ledger: SpanLedger,
+    entries: Vec<LedgerSeat>,
+) -> Option<Book>
+    requires rules { IsNamed N.rules stairs (span (pos 0) (pos 100)) }
+    requires root { (terms ledger).root ≡ span (pos 0) (pos 100) }
+    requires one { length entries.items ≡ 1 }
+    requires all { length entries.items ≡ (terms ledger).seats }
+    requires fresh { AreNew ledger entries.items }
+{
+    let root = span(0, 100);
+    let Ok(mut seats) = make::<N, Stairs, OpenGate>(
+        alloc, &Stairs, &ledger, entries, root, &OpenGate,
+    ) else {
+        return None;
+    };
+    let Some(mut seat) = seats.pop() else {
+        return None;
+    };
+    push_stairs(rt, &mut seat);
+    let Ok(_) = seats.push(seat) else {
+        return None;
+    };
+    let Ok(entries) = finish(rt, alloc, seats) else {
+        return None;
+    };
+    Some(closed(ledger, entries))
 }
 
 #[test]
 fn a_deque_takes_64_nodes_in_a_row(rt: HostRuntime) -> Result<(), Fail> {
-    let Ok((ledger, mut seats)) = SpanLedger::new(rt.alloc(), span(0, 100), 100, 1) else {
+    let Ok((ledger, entries)) = SpanLedger::new(rt.alloc(), span(0, 100), 100, 1) else {
         assert!(rt; false);
         return Ok(());
     };
-    assert_eq!(rt; seats.len(), 1);
-    let entries = seats.remove(0);
-    push_stairs::<Brand>(&rt, rt.alloc(), &ledger, entries)
+    let Some(book) = book_of_one::<Brand, _>(&rt, rt.alloc(), ledger, entries) else {
+        assert!(rt; false);
+        return Ok(());
+    };
+    assert_eq!(rt; book.entries.len(), 100);
+    Ok(())
 }
 
 #[test]
@@ -269,34 +299,73 @@ fn nodes_that_were_kept_are_entered(rt: HostRuntime) -> Result<(), Fail> {
     Ok(())
 }
 
-// Two seats in one thread, the second of which takes what the first puts on its deque.
-fn take_from_other<N: Naming>(
-    rt: &impl Abort,
-    alloc: Global,
-    ledger: &SpanLedger,
-    entries: Vec<LedgerSeat>,
-) -> Result<(), Fail>
-    requires rules { IsNamed N.rules long_crossing (span (pos 1339000) (pos 1339400)) }
-    requires root { (terms ledger.now).root ≡ span (pos 1339000) (pos 1339400) }
-    requires two { length entries.items ≡ 2 }
-    requires all { length entries.items ≡ (terms ledger.now).seats }
-    requires fresh { AreNew ledger.now entries.items }
+// The second seat takes what the first puts on its deque, and then both work.
+fn take_from_other<N: Naming, R: Abort + Wait>(
+    rt: &R,
+    first: &mut PoolSeat<N, Crossing, OpenGate>,
+    second: &mut PoolSeat<N, Crossing, OpenGate>,
+)
+    requires free { (first.old.refusal ≡ None) × (second.old.refusal ≡ None) }
+    ensures first { SameSeat first.old first.new × IsLeft N.rules first.new }
+    ensures second { SameSeat second.old second.new × IsLeft N.rules second.new }
 {
-    let root = span(1_339_000, 1_339_400);
-    let Ok(mut seats) = make::<N, Crossing, OpenGate>(
-        alloc, &Crossing, ledger, entries, root, &OpenGate,
-    ) else {
-        assert!(rt; false);
-        return Ok(());
-    };
     let right = Node {
         a: 1_339_200,
         b: 1_339_400,
         depth: 1,
     };
-    assert_eq!(rt; push_right(&mut seats[0]), Some(Pushed::OnDeque));
-    assert_eq!(rt; take_next(&mut seats[1]), Some(right));
-    Ok(())
+    assert_eq!(rt; push_right(first), Some(Pushed::OnDeque));
+    assert_eq!(rt; take_next(second), Some(right));
+    assert!(rt; first.work(rt).is_ok());
+    assert!(rt; second.work(rt).is_ok());
+}
+
+// The book of two seats in one thread, once the second took a node of the first.
+fn book_of_two<N: Naming, R: Abort + Wait>(
+    rt: &R,
+    alloc: Global,
+    ledger: SpanLedger,
+    entries: Vec<LedgerSeat>,
+) -> Option<Book>
+    requires rules { IsNamed N.rules long_crossing (span (pos 1339000) (pos 1339400)) }
+    requires root { (terms ledger).root ≡ span (pos 1339000) (pos 1339400) }
+    requires two { length entries.items ≡ 2 }
+    requires all { length entries.items ≡ (terms ledger).seats }
+    requires fresh { AreNew ledger entries.items }
+{
+    let root = span(1_339_000, 1_339_400);
+    let Ok(mut seats) = make::<N, Crossing, OpenGate>(
+        alloc, &Crossing, &ledger, entries, root, &OpenGate,
+    ) else {
+        return None;
+    };
+    let Some(mut second) = seats.pop() else {
+        return None;
+    };
+    let Some(mut first) = seats.pop() else {
+        return None;
+    };
+    take_from_other(rt, &mut first, &mut second);
+    let Ok(_) = seats.push(first) else {
+        return None;
+    };
+    let Ok(_) = seats.push(second) else {
+        return None;
+    };
+    let Ok(entries) = finish(rt, alloc, seats) else {
+        return None;
+    };
+    Some(closed(ledger, entries))
+}
+
+// The number of the seat that entered the leaf from `a` to `b`.
+fn seat_of(book: &Book, a: i64, b: i64) -> Option<u32> {
+    for booked in book.entries.iter() {
+        if booked.leaf.node.a == a && booked.leaf.node.b == b {
+            return Some(booked.seat);
+        }
+    }
+    None
 }
 
 #[test]
@@ -306,7 +375,20 @@ fn a_seat_takes_what_another_put_on_its_deque(rt: HostRuntime) -> Result<(), Fai
         assert!(rt; false);
         return Ok(());
     };
-    take_from_other::<Brand>(&rt, rt.alloc(), &ledger, entries)
+    let Some(book) = book_of_two::<Brand, _>(&rt, rt.alloc(), ledger, entries) else {
+        assert!(rt; false);
+        return Ok(());
+    };
+    assert_eq!(rt; book.entries.len(), 4);
+    for (a, b, seat) in [
+        (1_339_000, 1_339_100, 0),
+        (1_339_100, 1_339_150, 0),
+        (1_339_150, 1_339_200, 0),
+        (1_339_200, 1_339_400, 1),
+    ] {
+        assert_eq!(rt; seat_of(&book, a, b), Some(seat));
+    }
+    Ok(())
 }
 
 // Counts its passes.

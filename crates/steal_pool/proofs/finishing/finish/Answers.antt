@@ -1,4 +1,4 @@
-use Rattle.std.proofs.Common.{◌≡◌, List, refl, sym, subst, ◌∙◌, rules}
+use Rattle.std.proofs.Common.{List, refl, subst, ◌∙◌, rules}
 use Rattle.std.proofs.lemmas.List.{with_items_is, places}
 use Rattle.steal_pool.specs.Seats.{Seat}
 use Rattle.steal_pool.specs.Pools.{Beside, NoneIsOutOfMemory}

@@ -1,6 +1,6 @@
-use Rattle.std.proofs.Common.{◌≡◌, ◌≢◌, Some, None}
+use Rattle.std.proofs.Common.{◌≢◌, Some}
 use Rattle.steal_pool.specs.Seats.{Seat}
-use Rattle.steal_pool.specs.declared.seat.PoolError.TheVariants.{TooMany, Memory as OutOfMemory}
+use Rattle.steal_pool.specs.declared.seat.PoolError.TheVariants.{Memory as OutOfMemory}
 use Rattle.steal_pool.proofs.Scanning.{Before}
 use Rattle.steal_pool.proofs.finishing.is_out_of_memory.Given as goal
 

@@ -1,6 +1,5 @@
-use Rattle.std.proofs.Common.{◌≡◌, ◌≢◌, inl, inr, Some, None, List, refl, sym, ap, subst, ◌∙◌, arith, rules}
+use Rattle.std.proofs.Common.{◌≡◌, None, refl, arith}
 use Rattle.steal_pool.specs.Seats.{Seat}
-use Rattle.steal_pool.specs.declared.seat.PoolError.TheVariants.{TooMany, Memory as OutOfMemory}
 use Rattle.steal_pool.proofs.Scanning.{at_index, before_all, before_more, before_none}
 use Rattle.steal_pool.proofs.finishing.keep_none.Goals as goal
 

@@ -1,4 +1,4 @@
-use Rattle.std.proofs.Common.{◌≡◌, ◌≢◌, inl, inr, Some, None, List, refl, sym, ap, subst, ◌∙◌, arith, rules}
+use Rattle.std.proofs.Common.{sym, subst, arith}
 use Rattle.steal_pool.specs.Pools.{Beside}
 use Rattle.steal_pool.specs.Closing.{Leaves}
 use Rattle.steal_pool.proofs.Listing.{beside_push, whole_step, whole_end}

@@ -1,4 +1,4 @@
-use Rattle.std.proofs.Common.{rules, ◌≡◌, ◌<◌, length, slice_set, arith}
+use Rattle.std.proofs.Common.{rules}
 use Rattle.steal_pool.proofs.Gathering.{read_within, read_fits, read_joins, read_none}
 use Rattle.steal_pool.proofs.joining.join_last.Goals as goal
 

@@ -1,5 +1,5 @@
-use Rattle.std.proofs.Common.{◌∙◌, refl, arith}
-use Rattle.steal_pool.proofs.Gathering.{before_more, joined_more, joined_self, joins_before, joins_fewer, joins_joined, joins_length, joins_linked}
+use Rattle.std.proofs.Common.{refl, arith}
+use Rattle.steal_pool.proofs.Gathering.{joined_more, joined_self, joins_before, joins_fewer, joins_joined, joins_length, joins_linked}
 use Rattle.steal_pool.proofs.joining.join_seat.Goals as goal
 
 pub loop-init : goal.loop-init

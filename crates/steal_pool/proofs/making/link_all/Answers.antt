@@ -1,4 +1,4 @@
-use Rattle.std.proofs.Common.{◌≡◌, ◌+◌, length, arith, ap, ◌∙◌, subst, sym}
+use Rattle.std.proofs.Common.{◌+◌, subst, sym}
 use Rattle.steal_pool.specs.Passes.{Linking}
 use Rattle.steal_pool.proofs.making.link_all.Goals as goal
 

@@ -1,4 +1,4 @@
-use Rattle.std.proofs.Common.{arith, ap, ◌∙◌}
+use Rattle.std.proofs.Common.{arith}
 use Rattle.steal_pool.proofs.Beginning.{linking_more, linking_next}
 use Rattle.steal_pool.proofs.making.link_one.Goals as goal
 

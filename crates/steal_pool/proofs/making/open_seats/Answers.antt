@@ -1,4 +1,4 @@
-use Rattle.std.proofs.Common.{rules, ◌≡◌, length, sym, ap, ◌∙◌, subst, arith}
+use Rattle.std.proofs.Common.{sym, subst, arith}
 use Rattle.span_ledger.specs.Seats.{IsSeatOf}
 use Rattle.steal_pool.specs.Pools.{Beside}
 use Rattle.steal_pool.specs.Passes.{Opens}

@@ -1,6 +1,4 @@
 use Rattle.std.proofs.Common.{◌≡◌, ◌++◌}
-use Rattle.std.specs.List.{AllByRecursion}
-use Rattle.span_ledger.specs.Seats.{IsSeatOf}
 use Rattle.steal_pool.specs.Pools.{Beside}
 use Rattle.steal_pool.specs.Passes.{Opens}
 use Rattle.steal_pool.proofs.making.open_seats.Given as goal

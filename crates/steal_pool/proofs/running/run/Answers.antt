@@ -1,4 +1,3 @@
-use Rattle.std.proofs.Common.{refl}
 use Rattle.steal_pool.proofs.Returning.{cover_ok}
 use Rattle.steal_pool.proofs.running.run.Goals as goal
 

@@ -1,9 +1,10 @@
-use Rattle.std.proofs.Common.{◌≡◌, List, rules, sym, subst, ◌∙◌}
+use Rattle.std.proofs.Common.{List, rules, sym, subst}
 use Rattle.std.proofs.lemmas.List.{with_items_is, places}
 use Rattle.steal_pool.specs.Pools.{AccountFor, AllBegin, AreLinked}
 use Rattle.steal_pool.specs.Seats.{Seat}
-use Rattle.steal_pool.proofs.Pooling.{account_later, linked_later}
-use Rattle.steal_pool.proofs.Returning.{begin_free, begin_hand, begin_seats}
+use Rattle.steal_pool.proofs.Pooling.{later_same, same_linked}
+use Rattle.steal_pool.proofs.Returning.{begin_free, begin_hand, same_seats}
+use Rattle.steal_pool.proofs.Together.{account_later}
 use Rattle.steal_pool.proofs.running.worked.Goals as goal
 
 pub begin_and_work-requires-clause-hand : goal.begin_and_work-requires-clause-hand
@@ -18,7 +19,8 @@ begin_and_work-requires-clause-free g c = λ κs o.
 
 pub returns-clause-linked : goal.returns-clause-linked
 returns-clause-linked g c = rw (with_items_is c.in_ok-seats.seats c.begin_and_work.new.seats (search (rules, places)))
-    (linked_later g.N.Naming.rules c.as_mut_slice.result.now c.begin_and_work.new.seats c.begin_and_work.ensures.later
+    (same_linked c.as_mut_slice.result.now c.begin_and_work.new.seats
+    (later_same g.N.Naming.rules c.as_mut_slice.result.now c.begin_and_work.new.seats c.begin_and_work.ensures.later)
     (subst AreLinked (sym c.as_mut_slice.ensures.value) c.in_ok-seats.ensures.linked))
 
 pub returns-clause-left : goal.returns-clause-left
@@ -31,5 +33,6 @@ returns-clause-account g c = rw (with_items_is c.in_ok-seats.seats c.begin_and_w
 
 pub returns-clause-seats : goal.returns-clause-seats
 returns-clause-seats g c = rw (with_items_is c.in_ok-seats.seats c.begin_and_work.new.seats (search (rules, places)))
-    (begin_seats g.N.Naming.rules c.args.ledger.now c.args.root c.as_mut_slice.result.now c.begin_and_work.new.seats
-    (subst (λ (ss : List Seat). AllBegin c.args.ledger.now c.args.root ss) (sym c.as_mut_slice.ensures.value) c.in_ok-seats.ensures.begin) c.begin_and_work.ensures.later)
+    (same_seats c.args.ledger.now c.args.root c.as_mut_slice.result.now c.begin_and_work.new.seats
+    (subst (λ (ss : List Seat). AllBegin c.args.ledger.now c.args.root ss) (sym c.as_mut_slice.ensures.value) c.in_ok-seats.ensures.begin)
+    (later_same g.N.Naming.rules c.as_mut_slice.result.now c.begin_and_work.new.seats c.begin_and_work.ensures.later))

@@ -3,5 +3,5 @@ use Rattle.steal_pool.specs.Seats.{rules_within}
 use Rattle.steal_pool.specs.TestJudges.{span, stairs}
 use Rattle.steal_pool.proofs.tests.a_deque_takes_64_nodes_in_a_row.Given as goal
 
-abbrev pub ghosts-push_stairs : goal.ghosts-push_stairs
-ghosts-push_stairs g a = record { rules = rules_within stairs (span (pos 0) (pos 100)) }
+abbrev pub ghosts-book_of_one : goal.ghosts-book_of_one
+ghosts-book_of_one g a = record { rules = rules_within stairs (span (pos 0) (pos 100)) }

@@ -3,5 +3,5 @@ use Rattle.steal_pool.specs.Seats.{rules_within}
 use Rattle.steal_pool.specs.TestJudges.{long_crossing, span}
 use Rattle.steal_pool.proofs.tests.a_seat_takes_what_another_put_on_its_deque.Given as goal
 
-abbrev pub ghosts-take_from_other : goal.ghosts-take_from_other
-ghosts-take_from_other g a = record { rules = rules_within long_crossing (span (pos 1339000) (pos 1339400)) }
+abbrev pub ghosts-book_of_two : goal.ghosts-book_of_two
+ghosts-book_of_two g a = record { rules = rules_within long_crossing (span (pos 1339000) (pos 1339400)) }

@@ -1,5 +1,4 @@
-use Rattle.std.proofs.Common.{arith}
-use Rattle.steal_pool.proofs.Rule.{owner_takes, finds, used_left}
+use Rattle.steal_pool.proofs.Rule.{owner_takes, finds}
 use Rattle.steal_pool.proofs.ends.Owner.pop.Goals as goal
 
 pub pop_as-requires-clause-fifo : goal.pop_as-requires-clause-fifo

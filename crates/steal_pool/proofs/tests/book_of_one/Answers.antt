@@ -1,0 +1,21 @@
+use Rattle.std.proofs.Common.{◌∙◌}
+use Rattle.steal_pool.specs.Seats.{SameSeat}
+use Rattle.steal_pool.proofs.Listing.{beside_length}
+use Rattle.steal_pool.proofs.Returning.{begin_free, come_back, free_last, same_all, same_last, same_seats}
+use Rattle.steal_pool.proofs.tests.book_of_one.Goals as goal
+
+pub push_stairs-requires : goal.push_stairs-requires
+push_stairs-requires g c = record {
+  free = (free_last c.in-Ok.seats.items c.pop.new.self.items c.in-Some.seat (begin_free c.args.ledger c.span-root.result c.in-Ok.seats.items c.in-Ok.ensures.begin) c.in-Some.ensures.items).1;
+}
+
+pub closed-requires : goal.closed-requires
+closed-requires g c =
+    let same = same_last c.in-Ok.seats.items c.push.new.self.items c.pop.new.self.items c.pop.new.self.items c.in-Some.seat c.push_stairs.new.seat
+    (same_all c.pop.new.self.items) c.push_stairs.ensures.same c.in-Some.ensures.items c.in-Ok-push.ensures.items in
+    record {
+      all = come_back c.args.ledger c.push.new.self.items
+          (same_seats c.args.ledger c.span-root.result c.in-Ok.seats.items c.push.new.self.items c.in-Ok.ensures.begin same)
+          (beside_length SameSeat c.in-Ok.seats.items c.push.new.self.items same ∙ c.in-Ok.ensures.count ∙ c.requires.all)
+          c.in-Ok-finish.entries.items c.in-Ok-finish.ensures.back;
+    }

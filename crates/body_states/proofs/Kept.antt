@@ -1,16 +1,14 @@
 -- What is kept of the columns in use is right.
-use Rattle.std.proofs.Common.{◌≡◌, ℕ, zero, suc, ◌<◌, ◌≤◌, IsTrue, IfSome, List, Option, Some, arith, subst, ℤ}
+use Rattle.std.proofs.Common.{◌≡◌, ℕ, zero, suc, ◌<◌, ◌≤◌, IfSome, List, Option, Some, arith, subst, ℤ}
 use Rattle.std.specs.Prelude.{All, Contains}
 use Rattle.std.proofs.lemmas.List.Elements.{All-filter, All-contains, All-contains_itself}
 use Rattle.spec_ephemeris.specs.declared.limits.TheConstants.{BODY_COLUMNS}
-use Rattle.spec_ephemeris.specs.Header.{has_column}
 use Rattle.spec_bodies.specs.Sources.{body_columns, is_in_use}
 use Rattle.spec_bodies.specs.Reading.{IsUsable}
 use Rattle.spec_bodies.specs.Views.{View, IsView, columns_of, column_enclosure}
 use Rattle.spec_bodies.proofs.InUse.{present_in_use}
 use Rattle.spec_intervals.specs.Enclosure.{Enclosure}
 use Rattle.spec_bodies.specs.declared.quantity.Quantity.{Quantity}
-use Rattle.spec_bodies.specs.declared.quantity.Quantity.TheVariants.{Position, Velocity}
 use Rattle.body_states.specs.declared.enclosures.AxisEnclosures.{AxisEnclosures}
 use Rattle.body_states.specs.declared.enclosures.ColumnEnclosures.{ColumnEnclosures}
 use Rattle.body_states.specs.declared.enclosures.TargetEnclosures.{TargetEnclosures}

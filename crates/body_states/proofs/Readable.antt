@@ -1,8 +1,7 @@
 -- The coordinates that targets are made of can be read.
 use Rattle.std.proofs.Common.{◌≡◌, ℕ, ◌<◌, subst}
 use Rattle.std.proofs.lemmas.List.Elements.{All-weaker}
-use Rattle.spec_bodies.specs.declared.source.Source.{Source}
-use Rattle.spec_bodies.specs.Coordinates.{Coordinate, less, barycentric_coordinate, displacement}
+use Rattle.spec_bodies.specs.Coordinates.{less, barycentric_coordinate}
 use Rattle.spec_bodies.specs.Reading.{IsUsable, IsReadable}
 use Rattle.spec_bodies.specs.Sources.{used}
 use Rattle.spec_bodies.specs.Views.{View, IsView, target_of}

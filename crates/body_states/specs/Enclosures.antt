@@ -29,13 +29,17 @@ nothing_known_of_targets = record { first = nothing_known; second = nothing_know
 abbrev pub nothing_known_of_column : ColumnEnclosures
 nothing_known_of_column = record { number = 0; along = nothing_known }
 
--- ---- what is known along each axis is right
-pub record AreAlong (enclosures : ℕ → Enclosure) (m : AxisEnclosures) : Type 0 where
-  pub x : IfSome m.x (λ e. e ≡ enclosures 0)
-  pub y : IfSome m.y (λ e. e ≡ enclosures 1)
-  pub z : IfSome m.z (λ e. e ≡ enclosures 2)
+-- ---- what is known, if anything is, is right
+abbrev pub IsRight : Enclosure → Option Enclosure → Type 0
+IsRight enclosure known = IfSome known (λ e. e ≡ enclosure)
 
--- and that of both targets, by target and axis
+-- along each axis
+pub record AreAlong (enclosures : ℕ → Enclosure) (m : AxisEnclosures) : Type 0 where
+  pub x : IsRight (enclosures 0) m.x
+  pub y : IsRight (enclosures 1) m.y
+  pub z : IsRight (enclosures 2) m.z
+
+-- and of both targets, by target and axis
 pub record AreOfTargets (enclosures : ℕ → ℕ → Enclosure) (m : TargetEnclosures) : Type 0 where
   pub first : AreAlong (enclosures 0) m.first
   pub second : AreAlong (enclosures 1) m.second

@@ -14,6 +14,9 @@ pub record Moment : Type 0 where
 abbrev pub target_state : View → ℤ → ℤ → Quantity → ℕ → ℕ → Enclosure
 target_state v a b quantity target axis = coordinate_enclosure v quantity target axis a b
 
+abbrev pub moment_state : Moment → Quantity → ℕ → ℕ → Enclosure
+moment_state m = target_state m.view m.first m.last
+
 -- what is asked of a target, by axis
 abbrev pub question_state : View → Question → ℕ → ℕ → Enclosure
 question_state v q target axis = coordinate_enclosure v q.quantity target axis q.times.now.first q.times.now.last

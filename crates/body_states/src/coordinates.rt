@@ -102,12 +102,7 @@ impl<'e> BodyStates<'e> {
     }
 
     /// A coordinate of a source relative to the observer, in the frame of the files.
-    pub(crate) fn displacement(
-        &self,
-        source: Source,
-        axis: usize,
-        question: &Question,
-    ) -> Enclosure
+    pub(crate) fn displacement(&self, source: Source, axis: usize, question: &Question) -> Enclosure
         requires axis { axis < 3 }
         requires question { CanAsk self.now question.now }
         requires readable { CanRead self.now (displacement_of self.now source axis) }

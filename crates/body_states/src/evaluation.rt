@@ -1,7 +1,7 @@
 // The enclosures of a quantity over times within a granule, with each basis made once for all axes.
-ghost use Rattle.std.specs.Prelude.{◌≡◌, ◌<◌, IfSome, length};
+ghost use Rattle.std.specs.Prelude.{◌≡◌, ◌<◌, length};
 ghost use Rattle.spec_intervals.specs.Enclosure.{middle};
-ghost use Rattle.body_states.specs.Enclosures.{AreAlong, enclosure_along};
+ghost use Rattle.body_states.specs.Enclosures.{IsRight, AreAlong, enclosure_along};
 ghost use Rattle.body_states.specs.Bases.{ArePlain, AreAll, IsCentre, IsWhole, IsSingle, AreSeveral, value_over, step_over};
 
 use crate::bases::{PlainRow, RowRoom, Rows};
@@ -14,9 +14,22 @@ use ival_core::{Divider, Enclosure, Ival};
 use spec_bodies::Quantity;
 
 impl<'g> GranuleSpan<'g> {
-    /// Writes the enclosures along some axes over several times.
+    /// Writes the enclosures along some axes.
+    #[inline(always)]
+    pub fn write_along(&self, quantity: Quantity, axes: Axes, out: &mut AxisEnclosures)
+        requires known { AreAlong (enclosure_along self.now quantity) out.old }
+        ensures { AreAlong (enclosure_along self.now quantity) out.new }
+    {
+        if self.times.is_wide() {
+            self.along_over(quantity, axes, out);
+        } else {
+            self.along_at(quantity, axes, out);
+        }
+    }
+
+    // Writes them over several times.
     #[inline(never)]
-    pub fn along_over(&self, quantity: Quantity, axes: Axes, out: &mut AxisEnclosures)
+    fn along_over(&self, quantity: Quantity, axes: Axes, out: &mut AxisEnclosures)
         requires several { AreSeveral self.now }
         requires known { AreAlong (enclosure_along self.now quantity) out.old }
         ensures { AreAlong (enclosure_along self.now quantity) out.new }
@@ -29,10 +42,9 @@ impl<'g> GranuleSpan<'g> {
         self.write_over(axes.z, quantity, 2, &room, &mut out.z);
     }
 
-    /// Writes the enclosures along some axes at a single time, for which neither a row over several nor one of changes is
-    /// made.
+    // Writes them at a single time, for which neither a row over several nor one of changes is made.
     #[inline(never)]
-    pub fn along_at(&self, quantity: Quantity, axes: Axes, out: &mut AxisEnclosures)
+    fn along_at(&self, quantity: Quantity, axes: Axes, out: &mut AxisEnclosures)
         requires single { IsSingle self.now }
         requires known { AreAlong (enclosure_along self.now quantity) out.old }
         ensures { AreAlong (enclosure_along self.now quantity) out.new }
@@ -75,8 +87,8 @@ impl<'g> GranuleSpan<'g> {
         requires several { AreSeveral self.now }
         requires centre { IsCentre self.now quantity room.now.centre }
         requires whole { IsWhole self.now quantity room.now.whole }
-        requires known { IfSome out.old (λ e. e ≡ enclosure_along self.now quantity axis) }
-        ensures { IfSome out.new (λ e. e ≡ enclosure_along self.now quantity axis) }
+        requires known { IsRight (enclosure_along self.now quantity axis) out.old }
+        ensures { IsRight (enclosure_along self.now quantity axis) out.new }
     {
         if is_needed {
             *out = Some(self.over(quantity, axis, room));
@@ -96,8 +108,8 @@ impl<'g> GranuleSpan<'g> {
         requires axis { axis < 3 }
         requires single { IsSingle self.now }
         requires centre { IsCentre self.now quantity centre.now }
-        requires known { IfSome out.old (λ e. e ≡ enclosure_along self.now quantity axis) }
-        ensures { IfSome out.new (λ e. e ≡ enclosure_along self.now quantity axis) }
+        requires known { IsRight (enclosure_along self.now quantity axis) out.old }
+        ensures { IsRight (enclosure_along self.now quantity axis) out.new }
     {
         if is_needed {
             *out = Some(self.at(quantity, axis, centre));

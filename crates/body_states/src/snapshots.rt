@@ -3,7 +3,7 @@ ghost use Rattle.std.specs.Prelude.{◌≡◌, ◌<◌};
 ghost use Rattle.spec_bodies.specs.Views.{Fits, state_enclosure, exact_state};
 ghost use Rattle.spec_bodies.proofs.Held.{times_span, fractions_of_states, states_held, states_within};
 ghost use Rattle.body_states.specs.Enclosures.{AreAlong};
-ghost use Rattle.body_states.specs.Moments.{target_state};
+ghost use Rattle.body_states.specs.Moments.{moment_state};
 
 use crate::enclosures::{AxisEnclosures, TargetEnclosures};
 use crate::states::BodyStates;
@@ -33,7 +33,8 @@ impl<'s, 'e> Model for Snapshot<'s, 'e> {
 
     ghost view = { λ s. record { view = s.states.now; first = s.from; last = s.upto } };
 
-    ghost invariant = { λ s. AreOfTargets (target_state s.states.now s.from s.upto Position) s.position
+    ghost invariant = {
+      λ s. AreOfTargets (target_state s.states.now s.from s.upto Position) s.position
         × AreOfTargets (target_state s.states.now s.from s.upto Velocity) s.velocity };
 }
 
@@ -65,8 +66,7 @@ impl<'s, 'e> Snapshot<'s, 'e> {
     // What was made of a quantity of a target.
     fn known(&self, quantity: Quantity, target: u8) -> &AxisEnclosures
         requires { target < 2 }
-        ensures { let enclosures = target_state self.now.view self.now.first self.now.last quantity in
-            AreAlong (enclosures target) result.now }
+        ensures { AreAlong (moment_state self.now quantity target) result.now }
     {
         match quantity {
             Quantity::Position => self.position.of(target),
@@ -82,8 +82,7 @@ impl<'s, 'e> Snapshot<'s, 'e> {
         requires first { a ≡ self.now.first }
         requires last { b ≡ self.now.last }
         requires fits { Fits self.now.view a b }
-        ensures { let enclosures = target_state self.now.view self.now.first self.now.last quantity in
-            result ≡ enclosures target axis }
+        ensures { result ≡ moment_state self.now quantity target axis }
     {
         match self.known(quantity, target).along(usize::from(axis)) {
             Some(enclosure) => enclosure,

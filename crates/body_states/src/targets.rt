@@ -1,11 +1,11 @@
 // What is wanted of a quantity of both targets over a span of times, with each basis of a column made once.
-ghost use Rattle.std.specs.Prelude.{◌≡◌, ◌<◌, ℕ, All, IfSome, IsTrue};
-ghost use Rattle.spec_bodies.specs.Coordinates.{less, barycentric_coordinate};
+ghost use Rattle.std.specs.Prelude.{◌≡◌, ◌<◌, IsTrue};
+ghost use Rattle.spec_bodies.specs.Coordinates.{barycentric_coordinate};
 ghost use Rattle.spec_bodies.specs.Reading.{IsUsable};
 ghost use Rattle.spec_bodies.specs.Views.{Fits};
-ghost use Rattle.body_states.specs.Answers.{CanAsk, CanRead, CanReadSource, IsKnown, IsDisplacement, observer_answer, displacement_answer, ecliptic_answer, displacement_of, turned_y, turned_z};
+ghost use Rattle.body_states.specs.Answers.{CanAsk, CanRead, CanReadSource, CanReadObserver, IsApart, IsKnown, AreKnown, IsDisplacement, observer_answer, displacement_answer, ecliptic_answer, turned_y, turned_z};
 ghost use Rattle.body_states.specs.Dividers.{granule_seconds};
-ghost use Rattle.body_states.specs.Enclosures.{AreAlong, AreOfTargets};
+ghost use Rattle.body_states.specs.Enclosures.{IsRight, AreAlong, AreOfTargets};
 ghost use Rattle.body_states.specs.Moments.{question_state, target_state};
 
 use crate::enclosures::{AxisEnclosures, ColumnEnclosures, TargetEnclosures};
@@ -74,14 +74,21 @@ impl<'e> BodyStates<'e> {
         columns: &mut [ColumnEnclosures; 4],
     )
         requires fits { Fits self.now times.now.first times.now.last }
-        requires known { All (IsKnown self.now quantity times.now.first times.now.last) columns.old }
-        ensures { All (IsKnown self.now quantity times.now.first times.now.last) columns.new }
+        requires known { AreKnown self.now quantity times.now.first times.now.last columns.old }
+        ensures { AreKnown self.now quantity times.now.first times.now.last columns.new }
     {
         let numbers = self.columns();
         let dividers = self.dividers();
         for place in 0..numbers.len().min(4) {
             let column = &mut columns[place];
-            self.write_column(numbers[place], &dividers[place], quantity, times, axes, column);
+            self.write_column(
+                numbers[place],
+                &dividers[place],
+                quantity,
+                times,
+                axes,
+                column,
+            );
         }
     }
 
@@ -103,11 +110,7 @@ impl<'e> BodyStates<'e> {
         column.number = number;
         column.along = AxisEnclosures::none();
         let span = self.granule_span(number, times, divider);
-        if times.is_wide() {
-            span.along_over(quantity, axes, &mut column.along);
-        } else {
-            span.along_at(quantity, axes, &mut column.along);
-        }
+        span.write_along(quantity, axes, &mut column.along);
     }
 
     // Writes the observer along some axes of the files, where a target is seen from it.
@@ -133,8 +136,8 @@ impl<'e> BodyStates<'e> {
     )
         requires question { CanAsk self.now question.now }
         requires readable { CanRead self.now (barycentric_coordinate self.now.observer axis) }
-        requires known { IfSome out.old (λ e. e ≡ observer_answer self.now question.now axis) }
-        ensures { IfSome out.new (λ e. e ≡ observer_answer self.now question.now axis) }
+        requires known { IsRight (observer_answer self.now question.now axis) out.old }
+        ensures { IsRight (observer_answer self.now question.now axis) out.new }
     {
         if is_needed {
             *out = Some(self.barycentric(self.observer, axis, question));
@@ -143,16 +146,14 @@ impl<'e> BodyStates<'e> {
 
     // Whether a target is its own coordinates less those of the observer.
     fn needs_observer(&self) -> bool
-        ensures { IsTrue result
-            → (axis : ℕ) → axis < 3 → CanRead self.now (barycentric_coordinate self.now.observer axis) }
+        ensures { IsTrue result → CanReadObserver self.now }
     {
         self.is_apart(self.first) || self.is_apart(self.second)
     }
 
     // Whether a source seen from the observer is its own coordinates less those of the observer.
     fn is_apart(&self, source: Source) -> bool
-        ensures { IsTrue result → (axis : ℕ) → displacement_of self.now source axis
-            ≡ less (barycentric_coordinate source axis) (barycentric_coordinate self.now.observer axis) }
+        ensures { IsTrue result → IsApart self.now source }
     {
         match (source, self.observer) {
             (Source::MoonOfPair, Source::EarthOfPair) => false,
@@ -163,13 +164,7 @@ impl<'e> BodyStates<'e> {
     }
 
     // Writes a target along the wanted axes of the frame.
-    fn write_target(
-        &self,
-        target: u8,
-        wanted: Axes,
-        question: &Question,
-        out: &mut AxisEnclosures,
-    )
+    fn write_target(&self, target: u8, wanted: Axes, question: &Question, out: &mut AxisEnclosures)
         requires target { target < 2 }
         requires question { CanAsk self.now question.now }
         requires known { AreAlong (question_state self.now question.now target) out.old }
@@ -235,8 +230,8 @@ impl<'e> BodyStates<'e> {
         requires axis { axis < 3 }
         requires question { CanAsk self.now question.now }
         requires readable { CanReadSource self.now source }
-        requires known { IfSome out.old (λ e. e ≡ displacement_answer self.now question.now source axis) }
-        ensures { IfSome out.new (λ e. e ≡ displacement_answer self.now question.now source axis) }
+        requires known { IsRight (displacement_answer self.now question.now source axis) out.old }
+        ensures { IsRight (displacement_answer self.now question.now source axis) out.new }
     {
         if is_wanted {
             *out = Some(self.displacement(source, axis, question));
@@ -255,8 +250,8 @@ impl<'e> BodyStates<'e> {
         requires question { CanAsk self.now question.now }
         requires y { IsDisplacement self.now question.now 1 y.now }
         requires z { IsDisplacement self.now question.now 2 z.now }
-        requires known { IfSome out.old (λ e. e ≡ turned_y self.now question.now y.now z.now) }
-        ensures { IfSome out.new (λ e. e ≡ turned_y self.now question.now y.now z.now) }
+        requires known { IsRight (turned_y self.now question.now y.now z.now) out.old }
+        ensures { IsRight (turned_y self.now question.now y.now z.now) out.new }
     {
         if is_wanted {
             *out = Some(self.turned_y(y, z, question));
@@ -275,8 +270,8 @@ impl<'e> BodyStates<'e> {
         requires question { CanAsk self.now question.now }
         requires y { IsDisplacement self.now question.now 1 y.now }
         requires z { IsDisplacement self.now question.now 2 z.now }
-        requires known { IfSome out.old (λ e. e ≡ turned_z self.now question.now y.now z.now) }
-        ensures { IfSome out.new (λ e. e ≡ turned_z self.now question.now y.now z.now) }
+        requires known { IsRight (turned_z self.now question.now y.now z.now) out.old }
+        ensures { IsRight (turned_z self.now question.now y.now z.now) out.new }
     {
         if is_wanted {
             *out = Some(self.turned_z(y, z, question));

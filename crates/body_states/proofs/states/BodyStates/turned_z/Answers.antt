@@ -1,4 +1,3 @@
-use Rattle.std.proofs.Common.{◌∙◌, ap}
 use Rattle.spec_bodies.specs.declared.factor.Factor.TheVariants.{Cosine, Sine}
 use Rattle.body_states.proofs.Good.{displacement_answers, scaled_displacement}
 use Rattle.body_states.proofs.states.BodyStates.turned_z.Goals as goal

@@ -1,5 +1,5 @@
 -- The enclosure of a short formula over columns that can be read is within the limits of the rules, and encloses a value.
-use Rattle.std.proofs.Common.{ℕ, ◌≤◌, arith, sym, subst, ℤ, ◌≤ℤ◌}
+use Rattle.std.proofs.Common.{ℕ, ◌≤◌, arith, ap, sym, subst, ℤ, ◌≤ℤ◌}
 use Rattle.std.proofs.lemmas.Int.{ints}
 use Rattle.spec_intervals.specs.Fraction.{IsFraction, Holds, Overlaps}
 use Rattle.spec_intervals.specs.Enclosure.{Enclosure, IsWithin, AllWithin, Encloses, constant_of}
@@ -19,7 +19,7 @@ use Rattle.spec_bodies.proofs.Factors.{factor_is, constant_is}
 use Rattle.spec_bodies.proofs.Formulas.{IsFraction-factor, Holds-factor_interval}
 use Rattle.spec_bodies.proofs.Held.{formula_encloses, formula_within}
 use Rattle.body_states.specs.declared.question.Question.{Question}
-use Rattle.body_states.specs.Answers.{IsAnswer}
+use Rattle.body_states.specs.Answers.{IsAnswer, IsDisplacement, scaled_answer}
 
 more : (m n : ℕ) (e : Enclosure) → m ≤ n → AllWithin m e → AllWithin n e
 more m n e p is = record { mid = IsWithin-more m n e.mid p is.mid; range = IsWithin-more m n e.range p is.range; step = IsWithin-more m n e.step p is.step }
@@ -55,6 +55,23 @@ displacement_short axis target observer = let l = (displacement_low axis target 
 
 pub scaled_short : (f : Factor) (axis : ℕ) (target observer : Source) → IsShort (times f (displacement target observer axis))
 scaled_short f axis target observer = let l = (displacement_low axis target observer).low in let h = (displacement_low axis target observer).high in record { low = omega (arith, l); high = omega (arith, h) }
+
+-- ---- a coordinate along an axis of the files, and a factor times it
+pub displacement_answers : (v : View) (q : Question) (axis : ℕ) (e : Enclosure) → IsDisplacement v q axis e → IsAnswer v q e
+displacement_answers v q axis e is = record {
+  formula = displacement is.source v.observer axis;
+  readable = is.readable;
+  short = displacement_short axis is.source v.observer;
+  is = is.is;
+}
+
+pub scaled_displacement : (v : View) (q : Question) (f : Factor) (axis : ℕ) (e : Enclosure) → IsDisplacement v q axis e → IsAnswer v q (scaled_answer v q f e)
+scaled_displacement v q f axis e is = record {
+  formula = times f (displacement is.source v.observer axis);
+  readable = is.readable;
+  short = scaled_short f axis is.source v.observer;
+  is = ap (scaled_answer v q f) is.is;
+}
 
 -- ---- a factor of the view
 module _ (v : View) (is : IsView v) (f : Factor) where

@@ -1,6 +1,7 @@
 pub mod Masses
 pub mod Good
 pub mod SeriesParts
+pub mod Readable
 pub mod Reading
 pub mod Sums
 pub mod Kept

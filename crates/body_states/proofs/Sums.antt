@@ -1,5 +1,5 @@
 -- Sums over bases that are made once are the intervals of the series.
-use Rattle.std.proofs.Common.{◌≡◌, ◌∙◌, ℕ, ◌<◌, true, refl, arith, List, ℤ, ◌+ℤ◌, ◌≤ℤ◌, unsigned_abs}
+use Rattle.std.proofs.Common.{◌≡◌, ◌∙◌, ℕ, ◌<◌, true, refl, arith, List, ℤ, ◌+ℤ◌, ◌≤ℤ◌}
 use Rattle.std.proofs.lemmas.Int.{ints}
 use lib.Signed.{lt_z}
 use Rattle.spec_chebyshev.specs.declared.ends.Ival62.{Ival62}
@@ -14,8 +14,9 @@ use Rattle.spec_bodies.specs.declared.quantity.Quantity.{Quantity}
 use Rattle.spec_bodies.specs.declared.quantity.Quantity.TheVariants.{Position, Velocity}
 use Rattle.spec_bodies.specs.Views.{value_interval, step_interval}
 use Rattle.body_states.specs.declared.granule_span.GranuleSpan.{GranuleSpan}
+use Rattle.body_states.specs.declared.bases.PlainRow.{PlainRow}
 use Rattle.body_states.specs.declared.bases.Rows.{Rows}
-use Rattle.body_states.specs.Bases.{IsCentre, IsWhole, value_over, step_over}
+use Rattle.body_states.specs.Bases.{IsCentre, IsWhole, AreSeveral, value_over, step_over}
 use Rattle.body_states.proofs.SeriesParts.{AreParts, series_parts}
 
 pub value_over-arguments : (quantity : Quantity) (s : Series) (a b : ℤ) → value_over quantity (coefficients_of s) (arguments s a b) s.duration ≡ value_interval quantity s a b
@@ -43,14 +44,14 @@ middle_near s =
 
 -- ---- sums by the coefficients of an axis are the intervals of its series
 module _ (s : GranuleSpan) (quantity : Quantity) (axis : ℕ) (terms : List Ival62) (are : terms ≡ coefficients_of (series_of s.granule axis)) (t : Interval) where
-  pub mid_is : (bases : Rows) → IsCentre s quantity bases → t ≡ value_over quantity terms bases.arguments (unsigned_abs s.granule.seconds)
+  pub mid_is : (row : PlainRow) → IsCentre s quantity row → t ≡ value_over quantity terms row.arguments s.divider.now
       → t ≡ value_interval quantity (series_of s.granule axis) (middle s.times.now.first s.times.now.last) (middle s.times.now.first s.times.now.last)
-  mid_is bases is e = e ∙ (λ i. value_over quantity (are i) (is.over axis i) (unsigned_abs s.granule.seconds)) ∙ value_over-arguments quantity (series_of s.granule axis) _ _
+  mid_is row is e = e ∙ (λ i. value_over quantity (are i) (is.over axis i) (s.seconds i)) ∙ value_over-arguments quantity (series_of s.granule axis) _ _
 
-  pub range_is : (bases : Rows) → IsWhole s quantity bases → t ≡ value_over quantity terms bases.arguments (unsigned_abs s.granule.seconds)
+  pub range_is : (rows : Rows) → IsWhole s quantity rows → t ≡ value_over quantity terms rows.plain.arguments s.divider.now
       → t ≡ value_interval quantity (series_of s.granule axis) s.times.now.first s.times.now.last
-  range_is bases is e = e ∙ (λ i. value_over quantity (are i) (is.over axis i) (unsigned_abs s.granule.seconds)) ∙ value_over-arguments quantity (series_of s.granule axis) _ _
+  range_is rows is e = e ∙ (λ i. value_over quantity (are i) (is.over axis i) (s.seconds i)) ∙ value_over-arguments quantity (series_of s.granule axis) _ _
 
-  pub step_is : (bases : Rows) → IsWhole s quantity bases → lt_z s.times.now.first s.times.now.last ≡ true → t ≡ step_over quantity terms bases.arguments (unsigned_abs s.granule.seconds)
+  pub step_is : (rows : Rows) → IsWhole s quantity rows → AreSeveral s → t ≡ step_over quantity terms rows.plain.arguments s.divider.now
       → t ≡ step_interval quantity (series_of s.granule axis) s.times.now.first s.times.now.last
-  step_is bases is several e = e ∙ (λ i. step_over quantity (are i) (is.over axis i) (unsigned_abs s.granule.seconds)) ∙ step_over-arguments quantity (series_of s.granule axis) _ _ several
+  step_is rows is several e = e ∙ (λ i. step_over quantity (are i) (is.over axis i) (s.seconds i)) ∙ step_over-arguments quantity (series_of s.granule axis) _ _ several

@@ -1,24 +1,38 @@
 -- What is asked of a body, and what is answered for a formula.
-use Rattle.std.specs.Prelude.{◌≡◌, ℕ, ℤ, All}
+use Rattle.std.specs.Prelude.{◌≡◌, ◌<◌, ℕ, ℤ, List, All}
 use Rattle.spec_intervals.specs.Enclosure.{Enclosure, sum_of, difference_of, product_of, constant_of}
 use Rattle.spec_bodies.specs.declared.factor.Factor.{Factor}
 use Rattle.spec_bodies.specs.declared.source.Source.{Source}
-use Rattle.spec_bodies.specs.Coordinates.{Coordinate, displacement, ecliptic_coordinate}
+use Rattle.spec_bodies.specs.declared.factor.Factor.TheVariants.{Cosine, Sine}
+use Rattle.spec_bodies.specs.declared.quantity.Quantity.{Quantity}
+use Rattle.spec_bodies.specs.Coordinates.{Coordinate, less, barycentric_coordinate, displacement, ecliptic_coordinate}
 use Rattle.spec_bodies.specs.Meanings.{factor_interval}
 use Rattle.spec_bodies.specs.Views.{View, Fits, factor_of, column_enclosure, formula_enclosure}
 use Rattle.spec_bodies.specs.Reading.{IsUsable, IsReadable, IsShort, AllColumns}
 use Rattle.body_states.specs.declared.question.Question.{Question}
-use Rattle.body_states.specs.declared.motions.ColumnMotions.{ColumnMotions}
-use Rattle.body_states.specs.Motions.{AreMotions}
+use Rattle.body_states.specs.declared.enclosures.ColumnEnclosures.{ColumnEnclosures}
+use Rattle.body_states.specs.Enclosures.{AreAlong}
 
 -- what is kept of a column is right, where the column is usable
-abbrev pub IsKnown : View → ℤ → ℤ → ColumnMotions → Type 0
-IsKnown v a b c = IsUsable v c.number → AreMotions (λ quantity. column_enclosure v quantity a b c.number) c.motions
+abbrev pub IsKnown : View → Quantity → ℤ → ℤ → ColumnEnclosures → Type 0
+IsKnown v quantity a b c = IsUsable v c.number → AreAlong (column_enclosure v quantity a b c.number) c.along
+
+abbrev pub AreKnown : View → Quantity → ℤ → ℤ → List ColumnEnclosures → Type 0
+AreKnown v quantity a b columns = All (IsKnown v quantity a b) columns
+
+-- the observer relative to the barycentre of the solar system, by axis
+abbrev pub observer_enclosure : View → Quantity → ℤ → ℤ → ℕ → Enclosure
+observer_enclosure v quantity a b axis = formula_enclosure v quantity a b (barycentric_coordinate v.observer axis)
+
+-- what is asked of the observer
+abbrev pub observer_answer : View → Question → ℕ → Enclosure
+observer_answer v q = observer_enclosure v q.quantity q.times.now.first q.times.now.last
 
 -- a question that can be asked, over times that fit
 pub record CanAsk (v : View) (q : Question) : Type 0 where
   pub fits : Fits v q.times.now.first q.times.now.last
-  pub known : All (IsKnown v q.times.now.first q.times.now.last) q.columns.now
+  pub known : AreKnown v q.quantity q.times.now.first q.times.now.last q.columns.now
+  pub observer : AreAlong (observer_answer v q) q.observer.now
 
 -- a formula of which each column can be read
 abbrev pub CanRead : View → Coordinate → Type 0
@@ -54,3 +68,35 @@ displacement_of v source = displacement source v.observer
 
 abbrev pub ecliptic_of : View → Source → ℕ → Coordinate
 ecliptic_of v source = ecliptic_coordinate (displacement_of v source)
+
+-- ---- both, by axis
+abbrev pub displacement_answer : View → Question → Source → ℕ → Enclosure
+displacement_answer v q source axis = answer_of v q (displacement_of v source axis)
+
+abbrev pub ecliptic_answer : View → Question → Source → ℕ → Enclosure
+ecliptic_answer v q source axis = answer_of v q (ecliptic_of v source axis)
+
+-- each coordinate of the source in the frame of the files can be read
+abbrev pub CanReadSource : View → Source → Type 0
+CanReadSource v source = (axis : ℕ) → axis < 3 → CanRead v (displacement_of v source axis)
+
+-- so can each of the observer
+abbrev pub CanReadObserver : View → Type 0
+CanReadObserver v = (axis : ℕ) → axis < 3 → CanRead v (barycentric_coordinate v.observer axis)
+
+-- the source is seen as its own coordinates less those of the observer
+abbrev pub IsApart : View → Source → Type 0
+IsApart v source = (axis : ℕ) → displacement_of v source axis ≡ less (barycentric_coordinate source axis) (barycentric_coordinate v.observer axis)
+
+-- the enclosure is that of some source along an axis of the files
+pub record IsDisplacement (v : View) (q : Question) (axis : ℕ) (e : Enclosure) : Type 0 where
+  pub source : Source
+  pub readable : CanRead v (displacement_of v source axis)
+  pub is : e ≡ displacement_answer v q source axis
+
+-- ---- y and z turned by the obliquity
+abbrev pub turned_y : View → Question → Enclosure → Enclosure → Enclosure
+turned_y v q y z = sum_answer q (scaled_answer v q Cosine y) (scaled_answer v q Sine z)
+
+abbrev pub turned_z : View → Question → Enclosure → Enclosure → Enclosure
+turned_z v q y z = difference_answer q (scaled_answer v q Cosine z) (scaled_answer v q Sine y)

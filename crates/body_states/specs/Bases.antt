@@ -1,5 +1,5 @@
 -- Rows of the bases, and sums over them.
-use Rattle.std.specs.Prelude.{◌≡◌, true, ℕ, List, ℤ}
+use Rattle.std.specs.Prelude.{◌≡◌, true, false, ℕ, List, ℤ}
 use lib.Signed.{lt_z}
 use Rattle.spec_intervals.specs.Interval.{Interval}
 use Rattle.spec_intervals.specs.Enclosure.{middle}
@@ -11,45 +11,49 @@ use Rattle.spec_motions.specs.Enclosures.{arguments, position_over, position_ste
 use Rattle.spec_bodies.specs.declared.quantity.Quantity.{Quantity}
 use Rattle.spec_bodies.specs.declared.quantity.Quantity.TheVariants.{Position, Velocity}
 use Rattle.spec_motions.specs.RowSizes.{IsRow, IsShorterRow}
+use Rattle.body_states.specs.declared.bases.PlainRow.{PlainRow}
 use Rattle.body_states.specs.declared.bases.Rows.{Rows}
 use Rattle.body_states.specs.declared.granule_span.GranuleSpan.{GranuleSpan}
 
 -- the first entries of the row of a quantity's values, as many as sums over n terms take: T for positions, U for
 -- velocities
-abbrev pub AreValues : Quantity → ℕ → Rows → Type 0
-AreValues Position n rows = IsRow n rows.values (t_row rows.arguments)
-AreValues Velocity n rows = IsShorterRow n rows.values (u_row rows.arguments)
+abbrev pub AreValues : Quantity → ℕ → PlainRow → Type 0
+AreValues Position n row = IsRow n row.values (t_row row.arguments)
+AreValues Velocity n row = IsShorterRow n row.values (u_row row.arguments)
 
 -- and of that of its changes: Q for positions, R for velocities
 abbrev pub AreSteps : Quantity → ℕ → Rows → Type 0
-AreSteps Position n rows = IsRow n rows.steps (q_row rows.arguments)
-AreSteps Velocity n rows = IsShorterRow n rows.steps (r_row rows.arguments)
+AreSteps Position n rows = IsRow n rows.steps (q_row rows.plain.arguments)
+AreSteps Velocity n rows = IsShorterRow n rows.steps (r_row rows.plain.arguments)
 
-pub record ArePlain (quantity : Quantity) (n : ℕ) (rows : Rows) : Type 0 where
-  pub unit : IsArguments rows.arguments
-  pub values : AreValues quantity n rows
+pub record ArePlain (quantity : Quantity) (n : ℕ) (row : PlainRow) : Type 0 where
+  pub unit : IsArguments row.arguments
+  pub values : AreValues quantity n row
 
 pub record AreAll (quantity : Quantity) (n : ℕ) (rows : Rows) : Type 0 where
-  pub plain : ArePlain quantity n rows
+  pub plain : ArePlain quantity n rows.plain
   pub steps : AreSteps quantity n rows
 
 -- the arguments are those of the times from a to b in a granule
-abbrev pub AreOver : Granule → ℤ → ℤ → Rows → Type 0
-AreOver g a b rows = (axis : ℕ) → rows.arguments ≡ arguments (series_of g axis) a b
+abbrev pub AreOver : Granule → ℤ → ℤ → PlainRow → Type 0
+AreOver g a b row = (axis : ℕ) → row.arguments ≡ arguments (series_of g axis) a b
 
 -- the row of values in the middle of the times
-pub record IsCentre (s : GranuleSpan) (quantity : Quantity) (made : Rows) : Type 0 where
+pub record IsCentre (s : GranuleSpan) (quantity : Quantity) (made : PlainRow) : Type 0 where
   pub over : AreOver s.granule (middle s.times.now.first s.times.now.last) (middle s.times.now.first s.times.now.last) made
-  pub rows : ArePlain quantity s.granule.n made
+  pub row : ArePlain quantity s.granule.n made
 
 -- both rows over all times
 pub record IsWhole (s : GranuleSpan) (quantity : Quantity) (made : Rows) : Type 0 where
-  pub over : AreOver s.granule s.times.now.first s.times.now.last made
+  pub over : AreOver s.granule s.times.now.first s.times.now.last made.plain
   pub rows : AreAll quantity s.granule.n made
 
--- which only several times need
-abbrev pub IsWholeOfSeveral : GranuleSpan → Quantity → Rows → Type 0
-IsWholeOfSeveral s quantity made = lt_z s.times.now.first s.times.now.last ≡ true → IsWhole s quantity made
+-- there is one time, or there are several
+abbrev pub IsSingle : GranuleSpan → Type 0
+IsSingle s = lt_z s.times.now.first s.times.now.last ≡ false
+
+abbrev pub AreSeveral : GranuleSpan → Type 0
+AreSeveral s = lt_z s.times.now.first s.times.now.last ≡ true
 
 -- ---- sums over the rows, by terms, arguments and a length in seconds
 abbrev pub value_over : Quantity → List Ival62 → Ival62 → ℕ → Interval

@@ -10,9 +10,12 @@ pub record Moment : Type 0 where
   pub first : ℤ
   pub last : ℤ
 
--- the enclosures of a target, by quantity and axis
-abbrev pub target_state : View → ℤ → ℤ → ℕ → Quantity → ℕ → Enclosure
-target_state v a b target quantity axis = coordinate_enclosure v quantity target axis a b
+-- the enclosures of a quantity, by target and axis
+abbrev pub target_state : View → ℤ → ℤ → Quantity → ℕ → ℕ → Enclosure
+target_state v a b quantity target axis = coordinate_enclosure v quantity target axis a b
+
+abbrev pub moment_state : Moment → Quantity → ℕ → ℕ → Enclosure
+moment_state m = target_state m.view m.first m.last
 
 -- what is asked of a target, by axis
 abbrev pub question_state : View → Question → ℕ → ℕ → Enclosure

@@ -3,6 +3,7 @@ ghost use Rattle.std.specs.Prelude.{◌≡◌, ◌<◌};
 ghost use Rattle.spec_bodies.specs.Views.{Fits, target_of, exact_state, state_enclosure, coordinate_enclosure};
 ghost use Rattle.spec_bodies.proofs.Held.{times_span, fractions_of_states, states_held, states_within};
 
+use crate::enclosures::AxisEnclosures;
 use crate::question::Question;
 use crate::states::BodyStates;
 use event_expr::States;
@@ -54,6 +55,7 @@ impl<'e> BodyStates<'e> {
             quantity,
             times: &times,
             columns: &[],
+            observer: &AxisEnclosures::none(),
         };
         self.coordinate(target, usize::from(axis), &question)
     }

@@ -8,31 +8,37 @@ use cheby_laws::{Row, fill_t, fill_tq, fill_u, fill_ur};
 use spec_bodies::Quantity;
 use spec_chebyshev::Ival62;
 
-/// The rows of a quantity over an interval of arguments: that of its values, which is T for positions and U for
-/// velocities, and that of its changes, which is Q or R.
+/// The row of a quantity's values over an interval of arguments: T for positions and U for velocities.
 #[derive(Drop)]
-pub(crate) struct Rows {
+pub(crate) struct PlainRow {
     pub arguments: Ival62,
     pub values: Row,
+}
+
+/// The same, with the row of the quantity's changes: Q for positions and R for velocities.
+#[derive(Drop)]
+pub(crate) struct Rows {
+    pub plain: PlainRow,
     pub steps: Row,
 }
 
-impl Rows {
-    /// Rows of which no entry is made.
-    pub fn none() -> Rows {
-        Rows {
+impl PlainRow {
+    /// A row of which no entry is made.
+    #[inline(always)]
+    pub fn none() -> PlainRow {
+        PlainRow {
             arguments: Ival62 { lo: 0, hi: 0 },
             values: empty_row(),
-            steps: empty_row(),
         }
     }
 
-    /// Makes the first `n` entries of the row of values.
-    pub fn make_plain(&mut self, quantity: Quantity, arguments: Ival62, n: usize)
+    /// Makes its first `n` entries.
+    #[inline(always)]
+    pub fn make(&mut self, quantity: Quantity, arguments: Ival62, n: usize)
         requires arguments { IsArguments arguments }
         requires few { n ≤ 32 }
         ensures arguments { self.new.arguments ≡ arguments }
-        ensures rows { ArePlain quantity n self.new }
+        ensures row { ArePlain quantity n self.new }
     {
         self.arguments = arguments;
         match quantity {
@@ -40,34 +46,47 @@ impl Rows {
             Quantity::Velocity => fill_u(arguments, n, &mut self.values),
         }
     }
+}
 
-    /// Makes the first `n` entries of both rows.
-    pub fn make_all(&mut self, quantity: Quantity, arguments: Ival62, n: usize)
+impl Rows {
+    /// Rows of which no entry is made.
+    #[inline(always)]
+    pub fn none() -> Rows {
+        Rows {
+            plain: PlainRow::none(),
+            steps: empty_row(),
+        }
+    }
+
+    /// Makes the first `n` entries of both.
+    #[inline(always)]
+    pub fn make(&mut self, quantity: Quantity, arguments: Ival62, n: usize)
         requires arguments { IsArguments arguments }
         requires few { n ≤ 32 }
-        ensures arguments { self.new.arguments ≡ arguments }
+        ensures arguments { self.new.plain.arguments ≡ arguments }
         ensures rows { AreAll quantity n self.new }
     {
-        self.arguments = arguments;
+        self.plain.arguments = arguments;
         match quantity {
-            Quantity::Position => fill_tq(arguments, n, &mut self.values, &mut self.steps),
-            Quantity::Velocity => fill_ur(arguments, n, &mut self.values, &mut self.steps),
+            Quantity::Position => fill_tq(arguments, n, &mut self.plain.values, &mut self.steps),
+            Quantity::Velocity => fill_ur(arguments, n, &mut self.plain.values, &mut self.steps),
         }
     }
 }
 
-/// Room for the rows in the middle of a span and over the whole of it, which serves one column after the other.
+/// The row in the middle of several times, and the rows over all of them.
 #[derive(Drop)]
 pub(crate) struct RowRoom {
-    pub centre: Rows,
+    pub centre: PlainRow,
     pub whole: Rows,
 }
 
 impl RowRoom {
     /// Room in which no row is made.
+    #[inline(always)]
     pub fn new() -> RowRoom {
         RowRoom {
-            centre: Rows::none(),
+            centre: PlainRow::none(),
             whole: Rows::none(),
         }
     }

@@ -1,18 +1,19 @@
 // The coordinates of bodies, made of those of columns by the rules on enclosures.
 ghost use Rattle.std.specs.Prelude.{◌≡◌, ◌<◌, ℕ, IfSome, Contains};
 ghost use Rattle.spec_ephemeris.specs.Granules.{series_at, series_of};
-ghost use Rattle.spec_bodies.specs.Coordinates.{nothing, of_column, times, less, earth, moon, barycentric_coordinate};
+ghost use Rattle.spec_bodies.specs.Coordinates.{nothing, of_column, less, earth, moon, barycentric_coordinate};
 ghost use Rattle.spec_bodies.specs.Reading.{IsUsable};
 ghost use Rattle.spec_bodies.specs.Views.{Fits, coordinate_of, framed};
-ghost use Rattle.body_states.specs.Answers.{CanAsk, CanRead, Answers, IsAnswer, sum_answer, difference_answer, scaled_answer, displacement_of, ecliptic_of};
+ghost use Rattle.body_states.specs.Dividers.{granule_seconds};
+ghost use Rattle.body_states.specs.Answers.{CanAsk, CanRead, Answers, IsAnswer, IsDisplacement, observer_answer, sum_answer, difference_answer, scaled_answer, displacement_of, ecliptic_of, turned_y, turned_z};
 
+use crate::enclosures::{AxisEnclosures, ColumnEnclosures};
 use crate::granule_span::GranuleSpan;
-use crate::motions::{ColumnMotions, Motions};
 use crate::question::Question;
 use crate::sources::{EMB_COLUMN, MOON_COLUMN};
-use crate::states::BodyStates;
+use crate::states::{BodyStates, divider_of};
 use event_expr::rules::Span;
-use ival_core::{Enclosure, Ival};
+use ival_core::{Divider, Enclosure, Ival};
 use spec_bodies::{Factor, Frame, Source};
 
 impl<'e> BodyStates<'e> {
@@ -28,6 +29,7 @@ impl<'e> BodyStates<'e> {
 
     // A coordinate of a source in the frame.
     fn framed(&self, source: Source, axis: usize, question: &Question) -> Enclosure
+        requires axis { axis < 3 }
         requires question { CanAsk self.now question.now }
         requires readable { CanRead self.now (framed self.now source axis) }
         ensures { Answers self.now question.now (framed self.now source axis) result }
@@ -41,6 +43,7 @@ impl<'e> BodyStates<'e> {
     // A coordinate along the axes of the ecliptic: y' = c y + s z and z' = c z - s y, where c and s are the cosine and the
     // sine of the obliquity.
     fn ecliptic(&self, source: Source, axis: usize, question: &Question) -> Enclosure
+        requires axis { axis < 3 }
         requires question { CanAsk self.now question.now }
         requires readable { CanRead self.now (ecliptic_of self.now source axis) }
         ensures { Answers self.now question.now (ecliptic_of self.now source axis) result }
@@ -57,9 +60,9 @@ impl<'e> BodyStates<'e> {
         requires readable { CanRead self.now (ecliptic_of self.now source 1) }
         ensures { Answers self.now question.now (ecliptic_of self.now source 1) result }
     {
-        let y = self.scaled_displacement(Factor::Cosine, source, 1, question);
-        let z = self.scaled_displacement(Factor::Sine, source, 2, question);
-        self.sum(y, z, question)
+        let y = self.displacement(source, 1, question);
+        let z = self.displacement(source, 2, question);
+        self.turned_y(&y, &z, question)
     }
 
     fn ecliptic_z(&self, source: Source, question: &Question) -> Enclosure
@@ -67,30 +70,40 @@ impl<'e> BodyStates<'e> {
         requires readable { CanRead self.now (ecliptic_of self.now source 2) }
         ensures { Answers self.now question.now (ecliptic_of self.now source 2) result }
     {
-        let z = self.scaled_displacement(Factor::Cosine, source, 2, question);
-        let y = self.scaled_displacement(Factor::Sine, source, 1, question);
+        let y = self.displacement(source, 1, question);
+        let z = self.displacement(source, 2, question);
+        self.turned_z(&y, &z, question)
+    }
+
+    /// y' of the ecliptic, from y and z relative to the observer.
+    #[inline(always)]
+    pub(crate) fn turned_y(&self, y: &Enclosure, z: &Enclosure, question: &Question) -> Enclosure
+        requires question { CanAsk self.now question.now }
+        requires y { IsDisplacement self.now question.now 1 y.now }
+        requires z { IsDisplacement self.now question.now 2 z.now }
+        ensures { result ≡ turned_y self.now question.now y.now z.now }
+    {
+        let y = self.scaled(Factor::Cosine, *y, question);
+        let z = self.scaled(Factor::Sine, *z, question);
+        self.sum(y, z, question)
+    }
+
+    /// z' of the ecliptic, from y and z relative to the observer.
+    #[inline(always)]
+    pub(crate) fn turned_z(&self, y: &Enclosure, z: &Enclosure, question: &Question) -> Enclosure
+        requires question { CanAsk self.now question.now }
+        requires y { IsDisplacement self.now question.now 1 y.now }
+        requires z { IsDisplacement self.now question.now 2 z.now }
+        ensures { result ≡ turned_z self.now question.now y.now z.now }
+    {
+        let z = self.scaled(Factor::Cosine, *z, question);
+        let y = self.scaled(Factor::Sine, *y, question);
         self.difference(z, y, question)
     }
 
-    // A factor times a coordinate of a source relative to the observer.
-    fn scaled_displacement(
-        &self,
-        factor: Factor,
-        source: Source,
-        axis: usize,
-        question: &Question,
-    ) -> Enclosure
-        requires question { CanAsk self.now question.now }
-        requires readable { CanRead self.now (displacement_of self.now source axis) }
-        ensures { let own = displacement_of self.now source axis in
-            Answers self.now question.now (times factor own) result }
-    {
-        let own = self.displacement(source, axis, question);
-        self.scaled(factor, own, question)
-    }
-
-    // A coordinate of a source relative to the observer, in the frame of the files.
-    fn displacement(&self, source: Source, axis: usize, question: &Question) -> Enclosure
+    /// A coordinate of a source relative to the observer, in the frame of the files.
+    pub(crate) fn displacement(&self, source: Source, axis: usize, question: &Question) -> Enclosure
+        requires axis { axis < 3 }
         requires question { CanAsk self.now question.now }
         requires readable { CanRead self.now (displacement_of self.now source axis) }
         ensures { Answers self.now question.now (displacement_of self.now source axis) result }
@@ -108,6 +121,7 @@ impl<'e> BodyStates<'e> {
 
     // A coordinate of a source less that of the observer.
     fn apart(&self, source: Source, axis: usize, question: &Question) -> Enclosure
+        requires axis { axis < 3 }
         requires question { CanAsk self.now question.now }
         requires own { CanRead self.now (barycentric_coordinate source axis) }
         requires observer { CanRead self.now (barycentric_coordinate self.now.observer axis) }
@@ -116,12 +130,25 @@ impl<'e> BodyStates<'e> {
             Answers self.now question.now (less own observer) result }
     {
         let own = self.barycentric(source, axis, question);
-        let observer = self.barycentric(self.observer, axis, question);
+        let observer = self.observer_coordinate(axis, question);
         self.difference(own, observer, question)
     }
 
-    // A coordinate of a source relative to the barycentre of the solar system.
-    fn barycentric(&self, source: Source, axis: usize, question: &Question) -> Enclosure
+    // That of the observer, from what is known of it or else from its columns.
+    fn observer_coordinate(&self, axis: usize, question: &Question) -> Enclosure
+        requires axis { axis < 3 }
+        requires question { CanAsk self.now question.now }
+        requires readable { CanRead self.now (barycentric_coordinate self.now.observer axis) }
+        ensures { result ≡ observer_answer self.now question.now axis }
+    {
+        match question.observer.along(axis) {
+            Some(enclosure) => enclosure,
+            None => self.barycentric(self.observer, axis, question),
+        }
+    }
+
+    /// A coordinate of a source relative to the barycentre of the solar system.
+    pub(crate) fn barycentric(&self, source: Source, axis: usize, question: &Question) -> Enclosure
         requires question { CanAsk self.now question.now }
         requires readable { CanRead self.now (barycentric_coordinate source axis) }
         ensures { Answers self.now question.now (barycentric_coordinate source axis) result }
@@ -164,7 +191,7 @@ impl<'e> BodyStates<'e> {
         ensures { Answers self.now question.now (of_column number axis) result }
     {
         match known(question.columns, number) {
-            Some(motions) => match motions.of(question.quantity).along(axis) {
+            Some(enclosures) => match enclosures.along(axis) {
                 Some(enclosure) => enclosure,
                 None => self.read(number, axis, question),
             },
@@ -178,14 +205,21 @@ impl<'e> BodyStates<'e> {
         requires readable { CanRead self.now (of_column number axis) }
         ensures { Answers self.now question.now (of_column number axis) result }
     {
-        let span = self.granule_span(number, question.times);
+        let divider = divider_of(self.ephemeris, number);
+        let span = self.granule_span(number, question.times, &divider);
         span.enclosure(question.quantity, axis)
     }
 
-    /// The granule of a column over times that lie within it.
-    pub(crate) fn granule_span<'a>(&'a self, number: usize, times: &'a Span) -> GranuleSpan<'a>
+    /// The granule of a column over times that lie within it, with the divider by the column's granules.
+    pub(crate) fn granule_span<'a>(
+        &'a self,
+        number: usize,
+        times: &'a Span,
+        divider: &'a Divider,
+    ) -> GranuleSpan<'a>
         requires fits { Fits self.now times.now.first times.now.last }
         requires usable { IsUsable self.now number }
+        requires divider { divider.now ≡ granule_seconds self.now.ephemeris number }
         ensures times { result.times.now ≡ times.now }
         ensures series { let e = self.now.ephemeris in
             (axis : ℕ) → axis < 3
@@ -194,6 +228,7 @@ impl<'e> BodyStates<'e> {
         GranuleSpan {
             granule: self.ephemeris.granule(number, times.first()),
             times,
+            divider,
         }
     }
 
@@ -233,14 +268,14 @@ impl<'e> BodyStates<'e> {
 }
 
 // What is known of a column.
-fn known(columns: &[ColumnMotions], number: usize) -> Option<&Motions>
+fn known(columns: &[ColumnEnclosures], number: usize) -> Option<&AxisEnclosures>
     ensures { IfSome result
-        (λ motions. Contains columns.now (record { number = number; motions = motions.now })) }
+        (λ along. Contains columns.now (record { number = number; along = along.now })) }
 {
     for place in 0..columns.len() {
         let column = &columns[place];
         if column.number == number {
-            return Some(&column.motions);
+            return Some(&column.along);
         }
     }
     None

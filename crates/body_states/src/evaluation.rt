@@ -1,43 +1,59 @@
-// The motions of a column over times within a granule, with each basis made once.
-ghost use Rattle.std.specs.Prelude.{◌≡◌, ◌<◌, IfSome, length, pos, unsigned_abs, ◌≤ℤ◌};
+// The enclosures of a quantity over times within a granule, with each basis made once for all axes.
+ghost use Rattle.std.specs.Prelude.{◌≡◌, ◌<◌, length};
 ghost use Rattle.spec_intervals.specs.Enclosure.{middle};
-ghost use Rattle.spec_motions.specs.Enclosures.{coefficients_of};
-ghost use Rattle.spec_ephemeris.specs.Granules.{series_of};
-ghost use Rattle.body_states.specs.Motions.{AreAlong, AreMotions, enclosure_along};
-ghost use Rattle.body_states.specs.Bases.{ArePlain, AreAll, IsCentre, IsWhole, IsWholeOfSeveral, value_over, step_over};
+ghost use Rattle.body_states.specs.Enclosures.{IsRight, AreAlong, enclosure_along};
+ghost use Rattle.body_states.specs.Bases.{ArePlain, AreAll, IsCentre, IsWhole, IsSingle, AreSeveral, value_over, step_over};
 
-use crate::bases::{RowRoom, Rows};
+use crate::bases::{PlainRow, RowRoom, Rows};
+use crate::enclosures::AxisEnclosures;
 use crate::granule_span::GranuleSpan;
-use crate::motions::{AxisEnclosures, Motions};
-use crate::question::QuantityAxes;
 use cheby_difference::{position_step_over_row, velocity_over_row, velocity_step_over_row};
-use cheby_enclose::{Terms, arguments, position_over_row};
+use cheby_enclose::{Terms, argument_at, arguments_by, position_over_row};
 use event_expr::Axes;
 use ival_core::{Divider, Enclosure, Ival};
 use spec_bodies::Quantity;
 
 impl<'g> GranuleSpan<'g> {
-    /// The motions along some axes.
-    pub fn motions(&self, axes: &QuantityAxes, room: &mut RowRoom) -> Motions
-        ensures { AreMotions (enclosure_along self.now) result }
+    /// Writes the enclosures along some axes.
+    #[inline(always)]
+    pub fn write_along(&self, quantity: Quantity, axes: Axes, out: &mut AxisEnclosures)
+        requires known { AreAlong (enclosure_along self.now quantity) out.old }
+        ensures { AreAlong (enclosure_along self.now quantity) out.new }
     {
-        Motions {
-            position: self.enclosures(Quantity::Position, axes.position, room),
-            velocity: self.enclosures(Quantity::Velocity, axes.velocity, room),
+        if self.times.is_wide() {
+            self.along_over(quantity, axes, out);
+        } else {
+            self.along_at(quantity, axes, out);
         }
     }
 
-    // The enclosures of a quantity along some axes.
-    fn enclosures(&self, quantity: Quantity, axes: Axes, room: &mut RowRoom) -> AxisEnclosures
-        ensures { AreAlong (enclosure_along self.now quantity) result }
+    // Writes them over several times.
+    #[inline(never)]
+    fn along_over(&self, quantity: Quantity, axes: Axes, out: &mut AxisEnclosures)
+        requires several { AreSeveral self.now }
+        requires known { AreAlong (enclosure_along self.now quantity) out.old }
+        ensures { AreAlong (enclosure_along self.now quantity) out.new }
     {
-        if axes.x || axes.y || axes.z {
-            self.make_rows(quantity, room);
-            let divider = self.divider();
-            self.enclosures_by(quantity, axes, &room.centre, &room.whole, &divider)
-        } else {
-            AxisEnclosures::none()
-        }
+        let mut room = RowRoom::new();
+        self.make_centre(quantity, &mut room.centre);
+        self.make_whole(quantity, &mut room.whole);
+        self.write_over(axes.x, quantity, 0, &room, &mut out.x);
+        self.write_over(axes.y, quantity, 1, &room, &mut out.y);
+        self.write_over(axes.z, quantity, 2, &room, &mut out.z);
+    }
+
+    // Writes them at a single time, for which neither a row over several nor one of changes is made.
+    #[inline(never)]
+    fn along_at(&self, quantity: Quantity, axes: Axes, out: &mut AxisEnclosures)
+        requires single { IsSingle self.now }
+        requires known { AreAlong (enclosure_along self.now quantity) out.old }
+        ensures { AreAlong (enclosure_along self.now quantity) out.new }
+    {
+        let mut centre = PlainRow::none();
+        self.make_centre(quantity, &mut centre);
+        self.write_at(axes.x, quantity, 0, &centre, &mut out.x);
+        self.write_at(axes.y, quantity, 1, &centre, &mut out.y);
+        self.write_at(axes.z, quantity, 2, &centre, &mut out.z);
     }
 
     /// The enclosure of a position, in km, or of a velocity, in km per second, along an axis that is counted from 0.
@@ -45,120 +61,111 @@ impl<'g> GranuleSpan<'g> {
         requires { axis < 3 }
         ensures { result ≡ enclosure_along self.now quantity axis }
     {
-        let terms = Terms::of(&self.granule, axis);
-        let mut room = RowRoom::new();
-        self.make_rows(quantity, &mut room);
-        let divider = self.divider();
-        self.enclosure_by(quantity, axis, &terms, &room.centre, &room.whole, &divider)
-    }
-
-    // Makes the rows of a quantity: in the middle of the times, and over all of them where they are several.
-    fn make_rows(&self, quantity: Quantity, room: &mut RowRoom)
-        ensures centre { IsCentre self.now quantity room.new.centre }
-        ensures whole { IsWholeOfSeveral self.now quantity room.new.whole }
-    {
-        self.make_centre(quantity, &mut room.centre);
         if self.times.is_wide() {
+            let mut room = RowRoom::new();
+            self.make_centre(quantity, &mut room.centre);
             self.make_whole(quantity, &mut room.whole);
+            self.over(quantity, axis, &room)
+        } else {
+            let mut centre = PlainRow::none();
+            self.make_centre(quantity, &mut centre);
+            self.at(quantity, axis, &centre)
         }
     }
 
-    fn enclosures_by(
-        &self,
-        quantity: Quantity,
-        axes: Axes,
-        centre: &Rows,
-        whole: &Rows,
-        divider: &Divider,
-    ) -> AxisEnclosures
-        requires centre { IsCentre self.now quantity centre.now }
-        requires whole { IsWholeOfSeveral self.now quantity whole.now }
-        requires divider { divider.now ≡ unsigned_abs self.now.granule.seconds }
-        ensures { AreAlong (enclosure_along self.now quantity) result }
-    {
-        AxisEnclosures {
-            x: self.enclosure_if(axes.x, quantity, 0, centre, whole, divider),
-            y: self.enclosure_if(axes.y, quantity, 1, centre, whole, divider),
-            z: self.enclosure_if(axes.z, quantity, 2, centre, whole, divider),
-        }
-    }
-
-    // The enclosure along an axis, where it is needed.
-    fn enclosure_if(
+    // Writes the enclosure over several times along an axis, where it is needed.
+    #[inline(always)]
+    fn write_over(
         &self,
         is_needed: bool,
         quantity: Quantity,
         axis: usize,
-        centre: &Rows,
-        whole: &Rows,
-        divider: &Divider,
-    ) -> Option<Enclosure>
+        room: &RowRoom,
+        out: &mut Option<Enclosure>,
+    )
         requires axis { axis < 3 }
-        requires centre { IsCentre self.now quantity centre.now }
-        requires whole { IsWholeOfSeveral self.now quantity whole.now }
-        requires divider { divider.now ≡ unsigned_abs self.now.granule.seconds }
-        ensures { IfSome result (λ e. e ≡ enclosure_along self.now quantity axis) }
+        requires several { AreSeveral self.now }
+        requires centre { IsCentre self.now quantity room.now.centre }
+        requires whole { IsWhole self.now quantity room.now.whole }
+        requires known { IsRight (enclosure_along self.now quantity axis) out.old }
+        ensures { IsRight (enclosure_along self.now quantity axis) out.new }
     {
         if is_needed {
-            let terms = Terms::of(&self.granule, axis);
-            Some(self.enclosure_by(quantity, axis, &terms, centre, whole, divider))
-        } else {
-            None
+            *out = Some(self.over(quantity, axis, room));
+        }
+    }
+
+    // Writes the enclosure at a single time along an axis, where it is needed.
+    #[inline(always)]
+    fn write_at(
+        &self,
+        is_needed: bool,
+        quantity: Quantity,
+        axis: usize,
+        centre: &PlainRow,
+        out: &mut Option<Enclosure>,
+    )
+        requires axis { axis < 3 }
+        requires single { IsSingle self.now }
+        requires centre { IsCentre self.now quantity centre.now }
+        requires known { IsRight (enclosure_along self.now quantity axis) out.old }
+        ensures { IsRight (enclosure_along self.now quantity axis) out.new }
+    {
+        if is_needed {
+            *out = Some(self.at(quantity, axis, centre));
         }
     }
 
     // The range over all times is cut to what the value in the middle and the steps from it allow.
-    fn enclosure_by(
-        &self,
-        quantity: Quantity,
-        axis: usize,
-        terms: &Terms,
-        centre: &Rows,
-        whole: &Rows,
-        divider: &Divider,
-    ) -> Enclosure
+    #[inline(always)]
+    fn over(&self, quantity: Quantity, axis: usize, room: &RowRoom) -> Enclosure
         requires axis { axis < 3 }
-        requires terms { terms.now ≡ coefficients_of (series_of self.now.granule axis) }
-        requires count { length terms.now ≡ self.now.granule.n }
-        requires centre { IsCentre self.now quantity centre.now }
-        requires whole { IsWholeOfSeveral self.now quantity whole.now }
-        requires divider { divider.now ≡ unsigned_abs self.now.granule.seconds }
+        requires several { AreSeveral self.now }
+        requires centre { IsCentre self.now quantity room.now.centre }
+        requires whole { IsWhole self.now quantity room.now.whole }
         ensures { result ≡ enclosure_along self.now quantity axis }
     {
-        let mid = value_over(quantity, terms, centre, divider);
-        if self.times.is_wide() {
-            let range = value_over(quantity, terms, whole, divider);
-            let step = step_over(quantity, terms, whole, divider);
-            self.times.wide(mid, range, step)
-        } else {
-            self.times.single(mid)
-        }
+        let terms = Terms::of(&self.granule, axis);
+        let mid = value_over(quantity, &terms, &room.centre, self.divider);
+        let range = value_over(quantity, &terms, &room.whole.plain, self.divider);
+        let step = step_over(quantity, &terms, &room.whole, self.divider);
+        self.times.wide(mid, range, step)
+    }
+
+    // At a single time the range is the value, and nothing changes.
+    #[inline(always)]
+    fn at(&self, quantity: Quantity, axis: usize, centre: &PlainRow) -> Enclosure
+        requires axis { axis < 3 }
+        requires single { IsSingle self.now }
+        requires centre { IsCentre self.now quantity centre.now }
+        ensures { result ≡ enclosure_along self.now quantity axis }
+    {
+        let terms = Terms::of(&self.granule, axis);
+        let mid = value_over(quantity, &terms, centre, self.divider);
+        self.times.single(mid)
     }
 
     // Makes the row of values in the middle of the times.
-    fn make_centre(&self, quantity: Quantity, rows: &mut Rows)
-        ensures { IsCentre self.now quantity rows.new }
+    #[inline(always)]
+    fn make_centre(&self, quantity: Quantity, row: &mut PlainRow)
+        ensures { IsCentre self.now quantity row.new }
     {
-        let m = self.middle();
-        rows.make_plain(quantity, arguments(&self.granule, m, m), self.granule.n);
+        let argument = argument_at(&self.granule, self.middle(), self.divider);
+        row.make(quantity, argument, self.granule.n);
     }
 
     // Makes both rows over all times.
+    #[inline(always)]
     fn make_whole(&self, quantity: Quantity, rows: &mut Rows)
         ensures { IsWhole self.now quantity rows.new }
     {
-        let arguments = arguments(&self.granule, self.times.first(), self.times.last());
-        rows.make_all(quantity, arguments, self.granule.n);
-    }
-
-    // The divider by the granule's seconds.
-    fn divider(&self) -> Divider
-        ensures { result ≡ unsigned_abs self.now.granule.seconds }
-    {
-        Divider::of(self.granule.seconds)
+        let (first, last) = (self.times.first(), self.times.last());
+        let arguments = arguments_by(&self.granule, first, last, self.divider);
+        rows.make(quantity, arguments, self.granule.n);
     }
 
     // The time halfway, or the last before it.
+    #[inline(always)]
     fn middle(&self) -> i64
         ensures { result ≡ middle self.now.times.now.first self.now.times.now.last }
     {
@@ -168,23 +175,26 @@ impl<'g> GranuleSpan<'g> {
 }
 
 // The interval of a quantity, by the coefficients of one axis and the divider by the granule's seconds.
-fn value_over(quantity: Quantity, terms: &Terms, rows: &Rows, divider: &Divider) -> Ival
-    requires rows { ArePlain quantity (length terms.now) rows.now }
-    ensures { result ≡ value_over quantity terms.now rows.now.arguments divider.now }
+#[inline(always)]
+fn value_over(quantity: Quantity, terms: &Terms, row: &PlainRow, divider: &Divider) -> Ival
+    requires row { ArePlain quantity (length terms.now) row.now }
+    ensures { result ≡ value_over quantity terms.now row.now.arguments divider.now }
 {
     match quantity {
-        Quantity::Position => position_over_row(terms, rows.arguments, &rows.values),
-        Quantity::Velocity => velocity_over_row(terms, rows.arguments, &rows.values, divider),
+        Quantity::Position => position_over_row(terms, row.arguments, &row.values),
+        Quantity::Velocity => velocity_over_row(terms, row.arguments, &row.values, divider),
     }
 }
 
 // The interval of its change in one second.
+#[inline(always)]
 fn step_over(quantity: Quantity, terms: &Terms, rows: &Rows, divider: &Divider) -> Ival
     requires rows { AreAll quantity (length terms.now) rows.now }
-    ensures { result ≡ step_over quantity terms.now rows.now.arguments divider.now }
+    ensures { result ≡ step_over quantity terms.now rows.now.plain.arguments divider.now }
 {
+    let x = rows.plain.arguments;
     match quantity {
-        Quantity::Position => position_step_over_row(terms, rows.arguments, &rows.steps, divider),
-        Quantity::Velocity => velocity_step_over_row(terms, rows.arguments, &rows.steps, divider),
+        Quantity::Position => position_step_over_row(terms, x, &rows.steps, divider),
+        Quantity::Velocity => velocity_step_over_row(terms, x, &rows.steps, divider),
     }
 }

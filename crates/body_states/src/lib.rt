@@ -9,14 +9,15 @@
 mod answers;
 mod bases;
 mod coordinates;
+mod enclosures;
 mod evaluation;
 mod factors;
 mod granule_span;
-mod motions;
 mod question;
 mod snapshots;
 mod sources;
 mod states;
+mod targets;
 #[cfg(test)]
 mod tests;
 

@@ -1,21 +1,14 @@
 // What is asked of a body.
-use crate::motions::ColumnMotions;
-use event_expr::Axes;
+use crate::enclosures::{AxisEnclosures, ColumnEnclosures};
 use event_expr::rules::Span;
 use spec_bodies::Quantity;
 
-/// A quantity over a span of times, and what is known of the columns over it. Where a column is known it stands at its
-/// number.
+/// A quantity over a span of times, and what is known of it: of the columns, and of the observer relative to the
+/// barycentre of the solar system, both along the axes of the files.
 #[derive(Clone, Copy)]
 pub(crate) struct Question<'q> {
     pub quantity: Quantity,
     pub times: &'q Span,
-    pub columns: &'q [ColumnMotions],
-}
-
-/// Along which axes of the files each quantity is needed.
-#[derive(Clone, Copy)]
-pub(crate) struct QuantityAxes {
-    pub position: Axes,
-    pub velocity: Axes,
+    pub columns: &'q [ColumnEnclosures],
+    pub observer: &'q AxisEnclosures,
 }

@@ -1,11 +1,15 @@
 // The states of two targets seen from an observer in a frame.
-ghost use Rattle.std.specs.Prelude.{◌≡◌, ◌≢◌, ◌<◌, All, ◌∷◌, take, slice_index_or};
+ghost use Rattle.std.specs.Prelude.{◌≡◌, ◌≢◌, ◌<◌, ◌≤◌, All, ◌∷◌, IsTrue, length, take, slice_index_or};
 ghost use Rattle.spec_ephemeris.specs.declared.body.Body.TheVariants.{Ssb};
-ghost use Rattle.spec_bodies.specs.Views.{IsView, HasBody, view_of, columns_of};
+ghost use Rattle.spec_ephemeris.specs.Header.{has_column};
+ghost use Rattle.spec_ephemeris.specs.Ephemeris.{IsEphemeris};
+ghost use Rattle.spec_bodies.specs.Views.{IsView, HasBody, HasColumns, view_of, columns_of};
+ghost use Rattle.body_states.specs.Dividers.{granule_seconds, AreDividers};
 
 use crate::factors::Factors;
 use crate::sources::{InUse, source_of};
 use eph_model::{Body, Ephemeris};
+use ival_core::Divider;
 use spec_bodies::{Frame, Source};
 use std::marker::Model;
 
@@ -21,6 +25,8 @@ pub struct BodyStates<'e> {
     pub(crate) frame: Frame,
     pub(crate) factors: Factors,
     in_use: InUse,
+    /// By the granules of the columns in use, in their order, as far as there are so many.
+    dividers: [Divider; 4],
 }
 
 impl<'e> Model for BodyStates<'e> {
@@ -28,6 +34,7 @@ impl<'e> Model for BodyStates<'e> {
     ghost use Rattle.spec_bodies.specs.Sources.{columns_in_use};
     ghost use Rattle.spec_bodies.specs.Views.{View, IsView};
     ghost use Rattle.body_states.specs.Factors.{AreFactors};
+    ghost use Rattle.body_states.specs.Dividers.{AreDividers};
 
     ghost Value = { View };
 
@@ -48,7 +55,8 @@ impl<'e> Model for BodyStates<'e> {
     })
         × (take s.in_use.count s.in_use.numbers ≡ columns_in_use s.first s.second s.observer)
         × (s.in_use.count ≤ 11)
-        × AreFactors s.ephemeris.now.header.emrat s.factors };
+        × AreFactors s.ephemeris.now.header.emrat s.factors
+        × AreDividers s.ephemeris.now (take s.in_use.count s.in_use.numbers) s.dividers };
 }
 
 impl<'e> BodyStates<'e> {
@@ -70,14 +78,17 @@ impl<'e> BodyStates<'e> {
         let first = source_of(targets[0]);
         let second = source_of(targets[1]);
         let observer = source_of(observer);
+        let factors = Factors::new(ephemeris.header().emrat);
+        let in_use = InUse::of(first, second, observer);
         BodyStates {
+            dividers: dividers_of(ephemeris, &in_use.numbers[..in_use.count]),
             ephemeris,
             first,
             second,
             observer,
             frame,
-            factors: Factors::new(ephemeris.header().emrat),
-            in_use: InUse::of(first, second, observer),
+            factors,
+            in_use,
         }
     }
 
@@ -88,5 +99,53 @@ impl<'e> BodyStates<'e> {
         ensures view { IsView self.now }
     {
         &self.in_use.numbers[..self.in_use.count]
+    }
+
+    /// The dividers by the granules of the first four columns in use, in their order.
+    pub(crate) fn dividers(&self) -> &[Divider]
+        ensures dividers { AreDividers self.now.ephemeris (columns_of self.now) result.now }
+        ensures count { length result.now ≡ 4 }
+    {
+        &self.dividers
+    }
+}
+
+/// The divider by the granules of a column.
+pub(crate) fn divider_of(ephemeris: &Ephemeris, number: usize) -> Divider
+    requires checked { IsEphemeris ephemeris.now }
+    requires block { 0 < ephemeris.now.blocks }
+    requires present { IsTrue (has_column ephemeris.now.header number) }
+    ensures { result ≡ granule_seconds ephemeris.now number }
+{
+    Divider::of(ephemeris.granule(number, ephemeris.start()).seconds)
+}
+
+// Those of the first four of some columns.
+fn dividers_of(ephemeris: &Ephemeris, numbers: &[usize]) -> [Divider; 4]
+    requires checked { IsEphemeris ephemeris.now }
+    requires block { 0 < ephemeris.now.blocks }
+    requires present { HasColumns ephemeris.now numbers.now }
+    ensures { AreDividers ephemeris.now numbers.now result }
+{
+    [
+        divider_at(ephemeris, numbers, 0),
+        divider_at(ephemeris, numbers, 1),
+        divider_at(ephemeris, numbers, 2),
+        divider_at(ephemeris, numbers, 3),
+    ]
+}
+
+// That of the column at a place, and by 1 where there is none.
+fn divider_at(ephemeris: &Ephemeris, numbers: &[usize], place: usize) -> Divider
+    requires checked { IsEphemeris ephemeris.now }
+    requires block { 0 < ephemeris.now.blocks }
+    requires present { HasColumns ephemeris.now numbers.now }
+    ensures { place < length numbers.now
+        → result ≡ granule_seconds ephemeris.now (slice_index_or numbers.now place 0) }
+{
+    if place < numbers.len() {
+        divider_of(ephemeris, numbers[place])
+    } else {
+        Divider::of(1)
     }
 }

@@ -1,7 +1,6 @@
 // Where the times of a span stand in a granule.
 ghost use Rattle.std.specs.Prelude.{◌≡◌, ℕ, ◌≤◌, ◌*◌, ◌^◌, ◌≤ℤ◌, ◌+ℤ◌, ◌-ℤ◌, ◌*ℤ◌, neg_ℤ, pos, unsigned_abs, ◌↔◌, All, IsTrue, map};
 ghost use Rattle.spec_chebyshev.specs.Rows.{IsArguments};
-ghost use Rattle.spec_ephemeris.specs.Series.{argument_at};
 ghost use Rattle.spec_motions.specs.Enclosures.{arguments};
 ghost use Rattle.spec_ephemeris.specs.Ephemeris.{IsBodyNumber};
 ghost use Rattle.spec_ephemeris.specs.Rounding.{pair_of};
@@ -9,9 +8,9 @@ ghost use Rattle.spec_intervals.specs.Interval.{IsDistance};
 ghost use Rattle.spec_motions.specs.Granules.{IsEvaluable};
 ghost use Rattle.spec_ephemeris.specs.Granules.{series_of};
 
-use cheby_laws::argument;
+use cheby_laws::{argument_by, argument_of};
 use eph_model::{Granule, Rounded, pair_of};
-use ival_core::is_distance;
+use ival_core::{Divider, is_distance};
 use spec_chebyshev::Ival62;
 use spec_text::Decimal;
 
@@ -25,11 +24,38 @@ pub fn arguments(g: &Granule, a: i64, b: i64) -> Ival62
     ensures equals { (axis : ℕ) → result ≡ arguments (series_of g.now axis) a b }
     ensures unit { IsArguments result }
 {
-    argument(
+    arguments_by(g, a, b, &Divider::of(g.seconds))
+}
+
+/// The same, by the divider by the granule's seconds, which is made once for all spans of a column.
+#[inline(always)]
+pub fn arguments_by(g: &Granule, a: i64, b: i64, divider: &Divider) -> Ival62
+    requires granule { IsEvaluable g.now }
+    requires from { g.now.start ≤ℤ a }
+    requires order { a ≤ℤ b }
+    requires upto { b ≤ℤ (g.now.start +ℤ g.now.seconds) }
+    requires divider { divider.now ≡ unsigned_abs g.now.seconds }
+    ensures equals { (axis : ℕ) → result ≡ arguments (series_of g.now axis) a b }
+    ensures unit { IsArguments result }
+{
+    argument_by(
         numerator(a, g.start, g.seconds),
         numerator(b, g.start, g.seconds),
-        g.seconds,
+        divider,
     )
+}
+
+/// The argument of one time, rounded outward: that of `arguments` from this time to itself, by one division.
+#[inline(always)]
+pub fn argument_at(g: &Granule, t: i64, divider: &Divider) -> Ival62
+    requires granule { IsEvaluable g.now }
+    requires from { g.now.start ≤ℤ t }
+    requires upto { t ≤ℤ (g.now.start +ℤ g.now.seconds) }
+    requires divider { divider.now ≡ unsigned_abs g.now.seconds }
+    ensures equals { (axis : ℕ) → result ≡ arguments (series_of g.now axis) t t }
+    ensures unit { IsArguments result }
+{
+    argument_of(numerator(t, g.start, g.seconds), divider)
 }
 
 /// Whether a granule can be evaluated: the test of what the calls here, and those of velocities and changes, require of

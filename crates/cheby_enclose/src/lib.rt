@@ -13,7 +13,7 @@ mod terms;
 #[cfg(test)]
 mod tests;
 
-pub use granules::{arguments, is_evaluable};
+pub use granules::{argument_at, arguments, arguments_by, is_evaluable};
 pub use positions::{Bases, empty_row, position, position_over, position_over_row};
 pub use sums::{WideEnds, row_sum, slope_sum};
 pub use terms::Terms;

@@ -1,4 +1,4 @@
-use Rattle.std.proofs.Common.{◌≡◌, ◌<◌, IsTrue, ℕ, zero, suc, Bool, true, false, ◌&&◌, List, [], ◌∷◌, length, slice_index_or, rules, refl, arith}
+use Rattle.std.proofs.Common.{◌≡◌, ◌<◌, IsTrue, ℕ, zero, suc, Bool, true, List, [], ◌∷◌, length, slice_index_or, rules, arith}
 use Rattle.std.specs.List.{list_all}
 use Rattle.spec_numbers.proofs.Booleans.{both_first, both_second}
 use Rattle.spec_ephemeris.specs.declared.body.Body.{Body}

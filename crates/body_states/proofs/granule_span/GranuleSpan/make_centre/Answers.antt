@@ -4,6 +4,6 @@ use Rattle.body_states.proofs.granule_span.GranuleSpan.make_centre.Goals as goal
 
 pub returns : goal.returns
 returns c =
-    let fm : FitsSigned w64 c.middle-m.result = search rules in
-    let sm = to_z-of_z w64 c.middle-m.result fm ∙ c.middle-m.ensures in
-    record { over = λ axis. c.make_plain.ensures.arguments ∙ (rw sm at (c.arguments.ensures.equals axis)); rows = c.make_plain.ensures.rows }
+    let fm : FitsSigned w64 c.middle.result = search rules in
+    let sm = to_z-of_z w64 c.middle.result fm ∙ c.middle.ensures in
+    record { over = λ axis. c.make.ensures.arguments ∙ (rw sm at (c.argument_at-argument.ensures.equals axis)); row = c.make.ensures.row }

@@ -4,8 +4,8 @@ use Rattle.body_states.proofs.granule_span.GranuleSpan.make_whole.Goals as goal
 
 pub returns : goal.returns
 returns c =
-    let fa : FitsSigned w64 c.first.result = search rules in
-    let fb : FitsSigned w64 c.last.result = search rules in
-    let sa = to_z-of_z w64 c.first.result fa ∙ c.first.ensures in
-    let sb = to_z-of_z w64 c.last.result fb ∙ c.last.ensures in
-    record { over = λ axis. c.make_all.ensures.arguments ∙ (rw (sa, sb) at (c.arguments-arguments.ensures.equals axis)); rows = c.make_all.ensures.rows }
+    let fa : FitsSigned w64 c.first-first.result = search rules in
+    let fb : FitsSigned w64 c.last-last.result = search rules in
+    let sa = to_z-of_z w64 c.first-first.result fa ∙ c.first-first.ensures in
+    let sb = to_z-of_z w64 c.last-last.result fb ∙ c.last-last.ensures in
+    record { over = λ axis. c.make.ensures.arguments ∙ (rw (sa, sb) at (c.arguments_by-arguments.ensures.equals axis)); rows = c.make.ensures.rows }

@@ -1,21 +1,12 @@
-use Rattle.spec_bodies.specs.declared.factor.Factor.TheVariants.{Cosine, Sine}
-use Rattle.spec_bodies.specs.Coordinates.{times}
-use Rattle.body_states.specs.Answers.{displacement_of}
-use Rattle.body_states.proofs.Good.{scaled_short}
+use Rattle.std.proofs.Common.{◌∙◌}
+use Rattle.body_states.specs.Answers.{turned_z}
 use Rattle.body_states.proofs.states.BodyStates.ecliptic_z.Goals as goal
 
-pub difference-requires-clause-x : goal.difference-requires-clause-x
-difference-requires-clause-x c = record {
-  formula = times Cosine (displacement_of c.args.self.now c.args.source 2);
-  readable = c.requires.readable.0;
-  short = scaled_short Cosine 2 c.args.source c.args.self.now.observer;
-  is = c.scaled_displacement-z.ensures;
-}
+pub turned_z-requires-clause-y : goal.turned_z-requires-clause-y
+turned_z-requires-clause-y c = record { source = c.args.source; readable = c.requires.readable.1; is = c.displacement-y.ensures }
 
-pub difference-requires-clause-y : goal.difference-requires-clause-y
-difference-requires-clause-y c = record {
-  formula = times Sine (displacement_of c.args.self.now c.args.source 1);
-  readable = c.requires.readable.1;
-  short = scaled_short Sine 1 c.args.source c.args.self.now.observer;
-  is = c.scaled_displacement-y.ensures;
-}
+pub turned_z-requires-clause-z : goal.turned_z-requires-clause-z
+turned_z-requires-clause-z c = record { source = c.args.source; readable = c.requires.readable.0; is = c.displacement-z.ensures }
+
+pub returns : goal.returns
+returns c = c.turned_z.ensures ∙ λ i. turned_z c.args.self.now c.args.question.now (c.displacement-y.ensures i) (c.displacement-z.ensures i)

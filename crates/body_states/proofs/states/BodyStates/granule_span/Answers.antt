@@ -1,4 +1,5 @@
-use Rattle.std.proofs.Common.{rules, ◌∙◌, ap, FitsSigned, w64}
+use Rattle.std.proofs.Common.{rules, ◌∙◌, ap, sym, FitsSigned, w64}
+use Rattle.spec_ephemeris.specs.Ephemeris.{Granule}
 use Rattle.std.proofs.lemmas.Int.{to_z-of_z}
 use Rattle.spec_bodies.proofs.Columns.{three_components}
 use Rattle.body_states.proofs.Reading.{evaluable, from_start, upto_end, series_is}
@@ -20,6 +21,7 @@ invariant_of-result c =
       from = from_start c.args.self.now a b c.requires.fits c.args.number c.requires.usable c.granule.result is count g.duration.0;
       order = c.requires.fits.ordered;
       upto = upto_end c.args.self.now a b c.requires.fits c.args.number c.requires.usable c.granule.result is count g.duration.0;
+      seconds = c.requires.divider ∙ sym (ap (λ (g : Granule). g.duration) is);
     }
 
 pub returns-clause-series : goal.returns-clause-series

@@ -1,7 +1,0 @@
-use Rattle.std.proofs.Common.{◌≡◌, length}
-use Rattle.std.specs.Prelude.{All}
-use Rattle.body_states.specs.Answers.{IsKnown}
-use Rattle.body_states.proofs.states.BodyStates.known_columns.Given as goal
-
-abbrev pub invariant-loop-place : goal.invariant-loop-place
-invariant-loop-place l = All (IsKnown l.fn.self l.fn.times.first l.fn.times.last) l.columns × (length l.columns ≡ 4)

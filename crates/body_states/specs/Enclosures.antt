@@ -1,0 +1,49 @@
+-- The enclosures of a quantity along each axis.
+use Rattle.std.specs.Prelude.{◌≡◌, ℕ, zero, suc, Option, None, IfSome}
+use Rattle.spec_intervals.specs.Enclosure.{Enclosure}
+use Rattle.spec_ephemeris.specs.Granules.{series_of}
+use Rattle.spec_bodies.specs.declared.quantity.Quantity.{Quantity}
+use Rattle.spec_bodies.specs.Views.{series_enclosure}
+use Rattle.body_states.specs.declared.granule_span.GranuleSpan.{GranuleSpan}
+use Rattle.body_states.specs.declared.enclosures.AxisEnclosures.{AxisEnclosures}
+use Rattle.body_states.specs.declared.enclosures.TargetEnclosures.{TargetEnclosures}
+use Rattle.body_states.specs.declared.enclosures.ColumnEnclosures.{ColumnEnclosures}
+
+abbrev pub along : AxisEnclosures → ℕ → Option Enclosure
+along m zero = m.x
+along m (suc zero) = m.y
+along m (suc (suc axis)) = m.z
+
+-- targets are numbered 0 and 1
+abbrev pub of_target : TargetEnclosures → ℕ → AxisEnclosures
+of_target m zero = m.first
+of_target m (suc target) = m.second
+
+-- ---- nothing is known
+abbrev pub nothing_known : AxisEnclosures
+nothing_known = record { x = None; y = None; z = None }
+
+abbrev pub nothing_known_of_targets : TargetEnclosures
+nothing_known_of_targets = record { first = nothing_known; second = nothing_known }
+
+abbrev pub nothing_known_of_column : ColumnEnclosures
+nothing_known_of_column = record { number = 0; along = nothing_known }
+
+-- ---- what is known, if anything is, is right
+abbrev pub IsRight : Enclosure → Option Enclosure → Type 0
+IsRight enclosure known = IfSome known (λ e. e ≡ enclosure)
+
+-- along each axis
+pub record AreAlong (enclosures : ℕ → Enclosure) (m : AxisEnclosures) : Type 0 where
+  pub x : IsRight (enclosures 0) m.x
+  pub y : IsRight (enclosures 1) m.y
+  pub z : IsRight (enclosures 2) m.z
+
+-- and of both targets, by target and axis
+pub record AreOfTargets (enclosures : ℕ → ℕ → Enclosure) (m : TargetEnclosures) : Type 0 where
+  pub first : AreAlong (enclosures 0) m.first
+  pub second : AreAlong (enclosures 1) m.second
+
+-- the enclosure of a quantity along an axis, over times within a granule
+abbrev pub enclosure_along : GranuleSpan → Quantity → ℕ → Enclosure
+enclosure_along s quantity axis = series_enclosure quantity s.times.now.first s.times.now.last (series_of s.granule axis)

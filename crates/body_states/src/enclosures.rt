@@ -1,0 +1,93 @@
+// Where a body is or how fast it moves along each axis, over a span of times.
+ghost use Rattle.std.specs.Prelude.{◌≡◌, ◌<◌};
+ghost use Rattle.body_states.specs.Enclosures.{along, of_target, nothing_known, nothing_known_of_targets, nothing_known_of_column};
+
+use ival_core::Enclosure;
+
+/// The enclosures of a position, in km, or of a velocity, in km per second, along the three axes; none along an axis where
+/// it wasn't asked.
+#[derive(Clone, Copy)]
+pub(crate) struct AxisEnclosures {
+    pub x: Option<Enclosure>,
+    pub y: Option<Enclosure>,
+    pub z: Option<Enclosure>,
+}
+
+/// The enclosures of both targets.
+#[derive(Clone, Copy)]
+pub(crate) struct TargetEnclosures {
+    pub first: AxisEnclosures,
+    pub second: AxisEnclosures,
+}
+
+/// The enclosures of a column, counted from 1; where none is known, its number is 0.
+#[derive(Clone, Copy)]
+pub(crate) struct ColumnEnclosures {
+    pub number: usize,
+    pub along: AxisEnclosures,
+}
+
+impl AxisEnclosures {
+    /// Nothing is known along any axis.
+    #[inline(always)]
+    pub fn none() -> AxisEnclosures
+        ensures { result ≡ nothing_known }
+    {
+        AxisEnclosures {
+            x: None,
+            y: None,
+            z: None,
+        }
+    }
+
+    /// What is known along an axis, counted from 0.
+    #[inline(always)]
+    pub fn along(&self, axis: usize) -> Option<Enclosure>
+        requires { axis < 3 }
+        ensures { result ≡ along self.now axis }
+    {
+        match axis {
+            0 => self.x,
+            1 => self.y,
+            _ => self.z,
+        }
+    }
+}
+
+impl TargetEnclosures {
+    /// Nothing is known of either target.
+    #[inline(always)]
+    pub fn none() -> TargetEnclosures
+        ensures { result ≡ nothing_known_of_targets }
+    {
+        TargetEnclosures {
+            first: AxisEnclosures::none(),
+            second: AxisEnclosures::none(),
+        }
+    }
+
+    /// The enclosures of a target, counted from 0.
+    #[inline(always)]
+    pub fn of(&self, target: u8) -> &AxisEnclosures
+        requires { target < 2 }
+        ensures { result.now ≡ of_target self.now target }
+    {
+        match target {
+            0 => &self.first,
+            _ => &self.second,
+        }
+    }
+}
+
+impl ColumnEnclosures {
+    /// Nothing is known of a column.
+    #[inline(always)]
+    pub fn none() -> ColumnEnclosures
+        ensures { result ≡ nothing_known_of_column }
+    {
+        ColumnEnclosures {
+            number: 0,
+            along: AxisEnclosures::none(),
+        }
+    }
+}

@@ -68,7 +68,8 @@ fn sum_of_multiples(pairs: &[Rounded], row: &Row) -> WideEnds
     requires pairs { ArePairs pairs.now }
     requires row { IsSlopeRow row.now (length pairs.now) }
     requires order { IsOrderedShorterRow row.now (length pairs.now) }
-    ensures lo { result.lo ≡ sum_low (multiples (entry row.now)) 1 (drop 1 (map term_of pairs.now)) }
+    ensures lo { let cs = drop 1 (map term_of pairs.now) in
+        result.lo ≡ sum_low (multiples (entry row.now)) 1 cs }
     ensures hi { let cs = drop 1 (map term_of pairs.now) in
         result.hi ≡ sum_high (multiples (entry row.now)) 1 cs }
     ensures lo_size { unsigned_abs result.lo < 2 ^ 125 }

@@ -146,6 +146,62 @@ impl Span {
         }
     }
 
+    /// A constant is written.
+    #[inline(never)]
+    pub(crate) fn set_constant(&self, out: &mut Enclosure, value: Ival)
+        requires within { IsWithin part_exponent value }
+        requires number { Overlaps value value }
+        ensures { out.new ≡ constant_of self.now.first self.now.last value }
+    {
+        *out = self.constant(value);
+    }
+
+    /// The first becomes the sum.
+    #[inline(never)]
+    pub(crate) fn add(&self, x: &mut Enclosure, y: &Enclosure)
+        requires x_within { AllWithin part_exponent x.old }
+        requires y_within { AllWithin part_exponent y.now }
+        requires x_encloses { Encloses self.now.first self.now.last x.old }
+        requires y_encloses { Encloses self.now.first self.now.last y.now }
+        ensures { x.new ≡ sum_of self.now.first self.now.last x.old y.now }
+    {
+        *x = self.sum(*x, *y);
+    }
+
+    /// The first becomes the difference.
+    #[inline(never)]
+    pub(crate) fn subtract(&self, x: &mut Enclosure, y: &Enclosure)
+        requires x_within { AllWithin part_exponent x.old }
+        requires y_within { AllWithin part_exponent y.now }
+        requires x_encloses { Encloses self.now.first self.now.last x.old }
+        requires y_encloses { Encloses self.now.first self.now.last y.now }
+        ensures { x.new ≡ difference_of self.now.first self.now.last x.old y.now }
+    {
+        *x = self.difference(*x, *y);
+    }
+
+    /// The first becomes the product.
+    #[inline(never)]
+    pub(crate) fn multiply(&self, x: &mut Enclosure, y: &Enclosure)
+        requires x_within { AllWithin part_exponent x.old }
+        requires y_within { AllWithin part_exponent y.now }
+        requires x_encloses { Encloses self.now.first self.now.last x.old }
+        requires y_encloses { Encloses self.now.first self.now.last y.now }
+        ensures { x.new ≡ product_of self.now.first self.now.last x.old y.now }
+    {
+        *x = self.product(*x, *y);
+    }
+
+    /// An enclosure becomes its signed square.
+    #[inline(never)]
+    pub(crate) fn square(&self, x: &mut Enclosure)
+        requires within { AllWithin part_exponent x.old }
+        requires encloses { Encloses self.now.first self.now.last x.old }
+        ensures { x.new ≡ signed_square_of self.now.first self.now.last x.old }
+    {
+        *x = self.signed_square(*x);
+    }
+
     /// There is more than one time.
     #[inline(always)]
     pub fn is_wide(&self) -> bool
@@ -184,6 +240,16 @@ impl Span {
             range: plain.meet(centred),
             step,
         }
+    }
+}
+
+/// An enclosure to be written over.
+#[inline(always)]
+pub(crate) fn blank() -> Enclosure {
+    Enclosure {
+        mid: Ival::zero(),
+        range: Ival::zero(),
+        step: Ival::zero(),
     }
 }
 

@@ -33,6 +33,7 @@ impl Model for Span {
 
 impl Span {
     /// The times from `first` to `last`, at most 2^50 in size.
+    #[inline(always)]
     pub fn new(first: i64, last: i64) -> Span
         requires { IsSpan first last }
         ensures first { result.first ≡ first }
@@ -48,6 +49,7 @@ impl Span {
     }
 
     /// The first time.
+    #[inline(always)]
     pub fn first(&self) -> i64
         ensures { result ≡ self.now.first }
     {
@@ -55,6 +57,7 @@ impl Span {
     }
 
     /// The last time.
+    #[inline(always)]
     pub fn last(&self) -> i64
         ensures { result ≡ self.now.last }
     {
@@ -62,6 +65,7 @@ impl Span {
     }
 
     /// A constant, by an interval that holds some number.
+    #[inline(always)]
     pub fn constant(&self, value: Ival) -> Enclosure
         requires within { IsWithin part_exponent value }
         requires number { Overlaps value value }
@@ -75,6 +79,7 @@ impl Span {
     }
 
     /// The sum.
+    #[inline(always)]
     pub fn sum(&self, x: Enclosure, y: Enclosure) -> Enclosure
         requires x_within { AllWithin part_exponent x }
         requires y_within { AllWithin part_exponent y }
@@ -91,6 +96,7 @@ impl Span {
     }
 
     /// The first less the second.
+    #[inline(always)]
     pub fn difference(&self, x: Enclosure, y: Enclosure) -> Enclosure
         requires x_within { AllWithin part_exponent x }
         requires y_within { AllWithin part_exponent y }
@@ -107,6 +113,7 @@ impl Span {
     }
 
     /// The product. Its change is `x' (y' - y) + y (x' - x)`, with the later value of the first operand.
+    #[inline(always)]
     pub fn product(&self, x: Enclosure, y: Enclosure) -> Enclosure
         requires x_within { AllWithin part_exponent x }
         requires y_within { AllWithin part_exponent y }
@@ -124,6 +131,7 @@ impl Span {
     }
 
     /// The signed square. Its change lies between 0 and the change of the operand times twice its greatest size.
+    #[inline(always)]
     pub fn signed_square(&self, x: Enclosure) -> Enclosure
         requires within { AllWithin part_exponent x }
         requires encloses { Encloses self.now.first self.now.last x }
@@ -138,7 +146,64 @@ impl Span {
         }
     }
 
+    /// A constant is written.
+    #[inline(never)]
+    pub(crate) fn set_constant(&self, out: &mut Enclosure, value: Ival)
+        requires within { IsWithin part_exponent value }
+        requires number { Overlaps value value }
+        ensures { out.new ≡ constant_of self.now.first self.now.last value }
+    {
+        *out = self.constant(value);
+    }
+
+    /// The first becomes the sum.
+    #[inline(never)]
+    pub(crate) fn add(&self, x: &mut Enclosure, y: &Enclosure)
+        requires x_within { AllWithin part_exponent x.old }
+        requires y_within { AllWithin part_exponent y.now }
+        requires x_encloses { Encloses self.now.first self.now.last x.old }
+        requires y_encloses { Encloses self.now.first self.now.last y.now }
+        ensures { x.new ≡ sum_of self.now.first self.now.last x.old y.now }
+    {
+        *x = self.sum(*x, *y);
+    }
+
+    /// The first becomes the difference.
+    #[inline(never)]
+    pub(crate) fn subtract(&self, x: &mut Enclosure, y: &Enclosure)
+        requires x_within { AllWithin part_exponent x.old }
+        requires y_within { AllWithin part_exponent y.now }
+        requires x_encloses { Encloses self.now.first self.now.last x.old }
+        requires y_encloses { Encloses self.now.first self.now.last y.now }
+        ensures { x.new ≡ difference_of self.now.first self.now.last x.old y.now }
+    {
+        *x = self.difference(*x, *y);
+    }
+
+    /// The first becomes the product.
+    #[inline(never)]
+    pub(crate) fn multiply(&self, x: &mut Enclosure, y: &Enclosure)
+        requires x_within { AllWithin part_exponent x.old }
+        requires y_within { AllWithin part_exponent y.now }
+        requires x_encloses { Encloses self.now.first self.now.last x.old }
+        requires y_encloses { Encloses self.now.first self.now.last y.now }
+        ensures { x.new ≡ product_of self.now.first self.now.last x.old y.now }
+    {
+        *x = self.product(*x, *y);
+    }
+
+    /// An enclosure becomes its signed square.
+    #[inline(never)]
+    pub(crate) fn square(&self, x: &mut Enclosure)
+        requires within { AllWithin part_exponent x.old }
+        requires encloses { Encloses self.now.first self.now.last x.old }
+        ensures { x.new ≡ signed_square_of self.now.first self.now.last x.old }
+    {
+        *x = self.signed_square(*x);
+    }
+
     /// There is more than one time.
+    #[inline(always)]
     pub fn is_wide(&self) -> bool
         ensures { result ≡ lt_z self.now.first self.now.last }
     {
@@ -146,6 +211,7 @@ impl Span {
     }
 
     /// At a single time the range is the mid and nothing changes, whatever the other parts.
+    #[inline(always)]
     pub fn single(&self, mid: Ival) -> Enclosure
         requires { lt_z self.now.first self.now.last ≡ false }
         ensures { (plain step : Interval)
@@ -159,6 +225,7 @@ impl Span {
     }
 
     /// The range is what the plain one shares with the values that steps reach from the middle.
+    #[inline(always)]
     pub fn wide(&self, mid: Ival, plain: Ival, step: Ival) -> Enclosure
         requires several { lt_z self.now.first self.now.last ≡ true }
         requires mid_within { IsWithin wide_exponent mid }
@@ -176,7 +243,18 @@ impl Span {
     }
 }
 
+/// An enclosure to be written over.
+#[inline(always)]
+pub(crate) fn blank() -> Enclosure {
+    Enclosure {
+        mid: Ival::zero(),
+        range: Ival::zero(),
+        step: Ival::zero(),
+    }
+}
+
 /// The time halfway, or the last before it.
+#[inline(always)]
 pub(crate) fn middle(first: i64, last: i64) -> i64
     requires { IsSpan first last }
     ensures { result ≡ middle first last }
@@ -185,6 +263,7 @@ pub(crate) fn middle(first: i64, last: i64) -> i64
 }
 
 /// How far `time` is after `origin`.
+#[inline(always)]
 fn distance(time: i64, origin: i64) -> i128
     ensures { result ≡ time -ℤ origin }
 {
@@ -192,6 +271,7 @@ fn distance(time: i64, origin: i64) -> i128
 }
 
 /// From 0 to twice the greatest size in the interval.
+#[inline(always)]
 fn twice_size(range: Ival) -> Ival
     requires { IsWithin part_exponent range }
     ensures { result ≡ twice_size range }
@@ -201,6 +281,7 @@ fn twice_size(range: Ival) -> Ival
 }
 
 /// Twice the size of the greater of two ends.
+#[inline(always)]
 fn doubled_size(lo: i128, hi: i128) -> i128
     requires lo_small { unsigned_abs lo ≤ end_limit }
     requires hi_small { unsigned_abs hi ≤ end_limit }

@@ -9,6 +9,7 @@ use crate::span_states::SpanStates;
 use event_kinds::Guard;
 
 // The condition holds at each of these times.
+#[inline(always)]
 fn is_certified(guard: &Guard, states: &SpanStates) -> bool
     ensures { result ≡ is_certified (finding_in states.now guard.now) }
 {
@@ -16,6 +17,7 @@ fn is_certified(guard: &Guard, states: &SpanStates) -> bool
 }
 
 // It is false at each of them.
+#[inline(always)]
 fn is_refuted(guard: &Guard, states: &SpanStates) -> bool
     ensures { result ≡ is_refuted (finding_in states.now guard.now) }
 {
@@ -23,6 +25,7 @@ fn is_refuted(guard: &Guard, states: &SpanStates) -> bool
 }
 
 /// Each condition holds at each of these times.
+#[inline(always)]
 pub(crate) fn are_certified(guards: &[Guard], states: &SpanStates) -> bool
     ensures { result ≡ list_all (λ guard. is_certified (finding_in states.now guard)) guards.now }
 {
@@ -30,6 +33,7 @@ pub(crate) fn are_certified(guards: &[Guard], states: &SpanStates) -> bool
 }
 
 /// Some condition is false at each of them.
+#[inline(always)]
 pub(crate) fn is_one_refuted(guards: &[Guard], states: &SpanStates) -> bool
     ensures { result ≡ list_any (λ guard. is_refuted (finding_in states.now guard)) guards.now }
 {

@@ -1,5 +1,6 @@
 // A search for an event of two bodies.
 ghost use Rattle.std.specs.Prelude.{◌≡◌, ◌<◌, ◌≤ℤ◌, pos, unsigned_abs};
+ghost use Rattle.event_expr.specs.Leaves.{leaves_of};
 ghost use Rattle.event_judge.specs.Wanted.{event_leaves};
 
 use crate::wanted::wanted_leaves;
@@ -18,6 +19,8 @@ pub struct EventSearch<'e> {
     event: Event,
     /// The coordinates that the event names.
     wanted: Leaves,
+    /// Those that its function names.
+    of_function: Leaves,
     width: u64,
     depth: u32,
     rule: CutRule,
@@ -28,6 +31,7 @@ impl<'e> Model for EventSearch<'e> {
     ghost use Rattle.std.specs.Coded.{codes};
     ghost use Rattle.spec_expressions.specs.Code.{term_code};
     ghost use Rattle.spec_searches.specs.Search.{Search};
+    ghost use Rattle.event_expr.specs.Leaves.{leaves_of};
     ghost use Rattle.event_judge.specs.Wanted.{event_leaves};
 
     ghost Value = { Search };
@@ -44,7 +48,8 @@ impl<'e> Model for EventSearch<'e> {
 
     ghost invariant = { λ s. (s.ephemeris.now ≡ s.states.ephemeris)
         × (0 < s.width)
-        × (s.wanted ≡ event_leaves s.event) };
+        × (s.wanted ≡ event_leaves s.event)
+        × (s.of_function ≡ leaves_of s.event.function) };
 }
 
 impl<'e> EventSearch<'e> {
@@ -69,11 +74,13 @@ impl<'e> EventSearch<'e> {
         } }
     {
         let wanted = wanted_leaves(&event);
+        let of_function = event.function().leaves();
         EventSearch {
             states,
             ephemeris,
             event,
             wanted,
+            of_function,
             width: width.unsigned_abs(),
             depth,
             rule,
@@ -81,6 +88,7 @@ impl<'e> EventSearch<'e> {
     }
 
     /// The states of the two bodies.
+    #[inline(always)]
     pub(crate) fn states(&self) -> &BodyStates<'e>
         ensures { result.now ≡ self.now.view }
     {
@@ -88,6 +96,7 @@ impl<'e> EventSearch<'e> {
     }
 
     /// The ephemeris that they read.
+    #[inline(always)]
     pub(crate) fn ephemeris(&self) -> &'e Ephemeris
         ensures { result.now ≡ self.now.view.ephemeris }
     {
@@ -95,6 +104,7 @@ impl<'e> EventSearch<'e> {
     }
 
     /// The event.
+    #[inline(always)]
     pub(crate) fn event(&self) -> &Event
         ensures { result.now ≡ self.now.event }
     {
@@ -102,13 +112,23 @@ impl<'e> EventSearch<'e> {
     }
 
     /// The coordinates that its function or a guard of it names.
+    #[inline(always)]
     pub(crate) fn wanted(&self) -> &Leaves
         ensures { result.now ≡ event_leaves self.now.event }
     {
         &self.wanted
     }
 
+    /// The coordinates that its function names.
+    #[inline(always)]
+    pub(crate) fn of_function(&self) -> &Leaves
+        ensures { result.now ≡ leaves_of self.now.event.function }
+    {
+        &self.of_function
+    }
+
     /// The width down to which nodes are split, in seconds.
+    #[inline(always)]
     pub(crate) fn width(&self) -> u64
         ensures width { result ≡ self.now.width }
         ensures some { 0 < self.now.width }
@@ -117,6 +137,7 @@ impl<'e> EventSearch<'e> {
     }
 
     /// The depth down to which nodes are split.
+    #[inline(always)]
     pub(crate) fn depth(&self) -> u32
         ensures { result ≡ self.now.depth }
     {

@@ -8,6 +8,7 @@ use ival_core::{Ival, Sign};
 use spec_events::Dir;
 use spec_trees::Turn;
 
+#[inline(always)]
 fn is_known(sign: Sign) -> bool
     ensures { result ≡ is_known sign }
 {
@@ -15,6 +16,7 @@ fn is_known(sign: Sign) -> bool
 }
 
 // From each time to the next it rises or stays.
+#[inline(always)]
 fn rises(step: Ival) -> bool
     ensures { result ≡ rises step }
 {
@@ -22,6 +24,7 @@ fn rises(step: Ival) -> bool
 }
 
 // It falls or stays.
+#[inline(always)]
 fn falls(step: Ival) -> bool
     ensures { result ≡ falls step }
 {
@@ -29,6 +32,7 @@ fn falls(step: Ival) -> bool
 }
 
 /// It doesn't do both, so that the signs at the ends tell its turns.
+#[inline(always)]
 pub(crate) fn is_one_way(step: Ival) -> bool
     ensures { result ≡ is_one_way step }
 {
@@ -36,6 +40,7 @@ pub(crate) fn is_one_way(step: Ival) -> bool
 }
 
 // Its steps lead against the direction that is wanted.
+#[inline(always)]
 fn steps_against(dir: Dir, step: Ival) -> bool
     ensures { result ≡ steps_against dir step }
 {
@@ -47,6 +52,7 @@ fn steps_against(dir: Dir, step: Ival) -> bool
 }
 
 /// It has one sign over all times, or its steps lead against the direction that is wanted.
+#[inline(always)]
 pub(crate) fn is_turnless(dir: Dir, over: Sign, step: Ival) -> bool
     ensures { result ≡ is_turnless dir over step }
 {
@@ -54,6 +60,7 @@ pub(crate) fn is_turnless(dir: Dir, over: Sign, step: Ival) -> bool
 }
 
 // Both signs are known and equal.
+#[inline(always)]
 fn agree(first: Sign, last: Sign) -> bool
     ensures { result ≡ agree first last }
 {
@@ -61,6 +68,7 @@ fn agree(first: Sign, last: Sign) -> bool
 }
 
 // The direction is one of those that are wanted.
+#[inline(always)]
 fn wants(dir: Dir, turn: Turn) -> bool
     ensures { result ≡ wants dir turn }
 {
@@ -72,6 +80,7 @@ fn wants(dir: Dir, turn: Turn) -> bool
 }
 
 /// Both are known and differ in a direction that is wanted.
+#[inline(always)]
 pub(crate) fn differ(dir: Dir, first: Sign, last: Sign) -> bool
     ensures { result ≡ differ dir first last }
 {
@@ -83,6 +92,7 @@ pub(crate) fn differ(dir: Dir, first: Sign, last: Sign) -> bool
 }
 
 // Both are known and differ against the direction that is wanted.
+#[inline(always)]
 fn differ_against(dir: Dir, first: Sign, last: Sign) -> bool
     ensures { result ≡ differ_against dir first last }
 {
@@ -94,6 +104,7 @@ fn differ_against(dir: Dir, first: Sign, last: Sign) -> bool
 }
 
 /// Both are known, and there is no turn in a wanted direction from the one to the other.
+#[inline(always)]
 pub(crate) fn has_no_turn(dir: Dir, first: Sign, last: Sign) -> bool
     ensures { result ≡ has_no_turn dir first last }
 {
@@ -101,6 +112,7 @@ pub(crate) fn has_no_turn(dir: Dir, first: Sign, last: Sign) -> bool
 }
 
 /// The turn to this sign from the other.
+#[inline(always)]
 pub(crate) fn turn_to(sign: Sign) -> Turn
     ensures { result ≡ turn_to sign }
 {
@@ -111,6 +123,7 @@ pub(crate) fn turn_to(sign: Sign) -> Turn
 }
 
 /// The sign certifies what has to be at least 0, or below 0.
+#[inline(always)]
 pub(crate) fn certifies(at_least: bool, sign: Sign) -> bool
     ensures { result ≡ certifies at_least sign }
 {

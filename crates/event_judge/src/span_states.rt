@@ -32,6 +32,7 @@ impl<'s, 'e> Model for SpanStates<'s, 'e> {
 
 impl<'s, 'e> SpanStates<'s, 'e> {
     /// The states over the times from `from` to `upto`, of which the wanted coordinates are made at once.
+    #[inline(always)]
     pub(crate) fn new(
         states: &'s BodyStates<'e>,
         wanted: &Leaves,
@@ -49,6 +50,7 @@ impl<'s, 'e> SpanStates<'s, 'e> {
     }
 
     /// The enclosure of a formula over these times.
+    #[inline(always)]
     pub(crate) fn enclosure(&self, formula: &Formula) -> Enclosure
         ensures { result ≡ enclosure_in self.now formula.now }
     {
@@ -56,6 +58,7 @@ impl<'s, 'e> SpanStates<'s, 'e> {
     }
 
     /// The sign that it has at each of these times.
+    #[inline(always)]
     pub(crate) fn sign(&self, formula: &Formula) -> Sign
         ensures { result ≡ sign_in self.now formula.now }
     {

@@ -15,6 +15,7 @@ use ival_core::{Enclosure, Sign};
 
 impl<'s, 'e> ValidNode<'s, 'e> {
     /// The border of the columns in use in the node, the nearest to its middle.
+    #[inline(always)]
     pub(crate) fn border(self) -> Option<i64>
         ensures { result ≡ border_in self.entry.search.now self.entry.node }
     {
@@ -25,6 +26,7 @@ impl<'s, 'e> ValidNode<'s, 'e> {
     }
 
     // The number of its times.
+    #[inline(always)]
     fn width(self) -> u64
         ensures { result ≡ width self.entry.node }
     {
@@ -32,6 +34,7 @@ impl<'s, 'e> ValidNode<'s, 'e> {
     }
 
     // Wider than one second.
+    #[inline(always)]
     fn is_wide(self) -> bool
         ensures { result ≡ is_wide self.entry.node }
     {
@@ -39,6 +42,7 @@ impl<'s, 'e> ValidNode<'s, 'e> {
     }
 
     // No wider than the width of the search.
+    #[inline(always)]
     fn is_narrow(self) -> bool
         ensures { result ≡ nat_le (width self.entry.node) self.entry.search.now.width }
     {
@@ -46,22 +50,25 @@ impl<'s, 'e> ValidNode<'s, 'e> {
     }
 
     // Wider than the width, and not as deep as the depth.
+    #[inline(always)]
     fn is_above_limits(self) -> bool
         ensures { result ≡ is_above_limits (criteria self.entry.search.now) self.entry.node }
     {
         !self.is_narrow() && self.node.depth < self.search.depth()
     }
 
-    // The states at its first time.
+    // The states at its first time, of which only the function is asked.
+    #[inline(always)]
     fn first(self) -> SpanStates<'s, 'e>
         ensures { result ≡ first_moment self.entry.search.now self.entry.node }
     {
         let states = self.search.states();
         let _columns = states.columns();
-        SpanStates::new(states, self.search.wanted(), self.node.a, self.node.a)
+        SpanStates::new(states, self.search.of_function(), self.node.a, self.node.a)
     }
 
     // The states at its last time.
+    #[inline(always)]
     fn last(self) -> SpanStates<'s, 'e>
         ensures { result ≡ last_moment self.entry.search.now self.entry.node }
     {
@@ -70,7 +77,18 @@ impl<'s, 'e> ValidNode<'s, 'e> {
         SpanStates::new(states, self.search.wanted(), self.node.b, self.node.b)
     }
 
+    // The states at its last time, of which only the function is asked.
+    #[inline(always)]
+    fn last_of_function(self) -> SpanStates<'s, 'e>
+        ensures { result ≡ last_moment self.entry.search.now self.entry.node }
+    {
+        let (states, time) = (self.search.states(), self.node.b);
+        let _columns = states.columns();
+        SpanStates::new(states, self.search.of_function(), time, time)
+    }
+
     // The states over all its times, where no border falls into it.
+    #[inline(always)]
     fn whole(self) -> SpanStates<'s, 'e>
         requires { crosses self.search.now self.node ≡ false }
         ensures { result ≡ whole_moment self.entry.search.now self.entry.node }
@@ -81,6 +99,7 @@ impl<'s, 'e> ValidNode<'s, 'e> {
     }
 
     // The enclosure of the function over some times.
+    #[inline(always)]
     fn enclosure(self, states: &SpanStates) -> Enclosure
         ensures { result ≡ enclosure_at self.entry.search.now states.now }
     {
@@ -88,6 +107,7 @@ impl<'s, 'e> ValidNode<'s, 'e> {
     }
 
     // Its sign.
+    #[inline(always)]
     fn sign(self, states: &SpanStates) -> Sign
         ensures { result ≡ sign_at self.entry.search.now states.now }
     {
@@ -95,6 +115,7 @@ impl<'s, 'e> ValidNode<'s, 'e> {
     }
 
     // An enclosure of the function tells that it has no turn that is wanted.
+    #[inline(always)]
     fn is_turnless(self, over: &Enclosure) -> bool
         ensures { result ≡ is_turnless_by self.entry.search.now over.now }
     {
@@ -102,6 +123,7 @@ impl<'s, 'e> ValidNode<'s, 'e> {
     }
 
     // Some condition is false at each of some times.
+    #[inline(always)]
     fn is_refuted(self, states: &SpanStates) -> bool
         ensures { result ≡ is_refuted_at self.entry.search.now states.now }
     {
@@ -109,6 +131,7 @@ impl<'s, 'e> ValidNode<'s, 'e> {
     }
 
     // Each condition holds at each of some times.
+    #[inline(always)]
     fn is_certified(self, states: &SpanStates) -> bool
         ensures { result ≡ is_certified_at self.entry.search.now states.now }
     {
@@ -116,6 +139,7 @@ impl<'s, 'e> ValidNode<'s, 'e> {
     }
 
     // What is said where nothing decides.
+    #[inline(always)]
     fn limit_verdict(self) -> Verdict
         ensures { result ≡ limit_verdict (criteria self.entry.search.now) self.entry.node }
     {
@@ -127,6 +151,7 @@ impl<'s, 'e> ValidNode<'s, 'e> {
     }
 
     // What is said by the signs at the ends, which tell the turns between them, with the conditions over some times.
+    #[inline(always)]
     fn end_verdict(self, states: &SpanStates, first: Sign, last: Sign) -> Verdict
         ensures { result ≡ end_verdict (criteria self.entry.search.now) self.entry.node
             (guards_at self.entry.search.now states.now) first last }
@@ -171,7 +196,11 @@ impl<'s, 'e> ValidNode<'s, 'e> {
         } else if self.is_refuted(&whole) {
             Verdict::Clear
         } else if is_one_way(over.step) {
-            self.end_verdict(&whole, self.sign(&self.first()), self.sign(&self.last()))
+            self.end_verdict(
+                &whole,
+                self.sign(&self.first()),
+                self.sign(&self.last_of_function()),
+            )
         } else {
             self.limit_verdict()
         }

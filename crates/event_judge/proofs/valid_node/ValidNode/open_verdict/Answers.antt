@@ -48,7 +48,7 @@ returns-then-is_one_way c =
     let none : is_refuted_at s (whole_moment s n) ≡ false = ap (is_refuted_at s) (sym whole) ∙ (sym c.is_refuted.ensures ∙ c.if-is_refuted.false) in
     let leads : is_one_way_at s n ≡ true = ap (λ (e : Enclosure). is_one_way e.step) (sym over) ∙ (sym c.is_one_way.ensures ∙ c.if-is_one_way.true) in
     let first : c.sign.result ≡ sign_at s (first_moment s n) = c.sign.ensures ∙ ap (sign_at s) c.first.ensures in
-    let last : c.sign-then-is_one_way.result ≡ sign_at s (last_moment s n) = c.sign-then-is_one_way.ensures ∙ ap (sign_at s) c.last.ensures in
+    let last : c.sign-then-is_one_way.result ≡ sign_at s (last_moment s n) = c.sign-then-is_one_way.ensures ∙ ap (sign_at s) c.last_of_function.ensures in
     (c.end_verdict.ensures ∙ λ i. end_verdict (criteria s) n (guards_at s (whole i)) (first i) (last i))
     ∙ sym (one_way s c.width-width.ensures.some n c.args.self.valid.inside c.requires untold (sym c.is_wide.ensures ∙ wide) none leads)
 

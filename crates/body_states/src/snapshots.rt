@@ -33,8 +33,7 @@ impl<'s, 'e> Model for Snapshot<'s, 'e> {
 
     ghost view = { λ s. record { view = s.states.now; first = s.from; last = s.upto } };
 
-    ghost invariant = {
-      λ s. AreOfTargets (target_state s.states.now s.from s.upto Position) s.position
+    ghost invariant = { λ s. AreOfTargets (target_state s.states.now s.from s.upto Position) s.position
         × AreOfTargets (target_state s.states.now s.from s.upto Velocity) s.velocity };
 }
 

@@ -25,16 +25,15 @@ pub struct Snapshot<'s, 'e> {
 }
 
 impl<'s, 'e> Model for Snapshot<'s, 'e> {
-    ghost use Rattle.body_states.specs.Moments.{Moment, target_state};
-    ghost use Rattle.body_states.specs.Enclosures.{AreOfTargets};
+    ghost use Rattle.body_states.specs.Moments.{Moment, AreStates};
     ghost use Rattle.spec_bodies.specs.declared.quantity.Quantity.TheVariants.{Position, Velocity};
 
     ghost Value = { Moment };
 
     ghost view = { λ s. record { view = s.states.now; first = s.from; last = s.upto } };
 
-    ghost invariant = { λ s. AreOfTargets (target_state s.states.now s.from s.upto Position) s.position
-        × AreOfTargets (target_state s.states.now s.from s.upto Velocity) s.velocity };
+    ghost invariant = { λ s. AreStates s.states.now s.from s.upto Position s.position
+        × AreStates s.states.now s.from s.upto Velocity s.velocity };
 }
 
 impl<'e> BodyStates<'e> {

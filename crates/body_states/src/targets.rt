@@ -5,8 +5,8 @@ ghost use Rattle.spec_bodies.specs.Reading.{IsUsable};
 ghost use Rattle.spec_bodies.specs.Views.{Fits};
 ghost use Rattle.body_states.specs.Answers.{CanAsk, CanRead, CanReadSource, CanReadObserver, IsApart, IsKnown, AreKnown, IsDisplacement, observer_answer, displacement_answer, ecliptic_answer, turned_y, turned_z};
 ghost use Rattle.body_states.specs.Dividers.{granule_seconds};
-ghost use Rattle.body_states.specs.Enclosures.{IsRight, AreAlong, AreOfTargets};
-ghost use Rattle.body_states.specs.Moments.{question_state, target_state};
+ghost use Rattle.body_states.specs.Enclosures.{IsRight, AreAlong};
+ghost use Rattle.body_states.specs.Moments.{question_state, AreStates};
 
 use crate::enclosures::{AxisEnclosures, ColumnEnclosures, TargetEnclosures};
 use crate::question::Question;
@@ -27,10 +27,8 @@ impl<'e> BodyStates<'e> {
         out: &mut TargetEnclosures,
     )
         requires fits { Fits self.now times.now.first times.now.last }
-        requires known { let states = target_state self.now times.now.first times.now.last in
-            AreOfTargets (states quantity) out.old }
-        ensures { let states = target_state self.now times.now.first times.now.last in
-            AreOfTargets (states quantity) out.new }
+        requires known { AreStates self.now times.now.first times.now.last quantity out.old }
+        ensures { AreStates self.now times.now.first times.now.last quantity out.new }
     {
         let axes = self.own_axes(first.union(second));
         if axes.x || axes.y || axes.z {

@@ -23,7 +23,8 @@ pub fn generated_texts_are_accepted()
 #[tactic(auto, using(crate::proofs::Terms::term_place))]
 pub fn places_have_terms()
     ensures columns { map (λ c. c.column) scaled_columns ≡ de405.columns }
-    ensures terms { (number granule axis k : ℕ) (c : ScaledColumn) → IsTermAt number c granule axis k
+    ensures terms { (number granule axis k : ℕ) (c : ScaledColumn)
+        → IsTermAt number c granule axis k
         → term_at (place_of number c.column granule axis k)
         ≡ record { scale = c.scale; degree = k } }
 {}

@@ -31,7 +31,8 @@ impl<N: Naming> Model for Owner<N> {
     ghost view = { λ o. end_of o.number (worker_deque o.worker) (worker_view o.worker) };
 
     ghost invariant = { λ o. ((worker_view o.worker).owner ≡ 1) × (worker_flavor o.worker ≡ 0)
-        × (worker_index o.worker ≤ length (worker_view o.worker).put) × (64 ≤ worker_capacity o.worker) };
+        × (worker_index o.worker ≤ length (worker_view o.worker).put)
+        × (64 ≤ worker_capacity o.worker) };
 }
 
 /// A pass on another worker's deque.

@@ -40,7 +40,8 @@ impl<N: Naming> Model for Worker<N> {
 
     ghost view = { λ w. holder_of w.own w.passes.items w.since w.hand w.kept.items };
 
-    ghost invariant = { λ w. Stands N.rules (holder_of w.own w.passes.items w.since w.hand w.kept.items) };
+    ghost invariant = { λ w. Stands N.rules
+        (holder_of w.own w.passes.items w.since w.hand w.kept.items) };
 }
 
 // Takes the front of the first deque that gives a node, by at most `scans` looks at all of them.

@@ -56,7 +56,8 @@ fn add_named_time(text: &mut String, name: &str, time: i64) -> Result<(), AllocE
 }
 
 fn add_sizes(text: &mut String, ephemeris: &Ephemeris) -> Result<(), AllocError>
-    ensures { OnOk result (string_bytes text.new ≡ string_bytes text.old ++ sizes_of ephemeris.now) }
+    ensures { OnOk result
+        (string_bytes text.new ≡ string_bytes text.old ++ sizes_of ephemeris.now) }
 {
     let header = ephemeris.header();
     add_signed_number(text, " block ", header.block_seconds)?;

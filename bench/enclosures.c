@@ -9,14 +9,14 @@
 #include <stdlib.h>
 #include <string.h>
 
-enum { MERCURY, VENUS, EMB, MOON, BODIES, AXES = 3, COLUMNS = 13, HOUR = 3600, MOST_NUMBERS = 8192, MOST_HOURS = 4096 };
+enum { MERCURY, VENUS, EMB, MOON, BODIES, AXES = 3, COLUMNS = 13, HOUR = 3600, MAX_NUMBERS = 8192, MAX_HOURS = 4096 };
 
 /* The place of a body's column in the header. */
 static const int COLUMN[BODIES] = { 0, 1, 2, 9 };
 static const double COSINE = 0.8;
 
 struct column { int first, coefficients, granules; };
-struct file { int count; long start, seconds; double share, numbers[MOST_NUMBERS]; struct column columns[COLUMNS]; };
+struct file { int count; long start, seconds; double share, numbers[MAX_NUMBERS]; struct column columns[COLUMNS]; };
 
 static void fail(const char *why) {
     fprintf(stderr, "enclosures: %s\n", why);
@@ -77,7 +77,7 @@ static void read_file(struct file *f, const char *name) {
     for (int i = 0; i < COLUMNS; i++) f->columns[i].coefficients = (int)number(in);
     for (int i = 0; i < COLUMNS; i++) f->columns[i].granules = (int)number(in);
     group(in, "1070");
-    if (f->count > MOST_NUMBERS || number(in) != 1 || number(in) != f->count) fail("the first block isn't as expected");
+    if (f->count > MAX_NUMBERS || number(in) != 1 || number(in) != f->count) fail("the first block isn't as expected");
     for (int i = 0; i < f->count; i++) f->numbers[i] = number(in);
     f->start = seconds(f->numbers[0]);
     f->seconds = seconds(f->numbers[1]) - f->start;
@@ -143,13 +143,13 @@ static int crosses(const struct file *f, long from) {
 
 int main(int argc, char **argv) {
     static struct file f;
-    static long hours[MOST_HOURS];
+    static long hours[MAX_HOURS];
     if (argc != 4) fail("FUNCTION ROUNDS FILE");
     double (*function)(const struct file *, long) = strcmp(argv[1], "sep") ? conjunction : separation;
     unsigned rounds = strtoul(argv[2], 0, 10);
     read_file(&f, argv[3]);
     int count = 0;
-    for (long t = f.start; t + HOUR < f.start + f.seconds && count < MOST_HOURS; t += HOUR)
+    for (long t = f.start; t + HOUR < f.start + f.seconds && count < MAX_HOURS; t += HOUR)
         if (!crosses(&f, t)) hours[count++] = t;
     for (int i = 0; i < count; i++) printf("%ld %.17g\n", hours[i], function(&f, hours[i] + HOUR / 2));
     uint64_t sum = 0;

@@ -170,7 +170,7 @@ STEP interval scale(wide_pair ends, int s, const divider *d) {
 
 /* ---------- the file ---------- */
 
-enum { MERCURY, VENUS, EMB, MOON, SUN, BODIES, AXES = 3, COLUMNS = 13, MOST_BLOCKS = 64, MOST_TERMS = 32 };
+enum { MERCURY, VENUS, EMB, MOON, SUN, BODIES, AXES = 3, COLUMNS = 13, MAX_BLOCKS = 64, MAX_TERMS = 32 };
 
 /* The place of a body's column in the header. */
 static const int COLUMN[BODIES] = { 0, 1, 2, 9, 10 };
@@ -292,7 +292,7 @@ static void read_columns(FILE *in) {
 static void read_blocks(FILE *in) {
     char text[64];
     while (word(in, text)) {
-        if (file.blocks == MOST_BLOCKS || whole(in) != file.count) fail("a block isn't as expected");
+        if (file.blocks == MAX_BLOCKS || whole(in) != file.count) fail("a block isn't as expected");
         pair *to = file.numbers + (size_t)file.blocks * file.count;
         int64_t from = seconds(in), upto = seconds(in);
         if (file.blocks++ == 0) {
@@ -311,7 +311,7 @@ static void read_file(const char *name) {
     if (!in) fail("the file can't be read");
     while (word(in, text) && strcmp(text, "NCOEFF=")) {}
     file.count = whole(in);
-    file.numbers = malloc(sizeof(pair) * MOST_BLOCKS * file.count);
+    file.numbers = malloc(sizeof(pair) * MAX_BLOCKS * file.count);
     read_moon_share(in);
     read_columns(in);
     group(in, "1070");
@@ -467,7 +467,7 @@ static unsigned axes_of(unsigned asked, int first) { return (asked >> first | as
 static __attribute__((noinline)) void column_over(const column *c, const span *s, unsigned asked, motions *out) {
     int64_t start;
     const pair *numbers = granule(c, s->from, &start);
-    pair centre[MOST_TERMS], row[MOST_TERMS], steps[MOST_TERMS];
+    pair centre[MAX_TERMS], row[MAX_TERMS], steps[MAX_TERMS];
     int64_t middle = 2 * (s->middle - start) - c->seconds;
     pair x = argument(2 * (s->from - start) - c->seconds, 2 * (s->upto - start) - c->seconds, &c->by_seconds);
     pair m = argument(middle, middle, &c->by_seconds);
@@ -503,7 +503,7 @@ static __attribute__((noinline)) void column_over(const column *c, const span *s
 static __attribute__((noinline)) void column_at(const column *c, int64_t t, unsigned asked, motions_at *out) {
     int64_t start;
     const pair *numbers = granule(c, t, &start);
-    pair row[MOST_TERMS];
+    pair row[MAX_TERMS];
     int64_t u = 2 * (t - start) - c->seconds;
     pair x = argument(u, u, &c->by_seconds);
     int n = c->terms;
@@ -586,7 +586,7 @@ static __attribute__((noinline)) void states_at(int64_t t, unsigned asked, inter
 typedef struct { char act; int place; interval value; } action;
 typedef struct { action actions[128]; int count; unsigned asked; } formula;
 
-enum { MOST_DEPTH = 16 };
+enum { MAX_DEPTH = 16 };
 
 static void append(formula *f, char act, int place, interval value) {
     if (f->count == 128) fail("a formula is too long");
@@ -631,7 +631,7 @@ static void compile(formula *f, const char *text, const interval *constants) {
 }
 
 static __attribute__((noinline)) enclosure evaluate_over(const formula *f, const span *s, const enclosure *states) {
-    enclosure stack[MOST_DEPTH];
+    enclosure stack[MAX_DEPTH];
     int top = -1;
     for (int i = 0; i < f->count; i++) {
         const action *a = &f->actions[i];
@@ -648,7 +648,7 @@ static __attribute__((noinline)) enclosure evaluate_over(const formula *f, const
 }
 
 static __attribute__((noinline)) interval evaluate_at(const formula *f, const interval *states) {
-    interval stack[MOST_DEPTH];
+    interval stack[MAX_DEPTH];
     int top = -1;
     for (int i = 0; i < f->count; i++) {
         const action *a = &f->actions[i];
@@ -666,14 +666,14 @@ static __attribute__((noinline)) interval evaluate_at(const formula *f, const in
 
 /* ---------- kinds ---------- */
 
-enum { MOST_GUARDS = 2 };
+enum { MAX_GUARDS = 2 };
 
 /* A kind, its targets, its function, what has to be at least 0, whether the last of these has to be below 0 instead, and
    two lengths and a cosine as decimals. */
 static const struct kind {
     const char *name;
     int first, second;
-    const char *function, *guards[MOST_GUARDS];
+    const char *function, *guards[MAX_GUARDS];
     int is_last_below;
     const char *constants[3];
 } KINDS[] = {
@@ -692,8 +692,8 @@ static const struct kind {
         "a'.b a.b' + a.a b.b * * a.b a.a' b.b * a.a b.b' * + * -", { 0, 0 }, 0, { "0", "0", "0" } },
 };
 
-static formula function, guards[MOST_GUARDS];
-static int guard_count, is_below[MOST_GUARDS];
+static formula function, guards[MAX_GUARDS];
+static int guard_count, is_below[MAX_GUARDS];
 static unsigned asked_of_all;
 
 static interval constant_of(const char *text, int shift) {
@@ -711,7 +711,7 @@ static void choose_kind(const struct kind *k) {
     targets[1] = k->second;
     compile(&function, k->function, constants);
     asked_of_all = function.asked;
-    for (; guard_count < MOST_GUARDS && k->guards[guard_count]; guard_count++) {
+    for (; guard_count < MAX_GUARDS && k->guards[guard_count]; guard_count++) {
         compile(&guards[guard_count], k->guards[guard_count], constants);
         asked_of_all |= guards[guard_count].asked;
     }
@@ -724,7 +724,7 @@ static void choose_kind(const struct kind *k) {
 typedef struct { int64_t a, b; unsigned depth; } node;
 enum sign { OPEN, YES, NO };
 enum verdict { CLEAR, RISE, FALL, UNDECIDED, SPLIT };
-enum { MOST_DEEP = 40 };
+enum { MAX_DEEP = 40 };
 
 static uint64_t judged;
 
@@ -754,7 +754,7 @@ static enum sign function_sign_at(int64_t t) {
     return sign_of(evaluate_at(&function, states));
 }
 
-static enum verdict limit_verdict(node n) { return n.b - n.a > 1 && n.depth < MOST_DEEP ? SPLIT : UNDECIDED; }
+static enum verdict limit_verdict(node n) { return n.b - n.a > 1 && n.depth < MAX_DEEP ? SPLIT : UNDECIDED; }
 
 /* A guard is certified (1), refuted (-1) or open. */
 static int guard_state(int i, enum sign sign) {

@@ -10,7 +10,7 @@
 #include <stdlib.h>
 #include <string.h>
 
-enum { MERCURY, VENUS, EMB, MOON, SUN, BODIES, AXES = 3, COLUMNS = 13, HOUR = 3600, MOST_BLOCKS = 64 };
+enum { MERCURY, VENUS, EMB, MOON, SUN, BODIES, AXES = 3, COLUMNS = 13, HOUR = 3600, MAX_BLOCKS = 64 };
 
 /* The place of a body's column in the header. */
 static const int COLUMN[BODIES] = { 0, 1, 2, 9, 10 };
@@ -71,7 +71,7 @@ static long seconds(double julian) { return lround((julian - 2451545.0) * 86400)
 static void read_blocks(struct file *f, FILE *in) {
     char text[64];
     while (word(in, text)) {
-        if (f->blocks == MOST_BLOCKS || number(in) != f->count) fail("a block isn't as expected");
+        if (f->blocks == MAX_BLOCKS || number(in) != f->count) fail("a block isn't as expected");
         double *to = f->numbers + (size_t)f->blocks++ * f->count;
         for (int i = 0; i < f->count; i++) to[i] = number(in);
         for (int i = f->count; i % 3; i++) number(in);
@@ -86,7 +86,7 @@ static void read_file(struct file *f, const char *name) {
     if (!in) fail("the file can't be read");
     while (word(in, text) && strcmp(text, "NCOEFF=")) {}
     f->count = (int)number(in);
-    f->numbers = malloc(sizeof(double) * MOST_BLOCKS * f->count);
+    f->numbers = malloc(sizeof(double) * MAX_BLOCKS * f->count);
     f->share = 1 / (1 + mass_ratio(in));
     group(in, "1050");
     for (int i = 0; i < COLUMNS; i++) f->columns[i].first = (int)number(in) - 1;

@@ -2,7 +2,7 @@
 use Rattle.std.proofs.Common.{◌≡◌, ℕ, ◌+◌, ◌*◌, ◌<◌, ◌≤◌, List, [], ◌∷◌, ◌++◌, length, Result, Ok, Err, refl, ap, ◌∙◌, arith, ℤ, eq-eqb, false, get_or, pos, if◌then◌else◌, nat_lt, true}
 use Rattle.std.specs.Prelude.{OnOk}
 use Rattle.spec_text.specs.declared.decimals.Decimal.{Decimal}
-use Rattle.spec_ephemeris.specs.declared.limits.TheConstants.{MOST_BLOCKS}
+use Rattle.spec_ephemeris.specs.declared.limits.TheConstants.{MAX_BLOCKS}
 use Rattle.spec_ephemeris.specs.Ephemeris.{Ephemeris, IsBlock, IsEphemeris, empty_ephemeris, with_block}
 use Rattle.spec_sections.specs.declared.rules.BrokenRule.{BrokenRule}
 use Rattle.std.proofs.lemmas.Bool.{ltb-true}
@@ -42,7 +42,7 @@ block_of before (first ∷ second ∷ rest) checked read whole = is_block before
 
 -- a block of these dates that isn't skipped
 pub record IsNew (before : Ephemeris) (numbers : List Decimal) (start : ℤ) : Type 0 where
-  pub room : before.blocks < MOST_BLOCKS
+  pub room : before.blocks < MAX_BLOCKS
   pub is : with_numbers before numbers ≡ with_block (begun before start) numbers
 
 -- the dates of a block
@@ -57,8 +57,8 @@ new_block before (first ∷ second ∷ rest) start end checked read whole a b ne
     let rule : second_date before first second ≡ Ok tt = read.rules 1 second refl in
     let dated : (if has_length before.header.block_seconds start end then follows before start end else Err (broken BLOCK_SPAN 0)) ≡ Ok tt = rw (a, b) at rule in
     let after : follows before start end ≡ Ok tt = right_length (has_length before.header.block_seconds start end) (follows before start end) (broken BLOCK_SPAN 0) dated in
-    let fewer = holds_ok _ _ tt (rw new at after) (room (is_after_gap before start) (nat_lt before.blocks MOST_BLOCKS) _ _) in
-    record { room = ltb-true before.blocks MOST_BLOCKS fewer.1; is = rw (a, b, new) refl }
+    let fewer = holds_ok _ _ tt (rw new at after) (room (is_after_gap before start) (nat_lt before.blocks MAX_BLOCKS) _ _) in
+    record { room = ltb-true before.blocks MAX_BLOCKS fewer.1; is = rw (a, b, new) refl }
 
 pub skipped : (before : Ephemeris) (numbers : List Decimal) (start end : ℤ) → date_at numbers 0 ≡ Ok start → date_at numbers 1 ≡ Ok end
     → is_skipped before end ≡ true → before ≡ with_numbers before numbers

@@ -1,6 +1,6 @@
 // A whole block, after the blocks before it.
 ghost use Rattle.std.specs.Prelude.{◌≡◌, ◌<◌, OnOk, OnErr, length};
-ghost use Rattle.spec_ephemeris.specs.declared.limits.TheConstants.{MOST_BLOCKS};
+ghost use Rattle.spec_ephemeris.specs.declared.limits.TheConstants.{MAX_BLOCKS};
 ghost use Rattle.spec_ephemeris.specs.Ephemeris.{IsBlock, IsEphemeris, IsStart, with_block};
 ghost use Rattle.spec_blocks.specs.Blocks.{begun, with_numbers};
 ghost use Rattle.spec_blocks.specs.Read.{AreRead};
@@ -18,7 +18,7 @@ use spec_text::Decimal;
 // The first block says when the ephemeris begins.
 fn push_first(before: &mut Ephemeris, start: i64, numbers: &[Decimal]) -> Result<(), Memory>
     requires block { IsBlock before.old.header numbers.now }
-    requires room { before.old.blocks < MOST_BLOCKS }
+    requires room { before.old.blocks < MAX_BLOCKS }
     requires start { IsStart start }
     ensures added { OnOk result
         (before.new ≡ starting_at (with_block before.old numbers.now) start) }
@@ -33,7 +33,7 @@ fn push_first(before: &mut Ephemeris, start: i64, numbers: &[Decimal]) -> Result
 fn push(before: &mut Ephemeris, start: i64, numbers: &[Decimal]) -> Result<(), Memory>
     requires checked { IsEphemeris before.old }
     requires block { IsBlock before.old.header numbers.now }
-    requires room { before.old.blocks < MOST_BLOCKS }
+    requires room { before.old.blocks < MAX_BLOCKS }
     requires start { IsStart start }
     ensures added { OnOk result (before.new ≡ with_block (begun before.old start) numbers.now) }
     ensures memory { OnErr result (before.new ≡ before.old) }

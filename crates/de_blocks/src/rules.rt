@@ -7,7 +7,7 @@ ghost use Rattle.spec_blocks.specs.BlockRules.{coefficient_rule, first_date, fol
 use de_text::{Line, read_decimal, seconds_of_julian_date};
 use eph_model::{Ephemeris, is_present, place_after};
 use ival_core::is_distance;
-use spec_ephemeris::{BODY_COLUMNS, Column, FIRST_TIME, MOST_BLOCKS};
+use spec_ephemeris::{BODY_COLUMNS, Column, FIRST_TIME, MAX_BLOCKS};
 use spec_faults::{
     BLOCK_GAP, BLOCK_SPAN, NCOEFF_DIFFERS, NUMBER, RECORD_LINE, TOO_LARGE, TOO_MANY_BLOCKS,
     TRAILING_NUMBERS,
@@ -61,7 +61,7 @@ fn follows(before: &Ephemeris, start: i64, end: i64) -> Result<(), BrokenRule>
         Ok(())
     } else if is_after_gap(before, start) {
         Err(BrokenRule::new(BLOCK_GAP, 0))
-    } else if before.blocks() < MOST_BLOCKS {
+    } else if before.blocks() < MAX_BLOCKS {
         Ok(())
     } else {
         Err(BrokenRule::new(TOO_MANY_BLOCKS, 0))

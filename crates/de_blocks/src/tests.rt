@@ -2,12 +2,12 @@
 ghost use Rattle.std.specs.Prelude.{◌≡◌, ◌≤◌, IfOk, length};
 ghost use Rattle.spec_ephemeris.specs.Examples.{column};
 ghost use Rattle.spec_blocks.specs.Examples.{bodies_and_angles};
-ghost use Rattle.spec_text.specs.declared.limits.TheConstants.{MOST_TEXT_BYTES};
+ghost use Rattle.spec_text.specs.declared.limits.TheConstants.{MAX_TEXT_BYTES};
 
 use super::*;
 use de_text::{LineStep, Tokens};
 use spec_ephemeris::{Column, Columns, Header};
-use spec_text::{Decimal, MOST_TEXT_BYTES};
+use spec_text::{Decimal, MAX_TEXT_BYTES};
 use std::alloc::{AllocError, Global};
 use std::process::Abort;
 use std::test::Fail;
@@ -216,7 +216,7 @@ fn text_with(alloc: Global, changes: &[(usize, &'static str)]) -> Result<Vec<u8>
 
 // Gives a reader all lines of a text, those after a fault too, and answers the number after the last.
 fn read_text(reader: &mut BlockReader, text: &[u8]) -> u32
-    requires { length text.now ≤ MOST_TEXT_BYTES }
+    requires { length text.now ≤ MAX_TEXT_BYTES }
 {
     let mut tokens = Tokens::new(text);
     let end = tokens.end_line();
@@ -229,7 +229,7 @@ fn read_text(reader: &mut BlockReader, text: &[u8]) -> u32
 }
 
 fn read(rt: &impl Abort, reader: &mut BlockReader, text: &[u8]) -> u32 {
-    assert!(rt; text.len() <= MOST_TEXT_BYTES);
+    assert!(rt; text.len() <= MAX_TEXT_BYTES);
     read_text(reader, text)
 }
 
@@ -316,7 +316,7 @@ fn is_gap(answer: &Result<(), BlockError>) -> bool {
 
 // After its record line, a text is refused by a gap again and again.
 fn check_refusal(rt: &impl Abort, reader: &mut BlockReader, text: &[u8]) {
-    assert!(rt; text.len() <= MOST_TEXT_BYTES);
+    assert!(rt; text.len() <= MAX_TEXT_BYTES);
     let mut tokens = Tokens::new(text);
     for k in 0..4 {
         if let LineStep::Line(line) = tokens.line() {

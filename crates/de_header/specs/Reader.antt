@@ -7,7 +7,7 @@ use Rattle.spec_ephemeris.specs.declared.header.Column.{Column}
 use Rattle.spec_ephemeris.specs.declared.header.Header.{Header}
 use Rattle.spec_sections.specs.declared.rules.BrokenRule.{BrokenRule}
 use Rattle.spec_faults.specs.declared.numbers.TheConstants.{ENDED}
-use Rattle.spec_header.specs.declared.limits.TheConstants.{MOST_CONSTANTS}
+use Rattle.spec_header.specs.declared.limits.TheConstants.{MAX_CONSTANTS}
 use Rattle.spec_header.specs.declared.facts.BlockShape.{BlockShape}
 use Rattle.spec_header.specs.declared.facts.Facts.{Facts}
 use Rattle.spec_header.specs.HeaderLines.{HeaderOrStop, from_coefficients, from_column_group, from_end_group, from_first_line, from_granules, from_name_count, from_name_group, from_span, from_starts, from_title_group, from_titles, from_value_count, from_value_group, from_values, header_of, names}
@@ -128,7 +128,7 @@ count_of state = 0
 
 -- where words are counted some are still to come, and all counts are within the limit
 abbrev pub Fits : State → Type 0
-Fits state = (0 < left_of state) × (passed_of state + left_of state ≤ MOST_CONSTANTS) × (count_of state ≤ MOST_CONSTANTS)
+Fits state = (0 < left_of state) × (passed_of state + left_of state ≤ MAX_CONSTANTS) × (count_of state ≤ MAX_CONSTANTS)
 
 -- a fault that is answered is the one that the state keeps
 abbrev pub KeepsFault : State → Result Step HeaderError → Type 0

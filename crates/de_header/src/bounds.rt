@@ -4,9 +4,9 @@ ghost use Rattle.spec_text.specs.Days.{seconds_of_julian_date};
 ghost use Rattle.spec_header.specs.HeaderRules.{block_length, days_by, days_rule, is_mass_ratio};
 
 use de_text::{DaysFault, seconds_of_julian_date, seconds_within, size_over, size_under};
-use spec_ephemeris::{GREATEST_MASS_RATIO, LEAST_MASS_RATIO};
+use spec_ephemeris::{GREATEST_MASS_RATIO, MIN_MASS_RATIO};
 use spec_faults::{JD_NOT_WHOLE_SECOND, LIMIT};
-use spec_header::MOST_BLOCK_DAYS;
+use spec_header::MAX_BLOCK_DAYS;
 use spec_sections::BrokenRule;
 use spec_text::Decimal;
 
@@ -32,7 +32,7 @@ pub(crate) fn check_julian_date(date: Decimal) -> Result<u64, BrokenRule>
 pub(crate) fn block_length(days: Decimal) -> Result<u32, BrokenRule>
     ensures { result ≡ block_length days }
 {
-    match seconds_within(MOST_BLOCK_DAYS, days) {
+    match seconds_within(MAX_BLOCK_DAYS, days) {
         Err(fault) => Err(days_rule(fault)),
         Ok(0) => Err(BrokenRule::new(LIMIT, 0)),
         Ok(seconds) => Ok(seconds as u32),
@@ -45,6 +45,6 @@ pub(crate) fn is_mass_ratio(d: Decimal) -> bool
     let over = size_over(d);
     let under = size_under(d);
     d.mant > 0
-        && u128::from(LEAST_MASS_RATIO) * under <= over
+        && u128::from(MIN_MASS_RATIO) * under <= over
         && over <= u128::from(GREATEST_MASS_RATIO).saturating_mul(under)
 }

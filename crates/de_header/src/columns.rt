@@ -5,7 +5,7 @@ ghost use Rattle.spec_header.specs.ColumnRules.{column_rule, columns_of, columns
 
 use de_text::Line;
 use eph_model::{is_present, place_after};
-use spec_ephemeris::{COLUMNS, Column, FIRST_PLACE, MOST_COEFFICIENTS};
+use spec_ephemeris::{COLUMNS, Column, FIRST_PLACE, MAX_COEFFICIENTS};
 use spec_faults::{
     COEFFICIENT_COUNT, COLUMN_COUNT, COLUMN_PLACE, GRANULE_NOT_WHOLE, HEADER_NUMBER,
 };
@@ -93,7 +93,7 @@ fn check_column(
 {
     if !is_present(column) {
         Ok(())
-    } else if column.coefs > MOST_COEFFICIENTS {
+    } else if column.coefs > MAX_COEFFICIENTS {
         Err(BrokenRule::new(COEFFICIENT_COUNT, 0))
     } else if is_out_of_place(ncoeff, earlier, earlier.len() + 1, column) {
         Err(BrokenRule::new(COLUMN_PLACE, 0))

@@ -1,7 +1,7 @@
 // The reader.
 ghost use Rattle.std.specs.Prelude.{◌≡◌, ◌∷◌, [], ◌+◌, ◌≤◌, ◌<◌, IfErr, IfOk, List, None, Err, Ok, ℕ, length, min, take};
 ghost use Rattle.spec_text.specs.declared.decimals.Fault.{Fault};
-ghost use Rattle.spec_header.specs.declared.limits.TheConstants.{MOST_CONSTANTS};
+ghost use Rattle.spec_header.specs.declared.limits.TheConstants.{MAX_CONSTANTS};
 ghost use Rattle.spec_ephemeris.specs.Header.{IsHeader};
 ghost use Rattle.spec_header.specs.HeaderLines.{header, header_of};
 ghost use Rattle.spec_header.specs.HeaderRules.{emrat_from};
@@ -35,7 +35,7 @@ fn words_here(left: u32, line: &Line<'_>) -> u32
 
 // The place that was found before, or one among the first words of a line.
 fn emrat_or(found: Option<u32>, line: &Line<'_>, n: u32, start: u32) -> Option<u32>
-    requires few { start + n ≤ MOST_CONSTANTS }
+    requires few { start + n ≤ MAX_CONSTANTS }
     requires there { n ≤ length line.now.tokens }
     ensures { result ≡ or_else found (emrat_from start (take n line.now.tokens)) }
 {
@@ -48,8 +48,8 @@ fn emrat_or(found: Option<u32>, line: &Line<'_>, n: u32, start: u32) -> Option<u
 // The state in which so many names are left, and others are passed.
 #[tactic(auto, unfolding(crate::specs::Reader::says), using(crate::proofs::Steps::no_names_left))]
 fn to_names(shape: BlockShape, count: u32, left: u32, passed: u32, emrat: Option<u32>) -> State
-    requires few { passed + left ≤ MOST_CONSTANTS }
-    requires count { count ≤ MOST_CONSTANTS }
+    requires few { passed + left ≤ MAX_CONSTANTS }
+    requires count { count ≤ MAX_CONSTANTS }
     ensures place { IsAt result (from_more_names shape count left passed emrat) }
     ensures fits { Fits result }
 {
@@ -91,7 +91,7 @@ fn pass_names(
 // The state in which so many values are left after that of `EMRAT`.
 #[tactic(auto, unfolding(crate::specs::Reader::says), using(crate::proofs::Steps::no_values_left))]
 fn to_more_values(facts: Facts, left: u32) -> State
-    requires { left ≤ MOST_CONSTANTS }
+    requires { left ≤ MAX_CONSTANTS }
     ensures place { IsAt result (from_more_values facts left) }
     ensures fits { Fits result }
 {
@@ -109,7 +109,7 @@ fn pass_values(
     before: u32,
     line: &Line<'_>,
 ) -> Result<State, BrokenRule>
-    requires { left ≤ MOST_CONSTANTS }
+    requires { left ≤ MAX_CONSTANTS }
     ensures moves { Moves (states.ValuesBefore shape left before) line.now result }
     ensures fits { IfOk result Fits }
 {

@@ -1,11 +1,11 @@
 // Headers and their first faults, as an independent reader in exact arithmetic gives them.
 ghost use Rattle.std.specs.Prelude.{◌≤◌, length};
-ghost use Rattle.spec_text.specs.declared.limits.TheConstants.{MOST_TEXT_BYTES};
+ghost use Rattle.spec_text.specs.declared.limits.TheConstants.{MAX_TEXT_BYTES};
 
 use super::*;
 use de_text::{LineStep, Tokens};
 use spec_ephemeris::COLUMNS;
-use spec_text::MOST_TEXT_BYTES;
+use spec_text::MAX_TEXT_BYTES;
 use std::alloc::{AllocError, Global};
 use std::process::Abort;
 use std::test::Fail;
@@ -255,7 +255,7 @@ fn text_with(alloc: Global, changes: &[(usize, &str)]) -> Result<Vec<u8>, AllocE
 
 // What a reader makes of all lines of a text: it is given the lines after a fault too.
 fn read_text(alloc: Global, text: &[u8]) -> Result<Header, HeaderError>
-    requires { length text.now ≤ MOST_TEXT_BYTES }
+    requires { length text.now ≤ MAX_TEXT_BYTES }
 {
     let mut reader = HeaderReader::new();
     let mut tokens = Tokens::new(text);
@@ -274,7 +274,7 @@ fn read_text(alloc: Global, text: &[u8]) -> Result<Header, HeaderError>
 }
 
 fn read(rt: &impl Abort, alloc: Global, text: &[u8]) -> Result<Header, HeaderError> {
-    assert!(rt; text.len() <= MOST_TEXT_BYTES);
+    assert!(rt; text.len() <= MAX_TEXT_BYTES);
     read_text(alloc, text)
 }
 

@@ -6,11 +6,11 @@ ghost use Rattle.spec_header.specs.HeaderRules.{decimal_at, emrat_from, first_li
 
 use crate::bounds::{block_length, check_julian_date, is_mass_ratio};
 use de_text::{Decimal, Line, read_decimal};
-use spec_ephemeris::{FEWEST_NUMBERS, MOST_NUMBERS};
+use spec_ephemeris::{MAX_NUMBERS, MIN_NUMBERS};
 use spec_faults::{
     COUNT_MISMATCH, EMRAT_MISSING, EMRAT_RANGE, FIRST_LINE, GROUP_MISSING, HEADER_NUMBER, LIMIT,
 };
-use spec_header::MOST_CONSTANTS;
+use spec_header::MAX_CONSTANTS;
 use spec_sections::BrokenRule;
 
 fn is_word(line: &Line<'_>, i: usize, text: &[u8]) -> bool
@@ -29,7 +29,7 @@ pub(crate) fn first_line(line: &Line<'_>) -> Result<u32, BrokenRule>
     if line.count() == 4 && is_word(line, 0, b"KSIZE=") && is_word(line, 2, b"NCOEFF=") {
         match line.whole(3) {
             None => Err(BrokenRule::new(FIRST_LINE, 0)),
-            Some(n) if n < FEWEST_NUMBERS || MOST_NUMBERS < n => Err(BrokenRule::new(LIMIT, 0)),
+            Some(n) if n < MIN_NUMBERS || MAX_NUMBERS < n => Err(BrokenRule::new(LIMIT, 0)),
             Some(n) => Ok(n),
         }
     } else {
@@ -77,18 +77,18 @@ pub(crate) fn span(line: &Line<'_>) -> Result<u32, BrokenRule>
 
 pub(crate) fn name_count(line: &Line<'_>) -> Result<u32, BrokenRule>
     ensures value { result ≡ name_count line.now.tokens }
-    ensures few { IfOk result (λ n. n ≤ MOST_CONSTANTS) }
+    ensures few { IfOk result (λ n. n ≤ MAX_CONSTANTS) }
 {
     match line.whole(0) {
         None => Err(BrokenRule::new(HEADER_NUMBER, 1)),
-        Some(n) if MOST_CONSTANTS < n => Err(BrokenRule::new(LIMIT, 0)),
+        Some(n) if MAX_CONSTANTS < n => Err(BrokenRule::new(LIMIT, 0)),
         Some(n) => Ok(n),
     }
 }
 
 // The place of the first `EMRAT` among the first words of a line, counted from `start`.
 pub(crate) fn find_emrat(line: &Line<'_>, n: u32, start: u32) -> Option<u32>
-    requires few { start + n ≤ MOST_CONSTANTS }
+    requires few { start + n ≤ MAX_CONSTANTS }
     requires there { n ≤ length line.now.tokens }
     ensures { result ≡ emrat_from start (take n line.now.tokens) }
 {

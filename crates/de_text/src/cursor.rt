@@ -10,7 +10,7 @@ use crate::decimal::read_whole;
 use crate::lines::{cut_line, line_count};
 use crate::tokens::{count, cut_token, token};
 use crate::words::Words;
-use spec_text::{MOST_LINE_BYTES, MOST_TEXT_BYTES};
+use spec_text::{MAX_LINE_BYTES, MAX_TEXT_BYTES};
 use std::marker::Model;
 
 /// A line that has tokens: what stands between its blanks and tabs.
@@ -93,7 +93,7 @@ pub struct Tokens<'a> {
 impl<'a> Model for Tokens<'a> {
     ghost use Rattle.std.specs.Prelude.{◌+◌, ◌≤◌, length};
     ghost use Rattle.spec_text.specs.Lines.{lines};
-    ghost use Rattle.spec_text.specs.declared.limits.TheConstants.{MOST_TEXT_BYTES};
+    ghost use Rattle.spec_text.specs.declared.limits.TheConstants.{MAX_TEXT_BYTES};
     ghost use Rattle.de_text.specs.Cursor.{Cursor, counted_after};
 
     ghost Value = { Cursor };
@@ -103,12 +103,12 @@ impl<'a> Model for Tokens<'a> {
       end_line = t.passed + length (lines t.rest.now) + 1;
     } };
 
-    ghost invariant = { λ t. t.passed + length t.rest.now ≤ MOST_TEXT_BYTES };
+    ghost invariant = { λ t. t.passed + length t.rest.now ≤ MAX_TEXT_BYTES };
 }
 
 // The next step in a text after this many lines; the text after it, and how many lines stand before that.
 fn next_line<'a>(text: &'a [u8], before: u32) -> (LineStep<'a>, &'a [u8], u32)
-    requires { before + length text.now ≤ MOST_TEXT_BYTES }
+    requires { before + length text.now ≤ MAX_TEXT_BYTES }
     ensures step { result.0 ≡ step_of (counted_after before text.now) }
     ensures left { counted_after result.2 result.1.now
         ≡ lines_after (counted_after before text.now) }
@@ -120,7 +120,7 @@ fn next_line<'a>(text: &'a [u8], before: u32) -> (LineStep<'a>, &'a [u8], u32)
     while !rest.is_empty() {
         let (bytes, after) = cut_line(rest);
         let number = passed + 1;
-        if bytes.len() > MOST_LINE_BYTES {
+        if bytes.len() > MAX_LINE_BYTES {
             return (LineStep::TooLong(number), rest, passed);
         }
         if cut_token(bytes).is_some() {
@@ -135,7 +135,7 @@ fn next_line<'a>(text: &'a [u8], before: u32) -> (LineStep<'a>, &'a [u8], u32)
 impl<'a> Tokens<'a> {
     /// A cursor at the front of a text of at most 268,435,456 bytes.
     pub fn new(bytes: &'a [u8]) -> Self
-        requires { length bytes.now ≤ MOST_TEXT_BYTES }
+        requires { length bytes.now ≤ MAX_TEXT_BYTES }
         ensures left { result.left ≡ text_lines bytes.now }
         ensures end_line { result.end_line ≡ length (lines bytes.now) + 1 }
     {

@@ -11,13 +11,13 @@ use spec_text::{DAY_SECONDS, DaysFault, Decimal, LAST_JULIAN_DAY};
 const DAY: u128 = DAY_SECONDS as u128;
 
 // The greatest exponent of a power of ten of 128 bits.
-const MOST_POWER: u32 = 38;
+const MAX_POWER: u32 = 38;
 
 #[tactic(auto, using(spec_numbers::proofs::Naturals::ten_fits, crate::proofs::Sizes::great_power))]
 fn capped_power(exp: u32) -> u128
     ensures { result ≡ min (10 ^ exp) (2 ^ 128 - 1) }
 {
-    if exp > MOST_POWER {
+    if exp > MAX_POWER {
         u128::MAX
     } else {
         power_of_ten(exp)

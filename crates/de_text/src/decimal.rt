@@ -8,7 +8,7 @@ ghost use Rattle.de_text.specs.Parts.{IsOfShortWord, Shows};
 
 use crate::digits::{CAP, capped};
 use crate::parts::{Parts, split};
-use spec_text::{Decimal, MOST_EXPONENT, MOST_WHOLE_DIGITS, MOST_WORD_BYTES, NumberFault};
+use spec_text::{Decimal, MAX_EXPONENT, MAX_WHOLE_DIGITS, MAX_WORD_BYTES, NumberFault};
 
 fn signed(negative: bool, size: u64) -> i64
     requires { size ≤ 10 ^ 18 }
@@ -29,7 +29,7 @@ fn assemble(parts: &Parts) -> Result<Decimal, NumberFault>
     if parts.mantissa >= CAP {
         return Err(NumberFault::TooManyDigits);
     }
-    if parts.exponent > MOST_EXPONENT {
+    if parts.exponent > MAX_EXPONENT {
         return Err(NumberFault::ExponentRange);
     }
     if parts.mantissa == 0 {
@@ -48,7 +48,7 @@ pub fn read_decimal(word: &[u8]) -> Result<Decimal, NumberFault>
     ensures reads { Reads word.now result }
     ensures reading { result ≡ reading word.now }
 {
-    if word.len() > MOST_WORD_BYTES {
+    if word.len() > MAX_WORD_BYTES {
         return Err(NumberFault::NotNumber);
     }
     match split(word) {
@@ -67,7 +67,7 @@ fn are_digits(word: &[u8]) -> bool
 pub fn read_whole(word: &[u8]) -> Option<u32>
     ensures { result ≡ whole_of word.now }
 {
-    if word.is_empty() || word.len() > MOST_WHOLE_DIGITS || !are_digits(word) {
+    if word.is_empty() || word.len() > MAX_WHOLE_DIGITS || !are_digits(word) {
         return None;
     }
     Some(capped(0, word) as u32)

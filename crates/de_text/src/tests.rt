@@ -1,7 +1,7 @@
 // Words and texts with their answers as an independent reader in exact arithmetic gives them.
 use super::*;
 use NumberFault::{ExponentRange, NotNumber, TooManyDigits};
-use spec_text::MOST_TEXT_BYTES;
+use spec_text::MAX_TEXT_BYTES;
 use std::process::Abort;
 
 // What is read of a word as a decimal and as a whole number.
@@ -204,7 +204,7 @@ fn lines_with_their_tokens(rt: HostRuntime) {
         (b"\0 \xff\x80\n", &[(1, &[b"\0", b"\xff\x80"])], 2),
     ];
     for (text, lines, end_line) in cases {
-        assert!(rt; text.len() <= MOST_TEXT_BYTES);
+        assert!(rt; text.len() <= MAX_TEXT_BYTES);
         let mut tokens = Tokens::new(text);
         for (number, words) in lines {
             assert!(rt; tokens.end_line() == end_line);

@@ -8,13 +8,13 @@ ghost use Rattle.spec_generated.specs.Words.{block_word};
 
 use crate::draws::Draws;
 use crate::words::add_word;
-use spec_generated::{DRAWS, MOST_GENERATED, NCOEFF, ROWS};
+use spec_generated::{DRAWS, MAX_GENERATED, NCOEFF, ROWS};
 use std::alloc::AllocError;
 use std::fmt::Write;
 
 // The line of the words at three places, from this one on.
 fn add_row(text: &mut String, block: u32, place: u32, draws: &mut Draws) -> Result<(), AllocError>
-    requires few { block < MOST_GENERATED }
+    requires few { block < MAX_GENERATED }
     requires some { 0 < place }
     requires inside { place ≤ NCOEFF }
     ensures row { (state : ℕ) → IsUpto state (place - 1) draws.old → OnOk result
@@ -33,7 +33,7 @@ fn add_row(text: &mut String, block: u32, place: u32, draws: &mut Draws) -> Resu
 
 // The rows of a block.
 fn add_rows(text: &mut String, block: u32, draws: &mut Draws) -> Result<(), AllocError>
-    requires few { block < MOST_GENERATED }
+    requires few { block < MAX_GENERATED }
     ensures rows { OnOk result (string_bytes text.new
         ≡ string_bytes text.old ++ joined_lines (rows_from (block_word draws.old block) 1 ROWS)) }
     ensures drawn { OnOk result (draws.new ≡ state_after draws.old DRAWS) }
@@ -46,7 +46,7 @@ fn add_rows(text: &mut String, block: u32, draws: &mut Draws) -> Result<(), Allo
 
 /// A block, counted from 0, which takes the next draws.
 pub fn add_block(text: &mut String, block: u32, draws: &mut Draws) -> Result<(), AllocError>
-    requires few { block < MOST_GENERATED }
+    requires few { block < MAX_GENERATED }
     ensures lines { OnOk result (string_bytes text.new
         ≡ string_bytes text.old ++ joined_lines (block_lines draws.old block)) }
     ensures drawn { OnOk result (draws.new ≡ state_after draws.old DRAWS) }

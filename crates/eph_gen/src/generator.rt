@@ -5,7 +5,7 @@ ghost use Rattle.spec_generated.specs.Generated.{generated_ephemeris, generated_
 
 use crate::blocks::add_block;
 use crate::draws::Draws;
-use spec_generated::MOST_GENERATED;
+use spec_generated::MAX_GENERATED;
 use std::alloc::{AllocError, Global};
 use thiserror::Error;
 
@@ -48,7 +48,7 @@ GROUP 1070
 /// one file, whatever the seed; its granules don't join smoothly. A block takes about 26,000 bytes.
 pub fn generate(alloc: Global, blocks: u32, seed: u64) -> Result<Vec<u8>, Memory>
     requires some { 0 < blocks }
-    requires few { blocks ≤ MOST_GENERATED }
+    requires few { blocks ≤ MAX_GENERATED }
     ensures text { IfOk result (λ text. text.items ≡ generated_text blocks seed) }
     ensures accepted { IfOk result (λ text.
         outcome (text.items ∷ []) ≡ Ok (generated_ephemeris blocks seed)) }

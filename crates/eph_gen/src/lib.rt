@@ -11,4 +11,4 @@ mod tests;
 mod words;
 
 pub use generator::{Memory, generate};
-pub use spec_generated::MOST_GENERATED;
+pub use spec_generated::MAX_GENERATED;

@@ -1,6 +1,6 @@
 // The coefficients of generated blocks.
 ghost use Rattle.std.specs.Prelude.{◌≡◌, ◌+◌, ◌<◌, ◌^◌, ◌-ℤ◌, ◌*ℤ◌, length, pos};
-ghost use Rattle.spec_ephemeris.specs.declared.limits.TheConstants.{MOST_COEFFICIENTS};
+ghost use Rattle.spec_ephemeris.specs.declared.limits.TheConstants.{MAX_COEFFICIENTS};
 ghost use Rattle.spec_blocks.specs.BlockRules.{is_place};
 ghost use Rattle.spec_generated.specs.Coefficients.{columns_of, millionths, term_among, term_at};
 
@@ -11,7 +11,7 @@ use spec_generated::{COLUMNS, Term};
 /// The term of a place of a block, counted from 1: the scale of its column, and the degree of its polynomial.
 pub fn term_at(place: u32) -> Term
     ensures term { result ≡ term_at place }
-    ensures low { result.degree < MOST_COEFFICIENTS }
+    ensures low { result.degree < MAX_COEFFICIENTS }
 {
     term_among(1, &COLUMNS, place)
 }
@@ -60,7 +60,7 @@ fn numerator(draw: u32, scale: u32) -> i64
 
 /// The coefficient of a term for what was drawn, in millionths of a km, rounded towards zero.
 pub fn millionths(term: Term, draw: u32) -> i64
-    requires { term.degree < MOST_COEFFICIENTS }
+    requires { term.degree < MAX_COEFFICIENTS }
     ensures { result ≡ millionths term draw }
 {
     let divisor = 4_i64.pow(term.degree);

@@ -25,7 +25,7 @@ fn texts_are_those_of_the_reference(rt: HostRuntime) -> Result<(), Fail> {
     let alloc = rt.alloc();
     for (blocks, seed, length, sum) in TEXTS {
         assert!(rt; 0 < blocks);
-        assert!(rt; blocks <= MOST_GENERATED);
+        assert!(rt; blocks <= MAX_GENERATED);
         let text = generate(alloc, blocks, seed)?;
         assert_eq!(rt; text.len(), length, "{blocks} {seed}");
         assert_eq!(rt; checksum(&text), sum, "{blocks} {seed}");

@@ -6,7 +6,7 @@ ghost use Rattle.spec_generated.specs.Words.{block_word, coefficient_word, date_
 use crate::draws::Draws;
 use crate::terms::{millionths, term_at};
 use spec_ephemeris::FIRST_PLACE;
-use spec_generated::{BLOCK_DATES, FIRST_DATE, MOST_GENERATED, NCOEFF};
+use spec_generated::{BLOCK_DATES, FIRST_DATE, MAX_GENERATED, NCOEFF};
 use std::alloc::AllocError;
 use std::fmt::Write;
 
@@ -27,7 +27,7 @@ fn add_sign(text: &mut String, number: i64) -> Result<(), AllocError>
 
 // The Julian date at which a block begins.
 fn add_date(text: &mut String, block: u32) -> Result<(), AllocError>
-    requires { block ≤ MOST_GENERATED }
+    requires { block ≤ MAX_GENERATED }
     ensures { OnOk result (string_bytes text.new ≡ string_bytes text.old ++ date_word block) }
 {
     let date = FIRST_DATE + u64::from(block) * BLOCK_DATES;
@@ -50,7 +50,7 @@ pub fn add_word(
     place: u32,
     draws: &mut Draws,
 ) -> Result<(), AllocError>
-    requires few { block < MOST_GENERATED }
+    requires few { block < MAX_GENERATED }
     requires some { 0 < place }
     ensures word { (state : ℕ) → IsUpto state (place - 1) draws.old → OnOk result
         (string_bytes text.new ≡ string_bytes text.old ++ block_word state block place) }

@@ -1,6 +1,6 @@
 // The checked ephemeris.
 ghost use Rattle.std.specs.Prelude.{◌≡◌, ◌+◌, ◌-◌, ◌*◌, ◌^◌, ◌<◌, ◌≤◌, ◌≤ℤ◌, ◌<ℤ◌, pos, neg_ℤ, OnOk, OnErr, All, IsTrue, length, unsigned_abs};
-ghost use Rattle.spec_ephemeris.specs.declared.limits.TheConstants.{BODY_COLUMNS, MOST_BLOCKS, MOST_COEFFICIENTS};
+ghost use Rattle.spec_ephemeris.specs.declared.limits.TheConstants.{BODY_COLUMNS, MAX_BLOCKS, MAX_COEFFICIENTS};
 ghost use Rattle.spec_ephemeris.specs.Header.{IsHeader, IsColumn, components, granule_size, has_column};
 ghost use Rattle.spec_ephemeris.specs.Ephemeris.{IsStart, IsBlock, IsBodyNumber, IsEphemeris, empty_ephemeris, with_block, end_of, block_numbers, granule_numbers};
 ghost use Rattle.spec_ephemeris.specs.Granules.{column_of, granule_of, granule_at};
@@ -84,7 +84,7 @@ impl Ephemeris {
     /// of its columns in km, each of which is rounded once, here. After `Memory` nothing has changed.
     pub fn push_block(&mut self, numbers: &[Decimal]) -> Result<(), Memory>
         requires block { IsBlock self.old.header numbers.now }
-        requires room { self.old.blocks < MOST_BLOCKS }
+        requires room { self.old.blocks < MAX_BLOCKS }
         ensures added { OnOk result (self.new ≡ with_block self.old numbers.now) }
         ensures memory { OnErr result (self.new ≡ self.old) }
     {
@@ -147,7 +147,7 @@ impl Ephemeris {
         requires { IsTrue (has_column self.now.header column) }
         ensures grid { IsGridOf self.now column result }
         ensures coefficients { (1 ≤ result.column.coefs)
-            × (result.column.coefs ≤ MOST_COEFFICIENTS) }
+            × (result.column.coefs ≤ MAX_COEFFICIENTS) }
     {
         let column = present_column(self.header.columns.as_slice(), column);
         let seconds = granule_seconds(self.header.block_seconds, column.granules);

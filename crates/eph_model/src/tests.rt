@@ -4,7 +4,7 @@ ghost use Rattle.spec_ephemeris.specs.Header.{IsHeader};
 ghost use Rattle.spec_ephemeris.specs.Ephemeris.{IsBodyNumber};
 
 use crate::*;
-use spec_ephemeris::MOST_BLOCKS;
+use spec_ephemeris::MAX_BLOCKS;
 use spec_text::Decimal;
 use std::alloc::{AllocError, Global};
 use std::process::Abort;
@@ -80,7 +80,7 @@ fn push(
 ) -> Result<(), Fail> {
     let numbers = block(rt, alloc, listed)?;
     assert!(rt; numbers.len() == ephemeris.header().ncoeff as usize);
-    assert!(rt; ephemeris.blocks() < MOST_BLOCKS);
+    assert!(rt; ephemeris.blocks() < MAX_BLOCKS);
     ephemeris.push_block(&numbers)?;
     Ok(())
 }

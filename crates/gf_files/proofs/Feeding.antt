@@ -2,7 +2,7 @@
 use Rattle.std.proofs.Common.{◌≡◌, ◌+◌, ◌<◌, ◌≤◌, ℕ, Bool, true, false, List, [], ◌∷◌, ◌++◌, length, Some, Ok, Err, refl, sym, ap, ◌∙◌, subst, append-nil, arith, inl, inr}
 use Rattle.std.specs.Prelude.{if◌then◌else◌}
 use Rattle.spec_text.specs.Lines.{Numbered, TokenLine, is_too_long, lines, text_lines, token_line}
-use Rattle.spec_text.specs.declared.limits.TheConstants.{MOST_TEXT_BYTES}
+use Rattle.spec_text.specs.declared.limits.TheConstants.{MAX_TEXT_BYTES}
 use Rattle.spec_faults.specs.declared.numbers.TheConstants.{LINE_TOO_LONG}
 use Rattle.spec_sections.specs.FileLines.{first_long, readable, line_of}
 use Rattle.spec_sections.specs.Sections.{FileLine}
@@ -68,7 +68,7 @@ leads_on old whole now new left line leads next moves = record {
   long = sym next.long ∙ leads.long;
 }
 
-pub leads_stop : (old : Reader) (text : List ℕ) (now : Reader) (left : List Numbered) (line : TokenLine) (stop : FileError) → length text ≤ MOST_TEXT_BYTES
+pub leads_stop : (old : Reader) (text : List ℕ) (now : Reader) (left : List Numbered) (line : TokenLine) (stop : FileError) → length text ≤ MAX_TEXT_BYTES
     → Leads old (text_lines text) now left → IsNext left line → Moves now line (Err stop) → Feeds old text (Err stop)
 leads_stop old text now left line (errors.Fault fault) small leads next moves = λ file. inl (λ rest.
     ap (λ (l : List FileLine). ephemeris_after file old (l ++ rest)) (small_lines text small file)
@@ -77,7 +77,7 @@ leads_stop old text now left line errors.NotRead small leads next moves = absurd
 leads_stop old text now left line errors.Memory small leads next moves = tt
 
 -- the line that is too long
-pub leads_long : (old : Reader) (text : List ℕ) (now : Reader) (left : List Numbered) (number : ℕ) → length text ≤ MOST_TEXT_BYTES → Leads old (text_lines text) now left
+pub leads_long : (old : Reader) (text : List ℕ) (now : Reader) (left : List Numbered) (number : ℕ) → length text ≤ MAX_TEXT_BYTES → Leads old (text_lines text) now left
     → step_of left ≡ TooLong number → IsFirstFault old text (fault_at number LINE_TOO_LONG)
 leads_long old text now left number small leads is = λ file.
     let long = long_line left number is in
@@ -87,7 +87,7 @@ leads_long old text now left number small leads is = λ file.
     inr (small_cut text small ∙ sym leads.long ∙ long.0, subst HasNoFault same (leads.ready.sound file))
 
 -- no line is left
-pub leads_end : (old : Reader) (text : List ℕ) (now : Reader) (left : List Numbered) (end : ℕ) → length text ≤ MOST_TEXT_BYTES → Leads old (text_lines text) now left
+pub leads_end : (old : Reader) (text : List ℕ) (now : Reader) (left : List Numbered) (end : ℕ) → length text ≤ MAX_TEXT_BYTES → Leads old (text_lines text) now left
     → step_of left ≡ End → end ≡ length (lines text) + 1 → IsFed old text (record { reader = now; end_line = end })
 leads_end old text now left end small leads is end_is =
     let none = no_line left is in

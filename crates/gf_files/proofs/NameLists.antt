@@ -9,7 +9,7 @@ use Rattle.spec_text.specs.declared.decimals.Fault.{Fault}
 use Rattle.spec_ephemeris.specs.Ephemeris.{Ephemeris}
 use Rattle.spec_files.specs.Files.{AreFiles}
 use Rattle.spec_files.specs.Reading.{AreAccepted, HasFirstFault, IsNotRead}
-use Rattle.spec_files.specs.declared.limits.TheConstants.{MOST_FILES}
+use Rattle.spec_files.specs.declared.limits.TheConstants.{MAX_FILES}
 use Rattle.gf_files.specs.declared.errors.FileError.TheVariants as errors
 use Rattle.gf_files.specs.declared.reader.Fed.{Fed}
 use Rattle.gf_files.specs.declared.reader.Reader.{Reader}
@@ -54,7 +54,7 @@ module _ (files : Option Files) (names : Texts) (i : ℕ) (name : List ℕ) (the
       subst (λ (ns : Texts). HaveRead files ns fed.reader fed.end_line) (sym (one_name_more names i name there) ∙ ap (λ (n : ℕ). take n names) next)
       (one_more_read files (take i names) reader end name fed read takes)
 
-  pub faults_at : (reader : Reader) (end : ℕ) (fault : Fault) → length names ≤ MOST_FILES → HaveRead files (take i names) reader end → StopsAtFile files name reader fault
+  pub faults_at : (reader : Reader) (end : ℕ) (fault : Fault) → length names ≤ MAX_FILES → HaveRead files (take i names) reader end → StopsAtFile files name reader fault
       → HasFirstFault files names i fault
   faults_at reader end fault few read stops =
       let next : suc i ≡ i + 1 = omega arith in
@@ -68,7 +68,7 @@ module _ (files : Option Files) (names : Texts) (i : ℕ) (name : List ℕ) (the
         first = inl (λ later. next_faults files (take i names) reader end stops.text fault read stops.first later ∙ (λ k. Some (place k, fault)));
       }
 
-  pub not_read_at : (reader : Reader) (end a b c : ℕ) → length names ≤ MOST_FILES → HaveRead files (take i names) reader end → a ≤ b → Rose b c ⊎ Lacks files name
+  pub not_read_at : (reader : Reader) (end a b c : ℕ) → length names ≤ MAX_FILES → HaveRead files (take i names) reader end → a ≤ b → Rose b c ⊎ Lacks files name
       → IsNotRead files names a c i
   not_read_at reader end a b c few read later cause = record {
     few = few;
@@ -84,7 +84,7 @@ module _ (files : Option Files) (names : Texts) (i : ℕ) (name : List ℕ) (the
 pub all_read : (files : Option Files) (names : Texts) (i : ℕ) (reader : Reader) (end : ℕ) → length names ≤ i → HaveRead files (take i names) reader end → HaveRead files names reader end
 all_read files names i reader end past read = subst (λ (ns : Texts). HaveRead files ns reader end) (take_all i names past) read
 
-pub accepted_at_end : (files : Option Files) (names : Texts) (reader : Reader) (end : ℕ) (e : Ephemeris) → length names ≤ MOST_FILES → HaveRead files names reader end
+pub accepted_at_end : (files : Option Files) (names : Texts) (reader : Reader) (end : ℕ) (e : Ephemeris) → length names ≤ MAX_FILES → HaveRead files names reader end
     → Finishes end (ephemeris_after 0 reader []) (Ok e) → AreAccepted files names e end
 accepted_at_end files names reader end e few read finishes = record {
   few = few;
@@ -94,7 +94,7 @@ accepted_at_end files names reader end e few read finishes = record {
   ends = read.ends;
 }
 
-pub refused_at_end : (files : Option Files) (names : Texts) (reader : Reader) (end : ℕ) (file : ℕ) (fault : Fault) → length names ≤ MOST_FILES → HaveRead files names reader end
+pub refused_at_end : (files : Option Files) (names : Texts) (reader : Reader) (end : ℕ) (file : ℕ) (fault : Fault) → length names ≤ MAX_FILES → HaveRead files names reader end
     → file + 1 ≡ length names → Finishes end (ephemeris_after 0 reader []) (Err (errors.Fault fault)) → HasFirstFault files names file fault
 refused_at_end files names reader end file fault few read last finishes =
     let all : length names ≤ file + 1 = omega (arith, last) in

@@ -3,7 +3,7 @@ ghost use Rattle.std.specs.Prelude.{◌≡◌, ◌⊎◌, ◌+◌, ◌≤◌, Li
 ghost use Rattle.std.specs.Io.KnownBytes.{Consumes};
 ghost use Rattle.gf_edges.specs.Edges.{Lacks, Rose};
 ghost use Rattle.spec_text.specs.declared.decimals.Fault.{Fault};
-ghost use Rattle.spec_text.specs.declared.limits.TheConstants.{MOST_TEXT_BYTES};
+ghost use Rattle.spec_text.specs.declared.limits.TheConstants.{MAX_TEXT_BYTES};
 ghost use Rattle.spec_files.specs.Files.{HasLeft, IsFile, IsLongFile};
 ghost use Rattle.spec_files.specs.Texts.{fault_at};
 ghost use Rattle.spec_faults.specs.declared.numbers.TheConstants.{FILE_TOO_LARGE};
@@ -11,7 +11,7 @@ ghost use Rattle.spec_faults.specs.declared.numbers.TheConstants.{FILE_TOO_LARGE
 use crate::errors::FileError;
 use gf_edges::{Failed, Shelf};
 use spec_faults::FILE_TOO_LARGE;
-use spec_text::{Fault, MOST_TEXT_BYTES};
+use spec_text::{Fault, MAX_TEXT_BYTES};
 use std::alloc::Global;
 
 // The most bytes that one read asks for.
@@ -27,12 +27,12 @@ const TOO_LARGE: Fault = Fault {
 fn read_rest<S: Shelf>(alloc: Global, shelf: &mut S) -> Result<Vec<u8>, FileError>
     requires { S.ready shelf.old }
     ensures whole { IfOk result (λ text. IfSome (S.left shelf.old) (λ left. left ≡ text.items)) }
-    ensures small { IfOk result (λ text. length text.items ≤ MOST_TEXT_BYTES) }
+    ensures small { IfOk result (λ text. length text.items ≤ MAX_TEXT_BYTES) }
     ensures fault { (fault : Fault) → IsErrOf result (FileError.Fault fault)
         → fault ≡ fault_at 0 FILE_TOO_LARGE }
     ensures large { (fault : Fault) → IsErrOf result (FileError.Fault fault)
         → (read : List ℕ) × Consumes (S.left shelf.old) (S.left shelf.new) read
-        × (length read ≡ MOST_TEXT_BYTES + 1) }
+        × (length read ≡ MAX_TEXT_BYTES + 1) }
     ensures failed { IsErrOf result FileError.NotRead
         → Rose (S.faults shelf.old) (S.faults shelf.new) }
     ensures files { S.files shelf.new ≡ S.files shelf.old }
@@ -41,10 +41,10 @@ fn read_rest<S: Shelf>(alloc: Global, shelf: &mut S) -> Result<Vec<u8>, FileErro
     let mut text: Vec<u8> = Vec::new(alloc);
     let mut piece = [0u8; PIECE];
     loop {
-        let room = (MOST_TEXT_BYTES + 1 - text.len()).min(PIECE);
+        let room = (MAX_TEXT_BYTES + 1 - text.len()).min(PIECE);
         match shelf.read(&mut piece[..room]) {
             Ok(0) => return Ok(text),
-            Ok(count) if MOST_TEXT_BYTES - text.len() < count => {
+            Ok(count) if MAX_TEXT_BYTES - text.len() < count => {
                 return Err(FileError::Fault(TOO_LARGE));
             }
             Ok(count) => text.extend_from_slice(&piece[..count])?,
@@ -60,13 +60,13 @@ pub(crate) fn read_file<S: Shelf>(
     name: &str,
 ) -> Result<Vec<u8>, FileError>
     ensures whole { IfOk result (λ text. IsFile (S.files shelf.old) name.now text.items) }
-    ensures small { IfOk result (λ text. length text.items ≤ MOST_TEXT_BYTES) }
+    ensures small { IfOk result (λ text. length text.items ≤ MAX_TEXT_BYTES) }
     ensures fault { (fault : Fault) → IsErrOf result (FileError.Fault fault)
         → fault ≡ fault_at 0 FILE_TOO_LARGE }
     ensures large { (fault : Fault) → IsErrOf result (FileError.Fault fault)
         → IsLongFile (S.files shelf.old) name.now }
     ensures one_past { (fault : Fault) → IsErrOf result (FileError.Fault fault)
-        → HasLeft (S.files shelf.old) name.now (MOST_TEXT_BYTES + 1) (S.left shelf.new) }
+        → HasLeft (S.files shelf.old) name.now (MAX_TEXT_BYTES + 1) (S.left shelf.new) }
     ensures failed { IsErrOf result FileError.NotRead
         → Rose (S.faults shelf.old) (S.faults shelf.new) ⊎ Lacks (S.files shelf.old) name.now }
     ensures files { S.files shelf.new ≡ S.files shelf.old }

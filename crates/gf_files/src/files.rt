@@ -12,7 +12,7 @@ use crate::reader::{Fed, Reader, end, feed, first_reader};
 use eph_model::Ephemeris;
 use gf_edges::Shelf;
 use spec_faults::TOO_MANY_FILES;
-use spec_files::MOST_FILES;
+use spec_files::MAX_FILES;
 use spec_text::Fault;
 use std::alloc::Global;
 
@@ -48,7 +48,7 @@ fn take_file<S: Shelf>(
 
 // The reader after all files of these names. No file is opened after one that has a fault or can't be read.
 fn take_files<S: Shelf>(alloc: Global, shelf: &mut S, names: &[String]) -> Result<Fed, FilesError>
-    requires { length names.now ≤ MOST_FILES }
+    requires { length names.now ≤ MAX_FILES }
     ensures fed { IfOk result (λ fed.
         HaveRead (S.files shelf.old) (map string_bytes names.now) fed.reader fed.end_line) }
     ensures fault { (file : ℕ) (fault : Fault) → IsErrOf result (FilesError.Fault file fault)
@@ -88,13 +88,13 @@ pub fn read_files<S: Shelf>(
     ensures not_read { (file : ℕ) → IsErrOf result (FilesError.NotRead file)
         → IsNotRead (S.files shelf.old) (map string_bytes names.now)
         (S.faults shelf.old) (S.faults shelf.new) file }
-    ensures names_are_counted_first { MOST_FILES < length names.now → shelf.new ≡ shelf.old }
+    ensures names_are_counted_first { MAX_FILES < length names.now → shelf.new ≡ shelf.old }
     ensures files { S.files shelf.new ≡ S.files shelf.old }
     ensures later { S.faults shelf.old ≤ S.faults shelf.new }
 {
-    if names.len() > MOST_FILES {
+    if names.len() > MAX_FILES {
         return Err(FilesError::Fault {
-            file: MOST_FILES,
+            file: MAX_FILES,
             fault: Fault {
                 line: 0,
                 number: TOO_MANY_FILES,

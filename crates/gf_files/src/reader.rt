@@ -1,6 +1,6 @@
 // The lines of several files, one file after the other: to the header's reader, and then to that of the blocks.
 ghost use Rattle.std.specs.Prelude.{◌≡◌, ◌≤◌, ◌∷◌, [], List, ℕ, length};
-ghost use Rattle.spec_text.specs.declared.limits.TheConstants.{MOST_TEXT_BYTES};
+ghost use Rattle.spec_text.specs.declared.limits.TheConstants.{MAX_TEXT_BYTES};
 ghost use Rattle.spec_sections.specs.Sections.{FileLine};
 ghost use Rattle.spec_files.specs.Lines.{ephemeris};
 ghost use Rattle.de_header.specs.Reader as headers;
@@ -96,7 +96,7 @@ fn take_line(alloc: Global, reader: Reader, line: &Line<'_>) -> Result<Reader, F
 
 /// The reader after a text, or the first fault of the text.
 pub(crate) fn feed(alloc: Global, mut reader: Reader, text: &[u8]) -> Result<Fed, FileError>
-    requires small { length text.now ≤ MOST_TEXT_BYTES }
+    requires small { length text.now ≤ MAX_TEXT_BYTES }
     requires ready { IsReady reader }
     ensures { Feeds reader text.now result }
 {

@@ -3,7 +3,7 @@ use Rattle.std.proofs.Common.{◌≡◌, ◌<◌, ◌≤◌, ◌&&◌, ℕ, Bool
 use Rattle.std.specs.Str.Parse.{digits_value}
 use Rattle.std.proofs.lemmas.Bool.{leb-true}
 use Rattle.spec_kinds.specs.declared.kind.Kind.{Kind}
-use Rattle.spec_generated.specs.declared.limits.TheConstants.{MOST_GENERATED}
+use Rattle.spec_generated.specs.declared.limits.TheConstants.{MAX_GENERATED}
 use Rattle.spec_requests.specs.declared.request.Request.{Request}
 use Rattle.spec_requests.specs.declared.request.Request.TheVariants.{Check, Gen}
 use Rattle.spec_requests.specs.declared.request.Named.{Named}
@@ -12,7 +12,7 @@ use Rattle.spec_requests.specs.declared.request.WordFault.{WordFault}
 use Rattle.spec_requests.specs.declared.request.WordFault.TheVariants.{Words}
 use Rattle.spec_requests.specs.declared.tables.CommandName.{CommandName}
 use Rattle.spec_requests.specs.declared.tables.CommandName.TheVariants as command
-use Rattle.spec_requests.specs.declared.limits.TheConstants.{DEFAULT_WORKERS, MOST_DIGITS_OF_A_COUNT, MOST_DIGITS_OF_BLOCKS, MOST_GENERATED_BLOCKS, MOST_WORKERS}
+use Rattle.spec_requests.specs.declared.limits.TheConstants.{DEFAULT_WORKERS, MAX_DIGITS_OF_A_COUNT, MAX_DIGITS_OF_BLOCKS, MAX_GENERATED_BLOCKS, MAX_WORKERS}
 use Rattle.spec_requests.specs.Names.{Text, command_of, kind_of}
 use Rattle.spec_requests.specs.Options.{Values, are_digits, bad_option, blocks_of, number_of, workers_of}
 use Rattle.spec_requests.specs.Commands.{check_command, files_in, find_command, gen_command, is_refused, values_in}
@@ -20,11 +20,11 @@ use Rattle.spec_requests.specs.Requests.{bad_word, checked_search, checked_text,
 
 record AreBlocks (blocks : ℕ) : Type 0 where
   some : 0 < blocks
-  few : blocks ≤ MOST_GENERATED
+  few : blocks ≤ MAX_GENERATED
 
 record AreWorkers (workers : ℕ) : Type 0 where
   some : 1 ≤ workers
-  few : workers ≤ MOST_WORKERS
+  few : workers ≤ MAX_WORKERS
 
 record IsGenerated (blocks workers : ℕ) : Type 0 where
   blocks_are : AreBlocks blocks
@@ -49,7 +49,7 @@ given_blocks (Some word) = by (blocks_of word) refl
   where
     by : (found : Option ℕ) → blocks_of word ≡ found → AreBlocks (unwrap_or found 1)
     by None is = record { some = omega arith; few = omega arith }
-    by (Some n) is = let within = number_is MOST_DIGITS_OF_BLOCKS 1 MOST_GENERATED_BLOCKS word n is in record { some = omega (arith, within.0); few = omega (arith, within.1) }
+    by (Some n) is = let within = number_is MAX_DIGITS_OF_BLOCKS 1 MAX_GENERATED_BLOCKS word n is in record { some = omega (arith, within.0); few = omega (arith, within.1) }
 
 given_workers : (given : Option Text) → AreWorkers (value_or workers_of DEFAULT_WORKERS given)
 given_workers None = record { some = omega arith; few = omega arith }
@@ -57,7 +57,7 @@ given_workers (Some word) = by (workers_of word) refl
   where
     by : (found : Option ℕ) → workers_of word ≡ found → AreWorkers (unwrap_or found DEFAULT_WORKERS)
     by None is = record { some = omega arith; few = omega arith }
-    by (Some n) is = let within = number_is MOST_DIGITS_OF_A_COUNT 1 MOST_WORKERS word n is in record { some = within.0; few = within.1 }
+    by (Some n) is = let within = number_is MAX_DIGITS_OF_A_COUNT 1 MAX_WORKERS word n is in record { some = within.0; few = within.1 }
 
 -- ---- from a request back to its words
 module _ (blocks seed workers : ℕ) where
@@ -109,11 +109,11 @@ module _ (blocks seed workers : ℕ) where
 pub blocks_are_some : (words : List Text) (blocks seed workers : ℕ) → request_of words ≡ Ok (Gen blocks seed workers) → 0 < blocks
 blocks_are_some words blocks seed workers e = (limits_are_kept blocks seed workers words e).blocks_are.some
 
-pub blocks_are_within : (words : List Text) (blocks seed workers : ℕ) → request_of words ≡ Ok (Gen blocks seed workers) → blocks ≤ MOST_GENERATED
+pub blocks_are_within : (words : List Text) (blocks seed workers : ℕ) → request_of words ≡ Ok (Gen blocks seed workers) → blocks ≤ MAX_GENERATED
 blocks_are_within words blocks seed workers e = (limits_are_kept blocks seed workers words e).blocks_are.few
 
 pub workers_are_some : (words : List Text) (blocks seed workers : ℕ) → request_of words ≡ Ok (Gen blocks seed workers) → 1 ≤ workers
 workers_are_some words blocks seed workers e = (limits_are_kept blocks seed workers words e).workers_are.some
 
-pub workers_are_within : (words : List Text) (blocks seed workers : ℕ) → request_of words ≡ Ok (Gen blocks seed workers) → workers ≤ MOST_WORKERS
+pub workers_are_within : (words : List Text) (blocks seed workers : ℕ) → request_of words ≡ Ok (Gen blocks seed workers) → workers ≤ MAX_WORKERS
 workers_are_within words blocks seed workers e = (limits_are_kept blocks seed workers words e).workers_are.few

@@ -6,7 +6,7 @@ use Rattle.std.proofs.Math.IntN.{zero-*ℤ}
 use Rattle.spec_numbers.proofs.Whole.{add-mul, one-mul}
 use Rattle.spec_text.specs.declared.decimals.Decimal.{Decimal}
 use Rattle.spec_ephemeris.specs.declared.header.Header.{Header}
-use Rattle.spec_ephemeris.specs.declared.limits.TheConstants.{LAST_TIME, MOST_BLOCKS}
+use Rattle.spec_ephemeris.specs.declared.limits.TheConstants.{LAST_TIME, MAX_BLOCKS}
 use Rattle.spec_ephemeris.specs.Ephemeris.{Ephemeris, IsStart, end_of, with_block}
 use Rattle.spec_sections.specs.declared.rules.BrokenRule.{BrokenRule}
 use Rattle.spec_sections.specs.Sections.{FileLine, ◌>>=◌}
@@ -79,7 +79,7 @@ accepted_ends : (before : Ephemeris) (numbers : List Decimal) (start end : ℤ) 
     → follows before start end ≡ Ok tt → EndsInTime (accept before numbers (Ok start) (Ok end))
 accepted_ends before numbers start end ends late length rule = elim (cases_Bool (is_skipped before end)) [
   | inl passed ↦ rw passed ends
-  | inr new ↦ rw new (λ some. more_ends before numbers start end late length (holds_ok _ _ tt (rw new at rule) (no_gap (is_after_gap before start) (nat_lt before.blocks MOST_BLOCKS) _ _)))
+  | inr new ↦ rw new (λ some. more_ends before numbers start end late length (holds_ok _ _ tt (rw new at rule) (no_gap (is_after_gap before start) (nat_lt before.blocks MAX_BLOCKS) _ _)))
 ]
 
 abbrev dates : Ephemeris → Result ℤ BrokenRule → Result ℤ BrokenRule → BrokenRule → Result (Unit {0}) BrokenRule

@@ -7,14 +7,14 @@ use Rattle.spec_numbers.proofs.Naturals.{positive_product}
 use Rattle.spec_ephemeris.specs.Ephemeris.{Ephemeris, IsEphemeris}
 use Rattle.spec_trees.specs.declared.window.Window.{Window}
 use Rattle.spec_trees.specs.Tree.{IsValid, leaf_count}
-use Rattle.spec_searches.specs.declared.limits.TheConstants.{MOST_WIDTH}
+use Rattle.spec_searches.specs.declared.limits.TheConstants.{MAX_WIDTH}
 use Rattle.spec_searches.specs.Search.{IsSearch, Search}
 use Rattle.spec_searches.specs.Found.{IsSpan, root, rules}
 use Rattle.spec_searches.proofs.Finding.{windows_are_found}
 use Rattle.spec_kinds.specs.declared.fault.EventFault.{EventFault}
 use Rattle.spec_kinds.specs.Faults.{fault_of}
 use Rattle.spec_kinds.proofs.Searching.{search_is}
-use Rattle.spec_reports.specs.declared.limits.TheConstants.{MOST_LEAVES}
+use Rattle.spec_reports.specs.declared.limits.TheConstants.{MAX_LEAVES}
 use Rattle.gf_find.specs.declared.query.Query.{Query}
 use Rattle.gf_find.specs.declared.query.Span.{Span}
 use Rattle.gf_find.specs.declared.refusal.Refusal.TheVariants.{Memory, TooManyLeaves}
@@ -24,15 +24,15 @@ use Rattle.gf_find.specs.Refusals.{of_fault}
 use Rattle.gf_find.specs.Texts.{IsFound}
 
 -- ---- the leaves of a search
-few_searched : (s : Search) (span : Span) → leaf_count (rules s) (root span.from span.upto) ≤ MOST_LEAVES → searched s span ≡ Ok (windows_in s span)
+few_searched : (s : Search) (span : Span) → leaf_count (rules s) (root span.from span.upto) ≤ MAX_LEAVES → searched s span ≡ Ok (windows_in s span)
 unfolding searched
 few_searched s span few =
-    ap (λ (many : Bool). if many then Err TooManyLeaves else Ok (windows_in s span)) (le-ltb MOST_LEAVES (leaf_count (rules s) (root span.from span.upto)) few)
+    ap (λ (many : Bool). if many then Err TooManyLeaves else Ok (windows_in s span)) (le-ltb MAX_LEAVES (leaf_count (rules s) (root span.from span.upto)) few)
 
-many_searched : (s : Search) (span : Span) → MOST_LEAVES < leaf_count (rules s) (root span.from span.upto) → searched s span ≡ Err TooManyLeaves
+many_searched : (s : Search) (span : Span) → MAX_LEAVES < leaf_count (rules s) (root span.from span.upto) → searched s span ≡ Err TooManyLeaves
 unfolding searched
 many_searched s span many =
-    ap (λ (many : Bool). if many then Err TooManyLeaves else Ok (windows_in s span)) (lt-ltb MOST_LEAVES (leaf_count (rules s) (root span.from span.upto)) many)
+    ap (λ (many : Bool). if many then Err TooManyLeaves else Ok (windows_in s span)) (lt-ltb MAX_LEAVES (leaf_count (rules s) (root span.from span.upto)) many)
 
 -- some blocks of some length
 later : (start length : ℤ) (count : ℕ) → pos 1 ≤ℤ length → 0 < count → start <ℤ (start +ℤ (pos count *ℤ length))
@@ -77,7 +77,7 @@ module _ (q : Query) (e : Ephemeris) (span : Span) (checked : IsEphemeris e) (bl
   searchable : IsSearch (search q e)
   searchable =
       search_is e q.ask (unsigned_abs q.width) q.depth q.cut checked block is.ask sound (abs_some q.width is.some_width)
-      (abs_most q.width MOST_WIDTH is.some_width is.width) is.depth
+      (abs_most q.width MAX_WIDTH is.some_width is.width) is.depth
 
   are_found : AreFound (search q e) span (windows_in (search q e) span)
   are_found = windows_are_found (search q e) searchable span.from span.upto (inside q e span within)
@@ -85,7 +85,7 @@ module _ (q : Query) (e : Ephemeris) (span : Span) (checked : IsEphemeris e) (bl
   found_is : found q e span ≡ searched (search q e) span
   found_is = ap (λ (fault : Option EventFault). searched_by fault (search q e) span) sound
 
-  pub windows_found : (ws : List Window) → ws ≡ windows_in (search q e) span → leaf_count (rules (search q e)) (root span.from span.upto) ≤ MOST_LEAVES → IsFound q e span ws
+  pub windows_found : (ws : List Window) → ws ≡ windows_in (search q e) span → leaf_count (rules (search q e)) (root span.from span.upto) ≤ MAX_LEAVES → IsFound q e span ws
   windows_found ws same few = record {
     checked = checked;
     within = within;
@@ -95,7 +95,7 @@ module _ (q : Query) (e : Ephemeris) (span : Span) (checked : IsEphemeris e) (bl
   }
 
   -- too many leaves stop the search
-  pub leaves_stop : MOST_LEAVES < leaf_count (rules (search q e)) (root span.from span.upto) → found q e span ≡ Err TooManyLeaves
+  pub leaves_stop : MAX_LEAVES < leaf_count (rules (search q e)) (root span.from span.upto) → found q e span ≡ Err TooManyLeaves
   leaves_stop many = found_is ∙ many_searched (search q e) span many
 
 -- a fault of the event stops its search

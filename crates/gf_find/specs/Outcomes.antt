@@ -19,7 +19,7 @@ use Rattle.spec_requests.specs.declared.request.Request.{Request}
 use Rattle.spec_requests.specs.declared.request.Request.TheVariants.{Find, Check, Gen}
 use Rattle.spec_requests.specs.declared.request.WordFault.{WordFault}
 use Rattle.spec_requests.specs.Requests.{request_of}
-use Rattle.spec_reports.specs.declared.limits.TheConstants.{MOST_LEAVES}
+use Rattle.spec_reports.specs.declared.limits.TheConstants.{MAX_LEAVES}
 use Rattle.spec_texts.specs.Report.{generation, report}
 use Rattle.spec_texts.specs.Summary.{summary}
 use Rattle.gf_edges.specs.Edges.{Files}
@@ -42,7 +42,7 @@ status_by (Err refusal) = status_of refusal
 -- the windows in a span of the ephemeris, unless the tree has too many leaves
 unfoldable pub searched : Search → Span → Result (List Window) Refusal
 searched s span =
-    if nat_lt MOST_LEAVES (leaf_count (rules s) (root span.from span.upto)) then Err R.TooManyLeaves
+    if nat_lt MAX_LEAVES (leaf_count (rules s) (root span.from span.upto)) then Err R.TooManyLeaves
     else Ok (windows_in s span)
 
 -- the same, unless the event has a fault

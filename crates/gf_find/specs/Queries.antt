@@ -10,7 +10,7 @@ use Rattle.spec_kinds.specs.declared.kind.Kind.TheVariants.{Conj}
 use Rattle.spec_requests.specs.Requests.{nought}
 use Rattle.spec_trees.specs.declared.window.Window.{Window}
 use Rattle.spec_events.specs.Events.{AreWindows}
-use Rattle.spec_searches.specs.declared.limits.TheConstants.{MOST_DEPTH, MOST_WIDTH}
+use Rattle.spec_searches.specs.declared.limits.TheConstants.{MAX_DEPTH, MAX_WIDTH}
 use Rattle.spec_searches.specs.Search.{Search, events}
 use Rattle.spec_searches.specs.Found.{IsLeftUndecided, windows_of}
 use Rattle.spec_kinds.specs.Asks.{IsAsk}
@@ -22,8 +22,8 @@ use Rattle.gf_find.specs.declared.query.Span.{Span}
 pub record IsQuery (q : Query) : Type 0 where
   pub ask : IsAsk q.ask
   pub some_width : pos 1 ≤ℤ q.width
-  pub width : q.width ≤ℤ pos MOST_WIDTH
-  pub depth : q.depth ≤ MOST_DEPTH
+  pub width : q.width ≤ℤ pos MAX_WIDTH
+  pub depth : q.depth ≤ MAX_DEPTH
 
 abbrev pub query_of : FindAsk → Query
 query_of find = record { ask = find.ask; width = find.width; depth = find.depth; cut = find.cut }

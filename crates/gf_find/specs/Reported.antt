@@ -4,7 +4,7 @@ use Rattle.std.specs.Io.KnownBytes.{Appends}
 use Rattle.spec_ephemeris.specs.Ephemeris.{Ephemeris}
 use Rattle.spec_searches.specs.Search.{events}
 use Rattle.spec_searches.specs.Found.{IsLeftUndecided}
-use Rattle.spec_files.specs.declared.limits.TheConstants.{MOST_FILES}
+use Rattle.spec_files.specs.declared.limits.TheConstants.{MAX_FILES}
 use Rattle.spec_requests.specs.declared.request.FindAsk.{FindAsk}
 use Rattle.spec_requests.specs.declared.request.Request.{Request}
 use Rattle.spec_requests.specs.declared.request.Request.TheVariants.{Find, Check, Gen}
@@ -42,7 +42,7 @@ ReportsPart words files count now old new = (text : List ℕ) × HaveOutcome wor
 -- ---- whether a file is opened
 -- none is where there are too many names, or no name
 abbrev pub AreNotOpened : List (List ℕ) → Type 0
-AreNotOpened names = (length names ≡ 0) ⊎ (MOST_FILES < length names)
+AreNotOpened names = (length names ≡ 0) ⊎ (MAX_FILES < length names)
 
 -- none is where words ask for nothing, or for a generated text
 abbrev pub OpensNone : Result Request WordFault → Type 0

@@ -4,10 +4,10 @@ ghost use Rattle.spec_ephemeris.specs.Ephemeris.{end_of};
 ghost use Rattle.spec_ephemeris.specs.Ephemeris as e;
 ghost use Rattle.spec_files.specs.Outcome.{outcome};
 ghost use Rattle.spec_ephemeris.specs.declared.limits.TheConstants.{LAST_TIME};
-ghost use Rattle.spec_generated.specs.declared.limits.TheConstants.{MOST_GENERATED};
+ghost use Rattle.spec_generated.specs.declared.limits.TheConstants.{MAX_GENERATED};
 ghost use Rattle.spec_generated.specs.Generated.{generated_ephemeris, generated_text};
 ghost use Rattle.spec_requests.specs.Limits.{IsWithinLimits};
-ghost use Rattle.spec_requests.specs.declared.limits.TheConstants.{MOST_WORKERS};
+ghost use Rattle.spec_requests.specs.declared.limits.TheConstants.{MAX_WORKERS};
 ghost use Rattle.spec_requests.specs.Requests.{request_of};
 ghost use Rattle.spec_times.specs.TimeWords.{IsTime};
 ghost use Rattle.spec_texts.specs.Report.{HasTimes, generation, report};
@@ -166,7 +166,7 @@ fn lines_of<R: Threads + Wait + Sync, G: Gate>(
 ) -> Result<Vec<u8>, Refusal>
     requires some { 0 < blocks }
     requires some_workers { 1 ≤ workers }
-    requires workers { workers ≤ MOST_WORKERS }
+    requires workers { workers ≤ MAX_WORKERS }
     requires bytes { bytes ≡ length (generated_text blocks seed) }
     requires same { ephemeris.now ≡ generated_ephemeris blocks seed }
     ensures lines { IfOk result (λ text. IsGeneration blocks seed text.items) }
@@ -193,7 +193,7 @@ fn lines_of_text<R: Threads + Wait + Sync, G: Gate>(
 ) -> Result<Vec<u8>, Refusal>
     requires some { 0 < blocks }
     requires some_workers { 1 ≤ workers }
-    requires workers { workers ≤ MOST_WORKERS }
+    requires workers { workers ≤ MAX_WORKERS }
     requires text { text.now ≡ generated_text blocks seed }
     requires accepted { outcome (text.now ∷ []) ≡ Ok (generated_ephemeris blocks seed) }
     ensures lines { IfOk result (λ text. IsGeneration blocks seed text.items) }
@@ -224,8 +224,8 @@ fn generation_of<R: Threads + Wait + Sync, G: Gate>(
 ) -> Result<Vec<u8>, Refusal>
     requires some { 0 < blocks }
     requires some_workers { 1 ≤ workers }
-    requires workers { workers ≤ MOST_WORKERS }
-    requires few { blocks ≤ MOST_GENERATED }
+    requires workers { workers ≤ MAX_WORKERS }
+    requires few { blocks ≤ MAX_GENERATED }
     ensures lines { IfOk result (λ text. IsGeneration blocks seed text.items) }
     ensures stopped { IfErr result (λ refusal. (refusal ≡ Refusal.Memory)
         ⊎ (generation_of blocks seed ≡ Err refusal)) }

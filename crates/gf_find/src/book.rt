@@ -1,7 +1,7 @@
 // The windows of the book that workers fill.
 ghost use Rattle.std.specs.Prelude.{◌≡◌, ◌<◌, ◌≤◌, IfOk, Err};
-ghost use Rattle.spec_requests.specs.declared.limits.TheConstants.{MOST_WORKERS};
-ghost use Rattle.spec_reports.specs.declared.limits.TheConstants.{MOST_LEAVES};
+ghost use Rattle.spec_requests.specs.declared.limits.TheConstants.{MAX_WORKERS};
+ghost use Rattle.spec_reports.specs.declared.limits.TheConstants.{MAX_LEAVES};
 ghost use Rattle.spec_trees.specs.Tree.{IsValid, leaf_count, leaves};
 ghost use Rattle.spec_trees.specs.Windows.{windows};
 ghost use Rattle.steal_pool.specs.declared.seat.PoolError.TheVariants.{TooMany};
@@ -9,7 +9,7 @@ ghost use Rattle.steal_pool.specs.declared.seat.PoolError.TheVariants.{TooMany};
 use gf_edges::Gate;
 use halving::Judge;
 use ordered_join::{Memory, windows};
-use spec_reports::MOST_LEAVES;
+use spec_reports::MAX_LEAVES;
 use spec_trees::{Node, Window};
 use std::alloc::Global;
 use std::sync::Wait;
@@ -27,14 +27,14 @@ pub(crate) fn windows_by<R: Threads + Wait + Sync, J: Judge, G: Gate>(
     gate: &G,
 ) -> Result<Vec<Window>, PoolError>
     requires some { 1 ≤ workers }
-    requires workers { workers ≤ MOST_WORKERS }
+    requires workers { workers ≤ MAX_WORKERS }
     requires valid { IsValid (J.rules judge.now) root }
     ensures windows { IfOk result (λ found.
         found.items ≡ windows (leaves (J.rules judge.now) root)) }
-    ensures few { IfOk result (λ found. leaf_count (J.rules judge.now) root ≤ MOST_LEAVES) }
-    ensures too_many { result ≡ Err TooMany → MOST_LEAVES < leaf_count (J.rules judge.now) root }
+    ensures few { IfOk result (λ found. leaf_count (J.rules judge.now) root ≤ MAX_LEAVES) }
+    ensures too_many { result ≡ Err TooMany → MAX_LEAVES < leaf_count (J.rules judge.now) root }
 {
-    let book = run(rt, alloc, judge, root, workers, MOST_LEAVES, gate)?;
+    let book = run(rt, alloc, judge, root, workers, MAX_LEAVES, gate)?;
     match windows(alloc, &book) {
         Ok(found) => Ok(found),
         Err(Memory) => Err(PoolError::Memory),

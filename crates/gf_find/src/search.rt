@@ -2,7 +2,7 @@
 ghost use Rattle.std.specs.Prelude.{◌≡◌, ◌⊎◌, ◌<◌, ◌≤◌, IfErr, IfOk, IsTrue, None, Err};
 ghost use Rattle.spec_ephemeris.specs.Ephemeris.{IsEphemeris};
 ghost use Rattle.spec_trees.specs.Cuts.{CanCut, cut_of};
-ghost use Rattle.spec_requests.specs.declared.limits.TheConstants.{MOST_WORKERS};
+ghost use Rattle.spec_requests.specs.declared.limits.TheConstants.{MAX_WORKERS};
 ghost use Rattle.spec_kinds.specs.Faults.{fault_of};
 ghost use Rattle.spec_kinds.specs.Kinds.{event_of};
 ghost use Rattle.spec_searches.specs.Found.{root};
@@ -70,7 +70,7 @@ pub(crate) fn search<R: Threads + Wait + Sync, G: Gate>(
     gate: &G,
 ) -> Result<Vec<Window>, Refusal>
     requires some { 1 ≤ workers }
-    requires workers { workers ≤ MOST_WORKERS }
+    requires workers { workers ≤ MAX_WORKERS }
     requires block { 0 < ephemeris.now.blocks }
     requires query { IsQuery query.now }
     requires within { IsTrue (is_within span ephemeris.now) }

@@ -11,9 +11,9 @@ use spec_ephemeris::Body;
 use spec_events::Dir;
 use spec_kinds::Kind;
 use spec_requests::{
-    AXES, COMMANDS, CUTS, CommandName, DIRS, FRAMES, KINDS, LAYOUTS, MOST_DEPTH,
-    MOST_DIGITS_OF_A_COUNT, MOST_DIGITS_OF_A_SEED, MOST_DIGITS_OF_BLOCKS, MOST_GENERATED_BLOCKS,
-    MOST_SEED, MOST_WIDTH, MOST_WORKERS, TARGETS, VIEWPOINTS,
+    AXES, COMMANDS, CUTS, CommandName, DIRS, FRAMES, KINDS, LAYOUTS, MAX_DEPTH,
+    MAX_DIGITS_OF_A_COUNT, MAX_DIGITS_OF_A_SEED, MAX_DIGITS_OF_BLOCKS, MAX_GENERATED_BLOCKS,
+    MAX_SEED, MAX_WIDTH, MAX_WORKERS, TARGETS, VIEWPOINTS,
 };
 use spec_text::Decimal;
 use spec_trees::CutRule;
@@ -141,7 +141,7 @@ fn within(number: u64, least: u64, most: u64) -> Option<u64>
 pub(crate) fn width(word: &str) -> Option<u32>
     ensures { result ≡ width_of word.now }
 {
-    match number(word, MOST_DIGITS_OF_A_COUNT, 1, MOST_WIDTH) {
+    match number(word, MAX_DIGITS_OF_A_COUNT, 1, MAX_WIDTH) {
         Some(number) => Some(number as u32),
         None => None,
     }
@@ -150,7 +150,7 @@ pub(crate) fn width(word: &str) -> Option<u32>
 pub(crate) fn depth(word: &str) -> Option<u32>
     ensures { result ≡ depth_of word.now }
 {
-    match number(word, MOST_DIGITS_OF_A_COUNT, 0, MOST_DEPTH) {
+    match number(word, MAX_DIGITS_OF_A_COUNT, 0, MAX_DEPTH) {
         Some(number) => Some(number as u32),
         None => None,
     }
@@ -159,7 +159,7 @@ pub(crate) fn depth(word: &str) -> Option<u32>
 pub(crate) fn workers(word: &str) -> Option<u32>
     ensures { result ≡ workers_of word.now }
 {
-    match number(word, MOST_DIGITS_OF_A_COUNT, 1, MOST_WORKERS) {
+    match number(word, MAX_DIGITS_OF_A_COUNT, 1, MAX_WORKERS) {
         Some(number) => Some(number as u32),
         None => None,
     }
@@ -168,7 +168,7 @@ pub(crate) fn workers(word: &str) -> Option<u32>
 pub(crate) fn blocks(word: &str) -> Option<u32>
     ensures { result ≡ blocks_of word.now }
 {
-    match number(word, MOST_DIGITS_OF_BLOCKS, 1, MOST_GENERATED_BLOCKS) {
+    match number(word, MAX_DIGITS_OF_BLOCKS, 1, MAX_GENERATED_BLOCKS) {
         Some(number) => Some(number as u32),
         None => None,
     }
@@ -177,7 +177,7 @@ pub(crate) fn blocks(word: &str) -> Option<u32>
 pub(crate) fn seed(word: &str) -> Option<u64>
     ensures { result ≡ seed_of word.now }
 {
-    number(word, MOST_DIGITS_OF_A_SEED, 0, MOST_SEED)
+    number(word, MAX_DIGITS_OF_A_SEED, 0, MAX_SEED)
 }
 
 pub(crate) fn decimal(word: &str) -> Option<Decimal>

@@ -17,9 +17,9 @@ const ROOT: Node = Node {
     depth: 0,
 };
 
-const MOST_LEAVES: u32 = 1_000_000;
+const MAX_LEAVES: u32 = 1_000_000;
 
-const MOST_SEATS: u32 = 64;
+const MAX_SEATS: u32 = 64;
 
 // The second after `time`.
 fn leaf_at(time: u32) -> Leaf
@@ -80,7 +80,7 @@ pub fn filled<R: Threads + Wait + Sync>(
     seats: u32,
     leaves: u32,
 ) -> Option<usize> {
-    if seats < 1 || seats > MOST_SEATS || leaves > MOST_LEAVES {
+    if seats < 1 || seats > MAX_SEATS || leaves > MAX_LEAVES {
         return None;
     }
     let (ledger, mut made) = SpanLedger::new(alloc, ROOT, seats * leaves, seats).ok()?;

@@ -1,9 +1,9 @@
 // Words of a text, read as decimals.
 ghost use Rattle.std.specs.Prelude.{◌≤◌, length};
-ghost use Rattle.spec_text.specs.declared.limits.TheConstants.{MOST_TEXT_BYTES};
+ghost use Rattle.spec_text.specs.declared.limits.TheConstants.{MAX_TEXT_BYTES};
 
 use de_text::{Decimal, Line, LineStep, Tokens, read_decimal};
-use spec_text::MOST_TEXT_BYTES;
+use spec_text::MAX_TEXT_BYTES;
 
 // An odd number that mixes the bits of a checksum.
 const MULTIPLIER: u64 = 6_364_136_223_846_793_005;
@@ -42,7 +42,7 @@ fn with_line(tally: Tally, line: &Line<'_>) -> Tally {
 }
 
 fn round(tally: Tally, text: &[u8]) -> Tally
-    requires { length text.now ≤ MOST_TEXT_BYTES }
+    requires { length text.now ≤ MAX_TEXT_BYTES }
 {
     let mut tally = tally;
     let mut lines = Tokens::new(text);
@@ -54,7 +54,7 @@ fn round(tally: Tally, text: &[u8]) -> Tally
 
 /// The words and decimals of so many rounds over the text, or none of a text that is too long.
 pub(crate) fn words(text: &[u8], rounds: u32) -> Option<Tally> {
-    if text.len() > MOST_TEXT_BYTES {
+    if text.len() > MAX_TEXT_BYTES {
         return None;
     }
     let mut tally = Tally {

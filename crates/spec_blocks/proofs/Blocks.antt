@@ -8,7 +8,7 @@ use Rattle.std.proofs.lemmas.Int.{ints}
 use Rattle.spec_text.specs.declared.decimals.Decimal.{Decimal}
 use Rattle.spec_ephemeris.specs.declared.header.Column.{Column}
 use Rattle.spec_ephemeris.specs.declared.header.Header.{Header}
-use Rattle.spec_ephemeris.specs.declared.limits.TheConstants.{BODY_COLUMNS, MOST_BLOCKS}
+use Rattle.spec_ephemeris.specs.declared.limits.TheConstants.{BODY_COLUMNS, MAX_BLOCKS}
 use Rattle.spec_ephemeris.specs.Header.{IsHeader, IsColumn, Takes, is_present, column_size}
 use Rattle.spec_ephemeris.specs.Ephemeris.{Ephemeris, IsEphemeris, IsStart, IsBlock, IsBodyNumber, AreBodiesBounded, empty_ephemeris}
 use Rattle.spec_ephemeris.specs.Series.{IsInUnits}
@@ -126,9 +126,9 @@ accepted_with before numbers start end checked fits is rule = elim (cases_Bool (
       let some = ltb-true 0 before.blocks ((and_parts (nat_lt 0 before.blocks) _ passed).0) in
       rw passed (record { checked = checked; header = refl; some = some })
   | inr new ↦
-      let fewer = holds_ok _ _ tt (rw new at rule) (room _ (nat_lt before.blocks MOST_BLOCKS) _ _) in
+      let fewer = holds_ok _ _ tt (rw new at rule) (room _ (nat_lt before.blocks MAX_BLOCKS) _ _) in
       let begins = begun_is before start checked is in
-      let few : before.blocks < MOST_BLOCKS = ltb-true before.blocks MOST_BLOCKS fewer.1 in
+      let few : before.blocks < MAX_BLOCKS = ltb-true before.blocks MAX_BLOCKS fewer.1 in
       rw new (record {
         checked = pushed (begun before start) numbers begins.checked (subst (λ (h : Header). IsBlock h numbers) (sym begins.header) fits) (omega (arith, begins.blocks, few));
         header = begins.header;

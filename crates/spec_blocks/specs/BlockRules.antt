@@ -7,7 +7,7 @@ use Rattle.spec_text.specs.Reading.{fault_number, reading, whole_at}
 use Rattle.spec_text.specs.declared.decimals.Decimal.{Decimal}
 use Rattle.spec_text.specs.declared.decimals.NumberFault.{NumberFault}
 use Rattle.spec_ephemeris.specs.declared.header.Column.{Column}
-use Rattle.spec_ephemeris.specs.declared.limits.TheConstants.{BODY_COLUMNS, FIRST_TIME, MOST_BLOCKS}
+use Rattle.spec_ephemeris.specs.declared.limits.TheConstants.{BODY_COLUMNS, FIRST_TIME, MAX_BLOCKS}
 use Rattle.spec_ephemeris.specs.Header.{column_size, is_present}
 use Rattle.spec_ephemeris.specs.Ephemeris.{Ephemeris, end_of}
 use Rattle.spec_sections.specs.declared.rules.BrokenRule.{BrokenRule}
@@ -50,7 +50,7 @@ abbrev pub follows : Ephemeris → ℤ → ℤ → Result (Unit {0}) BrokenRule
 follows before start end =
     if is_skipped before end then Ok tt
     else if is_after_gap before start then Err (broken BLOCK_GAP 0)
-    else if nat_lt before.blocks MOST_BLOCKS then Ok tt
+    else if nat_lt before.blocks MAX_BLOCKS then Ok tt
     else Err (broken TOO_MANY_BLOCKS 0)
 
 abbrev pub has_length : ℤ → ℤ → ℤ → Bool

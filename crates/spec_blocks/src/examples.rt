@@ -1,7 +1,7 @@
 // Worked examples of the definitions: blocks of five numbers and one day, and the first fault where a line is changed.
 ghost use Rattle.std.specs.Prelude.{◌≡◌, [], ◌∷◌, ◌++◌, ◌-◌, Err, Ok, codes, false, negsuc, pos, true};
 ghost use Rattle.spec_text.specs.Examples.{decimal};
-ghost use Rattle.spec_ephemeris.specs.declared.limits.TheConstants.{FIRST_TIME, LAST_TIME, MOST_BLOCKS};
+ghost use Rattle.spec_ephemeris.specs.declared.limits.TheConstants.{FIRST_TIME, LAST_TIME, MAX_BLOCKS};
 ghost use Rattle.spec_ephemeris.specs.Examples.{four_columns, whole};
 ghost use Rattle.spec_sections.specs.Sections.{breaks, broken, ended, line_fault};
 ghost use Rattle.spec_faults.specs.declared.numbers.TheConstants.{BLOCK_GAP, BLOCK_SPAN, NCOEFF_DIFFERS, NO_BLOCK, NUMBER, RECORD_LINE, TOO_LARGE, TOO_MANY_BLOCKS, TRAILING_NUMBERS, TRUNCATED};
@@ -85,10 +85,10 @@ pub fn spans_are_refused()
         ≡ refused 5 BLOCK_GAP 0 }
     ensures skipped { read (first_day ++ on_one_line (codes "2451544.5 2451545.5 x"))
         ≡ refused 5 NUMBER 1 }
-    ensures most { follows (days (MOST_BLOCKS - 1) []) (pos 1415491200) (pos 1415577600) ≡ Ok tt }
-    ensures too_many { follows (days MOST_BLOCKS []) (pos 1415577600) (pos 1415664000)
+    ensures most { follows (days (MAX_BLOCKS - 1) []) (pos 1415491200) (pos 1415577600) ≡ Ok tt }
+    ensures too_many { follows (days MAX_BLOCKS []) (pos 1415577600) (pos 1415664000)
         ≡ Err (broken TOO_MANY_BLOCKS 0) }
-    ensures one_more_skipped { follows (days MOST_BLOCKS []) (pos 0) (pos 86400) ≡ Ok tt }
+    ensures one_more_skipped { follows (days MAX_BLOCKS []) (pos 0) (pos 86400) ≡ Ok tt }
 {}
 
 /// The numbers after the dates.

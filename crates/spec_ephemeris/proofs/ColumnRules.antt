@@ -2,7 +2,7 @@
 use Rattle.std.proofs.Common.{◌≡◌, ℕ, ◌<◌, ◌≤◌, IsTrue, Option, None, Some, refl, sym, ◌∙◌, arith}
 use Rattle.spec_ephemeris.specs.declared.header.Column.{Column}
 use Rattle.spec_ephemeris.specs.declared.header.Header.{Header}
-use Rattle.spec_ephemeris.specs.declared.limits.TheConstants.{MOST_COEFFICIENTS}
+use Rattle.spec_ephemeris.specs.declared.limits.TheConstants.{MAX_COEFFICIENTS}
 use Rattle.spec_ephemeris.specs.Header.{IsHeader, IsColumn, column_at, has_column, is_present_at}
 use Rattle.spec_ephemeris.specs.Ephemeris.{Ephemeris}
 use Rattle.spec_ephemeris.specs.Granules.{column_or_none, column_of}
@@ -15,7 +15,7 @@ pub some_granules : (c : Column) (h : Header) (number : ℕ) → IsColumn h numb
 some_granules c h number is = let present = is.present in grind (arith, present)
 
 -- a present column has from 1 to 32 coefficients
-pub few : (h : Header) (number : ℕ) (c : Column) → IsHeader h → IsColumn h number c → (1 ≤ c.coefs) × (c.coefs ≤ MOST_COEFFICIENTS)
+pub few : (h : Header) (number : ℕ) (c : Column) → IsHeader h → IsColumn h number c → (1 ≤ c.coefs) × (c.coefs ≤ MAX_COEFFICIENTS)
 few h number c header is =
     let present = is.present in
     (grind (arith, present), (header.columns number c is).coefficients)

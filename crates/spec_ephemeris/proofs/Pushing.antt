@@ -5,7 +5,7 @@ use Rattle.std.proofs.lemmas.Bool.{cases_lt}
 use Rattle.spec_numbers.proofs.Naturals.{row_fits}
 use Rattle.spec_text.specs.declared.decimals.Decimal.{Decimal}
 use Rattle.spec_ephemeris.specs.declared.header.Header.{Header}
-use Rattle.spec_ephemeris.specs.declared.limits.TheConstants.{MOST_BLOCKS}
+use Rattle.spec_ephemeris.specs.declared.limits.TheConstants.{MAX_BLOCKS}
 use Rattle.spec_ephemeris.specs.Ephemeris.{Ephemeris, IsEphemeris, IsBlock, AreBodiesBounded, with_block}
 
 -- the numbers of block k of n numbers a block
@@ -31,7 +31,7 @@ bodies_pushed h k blocks xs ys whole one old new (inr above) within =
     let P : ℕ → Type 0 = λ k. AreBodiesBounded h (of_block h.ncoeff k (xs ++ ys)) in
     subst P last (subst (AreBodiesBounded h) (sym (added h.ncoeff blocks xs ys whole one)) new)
 
-pub pushed : (e : Ephemeris) (block : List Decimal) → IsEphemeris e → IsBlock e.header block → e.blocks < MOST_BLOCKS → IsEphemeris (with_block e block)
+pub pushed : (e : Ephemeris) (block : List Decimal) → IsEphemeris e → IsBlock e.header block → e.blocks < MAX_BLOCKS → IsEphemeris (with_block e block)
 pushed e block checked fits room = record {
   header = checked.header;
   start = checked.start;

@@ -4,7 +4,7 @@ use Rattle.std.specs.Prelude.{◌≡◌, ◌⊎◌, ℕ, suc, ◌+◌, ◌-◌, 
 use Rattle.spec_text.specs.declared.decimals.Decimal.{Decimal}
 use Rattle.spec_ephemeris.specs.declared.header.Column.{Column}
 use Rattle.spec_ephemeris.specs.declared.header.Header.{Header}
-use Rattle.spec_ephemeris.specs.declared.limits.TheConstants.{BODY_COLUMNS, MOST_BLOCKS, FIRST_TIME, LAST_TIME}
+use Rattle.spec_ephemeris.specs.declared.limits.TheConstants.{BODY_COLUMNS, MAX_BLOCKS, FIRST_TIME, LAST_TIME}
 use Rattle.spec_ephemeris.specs.Header.{IsColumn, IsHeader, Takes, granule_size}
 use Rattle.spec_ephemeris.specs.Series.{Series, IsCoefficient, IsInUnits}
 
@@ -54,7 +54,7 @@ pub record IsBlock (h : Header) (block : List Decimal) : Type 0 where
 pub record IsEphemeris (e : Ephemeris) : Type 0 where
   pub header : IsHeader e.header
   pub start : IsStart e.start
-  pub few : e.blocks ≤ MOST_BLOCKS
+  pub few : e.blocks ≤ MAX_BLOCKS
   pub whole : length e.numbers ≡ e.blocks * e.header.ncoeff
   pub bodies : (block : ℕ) → block < e.blocks → AreBodiesBounded e.header (block_numbers e block)
 

@@ -4,7 +4,7 @@ use borrow.Author.Differences.{up, down}
 use Rattle.spec_text.specs.declared.decimals.Decimal.{Decimal}
 use Rattle.spec_ephemeris.specs.declared.header.Column.{Column}
 use Rattle.spec_ephemeris.specs.declared.header.Header.{Header}
-use Rattle.spec_ephemeris.specs.declared.limits.TheConstants.{COLUMNS, NUTATIONS, FIRST_PLACE, FEWEST_NUMBERS, MOST_NUMBERS, MOST_COEFFICIENTS, SHORTEST_BLOCK, LONGEST_BLOCK, LEAST_MASS_RATIO, GREATEST_MASS_RATIO}
+use Rattle.spec_ephemeris.specs.declared.limits.TheConstants.{COLUMNS, NUTATIONS, FIRST_PLACE, MIN_NUMBERS, MAX_NUMBERS, MAX_COEFFICIENTS, SHORTEST_BLOCK, LONGEST_BLOCK, MIN_MASS_RATIO, GREATEST_MASS_RATIO}
 
 -- columns are counted from 1
 abbrev pub column_at : List Column → ℕ → Option Column
@@ -51,7 +51,7 @@ pub record IsShared (block : ℤ) (granules : ℕ) : Type 0 where
 
 -- the rules of a present column by itself; the last of its places is within the block
 pub record MeetsColumnRules (h : Header) (number : ℕ) (c : Column) : Type 0 where
-  pub coefficients : c.coefs ≤ MOST_COEFFICIENTS
+  pub coefficients : c.coefs ≤ MAX_COEFFICIENTS
   pub start : FIRST_PLACE ≤ c.start
   pub last : c.start + column_size number c ≤ h.ncoeff + 1
   pub granules : IsShared h.block_seconds c.granules
@@ -62,7 +62,7 @@ AreApart i c j d = (place : ℕ) → Takes i c place → Takes j d place → ⊥
 
 -- EMRAT is from 1 to 1,000
 pub record IsMassRatio (d : Decimal) : Type 0 where
-  pub least : pos (LEAST_MASS_RATIO * 10 ^ down d.exp) ≤ℤ (d.mant *ℤ pos (10 ^ up d.exp))
+  pub least : pos (MIN_MASS_RATIO * 10 ^ down d.exp) ≤ℤ (d.mant *ℤ pos (10 ^ up d.exp))
   pub greatest : (d.mant *ℤ pos (10 ^ up d.exp)) ≤ℤ pos (GREATEST_MASS_RATIO * 10 ^ down d.exp)
 
 abbrev pub IsColumnCount : ℕ → Type 0
@@ -70,8 +70,8 @@ IsColumnCount count = count ≡ COLUMNS
 
 -- the header meets the rules
 pub record IsHeader (h : Header) : Type 0 where
-  pub fewest : FEWEST_NUMBERS ≤ h.ncoeff
-  pub most : h.ncoeff ≤ MOST_NUMBERS
+  pub fewest : MIN_NUMBERS ≤ h.ncoeff
+  pub most : h.ncoeff ≤ MAX_NUMBERS
   pub shortest : SHORTEST_BLOCK ≤ℤ h.block_seconds
   pub longest : h.block_seconds ≤ℤ LONGEST_BLOCK
   pub ratio : IsMassRatio h.emrat

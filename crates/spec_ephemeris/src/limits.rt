@@ -13,13 +13,13 @@ pub const NUTATIONS: usize = 12;
 pub const FIRST_PLACE: u32 = 3;
 
 /// The fewest numbers of a block.
-pub const FEWEST_NUMBERS: u32 = 3;
+pub const MIN_NUMBERS: u32 = 3;
 
 /// The most numbers of a block.
-pub const MOST_NUMBERS: u32 = 4_096;
+pub const MAX_NUMBERS: u32 = 4_096;
 
 /// The most Chebyshev coefficients of a component of a column.
-pub const MOST_COEFFICIENTS: u32 = 32;
+pub const MAX_COEFFICIENTS: u32 = 32;
 
 /// The seconds of a day. There are no leap seconds in TDB.
 pub const DAY: i64 = 86_400;
@@ -31,13 +31,13 @@ pub const SHORTEST_BLOCK: i64 = 1;
 pub const LONGEST_BLOCK: i64 = 2_764_800;
 
 /// The least mass of the Earth over that of the Moon.
-pub const LEAST_MASS_RATIO: u64 = 1;
+pub const MIN_MASS_RATIO: u64 = 1;
 
 /// The greatest mass of the Earth over that of the Moon.
 pub const GREATEST_MASS_RATIO: u64 = 1_000;
 
 /// The most blocks of an ephemeris.
-pub const MOST_BLOCKS: u32 = 16_384;
+pub const MAX_BLOCKS: u32 = 16_384;
 
 /// The earliest time, in seconds of TDB since J2000: Julian date 0.
 pub const FIRST_TIME: i64 = -211_813_488_000;

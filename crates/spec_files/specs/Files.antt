@@ -1,6 +1,6 @@
 -- What is there of named files, where the files of a run are known.
 use Rattle.std.specs.Prelude.{◌≡◌, ◌<◌, ℕ, List, [], ◌∷◌, length, drop, Option, Some, IfSome, IsSomeAnd}
-use Rattle.spec_text.specs.declared.limits.TheConstants.{MOST_TEXT_BYTES}
+use Rattle.spec_text.specs.declared.limits.TheConstants.{MAX_TEXT_BYTES}
 use Rattle.gf_edges.specs.Edges.{Files, file_of}
 
 -- where files are known, this one is there, and has P
@@ -20,7 +20,7 @@ AreFiles files (name ∷ names) (text ∷ texts) = IsFile files name text × Are
 
 -- where files are known, this one is there, and has more bytes than a file may have
 abbrev pub IsLongFile : Option Files → List ℕ → Type 0
-IsLongFile files name = NamedFile files name (λ bytes. MOST_TEXT_BYTES < length bytes)
+IsLongFile files name = NamedFile files name (λ bytes. MAX_TEXT_BYTES < length bytes)
 
 -- where files are known, this one is there, and all but its first n bytes are left
 abbrev pub HasLeft : Option Files → List ℕ → ℕ → Option (List ℕ) → Type 0

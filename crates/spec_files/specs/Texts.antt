@@ -2,7 +2,7 @@
 use Rattle.std.specs.Prelude.{ℕ, ◌+◌, ◌-◌, nat_lt, Bool, List, [], ◌∷◌, ◌++◌, length, Option, None, Some, if◌then◌else◌}
 use Rattle.spec_text.specs.Lines.{lines, text_lines}
 use Rattle.spec_text.specs.declared.decimals.Fault.{Fault}
-use Rattle.spec_text.specs.declared.limits.TheConstants.{MOST_TEXT_BYTES}
+use Rattle.spec_text.specs.declared.limits.TheConstants.{MAX_TEXT_BYTES}
 use Rattle.spec_sections.specs.FileLines.{first_long, readable}
 use Rattle.spec_sections.specs.Sections.{FileLine}
 use Rattle.spec_faults.specs.declared.numbers.TheConstants.{FILE_TOO_LARGE}
@@ -13,7 +13,7 @@ fault_at line number = record { line = line; number = number; detail = 0 }
 
 -- a text of more bytes than a file may have
 abbrev pub is_too_large : List ℕ → Bool
-is_too_large text = nat_lt MOST_TEXT_BYTES (length text)
+is_too_large text = nat_lt MAX_TEXT_BYTES (length text)
 
 -- why a text can't be read to its end: it is too large, or has a line that is too long
 abbrev pub cut_off : List ℕ → Option Fault

@@ -1,6 +1,6 @@
 // Worked examples of the definitions.
 ghost use Rattle.std.specs.Prelude.{◌≡◌, ◌<◌, [], ◌∷◌, ◌++◌, Err, List, None, Some, codes, length, replicate, ℕ};
-ghost use Rattle.spec_text.specs.declared.limits.TheConstants.{MOST_TEXT_BYTES};
+ghost use Rattle.spec_text.specs.declared.limits.TheConstants.{MAX_TEXT_BYTES};
 ghost use Rattle.spec_faults.specs.declared.numbers.TheConstants.{ENDED, FIRST_LINE, LINE_TOO_LONG};
 ghost use Rattle.spec_files.specs.Files.{AreFiles, HasLeft, IsFile, IsLongFile};
 ghost use Rattle.spec_files.specs.Outcome.{first_fault, outcome};
@@ -40,7 +40,7 @@ pub fn named_files_are_read()
     ensures files { AreFiles (Some ((codes "a", 7 ∷ []) ∷ (codes "b", 8 ∷ []) ∷ []))
         (codes "b" ∷ codes "a" ∷ []) ((8 ∷ []) ∷ (7 ∷ []) ∷ []) }
     ensures not_known { IsFile None (codes "a") (7 ∷ []) }
-    ensures long { (bytes : List ℕ) → MOST_TEXT_BYTES < length bytes
+    ensures long { (bytes : List ℕ) → MAX_TEXT_BYTES < length bytes
         → IsLongFile (Some ((codes "a", bytes) ∷ [])) (codes "a") }
     ensures not_long { IsLongFile (Some ((codes "a", 7 ∷ 8 ∷ []) ∷ [])) (codes "a") → ⊥ }
     ensures left { HasLeft (Some ((codes "a", 7 ∷ 8 ∷ []) ∷ [])) (codes "a") 1 (Some (8 ∷ [])) }

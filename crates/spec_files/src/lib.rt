@@ -11,4 +11,4 @@ pub use examples::{named_files_are_read, texts_are_joined, texts_are_refused};
 pub use laws::{
     first_faults_stay, later_texts_follow, one_answer_is_true, texts_with_a_fault_are_refused,
 };
-pub use limits::MOST_FILES;
+pub use limits::MAX_FILES;

@@ -1,4 +1,4 @@
 // The limit of the files of a run.
 
 /// The most files of a run.
-pub const MOST_FILES: usize = 64;
+pub const MAX_FILES: usize = 64;

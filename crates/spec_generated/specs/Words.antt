@@ -3,7 +3,7 @@ use Rattle.std.specs.Prelude.{ℕ, ◌+◌, ◌-◌, ◌*◌, ◌==◌, nat_lt, 
 use Rattle.std.specs.Fmt.{decimal}
 use Rattle.spec_text.specs.Bytes.{digit_zero, minus_sign}
 use Rattle.spec_text.specs.declared.decimals.Decimal.{Decimal}
-use Rattle.spec_text.specs.declared.limits.TheConstants.{MOST_DIGITS}
+use Rattle.spec_text.specs.declared.limits.TheConstants.{MAX_DIGITS}
 use Rattle.spec_ephemeris.specs.declared.limits.TheConstants.{FIRST_PLACE}
 use Rattle.spec_generated.specs.Draws.{drawn, draws_upto, state_after}
 use Rattle.spec_generated.specs.Coefficients.{millionths, term_at}
@@ -11,7 +11,7 @@ use Rattle.spec_generated.specs.declared.limits.TheConstants.{BLOCK_DATES, FIRST
 
 -- a number below 10^18 in 18 digits, with zeros at the front
 abbrev pub padded_digits : ℕ → List ℕ
-padded_digits n = replicate (MOST_DIGITS - length (decimal n)) digit_zero ++ decimal n
+padded_digits n = replicate (MAX_DIGITS - length (decimal n)) digit_zero ++ decimal n
 
 -- `0.`, 18 digits and an exponent
 abbrev pub fraction_word : ℕ → List ℕ → List ℕ

@@ -1,7 +1,7 @@
 // The sizes and the constants of generated texts.
 
 /// The most blocks of a generated text.
-pub const MOST_GENERATED: u32 = 40;
+pub const MAX_GENERATED: u32 = 40;
 
 /// The numbers of a block.
 pub const NCOEFF: u32 = 1_018;

@@ -10,7 +10,7 @@ use Rattle.spec_numbers.proofs.Lists.{get_take}
 use Rattle.spec_text.specs.declared.decimals.Decimal.{Decimal}
 use Rattle.spec_ephemeris.specs.Header.{AreApart, IsColumn, IsHeader, IsShared, MeetsColumnRules, column_size, is_present}
 use Rattle.spec_ephemeris.specs.declared.header.Column.{Column}
-use Rattle.spec_ephemeris.specs.declared.limits.TheConstants.{COLUMNS, FIRST_PLACE, MOST_COEFFICIENTS}
+use Rattle.spec_ephemeris.specs.declared.limits.TheConstants.{COLUMNS, FIRST_PLACE, MAX_COEFFICIENTS}
 use Rattle.spec_ephemeris.specs.declared.header.Header.{Header}
 use Rattle.spec_faults.specs.declared.numbers.TheConstants.{ENDED}
 use Rattle.spec_header.specs.ColumnRules.{columns_of, columns_row, is_out_of_place, overlap, present_column, row}
@@ -28,7 +28,7 @@ module _ (n s : ℕ) (d : Decimal) (cs : List Column) (each : EachMeets n s [] c
 
   -- what the rules say of a present column
   pub record Facts (i : ℕ) (c : Column) : Type 0 where
-    pub few : nat_lt MOST_COEFFICIENTS c.coefs ≡ false
+    pub few : nat_lt MAX_COEFFICIENTS c.coefs ≡ false
     pub place : is_out_of_place n (take i cs) (suc i) c ≡ false
     pub whole : (s % c.granules == 0) ≡ true
 
@@ -38,7 +38,7 @@ module _ (n s : ℕ) (d : Decimal) (cs : List Column) (each : EachMeets n s [] c
       let number : length (take i cs) + 1 ≡ suc i = omega (arith, length-take-le i cs (omega (arith, within))) in
       let met : present_column n s (take i cs) (suc i) c ≡ Ok tt = rw (present, number) at (each i c get) in
       let parts = holds_ok _ (present_column n s (take i cs) (suc i) c) tt met
-      (first_broken (nat_lt MOST_COEFFICIENTS c.coefs) (is_out_of_place n (take i cs) (suc i) c) (s % c.granules == 0) _ _ _) in
+      (first_broken (nat_lt MAX_COEFFICIENTS c.coefs) (is_out_of_place n (take i cs) (suc i) c) (s % c.granules == 0) _ _ _) in
       record { few = parts.0; place = parts.1; whole = parts.2 }
 
   get_at : (number : ℕ) (c : Column) → IsColumn h number c → (i : ℕ) × (number ≡ suc i) × (slice_get cs i ≡ Some c)
@@ -55,7 +55,7 @@ module _ (n s : ℕ) (d : Decimal) (cs : List Column) (each : EachMeets n s [] c
   meets_at i c f =
       let place = or_parts (nat_lt c.start FIRST_PLACE) _ f.place in
       let rest = or_parts (nat_lt (n + 1) (c.start + column_size (suc i) c)) _ place.1 in
-      record { coefficients = ltb-false MOST_COEFFICIENTS c.coefs f.few; start = ltb-false c.start FIRST_PLACE place.0; last = ltb-false (n + 1) _ rest.0; granules = granules_share c.granules f.whole }
+      record { coefficients = ltb-false MAX_COEFFICIENTS c.coefs f.few; start = ltb-false c.start FIRST_PLACE place.0; last = ltb-false (n + 1) _ rest.0; granules = granules_share c.granules f.whole }
 
   meets : (number : ℕ) (c : Column) → IsColumn h number c → MeetsColumnRules h number c
   meets number c is =

@@ -6,9 +6,9 @@ use Rattle.spec_text.specs.declared.limits.TheConstants.{DAY_SECONDS}
 use Rattle.spec_text.specs.Reading.{reading, whole_at}
 use Rattle.spec_text.specs.declared.decimals.Decimal.{Decimal}
 use Rattle.spec_text.specs.declared.decimals.NumberFault.{NumberFault}
-use Rattle.spec_ephemeris.specs.declared.limits.TheConstants.{FEWEST_NUMBERS, MOST_NUMBERS}
+use Rattle.spec_ephemeris.specs.declared.limits.TheConstants.{MIN_NUMBERS, MAX_NUMBERS}
 use Rattle.spec_faults.specs.declared.numbers.TheConstants.{ENDED}
-use Rattle.spec_header.specs.declared.limits.TheConstants.{MOST_BLOCK_DAYS}
+use Rattle.spec_header.specs.declared.limits.TheConstants.{MAX_BLOCK_DAYS}
 use Rattle.spec_header.specs.HeaderLines.{mass_ratio_among, mass_ratio_at}
 use Rattle.spec_header.specs.HeaderRules.{block_length, days_by, decimal_at, decimal_by, first_line, is_mass_ratio, mass_ratio_of, ncoeff_of, not_none, span}
 use Rattle.spec_text.specs.Days.{seconds_of_julian_date, seconds_within}
@@ -18,15 +18,15 @@ use Rattle.spec_sections.specs.Sections.{FileLine, FileWord, Stop, ◌>>=◌, at
 use Rattle.spec_sections.proofs.Holding.{Holds, holds_ok, then_any}
 
 abbrev pub IsNcoeff : ℕ → Type 0
-IsNcoeff n = (FEWEST_NUMBERS ≤ n) × (n ≤ MOST_NUMBERS)
+IsNcoeff n = (MIN_NUMBERS ≤ n) × (n ≤ MAX_NUMBERS)
 
 ncoeff_holds : (o : Option ℕ) → Holds IsNcoeff (ncoeff_of o)
 ncoeff_holds None = tt
-ncoeff_holds (Some n) = elim (cases_lt n FEWEST_NUMBERS) [
-  | inl few ↦ rw (lt-ltb n FEWEST_NUMBERS few) tt
-  | inr enough ↦ elim (cases_lt MOST_NUMBERS n) [
-    | inl many ↦ rw (le-ltb n FEWEST_NUMBERS enough, lt-ltb MOST_NUMBERS n many) tt
-    | inr most ↦ rw (le-ltb n FEWEST_NUMBERS enough, le-ltb MOST_NUMBERS n most) (enough, most)
+ncoeff_holds (Some n) = elim (cases_lt n MIN_NUMBERS) [
+  | inl few ↦ rw (lt-ltb n MIN_NUMBERS few) tt
+  | inr enough ↦ elim (cases_lt MAX_NUMBERS n) [
+    | inl many ↦ rw (le-ltb n MIN_NUMBERS enough, lt-ltb MAX_NUMBERS n many) tt
+    | inr most ↦ rw (le-ltb n MIN_NUMBERS enough, le-ltb MAX_NUMBERS n most) (enough, most)
   ]
 ]
 
@@ -38,9 +38,9 @@ pub first_line_holds : (words : List (List ℕ)) → Holds IsNcoeff (first_line 
 first_line_holds words = either IsNcoeff _ (ncoeff_of (whole_at (slice_get words 3))) _ (ncoeff_holds (whole_at (slice_get words 3)))
 
 abbrev pub IsBlock : ℕ → Type 0
-IsBlock s = (1 ≤ s) × (s ≤ DAY_SECONDS * MOST_BLOCK_DAYS)
+IsBlock s = (1 ≤ s) × (s ≤ DAY_SECONDS * MAX_BLOCK_DAYS)
 
-some_seconds : (s : ℕ) → s ≤ DAY_SECONDS * MOST_BLOCK_DAYS → Holds IsBlock (not_none s)
+some_seconds : (s : ℕ) → s ≤ DAY_SECONDS * MAX_BLOCK_DAYS → Holds IsBlock (not_none s)
 some_seconds s most = elim (cases_eq s 0) [
   | inl none ↦ rw none tt
   | inr some ↦ rw (ne_eqb s 0 some) (omega (arith, some), most)
@@ -52,9 +52,9 @@ days_hold Q (Err fault) holds = tt
 
 block_holds : (d : Decimal) → Holds IsBlock (block_length d)
 block_holds d =
-    then_any IsBlock (days_by (seconds_within MOST_BLOCK_DAYS d)) not_none (λ s is.
-    some_seconds s (holds_ok (λ s. s ≤ DAY_SECONDS * MOST_BLOCK_DAYS) (days_by (seconds_within MOST_BLOCK_DAYS d)) s is
-    (days_hold (λ s. s ≤ DAY_SECONDS * MOST_BLOCK_DAYS) (seconds_within MOST_BLOCK_DAYS d) (seconds_few MOST_BLOCK_DAYS d))))
+    then_any IsBlock (days_by (seconds_within MAX_BLOCK_DAYS d)) not_none (λ s is.
+    some_seconds s (holds_ok (λ s. s ≤ DAY_SECONDS * MAX_BLOCK_DAYS) (days_by (seconds_within MAX_BLOCK_DAYS d)) s is
+    (days_hold (λ s. s ≤ DAY_SECONDS * MAX_BLOCK_DAYS) (seconds_within MAX_BLOCK_DAYS d) (seconds_few MAX_BLOCK_DAYS d))))
 
 pub span_holds : (words : List (List ℕ)) → Holds IsBlock (span words)
 span_holds words =

@@ -2,7 +2,7 @@
 use Rattle.std.specs.Prelude.{ℕ, suc, ◌+◌, ◌%◌, ◌==◌, ◌&&◌, ◌||◌, nat_lt, Bool, false, List, [], ◌∷◌, ◌++◌, length, Option, None, Some, Result, Ok, Err, if◌then◌else◌}
 use Rattle.spec_text.specs.Reading.{whole_of}
 use Rattle.spec_ephemeris.specs.declared.header.Column.{Column}
-use Rattle.spec_ephemeris.specs.declared.limits.TheConstants.{COLUMNS, FIRST_PLACE, MOST_COEFFICIENTS}
+use Rattle.spec_ephemeris.specs.declared.limits.TheConstants.{COLUMNS, FIRST_PLACE, MAX_COEFFICIENTS}
 use Rattle.spec_ephemeris.specs.Header.{column_size, is_present}
 use Rattle.spec_sections.specs.declared.rules.BrokenRule.{BrokenRule}
 use Rattle.spec_faults.specs.declared.numbers.TheConstants.{COLUMN_COUNT, COLUMN_PLACE, COEFFICIENT_COUNT, GRANULE_NOT_WHOLE, HEADER_NUMBER}
@@ -42,7 +42,7 @@ is_out_of_place ncoeff earlier i c =
 -- a present column after the earlier ones, in a block of so many numbers and seconds
 abbrev pub present_column : ℕ → ℕ → List Column → ℕ → Column → Result (Unit {0}) BrokenRule
 present_column ncoeff seconds earlier i c =
-    if nat_lt MOST_COEFFICIENTS c.coefs then Err (broken COEFFICIENT_COUNT 0)
+    if nat_lt MAX_COEFFICIENTS c.coefs then Err (broken COEFFICIENT_COUNT 0)
     else if is_out_of_place ncoeff earlier i c then Err (broken COLUMN_PLACE 0)
     else if seconds % c.granules == 0 then Ok tt
     else Err (broken GRANULE_NOT_WHOLE 0)

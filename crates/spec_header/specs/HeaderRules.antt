@@ -7,16 +7,16 @@ use Rattle.spec_text.specs.declared.days.DaysFault.{DaysFault}
 use Rattle.spec_text.specs.declared.days.DaysFault.TheVariants.{NotWholeSecond, OutOfRange}
 use Rattle.spec_text.specs.declared.decimals.Decimal.{Decimal}
 use Rattle.spec_text.specs.declared.decimals.NumberFault.{NumberFault}
-use Rattle.spec_ephemeris.specs.declared.limits.TheConstants.{FEWEST_NUMBERS, MOST_NUMBERS, LEAST_MASS_RATIO, GREATEST_MASS_RATIO}
+use Rattle.spec_ephemeris.specs.declared.limits.TheConstants.{MIN_NUMBERS, MAX_NUMBERS, MIN_MASS_RATIO, GREATEST_MASS_RATIO}
 use Rattle.spec_faults.specs.declared.numbers.TheConstants.{FIRST_LINE, GROUP_MISSING, JD_NOT_WHOLE_SECOND, COUNT_MISMATCH, EMRAT_MISSING, EMRAT_RANGE, LIMIT, HEADER_NUMBER}
-use Rattle.spec_header.specs.declared.limits.TheConstants.{MOST_BLOCK_DAYS, MOST_CONSTANTS}
+use Rattle.spec_header.specs.declared.limits.TheConstants.{MAX_BLOCK_DAYS, MAX_CONSTANTS}
 use Rattle.spec_sections.specs.declared.rules.BrokenRule.{BrokenRule}
 use Rattle.spec_sections.specs.Sections.{◌>>=◌, broken, is_word}
 
 -- NCOEFF is from 3 to 4,096
 abbrev pub ncoeff_of : Option ℕ → Result ℕ BrokenRule
 ncoeff_of None = Err (broken FIRST_LINE 0)
-ncoeff_of (Some n) = if nat_lt n FEWEST_NUMBERS || nat_lt MOST_NUMBERS n then Err (broken LIMIT 0) else Ok n
+ncoeff_of (Some n) = if nat_lt n MIN_NUMBERS || nat_lt MAX_NUMBERS n then Err (broken LIMIT 0) else Ok n
 
 -- four words: KSIZE=, any word, NCOEFF= and a whole number
 abbrev pub first_line : List (List ℕ) → Result ℕ BrokenRule
@@ -52,7 +52,7 @@ not_none seconds = if seconds == 0 then Err (broken LIMIT 0) else Ok seconds
 
 -- the days of a block, from one second to 32 days, in seconds
 abbrev pub block_length : Decimal → Result ℕ BrokenRule
-block_length days = days_by (seconds_within MOST_BLOCK_DAYS days) >>= not_none
+block_length days = days_by (seconds_within MAX_BLOCK_DAYS days) >>= not_none
 
 -- three decimals: the first and the last Julian date, and the days of a block, whose seconds are the answer
 abbrev pub span : List (List ℕ) → Result ℕ BrokenRule
@@ -66,7 +66,7 @@ span words = do
 
 abbrev pub name_count_of : Option ℕ → Result ℕ BrokenRule
 name_count_of None = Err (broken HEADER_NUMBER 1)
-name_count_of (Some n) = if nat_lt MOST_CONSTANTS n then Err (broken LIMIT 0) else Ok n
+name_count_of (Some n) = if nat_lt MAX_CONSTANTS n then Err (broken LIMIT 0) else Ok n
 
 -- the count of the names of constants
 abbrev pub name_count : List (List ℕ) → Result ℕ BrokenRule
@@ -93,7 +93,7 @@ value_count names emrat words = value_count_of names emrat (whole_at (slice_get 
 abbrev pub is_mass_ratio : Decimal → Bool
 is_mass_ratio d =
     int_lt (pos 0) d.mant
-    && (nat_le (LEAST_MASS_RATIO * size_under d) (size_over d) && nat_le (size_over d) (GREATEST_MASS_RATIO * size_under d))
+    && (nat_le (MIN_MASS_RATIO * size_under d) (size_over d) && nat_le (size_over d) (GREATEST_MASS_RATIO * size_under d))
 
 abbrev pub mass_ratio_of : Decimal → Result Decimal BrokenRule
 mass_ratio_of d = if is_mass_ratio d then Ok d else Err (broken EMRAT_RANGE 0)

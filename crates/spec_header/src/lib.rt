@@ -14,4 +14,4 @@ pub use examples::{
 };
 pub use facts::{BlockShape, Facts};
 pub use laws::accepted_headers_meet_the_rules;
-pub use limits::{MOST_BLOCK_DAYS, MOST_CONSTANTS};
+pub use limits::{MAX_BLOCK_DAYS, MAX_CONSTANTS};

@@ -2,7 +2,7 @@
 use Rattle.std.proofs.Common.{◌≡◌, ◌<◌, ◌≤◌, ℕ, None}
 use Rattle.spec_trees.specs.declared.cuts.CutRule.{CutRule}
 use Rattle.spec_ephemeris.specs.Ephemeris.{Ephemeris, IsEphemeris}
-use Rattle.spec_searches.specs.declared.limits.TheConstants.{MOST_WIDTH, MOST_DEPTH}
+use Rattle.spec_searches.specs.declared.limits.TheConstants.{MAX_WIDTH, MAX_DEPTH}
 use Rattle.spec_searches.specs.Search.{IsSearch}
 use Rattle.spec_kinds.specs.declared.ask.Ask.{Ask}
 use Rattle.spec_kinds.specs.Asks.{IsAsk}
@@ -11,7 +11,7 @@ use Rattle.spec_kinds.specs.Searches.{search_of}
 use Rattle.spec_kinds.proofs.Formulas.{event_formulas}
 use Rattle.spec_kinds.proofs.Served.{viewed}
 
-pub search_is : (e : Ephemeris) (ask : Ask) (width depth : ℕ) (cut : CutRule) → IsEphemeris e → 0 < e.blocks → IsAsk ask → fault_of e ask ≡ None → 0 < width → width ≤ MOST_WIDTH → depth ≤ MOST_DEPTH → IsSearch (search_of e ask width depth cut)
+pub search_is : (e : Ephemeris) (ask : Ask) (width depth : ℕ) (cut : CutRule) → IsEphemeris e → 0 < e.blocks → IsAsk ask → fault_of e ask ≡ None → 0 < width → width ≤ MAX_WIDTH → depth ≤ MAX_DEPTH → IsSearch (search_of e ask width depth cut)
 search_is e ask width depth cut checked block is none some wide deep = record {
   view = viewed e ask checked block none;
   formulas = event_formulas e ask is none;

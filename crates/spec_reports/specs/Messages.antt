@@ -3,7 +3,7 @@ use Rattle.std.specs.Prelude.{ℕ, ℤ, List, [], ◌++◌, Bool, true, false, c
 use Rattle.std.specs.Fmt.{decimal, signed_decimal}
 use Rattle.spec_text.specs.declared.decimals.Fault.{Fault}
 use Rattle.spec_faults.specs.Faults.{Kind, fault_kind}
-use Rattle.spec_reports.specs.declared.limits.TheConstants.{MOST_LEAVES}
+use Rattle.spec_reports.specs.declared.limits.TheConstants.{MAX_LEAVES}
 
 abbrev pub detail_text : Bool → ℕ → List ℕ
 detail_text false detail = []
@@ -62,7 +62,7 @@ event_text number = codes "finder: event: " ++ fault_text number 0 ++ codes "\n"
 
 -- the search has more leaves than it may have
 abbrev pub leaves_text : List ℕ
-leaves_text = codes "finder: more than " ++ decimal MOST_LEAVES ++ codes " leaves\n"
+leaves_text = codes "finder: more than " ++ decimal MAX_LEAVES ++ codes " leaves\n"
 
 abbrev pub write_text : List ℕ
 write_text = codes "finder: write fault\n"

@@ -9,4 +9,4 @@ pub use laws::{
     faults_are_named, texts_are_written, the_line_of_leaves, the_lines_of_events,
     the_lines_of_words,
 };
-pub use limits::MOST_LEAVES;
+pub use limits::MAX_LEAVES;

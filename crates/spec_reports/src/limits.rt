@@ -1,4 +1,4 @@
 // The limit of the leaves of a run.
 
 /// The most leaves of one search.
-pub const MOST_LEAVES: u32 = 33_554_432;
+pub const MAX_LEAVES: u32 = 33_554_432;

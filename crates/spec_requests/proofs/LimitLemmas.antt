@@ -21,7 +21,7 @@ use Rattle.spec_requests.specs.declared.tables.CommandName.{CommandName}
 use Rattle.spec_requests.specs.declared.tables.CommandName.TheVariants as command
 use Rattle.spec_requests.specs.declared.tables.Use.TheVariants.{Needed, Unused}
 use Rattle.spec_requests.specs.declared.tables.TheConstants.{FIND_OPTIONS}
-use Rattle.spec_requests.specs.declared.limits.TheConstants.{DEFAULT_WIDTH, DEFAULT_DEPTH, DEFAULT_WORKERS, MOST_DIGITS_OF_A_COUNT, MOST_WIDTH, MOST_DEPTH, MOST_WORKERS}
+use Rattle.spec_requests.specs.declared.limits.TheConstants.{DEFAULT_WIDTH, DEFAULT_DEPTH, DEFAULT_WORKERS, MAX_DIGITS_OF_A_COUNT, MAX_WIDTH, MAX_DEPTH, MAX_WORKERS}
 use Rattle.spec_requests.specs.Names.{Table, Text, axis_of, axes, command_of, kind_of, named, target_of, targets}
 use Rattle.spec_requests.specs.Options.{Values, are_digits, bad_option, depth_of, is_bad, number_of, use_of, width_of, workers_of}
 use Rattle.spec_requests.specs.Commands.{check_command, files_in, find_command, gen_command, is_refused, values_in}
@@ -143,21 +143,21 @@ search_is : (values : Values) (kind : Kind) (files : List Text) → bad_option v
     → IsWithinLimits (search_of values kind files)
 unfolding search_of
 search_is values kind files none =
-    let width = passes_or (lies_in 1 MOST_WIDTH) DEFAULT_WIDTH width_of (values opt.Width)
-    (numbers_are MOST_DIGITS_OF_A_COUNT 1 MOST_WIDTH) refl in
-    let depth = passes_or (lies_in 0 MOST_DEPTH) DEFAULT_DEPTH depth_of (values opt.Depth)
-    (numbers_are MOST_DIGITS_OF_A_COUNT 0 MOST_DEPTH) refl in
-    let workers = passes_or (lies_in 1 MOST_WORKERS) DEFAULT_WORKERS workers_of (values opt.Workers)
-    (numbers_are MOST_DIGITS_OF_A_COUNT 1 MOST_WORKERS) refl in
-    let some_width = lies_low 1 MOST_WIDTH (value_or width_of DEFAULT_WIDTH (values opt.Width)) width in
-    let most_width = lies_high 1 MOST_WIDTH (value_or width_of DEFAULT_WIDTH (values opt.Width)) width in
+    let width = passes_or (lies_in 1 MAX_WIDTH) DEFAULT_WIDTH width_of (values opt.Width)
+    (numbers_are MAX_DIGITS_OF_A_COUNT 1 MAX_WIDTH) refl in
+    let depth = passes_or (lies_in 0 MAX_DEPTH) DEFAULT_DEPTH depth_of (values opt.Depth)
+    (numbers_are MAX_DIGITS_OF_A_COUNT 0 MAX_DEPTH) refl in
+    let workers = passes_or (lies_in 1 MAX_WORKERS) DEFAULT_WORKERS workers_of (values opt.Workers)
+    (numbers_are MAX_DIGITS_OF_A_COUNT 1 MAX_WORKERS) refl in
+    let some_width = lies_low 1 MAX_WIDTH (value_or width_of DEFAULT_WIDTH (values opt.Width)) width in
+    let most_width = lies_high 1 MAX_WIDTH (value_or width_of DEFAULT_WIDTH (values opt.Width)) width in
     record {
       ask = ask_is values kind none;
       some_width = omega (arith, ints);
       width = omega (arith, ints);
-      depth = lies_high 0 MOST_DEPTH (value_or depth_of DEFAULT_DEPTH (values opt.Depth)) depth;
-      some_workers = lies_low 1 MOST_WORKERS (value_or workers_of DEFAULT_WORKERS (values opt.Workers)) workers;
-      workers = lies_high 1 MOST_WORKERS (value_or workers_of DEFAULT_WORKERS (values opt.Workers)) workers;
+      depth = lies_high 0 MAX_DEPTH (value_or depth_of DEFAULT_DEPTH (values opt.Depth)) depth;
+      some_workers = lies_low 1 MAX_WORKERS (value_or workers_of DEFAULT_WORKERS (values opt.Workers)) workers;
+      workers = lies_high 1 MAX_WORKERS (value_or workers_of DEFAULT_WORKERS (values opt.Workers)) workers;
     }
 
 -- ---- from a request back to its options

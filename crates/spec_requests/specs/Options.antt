@@ -15,7 +15,7 @@ use Rattle.spec_requests.specs.declared.request.Named.TheVariants as opt
 use Rattle.spec_requests.specs.declared.tables.Use.{Use}
 use Rattle.spec_requests.specs.declared.tables.Use.TheVariants.{Needed, Optional, Unused}
 use Rattle.spec_requests.specs.declared.tables.TheConstants.{FIND_OPTIONS}
-use Rattle.spec_requests.specs.declared.limits.TheConstants.{MOST_DIGITS_OF_A_COUNT, MOST_WIDTH, MOST_DEPTH, MOST_WORKERS, MOST_DIGITS_OF_BLOCKS, MOST_GENERATED_BLOCKS, MOST_DIGITS_OF_A_SEED, MOST_SEED}
+use Rattle.spec_requests.specs.declared.limits.TheConstants.{MAX_DIGITS_OF_A_COUNT, MAX_WIDTH, MAX_DEPTH, MAX_WORKERS, MAX_DIGITS_OF_BLOCKS, MAX_GENERATED_BLOCKS, MAX_DIGITS_OF_A_SEED, MAX_SEED}
 use Rattle.spec_requests.specs.Names.{Text, kind_of, target_of, observer_of, frame_of, axis_of, dir_of, cut_of, layout_of}
 
 -- ---- forms
@@ -31,19 +31,19 @@ number_of digits least most word =
     then Some (digits_value 10 word) else None
 
 abbrev pub width_of : Text → Option ℕ
-width_of = number_of MOST_DIGITS_OF_A_COUNT 1 MOST_WIDTH
+width_of = number_of MAX_DIGITS_OF_A_COUNT 1 MAX_WIDTH
 
 abbrev pub depth_of : Text → Option ℕ
-depth_of = number_of MOST_DIGITS_OF_A_COUNT 0 MOST_DEPTH
+depth_of = number_of MAX_DIGITS_OF_A_COUNT 0 MAX_DEPTH
 
 abbrev pub workers_of : Text → Option ℕ
-workers_of = number_of MOST_DIGITS_OF_A_COUNT 1 MOST_WORKERS
+workers_of = number_of MAX_DIGITS_OF_A_COUNT 1 MAX_WORKERS
 
 abbrev pub blocks_of : Text → Option ℕ
-blocks_of = number_of MOST_DIGITS_OF_BLOCKS 1 MOST_GENERATED_BLOCKS
+blocks_of = number_of MAX_DIGITS_OF_BLOCKS 1 MAX_GENERATED_BLOCKS
 
 abbrev pub seed_of : Text → Option ℕ
-seed_of = number_of MOST_DIGITS_OF_A_SEED 0 MOST_SEED
+seed_of = number_of MAX_DIGITS_OF_A_SEED 0 MAX_SEED
 
 unfoldable pub decimal_of : Text → Option Decimal
 decimal_of word = result_ok (reading word)

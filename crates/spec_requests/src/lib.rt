@@ -12,9 +12,9 @@ mod text;
 
 pub use laws::{names_are_read_back, searches_keep_to_limits};
 pub use limits::{
-    DEFAULT_DEPTH, DEFAULT_WIDTH, DEFAULT_WORKERS, MOST_DEPTH, MOST_DIGITS_OF_A_COUNT,
-    MOST_DIGITS_OF_A_SEED, MOST_DIGITS_OF_BLOCKS, MOST_GENERATED_BLOCKS, MOST_SEED, MOST_WIDTH,
-    MOST_WORKERS,
+    DEFAULT_DEPTH, DEFAULT_WIDTH, DEFAULT_WORKERS, MAX_DEPTH, MAX_DIGITS_OF_A_COUNT,
+    MAX_DIGITS_OF_A_SEED, MAX_DIGITS_OF_BLOCKS, MAX_GENERATED_BLOCKS, MAX_SEED, MAX_WIDTH,
+    MAX_WORKERS,
 };
 pub use names::{axis_name, body_name, cut_name, dir_name, frame_name, kind_name, option_name};
 pub use request::{FindAsk, Named, Request, WordFault};

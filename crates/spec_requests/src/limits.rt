@@ -1,28 +1,28 @@
 // The limits of numbers in words.
 
 /// The most digits of a number that is a width, a depth or a count of workers.
-pub const MOST_DIGITS_OF_A_COUNT: usize = 7;
+pub const MAX_DIGITS_OF_A_COUNT: usize = 7;
 
 /// The widest window of one event that a search may be asked for, in seconds. The narrowest is 1.
-pub const MOST_WIDTH: u64 = spec_searches::MOST_WIDTH as u64;
+pub const MAX_WIDTH: u64 = spec_searches::MAX_WIDTH as u64;
 
 /// The most cuts of a node that a search may be asked for.
-pub const MOST_DEPTH: u64 = spec_searches::MOST_DEPTH as u64;
+pub const MAX_DEPTH: u64 = spec_searches::MAX_DEPTH as u64;
 
 /// The most workers of a search. There is at least one.
-pub const MOST_WORKERS: u64 = 64;
+pub const MAX_WORKERS: u64 = 64;
 
 /// The most digits of a number of blocks.
-pub const MOST_DIGITS_OF_BLOCKS: usize = 2;
+pub const MAX_DIGITS_OF_BLOCKS: usize = 2;
 
 /// The most blocks of a generated text. There is at least one.
-pub const MOST_GENERATED_BLOCKS: u64 = spec_generated::MOST_GENERATED as u64;
+pub const MAX_GENERATED_BLOCKS: u64 = spec_generated::MAX_GENERATED as u64;
 
 /// The most digits of a seed.
-pub const MOST_DIGITS_OF_A_SEED: usize = 20;
+pub const MAX_DIGITS_OF_A_SEED: usize = 20;
 
 /// The greatest seed: the greatest number of 64 bits.
-pub const MOST_SEED: u64 = u64::MAX;
+pub const MAX_SEED: u64 = u64::MAX;
 
 /// The width of a search that is asked for none, in seconds.
 pub const DEFAULT_WIDTH: u32 = 1;

@@ -13,7 +13,7 @@ use Rattle.spec_trees.specs.declared.tree.Verdict.{Verdict}
 use Rattle.spec_trees.specs.Cuts.{cut_of, is_wide}
 use Rattle.spec_events.specs.Verdict.{Criteria, verdict}
 use Rattle.spec_events.specs.Soundness.{GuardEvidence, Evidence, findings_of}
-use Rattle.spec_searches.specs.declared.limits.TheConstants.{MOST_WIDTH, MOST_DEPTH}
+use Rattle.spec_searches.specs.declared.limits.TheConstants.{MAX_WIDTH, MAX_DEPTH}
 use Rattle.spec_searches.specs.Event.{Condition, Event, AreFormulas, guard_of, events_by}
 
 -- an event of the two targets of a view, the width and the depth down to which nodes are split, and the rule of the cuts
@@ -28,8 +28,8 @@ pub record IsSearch (s : Search) : Type 0 where
   pub view : IsView s.view
   pub formulas : AreFormulas s.event
   pub some_width : 0 < s.width
-  pub width : s.width ≤ MOST_WIDTH
-  pub depth : s.depth ≤ MOST_DEPTH
+  pub width : s.width ≤ MAX_WIDTH
+  pub depth : s.depth ≤ MAX_DEPTH
 
 abbrev pub criteria : Search → Criteria
 criteria s = record { dir = s.event.dir; width = s.width; depth = s.depth }

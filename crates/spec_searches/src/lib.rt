@@ -7,4 +7,4 @@ pub mod examples;
 pub mod laws;
 mod limits;
 
-pub use limits::{MOST_DEPTH, MOST_WIDTH};
+pub use limits::{MAX_DEPTH, MAX_WIDTH};

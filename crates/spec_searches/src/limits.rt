@@ -1,7 +1,7 @@
 // The limits of a search.
 
 /// The greatest width, in seconds, down to which nodes are split. The least is 1.
-pub const MOST_WIDTH: u32 = 1_000_000;
+pub const MAX_WIDTH: u32 = 1_000_000;
 
 /// The greatest depth down to which nodes are split. The root has depth 0.
-pub const MOST_DEPTH: u32 = 40;
+pub const MAX_DEPTH: u32 = 40;

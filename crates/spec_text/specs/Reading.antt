@@ -5,7 +5,7 @@ use Rattle.std.specs.List.{list_all}
 use Rattle.spec_text.specs.declared.decimals.Decimal.{Decimal}
 use Rattle.spec_text.specs.declared.decimals.NumberFault.{NumberFault}
 use Rattle.spec_text.specs.declared.decimals.NumberFault.TheVariants.{NotNumber, TooManyDigits, ExponentRange}
-use Rattle.spec_text.specs.declared.limits.TheConstants.{MOST_WORD_BYTES, MOST_DIGITS, MOST_EXPONENT, MOST_WHOLE_DIGITS}
+use Rattle.spec_text.specs.declared.limits.TheConstants.{MAX_WORD_BYTES, MAX_DIGITS, MAX_EXPONENT, MAX_WHOLE_DIGITS}
 use Rattle.spec_text.specs.Decimals.{Sign, minus, Exponent, Numeral, Spells, after_point, digits, exponent_size, significant, value}
 use Rattle.spec_text.specs.Splitting.{numeral_of}
 
@@ -27,25 +27,25 @@ decimal_of n =
 -- a numeral of at most 18 digits from the first that isn't 0
 pub record SpellsShort (word : List ℕ) (n : Numeral) : Type 0 where
   pub spells : Spells word n
-  pub few : length (significant (digits n)) ≤ MOST_DIGITS
+  pub few : length (significant (digits n)) ≤ MAX_DIGITS
 
 -- the answer for a word: its value, or the first fault that applies
 abbrev pub Reads : List ℕ → Result Decimal NumberFault → Type 0
-Reads word (Ok d) = (n : Numeral) × SpellsShort word n × (exponent_size n.exponent ≤ MOST_EXPONENT) × (d ≡ decimal_of n)
+Reads word (Ok d) = (n : Numeral) × SpellsShort word n × (exponent_size n.exponent ≤ MAX_EXPONENT) × (d ≡ decimal_of n)
 Reads word (Err NotNumber) = (n : Numeral) → Spells word n → ⊥
-Reads word (Err TooManyDigits) = (n : Numeral) × Spells word n × (MOST_DIGITS < length (significant (digits n)))
-Reads word (Err ExponentRange) = (n : Numeral) × SpellsShort word n × (MOST_EXPONENT < exponent_size n.exponent)
+Reads word (Err TooManyDigits) = (n : Numeral) × Spells word n × (MAX_DIGITS < length (significant (digits n)))
+Reads word (Err ExponentRange) = (n : Numeral) × SpellsShort word n × (MAX_EXPONENT < exponent_size n.exponent)
 
 abbrev pub reading_of : Option Numeral → Result Decimal NumberFault
 reading_of None = Err NotNumber
 reading_of (Some n) =
-    if nat_lt MOST_DIGITS (length (significant (digits n))) then Err TooManyDigits
-    else if nat_lt MOST_EXPONENT (exponent_size n.exponent) then Err ExponentRange
+    if nat_lt MAX_DIGITS (length (significant (digits n))) then Err TooManyDigits
+    else if nat_lt MAX_EXPONENT (exponent_size n.exponent) then Err ExponentRange
     else Ok (decimal_of n)
 
 -- the answer for a word, as a function that computes
 abbrev pub reading : List ℕ → Result Decimal NumberFault
-reading word = if nat_lt MOST_WORD_BYTES (length word) then Err NotNumber else reading_of (numeral_of word)
+reading word = if nat_lt MAX_WORD_BYTES (length word) then Err NotNumber else reading_of (numeral_of word)
 
 -- a decimal within the bounds that every word keeps
 pub record IsWithinBounds (d : Decimal) : Type 0 where
@@ -63,7 +63,7 @@ fault_number ExponentRange = 3
 -- the whole number that a word of 1 to 9 digits is
 abbrev pub whole_of : List ℕ → Option ℕ
 whole_of word =
-    if list_all is_ascii_digit word && (nat_lt 0 (length word) && nat_le (length word) MOST_WHOLE_DIGITS) then Some (value word)
+    if list_all is_ascii_digit word && (nat_lt 0 (length word) && nat_le (length word) MAX_WHOLE_DIGITS) then Some (value word)
     else None
 
 -- the whole number at a place of a line, if one stands there

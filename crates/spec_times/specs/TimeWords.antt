@@ -9,12 +9,12 @@ use Rattle.spec_times.specs.Calendar.{is_between, is_calendar_time, time_of_cale
 use Rattle.spec_times.specs.declared.calendar.CalendarTime.{CalendarTime}
 use Rattle.spec_times.specs.declared.faults.TimeFault.{TimeFault}
 use Rattle.spec_times.specs.declared.faults.TimeFault.TheVariants.{NotTime, OutOfRange}
-use Rattle.spec_times.specs.declared.limits.TheConstants.{FIRST_YEAR, LAST_YEAR, MOST_TIME_DIGITS}
+use Rattle.spec_times.specs.declared.limits.TheConstants.{FIRST_YEAR, LAST_YEAR, MAX_TIME_DIGITS}
 
 -- ---- the whole-number form: perhaps a minus sign, and 1 to 12 digits
 
 abbrev pub are_time_digits : List ℕ → Bool
-are_time_digits word = list_all is_ascii_digit word && is_between 1 MOST_TIME_DIGITS (length word)
+are_time_digits word = list_all is_ascii_digit word && is_between 1 MAX_TIME_DIGITS (length word)
 
 abbrev pub whole_of : List ℕ → Option ℤ
 whole_of word = if are_time_digits word then Some (pos (value word)) else None

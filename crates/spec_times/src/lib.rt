@@ -16,4 +16,4 @@ pub use calendar::CalendarTime;
 pub use examples::{dates_must_exist, times_have_texts, whole_numbers_are_times};
 pub use faults::TimeFault;
 pub use laws::{calendar_texts_are_read, days_have_one_date, times_are_read_back, words_of_a_time};
-pub use limits::{FIRST_YEAR, HALF_DAY, J2000_DAY, LAST_YEAR, MOST_TIME_DIGITS};
+pub use limits::{FIRST_YEAR, HALF_DAY, J2000_DAY, LAST_YEAR, MAX_TIME_DIGITS};

@@ -13,4 +13,4 @@ pub const FIRST_YEAR: i64 = -9_999;
 pub const LAST_YEAR: i64 = 9_999;
 
 /// The most digits of a time that is written as a whole number.
-pub const MOST_TIME_DIGITS: usize = 12;
+pub const MAX_TIME_DIGITS: usize = 12;

@@ -8,7 +8,7 @@ ghost use Rattle.spec_times.specs.TimeWords.{are_time_digits, fits, has_form, ne
 
 use crate::showing::time_shown;
 use spec_ephemeris::{FIRST_TIME, LAST_TIME};
-use spec_times::{MOST_TIME_DIGITS, TimeFault};
+use spec_times::{MAX_TIME_DIGITS, TimeFault};
 
 /// The time that a word stands for, in seconds of TDB since J2000: a whole number, which is an optional `-` and 1 to 12
 /// digits, or a calendar text `YYYY-MM-DDTHH:MM:SS`, in which a year below 0 has a `-` and six digits. `NotTime` where
@@ -68,7 +68,7 @@ fn negated_of(digits: &[u8]) -> Option<i64>
 fn are_time_digits(word: &[u8]) -> bool
     ensures { result ≡ are_time_digits word.now }
 {
-    are_digits(word) && is_between(1, MOST_TIME_DIGITS as u64, word.len() as u64)
+    are_digits(word) && is_between(1, MAX_TIME_DIGITS as u64, word.len() as u64)
 }
 
 fn are_digits(word: &[u8]) -> bool

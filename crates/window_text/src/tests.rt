@@ -7,7 +7,7 @@ ghost use Rattle.spec_texts.specs.Report.{HasTimes};
 use crate::*;
 use eph_model::Ephemeris;
 use spec_bodies::Frame;
-use spec_ephemeris::{Body, Column, Columns, FIRST_TIME, Header, LAST_TIME, MOST_BLOCKS};
+use spec_ephemeris::{Body, Column, Columns, FIRST_TIME, Header, LAST_TIME, MAX_BLOCKS};
 use spec_events::Dir;
 use spec_kinds::{Ask, Kind};
 use spec_requests::{FileNames, Text};
@@ -274,7 +274,7 @@ fn zeros(alloc: Global) -> Result<Vec<Decimal>, AllocError>
 fn push_zeros(rt: &impl Abort, alloc: Global, ephemeris: &mut Ephemeris) -> Result<(), Fail> {
     let numbers = zeros(alloc)?;
     assert!(rt; numbers.len() == ephemeris.header().ncoeff as usize);
-    assert!(rt; ephemeris.blocks() < MOST_BLOCKS);
+    assert!(rt; ephemeris.blocks() < MAX_BLOCKS);
     ephemeris.push_block(&numbers)?;
     Ok(())
 }

@@ -6,11 +6,11 @@ use Rattle.de_text.proofs.decimal.assemble.Goals as goal
 pub returns-then-parts-ge-CAP : goal.returns-then-parts-ge-CAP
 returns-then-parts-ge-CAP c = λ n are shows. read_many n _ are shows c.if-parts-ge-CAP.true
 
-pub returns-then-parts-gt-MOST_EXPONENT : goal.returns-then-parts-gt-MOST_EXPONENT
-returns-then-parts-gt-MOST_EXPONENT c = λ n are shows. read_far n _ are shows c.if-parts-ge-CAP.false c.if-parts-gt-MOST_EXPONENT.true
+pub returns-then-parts-gt-MAX_EXPONENT : goal.returns-then-parts-gt-MAX_EXPONENT
+returns-then-parts-gt-MAX_EXPONENT c = λ n are shows. read_far n _ are shows c.if-parts-ge-CAP.false c.if-parts-gt-MAX_EXPONENT.true
 
 pub returns-then-parts-eq0 : goal.returns-then-parts-eq0
-returns-then-parts-eq0 c = λ n are shows. read_zero n _ are shows c.if-parts-ge-CAP.false c.if-parts-gt-MOST_EXPONENT.false c.if-parts-eq0.true
+returns-then-parts-eq0 c = λ n are shows. read_zero n _ are shows c.if-parts-ge-CAP.false c.if-parts-gt-MAX_EXPONENT.false c.if-parts-eq0.true
 
 pub returns : goal.returns
 returns c =
@@ -19,5 +19,5 @@ returns c =
     let exp : to_z w16 (of_z w16 (to_z w64 (of_z w64 (to_z w64 (of_z w64 c.signed.result) -ℤ to_z w64 places)))) ≡ c.signed.result -ℤ pos places =
     omega (arith, ints, c.signed.ensures.low, c.signed.ensures.high, c.requires.places) in
     λ n are shows.
-    read_some n _ are shows c.if-parts-ge-CAP.false c.if-parts-gt-MOST_EXPONENT.false _ _ c.if-parts-eq0.false (mant ∙ c.signed-mant.ensures.value)
+    read_some n _ are shows c.if-parts-ge-CAP.false c.if-parts-gt-MAX_EXPONENT.false _ _ c.if-parts-eq0.false (mant ∙ c.signed-mant.ensures.value)
     (exp ∙ ap (λ (z : ℤ). z -ℤ pos places) c.signed.ensures.value)

@@ -12,7 +12,7 @@ use Rattle.gf_files.proofs.files.read_files.Goals as goal
 pub returns-in-Ok-clause-accepted : goal.returns-in-Ok-clause-accepted
 returns-in-Ok-clause-accepted g c =
     let many = length-map c.args.names.now string_bytes in
-    let few : length (texts_of c.args.names.now) ≤ 64 = omega (arith, many, c.if-names-gt-MOST_FILES.false) in
+    let few : length (texts_of c.args.names.now) ≤ 64 = omega (arith, many, c.if-names-gt-MAX_FILES.false) in
     accepted_at_end _ _ c.in_ok-fed.fed.reader c.in_ok-fed.fed.end_line c.in-Ok.ephemeris few c.in_ok-fed.ensures.fed c.in-Ok.ensures
 
 pub returns-in-Err-clause-fault : goal.returns-in-Err-clause-fault
@@ -21,7 +21,7 @@ returns-in-Err-clause-fault g c = λ file fault is.
     let which : in_file last c.in-Err.error ≡ all.Fault file fault = cc (is, c.in_file.ensures) in
     let of = fault_of_file last file c.in-Err.error fault which in
     let many = length-map c.args.names.now string_bytes in
-    let few : length (texts_of c.args.names.now) ≤ 64 = omega (arith, many, c.if-names-gt-MOST_FILES.false) in
+    let few : length (texts_of c.args.names.now) ≤ 64 = omega (arith, many, c.if-names-gt-MAX_FILES.false) in
     let place : file + 1 ≡ length (texts_of c.args.names.now) = omega (arith, of.0, many, c.requires) in
     let after = ephemeris_after 0 c.in_ok-fed.fed.reader [] in
     inr

@@ -4,7 +4,7 @@ use Rattle.spec_trees.specs.Tree.{IsValid, leaf_count, leaves}
 use Rattle.spec_trees.specs.Windows.{windows}
 use Rattle.spec_searches.specs.Search.{Search}
 use Rattle.spec_searches.specs.Found.{rules}
-use Rattle.spec_reports.specs.declared.limits.TheConstants.{MOST_LEAVES}
+use Rattle.spec_reports.specs.declared.limits.TheConstants.{MAX_LEAVES}
 use Rattle.gf_find.specs.Queries.{search}
 use Rattle.gf_find.proofs.Searching.{leaves_stop, root_valid, windows_found}
 use Rattle.gf_find.proofs.search.search.Goals as goal
@@ -24,11 +24,11 @@ returns-in-Ok-windows_by-clause-found g c =
     windows_found c.args.query.now c.args.ephemeris.now c.args.span c.root_of-root.ensures.checked c.requires.block c.requires.query c.requires.within c.in_ok-event.ensures.accepted
     c.in-Ok-windows_by.windows.items
     (c.in-Ok-windows_by.ensures.windows ∙ (λ i. windows (leaves (rules (is i)) (whole i))))
-    (subst (λ (n : ℕ). n ≤ MOST_LEAVES) (λ i. leaf_count (rules (is i)) (whole i)) c.in-Ok-windows_by.ensures.few)
+    (subst (λ (n : ℕ). n ≤ MAX_LEAVES) (λ i. leaf_count (rules (is i)) (whole i)) c.in-Ok-windows_by.ensures.few)
 
 pub returns-in-Err-TooMany-clause-stopped : goal.returns-in-Err-TooMany-clause-stopped
 returns-in-Err-TooMany-clause-stopped g c =
     let is = c.judge_of-judge.ensures in
     let whole = c.root_of-root.ensures.root in
     inr (leaves_stop c.args.query.now c.args.ephemeris.now c.args.span c.root_of-root.ensures.checked c.requires.block c.requires.query c.requires.within c.in_ok-event.ensures.accepted
-    (subst (λ (n : ℕ). MOST_LEAVES < n) (λ i. leaf_count (rules (is i)) (whole i)) (c.in-Err-TooMany.ensures.too_many (λ i. Err (c.in-Err-TooMany.field-0-is i)))))
+    (subst (λ (n : ℕ). MAX_LEAVES < n) (λ i. leaf_count (rules (is i)) (whole i)) (c.in-Err-TooMany.ensures.too_many (λ i. Err (c.in-Err-TooMany.field-0-is i)))))

@@ -3,14 +3,12 @@
 #![tactic(auto)]
 
 use gf_edges::{FileShelf, OpenGate, Sink, StdSink};
-use gf_find::finder;
+use gf_find::{OUT_OF_MEMORY, finder};
 use std::alloc::AllocError;
 use std::env;
 use std::io::ErrorKind;
 use std::process::ExitCode;
 use std::rt::Stderr;
-
-const OUT_OF_MEMORY: u8 = 8;
 
 /// The words of the command line, without the program's name. A word that isn't UTF-8 is in no request, so there are no
 /// words then, and the call refuses that list as it would refuse them.
@@ -28,8 +26,8 @@ fn words(rt: &HostRuntime) -> Result<Vec<String>, AllocError> {
     Ok(words)
 }
 
-/// Tells that there is no memory for the words.
-fn tell_want_of_memory(err: &mut StdSink<Stderr>) -> u8 {
+/// Reports that there is no memory for the words, and returns the status.
+fn report_out_of_memory(err: &mut StdSink<Stderr>) -> u8 {
     let _ = err.write(b"finder: out of memory\n");
     OUT_OF_MEMORY
 }
@@ -48,7 +46,7 @@ fn main(rt: HostRuntime) -> ExitCode {
             &mut err,
             &OpenGate,
         ),
-        Err(AllocError) => tell_want_of_memory(&mut err),
+        Err(AllocError) => report_out_of_memory(&mut err),
     };
     ExitCode::from(status)
 }

@@ -1,6 +1,6 @@
--- From the text that a run has, or from the cause why it has none, to what it writes and answers.
+-- From the text that a run has, or from the cause why it has none, to what it writes and returns.
 use Rattle.std.proofs.Common.{◌≡◌, ◌⊎◌, ℕ, List, Option, Result, Ok, Err, sym, ap, ◌∙◌, subst, arith, inl, inr}
-use Rattle.std.specs.Prelude.{IfErr, IsSome}
+use Rattle.std.specs.Prelude.{IfErr, IfOk}
 use Rattle.std.specs.Io.KnownBytes.{Appends}
 use Rattle.spec_requests.specs.declared.request.FindAsk.{FindAsk}
 use Rattle.spec_requests.specs.declared.request.Request.{Request}
@@ -10,34 +10,36 @@ use Rattle.gf_edges.specs.Edges.{Files, Rose}
 use Rattle.gf_find.specs.declared.refusal.Refusal.{Refusal}
 use Rattle.gf_find.specs.declared.refusal.Refusal.TheVariants as R
 use Rattle.gf_find.specs.declared.statuses.TheConstants.{NOT_WRITTEN, OUT_OF_MEMORY, REPORTED}
-use Rattle.gf_find.specs.Outcomes.{Ask, ComesTo, HaveCause, HaveOutcome, HoldEphemeris, Words, texts_of}
+use Rattle.gf_find.specs.Outcomes.{Ask, RequestHasOutcome, HaveCause, HaveOutcome, HoldEphemeris, Outcome, Words, texts_of}
 use Rattle.gf_find.specs.Refusals.{status_of}
-use Rattle.gf_find.specs.Reported.{ReportsEvents, ReportsGeneration, ReportsSummary}
+use Rattle.gf_find.specs.Reported.{KnowsFiles, ReportsEvents, ReportsGeneration, ReportsSummary}
 use Rattle.gf_find.specs.Texts.{IsAnswer, IsAnswered}
-use Rattle.gf_find.proofs.Causes.{known_once}
+use Rattle.gf_find.proofs.Causes.{one_outcome_by}
 
 pub err_also : {X E : Type 0} (P Q : E → Type 0) (r : Result X E) → ((e : E) → P e → Q e) → IfErr r P → IfErr r Q
 err_also P Q (Ok x) also holds = tt
 err_also P Q (Err e) also holds = also e holds
 
 -- ---- statuses
+pub ok_also : {X E : Type 0} (P Q R : X → Type 0) (r : Result X E) → ((x : X) → P x → Q x → R x) → IfOk r P → IfOk r Q → IfOk r R
+ok_also P Q R (Ok x) also first second = also x first second
+ok_also P Q R (Err e) also first second = tt
+
+-- no cause has the status of a text
+differ_from_texts : (r : Refusal) → (status_of r ≡ REPORTED → ⊥) × (status_of r ≡ NOT_WRITTEN → ⊥)
+differ_from_texts (R.Words number option) = (λ is. absurd (omega (arith, is)), λ is. absurd (omega (arith, is)))
+differ_from_texts (R.File name fault) = (λ is. absurd (omega (arith, is)), λ is. absurd (omega (arith, is)))
+differ_from_texts (R.NotRead name) = (λ is. absurd (omega (arith, is)), λ is. absurd (omega (arith, is)))
+differ_from_texts (R.Outside span whole) = (λ is. absurd (omega (arith, is)), λ is. absurd (omega (arith, is)))
+differ_from_texts (R.Event fault) = (λ is. absurd (omega (arith, is)), λ is. absurd (omega (arith, is)))
+differ_from_texts R.TooManyLeaves = (λ is. absurd (omega (arith, is)), λ is. absurd (omega (arith, is)))
+differ_from_texts R.Memory = (λ is. absurd (omega (arith, is)), λ is. absurd (omega (arith, is)))
+
 pub not_reported : (r : Refusal) → status_of r ≡ REPORTED → ⊥
-not_reported (R.Words number option) is = absurd (omega (arith, is))
-not_reported (R.File name fault) is = absurd (omega (arith, is))
-not_reported (R.NotRead name) is = absurd (omega (arith, is))
-not_reported (R.Outside span whole) is = absurd (omega (arith, is))
-not_reported (R.Event fault) is = absurd (omega (arith, is))
-not_reported R.TooManyLeaves is = absurd (omega (arith, is))
-not_reported R.Memory is = absurd (omega (arith, is))
+not_reported r = (differ_from_texts r).0
 
 pub not_unwritten : (r : Refusal) → status_of r ≡ NOT_WRITTEN → ⊥
-not_unwritten (R.Words number option) is = absurd (omega (arith, is))
-not_unwritten (R.File name fault) is = absurd (omega (arith, is))
-not_unwritten (R.NotRead name) is = absurd (omega (arith, is))
-not_unwritten (R.Outside span whole) is = absurd (omega (arith, is))
-not_unwritten (R.Event fault) is = absurd (omega (arith, is))
-not_unwritten R.TooManyLeaves is = absurd (omega (arith, is))
-not_unwritten R.Memory is = absurd (omega (arith, is))
+not_unwritten r = (differ_from_texts r).1
 
 -- ---- a text
 module _ (words : Words) (files : Option Files) (text : List ℕ) (answered : IsAnswered words files text) where
@@ -66,24 +68,30 @@ module _ (words : Words) (files : Option Files) (text : List ℕ) (answered : Is
         let is = asked_for (Gen blocks seed workers) asked in
         record { printed = subst P is.printed gained; windows = is.windows }
 
-  pub comes_to : (count now : ℕ) → HaveOutcome words files count now (Ok text)
-  comes_to count now =
-      subst (λ asked. ComesTo asked files count now (Ok text)) (sym answered.asked) (by answered.request answered.answer)
+  pub outcome_is : (count now : ℕ) → HaveOutcome words files count now (Ok text)
+  outcome_is count now =
+      subst (λ asked. RequestHasOutcome asked files count now (Ok text)) (sym answered.asked) (by answered.request answered.answer)
     where
-      by : (request : Request) → IsAnswer request files text → ComesTo (Ok request) files count now (Ok text)
-      by (Find find) held = inl (record { ephemeris = held.ephemeris; held = held.held; is = held.is.comes })
+      by : (request : Request) → IsAnswer request files text → RequestHasOutcome (Ok request) files count now (Ok text)
+      by (Find find) held = inl (record { ephemeris = held.ephemeris; held = held.held; is = held.is.outcome })
       by (Check names) held = inl (record { ephemeris = held.ephemeris; held = held.held; is = ap (λ (t : List ℕ). Ok t) (sym held.is) })
-      by (Gen blocks seed workers) is = sym is.comes
+      by (Gen blocks seed workers) is = sym is.outcome
+
+abbrev refused : Refusal → Outcome
+refused r = Err r
 
 -- ---- statuses that are wanted
-module _ (words : Words) (files : Option Files) (count now : ℕ) (known : IsSome files) where
+module _ (words : Words) (files : Option Files) (count now : ℕ) (known : KnowsFiles words files) where
+  pub one_outcome : (outcome other : Outcome) → HaveOutcome words files count now outcome → HaveOutcome words files count now other → Rose count now ⊎ (outcome ≡ other)
+  one_outcome outcome other one two = one_outcome_by files count now (request_of (texts_of words)) outcome other known one two
+
   -- a run that has a text isn't refused, unless the shelf failed
   pub text_not_refused : (text : List ℕ) (r : Refusal) → HaveOutcome words files count now (Ok text) → HaveOutcome words files count now (Err r) → Rose count now
-  text_not_refused text r is other = by (known_once files count now (request_of (texts_of words)) (Ok text) (Err r) known is other)
+  text_not_refused text r is other = by (one_outcome (Ok text) (Err r) is other)
     where
-      by : Rose count now ⊎ (REPORTED ≡ status_of r) → Rose count now
+      by : Rose count now ⊎ (Ok text ≡ Err r) → Rose count now
       by (inl rose) = rose
-      by (inr same) = absurd (not_reported r (sym same))
+      by (inr same) = absurd (cc)
 
   module _ (status : ℕ) (cause refusal : Refusal) (from : (cause ≡ refusal) ⊎ (cause ≡ R.Memory)) (is : status ≡ status_of cause) (has : HaveCause words files count now refusal) where
     memory : cause ≡ R.Memory → status ≡ OUT_OF_MEMORY
@@ -92,14 +100,14 @@ module _ (words : Words) (files : Option Files) (count now : ℕ) (known : IsSom
     pub refused_exactly : (wanted : Refusal) → HaveOutcome words files count now (Err wanted) → (status ≡ status_of wanted) ⊎ ((status ≡ OUT_OF_MEMORY) ⊎ Rose count now)
     refused_exactly wanted other = by from has
       where
-        by_once : (cause ≡ refusal) → Rose count now ⊎ (status_of refusal ≡ status_of wanted) → (status ≡ status_of wanted) ⊎ ((status ≡ OUT_OF_MEMORY) ⊎ Rose count now)
+        by_once : (cause ≡ refusal) → Rose count now ⊎ (refused refusal ≡ refused wanted) → (status ≡ status_of wanted) ⊎ ((status ≡ OUT_OF_MEMORY) ⊎ Rose count now)
         by_once same (inl rose) = inr (inr rose)
-        by_once same (inr one) = inl (is ∙ ap status_of same ∙ one)
+        by_once same (inr one) = let one : refusal ≡ wanted = cc in inl (is ∙ ap status_of (same ∙ one))
 
         by : (cause ≡ refusal) ⊎ (cause ≡ R.Memory) → HaveCause words files count now refusal → (status ≡ status_of wanted) ⊎ ((status ≡ OUT_OF_MEMORY) ⊎ Rose count now)
         by (inr same) has = inr (inl (memory same))
         by (inl same) (inl none) = inr (inl (memory (same ∙ none)))
-        by (inl same) (inr comes) = by_once same (known_once files count now (request_of (texts_of words)) (Err refusal) (Err wanted) known comes other)
+        by (inl same) (inr has_outcome) = by_once same (one_outcome (Err refusal) (Err wanted) has_outcome other)
 
     pub refused_only : (text : List ℕ) → HaveOutcome words files count now (Ok text) → (status ≡ OUT_OF_MEMORY) ⊎ Rose count now
     refused_only text other = by from has
@@ -107,7 +115,7 @@ module _ (words : Words) (files : Option Files) (count now : ℕ) (known : IsSom
         by : (cause ≡ refusal) ⊎ (cause ≡ R.Memory) → HaveCause words files count now refusal → (status ≡ OUT_OF_MEMORY) ⊎ Rose count now
         by (inr same) has = inl (memory same)
         by (inl same) (inl none) = inl (memory (same ∙ none))
-        by (inl same) (inr comes) = inr (text_not_refused text refusal other comes)
+        by (inl same) (inr has_outcome) = inr (text_not_refused text refusal other has_outcome)
 
 -- the cause that is written
 pub cause_is : (words : Words) (files : Option Files) (count now : ℕ) (cause refusal : Refusal) → (cause ≡ refusal) ⊎ (cause ≡ R.Memory)

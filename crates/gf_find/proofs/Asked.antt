@@ -1,4 +1,4 @@
--- What words ask for lies within the limits of what answers it.
+-- What words ask for lies within the limits of the calls that do it.
 use Rattle.std.proofs.Common.{◌≡◌, ◌<◌, ◌≤◌, ◌&&◌, ℕ, Bool, true, false, nat_le, List, [], ◌∷◌, Option, Some, None, Result, Ok, Err, cond, option_and_then, unwrap_or, refl, subst, arith}
 use Rattle.std.specs.Str.Parse.{digits_value}
 use Rattle.std.proofs.lemmas.Bool.{leb-true}

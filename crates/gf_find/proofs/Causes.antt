@@ -1,18 +1,20 @@
--- Of files that are known a run comes to one status alone.
-use Rattle.std.proofs.Common.{◌≡◌, ◌⊎◌, ◌<◌, ℕ, List, [], ◌∷◌, length, Option, None, Some, Result, Ok, Err, sym, ap, ◌∙◌, subst, arith, inl, inr}
+-- Where no file is opened, or the files are known, a run has one outcome.
+use Rattle.std.proofs.Common.{◌≡◌, ◌⊎◌, ◌<◌, ℕ, List, [], ◌∷◌, length, Option, None, Some, Result, Ok, Err, refl, sym, ap, ◌∙◌, subst, arith, inl, inr}
 use Rattle.std.proofs.lemmas.Option.{slice_get_within}
 use Rattle.std.specs.Prelude.{IsSome, slice_get}
 use Rattle.spec_text.specs.declared.decimals.Fault.{Fault}
 use Rattle.spec_ephemeris.specs.Ephemeris.{Ephemeris}
 use Rattle.spec_files.specs.Reading.{AreRefused, IsNotRead}
 use Rattle.spec_files.proofs.Exclusions.{accepted_not_lacking, accepted_not_refused, accepted_once, refused_not_lacking}
+use Rattle.spec_files.proofs.Once.{lacking_once, refused_once}
 use Rattle.spec_requests.specs.declared.request.Request.{Request}
 use Rattle.spec_requests.specs.declared.request.Request.TheVariants.{Find, Check, Gen}
 use Rattle.spec_requests.specs.declared.request.WordFault.{WordFault}
 use Rattle.gf_edges.specs.Edges.{Files, Rose}
 use Rattle.gf_find.specs.declared.refusal.Refusal.{Refusal}
-use Rattle.gf_find.specs.Outcomes.{ComesTo, FilesComeTo, FilesStop, HaveEphemeris, HoldEphemeris, Outcome, report_of, status_by, summary_of}
-use Rattle.gf_find.specs.Refusals.{status_of}
+use Rattle.gf_find.specs.declared.refusal.Refusal.TheVariants as R
+use Rattle.gf_find.specs.Outcomes.{RequestHasOutcome, FilesHaveOutcome, FilesStop, HaveEphemeris, HoldEphemeris, LackFile, Outcome, RefuseFile, report_of, summary_of}
+use Rattle.gf_find.specs.Reported.{AreNotOpened, OpensNone}
 use Rattle.gf_find.proofs.Accepted.{none_held}
 
 abbrev Texts : Type 0
@@ -22,6 +24,10 @@ Texts = List (List ℕ)
 pub refused_inside : (files : Option Files) (names : Texts) (file : ℕ) (fault : Fault) → AreRefused files names file fault → file < length names
 refused_inside files names file fault (inl many) = let first = many.first in let more = many.many in omega (arith, first, more)
 refused_inside files names file fault (inr first) = first.inside
+
+length-zero : (names : Texts) → length names ≡ 0 → names ≡ []
+length-zero [] none = refl
+length-zero (first ∷ names) none = absurd (omega (arith, none))
 
 -- a name that there is, is one of some
 named_none : (names : Texts) (file : ℕ) (name : List ℕ) → slice_get names file ≡ Some name → names ≡ [] → ⊥
@@ -40,42 +46,94 @@ module _ (known : Files) (names : Texts) (count now : ℕ) where
   held_stops P r p (inr (inl refused)) = absurd (accepted_not_refused known names p.ephemeris p.held.end refused.file refused.fault p.held.accepted refused.cause)
   held_stops P r p (inr (inr lack)) = accepted_not_lacking known names p.ephemeris p.held.end count now lack.file p.held.accepted lack.cause
 
-  -- two causes to stop have one status, unless the shelf failed
-  one_stop : (r s : Refusal) → FilesStop (Some known) names count now r → FilesStop (Some known) names count now s → Rose count now ⊎ (status_of r ≡ status_of s)
-  one_stop r s (inl a) (inl b) = inr (ap status_of (a.same ∙ sym b.same))
+  -- the name at a place is one
+  one_name : (file place : ℕ) (name other : List ℕ) → file ≡ place → slice_get names file ≡ Some name → slice_get names place ≡ Some other → name ≡ other
+  one_name file place name other same here there =
+      let found : Some name ≡ Some other = sym here ∙ ap (λ (k : ℕ). slice_get names k) same ∙ there in cc
+
+  one_refused : (r s : Refusal) → RefuseFile (Some known) names r → RefuseFile (Some known) names s → r ≡ s
+  one_refused r s a b =
+      let same = refused_once known names a.file b.file a.fault b.fault a.cause b.cause in
+      let name = one_name a.file b.file a.name b.name same.0 a.here b.here in
+      a.same ∙ (λ i. R.File (name i) (same.1 i)) ∙ sym b.same
+
+  one_lack : (r s : Refusal) → LackFile (Some known) names count now r → LackFile (Some known) names count now s → Rose count now ⊎ (r ≡ s)
+  one_lack r s a b = by (lacking_once known names count now a.file b.file a.cause b.cause)
+    where
+      by : Rose count now ⊎ (a.file ≡ b.file) → Rose count now ⊎ (r ≡ s)
+      by (inl rose) = inl rose
+      by (inr same) = inr (a.same ∙ ap R.NotRead (one_name a.file b.file a.name b.name same a.here b.here) ∙ sym b.same)
+
+  -- there is one cause to stop, unless the shelf failed
+  one_stop : (r s : Refusal) → FilesStop (Some known) names count now r → FilesStop (Some known) names count now s → Rose count now ⊎ (r ≡ s)
+  one_stop r s (inl a) (inl b) = inr (a.same ∙ sym b.same)
   one_stop r s (inl a) (inr (inl b)) = absurd (named_none names b.file b.name b.here a.none)
   one_stop r s (inl a) (inr (inr b)) = absurd (named_none names b.file b.name b.here a.none)
   one_stop r s (inr (inl a)) (inl b) = absurd (named_none names a.file a.name a.here b.none)
-  one_stop r s (inr (inl a)) (inr (inl b)) = inr (ap status_of a.same ∙ sym (ap status_of b.same))
+  one_stop r s (inr (inl a)) (inr (inl b)) = inr (one_refused r s a b)
   one_stop r s (inr (inl a)) (inr (inr b)) = inl (refused_not_lacking known names a.file a.fault count now b.file a.cause b.cause)
   one_stop r s (inr (inr a)) (inl b) = absurd (named_none names a.file a.name a.here b.none)
   one_stop r s (inr (inr a)) (inr (inl b)) = inl (refused_not_lacking known names b.file b.fault count now a.file b.cause a.cause)
-  one_stop r s (inr (inr a)) (inr (inr b)) = inr (ap status_of a.same ∙ sym (ap status_of b.same))
+  one_stop r s (inr (inr a)) (inr (inr b)) = one_lack r s a b
 
-  pub files_once : (f : Ephemeris → Outcome) (a b : Outcome) → FilesComeTo (Some known) names count now f a → FilesComeTo (Some known) names count now f b
-      → Rose count now ⊎ (status_by a ≡ status_by b)
+  pub files_once : (f : Ephemeris → Outcome) (a b : Outcome) → FilesHaveOutcome (Some known) names count now f a → FilesHaveOutcome (Some known) names count now f b
+      → Rose count now ⊎ (a ≡ b)
   files_once f a b (inl p) (inl q) =
-      let one = one_ephemeris (λ e. f e ≡ a) (λ e. f e ≡ b) p q in inr (ap status_by (sym one.1 ∙ one.2))
+      let one = one_ephemeris (λ e. f e ≡ a) (λ e. f e ≡ b) p q in inr (sym one.1 ∙ one.2)
   files_once f a b (inl p) (inr q) = inl (held_stops (λ e. f e ≡ a) q.0 p q.1)
   files_once f a b (inr p) (inl q) = inl (held_stops (λ e. f e ≡ b) p.0 q p.1)
   files_once f a b (inr p) (inr q) = same (one_stop p.0 q.0 p.1 q.1)
     where
-      same : Rose count now ⊎ (status_of p.0 ≡ status_of q.0) → Rose count now ⊎ (status_by a ≡ status_by b)
+      same : Rose count now ⊎ (p.0 ≡ q.0) → Rose count now ⊎ (a ≡ b)
       same (inl rose) = inl rose
-      same (inr is) = inr (ap status_by p.2 ∙ is ∙ sym (ap status_by q.2))
+      same (inr is) = inr (p.2 ∙ ap (λ (r : Refusal). Err r) is ∙ sym q.2)
 
--- a run comes to one status
-pub comes_once : (known : Files) (count now : ℕ) (asked : Result Request WordFault) (a b : Outcome)
-    → ComesTo asked (Some known) count now a → ComesTo asked (Some known) count now b → Rose count now ⊎ (status_by a ≡ status_by b)
-comes_once known count now (Err fault) a b p q = inr (ap status_by (p ∙ sym q))
-comes_once known count now (Ok (Find find)) a b p q = files_once known find.files count now (report_of find) a b p q
-comes_once known count now (Ok (Check names)) a b p q = files_once known names count now summary_of a b p q
-comes_once known count now (Ok (Gen blocks seed workers)) a b p q = inr (ap status_by (p ∙ sym q))
+-- files that are not opened have one outcome, whatever is known of them
+module _ (files : Option Files) (names : Texts) (count now : ℕ) where
+  unopened_held : (P : Ephemeris → Type 0) → AreNotOpened names → HoldEphemeris files names P → ⊥
+  unopened_held P (inl none) p =
+      none_held files p.ephemeris (subst (λ (ns : Texts). HaveEphemeris files ns p.ephemeris) (length-zero names none) p.held)
+  unopened_held P (inr many) p = let few = p.held.accepted.few in absurd (omega (arith, many, few))
 
-pub known_once : (files : Option Files) (count now : ℕ) (asked : Result Request WordFault) (a b : Outcome) → IsSome files
-    → ComesTo asked files count now a → ComesTo asked files count now b → Rose count now ⊎ (status_by a ≡ status_by b)
-known_once None count now asked a b known p q = absurd (cc)
-known_once (Some told) count now asked a b known p q = comes_once told count now asked a b p q
+  -- they stop as if there were none
+  unopened_stop : (r : Refusal) → AreNotOpened names → FilesStop files names count now r → FilesStop (Some []) names count now r
+  unopened_stop r not (inl none) = inl none
+  unopened_stop r (inl none) (inr (inl a)) = absurd (named_none names a.file a.name a.here (length-zero names none))
+  unopened_stop r (inl none) (inr (inr a)) = absurd (named_none names a.file a.name a.here (length-zero names none))
+  unopened_stop r (inr many) (inr (inl a)) = elim a.cause [
+    | inl too ↦ inr (inl (record { file = a.file; name = a.name; here = a.here; fault = a.fault; cause = inl too; same = a.same }))
+    | inr has ↦ let few = has.few in absurd (omega (arith, many, few))
+  ]
+  unopened_stop r (inr many) (inr (inr a)) = let few = a.cause.few in absurd (omega (arith, many, few))
+
+  unopened_outcome : (f : Ephemeris → Outcome) (a : Outcome) → AreNotOpened names → FilesHaveOutcome files names count now f a → FilesHaveOutcome (Some []) names count now f a
+  unopened_outcome f a not (inl p) = absurd (unopened_held (λ e. f e ≡ a) not p)
+  unopened_outcome f a not (inr p) = inr (p.0, unopened_stop p.0 not p.1, p.2)
+
+  unopened_once : (f : Ephemeris → Outcome) (a b : Outcome) → AreNotOpened names → FilesHaveOutcome files names count now f a → FilesHaveOutcome files names count now f b
+      → Rose count now ⊎ (a ≡ b)
+  unopened_once f a b not p q = files_once [] names count now f a b (unopened_outcome f a not p) (unopened_outcome f b not q)
+
+-- a run has one outcome
+known_once : (known : Files) (count now : ℕ) (asked : Result Request WordFault) (a b : Outcome)
+    → RequestHasOutcome asked (Some known) count now a → RequestHasOutcome asked (Some known) count now b → Rose count now ⊎ (a ≡ b)
+known_once known count now (Err fault) a b p q = inr (p ∙ sym q)
+known_once known count now (Ok (Find find)) a b p q = files_once known find.files count now (report_of find) a b p q
+known_once known count now (Ok (Check names)) a b p q = files_once known names count now summary_of a b p q
+known_once known count now (Ok (Gen blocks seed workers)) a b p q = inr (p ∙ sym q)
+
+none_opened_once : (files : Option Files) (count now : ℕ) (asked : Result Request WordFault) (a b : Outcome) → OpensNone asked
+    → RequestHasOutcome asked files count now a → RequestHasOutcome asked files count now b → Rose count now ⊎ (a ≡ b)
+none_opened_once files count now (Err fault) a b none p q = inr (p ∙ sym q)
+none_opened_once files count now (Ok (Find find)) a b none p q = unopened_once files find.files count now (report_of find) a b none p q
+none_opened_once files count now (Ok (Check names)) a b none p q = unopened_once files names count now summary_of a b none p q
+none_opened_once files count now (Ok (Gen blocks seed workers)) a b none p q = inr (p ∙ sym q)
+
+pub one_outcome_by : (files : Option Files) (count now : ℕ) (asked : Result Request WordFault) (a b : Outcome) → OpensNone asked ⊎ IsSome files
+    → RequestHasOutcome asked files count now a → RequestHasOutcome asked files count now b → Rose count now ⊎ (a ≡ b)
+one_outcome_by files count now asked a b (inl none) p q = none_opened_once files count now asked a b none p q
+one_outcome_by None count now asked a b (inr known) p q = absurd (cc)
+one_outcome_by (Some known) count now asked a b (inr is) p q = known_once known count now asked a b p q
 
 -- a file that couldn't be read is one of those that are named
 pub missing_inside : (files : Option Files) (names : Texts) (count now file : ℕ) → IsNotRead files names count now file → file < length names

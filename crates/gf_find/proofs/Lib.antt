@@ -8,3 +8,4 @@ pub mod Asked
 pub mod Times
 pub mod Answered
 pub mod Reporting
+pub mod Workers

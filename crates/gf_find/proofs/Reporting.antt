@@ -25,7 +25,7 @@ report_here : (find : FindAsk) (e : Ephemeris) (ws : List Window) (text : List �
 report_here find e ws text is printed =
     let R : List Window → List ℕ = report find (span_of find e).from (span_of find e).upto in
     record {
-      comes = ap (λ (b : Bool). text_by R (found_within b (query_of find) e (span_of find e))) is.within ∙ ap (text_by R) is.comes ∙ ap (λ (t : List ℕ). Ok t) (sym printed);
+      outcome = ap (λ (b : Bool). text_by R (found_within b (query_of find) e (span_of find e))) is.within ∙ ap (text_by R) is.outcome ∙ ap (λ (t : List ℕ). Ok t) (sym printed);
       printed = printed ∙ ap R is.same;
       windows = subst (λ (vs : List Window). AreFound (search (query_of find) e) (span_of find e) vs) is.same is.windows;
     }
@@ -74,7 +74,7 @@ searched_there blocks seed span = ap (λ (fault : Option EventFault). searched_b
 generation_here : (blocks seed : ℕ) (ws : List Window) (lines : List ℕ) → IsFound conjunctions (generated_ephemeris blocks seed) (generated_span blocks seed) ws
     → lines ≡ generation_by blocks seed ws → IsGeneration blocks seed lines
 generation_here blocks seed ws lines is printed = record {
-  comes = ap (text_by (generation_by blocks seed)) (sym (searched_there blocks seed (generated_span blocks seed)) ∙ is.comes) ∙ ap (λ (t : List ℕ). Ok t) (sym printed);
+  outcome = ap (text_by (generation_by blocks seed)) (sym (searched_there blocks seed (generated_span blocks seed)) ∙ is.outcome) ∙ ap (λ (t : List ℕ). Ok t) (sym printed);
   printed = printed ∙ ap (generation_by blocks seed) is.same;
   windows = subst (λ (vs : List Window). AreFound (generated_search blocks seed) (generated_span blocks seed) vs) is.same is.windows;
 }

@@ -17,6 +17,7 @@ use Rattle.spec_kinds.proofs.Searching.{search_is}
 use Rattle.spec_reports.specs.declared.limits.TheConstants.{MAX_LEAVES}
 use Rattle.gf_find.specs.declared.query.Query.{Query}
 use Rattle.gf_find.specs.declared.query.Span.{Span}
+use Rattle.gf_find.specs.declared.refusal.Refusal.{Refusal}
 use Rattle.gf_find.specs.declared.refusal.Refusal.TheVariants.{Memory, TooManyLeaves}
 use Rattle.gf_find.specs.Outcomes.{found, searched, searched_by}
 use Rattle.gf_find.specs.Queries.{AreFound, IsQuery, conjunctions, is_within, search, whole_span, windows_in}
@@ -89,14 +90,16 @@ module _ (q : Query) (e : Ephemeris) (span : Span) (checked : IsEphemeris e) (bl
   windows_found ws same few = record {
     checked = checked;
     within = within;
-    comes = found_is ∙ few_searched (search q e) span few ∙ ap (λ (vs : List Window). Ok vs) (sym same);
+    outcome = found_is ∙ few_searched (search q e) span few ∙ ap (λ (vs : List Window). Ok vs) (sym same);
     same = same;
     windows = subst (λ (vs : List Window). AreFound (search q e) span vs) (sym same) are_found;
   }
 
   -- too many leaves stop the search
-  pub leaves_stop : MAX_LEAVES < leaf_count (rules (search q e)) (root span.from span.upto) → found q e span ≡ Err TooManyLeaves
-  leaves_stop many = found_is ∙ many_searched (search q e) span many
+  pub leaves_stop : (r : Refusal) → (r ≡ Memory) ⊎ ((r ≡ TooManyLeaves) × (MAX_LEAVES < leaf_count (rules (search q e)) (root span.from span.upto)))
+      → (r ≡ Memory) ⊎ (found q e span ≡ Err r)
+  leaves_stop r (inl none) = inl none
+  leaves_stop r (inr many) = inr (found_is ∙ many_searched (search q e) span many.1 ∙ ap (λ (s : Refusal). Err s) (sym many.0))
 
 -- a fault of the event stops its search
 pub fault_stops : (q : Query) (e : Ephemeris) (span : Span) (fault : Option EventFault) → fault ≡ fault_of e q.ask

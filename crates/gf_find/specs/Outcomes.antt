@@ -1,6 +1,6 @@
--- What a run comes to: the text that it writes to its output, or the cause why it has none. Where the files are known, a
--- run comes to one thing alone, and the causes stand in the order in which they are looked for: the words, the files, the
--- span, the event, the leaves of the search.
+-- The outcome of a run: the text that it writes to its output, or the cause why it has none. Where the files are known, a
+-- run has one outcome, and the causes stand in the order in which they are looked for: the words, the files, the span, the
+-- event, the leaves of the search.
 use Rattle.std.specs.Prelude.{◌≡◌, ◌⊎◌, ℕ, nat_lt, Bool, true, false, List, [], length, map, slice_get, Option, None, Some, Result, Ok, Err, String, string_bytes, if◌then◌else◌}
 use Rattle.std.specs.declared.alloc.Global.{Global}
 use Rattle.spec_text.specs.declared.decimals.Fault.{Fault}
@@ -27,16 +27,11 @@ use Rattle.gf_find.specs.declared.query.Query.{Query}
 use Rattle.gf_find.specs.declared.query.Span.{Span}
 use Rattle.gf_find.specs.declared.refusal.Refusal.{Refusal}
 use Rattle.gf_find.specs.declared.refusal.Refusal.TheVariants as R
-use Rattle.gf_find.specs.declared.statuses.TheConstants.{REPORTED}
 use Rattle.gf_find.specs.Queries.{conjunctions, is_within, query_of, search, span_of, whole_span, windows_in}
-use Rattle.gf_find.specs.Refusals.{of_words, status_of}
+use Rattle.gf_find.specs.Refusals.{of_words}
 
 abbrev pub Outcome : Type 0
 Outcome = Result (List ℕ) Refusal
-
-abbrev pub status_by : Outcome → ℕ
-status_by (Ok text) = REPORTED
-status_by (Err refusal) = status_of refusal
 
 -- ---- of an ephemeris
 -- the windows in a span of the ephemeris, unless the tree has too many leaves
@@ -63,18 +58,18 @@ abbrev pub text_by : (List Window → List ℕ) → Result (List Window) Refusal
 text_by text (Ok ws) = Ok (text ws)
 text_by text (Err refusal) = Err refusal
 
--- what `find` comes to
+-- the outcome of `find`
 abbrev pub report_by : FindAsk → Ephemeris → Span → Outcome
 report_by find e span = text_by (report find span.from span.upto) (found_within (is_within span e) (query_of find) e span)
 
 abbrev pub report_of : FindAsk → Ephemeris → Outcome
 report_of find e = report_by find e (span_of find e)
 
--- what `check` comes to
+-- the outcome of `check`
 abbrev pub summary_of : Ephemeris → Outcome
 summary_of e = Ok (summary e)
 
--- what `gen` comes to: its search is one of the whole ephemeris of the generated text
+-- the outcome of `gen`: its search is one of the whole ephemeris of the generated text
 abbrev pub generated_search : ℕ → ℕ → Search
 generated_search blocks seed = search conjunctions (generated_ephemeris blocks seed)
 
@@ -93,7 +88,7 @@ pub record HaveEphemeris (files : Option Files) (names : List (List ℕ)) (e : E
   pub end : ℕ
   pub accepted : AreAccepted files names e end
 
--- they are accepted, with an ephemeris of which P is so
+-- they are accepted, with an ephemeris that P holds for
 pub record HoldEphemeris (files : Option Files) (names : List (List ℕ)) (P : Ephemeris → Type 0) : Type 0 where
   pub ephemeris : Ephemeris
   pub held : HaveEphemeris files names ephemeris
@@ -126,9 +121,9 @@ abbrev pub FilesStop : Option Files → List (List ℕ) → ℕ → ℕ → Refu
 FilesStop files names count now refusal =
     NameNoFile names refusal ⊎ (RefuseFile files names refusal ⊎ LackFile files names count now refusal)
 
--- files that are accepted come to what their ephemeris comes to
-abbrev pub FilesComeTo : Option Files → List (List ℕ) → ℕ → ℕ → (Ephemeris → Outcome) → Outcome → Type 0
-FilesComeTo files names count now of_ephemeris outcome =
+-- files that are accepted have the outcome of their ephemeris
+abbrev pub FilesHaveOutcome : Option Files → List (List ℕ) → ℕ → ℕ → (Ephemeris → Outcome) → Outcome → Type 0
+FilesHaveOutcome files names count now of_ephemeris outcome =
     HoldEphemeris files names (λ e. of_ephemeris e ≡ outcome)
     ⊎ ((refusal : Refusal) × FilesStop files names count now refusal × (outcome ≡ Err refusal))
 
@@ -143,16 +138,22 @@ texts_of words = map string_bytes words
 abbrev pub Ask : Words → Request → Type 0
 Ask words request = request_of (texts_of words) ≡ Ok request
 
-abbrev pub ComesTo : Result Request WordFault → Option Files → ℕ → ℕ → Outcome → Type 0
-ComesTo (Err fault) files count now outcome = outcome ≡ Err (of_words fault)
-ComesTo (Ok (Find find)) files count now outcome = FilesComeTo files find.files count now (report_of find) outcome
-ComesTo (Ok (Check names)) files count now outcome = FilesComeTo files names count now summary_of outcome
-ComesTo (Ok (Gen blocks seed workers)) files count now outcome = outcome ≡ generation_of blocks seed
+abbrev pub RequestHasOutcome : Result Request WordFault → Option Files → ℕ → ℕ → Outcome → Type 0
+RequestHasOutcome (Err fault) files count now outcome = outcome ≡ Err (of_words fault)
+RequestHasOutcome (Ok (Find find)) files count now outcome = FilesHaveOutcome files find.files count now (report_of find) outcome
+RequestHasOutcome (Ok (Check names)) files count now outcome = FilesHaveOutcome files names count now summary_of outcome
+RequestHasOutcome (Ok (Gen blocks seed workers)) files count now outcome = outcome ≡ generation_of blocks seed
 
--- the run of these words over these files comes to this; the shelf's count of faults was the first number, and is the
+-- the run of these words over these files has this outcome; the shelf's count of faults was the first number, and is the
 -- second
 abbrev pub HaveOutcome : Words → Option Files → ℕ → ℕ → Outcome → Type 0
-HaveOutcome words files count now outcome = ComesTo (request_of (texts_of words)) files count now outcome
+HaveOutcome words files count now outcome = RequestHasOutcome (request_of (texts_of words)) files count now outcome
+
+-- the same request, by so many workers
+abbrev pub with_workers : ℕ → Request → Request
+with_workers count (Find find) = Find (record find { workers = count })
+with_workers count (Check names) = Check names
+with_workers count (Gen blocks seed workers) = Gen blocks seed count
 
 -- it is refused for this cause, or memory ran out
 abbrev pub HaveCause : Words → Option Files → ℕ → ℕ → Refusal → Type 0

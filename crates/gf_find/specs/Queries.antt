@@ -8,11 +8,12 @@ use Rattle.spec_trees.specs.declared.cuts.CutRule.TheVariants.{Half}
 use Rattle.spec_events.specs.declared.dir.Dir.TheVariants.{Any}
 use Rattle.spec_kinds.specs.declared.kind.Kind.TheVariants.{Conj}
 use Rattle.spec_requests.specs.Requests.{nought}
+use Rattle.spec_trees.specs.declared.tree.Node.{Node}
 use Rattle.spec_trees.specs.declared.window.Window.{Window}
 use Rattle.spec_events.specs.Events.{AreWindows}
 use Rattle.spec_searches.specs.declared.limits.TheConstants.{MAX_DEPTH, MAX_WIDTH}
 use Rattle.spec_searches.specs.Search.{Search, events}
-use Rattle.spec_searches.specs.Found.{IsLeftUndecided, windows_of}
+use Rattle.spec_searches.specs.Found.{IsLeftUndecided, root, windows_of}
 use Rattle.spec_kinds.specs.Asks.{IsAsk}
 use Rattle.spec_kinds.specs.Searches.{search_of}
 use Rattle.spec_requests.specs.declared.request.FindAsk.{FindAsk}
@@ -58,6 +59,10 @@ is_within span e = int_le e.start span.from && (int_lt span.from span.upto && in
 abbrev pub windows_in : Search → Span → List Window
 windows_in s span = windows_of s span.from span.upto
 
+-- an undecided leaf of the tree of the search over a span
+abbrev pub IsLeft : Search → Span → Node → Type 0
+IsLeft s span = IsLeftUndecided s (root span.from span.upto)
+
 -- the windows of a search's events in a span
 abbrev pub AreFound : Search → Span → List Window → Type 0
-AreFound s span ws = AreWindows (events s) (IsLeftUndecided s) span.from span.upto ws
+AreFound s span ws = AreWindows (events s) (IsLeft s span) span.from span.upto ws

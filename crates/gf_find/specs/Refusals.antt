@@ -8,6 +8,8 @@ use Rattle.spec_requests.specs.declared.request.WordFault.{WordFault}
 use Rattle.spec_requests.specs.declared.request.WordFault.TheVariants as W
 use Rattle.spec_requests.specs.Names.{option_name}
 use Rattle.spec_reports.specs.Messages.{words_text, file_text, read_text, outside_text, event_text, leaves_text, memory_text}
+use Rattle.steal_pool.specs.declared.seat.PoolError.{PoolError}
+use Rattle.steal_pool.specs.declared.seat.PoolError.TheVariants as P
 use Rattle.gf_find.specs.declared.refusal.Refusal.{Refusal}
 use Rattle.gf_find.specs.declared.refusal.Refusal.TheVariants.{Words, File, NotRead, Outside, Event, TooManyLeaves, Memory}
 use Rattle.gf_find.specs.declared.statuses.TheConstants.{WORDS_REFUSED, FILES_REFUSED, NOT_READ, SPAN_REFUSED, EVENT_REFUSED, OUT_OF_MEMORY, TOO_MANY_LEAVES}
@@ -44,3 +46,7 @@ of_words W.Memory = Memory
 abbrev pub of_fault : Option EventFault → Refusal
 of_fault (Some fault) = Event fault
 of_fault None = Memory
+
+abbrev pub of_pool : PoolError → Refusal
+of_pool P.TooMany = TooManyLeaves
+of_pool P.Memory = Memory

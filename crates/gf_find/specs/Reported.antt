@@ -1,28 +1,28 @@
 -- What a run that isn't refused writes to its output, by the command. Known bytes were the first list, and are the second.
-use Rattle.std.specs.Prelude.{◌≡◌, ◌⊎◌, ◌<◌, ℕ, List, length, Option, Result, Ok, Err}
+use Rattle.std.specs.Prelude.{◌≡◌, ◌⊎◌, ◌<◌, ℕ, List, length, Option, IsSome, Result, Ok, Err}
 use Rattle.std.specs.Io.KnownBytes.{Appends}
 use Rattle.spec_ephemeris.specs.Ephemeris.{Ephemeris}
 use Rattle.spec_searches.specs.Search.{events}
-use Rattle.spec_searches.specs.Found.{IsLeftUndecided}
 use Rattle.spec_files.specs.declared.limits.TheConstants.{MAX_FILES}
 use Rattle.spec_requests.specs.declared.request.FindAsk.{FindAsk}
 use Rattle.spec_requests.specs.declared.request.Request.{Request}
 use Rattle.spec_requests.specs.declared.request.Request.TheVariants.{Find, Check, Gen}
 use Rattle.spec_requests.specs.declared.request.WordFault.{WordFault}
+use Rattle.spec_requests.specs.Requests.{request_of}
 use Rattle.spec_reports.specs.Reported.{Reports}
 use Rattle.spec_reports.specs.Writing.{AppendsPart}
 use Rattle.spec_texts.specs.Report.{report}
 use Rattle.spec_texts.specs.Summary.{summary}
 use Rattle.gf_edges.specs.Edges.{Files}
-use Rattle.gf_find.specs.Queries.{query_of, search, span_of, windows_in}
-use Rattle.gf_find.specs.Outcomes.{HaveOutcome, Words, generated_search, generated_span, generation_by}
+use Rattle.gf_find.specs.Queries.{IsLeft, query_of, search, span_of, windows_in}
+use Rattle.gf_find.specs.Outcomes.{HaveOutcome, Words, generated_search, generated_span, generation_by, texts_of}
 
 -- the report of the windows of the events that are asked for, over the span that is asked for
 abbrev pub ReportsEvents : FindAsk → Option (List ℕ) → Option (List ℕ) → Ephemeris → Type 0
 ReportsEvents find old new e =
     let s = search (query_of find) e in
     let span = span_of find e in
-    Reports (events s) (IsLeftUndecided s) span.from span.upto (windows_in s span) (report find span.from span.upto) old new
+    Reports (events s) (IsLeft s span) span.from span.upto (windows_in s span) (report find span.from span.upto) old new
 
 -- the summary of the ephemeris
 abbrev pub ReportsSummary : Option (List ℕ) → Option (List ℕ) → Ephemeris → Type 0
@@ -33,9 +33,13 @@ abbrev pub ReportsGeneration : ℕ → ℕ → Option (List ℕ) → Option (Lis
 ReportsGeneration blocks seed old new =
     let s = generated_search blocks seed in
     let span = generated_span blocks seed in
-    Reports (events s) (IsLeftUndecided s) span.from span.upto (windows_in s span) (generation_by blocks seed) old new
+    Reports (events s) (IsLeft s span) span.from span.upto (windows_in s span) (generation_by blocks seed) old new
 
--- a part of the text that the run comes to, which isn't all of it
+-- the whole text of the run's outcome
+abbrev pub ReportsWhole : Words → Option Files → ℕ → ℕ → Option (List ℕ) → Option (List ℕ) → Type 0
+ReportsWhole words files count now old new = (text : List ℕ) × HaveOutcome words files count now (Ok text) × Appends old new text
+
+-- a prefix of the text of the run's outcome, which isn't all of it
 abbrev pub ReportsPart : Words → Option Files → ℕ → ℕ → Option (List ℕ) → Option (List ℕ) → Type 0
 ReportsPart words files count now old new = (text : List ℕ) × HaveOutcome words files count now (Ok text) × AppendsPart old new text
 
@@ -44,9 +48,13 @@ ReportsPart words files count now old new = (text : List ℕ) × HaveOutcome wor
 abbrev pub AreNotOpened : List (List ℕ) → Type 0
 AreNotOpened names = (length names ≡ 0) ⊎ (MAX_FILES < length names)
 
--- none is where words ask for nothing, or for a generated text
+-- none is where the command line is invalid, or asks for a generated text
 abbrev pub OpensNone : Result Request WordFault → Type 0
 OpensNone (Err fault) = Unit {0}
 OpensNone (Ok (Find find)) = AreNotOpened find.files
 OpensNone (Ok (Check names)) = AreNotOpened names
 OpensNone (Ok (Gen blocks seed workers)) = Unit {0}
+
+-- no file is opened, or it is known which files there are
+abbrev pub KnowsFiles : Words → Option Files → Type 0
+KnowsFiles words files = OpensNone (request_of (texts_of words)) ⊎ IsSome files

@@ -17,17 +17,17 @@ use Rattle.gf_find.specs.Outcomes.{Ask, HoldEphemeris, Words, found, generated_s
 pub record IsFound (q : Query) (e : Ephemeris) (span : Span) (ws : List Window) : Type 0 where
   pub checked : IsEphemeris e
   pub within : is_within span e ≡ true
-  pub comes : found q e span ≡ Ok ws
+  pub outcome : found q e span ≡ Ok ws
   pub same : ws ≡ windows_in (search q e) span
   pub windows : AreFound (search q e) span ws
 
 pub record IsReport (find : FindAsk) (text : List ℕ) (e : Ephemeris) : Type 0 where
-  pub comes : report_of find e ≡ Ok text
+  pub outcome : report_of find e ≡ Ok text
   pub printed : text ≡ report find (span_of find e).from (span_of find e).upto (windows_in (search (query_of find) e) (span_of find e))
   pub windows : AreFound (search (query_of find) e) (span_of find e) (windows_in (search (query_of find) e) (span_of find e))
 
 pub record IsGeneration (blocks seed : ℕ) (text : List ℕ) : Type 0 where
-  pub comes : generation_of blocks seed ≡ Ok text
+  pub outcome : generation_of blocks seed ≡ Ok text
   pub printed : text ≡ generation_by blocks seed (windows_in (generated_search blocks seed) (generated_span blocks seed))
   pub windows : AreFound (generated_search blocks seed) (generated_span blocks seed) (windows_in (generated_search blocks seed) (generated_span blocks seed))
 

@@ -12,7 +12,7 @@ ghost use Rattle.spec_requests.specs.Requests.{request_of};
 ghost use Rattle.spec_times.specs.TimeWords.{IsTime};
 ghost use Rattle.spec_texts.specs.Report.{HasTimes, generation, report};
 ghost use Rattle.spec_texts.specs.Summary.{summary};
-ghost use Rattle.gf_find.specs.Outcomes.{FilesComeTo, HaveCause, HoldEphemeris, generation_of, report_of, summary_of, texts_of};
+ghost use Rattle.gf_find.specs.Outcomes.{FilesHaveOutcome, HaveCause, HoldEphemeris, generation_of, report_of, summary_of, texts_of};
 ghost use Rattle.gf_find.specs.Reported.{AreNotOpened, OpensNone};
 ghost use Rattle.gf_find.specs.Texts.{IsAnswered, IsGeneration, IsReport};
 
@@ -96,7 +96,7 @@ fn find_in_files<R: Threads + Wait + Sync, S: Shelf, G: Gate>(
     ensures report { IfOk result (λ text. HoldEphemeris
         (S.files shelf.old) find.now.files (IsReport find.now text.items)) }
     ensures stopped { IfErr result (λ refusal. (refusal ≡ Refusal.Memory)
-        ⊎ FilesComeTo (S.files shelf.old) find.now.files (S.faults shelf.old) (S.faults shelf.new)
+        ⊎ FilesHaveOutcome (S.files shelf.old) find.now.files (S.faults shelf.old) (S.faults shelf.new)
         (report_of find.now) (Err refusal)) }
     ensures unopened { AreNotOpened find.now.files → shelf.new ≡ shelf.old }
 {
@@ -113,7 +113,7 @@ fn summary_of_files<S: Shelf>(
     ensures summary { IfOk result (λ text. HoldEphemeris
         (S.files shelf.old) (texts_of names.now) (λ e. text.items ≡ summary e)) }
     ensures stopped { IfErr result (λ refusal. (refusal ≡ Refusal.Memory)
-        ⊎ FilesComeTo (S.files shelf.old) (texts_of names.now)
+        ⊎ FilesHaveOutcome (S.files shelf.old) (texts_of names.now)
         (S.faults shelf.old) (S.faults shelf.new) summary_of (Err refusal)) }
     ensures unopened { AreNotOpened (texts_of names.now) → shelf.new ≡ shelf.old }
 {

@@ -1,23 +1,23 @@
 // The windows of the book that workers fill.
-ghost use Rattle.std.specs.Prelude.{◌≡◌, ◌<◌, ◌≤◌, IfOk, Err};
+ghost use Rattle.std.specs.Prelude.{◌≡◌, ◌⊎◌, ◌<◌, ◌≤◌, IfErr, IfOk};
 ghost use Rattle.spec_requests.specs.declared.limits.TheConstants.{MAX_WORKERS};
 ghost use Rattle.spec_reports.specs.declared.limits.TheConstants.{MAX_LEAVES};
 ghost use Rattle.spec_trees.specs.Tree.{IsValid, leaf_count, leaves};
 ghost use Rattle.spec_trees.specs.Windows.{windows};
-ghost use Rattle.steal_pool.specs.declared.seat.PoolError.TheVariants.{TooMany};
 
+use crate::refusal::Refusal;
 use gf_edges::Gate;
 use halving::Judge;
-use ordered_join::{Memory, windows};
+use ordered_join::windows;
 use spec_reports::MAX_LEAVES;
 use spec_trees::{Node, Window};
 use std::alloc::Global;
 use std::sync::Wait;
 use std::thread::Threads;
-use steal_pool::{PoolError, run};
+use steal_pool::run;
 
-/// The windows of the leaves of a root, which so many workers enter at once, or `TooMany` where these are more than a
-/// search may have. The gate is passed before each judging.
+/// The windows of the leaves of a root, which so many workers enter at once, or `TooManyLeaves` where these are more than
+/// a search may have. The gate is passed before each judging.
 pub(crate) fn windows_by<R: Threads + Wait + Sync, J: Judge, G: Gate>(
     rt: &R,
     alloc: Global,
@@ -25,18 +25,18 @@ pub(crate) fn windows_by<R: Threads + Wait + Sync, J: Judge, G: Gate>(
     root: Node,
     workers: u32,
     gate: &G,
-) -> Result<Vec<Window>, PoolError>
+) -> Result<Vec<Window>, Refusal>
     requires some { 1 ≤ workers }
     requires workers { workers ≤ MAX_WORKERS }
     requires valid { IsValid (J.rules judge.now) root }
     ensures windows { IfOk result (λ found.
         found.items ≡ windows (leaves (J.rules judge.now) root)) }
     ensures few { IfOk result (λ found. leaf_count (J.rules judge.now) root ≤ MAX_LEAVES) }
-    ensures too_many { result ≡ Err TooMany → MAX_LEAVES < leaf_count (J.rules judge.now) root }
+    ensures stopped { IfErr result (λ refusal. (refusal ≡ Refusal.Memory)
+        ⊎ ((refusal ≡ Refusal.TooManyLeaves)
+        × (MAX_LEAVES < leaf_count (J.rules judge.now) root))) }
 {
     let book = run(rt, alloc, judge, root, workers, MAX_LEAVES, gate)?;
-    match windows(alloc, &book) {
-        Ok(found) => Ok(found),
-        Err(Memory) => Err(PoolError::Memory),
-    }
+    let found = windows(alloc, &book)?;
+    Ok(found)
 }

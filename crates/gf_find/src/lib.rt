@@ -6,6 +6,7 @@
 mod answer;
 mod book;
 mod files;
+mod laws;
 mod messages;
 mod query;
 mod refusal;
@@ -15,6 +16,7 @@ mod text_shelf;
 mod top;
 mod writing;
 
+pub use laws::{a_run_has_one_outcome, the_number_of_workers_changes_no_byte};
 pub use query::{Query, Span};
 pub use refusal::Refusal;
 pub use statuses::{

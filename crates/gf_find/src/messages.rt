@@ -123,7 +123,7 @@ fn add_option(text: &mut Vec<u8>, option: Option<Named>) -> Result<(), AllocErro
     }
 }
 
-// The line of words that ask for nothing.
+// The line of an invalid command line.
 fn words_line(alloc: Global, number: u8, option: Option<Named>) -> Result<Vec<u8>, AllocError>
     ensures { IfOk result (λ text.
         text.items ≡ words_text number (option_map option_name option)) }

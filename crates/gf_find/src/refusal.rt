@@ -6,17 +6,19 @@ use crate::statuses::{
 };
 use eph_gen::Memory as TextMemory;
 use event_kinds::KindFault;
+use ordered_join::Memory as JoinMemory;
 use spec_faults::{BAD_VALUE, NO_COMMAND, UNKNOWN_COMMAND, WORDS};
 use spec_kinds::EventFault;
 use spec_requests::{Named, Text, WordFault};
 use spec_text::Fault;
 use std::alloc::AllocError;
+use steal_pool::PoolError;
 use window_text::Memory as ReportMemory;
 
 /// Why a run has nothing to write to its output.
 #[derive(Drop)]
 pub enum Refusal {
-    /// The words ask for nothing, by the fault of this number, which an option may have.
+    /// The command line is invalid, by the fault of this number, which an option may have.
     Words { number: u8, option: Option<Named> },
     /// The file of this name has the first fault, or is the first of too many.
     File { name: Text, fault: Fault },
@@ -93,6 +95,31 @@ impl From<KindFault> for Refusal {
             Some(fault) => Refusal::Event(fault),
             None => Refusal::Memory,
         }
+    }
+}
+
+impl From<PoolError> for Refusal {
+    ghost use Rattle.std.specs.Prelude.{◌≡◌};
+    ghost use Rattle.gf_find.specs.Refusals.{of_pool};
+
+    ghost from_gives = { λ error refusal. refusal ≡ of_pool error };
+
+    fn from(error: PoolError) -> Self {
+        match error {
+            PoolError::TooMany => Refusal::TooManyLeaves,
+            PoolError::Memory => Refusal::Memory,
+        }
+    }
+}
+
+impl From<JoinMemory> for Refusal {
+    ghost use Rattle.std.specs.Prelude.{◌≡◌};
+    ghost use Rattle.gf_find.specs.declared.refusal.Refusal.TheVariants.{Memory};
+
+    ghost from_gives = { λ _ refusal. refusal ≡ Memory };
+
+    fn from(_: JoinMemory) -> Self {
+        Refusal::Memory
     }
 }
 

@@ -23,7 +23,6 @@ use spec_trees::{Node, Window};
 use std::alloc::Global;
 use std::sync::Wait;
 use std::thread::Threads;
-use steal_pool::PoolError;
 
 // The judge of a query whose ask has no fault.
 fn judge_of<'e>(
@@ -92,9 +91,5 @@ pub(crate) fn search<R: Threads + Wait + Sync, G: Gate>(
     };
     let root = root_of(ephemeris, span);
     let judge = judge_of(ephemeris, query, event, Cutter::new(rule, cut));
-    match windows_by(rt, alloc, &judge, root, workers, gate) {
-        Ok(windows) => Ok(windows),
-        Err(PoolError::TooMany) => Err(Refusal::TooManyLeaves),
-        Err(PoolError::Memory) => Err(Refusal::Memory),
-    }
+    windows_by(rt, alloc, &judge, root, workers, gate)
 }

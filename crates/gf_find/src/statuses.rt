@@ -3,7 +3,7 @@
 /// What the words ask for was written whole.
 pub const REPORTED: u8 = 0;
 
-/// The words of the command line ask for nothing.
+/// The command line is invalid.
 pub const WORDS_REFUSED: u8 = 2;
 
 /// The files have a first fault, or there are too many of them.

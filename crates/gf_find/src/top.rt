@@ -1,5 +1,5 @@
 // The call that the program makes.
-ghost use Rattle.std.specs.Prelude.{◌≡◌, ◌≢◌, ◌⊎◌, List, ℕ, Err, IsSome, Ok};
+ghost use Rattle.std.specs.Prelude.{◌≡◌, ◌≢◌, ◌⊎◌, List, ℕ, Err, Ok};
 ghost use Rattle.std.specs.Io.KnownBytes.{Appends, Keeps};
 ghost use Rattle.spec_requests.specs.declared.request.FindAsk.{FindAsk};
 ghost use Rattle.spec_requests.specs.declared.request.Request.TheVariants.{Find, Check, Gen};
@@ -9,7 +9,7 @@ ghost use Rattle.spec_reports.specs.Writing.{AppendsPart, Receives};
 ghost use Rattle.gf_edges.specs.Edges.{Rose};
 ghost use Rattle.gf_find.specs.Outcomes.{Ask, HaveCause, HaveOutcome, HoldEphemeris, texts_of};
 ghost use Rattle.gf_find.specs.Refusals.{line_of, status_of};
-ghost use Rattle.gf_find.specs.Reported.{OpensNone, ReportsEvents, ReportsGeneration, ReportsPart, ReportsSummary};
+ghost use Rattle.gf_find.specs.Reported.{KnowsFiles, OpensNone, ReportsEvents, ReportsGeneration, ReportsPart, ReportsSummary, ReportsWhole};
 
 use crate::answer::answer;
 use crate::messages::line_of;
@@ -22,13 +22,13 @@ use std::sync::Wait;
 use std::thread::Threads;
 
 /// Does what the words of the command line, without the program's name, ask for: writes a text to `out`, or the line of
-/// an error to `err`, and answers the status. The words are `find` with options and files, `check` with files, or `gen`
+/// an error to `err`, and returns the status. The words are `find` with options and files, `check` with files, or `gen`
 /// with a layout, a number of blocks and a seed.
 ///
 /// | Status | Meaning |
 /// |---|---|
 /// | 0 | the report, the summary or the lines of the generated text were written whole |
-/// | 2 | the words ask for nothing |
+/// | 2 | the command line is invalid |
 /// | 3 | the files have a first fault, or there are too many |
 /// | 4 | a file couldn't be read |
 /// | 5 | the text couldn't be written whole |
@@ -45,9 +45,14 @@ pub fn finder<R: Threads + Wait + Sync, S: Shelf, O: Sink, E: Sink, G: Gate>(
     err: &mut E,
     gate: &G,
 ) -> u8
-    // With status 0 `out` gained what the words ask for, and nothing else. For `find` that is the report of the windows of
-    // the events in the files over the span: windows that are disjoint, in order and hold every event, each certain one
-    // exactly one, and each undecided one was left so at the width or the depth.
+    // With status 0 `out` gained the text of the run's outcome, and nothing else.
+    ensures reported { result ≡ REPORTED → ReportsWhole words.now
+        (S.files shelf.old) (S.faults shelf.old) (S.faults shelf.new)
+        (O.bytes out.old) (O.bytes out.new) }
+
+    // For `find` that is the report of the windows of the events in the files over the span: windows that are disjoint, in
+    // order and hold every event, each certain one exactly one, and each time of an undecided one lies in a leaf of the
+    // search that was left so at the width or the depth, all of which lies in the window.
     ensures find { (find : FindAsk) → Ask words.now (Find find) → result ≡ REPORTED
         → HoldEphemeris (S.files shelf.old) find.files
         (ReportsEvents find (O.bytes out.old) (O.bytes out.new)) }
@@ -63,7 +68,7 @@ pub fn finder<R: Threads + Wait + Sync, S: Shelf, O: Sink, E: Sink, G: Gate>(
         × (result ≡ status_of refusal)
         × Receives E.bytes E.faults err.old err.new (line_of refusal) }
 
-    // With status 5 a write failed, and `out` gained a part of the text.
+    // With status 5 a write failed, and `out` gained a prefix of the text that isn't all of it.
     ensures write { result ≡ NOT_WRITTEN → ReportsPart words.now
         (S.files shelf.old) (S.faults shelf.old) (S.faults shelf.new)
         (O.bytes out.old) (O.bytes out.new) }
@@ -71,14 +76,15 @@ pub fn finder<R: Threads + Wait + Sync, S: Shelf, O: Sink, E: Sink, G: Gate>(
     ensures write_line { result ≡ NOT_WRITTEN
         → Receives E.bytes E.faults err.old err.new write_text }
 
-    // A run that has a text writes it, and one that has a cause is refused, unless something failed or memory is out.
-    ensures complete { (text : List ℕ) → IsSome (S.files shelf.old)
+    // A run whose outcome is a text writes it, and one whose outcome is a cause is refused for it, unless something failed
+    // or memory is out. Which files there are has to be known only where one is opened.
+    ensures complete { (text : List ℕ) → KnowsFiles words.now (S.files shelf.old)
         → HaveOutcome words.now (S.files shelf.old) (S.faults shelf.old) (S.faults shelf.new)
         (Ok text)
         → (result ≡ REPORTED) ⊎ ((result ≡ OUT_OF_MEMORY)
         ⊎ (Rose (S.faults shelf.old) (S.faults shelf.new)
         ⊎ Rose (O.faults out.old) (O.faults out.new))) }
-    ensures exact { (refusal : Refusal) → IsSome (S.files shelf.old)
+    ensures exact { (refusal : Refusal) → KnowsFiles words.now (S.files shelf.old)
         → HaveOutcome words.now (S.files shelf.old) (S.faults shelf.old) (S.faults shelf.new)
         (Err refusal)
         → (result ≡ status_of refusal) ⊎ ((result ≡ OUT_OF_MEMORY)
@@ -98,7 +104,7 @@ pub fn finder<R: Threads + Wait + Sync, S: Shelf, O: Sink, E: Sink, G: Gate>(
     }
 }
 
-// Writes the text, and answers the status.
+// Writes the text, and returns the status.
 fn write_text<O: Sink, E: Sink>(out: &mut O, err: &mut E, text: &[u8]) -> u8
     ensures known { (result ≡ REPORTED) ⊎ (result ≡ NOT_WRITTEN) }
     ensures whole { result ≡ REPORTED → Appends (O.bytes out.old) (O.bytes out.new) text.now }
@@ -116,7 +122,7 @@ fn write_text<O: Sink, E: Sink>(out: &mut O, err: &mut E, text: &[u8]) -> u8
     }
 }
 
-// Writes why there is no text, and answers the status. Where there is no memory for the line, that is written.
+// Writes why there is no text, and returns the status. Where there is no memory for the line, that is written.
 fn write_refusal<E: Sink>(alloc: Global, err: &mut E, refusal: &Refusal) -> u8
     ensures written { (cause : Refusal) × ((cause ≡ refusal.now) ⊎ (cause ≡ Refusal.Memory))
         × (result ≡ status_of cause)

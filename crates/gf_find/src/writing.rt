@@ -6,7 +6,7 @@ ghost use Rattle.spec_reports.specs.Writing.{AppendsPart, Receives};
 
 use gf_edges::{Failed, Sink};
 
-/// Writes the text. Each write offers the whole rest of it. Where the sink fails, a front of the text stands on it that
+/// Writes the text. Each write offers the whole rest of it. Where the sink fails, a prefix of the text stands on it that
 /// isn't all of it.
 pub(crate) fn write_whole<K: Sink>(sink: &mut K, text: &[u8]) -> Result<(), Failed>
     ensures whole { OnOk result (Appends (K.bytes sink.old) (K.bytes sink.new) text.now) }

@@ -11,7 +11,7 @@ use Rattle.spec_trees.specs.declared.window.Holds.{Holds}
 use Rattle.spec_trees.specs.declared.window.Holds.TheVariants as H
 use Rattle.spec_trees.specs.declared.window.Window.{Window}
 use Rattle.spec_trees.specs.Placement.{IsIn, IsWithin}
-use Rattle.spec_events.specs.Events.{IsEvent, HasNoEvent, HoldsOne, AreWindows}
+use Rattle.spec_events.specs.Events.{IsEvent, IsLeftIn, HasNoEvent, HoldsOne, AreWindows}
 use Rattle.spec_trees.specs.Tree.{Covers}
 use Rattle.spec_trees.specs.Windows.{window_of, windows}
 use Rattle.spec_events.specs.Marks.{IsRightMark, AreRightlyMarked}
@@ -28,7 +28,7 @@ any_later Q w ws a = (suc a.0, a.1, omega (arith, a.2), a.3, a.4)
 order : (t m : ℤ) → (t ≤ℤ m) ⊎ (m <ℤ t)
 order t m = grind (arith, ints)
 
-module _ (E : Turn → ℤ → Type 0) (U : ℤ → Type 0) where
+module _ (E : Turn → ℤ → Type 0) (U : Node → Type 0) where
   -- times without an event in front
   skip : (low mid upto : ℤ) (ws : List Window) → low ≤ℤ mid → HasNoEvent E low mid → AreWindows E U mid upto ws → AreWindows E U low upto ws
   skip low mid upto ws h none g = record {
@@ -46,12 +46,12 @@ module _ (E : Turn → ℤ → Type 0) (U : ℤ → Type 0) where
   -- what a window says by what it holds
   abbrev HoldsAs : Window → Holds → Type 0
   HoldsAs w (H.Certain turn) = HoldsOne E turn w
-  HoldsAs w H.Undecided = (t : ℤ) → IsIn w t → U t
+  HoldsAs w H.Undecided = (t : ℤ) → IsIn w t → IsLeftIn U w t
 
   certain_as : (w : Window) (turn : Turn) → HoldsAs w w.holds → w.holds ≡ H.Certain turn → HoldsOne E turn w
   certain_as w turn h e = subst (HoldsAs w) e h
 
-  open_as : (w : Window) → HoldsAs w w.holds → w.holds ≡ H.Undecided → (t : ℤ) → IsIn w t → U t
+  open_as : (w : Window) → HoldsAs w w.holds → w.holds ≡ H.Undecided → (t : ℤ) → IsIn w t → IsLeftIn U w t
   open_as w h e = subst (HoldsAs w) e h
 
   -- a window in front
@@ -62,7 +62,7 @@ module _ (E : Turn → ℤ → Type 0) (U : ℤ → Type 0) where
     in_order = in_order-cons w upto ws (omega (arith, ints, f, i)) g.within g.in_order;
     every_event = λ t a b e. by t a b e (order t w.last);
     certain = All-cons (λ v. (turn : Turn) → v.holds ≡ H.Certain turn → HoldsOne E turn v) w ws (λ turn e. certain_as w turn h e) g.certain;
-    undecided = All-cons (λ v. v.holds ≡ H.Undecided → (t : ℤ) → IsIn v t → U t) w ws (open_as w h) g.undecided;
+    undecided = All-cons (λ v. v.holds ≡ H.Undecided → (t : ℤ) → IsIn v t → IsLeftIn U v t) w ws (open_as w h) g.undecided;
   }
     where
       by : (t : ℤ) → low <ℤ t → t ≤ℤ upto → IsEvent E t → (t ≤ℤ w.last) ⊎ (w.last <ℤ t) → Any (λ v. IsIn v t) (w ∷ ws)
@@ -79,13 +79,30 @@ module _ (E : Turn → ℤ → Type 0) (U : ℤ → Type 0) where
   close (Some w) low a upto ws r j g =
       front low upto w ws r.0 (omega (arith, ints, r.1, r.2)) (omega (arith, ints, r.1, j)) (subst (λ (h : Holds). HoldsAs w h) (sym r.3) r.4) (subst (λ (z : ℤ). AreWindows E U z upto ws) (sym r.1) g)
 
+  -- a node at the end of a window
+  at_end : (w : Window) (n : Node) → U n → w.first ≤ℤ (n.a +ℤ pos 1) → n.b ≤ℤ w.last → (t : ℤ) → n.a <ℤ t → t ≤ℤ n.b → IsLeftIn U w t
+  at_end w n left from to t after upto = record { node = n; left = left; from = from; after = after; upto = upto; to = to }
+
+  -- what lies in a window lies in one that ends later
+  wider : (w v : Window) (t : ℤ) → v.first ≤ℤ w.first → w.last ≤ℤ v.last → IsLeftIn U w t → IsLeftIn U v t
+  wider w v t earlier later is = record {
+    node = is.node;
+    left = is.left;
+    from = let from = is.from in omega (arith, ints, earlier, from);
+    after = is.after;
+    upto = is.upto;
+    to = let to = is.to in omega (arith, ints, later, to);
+  }
+
   stretch : (run : Option Window) (low : ℤ) (n : Node) → IsRun run low n.a → n.a <ℤ n.b → IsRightMark E U n M.Undecided → IsRun (Some (longer run n)) low n.b
-  stretch None low n r i h = (ap (λ z. z +ℤ pos 1) (sym r), refl, omega (arith, ints, r, i), refl, λ t k. h t (omega (arith, ints, k.from)) k.to)
+  stretch None low n r i h =
+      (ap (λ z. z +ℤ pos 1) (sym r), refl, omega (arith, ints, r, i), refl, λ t k. at_end (longer None n) n h (omega (arith, ints)) (omega (arith, ints)) t (omega (arith, ints, k.from)) k.to)
   stretch (Some w) low n r i h = (r.0, refl, omega (arith, ints, r.2, i), refl, λ t k. by t k (order t w.last))
     where
-      by : (t : ℤ) → IsIn (longer (Some w) n) t → (t ≤ℤ w.last) ⊎ (w.last <ℤ t) → U t
-      by t k (inl p) = r.4 t (record { from = k.from; to = p })
-      by t k (inr p) = h t (omega (arith, ints, r.1, p)) k.to
+      by : (t : ℤ) → IsIn (longer (Some w) n) t → (t ≤ℤ w.last) ⊎ (w.last <ℤ t) → IsLeftIn U (longer (Some w) n) t
+      by t k (inl p) = wider w (longer (Some w) n) t (omega (arith, ints)) (omega (arith, ints, r.1, i)) (r.4 t (record { from = k.from; to = p }))
+      by t k (inr p) =
+          at_end (longer (Some w) n) n h (omega (arith, ints, r.0, r.2)) (omega (arith, ints)) t (omega (arith, ints, r.1, p)) k.to
 
   nothing : (a : ℤ) → AreWindows E U a a []
   nothing a = record {
@@ -93,7 +110,7 @@ module _ (E : Turn → ℤ → Type 0) (U : ℤ → Type 0) where
     in_order = tt;
     every_event = λ t p q e. absurd (omega (arith, ints));
     certain = All-nil (λ v. (turn : Turn) → v.holds ≡ H.Certain turn → HoldsOne E turn v);
-    undecided = All-nil (λ v. v.holds ≡ H.Undecided → (t : ℤ) → IsIn v t → U t);
+    undecided = All-nil (λ v. v.holds ≡ H.Undecided → (t : ℤ) → IsIn v t → IsLeftIn U v t);
   }
 
   -- one leaf in front

@@ -1,9 +1,10 @@
 -- When an event happens, and what a window of time promises of the events in it.
--- E says of a direction and a time whether a turn in that direction happens then, and P of a time whether a condition
--- holds. Times are seconds of TDB since J2000.
-use Rattle.std.specs.Prelude.{◌≡◌, ◌⊎◌, Bool, true, false, List, All, Any, ℤ, pos, ◌-ℤ◌, ◌≤ℤ◌, ◌<ℤ◌}
+-- E says of a direction and a time whether a turn in that direction happens then, P of a time whether a condition holds,
+-- and U of a node whether it is left undecided. Times are seconds of TDB since J2000.
+use Rattle.std.specs.Prelude.{◌≡◌, ◌⊎◌, Bool, true, false, List, All, Any, ℤ, pos, ◌+ℤ◌, ◌-ℤ◌, ◌≤ℤ◌, ◌<ℤ◌}
 use Rattle.spec_events.specs.declared.dir.Dir.{Dir}
 use Rattle.spec_events.specs.declared.dir.Dir.TheVariants as D
+use Rattle.spec_trees.specs.declared.tree.Node.{Node}
 use Rattle.spec_trees.specs.declared.tree.Turn.{Turn}
 use Rattle.spec_trees.specs.declared.tree.Turn.TheVariants.{Rise, Fall}
 use Rattle.spec_trees.specs.declared.window.Holds.TheVariants.{Certain, Undecided}
@@ -56,21 +57,30 @@ HoldEvents E after upto ws = (t : ℤ) → after <ℤ t → t ≤ℤ upto → Is
 abbrev pub AreCertain : (Turn → ℤ → Type 0) → List Window → Type 0
 AreCertain E ws = All (λ w. (turn : Turn) → w.holds ≡ Certain turn → HoldsOne E turn w) ws
 
--- U is so of each time of each undecided window
-abbrev pub AreOpen : (ℤ → Type 0) → List Window → Type 0
-AreOpen U ws = All (λ w. w.holds ≡ Undecided → (t : ℤ) → IsIn w t → U t) ws
+-- the time lies in a node that U holds for, and all times of the node lie in the window
+pub record IsLeftIn (U : Node → Type 0) (window : Window) (t : ℤ) : Type 0 where
+  pub node : Node
+  pub left : U node
+  pub from : window.first ≤ℤ (node.a +ℤ pos 1)
+  pub after : node.a <ℤ t
+  pub upto : t ≤ℤ node.b
+  pub to : node.b ≤ℤ window.last
 
--- the windows of the events after one time and up to another, where U is so of what is left undecided
-pub record AreWindows (E : Turn → ℤ → Type 0) (U : ℤ → Type 0) (after upto : ℤ) (ws : List Window) : Type 0 where
+-- each time of each undecided window lies in a node that is left undecided and that lies in the window
+abbrev pub AreOpen : (Node → Type 0) → List Window → Type 0
+AreOpen U ws = All (λ w. w.holds ≡ Undecided → (t : ℤ) → IsIn w t → IsLeftIn U w t) ws
+
+-- the windows of the events after one time and up to another, where U holds for the nodes that are left undecided
+pub record AreWindows (E : Turn → ℤ → Type 0) (U : Node → Type 0) (after upto : ℤ) (ws : List Window) : Type 0 where
   pub within : AreWithin after upto ws
   pub in_order : AreInOrder ws
   pub every_event : HoldEvents E after upto ws
   pub certain : AreCertain E ws
   pub undecided : AreOpen U ws
 
--- a fact of times that a test decides
-abbrev pub Passes : (ℤ → Bool) → ℤ → Type 0
-Passes test t = test t ≡ true
+-- a fact of times, or of nodes, that a test decides
+abbrev pub Passes : {T : Type 0} → (T → Bool) → T → Type 0
+Passes {T} test x = test x ≡ true
 
 -- events that a test decides
 abbrev pub Happens : (Turn → ℤ → Bool) → Turn → ℤ → Type 0

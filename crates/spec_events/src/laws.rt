@@ -25,17 +25,18 @@ pub fn turns_are_wanted()
 {}
 
 /// Where leaves cover a span and each has the right mark, their windows are the windows of the span's events: they lie
-/// within the span, each ends before every later one begins, they hold every event, and each of them holds what it
-/// says. It is so of any events, and with that of the turns of a condition, and of the events of a function.
+/// within the span, each ends before every later one begins, they hold every event, each certain one exactly one, and
+/// each time of an undecided one lies in an undecided leaf that lies in the window. It holds for any events, and with that
+/// for the turns of a condition, and for the events of a function.
 pub fn windows_of_a_covered_span()
-    ensures are_windows { (e : Turn → ℤ → Bool) (u : ℤ → Bool) (a b : ℤ) (ls : List Leaf)
+    ensures are_windows { (e : Turn → ℤ → Bool) (u : Node → Bool) (a b : ℤ) (ls : List Leaf)
         → Covers a ls b → AreRightlyMarked (Happens e) (Passes u) ls
         → AreWindows (Happens e) (Passes u) a b (windows ls) }
-    ensures of_turns { (p u : ℤ → Bool) (a b : ℤ) (ls : List Leaf) → Covers a ls b
+    ensures of_turns { (p : ℤ → Bool) (u : Node → Bool) (a b : ℤ) (ls : List Leaf) → Covers a ls b
         → AreRightlyMarked (IsTurn (Passes p)) (Passes u) ls
         → AreWindows (IsTurn (Passes p)) (Passes u) a b (windows ls) }
-    ensures of_functions { (exact : ℤ → Fraction) (dir : Dir) (guards : List Guard) (u : ℤ → Bool)
-        (a b : ℤ) (ls : List Leaf) → Covers a ls b
+    ensures of_functions { (exact : ℤ → Fraction) (dir : Dir) (guards : List Guard)
+        (u : Node → Bool) (a b : ℤ) (ls : List Leaf) → Covers a ls b
         → AreRightlyMarked (EventsOf exact dir guards) (Passes u) ls
         → AreWindows (EventsOf exact dir guards) (Passes u) a b (windows ls) }
 {}

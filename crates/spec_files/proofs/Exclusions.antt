@@ -13,7 +13,7 @@ use Rattle.spec_files.specs.Reading.{AreAccepted, AreRefused, HasFirstFault, IsN
 use Rattle.spec_files.specs.Texts.{end_line}
 use Rattle.spec_files.proofs.Joining.{first_fault_refused}
 
-abbrev Texts : Type 0
+abbrev pub Texts : Type 0
 Texts = List (List ℕ)
 
 one_text : (found : Option (List ℕ)) (a b : List ℕ) → found ≡ Some a → found ≡ Some b → a ≡ b
@@ -46,7 +46,7 @@ known_same known (n ∷ names) (t ∷ texts) (o ∷ other) one two =
 known_lacks : (known : Files) (name text : List ℕ) → IsFile (Some known) name text → Lacks (Some known) name → ⊥
 known_lacks known name text is lacks = let none : file_of name known ≡ None = lacks in absurd (cc)
 
-known_not_lacking : (known : Files) (names texts : Texts) (place count : ℕ) (name : List ℕ) → AreFiles (Some known) (take count names) texts → place < count
+pub known_not_lacking : (known : Files) (names texts : Texts) (place count : ℕ) (name : List ℕ) → AreFiles (Some known) (take count names) texts → place < count
     → slice_get names place ≡ Some name → Lacks (Some known) name → ⊥
 known_not_lacking known [] texts zero count name all inside here lacks = absurd (cc)
 known_not_lacking known [] texts (suc place) count name all inside here lacks = absurd (cc)
@@ -65,7 +65,7 @@ front_of known names texts some count all fewer =
     known_front known (take count names) (drop count names) texts some
     (subst (λ (ns : Texts). AreFiles (Some known) ns texts) (sym (take-append-drop count names)) all) fewer
 
-all_taken : (known : Files) (names texts : Texts) (count : ℕ) → count ≡ length names → AreFiles (Some known) (take count names) texts → AreFiles (Some known) names texts
+pub all_taken : (known : Files) (names texts : Texts) (count : ℕ) → count ≡ length names → AreFiles (Some known) (take count names) texts → AreFiles (Some known) names texts
 all_taken known names texts count all some = subst (λ (ns : Texts). AreFiles (Some known) ns texts) (take_all count names (omega (arith, all))) some
 
 both : (texts : Texts) (e : Ephemeris) (fault : ℕ × Fault) → outcome texts ≡ Ok e → outcome texts ≡ Err fault → ⊥
@@ -108,7 +108,7 @@ accepted_not_lacking known names e end count now file is not = elim not.cause [
 ]
 
 -- the first files, and further ones
-first_and_further : (names : Texts) (fewer more : ℕ) → fewer ≤ more → take more names ≡ take fewer names ++ drop fewer (take more names)
+pub first_and_further : (names : Texts) (fewer more : ℕ) → fewer ≤ more → take more names ≡ take fewer names ++ drop fewer (take more names)
 first_and_further names fewer more within =
     sym (take-append-drop fewer (take more names)) ∙ ap (λ (front : Texts). front ++ drop fewer (take more names)) (take-take fewer more names within)
 

@@ -5,3 +5,4 @@ pub mod MoreHeader
 pub mod MoreBlocks
 pub mod FirstFault
 pub mod Exclusions
+pub mod Once

@@ -7,8 +7,8 @@ use Rattle.spec_faults.specs.Faults.{fault_kind}
 use Rattle.spec_reports.specs.Messages.{event_text, leaves_text, title, words_text}
 
 -- a number whose digits but the last are known
-number : (n : ℕ) (front : List ℕ) → 10 ≤ n → n < 2 ^ 64 → decimal (n / 10) ≡ front → decimal n ≡ front ++ ((48 + n % 10) ∷ [])
-number n front low high is = decimal_step n low high ∙ ap (λ (tens : List ℕ). tens ++ ((48 + n % 10) ∷ [])) is
+number : (n : ℕ) (tens : List ℕ) → 10 ≤ n → n < 2 ^ 64 → decimal (n / 10) ≡ tens → decimal n ≡ tens ++ ((48 + n % 10) ∷ [])
+number n tens low high is = decimal_step n low high ∙ ap (λ (digits : List ℕ). digits ++ ((48 + n % 10) ∷ [])) is
 
 number_60 : decimal 60 ≡ codes "60"
 number_60 = number 60 (codes "6") (lit≤ tt) (lit< tt) (decimal_digit 6 (lit< tt))

@@ -31,8 +31,7 @@ abbrev pub after_blank : Option (List ℕ) → List ℕ
 after_blank None = []
 after_blank (Some text) = codes " " ++ text
 
--- the words of the command line ask for nothing, for the cause of this number; the option that is bad follows, where
--- there is one
+-- the command line is invalid, for the cause of this number; the option that is bad follows, where there is one
 abbrev pub words_text : ℕ → Option (List ℕ) → List ℕ
 words_text number option = codes "finder: words: " ++ fault_text number 0 ++ after_blank option ++ codes "\n"
 

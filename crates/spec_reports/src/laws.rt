@@ -12,7 +12,7 @@ pub fn faults_are_named()
     ensures no_row { title 23 0 ≡ [] }
 {}
 
-/// The lines of words that ask for nothing.
+/// The lines of invalid command lines.
 pub fn the_lines_of_words()
     ensures no_word { words_text 60 None ≡ codes "finder: words: 60 NoCommand\n" }
     ensures option { words_text 63 (Some (codes "width"))
@@ -31,9 +31,9 @@ pub fn the_line_of_leaves()
     ensures { leaves_text ≡ codes "finder: more than 33554432 leaves\n" }
 {}
 
-/// A sink that fails holds a front of the text, which isn't all of it.
+/// A sink that fails holds a prefix of the text, which isn't all of it.
 pub fn texts_are_written()
-    ensures front { AppendsPart (Some (1 ∷ [])) (Some (1 ∷ 2 ∷ [])) (2 ∷ 3 ∷ []) }
+    ensures prefix { AppendsPart (Some (1 ∷ [])) (Some (1 ∷ 2 ∷ [])) (2 ∷ 3 ∷ []) }
     ensures nothing { AppendsPart (Some (1 ∷ [])) (Some (1 ∷ [])) (2 ∷ 3 ∷ []) }
     ensures not_all { AppendsPart (Some (1 ∷ [])) (Some (1 ∷ 2 ∷ 3 ∷ [])) (2 ∷ 3 ∷ []) → ⊥ }
 {}

@@ -1,6 +1,7 @@
 -- The windows that a search finds are those of its events.
-use Rattle.std.proofs.Common.{◌≡◌, ◌≤◌, ◌⊎◌, inl, inr, List, Some, ℤ, ◌≤ℤ◌, ◌<ℤ◌, refl, ap, ◌∙◌, subst, arith}
-use Rattle.std.proofs.lemmas.List.Elements.{All-weaker}
+use Rattle.std.proofs.Common.{◌≡◌, ◌≤◌, ◌⊎◌, inl, inr, List, Some, ℤ, refl, ap, ◌∙◌, subst, arith}
+use Rattle.std.proofs.lemmas.List.Elements.{All-contains_itself}
+use Rattle.std.specs.Prelude.{Contains}
 use Rattle.spec_intervals.specs.Fraction.{Fraction}
 use Rattle.spec_expressions.specs.Term.{exact_of}
 use Rattle.spec_bodies.specs.Views.{exact_state}
@@ -12,7 +13,7 @@ use Rattle.spec_trees.specs.declared.tree.Turn.{Turn}
 use Rattle.spec_trees.specs.declared.tree.Verdict.{Verdict}
 use Rattle.spec_trees.specs.declared.tree.Verdict.TheVariants.{Clear, One, Undecided}
 use Rattle.spec_trees.specs.declared.window.Holds.TheVariants.{Certain}
-use Rattle.spec_trees.specs.Tree.{IsLeaf, IsValid, leaves, mark_of, width}
+use Rattle.spec_trees.specs.Tree.{IsLeaf, IsValid, leaf_of, leaves, mark_of, width}
 use Rattle.spec_trees.specs.Windows.{window_of}
 use Rattle.spec_trees.proofs.Covering.{leaves_are, leaves_cover}
 use Rattle.spec_events.specs.Events.{AreWindows, HasNoEvent, HoldsOne}
@@ -53,28 +54,31 @@ module _ (s : Search) (is : IsSearch s) where
         by (inl narrow) few = inl narrow
         by (inr deep) few = inr (omega (arith, deep, few))
 
-    pub undecided_is_left : verdict_of s n ≡ Undecided → (t : ℤ) → n.a <ℤ t → t ≤ℤ n.b → IsLeftUndecided s t
-    undecided_is_left e t after upto = record { node = n; valid = valid; after = after; upto = upto; undecided = e; limit = limit_is e }
+    module _ (top : Node) where
+      abbrev IsAmongLeaves : Mark → Type 0
+      IsAmongLeaves m = Contains (leaves (rules s) top) (leaf_of n m)
 
-    is_right : (m : Mark) → mark_of (verdict_of s n) ≡ Some m → IsRightMark (events s) (IsLeftUndecided s) n m
-    is_right m marked = by (verdict_of s n) refl m marked
-      where
-        by : (v : Verdict) → verdict_of s n ≡ v → (m : Mark) → mark_of v ≡ Some m → IsRightMark (events s) (IsLeftUndecided s) n m
-        by Clear e M.Clear k = clear_holds_none e
-        by (One turn) e (M.One other) k = let same : turn ≡ other = cc in one_holds_one other (e ∙ ap One same)
-        by Undecided e M.Undecided k = undecided_is_left e
-        by v e m k = absurd (cc)
+      undecided_is_left : verdict_of s n ≡ Undecided → IsAmongLeaves M.Undecided → IsLeftUndecided s top n
+      undecided_is_left e among = record { leaf = among; valid = valid; undecided = e; limit = limit_is e }
 
-  leaf_is_right : (l : Leaf) → IsLeaf (rules s) l → IsRightMark (events s) (IsLeftUndecided s) l.node l.mark
-  leaf_is_right l leaf = is_right l.node leaf.valid l.mark leaf.marked
+      is_right : (m : Mark) → mark_of (verdict_of s n) ≡ Some m → IsAmongLeaves m → IsRightMark (events s) (IsLeftUndecided s top) n m
+      is_right m marked among = by (verdict_of s n) refl m marked among
+        where
+          by : (v : Verdict) → verdict_of s n ≡ v → (m : Mark) → mark_of v ≡ Some m → IsAmongLeaves m → IsRightMark (events s) (IsLeftUndecided s top) n m
+          by Clear e M.Clear k among = clear_holds_none e
+          by (One turn) e (M.One other) k among = let same : turn ≡ other = cc in one_holds_one other (e ∙ ap One same)
+          by Undecided e M.Undecided k among = undecided_is_left e among
+          by v e m k among = absurd (cc)
 
-  pub leaves_are_right : (n : Node) → IsValid (rules s) n → AreRightlyMarked (events s) (IsLeftUndecided s) (leaves (rules s) n)
-  leaves_are_right n valid =
-      All-weaker (IsLeaf (rules s)) (λ l. IsRightMark (events s) (IsLeftUndecided s) l.node l.mark) leaf_is_right (leaves (rules s) n)
-      (leaves_are (rules s) (rules_are_sound s is.view) n valid)
+  leaf_is_right : (top : Node) (l : Leaf) → IsLeaf (rules s) l → Contains (leaves (rules s) top) l → IsRightMark (events s) (IsLeftUndecided s top) l.node l.mark
+  leaf_is_right top l leaf among = is_right l.node leaf.valid top l.mark leaf.marked among
 
-  pub windows_are_found : (first last : ℤ) → IsSpan s first last → AreWindows (events s) (IsLeftUndecided s) first last (windows_of s first last)
+  pub leaves_are_right : (n : Node) → IsValid (rules s) n → AreRightlyMarked (events s) (IsLeftUndecided s n) (leaves (rules s) n)
+  leaves_are_right n valid = λ k d within.
+      leaf_is_right n _ (leaves_are (rules s) (rules_are_sound s is.view) n valid k d within) (All-contains_itself (leaves (rules s) n) k d within)
+
+  pub windows_are_found : (first last : ℤ) → IsSpan s first last → AreWindows (events s) (IsLeftUndecided s (root first last)) first last (windows_of s first last)
   windows_are_found first last span =
       let valid = root_is_valid s is.view first last span in
-      windows_are (events s) (IsLeftUndecided s) first last (leaves (rules s) (root first last))
+      windows_are (events s) (IsLeftUndecided s (root first last)) first last (leaves (rules s) (root first last))
       (leaves_cover (rules s) (rules_are_sound s is.view) (root first last) valid) (leaves_are_right (root first last) valid)

@@ -1,10 +1,11 @@
 -- The tree of a search, and the windows that it finds.
-use Rattle.std.specs.Prelude.{◌≡◌, ◌≤◌, ◌⊎◌, List, ℤ, ◌≤ℤ◌, ◌<ℤ◌}
+use Rattle.std.specs.Prelude.{◌≡◌, ◌≤◌, ◌⊎◌, List, Contains, ℤ, ◌≤ℤ◌, ◌<ℤ◌}
 use Rattle.spec_ephemeris.specs.Ephemeris.{end_of}
+use Rattle.spec_trees.specs.declared.tree.Mark.TheVariants as M
 use Rattle.spec_trees.specs.declared.tree.Node.{Node}
-use Rattle.spec_trees.specs.declared.tree.Verdict.TheVariants.{Undecided}
+use Rattle.spec_trees.specs.declared.tree.Verdict.TheVariants as V
 use Rattle.spec_trees.specs.declared.window.Window.{Window}
-use Rattle.spec_trees.specs.Tree.{Rules, IsValid, leaves, width}
+use Rattle.spec_trees.specs.Tree.{Rules, IsValid, leaf_of, leaves, width}
 use Rattle.spec_trees.specs.Windows.{windows}
 use Rattle.spec_searches.specs.Search.{Search, verdict_of, parts}
 
@@ -32,11 +33,9 @@ pub record IsSpan (s : Search) (first last : ℤ) : Type 0 where
 abbrev pub windows_of : Search → ℤ → ℤ → List Window
 windows_of s from upto = windows (leaves (rules s) (root from upto))
 
--- a time in a node that is left undecided, no wider than the width or as deep as the depth
-pub record IsLeftUndecided (s : Search) (t : ℤ) : Type 0 where
-  pub node : Node
-  pub valid : IsValid (rules s) node
-  pub after : node.a <ℤ t
-  pub upto : t ≤ℤ node.b
-  pub undecided : verdict_of s node ≡ Undecided
-  pub limit : (width node ≤ s.width) ⊎ (node.depth ≡ s.depth)
+-- a leaf of the tree of this root that is left undecided, no wider than the width or as deep as the depth
+pub record IsLeftUndecided (s : Search) (top n : Node) : Type 0 where
+  pub leaf : Contains (leaves (rules s) top) (leaf_of n M.Undecided)
+  pub valid : IsValid (rules s) n
+  pub undecided : verdict_of s n ≡ V.Undecided
+  pub limit : (width n ≤ s.width) ⊎ (n.depth ≡ s.depth)

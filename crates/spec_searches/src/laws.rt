@@ -51,12 +51,14 @@ pub fn searches_are_sound()
 /// one is no wider than the width or as deep as the depth.
 pub fn leaves_are_rightly_marked()
     ensures { (s : Search) (n : Node) → IsSearch s → IsValid (rules s) n
-        → AreRightlyMarked (events s) (IsLeftUndecided s) (leaves (rules s) n) }
+        → AreRightlyMarked (events s) (IsLeftUndecided s n) (leaves (rules s) n) }
 {}
 
 /// The windows that a search finds in a span are those of its events: they lie in the span in order, hold every event,
-/// each certain one exactly one, and what is undecided was left so.
+/// each certain one exactly one, and each time of an undecided one lies in a leaf of the span's tree that was left
+/// undecided and lies in the window.
 pub fn windows_hold_the_events()
     ensures { (s : Search) (first last : ℤ) → IsSearch s → IsSpan s first last
-        → AreWindows (events s) (IsLeftUndecided s) first last (windows_of s first last) }
+        → AreWindows (events s) (IsLeftUndecided s (root first last)) first last
+        (windows_of s first last) }
 {}

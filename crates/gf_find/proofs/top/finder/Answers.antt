@@ -1,8 +1,13 @@
 use Rattle.std.proofs.Common.{◌∙◌, inl, inr, List, ℕ, subst, sym}
 use Rattle.std.specs.Io.KnownBytes.{Appends}
 use Rattle.spec_reports.specs.Writing.{AppendsPart}
-use Rattle.gf_find.proofs.Answered.{cause_is, checks, comes_to, finds, generates, not_reported, not_unwritten, refused_exactly, refused_only, text_not_refused}
+use Rattle.gf_find.proofs.Answered.{cause_is, checks, outcome_is, finds, generates, not_reported, not_unwritten, refused_exactly, refused_only, text_not_refused}
 use Rattle.gf_find.proofs.top.finder.Goals as goal
+
+pub returns-in-Ok-clause-reported : goal.returns-in-Ok-clause-reported
+returns-in-Ok-clause-reported g c = λ zero.
+    let P : List ℕ → Type 0 = λ text. Appends (g.O.Sink.bytes c.args.out.now) (g.O.Sink.bytes c.write_text.new.out) text in
+    (c.in-Ok.text.items, outcome_is _ _ _ c.in-Ok.ensures.answered _ _, subst P c.deref.ensures.value (c.write_text.ensures.whole zero))
 
 pub returns-in-Ok-clause-find : goal.returns-in-Ok-clause-find
 returns-in-Ok-clause-find g c = λ find asked zero.
@@ -22,7 +27,7 @@ returns-in-Ok-clause-generated g c = λ blocks seed workers asked zero.
 pub returns-in-Ok-clause-write : goal.returns-in-Ok-clause-write
 returns-in-Ok-clause-write g c = λ five.
     let P : List ℕ → Type 0 = λ text. AppendsPart (g.O.Sink.bytes c.args.out.now) (g.O.Sink.bytes c.write_text.new.out) text in
-    (c.in-Ok.text.items, comes_to _ _ _ c.in-Ok.ensures.answered _ _, subst P c.deref.ensures.value (c.write_text.ensures.part five))
+    (c.in-Ok.text.items, outcome_is _ _ _ c.in-Ok.ensures.answered _ _, subst P c.deref.ensures.value (c.write_text.ensures.part five))
 
 pub returns-in-Ok-clause-refused : goal.returns-in-Ok-clause-refused
 returns-in-Ok-clause-refused g c = λ zero five. elim c.write_text.ensures.known [ inl is ↦ absurd (zero is) | inr is ↦ absurd (five is) ]
@@ -33,7 +38,10 @@ returns-in-Ok-clause-complete g c = λ text known outcome.
 
 pub returns-in-Ok-clause-exact : goal.returns-in-Ok-clause-exact
 returns-in-Ok-clause-exact g c = λ refusal known outcome.
-    inr (inr (text_not_refused _ _ _ _ known c.in-Ok.text.items refusal (comes_to _ _ _ c.in-Ok.ensures.answered _ _) outcome))
+    inr (inr (text_not_refused _ _ _ _ known c.in-Ok.text.items refusal (outcome_is _ _ _ c.in-Ok.ensures.answered _ _) outcome))
+
+pub returns-in-Err-clause-reported : goal.returns-in-Err-clause-reported
+returns-in-Err-clause-reported g c = λ zero. absurd (not_reported _ (sym c.write_refusal.ensures.written.2 ∙ zero))
 
 pub returns-in-Err-clause-find : goal.returns-in-Err-clause-find
 returns-in-Err-clause-find g c = λ find asked zero. absurd (not_reported _ (sym c.write_refusal.ensures.written.2 ∙ zero))

@@ -6,31 +6,29 @@ use Rattle.spec_text.specs.declared.decimals.Decimal.{Decimal}
 use Rattle.spec_text.specs.declared.decimals.Fault.{Fault}
 use Rattle.spec_ephemeris.specs.Ephemeris.{Ephemeris}
 use Rattle.spec_sections.specs.declared.rules.BrokenRule.{BrokenRule}
-use Rattle.spec_sections.specs.Sections.{FileLine, Stop, ended, breaks as breaks_rule, ◌>>=◌, at_line, line_fault}
+use Rattle.spec_sections.specs.Sections.{FileLine, Stop, ended, breaks as breaks_rule, ◌>>=◌, at_line, line_fault, ruled_at}
 use Rattle.spec_sections.proofs.Holding.{holds_ok}
 use Rattle.spec_faults.specs.declared.numbers.TheConstants.{TRUNCATED}
 use Rattle.spec_blocks.specs.BlockRules.{record_line}
 use Rattle.spec_blocks.specs.Blocks.{blocks_after, further_numbers, with_numbers}
 use Rattle.spec_blocks.specs.Read.{AreRead}
 use Rattle.spec_sections.specs.FileLines.{line_of}
-use Rattle.de_blocks.specs.declared.answers.BlockError.{BlockError}
-use Rattle.de_blocks.specs.declared.answers.BlockError.TheVariants as errors
+use Rattle.spec_sections.specs.declared.errors.ReadError.{ReadError}
+use Rattle.spec_sections.specs.declared.errors.ReadError.TheVariants as errors
 use Rattle.de_blocks.specs.declared.state.Place.{Place}
 use Rattle.de_blocks.specs.declared.state.Place.TheVariants.{Between, Inside, Refused}
 use Rattle.spec_blocks.proofs.Blocks.{is_with}
 use Rattle.spec_blocks.proofs.Numbers.{none_read}
-use Rattle.de_blocks.specs.declared.answers.Refusal.{Refusal}
-use Rattle.de_blocks.specs.declared.answers.Refusal.TheVariants.{Broken, Memory}
 use Rattle.de_blocks.specs.Steps.{TakesBlock, TakesLine, on_line, wanted}
 use Rattle.de_blocks.specs.Reader.{Ends, Fits, Progress, Says, Takes, answer, at_end, from_numbers, from_record, numbers_at, says, says_at}
-use Rattle.spec_sections.proofs.Steps.{bind_same}
+use Rattle.spec_sections.proofs.Steps.{bind_same, broken_by}
 use Rattle.de_blocks.proofs.Enough.{enough, further_fewer}
 use Rattle.de_blocks.proofs.OnLines.{Accepted, accepted, breaks, ends, goes_on}
 
 abbrev pub at : Ephemeris → List Decimal → Place → Progress
 at before numbers place = record { accepted = before; numbers = numbers; place = place }
 
-abbrev place_of : Fault → Result (Unit {0}) BlockError → Place
+abbrev place_of : Fault → Result (Unit {0}) ReadError → Place
 place_of fault (Err (errors.Fault f)) = Refused f
 place_of fault result = Refused fault
 
@@ -91,7 +89,7 @@ takes_broken old new line fault refused breaks_it = record {
   read = λ known file rest. ap (λ (p : Place). says_at file p new.accepted new.numbers rest) refused ∙ sym (breaks_it file rest);
   answers = λ known. sym (ap (λ (p : Place). answer (says_at 0 p new.accepted new.numbers [])) refused);
   goes_on = λ no. absurd (cc);
-  kept = λ f is. refused ∙ ap (λ (r : Result (Unit {0}) BlockError). place_of fault r) is;
+  kept = λ f is. refused ∙ ap (λ (r : Result (Unit {0}) ReadError). place_of fault r) is;
   unchanged = λ no. absurd (cc);
 }
 
@@ -180,7 +178,7 @@ unfolding says
 stays old fault file rest lines is =
     ap (λ (p : Place). says_at file p old.accepted old.numbers rest) is ∙ sym (ap (λ (p : Place). says_at file p old.accepted old.numbers lines) is)
 
-abbrev fault_answer : Fault → Result (Unit {0}) BlockError
+abbrev fault_answer : Fault → Result (Unit {0}) ReadError
 fault_answer fault = Err (errors.Fault fault)
 
 pub tells : (old : Progress) (fault : Fault) → old.place ≡ Refused fault → fault_answer fault ≡ answer (says 0 old [])
@@ -188,48 +186,48 @@ unfolding says
 tells old fault is = sym (ap (λ (p : Place). answer (says_at 0 p old.accepted old.numbers [])) is)
 
 -- ---- a line within a block
-after_ok : (before after : Ephemeris) (numbers new : List Decimal) (words : List (List ℕ)) (was place : Place) → Fits (at before numbers was)
-    → TakesLine before numbers words (Ok place) after new → Fits (at after new place)
-after_ok before after numbers new words was Inside fits (is, few, same) =
-    let meets = holds_ok (Accepted before numbers words) (on_line before numbers words) new is (accepted before numbers words fits.read) in
+after_ok : (before after : Ephemeris) (numbers new : List Decimal) (line : TokenLine) (was place : Place) → Fits (at before numbers was)
+    → TakesLine before numbers line (Ok place) after new → Fits (at after new place)
+after_ok before after numbers new line was Inside fits (is, few, same) =
+    let meets = holds_ok (Accepted before numbers line.tokens) (on_line before numbers line.tokens) new is (accepted before numbers line.tokens fits.read) in
     subst (λ (e : Ephemeris). Fits (at e new Inside)) (sym same) (record { checked = fits.checked; kept = refl; read = meets.read; few = few })
-after_ok before after numbers new words was Between fits (all, is, whole, same, none) =
-    let meets = holds_ok (Accepted before numbers words) (on_line before numbers words) all is (accepted before numbers words fits.read) in
+after_ok before after numbers new line was Between fits (all, is, whole, same, none) =
+    let meets = holds_ok (Accepted before numbers line.tokens) (on_line before numbers line.tokens) all is (accepted before numbers line.tokens fits.read) in
     let with = is_with before all fits.checked meets.read whole in
     let some : 0 < (with_numbers before all).header.ncoeff = omega (arith, with.checked.header.fewest) in
     subst (λ (e : Ephemeris). Fits (at e new Between)) (sym same)
     (subst (λ (l : List Decimal). Fits (at (with_numbers before all) l Between)) (sym none)
     (record { checked = with.checked; kept = refl; read = none_read (with_numbers before all); few = some }))
-after_ok before after numbers new words was (Refused fault) fits never = absurd never
+after_ok before after numbers new line was (Refused fault) fits never = absurd never
 
-pub fits_after : (before after : Ephemeris) (numbers new : List Decimal) (words : List (List ℕ)) (was place : Place) (result : Result Place Refusal)
-    → Fits (at before numbers was) → result ≡ Ok place → TakesLine before numbers words result after new → Fits (at after new place)
-fits_after before after numbers new words was place result fits is taken =
-    after_ok before after numbers new words was place fits (subst (λ (r : Result Place Refusal). TakesLine before numbers words r after new) is taken)
+pub fits_after : (before after : Ephemeris) (numbers new : List Decimal) (line : TokenLine) (was place : Place) (result : Result Place ReadError)
+    → Fits (at before numbers was) → result ≡ Ok place → TakesLine before numbers line result after new → Fits (at after new place)
+fits_after before after numbers new line was place result fits is taken =
+    after_ok before after numbers new line was place fits (subst (λ (r : Result Place ReadError). TakesLine before numbers line r after new) is taken)
 
 took_ok : (before after : Ephemeris) (numbers new : List Decimal) (line : TokenLine) (was place : Place) → was ≡ Inside → Fits (at before numbers was)
-    → TakesLine before numbers line.tokens (Ok place) after new → Takes (at before numbers was) line (Ok tt) (at after new place)
+    → TakesLine before numbers line (Ok place) after new → Takes (at before numbers was) line (Ok tt) (at after new place)
 took_ok before after numbers new line was Inside inside fits (is, few, same) = takes_more before after numbers new was line inside fits is few same
 took_ok before after numbers new line was Between inside fits (all, is, whole, same, none) =
     takes_whole before after numbers all new was line inside fits is whole same
 took_ok before after numbers new line was (Refused fault) inside fits never = absurd never
 
-pub took : (before after : Ephemeris) (numbers new : List Decimal) (line : TokenLine) (was place : Place) (result : Result Place Refusal) → was ≡ Inside
-    → Fits (at before numbers was) → result ≡ Ok place → TakesLine before numbers line.tokens result after new
+pub took : (before after : Ephemeris) (numbers new : List Decimal) (line : TokenLine) (was place : Place) (result : Result Place ReadError) → was ≡ Inside
+    → Fits (at before numbers was) → result ≡ Ok place → TakesLine before numbers line result after new
     → Takes (at before numbers was) line (Ok tt) (at after new place)
 took before after numbers new line was place result inside fits is taken =
     took_ok before after numbers new line was place inside fits
-    (subst (λ (r : Result Place Refusal). TakesLine before numbers line.tokens r after new) is taken)
+    (subst (λ (r : Result Place ReadError). TakesLine before numbers line r after new) is taken)
 
 -- ---- a line that is taken, from its parts
-pub after_block : (before after : Ephemeris) (numbers mid new : List Decimal) (words : List (List ℕ)) (result : Result Place Refusal)
-    → on_line before numbers words ≡ Ok mid → length mid ≡ before.header.ncoeff → take (length numbers) mid ≡ numbers
-    → TakesBlock before mid result after new → TakesLine before numbers words result after new
-after_block before after numbers mid new words (Ok Between) is whole front (same, none) = (mid, is, whole, same, none)
-after_block before after numbers mid new words (Ok Inside) is whole front never = absurd never
-after_block before after numbers mid new words (Ok (Refused fault)) is whole front never = absurd never
-after_block before after numbers mid new words (Err (Broken b)) is whole front never = absurd never
-after_block before after numbers mid new words (Err Memory) is whole front (same, kept) =
+pub after_block : (before after : Ephemeris) (numbers mid new : List Decimal) (line : TokenLine) (result : Result Place ReadError)
+    → on_line before numbers line.tokens ≡ Ok mid → length mid ≡ before.header.ncoeff → take (length numbers) mid ≡ numbers
+    → TakesBlock before mid result after new → TakesLine before numbers line result after new
+after_block before after numbers mid new line (Ok Between) is whole front (same, none) = (mid, is, whole, same, none)
+after_block before after numbers mid new line (Ok Inside) is whole front never = absurd never
+after_block before after numbers mid new line (Ok (Refused fault)) is whole front never = absurd never
+after_block before after numbers mid new line (Err (errors.Fault fault)) is whole front never = absurd never
+after_block before after numbers mid new line (Err errors.Memory) is whole front (same, kept) =
     (same, ap (λ (l : List Decimal). take (length numbers) l) kept ∙ front)
 
 -- the numbers are all there where they aren't too few
@@ -239,15 +237,15 @@ is_whole before numbers mid words read few is enough =
     let meets = holds_ok (Accepted before numbers words) (on_line before numbers words) mid is (accepted before numbers words read) in
     (meets.read, omega (arith, meets.count, few, enough))
 
-pub took_bad : (before : Ephemeris) (numbers new : List Decimal) (after : Ephemeris) (place : Place) (last : Progress) (line : TokenLine) (result : Result Place Refusal)
-    (why : Refusal) (b : BrokenRule) (fault : Fault) → place ≡ Inside → Fits (at before numbers place) → why ≡ Broken b
-    → TakesLine before numbers line.tokens (Err why) after new → fault ≡ line_fault line.number b → last.place ≡ Refused fault
+pub took_bad : (before : Ephemeris) (numbers new : List Decimal) (after : Ephemeris) (place : Place) (last : Progress) (line : TokenLine) (why : ReadError) (fault : Fault)
+    → place ≡ Inside → Fits (at before numbers place) → why ≡ errors.Fault fault → TakesLine before numbers line (Err why) after new → last.place ≡ Refused fault
     → Takes (at before numbers place) line (Err (errors.Fault fault)) last
-took_bad before numbers new after place last line result why b fault inside fits is taken fault_is refused =
-    let rule = (subst (λ (r : Refusal). TakesLine before numbers line.tokens (Err r) after new) is taken).0 in
-    takes_bad before numbers place last line b fault inside fits rule fault_is refused
+took_bad before numbers new after place last line why fault inside fits is taken refused =
+    let ruled = (subst (λ (r : ReadError). TakesLine before numbers line (Err r) after new) is taken).0 in
+    let by = broken_by line.number (on_line before numbers line.tokens) fault ruled in
+    takes_bad before numbers place last line by.0 fault inside fits by.1 (sym by.2) refused
 
-pub ends_between : (old : Progress) (line : ℕ) (result : Result Ephemeris BlockError) → old.place ≡ Between → Ends line (from_record old.accepted []) result
+pub ends_between : (old : Progress) (line : ℕ) (result : Result Ephemeris ReadError) → old.place ≡ Between → Ends line (from_record old.accepted []) result
     → Ends line (says 0 old []) result
 unfolding says
 ends_between old line result is ends = ends ∙ sym (ap (λ (p : Place). at_end line (says_at 0 p old.accepted old.numbers [])) is)

@@ -1,13 +1,15 @@
 -- Numbers, word by word.
-use Rattle.std.proofs.Common.{◌≡◌, ℕ, suc, ◌-◌, ◌<◌, ◌≤◌, List, [], ◌∷◌, ◌++◌, length, take, drop, Result, Ok, Err, refl, sym, ◌∙◌, subst, arith}
+use Rattle.std.proofs.Common.{◌≡◌, ℕ, suc, ◌-◌, ◌<◌, ◌≤◌, List, [], ◌∷◌, ◌++◌, length, take, drop, Result, Ok, Err, refl, sym, ap, ◌∙◌, subst, arith}
 use Rattle.std.proofs.lemmas.List.{length-append, take-append-le}
 use Rattle.spec_text.specs.declared.decimals.Decimal.{Decimal}
 use Rattle.spec_ephemeris.specs.Ephemeris.{Ephemeris}
 use Rattle.spec_sections.specs.declared.rules.BrokenRule.{BrokenRule}
 use Rattle.spec_blocks.specs.BlockRules.{number_rule}
 use Rattle.de_blocks.specs.Steps.{Pushes, ReadsNumbers, numbers_on, wanted}
-use Rattle.de_blocks.specs.declared.answers.Refusal.{Refusal}
-use Rattle.de_blocks.specs.declared.answers.Refusal.TheVariants.{Broken, Memory}
+use Rattle.spec_sections.specs.declared.errors.ReadError.{ReadError}
+use Rattle.spec_sections.specs.declared.errors.ReadError.TheVariants.{Fault, Memory}
+use Rattle.spec_sections.specs.Sections.{ruled_at}
+use Rattle.spec_sections.proofs.Steps.{broken_by}
 
 -- what a loop over words keeps
 pub record Keeps (before : Ephemeris) (old new : List Decimal) (words left : List (List ℕ)) : Type 0 where
@@ -24,9 +26,9 @@ one_more : (before : Ephemeris) (numbers : List Decimal) (d : Decimal) → lengt
     → wanted before numbers ≡ suc (wanted before (numbers ++ d ∷ []))
 one_more before numbers d few = omega (arith, few, length-append numbers (d ∷ []))
 
-pub keeps_on : (before : Ephemeris) (old mid new : List Decimal) (words left rest : List (List ℕ)) (word : List ℕ) → Keeps before old mid words left
-    → left ≡ word ∷ rest → length mid < before.header.ncoeff → Pushes before mid word (Ok tt) new → Keeps before old new words rest
-keeps_on before old mid new words left rest word keeps is few (d, rule, pushed) =
+pub keeps_on : (before : Ephemeris) (old mid new : List Decimal) (words left rest : List (List ℕ)) (line : ℕ) (word : List ℕ) → Keeps before old mid words left
+    → left ≡ word ∷ rest → length mid < before.header.ncoeff → Pushes before mid line word (Ok tt) new → Keeps before old new words rest
+keeps_on before old mid new words left rest line word keeps is few (d, rule, pushed) =
     let k = one_more before mid d few in
     let step : numbers_on before mid (take (wanted before mid) left) ≡ numbers_on before (mid ++ d ∷ []) (take (wanted before (mid ++ d ∷ [])) rest) =
     rw (is, k, rule) refl in
@@ -48,7 +50,10 @@ stops_at before old mid words left rest word b keeps is few rule =
     let step : numbers_on before mid (take (wanted before mid) left) ≡ Err b = rw (is, some, rule) refl in
     keeps.same ∙ step
 
-pub fails_at : (before : Ephemeris) (old mid new : List Decimal) (words left rest : List (List ℕ)) (word : List ℕ) (why : Refusal) → Keeps before old mid words left
-    → left ≡ word ∷ rest → length mid < before.header.ncoeff → Pushes before mid word (Err why) new → ReadsNumbers before old words (Err why) new rest
-fails_at before old mid new words left rest word (Broken b) keeps is few failed = stops_at before old mid words left rest word b keeps is few failed.0
-fails_at before old mid new words left rest word Memory keeps is few failed = tt
+pub fails_at : (before : Ephemeris) (old mid new : List Decimal) (words left rest : List (List ℕ)) (line : ℕ) (word : List ℕ) (why : ReadError)
+    → Keeps before old mid words left → left ≡ word ∷ rest → length mid < before.header.ncoeff → Pushes before mid line word (Err why) new
+    → ReadsNumbers before old line words (Err why) new rest
+fails_at before old mid new words left rest line word (Fault fault) keeps is few failed =
+    let by = broken_by line (number_rule before mid word) fault failed.0 in
+    ap (ruled_at line) (stops_at before old mid words left rest word by.0 keeps is few by.1) ∙ ap (λ f. Err f) by.2
+fails_at before old mid new words left rest line word Memory keeps is few failed = tt

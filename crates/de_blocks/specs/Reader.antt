@@ -8,8 +8,8 @@ use Rattle.spec_sections.specs.Sections.{FileLine, Stop, ended, breaks, ◌>>=�
 use Rattle.spec_blocks.specs.Blocks.{blocks_after, further_numbers, with_numbers}
 use Rattle.spec_blocks.specs.Read.{AreRead}
 use Rattle.spec_sections.specs.FileLines.{line_of, stopped_at}
-use Rattle.de_blocks.specs.declared.answers.BlockError.{BlockError}
-use Rattle.de_blocks.specs.declared.answers.BlockError.TheVariants as errors
+use Rattle.spec_sections.specs.declared.errors.ReadError.{ReadError}
+use Rattle.spec_sections.specs.declared.errors.ReadError.TheVariants as errors
 use Rattle.de_blocks.specs.declared.state.Place.{Place}
 use Rattle.de_blocks.specs.declared.state.Place.TheVariants.{Between, Inside, Refused}
 use Rattle.de_blocks.specs.Steps.{wanted}
@@ -73,28 +73,28 @@ pub record Fits (reader : Progress) : Type 0 where
   pub few : length reader.numbers < reader.accepted.header.ncoeff
 
 -- the answer to a line, where this is said of no more lines
-abbrev pub answer_of : Stop → Result (Unit {0}) BlockError
+abbrev pub answer_of : Stop → Result (Unit {0}) ReadError
 answer_of (ended late) = Ok tt
 answer_of (breaks file fault) = Err (errors.Fault fault)
 
-abbrev pub answer : Says → Result (Unit {0}) BlockError
+abbrev pub answer : Says → Result (Unit {0}) ReadError
 answer (Ok e) = Ok tt
 answer (Err stop) = answer_of stop
 
-abbrev pub IsNotMemory : Result (Unit {0}) BlockError → Type 0
+abbrev pub IsNotMemory : Result (Unit {0}) ReadError → Type 0
 IsNotMemory (Err errors.Memory) = ⊥
 IsNotMemory result = Unit {0}
 
 -- a fault that is answered is the one that the reader keeps
-abbrev pub KeepsFault : Progress → Result (Unit {0}) BlockError → Type 0
+abbrev pub KeepsFault : Progress → Result (Unit {0}) ReadError → Type 0
 KeepsFault reader result = (fault : Fault) → result ≡ Err (errors.Fault fault) → IsRefused reader fault
 
 -- a fault that was kept is kept and answered again
-abbrev pub GivesAgain : Progress → Progress → Result (Unit {0}) BlockError → Type 0
+abbrev pub GivesAgain : Progress → Progress → Result (Unit {0}) ReadError → Type 0
 GivesAgain old new result = (fault : Fault) → IsRefused old fault → IsRefused new fault × (result ≡ Err (errors.Fault fault))
 
 -- a line takes a reader from one state to the next, with this answer
-pub record Takes (old : Progress) (line : TokenLine) (result : Result (Unit {0}) BlockError) (new : Progress) : Type 0 where
+pub record Takes (old : Progress) (line : TokenLine) (result : Result (Unit {0}) ReadError) (new : Progress) : Type 0 where
   pub read : IsNotMemory result → HasRead old line new
   pub answers : IsNotMemory result → result ≡ answer (says 0 new [])
   pub goes_on : result ≡ Ok tt → IsNotRefused new
@@ -102,12 +102,12 @@ pub record Takes (old : Progress) (line : TokenLine) (result : Result (Unit {0})
   pub unchanged : result ≡ Err errors.Memory → new ≡ old
 
 -- where the lines end at this number, what is said of no more lines
-abbrev pub at_end : ℕ → Says → Result Ephemeris BlockError
+abbrev pub at_end : ℕ → Says → Result Ephemeris ReadError
 at_end end (Ok e) = Ok e
 at_end end (Err stop) = Err (errors.Fault (stopped_at end stop))
 
 -- the ephemeris of what is said, or its fault
-abbrev pub Ends : ℕ → Says → Result Ephemeris BlockError → Type 0
+abbrev pub Ends : ℕ → Says → Result Ephemeris ReadError → Type 0
 Ends end said result = result ≡ at_end end said
 
 -- a checked ephemeris with a block

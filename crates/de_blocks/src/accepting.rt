@@ -7,12 +7,12 @@ ghost use Rattle.spec_blocks.specs.Read.{AreRead};
 ghost use Rattle.eph_model.specs.Starting.{starting_at};
 ghost use Rattle.de_blocks.specs.Steps.{TakesBlock, TakesLine};
 
-use crate::answers::Refusal;
 use crate::rules::{is_skipped, time_of};
 use crate::state::Place;
 use crate::walk::read_line;
 use de_text::Line;
 use eph_model::{Ephemeris, Memory};
+use spec_sections::ReadError;
 use spec_text::Decimal;
 
 // The first block says when the ephemeris begins.
@@ -60,19 +60,15 @@ pub(crate) fn accept(before: &mut Ephemeris, numbers: &[Decimal]) -> Result<(), 
 }
 
 // Takes in a whole block, whose numbers are not kept after it.
-fn take_block(before: &mut Ephemeris, numbers: &mut Vec<Decimal>) -> Result<Place, Refusal>
+fn take_block(before: &mut Ephemeris, numbers: &mut Vec<Decimal>) -> Result<Place, ReadError>
     requires checked { IsEphemeris before.old }
     requires read { AreRead before.old numbers.old.items }
     requires whole { length numbers.old.items ≡ before.old.header.ncoeff }
     ensures { TakesBlock before.old numbers.old.items result before.new numbers.new.items }
 {
-    match accept(before, numbers) {
-        Err(_) => Err(Refusal::Memory),
-        Ok(()) => {
-            numbers.clear();
-            Ok(Place::Between)
-        }
-    }
+    accept(before, numbers)?;
+    numbers.clear();
+    Ok(Place::Between)
 }
 
 // Reads a line within a block, and takes the block in once it is whole. The place is where the line leaves the reader.
@@ -80,17 +76,18 @@ pub(crate) fn take_line(
     before: &mut Ephemeris,
     numbers: &mut Vec<Decimal>,
     line: &Line<'_>,
-) -> Result<Place, Refusal>
+) -> Result<Place, ReadError>
     requires checked { IsEphemeris before.old }
     requires read { AreRead before.old numbers.old.items }
     requires few { length numbers.old.items < before.old.header.ncoeff }
-    ensures { TakesLine before.old numbers.old.items line.now.tokens result before.new
+    ensures { TakesLine before.old numbers.old.items line.now result before.new
         numbers.new.items }
 {
     let ncoeff = before.header().ncoeff as usize;
-    match read_line(before, numbers, line) {
-        Err(refusal) => Err(refusal),
-        Ok(()) if numbers.len() < ncoeff => Ok(Place::Inside),
-        Ok(()) => take_block(before, numbers),
+    read_line(before, numbers, line)?;
+    if numbers.len() < ncoeff {
+        Ok(Place::Inside)
+    } else {
+        take_block(before, numbers)
     }
 }

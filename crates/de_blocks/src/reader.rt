@@ -4,12 +4,12 @@ ghost use Rattle.spec_text.specs.declared.decimals.Fault.{Fault};
 ghost use Rattle.spec_ephemeris.specs.Header.{IsHeader};
 ghost use Rattle.spec_sections.specs.Sections.{FileLine};
 ghost use Rattle.spec_blocks.specs.Blocks.{blocks};
-ghost use Rattle.de_blocks.specs.declared.answers.BlockError.TheVariants as errors;
+ghost use Rattle.spec_sections.specs.declared.errors.ReadError.TheVariants as errors;
 ghost use Rattle.de_blocks.specs.Reader.{Ends, GivesAgain, HasBlocks, HasRead, IsAt, IsNotMemory, IsNotRefused, IsRefused, KeepsFault, Takes, answer, from_record, says};
 ghost use Rattle.de_blocks.specs.declared.state.Place.TheVariants as places;
 
 use crate::accepting::take_line;
-use crate::answers::{BlockError, Refusal};
+use crate::answers::BlockError;
 use crate::rules::record_line;
 use crate::state::Place;
 use de_text::Line;
@@ -118,11 +118,11 @@ impl BlockReader {
                 self.place = place;
                 Ok(())
             }
-            Err(Refusal::Broken(broken)) => {
+            Err(BlockError::Fault(fault)) => {
                 self.numbers.truncate(kept);
-                self.refuse(broken.at_line(line.number()))
+                self.refuse(fault)
             }
-            Err(Refusal::Memory) => {
+            Err(BlockError::Memory) => {
                 self.numbers.truncate(kept);
                 Err(BlockError::Memory)
             }

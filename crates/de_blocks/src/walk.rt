@@ -1,57 +1,57 @@
 // The words of a line within a block, from left to right.
 ghost use Rattle.std.specs.Prelude.{◌≡◌, ◌<◌, length, take};
+ghost use Rattle.spec_sections.specs.Sections.{ruled_at};
 ghost use Rattle.de_blocks.specs.Steps.{Pushes, Reads, ReadsNumbers, on_line, zeros_on};
 
-use crate::answers::Refusal;
 use crate::rules::{number_rule, trailing_rule};
 use de_text::{Line, Words};
 use eph_model::Ephemeris;
-use spec_sections::BrokenRule;
-use spec_text::Decimal;
+use spec_sections::{ReadError, ruled_at};
+use spec_text::{Decimal, Fault};
 
-// Puts the number that a word is after the others.
-fn push_number(before: &Ephemeris, numbers: &mut Vec<Decimal>, word: &[u8]) -> Result<(), Refusal>
+// Puts the number that a word of this line is after the others.
+fn push_number(
+    before: &Ephemeris,
+    numbers: &mut Vec<Decimal>,
+    line: u32,
+    word: &[u8],
+) -> Result<(), ReadError>
     requires { length numbers.old.items < before.now.header.ncoeff }
-    ensures { Pushes before.now numbers.old.items word.now result numbers.new.items }
+    ensures { Pushes before.now numbers.old.items line word.now result numbers.new.items }
 {
-    match number_rule(before, numbers, word) {
-        Err(broken) => Err(Refusal::Broken(broken)),
-        Ok(number) => match numbers.push(number) {
-            Ok(()) => Ok(()),
-            Err(_) => Err(Refusal::Memory),
-        },
-    }
+    let number = ruled_at(line, number_rule(before, numbers, word))?;
+    numbers.push(number)?;
+    Ok(())
 }
 
-// Reads words until the block is whole or none is left.
+// Reads words of this line until the block is whole or none is left.
 fn read_numbers(
     before: &Ephemeris,
     numbers: &mut Vec<Decimal>,
+    line: u32,
     words: &mut Words<'_>,
-) -> Result<(), Refusal>
+) -> Result<(), ReadError>
     requires { length numbers.old.items < before.now.header.ncoeff }
-    ensures reads { ReadsNumbers before.now numbers.old.items words.old result numbers.new.items
-        words.new }
+    ensures reads { ReadsNumbers before.now numbers.old.items line words.old result
+        numbers.new.items words.new }
     ensures front { take (length numbers.old.items) numbers.new.items ≡ numbers.old.items }
 {
     let ncoeff = before.header().ncoeff as usize;
     while numbers.len() < ncoeff {
         match words.next() {
             None => return Ok(()),
-            Some(word) => match push_number(before, numbers, word) {
-                Ok(()) => {}
-                Err(refusal) => return Err(refusal),
-            },
+            Some(word) => push_number(before, numbers, line, word)?,
         }
     }
     Ok(())
 }
 
-fn check_zeros(words: Words<'_>) -> Result<(), BrokenRule>
-    ensures { result ≡ zeros_on words.entry }
+// The words of this line after the last number of a block.
+fn check_zeros(line: u32, words: Words<'_>) -> Result<(), Fault>
+    ensures { result ≡ ruled_at line (zeros_on words.entry) }
 {
     for word in words {
-        trailing_rule(word)?;
+        ruled_at(line, trailing_rule(word))?;
     }
     Ok(())
 }
@@ -62,18 +62,15 @@ pub(crate) fn read_line(
     before: &Ephemeris,
     numbers: &mut Vec<Decimal>,
     line: &Line<'_>,
-) -> Result<(), Refusal>
+) -> Result<(), ReadError>
     requires { length numbers.old.items < before.now.header.ncoeff }
-    ensures reads { Reads (on_line before.now numbers.old.items line.now.tokens) result
-        numbers.new.items }
+    ensures reads { Reads line.now.number (on_line before.now numbers.old.items line.now.tokens)
+        result numbers.new.items }
     ensures front { take (length numbers.old.items) numbers.new.items ≡ numbers.old.items }
 {
+    let number = line.number();
     let mut words = line.words();
-    match read_numbers(before, numbers, &mut words) {
-        Err(refusal) => Err(refusal),
-        Ok(()) => match check_zeros(words) {
-            Ok(()) => Ok(()),
-            Err(broken) => Err(Refusal::Broken(broken)),
-        },
-    }
+    read_numbers(before, numbers, number, &mut words)?;
+    check_zeros(number, words)?;
+    Ok(())
 }

@@ -6,10 +6,10 @@ use Rattle.spec_ephemeris.specs.declared.header.Header.{Header}
 use Rattle.spec_header.specs.HeaderLines.{HeaderOrStop, header}
 use Rattle.spec_sections.specs.Sections.{FileLine}
 use Rattle.spec_header.proofs.Accepted.{accepted_header}
-use Rattle.de_header.specs.declared.answers.HeaderError.{HeaderError}
+use Rattle.spec_sections.specs.declared.errors.ReadError.{ReadError}
 use Rattle.de_header.specs.Reader.{Ends}
 
-pub meets_rules : (end : ℕ) (said : HeaderOrStop) (result : Result Header HeaderError) (lines : List FileLine) → Ends end said result → said ≡ header lines → IfOk result IsHeader
+pub meets_rules : (end : ℕ) (said : HeaderOrStop) (result : Result Header ReadError) (lines : List FileLine) → Ends end said result → said ≡ header lines → IfOk result IsHeader
 meets_rules end (Ok x) (Ok h) lines ends is = subst IsHeader (sym ends) (accepted_header lines x.0 x.1 (sym is))
 meets_rules end (Err stop) (Ok h) lines ends is = absurd ends
 meets_rules end said (Err e) lines ends is = tt

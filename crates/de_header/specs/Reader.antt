@@ -15,8 +15,8 @@ use Rattle.spec_header.specs.HeaderRules.{emrat_from}
 pub use Rattle.spec_sections.specs.FileLines.{line_of}
 use Rattle.spec_sections.specs.FileLines.{stopped_at}
 use Rattle.spec_sections.specs.Sections.{FileLine, Stop, ended, breaks, ◌>>=◌, after_words, at_line}
-use Rattle.de_header.specs.declared.answers.HeaderError.{HeaderError}
-use Rattle.de_header.specs.declared.answers.HeaderError.TheVariants as errors
+use Rattle.spec_sections.specs.declared.errors.ReadError.{ReadError}
+use Rattle.spec_sections.specs.declared.errors.ReadError.TheVariants as errors
 use Rattle.de_header.specs.declared.answers.Step.{Step}
 use Rattle.de_header.specs.declared.answers.Step.TheVariants.{More, Done}
 use Rattle.de_header.specs.declared.state.State.{State}
@@ -131,28 +131,28 @@ abbrev pub Fits : State → Type 0
 Fits state = (0 < left_of state) × (passed_of state + left_of state ≤ MAX_CONSTANTS) × (count_of state ≤ MAX_CONSTANTS)
 
 -- a fault that is answered is the one that the state keeps
-abbrev pub KeepsFault : State → Result Step HeaderError → Type 0
+abbrev pub KeepsFault : State → Result Step ReadError → Type 0
 KeepsFault state result = (fault : Fault) → result ≡ Err (errors.Fault fault) → IsRefused state fault
 
 -- a fault that was kept is kept and answered again
-abbrev pub GivesAgain : State → State → Result Step HeaderError → Type 0
+abbrev pub GivesAgain : State → State → Result Step ReadError → Type 0
 GivesAgain old new result = (fault : Fault) → IsRefused old fault → IsRefused new fault × (result ≡ Err (errors.Fault fault))
 
 -- the answer to a line, where this is said of no more lines: that more are wanted, the first fault, or the whole header
-abbrev pub answer_of : Stop → Result Step HeaderError
+abbrev pub answer_of : Stop → Result Step ReadError
 answer_of (ended late) = Ok More
 answer_of (breaks file fault) = Err (errors.Fault fault)
 
-abbrev pub answer : HeaderOrStop → Result Step HeaderError
+abbrev pub answer : HeaderOrStop → Result Step ReadError
 answer (Ok x) = Ok Done
 answer (Err stop) = answer_of stop
 
-abbrev pub IsNotDone : Result Step HeaderError → Type 0
+abbrev pub IsNotDone : Result Step ReadError → Type 0
 IsNotDone (Ok Done) = ⊥
 IsNotDone answer = Unit {0}
 
 -- the header of what is said, unless it is out of memory, or the fault of what is said
-abbrev pub Ends : ℕ → HeaderOrStop → Result Header HeaderError → Type 0
+abbrev pub Ends : ℕ → HeaderOrStop → Result Header ReadError → Type 0
 Ends end (Ok x) (Ok header) = header ≡ x.0
 Ends end (Err stop) (Err (errors.Fault fault)) = fault ≡ stopped_at end stop
 Ends end (Ok x) (Err errors.Memory) = Unit {0}

@@ -1,6 +1,5 @@
 // What a reader answers.
-use spec_text::Fault;
-use thiserror::Error;
+use spec_sections::ReadError;
 
 /// Whether a reader wants more lines.
 #[derive(Clone, Copy, Debug, PartialEq, Eq)]
@@ -11,13 +10,5 @@ pub enum Step {
     Done,
 }
 
-/// Why there is no header.
-#[derive(Debug, Drop, Error)]
-pub enum HeaderError {
-    /// The first fault of the lines.
-    #[error("a line breaks a rule of the header, or the lines end too early")]
-    Fault(Fault),
-    /// There is no memory for the columns.
-    #[error("out of memory")]
-    Memory,
-}
+/// Why there is no header: the first fault of the lines, or no memory for the columns.
+pub type HeaderError = ReadError;

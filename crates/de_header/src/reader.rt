@@ -7,7 +7,7 @@ ghost use Rattle.spec_header.specs.HeaderLines.{header, header_of};
 ghost use Rattle.spec_header.specs.HeaderRules.{emrat_from};
 ghost use Rattle.spec_sections.specs.Sections.{FileLine};
 ghost use Rattle.de_header.specs.declared.state.State.TheVariants as states;
-ghost use Rattle.de_header.specs.declared.answers.HeaderError.TheVariants as errors;
+ghost use Rattle.spec_sections.specs.declared.errors.ReadError.TheVariants as errors;
 ghost use Rattle.de_header.specs.declared.answers.Step.TheVariants as steps;
 ghost use Rattle.de_header.specs.Reader.{Ends, Fits, GivesAgain, HasRead, IsAfterNames, IsAfterValues, IsAt, IsNotDone, IsNotWhole, IsOpen, IsRefused, IsWhole, KeepsFault, Moves, answer, from_more_names, from_more_values, or_else, says};
 
@@ -328,15 +328,13 @@ fn answer_of(state: State) -> Result<Step, HeaderError>
 fn whole(alloc: Global, facts: Facts, columns: [Column; COLUMNS]) -> Result<Header, HeaderError>
     ensures { (end : ℕ) → Ends end (Ok (header_of facts columns, [])) result }
 {
-    match Vec::from_array(alloc, columns) {
-        Ok(list) => Ok(Header {
-            ncoeff: facts.ncoeff,
-            block_seconds: i64::from(facts.block_seconds),
-            emrat: facts.emrat,
-            columns: Columns::new(list),
-        }),
-        Err(_) => Err(HeaderError::Memory),
-    }
+    let list = Vec::from_array(alloc, columns)?;
+    Ok(Header {
+        ncoeff: facts.ncoeff,
+        block_seconds: i64::from(facts.block_seconds),
+        emrat: facts.emrat,
+        columns: Columns::new(list),
+    })
 }
 
 // What a state comes to where the lines end.

@@ -18,18 +18,9 @@ use spec_ephemeris::{BODY_COLUMNS, Column, Granule, Header, Rounded};
 use spec_text::Decimal;
 use std::alloc::{AllocError, Global};
 use std::marker::Model;
-use thiserror::Error;
 
-/// Memory ran out.
-#[derive(Debug, Drop, Error)]
-#[error("out of memory")]
-pub struct Memory;
-
-impl From<AllocError> for Memory {
-    fn from(_: AllocError) -> Self {
-        Memory
-    }
-}
+/// Out of memory.
+pub type Memory = AllocError;
 
 /// A header that meets the rules, the time at which the first block begins, and the numbers of the blocks, each of
 /// which begins where the one before it ends, as JPL's ASCII files of development ephemerides have them. Times are

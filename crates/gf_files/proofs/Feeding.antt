@@ -9,8 +9,8 @@ use Rattle.spec_sections.specs.Sections.{FileLine}
 use Rattle.spec_files.specs.Texts.{fault_at, file_lines}
 use Rattle.de_text.specs.declared.cursor.LineStep.TheVariants.{Line, TooLong, End}
 use Rattle.de_text.specs.Steps.{lines_after, step_of}
-use Rattle.gf_files.specs.declared.errors.FileError.{FileError}
-use Rattle.gf_files.specs.declared.errors.FileError.TheVariants as errors
+use Rattle.spec_sections.specs.declared.errors.ReadError.{ReadError}
+use Rattle.spec_sections.specs.declared.errors.ReadError.TheVariants as errors
 use Rattle.gf_files.specs.declared.reader.Reader.{Reader}
 use Rattle.gf_files.specs.Reader.{Feeds, HasNoFault, IsFed, IsFirstFault, IsReady, Moves, ephemeris_after}
 use Rattle.gf_files.proofs.Passing.{small_cut, small_lines}
@@ -68,12 +68,11 @@ leads_on old whole now new left line leads next moves = record {
   long = sym next.long ∙ leads.long;
 }
 
-pub leads_stop : (old : Reader) (text : List ℕ) (now : Reader) (left : List Numbered) (line : TokenLine) (stop : FileError) → length text ≤ MAX_TEXT_BYTES
+pub leads_stop : (old : Reader) (text : List ℕ) (now : Reader) (left : List Numbered) (line : TokenLine) (stop : ReadError) → length text ≤ MAX_TEXT_BYTES
     → Leads old (text_lines text) now left → IsNext left line → Moves now line (Err stop) → Feeds old text (Err stop)
 leads_stop old text now left line (errors.Fault fault) small leads next moves = λ file. inl (λ rest.
     ap (λ (l : List FileLine). ephemeris_after file old (l ++ rest)) (small_lines text small file)
     ∙ sym (leads.same file rest) ∙ ap (λ (l : List FileLine). ephemeris_after file now (l ++ rest)) (next.lines_are file) ∙ moves file (readable file (lines_after left) ++ rest))
-leads_stop old text now left line errors.NotRead small leads next moves = absurd moves
 leads_stop old text now left line errors.Memory small leads next moves = tt
 
 -- the line that is too long

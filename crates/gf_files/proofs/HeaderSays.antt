@@ -5,7 +5,7 @@ use Rattle.spec_text.specs.declared.decimals.Fault.{Fault}
 use Rattle.spec_ephemeris.specs.declared.header.Header.{Header}
 use Rattle.spec_header.specs.HeaderLines.{header, HeaderOrStop as Says}
 use Rattle.spec_sections.specs.Sections.{FileLine, ended, breaks}
-use Rattle.de_header.specs.declared.answers.HeaderError.TheVariants as errors
+use Rattle.spec_sections.specs.declared.errors.ReadError.TheVariants as errors
 use Rattle.de_header.specs.declared.answers.Step.TheVariants.{More}
 use Rattle.de_header.specs.declared.state.State.{State}
 use Rattle.de_header.specs.declared.state.State.TheVariants.{Whole, Refused}

@@ -1,17 +1,23 @@
 -- The error of one file, from the error of all.
-use Rattle.std.proofs.Common.{◌≡◌, ℕ, refl}
+use Rattle.std.proofs.Common.{◌≡◌, ℕ, Result, Err, ap, ◌∙◌}
 use Rattle.spec_text.specs.declared.decimals.Fault.{Fault}
-use Rattle.gf_files.specs.declared.errors.FileError.{FileError}
-use Rattle.gf_files.specs.declared.errors.FileError.TheVariants as one
+use Rattle.spec_sections.specs.declared.errors.ReadError.{ReadError}
+use Rattle.spec_sections.specs.declared.errors.ReadError.TheVariants as one
+use Rattle.gf_files.specs.declared.errors.FilesError.{FilesError}
 use Rattle.gf_files.specs.declared.errors.FilesError.TheVariants as all
 use Rattle.gf_files.specs.Errors.{in_file}
 
-pub fault_of_file : (place file : ℕ) (error : FileError) (fault : Fault) → in_file place error ≡ all.Fault file fault → (place ≡ file) × (error ≡ one.Fault fault)
+pub fault_of_file : (place file : ℕ) (error : ReadError) (fault : Fault) → in_file place error ≡ all.Fault file fault → (place ≡ file) × (error ≡ one.Fault fault)
 fault_of_file place file (one.Fault other) fault is = (cc, cc)
-fault_of_file place file one.NotRead fault is = absurd (cc)
 fault_of_file place file one.Memory fault is = absurd (cc)
 
-pub not_read_of_file : (place file : ℕ) (error : FileError) → in_file place error ≡ all.NotRead file → (place ≡ file) × (error ≡ one.NotRead)
-not_read_of_file place file (one.Fault other) is = absurd (cc)
-not_read_of_file place file one.NotRead is = (cc, refl)
-not_read_of_file place file one.Memory is = absurd (cc)
+pub lines_are_read : (place file : ℕ) (error : ReadError) → in_file place error ≡ all.NotRead file → ⊥
+lines_are_read place file (one.Fault other) is = absurd (cc)
+lines_are_read place file one.Memory is = absurd (cc)
+
+-- an error that is passed on is that of the call
+pub passed_on : {A B : Type 0} (inner : Result A FilesError) (outer : Result B FilesError) (met given error : FilesError) → inner ≡ Err met → outer ≡ Err given
+    → given ≡ met → outer ≡ Err error → inner ≡ Err error
+passed_on inner outer met given error was is same found =
+    let all_one : met ≡ error = cc (is, same, found) in
+    was ∙ ap (λ (e : FilesError). Err e) all_one

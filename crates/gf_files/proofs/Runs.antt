@@ -11,7 +11,7 @@ use Rattle.spec_files.specs.Reading.{StaysFirst}
 use Rattle.spec_files.specs.Texts.{cut_off, end_line, fault_at, file_lines, first_cut, first_cut_from, joined, joined_from, or_later, where_whole}
 use Rattle.spec_files.proofs.Joining.{cut_more, joined_more}
 use Rattle.gf_edges.specs.Edges.{Files}
-use Rattle.gf_files.specs.declared.errors.FileError.TheVariants as errors
+use Rattle.spec_sections.specs.declared.errors.ReadError.TheVariants as errors
 use Rattle.gf_files.specs.declared.reader.Fed.{Fed}
 use Rattle.gf_files.specs.declared.reader.Reader.{Reader}
 use Rattle.gf_files.specs.Read.{HaveRead, TakesFile}

@@ -1,6 +1,8 @@
 -- How far files were read.
-use Rattle.std.specs.Prelude.{◌≡◌, ℕ, List, ◌++◌, Option, None}
+use Rattle.std.specs.Prelude.{◌≡◌, ◌+◌, ◌≤◌, ℕ, List, ◌++◌, length, Option, None}
+use Rattle.std.specs.Io.KnownBytes.{Consumes}
 use Rattle.spec_text.specs.declared.decimals.Fault.{Fault}
+use Rattle.spec_text.specs.declared.limits.TheConstants.{MAX_TEXT_BYTES}
 use Rattle.spec_sections.specs.Sections.{FileLine}
 use Rattle.spec_files.specs.Lines.{ephemeris}
 use Rattle.spec_files.specs.Files.{AreFiles, IsFile}
@@ -32,3 +34,16 @@ pub record HaveRead (files : Option Files) (names : List (List ℕ)) (reader : R
   pub whole : first_cut texts ≡ None
   pub sound : first_fault texts ≡ None
   pub ends : end ≡ end_line texts
+
+-- of what is left of a file at most one byte more is taken than a file may have
+pub record TakesFew (before after : Option (List ℕ)) : Type 0 where
+  pub read : List ℕ
+  pub taken : Consumes before after read
+  pub few : length read ≤ MAX_TEXT_BYTES + 1
+
+-- so many bytes are taken, and stand after those of the text
+pub record Grows (before after : Option (List ℕ)) (text new : List ℕ) (count : ℕ) : Type 0 where
+  pub read : List ℕ
+  pub taken : Consumes before after read
+  pub is : new ≡ text ++ read
+  pub size : length read ≡ count

@@ -10,8 +10,8 @@ use Rattle.spec_files.specs.Texts.{cut_off, fault_at, file_lines}
 use Rattle.de_header.specs.declared.state.State.{State}
 use Rattle.de_header.specs.Reader as headers
 use Rattle.de_blocks.specs.Reader as block_lines
-use Rattle.gf_files.specs.declared.errors.FileError.{FileError}
-use Rattle.gf_files.specs.declared.errors.FileError.TheVariants as errors
+use Rattle.spec_sections.specs.declared.errors.ReadError.{ReadError}
+use Rattle.spec_sections.specs.declared.errors.ReadError.TheVariants as errors
 use Rattle.gf_files.specs.declared.reader.Reader.{Reader}
 use Rattle.gf_files.specs.declared.reader.Reader.TheVariants as readers
 use Rattle.gf_files.specs.declared.reader.Fed.{Fed}
@@ -54,11 +54,10 @@ abbrev pub TookLine : Reader → TokenLine → Reader → Type 0
 TookLine old line new = (file : ℕ) (rest : List FileLine) → ephemeris_after file new rest ≡ ephemeris_after file old (headers.line_of file line ∷ rest)
 
 -- what comes of a line: a reader that took it, or its fault
-abbrev pub Moves : Reader → TokenLine → Result Reader FileError → Type 0
+abbrev pub Moves : Reader → TokenLine → Result Reader ReadError → Type 0
 Moves reader line (Ok new) = TookLine reader line new × IsReady new
 Moves reader line (Err (errors.Fault fault)) =
     (file : ℕ) (rest : List FileLine) → ephemeris_after file reader (headers.line_of file line ∷ rest) ≡ Err (breaks file fault)
-Moves reader line (Err errors.NotRead) = ⊥
 Moves reader line (Err errors.Memory) = Unit {0}
 
 -- a file with this text was taken to its end
@@ -79,14 +78,13 @@ abbrev pub IsFirstFault : Reader → List ℕ → Fault → Type 0
 IsFirstFault reader text fault = (file : ℕ) → IsFirstFaultIn file reader text fault
 
 -- what comes of a text: a reader that took it, or its first fault
-abbrev pub Feeds : Reader → List ℕ → Result Fed FileError → Type 0
+abbrev pub Feeds : Reader → List ℕ → Result Fed ReadError → Type 0
 Feeds reader text (Ok fed) = IsFed reader text fed
 Feeds reader text (Err (errors.Fault fault)) = IsFirstFault reader text fault
-Feeds reader text (Err errors.NotRead) = ⊥
 Feeds reader text (Err errors.Memory) = Unit {0}
 
 -- what comes of the end of all lines, where those of the last file end at this number: the ephemeris, or the first fault
-abbrev pub Finishes : ℕ → Result Ephemeris Stop → Result Ephemeris FileError → Type 0
+abbrev pub Finishes : ℕ → Result Ephemeris Stop → Result Ephemeris ReadError → Type 0
 Finishes end (Ok e) (Ok found) = found ≡ e
 Finishes end (Err (ended number)) (Err (errors.Fault fault)) = fault ≡ fault_at end number
 Finishes end (Err (breaks file fault)) (Err (errors.Fault other)) = other ≡ fault

@@ -1,4 +1,8 @@
 // Why files are no ephemeris.
+ghost use Rattle.std.specs.Prelude.{◌≡◌};
+ghost use Rattle.gf_files.specs.Errors.{in_file};
+
+use spec_sections::ReadError;
 use spec_text::Fault;
 use std::alloc::AllocError;
 use thiserror::Error;
@@ -17,40 +21,23 @@ pub enum FilesError {
     Memory,
 }
 
-/// Why the reading of one file ends early.
-#[derive(Clone, Copy, Debug, Error)]
-pub(crate) enum FileError {
-    #[error("the file has a fault")]
-    Fault(Fault),
-    #[error("the file couldn't be read")]
-    NotRead,
-    #[error("out of memory")]
-    Memory,
-}
-
-impl From<AllocError> for FileError {
+impl From<AllocError> for FilesError {
     ghost use Rattle.std.specs.Prelude.{◌≡◌};
-    ghost use Rattle.gf_files.specs.declared.errors.FileError.TheVariants.{Memory};
+    ghost use Rattle.gf_files.specs.declared.errors.FilesError.TheVariants.{Memory};
 
     ghost from_gives = { λ _ e. e ≡ Memory };
 
     fn from(_: AllocError) -> Self {
-        FileError::Memory
+        FilesError::Memory
     }
 }
 
-impl FileError {
-    ghost use Rattle.std.specs.Prelude.{◌≡◌};
-    ghost use Rattle.gf_files.specs.Errors.{in_file};
-
-    /// The same of the file of this number.
-    pub(crate) fn in_file(self, file: usize) -> FilesError
-        ensures { result ≡ in_file file self }
-    {
-        match self {
-            FileError::Fault(fault) => FilesError::Fault { file, fault },
-            FileError::NotRead => FilesError::NotRead { file },
-            FileError::Memory => FilesError::Memory,
-        }
+/// The error of the lines of the file of this number.
+pub(crate) fn in_file(file: usize, error: ReadError) -> FilesError
+    ensures { result ≡ in_file file error }
+{
+    match error {
+        ReadError::Fault(fault) => FilesError::Fault { file, fault },
+        ReadError::Memory => FilesError::Memory,
     }
 }

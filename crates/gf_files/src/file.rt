@@ -1,21 +1,22 @@
 // The bytes of one file of a shelf.
-ghost use Rattle.std.specs.Prelude.{◌≡◌, ◌⊎◌, ◌+◌, ◌≤◌, List, ℕ, length, IfOk, IfSome, IsErrOf};
-ghost use Rattle.std.specs.Io.KnownBytes.{Consumes};
-ghost use Rattle.gf_edges.specs.Edges.{Lacks, Rose};
+ghost use Rattle.std.specs.Prelude.{◌≡◌, ◌⊎◌, ◌+◌, ◌<◌, ◌≤◌, List, ℕ, drop, length, take, IfOk, IfSome, IsErrOf, OnErr};
+ghost use Rattle.std.specs.Io.KnownBytes.{Consumes, IsAtEnd, Keeps};
+ghost use Rattle.gf_edges.specs.Edges.{HasCause, Lacks, Rose};
 ghost use Rattle.spec_text.specs.declared.decimals.Fault.{Fault};
 ghost use Rattle.spec_text.specs.declared.limits.TheConstants.{MAX_TEXT_BYTES};
-ghost use Rattle.spec_files.specs.Files.{HasLeft, IsFile, IsLongFile};
+ghost use Rattle.spec_files.specs.Files.{FewAreTaken, HasLeft, IsFile, IsLongFile};
 ghost use Rattle.spec_files.specs.Texts.{fault_at};
+ghost use Rattle.gf_files.specs.Read.{Grows, TakesFew};
 ghost use Rattle.spec_faults.specs.declared.numbers.TheConstants.{FILE_TOO_LARGE};
 
-use crate::errors::FileError;
+use crate::errors::FilesError;
 use gf_edges::{Failed, Shelf};
 use spec_faults::FILE_TOO_LARGE;
 use spec_text::{Fault, MAX_TEXT_BYTES};
 use std::alloc::Global;
 
 // The most bytes that one read asks for.
-const PIECE: usize = 4_096;
+const PIECE: usize = 65_536;
 
 const TOO_LARGE: Fault = Fault {
     line: 0,
@@ -23,57 +24,108 @@ const TOO_LARGE: Fault = Fault {
     detail: 0,
 };
 
-// The bytes that are left of the open file. Of a longer rest than a file may have, one byte more is read.
-fn read_rest<S: Shelf>(alloc: Global, shelf: &mut S) -> Result<Vec<u8>, FileError>
+// Reads the next bytes of the open file to this place of the bytes, and returns how many.
+fn read_at<S: Shelf>(shelf: &mut S, bytes: &mut [u8], at: usize) -> Result<usize, Failed>
+    requires ready { S.ready shelf.old }
+    requires room { at < length bytes.old }
+    ensures ready { S.ready shelf.new }
+    ensures before { take at bytes.new ≡ take at bytes.old }
+    ensures fits { IfOk result (λ count. at + count ≤ length bytes.new) }
+    ensures size { length bytes.new ≡ length bytes.old }
+    ensures read { IfOk result (λ count. Consumes (S.left shelf.old) (S.left shelf.new)
+        (take count (drop at bytes.new))) }
+    ensures end { IfOk result (λ count. count ≡ 0 → IsAtEnd (S.left shelf.new)) }
+    ensures unread { OnErr result (Keeps (S.left shelf.old) (S.left shelf.new)) }
+    ensures cause { HasCause (S.faults shelf.old) (S.faults shelf.new) result }
+    ensures files { S.files shelf.new ≡ S.files shelf.old }
+{
+    shelf.read(&mut bytes[at..])
+}
+
+// Reads the next bytes of the open file, the one of this number, after those of the text, and returns how many.
+#[tactic(auto, using(crate::proofs::Left::kept))]
+fn read_more<S: Shelf>(shelf: &mut S, file: usize, text: &mut Vec<u8>) -> Result<usize, FilesError>
+    requires ready { S.ready shelf.old }
+    requires small { length text.old.items ≤ MAX_TEXT_BYTES }
+    ensures ready { S.ready shelf.new }
+    ensures read { IfOk result (λ count. Grows (S.left shelf.old) (S.left shelf.new)
+        text.old.items text.new.items count) }
+    ensures small { IfOk result (λ count. length text.new.items ≤ MAX_TEXT_BYTES + 1) }
+    ensures end { IfOk result (λ count. count ≡ 0 → IsAtEnd (S.left shelf.new)) }
+    ensures unread { OnErr result (Keeps (S.left shelf.old) (S.left shelf.new)) }
+    ensures no_fault { (place : ℕ) (fault : Fault)
+        → IsErrOf result (FilesError.Fault place fault) → ⊥ }
+    ensures failed { (place : ℕ) → IsErrOf result (FilesError.NotRead place)
+        → (place ≡ file) × Rose (S.faults shelf.old) (S.faults shelf.new) }
+    ensures files { S.files shelf.new ≡ S.files shelf.old }
+    ensures later { S.faults shelf.old ≤ S.faults shelf.new }
+{
+    let start = text.len();
+    let room = (MAX_TEXT_BYTES + 1 - start).min(PIECE);
+    text.resize(start + room, 0)?;
+    match read_at(shelf, text.as_mut_slice(), start) {
+        Ok(count) => {
+            text.truncate(start + count);
+            Ok(count)
+        }
+        Err(Failed) => Err(FilesError::NotRead { file }),
+    }
+}
+
+// The bytes that are left of the open file, the one of this number. Of a longer rest than a file may have, one byte
+// more is read.
+fn read_rest<S: Shelf>(alloc: Global, shelf: &mut S, file: usize) -> Result<Vec<u8>, FilesError>
     requires { S.ready shelf.old }
     ensures whole { IfOk result (λ text. IfSome (S.left shelf.old) (λ left. left ≡ text.items)) }
     ensures small { IfOk result (λ text. length text.items ≤ MAX_TEXT_BYTES) }
-    ensures fault { (fault : Fault) → IsErrOf result (FileError.Fault fault)
-        → fault ≡ fault_at 0 FILE_TOO_LARGE }
-    ensures large { (fault : Fault) → IsErrOf result (FileError.Fault fault)
+    ensures fault { (place : ℕ) (fault : Fault) → IsErrOf result (FilesError.Fault place fault)
+        → (place ≡ file) × (fault ≡ fault_at 0 FILE_TOO_LARGE) }
+    ensures large { (place : ℕ) (fault : Fault) → IsErrOf result (FilesError.Fault place fault)
         → (read : List ℕ) × Consumes (S.left shelf.old) (S.left shelf.new) read
         × (length read ≡ MAX_TEXT_BYTES + 1) }
-    ensures failed { IsErrOf result FileError.NotRead
-        → Rose (S.faults shelf.old) (S.faults shelf.new) }
+    ensures failed { (place : ℕ) → IsErrOf result (FilesError.NotRead place)
+        → (place ≡ file) × Rose (S.faults shelf.old) (S.faults shelf.new) }
+    ensures taken { TakesFew (S.left shelf.old) (S.left shelf.new) }
     ensures files { S.files shelf.new ≡ S.files shelf.old }
     ensures later { S.faults shelf.old ≤ S.faults shelf.new }
 {
     let mut text: Vec<u8> = Vec::new(alloc);
-    let mut piece = [0u8; PIECE];
-    loop {
-        let room = (MAX_TEXT_BYTES + 1 - text.len()).min(PIECE);
-        match shelf.read(&mut piece[..room]) {
-            Ok(0) => return Ok(text),
-            Ok(count) if MAX_TEXT_BYTES - text.len() < count => {
-                return Err(FileError::Fault(TOO_LARGE));
-            }
-            Ok(count) => text.extend_from_slice(&piece[..count])?,
-            Err(Failed) => return Err(FileError::NotRead),
+    while text.len() <= MAX_TEXT_BYTES {
+        let count = read_more(shelf, file, &mut text)?;
+        if count == 0 {
+            return Ok(text);
         }
     }
+    Err(FilesError::Fault {
+        file,
+        fault: TOO_LARGE,
+    })
 }
 
-/// The bytes of a file. One that is too large has a fault, which is found once one byte past the limit was read.
+/// The bytes of the file of this number and name. One that is too large has a fault, which is found once one byte past
+/// the limit was read.
 pub(crate) fn read_file<S: Shelf>(
     alloc: Global,
     shelf: &mut S,
+    file: usize,
     name: &str,
-) -> Result<Vec<u8>, FileError>
+) -> Result<Vec<u8>, FilesError>
     ensures whole { IfOk result (λ text. IsFile (S.files shelf.old) name.now text.items) }
     ensures small { IfOk result (λ text. length text.items ≤ MAX_TEXT_BYTES) }
-    ensures fault { (fault : Fault) → IsErrOf result (FileError.Fault fault)
-        → fault ≡ fault_at 0 FILE_TOO_LARGE }
-    ensures large { (fault : Fault) → IsErrOf result (FileError.Fault fault)
+    ensures fault { (place : ℕ) (fault : Fault) → IsErrOf result (FilesError.Fault place fault)
+        → (place ≡ file) × (fault ≡ fault_at 0 FILE_TOO_LARGE) }
+    ensures large { (place : ℕ) (fault : Fault) → IsErrOf result (FilesError.Fault place fault)
         → IsLongFile (S.files shelf.old) name.now }
-    ensures one_past { (fault : Fault) → IsErrOf result (FileError.Fault fault)
+    ensures one_past { (place : ℕ) (fault : Fault) → IsErrOf result (FilesError.Fault place fault)
         → HasLeft (S.files shelf.old) name.now (MAX_TEXT_BYTES + 1) (S.left shelf.new) }
-    ensures failed { IsErrOf result FileError.NotRead
-        → Rose (S.faults shelf.old) (S.faults shelf.new) ⊎ Lacks (S.files shelf.old) name.now }
+    ensures failed { (place : ℕ) → IsErrOf result (FilesError.NotRead place) → (place ≡ file)
+        × (Rose (S.faults shelf.old) (S.faults shelf.new) ⊎ Lacks (S.files shelf.old) name.now) }
+    ensures taken { S.ready shelf.new → FewAreTaken (S.files shelf.old) name.now (S.left shelf.new) }
     ensures files { S.files shelf.new ≡ S.files shelf.old }
     ensures later { S.faults shelf.old ≤ S.faults shelf.new }
 {
     match shelf.open(name) {
-        Ok(()) => read_rest(alloc, shelf),
-        Err(Failed) => Err(FileError::NotRead),
+        Ok(()) => read_rest(alloc, shelf, file),
+        Err(Failed) => Err(FilesError::NotRead { file }),
     }
 }

@@ -2,11 +2,12 @@
 ghost use Rattle.std.specs.Prelude.{◌≡◌, ◌⊎◌, ◌<◌, ◌≤◌, ℕ, IfOk, IsErrOf, length, map, string_bytes};
 ghost use Rattle.gf_edges.specs.Edges.{Lacks, Rose};
 ghost use Rattle.spec_text.specs.declared.decimals.Fault.{Fault};
+ghost use Rattle.spec_files.specs.Files.{FewAreTaken, FewAreTakenOfOne};
 ghost use Rattle.spec_files.specs.Reading.{AreAccepted, AreRefused, HasFirstFault, IsNotRead};
 ghost use Rattle.gf_files.specs.Read.{HaveRead, StopsAtFile, TakesFile};
 ghost use Rattle.gf_files.specs.Reader.{IsReady};
 
-use crate::errors::{FileError, FilesError};
+use crate::errors::{FilesError, in_file};
 use crate::file::read_file;
 use crate::reader::{Fed, Reader, end, feed, first_reader};
 use eph_model::Ephemeris;
@@ -24,25 +25,28 @@ pub struct Accepted {
     pub end_line: u32,
 }
 
-// The reader after the next file.
+// The reader after the next file, the one of this number.
 fn take_file<S: Shelf>(
     alloc: Global,
     shelf: &mut S,
     reader: Reader,
+    file: usize,
     name: &str,
-) -> Result<Fed, FileError>
+) -> Result<Fed, FilesError>
     requires { IsReady reader }
     ensures fed { IfOk result (TakesFile (S.files shelf.old) name.now reader) }
-    ensures fault { (fault : Fault) → IsErrOf result (FileError.Fault fault)
-        → StopsAtFile (S.files shelf.old) name.now reader fault }
-    ensures not_read { IsErrOf result FileError.NotRead
-        → Rose (S.faults shelf.old) (S.faults shelf.new) ⊎ Lacks (S.files shelf.old) name.now }
+    ensures fault { (place : ℕ) (fault : Fault) → IsErrOf result (FilesError.Fault place fault)
+        → (place ≡ file) × StopsAtFile (S.files shelf.old) name.now reader fault }
+    ensures not_read { (place : ℕ) → IsErrOf result (FilesError.NotRead place) → (place ≡ file)
+        × (Rose (S.faults shelf.old) (S.faults shelf.new) ⊎ Lacks (S.files shelf.old) name.now) }
+    ensures taken { S.ready shelf.new → FewAreTaken (S.files shelf.old) name.now (S.left shelf.new) }
     ensures files { S.files shelf.new ≡ S.files shelf.old }
     ensures later { S.faults shelf.old ≤ S.faults shelf.new }
 {
-    match read_file(alloc, shelf, name) {
-        Ok(text) => feed(alloc, reader, &text),
-        Err(error) => Err(error),
+    let text = read_file(alloc, shelf, file, name)?;
+    match feed(alloc, reader, &text) {
+        Ok(fed) => Ok(fed),
+        Err(error) => Err(in_file(file, error)),
     }
 }
 
@@ -56,19 +60,17 @@ fn take_files<S: Shelf>(alloc: Global, shelf: &mut S, names: &[String]) -> Resul
     ensures not_read { (file : ℕ) → IsErrOf result (FilesError.NotRead file)
         → IsNotRead (S.files shelf.old) (map string_bytes names.now)
         (S.faults shelf.old) (S.faults shelf.new) file }
+    ensures taken { 0 < length names.now → S.ready shelf.new
+        → FewAreTakenOfOne (S.files shelf.old) (map string_bytes names.now) (S.left shelf.new) }
     ensures files { S.files shelf.new ≡ S.files shelf.old }
     ensures later { S.faults shelf.old ≤ S.faults shelf.new }
 {
     let mut reader = first_reader();
     let mut end_line = 1;
     for file in 0..names.len() {
-        match take_file(alloc, shelf, reader, &names[file]) {
-            Ok(fed) => {
-                reader = fed.reader;
-                end_line = fed.end_line;
-            }
-            Err(error) => return Err(error.in_file(file)),
-        }
+        let fed = take_file(alloc, shelf, reader, file, &names[file])?;
+        reader = fed.reader;
+        end_line = fed.end_line;
     }
     Ok(Fed { reader, end_line })
 }
@@ -88,6 +90,8 @@ pub fn read_files<S: Shelf>(
     ensures not_read { (file : ℕ) → IsErrOf result (FilesError.NotRead file)
         → IsNotRead (S.files shelf.old) (map string_bytes names.now)
         (S.faults shelf.old) (S.faults shelf.new) file }
+    ensures taken { length names.now ≤ MAX_FILES → S.ready shelf.new
+        → FewAreTakenOfOne (S.files shelf.old) (map string_bytes names.now) (S.left shelf.new) }
     ensures names_are_counted_first { MAX_FILES < length names.now → shelf.new ≡ shelf.old }
     ensures files { S.files shelf.new ≡ S.files shelf.old }
     ensures later { S.faults shelf.old ≤ S.faults shelf.new }
@@ -109,6 +113,6 @@ pub fn read_files<S: Shelf>(
             ephemeris,
             end_line,
         }),
-        Err(error) => Err(error.in_file(names.len() - 1)),
+        Err(error) => Err(in_file(names.len() - 1, error)),
     }
 }

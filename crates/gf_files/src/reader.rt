@@ -7,12 +7,12 @@ ghost use Rattle.de_header.specs.Reader as headers;
 ghost use Rattle.gf_files.specs.declared.reader.Reader.TheVariants as readers;
 ghost use Rattle.gf_files.specs.Reader.{Feeds, Finishes, IsOfHeader, IsReady, Moves, TookLine, WantsMore, ephemeris_after};
 
-use crate::errors::FileError;
-use de_blocks::{BlockError, BlockReader};
-use de_header::{HeaderError, HeaderReader, Step};
+use de_blocks::BlockReader;
+use de_header::{HeaderReader, Step};
 use de_text::{Line, LineStep, Tokens};
 use eph_model::Ephemeris;
 use spec_faults::LINE_TOO_LONG;
+use spec_sections::ReadError;
 use spec_text::Fault;
 use std::alloc::Global;
 
@@ -41,17 +41,14 @@ pub(crate) fn first_reader() -> Reader
 }
 
 // The reader of the blocks of a header that is whole.
-fn begin_blocks(alloc: Global, header: HeaderReader, line: &Line<'_>) -> Result<Reader, FileError>
+fn begin_blocks(alloc: Global, header: HeaderReader, line: &Line<'_>) -> Result<Reader, ReadError>
     requires whole { headers.IsWhole header }
     requires of_header { IsOfHeader header }
     ensures { (old : Reader) → TookLine old line.now (readers.Header header)
         → Moves old line.now result }
 {
-    match header.end(alloc, line.number()) {
-        Ok(header) => Ok(Reader::Blocks(BlockReader::new(alloc, header))),
-        Err(HeaderError::Fault(fault)) => Err(FileError::Fault(fault)),
-        Err(HeaderError::Memory) => Err(FileError::Memory),
-    }
+    let header = header.end(alloc, line.number())?;
+    Ok(Reader::Blocks(BlockReader::new(alloc, header)))
 }
 
 // The reader after a line, while the header goes on.
@@ -59,32 +56,27 @@ fn take_header_line(
     alloc: Global,
     mut reader: HeaderReader,
     line: &Line<'_>,
-) -> Result<Reader, FileError>
+) -> Result<Reader, ReadError>
     requires { WantsMore reader }
     ensures { Moves (readers.Header reader) line.now result }
 {
-    match reader.line(line) {
-        Ok(Step::More) => Ok(Reader::Header(reader)),
-        Ok(Step::Done) => begin_blocks(alloc, reader, line),
-        Err(HeaderError::Fault(fault)) => Err(FileError::Fault(fault)),
-        Err(HeaderError::Memory) => Err(FileError::Memory),
+    match reader.line(line)? {
+        Step::More => Ok(Reader::Header(reader)),
+        Step::Done => begin_blocks(alloc, reader, line),
     }
 }
 
 // The reader after a line of the blocks.
-fn take_block_line(mut reader: BlockReader, line: &Line<'_>) -> Result<Reader, FileError>
+fn take_block_line(mut reader: BlockReader, line: &Line<'_>) -> Result<Reader, ReadError>
     requires { IsReady (readers.Blocks reader) }
     ensures { Moves (readers.Blocks reader) line.now result }
 {
-    match reader.line(line) {
-        Ok(()) => Ok(Reader::Blocks(reader)),
-        Err(BlockError::Fault(fault)) => Err(FileError::Fault(fault)),
-        Err(BlockError::Memory) => Err(FileError::Memory),
-    }
+    reader.line(line)?;
+    Ok(Reader::Blocks(reader))
 }
 
 // The reader after a line.
-fn take_line(alloc: Global, reader: Reader, line: &Line<'_>) -> Result<Reader, FileError>
+fn take_line(alloc: Global, reader: Reader, line: &Line<'_>) -> Result<Reader, ReadError>
     requires { IsReady reader }
     ensures { Moves reader line.now result }
 {
@@ -95,7 +87,7 @@ fn take_line(alloc: Global, reader: Reader, line: &Line<'_>) -> Result<Reader, F
 }
 
 /// The reader after a text, or the first fault of the text.
-pub(crate) fn feed(alloc: Global, mut reader: Reader, text: &[u8]) -> Result<Fed, FileError>
+pub(crate) fn feed(alloc: Global, mut reader: Reader, text: &[u8]) -> Result<Fed, ReadError>
     requires small { length text.now ≤ MAX_TEXT_BYTES }
     requires ready { IsReady reader }
     ensures { Feeds reader text.now result }
@@ -105,7 +97,7 @@ pub(crate) fn feed(alloc: Global, mut reader: Reader, text: &[u8]) -> Result<Fed
         match lines.line() {
             LineStep::Line(line) => reader = take_line(alloc, reader, &line)?,
             LineStep::TooLong(line) => {
-                return Err(FileError::Fault(Fault {
+                return Err(ReadError::Fault(Fault {
                     line,
                     number: LINE_TOO_LONG,
                     detail: 0,
@@ -120,30 +112,23 @@ pub(crate) fn feed(alloc: Global, mut reader: Reader, text: &[u8]) -> Result<Fed
 }
 
 // The ephemeris of the blocks that were read, where the lines end at this number.
-fn end_blocks(reader: BlockReader, line: u32) -> Result<Ephemeris, FileError>
+fn end_blocks(reader: BlockReader, line: u32) -> Result<Ephemeris, ReadError>
     ensures { Finishes line (ephemeris_after 0 (readers.Blocks reader) []) result }
 {
-    match reader.end(line) {
-        Ok(ephemeris) => Ok(ephemeris),
-        Err(BlockError::Fault(fault)) => Err(FileError::Fault(fault)),
-        Err(BlockError::Memory) => Err(FileError::Memory),
-    }
+    reader.end(line)
 }
 
 // The same where the lines end in the header.
-fn end_header(alloc: Global, reader: HeaderReader, line: u32) -> Result<Ephemeris, FileError>
+fn end_header(alloc: Global, reader: HeaderReader, line: u32) -> Result<Ephemeris, ReadError>
     requires { WantsMore reader }
     ensures { Finishes line (ephemeris_after 0 (readers.Header reader) []) result }
 {
-    match reader.end(alloc, line) {
-        Ok(header) => end_blocks(BlockReader::new(alloc, header), line),
-        Err(HeaderError::Fault(fault)) => Err(FileError::Fault(fault)),
-        Err(HeaderError::Memory) => Err(FileError::Memory),
-    }
+    let header = reader.end(alloc, line)?;
+    end_blocks(BlockReader::new(alloc, header), line)
 }
 
 /// The ephemeris of all lines, where the last file's lines end at this number.
-pub(crate) fn end(alloc: Global, reader: Reader, line: u32) -> Result<Ephemeris, FileError>
+pub(crate) fn end(alloc: Global, reader: Reader, line: u32) -> Result<Ephemeris, ReadError>
     requires { IsReady reader }
     ensures { Finishes line (ephemeris_after 0 reader []) result }
 {

@@ -1,5 +1,5 @@
 -- What is there of named files, where the files of a run are known.
-use Rattle.std.specs.Prelude.{◌≡◌, ◌<◌, ℕ, List, [], ◌∷◌, length, drop, Option, Some, IfSome, IsSomeAnd}
+use Rattle.std.specs.Prelude.{◌≡◌, ◌<◌, ◌≤◌, ◌+◌, ℕ, List, [], ◌∷◌, length, drop, slice_get, Option, Some, IfSome, IsSomeAnd}
 use Rattle.spec_text.specs.declared.limits.TheConstants.{MAX_TEXT_BYTES}
 use Rattle.gf_edges.specs.Edges.{Files, file_of}
 
@@ -25,3 +25,16 @@ IsLongFile files name = NamedFile files name (λ bytes. MAX_TEXT_BYTES < length 
 -- where files are known, this one is there, and all but its first n bytes are left
 abbrev pub HasLeft : Option Files → List ℕ → ℕ → Option (List ℕ) → Type 0
 HasLeft files name n left = NamedFile files name (λ bytes. left ≡ Some (drop n bytes))
+
+-- of this file at most one byte more was taken than a file may have
+pub record FewAreTaken (files : Option Files) (name : List ℕ) (left : Option (List ℕ)) : Type 0 where
+  pub count : ℕ
+  pub few : count ≤ MAX_TEXT_BYTES + 1
+  pub rest : HasLeft files name count left
+
+-- the same of one of these files
+pub record FewAreTakenOfOne (files : Option Files) (names : List (List ℕ)) (left : Option (List ℕ)) : Type 0 where
+  pub file : ℕ
+  pub name : List ℕ
+  pub named : slice_get names file ≡ Some name
+  pub taken : FewAreTaken files name left

@@ -1,8 +1,8 @@
 // Worked examples of the definitions.
-ghost use Rattle.std.specs.Prelude.{◌≡◌, ◌<◌, [], ◌∷◌, ◌++◌, Err, List, None, Some, codes, length, replicate, ℕ};
+ghost use Rattle.std.specs.Prelude.{◌≡◌, ◌+◌, ◌<◌, [], ◌∷◌, ◌++◌, Err, List, None, Some, codes, length, replicate, ℕ};
 ghost use Rattle.spec_text.specs.declared.limits.TheConstants.{MAX_TEXT_BYTES};
 ghost use Rattle.spec_faults.specs.declared.numbers.TheConstants.{ENDED, FIRST_LINE, LINE_TOO_LONG};
-ghost use Rattle.spec_files.specs.Files.{AreFiles, HasLeft, IsFile, IsLongFile};
+ghost use Rattle.spec_files.specs.Files.{AreFiles, FewAreTaken, HasLeft, IsFile, IsLongFile};
 ghost use Rattle.spec_files.specs.Outcome.{first_fault, outcome};
 ghost use Rattle.spec_files.specs.Texts.{at_end, first_cut, fault_at, joined};
 
@@ -44,4 +44,7 @@ pub fn named_files_are_read()
         → IsLongFile (Some ((codes "a", bytes) ∷ [])) (codes "a") }
     ensures not_long { IsLongFile (Some ((codes "a", 7 ∷ 8 ∷ []) ∷ [])) (codes "a") → ⊥ }
     ensures left { HasLeft (Some ((codes "a", 7 ∷ 8 ∷ []) ∷ [])) (codes "a") 1 (Some (8 ∷ [])) }
+    ensures taken { FewAreTaken (Some ((codes "a", 7 ∷ 8 ∷ []) ∷ [])) (codes "a") (Some (8 ∷ [])) }
+    ensures taken_too_far { (bytes : List ℕ) → MAX_TEXT_BYTES + 1 < length bytes
+        → FewAreTaken (Some ((codes "a", bytes) ∷ [])) (codes "a") (Some []) → ⊥ }
 {}

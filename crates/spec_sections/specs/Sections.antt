@@ -33,7 +33,12 @@ broken number detail = record { number = number; detail = detail }
 abbrev pub line_fault : ℕ → BrokenRule → Fault
 line_fault line rule = record { line = line; number = rule.number; detail = rule.detail }
 
--- the answer of a rule for this line of this file
+-- the answer of a rule for the line of this number, with its fault where it is broken
+abbrev pub ruled_at : {A : Type 0} → ℕ → Result A BrokenRule → Result A Fault
+ruled_at number (Ok x) = Ok x
+ruled_at number (Err rule) = Err (line_fault number rule)
+
+-- the same for this line of this file
 abbrev pub at_line : {A : Type 0} → ℕ → ℕ → Result A BrokenRule → Result A Stop
 at_line file number (Ok x) = Ok x
 at_line file number (Err rule) = Err (breaks file (line_fault number rule))

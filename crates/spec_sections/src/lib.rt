@@ -3,6 +3,8 @@
 //! a header and blocks share; what a line means stands above, and nothing is read.
 #![tactic(auto)]
 
+mod errors;
 mod rules;
 
-pub use rules::BrokenRule;
+pub use errors::ReadError;
+pub use rules::{BrokenRule, ruled_at};

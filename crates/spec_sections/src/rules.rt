@@ -1,6 +1,6 @@
 // The rules of lines, by the numbers under which they are reported.
 ghost use Rattle.std.specs.Prelude.{◌≡◌};
-ghost use Rattle.spec_sections.specs.Sections.{broken, line_fault};
+ghost use Rattle.spec_sections.specs.Sections.{broken, line_fault, ruled_at};
 
 use spec_text::Fault;
 
@@ -30,5 +30,15 @@ impl BrokenRule {
             number: self.number,
             detail: self.detail,
         }
+    }
+}
+
+/// What a rule gives for the line of this number: its value, or the fault of the line.
+pub fn ruled_at<T>(line: u32, ruled: Result<T, BrokenRule>) -> Result<T, Fault>
+    ensures { result ≡ ruled_at line ruled }
+{
+    match ruled {
+        Ok(value) => Ok(value),
+        Err(broken) => Err(broken.at_line(line)),
     }
 }

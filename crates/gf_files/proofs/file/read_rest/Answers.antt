@@ -1,11 +1,56 @@
-use Rattle.std.proofs.Common.{◌≡◌, ◌++◌, ℕ, length, take, arith, length-append}
-use Rattle.std.proofs.lemmas.List.{length-take}
-use Rattle.gf_files.proofs.Left.{consumes_more}
+use Rattle.std.proofs.Common.{◌∙◌, arith}
+use Rattle.std.proofs.lemmas.Result.{err_from_is_err_and}
+use Rattle.gf_files.specs.declared.errors.FilesError.TheVariants as all
+use Rattle.gf_files.proofs.InFile.{passed_on}
+use Rattle.gf_files.proofs.Left.{consumed_all, consumes_kept, grown_more}
 use Rattle.gf_files.proofs.file.read_rest.Goals as goal
 
-pub returns-in-Ok-clause-large : goal.returns-in-Ok-clause-large
-returns-in-Ok-clause-large g c = λ fault is.
-    let read = take c.in-Ok.count c.read.new.buf in
-    let size : length (c.loop-text.text.items ++ read) ≡ 268435457 =
-    omega (arith, length-append c.loop-text.text.items read, length-take {A = ℕ}, c.in-Ok.ensures.bound, c.if-len-count.true, c.min-room.ensures, c.len.ensures, c.loop-text.invariant.size) in
-    (c.loop-text.text.items ++ read, consumes_more _ _ _ _ _ c.loop-text.invariant.taken c.in-Ok.ensures.bytes.0, size)
+pub returns-in_err-count-clause-fault : goal.returns-in_err-count-clause-fault
+returns-in_err-count-clause-fault g c = λ place fault is.
+    let given = err_from_is_err_and c.from_residual.result c.from_residual.ensures.1 in
+    absurd (c.read_more.ensures.no_fault place fault (passed_on c.read_more.result c.from_residual.result _ _ (all.Fault place fault) c.in_err-count.was given.1 given.2 is))
+
+pub returns-in_err-count-clause-large : goal.returns-in_err-count-clause-large
+returns-in_err-count-clause-large g c = λ place fault is.
+    let given = err_from_is_err_and c.from_residual.result c.from_residual.ensures.1 in
+    absurd (c.read_more.ensures.no_fault place fault (passed_on c.read_more.result c.from_residual.result _ _ (all.Fault place fault) c.in_err-count.was given.1 given.2 is))
+
+pub returns-in_err-count-clause-failed : goal.returns-in_err-count-clause-failed
+returns-in_err-count-clause-failed g c = λ place is.
+    let given = err_from_is_err_and c.from_residual.result c.from_residual.ensures.1 in
+    let of = c.read_more.ensures.failed place (passed_on c.read_more.result c.from_residual.result _ _ (all.NotRead place) c.in_err-count.was given.1 given.2 is) in
+    (of.0, omega (arith, c.loop-shelf.invariant.later, of.1))
+
+pub returns-in_err-count-clause-taken : goal.returns-in_err-count-clause-taken
+returns-in_err-count-clause-taken g c = record {
+  read = c.loop-shelf.text.items;
+  taken = consumes_kept _ _ _ _ c.loop-shelf.invariant.taken c.in_err-count.ensures.unread;
+  few = c.loop-shelf.invariant.size;
+}
+
+pub returns-then-count-eq0-clause-whole : goal.returns-then-count-eq0-clause-whole
+returns-then-count-eq0-clause-whole g c =
+    consumed_all _ _ _ (grown_more _ _ _ _ _ _ c.loop-shelf.invariant.taken c.in_ok-count.ensures.read) (c.in_ok-count.ensures.end c.if-count-eq0.true)
+
+pub returns-then-count-eq0-clause-taken : goal.returns-then-count-eq0-clause-taken
+returns-then-count-eq0-clause-taken g c = record {
+  read = c.read_more.new.text.items;
+  taken = grown_more _ _ _ _ _ _ c.loop-shelf.invariant.taken c.in_ok-count.ensures.read;
+  few = c.in_ok-count.ensures.small;
+}
+
+pub loop-shelf-preserved : goal.loop-shelf-preserved
+loop-shelf-preserved g c = record {
+  ready = c.read_more.ensures.ready;
+  taken = grown_more _ _ _ _ _ _ c.loop-shelf.invariant.taken c.in_ok-count.ensures.read;
+  size = c.in_ok-count.ensures.small;
+  files = c.read_more.ensures.files ∙ c.loop-shelf.invariant.files;
+  later = omega (arith, c.read_more.ensures.later, c.loop-shelf.invariant.later);
+}
+
+pub returns-clause-large : goal.returns-clause-large
+returns-clause-large g c = λ place fault is.
+    (c.loop-shelf.text.items, c.loop-shelf.invariant.taken, omega (arith, c.loop-shelf.invariant.size, c.loop-shelf-test.false, c.len.ensures))
+
+pub returns-clause-taken : goal.returns-clause-taken
+returns-clause-taken g c = record { read = c.loop-shelf.text.items; taken = c.loop-shelf.invariant.taken; few = c.loop-shelf.invariant.size }

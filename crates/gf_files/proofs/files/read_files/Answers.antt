@@ -3,7 +3,7 @@ use Rattle.std.proofs.lemmas.List.{length-map}
 use Rattle.std.specs.Prelude.{string_bytes}
 use Rattle.gf_files.specs.Errors.{in_file}
 use Rattle.gf_files.specs.Reader.{Finishes, ephemeris_after}
-use Rattle.gf_files.specs.declared.errors.FileError.{FileError}
+use Rattle.spec_sections.specs.declared.errors.ReadError.{ReadError}
 use Rattle.gf_files.specs.declared.errors.FilesError.TheVariants as all
 use Rattle.gf_files.proofs.InFile.{fault_of_file}
 use Rattle.gf_files.proofs.NameLists.{accepted_at_end, refused_at_end, texts_of}
@@ -26,4 +26,4 @@ returns-in-Err-clause-fault g c = λ file fault is.
     let after = ephemeris_after 0 c.in_ok-fed.fed.reader [] in
     inr
     (refused_at_end _ _ c.in_ok-fed.fed.reader c.in_ok-fed.fed.end_line file fault few c.in_ok-fed.ensures.fed place
-    (subst (λ (e : FileError). Finishes c.in_ok-fed.fed.end_line after (Err e)) of.1 c.in-Err.ensures))
+    (subst (λ (e : ReadError). Finishes c.in_ok-fed.fed.end_line after (Err e)) of.1 c.in-Err.ensures))

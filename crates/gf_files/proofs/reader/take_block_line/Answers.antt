@@ -1,22 +1,20 @@
-use Rattle.std.proofs.Common.{◌≡◌, ◌∙◌, Err, subst, sym}
-use Rattle.de_blocks.specs.declared.answers.BlockError.TheVariants as errors
+use Rattle.std.proofs.Common.{◌≡◌, ◌∙◌, Ok, subst, sym}
+use Rattle.std.proofs.lemmas.Result.{err_from_is_err_and}
 use Rattle.de_blocks.specs.Reader.{IsNotMemory}
 use Rattle.gf_files.specs.Reader.{ephemeris_after}
-use Rattle.gf_files.proofs.BlockSays.{blocks_ready, refused_says, sound_answer}
+use Rattle.gf_files.proofs.BlockSays.{block_stops, blocks_ready, sound_answer}
 use Rattle.gf_files.proofs.reader.take_block_line.Goals as goal
 
-pub returns-in-Ok : goal.returns-in-Ok
+pub returns : goal.returns
 unfolding ephemeris_after
-returns-in-Ok c =
-    let some : IsNotMemory c.line.result = subst IsNotMemory (sym c.in-Ok.is) tt in (
+returns c =
+    let done : c.line.result ≡ Ok tt = c.in_ok-line.was in
+    let some : IsNotMemory c.line.result = subst IsNotMemory (sym done) tt in (
       c.line.ensures.says some,
-      blocks_ready c.line.new.self (c.line.ensures.not_refused c.in-Ok.is) (sound_answer _ (sym (c.line.ensures.answer some) ∙ c.in-Ok.is)),
+      blocks_ready c.line.new.self (c.line.ensures.not_refused done) (sound_answer _ (sym (c.line.ensures.answer some) ∙ done)),
     )
 
-pub returns-in-Err-Fault : goal.returns-in-Err-Fault
-unfolding ephemeris_after
-returns-in-Err-Fault c =
-    let refused : c.line.result ≡ Err (errors.Fault c.in-Err-Fault.fault) = c.in-Err-Fault.is ∙ (λ i. Err (c.in-Err-Fault.field-0-is i)) in
-    let some : IsNotMemory c.line.result = subst IsNotMemory (sym refused) tt in
-    rw c.in-Err-Fault.fault-is
-    (λ file rest. sym (c.line.ensures.says some file rest) ∙ refused_says c.line.new.self c.in-Err-Fault.fault (c.line.ensures.refused c.in-Err-Fault.fault refused) file rest)
+pub returns-in_err-line : goal.returns-in_err-line
+returns-in_err-line c =
+    let given = err_from_is_err_and c.from_residual.result c.from_residual.ensures.1 in
+    rw (given.1, given.2) (block_stops c.args.reader c.line.new.self c.args.line.now _ c.in_err-line.ensures.says c.in_err-line.ensures.refused)

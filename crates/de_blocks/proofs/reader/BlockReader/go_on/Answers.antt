@@ -1,13 +1,12 @@
-use Rattle.std.proofs.Common.{ap, subst, ◌∙◌, Ok, Err, ℕ}
-use Rattle.spec_sections.specs.Sections.{line_fault}
+use Rattle.std.proofs.Common.{ap, subst, ◌∙◌, Ok, Err}
 use Rattle.de_blocks.specs.Reader.{Progress, Takes}
-use Rattle.de_blocks.specs.declared.answers.BlockError.TheVariants as errors
+use Rattle.spec_sections.specs.declared.errors.ReadError.TheVariants as errors
 use Rattle.de_blocks.proofs.Steps.{at, fits_after, took, took_bad}
 use Rattle.de_blocks.proofs.reader.BlockReader.go_on.Goals as goal
 
 pub invariant_of-self : goal.invariant_of-self
 invariant_of-self c =
-    fits_after c.self.inside.accepted c.take_line.new.before c.self.inside.numbers.items c.take_line.new.numbers.items c.args.line.now.tokens c.self.inside.place
+    fits_after c.self.inside.accepted c.take_line.new.before c.self.inside.numbers.items c.take_line.new.numbers.items c.args.line.now c.self.inside.place
     c.in-Ok.place c.take_line.result c.self.invariant c.in-Ok.is c.take_line.ensures
 
 pub returns-in-Ok : goal.returns-in-Ok
@@ -16,10 +15,10 @@ returns-in-Ok c =
     (took c.self.inside.accepted c.take_line.new.before c.self.inside.numbers.items c.take_line.new.numbers.items c.args.line.now c.self.inside.place c.in-Ok.place
     c.take_line.result (ap (λ (p : Progress). p.place) c.self.view_is ∙ c.requires) c.self.invariant c.in-Ok.is c.take_line.ensures)
 
-pub returns-in-Err-Broken : goal.returns-in-Err-Broken
-returns-in-Err-Broken c =
+pub returns-in-Err-Fault : goal.returns-in-Err-Fault
+returns-in-Err-Fault c =
     rw c.refuse.ensures.result
-    (subst (λ (p : Progress). Takes p c.args.line.now (Err (errors.Fault c.at_line.result)) c.refuse.new.self) c.self.view_is
+    (subst (λ (p : Progress). Takes p c.args.line.now (Err (errors.Fault c.in-Err-Fault.fault)) c.refuse.new.self) c.self.view_is
     (took_bad c.self.inside.accepted c.self.inside.numbers.items c.take_line.new.numbers.items c.take_line.new.before c.self.inside.place c.refuse.new.self c.args.line.now
-    c.take_line.result c.in-Err-Broken.field-0 c.in-Err-Broken.broken c.at_line.result (ap (λ (p : Progress). p.place) c.self.view_is ∙ c.requires) c.self.invariant
-    c.in-Err-Broken.field-0-is c.in-Err-Broken.ensures (c.at_line.ensures ∙ ap (λ (n : ℕ). line_fault n c.in-Err-Broken.broken) c.number.ensures) c.refuse.ensures.refused))
+    c.in-Err-Fault.field-0 c.in-Err-Fault.fault (ap (λ (p : Progress). p.place) c.self.view_is ∙ c.requires) c.self.invariant
+    c.in-Err-Fault.field-0-is c.in-Err-Fault.ensures c.refuse.ensures.refused))

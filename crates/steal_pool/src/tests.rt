@@ -283,7 +283,8 @@ fn book_of_two<N: Naming, R: Abort + Wait>(
     ledger: SpanLedger,
     entries: Vec<LedgerSeat>,
 ) -> Option<Book>
-    requires pool { CanMake N.rules long_crossing ledger entries.items (span (pos 1339000) (pos 1339400)) }
+    requires pool { CanMake N.rules long_crossing ledger entries.items
+        (span (pos 1339000) (pos 1339400)) }
     requires two { length entries.items ≡ 2 }
 {
     let root = span(1_339_000, 1_339_400);
@@ -389,7 +390,8 @@ fn hand_round<N: Naming, R: Abort + Wait>(
     ledger: &SpanLedger,
     entries: Vec<LedgerSeat>,
 ) -> bool
-    requires { CanMake N.rules long_crossing ledger.now entries.items (span (neg_ℤ (pos 43200)) (pos 1339200)) }
+    requires { CanMake N.rules long_crossing ledger.now entries.items
+        (span (neg_ℤ (pos 43200)) (pos 1339200)) }
 {
     let root = span(-43_200, 1_339_200);
     let Ok(mut seats) = make::<N, Crossing, OpenGate>(
@@ -492,7 +494,8 @@ fn leave_nothing<N: Naming + Send + Sync, R: Abort + Threads + Wait + Sync>(
     ledger: &SpanLedger,
     entries: Vec<LedgerSeat>,
 ) -> Result<(), Fail>
-    requires { CanMake N.rules long_crossing ledger.now entries.items (span (neg_ℤ (pos 43200)) (pos 2721600)) }
+    requires { CanMake N.rules long_crossing ledger.now entries.items
+        (span (neg_ℤ (pos 43200)) (pos 2721600)) }
 {
     let gate = new_meeting();
     let root = span(-43_200, 2_721_600);

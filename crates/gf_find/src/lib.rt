@@ -27,3 +27,5 @@ pub use top::finder;
 
 #[cfg(test)]
 mod tests;
+#[cfg(test)]
+mod thread_tests;

@@ -7,7 +7,7 @@ use spec_trees::CutRule;
 /// A closure that is asked where the span from a first time to a second one is cut.
 pub type Cut = Box<dyn Fn(i64, i64) -> i64 + Send + Sync>;
 
-/// A closure and the rule whose cuts it answers.
+/// A closure and the rule whose cuts it returns.
 #[derive(Drop)]
 pub struct Cutter {
     rule: CutRule,
@@ -17,7 +17,7 @@ pub struct Cutter {
 }
 
 impl Cutter {
-    /// Keeps a closure that can be called at each span that can be cut, and answers the rule's cut of it.
+    /// Keeps a closure that can be called at each span that can be cut, and returns the rule's cut of it.
     pub fn new(rule: CutRule, cut: Cut) -> Cutter
         requires callable { (a b : ℤ) → CanCut a b → Cut.pre cut a b }
         requires answers { (a b time : ℤ) → CanCut a b

@@ -1,4 +1,4 @@
-//! Stored cuts: a closure that answers where a span is cut, with the fact beside it that it answers the cut of a named
+//! Stored cuts: a closure that returns where a span is cut, with the fact beside it that it returns the cut of a named
 //! rule.
 //!
 //! In come the rule, the closure and that fact; out comes a `Cutter`, whose every cut is the rule's. Whoever holds one

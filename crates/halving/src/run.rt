@@ -7,7 +7,7 @@ use crate::judge::{Judge, rules_are_sound};
 use spec_trees::{Leaf, Node};
 use std::alloc::Global;
 
-/// Why a walk has no leaves to give: they are more than the limit, or there was no memory for them.
+/// Why a walk has no leaves to give: they are more than the limit, or memory ran out.
 #[derive(Debug, Drop, PartialEq, Eq)]
 pub enum RunError {
     TooMany,

@@ -67,7 +67,7 @@ impl<J: Judge + Drop> Pool<J> {
 
 impl<J: Judge> Pool<J> {
     /// Takes a step: `Refused` where its condition is false or a number is past the workers. After a refusal the pool
-    /// is unchanged, and so it is where there was no memory for the step.
+    /// is unchanged, and so it is where memory ran out.
     pub fn step(&mut self, step: Step) -> Result<(), StepError>
         ensures ok { OnOk result (Takes (J.rules self.old.judge) self.old step self.new) }
         ensures refused { IsRefusal (J.rules self.old.judge) self.old step result }
@@ -91,7 +91,7 @@ impl<J: Judge> Pool<J> {
         self.entered.as_slice()
     }
 
-    /// Whether all hands, deques and kept stacks are empty.
+    /// Whether all hands, deques and local stacks are empty.
     pub fn is_done(&self) -> bool
         ensures { IsTrue result ↔ IsDone self.now.state }
     {
@@ -114,7 +114,7 @@ impl<J: Judge> Pool<J> {
         worker.push(&self.judge)
     }
 
-    // Worker `w` splits its node and puts the right part on its kept stack.
+    // Worker `w` splits its node and puts the right part on its local stack.
     fn keep(&mut self, w: u32) -> Result<(), StepError>
         ensures ok { OnOk result (Takes (J.rules self.old.judge) self.old (Keep w) self.new) }
         ensures refused { IsRefusal (J.rules self.old.judge) self.old (Keep w) result }
@@ -146,7 +146,7 @@ impl<J: Judge> Pool<J> {
         worker.pop()
     }
 
-    // Worker `w` takes the top of its kept stack.
+    // Worker `w` takes the top of its local stack.
     fn take_kept(&mut self, w: u32) -> Result<(), StepError>
         ensures ok { OnOk result (Takes (J.rules self.old.judge) self.old (TakeKept w) self.new) }
         ensures refused { IsRefusal (J.rules self.old.judge) self.old (TakeKept w) result }

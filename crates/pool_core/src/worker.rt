@@ -12,7 +12,7 @@ use std::alloc::Global;
 use std::collections::VecDeque;
 use std::marker::Model;
 
-/// Why a step was not taken: its condition is false, or there was no memory. The pool is then as before.
+/// Why a step was not taken: its condition is false, or memory ran out. The pool is then as before.
 #[derive(Debug, Drop, PartialEq, Eq)]
 pub enum StepError {
     Refused,
@@ -73,7 +73,7 @@ impl Worker {
         Ok(())
     }
 
-    /// Splits the node in the hand and puts its right part on top of the kept stack.
+    /// Splits the node in the hand and puts its right part on top of the local stack.
     pub fn keep<J: Judge>(&mut self, judge: &J) -> Result<(), StepError>
         requires { HoldsValid (J.rules judge.now) self.old }
         ensures ok { OnOk result (Keeps (J.rules judge.now) self.old self.new) }
@@ -110,7 +110,7 @@ impl Worker {
         Ok(())
     }
 
-    /// Takes the top of the kept stack into the empty hand.
+    /// Takes the top of the local stack into the empty hand.
     pub fn take_kept(&mut self) -> Result<(), StepError>
         ensures ok { OnOk result (TakesKept self.old self.new) }
         ensures refused { OnErr result (IsStuck TakesKept self.old) }

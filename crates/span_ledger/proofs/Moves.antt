@@ -1,5 +1,5 @@
 -- Each kind of step keeps the rule.
-use Rattle.std.proofs.Common.{◌≡◌, ◌≢◌, ⊎_elim, inl, inr, ℕ, suc, ◌+◌, ◌-◌, ◌%◌, ◌^◌, ◌<◌, ◌≤◌, ◌==◌, List, [], ◌∷◌, ◌++◌, length, Option, Some, refl, sym, ap, ◌∙◌, subst, slice_set, slice_index, append_assoc, length-append, arith, true, false, ◌≤ℤ◌}
+use Rattle.std.proofs.Common.{◌≡◌, ◌≢◌, ⊎_elim, inl, inr, ℕ, suc, ◌+◌, ◌-◌, ◌%◌, ◌^◌, ◌<◌, ◌≤◌, ◌==◌, List, [], ◌∷◌, ◌++◌, length, Option, Some, refl, sym, ap, ◌∙◌, subst, slice_set, slice_index, append_assoc, length-append, sum_by, arith, true, false, ◌≤ℤ◌}
 use Rattle.std.proofs.lemmas.List.{append-nil}
 use mathlib.Core.Option as M
 use lib.ListN.{get_elem?}
@@ -13,8 +13,9 @@ use Rattle.spec_pool.specs.declared.ledger.Part.{Part}
 use Rattle.span_ledger.specs.declared.ledger.View.{View}
 use Rattle.spec_pool.specs.declared.ledger.Terms.{Terms}
 use Rattle.spec_pool.specs.History.{StartsWith, by_seat, Fresh, Stands, saw, entered, repeated, AllStand, FitsPart, EachFits, Lies, Sound}
-use Rattle.span_ledger.specs.Rule.{the_part, with_part, is_number, times, run_of, taken, size, Fits, weigh, home_of, Keeps, Kept, Sat, Stp, Locks, Adds, Frees}
-use Rattle.span_ledger.proofs.Views.{total_set, total_le, two_le, all_set, by_seat-append, by_own, by_other}
+use Rattle.spec_pool.proofs.Weights.{total_set, total_le}
+use Rattle.span_ledger.specs.Rule.{the_part, with_part, is_number, times, run_of, taken, size, Fits, home_of, Keeps, Kept, Sat, Stp, Locks, Adds, Frees}
+use Rattle.span_ledger.proofs.Views.{two_le, all_set, by_seat-append, by_own, by_other}
 use Rattle.span_ledger.proofs.Indexing.{at_end}
 
 abbrev Slot : Type 0
@@ -51,10 +52,10 @@ same_times v p q h k one same z =
     omega (arith, a, b, z)
 
 -- the parts of the rule that a step with one seat leaves alike
-numbers_set : (views : List View) (id : ℕ) (v : View) (p q : Part) (h k : ℕ) → get_elem? views id ≡ M.some v → v.parts ≡ p ∷ [] → q.number ≡ p.number → weigh (taken k) views ≤ 1 → weigh (taken k) (slice_set views id (with_part v h q)) ≤ 1
+numbers_set : (views : List View) (id : ℕ) (v : View) (p q : Part) (h k : ℕ) → get_elem? views id ≡ M.some v → v.parts ≡ p ∷ [] → q.number ≡ p.number → sum_by (taken k) views ≤ 1 → sum_by (taken k) (slice_set views id (with_part v h q)) ≤ 1
 numbers_set views id v p q h k at one same le = omega (arith, total_set (taken k) views id v (with_part v h q) at, same_taken v p q h k one same, le)
 
-size_set : (t : Terms) (views : List View) (id : ℕ) (v : View) (p q : Part) (h : ℕ) → get_elem? views id ≡ M.some v → v.parts ≡ p ∷ [] → weigh size views ≤ t.seats → weigh size (slice_set views id (with_part v h q)) ≤ t.seats
+size_set : (t : Terms) (views : List View) (id : ℕ) (v : View) (p q : Part) (h : ℕ) → get_elem? views id ≡ M.some v → v.parts ≡ p ∷ [] → sum_by size views ≤ t.seats → sum_by size (slice_set views id (with_part v h q)) ≤ t.seats
 size_set t views id v p q h at one le = omega (arith, total_set size views id v (with_part v h q) at, same_size v p q h one, le)
 
 pub first_fits : (log : List Booked) (v : View) (p : Part) → v.parts ≡ p ∷ [] → EachFits log v.parts → FitsPart log p

@@ -1,5 +1,6 @@
 -- Making seats, joining them, and the ledger at its two ends.
-use Rattle.std.proofs.Common.{◌≡◌, ◌≢◌, ⊎_elim, inl, ℕ, zero, suc, ◌+◌, ◌-◌, ◌<◌, ◌≤◌, List, [], ◌∷◌, ◌++◌, length, map, Option, Some, refl, sym, ap, ◌∙◌, subst, slice_set, length-append, arith}
+use Rattle.std.proofs.Common.{◌≡◌, ◌≢◌, ⊎_elim, inl, ℕ, zero, suc, ◌+◌, ◌-◌, ◌<◌, ◌≤◌, List, [], ◌∷◌, ◌++◌, length, map, Option, Some, refl, sym, ap, ◌∙◌, subst, slice_set, length-append, sum_by, arith}
+use Rattle.std.proofs.lemmas.List.Sums.{sum_by-cons, sum_by_push}
 use mathlib.Core.Option as M
 use lib.ListN.{get_elem?}
 use native.Mathlib.Decide.{ℕ_discrete}
@@ -10,8 +11,9 @@ use Rattle.spec_pool.specs.declared.ledger.Part.{Part}
 use Rattle.span_ledger.specs.declared.ledger.View.{View}
 use Rattle.spec_pool.specs.declared.ledger.Terms.{Terms}
 use Rattle.spec_pool.specs.History.{part_of, EachFits, Sound}
-use Rattle.span_ledger.specs.Rule.{the_part, newcomer, maker_after, made, joined, spent, is_number, times, run_of, taken, size, Fits, weigh, home_of, Keeps, Kept}
-use Rattle.span_ledger.proofs.Views.{total_set, two_le, all_set, weigh-snoc}
+use Rattle.spec_pool.proofs.Weights.{total_set}
+use Rattle.span_ledger.specs.Rule.{the_part, newcomer, maker_after, made, joined, spent, is_number, times, run_of, taken, size, Fits, home_of, Keeps, Kept}
+use Rattle.span_ledger.proofs.Views.{two_le, all_set}
 use Rattle.span_ledger.proofs.Moves.{one_number, no_number}
 
 abbrev Slot : Type 0
@@ -44,9 +46,9 @@ splits t id v room s k at =
       bit = k.bit;
       words_are = k.words_are;
       homes_are = k.homes_are;
-      holders = omega (arith, k.holders, weigh-snoc (λ (u : View). u.holds) (slice_set s.views id w) n, total_set (λ (u : View). u.holds) s.views id v w at);
-      numbers = λ j. omega (arith, k.numbers j, weigh-snoc (taken j) (slice_set s.views id w) n, total_set (taken j) s.views id v w at, run_step j v.low v.high room);
-      counted = omega (arith, k.counted, weigh-snoc size (slice_set s.views id w) n, total_set size s.views id v w at, room);
+      holders = omega (arith, k.holders, sum_by_push (λ (u : View). u.holds) (slice_set s.views id w) n, total_set (λ (u : View). u.holds) s.views id v w at);
+      numbers = λ j. omega (arith, k.numbers j, sum_by_push (taken j) (slice_set s.views id w) n, total_set (taken j) s.views id v w at, run_step j v.low v.high room);
+      counted = omega (arith, k.counted, sum_by_push size (slice_set s.views id w) n, total_set size s.views id v w at, room);
       fit = λ i u g. ⊎_elim
           (λ (e : get_elem? (slice_set s.views id w) i ≡ M.some u). all_set (λ i u. Fits t k.log u) s.views id w (record {
             parts = old.parts;
@@ -140,7 +142,7 @@ begins t seats =
       words_are = refl;
       homes_are = refl;
       holders = refl;
-      numbers = λ j. first_numbers j (t.seats - 1);
+      numbers = λ j. omega (arith, first_numbers j (t.seats - 1));
       counted = omega (arith, seats);
       fit = λ i u e. subst (Fits t []) (one_view (newcomer t) u i e) (record {
         parts = (record { seen = ([], refl); mine = refl; again = tt }, tt);
@@ -154,11 +156,11 @@ begins t seats =
     }
 
 -- where one seat has the parts of all, the lock is free
-all_zero : (f : View → ℕ) (views : List View) → ((i : ℕ) (u : View) → get_elem? views i ≡ M.some u → f u ≡ 0) → weigh f views ≡ 0
+all_zero : (f : View → ℕ) (views : List View) → ((i : ℕ) (u : View) → get_elem? views i ≡ M.some u → f u ≡ 0) → sum_by f views ≡ 0
 all_zero f [] h = refl
-all_zero f (x ∷ xs) h = omega (arith, h zero x refl, all_zero f xs (λ i u e. h (suc i) u e))
+all_zero f (x ∷ xs) h = omega (arith, h zero x refl, all_zero f xs (λ i u e. h (suc i) u e), sum_by-cons f x xs)
 
-zero_by : (t : Terms) (id : ℕ) (v : View) (views : List View) (log : List Booked) (i : ℕ) (u : View) → v.holds ≡ 0 → length v.parts ≡ t.seats → get_elem? views id ≡ M.some v → weigh size views ≤ t.seats → Fits t log u → get_elem? views i ≡ M.some u → Dec (i ≡ id) → u.holds ≡ 0
+zero_by : (t : Terms) (id : ℕ) (v : View) (views : List View) (log : List Booked) (i : ℕ) (u : View) → v.holds ≡ 0 → length v.parts ≡ t.seats → get_elem? views id ≡ M.some v → sum_by size views ≤ t.seats → Fits t log u → get_elem? views i ≡ M.some u → Dec (i ≡ id) → u.holds ≡ 0
 zero_by t id v views log i u idle all at counted f e (yes same) = let is : v ≡ u = M.some-injective v u (sym at ∙ (ap (get_elem? views) (sym same) ∙ e)) in subst (λ (x : View). x.holds ≡ 0) is idle
 zero_by t id v views log i u idle all at counted f e (no other) = f.idle (omega (arith, all, counted, two_le size views i id u v other e at))
 
@@ -168,7 +170,7 @@ ends t id v ws xs idle all f =
     let s = f.0 in
     let k : Kept t s = f.1.0 in
     let at = f.1.1 in
-    let none : weigh (λ (u : View). u.holds) s.views ≡ 0 = all_zero (λ (u : View). u.holds) s.views (λ i u e. zero_by t id v s.views k.log i u idle all at k.counted (k.fit i u e) e (ℕ_discrete i id)) in
+    let none : sum_by (λ (u : View). u.holds) s.views ≡ 0 = all_zero (λ (u : View). u.holds) s.views (λ i u e. zero_by t id v s.views k.log i u idle all at k.counted (k.fit i u e) e (ℕ_discrete i id)) in
     let lock : k.lock ≡ 0 = sym k.holders ∙ none in
     let home : s.homes ≡ M.some (Some k.log) ∷ [] = k.homes_are ∙ ap (λ (l : ℕ). home_of l k.log ∷ []) lock in
     (k.log, f.4 0 (Some k.log) (ap (λ (h : List (M.Option Slot)). get_elem? h 0) home), k.sound, (k.fit id v at).parts)

@@ -1,30 +1,26 @@
 -- Totals and facts over the views.
-use Rattle.std.proofs.Common.{◌≡◌, ◌≢◌, ⊎_elim, ℕ, zero, suc, ◌+◌, ◌≤◌, ◌==◌, List, [], ◌∷◌, ◌++◌, refl, sym, ap, ◌∙◌, subst, slice_set, if◌then◌else◌, true, false, append_assoc, arith}
+use Rattle.std.proofs.Common.{◌≡◌, ◌≢◌, ⊎_elim, ℕ, zero, suc, ◌+◌, ◌≤◌, ◌==◌, List, [], ◌∷◌, ◌++◌, refl, sym, ap, ◌∙◌, subst, slice_set, if◌then◌else◌, true, false, append_assoc, sum_by, arith}
 use Rattle.std.proofs.lemmas.Bool.Decides.{nat_tests}
+use Rattle.std.proofs.lemmas.List.Sums.{sum_by-cons}
 use mathlib.Core.Option.{some, some-ne-none}
 use lib.ListN.{get_elem?}
 use Rattle.atomic_table.proofs.Lists.{at_set}
 use Rattle.spec_trees.specs.declared.book.Booked.{Booked}
 use Rattle.span_ledger.specs.declared.ledger.View.{View}
 use Rattle.spec_pool.specs.History.{by_seat}
-use Rattle.span_ledger.specs.Rule.{weigh}
+use Rattle.spec_pool.proofs.Weights.{total_le}
 
-pub total_set : (f : View → ℕ) (views : List View) (port : ℕ) (v w : View) → get_elem? views port ≡ some v → weigh f (slice_set views port w) + f v ≡ weigh f views + f w
-total_set f [] port v w e = absurd (some-ne-none v (sym e))
-total_set f (x ∷ xs) zero v w e = let same : f x ≡ f v = ap f cc in omega (arith, same)
-total_set f (x ∷ xs) (suc k) v w e = omega (arith, total_set f xs k v w e)
-
-pub total_le : (f : View → ℕ) (views : List View) (port : ℕ) (v : View) → get_elem? views port ≡ some v → f v ≤ weigh f views
-total_le f [] port v e = absurd (some-ne-none v (sym e))
-total_le f (x ∷ xs) zero v e = let same : f x ≡ f v = ap f cc in omega (arith, same)
-total_le f (x ∷ xs) (suc k) v e = omega (arith, total_le f xs k v e)
-
-pub two_le : (f : View → ℕ) (views : List View) (p q : ℕ) (v w : View) → p ≢ q → get_elem? views p ≡ some v → get_elem? views q ≡ some w → f v + f w ≤ weigh f views
+pub two_le : (f : View → ℕ) (views : List View) (p q : ℕ) (v w : View) → p ≢ q → get_elem? views p ≡ some v → get_elem? views q ≡ some w → f v + f w ≤ sum_by f views
 two_le f [] p q v w n e g = absurd (some-ne-none v (sym e))
 two_le f (x ∷ xs) zero zero v w n e g = absurd (n refl)
-two_le f (x ∷ xs) zero (suc q) v w n e g = let same : f x ≡ f v = ap f cc in omega (arith, same, total_le f xs q w g)
-two_le f (x ∷ xs) (suc p) zero v w n e g = let same : f x ≡ f w = ap f cc in omega (arith, same, total_le f xs p v e)
-two_le f (x ∷ xs) (suc p) (suc q) v w n e g = omega (arith, two_le f xs p q v w (λ z. n (ap suc z)) e g)
+two_le f (x ∷ xs) zero (suc q) v w n e g =
+    let same : f x ≡ f v = ap f cc in
+    omega (arith, same, total_le f xs q w g, sum_by-cons f x xs)
+two_le f (x ∷ xs) (suc p) zero v w n e g =
+    let same : f x ≡ f w = ap f cc in
+    omega (arith, same, total_le f xs p v e, sum_by-cons f x xs)
+two_le f (x ∷ xs) (suc p) (suc q) v w n e g =
+    omega (arith, two_le f xs p q v w (λ z. n (ap suc z)) e g, sum_by-cons f x xs)
 
 abbrev pub All : (ℕ → View → Type 0) → List View → Type 0
 All F views = (p : ℕ) (v : View) → get_elem? views p ≡ some v → F p v
@@ -34,10 +30,6 @@ all_set F views port w mine others p u e = ⊎_elim
     (λ (x : (p ≡ port) × (w ≡ u)). subst (λ (y : ℕ × View). F y.0 y.1) (λ i. (sym x.0 i, x.1 i)) mine)
     (λ (x : (p ≢ port) × (get_elem? views p ≡ some u)). others p u x.0 x.1)
     (at_set views port p w u e)
-
-pub weigh-snoc : (f : View → ℕ) (views : List View) (w : View) → weigh f (views ++ w ∷ []) ≡ weigh f views + f w
-weigh-snoc f [] w = omega arith
-weigh-snoc f (x ∷ xs) w = omega (arith, weigh-snoc f xs w)
 
 pub by_seat-append : (k : ℕ) (xs ys : List Booked) → by_seat k (xs ++ ys) ≡ by_seat k xs ++ by_seat k ys
 by_seat-append k [] ys = refl

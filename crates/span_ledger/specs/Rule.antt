@@ -1,6 +1,6 @@
 -- The rule of the ledger, which holds between any two steps. Word 0 is 1 where the lock is taken, and else another
 -- number; word 1 is the number of entries; slot 0 holds the book. Each seat knows a part of the history.
-use Rattle.std.specs.Prelude.{◌≡◌, ◌≢◌, ◌⊎◌, ◌≤◌, ℕ, zero, suc, ◌+◌, ◌-◌, ◌==◌, List, [], ◌∷◌, ◌++◌, length, Option, Some, ⊤, if◌then◌else◌}
+use Rattle.std.specs.Prelude.{◌≡◌, ◌≢◌, ◌⊎◌, ◌≤◌, ℕ, zero, suc, ◌+◌, ◌-◌, ◌==◌, List, [], ◌∷◌, ◌++◌, length, sum_by, Option, Some, ⊤, if◌then◌else◌}
 use mathlib.Core.Option as M
 use lib.ListN.{get_elem?}
 use Rattle.atomic_table.specs.Table.{State, Me, Step}
@@ -65,10 +65,6 @@ pub record Fits (t : Terms) (log : List Booked) (v : View) : Type 0 where
   pub current : v.holds ≡ 1 → (the_part v.parts).seen ≡ log
   pub fresh : (k : ℕ) → 1 ≤ run_of k v.low (v.high - v.low) → by_seat k log ≡ []
 
-abbrev pub weigh : (View → ℕ) → List View → ℕ
-weigh f [] = 0
-weigh f (v ∷ vs) = f v + weigh f vs
-
 -- the book of a lock that is free, and nothing at home where it is taken
 abbrev pub home_of : ℕ → List Booked → M.Option (Option (List Booked))
 home_of zero log = M.some (Some log)
@@ -81,9 +77,9 @@ pub record Keeps (t : Terms) (words : List ℕ) (homes : List (M.Option (Option 
   pub bit : ((lock ≡ 0) × (word ≢ 1)) ⊎ ((lock ≡ 1) × (word ≡ 1))
   pub words_are : words ≡ word ∷ length log ∷ []
   pub homes_are : homes ≡ home_of lock log ∷ []
-  pub holders : weigh (λ (v : View). v.holds) views ≡ lock
-  pub numbers : (k : ℕ) → weigh (taken k) views ≤ 1
-  pub counted : weigh size views ≤ t.seats
+  pub holders : sum_by (λ (v : View). v.holds) views ≡ lock
+  pub numbers : (k : ℕ) → sum_by (taken k) views ≤ 1
+  pub counted : sum_by size views ≤ t.seats
   pub fit : (p : ℕ) (v : View) → get_elem? views p ≡ M.some v → Fits t log v
   pub sound : Sound t log
 

@@ -58,8 +58,8 @@ impl SpanLedger {
         ))
     }
 
-    /// Takes all seats back and hands out the book, or answers how many were given where they aren't all. It takes no
-    /// memory.
+    /// Takes all seats back and hands out the book, or returns how many were given where they aren't all. It does not
+    /// allocate.
     pub fn close(self, mut seats: Vec<LedgerSeat>) -> Result<Book, CloseError>
         requires { All (IsSeatOf self) seats.items }
         ensures root { IfOk result (λ book. book.root ≡ (terms self).root) }

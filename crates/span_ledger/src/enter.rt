@@ -71,7 +71,9 @@ fn release(ledger: &SpanLedger, raw: &mut Raw)
     ledger.table.shared.store::<Free>(raw, LOCK, 0);
 }
 
-// Gives them back, and notes that the leaf at a place was to be entered again.
+// Gives them back, and notes that the leaf at a place was to be entered again. The number that the lock holds from then
+// on, the place and 2, is there for the proof alone: no code reads it, and any number but 1 is a lock that is free. The
+// rule of the table learns from it which leaf that was.
 fn release_again(ledger: &SpanLedger, raw: &mut Raw, place: u32, leaf: Leaf)
     requires ours { raw.old.table_id ≡ ledger.now.table.shared.table_id }
     requires held { HasBook raw.old.me }

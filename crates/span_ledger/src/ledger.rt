@@ -43,7 +43,8 @@ impl Play<Option<Register>, View> for Add {
     ghost then = { Adds };
 }
 
-/// Giving back the register and the lock.
+/// Giving back the register and the lock. The number that is stored, 0 or 2 and the place of a leaf that was to be entered
+/// again, is there for the proof alone.
 pub struct Free;
 
 impl Play<Option<Register>, View> for Free {

@@ -110,7 +110,7 @@ entered_weigh t sound h [] a = refl
 entered_weigh t sound h (l ∷ ls) a =
     omega (arith, ap (weigh h) (leaves_settled t sound l.node a.0.valid l.mark a.0.marked), entered_weigh t sound h ls a.1)
 
--- once nothing is held, the entered leaves are those of the root, each as often
+-- once nothing is held, the entered leaves are those of the root, as multisets
 entered_all : (t : Rules) → IsSound t → (root : Node) (s : State) → Conserves t root s → IsDone s → (h : Leaf → ℕ) → weigh h s.entered ≡ weigh h (leaves t root)
 entered_all t sound root s c done h =
     let f : Node → ℕ = λ n. weigh h (leaves t n) in

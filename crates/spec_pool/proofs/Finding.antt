@@ -1,7 +1,8 @@
 -- An element that is among others, and lists that weigh the same by every function.
-use Rattle.std.proofs.Common.{◌≡◌, ℕ, ◌<◌, ◌==◌, ◌&&◌, Bool, true, false, if◌then◌else◌, ℤ, ◌-ℤ◌, List, [], ◌∷◌, ◌++◌, refl, sym, ap, subst, IsPermutation, arith}
+use Rattle.std.proofs.Common.{◌≡◌, ℕ, ◌<◌, ◌==◌, ◌&&◌, Bool, true, false, if◌then◌else◌, ℤ, ◌-ℤ◌, List, [], ◌∷◌, ◌++◌, refl, sym, ap, subst, sum_by, IsPermutation, arith}
 use Rattle.std.specs.Int.RustNames.{unsigned_abs}
 use Rattle.std.proofs.lemmas.Int.{ints}
+use Rattle.std.proofs.lemmas.Bool.{and_from, and_parts}
 use Rattle.std.proofs.lemmas.Bool.Decides.{nat_tests}
 use Rattle.std.proofs.lemmas.List.Sorted.{IsPermutation-refl, IsPermutation-sym, IsPermutation-cons, IsPermutation-trans, IsPermutation-middle}
 use Rattle.spec_trees.specs.declared.tree.Node.{Node}
@@ -10,7 +11,7 @@ use Rattle.spec_trees.specs.declared.tree.Mark.{Mark}
 use Rattle.spec_trees.specs.declared.tree.Mark.TheVariants.{Clear, One, Undecided}
 use Rattle.spec_trees.specs.declared.tree.Turn.TheVariants.{Rise, Fall}
 use Rattle.spec_pool.specs.Marks.{mark_number}
-use Rattle.spec_pool.proofs.Weights.{weigh, weigh-append}
+use Rattle.spec_pool.proofs.Weights.{weigh, weigh-append, sum_is_weigh}
 
 -- ---- any test of sameness
 module _ {A : Type 0} (same : A → A → Bool) (is : (x y : A) → same x y ≡ true → x ≡ y) (itself : (x : A) → same x x ≡ true) where
@@ -51,15 +52,10 @@ same_node n m = ((unsigned_abs (n.a -ℤ m.a) == 0) && (unsigned_abs (n.b -ℤ m
 same_ends : (x y : ℤ) → (unsigned_abs (x -ℤ y) == 0) ≡ true → x ≡ y
 same_ends x y e = let z : unsigned_abs (x -ℤ y) ≡ 0 = grind (arith, nat_tests) in omega (arith, ints)
 
-both_true : (x y : Bool) → (x && y) ≡ true → (x ≡ true) × (y ≡ true)
-both_true true true e = (refl, refl)
-both_true true false e = absurd cc
-both_true false y e = absurd cc
-
 node_is : (n m : Node) → same_node n m ≡ true → n ≡ m
 node_is n m e =
-    let p = both_true ((unsigned_abs (n.a -ℤ m.a) == 0) && (unsigned_abs (n.b -ℤ m.b) == 0)) (n.depth == m.depth) e in
-    let q = both_true (unsigned_abs (n.a -ℤ m.a) == 0) (unsigned_abs (n.b -ℤ m.b) == 0) p.0 in
+    let p = and_parts ((unsigned_abs (n.a -ℤ m.a) == 0) && (unsigned_abs (n.b -ℤ m.b) == 0)) (n.depth == m.depth) e in
+    let q = and_parts (unsigned_abs (n.a -ℤ m.a) == 0) (unsigned_abs (n.b -ℤ m.b) == 0) p.0 in
     let a : n.a ≡ m.a = same_ends n.a m.a q.0 in
     let b : n.b ≡ m.b = same_ends n.b m.b q.1 in
     let d : n.depth ≡ m.depth = grind (arith, nat_tests, p.1) in
@@ -81,6 +77,9 @@ find n ns p = find_in same_node node_is node_itself n ns p
 
 pub nodes_permuted : (xs ys : List Node) → ((h : Node → ℕ) → weigh h xs ≡ weigh h ys) → IsPermutation xs ys
 nodes_permuted xs ys e = permuted same_node node_is node_itself xs ys e
+
+pub nodes_summed : (xs ys : List Node) → ((h : Node → ℕ) → sum_by h xs ≡ sum_by h ys) → IsPermutation xs ys
+nodes_summed xs ys e = nodes_permuted xs ys (λ h. omega (arith, e h, sum_is_weigh h xs, sum_is_weigh h ys))
 
 -- ---- leaves
 pub mark_is : (m n : Mark) → mark_number m ≡ mark_number n → m ≡ n
@@ -106,7 +105,7 @@ same_leaf l m = same_node l.node m.node && (mark_number l.mark == mark_number m.
 
 leaf_is : (l m : Leaf) → same_leaf l m ≡ true → l ≡ m
 leaf_is l m e =
-    let p = both_true (same_node l.node m.node) (mark_number l.mark == mark_number m.mark) e in
+    let p = and_parts (same_node l.node m.node) (mark_number l.mark == mark_number m.mark) e in
     let node : l.node ≡ m.node = node_is l.node m.node p.0 in
     let numbers : mark_number l.mark ≡ mark_number m.mark = grind (arith, nat_tests, p.1) in
     let mark : l.mark ≡ m.mark = mark_is l.mark m.mark numbers in
@@ -115,11 +114,8 @@ leaf_is l m e =
 number_itself : (k : ℕ) → (k == k) ≡ true
 number_itself k = grind (arith, nat_tests)
 
-both_are : (x y : Bool) → x ≡ true → y ≡ true → (x && y) ≡ true
-both_are x y e f = rw (e, f) refl
-
 leaf_itself : (l : Leaf) → same_leaf l l ≡ true
-leaf_itself l = both_are (same_node l.node l.node) (mark_number l.mark == mark_number l.mark) (node_itself l.node) (number_itself (mark_number l.mark))
+leaf_itself l = and_from (same_node l.node l.node) (mark_number l.mark == mark_number l.mark) (node_itself l.node) (number_itself (mark_number l.mark))
 
 pub leaves_permuted : (xs ys : List Leaf) → ((h : Leaf → ℕ) → weigh h xs ≡ weigh h ys) → IsPermutation xs ys
 leaves_permuted xs ys e = permuted same_leaf leaf_is leaf_itself xs ys e

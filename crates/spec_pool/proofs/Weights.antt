@@ -1,6 +1,8 @@
 -- Sums over lists by recursion, which compute, and what changing one element does to them.
-use Rattle.std.proofs.Common.{◌≡◌, ℕ, zero, suc, ◌+◌, ◌≤◌, List, [], ◌∷◌, ◌++◌, map, flat_map, refl, ap, Some, slice_get, slice_set, sum_by, arith}
+use Rattle.std.proofs.Common.{◌≡◌, ℕ, zero, suc, ◌+◌, ◌≤◌, List, [], ◌∷◌, ◌++◌, map, flat_map, refl, sym, ap, Some, slice_get, slice_set, sum_by, arith}
 use Rattle.std.proofs.lemmas.List.Sums.{sum_by-cons}
+use mathlib.Core.Option.{some, some-ne-none}
+use lib.ListN.{get_elem?}
 
 abbrev pub weigh : {A : Type 0} → (A → ℕ) → List A → ℕ
 weigh h [] = 0
@@ -38,3 +40,17 @@ weigh-flat f h (x ∷ xs) = omega (arith, weigh-append h (f x) (flat_map f xs), 
 pub weigh-same : {A : Type 0} (f g : A → ℕ) (xs : List A) → ((x : A) → f x ≡ g x) → weigh f xs ≡ weigh g xs
 weigh-same f g [] e = refl
 weigh-same f g (x ∷ xs) e = omega (arith, e x, weigh-same f g xs e)
+
+-- ---- std's sums, over what the seats of a table or the ends of a deque know
+pub total_set : {A : Type 0} (f : A → ℕ) (xs : List A) (k : ℕ) (x y : A) → get_elem? xs k ≡ some x → sum_by f (slice_set xs k y) + f x ≡ sum_by f xs + f y
+total_set f [] k x y e = absurd (some-ne-none x (sym e))
+total_set f (z ∷ zs) zero x y e =
+    let same : f z ≡ f x = ap f cc in
+    omega (arith, same, sum_by-cons f z zs, sum_by-cons f y zs)
+total_set f (z ∷ zs) (suc k) x y e =
+    omega (arith, total_set f zs k x y e, sum_by-cons f z zs, sum_by-cons f z (slice_set zs k y))
+
+pub total_le : {A : Type 0} (f : A → ℕ) (xs : List A) (k : ℕ) (x : A) → get_elem? xs k ≡ some x → f x ≤ sum_by f xs
+total_le f [] k x e = absurd (some-ne-none x (sym e))
+total_le f (z ∷ zs) zero x e = let same : f z ≡ f x = ap f cc in omega (arith, same, sum_by-cons f z zs)
+total_le f (z ∷ zs) (suc k) x e = omega (arith, total_le f zs k x e, sum_by-cons f z zs)

@@ -40,7 +40,7 @@ pub record PutsRight (t : Rules) (right : Node) (a b : Account) : Type 0 where
   pub part : right ≡ (t.parts node).1
   pub after : b ≡ record a { hand = Some (t.parts node).0; put = a.put ++ right ∷ [] }
 
--- the left part stays in the hand, the right part goes on top of the kept stack
+-- the left part stays in the hand, the right part goes on top of the local stack
 pub record KeepsRight (t : Rules) (a b : Account) : Type 0 where
   pub node : Node
   pub in_hand : a.hand ≡ Some node
@@ -52,7 +52,7 @@ pub record TakesNode (node : Node) (a b : Account) : Type 0 where
   pub empty : a.hand ≡ None
   pub after : b ≡ record a { hand = Some node; taken = a.taken ++ node ∷ [] }
 
--- the top of the kept stack comes into the empty hand
+-- the top of the local stack comes into the empty hand
 pub record TakesTop (a b : Account) : Type 0 where
   pub node : Node
   pub rest : List Node
@@ -99,7 +99,7 @@ pub record AreAccounts (s : State) (c : Accounts) : Type 0 where
 
 -- ---- the balance
 
--- the leaves of all nodes, each as often as it comes
+-- the leaves of all nodes, with repetition
 abbrev pub leaves_of : Rules → List Node → List Leaf
 leaves_of t ns = flat_map (leaves t) ns
 

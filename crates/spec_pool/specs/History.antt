@@ -66,7 +66,7 @@ pub record Sound (t : Terms) (log : List Booked) : Type 0 where
 abbrev pub part_of : ℕ → List Booked → List Leaf → List Booked → Part
 part_of number mine again seen = record { number = number; mine = mine; again = again; seen = seen }
 
--- it has seen a front of the history, the entries under its number are its own, and what was to be entered again stands
+-- it has seen a prefix of the history, the entries under its number are its own, and what was to be entered again stands
 pub record FitsPart (log : List Booked) (p : Part) : Type 0 where
   pub seen : StartsWith log p.seen
   pub mine : by_seat p.number log ≡ p.mine

@@ -9,7 +9,7 @@ use Rattle.spec_trees.specs.Tree.{Rules, mark_of, leaf_of}
 use Rattle.spec_pool.specs.declared.step.Step.{Step}
 use Rattle.spec_pool.specs.declared.step.Step.TheVariants.{Push, Keep, Pop, TakeKept, Steal, Enter}
 
--- what one worker holds: the node in its hand, its deque with the front first, its kept stack with the top last
+-- what one worker holds: the node in its hand, its deque with the front first, its local stack with the top last
 pub record Holding : Type 0 where
   pub hand : Option Node
   pub deque : List Node
@@ -42,7 +42,7 @@ pub record Pushes (t : Rules) (x y : Holding) : Type 0 where
   pub split : t.verdict node ≡ Split
   pub after : y ≡ holding (Some (t.parts node).0) (x.deque ++ (t.parts node).1 ∷ []) x.kept
 
--- the left part stays in the hand, the right part goes on top of the kept stack
+-- the left part stays in the hand, the right part goes on top of the local stack
 pub record Keeps (t : Rules) (x y : Holding) : Type 0 where
   pub node : Node
   pub in_hand : x.hand ≡ Some node
@@ -57,7 +57,7 @@ pub record Pops (x y : Holding) : Type 0 where
   pub front : x.deque ≡ node ∷ rest
   pub after : y ≡ holding (Some node) rest x.kept
 
--- the top of the kept stack comes into the empty hand
+-- the top of the local stack comes into the empty hand
 pub record TakesKept (x y : Holding) : Type 0 where
   pub node : Node
   pub rest : List Node

@@ -8,7 +8,7 @@ use Rattle.spec_pool.specs.Pool.{Holding, nothing, State}
 abbrev pub held : Holding → List Node
 held x = option_to_list x.hand ++ x.deque ++ x.kept
 
--- the nodes in all hands, deques, kept stacks and in the entered list
+-- the nodes in all hands, deques, local stacks and in the entered list
 abbrev pub nodes : State → List Node
 nodes s = flat_map held s.workers ++ map (λ l. l.node) s.entered
 

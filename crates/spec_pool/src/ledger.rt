@@ -1,4 +1,4 @@
-// What is fixed of a ledger, what a seat of it knows, and what it answers.
+// What is fixed of a ledger, what a seat of it knows, and what it returns.
 use spec_trees::{Booked, Leaf, Node};
 use std::collections::LinkedList;
 
@@ -20,8 +20,8 @@ pub struct Part {
     pub seen: LinkedList<Booked>,
 }
 
-/// What entering a leaf answers: it stands at `place` now; it stood there already; as many leaves as the limit stood,
-/// and this one wasn't among them; or there was no memory.
+/// What entering a leaf returns: it stands at `place` now; it stood there already; as many leaves as the limit stood,
+/// and this one wasn't among them; or memory ran out.
 #[derive(Debug, Drop, PartialEq, Eq)]
 pub enum Entry {
     Entered { place: u32 },

@@ -1,7 +1,7 @@
 // The six steps of the pool.
 
 /// A step of worker `w`: it splits the node in its hand and puts the right part on its deque (`Push`) or on its kept
-/// stack (`Keep`), takes the front of its own deque (`Pop`), the top of its kept stack (`TakeKept`) or the front of
+/// stack (`Keep`), takes the front of its own deque (`Pop`), the top of its local stack (`TakeKept`) or the front of
 /// another worker's deque (`Steal`), or enters the node in its hand as a leaf (`Enter`).
 #[derive(Clone, Copy, PartialEq, Eq, Debug)]
 pub enum Step {

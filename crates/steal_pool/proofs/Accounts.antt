@@ -1,5 +1,5 @@
 -- What each step does to the account of a seat, and that work balances.
-use Rattle.std.proofs.Common.{◌≡◌, ◌⊎◌, inl, inr, ℕ, zero, suc, ◌+◌, List, [], ◌∷◌, ◌++◌, map, flat_map, Some, None, IsPermutation, option_to_list, slice_get, slice_set, append_assoc, refl, sym, ap, ◌∙◌, arith}
+use Rattle.std.proofs.Common.{◌≡◌, ◌⊎◌, inl, inr, ℕ, zero, suc, ◌+◌, List, [], ◌∷◌, ◌++◌, map, flat_map, Some, None, IsPermutation, option_to_list, slice_get, slice_set, append_assoc, refl, sym, ap, ◌∙◌, subst, arith}
 use Rattle.std.proofs.lemmas.List.{append-nil}
 use Rattle.std.proofs.lemmas.List.Sorted.{sum_by-IsPermutation, IsPermutation-refl}
 use Rattle.spec_trees.specs.declared.tree.Node.{Node}
@@ -15,8 +15,8 @@ use Rattle.spec_pool.proofs.Balancing.{by_leaves}
 use Rattle.spec_pool.proofs.Finding.{nodes_permuted, leaves_permuted}
 use Rattle.spec_pool.proofs.Moving.{weigh_hand, hand_weigh}
 use Rattle.spec_pool.proofs.Weights.{weigh, weigh-append, weigh-push, weigh-flat, weigh-map, weigh-set, sum_is_weigh}
-use Rattle.steal_pool.specs.Rule.{DequeId, End, takes_one}
-use Rattle.steal_pool.specs.Workers.{Holder, taken_by, looked, on_deque, on_stack, with_hand, IsSplit, IsRight, TookOne, Takes, TakesOwn, TakesOther, FindsNone}
+use Rattle.steal_pool.specs.Rule.{DequeId, End, IsUsedUp, takes_one}
+use Rattle.steal_pool.specs.Workers.{Holder, taken_by, after_empty_pop, on_deque, on_stack, with_hand, IsSplit, IsRight, TookOne, Takes, TakesOwn, TakesOther, FindsNone}
 use Rattle.steal_pool.specs.Seats.{IsLike, account_of, entered_by, Gets, place_of, rules_within, ways, ways_of}
 
 -- ---- weights of an account
@@ -24,7 +24,7 @@ pub same_weights : {A : Type 0} (h : A → ℕ) (xs ys : List A) → IsPermutati
 same_weights h xs ys p = omega (arith, sum_by-IsPermutation h xs ys p, sum_is_weigh h xs, sum_is_weigh h ys)
 
 abbrev pub taken_weight : (Node → ℕ) → Holder → ℕ
-taken_weight h w = weigh h w.own.view.taken + weigh (λ (e : End). weigh h e.view.taken) w.passes
+taken_weight h w = weigh h w.own.view.taken + weigh (λ (e : End). weigh h e.view.taken) w.stealers
 
 abbrev pub entered_weight : (Leaf → ℕ) → Part → ℕ
 entered_weight h p = weigh (λ (e : Booked). h e.leaf) p.mine + weigh h p.again
@@ -34,7 +34,7 @@ own_weight t h w = weigh_hand (by_leaves t h) w.hand + weigh (by_leaves t h) w.k
 
 pub taken_weigh : (h : Node → ℕ) (w : Holder) → weigh h (taken_by w) ≡ taken_weight h w
 taken_weigh h w =
-    omega (arith, weigh-append h w.own.view.taken (flat_map (λ (e : End). e.view.taken) w.passes), weigh-flat (λ (e : End). e.view.taken) h w.passes)
+    omega (arith, weigh-append h w.own.view.taken (flat_map (λ (e : End). e.view.taken) w.stealers), weigh-flat (λ (e : End). e.view.taken) h w.stealers)
 
 pub entered_weigh : (h : Leaf → ℕ) (p : Part) → weigh h (entered_by p) ≡ entered_weight h p
 entered_weigh h p =
@@ -140,10 +140,10 @@ works_more t w p v q u r a b =
     )
 
 -- nothing but the part's other lists, and the count of nodes put, has changed
-pub idle_works : (t : Rules) (w : Holder) (p : Part) (v : Holder) (q : Part) → v.own ≡ w.own → v.passes ≡ w.passes → v.hand ≡ w.hand → v.kept ≡ w.kept → q.mine ≡ p.mine → q.again ≡ p.again → Worked t w p v q
-idle_works t w p v q own passes hand kept mine again = works t w p v q [] [] [] (
+pub idle_works : (t : Rules) (w : Holder) (p : Part) (v : Holder) (q : Part) → v.own ≡ w.own → v.stealers ≡ w.stealers → v.hand ≡ w.hand → v.kept ≡ w.kept → q.mine ≡ p.mine → q.again ≡ p.again → Worked t w p v q
+idle_works t w p v q own stealers hand kept mine again = works t w p v q [] [] [] (
   ap (λ (e : End). e.view.put) own ∙ sym (append-nil w.own.view.put),
-  (λ h. omega (arith, ap (λ (e : End). weigh h e.view.taken) own, ap (weigh (λ (e : End). weigh h e.view.taken)) passes)),
+  (λ h. omega (arith, ap (λ (e : End). weigh h e.view.taken) own, ap (weigh (λ (e : End). weigh h e.view.taken)) stealers)),
   (λ h. omega (arith, ap (weigh (λ (e : Booked). h e.leaf)) mine, ap (weigh h) again)),
   (λ h. omega (arith, ap (weigh_hand (by_leaves t h)) hand, ap (weigh (by_leaves t h)) kept)),
 )
@@ -186,15 +186,29 @@ other_taken h n es fs (k, e, at, is) = omega (
   weigh-append h e.view.taken (n ∷ []),
 )
 
+-- a worker that looks there in this order takes a node so, where it was the same when it looked
+pub took_own : (n : Node) (w m v : Holder) → (w.kept ≡ []) × (m ≡ w) → TakesOwn n m v → Takes n w v
+took_own n w m v (empty, same) e = inr (inl (empty, subst (λ (u : Holder). TakesOwn n u v) same e))
+
+pub took_other : (n : Node) (w m k v : Holder) → (w.kept ≡ []) × (m ≡ w) → IsUsedUp m.own.view × (k ≡ after_empty_pop m) → TakesOther n k v → Takes n w v
+took_other n w m k v (empty, same) (used, is) e = inr (inr (
+  empty,
+  subst (λ (u : Holder). IsUsedUp u.own.view) same used,
+  subst (λ (u : Holder). TakesOther n u v) (is ∙ ap after_empty_pop same) e,
+))
+
+pub took_none : (w m k v : Holder) → (w.kept ≡ []) × (m ≡ w) → IsUsedUp m.own.view × (k ≡ after_empty_pop m) → v ≡ k → FindsNone w v
+took_none w m k v (empty, same) (used, is) e = (empty, subst (λ (u : Holder). IsUsedUp u.own.view) same used, e ∙ is ∙ ap after_empty_pop same)
+
 -- what a node that was taken from a deque weighs
-pub taken_more : (h : Node → ℕ) (n : Node) (w v : Holder) → TakesOwn n w v ⊎ TakesOther n (looked w) v → taken_weight h v ≡ taken_weight h w + h n
+pub taken_more : (h : Node → ℕ) (n : Node) (w v : Holder) → TakesOwn n w v ⊎ TakesOther n (after_empty_pop w) v → taken_weight h v ≡ taken_weight h w + h n
 taken_more h n w v (inl e) = omega (arith, ap (taken_weight h) e, weigh-append h w.own.view.taken (n ∷ []))
-taken_more h n w v (inr (es, took, e)) = omega (arith, ap (taken_weight h) e, other_taken h n w.passes es took)
+taken_more h n w v (inr (es, took, e)) = omega (arith, ap (taken_weight h) e, other_taken h n w.stealers es took)
 
 node_of : Holder → Node → List Node → Part → Account
 node_of w n taken p = record { hand = Some n; kept = w.kept; put = w.own.view.put; taken = taken; entered = entered_by p }
 
-from_deque : (n : Node) (w v : Holder) (p : Part) → w.hand ≡ None → v.hand ≡ Some n → v.kept ≡ w.kept → v.own.view.put ≡ w.own.view.put → TakesOwn n w v ⊎ TakesOther n (looked w) v
+from_deque : (n : Node) (w v : Holder) (p : Part) → w.hand ≡ None → v.hand ≡ Some n → v.kept ≡ w.kept → v.own.view.put ≡ w.own.view.put → TakesOwn n w v ⊎ TakesOther n (after_empty_pop w) v
     → (b : Account) × Gets n (account_of w p) b × IsLike b (account_of v p)
 unfolding node_of
 from_deque n w v p none hand kept put takes = (
@@ -218,8 +232,8 @@ gets n w v p none (inl (rest, top, e)) = (
   ),
   like_itself (account_of v p),
 )
-gets n w v p none (inr (inl e)) = from_deque n w v p none (ap (λ (u : Holder). u.hand) e) (ap (λ (u : Holder). u.kept) e) (ap (λ (u : Holder). u.own.view.put) e) (inl e)
-gets n w v p none (inr (inr (es, took, e))) = from_deque n w v p none (ap (λ (u : Holder). u.hand) e) (ap (λ (u : Holder). u.kept) e) (ap (λ (u : Holder). u.own.view.put) e) (inr (es, took, e))
+gets n w v p none (inr (inl (empty, e))) = from_deque n w v p none (ap (λ (u : Holder). u.hand) e) (ap (λ (u : Holder). u.kept) e) (ap (λ (u : Holder). u.own.view.put) e) (inl e)
+gets n w v p none (inr (inr (empty, used, (es, took, e)))) = from_deque n w v p none (ap (λ (u : Holder). u.hand) e) (ap (λ (u : Holder). u.kept) e) (ap (λ (u : Holder). u.own.view.put) e) (inr (es, took, e))
 
 -- ---- each balances
 pub takes_works : (t : Rules) (n : Node) (w v : Holder) (p : Part) → w.hand ≡ None → Takes n w v → Worked t w p v p
@@ -229,13 +243,13 @@ takes_works t n w v p none (inl (rest, top, e)) = works t w p v p [] [] [] (
   (λ h. omega arith),
   (λ h. omega (arith, ap (own_weight t h) e, ap (weigh_hand (by_leaves t h)) none, ap (weigh (by_leaves t h)) top, weigh-push (by_leaves t h) rest n)),
 )
-takes_works t n w v p none (inr (inl e)) = works t w p v p [] (n ∷ []) [] (
+takes_works t n w v p none (inr (inl (empty, e))) = works t w p v p [] (n ∷ []) [] (
   ap (λ (u : Holder). u.own.view.put) e ∙ sym (append-nil w.own.view.put),
   (λ h. omega (arith, taken_more h n w v (inl e))),
   (λ h. omega arith),
   (λ h. omega (arith, ap (own_weight t h) e, ap (weigh_hand (by_leaves t h)) none)),
 )
-takes_works t n w v p none (inr (inr (es, took, e))) = works t w p v p [] (n ∷ []) [] (
+takes_works t n w v p none (inr (inr (empty, used, (es, took, e)))) = works t w p v p [] (n ∷ []) [] (
   ap (λ (u : Holder). u.own.view.put) e ∙ sym (append-nil w.own.view.put),
   (λ h. omega (arith, taken_more h n w v (inr (es, took, e)))),
   (λ h. omega arith),
@@ -244,7 +258,7 @@ takes_works t n w v p none (inr (inr (es, took, e))) = works t w p v p [] (n ∷
 
 pub none_works : (t : Rules) (w v : Holder) (p : Part) → FindsNone w v → Worked t w p v p
 none_works t w v p f = idle_works t w p v p
-    (ap (λ (u : Holder). u.own) f.2) (ap (λ (u : Holder). u.passes) f.2) (ap (λ (u : Holder). u.hand) f.2) (ap (λ (u : Holder). u.kept) f.2) refl refl
+    (ap (λ (u : Holder). u.own) f.2) (ap (λ (u : Holder). u.stealers) f.2) (ap (λ (u : Holder). u.hand) f.2) (ap (λ (u : Holder). u.kept) f.2) refl refl
 
 split_weigh : (t : Rules) → IsSound t → (n left right : Node) → IsValid t n → t.verdict n ≡ Split → t.parts n ≡ (left, right) → (h : Leaf → ℕ) → by_leaves t h n ≡ by_leaves t h left + by_leaves t h right
 split_weigh t sound n left right v e parts h = omega (
@@ -287,7 +301,7 @@ places_set (x ∷ es) (suc k) e f at same = ap (λ (ys : List (ℕ × DequeId)).
 
 pub takes_ways : (n : Node) (w v : Holder) → Takes n w v → ways v ≡ ways w
 takes_ways n w v (inl (rest, top, e)) = ap ways e
-takes_ways n w v (inr (inl e)) = ap ways e
-takes_ways n w v (inr (inr (es, (k, x, at, is), e))) =
+takes_ways n w v (inr (inl (empty, e))) = ap ways e
+takes_ways n w v (inr (inr (empty, used, (es, (k, x, at, is), e)))) =
     ap ways e ∙ ap (λ (ys : List (ℕ × DequeId)). ways_of (place_of w.own) w.own.view.made ys)
-    (ap (map place_of) is ∙ places_set w.passes k x (takes_one x n) at refl)
+    (ap (map place_of) is ∙ places_set w.stealers k x (takes_one x n) at refl)

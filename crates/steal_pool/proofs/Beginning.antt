@@ -1,9 +1,9 @@
--- Seats that are opened, and get their passes.
+-- Seats that are opened, and get their stealers.
 use Rattle.std.proofs.Common.{◌≡◌, ◌≢◌, inl, inr, ℕ, suc, ◌+◌, ◌<◌, ◌==◌, List, [], ◌∷◌, ◌++◌, map, flat_map, length, Option, Some, slice_get, slice_set, sum_by, if◌then◌else◌, append_assoc, refl, sym, ap, ◌∙◌, subst, arith}
 use Rattle.std.proofs.lemmas.Bool.{cases_eq}
 use Rattle.std.proofs.lemmas.Bool.Decides.{nat_tests}
 use Rattle.std.proofs.lemmas.Option.{get_or_from_slice_get}
-use Rattle.std.specs.List.{AllByRecursion}
+use Rattle.std.specs.List.{AllByRecursion, AllZip}
 use Rattle.spec_trees.specs.declared.tree.Node.{Node}
 use Rattle.spec_pool.specs.declared.ledger.Part.{Part}
 use Rattle.spec_pool.specs.History.{part_of}
@@ -13,14 +13,14 @@ use Rattle.span_ledger.specs.declared.desk.SpanLedger.{SpanLedger}
 use Rattle.span_ledger.specs.Seats.{AreNew, IsSeatOf, part, table_of, terms}
 use Rattle.steal_pool.specs.Rule.{DequeId, End}
 use Rattle.steal_pool.specs.declared.view.View.{View}
-use Rattle.steal_pool.specs.Workers.{new_pass}
+use Rattle.steal_pool.specs.Workers.{new_stealer}
 use Rattle.steal_pool.specs.Seats.{NewSeat, Seat, Ways, place_of, ways}
-use Rattle.steal_pool.specs.Pools.{AllBegin, AreLinked, Begins, Beside, HaveAllPasses, IsOwned, Linked, first_hand, other_numbers, pass_numbers, passes_on, ways_of_all}
-use Rattle.steal_pool.specs.Passes.{Linking, Links, LinksOther, Opens, gained, lent, numbers_so_far}
-use Rattle.steal_pool.proofs.Listing.{all_each, beside_get, get_same, get_other, keep_each, one_some, weigh_none, within, map_push, map_set, map_at, map_from, set_length}
+use Rattle.steal_pool.specs.Pools.{AllBegin, AreLinked, Begins, HaveAllStealers, IsOwned, Linked, first_hand, other_numbers, stealer_numbers, stealers_on, ways_of_all}
+use Rattle.steal_pool.specs.Stealers.{Linking, Links, LinksOther, Opens, gained, lent, numbers_so_far}
+use Rattle.steal_pool.proofs.Listing.{all_each, zip_get, get_same, get_other, keep_each, one_some, weigh_none, within, map_push, map_set, map_at, map_from, set_length}
 use Rattle.steal_pool.proofs.Linking.{linked_more}
 
--- ---- the numbers of the passes
+-- ---- the numbers of the stealers
 so_far_below : (n i j k : ℕ) → k < i → numbers_so_far n i j k ≡ other_numbers n k
 so_far_below n i j k e = grind (arith, nat_tests, e)
 
@@ -40,7 +40,7 @@ others_more : (j k : ℕ) → j ≢ k → other_numbers (suc j) k ≡ other_numb
 others_more j k e = grind (arith, nat_tests, e)
 
 abbrev Numbers : ℕ → ℕ → ℕ → List Seat → Type 0
-Numbers n i j ss = (k : ℕ) (s : Seat) → slice_get ss k ≡ Some s → pass_numbers s ≡ numbers_so_far n i j k
+Numbers n i j ss = (k : ℕ) (s : Seat) → slice_get ss k ≡ Some s → stealer_numbers s ≡ numbers_so_far n i j k
 
 numbers_skip : (n i j : ℕ) (ss : List Seat) → i ≡ j → Numbers n i j ss → Numbers n i (suc j) ss
 numbers_skip n i j ss same each k s e = each k s e ∙ elim (cases_eq k i) [
@@ -61,7 +61,7 @@ opened_begins ledger root k e s is o =
       worker = o.0.0 ∙ number;
       hand = o.0.4 ∙ ap (first_hand root) number;
       kept = o.0.5;
-      since = o.0.3;
+      pushed_in_a_row = o.0.3;
       put = ap (λ (v : View). v.put) o.0.1;
       taken = (λ i. (o.0.1 i).taken ++ flat_map (λ (x : End). x.view.taken) (o.0.2 i));
       part = o.1 ∙ is;
@@ -77,9 +77,9 @@ opens_by ledger root e s hand number is held o = subst (λ (x : Option Node). Ne
 pub new_ours : (ledger : SpanLedger) (es : List LedgerSeat) → AreNew ledger es → AllByRecursion (IsSeatOf ledger) es
 new_ours ledger es new = all_each (IsSeatOf ledger) es (λ k e at. subst (IsSeatOf ledger) (get_or_from_slice_get es k e e at) (new k e (within es k e at)).0)
 
-module _ (ledger : SpanLedger) (root : Node) (es : List LedgerSeat) (ss : List Seat) (new : AreNew ledger es) (b : Beside (Opens ledger root) es ss) where
+module _ (ledger : SpanLedger) (root : Node) (es : List LedgerSeat) (ss : List Seat) (new : AreNew ledger es) (b : AllZip (Opens ledger root) es ss) where
   opened_at : (k : ℕ) (s : Seat) → slice_get ss k ≡ Some s → (e : LedgerSeat) × (slice_get es k ≡ Some e) × Opens ledger root e s
-  opened_at k s at = beside_get (Opens ledger root) es ss k s b at
+  opened_at k s at = zip_get (Opens ledger root) es ss k s b at
 
   opened_all : AllBegin ledger root ss
   opened_all k s at =
@@ -87,13 +87,13 @@ module _ (ledger : SpanLedger) (root : Node) (es : List LedgerSeat) (ss : List S
       let is : part found.0 ≡ part_of k [] [] [] = subst (λ (e : LedgerSeat). part e ≡ part_of k [] [] []) (get_or_from_slice_get es k found.0 found.0 found.1) (new k found.0 (within es k found.0 found.1)).1 in
       opened_begins ledger root k found.0 s is found.2
 
-  no_passes : (k : ℕ) (s : Seat) → slice_get ss k ≡ Some s → s.worker.passes ≡ []
-  no_passes k s at = (opened_at k s at).2.0.2
+  no_stealers : (k : ℕ) (s : Seat) → slice_get ss k ≡ Some s → s.worker.stealers ≡ []
+  no_stealers k s at = (opened_at k s at).2.0.2
 
   no_others : (k : ℕ) (w : Ways) → slice_get (ways_of_all ss) k ≡ Some w → (w.others ≡ []) × (w.made ≡ 0)
   no_others k w at =
       let f = map_from (λ (s : Seat). ways s.worker) ss k w at in (
-        sym (ap (λ (x : Ways). x.others) f.2) ∙ ap (map place_of) (no_passes k f.0 f.1),
+        sym (ap (λ (x : Ways). x.others) f.2) ∙ ap (map place_of) (no_stealers k f.0 f.1),
         sym (ap (λ (x : Ways). x.made) f.2) ∙ ap (λ (v : View). v.made) (opened_at k f.0 f.1).2.0.1,
       )
 
@@ -103,17 +103,17 @@ module _ (ledger : SpanLedger) (root : Node) (es : List LedgerSeat) (ss : List S
     begin = opened_all;
     linked = record {
       owned = all_each (λ w. AllByRecursion (IsOwned (ways_of_all ss)) w.others) (ways_of_all ss) (λ k w at. subst (AllByRecursion (IsOwned (ways_of_all ss))) (sym (no_others k w at).0) tt);
-      counted = λ k w at. (no_others k w at).1 ∙ sym (sum_is_weigh (passes_on k) (ways_of_all ss) ∙ weigh_none (passes_on k) (ways_of_all ss) (λ m v e. ap (sum_by (λ (pass : ℕ × DequeId). if pass.0 == k then 1 else 0)) (no_others m v e).0));
+      counted = λ k w at. (no_others k w at).1 ∙ sym (sum_is_weigh (stealers_on k) (ways_of_all ss) ∙ weigh_none (stealers_on k) (ways_of_all ss) (λ m v e. ap (sum_by (λ (stealer : ℕ × DequeId). if stealer.0 == k then 1 else 0)) (no_others m v e).0));
     };
-    numbers = λ k s at. ap (map (λ (e : End). e.worker)) (no_passes k s at) ∙ elim (cases_eq k 0) [
+    numbers = λ k s at. ap (map (λ (e : End). e.worker)) (no_stealers k s at) ∙ elim (cases_eq k 0) [
       | inl here ↦ sym (so_far_here (length ss) 0 0 k here)
       | inr apart ↦ sym (so_far_above (length ss) 0 0 k (omega (arith, apart)))
     ];
   }
 
--- ---- a pass is made
+-- ---- a stealer is made
 lent_begins : (ledger : SpanLedger) (k : ℕ) (held : Option Node) (s : Seat) → Begins ledger k held s → Begins ledger k held (lent s)
-lent_begins ledger k held s b = record { worker = b.worker; hand = b.hand; kept = b.kept; since = b.since; put = b.put; taken = b.taken; part = b.part; table = b.table; terms = b.terms; refusal = b.refusal }
+lent_begins ledger k held s b = record { worker = b.worker; hand = b.hand; kept = b.kept; pushed_in_a_row = b.pushed_in_a_row; put = b.put; taken = b.taken; part = b.part; table = b.table; terms = b.terms; refusal = b.refusal }
 
 all_taken : List End → List Node
 all_taken es = flat_map (λ (x : End). x.view.taken) es
@@ -135,9 +135,9 @@ gained_begins ledger k held s e none b = record {
   worker = b.worker;
   hand = b.hand;
   kept = b.kept;
-  since = b.since;
+  pushed_in_a_row = b.pushed_in_a_row;
   put = b.put;
-  taken = none_more s.worker.own.view.taken s.worker.passes e b.taken none;
+  taken = none_more s.worker.own.view.taken s.worker.stealers e b.taken none;
   part = b.part;
   table = b.table;
   terms = b.terms;
@@ -154,17 +154,17 @@ module _ (ledger : SpanLedger) (root : Node) (n i j : ℕ) (ss qs : List Seat) (
   abbrev mid : List Seat
   mid = slice_set ss j (lent r)
 
-  abbrev pass : End
-  pass = new_pass r.worker
+  abbrev stealer : End
+  stealer = new_stealer r.worker
 
   abbrev end : List Seat
-  end = slice_set mid i (gained s pass)
+  end = slice_set mid i (gained s stealer)
 
-  number : pass.worker ≡ j
+  number : stealer.worker ≡ j
   number = (l.begin j r x.2).worker
 
   end_begin : AllBegin ledger root end
-  end_begin = keep_each (λ k z. Begins ledger k (first_hand root k) z) mid i s (gained s pass) x.3 (gained_begins ledger i (first_hand root i) s pass refl)
+  end_begin = keep_each (λ k z. Begins ledger k (first_hand root k) z) mid i s (gained s stealer) x.3 (gained_begins ledger i (first_hand root i) s stealer refl)
       (keep_each (λ k z. Begins ledger k (first_hand root k) z) ss j r (lent r) x.2 (lent_begins ledger j (first_hand root j) r) l.begin)
 
   abbrev seen : Seat → Ways
@@ -173,27 +173,27 @@ module _ (ledger : SpanLedger) (root : Node) (n i j : ℕ) (ss qs : List Seat) (
   end_linked : AreLinked end
   end_linked =
       let taker : slice_get (slice_set (ways_of_all ss) j (seen (lent r))) i ≡ Some (seen s) = ap (λ (ws : List Ways). slice_get ws i) (sym (map_set seen ss j (lent r))) ∙ map_at seen mid i s x.3 in
-      let all : ways_of_all end ≡ slice_set (slice_set (ways_of_all ss) j (seen (lent r))) i (seen (gained s pass)) = map_set seen mid i (gained s pass) ∙ ap (λ (ws : List Ways). slice_set ws i (seen (gained s pass))) (map_set seen ss j (lent r)) in
-      subst Linked (sym all) (linked_more (ways_of_all ss) i j (seen r) (seen (lent r)) (seen s) (seen (gained s pass)) (map_at seen ss j r x.2) refl refl refl taker refl refl (map_push place_of s.worker.passes pass) number l.linked)
+      let all : ways_of_all end ≡ slice_set (slice_set (ways_of_all ss) j (seen (lent r))) i (seen (gained s stealer)) = map_set seen mid i (gained s stealer) ∙ ap (λ (ws : List Ways). slice_set ws i (seen (gained s stealer))) (map_set seen ss j (lent r)) in
+      subst Linked (sym all) (linked_more (ways_of_all ss) i j (seen r) (seen (lent r)) (seen s) (seen (gained s stealer)) (map_at seen ss j r x.2) refl refl refl taker refl refl (map_push place_of s.worker.stealers stealer) number l.linked)
 
   end_numbers : Numbers n i (suc j) end
   end_numbers k z e =
-      let at_mid : Numbers n i j mid = keep_each (λ m y. pass_numbers y ≡ numbers_so_far n i j m) ss j r (lent r) x.2 (λ p. p) l.numbers in elim (cases_eq k i) [
+      let at_mid : Numbers n i j mid = keep_each (λ m y. stealer_numbers y ≡ numbers_so_far n i j m) ss j r (lent r) x.2 (λ p. p) l.numbers in elim (cases_eq k i) [
         | inl here ↦
-            let is : gained s pass ≡ z = one_some (slice_get end i) (gained s pass) z (get_same mid i s (gained s pass) x.3) (ap (slice_get end) (sym here) ∙ e) in
-            let old : pass_numbers s ≡ other_numbers j i = at_mid i s x.3 ∙ so_far_here n i j i refl in
-            ap pass_numbers (sym is)
-            ∙ map_push (λ (y : End). y.worker) s.worker.passes pass
+            let is : gained s stealer ≡ z = one_some (slice_get end i) (gained s stealer) z (get_same mid i s (gained s stealer) x.3) (ap (slice_get end) (sym here) ∙ e) in
+            let old : stealer_numbers s ≡ other_numbers j i = at_mid i s x.3 ∙ so_far_here n i j i refl in
+            ap stealer_numbers (sym is)
+            ∙ map_push (λ (y : End). y.worker) s.worker.stealers stealer
             ∙ (λ m. old m ++ number m ∷ [])
             ∙ sym (others_more j i (λ w. apart (sym w)))
             ∙ ap (other_numbers (suc j)) (sym here)
             ∙ sym (so_far_here n i (suc j) k here)
-        | inr other ↦ at_mid k z (sym (get_other mid i k (gained s pass) other) ∙ e) ∙ so_far_apart n i j (suc j) k other
+        | inr other ↦ at_mid k z (sym (get_other mid i k (gained s stealer) other) ∙ e) ∙ so_far_apart n i j (suc j) k other
       ]
 
   linked_one : Linking ledger root n i (suc j) qs
   linked_one = subst (Linking ledger root n i (suc j)) (sym x.4) (record {
-    count = set_length mid i (gained s pass) ∙ set_length ss j (lent r) ∙ l.count;
+    count = set_length mid i (gained s stealer) ∙ set_length ss j (lent r) ∙ l.count;
     begin = end_begin;
     linked = end_linked;
     numbers = end_numbers;
@@ -215,5 +215,5 @@ linking_next ledger root n i j ss e l =
       numbers = numbers_next n i ss (subst (λ (m : ℕ). Numbers n i m ss) e l.numbers);
     })
 
-pub linked_whole : (ledger : SpanLedger) (root : Node) (n : ℕ) (ss : List Seat) → Linking ledger root n n 0 ss → HaveAllPasses ss
+pub linked_whole : (ledger : SpanLedger) (root : Node) (n : ℕ) (ss : List Seat) → Linking ledger root n n 0 ss → HaveAllStealers ss
 linked_whole ledger root n ss l k s e = l.numbers k s e ∙ so_far_below n n 0 k (omega (arith, l.count, within ss k s e)) ∙ ap (λ (m : ℕ). other_numbers m k) (sym l.count)

@@ -77,7 +77,7 @@ mine_weigh g log ps n f a =
 abbrev pub parts_entered : List Part → List Leaf
 parts_entered ps = flat_map entered_by ps
 
-abbrev agains : List Part → List Leaf
+abbrev pub agains : List Part → List Leaf
 agains ps = flat_map (λ (p : Part). p.again) ps
 
 two_weigh : (f g : Part → ℕ) (ps : List Part) → weigh (λ (p : Part). f p + g p) ps ≡ weigh f ps + weigh g ps
@@ -167,12 +167,16 @@ no_agains log all (l ∷ ls) a b c e s =
 
 -- ---- the book
 module _ (t : Rules) (sound : IsSound t) (root : Node) (valid : IsValid t root) (log : List Booked) (ps : List Part) (n : Numbered 0 ps) (f : Fit log ps) (a : AllByRecursion (λ e. e.seat < length ps) log) where
+  all_weigh : IsPermutation (parts_entered ps) (leaves t root) → (h : Leaf → ℕ) → weigh h (leaves t root) ≡ weigh h (booked_leaves log) + weigh h (agains ps)
+  all_weigh p h = sym (same_weights h (parts_entered ps) (leaves t root) p) ∙ entered_is log ps n f a h
+
+  pub book_once : IsPermutation (parts_entered ps) (leaves t root) → agains ps ≡ []
+  book_once p = no_agains log (leaves t root) (agains ps) root.a root.b (leaves_cover t sound root valid) (all_weigh p) (agains_stand log ps f)
+
   pub book_in_order : IsPermutation (parts_entered ps) (leaves t root) → ordered_leaves log ≡ leaves t root
   book_in_order p =
-      let all : (h : Leaf → ℕ) → weigh h (leaves t root) ≡ weigh h (booked_leaves log) + weigh h (agains ps) = λ h. sym (same_weights h (parts_entered ps) (leaves t root) p) ∙ entered_is log ps n f a h in
-      let none : agains ps ≡ [] = no_agains log (leaves t root) (agains ps) root.a root.b (leaves_cover t sound root valid) all (agains_stand log ps f) in
       rearranged_in_order root.a root.b (booked_leaves log) (leaves t root)
-      (leaves_permuted (booked_leaves log) (leaves t root) (λ h. omega (arith, all h, ap (weigh h) none)))
+      (leaves_permuted (booked_leaves log) (leaves t root) (λ h. omega (arith, all_weigh p h, ap (weigh h) (book_once p))))
       (leaves_cover t sound root valid)
 
 -- ---- too many leaves

@@ -1,6 +1,6 @@
 -- The end of a pool's work, and what its seats say together when they leave.
 use Rattle.std.proofs.Common.{◌≡◌, ◌≢◌, ◌⊎◌, inl, inr, ℕ, zero, suc, ◌+◌, ◌≤◌, List, [], ◌∷◌, ◌++◌, map, length, Option, Some, None, slice_get, sum_by, option_to_list, if◌then◌else◌, ◌==◌, IsPermutation, refl, sym, ap, ◌∙◌, subst, arith}
-use Rattle.std.specs.List.{AllByRecursion}
+use Rattle.std.specs.List.{AllByRecursion, AllZip}
 use Rattle.spec_trees.specs.declared.tree.Node.{Node}
 use Rattle.spec_trees.specs.declared.tree.Leaf.{Leaf}
 use Rattle.spec_trees.specs.Tree.{Rules, leaves}
@@ -18,20 +18,20 @@ use Rattle.steal_pool.specs.declared.seat.PoolError.{PoolError}
 use Rattle.steal_pool.specs.declared.seat.PoolError.TheVariants.{TooMany, Memory}
 use Rattle.steal_pool.specs.Rule.{DequeId, End}
 use Rattle.steal_pool.specs.Seats.{IsLeft, Seat, Ways, entered_by, place_of, ways}
-use Rattle.steal_pool.specs.Pools.{AccountFor, AreLinked, Beside, ComeBack, IsLeftOver, IsRefused, KeepNone, NoneIsOutOfMemory, entered_in, own_of, passes_on, right_of, seat_right, taken_of, ways_of_all}
-use Rattle.steal_pool.specs.Passes.{HasNoPass, Joined, lasting}
-use Rattle.steal_pool.specs.Closing.{Ended, HasUsedUp, Leaves, NoneIsFull, SomeIsFull, WorkOff}
+use Rattle.steal_pool.specs.Pools.{AccountFor, AreLinked, ComeBack, IsLeftOver, IsRefused, KeepNone, NoneIsOutOfMemory, entered_in, own_of, stealers_on, right_of, seat_right, taken_of, ways_of_all}
+use Rattle.steal_pool.specs.Stealers.{HasNoStealer, Joined, lasting}
+use Rattle.steal_pool.specs.Closing.{Ended, HasUsedUp, Leaves, NoneIsFull, SomeIsFull, Drains}
 use Rattle.steal_pool.proofs.Accounts.{entered_weigh, entered_weight, own_weight, same_weights, taken_weight}
 use Rattle.steal_pool.specs.Runs.{IsLater}
 use Rattle.steal_pool.proofs.Pooling.{later_same, same_linked}
 use Rattle.steal_pool.proofs.Together.{account_later, account_weighs, entered_sum, own_of_weigh, own_sum, put_sum, taken_of_weigh, taken_sum, weighs_account}
-use Rattle.steal_pool.proofs.Listing.{all_get, beside_all, beside_at, beside_map, map_all, map_at, map_from, weigh_none}
+use Rattle.steal_pool.proofs.Listing.{all_get, zip_all, zip_at, zip_map, map_all, map_at, map_from, weigh_none}
 
 map_twice : {A B C : Type 0} (f : A → B) (g : B → C) (xs : List A) → map (λ x. g (f x)) xs ≡ map g (map f xs)
 map_twice f g [] = refl
 map_twice f g (x ∷ xs) = λ i. g (f x) ∷ map_twice f g xs i
 
--- ---- passes were joined
+-- ---- stealers were joined
 module _ (t : Rules) (ss us : List Seat) (j : Joined ss us) where
   lasting_map : {C : Type 0} (g : Seat → C) → map (λ s. g (lasting s)) us ≡ map (λ s. g (lasting s)) ss
   lasting_map g = map_twice lasting g us ∙ ap (map g) j.lasting ∙ sym (map_twice lasting g ss)
@@ -67,9 +67,9 @@ module _ (t : Rules) (ss us : List Seat) (j : Joined ss us) where
   ))
 
 -- ---- each worked
-later_none : (t : Rules) (s q : Seat) → IsLater t s q → HasNoPass s → HasNoPass q
+later_none : (t : Rules) (s q : Seat) → IsLater t s q → HasNoStealer s → HasNoStealer q
 later_none t s q c none =
-    map_nothing q.worker.passes (ap (λ (w : Ways). w.others) c.same.ways ∙ ap (map place_of) none)
+    map_nothing q.worker.stealers (ap (λ (w : Ways). w.others) c.same.ways ∙ ap (map place_of) none)
   where
     map_nothing : (es : List End) → map place_of es ≡ [] → es ≡ []
     map_nothing [] e = refl
@@ -78,12 +78,12 @@ later_none t s q c none =
 later_right : (t : Rules) (s q : Seat) → IsLater t s q → right_of q ≡ right_of s
 later_right t s q c = λ i. (c.same.table i, c.same.number i)
 
-pub ended : (t : Rules) (ss us qs : List Seat) → Joined ss us → AreLinked us → AllByRecursion HasNoPass us → WorkOff t us qs → Ended t ss qs
+pub ended : (t : Rules) (ss us qs : List Seat) → Joined ss us → AreLinked us → AllByRecursion HasNoStealer us → Drains t us qs → Ended t ss qs
 ended t ss us qs j linked none w = record {
-  rights = beside_map (IsLater t) right_of right_of us qs (later_right t) w.changes ∙ lasting_map t ss us j right_of;
-  terms = beside_map (IsLater t) (λ (s : Seat). s.terms) (λ (s : Seat). s.terms) us qs (λ s q c. c.same.terms) w.changes ∙ lasting_map t ss us j (λ (s : Seat). s.terms);
+  rights = zip_map (IsLater t) right_of right_of us qs (later_right t) w.changes ∙ lasting_map t ss us j right_of;
+  terms = zip_map (IsLater t) (λ (s : Seat). s.terms) (λ (s : Seat). s.terms) us qs (λ s q c. c.same.terms) w.changes ∙ lasting_map t ss us j (λ (s : Seat). s.terms);
   linked = same_linked us qs (later_same t us qs w.changes) linked;
-  none = beside_all (IsLater t) HasNoPass HasNoPass us qs (later_none t) w.changes none;
+  none = zip_all (IsLater t) HasNoStealer HasNoStealer us qs (later_none t) w.changes none;
   left = w.left;
   used = w.used;
   free = λ all. joined_free t ss us j (free_before w.refusals all);
@@ -104,9 +104,9 @@ ended t ss us qs j linked none w = record {
     memory_before (inr e) all = subst NoneIsOutOfMemory e all
 
 -- ---- they leave
-module _ (t : Rules) (ss qs : List Seat) (es : List LedgerSeat) (d : Ended t ss qs) (b : Beside Leaves qs es) where
+module _ (t : Rules) (ss qs : List Seat) (es : List LedgerSeat) (d : Ended t ss qs) (b : AllZip Leaves qs es) where
   pub come_back : ComeBack ss es
-  come_back = beside_map Leaves right_of seat_right qs es (λ s e l. λ i. (l.table i, (l.part i).number)) b ∙ d.rights
+  come_back = zip_map Leaves right_of seat_right qs es (λ s e l. λ i. (l.table i, (l.part i).number)) b ∙ d.rights
 
   entered_in_weigh : (h : Leaf → ℕ) → weigh h (entered_in es) ≡ entered_sum h qs
   entered_in_weigh h = flat es ∙ same qs es b
@@ -114,31 +114,31 @@ module _ (t : Rules) (ss qs : List Seat) (es : List LedgerSeat) (d : Ended t ss 
       flat : (fs : List LedgerSeat) → weigh h (entered_in fs) ≡ weigh (λ (e : LedgerSeat). entered_weight h (part e)) fs
       flat fs = weigh-flat (λ (e : LedgerSeat). entered_by (part e)) h fs ∙ weigh-same (λ (e : LedgerSeat). weigh h (entered_by (part e))) (λ (e : LedgerSeat). entered_weight h (part e)) fs (λ e. entered_weigh h (part e))
 
-      same : (xs : List Seat) (fs : List LedgerSeat) → Beside Leaves xs fs → weigh (λ (e : LedgerSeat). entered_weight h (part e)) fs ≡ entered_sum h xs
+      same : (xs : List Seat) (fs : List LedgerSeat) → AllZip Leaves xs fs → weigh (λ (e : LedgerSeat). entered_weight h (part e)) fs ≡ entered_sum h xs
       same [] [] c = refl
       same [] (f ∷ fs) c = absurd c
       same (x ∷ xs) [] c = absurd c
       same (x ∷ xs) (f ∷ fs) c = omega (arith, ap (entered_weight h) c.0.part, same xs fs c.1)
 
-  -- no pass is out
+  -- no stealer is out
   no_others : (k : ℕ) (w : Ways) → slice_get (ways_of_all qs) k ≡ Some w → w.others ≡ []
   no_others k w at =
       let f = map_from (λ (s : Seat). ways s.worker) qs k w at in
-      sym (ap (λ (x : Ways). x.others) f.2) ∙ ap (map place_of) (all_get HasNoPass qs k f.0 d.none f.1)
+      sym (ap (λ (x : Ways). x.others) f.2) ∙ ap (map place_of) (all_get HasNoStealer qs k f.0 d.none f.1)
 
   none_made : (k : ℕ) (s : Seat) → slice_get qs k ≡ Some s → s.worker.own.view.made ≡ 0
   none_made k s at =
       d.linked.counted k (ways s.worker) (map_at (λ (x : Seat). ways x.worker) qs k s at)
-      ∙ sum_is_weigh (passes_on k) (ways_of_all qs)
-      ∙ weigh_none (passes_on k) (ways_of_all qs) (λ m v e. ap (sum_by (λ (pass : ℕ × DequeId). if pass.0 == k then 1 else 0)) (no_others m v e))
+      ∙ sum_is_weigh (stealers_on k) (ways_of_all qs)
+      ∙ weigh_none (stealers_on k) (ways_of_all qs) (λ m v e. ap (sum_by (λ (stealer : ℕ × DequeId). if stealer.0 == k then 1 else 0)) (no_others m v e))
 
   own_only : (h : Node → ℕ) (k : ℕ) (s : Seat) → slice_get qs k ≡ Some s → taken_weight h s.worker ≡ weigh h s.worker.own.view.taken
-  own_only h k s at = omega (arith, ap (weigh (λ (e : End). weigh h e.view.taken)) (all_get HasNoPass qs k s d.none at))
+  own_only h k s at = omega (arith, ap (weigh (λ (e : End). weigh h e.view.taken)) (all_get HasNoStealer qs k s d.none at))
 
   -- what was put on a deque is what was taken from it and what is left there
   deque_left : (k : ℕ) (s : Seat) → slice_get qs k ≡ Some s → (left : List Node) × ((h : Node → ℕ) → weigh h s.worker.own.view.put ≡ taken_weight h s.worker + weigh h left)
   deque_left k s at =
-      let e = beside_at Leaves qs es k s b at in
+      let e = zip_at Leaves qs es k s b at in
       let l = e.2.left (none_made k s at) in
       (l.0, λ h. omega (arith, own_only h k s at, same_weights h s.worker.own.view.put (s.worker.own.view.taken ++ l.0) l.1, weigh-append h s.worker.own.view.taken l.0))
 
@@ -164,7 +164,7 @@ keep_none_of [] a b = tt
 keep_none_of (q ∷ qs) a b = (no_refusal q.refusal a.0 b.0, keep_none_of qs a.1 b.1)
 
 -- ---- no seat keeps a refusal
-pub all_entered : (t : Rules) (ss qs : List Seat) (es : List LedgerSeat) → Ended t ss qs → Beside Leaves qs es → KeepNone qs → (root : Node) → AccountFor t root ss → IsPermutation (entered_in es) (leaves t root)
+pub all_entered : (t : Rules) (ss qs : List Seat) (es : List LedgerSeat) → Ended t ss qs → AllZip Leaves qs es → KeepNone qs → (root : Node) → AccountFor t root ss → IsPermutation (entered_in es) (leaves t root)
 all_entered t ss qs es d b free root a =
     let used = d.used free in
     let deque : (k : ℕ) (s : Seat) → slice_get qs k ≡ Some s → (h : Node → ℕ) → weigh h s.worker.own.view.put ≡ taken_weight h s.worker =
@@ -209,7 +209,7 @@ own_split t (x ∷ xs) (suc k) s leaf at hand is =
       ),
     )
 
-pub some_left_over : (t : Rules) (ss qs : List Seat) (es : List LedgerSeat) (leaf : Leaf) → Ended t ss qs → Beside Leaves qs es → SomeIsFull t leaf qs → (root : Node) → AccountFor t root ss → IsLeftOver t root es leaf
+pub some_left_over : (t : Rules) (ss qs : List Seat) (es : List LedgerSeat) (leaf : Leaf) → Ended t ss qs → AllZip Leaves qs es → SomeIsFull t leaf qs → (root : Node) → AccountFor t root ss → IsLeftOver t root es leaf
 some_left_over t ss qs es leaf d b (k, s, at, f) root a =
     let own = own_split t qs k s leaf at f.hand f.leaves in
     let left = sum_left qs (deque_left t ss qs es d b) in (
@@ -226,9 +226,9 @@ some_left_over t ss qs es leaf d b (k, s, at, f) root a =
       )),
     )
 
-pub some_refused : (t : Rules) (ss qs : List Seat) (es : List LedgerSeat) (leaf : Leaf) → Ended t ss qs → Beside Leaves qs es → SomeIsFull t leaf qs → IsRefused ss es leaf
+pub some_refused : (t : Rules) (ss qs : List Seat) (es : List LedgerSeat) (leaf : Leaf) → Ended t ss qs → AllZip Leaves qs es → SomeIsFull t leaf qs → IsRefused ss es leaf
 some_refused t ss qs es leaf d b (k, q, at, f) =
-    let e = beside_at Leaves qs es k q b at in
+    let e = zip_at Leaves qs es k q b at in
     let s = map_from (λ (x : Seat). x.terms) ss k q.terms (ap (λ (ts : List Terms). slice_get ts k) (sym d.terms) ∙ map_at (λ (x : Seat). x.terms) qs k q at) in (
       k,
       s.0,

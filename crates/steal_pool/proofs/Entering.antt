@@ -1,5 +1,6 @@
 -- What entering a leaf, and putting a right part away, say of a seat's work, by what was answered.
-use Rattle.std.proofs.Common.{◌≡◌, inl, inr, ℕ, ◌+◌, ◌≤◌, List, length, Option, Some, None, refl, sym, ap, ◌∙◌, subst, arith, []}
+use Rattle.std.proofs.Common.{◌≡◌, inl, inr, ℕ, ◌+◌, ◌≤◌, List, length, Option, Some, None, refl, sym, ap, ◌∙◌, subst, arith, [], ◌∷◌, ◌++◌, IsPermutation}
+use Rattle.std.proofs.lemmas.List.Sorted.{IsPermutation-refl}
 use Rattle.spec_trees.specs.declared.tree.Node.{Node}
 use Rattle.spec_trees.specs.declared.tree.Leaf.{Leaf}
 use Rattle.spec_trees.specs.declared.book.Booked.{Booked}
@@ -8,14 +9,16 @@ use Rattle.spec_pool.specs.declared.ledger.Part.{Part}
 use Rattle.spec_pool.specs.declared.ledger.Entry.{Entry}
 use Rattle.spec_pool.specs.declared.ledger.Entry.TheVariants.{Entered, Again, Full, Memory}
 use Rattle.spec_pool.specs.History.{Entering, Fresh, Tells, booked}
+use Rattle.spec_pool.specs.Accounts.{Account, EntersNode}
+use Rattle.spec_pool.proofs.Finding.{leaves_permuted}
 use Rattle.spec_pool.proofs.Weights.{weigh-push}
 use Rattle.steal_pool.specs.declared.worker.Pushed.{Pushed}
 use Rattle.steal_pool.specs.declared.worker.Pushed.TheVariants as P
-use Rattle.steal_pool.specs.Workers.{Holder, IsSplit, on_deque, on_stack, with_hand}
-use Rattle.steal_pool.specs.Seats.{IsFull, IsLeft, SameSeat, Seat, Works, with_refusal}
+use Rattle.steal_pool.specs.Workers.{Holder, IsSplit, on_deque, on_stack, taken_by, with_hand}
+use Rattle.steal_pool.specs.Seats.{IsFull, IsLeft, IsLike, SameSeat, Seat, Works, account_of, entered_by, with_refusal}
 use Rattle.steal_pool.specs.declared.seat.PoolError.{PoolError}
 use Rattle.steal_pool.specs.declared.seat.PoolError.TheVariants as E
-use Rattle.steal_pool.proofs.Accounts.{Worked, entered_weight, enter_works, idle_works, split_works, works_more}
+use Rattle.steal_pool.proofs.Accounts.{Worked, entered_weigh, entered_weight, enter_works, idle_works, split_works, works_more}
 
 -- ---- entering
 module _ (limit : ℕ) (leaf : Leaf) (p q : Part) (r : Entry) (m : Entering limit leaf p q r) where
@@ -44,6 +47,21 @@ module _ (limit : ℕ) (leaf : Leaf) (p q : Part) (r : Entry) (m : Entering limi
 
 pub leaf_works : (t : Rules) (w v : Holder) (p q : Part) (leaf : Leaf) → IsSound t → IsLeaf t leaf → w.hand ≡ Some leaf.node → v ≡ with_hand w None → ((h : Leaf → ℕ) → entered_weight h q ≡ entered_weight h p + h leaf) → Worked t w p v q
 leaf_works t w v p q leaf sound is hand e more = enter_works t w v p q leaf.node leaf.mark sound is.valid is.marked hand e more
+
+-- entering is the step of the model of the pool
+pub leaf_enters : (t : Rules) (w v : Holder) (p q : Part) (leaf : Leaf) → IsLeaf t leaf → w.hand ≡ Some leaf.node → v ≡ with_hand w None → ((h : Leaf → ℕ) → entered_weight h q ≡ entered_weight h p + h leaf)
+    → (b : Account) × EntersNode t (account_of w p) b × IsLike b (account_of v q)
+leaf_enters t w v p q leaf is hand e more = (
+  record { hand = None; kept = w.kept; put = w.own.view.put; taken = taken_by w; entered = entered_by p ++ leaf ∷ [] },
+  record { node = leaf.node; mark = leaf.mark; in_hand = hand; marked = is.marked; after = refl },
+  record {
+    hand = ap (λ (u : Holder). u.hand) e;
+    kept = ap (λ (u : Holder). u.kept) e;
+    put = ap (λ (u : Holder). u.own.view.put) e;
+    taken = subst (λ (ns : List Node). IsPermutation (taken_by w) ns) (sym (ap taken_by e)) (IsPermutation-refl (taken_by w));
+    entered = leaves_permuted (entered_by p ++ leaf ∷ []) (entered_by q) (λ h. omega (arith, more h, weigh-push h (entered_by p) leaf, entered_weigh h p, entered_weigh h q));
+  },
+)
 
 pub same_works : (t : Rules) (w : Holder) (p q : Part) → (q.mine ≡ p.mine) × (q.again ≡ p.again) → Worked t w p w q
 same_works t w p q e = idle_works t w p w q refl refl refl refl e.0 e.1

@@ -9,7 +9,7 @@ use Rattle.steal_pool.specs.Rule.{DequeId, End}
 use Rattle.steal_pool.specs.Workers.{Holder}
 use Rattle.steal_pool.specs.Seats.{Seat, Ways, place_of, ways, with_worker}
 use Rattle.steal_pool.specs.Pools.{AreLinked, Linked, taken_of, ways_of_all}
-use Rattle.steal_pool.specs.Passes.{GivesPass, HasNoPass, HasNoPassAt, Joined, JoinsLast, NoPassBefore, joined, lasting, lasting_of}
+use Rattle.steal_pool.specs.Stealers.{GivesStealer, HasNoStealer, HasNoStealerAt, Joined, JoinsLast, NoStealerBefore, joined, lasting, lasting_of}
 use Rattle.steal_pool.proofs.Accounts.{taken_weight}
 use Rattle.steal_pool.proofs.Together.{taken_of_weigh, taken_sum}
 use Rattle.steal_pool.proofs.Linking.{linked_less, owner_has, owner_is}
@@ -27,8 +27,8 @@ joined_more ss qs us a b = record { lasting = b.lasting ∙ a.lasting; taken = I
 pub joined_length : (ss qs : List Seat) → Joined ss qs → length qs ≡ length ss
 joined_length ss qs j = map_length lasting ss qs j.lasting
 
--- ---- seat i gave its last pass away
-module _ (ss : List Seat) (i : ℕ) (s s' : Seat) (e : End) (at : slice_get ss i ≡ Some s) (g : GivesPass e s s') (linked : AreLinked ss) where
+-- ---- seat i gave its last stealer away
+module _ (ss : List Seat) (i : ℕ) (s s' : Seat) (e : End) (at : slice_get ss i ≡ Some s) (g : GivesStealer e s s') (linked : AreLinked ss) where
   abbrev mid : List Seat
   mid = slice_set ss i s'
 
@@ -48,7 +48,7 @@ module _ (ss : List Seat) (i : ℕ) (s s' : Seat) (e : End) (at : slice_get ss i
   s_made = ap (λ (w : Holder). w.own.view.made) g.0.1
 
   s_others : (seen s).others ≡ (seen s').others ++ place_of e ∷ []
-  s_others = ap (map place_of) g.0.0 ∙ map_push place_of s'.worker.passes e
+  s_others = ap (map place_of) g.0.0 ∙ map_push place_of s'.worker.stealers e
 
   pub owner_within : e.worker < length mid
   owner_within =
@@ -70,8 +70,8 @@ module _ (ss : List Seat) (i : ℕ) (s s' : Seat) (e : End) (at : slice_get ss i
         let all : ways_of_all (slice_set mid e.worker (joined r e)) ≡ slice_set given e.worker (seen (joined r e)) = map_set seen mid e.worker (joined r e) ∙ ap (λ (ws : List Ways). slice_set ws e.worker (seen (joined r e))) mid_ways in
         subst Linked (sym all) (linked_less (ways_of_all ss) i (seen s) (seen s') (seen r) (seen (joined r e)) (place_of e) giver s_own s_made s_others linked owner_at refl refl refl)
 
--- ---- in the words of the code: seat i was read as the default d or another, its pass named seat j
-module _ (ss : List Seat) (i : ℕ) (d s' : Seat) (e : End) (j : ℕ) (inside : i < length ss) (g : GivesPass e (get_or ss i d) s') (linked : AreLinked ss) (je : j ≡ e.worker) where
+-- ---- in the words of the code: seat i was read as the default d or another, its stealer named seat j
+module _ (ss : List Seat) (i : ℕ) (d s' : Seat) (e : End) (j : ℕ) (inside : i < length ss) (g : GivesStealer e (get_or ss i d) s') (linked : AreLinked ss) (je : j ≡ e.worker) where
   read : slice_get ss i ≡ Some (get_or ss i d)
   read = slice_get-get_or ss i d inside
 
@@ -96,13 +96,13 @@ module _ (ss : List Seat) (i : ℕ) (d s' : Seat) (e : End) (j : ℕ) (inside : 
     (λ k. slice_set (slice_set ss i s') (je k) (is k)),
   )
 
-pub read_none : (ss : List Seat) (i : ℕ) (d s' : Seat) → i < length ss → ((get_or ss i d).worker.passes ≡ []) × (s' ≡ get_or ss i d) → HasNoPassAt i ss × (slice_set ss i s' ≡ ss)
+pub read_none : (ss : List Seat) (i : ℕ) (d s' : Seat) → i < length ss → ((get_or ss i d).worker.stealers ≡ []) × (s' ≡ get_or ss i d) → HasNoStealerAt i ss × (slice_set ss i s' ≡ ss)
 read_none ss i d s' inside n = (
-  (λ s at. let same : get_or ss i d ≡ s = one_some (slice_get ss i) (get_or ss i d) s (slice_get-get_or ss i d inside) at in subst HasNoPass same n.0),
+  (λ s at. let same : get_or ss i d ≡ s = one_some (slice_get ss i) (get_or ss i d) s (slice_get-get_or ss i d inside) at in subst HasNoStealer same n.0),
   ap (slice_set ss i) n.1 ∙ set_same ss i (get_or ss i d) (slice_get-get_or ss i d inside),
 )
 
--- ---- the last pass of seat i is joined
+-- ---- the last stealer of seat i is joined
 module _ (i : ℕ) (ss qs : List Seat) (x : JoinsLast i ss qs) where
   pub joins_linked : AreLinked ss → AreLinked qs
   joins_linked linked = subst AreLinked (sym x.7) (less_linked ss i x.0 x.1 x.3 x.4 x.5 linked x.2 x.6)
@@ -121,7 +121,7 @@ module _ (i : ℕ) (ss qs : List Seat) (x : JoinsLast i ss qs) where
     arith,
     ap (λ (w : Holder). weigh h w.own.view.taken) x.5.0.1,
     ap (weigh (λ (e : End). weigh h e.view.taken)) x.5.0.0,
-    weigh-append (λ (e : End). weigh h e.view.taken) x.1.worker.passes (x.3 ∷ []),
+    weigh-append (λ (e : End). weigh h e.view.taken) x.1.worker.stealers (x.3 ∷ []),
   )
 
   same_taken : (h : Node → ℕ) → taken_sum h qs ≡ taken_sum h ss
@@ -140,21 +140,21 @@ module _ (i : ℕ) (ss qs : List Seat) (x : JoinsLast i ss qs) where
     taken = nodes_permuted (taken_of ss) (taken_of qs) (λ h. omega (arith, same_taken h, taken_of_weigh h ss, taken_of_weigh h qs));
   }
 
-  pub joins_fewer : weigh (λ (s : Seat). length s.worker.passes) qs + 1 ≡ weigh (λ (s : Seat). length s.worker.passes) ss
+  pub joins_fewer : weigh (λ (s : Seat). length s.worker.stealers) qs + 1 ≡ weigh (λ (s : Seat). length s.worker.stealers) ss
   joins_fewer = omega (
     arith,
-    ap (weigh (λ (s : Seat). length s.worker.passes)) x.7,
-    weigh-set (λ (s : Seat). length s.worker.passes) ss i x.0 x.1 x.4,
-    weigh-set (λ (s : Seat). length s.worker.passes) between x.3.worker x.2 (joined x.2 x.3) x.6,
+    ap (weigh (λ (s : Seat). length s.worker.stealers)) x.7,
+    weigh-set (λ (s : Seat). length s.worker.stealers) ss i x.0 x.1 x.4,
+    weigh-set (λ (s : Seat). length s.worker.stealers) between x.3.worker x.2 (joined x.2 x.3) x.6,
     ap length x.5.0.0,
-    length_push x.1.worker.passes x.3,
+    length_push x.1.worker.stealers x.3,
   )
 
   pub joins_length : length qs ≡ length ss
   joins_length = joined_length ss qs joins_joined
 
-  pub joins_before : NoPassBefore i ss → NoPassBefore i qs
-  joins_before none = subst (NoPassBefore i) (sym x.7) (
-      keep_each (λ k s. k < i → HasNoPass s) between x.3.worker x.2 (joined x.2 x.3) x.6 (λ p. p)
-      (keep_each (λ k s. k < i → HasNoPass s) ss i x.0 x.1 x.4 (λ p b. absurd (omega (arith, b))) none)
+  pub joins_before : NoStealerBefore i ss → NoStealerBefore i qs
+  joins_before none = subst (NoStealerBefore i) (sym x.7) (
+      keep_each (λ k s. k < i → HasNoStealer s) between x.3.worker x.2 (joined x.2 x.3) x.6 (λ p. p)
+      (keep_each (λ k s. k < i → HasNoStealer s) ss i x.0 x.1 x.4 (λ p b. absurd (omega (arith, b))) none)
       )

@@ -2,9 +2,8 @@
 use Rattle.std.proofs.Common.{◌≡◌, ◌≢◌, inl, inr, ℕ, zero, suc, ◌+◌, ◌<◌, List, [], ◌∷◌, ◌++◌, map, length, Option, Some, slice_get, slice_set, append_assoc, refl, sym, ap, ◌∙◌, subst, arith}
 use Rattle.std.proofs.lemmas.Bool.{cases_eq}
 use Rattle.std.proofs.lemmas.List.{append-nil}
-use Rattle.std.specs.List.{AllByRecursion}
+use Rattle.std.specs.List.{AllByRecursion, AllZip}
 use Rattle.spec_pool.proofs.Weights.{weigh}
-use Rattle.steal_pool.specs.Pools.{Beside}
 
 module _ {A : Type 0} where
   pub get_same : (xs : List A) (i : ℕ) (x y : A) → slice_get xs i ≡ Some x → slice_get (slice_set xs i y) i ≡ Some y
@@ -143,51 +142,51 @@ module _ {A B : Type 0} (f : A → B) where
 
 -- ---- lists beside one another
 module _ {A B : Type 0} (R : A → B → Type 0) where
-  pub beside_push : (xs : List A) (ys : List B) (x : A) (y : B) → Beside R xs ys → R x y → Beside R (xs ++ x ∷ []) (ys ++ y ∷ [])
-  beside_push [] [] x y b r = (r, tt)
-  beside_push [] (v ∷ ys) x y b r = absurd b
-  beside_push (u ∷ xs) [] x y b r = absurd b
-  beside_push (u ∷ xs) (v ∷ ys) x y b r = (b.0, beside_push xs ys x y b.1 r)
+  pub zip_push : (xs : List A) (ys : List B) (x : A) (y : B) → AllZip R xs ys → R x y → AllZip R (xs ++ x ∷ []) (ys ++ y ∷ [])
+  zip_push [] [] x y b r = (r, tt)
+  zip_push [] (v ∷ ys) x y b r = absurd b
+  zip_push (u ∷ xs) [] x y b r = absurd b
+  zip_push (u ∷ xs) (v ∷ ys) x y b r = (b.0, zip_push xs ys x y b.1 r)
 
-  pub beside_length : (xs : List A) (ys : List B) → Beside R xs ys → length ys ≡ length xs
-  beside_length [] [] b = refl
-  beside_length [] (v ∷ ys) b = absurd b
-  beside_length (u ∷ xs) [] b = absurd b
-  beside_length (u ∷ xs) (v ∷ ys) b = omega (arith, beside_length xs ys b.1)
+  pub zip_length : (xs : List A) (ys : List B) → AllZip R xs ys → length ys ≡ length xs
+  zip_length [] [] b = refl
+  zip_length [] (v ∷ ys) b = absurd b
+  zip_length (u ∷ xs) [] b = absurd b
+  zip_length (u ∷ xs) (v ∷ ys) b = omega (arith, zip_length xs ys b.1)
 
-  pub beside_map : {C : Type 0} (f : A → C) (g : B → C) (xs : List A) (ys : List B) → ((x : A) (y : B) → R x y → g y ≡ f x) → Beside R xs ys → map g ys ≡ map f xs
-  beside_map f g [] [] each b = refl
-  beside_map f g [] (v ∷ ys) each b = absurd b
-  beside_map f g (u ∷ xs) [] each b = absurd b
-  beside_map f g (u ∷ xs) (v ∷ ys) each b = λ i. each u v b.0 i ∷ beside_map f g xs ys each b.1 i
+  pub zip_map : {C : Type 0} (f : A → C) (g : B → C) (xs : List A) (ys : List B) → ((x : A) (y : B) → R x y → g y ≡ f x) → AllZip R xs ys → map g ys ≡ map f xs
+  zip_map f g [] [] each b = refl
+  zip_map f g [] (v ∷ ys) each b = absurd b
+  zip_map f g (u ∷ xs) [] each b = absurd b
+  zip_map f g (u ∷ xs) (v ∷ ys) each b = λ i. each u v b.0 i ∷ zip_map f g xs ys each b.1 i
 
-  pub beside_all : (P : A → Type 0) (Q : B → Type 0) (xs : List A) (ys : List B) → ((x : A) (y : B) → R x y → P x → Q y) → Beside R xs ys → AllByRecursion P xs → AllByRecursion Q ys
-  beside_all P Q [] [] each b all = tt
-  beside_all P Q [] (v ∷ ys) each b all = absurd b
-  beside_all P Q (u ∷ xs) [] each b all = absurd b
-  beside_all P Q (u ∷ xs) (v ∷ ys) each b all = (each u v b.0 all.0, beside_all P Q xs ys each b.1 all.1)
+  pub zip_all : (P : A → Type 0) (Q : B → Type 0) (xs : List A) (ys : List B) → ((x : A) (y : B) → R x y → P x → Q y) → AllZip R xs ys → AllByRecursion P xs → AllByRecursion Q ys
+  zip_all P Q [] [] each b all = tt
+  zip_all P Q [] (v ∷ ys) each b all = absurd b
+  zip_all P Q (u ∷ xs) [] each b all = absurd b
+  zip_all P Q (u ∷ xs) (v ∷ ys) each b all = (each u v b.0 all.0, zip_all P Q xs ys each b.1 all.1)
 
-  pub beside_get : (xs : List A) (ys : List B) (k : ℕ) (y : B) → Beside R xs ys → slice_get ys k ≡ Some y → (x : A) × (slice_get xs k ≡ Some x) × R x y
-  beside_get [] [] k y b e = absurd cc
-  beside_get [] (v ∷ ys) k y b e = absurd b
-  beside_get (u ∷ xs) [] k y b e = absurd b
-  beside_get (u ∷ xs) (v ∷ ys) zero y b e = let same : v ≡ y = cc in (u, refl, subst (R u) same b.0)
-  beside_get (u ∷ xs) (v ∷ ys) (suc k) y b e = beside_get xs ys k y b.1 e
+  pub zip_get : (xs : List A) (ys : List B) (k : ℕ) (y : B) → AllZip R xs ys → slice_get ys k ≡ Some y → (x : A) × (slice_get xs k ≡ Some x) × R x y
+  zip_get [] [] k y b e = absurd cc
+  zip_get [] (v ∷ ys) k y b e = absurd b
+  zip_get (u ∷ xs) [] k y b e = absurd b
+  zip_get (u ∷ xs) (v ∷ ys) zero y b e = let same : v ≡ y = cc in (u, refl, subst (R u) same b.0)
+  zip_get (u ∷ xs) (v ∷ ys) (suc k) y b e = zip_get xs ys k y b.1 e
 
-  pub beside_at : (xs : List A) (ys : List B) (k : ℕ) (x : A) → Beside R xs ys → slice_get xs k ≡ Some x → (y : B) × (slice_get ys k ≡ Some y) × R x y
-  beside_at [] [] k x b e = absurd cc
-  beside_at [] (v ∷ ys) k x b e = absurd b
-  beside_at (u ∷ xs) [] k x b e = absurd b
-  beside_at (u ∷ xs) (v ∷ ys) zero x b e = let same : u ≡ x = cc in (v, refl, subst (λ (z : A). R z v) same b.0)
-  beside_at (u ∷ xs) (v ∷ ys) (suc k) x b e = beside_at xs ys k x b.1 e
+  pub zip_at : (xs : List A) (ys : List B) (k : ℕ) (x : A) → AllZip R xs ys → slice_get xs k ≡ Some x → (y : B) × (slice_get ys k ≡ Some y) × R x y
+  zip_at [] [] k x b e = absurd cc
+  zip_at [] (v ∷ ys) k x b e = absurd b
+  zip_at (u ∷ xs) [] k x b e = absurd b
+  zip_at (u ∷ xs) (v ∷ ys) zero x b e = let same : u ≡ x = cc in (v, refl, subst (λ (z : A). R z v) same b.0)
+  zip_at (u ∷ xs) (v ∷ ys) (suc k) x b e = zip_at xs ys k x b.1 e
 
-  pub beside_set : (xs : List A) (ys : List B) (i : ℕ) (y y' : B) → slice_get ys i ≡ Some y → ((x : A) → R x y → R x y') → Beside R xs ys → Beside R xs (slice_set ys i y')
-  beside_set [] [] i y y' e step b = absurd cc
-  beside_set [] (v ∷ ys) i y y' e step b = absurd b
-  beside_set (u ∷ xs) [] i y y' e step b = absurd b
-  beside_set (u ∷ xs) (v ∷ ys) zero y y' e step b = let same : v ≡ y = cc in (step u (subst (R u) same b.0), b.1)
-  beside_set (u ∷ xs) (v ∷ ys) (suc i) y y' e step b = (b.0, beside_set xs ys i y y' e step b.1)
+  pub zip_set : (xs : List A) (ys : List B) (i : ℕ) (y y' : B) → slice_get ys i ≡ Some y → ((x : A) → R x y → R x y') → AllZip R xs ys → AllZip R xs (slice_set ys i y')
+  zip_set [] [] i y y' e step b = absurd cc
+  zip_set [] (v ∷ ys) i y y' e step b = absurd b
+  zip_set (u ∷ xs) [] i y y' e step b = absurd b
+  zip_set (u ∷ xs) (v ∷ ys) zero y y' e step b = let same : v ≡ y = cc in (step u (subst (R u) same b.0), b.1)
+  zip_set (u ∷ xs) (v ∷ ys) (suc i) y y' e step b = (b.0, zip_set xs ys i y y' e step b.1)
 
-pub beside_self : {A : Type 0} (R : A → A → Type 0) (xs : List A) → ((x : A) → R x x) → Beside R xs xs
-beside_self R [] each = tt
-beside_self R (x ∷ xs) each = (each x, beside_self R xs each)
+pub zip_self : {A : Type 0} (R : A → A → Type 0) (xs : List A) → ((x : A) → R x x) → AllZip R xs xs
+zip_self R [] each = tt
+zip_self R (x ∷ xs) each = (each x, zip_self R xs each)

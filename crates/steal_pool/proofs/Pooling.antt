@@ -1,12 +1,12 @@
 -- Seats that work are the same seats afterwards, one by one and all together.
 use Rattle.std.proofs.Common.{◌≡◌, ℕ, suc, ◌<◌, List, [], ◌∷◌, length, slice_set, get_or, refl, sym, subst, arith}
-use Rattle.std.specs.List.{AllByRecursion}
+use Rattle.std.specs.List.{AllByRecursion, AllZip}
 use Rattle.steal_pool.specs.Seats.{IsLeft, SameSeat, Seat, Works, ways}
 use Rattle.spec_trees.specs.Tree.{Rules}
-use Rattle.steal_pool.specs.Pools.{AreLinked, Beside, Linked}
+use Rattle.steal_pool.specs.Pools.{AreLinked, Linked}
 use Rattle.steal_pool.specs.Runs.{HasWorked, IsLater}
 use Rattle.steal_pool.proofs.Entering.{same_more, seat_idle, seat_more}
-use Rattle.steal_pool.proofs.Listing.{beside_map, beside_self}
+use Rattle.steal_pool.proofs.Listing.{zip_map, zip_self}
 
 -- ---- one seat
 pub same_self : (s : Seat) → SameSeat s s
@@ -19,14 +19,14 @@ pub goes_on : (t : Rules) (a b c : Seat) → IsLater t a b → SameSeat b c → 
 goes_on t a b c x same works = record { works = seat_more t a b c x.works works; same = same_more a b c x.same same }
 
 -- ---- all seats
-pub idle_all : (t : Rules) (ss : List Seat) → Beside (IsLater t) ss ss
-idle_all t ss = beside_self (IsLater t) ss (is_idle t)
+pub idle_all : (t : Rules) (ss : List Seat) → AllZip (IsLater t) ss ss
+idle_all t ss = zip_self (IsLater t) ss (is_idle t)
 
-pub later_first : (t : Rules) (ss : List Seat) (d s' : Seat) → 0 < length ss → IsLater t (get_or ss 0 d) s' → Beside (IsLater t) ss (slice_set ss 0 s')
+pub later_first : (t : Rules) (ss : List Seat) (d s' : Seat) → 0 < length ss → IsLater t (get_or ss 0 d) s' → AllZip (IsLater t) ss (slice_set ss 0 s')
 later_first t [] d s' some e = absurd (omega arith)
 later_first t (x ∷ xs) d s' some e = (e, idle_all t xs)
 
-pub later_more : (t : Rules) (a b c : List Seat) → Beside (IsLater t) a b → Beside (HasWorked t) b c → Beside (IsLater t) a c
+pub later_more : (t : Rules) (a b c : List Seat) → AllZip (IsLater t) a b → AllZip (HasWorked t) b c → AllZip (IsLater t) a c
 later_more t [] [] [] p q = tt
 later_more t [] [] (z ∷ zs) p q = absurd q
 later_more t [] (y ∷ ys) c p q = absurd p
@@ -35,25 +35,25 @@ later_more t (x ∷ xs) (y ∷ ys) [] p q = absurd q
 later_more t (x ∷ xs) (y ∷ ys) (z ∷ zs) p q =
     (goes_on t x y z p.0 q.0.later.same q.0.later.works, later_more t xs ys zs p.1 q.1)
 
-pub left_all : (t : Rules) (ss ss' : List Seat) → Beside (HasWorked t) ss ss' → AllByRecursion (IsLeft t) ss'
+pub left_all : (t : Rules) (ss ss' : List Seat) → AllZip (HasWorked t) ss ss' → AllByRecursion (IsLeft t) ss'
 left_all t [] [] z = tt
 left_all t [] (y ∷ ys) z = absurd z
 left_all t (x ∷ xs) [] z = absurd z
 left_all t (x ∷ xs) (y ∷ ys) z = (z.0.left, left_all t xs ys z.1)
 
-pub beside_of : {A : Type 0} (R : A → A → Type 0) (xs ys : List A) → length ys ≡ length xs → ((k : ℕ) (d : A) → k < length xs → R (get_or xs k d) (get_or ys k d)) → Beside R xs ys
-beside_of R [] [] e f = tt
-beside_of R [] (y ∷ ys) e f = absurd (omega (arith, e))
-beside_of R (x ∷ xs) [] e f = absurd (omega (arith, e))
-beside_of R (x ∷ xs) (y ∷ ys) e f = (f 0 x (omega arith), beside_of R xs ys (omega (arith, e)) (λ k d h. f (suc k) d (omega (arith, h))))
+pub zip_of : {A : Type 0} (R : A → A → Type 0) (xs ys : List A) → length ys ≡ length xs → ((k : ℕ) (d : A) → k < length xs → R (get_or xs k d) (get_or ys k d)) → AllZip R xs ys
+zip_of R [] [] e f = tt
+zip_of R [] (y ∷ ys) e f = absurd (omega (arith, e))
+zip_of R (x ∷ xs) [] e f = absurd (omega (arith, e))
+zip_of R (x ∷ xs) (y ∷ ys) e f = (f 0 x (omega arith), zip_of R xs ys (omega (arith, e)) (λ k d h. f (suc k) d (omega (arith, h))))
 
 -- ---- what stays of all
-pub later_same : (t : Rules) (ss qs : List Seat) → Beside (IsLater t) ss qs → Beside SameSeat ss qs
+pub later_same : (t : Rules) (ss qs : List Seat) → AllZip (IsLater t) ss qs → AllZip SameSeat ss qs
 later_same t [] [] b = tt
 later_same t [] (q ∷ qs) b = absurd b
 later_same t (s ∷ ss) [] b = absurd b
 later_same t (s ∷ ss) (q ∷ qs) b = (b.0.same, later_same t ss qs b.1)
 
-pub same_linked : (ss qs : List Seat) → Beside SameSeat ss qs → AreLinked ss → AreLinked qs
+pub same_linked : (ss qs : List Seat) → AllZip SameSeat ss qs → AreLinked ss → AreLinked qs
 same_linked ss qs b l =
-    subst Linked (sym (beside_map SameSeat (λ (s : Seat). ways s.worker) (λ (s : Seat). ways s.worker) ss qs (λ s q c. c.ways) b)) l
+    subst Linked (sym (zip_map SameSeat (λ (s : Seat). ways s.worker) (λ (s : Seat). ways s.worker) ss qs (λ s q c. c.ways) b)) l

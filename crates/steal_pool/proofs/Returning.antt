@@ -1,7 +1,7 @@
 -- What the seats of a run are, from their making to their coming back, and what a run answers.
 use Rattle.std.proofs.Common.{◌≡◌, ℕ, zero, suc, ◌+◌, ◌<◌, ◌++◌, List, [], ◌∷◌, map, flat_map, length, Option, Some, None, Result, Ok, Err, Vec, IfOk, IfErr, slice_get, IsPermutation, refl, sym, ap, ◌∙◌, subst, arith}
 use Rattle.std.proofs.lemmas.List.Elements.{recursion_from_All}
-use Rattle.std.specs.List.{AllByRecursion}
+use Rattle.std.specs.List.{AllByRecursion, AllZip}
 use mathlib.Core.Option as M
 use lib.ListN.{get_elem?}
 use Rattle.spec_trees.specs.declared.book.Book.{Book}
@@ -23,11 +23,11 @@ use Rattle.std.specs.Global.{Global}
 use Rattle.steal_pool.specs.declared.finishing.FinishError.{FinishError}
 use Rattle.steal_pool.specs.declared.finishing.FinishError.TheVariants.{TooMany, Memory}
 use Rattle.steal_pool.specs.declared.seat.PoolError.{PoolError}
-use Rattle.steal_pool.specs.Pools.{AllBegin, Begins, Beside, ComeBack, IfTooMany, IsLeftOver, IsRefused, entered_in}
-use Rattle.steal_pool.specs.Runs.{AreAll, AreFree, AreSeatsOf, HaveEntered, IsOverfull, IsSeatAt}
-use Rattle.steal_pool.proofs.Listing.{all_each, all_left, all_right, beside_get, beside_push, beside_self}
+use Rattle.steal_pool.specs.Pools.{AllBegin, Begins, ComeBack, IfTooMany, IsLeftOver, IsRefused, entered_in}
+use Rattle.steal_pool.specs.Runs.{AreAll, AreFree, AreSeatsOf, EnteredOnce, HaveEntered, IsOverfull, IsSeatAt}
+use Rattle.steal_pool.proofs.Listing.{all_each, all_left, all_right, zip_get, zip_push, zip_self}
 use Rattle.steal_pool.proofs.Pooling.{same_self}
-use Rattle.steal_pool.proofs.Booking.{Fit, Numbered, book_in_order, more_than, parts_entered}
+use Rattle.steal_pool.proofs.Booking.{Fit, Numbered, book_in_order, book_once, more_than, parts_entered}
 
 -- ---- the beginning
 pub begin_hand : (ledger : SpanLedger) (root : Node) (ss : List Seat) → AllBegin ledger root ss → (s : Seat) → slice_get ss 0 ≡ Some s → s.worker.hand ≡ Some root
@@ -39,9 +39,9 @@ begin_free ledger root ss b = all_each (λ (s : Seat). s.refusal ≡ None) ss (�
 seat_at : (ledger : SpanLedger) (k : ℕ) (hand : Option Node) (s q : Seat) → Begins ledger k hand s → SameSeat s q → IsSeatAt ledger k q
 seat_at ledger k hand s q b same = (same.table ∙ b.table, same.terms ∙ b.terms, same.number ∙ ap (λ (p : Part). p.number) b.part)
 
-pub same_seats : (ledger : SpanLedger) (root : Node) (ss qs : List Seat) → AllBegin ledger root ss → Beside SameSeat ss qs → AreSeatsOf ledger qs
+pub same_seats : (ledger : SpanLedger) (root : Node) (ss qs : List Seat) → AllBegin ledger root ss → AllZip SameSeat ss qs → AreSeatsOf ledger qs
 same_seats ledger root ss qs b z k q at =
-    let r = beside_get SameSeat ss qs k q z at in seat_at ledger k _ r.0 q (b k r.0 r.1) r.2
+    let r = zip_get SameSeat ss qs k q z at in seat_at ledger k _ r.0 q (b k r.0 r.1) r.2
 
 -- ---- seats that are taken out of the list of all one by one, from its end, and put back
 pub free_last : (ss front : List Seat) (s : Seat) → AreFree ss → ss ≡ front ++ s ∷ [] → AreFree front × (s.refusal ≡ None)
@@ -49,12 +49,12 @@ free_last ss front s all e =
     let split : AreFree (front ++ s ∷ []) = subst AreFree e all in
     (all_left (λ (x : Seat). x.refusal ≡ None) front (s ∷ []) split, (all_right (λ (x : Seat). x.refusal ≡ None) front (s ∷ []) split).0)
 
-pub same_last : (ss qs front back : List Seat) (s q : Seat) → Beside SameSeat front back → SameSeat s q → ss ≡ front ++ s ∷ [] → qs ≡ back ++ q ∷ [] → Beside SameSeat ss qs
+pub same_last : (ss qs front back : List Seat) (s q : Seat) → AllZip SameSeat front back → SameSeat s q → ss ≡ front ++ s ∷ [] → qs ≡ back ++ q ∷ [] → AllZip SameSeat ss qs
 same_last ss qs front back s q b same e f =
-    subst (λ (xs : List Seat). Beside SameSeat xs qs) (sym e) (subst (Beside SameSeat (front ++ s ∷ [])) (sym f) (beside_push SameSeat front back s q b same))
+    subst (λ (xs : List Seat). AllZip SameSeat xs qs) (sym e) (subst (AllZip SameSeat (front ++ s ∷ [])) (sym f) (zip_push SameSeat front back s q b same))
 
-pub same_all : (ss : List Seat) → Beside SameSeat ss ss
-same_all ss = beside_self SameSeat ss same_self
+pub same_all : (ss : List Seat) → AllZip SameSeat ss ss
+same_all ss = zip_self SameSeat ss same_self
 
 -- ---- coming back
 same_head : {A : Type 0} (x y : A) (xs ys : List A) → x ∷ xs ≡ y ∷ ys → (x ≡ y) × (xs ≡ ys)
@@ -124,6 +124,11 @@ module _ (ledger : SpanLedger) (log : List Booked) (es : List LedgerSeat) (all :
   closed_in_order t s root v h =
       book_in_order t s root v log (parts es) numbers fits below (subst (λ ls. IsPermutation ls (leaves t root)) entered_parts h)
 
+  pub closed_once : (t : Rules) → IsSound t → (root : Node) → IsValid t root → HaveEntered t root es → EnteredOnce es
+  closed_once t s root v h =
+      sym (flat_map-map part (λ (p : Part). p.again) es)
+      ∙ book_once t s root v log (parts es) numbers fits below (subst (λ ls. IsPermutation ls (leaves t root)) entered_parts h)
+
   seen_parts : (k : ℕ) (e : LedgerSeat) → slice_get es k ≡ Some e → FitsPart log (part e)
   seen_parts k e at = fit_at es (recursion_from_All (λ e. FitsPart log (part e)) es fit) k e at
     where
@@ -165,6 +170,9 @@ leaves_named t r root e = ap (λ (x : Rules). leaves x root) e ∙ leaves_same r
 -- ---- by what was answered
 pub ok_of : {A E : Type 0} (P : A → Type 0) (r : Result A E) (x : A) → r ≡ Ok x → IfOk r P → P x
 ok_of {A = A} {E = E} P r x e p = subst (λ (y : Result A E). IfOk y P) e p
+
+pub ok_with : {A E : Type 0} (P : A → Type 0) (r : Result A E) (x : A) → r ≡ Ok x → P x → IfOk r P
+ok_with {A = A} {E = E} P r x e p = subst (λ (y : Result A E). IfOk y P) (sym e) p
 
 pub full_of : (P : List LedgerSeat → Leaf → Type 0) (r : Result (Vec LedgerSeat Global) FinishError) (es : Vec LedgerSeat Global) (leaf : Leaf) → r ≡ Err (TooMany es leaf) → IfErr r (λ e. IfTooMany e P) → P es.items leaf
 full_of P r es leaf e p = subst (λ (y : Result (Vec LedgerSeat Global) FinishError). IfErr y (λ x. IfTooMany x P)) e p

@@ -3,7 +3,7 @@ use Rattle.std.proofs.Common.{◌≡◌, inl, inr, Bool, true, false, ℕ, ◌+�
 use Rattle.std.specs.Result.{is_err}
 use Rattle.std.proofs.lemmas.Bool.{cases_eq}
 use Rattle.std.proofs.lemmas.Option.{slice_get-get_or}
-use Rattle.std.specs.List.{AllByRecursion}
+use Rattle.std.specs.List.{AllByRecursion, AllZip}
 use Rattle.spec_trees.specs.declared.tree.Leaf.{Leaf}
 use Rattle.spec_trees.specs.declared.tree.Mark.{Mark}
 use Rattle.spec_trees.specs.declared.tree.Node.{Node}
@@ -12,11 +12,11 @@ use Rattle.spec_trees.proofs.Leaves.{leaves_settled}
 use Rattle.spec_pool.specs.History.{Fresh}
 use Rattle.steal_pool.specs.declared.seat.PoolError.{PoolError}
 use Rattle.steal_pool.specs.Seats.{IsFull, IsLeft, SameSeat, Seat, Works}
-use Rattle.steal_pool.specs.Pools.{Beside, KeepNone}
-use Rattle.steal_pool.specs.Closing.{IsFullOf, WorkOff}
+use Rattle.steal_pool.specs.Pools.{KeepNone}
+use Rattle.steal_pool.specs.Closing.{IsFullOf, Drains}
 use Rattle.steal_pool.specs.Runs.{IsLater}
 use Rattle.steal_pool.proofs.Pooling.{goes_on}
-use Rattle.steal_pool.proofs.Listing.{all_each, all_get, all_set, beside_set, get_other, get_same, one_some, within}
+use Rattle.steal_pool.proofs.Listing.{all_each, all_get, all_set, zip_set, get_other, get_same, one_some, within}
 
 -- what holds of the elements before n
 abbrev pub Before : {A : Type 0} → (A → Type 0) → ℕ → List A → Type 0
@@ -46,8 +46,8 @@ module _ {A : Type 0} where
   ]
 
 -- ---- each works off its deque
-pub change_one : (t : Rules) (ss qs : List Seat) (i : ℕ) (q r : Seat) → slice_get qs i ≡ Some q → SameSeat q r → Works t q r → Beside (IsLater t) ss qs → Beside (IsLater t) ss (slice_set qs i r)
-change_one t ss qs i q r at same works b = beside_set (IsLater t) ss qs i q r at (λ s c. goes_on t s q r c same works) b
+pub change_one : (t : Rules) (ss qs : List Seat) (i : ℕ) (q r : Seat) → slice_get qs i ≡ Some q → SameSeat q r → Works t q r → AllZip (IsLater t) ss qs → AllZip (IsLater t) ss (slice_set qs i r)
+change_one t ss qs i q r at same works b = zip_set (IsLater t) ss qs i q r at (λ s c. goes_on t s q r c same works) b
 
 pub refused : {A : Type 0} (r : Result A PoolError) (s : Seat) (b : Bool) → b ≡ is_err r → b ≡ true → IfErr r (λ e. s.refusal ≡ Some e) → s.refusal ≡ None → ⊥
 refused (Ok x) s b v t p none = absurd (cc)
@@ -57,7 +57,7 @@ pub went : {A : Type 0} (P : Type 0) (r : Result A PoolError) (b : Bool) → b �
 went P (Ok x) b v f p = p
 went P (Err e) b v f p = absurd cc
 
-pub stops : (t : Rules) (ss qs : List Seat) (i : ℕ) (q r : Seat) → slice_get qs i ≡ Some q → SameSeat q r → Works t q r → IsLeft t r → (r.refusal ≡ None → ⊥) → Beside (IsLater t) ss qs → AllByRecursion (IsLeft t) qs → KeepNone ss → WorkOff t ss (slice_set qs i r)
+pub stops : (t : Rules) (ss qs : List Seat) (i : ℕ) (q r : Seat) → slice_get qs i ≡ Some q → SameSeat q r → Works t q r → IsLeft t r → (r.refusal ≡ None → ⊥) → AllZip (IsLater t) ss qs → AllByRecursion (IsLeft t) qs → KeepNone ss → Drains t ss (slice_set qs i r)
 stops t ss qs i q r at same works left refusal b all free = record {
   changes = change_one t ss qs i q r at same works b;
   left = all_set (IsLeft t) qs i r left all;

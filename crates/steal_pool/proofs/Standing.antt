@@ -5,20 +5,20 @@ use Rattle.spec_trees.specs.declared.tree.Node.{Node}
 use Rattle.spec_trees.specs.Tree.{Rules, IsValid, IsSound}
 use Rattle.steal_pool.specs.Rule.{AreValid, End, takes_one}
 use Rattle.steal_pool.specs.Workers.{Holder, holder_of, Stands, IsSplit, TookOne}
-use Rattle.steal_pool.proofs.Rule.{valid_push, valid_left, valid_right}
+use Rattle.steal_pool.proofs.Listing.{all_left, all_push, all_right}
 
 pub same_some : (t : Rules) (x y : Node) → Some x ≡ Some y → IsValid t x → IsValid t y
 same_some t x y e v = let same : x ≡ y = cc in subst (IsValid t) same v
 
 pub last_valid : (t : Rules) (rest ns : List Node) (n : Node) → AreValid t ns → ns ≡ rest ++ n ∷ [] → IsValid t n
-last_valid t rest ns n a e = (valid_right t rest (n ∷ []) (subst (AreValid t) e a)).0
+last_valid t rest ns n a e = (all_right (IsValid t) rest (n ∷ []) (subst (AreValid t) e a)).0
 
--- the top of the kept stack is in the hand
-pub kept_stands : (t : Rules) (w : Holder) (rest : List Node) (n : Node) → Stands t w → w.kept ≡ rest ++ n ∷ [] → Stands t (holder_of w.own w.passes w.since (Some n) rest)
+-- the top of the local stack is in the hand
+pub kept_stands : (t : Rules) (w : Holder) (rest : List Node) (n : Node) → Stands t w → w.kept ≡ rest ++ n ∷ [] → Stands t (holder_of w.own w.stealers w.pushed_in_a_row (Some n) rest)
 kept_stands t w rest n a e = record {
   hand = λ m same. same_some t n m same (last_valid t rest w.kept n a.kept e);
-  kept = valid_left t rest (n ∷ []) (subst (AreValid t) e a.kept);
-  since = a.since;
+  kept = all_left (IsValid t) rest (n ∷ []) (subst (AreValid t) e a.kept);
+  pushed_in_a_row = a.pushed_in_a_row;
 }
 
 pub cut_of_split : (t : Rules) (w : Holder) (left right : Node) → Stands t w → IsSound t → IsSplit t w left right → IsValid t left × IsValid t right
@@ -26,13 +26,13 @@ cut_of_split t w left right a sound split =
     let cut = sound.cut split.0 (a.hand split.0 split.1) split.2 in
     (subst (λ (y : Node × Node). IsValid t y.0) split.3 cut.left, subst (λ (y : Node × Node). IsValid t y.1) split.3 cut.right)
 
--- the right part is on the kept stack, the left in the hand
-pub more_stands : (t : Rules) (w : Holder) (ks : List Node) (left right : Node) → Stands t w → IsSound t → IsSplit t w left right → ks ≡ w.kept ++ right ∷ [] → Stands t (holder_of w.own w.passes w.since (Some left) ks)
+-- the right part is on the local stack, the left in the hand
+pub more_stands : (t : Rules) (w : Holder) (ks : List Node) (left right : Node) → Stands t w → IsSound t → IsSplit t w left right → ks ≡ w.kept ++ right ∷ [] → Stands t (holder_of w.own w.stealers w.pushed_in_a_row (Some left) ks)
 more_stands t w ks left right a sound split e =
     let cut = cut_of_split t w left right a sound split in record {
       hand = λ m same. same_some t left m same cut.0;
-      kept = subst (AreValid t) (sym e) (valid_push t w.kept right a.kept cut.1);
-      since = a.since;
+      kept = subst (AreValid t) (sym e) (all_push (IsValid t) w.kept right a.kept cut.1);
+      pushed_in_a_row = a.pushed_in_a_row;
     }
 
 pub took_length : (n : Node) (es fs : List End) → TookOne n es fs → length fs ≡ length es

@@ -1,5 +1,6 @@
 -- What the seats of a pool have together, by weights.
 use Rattle.std.proofs.Common.{◌≡◌, ℕ, suc, ◌+◌, ◌<◌, List, [], ◌∷◌, ◌++◌, length, Option, Some, None, option_to_list, refl, sym, ap, ◌∙◌, arith}
+use Rattle.std.specs.List.{AllZip}
 use Rattle.std.proofs.lemmas.Bool.Decides.{nat_tests}
 use Rattle.spec_trees.specs.declared.tree.Node.{Node}
 use Rattle.spec_trees.specs.declared.tree.Leaf.{Leaf}
@@ -12,7 +13,7 @@ use Rattle.spec_pool.proofs.Weights.{weigh, weigh-append, weigh-flat, weigh-same
 use Rattle.span_ledger.specs.declared.desk.SpanLedger.{SpanLedger}
 use Rattle.steal_pool.specs.Workers.{taken_by}
 use Rattle.steal_pool.specs.Seats.{Seat, Works, account, entered_by}
-use Rattle.steal_pool.specs.Pools.{AccountFor, AllBegin, Begins, Beside, entered_of, first_hand, own_of, put_of, taken_of}
+use Rattle.steal_pool.specs.Pools.{AccountFor, AllBegin, Begins, entered_of, first_hand, own_of, put_of, taken_of}
 use Rattle.steal_pool.specs.Runs.{IsLater}
 use Rattle.steal_pool.proofs.Accounts.{does, entered_weigh, entered_weight, own_weight, same_weights, taken_weigh, taken_weight}
 use Rattle.steal_pool.proofs.Listing.{weigh_none}
@@ -118,12 +119,12 @@ works_sums t s q w h = let d = does t s.worker s.part q.worker q.part w in omega
   d.3.3 h,
 )
 
-later_sums : (t : Rules) (ss qs : List Seat) → Beside (IsLater t) ss qs → (h : Leaf → ℕ)
+later_sums : (t : Rules) (ss qs : List Seat) → AllZip (IsLater t) ss qs → (h : Leaf → ℕ)
     → entered_sum h qs + own_sum t h qs + put_sum (by_leaves t h) qs + taken_sum (by_leaves t h) ss ≡ entered_sum h ss + own_sum t h ss + put_sum (by_leaves t h) ss + taken_sum (by_leaves t h) qs
 later_sums t [] [] b h = refl
 later_sums t [] (q ∷ qs) b h = absurd b
 later_sums t (s ∷ ss) [] b h = absurd b
 later_sums t (s ∷ ss) (q ∷ qs) b h = omega (arith, works_sums t s q b.0.works h, later_sums t ss qs b.1 h)
 
-pub account_later : (t : Rules) (root : Node) (ss qs : List Seat) → Beside (IsLater t) ss qs → AccountFor t root ss → AccountFor t root qs
+pub account_later : (t : Rules) (root : Node) (ss qs : List Seat) → AllZip (IsLater t) ss qs → AccountFor t root ss → AccountFor t root qs
 account_later t root ss qs b a = weighs_account t root qs (λ h. omega (arith, account_weighs t root ss a h, later_sums t ss qs b h))

@@ -1,6 +1,6 @@
 -- What the end of a pool's work leaves, and what its seats say when they leave.
 use Rattle.std.specs.Prelude.{◌≡◌, ◌≢◌, ◌⊎◌, ◌≤◌, ℕ, List, [], ◌∷◌, length, map, Some, slice_get}
-use Rattle.std.specs.List.{AllByRecursion}
+use Rattle.std.specs.List.{AllByRecursion, AllZip}
 use Rattle.spec_trees.specs.declared.tree.Node.{Node}
 use Rattle.spec_trees.specs.declared.tree.Leaf.{Leaf}
 use Rattle.spec_trees.specs.Tree.{Rules, leaves}
@@ -10,8 +10,8 @@ use Rattle.span_ledger.specs.Seats.{part, seat_table}
 use Rattle.steal_pool.specs.declared.seat.PoolError.TheVariants.{TooMany}
 use Rattle.steal_pool.specs.Rule.{HasLeft, IsUsedUp}
 use Rattle.steal_pool.specs.Seats.{IsLeft, Seat}
-use Rattle.steal_pool.specs.Pools.{AccountFor, AreLinked, Beside, KeepNone, NoneIsOutOfMemory, right_of}
-use Rattle.steal_pool.specs.Passes.{HasNoPass}
+use Rattle.steal_pool.specs.Pools.{AccountFor, AreLinked, KeepNone, NoneIsOutOfMemory, right_of}
+use Rattle.steal_pool.specs.Stealers.{HasNoStealer}
 use Rattle.steal_pool.specs.Runs.{IsLater}
 
 abbrev pub HasUsedUp : Seat → Type 0
@@ -21,8 +21,8 @@ abbrev pub AllUsedUp : List Seat → Type 0
 AllUsedUp ss = AllByRecursion HasUsedUp ss
 
 -- where none keeps a refusal, each worked off its own deque; else they worked so far
-pub record WorkOff (t : Rules) (ss qs : List Seat) : Type 0 where
-  pub changes : Beside (IsLater t) ss qs
+pub record Drains (t : Rules) (ss qs : List Seat) : Type 0 where
+  pub changes : AllZip (IsLater t) ss qs
   pub left : AllByRecursion (IsLeft t) qs
   pub used : KeepNone qs → AllUsedUp qs
   pub refusals : KeepNone ss ⊎ (qs ≡ ss)
@@ -32,7 +32,7 @@ pub record Ended (t : Rules) (ss qs : List Seat) : Type 0 where
   pub rights : map right_of qs ≡ map right_of ss
   pub terms : map (λ s. s.terms) qs ≡ map (λ s. s.terms) ss
   pub linked : AreLinked qs
-  pub none : AllByRecursion HasNoPass qs
+  pub none : AllByRecursion HasNoStealer qs
   pub left : AllByRecursion (IsLeft t) qs
   pub used : KeepNone qs → AllUsedUp qs
   pub free : KeepNone qs → KeepNone ss

@@ -4,5 +4,5 @@ pub mod Seats
 pub mod Pools
 pub mod Runs
 pub mod TestJudges
-pub mod Passes
+pub mod Stealers
 pub mod Closing

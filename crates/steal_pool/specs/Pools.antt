@@ -1,7 +1,7 @@
--- The seats of one pool: how their passes belong together, what they have and enter together, how they begin, and what
+-- The seats of one pool: how their stealers belong together, what they have and enter together, how they begin, and what
 -- comes back of them.
 use Rattle.std.specs.Prelude.{◌≡◌, ◌≢◌, ◌≤◌, ℕ, zero, suc, ◌==◌, List, [], ◌∷◌, ◌++◌, length, map, flat_map, sum_by, Option, Some, None, ⊤, if◌then◌else◌, slice_get, IsPermutation}
-use Rattle.std.specs.List.{AllByRecursion}
+use Rattle.std.specs.List.{AllByRecursion, AllZip}
 use Rattle.atomic_table.specs.Seated.{TableId}
 use Rattle.spec_trees.specs.declared.tree.Node.{Node}
 use Rattle.spec_trees.specs.declared.tree.Leaf.{Leaf}
@@ -10,37 +10,30 @@ use Rattle.spec_pool.specs.Accounts.{leaves_of, own}
 use Rattle.spec_pool.specs.History.{Fresh, part_of}
 use Rattle.span_ledger.specs.declared.desk.LedgerSeat.{LedgerSeat}
 use Rattle.span_ledger.specs.declared.desk.SpanLedger.{SpanLedger}
-use Rattle.span_ledger.specs.Seats.{part, seat_table, table_of, terms}
+use Rattle.span_ledger.specs.Seats.{AreNew, part, seat_table, table_of, terms}
 use Rattle.steal_pool.specs.declared.finishing.FinishError.{FinishError}
 use Rattle.steal_pool.specs.declared.finishing.FinishError.TheVariants.{TooMany, Memory}
 use Rattle.steal_pool.specs.declared.seat.PoolError.TheVariants.{Memory as OutOfMemory}
 use Rattle.steal_pool.specs.Rule.{DequeId}
 use Rattle.steal_pool.specs.Workers.{taken_by}
-use Rattle.steal_pool.specs.Seats.{Seat, Ways, account, entered_by, ways}
+use Rattle.steal_pool.specs.Seats.{IsNamed, Seat, Ways, account, entered_by, ways}
 
--- two lists are as long, and R holds of each element and the one beside it
-abbrev pub Beside : {A B : Type 0} → (A → B → Type 0) → List A → List B → Type 0
-Beside R [] [] = ⊤
-Beside R [] (y ∷ ys) = ⊥
-Beside R (x ∷ xs) [] = ⊥
-Beside R (x ∷ xs) (y ∷ ys) = R x y × Beside R xs ys
-
--- ---- the passes
+-- ---- the stealers
 abbrev pub ways_of_all : List Seat → List Ways
 ways_of_all ss = map (λ s. ways s.worker) ss
 
--- a pass is on the deque of the worker that it names
+-- a stealer is on the deque of the worker that it names
 abbrev pub IsOwned : List Ways → ℕ × DequeId → Type 0
-IsOwned ws pass = (w : Ways) × (slice_get ws pass.0 ≡ Some w) × (w.own ≡ pass)
+IsOwned ws stealer = (w : Ways) × (slice_get ws stealer.0 ≡ Some w) × (w.own ≡ stealer)
 
--- how many of a worker's passes are on the deque of worker k
-abbrev pub passes_on : ℕ → Ways → ℕ
-passes_on k w = sum_by (λ pass. if pass.0 == k then 1 else 0) w.others
+-- how many of a worker's stealers are on the deque of worker k
+abbrev pub stealers_on : ℕ → Ways → ℕ
+stealers_on k w = sum_by (λ stealer. if stealer.0 == k then 1 else 0) w.others
 
--- each pass is on the deque of the worker that it names, and each owner has made as many passes as there are on its deque
+-- each stealer is on the deque of the worker that it names, and each owner has made as many stealers as there are on its deque
 pub record Linked (ws : List Ways) : Type 0 where
   pub owned : AllByRecursion (λ w. AllByRecursion (IsOwned ws) w.others) ws
-  pub counted : (k : ℕ) (w : Ways) → slice_get ws k ≡ Some w → w.made ≡ sum_by (passes_on k) ws
+  pub counted : (k : ℕ) (w : Ways) → slice_get ws k ≡ Some w → w.made ≡ sum_by (stealers_on k) ws
 
 abbrev pub AreLinked : List Seat → Type 0
 AreLinked ss = Linked (ways_of_all ss)
@@ -50,16 +43,16 @@ abbrev pub other_numbers : ℕ → ℕ → List ℕ
 other_numbers zero k = []
 other_numbers (suc n) k = if n == k then other_numbers n k else other_numbers n k ++ n ∷ []
 
--- of which workers' deques its passes are
-abbrev pub pass_numbers : Seat → List ℕ
-pass_numbers s = map (λ e. e.worker) s.worker.passes
+-- of which workers' deques its stealers are
+abbrev pub stealer_numbers : Seat → List ℕ
+stealer_numbers s = map (λ e. e.worker) s.worker.stealers
 
--- each has one pass on the deque of each other
-abbrev pub HaveAllPasses : List Seat → Type 0
-HaveAllPasses ss = (k : ℕ) (s : Seat) → slice_get ss k ≡ Some s → pass_numbers s ≡ other_numbers (length ss) k
+-- each has one stealer on the deque of each other
+abbrev pub HaveAllStealers : List Seat → Type 0
+HaveAllStealers ss = (k : ℕ) (s : Seat) → slice_get ss k ≡ Some s → stealer_numbers s ≡ other_numbers (length ss) k
 
 -- ---- what the seats have together
--- the leaves that are entered, and the nodes in hands and on kept stacks, those that were put on deques and those that
+-- the leaves that are entered, and the nodes in hands and on local stacks, those that were put on deques and those that
 -- were taken from them
 abbrev pub entered_of : List Seat → List Leaf
 entered_of ss = flat_map (λ s. entered_by s.part) ss
@@ -74,12 +67,22 @@ abbrev pub taken_of : List Seat → List Node
 taken_of ss = flat_map (λ s. taken_by s.worker) ss
 
 -- the leaves that are entered, those of what the workers have for themselves and those of what they put on deques are
--- the root's and those of what was taken from deques, each as often
+-- the root's and those of what was taken from deques, as multisets
 abbrev pub AccountFor : Rules → Node → List Seat → Type 0
 AccountFor t root ss =
     IsPermutation (entered_of ss ++ leaves_of t (own_of ss ++ put_of ss)) (leaves t root ++ leaves_of t (taken_of ss))
 
 -- ---- how they begin
+-- what has to be true where seats are made of a ledger's: t names the nodes of the root by the judge's rules r, it is the
+-- ledger's root, and these are all 1 to 64 seats of the ledger, which have entered nothing
+pub record CanMake (t r : Rules) (ledger : SpanLedger) (es : List LedgerSeat) (root : Node) : Type 0 where
+  pub named : IsNamed t r root
+  pub same : (terms ledger).root ≡ root
+  pub some : 1 ≤ length es
+  pub few : length es ≤ 64
+  pub all : length es ≡ (terms ledger).seats
+  pub fresh : AreNew ledger es
+
 abbrev pub first_hand : Node → ℕ → Option Node
 first_hand root k = if k == 0 then Some root else None
 
@@ -88,7 +91,7 @@ pub record Begins (ledger : SpanLedger) (k : ℕ) (node : Option Node) (s : Seat
   pub worker : s.worker.own.worker ≡ k
   pub hand : s.worker.hand ≡ node
   pub kept : s.worker.kept ≡ []
-  pub since : s.worker.since ≡ 0
+  pub pushed_in_a_row : s.worker.pushed_in_a_row ≡ 0
   pub put : s.worker.own.view.put ≡ []
   pub taken : taken_by s.worker ≡ []
   pub part : s.part ≡ part_of k [] [] []
@@ -122,7 +125,7 @@ IsRefused ss es leaf =
     (k : ℕ) × (s : Seat) × (e : LedgerSeat) × (slice_get ss k ≡ Some s) × (slice_get es k ≡ Some e)
     × (s.terms.limit ≤ length (part e).seen) × Fresh leaf (part e).seen
 
--- what is entered, this leaf and some more are the root's leaves, each as often
+-- what is entered, this leaf and some more are the root's leaves, as multisets
 abbrev pub IsLeftOver : Rules → Node → List LedgerSeat → Leaf → Type 0
 IsLeftOver t root es leaf = (others : List Leaf) × IsPermutation (entered_in es ++ leaf ∷ others) (leaves t root)
 

@@ -1,6 +1,6 @@
--- The rule of one deque. Its owner and each pass on it know what they put and what they took; put together, the nodes
+-- The rule of one deque. Its owner and each stealer on it know what they put and what they took; put together, the nodes
 -- that it holds and those that anybody took are those that its owner put on it.
-use Rattle.std.specs.Prelude.{◌≡◌, ℕ, ◌+◌, ◌-◌, pos, List, [], ◌∷◌, ◌++◌, flat_map, sum_by, IsPermutation}
+use Rattle.std.specs.Prelude.{◌≡◌, ℕ, ◌+◌, ◌-◌, pos, List, [], ◌∷◌, ◌++◌, sum_by, IsPermutation}
 use Rattle.std.specs.List.{AllByRecursion}
 use Rattle.std.specs.Global.{Global}
 use Rattle.spec_trees.specs.declared.tree.Node.{Node}
@@ -19,12 +19,12 @@ AreValid t ns = AllByRecursion (IsValid t) ns
 abbrev pub view_of : ℕ → ℕ → ℕ → List Node → List Node → View
 view_of owner made out put taken = record { owner = owner; made = made; out = out; put = put; taken = taken }
 
--- the owner's view of a new deque, that of a new pass, and that of a pass that was joined
+-- the owner's view of a new deque, that of a new stealer, and that of a stealer that was joined
 abbrev pub opening : View
 opening = view_of 1 0 0 [] []
 
-abbrev pub pass_out : View
-pass_out = view_of 0 0 1 [] []
+abbrev pub stealer_out : View
+stealer_out = view_of 0 0 1 [] []
 
 abbrev pub spent : View
 spent = view_of 0 0 0 [] []
@@ -46,11 +46,11 @@ joined_one v w = view_of v.owner (v.made - 1) v.out v.put (v.taken ++ w.taken)
 abbrev pub HasTaken : Rules → View → List Node → View → Type 0
 HasTaken t v xs w = (w ≡ with_taken v xs) × AreValid t xs
 
--- where no pass is out, the nodes that the owner put are those that it took
+-- where no stealer is out, the nodes that the owner put are those that it took
 abbrev pub IsUsedUp : View → Type 0
 IsUsedUp v = v.made ≡ 0 → IsPermutation v.put v.taken
 
--- where no pass is out, the nodes that the owner put are those that it took and some that are left
+-- where no stealer is out, the nodes that the owner put are those that it took and some that are left
 abbrev pub HasLeft : View → Type 0
 HasLeft v = v.made ≡ 0 → (left : List Node) × IsPermutation v.put (v.taken ++ left)
 
@@ -59,16 +59,16 @@ abbrev pub OwnerTakes : Rules → View → List Node → View → Type 0
 OwnerTakes t v xs w = HasTaken t v xs w × HasLeft v
 
 -- ---- the rule
--- only the owner's view has put nodes and has made passes, and a view that is neither the owner's nor out is empty
+-- only the owner's view has put nodes and has made stealers, and a view that is neither the owner's nor out is empty
 pub record Fits (v : View) : Type 0 where
   pub put : v.owner ≡ 0 → v.put ≡ []
   pub made : v.owner ≡ 0 → v.made ≡ 0
   pub taken : v.owner + v.out ≡ 0 → v.taken ≡ []
 
--- the nodes that were put are those that were taken with those that the deque holds, all of them valid; there is one
--- owner, and as many passes are out as it has made and not joined
+-- by any weight of nodes, those that were put weigh what those that were taken and those that the deque holds do, and
+-- the latter are valid; there is one owner, and as many stealers are out as it has made and not joined
 pub record Balanced (t : Rules) (items : List Node) (views : List View) : Type 0 where
-  pub balance : IsPermutation (flat_map (λ v. v.put) views) (flat_map (λ v. v.taken) views ++ items)
+  pub balance : (h : Node → ℕ) → sum_by (λ v. sum_by h v.put) views ≡ sum_by (λ v. sum_by h v.taken) views + sum_by h items
   pub valid : AreValid t items
   pub one_owner : sum_by (λ v. v.owner) views ≡ 1
   pub counted : sum_by (λ v. v.out) views ≡ sum_by (λ v. v.made) views

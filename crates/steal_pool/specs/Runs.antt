@@ -1,5 +1,5 @@
 -- What a run does with the seats of a pool, and what comes back of them.
-use Rattle.std.specs.Prelude.{◌≡◌, ◌≤◌, ℕ, List, length, Some, None, slice_get, IsPermutation}
+use Rattle.std.specs.Prelude.{◌≡◌, ◌≤◌, ℕ, List, [], flat_map, length, Some, None, slice_get, IsPermutation}
 use Rattle.std.specs.List.{AllByRecursion}
 use Rattle.spec_trees.specs.declared.tree.Node.{Node}
 use Rattle.spec_trees.specs.declared.tree.Leaf.{Leaf}
@@ -35,9 +35,13 @@ pub record AreAll (ledger : SpanLedger) (es : List LedgerSeat) : Type 0 where
   pub each : (k : ℕ) (e : LedgerSeat) → slice_get es k ≡ Some e → IsSeatOf ledger e × ((part e).number ≡ k)
 
 -- ---- what they entered
--- the leaves of the root, each as often
+-- the leaves of the root, as multisets
 abbrev pub HaveEntered : Rules → Node → List LedgerSeat → Type 0
 HaveEntered t root es = IsPermutation (entered_in es) (leaves t root)
+
+-- for none of them the ledger answered that a leaf stood already
+abbrev pub EnteredOnce : List LedgerSeat → Type 0
+EnteredOnce es = flat_map (λ e. (part e).again) es ≡ []
 
 -- one of them has seen as many entries as the limit
 abbrev pub HasSeenAll : ℕ → List LedgerSeat → Type 0

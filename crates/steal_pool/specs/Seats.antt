@@ -62,7 +62,7 @@ pub record IsLike (a b : Account) : Type 0 where
 abbrev pub Changes : (Account → Account → Type 0) → Seat → Seat → Type 0
 Changes R s s' = (b : Account) × R (account s) b × IsLike b (account s')
 
--- a node comes into the empty hand, from the kept stack or from some deque
+-- a node comes into the empty hand, from the local stack or from some deque
 abbrev pub Gets : Node → Account → Account → Type 0
 Gets n a b = (b.hand ≡ Some n) × (TakesTop a b ⊎ TakesNode n a b)
 
@@ -75,7 +75,7 @@ Works t s s' = Changes (Balances t) s s'
 abbrev pub place_of : End → ℕ × DequeId
 place_of e = (e.worker, e.deque)
 
--- its deque, the passes on it that it made and didn't join, and the deques that its own passes are of
+-- its deque, the stealers on it that it made and didn't join, and the deques that its own stealers are of
 pub record Ways : Type 0 where
   pub own : ℕ × DequeId
   pub made : ℕ
@@ -85,7 +85,7 @@ abbrev pub ways_of : ℕ × DequeId → ℕ → List (ℕ × DequeId) → Ways
 ways_of own made others = record { own = own; made = made; others = others }
 
 abbrev pub ways : Holder → Ways
-ways w = ways_of (place_of w.own) w.own.view.made (map place_of w.passes)
+ways w = ways_of (place_of w.own) w.own.view.made (map place_of w.stealers)
 
 -- the same ways, ledger and number
 pub record SameSeat (s s' : Seat) : Type 0 where

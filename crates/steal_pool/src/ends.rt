@@ -2,10 +2,10 @@
 ghost use Rattle.std.specs.Prelude.{◌≡◌, ◌+◌, ◌<◌, ◌≤◌, [], ◌∷◌, length, IfOk, OnOk, IfErr, IfSome, IfNone};
 ghost use Rattle.spec_trees.specs.Tree.{IsValid};
 ghost use Rattle.crossbeam_deque.specs.Steals.{MatchSteal};
-ghost use Rattle.steal_pool.specs.Rule.{HasLeft, opening, pass_out, with_put, made_one, joined_one, IsUsedUp, SameDeque, with_view, takes_one};
+ghost use Rattle.steal_pool.specs.Rule.{HasLeft, opening, stealer_out, with_put, made_one, joined_one, IsUsedUp, SameDeque, with_view, takes_one};
 
 use crate::view::{Balance, Naming, Puts, Steals, Takes, View, Ways};
-use crossbeam_deque::{Pass, Steal, Stealer, Worker};
+use crossbeam_deque::{Pass, Steal, Stealer as Reader, Worker};
 use spec_pool::Memory;
 use spec_trees::Node;
 use std::alloc::Global;
@@ -35,25 +35,40 @@ impl<N: Naming> Model for Owner<N> {
         × (64 ≤ worker_capacity o.worker) };
 }
 
-/// A pass on another worker's deque.
+/// A stealer: the end of another worker's deque, from which it takes nodes.
 #[derive(Drop)]
-pub struct Thief<N: Naming> {
+pub struct Stealer<N: Naming> {
     number: u32,
-    stealer: Stealer<Node, Global, View, Balance<N>>,
+    reader: Reader<Node, Global, View, Balance<N>>,
     pass: Pass<Node, View>,
 }
 
-impl<N: Naming> Model for Thief<N> {
+impl<N: Naming> Model for Stealer<N> {
     ghost use Rattle.std.specs.Prelude.{◌≡◌};
     ghost use Rattle.crossbeam_deque.specs.Handles.{view as seen, IsPassOf, stealer_deque};
     ghost use Rattle.steal_pool.specs.Rule.{End, end_of};
 
     ghost Value = { End };
 
-    ghost view = { λ t. end_of t.number (stealer_deque t.stealer) (seen t.pass) };
+    ghost view = { λ t. end_of t.number (stealer_deque t.reader) (seen t.pass) };
 
-    ghost invariant = { λ t. IsPassOf (stealer_deque t.stealer) t.pass
+    ghost invariant = { λ t. IsPassOf (stealer_deque t.reader) t.pass
         × ((seen t.pass).owner ≡ 0) × ((seen t.pass).out ≡ 1) };
+}
+
+/// The steal attempts that are left in one search for a node. Each attempt uses up one, so a search ends.
+#[derive(Drop)]
+pub struct Attempts {
+    pub left: u32,
+}
+
+impl Attempts {
+    /// Those of a search that begins: 10,000, at all deques together.
+    pub fn of_search() -> Attempts
+        ensures { result.left ≡ 10000 }
+    {
+        Attempts { left: 10_000 }
+    }
 }
 
 impl<N: Naming> Owner<N> {
@@ -77,8 +92,8 @@ impl<N: Naming> Owner<N> {
         self.worker.push_as::<Puts>(node)
     }
 
-    /// Takes the node at the front. Where there is none and no pass is out, the nodes that were put are those that were
-    /// taken, each as often.
+    /// Takes the node at the front. Where there is none and no stealer is out, the nodes that were put are those that were
+    /// taken, as multisets.
     pub fn pop(&mut self) -> Option<Node>
         ensures taken { IfSome result (λ n. (self.new ≡ takes_one self.old n) × IsValid N.rules n) }
         ensures none { IfNone result ((self.new ≡ self.old) × IsUsedUp self.old.view) }
@@ -87,32 +102,32 @@ impl<N: Naming> Owner<N> {
         self.worker.pop_as::<Takes<N>>()
     }
 
-    /// A pass on the deque, for another worker.
-    pub fn make_pass(&mut self) -> Result<Thief<N>, Memory>
+    /// A stealer of the deque, for another worker.
+    pub fn make_stealer(&mut self) -> Result<Stealer<N>, Memory>
         ensures made { OnOk result (self.new ≡ with_view self.old (made_one self.old.view)) }
-        ensures pass { IfOk result (λ t. SameDeque t self.old × (t.view ≡ pass_out)) }
+        ensures stealer { IfOk result (λ t. SameDeque t self.old × (t.view ≡ stealer_out)) }
         ensures refused { IfErr result (λ e. self.new ≡ self.old) }
     {
-        let stealer = self.worker.stealer()?;
+        let reader = self.worker.stealer()?;
         let pass = self.worker.another::<Ways>();
-        Ok(Thief {
+        Ok(Stealer {
             number: self.number,
-            stealer,
+            reader,
             pass,
         })
     }
 
-    /// Joins a pass: what it took stands with what the owner took.
-    pub fn join_pass(&mut self, thief: Thief<N>)
-        requires ours { thief.deque ≡ self.old.deque }
+    /// Joins a stealer: what it took stands with what the owner took.
+    pub fn join_stealer(&mut self, stealer: Stealer<N>)
+        requires ours { stealer.deque ≡ self.old.deque }
         requires made { 0 < self.old.view.made }
-        ensures joined { self.new ≡ with_view self.old (joined_one self.old.view thief.view) }
+        ensures joined { self.new ≡ with_view self.old (joined_one self.old.view stealer.view) }
     {
-        self.worker.absorb::<Ways>(thief.pass);
+        self.worker.absorb::<Ways>(stealer.pass);
     }
 }
 
-impl<N: Naming> Thief<N> {
+impl<N: Naming> Stealer<N> {
     /// The number of the worker whose deque it is.
     pub fn worker(&self) -> u32
         ensures { result ≡ self.now.worker }
@@ -120,23 +135,25 @@ impl<N: Naming> Thief<N> {
         self.number
     }
 
-    // Looks once at the front, and takes the node there.
-    fn scan(&mut self) -> Steal<Node>
-        ensures { MatchSteal result (self.new ≡ self.old) (self.new ≡ self.old)
+    // One attempt to take the node at the front.
+    fn attempt(&mut self, attempts: &mut Attempts) -> Steal<Node>
+        requires some { 0 < attempts.old.left }
+        ensures taken { MatchSteal result (self.new ≡ self.old) (self.new ≡ self.old)
             (λ n. (self.new ≡ takes_one self.old n) × IsValid N.rules n) }
+        ensures counted { attempts.new.left + 1 ≡ attempts.old.left }
     {
-        self.stealer.steal_as::<Steals<N>>(&mut self.pass)
+        attempts.left -= 1;
+        self.reader.steal_as::<Steals<N>>(&mut self.pass)
     }
 
-    /// Takes the node at the front, by at most `scans` looks, which are counted down.
-    pub fn steal(&mut self, scans: &mut u32) -> Option<Node>
+    /// Takes the node at the front, while attempts are left and others take from the same deque meanwhile.
+    pub fn steal(&mut self, attempts: &mut Attempts) -> Option<Node>
         ensures taken { IfSome result (λ n. (self.new ≡ takes_one self.old n) × IsValid N.rules n) }
         ensures none { IfNone result (self.new ≡ self.old) }
-        ensures fewer { scans.new ≤ scans.old }
+        ensures fewer { attempts.new.left ≤ attempts.old.left }
     {
-        while *scans > 0 {
-            *scans -= 1;
-            match self.scan() {
+        while attempts.left > 0 {
+            match self.attempt(attempts) {
                 Steal::Success(node) => return Some(node),
                 Steal::Empty => return None,
                 Steal::Retry => {}

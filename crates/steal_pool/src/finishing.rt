@@ -1,12 +1,12 @@
-// Ending a pool: all passes are joined, what is left on the deques is worked off, and the ledger's seats come back.
+// Ending a pool: all stealers are joined, what is left on the deques is worked off, and the ledger's seats come back.
 ghost use Rattle.std.specs.Prelude.{◌≡◌, ◌≢◌, Some, None, IfOk, IfErr, IfSome, IfNone, IsTrue, IsFalse, IsPermutation};
-ghost use Rattle.std.specs.List.{AllByRecursion};
+ghost use Rattle.std.specs.List.{AllByRecursion, AllZip};
 ghost use Rattle.spec_trees.specs.declared.tree.Node.{Node};
 ghost use Rattle.spec_trees.specs.Tree.{leaves};
 ghost use Rattle.steal_pool.specs.Seats.{IsFull, IsLeft};
 ghost use Rattle.steal_pool.specs.declared.seat.PoolError.TheVariants.{TooMany, Memory as OutOfMemory};
-ghost use Rattle.steal_pool.specs.Closing.{Ended, IsFullOf, Leaves, NoneIsFull, SomeIsFull, WorkOff};
-ghost use Rattle.steal_pool.specs.Pools.{AccountFor, AreLinked, Beside, ComeBack, IfTooMany, IsLeftOver, IsRefused, KeepNone, NoneIsOutOfMemory, entered_in};
+ghost use Rattle.steal_pool.specs.Closing.{Ended, IsFullOf, Leaves, NoneIsFull, SomeIsFull, Drains};
+ghost use Rattle.steal_pool.specs.Pools.{AccountFor, AreLinked, ComeBack, IfTooMany, IsLeftOver, IsRefused, KeepNone, NoneIsOutOfMemory, entered_in};
 
 use crate::joining::join_all;
 use crate::seat::{PoolError, PoolSeat};
@@ -78,17 +78,17 @@ impl<'p, N: Naming, J: Judge, G: Gate> PoolSeat<'p, N, J, G> {
         }
     }
 
-    // Looks at its deque for the last time, and hands the right to enter leaves back.
+    // Pops its deque for the last time, and hands the right to enter leaves back.
     fn leave(self) -> LedgerSeat
         ensures { Leaves self.entry result }
     {
-        self.worker.leave();
+        self.worker.last_pop();
         self.entries
     }
 }
 
 // Whether no seat keeps a refusal.
-fn keep_none<'p, N: Naming, J: Judge, G: Gate>(seats: &[PoolSeat<'p, N, J, G>]) -> bool
+pub(crate) fn keep_none<'p, N: Naming, J: Judge, G: Gate>(seats: &[PoolSeat<'p, N, J, G>]) -> bool
     ensures all { IsTrue result → KeepNone seats.now }
     ensures some { IsFalse result → KeepNone seats.now → ⊥ }
 {
@@ -127,9 +127,9 @@ fn full_leaf<'p, N: Naming, J: Judge, G: Gate>(seats: &[PoolSeat<'p, N, J, G>]) 
 }
 
 // Each worker works off its own deque, unless a seat keeps a refusal, until one is refused.
-fn work_off<'p, R: Wait, N: Naming, J: Judge, G: Gate>(rt: &R, seats: &mut [PoolSeat<'p, N, J, G>])
+fn drain<'p, R: Wait, N: Naming, J: Judge, G: Gate>(rt: &R, seats: &mut [PoolSeat<'p, N, J, G>])
     requires left { AllByRecursion (IsLeft N.rules) seats.old }
-    ensures { WorkOff N.rules seats.old seats.new }
+    ensures { Drains N.rules seats.old seats.new }
 {
     if !keep_none(seats) {
         return;
@@ -141,14 +141,14 @@ fn work_off<'p, R: Wait, N: Naming, J: Judge, G: Gate>(rt: &R, seats: &mut [Pool
     }
 }
 
-// Joins all passes, and lets each worker work off its own deque.
+// Joins all stealers, and lets each worker work off its own deque.
 fn end_work<'p, R: Wait, N: Naming, J: Judge, G: Gate>(rt: &R, seats: &mut [PoolSeat<'p, N, J, G>])
     requires linked { AreLinked seats.old }
     requires left { AllByRecursion (IsLeft N.rules) seats.old }
     ensures { Ended N.rules seats.old seats.new }
 {
     join_all(seats);
-    work_off(rt, seats);
+    drain(rt, seats);
 }
 
 // Every seat leaves, in order.
@@ -156,7 +156,7 @@ fn leave_all<'p, N: Naming, J: Judge, G: Gate>(
     alloc: Global,
     seats: Vec<PoolSeat<'p, N, J, G>>,
 ) -> Result<Vec<LedgerSeat>, Memory>
-    ensures { IfOk result (λ v. Beside Leaves seats.entry.items v.items) }
+    ensures { IfOk result (λ v. AllZip Leaves seats.entry.items v.items) }
 {
     let mut entries = Vec::new(alloc);
     for seat in seats {
@@ -167,7 +167,7 @@ fn leave_all<'p, N: Naming, J: Judge, G: Gate>(
     Ok(entries)
 }
 
-/// Ends a pool, whose seats have all worked, and hands the ledger's seats back in order. Every pass is joined. Where
+/// Ends a pool, whose seats have all worked, and hands the ledger's seats back in order. Every stealer is joined. Where
 /// seats keep refusals it answers `Memory` if one of them is that, else `TooMany`; where none does, each worker works
 /// off its own deque. It waits for the ledger's lock.
 pub fn finish<'p, R: Wait, N: Naming, J: Judge, G: Gate>(

@@ -1,4 +1,18 @@
-//! Workers that split the nodes of a tree and steal them from one another, each with a deque of its own.
+//! A pool of workers that run at once, split the nodes of a tree and enter its leaves into one book.
+//!
+//! What comes in: a `Judge` (what is a leaf, and where a node is cut), a root, a number of workers, the most leaves, and a
+//! `Gate` that each worker passes before it judges. What goes out of `run`: the book of all leaves of the root, each once,
+//! or why there is none. The other calls are its parts, in order: `make` (a seat for each worker), `PoolSeat::work` in a
+//! thread of its own for each seat, `finish` (what is left on the deques, and the ledger's seats back).
+//!
+//! - A worker has a node in its hand, a local stack that it alone sees, and a deque. It pushes the right parts of what it
+//!   splits on its deque while there are at most 64 in a row, and takes from its stack, its deque, then other deques.
+//! - A worker's end of another's deque is a `Stealer`. `make` hands them out and `finish` joins them into the deque's
+//!   owner; that each belongs to the deque that it names is the fact `AreLinked` of all seats together.
+//! - What is proved of running threads is a balance: what a worker took and had is what it put, has and entered.
+//!
+//! Not to be touched without need: the rule of a deque (`view.rt`, `specs/Rule`), of which each step owes that it keeps
+//! it, whatever the other threads do meanwhile, and `Naming`, by which that rule, a type, speaks of the judge's nodes.
 #![tactic(auto)]
 
 mod ends;
@@ -11,7 +25,7 @@ mod view;
 mod work;
 mod worker;
 
-pub use ends::{Owner, Thief};
+pub use ends::{Owner, Stealer};
 pub use finishing::{FinishError, finish};
 pub use making::make;
 pub use running::run;

@@ -1,15 +1,15 @@
-// Making the seats of a pool, with a pass of each on the deque of each other.
+// Making the seats of a pool, with a stealer of each on the deque of each other.
 ghost use Rattle.std.specs.Prelude.{◌≡◌, ◌≤◌, ◌<◌, ◌+◌, Some, IfOk, OnOk, length};
-ghost use Rattle.std.specs.List.{AllByRecursion};
+ghost use Rattle.std.specs.List.{AllByRecursion, AllZip};
 ghost use Rattle.spec_trees.specs.declared.tree.Node.{Node};
 ghost use Rattle.spec_trees.specs.Tree.{IsValid};
-ghost use Rattle.span_ledger.specs.Seats.{AreNew, IsSeatOf, part, table_of, terms};
+ghost use Rattle.span_ledger.specs.Seats.{IsSeatOf, part, table_of, terms};
 ghost use Rattle.steal_pool.specs.Seats.{IsNamed, NewSeat};
-ghost use Rattle.steal_pool.specs.Pools.{AccountFor, AllBegin, AreLinked, Beside, HaveAllPasses, first_hand};
-ghost use Rattle.steal_pool.specs.Workers.{new_pass};
-ghost use Rattle.steal_pool.specs.Passes.{Linking, Links, LinksOther, Opens, gained, lent};
+ghost use Rattle.steal_pool.specs.Pools.{AccountFor, AllBegin, AreLinked, CanMake, HaveAllStealers, first_hand};
+ghost use Rattle.steal_pool.specs.Workers.{new_stealer};
+ghost use Rattle.steal_pool.specs.Stealers.{Linking, Links, LinksOther, Opens, gained, lent};
 
-use crate::ends::Thief;
+use crate::ends::Stealer;
 use crate::seat::PoolSeat;
 use crate::view::Naming;
 use crate::worker::Worker;
@@ -21,7 +21,7 @@ use spec_trees::Node;
 use std::alloc::Global;
 
 impl<'p, N: Naming, J: Judge, G: Gate> PoolSeat<'p, N, J, G> {
-    /// A seat with a deque of its own, which holds nothing, and no pass on another. A node may be in its hand.
+    /// A seat with a deque of its own, which holds nothing, and no stealer on another. A node may be in its hand.
     pub fn new(
         alloc: Global,
         judge: &'p J,
@@ -47,19 +47,19 @@ impl<'p, N: Naming, J: Judge, G: Gate> PoolSeat<'p, N, J, G> {
         })
     }
 
-    // A pass on its deque, for another seat.
-    fn lend_pass(&mut self) -> Result<Thief<N>, Memory>
+    // A stealer on its deque, for another seat.
+    fn lend_stealer(&mut self) -> Result<Stealer<N>, Memory>
         ensures made { OnOk result (self.new ≡ lent self.old) }
-        ensures pass { IfOk result (λ e. e ≡ new_pass self.old.worker) }
+        ensures stealer { IfOk result (λ e. e ≡ new_stealer self.old.worker) }
     {
-        self.worker.lend_pass()
+        self.worker.lend_stealer()
     }
 
-    // Keeps a pass on another seat's deque.
-    fn keep_pass(&mut self, pass: Thief<N>) -> Result<(), Memory>
-        ensures { OnOk result (self.new ≡ gained self.old pass) }
+    // Keeps a stealer on another seat's deque.
+    fn keep_stealer(&mut self, stealer: Stealer<N>) -> Result<(), Memory>
+        ensures { OnOk result (self.new ≡ gained self.old stealer) }
     {
-        self.worker.keep_pass(pass)
+        self.worker.keep_stealer(stealer)
     }
 }
 
@@ -70,7 +70,7 @@ fn first_hand(root: Node, number: u32) -> Option<Node>
     if number == 0 { Some(root) } else { None }
 }
 
-// The seats, one for each seat of the ledger, without passes.
+// The seats, one for each seat of the ledger, without stealers.
 fn open_seats<'p, N: Naming, J: Judge, G: Gate>(
     alloc: Global,
     judge: &'p J,
@@ -82,7 +82,7 @@ fn open_seats<'p, N: Naming, J: Judge, G: Gate>(
     requires rules { IsNamed N.rules (J.rules judge.now) root }
     requires root { (terms ledger.now).root ≡ root }
     requires ours { AllByRecursion (IsSeatOf ledger.now) entries.items }
-    ensures { IfOk result (λ v. Beside (Opens ledger.now root) entries.items v.items) }
+    ensures { IfOk result (λ v. AllZip (Opens ledger.now root) entries.items v.items) }
 {
     let mut seats = Vec::new(alloc);
     for entry in entries {
@@ -95,7 +95,7 @@ fn open_seats<'p, N: Naming, J: Judge, G: Gate>(
     Ok(seats)
 }
 
-// Gives seat `i` a pass on the deque of seat `j`.
+// Gives seat `i` a stealer on the deque of seat `j`.
 fn link<'p, N: Naming, J: Judge, G: Gate>(
     seats: &mut [PoolSeat<'p, N, J, G>],
     i: usize,
@@ -104,11 +104,11 @@ fn link<'p, N: Naming, J: Judge, G: Gate>(
     requires inside { (i < length seats.old) × (j < length seats.old) }
     ensures links { OnOk result (Links i j seats.old seats.new) }
 {
-    let pass = seats[j].lend_pass()?;
-    seats[i].keep_pass(pass)
+    let stealer = seats[j].lend_stealer()?;
+    seats[i].keep_stealer(stealer)
 }
 
-// Gives seat `i` a pass on the deque of seat `j`, unless they are the same.
+// Gives seat `i` a stealer on the deque of seat `j`, unless they are the same.
 fn link_other<'p, N: Naming, J: Judge, G: Gate>(
     seats: &mut [PoolSeat<'p, N, J, G>],
     i: usize,
@@ -123,7 +123,7 @@ fn link_other<'p, N: Naming, J: Judge, G: Gate>(
     link(seats, i, j)
 }
 
-// Gives seat `i` a pass on the deque of each other.
+// Gives seat `i` a stealer on the deque of each other.
 fn link_one<'p, N: Naming, J: Judge, G: Gate>(
     ledger: &SpanLedger,
     root: Node,
@@ -140,7 +140,7 @@ fn link_one<'p, N: Naming, J: Judge, G: Gate>(
     Ok(())
 }
 
-// Gives each seat a pass on the deque of each other.
+// Gives each seat a stealer on the deque of each other.
 fn link_all<'p, N: Naming, J: Judge, G: Gate>(
     ledger: &SpanLedger,
     root: Node,
@@ -157,7 +157,7 @@ fn link_all<'p, N: Naming, J: Judge, G: Gate>(
 }
 
 /// The seats of a pool, one for each seat of the ledger, with the root in the hand of the first. Each has a deque of its
-/// own, which takes 64 nodes without allocating, and a pass on the deque of each other.
+/// own, which takes 64 nodes without allocating, and a stealer on the deque of each other.
 pub fn make<'p, N: Naming, J: Judge, G: Gate>(
     alloc: Global,
     judge: &'p J,
@@ -166,14 +166,10 @@ pub fn make<'p, N: Naming, J: Judge, G: Gate>(
     root: Node,
     gate: &'p G,
 ) -> Result<Vec<PoolSeat<'p, N, J, G>>, Memory>
-    requires rules { IsNamed N.rules (J.rules judge.now) root }
-    requires root { (terms ledger.now).root ≡ root }
-    requires count { (1 ≤ length entries.items) × (length entries.items ≤ 64) }
-    requires all { length entries.items ≡ (terms ledger.now).seats }
-    requires fresh { AreNew ledger.now entries.items }
+    requires { CanMake N.rules (J.rules judge.now) ledger.now entries.items root }
     ensures count { IfOk result (λ v. length v.items ≡ length entries.items) }
     ensures begin { IfOk result (λ v. AllBegin ledger.now root v.items) }
-    ensures passes { IfOk result (λ v. HaveAllPasses v.items) }
+    ensures stealers { IfOk result (λ v. HaveAllStealers v.items) }
     ensures linked { IfOk result (λ v. AreLinked v.items) }
     ensures account { IfOk result (λ v. AccountFor N.rules root v.items) }
 {

@@ -1,13 +1,13 @@
 // All leaves of a root, entered by workers that run at once.
 ghost use Rattle.std.specs.Prelude.{◌≡◌, ◌<◌, ◌≤◌, Some, None, Ok, Err, IfOk, IfErr, length, slice_get, slice_index_or, ℕ};
-ghost use Rattle.std.specs.List.{AllByRecursion};
+ghost use Rattle.std.specs.List.{AllByRecursion, AllZip};
 ghost use Rattle.spec_trees.specs.Tree.{IsSound, IsValid, leaf_count, leaves};
 ghost use Rattle.spec_trees.specs.Order.{CoverRoot, ordered_leaves};
 ghost use Rattle.spec_pool.specs.History.{Sound};
-ghost use Rattle.span_ledger.specs.Seats.{AllFit, AreNew, terms};
+ghost use Rattle.span_ledger.specs.Seats.{AllFit, terms};
 ghost use Rattle.steal_pool.specs.Seats.{IsLeft, IsNamed, Seat};
-ghost use Rattle.steal_pool.specs.Pools.{AccountFor, AreLinked, Beside, IfTooMany};
-ghost use Rattle.steal_pool.specs.Runs.{AreAll, AreFree, AreSeatsOf, HasWorked, HaveEntered, IsLater, IsOverfull};
+ghost use Rattle.steal_pool.specs.Pools.{AccountFor, AreLinked, CanMake, IfTooMany};
+ghost use Rattle.steal_pool.specs.Runs.{AreAll, AreFree, AreSeatsOf, EnteredOnce, HasWorked, HaveEntered, IsLater, IsOverfull};
 ghost use Rattle.steal_pool.specs.declared.seat.PoolError.TheVariants.{TooMany};
 
 use crate::finishing::{FinishError, finish};
@@ -25,8 +25,8 @@ use std::sync::Wait;
 use std::thread;
 use std::thread::Threads;
 
-/// The most workers of a run.
-const MOST: usize = 64;
+/// The most threads of a run.
+const MAX_THREADS: usize = 64;
 
 impl<'p, N: Naming, J: Judge, G: Gate> PoolSeat<'p, N, J, G> {
     // Passes the gate and judges the root, which is in the hand. Where it is to be split, and other workers wait for
@@ -47,7 +47,7 @@ impl<'p, N: Naming, J: Judge, G: Gate> PoolSeat<'p, N, J, G> {
     }
 
     // Works until there is no more to do, or until it is refused.
-    fn work_off<R: Wait>(&mut self, rt: &R)
+    fn drain<R: Wait>(&mut self, rt: &R)
         requires free { self.old.refusal ≡ None }
         ensures { HasWorked N.rules self.old self.new }
     {
@@ -56,7 +56,7 @@ impl<'p, N: Naming, J: Judge, G: Gate> PoolSeat<'p, N, J, G> {
 }
 
 // All seats work at once, each in a thread of its own.
-fn work_all<R: Threads + Wait + Sync, N: Naming + Send + Sync, J: Judge, G: Gate>(
+pub(crate) fn work_all<R: Threads + Wait + Sync, N: Naming + Send + Sync, J: Judge, G: Gate>(
     rt: &R,
     seats: &mut [PoolSeat<N, J, G>],
 )
@@ -67,11 +67,11 @@ fn work_all<R: Threads + Wait + Sync, N: Naming + Send + Sync, J: Judge, G: Gate
     thread::for_each_mut(
         rt,
         seats,
-        MOST,
+        MAX_THREADS,
         &|_, seat: &mut PoolSeat<N, J, G>|
             requires { seat.now.refusal ≡ None }
             ensures { HasWorked N.rules seat.entry.now seat.exit.now }
-        { seat.work_off(rt) },
+        { seat.drain(rt) },
     );
 }
 
@@ -85,7 +85,7 @@ fn begin_and_work<R: Threads + Wait + Sync, N: Naming + Send + Sync, J: Judge, G
     requires hand { (s : Seat) → slice_get seats.old 0 ≡ Some s → s.worker.hand ≡ Some root }
     requires valid { IsValid N.rules root }
     requires free { AreFree seats.old }
-    ensures later { Beside (IsLater N.rules) seats.old seats.new }
+    ensures later { AllZip (IsLater N.rules) seats.old seats.new }
     ensures left { AllByRecursion (IsLeft N.rules) seats.new }
 {
     let shared = seats.len() > 1;
@@ -103,11 +103,7 @@ pub(crate) fn worked<'p, R: Threads + Wait + Sync, N: Naming + Send + Sync, J: J
     root: Node,
     gate: &'p G,
 ) -> Result<Vec<PoolSeat<'p, N, J, G>>, Memory>
-    requires rules { IsNamed N.rules (J.rules judge.now) root }
-    requires root { (terms ledger.now).root ≡ root }
-    requires count { (1 ≤ length entries.items) × (length entries.items ≤ 64) }
-    requires all { length entries.items ≡ (terms ledger.now).seats }
-    requires fresh { AreNew ledger.now entries.items }
+    requires { CanMake N.rules (J.rules judge.now) ledger.now entries.items root }
     ensures count { IfOk result (λ v. length v.items ≡ length entries.items) }
     ensures linked { IfOk result (λ v. AreLinked v.items) }
     ensures left { IfOk result (λ v. AllByRecursion (IsLeft N.rules) v.items) }
@@ -133,7 +129,7 @@ pub(crate) fn closed(ledger: SpanLedger, seats: Vec<LedgerSeat>) -> Book
     book
 }
 
-// The book that a pool leaves, or why there is none.
+// The book that a pool leaves, or why there is none. Where the pool ended, no leaf was entered again.
 fn book_of<N: Naming>(
     ledger: SpanLedger,
     root: Node,
@@ -148,6 +144,7 @@ fn book_of<N: Naming>(
     ensures root { IfOk result (λ book. book.root ≡ root) }
     ensures leaves { IfOk result
         (λ book. ordered_leaves book.entries.items ≡ leaves N.rules root) }
+    ensures once { IfOk ended (λ v. EnteredOnce v.items) }
     ensures few { IfOk result (λ book. length book.entries.items ≤ (terms ledger).limit) }
     ensures too_many { result ≡ Err TooMany → (terms ledger).limit < leaf_count N.rules root }
 {

@@ -1,15 +1,16 @@
 // Seats that work off whole trees: what they push and take, the books that they leave, and workers that meet.
 ghost use Rattle.std.specs.Prelude.{◌≡◌, ◌<◌, None, pos, neg_ℤ, length};
-ghost use Rattle.span_ledger.specs.Seats.{AreNew, terms};
-ghost use Rattle.steal_pool.specs.Seats.{IsLeft, IsNamed, SameSeat};
-ghost use Rattle.spec_trees.specs.declared.cuts.CutRule.TheVariants.{Half, Third};
+ghost use Rattle.steal_pool.specs.Pools.{CanMake};
+ghost use Rattle.steal_pool.specs.Runs.{AreFree};
+ghost use Rattle.steal_pool.specs.Seats.{IsLeft, SameSeat};
+ghost use Rattle.spec_trees.specs.declared.cuts.CutRule.TheVariants.{Half};
 ghost use Rattle.spec_trees.specs.Cuts.{CanCut, cut_of};
 ghost use Rattle.spec_trees.specs.CutExamples.{parts_at};
-ghost use Rattle.halving.specs.TestJudges.{thirds, thirds_are_sound};
 ghost use Rattle.steal_pool.specs.TestJudges.{long_crossing, long_crossing_is_sound, span, stairs, stairs_are_sound};
 
 use super::*;
-use crate::running::{closed, worked};
+use crate::finishing::keep_none;
+use crate::running::{closed, work_all, worked};
 use gf_edges::{Gate, OpenGate};
 use halving::{Judge, Node, Turn, Verdict};
 use span_ledger::{Book, LedgerSeat, SpanLedger};
@@ -45,35 +46,6 @@ fn parts_at(time: i64, node: Node) -> (Node, Node)
         depth,
     };
     (left, right)
-}
-
-// Cuts what is wider than two seconds at its first third.
-struct Thirds;
-
-fn first_third(a: i64, b: i64) -> i64
-    requires { CanCut a b }
-    ensures { result ≡ cut_of Third a b }
-{
-    let third = (b - a) / 3;
-    if third < 1 { a + 1 } else { a + third }
-}
-
-impl Judge for Thirds {
-    ghost rules = { λ _. thirds };
-
-    fn judge(&self, node: Node) -> Verdict {
-        if node.b - node.a > 2 && node.depth < 100 {
-            Verdict::Split
-        } else {
-            Verdict::Clear
-        }
-    }
-
-    fn cut(&self, node: Node) -> (Node, Node) {
-        parts_at(first_third(node.a, node.b), node)
-    }
-
-    ghost sound = { λ _. thirds_are_sound };
 }
 
 // Halves what holds second 1339200, down to 50 seconds.
@@ -132,67 +104,64 @@ impl Judge for Stairs {
 #[test]
 fn any_number_of_workers_finds_the_leaves(rt: HostRuntime) -> Result<(), Fail> {
     for workers in [1u32, 2, 64] {
-        let Ok(book) = run(&rt, rt.alloc(), &Thirds, span(0, 8), workers, 5, &OpenGate) else {
+        let Ok(book) = run(&rt, rt.alloc(), &Stairs, span(0, 8), workers, 8, &OpenGate) else {
             assert!(rt; false);
             return Ok(());
         };
-        assert_eq!(rt; book.entries.len(), 5);
-    }
-    Ok(())
-}
-
-#[test]
-fn one_leaf_more_than_the_limit(rt: HostRuntime) -> Result<(), Fail> {
-    for workers in [1u32, 2, 64] {
-        match run(&rt, rt.alloc(), &Thirds, span(0, 8), workers, 4, &OpenGate) {
-            Ok(_) => assert!(rt; false),
-            Err(error) => assert_eq!(rt; error, PoolError::TooMany),
-        }
+        assert_eq!(rt; book.entries.len(), 8);
+        let Err(error) = run(&rt, rt.alloc(), &Stairs, span(0, 8), workers, 7, &OpenGate) else {
+            assert!(rt; false);
+            return Ok(());
+        };
+        assert_eq!(rt; error, PoolError::TooMany);
     }
     Ok(())
 }
 
 const TURNS: u64 = 200_000_000;
 
-// Holds worker 0 at its second pass until worker 1 has come, and worker 1 at its first until worker 0 has come to its
-// second.
+// Holds worker 0 at its second pass until another worker has come, and each other at its first until worker 0 has come
+// to its second.
 #[derive(Drop)]
 struct Meeting {
     first: AtomicU64,
-    second: AtomicU64,
+    others: AtomicU64,
     given_up: AtomicU64,
 }
 
-impl Meeting {
-    fn wait_for(&self, passes: &AtomicU64, least: u64) {
-        for _ in 0..TURNS {
-            if passes.load(Ordering::SeqCst) >= least {
-                return;
-            }
+fn wait_for(passes: &AtomicU64, least: u64, given_up: &AtomicU64) {
+    for _ in 0..TURNS {
+        if passes.load(Ordering::SeqCst) >= least {
+            return;
         }
-        self.given_up.store(1, Ordering::SeqCst);
     }
+    given_up.store(1, Ordering::SeqCst);
 }
 
 impl Gate for Meeting {
     fn pass(&self, worker: u32) {
         if worker == 0 {
             if self.first.fetch_add(1, Ordering::SeqCst) == 1 {
-                self.wait_for(&self.second, 1);
+                wait_for(&self.others, 1, &self.given_up);
             }
-        } else if self.second.fetch_add(1, Ordering::SeqCst) == 0 {
-            self.wait_for(&self.first, 2);
+        } else {
+            self.others.fetch_add(1, Ordering::SeqCst);
+            wait_for(&self.first, 2, &self.given_up);
         }
+    }
+}
+
+fn new_meeting() -> Meeting {
+    Meeting {
+        first: AtomicU64::new(0),
+        others: AtomicU64::new(0),
+        given_up: AtomicU64::new(0),
     }
 }
 
 #[test]
 fn two_workers_meet(rt: HostRuntime) -> Result<(), Fail> {
-    let gate = Meeting {
-        first: AtomicU64::new(0),
-        second: AtomicU64::new(0),
-        given_up: AtomicU64::new(0),
-    };
+    let gate = new_meeting();
     let root = span(-43_200, 2_721_600);
     let Ok(book) = run(&rt, rt.alloc(), &Crossing, root, 2, 1000, &gate) else {
         assert!(rt; false);
@@ -250,11 +219,8 @@ fn book_of_one<N: Naming, R: Abort + Wait>(
     ledger: SpanLedger,
     entries: Vec<LedgerSeat>,
 ) -> Option<Book>
-    requires rules { IsNamed N.rules stairs (span (pos 0) (pos 100)) }
-    requires root { (terms ledger).root ≡ span (pos 0) (pos 100) }
+    requires pool { CanMake N.rules stairs ledger entries.items (span (pos 0) (pos 100)) }
     requires one { length entries.items ≡ 1 }
-    requires all { length entries.items ≡ (terms ledger).seats }
-    requires fresh { AreNew ledger entries.items }
 {
     let root = span(0, 100);
     let Ok(mut seats) = make::<N, Stairs, OpenGate>(
@@ -282,16 +248,6 @@ fn a_deque_takes_64_nodes_in_a_row(rt: HostRuntime) -> Result<(), Fail> {
         return Ok(());
     };
     let Some(book) = book_of_one::<Brand, _>(&rt, rt.alloc(), ledger, entries) else {
-        assert!(rt; false);
-        return Ok(());
-    };
-    assert_eq!(rt; book.entries.len(), 100);
-    Ok(())
-}
-
-#[test]
-fn nodes_that_were_kept_are_entered(rt: HostRuntime) -> Result<(), Fail> {
-    let Ok(book) = run(&rt, rt.alloc(), &Stairs, span(0, 100), 1, 100, &OpenGate) else {
         assert!(rt; false);
         return Ok(());
     };
@@ -327,11 +283,9 @@ fn book_of_two<N: Naming, R: Abort + Wait>(
     ledger: SpanLedger,
     entries: Vec<LedgerSeat>,
 ) -> Option<Book>
-    requires rules { IsNamed N.rules long_crossing (span (pos 1339000) (pos 1339400)) }
-    requires root { (terms ledger).root ≡ span (pos 1339000) (pos 1339400) }
+    requires pool { CanMake N.rules long_crossing ledger entries.items
+        (span (pos 1339000) (pos 1339400)) }
     requires two { length entries.items ≡ 2 }
-    requires all { length entries.items ≡ (terms ledger).seats }
-    requires fresh { AreNew ledger entries.items }
 {
     let root = span(1_339_000, 1_339_400);
     let Ok(mut seats) = make::<N, Crossing, OpenGate>(
@@ -391,46 +345,173 @@ fn a_seat_takes_what_another_put_on_its_deque(rt: HostRuntime) -> Result<(), Fai
     Ok(())
 }
 
-// Counts its passes.
-#[derive(Drop)]
-struct Counting {
-    passes: AtomicU64,
-}
-
-impl Gate for Counting {
-    fn pass(&self, _worker: u32) {
-        self.passes.fetch_add(1, Ordering::SeqCst);
+// Works, unless the seat keeps a refusal.
+fn works<N: Naming, J: Judge, G: Gate, R: Wait>(rt: &R, seat: &mut PoolSeat<N, J, G>) -> bool {
+    match seat.refusal {
+        Some(_) => false,
+        None => seat.work(rt).is_ok(),
     }
 }
 
-// Four seats that work in threads of their own, and what is left for the end of their pool.
+// A seat puts the right part of its node on its deque, another takes it, and the first works off what it has. No other
+// deque holds a node meanwhile.
+fn hand_over<N: Naming, R: Abort + Wait>(
+    rt: &R,
+    seats: &mut [PoolSeat<N, Crossing, OpenGate>],
+    owner: usize,
+    taker: usize,
+)
+    requires inside { (owner < length seats.old) × (taker < length seats.old) }
+{
+    assert_eq!(rt; push_right(&mut seats[owner]), Some(Pushed::OnDeque));
+    assert!(rt; take_next(&mut seats[taker]).is_some());
+    assert!(rt; works(rt, &mut seats[owner]));
+}
+
+// A way over four seats on which each hands over to each other one once.
+const WAY: [(usize, usize); 12] = [
+    (0, 1),
+    (1, 0),
+    (0, 2),
+    (2, 0),
+    (0, 3),
+    (3, 1),
+    (1, 2),
+    (2, 1),
+    (1, 3),
+    (3, 2),
+    (2, 3),
+    (3, 0),
+];
+
+fn hand_round<N: Naming, R: Abort + Wait>(
+    rt: &R,
+    alloc: Global,
+    ledger: &SpanLedger,
+    entries: Vec<LedgerSeat>,
+) -> bool
+    requires { CanMake N.rules long_crossing ledger.now entries.items
+        (span (neg_ℤ (pos 43200)) (pos 1339200)) }
+{
+    let root = span(-43_200, 1_339_200);
+    let Ok(mut seats) = make::<N, Crossing, OpenGate>(
+        alloc, &Crossing, ledger, entries, root, &OpenGate,
+    ) else {
+        return false;
+    };
+    for (owner, taker) in WAY {
+        if owner >= seats.len() || taker >= seats.len() {
+            return false;
+        }
+        hand_over(rt, seats.as_mut_slice(), owner, taker);
+    }
+    true
+}
+
+#[test]
+fn each_of_four_seats_steals_from_each_other_one(rt: HostRuntime) -> Result<(), Fail> {
+    let root = span(-43_200, 1_339_200);
+    let Ok((ledger, entries)) = SpanLedger::new(rt.alloc(), root, 1000, 4) else {
+        assert!(rt; false);
+        return Ok(());
+    };
+    assert!(rt; hand_round::<Brand, _>(&rt, rt.alloc(), &ledger, entries));
+    Ok(())
+}
+
+// Once it is closed, holds each worker until four have come.
+#[derive(Drop)]
+struct Four {
+    closed: AtomicU64,
+    come: AtomicU64,
+    given_up: AtomicU64,
+}
+
+impl Gate for Four {
+    fn pass(&self, _worker: u32) {
+        if self.closed.load(Ordering::SeqCst) == 1 {
+            self.come.fetch_add(1, Ordering::SeqCst);
+            wait_for(&self.come, 4, &self.given_up);
+        }
+    }
+}
+
+// A seat puts the right parts of three splits on its deque.
+fn push_three<N: Naming>(seats: &mut [PoolSeat<N, Stairs, Four>]) -> bool {
+    if seats.len() == 0 {
+        return false;
+    }
+    for _ in 0..3 {
+        let Some(Pushed::OnDeque) = push_right(&mut seats[0]) else {
+            return false;
+        };
+    }
+    true
+}
+
+// Three nodes lie on the deque of the first of four seats when all begin, so each of the others takes one.
+fn meet<N: Naming + Send + Sync, R: Threads + Wait + Sync>(
+    rt: &R,
+    alloc: Global,
+    ledger: &SpanLedger,
+    entries: Vec<LedgerSeat>,
+) -> bool
+    requires { CanMake N.rules stairs ledger.now entries.items (span (pos 0) (pos 100)) }
+{
+    let gate = Four {
+        closed: AtomicU64::new(0),
+        come: AtomicU64::new(0),
+        given_up: AtomicU64::new(0),
+    };
+    let root = span(0, 100);
+    let Ok(mut seats) = make::<N, Stairs, Four>(alloc, &Stairs, ledger, entries, root, &gate) else {
+        return false;
+    };
+    let pushed = push_three(seats.as_mut_slice());
+    if !keep_none(seats.as_slice()) {
+        return false;
+    }
+    gate.closed.store(1, Ordering::SeqCst);
+    work_all(rt, seats.as_mut_slice());
+    pushed && gate.given_up.load(Ordering::SeqCst) == 0
+}
+
+#[test]
+fn four_workers_meet(rt: HostRuntime) -> Result<(), Fail> {
+    let Ok((ledger, entries)) = SpanLedger::new(rt.alloc(), span(0, 100), 100, 4) else {
+        assert!(rt; false);
+        return Ok(());
+    };
+    assert!(rt; meet::<Brand, _>(&rt, rt.alloc(), &ledger, entries));
+    Ok(())
+}
+
+// Four seats that work in threads of their own, of which the first and another meet, and what is left for the end of their
+// pool.
 fn leave_nothing<N: Naming + Send + Sync, R: Abort + Threads + Wait + Sync>(
     rt: &R,
     alloc: Global,
     ledger: &SpanLedger,
     entries: Vec<LedgerSeat>,
 ) -> Result<(), Fail>
-    requires rules { IsNamed N.rules long_crossing (span (neg_ℤ (pos 43200)) (pos 2721600)) }
-    requires root { (terms ledger.now).root ≡ span (neg_ℤ (pos 43200)) (pos 2721600) }
-    requires four { length entries.items ≡ 4 }
-    requires all { length entries.items ≡ (terms ledger.now).seats }
-    requires fresh { AreNew ledger.now entries.items }
+    requires { CanMake N.rules long_crossing ledger.now entries.items
+        (span (neg_ℤ (pos 43200)) (pos 2721600)) }
 {
-    let gate = Counting {
-        passes: AtomicU64::new(0),
-    };
+    let gate = new_meeting();
     let root = span(-43_200, 2_721_600);
-    let Ok(seats) = worked::<R, N, Crossing, Counting>(
+    let Ok(seats) = worked::<R, N, Crossing, Meeting>(
         rt, alloc, &Crossing, ledger, entries, root, &gate,
     ) else {
         assert!(rt; false);
         return Ok(());
     };
-    let passes = gate.passes.load(Ordering::SeqCst);
-    assert!(rt; passes > 2);
+    assert_eq!(rt; gate.given_up.load(Ordering::SeqCst), 0);
+    let first = gate.first.load(Ordering::SeqCst);
+    let others = gate.others.load(Ordering::SeqCst);
     let ended = finish(rt, alloc, seats);
     assert!(rt; ended.is_ok());
-    assert_eq!(rt; gate.passes.load(Ordering::SeqCst), passes);
+    assert_eq!(rt; gate.first.load(Ordering::SeqCst), first);
+    assert_eq!(rt; gate.others.load(Ordering::SeqCst), others);
     Ok(())
 }
 

@@ -19,8 +19,8 @@ impl Naming for Brand {
     ghost rules = { no_rules };
 }
 
-/// What an end of a deque knows: whether it is its owner's (1 or 0), how many passes the owner has made and not joined,
-/// whether it is such a pass (1 or 0), and the nodes that were put and taken by it. Contracts alone speak of it; no
+/// What an end of a deque knows: whether it is its owner's (1 or 0), how many stealers the owner has made and not joined,
+/// whether it is such a stealer (1 or 0), and the nodes that were put and taken by it. Contracts alone speak of it; no
 /// value of it is made.
 pub struct View {
     pub owner: u64,
@@ -68,7 +68,7 @@ impl<N: Naming> Outcome<Node, View> for Takes<N> {
     ghost empty = { IsUsedUp };
 }
 
-/// A steal. Where it gives no node, the thief learns nothing.
+/// A steal. Where it gives no node, the stealer learns nothing.
 pub struct Steals<N> {
     of: PhantomData<N>,
 }
@@ -79,15 +79,15 @@ impl<N: Naming> Outcome<Node, View> for Steals<N> {
     ghost then = { HasTaken N.rules };
 }
 
-/// Making a pass, and joining it.
+/// Making a stealer, and joining it.
 pub struct Ways;
 
 impl Split<View> for Ways {
-    ghost use Rattle.steal_pool.specs.Rule.{made_one, pass_out};
+    ghost use Rattle.steal_pool.specs.Rule.{made_one, stealer_out};
 
     ghost left = { made_one };
 
-    ghost right = { λ v. pass_out };
+    ghost right = { λ v. stealer_out };
 }
 
 impl Join<View> for Ways {

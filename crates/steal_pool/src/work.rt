@@ -1,11 +1,11 @@
 // What a seat does: it puts the right part of a node away, takes the next node, and works until it finds none.
-ghost use Rattle.std.specs.Prelude.{◌≡◌, ◌<◌, ◌≤◌, [], Some, None, IfSome, IfNone, OnOk, IfErr, length};
+ghost use Rattle.std.specs.Prelude.{◌≡◌, ◌<◌, ◌≤◌, ◌+◌, [], Some, None, IfSome, IfNone, MatchOption, OnOk, IfErr, length};
 ghost use Rattle.spec_trees.specs.declared.tree.Node.{Node};
 ghost use Rattle.spec_trees.specs.Tree.{IsLeaf, IsValid, mark_of};
 ghost use Rattle.spec_trees.specs.declared.tree.Verdict.TheVariants.{Split};
-ghost use Rattle.spec_pool.specs.Accounts.{PutsRight, KeepsRight};
+ghost use Rattle.spec_pool.specs.Accounts.{EntersNode, KeepsRight, PutsRight};
 ghost use Rattle.steal_pool.specs.Rule.{IsUsedUp};
-ghost use Rattle.steal_pool.specs.Workers.{IsRight};
+ghost use Rattle.steal_pool.specs.Workers.{FindsNone, IsRight, Takes};
 ghost use Rattle.steal_pool.specs.Seats.{Changes, Gets, IsFull, IsHolding, IsLeft, SameSeat, Works, with_refusal};
 ghost use Rattle.steal_pool.specs.declared.worker.Pushed.TheVariants.{OnDeque, Kept, Memory};
 ghost use Rattle.steal_pool.specs.declared.seat.PoolError.TheVariants.{TooMany, Memory as OutOfMemory};
@@ -20,14 +20,18 @@ use spec_trees::Leaf;
 use std::sync::Wait;
 
 impl<'p, N: Naming, J: Judge, G: Gate> PoolSeat<'p, N, J, G> {
-    /// Puts the right part of the node in the hand, which is to be split, at the back of the own deque or on the own
-    /// kept stack; the left part stays in the hand. The kept stack takes it where the deque hands it back, and where 64
-    /// nodes were put on the deque since a pop of its owner last gave nothing.
+    /// Puts the right part of the node in the hand, which is to be split, at the back of the own deque (`OnDeque`) or on
+    /// the own local stack (`Kept`); the left part stays in the hand. The local stack takes it where the deque hands it
+    /// back, and where 64 nodes were put on the deque in a row, with no pop of its owner between that gave nothing.
     pub fn push(&mut self, right: Node) -> Pushed
         requires right { IsRight N.rules self.old.worker right }
         ensures deque { result ≡ OnDeque → Changes (PutsRight N.rules right) self.old self.new }
-        ensures few { result ≡ OnDeque → self.old.worker.since < 64 }
+        ensures few { result ≡ OnDeque → self.old.worker.pushed_in_a_row < 64 }
         ensures kept { result ≡ Kept → Changes (KeepsRight N.rules) self.old self.new }
+        ensures counted { result ≡ OnDeque
+            → self.new.worker.pushed_in_a_row ≡ self.old.worker.pushed_in_a_row + 1 }
+        ensures uncounted { result ≡ Kept
+            → self.new.worker.pushed_in_a_row ≡ self.old.worker.pushed_in_a_row }
         ensures memory { (n : Node) → result ≡ Memory n → (n ≡ right) × (self.new ≡ self.old) }
         ensures first { length self.old.worker.own.view.put < 64 → result ≡ OnDeque }
         ensures same { SameSeat self.old self.new }
@@ -41,12 +45,14 @@ impl<'p, N: Naming, J: Judge, G: Gate> PoolSeat<'p, N, J, G> {
         self.worker.push(left, right)
     }
 
-    /// Takes the next node into the empty hand: the top of the own kept stack, else the front of the own deque, else
-    /// that of another worker's, by at most 10,000 looks at these. Nothing is said of the other deques where none is
-    /// found. It takes no memory and waits for nobody.
+    /// Takes the next node into the empty hand: the top of the own local stack; where that is empty, a node of the own
+    /// deque; where that gives none, a node of another worker's deque, by at most 10,000 steal attempts at all of these.
+    /// Nothing is said of the other deques where none is found. It does not allocate, and waits for nobody.
     pub fn take(&mut self) -> Option<Node>
         requires empty { self.old.worker.hand ≡ None }
         ensures taken { IfSome result (λ n. Changes (Gets n) self.old self.new) }
+        ensures order { MatchOption result (FindsNone self.old.worker self.new.worker)
+            (λ n. Takes n self.old.worker self.new.worker) }
         ensures kept { IfNone result ((self.old.worker.kept ≡ []) × (self.new.worker.kept ≡ [])) }
         ensures hand { IfNone result (self.new.worker.hand ≡ None) }
         ensures used_up { IfNone result (IsUsedUp self.new.worker.own.view) }
@@ -76,6 +82,7 @@ impl<'p, N: Naming, J: Judge, G: Gate> PoolSeat<'p, N, J, G> {
     fn enter<R: Wait>(&mut self, rt: &R, leaf: Leaf) -> Result<(), PoolError>
         requires hand { self.old.worker.hand ≡ Some leaf.node }
         requires leaf { IsLeaf N.rules leaf }
+        ensures entered { OnOk result (Changes (EntersNode N.rules) self.old self.new) }
         ensures works { Works N.rules self.old self.new }
         ensures same { SameSeat self.old self.new }
         ensures refusal { self.new.refusal ≡ self.old.refusal }
@@ -85,11 +92,11 @@ impl<'p, N: Naming, J: Judge, G: Gate> PoolSeat<'p, N, J, G> {
         rules_are_sound(self.judge);
         match self.ledger.enter(rt, &mut self.entries, leaf) {
             Entry::Entered { place: _ } => {
-                self.worker.lay_down();
+                self.worker.clear_hand();
                 Ok(())
             }
             Entry::Again { place: _ } => {
-                self.worker.lay_down();
+                self.worker.clear_hand();
                 Ok(())
             }
             Entry::Full => Err(PoolError::TooMany),

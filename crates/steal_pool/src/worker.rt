@@ -1,22 +1,19 @@
-// A worker: the end of its own deque, its passes on the others, its hand and its kept stack.
+// A worker: the end of its own deque, its stealers on the others, its hand and its local stack.
 ghost use Rattle.std.specs.Prelude.{◌≡◌, ◌<◌, ◌≤◌, [], Some, None, MatchOption, IsTrue, IsFalse, IfOk, IfSome, OnOk, length};
 ghost use Rattle.spec_trees.specs.declared.tree.Node.{Node};
 ghost use Rattle.spec_trees.specs.Tree.{IsSound, IsValid};
 ghost use Rattle.steal_pool.specs.Rule.{HasLeft, IsUsedUp};
-ghost use Rattle.steal_pool.specs.Workers.{FindsNone, IsNew, IsSplit, TookOne, Takes, TakesKept, TakesOther, TakesOwn, Gives, gains, joins, lends, looked, new_pass, on_deque, on_stack, with_hand};
+ghost use Rattle.steal_pool.specs.Workers.{FindsNone, IsNew, IsSplit, TookOne, Takes, TakesKept, TakesOther, TakesOwn, Gives, gains, joins, lends, after_empty_pop, new_stealer, on_deque, on_stack, with_hand};
 ghost use Rattle.steal_pool.specs.declared.worker.Pushed.TheVariants.{OnDeque, Kept, Memory as OutOfMemory};
 
-use crate::ends::{Owner, ROOM, Thief};
+use crate::ends::{Attempts, Owner, ROOM, Stealer};
 use crate::view::Naming;
 use spec_pool::Memory;
 use spec_trees::Node;
 use std::alloc::Global;
 use std::marker::Model;
 
-/// The most looks at other workers' deques in one search for a node.
-const SCANS: u32 = 10_000;
-
-/// Where the right part of a node was put: on the own deque, on the own kept stack, or nowhere for want of memory.
+/// Where the right part of a node was put: on the own deque, on the own local stack, or nowhere, out of memory.
 #[derive(Debug, Drop, PartialEq, Eq)]
 pub enum Pushed {
     OnDeque,
@@ -27,8 +24,8 @@ pub enum Pushed {
 #[derive(Drop)]
 pub struct Worker<N: Naming> {
     own: Owner<N>,
-    passes: Vec<Thief<N>>,
-    since: usize,
+    stealers: Vec<Stealer<N>>,
+    pushed_in_a_row: usize,
     hand: Option<Node>,
     kept: Vec<Node>,
 }
@@ -38,20 +35,20 @@ impl<N: Naming> Model for Worker<N> {
 
     ghost Value = { Holder };
 
-    ghost view = { λ w. holder_of w.own w.passes.items w.since w.hand w.kept.items };
+    ghost view = { λ w. holder_of w.own w.stealers.items w.pushed_in_a_row w.hand w.kept.items };
 
     ghost invariant = { λ w. Stands N.rules
-        (holder_of w.own w.passes.items w.since w.hand w.kept.items) };
+        (holder_of w.own w.stealers.items w.pushed_in_a_row w.hand w.kept.items) };
 }
 
-// Takes the front of the first deque that gives a node, by at most `scans` looks at all of them.
-fn steal_from<N: Naming>(passes: &mut [Thief<N>], scans: u32) -> Option<Node>
-    ensures taken { MatchOption result (passes.new ≡ passes.old)
-        (λ n. TookOne n passes.old passes.new × IsValid N.rules n) }
+// Takes the front of the first deque that gives a node, while attempts are left.
+fn steal_from<N: Naming>(stealers: &mut [Stealer<N>], attempts: &mut Attempts) -> Option<Node>
+    ensures taken { MatchOption result (stealers.new ≡ stealers.old)
+        (λ n. TookOne n stealers.old stealers.new × IsValid N.rules n) }
+    ensures fewer { attempts.new.left ≤ attempts.old.left }
 {
-    let mut left = scans;
-    for pass in passes.iter_mut() {
-        if let Some(node) = pass.steal(&mut left) {
+    for stealer in stealers.iter_mut() {
+        if let Some(node) = stealer.steal(attempts) {
             return Some(node);
         }
     }
@@ -59,7 +56,7 @@ fn steal_from<N: Naming>(passes: &mut [Thief<N>], scans: u32) -> Option<Node>
 }
 
 impl<N: Naming> Worker<N> {
-    /// A worker with this number and a deque that holds nothing. It has no pass on another deque.
+    /// A worker with this number and a deque that holds nothing. It has no stealer on another deque.
     pub fn new(alloc: Global, number: u32, hand: Option<Node>) -> Result<Worker<N>, Memory>
         requires hand { (n : Node) → hand ≡ Some n → IsValid N.rules n }
         ensures new { IfOk result (λ w. IsNew number hand w) }
@@ -67,8 +64,8 @@ impl<N: Naming> Worker<N> {
         let own = Owner::<N>::open(alloc, number)?;
         Ok(Worker {
             own,
-            passes: Vec::new(alloc),
-            since: 0,
+            stealers: Vec::new(alloc),
+            pushed_in_a_row: 0,
             hand,
             kept: Vec::new(alloc),
         })
@@ -83,13 +80,13 @@ impl<N: Naming> Worker<N> {
     }
 
     /// Empties the hand, once its node is entered.
-    pub fn lay_down(&mut self)
+    pub fn clear_hand(&mut self)
         ensures { self.new ≡ with_hand self.old None }
     {
         self.hand = None;
     }
 
-    // Takes the top of the kept stack into the empty hand.
+    // Takes the top of the local stack into the empty hand.
     fn take_kept(&mut self) -> Option<Node>
         ensures taken { MatchOption result ((self.old.kept ≡ []) × (self.new ≡ self.old))
             (λ n. TakesKept n self.old self.new) }
@@ -106,7 +103,7 @@ impl<N: Naming> Worker<N> {
     // Takes the front of the own deque into the empty hand, or notes that it gave nothing.
     fn take_own(&mut self) -> Option<Node>
         ensures taken { MatchOption result
-            (IsUsedUp self.old.own.view × (self.new ≡ looked self.old))
+            (IsUsedUp self.old.own.view × (self.new ≡ after_empty_pop self.old))
             (λ n. TakesOwn n self.old self.new) }
     {
         match self.own.pop() {
@@ -115,7 +112,7 @@ impl<N: Naming> Worker<N> {
                 Some(node)
             }
             None => {
-                self.since = 0;
+                self.pushed_in_a_row = 0;
                 None
             }
         }
@@ -126,7 +123,8 @@ impl<N: Naming> Worker<N> {
         ensures taken { MatchOption result (self.new ≡ self.old)
             (λ n. TakesOther n self.old self.new) }
     {
-        match steal_from(self.passes.as_mut_slice(), SCANS) {
+        let mut attempts = Attempts::of_search();
+        match steal_from(self.stealers.as_mut_slice(), &mut attempts) {
             Some(node) => {
                 self.hand = Some(node);
                 Some(node)
@@ -135,8 +133,8 @@ impl<N: Naming> Worker<N> {
         }
     }
 
-    /// Takes the next node into the empty hand: the top of the kept stack, else the front of the own deque, else that of
-    /// another one, by at most 10,000 looks. It takes no memory.
+    /// Takes the next node into the empty hand: the top of the local stack; where that is empty, a node of the own deque;
+    /// where that gives none, a node of another deque, by at most 10,000 steal attempts. It does not allocate.
     pub fn take(&mut self) -> Option<Node>
         ensures taken { MatchOption result (FindsNone self.old self.new)
             (λ n. Takes n self.old self.new) }
@@ -155,16 +153,16 @@ impl<N: Naming> Worker<N> {
         requires split { IsSplit N.rules self.old left right }
         requires sound { IsSound N.rules }
         ensures put { IsTrue result
-            → (self.new ≡ on_deque self.old left right) × (self.old.since < 64) }
+            → (self.new ≡ on_deque self.old left right) × (self.old.pushed_in_a_row < 64) }
         ensures refused { IsFalse result
             → (self.new ≡ self.old) × (64 ≤ length self.old.own.view.put) }
     {
-        if self.since >= ROOM {
+        if self.pushed_in_a_row >= ROOM {
             return false;
         }
         match self.own.push(right) {
             Ok(()) => {
-                self.since += 1;
+                self.pushed_in_a_row += 1;
                 self.hand = Some(left);
                 true
             }
@@ -172,7 +170,7 @@ impl<N: Naming> Worker<N> {
         }
     }
 
-    // Puts the right part on the kept stack.
+    // Puts the right part on the local stack.
     fn keep(&mut self, left: Node, right: Node) -> bool
         requires split { IsSplit N.rules self.old left right }
         requires sound { IsSound N.rules }
@@ -188,13 +186,13 @@ impl<N: Naming> Worker<N> {
         }
     }
 
-    /// Puts the right part of the node in the hand on the own deque, or else on the kept stack; the left part stays in
-    /// the hand. At most 64 nodes go to the deque in a row without a pop that gives nothing, so it never holds more.
+    /// Puts the right part of the node in the hand on the own deque, or else on the local stack; the left part stays in
+    /// the hand. At most 64 nodes in a row go to the deque without a pop that gives nothing, so it never holds more.
     pub fn push(&mut self, left: Node, right: Node) -> Pushed
         requires split { IsSplit N.rules self.old left right }
         requires sound { IsSound N.rules }
         ensures deque { result ≡ OnDeque → self.new ≡ on_deque self.old left right }
-        ensures few { result ≡ OnDeque → self.old.since < 64 }
+        ensures few { result ≡ OnDeque → self.old.pushed_in_a_row < 64 }
         ensures kept { result ≡ Kept → self.new ≡ on_stack self.old left right }
         ensures memory { (n : Node) → result ≡ OutOfMemory n → (n ≡ right) × (self.new ≡ self.old) }
         ensures first { length self.old.own.view.put < 64 → result ≡ OnDeque }
@@ -208,44 +206,44 @@ impl<N: Naming> Worker<N> {
         Pushed::Memory(right)
     }
 
-    /// A pass on its own deque, for another worker.
-    pub fn lend_pass(&mut self) -> Result<Thief<N>, Memory>
+    /// A stealer on its own deque, for another worker.
+    pub fn lend_stealer(&mut self) -> Result<Stealer<N>, Memory>
         ensures made { OnOk result (self.new ≡ lends self.old) }
-        ensures pass { IfOk result (λ e. e ≡ new_pass self.old) }
+        ensures stealer { IfOk result (λ e. e ≡ new_stealer self.old) }
     {
-        self.own.make_pass()
+        self.own.make_stealer()
     }
 
-    /// Keeps a pass on another worker's deque.
-    pub fn keep_pass(&mut self, pass: Thief<N>) -> Result<(), Memory>
-        ensures { OnOk result (self.new ≡ gains self.old pass) }
+    /// Keeps a stealer on another worker's deque.
+    pub fn keep_stealer(&mut self, stealer: Stealer<N>) -> Result<(), Memory>
+        ensures { OnOk result (self.new ≡ gains self.old stealer) }
     {
-        let Ok(_) = self.passes.push(pass) else {
+        let Ok(_) = self.stealers.push(stealer) else {
             return Err(Memory);
         };
         Ok(())
     }
 
-    /// Gives its last pass away, if it has one.
-    pub fn give_pass(&mut self) -> Option<Thief<N>>
-        ensures { MatchOption result ((self.old.passes ≡ []) × (self.new ≡ self.old))
+    /// Gives its last stealer away, if it has one.
+    pub fn give_stealer(&mut self) -> Option<Stealer<N>>
+        ensures { MatchOption result ((self.old.stealers ≡ []) × (self.new ≡ self.old))
             (λ e. Gives e self.old self.new) }
     {
-        self.passes.pop()
+        self.stealers.pop()
     }
 
-    /// Joins a pass on its own deque: what the pass took stands with what the worker took there.
-    pub fn join_pass(&mut self, pass: Thief<N>)
-        requires ours { pass.deque ≡ self.old.own.deque }
+    /// Joins a stealer on its own deque: what the stealer took stands with what the worker took there.
+    pub fn join_stealer(&mut self, stealer: Stealer<N>)
+        requires ours { stealer.deque ≡ self.old.own.deque }
         requires made { 0 < self.old.own.view.made }
-        ensures joined { self.new ≡ joins self.old pass }
+        ensures joined { self.new ≡ joins self.old stealer }
     {
-        self.own.join_pass(pass);
+        self.own.join_stealer(stealer);
     }
 
-    /// Looks at its own deque for the last time. Where no pass is out, what was put there is what was taken and what is
+    /// Pops its own deque for the last time. Where no stealer is out, what was put there is what was taken and what is
     /// left.
-    pub fn leave(mut self)
+    pub fn last_pop(mut self)
         ensures { HasLeft self.own.view }
     {
         let _left = self.own.pop();

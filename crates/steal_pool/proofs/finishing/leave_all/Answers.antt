@@ -1,7 +1,7 @@
 use Rattle.std.proofs.Common.{sym, subst, arith}
-use Rattle.steal_pool.specs.Pools.{Beside}
+use Rattle.std.specs.List.{AllZip}
 use Rattle.steal_pool.specs.Closing.{Leaves}
-use Rattle.steal_pool.proofs.Listing.{beside_push, whole_step, whole_end}
+use Rattle.steal_pool.proofs.Listing.{zip_push, whole_step, whole_end}
 use Rattle.steal_pool.proofs.finishing.leave_all.Goals as goal
 
 pub loop-seat-init : goal.loop-seat-init
@@ -9,11 +9,11 @@ loop-seat-init g c = record { left = rw c.new-entries.ensures.items tt; whole = 
 
 pub loop-seat-preserved : goal.loop-seat-preserved
 loop-seat-preserved g c = record {
-  left = rw c.in-Ok.ensures.items (beside_push Leaves c.loop-seat.yielded c.loop-seat.entries.items c.in-Some.seat c.leave.result c.loop-seat.invariant.left c.leave.ensures);
+  left = rw c.in-Ok.ensures.items (zip_push Leaves c.loop-seat.yielded c.loop-seat.entries.items c.in-Some.seat c.leave.result c.loop-seat.invariant.left c.leave.ensures);
   whole = whole_step c.args.seats.items c.loop-seat.yielded c.loop-seat.seat-iterator.rest.items c.next.new.self.rest.items c.in-Some.seat c.loop-seat.invariant.whole c.in-Some.ensures.steps.0;
 }
 
 pub returns : goal.returns
-returns g c = subst (λ ss. Beside Leaves ss c.loop-seat.entries.items)
+returns g c = subst (λ ss. AllZip Leaves ss c.loop-seat.entries.items)
     (sym (whole_end c.args.seats.items c.loop-seat.yielded c.loop-seat.seat-iterator.rest.items c.loop-seat.invariant.whole (omega (arith, c.loop-seat.seat-iterator.rest.ok.0, c.in-None.ensures.steps.0))))
     c.loop-seat.invariant.left

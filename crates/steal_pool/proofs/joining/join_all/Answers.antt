@@ -1,5 +1,5 @@
 use Rattle.std.proofs.Common.{◌∙◌, length, refl, arith}
-use Rattle.steal_pool.specs.Passes.{HasNoPass}
+use Rattle.steal_pool.specs.Stealers.{HasNoStealer}
 use Rattle.steal_pool.proofs.Gathering.{joined_length, joined_more, joined_self}
 use Rattle.steal_pool.proofs.Scanning.{before_all}
 use Rattle.steal_pool.proofs.joining.join_all.Goals as goal
@@ -16,4 +16,4 @@ loop-i-preserved g c = record {
 }
 
 pub returns-clause-none : goal.returns-clause-none
-returns-clause-none g c = before_all HasNoPass c.loop-i.seats (length c.loop-i.seats) (omega arith) (λ k s at b. c.loop-i.invariant.before k s at (omega (arith, b, c.loop-i.invariant.len, c.loop-i-test.false)))
+returns-clause-none g c = before_all HasNoStealer c.loop-i.seats (length c.loop-i.seats) (omega arith) (λ k s at b. c.loop-i.invariant.before k s at (omega (arith, b, c.loop-i.invariant.len, c.loop-i-test.false)))

@@ -2,7 +2,7 @@ use Rattle.std.proofs.Common.{◌<◌, length}
 use Rattle.spec_pool.proofs.Weights.{weigh}
 use Rattle.steal_pool.specs.Seats.{Seat}
 use Rattle.steal_pool.specs.Pools.{AreLinked}
-use Rattle.steal_pool.specs.Passes.{Joined, NoPassBefore}
+use Rattle.steal_pool.specs.Stealers.{Joined, NoStealerBefore}
 use Rattle.steal_pool.proofs.joining.join_seat.Given as goal
 
 abbrev pub invariant-loop : goal.invariant-loop
@@ -10,8 +10,8 @@ invariant-loop g l = record {
   inside : l.i < length l.seats;
   linked : AreLinked l.seats;
   joined : Joined l.initial.seats l.seats;
-  before : NoPassBefore l.i l.seats;
+  before : NoStealerBefore l.i l.seats;
 }
 
 abbrev pub decreases-loop : goal.decreases-loop
-decreases-loop g l = weigh (λ (s : Seat). length s.worker.passes) l.seats
+decreases-loop g l = weigh (λ (s : Seat). length s.worker.stealers) l.seats

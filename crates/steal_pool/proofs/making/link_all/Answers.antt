@@ -1,5 +1,5 @@
 use Rattle.std.proofs.Common.{◌+◌, subst, sym}
-use Rattle.steal_pool.specs.Passes.{Linking}
+use Rattle.steal_pool.specs.Stealers.{Linking}
 use Rattle.steal_pool.proofs.making.link_all.Goals as goal
 
 pub link_one-requires-clause-linking : goal.link_one-requires-clause-linking

@@ -1,5 +1,5 @@
 use Rattle.std.proofs.Common.{length}
-use Rattle.steal_pool.specs.Passes.{Linking}
+use Rattle.steal_pool.specs.Stealers.{Linking}
 use Rattle.steal_pool.proofs.making.link_all.Given as goal
 
 abbrev pub invariant-loop-i : goal.invariant-loop-i

@@ -1,5 +1,5 @@
 use Rattle.std.proofs.Common.{length}
-use Rattle.steal_pool.specs.Passes.{Linking}
+use Rattle.steal_pool.specs.Stealers.{Linking}
 use Rattle.steal_pool.proofs.making.link_one.Given as goal
 
 abbrev pub invariant-loop-j : goal.invariant-loop-j

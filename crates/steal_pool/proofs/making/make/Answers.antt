@@ -1,10 +1,16 @@
 use Rattle.std.proofs.Common.{◌≡◌, length, arith, sym, ap, ◌∙◌}
 use Rattle.std.proofs.lemmas.List.{with_items_is}
-use Rattle.steal_pool.specs.Passes.{Opens}
-use Rattle.steal_pool.proofs.Listing.{beside_length}
+use Rattle.steal_pool.specs.Stealers.{Opens}
+use Rattle.steal_pool.proofs.Listing.{zip_length}
 use Rattle.steal_pool.proofs.Beginning.{opened_linking, linked_whole, new_ours}
 use Rattle.steal_pool.proofs.Together.{begin_account}
 use Rattle.steal_pool.proofs.making.make.Goals as goal
+
+pub open_seats-requires-clause-rules : goal.open_seats-requires-clause-rules
+open_seats-requires-clause-rules g c κs within = c.requires.named
+
+pub open_seats-requires-clause-root : goal.open_seats-requires-clause-root
+open_seats-requires-clause-root g c κs within = c.requires.same
 
 pub open_seats-requires-clause-ours : goal.open_seats-requires-clause-ours
 open_seats-requires-clause-ours g c κs within = new_ours c.args.ledger.now c.args.entries.items c.requires.fresh
@@ -17,11 +23,11 @@ returns g c =
     let l = c.in_ok-link_all.ensures.linking in
     let len : length c.link_all.new.seats ≡ c.in_ok-seats.seats.len = l.count ∙ ap length c.as_mut_slice.ensures.value ∙ sym c.in_ok-seats.seats.ok.0 in
     let items = with_items_is c.in_ok-seats.seats c.link_all.new.seats len in
-    let count : length c.link_all.new.seats ≡ length c.args.entries.items = l.count ∙ ap length c.as_mut_slice.ensures.value ∙ beside_length (Opens c.args.ledger.now c.args.root) c.args.entries.items c.in_ok-seats.seats.items c.in_ok-seats.ensures in
+    let count : length c.link_all.new.seats ≡ length c.args.entries.items = l.count ∙ ap length c.as_mut_slice.ensures.value ∙ zip_length (Opens c.args.ledger.now c.args.root) c.args.entries.items c.in_ok-seats.seats.items c.in_ok-seats.ensures in
     rw items (record {
       count = count;
       begin = l.begin;
-      passes = linked_whole c.args.ledger.now c.args.root (length c.as_mut_slice.result.now) c.link_all.new.seats l;
+      stealers = linked_whole c.args.ledger.now c.args.root (length c.as_mut_slice.result.now) c.link_all.new.seats l;
       linked = l.linked;
-      account = begin_account g.N.Naming.rules c.args.ledger.now c.args.root c.link_all.new.seats (omega (arith, c.requires.count, count)) l.begin;
+      account = begin_account g.N.Naming.rules c.args.ledger.now c.args.root c.link_all.new.seats (omega (arith, c.requires.some, count)) l.begin;
     })

@@ -1,6 +1,6 @@
 use Rattle.std.proofs.Common.{◌∙◌}
 use Rattle.steal_pool.specs.Seats.{SameSeat}
-use Rattle.steal_pool.proofs.Listing.{beside_length}
+use Rattle.steal_pool.proofs.Listing.{zip_length}
 use Rattle.steal_pool.proofs.Returning.{begin_free, come_back, free_last, same_all, same_last, same_seats}
 use Rattle.steal_pool.proofs.tests.book_of_one.Goals as goal
 
@@ -16,6 +16,6 @@ closed-requires g c =
     record {
       all = come_back c.args.ledger c.push.new.self.items
           (same_seats c.args.ledger c.span-root.result c.in-Ok.seats.items c.push.new.self.items c.in-Ok.ensures.begin same)
-          (beside_length SameSeat c.in-Ok.seats.items c.push.new.self.items same ∙ c.in-Ok.ensures.count ∙ c.requires.all)
+          (zip_length SameSeat c.in-Ok.seats.items c.push.new.self.items same ∙ c.in-Ok.ensures.count ∙ c.requires.pool.all)
           c.in-Ok-finish.entries.items c.in-Ok-finish.ensures.back;
     }

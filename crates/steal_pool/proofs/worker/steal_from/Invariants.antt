@@ -1,5 +1,8 @@
-use Rattle.std.proofs.Common.{◌≡◌}
+use Rattle.std.proofs.Common.{◌≡◌, ◌≤◌}
 use Rattle.steal_pool.proofs.worker.steal_from.Given as goal
 
-abbrev pub invariant-loop-pass : goal.invariant-loop-pass
-invariant-loop-pass g l = l.passes ≡ l.initial.passes
+abbrev pub invariant-loop-stealer : goal.invariant-loop-stealer
+invariant-loop-stealer g l = record {
+  same : l.stealers ≡ l.initial.stealers;
+  fewer : l.attempts.left ≤ l.initial.attempts.left;
+}

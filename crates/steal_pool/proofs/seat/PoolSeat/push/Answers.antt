@@ -1,5 +1,5 @@
 use Rattle.std.proofs.Common.{sym, ap, subst}
-use Rattle.steal_pool.specs.Workers.{IsRight}
+use Rattle.steal_pool.specs.Workers.{Holder, IsRight}
 use Rattle.steal_pool.specs.Seats.{Seat, account_of}
 use Rattle.steal_pool.proofs.Accounts.{is_split, like_itself, puts_right, keeps_right}
 use Rattle.steal_pool.proofs.Within.{named_sound}
@@ -26,3 +26,9 @@ returns-clause-kept g c = rw (← c.self.view_is) (λ on.
       keeps_right g.N.Naming.rules c.self.inside.worker c.push.new.self (part c.self.inside.entries) c.cut.result.0 c.args.right split (c.push.ensures.kept on),
       like_itself (account_of c.push.new.self (part c.self.inside.entries)),
     ))
+
+pub returns-clause-counted : goal.returns-clause-counted
+returns-clause-counted g c = rw (← c.self.view_is) (λ on. ap (λ (w : Holder). w.pushed_in_a_row) (c.push.ensures.deque on))
+
+pub returns-clause-uncounted : goal.returns-clause-uncounted
+returns-clause-uncounted g c = rw (← c.self.view_is) (λ on. ap (λ (w : Holder). w.pushed_in_a_row) (c.push.ensures.kept on))

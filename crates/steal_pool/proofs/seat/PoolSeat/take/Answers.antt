@@ -13,3 +13,6 @@ returns-clause-works g c = rw (← c.self.view_is) (taken_works g.N.Naming.rules
 
 pub returns-clause-same : goal.returns-clause-same
 returns-clause-same g c = rw (← c.self.view_is) (record { ways = taken_ways c.take.result c.self.inside.worker c.take.new.self c.take.ensures.taken; table = refl; terms = refl; number = refl })
+
+pub returns-clause-order : goal.returns-clause-order
+returns-clause-order g c = rw (← c.self.view_is) c.take.ensures.taken

@@ -5,7 +5,7 @@ use Rattle.steal_pool.specs.Closing.{HasUsedUp}
 use Rattle.steal_pool.proofs.Pooling.{idle_all}
 use Rattle.steal_pool.proofs.Listing.{all_get, all_set}
 use Rattle.steal_pool.proofs.Scanning.{before_all, before_none, before_set, change_one, refused, stops, went}
-use Rattle.steal_pool.proofs.finishing.work_off.Goals as goal
+use Rattle.steal_pool.proofs.finishing.drain.Goals as goal
 
 abbrev IsFree : Seat → Type 0
 IsFree s = s.refusal ≡ None

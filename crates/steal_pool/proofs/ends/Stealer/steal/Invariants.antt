@@ -1,0 +1,11 @@
+use Rattle.std.proofs.Common.{◌≡◌, ◌≤◌}
+use Rattle.steal_pool.proofs.ends.Stealer.steal.Given as goal
+
+abbrev pub invariant-loop-attempts : goal.invariant-loop-attempts
+invariant-loop-attempts g l = record {
+  same : l.self ≡ l.initial.self;
+  fewer : l.attempts.left ≤ l.initial.attempts.left;
+}
+
+abbrev pub decreases-loop-attempts : goal.decreases-loop-attempts
+decreases-loop-attempts g l = l.attempts.left

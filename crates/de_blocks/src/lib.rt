@@ -8,8 +8,6 @@ mod laws;
 mod reader;
 mod rules;
 mod state;
-#[cfg(test)]
-mod tests;
 mod walk;
 
 pub use answers::BlockError;

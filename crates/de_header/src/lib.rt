@@ -8,8 +8,6 @@ mod columns;
 mod laws;
 mod reader;
 mod state;
-#[cfg(test)]
-mod tests;
 mod words;
 
 pub use answers::{HeaderError, Step};

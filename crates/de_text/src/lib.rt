@@ -9,8 +9,6 @@ mod digits;
 mod examples;
 mod lines;
 mod parts;
-#[cfg(test)]
-mod tests;
 mod tokens;
 mod words;
 

@@ -6,8 +6,6 @@ mod blocks;
 mod draws;
 mod generator;
 mod terms;
-#[cfg(test)]
-mod tests;
 mod words;
 
 pub use generator::{Memory, generate};

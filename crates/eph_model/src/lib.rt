@@ -11,8 +11,6 @@ mod ephemeris;
 mod granules;
 mod grid;
 mod rounding;
-#[cfg(test)]
-mod tests;
 
 pub use columns::{components, is_present, place_after};
 pub use ephemeris::{Ephemeris, Memory};

@@ -1,54 +1,8 @@
-// What no clause can say: that calls succeed, and which bytes reach the files of the system and come back.
+// What no clause can say: that calls succeed, and which bytes reach the files of the system and come back. Shelves and
+// sinks in memory have exact clauses.
 use crate::*;
-use std::alloc::{AllocError, Global};
 use std::fs;
 use std::test::Fail;
-
-fn files(alloc: Global, entries: &[(&str, &[u8])]) -> Result<Vec<(String, Vec<u8>)>, AllocError> {
-    let mut files = Vec::new(alloc);
-    for (name, bytes) in entries {
-        files.push((String::from_str(alloc, name)?, bytes.to_vec(alloc)?))?;
-    }
-    Ok(files)
-}
-
-#[test]
-fn sinks_take_what_fits_and_fail_where_they_are_told(rt: HostRuntime) -> Result<(), Fail> {
-    let alloc = rt.alloc();
-    // Room, piece, the call that fails, what is offered in each of four writes, what is held then, and the faults.
-    let cases: [(usize, usize, u64, &[u8], &[u8], u64); 4] = [
-        (6, 4, 0, b"abc", b"abcabc", 2),
-        (5, 1, 2, b"abc", b"aaa", 1),
-        (0, 1, 0, b"a", b"", 4),
-        (0, 1, 0, b"", b"", 0),
-    ];
-    for (room, piece, failing, offered, held, faults) in cases {
-        let mut sink = MemorySink::new(alloc, room, piece.max(1), [failing].to_vec(alloc)?)?;
-        for _ in 0..4 {
-            let _ = sink.write(offered);
-        }
-        assert_eq!(rt; sink.bytes(), held);
-        assert_eq!(rt; sink.faults(), faults);
-    }
-    Ok(())
-}
-
-#[test]
-fn calls_of_a_shelf_are_numbered_over_opens_and_reads(rt: HostRuntime) -> Result<(), Fail> {
-    let alloc = rt.alloc();
-    let entries: [(&str, &[u8]); 3] = [("b", b"other"), ("a", b"xy"), ("a", b"second")];
-    let mut shelf = MemoryShelf::new(files(alloc, &entries)?, 1, [2, 5].to_vec(alloc)?);
-    let mut buffer = [0u8; 16];
-    shelf.open("a")?;
-    assert!(rt; shelf.read(&mut buffer).is_err());
-    assert_eq!(rt; shelf.read(&mut buffer)?, 1);
-    assert_eq!(rt; buffer[0], b'x');
-    assert!(rt; shelf.open("c").is_err());
-    assert_eq!(rt; shelf.faults(), 1);
-    assert!(rt; shelf.open("a").is_err());
-    assert_eq!(rt; shelf.faults(), 2);
-    Ok(())
-}
 
 // A file of the folder that the test runs in.
 const NAME: &str = "gf_edges_bytes.tmp";

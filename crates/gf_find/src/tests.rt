@@ -1,9 +1,9 @@
-// What no clause can say: that runs are answered while memory lasts, and what failing devices hold. Words of a command
-// line over one file `a`, with the status and what is written.
+// What no clause can say: that runs have their outcome while memory lasts, which files are opened, and what failing
+// devices hold. Words of a command line over one file `a` or over three, with the status and what is written.
 ghost use Rattle.std.specs.Prelude.{◌≤◌};
 
 use crate::*;
-use gf_edges::{MemoryShelf, MemorySink, OpenGate};
+use gf_edges::{Failed, MemoryShelf, MemorySink, OpenGate, Shelf};
 use std::alloc::{AllocError, Global};
 use std::sync::Wait;
 use std::test::Fail;
@@ -178,13 +178,13 @@ fn rising(alloc: Global) -> Result<Vec<u8>, AllocError> {
     Ok(text)
 }
 
-// A file of so many blocks.
-fn blocks(alloc: Global, count: i64) -> Result<Vec<u8>, AllocError> {
+// A file of so many blocks, in each of which Mercury's x has these coefficients.
+fn blocks(alloc: Global, count: i64, row: &str) -> Result<Vec<u8>, AllocError> {
     let mut text = HEADER.as_bytes().to_vec(alloc)?;
     let mut day: i64 = 2_451_544;
     for _ in 0..count {
         let next = day.saturating_add(32);
-        let dates = format!(in alloc; "1 26\n{day}.5 {next}.5 0.0\n0.0 0.0 0.0\n")?;
+        let dates = format!(in alloc; "1 26\n{day}.5 {next}.5 0.0\n{row}\n")?;
         text.extend_from_slice(dates.as_bytes())?;
         text.extend_from_slice(ZEROS.as_bytes())?;
         day = next;
@@ -201,7 +201,7 @@ fn sink(alloc: Global, room: usize, piece: usize, fails: u64) -> Result<MemorySi
     }
 }
 
-// What a run answered and wrote.
+// What a run returned and wrote.
 #[derive(Drop)]
 struct Answer {
     status: u8,
@@ -221,9 +221,20 @@ fn run<R: Threads + Wait + Sync>(
     let mut files = Vec::new(alloc);
     files.push((String::from_str(alloc, "a")?, file))?;
     let mut shelf = MemoryShelf::new(files, 4096, [shelf_fails].to_vec(alloc)?);
+    run_over(rt, alloc, words, &mut shelf, outputs)
+}
+
+// Runs words over a shelf.
+fn run_over<R: Threads + Wait + Sync, S: Shelf>(
+    rt: &R,
+    alloc: Global,
+    words: &[String],
+    shelf: &mut S,
+    outputs: Outputs,
+) -> Result<Answer, AllocError> {
     let mut out = sink(alloc, outputs.room, outputs.piece.max(1), outputs.fails)?;
     let mut err = sink(alloc, 4096, 16, outputs.err_fails)?;
-    let status = finder(rt, alloc, words, &mut shelf, &mut out, &mut err, &OpenGate);
+    let status = finder(rt, alloc, words, shelf, &mut out, &mut err, &OpenGate);
     Ok(Answer {
         status,
         out: out.bytes().to_vec(alloc)?,
@@ -231,7 +242,7 @@ fn run<R: Threads + Wait + Sync>(
     })
 }
 
-// The run answers the status and writes this.
+// The run returns the status and writes this.
 fn is_right<R: Threads + Wait + Sync>(
     rt: &R,
     alloc: Global,
@@ -365,10 +376,132 @@ fn too_many_files_are_refused(rt: HostRuntime) -> Result<(), Fail> {
 fn too_many_blocks_are_refused(rt: HostRuntime) -> Result<(), Fail> {
     let alloc = rt.alloc();
     let words = words_of(alloc, "check a")?;
-    let answer = run(&rt, alloc, &words, blocks(alloc, 16_385)?, 0, SOUND)?;
+    let file = blocks(alloc, 16_385, "0.0 0.0 0.0")?;
+    let answer = run(&rt, alloc, &words, file, 0, SOUND)?;
     assert!(rt; answer.status == FILES_REFUSED);
     assert!(rt;
         answer.err.as_slice() == "finder: file a line 163858: 38 TooManyBlocks\n".as_bytes()
     );
+    Ok(())
+}
+
+// Mercury's x rises in the middle of each block, and falls where the next one begins: a report is never too long while
+// there is memory.
+#[test]
+fn a_report_of_many_windows(rt: HostRuntime) -> Result<(), Fail> {
+    let alloc = rt.alloc();
+    let words = words_of(
+        alloc,
+        "find --kind coord --target mercury --axis x --width 1000000 a",
+    )?;
+    let file = blocks(alloc, 600, "0.138240000000000000D+07 0.0 0.0")?;
+    let outputs = Outputs {
+        room: 65_536,
+        piece: 4096,
+        fails: 0,
+        err_fails: 0,
+    };
+    let answer = run(&rt, alloc, &words, file, 0, outputs)?;
+    assert!(rt; answer.status == REPORTED);
+    assert!(rt;
+        answer
+            .out
+            .as_slice()
+            .ends_with("END certain 1199 undecided 0\n".as_bytes())
+    );
+    Ok(())
+}
+
+// Files in memory, with the names that were opened, each before a blank.
+#[derive(Drop)]
+struct NotingShelf {
+    files: MemoryShelf,
+    opened: Vec<u8>,
+}
+
+impl Shelf for NotingShelf {
+    ghost use Rattle.std.specs.Prelude.{IsSome, Some};
+
+    ghost files = { λ s. Some s.files.files };
+
+    ghost left = { λ s. s.files.left };
+
+    ghost ready = { λ s. IsSome s.files.left };
+
+    ghost faults = { λ s. s.files.faults };
+
+    fn open(&mut self, name: &str) -> Result<(), Failed> {
+        let _ = self.opened.extend_from_slice(name.as_bytes());
+        let _ = self.opened.push(b' ');
+        self.files.open(name)
+    }
+
+    fn read(&mut self, buf: &mut [u8]) -> Result<usize, Failed> {
+        self.files.read(buf)
+    }
+}
+
+// Three files: `a` is a header, `b` a block, and `c` is empty. The call whose number is given fails.
+fn noting(alloc: Global, fails: u64) -> Result<NotingShelf, AllocError> {
+    let mut block = BLOCK.as_bytes().to_vec(alloc)?;
+    block.extend_from_slice(ZEROS.as_bytes())?;
+    let mut files = Vec::new(alloc);
+    files.push((
+        String::from_str(alloc, "a")?,
+        HEADER.as_bytes().to_vec(alloc)?,
+    ))?;
+    files.push((String::from_str(alloc, "b")?, block))?;
+    files.push((String::from_str(alloc, "c")?, Vec::new(alloc)))?;
+    Ok(NotingShelf {
+        files: MemoryShelf::new(files, 4096, [fails].to_vec(alloc)?),
+        opened: Vec::new(alloc),
+    })
+}
+
+// Words, the call of the shelf that fails, the status, and the names that are opened: those of the words, in their order,
+// up to the first file that can't be read or has a fault.
+const OPENED: [(&str, u64, u8, &str); 10] = [
+    (
+        "find --kind coord --target mercury --axis x a b c",
+        0,
+        REPORTED,
+        "a b c ",
+    ),
+    ("check a b", 0, REPORTED, "a b "),
+    ("check c b a", 0, FILES_REFUSED, "c b "),
+    ("check a a b", 0, FILES_REFUSED, "a a "),
+    ("check a d b", 0, NOT_READ, "a d "),
+    ("check a b c", 4, NOT_READ, "a b "),
+    (
+        "find --kind coord --target venus --axis x a b",
+        0,
+        EVENT_REFUSED,
+        "a b ",
+    ),
+    (
+        "find --kind coord --target mercury --axis x --to 2721601 a b",
+        0,
+        SPAN_REFUSED,
+        "a b ",
+    ),
+    (
+        "find --kind coord --target mercury a b",
+        0,
+        WORDS_REFUSED,
+        "",
+    ),
+    ("gen 405 1 7", 0, REPORTED, ""),
+];
+
+#[test]
+fn the_named_files_alone_are_opened(rt: HostRuntime) -> Result<(), Fail> {
+    let alloc = rt.alloc();
+    for (line, fails, status, opened) in &OPENED {
+        let words = words_of(alloc, line)?;
+        let mut shelf = noting(alloc, *fails)?;
+        let answer = run_over(&rt, alloc, &words, &mut shelf, SOUND)?;
+        assert!(rt; answer.status == *status, "{line}");
+        assert!(rt; shelf.opened.as_slice() == opened.as_bytes(), "{line}");
+    }
     Ok(())
 }

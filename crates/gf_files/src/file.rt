@@ -68,7 +68,7 @@ fn read_more<S: Shelf>(shelf: &mut S, file: usize, text: &mut Vec<u8>) -> Result
             text.truncate(start + count);
             Ok(count)
         }
-        Err(Failed) => Err(FilesError::NotRead { file }),
+        Err(_) => Err(FilesError::NotRead { file }),
     }
 }
 

@@ -1,13 +1,18 @@
 // Cases, read from a packed text.
+use crate::devices::Device;
 use crate::records::{Record, Records};
 use std::alloc::{AllocFailed, Global};
 
-/// A run: its words and files, and what it is to answer and write. Everything stands in the text that it was read from.
+/// A run: its words, files and devices, and what it is to return and write. All bytes stand in the text that they were
+/// read from.
 #[derive(Drop)]
 pub(crate) struct Case<'a> {
     pub(crate) name: &'a str,
     pub(crate) words: Vec<&'a str>,
     pub(crate) files: Vec<(&'a str, &'a [u8])>,
+    pub(crate) shelf: Device,
+    pub(crate) out_sink: Device,
+    pub(crate) err_sink: Device,
     pub(crate) status: u8,
     pub(crate) out: &'a [u8],
     pub(crate) err: &'a [u8],
@@ -19,6 +24,9 @@ impl<'a> Case<'a> {
             name,
             words: Vec::new(alloc),
             files: Vec::new(alloc),
+            shelf: Device::sound(alloc),
+            out_sink: Device::sound(alloc),
+            err_sink: Device::sound(alloc),
             status: 0,
             out: b"",
             err: b"",
@@ -26,7 +34,7 @@ impl<'a> Case<'a> {
     }
 }
 
-/// Why a packed text can't be read.
+/// Why a packed text cannot be read.
 #[derive(Debug, Drop)]
 pub(crate) enum CasesError {
     Malformed,
@@ -51,6 +59,7 @@ fn text_named<'a>(texts: &[(&'a str, &'a [u8])], name: &str) -> Option<&'a [u8]>
 
 // Adds a record to the case that it belongs to; none of a record that belongs to no case.
 fn add_record<'a>(
+    alloc: Global,
     case: &mut Case<'a>,
     texts: &[(&'a str, &'a [u8])],
     record: Record<'a>,
@@ -61,6 +70,9 @@ fn add_record<'a>(
             Some(bytes) => case.files.push((name, bytes))?,
             None => return Err(CasesError::Malformed),
         },
+        Record::Shelf(words) => case.shelf = Device::shelf(alloc, words)?,
+        Record::OutSink(words) => case.out_sink = Device::sink(alloc, words)?,
+        Record::ErrSink(words) => case.err_sink = Device::sink(alloc, words)?,
         Record::Status(status) => case.status = status,
         Record::Out(bytes) => case.out = bytes,
         Record::Err(bytes) => case.err = bytes,
@@ -87,7 +99,7 @@ pub(crate) fn cases<'a>(alloc: Global, text: &'a [u8]) -> Result<Vec<Case<'a>>, 
                     cases.push(whole)?;
                 }
             }
-            (record, Some(case)) => add_record(case, &texts, record)?,
+            (record, Some(case)) => add_record(alloc, case, &texts, record)?,
             (_, None) => return Err(CasesError::Malformed),
         }
     }

@@ -1,7 +1,7 @@
 //! The program that shows that the call agrees with an exact reference. In come the names of files of cases: runs with
-//! their words, their files and what they are to answer and write. A search that names no number of workers is run four
-//! times: by one worker, and by 2, 7 and 64. Out go the runs whose status, output or error output differs by a byte, and
-//! how many runs there are.
+//! their words, their files, what their devices can do, and what they are to return and write. A search that names no
+//! number of workers is run four times: by one worker, and by 2, 7 and 64. Out go the runs whose status, output or
+//! error output differs by a byte, and how many runs there are.
 //!
 //! The expected bytes were made by another program, which computes with exact fractions and shares no code, and no
 //! definition, with this repository. So what is compared here is no work of the searcher: the proofs say that the code
@@ -9,6 +9,7 @@
 #![tactic(auto)]
 
 mod cases;
+mod devices;
 mod records;
 mod runs;
 
@@ -41,7 +42,7 @@ fn print_text(rt: &HostRuntime, title: &str, bytes: &[u8]) -> io::Result<()> {
     }
 }
 
-// Prints a case that differs: its words, what it is to answer and write, and what it did.
+// Prints a case that differs: its words, what it is to return and write, and what it did.
 fn print_difference(rt: &HostRuntime, case: &Case<'_>, answer: &Answer) -> io::Result<()> {
     let name = case.name;
     println!(rt; "{name} differs")?;

@@ -15,7 +15,13 @@ pub(crate) enum Record<'a> {
     Word(&'a str),
     /// A file of its shelf: its name, and the name of its text.
     File(&'a str, &'a str),
-    /// The status that it is to answer.
+    /// What its shelf can do, as words.
+    Shelf(&'a str),
+    /// What its output can do, as words.
+    OutSink(&'a str),
+    /// What its error output can do, as words.
+    ErrSink(&'a str),
+    /// The status that it is to return.
     Status(u8),
     /// The bytes that its output is to gain.
     Out(&'a [u8]),
@@ -52,7 +58,7 @@ impl<'a> Records<'a> {
         Some(piece)
     }
 
-    // The bytes whose number a word tells.
+    // The bytes whose number is this word.
     fn sized(&mut self, length: &str) -> Option<&'a [u8]> {
         self.piece(length.parse::<usize>().ok()?)
     }
@@ -66,7 +72,7 @@ impl<'a> Records<'a> {
         str::from_utf8(self.piece(count)?).ok()
     }
 
-    /// The next record, or none at the end and where the text isn't in this form.
+    /// The next record, or none at the end and where the text is not in this form.
     pub(crate) fn record(&mut self) -> Option<Record<'a>> {
         let line = self.line()?;
         let (kind, rest) = line.split_once(' ').unwrap_or((line, ""));
@@ -81,6 +87,9 @@ impl<'a> Records<'a> {
                 let (text, length) = rest.split_once(' ')?;
                 Some(Record::File(self.sized_text(length)?, text))
             }
+            "shelf" => Some(Record::Shelf(rest)),
+            "out-sink" => Some(Record::OutSink(rest)),
+            "err-sink" => Some(Record::ErrSink(rest)),
             "status" => Some(Record::Status(rest.parse::<u8>().ok()?)),
             "out" => Some(Record::Out(self.sized(rest)?)),
             "err" => Some(Record::Err(self.sized(rest)?)),

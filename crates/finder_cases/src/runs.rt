@@ -2,6 +2,7 @@
 ghost use Rattle.std.specs.Prelude.{◌≡◌, ◌↔◌, IsTrue};
 
 use crate::cases::Case;
+use crate::devices::Device;
 use gf_edges::{Memory, MemoryShelf, MemorySink, OpenGate};
 use gf_find::finder;
 use std::alloc::{AllocError, Global};
@@ -11,10 +12,7 @@ use std::thread::Threads;
 // How many bytes an output takes beyond those that are expected, so that what is too much is seen.
 const SPARE_ROOM: usize = 4096;
 
-// How many bytes are read or written at a time.
-const PIECE: usize = 65536;
-
-/// What a run answered and wrote.
+/// What a run returned and wrote.
 #[derive(Drop)]
 pub(crate) struct Answer {
     pub(crate) status: u8,
@@ -53,12 +51,19 @@ fn shelf_of(alloc: Global, case: &Case<'_>) -> Result<MemoryShelf, AllocError> {
     for (name, bytes) in &case.files {
         files.push((String::from_str(alloc, name)?, bytes.to_vec(alloc)?))?;
     }
-    Ok(MemoryShelf::new(files, PIECE, Vec::new(alloc)))
+    let failing = case.shelf.failing.to_vec(alloc)?;
+    Ok(MemoryShelf::new(files, case.shelf.piece.max(1), failing))
 }
 
-fn sink_for(alloc: Global, expected: &[u8]) -> Result<MemorySink, AllocError> {
-    let room = expected.len().saturating_add(SPARE_ROOM);
-    match MemorySink::new(alloc, room, PIECE, Vec::new(alloc)) {
+// An output of a case. Of its room it has no more than a run that is right can fill, and some bytes to spare.
+fn sink_for(alloc: Global, device: &Device, expected: &[u8]) -> Result<MemorySink, AllocError> {
+    let room = expected.len().saturating_add(SPARE_ROOM).min(device.room);
+    match MemorySink::new(
+        alloc,
+        room,
+        device.piece.max(1),
+        device.failing.to_vec(alloc)?,
+    ) {
         Ok(sink) => Ok(sink),
         Err(Memory) => Err(AllocError),
     }
@@ -73,8 +78,8 @@ pub(crate) fn run<R: Threads + Wait + Sync>(
 ) -> Result<Answer, AllocError> {
     let words = words_of(alloc, case, workers)?;
     let mut shelf = shelf_of(alloc, case)?;
-    let mut out = sink_for(alloc, case.out)?;
-    let mut err = sink_for(alloc, case.err)?;
+    let mut out = sink_for(alloc, &case.out_sink, case.out)?;
+    let mut err = sink_for(alloc, &case.err_sink, case.err)?;
     let status = finder(rt, alloc, &words, &mut shelf, &mut out, &mut err, &OpenGate);
     Ok(Answer {
         status,
@@ -83,7 +88,7 @@ pub(crate) fn run<R: Threads + Wait + Sync>(
     })
 }
 
-/// Whether a run answered and wrote what its case says, byte for byte.
+/// Whether a run returned and wrote what its case says, byte for byte.
 pub(crate) fn agrees(case: &Case<'_>, answer: &Answer) -> bool
     ensures { IsTrue result ↔ (answer.now.status ≡ case.now.status)
         × (answer.now.out.items ≡ case.now.out.now) × (answer.now.err.items ≡ case.now.err.now) }

@@ -1,5 +1,6 @@
-// What no clause can say: that runs have their outcome while memory lasts, which files are opened, and what failing
-// devices hold. Words of a command line over one file `a` or over three, with the status and what is written.
+// What no clause can say, and no case: that files and reports of a size that no case has are answered while memory lasts,
+// and which files are opened. Words of a command line over one file `a` or over three, with the status and what is
+// written.
 ghost use Rattle.std.specs.Prelude.{◌≤◌};
 
 use crate::*;
@@ -50,132 +51,12 @@ struct Outputs {
     err_fails: u64,
 }
 
-// The words, the calls of the shelf and of the output that fail, the status, and what is written to both outputs.
-const ROWS: [(&str, u64, u64, u8, &str, &str); 14] = [
-    ("", 0, 0, WORDS_REFUSED, "", "finder: words: 60 NoCommand\n"),
-    (
-        "search a",
-        0,
-        0,
-        WORDS_REFUSED,
-        "",
-        "finder: words: 61 UnknownCommand\n",
-    ),
-    (
-        "check",
-        0,
-        0,
-        WORDS_REFUSED,
-        "",
-        "finder: words: 62 Words\n",
-    ),
-    (
-        "gen 405 41 7",
-        0,
-        0,
-        WORDS_REFUSED,
-        "",
-        "finder: words: 63 BadValue blocks\n",
-    ),
-    (
-        "find --kind coord --target mercury --axis x --from=2000-02-30T00:00:00 a",
-        0,
-        0,
-        WORDS_REFUSED,
-        "",
-        "finder: words: 63 BadValue from\n",
-    ),
-    (
-        "find --kind coord --target mercury --axis x --second venus a",
-        0,
-        0,
-        WORDS_REFUSED,
-        "",
-        "finder: words: 63 BadValue second\n",
-    ),
-    (
-        "find --kind coord --target mercury --axis x --to 2721601 a",
-        0,
-        0,
-        SPAN_REFUSED,
-        "",
-        "finder: span: -43200 2721601 not within -43200 2721600\n",
-    ),
-    (
-        "find --kind coord --target mercury --axis x --from 5 --to 5 a",
-        0,
-        0,
-        SPAN_REFUSED,
-        "",
-        "finder: span: 5 5 not within -43200 2721600\n",
-    ),
-    (
-        "find --kind coord --target venus --axis x a",
-        0,
-        0,
-        EVENT_REFUSED,
-        "",
-        "finder: event: 50 BodyAbsent\n",
-    ),
-    (
-        "find --kind coord --target mercury --axis x --observer mercury a",
-        0,
-        0,
-        EVENT_REFUSED,
-        "",
-        "finder: event: 51 SameBody\n",
-    ),
-    (
-        "find --kind coord --target mercury --axis x b",
-        0,
-        0,
-        NOT_READ,
-        "",
-        "finder: read fault b\n",
-    ),
-    (
-        "find --kind coord --target mercury --axis x a",
-        2,
-        0,
-        NOT_READ,
-        "",
-        "finder: read fault a\n",
-    ),
-    (
-        "find --kind coord --target mercury --axis x a",
-        0,
-        2,
-        NOT_WRITTEN,
-        "FIND coord targe",
-        "finder: write fault\n",
-    ),
-    (
-        "find --kind coord --target mercury --axis x --cut third --width 60 --from 1339000 --to 1339400 a",
-        0,
-        0,
-        REPORTED,
-        "FIND coord target mercury second - observer ssb frame eq axis x values 0 dir any width 60 depth 40 cut third span 2000-01-16T23:56:40 2000-01-17T00:03:20
-C 2000-01-16T23:59:23 2000-01-17T00:00:22 rise
-END certain 1 undecided 0
-",
-        "",
-    ),
-];
-
 fn words_of(alloc: Global, line: &str) -> Result<Vec<String>, AllocError> {
     let mut words = Vec::new(alloc);
     for word in line.split_ascii_whitespace() {
         words.push(String::from_str(alloc, word)?)?;
     }
     Ok(words)
-}
-
-// A file in which Mercury's x rises through 0.
-fn rising(alloc: Global) -> Result<Vec<u8>, AllocError> {
-    let mut text = HEADER.as_bytes().to_vec(alloc)?;
-    text.extend_from_slice(BLOCK.as_bytes())?;
-    text.extend_from_slice(ZEROS.as_bytes())?;
-    Ok(text)
 }
 
 // A file of so many blocks, in each of which Mercury's x has these coefficients.
@@ -242,135 +123,12 @@ fn run_over<R: Threads + Wait + Sync, S: Shelf>(
     })
 }
 
-// The run returns the status and writes this.
-fn is_right<R: Threads + Wait + Sync>(
-    rt: &R,
-    alloc: Global,
-    row: (&str, u64, u64, u8, &str, &str),
-) -> Result<bool, AllocError> {
-    let (line, shelf_fails, out_fails, status, written, told) = row;
-    let words = words_of(alloc, line)?;
-    let outputs = Outputs {
-        fails: out_fails,
-        ..SOUND
-    };
-    let answer = run(rt, alloc, &words, rising(alloc)?, shelf_fails, outputs)?;
-    let same_out = answer.out.as_slice() == written.as_bytes();
-    let same_err = answer.err.as_slice() == told.as_bytes();
-    Ok(answer.status == status && same_out && same_err)
-}
-
 const SOUND: Outputs = Outputs {
     room: 4096,
     piece: 16,
     fails: 0,
     err_fails: 0,
 };
-
-const RISE: &str = "find --kind coord --target mercury --axis x a";
-
-const PAST_THE_END: &str = "find --kind coord --target mercury --axis x --to 2721601 a";
-
-// Words with outputs, the status, how many of the report's 225 bytes the output has then, and what the error output has.
-// Each write offers the whole rest of the text: an output that takes 4,096 bytes a call is called once.
-const OUTPUTS: [(&'static str, Outputs, u8, usize, &'static str); 5] = [
-    (
-        RISE,
-        Outputs {
-            room: 4096,
-            piece: 4096,
-            fails: 2,
-            err_fails: 0,
-        },
-        REPORTED,
-        225,
-        "",
-    ),
-    (
-        RISE,
-        Outputs {
-            room: 4096,
-            piece: 16,
-            fails: 15,
-            err_fails: 0,
-        },
-        NOT_WRITTEN,
-        224,
-        "finder: write fault\n",
-    ),
-    (
-        RISE,
-        Outputs {
-            room: 4096,
-            piece: 16,
-            fails: 16,
-            err_fails: 0,
-        },
-        REPORTED,
-        225,
-        "",
-    ),
-    (
-        RISE,
-        Outputs {
-            room: 100,
-            piece: 16,
-            fails: 0,
-            err_fails: 0,
-        },
-        NOT_WRITTEN,
-        100,
-        "finder: write fault\n",
-    ),
-    (
-        PAST_THE_END,
-        Outputs {
-            room: 4096,
-            piece: 16,
-            fails: 0,
-            err_fails: 1,
-        },
-        SPAN_REFUSED,
-        0,
-        "",
-    ),
-];
-
-#[test]
-fn runs_are_answered(rt: HostRuntime) -> Result<(), Fail> {
-    let alloc = rt.alloc();
-    for row in &ROWS {
-        assert!(rt; is_right(&rt, alloc, *row)?, "{}", row.0);
-    }
-    Ok(())
-}
-
-#[test]
-fn outputs_fail(rt: HostRuntime) -> Result<(), Fail> {
-    let alloc = rt.alloc();
-    for (line, outputs, status, count, told) in &OUTPUTS {
-        let words = words_of(alloc, line)?;
-        let answer = run(&rt, alloc, &words, rising(alloc)?, 0, *outputs)?;
-        assert!(rt; answer.status == *status, "{line}");
-        assert!(rt; answer.out.len() == *count, "{line}");
-        assert!(rt; answer.err.as_slice() == told.as_bytes(), "{line}");
-    }
-    Ok(())
-}
-
-#[test]
-fn too_many_files_are_refused(rt: HostRuntime) -> Result<(), Fail> {
-    let alloc = rt.alloc();
-    let mut words = words_of(alloc, "check")?;
-    for _ in 0..64 {
-        words.push(String::from_str(alloc, "a")?)?;
-    }
-    words.push(String::from_str(alloc, "z")?)?;
-    let answer = run(&rt, alloc, &words, rising(alloc)?, 0, SOUND)?;
-    assert!(rt; answer.status == FILES_REFUSED);
-    assert!(rt; answer.err.as_slice() == "finder: file z line 0: 5 TooManyFiles\n".as_bytes());
-    Ok(())
-}
 
 #[test]
 fn too_many_blocks_are_refused(rt: HostRuntime) -> Result<(), Fail> {

@@ -13,8 +13,5 @@ mod tests;
 mod velocities;
 
 pub use positions::position_step;
-pub use scaled::{
-    position_step_over, position_step_over_row, velocity_over, velocity_over_row,
-    velocity_step_over, velocity_step_over_row,
-};
+pub use scaled::{position_step_over_row, velocity_over_row, velocity_step_over_row};
 pub use velocities::{velocity, velocity_step};

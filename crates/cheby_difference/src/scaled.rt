@@ -1,49 +1,23 @@
 // Sums over the rows of the bases, scaled by what an argument gains in one second.
-ghost use Rattle.std.specs.Prelude.{◌≡◌, ◌<◌, ◌≤◌, ◌^◌, length, pos, unsigned_abs, ◌≤ℤ◌, ◌*ℤ◌};
+ghost use Rattle.std.specs.Prelude.{◌≡◌, ◌<◌, ◌≤◌, ◌^◌, length, pos, unsigned_abs, ◌*ℤ◌};
 ghost use Rattle.spec_numbers.specs.Numbers.{floor_div, ceil_div};
 ghost use Rattle.spec_chebyshev.specs.Rows.{u_row, q_row, r_row, IsArguments};
 ghost use Rattle.spec_motions.specs.RowSizes.{IsRow, IsShorterRow};
 ghost use Rattle.spec_motions.specs.Enclosures.{position_step_over, velocity_over, velocity_step_over};
 
-use cheby_enclose::{Bases, Terms, WideEnds, row_sum, slope_sum};
-use cheby_laws::Row;
-use ival_core::{Divider, Ival};
+use cheby_enclose::{Terms, WideEnds, row_sum, slope_sum};
+use cheby_laws::{Q_UNIT, R_UNIT, Row, U_UNIT};
+use ival_core::{DISTANCE_EXPONENT, Divider, Ival};
 use spec_chebyshev::Ival62;
 
-/// The interval of the changes of a coordinate from each time to the next, in km, as `position_step_over_row` of the row
-/// of Q. The granule takes so many seconds.
-pub fn position_step_over(terms: &Terms, bases: &Bases, seconds: i64) -> Ival
-    requires arguments { IsArguments bases.now.arguments }
-    requires q { IsRow (length terms.now) bases.now.rows.q (q_row bases.now.arguments) }
-    requires long { pos 1 ≤ℤ seconds }
-    ensures { result ≡ position_step_over terms.now bases.now.arguments (unsigned_abs seconds) }
-{
-    let divider = Divider::of(seconds);
-    position_step_over_row(terms, bases.arguments, &bases.rows.q, &divider)
-}
+/// The exponent of 2 of a sum of coefficients, in the unit of distances, times entries of the row of Q.
+const POSITION_STEP_EXPONENT: i32 = DISTANCE_EXPONENT - Q_UNIT;
 
-/// The interval of the velocity along one axis, in km per second, as `velocity_over_row` of the row of U.
-pub fn velocity_over(terms: &Terms, bases: &Bases, seconds: i64) -> Ival
-    requires arguments { IsArguments bases.now.arguments }
-    requires u { IsShorterRow (length terms.now) bases.now.rows.u (u_row bases.now.arguments) }
-    requires long { pos 1 ≤ℤ seconds }
-    ensures { result ≡ velocity_over terms.now bases.now.arguments (unsigned_abs seconds) }
-{
-    let divider = Divider::of(seconds);
-    velocity_over_row(terms, bases.arguments, &bases.rows.u, &divider)
-}
+/// That of a sum over the row of U.
+const VELOCITY_EXPONENT: i32 = DISTANCE_EXPONENT - U_UNIT;
 
-/// The interval of the changes of the velocity along one axis from each time to the next, in km per second, as
-/// `velocity_step_over_row` of the row of R.
-pub fn velocity_step_over(terms: &Terms, bases: &Bases, seconds: i64) -> Ival
-    requires arguments { IsArguments bases.now.arguments }
-    requires r { IsShorterRow (length terms.now) bases.now.rows.r (r_row bases.now.arguments) }
-    requires long { pos 1 ≤ℤ seconds }
-    ensures { result ≡ velocity_step_over terms.now bases.now.arguments (unsigned_abs seconds) }
-{
-    let divider = Divider::of(seconds);
-    velocity_step_over_row(terms, bases.arguments, &bases.rows.r, &divider)
-}
+/// That of a sum over the row of R.
+const VELOCITY_STEP_EXPONENT: i32 = DISTANCE_EXPONENT - R_UNIT;
 
 /// The interval of the changes of a coordinate from each time to the next, in km, over the arguments `x`: the sum of the
 /// products of its terms with the row of Q, the divided differences of T, times the `2 / seconds` that an argument gains
@@ -55,7 +29,7 @@ pub fn position_step_over_row(terms: &Terms, x: Ival62, q: &Row, divider: &Divid
     ensures { result ≡ position_step_over terms.now x divider.now }
 {
     let sum = row_sum(terms, q);
-    Ival::scale_by(sum.lo, sum.hi, -70, divider)
+    Ival::scale_by(sum.lo, sum.hi, POSITION_STEP_EXPONENT, divider)
 }
 
 /// The interval of the velocity along one axis, in km per second: the derivative of JPL's sum, by `T_k' = k U_(k-1)`, as
@@ -67,7 +41,7 @@ pub fn velocity_over_row(terms: &Terms, x: Ival62, u: &Row, divider: &Divider) -
     ensures { result ≡ velocity_over terms.now x divider.now }
 {
     let sum = slope_sum(terms, u);
-    Ival::scale_by(sum.lo, sum.hi, -74, divider)
+    Ival::scale_by(sum.lo, sum.hi, VELOCITY_EXPONENT, divider)
 }
 
 /// The interval of the changes of the velocity along one axis from each time to the next, in km per second: the sum of
@@ -79,7 +53,7 @@ pub fn velocity_step_over_row(terms: &Terms, x: Ival62, r: &Row, divider: &Divid
     ensures { result ≡ velocity_step_over terms.now x divider.now }
 {
     let sum = once_scaled(slope_sum(terms, r), divider);
-    Ival::scale_by(sum.lo, sum.hi, -68, divider)
+    Ival::scale_by(sum.lo, sum.hi, VELOCITY_STEP_EXPONENT, divider)
 }
 
 // 2 / seconds times both ends, rounded outward and not narrowed.

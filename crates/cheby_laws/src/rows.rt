@@ -10,6 +10,18 @@ use spec_chebyshev::Ival62;
 /// Entries for up to 32 coefficients; entry `k` belongs to degree `k`.
 pub type Row = [Ival62; 32];
 
+/// Entries of the row of `T` are in units of 2^-60, as arguments are.
+pub const T_UNIT: i32 = 60;
+
+/// Those of the row of `U`, which grow with the degree, are in units of 2^-50.
+pub const U_UNIT: i32 = 50;
+
+/// Those of the row of `Q`, the divided differences of `T`, are in units of 2^-46.
+pub const Q_UNIT: i32 = 46;
+
+/// Those of the row of `R`, the divided differences of `U`, are in units of 2^-44.
+pub const R_UNIT: i32 = 44;
+
 /// The number 1 in units of 2^-60, of 2^-50 and of 2^-46.
 const T_ONE: i64 = 1_152_921_504_606_846_976;
 

@@ -3,8 +3,7 @@ use Rattle.std.proofs.Common.{◌≡◌, arith, [], ◌∷◌, ℤ, pos, neg_ℤ
 use Rattle.std.proofs.lemmas.Int.{ints}
 use Rattle.std.specs.Int.{int_min, int_max}
 use Rattle.spec_intervals.specs.Interval.{least4, greatest4}
-use Rattle.spec_numbers.proofs.Order.{lin, le-mul}
-use Rattle.spec_numbers.proofs.Ring.{v, ◌⊗◌, minus, ring}
+use Rattle.spec_numbers.proofs.Order.{lin, le-mul, le-mul_neg}
 use Rattle.spec_numbers.proofs.Whole.{mul_comm}
 
 pub min_first : (p q : ℤ) → p ≤ℤ q → p ≡ int_min p q
@@ -18,13 +17,6 @@ max_first p q h = grind (arith, ints)
 
 pub max_second : (p q : ℤ) → p ≤ℤ q → q ≡ int_max p q
 max_second p q h = grind (arith, ints)
-
-pub le-mul_neg : (a b c : ℤ) → c ≤ℤ pos 0 → a ≤ℤ b → (b *ℤ c) ≤ℤ (a *ℤ c)
-le-mul_neg a b c h q =
-    let p : (a *ℤ neg_ℤ c) ≤ℤ (b *ℤ neg_ℤ c) = le-mul a b (neg_ℤ c) (omega (arith, lin)) q in
-    let e : a *ℤ neg_ℤ c ≡ neg_ℤ (a *ℤ c) = ring (a ∷ c ∷ []) (v 0 ⊗ minus (v 1)) (minus (v 0 ⊗ v 1)) tt in
-    let f : b *ℤ neg_ℤ c ≡ neg_ℤ (b *ℤ c) = ring (b ∷ c ∷ []) (v 0 ⊗ minus (v 1)) (minus (v 0 ⊗ v 1)) tt in
-    omega (arith, lin)
 
 -- `z a` grows with a where z >= 0, and falls where z <= 0
 pub le-times : (z a b : ℤ) → pos 0 ≤ℤ z → a ≤ℤ b → (z *ℤ a) ≤ℤ (z *ℤ b)

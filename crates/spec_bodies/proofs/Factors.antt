@@ -9,6 +9,7 @@ use borrow.Author.Differences.{up, down}
 use lib.Signed.{lt_z}
 use Rattle.spec_text.specs.declared.decimals.Decimal.{Decimal}
 use Rattle.spec_intervals.specs.Interval.{Interval, interval, end_limit, cosine_exponent, first_fit, narrow_shift, zero_end, settled, narrow_by, narrow, sum, is_zero, least4, greatest4, product, meet_up, meet, zero_interval}
+use Rattle.spec_numbers.proofs.Booleans.{not_both}
 use Rattle.spec_numbers.specs.Numbers.{floor_div, ceil_div}
 use Rattle.spec_numbers.proofs.Integers.{times_one}
 use Rattle.spec_numbers.proofs.Ring.{v, k as lit, ◌⊗◌, ring}
@@ -116,16 +117,13 @@ floor_some n d some enough = by (floor_div n d) (floor_div-lt n d some)
     by (pos (suc k)) less = refl
     by (negsuc k) less = refl
 
-both_ends : (a b : Bool) → a ≡ false → (a && b) ≡ false
-both_ends a b is = rw is refl
-
 from_fraction : (n : ℤ) (d : ℕ) → 0 < d → pos d ≤ℤ (n *ℤ pos (2 ^ 60)) → unsigned_abs (n *ℤ pos (2 ^ 60)) ≤ end_limit * d → IsFactor (factor_interval (record { numerator = n; denominator = d }))
 unfolding factor_interval
 from_fraction n d some enough few = record {
   exponent = refl;
   lo_small = floor_div-small (n *ℤ pos (2 ^ 60)) d end_limit some few;
   hi_small = ceil_div-small (n *ℤ pos (2 ^ 60)) d end_limit some few;
-  some = both_ends _ _ (floor_some (n *ℤ pos (2 ^ 60)) d some enough);
+  some = not_both _ _ (floor_some (n *ℤ pos (2 ^ 60)) d some enough);
 }
 
 share_is : (ratio : Decimal) → IsMassRatio ratio → IsFactor (factor_interval (share_beside ratio))

@@ -23,9 +23,13 @@ factor ratio MoonShare = share_beside ratio
 factor ratio Cosine = decimal (pos 917482062069182) (neg_ℤ (pos 15))
 factor ratio Sine = decimal (pos 397777155931914) (neg_ℤ (pos 15))
 
--- in units of 2^-60, rounded outward
+-- the exponent of factors is that of cosines: they are in units of 2^-60, rounded outward
+abbrev pub factor_unit : ℕ
+factor_unit = unsigned_abs cosine_exponent
+
 unfoldable pub factor_interval : Fraction → Interval
-factor_interval r = interval (floor_div (r.numerator *ℤ pos (2 ^ 60)) r.denominator) (ceil_div (r.numerator *ℤ pos (2 ^ 60)) r.denominator) cosine_exponent
+factor_interval r =
+    interval (floor_div (r.numerator *ℤ pos (2 ^ factor_unit)) r.denominator) (ceil_div (r.numerator *ℤ pos (2 ^ factor_unit)) r.denominator) cosine_exponent
 
 -- ---- the exact value at a time
 abbrev pub exact_of : (ℕ → ℕ → ℤ → Fraction) → (Factor → Fraction) → Coordinate → ℤ → Fraction

@@ -3,6 +3,7 @@ use Rattle.std.proofs.Common.{◌≡◌, ℕ, ◌<◌, Bool, true, false, not, �
 use Rattle.std.specs.Prelude.{if◌then◌else◌}
 use Rattle.std.specs.List.{list_all, list_any}
 use Rattle.std.proofs.lemmas.Int.{ints}
+use Rattle.spec_numbers.proofs.Booleans.{not_both}
 use Rattle.spec_trees.specs.declared.tree.Node.{Node}
 use Rattle.spec_trees.specs.declared.tree.Turn.{Turn}
 use Rattle.spec_trees.specs.declared.tree.Verdict.{Verdict}
@@ -48,12 +49,9 @@ module _ (over steps one_way equal against refuted narrow differ certified above
 not_above : (a b : ℤ) (width : ℕ) → a <ℤ b → 0 < width → int_lt (pos 1) (b -ℤ a) ≡ false → nat_lt width (unsigned_abs (b -ℤ a)) ≡ false
 not_above a b width inside some narrow = grind (arith, ints)
 
-none_above : (p q : Bool) → p ≡ false → (p && q) ≡ false
-none_above p q e = grind arith
-
 pub staged : (c : Criteria) (n : Node) (f : Findings) → n.a <ℤ n.b → 0 < c.width → verdict c n f ≡ staged_verdict c n f
 unfolding verdict
 staged c n f inside some =
     same (is_known f.over) (steps_against c.dir f.step) (is_one_way f.step) (agree f.at_first f.at_last) (differ_against c.dir f.at_first f.at_last) (list_any is_refuted f.guards)
     (nat_le (width n) c.width) (differ c.dir f.at_first f.at_last) (list_all is_certified f.guards) (is_above_limits c n) (turn_to f.at_last) f.crosses (is_wide n)
-    (λ narrow. none_above (nat_lt c.width (width n)) (nat_lt n.depth c.depth) (not_above n.a n.b c.width inside some narrow))
+    (λ narrow. not_both (nat_lt c.width (width n)) (nat_lt n.depth c.depth) (not_above n.a n.b c.width inside some narrow))

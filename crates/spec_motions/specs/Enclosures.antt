@@ -1,31 +1,34 @@
 -- The intervals of position and velocity over a span of times within one granule, and those of their changes from each
 -- time to the next. Positions are in km and velocities in km per second.
-use Rattle.std.specs.Prelude.{ℕ, suc, ◌+◌, ◌*◌, ◌^◌, ◌≤◌, List, [], ◌∷◌, length, map, drop, All, ℤ, pos, neg_ℤ, unsigned_abs, ◌+ℤ◌, ◌-ℤ◌, ◌*ℤ◌, ◌≤ℤ◌, ◌<ℤ◌, if◌then◌else◌}
+use Rattle.std.specs.Prelude.{ℕ, suc, ◌+◌, ◌*◌, ◌^◌, ◌≤◌, List, [], ◌∷◌, length, map, drop, All, ℤ, pos, unsigned_abs, ◌+ℤ◌, ◌-ℤ◌, ◌*ℤ◌, ◌≤ℤ◌, ◌<ℤ◌, if◌then◌else◌}
 use borrow.Author.Differences.{up, down}
 use lib.Signed.{lt_z}
 use Rattle.spec_text.specs.declared.decimals.Decimal.{Decimal}
-use Rattle.spec_intervals.specs.Interval.{Interval, zero_interval, narrow, scale}
+use Rattle.spec_intervals.specs.Interval.{Interval, distance_exponent, zero_interval, narrow, scale}
 use Rattle.spec_numbers.specs.Numbers.{floor_div, ceil_div}
 use Rattle.spec_intervals.specs.Fraction.{Fraction, Holds}
 use Rattle.spec_intervals.specs.Enclosure.{change}
 use Rattle.spec_chebyshev.specs.declared.ends.Ival62.{Ival62}
-use Rattle.spec_chebyshev.specs.Rows.{t_row, q_row, argument_of}
+use Rattle.spec_chebyshev.specs.Rows.{t_unit, u_unit, q_unit, r_unit, t_row, q_row, argument_of}
 use Rattle.spec_ephemeris.specs.Series.{Series, argument_at, scaled}
 use Rattle.spec_ephemeris.specs.Ephemeris.{IsBodyNumber}
 use Rattle.spec_motions.specs.Sums.{coefficient, slope_row, slope_difference_row, sum_low, sum_high}
 
 -- ---- what a row of intervals of coefficients gives over an interval of arguments, for a granule of some length.
--- The exponents are those of the coefficients' unit, 2^-24, and of the row's.
+-- the exponent of a sum of coefficients, which are in the unit of distances, times the entries of a row in units of 2^-unit
+abbrev pub sum_exponent : ℕ → ℤ
+sum_exponent unit = distance_exponent -ℤ pos unit
+
 unfoldable pub position_over : List Ival62 → Ival62 → Interval
-position_over cs x = narrow (sum_low (t_row x) 0 cs) (sum_high (t_row x) 0 cs) (neg_ℤ (pos 84))
+position_over cs x = narrow (sum_low (t_row x) 0 cs) (sum_high (t_row x) 0 cs) (sum_exponent t_unit)
 
 -- one second is 2 / length in the argument
 unfoldable pub position_step_over : List Ival62 → Ival62 → ℕ → Interval
-position_step_over cs x length = scale (sum_low (q_row x) 0 cs) (sum_high (q_row x) 0 cs) (neg_ℤ (pos 70)) length
+position_step_over cs x length = scale (sum_low (q_row x) 0 cs) (sum_high (q_row x) 0 cs) (sum_exponent q_unit) length
 
 -- the sum begins with c_1 U_0
 unfoldable pub velocity_over : List Ival62 → Ival62 → ℕ → Interval
-velocity_over cs x length = scale (sum_low (slope_row x) 1 (drop 1 cs)) (sum_high (slope_row x) 1 (drop 1 cs)) (neg_ℤ (pos 74)) length
+velocity_over cs x length = scale (sum_low (slope_row x) 1 (drop 1 cs)) (sum_high (slope_row x) 1 (drop 1 cs)) (sum_exponent u_unit) length
 
 -- scaled twice, the first time without narrowing; R_0 is 0, so that the sum begins in effect with 2 c_2 R_1
 unfoldable pub velocity_step_over : List Ival62 → Ival62 → ℕ → Interval
@@ -33,7 +36,7 @@ velocity_step_over cs x length =
     scale
     (floor_div (pos 2 *ℤ sum_low (slope_difference_row x) 1 (drop 1 cs)) length)
     (ceil_div (pos 2 *ℤ sum_high (slope_difference_row x) 1 (drop 1 cs)) length)
-    (neg_ℤ (pos 68))
+    (sum_exponent r_unit)
     length
 
 -- ---- the same of a series from time a to time b

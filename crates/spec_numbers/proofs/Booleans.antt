@@ -1,4 +1,4 @@
--- Tests that hold together.
+-- Tests that hold together, or fail together.
 use Rattle.std.proofs.Common.{◌≡◌, Bool, true, false, ◌&&◌, refl}
 
 pub both_true : (a b : Bool) → a ≡ true → b ≡ true → (a && b) ≡ true
@@ -11,3 +11,6 @@ both_first false b holds = holds
 pub both_second : (a b : Bool) → (a && b) ≡ true → b ≡ true
 both_second true b holds = holds
 both_second false b holds = absurd (cc)
+
+pub not_both : (a b : Bool) → a ≡ false → (a && b) ≡ false
+not_both a b fails = rw fails refl

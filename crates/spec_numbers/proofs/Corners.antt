@@ -2,19 +2,11 @@
 use Rattle.std.proofs.Common.{◌≡◌, arith, [], ◌∷◌, ℤ, pos, negsuc, ◌*ℤ◌, neg_ℤ, ◌≤ℤ◌, ◌⊎◌, inl, inr}
 use Rattle.spec_numbers.proofs.Whole.{mul_comm}
 use Rattle.spec_numbers.proofs.Ring.{v, ◌⊗◌, minus, ring}
-use Rattle.spec_numbers.proofs.Order.{lin, le-mul}
+use Rattle.spec_numbers.proofs.Order.{lin, le-mul, le-mul_neg}
 
 pub sign_cases : (z : ℤ) → (pos 0 ≤ℤ z) ⊎ (z ≤ℤ pos 0)
 sign_cases (pos n) = inl (omega (arith, lin))
 sign_cases (negsuc n) = inr (omega (arith, lin))
-
--- from here on `a * c` grows with a where c >= 0, and falls where c <= 0
-le-mul_neg : (a b c : ℤ) → c ≤ℤ pos 0 → a ≤ℤ b → (b *ℤ c) ≤ℤ (a *ℤ c)
-le-mul_neg a b c h q =
-    let p : (a *ℤ neg_ℤ c) ≤ℤ (b *ℤ neg_ℤ c) = le-mul a b (neg_ℤ c) (omega (arith, lin)) q in
-    let e : a *ℤ neg_ℤ c ≡ neg_ℤ (a *ℤ c) = ring (a ∷ c ∷ []) (v 0 ⊗ minus (v 1)) (minus (v 0 ⊗ v 1)) tt in
-    let f : b *ℤ neg_ℤ c ≡ neg_ℤ (b *ℤ c) = ring (b ∷ c ∷ []) (v 0 ⊗ minus (v 1)) (minus (v 0 ⊗ v 1)) tt in
-    omega (arith, lin)
 
 -- a bound of the products with both ends is a bound of each product between
 between_low : (m x c d y : ℤ) → c ≤ℤ y → y ≤ℤ d → m ≤ℤ (x *ℤ c) → m ≤ℤ (x *ℤ d) → m ≤ℤ (x *ℤ y)

@@ -1,9 +1,9 @@
 -- The order of the integers under sums and products.
-use Rattle.std.proofs.Common.{◌≡◌, ℕ, zero, suc, ◌*◌, ◌<◌, arith, refl, ap, ◌∙◌, [], ◌∷◌, ℤ, pos, negsuc, ◌-ℤ◌, ◌*ℤ◌, ◌≤ℤ◌, ◌<ℤ◌}
+use Rattle.std.proofs.Common.{◌≡◌, ℕ, zero, suc, ◌*◌, ◌<◌, arith, refl, ap, ◌∙◌, [], ◌∷◌, ℤ, pos, negsuc, ◌-ℤ◌, ◌*ℤ◌, neg_ℤ, ◌≤ℤ◌, ◌<ℤ◌}
 use Rattle.std.proofs.lemmas.Int.{ints, by_lt_z}
 use borrow.Author.Differences.{up, down, fits_out, same_out, Apart-out, lt_T, le_T, lt_not, le_not, lt-true, lt-false, le-true, le-false, true-lt, false-lt, true-le, false-le, not_negative_out, lt_out, le_out, fits_in, same_in, lt_in, le_in, below_in, at_most_in, not_negative_in, true_is_lt, false_is_lt, true_is_le, false_is_le, sum_is_lem, neg_is, abs_is, mag_is}
 use Rattle.spec_numbers.proofs.Whole.{nonneg-mul}
-use Rattle.spec_numbers.proofs.Ring.{v, ◌⊖◌, ◌⊗◌, ring}
+use Rattle.spec_numbers.proofs.Ring.{v, ◌⊖◌, ◌⊗◌, minus, ring}
 
 -- linear arithmetic over the integers, a product as an unknown
 pub ruleset lin = (fits_out, same_out, Apart-out, lt_T, le_T, lt_not, le_not, lt-true, lt-false, le-true, le-false, true-lt, false-lt, true-le, false-le, not_negative_out, lt_out, le_out, fits_in, same_in, lt_in, le_in, below_in, at_most_in, not_negative_in, true_is_lt, false_is_lt, true_is_le, false_is_le, sum_is_lem, neg_is, abs_is, mag_is)
@@ -15,6 +15,14 @@ pub le-mul : (a b c : ℤ) → pos 0 ≤ℤ c → a ≤ℤ b → (a *ℤ c) ≤�
 le-mul a b c h q =
     let e : b *ℤ c -ℤ a *ℤ c ≡ (b -ℤ a) *ℤ c = ring (a ∷ b ∷ c ∷ []) (v 1 ⊗ v 2 ⊖ v 0 ⊗ v 2) ((v 1 ⊖ v 0) ⊗ v 2) tt in
     le_by (a *ℤ c) (b *ℤ c) ((b -ℤ a) *ℤ c) e (nonneg-mul (b -ℤ a) c (omega (arith, lin)) h)
+
+-- a product falls with its first factor where the second is at most 0
+pub le-mul_neg : (a b c : ℤ) → c ≤ℤ pos 0 → a ≤ℤ b → (b *ℤ c) ≤ℤ (a *ℤ c)
+le-mul_neg a b c h q =
+    let p : (a *ℤ neg_ℤ c) ≤ℤ (b *ℤ neg_ℤ c) = le-mul a b (neg_ℤ c) (omega (arith, lin)) q in
+    let e : a *ℤ neg_ℤ c ≡ neg_ℤ (a *ℤ c) = ring (a ∷ c ∷ []) (v 0 ⊗ minus (v 1)) (minus (v 0 ⊗ v 1)) tt in
+    let f : b *ℤ neg_ℤ c ≡ neg_ℤ (b *ℤ c) = ring (b ∷ c ∷ []) (v 0 ⊗ minus (v 1)) (minus (v 0 ⊗ v 1)) tt in
+    omega (arith, lin)
 
 pub le-mul_cancel : (a b : ℤ) (c : ℕ) → 0 < c → (a *ℤ pos c) ≤ℤ (b *ℤ pos c) → a ≤ℤ b
 le-mul_cancel a b c h q = by (a -ℤ b) refl

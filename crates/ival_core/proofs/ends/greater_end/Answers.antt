@@ -1,7 +1,7 @@
 use Rattle.std.proofs.Common.{arith, pos, w64, ◌≤ℤ◌}
 use Rattle.std.proofs.lemmas.Int.{ints, to_z-of_z}
-use Rattle.spec_numbers.proofs.Order.{le-mul}
-use Rattle.ival_core.proofs.Signs.{le-mul_neg, max_second, max_first}
+use Rattle.spec_numbers.proofs.Order.{le-mul, le-mul_neg}
+use Rattle.ival_core.proofs.Signs.{max_second, max_first}
 use Rattle.ival_core.proofs.ends.greater_end.Goals as goal
 
 pub returns-then-z-ge0-clause-greatest : goal.returns-then-z-ge0-clause-greatest

@@ -1,7 +1,7 @@
 use Rattle.std.proofs.Common.{arith, pos, w64, ◌≤ℤ◌}
 use Rattle.std.proofs.lemmas.Int.{ints, to_z-of_z}
-use Rattle.spec_numbers.proofs.Order.{le-mul}
-use Rattle.ival_core.proofs.Signs.{le-mul_neg, min_first, min_second}
+use Rattle.spec_numbers.proofs.Order.{le-mul, le-mul_neg}
+use Rattle.ival_core.proofs.Signs.{min_first, min_second}
 use Rattle.ival_core.proofs.ends.lesser_end.Goals as goal
 
 pub returns-then-z-ge0-clause-least : goal.returns-then-z-ge0-clause-least

@@ -1,7 +1,8 @@
 // Which asks are asked for events.
 ghost use Rattle.std.specs.Prelude.{◌≡◌, ◌≢◌, ◌↔◌, IsTrue, IfSome};
 ghost use Rattle.spec_ephemeris.specs.declared.body.Body.TheVariants.{Ssb};
-ghost use Rattle.spec_kinds.specs.Asks.{IsAsk, takes_second};
+ghost use Rattle.spec_kinds.specs.Asks.{IsAsk};
+ghost use Rattle.spec_kinds.specs.Table.{takes_second};
 
 use eph_model::Body;
 use spec_kinds::{Ask, Kind};
@@ -21,11 +22,7 @@ pub fn is_ask(ask: &Ask) -> bool
 pub fn takes_second(kind: Kind) -> bool
     ensures { result ≡ takes_second kind }
 {
-    match kind {
-        Kind::Conj | Kind::Oppo | Kind::Sep | Kind::SepExt => true,
-        Kind::Any | Kind::Full | Kind::Annular => true,
-        Kind::Coord | Kind::Radius | Kind::Apsis | Kind::Station => false,
-    }
+    kind.takes_second()
 }
 
 // Whether the body can be a target.

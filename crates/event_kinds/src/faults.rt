@@ -2,12 +2,12 @@
 ghost use Rattle.std.specs.Prelude.{◌≡◌, [], Some};
 ghost use Rattle.std.specs.List.{list_all};
 ghost use Rattle.spec_kinds.specs.Asks.{before, bodies_of};
-ghost use Rattle.spec_kinds.specs.Faults.{has_body, has_twice, is_same, is_distance, is_cosine, is_radius, are_in_range, fault_of};
+ghost use Rattle.spec_kinds.specs.Faults.{has_body, has_twice, is_same, is_distance, is_cosine, is_radius, is_in_range, are_in_range, fault_of};
 ghost use Rattle.event_kinds.specs.Faults.{event_fault_of};
 
 use eph_model::{Body, Ephemeris};
 use ival_core::{is_cosine as is_cosine_size, is_distance as is_distance_size};
-use spec_kinds::{Ask, EventFault, Kind};
+use spec_kinds::{Ask, EventFault, Range};
 use spec_text::Decimal;
 use thiserror::Error;
 
@@ -131,23 +131,33 @@ fn is_same(one: Body, other: Body) -> bool
 fn is_in_range(ask: Ask) -> bool
     ensures { result ≡ are_in_range ask.kind ask.value1 ask.value2 }
 {
-    match ask.kind {
-        Kind::Coord => is_distance(ask.value1),
-        Kind::Radius => is_radius(ask.value1),
-        Kind::Sep => is_cosine(ask.value1),
-        Kind::Any | Kind::Full | Kind::Annular => is_radius(ask.value1) && is_radius(ask.value2),
-        Kind::Apsis | Kind::Conj | Kind::Oppo | Kind::Station | Kind::SepExt => true,
+    if ask.kind.takes_radii() {
+        is_radius(ask.value1) && is_radius(ask.value2)
+    } else {
+        lies_in(ask.kind.range(), ask.value1)
     }
 }
 
-// Below 2^36 km in size.
+// Whether a reference value is of this range.
+fn lies_in(range: Range, value: Decimal) -> bool
+    ensures { result ≡ is_in_range range value }
+{
+    match range {
+        Range::Length => is_distance(value),
+        Range::Distance => is_radius(value),
+        Range::Cosine => is_cosine(value),
+        Range::Free => true,
+    }
+}
+
+// Below 2^36 km in magnitude.
 fn is_distance(km: Decimal) -> bool
     ensures { result ≡ is_distance km }
 {
     is_distance_size(km.mant, km.exp)
 }
 
-// At most 1 in size.
+// At most 1 in magnitude.
 fn is_cosine(number: Decimal) -> bool
     ensures { result ≡ is_cosine number }
 {

@@ -12,7 +12,8 @@ use Rattle.spec_requests.specs.declared.request.Request.TheVariants.{Check}
 use Rattle.spec_requests.specs.declared.request.WordFault.{WordFault}
 use Rattle.spec_requests.specs.declared.request.WordFault.TheVariants.{Memory, Words, BadValue}
 use Rattle.spec_requests.specs.Names.{Text, kind_of, option_name}
-use Rattle.spec_requests.specs.Options.{Values, is_unused, takes_radii, use_of_ref}
+use Rattle.spec_kinds.specs.Table.{is_unused, row_of, takes_radii}
+use Rattle.spec_requests.specs.Options.{Values}
 use Rattle.spec_requests.specs.Commands.{check_command, files_in, find_command, gen_command, is_refused, values_in}
 use Rattle.spec_requests.specs.Requests.{bad_word, check_request, checked_text, find_request, gen_request, search_by, search_of_kind, text_by, text_of, values_text}
 use Rattle.gf_words.specs.Answers.{Answers}
@@ -29,12 +30,12 @@ pub radii_text : (values : Values) (kind : Kind) (first second : Text) → takes
 unfolding values_text
 radii_text values kind first second radii one two = rw radii (λ i. one i ++ (codes "," ++ two i))
 
-pub no_text : (values : Values) (kind : Kind) → takes_radii kind ≡ false → is_unused (use_of_ref kind) ≡ true
+pub no_text : (values : Values) (kind : Kind) → takes_radii kind ≡ false → is_unused (row_of kind).reference ≡ true
     → codes "-" ≡ values_text values kind
 unfolding values_text
 no_text values kind radii unused = rw (radii, unused) refl
 
-pub ref_text : (values : Values) (kind : Kind) (word : Text) → takes_radii kind ≡ false → is_unused (use_of_ref kind) ≡ false
+pub ref_text : (values : Values) (kind : Kind) (word : Text) → takes_radii kind ≡ false → is_unused (row_of kind).reference ≡ false
     → word ≡ unwrap_or (values opt.Ref) (codes "0") → word ≡ values_text values kind
 unfolding values_text
 ref_text values kind word radii used is = rw (radii, used) is

@@ -1,4 +1,3 @@
-mod Tables
 mod Parsing
 mod Faults
 mod Rules

@@ -5,7 +5,9 @@ ghost use Rattle.spec_requests.specs.Commands.{check_command, command_with, file
 ghost use Rattle.gf_words.specs.Commands.{with_rules};
 
 use clap::{Arg, ArgAction, Command};
-use spec_requests::{FIND_OPTIONS, GEN_OPTIONS, GEN_WORDS, Named, option_name};
+use spec_requests::{
+    CommandName, FIND_OPTIONS, GEN_OPTIONS, GEN_WORDS, Named, command_name, option_name,
+};
 use std::alloc::{AllocError, Global};
 
 fn with_option<'a>(
@@ -79,19 +81,22 @@ fn without_help<'a>(alloc: Global, name: &'a str) -> Command<'a>
 pub(crate) fn find_command<'a>(alloc: Global) -> Result<Command<'a>, AllocError>
     ensures { IfOk result (λ command. app_of command ≡ find_command) }
 {
-    let command = with_options(alloc, without_help(alloc, "find"), &FIND_OPTIONS)?;
+    let name: &'a str = command_name(CommandName::Find);
+    let command = with_options(alloc, without_help(alloc, name), &FIND_OPTIONS)?;
     with_files(alloc, command)
 }
 
 pub(crate) fn check_command<'a>(alloc: Global) -> Result<Command<'a>, AllocError>
     ensures { IfOk result (λ command. app_of command ≡ check_command) }
 {
-    with_files(alloc, without_help(alloc, "check"))
+    let name: &'a str = command_name(CommandName::Check);
+    with_files(alloc, without_help(alloc, name))
 }
 
 pub(crate) fn gen_command<'a>(alloc: Global) -> Result<Command<'a>, AllocError>
     ensures { IfOk result (λ command. app_of command ≡ gen_command) }
 {
-    let command = with_options(alloc, without_help(alloc, "gen"), &GEN_OPTIONS)?;
+    let name: &'a str = command_name(CommandName::Gen);
+    let command = with_options(alloc, without_help(alloc, name), &GEN_OPTIONS)?;
     with_words(alloc, command, &GEN_WORDS)
 }

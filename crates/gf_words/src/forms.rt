@@ -2,18 +2,18 @@
 ghost use Rattle.std.specs.Prelude.{◌≡◌, ◌++◌, ◌&&◌, ◌≤◌, IfSome, None, Some, if◌then◌else◌, length, nat_le, nat_lt};
 ghost use Rattle.std.specs.Char.{is_ascii_digit};
 ghost use Rattle.std.specs.List.{list_all};
-ghost use Rattle.spec_requests.specs.Names.{axis_of, command_of, cut_of, dir_of, frame_of, kind_of, layout_of, named, observer_of, rows_of, target_of};
+ghost use Rattle.spec_requests.specs.Names.{as_target, axis_of, command_of, cut_of, dir_of, frame_of, kind_of, layout_of, named, observer_of, rows_of, target_of};
 ghost use Rattle.spec_requests.specs.Options.{are_digits, blocks_of, decimal_of, depth_of, instant_of, number_of, seed_of, width_of, workers_of};
 
 use de_text::read_decimal;
 use spec_bodies::Frame;
 use spec_ephemeris::Body;
 use spec_events::Dir;
-use spec_kinds::Kind;
+use spec_kinds::{KINDS, Kind};
 use spec_requests::{
-    AXES, COMMANDS, CUTS, CommandName, DIRS, FRAMES, KINDS, LAYOUTS, MAX_DEPTH,
+    AXES, BODIES, COMMANDS, CUTS, CommandName, DIRS, FRAMES, LAYOUTS, MAX_DEPTH,
     MAX_DIGITS_OF_A_COUNT, MAX_DIGITS_OF_A_SEED, MAX_DIGITS_OF_BLOCKS, MAX_GENERATED_BLOCKS,
-    MAX_SEED, MAX_WIDTH, MAX_WORKERS, TARGETS, VIEWPOINTS,
+    MAX_SEED, MAX_WIDTH, MAX_WORKERS,
 };
 use spec_text::Decimal;
 use spec_trees::CutRule;
@@ -44,21 +44,31 @@ pub(crate) fn command(word: &str) -> Option<CommandName>
 pub(crate) fn kind(word: &str) -> Option<Kind>
     ensures { result ≡ kind_of word.now }
 {
-    named(&KINDS, word)
-}
-
-pub(crate) fn target(word: &str) -> Option<Body>
-    ensures { result ≡ target_of word.now }
-{
-    named(&TARGETS, word)
+    match named(&KINDS, word) {
+        Some(row) => Some(row.kind),
+        None => None,
+    }
 }
 
 pub(crate) fn observer(word: &str) -> Option<Body>
     ensures { result ≡ observer_of word.now }
 {
-    match named(&TARGETS, word) {
-        Some(body) => Some(body),
-        None => named(&VIEWPOINTS, word),
+    named(&BODIES, word)
+}
+
+// A body that can be looked at: any but the barycentre of the solar system.
+pub(crate) fn target(word: &str) -> Option<Body>
+    ensures { result ≡ target_of word.now }
+{
+    as_target(observer(word))
+}
+
+fn as_target(body: Option<Body>) -> Option<Body>
+    ensures { result ≡ as_target body }
+{
+    match body {
+        Some(body) if body != Body::Ssb => Some(body),
+        _ => None,
     }
 }
 

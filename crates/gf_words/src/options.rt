@@ -1,14 +1,14 @@
 // The table of options: which is the first that is bad.
 ghost use Rattle.std.specs.Prelude.{◌≡◌, ◌++◌, find, option_map};
-ghost use Rattle.spec_requests.specs.Options.{bad_option, is_bad, is_of_form, takes_radii, use_of, use_of_axis, use_of_frame, use_of_radius, use_of_ref, use_of_second};
+ghost use Rattle.spec_requests.specs.Options.{bad_option, is_bad, is_of_form, use_of};
 ghost use Rattle.spec_requests.specs.Requests.{bad_word};
 ghost use Rattle.gf_words.specs.Readings.{text_in, values_of};
 
 use crate::forms;
 use crate::readings::value;
 use clap::ArgMatches;
-use spec_kinds::Kind;
-use spec_requests::{FIND_OPTIONS, GEN_OPTIONS, GEN_WORDS, Named, Use};
+use spec_kinds::{Kind, Use};
+use spec_requests::{FIND_OPTIONS, GEN_OPTIONS, GEN_WORDS, Named};
 
 // The word has the form of the option's values.
 fn is_of_form(option: Named, word: &str) -> bool
@@ -37,109 +37,20 @@ fn is_of_form(option: Named, word: &str) -> bool
     }
 }
 
-fn use_of_second(kind: Kind) -> Use
-    ensures { result ≡ use_of_second kind }
-{
-    match kind {
-        Kind::Coord => Use::Unused,
-        Kind::Radius => Use::Unused,
-        Kind::Apsis => Use::Unused,
-        Kind::Conj => Use::Needed,
-        Kind::Oppo => Use::Needed,
-        Kind::Station => Use::Unused,
-        Kind::Sep => Use::Needed,
-        Kind::SepExt => Use::Needed,
-        Kind::Any => Use::Needed,
-        Kind::Full => Use::Needed,
-        Kind::Annular => Use::Needed,
-    }
-}
-
-fn use_of_frame(kind: Kind) -> Use
-    ensures { result ≡ use_of_frame kind }
-{
-    match kind {
-        Kind::Coord => Use::Optional,
-        Kind::Radius => Use::Unused,
-        Kind::Apsis => Use::Unused,
-        Kind::Conj => Use::Optional,
-        Kind::Oppo => Use::Optional,
-        Kind::Station => Use::Optional,
-        Kind::Sep => Use::Unused,
-        Kind::SepExt => Use::Unused,
-        Kind::Any => Use::Unused,
-        Kind::Full => Use::Unused,
-        Kind::Annular => Use::Unused,
-    }
-}
-
-fn use_of_axis(kind: Kind) -> Use
-    ensures { result ≡ use_of_axis kind }
-{
-    match kind {
-        Kind::Coord => Use::Needed,
-        Kind::Radius => Use::Unused,
-        Kind::Apsis => Use::Unused,
-        Kind::Conj => Use::Unused,
-        Kind::Oppo => Use::Unused,
-        Kind::Station => Use::Unused,
-        Kind::Sep => Use::Unused,
-        Kind::SepExt => Use::Unused,
-        Kind::Any => Use::Unused,
-        Kind::Full => Use::Unused,
-        Kind::Annular => Use::Unused,
-    }
-}
-
-pub(crate) fn use_of_ref(kind: Kind) -> Use
-    ensures { result ≡ use_of_ref kind }
-{
-    match kind {
-        Kind::Coord => Use::Optional,
-        Kind::Radius => Use::Needed,
-        Kind::Apsis => Use::Unused,
-        Kind::Conj => Use::Unused,
-        Kind::Oppo => Use::Unused,
-        Kind::Station => Use::Unused,
-        Kind::Sep => Use::Needed,
-        Kind::SepExt => Use::Unused,
-        Kind::Any => Use::Unused,
-        Kind::Full => Use::Unused,
-        Kind::Annular => Use::Unused,
-    }
-}
-
-fn use_of_radius(kind: Kind) -> Use
-    ensures { result ≡ use_of_radius kind }
-{
-    if takes_radii(kind) {
-        Use::Needed
-    } else {
-        Use::Unused
-    }
-}
-
-// Events of the kind lie between two discs, whose radii are asked for.
-pub(crate) fn takes_radii(kind: Kind) -> bool
-    ensures { result ≡ takes_radii kind }
-{
-    matches!(kind, Kind::Any | Kind::Full | Kind::Annular)
-}
-
-// How a kind uses an option of `find`.
+// How a kind uses an option of `find`, by the table of kinds.
 fn use_of(option: Named, kind: Kind) -> Use
     ensures { result ≡ use_of option kind }
 {
     match option {
         Named::Kind => Use::Needed,
         Named::Target => Use::Needed,
-        Named::Second => use_of_second(kind),
+        Named::Second => kind.second(),
         Named::Observer => Use::Optional,
-        Named::Frame => use_of_frame(kind),
-        Named::Axis => use_of_axis(kind),
-        Named::Ref => use_of_ref(kind),
-        Named::Radius1 => use_of_radius(kind),
-        Named::Radius2 => use_of_radius(kind),
+        Named::Frame => kind.frame(),
+        Named::Axis => kind.axis(),
+        Named::Ref => kind.reference(),
+        Named::Radius1 => kind.radii(),
+        Named::Radius2 => kind.radii(),
         Named::Dir => Use::Optional,
         Named::From => Use::Optional,
         Named::To => Use::Optional,

@@ -6,13 +6,13 @@ ghost use Rattle.spec_events.specs.declared.dir.Dir.TheVariants as dir;
 ghost use Rattle.spec_trees.specs.declared.cuts.CutRule.TheVariants.{Half};
 ghost use Rattle.spec_requests.specs.declared.request.Named.TheVariants as opt;
 ghost use Rattle.spec_requests.specs.Names.{axis_of, cut_of, dir_of, frame_of, kind_of, observer_of, target_of};
-ghost use Rattle.spec_requests.specs.Options.{bad_option, decimal_of, depth_of, instant_of, is_unused, width_of, workers_of};
+ghost use Rattle.spec_requests.specs.Options.{bad_option, decimal_of, depth_of, instant_of, width_of, workers_of};
 ghost use Rattle.spec_requests.specs.Requests.{ask_of, checked_search, first_number, nought, search_by, search_of, value_or, values_text};
 ghost use Rattle.gf_words.specs.Answers.{Answers};
 ghost use Rattle.gf_words.specs.Readings.{file_names_of, values_of};
 
 use crate::forms;
-use crate::options::{bad_option, takes_radii, use_of_ref};
+use crate::options::bad_option;
 use crate::readings::{file_names, value};
 use clap::ArgMatches;
 use spec_bodies::Frame;
@@ -20,7 +20,7 @@ use spec_ephemeris::Body;
 use spec_events::Dir;
 use spec_kinds::{Ask, Kind};
 use spec_requests::{
-    DEFAULT_DEPTH, DEFAULT_WIDTH, DEFAULT_WORKERS, FindAsk, Named, Request, Text, Use, WordFault,
+    DEFAULT_DEPTH, DEFAULT_WIDTH, DEFAULT_WORKERS, FindAsk, Named, Request, Text, WordFault,
 };
 use spec_text::Decimal;
 use spec_trees::CutRule;
@@ -73,7 +73,7 @@ fn number(matches: &ArgMatches<'_>, option: Named) -> Decimal
 fn first_number(kind: Kind) -> Named
     ensures { result ≡ first_number kind }
 {
-    if takes_radii(kind) {
+    if kind.takes_radii() {
         Named::Radius1
     } else {
         Named::Ref
@@ -133,20 +133,14 @@ fn text_of_two(alloc: Global, first: &str, second: &str) -> Result<Text, AllocEr
 fn values_text(alloc: Global, matches: &ArgMatches<'_>, kind: Kind) -> Result<Text, AllocError>
     ensures { IfOk result (λ text. text ≡ values_text (values_of matches.now) kind) }
 {
-    if takes_radii(kind) {
+    if kind.takes_radii() {
         let first = word_or(matches, Named::Radius1, "");
         return text_of_two(alloc, first, word_or(matches, Named::Radius2, ""));
     }
-    if is_unused(use_of_ref(kind)) {
+    if kind.reference().is_unused() {
         return text(alloc, "-");
     }
     text(alloc, word_or(matches, Named::Ref, "0"))
-}
-
-fn is_unused(usage: Use) -> bool
-    ensures { result ≡ is_unused usage }
-{
-    matches!(usage, Use::Unused)
 }
 
 fn instant(matches: &ArgMatches<'_>, option: Named) -> Option<i64>

@@ -6,6 +6,8 @@
 
 mod parts;
 mod terms;
+#[cfg(test)]
+mod tests;
 
 pub use event_expr::Formula;
 pub use parts::{Memory, OccultParts, occult};

@@ -1,24 +1,9 @@
 -- What an ask must be, and the bodies that it names.
-use Rattle.std.specs.Prelude.{◌≡◌, ◌≢◌, ◌<◌, Bool, true, false, List, [], ◌∷◌, Option, None, Some, is_some, IfSome, unwrap_or}
+use Rattle.std.specs.Prelude.{◌≡◌, ◌≢◌, ◌<◌, List, [], ◌∷◌, Option, None, Some, is_some, IfSome, unwrap_or}
 use Rattle.spec_ephemeris.specs.declared.body.Body.{Body}
 use Rattle.spec_ephemeris.specs.declared.body.Body.TheVariants.{Ssb}
 use Rattle.spec_kinds.specs.declared.ask.Ask.{Ask}
-use Rattle.spec_kinds.specs.declared.kind.Kind.{Kind}
-use Rattle.spec_kinds.specs.declared.kind.Kind.TheVariants.{Coord, Radius, Apsis, Conj, Oppo, Station, Sep, SepExt, Any, Full, Annular}
-
--- whether events of the kind are of two bodies
-abbrev pub takes_second : Kind → Bool
-takes_second Coord = false
-takes_second Radius = false
-takes_second Apsis = false
-takes_second Conj = true
-takes_second Oppo = true
-takes_second Station = false
-takes_second Sep = true
-takes_second SepExt = true
-takes_second Any = true
-takes_second Full = true
-takes_second Annular = true
+use Rattle.spec_kinds.specs.Table.{takes_second}
 
 -- a second body is there exactly for the kinds that take one, and no target is the barycentre of the solar system
 pub record IsAsk (ask : Ask) : Type 0 where

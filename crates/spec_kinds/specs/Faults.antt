@@ -13,7 +13,9 @@ use Rattle.spec_kinds.specs.declared.ask.Ask.{Ask}
 use Rattle.spec_kinds.specs.declared.fault.EventFault.{EventFault}
 use Rattle.spec_kinds.specs.declared.fault.EventFault.TheVariants.{BodyAbsent, SameBody, ReferenceRange}
 use Rattle.spec_kinds.specs.declared.kind.Kind.{Kind}
-use Rattle.spec_kinds.specs.declared.kind.Kind.TheVariants as K
+use Rattle.spec_kinds.specs.declared.table.Range.{Range}
+use Rattle.spec_kinds.specs.declared.table.Range.TheVariants.{Length, Distance, Cosine, Free}
+use Rattle.spec_kinds.specs.Table.{row_of, takes_radii}
 use Rattle.spec_kinds.specs.Asks.{bodies_of}
 
 -- ---- columns that are absent
@@ -47,11 +49,11 @@ has_twice [] = false
 has_twice (body ∷ bodies) = list_any (is_same body) bodies || has_twice bodies
 
 -- ---- numbers out of range
--- below 2^36 km in size
+-- below 2^36 km in magnitude
 abbrev pub is_distance : Decimal → Bool
 is_distance d = nat_lt (unsigned_abs d.mant * 10 ^ up d.exp) (2 ^ 36 * 10 ^ down d.exp)
 
--- at most 1 in size
+-- at most 1 in magnitude
 abbrev pub is_cosine : Decimal → Bool
 is_cosine d = nat_le (unsigned_abs d.mant * 10 ^ up d.exp) (10 ^ down d.exp)
 
@@ -63,19 +65,17 @@ is_negative (negsuc n) = true
 abbrev pub is_radius : Decimal → Bool
 is_radius d = not (is_negative d.mant) && is_distance d
 
--- the numbers that a kind uses are such as it takes
+-- a reference value of this range
+abbrev pub is_in_range : Range → Decimal → Bool
+is_in_range Length v = is_distance v
+is_in_range Distance v = is_radius v
+is_in_range Cosine v = is_cosine v
+is_in_range Free v = true
+
+-- the numbers that a kind uses are such as it takes: two radii, or a reference value
 abbrev pub are_in_range : Kind → Decimal → Decimal → Bool
-are_in_range K.Coord v w = is_distance v
-are_in_range K.Radius v w = is_radius v
-are_in_range K.Apsis v w = true
-are_in_range K.Conj v w = true
-are_in_range K.Oppo v w = true
-are_in_range K.Station v w = true
-are_in_range K.Sep v w = is_cosine v
-are_in_range K.SepExt v w = true
-are_in_range K.Any v w = is_radius v && is_radius w
-are_in_range K.Full v w = is_radius v && is_radius w
-are_in_range K.Annular v w = is_radius v && is_radius w
+are_in_range kind v w =
+    if takes_radii kind then is_radius v && is_radius w else is_in_range (row_of kind).range v
 
 -- ---- the first fault that applies
 unfoldable pub fault_of : Ephemeris → Ask → Option EventFault

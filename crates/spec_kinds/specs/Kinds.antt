@@ -1,4 +1,4 @@
--- The table of kinds: the function that passes 0 at an event, and the conditions that hold there. All is geometric, as in
+-- The formulas of kinds: the function that passes 0 at an event, and the conditions that hold there. All is geometric, as in
 -- SPICE with no aberration correction. `Conj`, `Oppo` and `Station` are this program's own, and so are all names.
 use Rattle.std.specs.Prelude.{ℕ, List, [], ◌∷◌}
 use Rattle.spec_text.specs.declared.decimals.Decimal.{Decimal}

@@ -10,7 +10,7 @@ pub enum EventFault {
     BodyAbsent,
     /// Fault 51: two of the target, the second body and the observer are one body.
     SameBody,
-    /// Fault 52: a cosine is past 1 in size, a coordinate's value is at least 2^36 km in size, or a distance or a
+    /// Fault 52: a cosine is past 1 in magnitude, a coordinate's value is at least 2^36 km in magnitude, or a distance or a
     /// radius is negative or at least 2^36 km.
     ReferenceRange,
 }

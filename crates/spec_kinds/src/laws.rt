@@ -1,6 +1,6 @@
 // What is true of asks: each law is the contract of a function with nothing to do.
 
-ghost use Rattle.std.specs.Prelude.{◌≡◌, ◌≢◌, ◌↔◌, ◌<◌, ◌≤◌, ℕ, ◌∷◌, All, IsTrue, None};
+ghost use Rattle.std.specs.Prelude.{◌≡◌, ◌≢◌, ◌↔◌, ◌<◌, ◌≤◌, ℕ, ◌∷◌, All, IsTrue, None, length};
 ghost use Rattle.spec_text.specs.declared.decimals.Decimal.{Decimal};
 ghost use Rattle.spec_intervals.specs.Interval.{IsDistance, IsCosine};
 ghost use Rattle.spec_trees.specs.declared.cuts.CutRule.{CutRule};
@@ -15,6 +15,8 @@ ghost use Rattle.spec_kinds.specs.declared.ask.Ask.{Ask};
 ghost use Rattle.spec_kinds.specs.Asks.{IsAsk, targets_of};
 ghost use Rattle.spec_kinds.specs.Faults.{fault_of, has_body, is_same, is_distance, is_cosine};
 ghost use Rattle.spec_kinds.specs.Kinds.{event_of};
+ghost use Rattle.spec_kinds.specs.Table.{place, row_of, rows};
+ghost use Rattle.spec_kinds.specs.declared.kind.Kind.{Kind};
 ghost use Rattle.spec_kinds.specs.Searches.{view_of_ask, search_of};
 
 /// Where an ask has no fault, its function and its conditions are formulas.
@@ -48,4 +50,10 @@ pub fn tests_mean()
     ensures same { (one other : Body) → IsTrue (is_same one other) ↔ (one ≡ other) }
     ensures distance { (d : Decimal) → IsTrue (is_distance d) ↔ IsDistance d.mant d.exp }
     ensures cosine { (d : Decimal) → IsTrue (is_cosine d) ↔ IsCosine d.mant d.exp }
+{}
+
+/// Each kind has a row of its own in the table, which is the kind's.
+pub fn kinds_have_rows()
+    ensures there { (kind : Kind) → place kind < length rows }
+    ensures own { (kind : Kind) → (row_of kind).kind ≡ kind }
 {}

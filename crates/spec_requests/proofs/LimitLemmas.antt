@@ -8,8 +8,11 @@ use Rattle.std.proofs.lemmas.Int.{ints}
 use Rattle.clap.proofs.WalkLemmas.{both}
 use Rattle.spec_ephemeris.specs.declared.body.Body.{Body}
 use Rattle.spec_ephemeris.specs.declared.body.Body.TheVariants.{Mercury, Ssb}
-use Rattle.spec_kinds.specs.Asks.{IsAsk, takes_second}
+use Rattle.spec_kinds.specs.Asks.{IsAsk}
+use Rattle.spec_kinds.specs.Table.{row_of, takes_second}
 use Rattle.spec_kinds.specs.declared.kind.Kind.{Kind}
+use Rattle.spec_kinds.specs.declared.kind.Kind.TheVariants.{Coord}
+use Rattle.spec_kinds.specs.declared.table.Use.TheVariants.{Needed, Unused}
 use Rattle.spec_requests.specs.declared.request.FindAsk.{FindAsk}
 use Rattle.spec_requests.specs.declared.request.Request.{Request}
 use Rattle.spec_requests.specs.declared.request.Request.TheVariants.{Find, Check}
@@ -19,10 +22,9 @@ use Rattle.spec_requests.specs.declared.request.WordFault.{WordFault}
 use Rattle.spec_requests.specs.declared.request.WordFault.TheVariants.{Words}
 use Rattle.spec_requests.specs.declared.tables.CommandName.{CommandName}
 use Rattle.spec_requests.specs.declared.tables.CommandName.TheVariants as command
-use Rattle.spec_requests.specs.declared.tables.Use.TheVariants.{Needed, Unused}
 use Rattle.spec_requests.specs.declared.tables.TheConstants.{FIND_OPTIONS}
 use Rattle.spec_requests.specs.declared.limits.TheConstants.{DEFAULT_WIDTH, DEFAULT_DEPTH, DEFAULT_WORKERS, MAX_DIGITS_OF_A_COUNT, MAX_WIDTH, MAX_DEPTH, MAX_WORKERS}
-use Rattle.spec_requests.specs.Names.{Table, Text, axis_of, axes, command_of, kind_of, named, target_of, targets}
+use Rattle.spec_requests.specs.Names.{Table, Text, as_target, axis_of, axes, command_of, kind_of, named, observer_of, target_of}
 use Rattle.spec_requests.specs.Options.{Values, are_digits, bad_option, depth_of, is_bad, number_of, use_of, width_of, workers_of}
 use Rattle.spec_requests.specs.Commands.{check_command, files_in, find_command, gen_command, is_refused, values_in}
 use Rattle.spec_requests.specs.Requests.{ask_of, bad_word, checked_search, checked_text, request_for, request_of, search_by, search_of, search_of_kind, text_by, text_of, value_or}
@@ -70,9 +72,13 @@ none_ssb : (found : Option Body) → IfSome found (λ body. is_target body ≡ t
 none_ssb None all = tt
 none_ssb (Some body) all = not_ssb body all
 
+targets_only : (found : Option Body) → IfSome (as_target found) (λ body. is_target body ≡ true)
+targets_only None = tt
+targets_only (Some Ssb) = tt
+targets_only (Some _) = refl
+
 targets_are : (word : Text) → IfSome (target_of word) (λ body. is_target body ≡ true)
-unfolding target_of
-targets_are word = all_named is_target targets word refl
+targets_are word = targets_only (observer_of word)
 
 abbrev is_axis : ℕ → Bool
 is_axis axis = nat_lt axis 3
@@ -118,11 +124,16 @@ second_is true (Some word) good = not_false (is_some (target_of word)) good
 second_is false None good = refl
 second_is false (Some word) good = absurd (true≢false good)
 
+second_use : (kind : Kind) → (row_of kind).second ≡ cond (takes_second kind) Needed Unused
+second_use Coord = refl
+second_use _ = refl
+
 good_second : (values : Values) (kind : Kind) → bad_option values kind ≡ None
     → is_bad opt.Second (cond (takes_second kind) Needed Unused) (values opt.Second) ≡ false
 unfolding bad_option
 good_second values kind none =
-    each_fails (λ option. is_bad option (use_of option kind) (values option)) FIND_OPTIONS 2 opt.Kind none (lit< tt)
+    ap (λ usage. is_bad opt.Second usage (values opt.Second)) (sym (second_use kind))
+    ∙ each_fails (λ option. is_bad option (use_of option kind) (values option)) FIND_OPTIONS 2 opt.Kind none (lit< tt)
 
 ask_is : (values : Values) (kind : Kind) → bad_option values kind ≡ None → IsAsk (ask_of values kind)
 unfolding ask_of

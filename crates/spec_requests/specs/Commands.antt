@@ -5,8 +5,9 @@ use Rattle.clap.specs.Simple.{App, matches_of, new_app, new_rule, on_top}
 use Rattle.clap.specs.Faults.{fault_of}
 use Rattle.clap.specs.declared.builder.action.ArgAction.TheVariants.{Append}
 use Rattle.spec_requests.specs.declared.request.Named.{Named}
+use Rattle.spec_requests.specs.declared.tables.CommandName.TheVariants.{Find, Check, Gen}
 use Rattle.spec_requests.specs.declared.tables.TheConstants.{FIND_OPTIONS, GEN_WORDS, GEN_OPTIONS}
-use Rattle.spec_requests.specs.Names.{Text, option_name}
+use Rattle.spec_requests.specs.Names.{Text, command_name, option_name}
 use Rattle.spec_requests.specs.Options.{Values}
 
 -- `--name VALUE`, at most once
@@ -26,13 +27,13 @@ abbrev pub command_with : Text → List Rule → App
 command_with name rules = on_top (λ top. record top { rules = rules; disable_help_flag = true }) (new_app name)
 
 unfoldable pub find_command : App
-find_command = command_with (codes "find") (map option_rule FIND_OPTIONS ++ files_rule ∷ [])
+find_command = command_with (command_name Find) (map option_rule FIND_OPTIONS ++ files_rule ∷ [])
 
 unfoldable pub check_command : App
-check_command = command_with (codes "check") (files_rule ∷ [])
+check_command = command_with (command_name Check) (files_rule ∷ [])
 
 unfoldable pub gen_command : App
-gen_command = command_with (codes "gen") (map option_rule GEN_OPTIONS ++ map word_rule GEN_WORDS)
+gen_command = command_with (command_name Gen) (map option_rule GEN_OPTIONS ++ map word_rule GEN_WORDS)
 
 -- the command can't be read from the words, of which the first is its name
 unfoldable pub is_refused : App → List Text → Bool

@@ -1,5 +1,5 @@
 -- What words name, by the tables of names, and the names themselves.
-use Rattle.std.specs.Prelude.{ℕ, ◌==◌, List, [], ◌∷◌, ◌++◌, map, Option, None, Some, if◌then◌else◌, codes}
+use Rattle.std.specs.Prelude.{ℕ, List, [], ◌∷◌, map, get_or, Option, None, Some, option_map, if◌then◌else◌}
 use Rattle.std.specs.Borrow.{Bor}
 use Rattle.std.specs.Str.{bytes_eq}
 use Rattle.spec_ephemeris.specs.declared.body.Body.{Body}
@@ -11,11 +11,13 @@ use Rattle.spec_events.specs.declared.dir.Dir.TheVariants as dir
 use Rattle.spec_trees.specs.declared.cuts.CutRule.{CutRule}
 use Rattle.spec_trees.specs.declared.cuts.CutRule.TheVariants as cut
 use Rattle.spec_kinds.specs.declared.kind.Kind.{Kind}
-use Rattle.spec_kinds.specs.declared.kind.Kind.TheVariants as kind
+use Rattle.spec_kinds.specs.Table.{rows}
+use Rattle.spec_kinds.specs.Faults.{body_number}
 use Rattle.spec_requests.specs.declared.request.Named.{Named}
 use Rattle.spec_requests.specs.declared.request.Named.TheVariants as opt
 use Rattle.spec_requests.specs.declared.tables.CommandName.{CommandName}
-use Rattle.spec_requests.specs.declared.tables.TheConstants.{COMMANDS, KINDS, TARGETS, VIEWPOINTS, FRAMES, AXES, DIRS, CUTS, LAYOUTS}
+use Rattle.spec_requests.specs.declared.tables.CommandName.TheVariants as command
+use Rattle.spec_requests.specs.declared.tables.TheConstants.{COMMANDS, BODIES, FRAMES, AXES, DIRS, CUTS, OPTIONS, LAYOUTS}
 
 abbrev pub Text : Type 0
 Text = List ℕ
@@ -33,19 +35,17 @@ abbrev pub named : {X : Type 0} → Table X → Text → Option X
 named [] word = None
 named (row ∷ rows) word = if bytes_eq row.0 word then Some row.1 else named rows word
 
+-- the name in this row of the table, counted from 0
+abbrev pub name_at : {X : Type 0} → Table X → ℕ → Text
+name_at rows number = get_or (map (λ row. row.0) rows) number []
+
 -- ---- the tables
 
 abbrev pub commands : Table CommandName
 commands = map (λ row. (row.0.now, row.1)) COMMANDS
 
-abbrev pub kinds : Table Kind
-kinds = map (λ row. (row.0.now, row.1)) KINDS
-
-abbrev pub targets : Table Body
-targets = map (λ row. (row.0.now, row.1)) TARGETS
-
-abbrev pub viewpoints : Table Body
-viewpoints = map (λ row. (row.0.now, row.1)) VIEWPOINTS
+abbrev pub bodies : Table Body
+bodies = map (λ row. (row.0.now, row.1)) BODIES
 
 abbrev pub frames : Table Frame
 frames = map (λ row. (row.0.now, row.1)) FRAMES
@@ -59,6 +59,9 @@ dirs = map (λ row. (row.0.now, row.1)) DIRS
 abbrev pub cuts : Table CutRule
 cuts = map (λ row. (row.0.now, row.1)) CUTS
 
+abbrev pub options : Table Named
+options = map (λ row. (row.0.now, row.1)) OPTIONS
+
 abbrev pub layouts : Table ℕ
 layouts = map (λ row. (row.0.now, row.1)) LAYOUTS
 
@@ -67,14 +70,21 @@ layouts = map (λ row. (row.0.now, row.1)) LAYOUTS
 unfoldable pub command_of : Text → Option CommandName
 command_of = named commands
 
+-- the kind of the row, in the table of kinds, that has this name
 unfoldable pub kind_of : Text → Option Kind
-kind_of = named kinds
-
-unfoldable pub target_of : Text → Option Body
-target_of = named targets
+kind_of word = option_map (λ row. row.kind) (named rows word)
 
 unfoldable pub observer_of : Text → Option Body
-observer_of = named (targets ++ viewpoints)
+observer_of = named bodies
+
+-- a body that can be looked at: any but the barycentre of the solar system
+abbrev pub as_target : Option Body → Option Body
+as_target None = None
+as_target (Some body.Ssb) = None
+as_target (Some body) = Some body
+
+abbrev pub target_of : Text → Option Body
+target_of word = as_target (observer_of word)
 
 unfoldable pub frame_of : Text → Option Frame
 frame_of = named frames
@@ -88,74 +98,73 @@ dir_of = named dirs
 unfoldable pub cut_of : Text → Option CutRule
 cut_of = named cuts
 
+-- the option, or the word of `gen`, that has this name
+unfoldable pub option_of : Text → Option Named
+option_of = named options
+
 unfoldable pub layout_of : Text → Option ℕ
 layout_of = named layouts
 
--- the option's name, which follows two dashes, or the name of a word of `gen`
-abbrev pub option_name : Named → Text
-option_name opt.Kind = codes "kind"
-option_name opt.Target = codes "target"
-option_name opt.Second = codes "second"
-option_name opt.Observer = codes "observer"
-option_name opt.Frame = codes "frame"
-option_name opt.Axis = codes "axis"
-option_name opt.Ref = codes "ref"
-option_name opt.Radius1 = codes "radius1"
-option_name opt.Radius2 = codes "radius2"
-option_name opt.Dir = codes "dir"
-option_name opt.From = codes "from"
-option_name opt.To = codes "to"
-option_name opt.Width = codes "width"
-option_name opt.Depth = codes "depth"
-option_name opt.Workers = codes "workers"
-option_name opt.Cut = codes "cut"
-option_name opt.Layout = codes "layout"
-option_name opt.Blocks = codes "blocks"
-option_name opt.Seed = codes "seed"
+-- ---- the names of what words stand for: each value of an enum with its place in the table of names
 
--- ---- the names of what words stand for
+abbrev pub command_place : CommandName → ℕ
+command_place command.Find = 0
+command_place command.Check = 1
+command_place command.Gen = 2
 
-abbrev pub kind_name : Kind → Text
-kind_name kind.Coord = codes "coord"
-kind_name kind.Radius = codes "radius"
-kind_name kind.Apsis = codes "apsis"
-kind_name kind.Conj = codes "conj"
-kind_name kind.Oppo = codes "oppo"
-kind_name kind.Station = codes "station"
-kind_name kind.Sep = codes "sep"
-kind_name kind.SepExt = codes "sepext"
-kind_name kind.Any = codes "any"
-kind_name kind.Full = codes "full"
-kind_name kind.Annular = codes "annular"
+abbrev pub command_name : CommandName → Text
+command_name command = name_at commands (command_place command)
 
 abbrev pub body_name : Body → Text
-body_name body.Mercury = codes "mercury"
-body_name body.Venus = codes "venus"
-body_name body.Emb = codes "emb"
-body_name body.Mars = codes "mars"
-body_name body.Jupiter = codes "jupiter"
-body_name body.Saturn = codes "saturn"
-body_name body.Uranus = codes "uranus"
-body_name body.Neptune = codes "neptune"
-body_name body.Pluto = codes "pluto"
-body_name body.Moon = codes "moon"
-body_name body.Sun = codes "sun"
-body_name body.Earth = codes "earth"
-body_name body.Ssb = codes "ssb"
+body_name body = name_at bodies (body_number body)
+
+abbrev pub frame_place : Frame → ℕ
+frame_place frame.Eq = 0
+frame_place frame.Ecl = 1
 
 abbrev pub frame_name : Frame → Text
-frame_name frame.Eq = codes "eq"
-frame_name frame.Ecl = codes "ecl"
+frame_name frame = name_at frames (frame_place frame)
+
+abbrev pub dir_place : Dir → ℕ
+dir_place dir.Any = 0
+dir_place dir.Rise = 1
+dir_place dir.Fall = 2
 
 abbrev pub dir_name : Dir → Text
-dir_name dir.Any = codes "any"
-dir_name dir.Rise = codes "rise"
-dir_name dir.Fall = codes "fall"
+dir_name dir = name_at dirs (dir_place dir)
+
+abbrev pub cut_place : CutRule → ℕ
+cut_place cut.Half = 0
+cut_place cut.Third = 1
 
 abbrev pub cut_name : CutRule → Text
-cut_name cut.Half = codes "half"
-cut_name cut.Third = codes "third"
+cut_name cut = name_at cuts (cut_place cut)
 
 -- the axes of a frame are x, y and z in the order of their numbers
 abbrev pub axis_name : ℕ → Text
-axis_name axis = if axis == 0 then codes "x" else if axis == 1 then codes "y" else codes "z"
+axis_name axis = name_at axes axis
+
+abbrev pub option_place : Named → ℕ
+option_place opt.Kind = 0
+option_place opt.Target = 1
+option_place opt.Second = 2
+option_place opt.Observer = 3
+option_place opt.Frame = 4
+option_place opt.Axis = 5
+option_place opt.Ref = 6
+option_place opt.Radius1 = 7
+option_place opt.Radius2 = 8
+option_place opt.Dir = 9
+option_place opt.From = 10
+option_place opt.To = 11
+option_place opt.Width = 12
+option_place opt.Depth = 13
+option_place opt.Workers = 14
+option_place opt.Cut = 15
+option_place opt.Layout = 16
+option_place opt.Blocks = 17
+option_place opt.Seed = 18
+
+-- the option's name, which follows two dashes, or the name of a word of `gen`
+abbrev pub option_name : Named → Text
+option_name option = name_at options (option_place option)

@@ -1,5 +1,5 @@
 -- The table of options: what form the value of each has, which kinds of events use it, and which is the first that is bad.
-use Rattle.std.specs.Prelude.{ℕ, ◌&&◌, ◌||◌, Bool, true, false, not, nat_lt, nat_le, length, Option, None, Some, is_some, if◌then◌else◌, find, ℤ}
+use Rattle.std.specs.Prelude.{ℕ, ◌&&◌, ◌||◌, Bool, not, nat_lt, nat_le, length, Option, None, Some, is_some, if◌then◌else◌, find, ℤ}
 use Rattle.std.specs.Char.{is_ascii_digit}
 use Rattle.std.specs.List.{list_all}
 use Rattle.std.specs.Result.{result_ok}
@@ -7,13 +7,12 @@ use Rattle.spec_text.specs.declared.decimals.Decimal.{Decimal}
 use Rattle.std.specs.Str.Parse.{digits_value}
 use Rattle.spec_text.specs.Reading.{reading}
 use Rattle.spec_times.specs.TimeWords.{time_of}
-use Rattle.spec_kinds.specs.Asks.{takes_second}
 use Rattle.spec_kinds.specs.declared.kind.Kind.{Kind}
-use Rattle.spec_kinds.specs.declared.kind.Kind.TheVariants as kind
+use Rattle.spec_kinds.specs.declared.table.Use.{Use}
+use Rattle.spec_kinds.specs.declared.table.Use.TheVariants.{Needed, Optional}
+use Rattle.spec_kinds.specs.Table.{row_of, is_needed, is_unused}
 use Rattle.spec_requests.specs.declared.request.Named.{Named}
 use Rattle.spec_requests.specs.declared.request.Named.TheVariants as opt
-use Rattle.spec_requests.specs.declared.tables.Use.{Use}
-use Rattle.spec_requests.specs.declared.tables.Use.TheVariants.{Needed, Optional, Unused}
 use Rattle.spec_requests.specs.declared.tables.TheConstants.{FIND_OPTIONS}
 use Rattle.spec_requests.specs.declared.limits.TheConstants.{MAX_DIGITS_OF_A_COUNT, MAX_WIDTH, MAX_DEPTH, MAX_WORKERS, MAX_DIGITS_OF_BLOCKS, MAX_GENERATED_BLOCKS, MAX_DIGITS_OF_A_SEED, MAX_SEED}
 use Rattle.spec_requests.specs.Names.{Text, kind_of, target_of, observer_of, frame_of, axis_of, dir_of, cut_of, layout_of}
@@ -75,57 +74,19 @@ is_of_form opt.Seed word = is_some (seed_of word)
 
 -- ---- uses
 
--- events of the kind lie between two discs, whose radii are asked for
-abbrev pub takes_radii : Kind → Bool
-takes_radii kind.Any = true
-takes_radii kind.Full = true
-takes_radii kind.Annular = true
-takes_radii _ = false
-
-abbrev pub use_of_second : Kind → Use
-use_of_second kind = if takes_second kind then Needed else Unused
-
-abbrev pub use_of_frame : Kind → Use
-use_of_frame kind.Coord = Optional
-use_of_frame kind.Conj = Optional
-use_of_frame kind.Oppo = Optional
-use_of_frame kind.Station = Optional
-use_of_frame _ = Unused
-
-abbrev pub use_of_axis : Kind → Use
-use_of_axis kind.Coord = Needed
-use_of_axis _ = Unused
-
-abbrev pub use_of_ref : Kind → Use
-use_of_ref kind.Coord = Optional
-use_of_ref kind.Radius = Needed
-use_of_ref kind.Sep = Needed
-use_of_ref _ = Unused
-
-abbrev pub use_of_radius : Kind → Use
-use_of_radius kind = if takes_radii kind then Needed else Unused
-
--- how a kind uses an option of `find`
+-- how a kind uses an option of `find`, by the table of kinds
 abbrev pub use_of : Named → Kind → Use
 use_of opt.Kind kind = Needed
 use_of opt.Target kind = Needed
-use_of opt.Second kind = use_of_second kind
-use_of opt.Frame kind = use_of_frame kind
-use_of opt.Axis kind = use_of_axis kind
-use_of opt.Ref kind = use_of_ref kind
-use_of opt.Radius1 kind = use_of_radius kind
-use_of opt.Radius2 kind = use_of_radius kind
+use_of opt.Second kind = (row_of kind).second
+use_of opt.Frame kind = (row_of kind).frame
+use_of opt.Axis kind = (row_of kind).axis
+use_of opt.Ref kind = (row_of kind).reference
+use_of opt.Radius1 kind = (row_of kind).radii
+use_of opt.Radius2 kind = (row_of kind).radii
 use_of _ kind = Optional
 
 -- ---- the first that is bad
-
-abbrev pub is_needed : Use → Bool
-is_needed Needed = true
-is_needed _ = false
-
-abbrev pub is_unused : Use → Bool
-is_unused Unused = true
-is_unused _ = false
 
 -- the option is needed and not there, isn't used and is there, or its value is not of its form
 abbrev pub is_bad : Named → Use → Option Text → Bool

@@ -7,6 +7,8 @@ use Rattle.spec_events.specs.declared.dir.Dir.TheVariants as dir
 use Rattle.spec_trees.specs.declared.cuts.CutRule.TheVariants.{Half}
 use Rattle.spec_kinds.specs.declared.ask.Ask.{Ask}
 use Rattle.spec_kinds.specs.declared.kind.Kind.{Kind}
+use Rattle.spec_kinds.specs.declared.table.Use.TheVariants.{Optional}
+use Rattle.spec_kinds.specs.Table.{row_of, is_unused, takes_radii}
 use Rattle.spec_requests.specs.declared.request.FindAsk.{FindAsk}
 use Rattle.spec_requests.specs.declared.request.Request.{Request}
 use Rattle.spec_requests.specs.declared.request.Request.TheVariants.{Find, Check, Gen}
@@ -16,11 +18,10 @@ use Rattle.spec_requests.specs.declared.request.WordFault.{WordFault}
 use Rattle.spec_requests.specs.declared.request.WordFault.TheVariants.{NoCommand, UnknownCommand, Words, BadValue}
 use Rattle.spec_requests.specs.declared.tables.CommandName.{CommandName}
 use Rattle.spec_requests.specs.declared.tables.CommandName.TheVariants as command
-use Rattle.spec_requests.specs.declared.tables.Use.TheVariants.{Optional}
 use Rattle.spec_requests.specs.declared.limits.TheConstants.{DEFAULT_WIDTH, DEFAULT_DEPTH, DEFAULT_WORKERS}
 use Rattle.spec_requests.specs.declared.tables.TheConstants.{GEN_WORDS, GEN_OPTIONS}
 use Rattle.spec_requests.specs.Names.{Text, command_of, kind_of, target_of, observer_of, frame_of, axis_of, dir_of, cut_of}
-use Rattle.spec_requests.specs.Options.{Values, is_unused, use_of_ref, takes_radii, is_bad, bad_option, decimal_of, instant_of, width_of, depth_of, workers_of, blocks_of, seed_of}
+use Rattle.spec_requests.specs.Options.{Values, is_bad, bad_option, decimal_of, instant_of, width_of, depth_of, workers_of, blocks_of, seed_of}
 use Rattle.spec_requests.specs.Commands.{find_command, check_command, gen_command, is_refused, values_in, files_in}
 
 -- ---- searches
@@ -54,7 +55,7 @@ ask_of values kind = record {
 unfoldable pub values_text : Values → Kind → Text
 values_text values kind =
     if takes_radii kind then unwrap_or (values opt.Radius1) [] ++ (codes "," ++ unwrap_or (values opt.Radius2) [])
-    else if is_unused (use_of_ref kind) then codes "-"
+    else if is_unused (row_of kind).reference then codes "-"
     else unwrap_or (values opt.Ref) (codes "0")
 
 -- the search that is asked for

@@ -1,15 +1,21 @@
 // What is true of requests: each law is the contract of a function with nothing to do.
-ghost use Rattle.std.specs.Prelude.{◌≡◌, ℕ, List, Ok, Some};
+ghost use Rattle.std.specs.Prelude.{◌≡◌, ◌<◌, ◌++◌, ◌∷◌, [], ℕ, List, Ok, Some};
+ghost use Rattle.std.specs.Fmt.{decimal};
 ghost use Rattle.spec_ephemeris.specs.declared.body.Body.{Body};
 ghost use Rattle.spec_bodies.specs.declared.frame.Frame.{Frame};
 ghost use Rattle.spec_events.specs.declared.dir.Dir.{Dir};
 ghost use Rattle.spec_trees.specs.declared.cuts.CutRule.{CutRule};
 ghost use Rattle.spec_kinds.specs.declared.kind.Kind.{Kind};
-ghost use Rattle.spec_requests.specs.Names.{body_name, cut_name, cut_of, dir_name, dir_of, frame_name, frame_of, kind_name, kind_of, observer_of};
+ghost use Rattle.spec_kinds.specs.Table.{kind_name};
+ghost use Rattle.spec_requests.specs.Names.{axis_name, axis_of, body_name, command_name, command_of, cut_name, cut_of, dir_name, dir_of, frame_name, frame_of, kind_of, layout_of, observer_of, option_name, option_of};
 ghost use Rattle.spec_requests.specs.Limits.{IsWithinLimits};
 ghost use Rattle.spec_requests.specs.Requests.{request_of};
 ghost use Rattle.spec_requests.specs.declared.request.FindAsk.{FindAsk};
+ghost use Rattle.spec_requests.specs.declared.request.Named.{Named};
+ghost use Rattle.spec_requests.specs.declared.request.Named.TheVariants as opt;
 ghost use Rattle.spec_requests.specs.declared.request.Request.TheVariants.{Find};
+ghost use Rattle.spec_requests.specs.declared.tables.CommandName.{CommandName};
+ghost use Rattle.spec_requests.specs.declared.tables.TheConstants.{FIND_OPTIONS, GEN_OPTIONS, GEN_WORDS};
 
 /// A search that words ask for can be asked of an ephemeris: it has a second body exactly where the kind takes one,
 /// looks at no barycentre of the solar system, and its width, depth and workers lie in their limits.
@@ -18,11 +24,44 @@ pub fn searches_keep_to_limits()
         → IsWithinLimits find }
 {}
 
-/// Each kind, body, frame, direction and rule of cutting has a name that is read as it.
+/// Each command, option, kind, body, frame, axis, direction, rule of cutting and layout has a name that is read as it.
 pub fn names_are_read_back()
+    ensures commands { (command : CommandName) → command_of (command_name command) ≡ Some command }
+    ensures options { (option : Named) → option_of (option_name option) ≡ Some option }
     ensures kinds { (kind : Kind) → kind_of (kind_name kind) ≡ Some kind }
     ensures bodies { (body : Body) → observer_of (body_name body) ≡ Some body }
     ensures frames { (frame : Frame) → frame_of (frame_name frame) ≡ Some frame }
+    ensures axes { (axis : ℕ) → axis < 3 → axis_of (axis_name axis) ≡ Some axis }
     ensures dirs { (dir : Dir) → dir_of (dir_name dir) ≡ Some dir }
     ensures cuts { (cut : CutRule) → cut_of (cut_name cut) ≡ Some cut }
+    ensures layouts { layout_of (decimal 405) ≡ Some 405 }
+{}
+
+/// No word but its name is read as any of them.
+pub fn words_stand_for_one_thing()
+    ensures commands { (word : List ℕ) (command : CommandName) → command_of word ≡ Some command
+        → word ≡ command_name command }
+    ensures options { (word : List ℕ) (option : Named) → option_of word ≡ Some option
+        → word ≡ option_name option }
+    ensures kinds { (word : List ℕ) (kind : Kind) → kind_of word ≡ Some kind
+        → word ≡ kind_name kind }
+    ensures bodies { (word : List ℕ) (body : Body) → observer_of word ≡ Some body
+        → word ≡ body_name body }
+    ensures frames { (word : List ℕ) (frame : Frame) → frame_of word ≡ Some frame
+        → word ≡ frame_name frame }
+    ensures axes { (word : List ℕ) (axis : ℕ) → axis_of word ≡ Some axis → word ≡ axis_name axis }
+    ensures dirs { (word : List ℕ) (dir : Dir) → dir_of word ≡ Some dir → word ≡ dir_name dir }
+    ensures cuts { (word : List ℕ) (cut : CutRule) → cut_of word ≡ Some cut → word ≡ cut_name cut }
+    ensures layouts { (word : List ℕ) (layout : ℕ) → layout_of word ≡ Some layout
+        → word ≡ decimal layout }
+{}
+
+/// The order in which options are looked at: the first that is bad is the one whose fault is said. The words of `gen`
+/// come before its option.
+pub fn options_in_their_order()
+    ensures find { FIND_OPTIONS ≡ opt.Kind ∷ opt.Target ∷ opt.Second ∷ opt.Observer ∷ opt.Frame
+        ∷ opt.Axis ∷ opt.Ref ∷ opt.Radius1 ∷ opt.Radius2 ∷ opt.Dir ∷ opt.From ∷ opt.To ∷ opt.Width
+        ∷ opt.Depth ∷ opt.Workers ∷ opt.Cut ∷ [] }
+    ensures generated { GEN_WORDS ++ GEN_OPTIONS
+        ≡ opt.Layout ∷ opt.Blocks ∷ opt.Seed ∷ opt.Workers ∷ [] }
 {}

@@ -10,19 +10,21 @@ mod request_examples;
 mod tables;
 mod text;
 
-pub use laws::{names_are_read_back, searches_keep_to_limits};
+pub use laws::{
+    names_are_read_back, options_in_their_order, searches_keep_to_limits, words_stand_for_one_thing,
+};
 pub use limits::{
     DEFAULT_DEPTH, DEFAULT_WIDTH, DEFAULT_WORKERS, MAX_DEPTH, MAX_DIGITS_OF_A_COUNT,
     MAX_DIGITS_OF_A_SEED, MAX_DIGITS_OF_BLOCKS, MAX_GENERATED_BLOCKS, MAX_SEED, MAX_WIDTH,
     MAX_WORKERS,
 };
-pub use names::{axis_name, body_name, cut_name, dir_name, frame_name, kind_name, option_name};
+pub use names::{axis_name, body_name, command_name, cut_name, dir_name, frame_name, option_name};
 pub use request::{FindAsk, Named, Request, WordFault};
 pub use request_examples::{
     faults_of_searches, faults_of_words, requests_of_words, searches_of_words,
 };
 pub use tables::{
-    AXES, COMMANDS, CUTS, CommandName, DIRS, FIND_OPTIONS, FRAMES, GEN_OPTIONS, GEN_WORDS, KINDS,
-    LAYOUTS, TARGETS, Use, VIEWPOINTS,
+    AXES, BODIES, COMMANDS, CUTS, CommandName, DIRS, FIND_OPTIONS, FRAMES, GEN_OPTIONS, GEN_WORDS,
+    LAYOUTS, OPTIONS,
 };
 pub use text::{FileNames, Text};

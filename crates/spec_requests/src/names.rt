@@ -1,95 +1,61 @@
-// The names of what words stand for, as words and reports write them.
+// The names of what words stand for, as words and reports write them: each is looked up in its table.
 ghost use Rattle.std.specs.Prelude.{◌≡◌};
-ghost use Rattle.spec_requests.specs.Names.{axis_name, body_name, cut_name, dir_name, frame_name, kind_name, option_name};
+ghost use Rattle.spec_requests.specs.Names.{axis_name, body_name, command_name, cut_name, dir_name, frame_name, option_name};
 
 use crate::request::Named;
+use crate::tables::{AXES, BODIES, COMMANDS, CUTS, CommandName, DIRS, FRAMES, OPTIONS};
 use spec_bodies::Frame;
 use spec_ephemeris::Body;
 use spec_events::Dir;
-use spec_kinds::Kind;
 use spec_trees::CutRule;
 
-/// The name of a kind of event.
-pub fn kind_name(kind: Kind) -> &'static str
-    ensures { result.now ≡ kind_name kind }
+/// The name of a command.
+pub fn command_name(command: CommandName) -> &'static str
+    ensures { result.now ≡ command_name command }
 {
-    match kind {
-        Kind::Coord => "coord",
-        Kind::Radius => "radius",
-        Kind::Apsis => "apsis",
-        Kind::Conj => "conj",
-        Kind::Oppo => "oppo",
-        Kind::Station => "station",
-        Kind::Sep => "sep",
-        Kind::SepExt => "sepext",
-        Kind::Any => "any",
-        Kind::Full => "full",
-        Kind::Annular => "annular",
-    }
+    COMMANDS[command as usize].0
 }
 
 /// The name of a body.
 pub fn body_name(body: Body) -> &'static str
     ensures { result.now ≡ body_name body }
 {
-    match body {
-        Body::Mercury => "mercury",
-        Body::Venus => "venus",
-        Body::Emb => "emb",
-        Body::Mars => "mars",
-        Body::Jupiter => "jupiter",
-        Body::Saturn => "saturn",
-        Body::Uranus => "uranus",
-        Body::Neptune => "neptune",
-        Body::Pluto => "pluto",
-        Body::Moon => "moon",
-        Body::Sun => "sun",
-        Body::Earth => "earth",
-        Body::Ssb => "ssb",
-    }
+    BODIES[body as usize].0
 }
 
 /// The name of a frame.
 pub fn frame_name(frame: Frame) -> &'static str
     ensures { result.now ≡ frame_name frame }
 {
-    match frame {
-        Frame::Eq => "eq",
-        Frame::Ecl => "ecl",
-    }
+    FRAMES[frame as usize].0
 }
 
 /// The name of the turns that are wanted.
 pub fn dir_name(dir: Dir) -> &'static str
     ensures { result.now ≡ dir_name dir }
 {
-    match dir {
-        Dir::Any => "any",
-        Dir::Rise => "rise",
-        Dir::Fall => "fall",
-    }
+    DIRS[dir as usize].0
 }
 
 /// The name of a rule of cutting.
 pub fn cut_name(cut: CutRule) -> &'static str
     ensures { result.now ≡ cut_name cut }
 {
-    match cut {
-        CutRule::Half => "half",
-        CutRule::Third => "third",
-    }
+    CUTS[cut as usize].0
 }
 
-/// The name of an axis: x, y and z are 0, 1 and 2.
+/// The name of an axis: x, y and z are 0, 1 and 2. Another number has no name.
 pub fn axis_name(axis: u8) -> &'static str
     ensures { result.now ≡ axis_name axis }
 {
     if axis == 0 {
-        "x"
+        AXES[0].0
     } else if axis == 1 {
-        "y"
+        AXES[1].0
+    } else if axis == 2 {
+        AXES[2].0
     } else {
-        "z"
+        ""
     }
 }
 
@@ -97,25 +63,5 @@ pub fn axis_name(axis: u8) -> &'static str
 pub fn option_name(option: Named) -> &'static str
     ensures { result.now ≡ option_name option }
 {
-    match option {
-        Named::Kind => "kind",
-        Named::Target => "target",
-        Named::Second => "second",
-        Named::Observer => "observer",
-        Named::Frame => "frame",
-        Named::Axis => "axis",
-        Named::Ref => "ref",
-        Named::Radius1 => "radius1",
-        Named::Radius2 => "radius2",
-        Named::Dir => "dir",
-        Named::From => "from",
-        Named::To => "to",
-        Named::Width => "width",
-        Named::Depth => "depth",
-        Named::Workers => "workers",
-        Named::Cut => "cut",
-        Named::Layout => "layout",
-        Named::Blocks => "blocks",
-        Named::Seed => "seed",
-    }
+    OPTIONS[option as usize].0
 }

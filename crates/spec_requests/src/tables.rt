@@ -1,10 +1,10 @@
-// The tables that words choose from: what a word is, and what it stands for.
+// The tables of names: how each thing is called in words and in reports. Where its values are those of an enum, a table
+// stands in the enum's order, so that a name is looked up in it as well as what a name stands for.
 
 use crate::request::Named;
 use spec_bodies::Frame;
 use spec_ephemeris::Body;
 use spec_events::Dir;
-use spec_kinds::Kind;
 use spec_trees::CutRule;
 
 /// The commands.
@@ -15,17 +15,6 @@ pub enum CommandName {
     Gen,
 }
 
-/// How a kind of event uses an option.
-#[derive(Clone, Copy, Debug, PartialEq, Eq)]
-pub enum Use {
-    /// It has to be there.
-    Needed,
-    /// It may be left out.
-    Optional,
-    /// It must be left out.
-    Unused,
-}
-
 /// The first words of command lines.
 pub const COMMANDS: [(&str, CommandName); 3] = [
     ("find", CommandName::Find),
@@ -33,23 +22,8 @@ pub const COMMANDS: [(&str, CommandName); 3] = [
     ("gen", CommandName::Gen),
 ];
 
-/// The kinds of events.
-pub const KINDS: [(&str, Kind); 11] = [
-    ("coord", Kind::Coord),
-    ("radius", Kind::Radius),
-    ("apsis", Kind::Apsis),
-    ("conj", Kind::Conj),
-    ("oppo", Kind::Oppo),
-    ("station", Kind::Station),
-    ("sep", Kind::Sep),
-    ("sepext", Kind::SepExt),
-    ("any", Kind::Any),
-    ("full", Kind::Full),
-    ("annular", Kind::Annular),
-];
-
-/// The bodies that can be looked at. An observer can be each of them as well.
-pub const TARGETS: [(&str, Body); 12] = [
+/// The bodies. All can be observers; the last, the barycentre of the solar system, can be nothing else.
+pub const BODIES: [(&str, Body); 13] = [
     ("mercury", Body::Mercury),
     ("venus", Body::Venus),
     ("emb", Body::Emb),
@@ -62,10 +36,8 @@ pub const TARGETS: [(&str, Body); 12] = [
     ("moon", Body::Moon),
     ("sun", Body::Sun),
     ("earth", Body::Earth),
+    ("ssb", Body::Ssb),
 ];
-
-/// What only an observer can be: the barycentre of the solar system.
-pub const VIEWPOINTS: [(&str, Body); 1] = [("ssb", Body::Ssb)];
 
 /// The frames.
 pub const FRAMES: [(&str, Frame); 2] = [("eq", Frame::Eq), ("ecl", Frame::Ecl)];
@@ -81,6 +53,29 @@ pub const CUTS: [(&str, CutRule); 2] = [("half", CutRule::Half), ("third", CutRu
 
 /// The layouts of generated texts: the one of DE405.
 pub const LAYOUTS: [(&str, u16); 1] = [("405", 405)];
+
+/// The options of `find` and the words of `gen`.
+pub const OPTIONS: [(&str, Named); 19] = [
+    ("kind", Named::Kind),
+    ("target", Named::Target),
+    ("second", Named::Second),
+    ("observer", Named::Observer),
+    ("frame", Named::Frame),
+    ("axis", Named::Axis),
+    ("ref", Named::Ref),
+    ("radius1", Named::Radius1),
+    ("radius2", Named::Radius2),
+    ("dir", Named::Dir),
+    ("from", Named::From),
+    ("to", Named::To),
+    ("width", Named::Width),
+    ("depth", Named::Depth),
+    ("workers", Named::Workers),
+    ("cut", Named::Cut),
+    ("layout", Named::Layout),
+    ("blocks", Named::Blocks),
+    ("seed", Named::Seed),
+];
 
 /// The options of `find`, in the order in which their faults count.
 pub const FIND_OPTIONS: [Named; 16] = [

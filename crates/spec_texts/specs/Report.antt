@@ -1,5 +1,5 @@
 -- What a search prints: its request, a line for each window, and the counts of windows. Times are calendar texts.
-use Rattle.std.specs.Prelude.{ℕ, ℤ, List, ◌++◌, Bool, true, false, not, count_by, codes, flat_map, Option, None, Some}
+use Rattle.std.specs.Prelude.{ℕ, ℤ, List, ◌++◌, Bool, true, false, not, count_by, codes, flat_map, Option, None, Some, if◌then◌else◌}
 use Rattle.std.specs.Fmt.{decimal, signed_decimal}
 use Rattle.spec_ephemeris.specs.declared.body.Body.{Body}
 use Rattle.spec_trees.specs.declared.tree.Turn.TheVariants.{Rise, Fall}
@@ -8,9 +8,9 @@ use Rattle.spec_trees.specs.declared.window.Holds.TheVariants.{Certain, Undecide
 use Rattle.spec_trees.specs.declared.window.Window.{Window}
 use Rattle.spec_kinds.specs.declared.ask.Ask.{Ask}
 use Rattle.spec_kinds.specs.declared.kind.Kind.{Kind}
-use Rattle.spec_kinds.specs.declared.kind.Kind.TheVariants.{Coord}
+use Rattle.spec_kinds.specs.Table.{is_unused, kind_name, row_of}
 use Rattle.spec_requests.specs.declared.request.FindAsk.{FindAsk}
-use Rattle.spec_requests.specs.Names.{axis_name, body_name, cut_name, dir_name, frame_name, kind_name}
+use Rattle.spec_requests.specs.Names.{axis_name, body_name, cut_name, dir_name, frame_name}
 use Rattle.spec_times.specs.Calendar.{time_text}
 use Rattle.spec_times.specs.TimeWords.{IsTime}
 
@@ -24,10 +24,9 @@ abbrev pub second_name : Option Body → List ℕ
 second_name None = dash
 second_name (Some body) = body_name body
 
--- only a coordinate has an axis
+-- the axis, of the kinds that have one
 abbrev pub axis_of_kind : Kind → ℕ → List ℕ
-axis_of_kind Coord axis = axis_name axis
-axis_of_kind kind axis = dash
+axis_of_kind kind axis = if is_unused (row_of kind).axis then dash else axis_name axis
 
 abbrev pub bodies_text : Ask → List ℕ
 bodies_text ask =

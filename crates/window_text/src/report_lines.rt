@@ -9,7 +9,7 @@ use crate::pieces::{add_last_number, add_number, add_pair, add_signed_number};
 use crate::printing::add_time;
 use spec_ephemeris::Body;
 use spec_kinds::{Ask, Kind};
-use spec_requests::{FindAsk, axis_name, body_name, cut_name, dir_name, frame_name, kind_name};
+use spec_requests::{FindAsk, axis_name, body_name, cut_name, dir_name, frame_name};
 use spec_trees::{Holds, Turn, Window};
 use std::alloc::{AllocError, Global};
 
@@ -72,7 +72,7 @@ fn add_query(text: &mut String, find: &FindAsk) -> Result<(), AllocError>
 fn add_event(text: &mut String, find: &FindAsk) -> Result<(), AllocError>
     ensures { OnOk result (string_bytes text.new ≡ string_bytes text.old ++ event_text find.now) }
 {
-    add_pair(text, "FIND ", kind_name(find.ask.kind))?;
+    add_pair(text, "FIND ", find.ask.kind.name())?;
     add_bodies(text, find.ask)?;
     add_axes(text, find.ask)?;
     add_pair(text, " values ", find.values.as_str())
@@ -102,13 +102,14 @@ fn add_axes(text: &mut String, ask: Ask) -> Result<(), AllocError>
     add_pair(text, " axis ", axis_of_kind(ask.kind, ask.axis))
 }
 
-// Only a coordinate has an axis.
+// The axis, of the kinds that have one.
 fn axis_of_kind(kind: Kind, axis: u8) -> &'static str
     ensures { result.now ≡ axis_of_kind kind axis }
 {
-    match kind {
-        Kind::Coord => axis_name(axis),
-        _ => "-",
+    if kind.axis().is_unused() {
+        "-"
+    } else {
+        axis_name(axis)
     }
 }
 

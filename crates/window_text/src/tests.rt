@@ -153,11 +153,12 @@ fn undecided_second() -> Window
     }
 }
 
-fn thousand_windows(alloc: Global) -> Result<Vec<Window>, AllocError>
+// As many windows as no 16-bit count holds.
+fn many_windows(alloc: Global) -> Result<Vec<Window>, AllocError>
     ensures { IfOk result (λ v. All HasTimes v.items) }
 {
     let mut windows = Vec::new(alloc);
-    for _place in 0..1000u32 {
+    for _place in 0..70_000u32 {
         windows.push(undecided_second())?;
     }
     Ok(windows)
@@ -167,7 +168,7 @@ fn thousand_windows(alloc: Global) -> Result<Vec<Window>, AllocError>
 fn a_report_of_many_windows_has_a_line_for_each(rt: HostRuntime) -> Result<(), Fail> {
     let alloc = rt.alloc();
     let find = mercury_crossing(alloc)?;
-    let windows = thousand_windows(alloc)?;
+    let windows = many_windows(alloc)?;
     let text = report(alloc, &find, -43_200, 2_721_600, &windows)?;
     let mut lines = 0u32;
     for byte in text.as_slice() {
@@ -175,7 +176,7 @@ fn a_report_of_many_windows_has_a_line_for_each(rt: HostRuntime) -> Result<(), F
             lines = lines.saturating_add(1);
         }
     }
-    assert_eq!(rt; lines, 1002);
+    assert_eq!(rt; lines, 70_002);
     Ok(())
 }
 

@@ -1,6 +1,6 @@
 use Rattle.std.proofs.Common.{◌≡◌, find, drop}
 use Rattle.spec_requests.specs.Options.{is_bad}
-use Rattle.spec_requests.specs.declared.tables.Use.TheVariants.{Optional}
+use Rattle.spec_kinds.specs.declared.table.Use.TheVariants.{Optional}
 use Rattle.gf_words.specs.Readings.{values_of}
 use Rattle.gf_words.proofs.options.bad_among.Given as goal
 

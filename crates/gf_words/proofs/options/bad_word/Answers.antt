@@ -1,7 +1,7 @@
 use Rattle.std.proofs.Common.{◌∙◌, sym, Bool}
 use Rattle.spec_requests.specs.declared.request.Named.{Named}
 use Rattle.spec_requests.specs.declared.tables.TheConstants.{GEN_OPTIONS, GEN_WORDS}
-use Rattle.spec_requests.specs.declared.tables.Use.TheVariants.{Optional}
+use Rattle.spec_kinds.specs.declared.table.Use.TheVariants.{Optional}
 use Rattle.spec_requests.specs.Options.{Values, is_bad}
 use Rattle.spec_requests.specs.Requests.{bad_word}
 use Rattle.gf_words.specs.Readings.{values_of}

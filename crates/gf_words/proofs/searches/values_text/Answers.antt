@@ -1,6 +1,6 @@
 use Rattle.std.proofs.Common.{◌∙◌, sym, ap}
 use Rattle.spec_requests.specs.Names.{Text}
-use Rattle.spec_requests.specs.Options.{is_unused}
+use Rattle.spec_kinds.specs.Table.{is_unused}
 use Rattle.gf_words.specs.Readings.{values_of}
 use Rattle.gf_words.proofs.Answering.{no_text, radii_text, ref_text}
 use Rattle.gf_words.proofs.Rules.{made_along}
@@ -17,7 +17,7 @@ pub returns-then-is_unused : goal.returns-then-is_unused
 returns-then-is_unused c =
     made_along (λ (text : Text). text) c.text.result _ _
     (no_text (values_of c.args.matches.now) c.args.kind (sym c.takes_radii.ensures ∙ c.if-takes_radii.false)
-    (ap is_unused (sym c.use_of_ref.ensures) ∙ sym c.is_unused.ensures ∙ c.if-is_unused.true))
+    (ap is_unused (sym c.reference.ensures) ∙ sym c.is_unused.ensures ∙ c.if-is_unused.true))
     c.text.ensures
 
 pub returns : goal.returns
@@ -25,5 +25,5 @@ returns c =
     made_along (λ (text : Text). text) c.text-2.result _ _
     (ref_text (values_of c.args.matches.now) c.args.kind c.word_or-2.result.now
     (sym c.takes_radii.ensures ∙ c.if-takes_radii.false)
-    (ap is_unused (sym c.use_of_ref.ensures) ∙ sym c.is_unused.ensures ∙ c.if-is_unused.false) c.word_or-2.ensures)
+    (ap is_unused (sym c.reference.ensures) ∙ sym c.is_unused.ensures ∙ c.if-is_unused.false) c.word_or-2.ensures)
     c.text-2.ensures

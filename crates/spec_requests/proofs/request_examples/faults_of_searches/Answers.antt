@@ -2,6 +2,10 @@ use Rattle.std.proofs.Common.{refl}
 use Rattle.spec_requests.proofs.OnLiterals.{requests_on_literals}
 use Rattle.spec_requests.proofs.request_examples.faults_of_searches.Goals as goal
 
+pub returns-clause-first : goal.returns-clause-first
+unfolding requests_on_literals
+returns-clause-first c = refl
+
 pub returns-clause-second : goal.returns-clause-second
 unfolding requests_on_literals
 returns-clause-second c = refl

@@ -3,13 +3,12 @@
 # and prints for each its status, its times and the peak of its memory. The first text has 16,384 small blocks, the
 # second 32 million bytes in JPL's own layout. Run by hand, as `bench/reading.sh FILE PROGRAM`: FILE is JPL's text of
 # DE405 with a header and blocks; PROGRAM may be left out, and is then the one that `rt run` in crates/finder_main has
-# built. Where `rt run` in crates/measure_main was done too, it also prints the time of lines, words and decimals alone.
+# built.
 set -e
 [ -r "$1" ] || { echo "usage: bench/reading.sh FILE [PROGRAM], FILE a text of DE405 by JPL" >&2; exit 2; }
 source=$(realpath "$1")
 here=$(realpath "$(dirname "$0")")
 ours=$(realpath -m "${2:-$here/../crates/finder_main/out/finder_main}")
-reader=$here/../crates/measure_main/out/measure_main
 [ -x "$ours" ] || { echo "build it first: cd crates/finder_main && rt run" >&2; exit 1; }
 work=$(mktemp -d)
 trap 'rm -rf "$work"' EXIT
@@ -44,25 +43,6 @@ measure() {
     echo "  C says: $(cat "$work/peer.out")"
 }
 
-# The words of the text, read as decimals by measure_main where that is built: the time of ten rounds less that of none.
-words() {
-    [ -x "$reader" ] || return 0
-    rm -f "$work"/words.*
-    for run in 1 2 3 4 5; do
-        for rounds in 0 10; do
-            /usr/bin/time -f %U -a -o "$work/words.$rounds" "$reader" words $rounds "$work/$1" > "$work/ours.out"
-        done
-    done
-    none=$(sort -n "$work/words.0" | head -n 1)
-    ten=$(sort -n "$work/words.10" | head -n 1)
-    count=$(awk '{ print $4 / 10 }' "$work/ours.out")
-    awk -v none="$none" -v ten="$ten" -v bytes="$(wc -c < "$work/$1")" -v count="$count" 'BEGIN {
-        s = (ten - none) / 10
-        printf "  words alone: %d words, %.3f s, %.2f ns a byte, %.1f ns a word\n", count, s, s * 1e9 / bytes, s * 1e9 / count
-    }'
-}
-
 for text in small.asc large.asc; do
     measure $text
-    words $text
 done

@@ -9,7 +9,7 @@ set -e
 file=$(realpath "$1")
 cd "$(dirname "$0")/.."
 ours=crates/measure_main/out/measure_main
-[ -x "$ours" ] || { echo "build it first: cd crates/measure_main && rt run -- products 1" >&2; exit 1; }
+[ -x "$ours" ] || { echo "build it first: cd crates/measure_main && rt run" >&2; exit 1; }
 work=$(mktemp -d)
 trap 'rm -rf "$work"' EXIT
 cc -O2 -o "$work/nodes" bench/nodes.c

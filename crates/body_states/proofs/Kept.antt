@@ -1,6 +1,8 @@
 -- What is kept of the columns in use is right.
-use Rattle.std.proofs.Common.{◌≡◌, ℕ, zero, suc, ◌<◌, ◌≤◌, IfSome, List, Option, Some, arith, subst, ℤ}
-use Rattle.std.specs.Prelude.{All, Contains}
+use Rattle.std.proofs.Common.{◌≡◌, ℕ, zero, suc, ◌+◌, ◌<◌, ◌≤◌, ◌⊎◌, inl, inr, true, false, IfSome, List, Option, Some, length, slice_index_or, slice_set, arith, refl, sym, subst, ℤ}
+use Rattle.std.specs.Prelude.{All, Contains, IsSome}
+use Rattle.std.proofs.lemmas.Bool.{both_ways, cases_lt}
+use Rattle.std.proofs.lemmas.List.{get_or-set_same, get_or-set_other}
 use Rattle.std.proofs.lemmas.List.Elements.{All-filter, All-contains, All-contains_itself}
 use Rattle.spec_ephemeris.specs.declared.limits.TheConstants.{BODY_COLUMNS}
 use Rattle.spec_bodies.specs.Sources.{body_columns, is_in_use}
@@ -9,10 +11,12 @@ use Rattle.spec_bodies.specs.Views.{View, IsView, columns_of, column_enclosure}
 use Rattle.spec_bodies.proofs.InUse.{present_in_use}
 use Rattle.spec_intervals.specs.Enclosure.{Enclosure}
 use Rattle.spec_bodies.specs.declared.quantity.Quantity.{Quantity}
+use Rattle.event_expr.specs.declared.axes.Axes.{Axes}
+use Rattle.event_expr.specs.Leaves.{has_axis}
 use Rattle.body_states.specs.declared.enclosures.AxisEnclosures.{AxisEnclosures}
 use Rattle.body_states.specs.declared.enclosures.ColumnEnclosures.{ColumnEnclosures}
 use Rattle.body_states.specs.declared.enclosures.TargetEnclosures.{TargetEnclosures}
-use Rattle.body_states.specs.Enclosures.{AreAlong, AreOfTargets, along, of_target, nothing_known, nothing_known_of_targets, nothing_known_of_column}
+use Rattle.body_states.specs.Enclosures.{AreAlong, AreOfTargets, IsRead, along, with_along, of_target, nothing_known, nothing_known_of_targets, nothing_known_of_column}
 use Rattle.body_states.specs.Answers.{IsKnown}
 
 few : All (λ n. n ≤ BODY_COLUMNS) body_columns
@@ -61,6 +65,61 @@ right_along f m zero e below are is = subst (λ (x : Option Enclosure). IfSome x
 right_along f m (suc zero) e below are is = subst (λ (x : Option Enclosure). IfSome x (λ e. e ≡ f 1)) is are.y
 right_along f m (suc (suc zero)) e below are is = subst (λ (x : Option Enclosure). IfSome x (λ e. e ≡ f 2)) is are.z
 right_along f m (suc (suc (suc axis))) e below are is = absurd (omega (arith, below))
+
+-- one more is right, where it is the enclosure along its axis
+pub right_with : (f : ℕ → Enclosure) (m : AxisEnclosures) (axis : ℕ) (e : Enclosure) → axis < 3 → e ≡ f axis → AreAlong f m → AreAlong f (with_along m axis e)
+right_with f m zero e below is are = record { x = is; y = are.y; z = are.z }
+right_with f m (suc zero) e below is are = record { x = are.x; y = is; z = are.z }
+right_with f m (suc (suc zero)) e below is are = record { x = are.x; y = are.y; z = is }
+right_with f m (suc (suc (suc axis))) e below is are = absurd (omega (arith, below))
+
+-- ---- what is made along the first axes of a set
+abbrev pub MadeBelow : Axes → ℕ → AxisEnclosures → Type 0
+MadeBelow axes n m = (axis : ℕ) → axis < n → has_axis axes axis ≡ true → IsSome (along m axis)
+
+along_with : (m : AxisEnclosures) (axis : ℕ) (e : Enclosure) → axis < 3 → IsSome (along (with_along m axis e) axis)
+along_with m zero e below = refl
+along_with m (suc zero) e below = refl
+along_with m (suc (suc axis)) e below = refl
+
+along_others : (m : AxisEnclosures) (n axis : ℕ) (e : Enclosure) → n < 3 → axis < n → along (with_along m n e) axis ≡ along m axis
+along_others m zero axis e below less = absurd (omega (arith, less))
+along_others m (suc zero) zero e below less = refl
+along_others m (suc zero) (suc axis) e below less = absurd (omega (arith, less))
+along_others m (suc (suc n)) zero e below less = refl
+along_others m (suc (suc n)) (suc zero) e below less = refl
+along_others m (suc (suc n)) (suc (suc axis)) e below less = absurd (omega (arith, below, less))
+
+pub made_with : (axes : Axes) (n : ℕ) (m : AxisEnclosures) (e : Enclosure) → n < 3 → MadeBelow axes n m → MadeBelow axes (n + 1) (with_along m n e)
+made_with axes n m e below made axis less has = by (cases_lt axis n)
+  where
+    by : (axis < n) ⊎ (n ≤ axis) → IsSome (along (with_along m n e) axis)
+    by (inl before) = subst IsSome (sym (along_others m n axis e below before)) (made axis before has)
+    by (inr after) = let same : n ≡ axis = omega (arith, less, after) in subst (λ (k : ℕ). IsSome (along (with_along m n e) k)) same (along_with m n e below)
+
+pub made_without : (axes : Axes) (n : ℕ) (m : AxisEnclosures) → has_axis axes n ≡ false → MadeBelow axes n m → MadeBelow axes (n + 1) m
+made_without axes n m none made axis less has = by (cases_lt axis n)
+  where
+    by : (axis < n) ⊎ (n ≤ axis) → IsSome (along m axis)
+    by (inl before) = made axis before has
+    by (inr after) = let same : axis ≡ n = omega (arith, less, after) in absurd (both_ways (has_axis axes n) none (subst (λ (k : ℕ). has_axis axes k ≡ true) same has))
+
+-- ---- the first columns of a list are read
+abbrev pub ReadBelow : Axes → List ℕ → ℕ → List ColumnEnclosures → Type 0
+ReadBelow axes numbers n columns = (place : ℕ) → place < n → IsRead axes (slice_index_or numbers place 0) (slice_index_or columns place nothing_known_of_column)
+
+pub read_with : (axes : Axes) (numbers : List ℕ) (n : ℕ) (columns : List ColumnEnclosures) (c : ColumnEnclosures) → n < length columns → IsRead axes (slice_index_or numbers n 0) c → ReadBelow axes numbers n columns
+    → ReadBelow axes numbers (n + 1) (slice_set columns n c)
+read_with axes numbers n columns c below is read place less = by (cases_lt place n)
+  where
+    by : (place < n) ⊎ (n ≤ place) → IsRead axes (slice_index_or numbers place 0) (slice_index_or (slice_set columns n c) place nothing_known_of_column)
+    by (inl before) =
+        subst (IsRead axes (slice_index_or numbers place 0)) (sym (get_or-set_other columns n place c nothing_known_of_column (λ same. absurd (omega (arith, before, same)))))
+        (read place before)
+    by (inr after) =
+        let same : n ≡ place = omega (arith, less, after) in
+        subst (λ (k : ℕ). IsRead axes (slice_index_or numbers k 0) (slice_index_or (slice_set columns n c) k nothing_known_of_column)) same
+        (subst (IsRead axes (slice_index_or numbers n 0)) (sym (get_or-set_same columns n c nothing_known_of_column below)) is)
 
 pub right_of_target : (f : ℕ → ℕ → Enclosure) (m : TargetEnclosures) (target : ℕ) → target < 2 → AreOfTargets f m → AreAlong (f target) (of_target m target)
 right_of_target f m zero below are = are.first

@@ -1,9 +1,11 @@
 -- The enclosures of a quantity along each axis.
-use Rattle.std.specs.Prelude.{◌≡◌, ℕ, zero, suc, Option, None, IfSome}
+use Rattle.std.specs.Prelude.{◌≡◌, ◌<◌, ℕ, zero, suc, true, Option, None, Some, IsSome, IfSome, List, length, slice_index_or}
 use Rattle.spec_intervals.specs.Enclosure.{Enclosure}
 use Rattle.spec_ephemeris.specs.Granules.{series_of}
 use Rattle.spec_bodies.specs.declared.quantity.Quantity.{Quantity}
 use Rattle.spec_bodies.specs.Views.{series_enclosure}
+use Rattle.event_expr.specs.declared.axes.Axes.{Axes}
+use Rattle.event_expr.specs.Leaves.{has_axis}
 use Rattle.body_states.specs.declared.granule_span.GranuleSpan.{GranuleSpan}
 use Rattle.body_states.specs.declared.enclosures.AxisEnclosures.{AxisEnclosures}
 use Rattle.body_states.specs.declared.enclosures.TargetEnclosures.{TargetEnclosures}
@@ -13,6 +15,12 @@ abbrev pub along : AxisEnclosures → ℕ → Option Enclosure
 along m zero = m.x
 along m (suc zero) = m.y
 along m (suc (suc axis)) = m.z
+
+-- with one more along an axis
+abbrev pub with_along : AxisEnclosures → ℕ → Enclosure → AxisEnclosures
+with_along m zero e = record m { x = Some e }
+with_along m (suc zero) e = record m { y = Some e }
+with_along m (suc (suc axis)) e = record m { z = Some e }
 
 -- targets are numbered 0 and 1
 abbrev pub of_target : TargetEnclosures → ℕ → AxisEnclosures
@@ -38,6 +46,19 @@ pub record AreAlong (enclosures : ℕ → Enclosure) (m : AxisEnclosures) : Type
   pub x : IsRight (enclosures 0) m.x
   pub y : IsRight (enclosures 1) m.y
   pub z : IsRight (enclosures 2) m.z
+
+-- one is there along each axis of a set
+abbrev pub AreMade : Axes → AxisEnclosures → Type 0
+AreMade axes m = (axis : ℕ) → axis < 3 → has_axis axes axis ≡ true → IsSome (along m axis)
+
+-- a column is read along each axis of a set; so are the first columns of a list, as many as are kept
+pub record IsRead (axes : Axes) (number : ℕ) (c : ColumnEnclosures) : Type 0 where
+  pub number_is : c.number ≡ number
+  pub made : AreMade axes c.along
+
+abbrev pub AreRead : Axes → List ℕ → List ColumnEnclosures → Type 0
+AreRead axes numbers columns =
+    (place : ℕ) → place < length numbers → place < length columns → IsRead axes (slice_index_or numbers place 0) (slice_index_or columns place nothing_known_of_column)
 
 -- and of both targets, by target and axis
 pub record AreOfTargets (enclosures : ℕ → ℕ → Enclosure) (m : TargetEnclosures) : Type 0 where

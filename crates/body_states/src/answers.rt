@@ -3,11 +3,9 @@ ghost use Rattle.std.specs.Prelude.{◌≡◌, ◌<◌};
 ghost use Rattle.spec_bodies.specs.Views.{Fits, target_of, exact_state, state_enclosure, coordinate_enclosure};
 ghost use Rattle.spec_bodies.proofs.Held.{times_span, fractions_of_states, states_held, states_within};
 
-use crate::enclosures::AxisEnclosures;
-use crate::question::Question;
 use crate::states::BodyStates;
 use event_expr::States;
-use event_expr::rules::Span;
+use event_expr::rules::TimeSpan;
 use ival_core::Enclosure;
 use spec_bodies::{Quantity, Source};
 
@@ -50,14 +48,7 @@ impl<'e> BodyStates<'e> {
         requires fits { Fits self.now a b }
         ensures { result ≡ coordinate_enclosure self.now quantity target axis a b }
     {
-        let times = Span::new(a, b);
-        let question = Question {
-            quantity,
-            times: &times,
-            columns: &[],
-            observer: &AxisEnclosures::none(),
-        };
-        self.coordinate(target, usize::from(axis), &question)
+        self.state_over(quantity, target, axis, &TimeSpan::new(a, b))
     }
 
     // A target by its number.

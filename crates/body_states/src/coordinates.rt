@@ -5,16 +5,15 @@ ghost use Rattle.spec_bodies.specs.Coordinates.{nothing, of_column, less, earth,
 ghost use Rattle.spec_bodies.specs.Reading.{IsUsable};
 ghost use Rattle.spec_bodies.specs.Views.{Fits, coordinate_of, framed};
 ghost use Rattle.body_states.specs.Dividers.{granule_seconds};
-ghost use Rattle.body_states.specs.Answers.{CanAsk, CanRead, Answers, IsAnswer, IsDisplacement, observer_answer, sum_answer, difference_answer, scaled_answer, displacement_of, ecliptic_of, turned_y, turned_z};
+ghost use Rattle.body_states.specs.Answers.{CanAsk, CanRead, CanReadSource, Answers, IsAnswer, IsDisplacement, observer_answer, sum_answer, difference_answer, scaled_answer, displacement_answer, displacement_of, ecliptic_of, turned_y, turned_z};
 
 use crate::enclosures::{AxisEnclosures, ColumnEnclosures};
 use crate::granule_span::GranuleSpan;
 use crate::question::Question;
-use crate::sources::{EMB_COLUMN, MOON_COLUMN};
 use crate::states::{BodyStates, divider_of};
-use event_expr::rules::Span;
+use event_expr::rules::TimeSpan;
 use ival_core::{Divider, Enclosure, Ival};
-use spec_bodies::{Factor, Frame, Source};
+use spec_bodies::{EMB_COLUMN, Factor, Frame, MOON_COLUMN, Source};
 
 impl<'e> BodyStates<'e> {
     /// A coordinate of a target in the frame.
@@ -31,7 +30,7 @@ impl<'e> BodyStates<'e> {
     fn framed(&self, source: Source, axis: usize, question: &Question) -> Enclosure
         requires axis { axis < 3 }
         requires question { CanAsk self.now question.now }
-        requires readable { CanRead self.now (framed self.now source axis) }
+        requires readable { CanReadSource self.now source }
         ensures { Answers self.now question.now (framed self.now source axis) result }
     {
         match self.frame {
@@ -40,44 +39,46 @@ impl<'e> BodyStates<'e> {
         }
     }
 
-    // A coordinate along the axes of the ecliptic: y' = c y + s z and z' = c z - s y, where c and s are the cosine and the
-    // sine of the obliquity.
+    // A coordinate along the axes of the ecliptic.
     fn ecliptic(&self, source: Source, axis: usize, question: &Question) -> Enclosure
         requires axis { axis < 3 }
         requires question { CanAsk self.now question.now }
-        requires readable { CanRead self.now (ecliptic_of self.now source axis) }
+        requires readable { CanReadSource self.now source }
+        ensures { Answers self.now question.now (ecliptic_of self.now source axis) result }
+    {
+        let y = self.displacement(source, 1, question);
+        let z = self.displacement(source, 2, question);
+        self.turned(source, axis, &y, &z, question)
+    }
+
+    /// The same, from y and z relative to the observer: y' = c y + s z and z' = c z - s y, where c and s are the cosine and
+    /// the sine of the obliquity.
+    #[inline(always)]
+    pub(crate) fn turned(
+        &self,
+        source: Source,
+        axis: usize,
+        y: &Enclosure,
+        z: &Enclosure,
+        question: &Question,
+    ) -> Enclosure
+        requires axis { axis < 3 }
+        requires question { CanAsk self.now question.now }
+        requires readable { CanReadSource self.now source }
+        requires y { y.now ≡ displacement_answer self.now question.now source 1 }
+        requires z { z.now ≡ displacement_answer self.now question.now source 2 }
         ensures { Answers self.now question.now (ecliptic_of self.now source axis) result }
     {
         match axis {
             0 => self.displacement(source, 0, question),
-            1 => self.ecliptic_y(source, question),
-            _ => self.ecliptic_z(source, question),
+            1 => self.turned_y(y, z, question),
+            _ => self.turned_z(y, z, question),
         }
     }
 
-    fn ecliptic_y(&self, source: Source, question: &Question) -> Enclosure
-        requires question { CanAsk self.now question.now }
-        requires readable { CanRead self.now (ecliptic_of self.now source 1) }
-        ensures { Answers self.now question.now (ecliptic_of self.now source 1) result }
-    {
-        let y = self.displacement(source, 1, question);
-        let z = self.displacement(source, 2, question);
-        self.turned_y(&y, &z, question)
-    }
-
-    fn ecliptic_z(&self, source: Source, question: &Question) -> Enclosure
-        requires question { CanAsk self.now question.now }
-        requires readable { CanRead self.now (ecliptic_of self.now source 2) }
-        ensures { Answers self.now question.now (ecliptic_of self.now source 2) result }
-    {
-        let y = self.displacement(source, 1, question);
-        let z = self.displacement(source, 2, question);
-        self.turned_z(&y, &z, question)
-    }
-
-    /// y' of the ecliptic, from y and z relative to the observer.
+    // y' of the ecliptic.
     #[inline(always)]
-    pub(crate) fn turned_y(&self, y: &Enclosure, z: &Enclosure, question: &Question) -> Enclosure
+    fn turned_y(&self, y: &Enclosure, z: &Enclosure, question: &Question) -> Enclosure
         requires question { CanAsk self.now question.now }
         requires y { IsDisplacement self.now question.now 1 y.now }
         requires z { IsDisplacement self.now question.now 2 z.now }
@@ -88,9 +89,9 @@ impl<'e> BodyStates<'e> {
         self.sum(y, z, question)
     }
 
-    /// z' of the ecliptic, from y and z relative to the observer.
+    // z' of the ecliptic.
     #[inline(always)]
-    pub(crate) fn turned_z(&self, y: &Enclosure, z: &Enclosure, question: &Question) -> Enclosure
+    fn turned_z(&self, y: &Enclosure, z: &Enclosure, question: &Question) -> Enclosure
         requires question { CanAsk self.now question.now }
         requires y { IsDisplacement self.now question.now 1 y.now }
         requires z { IsDisplacement self.now question.now 2 z.now }
@@ -214,7 +215,7 @@ impl<'e> BodyStates<'e> {
     pub(crate) fn granule_span<'a>(
         &'a self,
         number: usize,
-        times: &'a Span,
+        times: &'a TimeSpan,
         divider: &'a Divider,
     ) -> GranuleSpan<'a>
         requires fits { Fits self.now times.now.first times.now.last }

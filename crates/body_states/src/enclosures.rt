@@ -1,6 +1,6 @@
 // Where a body is or how fast it moves along each axis, over a span of times.
 ghost use Rattle.std.specs.Prelude.{◌≡◌, ◌<◌};
-ghost use Rattle.body_states.specs.Enclosures.{along, of_target, nothing_known, nothing_known_of_targets, nothing_known_of_column};
+ghost use Rattle.body_states.specs.Enclosures.{along, with_along, of_target, nothing_known, nothing_known_of_targets, nothing_known_of_column};
 
 use ival_core::Enclosure;
 
@@ -50,6 +50,19 @@ impl AxisEnclosures {
             0 => self.x,
             1 => self.y,
             _ => self.z,
+        }
+    }
+
+    /// Keeps what is known along an axis, counted from 0.
+    #[inline(always)]
+    pub fn set(&mut self, axis: usize, enclosure: Enclosure)
+        requires { axis < 3 }
+        ensures { self.new ≡ with_along self.old axis enclosure }
+    {
+        match axis {
+            0 => self.x = Some(enclosure),
+            1 => self.y = Some(enclosure),
+            _ => self.z = Some(enclosure),
         }
     }
 }

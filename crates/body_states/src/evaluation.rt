@@ -1,7 +1,7 @@
 // The enclosures of a quantity over times within a granule, with each basis made once for all axes.
 ghost use Rattle.std.specs.Prelude.{◌≡◌, ◌<◌, length};
 ghost use Rattle.spec_intervals.specs.Enclosure.{middle};
-ghost use Rattle.body_states.specs.Enclosures.{IsRight, AreAlong, enclosure_along};
+ghost use Rattle.body_states.specs.Enclosures.{AreAlong, AreMade, enclosure_along};
 ghost use Rattle.body_states.specs.Bases.{ArePlain, AreAll, IsCentre, IsWhole, IsSingle, AreSeveral, value_over, step_over};
 
 use crate::bases::{PlainRow, RowRoom, Rows};
@@ -14,11 +14,12 @@ use ival_core::{Divider, Enclosure, Ival};
 use spec_bodies::Quantity;
 
 impl<'g> GranuleSpan<'g> {
-    /// Writes the enclosures along some axes.
+    /// Writes the enclosures of a quantity, a position in km or a velocity in km per second, along some axes.
     #[inline(always)]
     pub fn write_along(&self, quantity: Quantity, axes: Axes, out: &mut AxisEnclosures)
         requires known { AreAlong (enclosure_along self.now quantity) out.old }
-        ensures { AreAlong (enclosure_along self.now quantity) out.new }
+        ensures right { AreAlong (enclosure_along self.now quantity) out.new }
+        ensures made { AreMade axes out.new }
     {
         if self.times.is_wide() {
             self.along_over(quantity, axes, out);
@@ -32,14 +33,17 @@ impl<'g> GranuleSpan<'g> {
     fn along_over(&self, quantity: Quantity, axes: Axes, out: &mut AxisEnclosures)
         requires several { AreSeveral self.now }
         requires known { AreAlong (enclosure_along self.now quantity) out.old }
-        ensures { AreAlong (enclosure_along self.now quantity) out.new }
+        ensures right { AreAlong (enclosure_along self.now quantity) out.new }
+        ensures made { AreMade axes out.new }
     {
         let mut room = RowRoom::new();
         self.make_centre(quantity, &mut room.centre);
         self.make_whole(quantity, &mut room.whole);
-        self.write_over(axes.x, quantity, 0, &room, &mut out.x);
-        self.write_over(axes.y, quantity, 1, &room, &mut out.y);
-        self.write_over(axes.z, quantity, 2, &room, &mut out.z);
+        for axis in 0..3 {
+            if axes.has(axis) {
+                out.set(axis, self.over(quantity, axis, &room));
+            }
+        }
     }
 
     // Writes them at a single time, for which neither a row over several nor one of changes is made.
@@ -47,73 +51,26 @@ impl<'g> GranuleSpan<'g> {
     fn along_at(&self, quantity: Quantity, axes: Axes, out: &mut AxisEnclosures)
         requires single { IsSingle self.now }
         requires known { AreAlong (enclosure_along self.now quantity) out.old }
-        ensures { AreAlong (enclosure_along self.now quantity) out.new }
+        ensures right { AreAlong (enclosure_along self.now quantity) out.new }
+        ensures made { AreMade axes out.new }
     {
         let mut centre = PlainRow::none();
         self.make_centre(quantity, &mut centre);
-        self.write_at(axes.x, quantity, 0, &centre, &mut out.x);
-        self.write_at(axes.y, quantity, 1, &centre, &mut out.y);
-        self.write_at(axes.z, quantity, 2, &centre, &mut out.z);
+        for axis in 0..3 {
+            if axes.has(axis) {
+                out.set(axis, self.at(quantity, axis, &centre));
+            }
+        }
     }
 
-    /// The enclosure of a position, in km, or of a velocity, in km per second, along an axis that is counted from 0.
+    /// The enclosure along an axis, counted from 0.
     pub fn enclosure(&self, quantity: Quantity, axis: usize) -> Enclosure
         requires { axis < 3 }
         ensures { result ≡ enclosure_along self.now quantity axis }
     {
-        if self.times.is_wide() {
-            let mut room = RowRoom::new();
-            self.make_centre(quantity, &mut room.centre);
-            self.make_whole(quantity, &mut room.whole);
-            self.over(quantity, axis, &room)
-        } else {
-            let mut centre = PlainRow::none();
-            self.make_centre(quantity, &mut centre);
-            self.at(quantity, axis, &centre)
-        }
-    }
-
-    // Writes the enclosure over several times along an axis, where it is needed.
-    #[inline(always)]
-    fn write_over(
-        &self,
-        is_needed: bool,
-        quantity: Quantity,
-        axis: usize,
-        room: &RowRoom,
-        out: &mut Option<Enclosure>,
-    )
-        requires axis { axis < 3 }
-        requires several { AreSeveral self.now }
-        requires centre { IsCentre self.now quantity room.now.centre }
-        requires whole { IsWhole self.now quantity room.now.whole }
-        requires known { IsRight (enclosure_along self.now quantity axis) out.old }
-        ensures { IsRight (enclosure_along self.now quantity axis) out.new }
-    {
-        if is_needed {
-            *out = Some(self.over(quantity, axis, room));
-        }
-    }
-
-    // Writes the enclosure at a single time along an axis, where it is needed.
-    #[inline(always)]
-    fn write_at(
-        &self,
-        is_needed: bool,
-        quantity: Quantity,
-        axis: usize,
-        centre: &PlainRow,
-        out: &mut Option<Enclosure>,
-    )
-        requires axis { axis < 3 }
-        requires single { IsSingle self.now }
-        requires centre { IsCentre self.now quantity centre.now }
-        requires known { IsRight (enclosure_along self.now quantity axis) out.old }
-        ensures { IsRight (enclosure_along self.now quantity axis) out.new }
-    {
-        if is_needed {
-            *out = Some(self.at(quantity, axis, centre));
-        }
+        let mut made = AxisEnclosures::none();
+        self.write_along(quantity, Axes::one(axis as u8), &mut made);
+        made.along(axis).unwrap()
     }
 
     // The range over all times is cut to what the value in the middle and the steps from it allow.

@@ -3,7 +3,7 @@ ghost use Rattle.std.specs.Prelude.{◌≡◌, ◌≤ℤ◌, ◌+ℤ◌, unsigne
 ghost use Rattle.spec_motions.specs.Granules.{IsEvaluable};
 
 use eph_model::Granule;
-use event_expr::rules::Span;
+use event_expr::rules::TimeSpan;
 use ival_core::Divider;
 
 /// The times from a first to a last within a granule of three axes that can be evaluated, with the divider by the
@@ -11,7 +11,7 @@ use ival_core::Divider;
 #[derive(Clone, Copy)]
 pub(crate) struct GranuleSpan<'g> {
     pub granule: Granule<'g>,
-    pub times: &'g Span,
+    pub times: &'g TimeSpan,
     pub divider: &'g Divider,
     ghost evaluable: { IsEvaluable granule },
     ghost axes: { granule.comps ≡ 3 },

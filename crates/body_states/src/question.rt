@@ -1,6 +1,6 @@
 // What is asked of a body.
 use crate::enclosures::{AxisEnclosures, ColumnEnclosures};
-use event_expr::rules::Span;
+use event_expr::rules::TimeSpan;
 use spec_bodies::Quantity;
 
 /// A quantity over a span of times, and what is known of it: of the columns, and of the observer relative to the
@@ -8,7 +8,7 @@ use spec_bodies::Quantity;
 #[derive(Clone, Copy)]
 pub(crate) struct Question<'q> {
     pub quantity: Quantity,
-    pub times: &'q Span,
+    pub times: &'q TimeSpan,
     pub columns: &'q [ColumnEnclosures],
     pub observer: &'q AxisEnclosures,
 }

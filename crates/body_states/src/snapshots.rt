@@ -3,12 +3,12 @@ ghost use Rattle.std.specs.Prelude.{◌≡◌, ◌<◌};
 ghost use Rattle.spec_bodies.specs.Views.{Fits, state_enclosure, exact_state};
 ghost use Rattle.spec_bodies.proofs.Held.{times_span, fractions_of_states, states_held, states_within};
 ghost use Rattle.body_states.specs.Enclosures.{AreAlong};
-ghost use Rattle.body_states.specs.Moments.{moment_state};
+ghost use Rattle.body_states.specs.Moments.{enclosure_in, moment_state};
 
 use crate::enclosures::{AxisEnclosures, TargetEnclosures};
 use crate::states::BodyStates;
-use event_expr::rules::Span;
-use event_expr::{Leaves, States};
+use event_expr::rules::TimeSpan;
+use event_expr::{Formula, Leaves, States, enclose_during};
 use ival_core::Enclosure;
 use spec_bodies::Quantity;
 use std::marker::Model;
@@ -18,22 +18,27 @@ use std::marker::Model;
 #[derive(Drop)]
 pub struct Snapshot<'s, 'e> {
     states: &'s BodyStates<'e>,
-    from: i64,
-    upto: i64,
+    times: TimeSpan,
     position: TargetEnclosures,
     velocity: TargetEnclosures,
 }
 
 impl<'s, 'e> Model for Snapshot<'s, 'e> {
+    ghost use Rattle.spec_bodies.specs.Views.{Fits};
     ghost use Rattle.body_states.specs.Moments.{Moment, AreStates};
     ghost use Rattle.spec_bodies.specs.declared.quantity.Quantity.TheVariants.{Position, Velocity};
 
     ghost Value = { Moment };
 
-    ghost view = { λ s. record { view = s.states.now; first = s.from; last = s.upto } };
+    ghost view = { λ s. record {
+      view = s.states.now;
+      first = s.times.first;
+      last = s.times.last;
+    } };
 
-    ghost invariant = { λ s. AreStates s.states.now s.from s.upto Position s.position
-        × AreStates s.states.now s.from s.upto Velocity s.velocity };
+    ghost invariant = { λ s. AreStates s.states.now s.times.first s.times.last Position s.position
+        × AreStates s.states.now s.times.first s.times.last Velocity s.velocity
+        × Fits s.states.now s.times.first s.times.last };
 }
 
 impl<'e> BodyStates<'e> {
@@ -43,7 +48,7 @@ impl<'e> BodyStates<'e> {
         requires { Fits self.now a b }
         ensures { result ≡ record { view = self.now; first = a; last = b } }
     {
-        let times = Span::new(a, b);
+        let times = TimeSpan::new(a, b);
         let mut position = TargetEnclosures::none();
         let mut velocity = TargetEnclosures::none();
         let (first, second) = (wanted.first_position, wanted.second_position);
@@ -52,8 +57,7 @@ impl<'e> BodyStates<'e> {
         self.write_targets(Quantity::Velocity, &times, first, second, &mut velocity);
         Snapshot {
             states: self,
-            from: a,
-            upto: b,
+            times,
             position,
             velocity,
         }
@@ -61,6 +65,14 @@ impl<'e> BodyStates<'e> {
 }
 
 impl<'s, 'e> Snapshot<'s, 'e> {
+    /// The enclosure of a formula over its times.
+    #[inline(always)]
+    pub fn enclosure(&self, formula: &Formula) -> Enclosure
+        ensures { result ≡ enclosure_in self.now formula.now }
+    {
+        enclose_during(formula, self, &self.times)
+    }
+
     // What was made of a quantity of a target.
     fn known(&self, quantity: Quantity, target: u8) -> &AxisEnclosures
         requires { target < 2 }
@@ -72,19 +84,15 @@ impl<'s, 'e> Snapshot<'s, 'e> {
         }
     }
 
-    // The enclosure of a quantity of a target along an axis over its times from `a` to `b`, as it was made, or else as it
-    // is read.
-    fn state(&self, quantity: Quantity, target: u8, axis: u8, a: i64, b: i64) -> Enclosure
+    // The enclosure of a quantity of a target along an axis over its times, as it was made, or else as it is read.
+    fn state(&self, quantity: Quantity, target: u8, axis: u8) -> Enclosure
         requires target { target < 2 }
         requires axis { axis < 3 }
-        requires first { a ≡ self.now.first }
-        requires last { b ≡ self.now.last }
-        requires fits { Fits self.now.view a b }
         ensures { result ≡ moment_state self.now quantity target axis }
     {
         match self.known(quantity, target).along(usize::from(axis)) {
             Some(enclosure) => enclosure,
-            None => self.states.state(quantity, target, axis, a, b),
+            None => self.states.state_over(quantity, target, axis, &self.times),
         }
     }
 }
@@ -96,12 +104,12 @@ impl<'s, 'e> States for Snapshot<'s, 'e> {
 
     ghost fits = { λ s a b. (a ≡ s.first) × (b ≡ s.last) × Fits s.view a b };
 
-    fn pos(&self, target: u8, axis: u8, a: i64, b: i64) -> Enclosure {
-        self.state(Quantity::Position, target, axis, a, b)
+    fn pos(&self, target: u8, axis: u8, _a: i64, _b: i64) -> Enclosure {
+        self.state(Quantity::Position, target, axis)
     }
 
-    fn vel(&self, target: u8, axis: u8, a: i64, b: i64) -> Enclosure {
-        self.state(Quantity::Velocity, target, axis, a, b)
+    fn vel(&self, target: u8, axis: u8, _a: i64, _b: i64) -> Enclosure {
+        self.state(Quantity::Velocity, target, axis)
     }
 
     ghost spans = { λ s a b fits. times_span s.view a b fits.2 };

@@ -1,40 +1,16 @@
-// From which columns bodies come, and which columns are in use.
+// Which columns are in use.
 ghost use Rattle.std.specs.Prelude.{◌≡◌, ◌≤◌, take};
-ghost use Rattle.spec_bodies.specs.Sources.{source_of, needed, used, is_among, is_in_use, columns_in_use};
+ghost use Rattle.spec_bodies.specs.Sources.{needed_columns, used, is_among, is_in_use, columns_in_use};
 
-use spec_bodies::Source;
-use spec_ephemeris::Body;
+use spec_bodies::{EMB_COLUMN, MOON_COLUMN, Source};
+use spec_ephemeris::BODY_COLUMNS;
 
-/// The column of the barycentre of the Earth and the Moon.
-pub(crate) const EMB_COLUMN: usize = 3;
-
-/// The column of the Moon seen from the Earth.
-pub(crate) const MOON_COLUMN: usize = 10;
-
-/// How a body is read.
-pub(crate) fn source_of(body: Body) -> Source
-    ensures { result ≡ source_of body }
-{
-    match body {
-        Body::Mercury => Source::OwnColumn(1),
-        Body::Venus => Source::OwnColumn(2),
-        Body::Emb => Source::OwnColumn(EMB_COLUMN),
-        Body::Mars => Source::OwnColumn(4),
-        Body::Jupiter => Source::OwnColumn(5),
-        Body::Saturn => Source::OwnColumn(6),
-        Body::Uranus => Source::OwnColumn(7),
-        Body::Neptune => Source::OwnColumn(8),
-        Body::Pluto => Source::OwnColumn(9),
-        Body::Moon => Source::MoonOfPair,
-        Body::Sun => Source::OwnColumn(11),
-        Body::Earth => Source::EarthOfPair,
-        Body::Ssb => Source::Origin,
-    }
-}
+/// Of how many columns what is made is kept: two bodies and the Earth are made of no more.
+pub(crate) const KEPT_COLUMNS: usize = 4;
 
 // Whether a source needs the column.
 fn needs(source: Source, number: usize) -> bool
-    ensures { result ≡ is_among (needed source) number }
+    ensures { result ≡ is_among (needed_columns source) number }
 {
     match source {
         Source::OwnColumn(own) => own == number,
@@ -64,7 +40,7 @@ fn is_in_use(first: Source, second: Source, observer: Source, number: usize) -> 
 /// The columns in use for two targets and an observer.
 #[derive(Clone, Copy)]
 pub(crate) struct InUse {
-    pub numbers: [usize; 11],
+    pub numbers: [usize; BODY_COLUMNS],
     pub count: usize,
 }
 

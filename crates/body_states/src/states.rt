@@ -7,7 +7,7 @@ ghost use Rattle.spec_bodies.specs.Views.{IsView, HasBody, HasColumns, view_of, 
 ghost use Rattle.body_states.specs.Dividers.{granule_seconds, AreDividers};
 
 use crate::factors::Factors;
-use crate::sources::{InUse, source_of};
+use crate::sources::{InUse, KEPT_COLUMNS};
 use eph_model::{Body, Ephemeris};
 use ival_core::Divider;
 use spec_bodies::{Frame, Source};
@@ -26,7 +26,7 @@ pub struct BodyStates<'e> {
     pub(crate) factors: Factors,
     in_use: InUse,
     /// By the granules of the columns in use, in their order, as far as there are so many.
-    dividers: [Divider; 4],
+    dividers: [Divider; KEPT_COLUMNS],
 }
 
 impl<'e> Model for BodyStates<'e> {
@@ -75,9 +75,9 @@ impl<'e> BodyStates<'e> {
         requires apart { All (λ target. target ≢ observer) targets }
         ensures { result ≡ view_of ephemeris.now targets observer frame }
     {
-        let first = source_of(targets[0]);
-        let second = source_of(targets[1]);
-        let observer = source_of(observer);
+        let first = Source::of(targets[0]);
+        let second = Source::of(targets[1]);
+        let observer = Source::of(observer);
         let factors = Factors::new(ephemeris.header().emrat);
         let in_use = InUse::of(first, second, observer);
         BodyStates {
@@ -121,7 +121,7 @@ pub(crate) fn divider_of(ephemeris: &Ephemeris, number: usize) -> Divider
 }
 
 // Those of the first four of some columns.
-fn dividers_of(ephemeris: &Ephemeris, numbers: &[usize]) -> [Divider; 4]
+fn dividers_of(ephemeris: &Ephemeris, numbers: &[usize]) -> [Divider; KEPT_COLUMNS]
     requires checked { IsEphemeris ephemeris.now }
     requires block { 0 < ephemeris.now.blocks }
     requires present { HasColumns ephemeris.now numbers.now }

@@ -1,18 +1,18 @@
 // What is wanted of a quantity of both targets over a span of times, with each basis of a column made once.
 ghost use Rattle.std.specs.Prelude.{◌≡◌, ◌<◌, IsTrue};
-ghost use Rattle.spec_bodies.specs.Coordinates.{barycentric_coordinate};
 ghost use Rattle.spec_bodies.specs.Reading.{IsUsable};
-ghost use Rattle.spec_bodies.specs.Views.{Fits};
-ghost use Rattle.body_states.specs.Answers.{CanAsk, CanRead, CanReadSource, CanReadObserver, IsApart, IsKnown, AreKnown, IsDisplacement, observer_answer, displacement_answer, ecliptic_answer, turned_y, turned_z};
+ghost use Rattle.spec_bodies.specs.Views.{Fits, columns_of};
+ghost use Rattle.body_states.specs.Answers.{CanAsk, CanReadSource, CanReadObserver, IsApart, IsKnown, AreKnown, observer_answer, displacement_answer, ecliptic_answer};
 ghost use Rattle.body_states.specs.Dividers.{granule_seconds};
-ghost use Rattle.body_states.specs.Enclosures.{IsRight, AreAlong};
-ghost use Rattle.body_states.specs.Moments.{question_state, AreStates};
+ghost use Rattle.body_states.specs.Enclosures.{AreAlong, AreRead, IsRead};
+ghost use Rattle.body_states.specs.Moments.{question_state, target_state, AreStates};
 
 use crate::enclosures::{AxisEnclosures, ColumnEnclosures, TargetEnclosures};
 use crate::question::Question;
+use crate::sources::KEPT_COLUMNS;
 use crate::states::BodyStates;
 use event_expr::Axes;
-use event_expr::rules::Span;
+use event_expr::rules::TimeSpan;
 use ival_core::{Divider, Enclosure};
 use spec_bodies::{Frame, Quantity, Source};
 
@@ -21,7 +21,7 @@ impl<'e> BodyStates<'e> {
     pub(crate) fn write_targets(
         &self,
         quantity: Quantity,
-        times: &Span,
+        times: &TimeSpan,
         first: Axes,
         second: Axes,
         out: &mut TargetEnclosures,
@@ -32,7 +32,7 @@ impl<'e> BodyStates<'e> {
     {
         let axes = self.own_axes(first.union(second));
         if axes.x || axes.y || axes.z {
-            let mut columns = [ColumnEnclosures::none(); 4];
+            let mut columns = [ColumnEnclosures::none(); KEPT_COLUMNS];
             self.write_columns(quantity, times, axes, &mut columns);
             let mut observer = AxisEnclosures::none();
             let unobserved = Question {
@@ -53,6 +53,31 @@ impl<'e> BodyStates<'e> {
         }
     }
 
+    /// A coordinate of a target, for which each column in use is read once.
+    pub(crate) fn state_over(
+        &self,
+        quantity: Quantity,
+        target: u8,
+        axis: u8,
+        times: &TimeSpan,
+    ) -> Enclosure
+        requires target { target < 2 }
+        requires axis { axis < 3 }
+        requires fits { Fits self.now times.now.first times.now.last }
+        ensures { result ≡ target_state self.now times.now.first times.now.last quantity target axis }
+    {
+        let mut columns = [ColumnEnclosures::none(); KEPT_COLUMNS];
+        let axes = self.own_axes(Axes::one(axis));
+        self.write_columns(quantity, times, axes, &mut columns);
+        let question = Question {
+            quantity,
+            times,
+            columns: &columns,
+            observer: &AxisEnclosures::none(),
+        };
+        self.coordinate(target, usize::from(axis), &question)
+    }
+
     // The axes of the files that axes of the frame are made of: y and z of the ecliptic are turned by the obliquity.
     fn own_axes(&self, axes: Axes) -> Axes {
         let is_turned = self.frame == Frame::Ecl && (axes.y || axes.z);
@@ -63,21 +88,22 @@ impl<'e> BodyStates<'e> {
         }
     }
 
-    // Writes the first columns in use along some axes; these are as many as two bodies and the Earth are made of.
+    // Writes the first columns in use along some axes, as many as are kept.
     fn write_columns(
         &self,
         quantity: Quantity,
-        times: &Span,
+        times: &TimeSpan,
         axes: Axes,
-        columns: &mut [ColumnEnclosures; 4],
+        columns: &mut [ColumnEnclosures; KEPT_COLUMNS],
     )
         requires fits { Fits self.now times.now.first times.now.last }
         requires known { AreKnown self.now quantity times.now.first times.now.last columns.old }
-        ensures { AreKnown self.now quantity times.now.first times.now.last columns.new }
+        ensures right { AreKnown self.now quantity times.now.first times.now.last columns.new }
+        ensures made { AreRead axes (columns_of self.now) columns.new }
     {
         let numbers = self.columns();
         let dividers = self.dividers();
-        for place in 0..numbers.len().min(4) {
+        for place in 0..numbers.len().min(KEPT_COLUMNS) {
             let column = &mut columns[place];
             self.write_column(
                 numbers[place],
@@ -96,14 +122,15 @@ impl<'e> BodyStates<'e> {
         number: usize,
         divider: &Divider,
         quantity: Quantity,
-        times: &Span,
+        times: &TimeSpan,
         axes: Axes,
         column: &mut ColumnEnclosures,
     )
         requires fits { Fits self.now times.now.first times.now.last }
         requires usable { IsUsable self.now number }
         requires divider { divider.now ≡ granule_seconds self.now.ephemeris number }
-        ensures { IsKnown self.now quantity times.now.first times.now.last column.new }
+        ensures right { IsKnown self.now quantity times.now.first times.now.last column.new }
+        ensures made { IsRead axes number column.new }
     {
         column.number = number;
         column.along = AxisEnclosures::none();
@@ -118,27 +145,20 @@ impl<'e> BodyStates<'e> {
         ensures { AreAlong (observer_answer self.now question.now) out.new }
     {
         if self.needs_observer() {
-            self.write_observer_along(axes.x, 0, question, &mut out.x);
-            self.write_observer_along(axes.y, 1, question, &mut out.y);
-            self.write_observer_along(axes.z, 2, question, &mut out.z);
+            self.write_observer_along(axes, question, out);
         }
     }
 
-    #[inline(always)]
-    fn write_observer_along(
-        &self,
-        is_needed: bool,
-        axis: usize,
-        question: &Question,
-        out: &mut Option<Enclosure>,
-    )
+    fn write_observer_along(&self, axes: Axes, question: &Question, out: &mut AxisEnclosures)
         requires question { CanAsk self.now question.now }
-        requires readable { CanRead self.now (barycentric_coordinate self.now.observer axis) }
-        requires known { IsRight (observer_answer self.now question.now axis) out.old }
-        ensures { IsRight (observer_answer self.now question.now axis) out.new }
+        requires readable { CanReadObserver self.now }
+        requires known { AreAlong (observer_answer self.now question.now) out.old }
+        ensures { AreAlong (observer_answer self.now question.now) out.new }
     {
-        if is_needed {
-            *out = Some(self.barycentric(self.observer, axis, question));
+        for axis in 0..3 {
+            if axes.has(axis) {
+                out.set(axis, self.barycentric(self.observer, axis, question));
+            }
         }
     }
 
@@ -188,12 +208,14 @@ impl<'e> BodyStates<'e> {
         requires known { AreAlong (displacement_answer self.now question.now source) out.old }
         ensures { AreAlong (displacement_answer self.now question.now source) out.new }
     {
-        self.write_displacement(wanted.x, source, 0, question, &mut out.x);
-        self.write_displacement(wanted.y, source, 1, question, &mut out.y);
-        self.write_displacement(wanted.z, source, 2, question, &mut out.z);
+        for axis in 0..3 {
+            if wanted.has(axis) {
+                out.set(axis, self.displacement(source, axis, question));
+            }
+        }
     }
 
-    // Along axes of the ecliptic: y and z of the files are made once for both of its own.
+    // Along axes of the ecliptic, of which only x can do without y and z of the files.
     fn write_ecliptic(
         &self,
         source: Source,
@@ -206,73 +228,32 @@ impl<'e> BodyStates<'e> {
         requires known { AreAlong (ecliptic_answer self.now question.now source) out.old }
         ensures { AreAlong (ecliptic_answer self.now question.now source) out.new }
     {
-        self.write_displacement(wanted.x, source, 0, question, &mut out.x);
         if wanted.y || wanted.z {
-            let y = self.displacement(source, 1, question);
-            let z = self.displacement(source, 2, question);
-            self.write_turned_y(wanted.y, &y, &z, question, &mut out.y);
-            self.write_turned_z(wanted.z, &y, &z, question, &mut out.z);
+            self.write_turned(source, wanted, question, out);
+        } else if wanted.x {
+            out.set(0, self.displacement(source, 0, question));
         }
     }
 
-    // Along an axis of the files, where it is wanted.
-    #[inline(always)]
-    fn write_displacement(
+    // Along axes of the ecliptic, with y and z of the files made once for both of its own.
+    fn write_turned(
         &self,
-        is_wanted: bool,
         source: Source,
-        axis: usize,
+        wanted: Axes,
         question: &Question,
-        out: &mut Option<Enclosure>,
+        out: &mut AxisEnclosures,
     )
-        requires axis { axis < 3 }
         requires question { CanAsk self.now question.now }
         requires readable { CanReadSource self.now source }
-        requires known { IsRight (displacement_answer self.now question.now source axis) out.old }
-        ensures { IsRight (displacement_answer self.now question.now source axis) out.new }
+        requires known { AreAlong (ecliptic_answer self.now question.now source) out.old }
+        ensures { AreAlong (ecliptic_answer self.now question.now source) out.new }
     {
-        if is_wanted {
-            *out = Some(self.displacement(source, axis, question));
-        }
-    }
-
-    #[inline(always)]
-    fn write_turned_y(
-        &self,
-        is_wanted: bool,
-        y: &Enclosure,
-        z: &Enclosure,
-        question: &Question,
-        out: &mut Option<Enclosure>,
-    )
-        requires question { CanAsk self.now question.now }
-        requires y { IsDisplacement self.now question.now 1 y.now }
-        requires z { IsDisplacement self.now question.now 2 z.now }
-        requires known { IsRight (turned_y self.now question.now y.now z.now) out.old }
-        ensures { IsRight (turned_y self.now question.now y.now z.now) out.new }
-    {
-        if is_wanted {
-            *out = Some(self.turned_y(y, z, question));
-        }
-    }
-
-    #[inline(always)]
-    fn write_turned_z(
-        &self,
-        is_wanted: bool,
-        y: &Enclosure,
-        z: &Enclosure,
-        question: &Question,
-        out: &mut Option<Enclosure>,
-    )
-        requires question { CanAsk self.now question.now }
-        requires y { IsDisplacement self.now question.now 1 y.now }
-        requires z { IsDisplacement self.now question.now 2 z.now }
-        requires known { IsRight (turned_z self.now question.now y.now z.now) out.old }
-        ensures { IsRight (turned_z self.now question.now y.now z.now) out.new }
-    {
-        if is_wanted {
-            *out = Some(self.turned_z(y, z, question));
+        let y = self.displacement(source, 1, question);
+        let z = self.displacement(source, 2, question);
+        for axis in 0..3 {
+            if wanted.has(axis) {
+                out.set(axis, self.turned(source, axis, &y, &z, question));
+            }
         }
     }
 }

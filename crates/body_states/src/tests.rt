@@ -5,17 +5,16 @@ ghost use Rattle.spec_ephemeris.specs.Header.{IsHeader, has_column};
 ghost use Rattle.spec_ephemeris.specs.Ephemeris.{IsBodyNumber, end_of};
 ghost use Rattle.spec_ephemeris.specs.Examples.{column};
 ghost use Rattle.spec_expressions.specs.Term.{term, HasLeaves};
-ghost use Rattle.spec_bodies.specs.Sources.{source_of, needed};
+ghost use Rattle.spec_bodies.specs.Sources.{source_of, needed_columns};
 ghost use Rattle.spec_bodies.specs.Views.{Fits};
 ghost use Rattle.body_states.specs.Examples.{short_blocks};
 
-use crate::sources::{EMB_COLUMN, MOON_COLUMN, source_of};
 use crate::*;
 use eph_model::{Column, Columns, Header};
 use event_expr::builders::{difference, length, position, product, signed_square, sum, velocity};
 use event_expr::{Expr, Formula, Leaves, enclose};
 use ival_core::Enclosure;
-use spec_bodies::Source;
+use spec_bodies::{EMB_COLUMN, MOON_COLUMN, Source};
 use spec_text::Decimal;
 use std::alloc::{AllocError, Global};
 use std::process::Abort;
@@ -172,9 +171,9 @@ fn short(rt: &impl Abort, alloc: Global) -> Result<Ephemeris, Fail> {
 
 // Whether the ephemeris has what a body needs.
 fn has(ephemeris: &Ephemeris, body: Body) -> bool
-    ensures { result ≡ list_all (has_column ephemeris.now.header) (needed (source_of body)) }
+    ensures { result ≡ list_all (has_column ephemeris.now.header) (needed_columns (source_of body)) }
 {
-    match source_of(body) {
+    match Source::of(body) {
         Source::OwnColumn(number) => ephemeris.has(number),
         Source::EarthOfPair | Source::MoonOfPair => {
             ephemeris.has(EMB_COLUMN) && ephemeris.has(MOON_COLUMN)

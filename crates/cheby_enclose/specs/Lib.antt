@@ -1,2 +1,2 @@
-pub mod Bases
+pub mod EmptyRow
 pub mod Pairs

@@ -14,6 +14,6 @@ mod terms;
 mod tests;
 
 pub use granules::{argument_at, arguments, arguments_by, is_evaluable};
-pub use positions::{Bases, empty_row, position, position_over, position_over_row};
+pub use positions::{empty_row, position, position_over_row};
 pub use sums::{WideEnds, row_sum, slope_sum};
 pub use terms::Terms;

@@ -49,7 +49,7 @@ impl Axes {
     }
 
     /// An axis, 0, 1 or 2, is in the set.
-    pub fn has(self, axis: u8) -> bool
+    pub fn has(self, axis: usize) -> bool
         requires { axis < 3 }
         ensures { result ≡ has_axis self axis }
     {

@@ -7,13 +7,13 @@ ghost use Rattle.spec_intervals.specs.Enclosure.{middle, change};
 ghost use Rattle.spec_expressions.specs.Term.{term, position, velocity, exact_of, enclosure_of, IsFormula};
 
 use crate::formula::Formula;
-use crate::rules::{Span, blank};
+use crate::rules::{TimeSpan, blank};
 use crate::states::States;
 use ival_core::{COSINE_EXPONENT, DISTANCE_EXPONENT, Enclosure, Ival};
 use spec_expressions::Expr;
 
 /// The enclosure of a formula over the times from `a` to `b`, by interval arithmetic on what the states answer. The
-/// states are asked for each leaf once, and no memory is taken.
+/// states are asked for each leaf once, and nothing is allocated.
 pub fn enclose<S: States>(f: &Formula, states: &S, a: i64, b: i64) -> Enclosure
     requires fits { S.fits states.now a b }
     ensures equals { result ≡ enclosure_of (λ leaf. S.answer states.now leaf a b) a b f.now }
@@ -23,11 +23,21 @@ pub fn enclose<S: States>(f: &Formula, states: &S, a: i64, b: i64) -> Enclosure
     ensures step { (t : ℤ) → a ≤ℤ t → t <ℤ b
         → Holds result.step (change (exact_of (S.exact states.now) f.now) t) }
 {
-    enclose_at(f.expr(), states, &Span::new(a, b))
+    enclose_at(f.expr(), states, &TimeSpan::new(a, b))
+}
+
+/// The enclosure of a formula over a span of times that is made already, as `enclose` returns it from its first time to its
+/// last.
+pub fn enclose_during<S: States>(f: &Formula, states: &S, times: &TimeSpan) -> Enclosure
+    requires fits { S.fits states.now times.now.first times.now.last }
+    ensures { result ≡ enclosure_of (λ leaf. S.answer states.now leaf times.now.first times.now.last)
+        times.now.first times.now.last f.now }
+{
+    enclose_at(f.expr(), states, times)
 }
 
 /// The enclosure of a formula's expression.
-fn enclose_at<S: States>(expr: &Expr, states: &S, span: &Span) -> Enclosure
+fn enclose_at<S: States>(expr: &Expr, states: &S, span: &TimeSpan) -> Enclosure
     requires formula { IsFormula (term expr.now) }
     requires fits { S.fits states.now span.now.first span.now.last }
     ensures { result ≡ enclosure_of (λ leaf. S.answer states.now leaf span.now.first span.now.last)
@@ -43,7 +53,7 @@ fn enclose_at<S: States>(expr: &Expr, states: &S, span: &Span) -> Enclosure
 }
 
 /// Writes the enclosure of a formula's expression or of a part of it.
-fn enclose_over<S: States>(out: &mut Enclosure, expr: &Expr, states: &S, span: &Span)
+fn enclose_over<S: States>(out: &mut Enclosure, expr: &Expr, states: &S, span: &TimeSpan)
     requires formula { IsFormula (term expr.now) }
     requires fits { S.fits states.now span.now.first span.now.last }
     ensures { out.new ≡ enclosure_of (λ leaf. S.answer states.now leaf span.now.first span.now.last)
@@ -87,7 +97,7 @@ fn enclose_over<S: States>(out: &mut Enclosure, expr: &Expr, states: &S, span: &
 
 /// Writes what the states answer for a coordinate of a position.
 #[inline(never)]
-fn set_position<S: States>(out: &mut Enclosure, target: u8, axis: u8, states: &S, span: &Span)
+fn set_position<S: States>(out: &mut Enclosure, target: u8, axis: u8, states: &S, span: &TimeSpan)
     requires target { target < 2 }
     requires axis { axis < 3 }
     requires fits { S.fits states.now span.now.first span.now.last }
@@ -98,7 +108,7 @@ fn set_position<S: States>(out: &mut Enclosure, target: u8, axis: u8, states: &S
 
 /// Writes what the states answer for a coordinate of a velocity.
 #[inline(never)]
-fn set_velocity<S: States>(out: &mut Enclosure, target: u8, axis: u8, states: &S, span: &Span)
+fn set_velocity<S: States>(out: &mut Enclosure, target: u8, axis: u8, states: &S, span: &TimeSpan)
     requires target { target < 2 }
     requires axis { axis < 3 }
     requires fits { S.fits states.now span.now.first span.now.last }
@@ -108,7 +118,7 @@ fn set_velocity<S: States>(out: &mut Enclosure, target: u8, axis: u8, states: &S
 }
 
 /// The enclosure at a single time of a formula's expression, of which nothing but the mid is worked out.
-fn enclose_once<S: States>(expr: &Expr, states: &S, span: &Span) -> Enclosure
+fn enclose_once<S: States>(expr: &Expr, states: &S, span: &TimeSpan) -> Enclosure
     requires formula { IsFormula (term expr.now) }
     requires fits { S.fits states.now span.now.first span.now.last }
     requires single { lt_z span.now.first span.now.last ≡ false }
@@ -128,7 +138,7 @@ fn enclose_once<S: States>(expr: &Expr, states: &S, span: &Span) -> Enclosure
 }
 
 /// The mid of the enclosure of a formula's expression or of a part of it.
-fn value_at<S: States>(expr: &Expr, states: &S, span: &Span) -> Ival
+fn value_at<S: States>(expr: &Expr, states: &S, span: &TimeSpan) -> Ival
     requires formula { IsFormula (term expr.now) }
     requires fits { S.fits states.now span.now.first span.now.last }
     ensures { result ≡ (enclosure_of

@@ -30,7 +30,7 @@ impl Model for Formula {
 }
 
 impl Formula {
-    /// The expression as a formula, or the first limit that it passes. No memory is taken.
+    /// The expression as a formula, or the first limit that it passes. Does not allocate.
     pub fn new(expr: Expr) -> Result<Formula, ExprFault>
         requires { HasLeaves (term expr) }
         ensures made { IfOk result (λ formula. formula ≡ term expr) }
@@ -55,7 +55,7 @@ impl Formula {
         Formula { expr }
     }
 
-    /// The coordinates that the formula names. No memory is taken.
+    /// The coordinates that the formula names. Does not allocate.
     pub fn leaves(&self) -> Leaves
         ensures { result ≡ leaves_of self.now }
     {

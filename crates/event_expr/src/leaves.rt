@@ -60,19 +60,6 @@ impl Leaves {
             second_velocity: self.second_velocity.union(other.second_velocity),
         }
     }
-
-    /// The axes along which a vector is named.
-    pub fn axes(self, vector: Vector) -> Axes
-        requires { IsVector vector }
-        ensures { result ≡ axes_of self vector }
-    {
-        match vector {
-            Vector::Position(0) => self.first_position,
-            Vector::Position(_) => self.second_position,
-            Vector::Velocity(0) => self.first_velocity,
-            Vector::Velocity(_) => self.second_velocity,
-        }
-    }
 }
 
 /// The coordinates that an expression names.

@@ -2,8 +2,8 @@
 //!
 //! In comes a formula, which is an expression within limits, with states that answer an enclosure for each coordinate
 //! over a span of times; out comes the enclosure of the formula over that span. It holds the exact value in the middle,
-//! at each time and from each time to the next. No call takes memory but the builders, and the states are asked once for
-//! each leaf. A formula tells which coordinates it names, so that states need make no others.
+//! at each time and from each time to the next. No call allocates but the builders, and the states are asked once for
+//! each leaf. A formula says which coordinates it names, so that states need make no others.
 #![tactic(auto)]
 
 mod axes;
@@ -19,7 +19,7 @@ mod states;
 mod tests;
 
 pub use axes::Axes;
-pub use enclosing::enclose;
+pub use enclosing::{enclose, enclose_during};
 pub use formula::Formula;
 pub use leaves::Leaves;
 pub use limits::ExprFault;

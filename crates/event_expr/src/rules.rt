@@ -13,13 +13,13 @@ use std::marker::Model;
 
 /// The times from a first to a last, with their distances from the middle.
 #[derive(Drop)]
-pub struct Span {
+pub struct TimeSpan {
     first: i64,
     last: i64,
     distances: Ival,
 }
 
-impl Model for Span {
+impl Model for TimeSpan {
     ghost use Rattle.std.specs.Prelude.{◌≡◌};
     ghost use Rattle.spec_intervals.specs.Enclosure.{IsSpan, offsets};
     ghost use Rattle.event_expr.specs.States.{Times};
@@ -31,17 +31,17 @@ impl Model for Span {
     ghost invariant = { λ s. IsSpan s.first s.last × (s.distances ≡ offsets s.first s.last) };
 }
 
-impl Span {
-    /// The times from `first` to `last`, at most 2^50 in size.
+impl TimeSpan {
+    /// The times from `first` to `last`, at most 2^50 in magnitude.
     #[inline(always)]
-    pub fn new(first: i64, last: i64) -> Span
+    pub fn new(first: i64, last: i64) -> TimeSpan
         requires { IsSpan first last }
         ensures first { result.first ≡ first }
         ensures last { result.last ≡ last }
     {
         let middle = middle(first, last);
         let distances = Ival::of(distance(first, middle), distance(last, middle), 0);
-        Span {
+        TimeSpan {
             first,
             last,
             distances,
@@ -130,7 +130,7 @@ impl Span {
         }
     }
 
-    /// The signed square. Its change lies between 0 and the change of the operand times twice its greatest size.
+    /// The signed square. Its change lies between 0 and the change of the operand times twice its greatest magnitude.
     #[inline(always)]
     pub fn signed_square(&self, x: Enclosure) -> Enclosure
         requires within { AllWithin part_exponent x }
@@ -224,7 +224,7 @@ impl Span {
         }
     }
 
-    /// The range is what the plain one shares with the values that steps reach from the middle.
+    /// The range is the intersection of the plain one with what steps reach from the middle.
     #[inline(always)]
     pub fn wide(&self, mid: Ival, plain: Ival, step: Ival) -> Enclosure
         requires several { lt_z self.now.first self.now.last ≡ true }
@@ -270,7 +270,7 @@ fn distance(time: i64, origin: i64) -> i128
     time as i128 - origin as i128
 }
 
-/// From 0 to twice the greatest size in the interval.
+/// From 0 to twice the greatest magnitude in the interval.
 #[inline(always)]
 fn twice_size(range: Ival) -> Ival
     requires { IsWithin part_exponent range }
@@ -280,7 +280,7 @@ fn twice_size(range: Ival) -> Ival
     Ival::of(0, doubled_size(lo, hi), s)
 }
 
-/// Twice the size of the greater of two ends.
+/// Twice the greater magnitude of two ends.
 #[inline(always)]
 fn doubled_size(lo: i128, hi: i128) -> i128
     requires lo_small { unsigned_abs lo ≤ end_limit }

@@ -8,13 +8,13 @@ ghost use Rattle.event_expr.specs.States.{state_exponent};
 
 use ival_core::Enclosure;
 
-/// What answers an enclosure of each coordinate of two targets, over spans of times in seconds of TDB since J2000.
+/// What returns an enclosure of each coordinate of two targets, over spans of times in seconds of TDB since J2000.
 /// Positions are in km and velocities in km a second; targets are numbered 0 and 1, axes 0, 1 and 2.
 pub trait States {
     /// The exact value of a coordinate at a time.
     ghost exact: { Self → Leaf → ℤ → Fraction };
 
-    /// The enclosure that is answered for a coordinate over the times from the first to the last.
+    /// The enclosure that is returned for a coordinate over the times from the first to the last.
     ghost answer: { Self → Leaf → ℤ → ℤ → Parts };
 
     /// The pairs of times, first and last, that can be asked for.
@@ -34,18 +34,18 @@ pub trait States {
         requires fits { fits self.now a b }
         ensures { result ≡ answer self.now (velocity target axis) a b };
 
-    /// The times that fit are in order, and at most 2^50 in size.
+    /// The times that fit are in order, and at most 2^50 in magnitude.
     ghost spans: { (s : Self) (a b : ℤ) → fits s a b → IsSpan a b };
 
     /// The exact value is a number at each time that is asked for.
     ghost numbers: { (s : Self) (leaf : Leaf) (a b : ℤ) → IsLeaf leaf → fits s a b
         → AllFractions (exact s leaf) a b };
 
-    /// What is answered holds the exact value: in the middle, at each time, and from each time to the next.
+    /// What is returned holds the exact value: in the middle, at each time, and from each time to the next.
     ghost holds: { (s : Self) (leaf : Leaf) (a b : ℤ) → IsLeaf leaf → fits s a b
         → IsEnclosure (exact s leaf) a b (answer s leaf a b) };
 
-    /// What is answered has exponents within the limit.
+    /// What is returned has exponents within the limit.
     ghost within: { (s : Self) (leaf : Leaf) (a b : ℤ) → IsLeaf leaf → fits s a b
         → AllWithin state_exponent (answer s leaf a b) };
 }

@@ -9,8 +9,8 @@ use Rattle.spec_events.specs.Soundness.{findings_of}
 use Rattle.spec_events.specs.Stages.{is_turnless}
 use Rattle.spec_events.specs.Verdict.{Findings, GuardFinding, is_certified, is_refuted}
 use Rattle.spec_searches.specs.Search.{Search, evidence_at}
-use Rattle.body_states.specs.Moments.{Moment}
-use Rattle.event_judge.specs.Moments.{enclosure_in, findings_in, moment, sign_in}
+use Rattle.body_states.specs.Moments.{Moment, enclosure_in}
+use Rattle.event_judge.specs.Moments.{findings_in, moment, sign_in}
 
 abbrev pub findings_at : Search → Node → Findings
 findings_at s n = findings_of (evidence_at s n)

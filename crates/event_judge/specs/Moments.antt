@@ -1,22 +1,17 @@
 -- What is asked of the states over one span of times.
 use Rattle.std.specs.Prelude.{List, map, ℤ}
 use Rattle.spec_intervals.specs.declared.signs.Sign.{Sign}
-use Rattle.spec_intervals.specs.Enclosure.{Enclosure}
 use Rattle.spec_intervals.specs.Signs.{sign_of}
 use Rattle.spec_expressions.specs.Term.{Term}
-use Rattle.spec_bodies.specs.Views.{View, state_enclosure}
+use Rattle.spec_bodies.specs.Views.{View}
 use Rattle.spec_events.specs.Verdict.{GuardFinding}
 use Rattle.spec_searches.specs.Event.{Condition}
-use Rattle.spec_searches.specs.Search.{enclosure_over}
-use Rattle.body_states.specs.Moments.{Moment}
+use Rattle.body_states.specs.Moments.{Moment, enclosure_in}
 
 abbrev pub moment : View → ℤ → ℤ → Moment
 moment v a b = record { view = v; first = a; last = b }
 
--- the enclosure of a formula, and its sign
-abbrev pub enclosure_in : Moment → Term → Enclosure
-enclosure_in m term = enclosure_over (state_enclosure m.view) term m.first m.last
-
+-- the sign of a formula
 abbrev pub sign_in : Moment → Term → Sign
 sign_in m term = sign_of (enclosure_in m term).range
 

@@ -12,7 +12,6 @@ mod judge;
 mod judging;
 mod parts;
 mod signs;
-mod span_states;
 mod valid_node;
 mod verdicts;
 mod wanted;

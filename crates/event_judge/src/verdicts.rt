@@ -8,8 +8,8 @@ ghost use Rattle.event_judge.specs.Found.{enclosure_at, first_moment, guards_at,
 
 use crate::conditions::{are_certified, is_one_refuted};
 use crate::signs::{differ, has_no_turn, is_one_way, is_turnless, turn_to};
-use crate::span_states::SpanStates;
 use crate::valid_node::ValidNode;
+use body_states::Snapshot;
 use halving::Verdict;
 use ival_core::{Enclosure, Sign};
 
@@ -59,48 +59,48 @@ impl<'s, 'e> ValidNode<'s, 'e> {
 
     // The states at its first time, of which only the function is asked.
     #[inline(always)]
-    fn first(self) -> SpanStates<'s, 'e>
+    fn first(self) -> Snapshot<'s, 'e>
         ensures { result ≡ first_moment self.entry.search.now self.entry.node }
     {
         let states = self.search.states();
         let _columns = states.columns();
-        SpanStates::new(states, self.search.of_function(), self.node.a, self.node.a)
+        states.at(self.node.a, self.node.a, self.search.of_function())
     }
 
     // The states at its last time.
     #[inline(always)]
-    fn last(self) -> SpanStates<'s, 'e>
+    fn last(self) -> Snapshot<'s, 'e>
         ensures { result ≡ last_moment self.entry.search.now self.entry.node }
     {
         let states = self.search.states();
         let _columns = states.columns();
-        SpanStates::new(states, self.search.wanted(), self.node.b, self.node.b)
+        states.at(self.node.b, self.node.b, self.search.wanted())
     }
 
     // The states at its last time, of which only the function is asked.
     #[inline(always)]
-    fn last_of_function(self) -> SpanStates<'s, 'e>
+    fn last_of_function(self) -> Snapshot<'s, 'e>
         ensures { result ≡ last_moment self.entry.search.now self.entry.node }
     {
         let (states, time) = (self.search.states(), self.node.b);
         let _columns = states.columns();
-        SpanStates::new(states, self.search.of_function(), time, time)
+        states.at(time, time, self.search.of_function())
     }
 
     // The states over all its times, where no border falls into it.
     #[inline(always)]
-    fn whole(self) -> SpanStates<'s, 'e>
+    fn whole(self) -> Snapshot<'s, 'e>
         requires { crosses self.search.now self.node ≡ false }
         ensures { result ≡ whole_moment self.entry.search.now self.entry.node }
     {
         let states = self.search.states();
         let _columns = states.columns();
-        SpanStates::new(states, self.search.wanted(), self.node.a, self.node.b)
+        states.at(self.node.a, self.node.b, self.search.wanted())
     }
 
     // The enclosure of the function over some times.
     #[inline(always)]
-    fn enclosure(self, states: &SpanStates) -> Enclosure
+    fn enclosure(self, states: &Snapshot) -> Enclosure
         ensures { result ≡ enclosure_at self.entry.search.now states.now }
     {
         states.enclosure(self.search.event().function())
@@ -108,7 +108,7 @@ impl<'s, 'e> ValidNode<'s, 'e> {
 
     // Its sign.
     #[inline(always)]
-    fn sign(self, states: &SpanStates) -> Sign
+    fn sign(self, states: &Snapshot) -> Sign
         ensures { result ≡ sign_at self.entry.search.now states.now }
     {
         self.enclosure(states).range.sign()
@@ -124,7 +124,7 @@ impl<'s, 'e> ValidNode<'s, 'e> {
 
     // Some condition is false at each of some times.
     #[inline(always)]
-    fn is_refuted(self, states: &SpanStates) -> bool
+    fn is_refuted(self, states: &Snapshot) -> bool
         ensures { result ≡ is_refuted_at self.entry.search.now states.now }
     {
         is_one_refuted(self.search.event().guards(), states)
@@ -132,7 +132,7 @@ impl<'s, 'e> ValidNode<'s, 'e> {
 
     // Each condition holds at each of some times.
     #[inline(always)]
-    fn is_certified(self, states: &SpanStates) -> bool
+    fn is_certified(self, states: &Snapshot) -> bool
         ensures { result ≡ is_certified_at self.entry.search.now states.now }
     {
         are_certified(self.search.event().guards(), states)
@@ -152,7 +152,7 @@ impl<'s, 'e> ValidNode<'s, 'e> {
 
     // What is said by the signs at the ends, which tell the turns between them, with the conditions over some times.
     #[inline(always)]
-    fn end_verdict(self, states: &SpanStates, first: Sign, last: Sign) -> Verdict
+    fn end_verdict(self, states: &Snapshot, first: Sign, last: Sign) -> Verdict
         ensures { result ≡ end_verdict (criteria self.entry.search.now) self.entry.node
             (guards_at self.entry.search.now states.now) first last }
     {

@@ -7,6 +7,7 @@ ghost use Rattle.event_kinds.specs.Faults.{event_fault_of};
 
 use eph_model::{Body, Ephemeris};
 use ival_core::{is_cosine as is_cosine_size, is_distance as is_distance_size};
+use spec_bodies::{EMB_COLUMN, MOON_COLUMN, Source};
 use spec_kinds::{Ask, EventFault, Range};
 use spec_text::Decimal;
 use thiserror::Error;
@@ -90,19 +91,10 @@ fn has_second(eph: &Ephemeris, second: Option<Body>) -> bool
 fn has_body(eph: &Ephemeris, body: Body) -> bool
     ensures { result ≡ has_body eph.now body }
 {
-    match body {
-        Body::Mercury => eph.has(1),
-        Body::Venus => eph.has(2),
-        Body::Emb => eph.has(3),
-        Body::Mars => eph.has(4),
-        Body::Jupiter => eph.has(5),
-        Body::Saturn => eph.has(6),
-        Body::Uranus => eph.has(7),
-        Body::Neptune => eph.has(8),
-        Body::Pluto => eph.has(9),
-        Body::Sun => eph.has(11),
-        Body::Earth | Body::Moon => eph.has(3) && eph.has(10),
-        Body::Ssb => true,
+    match Source::of(body) {
+        Source::OwnColumn(number) => eph.has(number),
+        Source::EarthOfPair | Source::MoonOfPair => eph.has(EMB_COLUMN) && eph.has(MOON_COLUMN),
+        Source::Origin => true,
     }
 }
 

@@ -1,11 +1,9 @@
 -- Times that fit the states of bodies.
-use Rattle.std.proofs.Common.{◌≡◌, ◌++◌, ◌∷◌, [], All, List, subst, sym, arith, None, ℤ, ◌≤ℤ◌, ◌<ℤ◌}
+use Rattle.std.proofs.Common.{◌≡◌, subst, sym, arith, None, ℤ, ◌≤ℤ◌, ◌<ℤ◌}
 use Rattle.std.proofs.lemmas.Int.{ints}
-use Rattle.std.proofs.lemmas.List.Elements.{All-append, All-cons, All-nil}
 use Rattle.spec_ephemeris.specs.Ephemeris.{Ephemeris, IsBorderIn, IsNearestBorder, end_of}
 use Rattle.spec_bodies.specs.Views.{Fits, HasColumns, IsView, View, columns_of}
 use Rattle.spec_bodies.proofs.InUse.{present_in_use}
-use Rattle.measure_main.specs.declared.enclosures.Span.{Span}
 
 -- the columns in use are there
 pub are_present : (e : Ephemeris) (v : View) → IsView v → v.ephemeris ≡ e → HasColumns e (columns_of v)
@@ -20,11 +18,3 @@ fits_where_none e v a b is of from order upto none = record {
   upto = subst (λ (e : Ephemeris). b ≤ℤ end_of e) (sym of) upto;
   no_border = λ t border. none t (subst (λ (e : Ephemeris). IsBorderIn e (columns_of v) a b t) of border);
 }
-
--- and one more such span
-pub all_pushed : (v : View) (old new : List Span) (a b : ℤ) → All (λ span. Fits v span.from span.to) old → Fits v a b → new ≡ old ++ record { from = a; to = b } ∷ []
-    → All (λ span. Fits v span.from span.to) new
-all_pushed v old new a b all fits is =
-    let one : Span = record { from = a; to = b } in
-    subst (All (λ span. Fits v span.from span.to)) (sym is)
-    (All-append (λ (span : Span). Fits v span.from span.to) old (one ∷ []) all (All-cons (λ (span : Span). Fits v span.from span.to) one [] fits (All-nil (λ (span : Span). Fits v span.from span.to))))

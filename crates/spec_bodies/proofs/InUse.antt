@@ -13,23 +13,24 @@ use Rattle.spec_bodies.specs.declared.source.Source.{Source}
 use Rattle.spec_bodies.specs.declared.source.Source.TheVariants.{EarthOfPair, MoonOfPair}
 use Rattle.spec_ephemeris.specs.declared.body.Body.{Body}
 use Rattle.spec_ephemeris.specs.declared.body.Body.TheVariants.{Mercury, Venus, Emb, Mars, Jupiter, Saturn, Uranus, Neptune, Pluto, Moon, Sun, Earth, Ssb}
-use Rattle.spec_bodies.specs.Sources.{emb_column, moon_column, source_of, needed, used, body_columns, is_among, is_in_use}
+use Rattle.spec_bodies.specs.declared.source.TheConstants.{EMB_COLUMN, MOON_COLUMN}
+use Rattle.spec_bodies.specs.Sources.{source_of, needed_columns, used, body_columns, is_among, is_in_use}
 use Rattle.spec_bodies.specs.Reading.{IsUsable}
 use Rattle.spec_bodies.specs.Views.{View, HasColumns, IsView, IsThere, target_of, columns_of}
 
 -- what is true of the columns that both need is true of those in use
-pub used_all : (P : ℕ → Type 0) (target observer : Source) → All P (needed target) → All P (needed observer) → All P (used target observer)
-used_all P MoonOfPair EarthOfPair one other = λ k d within. All-of_one P moon_column (one 1 0 (omega arith)) k d within
+pub used_all : (P : ℕ → Type 0) (target observer : Source) → All P (needed_columns target) → All P (needed_columns observer) → All P (used target observer)
+used_all P MoonOfPair EarthOfPair one other = λ k d within. All-of_one P MOON_COLUMN (one 1 0 (omega arith)) k d within
   where
     All-of_one : (P : ℕ → Type 0) (n : ℕ) → P n → All P (n ∷ [])
     All-of_one P n is zero d within = is
     All-of_one P n is (suc k) d within = absurd (omega (arith, within))
-used_all P EarthOfPair MoonOfPair one other = λ k d within. All-of_one P moon_column (one 1 0 (omega arith)) k d within
+used_all P EarthOfPair MoonOfPair one other = λ k d within. All-of_one P MOON_COLUMN (one 1 0 (omega arith)) k d within
   where
     All-of_one : (P : ℕ → Type 0) (n : ℕ) → P n → All P (n ∷ [])
     All-of_one P n is zero d within = is
     All-of_one P n is (suc k) d within = absurd (omega (arith, within))
-used_all P target observer one other = All-append P (needed target) (needed observer) one other
+used_all P target observer one other = All-append P (needed_columns target) (needed_columns observer) one other
 
 -- what passes stays among what is filtered
 contains_filtered : {X : Type 0} (p : X → Bool) (xs : List X) (x : X) → Contains xs x → p x ≡ true → Contains (filter p xs) x
@@ -96,12 +97,12 @@ one_column : (n : ℕ) → n ≤ BODY_COLUMNS → All (λ number. number ≤ BOD
 one_column n few zero d within = few
 one_column n few (suc k) d within = absurd (omega (arith, within))
 
-pair_columns : All (λ number. number ≤ BODY_COLUMNS) (emb_column ∷ moon_column ∷ [])
+pair_columns : All (λ number. number ≤ BODY_COLUMNS) (EMB_COLUMN ∷ MOON_COLUMN ∷ [])
 pair_columns zero d within = omega arith
 pair_columns (suc zero) d within = omega arith
 pair_columns (suc (suc k)) d within = absurd (omega (arith, within))
 
-pub columns_of_bodies : (body : Body) → All (λ number. number ≤ BODY_COLUMNS) (needed (source_of body))
+pub columns_of_bodies : (body : Body) → All (λ number. number ≤ BODY_COLUMNS) (needed_columns (source_of body))
 columns_of_bodies Mercury = one_column 1 (omega arith)
 columns_of_bodies Venus = one_column 2 (omega arith)
 columns_of_bodies Emb = one_column 3 (omega arith)
@@ -117,7 +118,7 @@ columns_of_bodies Earth = pair_columns
 columns_of_bodies Ssb = λ k d within. absurd (omega (arith, within))
 
 -- and where these are there, so is the body
-pub body_there : (e : Ephemeris) (body : Body) → HasColumns e (needed (source_of body)) → IsThere e (source_of body)
+pub body_there : (e : Ephemeris) (body : Body) → HasColumns e (needed_columns (source_of body)) → IsThere e (source_of body)
 body_there e body present = record { present = present; of_bodies = columns_of_bodies body }
 
 -- what is true of each of some columns is true of one that is among them

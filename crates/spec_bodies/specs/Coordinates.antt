@@ -7,7 +7,7 @@ use Rattle.spec_bodies.specs.declared.frame.Frame.{Frame}
 use Rattle.spec_bodies.specs.declared.frame.Frame.TheVariants.{Eq, Ecl}
 use Rattle.spec_bodies.specs.declared.source.Source.{Source}
 use Rattle.spec_bodies.specs.declared.source.Source.TheVariants.{OwnColumn, EarthOfPair, MoonOfPair, Origin}
-use Rattle.spec_bodies.specs.Sources.{emb_column, moon_column}
+use Rattle.spec_bodies.specs.declared.source.TheConstants.{EMB_COLUMN, MOON_COLUMN}
 
 pub data Coordinate : Type 0 where
   nothing : Coordinate
@@ -18,10 +18,10 @@ pub data Coordinate : Type 0 where
 
 -- ---- relative to the barycentre of the solar system
 abbrev pub earth : ℕ → Coordinate
-earth axis = less (of_column emb_column axis) (times MoonShare (of_column moon_column axis))
+earth axis = less (of_column EMB_COLUMN axis) (times MoonShare (of_column MOON_COLUMN axis))
 
 abbrev pub moon : ℕ → Coordinate
-moon axis = plus (earth axis) (of_column moon_column axis)
+moon axis = plus (earth axis) (of_column MOON_COLUMN axis)
 
 abbrev pub barycentric_coordinate : Source → ℕ → Coordinate
 barycentric_coordinate (OwnColumn number) axis = of_column number axis
@@ -32,8 +32,8 @@ barycentric_coordinate Origin axis = nothing
 -- ---- relative to an observer: the barycentre of the solar system subtracts nothing, and one of the Earth and the Moon
 -- seen from the other is read from the Moon's column itself
 abbrev pub displacement : Source → Source → ℕ → Coordinate
-displacement MoonOfPair EarthOfPair axis = of_column moon_column axis
-displacement EarthOfPair MoonOfPair axis = less nothing (of_column moon_column axis)
+displacement MoonOfPair EarthOfPair axis = of_column MOON_COLUMN axis
+displacement EarthOfPair MoonOfPair axis = less nothing (of_column MOON_COLUMN axis)
 displacement target Origin axis = barycentric_coordinate target axis
 displacement target observer axis = less (barycentric_coordinate target axis) (barycentric_coordinate observer axis)
 

@@ -18,7 +18,7 @@ use Rattle.spec_bodies.specs.declared.source.Source.{Source}
 use Rattle.spec_bodies.specs.declared.factor.Factor.{Factor}
 use Rattle.spec_bodies.specs.declared.quantity.Quantity.{Quantity}
 use Rattle.spec_bodies.specs.declared.quantity.Quantity.TheVariants.{Position, Velocity}
-use Rattle.spec_bodies.specs.Sources.{source_of, needed, columns_in_use}
+use Rattle.spec_bodies.specs.Sources.{source_of, needed_columns, columns_in_use}
 use Rattle.spec_bodies.specs.Coordinates.{Coordinate, coordinate}
 use Rattle.spec_ephemeris.specs.Granules.{series_at}
 use Rattle.spec_bodies.specs.Meanings.{factor, exact_of, enclosure_of}
@@ -63,12 +63,12 @@ HasColumns e = All (λ number. IsTrue (has_column e.header number))
 
 -- the columns that a body needs are there
 abbrev pub HasBody : Ephemeris → Body → Type 0
-HasBody e body = HasColumns e (needed (source_of body))
+HasBody e body = HasColumns e (needed_columns (source_of body))
 
 -- the columns of a source are there, and are those of bodies
 pub record IsThere (e : Ephemeris) (s : Source) : Type 0 where
-  pub present : HasColumns e (needed s)
-  pub of_bodies : All (λ number. number ≤ BODY_COLUMNS) (needed s)
+  pub present : HasColumns e (needed_columns s)
+  pub of_bodies : All (λ number. number ≤ BODY_COLUMNS) (needed_columns s)
 
 pub record IsView (v : View) : Type 0 where
   pub checked : IsEphemeris v.ephemeris

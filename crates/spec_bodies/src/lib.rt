@@ -15,4 +15,4 @@ mod source;
 pub use factor::Factor;
 pub use frame::Frame;
 pub use quantity::Quantity;
-pub use source::Source;
+pub use source::{EMB_COLUMN, MOON_COLUMN, SUN_COLUMN, Source};

@@ -1,4 +1,17 @@
 // How a body is read from the columns of an ephemeris.
+ghost use Rattle.std.specs.Prelude.{◌≡◌};
+ghost use Rattle.spec_bodies.specs.Sources.{source_of};
+
+use spec_ephemeris::Body;
+
+/// The number of the column of the barycentre of the Earth and the Moon.
+pub const EMB_COLUMN: usize = 3;
+
+/// The number of the column of the Moon seen from the Earth.
+pub const MOON_COLUMN: usize = 10;
+
+/// The number of the column of the Sun.
+pub const SUN_COLUMN: usize = 11;
 
 /// From which columns the coordinates of a body come.
 #[derive(Clone, Copy, Debug, PartialEq, Eq)]
@@ -11,4 +24,27 @@ pub enum Source {
     MoonOfPair,
     /// The barycentre of the solar system, from which the others are measured.
     Origin,
+}
+
+impl Source {
+    /// How a body is read: the planets, Pluto and the Earth-Moon barycentre stand in the first nine columns.
+    pub fn of(body: Body) -> Source
+        ensures { result ≡ source_of body }
+    {
+        match body {
+            Body::Mercury => Source::OwnColumn(1),
+            Body::Venus => Source::OwnColumn(2),
+            Body::Emb => Source::OwnColumn(EMB_COLUMN),
+            Body::Mars => Source::OwnColumn(4),
+            Body::Jupiter => Source::OwnColumn(5),
+            Body::Saturn => Source::OwnColumn(6),
+            Body::Uranus => Source::OwnColumn(7),
+            Body::Neptune => Source::OwnColumn(8),
+            Body::Pluto => Source::OwnColumn(9),
+            Body::Moon => Source::MoonOfPair,
+            Body::Sun => Source::OwnColumn(SUN_COLUMN),
+            Body::Earth => Source::EarthOfPair,
+            Body::Ssb => Source::Origin,
+        }
+    }
 }

@@ -8,7 +8,7 @@ use Rattle.spec_ephemeris.specs.declared.body.Body.{Body}
 use Rattle.spec_ephemeris.specs.declared.body.Body.TheVariants.{Mercury, Venus, Emb, Mars, Jupiter, Saturn, Uranus, Neptune, Pluto, Moon, Sun, Earth, Ssb}
 use Rattle.spec_ephemeris.specs.Header.{has_column}
 use Rattle.spec_ephemeris.specs.Ephemeris.{Ephemeris}
-use Rattle.spec_bodies.specs.Sources.{source_of, needed}
+use Rattle.spec_bodies.specs.Sources.{source_of, needed_columns}
 use Rattle.spec_kinds.specs.declared.ask.Ask.{Ask}
 use Rattle.spec_kinds.specs.declared.fault.EventFault.{EventFault}
 use Rattle.spec_kinds.specs.declared.fault.EventFault.TheVariants.{BodyAbsent, SameBody, ReferenceRange}
@@ -21,7 +21,7 @@ use Rattle.spec_kinds.specs.Asks.{bodies_of}
 -- ---- columns that are absent
 -- the columns that a body needs are there
 abbrev pub has_body : Ephemeris → Body → Bool
-has_body e body = list_all (λ number. has_column e.header number) (needed (source_of body))
+has_body e body = list_all (λ number. has_column e.header number) (needed_columns (source_of body))
 
 -- ---- bodies that are one
 -- the number of a body among all, by which bodies are compared

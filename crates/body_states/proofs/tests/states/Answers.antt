@@ -4,7 +4,7 @@ use Rattle.spec_numbers.proofs.Booleans.{both_first, both_second}
 use Rattle.spec_ephemeris.specs.declared.body.Body.{Body}
 use Rattle.spec_ephemeris.specs.Header.{has_column}
 use Rattle.spec_ephemeris.specs.Ephemeris.{Ephemeris}
-use Rattle.spec_bodies.specs.Sources.{source_of, needed}
+use Rattle.spec_bodies.specs.Sources.{source_of, needed_columns}
 use Rattle.spec_bodies.specs.Views.{HasColumns}
 use Rattle.body_states.proofs.tests.states.Goals as goal
 
@@ -20,15 +20,15 @@ of_three P x y z one two three (suc zero) d within = two
 of_three P x y z one two three (suc (suc zero)) d within = three
 of_three P x y z one two three (suc (suc (suc i))) d within = absurd (omega (arith, within))
 
-there : (e : Ephemeris) (body : Body) (found : Bool) → found ≡ list_all (has_column e.header) (needed (source_of body)) → found ≡ true → HasColumns e (needed (source_of body))
-there e body found is holds = each (has_column e.header) (needed (source_of body)) (cc)
+there : (e : Ephemeris) (body : Body) (found : Bool) → found ≡ list_all (has_column e.header) (needed_columns (source_of body)) → found ≡ true → HasColumns e (needed_columns (source_of body))
+there e body found is holds = each (has_column e.header) (needed_columns (source_of body)) (cc)
 
 pub new-requires-clause-present : goal.new-requires-clause-present
 new-requires-clause-present g c =
     let first : c.has.result ≡ true = search rules in
     let second : c.has-2.result ≡ true = search rules in
     let observer : c.has-3.result ≡ true = search rules in
-    let Present : Body → Type 0 = λ body. HasColumns c.args.ephemeris.now (needed (source_of body)) in
+    let Present : Body → Type 0 = λ body. HasColumns c.args.ephemeris.now (needed_columns (source_of body)) in
     of_three Present c.args.scene.2 c.args.scene.0 c.args.scene.1
     (there c.args.ephemeris.now _ _ c.has-3.ensures observer)
     (there c.args.ephemeris.now _ _ c.has.ensures first)

@@ -1,4 +1,4 @@
-use Rattle.spec_bodies.specs.Sources.{moon_column}
+use Rattle.spec_bodies.specs.declared.source.TheConstants.{MOON_COLUMN}
 use Rattle.spec_bodies.specs.Coordinates.{earth}
 use Rattle.spec_bodies.specs.Meanings.{exact_of}
 use Rattle.spec_bodies.proofs.Apart.{sum_less, less_sum}
@@ -6,6 +6,6 @@ use Rattle.spec_bodies.proofs.laws.the_moon_is_as_far_from_the_earth_as_they_are
 
 pub returns : goal.returns
 returns c = record {
-  moon = λ axis column factors t. sum_less (exact_of column factors (earth axis) t) (column moon_column axis t);
-  earth = λ axis column factors t. less_sum (exact_of column factors (earth axis) t) (column moon_column axis t);
+  moon = λ axis column factors t. sum_less (exact_of column factors (earth axis) t) (column MOON_COLUMN axis t);
+  earth = λ axis column factors t. less_sum (exact_of column factors (earth axis) t) (column MOON_COLUMN axis t);
 }

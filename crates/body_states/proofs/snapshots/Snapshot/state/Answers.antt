@@ -1,6 +1,4 @@
-use Rattle.std.proofs.Common.{rules, ◌≡◌, Some, ap, w64}
-use mir.Val.{SFits}
-use Rattle.std.proofs.lemmas.Int.{to_z-of_z}
+use Rattle.std.proofs.Common.{rules, ◌≡◌, Some, ap}
 use Rattle.body_states.specs.Enclosures.{along}
 use Rattle.body_states.specs.Moments.{Moment, target_state}
 use Rattle.body_states.proofs.Kept.{right_along}
@@ -13,10 +11,12 @@ returns-in-Some c =
     let kept : along c.known.result.now c.args.axis ≡ Some c.in-Some.enclosure = search rules in
     right_along (target_state s.view s.first s.last c.args.quantity c.args.target) c.known.result.now c.args.axis _ c.requires.axis c.known.ensures kept
 
+pub state_over-requires-clause-fits : goal.state_over-requires-clause-fits
+state_over-requires-clause-fits c = c.self.invariant.2
+
 pub returns-in-None : goal.returns-in-None
 returns-in-None c =
-    let a : SFits w64 c.args.a = c.ranges.a in
-    let b : SFits w64 c.args.b = c.ranges.b in
-    let read = simp to_z-of_z at c.state.ensures in
-    let same = ap (λ (m : Moment). m.view) c.self.view_is in
-    rw (c.requires.first, c.requires.last, same) at read
+    let view = ap (λ (m : Moment). m.view) c.self.view_is in
+    let first = ap (λ (m : Moment). m.first) c.self.view_is in
+    let last = ap (λ (m : Moment). m.last) c.self.view_is in
+    rw (view, first, last) at c.state_over.ensures

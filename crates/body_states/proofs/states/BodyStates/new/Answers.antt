@@ -5,15 +5,15 @@ use Rattle.spec_bodies.proofs.InUse.{body_there, present_in_use}
 use Rattle.body_states.proofs.states.BodyStates.new.Goals as goal
 use Rattle.body_states.proofs.states.BodyStates.new.Goals.{After-of-in_use}
 
-is_view : (c : After-of-in_use) → IsView (record { ephemeris = c.args.ephemeris.now; first = c.source_of-first.result; second = c.source_of-second.result; observer = c.source_of-observer.result; frame = c.args.frame })
+is_view : (c : After-of-in_use) → IsView (record { ephemeris = c.args.ephemeris.now; first = c.of-first.result; second = c.of-second.result; observer = c.of-observer.result; frame = c.args.frame })
 is_view c =
     let two : length c.args.targets ≡ 2 = search rules in
     record {
       checked = c.header.ensures.checked;
       block = c.requires.block;
-      first = subst (IsThere c.args.ephemeris.now) (sym c.source_of-first.ensures) (body_there c.args.ephemeris.now _ (c.requires.present 1 _ (omega (arith, two))));
-      second = subst (IsThere c.args.ephemeris.now) (sym c.source_of-second.ensures) (body_there c.args.ephemeris.now _ (c.requires.present 2 _ (omega (arith, two))));
-      observer = subst (IsThere c.args.ephemeris.now) (sym c.source_of-observer.ensures) (body_there c.args.ephemeris.now _ (c.requires.present 0 Ssb (omega (arith, two))));
+      first = subst (IsThere c.args.ephemeris.now) (sym c.of-first.ensures) (body_there c.args.ephemeris.now _ (c.requires.present 1 _ (omega (arith, two))));
+      second = subst (IsThere c.args.ephemeris.now) (sym c.of-second.ensures) (body_there c.args.ephemeris.now _ (c.requires.present 2 _ (omega (arith, two))));
+      observer = subst (IsThere c.args.ephemeris.now) (sym c.of-observer.ensures) (body_there c.args.ephemeris.now _ (c.requires.present 0 Ssb (omega (arith, two))));
     }
 
 pub dividers_of-requires-clause-present : goal.dividers_of-requires-clause-present

@@ -6,8 +6,8 @@ use Rattle.spec_searches.proofs.Borders.{time_fits}
 use Rattle.event_judge.proofs.Near.{a_fits}
 use Rattle.event_judge.proofs.valid_node.ValidNode.first.Goals as goal
 
-pub new-requires : goal.new-requires
-new-requires c =
+pub at-requires : goal.at-requires
+at-requires c =
     let s = c.args.self in
     let from = s.valid.from in
     let inside = s.valid.inside in

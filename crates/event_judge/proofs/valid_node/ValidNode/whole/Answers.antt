@@ -8,8 +8,8 @@ use Rattle.event_judge.specs.Moments.{moment}
 use Rattle.event_judge.proofs.Near.{a_fits, b_fits}
 use Rattle.event_judge.proofs.valid_node.ValidNode.whole.Goals as goal
 
-pub new-requires : goal.new-requires
-new-requires c =
+pub at-requires : goal.at-requires
+at-requires c =
     let s = c.args.self in
     let inside = s.valid.inside in
     let is : IsView s.search.now.view = subst IsView c.states-states.ensures c.columns-columns.ensures.view in
@@ -21,5 +21,5 @@ returns c =
     let s = c.args.self in
     let a : SFits w64 s.node.a = a_fits (rules s.search.now) s.sound s.node s.valid in
     let b : SFits w64 s.node.b = b_fits (rules s.search.now) s.sound s.node s.valid in
-    let is : c.new.result ≡ moment c.states-states.result.now s.node.a s.node.b = simp to_z-of_z at c.new.ensures in
+    let is : c.at.result ≡ moment c.states-states.result.now s.node.a s.node.b = simp to_z-of_z at c.at.ensures in
     is ∙ ap (λ (v : View). moment v s.node.a s.node.b) c.states-states.ensures

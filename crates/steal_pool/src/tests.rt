@@ -103,13 +103,13 @@ impl Judge for Stairs {
 
 #[test]
 fn any_number_of_workers_finds_the_leaves(rt: HostRuntime) -> Result<(), Fail> {
-    for workers in [1u32, 2, 64] {
-        let Ok(book) = run(&rt, rt.alloc(), &Stairs, span(0, 8), workers, 8, &OpenGate) else {
+    for workers in [1u32, 2, 4, 64] {
+        let Ok(book) = run(&rt, rt.alloc(), &Stairs, span(0, 5), workers, 5, &OpenGate) else {
             assert!(rt; false);
             return Ok(());
         };
-        assert_eq!(rt; book.entries.len(), 8);
-        let Err(error) = run(&rt, rt.alloc(), &Stairs, span(0, 8), workers, 7, &OpenGate) else {
+        assert_eq!(rt; book.entries.len(), 5);
+        let Err(error) = run(&rt, rt.alloc(), &Stairs, span(0, 5), workers, 4, &OpenGate) else {
             assert!(rt; false);
             return Ok(());
         };

@@ -1,7 +1,0 @@
-use Rattle.std.specs.Prelude.{All}
-use Rattle.spec_texts.specs.Report.{HasTimes}
-use Rattle.window_text.proofs.tests.thousand_windows.Given as goal
-
--- all windows so far have times
-abbrev pub invariant-loop-place : goal.invariant-loop-place
-invariant-loop-place l = All HasTimes l.windows.items

@@ -1,21 +1,20 @@
 -- What is answered, from what was read.
-use Rattle.std.proofs.Common.{◌≡◌, ◌∙◌, ◌⊎◌, ◌++◌, [], true, false, List, Option, Some, None, Result, Ok, Err, refl, sym, ap, subst, inl, inr, codes, unwrap_or, option_and_then}
+use Rattle.std.proofs.Common.{◌≡◌, ◌∙◌, ◌⊎◌, ◌++◌, [], true, false, List, Result, Ok, Err, refl, sym, ap, subst, inl, inr, codes, unwrap_or}
 use Rattle.clap.specs.Walk.{all_of, first_of}
 use Rattle.clap.specs.Simple.{App}
 use Rattle.clap.specs.Faults.{is_simple_and_free}
 use Rattle.clap.specs.declared.parser.matches.ArgMatches.{ArgMatches}
 use Rattle.spec_kinds.specs.declared.kind.Kind.{Kind}
-use Rattle.spec_requests.specs.declared.request.Named.{Named}
 use Rattle.spec_requests.specs.declared.request.Named.TheVariants as opt
 use Rattle.spec_requests.specs.declared.request.Request.{Request}
 use Rattle.spec_requests.specs.declared.request.Request.TheVariants.{Check}
 use Rattle.spec_requests.specs.declared.request.WordFault.{WordFault}
-use Rattle.spec_requests.specs.declared.request.WordFault.TheVariants.{Memory, Words, BadValue}
-use Rattle.spec_requests.specs.Names.{Text, kind_of, option_name}
+use Rattle.spec_requests.specs.declared.request.WordFault.TheVariants.{Memory, Words}
+use Rattle.spec_requests.specs.Names.{Text, option_name}
 use Rattle.spec_kinds.specs.Table.{is_unused, row_of, takes_radii}
 use Rattle.spec_requests.specs.Options.{Values}
 use Rattle.spec_requests.specs.Commands.{check_command, files_in, find_command, gen_command, is_refused, values_in}
-use Rattle.spec_requests.specs.Requests.{bad_word, check_request, checked_text, find_request, gen_request, search_by, search_of_kind, text_by, text_of, values_text}
+use Rattle.spec_requests.specs.Requests.{check_request, find_request, gen_request, search_by, text_by, values_text}
 use Rattle.gf_words.specs.Answers.{Answers}
 use Rattle.gf_words.specs.Readings.{IsReading, file_names_of, values_of}
 
@@ -39,23 +38,6 @@ pub ref_text : (values : Values) (kind : Kind) (word : Text) → takes_radii kin
     → word ≡ unwrap_or (values opt.Ref) (codes "0") → word ≡ values_text values kind
 unfolding values_text
 ref_text values kind word radii used is = rw (radii, used) is
-
--- ---- searches and generated texts
-
-pub search_is : (values : Values) (files : List Text) (found : Option Kind) → found ≡ option_and_then kind_of (values opt.Kind)
-    → search_of_kind values files found ≡ search_by values files
-unfolding search_by
-search_is values files found is = ap (search_of_kind values files) is
-
-pub text_is : (values : Values) (request : Request) → request ≡ text_of values → None ≡ bad_word values
-    → Ok request ≡ text_by values
-unfolding text_by
-text_is values request is none =
-    let same : Ok request ≡ checked_text values None = λ i. Ok (is i) in same ∙ ap (checked_text values) none
-
-pub bad_text : (values : Values) (option : Named) → Some option ≡ bad_word values → Err (BadValue option) ≡ text_by values
-unfolding text_by
-bad_text values option bad = ap (checked_text values) bad
 
 -- ---- what the commands read
 

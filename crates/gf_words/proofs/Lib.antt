@@ -1,6 +1,7 @@
 mod Parsing
 mod Faults
 mod Rules
-mod Firsts
+mod Chains
+mod Filling
 mod Answering
 mod Asking

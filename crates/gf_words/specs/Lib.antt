@@ -1,3 +1,4 @@
 pub mod Readings
+pub mod Parts
 pub mod Commands
 pub mod Answers

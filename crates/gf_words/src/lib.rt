@@ -4,7 +4,7 @@
 
 mod commands;
 mod forms;
-mod options;
+mod parts;
 mod readings;
 mod requests;
 mod searches;

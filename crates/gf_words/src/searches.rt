@@ -1,18 +1,14 @@
 // The search that words ask for.
-ghost use Rattle.std.specs.Prelude.{◌≡◌, ◌++◌, [], IfOk, codes, option_and_then, unwrap_or};
-ghost use Rattle.spec_ephemeris.specs.declared.body.Body.TheVariants.{Ssb};
-ghost use Rattle.spec_bodies.specs.declared.frame.Frame.TheVariants.{Eq};
-ghost use Rattle.spec_events.specs.declared.dir.Dir.TheVariants as dir;
-ghost use Rattle.spec_trees.specs.declared.cuts.CutRule.TheVariants.{Half};
+ghost use Rattle.std.specs.Prelude.{◌≡◌, ◌++◌, IfOk, Some, codes, if◌then◌else◌, option_and_then, unwrap_or};
 ghost use Rattle.spec_requests.specs.declared.request.Named.TheVariants as opt;
-ghost use Rattle.spec_requests.specs.Names.{axis_of, cut_of, dir_of, frame_of, kind_of, observer_of, target_of};
-ghost use Rattle.spec_requests.specs.Options.{bad_option, decimal_of, depth_of, instant_of, width_of, workers_of};
-ghost use Rattle.spec_requests.specs.Requests.{ask_of, checked_search, first_number, nought, search_by, search_of, value_or, values_text};
+ghost use Rattle.spec_requests.specs.Requests.{nought, search_by, search_of, values_text};
+ghost use Rattle.spec_kinds.specs.Table.{takes_radii};
+ghost use Rattle.spec_requests.specs.Names.{kind_of};
 ghost use Rattle.gf_words.specs.Answers.{Answers};
+ghost use Rattle.gf_words.specs.Parts.{ask_read, axes_read, bodies_read, ends_read, limits_read, numbers_read, search_by_options, search_read};
 ghost use Rattle.gf_words.specs.Readings.{file_names_of, values_of};
 
-use crate::forms;
-use crate::options::bad_option;
+use crate::parts;
 use crate::readings::{file_names, value};
 use clap::ArgMatches;
 use spec_bodies::Frame;
@@ -26,84 +22,161 @@ use spec_text::Decimal;
 use spec_trees::CutRule;
 use std::alloc::{AllocError, Global};
 
-fn kind(matches: &ArgMatches<'_>) -> Option<Kind>
-    ensures { result ≡ option_and_then kind_of (values_of matches.now opt.Kind) }
-{
-    value(matches, Named::Kind).and_then(forms::kind)
+// The target, the second body, where the kind has one, and the observer.
+#[derive(Clone, Copy)]
+pub(crate) struct Bodies {
+    pub(crate) target: Body,
+    pub(crate) second: Option<Body>,
+    pub(crate) observer: Body,
 }
 
-fn target(matches: &ArgMatches<'_>, option: Named) -> Option<Body>
-    ensures { result ≡ option_and_then target_of (values_of matches.now option) }
-{
-    value(matches, option).and_then(forms::target)
+// The frame, and the axis of a coordinate.
+#[derive(Clone, Copy)]
+pub(crate) struct Axes {
+    pub(crate) frame: Frame,
+    pub(crate) axis: u8,
 }
 
-fn observer(matches: &ArgMatches<'_>) -> Body
-    ensures { result ≡ value_or observer_of Ssb (values_of matches.now opt.Observer) }
-{
-    value(matches, Named::Observer)
-        .and_then(forms::observer)
-        .unwrap_or(Body::Ssb)
+// The numbers of an event.
+#[derive(Clone, Copy)]
+pub(crate) struct Numbers {
+    pub(crate) value1: Decimal,
+    pub(crate) value2: Decimal,
 }
 
-fn frame(matches: &ArgMatches<'_>) -> Frame
-    ensures { result ≡ value_or frame_of Eq (values_of matches.now opt.Frame) }
-{
-    value(matches, Named::Frame)
-        .and_then(forms::frame)
-        .unwrap_or(Frame::Eq)
+// The ends of the span, in seconds of TDB since J2000, where they are given.
+#[derive(Clone, Copy)]
+pub(crate) struct Ends {
+    pub(crate) from: Option<i64>,
+    pub(crate) to: Option<i64>,
 }
 
-fn axis(matches: &ArgMatches<'_>) -> u8
-    ensures { result ≡ value_or axis_of 0 (values_of matches.now opt.Axis) }
-{
-    value(matches, Named::Axis)
-        .and_then(forms::axis)
-        .unwrap_or(0)
+// How the span is searched.
+#[derive(Clone, Copy)]
+pub(crate) struct Limits {
+    pub(crate) width: u32,
+    pub(crate) depth: u32,
+    pub(crate) workers: u32,
+    pub(crate) cut: CutRule,
 }
 
-fn number(matches: &ArgMatches<'_>, option: Named) -> Decimal
-    ensures { result ≡ value_or decimal_of nought (values_of matches.now option) }
-{
-    value(matches, option)
-        .and_then(forms::decimal)
-        .unwrap_or(Decimal { mant: 0, exp: 0 })
+// A search as its options ask for it, without the texts: the numbers as they are given, and the files.
+#[derive(Clone, Copy)]
+pub(crate) struct SearchOptions {
+    pub(crate) ask: Ask,
+    pub(crate) ends: Ends,
+    pub(crate) limits: Limits,
 }
 
-fn first_number(kind: Kind) -> Named
-    ensures { result ≡ first_number kind }
+// A number, or 0 where it is left out.
+fn number_or_0(number: Option<Decimal>) -> Decimal
+    ensures { result ≡ unwrap_or number nought }
+{
+    number.unwrap_or(Decimal { mant: 0, exp: 0 })
+}
+
+// The first number of an event: its radius where the kind has radii, else its reference value.
+fn first_number(kind: Kind, radius: Option<Decimal>, reference: Option<Decimal>) -> Decimal
+    ensures { result ≡ unwrap_or (if takes_radii kind then radius else reference) nought }
 {
     if kind.takes_radii() {
-        Named::Radius1
+        number_or_0(radius)
     } else {
-        Named::Ref
+        number_or_0(reference)
     }
 }
 
-fn dir(matches: &ArgMatches<'_>) -> Dir
-    ensures { result ≡ value_or dir_of dir.Any (values_of matches.now opt.Dir) }
+// ---- the options of `find` in their order, as this kind uses them. What may be left out has its default.
+
+fn read_bodies(matches: &ArgMatches<'_>, kind: Kind) -> Result<Bodies, Named>
+    ensures { result ≡ bodies_read (values_of matches.now) kind }
 {
-    value(matches, Named::Dir)
-        .and_then(forms::dir)
-        .unwrap_or(Dir::Any)
+    let target = parts::target(matches)?;
+    let second = parts::second(matches, kind.second())?;
+    let observer = parts::observer(matches)?;
+    Ok(Bodies {
+        target,
+        second,
+        observer: observer.unwrap_or(Body::Ssb),
+    })
 }
 
-// The event that is asked for. Where no option is bad, a target is there.
-fn ask(matches: &ArgMatches<'_>, kind: Kind) -> Ask
-    ensures { result ≡ ask_of (values_of matches.now) kind }
+fn read_axes(matches: &ArgMatches<'_>, kind: Kind) -> Result<Axes, Named>
+    ensures { result ≡ axes_read (values_of matches.now) kind }
 {
-    Ask {
+    let frame = parts::frame(matches, kind.frame())?;
+    let axis = parts::axis(matches, kind.axis())?;
+    Ok(Axes {
+        frame: frame.unwrap_or(Frame::Eq),
+        axis: axis.unwrap_or(0),
+    })
+}
+
+fn read_numbers(matches: &ArgMatches<'_>, kind: Kind) -> Result<Numbers, Named>
+    ensures { result ≡ numbers_read (values_of matches.now) kind }
+{
+    let reference = parts::number(matches, Named::Ref, kind.reference())?;
+    let radius1 = parts::number(matches, Named::Radius1, kind.radii())?;
+    let radius2 = parts::number(matches, Named::Radius2, kind.radii())?;
+    Ok(Numbers {
+        value1: first_number(kind, radius1, reference),
+        value2: number_or_0(radius2),
+    })
+}
+
+fn read_ask(matches: &ArgMatches<'_>, kind: Kind) -> Result<Ask, Named>
+    ensures { result ≡ ask_read (values_of matches.now) kind }
+{
+    let bodies = read_bodies(matches, kind)?;
+    let axes = read_axes(matches, kind)?;
+    let numbers = read_numbers(matches, kind)?;
+    let dir = parts::dir(matches)?;
+    Ok(Ask {
         kind,
-        target: target(matches, Named::Target).unwrap_or(Body::Mercury),
-        second: target(matches, Named::Second),
-        observer: observer(matches),
-        frame: frame(matches),
-        axis: axis(matches),
-        value1: number(matches, first_number(kind)),
-        value2: number(matches, Named::Radius2),
-        dir: dir(matches),
-    }
+        target: bodies.target,
+        second: bodies.second,
+        observer: bodies.observer,
+        frame: axes.frame,
+        axis: axes.axis,
+        value1: numbers.value1,
+        value2: numbers.value2,
+        dir: dir.unwrap_or(Dir::Any),
+    })
 }
+
+fn read_ends(matches: &ArgMatches<'_>) -> Result<Ends, Named>
+    ensures { result ≡ ends_read (values_of matches.now) }
+{
+    let from = parts::instant(matches, Named::From)?;
+    let to = parts::instant(matches, Named::To)?;
+    Ok(Ends { from, to })
+}
+
+fn read_limits(matches: &ArgMatches<'_>) -> Result<Limits, Named>
+    ensures { result ≡ limits_read (values_of matches.now) }
+{
+    let width = parts::width(matches)?;
+    let depth = parts::depth(matches)?;
+    let workers = parts::workers(matches)?;
+    let cut = parts::cut(matches)?;
+    Ok(Limits {
+        width: width.unwrap_or(DEFAULT_WIDTH),
+        depth: depth.unwrap_or(DEFAULT_DEPTH),
+        workers: workers.unwrap_or(DEFAULT_WORKERS),
+        cut: cut.unwrap_or(CutRule::Half),
+    })
+}
+
+fn options(matches: &ArgMatches<'_>, kind: Kind) -> Result<SearchOptions, Named>
+    ensures { result ≡ search_read (values_of matches.now) kind }
+{
+    let ask = read_ask(matches, kind)?;
+    let ends = read_ends(matches)?;
+    let limits = read_limits(matches)?;
+    Ok(SearchOptions { ask, ends, limits })
+}
+
+// ---- the texts
 
 fn word_or<'a>(matches: &ArgMatches<'a>, option: Named, default: &'a str) -> &'a str
     ensures { result.now ≡ unwrap_or (values_of matches.now option) default.entry.now }
@@ -143,72 +216,41 @@ fn values_text(alloc: Global, matches: &ArgMatches<'_>, kind: Kind) -> Result<Te
     text(alloc, word_or(matches, Named::Ref, "0"))
 }
 
-fn instant(matches: &ArgMatches<'_>, option: Named) -> Option<i64>
-    ensures { result ≡ option_and_then instant_of (values_of matches.now option) }
-{
-    value(matches, option).and_then(forms::instant)
-}
-
-fn width(matches: &ArgMatches<'_>) -> u32
-    ensures { result ≡ value_or width_of DEFAULT_WIDTH (values_of matches.now opt.Width) }
-{
-    value(matches, Named::Width)
-        .and_then(forms::width)
-        .unwrap_or(DEFAULT_WIDTH)
-}
-
-fn depth(matches: &ArgMatches<'_>) -> u32
-    ensures { result ≡ value_or depth_of DEFAULT_DEPTH (values_of matches.now opt.Depth) }
-{
-    value(matches, Named::Depth)
-        .and_then(forms::depth)
-        .unwrap_or(DEFAULT_DEPTH)
-}
-
-pub(crate) fn workers(matches: &ArgMatches<'_>) -> u32
-    ensures { result ≡ value_or workers_of DEFAULT_WORKERS (values_of matches.now opt.Workers) }
-{
-    value(matches, Named::Workers)
-        .and_then(forms::workers)
-        .unwrap_or(DEFAULT_WORKERS)
-}
-
-fn cut(matches: &ArgMatches<'_>) -> CutRule
-    ensures { result ≡ value_or cut_of Half (values_of matches.now opt.Cut) }
-{
-    value(matches, Named::Cut)
-        .and_then(forms::cut)
-        .unwrap_or(CutRule::Half)
-}
-
-fn find_ask(alloc: Global, matches: &ArgMatches<'_>, kind: Kind) -> Result<FindAsk, AllocError>
+// The search with its texts.
+fn with_texts(
+    alloc: Global,
+    matches: &ArgMatches<'_>,
+    kind: Kind,
+    search: SearchOptions,
+) -> Result<FindAsk, AllocError>
+    requires { search ≡ search_by_options (values_of matches.now) kind }
     ensures { IfOk result (λ find.
         find ≡ search_of (values_of matches.now) kind (file_names_of matches.now)) }
 {
     Ok(FindAsk {
-        ask: ask(matches, kind),
+        ask: search.ask,
         values: values_text(alloc, matches, kind)?,
-        from: instant(matches, Named::From),
-        to: instant(matches, Named::To),
-        width: i64::from(width(matches)),
-        depth: depth(matches),
-        workers: workers(matches),
-        cut: cut(matches),
+        from: search.ends.from,
+        to: search.ends.to,
+        width: i64::from(search.limits.width),
+        depth: search.limits.depth,
+        workers: search.limits.workers,
+        cut: search.limits.cut,
         files: file_names(alloc, matches)?,
     })
 }
 
-// The search, where the kind finds no option bad.
+// The search of this kind, or the first option that is bad.
 fn search_of_kind(alloc: Global, matches: &ArgMatches<'_>, kind: Kind) -> Result<Request, WordFault>
-    ensures { Answers (checked_search (values_of matches.now) kind (file_names_of matches.now)
-        (bad_option (values_of matches.now) kind)) result }
+    requires { option_and_then kind_of (values_of matches.now opt.Kind) ≡ Some kind }
+    ensures { Answers (search_by (values_of matches.now) (file_names_of matches.now)) result }
 {
-    if let Some(option) = bad_option(matches, kind) {
-        return Err(WordFault::BadValue(option));
-    }
-    match find_ask(alloc, matches, kind) {
-        Ok(find) => Ok(Request::Find(find)),
-        Err(_) => Err(WordFault::Memory),
+    match options(matches, kind) {
+        Ok(search) => match with_texts(alloc, matches, kind, search) {
+            Ok(find) => Ok(Request::Find(find)),
+            Err(_) => Err(WordFault::Memory),
+        },
+        Err(option) => Err(WordFault::BadValue(option)),
     }
 }
 
@@ -216,8 +258,8 @@ fn search_of_kind(alloc: Global, matches: &ArgMatches<'_>, kind: Kind) -> Result
 pub(crate) fn search(alloc: Global, matches: &ArgMatches<'_>) -> Result<Request, WordFault>
     ensures { Answers (search_by (values_of matches.now) (file_names_of matches.now)) result }
 {
-    match kind(matches) {
-        Some(kind) => search_of_kind(alloc, matches, kind),
-        None => Err(WordFault::BadValue(Named::Kind)),
+    match parts::kind(matches) {
+        Ok(kind) => search_of_kind(alloc, matches, kind),
+        Err(option) => Err(WordFault::BadValue(option)),
     }
 }

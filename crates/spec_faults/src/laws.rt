@@ -1,6 +1,7 @@
 // What the table comes to.
-ghost use Rattle.std.specs.Prelude.{◌≡◌, IsTrue, None, Some, codes, false, true};
+ghost use Rattle.std.specs.Prelude.{◌≡◌, ◌∷◌, [], IsTrue, None, Some, codes, drop, false, take, true};
 ghost use Rattle.spec_faults.specs.Faults.{fault_kind, kinds, rise_from};
+ghost use Rattle.spec_faults.specs.Rows.{row};
 
 /// The rows stand in the order of their numbers, so that no number has two.
 pub fn numbers_rise()
@@ -19,4 +20,51 @@ pub fn faults_are_looked_up()
     ensures words { fault_kind 63
         ≡ Some (record { number = 63; name = codes "BadValue"; has_detail = false }) }
     ensures no_row { fault_kind 23 ≡ None }
+{}
+
+/// The whole table, by what is refused: whole files, a header, a block, an event, words.
+pub fn rows_of_the_table()
+    ensures files { take 3 kinds ≡
+        row 4 (codes "LineTooLong") false ∷
+        row 5 (codes "TooManyFiles") false ∷
+        row 6 (codes "FileTooLarge") false ∷
+        [] }
+    ensures header { take 13 (drop 3 kinds) ≡
+        row 10 (codes "FirstLine") false ∷
+        row 11 (codes "GroupMissing") true ∷
+        row 12 (codes "JdNotWholeSecond") false ∷
+        row 13 (codes "CountMismatch") false ∷
+        row 14 (codes "EmratMissing") false ∷
+        row 15 (codes "EmratRange") false ∷
+        row 16 (codes "ColumnCount") false ∷
+        row 17 (codes "ColumnPlace") false ∷
+        row 18 (codes "CoefficientCount") false ∷
+        row 19 (codes "GranuleNotWhole") false ∷
+        row 20 (codes "Limit") false ∷
+        row 21 (codes "HeaderNumber") true ∷
+        row 22 (codes "Ended") false ∷
+        [] }
+    ensures block { take 10 (drop 16 kinds) ≡
+        row 30 (codes "RecordLine") false ∷
+        row 31 (codes "NcoeffDiffers") false ∷
+        row 32 (codes "BlockSpan") false ∷
+        row 33 (codes "BlockGap") false ∷
+        row 34 (codes "Number") true ∷
+        row 35 (codes "TooLarge") false ∷
+        row 36 (codes "Truncated") false ∷
+        row 37 (codes "NoBlock") false ∷
+        row 38 (codes "TooManyBlocks") false ∷
+        row 39 (codes "TrailingNumbers") false ∷
+        [] }
+    ensures event { take 3 (drop 26 kinds) ≡
+        row 50 (codes "BodyAbsent") false ∷
+        row 51 (codes "SameBody") false ∷
+        row 52 (codes "ReferenceRange") false ∷
+        [] }
+    ensures words { drop 29 kinds ≡
+        row 60 (codes "NoCommand") false ∷
+        row 61 (codes "UnknownCommand") false ∷
+        row 62 (codes "Words") false ∷
+        row 63 (codes "BadValue") false ∷
+        [] }
 {}

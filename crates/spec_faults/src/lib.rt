@@ -6,7 +6,7 @@ mod laws;
 mod numbers;
 mod table;
 
-pub use laws::{faults_are_looked_up, numbers_rise};
+pub use laws::{faults_are_looked_up, numbers_rise, rows_of_the_table};
 pub use numbers::{
     BAD_VALUE, BLOCK_GAP, BLOCK_SPAN, BODY_ABSENT, COEFFICIENT_COUNT, COLUMN_COUNT, COLUMN_PLACE,
     COUNT_MISMATCH, EMRAT_MISSING, EMRAT_RANGE, ENDED, FILE_TOO_LARGE, FIRST_LINE,

@@ -50,28 +50,6 @@ decimal_of word = result_ok (reading word)
 unfoldable pub instant_of : Text → Option ℤ
 instant_of word = result_ok (time_of word)
 
--- the word has the form of the option's values
-abbrev pub is_of_form : Named → Text → Bool
-is_of_form opt.Kind word = is_some (kind_of word)
-is_of_form opt.Target word = is_some (target_of word)
-is_of_form opt.Second word = is_some (target_of word)
-is_of_form opt.Observer word = is_some (observer_of word)
-is_of_form opt.Frame word = is_some (frame_of word)
-is_of_form opt.Axis word = is_some (axis_of word)
-is_of_form opt.Ref word = is_some (decimal_of word)
-is_of_form opt.Radius1 word = is_some (decimal_of word)
-is_of_form opt.Radius2 word = is_some (decimal_of word)
-is_of_form opt.Dir word = is_some (dir_of word)
-is_of_form opt.From word = is_some (instant_of word)
-is_of_form opt.To word = is_some (instant_of word)
-is_of_form opt.Width word = is_some (width_of word)
-is_of_form opt.Depth word = is_some (depth_of word)
-is_of_form opt.Workers word = is_some (workers_of word)
-is_of_form opt.Cut word = is_some (cut_of word)
-is_of_form opt.Layout word = is_some (layout_of word)
-is_of_form opt.Blocks word = is_some (blocks_of word)
-is_of_form opt.Seed word = is_some (seed_of word)
-
 -- ---- uses
 
 -- how a kind uses an option of `find`, by the table of kinds
@@ -88,10 +66,32 @@ use_of _ kind = Optional
 
 -- ---- the first that is bad
 
--- the option is needed and not there, isn't used and is there, or its value is not of its form
+-- the option is needed and has no word, isn't used and has one, or its word is not of this form
+abbrev pub is_misread : {X : Type 0} → (Text → Option X) → Use → Option Text → Bool
+is_misread form usage None = is_needed usage
+is_misread form usage (Some word) = is_unused usage || not (is_some (form word))
+
+-- the same of an option, whose form is that of its values
 abbrev pub is_bad : Named → Use → Option Text → Bool
-is_bad option usage None = is_needed usage
-is_bad option usage (Some word) = is_unused usage || not (is_of_form option word)
+is_bad opt.Kind usage given = is_misread kind_of usage given
+is_bad opt.Target usage given = is_misread target_of usage given
+is_bad opt.Second usage given = is_misread target_of usage given
+is_bad opt.Observer usage given = is_misread observer_of usage given
+is_bad opt.Frame usage given = is_misread frame_of usage given
+is_bad opt.Axis usage given = is_misread axis_of usage given
+is_bad opt.Ref usage given = is_misread decimal_of usage given
+is_bad opt.Radius1 usage given = is_misread decimal_of usage given
+is_bad opt.Radius2 usage given = is_misread decimal_of usage given
+is_bad opt.Dir usage given = is_misread dir_of usage given
+is_bad opt.From usage given = is_misread instant_of usage given
+is_bad opt.To usage given = is_misread instant_of usage given
+is_bad opt.Width usage given = is_misread width_of usage given
+is_bad opt.Depth usage given = is_misread depth_of usage given
+is_bad opt.Workers usage given = is_misread workers_of usage given
+is_bad opt.Cut usage given = is_misread cut_of usage given
+is_bad opt.Layout usage given = is_misread layout_of usage given
+is_bad opt.Blocks usage given = is_misread blocks_of usage given
+is_bad opt.Seed usage given = is_misread seed_of usage given
 
 -- which value each option has
 abbrev pub Values : Type 0

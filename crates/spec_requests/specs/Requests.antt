@@ -7,7 +7,8 @@ use Rattle.spec_events.specs.declared.dir.Dir.TheVariants as dir
 use Rattle.spec_trees.specs.declared.cuts.CutRule.TheVariants.{Half}
 use Rattle.spec_kinds.specs.declared.ask.Ask.{Ask}
 use Rattle.spec_kinds.specs.declared.kind.Kind.{Kind}
-use Rattle.spec_kinds.specs.declared.table.Use.TheVariants.{Optional}
+use Rattle.spec_kinds.specs.declared.table.Use.{Use}
+use Rattle.spec_kinds.specs.declared.table.Use.TheVariants.{Needed, Optional}
 use Rattle.spec_kinds.specs.Table.{row_of, is_unused, takes_radii}
 use Rattle.spec_requests.specs.declared.request.FindAsk.{FindAsk}
 use Rattle.spec_requests.specs.declared.request.Request.{Request}
@@ -86,9 +87,14 @@ search_by values files = search_of_kind values files (option_and_then kind_of (v
 
 -- ---- generated texts
 
--- the first word or option of `gen` that is not of its form
+-- how `gen` uses a word or an option
+abbrev pub use_in_text : Named → Use
+use_in_text opt.Workers = Optional
+use_in_text _ = Needed
+
+-- the first word or option of `gen` that is bad
 unfoldable pub bad_word : Values → Option Named
-bad_word values = find (λ option. is_bad option Optional (values option)) (GEN_WORDS ++ GEN_OPTIONS)
+bad_word values = find (λ option. is_bad option (use_in_text option) (values option)) (GEN_WORDS ++ GEN_OPTIONS)
 
 unfoldable pub text_of : Values → Request
 text_of values = Gen (value_or blocks_of 1 (values opt.Blocks)) (value_or seed_of 0 (values opt.Seed))

@@ -34,8 +34,8 @@ pub fn searches_of_words()
 /// Of two bad options the first is said: no target comes before a rule of cutting that there isn't. A coordinate is of one
 /// body, a date has to be in the calendar, and 64 workers are the most.
 pub fn faults_of_searches()
-    ensures first { request_of (codes "find" ∷ codes "--kind" ∷ codes "coord" ∷ codes "--cut"
-        ∷ codes "x" ∷ codes "a" ∷ []) ≡ Err (BadValue opt.Target) }
+    ensures first { request_of (codes "find" ∷ codes "--kind" ∷ codes "coord" ∷ codes "--cut" ∷ codes "x"
+        ∷ codes "a" ∷ []) ≡ Err (BadValue opt.Target) }
     ensures second { request_of (with_search (codes "--second" ∷ codes "venus" ∷ codes "a" ∷ []))
         ≡ Err (BadValue opt.Second) }
     ensures date { request_of (with_search (codes "--from=2000-02-30T00:00:00" ∷ codes "a" ∷ []))

@@ -1,14 +1,11 @@
-use Rattle.std.proofs.Common.{sym, inr}
+use Rattle.std.proofs.Common.{inr}
 use Rattle.gf_words.specs.Readings.{file_names_of, values_of}
-use Rattle.gf_words.proofs.Answering.{answers_along, search_is}
+use Rattle.gf_words.proofs.Filling.{known_kind, no_kind}
 use Rattle.gf_words.proofs.searches.search.Goals as goal
 
-pub returns-in-Some : goal.returns-in-Some
-returns-in-Some c =
-    answers_along _ _ c.search_of_kind.result
-    (search_is (values_of c.args.matches.now) (file_names_of c.args.matches.now) _ c.in-Some.ensures)
-    c.search_of_kind.ensures
+pub search_of_kind-requires : goal.search_of_kind-requires
+search_of_kind-requires c = known_kind (values_of c.args.matches.now) c.in-Ok.kind c.in-Ok.ensures
 
-pub returns-in-None : goal.returns-in-None
-returns-in-None c =
-    inr (sym (search_is (values_of c.args.matches.now) (file_names_of c.args.matches.now) _ c.in-None.ensures))
+pub returns-in-Err : goal.returns-in-Err
+returns-in-Err c =
+    inr (no_kind (values_of c.args.matches.now) (file_names_of c.args.matches.now) c.in-Err.option c.in-Err.ensures)

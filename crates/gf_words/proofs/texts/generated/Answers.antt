@@ -1,9 +1,9 @@
 use Rattle.gf_words.specs.Readings.{values_of}
-use Rattle.gf_words.proofs.Answering.{bad_text, text_is}
+use Rattle.gf_words.proofs.Filling.{text_found, word_bad}
 use Rattle.gf_words.proofs.texts.generated.Goals as goal
 
-pub returns-in-Some : goal.returns-in-Some
-returns-in-Some c = bad_text (values_of c.args.matches.now) c.in-Some.option c.in-Some.ensures
+pub returns-in-Ok : goal.returns-in-Ok
+returns-in-Ok c = text_found (values_of c.args.matches.now) c.in-Ok.request c.in-Ok.ensures
 
-pub returns-in-None : goal.returns-in-None
-returns-in-None c = text_is (values_of c.args.matches.now) c.text.result c.text.ensures c.in-None.ensures
+pub returns-in-Err : goal.returns-in-Err
+returns-in-Err c = word_bad (values_of c.args.matches.now) c.in-Err.option c.in-Err.ensures

@@ -1,0 +1,194 @@
+// The parts of a request: what the word of an option stands for, or the option, where it is bad.
+ghost use Rattle.std.specs.Prelude.{◌≡◌};
+ghost use Rattle.spec_kinds.specs.declared.table.Use.TheVariants.{Optional};
+ghost use Rattle.spec_requests.specs.declared.request.Named.TheVariants as opt;
+ghost use Rattle.spec_requests.specs.Names.{axis_of, cut_of, dir_of, frame_of, kind_of, layout_of, observer_of, target_of};
+ghost use Rattle.spec_requests.specs.Options.{blocks_of, decimal_of, depth_of, instant_of, seed_of, width_of, workers_of};
+ghost use Rattle.gf_words.specs.Parts.{left_out, needed, part, required, used};
+ghost use Rattle.gf_words.specs.Readings.{values_of};
+
+use crate::forms;
+use crate::readings::value;
+use clap::ArgMatches;
+use spec_bodies::Frame;
+use spec_ephemeris::Body;
+use spec_events::Dir;
+use spec_kinds::{Kind, Use};
+use spec_requests::Named;
+use spec_text::Decimal;
+use spec_trees::CutRule;
+
+// A part whose option has a word, which was read so.
+fn used<T: Copy>(option: Named, usage: Use, read: Option<T>) -> Result<Option<T>, Named>
+    ensures { result ≡ used option usage read }
+{
+    match read {
+        Some(value) => match usage {
+            Use::Needed => Ok(Some(value)),
+            Use::Optional => Ok(Some(value)),
+            Use::Unused => Err(option),
+        },
+        None => Err(option),
+    }
+}
+
+// A part whose option has none.
+fn left_out<T: Copy>(option: Named, usage: Use) -> Result<Option<T>, Named>
+    ensures { result ≡ left_out option usage }
+{
+    match usage {
+        Use::Needed => Err(option),
+        Use::Optional => Ok(None),
+        Use::Unused => Ok(None),
+    }
+}
+
+// A part that has to be there.
+fn required<T: Copy>(option: Named, read: Option<T>) -> Result<T, Named>
+    ensures { result ≡ required option read }
+{
+    match read {
+        Some(value) => Ok(value),
+        None => Err(option),
+    }
+}
+
+pub(crate) fn kind(matches: &ArgMatches<'_>) -> Result<Kind, Named>
+    ensures { result ≡ needed kind_of opt.Kind (values_of matches.now opt.Kind) }
+{
+    let read = value(matches, Named::Kind).and_then(forms::kind);
+    required(Named::Kind, read)
+}
+
+pub(crate) fn target(matches: &ArgMatches<'_>) -> Result<Body, Named>
+    ensures { result ≡ needed target_of opt.Target (values_of matches.now opt.Target) }
+{
+    let read = value(matches, Named::Target).and_then(forms::target);
+    required(Named::Target, read)
+}
+
+pub(crate) fn second(matches: &ArgMatches<'_>, usage: Use) -> Result<Option<Body>, Named>
+    ensures { result ≡ part target_of opt.Second usage (values_of matches.now opt.Second) }
+{
+    match value(matches, Named::Second) {
+        Some(word) => used(Named::Second, usage, forms::target(word)),
+        None => left_out(Named::Second, usage),
+    }
+}
+
+pub(crate) fn observer(matches: &ArgMatches<'_>) -> Result<Option<Body>, Named>
+    ensures { result ≡ part observer_of opt.Observer Optional (values_of matches.now opt.Observer) }
+{
+    match value(matches, Named::Observer) {
+        Some(word) => used(Named::Observer, Use::Optional, forms::observer(word)),
+        None => Ok(None),
+    }
+}
+
+pub(crate) fn frame(matches: &ArgMatches<'_>, usage: Use) -> Result<Option<Frame>, Named>
+    ensures { result ≡ part frame_of opt.Frame usage (values_of matches.now opt.Frame) }
+{
+    match value(matches, Named::Frame) {
+        Some(word) => used(Named::Frame, usage, forms::frame(word)),
+        None => left_out(Named::Frame, usage),
+    }
+}
+
+pub(crate) fn axis(matches: &ArgMatches<'_>, usage: Use) -> Result<Option<u8>, Named>
+    ensures { result ≡ part axis_of opt.Axis usage (values_of matches.now opt.Axis) }
+{
+    match value(matches, Named::Axis) {
+        Some(word) => used(Named::Axis, usage, forms::axis(word)),
+        None => left_out(Named::Axis, usage),
+    }
+}
+
+// A number of the event: its reference value, or a radius.
+pub(crate) fn number(
+    matches: &ArgMatches<'_>,
+    option: Named,
+    usage: Use,
+) -> Result<Option<Decimal>, Named>
+    ensures { result ≡ part decimal_of option usage (values_of matches.now option) }
+{
+    match value(matches, option) {
+        Some(word) => used(option, usage, forms::decimal(word)),
+        None => left_out(option, usage),
+    }
+}
+
+pub(crate) fn dir(matches: &ArgMatches<'_>) -> Result<Option<Dir>, Named>
+    ensures { result ≡ part dir_of opt.Dir Optional (values_of matches.now opt.Dir) }
+{
+    match value(matches, Named::Dir) {
+        Some(word) => used(Named::Dir, Use::Optional, forms::dir(word)),
+        None => Ok(None),
+    }
+}
+
+// An end of the span, in seconds of TDB since J2000.
+pub(crate) fn instant(matches: &ArgMatches<'_>, option: Named) -> Result<Option<i64>, Named>
+    ensures { result ≡ part instant_of option Optional (values_of matches.now option) }
+{
+    match value(matches, option) {
+        Some(word) => used(option, Use::Optional, forms::instant(word)),
+        None => Ok(None),
+    }
+}
+
+pub(crate) fn width(matches: &ArgMatches<'_>) -> Result<Option<u32>, Named>
+    ensures { result ≡ part width_of opt.Width Optional (values_of matches.now opt.Width) }
+{
+    match value(matches, Named::Width) {
+        Some(word) => used(Named::Width, Use::Optional, forms::width(word)),
+        None => Ok(None),
+    }
+}
+
+pub(crate) fn depth(matches: &ArgMatches<'_>) -> Result<Option<u32>, Named>
+    ensures { result ≡ part depth_of opt.Depth Optional (values_of matches.now opt.Depth) }
+{
+    match value(matches, Named::Depth) {
+        Some(word) => used(Named::Depth, Use::Optional, forms::depth(word)),
+        None => Ok(None),
+    }
+}
+
+pub(crate) fn workers(matches: &ArgMatches<'_>) -> Result<Option<u32>, Named>
+    ensures { result ≡ part workers_of opt.Workers Optional (values_of matches.now opt.Workers) }
+{
+    match value(matches, Named::Workers) {
+        Some(word) => used(Named::Workers, Use::Optional, forms::workers(word)),
+        None => Ok(None),
+    }
+}
+
+pub(crate) fn cut(matches: &ArgMatches<'_>) -> Result<Option<CutRule>, Named>
+    ensures { result ≡ part cut_of opt.Cut Optional (values_of matches.now opt.Cut) }
+{
+    match value(matches, Named::Cut) {
+        Some(word) => used(Named::Cut, Use::Optional, forms::cut(word)),
+        None => Ok(None),
+    }
+}
+
+pub(crate) fn layout(matches: &ArgMatches<'_>) -> Result<u16, Named>
+    ensures { result ≡ needed layout_of opt.Layout (values_of matches.now opt.Layout) }
+{
+    let read = value(matches, Named::Layout).and_then(forms::layout);
+    required(Named::Layout, read)
+}
+
+pub(crate) fn blocks(matches: &ArgMatches<'_>) -> Result<u32, Named>
+    ensures { result ≡ needed blocks_of opt.Blocks (values_of matches.now opt.Blocks) }
+{
+    let read = value(matches, Named::Blocks).and_then(forms::blocks);
+    required(Named::Blocks, read)
+}
+
+pub(crate) fn seed(matches: &ArgMatches<'_>) -> Result<u64, Named>
+    ensures { result ≡ needed seed_of opt.Seed (values_of matches.now opt.Seed) }
+{
+    let read = value(matches, Named::Seed).and_then(forms::seed);
+    required(Named::Seed, read)
+}

@@ -1,17 +1,13 @@
-use Rattle.std.proofs.Common.{◌≡◌, None, refl, arith}
-use Rattle.steal_pool.specs.Seats.{Seat}
-use Rattle.steal_pool.proofs.Scanning.{at_index, before_all, before_more, before_none}
+use Rattle.std.proofs.Common.{◌≡◌, Some, None, sym, ◌∙◌}
+use Rattle.steal_pool.proofs.Stopping.{kept_free, none_stopped}
+use Rattle.steal_pool.specs.declared.seat.Stop.{Stop}
 use Rattle.steal_pool.proofs.finishing.keep_none.Goals as goal
 
-abbrev Fine : Seat → Type 0
-Fine s = s.refusal ≡ None
+some_none : (x : Stop) → Some x ≡ None → ⊥
+some_none x e = cc
 
-pub loop-i-init : goal.loop-i-init
-loop-i-init g c = before_none Fine c.args.seats.now
+pub returns-in-Some-clause-some : goal.returns-in-Some-clause-some
+returns-in-Some-clause-some g c = λ _ free. some_none _ (sym c.in-Some.is ∙ c.worst_stop.ensures ∙ kept_free c.args.seats.now free)
 
-pub loop-i-preserved : goal.loop-i-preserved
-loop-i-preserved g c =
-    before_more Fine c.args.seats.now c.loop-i.i c.index-seats-i.result (at_index c.args.seats.now c.loop-i.i c.index-seats-i.result c.loop-i-test.true c.index-seats-i.is) (c.if-keeps_refusal.ensures.none refl) c.loop-i.invariant
-
-pub returns-clause-all : goal.returns-clause-all
-returns-clause-all g c = λ _. before_all Fine c.args.seats.now c.loop-i.i (omega (arith, c.loop-i-test.false)) c.loop-i.invariant
+pub returns-in-None-clause-all : goal.returns-in-None-clause-all
+returns-in-None-clause-all g c = λ _. none_stopped c.args.seats.now (sym c.worst_stop.ensures ∙ c.in-None.is)

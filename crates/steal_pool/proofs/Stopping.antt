@@ -1,6 +1,6 @@
 -- Why seats stopped, and the worst of these.
-use Rattle.std.proofs.Common.{◌≡◌, ◌≢◌, ◌⊎◌, inl, inr, ℕ, suc, ◌+◌, ◌<◌, List, [], ◌∷◌, length, Option, Some, None, slice_get, take, get_or, refl, sym, ap, ◌∙◌, subst}
-use Rattle.std.proofs.lemmas.List.Sums.{fold_more}
+use Rattle.std.proofs.Common.{◌≡◌, ◌≢◌, ◌⊎◌, inl, inr, ℕ, suc, List, [], ◌∷◌, Option, Some, None, slice_get, refl, sym, ap, ◌∙◌, subst}
+use Rattle.std.specs.Prelude.{Bool, true, false, is_some, not, IsTrue, IsFalse}
 use Rattle.spec_trees.specs.declared.tree.Leaf.{Leaf}
 use Rattle.spec_trees.specs.Tree.{Rules}
 use Rattle.steal_pool.specs.declared.seat.PoolError.{PoolError}
@@ -10,11 +10,6 @@ use Rattle.steal_pool.specs.declared.seat.Stop.TheVariants.{Full, Memory}
 use Rattle.steal_pool.specs.Seats.{IfFull, IsFull, IsFullOf, IsLeft, IsStoppedBy, Seat, error_of, with_refusal}
 use Rattle.steal_pool.specs.Pools.{KeepNone, NoneIsOutOfMemory}
 use Rattle.steal_pool.specs.Closing.{worse, worst_from, worst_stop}
-
-pub worst_more : (ss : List Seat) (i : ℕ) (s : Seat) → i < length ss → s ≡ get_or ss i s → worst_stop (take (i + 1) ss) ≡ worse (worst_stop (take i ss)) s.refusal
-worst_more ss i s h e =
-    fold_more (λ (w : Option Stop) (q : Seat). worse w q.refusal) None ss i s h
-    ∙ ap (λ (q : Seat). worse (worst_stop (take i ss)) q.refusal) (sym e)
 
 -- ---- of two
 full_or_none : (r : Option Stop) (leaf : Leaf) → worse (Some (Full leaf)) r ≡ None → ⊥
@@ -54,6 +49,20 @@ none_stopped ss e = (none_from None ss e).1
 pub kept_free : (ss : List Seat) → KeepNone ss → worst_stop ss ≡ None
 kept_free [] all = refl
 kept_free (s ∷ ss) all = ap (λ (r : Option Stop). worst_from r ss) all.0 ∙ kept_free ss all.1
+
+-- as a test of the worst says it
+pub is_none_stopped : (ss : List Seat) (r : Option Stop) (b : Bool) → r ≡ worst_stop ss → is_some r ≡ not b → IsTrue b → KeepNone ss
+is_none_stopped ss None b e test is = none_stopped ss (sym e)
+is_none_stopped ss (Some stop) true e test is = absurd cc
+is_none_stopped ss (Some stop) false e test is = absurd cc
+
+some_stop : (stop : Stop) → Some stop ≡ None → ⊥
+some_stop stop e = cc
+
+pub is_kept : (ss : List Seat) (r : Option Stop) (b : Bool) → r ≡ worst_stop ss → is_some r ≡ not b → IsFalse b → KeepNone ss → ⊥
+is_kept ss None true e test is free = cc
+is_kept ss None false e test is free = cc
+is_kept ss (Some stop) b e test is free = some_stop stop (e ∙ kept_free ss free)
 
 abbrev IsOfOne : Option Stop → List Seat → Leaf → Type 0
 IsOfOne r ss leaf = (r ≡ Some (Full leaf)) ⊎ ((k : ℕ) × (s : Seat) × (slice_get ss k ≡ Some s) × (s.refusal ≡ Some (Full leaf)))

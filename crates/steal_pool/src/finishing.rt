@@ -62,11 +62,9 @@ fn worse(first: Option<Stop>, second: Option<Stop>) -> Option<Stop>
 fn worst_stop<'p, N: Naming, J: Judge, G: Gate>(seats: &[PoolSeat<'p, N, J, G>]) -> Option<Stop>
     ensures { result ≡ worst_stop seats.now }
 {
-    let mut worst = None;
-    for i in 0..seats.len() {
-        worst = worse(worst, seats[i].stop());
-    }
-    worst
+    seats
+        .iter()
+        .fold(None, |worst, seat| worse(worst, seat.stop()))
 }
 
 // Whether no seat stopped.
@@ -74,10 +72,7 @@ pub(crate) fn keep_none<'p, N: Naming, J: Judge, G: Gate>(seats: &[PoolSeat<'p, 
     ensures all { IsTrue result → KeepNone seats.now }
     ensures some { IsFalse result → KeepNone seats.now → ⊥ }
 {
-    match worst_stop(seats) {
-        Some(_) => false,
-        None => true,
-    }
+    worst_stop(seats).is_none()
 }
 
 // Each worker works off its own deque, unless a seat keeps a refusal, until one is refused.

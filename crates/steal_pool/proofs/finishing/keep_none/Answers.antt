@@ -1,13 +1,8 @@
-use Rattle.std.proofs.Common.{◌≡◌, Some, None, sym, ◌∙◌}
-use Rattle.steal_pool.proofs.Stopping.{kept_free, none_stopped}
-use Rattle.steal_pool.specs.declared.seat.Stop.{Stop}
+use Rattle.steal_pool.proofs.Stopping.{is_kept, is_none_stopped}
 use Rattle.steal_pool.proofs.finishing.keep_none.Goals as goal
 
-some_none : (x : Stop) → Some x ≡ None → ⊥
-some_none x e = cc
+pub returns-clause-all : goal.returns-clause-all
+returns-clause-all g c = is_none_stopped c.args.seats.now c.worst_stop.result c.is_none.result c.worst_stop.ensures c.is_none.ensures
 
-pub returns-in-Some-clause-some : goal.returns-in-Some-clause-some
-returns-in-Some-clause-some g c = λ _ free. some_none _ (sym c.in-Some.is ∙ c.worst_stop.ensures ∙ kept_free c.args.seats.now free)
-
-pub returns-in-None-clause-all : goal.returns-in-None-clause-all
-returns-in-None-clause-all g c = λ _. none_stopped c.args.seats.now (sym c.worst_stop.ensures ∙ c.in-None.is)
+pub returns-clause-some : goal.returns-clause-some
+returns-clause-some g c = is_kept c.args.seats.now c.worst_stop.result c.is_none.result c.worst_stop.ensures c.is_none.ensures

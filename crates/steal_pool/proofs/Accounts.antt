@@ -1,5 +1,5 @@
 -- What each step does to the account of a seat, and that work balances.
-use Rattle.std.proofs.Common.{◌≡◌, ◌⊎◌, inl, inr, ℕ, zero, suc, ◌+◌, List, [], ◌∷◌, ◌++◌, map, flat_map, Some, None, IsPermutation, option_to_list, slice_get, slice_set, append_assoc, refl, sym, ap, ◌∙◌, subst, arith}
+use Rattle.std.proofs.Common.{◌≡◌, ◌⊎◌, inl, inr, ℕ, zero, suc, ◌+◌, List, [], ◌∷◌, ◌++◌, map, flat_map, Some, None, IsPermutation, option_to_list, slice_get, slice_set, append_assoc, refl, sym, ap, ◌∙◌, arith}
 use Rattle.std.proofs.lemmas.List.{append-nil}
 use Rattle.std.proofs.lemmas.List.Sorted.{sum_by-IsPermutation, IsPermutation-refl}
 use Rattle.spec_trees.specs.declared.tree.Node.{Node}
@@ -15,7 +15,7 @@ use Rattle.spec_pool.proofs.Balancing.{by_leaves}
 use Rattle.spec_pool.proofs.Finding.{nodes_permuted, leaves_permuted}
 use Rattle.spec_pool.proofs.Moving.{weigh_hand, hand_weigh}
 use Rattle.spec_pool.proofs.Weights.{weigh, weigh-append, weigh-push, weigh-flat, weigh-map, weigh-set, sum_is_weigh}
-use Rattle.steal_pool.specs.Rule.{DequeId, End, IsUsedUp, takes_one}
+use Rattle.steal_pool.specs.Rule.{DequeId, End, takes_one}
 use Rattle.steal_pool.specs.Workers.{Holder, taken_by, after_empty_pop, on_deque, on_stack, with_hand, IsSplit, IsRight, TookOne, Takes, TakesOwn, TakesOther, FindsNone}
 use Rattle.steal_pool.specs.Seats.{IsLike, account_of, entered_by, Gets, place_of, rules_within, ways, ways_of}
 
@@ -185,20 +185,6 @@ other_taken h n es fs (k, e, at, is) = omega (
   weigh-set (λ (x : End). weigh h x.view.taken) es k e (takes_one e n) at,
   weigh-append h e.view.taken (n ∷ []),
 )
-
--- a worker that looks there in this order takes a node so, where it was the same when it looked
-pub took_own : (n : Node) (w m v : Holder) → (w.kept ≡ []) × (m ≡ w) → TakesOwn n m v → Takes n w v
-took_own n w m v (empty, same) e = inr (inl (empty, subst (λ (u : Holder). TakesOwn n u v) same e))
-
-pub took_other : (n : Node) (w m k v : Holder) → (w.kept ≡ []) × (m ≡ w) → IsUsedUp m.own.view × (k ≡ after_empty_pop m) → TakesOther n k v → Takes n w v
-took_other n w m k v (empty, same) (used, is) e = inr (inr (
-  empty,
-  subst (λ (u : Holder). IsUsedUp u.own.view) same used,
-  subst (λ (u : Holder). TakesOther n u v) (is ∙ ap after_empty_pop same) e,
-))
-
-pub took_none : (w m k v : Holder) → (w.kept ≡ []) × (m ≡ w) → IsUsedUp m.own.view × (k ≡ after_empty_pop m) → v ≡ k → FindsNone w v
-took_none w m k v (empty, same) (used, is) e = (empty, subst (λ (u : Holder). IsUsedUp u.own.view) same used, e ∙ is ∙ ap after_empty_pop same)
 
 -- what a node that was taken from a deque weighs
 pub taken_more : (h : Node → ℕ) (n : Node) (w v : Holder) → TakesOwn n w v ⊎ TakesOther n (after_empty_pop w) v → taken_weight h v ≡ taken_weight h w + h n

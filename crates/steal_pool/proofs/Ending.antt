@@ -1,5 +1,5 @@
 -- The end of a pool's work, and what its seats say together when they leave.
-use Rattle.std.proofs.Common.{◌≡◌, ◌≢◌, ◌⊎◌, inl, inr, ℕ, zero, suc, ◌+◌, ◌≤◌, List, [], ◌∷◌, ◌++◌, map, length, Option, Some, None, slice_get, sum_by, option_to_list, if◌then◌else◌, ◌==◌, IsPermutation, refl, sym, ap, ◌∙◌, subst, arith}
+use Rattle.std.proofs.Common.{◌≡◌, ◌≢◌, ◌⊎◌, inl, inr, ℕ, zero, suc, ◌+◌, ◌≤◌, List, [], ◌∷◌, ◌++◌, map, length, Some, None, slice_get, sum_by, option_to_list, if◌then◌else◌, ◌==◌, IsPermutation, refl, sym, ap, ◌∙◌, subst, arith}
 use Rattle.std.specs.List.{AllByRecursion, AllZip}
 use Rattle.spec_trees.specs.declared.tree.Node.{Node}
 use Rattle.spec_trees.specs.declared.tree.Leaf.{Leaf}
@@ -14,17 +14,17 @@ use Rattle.spec_pool.proofs.Moving.{hand_weigh, weigh_hand}
 use Rattle.spec_pool.proofs.Weights.{weigh, weigh-append, weigh-flat, weigh-map, weigh-same, sum_is_weigh}
 use Rattle.span_ledger.specs.declared.desk.LedgerSeat.{LedgerSeat}
 use Rattle.span_ledger.specs.Seats.{part}
-use Rattle.steal_pool.specs.declared.seat.PoolError.{PoolError}
-use Rattle.steal_pool.specs.declared.seat.PoolError.TheVariants.{TooMany, Memory}
+use Rattle.steal_pool.specs.declared.seat.Stop.TheVariants.{Full, Memory}
 use Rattle.steal_pool.specs.Rule.{DequeId, End}
-use Rattle.steal_pool.specs.Seats.{IsLeft, Seat, Ways, entered_by, place_of, ways}
+use Rattle.steal_pool.specs.Seats.{IsFullOf, IsLeft, Seat, Ways, entered_by, place_of, ways}
 use Rattle.steal_pool.specs.Pools.{AccountFor, AreLinked, ComeBack, IsLeftOver, IsRefused, KeepNone, NoneIsOutOfMemory, entered_in, own_of, stealers_on, right_of, seat_right, taken_of, ways_of_all}
 use Rattle.steal_pool.specs.Stealers.{HasNoStealer, Joined, lasting}
-use Rattle.steal_pool.specs.Closing.{Ended, HasUsedUp, Leaves, NoneIsFull, SomeIsFull, Drains}
+use Rattle.steal_pool.specs.Closing.{Drains, Ended, HasUsedUp, Leaves, SomeIsFull, worst_stop}
 use Rattle.steal_pool.proofs.Accounts.{entered_weigh, entered_weight, own_weight, same_weights, taken_weight}
 use Rattle.steal_pool.specs.Runs.{IsLater}
 use Rattle.steal_pool.proofs.Pooling.{later_same, same_linked}
 use Rattle.steal_pool.proofs.Together.{account_later, account_weighs, entered_sum, own_of_weigh, own_sum, put_sum, taken_of_weigh, taken_sum, weighs_account}
+use Rattle.steal_pool.proofs.Stopping.{full_stopped}
 use Rattle.steal_pool.proofs.Listing.{all_get, zip_all, zip_at, zip_map, map_all, map_at, map_from, weigh_none}
 
 map_twice : {A B C : Type 0} (f : A → B) (g : B → C) (xs : List A) → map (λ x. g (f x)) xs ≡ map g (map f xs)
@@ -39,11 +39,20 @@ module _ (t : Rules) (ss us : List Seat) (j : Joined ss us) where
   lasting_weigh : (f : Seat → ℕ) → weigh (λ s. f (lasting s)) us ≡ weigh (λ s. f (lasting s)) ss
   lasting_weigh f = sym (weigh-map lasting f us) ∙ ap (weigh f) j.lasting ∙ weigh-map lasting f ss
 
+  full_like : (leaf : Leaf) (x y : Seat) → IsFullOf t leaf x → y.worker.hand ≡ x.worker.hand → y.terms ≡ x.terms → y.part ≡ x.part → IsFullOf t leaf y
+  full_like leaf x y f hand terms part = record {
+    hand = hand ∙ f.hand;
+    marked = f.marked;
+    leaves = f.leaves;
+    limit = omega (arith, f.limit, ap (λ (u : Terms). u.limit) terms, ap (λ (p : Part). length p.seen) part);
+    fresh = subst (λ (p : Part). Fresh leaf p.seen) (sym part) f.fresh;
+  }
+
   left_lasting : (x y : Seat) → lasting y ≡ lasting x → IsLeft t x → IsLeft t y
   left_lasting x y e l =
-      let at : IsLeft t (lasting x) = record { empty = l.empty; full = l.full } in
+      let at : IsLeft t (lasting x) = record { empty = l.empty; full = λ leaf f. full_like leaf x (lasting x) (l.full leaf f) refl refl refl } in
       let there : IsLeft t (lasting y) = subst (IsLeft t) (sym e) at in
-      record { empty = there.empty; full = there.full }
+      record { empty = there.empty; full = λ leaf f. full_like leaf (lasting y) y (there.full leaf f) refl refl refl }
 
   pub joined_left : AllByRecursion (IsLeft t) ss → AllByRecursion (IsLeft t) us
   joined_left all = map_all lasting (IsLeft t) ss us left_lasting j.lasting all
@@ -154,14 +163,12 @@ sum_used : (xs : List Seat) → ((k : ℕ) (s : Seat) → slice_get xs k ≡ Som
 sum_used [] each h = refl
 sum_used (x ∷ xs) each h = omega (arith, each 0 x refl h, sum_used xs (λ k s at. each (suc k) s at) h)
 
-no_refusal : (x : Option PoolError) → x ≢ Some TooMany → x ≢ Some Memory → x ≡ None
-no_refusal None a b = refl
-no_refusal (Some TooMany) a b = absurd (a refl)
-no_refusal (Some Memory) a b = absurd (b refl)
-
-pub keep_none_of : (qs : List Seat) → NoneIsFull qs → NoneIsOutOfMemory qs → KeepNone qs
-keep_none_of [] a b = tt
-keep_none_of (q ∷ qs) a b = (no_refusal q.refusal a.0 b.0, keep_none_of qs a.1 b.1)
+-- the worst stop is a leaf, so some seat is full of it and none ran out of memory
+pub worst_is_full : (t : Rules) (qs : List Seat) (leaf : Leaf) → AllByRecursion (IsLeft t) qs → worst_stop qs ≡ Some (Full leaf) → NoneIsOutOfMemory qs × SomeIsFull t leaf qs
+worst_is_full t qs leaf left e =
+    let f = full_stopped qs leaf e in
+    let x = f.1 in
+    (f.0, (x.0, x.1, x.2, (all_get (IsLeft t) qs x.0 x.1 left x.2).full leaf x.3))
 
 -- ---- no seat keeps a refusal
 pub all_entered : (t : Rules) (ss qs : List Seat) (es : List LedgerSeat) → Ended t ss qs → AllZip Leaves qs es → KeepNone qs → (root : Node) → AccountFor t root ss → IsPermutation (entered_in es) (leaves t root)

@@ -1,5 +1,5 @@
 -- What entering a leaf, and putting a right part away, say of a seat's work, by what was answered.
-use Rattle.std.proofs.Common.{◌≡◌, inl, inr, ℕ, ◌+◌, ◌≤◌, List, length, Option, Some, None, refl, sym, ap, ◌∙◌, subst, arith, [], ◌∷◌, ◌++◌, IsPermutation}
+use Rattle.std.proofs.Common.{◌≡◌, inl, inr, ℕ, ◌+◌, ◌≤◌, List, length, Some, None, refl, sym, ap, ◌∙◌, subst, arith, [], ◌∷◌, ◌++◌, IsPermutation}
 use Rattle.std.proofs.lemmas.List.Sorted.{IsPermutation-refl}
 use Rattle.spec_trees.specs.declared.tree.Node.{Node}
 use Rattle.spec_trees.specs.declared.tree.Leaf.{Leaf}
@@ -15,9 +15,7 @@ use Rattle.spec_pool.proofs.Weights.{weigh-push}
 use Rattle.steal_pool.specs.declared.worker.Pushed.{Pushed}
 use Rattle.steal_pool.specs.declared.worker.Pushed.TheVariants as P
 use Rattle.steal_pool.specs.Workers.{Holder, IsSplit, on_deque, on_stack, taken_by, with_hand}
-use Rattle.steal_pool.specs.Seats.{IsFull, IsLeft, IsLike, SameSeat, Seat, Works, account_of, entered_by, with_refusal}
-use Rattle.steal_pool.specs.declared.seat.PoolError.{PoolError}
-use Rattle.steal_pool.specs.declared.seat.PoolError.TheVariants as E
+use Rattle.steal_pool.specs.Seats.{IsLike, SameSeat, Seat, Works, account_of, entered_by, with_refusal}
 use Rattle.steal_pool.proofs.Accounts.{Worked, entered_weigh, entered_weight, enter_works, idle_works, split_works, works_more}
 
 -- ---- entering
@@ -87,19 +85,3 @@ seat_more t a b c x y = works_more t a.worker a.part b.worker b.part c.worker c.
 
 pub seat_refused : (t : Rules) (a b c d : Seat) (e : _) → Works t a b → Works t b c → d ≡ with_refusal c e → Works t a d
 seat_refused t a b c d e x y is = subst (λ (s : Seat). Works t a s) (sym is) (seat_more t a b c x y)
-
--- ---- as it leaves its work
-pub left_done : (t : Rules) (s : Seat) → s.refusal ≡ None → s.worker.hand ≡ None → s.worker.kept ≡ [] → IsLeft t s
-left_done t s free hand kept = record { empty = λ e. (hand, kept); full = λ e. absurd (some_none s.refusal E.TooMany free e) }
-  where
-    some_none : (x : Option PoolError) (e : PoolError) → x ≡ None → x ≡ Some e → ⊥
-    some_none x e a b = cc
-
-pub left_refused : (t : Rules) (s q : Seat) (e : PoolError) → q ≡ with_refusal s (Some e) → (e ≡ E.TooMany → IsFull t s) → IsLeft t q
-left_refused t s q e is full = subst (IsLeft t) (sym is) (record { empty = λ f. absurd (no_none e f); full = λ f. let g = full (one_error e E.TooMany f) in (g.0, g.1, g.2, g.3, g.4, g.5) })
-  where
-    no_none : (x : PoolError) → Some x ≡ None → ⊥
-    no_none x f = cc
-
-    one_error : (x y : PoolError) → Some x ≡ Some y → x ≡ y
-    one_error x y f = cc

@@ -1,19 +1,13 @@
 -- Walks over the seats of a pool at its end.
-use Rattle.std.proofs.Common.{◌≡◌, inl, inr, Bool, true, false, ℕ, ◌+◌, ◌<◌, ◌≤◌, List, length, Some, None, Result, Ok, Err, IfErr, OnOk, slice_get, slice_set, get_or, sym, ap, ◌∙◌, subst, arith}
+use Rattle.std.proofs.Common.{◌≡◌, inl, inr, Bool, true, false, ℕ, ◌+◌, ◌<◌, ◌≤◌, List, length, Some, None, Result, Ok, Err, IfErr, OnOk, slice_get, slice_set, sym, ap, ◌∙◌, subst, arith}
 use Rattle.std.specs.Result.{is_err}
 use Rattle.std.proofs.lemmas.Bool.{cases_eq}
-use Rattle.std.proofs.lemmas.Option.{slice_get-get_or}
 use Rattle.std.specs.List.{AllByRecursion, AllZip}
-use Rattle.spec_trees.specs.declared.tree.Leaf.{Leaf}
-use Rattle.spec_trees.specs.declared.tree.Mark.{Mark}
-use Rattle.spec_trees.specs.declared.tree.Node.{Node}
-use Rattle.spec_trees.specs.Tree.{IsSound, IsValid, Rules, leaf_of, mark_of}
-use Rattle.spec_trees.proofs.Leaves.{leaves_settled}
-use Rattle.spec_pool.specs.History.{Fresh}
+use Rattle.spec_trees.specs.Tree.{Rules}
 use Rattle.steal_pool.specs.declared.seat.PoolError.{PoolError}
-use Rattle.steal_pool.specs.Seats.{IsFull, IsLeft, SameSeat, Seat, Works}
+use Rattle.steal_pool.specs.Seats.{IsLeft, IsStoppedBy, SameSeat, Seat, Works}
 use Rattle.steal_pool.specs.Pools.{KeepNone}
-use Rattle.steal_pool.specs.Closing.{IsFullOf, Drains}
+use Rattle.steal_pool.specs.Closing.{Drains}
 use Rattle.steal_pool.specs.Runs.{IsLater}
 use Rattle.steal_pool.proofs.Pooling.{goes_on}
 use Rattle.steal_pool.proofs.Listing.{all_each, all_get, all_set, zip_set, get_other, get_same, one_some, within}
@@ -23,17 +17,8 @@ abbrev pub Before : {A : Type 0} → (A → Type 0) → ℕ → List A → Type 
 Before {A = A} P n xs = (k : ℕ) (x : A) → slice_get xs k ≡ Some x → k < n → P x
 
 module _ {A : Type 0} where
-  pub at_index : (xs : List A) (i : ℕ) (x : A) → i < length xs → x ≡ get_or xs i x → slice_get xs i ≡ Some x
-  at_index xs i x h e = slice_get-get_or xs i x h ∙ ap Some (sym e)
-
   pub before_none : (P : A → Type 0) (xs : List A) → Before P 0 xs
   before_none P xs k x at h = absurd (omega (arith, h))
-
-  pub before_more : (P : A → Type 0) (xs : List A) (i : ℕ) (x : A) → slice_get xs i ≡ Some x → P x → Before P i xs → Before P (i + 1) xs
-  before_more P xs i x at p b k y e h = elim (cases_eq k i) [
-    | inl same ↦ subst P (one_some (slice_get xs i) x y at (ap (slice_get xs) (sym same) ∙ e)) p
-    | inr apart ↦ b k y e (omega (arith, h, apart))
-  ]
 
   pub before_all : (P : A → Type 0) (xs : List A) (n : ℕ) → length xs ≤ n → Before P n xs → AllByRecursion P xs
   before_all P xs n e b = all_each P xs (λ k x at. b k x at (omega (arith, e, within xs k x at)))
@@ -49,9 +34,9 @@ module _ {A : Type 0} where
 pub change_one : (t : Rules) (ss qs : List Seat) (i : ℕ) (q r : Seat) → slice_get qs i ≡ Some q → SameSeat q r → Works t q r → AllZip (IsLater t) ss qs → AllZip (IsLater t) ss (slice_set qs i r)
 change_one t ss qs i q r at same works b = zip_set (IsLater t) ss qs i q r at (λ s c. goes_on t s q r c same works) b
 
-pub refused : {A : Type 0} (r : Result A PoolError) (s : Seat) (b : Bool) → b ≡ is_err r → b ≡ true → IfErr r (λ e. s.refusal ≡ Some e) → s.refusal ≡ None → ⊥
+pub refused : {A : Type 0} (r : Result A PoolError) (s : Seat) (b : Bool) → b ≡ is_err r → b ≡ true → IfErr r (λ e. IsStoppedBy e s) → s.refusal ≡ None → ⊥
 refused (Ok x) s b v t p none = absurd (cc)
-refused (Err e) s b v t p none = let f : None ≡ Some e = sym none ∙ p in absurd cc
+refused (Err e) s b v t p none = let f : None ≡ Some p.0 = sym none ∙ p.1 in absurd cc
 
 pub went : {A : Type 0} (P : Type 0) (r : Result A PoolError) (b : Bool) → b ≡ is_err r → b ≡ false → OnOk r P → P
 went P (Ok x) b v f p = p
@@ -64,18 +49,3 @@ stops t ss qs i q r at same works left refusal b all free = record {
   used = λ none. absurd (refusal (all_get (λ s. s.refusal ≡ None) (slice_set qs i r) i r none (get_same qs i q r at)));
   refusals = inl free;
 }
-
--- ---- the leaf for which a ledger was full
-same_in : {A : Type 0} (x y : A) → Some x ≡ Some y → x ≡ y
-same_in x y e = cc
-
-pub full_of : (t : Rules) → IsSound t → (s : Seat) (node : Node) (mark : Mark) → IsValid t node → Some node ≡ s.worker.hand → mark_of (t.verdict node) ≡ Some mark → IsFull t s → IsFullOf t (leaf_of node mark) s
-full_of t sound s node mark valid hand marked (n, m, held, is, most, fresh) =
-    let same : n ≡ node = same_in n node (sym held ∙ sym hand) in
-    let same_mark : m ≡ mark = same_in m mark (sym is ∙ (ap (λ (x : Node). mark_of (t.verdict x)) same ∙ marked)) in
-    record {
-      hand = sym hand;
-      leaves = leaves_settled t sound node valid mark marked;
-      limit = most;
-      fresh = subst (λ (l : Leaf). Fresh l s.part.seen) (λ i. leaf_of (same i) (same_mark i)) fresh;
-    }

@@ -1,15 +1,15 @@
 -- What the end of a pool's work leaves, and what its seats say when they leave.
-use Rattle.std.specs.Prelude.{◌≡◌, ◌≢◌, ◌⊎◌, ◌≤◌, ℕ, List, [], ◌∷◌, length, map, Some, slice_get}
+use Rattle.std.specs.Prelude.{◌≡◌, ◌⊎◌, ℕ, List, fold, map, Option, Some, None, slice_get}
 use Rattle.std.specs.List.{AllByRecursion, AllZip}
 use Rattle.spec_trees.specs.declared.tree.Node.{Node}
 use Rattle.spec_trees.specs.declared.tree.Leaf.{Leaf}
-use Rattle.spec_trees.specs.Tree.{Rules, leaves}
-use Rattle.spec_pool.specs.History.{Fresh}
+use Rattle.spec_trees.specs.Tree.{Rules}
 use Rattle.span_ledger.specs.declared.desk.LedgerSeat.{LedgerSeat}
 use Rattle.span_ledger.specs.Seats.{part, seat_table}
-use Rattle.steal_pool.specs.declared.seat.PoolError.TheVariants.{TooMany}
+use Rattle.steal_pool.specs.declared.seat.Stop.{Stop}
+use Rattle.steal_pool.specs.declared.seat.Stop.TheVariants.{Full, Memory}
 use Rattle.steal_pool.specs.Rule.{HasLeft, IsUsedUp}
-use Rattle.steal_pool.specs.Seats.{IsLeft, Seat}
+use Rattle.steal_pool.specs.Seats.{IsFullOf, IsLeft, Seat}
 use Rattle.steal_pool.specs.Pools.{AccountFor, AreLinked, KeepNone, NoneIsOutOfMemory, right_of}
 use Rattle.steal_pool.specs.Stealers.{HasNoStealer}
 use Rattle.steal_pool.specs.Runs.{IsLater}
@@ -39,19 +39,22 @@ pub record Ended (t : Rules) (ss qs : List Seat) : Type 0 where
   pub memory : NoneIsOutOfMemory qs → NoneIsOutOfMemory ss
   pub account : (root : Node) → AccountFor t root ss → AccountFor t root qs
 
--- the leaf is that of the node in the hand, and isn't among the entries that the seat has seen, which are as many as the
--- limit
-pub record IsFullOf (t : Rules) (leaf : Leaf) (s : Seat) : Type 0 where
-  pub hand : s.worker.hand ≡ Some leaf.node
-  pub leaves : leaves t leaf.node ≡ leaf ∷ []
-  pub limit : s.terms.limit ≤ length s.part.seen
-  pub fresh : Fresh leaf s.part.seen
+-- the worse of two stops: memory ran out, or else the first leaf for which the ledger was full
+abbrev pub worse : Option Stop → Option Stop → Option Stop
+worse None r = r
+worse (Some Memory) r = Some Memory
+worse (Some (Full leaf)) (Some Memory) = Some Memory
+worse (Some (Full leaf)) (Some (Full other)) = Some (Full leaf)
+worse (Some (Full leaf)) None = Some (Full leaf)
+
+abbrev pub worst_from : Option Stop → List Seat → Option Stop
+worst_from r ss = fold (λ (w : Option Stop) (s : Seat). worse w s.refusal) r ss
+
+abbrev pub worst_stop : List Seat → Option Stop
+worst_stop ss = worst_from None ss
 
 abbrev pub SomeIsFull : Rules → Leaf → List Seat → Type 0
 SomeIsFull t leaf ss = (k : ℕ) × (s : Seat) × (slice_get ss k ≡ Some s) × IsFullOf t leaf s
-
-abbrev pub NoneIsFull : List Seat → Type 0
-NoneIsFull ss = AllByRecursion (λ s. s.refusal ≢ Some TooMany) ss
 
 -- a seat leaves, and this is its right to enter leaves
 pub record Leaves (s : Seat) (e : LedgerSeat) : Type 0 where

@@ -1,7 +1,7 @@
 -- The seats of one pool: how their stealers belong together, what they have and enter together, how they begin, and what
 -- comes back of them.
 use Rattle.std.specs.Prelude.{◌≡◌, ◌≢◌, ◌≤◌, ℕ, zero, suc, ◌==◌, List, [], ◌∷◌, ◌++◌, length, map, flat_map, sum_by, Option, Some, None, ⊤, if◌then◌else◌, slice_get, IsPermutation}
-use Rattle.std.specs.List.{AllByRecursion, AllZip}
+use Rattle.std.specs.List.{AllByRecursion}
 use Rattle.atomic_table.specs.Seated.{TableId}
 use Rattle.spec_trees.specs.declared.tree.Node.{Node}
 use Rattle.spec_trees.specs.declared.tree.Leaf.{Leaf}
@@ -13,7 +13,7 @@ use Rattle.span_ledger.specs.declared.desk.SpanLedger.{SpanLedger}
 use Rattle.span_ledger.specs.Seats.{AreNew, part, seat_table, table_of, terms}
 use Rattle.steal_pool.specs.declared.finishing.FinishError.{FinishError}
 use Rattle.steal_pool.specs.declared.finishing.FinishError.TheVariants.{TooMany, Memory}
-use Rattle.steal_pool.specs.declared.seat.PoolError.TheVariants.{Memory as OutOfMemory}
+use Rattle.steal_pool.specs.declared.seat.Stop.TheVariants.{Memory as OutOfMemory}
 use Rattle.steal_pool.specs.Rule.{DequeId}
 use Rattle.steal_pool.specs.Workers.{taken_by}
 use Rattle.steal_pool.specs.Seats.{IsNamed, Seat, Ways, account, entered_by, ways}

@@ -1,16 +1,17 @@
 -- A worker's seat at the pool: what it has and knows, what it entered, and what a piece of its work balances.
-use Rattle.std.specs.Prelude.{◌≡◌, ◌⊎◌, ◌≤◌, ℕ, List, [], ◌++◌, length, map, Option, Some, None, IsPermutation}
+use Rattle.std.specs.Prelude.{◌≡◌, ◌⊎◌, ◌≤◌, ℕ, List, [], ◌∷◌, ◌++◌, length, map, Option, Some, None, ⊤, IsPermutation}
 use Rattle.atomic_table.specs.Seated.{TableId}
 use Rattle.spec_trees.specs.declared.tree.Node.{Node}
 use Rattle.spec_trees.specs.declared.tree.Leaf.{Leaf}
-use Rattle.spec_trees.specs.declared.tree.Mark.{Mark}
-use Rattle.spec_trees.specs.Tree.{IsValid, Rules, leaf_of, mark_of}
+use Rattle.spec_trees.specs.Tree.{IsValid, Rules, leaves, mark_of}
 use Rattle.spec_pool.specs.declared.ledger.Part.{Part}
 use Rattle.spec_pool.specs.declared.ledger.Terms.{Terms}
 use Rattle.spec_pool.specs.History.{Fresh}
 use Rattle.spec_pool.specs.Accounts.{Account, Balances, TakesNode, TakesTop}
 use Rattle.steal_pool.specs.declared.seat.PoolError.{PoolError}
-use Rattle.steal_pool.specs.declared.seat.PoolError.TheVariants.{TooMany}
+use Rattle.steal_pool.specs.declared.seat.PoolError.TheVariants as E
+use Rattle.steal_pool.specs.declared.seat.Stop.{Stop}
+use Rattle.steal_pool.specs.declared.seat.Stop.TheVariants.{Full, Memory}
 use Rattle.steal_pool.specs.Rule.{DequeId, End}
 use Rattle.steal_pool.specs.Workers.{Holder, IsNew, taken_by}
 
@@ -18,22 +19,22 @@ use Rattle.steal_pool.specs.Workers.{Holder, IsNew, taken_by}
 abbrev pub rules_within : Rules → Node → Rules
 rules_within t root = record { first = root.a; last = root.b; deepest = t.deepest; verdict = t.verdict; parts = t.parts }
 
--- the worker, its part of the ledger's history, the table and the terms of the ledger, and the refusal that it keeps
+-- the worker, its part of the ledger's history, the table and the terms of the ledger, and why it stopped
 pub record Seat : Type 0 where
   pub worker : Holder
   pub part : Part
   pub table : TableId
   pub terms : Terms
-  pub refusal : Option PoolError
+  pub refusal : Option Stop
 
-abbrev pub seat_of : Holder → Part → TableId → Terms → Option PoolError → Seat
+abbrev pub seat_of : Holder → Part → TableId → Terms → Option Stop → Seat
 seat_of worker part table terms refusal =
     record { worker = worker; part = part; table = table; terms = terms; refusal = refusal }
 
 abbrev pub with_worker : Seat → Holder → Seat
 with_worker s w = seat_of w s.part s.table s.terms s.refusal
 
-abbrev pub with_refusal : Seat → Option PoolError → Seat
+abbrev pub with_refusal : Seat → Option Stop → Seat
 with_refusal s refusal = seat_of s.worker s.part s.table s.terms refusal
 
 abbrev pub IsHolding : Seat → Type 0
@@ -95,10 +96,30 @@ pub record SameSeat (s s' : Seat) : Type 0 where
   pub number : s'.part.number ≡ s.part.number
 
 -- ---- refusals
--- the hand holds a leaf that isn't among the entries that the seat has seen, and these are as many as the limit
+-- the leaf is that of the node in the hand, and isn't among the entries that the seat has seen, which are as many as the
+-- limit
+pub record IsFullOf (t : Rules) (leaf : Leaf) (s : Seat) : Type 0 where
+  pub hand : s.worker.hand ≡ Some leaf.node
+  pub marked : mark_of (t.verdict leaf.node) ≡ Some leaf.mark
+  pub leaves : leaves t leaf.node ≡ leaf ∷ []
+  pub limit : s.terms.limit ≤ length s.part.seen
+  pub fresh : Fresh leaf s.part.seen
+
+abbrev pub IfFull : Stop → (Leaf → Type 0) → Type 0
+IfFull (Full leaf) P = P leaf
+IfFull Memory P = ⊤
+
+-- it stopped, as the ledger was full for a leaf
 abbrev pub IsFull : Rules → Seat → Type 0
-IsFull t s = (n : Node) × (m : Mark) × (s.worker.hand ≡ Some n) × (mark_of (t.verdict n) ≡ Some m)
-    × (s.terms.limit ≤ length s.part.seen) × Fresh (leaf_of n m) s.part.seen
+IsFull t s = (leaf : Leaf) × (s.refusal ≡ Some (Full leaf)) × IsFullOf t leaf s
+
+-- it stopped for this
+abbrev pub error_of : Stop → PoolError
+error_of (Full leaf) = E.TooMany
+error_of Memory = E.Memory
+
+abbrev pub IsStoppedBy : PoolError → Seat → Type 0
+IsStoppedBy e s = (stop : Stop) × (s.refusal ≡ Some stop) × (error_of stop ≡ e)
 
 -- the valid nodes of a pool are those of its judge that lie in the root, which is one of them
 abbrev pub IsNamed : Rules → Rules → Node → Type 0
@@ -109,7 +130,7 @@ abbrev pub NewSeat : Part → TableId → Terms → Option Node → Seat → Typ
 NewSeat part table terms hand s =
     IsNew part.number hand s.worker × (s.part ≡ part) × (s.table ≡ table) × (s.terms ≡ terms) × (s.refusal ≡ None)
 
--- a seat as `work` leaves it: it holds nothing, or keeps a refusal, and keeps `TooMany` only where it is full
+-- a seat as `work` leaves it: it holds nothing, or keeps why it stopped, with a leaf only where it is full
 pub record IsLeft (t : Rules) (s : Seat) : Type 0 where
   pub empty : s.refusal ≡ None → (s.worker.hand ≡ None) × (s.worker.kept ≡ [])
-  pub full : s.refusal ≡ Some TooMany → IsFull t s
+  pub full : (leaf : Leaf) → s.refusal ≡ Some (Full leaf) → IsFullOf t leaf s

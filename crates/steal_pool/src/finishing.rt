@@ -3,16 +3,15 @@ ghost use Rattle.std.specs.Prelude.{◌≡◌, ◌≢◌, Some, None, IfOk, IfEr
 ghost use Rattle.std.specs.List.{AllByRecursion, AllZip};
 ghost use Rattle.spec_trees.specs.declared.tree.Node.{Node};
 ghost use Rattle.spec_trees.specs.Tree.{leaves};
-ghost use Rattle.steal_pool.specs.Seats.{IsFull, IsLeft};
-ghost use Rattle.steal_pool.specs.declared.seat.PoolError.TheVariants.{TooMany, Memory as OutOfMemory};
-ghost use Rattle.steal_pool.specs.Closing.{Ended, IsFullOf, Leaves, NoneIsFull, SomeIsFull, Drains};
+ghost use Rattle.steal_pool.specs.Seats.{IsLeft};
+ghost use Rattle.steal_pool.specs.Closing.{Drains, Ended, Leaves, worse, worst_stop};
 ghost use Rattle.steal_pool.specs.Pools.{AccountFor, AreLinked, ComeBack, IfTooMany, IsLeftOver, IsRefused, KeepNone, NoneIsOutOfMemory, entered_in};
 
 use crate::joining::join_all;
-use crate::seat::{PoolError, PoolSeat};
+use crate::seat::{PoolSeat, Stop};
 use crate::view::Naming;
 use gf_edges::Gate;
-use halving::{Judge, rules_are_sound};
+use halving::Judge;
 use span_ledger::LedgerSeat;
 use spec_pool::Memory;
 use spec_trees::Leaf;
@@ -28,54 +27,11 @@ pub enum FinishError {
 }
 
 impl<'p, N: Naming, J: Judge, G: Gate> PoolSeat<'p, N, J, G> {
-    // Whether it keeps a refusal.
-    fn keeps_refusal(&self) -> bool
-        ensures some { IsTrue result → self.now.refusal ≢ None }
-        ensures none { IsFalse result → self.now.refusal ≡ None }
+    // Why it stopped, if it did.
+    fn stop(&self) -> Option<Stop>
+        ensures { result ≡ self.now.refusal }
     {
-        match self.refusal {
-            Some(_) => true,
-            None => false,
-        }
-    }
-
-    // Whether it ran out of memory.
-    fn is_out_of_memory(&self) -> bool
-        ensures none { IsFalse result → self.now.refusal ≢ Some OutOfMemory }
-    {
-        match self.refusal {
-            Some(PoolError::Memory) => true,
-            Some(PoolError::TooMany) => false,
-            None => false,
-        }
-    }
-
-    // The leaf of the node in the hand, for which the ledger was full.
-    fn refused_leaf(&self) -> Leaf
-        requires full { IsFull N.rules self.now }
-        ensures { IsFullOf N.rules result self.now }
-    {
-        rules_are_sound(self.judge);
-        let Some(node) = self.worker.node() else {
-            unreachable!()
-        };
-        let Some(mark) = self.verdict(node) else {
-            unreachable!()
-        };
-        Leaf { node, mark }
-    }
-
-    // The leaf for which the ledger was full, if it was.
-    fn full_leaf(&self) -> Option<Leaf>
-        requires left { IsLeft N.rules self.now }
-        ensures some { IfSome result (λ leaf. IsFullOf N.rules leaf self.now) }
-        ensures none { IfNone result (self.now.refusal ≢ Some TooMany) }
-    {
-        match self.refusal {
-            Some(PoolError::TooMany) => Some(self.refused_leaf()),
-            Some(PoolError::Memory) => None,
-            None => None,
-        }
+        self.refusal
     }
 
     // Pops its deque for the last time, and hands the right to enter leaves back.
@@ -87,43 +43,36 @@ impl<'p, N: Naming, J: Judge, G: Gate> PoolSeat<'p, N, J, G> {
     }
 }
 
-// Whether no seat keeps a refusal.
+// The worse of two stops: memory ran out, or else the first leaf for which the ledger was full.
+fn worse(first: Option<Stop>, second: Option<Stop>) -> Option<Stop>
+    ensures { result ≡ worse first second }
+{
+    match first {
+        None => second,
+        Some(Stop::Memory) => first,
+        Some(Stop::Full(_)) => match second {
+            Some(Stop::Memory) => second,
+            Some(Stop::Full(_)) => first,
+            None => first,
+        },
+    }
+}
+
+// The worst stop of all seats.
+fn worst_stop<'p, N: Naming, J: Judge, G: Gate>(seats: &[PoolSeat<'p, N, J, G>]) -> Option<Stop>
+    ensures { result ≡ worst_stop seats.now }
+{
+    seats
+        .iter()
+        .fold(None, |worst, seat| worse(worst, seat.stop()))
+}
+
+// Whether no seat stopped.
 pub(crate) fn keep_none<'p, N: Naming, J: Judge, G: Gate>(seats: &[PoolSeat<'p, N, J, G>]) -> bool
     ensures all { IsTrue result → KeepNone seats.now }
     ensures some { IsFalse result → KeepNone seats.now → ⊥ }
 {
-    for i in 0..seats.len() {
-        if seats[i].keeps_refusal() {
-            return false;
-        }
-    }
-    true
-}
-
-// Whether a seat ran out of memory.
-fn is_out_of_memory<'p, N: Naming, J: Judge, G: Gate>(seats: &[PoolSeat<'p, N, J, G>]) -> bool
-    ensures none { IsFalse result → NoneIsOutOfMemory seats.now }
-{
-    for i in 0..seats.len() {
-        if seats[i].is_out_of_memory() {
-            return true;
-        }
-    }
-    false
-}
-
-// A leaf for which the ledger was full, if it was when a seat entered one.
-fn full_leaf<'p, N: Naming, J: Judge, G: Gate>(seats: &[PoolSeat<'p, N, J, G>]) -> Option<Leaf>
-    requires left { AllByRecursion (IsLeft N.rules) seats.now }
-    ensures some { IfSome result (λ leaf. SomeIsFull N.rules leaf seats.now) }
-    ensures none { IfNone result (NoneIsFull seats.now) }
-{
-    for i in 0..seats.len() {
-        if let Some(leaf) = seats[i].full_leaf() {
-            return Some(leaf);
-        }
-    }
-    None
+    worst_stop(seats).is_none()
 }
 
 // Each worker works off its own deque, unless a seat keeps a refusal, until one is refused.
@@ -168,8 +117,8 @@ fn leave_all<'p, N: Naming, J: Judge, G: Gate>(
 }
 
 /// Ends a pool, whose seats have all worked, and hands the ledger's seats back in order. Every stealer is joined. Where
-/// seats keep refusals it answers `Memory` if one of them is that, else `TooMany`; where none does, each worker works
-/// off its own deque. It waits for the ledger's lock.
+/// seats stopped before their work was done it returns `Memory` if one of them ran out of memory, else `TooMany` with the
+/// leaf of the first; where none did, each worker works off its own deque. It waits for the ledger's lock.
 pub fn finish<'p, R: Wait, N: Naming, J: Judge, G: Gate>(
     rt: &R,
     alloc: Global,
@@ -189,18 +138,16 @@ pub fn finish<'p, R: Wait, N: Naming, J: Judge, G: Gate>(
         (λ e. IfTooMany e (IsLeftOver N.rules root)) }
 {
     end_work(rt, seats.as_mut_slice());
-    if is_out_of_memory(seats.as_slice()) {
-        return Err(FinishError::Memory);
-    }
-    let full = full_leaf(seats.as_slice());
+    let worst = worst_stop(seats.as_slice());
     let Ok(entries) = leave_all(alloc, seats) else {
         return Err(FinishError::Memory);
     };
-    match full {
-        Some(leaf) => Err(FinishError::TooMany {
+    match worst {
+        Some(Stop::Full(leaf)) => Err(FinishError::TooMany {
             seats: entries,
             leaf,
         }),
+        Some(Stop::Memory) => Err(FinishError::Memory),
         None => Ok(entries),
     }
 }

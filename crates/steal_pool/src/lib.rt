@@ -29,7 +29,7 @@ pub use ends::{Owner, Stealer};
 pub use finishing::{FinishError, finish};
 pub use making::make;
 pub use running::run;
-pub use seat::{PoolError, PoolSeat};
+pub use seat::{PoolError, PoolSeat, Stop};
 pub use view::{Naming, View};
 pub use worker::Pushed;
 

@@ -1,9 +1,13 @@
 // The seats of a pool: a worker with the right to enter leaves into the ledger.
+ghost use Rattle.std.specs.Prelude.{◌≡◌};
+ghost use Rattle.steal_pool.specs.Seats.{error_of};
+
 use crate::view::Naming;
 use crate::worker::Worker;
 use gf_edges::Gate;
 use halving::Judge;
 use span_ledger::{LedgerSeat, SpanLedger};
+use spec_trees::Leaf;
 use std::marker::Model;
 
 /// Why a worker stops before its work is done: the root has more leaves than the limit, or memory ran out.
@@ -13,13 +17,33 @@ pub enum PoolError {
     Memory,
 }
 
+/// Why a seat stopped before its work was done: the ledger was full when this leaf, that of the node in its hand, was to
+/// be entered, or memory ran out.
+#[derive(Clone, Copy)]
+pub enum Stop {
+    Full(Leaf),
+    Memory,
+}
+
+impl Stop {
+    /// The error that a worker's work ends with.
+    pub fn error(self) -> PoolError
+        ensures { result ≡ error_of self }
+    {
+        match self {
+            Stop::Full(_) => PoolError::TooMany,
+            Stop::Memory => PoolError::Memory,
+        }
+    }
+}
+
 /// A worker of a pool, with its judge, its ledger and its gate. Contracts see what it holds, its part of the ledger's
-/// history, the ledger's table and terms, and the refusal that it keeps.
+/// history, the ledger's table and terms, and why it stopped.
 #[derive(Drop)]
 pub struct PoolSeat<'p, N: Naming, J: Judge, G: Gate> {
     pub(crate) worker: Worker<N>,
     pub(crate) entries: LedgerSeat,
-    pub(crate) refusal: Option<PoolError>,
+    pub(crate) refusal: Option<Stop>,
     pub(crate) judge: &'p J,
     pub(crate) ledger: &'p SpanLedger,
     pub(crate) gate: &'p G,

@@ -6,11 +6,12 @@ ghost use Rattle.spec_trees.specs.declared.tree.Verdict.TheVariants.{Split};
 ghost use Rattle.spec_pool.specs.Accounts.{EntersNode, KeepsRight, PutsRight};
 ghost use Rattle.steal_pool.specs.Rule.{IsUsedUp};
 ghost use Rattle.steal_pool.specs.Workers.{FindsNone, IsRight, Takes};
-ghost use Rattle.steal_pool.specs.Seats.{Changes, Gets, IsFull, IsHolding, IsLeft, SameSeat, Works, with_refusal};
+ghost use Rattle.steal_pool.specs.Seats.{Changes, Gets, IfFull, IsFull, IsFullOf, IsHolding, IsLeft, IsStoppedBy, SameSeat, Works, with_refusal};
 ghost use Rattle.steal_pool.specs.declared.worker.Pushed.TheVariants.{OnDeque, Kept, Memory};
-ghost use Rattle.steal_pool.specs.declared.seat.PoolError.TheVariants.{TooMany, Memory as OutOfMemory};
+ghost use Rattle.steal_pool.specs.declared.seat.PoolError.TheVariants.{TooMany};
+ghost use Rattle.steal_pool.specs.declared.seat.Stop.TheVariants.{Memory as OutOfMemory};
 
-use crate::seat::{PoolError, PoolSeat};
+use crate::seat::{PoolError, PoolSeat, Stop};
 use crate::view::Naming;
 use crate::worker::Pushed;
 use gf_edges::Gate;
@@ -71,15 +72,15 @@ impl<'p, N: Naming, J: Judge, G: Gate> PoolSeat<'p, N, J, G> {
         self.worker.node()
     }
 
-    // Keeps the refusal.
-    fn refuse(&mut self, error: PoolError)
-        ensures { self.new ≡ with_refusal self.old (Some error) }
+    // Keeps why it stops.
+    fn refuse(&mut self, stop: Stop)
+        ensures { self.new ≡ with_refusal self.old (Some stop) }
     {
-        self.refusal = Some(error);
+        self.refusal = Some(stop);
     }
 
     // Enters the leaf of the node in the hand.
-    fn enter<R: Wait>(&mut self, rt: &R, leaf: Leaf) -> Result<(), PoolError>
+    fn enter<R: Wait>(&mut self, rt: &R, leaf: Leaf) -> Result<(), Stop>
         requires hand { self.old.worker.hand ≡ Some leaf.node }
         requires leaf { IsLeaf N.rules leaf }
         ensures entered { OnOk result (Changes (EntersNode N.rules) self.old self.new) }
@@ -87,7 +88,7 @@ impl<'p, N: Naming, J: Judge, G: Gate> PoolSeat<'p, N, J, G> {
         ensures same { SameSeat self.old self.new }
         ensures refusal { self.new.refusal ≡ self.old.refusal }
         ensures holds { IfErr result (λ e. self.new.worker.hand ≡ self.old.worker.hand) }
-        ensures full { IfErr result (λ e. e ≡ TooMany → IsFull N.rules self.new) }
+        ensures full { IfErr result (λ stop. IfFull stop (λ leaf. IsFullOf N.rules leaf self.new)) }
     {
         rules_are_sound(self.judge);
         match self.ledger.enter(rt, &mut self.entries, leaf) {
@@ -99,13 +100,13 @@ impl<'p, N: Naming, J: Judge, G: Gate> PoolSeat<'p, N, J, G> {
                 self.worker.clear_hand();
                 Ok(())
             }
-            Entry::Full => Err(PoolError::TooMany),
-            Entry::Memory => Err(PoolError::Memory),
+            Entry::Full => Err(Stop::Full(leaf)),
+            Entry::Memory => Err(Stop::Memory),
         }
     }
 
     // Splits the node in the hand.
-    pub(crate) fn split(&mut self, node: Node) -> Result<(), PoolError>
+    pub(crate) fn split(&mut self, node: Node) -> Result<(), Stop>
         requires hand { self.old.worker.hand ≡ Some node }
         requires valid { IsValid N.rules node }
         requires split { N.rules.verdict node ≡ Split }
@@ -113,14 +114,14 @@ impl<'p, N: Naming, J: Judge, G: Gate> PoolSeat<'p, N, J, G> {
         ensures same { SameSeat self.old self.new }
         ensures refusal { self.new.refusal ≡ self.old.refusal }
         ensures holds { IfErr result (λ e. self.new.worker.hand ≡ self.old.worker.hand) }
-        ensures memory { IfErr result (λ e. e ≡ OutOfMemory) }
+        ensures memory { IfErr result (λ stop. stop ≡ OutOfMemory) }
     {
         rules_are_sound(self.judge);
         let (left, right) = self.judge.cut(node);
         match self.worker.push(left, right) {
             Pushed::OnDeque => Ok(()),
             Pushed::Kept => Ok(()),
-            Pushed::Memory(_) => Err(PoolError::Memory),
+            Pushed::Memory(_) => Err(Stop::Memory),
         }
     }
 
@@ -134,14 +135,14 @@ impl<'p, N: Naming, J: Judge, G: Gate> PoolSeat<'p, N, J, G> {
     }
 
     // Enters the node in the hand as a leaf, or splits it.
-    fn step<R: Wait>(&mut self, rt: &R, node: Node) -> Result<(), PoolError>
+    fn step<R: Wait>(&mut self, rt: &R, node: Node) -> Result<(), Stop>
         requires hand { self.old.worker.hand ≡ Some node }
         requires valid { IsValid N.rules node }
         ensures works { Works N.rules self.old self.new }
         ensures same { SameSeat self.old self.new }
         ensures refusal { self.new.refusal ≡ self.old.refusal }
         ensures holds { IfErr result (λ e. self.new.worker.hand ≡ self.old.worker.hand) }
-        ensures full { IfErr result (λ e. e ≡ TooMany → IsFull N.rules self.new) }
+        ensures full { IfErr result (λ stop. IfFull stop (λ leaf. IsFullOf N.rules leaf self.new)) }
     {
         match self.verdict(node) {
             Some(mark) => self.enter(rt, Leaf { node, mark }),
@@ -151,7 +152,7 @@ impl<'p, N: Naming, J: Judge, G: Gate> PoolSeat<'p, N, J, G> {
 
     /// Works on the node in the hand and on all that it takes, until it finds none or is refused. The gate is passed
     /// before each judging. After a refusal the hand still holds the node that was being worked on, and the seat keeps
-    /// the refusal. It waits for the ledger's lock.
+    /// why it stopped, with the leaf for which the ledger was full. It waits for the ledger's lock.
     pub fn work<R: Wait>(&mut self, rt: &R) -> Result<(), PoolError>
         requires free { self.old.refusal ≡ None }
         ensures works { Works N.rules self.old self.new }
@@ -160,7 +161,7 @@ impl<'p, N: Naming, J: Judge, G: Gate> PoolSeat<'p, N, J, G> {
         ensures kept { OnOk result (self.new.worker.kept ≡ []) }
         ensures used_up { OnOk result (IsUsedUp self.new.worker.own.view) }
         ensures free { OnOk result (self.new.refusal ≡ None) }
-        ensures refusal { IfErr result (λ e. self.new.refusal ≡ Some e) }
+        ensures refusal { IfErr result (λ e. IsStoppedBy e self.new) }
         ensures holds { IfErr result (λ e. IsHolding self.new) }
         ensures full { IfErr result (λ e. e ≡ TooMany → IsFull N.rules self.new) }
         ensures left { IsLeft N.rules self.new }
@@ -168,9 +169,9 @@ impl<'p, N: Naming, J: Judge, G: Gate> PoolSeat<'p, N, J, G> {
         for _ in rt.forever() {
             match self.node() {
                 Some(node) => {
-                    if let Err(error) = self.step(rt, node) {
-                        self.refuse(error);
-                        return Err(error);
+                    if let Err(stop) = self.step(rt, node) {
+                        self.refuse(stop);
+                        return Err(stop.error());
                     }
                 }
                 None => {

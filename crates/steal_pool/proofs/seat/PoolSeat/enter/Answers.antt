@@ -1,4 +1,5 @@
 use Rattle.std.proofs.Common.{ap, ◌∙◌}
+use Rattle.spec_trees.proofs.Leaves.{leaves_settled}
 use Rattle.span_ledger.specs.Seats.{part}
 use Rattle.steal_pool.proofs.Entering.{again_more, entered_more, full_same, full_seen, leaf_enters, leaf_works, memory_same, same_works}
 use Rattle.steal_pool.proofs.Within.{named_sound}
@@ -29,14 +30,13 @@ returns-in-Full-clause-works g c = rw (← c.self.view_is) (same_works g.N.Namin
     (full_same _ _ _ _ _ c.enter.ensures.entering c.in-Full.is))
 
 pub returns-in-Full-clause-full : goal.returns-in-Full-clause-full
-returns-in-Full-clause-full g c = λ _. let seen = full_seen _ _ _ _ _ c.enter.ensures.entering c.in-Full.is in (
-  c.args.leaf.node,
-  c.args.leaf.mark,
-  ap (λ s. s.worker.hand) c.self.view_is ∙ c.requires.hand,
-  c.requires.leaf.marked,
-  seen.0,
-  seen.1,
-)
+returns-in-Full-clause-full g c = let seen = full_seen _ _ _ _ _ c.enter.ensures.entering c.in-Full.is in record {
+  hand = ap (λ s. s.worker.hand) c.self.view_is ∙ c.requires.hand;
+  marked = c.requires.leaf.marked;
+  leaves = leaves_settled g.N.Naming.rules (named_sound _ _ _ c.self.invariant.0 c.self.invariant.1 c.rules_are_sound.ensures) c.args.leaf.node c.requires.leaf.valid c.args.leaf.mark c.requires.leaf.marked;
+  limit = seen.0;
+  fresh = seen.1;
+}
 
 pub returns-in-Memory-clause-works : goal.returns-in-Memory-clause-works
 returns-in-Memory-clause-works g c = rw (← c.self.view_is) (same_works g.N.Naming.rules c.self.inside.worker (part c.self.inside.entries) (part c.enter.new.seat)

@@ -1,5 +1,6 @@
 use Rattle.std.proofs.Common.{refl, ◌∙◌}
-use Rattle.steal_pool.proofs.Entering.{left_done, left_refused, same_more, seat_idle, seat_more, seat_refused}
+use Rattle.steal_pool.proofs.Entering.{same_more, seat_idle, seat_more, seat_refused}
+use Rattle.steal_pool.proofs.Stopping.{left_done, left_refused, stopped_by, too_many_is_full}
 use Rattle.steal_pool.proofs.seat.PoolSeat.work.Goals as goal
 
 pub loop-init : goal.loop-init
@@ -26,7 +27,13 @@ pub returns-in-None-take-clause-works : goal.returns-in-None-take-clause-works
 returns-in-None-take-clause-works g c = seat_more g.N.Naming.rules c.args.self.now c.loop.self c.take.new.self c.loop.invariant.works c.take.ensures.works
 
 pub returns-in-Err-clause-left : goal.returns-in-Err-clause-left
-returns-in-Err-clause-left g c = left_refused g.N.Naming.rules c.step.new.self c.refuse.new.self c.in-Err.error c.refuse.ensures c.in-Err.ensures.full
+returns-in-Err-clause-left g c = left_refused g.N.Naming.rules c.step.new.self c.refuse.new.self c.in-Err.stop c.refuse.ensures c.in-Err.ensures.full
 
 pub returns-in-None-take-clause-left : goal.returns-in-None-take-clause-left
 returns-in-None-take-clause-left g c = left_done g.N.Naming.rules c.take.new.self (c.take.ensures.refusal ∙ c.loop.invariant.free) c.in-None-take.ensures.hand c.in-None-take.ensures.kept.1
+
+pub returns-in-Err-clause-refusal : goal.returns-in-Err-clause-refusal
+returns-in-Err-clause-refusal g c = stopped_by g.N.Naming.rules c.step.new.self c.refuse.new.self c.in-Err.stop c.refuse.ensures c.in-Err.ensures.full c.error.result c.error.ensures
+
+pub returns-in-Err-clause-full : goal.returns-in-Err-clause-full
+returns-in-Err-clause-full g c = too_many_is_full g.N.Naming.rules c.step.new.self c.refuse.new.self c.in-Err.stop c.refuse.ensures c.in-Err.ensures.full c.error.result c.error.ensures

@@ -1,0 +1,18 @@
+use Rattle.std.proofs.Common.{arith, ◌*◌, ◌^◌, ℤ, pos, ◌*ℤ◌, ◌≤ℤ◌}
+use borrow.Author.Differences.{up}
+use Rattle.std.proofs.lemmas.Int.{ints}
+use Rattle.spec_intervals.specs.Interval.{interval}
+use Rattle.spec_intervals.specs.Fraction.{Holds, fraction}
+use Rattle.spec_numbers.proofs.Order.{lin, le-mul}
+use Rattle.enclosure_cases.proofs.intervals.interval_round_zero.Goals as goal
+
+-- ends on the two sides of 0 hold 0
+zero_held : (lo hi s : ℤ) → lo ≤ℤ pos 0 → pos 0 ≤ℤ hi → Holds (interval lo hi s) (fraction (pos 0) 1)
+zero_held lo hi s p q =
+    let a : (lo *ℤ pos (2 ^ up s * 1)) ≤ℤ (pos 0 *ℤ pos (2 ^ up s * 1)) = le-mul lo (pos 0) (pos (2 ^ up s * 1)) (omega (arith, lin)) p in
+    let b : (pos 0 *ℤ pos (2 ^ up s * 1)) ≤ℤ (hi *ℤ pos (2 ^ up s * 1)) = le-mul (pos 0) hi (pos (2 ^ up s * 1)) (omega (arith, lin)) q in
+    record { low = omega (arith, ints); high = omega (arith, ints) }
+
+pub returns-clause-zero : goal.returns-clause-zero
+returns-clause-zero c =
+    c.of-x.ensures.holds (fraction (pos 0) 1) (zero_held _ _ _ (omega (arith, ints)) (omega (arith, ints)))

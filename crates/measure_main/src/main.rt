@@ -73,7 +73,13 @@ fn measure<R: Threads + Wait + Sync>(
     rt: &R,
     work: Work,
 ) -> Result<ExitCode, io::Error> {
-    if tell_searches(host, rt, &work.ask, work.walk, work.rounds, work.file)? {
+    let Work {
+        ask,
+        walk,
+        rounds,
+        file,
+    } = work;
+    if tell_searches(host, rt, &ask, walk, rounds, file)? {
         return Ok(ExitCode::from(0));
     }
     eprintln!(host; "measure_main: the file is no ephemeris of the bodies of the search")?;

@@ -36,35 +36,31 @@ module _ (t : Rules) (a b : Account) (put taken : List Node) (entered : List Lea
   Weighed : (Leaf → ℕ) → Type 0
   Weighed h = own_weight t h a + weigh (by_leaves t h) taken ≡ weigh h entered + weigh (by_leaves t h) put + own_weight t h b
 
-  from_weights : ((h : Leaf → ℕ) → Weighed h) → IsPermutation (leaves_of t (own a) ++ leaves_of t taken) (entered ++ leaves_of t put ++ leaves_of t (own b))
-  unfolding Weighed
-  from_weights e = leaves_permuted (leaves_of t (own a) ++ leaves_of t taken) (entered ++ leaves_of t put ++ leaves_of t (own b)) (λ h. omega (
-    arith,
-    e h,
-    weigh-append h (leaves_of t (own a)) (leaves_of t taken),
-    weigh-append h (entered ++ leaves_of t put) (leaves_of t (own b)),
-    weigh-append h entered (leaves_of t put),
-    own_weigh t h a,
-    own_weigh t h b,
-    weigh-flat (leaves t) h taken,
-    weigh-flat (leaves t) h put,
-  ))
+  abbrev before : List Leaf
+  before = leaves_of t (own a) ++ leaves_of t taken
 
-  to_weights : IsPermutation (leaves_of t (own a) ++ leaves_of t taken) (entered ++ leaves_of t put ++ leaves_of t (own b)) → (h : Leaf → ℕ) → Weighed h
-  unfolding Weighed
-  to_weights p h = omega (
+  abbrev after : List Leaf
+  after = entered ++ leaves_of t put ++ leaves_of t (own b)
+
+  before_weigh : (h : Leaf → ℕ) → weigh h before ≡ own_weight t h a + weigh (by_leaves t h) taken
+  before_weigh h = omega (arith, weigh-append h (leaves_of t (own a)) (leaves_of t taken), own_weigh t h a, weigh-flat (leaves t) h taken)
+
+  after_weigh : (h : Leaf → ℕ) → weigh h after ≡ weigh h entered + weigh (by_leaves t h) put + own_weight t h b
+  after_weigh h = omega (
     arith,
-    sum_by-IsPermutation h (leaves_of t (own a) ++ leaves_of t taken) (entered ++ leaves_of t put ++ leaves_of t (own b)) p,
-    sum_is_weigh h (leaves_of t (own a) ++ leaves_of t taken),
-    sum_is_weigh h (entered ++ leaves_of t put ++ leaves_of t (own b)),
-    weigh-append h (leaves_of t (own a)) (leaves_of t taken),
     weigh-append h (entered ++ leaves_of t put) (leaves_of t (own b)),
     weigh-append h entered (leaves_of t put),
-    own_weigh t h a,
     own_weigh t h b,
-    weigh-flat (leaves t) h taken,
     weigh-flat (leaves t) h put,
   )
+
+  from_weights : ((h : Leaf → ℕ) → Weighed h) → IsPermutation before after
+  unfolding Weighed
+  from_weights e = leaves_permuted before after (λ h. omega (arith, e h, before_weigh h, after_weigh h))
+
+  to_weights : IsPermutation before after → (h : Leaf → ℕ) → Weighed h
+  unfolding Weighed
+  to_weights p h = omega (arith, sum_by-IsPermutation h before after p, sum_is_weigh h before, sum_is_weigh h after, before_weigh h, after_weigh h)
 
 piece : (t : Rules) (a b : Account) (put taken : List Node) (entered : List Leaf) → b.put ≡ a.put ++ put → b.taken ≡ a.taken ++ taken → b.entered ≡ a.entered ++ entered
     → ((h : Leaf → ℕ) → own_weight t h a + weigh (by_leaves t h) taken ≡ weigh h entered + weigh (by_leaves t h) put + own_weight t h b) → Balances t a b

@@ -1,5 +1,5 @@
 -- Each step lowers what is left to do by one.
-use Rattle.std.proofs.Common.{◌≡◌, ℕ, ◌+◌, ◌*◌, ◌-◌, ◌<◌, ℤ, ◌<ℤ◌, List, [], ◌∷◌, ◌++◌, length, ap, ◌∙◌, option_to_list, length-append, arith}
+use Rattle.std.proofs.Common.{◌≡◌, ℕ, ◌+◌, ◌*◌, ◌-◌, ◌<◌, ◌≤◌, ℤ, ◌<ℤ◌, List, [], ◌∷◌, ◌++◌, length, ap, ◌∙◌, Some, option_to_list, length-append, arith}
 use Rattle.std.proofs.lemmas.Int.{ints}
 use Rattle.spec_trees.specs.declared.tree.Node.{Node}
 use Rattle.spec_trees.specs.declared.tree.Leaf.{Leaf}
@@ -9,7 +9,7 @@ use Rattle.spec_trees.proofs.Covering.{leaves_cover}
 use Rattle.spec_trees.proofs.Leaves.{leaves_settled, leaves_split}
 use Rattle.spec_pool.specs.declared.step.Step.{Step}
 use Rattle.spec_pool.specs.declared.step.Step.TheVariants.{Push, Keep, Pop, TakeKept, Steal, Enter}
-use Rattle.spec_pool.specs.Pool.{Holding, State, Pushes, Keeps, Pops, TakesKept, Gets, GivesUp, Enters, Steps, Runs}
+use Rattle.spec_pool.specs.Pool.{At, Holding, State, Pushes, Keeps, Pops, TakesKept, Gets, GivesUp, Enters, Steps, Runs}
 use Rattle.spec_pool.specs.Tiling.{Conserves, todo_of, todo}
 use Rattle.spec_pool.proofs.Weights.{weigh, weigh-append, weigh-push, weigh-same, sum_is_weigh}
 use Rattle.spec_pool.proofs.Finding.{is_node, is_itself}
@@ -57,72 +57,45 @@ split_length t s n v e =
 Falls : Rules → State → State → Type 0
 Falls t s s' = weigh (left_for t) s'.workers + 1 ≡ weigh (left_for t) s.workers
 
+-- a worker goes by R, and the node n is one of those that it had
+valid_had : (t : Rules) (root : Node) (s s' : State) (w : ℕ) (R : Holding → Holding → Type 0) (a : At w R s.workers s'.workers) (n : Node) → is_node n n ≤ weigh_holding (is_node n) a.old → Conserves t root s → IsValid t n
+valid_had t root s s' w R a n had c = valid_one t root s n (omega (arith, had, at_le (weigh_holding (is_node n)) w R s.workers s'.workers a)) c
+
+-- the node in the hand is split, and its right part goes elsewhere
+falls_split : (t : Rules) → IsSound t → (root : Node) (s s' : State) (w : ℕ) (R : Holding → Holding → Type 0) (a : At w R s.workers s'.workers) (n : Node) → a.old.hand ≡ Some n → t.verdict n ≡ Split
+    → left_for t a.new ≡ in_hand t (t.parts n).0 + elsewhere t (t.parts n).1 + (weigh (elsewhere t) a.old.deque + weigh (elsewhere t) a.old.kept) → Conserves t root s → Falls t s s'
+unfolding Falls
+falls_split t sound root s s' w R a n held split new c =
+    let v : IsValid t n = valid_had t root s s' w R a n (omega (arith, ap (weigh_hand (is_node n)) held)) c in
+    omega (arith, at_weigh (left_for t) w R s.workers s'.workers a, split_length t sound n v split, new, ap (weigh_hand (in_hand t)) held)
+
+-- a node that the worker had elsewhere comes into the hand
+falls_taken : (t : Rules) → IsSound t → (root : Node) (s s' : State) (w : ℕ) (R : Holding → Holding → Type 0) (a : At w R s.workers s'.workers) (n : Node) → is_node n n ≤ weigh_holding (is_node n) a.old
+    → left_for t a.new + elsewhere t n ≡ left_for t a.old + in_hand t n → Conserves t root s → Falls t s s'
+unfolding Falls
+falls_taken t sound root s s' w R a n had new c =
+    omega (arith, at_weigh (left_for t) w R s.workers s'.workers a, some_leaves t sound n (valid_had t root s s' w R a n had c), new)
+
 step_falls_in : (t : Rules) → IsSound t → (root : Node) (s : State) (x : Step) (s' : State) → Steps t s x s' → Conserves t root s → Falls t s s'
 unfolding Falls
-step_falls_in t sound root s (Push w) s' p c =
-    let a = p.0 in
-    let d = a.goes in
-    let hand = ap (weigh_hand (is_node d.node)) d.in_hand in
-    let whole = at_le (weigh_holding (is_node d.node)) w (Pushes t) s.workers s'.workers a in
-    let v : IsValid t d.node = valid_one t root s d.node (omega arith) c in
-    omega (
-      arith,
-      at_weigh (left_for t) w (Pushes t) s.workers s'.workers a,
-      split_length t sound d.node v d.split,
-      ap (left_for t) d.after,
-      ap (weigh_hand (in_hand t)) d.in_hand,
-      weigh-push (elsewhere t) a.old.deque (t.parts d.node).1,
-    )
-step_falls_in t sound root s (Keep w) s' p c =
-    let a = p.0 in
-    let d = a.goes in
-    let hand = ap (weigh_hand (is_node d.node)) d.in_hand in
-    let whole = at_le (weigh_holding (is_node d.node)) w (Keeps t) s.workers s'.workers a in
-    let v : IsValid t d.node = valid_one t root s d.node (omega arith) c in
-    omega (
-      arith,
-      at_weigh (left_for t) w (Keeps t) s.workers s'.workers a,
-      split_length t sound d.node v d.split,
-      ap (left_for t) d.after,
-      ap (weigh_hand (in_hand t)) d.in_hand,
-      weigh-push (elsewhere t) a.old.kept (t.parts d.node).1,
-    )
-step_falls_in t sound root s (Pop w) s' p c =
-    let a = p.0 in
-    let d = a.goes in
-    let here = ap (weigh (is_node d.node)) d.front in
-    let whole = at_le (weigh_holding (is_node d.node)) w Pops s.workers s'.workers a in
-    let v : IsValid t d.node = valid_one t root s d.node (let one = is_itself d.node in omega arith) c in
-    omega (
-      arith,
-      at_weigh (left_for t) w Pops s.workers s'.workers a,
-      some_leaves t sound d.node v,
-      ap (left_for t) d.after,
-      ap (weigh_hand (in_hand t)) d.empty,
-      ap (weigh (elsewhere t)) d.front,
-    )
-step_falls_in t sound root s (TakeKept w) s' p c =
-    let a = p.0 in
-    let d = a.goes in
-    let here = ap (weigh (is_node d.node)) d.top ∙ weigh-push (is_node d.node) d.rest d.node in
-    let whole = at_le (weigh_holding (is_node d.node)) w TakesKept s.workers s'.workers a in
-    let v : IsValid t d.node = valid_one t root s d.node (omega arith) c in
-    omega (
-      arith,
-      at_weigh (left_for t) w TakesKept s.workers s'.workers a,
-      some_leaves t sound d.node v,
-      ap (left_for t) d.after,
-      ap (weigh_hand (in_hand t)) d.empty,
-      ap (weigh (elsewhere t)) d.top,
-      weigh-push (elsewhere t) d.rest d.node,
-    )
+step_falls_in t sound root s (Push w) s' p c = let d = p.0.goes in
+    falls_split t sound root s s' w (Pushes t) p.0 d.node d.in_hand d.split (omega (arith, ap (left_for t) d.after, weigh-push (elsewhere t) p.0.old.deque (t.parts d.node).1)) c
+step_falls_in t sound root s (Keep w) s' p c = let d = p.0.goes in
+    falls_split t sound root s s' w (Keeps t) p.0 d.node d.in_hand d.split (omega (arith, ap (left_for t) d.after, weigh-push (elsewhere t) p.0.old.kept (t.parts d.node).1)) c
+step_falls_in t sound root s (Pop w) s' p c = let d = p.0.goes in
+    falls_taken t sound root s s' w Pops p.0 d.node
+    (let here = ap (weigh (is_node d.node)) d.front in omega arith)
+    (omega (arith, ap (left_for t) d.after, ap (weigh_hand (in_hand t)) d.empty, ap (weigh (elsewhere t)) d.front)) c
+step_falls_in t sound root s (TakeKept w) s' p c = let d = p.0.goes in
+    falls_taken t sound root s s' w TakesKept p.0 d.node
+    (let here = ap (weigh (is_node d.node)) d.top ∙ weigh-push (is_node d.node) d.rest d.node in omega arith)
+    (omega (arith, ap (left_for t) d.after, ap (weigh_hand (in_hand t)) d.empty, ap (weigh (elsewhere t)) d.top, weigh-push (elsewhere t) d.rest d.node)) c
 step_falls_in t sound root s (Steal w from) s' p c =
     let give = p.0.gives in
     let get = p.0.gets in
     let n : Node = p.0.node in
     let here = ap (weigh (is_node n)) give.goes.front in
-    let whole = at_le (weigh_holding (is_node n)) from (GivesUp n) s.workers p.0.between give in
-    let v : IsValid t n = valid_one t root s n (omega arith) c in
+    let v : IsValid t n = valid_one t root s n (omega (arith, at_le (weigh_holding (is_node n)) from (GivesUp n) s.workers p.0.between give)) c in
     omega (
       arith,
       at_weigh (left_for t) from (GivesUp n) s.workers p.0.between give,
@@ -134,15 +107,12 @@ step_falls_in t sound root s (Steal w from) s' p c =
       ap (weigh_hand (in_hand t)) get.goes.empty,
     )
 step_falls_in t sound root s (Enter w) s' p c =
-    let l : Leaf = p.0 in
     let a = p.1 in
     let d = a.goes in
-    let hand = ap (weigh_hand (is_node d.node)) d.in_hand in
-    let whole = at_le (weigh_holding (is_node d.node)) w (Enters t l) s.workers s'.workers a in
-    let v : IsValid t d.node = valid_one t root s d.node (omega arith) c in
+    let v : IsValid t d.node = valid_had t root s s' w (Enters t p.0) a d.node (omega (arith, ap (weigh_hand (is_node d.node)) d.in_hand)) c in
     omega (
       arith,
-      at_weigh (left_for t) w (Enters t l) s.workers s'.workers a,
+      at_weigh (left_for t) w (Enters t p.0) s.workers s'.workers a,
       ap length (leaves_settled t sound d.node v d.mark d.marked),
       ap (left_for t) d.after,
       ap (weigh_hand (in_hand t)) d.in_hand,

@@ -1,5 +1,5 @@
 -- Each step keeps the tiling.
-use Rattle.std.proofs.Common.{◌≡◌, ℕ, ◌+◌, ◌≤◌, ℤ, List, [], ◌∷◌, ◌++◌, flat_map, All, IsPermutation, sym, ap, ◌∙◌, subst, append_assoc, arith}
+use Rattle.std.proofs.Common.{◌≡◌, ℕ, ◌+◌, ◌≤◌, ℤ, List, [], ◌∷◌, ◌++◌, flat_map, All, IsPermutation, Some, sym, ap, ◌∙◌, subst, append_assoc, arith}
 use Rattle.std.proofs.lemmas.List.Elements.{All-from_recursion, recursion_from_All, All-push}
 use Rattle.std.proofs.lemmas.List.Sorted.{sum_by-IsPermutation}
 use Rattle.std.specs.List.{AllByRecursion}
@@ -10,11 +10,11 @@ use Rattle.spec_trees.specs.Tree.{Rules, IsValid, IsSound, IsCut, IsLeaf, AreLea
 use Rattle.spec_trees.proofs.Leaves.{leaves_split}
 use Rattle.spec_pool.specs.declared.step.Step.{Step}
 use Rattle.spec_pool.specs.declared.step.Step.TheVariants.{Push, Keep, Pop, TakeKept, Steal, Enter}
-use Rattle.spec_pool.specs.Pool.{State, Pushes, Keeps, Pops, TakesKept, Gets, GivesUp, Enters, Steps, Runs}
+use Rattle.spec_pool.specs.Pool.{At, Holding, State, Pushes, Keeps, Pops, TakesKept, Enters, Steps, Runs}
 use Rattle.spec_pool.specs.Tiling.{nodes, Follow, Tiles, Conserves}
 use Rattle.spec_pool.proofs.Weights.{weigh, weigh-append, weigh-push, sum_is_weigh}
 use Rattle.spec_pool.proofs.Finding.{is_node, is_itself, find, nodes_permuted}
-use Rattle.spec_pool.proofs.Moving.{weigh_hand, weigh_holding, weigh_all, nodes_weigh, pushes_weigh, keeps_weigh, pops_weigh, takes_weigh, gets_weigh, gives_weigh, enters_weigh, at_weigh, at_le}
+use Rattle.spec_pool.proofs.Moving.{weigh_hand, weigh_holding, weigh_all, nodes_weigh, pushes_weigh, keeps_weigh, pops_weigh, takes_weigh, steals_weigh, enters_weigh, at_weigh, at_le}
 
 -- ---- the nodes in order, by weight
 pub ordered_weigh : (t : Rules) (root : Node) (s : State) (c : Conserves t root s) (h : Node → ℕ) → weigh_all h s ≡ weigh h c.ordered
@@ -83,37 +83,28 @@ valid_one t root s n here c =
 entered_same : (h : Node → ℕ) (s s' : State) → s'.entered ≡ s.entered → weigh (λ (l : Leaf). h l.node) s'.entered ≡ weigh (λ (l : Leaf). h l.node) s.entered
 entered_same h s s' e = ap (weigh (λ (l : Leaf). h l.node)) e
 
+-- one worker goes by R: a node of its own moves, or the node in its hand is split
+module _ (t : Rules) (root : Node) (s s' : State) (w : ℕ) (R : Holding → Holding → Type 0) (a : At w R s.workers s'.workers) where
+  moves_one : ((h : Node → ℕ) → weigh_holding h a.new ≡ weigh_holding h a.old) → s'.entered ≡ s.entered → Conserves t root s → Conserves t root s'
+  moves_one same e c = moves t root s s' (λ h. omega (arith, at_weigh (weigh_holding h) w R s.workers s'.workers a, same h, entered_same h s s' e)) (subst (AreLeaves t) (sym e) c.entered) c
+
+splits_one : (t : Rules) → IsSound t → (root : Node) (s s' : State) (w : ℕ) (R : Holding → Holding → Type 0) (a : At w R s.workers s'.workers) (n : Node) → a.old.hand ≡ Some n → t.verdict n ≡ Split
+    → ((h : Node → ℕ) → weigh_holding h a.new + h n ≡ weigh_holding h a.old + (h (t.parts n).0 + h (t.parts n).1)) → s'.entered ≡ s.entered → Conserves t root s → Conserves t root s'
+splits_one t sound root s s' w R a n held split same e c =
+    splits t sound root s s' n split
+    (let hand = ap (weigh_hand (is_node n)) held in omega (arith, at_le (weigh_holding (is_node n)) w R s.workers s'.workers a))
+    (λ h. omega (arith, at_weigh (weigh_holding h) w R s.workers s'.workers a, same h, entered_same h s s' e))
+    e c
+
 pub step_conserves : (t : Rules) → IsSound t → (root : Node) (s : State) (x : Step) (s' : State) → Steps t s x s' → Conserves t root s → Conserves t root s'
-step_conserves t sound root s (Push w) s' p c =
-    let a = p.0 in
-    let d = a.goes in
-    splits t sound root s s' d.node d.split
-    (let whole = at_le (weigh_holding (is_node d.node)) w (Pushes t) s.workers s'.workers a in let hand = ap (weigh_hand (is_node d.node)) d.in_hand in omega arith)
-    (λ h. omega (arith, at_weigh (weigh_holding h) w (Pushes t) s.workers s'.workers a, pushes_weigh t h a.old a.new d, entered_same h s s' p.1))
-    p.1 c
-step_conserves t sound root s (Keep w) s' p c =
-    let a = p.0 in
-    let d = a.goes in
-    splits t sound root s s' d.node d.split
-    (let whole = at_le (weigh_holding (is_node d.node)) w (Keeps t) s.workers s'.workers a in let hand = ap (weigh_hand (is_node d.node)) d.in_hand in omega arith)
-    (λ h. omega (arith, at_weigh (weigh_holding h) w (Keeps t) s.workers s'.workers a, keeps_weigh t h a.old a.new d, entered_same h s s' p.1))
-    p.1 c
-step_conserves t sound root s (Pop w) s' p c =
-    moves t root s s' (λ h. omega (arith, at_weigh (weigh_holding h) w Pops s.workers s'.workers p.0, pops_weigh h p.0.old p.0.new p.0.goes, entered_same h s s' p.1))
-    (subst (AreLeaves t) (sym p.1) c.entered) c
-step_conserves t sound root s (TakeKept w) s' p c =
-    moves t root s s' (λ h. omega (arith, at_weigh (weigh_holding h) w TakesKept s.workers s'.workers p.0, takes_weigh h p.0.old p.0.new p.0.goes, entered_same h s s' p.1))
-    (subst (AreLeaves t) (sym p.1) c.entered) c
+step_conserves t sound root s (Push w) s' p c = let d = p.0.goes in
+    splits_one t sound root s s' w (Pushes t) p.0 d.node d.in_hand d.split (λ h. pushes_weigh t h p.0.old p.0.new d) p.1 c
+step_conserves t sound root s (Keep w) s' p c = let d = p.0.goes in
+    splits_one t sound root s s' w (Keeps t) p.0 d.node d.in_hand d.split (λ h. keeps_weigh t h p.0.old p.0.new d) p.1 c
+step_conserves t sound root s (Pop w) s' p c = moves_one t root s s' w Pops p.0 (λ h. pops_weigh h p.0.old p.0.new p.0.goes) p.1 c
+step_conserves t sound root s (TakeKept w) s' p c = moves_one t root s s' w TakesKept p.0 (λ h. takes_weigh h p.0.old p.0.new p.0.goes) p.1 c
 step_conserves t sound root s (Steal w from) s' p c =
-    let d = p.0 in
-    moves t root s s' (λ h. omega (
-      arith,
-      at_weigh (weigh_holding h) from (GivesUp d.node) s.workers d.between d.gives,
-      gives_weigh h d.node d.gives.old d.gives.new d.gives.goes,
-      at_weigh (weigh_holding h) w (Gets d.node) d.between s'.workers d.gets,
-      gets_weigh h d.node d.gets.old d.gets.new d.gets.goes,
-      entered_same h s s' p.1,
-    )) (subst (AreLeaves t) (sym p.1) c.entered) c
+    moves t root s s' (λ h. omega (arith, steals_weigh h w from s.workers s'.workers p.0, entered_same h s s' p.1)) (subst (AreLeaves t) (sym p.1) c.entered) c
 step_conserves t sound root s (Enter w) s' p c =
     let l : Leaf = p.0 in
     let a = p.1 in

@@ -3,7 +3,7 @@ use Rattle.std.proofs.Common.{◌≡◌, ℕ, ◌+◌, ◌≤◌, List, ◌++◌
 use Rattle.spec_trees.specs.declared.tree.Node.{Node}
 use Rattle.spec_trees.specs.declared.tree.Leaf.{Leaf}
 use Rattle.spec_trees.specs.Tree.{Rules}
-use Rattle.spec_pool.specs.Pool.{Holding, State, Pushes, Keeps, Pops, TakesKept, Gets, GivesUp, Enters, At}
+use Rattle.spec_pool.specs.Pool.{Holding, State, Pushes, Keeps, Pops, TakesKept, Gets, GivesUp, Enters, At, Steals}
 use Rattle.spec_pool.specs.Tiling.{held, nodes}
 use Rattle.spec_pool.proofs.Weights.{weigh, weigh-append, weigh-push, weigh-set, weigh-get, weigh-map, weigh-flat, weigh-same}
 
@@ -63,3 +63,12 @@ at_weigh f w R s s' p = omega (arith, ap (weigh f) p.others, weigh-set f s w p.o
 
 pub at_le : (f : Holding → ℕ) (w : ℕ) (R : Holding → Holding → Type 0) (s s' : List Holding) (p : At w R s s') → f p.old ≤ weigh f s
 at_le f w R s s' p = weigh-get f s w p.old p.here
+
+pub steals_weigh : (h : Node → ℕ) (w from : ℕ) (s s' : List Holding) (p : Steals w from s s') → weigh (weigh_holding h) s' ≡ weigh (weigh_holding h) s
+steals_weigh h w from s s' p = omega (
+  arith,
+  at_weigh (weigh_holding h) from (GivesUp p.node) s p.between p.gives,
+  gives_weigh h p.node p.gives.old p.gives.new p.gives.goes,
+  at_weigh (weigh_holding h) w (Gets p.node) p.between s' p.gets,
+  gets_weigh h p.node p.gets.old p.gets.new p.gets.goes,
+)

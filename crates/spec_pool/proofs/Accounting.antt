@@ -7,6 +7,11 @@ use Rattle.spec_pool.specs.declared.step.Step.TheVariants.{Push, Keep, Pop, Take
 use Rattle.spec_pool.specs.Pool.{Holding, State, At, Steps}
 use Rattle.spec_pool.specs.Accounts.{Account, Deque, Accounts, PutsRight, KeepsRight, TakesNode, TakesTop, EntersNode, GainsBack, LosesFront, Accounted, AreAccounts}
 
+pub same_set : {A : Type 0} (xs : List A) (k : ℕ) (x : A) → slice_get xs k ≡ Some x → slice_set xs k x ≡ xs
+same_set [] k x e = refl
+same_set {A = A} (y ∷ xs) zero x e = let same : x ≡ y = cc in ap (λ (z : A). z ∷ xs) same
+same_set {A = A} (y ∷ xs) (suc k) x e = ap (λ (l : List A). y ∷ l) (same_set xs k x e)
+
 -- ---- lists that agree by what is seen of their elements
 module _ {A B C : Type 0} (f : A → C) (g : B → C) where
   -- the element beside one
@@ -39,17 +44,9 @@ module _ {A B C : Type 0} (f : A → C) (g : B → C) where
 
   -- where what is seen of the changed element stays
   set_one : (cs : List A) (xs : List B) (w : ℕ) (x y : B) → map f cs ≡ map g xs → slice_get xs w ≡ Some x → g y ≡ g x → map f cs ≡ map g (slice_set xs w y)
-  set_one cs [] w x y e at same = absurd cc
-  set_one [] (z ∷ xs) w x y e at same = absurd cc
-  set_one (c ∷ cs) (z ∷ xs) zero x y e at same =
-      let first : f c ≡ g z = cc in
-      let is : z ≡ x = cc in
-      let rest : map f cs ≡ map g xs = cc in
-      λ i. (first ∙ ap g is ∙ sym same) i ∷ rest i
-  set_one (c ∷ cs) (z ∷ xs) (suc w) x y e at same =
-      let first : f c ≡ g z = cc in
-      let rest : map f cs ≡ map g xs = cc in
-      λ i. first i ∷ set_one cs xs w x y rest at same i
+  set_one cs xs w x y e at same =
+      let one = beside cs xs w x e at in
+      ap (map f) (sym (same_set cs w one.0 one.1)) ∙ set_both cs xs w one.0 y e (one.2 ∙ sym same)
 
 -- ---- each step changes the accounts
 abbrev pub hand_of : Account → Option Node

@@ -20,7 +20,7 @@ use Rattle.spec_pool.proofs.Moving.{weigh_holding}
 use Rattle.spec_pool.proofs.Keeping.{ordered_weigh}
 use Rattle.spec_pool.proofs.Falling.{left_for, todo_is, step_falls}
 
--- a list that isn't empty has a last element
+-- a list that is not empty has a last element
 last : (n : Node) (ns : List Node) → (m : Node) × (rest : List Node) × (n ∷ ns ≡ rest ++ m ∷ [])
 last n [] = (n, [], refl)
 last n (m ∷ ns) = let r = last m ns in (r.0, n ∷ r.1, ap (λ (l : List Node). n ∷ l) r.2)

@@ -60,7 +60,7 @@ pub record TakesTop (a b : Account) : Type 0 where
   pub top : a.kept ≡ rest ++ node ∷ []
   pub after : b ≡ record a { hand = Some node; kept = rest }
 
--- the hand's node isn't to be split, and is entered as a leaf
+-- the hand's node is not to be split, and is entered as a leaf
 pub record EntersNode (t : Rules) (a b : Account) : Type 0 where
   pub node : Node
   pub mark : Mark

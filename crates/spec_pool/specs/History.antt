@@ -86,7 +86,7 @@ entered p e = part_of p.number (p.mine ++ e ∷ []) p.again (p.seen ++ e ∷ [])
 abbrev pub repeated : Part → Leaf → Part
 repeated p leaf = part_of p.number p.mine (p.again ++ leaf ∷ []) p.seen
 
--- what an answer says of the history that was met, and of the seat before and after
+-- what holds of the history that was met and of the seat before and after, for each answer
 abbrev pub Tells : ℕ → List Booked → Booked → Part → Part → Entry → Type 0
 Tells limit log e p q (Entered place) = Fresh e.leaf log × (place ≡ length log) × (q ≡ entered (saw p log) e)
 Tells limit log e p q (Again place) = Stands e.leaf log place × (q ≡ repeated (saw p log) e.leaf)

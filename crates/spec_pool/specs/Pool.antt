@@ -76,7 +76,7 @@ pub record GivesUp (node : Node) (x y : Holding) : Type 0 where
   pub front : x.deque ≡ node ∷ rest
   pub after : y ≡ holding x.hand rest x.kept
 
--- the hand's node isn't to be split, and goes away as this leaf
+-- the hand's node is not to be split, and goes away as this leaf
 pub record Enters (t : Rules) (leaf : Leaf) (x y : Holding) : Type 0 where
   pub node : Node
   pub mark : Mark

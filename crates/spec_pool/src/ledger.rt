@@ -21,7 +21,7 @@ pub struct Part {
 }
 
 /// What entering a leaf returns: it stands at `place` now; it stood there already; as many leaves as the limit stood,
-/// and this one wasn't among them; or memory ran out.
+/// and this one was not among them; or memory ran out.
 #[derive(Debug, Drop, PartialEq, Eq)]
 pub enum Entry {
     Entered { place: u32 },
@@ -30,7 +30,7 @@ pub enum Entry {
     Memory,
 }
 
-/// Why a ledger wasn't closed: `given` seats came back of the `made` ones.
+/// Why a ledger was not closed: `given` seats came back of the `made` ones.
 #[derive(Debug, Drop, PartialEq, Eq)]
 pub enum CloseError {
     Missing { given: u32, made: u32 },

@@ -34,22 +34,33 @@ run_le : (k n c : ℕ) → run_of k n c ≤ 1
 run_le k n zero = omega arith
 run_le k n (suc c) = run_by k n c (ℕ_discrete n k) (run_le k (n + 1) c)
 
+-- the views change, and the words and the slot stay
+with_views : (t : Terms) (words : List ℕ) (homes : List (M.Option Slot)) (old new : List View) (k : Keeps t words homes old) → sum_by (λ (v : View). v.holds) new ≡ k.lock → ((j : ℕ) → sum_by (taken j) new ≤ 1) → sum_by size new ≤ t.seats
+    → ((p : ℕ) (v : View) → get_elem? new p ≡ M.some v → Fits t k.log v) → Keeps t words homes new
+with_views t words homes old new k holders numbers counted fit = record {
+  log = k.log;
+  word = k.word;
+  lock = k.lock;
+  bit = k.bit;
+  words_are = k.words_are;
+  homes_are = k.homes_are;
+  holders = holders;
+  numbers = numbers;
+  counted = counted;
+  fit = fit;
+  sound = k.sound;
+}
+
 pub splits : (t : Terms) (id : ℕ) (v : View) → v.low < v.high → Splits (Kept t) id v (maker_after v) (made v)
 splits t id v room s k at =
     let w : View = maker_after v in
     let n : View = made v in
     let old = k.fit id v at in
-    record {
-      log = k.log;
-      word = k.word;
-      lock = k.lock;
-      bit = k.bit;
-      words_are = k.words_are;
-      homes_are = k.homes_are;
-      holders = omega (arith, k.holders, sum_by_push (λ (u : View). u.holds) (slice_set s.views id w) n, total_set (λ (u : View). u.holds) s.views id v w at);
-      numbers = λ j. omega (arith, k.numbers j, sum_by_push (taken j) (slice_set s.views id w) n, total_set (taken j) s.views id v w at, run_step j v.low v.high room);
-      counted = omega (arith, k.counted, sum_by_push size (slice_set s.views id w) n, total_set size s.views id v w at, room);
-      fit = λ i u g. ⊎_elim
+    with_views t s.words s.homes s.views (slice_set s.views id w ++ n ∷ []) k
+      (omega (arith, k.holders, sum_by_push (λ (u : View). u.holds) (slice_set s.views id w) n, total_set (λ (u : View). u.holds) s.views id v w at))
+      (λ j. omega (arith, k.numbers j, sum_by_push (taken j) (slice_set s.views id w) n, total_set (taken j) s.views id v w at, run_step j v.low v.high room))
+      (omega (arith, k.counted, sum_by_push size (slice_set s.views id w) n, total_set size s.views id v w at, room))
+      (λ i u g. ⊎_elim
           (λ (e : get_elem? (slice_set s.views id w) i ≡ M.some u). all_set (λ i u. Fits t k.log u) s.views id w (record {
             parts = old.parts;
             below = old.below;
@@ -66,9 +77,7 @@ splits t id v room s k at =
             current = λ z. absurd (omega (arith, z));
             fresh = λ j le. absurd (omega (arith, le));
           }))
-          (at_snoc (slice_set s.views id w) n u i g);
-      sound = k.sound;
-    }
+          (at_snoc (slice_set s.views id w) n u i g))
 
 times-append : (k : ℕ) (ps qs : List Part) → times k (ps ++ qs) ≡ times k ps + times k qs
 times-append k [] qs = omega arith
@@ -85,17 +94,11 @@ joins t id v other w idle idle' s k at far there =
     let old = k.fit id v at in
     let from : get_elem? s.views other ≡ M.some w = ⊎_elim (λ (z : (other ≡ id) × (b ≡ w)). absurd (far z.0)) (λ (z : (other ≢ id) × (get_elem? s.views other ≡ M.some w)). z.1) (at_set s.views id other b w there) in
     let new = k.fit other w from in
-    record {
-      log = k.log;
-      word = k.word;
-      lock = k.lock;
-      bit = k.bit;
-      words_are = k.words_are;
-      homes_are = k.homes_are;
-      holders = omega (arith, k.holders, total_set (λ (u : View). u.holds) s.views id v b at, total_set (λ (u : View). u.holds) mid other w spent there);
-      numbers = λ j. omega (arith, k.numbers j, times-append j v.parts w.parts, total_set (taken j) s.views id v b at, total_set (taken j) mid other w spent there);
-      counted = omega (arith, k.counted, length-append v.parts w.parts, total_set size s.views id v b at, total_set size mid other w spent there);
-      fit = all_set (λ i u. Fits t k.log u) mid other spent (record {
+    with_views t s.words s.homes s.views (slice_set mid other spent) k
+      (omega (arith, k.holders, total_set (λ (u : View). u.holds) s.views id v b at, total_set (λ (u : View). u.holds) mid other w spent there))
+      (λ j. omega (arith, k.numbers j, times-append j v.parts w.parts, total_set (taken j) s.views id v b at, total_set (taken j) mid other w spent there))
+      (omega (arith, k.counted, length-append v.parts w.parts, total_set size s.views id v b at, total_set size mid other w spent there))
+      (all_set (λ i u. Fits t k.log u) mid other spent (record {
         parts = tt;
         below = omega arith;
         numbers = λ j le. refl;
@@ -109,9 +112,7 @@ joins t id v other w idle idle' s k at far there =
         idle = λ _. omega (arith, idle, idle');
         current = λ z. absurd (omega (arith, z, idle, idle'));
         fresh = old.fresh;
-      }) (λ i u other e. k.fit i u e) i u e);
-      sound = k.sound;
-    }
+      }) (λ i u other e. k.fit i u e) i u e))
 
 one_view : (v u : View) (i : ℕ) → get_elem? (v ∷ []) i ≡ M.some u → v ≡ u
 one_view v u zero e = M.some-injective v u e

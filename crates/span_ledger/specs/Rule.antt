@@ -106,7 +106,7 @@ Frees st m zero n = n ≡ (with_part m.0 0 (the_part m.0.parts), [])
 Frees st m (suc zero) n = ⊤
 Frees st m (suc (suc i)) n = (e : Booked) × (get_elem? (the_part m.0.parts).seen i ≡ M.some e) × (n ≡ (with_part m.0 0 (repeated (the_part m.0.parts) e.leaf), []))
 
--- what is written into the book and told to the rule before the lock is given back
+-- what is written into the book and known to the rule before the lock is given back
 abbrev pub Writes : ℕ → Sat → Booked → Entry → Sat → Type 0
 Writes limit m e (Entered place) n = Fresh e.leaf (the_part m.0.parts).seen × (place ≡ length (the_part m.0.parts).seen) × (n ≡ (with_part m.0 m.0.holds (entered (the_part m.0.parts) e), (0, Some ((the_part m.0.parts).seen ++ e ∷ [])) ∷ []))
 Writes limit m e (Again place) n = Stands e.leaf (the_part m.0.parts).seen place × (n ≡ m)

@@ -45,7 +45,7 @@ AreNew ledger seats = (k : ℕ) (d : LedgerSeat) → k < length seats → IsNew 
 abbrev pub AllFit : List Booked → List LedgerSeat → Type 0
 AllFit log seats = All (λ s. FitsPart log (part s)) seats
 
--- the two numbers that are told
+-- the two numbers that are reported
 abbrev pub IsMissing : ℕ → ℕ → CloseError → Type 0
 IsMissing given made (Missing g m) = (g ≡ min given 4294967295) × (m ≡ made)
 

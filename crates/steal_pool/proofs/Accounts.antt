@@ -178,6 +178,11 @@ keeps_right t w v p left right (n, hand, split, parts) e = record {
   after = ap (λ (u : Holder). account_of u p) e ∙ ap (λ (y : Node × Node). account_of (on_stack w y.0 y.1) p) (sym parts);
 }
 
+-- the same of a seat whose right part is given
+module _ (t r : Rules) (root : Node) (w v : Holder) (p : Part) (node left right : Node) (named : t ≡ rules_within r root) (is : IsRight t w right) (held : w.hand ≡ Some node) (part : left ≡ (r.parts node).0) where
+  pub split_changes : (R : Account → Account → Type 0) → (IsSplit t w left right → R (account_of w p) (account_of v p)) → (b : Account) × R (account_of w p) b × IsLike b (account_of v p)
+  split_changes R goes = (account_of v p, goes (is_split t r root w node left right named is held part), like_itself (account_of v p))
+
 other_taken : (h : Node → ℕ) (n : Node) (es fs : List End) → TookOne n es fs → weigh (λ (e : End). weigh h e.view.taken) fs ≡ weigh (λ (e : End). weigh h e.view.taken) es + h n
 other_taken h n es fs (k, e, at, is) = omega (
   arith,
@@ -218,7 +223,7 @@ gets n w v p none (inl (rest, top, e)) = (
   ),
   like_itself (account_of v p),
 )
-gets n w v p none (inr (inl (empty, e))) = from_deque n w v p none (ap (λ (u : Holder). u.hand) e) (ap (λ (u : Holder). u.kept) e) (ap (λ (u : Holder). u.own.view.put) e) (inl e)
+gets n w v p none (inr (inl (empty, oldest, e))) = from_deque n w v p none (ap (λ (u : Holder). u.hand) e) (ap (λ (u : Holder). u.kept) e) (ap (λ (u : Holder). u.own.view.put) e) (inl e)
 gets n w v p none (inr (inr (empty, used, (es, took, e)))) = from_deque n w v p none (ap (λ (u : Holder). u.hand) e) (ap (λ (u : Holder). u.kept) e) (ap (λ (u : Holder). u.own.view.put) e) (inr (es, took, e))
 
 -- ---- each balances
@@ -229,7 +234,7 @@ takes_works t n w v p none (inl (rest, top, e)) = works t w p v p [] [] [] (
   (λ h. omega arith),
   (λ h. omega (arith, ap (own_weight t h) e, ap (weigh_hand (by_leaves t h)) none, ap (weigh (by_leaves t h)) top, weigh-push (by_leaves t h) rest n)),
 )
-takes_works t n w v p none (inr (inl (empty, e))) = works t w p v p [] (n ∷ []) [] (
+takes_works t n w v p none (inr (inl (empty, oldest, e))) = works t w p v p [] (n ∷ []) [] (
   ap (λ (u : Holder). u.own.view.put) e ∙ sym (append-nil w.own.view.put),
   (λ h. omega (arith, taken_more h n w v (inl e))),
   (λ h. omega arith),
@@ -287,7 +292,7 @@ places_set (x ∷ es) (suc k) e f at same = ap (λ (ys : List (ℕ × DequeId)).
 
 pub takes_ways : (n : Node) (w v : Holder) → Takes n w v → ways v ≡ ways w
 takes_ways n w v (inl (rest, top, e)) = ap ways e
-takes_ways n w v (inr (inl (empty, e))) = ap ways e
+takes_ways n w v (inr (inl (empty, oldest, e))) = ap ways e
 takes_ways n w v (inr (inr (empty, used, (es, (k, x, at, is), e)))) =
     ap ways e ∙ ap (λ (ys : List (ℕ × DequeId)). ways_of (place_of w.own) w.own.view.made ys)
     (ap (map place_of) is ∙ places_set w.stealers k x (takes_one x n) at refl)

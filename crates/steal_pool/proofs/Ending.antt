@@ -20,6 +20,7 @@ use Rattle.steal_pool.specs.Seats.{IsFullOf, IsLeft, Seat, Ways, entered_by, pla
 use Rattle.steal_pool.specs.Pools.{AccountFor, AreLinked, ComeBack, IsLeftOver, IsRefused, KeepNone, NoneIsOutOfMemory, entered_in, own_of, stealers_on, right_of, seat_right, taken_of, ways_of_all}
 use Rattle.steal_pool.specs.Stealers.{HasNoStealer, Joined, lasting}
 use Rattle.steal_pool.specs.Closing.{Drains, Ended, HasUsedUp, Leaves, SomeIsFull, worst_stop}
+use Rattle.steal_pool.proofs.Rule.{left_permuted}
 use Rattle.steal_pool.proofs.Accounts.{entered_weigh, entered_weight, own_weight, same_weights, taken_weight}
 use Rattle.steal_pool.specs.Runs.{IsLater}
 use Rattle.steal_pool.proofs.Pooling.{later_same, same_linked}
@@ -148,7 +149,7 @@ module _ (t : Rules) (ss qs : List Seat) (es : List LedgerSeat) (d : Ended t ss 
   deque_left : (k : ℕ) (s : Seat) → slice_get qs k ≡ Some s → (left : List Node) × ((h : Node → ℕ) → weigh h s.worker.own.view.put ≡ taken_weight h s.worker + weigh h left)
   deque_left k s at =
       let e = zip_at Leaves qs es k s b at in
-      let l = e.2.left (none_made k s at) in
+      let l = left_permuted s.worker.own.view e.2.left (none_made k s at) in
       (l.0, λ h. omega (arith, own_only h k s at, same_weights h s.worker.own.view.put (s.worker.own.view.taken ++ l.0) l.1, weigh-append h s.worker.own.view.taken l.0))
 
 sum_left : (xs : List Seat) → ((k : ℕ) (s : Seat) → slice_get xs k ≡ Some s → (left : List Node) × ((h : Node → ℕ) → weigh h s.worker.own.view.put ≡ taken_weight h s.worker + weigh h left))

@@ -1,4 +1,4 @@
--- What taking a node says of a seat, in one answer or the other.
+-- What holds for a seat once it took a node, or found none.
 use Rattle.std.proofs.Common.{◌≡◌, Option, Some, None, MatchOption, IfSome, ap}
 use Rattle.spec_trees.specs.declared.tree.Node.{Node}
 use Rattle.spec_trees.specs.Tree.{Rules}

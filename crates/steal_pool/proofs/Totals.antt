@@ -1,5 +1,5 @@
 -- Totals over the views of a deque.
-use Rattle.std.proofs.Common.{◌≡◌, ℕ, zero, suc, List, [], ◌∷◌, refl, sym, ap, subst, sum_by, arith}
+use Rattle.std.proofs.Common.{◌≡◌, ℕ, zero, suc, List, [], ◌∷◌, refl, sym, ap, subst, slice_set, sum_by, arith}
 use Rattle.std.proofs.lemmas.List.Sums.{sum_by-cons}
 use Rattle.std.specs.List.{AllByRecursion}
 use mathlib.Core.Option.{some, some-ne-none}
@@ -11,10 +11,33 @@ use Rattle.steal_pool.specs.Rule.{Fits}
 abbrev pub AllFit : List View → Type 0
 AllFit views = AllByRecursion Fits views
 
+pub view_get : (P : View → Type 0) (views : List View) (port : ℕ) (v : View) → get_elem? views port ≡ some v → AllByRecursion P views → P v
+view_get P [] port v e a = absurd (some-ne-none v (sym e))
+view_get P (x ∷ xs) zero v e a = let same : x ≡ v = cc in subst P same a.0
+view_get P (x ∷ xs) (suc k) v e a = view_get P xs k v e a.1
+
 pub fit_get : (views : List View) (port : ℕ) (v : View) → get_elem? views port ≡ some v → AllFit views → Fits v
-fit_get [] port v e a = absurd (some-ne-none v (sym e))
-fit_get (x ∷ xs) zero v e a = let same : x ≡ v = cc in subst Fits same a.0
-fit_get (x ∷ xs) (suc k) v e a = fit_get xs k v e a.1
+fit_get views port v e a = view_get Fits views port v e a
+
+-- what holds of the owner's view, where there is none, and where the owner's is set to another
+no_owner : (P : View → Type 0) (views : List View) → sum_by (λ (u : View). u.owner) views ≡ 0 → AllByRecursion (λ u. u.owner ≡ 1 → P u) views
+no_owner P [] o = tt
+no_owner P (x ∷ xs) o =
+    let owners = sum_by-cons (λ (u : View). u.owner) x xs in
+    (λ mine. absurd (omega (arith, mine, owners, o)), no_owner P xs (omega (arith, owners, o)))
+
+pub owner_set : (P : View → Type 0) (views : List View) (port : ℕ) (v w : View) → sum_by (λ (u : View). u.owner) views ≡ 1 → get_elem? views port ≡ some v → v.owner ≡ 1 → P w
+    → AllByRecursion (λ u. u.owner ≡ 1 → P u) (slice_set views port w)
+owner_set P [] port v w o e mine p = absurd (some-ne-none v (sym e))
+owner_set P (x ∷ xs) zero v w o e mine p =
+    let same : x ≡ v = cc in
+    let is : x.owner ≡ v.owner = ap (λ (u : View). u.owner) same in
+    let owners = sum_by-cons (λ (u : View). u.owner) x xs in
+    (λ _. p, no_owner P xs (omega (arith, owners, o, is, mine)))
+owner_set P (x ∷ xs) (suc k) v w o e mine p =
+    let le = total_le (λ (u : View). u.owner) xs k v e in
+    let owners = sum_by-cons (λ (u : View). u.owner) x xs in
+    (λ other. absurd (omega (arith, other, owners, o, le, mine)), owner_set P xs k v w (omega (arith, owners, o, le, mine)) e mine p)
 
 -- a total that is 0 at each view but the owner's, which is the only one
 none_else : (f : View → ℕ) (views : List View) → ((u : View) → Fits u → u.owner ≡ 0 → u.out ≡ 0 → f u ≡ 0) → AllFit views → sum_by (λ (u : View). u.owner) views ≡ 0 → sum_by (λ (u : View). u.out) views ≡ 0 → sum_by f views ≡ 0

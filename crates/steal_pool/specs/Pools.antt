@@ -119,7 +119,7 @@ ComeBack ss es = map seat_right es ≡ map right_of ss
 abbrev pub entered_in : List LedgerSeat → List Leaf
 entered_in es = flat_map (λ e. entered_by (part e)) es
 
--- one of them has seen as many entries as the limit, and the leaf isn't among them
+-- one of them has seen as many entries as the limit, and the leaf is not among them
 abbrev pub IsRefused : List Seat → List LedgerSeat → Leaf → Type 0
 IsRefused ss es leaf =
     (k : ℕ) × (s : Seat) × (e : LedgerSeat) × (slice_get ss k ≡ Some s) × (slice_get es k ≡ Some e)

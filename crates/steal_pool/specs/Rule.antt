@@ -1,5 +1,5 @@
 -- The rule of one deque. Its owner and each stealer on it know what they put and what they took; put together, the nodes
--- that it holds and those that anybody took are those that its owner put on it.
+-- that anybody took and those that it holds are those that its owner put on it, in this order: first in, first out.
 use Rattle.std.specs.Prelude.{◌≡◌, ℕ, ◌+◌, ◌-◌, pos, List, [], ◌∷◌, ◌++◌, sum_by, IsPermutation}
 use Rattle.std.specs.List.{AllByRecursion}
 use Rattle.std.specs.Global.{Global}
@@ -50,13 +50,22 @@ HasTaken t v xs w = (w ≡ with_taken v xs) × AreValid t xs
 abbrev pub IsUsedUp : View → Type 0
 IsUsedUp v = v.made ≡ 0 → IsPermutation v.put v.taken
 
--- where no stealer is out, the nodes that the owner put are those that it took and some that are left
-abbrev pub HasLeft : View → Type 0
-HasLeft v = v.made ≡ 0 → (left : List Node) × IsPermutation v.put (v.taken ++ left)
+-- the nodes that the owner put are, in order, some that are those that it took, as multisets, and then these: what was
+-- put first was taken first
+abbrev pub AreLeft : View → List Node → Type 0
+AreLeft v left = (gone : List Node) × (v.put ≡ gone ++ left) × IsPermutation gone v.taken
 
--- the owner took these nodes, and before it did the deque had all that nobody took
+-- where no stealer is out, some nodes are left
+abbrev pub HasLeft : View → Type 0
+HasLeft v = v.made ≡ 0 → (left : List Node) × AreLeft v left
+
+-- and this is the first of them
+abbrev pub IsOldest : View → Node → Type 0
+IsOldest v n = v.made ≡ 0 → (later : List Node) × AreLeft v (n ∷ later)
+
+-- the owner took these nodes, the first of those that were left
 abbrev pub OwnerTakes : Rules → View → List Node → View → Type 0
-OwnerTakes t v xs w = HasTaken t v xs w × HasLeft v
+OwnerTakes t v xs w = HasTaken t v xs w × (v.made ≡ 0 → (later : List Node) × AreLeft v (xs ++ later))
 
 -- ---- the rule
 -- only the owner's view has put nodes and has made stealers, and a view that is neither the owner's nor out is empty
@@ -65,10 +74,13 @@ pub record Fits (v : View) : Type 0 where
   pub made : v.owner ≡ 0 → v.made ≡ 0
   pub taken : v.owner + v.out ≡ 0 → v.taken ≡ []
 
--- by any weight of nodes, those that were put weigh what those that were taken and those that the deque holds do, and
--- the latter are valid; there is one owner, and as many stealers are out as it has made and not joined
+-- the nodes that the owner put are, in order, those that are gone and those that the deque holds; by any weight of nodes,
+-- those that are gone weigh what those that were taken do; what the deque holds is valid; there is one owner, and as many
+-- stealers are out as it has made and not joined
 pub record Balanced (t : Rules) (items : List Node) (views : List View) : Type 0 where
-  pub balance : (h : Node → ℕ) → sum_by (λ v. sum_by h v.put) views ≡ sum_by (λ v. sum_by h v.taken) views + sum_by h items
+  pub gone : List Node
+  pub order : AllByRecursion (λ v. v.owner ≡ 1 → v.put ≡ gone ++ items) views
+  pub balance : (h : Node → ℕ) → sum_by h gone ≡ sum_by (λ v. sum_by h v.taken) views
   pub valid : AreValid t items
   pub one_owner : sum_by (λ v. v.owner) views ≡ 1
   pub counted : sum_by (λ v. v.out) views ≡ sum_by (λ v. v.made) views

@@ -76,7 +76,7 @@ Works t s s' = Changes (Balances t) s s'
 abbrev pub place_of : End → ℕ × DequeId
 place_of e = (e.worker, e.deque)
 
--- its deque, the stealers on it that it made and didn't join, and the deques that its own stealers are of
+-- its deque, the stealers on it that it made and did not join, and the deques that its own stealers are of
 pub record Ways : Type 0 where
   pub own : ℕ × DequeId
   pub made : ℕ
@@ -96,7 +96,7 @@ pub record SameSeat (s s' : Seat) : Type 0 where
   pub number : s'.part.number ≡ s.part.number
 
 -- ---- refusals
--- the leaf is that of the node in the hand, and isn't among the entries that the seat has seen, which are as many as the
+-- the leaf is that of the node in the hand, and is not among the entries that the seat has seen, which are as many as the
 -- limit
 pub record IsFullOf (t : Rules) (leaf : Leaf) (s : Seat) : Type 0 where
   pub hand : s.worker.hand ≡ Some leaf.node

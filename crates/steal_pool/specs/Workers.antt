@@ -3,7 +3,7 @@ use Rattle.std.specs.Prelude.{◌≡◌, ◌⊎◌, ℕ, ◌+◌, ◌≤◌, Lis
 use Rattle.spec_trees.specs.declared.tree.Node.{Node}
 use Rattle.spec_trees.specs.declared.tree.Verdict.TheVariants.{Split}
 use Rattle.spec_trees.specs.Tree.{Rules, IsValid}
-use Rattle.steal_pool.specs.Rule.{AreValid, End, IsUsedUp, end_of, joined_one, made_one, opening, stealer_out, takes_one, with_put, with_view}
+use Rattle.steal_pool.specs.Rule.{AreValid, End, IsOldest, IsUsedUp, end_of, joined_one, made_one, opening, stealer_out, takes_one, with_put, with_view}
 use Rattle.steal_pool.specs.declared.view.View.{View}
 
 -- the end of its own deque, its stealers of the other deques, how many nodes it put on its own since a pop of its own
@@ -68,11 +68,12 @@ TakesOwn n w v = v ≡ holder_of (takes_one w.own n) w.stealers w.pushed_in_a_ro
 abbrev pub TakesOther : Node → Holder → Holder → Type 0
 TakesOther n w v = (es : List End) × TookOne n w.stealers es × (v ≡ holder_of w.own es w.pushed_in_a_row (Some n) w.kept)
 
--- it looks there in this order; where its own deque gives nothing, its pushes in a row count from 0 again
+-- it looks there in this order; its own deque gives what was put there first of what is left, and where it gives nothing,
+-- its pushes in a row count from 0 again
 abbrev pub Takes : Node → Holder → Holder → Type 0
 Takes n w v =
     TakesKept n w v
-    ⊎ ((w.kept ≡ []) × TakesOwn n w v)
+    ⊎ ((w.kept ≡ []) × IsOldest w.own.view n × TakesOwn n w v)
     ⊎ ((w.kept ≡ []) × IsUsedUp w.own.view × TakesOther n (after_empty_pop w) v)
 
 -- it found none: where no stealer of its deque is out, what it put there is what it took there

@@ -18,7 +18,7 @@ use spec_trees::Leaf;
 use std::alloc::Global;
 use std::sync::Wait;
 
-/// Why a pool wasn't ended: the ledger was full when `leaf`, a leaf of the root, was to be entered, and these are its
+/// Why a pool was not ended: the ledger was full when `leaf`, a leaf of the root, was to be entered, and these are its
 /// seats, in order; or memory ran out.
 #[derive(Drop)]
 pub enum FinishError {

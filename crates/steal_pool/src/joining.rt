@@ -4,8 +4,8 @@ ghost use Rattle.std.specs.List.{AllByRecursion};
 ghost use Rattle.steal_pool.specs.Pools.{AreLinked};
 ghost use Rattle.steal_pool.specs.Stealers.{GivesStealer, HasNoStealer, HasNoStealerAt, NoStealerBefore, Joined, JoinsLast, joined};
 
-use crate::ends::Stealer;
 use crate::seat::PoolSeat;
+use crate::stealer::Stealer;
 use crate::view::Naming;
 use gf_edges::Gate;
 use halving::Judge;

@@ -7,6 +7,7 @@
 //!
 //! - A worker has a node in its hand, a local stack that it alone sees, and a deque. It pushes the right parts of what it
 //!   splits on its deque while there are at most 64 in a row, and takes from its stack, its deque, then other deques.
+//! - A deque is first in, first out: what its owner put on it is, in order, what was taken and what it holds.
 //! - A worker's end of another's deque is a `Stealer`. `make` hands them out and `finish` joins them into the deque's
 //!   owner; that each belongs to the deque that it names is the fact `AreLinked` of all seats together.
 //! - What is proved of running threads is a balance: what a worker took and had is what it put, has and entered.
@@ -15,21 +16,21 @@
 //! it, whatever the other threads do meanwhile, and `Naming`, by which that rule, a type, speaks of the judge's nodes.
 #![tactic(auto)]
 
-mod ends;
 mod finishing;
 mod joining;
 mod making;
 mod running;
 mod seat;
+mod stealer;
 mod view;
 mod work;
 mod worker;
 
-pub use ends::{Owner, Stealer};
 pub use finishing::{FinishError, finish};
 pub use making::make;
 pub use running::run;
 pub use seat::{PoolError, PoolSeat, Stop};
+pub use stealer::Stealer;
 pub use view::{Naming, View};
 pub use worker::Pushed;
 

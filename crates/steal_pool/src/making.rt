@@ -9,8 +9,8 @@ ghost use Rattle.steal_pool.specs.Pools.{AccountFor, AllBegin, AreLinked, CanMak
 ghost use Rattle.steal_pool.specs.Workers.{new_stealer};
 ghost use Rattle.steal_pool.specs.Stealers.{Linking, Links, LinksOther, Opens, gained, lent};
 
-use crate::ends::Stealer;
 use crate::seat::PoolSeat;
+use crate::stealer::Stealer;
 use crate::view::Naming;
 use crate::worker::Worker;
 use gf_edges::Gate;
@@ -47,7 +47,8 @@ impl<'p, N: Naming, J: Judge, G: Gate> PoolSeat<'p, N, J, G> {
         })
     }
 
-    // A stealer on its deque, for another seat.
+    // A stealer on its deque, for another seat. Of a seat in a list these calls, and not its worker's, are made: what is
+    // proved of an element goes through calls on the whole of it.
     fn lend_stealer(&mut self) -> Result<Stealer<N>, Memory>
         ensures made { OnOk result (self.new ≡ lent self.old) }
         ensures stealer { IfOk result (λ e. e ≡ new_stealer self.old.worker) }

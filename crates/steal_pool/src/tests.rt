@@ -172,7 +172,7 @@ fn two_workers_meet(rt: HostRuntime) -> Result<(), Fail> {
     Ok(())
 }
 
-// The right part of the node in the hand, put away, or nothing where that node isn't to be split.
+// The right part of the node in the hand, put away, or nothing where that node is not to be split.
 fn push_right<N: Naming, J: Judge, G: Gate>(seat: &mut PoolSeat<N, J, G>) -> Option<Pushed>
     ensures same { SameSeat seat.old seat.new }
     ensures refusal { seat.new.refusal ≡ seat.old.refusal }

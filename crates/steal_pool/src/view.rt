@@ -55,7 +55,8 @@ impl Outcome<Node, View> for Puts {
     ghost then = { λ v xs w. w ≡ with_put v xs };
 }
 
-/// A pop of the owner. Where it gives no node, the owner learns that none is left.
+/// A pop of the owner. Where no stealer is out, it gives the node that was put first of those that are left; where it
+/// gives none, none is left.
 pub struct Takes<N> {
     of: PhantomData<N>,
 }

@@ -46,9 +46,10 @@ impl<'p, N: Naming, J: Judge, G: Gate> PoolSeat<'p, N, J, G> {
         self.worker.push(left, right)
     }
 
-    /// Takes the next node into the empty hand: the top of the own local stack; where that is empty, a node of the own
-    /// deque; where that gives none, a node of another worker's deque, by at most 10,000 steal attempts at all of these.
-    /// Nothing is said of the other deques where none is found. It does not allocate, and waits for nobody.
+    /// Takes the next node into the empty hand: the top of the own local stack; where that is empty, the front of the own
+    /// deque, which is the node put there first of those that are left; where that gives none, a node of another worker's
+    /// deque, by at most 10,000 steal attempts at all of these. Nothing is said of the other deques where none is found.
+    /// It does not allocate, and waits for nobody.
     pub fn take(&mut self) -> Option<Node>
         requires empty { self.old.worker.hand ≡ None }
         ensures taken { IfSome result (λ n. Changes (Gets n) self.old self.new) }
@@ -125,7 +126,7 @@ impl<'p, N: Naming, J: Judge, G: Gate> PoolSeat<'p, N, J, G> {
         }
     }
 
-    // What the judge says of a node, once the gate is passed.
+    // The judge's mark of a node, once the gate is passed.
     pub(crate) fn verdict(&self, node: Node) -> Option<Mark>
         requires valid { IsValid N.rules node }
         ensures { result ≡ mark_of (N.rules.verdict node) }

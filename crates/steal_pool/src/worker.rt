@@ -1,17 +1,21 @@
-// A worker: the end of its own deque, its stealers on the others, its hand and its local stack.
+// A worker: its own deque, its stealers on the others, its hand and its local stack.
 ghost use Rattle.std.specs.Prelude.{◌≡◌, ◌<◌, ◌≤◌, [], Some, None, MatchOption, IsTrue, IsFalse, IfOk, IfSome, OnOk, length};
 ghost use Rattle.spec_trees.specs.declared.tree.Node.{Node};
 ghost use Rattle.spec_trees.specs.Tree.{IsSound, IsValid};
-ghost use Rattle.steal_pool.specs.Rule.{HasLeft, IsUsedUp};
+ghost use Rattle.steal_pool.specs.Rule.{HasLeft, IsOldest, IsUsedUp};
 ghost use Rattle.steal_pool.specs.Workers.{FindsNone, IsNew, IsSplit, TookOne, Takes, TakesKept, TakesOther, TakesOwn, Gives, gains, joins, lends, after_empty_pop, new_stealer, on_deque, on_stack, with_hand};
 ghost use Rattle.steal_pool.specs.declared.worker.Pushed.TheVariants.{OnDeque, Kept, Memory as OutOfMemory};
 
-use crate::ends::{Attempts, Owner, ROOM, Stealer};
-use crate::view::Naming;
+use crate::stealer::{Attempts, Stealer};
+use crate::view::{Balance, Naming, Puts, Takes as TakesFront, View, Ways};
+use crossbeam_deque::Worker as Deque;
 use spec_pool::Memory;
 use spec_trees::Node;
 use std::alloc::Global;
 use std::marker::Model;
+
+/// The first slots of a deque, so that its first 64 pushes never fail.
+const ROOM: usize = 64;
 
 /// Where the right part of a node was put: on the own deque, on the own local stack, or nowhere, out of memory.
 #[derive(Debug, Drop, PartialEq, Eq)]
@@ -21,9 +25,12 @@ pub enum Pushed {
     Memory(Node),
 }
 
+/// A worker and its deque, whose nodes leave in the order in which they came. Contracts see what it has, which deque its
+/// own is, and what was put on it and taken from it.
 #[derive(Drop)]
 pub struct Worker<N: Naming> {
-    own: Owner<N>,
+    number: u32,
+    deque: Deque<Node, Global, View, Balance<N>>,
     stealers: Vec<Stealer<N>>,
     pushed_in_a_row: usize,
     hand: Option<Node>,
@@ -31,14 +38,23 @@ pub struct Worker<N: Naming> {
 }
 
 impl<N: Naming> Model for Worker<N> {
+    ghost use Rattle.std.specs.Prelude.{◌≡◌, ◌≤◌, length};
+    ghost use Rattle.crossbeam_deque.specs.Handles.{worker_view, worker_flavor, worker_deque, worker_index, worker_capacity};
+    ghost use Rattle.steal_pool.specs.Rule.{end_of};
     ghost use Rattle.steal_pool.specs.Workers.{Holder, Stands, holder_of};
 
     ghost Value = { Holder };
 
-    ghost view = { λ w. holder_of w.own w.stealers.items w.pushed_in_a_row w.hand w.kept.items };
+    ghost view = { λ w. holder_of
+        (end_of w.number (worker_deque w.deque) (worker_view w.deque))
+        w.stealers.items w.pushed_in_a_row w.hand w.kept.items };
 
-    ghost invariant = { λ w. Stands N.rules
-        (holder_of w.own w.stealers.items w.pushed_in_a_row w.hand w.kept.items) };
+    ghost invariant = { λ w. Stands N.rules (holder_of
+            (end_of w.number (worker_deque w.deque) (worker_view w.deque))
+            w.stealers.items w.pushed_in_a_row w.hand w.kept.items)
+        × ((worker_view w.deque).owner ≡ 1) × (worker_flavor w.deque ≡ 0)
+        × (worker_index w.deque ≤ length (worker_view w.deque).put)
+        × (64 ≤ worker_capacity w.deque) };
 }
 
 // Takes the front of the first deque that gives a node, while attempts are left.
@@ -61,9 +77,10 @@ impl<N: Naming> Worker<N> {
         requires hand { (n : Node) → hand ≡ Some n → IsValid N.rules n }
         ensures new { IfOk result (λ w. IsNew number hand w) }
     {
-        let own = Owner::<N>::open(alloc, number)?;
+        let deque = Deque::<Node, Global, View, Balance<N>>::fifo_as(alloc, ROOM)?;
         Ok(Worker {
-            own,
+            number,
+            deque,
             stealers: Vec::new(alloc),
             pushed_in_a_row: 0,
             hand,
@@ -104,9 +121,9 @@ impl<N: Naming> Worker<N> {
     fn take_own(&mut self) -> Option<Node>
         ensures taken { MatchOption result
             (IsUsedUp self.old.own.view × (self.new ≡ after_empty_pop self.old))
-            (λ n. TakesOwn n self.old self.new) }
+            (λ n. IsOldest self.old.own.view n × TakesOwn n self.old self.new) }
     {
-        match self.own.pop() {
+        match self.deque.pop_as::<TakesFront<N>>() {
             Some(node) => {
                 self.hand = Some(node);
                 Some(node)
@@ -160,7 +177,7 @@ impl<N: Naming> Worker<N> {
         if self.pushed_in_a_row >= ROOM {
             return false;
         }
-        match self.own.push(right) {
+        match self.deque.push_as::<Puts>(right) {
             Ok(()) => {
                 self.pushed_in_a_row += 1;
                 self.hand = Some(left);
@@ -211,7 +228,13 @@ impl<N: Naming> Worker<N> {
         ensures made { OnOk result (self.new ≡ lends self.old) }
         ensures stealer { IfOk result (λ e. e ≡ new_stealer self.old) }
     {
-        self.own.make_stealer()
+        let reader = self.deque.stealer()?;
+        let pass = self.deque.another::<Ways>();
+        Ok(Stealer {
+            number: self.number,
+            reader,
+            pass,
+        })
     }
 
     /// Keeps a stealer on another worker's deque.
@@ -238,14 +261,14 @@ impl<N: Naming> Worker<N> {
         requires made { 0 < self.old.own.view.made }
         ensures joined { self.new ≡ joins self.old stealer }
     {
-        self.own.join_stealer(stealer);
+        self.deque.absorb::<Ways>(stealer.pass);
     }
 
-    /// Pops its own deque for the last time. Where no stealer is out, what was put there is what was taken and what is
-    /// left.
+    /// Pops its own deque for the last time. Where no stealer is out, what was put there is what was taken, and after it,
+    /// in order, what is left.
     pub fn last_pop(mut self)
         ensures { HasLeft self.own.view }
     {
-        let _left = self.own.pop();
+        let _left = self.deque.pop_as::<TakesFront<N>>();
     }
 }

@@ -1,6 +1,7 @@
 use Rattle.std.proofs.Common.{◌≡◌, List, Some, length, sym, ap, ◌∙◌, subst}
 use Rattle.std.proofs.lemmas.List.{with_items_is}
-use Rattle.steal_pool.specs.Rule.{End}
+use Rattle.crossbeam_deque.specs.Handles.{worker_deque, worker_view}
+use Rattle.steal_pool.specs.Rule.{End, end_of}
 use Rattle.steal_pool.specs.Workers.{TookOne, holder_of}
 use Rattle.steal_pool.proofs.Standing.{took_length}
 use Rattle.steal_pool.proofs.worker.Worker.take_other.Goals as goal
@@ -13,6 +14,6 @@ returns-in-Some g c =
       taken = rw (← c.self.view_is) (
         c.steal_from.new.stealers,
         took,
-        ap (λ (es : List End). holder_of c.self.inside.own es c.self.inside.pushed_in_a_row (Some c.in-Some.node) c.self.inside.kept.items) (with_items_is c.self.inside.stealers c.steal_from.new.stealers len),
+        ap (λ (es : List End). holder_of (end_of c.self.inside.number (worker_deque c.self.inside.deque) (worker_view c.self.inside.deque)) es c.self.inside.pushed_in_a_row (Some c.in-Some.node) c.self.inside.kept.items) (with_items_is c.self.inside.stealers c.steal_from.new.stealers len),
       );
     }

@@ -1,5 +1,5 @@
 use Rattle.std.proofs.Common.{◌≡◌, ◌≤◌}
-use Rattle.steal_pool.proofs.ends.Stealer.steal.Given as goal
+use Rattle.steal_pool.proofs.stealer.Stealer.steal.Given as goal
 
 abbrev pub invariant-loop-attempts : goal.invariant-loop-attempts
 invariant-loop-attempts g l = record {

@@ -1,0 +1,83 @@
+// A stealer: the end of another worker's deque.
+ghost use Rattle.std.specs.Prelude.{◌≡◌, ◌+◌, ◌<◌, ◌≤◌, IfSome, IfNone};
+ghost use Rattle.spec_trees.specs.Tree.{IsValid};
+ghost use Rattle.crossbeam_deque.specs.Steals.{MatchSteal};
+ghost use Rattle.steal_pool.specs.Rule.{takes_one};
+
+use crate::view::{Balance, Naming, Steals, View};
+use crossbeam_deque::{Pass, Steal, Stealer as Reader};
+use spec_trees::Node;
+use std::alloc::Global;
+use std::marker::Model;
+
+/// A stealer: the end of another worker's deque, from which it takes nodes.
+#[derive(Drop)]
+pub struct Stealer<N: Naming> {
+    pub(crate) number: u32,
+    pub(crate) reader: Reader<Node, Global, View, Balance<N>>,
+    pub(crate) pass: Pass<Node, View>,
+}
+
+impl<N: Naming> Model for Stealer<N> {
+    ghost use Rattle.std.specs.Prelude.{◌≡◌};
+    ghost use Rattle.crossbeam_deque.specs.Handles.{view as seen, IsPassOf, stealer_deque};
+    ghost use Rattle.steal_pool.specs.Rule.{End, end_of};
+
+    ghost Value = { End };
+
+    ghost view = { λ t. end_of t.number (stealer_deque t.reader) (seen t.pass) };
+
+    ghost invariant = { λ t. IsPassOf (stealer_deque t.reader) t.pass
+        × ((seen t.pass).owner ≡ 0) × ((seen t.pass).out ≡ 1) };
+}
+
+/// The steal attempts that are left in one search for a node. Each attempt uses up one, so a search ends.
+#[derive(Drop)]
+pub struct Attempts {
+    pub left: u32,
+}
+
+impl Attempts {
+    /// Those of a search that begins: 10,000, at all deques together.
+    pub fn of_search() -> Attempts
+        ensures { result.left ≡ 10000 }
+    {
+        Attempts { left: 10_000 }
+    }
+}
+
+impl<N: Naming> Stealer<N> {
+    /// The number of the worker whose deque it is.
+    pub fn worker(&self) -> u32
+        ensures { result ≡ self.now.worker }
+    {
+        self.number
+    }
+
+    // One attempt to take the node at the front.
+    fn attempt(&mut self, attempts: &mut Attempts) -> Steal<Node>
+        requires some { 0 < attempts.old.left }
+        ensures taken { MatchSteal result (self.new ≡ self.old) (self.new ≡ self.old)
+            (λ n. (self.new ≡ takes_one self.old n) × IsValid N.rules n) }
+        ensures counted { attempts.new.left + 1 ≡ attempts.old.left }
+    {
+        attempts.left -= 1;
+        self.reader.steal_as::<Steals<N>>(&mut self.pass)
+    }
+
+    /// Takes the node at the front, while attempts are left and others take from the same deque meanwhile.
+    pub fn steal(&mut self, attempts: &mut Attempts) -> Option<Node>
+        ensures taken { IfSome result (λ n. (self.new ≡ takes_one self.old n) × IsValid N.rules n) }
+        ensures none { IfNone result (self.new ≡ self.old) }
+        ensures fewer { attempts.new.left ≤ attempts.old.left }
+    {
+        while attempts.left > 0 {
+            match self.attempt(attempts) {
+                Steal::Success(node) => return Some(node),
+                Steal::Empty => return None,
+                Steal::Retry => {}
+            }
+        }
+        None
+    }
+}

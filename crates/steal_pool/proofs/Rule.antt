@@ -1,5 +1,5 @@
 -- Each kind of step keeps the rule.
-use Rattle.std.proofs.Common.{◌≡◌, ℕ, ◌+◌, ◌<◌, List, [], ◌∷◌, ◌++◌, append_assoc, refl, sym, ap, ◌∙◌, subst, slice_set, sum_by, IsPermutation, Option, Some, None, MatchOption, arith}
+use Rattle.std.proofs.Common.{◌≡◌, ℕ, ◌+◌, ◌<◌, ◌≤◌, List, [], ◌∷◌, ◌++◌, append_assoc, refl, sym, ap, ◌∙◌, subst, slice_set, sum_by, IsPermutation, Option, Some, None, MatchOption, arith}
 use Rattle.std.specs.List.{AllByRecursion}
 use Rattle.std.proofs.lemmas.List.{append-nil}
 use Rattle.std.proofs.lemmas.List.Sorted.{sum_by-IsPermutation}
@@ -9,10 +9,10 @@ use lib.ListN.{get_elem?}
 use Rattle.spec_trees.specs.declared.tree.Node.{Node}
 use Rattle.spec_trees.specs.Tree.{Rules, IsValid}
 use Rattle.spec_pool.proofs.Finding.{nodes_summed}
-use Rattle.spec_pool.proofs.Weights.{total_set}
+use Rattle.spec_pool.proofs.Weights.{total_le, total_set}
 use Rattle.crossbeam_deque.specs.Tasks.{Pushes, Takes, Finds, Forks, Merges}
 use Rattle.steal_pool.specs.declared.view.View.{View}
-use Rattle.steal_pool.specs.Rule.{AreLeft, Balanced, Fits, HasLeft, HasTaken, IsUsedUp, OwnerTakes, opening, spent, stealer_out, with_put, with_taken, made_one, joined_one}
+use Rattle.steal_pool.specs.Rule.{Balanced, Fits, HasLeft, HasTaken, IsUsedUp, OwnerTakes, opening, spent, stealer_out, with_put, with_taken, made_one, joined_one}
 use Rattle.steal_pool.proofs.Listing.{all_left, all_more, all_push, all_right, all_set}
 use Rattle.steal_pool.proofs.Totals.{AllFit, fit_get, owner_only, owner_set, made_only, view_get}
 
@@ -71,37 +71,47 @@ takes t port v may xs items views least most kept at =
       (refl, all_left (IsValid t) xs items kept.valid),
     )
 
--- where no stealer is out, what the deque holds is what was put after all that was taken
-are_left : (t : Rules) (port : ℕ) (v : View) → v.owner ≡ 1 → (items : List Node) (views : List View) → Balanced t items views → get_elem? views port ≡ some v → v.made ≡ 0 → AreLeft v items
-are_left t port v mine items views kept at none =
-    let out : sum_by (λ (u : View). u.out) views ≡ 0 = omega (arith, none, kept.counted, made_only views port v kept.fit kept.one_owner at mine) in (
-      kept.gone,
-      view_get (Ordered kept.gone items) views port v at kept.order mine,
-      nodes_summed kept.gone v.taken (λ h. omega (
-        arith,
-        kept.balance h,
-        owner_only (λ (u : View). sum_by h u.taken) views port v (λ u f o p. ap (sum_by h) (f.taken (omega arith))) kept.fit kept.one_owner out at mine,
-      )),
-    )
+-- where no stealer is out, what is gone is what the owner took, and what the deque holds is what was put after it
+gone_taken : (t : Rules) (port : ℕ) (v : View) → v.owner ≡ 1 → (items : List Node) (views : List View) (kept : Balanced t items views) → get_elem? views port ≡ some v → v.made ≡ 0 → IsPermutation kept.gone v.taken
+gone_taken t port v mine items views kept at none =
+    let out : sum_by (λ (u : View). u.out) views ≡ 0 = omega (arith, none, kept.counted, made_only views port v kept.fit kept.one_owner at mine) in
+    nodes_summed kept.gone v.taken (λ h. omega (
+      arith,
+      kept.balance h,
+      owner_only (λ (u : View). sum_by h u.taken) views port v (λ u f o p. ap (sum_by h) (f.taken (omega arith))) kept.fit kept.one_owner out at mine,
+    ))
 
 -- the owner takes what was put first of what is left
 pub owner_takes : (t : Rules) (port : ℕ) (v : View) → v.owner ≡ 1 → Takes (Balanced t) port v 1 (OwnerTakes t v)
 owner_takes t port v mine xs items views least most kept at =
     let one = takes t port v (omega (arith, mine)) xs items views least most kept at in
-    (one.0, one.1, (one.2, λ none. (items, are_left t port v mine (xs ++ items) views kept at none)))
+    (
+      one.0,
+      one.1,
+      (
+        one.2,
+        (
+          kept.gone,
+          items,
+          view_get (Ordered kept.gone (xs ++ items)) views port v at kept.order mine,
+          (λ h. omega (arith, kept.balance h, total_le (λ (u : View). sum_by h u.taken) views port v at)),
+          gone_taken t port v mine (xs ++ items) views kept at,
+        ),
+      ),
+    )
 
 pub finds : (t : Rules) (port : ℕ) (v : View) → v.owner ≡ 1 → Finds (Balanced t) port v (IsUsedUp v)
 finds t port v mine views kept at none =
-    let left = are_left t port v mine [] views kept at none in
-    subst (λ (l : List Node). IsPermutation l v.taken) (sym (left.1 ∙ append-nil left.0)) left.2
+    let order : v.put ≡ kept.gone = view_get (Ordered kept.gone []) views port v at kept.order mine ∙ append-nil kept.gone in
+    subst (λ (l : List Node). IsPermutation l v.taken) (sym order) (gone_taken t port v mine [] views kept at none)
 
--- what is left after a pop that gave nothing, and as multisets
+-- what is left after a pop
 pub none_left : (v : View) → IsUsedUp v → HasLeft v
 none_left v used none = ([], (v.put, sym (append-nil v.put), used none))
 
 pub pop_left : (t : Rules) (r : Option Node) (v w : View) → MatchOption r ((w ≡ v) × IsUsedUp v) (λ n. OwnerTakes t v (n ∷ []) w) → HasLeft v
 pop_left t None v w rule = none_left v rule.1
-pop_left t (Some n) v w rule = λ none. let left = rule.1 none in (n ∷ left.0, left.1)
+pop_left t (Some n) v w (took, (gone, later, order, within, same)) = λ none. (n ∷ later, (gone, order, same none))
 
 pub left_permuted : (v : View) → HasLeft v → v.made ≡ 0 → (left : List Node) × IsPermutation v.put (v.taken ++ left)
 left_permuted v has none = let (left, (gone, order, same)) = has none in (

@@ -1,6 +1,6 @@
 -- The rule of one deque. Its owner and each stealer on it know what they put and what they took; put together, the nodes
 -- that anybody took and those that it holds are those that its owner put on it, in this order: first in, first out.
-use Rattle.std.specs.Prelude.{◌≡◌, ℕ, ◌+◌, ◌-◌, pos, List, [], ◌∷◌, ◌++◌, sum_by, IsPermutation}
+use Rattle.std.specs.Prelude.{◌≡◌, ℕ, ◌+◌, ◌-◌, ◌≤◌, pos, List, [], ◌∷◌, ◌++◌, sum_by, IsPermutation}
 use Rattle.std.specs.List.{AllByRecursion}
 use Rattle.std.specs.Global.{Global}
 use Rattle.spec_trees.specs.declared.tree.Node.{Node}
@@ -59,13 +59,19 @@ AreLeft v left = (gone : List Node) × (v.put ≡ gone ++ left) × IsPermutation
 abbrev pub HasLeft : View → Type 0
 HasLeft v = v.made ≡ 0 → (left : List Node) × AreLeft v left
 
--- and this is the first of them
+-- the nodes that the owner put are, in order, some and then these and later ones; it took none but the first of them, and
+-- where no stealer is out, it took all of those, as multisets
+abbrev pub AreOldest : View → List Node → Type 0
+AreOldest v xs =
+    (gone later : List Node) × (v.put ≡ gone ++ (xs ++ later)) × ((h : Node → ℕ) → sum_by h v.taken ≤ sum_by h gone)
+    × (v.made ≡ 0 → IsPermutation gone v.taken)
+
 abbrev pub IsOldest : View → Node → Type 0
-IsOldest v n = v.made ≡ 0 → (later : List Node) × AreLeft v (n ∷ later)
+IsOldest v n = AreOldest v (n ∷ [])
 
 -- the owner took these nodes, the first of those that were left
 abbrev pub OwnerTakes : Rules → View → List Node → View → Type 0
-OwnerTakes t v xs w = HasTaken t v xs w × (v.made ≡ 0 → (later : List Node) × AreLeft v (xs ++ later))
+OwnerTakes t v xs w = HasTaken t v xs w × AreOldest v xs
 
 -- ---- the rule
 -- only the owner's view has put nodes and has made stealers, and a view that is neither the owner's nor out is empty

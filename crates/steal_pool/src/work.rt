@@ -47,7 +47,7 @@ impl<'p, N: Naming, J: Judge, G: Gate> PoolSeat<'p, N, J, G> {
     }
 
     /// Takes the next node into the empty hand: the top of the own local stack; where that is empty, the front of the own
-    /// deque, which is the node put there first of those that are left; where that gives none, a node of another worker's
+    /// deque, the node put there right after those that are gone; where that gives none, a node of another worker's
     /// deque, by at most 10,000 steal attempts at all of these. Nothing is said of the other deques where none is found.
     /// It does not allocate, and waits for nobody.
     pub fn take(&mut self) -> Option<Node>

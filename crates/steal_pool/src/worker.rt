@@ -50,8 +50,8 @@ impl<N: Naming> Model for Worker<N> {
         w.stealers.items w.pushed_in_a_row w.hand w.kept.items };
 
     ghost invariant = { λ w. Stands N.rules (holder_of
-            (end_of w.number (worker_deque w.deque) (worker_view w.deque))
-            w.stealers.items w.pushed_in_a_row w.hand w.kept.items)
+        (end_of w.number (worker_deque w.deque) (worker_view w.deque))
+        w.stealers.items w.pushed_in_a_row w.hand w.kept.items)
         × ((worker_view w.deque).owner ≡ 1) × (worker_flavor w.deque ≡ 0)
         × (worker_index w.deque ≤ length (worker_view w.deque).put)
         × (64 ≤ worker_capacity w.deque) };

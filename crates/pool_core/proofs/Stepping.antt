@@ -7,11 +7,14 @@ use Rattle.spec_pool.specs.declared.step.Step.{Step}
 use Rattle.spec_pool.specs.declared.step.Step.TheVariants.{Steal, Enter}
 use Rattle.spec_pool.specs.Pool.{Holding, State, state, At, Gets, GivesUp, Enters, Steals, Steps, Refuses}
 use Rattle.spec_pool.specs.Tiling.{Conserves}
+use Rattle.spec_pool.proofs.Accounting.{same_set}
 use Rattle.spec_pool.proofs.Weights.{weigh-get}
 use Rattle.spec_pool.proofs.Finding.{is_node}
 use Rattle.spec_pool.proofs.Moving.{weigh_hand, weigh_holding}
 use Rattle.spec_pool.proofs.Keeping.{valid_one, step_conserves}
-use Rattle.pool_core.specs.Views.{HoldsValid, empty_handed}
+use Rattle.pool_core.specs.Views.{Goes, HoldsValid, empty_handed, own_step}
+use Rattle.pool_core.specs.declared.worker.OwnStep.{OwnStep}
+use Rattle.pool_core.specs.declared.worker.OwnStep.TheVariants.{Push, Keep, Pop, TakeKept}
 use Rattle.pool_core.specs.declared.worker.StepError.{StepError}
 use Rattle.pool_core.specs.declared.worker.StepError.TheVariants.{Refused}
 
@@ -21,39 +24,49 @@ hand_valid t root workers entered w x c at n e =
     let whole = weigh-get (weigh_holding (is_node n)) workers w x at in
     valid_one t root (state workers entered) n (omega arith) c
 
-pub same_set : {A : Type 0} (xs : List A) (k : ℕ) (x : A) → slice_get xs k ≡ Some x → slice_set xs k x ≡ xs
-same_set [] k x e = refl
-same_set {A = A} (y ∷ xs) zero x e = let same : x ≡ y = cc in ap (λ (z : A). z ∷ xs) same
-same_set {A = A} (y ∷ xs) (suc k) x e = ap (λ (l : List A). y ∷ l) (same_set xs k x e)
-
 -- one worker goes by R
 module _ (R : Holding → Holding → Type 0) (workers : List Holding) (entered : List Leaf) (w : ℕ) (x : Holding) (at : slice_get workers w ≡ Some x) where
-  abbrev pub Goes : State → Type 0
-  Goes s' = At w R workers s'.workers × (s'.entered ≡ entered)
+  abbrev pub GoesBy : State → Type 0
+  GoesBy s' = At w R workers s'.workers × (s'.entered ≡ entered)
 
-  pub goes : (y : Holding) → R x y → Goes (state (slice_set workers w y) entered)
+  pub goes : (y : Holding) → R x y → GoesBy (state (slice_set workers w y) entered)
   goes y p = (record { old = x; new = y; here = at; goes = p; others = refl }, refl)
 
-  pub goes_ok : (y : Holding) (r : Result (Unit {0}) StepError) → OnOk r (R x y) → OnOk r (Goes (state (slice_set workers w y) entered))
-  goes_ok y (Ok u) p = goes y p
-  goes_ok y (Err e) p = tt
-
-  refuses : ((y : Holding) → ¬ R x y) → (s' : State) → ¬ Goes s'
+  refuses : ((y : Holding) → ¬ R x y) → (s' : State) → ¬ GoesBy s'
   refuses none s' g =
       let same : g.0.old ≡ x = cc (g.0.here, at) in
       none g.0.new (subst (λ (z : Holding). R z g.0.new) same g.0.goes)
 
-  pub refused : (r : Result (Unit {0}) StepError) → IfErr r (λ e. e ≡ Refused → (y : Holding) → ¬ R x y) → IfErr r (λ e. e ≡ Refused → (s' : State) → ¬ Goes s')
-  refused (Ok u) p = tt
-  refused (Err e) p = λ is. refuses (p is)
-
-  pub refused_on : (r : Result (Unit {0}) StepError) → OnErr r ((y : Holding) → ¬ R x y) → IfErr r (λ e. e ≡ Refused → (s' : State) → ¬ Goes s')
-  refused_on (Ok u) p = tt
-  refused_on (Err e) p = λ is. refuses p
-
-  pub keeps : (P : State → Type 0) → ((s' : State) → Goes s' → P s') → P (state workers entered) → (y : Holding) (r : Result (Unit {0}) StepError) → OnOk r (R x y) → OnErr r (y ≡ x) → P (state (slice_set workers w y) entered)
+  pub keeps : (P : State → Type 0) → ((s' : State) → GoesBy s' → P s') → P (state workers entered) → (y : Holding) (r : Result (Unit {0}) StepError) → OnOk r (R x y) → OnErr r (y ≡ x) → P (state (slice_set workers w y) entered)
   keeps P step now y (Ok u) ok same = step (state (slice_set workers w y) entered) (goes y ok)
   keeps P step now y (Err e) ok same = subst (λ (l : List Holding). P (state l entered)) (sym (ap (slice_set workers w) same ∙ same_set workers w x at)) now
+
+-- what holds of each error holds of a refusal
+pub on_refused : (P : Type 0) (r : Result (Unit {0}) StepError) → OnErr r P → IfErr r (λ e. e ≡ Refused → P)
+on_refused P (Ok u) p = tt
+on_refused P (Err e) p = λ is. p
+
+-- ---- a step that changes only what its worker holds
+pub own_steps : (t : Rules) (s : State) (w : ℕ) (o : OwnStep) (s' : State) → At w (Goes t o) s.workers s'.workers × (s'.entered ≡ s.entered) → Steps t s (own_step w o) s'
+own_steps t s w Push s' p = p
+own_steps t s w Keep s' p = p
+own_steps t s w Pop s' p = p
+own_steps t s w TakeKept s' p = p
+
+own_goes : (t : Rules) (s : State) (w : ℕ) (o : OwnStep) (s' : State) → Steps t s (own_step w o) s' → At w (Goes t o) s.workers s'.workers × (s'.entered ≡ s.entered)
+own_goes t s w Push s' p = p
+own_goes t s w Keep s' p = p
+own_goes t s w Pop s' p = p
+own_goes t s w TakeKept s' p = p
+
+module _ (t : Rules) (ws : List Holding) (es : List Leaf) (w : ℕ) (x : Holding) (at : slice_get ws w ≡ Some x) (o : OwnStep) where
+  pub own_ok : (y : Holding) (r : Result (Unit {0}) StepError) → OnOk r (Goes t o x y) → OnOk r (Steps t (state ws es) (own_step w o) (state (slice_set ws w y) es))
+  own_ok y (Ok u) p = own_steps t (state ws es) w o (state (slice_set ws w y) es) (goes (Goes t o) ws es w x at y p)
+  own_ok y (Err e) p = tt
+
+  pub own_refuses : (r : Result (Unit {0}) StepError) → IfErr r (λ e. e ≡ Refused → (y : Holding) → ¬ Goes t o x y) → IfErr r (λ e. e ≡ Refused → Refuses t (state ws es) (own_step w o))
+  own_refuses (Ok u) p = tt
+  own_refuses (Err e) p = λ is s' steps. refuses (Goes t o) ws es w x at (p is) s' (own_goes t (state ws es) w o s' steps)
 
 -- a step by another name
 pub refused_as : (t : Rules) (s : State) (x y : Step) (r : Result (Unit {0}) StepError) → x ≡ y → IfErr r (λ e. e ≡ Refused → Refuses t s y) → IfErr r (λ e. e ≡ Refused → Refuses t s x)

@@ -3,11 +3,11 @@ ghost use Rattle.std.specs.Prelude.{◌≡◌, ◌≤◌, List, [], ◌∷◌, �
 ghost use Rattle.spec_trees.specs.Tree.{IsValid};
 ghost use Rattle.spec_pool.specs.Pool.{Holding, Steals, opening};
 ghost use Rattle.spec_pool.specs.Tiling.{IsDone};
-ghost use Rattle.spec_pool.specs.declared.step.Step.TheVariants.{Push, Keep, Pop, TakeKept, Steal, Enter};
-ghost use Rattle.pool_core.specs.Views.{IsRefusal, Takes, seen};
+ghost use Rattle.spec_pool.specs.declared.step.Step.TheVariants.{Steal, Enter};
+ghost use Rattle.pool_core.specs.Views.{IsRefusal, Takes, own_step, seen};
 ghost use Rattle.pool_core.specs.declared.worker.StepError.TheVariants.{Refused, Memory};
 
-use crate::worker::{StepError, Worker};
+use crate::worker::{OwnStep, StepError, Worker};
 use halving::{Judge, Leaf, Node, rules_are_sound};
 use spec_pool::{Memory, Step};
 use std::alloc::Global;
@@ -75,10 +75,10 @@ impl<J: Judge> Pool<J> {
         ensures same { self.new ≡ record self.old { state = self.new.state } }
     {
         match step {
-            Step::Push { w } => self.push(w),
-            Step::Keep { w } => self.keep(w),
-            Step::Pop { w } => self.pop(w),
-            Step::TakeKept { w } => self.take_kept(w),
+            Step::Push { w } => self.take_own(w, OwnStep::Push),
+            Step::Keep { w } => self.take_own(w, OwnStep::Keep),
+            Step::Pop { w } => self.take_own(w, OwnStep::Pop),
+            Step::TakeKept { w } => self.take_own(w, OwnStep::TakeKept),
             Step::Steal { w, from } => self.steal(w, from),
             Step::Enter { w } => self.enter(w),
         }
@@ -98,10 +98,10 @@ impl<J: Judge> Pool<J> {
         self.workers.iter().all(|worker| worker.is_empty())
     }
 
-    // Worker `w` splits its node and puts the right part on its deque.
-    fn push(&mut self, w: u32) -> Result<(), StepError>
-        ensures ok { OnOk result (Takes (J.rules self.old.judge) self.old (Push w) self.new) }
-        ensures refused { IsRefusal (J.rules self.old.judge) self.old (Push w) result }
+    // Worker `w` takes a step that changes only what it holds itself.
+    fn take_own(&mut self, w: u32, step: OwnStep) -> Result<(), StepError>
+        ensures ok { OnOk result (Takes (J.rules self.old.judge) self.old (own_step w step) self.new) }
+        ensures refused { IsRefusal (J.rules self.old.judge) self.old (own_step w step) result }
         ensures unchanged { OnErr result (self.new ≡ self.old) }
         ensures same { self.new ≡ record self.old { state = self.new.state } }
     {
@@ -111,55 +111,7 @@ impl<J: Judge> Pool<J> {
             return Err(StepError::Refused);
         }
         let worker = &mut self.workers[at];
-        worker.push(&self.judge)
-    }
-
-    // Worker `w` splits its node and puts the right part on its local stack.
-    fn keep(&mut self, w: u32) -> Result<(), StepError>
-        ensures ok { OnOk result (Takes (J.rules self.old.judge) self.old (Keep w) self.new) }
-        ensures refused { IsRefusal (J.rules self.old.judge) self.old (Keep w) result }
-        ensures unchanged { OnErr result (self.new ≡ self.old) }
-        ensures same { self.new ≡ record self.old { state = self.new.state } }
-    {
-        rules_are_sound(&self.judge);
-        let at = w as usize;
-        if at >= self.workers.len() {
-            return Err(StepError::Refused);
-        }
-        let worker = &mut self.workers[at];
-        worker.keep(&self.judge)
-    }
-
-    // Worker `w` takes the front of its deque.
-    fn pop(&mut self, w: u32) -> Result<(), StepError>
-        ensures ok { OnOk result (Takes (J.rules self.old.judge) self.old (Pop w) self.new) }
-        ensures refused { IsRefusal (J.rules self.old.judge) self.old (Pop w) result }
-        ensures unchanged { OnErr result (self.new ≡ self.old) }
-        ensures same { self.new ≡ record self.old { state = self.new.state } }
-    {
-        rules_are_sound(&self.judge);
-        let at = w as usize;
-        if at >= self.workers.len() {
-            return Err(StepError::Refused);
-        }
-        let worker = &mut self.workers[at];
-        worker.pop()
-    }
-
-    // Worker `w` takes the top of its local stack.
-    fn take_kept(&mut self, w: u32) -> Result<(), StepError>
-        ensures ok { OnOk result (Takes (J.rules self.old.judge) self.old (TakeKept w) self.new) }
-        ensures refused { IsRefusal (J.rules self.old.judge) self.old (TakeKept w) result }
-        ensures unchanged { OnErr result (self.new ≡ self.old) }
-        ensures same { self.new ≡ record self.old { state = self.new.state } }
-    {
-        rules_are_sound(&self.judge);
-        let at = w as usize;
-        if at >= self.workers.len() {
-            return Err(StepError::Refused);
-        }
-        let worker = &mut self.workers[at];
-        worker.take_kept()
+        worker.take(&self.judge, step)
     }
 
     // Worker `w` takes the front of the deque of worker `from`.

@@ -4,7 +4,7 @@ ghost use Rattle.spec_trees.specs.declared.tree.Node.{Node};
 ghost use Rattle.spec_trees.specs.declared.tree.Leaf.{Leaf};
 ghost use Rattle.spec_trees.specs.Tree.{IsValid};
 ghost use Rattle.spec_pool.specs.Pool.{Holding, holding, nothing, Pushes, Keeps, Pops, TakesKept, Gets, GivesUp, Enters};
-ghost use Rattle.pool_core.specs.Views.{HoldsLeaf, HoldsNoLeaf, HoldsValid, IfRefused, IsStuck, empty_handed};
+ghost use Rattle.pool_core.specs.Views.{Goes, HoldsLeaf, HoldsNoLeaf, HoldsNoSplit, HoldsSplit, HoldsValid, IfRefused, IsStuck, empty_handed};
 ghost use Rattle.pool_core.specs.declared.worker.StepError.TheVariants.{Refused, Memory};
 
 use halving::{Judge, Leaf, Node, Verdict};
@@ -17,6 +17,15 @@ use std::marker::Model;
 pub enum StepError {
     Refused,
     Memory,
+}
+
+/// A step that changes only what the worker that takes it holds.
+#[derive(Clone, Copy)]
+pub enum OwnStep {
+    Push,
+    Keep,
+    Pop,
+    TakeKept,
 }
 
 #[derive(Drop)]
@@ -52,20 +61,44 @@ impl Worker {
         self.hand.is_none() && self.deque.is_empty() && self.kept.is_empty()
     }
 
-    /// Splits the node in the hand and puts its right part at the back of the deque.
-    pub fn push<J: Judge>(&mut self, judge: &J) -> Result<(), StepError>
+    /// Takes a step of its own.
+    pub fn take<J: Judge>(&mut self, judge: &J, step: OwnStep) -> Result<(), StepError>
+        requires { HoldsValid (J.rules judge.now) self.old }
+        ensures ok { OnOk result (Goes (J.rules judge.now) step self.old self.new) }
+        ensures refused { IfRefused result (IsStuck (Goes (J.rules judge.now) step) self.old) }
+        ensures unchanged { OnErr result (self.new ≡ self.old) }
+    {
+        match step {
+            OwnStep::Push => self.push(judge),
+            OwnStep::Keep => self.keep(judge),
+            OwnStep::Pop => self.pop(),
+            OwnStep::TakeKept => self.take_kept(),
+        }
+    }
+
+    // The parts of the node in the hand, if it is to be split.
+    fn parts<J: Judge>(&self, judge: &J) -> Option<(Node, Node)>
+        requires { HoldsValid (J.rules judge.now) self.now }
+        ensures some { IfSome result (HoldsSplit (J.rules judge.now) self.now) }
+        ensures none { IfNone result (HoldsNoSplit (J.rules judge.now) self.now) }
+    {
+        let node = self.hand?;
+        let Verdict::Split = judge.judge(node) else {
+            return None;
+        };
+        Some(judge.cut(node))
+    }
+
+    // Splits the node in the hand and puts its right part at the back of the deque.
+    fn push<J: Judge>(&mut self, judge: &J) -> Result<(), StepError>
         requires { HoldsValid (J.rules judge.now) self.old }
         ensures ok { OnOk result (Pushes (J.rules judge.now) self.old self.new) }
         ensures refused { IfRefused result (IsStuck (Pushes (J.rules judge.now)) self.old) }
         ensures unchanged { OnErr result (self.new ≡ self.old) }
     {
-        let Some(node) = self.hand else {
+        let Some((left, right)) = self.parts(judge) else {
             return Err(StepError::Refused);
         };
-        let Verdict::Split = judge.judge(node) else {
-            return Err(StepError::Refused);
-        };
-        let (left, right) = judge.cut(node);
         if self.deque.push_back(right).is_err() {
             return Err(StepError::Memory);
         }
@@ -73,20 +106,16 @@ impl Worker {
         Ok(())
     }
 
-    /// Splits the node in the hand and puts its right part on top of the local stack.
-    pub fn keep<J: Judge>(&mut self, judge: &J) -> Result<(), StepError>
+    // Splits the node in the hand and puts its right part on top of the local stack.
+    fn keep<J: Judge>(&mut self, judge: &J) -> Result<(), StepError>
         requires { HoldsValid (J.rules judge.now) self.old }
         ensures ok { OnOk result (Keeps (J.rules judge.now) self.old self.new) }
         ensures refused { IfRefused result (IsStuck (Keeps (J.rules judge.now)) self.old) }
         ensures unchanged { OnErr result (self.new ≡ self.old) }
     {
-        let Some(node) = self.hand else {
+        let Some((left, right)) = self.parts(judge) else {
             return Err(StepError::Refused);
         };
-        let Verdict::Split = judge.judge(node) else {
-            return Err(StepError::Refused);
-        };
-        let (left, right) = judge.cut(node);
         if self.kept.push(right).is_err() {
             return Err(StepError::Memory);
         }
@@ -94,8 +123,8 @@ impl Worker {
         Ok(())
     }
 
-    /// Takes the front of the deque into the empty hand.
-    pub fn pop(&mut self) -> Result<(), StepError>
+    // Takes the front of the deque into the empty hand.
+    fn pop(&mut self) -> Result<(), StepError>
         ensures ok { OnOk result (Pops self.old self.new) }
         ensures refused { OnErr result (IsStuck Pops self.old) }
         ensures unchanged { OnErr result (self.new ≡ self.old) }
@@ -110,8 +139,8 @@ impl Worker {
         Ok(())
     }
 
-    /// Takes the top of the local stack into the empty hand.
-    pub fn take_kept(&mut self) -> Result<(), StepError>
+    // Takes the top of the local stack into the empty hand.
+    fn take_kept(&mut self) -> Result<(), StepError>
         ensures ok { OnOk result (TakesKept self.old self.new) }
         ensures refused { OnErr result (IsStuck TakesKept self.old) }
         ensures unchanged { OnErr result (self.new ≡ self.old) }
@@ -150,7 +179,7 @@ impl Worker {
         self.hand = Some(node);
     }
 
-    /// The leaf that the node in the hand is, if it isn't to be split.
+    /// The leaf that the node in the hand is, if it is not to be split.
     pub fn leaf<J: Judge>(&self, judge: &J) -> Option<Leaf>
         requires { HoldsValid (J.rules judge.now) self.now }
         ensures some { IfSome result (λ l. HoldsLeaf (J.rules judge.now) self.now l) }

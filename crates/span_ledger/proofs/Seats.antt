@@ -57,27 +57,27 @@ splits t id v room s k at =
     let n : View = made v in
     let old = k.fit id v at in
     with_views t s.words s.homes s.views (slice_set s.views id w ++ n ∷ []) k
-      (omega (arith, k.holders, sum_by_push (λ (u : View). u.holds) (slice_set s.views id w) n, total_set (λ (u : View). u.holds) s.views id v w at))
-      (λ j. omega (arith, k.numbers j, sum_by_push (taken j) (slice_set s.views id w) n, total_set (taken j) s.views id v w at, run_step j v.low v.high room))
-      (omega (arith, k.counted, sum_by_push size (slice_set s.views id w) n, total_set size s.views id v w at, room))
-      (λ i u g. ⊎_elim
-          (λ (e : get_elem? (slice_set s.views id w) i ≡ M.some u). all_set (λ i u. Fits t k.log u) s.views id w (record {
-            parts = old.parts;
-            below = old.below;
-            numbers = old.numbers;
-            idle = old.idle;
-            current = old.current;
-            fresh = λ j le. old.fresh j (omega (arith, le, run_step j v.low v.high room));
-          }) (λ i u other e. k.fit i u e) i u e)
-          (λ (e : n ≡ u). subst (Fits t k.log) e (record {
-            parts = (record { seen = (k.log, refl); mine = old.fresh v.low (omega (arith, run_step v.low v.low v.high room, one_number v.low)); again = tt }, tt);
-            below = omega arith;
-            numbers = λ j le. omega (arith, no_number j v.low (λ z. absurd (omega (arith, z, le, room, old.below))));
-            idle = λ _. refl;
-            current = λ z. absurd (omega (arith, z));
-            fresh = λ j le. absurd (omega (arith, le));
-          }))
-          (at_snoc (slice_set s.views id w) n u i g))
+    (omega (arith, k.holders, sum_by_push (λ (u : View). u.holds) (slice_set s.views id w) n, total_set (λ (u : View). u.holds) s.views id v w at))
+    (λ j. omega (arith, k.numbers j, sum_by_push (taken j) (slice_set s.views id w) n, total_set (taken j) s.views id v w at, run_step j v.low v.high room))
+    (omega (arith, k.counted, sum_by_push size (slice_set s.views id w) n, total_set size s.views id v w at, room))
+    (λ i u g. ⊎_elim
+    (λ (e : get_elem? (slice_set s.views id w) i ≡ M.some u). all_set (λ i u. Fits t k.log u) s.views id w (record {
+      parts = old.parts;
+      below = old.below;
+      numbers = old.numbers;
+      idle = old.idle;
+      current = old.current;
+      fresh = λ j le. old.fresh j (omega (arith, le, run_step j v.low v.high room));
+    }) (λ i u other e. k.fit i u e) i u e)
+    (λ (e : n ≡ u). subst (Fits t k.log) e (record {
+      parts = (record { seen = (k.log, refl); mine = old.fresh v.low (omega (arith, run_step v.low v.low v.high room, one_number v.low)); again = tt }, tt);
+      below = omega arith;
+      numbers = λ j le. omega (arith, no_number j v.low (λ z. absurd (omega (arith, z, le, room, old.below))));
+      idle = λ _. refl;
+      current = λ z. absurd (omega (arith, z));
+      fresh = λ j le. absurd (omega (arith, le));
+    }))
+    (at_snoc (slice_set s.views id w) n u i g))
 
 times-append : (k : ℕ) (ps qs : List Part) → times k (ps ++ qs) ≡ times k ps + times k qs
 times-append k [] qs = omega arith
@@ -95,24 +95,24 @@ joins t id v other w idle idle' s k at far there =
     let from : get_elem? s.views other ≡ M.some w = ⊎_elim (λ (z : (other ≡ id) × (b ≡ w)). absurd (far z.0)) (λ (z : (other ≢ id) × (get_elem? s.views other ≡ M.some w)). z.1) (at_set s.views id other b w there) in
     let new = k.fit other w from in
     with_views t s.words s.homes s.views (slice_set mid other spent) k
-      (omega (arith, k.holders, total_set (λ (u : View). u.holds) s.views id v b at, total_set (λ (u : View). u.holds) mid other w spent there))
-      (λ j. omega (arith, k.numbers j, times-append j v.parts w.parts, total_set (taken j) s.views id v b at, total_set (taken j) mid other w spent there))
-      (omega (arith, k.counted, length-append v.parts w.parts, total_set size s.views id v b at, total_set size mid other w spent there))
-      (all_set (λ i u. Fits t k.log u) mid other spent (record {
-        parts = tt;
-        below = omega arith;
-        numbers = λ j le. refl;
-        idle = λ _. refl;
-        current = λ z. absurd (omega (arith, z));
-        fresh = λ j le. absurd (omega (arith, le));
-      }) (λ i u apart e. all_set (λ i u. Fits t k.log u) s.views id b (record {
-        parts = each-append k.log v.parts w.parts old.parts new.parts;
-        below = old.below;
-        numbers = λ j le. omega (arith, times-append j v.parts w.parts, old.numbers j le, new.numbers j le);
-        idle = λ _. omega (arith, idle, idle');
-        current = λ z. absurd (omega (arith, z, idle, idle'));
-        fresh = old.fresh;
-      }) (λ i u other e. k.fit i u e) i u e))
+    (omega (arith, k.holders, total_set (λ (u : View). u.holds) s.views id v b at, total_set (λ (u : View). u.holds) mid other w spent there))
+    (λ j. omega (arith, k.numbers j, times-append j v.parts w.parts, total_set (taken j) s.views id v b at, total_set (taken j) mid other w spent there))
+    (omega (arith, k.counted, length-append v.parts w.parts, total_set size s.views id v b at, total_set size mid other w spent there))
+    (all_set (λ i u. Fits t k.log u) mid other spent (record {
+      parts = tt;
+      below = omega arith;
+      numbers = λ j le. refl;
+      idle = λ _. refl;
+      current = λ z. absurd (omega (arith, z));
+      fresh = λ j le. absurd (omega (arith, le));
+    }) (λ i u apart e. all_set (λ i u. Fits t k.log u) s.views id b (record {
+      parts = each-append k.log v.parts w.parts old.parts new.parts;
+      below = old.below;
+      numbers = λ j le. omega (arith, times-append j v.parts w.parts, old.numbers j le, new.numbers j le);
+      idle = λ _. omega (arith, idle, idle');
+      current = λ z. absurd (omega (arith, z, idle, idle'));
+      fresh = old.fresh;
+    }) (λ i u other e. k.fit i u e) i u e))
 
 one_view : (v u : View) (i : ℕ) → get_elem? (v ∷ []) i ≡ M.some u → v ≡ u
 one_view v u zero e = M.some-injective v u e

@@ -4,19 +4,19 @@ use Rattle.pool_core.proofs.pool.Pool.step.Goals as goal
 
 pub returns-in-Push-clause-refused : goal.returns-in-Push-clause-refused
 returns-in-Push-clause-refused g c =
-    refused_as (g.J.Judge.rules c.args.self.now.judge) c.args.self.now.state c.args.step (Push c.in-Push.w) c.push.result c.in-Push.is c.push.ensures.refused
+    refused_as (g.J.Judge.rules c.args.self.now.judge) c.args.self.now.state c.args.step (Push c.in-Push.w) c.take_own.result c.in-Push.is c.take_own.ensures.refused
 
 pub returns-in-Keep-clause-refused : goal.returns-in-Keep-clause-refused
 returns-in-Keep-clause-refused g c =
-    refused_as (g.J.Judge.rules c.args.self.now.judge) c.args.self.now.state c.args.step (Keep c.in-Keep.w) c.keep.result c.in-Keep.is c.keep.ensures.refused
+    refused_as (g.J.Judge.rules c.args.self.now.judge) c.args.self.now.state c.args.step (Keep c.in-Keep.w) c.take_own-in-Keep.result c.in-Keep.is c.take_own-in-Keep.ensures.refused
 
 pub returns-in-Pop-clause-refused : goal.returns-in-Pop-clause-refused
 returns-in-Pop-clause-refused g c =
-    refused_as (g.J.Judge.rules c.args.self.now.judge) c.args.self.now.state c.args.step (Pop c.in-Pop.w) c.pop.result c.in-Pop.is c.pop.ensures.refused
+    refused_as (g.J.Judge.rules c.args.self.now.judge) c.args.self.now.state c.args.step (Pop c.in-Pop.w) c.take_own-in-Pop.result c.in-Pop.is c.take_own-in-Pop.ensures.refused
 
 pub returns-in-TakeKept-clause-refused : goal.returns-in-TakeKept-clause-refused
 returns-in-TakeKept-clause-refused g c =
-    refused_as (g.J.Judge.rules c.args.self.now.judge) c.args.self.now.state c.args.step (TakeKept c.in-TakeKept.w) c.take_kept.result c.in-TakeKept.is c.take_kept.ensures.refused
+    refused_as (g.J.Judge.rules c.args.self.now.judge) c.args.self.now.state c.args.step (TakeKept c.in-TakeKept.w) c.take_own-in-TakeKept.result c.in-TakeKept.is c.take_own-in-TakeKept.ensures.refused
 
 pub returns-in-Steal-clause-refused : goal.returns-in-Steal-clause-refused
 returns-in-Steal-clause-refused g c =

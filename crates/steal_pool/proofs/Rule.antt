@@ -1,5 +1,5 @@
 -- Each kind of step keeps the rule.
-use Rattle.std.proofs.Common.{◌≡◌, ℕ, ◌+◌, ◌<◌, ◌≤◌, List, [], ◌∷◌, ◌++◌, append_assoc, refl, sym, ap, ◌∙◌, subst, slice_set, sum_by, IsPermutation, Option, Some, None, MatchOption, arith}
+use Rattle.std.proofs.Common.{◌≡◌, ℕ, ◌+◌, ◌<◌, List, [], ◌∷◌, ◌++◌, append_assoc, refl, sym, ap, ◌∙◌, subst, slice_set, sum_by, IsPermutation, Option, Some, None, MatchOption, arith}
 use Rattle.std.specs.List.{AllByRecursion}
 use Rattle.std.proofs.lemmas.List.{append-nil}
 use Rattle.std.proofs.lemmas.List.Sorted.{sum_by-IsPermutation}
@@ -84,8 +84,7 @@ gone_taken t port v mine items views kept at none =
 -- the owner takes what was put first of what is left
 pub owner_takes : (t : Rules) (port : ℕ) (v : View) → v.owner ≡ 1 → Takes (Balanced t) port v 1 (OwnerTakes t v)
 owner_takes t port v mine xs items views least most kept at =
-    let one = takes t port v (omega (arith, mine)) xs items views least most kept at in
-    (
+    let one = takes t port v (omega (arith, mine)) xs items views least most kept at in (
       one.0,
       one.1,
       (

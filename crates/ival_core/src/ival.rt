@@ -1,22 +1,21 @@
 // The interval, and the calls that make one from others.
 
 ghost use Rattle.std.specs.Prelude.{◌≡◌, ◌≤◌, ◌<◌, ◌^◌, ◌*◌, ◌≤ℤ◌, ℤ, pos, neg_ℤ, unsigned_abs, ◌⊎◌};
-ghost use Rattle.spec_intervals.specs.Interval.{Interval, IsIval, IsExponent, exponent_limit, narrow_shift, IsDistance, IsCosine, end_limit, distance_exponent, cosine_exponent, interval, narrow, settled, aligned_lower, aligned_upper, is_zero, sum, sum_up, negated, difference, product, join, join_up, meet, meet_up, signed_square, scale, from_decimal};
+ghost use Rattle.spec_intervals.specs.Interval.{Interval, IsIval, IsExponent, exponent_limit, narrow_shift, IsDistance, IsCosine, end_limit, distance_exponent, cosine_exponent, interval, narrow, settled, is_zero, sum, sum_up, negated, difference, product, join, join_up, meet, meet_up, signed_square, scale, from_decimal};
 ghost use Rattle.spec_intervals.specs.Fraction.{Fraction, Holds, Overlaps, fraction_add, fraction_sub, fraction_mul, fraction_signed_square, fraction_scale, decimal};
 ghost use Rattle.spec_intervals.specs.Signs.{sign_of};
+ghost use Rattle.ival_core.specs.Aligned.{IsAligned};
 ghost use borrow.Author.Differences.{up, down};
 
 use crate::decimals::decimal_ends;
 use crate::divider::Divider;
 use crate::ends::{
-    added, ceil_shift, exponent_gap, floor_shift, greater_size, half_down, high_end, is_moderate,
-    is_small, leading_shift, least_shift, lifted, low_end, product_ends, small_end, square_end,
+    added, ceil_shift, exponent_gap, floor_shift, greater, greater_size, half_down, high_end,
+    is_moderate, is_small, leading_shift, least_shift, lesser, lifted, low_end, product_ends,
+    small_end, square_end,
 };
 use spec_intervals::Sign;
 use std::marker::Model;
-
-#[cfg(test)]
-mod tests;
 
 /// The exponent of 2 at which the decimals of distances in km are taken.
 pub const DISTANCE_EXPONENT: i32 = -24;
@@ -298,6 +297,18 @@ fn narrowed_any(lo: i128, hi: i128, s: i32) -> Ival
     }
 }
 
+/// The interval of two ends, as it is.
+fn exact(lo: i128, hi: i128, s: i32) -> Ival
+    requires { IsIval (interval lo hi s) }
+    ensures { result ≡ interval lo hi s }
+{
+    Ival {
+        lo: small_end(lo),
+        hi: small_end(hi),
+        s,
+    }
+}
+
 fn decimal_at(mant: i64, exp: i16, s: i32) -> Ival
     requires below { s ≤ℤ pos 0 }
     requires above { neg_ℤ (pos 60) ≤ℤ s }
@@ -305,13 +316,7 @@ fn decimal_at(mant: i64, exp: i16, s: i32) -> Ival
     ensures { result ≡ from_decimal mant exp s }
 {
     let (lo, hi) = decimal_ends(mant, exp, s);
-    let low = small_end(lo);
-    let high = small_end(hi);
-    Ival {
-        lo: low,
-        hi: high,
-        s,
-    }
+    exact(lo, hi, s)
 }
 
 #[inline(always)]
@@ -390,8 +395,8 @@ fn join_upward(x: Ival, y: Ival) -> Ival
     ensures { result ≡ join_up x y }
 {
     let at = at_one_exponent(x, y);
-    let lo = at.lower_lo.min(at.upper_lo);
-    let hi = at.lower_hi.max(at.upper_hi);
+    let lo = lesser(at.lower_lo, at.upper_lo);
+    let hi = greater(at.lower_hi, at.upper_hi);
     narrowed(lo, hi, at.s)
 }
 
@@ -420,8 +425,8 @@ fn meet_upward(x: Ival, y: Ival) -> Ival
     ensures { result ≡ meet_up x y }
 {
     let at = at_one_exponent(x, y);
-    let lo = at.lower_lo.max(at.upper_lo);
-    let hi = at.lower_hi.min(at.upper_hi);
+    let lo = greater(at.lower_lo, at.upper_lo);
+    let hi = lesser(at.lower_hi, at.upper_hi);
     narrowed(lo, hi, at.s)
 }
 
@@ -476,19 +481,7 @@ fn at_one_exponent(x: Ival, y: Ival) -> Aligned
     requires order { x.s ≤ℤ y.s }
     requires exponent { IsExponent x.s }
     requires other_exponent { IsExponent y.s }
-    ensures lower_lo { result.lower_lo ≡ (aligned_lower x y).lo }
-    ensures lower_hi { result.lower_hi ≡ (aligned_lower x y).hi }
-    ensures upper_lo { result.upper_lo ≡ (aligned_upper x y).lo }
-    ensures upper_hi { result.upper_hi ≡ (aligned_upper x y).hi }
-    ensures exponent { result.s ≡ (aligned_lower x y).s }
-
-    ensures lower_ordered { result.lower_lo ≤ℤ result.lower_hi }
-    ensures upper_ordered { result.upper_lo ≤ℤ result.upper_hi }
-    ensures lower_lo_small { unsigned_abs result.lower_lo ≤ end_limit }
-    ensures lower_hi_small { unsigned_abs result.lower_hi ≤ end_limit }
-    ensures upper_lo_bound { unsigned_abs result.upper_lo ≤ 2 ^ 122 }
-    ensures upper_hi_bound { unsigned_abs result.upper_hi ≤ 2 ^ 122 }
-    ensures exponent_bound { unsigned_abs result.s ≤ 4 * exponent_limit }
+    ensures { IsAligned x y result }
 {
     let d = exponent_gap(x.s, y.s);
     let m = d.min(LIFT_LIMIT);

@@ -5,10 +5,10 @@ ghost use Rattle.std.specs.Int.{int_gap, int_min, int_max};
 ghost use Rattle.spec_intervals.specs.Interval.{interval, IsIval, IsExponent, exponent_limit, end_limit, lift_limit, narrow_shift, least4, greatest4, signed_sq};
 ghost use Rattle.spec_numbers.specs.Numbers.{floor_div, ceil_div};
 
-/// The greatest size of an end, 2^62: the product of two ends is within 128 bits.
+/// The greatest magnitude of an end, 2^62: the product of two ends is within 128 bits.
 const END_LIMIT: u128 = 1 << 62;
 
-/// The greater size of two ends in order.
+/// The greater magnitude of two ends in order.
 #[inline(always)]
 pub fn greater_size(lo: i128, hi: i128) -> u128
     requires ordered { lo ≤ℤ hi }
@@ -20,7 +20,7 @@ pub fn greater_size(lo: i128, hi: i128) -> u128
     hi.max(-lo) as u128
 }
 
-/// Whether two ends of this size are not past the limit.
+/// Whether two ends of this magnitude are not past the limit.
 #[inline(always)]
 pub fn is_small(size: u128) -> bool
     ensures { IsTrue result ↔ size ≤ end_limit }
@@ -28,7 +28,7 @@ pub fn is_small(size: u128) -> bool
     size <= END_LIMIT
 }
 
-/// Whether a number is at most 2^124 in size, as products of ends are.
+/// Whether a number is at most 2^124 in magnitude, as products of ends are.
 #[inline(always)]
 pub fn is_moderate(z: i128) -> bool
     ensures { IsTrue result ↔ unsigned_abs z ≤ 2 ^ 124 }
@@ -36,10 +36,10 @@ pub fn is_moderate(z: i128) -> bool
     z.unsigned_abs() <= 1 << 124
 }
 
-/// How often two ends in order of this greater size are halved until neither is past the limit.
+/// The least shift that brings the magnitudes of two ends in order, of which this is the greater, to at most 2^62.
 ///
-/// The end of the greater size is a low end below 0 or a high end above 0, so it is rounded away from 0, and the
-/// leading bit of that size alone tells the number of halvings.
+/// The end of the greater magnitude is a low end below 0 or a high end above 0, so it is rounded away from 0, and the
+/// leading bit of that magnitude alone determines the shift.
 #[inline(always)]
 pub fn leading_shift(lo: i128, hi: i128, size: u128) -> u32
     requires ordered { lo ≤ℤ hi }
@@ -140,26 +140,17 @@ pub fn added(a: i128, b: i128) -> i128
     a + b
 }
 
-/// The lesser of a small end and one that was lifted.
+/// A small end and one that was lifted, the lesser first. Where a caller reads one of them, the other is not made.
 #[inline(always)]
-pub fn lesser(a: i128, b: i128) -> i128
+pub fn in_order(a: i128, b: i128) -> (i128, i128)
     requires a_small { unsigned_abs a ≤ end_limit }
     requires b_small { unsigned_abs b ≤ 2 ^ 122 }
-    ensures equals { result ≡ int_min a b }
-    ensures bound { unsigned_abs result ≤ 2 ^ 123 }
+    ensures lesser { result.0 ≡ int_min a b }
+    ensures greater { result.1 ≡ int_max a b }
+    ensures lesser_bound { unsigned_abs result.0 ≤ 2 ^ 123 }
+    ensures greater_bound { unsigned_abs result.1 ≤ 2 ^ 123 }
 {
-    a.min(b)
-}
-
-/// The greater of them.
-#[inline(always)]
-pub fn greater(a: i128, b: i128) -> i128
-    requires a_small { unsigned_abs a ≤ end_limit }
-    requires b_small { unsigned_abs b ≤ 2 ^ 122 }
-    ensures equals { result ≡ int_max a b }
-    ensures bound { unsigned_abs result ≤ 2 ^ 123 }
-{
-    a.max(b)
+    (a.min(b), a.max(b))
 }
 
 /// How far one exponent is above another.

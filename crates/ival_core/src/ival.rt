@@ -10,9 +10,9 @@ ghost use borrow.Author.Differences.{up, down};
 use crate::decimals::decimal_ends;
 use crate::divider::Divider;
 use crate::ends::{
-    added, ceil_shift, exponent_gap, floor_shift, greater, greater_size, half_down, high_end,
-    is_moderate, is_small, leading_shift, least_shift, lesser, lifted, low_end, product_ends,
-    small_end, square_end,
+    added, ceil_shift, exponent_gap, floor_shift, greater_size, half_down, high_end, in_order,
+    is_moderate, is_small, leading_shift, least_shift, lifted, low_end, product_ends, small_end,
+    square_end,
 };
 use spec_intervals::Sign;
 use std::marker::Model;
@@ -26,7 +26,7 @@ pub const COSINE_EXPONENT: i32 = -60;
 /// By how many powers of 2 an end is multiplied at most.
 const LIFT_LIMIT: u32 = 60;
 
-/// All numbers from `lo * 2^s` to `hi * 2^s`, with `lo <= hi` and both at most 2^62 in size.
+/// All numbers from `lo * 2^s` to `hi * 2^s`, with `lo <= hi` and both at most 2^62 in magnitude.
 #[derive(Clone, Copy, Debug, PartialEq, Eq)]
 pub struct Ival {
     lo: i64,
@@ -61,8 +61,8 @@ impl Ival {
         (self.lo as i128, self.hi as i128, self.s)
     }
 
-    /// The interval from `lo * 2^s` to `hi * 2^s`, narrowed: both ends are halved together, rounded outward, until
-    /// neither is past 2^62 in size. Where both ends are 0 the exponent is 0.
+    /// The interval from `lo * 2^s` to `hi * 2^s`, normalized: both ends are halved together, rounded outward, until
+    /// neither is past 2^62 in magnitude. Where both ends are 0 the exponent is 0.
     pub fn of(lo: i128, hi: i128, s: i32) -> Ival
         requires ordered { lo ≤ℤ hi }
         requires exponent { IsExponent s }
@@ -81,7 +81,7 @@ impl Ival {
     }
 
     /// `mant * 10^exp` at the exponent `s`, -24 for a length in km and -60 for a cosine, rounded down and up.
-    /// It is not narrowed: 0 keeps the exponent `s`.
+    /// It is not normalized: 0 keeps the exponent `s`.
     pub fn from_decimal(mant: i64, exp: i16, s: i32) -> Ival
         requires exponent { (s ≡ distance_exponent) ⊎ (s ≡ cosine_exponent) }
         requires distance { s ≡ distance_exponent → IsDistance mant exp }
@@ -106,7 +106,7 @@ impl Ival {
         }
     }
 
-    /// The sum: the ends are added at one exponent and narrowed. An interval of 0 alone adds nothing.
+    /// The sum: the ends are added at one exponent and normalized. An interval of 0 alone adds nothing.
     #[inline(always)]
     pub fn add(self, other: Ival) -> Ival
         requires exponent { IsExponent self.s }
@@ -118,7 +118,7 @@ impl Ival {
         sum_of(self, other)
     }
 
-    /// The difference: the sum with the other interval turned round 0.
+    /// The difference: the sum with the other interval negated.
     #[inline(always)]
     pub fn sub(self, other: Ival) -> Ival
         requires exponent { IsExponent self.s }
@@ -130,7 +130,7 @@ impl Ival {
         difference_of(self, other)
     }
 
-    /// The product: the least and the greatest of the four products of ends, narrowed.
+    /// The product: the least and the greatest of the four products of ends, normalized.
     #[inline(always)]
     pub fn mul(self, other: Ival) -> Ival
         requires exponent { IsExponent self.s }
@@ -142,7 +142,7 @@ impl Ival {
         product_of(self, other)
     }
 
-    /// From the lesser low end to the greater high end, at one exponent and narrowed.
+    /// The hull: from the lesser low end to the greater high end, at one exponent and normalized.
     #[inline(always)]
     pub fn join(self, other: Ival) -> Ival
         requires exponent { IsExponent self.s }
@@ -153,7 +153,7 @@ impl Ival {
         join_of(self, other)
     }
 
-    /// From the greater low end to the lesser high end, at one exponent and narrowed.
+    /// The intersection: from the greater low end to the lesser high end, at one exponent and normalized.
     #[inline(always)]
     pub fn meet(self, other: Ival) -> Ival
         requires exponent { IsExponent self.s }
@@ -165,7 +165,7 @@ impl Ival {
         meet_of(self, other)
     }
 
-    /// `x |x|`, which keeps the sign and grows with `x`: the signed squares of the ends, narrowed.
+    /// `x |x|`, which keeps the sign and grows with `x`: the signed squares of the ends, normalized.
     #[inline(always)]
     pub fn signed_square(self) -> Ival
         requires { IsExponent self.s }
@@ -175,7 +175,7 @@ impl Ival {
         signed_square_of(self)
     }
 
-    /// `2 / seconds` times the numbers from `lo * 2^s` to `hi * 2^s`, rounded outward and narrowed. The argument of a
+    /// `2 / seconds` times the numbers from `lo * 2^s` to `hi * 2^s`, rounded outward and normalized. The argument of a
     /// polynomial over a span of that many seconds goes from -1 to 1, so `2 / seconds` is what it gains in a second.
     #[inline(always)]
     pub fn scale(lo: i128, hi: i128, s: i32, seconds: i64) -> Ival
@@ -205,7 +205,7 @@ impl Ival {
         scaled_by(lo, hi, s, divider)
     }
 
-    /// The interval turned round 0.
+    /// The interval negated.
     #[inline(always)]
     fn negated(self) -> Ival
         ensures { result ≡ negated self }
@@ -251,7 +251,7 @@ fn halved(lo: i128, hi: i128, s: i32, k: u32) -> Ival
     settle(low_end(lo, k), high_end(hi, k), s + k as i32)
 }
 
-/// Narrows two ends in order, as products and sums of ends are. Halved fewer than 64 times, as `% 64` tells the
+/// Normalizes two ends in order, as products and sums of ends are. Halved fewer than 64 times, as `% 64` tells the
 /// compiler.
 #[inline(always)]
 fn narrowed(lo: i128, hi: i128, s: i32) -> Ival
@@ -269,7 +269,7 @@ fn narrowed(lo: i128, hi: i128, s: i32) -> Ival
     }
 }
 
-/// Narrows two ends in order, of which the high one can be negated.
+/// Normalizes two ends in order, of which the high one can be negated.
 fn narrowed_wide(lo: i128, hi: i128, s: i32) -> Ival
     requires ordered { lo ≤ℤ hi }
     requires above_least { unsigned_abs hi < 2 ^ 127 }
@@ -283,7 +283,7 @@ fn narrowed_wide(lo: i128, hi: i128, s: i32) -> Ival
     }
 }
 
-/// Narrows any two ends in order. Where the high end is -2^127 the low end is too, and the halves are exact.
+/// Normalizes any two ends in order. Where the high end is -2^127 the low end is too, and the halves are exact.
 fn narrowed_any(lo: i128, hi: i128, s: i32) -> Ival
     requires ordered { lo ≤ℤ hi }
     requires exponent { IsExponent s }
@@ -386,7 +386,7 @@ fn join_of(x: Ival, y: Ival) -> Ival
     }
 }
 
-/// The join of two intervals, the first at the lower exponent.
+/// The hull of two intervals, the first at the lower exponent.
 #[inline(always)]
 fn join_upward(x: Ival, y: Ival) -> Ival
     requires order { x.s ≤ℤ y.s }
@@ -395,8 +395,8 @@ fn join_upward(x: Ival, y: Ival) -> Ival
     ensures { result ≡ join_up x y }
 {
     let at = at_one_exponent(x, y);
-    let lo = lesser(at.lower_lo, at.upper_lo);
-    let hi = greater(at.lower_hi, at.upper_hi);
+    let lo = in_order(at.lower_lo, at.upper_lo).0;
+    let hi = in_order(at.lower_hi, at.upper_hi).1;
     narrowed(lo, hi, at.s)
 }
 
@@ -415,7 +415,7 @@ fn meet_of(x: Ival, y: Ival) -> Ival
     }
 }
 
-/// The meet of two intervals, the first at the lower exponent.
+/// The intersection of two intervals, the first at the lower exponent.
 #[inline(always)]
 fn meet_upward(x: Ival, y: Ival) -> Ival
     requires order { x.s ≤ℤ y.s }
@@ -425,8 +425,8 @@ fn meet_upward(x: Ival, y: Ival) -> Ival
     ensures { result ≡ meet_up x y }
 {
     let at = at_one_exponent(x, y);
-    let lo = greater(at.lower_lo, at.upper_lo);
-    let hi = lesser(at.lower_hi, at.upper_hi);
+    let lo = in_order(at.lower_lo, at.upper_lo).1;
+    let hi = in_order(at.lower_hi, at.upper_hi).0;
     narrowed(lo, hi, at.s)
 }
 

@@ -1,4 +1,4 @@
-use Rattle.std.proofs.Common.{◌∙◌, arith, ◌+ℤ◌}
+use Rattle.std.proofs.Common.{◌∙◌, arith, ◌+ℤ◌, rules}
 use Rattle.std.proofs.lemmas.Int.{ints}
 use Rattle.std.specs.Int.{int_min, int_max}
 use Rattle.spec_intervals.specs.Interval.{meet_up}
@@ -8,9 +8,9 @@ use Rattle.ival_core.proofs.ival.meet_upward.Goals as goal
 
 pub narrowed-requires-clause-ordered : goal.narrowed-requires-clause-ordered
 narrowed-requires-clause-ordered c =
-    step-ordered int_max int_min c.args.x c.args.y c.at_one_exponent-at.result c.at_one_exponent-at.ensures _ _ (record { sfits = c.greater-lo.type_inv }) (record { sfits = c.lesser-hi.type_inv }) c.greater-lo.ensures.equals c.lesser-hi.ensures.equals (rw (c.at_one_exponent-at.ensures.lower_lo, c.at_one_exponent-at.ensures.lower_hi, c.at_one_exponent-at.ensures.upper_lo, c.at_one_exponent-at.ensures.upper_hi) (meet-in_order c.args.x c.args.y c.requires.order c.requires.overlap))
+    step-ordered int_max int_min c.args.x c.args.y c.at_one_exponent-at.result c.at_one_exponent-at.ensures c.in_order-lo.result.1 c.in_order-hi.result.0 (search rules) (search rules) c.in_order-lo.ensures.greater c.in_order-hi.ensures.lesser (rw (c.at_one_exponent-at.ensures.lower_lo, c.at_one_exponent-at.ensures.lower_hi, c.at_one_exponent-at.ensures.upper_lo, c.at_one_exponent-at.ensures.upper_hi) (meet-in_order c.args.x c.args.y c.requires.order c.requires.overlap))
 
 pub returns : goal.returns
 unfolding meet_up
 returns c =
-    c.narrowed.ensures ∙ step-is int_max int_min c.args.x c.args.y c.at_one_exponent-at.result c.at_one_exponent-at.ensures _ _ (record { sfits = c.greater-lo.type_inv }) (record { sfits = c.lesser-hi.type_inv }) c.greater-lo.ensures.equals c.lesser-hi.ensures.equals
+    c.narrowed.ensures ∙ step-is int_max int_min c.args.x c.args.y c.at_one_exponent-at.result c.at_one_exponent-at.ensures c.in_order-lo.result.1 c.in_order-hi.result.0 (search rules) (search rules) c.in_order-lo.ensures.greater c.in_order-hi.ensures.lesser

@@ -1,5 +1,5 @@
 -- The least and the greatest of four products of ends in order, by their signs.
-use Rattle.std.proofs.Common.{◌≡◌, arith, [], ◌∷◌, ℤ, pos, neg_ℤ, ◌*ℤ◌, ◌≤ℤ◌, ◌∙◌}
+use Rattle.std.proofs.Common.{◌≡◌, arith, ℤ, pos, ◌*ℤ◌, ◌≤ℤ◌, ◌∙◌}
 use Rattle.std.proofs.lemmas.Int.{ints}
 use Rattle.std.specs.Int.{int_min, int_max}
 use Rattle.spec_intervals.specs.Interval.{least4, greatest4}

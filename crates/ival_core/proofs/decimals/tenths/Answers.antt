@@ -1,7 +1,5 @@
 use Rattle.std.proofs.Common.{arith, ◌≡◌, ◌∙◌, ap, ◌≤◌, ◌^◌, min}
 use Rattle.std.proofs.lemmas.Int.{to_z-of_z}
-use mir.Syntax.{w128}
-use mir.Val.{SFits}
 use Rattle.spec_numbers.specs.Numbers.{floor_div, ceil_div}
 use Rattle.ival_core.proofs.Powers.{ten_pos, ten_bound, tenths_capped, ceil_capped}
 use Rattle.ival_core.proofs.Passing.{kept}

@@ -1,4 +1,4 @@
-use Rattle.std.proofs.Common.{arith, pos, w64, ◌≤ℤ◌}
+use Rattle.std.proofs.Common.{arith, w64}
 use Rattle.std.proofs.lemmas.Int.{ints, to_z-of_z}
 use Rattle.spec_numbers.proofs.Order.{le-mul, le-mul_neg}
 use Rattle.ival_core.proofs.Signs.{min_first, min_second, max_first, max_second}

@@ -1,8 +1,6 @@
-use Rattle.std.proofs.Common.{◌∙◌, arith, rules, w64, ◌*ℤ◌}
+use Rattle.std.proofs.Common.{◌∙◌, arith}
 use Rattle.std.proofs.lemmas.Int.{ints}
 use Rattle.std.specs.Int.{int_min, int_max}
-use mir.Syntax.{w128}
-use mir.Val.{SFits}
 use Rattle.ival_core.proofs.Passing.{product_kept, kept}
 use Rattle.ival_core.proofs.Signs.{least-across, greatest-across, across-above, across-below}
 use Rattle.ival_core.proofs.ends.products_across.Goals as goal

@@ -1,7 +1,6 @@
 use Rattle.std.proofs.Common.{◌≡◌, arith, ap, ◌∙◌, to_z, of_z, w32, ◌+ℤ◌, rules}
 use Rattle.std.proofs.lemmas.Int.{ints, to_z-of_z}
 use mir.Syntax.{w128}
-use mir.Val.{SFits}
 use Rattle.spec_intervals.specs.Interval.{Interval, least4, greatest4}
 use Rattle.spec_intervals.proofs.Products.{product-parts, corners_ordered}
 use Rattle.ival_core.proofs.Passing.{kept}

@@ -1,6 +1,4 @@
-use Rattle.std.proofs.Common.{◌∙◌, arith, ◌+ℤ◌}
-use Rattle.std.proofs.lemmas.Int.{ints}
-use Rattle.std.specs.Int.{int_min, int_max}
+use Rattle.std.proofs.Common.{◌∙◌, ◌+ℤ◌}
 use Rattle.spec_intervals.specs.Interval.{sum_up}
 use Rattle.ival_core.proofs.Aligning.{sums_ordered, step-is, step-ordered}
 use Rattle.ival_core.proofs.ival.sum_upward.Goals as goal

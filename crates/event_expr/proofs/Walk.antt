@@ -7,7 +7,7 @@ use Rattle.spec_text.specs.declared.decimals.Decimal.{Decimal}
 use Rattle.spec_intervals.specs.Interval.{Interval, IsDistance, IsCosine, from_decimal, distance_exponent, cosine_exponent}
 use Rattle.spec_intervals.specs.Fraction.{Fraction, Holds, Overlaps, decimal}
 use Rattle.spec_intervals.specs.Enclosure.{Enclosure, IsEnclosure, AllFractions, IsSpan, IsWithin, AllWithin, Encloses}
-use Rattle.spec_expressions.specs.Term.{leaf_exponent, part_exponent, Leaf, IsLeaf, Term, leaf, length, cosine, sum, difference, product, signed_square, exact_of, enclosure_of, IsFormula, HasLeaves, HasConstants, nodes, degree, node_limit, degree_limit}
+use Rattle.spec_expressions.specs.Term.{leaf_exponent, part_exponent, Leaf, IsLeaf, Term, sum, difference, product, signed_square, exact_of, enclosure_of, IsFormula, HasLeaves, HasConstants, nodes, degree, node_limit, degree_limit}
 use Rattle.spec_intervals.proofs.Exponents.{IsWithin-more, distance-within, cosine-within}
 use Rattle.spec_expressions.proofs.Induction.{AllFractions-of, IsEnclosure-of, IsFraction-decimal}
 use Rattle.spec_expressions.proofs.Reach.{AllWithin-of}

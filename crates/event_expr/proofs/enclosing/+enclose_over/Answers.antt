@@ -4,7 +4,6 @@ use mir.Syntax.{w16}
 use mir.Val.{SFits}
 use Rattle.spec_intervals.specs.Interval.{distance_exponent, cosine_exponent}
 use Rattle.spec_intervals.specs.Enclosure.{sum_of, difference_of, product_of, signed_square_of}
-use Rattle.spec_expressions.specs.Term.{term}
 use Rattle.event_expr.proofs.Walk.{Known, known, decimal_kept, part-within, part-encloses, two_enclosed, sum-parts, difference-parts, product-parts, square-part, length-within, cosine-part, holds-number, two_parts, one_part}
 use Rattle.event_expr.proofs.enclosing.+enclose_over.Goals as goal
 use Rattle.event_expr.proofs.enclosing.+enclose_over.Goals.{Start}

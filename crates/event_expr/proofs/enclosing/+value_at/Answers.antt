@@ -2,7 +2,6 @@ use Rattle.std.proofs.Common.{rules, sym, ◌∙◌}
 use Rattle.spec_intervals.specs.Interval as I
 use Rattle.spec_intervals.specs.Interval.{distance_exponent, cosine_exponent}
 use Rattle.spec_intervals.specs.Enclosure.{sum_of, difference_of, product_of}
-use Rattle.spec_expressions.specs.Term.{term}
 use Rattle.event_expr.proofs.Walk.{Known, known, decimal_kept, sum-parts, difference-parts, product-parts, square-part}
 use Rattle.event_expr.proofs.Mids.{mid-constant, mid-sum, mid-difference, mid-product, two_mids, one_mid, one_exponent, two_exponents}
 use Rattle.event_expr.proofs.enclosing.+value_at.Goals as goal

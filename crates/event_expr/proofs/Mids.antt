@@ -5,7 +5,9 @@ use lib.Signed.{lt_z}
 use Rattle.spec_intervals.specs.Interval as I
 use Rattle.spec_intervals.specs.Interval.{Interval, IsExponent, zero_interval, meet, from_decimal, distance_exponent, cosine_exponent}
 use Rattle.spec_intervals.specs.Enclosure.{Enclosure, AllWithin, triple, centred, enclosure, twice_size, constant_of, sum_of, difference_of, product_of, signed_square_of}
-use Rattle.spec_expressions.specs.Term.{part_exponent, Leaf, Term, leaf, length, cosine, sum, difference, product, signed_square, enclosure_of}
+use Rattle.spec_expressions.specs.Term.{part_exponent, Leaf, Term, leaf, length, cosine, sum, difference, product, signed_square, enclosure_of, IsFormula}
+use Rattle.spec_intervals.specs.Fraction.{Fraction}
+use Rattle.event_expr.proofs.Walk.{Known, part-within}
 
 mid-of : (a b : ℤ) (mid plain step : Interval) → (enclosure a b mid plain step).mid ≡ mid
 unfolding enclosure
@@ -43,8 +45,16 @@ two_mids a b of op law u w x y r e f h = (h ∙ λ i. op (e i) (f i)) ∙ sym (l
 pub one_mid : (a b : ℤ) (u : Enclosure) (x r : Interval) → x ≡ u.mid → r ≡ I.signed_square x → r ≡ (signed_square_of a b u).mid
 one_mid a b u x r e h = (h ∙ ap I.signed_square e) ∙ sym (mid-signed_square a b u)
 
-pub mid-exponent : (e : Enclosure) (r : Interval) → r ≡ e.mid → AllWithin part_exponent e → IsExponent r.s
+mid-exponent : (e : Enclosure) (r : Interval) → r ≡ e.mid → AllWithin part_exponent e → IsExponent r.s
 mid-exponent e r is h = let small = h.mid.exponent in rw is (omega arith)
+
+-- what a step owes for the mids of one part of a formula, and of two
+pub one_exponent : (exact : Leaf → ℤ → Fraction) (answer : Leaf → Enclosure) (a b : ℤ) → Known exact answer a b → (d : Term) → IsFormula d → (x : Interval) → x ≡ (enclosure_of answer a b d).mid → IsExponent x.s
+one_exponent exact answer a b k d f x p = mid-exponent (enclosure_of answer a b d) x p (part-within exact answer a b k d f _ refl)
+
+pub two_exponents : (exact : Leaf → ℤ → Fraction) (answer : Leaf → Enclosure) (a b : ℤ) → Known exact answer a b → (d e : Term) → IsFormula d × IsFormula e → (x y : Interval) → x ≡ (enclosure_of answer a b d).mid → y ≡ (enclosure_of answer a b e).mid → record { exponent : IsExponent x.s; other_exponent : IsExponent y.s }
+two_exponents exact answer a b k d e f x y p q =
+    record { exponent = one_exponent exact answer a b k d f.0 x p; other_exponent = one_exponent exact answer a b k e f.1 y q }
 
 -- ---- at a single time
 abbrev pub IsMade : Term → Type 0

@@ -4,7 +4,7 @@ use lib.Signed.{lt_z}
 use Rattle.spec_numbers.proofs.Order.{lin}
 use Rattle.spec_intervals.specs.Interval.{Interval, IsExponent, narrow, sum, difference, product, meet, signed_square, zero_interval}
 use Rattle.spec_intervals.specs.Fraction.{Overlaps, fraction_add, fraction_sub, fraction_mul, fraction_signed_square}
-use Rattle.spec_intervals.specs.Enclosure.{Enclosure, IsSpan, IsWithin, Encloses, middle, offsets, centred, enclosure, twice_size}
+use Rattle.spec_intervals.specs.Enclosure.{Enclosure, IsSpan, IsWithin, AllWithin, Encloses, middle, offsets, centred, enclosure, twice_size}
 use Rattle.spec_expressions.specs.Term.{part_exponent}
 use Rattle.spec_intervals.proofs.Exponents.{IsWithin-more, sum-within, difference-within, product-within, signed_square-within, twice_size-within}
 use Rattle.spec_intervals.proofs.Offsets.{offsets-within, offsets-narrow}
@@ -75,17 +75,27 @@ enclosure-wide a b h mid plain step r c e f = rw (h, f, e)
 
 -- ---- what is enclosed lies in both ranges of a result
 module _ (a b : ℤ) (w : lt_z a b ≡ true) (x y : Enclosure) (h : Encloses a b x) (g : Encloses a b y) where
-  pub shared-sum : Overlaps (sum x.range y.range) (centred a b (sum x.mid y.mid) (sum x.step y.step))
+  shared-sum : Overlaps (sum x.range y.range) (centred a b (sum x.mid y.mid) (sum x.step y.step))
   shared-sum =
       Overlaps-parts (λ t. fraction_add (h.exact t) (g.exact t)) a b (AllFractions-two a b (ordered a b w) h.exact g.exact h.numbers g.numbers) (ordered a b w) (sum x.mid y.mid) (sum x.range y.range) (sum x.step y.step) (PartsHold-sum a b (ordered a b w) h.exact g.exact h.numbers g.numbers x y h.is_enclosure g.is_enclosure)
 
-  pub shared-difference : Overlaps (difference x.range y.range) (centred a b (difference x.mid y.mid) (difference x.step y.step))
+  shared-difference : Overlaps (difference x.range y.range) (centred a b (difference x.mid y.mid) (difference x.step y.step))
   shared-difference =
       Overlaps-parts (λ t. fraction_sub (h.exact t) (g.exact t)) a b (AllFractions-two a b (ordered a b w) h.exact g.exact h.numbers g.numbers) (ordered a b w) (difference x.mid y.mid) (difference x.range y.range) (difference x.step y.step) (PartsHold-difference a b (ordered a b w) h.exact g.exact h.numbers g.numbers x y h.is_enclosure g.is_enclosure)
 
   pub shared-product : Overlaps (product x.range y.range) (centred a b (product x.mid y.mid) (sum (product x.range y.step) (product y.range x.step)))
   shared-product =
       Overlaps-parts (λ t. fraction_mul (h.exact t) (g.exact t)) a b (AllFractions-two a b (ordered a b w) h.exact g.exact h.numbers g.numbers) (ordered a b w) (product x.mid y.mid) (product x.range y.range) (sum (product x.range y.step) (product y.range x.step)) (PartsHold-product a b (ordered a b w) h.exact g.exact h.numbers g.numbers x y h.is_enclosure g.is_enclosure)
+
+-- what a range and a step owe, over more than one time
+module _ (a b : ℤ) (w : lt_z a b ≡ true) (x y : Enclosure) (u : AllWithin part_exponent x) (v : AllWithin part_exponent y) (h : Encloses a b x) (g : Encloses a b y) where
+  pub sum-owes : record { several : lt_z a b ≡ true; mid_within : IsWithin wide_exponent (sum x.mid y.mid); plain_within : IsWithin wide_exponent (sum x.range y.range); step_within : IsWithin wide_exponent (sum x.step y.step); shared : Overlaps (sum x.range y.range) (centred a b (sum x.mid y.mid) (sum x.step y.step)) }
+  sum-owes =
+      record { several = w; mid_within = sum-wide x.mid y.mid u.mid v.mid; plain_within = sum-wide x.range y.range u.range v.range; step_within = sum-wide x.step y.step u.step v.step; shared = shared-sum a b w x y h g }
+
+  pub difference-owes : record { several : lt_z a b ≡ true; mid_within : IsWithin wide_exponent (difference x.mid y.mid); plain_within : IsWithin wide_exponent (difference x.range y.range); step_within : IsWithin wide_exponent (difference x.step y.step); shared : Overlaps (difference x.range y.range) (centred a b (difference x.mid y.mid) (difference x.step y.step)) }
+  difference-owes =
+      record { several = w; mid_within = difference-wide x.mid y.mid u.mid v.mid; plain_within = difference-wide x.range y.range u.range v.range; step_within = difference-wide x.step y.step u.step v.step; shared = shared-difference a b w x y h g }
 
 pub shared-signed_square : (a b : ℤ) → lt_z a b ≡ true → (x : Enclosure) → Encloses a b x → Overlaps (signed_square x.range) (centred a b (signed_square x.mid) (product (twice_size x.range) x.step))
 shared-signed_square a b w x h =

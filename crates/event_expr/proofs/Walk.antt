@@ -1,10 +1,13 @@
 -- What the walk over an expression owes the rules, from what the states keep.
-use Rattle.std.proofs.Common.{◌≡◌, ◌∙◌, arith, ap, ℤ}
+use Rattle.std.proofs.Common.{◌≡◌, ◌∙◌, ◌+◌, ◌≤◌, arith, ap, ℤ, to_z, of_z, w64}
+use Rattle.std.proofs.lemmas.Int.{to_z-of_z}
+use mir.Syntax.{w16}
+use mir.Val.{SFits}
 use Rattle.spec_text.specs.declared.decimals.Decimal.{Decimal}
 use Rattle.spec_intervals.specs.Interval.{Interval, IsDistance, IsCosine, from_decimal, distance_exponent, cosine_exponent}
 use Rattle.spec_intervals.specs.Fraction.{Fraction, Holds, Overlaps, decimal}
 use Rattle.spec_intervals.specs.Enclosure.{Enclosure, IsEnclosure, AllFractions, IsSpan, IsWithin, AllWithin, Encloses}
-use Rattle.spec_expressions.specs.Term.{leaf_exponent, part_exponent, Leaf, IsLeaf, Term, leaf, length, cosine, sum, difference, product, signed_square, exact_of, enclosure_of, IsFormula}
+use Rattle.spec_expressions.specs.Term.{leaf_exponent, part_exponent, Leaf, IsLeaf, Term, sum, difference, product, signed_square, exact_of, enclosure_of, IsFormula, HasLeaves, HasConstants, nodes, degree, node_limit, degree_limit}
 use Rattle.spec_intervals.proofs.Exponents.{IsWithin-more, distance-within, cosine-within}
 use Rattle.spec_expressions.proofs.Induction.{AllFractions-of, IsEnclosure-of, IsFraction-decimal}
 use Rattle.spec_expressions.proofs.Reach.{AllWithin-of}
@@ -31,38 +34,35 @@ module _ (exact : Leaf → ℤ → Fraction) (answer : Leaf → Enclosure) (a b 
   pub part-encloses : Encloses a b r
   part-encloses = record { exact = exact_of exact e; numbers = AllFractions-of exact a b k.numbers e f.leaves; is_enclosure = part-is_enclosure }
 
--- ---- the parts of a formula are formulas
-abbrev pub PartsAre : Term → Type 0
-PartsAre (leaf l) = IsLeaf l
-PartsAre (length d) = IsDistance d.mant d.exp
-PartsAre (cosine d) = IsCosine d.mant d.exp
-PartsAre (sum x y) = IsFormula x × IsFormula y
-PartsAre (difference x y) = IsFormula x × IsFormula y
-PartsAre (product x y) = IsFormula x × IsFormula y
-PartsAre (signed_square x) = IsFormula x
+-- what a rule owes for the enclosures of two parts of a formula
+pub two_enclosed : (exact : Leaf → ℤ → Fraction) (answer : Leaf → Enclosure) (a b : ℤ) → Known exact answer a b → (d e : Term) → IsFormula d × IsFormula e → (x y : Enclosure) → x ≡ enclosure_of answer a b d → y ≡ enclosure_of answer a b e → record { x_within : AllWithin part_exponent x; y_within : AllWithin part_exponent y; x_encloses : Encloses a b x; y_encloses : Encloses a b y }
+two_enclosed exact answer a b k d e f x y p q =
+    record { x_within = part-within exact answer a b k d f.0 x p; y_within = part-within exact answer a b k e f.1 y q; x_encloses = part-encloses exact answer a b k d f.0 x p; y_encloses = part-encloses exact answer a b k e f.1 y q }
 
-pub formula-parts : (e : Term) → IsFormula e → PartsAre e
-formula-parts (leaf l) f = f.leaves
-formula-parts (length d) f = f.constants
-formula-parts (cosine d) f = f.constants
-formula-parts (sum x y) f =
-    let n = f.nodes_within in
-    let d = f.degree_within in
-    (record { leaves = f.leaves.0; nodes_within = omega arith; degree_within = omega arith; constants = f.constants.0 }, record { leaves = f.leaves.1; nodes_within = omega arith; degree_within = omega arith; constants = f.constants.1 })
-formula-parts (difference x y) f =
-    let n = f.nodes_within in
-    let d = f.degree_within in
-    (record { leaves = f.leaves.0; nodes_within = omega arith; degree_within = omega arith; constants = f.constants.0 }, record { leaves = f.leaves.1; nodes_within = omega arith; degree_within = omega arith; constants = f.constants.1 })
-formula-parts (product x y) f =
-    let n = f.nodes_within in
-    let d = f.degree_within in
-    (record { leaves = f.leaves.0; nodes_within = omega arith; degree_within = omega arith; constants = f.constants.0 }, record { leaves = f.leaves.1; nodes_within = omega arith; degree_within = omega arith; constants = f.constants.1 })
-formula-parts (signed_square x) f =
+-- ---- the parts of a formula are formulas
+both_parts : (x y : Term) → HasLeaves x × HasLeaves y → HasConstants x × HasConstants y → 1 + nodes x + nodes y ≤ node_limit → degree x ≤ degree_limit → degree y ≤ degree_limit → IsFormula x × IsFormula y
+both_parts x y l k n d e =
+    (record { leaves = l.0; nodes_within = omega arith; degree_within = d; constants = k.0 }, record { leaves = l.1; nodes_within = omega arith; degree_within = e; constants = k.1 })
+
+pub sum-parts : (x y : Term) → IsFormula (sum x y) → IsFormula x × IsFormula y
+sum-parts x y f = let d = f.degree_within in both_parts x y f.leaves f.constants f.nodes_within (omega arith) (omega arith)
+
+pub difference-parts : (x y : Term) → IsFormula (difference x y) → IsFormula x × IsFormula y
+difference-parts x y f = let d = f.degree_within in both_parts x y f.leaves f.constants f.nodes_within (omega arith) (omega arith)
+
+pub product-parts : (x y : Term) → IsFormula (product x y) → IsFormula x × IsFormula y
+product-parts x y f = let d = f.degree_within in both_parts x y f.leaves f.constants f.nodes_within (omega arith) (omega arith)
+
+pub square-part : (x : Term) → IsFormula (signed_square x) → IsFormula x
+square-part x f =
     let n = f.nodes_within in
     let d = f.degree_within in
     record { leaves = f.leaves; nodes_within = omega arith; degree_within = omega arith; constants = f.constants }
 
 -- ---- constants
+pub decimal_kept : (d : Decimal) (s : ℤ) (r : Interval) → SFits w64 d.mant → SFits w16 d.exp → r ≡ from_decimal (to_z w64 (of_z w64 d.mant)) (to_z w16 (of_z w16 d.exp)) s → r ≡ from_decimal d.mant d.exp s
+decimal_kept d s r f g e = rw (to_z-of_z w64 d.mant f, to_z-of_z w16 d.exp g) at e
+
 pub length-within : (d : Decimal) (r : Interval) → r ≡ from_decimal d.mant d.exp distance_exponent → IsDistance d.mant d.exp → IsWithin part_exponent r
 length-within d r e h =
     rw e (IsWithin-more 24 part_exponent (from_decimal d.mant d.exp distance_exponent) (omega arith) (distance-within d.mant d.exp h))

@@ -1,4 +1,4 @@
-// The enclosure of a formula over what states answer.
+// The enclosure of a formula over what states return.
 
 ghost use Rattle.std.specs.Prelude.{◌≡◌, ◌<◌, ◌≤ℤ◌, ◌<ℤ◌, ℤ, false};
 ghost use lib.Signed.{lt_z};
@@ -12,7 +12,7 @@ use crate::states::States;
 use ival_core::{COSINE_EXPONENT, DISTANCE_EXPONENT, Enclosure, Ival};
 use spec_expressions::Expr;
 
-/// The enclosure of a formula over the times from `a` to `b`, by interval arithmetic on what the states answer. The
+/// The enclosure of a formula over the times from `a` to `b`, by interval arithmetic on what the states return. The
 /// states are asked for each leaf once, and nothing is allocated.
 pub fn enclose<S: States>(f: &Formula, states: &S, a: i64, b: i64) -> Enclosure
     requires fits { S.fits states.now a b }
@@ -95,7 +95,7 @@ fn enclose_over<S: States>(out: &mut Enclosure, expr: &Expr, states: &S, span: &
     }
 }
 
-/// Writes what the states answer for a coordinate of a position.
+/// Writes what the states return for a coordinate of a position.
 #[inline(never)]
 fn set_position<S: States>(out: &mut Enclosure, target: u8, axis: u8, states: &S, span: &TimeSpan)
     requires target { target < 2 }
@@ -106,7 +106,7 @@ fn set_position<S: States>(out: &mut Enclosure, target: u8, axis: u8, states: &S
     *out = states.pos(target, axis, span.first(), span.last());
 }
 
-/// Writes what the states answer for a coordinate of a velocity.
+/// Writes what the states return for a coordinate of a velocity.
 #[inline(never)]
 fn set_velocity<S: States>(out: &mut Enclosure, target: u8, axis: u8, states: &S, span: &TimeSpan)
     requires target { target < 2 }

@@ -79,6 +79,7 @@ impl TimeSpan {
     }
 
     /// The sum.
+    #[tactic(auto, unfolding(spec_intervals::specs::Enclosure::sum_of))]
     #[inline(always)]
     pub fn sum(&self, x: Enclosure, y: Enclosure) -> Enclosure
         requires x_within { AllWithin part_exponent x }
@@ -96,6 +97,7 @@ impl TimeSpan {
     }
 
     /// The first less the second.
+    #[tactic(auto, unfolding(spec_intervals::specs::Enclosure::difference_of))]
     #[inline(always)]
     pub fn difference(&self, x: Enclosure, y: Enclosure) -> Enclosure
         requires x_within { AllWithin part_exponent x }

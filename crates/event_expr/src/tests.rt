@@ -1,4 +1,4 @@
-// Expressions over states whose answers are known, against an exact reference.
+// Expressions over states whose values are known, against an exact reference.
 
 ghost use Rattle.std.specs.Prelude.{◌≡◌, ◌≤◌, ◌<◌, ◌≤ℤ◌, ℤ, pos, IfOk, unsigned_abs};
 ghost use Rattle.spec_intervals.specs.Interval.{narrow};
@@ -123,29 +123,6 @@ fn nodes_are_counted_before_degrees_and_degrees_before_constants(
         check(&rt, long, Some(fault));
     }
     Ok(())
-}
-
-#[test]
-fn constants_are_within_their_limits(rt: HostRuntime) {
-    let lengths = [
-        (68_719_476_736, 0, Some(ExprFault::Constant)),
-        (68_719_476_735, 0, None),
-        (687_194_767_359, -1, None),
-        (0, 99, None),
-        (i64::MIN, -99, None),
-    ];
-    for (mant, exp, fault) in lengths {
-        check(&rt, length(decimal(mant, exp)), fault);
-    }
-    let cosines = [
-        (1_000_001, -6, Some(ExprFault::Constant)),
-        (-1, 0, None),
-        (i64::MIN, -19, None),
-        (1, 1, Some(ExprFault::Constant)),
-    ];
-    for (mant, exp, fault) in cosines {
-        check(&rt, cosine(decimal(mant, exp)), fault);
-    }
 }
 
 /// The ends and the exponent of an interval.

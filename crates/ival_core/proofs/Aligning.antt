@@ -1,23 +1,34 @@
 -- What the steps at one exponent come to, as the rules state it.
-use Rattle.std.proofs.Common.{◌≡◌, ℕ, ◌^◌, ◌<◌, refl, ℤ, pos, negsuc, ◌+ℤ◌, ◌*ℤ◌, ◌≤ℤ◌, unsigned_abs, arith, FitsSigned}
+use Rattle.std.proofs.Common.{◌≡◌, ℕ, ◌^◌, ◌<◌, refl, ℤ, pos, negsuc, ◌+ℤ◌, ◌*ℤ◌, ◌≤ℤ◌, unsigned_abs, arith, FitsSigned, to_z, of_z, w32, ◌∙◌}
 use mir.Syntax.{w128}
 use Rattle.std.specs.Int.{int_min, int_max}
-use Rattle.std.proofs.lemmas.Int.{ints}
-use Rattle.spec_intervals.specs.Interval.{Interval, narrow, scale, signed_sq, signed_square, aligned_lower, aligned_upper, sum_up, join_up, meet_up}
+use Rattle.std.proofs.lemmas.Int.{ints, to_z-of_z}
+use Rattle.spec_intervals.specs.Interval.{Interval, narrow, scale, signed_sq, signed_square, aligned_lower, aligned_upper}
+use Rattle.ival_core.specs.declared.ival.Aligned.{Aligned}
+use Rattle.ival_core.specs.Aligned.{IsAligned}
+use Rattle.ival_core.proofs.Passing.{made_of}
+use mir.Val.{SFits}
 use Rattle.spec_numbers.specs.Numbers.{floor_div, ceil_div}
 
-module _ (x y : Interval) (lo hi s : ℤ) (e : s ≡ (aligned_lower x y).s) where
-  pub sum_up-is : lo ≡ (aligned_lower x y).lo +ℤ (aligned_upper x y).lo → hi ≡ (aligned_lower x y).hi +ℤ (aligned_upper x y).hi → narrow lo hi s ≡ sum_up x y
-  unfolding sum_up
-  sum_up-is p q = rw (p, q, e) refl
+-- what a step makes of the ends at one exponent, as the code passes them on
+module _ (low high : ℤ → ℤ → ℤ) (x y : Interval) (at : Aligned) (k : IsAligned x y at) (lo hi : ℤ) (f : SFits w128 lo) (g : SFits w128 hi) (p : lo ≡ low (to_z w128 (of_z w128 at.lower_lo)) (to_z w128 (of_z w128 at.upper_lo))) (q : hi ≡ high (to_z w128 (of_z w128 at.lower_hi)) (to_z w128 (of_z w128 at.upper_hi))) where
+  pub low_from : to_z w128 (of_z w128 lo) ≡ low at.lower_lo at.upper_lo
+  low_from = let b = k.lower_lo_small in let d = k.upper_lo_bound in made_of low _ _ _ (omega (arith, ints)) (omega (arith, ints)) f p
 
-  pub join_up-is : lo ≡ int_min (aligned_lower x y).lo (aligned_upper x y).lo → hi ≡ int_max (aligned_lower x y).hi (aligned_upper x y).hi → narrow lo hi s ≡ join_up x y
-  unfolding join_up
-  join_up-is p q = rw (p, q, e) refl
+  pub high_from : to_z w128 (of_z w128 hi) ≡ high at.lower_hi at.upper_hi
+  high_from = let b = k.lower_hi_small in let d = k.upper_hi_bound in made_of high _ _ _ (omega (arith, ints)) (omega (arith, ints)) g q
 
-  pub meet_up-is : lo ≡ int_max (aligned_lower x y).lo (aligned_upper x y).lo → hi ≡ int_min (aligned_lower x y).hi (aligned_upper x y).hi → narrow lo hi s ≡ meet_up x y
-  unfolding meet_up
-  meet_up-is p q = rw (p, q, e) refl
+  exponent_from : to_z w32 (of_z w32 at.s) ≡ (aligned_lower x y).s
+  exponent_from = let b = k.exponent_bound in to_z-of_z w32 at.s (omega (arith, ints)) ∙ k.exponent
+
+  pub step-is : narrow (to_z w128 (of_z w128 lo)) (to_z w128 (of_z w128 hi)) (to_z w32 (of_z w32 at.s)) ≡ narrow (low (aligned_lower x y).lo (aligned_upper x y).lo) (high (aligned_lower x y).hi (aligned_upper x y).hi) (aligned_lower x y).s
+  step-is = λ i. narrow ((low_from ∙ λ j. low (k.lower_lo j) (k.upper_lo j)) i) ((high_from ∙ λ j. high (k.lower_hi j) (k.upper_hi j)) i) (exponent_from i)
+
+  pub step-ordered : low at.lower_lo at.upper_lo ≤ℤ high at.lower_hi at.upper_hi → to_z w128 (of_z w128 lo) ≤ℤ to_z w128 (of_z w128 hi)
+  step-ordered o = rw (low_from, high_from) o
+
+pub min_to_max : (a b c d : ℤ) → a ≤ℤ c → int_min a b ≤ℤ int_max c d
+min_to_max a b c d h = grind (arith, ints)
 
 pub sums_ordered : (a b c d : ℤ) → a ≤ℤ b → c ≤ℤ d → (a +ℤ c) ≤ℤ (b +ℤ d)
 sums_ordered a b c d p q = omega (arith, ints)

@@ -6,3 +6,4 @@ mod Aligning
 mod DecimalSizes
 mod Signs
 mod Quotients
+mod Passing

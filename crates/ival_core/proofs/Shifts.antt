@@ -79,5 +79,5 @@ shift_small z k h = let p : 1 ≤ 2 ^ k = one-le-pow k 2 (omega arith) in floor_
 pub exponent_sum : (a b : ℤ) (k : ℕ) → a ≡ b → unsigned_abs b ≤ 65536 → k ≤ 131072 → to_z w32 (of_z w32 (to_z w32 (of_z w32 a) +ℤ to_z w32 k)) ≡ a +ℤ pos k
 exponent_sum a b k e h p = omega (arith, ints)
 
-pub exponent_bound : (a b : ℤ) (k : ℕ) → a ≡ b → unsigned_abs b ≤ 65536 → k ≤ 131072 → unsigned_abs (to_z w32 (of_z w32 (to_z w32 (of_z w32 a) +ℤ to_z w32 k))) ≤ 1000000
-exponent_bound a b k e h p = omega (arith, ints)
+pub shift_bound : (a b : ℤ) (k : ℕ) → a ≡ b → unsigned_abs b ≤ 65536 → k ≤ 131072 → unsigned_abs (to_z w32 (of_z w32 (to_z w32 (of_z w32 a) +ℤ to_z w32 k))) ≤ 262144
+shift_bound a b k e h p = omega (arith, ints)

@@ -35,7 +35,7 @@ struct Part {
     rest: u64,
 }
 
-/// A quotient of any size and its rest.
+/// A quotient of up to 128 bits and its rest.
 #[derive(Clone, Copy)]
 struct Whole {
     quotient: u128,
@@ -100,7 +100,7 @@ fn checked(x: u128, guess: u64, seconds: u64) -> Part
     }
 }
 
-/// The quotient rounded down of a number, from that of its size.
+/// The quotient rounded down of a number, from that of its magnitude.
 #[inline(always)]
 fn rounded_down(z: i128, quotient: u128, rest: u64) -> i128
     requires { quotient < 2 ^ 127 }
@@ -115,7 +115,7 @@ fn rounded_down(z: i128, quotient: u128, rest: u64) -> i128
     }
 }
 
-/// The quotient rounded up of a number, from that of its size.
+/// The quotient rounded up of a number, from that of its magnitude.
 #[inline(always)]
 fn rounded_up(z: i128, quotient: u128, rest: u64) -> i128
     requires size { quotient < 2 ^ 127 }

@@ -2,13 +2,13 @@
 
 ghost use Rattle.std.specs.Prelude.{◌≡◌, ◌↔◌, ◌≤◌, ◌<◌, ◌^◌, ◌*◌, ◌≤ℤ◌, ◌+ℤ◌, ◌*ℤ◌, pos, unsigned_abs, max, IsTrue};
 ghost use Rattle.std.specs.Int.{int_gap, int_min, int_max};
-ghost use Rattle.spec_intervals.specs.Interval.{IsExponent, exponent_limit, end_limit, lift_limit, narrow_shift, least4, greatest4, signed_sq};
+ghost use Rattle.spec_intervals.specs.Interval.{interval, IsIval, IsExponent, exponent_limit, end_limit, lift_limit, narrow_shift, least4, greatest4, signed_sq};
 ghost use Rattle.spec_numbers.specs.Numbers.{floor_div, ceil_div};
 
-/// The greatest size of an end, 2^62: the product of two ends is within 128 bits.
+/// The greatest magnitude of an end, 2^62: the product of two ends is within 128 bits.
 const END_LIMIT: u128 = 1 << 62;
 
-/// The greater size of two ends in order.
+/// The greater magnitude of two ends in order.
 #[inline(always)]
 pub fn greater_size(lo: i128, hi: i128) -> u128
     requires ordered { lo ≤ℤ hi }
@@ -20,7 +20,7 @@ pub fn greater_size(lo: i128, hi: i128) -> u128
     hi.max(-lo) as u128
 }
 
-/// Whether two ends of this size are not past the limit.
+/// Whether two ends of this magnitude are not past the limit.
 #[inline(always)]
 pub fn is_small(size: u128) -> bool
     ensures { IsTrue result ↔ size ≤ end_limit }
@@ -28,7 +28,7 @@ pub fn is_small(size: u128) -> bool
     size <= END_LIMIT
 }
 
-/// Whether a number is at most 2^124 in size, as products of ends are.
+/// Whether a number is at most 2^124 in magnitude, as products of ends are.
 #[inline(always)]
 pub fn is_moderate(z: i128) -> bool
     ensures { IsTrue result ↔ unsigned_abs z ≤ 2 ^ 124 }
@@ -36,10 +36,10 @@ pub fn is_moderate(z: i128) -> bool
     z.unsigned_abs() <= 1 << 124
 }
 
-/// How often two ends in order of this greater size are halved until neither is past the limit.
+/// The least shift that brings the magnitudes of two ends in order, of which this is the greater, to at most 2^62.
 ///
-/// The end of the greater size is a low end below 0 or a high end above 0, so it is rounded away from 0, and the
-/// leading bit of that size alone tells the number of halvings.
+/// The end of the greater magnitude is a low end below 0 or a high end above 0, so it is rounded away from 0, and the
+/// leading bit of that magnitude alone determines the shift.
 #[inline(always)]
 pub fn leading_shift(lo: i128, hi: i128, size: u128) -> u32
     requires ordered { lo ≤ℤ hi }
@@ -140,6 +140,19 @@ pub fn added(a: i128, b: i128) -> i128
     a + b
 }
 
+/// A small end and one that was lifted, the lesser first. Where a caller reads one of them, the other is not made.
+#[inline(always)]
+pub fn in_order(a: i128, b: i128) -> (i128, i128)
+    requires a_small { unsigned_abs a ≤ end_limit }
+    requires b_small { unsigned_abs b ≤ 2 ^ 122 }
+    ensures lesser { result.0 ≡ int_min a b }
+    ensures greater { result.1 ≡ int_max a b }
+    ensures lesser_bound { unsigned_abs result.0 ≤ 2 ^ 123 }
+    ensures greater_bound { unsigned_abs result.1 ≤ 2 ^ 123 }
+{
+    (a.min(b), a.max(b))
+}
+
 /// How far one exponent is above another.
 #[inline(always)]
 pub fn exponent_gap(s: i32, t: i32) -> u32
@@ -163,65 +176,38 @@ fn times(a: i64, b: i64) -> i128
     a as i128 * b as i128
 }
 
-/// Which of `a <= b` gives the lesser product with `z`. An end is chosen and then multiplied, so that no branch hangs on a
-/// sign that can't be foreseen.
+/// `a <= b` in the order of `a z` and `b z`. Ends are chosen and then multiplied, so that no branch hangs on a sign that
+/// cannot be foreseen.
 #[inline(always)]
-fn lesser_end(a: i64, b: i64, z: i64) -> i64
-    requires ordered { a ≤ℤ b }
-    requires a_small { unsigned_abs a ≤ end_limit }
-    requires b_small { unsigned_abs b ≤ end_limit }
-    ensures least { result *ℤ z ≡ int_min (a *ℤ z) (b *ℤ z) }
-    ensures small { unsigned_abs result ≤ end_limit }
+fn ends_by_product(a: i64, b: i64, z: i64) -> (i64, i64)
+    requires ends { IsIval (interval a b (pos 0)) }
+    ensures lesser { result.0 *ℤ z ≡ int_min (a *ℤ z) (b *ℤ z) }
+    ensures greater { result.1 *ℤ z ≡ int_max (a *ℤ z) (b *ℤ z) }
+    ensures lesser_small { unsigned_abs result.0 ≤ end_limit }
+    ensures greater_small { unsigned_abs result.1 ≤ end_limit }
 {
-    if z >= 0 { a } else { b }
+    if z >= 0 { (a, b) } else { (b, a) }
 }
 
-/// Which of `a <= b` gives the greater product with `z`.
+/// The lesser and the greater of `a z` and `b z`. A caller reads one of them, and the other is not multiplied.
 #[inline(always)]
-fn greater_end(a: i64, b: i64, z: i64) -> i64
-    requires ordered { a ≤ℤ b }
-    requires a_small { unsigned_abs a ≤ end_limit }
-    requires b_small { unsigned_abs b ≤ end_limit }
-    ensures greatest { result *ℤ z ≡ int_max (a *ℤ z) (b *ℤ z) }
-    ensures small { unsigned_abs result ≤ end_limit }
-{
-    if z >= 0 { b } else { a }
-}
-
-/// The lesser of `a z` and `b z`, for `a <= b`.
-#[inline(always)]
-fn lesser_product(a: i64, b: i64, z: i64) -> i128
-    requires ordered { a ≤ℤ b }
-    requires a_small { unsigned_abs a ≤ end_limit }
-    requires b_small { unsigned_abs b ≤ end_limit }
+fn products_with(a: i64, b: i64, z: i64) -> (i128, i128)
+    requires ends { IsIval (interval a b (pos 0)) }
     requires z_small { unsigned_abs z ≤ end_limit }
-    ensures { result ≡ int_min (a *ℤ z) (b *ℤ z) }
+    ensures lesser { result.0 ≡ int_min (a *ℤ z) (b *ℤ z) }
+    ensures greater { result.1 ≡ int_max (a *ℤ z) (b *ℤ z) }
 {
-    times(lesser_end(a, b, z), z)
-}
-
-/// The greater of `a z` and `b z`, for `a <= b`.
-#[inline(always)]
-fn greater_product(a: i64, b: i64, z: i64) -> i128
-    requires ordered { a ≤ℤ b }
-    requires a_small { unsigned_abs a ≤ end_limit }
-    requires b_small { unsigned_abs b ≤ end_limit }
-    requires z_small { unsigned_abs z ≤ end_limit }
-    ensures { result ≡ int_max (a *ℤ z) (b *ℤ z) }
-{
-    times(greater_end(a, b, z), z)
+    let (low, high) = ends_by_product(a, b, z);
+    (times(low, z), times(high, z))
 }
 
 /// The least and the greatest product, where 0 lies between `a` and `b`.
 #[inline(always)]
 fn products_across(a: i64, b: i64, c: i64, d: i64) -> (i128, i128)
+    requires ends { IsIval (interval a b (pos 0)) }
+    requires other_ends { IsIval (interval c d (pos 0)) }
     requires below { a ≤ℤ pos 0 }
     requires above { pos 0 ≤ℤ b }
-    requires ordered { c ≤ℤ d }
-    requires a_small { unsigned_abs a ≤ end_limit }
-    requires b_small { unsigned_abs b ≤ end_limit }
-    requires c_small { unsigned_abs c ≤ end_limit }
-    requires d_small { unsigned_abs d ≤ end_limit }
     ensures least { result.0 ≡ least4 a b c d }
     ensures greatest { result.1 ≡ greatest4 a b c d }
 {
@@ -240,19 +226,15 @@ fn products_across(a: i64, b: i64, c: i64, d: i64) -> (i128, i128)
 /// products that these are.
 #[inline(always)]
 fn products_by_sign(a: i64, b: i64, c: i64, d: i64) -> (i128, i128)
-    requires ordered { a ≤ℤ b }
-    requires other_ordered { c ≤ℤ d }
-    requires a_small { unsigned_abs a ≤ end_limit }
-    requires b_small { unsigned_abs b ≤ end_limit }
-    requires c_small { unsigned_abs c ≤ end_limit }
-    requires d_small { unsigned_abs d ≤ end_limit }
+    requires ends { IsIval (interval a b (pos 0)) }
+    requires other_ends { IsIval (interval c d (pos 0)) }
     ensures least { result.0 ≡ least4 a b c d }
     ensures greatest { result.1 ≡ greatest4 a b c d }
 {
     if a >= 0 {
-        (lesser_product(a, b, c), greater_product(a, b, d))
+        (products_with(a, b, c).0, products_with(a, b, d).1)
     } else if b <= 0 {
-        (lesser_product(a, b, d), greater_product(a, b, c))
+        (products_with(a, b, d).0, products_with(a, b, c).1)
     } else {
         products_across(a, b, c, d)
     }

@@ -1,22 +1,21 @@
 // The interval, and the calls that make one from others.
 
 ghost use Rattle.std.specs.Prelude.{◌≡◌, ◌≤◌, ◌<◌, ◌^◌, ◌*◌, ◌≤ℤ◌, ℤ, pos, neg_ℤ, unsigned_abs, ◌⊎◌};
-ghost use Rattle.spec_intervals.specs.Interval.{Interval, IsIval, IsExponent, exponent_limit, narrow_shift, IsDistance, IsCosine, end_limit, distance_exponent, cosine_exponent, interval, narrow, settled, aligned_lower, aligned_upper, is_zero, sum, sum_up, negated, difference, product, join, join_up, meet, meet_up, signed_square, scale, from_decimal};
+ghost use Rattle.spec_intervals.specs.Interval.{Interval, IsIval, IsExponent, exponent_limit, narrow_shift, IsDistance, IsCosine, end_limit, distance_exponent, cosine_exponent, interval, narrow, settled, is_zero, sum, sum_up, negated, difference, product, join, join_up, meet, meet_up, signed_square, scale, from_decimal};
 ghost use Rattle.spec_intervals.specs.Fraction.{Fraction, Holds, Overlaps, fraction_add, fraction_sub, fraction_mul, fraction_signed_square, fraction_scale, decimal};
 ghost use Rattle.spec_intervals.specs.Signs.{sign_of};
+ghost use Rattle.ival_core.specs.Aligned.{IsAligned};
 ghost use borrow.Author.Differences.{up, down};
 
 use crate::decimals::decimal_ends;
 use crate::divider::Divider;
 use crate::ends::{
-    added, ceil_shift, exponent_gap, floor_shift, greater_size, half_down, high_end, is_moderate,
-    is_small, leading_shift, least_shift, lifted, low_end, product_ends, small_end, square_end,
+    added, ceil_shift, exponent_gap, floor_shift, greater_size, half_down, high_end, in_order,
+    is_moderate, is_small, leading_shift, least_shift, lifted, low_end, product_ends, small_end,
+    square_end,
 };
 use spec_intervals::Sign;
 use std::marker::Model;
-
-#[cfg(test)]
-mod tests;
 
 /// The exponent of 2 at which the decimals of distances in km are taken.
 pub const DISTANCE_EXPONENT: i32 = -24;
@@ -27,7 +26,7 @@ pub const COSINE_EXPONENT: i32 = -60;
 /// By how many powers of 2 an end is multiplied at most.
 const LIFT_LIMIT: u32 = 60;
 
-/// All numbers from `lo * 2^s` to `hi * 2^s`, with `lo <= hi` and both at most 2^62 in size.
+/// All numbers from `lo * 2^s` to `hi * 2^s`, with `lo <= hi` and both at most 2^62 in magnitude.
 #[derive(Clone, Copy, Debug, PartialEq, Eq)]
 pub struct Ival {
     lo: i64,
@@ -62,8 +61,8 @@ impl Ival {
         (self.lo as i128, self.hi as i128, self.s)
     }
 
-    /// The interval from `lo * 2^s` to `hi * 2^s`, narrowed: both ends are halved together, rounded outward, until
-    /// neither is past 2^62 in size. Where both ends are 0 the exponent is 0.
+    /// The interval from `lo * 2^s` to `hi * 2^s`, normalized: both ends are halved together, rounded outward, until
+    /// neither is past 2^62 in magnitude. Where both ends are 0 the exponent is 0.
     pub fn of(lo: i128, hi: i128, s: i32) -> Ival
         requires ordered { lo ≤ℤ hi }
         requires exponent { IsExponent s }
@@ -82,7 +81,7 @@ impl Ival {
     }
 
     /// `mant * 10^exp` at the exponent `s`, -24 for a length in km and -60 for a cosine, rounded down and up.
-    /// It is not narrowed: 0 keeps the exponent `s`.
+    /// It is not normalized: 0 keeps the exponent `s`.
     pub fn from_decimal(mant: i64, exp: i16, s: i32) -> Ival
         requires exponent { (s ≡ distance_exponent) ⊎ (s ≡ cosine_exponent) }
         requires distance { s ≡ distance_exponent → IsDistance mant exp }
@@ -107,7 +106,7 @@ impl Ival {
         }
     }
 
-    /// The sum: the ends are added at one exponent and narrowed. An interval of 0 alone adds nothing.
+    /// The sum: the ends are added at one exponent and normalized. An interval of 0 alone adds nothing.
     #[inline(always)]
     pub fn add(self, other: Ival) -> Ival
         requires exponent { IsExponent self.s }
@@ -119,7 +118,7 @@ impl Ival {
         sum_of(self, other)
     }
 
-    /// The difference: the sum with the other interval turned round 0.
+    /// The difference: the sum with the other interval negated.
     #[inline(always)]
     pub fn sub(self, other: Ival) -> Ival
         requires exponent { IsExponent self.s }
@@ -131,7 +130,7 @@ impl Ival {
         difference_of(self, other)
     }
 
-    /// The product: the least and the greatest of the four products of ends, narrowed.
+    /// The product: the least and the greatest of the four products of ends, normalized.
     #[inline(always)]
     pub fn mul(self, other: Ival) -> Ival
         requires exponent { IsExponent self.s }
@@ -143,7 +142,7 @@ impl Ival {
         product_of(self, other)
     }
 
-    /// From the lesser low end to the greater high end, at one exponent and narrowed.
+    /// The hull: from the lesser low end to the greater high end, at one exponent and normalized.
     #[inline(always)]
     pub fn join(self, other: Ival) -> Ival
         requires exponent { IsExponent self.s }
@@ -154,7 +153,7 @@ impl Ival {
         join_of(self, other)
     }
 
-    /// From the greater low end to the lesser high end, at one exponent and narrowed.
+    /// The intersection: from the greater low end to the lesser high end, at one exponent and normalized.
     #[inline(always)]
     pub fn meet(self, other: Ival) -> Ival
         requires exponent { IsExponent self.s }
@@ -166,7 +165,7 @@ impl Ival {
         meet_of(self, other)
     }
 
-    /// `x |x|`, which keeps the sign and grows with `x`: the signed squares of the ends, narrowed.
+    /// `x |x|`, which keeps the sign and grows with `x`: the signed squares of the ends, normalized.
     #[inline(always)]
     pub fn signed_square(self) -> Ival
         requires { IsExponent self.s }
@@ -176,7 +175,7 @@ impl Ival {
         signed_square_of(self)
     }
 
-    /// `2 / seconds` times the numbers from `lo * 2^s` to `hi * 2^s`, rounded outward and narrowed. The argument of a
+    /// `2 / seconds` times the numbers from `lo * 2^s` to `hi * 2^s`, rounded outward and normalized. The argument of a
     /// polynomial over a span of that many seconds goes from -1 to 1, so `2 / seconds` is what it gains in a second.
     #[inline(always)]
     pub fn scale(lo: i128, hi: i128, s: i32, seconds: i64) -> Ival
@@ -206,7 +205,7 @@ impl Ival {
         scaled_by(lo, hi, s, divider)
     }
 
-    /// The interval turned round 0.
+    /// The interval negated.
     #[inline(always)]
     fn negated(self) -> Ival
         ensures { result ≡ negated self }
@@ -252,7 +251,7 @@ fn halved(lo: i128, hi: i128, s: i32, k: u32) -> Ival
     settle(low_end(lo, k), high_end(hi, k), s + k as i32)
 }
 
-/// Narrows two ends in order, as products and sums of ends are. Halved fewer than 64 times, as `% 64` tells the
+/// Normalizes two ends in order, as products and sums of ends are. Halved fewer than 64 times, as `% 64` tells the
 /// compiler.
 #[inline(always)]
 fn narrowed(lo: i128, hi: i128, s: i32) -> Ival
@@ -270,7 +269,7 @@ fn narrowed(lo: i128, hi: i128, s: i32) -> Ival
     }
 }
 
-/// Narrows two ends in order, of which the high one can be negated.
+/// Normalizes two ends in order, of which the high one can be negated.
 fn narrowed_wide(lo: i128, hi: i128, s: i32) -> Ival
     requires ordered { lo ≤ℤ hi }
     requires above_least { unsigned_abs hi < 2 ^ 127 }
@@ -284,7 +283,7 @@ fn narrowed_wide(lo: i128, hi: i128, s: i32) -> Ival
     }
 }
 
-/// Narrows any two ends in order. Where the high end is -2^127 the low end is too, and the halves are exact.
+/// Normalizes any two ends in order. Where the high end is -2^127 the low end is too, and the halves are exact.
 fn narrowed_any(lo: i128, hi: i128, s: i32) -> Ival
     requires ordered { lo ≤ℤ hi }
     requires exponent { IsExponent s }
@@ -298,6 +297,18 @@ fn narrowed_any(lo: i128, hi: i128, s: i32) -> Ival
     }
 }
 
+/// The interval of two ends, as it is.
+fn exact(lo: i128, hi: i128, s: i32) -> Ival
+    requires { IsIval (interval lo hi s) }
+    ensures { result ≡ interval lo hi s }
+{
+    Ival {
+        lo: small_end(lo),
+        hi: small_end(hi),
+        s,
+    }
+}
+
 fn decimal_at(mant: i64, exp: i16, s: i32) -> Ival
     requires below { s ≤ℤ pos 0 }
     requires above { neg_ℤ (pos 60) ≤ℤ s }
@@ -305,13 +316,7 @@ fn decimal_at(mant: i64, exp: i16, s: i32) -> Ival
     ensures { result ≡ from_decimal mant exp s }
 {
     let (lo, hi) = decimal_ends(mant, exp, s);
-    let low = small_end(lo);
-    let high = small_end(hi);
-    Ival {
-        lo: low,
-        hi: high,
-        s,
-    }
+    exact(lo, hi, s)
 }
 
 #[inline(always)]
@@ -381,7 +386,7 @@ fn join_of(x: Ival, y: Ival) -> Ival
     }
 }
 
-/// The join of two intervals, the first at the lower exponent.
+/// The hull of two intervals, the first at the lower exponent.
 #[inline(always)]
 fn join_upward(x: Ival, y: Ival) -> Ival
     requires order { x.s ≤ℤ y.s }
@@ -390,8 +395,8 @@ fn join_upward(x: Ival, y: Ival) -> Ival
     ensures { result ≡ join_up x y }
 {
     let at = at_one_exponent(x, y);
-    let lo = at.lower_lo.min(at.upper_lo);
-    let hi = at.lower_hi.max(at.upper_hi);
+    let lo = in_order(at.lower_lo, at.upper_lo).0;
+    let hi = in_order(at.lower_hi, at.upper_hi).1;
     narrowed(lo, hi, at.s)
 }
 
@@ -410,7 +415,7 @@ fn meet_of(x: Ival, y: Ival) -> Ival
     }
 }
 
-/// The meet of two intervals, the first at the lower exponent.
+/// The intersection of two intervals, the first at the lower exponent.
 #[inline(always)]
 fn meet_upward(x: Ival, y: Ival) -> Ival
     requires order { x.s ≤ℤ y.s }
@@ -420,8 +425,8 @@ fn meet_upward(x: Ival, y: Ival) -> Ival
     ensures { result ≡ meet_up x y }
 {
     let at = at_one_exponent(x, y);
-    let lo = at.lower_lo.max(at.upper_lo);
-    let hi = at.lower_hi.min(at.upper_hi);
+    let lo = in_order(at.lower_lo, at.upper_lo).1;
+    let hi = in_order(at.lower_hi, at.upper_hi).0;
     narrowed(lo, hi, at.s)
 }
 
@@ -476,19 +481,7 @@ fn at_one_exponent(x: Ival, y: Ival) -> Aligned
     requires order { x.s ≤ℤ y.s }
     requires exponent { IsExponent x.s }
     requires other_exponent { IsExponent y.s }
-    ensures lower_lo { result.lower_lo ≡ (aligned_lower x y).lo }
-    ensures lower_hi { result.lower_hi ≡ (aligned_lower x y).hi }
-    ensures upper_lo { result.upper_lo ≡ (aligned_upper x y).lo }
-    ensures upper_hi { result.upper_hi ≡ (aligned_upper x y).hi }
-    ensures exponent { result.s ≡ (aligned_lower x y).s }
-
-    ensures lower_ordered { result.lower_lo ≤ℤ result.lower_hi }
-    ensures upper_ordered { result.upper_lo ≤ℤ result.upper_hi }
-    ensures lower_lo_small { unsigned_abs result.lower_lo ≤ end_limit }
-    ensures lower_hi_small { unsigned_abs result.lower_hi ≤ end_limit }
-    ensures upper_lo_bound { unsigned_abs result.upper_lo ≤ 2 ^ 122 }
-    ensures upper_hi_bound { unsigned_abs result.upper_hi ≤ 2 ^ 122 }
-    ensures exponent_bound { unsigned_abs result.s ≤ 4 * exponent_limit }
+    ensures { IsAligned x y result }
 {
     let d = exponent_gap(x.s, y.s);
     let m = d.min(LIFT_LIMIT);

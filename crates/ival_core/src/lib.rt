@@ -2,7 +2,7 @@
 //!
 //! In come whole numbers, decimals and other intervals; out comes an interval that holds the exact result, with the
 //! same bits for the same operands on every machine. The ends of an interval are private: each is made here, in order
-//! and at most 2^62 in size, so that no later call can overflow. No call takes memory or fails.
+//! and at most 2^62 in magnitude, so that no later call can overflow. No call allocates or fails.
 #![tactic(auto)]
 
 mod decimals;

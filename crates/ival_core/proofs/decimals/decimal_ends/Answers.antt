@@ -1,9 +1,10 @@
-use Rattle.std.proofs.Common.{arith, ◌≡◌, ◌∙◌, ◌^◌, pos, ap, sym, ◌*ℤ◌, unsigned_abs}
+use Rattle.std.proofs.Common.{arith, ◌≡◌, ◌∙◌, ◌^◌, pos, ap, sym, ◌*ℤ◌, ◌≤ℤ◌, unsigned_abs}
 use Rattle.std.proofs.lemmas.Int.{ints, to_z-of_z}
 use mir.Syntax.{w128}
 use mir.Val.{SFits}
 use Rattle.spec_numbers.specs.Numbers.{floor_div, ceil_div}
 use Rattle.spec_intervals.proofs.DecimalEnds.{whole-low, whole-high, tenths-low, tenths-high, whole-size}
+use Rattle.ival_core.proofs.Passing.{kept}
 use Rattle.ival_core.proofs.decimals.decimal_ends.Goals as goal
 use Rattle.ival_core.proofs.decimals.decimal_ends.Goals.{After-unsigned_abs-n}
 
@@ -25,36 +26,21 @@ times_ten_to-end-requires c =
     let f : SFits w128 c.at_exponent-scaled.result = record { sfits = c.at_exponent-scaled.type_inv } in
     simp to_z-of_z (rw (scaled_is d, power_is d) (whole-size c.args.mant c.args.exp c.args.s c.requires.below (omega (arith, ints)) c.requires.size))
 
-pub returns-then-exp-ge0-clause-low : goal.returns-then-exp-ge0-clause-low
-returns-then-exp-ge0-clause-low c =
-    let d = (goal.at.returns-then-exp-ge0-clause-low c).After-unsigned_abs-n in
+pub returns-then-exp-ge0 : goal.returns-then-exp-ge0
+returns-then-exp-ge0 c =
+    let d = (goal.at.returns-then-exp-ge0 c).After-unsigned_abs-n in
     let q = c.ranges.exp in
+    let above : pos 0 ≤ℤ c.args.exp = omega (arith, ints) in
     let f : SFits w128 c.at_exponent-scaled.result = record { sfits = c.at_exponent-scaled.type_inv } in
-    let g : SFits w128 c.times_ten_to-end.result = record { sfits = c.times_ten_to-end.type_inv } in
     let e : c.times_ten_to-end.result ≡ c.at_exponent-scaled.result *ℤ pos (10 ^ c.unsigned_abs-n.result) = simp to_z-of_z at c.times_ten_to-end.ensures in
-    to_z-of_z w128 c.times_ten_to-end.result g ∙ (e ∙ rw (scaled_is d, power_is d) (sym (whole-low c.args.mant c.args.exp c.args.s c.requires.below (omega (arith, ints)))))
+    let is = kept c.times_ten_to-end.result _ (record { sfits = c.times_ten_to-end.type_inv }) (rw (scaled_is d, power_is d) at e) in
+    record { low = is ∙ sym (whole-low c.args.mant c.args.exp c.args.s c.requires.below above); high = is ∙ sym (whole-high c.args.mant c.args.exp c.args.s c.requires.below above) }
 
-pub returns-then-exp-ge0-clause-high : goal.returns-then-exp-ge0-clause-high
-returns-then-exp-ge0-clause-high c =
-    let d = (goal.at.returns-then-exp-ge0-clause-high c).After-unsigned_abs-n in
+pub returns-else-exp-ge0 : goal.returns-else-exp-ge0
+returns-else-exp-ge0 c =
+    let d = (goal.at.returns-else-exp-ge0 c).After-unsigned_abs-n in
     let q = c.ranges.exp in
     let f : SFits w128 c.at_exponent-scaled.result = record { sfits = c.at_exponent-scaled.type_inv } in
-    let g : SFits w128 c.times_ten_to-end.result = record { sfits = c.times_ten_to-end.type_inv } in
-    let e : c.times_ten_to-end.result ≡ c.at_exponent-scaled.result *ℤ pos (10 ^ c.unsigned_abs-n.result) = simp to_z-of_z at c.times_ten_to-end.ensures in
-    to_z-of_z w128 c.times_ten_to-end.result g ∙ (e ∙ rw (scaled_is d, power_is d) (sym (whole-high c.args.mant c.args.exp c.args.s c.requires.below (omega (arith, ints)))))
-
-pub returns-else-exp-ge0-clause-low : goal.returns-else-exp-ge0-clause-low
-returns-else-exp-ge0-clause-low c =
-    let d = (goal.at.returns-else-exp-ge0-clause-low c).After-unsigned_abs-n in
-    let q = c.ranges.exp in
-    let f : SFits w128 c.at_exponent-scaled.result = record { sfits = c.at_exponent-scaled.type_inv } in
-    let e : c.tenths.result.0 ≡ floor_div c.at_exponent-scaled.result (10 ^ c.unsigned_abs-n.result) = simp to_z-of_z at c.tenths.ensures.low in
-    e ∙ rw (scaled_is d, power_is d) (sym (tenths-low c.args.mant c.args.exp c.args.s c.requires.below (omega (arith, ints))))
-
-pub returns-else-exp-ge0-clause-high : goal.returns-else-exp-ge0-clause-high
-returns-else-exp-ge0-clause-high c =
-    let d = (goal.at.returns-else-exp-ge0-clause-high c).After-unsigned_abs-n in
-    let q = c.ranges.exp in
-    let f : SFits w128 c.at_exponent-scaled.result = record { sfits = c.at_exponent-scaled.type_inv } in
-    let e : c.tenths.result.1 ≡ ceil_div c.at_exponent-scaled.result (10 ^ c.unsigned_abs-n.result) = simp to_z-of_z at c.tenths.ensures.high in
-    e ∙ rw (scaled_is d, power_is d) (sym (tenths-high c.args.mant c.args.exp c.args.s c.requires.below (omega (arith, ints))))
+    let low : c.tenths.result.0 ≡ floor_div c.at_exponent-scaled.result (10 ^ c.unsigned_abs-n.result) = simp to_z-of_z at c.tenths.ensures.low in
+    let high : c.tenths.result.1 ≡ ceil_div c.at_exponent-scaled.result (10 ^ c.unsigned_abs-n.result) = simp to_z-of_z at c.tenths.ensures.high in
+    record { low = low ∙ rw (scaled_is d, power_is d) (sym (tenths-low c.args.mant c.args.exp c.args.s c.requires.below (omega (arith, ints)))); high = high ∙ rw (scaled_is d, power_is d) (sym (tenths-high c.args.mant c.args.exp c.args.s c.requires.below (omega (arith, ints)))) }

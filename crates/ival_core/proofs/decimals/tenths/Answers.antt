@@ -1,9 +1,8 @@
 use Rattle.std.proofs.Common.{arith, ◌≡◌, ◌∙◌, ap, ◌≤◌, ◌^◌, min}
 use Rattle.std.proofs.lemmas.Int.{to_z-of_z}
-use mir.Syntax.{w128}
-use mir.Val.{SFits}
 use Rattle.spec_numbers.specs.Numbers.{floor_div, ceil_div}
 use Rattle.ival_core.proofs.Powers.{ten_pos, ten_bound, tenths_capped, ceil_capped}
+use Rattle.ival_core.proofs.Passing.{kept}
 use Rattle.ival_core.proofs.decimals.tenths.Goals as goal
 use Rattle.ival_core.proofs.decimals.tenths.Goals.{After-power_of_ten-d}
 
@@ -29,16 +28,12 @@ pub ceil_over-high-requires-clause-within : goal.ceil_over-high-requires-clause-
 ceil_over-high-requires-clause-within c =
     let p = divisor_within (goal.at.ceil_over-high-requires-clause-within c).After-power_of_ten-d in omega arith
 
-pub returns-clause-low : goal.returns-clause-low
-returns-clause-low c =
+pub returns : goal.returns
+returns c =
     let z = c.ranges.z in
-    let r : SFits w128 c.floor_over-low.result = record { sfits = c.floor_over-low.type_inv } in
-    let q : c.floor_over-low.result ≡ floor_div c.args.z c.power_of_ten-d.result = simp to_z-of_z at c.floor_over-low.ensures in
-    to_z-of_z w128 c.floor_over-low.result r ∙ (q ∙ (ap (floor_div c.args.z) c.power_of_ten-d.ensures ∙ tenths_capped c.args.z c.args.n c.min.result c.requires c.min.ensures))
-
-pub returns-clause-high : goal.returns-clause-high
-returns-clause-high c =
-    let z = c.ranges.z in
-    let r : SFits w128 c.ceil_over-high.result = record { sfits = c.ceil_over-high.type_inv } in
-    let q : c.ceil_over-high.result ≡ ceil_div c.args.z c.power_of_ten-d.result = simp to_z-of_z at c.ceil_over-high.ensures in
-    to_z-of_z w128 c.ceil_over-high.result r ∙ (q ∙ (ap (ceil_div c.args.z) c.power_of_ten-d.ensures ∙ ceil_capped c.args.z c.args.n c.min.result c.requires c.min.ensures))
+    let low : c.floor_over-low.result ≡ floor_div c.args.z c.power_of_ten-d.result = simp to_z-of_z at c.floor_over-low.ensures in
+    let high : c.ceil_over-high.result ≡ ceil_div c.args.z c.power_of_ten-d.result = simp to_z-of_z at c.ceil_over-high.ensures in
+    record {
+      low = kept c.floor_over-low.result _ (record { sfits = c.floor_over-low.type_inv }) (low ∙ (ap (floor_div c.args.z) c.power_of_ten-d.ensures ∙ tenths_capped c.args.z c.args.n c.min.result c.requires c.min.ensures));
+      high = kept c.ceil_over-high.result _ (record { sfits = c.ceil_over-high.type_inv }) (high ∙ (ap (ceil_div c.args.z) c.power_of_ten-d.ensures ∙ ceil_capped c.args.z c.args.n c.min.result c.requires c.min.ensures));
+    }

@@ -6,18 +6,10 @@ use Rattle.spec_numbers.specs.Numbers.{floor_div}
 use Rattle.ival_core.proofs.Shifts.{capped_shift, shift_small, small_narrow, small_fits}
 use Rattle.ival_core.proofs.ends.floor_shift.Goals as goal
 
-pub returns-clause-equals : goal.returns-clause-equals
-returns-clause-equals c =
+pub returns : goal.returns
+returns c =
     let z = c.ranges.z in
     let b = shift_small c.args.z c.min.result c.requires in
     let f : SFits w64 (floor_div c.args.z (2 ^ c.min.result)) = small_narrow _ b in
     let g : SFits w128 (floor_div c.args.z (2 ^ c.min.result)) = small_fits _ b in
-    simp to_z-of_z (capped_shift c.args.z c.args.k c.min.result c.requires c.min.ensures)
-
-pub returns-clause-small : goal.returns-clause-small
-returns-clause-small c =
-    let z = c.ranges.z in
-    let b = shift_small c.args.z c.min.result c.requires in
-    let f : SFits w64 (floor_div c.args.z (2 ^ c.min.result)) = small_narrow _ b in
-    let g : SFits w128 (floor_div c.args.z (2 ^ c.min.result)) = small_fits _ b in
-    simp to_z-of_z b
+    record { equals = simp to_z-of_z (capped_shift c.args.z c.args.k c.min.result c.requires c.min.ensures); small = simp to_z-of_z b }

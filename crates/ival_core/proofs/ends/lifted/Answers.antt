@@ -10,18 +10,10 @@ overflow_mul-result c =
     let e : c.args.m % 64 ≡ c.args.m = (let h = c.requires.within in omega arith) in
     rw (e, one_shifted c.args.m c.requires.within) (simp to_z-of_z (lift_fits c.args.z c.args.m c.requires.small c.requires.within))
 
-pub returns-clause-equals : goal.returns-clause-equals
-returns-clause-equals c =
+pub returns : goal.returns
+returns c =
     let z = c.ranges.z in
     let w = small_fits c.args.z c.requires.small in
     let f = lift_fits c.args.z c.args.m c.requires.small c.requires.within in
     let e : c.args.m % 64 ≡ c.args.m = (let h = c.requires.within in omega arith) in
-    rw (e, one_shifted c.args.m c.requires.within) (simp to_z-of_z)
-
-pub returns-clause-bound : goal.returns-clause-bound
-returns-clause-bound c =
-    let z = c.ranges.z in
-    let w = small_fits c.args.z c.requires.small in
-    let f = lift_fits c.args.z c.args.m c.requires.small c.requires.within in
-    let e : c.args.m % 64 ≡ c.args.m = (let h = c.requires.within in omega arith) in
-    rw (e, one_shifted c.args.m c.requires.within) (simp to_z-of_z (lift_bound c.args.z c.args.m c.requires.small c.requires.within))
+    rw (e, one_shifted c.args.m c.requires.within) (record { equals = simp to_z-of_z; bound = simp to_z-of_z (lift_bound c.args.z c.args.m c.requires.small c.requires.within) })

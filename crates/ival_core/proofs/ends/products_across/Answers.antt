@@ -1,79 +1,24 @@
-use Rattle.std.proofs.Common.{◌≡◌, ◌∙◌, arith, pos, ◌*ℤ◌, ◌≤ℤ◌}
-use Rattle.std.proofs.lemmas.Int.{ints, to_z-of_z}
+use Rattle.std.proofs.Common.{◌∙◌, arith}
+use Rattle.std.proofs.lemmas.Int.{ints}
 use Rattle.std.specs.Int.{int_min, int_max}
-use mir.Syntax.{w128}
-use mir.Val.{SFits}
-use Rattle.ival_core.proofs.Signs.{least-across, greatest-across, least-across_above, greatest-across_above, least-across_below, greatest-across_below}
+use Rattle.ival_core.proofs.Passing.{product_kept, kept}
+use Rattle.ival_core.proofs.Signs.{least-across, greatest-across, across-above, across-below}
 use Rattle.ival_core.proofs.ends.products_across.Goals as goal
 
-pub returns-then-c-ge0-clause-least : goal.returns-then-c-ge0-clause-least
-returns-then-c-ge0-clause-least c =
-    let a = c.ranges.a in
-    let b = c.ranges.b in
-    let p = c.ranges.c in
-    let q = c.ranges.d in
-    let r : SFits w128 c.times.result = record { sfits = c.times.type_inv } in
-    let e : c.times.result ≡ c.args.a *ℤ c.args.d = simp to_z-of_z at c.times.ensures.equals in
-    let h : pos 0 ≤ℤ c.args.c = omega (arith, ints, c.if-c-ge0.true) in
-    to_z-of_z w128 c.times.result r ∙ (e ∙ least-across_above c.args.a c.args.b c.args.c c.args.d c.requires.ordered c.requires.below c.requires.above h)
+pub returns-then-c-ge0 : goal.returns-then-c-ge0
+returns-then-c-ge0 c =
+    let is = across-above c.args.a c.args.b c.args.c c.args.d c.requires.other_ends.ordered c.requires.below c.requires.above (let p = c.ranges.c in omega (arith, ints, c.if-c-ge0.true)) in
+    record { least = product_kept c.args.a c.args.d c.times.result c.ranges.a c.ranges.d (record { sfits = c.times.type_inv }) c.times.ensures.equals ∙ is.0; greatest = product_kept c.args.b c.args.d c.times-then-c-ge0.result c.ranges.b c.ranges.d (record { sfits = c.times-then-c-ge0.type_inv }) c.times-then-c-ge0.ensures.equals ∙ is.1 }
 
-pub returns-then-c-ge0-clause-greatest : goal.returns-then-c-ge0-clause-greatest
-returns-then-c-ge0-clause-greatest c =
-    let a = c.ranges.a in
-    let b = c.ranges.b in
-    let p = c.ranges.c in
-    let q = c.ranges.d in
-    let r : SFits w128 c.times-then-c-ge0.result = record { sfits = c.times-then-c-ge0.type_inv } in
-    let e : c.times-then-c-ge0.result ≡ c.args.b *ℤ c.args.d = simp to_z-of_z at c.times-then-c-ge0.ensures.equals in
-    let h : pos 0 ≤ℤ c.args.c = omega (arith, ints, c.if-c-ge0.true) in
-    to_z-of_z w128 c.times-then-c-ge0.result r ∙ (e ∙ greatest-across_above c.args.a c.args.b c.args.c c.args.d c.requires.ordered c.requires.below c.requires.above h)
+pub returns-then-d-le0 : goal.returns-then-d-le0
+returns-then-d-le0 c =
+    let is = across-below c.args.a c.args.b c.args.c c.args.d c.requires.other_ends.ordered c.requires.below c.requires.above (let q = c.ranges.d in omega (arith, ints, c.if-d-le0.true)) in
+    record { least = product_kept c.args.b c.args.c c.times-then-d-le0.result c.ranges.b c.ranges.c (record { sfits = c.times-then-d-le0.type_inv }) c.times-then-d-le0.ensures.equals ∙ is.0; greatest = product_kept c.args.a c.args.c c.times-then-d-le0-2.result c.ranges.a c.ranges.c (record { sfits = c.times-then-d-le0-2.type_inv }) c.times-then-d-le0-2.ensures.equals ∙ is.1 }
 
-pub returns-then-d-le0-clause-least : goal.returns-then-d-le0-clause-least
-returns-then-d-le0-clause-least c =
-    let a = c.ranges.a in
-    let b = c.ranges.b in
-    let p = c.ranges.c in
-    let q = c.ranges.d in
-    let r : SFits w128 c.times-then-d-le0.result = record { sfits = c.times-then-d-le0.type_inv } in
-    let e : c.times-then-d-le0.result ≡ c.args.b *ℤ c.args.c = simp to_z-of_z at c.times-then-d-le0.ensures.equals in
-    let h : c.args.d ≤ℤ pos 0 = omega (arith, ints, c.if-d-le0.true) in
-    to_z-of_z w128 c.times-then-d-le0.result r ∙ (e ∙ least-across_below c.args.a c.args.b c.args.c c.args.d c.requires.ordered c.requires.below c.requires.above h)
-
-pub returns-then-d-le0-clause-greatest : goal.returns-then-d-le0-clause-greatest
-returns-then-d-le0-clause-greatest c =
-    let a = c.ranges.a in
-    let b = c.ranges.b in
-    let p = c.ranges.c in
-    let q = c.ranges.d in
-    let r : SFits w128 c.times-then-d-le0-2.result = record { sfits = c.times-then-d-le0-2.type_inv } in
-    let e : c.times-then-d-le0-2.result ≡ c.args.a *ℤ c.args.c = simp to_z-of_z at c.times-then-d-le0-2.ensures.equals in
-    let h : c.args.d ≤ℤ pos 0 = omega (arith, ints, c.if-d-le0.true) in
-    to_z-of_z w128 c.times-then-d-le0-2.result r ∙ (e ∙ greatest-across_below c.args.a c.args.b c.args.c c.args.d c.requires.ordered c.requires.below c.requires.above h)
-
-pub returns-else-d-le0-clause-least : goal.returns-else-d-le0-clause-least
-returns-else-d-le0-clause-least c =
-    let a = c.ranges.a in
-    let b = c.ranges.b in
-    let p = c.ranges.c in
-    let q = c.ranges.d in
-    let s : SFits w128 c.times-else-d-le0.result = record { sfits = c.times-else-d-le0.type_inv } in
-    let t : SFits w128 c.times-else-d-le0-2.result = record { sfits = c.times-else-d-le0-2.type_inv } in
-    let r : SFits w128 c.min-least.result = record { sfits = c.min-least.type_inv } in
-    let e : c.times-else-d-le0.result ≡ c.args.a *ℤ c.args.d = simp to_z-of_z at c.times-else-d-le0.ensures.equals in
-    let f : c.times-else-d-le0-2.result ≡ c.args.b *ℤ c.args.c = simp to_z-of_z at c.times-else-d-le0-2.ensures.equals in
-    let m : c.min-least.result ≡ int_min c.times-else-d-le0.result c.times-else-d-le0-2.result = simp to_z-of_z at c.min-least.ensures.value in
-    to_z-of_z w128 c.min-least.result r ∙ (m ∙ ((λ i. int_min (e i) (f i)) ∙ least-across c.args.a c.args.b c.args.c c.args.d c.requires.ordered c.requires.below c.requires.above))
-
-pub returns-else-d-le0-clause-greatest : goal.returns-else-d-le0-clause-greatest
-returns-else-d-le0-clause-greatest c =
-    let a = c.ranges.a in
-    let b = c.ranges.b in
-    let p = c.ranges.c in
-    let q = c.ranges.d in
-    let s : SFits w128 c.times-else-d-le0-3.result = record { sfits = c.times-else-d-le0-3.type_inv } in
-    let t : SFits w128 c.times-else-d-le0-4.result = record { sfits = c.times-else-d-le0-4.type_inv } in
-    let r : SFits w128 c.max-greatest.result = record { sfits = c.max-greatest.type_inv } in
-    let e : c.times-else-d-le0-3.result ≡ c.args.a *ℤ c.args.c = simp to_z-of_z at c.times-else-d-le0-3.ensures.equals in
-    let f : c.times-else-d-le0-4.result ≡ c.args.b *ℤ c.args.d = simp to_z-of_z at c.times-else-d-le0-4.ensures.equals in
-    let m : c.max-greatest.result ≡ int_max c.times-else-d-le0-3.result c.times-else-d-le0-4.result = simp to_z-of_z at c.max-greatest.ensures.value in
-    to_z-of_z w128 c.max-greatest.result r ∙ (m ∙ ((λ i. int_max (e i) (f i)) ∙ greatest-across c.args.a c.args.b c.args.c c.args.d c.requires.ordered c.requires.below c.requires.above))
+pub returns-else-d-le0 : goal.returns-else-d-le0
+returns-else-d-le0 c =
+    let ad = product_kept c.args.a c.args.d c.times-else-d-le0.result c.ranges.a c.ranges.d (record { sfits = c.times-else-d-le0.type_inv }) c.times-else-d-le0.ensures.equals in
+    let bc = product_kept c.args.b c.args.c c.times-else-d-le0-2.result c.ranges.b c.ranges.c (record { sfits = c.times-else-d-le0-2.type_inv }) c.times-else-d-le0-2.ensures.equals in
+    let ac = product_kept c.args.a c.args.c c.times-else-d-le0-3.result c.ranges.a c.ranges.c (record { sfits = c.times-else-d-le0-3.type_inv }) c.times-else-d-le0-3.ensures.equals in
+    let bd = product_kept c.args.b c.args.d c.times-else-d-le0-4.result c.ranges.b c.ranges.d (record { sfits = c.times-else-d-le0-4.type_inv }) c.times-else-d-le0-4.ensures.equals in
+    record { least = kept c.min-least.result _ (record { sfits = c.min-least.type_inv }) c.min-least.ensures.value ∙ ((λ i. int_min (ad i) (bc i)) ∙ least-across c.args.a c.args.b c.args.c c.args.d c.requires.other_ends.ordered c.requires.below c.requires.above); greatest = kept c.max-greatest.result _ (record { sfits = c.max-greatest.type_inv }) c.max-greatest.ensures.value ∙ ((λ i. int_max (ac i) (bd i)) ∙ greatest-across c.args.a c.args.b c.args.c c.args.d c.requires.other_ends.ordered c.requires.below c.requires.above) }

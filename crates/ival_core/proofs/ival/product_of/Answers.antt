@@ -1,9 +1,9 @@
 use Rattle.std.proofs.Common.{◌≡◌, arith, ap, ◌∙◌, to_z, of_z, w32, ◌+ℤ◌, rules}
 use Rattle.std.proofs.lemmas.Int.{ints, to_z-of_z}
 use mir.Syntax.{w128}
-use mir.Val.{SFits}
 use Rattle.spec_intervals.specs.Interval.{Interval, least4, greatest4}
 use Rattle.spec_intervals.proofs.Products.{product-parts, corners_ordered}
+use Rattle.ival_core.proofs.Passing.{kept}
 use Rattle.ival_core.proofs.Shifts.{small_narrow}
 use Rattle.ival_core.proofs.ival.product_of.Goals as goal
 use Rattle.ival_core.proofs.ival.product_of.Goals.{After-product_ends-lo}
@@ -14,23 +14,13 @@ s_of c = ap (λ (t : Interval). t.s) c.x.view_is
 t_of : (c : After-product_ends-lo) → c.y.inside.s ≡ c.args.y.s
 t_of c = ap (λ (t : Interval). t.s) c.y.view_is
 
-lo_is : (c : After-product_ends-lo) → to_z w128 (of_z w128 c.product_ends-lo.result.0) ≡ least4 c.x.inside.lo c.x.inside.hi c.y.inside.lo c.y.inside.hi
-lo_is c =
+ends_are : (c : After-product_ends-lo) → (to_z w128 (of_z w128 c.product_ends-lo.result.0) ≡ least4 c.x.inside.lo c.x.inside.hi c.y.inside.lo c.y.inside.hi) × (to_z w128 (of_z w128 c.product_ends-lo.result.1) ≡ greatest4 c.x.inside.lo c.x.inside.hi c.y.inside.lo c.y.inside.hi)
+ends_are c =
     let a = small_narrow c.x.inside.lo c.x.invariant.lo_small in
     let b = small_narrow c.x.inside.hi c.x.invariant.hi_small in
     let d = small_narrow c.y.inside.lo c.y.invariant.lo_small in
     let e = small_narrow c.y.inside.hi c.y.invariant.hi_small in
-    let r : SFits w128 c.product_ends-lo.result.0 = search rules in
-    to_z-of_z w128 c.product_ends-lo.result.0 r ∙ (simp to_z-of_z at c.product_ends-lo.ensures.least)
-
-hi_is : (c : After-product_ends-lo) → to_z w128 (of_z w128 c.product_ends-lo.result.1) ≡ greatest4 c.x.inside.lo c.x.inside.hi c.y.inside.lo c.y.inside.hi
-hi_is c =
-    let a = small_narrow c.x.inside.lo c.x.invariant.lo_small in
-    let b = small_narrow c.x.inside.hi c.x.invariant.hi_small in
-    let d = small_narrow c.y.inside.lo c.y.invariant.lo_small in
-    let e = small_narrow c.y.inside.hi c.y.invariant.hi_small in
-    let r : SFits w128 c.product_ends-lo.result.1 = search rules in
-    to_z-of_z w128 c.product_ends-lo.result.1 r ∙ (simp to_z-of_z at c.product_ends-lo.ensures.greatest)
+    (kept c.product_ends-lo.result.0 _ (search rules) (simp to_z-of_z at c.product_ends-lo.ensures.least), kept c.product_ends-lo.result.1 _ (search rules) (simp to_z-of_z at c.product_ends-lo.ensures.greatest))
 
 exponent_is : (c : After-product_ends-lo) → to_z w32 (of_z w32 (to_z w32 (of_z w32 c.x.inside.s) +ℤ to_z w32 (of_z w32 c.y.inside.s))) ≡ c.args.x.s +ℤ c.args.y.s
 exponent_is c =
@@ -43,12 +33,12 @@ exponent_is c =
 pub narrowed-requires-clause-ordered : goal.narrowed-requires-clause-ordered
 narrowed-requires-clause-ordered c =
     let d = (goal.at.narrowed-requires-clause-ordered c).After-product_ends-lo in
-    rw (lo_is d, hi_is d) (corners_ordered c.x.inside.lo c.x.inside.hi c.y.inside.lo c.y.inside.hi)
+    let is = ends_are d in rw (is.0, is.1) (corners_ordered c.x.inside.lo c.x.inside.hi c.y.inside.lo c.y.inside.hi)
 
 pub returns : goal.returns
 returns c =
     let d = (goal.at.returns c).After-product_ends-lo in
-    rw (← c.x.view_is, ← c.y.view_is) (c.narrowed.ensures ∙ product-parts _ _ _ _ _ (lo_is d) (hi_is d) (exponent_is d ∙ rw (← s_of d, ← t_of d)))
+    rw (← c.x.view_is, ← c.y.view_is) (c.narrowed.ensures ∙ product-parts _ _ _ _ _ (ends_are d).0 (ends_are d).1 (exponent_is d ∙ rw (← s_of d, ← t_of d)))
 
 pub overflow_add-s : goal.overflow_add-s
 overflow_add-s c =

@@ -18,6 +18,3 @@ pub use arguments::{argument, argument_by, argument_of};
 pub use bases::{Basis, basis_q, basis_r, basis_t, basis_u};
 pub use rows::{Q_UNIT, R_UNIT, Row, T_UNIT, U_UNIT, fill_t, fill_tq, fill_u, fill_ur};
 pub use spec_chebyshev::Ival62;
-
-#[cfg(test)]
-mod tests;

@@ -1,9 +1,9 @@
 // Changes of a position from each time of a span to the next.
-ghost use Rattle.std.specs.Prelude.{◌≡◌, ◌<◌, ◌≤ℤ◌, ◌+ℤ◌};
+ghost use Rattle.std.specs.Prelude.{◌≡◌};
 ghost use Rattle.spec_ephemeris.specs.Series.{position};
 ghost use Rattle.spec_motions.specs.Enclosures.{HoldsChanges, position_step_interval};
 ghost use Rattle.spec_intervals.specs.Interval.{zero_interval};
-ghost use Rattle.spec_motions.specs.Granules.{IsEvaluable};
+ghost use Rattle.cheby_enclose.specs.Spans.{IsSpanWithin};
 ghost use Rattle.spec_ephemeris.specs.Granules.{series_of};
 
 use crate::scaled::position_step_over_row;
@@ -15,11 +15,7 @@ use ival_core::{Divider, Ival};
 /// The interval of the changes of one coordinate of a granule, in km, from each time to the next, from time `a` to time
 /// `b`, in seconds of TDB since J2000. Over one time nothing changes. Axes are counted from 0.
 pub fn position_step(g: &Granule, axis: usize, a: i64, b: i64) -> Ival
-    requires granule { IsEvaluable g.now }
-    requires axis { axis < g.now.comps }
-    requires from { g.now.start ≤ℤ a }
-    requires order { a ≤ℤ b }
-    requires upto { b ≤ℤ (g.now.start +ℤ g.now.seconds) }
+    requires { IsSpanWithin g.now axis a b }
     ensures equals { result ≡ position_step_interval (series_of g.now axis) a b }
     ensures holds { HoldsChanges (position (series_of g.now axis)) a b result }
     ensures one_time { a ≡ b → result ≡ zero_interval }

@@ -1,9 +1,9 @@
 // Velocities, and their changes from each time of a span to the next.
-ghost use Rattle.std.specs.Prelude.{◌≡◌, ◌<◌, ◌≤ℤ◌, ◌+ℤ◌};
+ghost use Rattle.std.specs.Prelude.{◌≡◌};
 ghost use Rattle.spec_ephemeris.specs.Velocity.{velocity};
 ghost use Rattle.spec_motions.specs.Enclosures.{HoldsChanges, HoldsEach, velocity_interval, velocity_step_interval};
 ghost use Rattle.spec_intervals.specs.Interval.{zero_interval};
-ghost use Rattle.spec_motions.specs.Granules.{IsEvaluable};
+ghost use Rattle.cheby_enclose.specs.Spans.{IsSpanWithin};
 ghost use Rattle.spec_ephemeris.specs.Granules.{series_of};
 
 use crate::scaled::{velocity_over_row, velocity_step_over_row};
@@ -15,11 +15,7 @@ use ival_core::{Divider, Ival};
 /// The interval of the velocity of one axis of a granule, in km per second, from time `a` to time `b`, in seconds of TDB
 /// since J2000: the derivative of its Chebyshev series (JPL). Axes are counted from 0.
 pub fn velocity(g: &Granule, axis: usize, a: i64, b: i64) -> Ival
-    requires granule { IsEvaluable g.now }
-    requires axis { axis < g.now.comps }
-    requires from { g.now.start ≤ℤ a }
-    requires order { a ≤ℤ b }
-    requires upto { b ≤ℤ (g.now.start +ℤ g.now.seconds) }
+    requires { IsSpanWithin g.now axis a b }
     ensures equals { result ≡ velocity_interval (series_of g.now axis) a b }
     ensures holds { HoldsEach (velocity (series_of g.now axis)) a b result }
 {
@@ -34,11 +30,7 @@ pub fn velocity(g: &Granule, axis: usize, a: i64, b: i64) -> Ival
 /// The interval of the changes of the velocity of one axis of a granule, in km per second, from each time to the next,
 /// from time `a` to time `b`, in seconds of TDB since J2000. Over one time nothing changes. Axes are counted from 0.
 pub fn velocity_step(g: &Granule, axis: usize, a: i64, b: i64) -> Ival
-    requires granule { IsEvaluable g.now }
-    requires axis { axis < g.now.comps }
-    requires from { g.now.start ≤ℤ a }
-    requires order { a ≤ℤ b }
-    requires upto { b ≤ℤ (g.now.start +ℤ g.now.seconds) }
+    requires { IsSpanWithin g.now axis a b }
     ensures equals { result ≡ velocity_step_interval (series_of g.now axis) a b }
     ensures holds { HoldsChanges (velocity (series_of g.now axis)) a b result }
     ensures one_time { a ≡ b → result ≡ zero_interval }

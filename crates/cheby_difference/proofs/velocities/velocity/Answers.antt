@@ -4,7 +4,7 @@ use mir.Val.{SFits}
 use Rattle.spec_motions.specs.Enclosures.{velocity_over, velocity_interval, arguments}
 use Rattle.spec_motions.proofs.HeldChanges.{Holds-velocity}
 use Rattle.spec_ephemeris.specs.Granules.{series_of}
-use Rattle.spec_motions.proofs.GranuleSeries.{IsSeries-of, IsSpan-of}
+use Rattle.cheby_enclose.proofs.SpanSeries.{IsSeries-within, IsSpan-within}
 use Rattle.cheby_difference.proofs.velocities.velocity.Goals as goal
 use Rattle.cheby_difference.proofs.velocities.velocity.Goals.{After-velocity_over_row}
 
@@ -24,7 +24,4 @@ pub returns-clause-equals : goal.returns-clause-equals
 returns-clause-equals c = equals c
 
 pub returns-clause-holds : goal.returns-clause-holds
-returns-clause-holds c t from to =
-    let is = IsSeries-of c.args.g.now c.requires.granule c.args.axis c.requires.axis in
-    let span = IsSpan-of c.args.g.now c.requires.granule c.args.axis c.requires.axis c.args.a c.args.b c.requires.from c.requires.order c.requires.upto in
-    rw (equals c) (Holds-velocity (series_of c.args.g.now c.args.axis) c.args.a c.args.b is span t from to)
+returns-clause-holds c t from to = rw (equals c) (Holds-velocity (series_of c.args.g.now c.args.axis) c.args.a c.args.b (IsSeries-within c.requires) (IsSpan-within c.requires) t from to)

@@ -5,7 +5,7 @@ use lib.Signed.{lt_z}
 use Rattle.spec_motions.specs.Enclosures.{velocity_step_over, velocity_step_interval, arguments}
 use Rattle.spec_motions.proofs.HeldChanges.{Holds-velocity_step}
 use Rattle.spec_ephemeris.specs.Granules.{series_of}
-use Rattle.spec_motions.proofs.GranuleSeries.{IsSeries-of, IsSpan-of}
+use Rattle.cheby_enclose.proofs.SpanSeries.{IsSeries-within, IsSpan-within}
 use Rattle.cheby_difference.proofs.velocities.velocity_step.Goals as goal
 use Rattle.cheby_difference.proofs.velocities.velocity_step.Goals.{After-velocity_step_over_row}
 
@@ -26,7 +26,4 @@ pub returns-then-a-b-clause-equals : goal.returns-then-a-b-clause-equals
 returns-then-a-b-clause-equals c = equals c
 
 pub returns-then-a-b-clause-holds : goal.returns-then-a-b-clause-holds
-returns-then-a-b-clause-holds c t from to =
-    let is = IsSeries-of c.args.g.now c.requires.granule c.args.axis c.requires.axis in
-    let span = IsSpan-of c.args.g.now c.requires.granule c.args.axis c.requires.axis c.args.a c.args.b c.requires.from c.requires.order c.requires.upto in
-    rw (equals c) (Holds-velocity_step (series_of c.args.g.now c.args.axis) c.args.a c.args.b is span t from to)
+returns-then-a-b-clause-holds c t from to = rw (equals c) (Holds-velocity_step (series_of c.args.g.now c.args.axis) c.args.a c.args.b (IsSeries-within c.requires) (IsSpan-within c.requires) t from to)

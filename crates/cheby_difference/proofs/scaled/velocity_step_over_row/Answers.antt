@@ -1,5 +1,5 @@
-use Rattle.std.proofs.Common.{rules, ◌≡◌, ◌∙◌, pos, neg_ℤ, to_z, of_z, arith, length, drop, unsigned_abs, ap, ℤ, ◌*ℤ◌}
-use Rattle.std.proofs.lemmas.Int.{ints, to_z-of_z}
+use Rattle.std.proofs.Common.{rules, ◌≡◌, ◌∙◌, pos, neg_ℤ, to_z, of_z, arith, length, drop, ap, ℤ, ◌*ℤ◌}
+use Rattle.std.proofs.lemmas.Int.{to_z-of_z}
 use mir.Syntax.{w128}
 use mir.Val.{SFits}
 use Rattle.spec_intervals.specs.Interval.{scale}

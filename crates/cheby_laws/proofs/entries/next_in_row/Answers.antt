@@ -1,4 +1,4 @@
-use Rattle.std.proofs.Common.{arith, ◌≡◌, ◌∙◌, ◌-◌}
+use Rattle.std.proofs.Common.{arith, ◌∙◌, ◌-◌}
 use Rattle.cheby_laws.proofs.entries.next_in_row.Goals as goal
 
 pub extra-requires : goal.extra-requires

@@ -3,7 +3,7 @@
 //! In comes a granule of a checked ephemeris, an axis and a span of times within the granule; out comes an interval that
 //! holds the exact position at each of these times, with the same bits for the same operands on every machine. Callers
 //! that need several axes, or velocities and changes too, make the rows of the bases once and take sums over them. Every
-//! position is a sum of products in 128 bits, narrowed once. No call allocates or fails.
+//! position is a sum of products in 128 bits, normalized once. No call allocates or fails.
 #![tactic(auto)]
 
 mod granules;

@@ -23,7 +23,7 @@ pub struct Basis {
 }
 
 /// Writes the first `n` entries of `out.t`: `T_0` is 1, `T_1` is `x`, and `T_(k+1)` is `2 x T_k - T_(k-1)`, cut to 1 in
-/// size.
+/// magnitude.
 pub fn basis_t(x: Ival62, n: usize, out: &mut Basis)
     requires n_in { n ≤ 32 }
     requires x_in { IsArguments x }
@@ -39,7 +39,7 @@ pub fn basis_t(x: Ival62, n: usize, out: &mut Basis)
 }
 
 /// Writes the first `n` entries of `out.u`: `U_0` is 1, `U_1` is `2 x`, and `U_(k+1)` is `2 x U_k - U_(k-1)`, cut to
-/// `k + 2` in size.
+/// `k + 2` in magnitude.
 pub fn basis_u(x: Ival62, n: usize, out: &mut Basis)
     requires n_in { n ≤ 32 }
     requires x_in { IsArguments x }
@@ -55,7 +55,7 @@ pub fn basis_u(x: Ival62, n: usize, out: &mut Basis)
 }
 
 /// Writes the first `n` entries of `out.q`: `Q_0` is 0, `Q_1` is 1, and `Q_(k+1)` is `2 x Q_k + 2 T_k - Q_(k-1)`, cut to
-/// `(k + 1)^2` in size. The first `n` entries of `out.t` are those of `basis_t` for the same `x`.
+/// `(k + 1)^2` in magnitude. The `T_k` are those of `basis_t` for the same `x`, and are computed beside; `out.t` stays.
 pub fn basis_q(x: Ival62, n: usize, out: &mut Basis)
     requires n_in { n ≤ 32 }
     requires x_in { IsArguments x }
@@ -73,7 +73,8 @@ pub fn basis_q(x: Ival62, n: usize, out: &mut Basis)
 }
 
 /// Writes the first `n` entries of `out.r`: `R_0` is 0, `R_1` is 2, and `R_(k+1)` is `2 x R_k + 2 U_k - R_(k-1)`, cut to
-/// `(k + 1) (k + 2) (k + 3) / 3` in size. The first `n` entries of `out.u` are those of `basis_u` for the same `x`.
+/// `(k + 1) (k + 2) (k + 3) / 3` in magnitude. The `U_k` are those of `basis_u` for the same `x`, computed beside; `out.u`
+/// is not read.
 pub fn basis_r(x: Ival62, n: usize, out: &mut Basis)
     requires n_in { n ≤ 32 }
     requires x_in { IsArguments x }

@@ -2,9 +2,9 @@
 //!
 //! In comes a span inside one granule, as the numerators of its arguments, and a count of coefficients; out come rows
 //! of intervals in fixed units, with the same bits for the same operands on every machine. The ranges of positions, of
-//! velocities and of their changes are sums over these rows. No call takes memory or fails.
+//! velocities and of their changes are sums over these rows. No call allocates or fails.
 //!
-//! The polynomials are counted by their recurrence (Abramowitz and Stegun, 22.7.4 and 22.7.5), and their arguments are
+//! The polynomials are computed by their recurrence (Abramowitz and Stegun, 22.7.4 and 22.7.5), and their arguments are
 //! those of the granules of JPL's ephemerides, which are the records of SPICE's SPK type 2 too.
 #![tactic(auto)]
 

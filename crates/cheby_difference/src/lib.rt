@@ -8,6 +8,7 @@
 
 mod positions;
 mod scaled;
+mod spans;
 mod velocities;
 
 pub use positions::position_step;

@@ -1,6 +1,5 @@
 -- The rows of U and R are small enough for the sums of k C_k U_(k-1) and of k C_k R_(k-1).
-use Rattle.std.proofs.Common.{◌≡◌, ℕ, zero, suc, ◌*◌, ◌^◌, ◌<◌, ◌≤◌, arith, refl, List, ℤ, pos, ◌*ℤ◌, ◌≤ℤ◌}
-use Rattle.std.proofs.lemmas.Int.{ints}
+use Rattle.std.proofs.Common.{◌≡◌, ℕ, zero, suc, ◌*◌, ◌^◌, ◌<◌, ◌≤◌, arith, refl, List}
 use Rattle.std.proofs.lemmas.Nat.{mul-le}
 use Rattle.spec_chebyshev.specs.declared.ends.Ival62.{Ival62}
 use Rattle.spec_chebyshev.specs.Rows.{u_row, r_row, u_size, r_size, entry, EndsWithin, IsArguments}

@@ -3,13 +3,12 @@
 //! In comes a granule of a checked ephemeris, an axis and a span of times within the granule; out come intervals that
 //! hold the exact velocity at each of these times, and the exact changes of position and of velocity from each time to
 //! the next, with the same bits for the same operands on every machine. Callers that need several of them make the rows
-//! of the bases once and take sums over them. No call takes memory or fails.
+//! of the bases once and take sums over them. No call allocates or fails.
 #![tactic(auto)]
 
 mod positions;
 mod scaled;
-#[cfg(test)]
-mod tests;
+mod spans;
 mod velocities;
 
 pub use positions::position_step;

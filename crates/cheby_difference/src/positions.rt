@@ -1,36 +1,31 @@
 // Changes of a position from each time of a span to the next.
-ghost use Rattle.std.specs.Prelude.{◌≡◌, ◌<◌, ◌≤ℤ◌, ◌+ℤ◌};
+ghost use Rattle.std.specs.Prelude.{◌≡◌};
 ghost use Rattle.spec_ephemeris.specs.Series.{position};
 ghost use Rattle.spec_motions.specs.Enclosures.{HoldsChanges, position_step_interval};
 ghost use Rattle.spec_intervals.specs.Interval.{zero_interval};
-ghost use Rattle.spec_motions.specs.Granules.{IsEvaluable};
+ghost use Rattle.cheby_enclose.specs.Spans.{IsSpanWithin};
 ghost use Rattle.spec_ephemeris.specs.Granules.{series_of};
 
 use crate::scaled::position_step_over_row;
-use cheby_enclose::{Terms, arguments, empty_row};
+use crate::spans::span_parts;
+use cheby_enclose::empty_row;
 use cheby_laws::fill_tq;
 use eph_model::Granule;
-use ival_core::{Divider, Ival};
+use ival_core::Ival;
 
 /// The interval of the changes of one coordinate of a granule, in km, from each time to the next, from time `a` to time
 /// `b`, in seconds of TDB since J2000. Over one time nothing changes. Axes are counted from 0.
 pub fn position_step(g: &Granule, axis: usize, a: i64, b: i64) -> Ival
-    requires granule { IsEvaluable g.now }
-    requires axis { axis < g.now.comps }
-    requires from { g.now.start ≤ℤ a }
-    requires order { a ≤ℤ b }
-    requires upto { b ≤ℤ (g.now.start +ℤ g.now.seconds) }
+    requires { IsSpanWithin g.now axis a b }
     ensures equals { result ≡ position_step_interval (series_of g.now axis) a b }
     ensures holds { HoldsChanges (position (series_of g.now axis)) a b result }
     ensures one_time { a ≡ b → result ≡ zero_interval }
 {
     if a < b {
-        let terms = Terms::of(g, axis);
-        let x = arguments(g, a, b);
+        let (terms, x, divider) = span_parts(g, axis, a, b);
         let mut t = empty_row();
         let mut q = empty_row();
         fill_tq(x, g.n, &mut t, &mut q);
-        let divider = Divider::of(g.seconds);
         position_step_over_row(&terms, x, &q, &divider)
     } else {
         Ival::zero()

@@ -45,7 +45,7 @@ pub fn velocity_over_row(terms: &Terms, x: Ival62, u: &Row, divider: &Divider) -
 }
 
 /// The interval of the changes of the velocity along one axis from each time to the next, in km per second: the sum of
-/// k C_k R_(k-1), with the divided differences R of U, times `2 / seconds` twice and narrowed once.
+/// k C_k R_(k-1), with the divided differences R of U, times `2 / seconds` twice and normalized once.
 #[inline(always)]
 pub fn velocity_step_over_row(terms: &Terms, x: Ival62, r: &Row, divider: &Divider) -> Ival
     requires arguments { IsArguments x }
@@ -56,7 +56,7 @@ pub fn velocity_step_over_row(terms: &Terms, x: Ival62, r: &Row, divider: &Divid
     Ival::scale_by(sum.lo, sum.hi, VELOCITY_STEP_EXPONENT, divider)
 }
 
-// 2 / seconds times both ends, rounded outward and not narrowed.
+// 2 / seconds times both ends, rounded outward and not normalized.
 #[inline(always)]
 fn once_scaled(sum: WideEnds, divider: &Divider) -> WideEnds
     requires lo_size { unsigned_abs sum.lo < 2 ^ 125 }

@@ -1,1 +1,2 @@
 pub mod TermLists
+pub mod SpanSeries

@@ -1,2 +1,3 @@
 pub mod EmptyRow
 pub mod Pairs
+pub mod Spans

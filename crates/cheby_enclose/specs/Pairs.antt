@@ -8,7 +8,7 @@ use Rattle.spec_ephemeris.specs.declared.granule.Rounded.{Rounded}
 abbrev pub term_of : Rounded → Ival62
 term_of p = ends p.lo p.hi
 
--- the floor and the ceiling of a number below 2^60 in size
+-- the floor and the ceiling of a number below 2^60 in magnitude
 pub record IsPair (p : Rounded) : Type 0 where
   pub small : EndsWithin (2 ^ 60) (term_of p)
   pub ordered : p.lo ≤ℤ p.hi

@@ -60,7 +60,7 @@ pub fn argument_at(g: &Granule, t: i64, divider: &Divider) -> Ival62
 
 /// Whether a granule can be evaluated: the test of what the calls here, and those of velocities and changes, require of
 /// one. It has from 1 to 32 coefficients for each component, each a whole number of units of 10^-140 km and below 2^36 km
-/// in size, and beside them their pairs; it takes from 1 to 2^40 seconds, and begins at most 2^50 seconds from J2000.
+/// in magnitude, and beside them their pairs; it takes from 1 to 2^40 seconds, and begins at most 2^50 seconds from J2000.
 pub fn is_evaluable(g: &Granule) -> bool
     ensures { IsTrue result ↔ IsEvaluable g.now }
 {

@@ -1,11 +1,11 @@
 // The interval of a coordinate over a span of times.
-ghost use Rattle.std.specs.Prelude.{◌≡◌, ◌<◌, ◌≤◌, length, ◌≤ℤ◌, ◌+ℤ◌};
+ghost use Rattle.std.specs.Prelude.{◌≡◌, length};
 ghost use Rattle.spec_chebyshev.specs.Rows.{t_row, IsArguments};
 ghost use Rattle.spec_ephemeris.specs.Series.{position};
 ghost use Rattle.spec_motions.specs.Enclosures.{HoldsEach, IsTight, position_interval, position_over};
 ghost use Rattle.spec_motions.specs.RowSizes.{IsRow};
 ghost use Rattle.cheby_enclose.specs.EmptyRow.{no_row};
-ghost use Rattle.spec_motions.specs.Granules.{IsEvaluable};
+ghost use Rattle.cheby_enclose.specs.Spans.{IsSpanWithin};
 ghost use Rattle.spec_ephemeris.specs.Granules.{series_of};
 
 use crate::granules::arguments;
@@ -43,11 +43,7 @@ pub fn position_over_row(terms: &Terms, x: Ival62, t: &Row) -> Ival
 /// JPL's Chebyshev sum at each of these times. Axes are counted from 0. Over one time it is at most the sum of
 /// `|c_k| 3^(k+1) 2^-59`, and `(n + 2) 2^-23`, km wide.
 pub fn position(g: &Granule, axis: usize, a: i64, b: i64) -> Ival
-    requires granule { IsEvaluable g.now }
-    requires axis { axis < g.now.comps }
-    requires from { g.now.start ≤ℤ a }
-    requires order { a ≤ℤ b }
-    requires upto { b ≤ℤ (g.now.start +ℤ g.now.seconds) }
+    requires { IsSpanWithin g.now axis a b }
     ensures equals { result ≡ position_interval (series_of g.now axis) a b }
     ensures holds { HoldsEach (position (series_of g.now axis)) a b result }
     ensures tight { a ≡ b → IsTight (series_of g.now axis).coefficients result }

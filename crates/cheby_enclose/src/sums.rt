@@ -12,7 +12,7 @@ use eph_model::Rounded;
 use ival_core::product_ends;
 use spec_chebyshev::Ival62;
 
-/// The ends of an interval in 128 bits, before it is narrowed.
+/// The ends of an interval in 128 bits, before it is normalized.
 #[derive(Clone, Copy, Debug, PartialEq, Eq)]
 pub struct WideEnds {
     pub lo: i128,

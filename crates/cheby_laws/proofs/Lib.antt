@@ -1,2 +1,2 @@
-mod RowSteps
+mod Filling
 mod Limits

@@ -6,7 +6,7 @@ ghost use Rattle.spec_numbers.specs.Numbers.{power};
 ghost use Rattle.spec_chebyshev.specs.Differences.{difference_t, difference_u, IsArgument};
 ghost use Rattle.spec_chebyshev.specs.Rows.{t_row, u_row, q_row, r_row, t_unit, u_unit, q_unit, r_unit, entry, HoldsIn, IsArguments};
 
-use crate::rows::{Row, fill_q, fill_r, fill_t, fill_u};
+use crate::rows::{Row, fill_t, fill_tq, fill_u, fill_ur};
 use spec_chebyshev::Ival62;
 
 /// The rows of one interval of arguments, of up to 32 coefficients; entry `k` belongs to degree `k`.
@@ -23,7 +23,7 @@ pub struct Basis {
 }
 
 /// Writes the first `n` entries of `out.t`: `T_0` is 1, `T_1` is `x`, and `T_(k+1)` is `2 x T_k - T_(k-1)`, cut to 1 in
-/// size.
+/// magnitude.
 pub fn basis_t(x: Ival62, n: usize, out: &mut Basis)
     requires n_in { n ≤ 32 }
     requires x_in { IsArguments x }
@@ -39,7 +39,7 @@ pub fn basis_t(x: Ival62, n: usize, out: &mut Basis)
 }
 
 /// Writes the first `n` entries of `out.u`: `U_0` is 1, `U_1` is `2 x`, and `U_(k+1)` is `2 x U_k - U_(k-1)`, cut to
-/// `k + 2` in size.
+/// `k + 2` in magnitude.
 pub fn basis_u(x: Ival62, n: usize, out: &mut Basis)
     requires n_in { n ≤ 32 }
     requires x_in { IsArguments x }
@@ -55,11 +55,10 @@ pub fn basis_u(x: Ival62, n: usize, out: &mut Basis)
 }
 
 /// Writes the first `n` entries of `out.q`: `Q_0` is 0, `Q_1` is 1, and `Q_(k+1)` is `2 x Q_k + 2 T_k - Q_(k-1)`, cut to
-/// `(k + 1)^2` in size. The first `n` entries of `out.t` are those of `basis_t` for the same `x`.
+/// `(k + 1)^2` in magnitude. The `T_k` are those of `basis_t` for the same `x`, and are computed beside; `out.t` stays.
 pub fn basis_q(x: Ival62, n: usize, out: &mut Basis)
     requires n_in { n ≤ 32 }
     requires x_in { IsArguments x }
-    requires t_given { (k : ℕ) → k < n → entry out.old.t k ≡ t_row x k }
     ensures row { (k : ℕ) → k < n → entry out.new.q k ≡ q_row x k }
     ensures rest { (k : ℕ) → n ≤ k → entry out.new.q k ≡ entry out.old.q k }
     ensures t_same { out.new.t ≡ out.old.t }
@@ -69,15 +68,16 @@ pub fn basis_q(x: Ival62, n: usize, out: &mut Basis)
         → HoldsIn 60 x u l → (k : ℕ) → k < n
         → HoldsIn q_unit (entry out.new.q k) (l *ℤ difference_t a u l k) (power l k) }
 {
-    fill_q(x, n, &out.t, &mut out.q);
+    let mut t = out.t;
+    fill_tq(x, n, &mut t, &mut out.q);
 }
 
 /// Writes the first `n` entries of `out.r`: `R_0` is 0, `R_1` is 2, and `R_(k+1)` is `2 x R_k + 2 U_k - R_(k-1)`, cut to
-/// `(k + 1) (k + 2) (k + 3) / 3` in size. The first `n` entries of `out.u` are those of `basis_u` for the same `x`.
+/// `(k + 1) (k + 2) (k + 3) / 3` in magnitude. The `U_k` are those of `basis_u` for the same `x`, computed beside; `out.u`
+/// is not read.
 pub fn basis_r(x: Ival62, n: usize, out: &mut Basis)
     requires n_in { n ≤ 32 }
     requires x_in { IsArguments x }
-    requires u_given { (k : ℕ) → k < n → entry out.old.u k ≡ u_row x k }
     ensures row { (k : ℕ) → k < n → entry out.new.r k ≡ r_row x k }
     ensures rest { (k : ℕ) → n ≤ k → entry out.new.r k ≡ entry out.old.r k }
     ensures t_same { out.new.t ≡ out.old.t }
@@ -87,5 +87,6 @@ pub fn basis_r(x: Ival62, n: usize, out: &mut Basis)
         → HoldsIn 60 x u l → (k : ℕ) → k < n
         → HoldsIn r_unit (entry out.new.r k) (l *ℤ difference_u a u l k) (power l k) }
 {
-    fill_r(x, n, &out.u, &mut out.r);
+    let mut u = out.u;
+    fill_ur(x, n, &mut u, &mut out.r);
 }

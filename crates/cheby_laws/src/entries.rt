@@ -1,86 +1,226 @@
-// One entry of each row, from the two before it, and the size that it is cut to.
+// The recurrences of the four rows, and one entry of a row from the two before it.
 
-ghost use Rattle.std.specs.Prelude.{◌≡◌, ◌-◌, ◌<◌, ◌≤◌, ◌*◌, ◌^◌, pos};
-ghost use Rattle.spec_chebyshev.specs.Rows.{t_row, u_row, q_row, r_row, u_size, q_size, r_size, u_unit, q_unit, r_unit, IsArguments};
+ghost use Rattle.std.specs.Prelude.{◌≡◌, ℕ, ◌-◌, ◌<◌, ◌≤◌, ◌*◌, ◌^◌};
+ghost use Rattle.spec_chebyshev.specs.Rows.{ends, t_row, u_row, q_row, r_row, t_size, u_size, q_size, r_size, t_unit, u_unit, q_unit, r_unit, nothing, shifted, EndsWithin, IsArguments};
+ghost use Rattle.spec_chebyshev.specs.declared.ends.Ival62.{Ival62};
+ghost use Rattle.cheby_laws.specs.Recurrences.{IsRecurrence};
+ghost use Rattle.cheby_laws.specs.Rules.{IsRecurrence-t, IsRecurrence-u, IsRecurrence-q, IsRecurrence-r};
 
 use crate::steps::{coarser, next_entry};
 use spec_chebyshev::Ival62;
 
-/// The size that `T_k` is cut to, and the unit steps of the sizes of `U_k`, `Q_k` and `R_k`.
-pub(crate) const T_LIMIT: u64 = 1_152_921_504_606_846_976;
+/// The number 1 in units of 2^-60, of 2^-50, of 2^-46 and of 2^-44.
+const T_ONE: i64 = 1_152_921_504_606_846_976;
 
-const U_LIMIT: u64 = 1_125_899_906_842_624;
+const U_ONE: i64 = 1_125_899_906_842_624;
 
-const Q_LIMIT: u64 = 70_368_744_177_664;
+const Q_ONE: i64 = 70_368_744_177_664;
 
-const R_LIMIT: u64 = 17_592_186_044_416;
+const R_ONE: i64 = 17_592_186_044_416;
 
-pub(crate) const NOTHING: Ival62 = Ival62 { lo: 0, hi: 0 };
+const NOTHING: Ival62 = Ival62 { lo: 0, hi: 0 };
 
-/// Entry `k` of the row of `U`: `2 x U_(k-1) - U_(k-2)`.
+/// A row whose entry `k` is `2 x e_(k-1) + extra - e_(k-2)`, rounded outward and cut to its greatest magnitude. What is
+/// extra is made of entry `k - 1` of a row beside it.
+pub(crate) trait Recurrence {
+    /// The entries over an interval of arguments.
+    ghost entries: { Ival62 → ℕ → Ival62 };
+
+    /// Those of the row beside it: of the same row where nothing is added.
+    ghost beside: { Ival62 → ℕ → Ival62 };
+
+    /// What is added for an entry of the row beside.
+    ghost extra: { Ival62 → Ival62 };
+
+    /// The greatest magnitude of entry `k`.
+    ghost limit: { ℕ → ℕ };
+
+    fn first() -> Ival62
+        ensures { (x : Ival62) → result ≡ entries x 0 };
+
+    fn second(x: Ival62) -> Ival62
+        requires { IsArguments x }
+        ensures { result ≡ entries x 1 };
+
+    fn extra(e: Ival62) -> Ival62
+        requires { EndsWithin (2 ^ 60) e }
+        ensures { result ≡ extra e };
+
+    fn limit(k: usize) -> u64
+        requires { k < 32 }
+        ensures { result ≡ limit k };
+
+    ghost rule: { IsRecurrence entries beside extra limit };
+}
+
+/// `T`: `T_0` is 1, `T_1` is `x`, in units of 2^-60.
+pub(crate) struct FirstKind;
+
+#[tactic(auto, unfolding(spec_chebyshev::specs::Rows::t_row))]
+impl Recurrence for FirstKind {
+    ghost entries = { t_row };
+
+    ghost beside = { t_row };
+
+    ghost extra = { λ e. nothing };
+
+    ghost limit = { λ k. t_size k * 2 ^ t_unit };
+
+    ghost rule = { IsRecurrence-t };
+
+    #[inline(always)]
+    fn first() -> Ival62 {
+        exactly(T_ONE)
+    }
+
+    #[inline(always)]
+    fn second(x: Ival62) -> Ival62 {
+        x
+    }
+
+    #[inline(always)]
+    fn extra(_e: Ival62) -> Ival62 {
+        NOTHING
+    }
+
+    #[inline(always)]
+    fn limit(_k: usize) -> u64 {
+        T_ONE as u64
+    }
+}
+
+/// `U`: `U_0` is 1, `U_1` is `2 x`, in units of 2^-50.
+pub(crate) struct SecondKind;
+
+#[tactic(auto, unfolding(spec_chebyshev::specs::Rows::u_row))]
+impl Recurrence for SecondKind {
+    ghost entries = { u_row };
+
+    ghost beside = { u_row };
+
+    ghost extra = { λ e. nothing };
+
+    ghost limit = { λ k. u_size k * 2 ^ u_unit };
+
+    ghost rule = { IsRecurrence-u };
+
+    #[inline(always)]
+    fn first() -> Ival62 {
+        exactly(U_ONE)
+    }
+
+    #[inline(always)]
+    fn second(x: Ival62) -> Ival62 {
+        coarser(x, 9)
+    }
+
+    #[inline(always)]
+    fn extra(_e: Ival62) -> Ival62 {
+        NOTHING
+    }
+
+    #[inline(always)]
+    fn limit(k: usize) -> u64 {
+        (k as u64 + 1) * U_ONE as u64
+    }
+}
+
+/// `Q`, the divided differences of `T`: `Q_0` is 0, `Q_1` is 1, and `2 T_(k-1)` is added, in units of 2^-46.
+pub(crate) struct FirstDifferences;
+
+#[tactic(auto, unfolding(spec_chebyshev::specs::Rows::q_row))]
+impl Recurrence for FirstDifferences {
+    ghost entries = { q_row };
+
+    ghost beside = { t_row };
+
+    ghost extra = { shifted 13 };
+
+    ghost limit = { λ k. q_size k * 2 ^ q_unit };
+
+    ghost rule = { IsRecurrence-q };
+
+    #[inline(always)]
+    fn first() -> Ival62 {
+        NOTHING
+    }
+
+    #[inline(always)]
+    fn second(_x: Ival62) -> Ival62 {
+        exactly(Q_ONE)
+    }
+
+    #[inline(always)]
+    fn extra(e: Ival62) -> Ival62 {
+        coarser(e, 13)
+    }
+
+    #[inline(always)]
+    fn limit(k: usize) -> u64 {
+        (k * k) as u64 * Q_ONE as u64
+    }
+}
+
+/// `R`, the divided differences of `U`: `R_0` is 0, `R_1` is 2, and `2 U_(k-1)` is added, in units of 2^-44.
+pub(crate) struct SecondDifferences;
+
+#[tactic(auto, unfolding(spec_chebyshev::specs::Rows::r_row))]
+impl Recurrence for SecondDifferences {
+    ghost entries = { r_row };
+
+    ghost beside = { u_row };
+
+    ghost extra = { shifted 5 };
+
+    ghost limit = { λ k. r_size k * 2 ^ r_unit };
+
+    ghost rule = { IsRecurrence-r };
+
+    #[inline(always)]
+    fn first() -> Ival62 {
+        NOTHING
+    }
+
+    #[inline(always)]
+    fn second(_x: Ival62) -> Ival62 {
+        exactly(2 * R_ONE)
+    }
+
+    #[inline(always)]
+    fn extra(e: Ival62) -> Ival62 {
+        coarser(e, 5)
+    }
+
+    #[inline(always)]
+    fn limit(k: usize) -> u64 {
+        (k * (k + 1) * (k + 2) / 3) as u64 * R_ONE as u64
+    }
+}
+
+/// Entry `k` of a row, from the two before it and entry `k - 1` of the row beside it.
 #[inline(always)]
-pub(crate) fn next_u(x: Ival62, k: usize, last: Ival62, before: Ival62) -> Ival62
+pub(crate) fn next_in_row<R: Recurrence>(
+    x: Ival62,
+    k: usize,
+    beside: Ival62,
+    last: Ival62,
+    before: Ival62,
+) -> Ival62
     requires k_from { 2 ≤ k }
     requires k_in { k < 32 }
     requires x_in { IsArguments x }
-    requires last_is { last ≡ u_row x (k - 1) }
-    requires before_is { before ≡ u_row x (k - 2) }
-    ensures { result ≡ u_row x k }
+    requires beside_is { beside ≡ R.beside x (k - 1) }
+    requires last_is { last ≡ R.entries x (k - 1) }
+    requires before_is { before ≡ R.entries x (k - 2) }
+    ensures { result ≡ R.entries x k }
 {
-    next_entry(x, last, NOTHING, before, u_limit(k))
+    next_entry(x, last, R::extra(beside), before, R::limit(k))
 }
 
-/// Entry `k` of the row of `Q`, with entry `k - 1` of the row of `T`: `2 x Q_(k-1) + 2 T_(k-1) - Q_(k-2)`.
+/// The interval of one number.
 #[inline(always)]
-pub(crate) fn next_q(x: Ival62, k: usize, t: Ival62, last: Ival62, before: Ival62) -> Ival62
-    requires k_from { 2 ≤ k }
-    requires k_in { k < 32 }
-    requires x_in { IsArguments x }
-    requires t_is { t ≡ t_row x (k - 1) }
-    requires last_is { last ≡ q_row x (k - 1) }
-    requires before_is { before ≡ q_row x (k - 2) }
-    ensures { result ≡ q_row x k }
+fn exactly(z: i64) -> Ival62
+    ensures { result ≡ ends z z }
 {
-    next_entry(x, last, coarser(t, 13), before, q_limit(k))
-}
-
-/// Entry `k` of the row of `R`, with entry `k - 1` of the row of `U`: `2 x R_(k-1) + 2 U_(k-1) - R_(k-2)`.
-#[inline(always)]
-pub(crate) fn next_r(x: Ival62, k: usize, u: Ival62, last: Ival62, before: Ival62) -> Ival62
-    requires k_from { 2 ≤ k }
-    requires k_in { k < 32 }
-    requires x_in { IsArguments x }
-    requires u_is { u ≡ u_row x (k - 1) }
-    requires last_is { last ≡ r_row x (k - 1) }
-    requires before_is { before ≡ r_row x (k - 2) }
-    ensures { result ≡ r_row x k }
-{
-    next_entry(x, last, coarser(u, 5), before, r_limit(k))
-}
-
-/// `(k + 1) 2^50`.
-#[inline(always)]
-fn u_limit(k: usize) -> u64
-    requires { k < 32 }
-    ensures { result ≡ u_size k * 2 ^ u_unit }
-{
-    (k as u64 + 1) * U_LIMIT
-}
-
-/// `k^2 2^46`.
-#[inline(always)]
-fn q_limit(k: usize) -> u64
-    requires { k < 32 }
-    ensures { result ≡ q_size k * 2 ^ q_unit }
-{
-    (k * k) as u64 * Q_LIMIT
-}
-
-/// `k (k + 1) (k + 2) / 3` in units of 2^-44.
-#[inline(always)]
-fn r_limit(k: usize) -> u64
-    requires { k < 32 }
-    ensures { result ≡ r_size k * 2 ^ r_unit }
-{
-    (k * (k + 1) * (k + 2) / 3) as u64 * R_LIMIT
+    Ival62 { lo: z, hi: z }
 }

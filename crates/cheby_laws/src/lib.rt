@@ -2,9 +2,9 @@
 //!
 //! In comes a span inside one granule, as the numerators of its arguments, and a count of coefficients; out come rows
 //! of intervals in fixed units, with the same bits for the same operands on every machine. The ranges of positions, of
-//! velocities and of their changes are sums over these rows. No call takes memory or fails.
+//! velocities and of their changes are sums over these rows. No call allocates or fails.
 //!
-//! The polynomials are counted by their recurrence (Abramowitz and Stegun, 22.7.4 and 22.7.5), and their arguments are
+//! The polynomials are computed by their recurrence (Abramowitz and Stegun, 22.7.4 and 22.7.5), and their arguments are
 //! those of the granules of JPL's ephemerides, which are the records of SPICE's SPK type 2 too.
 #![tactic(auto)]
 
@@ -18,6 +18,3 @@ pub use arguments::{argument, argument_by, argument_of};
 pub use bases::{Basis, basis_q, basis_r, basis_t, basis_u};
 pub use rows::{Q_UNIT, R_UNIT, Row, T_UNIT, U_UNIT, fill_t, fill_tq, fill_u, fill_ur};
 pub use spec_chebyshev::Ival62;
-
-#[cfg(test)]
-mod tests;

@@ -8,7 +8,7 @@ ghost use Rattle.spec_chebyshev.specs.Rows.{next, shifted, EndsWithin};
 use ival_core::product_ends;
 use spec_chebyshev::Ival62;
 
-/// `2 x e + extra - before`, rounded outward and cut to `limit` in size: the next entry of a row, with `x` in units of
+/// `2 x e + extra - before`, rounded outward and cut to `limit` in magnitude: the next entry of a row, with `x` in units of
 /// 2^-60 and all else in the unit of the row.
 #[inline(always)]
 pub(crate) fn next_entry(x: Ival62, e: Ival62, extra: Ival62, before: Ival62, limit: u64) -> Ival62
@@ -23,33 +23,27 @@ pub(crate) fn next_entry(x: Ival62, e: Ival62, extra: Ival62, before: Ival62, li
 {
     let (least, greatest) = product_ends(x.lo, x.hi, e.lo, e.hi);
     Ival62 {
-        lo: low_end(quotient_down(least), extra.lo, before.hi, limit),
-        hi: high_end(quotient_up(greatest), extra.hi, before.lo, limit),
+        lo: at_least(total(quotient_down(least), extra.lo, before.hi), limit),
+        hi: at_most(total(quotient_up(greatest), extra.hi, before.lo), limit),
     }
 }
 
-/// A quotient with `extra` and without `before`, and at least `-limit`.
+/// The greater of a number and `-limit`.
 #[inline(always)]
-fn low_end(quotient: i64, extra: i64, before: i64, limit: u64) -> i64
-    requires quotient_in { unsigned_abs quotient ≤ 2 ^ 61 }
-    requires extra_in { unsigned_abs extra ≤ 2 ^ 60 }
-    requires before_in { unsigned_abs before ≤ 2 ^ 60 }
-    requires limit_in { limit ≤ 2 ^ 60 }
-    ensures { result ≡ int_max (quotient +ℤ extra -ℤ before) (neg_ℤ (pos limit)) }
+fn at_least(z: i64, limit: u64) -> i64
+    requires { limit ≤ 2 ^ 60 }
+    ensures { result ≡ int_max z (neg_ℤ (pos limit)) }
 {
-    total(quotient, extra, before).max(-(limit as i64))
+    z.max(-(limit as i64))
 }
 
-/// A quotient with `extra` and without `before`, and at most `limit`.
+/// The less of a number and `limit`.
 #[inline(always)]
-fn high_end(quotient: i64, extra: i64, before: i64, limit: u64) -> i64
-    requires quotient_in { unsigned_abs quotient ≤ 2 ^ 61 }
-    requires extra_in { unsigned_abs extra ≤ 2 ^ 60 }
-    requires before_in { unsigned_abs before ≤ 2 ^ 60 }
-    requires limit_in { limit ≤ 2 ^ 60 }
-    ensures { result ≡ int_min (quotient +ℤ extra -ℤ before) (pos limit) }
+fn at_most(z: i64, limit: u64) -> i64
+    requires { limit ≤ 2 ^ 60 }
+    ensures { result ≡ int_min z (pos limit) }
 {
-    total(quotient, extra, before).min(limit as i64)
+    z.min(limit as i64)
 }
 
 /// The three parts of a step together.

@@ -1,11 +1,10 @@
-use Rattle.std.proofs.Common.{rules, ◌≡◌, ◌∙◌, true, w64, unsigned_abs}
+use Rattle.std.proofs.Common.{◌≡◌, ◌∙◌, true}
 use Rattle.std.proofs.lemmas.Int.{to_z-of_z}
-use mir.Val.{SFits}
 use lib.Signed.{lt_z}
-use Rattle.spec_motions.specs.Enclosures.{position_step_over, position_step_interval, arguments}
+use Rattle.spec_motions.specs.Enclosures.{position_step_over, position_step_interval}
 use Rattle.spec_motions.proofs.HeldChanges.{Holds-position_step}
 use Rattle.spec_ephemeris.specs.Granules.{series_of}
-use Rattle.spec_motions.proofs.GranuleSeries.{IsSeries-of, IsSpan-of}
+use Rattle.cheby_enclose.proofs.SpanSeries.{IsSeries-within, IsSpan-within}
 use Rattle.cheby_difference.proofs.positions.position_step.Goals as goal
 use Rattle.cheby_difference.proofs.positions.position_step.Goals.{After-position_step_over_row}
 
@@ -13,20 +12,13 @@ equals : (c : After-position_step_over_row) → c.position_step_over_row.result 
 equals c =
     let a = c.ranges.a in
     let b = c.ranges.b in
-    let s = series_of c.args.g.now c.args.axis in
-    let x : c.arguments-x.result ≡ arguments s c.args.a c.args.b = simp to_z-of_z at (c.arguments-x.ensures.equals c.args.axis) in
-    let t = c.of-terms.ensures.terms in
-    let n : SFits w64 c.args.g.now.seconds = search rules in
-    let d : c.of-divider.result ≡ unsigned_abs c.args.g.now.seconds = simp to_z-of_z at c.of-divider.ensures in
-    let r = c.position_step_over_row.ensures in
+    let p = c.span_parts-terms.ensures in
+    let x = simp to_z-of_z at c.span_parts-terms.ensures.arguments in
     let w : lt_z c.args.a c.args.b ≡ true = simp to_z-of_z at c.if-a-b.true in
-    rw w (r ∙ λ i. position_step_over (t i) (x i) (d i))
+    rw w (c.position_step_over_row.ensures ∙ λ i. position_step_over (p.terms i) (x i) (p.divider i))
 
 pub returns-then-a-b-clause-equals : goal.returns-then-a-b-clause-equals
 returns-then-a-b-clause-equals c = equals c
 
 pub returns-then-a-b-clause-holds : goal.returns-then-a-b-clause-holds
-returns-then-a-b-clause-holds c t from to =
-    let is = IsSeries-of c.args.g.now c.requires.granule c.args.axis c.requires.axis in
-    let span = IsSpan-of c.args.g.now c.requires.granule c.args.axis c.requires.axis c.args.a c.args.b c.requires.from c.requires.order c.requires.upto in
-    rw (equals c) (Holds-position_step (series_of c.args.g.now c.args.axis) c.args.a c.args.b is span t from to)
+returns-then-a-b-clause-holds c t from to = rw (equals c) (Holds-position_step (series_of c.args.g.now c.args.axis) c.args.a c.args.b (IsSeries-within c.requires) (IsSpan-within c.requires) t from to)

@@ -1,5 +1,5 @@
-use Rattle.std.proofs.Common.{rules, ◌≡◌, ◌∙◌, pos, neg_ℤ, to_z, of_z, arith, length, drop, unsigned_abs, ap, ℤ, ◌*ℤ◌}
-use Rattle.std.proofs.lemmas.Int.{ints, to_z-of_z}
+use Rattle.std.proofs.Common.{rules, ◌≡◌, ◌∙◌, pos, neg_ℤ, to_z, of_z, arith, length, drop, ap, ℤ, ◌*ℤ◌}
+use Rattle.std.proofs.lemmas.Int.{to_z-of_z}
 use mir.Syntax.{w128}
 use mir.Val.{SFits}
 use Rattle.spec_intervals.specs.Interval.{scale}
@@ -24,16 +24,14 @@ slope_sum-requires-clause-order c k h = rw (c.requires.r k h) (r_ordered c.args.
 low_is : (c : After-once_scaled-sum) → to_z w128 (of_z w128 c.once_scaled-sum.result.lo) ≡ floor_div (pos 2 *ℤ sum_low (slope_difference_row c.args.x) 1 (drop 1 c.args.terms.now)) c.args.divider.now
 low_is c =
     let f : SFits w128 c.once_scaled-sum.result.lo = search rules in
-    let e : c.once_scaled-sum.result.lo ≡ floor_div (pos 2 *ℤ c.slope_sum.result.lo) c.args.divider.now = c.once_scaled-sum.ensures.lo in
     let s = c.slope_sum.ensures.lo ∙ low_slopes_same (entry c.args.r.now) (r_row c.args.x) c.args.terms.now c.requires.r in
-    to_z-of_z w128 c.once_scaled-sum.result.lo f ∙ (e ∙ ap (λ (z : ℤ). floor_div (pos 2 *ℤ z) c.args.divider.now) s)
+    to_z-of_z w128 c.once_scaled-sum.result.lo f ∙ (c.once_scaled-sum.ensures.lo ∙ ap (λ (z : ℤ). floor_div (pos 2 *ℤ z) c.args.divider.now) s)
 
 high_is : (c : After-once_scaled-sum) → to_z w128 (of_z w128 c.once_scaled-sum.result.hi) ≡ ceil_div (pos 2 *ℤ sum_high (slope_difference_row c.args.x) 1 (drop 1 c.args.terms.now)) c.args.divider.now
 high_is c =
     let f : SFits w128 c.once_scaled-sum.result.hi = search rules in
-    let e : c.once_scaled-sum.result.hi ≡ ceil_div (pos 2 *ℤ c.slope_sum.result.hi) c.args.divider.now = c.once_scaled-sum.ensures.hi in
     let s = c.slope_sum.ensures.hi ∙ high_slopes_same (entry c.args.r.now) (r_row c.args.x) c.args.terms.now c.requires.r in
-    to_z-of_z w128 c.once_scaled-sum.result.hi f ∙ (e ∙ ap (λ (z : ℤ). ceil_div (pos 2 *ℤ z) c.args.divider.now) s)
+    to_z-of_z w128 c.once_scaled-sum.result.hi f ∙ (c.once_scaled-sum.ensures.hi ∙ ap (λ (z : ℤ). ceil_div (pos 2 *ℤ z) c.args.divider.now) s)
 
 pub scale_by-requires-clause-ordered : goal.scale_by-requires-clause-ordered
 scale_by-requires-clause-ordered c =

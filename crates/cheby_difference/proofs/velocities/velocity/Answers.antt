@@ -1,30 +1,17 @@
-use Rattle.std.proofs.Common.{rules, ◌≡◌, ◌∙◌, w64, unsigned_abs}
+use Rattle.std.proofs.Common.{◌≡◌, ◌∙◌}
 use Rattle.std.proofs.lemmas.Int.{to_z-of_z}
-use mir.Val.{SFits}
-use Rattle.spec_motions.specs.Enclosures.{velocity_over, velocity_interval, arguments}
+use Rattle.spec_motions.specs.Enclosures.{velocity_over, velocity_interval}
 use Rattle.spec_motions.proofs.HeldChanges.{Holds-velocity}
 use Rattle.spec_ephemeris.specs.Granules.{series_of}
-use Rattle.spec_motions.proofs.GranuleSeries.{IsSeries-of, IsSpan-of}
+use Rattle.cheby_enclose.proofs.SpanSeries.{IsSeries-within, IsSpan-within}
 use Rattle.cheby_difference.proofs.velocities.velocity.Goals as goal
-use Rattle.cheby_difference.proofs.velocities.velocity.Goals.{After-velocity_over_row}
 
-equals : (c : After-velocity_over_row) → c.velocity_over_row.result ≡ velocity_interval (series_of c.args.g.now c.args.axis) c.args.a c.args.b
-equals c =
+pub returns : goal.returns
+returns c =
     let a = c.ranges.a in
     let b = c.ranges.b in
     let s = series_of c.args.g.now c.args.axis in
-    let x : c.arguments-x.result ≡ arguments s c.args.a c.args.b = simp to_z-of_z at (c.arguments-x.ensures.equals c.args.axis) in
-    let t = c.of-terms.ensures.terms in
-    let n : SFits w64 c.args.g.now.seconds = search rules in
-    let d : c.of-divider.result ≡ unsigned_abs c.args.g.now.seconds = simp to_z-of_z at c.of-divider.ensures in
-    let r = c.velocity_over_row.ensures in
-    r ∙ λ i. velocity_over (t i) (x i) (d i)
-
-pub returns-clause-equals : goal.returns-clause-equals
-returns-clause-equals c = equals c
-
-pub returns-clause-holds : goal.returns-clause-holds
-returns-clause-holds c t from to =
-    let is = IsSeries-of c.args.g.now c.requires.granule c.args.axis c.requires.axis in
-    let span = IsSpan-of c.args.g.now c.requires.granule c.args.axis c.requires.axis c.args.a c.args.b c.requires.from c.requires.order c.requires.upto in
-    rw (equals c) (Holds-velocity (series_of c.args.g.now c.args.axis) c.args.a c.args.b is span t from to)
+    let p = c.span_parts-terms.ensures in
+    let x = simp to_z-of_z at c.span_parts-terms.ensures.arguments in
+    let e : c.velocity_over_row.result ≡ velocity_interval s c.args.a c.args.b = c.velocity_over_row.ensures ∙ λ i. velocity_over (p.terms i) (x i) (p.divider i) in
+    record { equals = e; holds = λ t from to. rw e (Holds-velocity s c.args.a c.args.b (IsSeries-within c.requires) (IsSpan-within c.requires) t from to) }

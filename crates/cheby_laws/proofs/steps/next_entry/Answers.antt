@@ -1,4 +1,4 @@
-use Rattle.std.proofs.Common.{rules, ◌≡◌, ◌∙◌, ◌^◌, w64, to_z, of_z, pos, neg_ℤ, ◌+ℤ◌, ◌-ℤ◌}
+use Rattle.std.proofs.Common.{rules, ◌≡◌, ◌∙◌, ◌≤◌, ◌^◌, w64, to_z, of_z, pos, neg_ℤ, ◌+ℤ◌, ◌-ℤ◌, unsigned_abs}
 use Rattle.std.proofs.lemmas.Int.{to_z-of_z}
 use Rattle.std.specs.Int.{int_min, int_max}
 use mir.Syntax.{w128}
@@ -11,56 +11,57 @@ use Rattle.spec_chebyshev.proofs.Bounds.{unit_fits, least4_bound, greatest4_boun
 use Rattle.cheby_laws.proofs.steps.next_entry.Goals as goal
 use Rattle.cheby_laws.proofs.steps.next_entry.Goals.{After-product_ends-least}
 
-least_is : (c : After-product_ends-least) → c.product_ends-least.result.0 ≡ least4 c.args.x.lo c.args.x.hi c.args.e.lo c.args.e.hi
-least_is c =
-    let a = unit_fits _ c.requires.x_in.lo in
-    let b = unit_fits _ c.requires.x_in.hi in
-    let p = unit_fits _ c.requires.e_in.lo in
-    let q = unit_fits _ c.requires.e_in.hi in
-    simp to_z-of_z at c.product_ends-least.ensures.least
+module _ (c : After-product_ends-least) where
+  products : (c.product_ends-least.result.0 ≡ least4 c.args.x.lo c.args.x.hi c.args.e.lo c.args.e.hi) × (c.product_ends-least.result.1 ≡ greatest4 c.args.x.lo c.args.x.hi c.args.e.lo c.args.e.hi)
+  products =
+      let a = unit_fits _ c.requires.x_in.lo in
+      let b = unit_fits _ c.requires.x_in.hi in
+      let p = unit_fits _ c.requires.e_in.lo in
+      let q = unit_fits _ c.requires.e_in.hi in
+      let least : c.product_ends-least.result.0 ≡ least4 c.args.x.lo c.args.x.hi c.args.e.lo c.args.e.hi = simp to_z-of_z at c.product_ends-least.ensures.least in
+      let greatest : c.product_ends-least.result.1 ≡ greatest4 c.args.x.lo c.args.x.hi c.args.e.lo c.args.e.hi = simp to_z-of_z at c.product_ends-least.ensures.greatest in
+      (least, greatest)
 
-greatest_is : (c : After-product_ends-least) → c.product_ends-least.result.1 ≡ greatest4 c.args.x.lo c.args.x.hi c.args.e.lo c.args.e.hi
-greatest_is c =
-    let a = unit_fits _ c.requires.x_in.lo in
-    let b = unit_fits _ c.requires.x_in.hi in
-    let p = unit_fits _ c.requires.e_in.lo in
-    let q = unit_fits _ c.requires.e_in.hi in
-    simp to_z-of_z at c.product_ends-least.ensures.greatest
+  sizes : (unsigned_abs c.product_ends-least.result.0 ≤ 2 ^ 120) × (unsigned_abs c.product_ends-least.result.1 ≤ 2 ^ 120)
+  sizes =
+      let a = within_size _ _ c.requires.x_in.lo in
+      let b = within_size _ _ c.requires.x_in.hi in
+      let p = within_size _ _ c.requires.e_in.lo in
+      let q = within_size _ _ c.requires.e_in.hi in
+      let least : unsigned_abs c.product_ends-least.result.0 ≤ 2 ^ 120 = rw products.0 (least4_bound c.args.x.lo c.args.x.hi c.args.e.lo c.args.e.hi a b p q) in
+      let greatest : unsigned_abs c.product_ends-least.result.1 ≤ 2 ^ 120 = rw products.1 (greatest4_bound c.args.x.lo c.args.x.hi c.args.e.lo c.args.e.hi a b p q) in
+      (least, greatest)
 
 pub quotient_down-requires : goal.quotient_down-requires
 quotient_down-requires c =
-    let x = c.requires.x_in in
-    let e = c.requires.e_in in
     let r : SFits w128 c.product_ends-least.result.0 = search rules in
-    let g = (goal.at.quotient_down-requires c).After-product_ends-least in
-    rw (to_z-of_z w128 c.product_ends-least.result.0 r, least_is g) (least4_bound c.args.x.lo c.args.x.hi c.args.e.lo c.args.e.hi (within_size _ _ x.lo) (within_size _ _ x.hi) (within_size _ _ e.lo) (within_size _ _ e.hi))
+    rw (to_z-of_z w128 c.product_ends-least.result.0 r) ((sizes (goal.at.quotient_down-requires c).After-product_ends-least).0)
 
 pub quotient_up-requires : goal.quotient_up-requires
 quotient_up-requires c =
-    let x = c.requires.x_in in
-    let e = c.requires.e_in in
     let r : SFits w128 c.product_ends-least.result.1 = search rules in
-    let g = (goal.at.quotient_up-requires c).After-product_ends-least in
-    rw (to_z-of_z w128 c.product_ends-least.result.1 r, greatest_is g) (greatest4_bound c.args.x.lo c.args.x.hi c.args.e.lo c.args.e.hi (within_size _ _ x.lo) (within_size _ _ x.hi) (within_size _ _ e.lo) (within_size _ _ e.hi))
+    rw (to_z-of_z w128 c.product_ends-least.result.1 r) ((sizes (goal.at.quotient_up-requires c).After-product_ends-least).1)
 
 pub returns : goal.returns
 unfolding next
 returns c =
-    let g = c.requires.extra_in in
-    let b = c.requires.before_in in
-    let gl = unit_fits _ g.lo in
-    let gh = unit_fits _ g.hi in
-    let bl = unit_fits _ b.lo in
-    let bh = unit_fits _ b.hi in
-    let s = (goal.at.returns c).After-product_ends-least in
+    let gl = unit_fits _ c.requires.extra_in.lo in
+    let gh = unit_fits _ c.requires.extra_in.hi in
+    let bl = unit_fits _ c.requires.before_in.lo in
+    let bh = unit_fits _ c.requires.before_in.hi in
+    let s = products (goal.at.returns c).After-product_ends-least in
     let r0 : SFits w128 c.product_ends-least.result.0 = search rules in
     let r1 : SFits w128 c.product_ends-least.result.1 = search rules in
     let qd : SFits w64 c.quotient_down.result = record { sfits = c.quotient_down.type_inv } in
     let qu : SFits w64 c.quotient_up.result = record { sfits = c.quotient_up.type_inv } in
+    let td : SFits w64 c.total.result = record { sfits = c.total.type_inv } in
+    let tu : SFits w64 c.total-2.result = record { sfits = c.total-2.type_inv } in
     let d : c.quotient_down.result ≡ floor_div c.product_ends-least.result.0 (2 ^ 59) = simp to_z-of_z at c.quotient_down.ensures.equals in
     let u : c.quotient_up.result ≡ ceil_div c.product_ends-least.result.1 (2 ^ 59) = simp to_z-of_z at c.quotient_up.ensures.equals in
-    let l : c.low_end.result ≡ int_max (c.quotient_down.result +ℤ c.args.extra.lo -ℤ c.args.before.hi) (neg_ℤ (pos c.args.limit)) = simp to_z-of_z at c.low_end.ensures in
-    let h : c.high_end.result ≡ int_min (c.quotient_up.result +ℤ c.args.extra.hi -ℤ c.args.before.lo) (pos c.args.limit) = simp to_z-of_z at c.high_end.ensures in
-    let lr : to_z w64 (of_z w64 c.low_end.result) ≡ low_end c.args.limit c.args.x c.args.e c.args.extra c.args.before = to_z-of_z w64 c.low_end.result (record { sfits = c.low_end.type_inv }) ∙ (l ∙ rw (d, least_is s)) in
-    let hr : to_z w64 (of_z w64 c.high_end.result) ≡ high_end c.args.limit c.args.x c.args.e c.args.extra c.args.before = to_z-of_z w64 c.high_end.result (record { sfits = c.high_end.type_inv }) ∙ (h ∙ rw (u, greatest_is s)) in
+    let dt : c.total.result ≡ c.quotient_down.result +ℤ c.args.extra.lo -ℤ c.args.before.hi = simp to_z-of_z at c.total.ensures in
+    let ut : c.total-2.result ≡ c.quotient_up.result +ℤ c.args.extra.hi -ℤ c.args.before.lo = simp to_z-of_z at c.total-2.ensures in
+    let l : c.at_least.result ≡ int_max c.total.result (neg_ℤ (pos c.args.limit)) = simp to_z-of_z at c.at_least.ensures in
+    let h : c.at_most.result ≡ int_min c.total-2.result (pos c.args.limit) = simp to_z-of_z at c.at_most.ensures in
+    let lr : to_z w64 (of_z w64 c.at_least.result) ≡ low_end c.args.limit c.args.x c.args.e c.args.extra c.args.before = to_z-of_z w64 c.at_least.result (record { sfits = c.at_least.type_inv }) ∙ (l ∙ rw (dt, d, s.0)) in
+    let hr : to_z w64 (of_z w64 c.at_most.result) ≡ high_end c.args.limit c.args.x c.args.e c.args.extra c.args.before = to_z-of_z w64 c.at_most.result (record { sfits = c.at_most.type_inv }) ∙ (h ∙ rw (ut, u, s.1)) in
     rw (lr, hr)

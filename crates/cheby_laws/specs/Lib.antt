@@ -1,0 +1,2 @@
+pub mod Recurrences
+pub mod Rules

@@ -1,8 +1,8 @@
 // What the definitions of texts say of small cases.
 ghost use Rattle.std.specs.Prelude.{◌≡◌, [], ◌∷◌, ◌++◌, None, Some, codes};
 ghost use Rattle.std.specs.Fmt.{decimal};
-ghost use Rattle.spec_reports.specs.Messages.{event_text, leaves_text, title, words_text};
-ghost use Rattle.spec_reports.specs.Writing.{AppendsPart};
+ghost use Rattle.spec_output.specs.Messages.{event_text, leaves_text, title, words_text};
+ghost use Rattle.spec_output.specs.Writing.{AppendsPart};
 
 /// A fault is printed by its name, some with a detail. A number without a row in the table has no name.
 pub fn faults_are_named()

@@ -3,7 +3,7 @@ use Rattle.std.specs.Prelude.{ℕ, ℤ, List, [], ◌++◌, Bool, true, false, c
 use Rattle.std.specs.Fmt.{decimal, signed_decimal}
 use Rattle.spec_text.specs.declared.decimals.Fault.{Fault}
 use Rattle.spec_faults.specs.Faults.{Kind, fault_kind}
-use Rattle.spec_reports.specs.declared.limits.TheConstants.{MAX_LEAVES}
+use Rattle.spec_output.specs.declared.limits.TheConstants.{MAX_LEAVES}
 
 abbrev pub detail_text : Bool → ℕ → List ℕ
 detail_text false detail = []

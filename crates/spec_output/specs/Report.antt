@@ -16,7 +16,7 @@ use Rattle.spec_times.specs.TimeWords.{IsTime}
 
 -- ---- the request
 
--- what isn't there is printed so
+-- what is not there is printed so
 abbrev pub dash : List ℕ
 dash = codes "-"
 

@@ -8,7 +8,7 @@ use Rattle.spec_trees.specs.declared.window.Window.{Window}
 use Rattle.spec_trees.specs.Placement.{IsWithin}
 use Rattle.spec_searches.specs.Search.{Search}
 use Rattle.spec_times.specs.TimeWords.{IsTime}
-use Rattle.spec_texts.specs.Report.{HasTimes}
+use Rattle.spec_output.specs.Report.{HasTimes}
 use Rattle.gf_find.specs.declared.query.Span.{Span}
 use Rattle.gf_edges.specs.Edges.{Files}
 use Rattle.gf_find.specs.Outcomes.{HaveEphemeris}

@@ -12,8 +12,8 @@ use spec_times::{MAX_TIME_DIGITS, TimeFault};
 
 /// The time that a word stands for, in seconds of TDB since J2000: a whole number, which is an optional `-` and 1 to 12
 /// digits, or a calendar text `YYYY-MM-DDTHH:MM:SS`, in which a year below 0 has a `-` and six digits. `NotTime` where
-/// the word has neither form or shows what no calendar and clock show, else `OutOfRange` where the time isn't from
-/// Julian date 0 to Julian date 5,000,000. It takes no memory.
+/// the word has neither form or shows what no calendar and clock show, else `OutOfRange` where the time is not from
+/// Julian date 0 to Julian date 5,000,000. It does not allocate.
 pub fn read_time(word: &[u8]) -> Result<i64, TimeFault>
     ensures { result ≡ time_of word.now }
 {

@@ -2,22 +2,6 @@ use Rattle.std.proofs.Common.{refl}
 use Rattle.spec_requests.proofs.OnLiterals.{requests_on_literals}
 use Rattle.spec_requests.proofs.request_examples.faults_of_searches.Goals as goal
 
-pub returns-clause-first : goal.returns-clause-first
+pub returns : goal.returns
 unfolding requests_on_literals
-returns-clause-first c = refl
-
-pub returns-clause-second : goal.returns-clause-second
-unfolding requests_on_literals
-returns-clause-second c = refl
-
-pub returns-clause-date : goal.returns-clause-date
-unfolding requests_on_literals
-returns-clause-date c = refl
-
-pub returns-clause-workers : goal.returns-clause-workers
-unfolding requests_on_literals
-returns-clause-workers c = refl
-
-pub returns-clause-empty : goal.returns-clause-empty
-unfolding requests_on_literals
-returns-clause-empty c = refl
+returns c = record { first = refl; second = refl; date = refl; workers = refl; empty = refl }

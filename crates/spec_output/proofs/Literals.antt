@@ -1,0 +1,63 @@
+-- Lines whose bytes are known.
+use Rattle.std.proofs.Common.{◌≡◌, ◌+◌, ◌/◌, ◌%◌, ◌≤◌, ◌<◌, ◌^◌, ℕ, None, Some, List, [], ◌∷◌, ◌++◌, ◌∙◌, ap, lit<, lit≤}
+use Rattle.std.proofs.lemmas.Fmt.{decimal_digit, decimal_step}
+use Rattle.std.specs.Prelude.{codes}
+use Rattle.std.specs.Fmt.{decimal}
+use Rattle.spec_faults.specs.Faults.{fault_kind}
+use Rattle.spec_output.specs.Messages.{event_text, leaves_text, title, words_text}
+
+-- a number whose digits but the last are known
+number : (n : ℕ) (tens : List ℕ) → 10 ≤ n → n < 2 ^ 64 → decimal (n / 10) ≡ tens → decimal n ≡ tens ++ ((48 + n % 10) ∷ [])
+number n tens low high is = decimal_step n low high ∙ ap (λ (digits : List ℕ). digits ++ ((48 + n % 10) ∷ [])) is
+
+number_60 : decimal 60 ≡ codes "60"
+number_60 = number 60 (codes "6") (lit≤ tt) (lit< tt) (decimal_digit 6 (lit< tt))
+
+number_63 : decimal 63 ≡ codes "63"
+number_63 = number 63 (codes "6") (lit≤ tt) (lit< tt) (decimal_digit 6 (lit< tt))
+
+pub no_word_line : words_text 60 None ≡ codes "finder: words: 60 NoCommand\n"
+unfolding title fault_kind
+no_word_line = ap (λ (number : List ℕ). codes "finder: words: " ++ (number ++ codes " " ++ title 60 0) ++ [] ++ codes "\n") number_60
+
+pub option_line : words_text 63 (Some (codes "width")) ≡ codes "finder: words: 63 BadValue width\n"
+unfolding title fault_kind
+option_line = ap (λ (number : List ℕ). codes "finder: words: " ++ (number ++ codes " " ++ title 63 0) ++ codes " width" ++ codes "\n") number_63
+
+number_50 : decimal 50 ≡ codes "50"
+number_50 = number 50 (codes "5") (lit≤ tt) (lit< tt) (decimal_digit 5 (lit< tt))
+
+number_51 : decimal 51 ≡ codes "51"
+number_51 = number 51 (codes "5") (lit≤ tt) (lit< tt) (decimal_digit 5 (lit< tt))
+
+number_52 : decimal 52 ≡ codes "52"
+number_52 = number 52 (codes "5") (lit≤ tt) (lit< tt) (decimal_digit 5 (lit< tt))
+
+event_line : (n : ℕ) (word : List ℕ) → decimal n ≡ word → event_text n ≡ codes "finder: event: " ++ (word ++ codes " " ++ title n 0) ++ codes "\n"
+event_line n word is = ap (λ (number : List ℕ). codes "finder: event: " ++ (number ++ codes " " ++ title n 0) ++ codes "\n") is
+
+pub absent_line : event_text 50 ≡ codes "finder: event: 50 BodyAbsent\n"
+unfolding title fault_kind
+absent_line = event_line 50 (codes "50") number_50
+
+pub same_line : event_text 51 ≡ codes "finder: event: 51 SameBody\n"
+unfolding title fault_kind
+same_line = event_line 51 (codes "51") number_51
+
+pub reference_line : event_text 52 ≡ codes "finder: event: 52 ReferenceRange\n"
+unfolding title fault_kind
+reference_line = event_line 52 (codes "52") number_52
+
+number_3355 : decimal 3355 ≡ codes "3355"
+number_3355 =
+    number 3355 (codes "335") (lit≤ tt) (lit< tt)
+    (number 335 (codes "33") (lit≤ tt) (lit< tt) (number 33 (codes "3") (lit≤ tt) (lit< tt) (decimal_digit 3 (lit< tt))))
+
+number_33554432 : decimal 33554432 ≡ codes "33554432"
+number_33554432 =
+    number 33554432 (codes "3355443") (lit≤ tt) (lit< tt)
+    (number 3355443 (codes "335544") (lit≤ tt) (lit< tt)
+    (number 335544 (codes "33554") (lit≤ tt) (lit< tt) (number 33554 (codes "3355") (lit≤ tt) (lit< tt) number_3355)))
+
+pub leaves_line : leaves_text ≡ codes "finder: more than 33554432 leaves\n"
+leaves_line = ap (λ (number : List ℕ). codes "finder: more than " ++ number ++ codes " leaves\n") number_33554432

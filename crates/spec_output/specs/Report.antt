@@ -1,0 +1,105 @@
+-- What a search prints: its request, a line for each window, and the counts of windows. Times are calendar texts.
+use Rattle.std.specs.Prelude.{ℕ, ℤ, List, ◌++◌, Bool, true, false, not, count_by, codes, flat_map, Option, None, Some, if◌then◌else◌}
+use Rattle.std.specs.Fmt.{decimal, signed_decimal}
+use Rattle.spec_ephemeris.specs.declared.body.Body.{Body}
+use Rattle.spec_trees.specs.declared.tree.Turn.TheVariants.{Rise, Fall}
+use Rattle.spec_trees.specs.declared.window.Holds.{Holds}
+use Rattle.spec_trees.specs.declared.window.Holds.TheVariants.{Certain, Undecided}
+use Rattle.spec_trees.specs.declared.window.Window.{Window}
+use Rattle.spec_kinds.specs.declared.ask.Ask.{Ask}
+use Rattle.spec_kinds.specs.declared.kind.Kind.{Kind}
+use Rattle.spec_kinds.specs.Table.{is_unused, kind_name, row_of}
+use Rattle.spec_requests.specs.declared.request.FindAsk.{FindAsk}
+use Rattle.spec_requests.specs.Names.{axis_name, body_name, cut_name, dir_name, frame_name}
+use Rattle.spec_times.specs.Calendar.{time_text}
+use Rattle.spec_times.specs.TimeWords.{IsTime}
+
+-- ---- the request
+
+-- what is not there is printed so
+abbrev pub dash : List ℕ
+dash = codes "-"
+
+abbrev pub second_name : Option Body → List ℕ
+second_name None = dash
+second_name (Some body) = body_name body
+
+-- the axis, of the kinds that have one
+abbrev pub axis_of_kind : Kind → ℕ → List ℕ
+axis_of_kind kind axis = if is_unused (row_of kind).axis then dash else axis_name axis
+
+abbrev pub bodies_text : Ask → List ℕ
+bodies_text ask =
+    codes " target " ++ body_name ask.target ++ (codes " second " ++ second_name ask.second)
+    ++ (codes " observer " ++ body_name ask.observer)
+
+abbrev pub axes_text : Ask → List ℕ
+axes_text ask = codes " frame " ++ frame_name ask.frame ++ (codes " axis " ++ axis_of_kind ask.kind ask.axis)
+
+-- which turns are wanted, and how the span is searched
+abbrev pub search_text : FindAsk → List ℕ
+search_text find =
+    codes " dir " ++ dir_name find.ask.dir ++ (codes " width " ++ signed_decimal find.width)
+    ++ (codes " depth " ++ decimal find.depth) ++ (codes " cut " ++ cut_name find.cut)
+
+abbrev pub event_text : FindAsk → List ℕ
+event_text find =
+    codes "FIND " ++ kind_name find.ask.kind ++ bodies_text find.ask ++ axes_text find.ask
+    ++ (codes " values " ++ find.values)
+
+abbrev pub query_text : FindAsk → List ℕ
+query_text find = event_text find ++ search_text find
+
+-- two times
+abbrev pub span_text : ℤ → ℤ → List ℕ
+span_text first last = time_text first ++ codes " " ++ time_text last
+
+-- the line of a request, searched from one time to another
+abbrev pub request_line : FindAsk → ℤ → ℤ → List ℕ
+request_line find from to =
+    query_text find ++ (codes " span " ++ span_text from to ++ codes "\n")
+
+-- ---- the windows
+
+abbrev pub line_of : ℤ → ℤ → Holds → List ℕ
+line_of first last (Certain Rise) = codes "C " ++ span_text first last ++ codes " rise\n"
+line_of first last (Certain Fall) = codes "C " ++ span_text first last ++ codes " fall\n"
+line_of first last Undecided = codes "U " ++ span_text first last ++ codes "\n"
+
+-- a window from a time to another that have texts
+pub record HasTimes (w : Window) : Type 0 where
+  pub first : IsTime w.first
+  pub last : IsTime w.last
+
+abbrev pub window_lines : List Window → List ℕ
+window_lines ws = flat_map (λ w. line_of w.first w.last w.holds) ws
+
+abbrev pub is_certain : Holds → Bool
+is_certain (Certain turn) = true
+is_certain Undecided = false
+
+abbrev pub certain_count : List Window → ℕ
+certain_count ws = count_by (λ w. is_certain w.holds) ws
+
+abbrev pub undecided_count : List Window → ℕ
+undecided_count ws = count_by (λ w. not (is_certain w.holds)) ws
+
+-- how many windows there are of both sorts
+abbrev pub end_line : List Window → List ℕ
+end_line ws =
+    codes "END certain " ++ decimal (certain_count ws) ++ (codes " undecided " ++ decimal (undecided_count ws) ++ codes "\n")
+
+-- ---- the report
+
+abbrev pub report : FindAsk → ℤ → ℤ → List Window → List ℕ
+report find from to ws = request_line find from to ++ window_lines ws ++ end_line ws
+
+-- ---- the text of a generated file's search
+
+abbrev pub generation_line : ℕ → ℕ → ℕ → List ℕ
+generation_line blocks seed bytes =
+    codes "GEN 405 blocks " ++ decimal blocks ++ (codes " seed " ++ decimal seed) ++ (codes " bytes " ++ decimal bytes ++ codes "\n")
+
+-- so many blocks from this seed make so many bytes, in which these windows were found
+abbrev pub generation : ℕ → ℕ → ℕ → List Window → List ℕ
+generation blocks seed bytes ws = generation_line blocks seed bytes ++ end_line ws

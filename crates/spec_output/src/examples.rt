@@ -1,0 +1,34 @@
+// Worked lines.
+ghost use Rattle.std.specs.Prelude.{◌≡◌, ◌∷◌, ◌++◌, [], None, Some, codes, pos};
+ghost use Rattle.std.specs.Fmt.{decimal};
+ghost use Rattle.spec_ephemeris.specs.declared.body.Body.TheVariants.{Venus};
+ghost use Rattle.spec_kinds.specs.declared.kind.Kind.TheVariants.{Apsis, Coord};
+ghost use Rattle.spec_trees.specs.declared.tree.Turn.TheVariants.{Fall, Rise};
+ghost use Rattle.spec_trees.specs.declared.window.Holds.TheVariants.{Certain, Undecided};
+ghost use Rattle.spec_output.specs.Report.{axis_of_kind, end_line, second_name};
+ghost use Rattle.spec_output.specs.Summary.{column_lines, column_name};
+
+/// Only a coordinate has an axis, and only kinds of two bodies have a second body.
+pub fn dashes_stand_for_nothing()
+    ensures axis { axis_of_kind Coord 1 ≡ codes "y" }
+    ensures no_axis { axis_of_kind Apsis 1 ≡ codes "-" }
+    ensures second { second_name (Some Venus) ≡ codes "venus" }
+    ensures no_second { second_name None ≡ codes "-" }
+{}
+
+/// Certain windows of both turns are counted together.
+pub fn windows_are_counted()
+    ensures { end_line (record { first = pos 1; last = pos 1; holds = Certain Rise }
+        ∷ record { first = pos 2; last = pos 5; holds = Undecided }
+        ∷ record { first = pos 9; last = pos 9; holds = Certain Fall } ∷ [])
+        ≡ codes "END certain " ++ decimal 2 ++ (codes " undecided " ++ decimal 1 ++ codes "\n") }
+{}
+
+/// The columns are those of the planets, the Moon, the Sun, nutations and librations; an absent one has no line.
+pub fn columns_have_names()
+    ensures first { column_name 1 ≡ codes "mercury" }
+    ensures moon { column_name 10 ≡ codes "moon" }
+    ensures nutations { column_name 12 ≡ codes "nutations" }
+    ensures librations { column_name 13 ≡ codes "librations" }
+    ensures absent { column_lines 1 (record { start = 3; coefs = 0; granules = 4 } ∷ []) ≡ [] }
+{}

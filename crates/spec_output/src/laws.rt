@@ -1,0 +1,39 @@
+// What the definitions of texts say of small cases.
+ghost use Rattle.std.specs.Prelude.{◌≡◌, [], ◌∷◌, ◌++◌, None, Some, codes};
+ghost use Rattle.std.specs.Fmt.{decimal};
+ghost use Rattle.spec_output.specs.Messages.{event_text, leaves_text, title, words_text};
+ghost use Rattle.spec_output.specs.Writing.{AppendsPart};
+
+/// A fault is printed by its name, some with a detail. A number without a row in the table has no name.
+pub fn faults_are_named()
+    ensures name { title 6 0 ≡ codes "FileTooLarge" }
+    ensures detail { title 11 1030 ≡ codes "GroupMissing " ++ decimal 1030 }
+    ensures words { title 60 0 ≡ codes "NoCommand" }
+    ensures no_row { title 23 0 ≡ [] }
+{}
+
+/// The lines of invalid command lines.
+pub fn the_lines_of_words()
+    ensures no_word { words_text 60 None ≡ codes "finder: words: 60 NoCommand\n" }
+    ensures option { words_text 63 (Some (codes "width"))
+        ≡ codes "finder: words: 63 BadValue width\n" }
+{}
+
+/// The lines of events that cannot be searched for.
+pub fn the_lines_of_events()
+    ensures absent { event_text 50 ≡ codes "finder: event: 50 BodyAbsent\n" }
+    ensures same { event_text 51 ≡ codes "finder: event: 51 SameBody\n" }
+    ensures reference { event_text 52 ≡ codes "finder: event: 52 ReferenceRange\n" }
+{}
+
+/// The line of a search that has too many leaves.
+pub fn the_line_of_leaves()
+    ensures { leaves_text ≡ codes "finder: more than 33554432 leaves\n" }
+{}
+
+/// A sink that fails holds a prefix of the text, which is not all of it.
+pub fn texts_are_written()
+    ensures prefix { AppendsPart (Some (1 ∷ [])) (Some (1 ∷ 2 ∷ [])) (2 ∷ 3 ∷ []) }
+    ensures nothing { AppendsPart (Some (1 ∷ [])) (Some (1 ∷ [])) (2 ∷ 3 ∷ []) }
+    ensures not_all { AppendsPart (Some (1 ∷ [])) (Some (1 ∷ 2 ∷ 3 ∷ [])) (2 ∷ 3 ∷ []) → ⊥ }
+{}

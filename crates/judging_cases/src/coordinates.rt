@@ -87,6 +87,24 @@ fn columns_agree(states: &BodyStates<'_>, fields: &mut Fields<'_>) -> Result<boo
     Ok(agree)
 }
 
+// The enclosure of a coordinate, and whether it is that which the states give, and that of a formula.
+fn enclosure_agrees(
+    states: &BodyStates<'_>,
+    c: Coordinate,
+    a: i64,
+    b: i64,
+    fields: &mut Fields<'_>,
+) -> Result<bool, RowError>
+    requires target { c.target < 2 }
+    requires axis { c.axis < 3 }
+    requires fits { Fits states.now a b }
+{
+    let expected = enclosure_parts(fields)?;
+    let is_given = given(states, c, a, b) == expected;
+    let formula = formula_of(c)?;
+    Ok(has_enclosure(&formula, states, a, b, &expected) && is_given)
+}
+
 /// A file, two targets, an observer, a frame, a coordinate, the first and the last time, the enclosure of the coordinate,
 /// and the columns in use.
 pub(crate) fn coordinate_agrees(
@@ -97,9 +115,7 @@ pub(crate) fn coordinate_agrees(
     let states = states(&ephemeris, next_scene(fields)?)?;
     let coordinate = next_coordinate(fields)?;
     let (a, b) = span(&ephemeris, &states, fields)?;
-    let expected = enclosure_parts(fields)?;
+    let is_coordinate = enclosure_agrees(&states, coordinate, a, b, fields)?;
     let are_columns = columns_agree(&states, fields)?;
-    let formula = formula_of(coordinate)?;
-    let is_enclosure = has_enclosure(&formula, &states, a, b, &expected);
-    Ok(are_columns && is_enclosure && given(&states, coordinate, a, b) == expected)
+    Ok(is_coordinate && are_columns)
 }

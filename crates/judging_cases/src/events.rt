@@ -74,15 +74,29 @@ fn guards_agree(
     Ok(agree)
 }
 
+// The enclosure of a function and its guards, and whether they are those of an event.
+fn formulas_agree(
+    event: &Event,
+    states: &BodyStates<'_>,
+    a: i64,
+    b: i64,
+    fields: &mut Fields<'_>,
+) -> Result<bool, RowError>
+    requires { Fits states.now a b }
+{
+    let expected = enclosure_parts(fields)?;
+    let is_function = has_enclosure(event.function(), states, a, b, &expected);
+    let are_guards = guards_agree(event.guards(), states, a, b, fields)?;
+    Ok(is_function && are_guards)
+}
+
 /// A file, an ask, the first and the last time, the enclosure of the event's function, and its guards.
 pub(crate) fn event_agrees(rt: &HostRuntime, fields: &mut Fields<'_>) -> Result<bool, RowError> {
     let ephemeris = ephemeris_of(rt, fields.word()?)?;
     let ask = ask(fields)?;
     let states = states(&ephemeris, scene_of(&ask))?;
-    let (a, b) = span(&ephemeris, &states, fields)?;
     let event = event_of(rt.alloc(), &ephemeris, &ask)?;
-    let expected = enclosure_parts(fields)?;
-    let is_function = has_enclosure(event.function(), &states, a, b, &expected);
-    let are_guards = guards_agree(event.guards(), &states, a, b, fields)?;
-    Ok(is_function && are_guards && event.dir() == ask.dir)
+    let (a, b) = span(&ephemeris, &states, fields)?;
+    let are_formulas = formulas_agree(&event, &states, a, b, fields)?;
+    Ok(are_formulas && event.dir() == ask.dir)
 }

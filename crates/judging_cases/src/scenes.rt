@@ -45,29 +45,20 @@ fn has(ephemeris: &Ephemeris, body: Body) -> bool
 }
 
 /// The states of the targets of a scene that the ephemeris can show.
-pub(crate) fn states<'e>(
-    ephemeris: &'e Ephemeris,
-    scene: Scene,
-) -> Result<BodyStates<'e>, RowError>
+pub(crate) fn states<'e>(ephemeris: &'e Ephemeris, scene: Scene) -> Result<BodyStates<'e>, RowError>
     ensures { IfOk result (λ states. states.ephemeris ≡ ephemeris.now) }
 {
     let (first, second, observer) = (scene.first, scene.second, scene.observer);
-    if ephemeris.blocks() == 0
-        || !has(ephemeris, first)
-        || !has(ephemeris, second)
-        || !has(ephemeris, observer)
-    {
+    let has_first = has(ephemeris, first);
+    let has_second = has(ephemeris, second);
+    let has_observer = has(ephemeris, observer);
+    if ephemeris.blocks() == 0 || !has_first || !has_second || !has_observer {
         return Err(RowError::Malformed);
     }
     if first == Body::Ssb || second == Body::Ssb || first == observer || second == observer {
         return Err(RowError::Malformed);
     }
-    Ok(BodyStates::new(
-        ephemeris,
-        [first, second],
-        observer,
-        scene.frame,
-    ))
+    Ok(BodyStates::new(ephemeris, [first, second], observer, scene.frame))
 }
 
 // Whether no granule of a column in use begins after the first time and up to the last.

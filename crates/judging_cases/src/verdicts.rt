@@ -1,5 +1,6 @@
 // What is said of the nodes of searches, and where they are cut.
-ghost use Rattle.std.specs.Prelude.{◌≡◌, ◌≤ℤ◌, IfOk, pos};
+ghost use Rattle.std.specs.Prelude.{◌≡◌, ◌≤◌, ◌≤ℤ◌, ◌<ℤ◌, IfOk, pos};
+ghost use Rattle.spec_ephemeris.specs.Ephemeris.{end_of};
 ghost use Rattle.spec_trees.specs.Cuts.{CanCut, cut_of};
 ghost use Rattle.spec_trees.specs.Tree.{IsValid};
 
@@ -8,44 +9,57 @@ use crate::events::event_of;
 use crate::names::cut_rule;
 use crate::scenes::states;
 use case_rows::{Fields, RowError, ephemeris_of};
+use eph_model::Ephemeris;
 use event_judge::EventJudge;
-use gf_hooks::{CutRule, Cutter, rule_cut};
+use gf_hooks::{Cutter, rule_cut};
 use halving::{Judge, Node, Turn, Verdict};
-use std::alloc::Global;
 
-// A verdict, and the parts of a node that is split.
+// Where the parts of a node meet, and how deep each is.
+#[derive(Clone, Copy, PartialEq, Eq)]
+struct Meeting {
+    time: i64,
+    depths: [u32; 2],
+}
+
+// A verdict, and where the parts meet of a node that is split.
 #[derive(Clone, Copy, PartialEq, Eq)]
 struct Judgement {
     verdict: Verdict,
-    parts: Option<(Node, Node)>,
+    meeting: Option<Meeting>,
 }
 
-fn node(fields: &mut Fields<'_>) -> Result<Node, RowError> {
-    Ok(Node {
+// A node of the times of the ephemeris, no deeper than this.
+fn node(ephemeris: &Ephemeris, depth: u32, fields: &mut Fields<'_>) -> Result<Node, RowError>
+    ensures from { IfOk result (λ node. ephemeris.now.start ≤ℤ node.a) }
+    ensures inside { IfOk result (λ node. node.a <ℤ node.b) }
+    ensures to { IfOk result (λ node. node.b ≤ℤ end_of ephemeris.now) }
+    ensures depth { IfOk result (λ node. node.depth ≤ depth) }
+{
+    let node = Node {
         a: fields.number::<i64>()?,
         b: fields.number::<i64>()?,
         depth: fields.number::<u32>()?,
+    };
+    if node.a < ephemeris.start() || node.b <= node.a || ephemeris.end() < node.b {
+        return Err(RowError::Malformed);
+    }
+    if depth < node.depth {
+        return Err(RowError::Malformed);
+    }
+    Ok(node)
+}
+
+// A time, and the depth of both parts that meet there.
+fn expected_meeting(fields: &mut Fields<'_>) -> Result<Meeting, RowError> {
+    let time = fields.number::<i64>()?;
+    let depth = fields.number::<u32>()?;
+    Ok(Meeting {
+        time,
+        depths: [depth, depth],
     })
 }
 
-// The parts of a node: the time in which they meet, and the depth of both.
-fn parts(node: Node, fields: &mut Fields<'_>) -> Result<(Node, Node), RowError> {
-    let time = fields.number::<i64>()?;
-    let depth = fields.number::<u32>()?;
-    let left = Node {
-        a: node.a,
-        b: time,
-        depth,
-    };
-    let right = Node {
-        a: time,
-        b: node.b,
-        depth,
-    };
-    Ok((left, right))
-}
-
-fn expected_judgement(node: Node, fields: &mut Fields<'_>) -> Result<Judgement, RowError> {
+fn expected_judgement(fields: &mut Fields<'_>) -> Result<Judgement, RowError> {
     let verdict = match fields.word()? {
         "clear" => Verdict::Clear,
         "rise" => Verdict::One(Turn::Rise),
@@ -54,12 +68,11 @@ fn expected_judgement(node: Node, fields: &mut Fields<'_>) -> Result<Judgement, 
         "split" => Verdict::Split,
         _ => return Err(RowError::Malformed),
     };
-    let parts = if verdict == Verdict::Split {
-        Some(parts(node, fields)?)
-    } else {
-        None
+    let meeting = match verdict {
+        Verdict::Split => Some(expected_meeting(fields)?),
+        _ => None,
     };
-    Ok(Judgement { verdict, parts })
+    Ok(Judgement { verdict, meeting })
 }
 
 // What a judge says of a valid node.
@@ -67,24 +80,19 @@ fn judgement_on<J: Judge>(judge: &J, node: Node) -> Judgement
     requires { IsValid (J.rules judge.now) node }
 {
     let verdict = judge.judge(node);
-    let parts = match verdict {
-        Verdict::Split => Some(judge.cut(node)),
+    let meeting = match verdict {
+        Verdict::Split => Some(meeting_of(judge.cut(node))),
         _ => None,
     };
-    Judgement { verdict, parts }
+    Judgement { verdict, meeting }
 }
 
-fn cutter(alloc: Global, rule: CutRule) -> Result<Cutter, RowError> {
-    let Ok(cut) = Box::new(
-        alloc,
-        move |a: i64, b: i64| -> i64
-            requires { CanCut a b }
-            ensures { result ≡ cut_of rule a b }
-        { rule_cut(rule, a, b) },
-    ) else {
-        return Err(RowError::Memory);
-    };
-    Ok(Cutter::new(rule, cut))
+// Where the parts of a node meet: the judge's contract says that the one ends where the other begins.
+fn meeting_of((left, right): (Node, Node)) -> Meeting {
+    Meeting {
+        time: left.b,
+        depths: [left.depth, right.depth],
+    }
 }
 
 // The width down to which nodes are split.
@@ -107,17 +115,18 @@ pub(crate) fn verdict_agrees(rt: &HostRuntime, fields: &mut Fields<'_>) -> Resul
     let width = width(fields)?;
     let depth = fields.number::<u32>()?;
     let rule = cut_rule(fields)?;
-    let node = node(fields)?;
-    let expected = expected_judgement(node, fields)?;
-    if node.a < ephemeris.start() || node.b <= node.a || ephemeris.end() < node.b {
-        return Err(RowError::Malformed);
-    }
-    if depth < node.depth {
-        return Err(RowError::Malformed);
-    }
+    let node = node(&ephemeris, depth, fields)?;
+    let expected = expected_judgement(fields)?;
     let states = states(&ephemeris, scene_of(&ask))?;
     let event = event_of(rt.alloc(), &ephemeris, &ask)?;
-    let cutter = cutter(rt.alloc(), rule)?;
+    let cut = Box::new(
+        rt.alloc(),
+        move |from: i64, to: i64| -> i64
+            requires { CanCut from to }
+            ensures { result ≡ cut_of rule from to }
+        { rule_cut(rule, from, to) },
+    )?;
+    let cutter = Cutter::new(rule, cut);
     let judge = EventJudge::new(states, &ephemeris, event, width, depth, cutter);
     Ok(judgement_on(&judge, node) == expected)
 }

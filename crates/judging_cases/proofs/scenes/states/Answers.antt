@@ -24,12 +24,12 @@ there : (e : Ephemeris) (body : Body) (found : Bool) → found ≡ list_all (has
 there e body found is holds = each (has_column e.header) (needed_columns (source_of body)) (cc)
 
 pub new-requires-clause-present : goal.new-requires-clause-present
-new-requires-clause-present g c =
-    let first : c.has.result ≡ true = search rules in
-    let second : c.has-2.result ≡ true = search rules in
-    let observer : c.has-3.result ≡ true = search rules in
+new-requires-clause-present c =
+    let first : c.has-has_first.result ≡ true = search rules in
+    let second : c.has-has_second.result ≡ true = search rules in
+    let observer : c.has-has_observer.result ≡ true = search rules in
     let Present : Body → Type 0 = λ body. HasColumns c.args.ephemeris.now (needed_columns (source_of body)) in
-    of_three Present c.args.scene.2 c.args.scene.0 c.args.scene.1
-    (there c.args.ephemeris.now _ _ c.has-3.ensures observer)
-    (there c.args.ephemeris.now _ _ c.has.ensures first)
-    (there c.args.ephemeris.now _ _ c.has-2.ensures second)
+    of_three Present c.args.scene.observer c.args.scene.first c.args.scene.second
+    (there c.args.ephemeris.now _ _ c.has-has_observer.ensures observer)
+    (there c.args.ephemeris.now _ _ c.has-has_first.ensures first)
+    (there c.args.ephemeris.now _ _ c.has-has_second.ensures second)

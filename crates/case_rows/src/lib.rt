@@ -7,9 +7,11 @@
 
 mod escapes;
 mod fields;
+mod parts;
 mod tables;
 mod texts;
 
 pub use fields::{Fields, RowError};
+pub use parts::{Parts, interval_parts};
 pub use tables::{RowJudge, compare_tables};
 pub use texts::{ephemeris_of, read_text};

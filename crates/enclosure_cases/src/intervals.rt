@@ -3,8 +3,7 @@ ghost use Rattle.std.specs.Prelude.{◌<◌, ◌^◌, ◌≤ℤ◌, IfOk, pos, u
 ghost use Rattle.spec_intervals.specs.Interval.{IsExponent};
 ghost use Rattle.spec_intervals.specs.Fraction.{Holds, fraction};
 
-use crate::parts::{Parts, interval_parts};
-use case_rows::{Fields, RowError};
+use case_rows::{Fields, Parts, RowError, interval_parts};
 use ival_core::{COSINE_EXPONENT, DISTANCE_EXPONENT, Divider, Ival, is_cosine, is_distance};
 
 const MAX_EXPONENT: i32 = 65_536;

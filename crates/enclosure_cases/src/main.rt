@@ -9,7 +9,6 @@
 
 mod bases;
 mod intervals;
-mod parts;
 mod ranges;
 
 use bases::{argument_agrees, basis_agrees};

@@ -2,8 +2,7 @@
 ghost use Rattle.std.specs.Prelude.{◌<◌, ◌≤ℤ◌, ◌+ℤ◌};
 ghost use Rattle.spec_motions.specs.Granules.{IsEvaluable};
 
-use crate::parts::{Parts, interval_parts};
-use case_rows::{Fields, RowError};
+use case_rows::{Fields, Parts, RowError, interval_parts};
 use cheby_difference::{position_step, velocity, velocity_step};
 use cheby_enclose::{is_evaluable, position};
 use eph_model::{Granule, Rounded, pair_of};

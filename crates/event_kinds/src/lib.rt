@@ -9,8 +9,6 @@ mod faults;
 mod guarded;
 mod rows;
 mod table;
-#[cfg(test)]
-mod tests;
 mod vectors;
 
 pub use asks::{is_ask, takes_second};

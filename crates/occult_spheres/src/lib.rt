@@ -6,8 +6,6 @@
 
 mod parts;
 mod terms;
-#[cfg(test)]
-mod tests;
 
 pub use event_expr::Formula;
 pub use parts::{Memory, OccultParts, occult};

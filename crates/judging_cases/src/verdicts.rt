@@ -1,0 +1,132 @@
+// What is said of the nodes of searches, and where they are cut.
+ghost use Rattle.std.specs.Prelude.{◌≡◌, ◌≤◌, ◌≤ℤ◌, ◌<ℤ◌, IfOk, pos};
+ghost use Rattle.spec_ephemeris.specs.Ephemeris.{end_of};
+ghost use Rattle.spec_trees.specs.Cuts.{CanCut, cut_of};
+ghost use Rattle.spec_trees.specs.Tree.{IsValid};
+
+use crate::asks::{ask, scene_of};
+use crate::events::event_of;
+use crate::names::cut_rule;
+use crate::scenes::states;
+use case_rows::{Fields, RowError, ephemeris_of};
+use eph_model::Ephemeris;
+use event_judge::EventJudge;
+use gf_hooks::{Cutter, rule_cut};
+use halving::{Judge, Node, Turn, Verdict};
+
+// Where the parts of a node meet, and how deep each is.
+#[derive(Clone, Copy, PartialEq, Eq)]
+struct Meeting {
+    time: i64,
+    depths: [u32; 2],
+}
+
+// A verdict, and where the parts meet of a node that is split.
+#[derive(Clone, Copy, PartialEq, Eq)]
+struct Judgement {
+    verdict: Verdict,
+    meeting: Option<Meeting>,
+}
+
+// A node of the times of the ephemeris, no deeper than this.
+fn node(ephemeris: &Ephemeris, depth: u32, fields: &mut Fields<'_>) -> Result<Node, RowError>
+    ensures from { IfOk result (λ node. ephemeris.now.start ≤ℤ node.a) }
+    ensures inside { IfOk result (λ node. node.a <ℤ node.b) }
+    ensures to { IfOk result (λ node. node.b ≤ℤ end_of ephemeris.now) }
+    ensures depth { IfOk result (λ node. node.depth ≤ depth) }
+{
+    let node = Node {
+        a: fields.number::<i64>()?,
+        b: fields.number::<i64>()?,
+        depth: fields.number::<u32>()?,
+    };
+    if node.a < ephemeris.start() || node.b <= node.a || ephemeris.end() < node.b {
+        return Err(RowError::Malformed);
+    }
+    if depth < node.depth {
+        return Err(RowError::Malformed);
+    }
+    Ok(node)
+}
+
+// A time, and the depth of both parts that meet there.
+fn expected_meeting(fields: &mut Fields<'_>) -> Result<Meeting, RowError> {
+    let time = fields.number::<i64>()?;
+    let depth = fields.number::<u32>()?;
+    Ok(Meeting {
+        time,
+        depths: [depth, depth],
+    })
+}
+
+fn expected_judgement(fields: &mut Fields<'_>) -> Result<Judgement, RowError> {
+    let verdict = match fields.word()? {
+        "clear" => Verdict::Clear,
+        "rise" => Verdict::One(Turn::Rise),
+        "fall" => Verdict::One(Turn::Fall),
+        "undecided" => Verdict::Undecided,
+        "split" => Verdict::Split,
+        _ => return Err(RowError::Malformed),
+    };
+    let meeting = match verdict {
+        Verdict::Split => Some(expected_meeting(fields)?),
+        _ => None,
+    };
+    Ok(Judgement { verdict, meeting })
+}
+
+// What a judge says of a valid node.
+fn judgement_on<J: Judge>(judge: &J, node: Node) -> Judgement
+    requires { IsValid (J.rules judge.now) node }
+{
+    let verdict = judge.judge(node);
+    let meeting = match verdict {
+        Verdict::Split => Some(meeting_of(judge.cut(node))),
+        _ => None,
+    };
+    Judgement { verdict, meeting }
+}
+
+// Where the parts of a node meet: the judge's contract says that the one ends where the other begins.
+fn meeting_of((left, right): (Node, Node)) -> Meeting {
+    Meeting {
+        time: left.b,
+        depths: [left.depth, right.depth],
+    }
+}
+
+// The width down to which nodes are split.
+fn width(fields: &mut Fields<'_>) -> Result<i64, RowError>
+    ensures { IfOk result (λ width. pos 1 ≤ℤ width) }
+{
+    let width = fields.number::<i64>()?;
+    if width < 1 {
+        Err(RowError::Malformed)
+    } else {
+        Ok(width)
+    }
+}
+
+/// A file, an ask, a width, a depth and a rule of cutting, a node, the verdict on it, and the time at which it is cut and
+/// the depth of its parts where it is split.
+pub(crate) fn verdict_agrees(rt: &HostRuntime, fields: &mut Fields<'_>) -> Result<bool, RowError> {
+    let ephemeris = ephemeris_of(rt, fields.word()?)?;
+    let ask = ask(fields)?;
+    let width = width(fields)?;
+    let depth = fields.number::<u32>()?;
+    let rule = cut_rule(fields)?;
+    let node = node(&ephemeris, depth, fields)?;
+    let expected = expected_judgement(fields)?;
+    let states = states(&ephemeris, scene_of(&ask))?;
+    let event = event_of(rt.alloc(), &ephemeris, &ask)?;
+    let cut = Box::new(
+        rt.alloc(),
+        move |from: i64, to: i64| -> i64
+            requires { CanCut from to }
+            ensures { result ≡ cut_of rule from to }
+        { rule_cut(rule, from, to) },
+    )?;
+    let cutter = Cutter::new(rule, cut);
+    let judge = EventJudge::new(states, &ephemeris, event, width, depth, cutter);
+    Ok(judgement_on(&judge, node) == expected)
+}

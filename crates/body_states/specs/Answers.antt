@@ -1,4 +1,4 @@
--- What is asked of a body, and what is answered for a formula.
+-- What is asked of a body, and the enclosure that is returned for a formula.
 use Rattle.std.specs.Prelude.{◌≡◌, ◌<◌, ℕ, ℤ, List, All}
 use Rattle.spec_intervals.specs.Enclosure.{Enclosure, sum_of, difference_of, product_of, constant_of}
 use Rattle.spec_bodies.specs.declared.factor.Factor.{Factor}

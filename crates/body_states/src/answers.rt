@@ -1,4 +1,4 @@
-// What is answered for a coordinate of a target.
+// The enclosures that are returned for a coordinate of a target.
 ghost use Rattle.std.specs.Prelude.{◌≡◌, ◌<◌};
 ghost use Rattle.spec_bodies.specs.Views.{Fits, target_of, exact_state, state_enclosure, coordinate_enclosure};
 ghost use Rattle.spec_bodies.proofs.Held.{times_span, fractions_of_states, states_held, states_within};

@@ -1,11 +1,14 @@
 // The coordinates of bodies, made of those of columns by the rules on enclosures.
 ghost use Rattle.std.specs.Prelude.{◌≡◌, ◌<◌, ℕ, IfSome, Contains};
+ghost use Rattle.spec_intervals.specs.Enclosure.{Enclosure, AllWithin, Encloses};
 ghost use Rattle.spec_ephemeris.specs.Granules.{series_at, series_of};
+ghost use Rattle.spec_expressions.specs.Term.{part_exponent};
+ghost use Rattle.spec_bodies.specs.declared.factor.Factor.{Factor};
 ghost use Rattle.spec_bodies.specs.Coordinates.{nothing, of_column, less, earth, moon, barycentric_coordinate};
 ghost use Rattle.spec_bodies.specs.Reading.{IsUsable};
 ghost use Rattle.spec_bodies.specs.Views.{Fits, coordinate_of, framed};
 ghost use Rattle.body_states.specs.Dividers.{granule_seconds};
-ghost use Rattle.body_states.specs.Answers.{CanAsk, CanRead, CanReadSource, Answers, IsAnswer, IsDisplacement, observer_answer, sum_answer, difference_answer, scaled_answer, displacement_answer, displacement_of, ecliptic_of, turned_y, turned_z};
+ghost use Rattle.body_states.specs.Answers.{CanAsk, CanRead, CanReadSource, Answers, IsAnswer, IsDisplacement, observer_answer, sum_answer, difference_answer, scaled_answer, displacement_answer, displacement_of, ecliptic_of};
 
 use crate::enclosures::{AxisEnclosures, ColumnEnclosures};
 use crate::granule_span::GranuleSpan;
@@ -69,37 +72,31 @@ impl<'e> BodyStates<'e> {
         requires z { z.now ≡ displacement_answer self.now question.now source 2 }
         ensures { Answers self.now question.now (ecliptic_of self.now source axis) result }
     {
+        self.keep_displacement(1, y, question);
+        self.keep_displacement(2, z, question);
         match axis {
             0 => self.displacement(source, 0, question),
-            1 => self.turned_y(y, z, question),
-            _ => self.turned_z(y, z, question),
+            1 => {
+                let y = self.scaled(Factor::Cosine, *y, question);
+                let z = self.scaled(Factor::Sine, *z, question);
+                self.sum(y, z, question)
+            }
+            _ => {
+                let z = self.scaled(Factor::Cosine, *z, question);
+                let y = self.scaled(Factor::Sine, *y, question);
+                self.difference(z, y, question)
+            }
         }
     }
 
-    // y' of the ecliptic.
+    // A coordinate relative to the observer is an answer, and so is what a factor makes of it.
     #[inline(always)]
-    fn turned_y(&self, y: &Enclosure, z: &Enclosure, question: &Question) -> Enclosure
-        requires question { CanAsk self.now question.now }
-        requires y { IsDisplacement self.now question.now 1 y.now }
-        requires z { IsDisplacement self.now question.now 2 z.now }
-        ensures { result ≡ turned_y self.now question.now y.now z.now }
+    fn keep_displacement(&self, axis: usize, x: &Enclosure, question: &Question)
+        requires { IsDisplacement self.now question.now axis x.now }
+        ensures itself { IsAnswer self.now question.now x.now }
+        ensures scaled { (f : Factor) (e : Enclosure)
+            → e ≡ scaled_answer self.now question.now f x.now → IsAnswer self.now question.now e }
     {
-        let y = self.scaled(Factor::Cosine, *y, question);
-        let z = self.scaled(Factor::Sine, *z, question);
-        self.sum(y, z, question)
-    }
-
-    // z' of the ecliptic.
-    #[inline(always)]
-    fn turned_z(&self, y: &Enclosure, z: &Enclosure, question: &Question) -> Enclosure
-        requires question { CanAsk self.now question.now }
-        requires y { IsDisplacement self.now question.now 1 y.now }
-        requires z { IsDisplacement self.now question.now 2 z.now }
-        ensures { result ≡ turned_z self.now question.now y.now z.now }
-    {
-        let z = self.scaled(Factor::Cosine, *z, question);
-        let y = self.scaled(Factor::Sine, *y, question);
-        self.difference(z, y, question)
     }
 
     /// A coordinate of a source relative to the observer, in the frame of the files.
@@ -245,8 +242,19 @@ impl<'e> BodyStates<'e> {
         requires x { IsAnswer self.now question.now x }
         ensures { result ≡ scaled_answer self.now question.now factor x }
     {
+        self.keep_answer(&x, question);
         let constant = question.times.constant(self.factors.interval(factor));
         question.times.product(constant, x)
+    }
+
+    // An answer is within the limits of the rules, and encloses some value.
+    #[inline(always)]
+    fn keep_answer(&self, x: &Enclosure, question: &Question)
+        requires question { CanAsk self.now question.now }
+        requires x { IsAnswer self.now question.now x.now }
+        ensures within { AllWithin part_exponent x.now }
+        ensures encloses { let times = question.now.times.now in Encloses times.first times.last x.now }
+    {
     }
 
     fn sum(&self, x: Enclosure, y: Enclosure, question: &Question) -> Enclosure
@@ -255,6 +263,8 @@ impl<'e> BodyStates<'e> {
         requires y { IsAnswer self.now question.now y }
         ensures { result ≡ sum_answer question.now x y }
     {
+        self.keep_answer(&x, question);
+        self.keep_answer(&y, question);
         question.times.sum(x, y)
     }
 
@@ -264,6 +274,8 @@ impl<'e> BodyStates<'e> {
         requires y { IsAnswer self.now question.now y }
         ensures { result ≡ difference_answer question.now x y }
     {
+        self.keep_answer(&x, question);
+        self.keep_answer(&y, question);
         question.times.difference(x, y)
     }
 }

@@ -3,7 +3,7 @@
 //! In comes a checked ephemeris with two targets, an observer and a frame; out come enclosures of each coordinate of the
 //! targets' positions and velocities over spans of times in which no granule of the columns in use begins. They hold the
 //! exact values, and have the same bits for the same operands on every machine. A snapshot has all of them over one span,
-//! with each basis made once. No call takes memory or fails.
+//! with each basis made once. No call allocates or fails.
 #![tactic(auto)]
 
 mod answers;

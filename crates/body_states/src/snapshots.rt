@@ -13,7 +13,7 @@ use ival_core::Enclosure;
 use spec_bodies::Quantity;
 use std::marker::Model;
 
-/// The states of both targets over the times from a first to a last. What was wanted of them is made once: to answer it
+/// The states of both targets over the times from a first to a last. What was wanted of them is made once: to read it
 /// for these times costs nothing more.
 #[derive(Drop)]
 pub struct Snapshot<'s, 'e> {
@@ -43,7 +43,7 @@ impl<'s, 'e> Model for Snapshot<'s, 'e> {
 
 impl<'e> BodyStates<'e> {
     /// The states of both targets over the times from `a` to `b`, in seconds of TDB since J2000, of which the wanted ones
-    /// are made at once, with each basis of a column in use made once. What isn't wanted is read when it is asked for.
+    /// are made at once, with each basis of a column in use made once. What is not wanted is read when it is asked for.
     pub fn at(&self, a: i64, b: i64, wanted: &Leaves) -> Snapshot<'_, 'e>
         requires { Fits self.now a b }
         ensures { result ≡ record { view = self.now; first = a; last = b } }

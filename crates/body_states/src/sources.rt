@@ -2,7 +2,7 @@
 ghost use Rattle.std.specs.Prelude.{◌≡◌, ◌≤◌, take};
 ghost use Rattle.spec_bodies.specs.Sources.{needed_columns, used, is_among, is_in_use, columns_in_use};
 
-use spec_bodies::{EMB_COLUMN, MOON_COLUMN, Source};
+use spec_bodies::{MOON_COLUMN, Source};
 use spec_ephemeris::BODY_COLUMNS;
 
 /// Of how many columns what is made is kept: two bodies and the Earth are made of no more.
@@ -12,11 +12,7 @@ pub(crate) const KEPT_COLUMNS: usize = 4;
 fn needs(source: Source, number: usize) -> bool
     ensures { result ≡ is_among (needed_columns source) number }
 {
-    match source {
-        Source::OwnColumn(own) => own == number,
-        Source::EarthOfPair | Source::MoonOfPair => EMB_COLUMN == number || MOON_COLUMN == number,
-        Source::Origin => false,
-    }
+    source.needed_columns().contains(&number)
 }
 
 // Whether a target seen from an observer is made of the column.

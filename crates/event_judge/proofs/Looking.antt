@@ -14,7 +14,7 @@ use Rattle.spec_searches.specs.Search.{Search, criteria, crosses, guard_evidence
 use Rattle.event_judge.specs.Moments.{finding_in, findings_in, moment}
 use Rattle.event_judge.specs.Found.{enclosure_at, findings_at, first_moment, guards_at, is_refuted_at, is_turnless_by, last_moment, sign_at, whole_moment}
 
--- what is told by the function over the whole node
+-- what is known by the function over the whole node
 abbrev pub is_turnless_at : Search → Node → Bool
 is_turnless_at s n = is_turnless_by s (enclosure_at s (whole_moment s n))
 

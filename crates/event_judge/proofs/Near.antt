@@ -1,15 +1,15 @@
 -- The times of a valid node are near J2000, so that its width can be taken.
-use Rattle.std.proofs.Common.{◌≡◌, ◌<◌, ◌^◌, ◌⊎◌, inl, inr, true, nat_lt, None, Some, is_some, ap, ℤ, pos, neg_ℤ, ◌-ℤ◌, ◌≤ℤ◌, arith}
-use Rattle.std.proofs.lemmas.Int.{ints, fits_signed_from_abs}
+use Rattle.std.proofs.Common.{◌≡◌, ◌<◌, ◌^◌, to_z, of_z, ◌⊎◌, inl, inr, true, nat_lt, None, Some, is_some, ap, subst, ℤ, pos, neg_ℤ, ◌-ℤ◌, ◌≤ℤ◌, arith}
+use Rattle.std.proofs.lemmas.Int.{ints, fits_signed_from_abs, to_z-of_z}
 use Rattle.std.proofs.lemmas.Bool.{and_parts, or_cases, both_ways as no_fact, ltb-true}
 use mir.Syntax.{w64}
 use mir.Val.{SFits}
 use Rattle.spec_trees.specs.declared.tree.Node.{Node}
 use Rattle.spec_trees.specs.Cuts.{CanCut, is_wide}
-use Rattle.spec_bodies.specs.Views.{IsView}
+use Rattle.spec_bodies.specs.Views.{View, IsView, Fits}
 use Rattle.spec_searches.specs.Search.{Search, border_in, crosses, may_be_cut}
 use Rattle.spec_searches.specs.Found.{rules}
-use Rattle.spec_searches.proofs.Borders.{border_within}
+use Rattle.spec_searches.proofs.Borders.{border_within, time_fits}
 use Rattle.spec_searches.proofs.Parts.{can_cut, rules_are_sound}
 use Rattle.spec_trees.specs.Tree.{IsSound, IsValid, Rules}
 
@@ -28,6 +28,20 @@ module _ (t : Rules) (sound : IsSound t) (n : Node) (valid : IsValid t n) where
 
   pub width_fits : SFits w64 (n.b -ℤ n.a)
   width_fits = let low = a_low in let high = b_high in let inside = valid.inside in fits_signed_from_abs w64 (n.b -ℤ n.a) (omega (arith, ints, low, high, inside))
+
+-- ---- states can be asked for at its ends
+module _ (s : Search) (sound : IsSound (rules s)) (n : Node) (valid : IsValid (rules s) n) (v : View) (same : v ≡ s.view) (is : IsView v) where
+  fits_at : (t : ℤ) → SFits w64 t → n.a ≤ℤ t → t ≤ℤ n.b → Fits v (to_z w64 (of_z w64 t)) (to_z w64 (of_z w64 t))
+  fits_at t fits after upto =
+      let from = valid.from in
+      let to = valid.to in
+      rw (same, to_z-of_z w64 t fits) (time_fits s.view (subst IsView same is) t (omega (arith, ints, from, after)) (omega (arith, ints, to, upto)))
+
+  pub first_fits : Fits v (to_z w64 (of_z w64 n.a)) (to_z w64 (of_z w64 n.a))
+  first_fits = let inside = valid.inside in fits_at n.a (a_fits (rules s) sound n valid) (omega (arith, ints)) (omega (arith, ints, inside))
+
+  pub last_fits : Fits v (to_z w64 (of_z w64 n.b)) (to_z w64 (of_z w64 n.b))
+  last_fits = let inside = valid.inside in fits_at n.b (b_fits (rules s) sound n valid) (omega (arith, ints, inside)) (omega (arith, ints))
 
 -- a node that may be cut can be cut by a rule, and a border in it is near too
 module _ (s : Search) (is : IsView s.view) (n : Node) (valid : IsValid (rules s) n) where

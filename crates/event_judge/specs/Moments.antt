@@ -1,4 +1,4 @@
--- What is asked of the states over one span of times.
+-- What is read of the states over one span of times.
 use Rattle.std.specs.Prelude.{List, map, ℤ}
 use Rattle.spec_intervals.specs.declared.signs.Sign.{Sign}
 use Rattle.spec_intervals.specs.Signs.{sign_of}

@@ -3,7 +3,7 @@
 //! In come the states of two bodies with their ephemeris, an event of theirs as formulas, the width and the depth down to
 //! which nodes are split, and a cutter; out comes a `Judge`, whose rules are those of the search that it stands for. It
 //! looks at no more of a node than decides: at no enclosure where a border falls into a wide node, at no end where the
-//! function over the whole node tells, or where the ends tell nothing. No call takes memory or fails.
+//! function over the whole node decides, or where the ends decide nothing. No call allocates or fails.
 #![tactic(auto)]
 
 mod conditions;

@@ -31,7 +31,7 @@ fn falls(step: Ival) -> bool
     step.parts().1 <= 0
 }
 
-/// It doesn't do both, so that the signs at the ends tell its turns.
+/// It is monotone, so that its turns are known by the signs at the ends.
 #[inline(always)]
 pub(crate) fn is_one_way(step: Ival) -> bool
     ensures { result ≡ is_one_way step }

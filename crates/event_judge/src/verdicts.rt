@@ -114,7 +114,7 @@ impl<'s, 'e> ValidNode<'s, 'e> {
         self.enclosure(states).range.sign()
     }
 
-    // An enclosure of the function tells that it has no turn that is wanted.
+    // By an enclosure of the function it has no turn that is wanted.
     #[inline(always)]
     fn is_turnless(self, over: &Enclosure) -> bool
         ensures { result ≡ is_turnless_by self.entry.search.now over.now }
@@ -138,7 +138,7 @@ impl<'s, 'e> ValidNode<'s, 'e> {
         are_certified(self.search.event().guards(), states)
     }
 
-    // What is said where nothing decides.
+    // The verdict where nothing decides.
     #[inline(always)]
     fn limit_verdict(self) -> Verdict
         ensures { result ≡ limit_verdict (criteria self.entry.search.now) self.entry.node }
@@ -150,7 +150,7 @@ impl<'s, 'e> ValidNode<'s, 'e> {
         }
     }
 
-    // What is said by the signs at the ends, which tell the turns between them, with the conditions over some times.
+    // The verdict by the signs at the ends, by which the turns between them are known, with the conditions over some times.
     #[inline(always)]
     fn end_verdict(self, states: &Snapshot, first: Sign, last: Sign) -> Verdict
         ensures { result ≡ end_verdict (criteria self.entry.search.now) self.entry.node

@@ -7,7 +7,7 @@ ghost use Rattle.event_kinds.specs.Faults.{event_fault_of};
 
 use eph_model::{Body, Ephemeris};
 use ival_core::{is_cosine as is_cosine_size, is_distance as is_distance_size};
-use spec_bodies::{EMB_COLUMN, MOON_COLUMN, Source};
+use spec_bodies::Source;
 use spec_kinds::{Ask, EventFault, Range};
 use spec_text::Decimal;
 use thiserror::Error;
@@ -87,15 +87,15 @@ fn has_second(eph: &Ephemeris, second: Option<Body>) -> bool
     }
 }
 
-// Whether the columns are there that a body needs: its own, or those of the Earth-Moon barycentre and of the Moon.
+// Whether the columns are there that a body needs.
 fn has_body(eph: &Ephemeris, body: Body) -> bool
     ensures { result ≡ has_body eph.now body }
 {
-    match Source::of(body) {
-        Source::OwnColumn(number) => eph.has(number),
-        Source::EarthOfPair | Source::MoonOfPair => eph.has(EMB_COLUMN) && eph.has(MOON_COLUMN),
-        Source::Origin => true,
-    }
+    let source = Source::of(body);
+    source
+        .needed_columns()
+        .iter()
+        .all(|number| eph.has(*number))
 }
 
 // Whether two of the target, the second body and the observer are one.

@@ -1,8 +1,9 @@
 // How a body is read from the columns of an ephemeris.
 ghost use Rattle.std.specs.Prelude.{◌≡◌};
-ghost use Rattle.spec_bodies.specs.Sources.{source_of};
+ghost use Rattle.spec_bodies.specs.Sources.{source_of, needed_columns};
 
 use spec_ephemeris::Body;
+use std::slice;
 
 /// The number of the column of the barycentre of the Earth and the Moon.
 pub const EMB_COLUMN: usize = 3;
@@ -45,6 +46,17 @@ impl Source {
             Body::Sun => Source::OwnColumn(SUN_COLUMN),
             Body::Earth => Source::EarthOfPair,
             Body::Ssb => Source::Origin,
+        }
+    }
+
+    /// The numbers of the columns that have to be there, in order: its own, or the two of the Earth and the Moon, or none.
+    pub fn needed_columns(&self) -> &[usize]
+        ensures { result.now ≡ needed_columns self.now }
+    {
+        match self {
+            Source::OwnColumn(number) => slice::from_ref(number),
+            Source::EarthOfPair | Source::MoonOfPair => &[EMB_COLUMN, MOON_COLUMN],
+            Source::Origin => &[],
         }
     }
 }

@@ -1,17 +1,5 @@
-use Rattle.std.proofs.Common.{subst, w64, arith}
-use Rattle.std.proofs.lemmas.Int.{ints, to_z-of_z}
-use Rattle.spec_bodies.specs.Views.{IsView}
-use Rattle.spec_searches.specs.Found.{rules}
-use Rattle.spec_searches.proofs.Borders.{time_fits}
-use Rattle.event_judge.proofs.Near.{a_fits}
+use Rattle.event_judge.proofs.Near.{first_fits}
 use Rattle.event_judge.proofs.valid_node.ValidNode.first.Goals as goal
 
 pub at-requires : goal.at-requires
-at-requires c =
-    let s = c.args.self in
-    let from = s.valid.from in
-    let inside = s.valid.inside in
-    let upto = s.valid.to in
-    let is : IsView s.search.now.view = subst IsView c.states-states.ensures c.columns-columns.ensures.view in
-    rw (c.states-states.ensures, to_z-of_z w64 s.node.a (a_fits (rules s.search.now) s.sound s.node s.valid))
-    (time_fits s.search.now.view is s.node.a (omega (arith, ints, from, inside)) (omega (arith, ints, inside, upto)))
+at-requires c = first_fits c.args.self.search.now c.args.self.sound c.args.self.node c.args.self.valid c.states-states.result.now c.states-states.ensures c.columns-columns.ensures.view

@@ -6,7 +6,6 @@ ghost use Rattle.spec_ephemeris.specs.Ephemeris.{IsStart, IsBlock, IsBodyNumber,
 ghost use Rattle.spec_ephemeris.specs.Granules.{column_of, granule_of, granule_at};
 ghost use Rattle.spec_ephemeris.specs.Borders.{nearest_border};
 ghost use Rattle.spec_ephemeris.specs.Rounding.{pairs_of};
-ghost use Rattle.eph_model.specs.Starting.{starting_at};
 ghost use Rattle.eph_model.specs.Grids.{IsGridOf};
 
 use crate::borders::preferred;
@@ -27,11 +26,11 @@ pub type Memory = AllocError;
 /// seconds of TDB since J2000.
 #[derive(Drop)]
 pub struct Ephemeris {
-    header: Header,
-    start: i64,
-    blocks: u32,
-    numbers: Vec<Decimal>,
-    pairs: Vec<Rounded>,
+    pub(crate) header: Header,
+    pub(crate) start: i64,
+    pub(crate) blocks: u32,
+    pub(crate) numbers: Vec<Decimal>,
+    pub(crate) pairs: Vec<Rounded>,
 }
 
 impl Model for Ephemeris {
@@ -84,14 +83,6 @@ impl Ephemeris {
         push_pairs(&mut self.pairs, numbers)?;
         self.blocks += 1;
         Ok(())
-    }
-
-    /// Lets the first block begin at this time, in seconds of TDB since J2000, and the others after it.
-    pub fn start_at(&mut self, start: i64)
-        requires { IsStart start }
-        ensures { self.new ≡ starting_at self.old start }
-    {
-        self.start = start;
     }
 
     /// The time at which the first block begins.

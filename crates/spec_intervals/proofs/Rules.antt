@@ -80,21 +80,20 @@ module _ (x y : Interval) (r : Fraction) (h : x.s ≤ℤ y.s) where
   upper_in_join q =
       Holds-narrow _ _ _ r (AtMost-less _ _ (aligned_lower x y).s r (min_bounds (aligned_lower x y).lo (aligned_upper x y).lo).1 (lowered-low x y r h q)) (AtLeast-more _ _ (aligned_lower x y).s r (max_bounds (aligned_lower x y).hi (aligned_upper x y).hi).1 (lowered-high x y r h q))
 
-pub Holds-join_first : (x y : Interval) (r : Fraction) → Holds x r → Holds (join x y) r
+-- the lower of the two comes first
+joined : (x y : Interval) (r : Fraction) → (x.s ≤ℤ y.s → Holds (join_up x y) r) → (y.s ≤ℤ x.s → Holds (join_up y x) r) → Holds (join x y) r
 unfolding join
-Holds-join_first x y r p = by (le_z x.s y.s) refl
+joined x y r lower upper = by (le_z x.s y.s) refl
   where
     by : (c : Bool) → le_z x.s y.s ≡ c → Holds (if c then join_up x y else join_up y x) r
-    by true e = lower_in_join x y r (omega (arith, lin)) p
-    by false e = upper_in_join y x r (omega (arith, lin)) p
+    by true e = lower (omega (arith, lin))
+    by false e = upper (omega (arith, lin))
+
+pub Holds-join_first : (x y : Interval) (r : Fraction) → Holds x r → Holds (join x y) r
+Holds-join_first x y r p = joined x y r (λ h. lower_in_join x y r h p) (λ h. upper_in_join y x r h p)
 
 pub Holds-join_second : (x y : Interval) (r : Fraction) → Holds y r → Holds (join x y) r
-unfolding join
-Holds-join_second x y r q = by (le_z x.s y.s) refl
-  where
-    by : (c : Bool) → le_z x.s y.s ≡ c → Holds (if c then join_up x y else join_up y x) r
-    by true e = upper_in_join x y r (omega (arith, lin)) q
-    by false e = lower_in_join y x r (omega (arith, lin)) q
+Holds-join_second x y r q = joined x y r (λ h. upper_in_join x y r h q) (λ h. lower_in_join y x r h q)
 
 pub Holds-join_either : (x y : Interval) (r : Fraction) → Holds x r ⊎ Holds y r → Holds (join x y) r
 Holds-join_either x y r (inl p) = Holds-join_first x y r p

@@ -3,7 +3,6 @@ use Rattle.std.specs.Prelude.{◌≡◌, ◌<◌, ℕ, ℤ, List, All}
 use Rattle.spec_intervals.specs.Enclosure.{Enclosure, sum_of, difference_of, product_of, constant_of}
 use Rattle.spec_bodies.specs.declared.factor.Factor.{Factor}
 use Rattle.spec_bodies.specs.declared.source.Source.{Source}
-use Rattle.spec_bodies.specs.declared.factor.Factor.TheVariants.{Cosine, Sine}
 use Rattle.spec_bodies.specs.declared.quantity.Quantity.{Quantity}
 use Rattle.spec_bodies.specs.Coordinates.{Coordinate, less, barycentric_coordinate, displacement, ecliptic_coordinate}
 use Rattle.spec_bodies.specs.Meanings.{factor_interval}
@@ -93,10 +92,3 @@ pub record IsDisplacement (v : View) (q : Question) (axis : ℕ) (e : Enclosure)
   pub source : Source
   pub readable : CanRead v (displacement_of v source axis)
   pub is : e ≡ displacement_answer v q source axis
-
--- ---- y and z turned by the obliquity
-abbrev pub turned_y : View → Question → Enclosure → Enclosure → Enclosure
-turned_y v q y z = sum_answer q (scaled_answer v q Cosine y) (scaled_answer v q Sine z)
-
-abbrev pub turned_z : View → Question → Enclosure → Enclosure → Enclosure
-turned_z v q y z = difference_answer q (scaled_answer v q Cosine z) (scaled_answer v q Sine y)

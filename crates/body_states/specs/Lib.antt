@@ -2,6 +2,5 @@ pub mod Answers
 pub mod Bases
 pub mod Dividers
 pub mod Enclosures
-pub mod Examples
 pub mod Factors
 pub mod Moments

@@ -79,7 +79,9 @@ impl<'e> BodyStates<'e> {
             1 => {
                 let y = self.scaled(Factor::Cosine, *y, question);
                 let z = self.scaled(Factor::Sine, *z, question);
-                self.sum(y, z, question)
+                self.keep_answer(&y, question);
+                self.keep_answer(&z, question);
+                question.times.sum(y, z)
             }
             _ => {
                 let z = self.scaled(Factor::Cosine, *z, question);
@@ -96,8 +98,7 @@ impl<'e> BodyStates<'e> {
         ensures itself { IsAnswer self.now question.now x.now }
         ensures scaled { (f : Factor) (e : Enclosure)
             → e ≡ scaled_answer self.now question.now f x.now → IsAnswer self.now question.now e }
-    {
-    }
+    {}
 
     /// A coordinate of a source relative to the observer, in the frame of the files.
     pub(crate) fn displacement(&self, source: Source, axis: usize, question: &Question) -> Enclosure
@@ -179,7 +180,9 @@ impl<'e> BodyStates<'e> {
     {
         let earth = self.earth(axis, question);
         let moon = self.column(MOON_COLUMN, axis, question);
-        self.sum(earth, moon, question)
+        self.keep_answer(&earth, question);
+        self.keep_answer(&moon, question);
+        question.times.sum(earth, moon)
     }
 
     // A coordinate of a column, from what is known of it or else from its granule.
@@ -254,19 +257,7 @@ impl<'e> BodyStates<'e> {
         requires x { IsAnswer self.now question.now x.now }
         ensures within { AllWithin part_exponent x.now }
         ensures encloses { let times = question.now.times.now in Encloses times.first times.last x.now }
-    {
-    }
-
-    fn sum(&self, x: Enclosure, y: Enclosure, question: &Question) -> Enclosure
-        requires question { CanAsk self.now question.now }
-        requires x { IsAnswer self.now question.now x }
-        requires y { IsAnswer self.now question.now y }
-        ensures { result ≡ sum_answer question.now x y }
-    {
-        self.keep_answer(&x, question);
-        self.keep_answer(&y, question);
-        question.times.sum(x, y)
-    }
+    {}
 
     fn difference(&self, x: Enclosure, y: Enclosure, question: &Question) -> Enclosure
         requires question { CanAsk self.now question.now }

@@ -18,8 +18,6 @@ mod snapshots;
 mod sources;
 mod states;
 mod targets;
-#[cfg(test)]
-mod tests;
 
 pub use eph_model::{Body, Ephemeris};
 pub use event_expr::States;

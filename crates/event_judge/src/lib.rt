@@ -22,6 +22,3 @@ pub use event_search::EventSearch;
 pub use gf_hooks::Cutter;
 pub use halving::{Judge, Node, Verdict};
 pub use judge::EventJudge;
-
-#[cfg(test)]
-mod tests;

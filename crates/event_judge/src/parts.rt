@@ -12,14 +12,14 @@ fn parts_at(time: i64, depth: u32, node: Node) -> (Node, Node)
 {
     (
         Node {
-            a: node.a,
             b: time,
             depth,
+            ..node
         },
         Node {
             a: time,
-            b: node.b,
             depth,
+            ..node
         },
     )
 }

@@ -7,24 +7,30 @@ use Rattle.spec_numbers.proofs.Ring.{Poly, v, k as lit, ◌⊕◌, ◌⊖◌, �
 use Rattle.spec_numbers.proofs.Order.{lin, nonneg-square}
 use Rattle.spec_numbers.proofs.Whole.{nonneg-mul}
 
+-- ---- the numbers of a step in the order in which they are given to `ring`, and l^2 - u^2
+abbrev U : Poly
+U = v 0
+
+abbrev L : Poly
+L = v 1
+
+abbrev A : Poly
+A = v 2
+
+abbrev V : Poly
+V = v 3
+
+abbrev D : Poly
+D = L ⊗ L ⊖ U ⊗ U
+
 -- ---- T (k + 2) = u T (k + 1) - (l^2 - u^2) U k, and U (k + 1) = T (k + 1) + u U k
 t_step : (u l a w h w1 : ℤ) → h ≡ u *ℤ a -ℤ (l *ℤ l -ℤ u *ℤ u) *ℤ w → w1 ≡ a +ℤ u *ℤ w → pos 2 *ℤ u *ℤ h -ℤ l *ℤ l *ℤ a ≡ u *ℤ h -ℤ (l *ℤ l -ℤ u *ℤ u) *ℤ w1
 t_step u l a w h w1 e f =
-    let U : Poly = v 0 in
-    let L : Poly = v 1 in
-    let A : Poly = v 2 in
-    let V : Poly = v 3 in
-    let D : Poly = L ⊗ L ⊖ U ⊗ U in
     let B : Poly = U ⊗ A ⊖ D ⊗ V in
     rw (e, f) (ring (u ∷ l ∷ a ∷ w ∷ []) (lit (pos 2) ⊗ U ⊗ B ⊖ L ⊗ L ⊗ A) (U ⊗ B ⊖ D ⊗ (A ⊕ U ⊗ V)) tt)
 
 u_step : (u l a w h w1 : ℤ) → h ≡ u *ℤ a -ℤ (l *ℤ l -ℤ u *ℤ u) *ℤ w → w1 ≡ a +ℤ u *ℤ w → pos 2 *ℤ u *ℤ w1 -ℤ l *ℤ l *ℤ w ≡ h +ℤ u *ℤ w1
 u_step u l a w h w1 e f =
-    let U : Poly = v 0 in
-    let L : Poly = v 1 in
-    let A : Poly = v 2 in
-    let V : Poly = v 3 in
-    let D : Poly = L ⊗ L ⊖ U ⊗ U in
     let B : Poly = U ⊗ A ⊖ D ⊗ V in
     let C : Poly = A ⊕ U ⊗ V in
     rw (e, f) (ring (u ∷ l ∷ a ∷ w ∷ []) (lit (pos 2) ⊗ U ⊗ C ⊖ L ⊗ L ⊗ V) (B ⊕ U ⊗ C) tt)
@@ -39,11 +45,6 @@ mixed u l (suc k) =
 -- ---- T (k + 1) ^ 2 + (l^2 - u^2) U k ^ 2 = l ^ (2 k + 2)
 circle_step : (u l a w : ℤ) → (u *ℤ a -ℤ (l *ℤ l -ℤ u *ℤ u) *ℤ w) *ℤ (u *ℤ a -ℤ (l *ℤ l -ℤ u *ℤ u) *ℤ w) +ℤ (l *ℤ l -ℤ u *ℤ u) *ℤ ((a +ℤ u *ℤ w) *ℤ (a +ℤ u *ℤ w)) ≡ (l *ℤ l) *ℤ (a *ℤ a +ℤ (l *ℤ l -ℤ u *ℤ u) *ℤ (w *ℤ w))
 circle_step u l a w =
-    let U : Poly = v 0 in
-    let L : Poly = v 1 in
-    let A : Poly = v 2 in
-    let V : Poly = v 3 in
-    let D : Poly = L ⊗ L ⊖ U ⊗ U in
     ring (u ∷ l ∷ a ∷ w ∷ []) ((U ⊗ A ⊖ D ⊗ V) ⊗ (U ⊗ A ⊖ D ⊗ V) ⊕ D ⊗ ((A ⊕ U ⊗ V) ⊗ (A ⊕ U ⊗ V))) ((L ⊗ L) ⊗ (A ⊗ A ⊕ D ⊗ (V ⊗ V))) tt
 
 pub circle : (u l : ℤ) (k : ℕ) → cleared_t u l (suc k) *ℤ cleared_t u l (suc k) +ℤ (l *ℤ l -ℤ u *ℤ u) *ℤ (cleared_u u l k *ℤ cleared_u u l k) ≡ power (l *ℤ l) (suc k)

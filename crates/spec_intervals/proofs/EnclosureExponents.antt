@@ -51,21 +51,17 @@ module _ (a b : ℤ) (span : IsSpan a b) where
   nothing-between = constant_of-between 0 0 zero_interval (zero-between 0 0)
 
   module _ (l h : ℕ) (x y : Enclosure) (p : AreBetween l h x) (q : AreBetween l h y) where
+    one_more-between : (mid range step : Interval) → IsBetween l (h + 1) mid → IsBetween l (h + 63 + 1) range → IsBetween l (h + 1) step → AreBetween l (h + 1) (enclosure a b mid range step)
+    one_more-between mid range step m r s = enclosure-between a b span l (h + 1) mid range step m (between-more l (h + 63 + 1) l (h + 1 + 63) _ (omega arith) (omega arith) r) s
+
     pub sum_of-between : AreBetween l (h + 1) (sum_of a b x y)
     unfolding sum_of
-    sum_of-between =
-        enclosure-between a b span l (h + 1) (sum x.mid y.mid) (sum x.range y.range) (sum x.step y.step)
-        (sum-between x.mid y.mid l h p.mid q.mid)
-        (between-more l (h + 63 + 1) l (h + 1 + 63) _ (omega arith) (omega arith) (sum-between x.range y.range l (h + 63) p.range q.range))
-        (sum-between x.step y.step l h p.step q.step)
+    sum_of-between = one_more-between _ _ _ (sum-between x.mid y.mid l h p.mid q.mid) (sum-between x.range y.range l (h + 63) p.range q.range) (sum-between x.step y.step l h p.step q.step)
 
     pub difference_of-between : AreBetween l (h + 1) (difference_of a b x y)
     unfolding difference_of
     difference_of-between =
-        enclosure-between a b span l (h + 1) (difference x.mid y.mid) (difference x.range y.range) (difference x.step y.step)
-        (difference-between x.mid y.mid l h p.mid q.mid)
-        (between-more l (h + 63 + 1) l (h + 1 + 63) _ (omega arith) (omega arith) (difference-between x.range y.range l (h + 63) p.range q.range))
-        (difference-between x.step y.step l h p.step q.step)
+        one_more-between _ _ _ (difference-between x.mid y.mid l h p.mid q.mid) (difference-between x.range y.range l (h + 63) p.range q.range) (difference-between x.step y.step l h p.step q.step)
 
   module _ (l h m n : ℕ) (x y : Enclosure) (p : AreBetween l h x) (q : AreBetween m n y) where
     product_step : IsBetween (l + m) (h + n + 126) (sum (product x.range y.step) (product y.range x.step))

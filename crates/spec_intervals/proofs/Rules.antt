@@ -1,5 +1,5 @@
 -- Differences, joins, meets and scaled intervals hold the exact results.
-use Rattle.std.proofs.Common.{◌≡◌, ℕ, ◌*◌, ◌^◌, ◌<◌, arith, refl, [], ◌∷◌, ℤ, pos, ◌+ℤ◌, ◌-ℤ◌, ◌*ℤ◌, neg_ℤ, ◌≤ℤ◌, Bool, true, false, ◌⊎◌, inl, inr}
+use Rattle.std.proofs.Common.{◌≡◌, ℕ, ◌*◌, ◌^◌, ◌<◌, arith, refl, [], ◌∷◌, ℤ, pos, ◌+ℤ◌, ◌-ℤ◌, ◌*ℤ◌, neg_ℤ, ◌≤ℤ◌, Bool, true, false, ◌⊎◌, inl, inr, sym, subst}
 use Rattle.std.proofs.lemmas.Int.{ints, clamps}
 use Rattle.std.proofs.lemmas.Nat.{pow_pos}
 use Rattle.std.specs.Int.{int_min, int_max}
@@ -80,46 +80,41 @@ module _ (x y : Interval) (r : Fraction) (h : x.s ≤ℤ y.s) where
   upper_in_join q =
       Holds-narrow _ _ _ r (AtMost-less _ _ (aligned_lower x y).s r (min_bounds (aligned_lower x y).lo (aligned_upper x y).lo).1 (lowered-low x y r h q)) (AtLeast-more _ _ (aligned_lower x y).s r (max_bounds (aligned_lower x y).hi (aligned_upper x y).hi).1 (lowered-high x y r h q))
 
-pub Holds-join_first : (x y : Interval) (r : Fraction) → Holds x r → Holds (join x y) r
+-- the lower of the two comes first
+joined : (x y : Interval) (r : Fraction) → (x.s ≤ℤ y.s → Holds (join_up x y) r) → (y.s ≤ℤ x.s → Holds (join_up y x) r) → Holds (join x y) r
 unfolding join
-Holds-join_first x y r p = by (le_z x.s y.s) refl
+joined x y r lower upper = by (le_z x.s y.s) refl
   where
     by : (c : Bool) → le_z x.s y.s ≡ c → Holds (if c then join_up x y else join_up y x) r
-    by true e = lower_in_join x y r (omega (arith, lin)) p
-    by false e = upper_in_join y x r (omega (arith, lin)) p
+    by true e = lower (omega (arith, lin))
+    by false e = upper (omega (arith, lin))
+
+pub Holds-join_first : (x y : Interval) (r : Fraction) → Holds x r → Holds (join x y) r
+Holds-join_first x y r p = joined x y r (λ h. lower_in_join x y r h p) (λ h. upper_in_join y x r h p)
 
 pub Holds-join_second : (x y : Interval) (r : Fraction) → Holds y r → Holds (join x y) r
-unfolding join
-Holds-join_second x y r q = by (le_z x.s y.s) refl
-  where
-    by : (c : Bool) → le_z x.s y.s ≡ c → Holds (if c then join_up x y else join_up y x) r
-    by true e = upper_in_join x y r (omega (arith, lin)) q
-    by false e = lower_in_join y x r (omega (arith, lin)) q
+Holds-join_second x y r q = joined x y r (λ h. upper_in_join x y r h q) (λ h. lower_in_join y x r h q)
 
 pub Holds-join_either : (x y : Interval) (r : Fraction) → Holds x r ⊎ Holds y r → Holds (join x y) r
 Holds-join_either x y r (inl p) = Holds-join_first x y r p
 Holds-join_either x y r (inr q) = Holds-join_second x y r q
 
 -- ---- meets
-max_low : (p q s : ℤ) (r : Fraction) → AtMost p s r → AtMost q s r → AtMost (int_max p q) s r
-max_low p q s r h g = by (either_max p q)
-  where
-    either_max : (p q : ℤ) → (int_max p q ≡ p) ⊎ (int_max p q ≡ q)
-    either_max p q = grind (arith, ints)
+either : (P : ℤ → Type 0) (p q z : ℤ) → (z ≡ p) ⊎ (z ≡ q) → P p → P q → P z
+either P p q z (inl e) h g = subst P (sym e) h
+either P p q z (inr e) h g = subst P (sym e) g
 
-    by : (int_max p q ≡ p) ⊎ (int_max p q ≡ q) → AtMost (int_max p q) s r
-    by (inl e) = rw e h
-    by (inr e) = rw e g
+max_is : (p q : ℤ) → (int_max p q ≡ p) ⊎ (int_max p q ≡ q)
+max_is p q = grind (arith, ints)
+
+min_is : (p q : ℤ) → (int_min p q ≡ p) ⊎ (int_min p q ≡ q)
+min_is p q = grind (arith, ints)
+
+max_low : (p q s : ℤ) (r : Fraction) → AtMost p s r → AtMost q s r → AtMost (int_max p q) s r
+max_low p q s r = either (λ z. AtMost z s r) p q (int_max p q) (max_is p q)
 
 min_high : (p q s : ℤ) (r : Fraction) → AtLeast p s r → AtLeast q s r → AtLeast (int_min p q) s r
-min_high p q s r h g = by (either_min p q)
-  where
-    either_min : (p q : ℤ) → (int_min p q ≡ p) ⊎ (int_min p q ≡ q)
-    either_min p q = grind (arith, ints)
-
-    by : (int_min p q ≡ p) ⊎ (int_min p q ≡ q) → AtLeast (int_min p q) s r
-    by (inl e) = rw e h
-    by (inr e) = rw e g
+min_high p q s r = either (λ z. AtLeast z s r) p q (int_min p q) (min_is p q)
 
 pub Holds-meet_up : (x y : Interval) (r : Fraction) → x.s ≤ℤ y.s → Holds x r → Holds y r → Holds (meet_up x y) r
 unfolding meet_up

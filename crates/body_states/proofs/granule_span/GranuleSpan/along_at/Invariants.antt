@@ -1,4 +1,3 @@
-use Rattle.std.proofs.Common.{◌≡◌, ◌<◌, ℕ}
 use Rattle.body_states.specs.Enclosures.{AreAlong, enclosure_along}
 use Rattle.body_states.proofs.Kept.{MadeBelow}
 use Rattle.body_states.proofs.granule_span.GranuleSpan.along_at.Given as goal

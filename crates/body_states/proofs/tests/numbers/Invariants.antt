@@ -1,7 +1,0 @@
-use Rattle.std.specs.Prelude.{All}
-use Rattle.spec_ephemeris.specs.Ephemeris.{IsBodyNumber}
-use Rattle.body_states.proofs.tests.numbers.Given as goal
-
--- all numbers so far are small
-abbrev pub invariant-loop-mant : goal.invariant-loop-mant
-invariant-loop-mant g l = All IsBodyNumber l.made.items

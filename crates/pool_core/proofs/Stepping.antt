@@ -1,5 +1,5 @@
 -- What a worker's own step does to the pool.
-use Rattle.std.proofs.Common.{◌≡◌, ◌≢◌, ℕ, zero, suc, List, [], ◌∷◌, ◌++◌, refl, sym, ap, ◌∙◌, subst, Some, Result, Ok, Err, OnOk, OnErr, IfErr, slice_get, slice_set, arith}
+use Rattle.std.proofs.Common.{◌≡◌, ◌≢◌, ℕ, List, [], ◌∷◌, ◌++◌, refl, sym, ap, ◌∙◌, subst, Some, Result, Ok, Err, OnOk, OnErr, IfErr, slice_get, slice_set, arith}
 use Rattle.spec_trees.specs.declared.tree.Node.{Node}
 use Rattle.spec_trees.specs.declared.tree.Leaf.{Leaf}
 use Rattle.spec_trees.specs.Tree.{Rules, IsSound}

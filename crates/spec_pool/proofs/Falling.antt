@@ -12,7 +12,7 @@ use Rattle.spec_pool.specs.declared.step.Step.TheVariants.{Push, Keep, Pop, Take
 use Rattle.spec_pool.specs.Pool.{At, Holding, State, Pushes, Keeps, Pops, TakesKept, Gets, GivesUp, Enters, Steps, Runs}
 use Rattle.spec_pool.specs.Tiling.{Conserves, todo_of, todo}
 use Rattle.spec_pool.proofs.Weights.{weigh, weigh-append, weigh-push, weigh-same, sum_is_weigh}
-use Rattle.spec_pool.proofs.Finding.{is_node, is_itself}
+use Rattle.spec_pool.proofs.Finding.{is_node}
 use Rattle.spec_pool.proofs.Moving.{weigh_hand, weigh_holding, hand_weigh, at_weigh, at_le}
 use Rattle.spec_pool.proofs.Keeping.{valid_one, step_conserves}
 

@@ -15,8 +15,6 @@ mod leaves;
 mod limits;
 pub mod rules;
 mod states;
-#[cfg(test)]
-mod tests;
 
 pub use axes::Axes;
 pub use enclosing::{enclose, enclose_during};

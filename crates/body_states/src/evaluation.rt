@@ -8,7 +8,7 @@ use crate::bases::{PlainRow, RowRoom, Rows};
 use crate::enclosures::AxisEnclosures;
 use crate::granule_span::GranuleSpan;
 use cheby_difference::{position_step_over_row, velocity_over_row, velocity_step_over_row};
-use cheby_enclose::{Terms, argument_at, arguments_by, position_over_row};
+use cheby_enclose::{AxisCoefficients, argument_at, arguments_by, position_over_row};
 use event_expr::Axes;
 use ival_core::{Divider, Enclosure, Ival};
 use spec_bodies::Quantity;
@@ -21,7 +21,7 @@ impl<'g> GranuleSpan<'g> {
         ensures right { AreAlong (enclosure_along self.now quantity) out.new }
         ensures made { AreMade axes out.new }
     {
-        if self.times.is_wide() {
+        if self.times.has_several() {
             self.along_over(quantity, axes, out);
         } else {
             self.along_at(quantity, axes, out);
@@ -82,7 +82,7 @@ impl<'g> GranuleSpan<'g> {
         requires whole { IsWhole self.now quantity room.now.whole }
         ensures { result ≡ enclosure_along self.now quantity axis }
     {
-        let terms = Terms::of(&self.granule, axis);
+        let terms = AxisCoefficients::of(&self.granule, axis);
         let mid = value_over(quantity, &terms, &room.centre, self.divider);
         let range = value_over(quantity, &terms, &room.whole.plain, self.divider);
         let step = step_over(quantity, &terms, &room.whole, self.divider);
@@ -97,7 +97,7 @@ impl<'g> GranuleSpan<'g> {
         requires centre { IsCentre self.now quantity centre.now }
         ensures { result ≡ enclosure_along self.now quantity axis }
     {
-        let terms = Terms::of(&self.granule, axis);
+        let terms = AxisCoefficients::of(&self.granule, axis);
         let mid = value_over(quantity, &terms, centre, self.divider);
         self.times.single(mid)
     }
@@ -133,7 +133,12 @@ impl<'g> GranuleSpan<'g> {
 
 // The interval of a quantity, by the coefficients of one axis and the divider by the granule's seconds.
 #[inline(always)]
-fn value_over(quantity: Quantity, terms: &Terms, row: &PlainRow, divider: &Divider) -> Ival
+fn value_over(
+    quantity: Quantity,
+    terms: &AxisCoefficients,
+    row: &PlainRow,
+    divider: &Divider,
+) -> Ival
     requires row { ArePlain quantity (length terms.now) row.now }
     ensures { result ≡ value_over quantity terms.now row.now.arguments divider.now }
 {
@@ -145,7 +150,7 @@ fn value_over(quantity: Quantity, terms: &Terms, row: &PlainRow, divider: &Divid
 
 // The interval of its change in one second.
 #[inline(always)]
-fn step_over(quantity: Quantity, terms: &Terms, rows: &Rows, divider: &Divider) -> Ival
+fn step_over(quantity: Quantity, terms: &AxisCoefficients, rows: &Rows, divider: &Divider) -> Ival
     requires rows { AreAll quantity (length terms.now) rows.now }
     ensures { result ≡ step_over quantity terms.now rows.now.plain.arguments divider.now }
 {

@@ -4,7 +4,7 @@ use std::alloc::Global;
 
 // What was read before a byte.
 #[derive(Clone, Copy)]
-enum Place {
+enum EscapeState {
     Plain,
     AfterPercent,
     AfterDigit(u8),
@@ -18,27 +18,27 @@ fn digit(byte: u8) -> Result<u8, RowError> {
     }
 }
 
-fn add_plain(bytes: &mut Vec<u8>, byte: u8) -> Result<Place, RowError> {
+fn add_plain(bytes: &mut Vec<u8>, byte: u8) -> Result<EscapeState, RowError> {
     match byte {
-        b'%' => Ok(Place::AfterPercent),
+        b'%' => Ok(EscapeState::AfterPercent),
         b'~' => {
             bytes.push(b' ')?;
-            Ok(Place::Plain)
+            Ok(EscapeState::Plain)
         }
         _ => {
             bytes.push(byte)?;
-            Ok(Place::Plain)
+            Ok(EscapeState::Plain)
         }
     }
 }
 
-fn add(bytes: &mut Vec<u8>, place: Place, byte: u8) -> Result<Place, RowError> {
+fn add(bytes: &mut Vec<u8>, place: EscapeState, byte: u8) -> Result<EscapeState, RowError> {
     match place {
-        Place::Plain => add_plain(bytes, byte),
-        Place::AfterPercent => Ok(Place::AfterDigit(digit(byte)?)),
-        Place::AfterDigit(high) => {
+        EscapeState::Plain => add_plain(bytes, byte),
+        EscapeState::AfterPercent => Ok(EscapeState::AfterDigit(digit(byte)?)),
+        EscapeState::AfterDigit(high) => {
             bytes.push(high.wrapping_mul(16).wrapping_add(digit(byte)?))?;
-            Ok(Place::Plain)
+            Ok(EscapeState::Plain)
         }
     }
 }
@@ -50,12 +50,12 @@ pub(crate) fn unescaped(alloc: Global, field: &str) -> Result<Vec<u8>, RowError>
     if field == "%" {
         return Ok(bytes);
     }
-    let mut place = Place::Plain;
+    let mut place = EscapeState::Plain;
     for &byte in field.as_bytes() {
         place = add(&mut bytes, place, byte)?;
     }
     match place {
-        Place::Plain => Ok(bytes),
+        EscapeState::Plain => Ok(bytes),
         _ => Err(RowError::Malformed),
     }
 }

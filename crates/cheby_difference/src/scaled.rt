@@ -5,7 +5,7 @@ ghost use Rattle.spec_chebyshev.specs.Rows.{u_row, q_row, r_row, IsArguments};
 ghost use Rattle.spec_motions.specs.RowSizes.{IsRow, IsShorterRow};
 ghost use Rattle.spec_motions.specs.Enclosures.{position_step_over, velocity_over, velocity_step_over};
 
-use cheby_enclose::{Terms, WideEnds, row_sum, slope_sum};
+use cheby_enclose::{AxisCoefficients, WideEnds, row_sum, slope_sum};
 use cheby_laws::{Q_UNIT, R_UNIT, Row, U_UNIT};
 use ival_core::{DISTANCE_EXPONENT, Divider, Ival};
 use spec_chebyshev::Ival62;
@@ -23,7 +23,12 @@ const VELOCITY_STEP_EXPONENT: i32 = DISTANCE_EXPONENT - R_UNIT;
 /// products of its terms with the row of Q, the divided differences of T, times the `2 / seconds` that an argument gains
 /// in a second. The divider is that of the granule's seconds.
 #[inline(always)]
-pub fn position_step_over_row(terms: &Terms, x: Ival62, q: &Row, divider: &Divider) -> Ival
+pub fn position_step_over_row(
+    terms: &AxisCoefficients,
+    x: Ival62,
+    q: &Row,
+    divider: &Divider,
+) -> Ival
     requires arguments { IsArguments x }
     requires q { IsRow (length terms.now) q.now (q_row x) }
     ensures { result ≡ position_step_over terms.now x divider.now }
@@ -35,7 +40,7 @@ pub fn position_step_over_row(terms: &Terms, x: Ival62, q: &Row, divider: &Divid
 /// The interval of the velocity along one axis, in km per second: the derivative of JPL's sum, by `T_k' = k U_(k-1)`, as
 /// the sum of k C_k U_(k-1) times `2 / seconds`.
 #[inline(always)]
-pub fn velocity_over_row(terms: &Terms, x: Ival62, u: &Row, divider: &Divider) -> Ival
+pub fn velocity_over_row(terms: &AxisCoefficients, x: Ival62, u: &Row, divider: &Divider) -> Ival
     requires arguments { IsArguments x }
     requires u { IsShorterRow (length terms.now) u.now (u_row x) }
     ensures { result ≡ velocity_over terms.now x divider.now }
@@ -47,7 +52,12 @@ pub fn velocity_over_row(terms: &Terms, x: Ival62, u: &Row, divider: &Divider) -
 /// The interval of the changes of the velocity along one axis from each time to the next, in km per second: the sum of
 /// k C_k R_(k-1), with the divided differences R of U, times `2 / seconds` twice and normalized once.
 #[inline(always)]
-pub fn velocity_step_over_row(terms: &Terms, x: Ival62, r: &Row, divider: &Divider) -> Ival
+pub fn velocity_step_over_row(
+    terms: &AxisCoefficients,
+    x: Ival62,
+    r: &Row,
+    divider: &Divider,
+) -> Ival
     requires arguments { IsArguments x }
     requires r { IsShorterRow (length terms.now) r.now (r_row x) }
     ensures { result ≡ velocity_step_over terms.now x divider.now }

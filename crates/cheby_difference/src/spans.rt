@@ -5,7 +5,7 @@ ghost use Rattle.spec_motions.specs.Enclosures.{arguments, coefficients_of};
 ghost use Rattle.spec_ephemeris.specs.Granules.{series_of};
 ghost use Rattle.cheby_enclose.specs.Spans.{IsSpanWithin};
 
-use cheby_enclose::{Terms, arguments};
+use cheby_enclose::{AxisCoefficients, arguments};
 use eph_model::Granule;
 use ival_core::Divider;
 use spec_chebyshev::Ival62;
@@ -17,7 +17,7 @@ pub(crate) fn span_parts<'g>(
     axis: usize,
     a: i64,
     b: i64,
-) -> (Terms<'g>, Ival62, Divider)
+) -> (AxisCoefficients<'g>, Ival62, Divider)
     requires { IsSpanWithin g.now axis a b }
     ensures terms { result.0 ≡ coefficients_of (series_of g.now axis) }
     ensures count { length result.0 ≡ g.now.n }
@@ -26,7 +26,7 @@ pub(crate) fn span_parts<'g>(
     ensures divider { result.2 ≡ unsigned_abs g.now.seconds }
 {
     (
-        Terms::of(g, axis),
+        AxisCoefficients::of(g, axis),
         arguments(g, a, b),
         Divider::of(g.seconds),
     )

@@ -14,4 +14,4 @@ mod terms;
 pub use granules::{argument_at, arguments, arguments_by, is_evaluable};
 pub use positions::{empty_row, position, position_over_row};
 pub use sums::{WideEnds, row_sum, slope_sum};
-pub use terms::Terms;
+pub use terms::AxisCoefficients;

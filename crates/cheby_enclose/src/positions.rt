@@ -10,7 +10,7 @@ ghost use Rattle.spec_ephemeris.specs.Granules.{series_of};
 
 use crate::granules::arguments;
 use crate::sums::row_sum;
-use crate::terms::Terms;
+use crate::terms::AxisCoefficients;
 use cheby_laws::{Row, T_UNIT, fill_t};
 use eph_model::Granule;
 use ival_core::{DISTANCE_EXPONENT, Ival};
@@ -30,7 +30,7 @@ pub fn empty_row() -> Row
 /// The interval of a coordinate, in km, over the arguments `x`: JPL's sum of `c_k T_k(x)`, as the sum of the products of
 /// the terms with the row of T in 128 bits, normalized once to ends of at most 2^62 in magnitude.
 #[inline(always)]
-pub fn position_over_row(terms: &Terms, x: Ival62, t: &Row) -> Ival
+pub fn position_over_row(terms: &AxisCoefficients, x: Ival62, t: &Row) -> Ival
     requires arguments { IsArguments x }
     requires t { IsRow (length terms.now) t.now (t_row x) }
     ensures { result ≡ position_over terms.now x }
@@ -48,7 +48,7 @@ pub fn position(g: &Granule, axis: usize, a: i64, b: i64) -> Ival
     ensures holds { HoldsEach (position (series_of g.now axis)) a b result }
     ensures tight { a ≡ b → IsTight (series_of g.now axis).coefficients result }
 {
-    let terms = Terms::of(g, axis);
+    let terms = AxisCoefficients::of(g, axis);
     let x = arguments(g, a, b);
     let mut t = empty_row();
     fill_t(x, g.n, &mut t);

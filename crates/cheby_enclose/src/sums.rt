@@ -6,7 +6,7 @@ ghost use Rattle.spec_motions.specs.Sums.{multiples, sum_low, sum_high};
 ghost use Rattle.spec_motions.specs.RowSizes.{IsSmallRow, IsSlopeRow};
 ghost use Rattle.cheby_enclose.specs.Pairs.{term_of, IsPair, ArePairs, IsOrderedRow, IsOrderedShorterRow};
 
-use crate::terms::Terms;
+use crate::terms::AxisCoefficients;
 use cheby_laws::Row;
 use eph_model::Rounded;
 use ival_core::product_ends;
@@ -22,7 +22,7 @@ pub struct WideEnds {
 /// The sum of the products of the terms with the entries of a row, C_0 X_0 + C_1 X_1 + .., in units of 2^-24 times the
 /// row's.
 #[inline(always)]
-pub fn row_sum(terms: &Terms, row: &Row) -> WideEnds
+pub fn row_sum(terms: &AxisCoefficients, row: &Row) -> WideEnds
     requires small { length terms.now ≤ 32 → IsSmallRow row.now (length terms.now) }
     requires order { IsOrderedRow row.now (length terms.now) }
     ensures lo { result.lo ≡ sum_low (entry row.now) 0 terms.now }
@@ -35,7 +35,7 @@ pub fn row_sum(terms: &Terms, row: &Row) -> WideEnds
 
 /// The sum of k C_k X_(k-1), C_1 X_0 + 2 C_2 X_1 + .., in units of 2^-24 times the row's.
 #[inline(always)]
-pub fn slope_sum(terms: &Terms, row: &Row) -> WideEnds
+pub fn slope_sum(terms: &AxisCoefficients, row: &Row) -> WideEnds
     requires small { length terms.now ≤ 32 → IsSlopeRow row.now (length terms.now) }
     requires order { IsOrderedShorterRow row.now (length terms.now) }
     ensures lo { result.lo ≡ sum_low (multiples (entry row.now)) 1 (drop 1 terms.now) }

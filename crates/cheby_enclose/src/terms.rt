@@ -11,11 +11,11 @@ use std::marker::Model;
 /// The coefficients of one axis of a granule as intervals, in units of 2^-24 km: that of T_0 first. They are the granule's
 /// own pairs, of which nothing is copied, and serve all spans within the granule.
 #[derive(Drop)]
-pub struct Terms<'g> {
+pub struct AxisCoefficients<'g> {
     pub(crate) pairs: &'g [Rounded],
 }
 
-impl<'g> Model for Terms<'g> {
+impl<'g> Model for AxisCoefficients<'g> {
     ghost use Rattle.std.specs.Prelude.{List, map};
     ghost use Rattle.spec_chebyshev.specs.declared.ends.Ival62.{Ival62};
     ghost use Rattle.cheby_enclose.specs.Pairs.{term_of, ArePairs};
@@ -27,24 +27,24 @@ impl<'g> Model for Terms<'g> {
     ghost invariant = { λ t. ArePairs t.pairs.now };
 }
 
-impl<'g> Terms<'g> {
+impl<'g> AxisCoefficients<'g> {
     /// The intervals of the coefficients of an axis, counted from 0.
     #[inline(always)]
-    pub fn of(g: &Granule<'g>, axis: usize) -> Terms<'g>
+    pub fn of(g: &Granule<'g>, axis: usize) -> AxisCoefficients<'g>
         requires granule { IsEvaluable g.now }
         requires axis { axis < g.now.comps }
         ensures terms { result ≡ coefficients_of (series_of g.now axis) }
         ensures count { length result ≡ g.now.n }
     {
         let from = axis * g.n;
-        Terms::of_pairs(&g.rounded[from..from + g.n])
+        AxisCoefficients::of_pairs(&g.rounded[from..from + g.n])
     }
 
     #[inline(always)]
-    fn of_pairs(pairs: &'g [Rounded]) -> Terms<'g>
+    fn of_pairs(pairs: &'g [Rounded]) -> AxisCoefficients<'g>
         requires { ArePairs pairs.now }
         ensures { result ≡ map term_of pairs.now }
     {
-        Terms { pairs }
+        AxisCoefficients { pairs }
     }
 }

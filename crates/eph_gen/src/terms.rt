@@ -6,10 +6,10 @@ ghost use Rattle.spec_generated.specs.Coefficients.{columns_of, millionths, term
 
 use eph_model::{is_present, place_after};
 use spec_ephemeris::Column;
-use spec_generated::{COLUMNS, Term};
+use spec_generated::{COLUMNS, CoefficientShape};
 
 /// The term of a place of a block, counted from 1: the scale of its column, and the degree of its polynomial.
-pub fn term_at(place: u32) -> Term
+pub fn term_at(place: u32) -> CoefficientShape
     ensures term { result ≡ term_at place }
     ensures low { result.degree < MAX_COEFFICIENTS }
 {
@@ -17,7 +17,7 @@ pub fn term_at(place: u32) -> Term
 }
 
 // The term of a place that belongs to one of these columns, the first of which has this number.
-fn term_among(number: usize, columns: &[(u32, u32, u32, u32)], place: u32) -> Term
+fn term_among(number: usize, columns: &[(u32, u32, u32, u32)], place: u32) -> CoefficientShape
     requires { number + length columns.now < 2 ^ 32 }
     ensures { result ≡ term_among number (columns_of columns.now) place }
 {
@@ -29,7 +29,7 @@ fn term_among(number: usize, columns: &[(u32, u32, u32, u32)], place: u32) -> Te
                 granules: *granules,
             };
             if is_place(number, column, place) {
-                Term {
+                CoefficientShape {
                     scale: *scale,
                     degree: (place - column.start) % column.coefs,
                 }
@@ -37,7 +37,7 @@ fn term_among(number: usize, columns: &[(u32, u32, u32, u32)], place: u32) -> Te
                 term_among(number + 1, rest, place)
             }
         }
-        [] => Term {
+        [] => CoefficientShape {
             scale: 0,
             degree: 0,
         },
@@ -59,7 +59,7 @@ fn numerator(draw: u32, scale: u32) -> i64
 }
 
 /// The coefficient of a term for what was drawn, in millionths of a km, rounded towards zero.
-pub fn millionths(term: Term, draw: u32) -> i64
+pub fn millionths(term: CoefficientShape, draw: u32) -> i64
     requires { term.degree < MAX_COEFFICIENTS }
     ensures { result ≡ millionths term draw }
 {

@@ -43,7 +43,7 @@ fn enclose_at<S: States>(expr: &Expr, states: &S, span: &TimeSpan) -> Enclosure
     ensures { result ≡ enclosure_of (λ leaf. S.answer states.now leaf span.now.first span.now.last)
         span.now.first span.now.last (term expr.now) }
 {
-    if span.is_wide() {
+    if span.has_several() {
         let mut made = blank();
         enclose_over(&mut made, expr, states, span);
         made

@@ -71,7 +71,7 @@ impl TimeSpan {
         requires number { Overlaps value value }
         ensures { result ≡ constant_of self.now.first self.now.last value }
     {
-        if self.is_wide() {
+        if self.has_several() {
             self.wide(value, value, Ival::zero())
         } else {
             self.single(value)
@@ -89,7 +89,7 @@ impl TimeSpan {
         ensures { result ≡ sum_of self.now.first self.now.last x y }
     {
         let mid = x.mid.add(y.mid);
-        if self.is_wide() {
+        if self.has_several() {
             self.wide(mid, x.range.add(y.range), x.step.add(y.step))
         } else {
             self.single(mid)
@@ -107,7 +107,7 @@ impl TimeSpan {
         ensures { result ≡ difference_of self.now.first self.now.last x y }
     {
         let mid = x.mid.sub(y.mid);
-        if self.is_wide() {
+        if self.has_several() {
             self.wide(mid, x.range.sub(y.range), x.step.sub(y.step))
         } else {
             self.single(mid)
@@ -124,7 +124,7 @@ impl TimeSpan {
         ensures { result ≡ product_of self.now.first self.now.last x y }
     {
         let mid = x.mid.mul(y.mid);
-        if self.is_wide() {
+        if self.has_several() {
             let step = x.range.mul(y.step).add(y.range.mul(x.step));
             self.wide(mid, x.range.mul(y.range), step)
         } else {
@@ -140,7 +140,7 @@ impl TimeSpan {
         ensures { result ≡ signed_square_of self.now.first self.now.last x }
     {
         let mid = x.mid.signed_square();
-        if self.is_wide() {
+        if self.has_several() {
             let step = twice_size(x.range).mul(x.step);
             self.wide(mid, x.range.signed_square(), step)
         } else {
@@ -206,7 +206,7 @@ impl TimeSpan {
 
     /// There is more than one time.
     #[inline(always)]
-    pub fn is_wide(&self) -> bool
+    pub fn has_several(&self) -> bool
         ensures { result ≡ lt_z self.now.first self.now.last }
     {
         self.first < self.last

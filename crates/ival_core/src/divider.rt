@@ -30,7 +30,7 @@ impl Model for Divider {
 
 /// A quotient and its rest.
 #[derive(Clone, Copy)]
-struct Part {
+struct Division {
     quotient: u64,
     rest: u64,
 }
@@ -68,14 +68,14 @@ fn joined(high: u64, low: u64) -> u128
 
 /// The quotient of a number below `seconds 2^64`, by a division.
 #[inline(never)]
-fn divided(x: u128, seconds: u64) -> Part
+fn divided(x: u128, seconds: u64) -> Division
     requires positive { 1 ≤ seconds }
     requires size { x < seconds * 2 ^ 64 }
     ensures parts { result.quotient * seconds + result.rest ≡ x }
     ensures less { result.rest < seconds }
 {
     let d = seconds as u128;
-    Part {
+    Division {
         quotient: (x / d) as u64,
         rest: (x % d) as u64,
     }
@@ -83,7 +83,7 @@ fn divided(x: u128, seconds: u64) -> Part
 
 /// The quotient of a number below `seconds 2^64`: the guess, where it is right.
 #[inline(always)]
-fn checked(x: u128, guess: u64, seconds: u64) -> Part
+fn checked(x: u128, guess: u64, seconds: u64) -> Division
     requires positive { 1 ≤ seconds }
     requires size { x < seconds * 2 ^ 64 }
     ensures parts { result.quotient * seconds + result.rest ≡ x }
@@ -91,7 +91,7 @@ fn checked(x: u128, guess: u64, seconds: u64) -> Part
 {
     let product = guess as u128 * seconds as u128;
     if product <= x && x - product < seconds as u128 {
-        Part {
+        Division {
             quotient: guess,
             rest: (x - product) as u64,
         }
@@ -168,7 +168,7 @@ impl Divider {
 
     /// The quotient of a number below `seconds 2^64`.
     #[inline(always)]
-    fn part(&self, x: u128) -> Part
+    fn part(&self, x: u128) -> Division
         requires { x < self.now * 2 ^ 64 }
         ensures parts { result.quotient * self.now + result.rest ≡ x }
         ensures less { result.rest < self.now }

@@ -7,9 +7,9 @@ use lib.ListN.{get_elem?}
 use Rattle.atomic_table.specs.Table.{Final, Seen, rest}
 use Rattle.spec_trees.specs.declared.book.Booked.{Booked}
 use Rattle.span_ledger.specs.declared.desk.LedgerSeat.{LedgerSeat}
-use Rattle.spec_pool.specs.declared.ledger.Part.{Part}
-use Rattle.span_ledger.specs.declared.ledger.View.{View}
-use Rattle.spec_pool.specs.declared.ledger.Terms.{Terms}
+use Rattle.spec_pool.specs.declared.ledger.SeatHistory.{SeatHistory}
+use Rattle.span_ledger.specs.declared.ledger.SeatView.{SeatView}
+use Rattle.spec_pool.specs.declared.ledger.LedgerTerms.{LedgerTerms}
 use Rattle.spec_pool.specs.History.{FitsPart, EachFits, Sound}
 use Rattle.span_ledger.specs.Rule.{the_part, joined, Kept, Sat}
 use Rattle.span_ledger.proofs.Moves.{first_fits}
@@ -26,7 +26,7 @@ nothing (x ∷ xs) e = absurd (omega (arith, e))
 pub one_more : {A : Type 0} (old new : List A) (x : A) → old ≡ new ++ x ∷ [] → length old ≡ length new + 1
 one_more old new x e = ap length e ∙ length-append new (x ∷ [])
 
-each_split : (log : List Booked) (ps qs : List Part) → EachFits log (ps ++ qs) → EachFits log ps × EachFits log qs
+each_split : (log : List Booked) (ps qs : List SeatHistory) → EachFits log (ps ++ qs) → EachFits log ps × EachFits log qs
 each_split log [] qs f = (tt, f)
 each_split log (p ∷ ps) qs f = let g = each_split log ps qs f.1 in ((f.0, g.0), g.1)
 
@@ -34,13 +34,13 @@ each_split log (p ∷ ps) qs f = let g = each_split log ps qs f.1 in ((f.0, g.0)
 pub known_more : (old new : List LedgerSeat) (s : LedgerSeat) (log : List Booked) → old ≡ new ++ s ∷ [] → EachFits log s.raw.me.0.parts → All (Known log) new → All (Known log) old
 known_more old new s log e f rest = subst (All (Known log)) (sym e) (All-push (Known log) new s rest (first_fits log s.raw.me.0 (the_part s.raw.me.0.parts) (single s.raw.me.0.parts s.one) f))
 
-pub known_joined : (old new : List LedgerSeat) (s : LedgerSeat) (v w : View) (log : List Booked) → old ≡ new ++ s ∷ [] → w ≡ joined v s.raw.me.0 → EachFits log w.parts → All (Known log) new → EachFits log v.parts × All (Known log) old
+pub known_joined : (old new : List LedgerSeat) (s : LedgerSeat) (v w : SeatView) (log : List Booked) → old ≡ new ++ s ∷ [] → w ≡ joined v s.raw.me.0 → EachFits log w.parts → All (Known log) new → EachFits log v.parts × All (Known log) old
 known_joined old new s v w log e is f rest =
-    let g = each_split log v.parts s.raw.me.0.parts (subst (λ (x : View). EachFits log x.parts) is f) in
+    let g = each_split log v.parts s.raw.me.0.parts (subst (λ (x : SeatView). EachFits log x.parts) is f) in
     (g.0, known_more old new s log e g.1 rest)
 
-pub joined_length : (v w x : View) → x ≡ joined v w → length x.parts ≡ length v.parts + length w.parts
-joined_length v w x is = ap (λ (y : View). length y.parts) is ∙ length-append v.parts w.parts
+pub joined_length : (v w x : SeatView) → x ≡ joined v w → length x.parts ≡ length v.parts + length w.parts
+joined_length v w x is = ap (λ (y : SeatView). length y.parts) is ∙ length-append v.parts w.parts
 
 pub none_known : (log : List Booked) (xs : List LedgerSeat) → length xs ≡ 0 → All (Known log) xs
 none_known log xs e k d below = absurd (omega (arith, e, below))
@@ -49,11 +49,11 @@ some_apart : {A : Type 0} (o : M.Option (Option A)) (r : Option A) (a : A) → o
 some_apart o r a e f = M.some-injective r (Some a) (sym e ∙ f)
 
 -- the book that is found is the whole history
-pub found_whole : (t : Terms) (id : ℕ) (v : View) (ws : List ℕ) (xs : List (Option (List Booked))) (r : Option (List Booked)) → v.holds ≡ 0 → length v.parts ≡ t.seats → Final (Seen (Kept t) id v) ws xs → get_elem? xs 0 ≡ M.some r
+pub found_whole : (t : LedgerTerms) (id : ℕ) (v : SeatView) (ws : List ℕ) (xs : List (Option (List Booked))) (r : Option (List Booked)) → v.holds ≡ 0 → length v.parts ≡ t.seats → Final (Seen (Kept t) id v) ws xs → get_elem? xs 0 ≡ M.some r
     → (log : List Booked) × (r ≡ Some log) × Sound t log × EachFits log v.parts
 found_whole t id v ws xs r idle all f e = let x = ends t id v ws xs idle all f in (x.0, some_apart (get_elem? xs 0) r x.0 e x.1, x.2, x.3)
 
-pub whole : (t : Terms) (v : View) (r : Option (List Booked)) (book : List Booked) (x : (log : List Booked) × (r ≡ Some log) × Sound t log × EachFits log v.parts) → r ≡ Some book → Sound t book × EachFits book v.parts
+pub whole : (t : LedgerTerms) (v : SeatView) (r : Option (List Booked)) (book : List Booked) (x : (log : List Booked) × (r ≡ Some log) × Sound t log × EachFits log v.parts) → r ≡ Some book → Sound t book × EachFits book v.parts
 whole t v r book x e = let same : x.0 ≡ book = some_same r x.0 book x.1 e in subst (λ (l : List Booked). Sound t l × EachFits l v.parts) same (x.2, x.3)
 
 pub pushed : {A : Type 0} (F : ℕ → A → Type 0) (xs : List A) (x : A) → ((k : ℕ) (d : A) → k < length xs → F k (slice_index_or xs k d)) → F (length xs) x → (k : ℕ) (d : A) → k < length (xs ++ x ∷ []) → F k (slice_index_or (xs ++ x ∷ []) k d)

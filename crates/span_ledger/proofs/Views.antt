@@ -6,11 +6,11 @@ use mathlib.Core.Option.{some, some-ne-none}
 use lib.ListN.{get_elem?}
 use Rattle.atomic_table.proofs.Lists.{at_set}
 use Rattle.spec_trees.specs.declared.book.Booked.{Booked}
-use Rattle.span_ledger.specs.declared.ledger.View.{View}
+use Rattle.span_ledger.specs.declared.ledger.SeatView.{SeatView}
 use Rattle.spec_pool.specs.History.{by_seat}
 use Rattle.spec_pool.proofs.Weights.{total_le}
 
-pub two_le : (f : View → ℕ) (views : List View) (p q : ℕ) (v w : View) → p ≢ q → get_elem? views p ≡ some v → get_elem? views q ≡ some w → f v + f w ≤ sum_by f views
+pub two_le : (f : SeatView → ℕ) (views : List SeatView) (p q : ℕ) (v w : SeatView) → p ≢ q → get_elem? views p ≡ some v → get_elem? views q ≡ some w → f v + f w ≤ sum_by f views
 two_le f [] p q v w n e g = absurd (some-ne-none v (sym e))
 two_le f (x ∷ xs) zero zero v w n e g = absurd (n refl)
 two_le f (x ∷ xs) zero (suc q) v w n e g =
@@ -22,12 +22,12 @@ two_le f (x ∷ xs) (suc p) zero v w n e g =
 two_le f (x ∷ xs) (suc p) (suc q) v w n e g =
     omega (arith, two_le f xs p q v w (λ z. n (ap suc z)) e g, sum_by-cons f x xs)
 
-abbrev pub All : (ℕ → View → Type 0) → List View → Type 0
-All F views = (p : ℕ) (v : View) → get_elem? views p ≡ some v → F p v
+abbrev pub All : (ℕ → SeatView → Type 0) → List SeatView → Type 0
+All F views = (p : ℕ) (v : SeatView) → get_elem? views p ≡ some v → F p v
 
-pub all_set : (F : ℕ → View → Type 0) (views : List View) (port : ℕ) (w : View) → F port w → ((p : ℕ) (u : View) → p ≢ port → get_elem? views p ≡ some u → F p u) → All F (slice_set views port w)
+pub all_set : (F : ℕ → SeatView → Type 0) (views : List SeatView) (port : ℕ) (w : SeatView) → F port w → ((p : ℕ) (u : SeatView) → p ≢ port → get_elem? views p ≡ some u → F p u) → All F (slice_set views port w)
 all_set F views port w mine others p u e = ⊎_elim
-    (λ (x : (p ≡ port) × (w ≡ u)). subst (λ (y : ℕ × View). F y.0 y.1) (λ i. (sym x.0 i, x.1 i)) mine)
+    (λ (x : (p ≡ port) × (w ≡ u)). subst (λ (y : ℕ × SeatView). F y.0 y.1) (λ i. (sym x.0 i, x.1 i)) mine)
     (λ (x : (p ≢ port) × (get_elem? views p ≡ some u)). others p u x.0 x.1)
     (at_set views port p w u e)
 

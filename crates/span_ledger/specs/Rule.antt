@@ -5,44 +5,44 @@ use mathlib.Core.Option as M
 use lib.ListN.{get_elem?}
 use Rattle.atomic_table.specs.Table.{State, Me, Step}
 use Rattle.spec_trees.specs.declared.book.Booked.{Booked}
-use Rattle.spec_pool.specs.declared.ledger.Part.{Part}
-use Rattle.span_ledger.specs.declared.ledger.View.{View}
-use Rattle.spec_pool.specs.declared.ledger.Terms.{Terms}
+use Rattle.spec_pool.specs.declared.ledger.SeatHistory.{SeatHistory}
+use Rattle.span_ledger.specs.declared.ledger.SeatView.{SeatView}
+use Rattle.spec_pool.specs.declared.ledger.LedgerTerms.{LedgerTerms}
 use Rattle.spec_pool.specs.declared.ledger.Entry.{Entry}
 use Rattle.spec_pool.specs.declared.ledger.Entry.TheVariants.{Entered, Again, Full, Memory}
 use Rattle.spec_pool.specs.History.{StartsWith, by_seat, Fresh, Stands, Sound, part_of, EachFits, saw, entered, repeated}
 
-abbrev pub view_of : ℕ → ℕ → ℕ → List Part → View
+abbrev pub view_of : ℕ → ℕ → ℕ → List SeatHistory → SeatView
 view_of holds low high parts = record { holds = holds; low = low; high = high; parts = parts }
 
 -- the first seat has the last number, and may make all others
-abbrev pub newcomer : Terms → View
+abbrev pub newcomer : LedgerTerms → SeatView
 newcomer t = view_of 0 0 (t.seats - 1) (part_of (t.seats - 1) [] [] [] ∷ [])
 
-abbrev pub the_part : List Part → Part
+abbrev pub the_part : List SeatHistory → SeatHistory
 the_part [] = part_of 0 [] [] []
 the_part (p ∷ ps) = p
 
-abbrev pub with_part : View → ℕ → Part → View
+abbrev pub with_part : SeatView → ℕ → SeatHistory → SeatView
 with_part v holds p = view_of holds v.low v.high (p ∷ [])
 
-abbrev pub maker_after : View → View
+abbrev pub maker_after : SeatView → SeatView
 maker_after v = view_of v.holds (v.low + 1) v.high v.parts
 
-abbrev pub made : View → View
+abbrev pub made : SeatView → SeatView
 made v = view_of 0 0 0 (part_of v.low [] [] [] ∷ [])
 
-abbrev pub joined : View → View → View
+abbrev pub joined : SeatView → SeatView → SeatView
 joined v w = view_of (v.holds + w.holds) v.low v.high (v.parts ++ w.parts)
 
-abbrev pub spent : View
+abbrev pub spent : SeatView
 spent = view_of 0 0 0 []
 
 -- how often a number stands in the parts, or is still to be made
 abbrev pub is_number : ℕ → ℕ → ℕ
 is_number k n = if n == k then 1 else 0
 
-abbrev pub times : ℕ → List Part → ℕ
+abbrev pub times : ℕ → List SeatHistory → ℕ
 times k [] = 0
 times k (p ∷ ps) = is_number k p.number + times k ps
 
@@ -51,13 +51,13 @@ abbrev pub run_of : ℕ → ℕ → ℕ → ℕ
 run_of k n zero = 0
 run_of k n (suc c) = is_number k n + run_of k (n + 1) c
 
-abbrev pub taken : ℕ → View → ℕ
+abbrev pub taken : ℕ → SeatView → ℕ
 taken k v = times k v.parts + run_of k v.low (v.high - v.low)
 
-abbrev pub size : View → ℕ
+abbrev pub size : SeatView → ℕ
 size v = length v.parts + (v.high - v.low)
 
-pub record Fits (t : Terms) (log : List Booked) (v : View) : Type 0 where
+pub record Fits (t : LedgerTerms) (log : List Booked) (v : SeatView) : Type 0 where
   pub parts : EachFits log v.parts
   pub below : v.high ≤ t.seats
   pub numbers : (k : ℕ) → t.seats ≤ k → times k v.parts ≡ 0
@@ -70,24 +70,24 @@ abbrev pub home_of : ℕ → List Booked → M.Option (Option (List Booked))
 home_of zero log = M.some (Some log)
 home_of (suc k) log = M.none
 
-pub record Keeps (t : Terms) (words : List ℕ) (homes : List (M.Option (Option (List Booked)))) (views : List View) : Type 0 where
+pub record Keeps (t : LedgerTerms) (words : List ℕ) (homes : List (M.Option (Option (List Booked)))) (views : List SeatView) : Type 0 where
   pub log : List Booked
   pub word : ℕ
   pub lock : ℕ
   pub bit : ((lock ≡ 0) × (word ≢ 1)) ⊎ ((lock ≡ 1) × (word ≡ 1))
   pub words_are : words ≡ word ∷ length log ∷ []
   pub homes_are : homes ≡ home_of lock log ∷ []
-  pub holders : sum_by (λ (v : View). v.holds) views ≡ lock
+  pub holders : sum_by (λ (v : SeatView). v.holds) views ≡ lock
   pub numbers : (k : ℕ) → sum_by (taken k) views ≤ 1
   pub counted : sum_by size views ≤ t.seats
-  pub fit : (p : ℕ) (v : View) → get_elem? views p ≡ M.some v → Fits t log v
+  pub fit : (p : ℕ) (v : SeatView) → get_elem? views p ≡ M.some v → Fits t log v
   pub sound : Sound t log
 
-abbrev pub Kept : Terms → State (Option (List Booked)) View → Type 0
+abbrev pub Kept : LedgerTerms → State (Option (List Booked)) SeatView → Type 0
 Kept t s = Keeps t s.words s.homes s.views
 
 abbrev pub Sat : Type 0
-Sat = Me (Option (List Booked)) View
+Sat = Me (Option (List Booked)) SeatView
 
 abbrev pub Stp : Type 0
 Stp = Step (Option (List Booked))
@@ -131,9 +131,9 @@ pub record TakesBook (m n : Sat) : Type 0 where
   pub more : StartsWith log (the_part m.0.parts).seen
   pub after : n ≡ (with_part m.0 1 (saw (the_part m.0.parts) log), (0, Some log) ∷ [])
 
-abbrev pub own_part : Sat → Part
+abbrev pub own_part : Sat → SeatHistory
 own_part m = the_part m.0.parts
 
 -- the seat without lock and book, with this part
-abbrev pub freed : Sat → Part → Sat
+abbrev pub freed : Sat → SeatHistory → Sat
 freed m p = (with_part m.0 0 p, [])

@@ -2,8 +2,8 @@
 use Rattle.std.specs.Prelude.{◌≡◌, ◌<◌, ℕ, min, pos, List, [], length, slice_index_or, All}
 use Rattle.atomic_table.specs.Seated.{TableId}
 use Rattle.spec_trees.specs.declared.book.Booked.{Booked}
-use Rattle.spec_pool.specs.declared.ledger.Part.{Part}
-use Rattle.spec_pool.specs.declared.ledger.Terms.{Terms}
+use Rattle.spec_pool.specs.declared.ledger.SeatHistory.{SeatHistory}
+use Rattle.spec_pool.specs.declared.ledger.LedgerTerms.{LedgerTerms}
 use Rattle.spec_pool.specs.declared.ledger.CloseError.{CloseError}
 use Rattle.spec_pool.specs.declared.ledger.CloseError.TheVariants.{Missing}
 use Rattle.spec_pool.specs.History.{FitsPart, part_of}
@@ -12,12 +12,12 @@ use Rattle.span_ledger.specs.declared.desk.SpanLedger.{SpanLedger}
 use Rattle.span_ledger.specs.Rule.{the_part}
 
 -- the root, the limit and the number of seats
-abbrev pub terms : SpanLedger → Terms
+abbrev pub terms : SpanLedger → LedgerTerms
 terms ledger = ledger.table.shared.key
 
 -- a seat's number, the entries that it made, the leaves that stood already when it entered them, and the history as it
 -- last saw it
-abbrev pub part : LedgerSeat → Part
+abbrev pub part : LedgerSeat → SeatHistory
 part seat = the_part seat.raw.me.0.parts
 
 -- which table lies under a ledger, and of which table a seat is

@@ -4,9 +4,9 @@ ghost use Rattle.spec_pool.specs.History.{Sound, terms_of};
 ghost use Rattle.span_ledger.specs.Seats.{AllFit, AreNew, IsMissing, IsSeatOf, part, terms};
 
 use crate::desk::{LedgerSeat, SpanLedger};
-use crate::ledger::{Ledger, Ways};
+use crate::ledger::{Ledger, SeatSplits};
 use crate::register::Register;
-use spec_pool::{CloseError, Memory, Terms};
+use spec_pool::{CloseError, LedgerTerms, Memory};
 use spec_trees::{Book, Node};
 use std::alloc::Global;
 
@@ -30,7 +30,7 @@ impl SpanLedger {
         let Ok(_) = slots.push(Some(Register::new(alloc))) else {
             return Err(Memory);
         };
-        let terms = Terms { root, limit, seats };
+        let terms = LedgerTerms { root, limit, seats };
         let Ok((table, first)) = Ledger::new(alloc, &[0, 0], slots, &terms) else {
             return Err(Memory);
         };
@@ -38,7 +38,7 @@ impl SpanLedger {
         let mut made = Vec::new(alloc);
         let mut number = 0;
         while number < seats - 1 {
-            let raw = table.shared.split_seat::<Ways>(&mut maker);
+            let raw = table.shared.split_seat::<SeatSplits>(&mut maker);
             let Ok(_) = made.push(LedgerSeat { raw, number }) else {
                 return Err(Memory);
             };
@@ -84,7 +84,7 @@ impl SpanLedger {
         } = last;
         while let Some(seat) = seats.pop() {
             let LedgerSeat { raw, number: _ } = seat;
-            self.table.shared.join_seat::<Ways>(&mut all, raw);
+            self.table.shared.join_seat::<SeatSplits>(&mut all, raw);
         }
         let mut closed = self.table.close_with(all);
         let Some(register) = closed.take(BOOK) else {

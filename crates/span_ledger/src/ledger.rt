@@ -1,23 +1,23 @@
 // The table under the ledger, with its rule: the lock, the count of entries, and the slot of the register.
 use crate::register::Register;
 use atomic_table::{Join, Play, Seat, Split, Table, TableRule};
-use spec_pool::{Part, Terms};
+use spec_pool::{LedgerTerms, SeatHistory};
 use std::alloc::Global;
 use std::collections::LinkedList;
 
 /// What a seat of the table knows: whether it has the lock, from which to which it may still make numbers of seats, and
 /// its parts of the history, one for each number. Contracts alone speak of it; no value of it is made.
-pub struct View {
+pub struct SeatView {
     pub holds: u64,
     pub low: u64,
     pub high: u64,
-    pub parts: LinkedList<Part>,
+    pub parts: LinkedList<SeatHistory>,
 }
 
 /// The rule of the ledger.
 pub struct Law;
 
-impl TableRule<Option<Register>, View, Terms> for Law {
+impl TableRule<Option<Register>, SeatView, LedgerTerms> for Law {
     ghost use Rattle.span_ledger.specs.Rule.{Kept, newcomer};
 
     ghost holds = { Kept };
@@ -28,7 +28,7 @@ impl TableRule<Option<Register>, View, Terms> for Law {
 /// Taking the lock, and the register with it, or finding it taken.
 pub struct Lock;
 
-impl Play<Option<Register>, View> for Lock {
+impl Play<Option<Register>, SeatView> for Lock {
     ghost use Rattle.span_ledger.specs.Rule.{Locks};
 
     ghost then = { Locks };
@@ -37,7 +37,7 @@ impl Play<Option<Register>, View> for Lock {
 /// Entering what the register has gained.
 pub struct Add;
 
-impl Play<Option<Register>, View> for Add {
+impl Play<Option<Register>, SeatView> for Add {
     ghost use Rattle.span_ledger.specs.Rule.{Adds};
 
     ghost then = { Adds };
@@ -47,16 +47,16 @@ impl Play<Option<Register>, View> for Add {
 /// again, is there for the proof alone.
 pub struct Free;
 
-impl Play<Option<Register>, View> for Free {
+impl Play<Option<Register>, SeatView> for Free {
     ghost use Rattle.span_ledger.specs.Rule.{Frees};
 
     ghost then = { Frees };
 }
 
 /// Making seats, and joining them.
-pub struct Ways;
+pub struct SeatSplits;
 
-impl Split<View> for Ways {
+impl Split<SeatView> for SeatSplits {
     ghost use Rattle.span_ledger.specs.Rule.{maker_after, made};
 
     ghost left = { maker_after };
@@ -64,7 +64,7 @@ impl Split<View> for Ways {
     ghost right = { made };
 }
 
-impl Join<View> for Ways {
+impl Join<SeatView> for SeatSplits {
     ghost use Rattle.span_ledger.specs.Rule.{joined, spent as nothing};
 
     ghost both = { joined };
@@ -72,6 +72,6 @@ impl Join<View> for Ways {
     ghost spent = { nothing };
 }
 
-pub type Raw = Seat<Option<Register>, View>;
+pub type Raw = Seat<Option<Register>, SeatView>;
 
-pub type Ledger = Table<Option<Register>, View, Terms, Law, Global>;
+pub type Ledger = Table<Option<Register>, SeatView, LedgerTerms, Law, Global>;

@@ -9,7 +9,7 @@ use Rattle.spec_ephemeris.specs.declared.header.Column.{Column}
 use Rattle.spec_ephemeris.specs.Header.{column_size, components, granule_size, is_present}
 use Rattle.spec_blocks.specs.BlockRules.{is_place}
 use Rattle.spec_generated.specs.Coefficients.{IsTermAt, ScaledColumn, place_of, scaled_columns, term_among, term_at}
-use Rattle.spec_generated.specs.declared.columns.Term.{Term}
+use Rattle.spec_generated.specs.declared.columns.CoefficientShape.{CoefficientShape}
 
 -- these columns, the first of which has this number and begins at this place, follow one another
 abbrev AreJoined : ℕ → ℕ → List ScaledColumn → Type 0
@@ -79,5 +79,5 @@ term_place (suc i) c granule axis k is =
     let inside = subst (λ (n : ℕ). IsInside n c.column place) number (inside_is (suc i) c.column granule axis k is.granules is.axes is.degrees) in
     let present : is_present c.column ≡ true = and_from _ _ (lt-ltb 0 c.column.coefs (omega (arith, is.degrees))) (lt-ltb 0 c.column.granules (omega (arith, is.granules))) in
     let degree : (place - c.column.start) % c.column.coefs ≡ k = degree_is (suc i) c.column granule axis k is.degrees in
-    let term : ℕ → Term = λ d. record { scale = c.scale; degree = d } in
+    let term : ℕ → CoefficientShape = λ d. record { scale = c.scale; degree = d } in
     found 1 3 scaled_columns i place c table_joined is.listed present inside ∙ ap term degree

@@ -3,7 +3,7 @@ use Rattle.std.specs.Prelude.{◌≡◌, ℕ, zero, suc, ◌+◌, ◌-◌, ◌*�
 use Rattle.spec_ephemeris.specs.declared.header.Column.{Column}
 use Rattle.spec_ephemeris.specs.Header.{components, granule_size}
 use Rattle.spec_blocks.specs.BlockRules.{is_place}
-use Rattle.spec_generated.specs.declared.columns.Term.{Term}
+use Rattle.spec_generated.specs.declared.columns.CoefficientShape.{CoefficientShape}
 use Rattle.spec_generated.specs.declared.columns.TheConstants.{COLUMNS}
 
 -- a column, and the scale of its coefficients
@@ -21,14 +21,14 @@ scaled_columns = columns_of COLUMNS
 
 -- the term of a place: its column is that of these, the first of which has this number, to which the place belongs; each
 -- component of each granule takes as many places as it has coefficients, from T_0 on
-abbrev pub term_among : ℕ → List ScaledColumn → ℕ → Term
+abbrev pub term_among : ℕ → List ScaledColumn → ℕ → CoefficientShape
 term_among number [] place = record { scale = 0; degree = 0 }
 term_among number (c ∷ cs) place =
     if is_place number c.column place then record { scale = c.scale; degree = (place - c.column.start) % c.column.coefs }
     else term_among (suc number) cs place
 
 -- the term of a place of a block, counted from 1
-unfoldable pub term_at : ℕ → Term
+unfoldable pub term_at : ℕ → CoefficientShape
 term_at place = term_among 1 scaled_columns place
 
 -- columns are counted from 1
@@ -49,5 +49,5 @@ pub record IsTermAt (number : ℕ) (c : ScaledColumn) (granule axis k : ℕ) : T
 
 -- the coefficient of a term for what was drawn, in millionths of a km: a number from -2^31 on, below 2^31, times the scale,
 -- over 4 for each degree, rounded towards zero
-abbrev pub millionths : Term → ℕ → ℤ
+abbrev pub millionths : CoefficientShape → ℕ → ℤ
 millionths term draw = int_div ((pos draw -ℤ pos (2 ^ 31)) *ℤ pos term.scale) (pos (4 ^ term.degree))

@@ -8,7 +8,7 @@ mod examples;
 mod laws;
 mod limits;
 
-pub use columns::{COLUMNS, Term};
+pub use columns::{COLUMNS, CoefficientShape};
 pub use examples::{coefficients_are_drawn, the_first_lines_of_seed_seven};
 pub use laws::{generated_texts_are_accepted, places_have_terms};
 pub use limits::{BLOCK_DATES, DRAWS, FACTOR, FIRST_DATE, INCREMENT, MAX_GENERATED, NCOEFF, ROWS};

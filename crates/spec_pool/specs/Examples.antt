@@ -14,8 +14,8 @@ use Rattle.spec_trees.proofs.Cutting.{cut_inside}
 abbrev pub holds_crossing : Node → Bool
 holds_crossing n = int_lt n.a (pos 1339200) && int_le (pos 1339200) n.b
 
-abbrev pub is_wide : Node → Bool
-is_wide n = int_lt (pos 50) (n.b -ℤ n.a) && nat_lt n.depth 100
+abbrev pub is_searched : Node → Bool
+is_searched n = int_lt (pos 50) (n.b -ℤ n.a) && nat_lt n.depth 100
 
 -- such spans from first to last
 abbrev pub crossing_in : ℤ → ℤ → Rules
@@ -23,7 +23,7 @@ crossing_in first last = record {
   first = first;
   last = last;
   deepest = 100;
-  verdict = λ n. if holds_crossing n then (if is_wide n then Split else One Rise) else Clear;
+  verdict = λ n. if holds_crossing n then (if is_searched n then Split else One Rise) else Clear;
   parts = λ n. parts_at (cut_of Half n.a n.b) n;
 }
 

@@ -5,7 +5,7 @@ use std::collections::LinkedList;
 /// What is fixed when a ledger is made: leaves lie in `root`, at most `limit` of them are entered, and the numbers of
 /// its seats are below `seats`.
 #[derive(Clone, Copy)]
-pub struct Terms {
+pub struct LedgerTerms {
     pub root: Node,
     pub limit: u32,
     pub seats: u32,
@@ -13,7 +13,7 @@ pub struct Terms {
 
 /// What a seat knows: its number, the entries that it made, the leaves that stood already when it entered them, and the
 /// history as it last saw it. Contracts alone speak of it; no value of it is made.
-pub struct Part {
+pub struct SeatHistory {
     pub number: u64,
     pub mine: LinkedList<Booked>,
     pub again: LinkedList<Leaf>,

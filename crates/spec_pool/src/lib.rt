@@ -14,6 +14,6 @@ pub use laws::{
     a_done_pool_has_entered_all_leaves, each_step_is_accounted, each_step_lowers_todo_by_one,
     every_run_balances, every_run_conserves, pieces_of_work_add_up, some_step_is_accepted,
 };
-pub use ledger::{CloseError, Entry, Part, Terms};
+pub use ledger::{CloseError, Entry, LedgerTerms, SeatHistory};
 pub use memory::Memory;
 pub use step::Step;

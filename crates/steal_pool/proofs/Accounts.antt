@@ -9,7 +9,7 @@ use Rattle.spec_trees.specs.declared.tree.Verdict.TheVariants.{Split}
 use Rattle.spec_trees.specs.declared.book.Booked.{Booked}
 use Rattle.spec_trees.specs.Tree.{Rules, IsValid, IsSound, leaf_of, leaves, mark_of}
 use Rattle.spec_trees.proofs.Leaves.{leaves_settled, leaves_split}
-use Rattle.spec_pool.specs.declared.ledger.Part.{Part}
+use Rattle.spec_pool.specs.declared.ledger.SeatHistory.{SeatHistory}
 use Rattle.spec_pool.specs.Accounts.{Account, Balances, PutsRight, KeepsRight, leaves_of, own}
 use Rattle.spec_pool.proofs.Balancing.{by_leaves}
 use Rattle.spec_pool.proofs.Finding.{nodes_permuted, leaves_permuted}
@@ -26,7 +26,7 @@ same_weights h xs ys p = omega (arith, sum_by-IsPermutation h xs ys p, sum_is_we
 abbrev pub taken_weight : (Node → ℕ) → Holder → ℕ
 taken_weight h w = weigh h w.own.view.taken + weigh (λ (e : End). weigh h e.view.taken) w.stealers
 
-abbrev pub entered_weight : (Leaf → ℕ) → Part → ℕ
+abbrev pub entered_weight : (Leaf → ℕ) → SeatHistory → ℕ
 entered_weight h p = weigh (λ (e : Booked). h e.leaf) p.mine + weigh h p.again
 
 abbrev pub own_weight : Rules → (Leaf → ℕ) → Holder → ℕ
@@ -36,19 +36,19 @@ pub taken_weigh : (h : Node → ℕ) (w : Holder) → weigh h (taken_by w) ≡ t
 taken_weigh h w =
     omega (arith, weigh-append h w.own.view.taken (flat_map (λ (e : End). e.view.taken) w.stealers), weigh-flat (λ (e : End). e.view.taken) h w.stealers)
 
-pub entered_weigh : (h : Leaf → ℕ) (p : Part) → weigh h (entered_by p) ≡ entered_weight h p
+pub entered_weigh : (h : Leaf → ℕ) (p : SeatHistory) → weigh h (entered_by p) ≡ entered_weight h p
 entered_weigh h p =
     omega (arith, weigh-append h (map (λ (e : Booked). e.leaf) p.mine) p.again, weigh-map (λ (e : Booked). e.leaf) h p.mine)
 
 -- ---- a piece of work by weights
-abbrev pub Does : Rules → Holder → Part → Holder → Part → List Node → List Node → List Leaf → Type 0
+abbrev pub Does : Rules → Holder → SeatHistory → Holder → SeatHistory → List Node → List Node → List Leaf → Type 0
 Does t w p v q put taken entered =
     (v.own.view.put ≡ w.own.view.put ++ put)
     × ((h : Node → ℕ) → taken_weight h v ≡ taken_weight h w + weigh h taken)
     × ((h : Leaf → ℕ) → entered_weight h q ≡ entered_weight h p + weigh h entered)
     × ((h : Leaf → ℕ) → own_weight t h w + weigh (by_leaves t h) taken ≡ weigh h entered + weigh (by_leaves t h) put + own_weight t h v)
 
-abbrev pub Worked : Rules → Holder → Part → Holder → Part → Type 0
+abbrev pub Worked : Rules → Holder → SeatHistory → Holder → SeatHistory → Type 0
 Worked t w p v q = (b : Account) × Balances t (account_of w p) b × IsLike b (account_of v q)
 
 own_weigh : (t : Rules) (h : Leaf → ℕ) (a : Account) → weigh h (leaves_of t (own a)) ≡ weigh_hand (by_leaves t h) a.hand + weigh (by_leaves t h) a.kept
@@ -72,7 +72,7 @@ right_weigh t h b put entered = omega (
   weigh-flat (leaves t) h put,
 )
 
-module _ (t : Rules) (w : Holder) (p : Part) (v : Holder) (q : Part) where
+module _ (t : Rules) (w : Holder) (p : SeatHistory) (v : Holder) (q : SeatHistory) where
   after : List Node → List Leaf → Account
   after taken entered = record { hand = v.hand; kept = v.kept; put = v.own.view.put; taken = taken_by w ++ taken; entered = entered_by p ++ entered }
 
@@ -119,7 +119,7 @@ module _ (t : Rules) (w : Holder) (p : Part) (v : Holder) (q : Part) where
     ),
   )
 
-pub works_more : (t : Rules) (w : Holder) (p : Part) (v : Holder) (q : Part) (u : Holder) (r : Part) → Worked t w p v q → Worked t v q u r → Worked t w p u r
+pub works_more : (t : Rules) (w : Holder) (p : SeatHistory) (v : Holder) (q : SeatHistory) (u : Holder) (r : SeatHistory) → Worked t w p v q → Worked t v q u r → Worked t w p u r
 works_more t w p v q u r a b =
     let x = does t w p v q a in
     let y = does t v q u r b in
@@ -140,7 +140,7 @@ works_more t w p v q u r a b =
     )
 
 -- nothing but the part's other lists, and the count of nodes put, has changed
-pub idle_works : (t : Rules) (w : Holder) (p : Part) (v : Holder) (q : Part) → v.own ≡ w.own → v.stealers ≡ w.stealers → v.hand ≡ w.hand → v.kept ≡ w.kept → q.mine ≡ p.mine → q.again ≡ p.again → Worked t w p v q
+pub idle_works : (t : Rules) (w : Holder) (p : SeatHistory) (v : Holder) (q : SeatHistory) → v.own ≡ w.own → v.stealers ≡ w.stealers → v.hand ≡ w.hand → v.kept ≡ w.kept → q.mine ≡ p.mine → q.again ≡ p.again → Worked t w p v q
 idle_works t w p v q own stealers hand kept mine again = works t w p v q [] [] [] (
   ap (λ (e : End). e.view.put) own ∙ sym (append-nil w.own.view.put),
   (λ h. omega (arith, ap (λ (e : End). weigh h e.view.taken) own, ap (weigh (λ (e : End). weigh h e.view.taken)) stealers)),
@@ -161,7 +161,7 @@ is_split t r root w node left right e (n, hand, split, part) held is =
     some_same : (x y : Node) → Some x ≡ Some y → x ≡ y
     some_same x y f = cc
 
-pub puts_right : (t : Rules) (w v : Holder) (p : Part) (left right : Node) → IsSplit t w left right → v ≡ on_deque w left right → PutsRight t right (account_of w p) (account_of v p)
+pub puts_right : (t : Rules) (w v : Holder) (p : SeatHistory) (left right : Node) → IsSplit t w left right → v ≡ on_deque w left right → PutsRight t right (account_of w p) (account_of v p)
 puts_right t w v p left right (n, hand, split, parts) e = record {
   node = n;
   in_hand = hand;
@@ -170,7 +170,7 @@ puts_right t w v p left right (n, hand, split, parts) e = record {
   after = ap (λ (u : Holder). account_of u p) e ∙ ap (λ (y : Node × Node). account_of (on_deque w y.0 right) p) (sym parts);
 }
 
-pub keeps_right : (t : Rules) (w v : Holder) (p : Part) (left right : Node) → IsSplit t w left right → v ≡ on_stack w left right → KeepsRight t (account_of w p) (account_of v p)
+pub keeps_right : (t : Rules) (w v : Holder) (p : SeatHistory) (left right : Node) → IsSplit t w left right → v ≡ on_stack w left right → KeepsRight t (account_of w p) (account_of v p)
 keeps_right t w v p left right (n, hand, split, parts) e = record {
   node = n;
   in_hand = hand;
@@ -179,7 +179,7 @@ keeps_right t w v p left right (n, hand, split, parts) e = record {
 }
 
 -- the same of a seat whose right part is given
-module _ (t r : Rules) (root : Node) (w v : Holder) (p : Part) (node left right : Node) (named : t ≡ rules_within r root) (is : IsRight t w right) (held : w.hand ≡ Some node) (part : left ≡ (r.parts node).0) where
+module _ (t r : Rules) (root : Node) (w v : Holder) (p : SeatHistory) (node left right : Node) (named : t ≡ rules_within r root) (is : IsRight t w right) (held : w.hand ≡ Some node) (part : left ≡ (r.parts node).0) where
   pub split_changes : (R : Account → Account → Type 0) → (IsSplit t w left right → R (account_of w p) (account_of v p)) → (b : Account) × R (account_of w p) b × IsLike b (account_of v p)
   split_changes R goes = (account_of v p, goes (is_split t r root w node left right named is held part), like_itself (account_of v p))
 
@@ -196,10 +196,10 @@ pub taken_more : (h : Node → ℕ) (n : Node) (w v : Holder) → TakesOwn n w v
 taken_more h n w v (inl e) = omega (arith, ap (taken_weight h) e, weigh-append h w.own.view.taken (n ∷ []))
 taken_more h n w v (inr (es, took, e)) = omega (arith, ap (taken_weight h) e, other_taken h n w.stealers es took)
 
-node_of : Holder → Node → List Node → Part → Account
+node_of : Holder → Node → List Node → SeatHistory → Account
 node_of w n taken p = record { hand = Some n; kept = w.kept; put = w.own.view.put; taken = taken; entered = entered_by p }
 
-from_deque : (n : Node) (w v : Holder) (p : Part) → w.hand ≡ None → v.hand ≡ Some n → v.kept ≡ w.kept → v.own.view.put ≡ w.own.view.put → TakesOwn n w v ⊎ TakesOther n (after_empty_pop w) v
+from_deque : (n : Node) (w v : Holder) (p : SeatHistory) → w.hand ≡ None → v.hand ≡ Some n → v.kept ≡ w.kept → v.own.view.put ≡ w.own.view.put → TakesOwn n w v ⊎ TakesOther n (after_empty_pop w) v
     → (b : Account) × Gets n (account_of w p) b × IsLike b (account_of v p)
 unfolding node_of
 from_deque n w v p none hand kept put takes = (
@@ -214,7 +214,7 @@ from_deque n w v p none hand kept put takes = (
   },
 )
 
-pub gets : (n : Node) (w v : Holder) (p : Part) → w.hand ≡ None → Takes n w v → (b : Account) × Gets n (account_of w p) b × IsLike b (account_of v p)
+pub gets : (n : Node) (w v : Holder) (p : SeatHistory) → w.hand ≡ None → Takes n w v → (b : Account) × Gets n (account_of w p) b × IsLike b (account_of v p)
 gets n w v p none (inl (rest, top, e)) = (
   account_of v p,
   (
@@ -227,7 +227,7 @@ gets n w v p none (inr (inl (empty, oldest, e))) = from_deque n w v p none (ap (
 gets n w v p none (inr (inr (empty, used, (es, took, e)))) = from_deque n w v p none (ap (λ (u : Holder). u.hand) e) (ap (λ (u : Holder). u.kept) e) (ap (λ (u : Holder). u.own.view.put) e) (inr (es, took, e))
 
 -- ---- each balances
-pub takes_works : (t : Rules) (n : Node) (w v : Holder) (p : Part) → w.hand ≡ None → Takes n w v → Worked t w p v p
+pub takes_works : (t : Rules) (n : Node) (w v : Holder) (p : SeatHistory) → w.hand ≡ None → Takes n w v → Worked t w p v p
 takes_works t n w v p none (inl (rest, top, e)) = works t w p v p [] [] [] (
   ap (λ (u : Holder). u.own.view.put) e ∙ sym (append-nil w.own.view.put),
   (λ h. omega (arith, ap (taken_weight h) e)),
@@ -247,7 +247,7 @@ takes_works t n w v p none (inr (inr (empty, used, (es, took, e)))) = works t w 
   (λ h. omega (arith, ap (own_weight t h) e, ap (weigh_hand (by_leaves t h)) none)),
 )
 
-pub none_works : (t : Rules) (w v : Holder) (p : Part) → FindsNone w v → Worked t w p v p
+pub none_works : (t : Rules) (w v : Holder) (p : SeatHistory) → FindsNone w v → Worked t w p v p
 none_works t w v p f = idle_works t w p v p
     (ap (λ (u : Holder). u.own) f.2) (ap (λ (u : Holder). u.stealers) f.2) (ap (λ (u : Holder). u.hand) f.2) (ap (λ (u : Holder). u.kept) f.2) refl refl
 
@@ -260,7 +260,7 @@ split_weigh t sound n left right v e parts h = omega (
   ap (λ (y : Node × Node). by_leaves t h y.1) parts,
 )
 
-pub split_works : (t : Rules) (w v : Holder) (p : Part) (left right : Node) → IsSound t → ((n : Node) → w.hand ≡ Some n → IsValid t n) → IsSplit t w left right → (v ≡ on_deque w left right) ⊎ (v ≡ on_stack w left right) → Worked t w p v p
+pub split_works : (t : Rules) (w v : Holder) (p : SeatHistory) (left right : Node) → IsSound t → ((n : Node) → w.hand ≡ Some n → IsValid t n) → IsSplit t w left right → (v ≡ on_deque w left right) ⊎ (v ≡ on_stack w left right) → Worked t w p v p
 split_works t w v p left right sound valid (n, hand, split, parts) (inl e) = works t w p v p (right ∷ []) [] [] (
   ap (λ (u : Holder). u.own.view.put) e,
   (λ h. omega (arith, ap (taken_weight h) e)),
@@ -275,7 +275,7 @@ split_works t w v p left right sound valid (n, hand, split, parts) (inr e) = wor
 )
 
 -- a leaf is entered
-pub enter_works : (t : Rules) (w v : Holder) (p q : Part) (n : Node) (m : Mark) → IsSound t → IsValid t n → mark_of (t.verdict n) ≡ Some m → w.hand ≡ Some n → v ≡ with_hand w None
+pub enter_works : (t : Rules) (w v : Holder) (p q : SeatHistory) (n : Node) (m : Mark) → IsSound t → IsValid t n → mark_of (t.verdict n) ≡ Some m → w.hand ≡ Some n → v ≡ with_hand w None
     → ((h : Leaf → ℕ) → entered_weight h q ≡ entered_weight h p + h (leaf_of n m)) → Worked t w p v q
 enter_works t w v p q n m sound valid marked hand e entered = works t w p v q [] [] (leaf_of n m ∷ []) (
   ap (λ (u : Holder). u.own.view.put) e ∙ sym (append-nil w.own.view.put),

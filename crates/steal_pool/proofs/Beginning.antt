@@ -5,16 +5,16 @@ use Rattle.std.proofs.lemmas.Bool.Decides.{nat_tests}
 use Rattle.std.proofs.lemmas.Option.{get_or_from_slice_get}
 use Rattle.std.specs.List.{AllByRecursion, AllZip}
 use Rattle.spec_trees.specs.declared.tree.Node.{Node}
-use Rattle.spec_pool.specs.declared.ledger.Part.{Part}
+use Rattle.spec_pool.specs.declared.ledger.SeatHistory.{SeatHistory}
 use Rattle.spec_pool.specs.History.{part_of}
 use Rattle.spec_pool.proofs.Weights.{sum_is_weigh}
 use Rattle.span_ledger.specs.declared.desk.LedgerSeat.{LedgerSeat}
 use Rattle.span_ledger.specs.declared.desk.SpanLedger.{SpanLedger}
 use Rattle.span_ledger.specs.Seats.{AreNew, IsSeatOf, part, table_of, terms}
 use Rattle.steal_pool.specs.Rule.{DequeId, End}
-use Rattle.steal_pool.specs.declared.view.View.{View}
+use Rattle.steal_pool.specs.declared.view.DequeView.{DequeView}
 use Rattle.steal_pool.specs.Workers.{new_stealer}
-use Rattle.steal_pool.specs.Seats.{NewSeat, Seat, Ways, place_of, ways}
+use Rattle.steal_pool.specs.Seats.{NewSeat, Seat, SeatLinks, place_of, ways}
 use Rattle.steal_pool.specs.Pools.{AllBegin, AreLinked, Begins, HaveAllStealers, IsOwned, Linked, first_hand, other_numbers, stealer_numbers, stealers_on, ways_of_all}
 use Rattle.steal_pool.specs.Stealers.{Linking, Links, LinksOther, Opens, gained, lent, numbers_so_far}
 use Rattle.steal_pool.proofs.Listing.{all_each, zip_get, get_same, get_other, keep_each, one_some, weigh_none, within, map_push, map_set, map_at, map_from, set_length}
@@ -57,12 +57,12 @@ numbers_next n i ss each k s e = each k s e ∙ elim (cases_eq k i) [
 -- ---- seats that are opened
 opened_begins : (ledger : SpanLedger) (root : Node) (k : ℕ) (e : LedgerSeat) (s : Seat) → part e ≡ part_of k [] [] [] → Opens ledger root e s → Begins ledger k (first_hand root k) s
 opened_begins ledger root k e s is o =
-    let number : (part e).number ≡ k = ap (λ (p : Part). p.number) is in record {
+    let number : (part e).number ≡ k = ap (λ (p : SeatHistory). p.number) is in record {
       worker = o.0.0 ∙ number;
       hand = o.0.4 ∙ ap (first_hand root) number;
       kept = o.0.5;
       pushed_in_a_row = o.0.3;
-      put = ap (λ (v : View). v.put) o.0.1;
+      put = ap (λ (v : DequeView). v.put) o.0.1;
       taken = (λ i. (o.0.1 i).taken ++ flat_map (λ (x : End). x.view.taken) (o.0.2 i));
       part = o.1 ∙ is;
       table = o.2;
@@ -90,11 +90,11 @@ module _ (ledger : SpanLedger) (root : Node) (es : List LedgerSeat) (ss : List S
   no_stealers : (k : ℕ) (s : Seat) → slice_get ss k ≡ Some s → s.worker.stealers ≡ []
   no_stealers k s at = (opened_at k s at).2.0.2
 
-  no_others : (k : ℕ) (w : Ways) → slice_get (ways_of_all ss) k ≡ Some w → (w.others ≡ []) × (w.made ≡ 0)
+  no_others : (k : ℕ) (w : SeatLinks) → slice_get (ways_of_all ss) k ≡ Some w → (w.others ≡ []) × (w.made ≡ 0)
   no_others k w at =
       let f = map_from (λ (s : Seat). ways s.worker) ss k w at in (
-        sym (ap (λ (x : Ways). x.others) f.2) ∙ ap (map place_of) (no_stealers k f.0 f.1),
-        sym (ap (λ (x : Ways). x.made) f.2) ∙ ap (λ (v : View). v.made) (opened_at k f.0 f.1).2.0.1,
+        sym (ap (λ (x : SeatLinks). x.others) f.2) ∙ ap (map place_of) (no_stealers k f.0 f.1),
+        sym (ap (λ (x : SeatLinks). x.made) f.2) ∙ ap (λ (v : DequeView). v.made) (opened_at k f.0 f.1).2.0.1,
       )
 
   pub opened_linking : Linking ledger root (length ss) 0 0 ss
@@ -167,13 +167,13 @@ module _ (ledger : SpanLedger) (root : Node) (n i j : ℕ) (ss qs : List Seat) (
   end_begin = keep_each (λ k z. Begins ledger k (first_hand root k) z) mid i s (gained s stealer) x.3 (gained_begins ledger i (first_hand root i) s stealer refl)
       (keep_each (λ k z. Begins ledger k (first_hand root k) z) ss j r (lent r) x.2 (lent_begins ledger j (first_hand root j) r) l.begin)
 
-  abbrev seen : Seat → Ways
+  abbrev seen : Seat → SeatLinks
   seen z = ways z.worker
 
   end_linked : AreLinked end
   end_linked =
-      let taker : slice_get (slice_set (ways_of_all ss) j (seen (lent r))) i ≡ Some (seen s) = ap (λ (ws : List Ways). slice_get ws i) (sym (map_set seen ss j (lent r))) ∙ map_at seen mid i s x.3 in
-      let all : ways_of_all end ≡ slice_set (slice_set (ways_of_all ss) j (seen (lent r))) i (seen (gained s stealer)) = map_set seen mid i (gained s stealer) ∙ ap (λ (ws : List Ways). slice_set ws i (seen (gained s stealer))) (map_set seen ss j (lent r)) in
+      let taker : slice_get (slice_set (ways_of_all ss) j (seen (lent r))) i ≡ Some (seen s) = ap (λ (ws : List SeatLinks). slice_get ws i) (sym (map_set seen ss j (lent r))) ∙ map_at seen mid i s x.3 in
+      let all : ways_of_all end ≡ slice_set (slice_set (ways_of_all ss) j (seen (lent r))) i (seen (gained s stealer)) = map_set seen mid i (gained s stealer) ∙ ap (λ (ws : List SeatLinks). slice_set ws i (seen (gained s stealer))) (map_set seen ss j (lent r)) in
       subst Linked (sym all) (linked_more (ways_of_all ss) i j (seen r) (seen (lent r)) (seen s) (seen (gained s stealer)) (map_at seen ss j r x.2) refl refl refl taker refl refl (map_push place_of s.worker.stealers stealer) number l.linked)
 
   end_numbers : Numbers n i (suc j) end

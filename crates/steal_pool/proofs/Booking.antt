@@ -13,7 +13,7 @@ use Rattle.spec_trees.specs.Tree.{Covers, Rules, IsSound, IsValid, leaves}
 use Rattle.spec_trees.specs.Order.{booked_leaves, ordered_leaves}
 use Rattle.spec_trees.proofs.Covering.{leaves_cover}
 use Rattle.spec_trees.proofs.Rearranged.{rearranged_in_order}
-use Rattle.spec_pool.specs.declared.ledger.Part.{Part}
+use Rattle.spec_pool.specs.declared.ledger.SeatHistory.{SeatHistory}
 use Rattle.spec_pool.specs.History.{AllStand, FitsPart, StartsWith, by_seat}
 use Rattle.spec_pool.proofs.Finding.{leaves_permuted}
 use Rattle.spec_pool.proofs.Weights.{weigh, weigh-append, weigh-flat, weigh-map, weigh-same}
@@ -49,14 +49,14 @@ none_late k g (e ∷ es) a = omega (arith, zero_at e.seat (g e) a.0, none_late k
     zero_at s n h = grind (arith, nat_tests)
 
 -- parts with the numbers from k on
-abbrev pub Numbered : ℕ → List Part → Type 0
+abbrev pub Numbered : ℕ → List SeatHistory → Type 0
 Numbered k [] = Unit {0}
 Numbered k (p ∷ ps) = (p.number ≡ k) × Numbered (suc k) ps
 
-abbrev pub Fit : List Booked → List Part → Type 0
+abbrev pub Fit : List Booked → List SeatHistory → Type 0
 Fit log ps = AllByRecursion (FitsPart log) ps
 
-mine_late : (k : ℕ) (g : Booked → ℕ) (log : List Booked) (ps : List Part) → Numbered k ps → Fit log ps → AllByRecursion (λ e. e.seat < k + length ps) log → weigh (late k g) log ≡ weigh (λ (p : Part). weigh g p.mine) ps
+mine_late : (k : ℕ) (g : Booked → ℕ) (log : List Booked) (ps : List SeatHistory) → Numbered k ps → Fit log ps → AllByRecursion (λ e. e.seat < k + length ps) log → weigh (late k g) log ≡ weigh (λ (p : SeatHistory). weigh g p.mine) ps
 mine_late k g log [] n f a = none_late k g log (subst (λ (m : ℕ). AllByRecursion (λ e. e.seat < m) log) (omega arith) a)
 mine_late k g log (p ∷ ps) n f a =
     let mine : weigh g (by_seat k log) ≡ weigh g p.mine = ap (weigh g) (ap (λ (m : ℕ). by_seat m log) (sym n.0) ∙ f.0.mine) in
@@ -69,29 +69,29 @@ all_late g log = weigh-same (late 0 g) g log (λ e. at e.seat (g e))
     at s n = grind (arith, nat_tests)
 
 -- each entry is one seat's
-mine_weigh : (g : Booked → ℕ) (log : List Booked) (ps : List Part) → Numbered 0 ps → Fit log ps → AllByRecursion (λ e. e.seat < length ps) log → weigh g log ≡ weigh (λ (p : Part). weigh g p.mine) ps
+mine_weigh : (g : Booked → ℕ) (log : List Booked) (ps : List SeatHistory) → Numbered 0 ps → Fit log ps → AllByRecursion (λ e. e.seat < length ps) log → weigh g log ≡ weigh (λ (p : SeatHistory). weigh g p.mine) ps
 mine_weigh g log ps n f a =
     sym (all_late g log) ∙ mine_late 0 g log ps n f (subst (λ (m : ℕ). AllByRecursion (λ e. e.seat < m) log) (omega arith) a)
 
 -- ---- what the seats entered is the book, with what stood already
-abbrev pub parts_entered : List Part → List Leaf
+abbrev pub parts_entered : List SeatHistory → List Leaf
 parts_entered ps = flat_map entered_by ps
 
-abbrev pub agains : List Part → List Leaf
-agains ps = flat_map (λ (p : Part). p.again) ps
+abbrev pub agains : List SeatHistory → List Leaf
+agains ps = flat_map (λ (p : SeatHistory). p.again) ps
 
-two_weigh : (f g : Part → ℕ) (ps : List Part) → weigh (λ (p : Part). f p + g p) ps ≡ weigh f ps + weigh g ps
+two_weigh : (f g : SeatHistory → ℕ) (ps : List SeatHistory) → weigh (λ (p : SeatHistory). f p + g p) ps ≡ weigh f ps + weigh g ps
 two_weigh f g [] = refl
 two_weigh f g (p ∷ ps) = omega (arith, two_weigh f g ps)
 
-module _ (log : List Booked) (ps : List Part) (n : Numbered 0 ps) (f : Fit log ps) (a : AllByRecursion (λ e. e.seat < length ps) log) where
+module _ (log : List Booked) (ps : List SeatHistory) (n : Numbered 0 ps) (f : Fit log ps) (a : AllByRecursion (λ e. e.seat < length ps) log) where
   pub entered_is : (h : Leaf → ℕ) → weigh h (parts_entered ps) ≡ weigh h (booked_leaves log) + weigh h (agains ps)
   entered_is h = omega (
     arith,
     weigh-flat entered_by h ps,
-    weigh-same (λ (p : Part). weigh h (entered_by p)) (entered_weight h) ps (entered_weigh h),
-    two_weigh (λ (p : Part). weigh (λ (e : Booked). h e.leaf) p.mine) (λ (p : Part). weigh h p.again) ps,
-    weigh-flat (λ (p : Part). p.again) h ps,
+    weigh-same (λ (p : SeatHistory). weigh h (entered_by p)) (entered_weight h) ps (entered_weigh h),
+    two_weigh (λ (p : SeatHistory). weigh (λ (e : Booked). h e.leaf) p.mine) (λ (p : SeatHistory). weigh h p.again) ps,
+    weigh-flat (λ (p : SeatHistory). p.again) h ps,
     weigh-map (λ (e : Booked). e.leaf) h log,
     mine_weigh (λ (e : Booked). h e.leaf) log ps n f a,
   )
@@ -143,7 +143,7 @@ stand_append : (log : List Booked) (xs ys : List Leaf) → AllStand log xs → A
 stand_append log [] ys a b = b
 stand_append log (x ∷ xs) ys a b = (a.0, stand_append log xs ys a.1 b)
 
-agains_stand : (log : List Booked) (ps : List Part) → Fit log ps → AllStand log (agains ps)
+agains_stand : (log : List Booked) (ps : List SeatHistory) → Fit log ps → AllStand log (agains ps)
 agains_stand log [] f = tt
 agains_stand log (p ∷ ps) f = stand_append log p.again (agains ps) f.0.again (agains_stand log ps f.1)
 
@@ -166,7 +166,7 @@ no_agains log all (l ∷ ls) a b c e s =
     ))
 
 -- ---- the book
-module _ (t : Rules) (sound : IsSound t) (root : Node) (valid : IsValid t root) (log : List Booked) (ps : List Part) (n : Numbered 0 ps) (f : Fit log ps) (a : AllByRecursion (λ e. e.seat < length ps) log) where
+module _ (t : Rules) (sound : IsSound t) (root : Node) (valid : IsValid t root) (log : List Booked) (ps : List SeatHistory) (n : Numbered 0 ps) (f : Fit log ps) (a : AllByRecursion (λ e. e.seat < length ps) log) where
   all_weigh : IsPermutation (parts_entered ps) (leaves t root) → (h : Leaf → ℕ) → weigh h (leaves t root) ≡ weigh h (booked_leaves log) + weigh h (agains ps)
   all_weigh p h = sym (same_weights h (parts_entered ps) (leaves t root) p) ∙ entered_is log ps n f a h
 
@@ -193,7 +193,7 @@ starts_length log seen (rest, e) = omega (
   length_weigh seen,
 )
 
-module _ (log : List Booked) (ps : List Part) (n : Numbered 0 ps) (f : Fit log ps) (a : AllByRecursion (λ e. e.seat < length ps) log) where
+module _ (log : List Booked) (ps : List SeatHistory) (n : Numbered 0 ps) (f : Fit log ps) (a : AllByRecursion (λ e. e.seat < length ps) log) where
   pub more_than : (all others : List Leaf) (leaf : Leaf) (seen : List Booked) → StartsWith log seen → IsPermutation (parts_entered ps ++ leaf ∷ others) all → length seen < length all
   more_than all others leaf seen starts p = omega (
     arith,

@@ -4,8 +4,8 @@ use Rattle.std.specs.List.{AllByRecursion, AllZip}
 use Rattle.spec_trees.specs.declared.tree.Node.{Node}
 use Rattle.spec_trees.specs.declared.tree.Leaf.{Leaf}
 use Rattle.spec_trees.specs.Tree.{Rules, leaves}
-use Rattle.spec_pool.specs.declared.ledger.Part.{Part}
-use Rattle.spec_pool.specs.declared.ledger.Terms.{Terms}
+use Rattle.spec_pool.specs.declared.ledger.SeatHistory.{SeatHistory}
+use Rattle.spec_pool.specs.declared.ledger.LedgerTerms.{LedgerTerms}
 use Rattle.spec_pool.specs.Accounts.{leaves_of}
 use Rattle.spec_pool.specs.History.{Fresh}
 use Rattle.spec_pool.proofs.Balancing.{by_leaves}
@@ -16,7 +16,7 @@ use Rattle.span_ledger.specs.declared.desk.LedgerSeat.{LedgerSeat}
 use Rattle.span_ledger.specs.Seats.{part}
 use Rattle.steal_pool.specs.declared.seat.Stop.TheVariants.{Full, Memory}
 use Rattle.steal_pool.specs.Rule.{DequeId, End}
-use Rattle.steal_pool.specs.Seats.{IsFullOf, IsLeft, Seat, Ways, entered_by, place_of, ways}
+use Rattle.steal_pool.specs.Seats.{IsFullOf, IsLeft, Seat, SeatLinks, entered_by, place_of, ways}
 use Rattle.steal_pool.specs.Pools.{AccountFor, AreLinked, ComeBack, IsLeftOver, IsRefused, KeepNone, NoneIsOutOfMemory, entered_in, own_of, stealers_on, right_of, seat_right, taken_of, ways_of_all}
 use Rattle.steal_pool.specs.Stealers.{HasNoStealer, Joined, lasting}
 use Rattle.steal_pool.specs.Closing.{Drains, Ended, HasUsedUp, Leaves, SomeIsFull, worst_stop}
@@ -45,8 +45,8 @@ module _ (t : Rules) (ss us : List Seat) (j : Joined ss us) where
     hand = hand ∙ f.hand;
     marked = f.marked;
     leaves = f.leaves;
-    limit = omega (arith, f.limit, ap (λ (u : Terms). u.limit) terms, ap (λ (p : Part). length p.seen) part);
-    fresh = subst (λ (p : Part). Fresh leaf p.seen) (sym part) f.fresh;
+    limit = omega (arith, f.limit, ap (λ (u : LedgerTerms). u.limit) terms, ap (λ (p : SeatHistory). length p.seen) part);
+    fresh = subst (λ (p : SeatHistory). Fresh leaf p.seen) (sym part) f.fresh;
   }
 
   left_lasting : (x y : Seat) → lasting y ≡ lasting x → IsLeft t x → IsLeft t y
@@ -79,7 +79,7 @@ module _ (t : Rules) (ss us : List Seat) (j : Joined ss us) where
 -- ---- each worked
 later_none : (t : Rules) (s q : Seat) → IsLater t s q → HasNoStealer s → HasNoStealer q
 later_none t s q c none =
-    map_nothing q.worker.stealers (ap (λ (w : Ways). w.others) c.same.ways ∙ ap (map place_of) none)
+    map_nothing q.worker.stealers (ap (λ (w : SeatLinks). w.others) c.same.ways ∙ ap (map place_of) none)
   where
     map_nothing : (es : List End) → map place_of es ≡ [] → es ≡ []
     map_nothing [] e = refl
@@ -131,10 +131,10 @@ module _ (t : Rules) (ss qs : List Seat) (es : List LedgerSeat) (d : Ended t ss 
       same (x ∷ xs) (f ∷ fs) c = omega (arith, ap (entered_weight h) c.0.part, same xs fs c.1)
 
   -- no stealer is out
-  no_others : (k : ℕ) (w : Ways) → slice_get (ways_of_all qs) k ≡ Some w → w.others ≡ []
+  no_others : (k : ℕ) (w : SeatLinks) → slice_get (ways_of_all qs) k ≡ Some w → w.others ≡ []
   no_others k w at =
       let f = map_from (λ (s : Seat). ways s.worker) qs k w at in
-      sym (ap (λ (x : Ways). x.others) f.2) ∙ ap (map place_of) (all_get HasNoStealer qs k f.0 d.none f.1)
+      sym (ap (λ (x : SeatLinks). x.others) f.2) ∙ ap (map place_of) (all_get HasNoStealer qs k f.0 d.none f.1)
 
   none_made : (k : ℕ) (s : Seat) → slice_get qs k ≡ Some s → s.worker.own.view.made ≡ 0
   none_made k s at =
@@ -237,12 +237,12 @@ some_left_over t ss qs es leaf d b (k, s, at, f) root a =
 pub some_refused : (t : Rules) (ss qs : List Seat) (es : List LedgerSeat) (leaf : Leaf) → Ended t ss qs → AllZip Leaves qs es → SomeIsFull t leaf qs → IsRefused ss es leaf
 some_refused t ss qs es leaf d b (k, q, at, f) =
     let e = zip_at Leaves qs es k q b at in
-    let s = map_from (λ (x : Seat). x.terms) ss k q.terms (ap (λ (ts : List Terms). slice_get ts k) (sym d.terms) ∙ map_at (λ (x : Seat). x.terms) qs k q at) in (
+    let s = map_from (λ (x : Seat). x.terms) ss k q.terms (ap (λ (ts : List LedgerTerms). slice_get ts k) (sym d.terms) ∙ map_at (λ (x : Seat). x.terms) qs k q at) in (
       k,
       s.0,
       e.0,
       s.1,
       e.1,
-      subst (λ (p : Part). s.0.terms.limit ≤ length p.seen) (sym e.2.part) (omega (arith, f.limit, ap (λ (x : Terms). x.limit) s.2)),
-      subst (λ (p : Part). Fresh leaf p.seen) (sym e.2.part) f.fresh,
+      subst (λ (p : SeatHistory). s.0.terms.limit ≤ length p.seen) (sym e.2.part) (omega (arith, f.limit, ap (λ (x : LedgerTerms). x.limit) s.2)),
+      subst (λ (p : SeatHistory). Fresh leaf p.seen) (sym e.2.part) f.fresh,
     )

@@ -5,7 +5,7 @@ use Rattle.spec_trees.specs.declared.tree.Node.{Node}
 use Rattle.spec_trees.specs.declared.tree.Leaf.{Leaf}
 use Rattle.spec_trees.specs.declared.book.Booked.{Booked}
 use Rattle.spec_trees.specs.Tree.{Rules, IsLeaf, IsSound, IsValid}
-use Rattle.spec_pool.specs.declared.ledger.Part.{Part}
+use Rattle.spec_pool.specs.declared.ledger.SeatHistory.{SeatHistory}
 use Rattle.spec_pool.specs.declared.ledger.Entry.{Entry}
 use Rattle.spec_pool.specs.declared.ledger.Entry.TheVariants.{Entered, Again, Full, Memory}
 use Rattle.spec_pool.specs.History.{Entering, Fresh, Tells, booked}
@@ -19,7 +19,7 @@ use Rattle.steal_pool.specs.Seats.{IsLike, SameSeat, Seat, Works, account_of, en
 use Rattle.steal_pool.proofs.Accounts.{Worked, entered_weigh, entered_weight, enter_works, idle_works, split_works, works_more}
 
 -- ---- entering
-module _ (limit : ℕ) (leaf : Leaf) (p q : Part) (r : Entry) (m : Entering limit leaf p q r) where
+module _ (limit : ℕ) (leaf : Leaf) (p q : SeatHistory) (r : Entry) (m : Entering limit leaf p q r) where
   told : (x : Entry) → r ≡ x → Tells limit m.log (booked leaf p.number) p q x
   told x e = subst (λ (y : Entry). Tells limit m.log (booked leaf p.number) p q y) e m.tells
 
@@ -32,22 +32,22 @@ module _ (limit : ℕ) (leaf : Leaf) (p q : Part) (r : Entry) (m : Entering limi
       let t = told (Again place) e in omega (arith, ap (entered_weight h) t.1, weigh-push h p.again leaf)
 
   pub full_same : r ≡ Full → (q.mine ≡ p.mine) × (q.again ≡ p.again)
-  full_same e = let t = told Full e in (ap (λ (x : Part). x.mine) t.2, ap (λ (x : Part). x.again) t.2)
+  full_same e = let t = told Full e in (ap (λ (x : SeatHistory). x.mine) t.2, ap (λ (x : SeatHistory). x.again) t.2)
 
   pub full_seen : r ≡ Full → (limit ≤ length q.seen) × Fresh leaf q.seen
   full_seen e =
       let t = told Full e in
-      let seen : q.seen ≡ m.log = ap (λ (x : Part). x.seen) t.2 in
+      let seen : q.seen ≡ m.log = ap (λ (x : SeatHistory). x.seen) t.2 in
       (subst (λ (l : List Booked). limit ≤ length l) (sym seen) t.1, subst (λ (l : List Booked). Fresh leaf l) (sym seen) t.0)
 
   pub memory_same : r ≡ Memory → (q.mine ≡ p.mine) × (q.again ≡ p.again)
-  memory_same e = let t = told Memory e in (ap (λ (x : Part). x.mine) t, ap (λ (x : Part). x.again) t)
+  memory_same e = let t = told Memory e in (ap (λ (x : SeatHistory). x.mine) t, ap (λ (x : SeatHistory). x.again) t)
 
-pub leaf_works : (t : Rules) (w v : Holder) (p q : Part) (leaf : Leaf) → IsSound t → IsLeaf t leaf → w.hand ≡ Some leaf.node → v ≡ with_hand w None → ((h : Leaf → ℕ) → entered_weight h q ≡ entered_weight h p + h leaf) → Worked t w p v q
+pub leaf_works : (t : Rules) (w v : Holder) (p q : SeatHistory) (leaf : Leaf) → IsSound t → IsLeaf t leaf → w.hand ≡ Some leaf.node → v ≡ with_hand w None → ((h : Leaf → ℕ) → entered_weight h q ≡ entered_weight h p + h leaf) → Worked t w p v q
 leaf_works t w v p q leaf sound is hand e more = enter_works t w v p q leaf.node leaf.mark sound is.valid is.marked hand e more
 
 -- entering is the step of the model of the pool
-pub leaf_enters : (t : Rules) (w v : Holder) (p q : Part) (leaf : Leaf) → IsLeaf t leaf → w.hand ≡ Some leaf.node → v ≡ with_hand w None → ((h : Leaf → ℕ) → entered_weight h q ≡ entered_weight h p + h leaf)
+pub leaf_enters : (t : Rules) (w v : Holder) (p q : SeatHistory) (leaf : Leaf) → IsLeaf t leaf → w.hand ≡ Some leaf.node → v ≡ with_hand w None → ((h : Leaf → ℕ) → entered_weight h q ≡ entered_weight h p + h leaf)
     → (b : Account) × EntersNode t (account_of w p) b × IsLike b (account_of v q)
 leaf_enters t w v p q leaf is hand e more = (
   record { hand = None; kept = w.kept; put = w.own.view.put; taken = taken_by w; entered = entered_by p ++ leaf ∷ [] },
@@ -61,11 +61,11 @@ leaf_enters t w v p q leaf is hand e more = (
   },
 )
 
-pub same_works : (t : Rules) (w : Holder) (p q : Part) → (q.mine ≡ p.mine) × (q.again ≡ p.again) → Worked t w p w q
+pub same_works : (t : Rules) (w : Holder) (p q : SeatHistory) → (q.mine ≡ p.mine) × (q.again ≡ p.again) → Worked t w p w q
 same_works t w p q e = idle_works t w p w q refl refl refl refl e.0 e.1
 
 -- ---- putting a right part away
-pub push_works : (t : Rules) (w v : Holder) (p : Part) (left right : Node) → IsSound t → ((n : Node) → w.hand ≡ Some n → IsValid t n) → IsSplit t w left right
+pub push_works : (t : Rules) (w v : Holder) (p : SeatHistory) (left right : Node) → IsSound t → ((n : Node) → w.hand ≡ Some n → IsValid t n) → IsSplit t w left right
     → (r : Pushed) → (r ≡ P.OnDeque → v ≡ on_deque w left right) → (r ≡ P.Kept → v ≡ on_stack w left right) → ((n : Node) → r ≡ P.Memory n → (n ≡ right) × (v ≡ w)) → Worked t w p v p
 push_works t w v p left right sound valid split P.OnDeque deque kept memory = split_works t w v p left right sound valid split (inl (deque refl))
 push_works t w v p left right sound valid split P.Kept deque kept memory = split_works t w v p left right sound valid split (inr (kept refl))

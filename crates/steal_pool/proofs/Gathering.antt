@@ -7,7 +7,7 @@ use Rattle.spec_pool.proofs.Finding.{nodes_permuted}
 use Rattle.spec_pool.proofs.Weights.{weigh, weigh-append, weigh-set}
 use Rattle.steal_pool.specs.Rule.{DequeId, End}
 use Rattle.steal_pool.specs.Workers.{Holder}
-use Rattle.steal_pool.specs.Seats.{Seat, Ways, place_of, ways, with_worker}
+use Rattle.steal_pool.specs.Seats.{Seat, SeatLinks, place_of, ways, with_worker}
 use Rattle.steal_pool.specs.Pools.{AreLinked, Linked, taken_of, ways_of_all}
 use Rattle.steal_pool.specs.Stealers.{GivesStealer, HasNoStealer, HasNoStealerAt, Joined, JoinsLast, NoStealerBefore, joined, lasting, lasting_of}
 use Rattle.steal_pool.proofs.Accounts.{taken_weight}
@@ -15,7 +15,7 @@ use Rattle.steal_pool.proofs.Together.{taken_of_weigh, taken_sum}
 use Rattle.steal_pool.proofs.Linking.{linked_less, owner_has, owner_is}
 use Rattle.steal_pool.proofs.Listing.{keep_each, map_at, map_from, map_keep, map_length, map_push, map_set, one_some, set_same, length_push, within}
 
-abbrev seen : Seat → Ways
+abbrev seen : Seat → SeatLinks
 seen s = ways s.worker
 
 pub joined_self : (ss : List Seat) → Joined ss ss
@@ -32,7 +32,7 @@ module _ (ss : List Seat) (i : ℕ) (s s' : Seat) (e : End) (at : slice_get ss i
   abbrev mid : List Seat
   mid = slice_set ss i s'
 
-  abbrev given : List Ways
+  abbrev given : List SeatLinks
   given = slice_set (ways_of_all ss) i (seen s')
 
   mid_ways : ways_of_all mid ≡ given
@@ -53,12 +53,12 @@ module _ (ss : List Seat) (i : ℕ) (s s' : Seat) (e : End) (at : slice_get ss i
   pub owner_within : e.worker < length mid
   owner_within =
       let o = owner_is (ways_of_all ss) i (seen s) (seen s') (seen s) (seen s) (place_of e) giver s_own s_made s_others linked in
-      let f = map_from seen mid e.worker o.0 (ap (λ (ws : List Ways). slice_get ws e.worker) mid_ways ∙ o.1) in
+      let f = map_from seen mid e.worker o.0 (ap (λ (ws : List SeatLinks). slice_get ws e.worker) mid_ways ∙ o.1) in
       within mid e.worker f.0 f.1
 
   module _ (r : Seat) (owner : slice_get mid e.worker ≡ Some r) where
     owner_at : slice_get given (place_of e).0 ≡ Some (seen r)
-    owner_at = ap (λ (ws : List Ways). slice_get ws e.worker) (sym mid_ways) ∙ map_at seen mid e.worker r owner
+    owner_at = ap (λ (ws : List SeatLinks). slice_get ws e.worker) (sym mid_ways) ∙ map_at seen mid e.worker r owner
 
     pub owner_fits : (e.deque ≡ r.worker.own.deque) × (0 < r.worker.own.view.made)
     owner_fits =
@@ -67,7 +67,7 @@ module _ (ss : List Seat) (i : ℕ) (s s' : Seat) (e : End) (at : slice_get ss i
 
     pub less_linked : AreLinked (slice_set mid e.worker (joined r e))
     less_linked =
-        let all : ways_of_all (slice_set mid e.worker (joined r e)) ≡ slice_set given e.worker (seen (joined r e)) = map_set seen mid e.worker (joined r e) ∙ ap (λ (ws : List Ways). slice_set ws e.worker (seen (joined r e))) mid_ways in
+        let all : ways_of_all (slice_set mid e.worker (joined r e)) ≡ slice_set given e.worker (seen (joined r e)) = map_set seen mid e.worker (joined r e) ∙ ap (λ (ws : List SeatLinks). slice_set ws e.worker (seen (joined r e))) mid_ways in
         subst Linked (sym all) (linked_less (ways_of_all ss) i (seen s) (seen s') (seen r) (seen (joined r e)) (place_of e) giver s_own s_made s_others linked owner_at refl refl refl)
 
 -- ---- in the words of the code: seat i was read as the default d or another, its stealer named seat j

@@ -12,8 +12,8 @@ use Rattle.spec_trees.specs.declared.tree.Mark.{Mark}
 use Rattle.spec_trees.specs.Tree.{Covers, Rules, IsSound, IsValid, leaf_count, leaves, leaves_within, mark_of, width}
 use Rattle.spec_trees.specs.Order.{CoverRoot, ordered_leaves}
 use Rattle.spec_trees.proofs.Covering.{leaves_cover}
-use Rattle.spec_pool.specs.declared.ledger.Part.{Part}
-use Rattle.spec_pool.specs.declared.ledger.Terms.{Terms}
+use Rattle.spec_pool.specs.declared.ledger.SeatHistory.{SeatHistory}
+use Rattle.spec_pool.specs.declared.ledger.LedgerTerms.{LedgerTerms}
 use Rattle.spec_pool.specs.History.{FitsPart, Lies, Sound}
 use Rattle.span_ledger.specs.declared.desk.LedgerSeat.{LedgerSeat}
 use Rattle.span_ledger.specs.declared.desk.SpanLedger.{SpanLedger}
@@ -37,7 +37,7 @@ pub begin_free : (ledger : SpanLedger) (root : Node) (ss : List Seat) → AllBeg
 begin_free ledger root ss b = all_each (λ (s : Seat). s.refusal ≡ None) ss (λ k s at. (b k s at).refusal)
 
 seat_at : (ledger : SpanLedger) (k : ℕ) (hand : Option Node) (s q : Seat) → Begins ledger k hand s → SameSeat s q → IsSeatAt ledger k q
-seat_at ledger k hand s q b same = (same.table ∙ b.table, same.terms ∙ b.terms, same.number ∙ ap (λ (p : Part). p.number) b.part)
+seat_at ledger k hand s q b same = (same.table ∙ b.table, same.terms ∙ b.terms, same.number ∙ ap (λ (p : SeatHistory). p.number) b.part)
 
 pub same_seats : (ledger : SpanLedger) (root : Node) (ss qs : List Seat) → AllBegin ledger root ss → AllZip SameSeat ss qs → AreSeatsOf ledger qs
 same_seats ledger root ss qs b z k q at =
@@ -88,7 +88,7 @@ flat_map-map : {A B C : Type 0} (g : A → B) (f : B → List C) (xs : List A) �
 flat_map-map g f [] = refl
 flat_map-map g f (x ∷ xs) = ap (λ l. f (g x) ++ l) (flat_map-map g f xs)
 
-abbrev parts : List LedgerSeat → List Part
+abbrev parts : List LedgerSeat → List SeatHistory
 parts es = map part es
 
 map_length : {A B : Type 0} (f : A → B) (xs : List A) → length (map f xs) ≡ length xs
@@ -103,7 +103,7 @@ fit_parts : (log : List Booked) (es : List LedgerSeat) → AllByRecursion (λ e.
 fit_parts log [] f = tt
 fit_parts log (e ∷ es) f = (f.0, fit_parts log es f.1)
 
-seat_below : (t : Terms) (log : List Booked) → ((i : ℕ) (e : Booked) → get_elem? log i ≡ M.some e → Lies t e) → AllByRecursion (λ e. e.seat < t.seats) log
+seat_below : (t : LedgerTerms) (log : List Booked) → ((i : ℕ) (e : Booked) → get_elem? log i ≡ M.some e → Lies t e) → AllByRecursion (λ e. e.seat < t.seats) log
 seat_below t [] f = tt
 seat_below t (e ∷ es) f = ((f 0 e refl).seat, seat_below t es (λ i x at. f (suc i) x at))
 
@@ -126,7 +126,7 @@ module _ (ledger : SpanLedger) (log : List Booked) (es : List LedgerSeat) (all :
 
   pub closed_once : (t : Rules) → IsSound t → (root : Node) → IsValid t root → HaveEntered t root es → EnteredOnce es
   closed_once t s root v h =
-      sym (flat_map-map part (λ (p : Part). p.again) es)
+      sym (flat_map-map part (λ (p : SeatHistory). p.again) es)
       ∙ book_once t s root v log (parts es) numbers fits below (subst (λ ls. IsPermutation ls (leaves t root)) entered_parts h)
 
   seen_parts : (k : ℕ) (e : LedgerSeat) → slice_get es k ≡ Some e → FitsPart log (part e)
@@ -188,14 +188,14 @@ module _ (t : Rules) (root : Node) (ledger : SpanLedger) (ss : List Seat) (seats
   ended_full (Err Memory) b f o = tt
   ended_full (Err (TooMany es leaf)) b f o =
       let of = seats f.0 f.1 f.3 in
-      (come_back ledger ss seats count es.items b, (o, (f.0, f.2, f.4, omega (arith, ap (λ (x : Terms). x.limit) of.1, f.5))))
+      (come_back ledger ss seats count es.items b, (o, (f.0, f.2, f.4, omega (arith, ap (λ (x : LedgerTerms). x.limit) of.1, f.5))))
 
 -- ---- the answer
 pub leaves_ok : (t r : Rules) (root : Node) → t ≡ rules_within r root → (x : Result Book PoolError) → IfOk x (λ b. ordered_leaves b.entries.items ≡ leaves t root) → IfOk x (λ b. ordered_leaves b.entries.items ≡ leaves r root)
 leaves_ok t r root e (Ok b) is = is ∙ leaves_named t r root e
 leaves_ok t r root e (Err x) is = tt
 
-pub count_named : (t r : Rules) (root : Node) (terms : Terms) (limit : ℕ) → t ≡ rules_within r root → terms.limit ≡ limit → terms.limit < leaf_count t root → limit < leaf_count r root
+pub count_named : (t r : Rules) (root : Node) (terms : LedgerTerms) (limit : ℕ) → t ≡ rules_within r root → terms.limit ≡ limit → terms.limit < leaf_count t root → limit < leaf_count r root
 count_named t r root terms limit e is more = omega (arith, is, more, ap length (leaves_named t r root e))
 
 pub cover_ok : (r : Rules) (root : Node) → IsSound r → IsValid r root → (x : Result Book PoolError) → IfOk x (λ b. ordered_leaves b.entries.items ≡ leaves r root) → IfOk x (λ b. CoverRoot root b.entries.items)

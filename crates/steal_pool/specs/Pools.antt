@@ -16,24 +16,24 @@ use Rattle.steal_pool.specs.declared.finishing.FinishError.TheVariants.{TooMany,
 use Rattle.steal_pool.specs.declared.seat.Stop.TheVariants.{Memory as OutOfMemory}
 use Rattle.steal_pool.specs.Rule.{DequeId}
 use Rattle.steal_pool.specs.Workers.{taken_by}
-use Rattle.steal_pool.specs.Seats.{IsNamed, Seat, Ways, account, entered_by, ways}
+use Rattle.steal_pool.specs.Seats.{IsNamed, Seat, SeatLinks, account, entered_by, ways}
 
 -- ---- the stealers
-abbrev pub ways_of_all : List Seat → List Ways
+abbrev pub ways_of_all : List Seat → List SeatLinks
 ways_of_all ss = map (λ s. ways s.worker) ss
 
 -- a stealer is on the deque of the worker that it names
-abbrev pub IsOwned : List Ways → ℕ × DequeId → Type 0
-IsOwned ws stealer = (w : Ways) × (slice_get ws stealer.0 ≡ Some w) × (w.own ≡ stealer)
+abbrev pub IsOwned : List SeatLinks → ℕ × DequeId → Type 0
+IsOwned ws stealer = (w : SeatLinks) × (slice_get ws stealer.0 ≡ Some w) × (w.own ≡ stealer)
 
 -- how many of a worker's stealers are on the deque of worker k
-abbrev pub stealers_on : ℕ → Ways → ℕ
+abbrev pub stealers_on : ℕ → SeatLinks → ℕ
 stealers_on k w = sum_by (λ stealer. if stealer.0 == k then 1 else 0) w.others
 
 -- each stealer is on the deque of the worker that it names, and each owner has made as many stealers as there are on its deque
-pub record Linked (ws : List Ways) : Type 0 where
+pub record Linked (ws : List SeatLinks) : Type 0 where
   pub owned : AllByRecursion (λ w. AllByRecursion (IsOwned ws) w.others) ws
-  pub counted : (k : ℕ) (w : Ways) → slice_get ws k ≡ Some w → w.made ≡ sum_by (stealers_on k) ws
+  pub counted : (k : ℕ) (w : SeatLinks) → slice_get ws k ≡ Some w → w.made ≡ sum_by (stealers_on k) ws
 
 abbrev pub AreLinked : List Seat → Type 0
 AreLinked ss = Linked (ways_of_all ss)

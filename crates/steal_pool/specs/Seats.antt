@@ -4,8 +4,8 @@ use Rattle.atomic_table.specs.Seated.{TableId}
 use Rattle.spec_trees.specs.declared.tree.Node.{Node}
 use Rattle.spec_trees.specs.declared.tree.Leaf.{Leaf}
 use Rattle.spec_trees.specs.Tree.{IsValid, Rules, leaves, mark_of}
-use Rattle.spec_pool.specs.declared.ledger.Part.{Part}
-use Rattle.spec_pool.specs.declared.ledger.Terms.{Terms}
+use Rattle.spec_pool.specs.declared.ledger.SeatHistory.{SeatHistory}
+use Rattle.spec_pool.specs.declared.ledger.LedgerTerms.{LedgerTerms}
 use Rattle.spec_pool.specs.History.{Fresh}
 use Rattle.spec_pool.specs.Accounts.{Account, Balances, TakesNode, TakesTop}
 use Rattle.steal_pool.specs.declared.seat.PoolError.{PoolError}
@@ -22,12 +22,12 @@ rules_within t root = record { first = root.a; last = root.b; deepest = t.deepes
 -- the worker, its part of the ledger's history, the table and the terms of the ledger, and why it stopped
 pub record Seat : Type 0 where
   pub worker : Holder
-  pub part : Part
+  pub part : SeatHistory
   pub table : TableId
-  pub terms : Terms
+  pub terms : LedgerTerms
   pub refusal : Option Stop
 
-abbrev pub seat_of : Holder → Part → TableId → Terms → Option Stop → Seat
+abbrev pub seat_of : Holder → SeatHistory → TableId → LedgerTerms → Option Stop → Seat
 seat_of worker part table terms refusal =
     record { worker = worker; part = part; table = table; terms = terms; refusal = refusal }
 
@@ -42,10 +42,10 @@ IsHolding s = (n : Node) × (s.worker.hand ≡ Some n)
 
 -- ---- its account
 -- the leaves for which the ledger answered that they are entered now, and that they stood already
-abbrev pub entered_by : Part → List Leaf
+abbrev pub entered_by : SeatHistory → List Leaf
 entered_by p = map (λ e. e.leaf) p.mine ++ p.again
 
-abbrev pub account_of : Holder → Part → Account
+abbrev pub account_of : Holder → SeatHistory → Account
 account_of w p = record { hand = w.hand; kept = w.kept; put = w.own.view.put; taken = taken_by w; entered = entered_by p }
 
 abbrev pub account : Seat → Account
@@ -77,15 +77,15 @@ abbrev pub place_of : End → ℕ × DequeId
 place_of e = (e.worker, e.deque)
 
 -- its deque, the stealers on it that it made and did not join, and the deques that its own stealers are of
-pub record Ways : Type 0 where
+pub record SeatLinks : Type 0 where
   pub own : ℕ × DequeId
   pub made : ℕ
   pub others : List (ℕ × DequeId)
 
-abbrev pub ways_of : ℕ × DequeId → ℕ → List (ℕ × DequeId) → Ways
+abbrev pub ways_of : ℕ × DequeId → ℕ → List (ℕ × DequeId) → SeatLinks
 ways_of own made others = record { own = own; made = made; others = others }
 
-abbrev pub ways : Holder → Ways
+abbrev pub ways : Holder → SeatLinks
 ways w = ways_of (place_of w.own) w.own.view.made (map place_of w.stealers)
 
 -- the same ways, ledger and number
@@ -126,7 +126,7 @@ abbrev pub IsNamed : Rules → Rules → Node → Type 0
 IsNamed t r root = (t ≡ rules_within r root) × IsValid r root
 
 -- a seat that has done nothing yet, with this in its hand
-abbrev pub NewSeat : Part → TableId → Terms → Option Node → Seat → Type 0
+abbrev pub NewSeat : SeatHistory → TableId → LedgerTerms → Option Node → Seat → Type 0
 NewSeat part table terms hand s =
     IsNew part.number hand s.worker × (s.part ≡ part) × (s.table ≡ table) × (s.terms ≡ terms) × (s.refusal ≡ None)
 

@@ -4,7 +4,7 @@ use Rattle.spec_trees.specs.declared.tree.Node.{Node}
 use Rattle.spec_trees.specs.declared.tree.Verdict.TheVariants.{Split}
 use Rattle.spec_trees.specs.Tree.{Rules, IsValid}
 use Rattle.steal_pool.specs.Rule.{AreValid, End, IsOldest, IsUsedUp, end_of, joined_one, made_one, opening, stealer_out, takes_one, with_put, with_view}
-use Rattle.steal_pool.specs.declared.view.View.{View}
+use Rattle.steal_pool.specs.declared.view.DequeView.{DequeView}
 
 -- the end of its own deque, its stealers of the other deques, how many nodes it put on its own since a pop of its own
 -- last gave nothing, the node in its hand, and its local stack with the top last
@@ -81,7 +81,7 @@ abbrev pub FindsNone : Holder → Holder → Type 0
 FindsNone w v = (w.kept ≡ []) × IsUsedUp w.own.view × (v ≡ after_empty_pop w)
 
 -- ---- stealers
-abbrev pub with_own : Holder → View → Holder
+abbrev pub with_own : Holder → DequeView → Holder
 with_own w v = holder_of (with_view w.own v) w.stealers w.pushed_in_a_row w.hand w.kept
 
 abbrev pub with_stealers : Holder → List End → Holder

@@ -31,7 +31,7 @@ pub use making::make;
 pub use running::run;
 pub use seat::{PoolError, PoolSeat, Stop};
 pub use stealer::Stealer;
-pub use view::{Naming, View};
+pub use view::{DequeView, Naming};
 pub use worker::Pushed;
 
 #[cfg(test)]

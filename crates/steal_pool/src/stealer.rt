@@ -4,7 +4,7 @@ ghost use Rattle.spec_trees.specs.Tree.{IsValid};
 ghost use Rattle.crossbeam_deque.specs.Steals.{MatchSteal};
 ghost use Rattle.steal_pool.specs.Rule.{takes_one};
 
-use crate::view::{Balance, Naming, Steals, View};
+use crate::view::{Balance, DequeView, Naming, Steals};
 use crossbeam_deque::{Pass, Steal, Stealer as Reader};
 use spec_trees::Node;
 use std::alloc::Global;
@@ -14,8 +14,8 @@ use std::marker::Model;
 #[derive(Drop)]
 pub struct Stealer<N: Naming> {
     pub(crate) number: u32,
-    pub(crate) reader: Reader<Node, Global, View, Balance<N>>,
-    pub(crate) pass: Pass<Node, View>,
+    pub(crate) reader: Reader<Node, Global, DequeView, Balance<N>>,
+    pub(crate) pass: Pass<Node, DequeView>,
 }
 
 impl<N: Naming> Model for Stealer<N> {

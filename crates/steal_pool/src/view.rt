@@ -22,7 +22,7 @@ impl Naming for Brand {
 /// What an end of a deque knows: whether it is its owner's (1 or 0), how many stealers the owner has made and not joined,
 /// whether it is such a stealer (1 or 0), and the nodes that were put and taken by it. Contracts alone speak of it; no
 /// value of it is made.
-pub struct View {
+pub struct DequeView {
     pub owner: u64,
     pub made: u64,
     pub out: u64,
@@ -35,7 +35,7 @@ pub struct Balance<N> {
     of: PhantomData<N>,
 }
 
-impl<N: Naming> Protocol<Node, View> for Balance<N> {
+impl<N: Naming> Protocol<Node, DequeView> for Balance<N> {
     ghost use Rattle.steal_pool.specs.Rule.{Balanced, opening, spent};
 
     ghost holds = { Balanced N.rules };
@@ -48,7 +48,7 @@ impl<N: Naming> Protocol<Node, View> for Balance<N> {
 /// A push of the owner.
 pub struct Puts;
 
-impl Outcome<Node, View> for Puts {
+impl Outcome<Node, DequeView> for Puts {
     ghost use Rattle.std.specs.Prelude.{◌≡◌};
     ghost use Rattle.steal_pool.specs.Rule.{with_put};
 
@@ -61,7 +61,7 @@ pub struct Takes<N> {
     of: PhantomData<N>,
 }
 
-impl<N: Naming> Outcome<Node, View> for Takes<N> {
+impl<N: Naming> Outcome<Node, DequeView> for Takes<N> {
     ghost use Rattle.steal_pool.specs.Rule.{OwnerTakes, IsUsedUp};
 
     ghost then = { OwnerTakes N.rules };
@@ -74,16 +74,16 @@ pub struct Steals<N> {
     of: PhantomData<N>,
 }
 
-impl<N: Naming> Outcome<Node, View> for Steals<N> {
+impl<N: Naming> Outcome<Node, DequeView> for Steals<N> {
     ghost use Rattle.steal_pool.specs.Rule.{HasTaken};
 
     ghost then = { HasTaken N.rules };
 }
 
 /// Making a stealer, and joining it.
-pub struct Ways;
+pub struct StealerSplits;
 
-impl Split<View> for Ways {
+impl Split<DequeView> for StealerSplits {
     ghost use Rattle.steal_pool.specs.Rule.{made_one, stealer_out};
 
     ghost left = { made_one };
@@ -91,7 +91,7 @@ impl Split<View> for Ways {
     ghost right = { λ v. stealer_out };
 }
 
-impl Join<View> for Ways {
+impl Join<DequeView> for StealerSplits {
     ghost use Rattle.steal_pool.specs.Rule.{joined_one, spent as nothing};
 
     ghost both = { joined_one };

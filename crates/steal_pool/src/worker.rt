@@ -7,7 +7,7 @@ ghost use Rattle.steal_pool.specs.Workers.{FindsNone, IsNew, IsSplit, TookOne, T
 ghost use Rattle.steal_pool.specs.declared.worker.Pushed.TheVariants.{OnDeque, Kept, Memory as OutOfMemory};
 
 use crate::stealer::{Attempts, Stealer};
-use crate::view::{Balance, Naming, Puts, Takes as TakesFront, View, Ways};
+use crate::view::{Balance, DequeView, Naming, Puts, StealerSplits, Takes as TakesFront};
 use crossbeam_deque::Worker as Deque;
 use spec_pool::Memory;
 use spec_trees::Node;
@@ -30,7 +30,7 @@ pub enum Pushed {
 #[derive(Drop)]
 pub struct Worker<N: Naming> {
     number: u32,
-    deque: Deque<Node, Global, View, Balance<N>>,
+    deque: Deque<Node, Global, DequeView, Balance<N>>,
     stealers: Vec<Stealer<N>>,
     pushed_in_a_row: usize,
     hand: Option<Node>,
@@ -77,7 +77,7 @@ impl<N: Naming> Worker<N> {
         requires hand { (n : Node) → hand ≡ Some n → IsValid N.rules n }
         ensures new { IfOk result (λ w. IsNew number hand w) }
     {
-        let deque = Deque::<Node, Global, View, Balance<N>>::fifo_as(alloc, ROOM)?;
+        let deque = Deque::<Node, Global, DequeView, Balance<N>>::fifo_as(alloc, ROOM)?;
         Ok(Worker {
             number,
             deque,
@@ -229,7 +229,7 @@ impl<N: Naming> Worker<N> {
         ensures stealer { IfOk result (λ e. e ≡ new_stealer self.old) }
     {
         let reader = self.deque.stealer()?;
-        let pass = self.deque.another::<Ways>();
+        let pass = self.deque.another::<StealerSplits>();
         Ok(Stealer {
             number: self.number,
             reader,
@@ -261,7 +261,7 @@ impl<N: Naming> Worker<N> {
         requires made { 0 < self.old.own.view.made }
         ensures joined { self.new ≡ joins self.old stealer }
     {
-        self.deque.absorb::<Ways>(stealer.pass);
+        self.deque.absorb::<StealerSplits>(stealer.pass);
     }
 
     /// Pops its own deque for the last time. Where no stealer is out, what was put there is what was taken, and after it,

@@ -1,5 +1,5 @@
 use Rattle.std.proofs.Common.{ap, sym, ◌∙◌}
-use Rattle.spec_pool.specs.declared.ledger.Terms.{Terms}
+use Rattle.spec_pool.specs.declared.ledger.LedgerTerms.{LedgerTerms}
 use Rattle.span_ledger.specs.Seats.{terms}
 use Rattle.steal_pool.proofs.Returning.{count_named, ended_full, ended_ok, leaves_ok}
 use Rattle.steal_pool.proofs.Within.{named_sound}
@@ -11,13 +11,13 @@ book_of-requires-clause-sound g c = named_sound g.N.Naming.rules (g.J.Judge.rule
 pub book_of-requires-clause-ok : goal.book_of-requires-clause-ok
 book_of-requires-clause-ok g c =
     ended_ok g.N.Naming.rules c.args.root c.in-Ok.ledger c.in-Ok-worked.seats.items c.in-Ok-worked.ensures.seats
-    (c.in-Ok-worked.ensures.count ∙ c.in-Ok.ensures.count ∙ sym (ap (λ (t : Terms). t.seats) c.in-Ok.ensures.terms))
+    (c.in-Ok-worked.ensures.count ∙ c.in-Ok.ensures.count ∙ sym (ap (λ (t : LedgerTerms). t.seats) c.in-Ok.ensures.terms))
     c.finish-ended.result c.finish-ended.ensures.back (c.finish-ended.ensures.leaves c.args.root c.in-Ok-worked.ensures.account)
 
 pub book_of-requires-clause-full : goal.book_of-requires-clause-full
 book_of-requires-clause-full g c =
     ended_full g.N.Naming.rules c.args.root c.in-Ok.ledger c.in-Ok-worked.seats.items c.in-Ok-worked.ensures.seats
-    (c.in-Ok-worked.ensures.count ∙ c.in-Ok.ensures.count ∙ sym (ap (λ (t : Terms). t.seats) c.in-Ok.ensures.terms))
+    (c.in-Ok-worked.ensures.count ∙ c.in-Ok.ensures.count ∙ sym (ap (λ (t : LedgerTerms). t.seats) c.in-Ok.ensures.terms))
     c.finish-ended.result c.finish-ended.ensures.too_many c.finish-ended.ensures.refused (c.finish-ended.ensures.left_over c.args.root c.in-Ok-worked.ensures.account)
 
 pub returns-clause-leaves : goal.returns-clause-leaves
@@ -25,4 +25,4 @@ returns-clause-leaves g c = leaves_ok g.N.Naming.rules (g.J.Judge.rules c.args.j
 
 pub returns-clause-too_many : goal.returns-clause-too_many
 returns-clause-too_many g c = λ e.
-    count_named g.N.Naming.rules (g.J.Judge.rules c.args.judge.now) c.args.root (terms c.in-Ok.ledger) c.args.limit c.requires.rules.0 (ap (λ (t : Terms). t.limit) c.in-Ok.ensures.terms) (c.book_of.ensures.too_many e)
+    count_named g.N.Naming.rules (g.J.Judge.rules c.args.judge.now) c.args.root (terms c.in-Ok.ledger) c.args.limit c.requires.rules.0 (ap (λ (t : LedgerTerms). t.limit) c.in-Ok.ensures.terms) (c.book_of.ensures.too_many e)

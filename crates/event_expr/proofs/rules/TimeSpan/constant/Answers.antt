@@ -11,12 +11,12 @@ wide-requires-clause-plain_within c = part-wide c.args.value c.requires.within
 
 pub wide-requires-clause-shared : goal.wide-requires-clause-shared
 wide-requires-clause-shared c =
-    shared-constant c.args.self.now.first c.args.self.now.last (sym c.is_wide.ensures ∙ c.if-is_wide.true) c.args.value c.zero.result c.zero.ensures c.requires.number
+    shared-constant c.args.self.now.first c.args.self.now.last (sym c.has_several.ensures ∙ c.if-has_several.true) c.args.value c.zero.result c.zero.ensures c.requires.number
 
-pub returns-then-is_wide : goal.returns-then-is_wide
+pub returns-then-has_several : goal.returns-then-has_several
 unfolding constant_of
-returns-then-is_wide c = rw c.zero.ensures at c.wide.ensures
+returns-then-has_several c = rw c.zero.ensures at c.wide.ensures
 
-pub returns-else-is_wide : goal.returns-else-is_wide
+pub returns-else-has_several : goal.returns-else-has_several
 unfolding constant_of
-returns-else-is_wide c = c.single.ensures _ _
+returns-else-has_several c = c.single.ensures _ _

@@ -19,12 +19,12 @@ wide-requires-clause-step_within c =
 
 pub wide-requires-clause-shared : goal.wide-requires-clause-shared
 wide-requires-clause-shared c =
-    rw (c.signed_square.ensures.equals, c.signed_square-mid.ensures.equals, c.mul-step.ensures.equals, c.twice_size.ensures) (shared-signed_square c.args.self.now.first c.args.self.now.last (sym c.is_wide.ensures ∙ c.if-is_wide.true) c.args.x c.requires.encloses)
+    rw (c.signed_square.ensures.equals, c.signed_square-mid.ensures.equals, c.mul-step.ensures.equals, c.twice_size.ensures) (shared-signed_square c.args.self.now.first c.args.self.now.last (sym c.has_several.ensures ∙ c.if-has_several.true) c.args.x c.requires.encloses)
 
-pub returns-then-is_wide : goal.returns-then-is_wide
+pub returns-then-has_several : goal.returns-then-has_several
 unfolding signed_square_of
-returns-then-is_wide c = rw (c.signed_square.ensures.equals, c.signed_square-mid.ensures.equals, c.mul-step.ensures.equals, c.twice_size.ensures) at c.wide.ensures
+returns-then-has_several c = rw (c.signed_square.ensures.equals, c.signed_square-mid.ensures.equals, c.mul-step.ensures.equals, c.twice_size.ensures) at c.wide.ensures
 
-pub returns-else-is_wide : goal.returns-else-is_wide
+pub returns-else-has_several : goal.returns-else-has_several
 unfolding signed_square_of
-returns-else-is_wide c = rw c.signed_square-mid.ensures.equals at (c.single.ensures (signed_square c.args.x.range) (product (twice_size c.args.x.range) c.args.x.step))
+returns-else-has_several c = rw c.signed_square-mid.ensures.equals at (c.single.ensures (signed_square c.args.x.range) (product (twice_size c.args.x.range) c.args.x.step))

@@ -5,8 +5,8 @@ use Rattle.event_expr.proofs.Steps.{sum-owes}
 use Rattle.event_expr.proofs.rules.TimeSpan.sum.Goals as goal
 
 pub wide-requires : goal.wide-requires
-wide-requires c = rw (c.add.ensures.equals, c.add-mid.ensures.equals, c.add-then-is_wide.ensures.equals) (sum-owes c.args.self.now.first c.args.self.now.last (sym c.is_wide.ensures ∙ c.if-is_wide.true) c.args.x c.args.y c.requires.x_within c.requires.y_within c.requires.x_encloses c.requires.y_encloses)
+wide-requires c = rw (c.add.ensures.equals, c.add-mid.ensures.equals, c.add-then-has_several.ensures.equals) (sum-owes c.args.self.now.first c.args.self.now.last (sym c.has_several.ensures ∙ c.if-has_several.true) c.args.x c.args.y c.requires.x_within c.requires.y_within c.requires.x_encloses c.requires.y_encloses)
 
-pub returns-else-is_wide : goal.returns-else-is_wide
+pub returns-else-has_several : goal.returns-else-has_several
 unfolding sum_of
-returns-else-is_wide c = rw c.add-mid.ensures.equals at (c.single.ensures (sum c.args.x.range c.args.y.range) (sum c.args.x.step c.args.y.step))
+returns-else-has_several c = rw c.add-mid.ensures.equals at (c.single.ensures (sum c.args.x.range c.args.y.range) (sum c.args.x.step c.args.y.step))

@@ -5,8 +5,8 @@ use Rattle.spec_motions.specs.Sums.{coefficient}
 use Rattle.spec_motions.proofs.GranuleSeries.{series_length}
 use Rattle.cheby_enclose.specs.Pairs.{term_of}
 use Rattle.cheby_enclose.proofs.TermLists.{ArePairs-axis, terms_of_axis}
-use Rattle.cheby_enclose.proofs.terms.Terms.of.Goals as goal
-use Rattle.cheby_enclose.proofs.terms.Terms.of.Goals.{Start}
+use Rattle.cheby_enclose.proofs.terms.AxisCoefficients.of.Goals as goal
+use Rattle.cheby_enclose.proofs.terms.AxisCoefficients.of.Goals.{Start}
 
 -- the pairs that are read are those of the axis
 terms_are : (c : Start) → let from = c.args.axis * c.args.g.now.n in

@@ -7,18 +7,9 @@ use crate::blocks::add_block;
 use crate::draws::Draws;
 use spec_generated::MAX_GENERATED;
 use std::alloc::{AllocError, Global};
-use thiserror::Error;
 
-/// Memory ran out.
-#[derive(Debug, Drop, Error)]
-#[error("out of memory")]
-pub struct Memory;
-
-impl From<AllocError> for Memory {
-    fn from(_: AllocError) -> Self {
-        Memory
-    }
-}
+/// Out of memory.
+pub type Memory = AllocError;
 
 // The lines before the blocks.
 fn header() -> &'static str

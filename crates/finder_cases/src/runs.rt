@@ -3,7 +3,7 @@ ghost use Rattle.std.specs.Prelude.{◌≡◌, ◌↔◌, IsTrue};
 
 use crate::cases::Case;
 use crate::devices::Device;
-use gf_edges::{Memory, MemoryShelf, MemorySink, OpenGate};
+use gf_edges::{MemoryShelf, MemorySink, OpenGate};
 use gf_find::finder;
 use std::alloc::{AllocError, Global};
 use std::sync::Wait;
@@ -58,15 +58,12 @@ fn shelf_of(alloc: Global, case: &Case<'_>) -> Result<MemoryShelf, AllocError> {
 // An output of a case. Of its room it has no more than a run that is right can fill, and some bytes to spare.
 fn sink_for(alloc: Global, device: &Device, expected: &[u8]) -> Result<MemorySink, AllocError> {
     let room = expected.len().saturating_add(SPARE_ROOM).min(device.room);
-    match MemorySink::new(
+    MemorySink::new(
         alloc,
         room,
         device.piece.max(1),
         device.failing.to_vec(alloc)?,
-    ) {
-        Ok(sink) => Ok(sink),
-        Err(Memory) => Err(AllocError),
-    }
+    )
 }
 
 /// Runs a case, by so many workers where their number is given.

@@ -5,18 +5,9 @@ use crate::calls::Calls;
 use crate::{Failed, Sink};
 use std::alloc::{AllocError, Global};
 use std::marker::Model;
-use thiserror::Error;
 
-/// Memory ran out.
-#[derive(Debug, Drop, Error)]
-#[error("out of memory")]
-pub struct Memory;
-
-impl From<AllocError> for Memory {
-    fn from(_: AllocError) -> Self {
-        Memory
-    }
-}
+/// Out of memory.
+pub type Memory = AllocError;
 
 /// A sink that keeps its bytes. Its calls are numbered from 1, and those whose numbers are listed fail.
 #[derive(Drop)]

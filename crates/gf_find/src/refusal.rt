@@ -4,16 +4,13 @@ use crate::statuses::{
     EVENT_REFUSED, FILES_REFUSED, NOT_READ, OUT_OF_MEMORY, SPAN_REFUSED, TOO_MANY_LEAVES,
     WORDS_REFUSED,
 };
-use eph_gen::Memory as TextMemory;
 use event_kinds::KindFault;
-use ordered_join::Memory as JoinMemory;
 use spec_faults::{BAD_VALUE, NO_COMMAND, UNKNOWN_COMMAND, WORDS};
 use spec_kinds::EventFault;
 use spec_requests::{Named, Text, WordFault};
 use spec_text::Fault;
 use std::alloc::AllocError;
 use steal_pool::PoolError;
-use window_text::Memory as ReportMemory;
 
 /// Why a run has nothing to write to its output.
 #[derive(Drop)]
@@ -112,17 +109,6 @@ impl From<PoolError> for Refusal {
     }
 }
 
-impl From<JoinMemory> for Refusal {
-    ghost use Rattle.std.specs.Prelude.{◌≡◌};
-    ghost use Rattle.gf_find.specs.declared.refusal.Refusal.TheVariants.{Memory};
-
-    ghost from_gives = { λ _ refusal. refusal ≡ Memory };
-
-    fn from(_: JoinMemory) -> Self {
-        Refusal::Memory
-    }
-}
-
 impl From<AllocError> for Refusal {
     ghost use Rattle.std.specs.Prelude.{◌≡◌};
     ghost use Rattle.gf_find.specs.declared.refusal.Refusal.TheVariants.{Memory};
@@ -130,28 +116,6 @@ impl From<AllocError> for Refusal {
     ghost from_gives = { λ _ refusal. refusal ≡ Memory };
 
     fn from(_: AllocError) -> Self {
-        Refusal::Memory
-    }
-}
-
-impl From<ReportMemory> for Refusal {
-    ghost use Rattle.std.specs.Prelude.{◌≡◌};
-    ghost use Rattle.gf_find.specs.declared.refusal.Refusal.TheVariants.{Memory};
-
-    ghost from_gives = { λ _ refusal. refusal ≡ Memory };
-
-    fn from(_: ReportMemory) -> Self {
-        Refusal::Memory
-    }
-}
-
-impl From<TextMemory> for Refusal {
-    ghost use Rattle.std.specs.Prelude.{◌≡◌};
-    ghost use Rattle.gf_find.specs.declared.refusal.Refusal.TheVariants.{Memory};
-
-    ghost from_gives = { λ _ refusal. refusal ≡ Memory };
-
-    fn from(_: TextMemory) -> Self {
         Refusal::Memory
     }
 }

@@ -76,10 +76,7 @@ fn blocks(alloc: Global, count: i64, row: &str) -> Result<Vec<u8>, AllocError> {
 fn sink(alloc: Global, room: usize, piece: usize, fails: u64) -> Result<MemorySink, AllocError>
     requires { 1 ≤ piece }
 {
-    match MemorySink::new(alloc, room, piece, [fails].to_vec(alloc)?) {
-        Ok(sink) => Ok(sink),
-        Err(_) => Err(AllocError),
-    }
+    MemorySink::new(alloc, room, piece, [fails].to_vec(alloc)?)
 }
 
 // What a run returned and wrote.

@@ -6,18 +6,9 @@ ghost use Rattle.spec_trees.specs.Order.{CoverRoot, book_windows, booked_leaves,
 use crate::joining::joined;
 use spec_trees::{Book, Booked, Leaf, Window};
 use std::alloc::{AllocError, Global};
-use thiserror::Error;
 
-/// Memory ran out.
-#[derive(Debug, Drop, Error)]
-#[error("out of memory")]
-pub struct Memory;
-
-impl From<AllocError> for Memory {
-    fn from(_: AllocError) -> Self {
-        Memory
-    }
-}
+/// Out of memory.
+pub type Memory = AllocError;
 
 /// The windows of a book's leaves, put in order of time. The leaves follow one another over the book's root, without
 /// gap or overlap, in whatever order they were entered. Times are seconds of TDB since J2000. The leaves are sorted

@@ -12,7 +12,7 @@ use Rattle.spec_ephemeris.specs.declared.header.Column.{Column}
 use Rattle.spec_ephemeris.specs.declared.header.Header.{Header}
 use Rattle.spec_ephemeris.specs.Header.{IsHeader, IsColumn, MeetsColumnRules}
 use Rattle.spec_ephemeris.specs.Series.{Series, argument_at, scaled, cleared_sum, position}
-use Rattle.spec_ephemeris.specs.Ephemeris.{Ephemeris, IsEphemeris}
+use Rattle.spec_ephemeris.specs.Ephemeris.{Ephemeris, IsEphemeris, end_of}
 use Rattle.spec_ephemeris.specs.Ticks.{IsInSeconds, IsSame, IsTick, header_in_ticks, in_ticks, series_in_ticks}
 
 -- ---- bounds
@@ -72,6 +72,11 @@ are_checked k e tick is seconds = record {
   whole = is.whole;
   bodies = λ block within number place c d column body takes there. is.bodies block within number place c d (own_column k e.header number c column) body takes there;
 }
+
+-- an ephemeris in ticks ends where it did
+pub end_in_ticks : (k : ℕ) (e : Ephemeris) → end_of (in_ticks k e) ≡ end_of e *ℤ pos k
+end_in_ticks k e =
+    ring (e.start ∷ pos e.blocks ∷ e.header.block_seconds ∷ pos k ∷ []) (v 0 ⊗ v 3 ⊕ v 1 ⊗ (v 2 ⊗ v 3)) ((v 0 ⊕ v 1 ⊗ v 2) ⊗ v 3) tt
 
 -- ---- positions
 -- T_k has the degree k

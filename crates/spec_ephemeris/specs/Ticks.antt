@@ -3,7 +3,7 @@ use Rattle.std.specs.Prelude.{◌≡◌, ℕ, ◌*◌, ◌≤◌, pos, ◌*ℤ�
 use Rattle.spec_ephemeris.specs.declared.header.Header.{Header}
 use Rattle.spec_ephemeris.specs.declared.limits.TheConstants.{FIRST_TIME, LAST_TIME, LONGEST_BLOCK, MAX_TICK}
 use Rattle.spec_intervals.specs.Fraction.{Fraction}
-use Rattle.spec_ephemeris.specs.Ephemeris.{Ephemeris}
+use Rattle.spec_ephemeris.specs.Ephemeris.{Ephemeris, end_of}
 use Rattle.spec_ephemeris.specs.Series.{Series}
 
 abbrev pub header_in_ticks : ℕ → Header → Header
@@ -15,11 +15,12 @@ abbrev pub in_ticks : ℕ → Ephemeris → Ephemeris
 in_ticks tick e =
     record { header = header_in_ticks tick e.header; start = e.start *ℤ pos tick; blocks = e.blocks; numbers = e.numbers }
 
--- its times are counted in seconds
+-- its times are counted in seconds, from Julian date 0 to Julian date 5,000,000
 pub record IsInSeconds (e : Ephemeris) : Type 0 where
   pub longest : e.header.block_seconds ≤ℤ LONGEST_BLOCK
   pub first : FIRST_TIME ≤ℤ e.start
   pub last : e.start ≤ℤ LAST_TIME
+  pub end : end_of e ≤ℤ LAST_TIME
 
 -- the ticks of a second: one, or as many as 1,000
 pub record IsTick (tick : ℕ) : Type 0 where

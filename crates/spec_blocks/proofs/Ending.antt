@@ -89,9 +89,9 @@ accepted_lies : (before : Ephemeris) (numbers : List Decimal) (start end : ℤ) 
 accepted_lies before numbers start end lies_before early late length rule = elim (cases_Bool (is_skipped before end)) [
   | inl passed ↦ rw passed lies_before
   | inr new ↦ rw new (λ some. (
-      begun_starts before start lies_before early,
-      more_ends before numbers start end late.1 length (holds_ok _ _ tt (rw new at rule) (no_gap (is_after_gap before start) (nat_lt before.blocks MAX_BLOCKS) _ _)),
-    ))
+    begun_starts before start lies_before early,
+    more_ends before numbers start end late.1 length (holds_ok _ _ tt (rw new at rule) (no_gap (is_after_gap before start) (nat_lt before.blocks MAX_BLOCKS) _ _)),
+  ))
 ]
 
 abbrev dates : Ephemeris → Result ℤ BrokenRule → Result ℤ BrokenRule → BrokenRule → Result (Unit {0}) BrokenRule

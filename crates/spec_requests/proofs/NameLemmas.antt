@@ -21,7 +21,7 @@ use Rattle.spec_requests.specs.declared.request.Named.{Named}
 use Rattle.spec_requests.specs.declared.request.Named.TheVariants as opt
 use Rattle.spec_requests.specs.declared.tables.CommandName.{CommandName}
 use Rattle.spec_requests.specs.declared.tables.CommandName.TheVariants as command
-use Rattle.spec_requests.specs.Names.{Table, Text, named, axes, axis_name, axis_of, bodies, body_name, command_name, command_of, commands, cut_name, cut_of, cuts, dir_name, dir_of, dirs, frame_name, frame_of, frames, kind_of, layout_of, layouts, observer_of, option_name, option_of, options}
+use Rattle.spec_requests.specs.Names.{Table, Text, named, axes, axis_name, axis_of, bodies, body_name, command_name, command_of, commands, cut_name, cut_of, cuts, dir_name, dir_of, dirs, frame_name, frame_of, frames, kind_of, layout_of, layouts, observer_of, option_name, option_of, options, tick_of_word, ticks}
 
 -- ---- a name is read
 
@@ -70,6 +70,14 @@ cuts_read cut.Third = refl
 pub layouts_read : layout_of (decimal 405) ≡ Some 405
 unfolding layout_of digits
 layouts_read = refl
+
+pub seconds_read : tick_of_word (decimal 1) ≡ Some 1
+unfolding tick_of_word digits
+seconds_read = refl
+
+pub milliseconds_read : tick_of_word (decimal 1000) ≡ Some 1000
+unfolding tick_of_word digits
+milliseconds_read = refl
 
 -- ---- no other word is
 
@@ -129,3 +137,7 @@ cut_words word x read = read_by_name cut_name cuts word x refl read
 pub layout_words : (word : Text) (x : ℕ) → layout_of word ≡ Some x → word ≡ decimal x
 unfolding layout_of digits
 layout_words word x read = read_by_name decimal layouts word x refl read
+
+pub tick_words : (word : Text) (x : ℕ) → tick_of_word word ≡ Some x → word ≡ decimal x
+unfolding tick_of_word digits
+tick_words word x read = read_by_name decimal ticks word x refl read

@@ -29,6 +29,7 @@ search_in file = record {
     dir = Any;
   };
   values = codes "0";
+  tick = 1;
   from = None;
   to = None;
   width = pos 1;

@@ -6,11 +6,13 @@ use Rattle.std.specs.List.{list_all}
 use Rattle.std.proofs.lemmas.Bool.{cases_Bool}
 use Rattle.std.proofs.lemmas.Bool.Decides.{nat_tests}
 use Rattle.std.proofs.lemmas.List.{append-nil, length-append}
+use Rattle.std.proofs.lemmas.Nat.{div_below, mod_below}
 use Rattle.std.proofs.Math.Seq.{take-append_seam, drop-append_seam}
 use Rattle.std.specs.Int.{int_div_euclid, int_rem_euclid}
 use Rattle.jiff_core.proofs.SignedLemmas.{signed_arith}
 use Rattle.spec_text.specs.Decimals.{value}
 use Rattle.spec_ephemeris.specs.declared.limits.TheConstants.{FIRST_TIME, LAST_TIME}
+use Rattle.spec_ephemeris.specs.Ticks.{IsTick}
 use Rattle.spec_times.specs.Calendar.{calendar_text, calendar_time, digits, is_between, is_calendar_time, time_of_calendar, time_text}
 use Rattle.spec_times.specs.TimeWords.{IsTime, are_time_digits, has_form, negated_of, shown, time_of, time_or_shown, time_shown, time_within, whole_of, whole_time, within_limits}
 use Rattle.spec_times.specs.declared.calendar.CalendarTime.{CalendarTime}
@@ -148,7 +150,7 @@ time_is_within c time h = elim (cases_Bool (int_lt c.year FIRST_YEAR || int_lt L
   | inr near ↦ let answer = within_is (time_of_calendar c) time (rw near at h) in subst IsTime answer.0 answer.1
 ]
 
-shown_is_within : (o : Option CalendarTime) (time : ℤ) → time_shown o ≡ Ok time → IsTime time
+pub shown_is_within : (o : Option CalendarTime) (time : ℤ) → time_shown o ≡ Ok time → IsTime time
 shown_is_within None time h = absurd (cc)
 shown_is_within (Some c) time h = elim (cases_Bool (is_calendar_time c)) [
   | inl is ↦ time_is_within c time (rw is at h)
@@ -175,3 +177,20 @@ word_of_second word = by (whole_time word)
     by : (o : Option ℤ) → tick_or_shown 1 word o ≡ time_or_shown word o
     by None = by_shown (time_shown (shown word)) refl
     by (Some second) = ap within_limits (times_one second)
+
+-- ---- the second of a time in ticks
+pub second_within : (k : ℕ) (t : ℤ) → IsTick k → IsTimeIn k t → IsTime (second_of k t)
+second_within k (pos n) tick is =
+    let high = is.high in
+    let few : n < 220186512001 * k = omega (arith, signed_arith, tick.some, high) in
+    let below = div_below n k 220186512001 tick.some few in
+    record { low = omega (arith, signed_arith); high = omega (arith, signed_arith, below) }
+second_within k (negsuc n) tick is =
+    let low = is.low in
+    let few : n < 211813488000 * k = omega (arith, signed_arith, low) in
+    let below = div_below n k 211813488000 tick.some few in
+    record { low = omega (arith, signed_arith, below); high = omega (arith, signed_arith) }
+
+pub past_within : (k : ℕ) (t : ℤ) → 0 < k → past_second k t < k
+past_within k (pos n) some = mod_below n k some
+past_within k (negsuc n) some = let below = mod_below n k some in omega (arith, below)

@@ -1,4 +1,4 @@
-use Rattle.spec_requests.proofs.NameLemmas.{axis_words, body_words, command_words, cut_words, dir_words, frame_words, kind_words, layout_words, option_words}
+use Rattle.spec_requests.proofs.NameLemmas.{axis_words, body_words, command_words, cut_words, dir_words, frame_words, kind_words, layout_words, option_words, tick_words}
 use Rattle.spec_requests.proofs.laws.words_stand_for_one_thing.Goals as goal
 
 pub returns : goal.returns
@@ -12,4 +12,5 @@ returns c = record {
   dirs = dir_words;
   cuts = cut_words;
   layouts = layout_words;
+  ticks = tick_words;
 }

@@ -21,3 +21,15 @@ returns-clause-workers c = refl
 pub returns-clause-empty : goal.returns-clause-empty
 unfolding requests_on_literals
 returns-clause-empty c = refl
+
+pub returns-clause-tick : goal.returns-clause-tick
+unfolding requests_on_literals
+returns-clause-tick c = refl
+
+pub returns-clause-direction : goal.returns-clause-direction
+unfolding requests_on_literals
+returns-clause-direction c = refl
+
+pub returns-clause-fraction : goal.returns-clause-fraction
+unfolding requests_on_literals
+returns-clause-fraction c = refl

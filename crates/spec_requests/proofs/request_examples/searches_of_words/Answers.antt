@@ -9,3 +9,7 @@ returns-clause-defaults c = refl
 pub returns-clause-behind : goal.returns-clause-behind
 unfolding requests_on_literals
 returns-clause-behind c = refl
+
+pub returns-clause-milliseconds : goal.returns-clause-milliseconds
+unfolding requests_on_literals
+returns-clause-milliseconds c = refl

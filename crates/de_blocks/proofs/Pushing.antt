@@ -1,23 +1,21 @@
 -- A block after the blocks before it.
-use Rattle.std.proofs.Common.{◌≡◌, ℕ, ◌+◌, ◌*◌, ◌<◌, ◌≤◌, List, [], ◌∷◌, ◌++◌, length, Result, Ok, Err, refl, ap, ◌∙◌, arith, ℤ, eq-eqb, false, get_or, pos, if◌then◌else◌, nat_lt, true}
-use Rattle.std.specs.Prelude.{OnOk}
+use Rattle.std.proofs.Common.{◌≡◌, ℕ, zero, suc, ◌+◌, ◌*◌, ◌<◌, ◌≤◌, List, [], ◌∷◌, ◌++◌, length, take, sym, subst, Result, Ok, Err, refl, ap, ◌∙◌, arith, ℤ, eq-eqb, false, if◌then◌else◌, nat_lt, true}
+use Rattle.std.specs.Prelude.{IfOk}
 use Rattle.spec_text.specs.declared.decimals.Decimal.{Decimal}
 use Rattle.spec_ephemeris.specs.declared.limits.TheConstants.{MAX_BLOCKS}
-use Rattle.spec_ephemeris.specs.Ephemeris.{Ephemeris, IsBlock, IsEphemeris, empty_ephemeris, with_block}
+use Rattle.spec_ephemeris.specs.Ephemeris.{Ephemeris, IsBlock, IsEphemeris, IsStart, empty_ephemeris, with_block}
 use Rattle.spec_sections.specs.declared.rules.BrokenRule.{BrokenRule}
 use Rattle.std.proofs.lemmas.Bool.{ltb-true}
 use Rattle.spec_sections.specs.Sections.{broken}
 use Rattle.spec_sections.proofs.Holding.{holds_ok}
 use Rattle.spec_faults.specs.declared.numbers.TheConstants.{BLOCK_SPAN}
-use Rattle.spec_blocks.specs.BlockRules.{coefficient_rule, follows, has_length, is_after_gap, is_skipped, second_date, time_of, value_rule}
+use Rattle.spec_blocks.specs.BlockRules.{coefficient_rule, first_date, follows, has_length, is_after_gap, is_skipped, second_date, time_of, value_rule}
 use Rattle.spec_blocks.specs.Blocks.{begun, with_numbers}
 use Rattle.spec_blocks.specs.Read.{AreRead}
-use Rattle.spec_blocks.proofs.Blocks.{is_block, right_length, room}
+use Rattle.spec_blocks.proofs.Blocks.{is_block, right_length, room, time_holds}
+use Rattle.de_blocks.specs.Dates.{AreDates, AreRuled, met}
+use Rattle.de_blocks.specs.declared.dates.Dates.{Dates}
 use Rattle.eph_model.specs.Starting.{starting_at}
-
-pub ok_then : {T E : Type 0} (r : Result T E) (P Q : Type 0) → (P → Q) → OnOk r P → OnOk r Q
-ok_then (Ok x) P Q also holds = also holds
-ok_then (Err e) P Q also holds = tt
 
 no_numbers : (numbers : List Decimal) → length numbers ≡ 0 → numbers ≡ []
 no_numbers [] is = refl
@@ -45,26 +43,49 @@ pub record IsNew (before : Ephemeris) (numbers : List Decimal) (start : ℤ) : T
   pub room : before.blocks < MAX_BLOCKS
   pub is : with_numbers before numbers ≡ with_block (begun before start) numbers
 
--- the dates of a block
-abbrev pub date_at : List Decimal → ℕ → Result ℤ BrokenRule
-date_at numbers i = time_of (get_or numbers i (record { mant = pos 0; exp = pos 0 }))
-
-pub new_block : (before : Ephemeris) (numbers : List Decimal) (start end : ℤ) → IsEphemeris before → AreRead before numbers → length numbers ≡ before.header.ncoeff
-    → date_at numbers 0 ≡ Ok start → date_at numbers 1 ≡ Ok end → is_skipped before end ≡ false → IsNew before numbers start
-new_block before [] start end checked read whole a b new = absurd (omega (arith, checked.header.fewest, whole))
-new_block before (first ∷ []) start end checked read whole a b new = absurd (omega (arith, checked.header.fewest, whole))
-new_block before (first ∷ second ∷ rest) start end checked read whole a b new =
+pub new_block : (before : Ephemeris) (numbers : List Decimal) (dates : Dates) → IsEphemeris before → AreRead before numbers → length numbers ≡ before.header.ncoeff
+    → AreDates numbers dates → is_skipped before dates.end ≡ false → IsNew before numbers dates.start
+new_block before [] dates checked read whole are new = absurd (omega (arith, checked.header.fewest, whole))
+new_block before (first ∷ []) dates checked read whole are new = absurd (omega (arith, checked.header.fewest, whole))
+new_block before (first ∷ second ∷ rest) dates checked read whole (a, b) new =
     let rule : second_date before first second ≡ Ok tt = read.rules 1 second refl in
-    let dated : (if has_length before.header.block_seconds start end then follows before start end else Err (broken BLOCK_SPAN 0)) ≡ Ok tt = rw (a, b) at rule in
-    let after : follows before start end ≡ Ok tt = right_length (has_length before.header.block_seconds start end) (follows before start end) (broken BLOCK_SPAN 0) dated in
-    let fewer = holds_ok _ _ tt (rw new at after) (room (is_after_gap before start) (nat_lt before.blocks MAX_BLOCKS) _ _) in
+    let dated : (if has_length before.header.block_seconds dates.start dates.end then follows before dates.start dates.end else Err (broken BLOCK_SPAN 0)) ≡ Ok tt =
+    rw (a, b) at rule in
+    let after : follows before dates.start dates.end ≡ Ok tt =
+    right_length (has_length before.header.block_seconds dates.start dates.end) (follows before dates.start dates.end) (broken BLOCK_SPAN 0) dated in
+    let fewer = holds_ok _ _ tt (rw new at after) (room (is_after_gap before dates.start) (nat_lt before.blocks MAX_BLOCKS) _ _) in
     record { room = ltb-true before.blocks MAX_BLOCKS fewer.1; is = rw (a, b, new) refl }
 
-pub skipped : (before : Ephemeris) (numbers : List Decimal) (start end : ℤ) → date_at numbers 0 ≡ Ok start → date_at numbers 1 ≡ Ok end
-    → is_skipped before end ≡ true → before ≡ with_numbers before numbers
-skipped before [] start end a b passed = refl
-skipped before (first ∷ []) start end a b passed = refl
-skipped before (first ∷ second ∷ rest) start end a b passed = rw (a, b, passed) refl
+pub skipped : (before : Ephemeris) (numbers : List Decimal) (dates : Dates) → AreDates numbers dates → is_skipped before dates.end ≡ true
+    → before ≡ with_numbers before numbers
+skipped before [] dates are passed = refl
+skipped before (first ∷ []) dates are passed = refl
+skipped before (first ∷ second ∷ rest) dates (a, b) passed = rw (a, b, passed) refl
+
+-- the dates of a whole block are times within bounds
+pub dates_hold : (before : Ephemeris) (numbers : List Decimal) (dates : Dates) → IsEphemeris before → length numbers ≡ before.header.ncoeff
+    → AreDates numbers dates → IsStart dates.start × IsStart dates.end
+dates_hold before [] dates checked whole are = absurd (omega (arith, checked.header.fewest, whole))
+dates_hold before (first ∷ []) dates checked whole are = absurd (omega (arith, checked.header.fewest, whole))
+dates_hold before (first ∷ second ∷ rest) dates checked whole (a, b) =
+    (holds_ok IsStart (time_of first) dates.start a (time_holds first), holds_ok IsStart (time_of second) dates.end b (time_holds second))
+
+-- ---- the dates with one number more
+pub dates_kept : (numbers : List Decimal) (dates : Dates) (d : Decimal) → 2 ≤ length numbers → AreDates numbers dates → AreDates (numbers ++ d ∷ []) dates
+dates_kept [] dates d two are = absurd (omega (arith, two))
+dates_kept (first ∷ []) dates d two are = absurd (omega (arith, two))
+dates_kept (first ∷ second ∷ rest) dates d two are = are
+
+pub dates_cut : (count : ℕ) (numbers : List Decimal) (dates : Dates) → AreDates numbers dates → AreDates (take count numbers) dates
+dates_cut zero numbers dates are = tt
+dates_cut (suc count) [] dates are = tt
+dates_cut (suc zero) (first ∷ []) dates are = are
+dates_cut (suc (suc count)) (first ∷ []) dates are = are
+dates_cut (suc zero) (first ∷ second ∷ rest) dates are = are.0
+dates_cut (suc (suc count)) (first ∷ second ∷ rest) dates are = are
+
+pub no_dates : (numbers : List Decimal) (dates : Dates) → numbers ≡ [] → AreDates numbers dates
+no_dates numbers dates is = subst (λ (l : List Decimal). AreDates l dates) (sym is) tt
 
 pub of_coefficient : (before : Ephemeris) (numbers : List Decimal) (d : Decimal) → 2 ≤ length numbers
     → coefficient_rule before.header.columns (length numbers + 1) d ≡ value_rule before numbers d
@@ -74,7 +95,38 @@ of_coefficient before (first ∷ second ∷ rest) d two =
     let place : length (first ∷ second ∷ rest) + 1 ≡ length rest + 3 = omega arith in
     ap (λ (k : ℕ). coefficient_rule before.header.columns k d) place
 
-pub first_added : {T E : Type 0} (r : Result T E) (new e : Ephemeris) (numbers : List Decimal) (start : ℤ) → IsEphemeris e → e.blocks ≡ 0
-    → OnOk r (new ≡ starting_at (with_block e numbers) start) → OnOk r (new ≡ with_block (begun e start) numbers)
-first_added (Ok x) new e numbers start checked none is = is ∙ first_pushed e numbers start checked none
-first_added (Err b) new e numbers start checked none is = tt
+-- ---- a number by its place
+pub at_first : (before : Ephemeris) (numbers : List Decimal) (d : Decimal) (r : Result Dates BrokenRule) → length numbers ≡ 0
+    → met r ≡ first_date d → IfOk r (λ dates. AreDates (d ∷ []) dates) → AreRuled before numbers d r
+at_first before [] d r none rule dates = record { rule = rule; dates = dates }
+at_first before (first ∷ rest) d r none rule dates = absurd (omega (arith, none))
+
+pub at_second : (before : Ephemeris) (numbers : List Decimal) (d : Decimal) (own : Dates) (r : Result Dates BrokenRule) → length numbers ≡ 1 → AreDates numbers own
+    → ((first : Decimal) → time_of first ≡ Ok own.start → met r ≡ second_date before first d)
+    → ((first : Decimal) → time_of first ≡ Ok own.start → IfOk r (λ dates. AreDates (first ∷ d ∷ []) dates)) → AreRuled before numbers d r
+at_second before [] d own r one are rule dates = absurd (omega (arith, one))
+at_second before (first ∷ []) d own r one are rule dates = record { rule = rule first are; dates = dates first are }
+at_second before (first ∷ second ∷ rest) d own r one are rule dates = absurd (omega (arith, one))
+
+pub first_holds : (numbers : List Decimal) (own : Dates) → length numbers ≡ 1 → AreDates numbers own → IsStart own.start
+first_holds [] own one are = absurd (omega (arith, one))
+first_holds (first ∷ []) own one are = holds_ok IsStart (time_of first) own.start are (time_holds first)
+first_holds (first ∷ second ∷ rest) own one are = absurd (omega (arith, one))
+
+later_dates : (numbers : List Decimal) (d : Decimal) (own : Dates) (r : Result Dates BrokenRule) → AreDates (numbers ++ d ∷ []) own
+    → IfOk r (λ dates. dates ≡ own) → IfOk r (λ dates. AreDates (numbers ++ d ∷ []) dates)
+later_dates numbers d own (Ok dates) are same = subst (AreDates (numbers ++ d ∷ [])) (sym same) are
+later_dates numbers d own (Err b) are same = tt
+
+pub at_later : (before : Ephemeris) (numbers : List Decimal) (d : Decimal) (own : Dates) (r : Result Dates BrokenRule) (q : Result (Unit {0}) BrokenRule)
+    → 2 ≤ length numbers → AreDates numbers own → q ≡ coefficient_rule before.header.columns (length numbers + 1) d
+    → met r ≡ q → IfOk r (λ dates. dates ≡ own) → AreRuled before numbers d r
+at_later before numbers d own r q two are rule is same = record {
+  rule = is ∙ rule ∙ of_coefficient before numbers d two;
+  dates = later_dates numbers d own r (dates_kept numbers own d two are) same;
+}
+
+-- a second date that does not follow the blocks before
+pub second_refused : (before : Ephemeris) (first d : Decimal) (start end : ℤ) (b : BrokenRule) → time_of first ≡ Ok start → Ok end ≡ time_of d
+    → has_length before.header.block_seconds start end ≡ true → Err b ≡ follows before start end → Err b ≡ second_date before first d
+second_refused before first d start end b a e has rule = rw (a, ← e, has) rule

@@ -1,12 +1,12 @@
 -- What a reader says after a line.
-use Rattle.std.proofs.Common.{◌≡◌, ℕ, ◌<◌, ◌≤◌, List, [], ◌∷◌, length, take, Result, Ok, Err, refl, sym, ap, ◌∙◌, subst, inl, inr, arith, eq-eqb, ne_eqb}
+use Rattle.std.proofs.Common.{◌≡◌, ℕ, ◌<◌, ◌≤◌, List, [], ◌∷◌, length, Result, Ok, Err, refl, sym, ap, ◌∙◌, subst, inl, inr, arith, eq-eqb, ne_eqb}
 use Rattle.std.proofs.lemmas.Bool.{cases_eq}
 use Rattle.spec_text.specs.Lines.{TokenLine}
 use Rattle.spec_text.specs.declared.decimals.Decimal.{Decimal}
 use Rattle.spec_text.specs.declared.decimals.Fault.{Fault}
 use Rattle.spec_ephemeris.specs.Ephemeris.{Ephemeris}
 use Rattle.spec_sections.specs.declared.rules.BrokenRule.{BrokenRule}
-use Rattle.spec_sections.specs.Sections.{FileLine, Stop, ended, breaks as breaks_rule, ◌>>=◌, at_line, line_fault, ruled_at}
+use Rattle.spec_sections.specs.Sections.{FileLine, Stop, ended, breaks as breaks_rule, ◌>>=◌, at_line, line_fault}
 use Rattle.spec_sections.proofs.Holding.{holds_ok}
 use Rattle.spec_faults.specs.declared.numbers.TheConstants.{TRUNCATED}
 use Rattle.spec_blocks.specs.BlockRules.{record_line}
@@ -19,7 +19,7 @@ use Rattle.de_blocks.specs.declared.state.Place.{Place}
 use Rattle.de_blocks.specs.declared.state.Place.TheVariants.{Between, Inside, Refused}
 use Rattle.spec_blocks.proofs.Blocks.{is_with}
 use Rattle.spec_blocks.proofs.Numbers.{none_read}
-use Rattle.de_blocks.specs.Steps.{TakesBlock, TakesLine, on_line, wanted}
+use Rattle.de_blocks.specs.Steps.{TakesLine, on_line, wanted}
 use Rattle.de_blocks.specs.Reader.{Ends, Fits, Progress, Says, Takes, answer, at_end, from_numbers, from_record, numbers_at, says, says_at}
 use Rattle.spec_sections.proofs.Steps.{bind_same, broken_by}
 use Rattle.de_blocks.proofs.Enough.{enough, further_fewer}
@@ -220,15 +220,10 @@ took before after numbers new line was place result inside fits is taken =
     (subst (λ (r : Result Place ReadError). TakesLine before numbers line r after new) is taken)
 
 -- ---- a line that is taken, from its parts
-pub after_block : (before after : Ephemeris) (numbers mid new : List Decimal) (line : TokenLine) (result : Result Place ReadError)
-    → on_line before numbers line.tokens ≡ Ok mid → length mid ≡ before.header.ncoeff → take (length numbers) mid ≡ numbers
-    → TakesBlock before mid result after new → TakesLine before numbers line result after new
-after_block before after numbers mid new line (Ok Between) is whole front (same, none) = (mid, is, whole, same, none)
-after_block before after numbers mid new line (Ok Inside) is whole front never = absurd never
-after_block before after numbers mid new line (Ok (Refused fault)) is whole front never = absurd never
-after_block before after numbers mid new line (Err (errors.Fault fault)) is whole front never = absurd never
-after_block before after numbers mid new line (Err errors.Memory) is whole front (same, kept) =
-    (same, ap (λ (l : List Decimal). take (length numbers) l) kept ∙ front)
+pub after_block : (before after : Ephemeris) (numbers mid new : List Decimal) (line : TokenLine)
+    → on_line before numbers line.tokens ≡ Ok mid → length mid ≡ before.header.ncoeff
+    → after ≡ with_numbers before mid → new ≡ [] → TakesLine before numbers line (Ok Between) after new
+after_block before after numbers mid new line is whole same none = (mid, is, whole, same, none)
 
 -- the numbers are all there where they aren't too few
 pub is_whole : (before : Ephemeris) (numbers mid : List Decimal) (words : List (List ℕ)) → AreRead before numbers → length numbers < before.header.ncoeff

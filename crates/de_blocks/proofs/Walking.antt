@@ -2,6 +2,7 @@
 use Rattle.std.proofs.Common.{◌≡◌, ℕ, suc, ◌-◌, ◌<◌, ◌≤◌, List, [], ◌∷◌, ◌++◌, length, take, drop, Result, Ok, Err, refl, sym, ap, ◌∙◌, subst, arith}
 use Rattle.std.proofs.lemmas.List.{length-append, take-append-le}
 use Rattle.spec_text.specs.declared.decimals.Decimal.{Decimal}
+use Rattle.spec_text.specs.declared.decimals.Fault.{Fault as Broken}
 use Rattle.spec_ephemeris.specs.Ephemeris.{Ephemeris}
 use Rattle.spec_sections.specs.declared.rules.BrokenRule.{BrokenRule}
 use Rattle.spec_blocks.specs.BlockRules.{number_rule}
@@ -10,6 +11,9 @@ use Rattle.spec_sections.specs.declared.errors.ReadError.{ReadError}
 use Rattle.spec_sections.specs.declared.errors.ReadError.TheVariants.{Fault, Memory}
 use Rattle.spec_sections.specs.Sections.{ruled_at}
 use Rattle.spec_sections.proofs.Steps.{broken_by}
+use Rattle.eph_model.specs.Stores.{Store}
+use Rattle.de_blocks.specs.Dates.{number_in}
+use Rattle.de_blocks.specs.declared.dates.RuledNumber.{RuledNumber}
 
 -- what a loop over words keeps
 pub record Keeps (before : Ephemeris) (old new : List Decimal) (words left : List (List ℕ)) : Type 0 where
@@ -57,3 +61,46 @@ fails_at before old mid new words left rest line word (Fault fault) keeps is few
     let by = broken_by line (number_rule before mid word) fault failed.0 in
     ap (ruled_at line) (stops_at before old mid words left rest word by.0 keeps is few by.1) ∙ ap (λ f. Err f) by.2
 fails_at before old mid new words left rest line word Memory keeps is few failed = tt
+
+-- ---- the same of a store
+pub record IsOn (old new : Store) (words left : List (List ℕ)) : Type 0 where
+  pub same : new.accepted ≡ old.accepted
+  pub keeps : Keeps old.accepted old.numbers new.numbers words left
+
+-- the numbers so far are too few, as the store says it
+pub few_in : (old mid : Store) (words left : List (List ℕ)) → IsOn old mid words left → length mid.numbers < old.accepted.header.ncoeff
+    → length mid.numbers < mid.accepted.header.ncoeff
+few_in old mid words left is few = subst (λ (e : Ephemeris). length mid.numbers < e.header.ncoeff) (sym is.same) few
+
+pub is_on : (old mid new : Store) (words left rest : List (List ℕ)) (line : ℕ) (word : List ℕ) → IsOn old mid words left
+    → left ≡ word ∷ rest → length mid.numbers < old.accepted.header.ncoeff → Pushes mid.accepted mid.numbers line word (Ok tt) new.numbers
+    → new.accepted ≡ mid.accepted → IsOn old new words rest
+is_on old mid new words left rest line word is first few pushed same = record {
+  same = same ∙ is.same;
+  keeps = keeps_on old.accepted old.numbers mid.numbers new.numbers words left rest line word is.keeps first few
+      (subst (λ (e : Ephemeris). Pushes e mid.numbers line word (Ok tt) new.numbers) is.same pushed);
+}
+
+pub fails_in : (old mid new : Store) (words left rest : List (List ℕ)) (line : ℕ) (word : List ℕ) (why : ReadError)
+    → IsOn old mid words left → left ≡ word ∷ rest → length mid.numbers < old.accepted.header.ncoeff
+    → Pushes mid.accepted mid.numbers line word (Err why) new.numbers → ReadsNumbers old.accepted old.numbers line words (Err why) new.numbers rest
+fails_in old mid new words left rest line word why is first few failed =
+    fails_at old.accepted old.numbers mid.numbers new.numbers words left rest line word why is.keeps first few
+    (subst (λ (e : Ephemeris). Pushes e mid.numbers line word (Err why) new.numbers) is.same failed)
+
+same_numbers : (line : ℕ) (before : Ephemeris) (numbers new : List Decimal) (word : List ℕ) (why : ReadError) → Pushes before numbers line word (Err why) new → new ≡ numbers
+same_numbers line before numbers new word (Fault fault) failed = failed.1
+same_numbers line before numbers new word Memory failed = failed
+
+-- where a word is refused, the numbers begin with those that there were
+pub front_in : (old mid new : Store) (words left : List (List ℕ)) (line : ℕ) (word : List ℕ) (why : ReadError)
+    → IsOn old mid words left → Pushes mid.accepted mid.numbers line word (Err why) new.numbers → take (length old.numbers) new.numbers ≡ old.numbers
+front_in old mid new words left line word why is failed =
+    ap (take (length old.numbers)) (same_numbers line mid.accepted mid.numbers new.numbers word why failed) ∙ is.keeps.front
+
+-- ---- a word that is refused
+pub refused_word : (line : ℕ) (r : Result RuledNumber BrokenRule) (m : Result Decimal BrokenRule) (fault : Broken) → number_in r ≡ m
+    → ruled_at line r ≡ Err fault → ruled_at line m ≡ Err fault
+refused_word line r m fault is broken =
+    let by = broken_by line r fault broken in
+    ap (ruled_at line) (sym is ∙ ap number_in by.1) ∙ ap (λ f. Err f) by.2

@@ -53,12 +53,6 @@ ReadsNumbers before numbers line words (Err (Fault fault)) new left =
     ruled_at line (numbers_on before numbers (take (wanted before numbers) words)) ≡ Err fault
 ReadsNumbers before numbers line words (Err Memory) new left = Unit {0}
 
--- a whole block is one of the blocks, and its numbers are gone; out of memory all is as it was
-abbrev pub TakesBlock : Ephemeris → List Decimal → Result Place ReadError → Ephemeris → List Decimal → Type 0
-TakesBlock before numbers (Ok Between) after new = (after ≡ with_numbers before numbers) × (new ≡ [])
-TakesBlock before numbers (Err Memory) after new = (after ≡ before) × (new ≡ numbers)
-TakesBlock before numbers result after new = ⊥
-
 -- a line within a block leaves the block open, or makes it whole, or breaks a rule; out of memory there may be no
 -- answer. Where there is none the blocks stay as they were, and the numbers begin with those that there were.
 abbrev pub TakesLine : Ephemeris → List Decimal → TokenLine → Result Place ReadError → Ephemeris → List Decimal → Type 0

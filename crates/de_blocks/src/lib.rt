@@ -1,9 +1,13 @@
 //! The blocks of a file, read line by line after its header. Lines come in, as the text reader cuts them; what goes out
-//! is the ephemeris, or the first fault. The numbers of a block are kept in one vector until the block is whole.
+//! is the ephemeris, or the first fault. Each number is written straight into the store of the ephemeris, cut back where its
+//! line is refused, and counts once its block is whole.
 #![tactic(auto)]
 
 mod accepting;
 mod answers;
+mod block;
+mod closing;
+mod dates;
 mod laws;
 mod reader;
 mod rules;

@@ -10,6 +10,7 @@ ghost use Rattle.de_blocks.specs.declared.state.Place.TheVariants as places;
 
 use crate::accepting::take_line;
 use crate::answers::BlockError;
+use crate::block::OpenBlock;
 use crate::rules::record_line;
 use crate::state::Place;
 use de_text::Line;
@@ -17,15 +18,14 @@ use eph_model::Ephemeris;
 use spec_ephemeris::Header;
 use spec_faults::{NO_BLOCK, TRUNCATED};
 use spec_sections::BrokenRule;
-use spec_text::{Decimal, Fault};
+use spec_text::Fault;
 use std::alloc::Global;
 use std::marker::Model;
 
 /// A reader of the blocks after a header, in the rest of its file and in the files that follow.
 #[derive(Drop)]
 pub struct BlockReader {
-    accepted: Ephemeris,
-    numbers: Vec<Decimal>,
+    block: OpenBlock,
     place: Place,
 }
 
@@ -35,14 +35,14 @@ impl Model for BlockReader {
     ghost Value = { Progress };
 
     ghost view = { λ r. record {
-      accepted = r.accepted;
-      numbers = r.numbers.items;
+      accepted = r.block.accepted;
+      numbers = r.block.numbers;
       place = r.place;
     } };
 
     ghost invariant = { λ r. Fits (record {
-      accepted = r.accepted;
-      numbers = r.numbers.items;
+      accepted = r.block.accepted;
+      numbers = r.block.numbers;
       place = r.place;
     }) };
 }
@@ -77,8 +77,7 @@ impl BlockReader {
         ensures not_refused { IsNotRefused result }
     {
         BlockReader {
-            accepted: Ephemeris::empty(alloc, header, 0),
-            numbers: Vec::new(alloc),
+            block: OpenBlock::new(alloc, header),
             place: Place::Between,
         }
     }
@@ -88,7 +87,7 @@ impl BlockReader {
         ensures refused { IsRefused self.new fault }
         ensures result { result ≡ Err (errors.Fault fault) }
     {
-        self.numbers.clear();
+        self.block.truncate(0);
         self.place = Place::Refused(fault);
         Err(BlockError::Fault(fault))
     }
@@ -98,7 +97,7 @@ impl BlockReader {
         requires { self.old.place ≡ places.Between }
         ensures { Takes self.old line.now result self.new }
     {
-        match record_line(self.accepted.header().ncoeff, line) {
+        match record_line(self.block.header().ncoeff, line) {
             Ok(()) => {
                 self.place = Place::Inside;
                 Ok(())
@@ -112,18 +111,18 @@ impl BlockReader {
         requires { self.old.place ≡ places.Inside }
         ensures { Takes self.old line.now result self.new }
     {
-        let kept = self.numbers.len();
-        match take_line(&mut self.accepted, &mut self.numbers, line) {
+        let kept = self.block.count();
+        match take_line(&mut self.block, line) {
             Ok(place) => {
                 self.place = place;
                 Ok(())
             }
             Err(BlockError::Fault(fault)) => {
-                self.numbers.truncate(kept);
+                self.block.truncate(kept);
                 self.refuse(fault)
             }
             Err(BlockError::Memory) => {
-                self.numbers.truncate(kept);
+                self.block.truncate(kept);
                 Err(BlockError::Memory)
             }
         }
@@ -155,7 +154,7 @@ impl BlockReader {
         match self.place {
             Place::Refused(fault) => Err(BlockError::Fault(fault)),
             Place::Inside => Err(ended(line, TRUNCATED)),
-            Place::Between => whole(self.accepted, line),
+            Place::Between => whole(self.block.finish(), line),
         }
     }
 }

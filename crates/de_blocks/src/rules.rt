@@ -1,12 +1,16 @@
 // The rules of the words of blocks.
-ghost use Rattle.std.specs.Prelude.{◌≡◌, ◌≤◌, ◌<◌, ◌+◌, ◌*◌, ◌^◌, IfOk, Ok, length, min, slice_get};
+ghost use Rattle.std.specs.Prelude.{◌≡◌, ◌≤◌, ◌<◌, ◌+◌, ◌*◌, ◌^◌, [], ◌∷◌, IfOk, Ok, length, min, slice_get};
 ghost use Rattle.spec_ephemeris.specs.declared.limits.TheConstants.{COLUMNS};
 ghost use Rattle.spec_ephemeris.specs.Ephemeris.{IsStart};
-ghost use Rattle.spec_blocks.specs.BlockRules.{coefficient_rule, first_date, follows, has_length, is_after_gap, is_skipped, is_place, is_place_of, is_place_of_body, is_too_large, number_rule, record_line, second_date, time_of, trailing_rule, value_rule};
+ghost use Rattle.spec_text.specs.Reading.{reading};
+ghost use Rattle.spec_text.specs.declared.decimals.Decimal.{Decimal};
+ghost use Rattle.eph_model.specs.Stores.{IsRounded};
+ghost use Rattle.de_blocks.specs.Dates.{AreDates, met};
+ghost use Rattle.spec_blocks.specs.BlockRules.{coefficient_rule, first_date, follows, has_length, is_after_gap, is_skipped, is_place, is_place_of, is_place_of_body, is_too_large, number_by, record_line, second_date, time_of, trailing_rule};
 
+use crate::dates::Dates;
 use de_text::{Line, read_decimal, seconds_of_julian_date};
-use eph_model::{Ephemeris, is_present, place_after};
-use ival_core::is_distance;
+use eph_model::{BlockStore, Rounded, is_present, place_after};
 use spec_ephemeris::{BODY_COLUMNS, Column, FIRST_TIME, MAX_BLOCKS};
 use spec_faults::{
     BLOCK_GAP, BLOCK_SPAN, NCOEFF_DIFFERS, NUMBER, RECORD_LINE, TOO_LARGE, TOO_MANY_BLOCKS,
@@ -42,20 +46,20 @@ pub(crate) fn time_of(date: Decimal) -> Result<i64, BrokenRule>
 }
 
 // A block that ends no later than the last one is skipped.
-pub(crate) fn is_skipped(before: &Ephemeris, end: i64) -> bool
-    ensures { result ≡ is_skipped before.now end }
+pub(crate) fn is_skipped(before: &BlockStore, end: i64) -> bool
+    ensures { result ≡ is_skipped before.now.accepted end }
 {
     0 < before.blocks() && end <= before.end()
 }
 
-fn is_after_gap(before: &Ephemeris, start: i64) -> bool
-    ensures { result ≡ is_after_gap before.now start }
+fn is_after_gap(before: &BlockStore, start: i64) -> bool
+    ensures { result ≡ is_after_gap before.now.accepted start }
 {
     0 < before.blocks() && (start < before.end() || before.end() < start)
 }
 
-fn follows(before: &Ephemeris, start: i64, end: i64) -> Result<(), BrokenRule>
-    ensures { result ≡ follows before.now start end }
+fn follows(before: &BlockStore, start: i64, end: i64) -> Result<(), BrokenRule>
+    ensures { result ≡ follows before.now.accepted start end }
 {
     if is_skipped(before, end) {
         Ok(())
@@ -76,31 +80,34 @@ fn has_length(length: i64, start: i64, end: i64) -> bool
     length <= end - start && end - start <= length
 }
 
-fn first_date(date: Decimal) -> Result<(), BrokenRule>
-    ensures { result ≡ first_date date }
+// The dates with the first of a block.
+pub(crate) fn first_date(date: Decimal) -> Result<Dates, BrokenRule>
+    ensures rule { met result ≡ first_date date }
+    ensures dates { IfOk result (λ dates. AreDates (date ∷ []) dates) }
 {
-    time_of(date)?;
-    Ok(())
+    let start = time_of(date)?;
+    Ok(Dates { start, end: start })
 }
 
-fn second_date(before: &Ephemeris, first: Decimal, second: Decimal) -> Result<(), BrokenRule>
-    ensures { result ≡ second_date before.now first second }
+// The dates with the second of a block that begins at this time.
+pub(crate) fn second_date(
+    before: &BlockStore,
+    start: i64,
+    date: Decimal,
+) -> Result<Dates, BrokenRule>
+    requires { IsStart start }
+    ensures rule { (first : Decimal) → time_of first ≡ Ok start
+        → met result ≡ second_date before.now.accepted first date }
+    ensures dates { (first : Decimal) → time_of first ≡ Ok start
+        → IfOk result (λ dates. AreDates (first ∷ date ∷ []) dates) }
 {
-    let start = time_of(first)?;
-    let end = time_of(second)?;
+    let end = time_of(date)?;
     if has_length(before.header().block_seconds, start, end) {
-        follows(before, start, end)
+        follows(before, start, end)?;
+        Ok(Dates { start, end })
     } else {
         Err(BrokenRule::new(BLOCK_SPAN, 0))
     }
-}
-
-// Whether a decimal is 2^36 or more in size.
-#[tactic(auto, using(crate::proofs::Large::large_by_test))]
-fn is_large(d: Decimal) -> bool
-    ensures { result ≡ is_too_large d }
-{
-    !is_distance(d.mant, d.exp)
 }
 
 // Whether a place belongs to the column of this number.
@@ -131,48 +138,53 @@ fn is_place_of_body(columns: &[Column], place: u32) -> bool
     is_place_of_any(&columns[..BODY_COLUMNS], place)
 }
 
-// The rule of a number that is no date.
-fn coefficient_rule(columns: &[Column], place: u32, d: Decimal) -> Result<(), BrokenRule>
-    requires { length columns.now ≡ COLUMNS }
+// Whether a number is 2^36 or more in size.
+#[tactic(auto, using(crate::proofs::Large::large_one, crate::proofs::Large::small_one))]
+pub(crate) fn is_large(number: Decimal, rounded: Option<Rounded>) -> bool
+    requires { IsRounded number rounded }
+    ensures { result ≡ is_too_large number }
+{
+    match rounded {
+        Some(_) => false,
+        None => true,
+    }
+}
+
+// The dates, where a rule is met.
+pub(crate) fn with_dates(dates: Dates, ruled: Result<(), BrokenRule>) -> Result<Dates, BrokenRule>
+    ensures rule { met result ≡ ruled }
+    ensures dates { IfOk result (λ own. own ≡ dates) }
+{
+    match ruled {
+        Ok(()) => Ok(dates),
+        Err(broken) => Err(broken),
+    }
+}
+
+// The rule of a number that is no date, and is 2^36 or more in size or less.
+pub(crate) fn coefficient_rule(
+    columns: &[Column],
+    place: u32,
+    d: Decimal,
+    is_large: bool,
+) -> Result<(), BrokenRule>
+    requires count { length columns.now ≡ COLUMNS }
+    requires size { is_large ≡ is_too_large d }
     ensures { result ≡ coefficient_rule columns.now place d }
 {
-    if is_large(d) && is_place_of_body(columns, place) {
+    if is_large && is_place_of_body(columns, place) {
         Err(BrokenRule::new(TOO_LARGE, 0))
     } else {
         Ok(())
     }
 }
 
-// The rule of a number after the numbers of its block.
-fn value_rule(before: &Ephemeris, numbers: &[Decimal], d: Decimal) -> Result<(), BrokenRule>
-    requires { length numbers.now < before.now.header.ncoeff }
-    ensures { result ≡ value_rule before.now numbers.now d }
-{
-    match numbers {
-        [] => first_date(d),
-        [first] => second_date(before, *first, d),
-        _ => coefficient_rule(
-            before.header().columns.as_slice(),
-            numbers.len() as u32 + 1,
-            d,
-        ),
-    }
-}
-
-// A word as the number after the numbers of its block.
-pub(crate) fn number_rule(
-    before: &Ephemeris,
-    numbers: &[Decimal],
-    word: &[u8],
-) -> Result<Decimal, BrokenRule>
-    requires { length numbers.now < before.now.header.ncoeff }
-    ensures value { result ≡ number_rule before.now numbers.now word.now }
+// The number that a word is.
+pub(crate) fn number_of(word: &[u8]) -> Result<Decimal, BrokenRule>
+    ensures { result ≡ number_by (reading word.now) }
 {
     match read_decimal(word) {
-        Ok(d) => {
-            value_rule(before, numbers, d)?;
-            Ok(d)
-        }
+        Ok(d) => Ok(d),
         Err(fault) => Err(BrokenRule::new(NUMBER, fault.number())),
     }
 }

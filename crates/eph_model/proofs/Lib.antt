@@ -3,3 +3,4 @@ pub mod GridLemmas
 pub mod BorderLemmas
 pub mod ColumnBorders
 pub mod PairLists
+pub mod StoreLists

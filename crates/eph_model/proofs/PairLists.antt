@@ -62,6 +62,11 @@ pairs_more before numbers k d p old new below is pushed are =
     let more : before ++ take (k + 1) numbers ≡ (before ++ take k numbers) ++ one = ap (λ l. before ++ l) (take_more numbers k d below) ∙ sym (append_assoc before (take k numbers) one) in
     rw (more, pushed) (pairs_append (before ++ take k numbers) one old (p ∷ []) are (is, tt))
 
+-- the same of two lists
+pub pairs_pushed : (numbers new : List Decimal) (d : Decimal) (old pairs : List Rounded) (p : Rounded) → IsPair d p → new ≡ numbers ++ d ∷ []
+    → pairs ≡ old ++ p ∷ [] → ArePairs numbers old → ArePairs new pairs
+pairs_pushed numbers new d old pairs p is one other are = rw (one, other) (pairs_append numbers (d ∷ []) old (p ∷ []) are (is, tt))
+
 -- ---- a small end in 64 bits
 small_fits : (z : ℤ) → unsigned_abs z ≤ 2 ^ 60 → FitsSigned w64 z
 small_fits z h = omega (arith, ints)

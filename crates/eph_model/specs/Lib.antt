@@ -2,3 +2,4 @@ pub mod Grids
 pub mod Pairs
 pub mod Short
 pub mod Starting
+pub mod Stores

@@ -7,7 +7,6 @@ ghost use Rattle.spec_ephemeris.specs.Granules.{column_of, granule_of, granule_a
 ghost use Rattle.spec_ephemeris.specs.Borders.{nearest_border};
 ghost use Rattle.spec_ephemeris.specs.Rounding.{pairs_of};
 ghost use Rattle.spec_ephemeris.specs.Ticks.{IsInSeconds, IsTick, header_in_ticks, in_ticks};
-ghost use Rattle.eph_model.specs.Starting.{starting_at};
 ghost use Rattle.eph_model.specs.Grids.{IsGridOf};
 
 use crate::borders::preferred;
@@ -28,11 +27,11 @@ pub type Memory = AllocError;
 /// seconds of TDB since J2000, and after `in_ticks` ticks.
 #[derive(Drop)]
 pub struct Ephemeris {
-    header: Header,
-    start: i64,
-    blocks: u32,
-    numbers: Vec<Decimal>,
-    pairs: Vec<Rounded>,
+    pub(crate) header: Header,
+    pub(crate) start: i64,
+    pub(crate) blocks: u32,
+    pub(crate) numbers: Vec<Decimal>,
+    pub(crate) pairs: Vec<Rounded>,
 }
 
 impl Model for Ephemeris {
@@ -108,16 +107,8 @@ impl Ephemeris {
         Ok(())
     }
 
-    /// Lets the first block begin at this time, in seconds of TDB since J2000, and the others after it.
-    pub fn start_at(&mut self, start: i64)
-        requires { IsStart start }
-        ensures { self.new ≡ starting_at self.old start }
-    {
-        self.start = start;
-    }
-
     /// The same ephemeris, whose times count ticks since J2000 in TDB, of which a second has so many, from 1 to 1,000. From
-    /// then on each time, and the length of a granule in `seconds`, counts ticks. It takes no memory.
+    /// then on each time, and the length of a granule in `seconds`, counts ticks. It does not allocate.
     pub fn in_ticks(self, tick: u32) -> Ephemeris
         requires tick { IsTick tick }
         requires seconds { IsInSeconds self }

@@ -1,8 +1,9 @@
 //! The checked ephemeris: a header that meets the rules, and the numbers of the blocks that were accepted.
 //!
-//! A header and one block of numbers after the other come in, from the readers of a file. What goes out is, for a
-//! column and a time, the granule whose Chebyshev series is read there, and, for a span of time, the border between
-//! granules that is nearest to its middle. Nothing here reads text, and nothing here evaluates a series.
+//! A header and the numbers of one block after the other come in, from the readers of a file, into a store that becomes
+//! the ephemeris once all blocks are read. What goes out is, for a column and a time, the granule whose Chebyshev series
+//! is read there, and, for a span of time, the border between granules that is nearest to its middle. Nothing here reads
+//! text, and nothing here evaluates a series.
 #![tactic(auto)]
 
 mod borders;
@@ -11,8 +12,10 @@ mod ephemeris;
 mod granules;
 mod grid;
 mod rounding;
+mod store;
 
 pub use columns::{components, is_present, place_after};
 pub use ephemeris::{Ephemeris, Memory};
-pub use rounding::pair_of;
+pub use rounding::{pair_of, rounded};
 pub use spec_ephemeris::{Body, Column, Columns, Granule, Header, Rounded};
+pub use store::BlockStore;

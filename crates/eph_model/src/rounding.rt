@@ -1,9 +1,10 @@
 // Numbers rounded once, and the pairs that are kept beside them.
-ghost use Rattle.std.specs.Prelude.{◌≡◌, ◌+◌, ◌≤◌, ◌++◌, List, length, OnOk, IsOk, vec_len, vec_capacity};
+ghost use Rattle.std.specs.Prelude.{◌≡◌, ◌+◌, ◌<◌, ◌≤◌, [], ◌∷◌, ◌++◌, List, length, OnOk, IsOk, vec_len, vec_capacity};
 ghost use Rattle.spec_text.specs.declared.decimals.Decimal.{Decimal};
 ghost use Rattle.spec_intervals.specs.Interval.{IsDistance};
 ghost use Rattle.spec_ephemeris.specs.Rounding.{pair_of};
 ghost use Rattle.eph_model.specs.Pairs.{IsPair, ArePairs};
+ghost use Rattle.eph_model.specs.Stores.{IsRounded};
 
 use ival_core::{DISTANCE_EXPONENT, Ival, is_distance};
 use spec_ephemeris::Rounded;
@@ -22,15 +23,35 @@ pub fn pair_of(number: Decimal) -> Rounded
     }
 }
 
-// The pair that is kept beside a number. Beside one that is no number of a body it is never read.
-fn kept_pair(number: Decimal) -> Rounded
-    ensures { IsPair number result }
+/// A number of km rounded, where it is below 2^36 in size, and none where it is not.
+pub fn rounded(number: Decimal) -> Option<Rounded>
+    ensures { IsRounded number result }
 {
     if is_distance(number.mant, number.exp) {
-        pair_of(number)
+        Some(pair_of(number))
     } else {
-        Rounded { lo: 0, hi: 0 }
+        None
     }
+}
+
+// The pair that is kept beside a number. Beside one that is no number of a body it is never read.
+pub(crate) fn kept_pair(rounded: Option<Rounded>) -> Rounded
+    ensures { (number : Decimal) → IsRounded number rounded → IsPair number result }
+{
+    match rounded {
+        Some(pair) => pair,
+        None => Rounded { lo: 0, hi: 0 },
+    }
+}
+
+// Adds a pair for which there is room.
+pub(crate) fn push_pair(pairs: &mut Vec<Rounded>, pair: Rounded) -> Result<(), AllocError>
+    requires room { vec_len pairs.old < vec_capacity pairs.old }
+    ensures done { IsOk result }
+    ensures added { pairs.new.items ≡ pairs.old.items ++ pair ∷ [] }
+{
+    pairs.push(pair)?;
+    Ok(())
 }
 
 // Adds the pairs of numbers for which there is room.
@@ -41,7 +62,7 @@ pub(crate) fn push_pairs(pairs: &mut Vec<Rounded>, numbers: &[Decimal]) -> Resul
         → ArePairs (before ++ numbers.now) pairs.new.items) }
 {
     for &number in numbers {
-        pairs.push(kept_pair(number))?;
+        pairs.push(kept_pair(rounded(number)))?;
     }
     Ok(())
 }

@@ -1,18 +1,25 @@
-use Rattle.std.proofs.Common.{rules}
+use Rattle.std.proofs.Common.{◌∙◌, ap, rules}
+use Rattle.spec_ephemeris.specs.Ephemeris.{Ephemeris}
+use Rattle.spec_blocks.specs.Blocks.{with_numbers}
 use Rattle.de_blocks.proofs.Steps.{after_block, is_whole}
 use Rattle.de_blocks.proofs.accepting.take_line.Goals as goal
 
-pub take_block-requires-clause-read : goal.take_block-requires-clause-read
-take_block-requires-clause-read c =
-    (is_whole c.args.before.now c.args.numbers.now.items c.read_line.new.numbers.items c.args.line.now.tokens c.requires.read c.requires.few c.in_ok-read_line.ensures.reads (search rules)).0
+pub accept-requires-clause-checked : goal.accept-requires-clause-checked
+accept-requires-clause-checked c = rw c.read_line.ensures.same c.requires.checked
 
-pub take_block-requires-clause-whole : goal.take_block-requires-clause-whole
-take_block-requires-clause-whole c =
-    (is_whole c.args.before.now c.args.numbers.now.items c.read_line.new.numbers.items c.args.line.now.tokens c.requires.read c.requires.few c.in_ok-read_line.ensures.reads (search rules)).1
+pub accept-requires-clause-read : goal.accept-requires-clause-read
+accept-requires-clause-read c =
+    rw c.read_line.ensures.same
+    (is_whole c.args.block.now.accepted c.args.block.now.numbers c.read_line.new.block.numbers c.args.line.now.tokens c.requires.read c.requires.few c.in_ok-read_line.ensures.reads (search rules)).0
 
-pub returns-else-len-ncoeff : goal.returns-else-len-ncoeff
-returns-else-len-ncoeff c =
-    after_block c.args.before.now c.take_block.new.before c.args.numbers.now.items c.read_line.new.numbers.items c.take_block.new.numbers.items c.args.line.now
-    c.take_block.result c.in_ok-read_line.ensures.reads
-    (is_whole c.args.before.now c.args.numbers.now.items c.read_line.new.numbers.items c.args.line.now.tokens c.requires.read c.requires.few c.in_ok-read_line.ensures.reads (search rules)).1
-    c.read_line.ensures.front c.take_block.ensures
+pub accept-requires-clause-whole : goal.accept-requires-clause-whole
+accept-requires-clause-whole c =
+    rw c.read_line.ensures.same
+    (is_whole c.args.block.now.accepted c.args.block.now.numbers c.read_line.new.block.numbers c.args.line.now.tokens c.requires.read c.requires.few c.in_ok-read_line.ensures.reads (search rules)).1
+
+pub returns-else-count-ncoeff : goal.returns-else-count-ncoeff
+returns-else-count-ncoeff c =
+    after_block c.args.block.now.accepted c.accept.new.self.accepted c.args.block.now.numbers c.read_line.new.block.numbers c.accept.new.self.numbers c.args.line.now
+    c.in_ok-read_line.ensures.reads
+    (is_whole c.args.block.now.accepted c.args.block.now.numbers c.read_line.new.block.numbers c.args.line.now.tokens c.requires.read c.requires.few c.in_ok-read_line.ensures.reads (search rules)).1
+    (c.accept.ensures.accepted ∙ ap (λ (e : Ephemeris). with_numbers e c.read_line.new.block.numbers) c.read_line.ensures.same) c.accept.ensures.numbers

@@ -10,17 +10,17 @@ use Rattle.de_blocks.proofs.reader.BlockReader.begin.Goals as goal
 
 pub returns-in-Ok : goal.returns-in-Ok
 returns-in-Ok c =
-    let rule : record_line c.self.inside.accepted.header.ncoeff c.args.line.now.tokens ≡ Ok tt =
+    let rule : record_line c.self.inside.block.accepted.header.ncoeff c.args.line.now.tokens ≡ Ok tt =
     ap (λ (h : Header). record_line h.ncoeff c.args.line.now.tokens) (sym c.header.ensures.same) ∙ sym c.record_line.ensures ∙ c.in-Ok.is in
-    subst (λ (p : Progress). Takes p c.args.line.now (Ok tt) (at c.self.inside.accepted c.self.inside.numbers.items Inside)) c.self.view_is
-    (takes_record c.self.inside.accepted c.self.inside.numbers.items c.self.inside.place c.args.line.now (ap (λ (p : Progress). p.place) c.self.view_is ∙ c.requires)
+    subst (λ (p : Progress). Takes p c.args.line.now (Ok tt) (at c.self.inside.block.accepted c.self.inside.block.numbers Inside)) c.self.view_is
+    (takes_record c.self.inside.block.accepted c.self.inside.block.numbers c.self.inside.place c.args.line.now (ap (λ (p : Progress). p.place) c.self.view_is ∙ c.requires)
     c.self.invariant rule)
 
 pub returns-in-Err : goal.returns-in-Err
 returns-in-Err c =
-    let rule : record_line c.self.inside.accepted.header.ncoeff c.args.line.now.tokens ≡ Err c.in-Err.broken =
+    let rule : record_line c.self.inside.block.accepted.header.ncoeff c.args.line.now.tokens ≡ Err c.in-Err.broken =
     ap (λ (h : Header). record_line h.ncoeff c.args.line.now.tokens) (sym c.header.ensures.same) ∙ sym c.record_line.ensures ∙ c.in-Err.is in
     rw c.refuse.ensures.result
     (subst (λ (p : Progress). Takes p c.args.line.now (Err (errors.Fault c.at_line.result)) c.refuse.new.self) c.self.view_is
-    (takes_bad_record c.self.inside.accepted c.self.inside.numbers.items c.self.inside.place c.refuse.new.self c.args.line.now c.in-Err.broken c.at_line.result
+    (takes_bad_record c.self.inside.block.accepted c.self.inside.block.numbers c.self.inside.place c.refuse.new.self c.args.line.now c.in-Err.broken c.at_line.result
     (ap (λ (p : Progress). p.place) c.self.view_is ∙ c.requires) rule (c.at_line.ensures ∙ ap (λ (n : ℕ). line_fault n c.in-Err.broken) c.number.ensures) c.refuse.ensures.refused))

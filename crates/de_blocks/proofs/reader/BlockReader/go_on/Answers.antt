@@ -6,19 +6,19 @@ use Rattle.de_blocks.proofs.reader.BlockReader.go_on.Goals as goal
 
 pub invariant_of-self : goal.invariant_of-self
 invariant_of-self c =
-    fits_after c.self.inside.accepted c.take_line.new.before c.self.inside.numbers.items c.take_line.new.numbers.items c.args.line.now c.self.inside.place
+    fits_after c.self.inside.block.accepted c.take_line.new.block.accepted c.self.inside.block.numbers c.take_line.new.block.numbers c.args.line.now c.self.inside.place
     c.in-Ok.place c.take_line.result c.self.invariant c.in-Ok.is c.take_line.ensures
 
 pub returns-in-Ok : goal.returns-in-Ok
 returns-in-Ok c =
-    subst (λ (p : Progress). Takes p c.args.line.now (Ok tt) (at c.take_line.new.before c.take_line.new.numbers.items c.in-Ok.place)) c.self.view_is
-    (took c.self.inside.accepted c.take_line.new.before c.self.inside.numbers.items c.take_line.new.numbers.items c.args.line.now c.self.inside.place c.in-Ok.place
+    subst (λ (p : Progress). Takes p c.args.line.now (Ok tt) (at c.take_line.new.block.accepted c.take_line.new.block.numbers c.in-Ok.place)) c.self.view_is
+    (took c.self.inside.block.accepted c.take_line.new.block.accepted c.self.inside.block.numbers c.take_line.new.block.numbers c.args.line.now c.self.inside.place c.in-Ok.place
     c.take_line.result (ap (λ (p : Progress). p.place) c.self.view_is ∙ c.requires) c.self.invariant c.in-Ok.is c.take_line.ensures)
 
 pub returns-in-Err-Fault : goal.returns-in-Err-Fault
 returns-in-Err-Fault c =
     rw c.refuse.ensures.result
     (subst (λ (p : Progress). Takes p c.args.line.now (Err (errors.Fault c.in-Err-Fault.fault)) c.refuse.new.self) c.self.view_is
-    (took_bad c.self.inside.accepted c.self.inside.numbers.items c.take_line.new.numbers.items c.take_line.new.before c.self.inside.place c.refuse.new.self c.args.line.now
+    (took_bad c.self.inside.block.accepted c.self.inside.block.numbers c.take_line.new.block.numbers c.take_line.new.block.accepted c.self.inside.place c.refuse.new.self c.args.line.now
     c.in-Err-Fault.field-0 c.in-Err-Fault.fault (ap (λ (p : Progress). p.place) c.self.view_is ∙ c.requires) c.self.invariant
     c.in-Err-Fault.field-0-is c.in-Err-Fault.ensures c.refuse.ensures.refused))

@@ -6,4 +6,4 @@ use Rattle.de_blocks.proofs.reader.BlockReader.new.Goals as goal
 
 pub returns-clause-blocks : goal.returns-clause-blocks
 unfolding says blocks
-returns-clause-blocks c = λ file lines. ap (λ (e : Ephemeris). from_record e lines) c.empty.ensures
+returns-clause-blocks c = λ file lines. ap (λ (e : Ephemeris). from_record e lines) c.new.ensures.accepted

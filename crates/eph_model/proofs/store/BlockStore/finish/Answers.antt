@@ -1,0 +1,17 @@
+use Rattle.std.proofs.Common.{◌≡◌, ◌∙◌, ◌*◌, take, ap, sym, List, subst, rules, to_z, of_z, w64}
+use Rattle.spec_text.specs.declared.decimals.Decimal.{Decimal}
+use Rattle.spec_ephemeris.specs.Ephemeris.{IsEphemeris}
+use Rattle.eph_model.proofs.PairLists.{pairs_take}
+use Rattle.eph_model.proofs.store.BlockStore.finish.Goals as goal
+
+pub invariant_of-result : goal.invariant_of-result
+invariant_of-result c =
+    let e = c.self.inside in
+    let whole : c.whole-whole.result ≡ e.blocks * e.header.ncoeff = rw (← c.self.view_is) at c.whole-whole.ensures ∙ c.self.invariant.0.whole in
+    let start : to_z w64 (of_z w64 e.start) ≡ e.start = search rules in
+    let checked : IsEphemeris (record { header = e.header; start = e.start; blocks = e.blocks; numbers = c.truncate.new.self.items }) =
+    subst (λ (l : List Decimal). IsEphemeris (record { header = e.header; start = e.start; blocks = e.blocks; numbers = l }))
+    (sym (c.truncate.ensures.items ∙ ap (λ k. take k e.numbers.items) whole)) c.self.invariant.0 in (
+      rw start checked,
+      rw (c.truncate.ensures.items, c.truncate-2.ensures.items) (pairs_take _ e.numbers.items e.pairs.items c.self.invariant.1),
+    )

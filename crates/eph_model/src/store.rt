@@ -1,0 +1,164 @@
+// The store of an ephemeris whose blocks are being read.
+ghost use Rattle.std.specs.Prelude.{◌≡◌, ◌<◌, ◌≤◌, [], OnOk, OnErr, length};
+ghost use Rattle.spec_ephemeris.specs.declared.limits.TheConstants.{MAX_BLOCKS};
+ghost use Rattle.spec_ephemeris.specs.Header.{IsHeader};
+ghost use Rattle.spec_ephemeris.specs.Ephemeris.{IsBlock, IsEphemeris, IsStart, empty_ephemeris, end_of};
+ghost use Rattle.eph_model.specs.Stores.{IsRounded, closed, cut_to, store_starting_at, with_number};
+
+use crate::ephemeris::{Ephemeris, Memory};
+use crate::rounding::{kept_pair, push_pair};
+use spec_ephemeris::{Header, Rounded};
+use spec_text::Decimal;
+use std::alloc::Global;
+use std::marker::Model;
+
+/// A checked ephemeris whose blocks are still read, and after its blocks, in the same store, the numbers of a block that
+/// was begun. Times are seconds of TDB since J2000.
+#[derive(Drop)]
+pub struct BlockStore {
+    header: Header,
+    start: i64,
+    blocks: u32,
+    numbers: Vec<Decimal>,
+    pairs: Vec<Rounded>,
+}
+
+impl Model for BlockStore {
+    ghost use Rattle.spec_ephemeris.specs.Ephemeris.{IsEphemeris};
+    ghost use Rattle.eph_model.specs.Pairs.{ArePairs};
+    ghost use Rattle.eph_model.specs.Stores.{Store};
+    ghost use Rattle.std.specs.Prelude.{◌*◌, take, drop};
+
+    ghost Value = { Store };
+
+    ghost view = { λ s. record {
+      accepted = record {
+        header = s.header;
+        start = s.start;
+        blocks = s.blocks;
+        numbers = take (s.blocks * s.header.ncoeff) s.numbers.items;
+      };
+      numbers = drop (s.blocks * s.header.ncoeff) s.numbers.items;
+    } };
+
+    ghost invariant = { λ s. IsEphemeris (record {
+      header = s.header;
+      start = s.start;
+      blocks = s.blocks;
+      numbers = take (s.blocks * s.header.ncoeff) s.numbers.items;
+    }) × ArePairs s.numbers.items s.pairs.items };
+}
+
+impl BlockStore {
+    /// A store with no number, whose first block will begin at `start`. It does not allocate.
+    pub fn new(alloc: Global, header: Header, start: i64) -> Self
+        requires header { IsHeader header }
+        requires start { IsStart start }
+        ensures accepted { result.accepted ≡ empty_ephemeris header start }
+        ensures numbers { result.numbers ≡ [] }
+    {
+        BlockStore {
+            header,
+            start,
+            blocks: 0,
+            numbers: Vec::new(alloc),
+            pairs: Vec::new(alloc),
+        }
+    }
+
+    // How many numbers the whole blocks have.
+    fn whole(&self) -> usize
+        ensures { result ≡ length self.now.accepted.numbers }
+    {
+        self.blocks as usize * self.header.ncoeff as usize
+    }
+
+    /// The numbers of the block that was begun.
+    pub fn count(&self) -> usize
+        ensures { result ≡ length self.now.numbers }
+    {
+        self.numbers.len() - self.whole()
+    }
+
+    /// Adds a number, rounded by `rounded`, to the block that was begun: a Julian date or a coefficient in km. After
+    /// `Memory` nothing has changed.
+    pub fn push(&mut self, number: Decimal, rounded: Option<Rounded>) -> Result<(), Memory>
+        requires { IsRounded number rounded }
+        ensures added { OnOk result (self.new ≡ with_number self.old number) }
+        ensures memory { OnErr result (self.new ≡ self.old) }
+    {
+        self.pairs.reserve(1)?;
+        self.numbers.push(number)?;
+        push_pair(&mut self.pairs, kept_pair(rounded))?;
+        Ok(())
+    }
+
+    /// Keeps the first numbers alone of the block that was begun.
+    pub fn truncate(&mut self, count: usize)
+        requires { count ≤ length self.old.numbers }
+        ensures { self.new ≡ cut_to count self.old }
+    {
+        let dropped = self.count() - count;
+        let kept = self.numbers.len() - dropped;
+        self.numbers.truncate(kept);
+        self.pairs.truncate(kept);
+    }
+
+    /// Makes the block that was begun one of the whole ones, after the last: its two Julian dates, and the coefficients
+    /// of its columns.
+    pub fn close_block(&mut self)
+        requires block { IsBlock self.old.accepted.header self.old.numbers }
+        requires room { self.old.accepted.blocks < MAX_BLOCKS }
+        ensures { self.new ≡ closed self.old }
+    {
+        self.blocks += 1;
+    }
+
+    /// Lets the first block begin at this time and the others after it.
+    pub fn start_at(&mut self, start: i64)
+        requires { IsStart start }
+        ensures { self.new ≡ store_starting_at self.old start }
+    {
+        self.start = start;
+    }
+
+    /// The time at which the last of the whole blocks ends.
+    pub fn end(&self) -> i64
+        ensures { result ≡ end_of self.now.accepted }
+    {
+        self.start + i64::from(self.blocks) * self.header.block_seconds
+    }
+
+    /// The number of whole blocks.
+    pub fn blocks(&self) -> u32
+        ensures { result ≡ self.now.accepted.blocks }
+    {
+        self.blocks
+    }
+
+    /// The header.
+    pub fn header(&self) -> &Header
+        ensures same { result.now ≡ self.now.accepted.header }
+        ensures checked { IsEphemeris self.now.accepted }
+    {
+        &self.header
+    }
+
+    /// The ephemeris of the whole blocks, without the numbers of a block that was begun.
+    pub fn finish(self) -> Ephemeris
+        ensures { result ≡ self.accepted }
+    {
+        let whole = self.whole();
+        let mut numbers = self.numbers;
+        let mut pairs = self.pairs;
+        numbers.truncate(whole);
+        pairs.truncate(whole);
+        Ephemeris {
+            header: self.header,
+            start: self.start,
+            blocks: self.blocks,
+            numbers,
+            pairs,
+        }
+    }
+}

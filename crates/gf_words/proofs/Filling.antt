@@ -4,21 +4,19 @@ use Rattle.spec_ephemeris.specs.declared.body.Body.TheVariants.{Mercury}
 use Rattle.spec_kinds.specs.declared.kind.Kind.{Kind}
 use Rattle.spec_kinds.specs.declared.table.Use.{Use}
 use Rattle.spec_kinds.specs.declared.table.Use.TheVariants.{Needed, Optional, Unused}
-use Rattle.spec_kinds.specs.Table.{is_needed, is_unused, row_of, takes_radii}
-use Rattle.spec_text.specs.declared.decimals.Decimal.{Decimal}
+use Rattle.spec_kinds.specs.Table.{is_unused, row_of, takes_radii}
 use Rattle.spec_requests.specs.declared.request.FindAsk.{FindAsk}
 use Rattle.spec_requests.specs.declared.request.Named.{Named}
 use Rattle.spec_requests.specs.declared.request.Named.TheVariants as opt
 use Rattle.spec_requests.specs.declared.request.Request.{Request}
 use Rattle.spec_requests.specs.declared.request.Request.TheVariants.{Find}
-use Rattle.spec_requests.specs.declared.request.WordFault.{WordFault}
 use Rattle.spec_requests.specs.declared.request.WordFault.TheVariants.{BadValue}
 use Rattle.spec_requests.specs.declared.tables.TheConstants.{FIND_OPTIONS}
 use Rattle.spec_requests.specs.Names.{Text, axis_of, cut_of, dir_of, frame_of, kind_of, layout_of, observer_of, target_of}
 use Rattle.spec_requests.specs.Options.{Values, bad_option, blocks_of, decimal_of, depth_of, instant_of, is_bad, is_misread, seed_of, use_of, width_of, workers_of}
 use Rattle.spec_requests.specs.Requests.{ask_of, bad_word, checked_search, checked_text, nought, search_by, search_of, search_of_kind, text_by, text_of, use_in_text, value_or}
 use Rattle.gf_words.specs.declared.searches.SearchOptions.{SearchOptions}
-use Rattle.gf_words.specs.Parts.{◌>>=◌, part, used, needed, required, ask_read, axes_by, axes_read, bodies_by, bodies_read, ends_by, ends_read, limits_by, limits_read, numbers_by, numbers_read, search_by_options, search_read, text_read}
+use Rattle.gf_words.specs.Parts.{made, needed, pair, part, required, used, ask_of_parts, ask_read, axes_by, axes_of, axes_read, bodies_by, bodies_of, bodies_read, ends_by, ends_of, ends_read, limits_by, limits_of, limits_read, numbers_by, numbers_of, numbers_read, search_by_options, search_of_parts, search_read, text_of_parts, text_read}
 
 -- what is read, or the first option that is bad, where there is one
 abbrev answer : {R : Type 0} → Option Named → R → Result R Named
@@ -45,16 +43,25 @@ find_after p (y ∷ rest) ys none = either (p y) (find_after p rest ys) none
     either true more here = absurd (cc)
     either false more here = more here
 
-both : {A B : Type 0} (p : Named → Bool) (first second : List Named) (x : A) (y : B) (read : Result A Named) (rest : A → Result B Named)
-    → read ≡ answer (find p first) x → rest x ≡ answer (find p second) y → (read >>= rest) ≡ answer (find p (first ++ second)) y
-both {A = A} {B = B} p first second x y read rest is more =
-    ap (λ (r : Result A Named). r >>= rest) is ∙ by (find p first) (find_before p first second) (find_after p first second) refl
+second_only : {A B : Type 0} (x : A) (y : B) (found : Option Named) → pair (Ok x) (answer found y) ≡ answer found (x, y)
+second_only x y None = refl
+second_only x y (Some option) = refl
+
+paired : {A B : Type 0} (p : Named → Bool) (xs ys : List Named) (x : A) (y : B) (first : Result A Named) (second : Result B Named)
+    → first ≡ answer (find p xs) x → second ≡ answer (find p ys) y → pair first second ≡ answer (find p (xs ++ ys)) (x, y)
+paired p xs ys x y first second one other =
+    (λ i. pair (one i) (other i)) ∙ by (find p xs) (find_before p xs ys) (find_after p xs ys) refl
   where
-    by : (found : Option Named) → ((o : Named) → find p first ≡ Some o → find p (first ++ second) ≡ Some o)
-        → (find p first ≡ None → find p (first ++ second) ≡ find p second) → find p first ≡ found
-        → (answer found x >>= rest) ≡ answer (find p (first ++ second)) y
-    by None before after is = more ∙ ap (λ (o : Option Named). answer o y) (sym (after is))
-    by (Some option) before after is = ap (λ (o : Option Named). answer o y) (sym (before option is))
+    by : (found : Option Named) → ((o : Named) → find p xs ≡ Some o → find p (xs ++ ys) ≡ Some o)
+        → (find p xs ≡ None → find p (xs ++ ys) ≡ find p ys) → find p xs ≡ found
+        → pair (answer found x) (answer (find p ys) y) ≡ answer (find p (xs ++ ys)) (x, y)
+    by None before after is = second_only x y (find p ys) ∙ ap (λ (o : Option Named). answer o (x, y)) (sym (after is))
+    by (Some option) before after is = ap (λ (o : Option Named). answer o (x, y)) (sym (before option is))
+
+made_is : {A B : Type 0} (make : A → B) (found : Option Named) (x : A) (read : Result A Named) → read ≡ answer found x
+    → made make read ≡ answer found (make x)
+made_is make None x read is = ap (made make) is
+made_is make (Some option) x read is = ap (made make) is
 
 -- ---- one part
 
@@ -123,78 +130,81 @@ kind_good : (given : Option Text) (kind : Kind) → option_and_then kind_of give
 kind_good None kind is = absurd (cc)
 kind_good (Some word) kind is = rw is refl
 
+-- the options of each group, in their order
+
+abbrev of_bodies : List Named
+of_bodies = opt.Target ∷ opt.Second ∷ opt.Observer ∷ []
+
+abbrev of_axes : List Named
+of_axes = opt.Frame ∷ opt.Axis ∷ []
+
+abbrev of_numbers : List Named
+of_numbers = opt.Ref ∷ opt.Radius1 ∷ opt.Radius2 ∷ []
+
+abbrev of_ask : List Named
+of_ask = (of_bodies ++ of_axes) ++ (of_numbers ++ opt.Dir ∷ [])
+
+abbrev of_ends : List Named
+of_ends = opt.From ∷ opt.To ∷ []
+
+abbrev of_limits : List Named
+of_limits = opt.Width ∷ opt.Depth ∷ opt.Workers ∷ opt.Cut ∷ []
+
 module _ (values : Values) (kind : Kind) where
   -- whether the kind finds an option bad
   abbrev finds : Named → Bool
   finds option = is_bad option (use_of option kind) (values option)
 
-  bodies_are : bodies_read values kind ≡ answer (find finds (opt.Target ∷ opt.Second ∷ opt.Observer ∷ [])) (bodies_by values)
-  unfolding bodies_read
+  of_one : {X : Type 0} (form : Text → Option X) (option : Named) (usage : Use)
+      → finds option ≡ is_misread form usage (values option)
+      → part form option usage (values option) ≡ answer (find finds (option ∷ [])) (option_and_then form (values option))
+  of_one form option usage is = one_part form finds option usage (values option) is
+
+  bodies_are : bodies_read values kind ≡ answer (find finds of_bodies) (bodies_by values)
   bodies_are =
-      both finds (opt.Target ∷ []) (opt.Second ∷ opt.Observer ∷ []) _ (bodies_by values) _ _
+      made_is bodies_of (find finds of_bodies) _ _ (paired finds (opt.Target ∷ []) (opt.Second ∷ opt.Observer ∷ []) _ _ _ _
       (needed_part target_of finds opt.Target (values opt.Target) Mercury refl)
-      (both finds (opt.Second ∷ []) (opt.Observer ∷ []) _ (bodies_by values) _ _
-      (one_part target_of finds opt.Second (row_of kind).second (values opt.Second) refl)
-      (both finds (opt.Observer ∷ []) [] _ (bodies_by values) _ _
-      (one_part observer_of finds opt.Observer Optional (values opt.Observer) refl) refl))
+      (paired finds (opt.Second ∷ []) (opt.Observer ∷ []) _ _ _ _
+      (of_one target_of opt.Second (row_of kind).second refl) (of_one observer_of opt.Observer Optional refl)))
 
-  axes_are : axes_read values kind ≡ answer (find finds (opt.Frame ∷ opt.Axis ∷ [])) (axes_by values)
-  unfolding axes_read
+  axes_are : axes_read values kind ≡ answer (find finds of_axes) (axes_by values)
   axes_are =
-      both finds (opt.Frame ∷ []) (opt.Axis ∷ []) _ (axes_by values) _ _
-      (one_part frame_of finds opt.Frame (row_of kind).frame (values opt.Frame) refl)
-      (both finds (opt.Axis ∷ []) [] _ (axes_by values) _ _
-      (one_part axis_of finds opt.Axis (row_of kind).axis (values opt.Axis) refl) refl)
+      made_is axes_of (find finds of_axes) _ _ (paired finds (opt.Frame ∷ []) (opt.Axis ∷ []) _ _ _ _
+      (of_one frame_of opt.Frame (row_of kind).frame refl) (of_one axis_of opt.Axis (row_of kind).axis refl))
 
-  numbers_are : numbers_read values kind ≡ answer (find finds (opt.Ref ∷ opt.Radius1 ∷ opt.Radius2 ∷ [])) (numbers_by values kind)
-  unfolding numbers_read
+  numbers_are : numbers_read values kind ≡ answer (find finds of_numbers) (numbers_by values kind)
   numbers_are =
-      both finds (opt.Ref ∷ []) (opt.Radius1 ∷ opt.Radius2 ∷ []) _ (numbers_by values kind) _ _
-      (one_part decimal_of finds opt.Ref (row_of kind).reference (values opt.Ref) refl)
-      (both finds (opt.Radius1 ∷ []) (opt.Radius2 ∷ []) _ (numbers_by values kind) _ _
-      (one_part decimal_of finds opt.Radius1 (row_of kind).radii (values opt.Radius1) refl)
-      (both finds (opt.Radius2 ∷ []) [] _ (numbers_by values kind) _ _
-      (one_part decimal_of finds opt.Radius2 (row_of kind).radii (values opt.Radius2) refl)
-      (λ i. Ok (record { value1 = first_number_is (takes_radii kind) values i; value2 = value_or decimal_of nought (values opt.Radius2) }))))
+      made_is (numbers_of kind) (find finds of_numbers) _ _ (paired finds (opt.Ref ∷ []) (opt.Radius1 ∷ opt.Radius2 ∷ []) _ _ _ _
+      (of_one decimal_of opt.Ref (row_of kind).reference refl) (paired finds (opt.Radius1 ∷ []) (opt.Radius2 ∷ []) _ _ _ _
+      (of_one decimal_of opt.Radius1 (row_of kind).radii refl) (of_one decimal_of opt.Radius2 (row_of kind).radii refl)))
+      ∙ ap (answer (find finds of_numbers))
+      (λ i. record { value1 = first_number_is (takes_radii kind) values i; value2 = value_or decimal_of nought (values opt.Radius2) })
 
-  ask_is : ask_read values kind
-      ≡ answer (find finds (opt.Target ∷ opt.Second ∷ opt.Observer ∷ opt.Frame ∷ opt.Axis ∷ opt.Ref ∷ opt.Radius1 ∷ opt.Radius2 ∷ opt.Dir ∷ [])) (ask_of values kind)
-  unfolding ask_read ask_of
+  ask_is : ask_read values kind ≡ answer (find finds of_ask) (ask_of values kind)
+  unfolding ask_of
   ask_is =
-      both finds (opt.Target ∷ opt.Second ∷ opt.Observer ∷ [])
-      (opt.Frame ∷ opt.Axis ∷ opt.Ref ∷ opt.Radius1 ∷ opt.Radius2 ∷ opt.Dir ∷ []) _ (ask_of values kind) _ _ bodies_are
-      (both finds (opt.Frame ∷ opt.Axis ∷ []) (opt.Ref ∷ opt.Radius1 ∷ opt.Radius2 ∷ opt.Dir ∷ []) _ (ask_of values kind) _ _ axes_are
-      (both finds (opt.Ref ∷ opt.Radius1 ∷ opt.Radius2 ∷ []) (opt.Dir ∷ []) _ (ask_of values kind) _ _ numbers_are
-      (both finds (opt.Dir ∷ []) [] _ (ask_of values kind) _ _
-      (one_part dir_of finds opt.Dir Optional (values opt.Dir) refl) refl)))
+      made_is (ask_of_parts kind) (find finds of_ask) _ _ (paired finds (of_bodies ++ of_axes) (of_numbers ++ opt.Dir ∷ []) _ _ _ _
+      (paired finds of_bodies of_axes _ _ _ _ bodies_are axes_are)
+      (paired finds of_numbers (opt.Dir ∷ []) _ _ _ _ numbers_are (of_one dir_of opt.Dir Optional refl)))
 
-  ends_are : ends_read values ≡ answer (find finds (opt.From ∷ opt.To ∷ [])) (ends_by values)
-  unfolding ends_read
+  ends_are : ends_read values ≡ answer (find finds of_ends) (ends_by values)
   ends_are =
-      both finds (opt.From ∷ []) (opt.To ∷ []) _ (ends_by values) _ _
-      (one_part instant_of finds opt.From Optional (values opt.From) refl)
-      (both finds (opt.To ∷ []) [] _ (ends_by values) _ _
-      (one_part instant_of finds opt.To Optional (values opt.To) refl) refl)
+      made_is ends_of (find finds of_ends) _ _ (paired finds (opt.From ∷ []) (opt.To ∷ []) _ _ _ _
+      (of_one instant_of opt.From Optional refl) (of_one instant_of opt.To Optional refl))
 
-  limits_are : limits_read values ≡ answer (find finds (opt.Width ∷ opt.Depth ∷ opt.Workers ∷ opt.Cut ∷ [])) (limits_by values)
-  unfolding limits_read
+  limits_are : limits_read values ≡ answer (find finds of_limits) (limits_by values)
   limits_are =
-      both finds (opt.Width ∷ []) (opt.Depth ∷ opt.Workers ∷ opt.Cut ∷ []) _ (limits_by values) _ _
-      (one_part width_of finds opt.Width Optional (values opt.Width) refl)
-      (both finds (opt.Depth ∷ []) (opt.Workers ∷ opt.Cut ∷ []) _ (limits_by values) _ _
-      (one_part depth_of finds opt.Depth Optional (values opt.Depth) refl)
-      (both finds (opt.Workers ∷ []) (opt.Cut ∷ []) _ (limits_by values) _ _
-      (one_part workers_of finds opt.Workers Optional (values opt.Workers) refl)
-      (both finds (opt.Cut ∷ []) [] _ (limits_by values) _ _
-      (one_part cut_of finds opt.Cut Optional (values opt.Cut) refl) refl)))
+      made_is limits_of (find finds of_limits) _ _
+      (paired finds (opt.Width ∷ opt.Depth ∷ []) (opt.Workers ∷ opt.Cut ∷ []) _ _ _ _
+      (paired finds (opt.Width ∷ []) (opt.Depth ∷ []) _ _ _ _
+      (of_one width_of opt.Width Optional refl) (of_one depth_of opt.Depth Optional refl))
+      (paired finds (opt.Workers ∷ []) (opt.Cut ∷ []) _ _ _ _
+      (of_one workers_of opt.Workers Optional refl) (of_one cut_of opt.Cut Optional refl)))
 
   options_are : search_read values kind ≡ answer (find finds (drop 1 FIND_OPTIONS)) (search_by_options values kind)
-  unfolding search_read
   options_are =
-      both finds (opt.Target ∷ opt.Second ∷ opt.Observer ∷ opt.Frame ∷ opt.Axis ∷ opt.Ref ∷ opt.Radius1 ∷ opt.Radius2 ∷ opt.Dir ∷ [])
-      (opt.From ∷ opt.To ∷ opt.Width ∷ opt.Depth ∷ opt.Workers ∷ opt.Cut ∷ []) _ (search_by_options values kind) _ _ ask_is
-      (both finds (opt.From ∷ opt.To ∷ []) (opt.Width ∷ opt.Depth ∷ opt.Workers ∷ opt.Cut ∷ []) _ (search_by_options values kind) _ _ ends_are
-      (both finds (opt.Width ∷ opt.Depth ∷ opt.Workers ∷ opt.Cut ∷ []) [] _ (search_by_options values kind) _ _ limits_are refl))
+      made_is search_of_parts (find finds (drop 1 FIND_OPTIONS)) _ _ (paired finds of_ask (of_ends ++ of_limits) _ _ _ _ ask_is
+      (paired finds of_ends of_limits _ _ _ _ ends_are limits_are))
 
 search_is_read : (values : Values) (kind : Kind) → option_and_then kind_of (values opt.Kind) ≡ Some kind
     → search_read values kind ≡ answer (bad_option values kind) (search_by_options values kind)
@@ -250,18 +260,17 @@ option_bad values kind files option known read =
 -- ---- generated texts
 
 text_is_read : (values : Values) → text_read values ≡ answer (bad_word values) (text_of values)
-unfolding text_read bad_word text_of
+unfolding bad_word text_of
 text_is_read values =
     let p : Named → Bool = λ option. is_bad option (use_in_text option) (values option) in
-    let text : Request = text_of values in
-    both p (opt.Layout ∷ []) (opt.Blocks ∷ opt.Seed ∷ opt.Workers ∷ []) _ text _ _
+    made_is text_of_parts (bad_word values) _ _
+    (paired p (opt.Layout ∷ opt.Blocks ∷ []) (opt.Seed ∷ opt.Workers ∷ []) _ _ _ _
+    (paired p (opt.Layout ∷ []) (opt.Blocks ∷ []) _ _ _ _
     (needed_part layout_of p opt.Layout (values opt.Layout) 405 refl)
-    (both p (opt.Blocks ∷ []) (opt.Seed ∷ opt.Workers ∷ []) _ text _ _
-    (needed_part blocks_of p opt.Blocks (values opt.Blocks) 1 refl)
-    (both p (opt.Seed ∷ []) (opt.Workers ∷ []) _ text _ _
+    (needed_part blocks_of p opt.Blocks (values opt.Blocks) 1 refl))
+    (paired p (opt.Seed ∷ []) (opt.Workers ∷ []) _ _ _ _
     (needed_part seed_of p opt.Seed (values opt.Seed) 0 refl)
-    (both p (opt.Workers ∷ []) [] _ text _ _
-    (one_part workers_of p opt.Workers Optional (values opt.Workers) refl) refl)))
+    (one_part workers_of p opt.Workers Optional (values opt.Workers) refl)))
 
 pub text_found : (values : Values) (request : Request) → Ok request ≡ text_read values → Ok request ≡ text_by values
 unfolding text_by

@@ -1,7 +1,7 @@
 mod Parsing
 mod Faults
 mod Rules
-mod Chains
+mod Pairs
 mod Filling
 mod Answering
 mod Asking

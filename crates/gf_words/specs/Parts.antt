@@ -1,8 +1,13 @@
 -- The parts of a request, read one after another in the order of the tables of options.
-use Rattle.std.specs.Prelude.{Option, None, Some, Result, Ok, Err, if◌then◌else◌, option_and_then, unwrap_or}
+use Rattle.std.specs.Prelude.{ℕ, ℤ, Option, None, Some, Result, Ok, Err, if◌then◌else◌, option_and_then, option_map, unwrap_or}
+use Rattle.spec_text.specs.declared.decimals.Decimal.{Decimal}
+use Rattle.spec_ephemeris.specs.declared.body.Body.{Body}
 use Rattle.spec_ephemeris.specs.declared.body.Body.TheVariants.{Mercury, Ssb}
+use Rattle.spec_bodies.specs.declared.frame.Frame.{Frame}
 use Rattle.spec_bodies.specs.declared.frame.Frame.TheVariants.{Eq}
+use Rattle.spec_events.specs.declared.dir.Dir.{Dir}
 use Rattle.spec_events.specs.declared.dir.Dir.TheVariants as dir
+use Rattle.spec_trees.specs.declared.cuts.CutRule.{CutRule}
 use Rattle.spec_trees.specs.declared.cuts.CutRule.TheVariants.{Half}
 use Rattle.spec_kinds.specs.declared.ask.Ask.{Ask}
 use Rattle.spec_kinds.specs.declared.kind.Kind.{Kind}
@@ -14,7 +19,7 @@ use Rattle.spec_requests.specs.declared.request.Named.TheVariants as opt
 use Rattle.spec_requests.specs.declared.request.Request.{Request}
 use Rattle.spec_requests.specs.declared.request.Request.TheVariants.{Gen}
 use Rattle.spec_requests.specs.declared.limits.TheConstants.{DEFAULT_WIDTH, DEFAULT_DEPTH, DEFAULT_WORKERS}
-use Rattle.spec_requests.specs.Names.{Text, axis_of, cut_of, dir_of, frame_of, kind_of, layout_of, observer_of, target_of}
+use Rattle.spec_requests.specs.Names.{Text, axis_of, cut_of, dir_of, frame_of, layout_of, observer_of, target_of}
 use Rattle.spec_requests.specs.Options.{Values, blocks_of, decimal_of, depth_of, instant_of, seed_of, width_of, workers_of}
 use Rattle.spec_requests.specs.Requests.{ask_of, first_number, nought, value_or}
 use Rattle.gf_words.specs.declared.searches.Axes.{Axes}
@@ -24,10 +29,16 @@ use Rattle.gf_words.specs.declared.searches.Limits.{Limits}
 use Rattle.gf_words.specs.declared.searches.Numbers.{Numbers}
 use Rattle.gf_words.specs.declared.searches.SearchOptions.{SearchOptions}
 
-infixl 10 ◌>>=◌
-abbrev pub ◌>>=◌ : {A B : Type 0} → Result A Named → (A → Result B Named) → Result B Named
-(Ok x) >>= f = f x
-(Err option) >>= f = Err option
+-- both parts, or the first of the two that is bad
+abbrev pub pair : {A B : Type 0} → Result A Named → Result B Named → Result (A × B) Named
+pair (Ok x) (Ok y) = Ok (x, y)
+pair (Ok x) (Err option) = Err option
+pair (Err option) second = Err option
+
+-- what is made of parts, where none is bad
+abbrev pub made : {A B : Type 0} → (A → B) → Result A Named → Result B Named
+made make (Ok x) = Ok (make x)
+made make (Err option) = Err option
 
 -- ---- one part: what an option's word stands for, or the option, where it is bad
 
@@ -44,9 +55,13 @@ left_out option Needed = Err option
 left_out option Optional = Ok None
 left_out option Unused = Ok None
 
+-- what its usage makes of a part: of what its word is read as, where there is a word
+abbrev pub by_use : {X : Type 0} → Named → Use → Option (Option X) → Result (Option X) Named
+by_use option usage None = left_out option usage
+by_use option usage (Some read) = used option usage read
+
 abbrev pub part : {X : Type 0} → (Text → Option X) → Named → Use → Option Text → Result (Option X) Named
-part form option usage None = left_out option usage
-part form option usage (Some word) = used option usage (form word)
+part form option usage given = by_use option usage (option_map form given)
 
 -- the same of an option that has to be there
 abbrev pub required : {X : Type 0} → Named → Option X → Result X Named
@@ -65,21 +80,23 @@ bodies_by values = record {
   observer = value_or observer_of Ssb (values opt.Observer);
 }
 
-unfoldable pub bodies_read : Values → Kind → Result Bodies Named
-bodies_read values kind = do
-  target ← needed target_of opt.Target (values opt.Target)
-  second ← part target_of opt.Second (row_of kind).second (values opt.Second)
-  observer ← part observer_of opt.Observer Optional (values opt.Observer)
-  Ok (record { target = target; second = second; observer = unwrap_or observer Ssb })
+abbrev pub bodies_of : Body × (Option Body × Option Body) → Bodies
+bodies_of (target, (second, observer)) = record { target = target; second = second; observer = unwrap_or observer Ssb }
+
+abbrev pub bodies_read : Values → Kind → Result Bodies Named
+bodies_read values kind = made bodies_of (pair (needed target_of opt.Target (values opt.Target))
+    (pair (part target_of opt.Second (row_of kind).second (values opt.Second))
+    (part observer_of opt.Observer Optional (values opt.Observer))))
 
 abbrev pub axes_by : Values → Axes
 axes_by values = record { frame = value_or frame_of Eq (values opt.Frame); axis = value_or axis_of 0 (values opt.Axis) }
 
-unfoldable pub axes_read : Values → Kind → Result Axes Named
-axes_read values kind = do
-  frame ← part frame_of opt.Frame (row_of kind).frame (values opt.Frame)
-  axis ← part axis_of opt.Axis (row_of kind).axis (values opt.Axis)
-  Ok (record { frame = unwrap_or frame Eq; axis = unwrap_or axis 0 })
+abbrev pub axes_of : Option Frame × Option ℕ → Axes
+axes_of (frame, axis) = record { frame = unwrap_or frame Eq; axis = unwrap_or axis 0 }
+
+abbrev pub axes_read : Values → Kind → Result Axes Named
+axes_read values kind = made axes_of (pair (part frame_of opt.Frame (row_of kind).frame (values opt.Frame))
+    (part axis_of opt.Axis (row_of kind).axis (values opt.Axis)))
 
 abbrev pub numbers_by : Values → Kind → Numbers
 numbers_by values kind = record {
@@ -87,39 +104,46 @@ numbers_by values kind = record {
   value2 = value_or decimal_of nought (values opt.Radius2);
 }
 
-unfoldable pub numbers_read : Values → Kind → Result Numbers Named
-numbers_read values kind = do
-  reference ← part decimal_of opt.Ref (row_of kind).reference (values opt.Ref)
-  radius1 ← part decimal_of opt.Radius1 (row_of kind).radii (values opt.Radius1)
-  radius2 ← part decimal_of opt.Radius2 (row_of kind).radii (values opt.Radius2)
-  Ok (record { value1 = unwrap_or (if takes_radii kind then radius1 else reference) nought; value2 = unwrap_or radius2 nought })
+abbrev pub numbers_of : Kind → Option Decimal × (Option Decimal × Option Decimal) → Numbers
+numbers_of kind (reference, (radius1, radius2)) = record {
+  value1 = unwrap_or (if takes_radii kind then radius1 else reference) nought;
+  value2 = unwrap_or radius2 nought;
+}
 
-unfoldable pub ask_read : Values → Kind → Result Ask Named
-ask_read values kind = do
-  bodies ← bodies_read values kind
-  axes ← axes_read values kind
-  numbers ← numbers_read values kind
-  turns ← part dir_of opt.Dir Optional (values opt.Dir)
-  Ok (record {
-    kind = kind;
-    target = bodies.target;
-    second = bodies.second;
-    observer = bodies.observer;
-    frame = axes.frame;
-    axis = axes.axis;
-    value1 = numbers.value1;
-    value2 = numbers.value2;
-    dir = unwrap_or turns dir.Any;
-  })
+abbrev pub radii_read : Values → Kind → Result (Option Decimal × Option Decimal) Named
+radii_read values kind = pair (part decimal_of opt.Radius1 (row_of kind).radii (values opt.Radius1))
+    (part decimal_of opt.Radius2 (row_of kind).radii (values opt.Radius2))
+
+abbrev pub numbers_read : Values → Kind → Result Numbers Named
+numbers_read values kind = made (numbers_of kind)
+    (pair (part decimal_of opt.Ref (row_of kind).reference (values opt.Ref)) (radii_read values kind))
+
+abbrev pub ask_of_parts : Kind → (Bodies × Axes) × (Numbers × Option Dir) → Ask
+ask_of_parts kind ((bodies, axes), (numbers, turns)) = record {
+  kind = kind;
+  target = bodies.target;
+  second = bodies.second;
+  observer = bodies.observer;
+  frame = axes.frame;
+  axis = axes.axis;
+  value1 = numbers.value1;
+  value2 = numbers.value2;
+  dir = unwrap_or turns dir.Any;
+}
+
+abbrev pub ask_read : Values → Kind → Result Ask Named
+ask_read values kind = made (ask_of_parts kind) (pair (pair (bodies_read values kind) (axes_read values kind))
+    (pair (numbers_read values kind) (part dir_of opt.Dir Optional (values opt.Dir))))
 
 abbrev pub ends_by : Values → Ends
 ends_by values = record { from = option_and_then instant_of (values opt.From); to = option_and_then instant_of (values opt.To) }
 
-unfoldable pub ends_read : Values → Result Ends Named
-ends_read values = do
-  from ← part instant_of opt.From Optional (values opt.From)
-  to ← part instant_of opt.To Optional (values opt.To)
-  Ok (record { from = from; to = to })
+abbrev pub ends_of : Option ℤ × Option ℤ → Ends
+ends_of (from, to) = record { from = from; to = to }
+
+abbrev pub ends_read : Values → Result Ends Named
+ends_read values = made ends_of (pair (part instant_of opt.From Optional (values opt.From))
+    (part instant_of opt.To Optional (values opt.To)))
 
 abbrev pub limits_by : Values → Limits
 limits_by values = record {
@@ -129,36 +153,35 @@ limits_by values = record {
   cut = value_or cut_of Half (values opt.Cut);
 }
 
-unfoldable pub limits_read : Values → Result Limits Named
-limits_read values = do
-  width ← part width_of opt.Width Optional (values opt.Width)
-  depth ← part depth_of opt.Depth Optional (values opt.Depth)
-  workers ← part workers_of opt.Workers Optional (values opt.Workers)
-  cut ← part cut_of opt.Cut Optional (values opt.Cut)
-  Ok (record {
-    width = unwrap_or width DEFAULT_WIDTH;
-    depth = unwrap_or depth DEFAULT_DEPTH;
-    workers = unwrap_or workers DEFAULT_WORKERS;
-    cut = unwrap_or cut Half;
-  })
+abbrev pub limits_of : (Option ℕ × Option ℕ) × (Option ℕ × Option CutRule) → Limits
+limits_of ((width, depth), (workers, cut)) = record {
+  width = unwrap_or width DEFAULT_WIDTH;
+  depth = unwrap_or depth DEFAULT_DEPTH;
+  workers = unwrap_or workers DEFAULT_WORKERS;
+  cut = unwrap_or cut Half;
+}
+
+abbrev pub limits_read : Values → Result Limits Named
+limits_read values = made limits_of
+    (pair (pair (part width_of opt.Width Optional (values opt.Width)) (part depth_of opt.Depth Optional (values opt.Depth)))
+    (pair (part workers_of opt.Workers Optional (values opt.Workers)) (part cut_of opt.Cut Optional (values opt.Cut))))
 
 -- a search without its texts
 abbrev pub search_by_options : Values → Kind → SearchOptions
 search_by_options values kind = record { ask = ask_of values kind; ends = ends_by values; limits = limits_by values }
 
-unfoldable pub search_read : Values → Kind → Result SearchOptions Named
-search_read values kind = do
-  ask ← ask_read values kind
-  ends ← ends_read values
-  limits ← limits_read values
-  Ok (record { ask = ask; ends = ends; limits = limits })
+abbrev pub search_of_parts : Ask × (Ends × Limits) → SearchOptions
+search_of_parts (ask, (ends, limits)) = record { ask = ask; ends = ends; limits = limits }
+
+abbrev pub search_read : Values → Kind → Result SearchOptions Named
+search_read values kind = made search_of_parts (pair (ask_read values kind) (pair (ends_read values) (limits_read values)))
 
 -- ---- the parts of a generated text
 
-unfoldable pub text_read : Values → Result Request Named
-text_read values = do
-  layout ← needed layout_of opt.Layout (values opt.Layout)
-  blocks ← needed blocks_of opt.Blocks (values opt.Blocks)
-  seed ← needed seed_of opt.Seed (values opt.Seed)
-  workers ← part workers_of opt.Workers Optional (values opt.Workers)
-  Ok (Gen blocks seed (unwrap_or workers DEFAULT_WORKERS))
+abbrev pub text_of_parts : (ℕ × ℕ) × (ℕ × Option ℕ) → Request
+text_of_parts ((layout, blocks), (seed, workers)) = Gen blocks seed (unwrap_or workers DEFAULT_WORKERS)
+
+abbrev pub text_read : Values → Result Request Named
+text_read values = made text_of_parts
+    (pair (pair (needed layout_of opt.Layout (values opt.Layout)) (needed blocks_of opt.Blocks (values opt.Blocks)))
+    (pair (needed seed_of opt.Seed (values opt.Seed)) (part workers_of opt.Workers Optional (values opt.Workers))))

@@ -1,8 +1,8 @@
 // The commands, as `clap` takes them.
 ghost use Rattle.std.specs.Prelude.{◌≡◌, ◌++◌, ◌∷◌, [], IfOk, map};
 ghost use Rattle.clap.specs.Simple.{app_of, on_top};
-ghost use Rattle.spec_requests.specs.Commands.{check_command, command_with, files_rule, find_command, gen_command, option_rule, word_rule};
-ghost use Rattle.gf_words.specs.Commands.{with_rules};
+ghost use Rattle.spec_requests.specs.Commands.{check_command, command_with, files_rule, find_command, gen_command};
+ghost use Rattle.gf_words.specs.Commands.{rule_of, with_rules};
 
 use clap::{Arg, ArgAction, Command};
 use spec_requests::{
@@ -10,54 +10,40 @@ use spec_requests::{
 };
 use std::alloc::{AllocError, Global};
 
-fn with_option<'a>(
+/// How words give a value: behind its option's name, or in its place.
+#[derive(Clone, Copy)]
+pub(crate) enum Role {
+    Option,
+    Word,
+}
+
+fn with_one<'a>(
     alloc: Global,
     command: Command<'a>,
+    role: Role,
     option: Named,
 ) -> Result<Command<'a>, AllocError>
     ensures { IfOk result (λ more.
-        app_of more ≡ with_rules (option_rule option ∷ []) (app_of command.entry)) }
+        app_of more ≡ with_rules (rule_of role option ∷ []) (app_of command.entry)) }
 {
     let name: &'a str = option_name(option);
-    command.arg(Arg::new(alloc, name).long(name))
+    match role {
+        Role::Option => command.arg(Arg::new(alloc, name).long(name)),
+        Role::Word => command.arg(Arg::new(alloc, name).required(true)),
+    }
 }
 
-fn with_word<'a>(
-    alloc: Global,
-    command: Command<'a>,
-    word: Named,
-) -> Result<Command<'a>, AllocError>
-    ensures { IfOk result (λ more.
-        app_of more ≡ with_rules (word_rule word ∷ []) (app_of command.entry)) }
-{
-    let name: &'a str = option_name(word);
-    command.arg(Arg::new(alloc, name).required(true))
-}
-
-fn with_options<'a>(
+fn with_all<'a>(
     alloc: Global,
     mut command: Command<'a>,
+    role: Role,
     options: &[Named],
 ) -> Result<Command<'a>, AllocError>
     ensures { IfOk result (λ more.
-        app_of more ≡ with_rules (map option_rule options.now) (app_of command.entry)) }
+        app_of more ≡ with_rules (map (rule_of role) options.now) (app_of command.entry)) }
 {
     for option in options {
-        command = with_option(alloc, command, *option)?;
-    }
-    Ok(command)
-}
-
-fn with_words<'a>(
-    alloc: Global,
-    mut command: Command<'a>,
-    words: &[Named],
-) -> Result<Command<'a>, AllocError>
-    ensures { IfOk result (λ more.
-        app_of more ≡ with_rules (map word_rule words.now) (app_of command.entry)) }
-{
-    for word in words {
-        command = with_word(alloc, command, *word)?;
+        command = with_one(alloc, command, role, *option)?;
     }
     Ok(command)
 }
@@ -82,7 +68,12 @@ pub(crate) fn find_command<'a>(alloc: Global) -> Result<Command<'a>, AllocError>
     ensures { IfOk result (λ command. app_of command ≡ find_command) }
 {
     let name: &'a str = command_name(CommandName::Find);
-    let command = with_options(alloc, without_help(alloc, name), &FIND_OPTIONS)?;
+    let command = with_all(
+        alloc,
+        without_help(alloc, name),
+        Role::Option,
+        &FIND_OPTIONS,
+    )?;
     with_files(alloc, command)
 }
 
@@ -97,6 +88,7 @@ pub(crate) fn gen_command<'a>(alloc: Global) -> Result<Command<'a>, AllocError>
     ensures { IfOk result (λ command. app_of command ≡ gen_command) }
 {
     let name: &'a str = command_name(CommandName::Gen);
-    let command = with_options(alloc, without_help(alloc, name), &GEN_OPTIONS)?;
-    with_words(alloc, command, &GEN_WORDS)
+    let command = with_all(alloc, without_help(alloc, name), Role::Option, &GEN_OPTIONS)?;
+    let command = with_all(alloc, command, Role::Word, &GEN_WORDS)?;
+    Ok(command)
 }

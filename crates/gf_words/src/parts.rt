@@ -4,7 +4,7 @@ ghost use Rattle.spec_kinds.specs.declared.table.Use.TheVariants.{Optional};
 ghost use Rattle.spec_requests.specs.declared.request.Named.TheVariants as opt;
 ghost use Rattle.spec_requests.specs.Names.{axis_of, cut_of, dir_of, frame_of, kind_of, layout_of, observer_of, target_of};
 ghost use Rattle.spec_requests.specs.Options.{blocks_of, decimal_of, depth_of, instant_of, seed_of, width_of, workers_of};
-ghost use Rattle.gf_words.specs.Parts.{left_out, needed, part, required, used};
+ghost use Rattle.gf_words.specs.Parts.{by_use, left_out, needed, pair, part, required, used};
 ghost use Rattle.gf_words.specs.Readings.{values_of};
 
 use crate::forms;
@@ -43,6 +43,20 @@ fn left_out<T: Copy>(option: Named, usage: Use) -> Result<Option<T>, Named>
     }
 }
 
+// A part as its usage lets it be: what the word of its option was read as, where the option has a word.
+fn check_use<T: Copy>(
+    option: Named,
+    usage: Use,
+    read: Option<Option<T>>,
+) -> Result<Option<T>, Named>
+    ensures { result ≡ by_use option usage read }
+{
+    match read {
+        Some(value) => used(option, usage, value),
+        None => left_out(option, usage),
+    }
+}
+
 // A part that has to be there.
 fn required<T: Copy>(option: Named, read: Option<T>) -> Result<T, Named>
     ensures { result ≡ required option read }
@@ -70,37 +84,41 @@ pub(crate) fn target(matches: &ArgMatches<'_>) -> Result<Body, Named>
 pub(crate) fn second(matches: &ArgMatches<'_>, usage: Use) -> Result<Option<Body>, Named>
     ensures { result ≡ part target_of opt.Second usage (values_of matches.now opt.Second) }
 {
-    match value(matches, Named::Second) {
-        Some(word) => used(Named::Second, usage, forms::target(word)),
-        None => left_out(Named::Second, usage),
-    }
+    check_use(
+        Named::Second,
+        usage,
+        value(matches, Named::Second).map(forms::target),
+    )
 }
 
 pub(crate) fn observer(matches: &ArgMatches<'_>) -> Result<Option<Body>, Named>
     ensures { result ≡ part observer_of opt.Observer Optional (values_of matches.now opt.Observer) }
 {
-    match value(matches, Named::Observer) {
-        Some(word) => used(Named::Observer, Use::Optional, forms::observer(word)),
-        None => Ok(None),
-    }
+    check_use(
+        Named::Observer,
+        Use::Optional,
+        value(matches, Named::Observer).map(forms::observer),
+    )
 }
 
 pub(crate) fn frame(matches: &ArgMatches<'_>, usage: Use) -> Result<Option<Frame>, Named>
     ensures { result ≡ part frame_of opt.Frame usage (values_of matches.now opt.Frame) }
 {
-    match value(matches, Named::Frame) {
-        Some(word) => used(Named::Frame, usage, forms::frame(word)),
-        None => left_out(Named::Frame, usage),
-    }
+    check_use(
+        Named::Frame,
+        usage,
+        value(matches, Named::Frame).map(forms::frame),
+    )
 }
 
 pub(crate) fn axis(matches: &ArgMatches<'_>, usage: Use) -> Result<Option<u8>, Named>
     ensures { result ≡ part axis_of opt.Axis usage (values_of matches.now opt.Axis) }
 {
-    match value(matches, Named::Axis) {
-        Some(word) => used(Named::Axis, usage, forms::axis(word)),
-        None => left_out(Named::Axis, usage),
-    }
+    check_use(
+        Named::Axis,
+        usage,
+        value(matches, Named::Axis).map(forms::axis),
+    )
 }
 
 // A number of the event: its reference value, or a radius.
@@ -111,65 +129,68 @@ pub(crate) fn number(
 ) -> Result<Option<Decimal>, Named>
     ensures { result ≡ part decimal_of option usage (values_of matches.now option) }
 {
-    match value(matches, option) {
-        Some(word) => used(option, usage, forms::decimal(word)),
-        None => left_out(option, usage),
-    }
+    check_use(option, usage, value(matches, option).map(forms::decimal))
 }
 
 pub(crate) fn dir(matches: &ArgMatches<'_>) -> Result<Option<Dir>, Named>
     ensures { result ≡ part dir_of opt.Dir Optional (values_of matches.now opt.Dir) }
 {
-    match value(matches, Named::Dir) {
-        Some(word) => used(Named::Dir, Use::Optional, forms::dir(word)),
-        None => Ok(None),
-    }
+    check_use(
+        Named::Dir,
+        Use::Optional,
+        value(matches, Named::Dir).map(forms::dir),
+    )
 }
 
 // An end of the span, in seconds of TDB since J2000.
 pub(crate) fn instant(matches: &ArgMatches<'_>, option: Named) -> Result<Option<i64>, Named>
     ensures { result ≡ part instant_of option Optional (values_of matches.now option) }
 {
-    match value(matches, option) {
-        Some(word) => used(option, Use::Optional, forms::instant(word)),
-        None => Ok(None),
-    }
+    check_use(
+        option,
+        Use::Optional,
+        value(matches, option).map(forms::instant),
+    )
 }
 
 pub(crate) fn width(matches: &ArgMatches<'_>) -> Result<Option<u32>, Named>
     ensures { result ≡ part width_of opt.Width Optional (values_of matches.now opt.Width) }
 {
-    match value(matches, Named::Width) {
-        Some(word) => used(Named::Width, Use::Optional, forms::width(word)),
-        None => Ok(None),
-    }
+    check_use(
+        Named::Width,
+        Use::Optional,
+        value(matches, Named::Width).map(forms::width),
+    )
 }
 
 pub(crate) fn depth(matches: &ArgMatches<'_>) -> Result<Option<u32>, Named>
     ensures { result ≡ part depth_of opt.Depth Optional (values_of matches.now opt.Depth) }
 {
-    match value(matches, Named::Depth) {
-        Some(word) => used(Named::Depth, Use::Optional, forms::depth(word)),
-        None => Ok(None),
-    }
+    check_use(
+        Named::Depth,
+        Use::Optional,
+        value(matches, Named::Depth).map(forms::depth),
+    )
 }
 
 pub(crate) fn workers(matches: &ArgMatches<'_>) -> Result<Option<u32>, Named>
     ensures { result ≡ part workers_of opt.Workers Optional (values_of matches.now opt.Workers) }
 {
-    match value(matches, Named::Workers) {
-        Some(word) => used(Named::Workers, Use::Optional, forms::workers(word)),
-        None => Ok(None),
-    }
+    check_use(
+        Named::Workers,
+        Use::Optional,
+        value(matches, Named::Workers).map(forms::workers),
+    )
 }
 
 pub(crate) fn cut(matches: &ArgMatches<'_>) -> Result<Option<CutRule>, Named>
     ensures { result ≡ part cut_of opt.Cut Optional (values_of matches.now opt.Cut) }
 {
-    match value(matches, Named::Cut) {
-        Some(word) => used(Named::Cut, Use::Optional, forms::cut(word)),
-        None => Ok(None),
-    }
+    check_use(
+        Named::Cut,
+        Use::Optional,
+        value(matches, Named::Cut).map(forms::cut),
+    )
 }
 
 pub(crate) fn layout(matches: &ArgMatches<'_>) -> Result<u16, Named>
@@ -191,4 +212,20 @@ pub(crate) fn seed(matches: &ArgMatches<'_>) -> Result<u64, Named>
 {
     let read = value(matches, Named::Seed).and_then(forms::seed);
     required(Named::Seed, read)
+}
+
+/// Both parts, or the first of the two that is bad.
+pub(crate) fn pair<A: Copy, B: Copy>(
+    first: Result<A, Named>,
+    second: Result<B, Named>,
+) -> Result<(A, B), Named>
+    ensures { result ≡ pair first second }
+{
+    match first {
+        Ok(one) => match second {
+            Ok(other) => Ok((one, other)),
+            Err(option) => Err(option),
+        },
+        Err(option) => Err(option),
+    }
 }

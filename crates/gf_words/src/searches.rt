@@ -5,10 +5,10 @@ ghost use Rattle.spec_requests.specs.Requests.{nought, search_by, search_of, val
 ghost use Rattle.spec_kinds.specs.Table.{takes_radii};
 ghost use Rattle.spec_requests.specs.Names.{kind_of};
 ghost use Rattle.gf_words.specs.Answers.{Answers};
-ghost use Rattle.gf_words.specs.Parts.{ask_read, axes_read, bodies_read, ends_read, limits_read, numbers_read, search_by_options, search_read};
+ghost use Rattle.gf_words.specs.Parts.{ask_read, axes_read, bodies_read, ends_read, limits_read, numbers_read, radii_read, search_by_options, search_read};
 ghost use Rattle.gf_words.specs.Readings.{file_names_of, values_of};
 
-use crate::parts;
+use crate::parts::{self, pair};
 use crate::readings::{file_names, value};
 use clap::ArgMatches;
 use spec_bodies::Frame;
@@ -91,89 +91,114 @@ fn first_number(kind: Kind, radius: Option<Decimal>, reference: Option<Decimal>)
 fn read_bodies(matches: &ArgMatches<'_>, kind: Kind) -> Result<Bodies, Named>
     ensures { result ≡ bodies_read (values_of matches.now) kind }
 {
-    let target = parts::target(matches)?;
-    let second = parts::second(matches, kind.second())?;
-    let observer = parts::observer(matches)?;
-    Ok(Bodies {
-        target,
-        second,
-        observer: observer.unwrap_or(Body::Ssb),
-    })
+    let others = pair(
+        parts::second(matches, kind.second()),
+        parts::observer(matches),
+    );
+    match pair(parts::target(matches), others) {
+        Ok((target, (second, observer))) => Ok(Bodies {
+            target,
+            second,
+            observer: observer.unwrap_or(Body::Ssb),
+        }),
+        Err(option) => Err(option),
+    }
 }
 
 fn read_axes(matches: &ArgMatches<'_>, kind: Kind) -> Result<Axes, Named>
     ensures { result ≡ axes_read (values_of matches.now) kind }
 {
-    let frame = parts::frame(matches, kind.frame())?;
-    let axis = parts::axis(matches, kind.axis())?;
-    Ok(Axes {
-        frame: frame.unwrap_or(Frame::Eq),
-        axis: axis.unwrap_or(0),
-    })
+    let frame = parts::frame(matches, kind.frame());
+    match pair(frame, parts::axis(matches, kind.axis())) {
+        Ok((frame, axis)) => Ok(Axes {
+            frame: frame.unwrap_or(Frame::Eq),
+            axis: axis.unwrap_or(0),
+        }),
+        Err(option) => Err(option),
+    }
+}
+
+fn read_radii(
+    matches: &ArgMatches<'_>,
+    kind: Kind,
+) -> Result<(Option<Decimal>, Option<Decimal>), Named>
+    ensures { result ≡ radii_read (values_of matches.now) kind }
+{
+    let radius1 = parts::number(matches, Named::Radius1, kind.radii());
+    pair(
+        radius1,
+        parts::number(matches, Named::Radius2, kind.radii()),
+    )
 }
 
 fn read_numbers(matches: &ArgMatches<'_>, kind: Kind) -> Result<Numbers, Named>
     ensures { result ≡ numbers_read (values_of matches.now) kind }
 {
-    let reference = parts::number(matches, Named::Ref, kind.reference())?;
-    let radius1 = parts::number(matches, Named::Radius1, kind.radii())?;
-    let radius2 = parts::number(matches, Named::Radius2, kind.radii())?;
-    Ok(Numbers {
-        value1: first_number(kind, radius1, reference),
-        value2: number_or_0(radius2),
-    })
+    let reference = parts::number(matches, Named::Ref, kind.reference());
+    match pair(reference, read_radii(matches, kind)) {
+        Ok((reference, (radius1, radius2))) => Ok(Numbers {
+            value1: first_number(kind, radius1, reference),
+            value2: number_or_0(radius2),
+        }),
+        Err(option) => Err(option),
+    }
 }
 
 fn read_ask(matches: &ArgMatches<'_>, kind: Kind) -> Result<Ask, Named>
     ensures { result ≡ ask_read (values_of matches.now) kind }
 {
-    let bodies = read_bodies(matches, kind)?;
-    let axes = read_axes(matches, kind)?;
-    let numbers = read_numbers(matches, kind)?;
-    let dir = parts::dir(matches)?;
-    Ok(Ask {
-        kind,
-        target: bodies.target,
-        second: bodies.second,
-        observer: bodies.observer,
-        frame: axes.frame,
-        axis: axes.axis,
-        value1: numbers.value1,
-        value2: numbers.value2,
-        dir: dir.unwrap_or(Dir::Any),
-    })
+    let places = pair(read_bodies(matches, kind), read_axes(matches, kind));
+    let numbers = pair(read_numbers(matches, kind), parts::dir(matches));
+    match pair(places, numbers) {
+        Ok(((bodies, axes), (numbers, dir))) => Ok(Ask {
+            kind,
+            target: bodies.target,
+            second: bodies.second,
+            observer: bodies.observer,
+            frame: axes.frame,
+            axis: axes.axis,
+            value1: numbers.value1,
+            value2: numbers.value2,
+            dir: dir.unwrap_or(Dir::Any),
+        }),
+        Err(option) => Err(option),
+    }
 }
 
 fn read_ends(matches: &ArgMatches<'_>) -> Result<Ends, Named>
     ensures { result ≡ ends_read (values_of matches.now) }
 {
-    let from = parts::instant(matches, Named::From)?;
-    let to = parts::instant(matches, Named::To)?;
-    Ok(Ends { from, to })
+    let from = parts::instant(matches, Named::From);
+    match pair(from, parts::instant(matches, Named::To)) {
+        Ok((from, to)) => Ok(Ends { from, to }),
+        Err(option) => Err(option),
+    }
 }
 
 fn read_limits(matches: &ArgMatches<'_>) -> Result<Limits, Named>
     ensures { result ≡ limits_read (values_of matches.now) }
 {
-    let width = parts::width(matches)?;
-    let depth = parts::depth(matches)?;
-    let workers = parts::workers(matches)?;
-    let cut = parts::cut(matches)?;
-    Ok(Limits {
-        width: width.unwrap_or(DEFAULT_WIDTH),
-        depth: depth.unwrap_or(DEFAULT_DEPTH),
-        workers: workers.unwrap_or(DEFAULT_WORKERS),
-        cut: cut.unwrap_or(CutRule::Half),
-    })
+    let sizes = pair(parts::width(matches), parts::depth(matches));
+    let manner = pair(parts::workers(matches), parts::cut(matches));
+    match pair(sizes, manner) {
+        Ok(((width, depth), (workers, cut))) => Ok(Limits {
+            width: width.unwrap_or(DEFAULT_WIDTH),
+            depth: depth.unwrap_or(DEFAULT_DEPTH),
+            workers: workers.unwrap_or(DEFAULT_WORKERS),
+            cut: cut.unwrap_or(CutRule::Half),
+        }),
+        Err(option) => Err(option),
+    }
 }
 
 fn options(matches: &ArgMatches<'_>, kind: Kind) -> Result<SearchOptions, Named>
     ensures { result ≡ search_read (values_of matches.now) kind }
 {
-    let ask = read_ask(matches, kind)?;
-    let ends = read_ends(matches)?;
-    let limits = read_limits(matches)?;
-    Ok(SearchOptions { ask, ends, limits })
+    let manner = pair(read_ends(matches), read_limits(matches));
+    match pair(read_ask(matches, kind), manner) {
+        Ok((ask, (ends, limits))) => Ok(SearchOptions { ask, ends, limits }),
+        Err(option) => Err(option),
+    }
 }
 
 // ---- the texts

@@ -4,7 +4,7 @@ ghost use Rattle.spec_requests.specs.Requests.{text_by};
 ghost use Rattle.gf_words.specs.Parts.{text_read};
 ghost use Rattle.gf_words.specs.Readings.{values_of};
 
-use crate::parts;
+use crate::parts::{self, pair};
 use clap::ArgMatches;
 use spec_requests::{DEFAULT_WORKERS, Named, Request, WordFault};
 
@@ -12,15 +12,17 @@ use spec_requests::{DEFAULT_WORKERS, Named, Request, WordFault};
 fn text(matches: &ArgMatches<'_>) -> Result<Request, Named>
     ensures { result ≡ text_read (values_of matches.now) }
 {
-    let _layout = parts::layout(matches)?;
-    let blocks = parts::blocks(matches)?;
-    let seed = parts::seed(matches)?;
-    let workers = parts::workers(matches)?;
-    Ok(Request::Gen {
-        blocks,
-        seed,
-        workers: workers.unwrap_or(DEFAULT_WORKERS),
-    })
+    let blocks = parts::blocks(matches);
+    let text = pair(parts::layout(matches), blocks);
+    let manner = pair(parts::seed(matches), parts::workers(matches));
+    match pair(text, manner) {
+        Ok(((_, blocks), (seed, workers))) => Ok(Request::Gen {
+            blocks,
+            seed,
+            workers: workers.unwrap_or(DEFAULT_WORKERS),
+        }),
+        Err(option) => Err(option),
+    }
 }
 
 /// The generated text that the words ask for, or the first of them that is bad.

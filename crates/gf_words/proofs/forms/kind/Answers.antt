@@ -1,6 +1,5 @@
 use Rattle.std.proofs.Common.{Option, ap, option_map}
 use Rattle.spec_requests.specs.Names.{kind_of}
-use Rattle.spec_kinds.specs.declared.kind.Kind.{Kind}
 use Rattle.spec_kinds.specs.declared.table.KindRow.{KindRow}
 use Rattle.gf_words.proofs.forms.kind.Goals as goal
 

@@ -9,6 +9,7 @@ use Rattle.clap.proofs.WalkLemmas.{both}
 use Rattle.spec_ephemeris.specs.declared.body.Body.{Body}
 use Rattle.spec_ephemeris.specs.declared.body.Body.TheVariants.{Mercury, Ssb}
 use Rattle.spec_ephemeris.specs.declared.limits.TheConstants.{MAX_TICK}
+use Rattle.spec_ephemeris.specs.Ticks.{IsTick}
 use Rattle.spec_kinds.specs.Asks.{IsAsk}
 use Rattle.spec_kinds.specs.Table.{row_of, takes_second}
 use Rattle.spec_kinds.specs.declared.kind.Kind.{Kind}
@@ -155,6 +156,11 @@ lies_low least most n within = leb-true least n (both (nat_le least n) (nat_le n
 lies_high : (least most n : ℕ) → lies_in least most n ≡ true → n ≤ most
 lies_high least most n within = leb-true n most (both (nat_le least n) (nat_le n most) within).1
 
+pub tick_is : (values : Values) → IsTick (tick_in values)
+tick_is values =
+    let tick = passes_or (lies_in 1 MAX_TICK) DEFAULT_TICK tick_of_word (values opt.Tick) ticks_are refl in
+    record { some = lies_low 1 MAX_TICK (tick_in values) tick; few = lies_high 1 MAX_TICK (tick_in values) tick }
+
 search_is : (values : Values) (kind : Kind) (files : List Text) → bad_option values kind ≡ None
     → IsWithinLimits (search_of values kind files)
 unfolding search_of
@@ -167,10 +173,9 @@ search_is values kind files none =
     (numbers_are MAX_DIGITS_OF_A_COUNT 1 MAX_WORKERS) refl in
     let some_width = lies_low 1 MAX_WIDTH (value_or width_of DEFAULT_WIDTH (values opt.Width)) width in
     let most_width = lies_high 1 MAX_WIDTH (value_or width_of DEFAULT_WIDTH (values opt.Width)) width in
-    let tick = passes_or (lies_in 1 MAX_TICK) DEFAULT_TICK tick_of_word (values opt.Tick) ticks_are refl in
     record {
       ask = ask_is values kind none;
-      tick = record { some = lies_low 1 MAX_TICK (tick_in values) tick; few = lies_high 1 MAX_TICK (tick_in values) tick };
+      tick = tick_is values;
       some_width = omega (arith, ints);
       width = omega (arith, ints);
       depth = lies_high 0 MAX_DEPTH (value_or depth_of DEFAULT_DEPTH (values opt.Depth)) depth;

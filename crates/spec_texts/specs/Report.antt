@@ -43,7 +43,7 @@ ticks_text tick = if tick == 1 then [] else codes " tick " ++ decimal tick
 abbrev pub search_text : FindAsk → List ℕ
 search_text find =
     codes " dir " ++ dir_name find.ask.dir ++ (codes " width " ++ signed_decimal find.width)
-    ++ (codes " depth " ++ decimal find.depth) ++ (codes " cut " ++ cut_name find.cut) ++ ticks_text find.tick
+    ++ (codes " depth " ++ decimal find.depth) ++ (codes " cut " ++ cut_name find.cut)
 
 abbrev pub event_text : FindAsk → List ℕ
 event_text find =
@@ -51,7 +51,7 @@ event_text find =
     ++ (codes " values " ++ find.values)
 
 abbrev pub query_text : FindAsk → List ℕ
-query_text find = event_text find ++ search_text find
+query_text find = event_text find ++ search_text find ++ ticks_text find.tick
 
 -- two times, in so many ticks to a second
 abbrev pub span_text : ℕ → ℤ → ℤ → List ℕ

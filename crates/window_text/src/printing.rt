@@ -6,7 +6,7 @@ ghost use Rattle.jiff_core.specs.Date.{epoch_day};
 ghost use Rattle.spec_times.specs.Calendar.{calendar_time, clock, clock_text, date_text, day_number, digits, time_text, year_text};
 ghost use Rattle.spec_ephemeris.specs.Ticks.{IsTick};
 ghost use Rattle.spec_times.specs.TimeWords.{IsTime};
-ghost use Rattle.spec_times.specs.Ticks.{IsTimeIn, fraction_text, tick_text};
+ghost use Rattle.spec_times.specs.Ticks.{IsTimeIn, fraction_text, past_second, second_of, tick_text};
 
 use crate::Memory;
 use jiff_core::civil::Date;
@@ -33,10 +33,27 @@ pub(crate) fn add_tick(text: &mut String, tick: u32, time: i64) -> Result<(), Al
     requires time { IsTimeIn tick time }
     ensures { OnOk result (string_bytes text.new ≡ string_bytes text.old ++ tick_text tick time) }
 {
-    let second = time.div_euclid(i64::from(tick));
-    let past = time.rem_euclid(i64::from(tick)) as u32;
-    add_time(text, second)?;
-    add_fraction(text, tick, past)
+    add_time(text, second_of(tick, time))?;
+    add_fraction(text, tick, past_second(tick, time))
+}
+
+// The last second that has begun at a time.
+fn second_of(tick: u32, time: i64) -> i64
+    requires tick { IsTick tick }
+    requires time { IsTimeIn tick time }
+    ensures second { result ≡ second_of tick time }
+    ensures time { IsTime result }
+{
+    time.div_euclid(i64::from(tick))
+}
+
+// The ticks past that second.
+fn past_second(tick: u32, time: i64) -> u32
+    requires { IsTick tick }
+    ensures past { result ≡ past_second tick time }
+    ensures few { result < 1_000 }
+{
+    time.rem_euclid(i64::from(tick)) as u32
 }
 
 // The ticks past a second, where it has more than one.

@@ -1,5 +1,5 @@
 // The time that a word stands for.
-ghost use Rattle.std.specs.Prelude.{◌≡◌, ◌≤◌, ◌<◌, ◌+◌, ◌*◌, ◌^◌, IfOk, IfSome, length};
+ghost use Rattle.std.specs.Prelude.{◌≡◌, ◌≤◌, ◌<◌, ◌+◌, ◌*◌, ◌*ℤ◌, ◌+ℤ◌, ◌^◌, IfOk, IfSome, length, pos};
 ghost use Rattle.std.specs.Char.{is_ascii_digit};
 ghost use Rattle.std.specs.List.{list_all};
 ghost use Rattle.spec_text.specs.Decimals.{value};
@@ -23,7 +23,7 @@ pub fn read_time(word: &[u8], tick: u32) -> Result<i64, TimeFault>
     ensures { result ≡ tick_of tick word.now }
 {
     match whole_time(word) {
-        Some(second) => within_tick_limits(tick, second * i64::from(tick)),
+        Some(second) => within_tick_limits(tick, in_ticks(second, tick)),
         None => shown_tick(tick, word),
     }
 }
@@ -61,7 +61,24 @@ fn tick_from(tick: u32, past: u64, second: Result<i64, TimeFault>) -> Result<i64
     ensures { result ≡ tick_from tick past second }
 {
     let second = second?;
-    within_tick_limits(tick, second * i64::from(tick) + past as i64)
+    within_tick_limits(tick, ticks_past(second, tick, past))
+}
+
+fn in_ticks(second: i64, tick: u32) -> i64
+    requires tick { IsTick tick }
+    requires second { IsWithin (10 ^ 14) second }
+    ensures { result ≡ second *ℤ pos tick }
+{
+    second * i64::from(tick)
+}
+
+fn ticks_past(second: i64, tick: u32, past: u64) -> i64
+    requires tick { IsTick tick }
+    requires second { IsTime second }
+    requires past { past < 10 ^ 14 }
+    ensures { result ≡ second *ℤ pos tick +ℤ pos past }
+{
+    second * i64::from(tick) + past as i64
 }
 
 // Whether a word ends in a point and three digits.

@@ -69,7 +69,8 @@ fn add_query(text: &mut String, find: &FindAsk) -> Result<(), AllocError>
     ensures { OnOk result (string_bytes text.new ≡ string_bytes text.old ++ query_text find.now) }
 {
     add_event(text, find)?;
-    add_search(text, find)
+    add_search(text, find)?;
+    add_ticks(text, find.tick)
 }
 
 fn add_event(text: &mut String, find: &FindAsk) -> Result<(), AllocError>
@@ -122,8 +123,7 @@ fn add_search(text: &mut String, find: &FindAsk) -> Result<(), AllocError>
     add_pair(text, " dir ", dir_name(find.ask.dir))?;
     add_signed_number(text, " width ", find.width)?;
     add_number(text, " depth ", find.depth as u64)?;
-    add_pair(text, " cut ", cut_name(find.cut))?;
-    add_ticks(text, find.tick)
+    add_pair(text, " cut ", cut_name(find.cut))
 }
 
 // How many ticks a second has, where that is more than one.

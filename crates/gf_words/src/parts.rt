@@ -156,8 +156,7 @@ pub(crate) fn tick(matches: &ArgMatches<'_>) -> Result<Option<u32>, Named>
 
 // The same, where it is left out or bad too.
 pub(crate) fn tick_in(matches: &ArgMatches<'_>) -> u32
-    ensures tick { result ≡ tick_in (values_of matches.now) }
-    ensures is { IsTick result }
+    ensures { result ≡ tick_in (values_of matches.now) }
 {
     value(matches, Named::Tick)
         .and_then(forms::tick)

@@ -4,7 +4,7 @@ use Rattle.std.specs.Prelude.{Vec}
 use Rattle.std.specs.declared.alloc.Global.{Global}
 use Rattle.spec_sections.proofs.Holding.{holds_also}
 use Rattle.spec_trees.specs.declared.window.Window.{Window}
-use Rattle.spec_texts.specs.Report.{HasTimes, report}
+use Rattle.spec_output.specs.Report.{HasTimes, report}
 use Rattle.gf_find.specs.declared.refusal.Refusal.{Refusal}
 use Rattle.gf_find.proofs.Reporting.{report_is}
 use Rattle.gf_find.proofs.Times.{from_is, upto_is, windows_are}

@@ -1,7 +1,8 @@
 // The rules of the words of blocks.
 ghost use Rattle.std.specs.Prelude.{◌≡◌, ◌≤◌, ◌<◌, ◌+◌, ◌*◌, ◌^◌, [], ◌∷◌, IfOk, Ok, length, min, slice_get};
-ghost use Rattle.spec_ephemeris.specs.declared.limits.TheConstants.{COLUMNS};
+ghost use Rattle.spec_ephemeris.specs.declared.limits.TheConstants.{MAX_COLUMNS};
 ghost use Rattle.spec_ephemeris.specs.Ephemeris.{IsStart};
+ghost use Rattle.spec_ephemeris.specs.Header.{IsColumnCount};
 ghost use Rattle.spec_text.specs.Reading.{reading};
 ghost use Rattle.spec_text.specs.declared.decimals.Decimal.{Decimal};
 ghost use Rattle.eph_model.specs.Stores.{IsRounded};
@@ -119,7 +120,7 @@ fn is_place(number: usize, column: Column, place: u32) -> bool
 
 // Whether a place belongs to one of the columns, which are counted from 1.
 fn is_place_of_any(columns: &[Column], place: u32) -> bool
-    requires { length columns.now ≤ COLUMNS }
+    requires { length columns.now ≤ MAX_COLUMNS }
     ensures { result ≡ is_place_of 1 columns.now place }
 {
     for (i, column) in columns.iter().enumerate() {
@@ -132,7 +133,7 @@ fn is_place_of_any(columns: &[Column], place: u32) -> bool
 
 // Whether a place of a block, counted from 1, belongs to a body.
 fn is_place_of_body(columns: &[Column], place: u32) -> bool
-    requires { length columns.now ≡ COLUMNS }
+    requires { IsColumnCount (length columns.now) }
     ensures { result ≡ is_place_of_body columns.now place }
 {
     is_place_of_any(&columns[..BODY_COLUMNS], place)
@@ -168,7 +169,7 @@ pub(crate) fn coefficient_rule(
     d: Decimal,
     is_large: bool,
 ) -> Result<(), BrokenRule>
-    requires count { length columns.now ≡ COLUMNS }
+    requires count { IsColumnCount (length columns.now) }
     requires size { is_large ≡ is_too_large d }
     ensures { result ≡ coefficient_rule columns.now place d }
 {

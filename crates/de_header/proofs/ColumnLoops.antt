@@ -1,12 +1,11 @@
 -- The words of a row, and the columns of three rows, one after the other.
-use Rattle.std.proofs.Common.{◌≡◌, ℕ, zero, suc, ◌+◌, ◌*◌, ◌<◌, ◌≤◌, ◌^◌, List, [], ◌∷◌, ◌++◌, length, get_or, take, drop, set, None, Some, Result, Ok, Err, refl, sym, ap, ◌∙◌, arith}
+use Rattle.std.proofs.Common.{◌≡◌, ℕ, zero, suc, ◌+◌, ◌<◌, List, [], ◌∷◌, ◌++◌, length, get_or, take, drop, set, None, Some, Result, Ok, Err, refl, sym, ap, ◌∙◌, arith}
 use Rattle.std.specs.Prelude.{slice_get}
-use Rattle.std.proofs.lemmas.List.{take_more_set, take_all, drop_all}
+use Rattle.std.proofs.lemmas.List.{take_more_set, drop_all}
 use Rattle.spec_faults.specs.declared.numbers.TheConstants.{HEADER_NUMBER}
-use Rattle.spec_ephemeris.specs.declared.limits.TheConstants.{COLUMNS}
 use Rattle.spec_ephemeris.specs.declared.header.Column.{Column}
 use Rattle.spec_sections.specs.declared.rules.BrokenRule.{BrokenRule}
-use Rattle.spec_header.specs.ColumnRules.{columns_of, row, whole_numbers}
+use Rattle.spec_header.specs.ColumnRules.{columns_of, whole_numbers}
 use Rattle.spec_sections.specs.Sections.{broken}
 use Rattle.spec_text.specs.Reading.{whole_at}
 
@@ -30,13 +29,6 @@ columns_more i ss cs gs out o a b d is =
     take_more_set out i (column_at ss cs gs i) o ∙ ap (λ (l : List Column). l ++ column_at ss cs gs i ∷ []) is ∙ sym (columns_snoc i ss cs gs a b d)
     ∙ ap (λ (k : ℕ). columns_of (take k ss) (take k cs) (take k gs)) next
 
-pub columns_all : (i : ℕ) (ss cs gs : List ℕ) (out : List Column) → length out ≤ i → length ss ≤ i → length cs ≤ i → length gs ≤ i
-    → take i out ≡ columns_of (take i ss) (take i cs) (take i gs) → out ≡ columns_of ss cs gs
-columns_all i ss cs gs out o a b d is = rw (take_all i out o, take_all i ss a, take_all i cs b, take_all i gs d) at is
-
-pub row_of_all : (words : List (List ℕ)) → length words ≡ COLUMNS → row words ≡ whole_numbers [] words
-row_of_all words is = rw is refl
-
 pub row_stops : (words : List (List ℕ)) (i : ℕ) (before : List ℕ) → i < length words → None ≡ whole_at (slice_get words i)
     → whole_numbers before (drop i words) ≡ Err (broken HEADER_NUMBER 1)
 row_stops [] i before below none = absurd (omega (arith, below))
@@ -57,8 +49,8 @@ row_more words i n out whole below within some is =
     ∙ ap (λ (k : ℕ). whole_numbers (take i out ++ n ∷ []) (drop k words)) (sym next)
     ∙ sym (row_goes_on words i n (take i out) below some) ∙ is
 
-pub row_all : (words : List (List ℕ)) (i : ℕ) (out : List ℕ) (whole : Result (List ℕ) BrokenRule) → length words ≤ i → length out ≤ i
-    → whole_numbers (take i out) (drop i words) ≡ whole → Ok out ≡ whole
-row_all words i out whole past full is =
-    let none : drop i words ≡ [] = drop_all i words past in
-    rw (none, take_all i out full) at is
+pub row_all : (words : List (List ℕ)) (i : ℕ) (out : List ℕ) (whole : Result (List ℕ) BrokenRule) → i ≡ length words
+    → whole_numbers (take i out) (drop i words) ≡ whole → Ok (take (length words) out) ≡ whole
+row_all words i out whole all is =
+    let none : drop i words ≡ [] = drop_all i words (omega (arith, all)) in
+    ap (λ (k : ℕ). Ok (take k out)) (sym all) ∙ (rw none at is)

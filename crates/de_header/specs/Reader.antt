@@ -1,10 +1,9 @@
 -- What a reader says of the lines to come, given what it keeps of the lines before.
-use Rattle.std.specs.Prelude.{◌≡◌, ℕ, ◌+◌, ◌<◌, ◌≤◌, ◌∷◌, List, Result, Ok, Err, Option, None, Some}
+use Rattle.std.specs.Prelude.{◌≡◌, ℕ, ◌+◌, ◌<◌, ◌≤◌, ◌∷◌, List, take, Result, Ok, Err, Option, None, Some}
 use Rattle.spec_text.specs.Lines.{TokenLine}
-use Rattle.spec_text.specs.declared.decimals.Decimal.{Decimal}
 use Rattle.spec_text.specs.declared.decimals.Fault.{Fault}
-use Rattle.spec_ephemeris.specs.declared.header.Column.{Column}
 use Rattle.spec_ephemeris.specs.declared.header.Header.{Header}
+use Rattle.spec_ephemeris.specs.declared.limits.TheConstants.{MAX_COLUMNS}
 use Rattle.spec_sections.specs.declared.rules.BrokenRule.{BrokenRule}
 use Rattle.spec_faults.specs.declared.numbers.TheConstants.{ENDED}
 use Rattle.spec_header.specs.declared.limits.TheConstants.{MAX_CONSTANTS}
@@ -54,10 +53,10 @@ says file (ValuesBefore shape left before) lines = from_values shape left before
 says file (ValuesAfter facts left) lines = from_more_values facts left lines
 says file (ColumnGroup facts) lines = from_column_group facts lines
 says file (Starts facts) lines = from_starts facts lines
-says file (Coefficients facts starts) lines = from_coefficients facts starts lines
-says file (Granules facts starts coefs) lines = from_granules facts starts coefs lines
-says file (EndGroup facts columns) lines = from_end_group facts columns lines
-says file (Whole facts columns) lines = Ok (header_of facts columns, lines)
+says file (Coefficients facts count starts) lines = from_coefficients facts (take count starts) lines
+says file (Granules facts count starts coefs) lines = from_granules facts (take count starts) (take count coefs) lines
+says file (EndGroup facts count columns) lines = from_end_group facts (take count columns) lines
+says file (Whole facts count columns) lines = Ok (header_of facts (take count columns), lines)
 says file (Refused fault) lines = Err (breaks file fault)
 
 -- the reader stands where this is the rest of a header, in whatever file
@@ -76,24 +75,24 @@ Moves state line (Err broken) =
 
 -- more lines are wanted
 abbrev pub IsOpen : State → Type 0
-IsOpen (Whole facts columns) = ⊥
+IsOpen (Whole facts count columns) = ⊥
 IsOpen (Refused fault) = ⊥
 IsOpen state = Unit {0}
 
 abbrev pub IsNotWhole : State → Type 0
-IsNotWhole (Whole facts columns) = ⊥
+IsNotWhole (Whole facts count columns) = ⊥
 IsNotWhole state = Unit {0}
 
 abbrev pub IsWhole : State → Type 0
-IsWhole (Whole facts columns) = Unit {0}
+IsWhole (Whole facts count columns) = Unit {0}
 IsWhole state = ⊥
 
 abbrev pub IsAfterValues : State → Type 0
 IsAfterValues (ColumnGroup facts) = Unit {0}
 IsAfterValues (Starts facts) = Unit {0}
-IsAfterValues (Coefficients facts starts) = Unit {0}
-IsAfterValues (Granules facts starts coefs) = Unit {0}
-IsAfterValues (EndGroup facts columns) = Unit {0}
+IsAfterValues (Coefficients facts count starts) = Unit {0}
+IsAfterValues (Granules facts count starts coefs) = Unit {0}
+IsAfterValues (EndGroup facts count columns) = Unit {0}
 IsAfterValues state = ⊥
 
 abbrev pub IsAfterNames : State → Type 0
@@ -126,9 +125,16 @@ count_of (ValuesBefore shape left before) = left
 count_of (ValuesAfter facts left) = left
 count_of state = 0
 
--- where words are counted some are still to come, and all counts are within the limit
+-- how many columns there are
+abbrev pub columns_of : State → ℕ
+columns_of (Coefficients facts count starts) = count
+columns_of (Granules facts count starts coefs) = count
+columns_of state = 0
+
+-- where words are counted some are still to come, and all counts are within the limits
 abbrev pub Fits : State → Type 0
-Fits state = (0 < left_of state) × (passed_of state + left_of state ≤ MAX_CONSTANTS) × (count_of state ≤ MAX_CONSTANTS)
+Fits state =
+    (0 < left_of state) × (passed_of state + left_of state ≤ MAX_CONSTANTS) × (count_of state ≤ MAX_CONSTANTS) × (columns_of state ≤ MAX_COLUMNS)
 
 -- a fault that is answered is the one that the state keeps
 abbrev pub KeepsFault : State → Result Step ReadError → Type 0

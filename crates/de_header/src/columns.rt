@@ -1,25 +1,25 @@
 // The rules of the columns.
-ghost use Rattle.std.specs.Prelude.{◌≡◌, ◌<◌, [], length};
-ghost use Rattle.spec_ephemeris.specs.declared.limits.TheConstants.{COLUMNS};
-ghost use Rattle.spec_header.specs.ColumnRules.{column_rule, columns_of, columns_rule, columns_row, is_out_of_place, overlap, overlaps_any, present_column, row};
+ghost use Rattle.std.specs.Prelude.{◌≡◌, ◌<◌, ◌≤◌, [], IfOk, Ok, length, take};
+ghost use Rattle.spec_ephemeris.specs.declared.limits.TheConstants.{MAX_COLUMNS};
+ghost use Rattle.spec_header.specs.ColumnRules.{column_rule, columns_of, columns_rule, columns_row, first_row, is_column_count, is_out_of_place, overlap, overlaps_any, present_column, row_of, whole_numbers};
+ghost use Rattle.de_header.specs.Rows.{first_of, if_met};
 
 use de_text::Line;
 use eph_model::{is_present, place_after};
-use spec_ephemeris::{COLUMNS, Column, FIRST_PLACE, MAX_COEFFICIENTS};
+use spec_ephemeris::{Column, FIRST_PLACE, MAX_COEFFICIENTS, MAX_COLUMNS, READ_COLUMNS};
 use spec_faults::{
     COEFFICIENT_COUNT, COLUMN_COUNT, COLUMN_PLACE, GRANULE_NOT_WHOLE, HEADER_NUMBER,
 };
+use spec_header::Facts;
 use spec_sections::BrokenRule;
 
-// The whole numbers of a line, one for each column.
-pub(crate) fn row(line: &Line<'_>) -> Result<[u32; COLUMNS], BrokenRule>
-    ensures { result ≡ row line.now.tokens }
+// The whole numbers of a line that has no more words than a header has columns. Zeros stand after them.
+fn whole_numbers(line: &Line<'_>) -> Result<[u32; MAX_COLUMNS], BrokenRule>
+    requires few { length line.now.tokens ≤ MAX_COLUMNS }
+    ensures { first_of (length line.now.tokens) result ≡ whole_numbers [] line.now.tokens }
 {
-    if line.count() != COLUMNS {
-        return Err(BrokenRule::new(COLUMN_COUNT, 0));
-    }
-    let mut numbers = [0; COLUMNS];
-    for i in 0..COLUMNS {
+    let mut numbers = [0; MAX_COLUMNS];
+    for i in 0..line.count() {
         match line.whole(i) {
             Some(n) => numbers[i] = n,
             None => return Err(BrokenRule::new(HEADER_NUMBER, 1)),
@@ -28,20 +28,51 @@ pub(crate) fn row(line: &Line<'_>) -> Result<[u32; COLUMNS], BrokenRule>
     Ok(numbers)
 }
 
-// The columns of three rows.
+fn is_column_count(count: usize) -> bool
+    ensures { result ≡ is_column_count count }
+{
+    READ_COLUMNS <= count && count <= MAX_COLUMNS
+}
+
+// The whole numbers of the first row, which says how many columns there are.
+pub(crate) fn first_row(line: &Line<'_>) -> Result<[u32; MAX_COLUMNS], BrokenRule>
+    ensures row { first_of (length line.now.tokens) result ≡ first_row line.now.tokens }
+    ensures few { IfOk result (λ _. length line.now.tokens ≤ MAX_COLUMNS) }
+{
+    if !is_column_count(line.count()) {
+        return Err(BrokenRule::new(COLUMN_COUNT, 0));
+    }
+    whole_numbers(line)
+}
+
+// The whole numbers of a later row, one for each of so many columns.
+pub(crate) fn row_of(count: usize, line: &Line<'_>) -> Result<[u32; MAX_COLUMNS], BrokenRule>
+    requires few { count ≤ MAX_COLUMNS }
+    ensures { first_of count result ≡ row_of count line.now.tokens }
+{
+    if line.count() != count {
+        return Err(BrokenRule::new(COLUMN_COUNT, 0));
+    }
+    whole_numbers(line)
+}
+
+// The columns of three rows of so many numbers.
 fn columns_of(
-    starts: &[u32; COLUMNS],
-    coefs: &[u32; COLUMNS],
-    granules: &[u32; COLUMNS],
-) -> [Column; COLUMNS]
-    ensures { result ≡ columns_of starts.now coefs.now granules.now }
+    count: usize,
+    starts: &[u32; MAX_COLUMNS],
+    coefs: &[u32; MAX_COLUMNS],
+    granules: &[u32; MAX_COLUMNS],
+) -> [Column; MAX_COLUMNS]
+    requires few { count ≤ MAX_COLUMNS }
+    ensures { take count result
+        ≡ columns_of (take count starts.now) (take count coefs.now) (take count granules.now) }
 {
     let mut columns = [Column {
         start: 0,
         coefs: 0,
         granules: 0,
-    }; COLUMNS];
-    for i in 0..COLUMNS {
+    }; MAX_COLUMNS];
+    for i in 0..count {
         columns[i] = Column {
             start: starts[i],
             coefs: coefs[i],
@@ -60,7 +91,7 @@ fn overlap(i: usize, column: Column, j: usize, other: Column) -> bool
 
 // Whether a present column among the earlier ones has a place of column `i`.
 fn overlaps_any(i: usize, column: Column, earlier: &[Column]) -> bool
-    requires { length earlier.now < COLUMNS }
+    requires { length earlier.now < MAX_COLUMNS }
     ensures { result ≡ overlaps_any i column 1 earlier.now }
 {
     for (k, other) in earlier.iter().enumerate() {
@@ -73,7 +104,7 @@ fn overlaps_any(i: usize, column: Column, earlier: &[Column]) -> bool
 
 // Whether the places of column `i` are those of a block and of no earlier column.
 fn is_out_of_place(ncoeff: u32, earlier: &[Column], i: usize, column: Column) -> bool
-    requires { length earlier.now < COLUMNS }
+    requires { length earlier.now < MAX_COLUMNS }
     ensures { result ≡ is_out_of_place ncoeff earlier.now i column }
 {
     column.start < FIRST_PLACE
@@ -81,17 +112,17 @@ fn is_out_of_place(ncoeff: u32, earlier: &[Column], i: usize, column: Column) ->
         || overlaps_any(i, column, earlier)
 }
 
-// The rules of a column after the earlier ones.
+// The rules of a column after the earlier ones. One past those that are read has none.
 fn check_column(
     ncoeff: u32,
     seconds: u32,
     earlier: &[Column],
     column: Column,
 ) -> Result<(), BrokenRule>
-    requires { length earlier.now < COLUMNS }
+    requires { length earlier.now < MAX_COLUMNS }
     ensures { result ≡ column_rule ncoeff seconds earlier.now column }
 {
-    if !is_present(column) {
+    if READ_COLUMNS <= earlier.len() || !is_present(column) {
         Ok(())
     } else if column.coefs > MAX_COEFFICIENTS {
         Err(BrokenRule::new(COEFFICIENT_COUNT, 0))
@@ -105,29 +136,31 @@ fn check_column(
 }
 
 // The rules of all columns, in their order.
-fn check_columns(
-    ncoeff: u32,
-    seconds: u32,
-    columns: [Column; COLUMNS],
-) -> Result<[Column; COLUMNS], BrokenRule>
-    ensures { result ≡ columns_rule ncoeff seconds [] columns }
+fn check_columns(ncoeff: u32, seconds: u32, columns: &[Column]) -> Result<(), BrokenRule>
+    requires { length columns.now ≤ MAX_COLUMNS }
+    ensures { if_met columns.now result ≡ columns_rule ncoeff seconds [] columns.now }
 {
-    for i in 0..COLUMNS {
+    for i in 0..columns.len() {
         check_column(ncoeff, seconds, &columns[..i], columns[i])?;
     }
-    Ok(columns)
+    Ok(())
 }
 
-// The columns whose granules stand on this line.
+// So many columns, whose granules stand on this line.
 pub(crate) fn columns_row(
-    ncoeff: u32,
-    seconds: u32,
-    starts: &[u32; COLUMNS],
-    coefs: &[u32; COLUMNS],
+    facts: Facts,
+    count: usize,
+    starts: &[u32; MAX_COLUMNS],
+    coefs: &[u32; MAX_COLUMNS],
     line: &Line<'_>,
-) -> Result<[Column; COLUMNS], BrokenRule>
-    ensures { result ≡ columns_row ncoeff seconds starts.now coefs.now line.now.tokens }
+) -> Result<[Column; MAX_COLUMNS], BrokenRule>
+    requires few { count ≤ MAX_COLUMNS }
+    ensures { first_of count result
+        ≡ columns_row facts.ncoeff facts.block_seconds (take count starts.now)
+        (take count coefs.now) line.now.tokens }
 {
-    let granules = row(line)?;
-    check_columns(ncoeff, seconds, columns_of(starts, coefs, &granules))
+    let granules = row_of(count, line)?;
+    let columns = columns_of(count, starts, coefs, &granules);
+    check_columns(facts.ncoeff, facts.block_seconds, &columns[..count])?;
+    Ok(columns)
 }

@@ -12,13 +12,13 @@ ghost use Rattle.de_header.specs.declared.answers.Step.TheVariants as steps;
 ghost use Rattle.de_header.specs.Reader.{Ends, Fits, GivesAgain, HasRead, IsAfterNames, IsAfterValues, IsAt, IsNotDone, IsNotWhole, IsOpen, IsRefused, IsWhole, KeepsFault, Moves, answer, from_more_names, from_more_values, or_else, says};
 
 use crate::answers::{HeaderError, Step};
-use crate::columns::{columns_row, row};
+use crate::columns::{columns_row, first_row, row_of};
 use crate::state::State;
 use crate::words::{
     find_emrat, first_line, group, is_group, mass_ratio, name_count, span, value_count,
 };
 use de_text::Line;
-use spec_ephemeris::{COLUMNS, Column, Columns, Header};
+use spec_ephemeris::{Column, Columns, Header, MAX_COLUMNS};
 use spec_faults::ENDED;
 use spec_header::{BlockShape, Facts};
 use spec_sections::BrokenRule;
@@ -149,6 +149,7 @@ fn pass_more_values(facts: Facts, left: u32, line: &Line<'_>) -> State
 fn step_after_values(state: State, line: &Line<'_>) -> Result<State, BrokenRule>
     requires open { IsOpen state }
     requires after { IsAfterValues state }
+    requires fits { Fits state }
     ensures moves { Moves state line.now result }
     ensures fits { IfOk result Fits }
 {
@@ -158,28 +159,50 @@ fn step_after_values(state: State, line: &Line<'_>) -> Result<State, BrokenRule>
             Ok(State::Starts { facts })
         }
         State::Starts { facts } => {
-            let starts = row(line)?;
-            Ok(State::Coefficients { facts, starts })
+            let starts = first_row(line)?;
+            Ok(State::Coefficients {
+                facts,
+                count: line.count(),
+                starts,
+            })
         }
-        State::Coefficients { facts, starts } => {
-            let coefs = row(line)?;
+        State::Coefficients {
+            facts,
+            count,
+            starts,
+        } => {
+            let coefs = row_of(count, line)?;
             Ok(State::Granules {
                 facts,
+                count,
                 starts,
                 coefs,
             })
         }
         State::Granules {
             facts,
+            count,
             starts,
             coefs,
         } => {
-            let columns = columns_row(facts.ncoeff, facts.block_seconds, &starts, &coefs, line)?;
-            Ok(State::EndGroup { facts, columns })
+            let columns = columns_row(facts, count, &starts, &coefs, line)?;
+            Ok(State::EndGroup {
+                facts,
+                count,
+                columns,
+            })
         }
-        State::EndGroup { facts, columns } => {
+        State::EndGroup {
+            facts,
+            count,
+            columns,
+        } => {
             group(b"1070", 1070, line)?;
-            Ok(State::Whole { facts, columns })
+            Ok(State::Whole {
+                facts,
+                count,
+                columns,
+            })
         }
         state => Ok(state),
     }
@@ -324,11 +347,17 @@ fn answer_of(state: State) -> Result<Step, HeaderError>
     }
 }
 
-// The header, unless there is no memory for its columns.
-fn whole(alloc: Global, facts: Facts, columns: [Column; COLUMNS]) -> Result<Header, HeaderError>
-    ensures { (end : ℕ) → Ends end (Ok (header_of facts columns, [])) result }
+// The header of so many columns, unless there is no memory for them.
+fn whole(
+    alloc: Global,
+    facts: Facts,
+    count: usize,
+    columns: [Column; MAX_COLUMNS],
+) -> Result<Header, HeaderError>
+    ensures { (end : ℕ) → Ends end (Ok (header_of facts (take count columns), [])) result }
 {
-    let list = Vec::from_array(alloc, columns)?;
+    let mut list = Vec::from_array(alloc, columns)?;
+    list.truncate(count);
     Ok(Header {
         ncoeff: facts.ncoeff,
         block_seconds: i64::from(facts.block_seconds),
@@ -344,7 +373,11 @@ fn header_at_end(alloc: Global, state: State, line: u32) -> Result<Header, Heade
     ensures memory { result ≡ Err errors.Memory → IsWhole state }
 {
     match state {
-        State::Whole { facts, columns } => whole(alloc, facts, columns),
+        State::Whole {
+            facts,
+            count,
+            columns,
+        } => whole(alloc, facts, count, columns),
         State::Refused(fault) => Err(HeaderError::Fault(fault)),
         _ => Err(HeaderError::Fault(BrokenRule::new(ENDED, 0).at_line(line))),
     }

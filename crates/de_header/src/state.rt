@@ -1,9 +1,10 @@
 // How far a reader has come, with what it has read.
-use spec_ephemeris::{COLUMNS, Column};
+use spec_ephemeris::{Column, MAX_COLUMNS};
 use spec_header::{BlockShape, Facts};
 use spec_text::Fault;
 
-/// What a reader waits for, and what it keeps. A place of `EMRAT` is counted from 0.
+/// What a reader waits for, and what it keeps. A place of `EMRAT` is counted from 0. Of rows and columns the first `count`
+/// are kept, as many as the first line of columns has words.
 #[derive(Clone, Copy, Debug, PartialEq, Eq)]
 pub enum State {
     /// The first line.
@@ -70,23 +71,27 @@ pub enum State {
     /// The coefficients of the columns.
     Coefficients {
         facts: Facts,
-        starts: [u32; COLUMNS],
+        count: usize,
+        starts: [u32; MAX_COLUMNS],
     },
     /// The granules of the columns.
     Granules {
         facts: Facts,
-        starts: [u32; COLUMNS],
-        coefs: [u32; COLUMNS],
+        count: usize,
+        starts: [u32; MAX_COLUMNS],
+        coefs: [u32; MAX_COLUMNS],
     },
     /// `GROUP 1070`.
     EndGroup {
         facts: Facts,
-        columns: [Column; COLUMNS],
+        count: usize,
+        columns: [Column; MAX_COLUMNS],
     },
     /// Nothing: the header is whole.
     Whole {
         facts: Facts,
-        columns: [Column; COLUMNS],
+        count: usize,
+        columns: [Column; MAX_COLUMNS],
     },
     /// Nothing: the first fault was met.
     Refused(Fault),

@@ -1,6 +1,6 @@
 -- The granules of a grid are those of its column.
 use Rattle.std.proofs.Common.{◌≡◌, ℕ, ◌-◌, ◌*◌, ◌/◌, ◌%◌, ◌<◌, ◌≤◌, min, ℤ, pos, ◌+ℤ◌, ◌-ℤ◌, ◌^◌, unsigned_abs, to_z, w64, refl, ap, sym, ◌∙◌, arith}
-use Rattle.std.proofs.lemmas.Nat.{div_below, mul-le}
+use Rattle.std.proofs.lemmas.Nat.{div_below}
 use Rattle.std.proofs.Math.Nat.{mul-div_cancel}
 use Rattle.std.proofs.lemmas.Int.{ints}
 use Rattle.spec_ephemeris.specs.declared.header.Column.{Column}
@@ -57,9 +57,5 @@ found e number t g index r is divided start duration coefs =
     let column : g.column ≡ column_of e number = column_is e number g is in
     one ∙ (ap (granule_of_index e number g.column) at ∙ (λ i. granule_of_index e number (column i) (granule_index e (column i) t)))
 
--- a granule is no longer than all of them
-pub length_within : (count seconds : ℕ) → 0 < count → count * seconds ≤ 2 ^ 36 → seconds ≤ 2 ^ 36
-length_within count seconds some within = let one : 1 * seconds ≤ count * seconds = mul-le 1 seconds count seconds some (omega arith) in omega (arith, one, within)
-
-pub length_passed : (seconds : ℕ) → seconds ≤ 2 ^ 36 → unsigned_abs (to_z w64 seconds) ≡ seconds
+pub length_passed : (seconds : ℕ) → seconds ≤ 2 ^ 40 → unsigned_abs (to_z w64 seconds) ≡ seconds
 length_passed seconds short = let same : to_z w64 seconds ≡ pos seconds = omega (arith, ints, short) in rw same refl

@@ -5,7 +5,7 @@ use Rattle.std.proofs.lemmas.Nat.{mul-le}
 use Rattle.std.proofs.lemmas.List.{length-take, length-drop, take-append-le, drop-append-le, take-append-drop, take-take, take_all, drop-take, drop_all}
 use Rattle.spec_text.specs.declared.decimals.Decimal.{Decimal}
 use Rattle.spec_ephemeris.specs.declared.header.Header.{Header}
-use Rattle.spec_ephemeris.specs.declared.limits.TheConstants.{LONGEST_BLOCK, MAX_BLOCKS, SHORTEST_BLOCK}
+use Rattle.spec_ephemeris.specs.declared.limits.TheConstants.{LONGEST_TICKS, MAX_BLOCKS, SHORTEST_BLOCK}
 use Rattle.spec_ephemeris.specs.Ephemeris.{Ephemeris, IsBlock, IsEphemeris, IsStart}
 use Rattle.spec_ephemeris.proofs.Pushing.{pushed}
 use Rattle.eph_model.specs.Stores.{Store, closed, cut_to, with_number}
@@ -77,10 +77,10 @@ module _ (h : Header) (start : ℤ) (blocks : ℕ) (all : List Decimal) (checked
         (pushed (accepted_of h start blocks all) (drop n all) checked fits room)
 
 -- ---- times of blocks in 64 bits
-pub times_fit : (start seconds : ℤ) (blocks : ℕ) → blocks ≤ MAX_BLOCKS → SHORTEST_BLOCK ≤ℤ seconds → seconds ≤ℤ LONGEST_BLOCK → IsStart start
+pub times_fit : (start seconds : ℤ) (blocks : ℕ) → blocks ≤ MAX_BLOCKS → SHORTEST_BLOCK ≤ℤ seconds → seconds ≤ℤ LONGEST_TICKS → IsStart start
     → FitsSigned w64 (pos blocks *ℤ seconds) × FitsSigned w64 (start +ℤ (pos blocks *ℤ seconds))
 times_fit start (pos k) blocks few low high within_bounds =
-    let short : k ≤ unsigned_abs LONGEST_BLOCK = omega (arith, ints, high) in
-    let most : blocks * k ≤ MAX_BLOCKS * unsigned_abs LONGEST_BLOCK = mul-le blocks k MAX_BLOCKS (unsigned_abs LONGEST_BLOCK) few short in
+    let short : k ≤ unsigned_abs LONGEST_TICKS = omega (arith, ints, high) in
+    let most : blocks * k ≤ MAX_BLOCKS * unsigned_abs LONGEST_TICKS = mul-le blocks k MAX_BLOCKS (unsigned_abs LONGEST_TICKS) few short in
     (omega (arith, ints, most), omega (arith, ints, most, within_bounds))
 times_fit start (negsuc k) blocks few low high within_bounds = absurd (omega (arith, ints, low))

@@ -1,11 +1,12 @@
 // The checked ephemeris.
-ghost use Rattle.std.specs.Prelude.{◌≡◌, ◌+◌, ◌-◌, ◌*◌, ◌^◌, ◌<◌, ◌≤◌, ◌≤ℤ◌, ◌<ℤ◌, pos, neg_ℤ, OnOk, OnErr, All, IsTrue, length, unsigned_abs};
-ghost use Rattle.spec_ephemeris.specs.declared.limits.TheConstants.{BODY_COLUMNS, MAX_BLOCKS, MAX_COEFFICIENTS};
+ghost use Rattle.std.specs.Prelude.{◌≡◌, ◌+◌, ◌-◌, ◌*◌, ◌^◌, ◌<◌, ◌≤◌, ◌≤ℤ◌, ◌<ℤ◌, ◌*ℤ◌, pos, neg_ℤ, OnOk, OnErr, All, IsTrue, length, unsigned_abs};
+ghost use Rattle.spec_ephemeris.specs.declared.limits.TheConstants.{BODY_COLUMNS, LONGEST_BLOCK, MAX_BLOCKS, MAX_COEFFICIENTS};
 ghost use Rattle.spec_ephemeris.specs.Header.{IsHeader, IsColumn, components, granule_size, has_column};
 ghost use Rattle.spec_ephemeris.specs.Ephemeris.{IsStart, IsBlock, IsBodyNumber, IsEphemeris, empty_ephemeris, with_block, end_of, block_numbers, granule_numbers};
 ghost use Rattle.spec_ephemeris.specs.Granules.{column_of, granule_of, granule_at};
 ghost use Rattle.spec_ephemeris.specs.Borders.{nearest_border};
 ghost use Rattle.spec_ephemeris.specs.Rounding.{pairs_of};
+ghost use Rattle.spec_ephemeris.specs.Ticks.{IsInSeconds, IsTick, header_in_ticks, in_ticks};
 ghost use Rattle.eph_model.specs.Grids.{IsGridOf};
 
 use crate::borders::preferred;
@@ -23,7 +24,7 @@ pub type Memory = AllocError;
 
 /// A header that meets the rules, the time at which the first block begins, and the numbers of the blocks, each of
 /// which begins where the one before it ends, as JPL's ASCII files of development ephemerides have them. Times are
-/// seconds of TDB since J2000.
+/// seconds of TDB since J2000, and after `in_ticks` ticks.
 #[derive(Drop)]
 pub struct Ephemeris {
     pub(crate) header: Header,
@@ -52,6 +53,27 @@ impl Model for Ephemeris {
       blocks = e.blocks;
       numbers = e.numbers.items;
     }) × ArePairs e.numbers.items e.pairs.items };
+}
+
+// A header whose block length counts ticks, of which a second has so many.
+fn header_in_ticks(header: Header, tick: u32) -> Header
+    requires tick { IsTick tick }
+    requires long { header.block_seconds ≤ℤ LONGEST_BLOCK }
+    requires some { pos 1 ≤ℤ header.block_seconds }
+    ensures { result ≡ header_in_ticks tick header }
+{
+    let Header {
+        ncoeff,
+        block_seconds,
+        emrat,
+        columns,
+    } = header;
+    Header {
+        ncoeff,
+        block_seconds: block_seconds * i64::from(tick),
+        emrat,
+        columns,
+    }
 }
 
 impl Ephemeris {
@@ -85,6 +107,39 @@ impl Ephemeris {
         Ok(())
     }
 
+    /// The same ephemeris, whose times count ticks since J2000 in TDB, of which a second has so many, from 1 to 1,000. From
+    /// then on each time, and the length of a granule in `seconds`, counts ticks. It does not allocate.
+    pub fn in_ticks(self, tick: u32) -> Ephemeris
+        requires tick { IsTick tick }
+        requires seconds { IsInSeconds self }
+        ensures { result ≡ in_ticks tick self }
+    {
+        let start = self.start_in_ticks(tick);
+        let Ephemeris {
+            header,
+            start: _,
+            blocks,
+            numbers,
+            pairs,
+        } = self;
+        Ephemeris {
+            header: header_in_ticks(header, tick),
+            start,
+            blocks,
+            numbers,
+            pairs,
+        }
+    }
+
+    // The time at which the first block begins, in ticks.
+    fn start_in_ticks(&self, tick: u32) -> i64
+        requires tick { IsTick tick }
+        requires seconds { IsInSeconds self.now }
+        ensures { result ≡ self.now.start *ℤ pos tick }
+    {
+        self.start() * i64::from(tick)
+    }
+
     /// The time at which the first block begins.
     pub fn start(&self) -> i64
         ensures { result ≡ self.now.start }
@@ -114,7 +169,7 @@ impl Ephemeris {
         &self.header
     }
 
-    /// Whether the ephemeris has the column, counted from 1 in the order of the header.
+    /// Whether the ephemeris has the column, counted from 1 in the order of the header. Columns past the 13th are not read.
     pub fn has(&self, column: usize) -> bool
         ensures { result ≡ has_column self.now.header column }
     {

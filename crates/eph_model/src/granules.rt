@@ -5,13 +5,13 @@ ghost use Rattle.spec_ephemeris.specs.Header.{IsColumn, IsHeader, IsShared, colu
 
 use crate::columns::components;
 use crate::grid::Grid;
-use spec_ephemeris::{Column, Header};
+use spec_ephemeris::{Column, Header, READ_COLUMNS};
 
-// The column of a number, counted from 1.
+// The column of a number, counted from 1, among those that are read.
 pub(crate) fn column_of(columns: &[Column], number: usize) -> Option<Column>
     ensures { result ≡ column_at columns.now number }
 {
-    if number == 0 {
+    if number == 0 || READ_COLUMNS < number {
         return None;
     }
     columns.get(number - 1).copied()

@@ -16,12 +16,12 @@ use Rattle.gf_files.specs.Reader.{IsOfHeader}
 -- a header that is whole is the one that is given at the end, whatever lines follow
 pub whole_header : (state : State) (end : ℕ) (h : Header) → IsWhole state → Ends end (says 0 state []) (Ok h) → (file : ℕ) (rest : List FileLine) → says file state rest ≡ Ok (h, rest)
 unfolding says
-whole_header (Whole facts columns) end h whole ends file rest = ap (λ (found : Header). Ok (found, rest)) (sym ends)
+whole_header (Whole facts count columns) end h whole ends file rest = ap (λ (found : Header). Ok (found, rest)) (sym ends)
 whole_header state end h whole ends file rest = absurd whole
 
 pub whole_no_fault : (state : State) (end : ℕ) (fault : Fault) → IsWhole state → Ends end (says 0 state []) (Err (errors.Fault fault)) → ⊥
 unfolding says
-whole_no_fault (Whole facts columns) end fault whole ends = ends
+whole_no_fault (Whole facts count columns) end fault whole ends = ends
 whole_no_fault state end fault whole ends = absurd whole
 
 pub refused_says : (state : State) (fault : Fault) → IsRefused state fault → (file : ℕ) (rest : List FileLine) → says file state rest ≡ Err (breaks file fault)

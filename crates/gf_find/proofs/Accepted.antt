@@ -1,8 +1,8 @@
--- An ephemeris that is accepted has a block, and ends in time.
+-- An ephemeris that is accepted has a block, and counts seconds.
 use Rattle.std.proofs.Common.{◌≡◌, ◌<◌, ℕ, ◌≤ℤ◌, List, [], ◌∷◌, Option, None, Some, Result, Ok, Err}
 use Rattle.spec_text.specs.declared.decimals.Fault.{Fault}
-use Rattle.spec_ephemeris.specs.declared.limits.TheConstants.{LAST_TIME}
-use Rattle.spec_ephemeris.specs.Ephemeris.{Ephemeris, IsEphemeris, end_of}
+use Rattle.spec_ephemeris.specs.Ephemeris.{Ephemeris, IsEphemeris}
+use Rattle.spec_ephemeris.specs.Ticks.{IsInSeconds}
 use Rattle.spec_sections.specs.Sections.{Stop, ended, breaks}
 use Rattle.spec_sections.proofs.Holding.{holds_ok}
 use Rattle.spec_header.specs.HeaderLines.{header}
@@ -10,10 +10,9 @@ use Rattle.spec_files.specs.Lines.{ephemeris}
 use Rattle.spec_files.specs.Outcome.{first_fault, outcome, outcome_by}
 use Rattle.spec_files.specs.Files.{AreFiles}
 use Rattle.spec_files.specs.Texts.{joined}
-use Rattle.spec_files.proofs.Lines.{HasBlocks, ephemeris_holds}
+use Rattle.spec_files.proofs.Lines.{HasBlocks, ephemeris_holds, seconds_hold}
 use Rattle.gf_edges.specs.Edges.{Files}
 use Rattle.gf_find.specs.Outcomes.{HaveEphemeris}
-use Rattle.gf_find.proofs.Ending.{EndsInTime, lines_end}
 
 -- what comes out is what the lines are
 of_lines : (fault : Option (ℕ × Fault)) (texts : List (List ℕ)) (found : Result Ephemeris Stop) (e : Ephemeris) → outcome_by fault texts found ≡ Ok e → found ≡ Ok e
@@ -36,8 +35,8 @@ module _ (files : Option Files) (names : List (List ℕ)) (e : Ephemeris) (held 
   pub has_block : 0 < e.blocks
   has_block = (holds_ok HasBlocks (ephemeris (joined held.accepted.texts)) e are (ephemeris_holds (joined held.accepted.texts))).1
 
-  pub ends_in_time : end_of e ≤ℤ LAST_TIME
-  ends_in_time = holds_ok EndsInTime (ephemeris (joined held.accepted.texts)) e are (lines_end (joined held.accepted.texts)) has_block
+  pub in_seconds : IsInSeconds e
+  in_seconds = holds_ok IsInSeconds (ephemeris (joined held.accepted.texts)) e are (seconds_hold (joined held.accepted.texts))
 
 -- no files are no ephemeris
 none_are : (files : Option Files) (texts : List (List ℕ)) (e : Ephemeris) → AreFiles files [] texts → ephemeris (joined texts) ≡ Ok e → ⊥

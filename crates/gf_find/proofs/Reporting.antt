@@ -16,12 +16,12 @@ use Rattle.gf_find.specs.declared.refusal.Refusal.{Refusal}
 use Rattle.gf_find.specs.declared.refusal.Refusal.TheVariants.{Memory}
 use Rattle.gf_find.specs.Outcomes.{FilesStop, HaveEphemeris, found, found_within, generated_search, generated_span, generation_by, generation_of, searched, searched_by, text_by}
 use Rattle.gf_find.specs.Queries.{AreFound, conjunctions, query_of, search, span_of, whole_span}
-use Rattle.gf_find.specs.Texts.{IsFound, IsGeneration, IsReport}
+use Rattle.gf_find.specs.Texts.{IsCountedReport, IsFound, IsGeneration}
 use Rattle.gf_find.proofs.Causes.{held_stops}
 
 -- ---- the report of a search
 report_here : (find : FindAsk) (e : Ephemeris) (ws : List Window) (text : List ℕ) → IsFound (query_of find) e (span_of find e) ws
-    → text ≡ report find (span_of find e).from (span_of find e).upto ws → IsReport find text e
+    → text ≡ report find (span_of find e).from (span_of find e).upto ws → IsCountedReport find text e
 report_here find e ws text is printed =
     let R : List Window → List ℕ = report find (span_of find e).from (span_of find e).upto in
     record {
@@ -31,7 +31,7 @@ report_here find e ws text is printed =
     }
 
 pub report_is : (find : FindAsk) (e : Ephemeris) (q : Query) (span : Span) (ws : List Window) (text : List ℕ) → q ≡ query_of find → span ≡ span_of find e
-    → IsFound q e span ws → text ≡ report find span.from span.upto ws → IsReport find text e
+    → IsFound q e span ws → text ≡ report find span.from span.upto ws → IsCountedReport find text e
 report_is find e q span ws text same whole is printed =
     report_here find e ws text
     (subst (λ (s : Span). IsFound (query_of find) e s ws) whole (subst (λ (p : Query). IsFound p e span ws) same is))

@@ -6,6 +6,7 @@ use Rattle.std.specs.declared.alloc.Global.{Global}
 use Rattle.spec_text.specs.declared.decimals.Fault.{Fault}
 use Rattle.spec_faults.specs.declared.numbers.TheConstants.{WORDS}
 use Rattle.spec_ephemeris.specs.Ephemeris.{Ephemeris}
+use Rattle.spec_ephemeris.specs.Ticks.{in_ticks}
 use Rattle.spec_trees.specs.declared.window.Window.{Window}
 use Rattle.spec_trees.specs.Tree.{leaf_count}
 use Rattle.spec_searches.specs.Search.{Search}
@@ -58,12 +59,16 @@ abbrev pub text_by : (List Window → List ℕ) → Result (List Window) Refusal
 text_by text (Ok ws) = Ok (text ws)
 text_by text (Err refusal) = Err refusal
 
--- the outcome of `find`
+-- the outcome of `find`, over an ephemeris that counts the ticks of the search
 abbrev pub report_by : FindAsk → Ephemeris → Span → Outcome
 report_by find e span = text_by (report find span.from span.upto) (found_within (is_within span e) (query_of find) e span)
 
+abbrev pub counted_report : FindAsk → Ephemeris → Outcome
+counted_report find e = report_by find e (span_of find e)
+
+-- the same over the ephemeris of its files, which counts seconds
 abbrev pub report_of : FindAsk → Ephemeris → Outcome
-report_of find e = report_by find e (span_of find e)
+report_of find e = counted_report find (in_ticks find.tick e)
 
 -- the outcome of `check`
 abbrev pub summary_of : Ephemeris → Outcome

@@ -2,6 +2,7 @@
 use Rattle.std.specs.Prelude.{◌≡◌, ◌⊎◌, ◌<◌, ℕ, List, length, Option, IsSome, Result, Ok, Err}
 use Rattle.std.specs.Io.KnownBytes.{Appends}
 use Rattle.spec_ephemeris.specs.Ephemeris.{Ephemeris}
+use Rattle.spec_ephemeris.specs.Ticks.{in_ticks}
 use Rattle.spec_searches.specs.Search.{events}
 use Rattle.spec_files.specs.declared.limits.TheConstants.{MAX_FILES}
 use Rattle.spec_requests.specs.declared.request.FindAsk.{FindAsk}
@@ -17,11 +18,12 @@ use Rattle.gf_edges.specs.Edges.{Files}
 use Rattle.gf_find.specs.Queries.{IsLeft, query_of, search, span_of, windows_in}
 use Rattle.gf_find.specs.Outcomes.{HaveOutcome, Words, generated_search, generated_span, generation_by, texts_of}
 
--- the report of the windows of the events that are asked for, over the span that is asked for
+-- the report of the windows of the events that are asked for, over the span that is asked for; times are ticks
 abbrev pub ReportsEvents : FindAsk → Option (List ℕ) → Option (List ℕ) → Ephemeris → Type 0
 ReportsEvents find old new e =
-    let s = search (query_of find) e in
-    let span = span_of find e in
+    let counted = in_ticks find.tick e in
+    let s = search (query_of find) counted in
+    let span = span_of find counted in
     Reports (events s) (IsLeft s span) span.from span.upto (windows_in s span) (report find span.from span.upto) old new
 
 -- the summary of the ephemeris

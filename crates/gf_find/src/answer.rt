@@ -3,18 +3,18 @@ ghost use Rattle.std.specs.Prelude.{All, ◌≡◌, ◌∷◌, [], ◌⊎◌, �
 ghost use Rattle.spec_ephemeris.specs.Ephemeris.{end_of};
 ghost use Rattle.spec_ephemeris.specs.Ephemeris as e;
 ghost use Rattle.spec_files.specs.Outcome.{outcome};
-ghost use Rattle.spec_ephemeris.specs.declared.limits.TheConstants.{LAST_TIME};
+ghost use Rattle.spec_ephemeris.specs.Ticks.{IsTick};
 ghost use Rattle.spec_generated.specs.declared.limits.TheConstants.{MAX_GENERATED};
 ghost use Rattle.spec_generated.specs.Generated.{generated_ephemeris, generated_text};
 ghost use Rattle.spec_requests.specs.Limits.{IsWithinLimits};
 ghost use Rattle.spec_requests.specs.declared.limits.TheConstants.{MAX_WORKERS};
 ghost use Rattle.spec_requests.specs.Requests.{request_of};
-ghost use Rattle.spec_times.specs.TimeWords.{IsTime};
+ghost use Rattle.spec_times.specs.Ticks.{IsTimeIn};
 ghost use Rattle.spec_output.specs.Report.{HasTimes, generation, report};
 ghost use Rattle.spec_output.specs.Summary.{summary};
-ghost use Rattle.gf_find.specs.Outcomes.{FilesHaveOutcome, HaveCause, HoldEphemeris, generation_of, report_of, summary_of, texts_of};
+ghost use Rattle.gf_find.specs.Outcomes.{FilesHaveOutcome, HaveCause, HoldEphemeris, counted_report, generation_of, report_of, summary_of, texts_of};
 ghost use Rattle.gf_find.specs.Reported.{AreNotOpened, OpensNone};
-ghost use Rattle.gf_find.specs.Texts.{IsAnswered, IsGeneration, IsReport};
+ghost use Rattle.gf_find.specs.Texts.{IsAnswered, IsCountedReport, IsGeneration, IsReport};
 
 use crate::files::ephemeris_of;
 use crate::query::{Span, conjunctions, is_within, query_of, span_of, whole_span};
@@ -39,9 +39,10 @@ fn report_in(
     span: Span,
     windows: &[Window],
 ) -> Result<Vec<u8>, Refusal>
-    requires from { IsTime span.from }
-    requires upto { IsTime span.upto }
-    requires windows { All HasTimes windows.now }
+    requires tick { IsTick find.now.tick }
+    requires from { IsTimeIn find.now.tick span.from }
+    requires upto { IsTimeIn find.now.tick span.upto }
+    requires windows { All (HasTimes find.now.tick) windows.now }
     ensures text { IfOk result (λ text.
         text.items ≡ report find.now span.from span.upto windows.now) }
     ensures memory { IfErr result (λ refusal. refusal ≡ Refusal.Memory) }
@@ -50,7 +51,7 @@ fn report_in(
     Ok(text)
 }
 
-// The report of a search of an ephemeris.
+// The report of a search of an ephemeris that counts its ticks.
 fn report_of<R: Threads + Wait + Sync, G: Gate>(
     rt: &R,
     alloc: Global,
@@ -59,11 +60,13 @@ fn report_of<R: Threads + Wait + Sync, G: Gate>(
     gate: &G,
 ) -> Result<Vec<u8>, Refusal>
     requires block { 0 < ephemeris.now.blocks }
-    requires end { end_of ephemeris.now ≤ℤ LAST_TIME }
+    requires start { IsTimeIn find.now.tick ephemeris.now.start }
+    requires end { IsTimeIn find.now.tick (end_of ephemeris.now) }
     requires limits { IsWithinLimits find.now }
-    ensures report { IfOk result (λ text. IsReport find.now text.items ephemeris.now) }
+    ensures report { IfOk result (λ text.
+        IsCountedReport find.now text.items ephemeris.now) }
     ensures stopped { IfErr result (λ refusal. (refusal ≡ Refusal.Memory)
-        ⊎ (report_of find.now ephemeris.now ≡ Err refusal)) }
+        ⊎ (counted_report find.now ephemeris.now ≡ Err refusal)) }
 {
     let span = span_of(find, ephemeris);
     if !is_within(span, ephemeris) {
@@ -101,7 +104,8 @@ fn find_in_files<R: Threads + Wait + Sync, S: Shelf, G: Gate>(
     ensures unopened { AreNotOpened find.now.files → shelf.new ≡ shelf.old }
 {
     let ephemeris = ephemeris_of(alloc, shelf, find.files.as_slice())?;
-    report_of(rt, alloc, &ephemeris, find, gate)
+    let counted = ephemeris.in_ticks(find.tick);
+    report_of(rt, alloc, &counted, find, gate)
 }
 
 // The summary of files.

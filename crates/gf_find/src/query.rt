@@ -12,7 +12,7 @@ use spec_requests::FindAsk;
 use spec_text::Decimal;
 use spec_trees::CutRule;
 
-/// A search: the events that are asked for, how wide the window of one may be, in seconds, how deep nodes are cut, and
+/// A search: the events that are asked for, how wide the window of one may be, in ticks, how deep nodes are cut, and
 /// where.
 #[derive(Clone, Copy)]
 pub struct Query {
@@ -22,7 +22,7 @@ pub struct Query {
     pub cut: CutRule,
 }
 
-/// The times after `from` and up to `upto`, in seconds of TDB since J2000.
+/// The times after `from` and up to `upto`, in ticks since J2000 in TDB.
 #[derive(Clone, Copy)]
 pub struct Span {
     pub from: i64,

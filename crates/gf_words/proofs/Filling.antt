@@ -12,8 +12,9 @@ use Rattle.spec_requests.specs.declared.request.Request.{Request}
 use Rattle.spec_requests.specs.declared.request.Request.TheVariants.{Find}
 use Rattle.spec_requests.specs.declared.request.WordFault.TheVariants.{BadValue}
 use Rattle.spec_requests.specs.declared.tables.TheConstants.{FIND_OPTIONS}
-use Rattle.spec_requests.specs.Names.{Text, axis_of, cut_of, dir_of, frame_of, kind_of, layout_of, observer_of, target_of}
-use Rattle.spec_requests.specs.Options.{Values, bad_option, blocks_of, decimal_of, depth_of, instant_of, is_bad, is_misread, seed_of, use_of, width_of, workers_of}
+use Rattle.spec_requests.specs.declared.limits.TheConstants.{DEFAULT_TICK}
+use Rattle.spec_requests.specs.Names.{Text, axis_of, cut_of, dir_of, frame_of, kind_of, layout_of, observer_of, target_of, tick_of_word}
+use Rattle.spec_requests.specs.Options.{Values, bad_option, blocks_of, decimal_of, depth_of, instant_of, is_bad, is_misread, seed_of, tick_in, use_of, width_of, workers_of}
 use Rattle.spec_requests.specs.Requests.{ask_of, bad_word, checked_search, checked_text, nought, search_by, search_of, search_of_kind, text_by, text_of, use_in_text, value_or}
 use Rattle.gf_words.specs.declared.searches.SearchOptions.{SearchOptions}
 use Rattle.gf_words.specs.Parts.{made, needed, pair, part, required, used, ask_of_parts, ask_read, axes_by, axes_of, axes_read, bodies_by, bodies_of, bodies_read, ends_by, ends_of, ends_read, limits_by, limits_of, limits_read, numbers_by, numbers_of, numbers_read, search_by_options, search_of_parts, search_read, text_of_parts, text_read}
@@ -145,7 +146,7 @@ abbrev of_ask : List Named
 of_ask = (of_bodies ++ of_axes) ++ (of_numbers ++ opt.Dir ∷ [])
 
 abbrev of_ends : List Named
-of_ends = opt.From ∷ opt.To ∷ []
+of_ends = opt.Tick ∷ opt.From ∷ opt.To ∷ []
 
 abbrev of_limits : List Named
 of_limits = opt.Width ∷ opt.Depth ∷ opt.Workers ∷ opt.Cut ∷ []
@@ -153,7 +154,7 @@ of_limits = opt.Width ∷ opt.Depth ∷ opt.Workers ∷ opt.Cut ∷ []
 module _ (values : Values) (kind : Kind) where
   -- whether the kind finds an option bad
   abbrev finds : Named → Bool
-  finds option = is_bad option (use_of option kind) (values option)
+  finds option = is_bad (tick_in values) option (use_of option kind) (values option)
 
   of_one : {X : Type 0} (form : Text → Option X) (option : Named) (usage : Use)
       → finds option ≡ is_misread form usage (values option)
@@ -189,8 +190,9 @@ module _ (values : Values) (kind : Kind) where
 
   ends_are : ends_read values ≡ answer (find finds of_ends) (ends_by values)
   ends_are =
-      made_is ends_of (find finds of_ends) _ _ (paired finds (opt.From ∷ []) (opt.To ∷ []) _ _ _ _
-      (of_one instant_of opt.From Optional refl) (of_one instant_of opt.To Optional refl))
+      made_is ends_of (find finds of_ends) _ _ (paired finds (opt.Tick ∷ []) (opt.From ∷ opt.To ∷ []) _ _ _ _
+      (of_one tick_of_word opt.Tick Optional refl) (paired finds (opt.From ∷ []) (opt.To ∷ []) _ _ _ _
+      (of_one (instant_of (tick_in values)) opt.From Optional refl) (of_one (instant_of (tick_in values)) opt.To Optional refl)))
 
   limits_are : limits_read values ≡ answer (find finds of_limits) (limits_by values)
   limits_are =
@@ -262,7 +264,7 @@ option_bad values kind files option known read =
 text_is_read : (values : Values) → text_read values ≡ answer (bad_word values) (text_of values)
 unfolding bad_word text_of
 text_is_read values =
-    let p : Named → Bool = λ option. is_bad option (use_in_text option) (values option) in
+    let p : Named → Bool = λ option. is_bad DEFAULT_TICK option (use_in_text option) (values option) in
     made_is text_of_parts (bad_word values) _ _
     (paired p (opt.Layout ∷ opt.Blocks ∷ []) (opt.Seed ∷ opt.Workers ∷ []) _ _ _ _
     (paired p (opt.Layout ∷ []) (opt.Blocks ∷ []) _ _ _ _

@@ -18,9 +18,9 @@ use Rattle.spec_requests.specs.declared.request.Named.{Named}
 use Rattle.spec_requests.specs.declared.request.Named.TheVariants as opt
 use Rattle.spec_requests.specs.declared.request.Request.{Request}
 use Rattle.spec_requests.specs.declared.request.Request.TheVariants.{Gen}
-use Rattle.spec_requests.specs.declared.limits.TheConstants.{DEFAULT_WIDTH, DEFAULT_DEPTH, DEFAULT_WORKERS}
-use Rattle.spec_requests.specs.Names.{Text, axis_of, cut_of, dir_of, frame_of, layout_of, observer_of, target_of}
-use Rattle.spec_requests.specs.Options.{Values, blocks_of, decimal_of, depth_of, instant_of, seed_of, width_of, workers_of}
+use Rattle.spec_requests.specs.declared.limits.TheConstants.{DEFAULT_TICK, DEFAULT_WIDTH, DEFAULT_DEPTH, DEFAULT_WORKERS}
+use Rattle.spec_requests.specs.Names.{Text, axis_of, cut_of, dir_of, frame_of, layout_of, observer_of, target_of, tick_of_word}
+use Rattle.spec_requests.specs.Options.{Values, blocks_of, decimal_of, depth_of, instant_of, seed_of, tick_in, width_of, workers_of}
 use Rattle.spec_requests.specs.Requests.{ask_of, first_number, nought, value_or}
 use Rattle.gf_words.specs.declared.searches.Axes.{Axes}
 use Rattle.gf_words.specs.declared.searches.Bodies.{Bodies}
@@ -136,14 +136,21 @@ ask_read values kind = made (ask_of_parts kind) (pair (pair (bodies_read values 
     (pair (numbers_read values kind) (part dir_of opt.Dir Optional (values opt.Dir))))
 
 abbrev pub ends_by : Values → Ends
-ends_by values = record { from = option_and_then instant_of (values opt.From); to = option_and_then instant_of (values opt.To) }
+ends_by values = record {
+  tick = tick_in values;
+  from = option_and_then (instant_of (tick_in values)) (values opt.From);
+  to = option_and_then (instant_of (tick_in values)) (values opt.To);
+}
 
-abbrev pub ends_of : Option ℤ × Option ℤ → Ends
-ends_of (from, to) = record { from = from; to = to }
+abbrev pub ends_of : Option ℕ × (Option ℤ × Option ℤ) → Ends
+ends_of (tick, (from, to)) = record { tick = unwrap_or tick DEFAULT_TICK; from = from; to = to }
+
+abbrev pub span_read : Values → Result (Option ℤ × Option ℤ) Named
+span_read values = pair (part (instant_of (tick_in values)) opt.From Optional (values opt.From))
+    (part (instant_of (tick_in values)) opt.To Optional (values opt.To))
 
 abbrev pub ends_read : Values → Result Ends Named
-ends_read values = made ends_of (pair (part instant_of opt.From Optional (values opt.From))
-    (part instant_of opt.To Optional (values opt.To)))
+ends_read values = made ends_of (pair (part tick_of_word opt.Tick Optional (values opt.Tick)) (span_read values))
 
 abbrev pub limits_by : Values → Limits
 limits_by values = record {

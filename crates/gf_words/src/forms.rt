@@ -2,7 +2,8 @@
 ghost use Rattle.std.specs.Prelude.{◌≡◌, ◌++◌, ◌&&◌, ◌≤◌, IfSome, None, Some, if◌then◌else◌, length, nat_le, nat_lt};
 ghost use Rattle.std.specs.Char.{is_ascii_digit};
 ghost use Rattle.std.specs.List.{list_all};
-ghost use Rattle.spec_requests.specs.Names.{as_target, axis_of, command_of, cut_of, dir_of, frame_of, kind_of, layout_of, named, observer_of, rows_of, target_of};
+ghost use Rattle.spec_requests.specs.Names.{as_target, axis_of, command_of, cut_of, dir_of, frame_of, kind_of, layout_of, named, observer_of, rows_of, target_of, tick_of_word};
+ghost use Rattle.spec_ephemeris.specs.Ticks.{IsTick};
 ghost use Rattle.spec_requests.specs.Options.{are_digits, blocks_of, decimal_of, depth_of, instant_of, number_of, seed_of, width_of, workers_of};
 
 use de_text::read_decimal;
@@ -13,7 +14,7 @@ use spec_kinds::{KINDS, Kind};
 use spec_requests::{
     AXES, BODIES, COMMANDS, CUTS, CommandName, DIRS, FRAMES, LAYOUTS, MAX_DEPTH,
     MAX_DIGITS_OF_A_COUNT, MAX_DIGITS_OF_A_SEED, MAX_DIGITS_OF_BLOCKS, MAX_GENERATED_BLOCKS,
-    MAX_SEED, MAX_WIDTH, MAX_WORKERS,
+    MAX_SEED, MAX_WIDTH, MAX_WORKERS, TICKS,
 };
 use spec_text::Decimal;
 use spec_trees::CutRule;
@@ -94,6 +95,13 @@ pub(crate) fn cut(word: &str) -> Option<CutRule>
     ensures { result ≡ cut_of word.now }
 {
     named(&CUTS, word)
+}
+
+// How many ticks a second has.
+pub(crate) fn tick(word: &str) -> Option<u32>
+    ensures { result ≡ tick_of_word word.now }
+{
+    named(&TICKS, word)
 }
 
 pub(crate) fn layout(word: &str) -> Option<u16>
@@ -196,9 +204,10 @@ pub(crate) fn decimal(word: &str) -> Option<Decimal>
     read_decimal(word.as_bytes()).ok()
 }
 
-// The time that the word stands for, in seconds of TDB since J2000.
-pub(crate) fn instant(word: &str) -> Option<i64>
-    ensures { result ≡ instant_of word.now }
+// The time that the word stands for, in ticks since J2000 in TDB.
+pub(crate) fn instant(word: &str, tick: u32) -> Option<i64>
+    requires { IsTick tick }
+    ensures { result ≡ instant_of tick word.now }
 {
-    read_time(word.as_bytes()).ok()
+    read_time(word.as_bytes(), tick).ok()
 }

@@ -2,8 +2,9 @@
 ghost use Rattle.std.specs.Prelude.{◌≡◌};
 ghost use Rattle.spec_kinds.specs.declared.table.Use.TheVariants.{Optional};
 ghost use Rattle.spec_requests.specs.declared.request.Named.TheVariants as opt;
-ghost use Rattle.spec_requests.specs.Names.{axis_of, cut_of, dir_of, frame_of, kind_of, layout_of, observer_of, target_of};
-ghost use Rattle.spec_requests.specs.Options.{blocks_of, decimal_of, depth_of, instant_of, seed_of, width_of, workers_of};
+ghost use Rattle.spec_ephemeris.specs.Ticks.{IsTick};
+ghost use Rattle.spec_requests.specs.Names.{axis_of, cut_of, dir_of, frame_of, kind_of, layout_of, observer_of, target_of, tick_of_word};
+ghost use Rattle.spec_requests.specs.Options.{blocks_of, decimal_of, depth_of, instant_of, seed_of, tick_in, width_of, workers_of};
 ghost use Rattle.gf_words.specs.Parts.{by_use, left_out, needed, pair, part, required, used};
 ghost use Rattle.gf_words.specs.Readings.{values_of};
 
@@ -14,7 +15,7 @@ use spec_bodies::Frame;
 use spec_ephemeris::Body;
 use spec_events::Dir;
 use spec_kinds::{Kind, Use};
-use spec_requests::Named;
+use spec_requests::{DEFAULT_TICK, Named};
 use spec_text::Decimal;
 use spec_trees::CutRule;
 
@@ -128,12 +129,36 @@ pub(crate) fn dir(matches: &ArgMatches<'_>) -> Result<Option<Dir>, Named>
     check_use(Named::Dir, Use::Optional, read)
 }
 
-// An end of the span, in seconds of TDB since J2000.
-pub(crate) fn instant(matches: &ArgMatches<'_>, option: Named) -> Result<Option<i64>, Named>
-    ensures { result ≡ part instant_of option Optional (values_of matches.now option) }
+// How many ticks a second has.
+pub(crate) fn tick(matches: &ArgMatches<'_>) -> Result<Option<u32>, Named>
+    ensures { result ≡ part tick_of_word opt.Tick Optional (values_of matches.now opt.Tick) }
 {
-    let read = value(matches, option).map(forms::instant);
-    check_use(option, Use::Optional, read)
+    let read = value(matches, Named::Tick).map(forms::tick);
+    check_use(Named::Tick, Use::Optional, read)
+}
+
+// The same, where it is left out or bad too.
+pub(crate) fn tick_in(matches: &ArgMatches<'_>) -> u32
+    ensures { result ≡ tick_in (values_of matches.now) }
+{
+    value(matches, Named::Tick)
+        .and_then(forms::tick)
+        .unwrap_or(DEFAULT_TICK)
+}
+
+// An end of the span, in ticks since J2000 in TDB.
+pub(crate) fn instant(
+    matches: &ArgMatches<'_>,
+    option: Named,
+    tick: u32,
+) -> Result<Option<i64>, Named>
+    requires { IsTick tick }
+    ensures { result ≡ part (instant_of tick) option Optional (values_of matches.now option) }
+{
+    match value(matches, option) {
+        Some(word) => check_use(option, Use::Optional, Some(forms::instant(word, tick))),
+        None => check_use(option, Use::Optional, None),
+    }
 }
 
 pub(crate) fn width(matches: &ArgMatches<'_>) -> Result<Option<u32>, Named>

@@ -5,7 +5,7 @@ ghost use Rattle.spec_requests.specs.Requests.{nought, search_by, search_of, val
 ghost use Rattle.spec_kinds.specs.Table.{takes_radii};
 ghost use Rattle.spec_requests.specs.Names.{kind_of};
 ghost use Rattle.gf_words.specs.Answers.{Answers};
-ghost use Rattle.gf_words.specs.Parts.{ask_read, axes_read, bodies_read, ends_read, limits_read, numbers_read, radii_read, search_by_options, search_read};
+ghost use Rattle.gf_words.specs.Parts.{ask_read, axes_read, bodies_read, ends_read, limits_read, numbers_read, radii_read, search_by_options, search_read, span_read};
 ghost use Rattle.gf_words.specs.Readings.{file_names_of, values_of};
 
 use crate::parts::{self, pair};
@@ -16,7 +16,8 @@ use spec_ephemeris::Body;
 use spec_events::Dir;
 use spec_kinds::{Ask, Kind};
 use spec_requests::{
-    DEFAULT_DEPTH, DEFAULT_WIDTH, DEFAULT_WORKERS, FindAsk, Named, Request, Text, WordFault,
+    DEFAULT_DEPTH, DEFAULT_TICK, DEFAULT_WIDTH, DEFAULT_WORKERS, FindAsk, Named, Request, Text,
+    WordFault,
 };
 use spec_text::Decimal;
 use spec_trees::CutRule;
@@ -44,9 +45,10 @@ pub(crate) struct Numbers {
     pub(crate) value2: Decimal,
 }
 
-// The ends of the span, in seconds of TDB since J2000, where they are given.
+// How many ticks a second has, and the ends of the span, in ticks since J2000 in TDB, where they are given.
 #[derive(Clone, Copy)]
 pub(crate) struct Ends {
+    pub(crate) tick: u32,
     pub(crate) from: Option<i64>,
     pub(crate) to: Option<i64>,
 }
@@ -165,12 +167,23 @@ fn read_ask(matches: &ArgMatches<'_>, kind: Kind) -> Result<Ask, Named>
     }
 }
 
+fn read_span(matches: &ArgMatches<'_>) -> Result<(Option<i64>, Option<i64>), Named>
+    ensures { result ≡ span_read (values_of matches.now) }
+{
+    let tick = parts::tick_in(matches);
+    let from = parts::instant(matches, Named::From, tick);
+    pair(from, parts::instant(matches, Named::To, tick))
+}
+
 fn read_ends(matches: &ArgMatches<'_>) -> Result<Ends, Named>
     ensures { result ≡ ends_read (values_of matches.now) }
 {
-    let from = parts::instant(matches, Named::From);
-    match pair(from, parts::instant(matches, Named::To)) {
-        Ok((from, to)) => Ok(Ends { from, to }),
+    match pair(parts::tick(matches), read_span(matches)) {
+        Ok((tick, (from, to))) => Ok(Ends {
+            tick: tick.unwrap_or(DEFAULT_TICK),
+            from,
+            to,
+        }),
         Err(option) => Err(option),
     }
 }
@@ -255,6 +268,7 @@ fn with_texts(
     Ok(FindAsk {
         ask: search.ask,
         values: values_text(alloc, matches, kind)?,
+        tick: search.ends.tick,
         from: search.ends.from,
         to: search.ends.to,
         width: i64::from(search.limits.width),

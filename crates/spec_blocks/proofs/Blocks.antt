@@ -1,5 +1,5 @@
 -- One block more is one of a checked ephemeris.
-use Rattle.std.proofs.Common.{◌≡◌, ℕ, zero, suc, ◌+◌, ◌*◌, ◌<◌, ◌≤◌, ◌&&◌, nat_lt, nat_le, Bool, true, false, List, [], ◌∷◌, length, take, Some, Result, Ok, Err, refl, sym, ap, ◌∙◌, subst, inl, inr, arith, if◌then◌else◌, eq-eqb, ne_eqb, ℤ, pos}
+use Rattle.std.proofs.Common.{◌≡◌, ℕ, zero, suc, ◌+◌, ◌*◌, ◌<◌, ◌≤◌, ◌&&◌, nat_lt, nat_le, Bool, true, false, List, [], ◌∷◌, length, take, Some, Result, Ok, Err, refl, sym, ap, ◌∙◌, subst, inl, inr, arith, if◌then◌else◌, eq-eqb, ne_eqb, ℤ, pos, ◌≤ℤ◌}
 use Rattle.std.specs.Prelude.{slice_get}
 use Rattle.std.proofs.lemmas.Bool.{cases_Bool, cases_eq, and_parts, lt-ltb, ltb-true, le-leb, leb-false, and_from, or_left, or_right, false≢true}
 use Rattle.std.proofs.lemmas.Option.{none-some, same_Some, slice_get_within}
@@ -8,10 +8,11 @@ use Rattle.std.proofs.lemmas.Int.{ints}
 use Rattle.spec_text.specs.declared.decimals.Decimal.{Decimal}
 use Rattle.spec_ephemeris.specs.declared.header.Column.{Column}
 use Rattle.spec_ephemeris.specs.declared.header.Header.{Header}
-use Rattle.spec_ephemeris.specs.declared.limits.TheConstants.{BODY_COLUMNS, MAX_BLOCKS}
+use Rattle.spec_ephemeris.specs.declared.limits.TheConstants.{BODY_COLUMNS, FIRST_TIME, LAST_TIME, MAX_BLOCKS}
 use Rattle.spec_ephemeris.specs.Header.{IsHeader, IsColumn, Takes, is_present, column_size}
 use Rattle.spec_ephemeris.specs.Ephemeris.{Ephemeris, IsEphemeris, IsStart, IsBlock, IsBodyNumber, AreBodiesBounded, empty_ephemeris}
 use Rattle.spec_ephemeris.specs.Series.{IsInUnits}
+use Rattle.spec_ephemeris.proofs.ColumnRules.{listed}
 use Rattle.spec_ephemeris.proofs.Pushing.{pushed}
 use Rattle.spec_sections.specs.declared.rules.BrokenRule.{BrokenRule}
 use Rattle.spec_text.specs.Days.{seconds_of_julian_date}
@@ -19,19 +20,26 @@ use Rattle.spec_text.specs.declared.days.DaysFault.{DaysFault}
 use Rattle.spec_text.specs.declared.limits.TheConstants.{DAY_SECONDS, LAST_JULIAN_DAY}
 use Rattle.spec_text.proofs.Spans.{seconds_few}
 use Rattle.spec_sections.specs.Sections.{◌>>=◌}
-use Rattle.spec_sections.proofs.Holding.{Holds, holds_ok}
+use Rattle.spec_sections.proofs.Holding.{Holds, holds_also, holds_ok}
 use Rattle.spec_numbers.proofs.Lists.{get_take}
 use Rattle.spec_blocks.specs.BlockRules.{coefficient_rule, follows, has_length, is_skipped, is_place_of, is_place_of_body, is_too_large, time_by, time_of}
 use Rattle.spec_blocks.specs.Blocks.{accept, begun, no_blocks, with_numbers}
 use Rattle.spec_blocks.specs.Read.{AreRead}
 
 -- ---- times
-time_by_holds : (r : Result ℕ DaysFault) → Holds (λ s. s ≤ DAY_SECONDS * LAST_JULIAN_DAY) r → Holds IsStart (time_by r)
+-- a second from Julian date 0 to Julian date 5,000,000
+abbrev pub IsSecond : ℤ → Type 0
+IsSecond t = (FIRST_TIME ≤ℤ t) × (t ≤ℤ LAST_TIME)
+
+time_by_holds : (r : Result ℕ DaysFault) → Holds (λ s. s ≤ DAY_SECONDS * LAST_JULIAN_DAY) r → Holds IsSecond (time_by r)
 time_by_holds (Ok s) few = (omega (arith, ints), omega (arith, ints, few))
 time_by_holds (Err b) few = tt
 
+pub second_holds : (d : Decimal) → Holds IsSecond (time_of d)
+second_holds d = time_by_holds (seconds_of_julian_date d) (seconds_few LAST_JULIAN_DAY d)
+
 pub time_holds : (d : Decimal) → Holds IsStart (time_of d)
-time_holds d = time_by_holds (seconds_of_julian_date d) (seconds_few LAST_JULIAN_DAY d)
+time_holds d = holds_also IsSecond IsStart (time_of d) (λ t is. (omega (arith, ints, is.0), omega (arith, ints, is.1))) (second_holds d)
 
 -- ---- places
 found_place : (number : ℕ) (cs : List Column) (i place : ℕ) (c : Column) → slice_get cs i ≡ Some c → is_present c ≡ true → Takes (number + i) c place
@@ -53,7 +61,8 @@ body_place : (h : Header) (number place : ℕ) (c : Column) → IsColumn h numbe
 body_place h zero place c is few takes = absurd (none-some c is.listed)
 body_place h (suc i) place c is few takes =
     let number : suc i ≡ 1 + i = omega arith in
-    found_place 1 (take BODY_COLUMNS h.columns) i place c (get_take h.columns BODY_COLUMNS i (omega (arith, few)) ∙ is.listed) is.present
+    let there = listed h.columns i c is.listed in
+    found_place 1 (take BODY_COLUMNS h.columns) i place c (get_take h.columns BODY_COLUMNS i (omega (arith, few)) ∙ there.1) is.present
     (subst (λ (k : ℕ). Takes k c place) number takes)
 
 not_large : (a b : Bool) (x : BrokenRule) → b ≡ true → Holds (λ (u : Unit {0}). a ≡ false) (if a && b then Err x else Ok tt)

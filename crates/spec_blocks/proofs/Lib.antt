@@ -2,3 +2,4 @@ pub mod Numbers
 pub mod Blocks
 pub mod Accepted
 pub mod FurtherWords
+pub mod Ending

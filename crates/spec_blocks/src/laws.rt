@@ -1,8 +1,9 @@
 // What the definitions of blocks come to.
-ghost use Rattle.std.specs.Prelude.{◌≡◌, ◌<◌, List, Ok};
+ghost use Rattle.std.specs.Prelude.{◌≡◌, ◌<◌, ◌≤ℤ◌, List, Ok};
 ghost use Rattle.spec_ephemeris.specs.Header.{IsHeader};
 ghost use Rattle.spec_ephemeris.specs.declared.header.Header.{Header};
-ghost use Rattle.spec_ephemeris.specs.Ephemeris.{Ephemeris, IsEphemeris};
+ghost use Rattle.spec_ephemeris.specs.Ephemeris.{Ephemeris, IsEphemeris, end_of};
+ghost use Rattle.spec_ephemeris.specs.declared.limits.TheConstants.{FIRST_TIME, LAST_TIME};
 ghost use Rattle.spec_sections.specs.Sections.{FileLine};
 ghost use Rattle.spec_blocks.specs.Blocks.{blocks};
 
@@ -14,4 +15,14 @@ pub fn accepted_blocks_are_an_ephemeris()
         → IsHeader h → blocks h lines ≡ Ok e → e.header ≡ h }
     ensures some { (h : Header) (lines : List FileLine) (e : Ephemeris)
         → IsHeader h → blocks h lines ≡ Ok e → 0 < e.blocks }
+{}
+
+/// They lie from Julian date 0 to Julian date 5,000,000, in seconds.
+pub fn accepted_blocks_lie_in_time()
+    ensures first { (h : Header) (lines : List FileLine) (e : Ephemeris)
+        → blocks h lines ≡ Ok e → FIRST_TIME ≤ℤ e.start }
+    ensures last { (h : Header) (lines : List FileLine) (e : Ephemeris)
+        → blocks h lines ≡ Ok e → e.start ≤ℤ LAST_TIME }
+    ensures end { (h : Header) (lines : List FileLine) (e : Ephemeris)
+        → blocks h lines ≡ Ok e → end_of e ≤ℤ LAST_TIME }
 {}

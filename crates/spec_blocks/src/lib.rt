@@ -11,4 +11,4 @@ pub use examples::{
     blocks_go_on_in_the_next_file, numbers_are_refused, places_of_bodies, record_lines_are_refused,
     spans_are_refused, times_of_julian_dates, words_after_a_block_are_zeros,
 };
-pub use laws::accepted_blocks_are_an_ephemeris;
+pub use laws::{accepted_blocks_are_an_ephemeris, accepted_blocks_lie_in_time};

@@ -4,7 +4,7 @@ use Rattle.std.proofs.lemmas.Int.{ints}
 use Rattle.std.proofs.lemmas.List.Elements.{All-weaker}
 use Rattle.std.proofs.lemmas.Nat.{mul-le}
 use Rattle.spec_intervals.specs.Fraction.{IsFraction, Holds, fraction_sub}
-use Rattle.spec_ephemeris.specs.declared.limits.TheConstants.{FIRST_TIME, LAST_TIME, MAX_BLOCKS, LONGEST_BLOCK}
+use Rattle.spec_ephemeris.specs.declared.limits.TheConstants.{FIRST_TICK, LAST_TICK, MAX_BLOCKS, LONGEST_TICKS}
 use Rattle.spec_ephemeris.specs.Series.{Series}
 use Rattle.spec_ephemeris.specs.Ephemeris.{IsBorder}
 use Rattle.spec_motions.specs.Enclosures.{IsSeries, IsSpanOf}
@@ -103,10 +103,10 @@ module _ (v : View) (a b : ℤ) (fits : Fits v a b) where
   states_held (velocity_of target axis) is = formula_held Velocity (coordinate_of v target axis) (readable_columns target axis is.1)
 
 -- ---- exponents
-far : (start a : ℤ) (blocks : ℕ) (block : ℤ) → FIRST_TIME ≤ℤ start → start ≤ℤ LAST_TIME → blocks ≤ MAX_BLOCKS → pos 1 ≤ℤ block → block ≤ℤ LONGEST_BLOCK
+far : (start a : ℤ) (blocks : ℕ) (block : ℤ) → FIRST_TICK ≤ℤ start → start ≤ℤ LAST_TICK → blocks ≤ MAX_BLOCKS → pos 1 ≤ℤ block → block ≤ℤ LONGEST_TICKS
     → start ≤ℤ a → a ≤ℤ (start +ℤ (pos blocks *ℤ block)) → unsigned_abs a ≤ 2 ^ 50
 far start a blocks (pos block) first last few some long from to =
-    let all : blocks * block ≤ 16384 * 2764800 = mul-le blocks block 16384 2764800 few (omega (arith, ints, long)) in omega (arith, ints, first, last, from, to, all)
+    let all : blocks * block ≤ 16384 * 5529600000 = mul-le blocks block 16384 5529600000 few (omega (arith, ints, long)) in omega (arith, ints, first, last, from, to, all)
 far start a blocks (negsuc block) first last few some long from to = absurd (omega (arith, ints, some))
 
 module _ (v : View) (a b : ℤ) (fits : Fits v a b) where

@@ -1,11 +1,14 @@
 -- A test of a header's rules that computes.
-use Rattle.std.proofs.Common.{◌≡◌, ℕ, zero, suc, ◌+◌, ◌/◌, ◌%◌, ◌<◌, ◌==◌, nat_le, Bool, true, false, not, ◌&&◌, ◌||◌, IsTrue, List, [], ◌∷◌, length, slice_get, Some, None, pos, ◌≤ℤ◌, int_le, unsigned_abs, subst, arith}
+use Rattle.std.proofs.Common.{◌≡◌, ℕ, zero, suc, ◌+◌, ◌/◌, ◌%◌, ◌<◌, ◌==◌, nat_le, Bool, true, false, not, ◌&&◌, ◌||◌, IsTrue, List, [], ◌∷◌, length, take, slice_get, Some, None, pos, ◌≤ℤ◌, int_le, unsigned_abs, subst, ◌∙◌, arith}
 use Rattle.std.proofs.lemmas.Nat.{div-add-mod'}
 use Rattle.std.proofs.lemmas.Int.{ints}
 use Rattle.spec_numbers.proofs.Booleans.{both_first, both_second}
+use Rattle.spec_numbers.proofs.Lists.{get_take}
 use Rattle.spec_ephemeris.specs.declared.header.Column.{Column}
 use Rattle.spec_ephemeris.specs.declared.header.Header.{Header}
-use Rattle.spec_ephemeris.specs.Header.{IsColumn, IsHeader, IsMassRatio, MeetsColumnRules, AreApart, column_size, is_present}
+use Rattle.spec_ephemeris.specs.declared.limits.TheConstants.{READ_COLUMNS}
+use Rattle.spec_ephemeris.specs.Header.{IsColumn, IsColumnCount, IsHeader, IsMassRatio, MeetsColumnRules, AreApart, column_at, column_size, is_present}
+use Rattle.spec_ephemeris.proofs.ColumnRules.{listed}
 
 -- the rules of one column, where it is present
 abbrev pub column_test : Header → ℕ → Column → Bool
@@ -102,15 +105,19 @@ apart_at h n (e ∷ es) holds (suc i) (suc j) c d before at_i at_j here there =
     let Q : ℕ → Type 0 = λ m. AreApart (suc n + i) c m d in
     subst P first (subst Q second (apart_at h (suc n) es rest i j c d (omega (arith, before)) at_i at_j here there))
 
-all_rules : (h : Header) → pos 0 ≤ℤ h.block_seconds → columns_test h 1 h.columns ≡ true
+-- a column that is read is one of the first
+among_first : (columns : List Column) (i : ℕ) (c : Column) → column_at columns (suc i) ≡ Some c → slice_get (take READ_COLUMNS columns) i ≡ Some c
+among_first columns i c is = let there = listed columns i c is in get_take columns READ_COLUMNS i there.0 ∙ there.1
+
+all_rules : (h : Header) → pos 0 ≤ℤ h.block_seconds → columns_test h 1 (take READ_COLUMNS h.columns) ≡ true
     → (number : ℕ) (c : Column) → IsColumn h number c → MeetsColumnRules h number c
 all_rules h positive holds zero c is = no_column c is.listed
 all_rules h positive holds (suc i) c is =
     let place : 1 + i ≡ suc i = omega arith in
     let P : ℕ → Type 0 = λ m. MeetsColumnRules h m c in
-    subst P place (rules_at h 1 h.columns positive holds i c is.listed is.present)
+    subst P place (rules_at h 1 (take READ_COLUMNS h.columns) positive holds i c (among_first h.columns i c is.listed) is.present)
 
-all_apart : (h : Header) → columns_test h 1 h.columns ≡ true
+all_apart : (h : Header) → columns_test h 1 (take READ_COLUMNS h.columns) ≡ true
     → (i j : ℕ) (c d : Column) → i < j → IsColumn h i c → IsColumn h j d → AreApart i c j d
 all_apart h holds zero j c d before one other = no_column c one.listed
 all_apart h holds (suc i) zero c d before one other = no_column d other.listed
@@ -119,14 +126,21 @@ all_apart h holds (suc i) (suc j) c d before one other =
     let second : 1 + j ≡ suc j = omega arith in
     let P : ℕ → Type 0 = λ m. AreApart m c (suc j) d in
     let Q : ℕ → Type 0 = λ m. AreApart (1 + i) c m d in
-    subst P first (subst Q second (apart_at h 1 h.columns holds i j c d (omega (arith, before)) one.listed other.listed one.present other.present))
+    subst P first (subst Q second (apart_at h 1 (take READ_COLUMNS h.columns) holds i j c d (omega (arith, before))
+    (among_first h.columns i c one.listed) (among_first h.columns j d other.listed) one.present other.present))
+
+abbrev pub count_test : ℕ → Bool
+count_test count = nat_le 13 count && nat_le count 15
 
 -- the rules that are tests of numbers
 abbrev pub numbers_test : Header → Bool
-numbers_test h = nat_le 3 h.ncoeff && (nat_le h.ncoeff 4096 && (int_le (pos 1) h.block_seconds && (int_le h.block_seconds (pos 2764800) && (length h.columns == 13))))
+numbers_test h = nat_le 3 h.ncoeff && (nat_le h.ncoeff 4096 && (int_le (pos 1) h.block_seconds && (int_le h.block_seconds (pos 5529600000) && count_test (length h.columns))))
+
+count_is : (count : ℕ) → count_test count ≡ true → IsColumnCount count
+count_is count holds = (grind (arith, holds), grind (arith, holds))
 
 -- a header that passes the tests meets the rules
-pub passes : (h : Header) → IsMassRatio h.emrat → numbers_test h ≡ true → columns_test h 1 h.columns ≡ true → IsHeader h
+pub passes : (h : Header) → IsMassRatio h.emrat → numbers_test h ≡ true → columns_test h 1 (take READ_COLUMNS h.columns) ≡ true → IsHeader h
 passes h ratio numbers columns =
     let positive : pos 0 ≤ℤ h.block_seconds = grind (arith, ints, numbers) in
     record {
@@ -135,7 +149,9 @@ passes h ratio numbers columns =
       shortest = grind (arith, ints, numbers);
       longest = grind (arith, ints, numbers);
       ratio = ratio;
-      count = grind (arith, numbers);
+      count =
+          count_is (length h.columns) (both_second (int_le h.block_seconds (pos 5529600000)) _
+          (both_second (int_le (pos 1) h.block_seconds) _ (both_second (nat_le h.ncoeff 4096) _ (both_second (nat_le 3 h.ncoeff) _ numbers))));
       columns = all_rules h positive columns;
       apart = all_apart h columns;
     }

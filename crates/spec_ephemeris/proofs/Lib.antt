@@ -1,4 +1,5 @@
 pub mod HeaderTest
+pub mod Ticks
 pub mod ColumnRules
 pub mod Granules
 pub mod Nearer

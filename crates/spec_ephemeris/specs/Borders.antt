@@ -1,5 +1,5 @@
 -- The border of columns that is nearest to the middle of a span, as a function.
--- A border of a column is the start of any of its granules but the first. Times are seconds of TDB since J2000.
+-- A border of a column is the start of any of its granules but the first. Times are seconds or ticks since J2000 in TDB.
 use Rattle.std.specs.Prelude.{ℕ, zero, suc, ◌-◌, ◌*◌, nat_lt, ◌==◌, Bool, ◌&&◌, ◌||◌, if◌then◌else◌, List, [], ◌∷◌, Option, None, Some, ℤ, pos, ◌+ℤ◌, int_lt, int_le}
 use Rattle.spec_ephemeris.specs.declared.header.Column.{Column}
 use Rattle.spec_ephemeris.specs.Ephemeris.{Ephemeris, off_middle}

@@ -1,10 +1,10 @@
 -- The checked ephemeris, the granule of a column at a time, and the borders of granules.
--- Times are seconds of TDB since J2000.
+-- Times are whole numbers since J2000 in TDB: of seconds, as they are read, or of ticks.
 use Rattle.std.specs.Prelude.{◌≡◌, ◌⊎◌, ℕ, suc, ◌+◌, ◌-◌, ◌*◌, ◌<◌, ◌≤◌, List, [], ◌++◌, length, take, drop, slice_get, Contains, Option, None, Some, ℤ, pos, ◌+ℤ◌, ◌-ℤ◌, ◌*ℤ◌, ◌≤ℤ◌, ◌<ℤ◌, unsigned_abs}
 use Rattle.spec_text.specs.declared.decimals.Decimal.{Decimal}
 use Rattle.spec_ephemeris.specs.declared.header.Column.{Column}
 use Rattle.spec_ephemeris.specs.declared.header.Header.{Header}
-use Rattle.spec_ephemeris.specs.declared.limits.TheConstants.{BODY_COLUMNS, MAX_BLOCKS, FIRST_TIME, LAST_TIME}
+use Rattle.spec_ephemeris.specs.declared.limits.TheConstants.{BODY_COLUMNS, MAX_BLOCKS, FIRST_TICK, LAST_TICK}
 use Rattle.spec_ephemeris.specs.Header.{IsColumn, IsHeader, Takes, granule_size}
 use Rattle.spec_ephemeris.specs.Series.{Series, IsCoefficient, IsInUnits}
 
@@ -34,7 +34,7 @@ block_numbers e block = take e.header.ncoeff (drop (block * e.header.ncoeff) e.n
 
 -- ---- what is checked of the numbers
 abbrev pub IsStart : ℤ → Type 0
-IsStart start = (FIRST_TIME ≤ℤ start) × (start ≤ℤ LAST_TIME)
+IsStart start = (FIRST_TICK ≤ℤ start) × (start ≤ℤ LAST_TICK)
 
 -- a coefficient of a body is below 2^36 km in size, and its exponent is at least -140
 pub record IsBodyNumber (d : Decimal) : Type 0 where

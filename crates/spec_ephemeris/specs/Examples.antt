@@ -1,5 +1,5 @@
 -- Small series with round values.
-use Rattle.std.specs.Prelude.{◌≡◌, ℕ, List, replicate, [], ◌∷◌, ℤ, pos, neg_ℤ, ◌*ℤ◌}
+use Rattle.std.specs.Prelude.{◌≡◌, ℕ, List, replicate, [], ◌∷◌, ◌++◌, ℤ, pos, neg_ℤ, ◌*ℤ◌}
 use Rattle.spec_text.specs.declared.decimals.Decimal.{Decimal}
 use Rattle.spec_intervals.specs.Fraction.{Fraction}
 use Rattle.spec_ephemeris.specs.declared.granule.Rounded.{Rounded}
@@ -60,9 +60,32 @@ de405 = record {
       ∷ column 405 6 1 ∷ column 423 6 1 ∷ column 441 13 8 ∷ column 753 11 2 ∷ column 819 10 4 ∷ column 899 10 4 ∷ [];
 }
 
--- blocks of that header, with no numbers written
+-- that header with blocks of another length
+abbrev pub de405_of_length : ℤ → Header
+de405_of_length length = record { ncoeff = de405.ncoeff; block_seconds = length; emrat = de405.emrat; columns = de405.columns }
+
+-- that header with columns after its own
+abbrev pub de405_with : List Column → Header
+de405_with more = record { ncoeff = de405.ncoeff; block_seconds = de405.block_seconds; emrat = de405.emrat; columns = de405.columns ++ more }
+
+-- the header of JPL's DE430t, whose column 15 has one component
+abbrev pub de430t : Header
+de430t = record {
+  ncoeff = 982;
+  block_seconds = pos 2764800;
+  emrat = record { mant = pos 813005690699153000; exp = neg_ℤ (pos 16) };
+  columns =
+      column 3 14 4 ∷ column 171 10 2 ∷ column 231 13 2 ∷ column 309 11 1 ∷ column 342 8 1 ∷ column 366 7 1 ∷ column 387 6 1
+      ∷ column 405 6 1 ∷ column 423 6 1 ∷ column 441 13 8 ∷ column 753 11 2 ∷ column 819 0 0 ∷ column 819 10 4 ∷ column 939 0 0
+      ∷ column 939 11 4 ∷ [];
+}
+
+-- blocks of a header, with no numbers written
+abbrev pub blocks_of : Header → ℕ → Ephemeris
+blocks_of h blocks = record { header = h; start = neg_ℤ (pos 43200); blocks = blocks; numbers = [] }
+
 abbrev pub blocks_of_de405 : ℕ → Ephemeris
-blocks_of_de405 blocks = record { header = de405; start = neg_ℤ (pos 43200); blocks = blocks; numbers = [] }
+blocks_of_de405 = blocks_of de405
 
 -- a column of two coefficients that begins within Mercury's
 abbrev pub overlapping : Header

@@ -4,12 +4,12 @@ use borrow.Author.Differences.{up, down}
 use Rattle.spec_text.specs.declared.decimals.Decimal.{Decimal}
 use Rattle.spec_ephemeris.specs.declared.header.Column.{Column}
 use Rattle.spec_ephemeris.specs.declared.header.Header.{Header}
-use Rattle.spec_ephemeris.specs.declared.limits.TheConstants.{COLUMNS, NUTATIONS, FIRST_PLACE, MIN_NUMBERS, MAX_NUMBERS, MAX_COEFFICIENTS, SHORTEST_BLOCK, LONGEST_BLOCK, MIN_MASS_RATIO, GREATEST_MASS_RATIO}
+use Rattle.spec_ephemeris.specs.declared.limits.TheConstants.{READ_COLUMNS, MAX_COLUMNS, NUTATIONS, FIRST_PLACE, MIN_NUMBERS, MAX_NUMBERS, MAX_COEFFICIENTS, SHORTEST_BLOCK, LONGEST_TICKS, MIN_MASS_RATIO, GREATEST_MASS_RATIO}
 
--- columns are counted from 1
+-- columns are counted from 1; those past the ones that are read are none
 abbrev pub column_at : List Column → ℕ → Option Column
 column_at columns zero = None
-column_at columns (suc number) = slice_get columns number
+column_at columns (suc number) = if nat_lt number READ_COLUMNS then slice_get columns number else None
 
 -- a column with no coefficients or no granules is absent
 abbrev pub is_present : Column → Bool
@@ -44,7 +44,7 @@ pub record Takes (number : ℕ) (c : Column) (place : ℕ) : Type 0 where
   pub from : c.start ≤ place
   pub before : place < c.start + column_size number c
 
--- a block is a whole number of seconds for each of the granules
+-- a block is a whole number of seconds, or of ticks, for each of the granules
 pub record IsShared (block : ℤ) (granules : ℕ) : Type 0 where
   pub seconds : ℕ
   pub whole : block ≡ pos (seconds * granules)
@@ -65,15 +65,16 @@ pub record IsMassRatio (d : Decimal) : Type 0 where
   pub least : pos (MIN_MASS_RATIO * 10 ^ down d.exp) ≤ℤ (d.mant *ℤ pos (10 ^ up d.exp))
   pub greatest : (d.mant *ℤ pos (10 ^ up d.exp)) ≤ℤ pos (GREATEST_MASS_RATIO * 10 ^ down d.exp)
 
+-- the columns of a header, with those that are not read
 abbrev pub IsColumnCount : ℕ → Type 0
-IsColumnCount count = count ≡ COLUMNS
+IsColumnCount count = (READ_COLUMNS ≤ count) × (count ≤ MAX_COLUMNS)
 
--- the header meets the rules
+-- the header meets the rules; its block length is counted in seconds or in ticks
 pub record IsHeader (h : Header) : Type 0 where
   pub fewest : MIN_NUMBERS ≤ h.ncoeff
   pub most : h.ncoeff ≤ MAX_NUMBERS
   pub shortest : SHORTEST_BLOCK ≤ℤ h.block_seconds
-  pub longest : h.block_seconds ≤ℤ LONGEST_BLOCK
+  pub longest : h.block_seconds ≤ℤ LONGEST_TICKS
   pub ratio : IsMassRatio h.emrat
   pub count : IsColumnCount (length h.columns)
   pub columns : (number : ℕ) (c : Column) → IsColumn h number c → MeetsColumnRules h number c

@@ -5,4 +5,5 @@ pub mod Header
 pub mod Ephemeris
 pub mod Granules
 pub mod Borders
+pub mod Ticks
 pub mod Examples

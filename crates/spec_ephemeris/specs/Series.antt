@@ -1,5 +1,5 @@
 -- The Chebyshev series of one coordinate over a granule, and its exact value at each time.
--- Times are seconds of TDB since J2000, and positions are in km.
+-- Times are seconds or ticks since J2000 in TDB, and positions are in km.
 use Rattle.std.specs.Prelude.{ℕ, suc, ◌*◌, ◌-◌, ◌^◌, List, [], ◌∷◌, length, ℤ, pos, negsuc, ◌+ℤ◌, ◌-ℤ◌, ◌*ℤ◌, neg_ℤ, ◌≤ℤ◌}
 use Rattle.spec_text.specs.declared.decimals.Decimal.{Decimal}
 use Rattle.spec_intervals.specs.Fraction.{Fraction}

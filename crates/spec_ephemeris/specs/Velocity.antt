@@ -1,5 +1,5 @@
--- The exact velocity of a series at each time: the derivative of its position, in km per second.
--- The derivative of T_k is k U_(k-1), and one second is a step of 2 / duration in the argument.
+-- The exact velocity of a series at each time: the derivative of its position, in km per unit of time.
+-- The derivative of T_k is k U_(k-1), and one unit is a step of 2 / duration in the argument.
 use Rattle.std.specs.Prelude.{ℕ, zero, suc, ◌-◌, ◌*◌, ◌^◌, length, drop, ℤ, pos, ◌*ℤ◌}
 use Rattle.spec_intervals.specs.Fraction.{Fraction}
 use Rattle.spec_chebyshev.specs.Polynomials.{cleared_u}

@@ -1,12 +1,13 @@
 // Worked values of the definitions, by computation.
-ghost use Rattle.std.specs.Prelude.{◌≡◌, ◌+◌, ◌-◌, ◌^◌, true, false, [], ◌∷◌, None, Some, pos, neg_ℤ};
+ghost use Rattle.std.specs.Prelude.{◌≡◌, ◌+◌, ◌-◌, ◌*ℤ◌, ◌^◌, true, false, [], ◌∷◌, None, Some, pos, neg_ℤ};
 ghost use Rattle.spec_ephemeris.specs.Header.{IsHeader, column_size, has_column};
 ghost use Rattle.spec_ephemeris.specs.Ephemeris.{IsPreferred};
 ghost use Rattle.spec_ephemeris.specs.Borders.{nearest_border};
 ghost use Rattle.spec_ephemeris.specs.Rounding.{pair_of, pairs_of};
 ghost use Rattle.spec_ephemeris.specs.Series.{IsCoefficient, argument_at, position};
 ghost use Rattle.spec_ephemeris.specs.Velocity.{velocity};
-ghost use Rattle.spec_ephemeris.specs.Examples.{IsWhole, whole, pair, tiny, growing_x, parabola, column, de405, blocks_of_de405, four_columns, of_four_columns, overlapping};
+ghost use Rattle.spec_ephemeris.specs.Ticks.{IsInSeconds, in_ticks, series_in_ticks};
+ghost use Rattle.spec_ephemeris.specs.Examples.{IsWhole, whole, pair, tiny, growing_x, parabola, column, de405, de405_of_length, de405_with, de430t, blocks_of, blocks_of_de405, four_columns, of_four_columns, overlapping};
 
 /// The argument of a block of 2,764,800 seconds runs from minus its length to its length, two for each second.
 pub fn arguments()
@@ -54,19 +55,46 @@ pub fn places_of_columns()
     ensures librations { 899 + column_size 13 (column 899 10 4) ≡ 1018 + 1 }
 {}
 
-/// A column is counted from 1, and absent where it has no coefficients, or where the header ends before it.
+/// A column is counted from 1, and absent where it has no coefficients, or where the header ends before it. Columns past
+/// the 13th are not read.
 pub fn columns_that_are_present()
     ensures first { has_column four_columns 1 ≡ true }
     ensures absent { has_column four_columns 2 ≡ false }
     ensures zero { has_column four_columns 0 ≡ false }
     ensures past_the_last { has_column de405 14 ≡ false }
+    ensures last_that_is_read { has_column de430t 13 ≡ true }
+    ensures not_read { has_column de430t 15 ≡ false }
 {}
 
-/// Headers that meet the rules, and one in which place 8 belongs to two columns.
+/// Headers that meet the rules, and one in which place 8 belongs to two columns. Nothing is checked of columns 14 and 15,
+/// and a header has no more.
 pub fn headers()
     ensures four { IsHeader four_columns }
     ensures of_de405 { IsHeader de405 }
+    ensures of_de430t { IsHeader de430t }
+    ensures taken_places { IsHeader (de405_with (column 3 40 7 ∷ [])) }
     ensures two_on_one_place { IsHeader overlapping → ⊥ }
+    ensures sixteen { IsHeader (de405_with (column 3 0 0 ∷ column 3 0 0 ∷ column 3 0 0 ∷ [])) → ⊥ }
+{}
+
+/// A block has up to 64 days, in seconds or in ticks of a millisecond.
+pub fn lengths_of_blocks()
+    ensures longest { IsHeader (de405_of_length (pos 5529600000)) }
+    ensures too_long { IsHeader (de405_of_length (pos 5529600001)) → ⊥ }
+    ensures no_seconds { IsInSeconds (blocks_of (de405_of_length (pos 5529601)) 1) → ⊥ }
+{}
+
+/// In milliseconds each time is multiplied by 1,000, and each second has the position that it had; a velocity is in km per
+/// millisecond.
+pub fn times_in_ticks()
+    ensures start { (in_ticks 1000 (blocks_of_de405 2)).start ≡ neg_ℤ (pos 43200000) }
+    ensures length { (in_ticks 1000 (blocks_of_de405 2)).header.block_seconds ≡ pos 2764800000 }
+    ensures border { nearest_border (in_ticks 1000 (blocks_of_de405 2)) (1 ∷ []) (pos 593600000)
+        (pos 1393602000) ≡ Some (pos 1339200000) }
+    ensures one_tick_later { argument_at (series_in_ticks 1000 growing_x) (pos 1339200001) ≡ pos 2 }
+    ensures one_second_later { IsWhole (position (series_in_ticks 1000 growing_x) (pos 1339201000)) (pos 1) }
+    ensures velocity { let slope = velocity (series_in_ticks 1000 growing_x) (pos 1339000000) in
+        slope.numerator *ℤ pos 1000 ≡ pos slope.denominator }
 {}
 
 /// Of two times as far from the middle the smaller is preferred, and before both one that is nearer.

@@ -59,7 +59,7 @@ impl Columns {
 pub struct Header {
     /// The numbers of a block.
     pub ncoeff: u32,
-    /// The length of a block, in seconds of TDB.
+    /// The length of a block: in seconds of TDB as it is read, in ticks where an ephemeris counts ticks.
     pub block_seconds: i64,
     /// The mass of the Earth over that of the Moon.
     pub emrat: Decimal,

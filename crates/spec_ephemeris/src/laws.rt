@@ -1,8 +1,10 @@
 // Laws of granules and borders.
-ghost use Rattle.std.specs.Prelude.{◌≡◌, ◌↔◌, All, IsTrue, List, Option, ℕ, ℤ};
+ghost use Rattle.std.specs.Prelude.{◌≡◌, ◌↔◌, All, IsTrue, List, Option, ℕ, ℤ, pos, ◌*ℤ◌};
 ghost use Rattle.spec_ephemeris.specs.Granules.{HasTime, granule_at};
 ghost use Rattle.spec_ephemeris.specs.Header.{has_column};
 ghost use Rattle.spec_ephemeris.specs.Borders.{nearest_border};
+ghost use Rattle.spec_ephemeris.specs.Series.{Series, position};
+ghost use Rattle.spec_ephemeris.specs.Ticks.{IsInSeconds, IsSame, IsTick, in_ticks, series_in_ticks};
 ghost use Rattle.spec_ephemeris.specs.Ephemeris.{Ephemeris, Granule, IsEphemeris, IsGranuleAt, IsNearestBorder};
 
 /// A time of the ephemeris has one granule of a column.
@@ -17,6 +19,18 @@ pub fn granule_of_a_time()
         → IsGranuleAt e number t (granule_at e number t) }
     ensures only { (e : Ephemeris) (number : ℕ) (t : ℤ) (g : Granule) → HasTime e number t
         → IsGranuleAt e number t g → g ≡ granule_at e number t }
+{}
+
+/// An ephemeris that counts seconds is a checked one when its times are counted in ticks.
+pub fn ticks_are_checked()
+    ensures { (tick : ℕ) (e : Ephemeris) → IsTick tick → IsEphemeris e → IsInSeconds e
+        → IsEphemeris (in_ticks tick e) }
+{}
+
+/// A second has one position, however times are counted.
+pub fn ticks_keep_positions()
+    ensures { (tick : ℕ) (s : Series) (t : ℤ)
+        → IsSame (position (series_in_ticks tick s) (t *ℤ pos tick)) (position s t) }
 {}
 
 /// A span has one nearest border, or none.

@@ -16,16 +16,17 @@ mod limits;
 pub use body::Body;
 pub use examples::{
     arguments, borders_of_de405, borders_of_two_blocks, columns_that_are_present, headers,
-    places_of_columns, positions_on_a_line, positions_on_a_parabola, preferred_times,
-    sizes_of_coefficients, velocities,
+    lengths_of_blocks, places_of_columns, positions_on_a_line, positions_on_a_parabola,
+    preferred_times, sizes_of_coefficients, times_in_ticks, velocities,
 };
 pub use granule::{Granule, Rounded};
 pub use header::{Column, Columns, Header};
 pub use laws::{
     a_time_has_one_granule, granule_of_a_time, nearest_border_of_columns, one_border_is_nearest,
+    ticks_are_checked, ticks_keep_positions,
 };
 pub use limits::{
-    BODY_COLUMNS, COLUMNS, DAY, FIRST_PLACE, FIRST_TIME, GREATEST_MASS_RATIO, LAST_TIME,
-    LONGEST_BLOCK, MAX_BLOCKS, MAX_COEFFICIENTS, MAX_NUMBERS, MIN_MASS_RATIO, MIN_NUMBERS,
-    NUTATIONS, SHORTEST_BLOCK,
+    BODY_COLUMNS, DAY, FIRST_PLACE, FIRST_TICK, FIRST_TIME, GREATEST_MASS_RATIO, LAST_TICK,
+    LAST_TIME, LONGEST_BLOCK, LONGEST_TICKS, MAX_BLOCKS, MAX_COEFFICIENTS, MAX_COLUMNS,
+    MAX_NUMBERS, MAX_TICK, MIN_MASS_RATIO, MIN_NUMBERS, NUTATIONS, READ_COLUMNS, SHORTEST_BLOCK,
 };

@@ -1,7 +1,10 @@
 // The limits of a header and of an ephemeris.
 
-/// The columns of a header.
-pub const COLUMNS: usize = 13;
+/// The columns of a header that are read, counted from 1. A header has these at least.
+pub const READ_COLUMNS: usize = 13;
+
+/// The most columns of a header. What those past `READ_COLUMNS` hold is not read.
+pub const MAX_COLUMNS: usize = 15;
 
 /// The columns with the positions of bodies are those from 1 to this one.
 pub const BODY_COLUMNS: usize = 11;
@@ -27,8 +30,14 @@ pub const DAY: i64 = 86_400;
 /// The shortest block, in seconds.
 pub const SHORTEST_BLOCK: i64 = 1;
 
-/// The longest block, in seconds: 32 days.
-pub const LONGEST_BLOCK: i64 = 2_764_800;
+/// The longest block, in seconds: 64 days.
+pub const LONGEST_BLOCK: i64 = 5_529_600;
+
+/// The most ticks of a second, where times are counted in ticks: milliseconds.
+pub const MAX_TICK: u32 = 1_000;
+
+/// The longest block, in the shortest ticks.
+pub const LONGEST_TICKS: i64 = 5_529_600_000;
 
 /// The least mass of the Earth over that of the Moon.
 pub const MIN_MASS_RATIO: u64 = 1;
@@ -44,3 +53,9 @@ pub const FIRST_TIME: i64 = -211_813_488_000;
 
 /// The latest time at which a block begins or ends, in seconds of TDB since J2000: Julian date 5,000,000.
 pub const LAST_TIME: i64 = 220_186_512_000;
+
+/// The earliest time, in the shortest ticks since J2000.
+pub const FIRST_TICK: i64 = -211_813_488_000_000;
+
+/// The latest time at which a block begins or ends, in the shortest ticks since J2000.
+pub const LAST_TICK: i64 = 220_186_512_000_000;

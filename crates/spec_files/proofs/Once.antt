@@ -1,5 +1,5 @@
 -- Files that are known are refused in one way, and one file alone is the first that is not there.
-use Rattle.std.proofs.Common.{◌≡◌, ◌⊎◌, ◌<◌, ◌≤◌, ◌+◌, ℕ, List, [], ◌++◌, append-nil, length, take, drop, Option, Some, Ok, Err, refl, sym, ap, ◌∙◌, subst, arith, inl, inr}
+use Rattle.std.proofs.Common.{◌≡◌, ◌⊎◌, ◌<◌, ◌≤◌, ◌+◌, ℕ, [], ◌++◌, append-nil, take, drop, Some, Err, sym, ap, ◌∙◌, subst, arith, inl, inr}
 use Rattle.std.proofs.lemmas.Bool.{cases_lt}
 use Rattle.spec_text.specs.declared.decimals.Fault.{Fault}
 use Rattle.gf_edges.specs.Edges.{Files, Lacks, Rose}

@@ -2,6 +2,7 @@
 ghost use Rattle.std.specs.Prelude.{◌≡◌, ◌++◌, ◌+◌, ◌<◌, List, None, Some, Ok, Err, length, ℕ};
 ghost use Rattle.spec_text.specs.declared.decimals.Fault.{Fault};
 ghost use Rattle.spec_ephemeris.specs.Ephemeris.{Ephemeris, IsEphemeris};
+ghost use Rattle.spec_ephemeris.specs.Ticks.{IsInSeconds};
 ghost use Rattle.spec_sections.specs.Sections.{FileLine};
 ghost use Rattle.spec_files.specs.Lines.{ephemeris};
 ghost use Rattle.gf_edges.specs.Edges.{Files, Rose};
@@ -16,6 +17,12 @@ pub fn accepted_lines_are_an_ephemeris()
         → ephemeris lines ≡ Ok e → IsEphemeris e }
     ensures some { (lines : List FileLine) (e : Ephemeris)
         → ephemeris lines ≡ Ok e → 0 < e.blocks }
+{}
+
+/// Accepted lines are an ephemeris that counts seconds, from Julian date 0 to Julian date 5,000,000.
+#[tactic(none)]
+pub fn accepted_lines_count_seconds()
+    ensures { (lines : List FileLine) (e : Ephemeris) → ephemeris lines ≡ Ok e → IsInSeconds e }
 {}
 
 /// After texts that can be read to their ends, the lines and the first cut of later ones follow.

@@ -10,7 +10,8 @@ mod uniqueness;
 
 pub use examples::{named_files_are_read, texts_are_joined, texts_are_refused};
 pub use laws::{
-    first_faults_stay, later_texts_follow, one_answer_is_true, texts_with_a_fault_are_refused,
+    accepted_lines_are_an_ephemeris, accepted_lines_count_seconds, first_faults_stay,
+    later_texts_follow, one_answer_is_true, texts_with_a_fault_are_refused,
 };
 pub use limits::MAX_FILES;
 pub use uniqueness::files_are_refused_in_one_way;

@@ -1,15 +1,14 @@
 -- The columns of an accepted header meet the rules of their places.
-use Rattle.std.proofs.Common.{◌≡◌, ℕ, zero, suc, ◌+◌, ◌&&◌, nat_lt, Bool, true, false, List, [], ◌∷◌, ◌++◌, length, take, Some, Ok, Err, refl, sym, ap, ◌∙◌, inl, inr, arith, eq-eqb, ne_eqb, if◌then◌else◌}
+use Rattle.std.proofs.Common.{◌≡◌, ℕ, zero, suc, ◌+◌, ◌&&◌, nat_le, nat_lt, Bool, true, false, List, [], ◌∷◌, ◌++◌, length, take, Some, Ok, Err, refl, sym, ap, ◌∙◌, inl, inr, arith, eq-eqb, ne_eqb, if◌then◌else◌}
 use Rattle.std.specs.Prelude.{slice_get}
-use Rattle.std.proofs.lemmas.Bool.{cases_eq, false≢true, lt-ltb, or_parts}
+use Rattle.std.proofs.lemmas.Bool.{and_parts, cases_Bool, cases_eq, false≢true, leb-true, lt-ltb, or_parts}
 use Rattle.std.proofs.lemmas.List.{append-nil, append_assoc, length-append}
 use Rattle.std.proofs.lemmas.Option.{none-some, same_Some}
 use Rattle.spec_text.specs.Reading.{whole_of}
-use Rattle.spec_ephemeris.specs.Header.{AreApart, column_size, is_present}
+use Rattle.spec_ephemeris.specs.Header.{AreApart, IsColumnCount, column_size, is_present}
 use Rattle.spec_ephemeris.specs.declared.header.Column.{Column}
-use Rattle.spec_ephemeris.specs.declared.limits.TheConstants.{COLUMNS}
 use Rattle.spec_sections.specs.declared.rules.BrokenRule.{BrokenRule}
-use Rattle.spec_header.specs.ColumnRules.{column_rule, columns_of, columns_rule, overlap, overlaps_any, row, whole_number, whole_numbers}
+use Rattle.spec_header.specs.ColumnRules.{column_rule, columns_of, columns_rule, first_row, is_column_count, overlap, overlaps_any, row_of, whole_number, whole_numbers}
 use Rattle.spec_sections.proofs.Holding.{Holds, holds_also, then_any}
 
 -- a row has a number for each column
@@ -20,11 +19,24 @@ numbers_length before (word ∷ words) =
     holds_also (λ ns. length ns ≡ length (before ++ n ∷ []) + length words) (λ ns. length ns ≡ length before + length (word ∷ words)) _
     (λ ns same. omega (arith, same, length-append before (n ∷ []))) (numbers_length (before ++ n ∷ []) words))
 
-pub row_holds : (words : List (List ℕ)) → Holds (λ ns. length ns ≡ COLUMNS) (row words)
-row_holds words = elim (cases_eq (length words) COLUMNS) [
-  | inl all ↦ rw (eq-eqb (length words) COLUMNS all)
-      (holds_also (λ ns. length ns ≡ 0 + length words) (λ ns. length ns ≡ COLUMNS) (whole_numbers [] words) (λ ns same. omega (arith, same, all)) (numbers_length [] words))
-  | inr other ↦ rw (ne_eqb (length words) COLUMNS other) tt
+pub row_holds : (count : ℕ) (words : List (List ℕ)) → Holds (λ ns. length ns ≡ count) (row_of count words)
+row_holds count words = elim (cases_eq (length words) count) [
+  | inl all ↦ rw (eq-eqb (length words) count all)
+      (holds_also (λ ns. length ns ≡ 0 + length words) (λ ns. length ns ≡ count) (whole_numbers [] words) (λ ns same. omega (arith, same, all)) (numbers_length [] words))
+  | inr other ↦ rw (ne_eqb (length words) count other) tt
+]
+
+pub count_is : (count : ℕ) → is_column_count count ≡ true → IsColumnCount count
+count_is count holds =
+    let both = and_parts (nat_le 13 count) (nat_le count 15) holds in
+    (leb-true 13 count both.0, leb-true count 15 both.1)
+
+pub first_row_holds : (words : List (List ℕ)) → Holds (λ ns. IsColumnCount (length ns)) (first_row words)
+first_row_holds words = elim (cases_Bool (is_column_count (length words))) [
+  | inl fits ↦ rw fits
+      (let count = count_is (length words) fits in
+      holds_also (λ ns. length ns ≡ 0 + length words) (λ ns. IsColumnCount (length ns)) (whole_numbers [] words) (λ ns same. (omega (arith, same, count.0), omega (arith, same, count.1))) (numbers_length [] words))
+  | inr other ↦ rw other tt
 ]
 
 pub columns_length : (n : ℕ) (ss cs gs : List ℕ) → length ss ≡ n → length cs ≡ n → length gs ≡ n → length (columns_of ss cs gs) ≡ n

@@ -8,7 +8,7 @@ use Rattle.spec_ephemeris.specs.declared.header.Header.{Header}
 use Rattle.spec_header.specs.declared.facts.BlockShape.{BlockShape}
 use Rattle.spec_header.specs.declared.facts.Facts.{Facts}
 use Rattle.spec_faults.specs.declared.numbers.TheConstants.{ENDED}
-use Rattle.spec_header.specs.ColumnRules.{columns_row, row}
+use Rattle.spec_header.specs.ColumnRules.{columns_row, first_row, row_of}
 use Rattle.spec_header.specs.HeaderRules.{emrat_from, first_line, group, mass_ratio, name_count, span, value_count}
 use Rattle.spec_sections.specs.FileLines.{first_long, readable}
 use Rattle.spec_sections.specs.Sections.{FileLine, FileWord, Stop, ended, breaks, ◌>>=◌, at_line, after_words, first_words, from_word, one_line}
@@ -56,12 +56,12 @@ from_granules facts starts coefs lines = do
 
 abbrev pub from_coefficients : Facts → List ℕ → List FileLine → HeaderOrStop
 from_coefficients facts starts lines = do
-  coefs ← one_line ENDED row lines
+  coefs ← one_line ENDED (row_of (length starts)) lines
   from_granules facts starts coefs.0 coefs.1
 
 abbrev pub from_starts : Facts → List FileLine → HeaderOrStop
 from_starts facts lines = do
-  starts ← one_line ENDED row lines
+  starts ← one_line ENDED first_row lines
   from_coefficients facts starts.0 starts.1
 
 abbrev pub from_column_group : Facts → List FileLine → HeaderOrStop

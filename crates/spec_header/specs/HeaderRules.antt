@@ -50,7 +50,7 @@ days_by (Err fault) = Err (days_rule fault)
 abbrev pub not_none : ℕ → Result ℕ BrokenRule
 not_none seconds = if seconds == 0 then Err (broken LIMIT 0) else Ok seconds
 
--- the days of a block, from one second to 32 days, in seconds
+-- the days of a block, from one second to 64 days, in seconds
 abbrev pub block_length : Decimal → Result ℕ BrokenRule
 block_length days = days_by (seconds_within MAX_BLOCK_DAYS days) >>= not_none
 

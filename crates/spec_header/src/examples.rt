@@ -1,8 +1,9 @@
 // Worked examples of the definitions: a header of a few lines, and the first fault where one line is changed.
-ghost use Rattle.std.specs.Prelude.{◌≡◌, ◌++◌, codes, replicate, take};
+ghost use Rattle.std.specs.Prelude.{◌≡◌, ◌++◌, [], ◌∷◌, codes, pos, replicate, take};
 ghost use Rattle.spec_text.specs.Bytes.{blank};
 ghost use Rattle.spec_faults.specs.declared.numbers.TheConstants.{COEFFICIENT_COUNT, COLUMN_COUNT, COLUMN_PLACE, COUNT_MISMATCH, EMRAT_MISSING, EMRAT_RANGE, ENDED, FIRST_LINE, GRANULE_NOT_WHOLE, GROUP_MISSING, HEADER_NUMBER, JD_NOT_WHOLE_SECOND, LIMIT, LINE_TOO_LONG};
-ghost use Rattle.spec_header.specs.Examples.{half_seconds, header_with, read_before, refused, rows, text_of};
+ghost use Rattle.spec_header.specs.Examples.{half_seconds, header_with, read_before, read_with, refused, rows, text_of, with_more};
+ghost use Rattle.spec_ephemeris.specs.Examples.{column};
 ghost use Rattle.spec_header.specs.HeaderLines.{text_header};
 
 /// The header of a text is read, and the lines after it are left.
@@ -21,6 +22,20 @@ pub fn some_words_are_skipped()
     ensures values { header_with 11 (codes "81 x 9x") ≡ read_before 17 }
 {}
 
+/// A header may have 13 to 15 columns. Of columns 14 and 15 nothing is checked: column 14 may begin within Mercury's
+/// places, go past the block and have more than 32 coefficients. A block may have 64 days.
+#[tactic(none)]
+pub fn wider_headers_are_read()
+    ensures fourteen { text_header (text_of (with_more (codes " 27") (codes " 0") (codes " 0")))
+        ≡ read_with (pos 2764800) (column 27 0 0 ∷ []) 17 }
+    ensures fifteen { text_header (text_of (with_more (codes " 27 27") (codes " 0 0") (codes " 0 0")))
+        ≡ read_with (pos 2764800) (column 27 0 0 ∷ column 27 0 0 ∷ []) 17 }
+    ensures not_checked { text_header (text_of (with_more (codes " 3") (codes " 40") (codes " 7")))
+        ≡ read_with (pos 2764800) (column 3 40 7 ∷ []) 17 }
+    ensures longest_block { header_with 5 (codes "2451544.50 2451608.50 64.")
+        ≡ read_with (pos 5529600) [] 17 }
+{}
+
 /// The lines before the names.
 #[tactic(none)]
 pub fn the_first_lines_are_refused()
@@ -32,7 +47,7 @@ pub fn the_first_lines_are_refused()
         ≡ refused 5 JD_NOT_WHOLE_SECOND 0 }
     ensures before_day_zero { header_with 5 (codes "-1 2451576.50 32.") ≡ refused 5 LIMIT 0 }
     ensures no_block { header_with 5 (codes "2451544.50 2451576.50 0") ≡ refused 5 LIMIT 0 }
-    ensures long_block { header_with 5 (codes "2451544.50 2451576.50 33") ≡ refused 5 LIMIT 0 }
+    ensures long_block { header_with 5 (codes "2451544.50 2451609.50 65.") ≡ refused 5 LIMIT 0 }
 {}
 
 /// The names and the values.
@@ -50,6 +65,12 @@ pub fn the_constants_are_refused()
 pub fn the_columns_are_refused()
     ensures twelve_words { header_with 13 (codes "3 9 9 15 15 15 15 15 15 15 21 x")
         ≡ refused 13 COLUMN_COUNT 0 }
+    ensures sixteen_words { header_with 13 (codes "3 9 9 15 15 15 15 15 15 15 21 27 27 27 27 x")
+        ≡ refused 13 COLUMN_COUNT 0 }
+    ensures other_count { text_header (text_of (with_more (codes " 27 27") (codes " x") (codes " 0 0")))
+        ≡ refused 14 COLUMN_COUNT 0 }
+    ensures other_count_again { text_header (text_of (with_more [] [] (codes " x")))
+        ≡ refused 15 COLUMN_COUNT 0 }
     ensures bad_word { header_with 13 (codes "3 9 9 15 15 15 15 15 15 15 21 27 x")
         ≡ refused 13 HEADER_NUMBER 1 }
     ensures many_coefficients { header_with 14 (codes "33 0 2 0 0 0 0 0 0 2 2 0 0")

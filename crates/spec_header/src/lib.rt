@@ -10,8 +10,8 @@ mod limits;
 
 pub use examples::{
     a_header_is_read, some_words_are_skipped, the_columns_are_refused, the_constants_are_refused,
-    the_first_lines_are_refused,
+    the_first_lines_are_refused, wider_headers_are_read,
 };
 pub use facts::{BlockShape, Facts};
-pub use laws::accepted_headers_meet_the_rules;
+pub use laws::{accepted_headers_count_seconds, accepted_headers_meet_the_rules};
 pub use limits::{MAX_BLOCK_DAYS, MAX_CONSTANTS};

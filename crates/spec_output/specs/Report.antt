@@ -1,5 +1,5 @@
--- What a search prints: its request, a line for each window, and the counts of windows. Times are calendar texts.
-use Rattle.std.specs.Prelude.{ℕ, ℤ, List, ◌++◌, Bool, true, false, not, count_by, codes, flat_map, Option, None, Some, if◌then◌else◌}
+-- What a search prints: its request, a line for each window, and the counts of windows. Times are calendar texts of ticks.
+use Rattle.std.specs.Prelude.{ℕ, ℤ, List, [], ◌++◌, ◌==◌, Bool, true, false, not, count_by, codes, flat_map, Option, None, Some, if◌then◌else◌}
 use Rattle.std.specs.Fmt.{decimal, signed_decimal}
 use Rattle.spec_ephemeris.specs.declared.body.Body.{Body}
 use Rattle.spec_trees.specs.declared.tree.Turn.TheVariants.{Rise, Fall}
@@ -11,8 +11,7 @@ use Rattle.spec_kinds.specs.declared.kind.Kind.{Kind}
 use Rattle.spec_kinds.specs.Table.{is_unused, kind_name, row_of}
 use Rattle.spec_requests.specs.declared.request.FindAsk.{FindAsk}
 use Rattle.spec_requests.specs.Names.{axis_name, body_name, cut_name, dir_name, frame_name}
-use Rattle.spec_times.specs.Calendar.{time_text}
-use Rattle.spec_times.specs.TimeWords.{IsTime}
+use Rattle.spec_times.specs.Ticks.{IsTimeIn, tick_text}
 
 -- ---- the request
 
@@ -36,6 +35,10 @@ bodies_text ask =
 abbrev pub axes_text : Ask → List ℕ
 axes_text ask = codes " frame " ++ frame_name ask.frame ++ (codes " axis " ++ axis_of_kind ask.kind ask.axis)
 
+-- how many ticks a second has, where that is more than one
+abbrev pub ticks_text : ℕ → List ℕ
+ticks_text tick = if tick == 1 then [] else codes " tick " ++ decimal tick
+
 -- which turns are wanted, and how the span is searched
 abbrev pub search_text : FindAsk → List ℕ
 search_text find =
@@ -48,31 +51,31 @@ event_text find =
     ++ (codes " values " ++ find.values)
 
 abbrev pub query_text : FindAsk → List ℕ
-query_text find = event_text find ++ search_text find
+query_text find = event_text find ++ search_text find ++ ticks_text find.tick
 
--- two times
-abbrev pub span_text : ℤ → ℤ → List ℕ
-span_text first last = time_text first ++ codes " " ++ time_text last
+-- two times, in so many ticks to a second
+abbrev pub span_text : ℕ → ℤ → ℤ → List ℕ
+span_text tick first last = tick_text tick first ++ codes " " ++ tick_text tick last
 
 -- the line of a request, searched from one time to another
 abbrev pub request_line : FindAsk → ℤ → ℤ → List ℕ
 request_line find from to =
-    query_text find ++ (codes " span " ++ span_text from to ++ codes "\n")
+    query_text find ++ (codes " span " ++ span_text find.tick from to ++ codes "\n")
 
 -- ---- the windows
 
-abbrev pub line_of : ℤ → ℤ → Holds → List ℕ
-line_of first last (Certain Rise) = codes "C " ++ span_text first last ++ codes " rise\n"
-line_of first last (Certain Fall) = codes "C " ++ span_text first last ++ codes " fall\n"
-line_of first last Undecided = codes "U " ++ span_text first last ++ codes "\n"
+abbrev pub line_of : ℕ → ℤ → ℤ → Holds → List ℕ
+line_of tick first last (Certain Rise) = codes "C " ++ span_text tick first last ++ codes " rise\n"
+line_of tick first last (Certain Fall) = codes "C " ++ span_text tick first last ++ codes " fall\n"
+line_of tick first last Undecided = codes "U " ++ span_text tick first last ++ codes "\n"
 
 -- a window from a time to another that have texts
-pub record HasTimes (w : Window) : Type 0 where
-  pub first : IsTime w.first
-  pub last : IsTime w.last
+pub record HasTimes (tick : ℕ) (w : Window) : Type 0 where
+  pub first : IsTimeIn tick w.first
+  pub last : IsTimeIn tick w.last
 
-abbrev pub window_lines : List Window → List ℕ
-window_lines ws = flat_map (λ w. line_of w.first w.last w.holds) ws
+abbrev pub window_lines : ℕ → List Window → List ℕ
+window_lines tick ws = flat_map (λ w. line_of tick w.first w.last w.holds) ws
 
 abbrev pub is_certain : Holds → Bool
 is_certain (Certain turn) = true
@@ -92,7 +95,7 @@ end_line ws =
 -- ---- the report
 
 abbrev pub report : FindAsk → ℤ → ℤ → List Window → List ℕ
-report find from to ws = request_line find from to ++ window_lines ws ++ end_line ws
+report find from to ws = request_line find from to ++ window_lines find.tick ws ++ end_line ws
 
 -- ---- the text of a generated file's search
 

@@ -3,7 +3,7 @@ use Rattle.std.specs.Prelude.{ℕ, ◌+◌, ◌-◌, ◌==◌, List, [], ◌∷�
 use Rattle.std.specs.Fmt.{decimal, signed_decimal}
 use Rattle.spec_ephemeris.specs.declared.body.Body.{Body}
 use Rattle.spec_ephemeris.specs.declared.header.Column.{Column}
-use Rattle.spec_ephemeris.specs.declared.limits.TheConstants.{NUTATIONS}
+use Rattle.spec_ephemeris.specs.declared.limits.TheConstants.{MAX_COLUMNS, NUTATIONS, READ_COLUMNS}
 use Rattle.spec_ephemeris.specs.Ephemeris.{Ephemeris, end_of}
 use Rattle.spec_ephemeris.specs.Header.{is_present}
 use Rattle.spec_requests.specs.Names.{body_name}
@@ -21,10 +21,14 @@ sizes_of e =
 abbrev pub ephemeris_line : Ephemeris → List ℕ
 ephemeris_line e = span_of e ++ sizes_of e
 
--- a column without a body holds angles
+-- a column without a body holds angles, or is not read
 abbrev pub name_of_column : Option Body → ℕ → List ℕ
 name_of_column (Some body) number = body_name body
-name_of_column None number = if number == NUTATIONS then codes "nutations" else codes "librations"
+name_of_column None number =
+    if number == NUTATIONS then codes "nutations"
+    else if number == READ_COLUMNS then codes "librations"
+    else if number == MAX_COLUMNS then codes "column15"
+    else codes "column14"
 
 -- columns are counted from 1
 abbrev pub column_name : ℕ → List ℕ

@@ -5,7 +5,7 @@ ghost use Rattle.spec_ephemeris.specs.declared.body.Body.TheVariants.{Venus};
 ghost use Rattle.spec_kinds.specs.declared.kind.Kind.TheVariants.{Apsis, Coord};
 ghost use Rattle.spec_trees.specs.declared.tree.Turn.TheVariants.{Fall, Rise};
 ghost use Rattle.spec_trees.specs.declared.window.Holds.TheVariants.{Certain, Undecided};
-ghost use Rattle.spec_output.specs.Report.{axis_of_kind, end_line, second_name};
+ghost use Rattle.spec_output.specs.Report.{axis_of_kind, end_line, second_name, ticks_text};
 ghost use Rattle.spec_output.specs.Summary.{column_lines, column_name};
 
 /// Only a coordinate has an axis, and only kinds of two bodies have a second body.
@@ -16,6 +16,12 @@ pub fn dashes_stand_for_nothing()
     ensures no_second { second_name None ≡ codes "-" }
 {}
 
+/// The ticks of a second are printed where there is more than one.
+pub fn ticks_are_printed()
+    ensures seconds { ticks_text 1 ≡ [] }
+    ensures milliseconds { ticks_text 1_000 ≡ codes " tick " ++ decimal 1_000 }
+{}
+
 /// Certain windows of both turns are counted together.
 pub fn windows_are_counted()
     ensures { end_line (record { first = pos 1; last = pos 1; holds = Certain Rise }
@@ -24,11 +30,14 @@ pub fn windows_are_counted()
         ≡ codes "END certain " ++ decimal 2 ++ (codes " undecided " ++ decimal 1 ++ codes "\n") }
 {}
 
-/// The columns are those of the planets, the Moon, the Sun, nutations and librations; an absent one has no line.
+/// The columns are those of the planets, the Moon, the Sun, nutations and librations; one past them has its number, and an
+/// absent one no line.
 pub fn columns_have_names()
     ensures first { column_name 1 ≡ codes "mercury" }
     ensures moon { column_name 10 ≡ codes "moon" }
     ensures nutations { column_name 12 ≡ codes "nutations" }
     ensures librations { column_name 13 ≡ codes "librations" }
+    ensures not_read { column_name 14 ≡ codes "column14" }
+    ensures last { column_name 15 ≡ codes "column15" }
     ensures absent { column_lines 1 (record { start = 3; coefs = 0; granules = 4 } ∷ []) ≡ [] }
 {}

@@ -8,6 +8,8 @@ use Rattle.std.proofs.lemmas.Int.{ints}
 use Rattle.clap.proofs.WalkLemmas.{both}
 use Rattle.spec_ephemeris.specs.declared.body.Body.{Body}
 use Rattle.spec_ephemeris.specs.declared.body.Body.TheVariants.{Mercury, Ssb}
+use Rattle.spec_ephemeris.specs.declared.limits.TheConstants.{MAX_TICK}
+use Rattle.spec_ephemeris.specs.Ticks.{IsTick}
 use Rattle.spec_kinds.specs.Asks.{IsAsk}
 use Rattle.spec_kinds.specs.Table.{row_of, takes_second}
 use Rattle.spec_kinds.specs.declared.kind.Kind.{Kind}
@@ -23,9 +25,9 @@ use Rattle.spec_requests.specs.declared.request.WordFault.TheVariants.{Words}
 use Rattle.spec_requests.specs.declared.tables.CommandName.{CommandName}
 use Rattle.spec_requests.specs.declared.tables.CommandName.TheVariants as command
 use Rattle.spec_requests.specs.declared.tables.TheConstants.{FIND_OPTIONS}
-use Rattle.spec_requests.specs.declared.limits.TheConstants.{DEFAULT_WIDTH, DEFAULT_DEPTH, DEFAULT_WORKERS, MAX_DIGITS_OF_A_COUNT, MAX_WIDTH, MAX_DEPTH, MAX_WORKERS}
-use Rattle.spec_requests.specs.Names.{Table, Text, as_target, axis_of, axes, command_of, kind_of, named, observer_of, target_of}
-use Rattle.spec_requests.specs.Options.{Values, are_digits, bad_option, depth_of, is_bad, number_of, use_of, width_of, workers_of}
+use Rattle.spec_requests.specs.declared.limits.TheConstants.{DEFAULT_TICK, DEFAULT_WIDTH, DEFAULT_DEPTH, DEFAULT_WORKERS, MAX_DIGITS_OF_A_COUNT, MAX_WIDTH, MAX_DEPTH, MAX_WORKERS}
+use Rattle.spec_requests.specs.Names.{Table, Text, as_target, axis_of, axes, command_of, kind_of, named, observer_of, target_of, tick_of_word, ticks}
+use Rattle.spec_requests.specs.Options.{Values, are_digits, bad_option, depth_of, is_bad, number_of, tick_in, use_of, width_of, workers_of}
 use Rattle.spec_requests.specs.Commands.{check_command, files_in, find_command, gen_command, is_refused, values_in}
 use Rattle.spec_requests.specs.Requests.{ask_of, bad_word, checked_search, checked_text, request_for, request_of, search_by, search_of, search_of_kind, text_by, text_of, value_or}
 use Rattle.spec_requests.specs.Limits.{IsWithinLimits}
@@ -100,6 +102,10 @@ numbers_are digits least most word = one (are_digits digits word) (lies_in least
     one true false is = tt
     one true true is = is
 
+ticks_are : (word : Text) → IfSome (tick_of_word word) (λ tick. lies_in 1 MAX_TICK tick ≡ true)
+unfolding tick_of_word
+ticks_are word = all_named (lies_in 1 MAX_TICK) ticks word refl
+
 -- ---- options
 
 parts : (b : Bool) (rest : Option Named) (x : Named) → cond b (Some x) rest ≡ None → (b ≡ false) × (rest ≡ None)
@@ -117,28 +123,28 @@ not_false : (b : Bool) → not b ≡ false → b ≡ true
 not_false true e = refl
 not_false false e = absurd (true≢false e)
 
-second_is : (takes : Bool) (given : Option Text) → is_bad opt.Second (cond takes Needed Unused) given ≡ false
+second_is : (tick : ℕ) (takes : Bool) (given : Option Text) → is_bad tick opt.Second (cond takes Needed Unused) given ≡ false
     → is_some (option_and_then target_of given) ≡ takes
-second_is true None good = absurd (true≢false good)
-second_is true (Some word) good = not_false (is_some (target_of word)) good
-second_is false None good = refl
-second_is false (Some word) good = absurd (true≢false good)
+second_is tick true None good = absurd (true≢false good)
+second_is tick true (Some word) good = not_false (is_some (target_of word)) good
+second_is tick false None good = refl
+second_is tick false (Some word) good = absurd (true≢false good)
 
 second_use : (kind : Kind) → (row_of kind).second ≡ cond (takes_second kind) Needed Unused
 second_use Coord = refl
 second_use _ = refl
 
 good_second : (values : Values) (kind : Kind) → bad_option values kind ≡ None
-    → is_bad opt.Second (cond (takes_second kind) Needed Unused) (values opt.Second) ≡ false
+    → is_bad (tick_in values) opt.Second (cond (takes_second kind) Needed Unused) (values opt.Second) ≡ false
 unfolding bad_option
 good_second values kind none =
-    ap (λ usage. is_bad opt.Second usage (values opt.Second)) (sym (second_use kind))
-    ∙ each_fails (λ option. is_bad option (use_of option kind) (values option)) FIND_OPTIONS 2 opt.Kind none (lit< tt)
+    ap (λ usage. is_bad (tick_in values) opt.Second usage (values opt.Second)) (sym (second_use kind))
+    ∙ each_fails (λ option. is_bad (tick_in values) option (use_of option kind) (values option)) FIND_OPTIONS 2 opt.Kind none (lit< tt)
 
 ask_is : (values : Values) (kind : Kind) → bad_option values kind ≡ None → IsAsk (ask_of values kind)
 unfolding ask_of
 ask_is values kind none = record {
-  second = second_is (takes_second kind) (values opt.Second) (good_second values kind none);
+  second = second_is (tick_in values) (takes_second kind) (values opt.Second) (good_second values kind none);
   target = not_ssb _ (passes_or is_target Mercury target_of (values opt.Target) targets_are refl);
   other = none_ssb _ (passes_if is_target target_of (values opt.Second) targets_are);
   axis = ltb-true _ _ (passes_or is_axis 0 axis_of (values opt.Axis) axes_are refl);
@@ -149,6 +155,11 @@ lies_low least most n within = leb-true least n (both (nat_le least n) (nat_le n
 
 lies_high : (least most n : ℕ) → lies_in least most n ≡ true → n ≤ most
 lies_high least most n within = leb-true n most (both (nat_le least n) (nat_le n most) within).1
+
+pub tick_is : (values : Values) → IsTick (tick_in values)
+tick_is values =
+    let tick = passes_or (lies_in 1 MAX_TICK) DEFAULT_TICK tick_of_word (values opt.Tick) ticks_are refl in
+    record { some = lies_low 1 MAX_TICK (tick_in values) tick; few = lies_high 1 MAX_TICK (tick_in values) tick }
 
 search_is : (values : Values) (kind : Kind) (files : List Text) → bad_option values kind ≡ None
     → IsWithinLimits (search_of values kind files)
@@ -164,6 +175,7 @@ search_is values kind files none =
     let most_width = lies_high 1 MAX_WIDTH (value_or width_of DEFAULT_WIDTH (values opt.Width)) width in
     record {
       ask = ask_is values kind none;
+      tick = tick_is values;
       some_width = omega (arith, ints);
       width = omega (arith, ints);
       depth = lies_high 0 MAX_DEPTH (value_or depth_of DEFAULT_DEPTH (values opt.Depth)) depth;

@@ -18,6 +18,7 @@ abbrev pub search_in : Text → FindAsk
 search_in file = record {
   ask = of_one Coord Mercury Ssb nought;
   values = codes "0";
+  tick = 1;
   from = None;
   to = None;
   width = pos 1;

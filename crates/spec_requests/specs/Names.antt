@@ -17,7 +17,7 @@ use Rattle.spec_requests.specs.declared.request.Named.{Named}
 use Rattle.spec_requests.specs.declared.request.Named.TheVariants as opt
 use Rattle.spec_requests.specs.declared.tables.CommandName.{CommandName}
 use Rattle.spec_requests.specs.declared.tables.CommandName.TheVariants as command
-use Rattle.spec_requests.specs.declared.tables.TheConstants.{COMMANDS, BODIES, FRAMES, AXES, DIRS, CUTS, OPTIONS, LAYOUTS}
+use Rattle.spec_requests.specs.declared.tables.TheConstants.{COMMANDS, BODIES, FRAMES, AXES, DIRS, CUTS, OPTIONS, LAYOUTS, TICKS}
 
 abbrev pub Text : Type 0
 Text = List ℕ
@@ -65,6 +65,9 @@ options = map (λ row. (row.0.now, row.1)) OPTIONS
 abbrev pub layouts : Table ℕ
 layouts = map (λ row. (row.0.now, row.1)) LAYOUTS
 
+abbrev pub ticks : Table ℕ
+ticks = map (λ row. (row.0.now, row.1)) TICKS
+
 -- ---- what a word is
 
 unfoldable pub command_of : Text → Option CommandName
@@ -104,6 +107,10 @@ option_of = named options
 
 unfoldable pub layout_of : Text → Option ℕ
 layout_of = named layouts
+
+-- how many ticks a second has
+unfoldable pub tick_of_word : Text → Option ℕ
+tick_of_word = named ticks
 
 -- ---- the names of what words stand for: each value of an enum with its place in the table of names
 
@@ -155,15 +162,16 @@ option_place opt.Ref = 6
 option_place opt.Radius1 = 7
 option_place opt.Radius2 = 8
 option_place opt.Dir = 9
-option_place opt.From = 10
-option_place opt.To = 11
-option_place opt.Width = 12
-option_place opt.Depth = 13
-option_place opt.Workers = 14
-option_place opt.Cut = 15
-option_place opt.Layout = 16
-option_place opt.Blocks = 17
-option_place opt.Seed = 18
+option_place opt.Tick = 10
+option_place opt.From = 11
+option_place opt.To = 12
+option_place opt.Width = 13
+option_place opt.Depth = 14
+option_place opt.Workers = 15
+option_place opt.Cut = 16
+option_place opt.Layout = 17
+option_place opt.Blocks = 18
+option_place opt.Seed = 19
 
 -- the option's name, which follows two dashes, or the name of a word of `gen`
 abbrev pub option_name : Named → Text

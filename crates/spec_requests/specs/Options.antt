@@ -1,12 +1,12 @@
 -- The table of options: what form the value of each has, which kinds of events use it, and which is the first that is bad.
-use Rattle.std.specs.Prelude.{ℕ, ◌&&◌, ◌||◌, Bool, not, nat_lt, nat_le, length, Option, None, Some, is_some, if◌then◌else◌, find, ℤ}
+use Rattle.std.specs.Prelude.{ℕ, ◌&&◌, ◌||◌, Bool, not, nat_lt, nat_le, length, Option, None, Some, is_some, if◌then◌else◌, find, option_and_then, unwrap_or, ℤ}
 use Rattle.std.specs.Char.{is_ascii_digit}
 use Rattle.std.specs.List.{list_all}
 use Rattle.std.specs.Result.{result_ok}
 use Rattle.spec_text.specs.declared.decimals.Decimal.{Decimal}
 use Rattle.std.specs.Str.Parse.{digits_value}
 use Rattle.spec_text.specs.Reading.{reading}
-use Rattle.spec_times.specs.TimeWords.{time_of}
+use Rattle.spec_times.specs.Ticks.{tick_of}
 use Rattle.spec_kinds.specs.declared.kind.Kind.{Kind}
 use Rattle.spec_kinds.specs.declared.table.Use.{Use}
 use Rattle.spec_kinds.specs.declared.table.Use.TheVariants.{Needed, Optional}
@@ -14,8 +14,8 @@ use Rattle.spec_kinds.specs.Table.{row_of, is_needed, is_unused}
 use Rattle.spec_requests.specs.declared.request.Named.{Named}
 use Rattle.spec_requests.specs.declared.request.Named.TheVariants as opt
 use Rattle.spec_requests.specs.declared.tables.TheConstants.{FIND_OPTIONS}
-use Rattle.spec_requests.specs.declared.limits.TheConstants.{MAX_DIGITS_OF_A_COUNT, MAX_WIDTH, MAX_DEPTH, MAX_WORKERS, MAX_DIGITS_OF_BLOCKS, MAX_GENERATED_BLOCKS, MAX_DIGITS_OF_A_SEED, MAX_SEED}
-use Rattle.spec_requests.specs.Names.{Text, kind_of, target_of, observer_of, frame_of, axis_of, dir_of, cut_of, layout_of}
+use Rattle.spec_requests.specs.declared.limits.TheConstants.{DEFAULT_TICK, MAX_DIGITS_OF_A_COUNT, MAX_WIDTH, MAX_DEPTH, MAX_WORKERS, MAX_DIGITS_OF_BLOCKS, MAX_GENERATED_BLOCKS, MAX_DIGITS_OF_A_SEED, MAX_SEED}
+use Rattle.spec_requests.specs.Names.{Text, kind_of, target_of, observer_of, frame_of, axis_of, dir_of, cut_of, layout_of, tick_of_word}
 
 -- ---- forms
 
@@ -47,8 +47,9 @@ seed_of = number_of MAX_DIGITS_OF_A_SEED 0 MAX_SEED
 unfoldable pub decimal_of : Text → Option Decimal
 decimal_of word = result_ok (reading word)
 
-unfoldable pub instant_of : Text → Option ℤ
-instant_of word = result_ok (time_of word)
+-- a time, in so many ticks to a second
+unfoldable pub instant_of : ℕ → Text → Option ℤ
+instant_of tick word = result_ok (tick_of tick word)
 
 -- ---- uses
 
@@ -71,32 +72,37 @@ abbrev pub is_misread : {X : Type 0} → (Text → Option X) → Use → Option 
 is_misread form usage None = is_needed usage
 is_misread form usage (Some word) = is_unused usage || not (is_some (form word))
 
--- the same of an option, whose form is that of its values
-abbrev pub is_bad : Named → Use → Option Text → Bool
-is_bad opt.Kind usage given = is_misread kind_of usage given
-is_bad opt.Target usage given = is_misread target_of usage given
-is_bad opt.Second usage given = is_misread target_of usage given
-is_bad opt.Observer usage given = is_misread observer_of usage given
-is_bad opt.Frame usage given = is_misread frame_of usage given
-is_bad opt.Axis usage given = is_misread axis_of usage given
-is_bad opt.Ref usage given = is_misread decimal_of usage given
-is_bad opt.Radius1 usage given = is_misread decimal_of usage given
-is_bad opt.Radius2 usage given = is_misread decimal_of usage given
-is_bad opt.Dir usage given = is_misread dir_of usage given
-is_bad opt.From usage given = is_misread instant_of usage given
-is_bad opt.To usage given = is_misread instant_of usage given
-is_bad opt.Width usage given = is_misread width_of usage given
-is_bad opt.Depth usage given = is_misread depth_of usage given
-is_bad opt.Workers usage given = is_misread workers_of usage given
-is_bad opt.Cut usage given = is_misread cut_of usage given
-is_bad opt.Layout usage given = is_misread layout_of usage given
-is_bad opt.Blocks usage given = is_misread blocks_of usage given
-is_bad opt.Seed usage given = is_misread seed_of usage given
+-- the same of an option, whose form is that of its values, where a second has so many ticks
+abbrev pub is_bad : ℕ → Named → Use → Option Text → Bool
+is_bad tick opt.Kind usage given = is_misread kind_of usage given
+is_bad tick opt.Target usage given = is_misread target_of usage given
+is_bad tick opt.Second usage given = is_misread target_of usage given
+is_bad tick opt.Observer usage given = is_misread observer_of usage given
+is_bad tick opt.Frame usage given = is_misread frame_of usage given
+is_bad tick opt.Axis usage given = is_misread axis_of usage given
+is_bad tick opt.Ref usage given = is_misread decimal_of usage given
+is_bad tick opt.Radius1 usage given = is_misread decimal_of usage given
+is_bad tick opt.Radius2 usage given = is_misread decimal_of usage given
+is_bad tick opt.Dir usage given = is_misread dir_of usage given
+is_bad tick opt.Tick usage given = is_misread tick_of_word usage given
+is_bad tick opt.From usage given = is_misread (instant_of tick) usage given
+is_bad tick opt.To usage given = is_misread (instant_of tick) usage given
+is_bad tick opt.Width usage given = is_misread width_of usage given
+is_bad tick opt.Depth usage given = is_misread depth_of usage given
+is_bad tick opt.Workers usage given = is_misread workers_of usage given
+is_bad tick opt.Cut usage given = is_misread cut_of usage given
+is_bad tick opt.Layout usage given = is_misread layout_of usage given
+is_bad tick opt.Blocks usage given = is_misread blocks_of usage given
+is_bad tick opt.Seed usage given = is_misread seed_of usage given
 
 -- which value each option has
 abbrev pub Values : Type 0
 Values = Named → Option Text
 
+-- how many ticks the options give a second; the option itself is looked at before the times that are read by it
+abbrev pub tick_in : Values → ℕ
+tick_in values = unwrap_or (option_and_then tick_of_word (values opt.Tick)) DEFAULT_TICK
+
 -- the first option that a kind finds bad
 unfoldable pub bad_option : Values → Kind → Option Named
-bad_option values kind = find (λ option. is_bad option (use_of option kind) (values option)) FIND_OPTIONS
+bad_option values kind = find (λ option. is_bad (tick_in values) option (use_of option kind) (values option)) FIND_OPTIONS

@@ -19,10 +19,10 @@ use Rattle.spec_requests.specs.declared.request.WordFault.{WordFault}
 use Rattle.spec_requests.specs.declared.request.WordFault.TheVariants.{NoCommand, UnknownCommand, Words, BadValue}
 use Rattle.spec_requests.specs.declared.tables.CommandName.{CommandName}
 use Rattle.spec_requests.specs.declared.tables.CommandName.TheVariants as command
-use Rattle.spec_requests.specs.declared.limits.TheConstants.{DEFAULT_WIDTH, DEFAULT_DEPTH, DEFAULT_WORKERS}
+use Rattle.spec_requests.specs.declared.limits.TheConstants.{DEFAULT_TICK, DEFAULT_WIDTH, DEFAULT_DEPTH, DEFAULT_WORKERS}
 use Rattle.spec_requests.specs.declared.tables.TheConstants.{GEN_WORDS, GEN_OPTIONS}
 use Rattle.spec_requests.specs.Names.{Text, command_of, kind_of, target_of, observer_of, frame_of, axis_of, dir_of, cut_of}
-use Rattle.spec_requests.specs.Options.{Values, is_bad, bad_option, decimal_of, instant_of, width_of, depth_of, workers_of, blocks_of, seed_of}
+use Rattle.spec_requests.specs.Options.{Values, is_bad, bad_option, tick_in, decimal_of, instant_of, width_of, depth_of, workers_of, blocks_of, seed_of}
 use Rattle.spec_requests.specs.Commands.{find_command, check_command, gen_command, is_refused, values_in, files_in}
 
 -- ---- searches
@@ -64,8 +64,9 @@ unfoldable pub search_of : Values → Kind → List Text → FindAsk
 search_of values kind files = record {
   ask = ask_of values kind;
   values = values_text values kind;
-  from = option_and_then instant_of (values opt.From);
-  to = option_and_then instant_of (values opt.To);
+  tick = tick_in values;
+  from = option_and_then (instant_of (tick_in values)) (values opt.From);
+  to = option_and_then (instant_of (tick_in values)) (values opt.To);
   width = pos (value_or width_of DEFAULT_WIDTH (values opt.Width));
   depth = value_or depth_of DEFAULT_DEPTH (values opt.Depth);
   workers = value_or workers_of DEFAULT_WORKERS (values opt.Workers);
@@ -94,7 +95,7 @@ use_in_text _ = Needed
 
 -- the first word or option of `gen` that is bad
 unfoldable pub bad_word : Values → Option Named
-bad_word values = find (λ option. is_bad option (use_in_text option) (values option)) (GEN_WORDS ++ GEN_OPTIONS)
+bad_word values = find (λ option. is_bad DEFAULT_TICK option (use_in_text option) (values option)) (GEN_WORDS ++ GEN_OPTIONS)
 
 unfoldable pub text_of : Values → Request
 text_of values = Gen (value_or blocks_of 1 (values opt.Blocks)) (value_or seed_of 0 (values opt.Seed))

@@ -7,7 +7,7 @@ ghost use Rattle.spec_events.specs.declared.dir.Dir.{Dir};
 ghost use Rattle.spec_trees.specs.declared.cuts.CutRule.{CutRule};
 ghost use Rattle.spec_kinds.specs.declared.kind.Kind.{Kind};
 ghost use Rattle.spec_kinds.specs.Table.{kind_name};
-ghost use Rattle.spec_requests.specs.Names.{axis_name, axis_of, body_name, command_name, command_of, cut_name, cut_of, dir_name, dir_of, frame_name, frame_of, kind_of, layout_of, observer_of, option_name, option_of};
+ghost use Rattle.spec_requests.specs.Names.{axis_name, axis_of, body_name, command_name, command_of, cut_name, cut_of, dir_name, dir_of, frame_name, frame_of, kind_of, layout_of, observer_of, option_name, option_of, tick_of_word};
 ghost use Rattle.spec_requests.specs.Limits.{IsWithinLimits};
 ghost use Rattle.spec_requests.specs.Requests.{request_of};
 ghost use Rattle.spec_requests.specs.declared.request.FindAsk.{FindAsk};
@@ -18,13 +18,13 @@ ghost use Rattle.spec_requests.specs.declared.tables.CommandName.{CommandName};
 ghost use Rattle.spec_requests.specs.declared.tables.TheConstants.{FIND_OPTIONS, GEN_OPTIONS, GEN_WORDS};
 
 /// A search that words ask for can be asked of an ephemeris: it has a second body exactly where the kind takes one,
-/// looks at no barycentre of the solar system, and its width, depth and workers lie in their limits.
+/// looks at no barycentre of the solar system, and its tick, width, depth and workers lie in their limits.
 pub fn searches_keep_to_limits()
     ensures { (words : List (List ℕ)) (find : FindAsk) → request_of words ≡ Ok (Find find)
         → IsWithinLimits find }
 {}
 
-/// Each command, option, kind, body, frame, axis, direction, rule of cutting and layout has a name that is read as it.
+/// Each command, option, kind, body, frame, axis, direction, rule of cutting, layout and tick has a name that is read as it.
 pub fn names_are_read_back()
     ensures commands { (command : CommandName) → command_of (command_name command) ≡ Some command }
     ensures options { (option : Named) → option_of (option_name option) ≡ Some option }
@@ -35,6 +35,8 @@ pub fn names_are_read_back()
     ensures dirs { (dir : Dir) → dir_of (dir_name dir) ≡ Some dir }
     ensures cuts { (cut : CutRule) → cut_of (cut_name cut) ≡ Some cut }
     ensures layouts { layout_of (decimal 405) ≡ Some 405 }
+    ensures seconds { tick_of_word (decimal 1) ≡ Some 1 }
+    ensures milliseconds { tick_of_word (decimal 1_000) ≡ Some 1_000 }
 {}
 
 /// No word but its name is read as any of them.
@@ -54,14 +56,16 @@ pub fn words_stand_for_one_thing()
     ensures cuts { (word : List ℕ) (cut : CutRule) → cut_of word ≡ Some cut → word ≡ cut_name cut }
     ensures layouts { (word : List ℕ) (layout : ℕ) → layout_of word ≡ Some layout
         → word ≡ decimal layout }
+    ensures ticks { (word : List ℕ) (tick : ℕ) → tick_of_word word ≡ Some tick
+        → word ≡ decimal tick }
 {}
 
 /// The order in which options are looked at: the first that is bad is the one whose fault is reported. The words of `gen`
 /// come before its option.
 pub fn options_in_their_order()
     ensures find { FIND_OPTIONS ≡ opt.Kind ∷ opt.Target ∷ opt.Second ∷ opt.Observer ∷ opt.Frame
-        ∷ opt.Axis ∷ opt.Ref ∷ opt.Radius1 ∷ opt.Radius2 ∷ opt.Dir ∷ opt.From ∷ opt.To ∷ opt.Width
-        ∷ opt.Depth ∷ opt.Workers ∷ opt.Cut ∷ [] }
+        ∷ opt.Axis ∷ opt.Ref ∷ opt.Radius1 ∷ opt.Radius2 ∷ opt.Dir ∷ opt.Tick ∷ opt.From ∷ opt.To
+        ∷ opt.Width ∷ opt.Depth ∷ opt.Workers ∷ opt.Cut ∷ [] }
     ensures generated { GEN_WORDS ++ GEN_OPTIONS
         ≡ opt.Layout ∷ opt.Blocks ∷ opt.Seed ∷ opt.Workers ∷ [] }
 {}

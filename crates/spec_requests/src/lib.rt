@@ -14,7 +14,7 @@ pub use laws::{
     names_are_read_back, options_in_their_order, searches_keep_to_limits, words_stand_for_one_thing,
 };
 pub use limits::{
-    DEFAULT_DEPTH, DEFAULT_WIDTH, DEFAULT_WORKERS, MAX_DEPTH, MAX_DIGITS_OF_A_COUNT,
+    DEFAULT_DEPTH, DEFAULT_TICK, DEFAULT_WIDTH, DEFAULT_WORKERS, MAX_DEPTH, MAX_DIGITS_OF_A_COUNT,
     MAX_DIGITS_OF_A_SEED, MAX_DIGITS_OF_BLOCKS, MAX_GENERATED_BLOCKS, MAX_SEED, MAX_WIDTH,
     MAX_WORKERS,
 };
@@ -25,6 +25,6 @@ pub use request_examples::{
 };
 pub use tables::{
     AXES, BODIES, COMMANDS, CUTS, CommandName, DIRS, FIND_OPTIONS, FRAMES, GEN_OPTIONS, GEN_WORDS,
-    LAYOUTS, OPTIONS,
+    LAYOUTS, OPTIONS, TICKS,
 };
 pub use text::{FileNames, Text};

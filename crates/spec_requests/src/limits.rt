@@ -3,7 +3,7 @@
 /// The most digits of a number that is a width, a depth or a count of workers.
 pub const MAX_DIGITS_OF_A_COUNT: usize = 7;
 
-/// The widest window of one event that a search may be asked for, in seconds. The narrowest is 1.
+/// The widest window of one event that a search may be asked for, in ticks. The narrowest is 1.
 pub const MAX_WIDTH: u64 = spec_searches::MAX_WIDTH as u64;
 
 /// The most cuts of a node that a search may be asked for.
@@ -24,7 +24,10 @@ pub const MAX_DIGITS_OF_A_SEED: usize = 20;
 /// The greatest seed: the greatest number of 64 bits.
 pub const MAX_SEED: u64 = u64::MAX;
 
-/// The width of a search that is asked for none, in seconds.
+/// The ticks of a second in a search that is asked for none.
+pub const DEFAULT_TICK: u32 = 1;
+
+/// The width of a search that is asked for none, in ticks.
 pub const DEFAULT_WIDTH: u32 = 1;
 
 /// The depth of a search that is asked for none.

@@ -12,11 +12,13 @@ pub struct FindAsk {
     pub ask: Ask,
     /// The numbers of the event as a report prints them: the words of the command line, joined by a comma, or `-`.
     pub values: Text,
-    /// Where the span begins, in seconds of TDB since J2000. None: where the files begin.
+    /// How many ticks a second has, in which all times of the search are counted: 1 or 1,000.
+    pub tick: u32,
+    /// Where the span begins, in ticks since J2000 in TDB. None: where the files begin.
     pub from: Option<i64>,
-    /// Where the span ends, in seconds of TDB since J2000. None: where the files end.
+    /// Where the span ends, in ticks since J2000 in TDB. None: where the files end.
     pub to: Option<i64>,
-    /// The widest window of one event, in seconds: 1 to 1,000,000.
+    /// The widest window of one event, in ticks: 1 to 1,000,000.
     pub width: i64,
     /// How often a node may be cut by the cut rule: 0 to 40.
     pub depth: u32,
@@ -62,6 +64,7 @@ pub enum Named {
     Radius1,
     Radius2,
     Dir,
+    Tick,
     From,
     To,
     Width,

@@ -1,5 +1,5 @@
 // Worked values of requests.
-ghost use Rattle.std.specs.Prelude.{◌≡◌, ◌∷◌, [], Ok, Err, codes};
+ghost use Rattle.std.specs.Prelude.{◌≡◌, ◌∷◌, [], Ok, Err, Some, codes, neg_ℤ, pos};
 ghost use Rattle.spec_requests.specs.Requests.{request_of};
 ghost use Rattle.spec_requests.specs.Examples.{with_search, search_in};
 ghost use Rattle.spec_requests.specs.declared.request.Named.TheVariants as opt;
@@ -23,16 +23,19 @@ pub fn faults_of_words()
         ≡ Err (BadValue opt.Blocks) }
 {}
 
-/// What is left out has its default, and an option may stand behind a file.
+/// What is left out has its default, and an option may stand behind a file. A whole number counts seconds at every tick.
 pub fn searches_of_words()
     ensures defaults { request_of (with_search (codes "a" ∷ []))
         ≡ Ok (Find (search_in (codes "a"))) }
+    ensures milliseconds { request_of (with_search (codes "--tick" ∷ codes "1000" ∷ codes "--from=-5" ∷ codes "a" ∷ []))
+        ≡ Ok (Find (record (search_in (codes "a")) { tick = 1000; from = Some (neg_ℤ (pos 5000)) })) }
     ensures behind { request_of (with_search (codes "a" ∷ codes "--depth=40" ∷ []))
         ≡ Ok (Find (search_in (codes "a"))) }
 {}
 
 /// Of two bad options the first is reported: no target comes before a rule of cutting that does not exist. A coordinate is
-/// of one body, a date has to be in the calendar, and 64 workers are the most.
+/// of one body, a date has to be in the calendar, and 64 workers are the most. A second has 1 or 1,000 ticks, and a time
+/// no fraction where it has one.
 pub fn faults_of_searches()
     ensures first { request_of (codes "find" ∷ codes "--kind" ∷ codes "coord" ∷ codes "--cut" ∷ codes "x"
         ∷ codes "a" ∷ []) ≡ Err (BadValue opt.Target) }
@@ -42,6 +45,12 @@ pub fn faults_of_searches()
         ≡ Err (BadValue opt.From) }
     ensures workers { request_of (with_search (codes "--workers" ∷ codes "65" ∷ codes "a" ∷ []))
         ≡ Err (BadValue opt.Workers) }
+    ensures tick { request_of (with_search (codes "--tick" ∷ codes "10" ∷ codes "--from=x" ∷ codes "a" ∷ []))
+        ≡ Err (BadValue opt.Tick) }
+    ensures direction { request_of (with_search (codes "--tick=10" ∷ codes "--dir=x" ∷ codes "a" ∷ []))
+        ≡ Err (BadValue opt.Dir) }
+    ensures fraction { request_of (with_search (codes "--from=2000-01-16T23:59:59.500" ∷ codes "a" ∷ []))
+        ≡ Err (BadValue opt.From) }
     ensures empty { request_of (with_search (codes "--cut=" ∷ codes "a" ∷ []))
         ≡ Err (BadValue opt.Cut) }
 {}

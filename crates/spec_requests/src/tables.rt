@@ -54,8 +54,11 @@ pub const CUTS: [(&str, CutRule); 2] = [("half", CutRule::Half), ("third", CutRu
 /// The layouts of generated texts: the one of DE405.
 pub const LAYOUTS: [(&str, u16); 1] = [("405", 405)];
 
+/// How many ticks a second may have: times are counted in seconds or in milliseconds.
+pub const TICKS: [(&str, u32); 2] = [("1", 1), ("1000", 1_000)];
+
 /// The options of `find` and the words of `gen`.
-pub const OPTIONS: [(&str, Named); 19] = [
+pub const OPTIONS: [(&str, Named); 20] = [
     ("kind", Named::Kind),
     ("target", Named::Target),
     ("second", Named::Second),
@@ -66,6 +69,7 @@ pub const OPTIONS: [(&str, Named); 19] = [
     ("radius1", Named::Radius1),
     ("radius2", Named::Radius2),
     ("dir", Named::Dir),
+    ("tick", Named::Tick),
     ("from", Named::From),
     ("to", Named::To),
     ("width", Named::Width),
@@ -78,7 +82,7 @@ pub const OPTIONS: [(&str, Named); 19] = [
 ];
 
 /// The options of `find`, in the order in which their faults count.
-pub const FIND_OPTIONS: [Named; 16] = [
+pub const FIND_OPTIONS: [Named; 17] = [
     Named::Kind,
     Named::Target,
     Named::Second,
@@ -89,6 +93,7 @@ pub const FIND_OPTIONS: [Named; 16] = [
     Named::Radius1,
     Named::Radius2,
     Named::Dir,
+    Named::Tick,
     Named::From,
     Named::To,
     Named::Width,

@@ -3,3 +3,4 @@ pub mod Texts
 pub mod Times
 mod Worked
 mod Words
+pub mod Ticks

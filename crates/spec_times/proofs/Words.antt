@@ -169,7 +169,7 @@ text_shown c is known within =
 
 -- ---- what is read as a time
 
-within_is : (t time : ℤ) → within_limits t ≡ Ok time → (t ≡ time) × IsTime t
+pub within_is : (t time : ℤ) → within_limits t ≡ Ok time → (t ≡ time) × IsTime t
 within_is t time h = elim (cases_Bool (int_le FIRST_TIME t && int_le t LAST_TIME)) [
   | inl holds ↦
       let low = both_first (int_le FIRST_TIME t) (int_le t LAST_TIME) holds in

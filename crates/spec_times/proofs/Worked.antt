@@ -18,6 +18,11 @@ j2000 =
     let day : days_from_civil (pos 2000) 1 1 ≡ pos 10957 = omega (arith, signed_arith, days_from_civil-day_count (pos 2000) 1 1, day_count-early (pos 2000) 11999 1 1 refl (omega arith) (omega arith) (omega arith)) in
     text_of_date (pos 0) (pos 2000) 1 1 (time (pos 0) (omega (arith, signed_arith)) (omega (arith, signed_arith))) (search rules) day
 
+pub before_j2000 : time_text (neg_ℤ (pos 1)) ≡ codes "2000-01-01T11:59:59"
+before_j2000 =
+    let day : days_from_civil (pos 2000) 1 1 ≡ pos 10957 = omega (arith, signed_arith, days_from_civil-day_count (pos 2000) 1 1, day_count-early (pos 2000) 11999 1 1 refl (omega arith) (omega arith) (omega arith)) in
+    text_of_date (neg_ℤ (pos 1)) (pos 2000) 1 1 (time (neg_ℤ (pos 1)) (omega (arith, signed_arith)) (omega (arith, signed_arith))) (search rules) day
+
 pub leap_day : time_text (pos 5140799) ≡ codes "2000-02-29T23:59:59"
 leap_day =
     let day : days_from_civil (pos 2000) 2 29 ≡ pos 11016 = omega (arith, signed_arith, days_from_civil-day_count (pos 2000) 2 29, day_count-early (pos 2000) 11999 2 29 refl (omega arith) (omega arith) (omega arith)) in

@@ -3,6 +3,7 @@ ghost use Rattle.std.specs.Prelude.{◌≡◌, codes, neg_ℤ, pos, Err, Ok};
 ghost use Rattle.spec_ephemeris.specs.declared.limits.TheConstants.{FIRST_TIME, LAST_TIME};
 ghost use Rattle.spec_times.specs.Calendar.{time_text};
 ghost use Rattle.spec_times.specs.TimeWords.{time_of};
+ghost use Rattle.spec_times.specs.Ticks.{tick_of, tick_text};
 ghost use Rattle.spec_times.specs.declared.faults.TimeFault.TheVariants.{NotTime, OutOfRange};
 
 /// J2000 is noon; the first time lies in a year below 0, which has a sign and six digits.
@@ -32,4 +33,25 @@ pub fn dates_must_exist()
     ensures far { time_of (codes "-999999-01-01T00:00:00") ≡ Err OutOfRange }
     ensures hour { time_of (codes "2000-01-01T24:00:00") ≡ Err NotTime }
     ensures few_digits { time_of (codes "-0004-02-29T00:00:00") ≡ Err NotTime }
+{}
+
+/// A time in milliseconds always has its point and three digits.
+pub fn milliseconds_have_texts()
+    ensures after_j2000 { tick_text 1_000 (pos 1) ≡ codes "2000-01-01T12:00:00.001" }
+    ensures before_j2000 { tick_text 1_000 (neg_ℤ (pos 1)) ≡ codes "2000-01-01T11:59:59.999" }
+    ensures no_fraction { tick_text 1_000 (pos 0) ≡ codes "2000-01-01T12:00:00.000" }
+{}
+
+/// A whole number counts seconds, in milliseconds too. A fraction has a point and three digits, stands after the calendar
+/// form alone, and is read in milliseconds alone; the limits are those in milliseconds.
+#[tactic(none)]
+pub fn words_in_milliseconds()
+    ensures whole_number { tick_of 1_000 (codes "-5") ≡ Ok (neg_ℤ (pos 5_000)) }
+    ensures fraction { tick_of 1_000 (codes "2000-02-29T23:59:59.500") ≡ Ok (pos 5_140_799_500) }
+    ensures no_fraction { tick_of 1_000 (codes "2000-02-29T23:59:59") ≡ Ok (pos 5_140_799_000) }
+    ensures in_seconds { tick_of 1 (codes "2000-02-29T23:59:59.500") ≡ Err NotTime }
+    ensures two_digits { tick_of 1_000 (codes "2000-02-29T23:59:59.50") ≡ Err NotTime }
+    ensures after_a_number { tick_of 1_000 (codes "5.000") ≡ Err NotTime }
+    ensures too_late { tick_of 1_000 (codes "8977-06-07T12:00:00.001") ≡ Err OutOfRange }
+    ensures too_many_seconds { tick_of 1_000 (codes "220186512001") ≡ Err OutOfRange }
 {}

@@ -4,6 +4,7 @@ ghost use Rattle.jiff_core.specs.Calendar.{days_from_civil, IsCivilDate, IsEpoch
 ghost use Rattle.spec_times.specs.Calendar.{calendar_text, calendar_time, day_of_month, is_calendar_time, month_of, time_of_calendar, time_text, year_of};
 ghost use Rattle.spec_times.specs.declared.calendar.CalendarTime.{CalendarTime};
 ghost use Rattle.spec_times.specs.TimeWords.{IsTime, time_of, time_within, whole_time};
+ghost use Rattle.spec_times.specs.Ticks.{IsTimeIn, tick_of, tick_text};
 
 /// The date of each day from -9999-01-01 to 9999-12-31 is one of the calendar, and it is the one with this day's number.
 
@@ -36,4 +37,15 @@ pub fn calendar_texts_are_read()
 pub fn words_of_a_time()
     ensures { (word : List ℕ) (time : ℤ) → time_of word ≡ Ok time
         → (whole_time word ≡ Some time) ⊎ (word ≡ time_text time) }
+{}
+
+/// Where a tick is a second, times have the texts and the words that they have in seconds.
+pub fn seconds_are_ticks()
+    ensures texts { (t : ℤ) → tick_text 1 t ≡ time_text t }
+    ensures words { (word : List ℕ) → tick_of 1 word ≡ time_of word }
+{}
+
+/// The text of a time in milliseconds from Julian date 0 to Julian date 5,000,000 is read as the time.
+pub fn milliseconds_are_read_back()
+    ensures { (t : ℤ) → IsTimeIn 1_000 t → tick_of 1_000 (tick_text 1_000 t) ≡ Ok t }
 {}

@@ -18,6 +18,22 @@ two_digits n low high =
     let first : 48 + n / 10 ≡ 48 + n / 10 % 10 = omega arith in
     decimal_step n low (omega arith) ∙ rw (decimal_digit (n / 10) (omega arith)) (λ i. first i ∷ (48 + n % 10) ∷ [])
 
+pub one_of_three : (n : ℕ) → n < 10 → ◌≡◌ {A = List ℕ} (48 ∷ 48 ∷ decimal n) (digits 3 n)
+one_of_three n h =
+    let first : 48 ≡ 48 + n / 10 / 10 % 10 = omega arith in
+    let second : 48 ≡ 48 + n / 10 % 10 = omega arith in
+    let last : 48 + n ≡ 48 + n % 10 = omega arith in
+    rw (decimal_digit n h) (λ i. first i ∷ second i ∷ last i ∷ [])
+
+pub two_of_three : (n : ℕ) → 10 ≤ n → n < 100 → ◌≡◌ {A = List ℕ} (48 ∷ decimal n) (digits 3 n)
+two_of_three n low high =
+    let first : 48 ≡ 48 + n / 10 / 10 % 10 = omega arith in
+    rw (two_digits n low high) (λ i. first i ∷ (48 + n / 10 % 10) ∷ (48 + n % 10) ∷ [])
+
+pub three_digits : (n : ℕ) → 100 ≤ n → n < 1000 → decimal n ≡ digits 3 n
+three_digits n low high =
+    decimal_step n (omega arith) (omega arith) ∙ ap (λ (xs : List ℕ). xs ++ (48 + n % 10) ∷ []) (two_digits (n / 10) (omega arith) (omega arith))
+
 -- ---- the number that digits write
 
 value_after-append : (n : ℕ) (xs : List ℕ) (b : ℕ) → value_after n (xs ++ b ∷ []) ≡ 10 * value_after n xs + (b - 48)

@@ -2,3 +2,4 @@ mod Digits
 mod Forms
 mod Dates
 mod Appended
+pub mod Seconds

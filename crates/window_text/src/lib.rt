@@ -1,6 +1,7 @@
 //! Texts of times, and of what a search found. A time comes in, and its calendar text goes out; a word comes in, and the
 //! time that it stands for goes out; a request with its span and windows comes in, or an ephemeris, and the bytes of a
-//! report or a summary go out. Times are seconds of TDB since J2000.
+//! report or a summary go out. Times are ticks since J2000 in TDB, of which a second has one or 1,000, and those of an
+//! ephemeris that is summed up are seconds.
 #![tactic(auto)]
 
 mod counting;

@@ -4,7 +4,9 @@ ghost use Rattle.std.specs.Fmt.{decimal};
 ghost use Rattle.jiff_core.specs.Calendar.{IsEpochDay, IsYear};
 ghost use Rattle.jiff_core.specs.Date.{epoch_day};
 ghost use Rattle.spec_times.specs.Calendar.{calendar_time, clock, clock_text, date_text, day_number, digits, time_text, year_text};
+ghost use Rattle.spec_ephemeris.specs.Ticks.{IsTick};
 ghost use Rattle.spec_times.specs.TimeWords.{IsTime};
+ghost use Rattle.spec_times.specs.Ticks.{IsTimeIn, fraction_text, past_second, second_of, tick_text};
 
 use crate::Memory;
 use jiff_core::civil::Date;
@@ -12,18 +14,62 @@ use spec_ephemeris::DAY;
 use spec_times::{HALF_DAY, J2000_DAY};
 use std::alloc::{AllocError, Global};
 
-/// The calendar text `YYYY-MM-DDTHH:MM:SS` of a time, in seconds of TDB since J2000, from Julian date 0 to Julian date
-/// 5,000,000. A year below 0 has a sign and six digits; the year before 1 is 0.
-pub fn time_text(alloc: Global, time: i64) -> Result<String, Memory>
-    requires { IsTime time }
-    ensures { IfOk result (λ text. string_bytes text ≡ time_text time) }
+/// The calendar text `YYYY-MM-DDTHH:MM:SS` of a time, in ticks since J2000 in TDB, of which a second has so many, from
+/// Julian date 0 to Julian date 5,000,000. Where it has more than one, a point and three digits follow: the ticks past
+/// that second. A year below 0 has a sign and six digits; the year before 1 is 0.
+pub fn time_text(alloc: Global, time: i64, tick: u32) -> Result<String, Memory>
+    requires tick { IsTick tick }
+    requires time { IsTimeIn tick time }
+    ensures { IfOk result (λ text. string_bytes text ≡ tick_text tick time) }
 {
     let mut text = String::new(alloc);
-    add_time(&mut text, time)?;
+    add_tick(&mut text, tick, time)?;
     Ok(text)
 }
 
-/// A text, and the calendar text of a time behind it.
+/// A text, and the calendar text of a time in ticks after it.
+pub(crate) fn add_tick(text: &mut String, tick: u32, time: i64) -> Result<(), AllocError>
+    requires tick { IsTick tick }
+    requires time { IsTimeIn tick time }
+    ensures { OnOk result (string_bytes text.new ≡ string_bytes text.old ++ tick_text tick time) }
+{
+    add_time(text, second_of(tick, time))?;
+    add_fraction(text, tick, past_second(tick, time))
+}
+
+// The last second that has begun at a time.
+fn second_of(tick: u32, time: i64) -> i64
+    requires tick { IsTick tick }
+    requires time { IsTimeIn tick time }
+    ensures second { result ≡ second_of tick time }
+    ensures time { IsTime result }
+{
+    time.div_euclid(i64::from(tick))
+}
+
+// The ticks past that second.
+fn past_second(tick: u32, time: i64) -> u32
+    requires { IsTick tick }
+    ensures past { result ≡ past_second tick time }
+    ensures few { result < 1_000 }
+{
+    time.rem_euclid(i64::from(tick)) as u32
+}
+
+// The ticks past a second, where it has more than one.
+fn add_fraction(text: &mut String, tick: u32, past: u32) -> Result<(), AllocError>
+    requires { past < 1_000 }
+    ensures { OnOk result (string_bytes text.new
+        ≡ string_bytes text.old ++ fraction_text tick past) }
+{
+    if tick == 1 {
+        return Ok(());
+    }
+    text.push_str(".")?;
+    add_three_digits(text, past)
+}
+
+/// A text, and the calendar text of a second after it.
 pub(crate) fn add_time(text: &mut String, time: i64) -> Result<(), AllocError>
     requires { IsTime time }
     ensures { OnOk result (string_bytes text.new ≡ string_bytes text.old ++ time_text time) }
@@ -119,6 +165,28 @@ fn add_two_digits(text: &mut String, n: u32) -> Result<(), AllocError>
     let mut buffer = itoa::Buffer::new();
     text.push_str(leading_zero(n))?;
     text.push_str(buffer.format(n))
+}
+
+fn add_three_digits(text: &mut String, n: u32) -> Result<(), AllocError>
+    requires { n < 1_000 }
+    ensures { OnOk result (string_bytes text.new ≡ string_bytes text.old ++ digits 3 n) }
+{
+    let mut buffer = itoa::Buffer::new();
+    text.push_str(leading_zeros(n))?;
+    text.push_str(buffer.format(n))
+}
+
+fn leading_zeros(n: u32) -> &'static str
+    requires { n < 1_000 }
+    ensures { result.now ++ decimal n ≡ digits 3 n }
+{
+    if n < 10 {
+        "00"
+    } else if n < 100 {
+        "0"
+    } else {
+        ""
+    }
 }
 
 fn leading_zero(n: u32) -> &'static str

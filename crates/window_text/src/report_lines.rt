@@ -1,12 +1,13 @@
 // The texts of a search.
 ghost use Rattle.std.specs.Prelude.{◌≡◌, ◌++◌, All, IfOk, OnOk, string_bytes};
-ghost use Rattle.spec_output.specs.Report.{HasTimes, axes_text, axis_of_kind, bodies_text, end_line, event_text, generation, generation_line, line_of, query_text, report, request_line, search_text, second_name, span_text, window_lines};
-ghost use Rattle.spec_times.specs.TimeWords.{IsTime};
+ghost use Rattle.spec_output.specs.Report.{HasTimes, axes_text, axis_of_kind, bodies_text, end_line, event_text, generation, generation_line, line_of, query_text, report, request_line, search_text, second_name, span_text, ticks_text, window_lines};
+ghost use Rattle.spec_ephemeris.specs.Ticks.{IsTick};
+ghost use Rattle.spec_times.specs.Ticks.{IsTimeIn};
 
 use crate::Memory;
 use crate::counting::{certain_count, undecided_count};
 use crate::pieces::{add_last_number, add_number, add_pair, add_signed_number};
-use crate::printing::add_time;
+use crate::printing::add_tick;
 use spec_ephemeris::Body;
 use spec_kinds::{Ask, Kind};
 use spec_requests::{FindAsk, axis_name, body_name, cut_name, dir_name, frame_name};
@@ -14,7 +15,7 @@ use spec_trees::{Holds, Turn, Window};
 use std::alloc::{AllocError, Global};
 
 /// The report of the windows that a search found between two times: the request, a line for each window, and the counts.
-/// Times are seconds of TDB since J2000, and are printed as calendar texts.
+/// Times are ticks since J2000 in TDB, of which a second has as many as the request says, and are printed as calendar texts.
 pub fn report(
     alloc: Global,
     find: &FindAsk,
@@ -22,14 +23,15 @@ pub fn report(
     to: i64,
     windows: &[Window],
 ) -> Result<Vec<u8>, Memory>
-    requires from { IsTime from }
-    requires to { IsTime to }
-    requires windows { All HasTimes windows.now }
+    requires tick { IsTick find.now.tick }
+    requires from { IsTimeIn find.now.tick from }
+    requires to { IsTimeIn find.now.tick to }
+    requires windows { All (HasTimes find.now.tick) windows.now }
     ensures { IfOk result (λ text. text.items ≡ report find.now from to windows.now) }
 {
     let mut text = String::new(alloc);
     add_request_line(&mut text, find, from, to)?;
-    add_windows(&mut text, windows)?;
+    add_windows(&mut text, find.tick, windows)?;
     add_end_line(&mut text, windows)?;
     Ok(text.into_bytes())
 }
@@ -53,20 +55,22 @@ pub fn generation(
 // ---- the request
 
 fn add_request_line(text: &mut String, find: &FindAsk, from: i64, to: i64) -> Result<(), AllocError>
-    requires from { IsTime from }
-    requires to { IsTime to }
+    requires tick { IsTick find.now.tick }
+    requires from { IsTimeIn find.now.tick from }
+    requires to { IsTimeIn find.now.tick to }
     ensures { OnOk result (string_bytes text.new
         ≡ string_bytes text.old ++ request_line find.now from to) }
 {
     add_query(text, find)?;
-    add_line_end(text, " span ", from, to, "\n")
+    add_line_end(text, find.tick, " span ", from, to, "\n")
 }
 
 fn add_query(text: &mut String, find: &FindAsk) -> Result<(), AllocError>
     ensures { OnOk result (string_bytes text.new ≡ string_bytes text.old ++ query_text find.now) }
 {
     add_event(text, find)?;
-    add_search(text, find)
+    add_search(text, find)?;
+    add_ticks(text, find.tick)
 }
 
 fn add_event(text: &mut String, find: &FindAsk) -> Result<(), AllocError>
@@ -122,62 +126,77 @@ fn add_search(text: &mut String, find: &FindAsk) -> Result<(), AllocError>
     add_pair(text, " cut ", cut_name(find.cut))
 }
 
+// How many ticks a second has, where that is more than one.
+fn add_ticks(text: &mut String, tick: u32) -> Result<(), AllocError>
+    ensures { OnOk result (string_bytes text.new ≡ string_bytes text.old ++ ticks_text tick) }
+{
+    if tick == 1 {
+        return Ok(());
+    }
+    add_number(text, " tick ", tick as u64)
+}
+
 // ---- the windows
 
-fn add_windows(text: &mut String, windows: &[Window]) -> Result<(), AllocError>
-    requires { All HasTimes windows.now }
+fn add_windows(text: &mut String, tick: u32, windows: &[Window]) -> Result<(), AllocError>
+    requires tick { IsTick tick }
+    requires windows { All (HasTimes tick) windows.now }
     ensures { OnOk result (string_bytes text.new
-        ≡ string_bytes text.old ++ window_lines windows.now) }
+        ≡ string_bytes text.old ++ window_lines tick windows.now) }
 {
     for window in windows {
-        add_window(text, *window)?;
+        add_window(text, tick, *window)?;
     }
     Ok(())
 }
 
-fn add_window(text: &mut String, window: Window) -> Result<(), AllocError>
-    requires { HasTimes window }
+fn add_window(text: &mut String, tick: u32, window: Window) -> Result<(), AllocError>
+    requires tick { IsTick tick }
+    requires times { HasTimes tick window }
     ensures { OnOk result (string_bytes text.new
-        ≡ string_bytes text.old ++ line_of window.first window.last window.holds) }
+        ≡ string_bytes text.old ++ line_of tick window.first window.last window.holds) }
 {
     match window.holds {
         Holds::Certain(Turn::Rise) => {
-            add_line_end(text, "C ", window.first, window.last, " rise\n")
+            add_line_end(text, tick, "C ", window.first, window.last, " rise\n")
         }
         Holds::Certain(Turn::Fall) => {
-            add_line_end(text, "C ", window.first, window.last, " fall\n")
+            add_line_end(text, tick, "C ", window.first, window.last, " fall\n")
         }
-        Holds::Undecided => add_line_end(text, "U ", window.first, window.last, "\n"),
+        Holds::Undecided => add_line_end(text, tick, "U ", window.first, window.last, "\n"),
     }
 }
 
 // Two times, between a text and the end of the line.
 fn add_line_end(
     text: &mut String,
+    tick: u32,
     name: &str,
     first: i64,
     last: i64,
     end: &str,
 ) -> Result<(), AllocError>
-    requires first { IsTime first }
-    requires last { IsTime last }
+    requires tick { IsTick tick }
+    requires first { IsTimeIn tick first }
+    requires last { IsTimeIn tick last }
     ensures { OnOk result (string_bytes text.new
-        ≡ string_bytes text.old ++ (name.now ++ span_text first last ++ end.now)) }
+        ≡ string_bytes text.old ++ (name.now ++ span_text tick first last ++ end.now)) }
 {
     text.push_str(name)?;
-    add_span(text, first, last)?;
+    add_span(text, tick, first, last)?;
     text.push_str(end)
 }
 
-fn add_span(text: &mut String, first: i64, last: i64) -> Result<(), AllocError>
-    requires first { IsTime first }
-    requires last { IsTime last }
+fn add_span(text: &mut String, tick: u32, first: i64, last: i64) -> Result<(), AllocError>
+    requires tick { IsTick tick }
+    requires first { IsTimeIn tick first }
+    requires last { IsTimeIn tick last }
     ensures { OnOk result (string_bytes text.new
-        ≡ string_bytes text.old ++ span_text first last) }
+        ≡ string_bytes text.old ++ span_text tick first last) }
 {
-    add_time(text, first)?;
+    add_tick(text, tick, first)?;
     text.push_str(" ")?;
-    add_time(text, last)
+    add_tick(text, tick, last)
 }
 
 // ---- the counts

@@ -1,17 +1,18 @@
 // What a word shows on calendar and clock, and the time of it.
-ghost use Rattle.std.specs.Prelude.{◌≡◌, ◌<◌, ◌≤◌, ◌+◌, ◌^◌, length, true, Some};
+ghost use Rattle.std.specs.Prelude.{◌≡◌, ◌<◌, ◌≤◌, ◌+◌, ◌^◌, IfOk, length, true, Some};
 ghost use Rattle.jiff_core.specs.Calendar.{days_from_civil, days_in_month, IsEpochDay, IsWithin, IsYear};
 ghost use Rattle.spec_times.specs.Calendar.{is_calendar_time, is_date, midnight, is_time_of_day, second_of_day, time_of_calendar};
-ghost use Rattle.spec_times.specs.TimeWords.{calendar_after, has_negative_year, negative_year_form, shown, time_shown, time_within, two_digits_at, year_form};
+ghost use Rattle.spec_times.specs.TimeWords.{IsTime, calendar_after, has_negative_year, negative_year_form, shown, time_shown, time_within, two_digits_at, year_form};
 
 use crate::reading::{has_form, is_between, value, within_limits};
 use jiff_core::civil::{Date, days_in_month};
 use spec_ephemeris::DAY;
 use spec_times::{CalendarTime, FIRST_YEAR, HALF_DAY, J2000_DAY, LAST_YEAR, TimeFault};
 
-/// The time that a word shows on calendar and clock.
+/// The second that a word shows on calendar and clock.
 pub(crate) fn time_shown(word: &[u8]) -> Result<i64, TimeFault>
-    ensures { result ≡ time_shown (shown word.now) }
+    ensures time { result ≡ time_shown (shown word.now) }
+    ensures bound { IfOk result IsTime }
 {
     match shown(word) {
         Some(shown) => time_of(shown),

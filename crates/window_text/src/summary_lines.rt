@@ -9,13 +9,13 @@ use crate::Memory;
 use crate::pieces::{add_last_number, add_number, add_pair, add_signed_number};
 use crate::printing::add_time;
 use eph_model::Ephemeris;
-use spec_ephemeris::{Column, NUTATIONS};
+use spec_ephemeris::{Column, MAX_COLUMNS, NUTATIONS, READ_COLUMNS};
 use spec_output::COLUMN_BODIES;
 use spec_requests::body_name;
 use std::alloc::{AllocError, Global};
 
-/// What an ephemeris holds: its start and end as calendar texts, the seconds of a block, the number of blocks and
-/// NCOEFF, and a line for each column that is present.
+/// What an ephemeris that counts seconds holds: its start and end as calendar texts, the seconds of a block, the number of
+/// blocks and NCOEFF, and a line for each column that is present.
 pub fn summary(alloc: Global, ephemeris: &Ephemeris) -> Result<Vec<u8>, Memory>
     requires start { IsTime ephemeris.now.start }
     requires end { IsTime (end_of ephemeris.now) }
@@ -105,16 +105,21 @@ fn column_name(number: usize) -> &'static str
 {
     match COLUMN_BODIES.get(number - 1) {
         Some(body) => body_name(*body),
-        None => angles_name(number),
+        None => other_name(number),
     }
 }
 
-fn angles_name(number: usize) -> &'static str
+// The name of a column that is no body's.
+fn other_name(number: usize) -> &'static str
     ensures { result.now ≡ name_of_column None number }
 {
     if number == NUTATIONS {
         "nutations"
-    } else {
+    } else if number == READ_COLUMNS {
         "librations"
+    } else if number == MAX_COLUMNS {
+        "column15"
+    } else {
+        "column14"
     }
 }

@@ -1,5 +1,6 @@
 // Words and texts of times, a report and a summary, as an exact reference has them.
 ghost use Rattle.std.specs.Prelude.{◌≡◌, All, IfOk};
+ghost use Rattle.spec_ephemeris.specs.Ticks.{IsTick};
 ghost use Rattle.spec_ephemeris.specs.Header.{IsHeader};
 ghost use Rattle.spec_ephemeris.specs.Ephemeris.{IsBodyNumber};
 ghost use Rattle.spec_output.specs.Report.{HasTimes};
@@ -52,7 +53,8 @@ const TIMES: [(&str, i64, &str); 10] = [
 ];
 
 // Words that stand for no time.
-const NO_TIMES: [(&str, TimeFault); 14] = [
+const NO_TIMES: [(&str, TimeFault); 15] = [
+    ("2000-01-16T23:59:59.500", TimeFault::NotTime),
     ("-004713-11-24T11:59:59", TimeFault::OutOfRange),
     ("8977-06-07T12:00:01", TimeFault::OutOfRange),
     ("-999999-01-01T00:00:00", TimeFault::OutOfRange),
@@ -69,12 +71,70 @@ const NO_TIMES: [(&str, TimeFault); 14] = [
     ("", TimeFault::NotTime),
 ];
 
+// Words in milliseconds, the time of each, and its text.
+const MILLISECONDS: [(&str, i64, &str); 5] = [
+    (
+        "2000-01-16T23:59:59.500",
+        1_339_199_500,
+        "2000-01-16T23:59:59.500",
+    ),
+    (
+        "2000-01-16T23:59:59",
+        1_339_199_000,
+        "2000-01-16T23:59:59.000",
+    ),
+    (
+        "-004713-11-24T12:00:00.001",
+        -211_813_487_999_999,
+        "-004713-11-24T12:00:00.001",
+    ),
+    ("1339000", 1_339_000_000, "2000-01-16T23:56:40.000"),
+    ("-1", -1_000, "2000-01-01T11:59:59.000"),
+];
+
+// Words that stand for no time in milliseconds.
+const NO_MILLISECONDS: [(&str, TimeFault); 7] = [
+    ("8977-06-07T12:00:00.001", TimeFault::OutOfRange),
+    ("-004713-11-24T11:59:59.999", TimeFault::OutOfRange),
+    ("220186512001", TimeFault::OutOfRange),
+    ("5.000", TimeFault::NotTime),
+    ("2000-01-16T23:59:59.50", TimeFault::NotTime),
+    ("2000-01-16T23:59:59,500", TimeFault::NotTime),
+    ("2000-02-30T00:00:00.000", TimeFault::NotTime),
+];
+
 // The time is printed so.
-fn check_text(rt: &impl Abort, alloc: Global, time: i64, expected: &str) -> Result<(), Fail> {
-    assert!(rt; FIRST_TIME <= time);
-    assert!(rt; time <= LAST_TIME);
-    let text = time_text(alloc, time)?;
+fn check_text(
+    rt: &impl Abort,
+    alloc: Global,
+    tick: u32,
+    time: i64,
+    expected: &str,
+) -> Result<(), Fail>
+    requires { IsTick tick }
+{
+    assert!(rt; FIRST_TIME * i64::from(tick) <= time);
+    assert!(rt; time <= LAST_TIME * i64::from(tick));
+    let text = time_text(alloc, time, tick)?;
     assert!(rt; text.as_str() == expected, "the text of {time}");
+    Ok(())
+}
+
+#[test]
+fn milliseconds_are_read_and_printed(rt: HostRuntime) -> Result<(), Fail> {
+    for (word, time, text) in MILLISECONDS {
+        assert!(rt;
+            read_time(word.as_bytes(), 1_000) == Ok(time),
+            "the time of {word}"
+        );
+        check_text(&rt, rt.alloc(), 1_000, time, text)?;
+    }
+    for (word, fault) in NO_MILLISECONDS {
+        assert!(rt;
+            read_time(word.as_bytes(), 1_000) == Err(fault),
+            "the fault of {word}"
+        );
+    }
     Ok(())
 }
 
@@ -82,14 +142,14 @@ fn check_text(rt: &impl Abort, alloc: Global, time: i64, expected: &str) -> Resu
 fn times_are_read_and_printed(rt: HostRuntime) -> Result<(), Fail> {
     for (word, time, text) in TIMES {
         assert!(rt;
-            read_time(word.as_bytes()) == Ok(time),
+            read_time(word.as_bytes(), 1) == Ok(time),
             "the time of {word}"
         );
-        check_text(&rt, rt.alloc(), time, text)?;
+        check_text(&rt, rt.alloc(), 1, time, text)?;
     }
     for (word, fault) in NO_TIMES {
         assert!(rt;
-            read_time(word.as_bytes()) == Err(fault),
+            read_time(word.as_bytes(), 1) == Err(fault),
             "the fault of {word}"
         );
     }
@@ -97,7 +157,9 @@ fn times_are_read_and_printed(rt: HostRuntime) -> Result<(), Fail> {
 }
 
 // Mercury's x passes 0.
-fn mercury_crossing(alloc: Global) -> Result<FindAsk, AllocError> {
+fn mercury_crossing(alloc: Global) -> Result<FindAsk, AllocError>
+    ensures { IfOk result (λ find. find.tick ≡ 1) }
+{
     let zero = Decimal { mant: 0, exp: 0 };
     Ok(FindAsk {
         ask: Ask {
@@ -112,6 +174,7 @@ fn mercury_crossing(alloc: Global) -> Result<FindAsk, AllocError> {
             dir: Dir::Any,
         },
         values: Text::new(String::from_str(alloc, "0")?),
+        tick: 1,
         from: None,
         to: None,
         width: 1,
@@ -144,7 +207,7 @@ fn a_report_is_printed(rt: HostRuntime) -> Result<(), Fail> {
 
 // A time that is left undecided.
 fn undecided_second() -> Window
-    ensures { HasTimes result }
+    ensures { HasTimes 1 result }
 {
     Window {
         first: 0,
@@ -155,7 +218,7 @@ fn undecided_second() -> Window
 
 // As many windows as no 16-bit count holds.
 fn many_windows(alloc: Global) -> Result<Vec<Window>, AllocError>
-    ensures { IfOk result (λ v. All HasTimes v.items) }
+    ensures { IfOk result (λ v. All (HasTimes 1) v.items) }
 {
     let mut windows = Vec::new(alloc);
     for _place in 0..70_000u32 {

@@ -12,17 +12,17 @@ use Rattle.gf_find.proofs.answer.report_of.Goals as goal
 
 pub report_in-requires-clause-from : goal.report_in-requires-clause-from
 report_in-requires-clause-from g c =
-    let is = c.in_ok-windows.ensures.found in from_is _ is.checked c.requires.end c.span_of-span.result is.within
+    let is = c.in_ok-windows.ensures.found in from_is _ c.args.ephemeris.now c.requires.start c.requires.end c.span_of-span.result is.within
 
 pub report_in-requires-clause-upto : goal.report_in-requires-clause-upto
 report_in-requires-clause-upto g c =
-    let is = c.in_ok-windows.ensures.found in upto_is _ is.checked c.requires.end c.span_of-span.result is.within
+    let is = c.in_ok-windows.ensures.found in upto_is _ c.args.ephemeris.now c.requires.start c.requires.end c.span_of-span.result is.within
 
 pub report_in-requires-clause-windows : goal.report_in-requires-clause-windows
 report_in-requires-clause-windows g c =
     let is = c.in_ok-windows.ensures.found in
-    subst (λ (ws : List Window). All HasTimes ws) (sym c.deref.ensures.value)
-    (windows_are _ is.checked c.requires.end c.span_of-span.result is.within _ _ is.windows)
+    subst (λ (ws : List Window). All (HasTimes c.args.find.now.tick) ws) (sym c.deref.ensures.value)
+    (windows_are _ c.args.ephemeris.now c.requires.start c.requires.end c.span_of-span.result is.within _ _ is.windows)
 
 pub returns-clause-report : goal.returns-clause-report
 returns-clause-report g c =

@@ -5,4 +5,4 @@ use Rattle.gf_words.proofs.forms.instant.Goals as goal
 
 pub returns : goal.returns
 unfolding instant_of
-returns c = c.ok.ensures.value ∙ ap result_ok c.read_time.ensures ∙ ap instant_of c.as_bytes.ensures.value
+returns c = c.ok.ensures.value ∙ ap result_ok c.read_time.ensures ∙ ap (instant_of c.args.tick) c.as_bytes.ensures.value

@@ -13,6 +13,7 @@ returns c =
     λ i. record {
       ask = (c.requires i).ask;
       values = c.in_ok-values_text.ensures i;
+      tick = (c.requires i).ends.tick;
       from = (c.requires i).ends.from;
       to = (c.requires i).ends.to;
       width = width_is i;

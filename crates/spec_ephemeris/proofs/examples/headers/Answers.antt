@@ -1,6 +1,6 @@
-use Rattle.std.proofs.Common.{refl, arith}
+use Rattle.std.proofs.Common.{refl, arith, [], ◌∷◌}
 use Rattle.std.proofs.lemmas.Int.{ints}
-use Rattle.spec_ephemeris.specs.Examples.{column, four_columns, de405}
+use Rattle.spec_ephemeris.specs.Examples.{column, four_columns, de405, de405_with, de430t}
 use Rattle.spec_ephemeris.proofs.HeaderTest.{passes}
 use Rattle.spec_ephemeris.proofs.examples.headers.Goals as goal
 
@@ -9,6 +9,15 @@ returns-clause-four c = passes four_columns (record { least = omega (arith, ints
 
 pub returns-clause-of_de405 : goal.returns-clause-of_de405
 returns-clause-of_de405 c = passes de405 (record { least = omega (arith, ints); greatest = omega (arith, ints) }) refl refl
+
+pub returns-clause-of_de430t : goal.returns-clause-of_de430t
+returns-clause-of_de430t c = passes de430t (record { least = omega (arith, ints); greatest = omega (arith, ints) }) refl refl
+
+pub returns-clause-taken_places : goal.returns-clause-taken_places
+returns-clause-taken_places c = passes (de405_with (column 3 40 7 ∷ [])) (record { least = omega (arith, ints); greatest = omega (arith, ints) }) refl refl
+
+pub returns-clause-sixteen : goal.returns-clause-sixteen
+returns-clause-sixteen c = λ header. let most = header.count.1 in omega (arith, most)
 
 pub returns-clause-two_on_one_place : goal.returns-clause-two_on_one_place
 returns-clause-two_on_one_place c = λ header.

@@ -6,6 +6,18 @@ pub returns-clause-twelve_words : goal.returns-clause-twelve_words
 unfolding header
 returns-clause-twelve_words c = refl
 
+pub returns-clause-sixteen_words : goal.returns-clause-sixteen_words
+unfolding header
+returns-clause-sixteen_words c = refl
+
+pub returns-clause-other_count : goal.returns-clause-other_count
+unfolding header
+returns-clause-other_count c = refl
+
+pub returns-clause-other_count_again : goal.returns-clause-other_count_again
+unfolding header
+returns-clause-other_count_again c = refl
+
 pub returns-clause-bad_word : goal.returns-clause-bad_word
 unfolding header
 returns-clause-bad_word c = refl

@@ -7,7 +7,7 @@ use Rattle.spec_trees.specs.declared.cuts.CutRule.TheVariants as cut
 use Rattle.spec_kinds.specs.declared.kind.Kind.TheVariants as kind
 use Rattle.spec_requests.specs.declared.request.Named.TheVariants as opt
 use Rattle.spec_requests.specs.declared.tables.CommandName.TheVariants as command
-use Rattle.spec_requests.specs.Names.{axis_name, axis_of, command_of, cut_of, dir_of, frame_of, kind_of, layout_of, observer_of, option_of}
+use Rattle.spec_requests.specs.Names.{axis_name, axis_of, command_of, cut_of, dir_of, frame_of, kind_of, layout_of, observer_of, option_of, tick_of_word}
 use Rattle.spec_requests.proofs.laws.names_are_read_back.Goals as goal
 
 -- ---- each name of each table is looked up
@@ -20,7 +20,7 @@ axes_read (suc (suc zero)) below = refl
 axes_read (suc (suc (suc x))) below = absurd (omega arith)
 
 pub returns : goal.returns
-unfolding command_of option_of kind_of observer_of frame_of dir_of cut_of layout_of digits
+unfolding command_of option_of kind_of observer_of frame_of dir_of cut_of layout_of tick_of_word digits
 returns c = record {
   commands = elim [ command.Find ↦ refl | _ ↦ refl ];
   options = elim [ opt.Kind ↦ refl | _ ↦ refl ];
@@ -31,4 +31,6 @@ returns c = record {
   dirs = elim [ dir.Any ↦ refl | _ ↦ refl ];
   cuts = elim [ cut.Half ↦ refl | cut.Third ↦ refl ];
   layouts = refl;
+  seconds = refl;
+  milliseconds = refl;
 }

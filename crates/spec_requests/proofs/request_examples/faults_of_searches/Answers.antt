@@ -4,4 +4,4 @@ use Rattle.spec_requests.proofs.request_examples.faults_of_searches.Goals as goa
 
 pub returns : goal.returns
 unfolding requests_on_literals
-returns c = record { first = refl; second = refl; date = refl; workers = refl; empty = refl }
+returns c = record { first = refl; second = refl; date = refl; workers = refl; tick = refl; direction = refl; fraction = refl; empty = refl }

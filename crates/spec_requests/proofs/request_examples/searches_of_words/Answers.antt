@@ -4,4 +4,4 @@ use Rattle.spec_requests.proofs.request_examples.searches_of_words.Goals as goal
 
 pub returns : goal.returns
 unfolding requests_on_literals
-returns c = record { defaults = refl; behind = refl }
+returns c = record { defaults = refl; milliseconds = refl; behind = refl }

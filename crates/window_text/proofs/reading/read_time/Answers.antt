@@ -1,14 +1,17 @@
-use Rattle.std.proofs.Common.{sym, ap, ◌∙◌, to_z-of_z, Option, ℤ, FitsSigned, w64, rules}
-use Rattle.spec_times.specs.TimeWords.{time_of, time_or_shown}
+use Rattle.std.proofs.Common.{◌≡◌, sym, ap, ◌∙◌, ℤ, pos, ◌*ℤ◌, to_z, of_z, FitsSigned, w64, rules}
+use Rattle.std.proofs.lemmas.Int.{to_z-of_z}
+use Rattle.spec_times.specs.Ticks.{tick_of, tick_or_shown, within_tick_limits}
 use Rattle.window_text.proofs.reading.read_time.Goals as goal
 
 pub returns-in-Some : goal.returns-in-Some
-unfolding time_of
+unfolding tick_of
 returns-in-Some c =
-    let fits : FitsSigned w64 c.in-Some.time = search rules in
-    let answer = simp to_z-of_z at c.within_limits.ensures in
-    answer ∙ ap (λ (x : Option ℤ). time_or_shown c.args.word.now x) (sym c.in-Some.is ∙ c.whole_time.ensures)
+    let fits : FitsSigned w64 c.in-Some.second = search rules in
+    let ticks : to_z w64 (of_z w64 c.in_ticks.result) ≡ c.in_ticks.result = to_z-of_z w64 _ (record { sfits = c.in_ticks.type_inv }) in
+    let second : to_z w64 (of_z w64 c.in-Some.second) ≡ c.in-Some.second = to_z-of_z w64 c.in-Some.second fits in
+    c.within_tick_limits.ensures ∙ ap (within_tick_limits c.args.tick) (ticks ∙ c.in_ticks.ensures ∙ ap (λ (z : ℤ). z *ℤ pos c.args.tick) second)
+    ∙ ap (tick_or_shown c.args.tick c.args.word.now) (sym c.in-Some.is ∙ c.whole_time.ensures.value)
 
 pub returns-in-None : goal.returns-in-None
-unfolding time_of
-returns-in-None c = c.time_shown.ensures ∙ ap (λ (x : Option ℤ). time_or_shown c.args.word.now x) (sym c.in-None.is ∙ c.whole_time.ensures)
+unfolding tick_of
+returns-in-None c = c.shown_tick.ensures ∙ ap (tick_or_shown c.args.tick c.args.word.now) (sym c.in-None.is ∙ c.whole_time.ensures.value)

@@ -3,4 +3,4 @@ use Rattle.spec_output.specs.Report.{window_lines}
 use Rattle.window_text.proofs.report_lines.add_windows.Given as goal
 
 abbrev pub invariant-loop-window : goal.invariant-loop-window
-invariant-loop-window l = string_bytes l.text ≡ string_bytes l.initial.text ++ window_lines (take l.window-index l.windows)
+invariant-loop-window l = string_bytes l.text ≡ string_bytes l.initial.text ++ window_lines l.tick (take l.window-index l.windows)

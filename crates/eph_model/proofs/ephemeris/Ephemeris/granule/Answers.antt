@@ -1,8 +1,8 @@
-use Rattle.std.proofs.Common.{rules, arith, ℕ, ◌≡◌, ◌<◌, ◌≤◌, ◌*◌, pos, ◌+ℤ◌, unsigned_abs, ap, to_z, of_z, FitsSigned, w64, ◌∙◌}
+use Rattle.std.proofs.Common.{rules, arith, ℕ, ◌≡◌, ◌≤◌, ◌*◌, pos, ◌+ℤ◌, unsigned_abs, ap, to_z, of_z, FitsSigned, w64, ◌∙◌}
 use Rattle.std.proofs.lemmas.Int.{ints, to_z-of_z}
 use Rattle.std.proofs.lemmas.Nat.{mul-le}
 use Rattle.spec_ephemeris.specs.declared.header.Column.{Column}
-use Rattle.eph_model.proofs.GridLemmas.{block_of, column_is, ends, found, length_within, length_passed}
+use Rattle.eph_model.proofs.GridLemmas.{block_of, column_is, ends, found, length_passed}
 use Rattle.eph_model.proofs.ephemeris.Ephemeris.granule.Goals as goal
 
 pub index_at-index-requires-clause-upto : goal.index_at-index-requires-clause-upto
@@ -22,8 +22,7 @@ returns-clause-granule c =
     let grid = c.grid-grid.result in
     let fits : FitsSigned w64 c.time_of.result = search rules in
     let start : to_z w64 (of_z w64 c.time_of.result) ≡ grid.start +ℤ pos (c.index_at-index.result * grid.seconds) = to_z-of_z w64 c.time_of.result fits ∙ c.time_of.ensures in
-    let few : 0 < grid.count = omega (arith, c.index_at-index.ensures.in_range) in
-    let duration : unsigned_abs (to_z w64 grid.seconds) ≡ grid.seconds = length_passed grid.seconds (length_within grid.count grid.seconds few grid.within) in
+    let duration : unsigned_abs (to_z w64 grid.seconds) ≡ grid.seconds = length_passed grid.seconds grid.short in
     let same : to_z w64 (of_z w64 c.args.t) ≡ c.args.t = to_z-of_z w64 c.args.t c.ranges.t in
     found c.args.self.now c.args.column c.args.t grid c.index_at-index.result _ c.grid-grid.ensures.grid
     (rw same at c.index_at-index.ensures.index) start duration (rw c.from-granules.ensures at c.granule_numbers.ensures.numbers)
@@ -31,8 +30,7 @@ returns-clause-granule c =
 pub returns-clause-duration : goal.returns-clause-duration
 returns-clause-duration c =
     let grid = c.grid-grid.result in
-    let few : 0 < grid.count = omega (arith, c.index_at-index.ensures.in_range) in
-    let short = length_within grid.count grid.seconds few grid.within in
+    let short = grid.short in
     (omega (arith, ints, grid.long, short), omega (arith, ints, grid.long, short))
 
 pub returns-clause-start : goal.returns-clause-start

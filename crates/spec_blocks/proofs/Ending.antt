@@ -1,4 +1,4 @@
--- An accepted ephemeris ends no later than Julian date 5,000,000.
+-- Accepted blocks begin and end from Julian date 0 to Julian date 5,000,000, in seconds.
 use Rattle.std.proofs.Common.{◌≡◌, ℕ, zero, suc, ◌+◌, ◌<◌, ◌&&◌, ◌||◌, nat_lt, Bool, true, false, List, [], ◌∷◌, length, Result, Ok, Err, refl, ap, ◌∙◌, inl, inr, arith, if◌then◌else◌, eq-eqb, ne_eqb, ℤ, pos, ◌+ℤ◌, ◌*ℤ◌, ◌≤ℤ◌, int_le, int_lt}
 use Rattle.std.proofs.lemmas.Bool.{cases_Bool, cases_eq, and_parts, lt-ltb}
 use Rattle.std.proofs.lemmas.Int.{ints}
@@ -7,20 +7,23 @@ use Rattle.spec_numbers.proofs.Whole.{add-mul, one-mul}
 use Rattle.spec_text.specs.declared.decimals.Decimal.{Decimal}
 use Rattle.spec_ephemeris.specs.declared.header.Header.{Header}
 use Rattle.spec_ephemeris.specs.declared.limits.TheConstants.{LAST_TIME, MAX_BLOCKS}
-use Rattle.spec_ephemeris.specs.Ephemeris.{Ephemeris, IsStart, end_of, with_block}
+use Rattle.spec_ephemeris.specs.Ephemeris.{Ephemeris, end_of, with_block}
 use Rattle.spec_sections.specs.declared.rules.BrokenRule.{BrokenRule}
 use Rattle.spec_sections.specs.Sections.{FileLine, ◌>>=◌}
 use Rattle.spec_sections.proofs.Holding.{Holds, holds_ok, then_any}
 use Rattle.spec_blocks.specs.BlockRules.{follows, has_length, is_after_gap, is_skipped, time_of}
 use Rattle.spec_blocks.specs.Blocks.{accept, block, blocks, blocks_after, begun, no_blocks, with_numbers}
 use Rattle.spec_blocks.specs.Read.{AreRead}
-use Rattle.spec_blocks.proofs.Blocks.{time_holds}
+use Rattle.spec_blocks.proofs.Blocks.{IsSecond, second_holds}
 use Rattle.spec_blocks.proofs.Numbers.{block_holds}
-use Rattle.spec_header.specs.HeaderLines.{header}
-use Rattle.spec_files.specs.Lines.{ephemeris}
 
-abbrev pub EndsInTime : Ephemeris → Type 0
-EndsInTime e = 0 < e.blocks → end_of e ≤ℤ LAST_TIME
+-- it begins and ends in time
+abbrev pub LiesInTime : Ephemeris → Type 0
+LiesInTime e = IsSecond e.start × (end_of e ≤ℤ LAST_TIME)
+
+-- where it has blocks
+abbrev LiesWhereBegun : Ephemeris → Type 0
+LiesWhereBegun e = 0 < e.blocks → LiesInTime e
 
 -- ---- one block more
 one_more : (start duration : ℤ) (count : ℕ) → (start +ℤ (pos (count + 1) *ℤ duration)) ≡ ((start +ℤ (pos count *ℤ duration)) +ℤ duration)
@@ -75,49 +78,55 @@ module _ (before : Ephemeris) (numbers : List Decimal) (start end : ℤ) (late :
   more_ends : end_of (with_block (begun before start) numbers) ≤ℤ LAST_TIME
   more_ends = let more = with_more (begun before start) numbers in let ends = begun_ends in let same = same_length in omega (arith, ints, more, ends, same)
 
-accepted_ends : (before : Ephemeris) (numbers : List Decimal) (start end : ℤ) → EndsInTime before → end ≤ℤ LAST_TIME → end ≡ (start +ℤ before.header.block_seconds)
-    → follows before start end ≡ Ok tt → EndsInTime (accept before numbers (Ok start) (Ok end))
-accepted_ends before numbers start end ends late length rule = elim (cases_Bool (is_skipped before end)) [
-  | inl passed ↦ rw passed ends
-  | inr new ↦ rw new (λ some. more_ends before numbers start end late length (holds_ok _ _ tt (rw new at rule) (no_gap (is_after_gap before start) (nat_lt before.blocks MAX_BLOCKS) _ _)))
+begun_starts : (before : Ephemeris) (start : ℤ) → LiesWhereBegun before → IsSecond start → IsSecond (begun before start).start
+begun_starts before start lies_before is = elim (cases_eq before.blocks 0) [
+  | inl none ↦ rw (eq-eqb before.blocks 0 none) is
+  | inr some ↦ rw (ne_eqb before.blocks 0 some) (lies_before (omega (arith, some))).0
+]
+
+accepted_lies : (before : Ephemeris) (numbers : List Decimal) (start end : ℤ) → LiesWhereBegun before → IsSecond start → IsSecond end → end ≡ (start +ℤ before.header.block_seconds)
+    → follows before start end ≡ Ok tt → LiesWhereBegun (accept before numbers (Ok start) (Ok end))
+accepted_lies before numbers start end lies_before early late length rule = elim (cases_Bool (is_skipped before end)) [
+  | inl passed ↦ rw passed lies_before
+  | inr new ↦ rw new (λ some. (
+    begun_starts before start lies_before early,
+    more_ends before numbers start end late.1 length (holds_ok _ _ tt (rw new at rule) (no_gap (is_after_gap before start) (nat_lt before.blocks MAX_BLOCKS) _ _)),
+  ))
 ]
 
 abbrev dates : Ephemeris → Result ℤ BrokenRule → Result ℤ BrokenRule → BrokenRule → Result (Unit {0}) BrokenRule
 dates before a b x = a >>= λ start. b >>= λ end. if has_length before.header.block_seconds start end then follows before start end else Err x
 
-dated_ends : (before : Ephemeris) (numbers : List Decimal) (a b : Result ℤ BrokenRule) (x : BrokenRule) → EndsInTime before → Holds IsStart b
-    → dates before a b x ≡ Ok tt → EndsInTime (accept before numbers a b)
-dated_ends before numbers (Ok start) (Ok end) x ends is rule =
+dated_lies : (before : Ephemeris) (numbers : List Decimal) (a b : Result ℤ BrokenRule) (x : BrokenRule) → LiesWhereBegun before → Holds IsSecond a → Holds IsSecond b
+    → dates before a b x ≡ Ok tt → LiesWhereBegun (accept before numbers a b)
+dated_lies before numbers (Ok start) (Ok end) x lies_before early late rule =
     let placed = lies before.header.block_seconds start end (follows before start end) x rule in
-    accepted_ends before numbers start end ends is.1 placed.0 placed.1
-dated_ends before numbers (Ok start) (Err e) x ends is rule = ends
-dated_ends before numbers (Err e) b x ends is rule = ends
+    accepted_lies before numbers start end lies_before early late placed.0 placed.1
+dated_lies before numbers (Ok start) (Err e) x lies_before early late rule = lies_before
+dated_lies before numbers (Err e) b x lies_before early late rule = lies_before
 
-one_ends : (before : Ephemeris) (numbers : List Decimal) → EndsInTime before → AreRead before numbers → EndsInTime (with_numbers before numbers)
-one_ends before [] ends read = ends
-one_ends before (first ∷ []) ends read = ends
-one_ends before (first ∷ second ∷ rest) ends read =
-    dated_ends before (first ∷ second ∷ rest) (time_of first) (time_of second) _ ends (time_holds second) (read.rules 1 second refl)
+one_lies : (before : Ephemeris) (numbers : List Decimal) → LiesWhereBegun before → AreRead before numbers → LiesWhereBegun (with_numbers before numbers)
+one_lies before [] lies_before read = lies_before
+one_lies before (first ∷ []) lies_before read = lies_before
+one_lies before (first ∷ second ∷ rest) lies_before read =
+    dated_lies before (first ∷ second ∷ rest) (time_of first) (time_of second) _ lies_before (second_holds first) (second_holds second) (read.rules 1 second refl)
 
 -- ---- all blocks
-ends_here : (before : Ephemeris) → EndsInTime before → Holds EndsInTime (blocks_after 0 before [])
-ends_here before ends = elim (cases_eq before.blocks 0) [
+lies_here : (before : Ephemeris) → LiesWhereBegun before → Holds LiesInTime (blocks_after 0 before [])
+lies_here before lies_before = elim (cases_eq before.blocks 0) [
   | inl none ↦ rw (eq-eqb before.blocks 0 none) tt
-  | inr some ↦ rw (ne_eqb before.blocks 0 some) ends
+  | inr some ↦ rw (ne_eqb before.blocks 0 some) (lies_before (omega (arith, some)))
 ]
 
-all_end : (n : ℕ) (before : Ephemeris) (lines : List FileLine) → EndsInTime before → Holds EndsInTime (blocks_after n before lines)
-all_end zero before [] ends = ends_here before ends
-all_end (suc n) before [] ends = ends_here before ends
-all_end zero before (line ∷ rest) ends = tt
-all_end (suc n) before (line ∷ rest) ends =
-    then_any EndsInTime (block before (line ∷ rest)) _ (λ found is.
+all_lie : (n : ℕ) (before : Ephemeris) (lines : List FileLine) → LiesWhereBegun before → Holds LiesInTime (blocks_after n before lines)
+all_lie zero before [] lies_before = lies_here before lies_before
+all_lie (suc n) before [] lies_before = lies_here before lies_before
+all_lie zero before (line ∷ rest) lies_before = tt
+all_lie (suc n) before (line ∷ rest) lies_before =
+    then_any LiesInTime (block before (line ∷ rest)) _ (λ found is.
     let counted = holds_ok _ (block before (line ∷ rest)) found is (block_holds before (line ∷ rest)) in
-    all_end n (with_numbers before found.0) found.1 (one_ends before found.0 ends counted.0))
+    all_lie n (with_numbers before found.0) found.1 (one_lies before found.0 lies_before counted.0))
 
-blocks_end : (h : Header) (lines : List FileLine) → Holds EndsInTime (blocks h lines)
+pub blocks_lie : (h : Header) (lines : List FileLine) → Holds LiesInTime (blocks h lines)
 unfolding blocks
-blocks_end h lines = all_end (length lines) (no_blocks h) lines (λ some. absurd (omega (arith, some)))
-
-pub lines_end : (lines : List FileLine) → Holds EndsInTime (ephemeris lines)
-lines_end lines = then_any EndsInTime (header lines) _ (λ found is. blocks_end found.0 found.1)
+blocks_lie h lines = all_lie (length lines) (no_blocks h) lines (λ some. absurd (omega (arith, some)))

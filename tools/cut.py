@@ -3,10 +3,10 @@
 
     tools/cut.py [--blocks N] [--header each|first] PREFIX FILE..
 
-The files are read in their order, as `finder` reads them: a header, then blocks, as `header.431` and `ascp01000.431`.
+The files are read in their order, as `finder` reads them: a header, then blocks, as `header.441` and `ascp01000.441`.
 The parts are PREFIX-0001.asc, PREFIX-0002.asc and so on. Each has the blocks that follow, byte for byte, and the header,
 whose dates are those at which the part begins and ends; the days of a block stay. The last block of a part is the first
-of the next, so a search of each part up to the date at which the next one begins finds what a search of all finds.
+of the next, so searches of each part up to the date at which the next one begins find the events that are in all of it.
 
     --blocks N        so many blocks a part at most, 2 to 16384 (16384)
     --header first    the first part alone has the header, with the dates of all of them, so that one run reads the parts
@@ -17,7 +17,7 @@ A part has at most 268,435,456 bytes. Blocks that begin before Julian date 0 or 
 numbers of a block keep to their limits, is for `finder check` to say of a part.
 
 Status: 0 all parts were written; 1 the files are no such files; 2 the words; 3 a file could not be read or written, or a
-part is there already. With each but 0 no part is left.
+part is there already. With each but 0 no part is left; until all are whole, each has a name that ends in `.new`.
 """
 import argparse
 import os

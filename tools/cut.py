@@ -20,6 +20,7 @@ Status: 0 all parts were written; 1 the files are no such files; 2 the words; 3 
 part is there already. With each but 0 no part is left; until all are whole, each has a name that ends in `.new`.
 """
 import argparse
+import contextlib
 import os
 import re
 import signal
@@ -254,7 +255,8 @@ class Parts:
     def remove(self):
         """Removes what was made."""
         for part in self.made:
-            part.file.close()
+            with contextlib.suppress(OSError):
+                part.file.close()
             if os.path.lexists(part.name + ".new"):
                 os.remove(part.name + ".new")
         for name in self.kept:
@@ -293,7 +295,8 @@ def ask():
 
 def main():
     """The command."""
-    signal.signal(signal.SIGTERM, lambda *_: sys.exit(143))
+    for number in (signal.SIGINT, signal.SIGTERM):
+        signal.signal(number, lambda number, _: sys.exit(128 + number))
     words = ask()
     prefix, *names = words.words
     source, left_out, parts = Source(names), [], None

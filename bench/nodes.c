@@ -1,9 +1,10 @@
 /* Searches for the events of ten kinds, seen from the Earth, over all blocks of a text of DE405 by JPL, by the interval
    arithmetic of the program in C: the same rows, sums, enclosures and verdicts, with the same ends and exponents, bit for
-   bit. Spans are judged and split down to one second. Prints how many nodes were judged in a round, how many leaves and
-   events there are, and a checksum of the leaves and of the enclosures over them.
+   bit. Spans are judged and split down to one second, or to one part of a second where TICK says into how many it is cut.
+   Prints how many nodes were judged in a round, how many leaves and events there are, and a checksum of the leaves and of
+   the enclosures over them.
 
-       nodes KIND ROUNDS FILE */
+       nodes KIND ROUNDS FILE [TICK] */
 #include <stdint.h>
 #include <stdio.h>
 #include <stdlib.h>
@@ -305,7 +306,14 @@ static void read_blocks(FILE *in) {
     file.end = file.start + file.blocks * file.block_seconds;
 }
 
-static void read_file(const char *name) {
+/* From here on the times of the file, and all that are made of them, count parts of a second. */
+static void count_ticks(int64_t tick) {
+    file.start *= tick;
+    file.end *= tick;
+    file.block_seconds *= tick;
+}
+
+static void read_file(const char *name, int64_t tick) {
     char text[64];
     FILE *in = fopen(name, "r");
     if (!in) fail("the file can't be read");
@@ -317,6 +325,7 @@ static void read_file(const char *name) {
     group(in, "1070");
     read_blocks(in);
     fclose(in);
+    count_ticks(tick);
     for (int i = 0; i < COLUMNS; i++) {
         column *c = &file.columns[i];
         if (c->granules == 0) continue;
@@ -867,13 +876,15 @@ static void search(leaves *found) {
 }
 
 int main(int argc, char **argv) {
-    if (argc != 4) fail("KIND ROUNDS FILE");
+    if (argc != 4 && argc != 5) fail("KIND ROUNDS FILE [TICK]");
     const struct kind *kind = 0;
     for (size_t i = 0; i < sizeof KINDS / sizeof *KINDS; i++)
         if (!strcmp(KINDS[i].name, argv[1])) kind = &KINDS[i];
     if (!kind) fail("the kind is coord, radius, apsis, conj, station, sep, any, full, annular or sepext");
     unsigned long rounds = strtoul(argv[2], 0, 10);
-    read_file(argv[3]);
+    int64_t tick = argc == 5 ? strtol(argv[4], 0, 10) : 1;
+    if (tick != 1 && tick != 1000) fail("the tick is 1 or 1000");
+    read_file(argv[3], tick);
     choose_kind(kind);
     leaves found = { 0, 0, 0, 0 };
     for (unsigned long i = 0; i < rounds; i++) search(&found);

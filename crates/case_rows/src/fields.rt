@@ -3,10 +3,10 @@ use crate::escapes::unescaped;
 use std::alloc::{AllocError, AllocFailed, Global};
 use std::str::FromStr;
 
-/// Why a row can't be compared.
+/// Why a row cannot be compared.
 #[derive(Clone, Copy, Debug, Drop)]
 pub enum RowError {
-    /// It hasn't the form of a row of its kind, or a number in it lies outside of what may be asked.
+    /// It does not have the form of a row of its kind, or a number in it lies outside of what may be asked.
     Malformed,
     /// Out of memory.
     Memory,

@@ -2,7 +2,7 @@
 //!
 //! In comes a judge of rows, and the names of tables as the words of the command line: texts in which each line that is
 //! not empty and does not begin with `#` is a row of fields, separated by one blank. Out go the rows that differ, and how
-//! many rows each table has. A row that can't be read is an error, and is never skipped.
+//! many rows each table has. A row that cannot be read is an error, and is never skipped.
 #![tactic(auto)]
 
 mod escapes;

@@ -35,7 +35,7 @@ fn is_row(line: &str) -> bool {
     !line.is_empty() && !line.starts_with('#')
 }
 
-// The tally with one more row, which is printed if it differs; none where it can't be read.
+// The tally with one more row, which is printed if it differs; none where it cannot be read.
 fn add_row<J: RowJudge>(
     rt: &HostRuntime,
     judge: &J,
@@ -60,7 +60,7 @@ fn add_row<J: RowJudge>(
     }
 }
 
-// The tally of a table; none where a row can't be read.
+// The tally of a table; none where a row cannot be read.
 fn tally_of<J: RowJudge>(rt: &HostRuntime, judge: &J, text: &str) -> io::Result<Option<Tally>> {
     let mut tally = Tally {
         rows: 0,
@@ -77,7 +77,7 @@ fn tally_of<J: RowJudge>(rt: &HostRuntime, judge: &J, text: &str) -> io::Result<
     Ok(Some(tally))
 }
 
-// The tally of the table of this name; none where it is no text, or where a row can't be read.
+// The tally of the table of this name; none where it is no text, or where a row cannot be read.
 fn tally_of_file<J: RowJudge>(
     rt: &HostRuntime,
     judge: &J,
@@ -91,7 +91,7 @@ fn tally_of_file<J: RowJudge>(
 }
 
 /// Compares the tables that the words of the command line name, and prints the rows that differ and how many rows there
-/// are. The status is 0 where no row differs, 1 where one does, and 2 where a table can't be read.
+/// are. The status is 0 where no row differs, 1 where one does, and 2 where a table cannot be read.
 pub fn compare_tables<J: RowJudge>(rt: &HostRuntime, judge: &J) -> io::Result<ExitCode> {
     let mut status = 0u8;
     for name in env::args(rt)?.skip(1) {

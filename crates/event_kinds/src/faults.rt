@@ -12,7 +12,7 @@ use spec_kinds::{Ask, EventFault, Range};
 use spec_text::Decimal;
 use thiserror::Error;
 
-/// Why an ask has no event: the first of these that applies, or that memory ran out.
+/// Why an ask has no event: the first of these that applies, or out of memory.
 #[derive(Clone, Copy, Debug, PartialEq, Eq, Error)]
 pub enum KindFault {
     /// Fault 50: a column is absent that the target, the second body or the observer needs.
@@ -30,7 +30,7 @@ pub enum KindFault {
 }
 
 impl KindFault {
-    /// The fault of the ask, or none where memory ran out.
+    /// The fault of the ask, or none where it is out of memory.
     pub fn event_fault(self) -> Option<EventFault>
         ensures { result ≡ event_fault_of self }
     {
@@ -54,7 +54,7 @@ impl KindFault {
     }
 }
 
-/// The first fault of an ask, or none. It takes no memory.
+/// The first fault of an ask, or none. It does not allocate.
 pub fn fault(eph: &Ephemeris, ask: Ask) -> Option<EventFault>
     ensures { result ≡ fault_of eph.now ask }
 {

@@ -25,7 +25,7 @@ use std::alloc::{AllocError, Global};
 /// The event of an ask over an ephemeris, as formulas over the positions, in km, and the velocities, in km a second, of
 /// the target (number 0) and of the second body (number 1), seen from the observer in the frame. What `Coord`, `Radius`
 /// and `Apsis`, `Sep` and `SepExt`, and `Any`, `Full` and `Annular` mean is SPICE's, by `gfposc`, `gfdist`, `gfsep` and
-/// `gfoclt`. An error is the first fault of the ask, or says that memory ran out, where it has none.
+/// `gfoclt`. An error is the first fault of the ask, or out of memory, where it has none.
 pub fn event(alloc: Global, eph: &Ephemeris, ask: &Ask) -> Result<Event, KindFault>
     requires { IsAsk ask.now }
     ensures made { IfOk result (λ event. event ≡ event_of ask.now) }
@@ -41,7 +41,7 @@ pub fn event(alloc: Global, eph: &Ephemeris, ask: &Ask) -> Result<Event, KindFau
     }
 }
 
-// The row of the ask's kind, or an error where memory runs out.
+// The row of the ask's kind, or an error: out of memory.
 fn row(alloc: Global, ask: Ask) -> Result<Event, AllocError>
     requires axis { ask.axis < 3 }
     requires in_range { IsTrue (are_in_range ask.kind ask.value1 ask.value2) }

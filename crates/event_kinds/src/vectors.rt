@@ -20,7 +20,7 @@ pub const TARGET_VELOCITY: Vector = Vector::Velocity(0);
 /// The velocity of the second body.
 pub const SECOND_VELOCITY: Vector = Vector::Velocity(1);
 
-/// `u0 v0 + u1 v1`, or an error where memory runs out.
+/// `u0 v0 + u1 v1`, or an error: out of memory.
 pub fn plane_dot(alloc: Global, u: Vector, v: Vector) -> Result<Expr, AllocError>
     requires u { IsVector u }
     requires v { IsVector v }
@@ -31,7 +31,7 @@ pub fn plane_dot(alloc: Global, u: Vector, v: Vector) -> Result<Expr, AllocError
     sum(alloc, x, y)
 }
 
-/// `u0 v1 - u1 v0`, or an error where memory runs out.
+/// `u0 v1 - u1 v0`, or an error: out of memory.
 pub fn plane_cross(alloc: Global, u: Vector, v: Vector) -> Result<Expr, AllocError>
     requires u { IsVector u }
     requires v { IsVector v }

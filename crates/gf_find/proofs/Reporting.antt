@@ -8,7 +8,7 @@ use Rattle.spec_files.specs.Outcome.{outcome}
 use Rattle.spec_files.specs.Texts.{end_line}
 use Rattle.spec_generated.specs.Generated.{generated_ephemeris, generated_text}
 use Rattle.spec_requests.specs.declared.request.FindAsk.{FindAsk}
-use Rattle.spec_texts.specs.Report.{generation, report}
+use Rattle.spec_output.specs.Report.{generation, report}
 use Rattle.gf_edges.specs.Edges.{Rose}
 use Rattle.gf_find.specs.declared.query.Query.{Query}
 use Rattle.gf_find.specs.declared.query.Span.{Span}

@@ -14,7 +14,7 @@ use Rattle.spec_searches.proofs.Finding.{windows_are_found}
 use Rattle.spec_kinds.specs.declared.fault.EventFault.{EventFault}
 use Rattle.spec_kinds.specs.Faults.{fault_of}
 use Rattle.spec_kinds.proofs.Searching.{search_is}
-use Rattle.spec_reports.specs.declared.limits.TheConstants.{MAX_LEAVES}
+use Rattle.spec_output.specs.declared.limits.TheConstants.{MAX_LEAVES}
 use Rattle.gf_find.specs.declared.query.Query.{Query}
 use Rattle.gf_find.specs.declared.query.Span.{Span}
 use Rattle.gf_find.specs.declared.refusal.Refusal.{Refusal}

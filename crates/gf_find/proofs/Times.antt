@@ -12,7 +12,7 @@ use Rattle.spec_trees.specs.Placement.{IsWithin}
 use Rattle.spec_searches.specs.Search.{Search}
 use Rattle.spec_times.specs.TimeWords.{IsTime}
 use Rattle.spec_times.specs.Ticks.{IsTimeIn}
-use Rattle.spec_texts.specs.Report.{HasTimes}
+use Rattle.spec_output.specs.Report.{HasTimes}
 use Rattle.gf_find.specs.declared.query.Span.{Span}
 use Rattle.gf_find.specs.Queries.{AreFound, is_within}
 

@@ -20,9 +20,9 @@ use Rattle.spec_requests.specs.declared.request.Request.{Request}
 use Rattle.spec_requests.specs.declared.request.Request.TheVariants.{Find, Check, Gen}
 use Rattle.spec_requests.specs.declared.request.WordFault.{WordFault}
 use Rattle.spec_requests.specs.Requests.{request_of}
-use Rattle.spec_reports.specs.declared.limits.TheConstants.{MAX_LEAVES}
-use Rattle.spec_texts.specs.Report.{generation, report}
-use Rattle.spec_texts.specs.Summary.{summary}
+use Rattle.spec_output.specs.declared.limits.TheConstants.{MAX_LEAVES}
+use Rattle.spec_output.specs.Report.{generation, report}
+use Rattle.spec_output.specs.Summary.{summary}
 use Rattle.gf_edges.specs.Edges.{Files}
 use Rattle.gf_find.specs.declared.query.Query.{Query}
 use Rattle.gf_find.specs.declared.query.Span.{Span}

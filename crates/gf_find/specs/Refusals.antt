@@ -7,7 +7,7 @@ use Rattle.spec_kinds.specs.Faults.{number_of}
 use Rattle.spec_requests.specs.declared.request.WordFault.{WordFault}
 use Rattle.spec_requests.specs.declared.request.WordFault.TheVariants as W
 use Rattle.spec_requests.specs.Names.{option_name}
-use Rattle.spec_reports.specs.Messages.{words_text, file_text, read_text, outside_text, event_text, leaves_text, memory_text}
+use Rattle.spec_output.specs.Messages.{words_text, file_text, read_text, outside_text, event_text, leaves_text, memory_text}
 use Rattle.steal_pool.specs.declared.seat.PoolError.{PoolError}
 use Rattle.steal_pool.specs.declared.seat.PoolError.TheVariants as P
 use Rattle.gf_find.specs.declared.refusal.Refusal.{Refusal}

@@ -10,10 +10,10 @@ use Rattle.spec_requests.specs.declared.request.Request.{Request}
 use Rattle.spec_requests.specs.declared.request.Request.TheVariants.{Find, Check, Gen}
 use Rattle.spec_requests.specs.declared.request.WordFault.{WordFault}
 use Rattle.spec_requests.specs.Requests.{request_of}
-use Rattle.spec_reports.specs.Reported.{Reports}
-use Rattle.spec_reports.specs.Writing.{AppendsPart}
-use Rattle.spec_texts.specs.Report.{report}
-use Rattle.spec_texts.specs.Summary.{summary}
+use Rattle.spec_output.specs.Runs.{Reports}
+use Rattle.spec_output.specs.Writing.{AppendsPart}
+use Rattle.spec_output.specs.Report.{report}
+use Rattle.spec_output.specs.Summary.{summary}
 use Rattle.gf_edges.specs.Edges.{Files}
 use Rattle.gf_find.specs.Queries.{IsLeft, query_of, search, span_of, windows_in}
 use Rattle.gf_find.specs.Outcomes.{HaveOutcome, Words, generated_search, generated_span, generation_by, texts_of}

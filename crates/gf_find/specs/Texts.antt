@@ -6,8 +6,8 @@ use Rattle.spec_trees.specs.declared.window.Window.{Window}
 use Rattle.spec_requests.specs.declared.request.FindAsk.{FindAsk}
 use Rattle.spec_requests.specs.declared.request.Request.{Request}
 use Rattle.spec_requests.specs.declared.request.Request.TheVariants.{Find, Check, Gen}
-use Rattle.spec_texts.specs.Report.{report}
-use Rattle.spec_texts.specs.Summary.{summary}
+use Rattle.spec_output.specs.Report.{report}
+use Rattle.spec_output.specs.Summary.{summary}
 use Rattle.gf_edges.specs.Edges.{Files}
 use Rattle.gf_find.specs.declared.query.Query.{Query}
 use Rattle.gf_find.specs.declared.query.Span.{Span}

@@ -1,7 +1,7 @@
 // The windows of the book that workers fill.
 ghost use Rattle.std.specs.Prelude.{◌≡◌, ◌⊎◌, ◌<◌, ◌≤◌, IfErr, IfOk};
 ghost use Rattle.spec_requests.specs.declared.limits.TheConstants.{MAX_WORKERS};
-ghost use Rattle.spec_reports.specs.declared.limits.TheConstants.{MAX_LEAVES};
+ghost use Rattle.spec_output.specs.declared.limits.TheConstants.{MAX_LEAVES};
 ghost use Rattle.spec_trees.specs.Tree.{IsValid, leaf_count, leaves};
 ghost use Rattle.spec_trees.specs.Windows.{windows};
 
@@ -9,7 +9,7 @@ use crate::refusal::Refusal;
 use gf_edges::Gate;
 use halving::Judge;
 use ordered_join::windows;
-use spec_reports::MAX_LEAVES;
+use spec_output::MAX_LEAVES;
 use spec_trees::{Node, Window};
 use std::alloc::Global;
 use std::sync::Wait;

@@ -2,7 +2,7 @@
 ghost use Rattle.std.specs.Prelude.{◌≤◌, OnErr, OnOk};
 ghost use Rattle.std.specs.Io.KnownBytes.{Appends};
 ghost use Rattle.gf_edges.specs.Edges.{HasCause};
-ghost use Rattle.spec_reports.specs.Writing.{AppendsPart, Receives};
+ghost use Rattle.spec_output.specs.Writing.{AppendsPart, Receives};
 
 use gf_edges::{Failed, Sink};
 

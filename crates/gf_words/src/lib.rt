@@ -1,5 +1,5 @@
 //! The words of a command line, read. Words come in; out goes the request that they make, or the first fault that
-//! they have: no command, an unknown one, words that can't be read, an option that is bad.
+//! they have: no command, an unknown one, words that cannot be read, an option that is bad.
 #![tactic(auto)]
 
 mod commands;

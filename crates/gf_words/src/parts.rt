@@ -85,41 +85,29 @@ pub(crate) fn target(matches: &ArgMatches<'_>) -> Result<Body, Named>
 pub(crate) fn second(matches: &ArgMatches<'_>, usage: Use) -> Result<Option<Body>, Named>
     ensures { result ≡ part target_of opt.Second usage (values_of matches.now opt.Second) }
 {
-    check_use(
-        Named::Second,
-        usage,
-        value(matches, Named::Second).map(forms::target),
-    )
+    let read = value(matches, Named::Second).map(forms::target);
+    check_use(Named::Second, usage, read)
 }
 
 pub(crate) fn observer(matches: &ArgMatches<'_>) -> Result<Option<Body>, Named>
     ensures { result ≡ part observer_of opt.Observer Optional (values_of matches.now opt.Observer) }
 {
-    check_use(
-        Named::Observer,
-        Use::Optional,
-        value(matches, Named::Observer).map(forms::observer),
-    )
+    let read = value(matches, Named::Observer).map(forms::observer);
+    check_use(Named::Observer, Use::Optional, read)
 }
 
 pub(crate) fn frame(matches: &ArgMatches<'_>, usage: Use) -> Result<Option<Frame>, Named>
     ensures { result ≡ part frame_of opt.Frame usage (values_of matches.now opt.Frame) }
 {
-    check_use(
-        Named::Frame,
-        usage,
-        value(matches, Named::Frame).map(forms::frame),
-    )
+    let read = value(matches, Named::Frame).map(forms::frame);
+    check_use(Named::Frame, usage, read)
 }
 
 pub(crate) fn axis(matches: &ArgMatches<'_>, usage: Use) -> Result<Option<u8>, Named>
     ensures { result ≡ part axis_of opt.Axis usage (values_of matches.now opt.Axis) }
 {
-    check_use(
-        Named::Axis,
-        usage,
-        value(matches, Named::Axis).map(forms::axis),
-    )
+    let read = value(matches, Named::Axis).map(forms::axis);
+    check_use(Named::Axis, usage, read)
 }
 
 // A number of the event: its reference value, or a radius.
@@ -130,28 +118,23 @@ pub(crate) fn number(
 ) -> Result<Option<Decimal>, Named>
     ensures { result ≡ part decimal_of option usage (values_of matches.now option) }
 {
-    check_use(option, usage, value(matches, option).map(forms::decimal))
+    let read = value(matches, option).map(forms::decimal);
+    check_use(option, usage, read)
 }
 
 pub(crate) fn dir(matches: &ArgMatches<'_>) -> Result<Option<Dir>, Named>
     ensures { result ≡ part dir_of opt.Dir Optional (values_of matches.now opt.Dir) }
 {
-    check_use(
-        Named::Dir,
-        Use::Optional,
-        value(matches, Named::Dir).map(forms::dir),
-    )
+    let read = value(matches, Named::Dir).map(forms::dir);
+    check_use(Named::Dir, Use::Optional, read)
 }
 
 // How many ticks a second has.
 pub(crate) fn tick(matches: &ArgMatches<'_>) -> Result<Option<u32>, Named>
     ensures { result ≡ part tick_of_word opt.Tick Optional (values_of matches.now opt.Tick) }
 {
-    check_use(
-        Named::Tick,
-        Use::Optional,
-        value(matches, Named::Tick).map(forms::tick),
-    )
+    let read = value(matches, Named::Tick).map(forms::tick);
+    check_use(Named::Tick, Use::Optional, read)
 }
 
 // The same, where it is left out or bad too.
@@ -181,41 +164,29 @@ pub(crate) fn instant(
 pub(crate) fn width(matches: &ArgMatches<'_>) -> Result<Option<u32>, Named>
     ensures { result ≡ part width_of opt.Width Optional (values_of matches.now opt.Width) }
 {
-    check_use(
-        Named::Width,
-        Use::Optional,
-        value(matches, Named::Width).map(forms::width),
-    )
+    let read = value(matches, Named::Width).map(forms::width);
+    check_use(Named::Width, Use::Optional, read)
 }
 
 pub(crate) fn depth(matches: &ArgMatches<'_>) -> Result<Option<u32>, Named>
     ensures { result ≡ part depth_of opt.Depth Optional (values_of matches.now opt.Depth) }
 {
-    check_use(
-        Named::Depth,
-        Use::Optional,
-        value(matches, Named::Depth).map(forms::depth),
-    )
+    let read = value(matches, Named::Depth).map(forms::depth);
+    check_use(Named::Depth, Use::Optional, read)
 }
 
 pub(crate) fn workers(matches: &ArgMatches<'_>) -> Result<Option<u32>, Named>
     ensures { result ≡ part workers_of opt.Workers Optional (values_of matches.now opt.Workers) }
 {
-    check_use(
-        Named::Workers,
-        Use::Optional,
-        value(matches, Named::Workers).map(forms::workers),
-    )
+    let read = value(matches, Named::Workers).map(forms::workers);
+    check_use(Named::Workers, Use::Optional, read)
 }
 
 pub(crate) fn cut(matches: &ArgMatches<'_>) -> Result<Option<CutRule>, Named>
     ensures { result ≡ part cut_of opt.Cut Optional (values_of matches.now opt.Cut) }
 {
-    check_use(
-        Named::Cut,
-        Use::Optional,
-        value(matches, Named::Cut).map(forms::cut),
-    )
+    let read = value(matches, Named::Cut).map(forms::cut);
+    check_use(Named::Cut, Use::Optional, read)
 }
 
 pub(crate) fn layout(matches: &ArgMatches<'_>) -> Result<u16, Named>

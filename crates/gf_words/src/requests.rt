@@ -77,9 +77,9 @@ fn request_for(alloc: Global, command: CommandName, words: &[String]) -> Result<
 /// What the words of a command line ask for, the program's own name left out: `find`, `check` or `gen`, with its
 /// options and files.
 ///
-/// The fault is 60 where there is no word, 61 where the first is none of these, 62 where `clap` can't read the others by
-/// the command, and 63 names the first option, in the order of the table, that is needed and not there, isn't used and
-/// is there, or whose value is not of its form. Out of memory is an answer of its own.
+/// The fault is 60 where there is no word, 61 where the first is none of these, 62 where `clap` cannot read the others by
+/// the command, and 63 names the first option, in the order of the table, that is needed and not there, is not used
+/// and is there, or whose value is not of its form. Out of memory is an error of its own.
 pub fn request(alloc: Global, words: &[String]) -> Result<Request, WordFault>
     ensures asked { IfOk result (λ request.
         request_of (map string_bytes words.now) ≡ Ok request) }

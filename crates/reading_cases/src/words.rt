@@ -65,7 +65,7 @@ fn has_text(alloc: Global, time: i64, text: &[u8]) -> Result<bool, RowError> {
     if time < FIRST_TIME || LAST_TIME < time {
         return Err(RowError::Malformed);
     }
-    match time_text(alloc, time) {
+    match time_text(alloc, time, 1) {
         Ok(found) => Ok(found.as_bytes() == text),
         Err(_) => Err(RowError::Memory),
     }
@@ -74,7 +74,7 @@ fn has_text(alloc: Global, time: i64, text: &[u8]) -> Result<bool, RowError> {
 /// A word, the time that it is and that time's text, or why it is no time.
 pub(crate) fn time_agrees(alloc: Global, fields: &mut Fields<'_>) -> Result<bool, RowError> {
     let word = fields.bytes(alloc)?;
-    let time = read_time(&word);
+    let time = read_time(&word, 1);
     match fields.word()? {
         "NotTime" => Ok(time == Err(TimeFault::NotTime)),
         "OutOfRange" => Ok(time == Err(TimeFault::OutOfRange)),

@@ -58,7 +58,7 @@ named_row kind = get_or rows (place kind) ([], no_row kind)
 abbrev pub row_of : Kind → KindRow
 row_of kind = (named_row kind).1
 
--- ---- what is said of a kind
+-- ---- what holds for a kind
 
 abbrev pub kind_name : Kind → List ℕ
 kind_name kind = (named_row kind).0

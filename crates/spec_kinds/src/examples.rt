@@ -39,7 +39,7 @@ pub fn functions_of_places()
         (places (pos 25) (pos 0) (pos 63) (pos 16)) }
 {}
 
-/// Venus isn't in the block, which is said before it is seen from itself; the Sun seen from itself is said before its
+/// Venus is not in the block, which is reported before it is seen from itself; the Sun seen from itself is reported before its
 /// distance, which is negative.
 pub fn faults_in_their_order()
     ensures absent { fault_of moving_moon (of_one K.Radius Venus Venus (whole (neg_ℤ (pos 1))))
@@ -52,7 +52,7 @@ pub fn faults_in_their_order()
 {}
 
 /// The Earth needs the columns of the Earth-Moon barycentre and of the Moon. A kind asks nothing of numbers that it
-/// doesn't use, and a cosine may be 1.
+/// does not use, and a cosine may be 1.
 pub fn faults_by_kinds()
     ensures earth { fault_of moving_moon (of_one K.Apsis Moon Earth (whole (pos (2 ^ 36)))) ≡ None }
     ensures cosine { fault_of moving_moon

@@ -35,7 +35,7 @@ check_command = command_with (command_name Check) (files_rule ∷ [])
 unfoldable pub gen_command : App
 gen_command = command_with (command_name Gen) (map option_rule GEN_OPTIONS ++ map word_rule GEN_WORDS)
 
--- the command can't be read from the words, of which the first is its name
+-- the command cannot be read from the words, of which the first is its name
 unfoldable pub is_refused : App → List Text → Bool
 is_refused command words = not (is_empty (fault_of command words))
 

@@ -1,10 +1,9 @@
 -- Worked searches.
 use Rattle.std.specs.Prelude.{List, [], ◌∷◌, None, codes, pos}
 use Rattle.spec_ephemeris.specs.declared.body.Body.TheVariants.{Mercury, Ssb}
-use Rattle.spec_bodies.specs.declared.frame.Frame.TheVariants.{Eq}
-use Rattle.spec_events.specs.declared.dir.Dir.TheVariants.{Any}
 use Rattle.spec_trees.specs.declared.cuts.CutRule.TheVariants.{Half}
 use Rattle.spec_kinds.specs.declared.kind.Kind.TheVariants.{Coord}
+use Rattle.spec_kinds.specs.Examples.{of_one}
 use Rattle.spec_requests.specs.declared.request.FindAsk.{FindAsk}
 use Rattle.spec_requests.specs.Names.{Text}
 use Rattle.spec_requests.specs.Requests.{nought}
@@ -17,17 +16,7 @@ with_search words = codes "find" ∷ codes "--kind" ∷ codes "coord" ∷ codes 
 -- what it asks for of one file, with all that is left out
 abbrev pub search_in : Text → FindAsk
 search_in file = record {
-  ask = record {
-    kind = Coord;
-    target = Mercury;
-    second = None;
-    observer = Ssb;
-    frame = Eq;
-    axis = 0;
-    value1 = nought;
-    value2 = nought;
-    dir = Any;
-  };
+  ask = of_one Coord Mercury Ssb nought;
   values = codes "0";
   tick = 1;
   from = None;

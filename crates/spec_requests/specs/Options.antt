@@ -67,7 +67,7 @@ use_of _ kind = Optional
 
 -- ---- the first that is bad
 
--- the option is needed and has no word, isn't used and has one, or its word is not of this form
+-- the option is needed and has no word, is not used and has one, or its word is not of this form
 abbrev pub is_misread : {X : Type 0} → (Text → Option X) → Use → Option Text → Bool
 is_misread form usage None = is_needed usage
 is_misread form usage (Some word) = is_unused usage || not (is_some (form word))

@@ -1,4 +1,4 @@
--- What words ask for, or why they ask for nothing.
+-- What words ask for, or why they are no valid command line.
 use Rattle.std.specs.Prelude.{List, [], ◌∷◌, ◌++◌, Option, None, Some, Result, Ok, Err, if◌then◌else◌, find, codes, unwrap_or, option_and_then, pos}
 use Rattle.spec_text.specs.declared.decimals.Decimal.{Decimal}
 use Rattle.spec_ephemeris.specs.declared.body.Body.TheVariants.{Mercury, Ssb}
@@ -128,7 +128,7 @@ request_for (Some command.Find) words = find_request words
 request_for (Some command.Check) words = check_request words
 request_for (Some command.Gen) words = gen_request words
 
--- what the words ask for, or why they ask for nothing
+-- what the words ask for, or why they are no valid command line
 unfoldable pub request_of : List Text → Result Request WordFault
 request_of [] = Err NoCommand
 request_of (word ∷ words) = request_for (command_of word) (word ∷ words)

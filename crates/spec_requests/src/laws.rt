@@ -60,7 +60,7 @@ pub fn words_stand_for_one_thing()
         → word ≡ decimal tick }
 {}
 
-/// The order in which options are looked at: the first that is bad is the one whose fault is said. The words of `gen`
+/// The order in which options are looked at: the first that is bad is the one whose fault is reported. The words of `gen`
 /// come before its option.
 pub fn options_in_their_order()
     ensures find { FIND_OPTIONS ≡ opt.Kind ∷ opt.Target ∷ opt.Second ∷ opt.Observer ∷ opt.Frame

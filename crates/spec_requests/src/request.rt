@@ -76,7 +76,7 @@ pub enum Named {
     Seed,
 }
 
-/// Why words ask for nothing.
+/// Why a command line is invalid.
 #[derive(Clone, Copy, Debug, PartialEq, Eq, Error)]
 pub enum WordFault {
     /// Fault 60: there is no word.
@@ -85,13 +85,13 @@ pub enum WordFault {
     /// Fault 61: the first word is none of `find`, `check` and `gen`.
     #[error("the first word is no command")]
     UnknownCommand,
-    /// Fault 62: the words after it can't be read as options and files.
+    /// Fault 62: the words after it cannot be read as options and files.
     #[error("the words can't be read as options and files")]
     Words,
-    /// Fault 63: the option is needed and not there, isn't used and there, or its value is not of its form.
+    /// Fault 63: the option is needed and not there, is not used and there, or its value is not of its form.
     #[error("an option is missing, not used or not of its form")]
     BadValue(Named),
-    /// There was no memory.
+    /// Out of memory.
     #[error("out of memory")]
     Memory,
 }

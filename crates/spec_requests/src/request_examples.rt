@@ -33,9 +33,9 @@ pub fn searches_of_words()
         ≡ Ok (Find (search_in (codes "a"))) }
 {}
 
-/// Of two bad options the first is said: no target comes before a rule of cutting that there isn't. A coordinate is of one
-/// body, a date has to be in the calendar, and 64 workers are the most. A second has 1 or 1,000 ticks, and a time no fraction where
-/// it has one.
+/// Of two bad options the first is reported: no target comes before a rule of cutting that does not exist. A coordinate is
+/// of one body, a date has to be in the calendar, and 64 workers are the most. A second has 1 or 1,000 ticks, and a time
+/// no fraction where it has one.
 pub fn faults_of_searches()
     ensures first { request_of (codes "find" ∷ codes "--kind" ∷ codes "coord" ∷ codes "--cut" ∷ codes "x"
         ∷ codes "a" ∷ []) ≡ Err (BadValue opt.Target) }

@@ -18,14 +18,14 @@ impl Model for Text {
 }
 
 impl Text {
-    /// The text of a string. It takes no memory.
+    /// The text of a string. It does not allocate.
     pub fn new(string: String) -> Self
         ensures { result ≡ string_bytes string }
     {
         Text { string }
     }
 
-    /// The text as a string. It takes no memory.
+    /// The text as a string. It does not allocate.
     pub fn into_string(self) -> String
         ensures { string_bytes result ≡ self }
     {
@@ -55,14 +55,14 @@ impl Model for FileNames {
 }
 
 impl FileNames {
-    /// The names of a vector, in its order. It takes no memory.
+    /// The names of a vector, in its order. It does not allocate.
     pub fn new(names: Vec<String>) -> Self
         ensures { result ≡ map string_bytes names.items }
     {
         FileNames { names }
     }
 
-    /// The names as a vector, in their order. It takes no memory.
+    /// The names as a vector, in their order. It does not allocate.
     pub fn into_vec(self) -> Vec<String>
         ensures { map string_bytes result.items ≡ self }
     {

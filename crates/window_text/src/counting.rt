@@ -1,6 +1,6 @@
 // How many windows there are of each sort.
 ghost use Rattle.std.specs.Prelude.{◌≡◌};
-ghost use Rattle.spec_texts.specs.Report.{certain_count, undecided_count};
+ghost use Rattle.spec_output.specs.Report.{certain_count, undecided_count};
 
 use spec_trees::{Holds, Window};
 

@@ -1,9 +1,9 @@
-// Memory that runs out.
+// Out of memory.
 
 use std::alloc::AllocError;
 use thiserror::Error;
 
-/// Memory ran out.
+/// Out of memory.
 #[derive(Debug, Drop, Error)]
 #[error("out of memory")]
 pub struct Memory;

@@ -17,7 +17,7 @@ use spec_times::{MAX_TIME_DIGITS, TimeFault};
 /// of seconds, which is an optional `-` and 1 to 12 digits, or a calendar text `YYYY-MM-DDTHH:MM:SS`, in which a year
 /// below 0 has a `-` and six digits; where a second has 1,000 ticks, a point and three digits may end the calendar text.
 /// `NotTime` where the word has no such form or shows what no calendar and clock show, else `OutOfRange` where the time is
-/// not from Julian date 0 to Julian date 5,000,000. It takes no memory.
+/// not from Julian date 0 to Julian date 5,000,000. It does not allocate.
 pub fn read_time(word: &[u8], tick: u32) -> Result<i64, TimeFault>
     requires { IsTick tick }
     ensures { result ≡ tick_of tick word.now }

@@ -1,6 +1,6 @@
 // The texts of a search.
 ghost use Rattle.std.specs.Prelude.{◌≡◌, ◌++◌, All, IfOk, OnOk, string_bytes};
-ghost use Rattle.spec_texts.specs.Report.{HasTimes, axes_text, axis_of_kind, bodies_text, end_line, event_text, generation, generation_line, line_of, query_text, report, request_line, search_text, second_name, span_text, ticks_text, window_lines};
+ghost use Rattle.spec_output.specs.Report.{HasTimes, axes_text, axis_of_kind, bodies_text, end_line, event_text, generation, generation_line, line_of, query_text, report, request_line, search_text, second_name, span_text, ticks_text, window_lines};
 ghost use Rattle.spec_ephemeris.specs.Ticks.{IsTick};
 ghost use Rattle.spec_times.specs.Ticks.{IsTimeIn};
 

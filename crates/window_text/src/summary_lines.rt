@@ -1,7 +1,7 @@
 // What is printed of an ephemeris.
 ghost use Rattle.std.specs.Prelude.{◌≡◌, ◌<◌, ◌++◌, None, IfOk, OnOk, string_bytes};
 ghost use Rattle.spec_ephemeris.specs.Ephemeris.{end_of};
-ghost use Rattle.spec_texts.specs.Summary.{column_line, column_lines, column_name, ephemeris_line, line_if_present, name_of_column, sizes_of, span_of, summary};
+ghost use Rattle.spec_output.specs.Summary.{column_line, column_lines, column_name, ephemeris_line, line_if_present, name_of_column, sizes_of, span_of, summary};
 ghost use Rattle.spec_times.specs.Calendar.{time_text};
 ghost use Rattle.spec_times.specs.TimeWords.{IsTime};
 
@@ -10,12 +10,12 @@ use crate::pieces::{add_last_number, add_number, add_pair, add_signed_number};
 use crate::printing::add_time;
 use eph_model::Ephemeris;
 use spec_ephemeris::{Column, MAX_COLUMNS, NUTATIONS, READ_COLUMNS};
+use spec_output::COLUMN_BODIES;
 use spec_requests::body_name;
-use spec_texts::COLUMN_BODIES;
 use std::alloc::{AllocError, Global};
 
-/// What an ephemeris that counts seconds holds: its start and end as calendar texts, the seconds of a block, the number of blocks and
-/// NCOEFF, and a line for each column that is present.
+/// What an ephemeris that counts seconds holds: its start and end as calendar texts, the seconds of a block, the number of
+/// blocks and NCOEFF, and a line for each column that is present.
 pub fn summary(alloc: Global, ephemeris: &Ephemeris) -> Result<Vec<u8>, Memory>
     requires start { IsTime ephemeris.now.start }
     requires end { IsTime (end_of ephemeris.now) }

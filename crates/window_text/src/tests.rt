@@ -3,7 +3,7 @@ ghost use Rattle.std.specs.Prelude.{◌≡◌, All, IfOk};
 ghost use Rattle.spec_ephemeris.specs.Ticks.{IsTick};
 ghost use Rattle.spec_ephemeris.specs.Header.{IsHeader};
 ghost use Rattle.spec_ephemeris.specs.Ephemeris.{IsBodyNumber};
-ghost use Rattle.spec_texts.specs.Report.{HasTimes};
+ghost use Rattle.spec_output.specs.Report.{HasTimes};
 
 use crate::*;
 use eph_model::Ephemeris;

@@ -6,7 +6,7 @@ use Rattle.gf_find.proofs.Times.{end_counted, start_counted}
 use Rattle.gf_find.proofs.answer.find_in_files.Goals as goal
 
 pub in_ticks-counted-requires-clause-seconds : goal.in_ticks-counted-requires-clause-seconds
-in_ticks-counted-requires-clause-seconds g c κs lives = in_seconds _ _ _ c.in_ok-ephemeris.ensures.accepted
+in_ticks-counted-requires-clause-seconds g c = in_seconds _ _ _ c.in_ok-ephemeris.ensures.accepted
 
 pub report_of-requires-clause-block : goal.report_of-requires-clause-block
 report_of-requires-clause-block g c κs lives = rw c.in_ticks-counted.ensures (has_block _ _ _ c.in_ok-ephemeris.ensures.accepted)

@@ -4,7 +4,7 @@ use Rattle.std.specs.Prelude.{Vec}
 use Rattle.std.specs.declared.alloc.Global.{Global}
 use Rattle.spec_sections.proofs.Holding.{holds_also}
 use Rattle.spec_trees.specs.declared.window.Window.{Window}
-use Rattle.spec_texts.specs.Report.{generation}
+use Rattle.spec_output.specs.Report.{generation}
 use Rattle.gf_find.specs.declared.query.Span.{Span}
 use Rattle.gf_find.specs.Queries.{IsQuery, is_within}
 use Rattle.gf_find.specs.declared.refusal.Refusal.{Refusal}

@@ -1,7 +1,7 @@
 use Rattle.std.proofs.Common.{◌≡◌, ◌++◌, Option, append-nil, subst, sym}
 use Rattle.std.specs.Result.{OnOk}
 use Rattle.spec_faults.specs.Faults.{Kind}
-use Rattle.spec_reports.specs.Messages.{kind_title, title}
+use Rattle.spec_output.specs.Messages.{kind_title, title}
 use Rattle.gf_find.proofs.messages.add_title.Goals as goal
 
 pub returns-in-Some : goal.returns-in-Some

@@ -1,5 +1,5 @@
 use Rattle.std.proofs.Common.{sym}
-use Rattle.spec_reports.proofs.Literals.{leaves_line}
+use Rattle.spec_output.proofs.Literals.{leaves_line}
 use Rattle.gf_find.proofs.messages.leaves_line.Goals as goal
 
 pub returns : goal.returns

@@ -7,7 +7,7 @@ use Rattle.spec_trees.specs.Tree.{IsValid, leaf_count, leaves}
 use Rattle.spec_trees.specs.Windows.{windows}
 use Rattle.spec_searches.specs.Search.{Search}
 use Rattle.spec_searches.specs.Found.{rules}
-use Rattle.spec_reports.specs.declared.limits.TheConstants.{MAX_LEAVES}
+use Rattle.spec_output.specs.declared.limits.TheConstants.{MAX_LEAVES}
 use Rattle.gf_find.specs.declared.refusal.Refusal.{Refusal}
 use Rattle.gf_find.specs.declared.refusal.Refusal.TheVariants.{Memory, TooManyLeaves}
 use Rattle.gf_find.specs.Queries.{search}

@@ -1,6 +1,6 @@
 use Rattle.std.proofs.Common.{◌∙◌, inl, inr, List, ℕ, subst, sym}
 use Rattle.std.specs.Io.KnownBytes.{Appends}
-use Rattle.spec_reports.specs.Writing.{AppendsPart}
+use Rattle.spec_output.specs.Writing.{AppendsPart}
 use Rattle.gf_find.proofs.Answered.{cause_is, checks, outcome_is, finds, generates, not_reported, not_unwritten, refused_exactly, refused_only, text_not_refused}
 use Rattle.gf_find.proofs.top.finder.Goals as goal
 

@@ -1,5 +1,5 @@
 use Rattle.std.proofs.Common.{◌≡◌, take}
-use Rattle.spec_texts.specs.Report.{certain_count}
+use Rattle.spec_output.specs.Report.{certain_count}
 use Rattle.window_text.proofs.counting.certain_count.Given as goal
 
 abbrev pub invariant-loop-window : goal.invariant-loop-window

@@ -1,5 +1,5 @@
 use Rattle.std.proofs.Common.{◌≡◌, take}
-use Rattle.spec_texts.specs.Report.{undecided_count}
+use Rattle.spec_output.specs.Report.{undecided_count}
 use Rattle.window_text.proofs.counting.undecided_count.Given as goal
 
 abbrev pub invariant-loop-window : goal.invariant-loop-window

@@ -1,5 +1,5 @@
 use Rattle.std.proofs.Common.{◌++◌, codes, to_z-of_z}
-use Rattle.spec_texts.specs.Report.{query_text, span_text}
+use Rattle.spec_output.specs.Report.{query_text, span_text}
 use Rattle.window_text.proofs.Appended.{two_pieces}
 use Rattle.window_text.proofs.report_lines.add_request_line.Goals as goal
 

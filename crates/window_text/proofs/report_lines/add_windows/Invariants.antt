@@ -1,5 +1,5 @@
 use Rattle.std.proofs.Common.{◌≡◌, ◌++◌, take, string_bytes}
-use Rattle.spec_texts.specs.Report.{window_lines}
+use Rattle.spec_output.specs.Report.{window_lines}
 use Rattle.window_text.proofs.report_lines.add_windows.Given as goal
 
 abbrev pub invariant-loop-window : goal.invariant-loop-window

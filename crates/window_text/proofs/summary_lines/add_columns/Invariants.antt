@@ -1,5 +1,5 @@
 use Rattle.std.proofs.Common.{◌≡◌, ◌+◌, ◌++◌, drop, string_bytes}
-use Rattle.spec_texts.specs.Summary.{column_lines}
+use Rattle.spec_output.specs.Summary.{column_lines}
 use Rattle.window_text.proofs.summary_lines.add_columns.Given as goal
 
 -- with the lines of the columns that are left, the text is whole

@@ -1,8 +1,8 @@
 use Rattle.std.proofs.Common.{◌≡◌, ◌-◌, ◌<◌, ap, sym, ◌∙◌, get_or, length, Option, Some, slice_get, refl, rules}
 use Rattle.std.proofs.lemmas.Option.{slice_get_read}
 use Rattle.spec_ephemeris.specs.declared.body.Body.{Body}
-use Rattle.spec_texts.specs.declared.columns.TheConstants.{COLUMN_BODIES}
-use Rattle.spec_texts.specs.Summary.{name_of_column}
+use Rattle.spec_output.specs.declared.columns.TheConstants.{COLUMN_BODIES}
+use Rattle.spec_output.specs.Summary.{name_of_column}
 use Rattle.window_text.proofs.summary_lines.column_name.Goals as goal
 
 pub returns-in-Some : goal.returns-in-Some

@@ -1,5 +1,5 @@
 use Rattle.std.specs.Prelude.{All}
-use Rattle.spec_texts.specs.Report.{HasTimes}
+use Rattle.spec_output.specs.Report.{HasTimes}
 use Rattle.window_text.proofs.tests.many_windows.Given as goal
 
 -- all windows so far have times

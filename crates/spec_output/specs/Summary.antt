@@ -8,7 +8,7 @@ use Rattle.spec_ephemeris.specs.Ephemeris.{Ephemeris, end_of}
 use Rattle.spec_ephemeris.specs.Header.{is_present}
 use Rattle.spec_requests.specs.Names.{body_name}
 use Rattle.spec_times.specs.Calendar.{time_text}
-use Rattle.spec_texts.specs.declared.columns.TheConstants.{COLUMN_BODIES}
+use Rattle.spec_output.specs.declared.columns.TheConstants.{COLUMN_BODIES}
 
 abbrev pub span_of : Ephemeris → List ℕ
 span_of e = codes "CHECK start " ++ time_text e.start ++ (codes " end " ++ time_text (end_of e))

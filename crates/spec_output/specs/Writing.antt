@@ -3,7 +3,7 @@ use Rattle.std.specs.Prelude.{ℕ, ◌<◌, ◌≤◌, List, length, take, Optio
 use Rattle.std.specs.Io.KnownBytes.{Appends}
 use Rattle.gf_edges.specs.Edges.{Rose}
 
--- known bytes grow by a prefix of the text that isn't all of it
+-- known bytes grow by a prefix of the text that is not all of it
 abbrev pub AppendsPart : Option (List ℕ) → Option (List ℕ) → List ℕ → Type 0
 AppendsPart old new text = (k : ℕ) × (k < length text) × Appends old new (take k text)
 

@@ -5,8 +5,8 @@ ghost use Rattle.spec_ephemeris.specs.declared.body.Body.TheVariants.{Venus};
 ghost use Rattle.spec_kinds.specs.declared.kind.Kind.TheVariants.{Apsis, Coord};
 ghost use Rattle.spec_trees.specs.declared.tree.Turn.TheVariants.{Fall, Rise};
 ghost use Rattle.spec_trees.specs.declared.window.Holds.TheVariants.{Certain, Undecided};
-ghost use Rattle.spec_texts.specs.Report.{axis_of_kind, end_line, second_name, ticks_text};
-ghost use Rattle.spec_texts.specs.Summary.{column_lines, column_name};
+ghost use Rattle.spec_output.specs.Report.{axis_of_kind, end_line, second_name, ticks_text};
+ghost use Rattle.spec_output.specs.Summary.{column_lines, column_name};
 
 /// Only a coordinate has an axis, and only kinds of two bodies have a second body.
 pub fn dashes_stand_for_nothing()

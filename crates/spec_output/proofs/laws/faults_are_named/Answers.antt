@@ -1,7 +1,7 @@
 use Rattle.std.proofs.Common.{refl}
 use Rattle.spec_faults.specs.Faults.{fault_kind}
-use Rattle.spec_reports.specs.Messages.{title}
-use Rattle.spec_reports.proofs.laws.faults_are_named.Goals as goal
+use Rattle.spec_output.specs.Messages.{title}
+use Rattle.spec_output.proofs.laws.faults_are_named.Goals as goal
 
 pub returns-clause-name : goal.returns-clause-name
 unfolding title fault_kind

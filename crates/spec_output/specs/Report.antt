@@ -15,7 +15,7 @@ use Rattle.spec_times.specs.Ticks.{IsTimeIn, tick_text}
 
 -- ---- the request
 
--- what isn't there is printed so
+-- what is not there is printed so
 abbrev pub dash : List ℕ
 dash = codes "-"
 

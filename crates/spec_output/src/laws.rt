@@ -1,8 +1,8 @@
 // What the definitions of texts say of small cases.
 ghost use Rattle.std.specs.Prelude.{◌≡◌, [], ◌∷◌, ◌++◌, None, Some, codes};
 ghost use Rattle.std.specs.Fmt.{decimal};
-ghost use Rattle.spec_reports.specs.Messages.{event_text, leaves_text, title, words_text};
-ghost use Rattle.spec_reports.specs.Writing.{AppendsPart};
+ghost use Rattle.spec_output.specs.Messages.{event_text, leaves_text, title, words_text};
+ghost use Rattle.spec_output.specs.Writing.{AppendsPart};
 
 /// A fault is printed by its name, some with a detail. A number without a row in the table has no name.
 pub fn faults_are_named()
@@ -19,7 +19,7 @@ pub fn the_lines_of_words()
         ≡ codes "finder: words: 63 BadValue width\n" }
 {}
 
-/// The lines of events that can't be searched for.
+/// The lines of events that cannot be searched for.
 pub fn the_lines_of_events()
     ensures absent { event_text 50 ≡ codes "finder: event: 50 BodyAbsent\n" }
     ensures same { event_text 51 ≡ codes "finder: event: 51 SameBody\n" }
@@ -31,7 +31,7 @@ pub fn the_line_of_leaves()
     ensures { leaves_text ≡ codes "finder: more than 33554432 leaves\n" }
 {}
 
-/// A sink that fails holds a prefix of the text, which isn't all of it.
+/// A sink that fails holds a prefix of the text, which is not all of it.
 pub fn texts_are_written()
     ensures prefix { AppendsPart (Some (1 ∷ [])) (Some (1 ∷ 2 ∷ [])) (2 ∷ 3 ∷ []) }
     ensures nothing { AppendsPart (Some (1 ∷ [])) (Some (1 ∷ [])) (2 ∷ 3 ∷ []) }

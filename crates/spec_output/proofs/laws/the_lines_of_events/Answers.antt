@@ -1,5 +1,5 @@
-use Rattle.spec_reports.proofs.Literals.{absent_line, same_line, reference_line}
-use Rattle.spec_reports.proofs.laws.the_lines_of_events.Goals as goal
+use Rattle.spec_output.proofs.Literals.{absent_line, same_line, reference_line}
+use Rattle.spec_output.proofs.laws.the_lines_of_events.Goals as goal
 
 pub returns-clause-absent : goal.returns-clause-absent
 returns-clause-absent c = absent_line

@@ -3,7 +3,7 @@ use Rattle.std.specs.Prelude.{ℕ, ℤ, List, [], ◌++◌, Bool, true, false, c
 use Rattle.std.specs.Fmt.{decimal, signed_decimal}
 use Rattle.spec_text.specs.declared.decimals.Fault.{Fault}
 use Rattle.spec_faults.specs.Faults.{Kind, fault_kind}
-use Rattle.spec_reports.specs.declared.limits.TheConstants.{MAX_LEAVES}
+use Rattle.spec_output.specs.declared.limits.TheConstants.{MAX_LEAVES}
 
 abbrev pub detail_text : Bool → ℕ → List ℕ
 detail_text false detail = []
@@ -43,7 +43,7 @@ place_text name line = codes "finder: file " ++ name ++ codes " line " ++ (decim
 abbrev pub file_text : List ℕ → Fault → List ℕ
 file_text name fault = place_text name fault.line ++ fault_text fault.number fault.detail ++ codes "\n"
 
--- the file of this name couldn't be read
+-- the file of this name could not be read
 abbrev pub read_text : List ℕ → List ℕ
 read_text name = codes "finder: read fault " ++ name ++ codes "\n"
 
@@ -51,11 +51,11 @@ read_text name = codes "finder: read fault " ++ name ++ codes "\n"
 abbrev pub times : ℤ → ℤ → List ℕ
 times first last = signed_decimal first ++ codes " " ++ signed_decimal last
 
--- a span doesn't lie within the files, which begin and end at these times
+-- a span does not lie within the files, which begin and end at these times
 abbrev pub outside_text : ℤ → ℤ → ℤ → ℤ → List ℕ
 outside_text from upto start end = codes "finder: span: " ++ (times from upto ++ codes " not within ") ++ (times start end ++ codes "\n")
 
--- the event can't be searched for, for the cause of this number
+-- the event cannot be searched for, for the cause of this number
 abbrev pub event_text : ℕ → List ℕ
 event_text number = codes "finder: event: " ++ fault_text number 0 ++ codes "\n"
 

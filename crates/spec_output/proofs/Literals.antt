@@ -4,7 +4,7 @@ use Rattle.std.proofs.lemmas.Fmt.{decimal_digit, decimal_step}
 use Rattle.std.specs.Prelude.{codes}
 use Rattle.std.specs.Fmt.{decimal}
 use Rattle.spec_faults.specs.Faults.{fault_kind}
-use Rattle.spec_reports.specs.Messages.{event_text, leaves_text, title, words_text}
+use Rattle.spec_output.specs.Messages.{event_text, leaves_text, title, words_text}
 
 -- a number whose digits but the last are known
 number : (n : ℕ) (tens : List ℕ) → 10 ≤ n → n < 2 ^ 64 → decimal (n / 10) ≡ tens → decimal n ≡ tens ++ ((48 + n % 10) ∷ [])

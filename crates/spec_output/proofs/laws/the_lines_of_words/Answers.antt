@@ -1,5 +1,5 @@
-use Rattle.spec_reports.proofs.Literals.{no_word_line, option_line}
-use Rattle.spec_reports.proofs.laws.the_lines_of_words.Goals as goal
+use Rattle.spec_output.proofs.Literals.{no_word_line, option_line}
+use Rattle.spec_output.proofs.laws.the_lines_of_words.Goals as goal
 
 pub returns-clause-no_word : goal.returns-clause-no_word
 returns-clause-no_word c = no_word_line

@@ -1,0 +1,5 @@
+pub mod Report
+pub mod Summary
+pub mod Messages
+pub mod Writing
+pub mod Runs

@@ -1,0 +1,20 @@
+//! What the program writes: the definitions that contracts cite, as lists of bytes. A request, its span and its windows
+//! come in, or an ephemeris, or a fault; the bytes of a report, of a summary or of the line of a refusal go out, and what
+//! a sink takes of a text. Times are ticks since J2000 in TDB, printed as calendar texts, and those of an ephemeris are
+//! seconds.
+#![tactic(auto)]
+
+mod columns;
+mod examples;
+mod laws;
+mod limits;
+
+pub use columns::COLUMN_BODIES;
+pub use examples::{
+    columns_have_names, dashes_stand_for_nothing, ticks_are_printed, windows_are_counted,
+};
+pub use laws::{
+    faults_are_named, texts_are_written, the_line_of_leaves, the_lines_of_events,
+    the_lines_of_words,
+};
+pub use limits::MAX_LEAVES;

@@ -100,7 +100,8 @@ def compare(seconds, milliseconds):
     for window, ways in zip(coarse, held):
         if window[2] is None:
             continue
-        if any(way not in (None, window[2]) for way in ways) or not ways or (None not in ways and len(ways) != 1):
+        known = [way for way in ways if way is not None]
+        if not ways or any(way != window[2] for way in known) or len(known) == len(ways) != 1:
             raise Differs(f"{window} in seconds holds {ways} in milliseconds")
 
 
@@ -139,6 +140,8 @@ def compare_searches(program, file, kind, number):
             made += 1
             windows += len(ways)
             certain += sum(way is not None for way in ways)
+    if certain == 0:
+        raise Differs("no search found an event")
     return made, windows, certain
 
 

@@ -209,7 +209,7 @@ def main(program, nodes, file, spans_of_a_length):
         seconds, milliseconds = (count(program, nodes, file, kind, tick) for tick in (1, 1000))
         return f"in seconds {seconds}; in milliseconds {milliseconds}"
 
-    differing = each(SEARCHES, compared) + each(COUNTED, counted)
+    differing = each(SEARCHES, compared) or each(COUNTED, counted)
     print(f"ticks: {differing} differ")
     return 1 if differing else 0
 

@@ -84,23 +84,33 @@ def search(program, file, words, tick):
     return span, windows
 
 
-def compare(seconds, milliseconds):
-    """Raises where a window in milliseconds lies in none in seconds, or one in seconds does not hold what it says."""
+def place_of(window, coarse):
+    """Which of the windows in seconds holds one in milliseconds."""
+    for place, (first, last, _) in enumerate(coarse):
+        if 1000 * (first - 1) < window[0] and window[1] <= 1000 * last:
+            return place
+    return None
+
+
+def compare(seconds, milliseconds, in_any_direction):
+    """Raises where a window in milliseconds lies in none in seconds, or one in seconds does not hold what it says. An
+    undecided one may be of an event in the other direction, which the search in seconds knows and leaves out."""
     (from_second, to_second), coarse = seconds
     span, fine = milliseconds
     if span != (1000 * from_second, 1000 * to_second):
         raise Differs(f"the spans differ: {span}")
     held = [[] for _ in coarse]
     for window in fine:
-        places = [i for i, (first, last, _) in enumerate(coarse)
-                  if 1000 * (first - 1) < window[0] and window[1] <= 1000 * last]
-        if not places:
+        place = place_of(window, coarse)
+        if place is not None:
+            held[place].append(window[2])
+        elif window[2] is not None or place_of(window, in_any_direction) is None:
             raise Differs(f"{window} in milliseconds lies in no window in seconds")
-        held[places[0]].append(window[2])
     for window, ways in zip(coarse, held):
         if window[2] is None:
             continue
-        if any(way not in (None, window[2]) for way in ways) or not ways or (None not in ways and len(ways) != 1):
+        known = [way for way in ways if way is not None]
+        if not ways or any(way != window[2] for way in known) or len(known) == len(ways) != 1:
             raise Differs(f"{window} in seconds holds {ways} in milliseconds")
 
 
@@ -139,6 +149,8 @@ def compare_searches(program, file, kind, number):
             made += 1
             windows += len(ways)
             certain += sum(way is not None for way in ways)
+    if certain == 0:
+        raise Differs("no search found an event")
     return made, windows, certain
 
 
@@ -146,7 +158,8 @@ def compare_search(program, file, words):
     """A search at both ticks: the directions of its windows in milliseconds."""
     try:
         milliseconds = search(program, file, words, 1000)
-        compare(search(program, file, words, 1), milliseconds)
+        in_any_direction = search(program, file, [word for word in words if not word.startswith("--dir")], 1)
+        compare(search(program, file, words, 1), milliseconds, in_any_direction[1])
     except Differs as differs:
         raise Differs(f"find {' '.join(words)}: {differs}") from None
     return [way for _, _, way in milliseconds[1]]
@@ -196,7 +209,7 @@ def main(program, nodes, file, spans_of_a_length):
         seconds, milliseconds = (count(program, nodes, file, kind, tick) for tick in (1, 1000))
         return f"in seconds {seconds}; in milliseconds {milliseconds}"
 
-    differing = each(SEARCHES, compared) + each(COUNTED, counted)
+    differing = each(SEARCHES, compared) or each(COUNTED, counted)
     print(f"ticks: {differing} differ")
     return 1 if differing else 0
 

@@ -1,0 +1,10 @@
+pub mod Ratios
+pub mod Space
+pub mod Scenes
+pub mod Polynomials
+pub mod Events
+pub mod Rays
+pub mod Angles
+pub mod Frames
+pub mod Derivatives
+pub mod Examples

@@ -16,3 +16,5 @@ pub mod Frames
 pub mod Derivatives
 pub mod Cosines
 pub mod Rates
+pub mod Roots
+pub mod Edges

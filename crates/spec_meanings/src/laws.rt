@@ -111,24 +111,24 @@ pub fn overlaps()
         ↔ SomeRayMeetsBoth s.target r s.second q }
 {}
 
-/// Occultations of the kind `full`, for an observer outside both spheres: where the function is at least 0, and the disc
-/// of the target is no smaller, each ray that meets the second body meets the target.
+/// Occultations of the kind `full`, for an observer outside both spheres: the function is at least 0, and the disc of the
+/// target is no smaller, exactly where each ray that meets the second body meets the target.
 pub fn full_occultations()
     ensures { (exact : Leaf → ℤ → Fraction) (t : ℤ) (s : Scene) → Shows exact t s
         → (axis : ℕ) (front back : Decimal) (r q : ℤ) → IsLong s front r → IsLong s back q
         → IsSphere s.target r → IsSphere s.second q
-        → IsNotNegative (exact_of exact (kind_function K.Full axis front back)) t
-        → IsNoSmaller s.target r s.second q → Covers s.target r s.second q }
+        → (IsNotNegative (exact_of exact (kind_function K.Full axis front back)) t
+        × IsNoSmaller s.target r s.second q) ↔ Covers s.target r s.second q }
 {}
 
-/// Occultations of the kind `annular`, for an observer outside both spheres: where the function is at least 0, and the
-/// disc of the second body is no smaller, each ray that meets the target meets the second body.
+/// Occultations of the kind `annular`, for an observer outside both spheres: the function is at least 0, and the disc of
+/// the second body is no smaller, exactly where each ray that meets the target meets the second body.
 pub fn annular_occultations()
     ensures { (exact : Leaf → ℤ → Fraction) (t : ℤ) (s : Scene) → Shows exact t s
         → (axis : ℕ) (front back : Decimal) (r q : ℤ) → IsLong s front r → IsLong s back q
         → IsSphere s.target r → IsSphere s.second q
-        → IsNotNegative (exact_of exact (kind_function K.Annular axis front back)) t
-        → IsNoSmaller s.second q s.target r → Covers s.second q s.target r }
+        → (IsNotNegative (exact_of exact (kind_function K.Annular axis front back)) t
+        × IsNoSmaller s.second q s.target r) ↔ Covers s.second q s.target r }
 {}
 
 /// The axes of the ecliptic are x, and y and z turned: the squares of y and z together grow by the factor c^2 + s^2, c and

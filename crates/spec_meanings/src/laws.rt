@@ -1,6 +1,6 @@
 // What the kinds of events mean: each law is the contract of a function with nothing to do.
 
-ghost use Rattle.std.specs.Prelude.{◌≡◌, ℕ, ◌*◌, ◌^◌, ◌<◌, ◌≤◌, ℤ, pos, ◌+ℤ◌, ◌-ℤ◌, ◌*ℤ◌, ◌≤ℤ◌, ◌<ℤ◌, ◌↔◌, unsigned_abs};
+ghost use Rattle.std.specs.Prelude.{◌≡◌, [], ℕ, ◌*◌, ◌^◌, ◌<◌, ◌≤◌, ℤ, pos, ◌+ℤ◌, ◌-ℤ◌, ◌*ℤ◌, ◌≤ℤ◌, ◌<ℤ◌, ◌↔◌, unsigned_abs};
 ghost use Rattle.spec_text.specs.declared.decimals.Decimal.{Decimal};
 ghost use Rattle.spec_intervals.specs.Fraction.{Fraction, IsFraction};
 ghost use Rattle.spec_chebyshev.specs.Polynomials.{cleared_t};
@@ -99,6 +99,16 @@ pub fn conditions_of_occultations()
         → (front back : Decimal) (r q : ℤ) → IsLong s front r → IsLong s back q
         → Hold exact (kind_conditions K.Annular front back) t
         ↔ (IsNoFarther s.target s.second × IsSmaller s.target r s.second q) }
+{}
+
+/// The other kinds have no condition: each turn of their function is an event.
+pub fn kinds_without_conditions()
+    ensures coordinate { (one other : Decimal) → kind_conditions K.Coord one other ≡ [] }
+    ensures radius { (one other : Decimal) → kind_conditions K.Radius one other ≡ [] }
+    ensures apsis { (one other : Decimal) → kind_conditions K.Apsis one other ≡ [] }
+    ensures station { (one other : Decimal) → kind_conditions K.Station one other ≡ [] }
+    ensures separation { (one other : Decimal) → kind_conditions K.Sep one other ≡ [] }
+    ensures separation_extreme { (one other : Decimal) → kind_conditions K.SepExt one other ≡ [] }
 {}
 
 /// Occultations of the kind `any`, for an observer outside both spheres: the function is at least 0 exactly where some ray

@@ -12,7 +12,8 @@ use event_kinds::Event;
 use gf_hooks::CutRule;
 use std::marker::Model;
 
-/// A search for an event of two bodies over the times of an ephemeris, in its units of TDB since J2000: seconds, or ticks.
+/// A search for an event of two bodies over the times of an ephemeris, in its units of TDB since J2000: seconds, or
+/// ticks.
 #[derive(Drop)]
 pub struct EventSearch<'e> {
     states: BodyStates<'e>,
@@ -54,8 +55,8 @@ impl<'e> Model for EventSearch<'e> {
 }
 
 impl<'e> EventSearch<'e> {
-    /// The search for an event of the two targets of the states, which read this ephemeris, where nodes are split down to
-    /// the width and to the depth, and are cut by the rule.
+    /// The search for an event of the two targets of the states, which read this ephemeris, where nodes are split down
+    /// to the width and to the depth, and are cut by the rule.
     pub(crate) fn new(
         states: BodyStates<'e>,
         ephemeris: &'e Ephemeris,
@@ -137,8 +138,8 @@ impl<'e> EventSearch<'e> {
         self.width
     }
 
-    /// What is known of it by its parts: the states read a checked ephemeris, the event has formulas, and the width is at
-    /// least 1. Nothing is done.
+    /// What is known of it by its parts: the states read a checked ephemeris, the event has formulas, and the width is
+    /// at least 1. Nothing is done.
     #[inline(always)]
     pub(crate) fn is_search(&self)
         ensures { IsSearch self.now }

@@ -17,11 +17,11 @@ use body_states::BodyStates;
 use eph_model::Ephemeris;
 use event_kinds::Event;
 use gf_hooks::Cutter;
-use halving::{Judge, Node, Verdict};
+use tree_judge::{Judge, Node, Verdict};
 
 impl<'e> EventJudge<'e> {
-    /// The judge of the search for an event of the two targets of the states, which read this ephemeris. Nodes are split
-    /// down to the width and to the depth, and are cut by the cutter.
+    /// The judge of the search for an event of the two targets of the states, which read this ephemeris. Nodes are
+    /// split down to the width and to the depth, and are cut by the cutter.
     pub fn new(
         states: BodyStates<'e>,
         eph: &'e Ephemeris,
@@ -49,8 +49,8 @@ impl<'e> EventJudge<'e> {
 }
 
 impl<'e> EventJudge<'e> {
-    /// Whether a valid node may be cut, whatever its verdict: it is wider than one unit of time, and a border falls into it
-    /// or it is not as deep as the depth of the search.
+    /// Whether a valid node may be cut, whatever its verdict: it is wider than one unit of time, and a border falls
+    /// into it or it is not as deep as the depth of the search.
     pub fn may_be_cut(&self, node: Node) -> bool
         requires { IsValid (rules self.now.search) node }
         ensures { result ≡ may_be_cut self.now.search node }
@@ -75,8 +75,8 @@ impl<'e> EventJudge<'e> {
         .parts(&self.cutter)
     }
 
-    /// What a search is holds for this one: its rules are sound, a node that is split may be cut, and the parts of a valid
-    /// node that may be cut are valid and cut it. Nothing is done.
+    /// What a search is holds for this one: its rules are sound, a node that is split may be cut, and the parts of a
+    /// valid node that may be cut are valid and cut it. Nothing is done.
     pub fn nodes_may_be_cut(&self)
         ensures search { IsSearch self.now.search }
         ensures sound { IsSound (rules self.now.search) }

@@ -10,8 +10,8 @@ use crate::conditions::{are_certified, is_one_refuted};
 use crate::signs::{differ, has_no_turn, is_one_way, is_turnless, turn_to};
 use crate::valid_node::ValidNode;
 use body_states::Snapshot;
-use halving::Verdict;
 use ival_core::{Enclosure, Sign};
+use tree_judge::Verdict;
 
 impl<'s, 'e> ValidNode<'s, 'e> {
     /// The border of the columns in use in the node, the nearest to its middle.
@@ -157,7 +157,8 @@ impl<'s, 'e> ValidNode<'s, 'e> {
         }
     }
 
-    // The verdict by the signs at the ends, by which the turns between them are known, with the conditions over some times.
+    // The verdict by the signs at the ends, by which the turns between them are known, with the conditions over some
+    // times.
     #[inline(always)]
     fn end_verdict(self, states: &Snapshot, first: Sign, last: Sign) -> Verdict
         ensures { result ≡ end_verdict (criteria self.entry.search.now) self.entry.node

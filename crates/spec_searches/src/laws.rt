@@ -63,7 +63,7 @@ pub fn windows_of_any_leaves()
 pub fn leaves_are_rightly_marked()
     ensures { (s : Search) (n : Node) → IsSearch s → IsValid (rules s) n
         → AreRightlyMarked (events s) (IsLeftUndecided s (leaves (rules s) n))
-            (leaves (rules s) n) }
+        (leaves (rules s) n) }
 {}
 
 /// The windows that a search finds in a span are those of its events: they lie in the span in order, hold every event,

@@ -94,6 +94,7 @@ impl<'e> Judge for EventJudge<'e> {
 
     /// The verdict of a valid node: by enclosures alone, and true of the events.
     fn judge(&self, node: Node) -> Verdict
+        requires { IsValid (rules self.now.search) node }
         ensures verdict { result ≡ verdict_of self.now.search node }
         // A clear node holds no event, and one with one turn exactly one event, a turn in its direction.
         ensures clear { result ≡ Clear → HasNoEvent (events self.now.search) node.a node.b }

@@ -1,4 +1,4 @@
 mod Digits
 mod Placing
 mod Walking
-mod Windows
+mod Outcomes

@@ -10,7 +10,7 @@ use Rattle.spec_certificates.proofs.Sound.{are_certified}
 use Rattle.gf_cert.specs.Answers.{Fails, Gives}
 use Rattle.gf_cert.specs.Search.{cutting}
 use Rattle.gf_cert.proofs.Placing.{is_cutting}
-use Rattle.gf_cert.proofs.Windows.{checked_by, if_given, stopped_by}
+use Rattle.gf_cert.proofs.Outcomes.{checked_by, if_given, stopped_by}
 use Rattle.spec_searches.proofs.Finding.{windows_of_leaves}
 use Rattle.gf_cert.proofs.checking.check_cert.Goals as goal
 

@@ -1,4 +1,4 @@
--- What the leaves of a text that breaks no rule mean.
+-- What a whole text comes to, by what comes of its first line.
 use Rattle.std.proofs.Common.{◌≡◌, ◌+◌, ℕ, List, [], ◌∷◌, length, Result, Ok, Err, sym, ◌∙◌}
 use Rattle.std.specs.Prelude.{IfOk}
 use Rattle.spec_text.specs.Lines.{Numbered, lines, text_lines, tokens}

@@ -9,3 +9,6 @@ mod writing;
 
 pub use spec_trees::Leaf;
 pub use writing::certificate;
+
+#[cfg(test)]
+mod tests;

@@ -2,6 +2,7 @@
 ghost use Rattle.std.specs.Prelude.{◌≡◌, [], ◌∷◌, ◌++◌, None, Some, codes};
 ghost use Rattle.std.specs.Fmt.{decimal};
 ghost use Rattle.spec_output.specs.Messages.{event_text, leaves_text, title, words_text};
+ghost use Rattle.spec_output.specs.declared.limits.TheConstants.{MAX_LEAVES};
 ghost use Rattle.spec_output.specs.Writing.{AppendsPart};
 
 /// A fault is printed by its name, some with a detail. A number without a row in the table has no name.
@@ -26,9 +27,10 @@ pub fn the_lines_of_events()
     ensures reference { event_text 52 ≡ codes "finder: event: 52 ReferenceRange\n" }
 {}
 
-/// The line of a search that has too many leaves.
-pub fn the_line_of_leaves()
-    ensures { leaves_text ≡ codes "finder: more than 33554432 leaves\n" }
+/// The lines of a search that has too many leaves for its windows, or for its certificate.
+pub fn the_lines_of_leaves()
+    ensures windows { leaves_text MAX_LEAVES ≡ codes "finder: more than 33554432 leaves\n" }
+    ensures certificate { leaves_text 4_194_304 ≡ codes "finder: more than 4194304 leaves\n" }
 {}
 
 /// A sink that fails holds a prefix of the text, which is not all of it.

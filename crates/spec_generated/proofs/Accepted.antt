@@ -11,7 +11,7 @@ use Rattle.spec_text.specs.Lines.{tokens}
 use Rattle.spec_text.specs.Reading.{whole_of}
 use Rattle.spec_text.specs.declared.decimals.Decimal.{Decimal}
 use Rattle.spec_text.specs.Printed.{joined_lines}
-use Rattle.spec_text.proofs.Printed.{digits_pass, from_append, from_less, from_test, no_separators}
+use Rattle.spec_text.proofs.Printed.{decimal_digits, digits_pass, from_append, from_less, from_test, no_separators}
 use Rattle.spec_text.proofs.TokenLemmas.{first_token, last_token}
 use Rattle.spec_text.proofs.Wholes.{value_small, whole_is}
 use Rattle.spec_ephemeris.specs.Ephemeris.{Ephemeris, IsEphemeris}
@@ -34,7 +34,6 @@ use Rattle.spec_generated.specs.Generated.{generated_ephemeris, generated_text, 
 use Rattle.spec_generated.specs.Words.{block_number, block_word}
 use Rattle.spec_generated.proofs.Before.{IsBefore, are_numbers, before_at, before_is, with_block_is}
 use Rattle.spec_generated.proofs.BlockWords.{block_word_is, decimal_word, zero_at}
-use Rattle.spec_generated.proofs.Digits.{decimal_digits}
 use Rattle.spec_generated.proofs.Lines.{AreShortLines, IsShortLine, is_file, lines_at, short_append}
 use Rattle.spec_generated.proofs.Rows.{count_is, lines_rows, none_after, rows_at, rows_numbers, rows_short, rows_zeros}
 

@@ -7,13 +7,13 @@ use Rattle.std.proofs.lemmas.Bool.{cases_lt, le-ltb, lt-ltb}
 use Rattle.std.proofs.lemmas.Fmt.{decimal_nonempty, length-decimal-le}
 use Rattle.std.proofs.lemmas.List.{length-append}
 use Rattle.spec_text.specs.Printed.{AreFrom}
-use Rattle.spec_text.proofs.Printed.{digits_from, from_append}
+use Rattle.spec_text.proofs.Printed.{decimal_digits, digits_from, from_append}
 use Rattle.spec_text.specs.Reading.{reading}
 use Rattle.spec_text.specs.declared.decimals.Decimal.{Decimal}
 use Rattle.spec_blocks.specs.BlockRules.{is_too_large}
 use Rattle.spec_generated.specs.Draws.{drawn, draws_upto, state_after}
 use Rattle.spec_generated.specs.Words.{block_number, block_word, coefficient_at, coefficient_number, coefficient_word, date_number, date_of, date_word, fraction_word, padded_digits, zero_word}
-use Rattle.spec_generated.proofs.Digits.{decimal_digits, is_padded}
+use Rattle.spec_generated.proofs.Digits.{is_padded}
 use Rattle.spec_generated.proofs.Readings.{coefficient_reads, date_reads}
 use Rattle.spec_generated.proofs.Sizes.{millionths_small, not_large}
 

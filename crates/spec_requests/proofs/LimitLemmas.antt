@@ -1,19 +1,29 @@
 -- What words ask for keeps to the limits.
-use Rattle.std.proofs.Common.{◌≡◌, ◌≢◌, ◌∙◌, ◌<◌, ◌≤◌, ◌&&◌, ℕ, Bool, true, false, not, zero, suc, List, [], ◌∷◌, length, get_or, Option, Some, None, Result, Ok, Err, IfOk, IfSome, is_some, cond, find, nat_lt, nat_le, option_and_then, unwrap_or, refl, sym, ap, subst, arith, lit<, true≢false}
+use Rattle.std.proofs.Common.{◌≡◌, ◌≢◌, ◌∙◌, ◌<◌, ◌≤◌, ◌&&◌, ◌||◌, ◌++◌, ℕ, Bool, true, false, not, zero, suc, List, [], ◌∷◌, length, get_or, Option, Some, None, Result, Ok, Err, IfOk, IfSome, is_some, cond, find, nat_lt, nat_le, option_and_then, unwrap_or, refl, sym, ap, subst, arith, lit<, lit≤, true≢false}
 use Rattle.std.specs.Str.{bytes_eq}
 use Rattle.std.specs.List.{list_all}
 use Rattle.std.specs.Str.Parse.{digits_value}
+use Rattle.std.specs.Prelude.{codes}
+use Rattle.std.specs.Result.{result_ok}
+use Rattle.std.proofs.lemmas.List.{length-append}
 use Rattle.std.proofs.lemmas.Bool.{leb-true, ltb-true}
 use Rattle.std.proofs.lemmas.Int.{ints}
 use Rattle.clap.proofs.WalkLemmas.{both}
+use Rattle.spec_text.specs.declared.decimals.Decimal.{Decimal}
+use Rattle.spec_text.specs.declared.decimals.NumberFault.{NumberFault}
+use Rattle.spec_text.specs.Printed.{IsPlain}
+use Rattle.spec_text.specs.Reading.{reading}
+use Rattle.spec_text.proofs.Plain.{decimal_plain}
+use Rattle.spec_text.proofs.Printed.{from_append}
 use Rattle.spec_ephemeris.specs.declared.body.Body.{Body}
 use Rattle.spec_ephemeris.specs.declared.body.Body.TheVariants.{Ssb}
 use Rattle.spec_ephemeris.specs.declared.limits.TheConstants.{MAX_TICK}
 use Rattle.spec_ephemeris.specs.Ticks.{IsTick}
 use Rattle.spec_kinds.specs.Asks.{IsAsk}
-use Rattle.spec_kinds.specs.Table.{row_of, takes_second}
+use Rattle.spec_kinds.specs.Table.{is_unused, row_of, takes_radii, takes_second}
 use Rattle.spec_kinds.specs.declared.kind.Kind.{Kind}
 use Rattle.spec_kinds.specs.declared.kind.Kind.TheVariants.{Coord}
+use Rattle.spec_kinds.specs.declared.table.Use.{Use}
 use Rattle.spec_kinds.specs.declared.table.Use.TheVariants.{Needed, Unused}
 use Rattle.spec_requests.specs.declared.request.FindAsk.{FindAsk}
 use Rattle.spec_requests.specs.declared.request.Request.{Request}
@@ -27,10 +37,10 @@ use Rattle.spec_requests.specs.declared.tables.CommandName.TheVariants as comman
 use Rattle.spec_requests.specs.declared.tables.TheConstants.{FIND_OPTIONS}
 use Rattle.spec_requests.specs.declared.limits.TheConstants.{DEFAULT_TICK, DEFAULT_WIDTH, DEFAULT_DEPTH, DEFAULT_WORKERS, MAX_DIGITS_OF_A_COUNT, MAX_DIGITS_OF_BLOCKS, MAX_GENERATED_BLOCKS, MAX_WIDTH, MAX_DEPTH, MAX_WORKERS}
 use Rattle.spec_requests.specs.Names.{Table, Text, as_target, axis_of, axes, command_of, kind_of, named, observer_of, target_of, tick_of_word, ticks}
-use Rattle.spec_requests.specs.Options.{Values, are_digits, bad_option, blocks_of, depth_of, is_bad, name_of, number_of, tick_in, use_of, width_of, workers_of}
+use Rattle.spec_requests.specs.Options.{Values, are_digits, bad_option, blocks_of, decimal_of, depth_of, is_bad, is_misread, name_of, number_of, tick_in, use_of, width_of, workers_of}
 use Rattle.spec_requests.specs.Commands.{command_rules, files_in, is_refused, values_in}
-use Rattle.spec_requests.specs.Requests.{ask_of, bad_word, checked_search, checked_text, of_search, request_by, request_for, request_of, search_by, search_of, search_of_kind, search_of_target, text_by, text_of, value_or, verify_of}
-use Rattle.spec_requests.specs.Limits.{AreWithinLimits, IsWithinLimits, KeepsToLimits}
+use Rattle.spec_requests.specs.Requests.{ask_of, bad_word, checked_search, checked_text, of_search, request_by, request_for, request_of, search_by, search_of, search_of_kind, search_of_target, text_by, text_of, value_or, values_text, verify_of}
+use Rattle.spec_requests.specs.Limits.{ArePlain, AreWithinLimits, IsWithinLimits, KeepsToLimits}
 
 -- ---- values of tables and numbers
 
@@ -151,6 +161,53 @@ ask_is values kind target body none = record {
   axis = ltb-true _ _ (passes_or is_axis 0 axis_of (values opt.Axis) axes_are refl);
 }
 
+-- ---- the numbers of an event as they are given
+
+-- where it is not misread, a decimal is plain
+is_plain_by : (read : Result Decimal NumberFault) (word : Text) → reading word ≡ read → is_some (result_ok read) ≡ true
+    → IsPlain word
+is_plain_by (Ok d) word e some = decimal_plain word d e
+is_plain_by (Err fault) word e some = absurd (true≢false (sym some))
+
+is_plain_word : (word : Text) → is_some (decimal_of word) ≡ true → IsPlain word
+unfolding decimal_of
+is_plain_word word some = is_plain_by (reading word) word refl some
+
+read_well : (unused some : Bool) → (unused || not some) ≡ false → some ≡ true
+read_well true some good = absurd (true≢false good)
+read_well false some good = not_false some good
+
+plain_or : (usage : Use) (default : Text) (given : Option Text) → IsPlain default → is_misread decimal_of usage given ≡ false
+    → IsPlain (unwrap_or given default)
+plain_or usage default None plain good = plain
+plain_or usage default (Some word) plain good = is_plain_word word (read_well (is_unused usage) (is_some (decimal_of word)) good)
+
+plain_values : (radii unused : Bool) (one two ref : Text) → IsPlain one → IsPlain two → IsPlain ref
+    → ArePlain (cond radii (one ++ (44 ∷ two)) (cond unused (45 ∷ []) ref))
+plain_values true unused one two ref one_is two_is ref_is = record {
+  bytes = from_append 33 one (44 ∷ two) one_is.bytes (lit≤ tt, two_is.bytes);
+  short = omega (arith, length-append one (44 ∷ two), one_is.short, two_is.short);
+}
+plain_values false true one two ref one_is two_is ref_is = record { bytes = (lit≤ tt, tt); short = lit≤ tt }
+plain_values false false one two ref one_is two_is ref_is = record { bytes = ref_is.bytes; short = omega (arith, ref_is.short) }
+
+values_are : (values : Values) (kind : Kind) → bad_option values kind ≡ None → ArePlain (values_text values kind)
+unfolding values_text bad_option
+values_are values kind none =
+    let good : (i : ℕ) → i < length FIND_OPTIONS → _ = λ i below.
+    each_fails (λ option. is_bad (tick_in values) option (use_of option kind) (values option)) FIND_OPTIONS i opt.Kind none below in
+    let radii = (row_of kind).radii in
+    plain_values (takes_radii kind) (is_unused (row_of kind).reference)
+    (unwrap_or (values opt.Radius1) []) (unwrap_or (values opt.Radius2) []) (unwrap_or (values opt.Ref) (codes "0"))
+    (plain_or radii [] (values opt.Radius1) no_word (good 7 (lit< tt)))
+    (plain_or radii [] (values opt.Radius2) no_word (good 8 (lit< tt)))
+    (plain_or (row_of kind).reference (codes "0") (values opt.Ref) nought_word (good 6 (lit< tt)))
+  where
+    no_word : IsPlain []
+    no_word = record { bytes = tt; short = lit≤ tt }
+    nought_word : IsPlain (codes "0")
+    nought_word = record { bytes = (lit≤ tt, tt); short = lit≤ tt }
+
 lies_low : (least most n : ℕ) → lies_in least most n ≡ true → least ≤ n
 lies_low least most n within = leb-true least n (both (nat_le least n) (nat_le n most) within).0
 
@@ -176,6 +233,7 @@ search_is values kind target files body none =
     let most_width = lies_high 1 MAX_WIDTH (value_or width_of DEFAULT_WIDTH (values opt.Width)) width in
     record {
       ask = ask_is values kind target body none;
+      values = values_are values kind none;
       tick = tick_is values;
       some_width = omega (arith, ints);
       width = omega (arith, ints);

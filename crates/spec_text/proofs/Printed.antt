@@ -1,11 +1,14 @@
 -- Lines of printed bytes with words, and the text that they make.
-use Rattle.std.proofs.Common.{◌≡◌, ◌+◌, ◌-◌, ◌<◌, ◌≤◌, ◌&&◌, ℕ, zero, suc, Bool, true, false, List, [], ◌∷◌, ◌++◌, length, get_or, refl, ap, ◌∙◌, arith, ne_eqb, nat_le, nat_lt}
+use Rattle.std.proofs.Common.{◌≡◌, ◌+◌, ◌-◌, ◌^◌, ◌<◌, ◌≤◌, ◌&&◌, ℕ, zero, suc, Bool, true, false, List, [], ◌∷◌, ◌++◌, length, get_or, refl, ap, ◌∙◌, arith, ne_eqb, nat_le, nat_lt, rules}
 use Rattle.std.specs.Char.{is_ascii_digit}
 use Rattle.std.specs.List.{All, list_all}
 use Rattle.std.specs.Str.Lines.{strip_carriage_return}
 use Rattle.std.specs.Prelude.{slice_index}
+use Rattle.std.specs.Fmt.{decimal}
+use Rattle.std.proofs.lemmas.Fmt.{digits_decimal}
+use Rattle.std.proofs.lemmas.Str.Parse.{IsNumeralModel, numerals_by_fold}
 use Rattle.std.proofs.lemmas.Bool.{and_from, and_parts, le-ltb, leb-true, lt-ltb}
-use Rattle.spec_text.specs.Decimals.{AreDigits}
+use Rattle.spec_text.specs.Decimals.{AreDigits, value, value_after}
 use Rattle.spec_text.specs.Lines.{Numbered, counted_lines, is_line_feed, is_separator, lines, numbered_from, text_lines, tokens}
 use Rattle.spec_text.specs.Printed.{AreFrom, AreLines, IsLine, joined_lines}
 use Rattle.spec_text.proofs.Complete.{digit_tests}
@@ -45,6 +48,12 @@ no_return (b ∷ bs) are =
     rw (ne_eqb (slice_index (b ∷ bs) (length (b ∷ bs) - 1)) 13 (λ e. omega (arith, least, e))) refl
 
 -- ---- digits
+pub numerals : IsNumeralModel AreDigits value
+numerals = numerals_by_fold AreDigits (search rules) value_after (search rules)
+
+pub decimal_digits : (n : ℕ) → n < 2 ^ 64 → AreDigits (decimal n)
+decimal_digits n fits = digits_decimal numerals n fits
+
 pub digits_from : (ds : List ℕ) → AreDigits ds → AreFrom 33 ds
 digits_from [] are = tt
 digits_from (d ∷ ds) are = (omega (arith, are.0.0), digits_from ds are.1)

@@ -15,7 +15,7 @@ pub use examples::{
     windows_are_counted,
 };
 pub use laws::{
-    faults_are_named, texts_are_written, the_lines_of_events, the_lines_of_leaves,
-    the_lines_of_words,
+    faults_are_named, texts_are_written, the_line_of_a_request_is_a_line, the_lines_of_events,
+    the_lines_of_leaves, the_lines_of_words,
 };
 pub use limits::MAX_LEAVES;

@@ -3,7 +3,7 @@ use Rattle.std.proofs.Common.{◌≡◌, ◌+◌, ◌-◌, ◌*◌, ◌<◌, Lis
 use Rattle.std.specs.Fmt.{decimal}
 use Rattle.spec_generated.specs.Blocks.{block_lines, lines_from, row, rows_from, state_of}
 use Rattle.spec_generated.specs.Draws.{next_state, state_after}
-use Rattle.spec_generated.specs.Generated.{joined_lines}
+use Rattle.spec_text.specs.Printed.{joined_lines}
 use Rattle.spec_generated.specs.Words.{block_word}
 
 pub row_is : (t0 t1 t2 t3 t4 t5 a b c : List ℕ) → t1 ≡ t0 ++ a → t2 ≡ t1 ++ 32 ∷ [] → t3 ≡ t2 ++ b → t4 ≡ t3 ++ 32 ∷ [] → t5 ≡ t4 ++ c

@@ -1,7 +1,8 @@
 // A generated text.
 ghost use Rattle.std.specs.Prelude.{◌≡◌, ◌<◌, ◌≤◌, [], ◌∷◌, IfOk, Ok};
 ghost use Rattle.spec_files.specs.Outcome.{outcome};
-ghost use Rattle.spec_generated.specs.Generated.{generated_ephemeris, generated_text, header_lines, joined_lines};
+ghost use Rattle.spec_text.specs.Printed.{joined_lines};
+ghost use Rattle.spec_generated.specs.Generated.{generated_ephemeris, generated_text, header_lines};
 
 use crate::blocks::add_block;
 use crate::draws::Draws;

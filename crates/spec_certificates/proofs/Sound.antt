@@ -9,7 +9,7 @@ use Rattle.spec_trees.specs.Tree.{AreLeaves, Covers, IsLeaf, IsValid, mark_of}
 use Rattle.spec_certificates.specs.declared.entry.Entry.{Entry}
 use Rattle.spec_certificates.specs.declared.entry.Entry.TheVariants as entry
 use Rattle.spec_certificates.specs.declared.entry.CertFault.{CertFault}
-use Rattle.spec_certificates.specs.declared.numbers.TheConstants.{CERT_LINE, CERT_REQUEST, CERT_PLACE, CERT_MARK, CERT_END}
+use Rattle.spec_faults.specs.declared.numbers.TheConstants.{CERT_LINE, CERT_REQUEST, CERT_PLACE, CERT_MARK, CERT_END}
 use Rattle.spec_certificates.specs.Entries.{are_same, entry_of, form_words}
 use Rattle.spec_certificates.specs.Checks.{◌>>=◌, after_end, after_entry, at_line, checked, entry_at, holds_or, is_end, is_mark, leaf_at, leaf_of_entry, leaves_from, named_leaves, or_broken, with_words, words_of}
 use Rattle.spec_certificates.specs.Places.{Cutting, IsCutting, waiting_after}

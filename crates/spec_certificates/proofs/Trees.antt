@@ -12,7 +12,7 @@ use Rattle.spec_trees.proofs.Placing.{covers_forward}
 use Rattle.spec_certificates.specs.declared.entry.CertFault.{CertFault}
 use Rattle.spec_certificates.specs.declared.entry.Entry.{Entry}
 use Rattle.spec_certificates.specs.declared.entry.Entry.TheVariants as entry
-use Rattle.spec_certificates.specs.declared.numbers.TheConstants.{CERT_PLACE, CERT_MARK}
+use Rattle.spec_faults.specs.declared.numbers.TheConstants.{CERT_PLACE, CERT_MARK}
 use Rattle.spec_certificates.specs.Checks.{◌>>=◌, after_entry, at_line, entry_at, holds_or, is_mark, leaf_at, leaves_from, or_broken, with_first}
 use Rattle.spec_certificates.specs.Places.{Cutting, IsCutting, waiting_after}
 use Rattle.spec_certificates.proofs.Binds.{fronted, fronted_one, fronted_twice, is_that_mark}

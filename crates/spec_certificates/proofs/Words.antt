@@ -5,11 +5,12 @@ use Rattle.std.specs.Char.{is_ascii_digit}
 use Rattle.std.specs.Fmt.{decimal, signed_decimal}
 use Rattle.std.specs.List.{list_all}
 use Rattle.std.proofs.lemmas.Bool.{lt-ltb, le-leb}
-use Rattle.std.proofs.lemmas.Fmt.{decimal_nonempty, digits_decimal, digits_value-decimal, length-decimal-le}
+use Rattle.std.proofs.lemmas.Fmt.{decimal_nonempty, digits_value-decimal, length-decimal-le}
 use Rattle.std.proofs.lemmas.List.{length-append}
-use Rattle.std.proofs.lemmas.Str.Parse.{IsNumeralModel, numerals_by_fold}
 use Rattle.spec_text.specs.Decimals.{AreDigits, value, value_after}
 use Rattle.spec_text.specs.Lines.{tokens}
+use Rattle.spec_text.specs.Printed.{AreFrom, IsLine}
+use Rattle.spec_text.proofs.Printed.{decimal_digits, digits_from, digits_pass, from_append, from_less, no_separators, numerals, printed}
 use Rattle.spec_text.proofs.TokenLemmas.{first_token, last_token}
 use Rattle.spec_trees.specs.declared.tree.Leaf.{Leaf}
 use Rattle.spec_trees.specs.declared.tree.Mark.{Mark}
@@ -18,11 +19,7 @@ use Rattle.spec_trees.specs.declared.tree.Turn.TheVariants.{Rise, Fall}
 use Rattle.spec_certificates.specs.declared.entry.Entry.TheVariants as entry
 use Rattle.spec_certificates.specs.Entries.{count_of, entry_of, leaf_from, mark_of_word, time_of}
 use Rattle.spec_certificates.specs.Texts.{end_text, leaf_text, mark_word}
-use Rattle.spec_certificates.specs.Shapes.{AreFrom, FitsLine, IsLine}
-use Rattle.spec_certificates.proofs.Lines.{from_append, from_less, no_separators, printed}
-
-own : IsNumeralModel AreDigits value
-own = numerals_by_fold AreDigits (search rules) value_after (search rules)
+use Rattle.spec_certificates.specs.Shapes.{FitsLine}
 
 -- a word of printed bytes without blanks
 record IsWord (most : ℕ) (word : List ℕ) : Type 0 where
@@ -30,35 +27,21 @@ record IsWord (most : ℕ) (word : List ℕ) : Type 0 where
   some : 0 < length word
   short : length word ≤ most
 
-digits_from : (ds : List ℕ) → AreDigits ds → AreFrom 33 ds
-digits_from [] are = tt
-digits_from (d ∷ ds) are = (omega (arith, are.0.0), digits_from ds are.1)
-
-digit_is : (b : ℕ) → 48 ≤ b → b ≤ 57 → is_ascii_digit b ≡ true
-digit_is b low high = grind (arith, rules)
-
-all_digits : (ds : List ℕ) → AreDigits ds → list_all is_ascii_digit ds ≡ true
-all_digits [] are = refl
-all_digits (d ∷ ds) are = both (is_ascii_digit d) (list_all is_ascii_digit ds) (digit_is d are.0.0 are.0.1) (all_digits ds are.1)
-  where
-    both : (x y : Bool) → x ≡ true → y ≡ true → (x && y) ≡ true
-    both x y p q = rw (p, q)
-
 -- ---- numbers
 module _ (most n : ℕ) (some : 0 < most) (few : n < 10 ^ most) (fits : n < 2 ^ 64) where
   number_word : IsWord most (decimal n)
   number_word = record {
-    bytes = digits_from (decimal n) (digits_decimal own n fits);
+    bytes = digits_from (decimal n) (decimal_digits n fits);
     some = decimal_nonempty n fits;
     short = length-decimal-le most n some few fits;
   }
 
   counted : count_of most (decimal n) ≡ Some n
   counted =
-      let all = all_digits (decimal n) (digits_decimal own n fits) in
+      let all = digits_pass (decimal n) (decimal_digits n fits) in
       let is = lt-ltb 0 (length (decimal n)) (decimal_nonempty n fits) in
       let within = le-leb (length (decimal n)) most (length-decimal-le most n some few fits) in
-      rw (all, is, within) (ap (λ (k : ℕ). Some k) (digits_value-decimal own n fits))
+      rw (all, is, within) (ap (λ (k : ℕ). Some k) (digits_value-decimal numerals n fits))
 
 -- ---- times
 plain_time : (word : List ℕ) (n : ℕ) → AreDigits word → 0 < length word → count_of 15 word ≡ Some n → time_of word ≡ Some (pos n)
@@ -68,7 +51,7 @@ plain_time (b ∷ word) n are some e = rw (ne_eqb b 45 (λ same. omega (arith, s
 timed : (z : ℤ) → unsigned_abs z < 10 ^ 15 → time_of (signed_decimal z) ≡ Some z
 timed (pos n) few =
     let fits : n < 2 ^ 64 = omega (arith, few) in
-    plain_time (decimal n) n (digits_decimal own n fits) (decimal_nonempty n fits) (counted 15 n (lit< tt) few fits)
+    plain_time (decimal n) n (decimal_digits n fits) (decimal_nonempty n fits) (counted 15 n (lit< tt) few fits)
 timed (negsuc n) few = ap (option_map (λ k. neg_ℤ (pos k))) (counted 15 (suc n) (lit< tt) few (omega (arith, few)))
 
 time_word : (z : ℤ) → unsigned_abs z < 10 ^ 15 → IsWord 16 (signed_decimal z)

@@ -4,20 +4,21 @@ use Rattle.std.specs.Prelude.{codes}
 use Rattle.std.specs.Str.{bytes_eq}
 use Rattle.std.proofs.lemmas.List.{length-append}
 use Rattle.spec_text.specs.Lines.{Numbered, lines, numbered_from, text_lines, tokens}
+use Rattle.spec_text.specs.Printed.{AreLines, IsLine, joined_lines}
+use Rattle.spec_text.proofs.Printed.{lines_append, not_long, printed, text_lines_are}
 use Rattle.spec_trees.specs.declared.tree.Leaf.{Leaf}
 use Rattle.spec_trees.specs.declared.tree.Node.{Node}
 use Rattle.spec_trees.specs.Tree.{IsValid, leaves}
 use Rattle.spec_certificates.specs.declared.entry.CertFault.{CertFault}
 use Rattle.spec_certificates.specs.declared.entry.Entry.{Entry}
 use Rattle.spec_certificates.specs.declared.entry.Entry.TheVariants as entry
-use Rattle.spec_certificates.specs.declared.numbers.TheConstants.{CERT_LINE, CERT_REQUEST}
+use Rattle.spec_faults.specs.declared.numbers.TheConstants.{CERT_LINE, CERT_REQUEST}
 use Rattle.spec_certificates.specs.Entries.{are_same, entry_of, form_words}
 use Rattle.spec_certificates.specs.Checks.{◌>>=◌, after_entry, at_line, checked, entry_at, holds_or, leaves_from, or_broken, with_words}
 use Rattle.spec_certificates.specs.Places.{Cutting, IsCutting}
 use Rattle.spec_certificates.specs.Texts.{certificate, end_text, leaf_lines, leaf_text}
 use Rattle.spec_certificates.proofs.Binds.{fronted}
-use Rattle.spec_certificates.specs.Shapes.{AllFit, IsLine}
-use Rattle.spec_certificates.proofs.Lines.{AreLines, joined_lines, lines_append, not_long, printed, text_lines_are}
+use Rattle.spec_certificates.specs.Shapes.{AllFit, FitsLine}
 use Rattle.spec_certificates.proofs.Trees.{NameLeaves, taken}
 use Rattle.spec_certificates.proofs.Words.{end_is_line, end_said, end_short, leaf_is_line, leaf_said, leaf_short}
 
@@ -26,6 +27,7 @@ abbrev all_lines : List ℕ → List Leaf → List (List ℕ)
 all_lines request ls = codes "CERT 1" ∷ request ∷ (map leaf_text ls ++ end_text (length ls) ∷ [])
 
 leaves_joined : (ls : List Leaf) (end : List ℕ) → leaf_lines ls ++ (end ++ 10 ∷ []) ≡ joined_lines (map leaf_text ls ++ end ∷ [])
+unfolding joined_lines
 leaves_joined [] end = refl
 leaves_joined (l ∷ ls) end =
     append_assoc (leaf_text l ++ 10 ∷ []) (leaf_lines ls) (end ++ 10 ∷ [])
@@ -33,6 +35,7 @@ leaves_joined (l ∷ ls) end =
     ∙ ap (λ (t : List ℕ). leaf_text l ++ 10 ∷ t) (leaves_joined ls end)
 
 text_joined : (request : List ℕ) (ls : List Leaf) → certificate request ls ≡ joined_lines (all_lines request ls)
+unfolding joined_lines
 text_joined request ls =
     let end = end_text (length ls) in
     ap (λ (t : List ℕ). codes "CERT 1\n" ++ t)

@@ -2,6 +2,7 @@
 -- rule's number.
 use Rattle.std.specs.Prelude.{ℕ, ◌+◌, ◌==◌, Bool, true, false, List, [], ◌∷◌, ◌++◌, length, Option, None, Some, Result, Ok, Err, if◌then◌else◌}
 use Rattle.spec_text.specs.Lines.{Numbered, is_too_long, lines, text_lines, tokens}
+pub use Rattle.spec_text.specs.Results.{◌>>=◌}
 use Rattle.spec_trees.specs.declared.tree.Leaf.{Leaf}
 use Rattle.spec_trees.specs.declared.tree.Mark.{Mark}
 use Rattle.spec_trees.specs.declared.tree.Mark.TheVariants.{Clear, One, Undecided}
@@ -12,14 +13,9 @@ use Rattle.spec_trees.specs.Tree.{mark_of}
 use Rattle.spec_certificates.specs.declared.entry.Entry.{Entry}
 use Rattle.spec_certificates.specs.declared.entry.Entry.TheVariants as entry
 use Rattle.spec_certificates.specs.declared.entry.CertFault.{CertFault}
-use Rattle.spec_certificates.specs.declared.numbers.TheConstants.{CERT_LINE, CERT_REQUEST, CERT_PLACE, CERT_MARK, CERT_END}
+use Rattle.spec_faults.specs.declared.numbers.TheConstants.{CERT_LINE, CERT_REQUEST, CERT_PLACE, CERT_MARK, CERT_END}
 use Rattle.spec_certificates.specs.Entries.{are_same, entry_of, form_words}
 use Rattle.spec_certificates.specs.Places.{Cutting, waiting_after}
-
-infixl 10 ◌>>=◌
-abbrev pub ◌>>=◌ : {A B E : Type 0} → Result A E → (A → Result B E) → Result B E
-(Ok x) >>= f = f x
-(Err e) >>= f = Err e
 
 -- the line with this number breaks this rule
 abbrev pub at_line : ℕ → ℕ → CertFault

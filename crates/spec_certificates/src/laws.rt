@@ -1,15 +1,14 @@
 // What is true of certificates: each law is the contract of a function with nothing to do.
 ghost use Rattle.std.specs.Prelude.{◌≡◌, ◌≤◌, ◌<◌, ◌^◌, List, ℕ, Ok, drop, length};
-ghost use Rattle.spec_text.specs.declared.decimals.Decimal.{Decimal};
 ghost use Rattle.spec_text.specs.declared.limits.TheConstants.{MAX_LINE_BYTES, MAX_TEXT_BYTES};
 ghost use Rattle.spec_text.specs.Lines.{text_lines};
-ghost use Rattle.spec_text.specs.Reading.{reading};
+ghost use Rattle.spec_text.specs.Printed.{IsLine};
 ghost use Rattle.spec_trees.specs.declared.tree.Leaf.{Leaf};
 ghost use Rattle.spec_trees.specs.declared.tree.Node.{Node};
 ghost use Rattle.spec_trees.specs.Tree.{AreLeaves, Covers, IsValid, leaves};
 ghost use Rattle.spec_certificates.specs.Checks.{checked, named_leaves};
 ghost use Rattle.spec_certificates.specs.Places.{Cutting, IsCutting};
-ghost use Rattle.spec_certificates.specs.Shapes.{AllFit, IsLine, IsPlain};
+ghost use Rattle.spec_certificates.specs.Shapes.{AllFit};
 ghost use Rattle.spec_certificates.specs.Texts.{certificate};
 ghost use Rattle.spec_certificates.specs.declared.limits.TheConstants.{MAX_CERT_LEAVES};
 
@@ -41,9 +40,4 @@ pub fn what_is_written_is_accepted()
 pub fn certificates_are_short()
     ensures { (request : List ℕ) (ls : List Leaf) → length request ≤ MAX_LINE_BYTES → AllFit ls
         → length ls ≤ MAX_CERT_LEAVES → length (certificate request ls) ≤ MAX_TEXT_BYTES }
-{}
-
-/// A word that is a decimal has at most 40 bytes, all of them printed, and no blank.
-pub fn decimals_are_plain()
-    ensures { (word : List ℕ) (d : Decimal) → reading word ≡ Ok d → IsPlain word }
 {}

@@ -8,12 +8,8 @@ mod entry;
 mod examples;
 mod laws;
 mod limits;
-mod numbers;
 
 pub use entry::{CertFault, Entry};
 pub use examples::{texts_that_are_certificates, texts_that_are_refused};
-pub use laws::{
-    certificates_are_short, certificates_are_true, decimals_are_plain, what_is_written_is_accepted,
-};
+pub use laws::{certificates_are_short, certificates_are_true, what_is_written_is_accepted};
 pub use limits::{MAX_CERT_LEAVES, MAX_COUNT_DIGITS, MAX_DEPTH_DIGITS, MAX_TIME_DIGITS};
-pub use numbers::{CERT_END, CERT_LINE, CERT_MARK, CERT_PLACE, CERT_REQUEST};

@@ -19,10 +19,12 @@ pub fn faults_are_looked_up()
         ≡ Some (record { number = 39; name = codes "TrailingNumbers"; has_detail = false }) }
     ensures words { fault_kind 63
         ≡ Some (record { number = 63; name = codes "BadValue"; has_detail = false }) }
+    ensures certificate { fault_kind 72
+        ≡ Some (record { number = 72; name = codes "CertPlace"; has_detail = false }) }
     ensures no_row { fault_kind 23 ≡ None }
 {}
 
-/// The whole table, by what is refused: whole files, a header, a block, an event, words.
+/// The whole table, by what is refused: whole files, a header, a block, an event, words, a certificate.
 pub fn rows_of_the_table()
     ensures files { take 3 kinds ≡
         row 4 (codes "LineTooLong") false ∷
@@ -61,10 +63,17 @@ pub fn rows_of_the_table()
         row 51 (codes "SameBody") false ∷
         row 52 (codes "ReferenceRange") false ∷
         [] }
-    ensures words { drop 29 kinds ≡
+    ensures words { take 4 (drop 29 kinds) ≡
         row 60 (codes "NoCommand") false ∷
         row 61 (codes "UnknownCommand") false ∷
         row 62 (codes "Words") false ∷
         row 63 (codes "BadValue") false ∷
+        [] }
+    ensures certificate { drop 33 kinds ≡
+        row 70 (codes "CertLine") false ∷
+        row 71 (codes "CertRequest") false ∷
+        row 72 (codes "CertPlace") false ∷
+        row 73 (codes "CertMark") false ∷
+        row 74 (codes "CertEnd") false ∷
         [] }
 {}

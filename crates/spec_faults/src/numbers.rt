@@ -98,3 +98,20 @@ pub const WORDS: u8 = 62;
 
 /// A value is missing, isn't used here, or isn't of its form. The name of its option is printed after the fault's.
 pub const BAD_VALUE: u8 = 63;
+
+/// The first line of a certificate isn't `CERT 1`, a line after the second names no leaf and no end, or a line has more
+/// than 4,096 bytes.
+pub const CERT_LINE: u8 = 70;
+
+/// The second line of a certificate hasn't the words of the request's line.
+pub const CERT_REQUEST: u8 = 71;
+
+/// The next node that waits can't be cut to that of the leaf.
+pub const CERT_PLACE: u8 = 72;
+
+/// The mark of a leaf isn't that of its verdict.
+pub const CERT_MARK: u8 = 73;
+
+/// A leaf where no node waits; an end where one waits, or with another number of leaves; a line after the end; or there
+/// is no end: then at the number of lines plus 1.
+pub const CERT_END: u8 = 74;

@@ -7,7 +7,7 @@ use crate::numbers::*;
 
 /// All faults, in the order of their numbers: the number under which one is reported, its name, and whether a detail is
 /// printed after the name.
-pub const FAULTS: [(u8, &str, bool); 33] = [
+pub const FAULTS: [(u8, &str, bool); 38] = [
     (LINE_TOO_LONG, "LineTooLong", false),
     (TOO_MANY_FILES, "TooManyFiles", false),
     (FILE_TOO_LARGE, "FileTooLarge", false),
@@ -41,6 +41,11 @@ pub const FAULTS: [(u8, &str, bool); 33] = [
     (UNKNOWN_COMMAND, "UnknownCommand", false),
     (WORDS, "Words", false),
     (BAD_VALUE, "BadValue", false),
+    (CERT_LINE, "CertLine", false),
+    (CERT_REQUEST, "CertRequest", false),
+    (CERT_PLACE, "CertPlace", false),
+    (CERT_MARK, "CertMark", false),
+    (CERT_END, "CertEnd", false),
 ];
 
 /// One kind of fault: how it is reported.

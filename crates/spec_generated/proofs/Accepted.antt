@@ -6,11 +6,12 @@ use Rattle.std.specs.List.{list_all}
 use Rattle.std.proofs.lemmas.Bool.{and_from, and_parts, leb-true, ltb-true}
 use Rattle.std.proofs.lemmas.Fmt.{decimal_nonempty, length-decimal-le}
 use Rattle.std.proofs.lemmas.List.{length-append}
-use Rattle.spec_text.specs.Decimals.{AreDigits, value}
+use Rattle.spec_text.specs.Decimals.{value}
 use Rattle.spec_text.specs.Lines.{tokens}
 use Rattle.spec_text.specs.Reading.{whole_of}
 use Rattle.spec_text.specs.declared.decimals.Decimal.{Decimal}
-use Rattle.spec_text.proofs.Complete.{digit_tests}
+use Rattle.spec_text.specs.Printed.{joined_lines}
+use Rattle.spec_text.proofs.Printed.{decimal_digits, digits_pass, from_append, from_less, from_test, no_separators}
 use Rattle.spec_text.proofs.TokenLemmas.{first_token, last_token}
 use Rattle.spec_text.proofs.Wholes.{value_small, whole_is}
 use Rattle.spec_ephemeris.specs.Ephemeris.{Ephemeris, IsEphemeris}
@@ -29,33 +30,28 @@ use Rattle.spec_files.proofs.Lines.{HasBlocks, ephemeris_holds}
 use Rattle.spec_files.proofs.MoreHeader.{header_keeps}
 use Rattle.spec_files.proofs.MoreLines.{Keeps, are_words}
 use Rattle.spec_generated.specs.Blocks.{block_lines, block_numbers, lines_from, numbers_from, record_line, rows_from, state_of}
-use Rattle.spec_generated.specs.Generated.{generated_ephemeris, generated_text, header_lines, joined_lines}
+use Rattle.spec_generated.specs.Generated.{generated_ephemeris, generated_text, header_lines}
 use Rattle.spec_generated.specs.Words.{block_number, block_word}
 use Rattle.spec_generated.proofs.Before.{IsBefore, are_numbers, before_at, before_is, with_block_is}
 use Rattle.spec_generated.proofs.BlockWords.{block_word_is, decimal_word, zero_at}
-use Rattle.spec_generated.proofs.Digits.{decimal_digits}
-use Rattle.spec_generated.proofs.Lines.{AreFrom, ArePlain, IsPlain, from_append, from_less, is_file, lines_at, no_separators, plain_append}
-use Rattle.spec_generated.proofs.Rows.{count_is, lines_rows, none_after, rows_at, rows_numbers, rows_plain, rows_zeros}
+use Rattle.spec_generated.proofs.Lines.{AreShortLines, IsShortLine, is_file, lines_at, short_append}
+use Rattle.spec_generated.proofs.Rows.{count_is, lines_rows, none_after, rows_at, rows_numbers, rows_short, rows_zeros}
 
 -- ---- the header
-abbrev is_plain : List ℕ → Bool
-is_plain line = list_all (nat_le 32) line && (nat_le (length line) 200 && nat_lt 0 (length (tokens line)))
+abbrev is_short : List ℕ → Bool
+is_short line = list_all (nat_le 32) line && (nat_le (length line) 200 && nat_lt 0 (length (tokens line)))
 
-from_test : (line : List ℕ) → list_all (nat_le 32) line ≡ true → AreFrom 32 line
-from_test [] all = tt
-from_test (b ∷ bs) all = let parts = and_parts (nat_le 32 b) (list_all (nat_le 32) bs) all in (leb-true 32 b parts.0, from_test bs parts.1)
-
-plain_tests : (ls : List (List ℕ)) → list_all is_plain ls ≡ true → ArePlain ls
-plain_tests [] all = tt
-plain_tests (line ∷ rest) all =
-    let parts = and_parts (is_plain line) (list_all is_plain rest) all in
+short_tests : (ls : List (List ℕ)) → list_all is_short ls ≡ true → AreShortLines ls
+short_tests [] all = tt
+short_tests (line ∷ rest) all =
+    let parts = and_parts (is_short line) (list_all is_short rest) all in
     let here = and_parts (list_all (nat_le 32) line) (nat_le (length line) 200 && nat_lt 0 (length (tokens line))) parts.0 in
     let sizes = and_parts (nat_le (length line) 200) (nat_lt 0 (length (tokens line))) here.1 in
-    (record { bytes = from_test line here.0; short = leb-true _ _ sizes.0; some = ltb-true _ _ sizes.1 }, plain_tests rest parts.1)
+    (record { bytes = from_test 32 line here.0; short = leb-true _ _ sizes.0; some = ltb-true _ _ sizes.1 }, short_tests rest parts.1)
 
-header_plain : ArePlain header_lines
+header_short : AreShortLines header_lines
 unfolding header_lines
-header_plain = plain_tests header_lines refl
+header_short = short_tests header_lines refl
 
 header_alone : header (lines_at 1 header_lines) ≡ Ok (de405, [])
 unfolding header header_lines lines_at
@@ -75,10 +71,6 @@ header_read rest =
     ∙ subst (λ (r : Result (Header × List FileLine) Stop). Keeps later r (header (lines_at 1 header_lines ++ later))) header_alone (header_keeps later (lines_at 1 header_lines))
 
 -- ---- the line before the numbers of a block
-all_digits : (ds : List ℕ) → AreDigits ds → list_all is_ascii_digit ds ≡ true
-all_digits [] are = refl
-all_digits (d ∷ ds) are = and_from _ _ (digit_tests d are.0.0 are.0.1) (all_digits ds are.1)
-
 decimal_whole : (n : ℕ) → n < 10 ^ 9 → whole_of (decimal n) ≡ Some (value (decimal n))
 decimal_whole n small =
     let fits : n < 2 ^ 64 = omega (arith, small) in
@@ -86,7 +78,7 @@ decimal_whole n small =
     let some = decimal_nonempty n fits in
     let short = length-decimal-le 9 n (lit< tt) small fits in
     let below = value_small (decimal n) are short in
-    sym (whole_is (decimal n) (value (decimal n)) (all_digits (decimal n) are) some short (omega (arith, below)))
+    sym (whole_is (decimal n) (value (decimal n)) (digits_pass (decimal n) are) some short (omega (arith, below)))
 
 ncoeff_whole : whole_of (decimal 1018) ≡ Some 1018
 unfolding digits
@@ -104,8 +96,8 @@ record_is ncoeff nth few is =
     let first = decimal_whole (nth + 1) (omega (arith, few)) in
     (λ i. record_rule (is i) (record_words nth few i)) ∙ rw (first, ncoeff_whole) refl
 
-record_plain : (nth : ℕ) → nth ≤ 40 → IsPlain (record_line nth)
-record_plain nth few =
+record_short : (nth : ℕ) → nth ≤ 40 → IsShortLine (record_line nth)
+record_short nth few =
     let first = decimal_word (nth + 1) (omega (arith, few)) in
     let second = decimal_word 1018 (lit< tt) in
     record {
@@ -216,16 +208,16 @@ unfolding lines_at
 same_count k [] = refl
 same_count k (l ∷ ls) = ap suc (same_count (k + 1) ls)
 
-block_plain : (state nth : ℕ) → nth ≤ 40 → ArePlain (block_lines state nth)
+block_short : (state nth : ℕ) → nth ≤ 40 → AreShortLines (block_lines state nth)
 unfolding block_lines
-block_plain state nth few = (record_plain nth few, rows_plain (block_word state nth) 1 340 (λ p. block_word_is state nth p few))
+block_short state nth few = (record_short nth few, rows_short (block_word state nth) 1 340 (λ p. block_word_is state nth p few))
 
-blocks_plain : (seed nth m : ℕ) → nth + m ≤ 40 → ArePlain (lines_from seed nth m)
+blocks_short : (seed nth m : ℕ) → nth + m ≤ 40 → AreShortLines (lines_from seed nth m)
 unfolding lines_from
-blocks_plain seed nth zero few = tt
-blocks_plain seed nth (suc m) few =
-    plain_append (block_lines (state_of seed nth) nth) (lines_from seed (nth + 1) m) (block_plain (state_of seed nth) nth (omega (arith, few)))
-    (blocks_plain seed (nth + 1) m (omega (arith, few)))
+blocks_short seed nth zero few = tt
+blocks_short seed nth (suc m) few =
+    short_append (block_lines (state_of seed nth) nth) (lines_from seed (nth + 1) m) (block_short (state_of seed nth) nth (omega (arith, few)))
+    (blocks_short seed (nth + 1) m (omega (arith, few)))
 
 header_then : (lines rest : List FileLine) (h : Header) (r : Result Ephemeris Stop) → header lines ≡ Ok (h, rest) → blocks h rest ≡ r → ephemeris lines ≡ r
 header_then lines rest h r is then = rw is then
@@ -260,9 +252,9 @@ pub text_accepted : (count seed : ℕ) → 0 < count → count ≤ 40 → IsAcce
 unfolding generated_text
 text_accepted count seed some few =
     let ls = header_lines ++ lines_from seed 0 count in
-    let plain = plain_append header_lines (lines_from seed 0 count) header_plain (blocks_plain seed 0 count (omega (arith, few))) in
+    let short = short_append header_lines (lines_from seed 0 count) header_short (blocks_short seed 0 count (omega (arith, few))) in
     let size : length ls ≤ 1000000 = omega (arith, length-append header_lines (lines_from seed 0 count), header_count, lines_count seed 0 count, few) in
-    let file = is_file ls plain size in
+    let file = is_file ls short size in
     accepted_by (joined_lines ls) (generated_ephemeris count seed) file.whole (ap ephemeris file.lines ∙ lines_read seed count some few)
 
 pub text_checked : (count seed : ℕ) → 0 < count → count ≤ 40 → IsEphemeris (generated_ephemeris count seed)

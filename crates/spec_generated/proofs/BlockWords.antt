@@ -6,14 +6,14 @@ use Rattle.std.proofs.Math.Nat.{div-lt_iff_lt-mul, mod-lt}
 use Rattle.std.proofs.lemmas.Bool.{cases_lt, le-ltb, lt-ltb}
 use Rattle.std.proofs.lemmas.Fmt.{decimal_nonempty, length-decimal-le}
 use Rattle.std.proofs.lemmas.List.{length-append}
-use Rattle.spec_text.specs.Decimals.{AreDigits}
+use Rattle.spec_text.specs.Printed.{AreFrom}
+use Rattle.spec_text.proofs.Printed.{decimal_digits, digits_from, from_append}
 use Rattle.spec_text.specs.Reading.{reading}
 use Rattle.spec_text.specs.declared.decimals.Decimal.{Decimal}
 use Rattle.spec_blocks.specs.BlockRules.{is_too_large}
 use Rattle.spec_generated.specs.Draws.{drawn, draws_upto, state_after}
 use Rattle.spec_generated.specs.Words.{block_number, block_word, coefficient_at, coefficient_number, coefficient_word, date_number, date_of, date_word, fraction_word, padded_digits, zero_word}
-use Rattle.spec_generated.proofs.Digits.{decimal_digits, is_padded}
-use Rattle.spec_generated.proofs.Lines.{AreFrom, from_append}
+use Rattle.spec_generated.proofs.Digits.{is_padded}
 use Rattle.spec_generated.proofs.Readings.{coefficient_reads, date_reads}
 use Rattle.spec_generated.proofs.Sizes.{millionths_small, not_large}
 
@@ -22,10 +22,6 @@ pub record IsWord (word : List ℕ) : Type 0 where
   pub bytes : AreFrom 33 word
   pub some : 0 < length word
   pub short : length word ≤ 40
-
-digits_from : (ds : List ℕ) → AreDigits ds → AreFrom 33 ds
-digits_from [] are = tt
-digits_from (d ∷ ds) are = (omega (arith, are.0.0), digits_from ds are.1)
 
 pub decimal_word : (n : ℕ) → n < 10 ^ 9 → IsWord (decimal n)
 decimal_word n small =

@@ -2,18 +2,12 @@
 use Rattle.std.proofs.Common.{◌≡◌, ◌-◌, ◌^◌, ◌<◌, ◌≤◌, ℕ, zero, suc, List, [], ◌∷◌, ◌++◌, length, replicate, refl, ap, ◌∙◌, arith, lit<, lit≤, rules, inl, inr, eq-eqb, ne_eqb}
 use Rattle.std.specs.Fmt.{decimal}
 use Rattle.std.proofs.lemmas.Bool.{cases_eq}
-use Rattle.std.proofs.lemmas.Fmt.{digits_decimal, digits_value-decimal, length-decimal-le}
+use Rattle.std.proofs.lemmas.Fmt.{digits_value-decimal, length-decimal-le}
 use Rattle.std.proofs.lemmas.List.{length-append}
-use Rattle.std.proofs.lemmas.Str.Parse.{IsNumeralModel, numerals_by_fold}
 use Rattle.spec_text.specs.Decimals.{AreDigits, significant, value, value_after}
 use Rattle.spec_text.proofs.Assembly.{digits_append}
+use Rattle.spec_text.proofs.Printed.{decimal_digits, numerals}
 use Rattle.spec_generated.specs.Words.{padded_digits}
-
-own : IsNumeralModel AreDigits value
-own = numerals_by_fold AreDigits (search rules) value_after (search rules)
-
-pub decimal_digits : (n : ℕ) → n < 2 ^ 64 → AreDigits (decimal n)
-decimal_digits n small = digits_decimal own n small
 
 zeros_are : (k : ℕ) → AreDigits (replicate k 48)
 zeros_are zero = tt
@@ -48,5 +42,5 @@ is_padded n small =
     record {
       digits = digits_append (replicate zeros 48) (decimal n) (zeros_are zeros) (decimal_digits n fits);
       count = omega (arith, few, length-append (replicate zeros 48) (decimal n), length_zeros zeros);
-      value = zeros_value zeros (decimal n) ∙ digits_value-decimal own n fits;
+      value = zeros_value zeros (decimal n) ∙ digits_value-decimal numerals n fits;
     }

@@ -3,6 +3,7 @@ use Rattle.std.proofs.Common.{◌≡◌, ◌≢◌, ◌+◌, ◌-◌, ◌*◌, �
 use Rattle.std.proofs.lemmas.List.{drop_all, length-append, take_all}
 use Rattle.spec_text.specs.declared.decimals.Decimal.{Decimal}
 use Rattle.spec_text.specs.Lines.{tokens}
+use Rattle.spec_text.proofs.Printed.{from_append, from_less, no_separators}
 use Rattle.spec_text.proofs.TokenLemmas.{first_token, last_token}
 use Rattle.spec_ephemeris.specs.Ephemeris.{Ephemeris}
 use Rattle.spec_sections.specs.Sections.{FileLine, FileWord, first_words, lines_after, word_of}
@@ -11,7 +12,7 @@ use Rattle.spec_blocks.specs.BlockRules.{number_rule, trailing_rule}
 use Rattle.spec_blocks.specs.Blocks.{further_words, numbers_of, zeros_of}
 use Rattle.spec_generated.specs.Blocks.{numbers_from, rows_from}
 use Rattle.spec_generated.proofs.BlockWords.{IsWord}
-use Rattle.spec_generated.proofs.Lines.{ArePlain, IsPlain, from_append, from_less, lines_at, no_separators}
+use Rattle.spec_generated.proofs.Lines.{AreShortLines, IsShortLine, lines_at}
 
 -- ---- rows as lines
 abbrev line_at : ℕ → (ℕ → List ℕ) → ℕ → FileLine
@@ -28,8 +29,8 @@ row_tokens a b c a_is b_is c_is =
     ∙ ap (λ (l : List (List ℕ)). a ∷ l) (first_token b 32 c (no_separators b b_is.bytes) b_is.some refl)
     ∙ ap (λ (l : List (List ℕ)). a ∷ b ∷ l) (last_token c (no_separators c c_is.bytes) c_is.some)
 
-row_plain : (a b c : List ℕ) → IsWord a → IsWord b → IsWord c → IsPlain (a ++ 32 ∷ (b ++ 32 ∷ c))
-row_plain a b c a_is b_is c_is =
+row_short : (a b c : List ℕ) → IsWord a → IsWord b → IsWord c → IsShortLine (a ++ 32 ∷ (b ++ 32 ∷ c))
+row_short a b c a_is b_is c_is =
     let c_from = from_less 33 32 c (lit≤ tt) c_is.bytes in
     let b_from = from_append 32 b (32 ∷ c) (from_less 33 32 b (lit≤ tt) b_is.bytes) (lit≤ tt, c_from) in
     record {
@@ -38,11 +39,11 @@ row_plain a b c a_is b_is c_is =
       some = rw (row_tokens a b c a_is b_is c_is) (lit< tt);
     }
 
-pub rows_plain : (word : ℕ → List ℕ) (place rows : ℕ) → ((p : ℕ) → IsWord (word p)) → ArePlain (rows_from word place rows)
+pub rows_short : (word : ℕ → List ℕ) (place rows : ℕ) → ((p : ℕ) → IsWord (word p)) → AreShortLines (rows_from word place rows)
 unfolding rows_from
-rows_plain word place zero are = tt
-rows_plain word place (suc rows) are =
-    (row_plain (word place) (word (place + 1)) (word (place + 2)) (are place) (are (place + 1)) (are (place + 2)), rows_plain word (place + 3) rows are)
+rows_short word place zero are = tt
+rows_short word place (suc rows) are =
+    (row_short (word place) (word (place + 1)) (word (place + 2)) (are place) (are (place + 1)) (are (place + 2)), rows_short word (place + 3) rows are)
 
 pub lines_rows : (k : ℕ) (word : ℕ → List ℕ) (place rows : ℕ) → ((p : ℕ) → IsWord (word p)) → lines_at k (rows_from word place rows) ≡ rows_at k word place rows
 unfolding rows_from rows_at lines_at

@@ -1,6 +1,6 @@
 -- The generated text of a number of blocks and a seed, and the ephemeris that it is.
 use Rattle.std.specs.Prelude.{ℕ, List, [], ◌∷◌, ◌++◌, codes, neg_ℤ, pos}
-use Rattle.spec_text.specs.Bytes.{line_feed}
+use Rattle.spec_text.specs.Printed.{joined_lines}
 use Rattle.spec_ephemeris.specs.Ephemeris.{Ephemeris}
 use Rattle.spec_ephemeris.specs.Examples.{de405}
 use Rattle.spec_generated.specs.Blocks.{lines_from, numbers_of}
@@ -25,11 +25,6 @@ header_lines =
     ∷ codes "4 2 2 1 1 1 1 1 1 8 2 4 4"
     ∷ codes "GROUP 1070"
     ∷ []
-
--- each line ends with a line feed
-unfoldable pub joined_lines : List (List ℕ) → List ℕ
-joined_lines [] = []
-joined_lines (line ∷ rest) = line ++ line_feed ∷ joined_lines rest
 
 -- the generated text
 unfoldable pub generated_text : ℕ → ℕ → List ℕ

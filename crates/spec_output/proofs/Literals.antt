@@ -59,5 +59,19 @@ number_33554432 =
     (number 3355443 (codes "335544") (lit≤ tt) (lit< tt)
     (number 335544 (codes "33554") (lit≤ tt) (lit< tt) (number 33554 (codes "3355") (lit≤ tt) (lit< tt) number_3355)))
 
-pub leaves_line : leaves_text ≡ codes "finder: more than 33554432 leaves\n"
-leaves_line = ap (λ (number : List ℕ). codes "finder: more than " ++ number ++ codes " leaves\n") number_33554432
+number_4194304 : decimal 4194304 ≡ codes "4194304"
+number_4194304 =
+    number 4194304 (codes "419430") (lit≤ tt) (lit< tt)
+    (number 419430 (codes "41943") (lit≤ tt) (lit< tt)
+    (number 41943 (codes "4194") (lit≤ tt) (lit< tt)
+    (number 4194 (codes "419") (lit≤ tt) (lit< tt)
+    (number 419 (codes "41") (lit≤ tt) (lit< tt) (number 41 (codes "4") (lit≤ tt) (lit< tt) (decimal_digit 4 (lit< tt)))))))
+
+leaves_line : (most : ℕ) (word : List ℕ) → decimal most ≡ word → leaves_text most ≡ codes "finder: more than " ++ word ++ codes " leaves\n"
+leaves_line most word is = ap (λ (number : List ℕ). codes "finder: more than " ++ number ++ codes " leaves\n") is
+
+pub many_leaves_line : leaves_text 33554432 ≡ codes "finder: more than 33554432 leaves\n"
+many_leaves_line = leaves_line 33554432 (codes "33554432") number_33554432
+
+pub certificate_leaves_line : leaves_text 4194304 ≡ codes "finder: more than 4194304 leaves\n"
+certificate_leaves_line = leaves_line 4194304 (codes "4194304") number_4194304

@@ -3,7 +3,6 @@ use Rattle.std.specs.Prelude.{ℕ, ℤ, List, [], ◌++◌, Bool, true, false, c
 use Rattle.std.specs.Fmt.{decimal, signed_decimal}
 use Rattle.spec_text.specs.declared.decimals.Fault.{Fault}
 use Rattle.spec_faults.specs.Faults.{Kind, fault_kind}
-use Rattle.spec_output.specs.declared.limits.TheConstants.{MAX_LEAVES}
 
 abbrev pub detail_text : Bool → ℕ → List ℕ
 detail_text false detail = []
@@ -59,9 +58,14 @@ outside_text from upto start end = codes "finder: span: " ++ (times from upto ++
 abbrev pub event_text : ℕ → List ℕ
 event_text number = codes "finder: event: " ++ fault_text number 0 ++ codes "\n"
 
--- the search has more leaves than it may have
-abbrev pub leaves_text : List ℕ
-leaves_text = codes "finder: more than " ++ decimal MAX_LEAVES ++ codes " leaves\n"
+-- the search has more leaves than it may have, which are so many
+abbrev pub leaves_text : ℕ → List ℕ
+leaves_text most = codes "finder: more than " ++ decimal most ++ codes " leaves\n"
+
+-- a line of the certificate, counted from 1, breaks the rule of this number
+abbrev pub certificate_text : ℕ → ℕ → List ℕ
+certificate_text line number =
+    codes "finder: certificate line " ++ (decimal line ++ codes ": ") ++ fault_text number 0 ++ codes "\n"
 
 abbrev pub write_text : List ℕ
 write_text = codes "finder: write fault\n"

@@ -2,6 +2,8 @@
 use Rattle.std.specs.Prelude.{ℕ, ℤ, List, [], ◌++◌, ◌==◌, Bool, true, false, not, count_by, codes, flat_map, Option, None, Some, if◌then◌else◌}
 use Rattle.std.specs.Fmt.{decimal, signed_decimal}
 use Rattle.spec_ephemeris.specs.declared.body.Body.{Body}
+use Rattle.spec_events.specs.declared.dir.Dir.{Dir}
+use Rattle.spec_trees.specs.declared.cuts.CutRule.{CutRule}
 use Rattle.spec_trees.specs.declared.tree.Turn.TheVariants.{Rise, Fall}
 use Rattle.spec_trees.specs.declared.window.Holds.{Holds}
 use Rattle.spec_trees.specs.declared.window.Holds.TheVariants.{Certain, Undecided}
@@ -39,28 +41,35 @@ axes_text ask = codes " frame " ++ frame_name ask.frame ++ (codes " axis " ++ ax
 abbrev pub ticks_text : ℕ → List ℕ
 ticks_text tick = if tick == 1 then [] else codes " tick " ++ decimal tick
 
--- which turns are wanted, and how the span is searched
-abbrev pub search_text : FindAsk → List ℕ
-search_text find =
-    codes " dir " ++ dir_name find.ask.dir ++ (codes " width " ++ signed_decimal find.width)
-    ++ (codes " depth " ++ decimal find.depth) ++ (codes " cut " ++ cut_name find.cut)
+-- which turns are wanted
+abbrev pub turns_text : Dir → List ℕ
+turns_text dir = codes " dir " ++ dir_name dir
 
-abbrev pub event_text : FindAsk → List ℕ
-event_text find =
-    codes "FIND " ++ kind_name find.ask.kind ++ bodies_text find.ask ++ axes_text find.ask
-    ++ (codes " values " ++ find.values)
+-- how a span is searched
+abbrev pub limits_text : ℤ → ℕ → CutRule → List ℕ
+limits_text width depth cut = codes " width " ++ signed_decimal width ++ (codes " depth " ++ decimal depth) ++ (codes " cut " ++ cut_name cut)
 
-abbrev pub query_text : FindAsk → List ℕ
-query_text find = event_text find ++ search_text find ++ ticks_text find.tick
+-- the event, after the word for what is asked of it
+abbrev pub event_text : List ℕ → FindAsk → List ℕ
+event_text word find =
+    word ++ kind_name find.ask.kind ++ bodies_text find.ask ++ axes_text find.ask ++ (codes " values " ++ find.values)
+
+-- the event, what is wanted of it, and how it is searched for
+abbrev pub query_text : List ℕ → List ℕ → FindAsk → List ℕ
+query_text word wanted find =
+    event_text word find ++ wanted ++ limits_text find.width find.depth find.cut ++ ticks_text find.tick
 
 -- two times, in so many ticks to a second
 abbrev pub span_text : ℕ → ℤ → ℤ → List ℕ
 span_text tick first last = tick_text tick first ++ codes " " ++ tick_text tick last
 
--- the line of a request, searched from one time to another
+-- the same, from one time to another
+abbrev pub query_line : List ℕ → List ℕ → FindAsk → ℤ → ℤ → List ℕ
+query_line word wanted find from to = query_text word wanted find ++ (codes " span " ++ span_text find.tick from to)
+
+-- the line of a request for windows, without its end
 abbrev pub request_line : FindAsk → ℤ → ℤ → List ℕ
-request_line find from to =
-    query_text find ++ (codes " span " ++ span_text find.tick from to ++ codes "\n")
+request_line find = query_line (codes "FIND ") (turns_text find.ask.dir) find
 
 -- ---- the windows
 
@@ -95,7 +104,16 @@ end_line ws =
 -- ---- the report
 
 abbrev pub report : FindAsk → ℤ → ℤ → List Window → List ℕ
-report find from to ws = request_line find from to ++ window_lines find.tick ws ++ end_line ws
+report find from to ws = request_line find from to ++ codes "\n" ++ window_lines find.tick ws ++ end_line ws
+
+-- ---- the report of a certificate that holds
+
+abbrev pub verified_line : ℕ → List ℕ
+verified_line leaves = codes "VERIFIED leaves " ++ decimal leaves ++ codes "\n"
+
+-- the report of its windows, and how many leaves it has
+abbrev pub verification : FindAsk → ℤ → ℤ → List Window → ℕ → List ℕ
+verification find from to ws leaves = report find from to ws ++ verified_line leaves
 
 -- ---- the text of a generated file's search
 

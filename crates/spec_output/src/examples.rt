@@ -2,10 +2,12 @@
 ghost use Rattle.std.specs.Prelude.{◌≡◌, ◌∷◌, ◌++◌, [], None, Some, codes, pos};
 ghost use Rattle.std.specs.Fmt.{decimal};
 ghost use Rattle.spec_ephemeris.specs.declared.body.Body.TheVariants.{Venus};
+ghost use Rattle.spec_events.specs.declared.dir.Dir.TheVariants.{Any};
+ghost use Rattle.spec_requests.specs.Examples.{search_in};
 ghost use Rattle.spec_kinds.specs.declared.kind.Kind.TheVariants.{Apsis, Coord};
 ghost use Rattle.spec_trees.specs.declared.tree.Turn.TheVariants.{Fall, Rise};
 ghost use Rattle.spec_trees.specs.declared.window.Holds.TheVariants.{Certain, Undecided};
-ghost use Rattle.spec_output.specs.Report.{axis_of_kind, end_line, second_name, ticks_text};
+ghost use Rattle.spec_output.specs.Report.{axis_of_kind, end_line, query_text, second_name, ticks_text, turns_text, verified_line};
 ghost use Rattle.spec_output.specs.Summary.{column_lines, column_name};
 
 /// Only a coordinate has an axis, and only kinds of two bodies have a second body.
@@ -14,6 +16,14 @@ pub fn dashes_stand_for_nothing()
     ensures no_axis { axis_of_kind Apsis 1 ≡ codes "-" }
     ensures second { second_name (Some Venus) ≡ codes "venus" }
     ensures no_second { second_name None ≡ codes "-" }
+{}
+
+/// A request is one line. What a certificate holds is counted in leaves.
+pub fn requests_are_printed()
+    ensures windows { query_text (codes "FIND ") (turns_text Any) (search_in (codes "a"))
+        ≡ codes "FIND coord target mercury second - observer ssb frame eq axis x values 0 dir any width "
+        ++ decimal 1 ++ (codes " depth " ++ decimal 40 ++ codes " cut half") }
+    ensures verified { verified_line 4 ≡ codes "VERIFIED leaves " ++ decimal 4 ++ codes "\n" }
 {}
 
 /// The ticks of a second are printed where there is more than one.

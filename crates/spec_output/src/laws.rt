@@ -1,7 +1,12 @@
 // What the definitions of texts say of small cases.
-ghost use Rattle.std.specs.Prelude.{◌≡◌, [], ◌∷◌, ◌++◌, None, Some, codes};
+ghost use Rattle.std.specs.Prelude.{◌≡◌, [], ◌∷◌, ◌++◌, None, Some, codes, ℤ};
 ghost use Rattle.std.specs.Fmt.{decimal};
+ghost use Rattle.spec_text.specs.Printed.{IsLine};
+ghost use Rattle.spec_requests.specs.declared.request.FindAsk.{FindAsk};
+ghost use Rattle.spec_requests.specs.Limits.{IsWithinLimits};
 ghost use Rattle.spec_output.specs.Messages.{event_text, leaves_text, title, words_text};
+ghost use Rattle.spec_output.specs.declared.limits.TheConstants.{MAX_LEAVES};
+ghost use Rattle.spec_output.specs.Report.{request_line};
 ghost use Rattle.spec_output.specs.Writing.{AppendsPart};
 
 /// A fault is printed by its name, some with a detail. A number without a row in the table has no name.
@@ -26,9 +31,10 @@ pub fn the_lines_of_events()
     ensures reference { event_text 52 ≡ codes "finder: event: 52 ReferenceRange\n" }
 {}
 
-/// The line of a search that has too many leaves.
-pub fn the_line_of_leaves()
-    ensures { leaves_text ≡ codes "finder: more than 33554432 leaves\n" }
+/// The lines of a search that has too many leaves for its windows, or for its certificate.
+pub fn the_lines_of_leaves()
+    ensures windows { leaves_text MAX_LEAVES ≡ codes "finder: more than 33554432 leaves\n" }
+    ensures certificate { leaves_text 4_194_304 ≡ codes "finder: more than 4194304 leaves\n" }
 {}
 
 /// A sink that fails holds a prefix of the text, which is not all of it.
@@ -36,4 +42,11 @@ pub fn texts_are_written()
     ensures prefix { AppendsPart (Some (1 ∷ [])) (Some (1 ∷ 2 ∷ [])) (2 ∷ 3 ∷ []) }
     ensures nothing { AppendsPart (Some (1 ∷ [])) (Some (1 ∷ [])) (2 ∷ 3 ∷ []) }
     ensures not_all { AppendsPart (Some (1 ∷ [])) (Some (1 ∷ 2 ∷ 3 ∷ [])) (2 ∷ 3 ∷ []) → ⊥ }
+{}
+
+/// The line of a request that keeps to its limits is a line: it has words, at most 4,096 bytes, no line feed, and no
+/// carriage return at its end.
+pub fn the_line_of_a_request_is_a_line()
+    ensures { (find : FindAsk) (from to : ℤ) → IsWithinLimits find
+        → IsLine (request_line find from to) }
 {}

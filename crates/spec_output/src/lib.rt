@@ -11,10 +11,11 @@ mod limits;
 
 pub use columns::COLUMN_BODIES;
 pub use examples::{
-    columns_have_names, dashes_stand_for_nothing, ticks_are_printed, windows_are_counted,
+    columns_have_names, dashes_stand_for_nothing, requests_are_printed, ticks_are_printed,
+    windows_are_counted,
 };
 pub use laws::{
-    faults_are_named, texts_are_written, the_line_of_leaves, the_lines_of_events,
-    the_lines_of_words,
+    faults_are_named, texts_are_written, the_line_of_a_request_is_a_line, the_lines_of_events,
+    the_lines_of_leaves, the_lines_of_words,
 };
 pub use limits::MAX_LEAVES;

@@ -5,10 +5,11 @@ use Rattle.clap.specs.Simple.{App, matches_of, new_app, new_rule, on_top}
 use Rattle.clap.specs.Faults.{fault_of}
 use Rattle.clap.specs.declared.builder.action.ArgAction.TheVariants.{Append}
 use Rattle.spec_requests.specs.declared.request.Named.{Named}
-use Rattle.spec_requests.specs.declared.tables.CommandName.TheVariants.{Find, Check, Gen}
+use Rattle.spec_requests.specs.declared.tables.CommandName.{CommandName}
+use Rattle.spec_requests.specs.declared.tables.CommandName.TheVariants as command
 use Rattle.spec_requests.specs.declared.tables.TheConstants.{FIND_OPTIONS, GEN_WORDS, GEN_OPTIONS}
 use Rattle.spec_requests.specs.Names.{Text, command_name, option_name}
-use Rattle.spec_requests.specs.Options.{Values}
+use Rattle.spec_requests.specs.Options.{verify_options, Values}
 
 -- `--name VALUE`, at most once
 abbrev pub option_rule : Named → Rule
@@ -26,14 +27,22 @@ files_rule = record (new_rule (codes "FILE")) { action = Some Append; required =
 abbrev pub command_with : Text → List Rule → App
 command_with name rules = on_top (λ top. record top { rules = rules; disable_help_flag = true }) (new_app name)
 
-unfoldable pub find_command : App
-find_command = command_with (command_name Find) (map option_rule FIND_OPTIONS ++ files_rule ∷ [])
+-- the options of a command
+abbrev pub options_of : CommandName → List Named
+options_of command.Find = FIND_OPTIONS
+options_of command.Cert = FIND_OPTIONS
+options_of command.Verify = verify_options
+options_of command.Check = []
+options_of command.Gen = GEN_OPTIONS
 
-unfoldable pub check_command : App
-check_command = command_with (command_name Check) (files_rule ∷ [])
+-- what follows them: the words of `gen`, the files of all others
+abbrev pub places_of : CommandName → List Rule
+places_of command.Gen = map word_rule GEN_WORDS
+places_of _ = files_rule ∷ []
 
-unfoldable pub gen_command : App
-gen_command = command_with (command_name Gen) (map option_rule GEN_OPTIONS ++ map word_rule GEN_WORDS)
+-- the command of this name
+unfoldable pub command_rules : CommandName → App
+command_rules name = command_with (command_name name) (map option_rule (options_of name) ++ places_of name)
 
 -- the command cannot be read from the words, of which the first is its name
 unfoldable pub is_refused : App → List Text → Bool

@@ -8,10 +8,13 @@ use Rattle.spec_requests.specs.declared.request.FindAsk.{FindAsk}
 use Rattle.spec_requests.specs.Names.{Text}
 use Rattle.spec_requests.specs.Requests.{nought}
 
--- Mercury's x, and then more words
-abbrev pub with_search : List Text → List Text
-with_search words = codes "find" ∷ codes "--kind" ∷ codes "coord" ∷ codes "--target" ∷ codes "mercury"
+-- a command that searches for Mercury's x, and then more words
+abbrev pub search_words : Text → List Text → List Text
+search_words command words = command ∷ codes "--kind" ∷ codes "coord" ∷ codes "--target" ∷ codes "mercury"
     ∷ codes "--axis" ∷ codes "x" ∷ words
+
+abbrev pub with_search : List Text → List Text
+with_search = search_words (codes "find")
 
 -- what it asks for of one file, with all that is left out
 abbrev pub search_in : Text → FindAsk

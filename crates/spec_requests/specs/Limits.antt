@@ -1,16 +1,41 @@
--- What a search that words ask for keeps to.
-use Rattle.std.specs.Prelude.{◌≤◌, pos, ◌≤ℤ◌}
+-- What requests keep to.
+use Rattle.std.specs.Prelude.{ℕ, ◌+◌, ◌*◌, ◌≤◌, List, length, pos, ◌≤ℤ◌, ⊤}
+use Rattle.spec_text.specs.Printed.{AreFrom}
+use Rattle.spec_text.specs.declared.limits.TheConstants.{MAX_WORD_BYTES}
 use Rattle.spec_ephemeris.specs.Ticks.{IsTick}
 use Rattle.spec_kinds.specs.Asks.{IsAsk}
 use Rattle.spec_requests.specs.declared.request.FindAsk.{FindAsk}
-use Rattle.spec_requests.specs.declared.limits.TheConstants.{MAX_WIDTH, MAX_DEPTH, MAX_WORKERS}
+use Rattle.spec_requests.specs.declared.request.Request.{Request}
+use Rattle.spec_requests.specs.declared.request.Request.TheVariants.{Find, Cert, Verify, Check, Gen}
+use Rattle.spec_requests.specs.declared.limits.TheConstants.{MAX_GENERATED_BLOCKS, MAX_WIDTH, MAX_DEPTH, MAX_WORKERS}
+
+-- the numbers of an event as they are given: bytes after the blank, no more than two decimals and a comma have
+pub record ArePlain (values : List ℕ) : Type 0 where
+  pub bytes : AreFrom 33 values
+  pub short : length values ≤ 2 * MAX_WORD_BYTES + 1
 
 -- the event can be asked of an ephemeris, and the numbers lie in their limits
 pub record IsWithinLimits (find : FindAsk) : Type 0 where
   pub ask : IsAsk find.ask
+  pub values : ArePlain find.values
   pub tick : IsTick find.tick
   pub some_width : pos 1 ≤ℤ find.width
   pub width : find.width ≤ℤ pos MAX_WIDTH
   pub depth : find.depth ≤ MAX_DEPTH
   pub some_workers : 1 ≤ find.workers
   pub workers : find.workers ≤ MAX_WORKERS
+
+-- so many blocks of a generated text, searched by so many workers, lie in their limits
+pub record AreWithinLimits (blocks workers : ℕ) : Type 0 where
+  pub some_blocks : 1 ≤ blocks
+  pub few_blocks : blocks ≤ MAX_GENERATED_BLOCKS
+  pub some_workers : 1 ≤ workers
+  pub few_workers : workers ≤ MAX_WORKERS
+
+-- what is asked for lies in its limits
+abbrev pub KeepsToLimits : Request → Type 0
+KeepsToLimits (Find find) = IsWithinLimits find
+KeepsToLimits (Cert find) = IsWithinLimits find
+KeepsToLimits (Verify find cert) = IsWithinLimits find
+KeepsToLimits (Check files) = ⊤
+KeepsToLimits (Gen blocks seed workers) = AreWithinLimits blocks workers

@@ -116,8 +116,10 @@ tick_of_word = named ticks
 
 abbrev pub command_place : CommandName → ℕ
 command_place command.Find = 0
-command_place command.Check = 1
-command_place command.Gen = 2
+command_place command.Cert = 1
+command_place command.Verify = 2
+command_place command.Check = 3
+command_place command.Gen = 4
 
 abbrev pub command_name : CommandName → Text
 command_name command = name_at commands (command_place command)
@@ -169,9 +171,10 @@ option_place opt.Width = 13
 option_place opt.Depth = 14
 option_place opt.Workers = 15
 option_place opt.Cut = 16
-option_place opt.Layout = 17
-option_place opt.Blocks = 18
-option_place opt.Seed = 19
+option_place opt.Cert = 17
+option_place opt.Layout = 18
+option_place opt.Blocks = 19
+option_place opt.Seed = 20
 
 -- the option's name, which follows two dashes, or the name of a word of `gen`
 abbrev pub option_name : Named → Text

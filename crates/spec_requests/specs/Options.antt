@@ -1,5 +1,5 @@
 -- The table of options: what form the value of each has, which kinds of events use it, and which is the first that is bad.
-use Rattle.std.specs.Prelude.{ℕ, ◌&&◌, ◌||◌, Bool, not, nat_lt, nat_le, length, Option, None, Some, is_some, if◌then◌else◌, find, option_and_then, unwrap_or, ℤ}
+use Rattle.std.specs.Prelude.{ℕ, ◌&&◌, ◌||◌, ◌++◌, List, [], ◌∷◌, Bool, not, nat_lt, nat_le, length, Option, None, Some, is_some, if◌then◌else◌, find, option_and_then, unwrap_or, ℤ}
 use Rattle.std.specs.Char.{is_ascii_digit}
 use Rattle.std.specs.List.{list_all}
 use Rattle.std.specs.Result.{result_ok}
@@ -51,12 +51,22 @@ decimal_of word = result_ok (reading word)
 unfoldable pub instant_of : ℕ → Text → Option ℤ
 instant_of tick word = result_ok (tick_of tick word)
 
+-- a file has any name but the empty one
+abbrev pub name_of : Text → Option Text
+name_of [] = None
+name_of (byte ∷ rest) = Some (byte ∷ rest)
+
 -- ---- uses
 
--- how a kind uses an option of `find`, by the table of kinds
+-- the options of `verify`
+abbrev pub verify_options : List Named
+verify_options = FIND_OPTIONS ++ opt.Cert ∷ []
+
+-- how a kind uses an option, by the table of kinds
 abbrev pub use_of : Named → Kind → Use
 use_of opt.Kind kind = Needed
 use_of opt.Target kind = Needed
+use_of opt.Cert kind = Needed
 use_of opt.Second kind = (row_of kind).second
 use_of opt.Frame kind = (row_of kind).frame
 use_of opt.Axis kind = (row_of kind).axis
@@ -91,6 +101,7 @@ is_bad tick opt.Width usage given = is_misread width_of usage given
 is_bad tick opt.Depth usage given = is_misread depth_of usage given
 is_bad tick opt.Workers usage given = is_misread workers_of usage given
 is_bad tick opt.Cut usage given = is_misread cut_of usage given
+is_bad tick opt.Cert usage given = is_misread name_of usage given
 is_bad tick opt.Layout usage given = is_misread layout_of usage given
 is_bad tick opt.Blocks usage given = is_misread blocks_of usage given
 is_bad tick opt.Seed usage given = is_misread seed_of usage given
@@ -103,6 +114,6 @@ Values = Named → Option Text
 abbrev pub tick_in : Values → ℕ
 tick_in values = unwrap_or (option_and_then tick_of_word (values opt.Tick)) DEFAULT_TICK
 
--- the first option that a kind finds bad
+-- the first option of a search that a kind finds bad
 unfoldable pub bad_option : Values → Kind → Option Named
 bad_option values kind = find (λ option. is_bad (tick_in values) option (use_of option kind) (values option)) FIND_OPTIONS

@@ -1,7 +1,9 @@
 -- What words ask for, or why they are no valid command line.
 use Rattle.std.specs.Prelude.{List, [], ◌∷◌, ◌++◌, Option, None, Some, Result, Ok, Err, if◌then◌else◌, find, codes, unwrap_or, option_and_then, pos}
+use Rattle.clap.specs.Simple.{App}
 use Rattle.spec_text.specs.declared.decimals.Decimal.{Decimal}
-use Rattle.spec_ephemeris.specs.declared.body.Body.TheVariants.{Mercury, Ssb}
+use Rattle.spec_ephemeris.specs.declared.body.Body.{Body}
+use Rattle.spec_ephemeris.specs.declared.body.Body.TheVariants.{Ssb}
 use Rattle.spec_bodies.specs.declared.frame.Frame.TheVariants.{Eq}
 use Rattle.spec_events.specs.declared.dir.Dir.TheVariants as dir
 use Rattle.spec_trees.specs.declared.cuts.CutRule.TheVariants.{Half}
@@ -12,7 +14,7 @@ use Rattle.spec_kinds.specs.declared.table.Use.TheVariants.{Needed, Optional}
 use Rattle.spec_kinds.specs.Table.{row_of, is_unused, takes_radii}
 use Rattle.spec_requests.specs.declared.request.FindAsk.{FindAsk}
 use Rattle.spec_requests.specs.declared.request.Request.{Request}
-use Rattle.spec_requests.specs.declared.request.Request.TheVariants.{Find, Check, Gen}
+use Rattle.spec_requests.specs.declared.request.Request.TheVariants.{Find, Cert, Verify, Check, Gen}
 use Rattle.spec_requests.specs.declared.request.Named.{Named}
 use Rattle.spec_requests.specs.declared.request.Named.TheVariants as opt
 use Rattle.spec_requests.specs.declared.request.WordFault.{WordFault}
@@ -22,8 +24,8 @@ use Rattle.spec_requests.specs.declared.tables.CommandName.TheVariants as comman
 use Rattle.spec_requests.specs.declared.limits.TheConstants.{DEFAULT_TICK, DEFAULT_WIDTH, DEFAULT_DEPTH, DEFAULT_WORKERS}
 use Rattle.spec_requests.specs.declared.tables.TheConstants.{GEN_WORDS, GEN_OPTIONS}
 use Rattle.spec_requests.specs.Names.{Text, command_of, kind_of, target_of, observer_of, frame_of, axis_of, dir_of, cut_of}
-use Rattle.spec_requests.specs.Options.{Values, is_bad, bad_option, tick_in, decimal_of, instant_of, width_of, depth_of, workers_of, blocks_of, seed_of}
-use Rattle.spec_requests.specs.Commands.{find_command, check_command, gen_command, is_refused, values_in, files_in}
+use Rattle.spec_requests.specs.Options.{Values, name_of, is_bad, bad_option, tick_in, decimal_of, instant_of, width_of, depth_of, workers_of, blocks_of, seed_of}
+use Rattle.spec_requests.specs.Commands.{command_rules, is_refused, values_in, files_in}
 
 -- ---- searches
 
@@ -38,11 +40,11 @@ nought = record { mant = pos 0; exp = pos 0 }
 abbrev pub first_number : Kind → Named
 first_number kind = if takes_radii kind then opt.Radius1 else opt.Ref
 
--- the event that is asked for. A target is always there where no option is bad
-unfoldable pub ask_of : Values → Kind → Ask
-ask_of values kind = record {
+-- the event that is asked for, of this kind and target
+unfoldable pub ask_of : Values → Kind → Body → Ask
+ask_of values kind target = record {
   kind = kind;
-  target = value_or target_of Mercury (values opt.Target);
+  target = target;
   second = option_and_then target_of (values opt.Second);
   observer = value_or observer_of Ssb (values opt.Observer);
   frame = value_or frame_of Eq (values opt.Frame);
@@ -60,9 +62,9 @@ values_text values kind =
     else unwrap_or (values opt.Ref) (codes "0")
 
 -- the search that is asked for
-unfoldable pub search_of : Values → Kind → List Text → FindAsk
-search_of values kind files = record {
-  ask = ask_of values kind;
+unfoldable pub search_of : Values → Kind → Body → List Text → FindAsk
+search_of values kind target files = record {
+  ask = ask_of values kind target;
   values = values_text values kind;
   tick = tick_in values;
   from = option_and_then (instant_of (tick_in values)) (values opt.From);
@@ -75,15 +77,20 @@ search_of values kind files = record {
 }
 
 -- the search, or the first option that is bad
-abbrev pub checked_search : Values → Kind → List Text → Option Named → Result Request WordFault
-checked_search values kind files None = Ok (Find (search_of values kind files))
-checked_search values kind files (Some option) = Err (BadValue option)
+abbrev pub checked_search : Values → Kind → Body → List Text → Option Named → Result FindAsk WordFault
+checked_search values kind target files None = Ok (search_of values kind target files)
+checked_search values kind target files (Some option) = Err (BadValue option)
 
-abbrev pub search_of_kind : Values → List Text → Option Kind → Result Request WordFault
+-- a search needs a kind and a target, the first two of its options
+abbrev pub search_of_target : Values → List Text → Kind → Option Body → Result FindAsk WordFault
+search_of_target values files kind None = Err (BadValue opt.Target)
+search_of_target values files kind (Some target) = checked_search values kind target files (bad_option values kind)
+
+abbrev pub search_of_kind : Values → List Text → Option Kind → Result FindAsk WordFault
 search_of_kind values files None = Err (BadValue opt.Kind)
-search_of_kind values files (Some kind) = checked_search values kind files (bad_option values kind)
+search_of_kind values files (Some kind) = search_of_target values files kind (option_and_then target_of (values opt.Target))
 
-unfoldable pub search_by : Values → List Text → Result Request WordFault
+unfoldable pub search_by : Values → List Text → Result FindAsk WordFault
 search_by values files = search_of_kind values files (option_and_then kind_of (values opt.Kind))
 
 -- ---- generated texts
@@ -110,23 +117,33 @@ text_by values = checked_text values (bad_word values)
 
 -- ---- requests
 
-abbrev pub find_request : List Text → Result Request WordFault
-find_request words =
-    if is_refused find_command words then Err Words
-    else search_by (values_in find_command words) (files_in find_command words)
+-- what is asked of a search, where there is one
+abbrev pub of_search : (FindAsk → Result Request WordFault) → Result FindAsk WordFault → Result Request WordFault
+of_search request (Ok find) = request find
+of_search request (Err fault) = Err fault
 
-abbrev pub check_request : List Text → Result Request WordFault
-check_request words = if is_refused check_command words then Err Words else Ok (Check (files_in check_command words))
+-- a search and its certificate, which has to be named: the last option of `verify`
+abbrev pub verify_of : Option Text → FindAsk → Result Request WordFault
+verify_of None find = Err (BadValue opt.Cert)
+verify_of (Some cert) find = Ok (Verify find cert)
 
-abbrev pub gen_request : List Text → Result Request WordFault
-gen_request words = if is_refused gen_command words then Err Words else text_by (values_in gen_command words)
+-- what a command is asked for by the values of its options and by its files
+abbrev pub request_by : CommandName → Values → List Text → Result Request WordFault
+request_by command.Find values files = of_search (λ find. Ok (Find find)) (search_by values files)
+request_by command.Cert values files = of_search (λ find. Ok (Cert find)) (search_by values files)
+request_by command.Verify values files = of_search (verify_of (option_and_then name_of (values opt.Cert))) (search_by values files)
+request_by command.Check values files = Ok (Check files)
+request_by command.Gen values files = text_by values
+
+-- what words ask for by the rules of a command
+abbrev pub request_in : App → CommandName → List Text → Result Request WordFault
+request_in rules name words =
+    if is_refused rules words then Err Words else request_by name (values_in rules words) (files_in rules words)
 
 -- what the words ask for, of which the first names this command
 abbrev pub request_for : Option CommandName → List Text → Result Request WordFault
 request_for None words = Err UnknownCommand
-request_for (Some command.Find) words = find_request words
-request_for (Some command.Check) words = check_request words
-request_for (Some command.Gen) words = gen_request words
+request_for (Some name) words = request_in (command_rules name) name words
 
 -- what the words ask for, or why they are no valid command line
 unfoldable pub request_of : List Text → Result Request WordFault

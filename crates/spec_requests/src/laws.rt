@@ -8,20 +8,20 @@ ghost use Rattle.spec_trees.specs.declared.cuts.CutRule.{CutRule};
 ghost use Rattle.spec_kinds.specs.declared.kind.Kind.{Kind};
 ghost use Rattle.spec_kinds.specs.Table.{kind_name};
 ghost use Rattle.spec_requests.specs.Names.{axis_name, axis_of, body_name, command_name, command_of, cut_name, cut_of, dir_name, dir_of, frame_name, frame_of, kind_of, layout_of, observer_of, option_name, option_of, tick_of_word};
-ghost use Rattle.spec_requests.specs.Limits.{IsWithinLimits};
+ghost use Rattle.spec_requests.specs.Limits.{KeepsToLimits};
+ghost use Rattle.spec_requests.specs.Options.{verify_options};
 ghost use Rattle.spec_requests.specs.Requests.{request_of};
-ghost use Rattle.spec_requests.specs.declared.request.FindAsk.{FindAsk};
 ghost use Rattle.spec_requests.specs.declared.request.Named.{Named};
 ghost use Rattle.spec_requests.specs.declared.request.Named.TheVariants as opt;
-ghost use Rattle.spec_requests.specs.declared.request.Request.TheVariants.{Find};
+ghost use Rattle.spec_requests.specs.declared.request.Request.{Request};
 ghost use Rattle.spec_requests.specs.declared.tables.CommandName.{CommandName};
 ghost use Rattle.spec_requests.specs.declared.tables.TheConstants.{FIND_OPTIONS, GEN_OPTIONS, GEN_WORDS};
 
-/// A search that words ask for can be asked of an ephemeris: it has a second body exactly where the kind takes one,
-/// looks at no barycentre of the solar system, and its tick, width, depth and workers lie in their limits.
-pub fn searches_keep_to_limits()
-    ensures { (words : List (List ℕ)) (find : FindAsk) → request_of words ≡ Ok (Find find)
-        → IsWithinLimits find }
+/// What words ask for lies in its limits. A search can be asked of an ephemeris: it has a second body exactly where the
+/// kind takes one, looks at no barycentre of the solar system, and its tick, width, depth and workers lie in their limits.
+pub fn requests_keep_to_limits()
+    ensures { (words : List (List ℕ)) (request : Request) → request_of words ≡ Ok request
+        → KeepsToLimits request }
 {}
 
 /// Each command, option, kind, body, frame, axis, direction, rule of cutting, layout and tick has a name that is read as it.
@@ -61,11 +61,12 @@ pub fn words_stand_for_one_thing()
 {}
 
 /// The order in which options are looked at: the first that is bad is the one whose fault is reported. The words of `gen`
-/// come before its option.
+/// come before its option, and the certificate after all options of its search.
 pub fn options_in_their_order()
     ensures find { FIND_OPTIONS ≡ opt.Kind ∷ opt.Target ∷ opt.Second ∷ opt.Observer ∷ opt.Frame
         ∷ opt.Axis ∷ opt.Ref ∷ opt.Radius1 ∷ opt.Radius2 ∷ opt.Dir ∷ opt.Tick ∷ opt.From ∷ opt.To
         ∷ opt.Width ∷ opt.Depth ∷ opt.Workers ∷ opt.Cut ∷ [] }
+    ensures verified { verify_options ≡ FIND_OPTIONS ++ opt.Cert ∷ [] }
     ensures generated { GEN_WORDS ++ GEN_OPTIONS
         ≡ opt.Layout ∷ opt.Blocks ∷ opt.Seed ∷ opt.Workers ∷ [] }
 {}

@@ -11,7 +11,7 @@ mod tables;
 mod text;
 
 pub use laws::{
-    names_are_read_back, options_in_their_order, searches_keep_to_limits, words_stand_for_one_thing,
+    names_are_read_back, options_in_their_order, requests_keep_to_limits, words_stand_for_one_thing,
 };
 pub use limits::{
     DEFAULT_DEPTH, DEFAULT_TICK, DEFAULT_WIDTH, DEFAULT_WORKERS, MAX_DEPTH, MAX_DIGITS_OF_A_COUNT,
@@ -21,7 +21,8 @@ pub use limits::{
 pub use names::{axis_name, body_name, command_name, cut_name, dir_name, frame_name, option_name};
 pub use request::{FindAsk, Named, Request, WordFault};
 pub use request_examples::{
-    faults_of_searches, faults_of_words, requests_of_words, searches_of_words,
+    faults_of_certificates, faults_of_searches, faults_of_words, requests_of_certificates,
+    requests_of_words, searches_of_words,
 };
 pub use tables::{
     AXES, BODIES, COMMANDS, CUTS, CommandName, DIRS, FIND_OPTIONS, FRAMES, GEN_OPTIONS, GEN_WORDS,

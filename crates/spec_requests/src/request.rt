@@ -35,6 +35,15 @@ pub struct FindAsk {
 pub enum Request {
     /// The windows of an event.
     Find(FindAsk),
+    /// The certificate of the windows of an event.
+    Cert(FindAsk),
+    /// The windows of an event, as a certificate shows them.
+    Verify {
+        /// The search that the certificate is of.
+        find: FindAsk,
+        /// The file that holds the certificate.
+        cert: Text,
+    },
     /// What the files hold.
     Check {
         /// The files in their order, at least one.
@@ -51,7 +60,7 @@ pub enum Request {
     },
 }
 
-/// An option of `find`, or a word of `gen`.
+/// An option of a command, or a word of `gen`.
 #[derive(Clone, Copy, Debug, PartialEq, Eq)]
 pub enum Named {
     Kind,
@@ -71,6 +80,7 @@ pub enum Named {
     Depth,
     Workers,
     Cut,
+    Cert,
     Layout,
     Blocks,
     Seed,
@@ -82,7 +92,7 @@ pub enum WordFault {
     /// Fault 60: there is no word.
     #[error("there is no word")]
     NoCommand,
-    /// Fault 61: the first word is none of `find`, `check` and `gen`.
+    /// Fault 61: the first word names no command.
     #[error("the first word is no command")]
     UnknownCommand,
     /// Fault 62: the words after it cannot be read as options and files.

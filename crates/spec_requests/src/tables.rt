@@ -11,13 +11,17 @@ use spec_trees::CutRule;
 #[derive(Clone, Copy, Debug, PartialEq, Eq)]
 pub enum CommandName {
     Find,
+    Cert,
+    Verify,
     Check,
     Gen,
 }
 
 /// The first words of command lines.
-pub const COMMANDS: [(&str, CommandName); 3] = [
+pub const COMMANDS: [(&str, CommandName); 5] = [
     ("find", CommandName::Find),
+    ("cert", CommandName::Cert),
+    ("verify", CommandName::Verify),
     ("check", CommandName::Check),
     ("gen", CommandName::Gen),
 ];
@@ -57,8 +61,8 @@ pub const LAYOUTS: [(&str, u16); 1] = [("405", 405)];
 /// How many ticks a second may have: times are counted in seconds or in milliseconds.
 pub const TICKS: [(&str, u32); 2] = [("1", 1), ("1000", 1_000)];
 
-/// The options of `find` and the words of `gen`.
-pub const OPTIONS: [(&str, Named); 20] = [
+/// The options of all commands, and the words of `gen`.
+pub const OPTIONS: [(&str, Named); 21] = [
     ("kind", Named::Kind),
     ("target", Named::Target),
     ("second", Named::Second),
@@ -76,12 +80,13 @@ pub const OPTIONS: [(&str, Named); 20] = [
     ("depth", Named::Depth),
     ("workers", Named::Workers),
     ("cut", Named::Cut),
+    ("cert", Named::Cert),
     ("layout", Named::Layout),
     ("blocks", Named::Blocks),
     ("seed", Named::Seed),
 ];
 
-/// The options of `find`, in the order in which their faults count.
+/// The options of `find` and `cert`, in the order in which their faults count. `verify` has one more, the last.
 pub const FIND_OPTIONS: [Named; 17] = [
     Named::Kind,
     Named::Target,

@@ -2,6 +2,7 @@
 use Rattle.std.specs.Prelude.{ℕ, ◌-◌, ◌==◌, Bool, false, List, [], ◌∷◌, ◌++◌, length, take, map, slice_get, Option, None, Some, Result, Ok, Err, if◌then◌else◌}
 use Rattle.std.specs.Str.{bytes_eq}
 use Rattle.spec_text.specs.declared.decimals.Fault.{Fault}
+pub use Rattle.spec_text.specs.Results.{◌>>=◌}
 use Rattle.spec_sections.specs.declared.rules.BrokenRule.{BrokenRule}
 
 -- a line of one of the files, which are counted from 0; it isn't blank
@@ -20,11 +21,6 @@ pub record FileWord : Type 0 where
 pub data Stop : Type 0 where
   ended : ℕ → Stop
   breaks : ℕ → Fault → Stop
-
-infixl 10 ◌>>=◌
-abbrev pub ◌>>=◌ : {A B E : Type 0} → Result A E → (A → Result B E) → Result B E
-(Ok x) >>= f = f x
-(Err e) >>= f = Err e
 
 abbrev pub broken : ℕ → ℕ → BrokenRule
 broken number detail = record { number = number; detail = detail }

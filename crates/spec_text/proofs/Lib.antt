@@ -7,3 +7,5 @@ pub mod LineLemmas
 pub mod TokenLemmas
 pub mod Wholes
 pub mod Spans
+pub mod Printed
+pub mod Plain

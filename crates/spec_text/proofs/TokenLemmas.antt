@@ -1,7 +1,7 @@
 -- The first token of a line.
-use Rattle.std.proofs.Common.{◌≡◌, ℕ, zero, suc, ◌+◌, ◌<◌, ◌≤◌, true, false, List, [], ◌∷◌, ◌++◌, length, length-take, get_or, take, drop, refl, sym, ap, ◌∙◌, inl, inr, arith}
+use Rattle.std.proofs.Common.{◌≡◌, ℕ, zero, suc, ◌+◌, ◌<◌, ◌≤◌, true, false, List, [], ◌∷◌, ◌++◌, length, length-take, get_or, take, drop, refl, sym, ap, ◌∙◌, inl, inr, arith, lit<}
 use Rattle.std.specs.Prelude.{filter}
-use Rattle.std.specs.List.{All, slice_split, position_or_len}
+use Rattle.std.specs.List.{All, onto_first, slice_split, position_or_len}
 use Rattle.std.proofs.lemmas.Bool.{cases_lt, lt-ltb}
 use Rattle.std.proofs.lemmas.List.{drop_more, drop_all, take_all, get_or_default}
 use Rattle.std.proofs.lemmas.List.Sums.{position_or_len_is}
@@ -25,6 +25,14 @@ blank_line (b ∷ bs) all = skip_one b bs (all 0 (omega arith)) ∙ blank_line b
 
 keeps_some : (part : List ℕ) (rest : List (List ℕ)) → 0 < length part → filter is_not_empty (part ∷ rest) ≡ part ∷ filter is_not_empty rest
 keeps_some part rest some = rw (lt-ltb 0 (length part) some) refl
+
+-- a line that begins with no separator has a token
+pub some_token : (b : ℕ) (bs : List ℕ) → is_separator b ≡ false → 0 < length (tokens (b ∷ bs))
+some_token b bs begins = rw begins (first (slice_split is_separator bs))
+  where
+    first : (parts : List (List ℕ)) → 0 < length (filter is_not_empty (onto_first b parts))
+    first [] = lit< tt
+    first (part ∷ parts) = rw (keeps_some (b ∷ part) parts (omega arith)) (omega arith)
 
 -- a token, and a separator after it
 pub first_token : (word : List ℕ) (b : ℕ) (rest : List ℕ) → All (λ b. is_separator b ≡ false) word → 0 < length word → is_separator b ≡ true

@@ -5,3 +5,5 @@ pub mod Reading
 pub mod Days
 pub mod Lines
 pub mod Examples
+pub mod Printed
+pub mod Results

@@ -3,7 +3,8 @@ ghost use Rattle.std.specs.Prelude.{◌≡◌, ◌*◌, ◌<◌, ◌≤◌, fals
 ghost use Rattle.std.specs.Str.Lines.{strip_carriage_return};
 ghost use Rattle.spec_text.specs.Bytes.{line_feed};
 ghost use Rattle.spec_text.specs.Days.{seconds_within};
-ghost use Rattle.spec_text.specs.Lines.{is_line_feed, is_separator, lines, tokens};
+ghost use Rattle.spec_text.specs.Lines.{is_line_feed, is_separator, lines, numbered_from, text_lines, tokens};
+ghost use Rattle.spec_text.specs.Printed.{AreLines, IsPlain, joined_lines};
 ghost use Rattle.spec_text.specs.Reading.{IsWithinBounds, Reads, reading, whole_of};
 ghost use Rattle.spec_text.specs.declared.decimals.Decimal.{Decimal};
 ghost use Rattle.spec_text.specs.declared.decimals.NumberFault.{NumberFault};
@@ -56,4 +57,17 @@ pub fn tokens_end_at_separators()
         → tokens (word ++ b ∷ rest) ≡ word ∷ tokens rest }
     ensures last { (word : List ℕ) → All (λ b. is_separator b ≡ false) word → 0 < length word
         → tokens word ≡ word ∷ [] }
+{}
+
+/// Lines, each ended by a line feed, are the lines of the text that they make, and none of them is skipped.
+#[tactic(auto, using(crate::proofs::Printed::lines_joined, crate::proofs::Printed::text_lines_are))]
+pub fn joined_lines_are_read_back()
+    ensures lines { (ls : List (List ℕ)) → AreLines ls → lines (joined_lines ls) ≡ ls }
+    ensures counted { (ls : List (List ℕ)) → AreLines ls
+        → text_lines (joined_lines ls) ≡ numbered_from 1 ls }
+{}
+
+/// A word that is a decimal has at most 40 bytes, all of them printed, and no blank.
+pub fn decimals_are_plain()
+    ensures { (word : List ℕ) (d : Decimal) → reading word ≡ Ok d → IsPlain word }
 {}

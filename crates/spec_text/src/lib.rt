@@ -14,8 +14,9 @@ pub use examples::{
     texts_are_cut_into_lines, whole_numbers_are_read,
 };
 pub use laws::{
-    days_are_bounded, decimals_are_bounded, every_word_has_one_answer, lines_end_at_line_feeds,
-    tokens_end_at_separators, whole_numbers_are_bounded,
+    days_are_bounded, decimals_are_bounded, decimals_are_plain, every_word_has_one_answer,
+    joined_lines_are_read_back, lines_end_at_line_feeds, tokens_end_at_separators,
+    whole_numbers_are_bounded,
 };
 pub use limits::{
     DAY_SECONDS, LAST_JULIAN_DAY, MAX_DIGITS, MAX_EXPONENT, MAX_LINE_BYTES, MAX_TEXT_BYTES,

@@ -2,7 +2,7 @@ use Rattle.std.proofs.Common.{◌≡◌, ◌+◌, ◌-◌, ◌*◌, ◌++◌}
 use Rattle.std.specs.Prelude.{string_bytes}
 use Rattle.spec_generated.specs.Blocks.{rows_from}
 use Rattle.spec_generated.specs.Draws.{draws_upto, state_after}
-use Rattle.spec_generated.specs.Generated.{joined_lines}
+use Rattle.spec_text.specs.Printed.{joined_lines}
 use Rattle.spec_generated.specs.Words.{block_word}
 use Rattle.eph_gen.proofs.blocks.add_rows.Given as goal
 

@@ -2,7 +2,8 @@ use Rattle.std.proofs.Common.{◌≡◌, ◌+◌, ◌-◌, ◌*◌, ℕ, List, [
 use Rattle.std.specs.Prelude.{string_bytes}
 use Rattle.spec_generated.specs.Blocks.{block_lines, lines_from, state_of}
 use Rattle.spec_generated.specs.Draws.{state_after}
-use Rattle.spec_generated.specs.Generated.{generated_text, header_lines, joined_lines}
+use Rattle.spec_text.specs.Printed.{joined_lines}
+use Rattle.spec_generated.specs.Generated.{generated_text, header_lines}
 use Rattle.eph_gen.proofs.Joining.{block_left, blocks_end, joined_append, state_more}
 use Rattle.spec_files.specs.Outcome.{outcome}
 use Rattle.spec_generated.proofs.Accepted.{text_accepted}

@@ -5,12 +5,8 @@ use Rattle.spec_text.specs.Decimals.{AreDigits, Exponent, IsExponent, IsMark, Is
 use Rattle.spec_text.specs.Reading.{Reads, reading}
 use Rattle.spec_text.specs.declared.decimals.Decimal.{Decimal}
 use Rattle.spec_text.proofs.Answering.{reads_reading}
-use Rattle.spec_certificates.specs.Shapes.{AreFrom, IsPlain}
-use Rattle.spec_certificates.proofs.Lines.{from_append}
-
-digits_plain : (ds : List ℕ) → AreDigits ds → AreFrom 33 ds
-digits_plain [] are = tt
-digits_plain (d ∷ ds) are = (omega (arith, are.0.0), digits_plain ds are.1)
+use Rattle.spec_text.specs.Printed.{AreFrom, IsPlain}
+use Rattle.spec_text.proofs.Printed.{digits_from, from_append}
 
 sign_plain : (s : Sign) → AreFrom 33 (sign_text s)
 sign_plain unsigned = tt
@@ -19,7 +15,7 @@ sign_plain minus = (lit≤ tt, tt)
 
 fraction_plain : (f : Option (List ℕ)) → AreDigits (after_point f) → AreFrom 33 (fraction_text f)
 fraction_plain None are = tt
-fraction_plain (Some ds) are = (lit≤ tt, digits_plain ds are)
+fraction_plain (Some ds) are = (lit≤ tt, digits_from ds are)
 
 mark_plain : (b : ℕ) → IsMark b → 33 ≤ b
 mark_plain b (inl e) = omega (arith, e)
@@ -29,12 +25,12 @@ mark_plain b (inr (inr (inr e))) = omega (arith, e)
 
 exponent_plain : (e : Option Exponent) → IfSome e IsExponent → AreFrom 33 (exponent_text e)
 exponent_plain None is = tt
-exponent_plain (Some e) is = (mark_plain e.mark is.mark, from_append 33 (sign_text e.sign) e.digits (sign_plain e.sign) (digits_plain e.digits is.digits))
+exponent_plain (Some e) is = (mark_plain e.mark is.mark, from_append 33 (sign_text e.sign) e.digits (sign_plain e.sign) (digits_from e.digits is.digits))
 
 numeral_plain : (n : Numeral) → IsNumeral n → AreFrom 33 (text n)
 numeral_plain n is =
     from_append 33 (sign_text n.sign) (n.whole ++ (fraction_text n.fraction ++ exponent_text n.exponent)) (sign_plain n.sign)
-    (from_append 33 n.whole (fraction_text n.fraction ++ exponent_text n.exponent) (digits_plain n.whole is.whole)
+    (from_append 33 n.whole (fraction_text n.fraction ++ exponent_text n.exponent) (digits_from n.whole is.whole)
     (from_append 33 (fraction_text n.fraction) (exponent_text n.exponent) (fraction_plain n.fraction is.fraction) (exponent_plain n.exponent is.exponent)))
 
 read_plain : (word : List ℕ) (d : Decimal) → Reads word (Ok d) → IsPlain word

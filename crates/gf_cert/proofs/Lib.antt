@@ -1,0 +1,5 @@
+mod Digits
+mod Placing
+mod Walking
+mod Outcomes
+mod Fitting

@@ -3,7 +3,7 @@ use Rattle.std.proofs.Common.{◌≡◌, ◌+◌, ◌*◌, ◌^◌, ◌<◌, ◌
 use Rattle.std.specs.Prelude.{unsigned_abs}
 use Rattle.std.proofs.lemmas.Int.{ints}
 use Rattle.std.proofs.lemmas.List.Elements.{All-head, All-tail}
-use Rattle.std.proofs.Math.Nat.{mul-le}
+use Rattle.std.proofs.lemmas.Nat.{mul-le}
 use Rattle.spec_text.specs.Printed.{IsLine}
 use Rattle.spec_ephemeris.specs.declared.limits.TheConstants.{FIRST_TICK, LAST_TICK, LONGEST_TICKS, MAX_BLOCKS}
 use Rattle.spec_ephemeris.specs.Ephemeris.{Ephemeris, IsEphemeris, end_of}

@@ -1,6 +1,6 @@
 -- Parts that are read in the order of a table of options: the first that is bad is the first of the table that is bad.
 use Rattle.std.proofs.Common.{◌≡◌, ◌∙◌, ◌||◌, Bool, true, false, not, List, [], ◌∷◌, ◌++◌, drop, Option, Some, None, Result, Ok, Err, cond, find, is_some, if◌then◌else◌, option_and_then, unwrap_or, refl, sym, ap}
-use Rattle.spec_ephemeris.specs.declared.body.Body.TheVariants.{Mercury}
+use Rattle.spec_ephemeris.specs.declared.body.Body.{Body}
 use Rattle.spec_kinds.specs.declared.kind.Kind.{Kind}
 use Rattle.spec_kinds.specs.declared.table.Use.{Use}
 use Rattle.spec_kinds.specs.declared.table.Use.TheVariants.{Needed, Optional, Unused}
@@ -9,13 +9,12 @@ use Rattle.spec_requests.specs.declared.request.FindAsk.{FindAsk}
 use Rattle.spec_requests.specs.declared.request.Named.{Named}
 use Rattle.spec_requests.specs.declared.request.Named.TheVariants as opt
 use Rattle.spec_requests.specs.declared.request.Request.{Request}
-use Rattle.spec_requests.specs.declared.request.Request.TheVariants.{Find}
 use Rattle.spec_requests.specs.declared.request.WordFault.TheVariants.{BadValue}
 use Rattle.spec_requests.specs.declared.tables.TheConstants.{FIND_OPTIONS}
 use Rattle.spec_requests.specs.declared.limits.TheConstants.{DEFAULT_TICK}
 use Rattle.spec_requests.specs.Names.{Text, axis_of, cut_of, dir_of, frame_of, kind_of, layout_of, observer_of, target_of, tick_of_word}
 use Rattle.spec_requests.specs.Options.{Values, bad_option, blocks_of, decimal_of, depth_of, instant_of, is_bad, is_misread, seed_of, tick_in, use_of, width_of, workers_of}
-use Rattle.spec_requests.specs.Requests.{ask_of, bad_word, checked_search, checked_text, nought, search_by, search_of, search_of_kind, text_by, text_of, use_in_text, value_or}
+use Rattle.spec_requests.specs.Requests.{ask_of, bad_word, checked_search, checked_text, nought, search_by, search_of, search_of_kind, search_of_target, text_by, text_of, use_in_text, value_or}
 use Rattle.gf_words.specs.declared.searches.SearchOptions.{SearchOptions}
 use Rattle.gf_words.specs.Parts.{made, needed, pair, part, required, used, ask_of_parts, ask_read, axes_by, axes_of, axes_read, bodies_by, bodies_of, bodies_read, ends_by, ends_of, ends_read, limits_by, limits_of, limits_read, numbers_by, numbers_of, numbers_read, search_by_options, search_of_parts, search_read, text_of_parts, text_read}
 
@@ -127,14 +126,15 @@ first_number_is : (takes : Bool) (values : Values)
 first_number_is true values = refl
 first_number_is false values = refl
 
-kind_good : (given : Option Text) (kind : Kind) → option_and_then kind_of given ≡ Some kind → is_misread kind_of Needed given ≡ false
-kind_good None kind is = absurd (cc)
-kind_good (Some word) kind is = rw is refl
+known_good : {X : Type 0} (form : Text → Option X) (given : Option Text) (x : X) → option_and_then form given ≡ Some x
+    → is_misread form Needed given ≡ false
+known_good form None x is = absurd (cc)
+known_good form (Some word) x is = rw is refl
 
 -- the options of each group, in their order
 
 abbrev of_bodies : List Named
-of_bodies = opt.Target ∷ opt.Second ∷ opt.Observer ∷ []
+of_bodies = opt.Second ∷ opt.Observer ∷ []
 
 abbrev of_axes : List Named
 of_axes = opt.Frame ∷ opt.Axis ∷ []
@@ -151,7 +151,7 @@ of_ends = opt.Tick ∷ opt.From ∷ opt.To ∷ []
 abbrev of_limits : List Named
 of_limits = opt.Width ∷ opt.Depth ∷ opt.Workers ∷ opt.Cut ∷ []
 
-module _ (values : Values) (kind : Kind) where
+module _ (values : Values) (kind : Kind) (target : Body) where
   -- whether the kind finds an option bad
   abbrev finds : Named → Bool
   finds option = is_bad (tick_in values) option (use_of option kind) (values option)
@@ -161,12 +161,10 @@ module _ (values : Values) (kind : Kind) where
       → part form option usage (values option) ≡ answer (find finds (option ∷ [])) (option_and_then form (values option))
   of_one form option usage is = one_part form finds option usage (values option) is
 
-  bodies_are : bodies_read values kind ≡ answer (find finds of_bodies) (bodies_by values)
+  bodies_are : bodies_read values kind target ≡ answer (find finds of_bodies) (bodies_by values target)
   bodies_are =
-      made_is bodies_of (find finds of_bodies) _ _ (paired finds (opt.Target ∷ []) (opt.Second ∷ opt.Observer ∷ []) _ _ _ _
-      (needed_part target_of finds opt.Target (values opt.Target) Mercury refl)
-      (paired finds (opt.Second ∷ []) (opt.Observer ∷ []) _ _ _ _
-      (of_one target_of opt.Second (row_of kind).second refl) (of_one observer_of opt.Observer Optional refl)))
+      made_is (bodies_of target) (find finds of_bodies) _ _ (paired finds (opt.Second ∷ []) (opt.Observer ∷ []) _ _ _ _
+      (of_one target_of opt.Second (row_of kind).second refl) (of_one observer_of opt.Observer Optional refl))
 
   axes_are : axes_read values kind ≡ answer (find finds of_axes) (axes_by values)
   axes_are =
@@ -181,7 +179,7 @@ module _ (values : Values) (kind : Kind) where
       ∙ ap (answer (find finds of_numbers))
       (λ i. record { value1 = first_number_is (takes_radii kind) values i; value2 = value_or decimal_of nought (values opt.Radius2) })
 
-  ask_is : ask_read values kind ≡ answer (find finds of_ask) (ask_of values kind)
+  ask_is : ask_read values kind target ≡ answer (find finds of_ask) (ask_of values kind target)
   unfolding ask_of
   ask_is =
       made_is (ask_of_parts kind) (find finds of_ask) _ _ (paired finds (of_bodies ++ of_axes) (of_numbers ++ opt.Dir ∷ []) _ _ _ _
@@ -203,27 +201,37 @@ module _ (values : Values) (kind : Kind) where
       (paired finds (opt.Workers ∷ []) (opt.Cut ∷ []) _ _ _ _
       (of_one workers_of opt.Workers Optional refl) (of_one cut_of opt.Cut Optional refl)))
 
-  options_are : search_read values kind ≡ answer (find finds (drop 1 FIND_OPTIONS)) (search_by_options values kind)
+  options_are : search_read values kind target ≡ answer (find finds (drop 2 FIND_OPTIONS)) (search_by_options values kind target)
   options_are =
-      made_is search_of_parts (find finds (drop 1 FIND_OPTIONS)) _ _ (paired finds of_ask (of_ends ++ of_limits) _ _ _ _ ask_is
+      made_is search_of_parts (find finds (drop 2 FIND_OPTIONS)) _ _ (paired finds of_ask (of_ends ++ of_limits) _ _ _ _ ask_is
       (paired finds of_ends of_limits _ _ _ _ ends_are limits_are))
 
-search_is_read : (values : Values) (kind : Kind) → option_and_then kind_of (values opt.Kind) ≡ Some kind
-    → search_read values kind ≡ answer (bad_option values kind) (search_by_options values kind)
-unfolding bad_option
-search_is_read values kind known =
-    let known_good : finds values kind opt.Kind ≡ false = kind_good (values opt.Kind) kind known in
-    let rest : find (finds values kind) FIND_OPTIONS ≡ find (finds values kind) (drop 1 FIND_OPTIONS) =
-    ap (λ (b : Bool). cond b (Some opt.Kind) (find (finds values kind) (drop 1 FIND_OPTIONS))) known_good in
-    options_are values kind ∙ ap (λ (o : Option Named). answer o (search_by_options values kind)) (sym rest)
+-- the words give a kind and a target
+pub record AreKnown (values : Values) (kind : Kind) (target : Body) : Type 0 where
+  pub kind_is : option_and_then kind_of (values opt.Kind) ≡ Some kind
+  pub target_is : option_and_then target_of (values opt.Target) ≡ Some target
 
-pub known_kind : (values : Values) (kind : Kind) → Ok kind ≡ needed kind_of opt.Kind (values opt.Kind)
-    → option_and_then kind_of (values opt.Kind) ≡ Some kind
-known_kind values kind is = one (option_and_then kind_of (values opt.Kind)) is
+search_is_read : (values : Values) (kind : Kind) (target : Body) → AreKnown values kind target
+    → search_read values kind target ≡ answer (bad_option values kind) (search_by_options values kind target)
+unfolding bad_option
+search_is_read values kind target known =
+    let p : Named → Bool = finds values kind target in
+    let kind_good : p opt.Kind ≡ false = known_good kind_of (values opt.Kind) kind known.kind_is in
+    let target_good : p opt.Target ≡ false = known_good target_of (values opt.Target) target known.target_is in
+    let second : find p (drop 1 FIND_OPTIONS) ≡ find p (drop 2 FIND_OPTIONS) =
+    ap (λ (b : Bool). cond b (Some opt.Target) (find p (drop 2 FIND_OPTIONS))) target_good in
+    let first : find p FIND_OPTIONS ≡ find p (drop 1 FIND_OPTIONS) =
+    ap (λ (b : Bool). cond b (Some opt.Kind) (find p (drop 1 FIND_OPTIONS))) kind_good in
+    options_are values kind target
+    ∙ ap (λ (o : Option Named). answer o (search_by_options values kind target)) (sym (first ∙ second))
+
+pub known : {X : Type 0} (form : Text → Option X) (option : Named) (given : Option Text) (x : X) → Ok x ≡ needed form option given
+    → option_and_then form given ≡ Some x
+known {X = X} form option given x is = one (option_and_then form given) is
   where
-    one : (read : Option Kind) → Ok kind ≡ required opt.Kind read → read ≡ Some kind
+    one : (read : Option X) → Ok x ≡ required option read → read ≡ Some x
     one None is = absurd (cc)
-    one (Some other) is = let same : kind ≡ other = cc in ap (λ (k : Kind). Some k) (sym same)
+    one (Some other) is = let same : x ≡ other = cc in ap (λ (y : X). Some y) (sym same)
 
 pub no_kind : (values : Values) (files : List Text) (option : Named) → Err option ≡ needed kind_of opt.Kind (values opt.Kind)
     → search_by values files ≡ Err (BadValue option)
@@ -234,30 +242,48 @@ no_kind values files option is = one (option_and_then kind_of (values opt.Kind))
     one None is = let same : option ≡ opt.Kind = cc in ap (λ (o : Named). Err (BadValue o)) (sym same)
     one (Some kind) is = absurd (cc)
 
-by_kind : (values : Values) (files : List Text) (kind : Kind) → option_and_then kind_of (values opt.Kind) ≡ Some kind
-    → search_by values files ≡ checked_search values kind files (bad_option values kind)
+of_known_kind : (values : Values) (files : List Text) (kind : Kind) → option_and_then kind_of (values opt.Kind) ≡ Some kind
+    → search_by values files ≡ search_of_target values files kind (option_and_then target_of (values opt.Target))
 unfolding search_by
-by_kind values files kind known = ap (search_of_kind values files) known
+of_known_kind values files kind is = ap (search_of_kind values files) is
 
-pub search_of_options : (values : Values) (kind : Kind) (search : SearchOptions) → option_and_then kind_of (values opt.Kind) ≡ Some kind
-    → Ok search ≡ search_read values kind → search ≡ search_by_options values kind
-search_of_options values kind search known read =
-    (none_bad (bad_option values kind) (search_by_options values kind) search (read ∙ search_is_read values kind known)).1
-
-pub search_found : (values : Values) (kind : Kind) (files : List Text) (search : SearchOptions) (asked : FindAsk)
-    → option_and_then kind_of (values opt.Kind) ≡ Some kind → Ok search ≡ search_read values kind
-    → asked ≡ search_of values kind files → search_by values files ≡ Ok (Find asked)
-search_found values kind files search asked known read is =
-    let none = (none_bad (bad_option values kind) (search_by_options values kind) search (read ∙ search_is_read values kind known)).0 in
-    by_kind values files kind known ∙ ap (checked_search values kind files) none ∙ ap (λ (f : FindAsk). Ok (Find f)) (sym is)
-
-pub option_bad : (values : Values) (kind : Kind) (files : List Text) (option : Named)
-    → option_and_then kind_of (values opt.Kind) ≡ Some kind → Err option ≡ search_read values kind
+pub no_target : (values : Values) (files : List Text) (kind : Kind) (option : Named)
+    → option_and_then kind_of (values opt.Kind) ≡ Some kind → Err option ≡ needed target_of opt.Target (values opt.Target)
     → search_by values files ≡ Err (BadValue option)
-option_bad values kind files option known read =
-    by_kind values files kind known
-    ∙ ap (checked_search values kind files)
-    (one_bad (bad_option values kind) (search_by_options values kind) option (read ∙ search_is_read values kind known))
+no_target values files kind option kind_is is =
+    of_known_kind values files kind kind_is ∙ one (option_and_then target_of (values opt.Target)) is
+  where
+    one : (read : Option Body) → Err option ≡ required opt.Target read → search_of_target values files kind read ≡ Err (BadValue option)
+    one None is = let same : option ≡ opt.Target = cc in ap (λ (o : Named). Err (BadValue o)) (sym same)
+    one (Some target) is = absurd (cc)
+
+of_known : (values : Values) (files : List Text) (kind : Kind) (target : Body) → AreKnown values kind target
+    → search_by values files ≡ checked_search values kind target files (bad_option values kind)
+of_known values files kind target known =
+    of_known_kind values files kind known.kind_is ∙ ap (search_of_target values files kind) known.target_is
+
+pub search_of_options : (values : Values) (kind : Kind) (target : Body) (search : SearchOptions) → AreKnown values kind target
+    → Ok search ≡ search_read values kind target → search ≡ search_by_options values kind target
+search_of_options values kind target search known read =
+    (none_bad (bad_option values kind) (search_by_options values kind target) search
+    (read ∙ search_is_read values kind target known)).1
+
+pub search_found : (values : Values) (kind : Kind) (target : Body) (files : List Text) (search : SearchOptions) (asked : FindAsk)
+    → AreKnown values kind target → Ok search ≡ search_read values kind target
+    → asked ≡ search_of values kind target files → search_by values files ≡ Ok asked
+search_found values kind target files search asked known read is =
+    let none = (none_bad (bad_option values kind) (search_by_options values kind target) search
+    (read ∙ search_is_read values kind target known)).0 in
+    of_known values files kind target known ∙ ap (checked_search values kind target files) none
+    ∙ ap (λ (f : FindAsk). Ok f) (sym is)
+
+pub option_bad : (values : Values) (kind : Kind) (target : Body) (files : List Text) (option : Named) → AreKnown values kind target
+    → Err option ≡ search_read values kind target → search_by values files ≡ Err (BadValue option)
+option_bad values kind target files option known read =
+    of_known values files kind target known
+    ∙ ap (checked_search values kind target files)
+    (one_bad (bad_option values kind) (search_by_options values kind target) option
+    (read ∙ search_is_read values kind target known))
 
 -- ---- generated texts
 

@@ -5,7 +5,7 @@ use Rattle.clap.specs.Simple.{App}
 use Rattle.spec_requests.specs.declared.request.Named.{Named}
 use Rattle.gf_words.specs.Commands.{with_rules}
 
-more_rules : (first second : List Rule) (a : App) → with_rules second (with_rules first a) ≡ with_rules (first ++ second) a
+pub more_rules : (first second : List Rule) (a : App) → with_rules second (with_rules first a) ≡ with_rules (first ++ second) a
 more_rules first second a = λ i. record a { top = record a.top { rules = append_assoc a.top.rules first second i } }
 
 taken : (rule : Named → Rule) (xs : List Named) (i : ℕ) (d : Named) → i < length xs

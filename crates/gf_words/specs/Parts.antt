@@ -2,7 +2,7 @@
 use Rattle.std.specs.Prelude.{ℕ, ℤ, Option, None, Some, Result, Ok, Err, if◌then◌else◌, option_and_then, option_map, unwrap_or}
 use Rattle.spec_text.specs.declared.decimals.Decimal.{Decimal}
 use Rattle.spec_ephemeris.specs.declared.body.Body.{Body}
-use Rattle.spec_ephemeris.specs.declared.body.Body.TheVariants.{Mercury, Ssb}
+use Rattle.spec_ephemeris.specs.declared.body.Body.TheVariants.{Ssb}
 use Rattle.spec_bodies.specs.declared.frame.Frame.{Frame}
 use Rattle.spec_bodies.specs.declared.frame.Frame.TheVariants.{Eq}
 use Rattle.spec_events.specs.declared.dir.Dir.{Dir}
@@ -73,20 +73,20 @@ needed form option given = required option (option_and_then form given)
 
 -- ---- the parts of a search: what each group of options stands for, and how it is read, or the first that is bad
 
-abbrev pub bodies_by : Values → Bodies
-bodies_by values = record {
-  target = value_or target_of Mercury (values opt.Target);
+abbrev pub bodies_by : Values → Body → Bodies
+bodies_by values target = record {
+  target = target;
   second = option_and_then target_of (values opt.Second);
   observer = value_or observer_of Ssb (values opt.Observer);
 }
 
-abbrev pub bodies_of : Body × (Option Body × Option Body) → Bodies
-bodies_of (target, (second, observer)) = record { target = target; second = second; observer = unwrap_or observer Ssb }
+abbrev pub bodies_of : Body → Option Body × Option Body → Bodies
+bodies_of target (second, observer) = record { target = target; second = second; observer = unwrap_or observer Ssb }
 
-abbrev pub bodies_read : Values → Kind → Result Bodies Named
-bodies_read values kind = made bodies_of (pair (needed target_of opt.Target (values opt.Target))
+abbrev pub bodies_read : Values → Kind → Body → Result Bodies Named
+bodies_read values kind target = made (bodies_of target)
     (pair (part target_of opt.Second (row_of kind).second (values opt.Second))
-    (part observer_of opt.Observer Optional (values opt.Observer))))
+    (part observer_of opt.Observer Optional (values opt.Observer)))
 
 abbrev pub axes_by : Values → Axes
 axes_by values = record { frame = value_or frame_of Eq (values opt.Frame); axis = value_or axis_of 0 (values opt.Axis) }
@@ -131,8 +131,8 @@ ask_of_parts kind ((bodies, axes), (numbers, turns)) = record {
   dir = unwrap_or turns dir.Any;
 }
 
-abbrev pub ask_read : Values → Kind → Result Ask Named
-ask_read values kind = made (ask_of_parts kind) (pair (pair (bodies_read values kind) (axes_read values kind))
+abbrev pub ask_read : Values → Kind → Body → Result Ask Named
+ask_read values kind target = made (ask_of_parts kind) (pair (pair (bodies_read values kind target) (axes_read values kind))
     (pair (numbers_read values kind) (part dir_of opt.Dir Optional (values opt.Dir))))
 
 abbrev pub ends_by : Values → Ends
@@ -174,14 +174,15 @@ limits_read values = made limits_of
     (pair (part workers_of opt.Workers Optional (values opt.Workers)) (part cut_of opt.Cut Optional (values opt.Cut))))
 
 -- a search without its texts
-abbrev pub search_by_options : Values → Kind → SearchOptions
-search_by_options values kind = record { ask = ask_of values kind; ends = ends_by values; limits = limits_by values }
+abbrev pub search_by_options : Values → Kind → Body → SearchOptions
+search_by_options values kind target = record { ask = ask_of values kind target; ends = ends_by values; limits = limits_by values }
 
 abbrev pub search_of_parts : Ask × (Ends × Limits) → SearchOptions
 search_of_parts (ask, (ends, limits)) = record { ask = ask; ends = ends; limits = limits }
 
-abbrev pub search_read : Values → Kind → Result SearchOptions Named
-search_read values kind = made search_of_parts (pair (ask_read values kind) (pair (ends_read values) (limits_read values)))
+abbrev pub search_read : Values → Kind → Body → Result SearchOptions Named
+search_read values kind target =
+    made search_of_parts (pair (ask_read values kind target) (pair (ends_read values) (limits_read values)))
 
 -- ---- the parts of a generated text
 

@@ -1,7 +1,8 @@
 // The commands, as `clap` takes them.
 ghost use Rattle.std.specs.Prelude.{◌≡◌, ◌++◌, ◌∷◌, [], IfOk, map};
 ghost use Rattle.clap.specs.Simple.{app_of, on_top};
-ghost use Rattle.spec_requests.specs.Commands.{check_command, command_with, files_rule, find_command, gen_command};
+ghost use Rattle.spec_requests.specs.Commands.{command_rules, command_with, files_rule, option_rule, options_of, places_of};
+ghost use Rattle.spec_requests.specs.Options.{verify_options};
 ghost use Rattle.gf_words.specs.Commands.{rule_of, with_rules};
 
 use clap::{Arg, ArgAction, Command};
@@ -64,31 +65,54 @@ fn without_help<'a>(alloc: Global, name: &'a str) -> Command<'a>
     Command::new(alloc, name).disable_help_flag(true)
 }
 
-pub(crate) fn find_command<'a>(alloc: Global) -> Result<Command<'a>, AllocError>
-    ensures { IfOk result (λ command. app_of command ≡ find_command) }
+fn with_options<'a>(
+    alloc: Global,
+    command: Command<'a>,
+    name: CommandName,
+) -> Result<Command<'a>, AllocError>
+    ensures { IfOk result (λ more.
+        app_of more ≡ with_rules (map option_rule (options_of name)) (app_of command.entry)) }
 {
-    let name: &'a str = command_name(CommandName::Find);
-    let command = with_all(
-        alloc,
-        without_help(alloc, name),
-        Role::Option,
-        &FIND_OPTIONS,
-    )?;
-    with_files(alloc, command)
+    match name {
+        CommandName::Find => with_all(alloc, command, Role::Option, &FIND_OPTIONS),
+        CommandName::Cert => with_all(alloc, command, Role::Option, &FIND_OPTIONS),
+        CommandName::Verify => with_certificate(alloc, command),
+        CommandName::Check => with_all(alloc, command, Role::Option, &[]),
+        CommandName::Gen => with_all(alloc, command, Role::Option, &GEN_OPTIONS),
+    }
 }
 
-pub(crate) fn check_command<'a>(alloc: Global) -> Result<Command<'a>, AllocError>
-    ensures { IfOk result (λ command. app_of command ≡ check_command) }
+// The options of a search, and the name of its certificate.
+fn with_certificate<'a>(alloc: Global, command: Command<'a>) -> Result<Command<'a>, AllocError>
+    ensures { IfOk result (λ more.
+        app_of more ≡ with_rules (map option_rule verify_options) (app_of command.entry)) }
 {
-    let name: &'a str = command_name(CommandName::Check);
-    with_files(alloc, without_help(alloc, name))
+    let command = with_all(alloc, command, Role::Option, &FIND_OPTIONS)?;
+    with_one(alloc, command, Role::Option, Named::Cert)
 }
 
-pub(crate) fn gen_command<'a>(alloc: Global) -> Result<Command<'a>, AllocError>
-    ensures { IfOk result (λ command. app_of command ≡ gen_command) }
+fn with_places<'a>(
+    alloc: Global,
+    command: Command<'a>,
+    name: CommandName,
+) -> Result<Command<'a>, AllocError>
+    ensures { IfOk result (λ more.
+        app_of more ≡ with_rules (places_of name) (app_of command.entry)) }
 {
-    let name: &'a str = command_name(CommandName::Gen);
-    let command = with_all(alloc, without_help(alloc, name), Role::Option, &GEN_OPTIONS)?;
-    let command = with_all(alloc, command, Role::Word, &GEN_WORDS)?;
-    Ok(command)
+    match name {
+        CommandName::Find => with_files(alloc, command),
+        CommandName::Cert => with_files(alloc, command),
+        CommandName::Verify => with_files(alloc, command),
+        CommandName::Check => with_files(alloc, command),
+        CommandName::Gen => with_all(alloc, command, Role::Word, &GEN_WORDS),
+    }
+}
+
+/// The command of this name, as `clap` takes it.
+pub(crate) fn command<'a>(alloc: Global, name: CommandName) -> Result<Command<'a>, AllocError>
+    ensures { IfOk result (λ command. app_of command ≡ command_rules name) }
+{
+    let text: &'a str = command_name(name);
+    let command = with_options(alloc, without_help(alloc, text), name)?;
+    with_places(alloc, command, name)
 }

@@ -4,7 +4,8 @@ ghost use Rattle.std.specs.Char.{is_ascii_digit};
 ghost use Rattle.std.specs.List.{list_all};
 ghost use Rattle.spec_requests.specs.Names.{as_target, axis_of, command_of, cut_of, dir_of, frame_of, kind_of, layout_of, named, observer_of, rows_of, target_of, tick_of_word};
 ghost use Rattle.spec_ephemeris.specs.Ticks.{IsTick};
-ghost use Rattle.spec_requests.specs.Options.{are_digits, blocks_of, decimal_of, depth_of, instant_of, number_of, seed_of, width_of, workers_of};
+ghost use Rattle.spec_requests.specs.Options.{are_digits, blocks_of, decimal_of, depth_of, instant_of, name_of, number_of, seed_of, width_of, workers_of};
+ghost use Rattle.gf_words.specs.Readings.{text_in};
 
 use de_text::read_decimal;
 use spec_bodies::Frame;
@@ -210,4 +211,11 @@ pub(crate) fn instant(word: &str, tick: u32) -> Option<i64>
     ensures { result ≡ instant_of tick word.now }
 {
     read_time(word.as_bytes(), tick).ok()
+}
+
+// A name of a file: any but the empty one.
+pub(crate) fn name<'a>(word: &'a str) -> Option<&'a str>
+    ensures { text_in result ≡ name_of word.entry.now }
+{
+    if word.is_empty() { None } else { Some(word) }
 }

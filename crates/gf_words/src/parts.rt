@@ -1,12 +1,12 @@
 // The parts of a request: what the word of an option stands for, or the option, where it is bad.
-ghost use Rattle.std.specs.Prelude.{◌≡◌};
+ghost use Rattle.std.specs.Prelude.{◌≡◌, option_and_then};
 ghost use Rattle.spec_kinds.specs.declared.table.Use.TheVariants.{Optional};
 ghost use Rattle.spec_requests.specs.declared.request.Named.TheVariants as opt;
 ghost use Rattle.spec_ephemeris.specs.Ticks.{IsTick};
 ghost use Rattle.spec_requests.specs.Names.{axis_of, cut_of, dir_of, frame_of, kind_of, layout_of, observer_of, target_of, tick_of_word};
-ghost use Rattle.spec_requests.specs.Options.{blocks_of, decimal_of, depth_of, instant_of, seed_of, tick_in, width_of, workers_of};
+ghost use Rattle.spec_requests.specs.Options.{blocks_of, decimal_of, depth_of, instant_of, name_of, seed_of, tick_in, width_of, workers_of};
 ghost use Rattle.gf_words.specs.Parts.{by_use, left_out, needed, pair, part, required, used};
-ghost use Rattle.gf_words.specs.Readings.{values_of};
+ghost use Rattle.gf_words.specs.Readings.{text_in, values_of};
 
 use crate::forms;
 use crate::readings::value;
@@ -208,6 +208,16 @@ pub(crate) fn seed(matches: &ArgMatches<'_>) -> Result<u64, Named>
 {
     let read = value(matches, Named::Seed).and_then(forms::seed);
     required(Named::Seed, read)
+}
+
+// The name of the file that holds the certificate, where it has one.
+pub(crate) fn cert<'a>(matches: &ArgMatches<'a>) -> Option<&'a str>
+    ensures { text_in result ≡ option_and_then name_of (values_of matches.now opt.Cert) }
+{
+    match value(matches, Named::Cert) {
+        Some(word) => forms::name(word),
+        None => None,
+    }
 }
 
 /// Both parts, or the first of the two that is bad.

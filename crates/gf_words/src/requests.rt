@@ -1,47 +1,71 @@
 // What words ask for.
-ghost use Rattle.std.specs.Prelude.{◌≡◌, ◌⊎◌, IfErr, IfOk, Ok, Err, Some, map, string_bytes};
-ghost use Rattle.spec_requests.specs.Requests.{check_request, find_request, gen_request, request_for, request_of};
+ghost use Rattle.std.specs.Prelude.{◌≡◌, ◌⊎◌, IfErr, IfOk, Ok, Err, Some, map, option_and_then, string_bytes};
+ghost use Rattle.spec_requests.specs.Options.{name_of};
+ghost use Rattle.spec_requests.specs.Requests.{request_by, request_for, request_of, verify_of};
+ghost use Rattle.spec_requests.specs.declared.request.Named.TheVariants as opt;
+ghost use Rattle.spec_requests.specs.declared.tables.CommandName.TheVariants as command;
 ghost use Rattle.spec_requests.specs.declared.request.Request.TheVariants.{Check};
 ghost use Rattle.gf_words.specs.Answers.{Answers};
-ghost use Rattle.gf_words.specs.Readings.{file_names_of};
+ghost use Rattle.gf_words.specs.Readings.{file_names_of, values_of};
 
-use crate::commands::{check_command, find_command, gen_command};
-use crate::forms;
+use crate::commands::command;
 use crate::readings::{file_names, read};
-use crate::searches::search;
+use crate::searches::{search, text};
 use crate::texts::generated;
+use crate::{forms, parts};
 use clap::ArgMatches;
-use spec_requests::{CommandName, Request, WordFault};
+use spec_requests::{CommandName, FindAsk, Named, Request, WordFault};
 use std::alloc::Global;
 
-fn find(alloc: Global, words: &[String]) -> Result<Request, WordFault>
-    ensures { Answers (find_request (map string_bytes words.now)) result }
+fn find(alloc: Global, matches: &ArgMatches<'_>) -> Result<Request, WordFault>
+    ensures { Answers (request_by command.Find (values_of matches.now) (file_names_of matches.now))
+        result }
 {
-    let command = match find_command(alloc) {
-        Ok(command) => command,
-        Err(_) => return Err(WordFault::Memory),
-    };
-    match read(command, words) {
-        Ok(matches) => search(alloc, &matches),
+    match search(alloc, matches) {
+        Ok(find) => Ok(Request::Find(find)),
         Err(fault) => Err(fault),
     }
 }
 
-fn check(alloc: Global, words: &[String]) -> Result<Request, WordFault>
-    ensures { Answers (check_request (map string_bytes words.now)) result }
+fn cert(alloc: Global, matches: &ArgMatches<'_>) -> Result<Request, WordFault>
+    ensures { Answers (request_by command.Cert (values_of matches.now) (file_names_of matches.now))
+        result }
 {
-    let command = match check_command(alloc) {
-        Ok(command) => command,
-        Err(_) => return Err(WordFault::Memory),
-    };
-    match read(command, words) {
-        Ok(matches) => checked(alloc, &matches),
+    match search(alloc, matches) {
+        Ok(find) => Ok(Request::Cert(find)),
         Err(fault) => Err(fault),
     }
 }
 
-// A check of the files that the words name.
-fn checked(alloc: Global, matches: &ArgMatches<'_>) -> Result<Request, WordFault>
+fn verify(alloc: Global, matches: &ArgMatches<'_>) -> Result<Request, WordFault>
+    ensures { Answers (request_by command.Verify (values_of matches.now)
+        (file_names_of matches.now)) result }
+{
+    match search(alloc, matches) {
+        Ok(find) => with_certificate(alloc, matches, find),
+        Err(fault) => Err(fault),
+    }
+}
+
+// A search and its certificate, which has to be named.
+fn with_certificate(
+    alloc: Global,
+    matches: &ArgMatches<'_>,
+    find: FindAsk,
+) -> Result<Request, WordFault>
+    ensures { Answers (verify_of (option_and_then name_of (values_of matches.now opt.Cert)) find)
+        result }
+{
+    match parts::cert(matches) {
+        Some(name) => match text(alloc, name) {
+            Ok(cert) => Ok(Request::Verify { find, cert }),
+            Err(_) => Err(WordFault::Memory),
+        },
+        None => Err(WordFault::BadValue(Named::Cert)),
+    }
+}
+
+fn check(alloc: Global, matches: &ArgMatches<'_>) -> Result<Request, WordFault>
     ensures { Answers (Ok (Check (file_names_of matches.now))) result }
 {
     match file_names(alloc, matches) {
@@ -50,34 +74,40 @@ fn checked(alloc: Global, matches: &ArgMatches<'_>) -> Result<Request, WordFault
     }
 }
 
-fn generate(alloc: Global, words: &[String]) -> Result<Request, WordFault>
-    ensures { Answers (gen_request (map string_bytes words.now)) result }
+// What the command is asked for by what was read.
+fn request_by(
+    alloc: Global,
+    name: CommandName,
+    matches: &ArgMatches<'_>,
+) -> Result<Request, WordFault>
+    ensures { Answers (request_by name (values_of matches.now) (file_names_of matches.now)) result }
 {
-    let command = match gen_command(alloc) {
-        Ok(command) => command,
-        Err(_) => return Err(WordFault::Memory),
-    };
-    match read(command, words) {
-        Ok(matches) => generated(&matches),
-        Err(fault) => Err(fault),
+    match name {
+        CommandName::Find => find(alloc, matches),
+        CommandName::Cert => cert(alloc, matches),
+        CommandName::Verify => verify(alloc, matches),
+        CommandName::Check => check(alloc, matches),
+        CommandName::Gen => generated(matches),
     }
 }
 
 // What the words ask of this command, which the first of them names.
-fn request_for(alloc: Global, command: CommandName, words: &[String]) -> Result<Request, WordFault>
-    ensures { Answers (request_for (Some command) (map string_bytes words.now)) result }
+fn request_for(alloc: Global, name: CommandName, words: &[String]) -> Result<Request, WordFault>
+    ensures { Answers (request_for (Some name) (map string_bytes words.now)) result }
 {
-    match command {
-        CommandName::Find => find(alloc, words),
-        CommandName::Check => check(alloc, words),
-        CommandName::Gen => generate(alloc, words),
+    let command = match command(alloc, name) {
+        Ok(command) => command,
+        Err(_) => return Err(WordFault::Memory),
+    };
+    match read(command, words) {
+        Ok(matches) => request_by(alloc, name, &matches),
+        Err(fault) => Err(fault),
     }
 }
 
-/// What the words of a command line ask for, the program's own name left out: `find`, `check` or `gen`, with its
-/// options and files.
+/// What the words of a command line ask for, the program's own name left out: a command, with its options and files.
 ///
-/// The fault is 60 where there is no word, 61 where the first is none of these, 62 where `clap` cannot read the others by
+/// The fault is 60 where there is no word, 61 where the first names no command, 62 where `clap` cannot read the others by
 /// the command, and 63 names the first option, in the order of the table, that is needed and not there, is not used
 /// and is there, or whose value is not of its form. Out of memory is an error of its own.
 pub fn request(alloc: Global, words: &[String]) -> Result<Request, WordFault>

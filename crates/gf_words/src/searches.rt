@@ -3,7 +3,7 @@ ghost use Rattle.std.specs.Prelude.{◌≡◌, ◌++◌, IfOk, Some, codes, if�
 ghost use Rattle.spec_requests.specs.declared.request.Named.TheVariants as opt;
 ghost use Rattle.spec_requests.specs.Requests.{nought, search_by, search_of, values_text};
 ghost use Rattle.spec_kinds.specs.Table.{takes_radii};
-ghost use Rattle.spec_requests.specs.Names.{kind_of};
+ghost use Rattle.spec_requests.specs.Names.{kind_of, target_of};
 ghost use Rattle.gf_words.specs.Answers.{Answers};
 ghost use Rattle.gf_words.specs.Parts.{ask_read, axes_read, bodies_read, ends_read, limits_read, numbers_read, radii_read, search_by_options, search_read, span_read};
 ghost use Rattle.gf_words.specs.Readings.{file_names_of, values_of};
@@ -16,8 +16,7 @@ use spec_ephemeris::Body;
 use spec_events::Dir;
 use spec_kinds::{Ask, Kind};
 use spec_requests::{
-    DEFAULT_DEPTH, DEFAULT_TICK, DEFAULT_WIDTH, DEFAULT_WORKERS, FindAsk, Named, Request, Text,
-    WordFault,
+    DEFAULT_DEPTH, DEFAULT_TICK, DEFAULT_WIDTH, DEFAULT_WORKERS, FindAsk, Named, Text, WordFault,
 };
 use spec_text::Decimal;
 use spec_trees::CutRule;
@@ -90,15 +89,12 @@ fn first_number(kind: Kind, radius: Option<Decimal>, reference: Option<Decimal>)
 
 // ---- the options of `find` in their order, as this kind uses them. What may be left out has its default.
 
-fn read_bodies(matches: &ArgMatches<'_>, kind: Kind) -> Result<Bodies, Named>
-    ensures { result ≡ bodies_read (values_of matches.now) kind }
+fn read_bodies(matches: &ArgMatches<'_>, kind: Kind, target: Body) -> Result<Bodies, Named>
+    ensures { result ≡ bodies_read (values_of matches.now) kind target }
 {
-    let others = pair(
-        parts::second(matches, kind.second()),
-        parts::observer(matches),
-    );
-    match pair(parts::target(matches), others) {
-        Ok((target, (second, observer))) => Ok(Bodies {
+    let second = parts::second(matches, kind.second());
+    match pair(second, parts::observer(matches)) {
+        Ok((second, observer)) => Ok(Bodies {
             target,
             second,
             observer: observer.unwrap_or(Body::Ssb),
@@ -146,10 +142,11 @@ fn read_numbers(matches: &ArgMatches<'_>, kind: Kind) -> Result<Numbers, Named>
     }
 }
 
-fn read_ask(matches: &ArgMatches<'_>, kind: Kind) -> Result<Ask, Named>
-    ensures { result ≡ ask_read (values_of matches.now) kind }
+fn read_ask(matches: &ArgMatches<'_>, kind: Kind, target: Body) -> Result<Ask, Named>
+    ensures { result ≡ ask_read (values_of matches.now) kind target }
 {
-    let places = pair(read_bodies(matches, kind), read_axes(matches, kind));
+    let bodies = read_bodies(matches, kind, target);
+    let places = pair(bodies, read_axes(matches, kind));
     let numbers = pair(read_numbers(matches, kind), parts::dir(matches));
     match pair(places, numbers) {
         Ok(((bodies, axes), (numbers, dir))) => Ok(Ask {
@@ -204,11 +201,11 @@ fn read_limits(matches: &ArgMatches<'_>) -> Result<Limits, Named>
     }
 }
 
-fn options(matches: &ArgMatches<'_>, kind: Kind) -> Result<SearchOptions, Named>
-    ensures { result ≡ search_read (values_of matches.now) kind }
+fn options(matches: &ArgMatches<'_>, kind: Kind, target: Body) -> Result<SearchOptions, Named>
+    ensures { result ≡ search_read (values_of matches.now) kind target }
 {
     let manner = pair(read_ends(matches), read_limits(matches));
-    match pair(read_ask(matches, kind), manner) {
+    match pair(read_ask(matches, kind, target), manner) {
         Ok((ask, (ends, limits))) => Ok(SearchOptions { ask, ends, limits }),
         Err(option) => Err(option),
     }
@@ -225,7 +222,7 @@ fn word_or<'a>(matches: &ArgMatches<'a>, option: Named, default: &'a str) -> &'a
     }
 }
 
-fn text(alloc: Global, word: &str) -> Result<Text, AllocError>
+pub(crate) fn text(alloc: Global, word: &str) -> Result<Text, AllocError>
     ensures { IfOk result (λ text. text ≡ word.now) }
 {
     Ok(Text::new(String::from_str(alloc, word)?))
@@ -259,11 +256,12 @@ fn with_texts(
     alloc: Global,
     matches: &ArgMatches<'_>,
     kind: Kind,
+    target: Body,
     search: SearchOptions,
 ) -> Result<FindAsk, AllocError>
-    requires { search ≡ search_by_options (values_of matches.now) kind }
+    requires { search ≡ search_by_options (values_of matches.now) kind target }
     ensures { IfOk result (λ find.
-        find ≡ search_of (values_of matches.now) kind (file_names_of matches.now)) }
+        find ≡ search_of (values_of matches.now) kind target (file_names_of matches.now)) }
 {
     Ok(FindAsk {
         ask: search.ask,
@@ -279,22 +277,38 @@ fn with_texts(
     })
 }
 
-// The search of this kind, or the first option that is bad.
-fn search_of_kind(alloc: Global, matches: &ArgMatches<'_>, kind: Kind) -> Result<Request, WordFault>
-    requires { option_and_then kind_of (values_of matches.now opt.Kind) ≡ Some kind }
+// The search of this kind and this target, or the first option that is bad.
+fn search_of_target(
+    alloc: Global,
+    matches: &ArgMatches<'_>,
+    kind: Kind,
+    target: Body,
+) -> Result<FindAsk, WordFault>
+    requires kind { option_and_then kind_of (values_of matches.now opt.Kind) ≡ Some kind }
+    requires target { option_and_then target_of (values_of matches.now opt.Target) ≡ Some target }
     ensures { Answers (search_by (values_of matches.now) (file_names_of matches.now)) result }
 {
-    match options(matches, kind) {
-        Ok(search) => match with_texts(alloc, matches, kind, search) {
-            Ok(find) => Ok(Request::Find(find)),
+    match options(matches, kind, target) {
+        Ok(search) => match with_texts(alloc, matches, kind, target, search) {
+            Ok(find) => Ok(find),
             Err(_) => Err(WordFault::Memory),
         },
         Err(option) => Err(WordFault::BadValue(option)),
     }
 }
 
+fn search_of_kind(alloc: Global, matches: &ArgMatches<'_>, kind: Kind) -> Result<FindAsk, WordFault>
+    requires { option_and_then kind_of (values_of matches.now opt.Kind) ≡ Some kind }
+    ensures { Answers (search_by (values_of matches.now) (file_names_of matches.now)) result }
+{
+    match parts::target(matches) {
+        Ok(target) => search_of_target(alloc, matches, kind, target),
+        Err(option) => Err(WordFault::BadValue(option)),
+    }
+}
+
 /// The search that the words ask for, or the first option that is bad.
-pub(crate) fn search(alloc: Global, matches: &ArgMatches<'_>) -> Result<Request, WordFault>
+pub(crate) fn search(alloc: Global, matches: &ArgMatches<'_>) -> Result<FindAsk, WordFault>
     ensures { Answers (search_by (values_of matches.now) (file_names_of matches.now)) result }
 {
     match parts::kind(matches) {

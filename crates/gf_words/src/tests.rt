@@ -4,7 +4,7 @@ use crate::{Named, WordFault, request};
 use std::alloc::{AllocError, Global};
 use std::test::Fail;
 
-const ROWS: [(&str, Option<WordFault>); 22] = [
+const ROWS: [(&str, Option<WordFault>); 26] = [
     ("", Some(WordFault::NoCommand)),
     ("search a", Some(WordFault::UnknownCommand)),
     ("check", Some(WordFault::Words)),
@@ -55,6 +55,16 @@ const ROWS: [(&str, Option<WordFault>); 22] = [
     (
         "find --kind sep --target sun --second moon --observer earth a",
         Some(WordFault::BadValue(Named::Ref)),
+    ),
+    ("cert --kind apsis --target moon a", None),
+    ("verify --kind apsis --target moon --cert - a", None),
+    (
+        "verify --kind apsis --target moon a",
+        Some(WordFault::BadValue(Named::Cert)),
+    ),
+    (
+        "cert --kind apsis --target moon --cert c a",
+        Some(WordFault::Words),
     ),
     (
         "find --kind apsis --target moon --kind apsis a",

@@ -11,3 +11,6 @@ two_pieces (Err e) old mid new a b first last = last
 
 pub three_pieces : {T E : Type 0} (result : Result T E) (old mid next new a b d : List ℕ) → mid ≡ old ++ a → next ≡ mid ++ b → OnOk result (new ≡ next ++ d) → OnOk result (new ≡ old ++ (a ++ b ++ d))
 three_pieces result old mid next new a b d first second last = two_pieces result old next new (a ++ b) d (both old mid next a b first second) last
+
+pub four_pieces : {T E : Type 0} (result : Result T E) (old mid next more new a b d e : List ℕ) → mid ≡ old ++ a → next ≡ mid ++ b → more ≡ next ++ d → OnOk result (new ≡ more ++ e) → OnOk result (new ≡ old ++ (a ++ b ++ d ++ e))
+four_pieces result old mid next more new a b d e first second third last = three_pieces result old next more new (a ++ b) d e (both old mid next a b first second) third last

@@ -16,7 +16,7 @@ mod summary_lines;
 pub use memory::Memory;
 pub use printing::time_text;
 pub use reading::read_time;
-pub use report_lines::{generation, report};
+pub use report_lines::{generation, report, request_line, verification};
 pub use spec_requests::FindAsk;
 pub use spec_times::TimeFault;
 pub use summary_lines::summary;

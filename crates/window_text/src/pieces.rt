@@ -1,5 +1,5 @@
 // Pieces of a line: a name, and what stands behind it.
-ghost use Rattle.std.specs.Prelude.{◌≡◌, ◌++◌, OnOk, string_bytes};
+ghost use Rattle.std.specs.Prelude.{◌≡◌, ◌++◌, OnOk, codes, string_bytes};
 ghost use Rattle.std.specs.Fmt.{decimal, signed_decimal};
 
 use std::alloc::AllocError;
@@ -47,4 +47,11 @@ pub(crate) fn add_last_number(
 {
     add_number(text, name, number)?;
     text.push_str(end)
+}
+
+/// The end of a line.
+pub(crate) fn add_line_feed(text: &mut String) -> Result<(), AllocError>
+    ensures { OnOk result (string_bytes text.new ≡ string_bytes text.old ++ codes "\n") }
+{
+    text.push_str("\n")
 }

@@ -1,12 +1,12 @@
 // The texts of a search.
 ghost use Rattle.std.specs.Prelude.{◌≡◌, ◌++◌, All, IfOk, OnOk, string_bytes};
-ghost use Rattle.spec_output.specs.Report.{HasTimes, axes_text, axis_of_kind, bodies_text, end_line, event_text, generation, generation_line, line_of, query_text, report, request_line, search_text, second_name, span_text, ticks_text, window_lines};
+ghost use Rattle.spec_output.specs.Report.{HasTimes, axes_text, axis_of_kind, bodies_text, end_line, event_text, generation, generation_line, limits_text, line_of, query_text, report, request_line, second_name, span_text, ticks_text, verification, window_lines};
 ghost use Rattle.spec_ephemeris.specs.Ticks.{IsTick};
 ghost use Rattle.spec_times.specs.Ticks.{IsTimeIn};
 
 use crate::Memory;
 use crate::counting::{certain_count, undecided_count};
-use crate::pieces::{add_last_number, add_number, add_pair, add_signed_number};
+use crate::pieces::{add_last_number, add_line_feed, add_number, add_pair, add_signed_number};
 use crate::printing::add_tick;
 use spec_ephemeris::Body;
 use spec_kinds::{Ask, Kind};
@@ -30,10 +30,28 @@ pub fn report(
     ensures { IfOk result (λ text. text.items ≡ report find.now from to windows.now) }
 {
     let mut text = String::new(alloc);
-    add_request_line(&mut text, find, from, to)?;
-    add_windows(&mut text, find.tick, windows)?;
-    add_end_line(&mut text, windows)?;
+    add_report(&mut text, find, from, to, windows)?;
     Ok(text.into_bytes())
+}
+
+fn add_report(
+    text: &mut String,
+    find: &FindAsk,
+    from: i64,
+    to: i64,
+    windows: &[Window],
+) -> Result<(), AllocError>
+    requires tick { IsTick find.now.tick }
+    requires from { IsTimeIn find.now.tick from }
+    requires to { IsTimeIn find.now.tick to }
+    requires windows { All (HasTimes find.now.tick) windows.now }
+    ensures { OnOk result (string_bytes text.new
+        ≡ string_bytes text.old ++ report find.now from to windows.now) }
+{
+    add_request_line(text, find, from, to)?;
+    add_line_feed(text)?;
+    add_windows(text, find.tick, windows)?;
+    add_end_line(text, windows)
 }
 
 /// The two lines of a search in a generated text, which has so many blocks and bytes.
@@ -52,6 +70,40 @@ pub fn generation(
     Ok(text.into_bytes())
 }
 
+/// The report of a certificate that holds: that of its windows, and how many leaves it has.
+pub fn verification(
+    alloc: Global,
+    find: &FindAsk,
+    from: i64,
+    to: i64,
+    windows: &[Window],
+    leaves: u32,
+) -> Result<Vec<u8>, Memory>
+    requires tick { IsTick find.now.tick }
+    requires from { IsTimeIn find.now.tick from }
+    requires to { IsTimeIn find.now.tick to }
+    requires windows { All (HasTimes find.now.tick) windows.now }
+    ensures { IfOk result (λ text.
+        text.items ≡ verification find.now from to windows.now leaves) }
+{
+    let mut text = String::new(alloc);
+    add_report(&mut text, find, from, to, windows)?;
+    add_last_number(&mut text, "VERIFIED leaves ", leaves as u64, "\n")?;
+    Ok(text.into_bytes())
+}
+
+/// The line of a request that is searched from one time to another, without its line feed. Times are as in a report.
+pub fn request_line(alloc: Global, find: &FindAsk, from: i64, to: i64) -> Result<Vec<u8>, Memory>
+    requires tick { IsTick find.now.tick }
+    requires from { IsTimeIn find.now.tick from }
+    requires to { IsTimeIn find.now.tick to }
+    ensures { IfOk result (λ text. text.items ≡ request_line find.now from to) }
+{
+    let mut text = String::new(alloc);
+    add_request_line(&mut text, find, from, to)?;
+    Ok(text.into_bytes())
+}
+
 // ---- the request
 
 fn add_request_line(text: &mut String, find: &FindAsk, from: i64, to: i64) -> Result<(), AllocError>
@@ -61,22 +113,32 @@ fn add_request_line(text: &mut String, find: &FindAsk, from: i64, to: i64) -> Re
     ensures { OnOk result (string_bytes text.new
         ≡ string_bytes text.old ++ request_line find.now from to) }
 {
-    add_query(text, find)?;
-    add_line_end(text, find.tick, " span ", from, to, "\n")
+    add_query(text, "FIND ", " dir ", dir_name(find.ask.dir), find)?;
+    add_span(text, " span ", find.tick, from, to)
 }
 
-fn add_query(text: &mut String, find: &FindAsk) -> Result<(), AllocError>
-    ensures { OnOk result (string_bytes text.new ≡ string_bytes text.old ++ query_text find.now) }
+// The event after a word, and what is wanted of it, which has a name.
+fn add_query(
+    text: &mut String,
+    word: &str,
+    name: &str,
+    wanted: &str,
+    find: &FindAsk,
+) -> Result<(), AllocError>
+    ensures { OnOk result (string_bytes text.new
+        ≡ string_bytes text.old ++ query_text word.now (name.now ++ wanted.now) find.now) }
 {
-    add_event(text, find)?;
-    add_search(text, find)?;
+    add_event(text, word, find)?;
+    add_pair(text, name, wanted)?;
+    add_limits(text, find)?;
     add_ticks(text, find.tick)
 }
 
-fn add_event(text: &mut String, find: &FindAsk) -> Result<(), AllocError>
-    ensures { OnOk result (string_bytes text.new ≡ string_bytes text.old ++ event_text find.now) }
+fn add_event(text: &mut String, word: &str, find: &FindAsk) -> Result<(), AllocError>
+    ensures { OnOk result (string_bytes text.new
+        ≡ string_bytes text.old ++ event_text word.now find.now) }
 {
-    add_pair(text, "FIND ", find.ask.kind.name())?;
+    add_pair(text, word, find.ask.kind.name())?;
     add_bodies(text, find.ask)?;
     add_axes(text, find.ask)?;
     add_pair(text, " values ", find.values.as_str())
@@ -117,10 +179,11 @@ fn axis_of_kind(kind: Kind, axis: u8) -> &'static str
     }
 }
 
-fn add_search(text: &mut String, find: &FindAsk) -> Result<(), AllocError>
-    ensures { OnOk result (string_bytes text.new ≡ string_bytes text.old ++ search_text find.now) }
+// How the span is searched.
+fn add_limits(text: &mut String, find: &FindAsk) -> Result<(), AllocError>
+    ensures { OnOk result (string_bytes text.new
+        ≡ string_bytes text.old ++ limits_text find.now.width find.now.depth find.now.cut) }
 {
-    add_pair(text, " dir ", dir_name(find.ask.dir))?;
     add_signed_number(text, " width ", find.width)?;
     add_number(text, " depth ", find.depth as u64)?;
     add_pair(text, " cut ", cut_name(find.cut))
@@ -167,7 +230,7 @@ fn add_window(text: &mut String, tick: u32, window: Window) -> Result<(), AllocE
     }
 }
 
-// Two times, between a text and the end of the line.
+// Two times after a name, and the end of the line.
 fn add_line_end(
     text: &mut String,
     tick: u32,
@@ -182,18 +245,25 @@ fn add_line_end(
     ensures { OnOk result (string_bytes text.new
         ≡ string_bytes text.old ++ (name.now ++ span_text tick first last ++ end.now)) }
 {
-    text.push_str(name)?;
-    add_span(text, tick, first, last)?;
+    add_span(text, name, tick, first, last)?;
     text.push_str(end)
 }
 
-fn add_span(text: &mut String, tick: u32, first: i64, last: i64) -> Result<(), AllocError>
+// Two times after a name.
+fn add_span(
+    text: &mut String,
+    name: &str,
+    tick: u32,
+    first: i64,
+    last: i64,
+) -> Result<(), AllocError>
     requires tick { IsTick tick }
     requires first { IsTimeIn tick first }
     requires last { IsTimeIn tick last }
     ensures { OnOk result (string_bytes text.new
-        ≡ string_bytes text.old ++ span_text tick first last) }
+        ≡ string_bytes text.old ++ (name.now ++ span_text tick first last)) }
 {
+    text.push_str(name)?;
     add_tick(text, tick, first)?;
     text.push_str(" ")?;
     add_tick(text, tick, last)

@@ -205,6 +205,26 @@ fn a_report_is_printed(rt: HostRuntime) -> Result<(), Fail> {
     Ok(())
 }
 
+const LINE: &str =
+    "FIND coord target mercury second - observer ssb frame eq axis x values 0 dir any width 1 depth 40 cut half span 2000-01-01T00:00:00 2000-02-02T00:00:00";
+
+const VERIFIED: &str =
+    "FIND coord target mercury second - observer ssb frame eq axis x values 0 dir any width 1 depth 40 cut half span 2000-01-01T00:00:00 2000-02-02T00:00:00
+END certain 0 undecided 0
+VERIFIED leaves 4
+";
+
+#[test]
+fn a_certificate_that_holds_is_reported(rt: HostRuntime) -> Result<(), Fail> {
+    let alloc = rt.alloc();
+    let find = mercury_crossing(alloc)?;
+    let line = request_line(alloc, &find, -43_200, 2_721_600)?;
+    assert!(rt; line.as_slice() == LINE.as_bytes());
+    let text = verification(alloc, &find, -43_200, 2_721_600, &[], 4)?;
+    assert!(rt; text.as_slice() == VERIFIED.as_bytes());
+    Ok(())
+}
+
 // A time that is left undecided.
 fn undecided_second() -> Window
     ensures { HasTimes 1 result }
@@ -244,76 +264,77 @@ fn a_report_of_many_windows_has_a_line_for_each(rt: HostRuntime) -> Result<(), F
 }
 
 // The columns of DE405.
+const DE405: [Column; 13] = [
+    Column {
+        start: 3,
+        coefs: 14,
+        granules: 4,
+    },
+    Column {
+        start: 171,
+        coefs: 10,
+        granules: 2,
+    },
+    Column {
+        start: 231,
+        coefs: 13,
+        granules: 2,
+    },
+    Column {
+        start: 309,
+        coefs: 11,
+        granules: 1,
+    },
+    Column {
+        start: 342,
+        coefs: 8,
+        granules: 1,
+    },
+    Column {
+        start: 366,
+        coefs: 7,
+        granules: 1,
+    },
+    Column {
+        start: 387,
+        coefs: 6,
+        granules: 1,
+    },
+    Column {
+        start: 405,
+        coefs: 6,
+        granules: 1,
+    },
+    Column {
+        start: 423,
+        coefs: 6,
+        granules: 1,
+    },
+    Column {
+        start: 441,
+        coefs: 13,
+        granules: 8,
+    },
+    Column {
+        start: 753,
+        coefs: 11,
+        granules: 2,
+    },
+    Column {
+        start: 819,
+        coefs: 10,
+        granules: 4,
+    },
+    Column {
+        start: 899,
+        coefs: 10,
+        granules: 4,
+    },
+];
+
 fn de405(alloc: Global) -> Result<Header, AllocError>
     ensures { IfOk result IsHeader }
 {
-    let columns = [
-        Column {
-            start: 3,
-            coefs: 14,
-            granules: 4,
-        },
-        Column {
-            start: 171,
-            coefs: 10,
-            granules: 2,
-        },
-        Column {
-            start: 231,
-            coefs: 13,
-            granules: 2,
-        },
-        Column {
-            start: 309,
-            coefs: 11,
-            granules: 1,
-        },
-        Column {
-            start: 342,
-            coefs: 8,
-            granules: 1,
-        },
-        Column {
-            start: 366,
-            coefs: 7,
-            granules: 1,
-        },
-        Column {
-            start: 387,
-            coefs: 6,
-            granules: 1,
-        },
-        Column {
-            start: 405,
-            coefs: 6,
-            granules: 1,
-        },
-        Column {
-            start: 423,
-            coefs: 6,
-            granules: 1,
-        },
-        Column {
-            start: 441,
-            coefs: 13,
-            granules: 8,
-        },
-        Column {
-            start: 753,
-            coefs: 11,
-            granules: 2,
-        },
-        Column {
-            start: 819,
-            coefs: 10,
-            granules: 4,
-        },
-        Column {
-            start: 899,
-            coefs: 10,
-            granules: 4,
-        },
-    ];
     Ok(Header {
         ncoeff: 1018,
         block_seconds: 2_764_800,
@@ -321,7 +342,7 @@ fn de405(alloc: Global) -> Result<Header, AllocError>
             mant: 8_130_056,
             exp: -5,
         },
-        columns: Columns::new(Vec::from_array(alloc, columns)?),
+        columns: Columns::new(Vec::from_array(alloc, DE405)?),
     })
 }
 

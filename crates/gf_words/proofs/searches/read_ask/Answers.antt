@@ -6,4 +6,4 @@ use Rattle.gf_words.proofs.searches.read_ask.Goals as goal
 pub returns-in-Err : goal.returns-in-Err
 returns-in-Err c =
     first_bad (ask_of_parts c.args.kind) c.in-Err.ensures
-    (along (c.pair-places.ensures ∙ along c.read_bodies.ensures c.read_axes.ensures) (c.pair-numbers.ensures ∙ along c.read_numbers.ensures c.dir.ensures))
+    (along (c.pair-places.ensures ∙ along c.read_bodies-bodies.ensures c.read_axes.ensures) (c.pair-numbers.ensures ∙ along c.read_numbers.ensures c.dir.ensures))

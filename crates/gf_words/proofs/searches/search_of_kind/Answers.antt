@@ -1,17 +1,15 @@
 use Rattle.std.proofs.Common.{inr}
+use Rattle.spec_requests.specs.declared.request.Named.TheVariants as opt
+use Rattle.spec_requests.specs.Names.{target_of}
 use Rattle.gf_words.specs.Readings.{file_names_of, values_of}
-use Rattle.gf_words.proofs.Filling.{option_bad, search_found, search_of_options}
+use Rattle.gf_words.proofs.Filling.{known, no_target}
 use Rattle.gf_words.proofs.searches.search_of_kind.Goals as goal
 
-pub with_texts-requires : goal.with_texts-requires
-with_texts-requires c =
-    search_of_options (values_of c.args.matches.now) c.args.kind c.in-Ok.search c.requires c.in-Ok.ensures
-
-pub returns-in-Ok-with_texts : goal.returns-in-Ok-with_texts
-returns-in-Ok-with_texts c =
-    search_found (values_of c.args.matches.now) c.args.kind (file_names_of c.args.matches.now) c.in-Ok.search c.in-Ok-with_texts.find
-    c.requires c.in-Ok.ensures c.in-Ok-with_texts.ensures
+pub search_of_target-requires-clause-target : goal.search_of_target-requires-clause-target
+search_of_target-requires-clause-target c =
+    known target_of opt.Target (values_of c.args.matches.now opt.Target) c.in-Ok.target c.in-Ok.ensures
 
 pub returns-in-Err : goal.returns-in-Err
 returns-in-Err c =
-    inr (option_bad (values_of c.args.matches.now) c.args.kind (file_names_of c.args.matches.now) c.in-Err.option c.requires c.in-Err.ensures)
+    inr (no_target (values_of c.args.matches.now) (file_names_of c.args.matches.now) c.args.kind c.in-Err.option
+    c.requires c.in-Err.ensures)

@@ -7,4 +7,4 @@ pub returns : goal.returns
 returns c =
     let from = c.ranges.from in
     let to = c.ranges.to in
-    two_pieces c.add_line_end.result _ _ _ (query_text c.args.find.now) (codes " span " ++ span_text c.args.find.now.tick c.args.from c.args.to ++ codes "\n") c.in_ok-add_query.ensures (simp to_z-of_z at c.add_line_end.ensures)
+    rw (← c.dir_name.ensures) (two_pieces c.add_span.result _ _ _ (query_text (codes "FIND ") (codes " dir " ++ c.dir_name.result.now) c.args.find.now) (codes " span " ++ span_text c.args.find.now.tick c.args.from c.args.to) c.in_ok-add_query.ensures (simp to_z-of_z at c.add_span.ensures))

@@ -8,8 +8,8 @@ ghost use Rattle.event_expr.specs.States.{state_exponent};
 
 use ival_core::Enclosure;
 
-/// What returns an enclosure of each coordinate of two targets, over spans of times in seconds of TDB since J2000.
-/// Positions are in km and velocities in km a second; targets are numbered 0 and 1, axes 0, 1 and 2.
+/// What returns an enclosure of each coordinate of two targets, over spans of times in ticks of TDB since J2000.
+/// Positions are in km and velocities in km a tick; targets are numbered 0 and 1, axes 0, 1 and 2.
 pub trait States {
     /// The exact value of a coordinate at a time.
     ghost exact: { Self → Leaf → ℤ → Fraction };

@@ -5,7 +5,7 @@ use Rattle.spec_text.specs.Lines.{Numbered, lines, text_lines, tokens}
 use Rattle.spec_trees.specs.declared.tree.Leaf.{Leaf}
 use Rattle.spec_trees.specs.declared.tree.Node.{Node}
 use Rattle.spec_certificates.specs.declared.entry.CertFault.{CertFault}
-use Rattle.spec_certificates.specs.declared.numbers.TheConstants.{CERT_LINE, CERT_REQUEST}
+use Rattle.spec_faults.specs.declared.numbers.TheConstants.{CERT_LINE, CERT_REQUEST}
 use Rattle.spec_certificates.specs.Checks.{checked, leaves_from, with_words}
 use Rattle.spec_certificates.specs.Entries.{form_words}
 use Rattle.spec_certificates.specs.Places.{Cutting}

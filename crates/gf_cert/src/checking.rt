@@ -8,7 +8,7 @@ ghost use Rattle.spec_events.specs.Events.{AreWindows};
 ghost use Rattle.spec_searches.specs.Search.{events};
 ghost use Rattle.spec_searches.specs.Found.{IsLeftUndecided, rules};
 ghost use Rattle.spec_certificates.specs.Checks.{checked, leaves_from, with_words};
-ghost use Rattle.spec_certificates.specs.declared.numbers.TheConstants.{CERT_REQUEST};
+ghost use Rattle.spec_faults.specs.declared.numbers.TheConstants.{CERT_REQUEST};
 ghost use Rattle.gf_cert.specs.Answers.{Gives};
 ghost use Rattle.gf_cert.specs.Search.{cutting};
 
@@ -17,7 +17,7 @@ use crate::leaves::{leaves, refusal};
 use crate::lines::check_words;
 use de_text::Tokens;
 use event_judge::{EventJudge, Node};
-use spec_certificates::{CERT_LINE, CERT_REQUEST};
+use spec_faults::{CERT_LINE, CERT_REQUEST};
 use spec_trees::Leaf;
 use std::alloc::Global;
 

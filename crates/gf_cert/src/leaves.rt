@@ -12,7 +12,8 @@ use crate::lines::{fault_at, next_entry};
 use crate::places::place;
 use de_text::Tokens;
 use event_judge::{EventJudge, Node};
-use spec_certificates::{CERT_END, CertFault, Entry};
+use spec_certificates::{CertFault, Entry};
+use spec_faults::CERT_END;
 use spec_trees::Leaf;
 use std::alloc::Global;
 

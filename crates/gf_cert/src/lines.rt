@@ -9,7 +9,8 @@ ghost use Rattle.gf_cert.specs.Steps.{Steps, next_entry, next_words, rest_of};
 
 use crate::words::{count, depth, is_word, mark, time};
 use de_text::{Line, LineStep, Tokens, Words};
-use spec_certificates::{CERT_END, CERT_LINE, CertFault, Entry};
+use spec_certificates::{CertFault, Entry};
+use spec_faults::{CERT_END, CERT_LINE};
 use spec_trees::{Leaf, Node};
 
 /// What is said of a line that breaks a rule: its number, and that of the rule.

@@ -5,7 +5,7 @@ ghost use Rattle.spec_trees.specs.Tree.{IsValid, mark_of};
 ghost use Rattle.spec_searches.specs.Found.{rules};
 ghost use Rattle.spec_certificates.specs.Checks.{is_mark, leaf_at, or_broken, at_line};
 ghost use Rattle.spec_certificates.specs.Places.{is_same, waiting_after};
-ghost use Rattle.spec_certificates.specs.declared.numbers.TheConstants.{CERT_PLACE};
+ghost use Rattle.spec_faults.specs.declared.numbers.TheConstants.{CERT_PLACE};
 ghost use Rattle.gf_cert.specs.Answers.{Gives};
 ghost use Rattle.gf_cert.specs.Search.{cutting};
 ghost use Rattle.gf_cert.specs.Steps.{AreValid};
@@ -13,7 +13,7 @@ ghost use Rattle.gf_cert.specs.Steps.{AreValid};
 use crate::errors::CertError;
 use crate::lines::fault_at;
 use event_judge::{EventJudge, Judge, Node};
-use spec_certificates::{CERT_END, CERT_MARK, CERT_PLACE};
+use spec_faults::{CERT_END, CERT_MARK, CERT_PLACE};
 use spec_trees::{Leaf, Mark, Turn};
 
 // The same times at the same depth.

@@ -34,7 +34,7 @@ impl Cutter {
         self.rule
     }
 
-    /// The rule's cut of the span from `a` to `b`, in seconds of TDB since J2000: a time strictly between them.
+    /// The rule's cut of the span from `a` to `b`, in ticks of TDB since J2000: a time strictly between them.
     pub fn cut(&self, a: i64, b: i64) -> i64
         requires { CanCut a b }
         ensures cut { result ≡ cut_of self.now.rule a b }

@@ -8,7 +8,7 @@ use Rattle.spec_trees.specs.declared.cuts.CutRule.TheVariants.{Third}
 use Rattle.spec_trees.specs.CutExamples.{pairs, parts_at}
 use Rattle.spec_trees.specs.Tree.{Rules, IsCut, IsSound, IsValid}
 
--- a comb: each node wider than one second loses its last second, and the tree is as deep as the root is wide
+-- a comb: each node wider than one tick loses its last tick, and the tree is as deep as the root is wide
 abbrev pub is_comb : Node → Bool
 is_comb n = int_lt (pos 1) (n.b -ℤ n.a) && nat_lt n.depth 20000
 
@@ -21,7 +21,7 @@ comb = record {
   parts = λ n. parts_at (n.b -ℤ pos 1) n;
 }
 
--- a root of so many seconds
+-- a root of so many ticks
 abbrev pub seconds : ℤ → Node
 seconds count = record { a = pos 0; b = count; depth = 0 }
 
@@ -38,7 +38,7 @@ comb_cut n v e = let w = comb_wide n e in record {
 pub comb_is_sound : IsSound comb
 comb_is_sound = record { low = omega (arith, ints); high = omega (arith, ints); cut = comb_cut }
 
--- each node wider than two seconds is cut at its first third
+-- each node wider than two ticks is cut at its first third
 abbrev pub thirds : Rules
 thirds = pairs Third
 
@@ -48,7 +48,7 @@ thirds_wide n e = grind (arith, ints)
 third_inside : (w : ℤ) → pos 2 <ℤ w → (pos 0 <ℤ int_max (pos 1) (int_div w (pos 3))) × (int_max (pos 1) (int_div w (pos 3)) <ℤ w)
 third_inside w h = grind (arith, ints)
 
--- a third of what is wider than two seconds is at least one
+-- a third of what is wider than two ticks is at least one
 pub third_is : (w : ℤ) → pos 2 <ℤ w → int_max (pos 1) (int_div w (pos 3)) ≡ int_div w (pos 3)
 third_is w h = grind (arith, ints)
 

@@ -44,7 +44,7 @@ fn insert(shares: &mut Vec<Share>, place: usize, share: Share) -> Result<(), Run
     }
 }
 
-// The width of a node that is to be split, in seconds; of any other, 0.
+// The width of a node that is to be split, in ticks; of any other, 0.
 fn split_width(share: Share) -> u64
     ensures { result ≡ split_width share }
 {

@@ -28,7 +28,7 @@ fn parts_at(time: i64, node: Node) -> (Node, Node)
     )
 }
 
-// Splits what is wider than one second before its last second.
+// Splits what is wider than one tick before its last tick.
 struct Comb;
 
 impl Judge for Comb {
@@ -49,7 +49,7 @@ impl Judge for Comb {
     ghost sound = { λ _. comb_is_sound };
 }
 
-// Cuts what is wider than two seconds at its first third.
+// Cuts what is wider than two ticks at its first third.
 struct Thirds;
 
 impl Judge for Thirds {
@@ -70,7 +70,7 @@ impl Judge for Thirds {
     ghost sound = { λ _. thirds_are_sound };
 }
 
-// A root of so many seconds.
+// A root of so many ticks.
 fn seconds(count: i64) -> Node
     ensures { result ≡ seconds count }
 {
@@ -107,7 +107,7 @@ fn a_deep_tree(rt: HostRuntime) -> Result<(), Fail> {
     Ok(())
 }
 
-// Eight seconds, cut at their first third until no leaf is wider than two.
+// Eight ticks, cut at their first third until no leaf is wider than two.
 fn five_leaves(alloc: Global) -> Result<Vec<Leaf>, RunError> {
     let mut leaves = Vec::new(alloc);
     for (a, b, depth) in [(0, 2, 1), (2, 4, 2), (4, 5, 3), (5, 6, 4), (6, 8, 4)] {

@@ -61,30 +61,30 @@ fn a_book_out_of_order(rt: HostRuntime) -> Result<(), Fail> {
     Ok(())
 }
 
-// The entry of a second in which a rise lies.
-fn rise_after(second: u32) -> Booked
-    ensures { result ≡ booked (leaf (pos second) (pos (second + 1)) (One Rise)) }
+// The entry of a tick in which a rise lies.
+fn rise_after(tick: u32) -> Booked
+    ensures { result ≡ booked (leaf (pos tick) (pos (tick + 1)) (One Rise)) }
 {
-    let a = i64::from(second);
+    let a = i64::from(tick);
     entry(a, a + 1, RISE)
 }
 
-fn seconds(count: u32) -> Node
+fn ticks(count: u32) -> Node
     ensures { result ≡ node (pos 0) (pos count) }
 {
     node(0, i64::from(count))
 }
 
-// A book of so many seconds, in each of which a rise lies.
+// A book of so many ticks, in each of which a rise lies.
 fn rises(alloc: Global, count: u32) -> Result<Book, AllocError>
     ensures { IfOk result (λ book. CoverRoot book.root book.entries.items) }
 {
     let mut entries = Vec::new(alloc);
-    for second in 0..count {
-        entries.push(rise_after(second))?;
+    for tick in 0..count {
+        entries.push(rise_after(tick))?;
     }
     Ok(Book {
-        root: seconds(count),
+        root: ticks(count),
         entries,
     })
 }

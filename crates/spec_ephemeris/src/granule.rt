@@ -5,9 +5,9 @@ use spec_text::Decimal;
 /// A granule of a column: the span of time over which each component of the column is one Chebyshev series.
 #[derive(Clone, Copy)]
 pub struct Granule<'a> {
-    /// The time at which it begins, in seconds of TDB since J2000.
+    /// The time at which it begins, in seconds or ticks of TDB since J2000, as the times of its ephemeris.
     pub start: i64,
-    /// Its length in seconds.
+    /// Its length, in the same units.
     pub seconds: i64,
     /// The coefficients of one component.
     pub n: usize,

@@ -1,6 +1,6 @@
 -- When an event happens, and what a window of time promises of the events in it.
 -- E says of a direction and a time whether a turn in that direction happens then, P of a time whether a condition holds,
--- and U of a node whether it is left undecided. Times are seconds of TDB since J2000.
+-- and U of a node whether it is left undecided. Times are ticks of TDB since J2000.
 use Rattle.std.specs.Prelude.{◌≡◌, ◌⊎◌, Bool, true, false, List, All, Any, ℤ, pos, ◌+ℤ◌, ◌-ℤ◌, ◌≤ℤ◌, ◌<ℤ◌}
 use Rattle.spec_events.specs.declared.dir.Dir.{Dir}
 use Rattle.spec_events.specs.declared.dir.Dir.TheVariants as D

@@ -34,7 +34,7 @@ constant_guard at_least = record { exact = λ t. fraction (pos 2000000000000) 1;
 abbrev pub line_range : ℤ → ℤ → Interval
 line_range a b = interval (a -ℤ passing) (b -ℤ passing) (pos 0)
 
--- what is found of the line from a to b, with these guards: it grows by 1 a second
+-- what is found of the line from a to b, with these guards: it grows by 1 a tick
 abbrev pub line_findings : ℤ → ℤ → List GuardFinding → Findings
 line_findings a b guards = record {
   crosses = false;
@@ -52,7 +52,7 @@ line_verdict c n = verdict c n (line_findings n.a n.b [])
 abbrev pub positive_guard : Bool → GuardFinding
 positive_guard at_least = record { at_least = at_least; sign = Yes }
 
--- the verdict of the last second before the line passes 0, with one guard
+-- the verdict of the last tick before the line passes 0, with one guard
 abbrev pub guarded_verdict : Bool → Verdict
 guarded_verdict at_least =
     verdict (criteria D.Any 1 40) (node_at (passing -ℤ pos 1) passing 21) (line_findings (passing -ℤ pos 1) passing (positive_guard at_least ∷ []))

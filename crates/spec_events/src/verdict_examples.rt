@@ -36,7 +36,7 @@ pub fn verdicts_of_a_line()
         (node_at (pos 1339200) (pos 1339400) 1) ≡ Clear }
 {}
 
-/// At the depth that is asked for a wide node is left undecided, and so is one of a single second where no sign is known. A
+/// At the depth that is asked for a wide node is left undecided, and so is one of a single tick where no sign is known. A
 /// line that rises has no fall, and nothing happens where a guard is false.
 pub fn verdicts_by_criteria_and_guards()
     ensures deep { line_verdict (criteria D.Any 1 0)
@@ -49,7 +49,7 @@ pub fn verdicts_by_criteria_and_guards()
         ≡ Undecided }
 {}
 
-/// A node into which a border falls is split at any depth where it is wider than one second; one of a single second is
+/// A node into which a border falls is split at any depth where it is wider than one tick; one of a single tick is
 /// judged by the signs at its ends.
 pub fn verdicts_at_a_border()
     ensures wide { verdict (criteria D.Rise 2 40) (node_at (minus 17075288) (minus 17075251) 17)

@@ -12,7 +12,7 @@ use Rattle.spec_kinds.specs.declared.shadow.Shadow.TheVariants as S
 use Rattle.spec_kinds.specs.Vectors.{target, second, target_velocity, second_velocity, plane_dot, plane_cross}
 use Rattle.spec_kinds.specs.Shadows.{at_least_0, below_0, shadow_function, shadow_conditions}
 
--- ---- with A and B the squares of the distances, D the dot product of the places, and ' for what changes a second
+-- ---- with A and B the squares of the distances, D the dot product of the places, and ' for what changes a tick
 -- x - v, of one coordinate
 abbrev pub coordinate_function : ℕ → Decimal → Term
 coordinate_function axis value = difference (coordinate target axis) (length value)

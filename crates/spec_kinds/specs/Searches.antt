@@ -12,6 +12,6 @@ use Rattle.spec_kinds.specs.Kinds.{event_of}
 abbrev pub view_of_ask : Ephemeris → Ask → View
 view_of_ask e ask = view_of e (targets_of ask) ask.observer ask.frame
 
--- its events, down to a width in seconds and a depth, with nodes cut by a rule
+-- its events, down to a width in ticks and a depth, with nodes cut by a rule
 abbrev pub search_of : Ephemeris → Ask → ℕ → ℕ → CutRule → Search
 search_of e ask width depth cut = record { view = view_of_ask e ask; event = event_of ask; width = width; depth = depth; cut = cut }

@@ -46,7 +46,7 @@ file_text name fault = place_text name fault.line ++ fault_text fault.number fau
 abbrev pub read_text : List ℕ → List ℕ
 read_text name = codes "finder: read fault " ++ name ++ codes "\n"
 
--- two times, in seconds of TDB since J2000
+-- two times, in ticks of TDB since J2000
 abbrev pub times : ℤ → ℤ → List ℕ
 times first last = signed_decimal first ++ codes " " ++ signed_decimal last
 

@@ -1,5 +1,5 @@
 -- A search for an event over the times of an ephemeris: the verdict of each node of its tree, by enclosures alone, and the
--- two parts of a node that is cut. Times are seconds of TDB since J2000.
+-- two parts of a node that is cut. Times are ticks of TDB since J2000.
 use Rattle.std.specs.Prelude.{ℕ, ◌+◌, ◌<◌, Bool, ◌&&◌, ◌||◌, nat_lt, int_lt, if◌then◌else◌, map, Option, None, Some, is_some, ℤ, pos, ◌-ℤ◌}
 use Rattle.spec_intervals.specs.Fraction.{Fraction}
 use Rattle.spec_intervals.specs.Enclosure.{Enclosure}

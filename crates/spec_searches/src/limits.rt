@@ -1,6 +1,6 @@
 // The limits of a search.
 
-/// The greatest width, in seconds, down to which nodes are split. The least is 1.
+/// The greatest width, in ticks, down to which nodes are split. The least is 1.
 pub const MAX_WIDTH: u32 = 1_000_000;
 
 /// The greatest depth down to which nodes are split. The root has depth 0.

@@ -9,3 +9,4 @@ pub mod Wholes
 pub mod Spans
 pub mod Printed
 pub mod Plain
+pub mod Values

@@ -12,7 +12,7 @@ use Rattle.spec_times.specs.declared.calendar.CalendarTime.{CalendarTime}
 use Rattle.spec_times.specs.TimeWords.{has_form, year_form, negative_year_form, whole_time, shown, calendar_after, time_of, time_within}
 use Rattle.std.specs.Prelude.{codes}
 
-digit : (n : ℕ) → is_ascii_digit (48 + n % 10) ≡ true
+pub digit : (n : ℕ) → is_ascii_digit (48 + n % 10) ≡ true
 digit n = grind (arith, nat_tests)
 
 unsigned_digit : (n : ℕ) → ((48 + n % 10) == 45) ≡ false

@@ -10,6 +10,7 @@ use Rattle.std.proofs.lemmas.Nat.{div_below, mod_below}
 use Rattle.std.proofs.Math.Seq.{take-append_seam, drop-append_seam}
 use Rattle.std.specs.Int.{int_div_euclid, int_rem_euclid}
 use Rattle.jiff_core.proofs.SignedLemmas.{signed_arith}
+use Rattle.spec_numbers.proofs.Integers.{times_one}
 use Rattle.spec_text.specs.Decimals.{value}
 use Rattle.spec_ephemeris.specs.declared.limits.TheConstants.{FIRST_TIME, LAST_TIME}
 use Rattle.spec_ephemeris.specs.Ticks.{IsTick}
@@ -19,7 +20,8 @@ use Rattle.spec_times.specs.declared.calendar.CalendarTime.{CalendarTime}
 use Rattle.spec_times.specs.declared.faults.TimeFault.{TimeFault}
 use Rattle.spec_times.specs.Ticks.{IsTimeIn, before_fraction, ending, has_fraction, past_second, second_of, tick_text, tick_from, tick_of, tick_or_shown, within_tick_limits}
 use Rattle.spec_times.specs.declared.limits.TheConstants.{FIRST_YEAR, LAST_YEAR}
-use Rattle.spec_times.proofs.Times.{text_is_read}
+use Rattle.spec_times.proofs.Texts.{digit}
+use Rattle.spec_times.proofs.Times.{le_true, text_is_read, time_within_limits}
 use Rattle.spec_times.proofs.Words.{within_is}
 
 -- ---- long words are no whole numbers
@@ -79,16 +81,10 @@ second_is t is =
     let high = is.high in
     record { low = omega (arith, signed_arith, whole, few, low); high = omega (arith, signed_arith, whole, few, high) }
 
-le_true : (a b : ℤ) → a ≤ℤ b → int_le a b ≡ true
-le_true a b h = elim (cases_Bool (int_le a b)) [ inl t ↦ t | inr f ↦ absurd (omega (arith, signed_arith)) ]
-
 within : (tick : ℕ) (t : ℤ) → IsTimeIn tick t → within_tick_limits tick t ≡ Ok t
 within tick t is = rw (le_true (FIRST_TIME *ℤ pos tick) t is.low, le_true t (LAST_TIME *ℤ pos tick) is.high) refl
 
 -- ---- a text with its fraction
-digit : (n : ℕ) → is_ascii_digit (48 + n % 10) ≡ true
-digit n = grind (arith, nat_tests)
-
 fraction_fits : (n : ℕ) → has_form (codes ".000") (46 ∷ digits 3 n) ≡ true
 fraction_fits n = rw (digit (n / 10 / 10), digit (n / 10), digit n) refl
 
@@ -157,14 +153,8 @@ shown_is_within (Some c) time h = elim (cases_Bool (is_calendar_time c)) [
   | inr out ↦ let other = rw out at h in absurd (cc)
 ]
 
-times_one : (t : ℤ) → t *ℤ pos 1 ≡ t
-times_one t = omega (arith, signed_arith)
-
 and_none : (t : ℤ) → t *ℤ pos 1 +ℤ pos 0 ≡ t
 and_none t = omega (arith, signed_arith)
-
-within_again : (time : ℤ) → IsTime time → within_limits time ≡ Ok time
-within_again time is = rw (le_true FIRST_TIME time is.low, le_true time LAST_TIME is.high) refl
 
 pub word_of_second : (word : List ℕ) → tick_of 1 word ≡ time_of word
 unfolding tick_of time_of
@@ -172,7 +162,7 @@ word_of_second word = by (whole_time word)
   where
     by_shown : (r : Result ℤ TimeFault) → time_shown (shown word) ≡ r → tick_from 1 0 r ≡ r
     by_shown (Err fault) is = refl
-    by_shown (Ok time) is = ap within_limits (and_none time) ∙ within_again time (shown_is_within (shown word) time is)
+    by_shown (Ok time) is = ap within_limits (and_none time) ∙ time_within_limits time (shown_is_within (shown word) time is)
 
     by : (o : Option ℤ) → tick_or_shown 1 word o ≡ time_or_shown word o
     by None = by_shown (time_shown (shown word)) refl

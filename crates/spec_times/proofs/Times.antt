@@ -48,14 +48,14 @@ calendar_is time is =
     let number = (date_of_day (day_number time) (day_is time is)).number in
     (λ i. midnight (number i) +ℤ pos (seconds_are (clock time) i)) ∙ whole_is time
 
-le_true : (a b : ℤ) → a ≤ℤ b → int_le a b ≡ true
+pub le_true : (a b : ℤ) → a ≤ℤ b → int_le a b ≡ true
 le_true a b h = elim (cases_Bool (int_le a b)) [ inl t ↦ t | inr f ↦ absurd (omega (arith, signed_arith)) ]
 
 lt_false : (a b : ℤ) → b ≤ℤ a → int_lt a b ≡ false
 lt_false a b h = elim (cases_Bool (int_lt a b)) [ inl t ↦ absurd (omega (arith, signed_arith)) | inr f ↦ f ]
 
-within : (time : ℤ) → IsTime time → within_limits time ≡ Ok time
-within time is =
+pub time_within_limits : (time : ℤ) → IsTime time → within_limits time ≡ Ok time
+time_within_limits time is =
     rw (le_true FIRST_TIME time is.low, le_true time LAST_TIME is.high) refl
 
 pub text_is_read : (time : ℤ) → IsTime time → time_of (time_text time) ≡ Ok time
@@ -65,7 +65,7 @@ text_is_read time is =
     let c = calendar_time time in
     let not_early : int_lt c.year (neg_ℤ (pos 9999)) ≡ false = lt_false c.year (neg_ℤ (pos 9999)) civil.0.0 in
     let not_late : int_lt (pos 9999) c.year ≡ false = lt_false (pos 9999) c.year civil.0.1 in
-    time_of_text c (calendar_holds time is) (written c.year civil.0) ∙ rw (not_early, not_late, calendar_is time is) (within time is)
+    time_of_text c (calendar_holds time is) (written c.year civil.0) ∙ rw (not_early, not_late, calendar_is time is) (time_within_limits time is)
 
 -- the date of this day is what calendar and clock show
 pub calendar_of_date : (time : ℤ) (y : ℤ) (m d : ℕ) → IsTime time → IsCivilDate y m d → days_from_civil y m d ≡ day_number time → (year_of (day_number time) ≡ y) × (month_of (day_number time) ≡ m) × (day_of_month (day_number time) ≡ d)

@@ -1,6 +1,6 @@
 // Nodes of a halved span, what a judge says of them, and leaves.
 
-/// The times after `a` and up to `b`, in seconds of TDB since J2000, at a depth below the root.
+/// The times after `a` and up to `b`, in ticks of TDB since J2000, at a depth below the root.
 #[derive(Clone, Copy, PartialEq, Eq, Debug)]
 pub struct Node {
     pub a: i64,

@@ -8,7 +8,7 @@ pub enum Holds {
     Undecided,
 }
 
-/// The times from `first` to `last`, both within, in seconds of TDB since J2000.
+/// The times from `first` to `last`, both within, in ticks of TDB since J2000.
 #[derive(Clone, Copy, PartialEq, Eq, Debug)]
 pub struct Window {
     pub first: i64,

@@ -1,7 +1,7 @@
 use Rattle.std.proofs.Common.{◌≡◌, [], ◌∷◌, sym, ◌∙◌, subst}
 use Rattle.spec_text.specs.Lines.{tokens}
 use Rattle.spec_certificates.specs.Checks.{leaves_from, with_words}
-use Rattle.spec_certificates.specs.declared.numbers.TheConstants.{CERT_REQUEST}
+use Rattle.spec_faults.specs.declared.numbers.TheConstants.{CERT_REQUEST}
 use Rattle.gf_cert.specs.Answers.{Fails, Gives}
 use Rattle.gf_cert.specs.Search.{cutting}
 use Rattle.gf_cert.proofs.checking.leaves_for.Goals as goal

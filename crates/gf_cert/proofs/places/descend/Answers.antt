@@ -4,7 +4,7 @@ use Rattle.spec_searches.specs.Found.{rules}
 use Rattle.spec_searches.specs.Search.{may_be_cut}
 use Rattle.spec_certificates.specs.Checks.{at_line, or_broken}
 use Rattle.spec_certificates.specs.Places.{is_same, waiting_after}
-use Rattle.spec_certificates.specs.declared.numbers.TheConstants.{CERT_PLACE}
+use Rattle.spec_faults.specs.declared.numbers.TheConstants.{CERT_PLACE}
 use Rattle.gf_cert.specs.Answers.{Fails, refusal_of}
 use Rattle.gf_cert.specs.Search.{cutting}
 use Rattle.gf_cert.proofs.Placing.{cut_again, found_here, is_cutting, narrower, never_found, that_node, valid_push}

@@ -1,5 +1,6 @@
 use Rattle.std.proofs.Common.{arith}
-use Rattle.window_text.proofs.Digits.{value_begun, value_more, value_room, value_whole, value_small}
+use Rattle.spec_text.proofs.Values.{value_begun, value_more, value_whole}
+use Rattle.window_text.proofs.Digits.{value_room, value_small}
 use Rattle.window_text.proofs.reading.value.Goals as goal
 
 pub loop-digit-init : goal.loop-digit-init

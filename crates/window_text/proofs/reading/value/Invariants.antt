@@ -1,4 +1,4 @@
-use Rattle.window_text.proofs.Digits.{IsValue}
+use Rattle.spec_text.proofs.Values.{IsValue}
 use Rattle.window_text.proofs.reading.value.Given as goal
 
 abbrev pub invariant-loop-digit : goal.invariant-loop-digit

@@ -42,8 +42,10 @@ fn end(found: &mut Vec<Window>, run: Option<Window>) -> Result<(), AllocError>
     Ok(())
 }
 
-/// The windows of leaves that follow one another, in their order.
-pub(crate) fn joined(alloc: Global, leaves: &[Leaf]) -> Result<Vec<Window>, AllocError>
+/// The windows of leaves that are in order of time already, each of which stands for some time: one for each leaf with
+/// an event, and one for each longest run of undecided leaves. Times are ticks of TDB since J2000. The one error is that
+/// memory runs out.
+pub fn leaf_windows(alloc: Global, leaves: &[Leaf]) -> Result<Vec<Window>, AllocError>
     requires { All HasTime leaves.now }
     ensures { IfOk result (λ v. v.items ≡ windows leaves.now) }
 {

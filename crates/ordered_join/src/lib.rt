@@ -1,12 +1,13 @@
 //! From a book of leaves to windows. The leaves of a root come in, in whatever order they were entered; what goes out
-//! is the windows that they make when they are put in order of time: one for each leaf with an event, and one for each
+//! is the leaves in order of time, or the windows that they make then: one for each leaf with an event, and one for each
 //! longest run of undecided leaves. Nothing here knows what an event is.
 #![tactic(auto)]
 
 mod joining;
 mod ordering;
 
-pub use ordering::{Memory, windows};
+pub use joining::leaf_windows;
+pub use ordering::{Memory, leaves, windows};
 pub use spec_trees::{Holds, Window};
 
 #[cfg(test)]

@@ -1,9 +1,10 @@
-// The windows of a book.
+// The leaves of a book, and their windows.
 ghost use Rattle.std.specs.Prelude.{◌≡◌, IfOk};
+ghost use Rattle.spec_trees.specs.Tree.{Covers};
 ghost use Rattle.spec_trees.specs.Placement.{AreInOrder, AreWithin};
 ghost use Rattle.spec_trees.specs.Order.{CoverRoot, book_windows, booked_leaves, ordered_leaves};
 
-use crate::joining::joined;
+use crate::joining::leaf_windows;
 use spec_trees::{Book, Booked, Leaf, Window};
 use std::alloc::{AllocError, Global};
 
@@ -11,7 +12,7 @@ use std::alloc::{AllocError, Global};
 pub type Memory = AllocError;
 
 /// The windows of a book's leaves, put in order of time. The leaves follow one another over the book's root, without
-/// gap or overlap, in whatever order they were entered. Times are seconds of TDB since J2000. The leaves are sorted
+/// gap or overlap, in whatever order they were entered. Times are ticks of TDB since J2000. The leaves are sorted
 /// once.
 pub fn windows(alloc: Global, book: &Book) -> Result<Vec<Window>, Memory>
     requires cover { CoverRoot book.now.root book.now.entries.items }
@@ -19,22 +20,25 @@ pub fn windows(alloc: Global, book: &Book) -> Result<Vec<Window>, Memory>
     ensures within { IfOk result (λ found. AreWithin book.now.root.a book.now.root.b found.items) }
     ensures in_order { IfOk result (λ found. AreInOrder found.items) }
 {
-    let leaves = ordered(alloc, &book.entries)?;
-    let found = joined(alloc, &leaves)?;
+    let leaves = leaves(alloc, book)?;
+    let found = leaf_windows(alloc, &leaves)?;
     Ok(found)
 }
 
-// The leaves of entries, put in order of time.
-fn ordered(alloc: Global, entries: &[Booked]) -> Result<Vec<Leaf>, AllocError>
-    ensures { IfOk result (λ leaves. leaves.items ≡ ordered_leaves entries.now) }
+/// The leaves of a book, put in order of time. They follow one another over the book's root, without gap or overlap,
+/// in whatever order they were entered. Times are ticks of TDB since J2000. They are sorted once.
+pub fn leaves(alloc: Global, book: &Book) -> Result<Vec<Leaf>, Memory>
+    requires cover { CoverRoot book.now.root book.now.entries.items }
+    ensures leaves { IfOk result (λ found. found.items ≡ ordered_leaves book.now.entries.items) }
+    ensures cover { IfOk result (λ found. Covers book.now.root.a found.items book.now.root.b) }
 {
-    let mut leaves = leaves(alloc, entries)?;
+    let mut leaves = booked(alloc, &book.entries)?;
     leaves.sort_by_key(|leaf| leaf.node.a)?;
     Ok(leaves)
 }
 
 // The leaves of entries, as they came.
-fn leaves(alloc: Global, entries: &[Booked]) -> Result<Vec<Leaf>, AllocError>
+fn booked(alloc: Global, entries: &[Booked]) -> Result<Vec<Leaf>, AllocError>
     ensures { IfOk result (λ leaves. leaves.items ≡ booked_leaves entries.now) }
 {
     let mut leaves = Vec::with_capacity(alloc, entries.len())?;

@@ -3,7 +3,7 @@ use Rattle.std.proofs.lemmas.List.{drop_all}
 use Rattle.spec_trees.specs.declared.tree.Leaf.{Leaf}
 use Rattle.spec_trees.specs.Runs.{joined}
 use Rattle.spec_trees.proofs.Runs.{joined_are_windows}
-use Rattle.ordered_join.proofs.joining.joined.Goals as goal
+use Rattle.ordered_join.proofs.joining.leaf_windows.Goals as goal
 
 pub returns : goal.returns
 returns c =

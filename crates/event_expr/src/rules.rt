@@ -64,7 +64,8 @@ impl TimeSpan {
         self.last
     }
 
-    /// A constant, by an interval that holds some number.
+    /// A constant, by an interval that holds some number. Since nothing changes, the values that are reached from the middle
+    /// are the constant itself, with the exponent 0 where it is 0.
     #[inline(always)]
     pub fn constant(&self, value: Ival) -> Enclosure
         requires within { IsWithin part_exponent value }
@@ -72,7 +73,12 @@ impl TimeSpan {
         ensures { result ≡ constant_of self.now.first self.now.last value }
     {
         if self.has_several() {
-            self.wide(value, value, Ival::zero())
+            let zero = Ival::zero();
+            Enclosure {
+                mid: value,
+                range: value.add(zero),
+                step: zero,
+            }
         } else {
             self.single(value)
         }
@@ -123,13 +129,9 @@ impl TimeSpan {
         requires y_encloses { Encloses self.now.first self.now.last y }
         ensures { result ≡ product_of self.now.first self.now.last x y }
     {
-        let mid = x.mid.mul(y.mid);
-        if self.has_several() {
-            let step = x.range.mul(y.step).add(y.range.mul(x.step));
-            self.wide(mid, x.range.mul(y.range), step)
-        } else {
-            self.single(mid)
-        }
+        let mut product = x;
+        self.multiply(&mut product, &y);
+        product
     }
 
     /// The signed square. Its change lies between 0 and the change of the operand times twice its greatest magnitude.
@@ -182,7 +184,7 @@ impl TimeSpan {
         *x = self.difference(*x, *y);
     }
 
-    /// The first becomes the product.
+    /// The first becomes the product. What a product is made of stands here alone, since it is large where it is inlined.
     #[inline(never)]
     pub(crate) fn multiply(&self, x: &mut Enclosure, y: &Enclosure)
         requires x_within { AllWithin part_exponent x.old }
@@ -191,7 +193,13 @@ impl TimeSpan {
         requires y_encloses { Encloses self.now.first self.now.last y.now }
         ensures { x.new ≡ product_of self.now.first self.now.last x.old y.now }
     {
-        *x = self.product(*x, *y);
+        let mid = x.mid.mul(y.mid);
+        *x = if self.has_several() {
+            let step = x.range.mul(y.step).add(y.range.mul(x.step));
+            self.wide(mid, x.range.mul(y.range), step)
+        } else {
+            self.single(mid)
+        };
     }
 
     /// An enclosure becomes its signed square.

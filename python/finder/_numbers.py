@@ -59,9 +59,9 @@ def _cosine(angle: Decimal) -> Decimal:
 
 def cosine_of_degrees(degrees: Number) -> str:
     """The cosine of an angle from 0 to 180 degrees, as the decimal for `separation`: the greatest one of 18 places that
-    is not above it. So the angle whose cosine it is, is the given one or a greater one, by less than 10^-18 radians over
-    the given angle's sine, which is below 10^-12 arc seconds from a degree to 179, and below a millionth of an arc second
-    from one arc second on. A float is taken as the shortest decimal that is it."""
+    is not above it. So the angle whose cosine it is, is the given one or a greater one, by about 10^-18 radians over the
+    sine of the angle at most: that is below 10^-10 arc seconds from a quarter of a degree to 179.75 degrees, and below
+    10^-7 from one arc second on. A float is taken as the shortest decimal that is it."""
     text = decimal_text(degrees, "deg")
     try:
         angle = Fraction(text)

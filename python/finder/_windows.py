@@ -117,7 +117,9 @@ class Windows(Sequence[Window]):
         from astropy.time import Time
 
         days, rest = np.divmod(self._ticks(which), spans.DAY * self.tick)
-        return Time(J2000_DAYS + days, rest / (spans.DAY * self.tick), format="jd", scale="tdb")
+        made = Time(J2000_DAYS + days, rest / (spans.DAY * self.tick), format="jd", scale="tdb")
+        made.format = "isot"
+        return made
 
     def to_pandas(self) -> Any:
         """A `DataFrame` of pandas: first and last ticks, the turn (empty where it is undecided), and the times on the

@@ -7,8 +7,8 @@ The blocks of FILE, JPL's text of DE405 with a header and blocks, are repeated w
 a header and five files that share the blocks at their borders as JPL's do. Each search, one of every kind, is made by one
 run over all files; by a run for each file, by GNU parallel with 1, 2 and 4 jobs; and, where a Slurm takes jobs, by an
 array of them and a job that joins. A joined report has to be that of the one run, byte for byte. It prints how many
-were, and the sums over all searches of the seconds that passed and of those of the processor, the least of three turns.
-PROGRAM is the shipped one where none is named. Run by hand.
+were, and the sums over all searches of the seconds that passed and of those of the processor, the least of three turns
+(one by Slurm, whose waits are most of its time). PROGRAM is the shipped one where none is named. Run by hand.
 """
 import os
 import resource
@@ -74,13 +74,14 @@ def measure(folder):
     for name, (script, jobs) in ways().items():
         sums = []
         same = 0
-        for _ in range(TURNS):
+        turns = 1 if script == SLURM else TURNS
+        for _ in range(turns):
             found = {words: timed(script, jobs, words, folder) for words in SEARCHES}
             whole = whole or {words: row[0] for words, row in found.items()}
             same += sum(row[0] == whole[words] for words, row in found.items())
             sums.append([sum(row[place] for row in found.values()) for place in (1, 2)])
         passed, used = (min(column) for column in zip(*sums))
-        said = f"{same} of {TURNS * len(SEARCHES)} reports the same, {passed:.2f} s passed"
+        said = f"{same} of {turns * len(SEARCHES)} reports the same, {passed:.2f} s passed"
         print(f"{name}: {said}" + ("" if script == SLURM else f", {used:.2f} s of the processor"), flush=True)
     for words, report in whole.items():
         print(f"  {words}: {report.splitlines()[-1].decode()}")

@@ -22,7 +22,7 @@ def decimal_text(value: Number, unit: str = "km") -> str:
         return value
     if hasattr(value, "to_value"):
         value = value.to_value(unit)
-    if isinstance(value, bool) or not isinstance(value, (numbers.Real, Decimal)):
+    if isinstance(value, (bool, Fraction)) or not isinstance(value, (numbers.Real, Decimal)):
         raise TypeError(f"no number: {value!r}")
     if isinstance(value, numbers.Integral):
         return str(int(value))
@@ -62,9 +62,8 @@ def cosine_of_degrees(degrees: Number) -> str:
     is not above it. So the angle whose cosine it is, is the given one or a greater one, by about 10^-18 radians over the
     sine of the angle at most: that is below 10^-10 arc seconds from a quarter of a degree to 179.75 degrees, and below
     10^-7 from one arc second on. A float is taken as the shortest decimal that is it."""
-    text = decimal_text(degrees, "deg")
     try:
-        angle = Fraction(text)
+        angle = degrees if isinstance(degrees, Fraction) else Fraction(decimal_text(degrees, "deg"))
     except (ValueError, ZeroDivisionError):
         raise ValueError(f"no angle: {degrees!r}") from None
     if not 0 <= angle <= 180:

@@ -174,7 +174,7 @@ class Runs:
 def _answer(status: int, out: bytes, err: bytes) -> str:
     """What the command printed, or the exception of its status."""
     if status:
-        line = os.fsdecode(err).rstrip("\n")
+        line = os.fsdecode(err).removesuffix("\n")
         if status == 70 or status in (126, 127):
             raise spans.NoProgram(line or f"status {status}")
         if status < 0:

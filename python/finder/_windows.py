@@ -71,7 +71,7 @@ class Windows(Sequence[Window]):
     def __getitem__(self, place: Any) -> Union[Window, Windows]:
         """A window, or those of a slice, of a mask or of places."""
         if isinstance(place, (int, np.integer)):
-            return Window(int(self.first[place]), int(self.last[place]), str(self.turn[place]) or None)
+            return self._window(int(place))
         chosen = [self._window(number) for number in np.arange(len(self))[place]]
         return Windows(Report(self.request, self.tick, self.start, self.end, tuple(chosen)))
 

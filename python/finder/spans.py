@@ -308,7 +308,7 @@ def find_program(named: "Optional[str | os.PathLike[str]]" = None) -> str:
     chosen = named or os.environ.get("FINDER")
     if chosen:
         return os.fspath(chosen)
-    top = Path(__file__).resolve().parents[2]
+    top = Path(__file__).resolve().parent.parent.parent
     if (top / "finder").is_file() and (top / "release" / "common").is_file():
         return str(top / "finder")
     found = shutil.which("finder")

@@ -1,5 +1,6 @@
 """Parts of a span are joined to the report of the whole, and what is no part of it is refused."""
 
+import os
 import subprocess
 import sys
 import unittest
@@ -10,6 +11,26 @@ from tests.common import PROGRAM, REPORT, TOOL, YEAR, InFolder, command, split_y
 
 SEEN = {"observer": "earth", "frame": "ecl"}
 HEAD = "FIND conj target moon second sun observer earth frame ecl axis - values - dir any width 1 depth 4 cut half"
+# A stand-in of Slurm's command, which runs the jobs of an array one by one, and no job that depends on one that failed.
+SBATCH = """\
+#!/bin/sh
+array=1-1
+while :; do
+    case $1 in
+        --array=*) array=${1#--array=} ;;
+        --output=*) output=${1#--output=} ;;
+        --dependency=afterok:7) [ ! -e failed ] || exit 0 ;;
+        --*) ;;
+        *) break ;;
+    esac
+    shift
+done
+for SLURM_ARRAY_TASK_ID in $(seq ${array%-*} ${array#*-}); do
+    export SLURM_ARRAY_TASK_ID
+    "$@" >"$(echo "$output" | sed "s/%a/$SLURM_ARRAY_TASK_ID/")" 2>&1 || : >failed
+done
+echo 7
+"""
 
 
 def part(first, last, *lines, head=HEAD):
@@ -153,6 +174,26 @@ class Tool(InFolder):
         self.assertEqual(self.said("join", "plan", "part0", "part1", "part2"), command("find", *options.split(), YEAR))
         self.assert_refused("does not hold the block", "files", "--header", "header.405", "ascp0.405", "ascp2.405")
         self.assert_refused("a blank", "files", "--header", "header.405", "a file")
+
+    def test_an_array_of_jobs(self):
+        split_year(self.folder)
+        plan = self.said("files", "--header", "header.405", "ascp0.405", "ascp1.405", "ascp2.405")
+        (self.folder / "plan").write_text(plan)
+        (self.folder / "sbatch").write_text(SBATCH)
+        (self.folder / "sbatch").chmod(0o755)
+        path = {**os.environ, "PATH": f"{self.folder}:{os.environ['PATH']}"}
+        options = "--kind apsis --target moon --observer earth".split()
+        run = [TOOL.parent / "slurm", "plan", "moons", *options, "header.405"]
+        done = subprocess.run(run, cwd=self.folder, env=path, capture_output=True, text=True, check=False)
+        self.assertEqual((done.returncode, done.stderr), (0, ""))
+        self.assertEqual((self.folder / "moons" / "report").read_text(), command("find", *options, YEAR))
+        self.assertNotEqual(subprocess.run(run, cwd=self.folder, env=path, capture_output=True, check=False).returncode, 0)
+        (self.folder / "ascp1.405").write_text("")
+        run[2] = "others"
+        subprocess.run(run, cwd=self.folder, env=path, capture_output=True, check=False)
+        self.assertTrue((self.folder / "others" / "1").exists())
+        self.assertEqual((self.folder / "others" / "2.err").read_text(), "finder: file ascp1.405 line 1: 37 NoBlock\n")
+        self.assertFalse((self.folder / "others" / "report").exists())
 
     def test_what_is_not_joined(self):
         plan = self.said("cut", "3", YEAR)

@@ -114,7 +114,7 @@ class Numbers(unittest.TestCase):
             self.assertEqual(decimal_text(value), text)
         for value in (float("nan"), float("inf"), Decimal("NaN")):
             self.assertRaises(ValueError, decimal_text, value)
-        for value in (True, None, b"1", 1j, [1]):
+        for value in (True, None, b"1", 1j, [1], Fraction(1, 3)):
             self.assertRaises(TypeError, decimal_text, value)
 
     @unittest.skipUnless(has("astropy"), "astropy is not here")
@@ -129,6 +129,7 @@ class Numbers(unittest.TestCase):
             self.assertEqual(cosine_of_degrees(degrees), text, repr(degrees))
         self.assertEqual(cosine_of_degrees("0.00000001"), "0.999999999999999999")
         self.assertEqual(cosine_of_degrees("179.99999999"), "-1")
+        self.assertEqual(cosine_of_degrees(Fraction(1, 3)), "0.999983076857744188")
         for degrees in (-1, "180.1", "north"):
             self.assertRaises(ValueError, cosine_of_degrees, degrees)
         self.assertIs(finder.cosine_of_degrees, cosine_of_degrees)

@@ -3,12 +3,12 @@
 
     bench/machines.py FILE [PROGRAM]
 
-The blocks of FILE, JPL's text of DE405 with a header and blocks, are repeated with running dates to 32 million bytes, in
-a header and five files that share the blocks at their borders as JPL's do. Each search, one of every kind, is made by one
-run over all files; by a run for each file, by GNU parallel with 1, 2 and 4 jobs; and, where a Slurm takes jobs, by an
-array of them and a job that joins. A joined report has to be that of the one run, byte for byte. It prints how many
-were, and the sums over all searches of the seconds that passed and of those of the processor, the least of three turns
-(one by Slurm, whose waits are most of its time). PROGRAM is the shipped one where none is named. Run by hand.
+The blocks of FILE, JPL's text of DE405 with a header and blocks, are repeated with running dates to 32 million bytes,
+in a header and five files that share the blocks at their borders as JPL's do. Each search, one of every kind, is made
+by one run over all files; by a run for each file, by GNU parallel with 1, 2 and 4 jobs; and, where a Slurm takes jobs,
+by an array of them and a job that joins. A joined report has to be that of the one run, byte for byte. It prints how
+many were, and the sums over all searches of the seconds that passed and of those of the processor, the least of three
+turns (one by Slurm, whose waits are most of its time). PROGRAM is the shipped one where none is named. Run by hand.
 """
 import os
 import resource
@@ -91,14 +91,17 @@ def main(words):
     if not 1 <= len(words) <= 2:
         sys.exit(__doc__)
     program = words[1] if len(words) == 2 else TOP / "release" / "finder-x86_64-linux"
-    os.environ.update(FINDER=os.path.realpath(program), SPANS=str(TOP / "tools" / "spans"),
-                      SLURM_SEARCH=str(TOP / "tools" / "slurm"))
+    os.environ.update(
+        FINDER=os.path.realpath(program), SPANS=str(TOP / "tools" / "spans"), SLURM_SEARCH=str(TOP / "tools" / "slurm")
+    )
     # (a folder that the jobs of Slurm see too)
     with tempfile.TemporaryDirectory(dir=os.environ.get("TMPDIR", "/tmp")) as folder:
         texts = [sys.executable, TOP / "bench" / "texts.py", "files", str(FILES), folder, words[0]]
         subprocess.run(texts, check=True)
         with open(Path(folder, "plan"), "wb") as plan:
-            subprocess.run([os.environ["SPANS"], "files", "--header", "header.405", *NAMES], cwd=folder, stdout=plan, check=True)
+            subprocess.run(
+                [os.environ["SPANS"], "files", "--header", "header.405", *NAMES], cwd=folder, stdout=plan, check=True
+            )
         measure(folder)
 
 

@@ -44,7 +44,9 @@ def conjunction():
 
 def data():
     """What both pictures show, as text."""
-    lines = [f"{name}: {found.certain.sum()} certain, {(~found.certain).sum()} undecided" for name, found in rows().items()]
+    lines = [
+        f"{name}: {found.certain.sum()} certain, {(~found.certain).sum()} undecided" for name, found in rows().items()
+    ]
     drawn = finder.plot.curve(conjunction(), YEAR, points=3)
     signs = " ".join("above" if value > 0 else "below" for value in drawn.values[[0, -1]])
     return "\n".join([*lines, f"{drawn.unit}: {signs} 0"])

@@ -21,9 +21,9 @@ files in order of time, one by one. Each runs the command in a process of its ow
     timeout           seconds after which the process is ended, and `TimedOut` raised
 
 A time is a whole number of seconds since J2000, a text as `2000-05-01` or `2000-05-01T12:00:00.25`, a `datetime64`, a
-`datetime` or a `date` without a zone, all of these TDB, or an astropy `Time` of any scale. Between two ticks, `start` is
-rounded down and `end` up. A number is an int, a decimal text, a `Decimal`, a float (its shortest decimal), or an astropy
-quantity. Each refusal is an exception with the command's status and its line: `FinderError` and those below it.
+`datetime` or a `date` without a zone, all of these TDB, or an astropy `Time` of any scale. Between two ticks, `start`
+is rounded down and `end` up. A number is an int, a decimal text, a `Decimal`, a float (its shortest decimal), or an
+astropy quantity. Each refusal is an exception with the command's status and its line: `FinderError` and those below it.
 """
 
 from ._numbers import cosine_of_degrees

@@ -33,6 +33,7 @@ def decimal_text(value: Number, unit: str = "km") -> str:
 
 def _pi() -> Decimal:
     """pi, to the digits of the context, by Machin's formula: 16 arctan(1/5) - 4 arctan(1/239)."""
+
     def arctan_of_inverse(number: int) -> Decimal:
         power = total = Decimal(1) / number
         term, count = power, 1
@@ -59,9 +60,9 @@ def _cosine(angle: Decimal) -> Decimal:
 
 def cosine_of_degrees(degrees: Number) -> str:
     """The cosine of an angle from 0 to 180 degrees, as the decimal for `separation`: the greatest one of 18 places that
-    is not above it. So the angle whose cosine it is, is the given one or a greater one, by about 10^-18 radians over the
-    sine of the angle at most: that is below 10^-10 arc seconds from a quarter of a degree to 179.75 degrees, and below
-    10^-7 from one arc second on. A float is taken as the shortest decimal that is it."""
+    is not above it. So the angle whose cosine it is, is the given one or a greater one, by about 10^-18 radians over
+    the sine of the angle at most: that is below 10^-10 arc seconds from a quarter of a degree to 179.75 degrees, and
+    below 10^-7 from one arc second on. A float is taken as the shortest decimal that is it."""
     try:
         angle = degrees if isinstance(degrees, Fraction) else Fraction(decimal_text(degrees, "deg"))
     except (ValueError, ZeroDivisionError):

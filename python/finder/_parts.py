@@ -15,8 +15,8 @@ from ._windows import Windows
 
 
 def join(parts: Iterable[Windows]) -> Windows:
-    """The windows of the whole span, of those of its parts, in order. `WrongParts` where they are of different requests,
-    overlap or do not meet."""
+    """The windows of the whole span, of those of its parts, in order. `WrongParts` where they are of different
+    requests, overlap or do not meet."""
     return Windows(spans.join(part.report for part in parts))
 
 
@@ -35,12 +35,13 @@ def over_files(
 ) -> Windows:
     """The windows of a search over files in order of time, one by one, `jobs` of them at once:
 
-        finder.over_files(finder.apsides, ["ascp2000.405", "ascp2020.405"], "moon", observer="earth", header="header.405")
+        files = ["ascp2000.405", "ascp2020.405"]
+        finder.over_files(finder.apsides, files, "moon", observer="earth", header="header.405")
 
     Each file begins with the last block of the one before, as JPL's do, and is read after the header, or alone where it
-    has a header of its own. It is searched up to the begin of the next one. So far fewer blocks are held at once than by
-    one search, and there may be more than 64 files and 16,384 blocks; the windows are the same. Files that the span does
-    not reach are read once, and not searched. Where one search fails, all are ended, and its exception is raised.
+    has a header of its own. It is searched up to the begin of the next one. So far fewer blocks are held at once than
+    by one search, and there may be more than 64 files and 16,384 blocks; the windows are the same. Files that the span
+    does not reach are read once, and not searched. Where one search fails, all are ended, and its exception is raised.
     """
     names = file_names(files)
     first = [] if header is None else [os.fspath(header)]

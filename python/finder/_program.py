@@ -138,8 +138,13 @@ class Runs:
             if self._stopped:
                 raise Interrupted(-signal.SIGKILL, "finder: the call is over")
             try:
-                process = subprocess.Popen([self._program, *words], stdin=subprocess.DEVNULL, stdout=subprocess.PIPE,
-                                           stderr=subprocess.PIPE, start_new_session=True)
+                process = subprocess.Popen(
+                    [self._program, *words],
+                    stdin=subprocess.DEVNULL,
+                    stdout=subprocess.PIPE,
+                    stderr=subprocess.PIPE,
+                    start_new_session=True,
+                )
             except OSError as error:
                 raise spans.NoProgram(error.errno, f"{self._program} cannot be run: {error.strerror}") from error
             self._live.add(process)

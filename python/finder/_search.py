@@ -17,7 +17,9 @@ if TYPE_CHECKING:
     from typing_extensions import Unpack
 
 Kind = Literal["coord", "radius", "apsis", "conj", "oppo", "station", "sep", "sepext", "any", "full", "annular"]
-Body = Literal["mercury", "venus", "emb", "mars", "jupiter", "saturn", "uranus", "neptune", "pluto", "moon", "sun", "earth"]
+Body = Literal[
+    "mercury", "venus", "emb", "mars", "jupiter", "saturn", "uranus", "neptune", "pluto", "moon", "sun", "earth"
+]
 Observer = Union[Body, Literal["ssb"]]
 Frame = Literal["eq", "ecl"]
 Axis = Literal["x", "y", "z"]
@@ -150,8 +152,8 @@ def conjunctions(files: Files, target: Body, second: Body, **options: Unpack[Opt
 
 
 def oppositions(files: Files, target: Body, second: Body = "sun", **options: Unpack[Options]) -> Windows:
-    """The times at which the longitudes of two bodies are opposite: `rise` where the target's grows past the one opposite
-    to the second body's."""
+    """The times at which the longitudes of two bodies are opposite: `rise` where the target's grows past the one
+    opposite to the second body's."""
     return find(files, "oppo", target, second, **options)
 
 

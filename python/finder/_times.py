@@ -86,7 +86,9 @@ def ticks_of_time(time: Time, tick: int, up: bool) -> int:
     elif hasattr(time, "tdb") and hasattr(time, "jd1"):
         seconds = _of_astropy(time, tick)
     else:
-        raise TypeError(f"no time: {time!r}; a time is a whole number of seconds, a text, a datetime64, a datetime "
-                        "without a zone or an astropy Time")
+        raise TypeError(
+            f"no time: {time!r}; a time is a whole number of seconds, a text, a datetime64, a datetime "
+            "without a zone or an astropy Time"
+        )
     ticks = seconds * tick
     return -(-ticks // 1) if up else ticks // 1

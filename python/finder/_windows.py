@@ -19,9 +19,9 @@ UNITS = {1: "s", 1_000: "ms"}
 class Windows(Sequence[Window]):
     """The windows of a search, in order of time, after `start` and up to `end`.
 
-    `first` and `last` are arrays of int64, ticks since J2000 (TDB) of which `tick` are in a second; `turn` is an array of
-    `rise`, `fall` and, for an undecided window, the empty text. The event of a certain window of one tick has happened at
-    that tick and had not happened one before. A slice holds some of the windows of the same search.
+    `first` and `last` are arrays of int64, ticks since J2000 (TDB) of which `tick` are in a second; `turn` is an array
+    of `rise`, `fall` and, for an undecided window, the empty text. The event of a certain window of one tick has
+    happened at that tick and had not happened one before. A slice holds some of the windows of the same search.
     """
 
     def __init__(self, report: Report) -> None:
@@ -63,10 +63,12 @@ class Windows(Sequence[Window]):
             yield Window(first, last, turn or None)
 
     @overload
-    def __getitem__(self, place: int) -> Window: ...
+    def __getitem__(self, place: int) -> Window:
+        ...
 
     @overload
-    def __getitem__(self, place: Union[slice, npt.NDArray[Any]]) -> Windows: ...
+    def __getitem__(self, place: Union[slice, npt.NDArray[Any]]) -> Windows:
+        ...
 
     def __getitem__(self, place: Any) -> Union[Window, Windows]:
         """A window, or those of a slice, of a mask or of places."""
@@ -109,7 +111,9 @@ class Windows(Sequence[Window]):
     def datetime64(self, which: End = "last") -> npt.NDArray[np.datetime64]:
         """The first or the last ticks on the calendar of TDB, exactly, to the second or the millisecond."""
         unit = UNITS[self.tick]
-        times: npt.NDArray[np.datetime64] = J2000.astype(f"datetime64[{unit}]") + self._ticks(which).astype(f"m8[{unit}]")
+        times: npt.NDArray[np.datetime64] = J2000.astype(f"datetime64[{unit}]") + self._ticks(which).astype(
+            f"m8[{unit}]"
+        )
         return times
 
     def time(self, which: End = "last") -> Any:
@@ -126,13 +130,15 @@ class Windows(Sequence[Window]):
         calendar of TDB as texts, since the times of pandas may end at 1677 and 2262."""
         import pandas
 
-        return pandas.DataFrame({
-            "first": self.first,
-            "last": self.last,
-            "turn": self.turn.astype(object),
-            "first_tdb": self._texts("first"),
-            "last_tdb": self._texts("last"),
-        })
+        return pandas.DataFrame(
+            {
+                "first": self.first,
+                "last": self.last,
+                "turn": self.turn.astype(object),
+                "first_tdb": self._texts("first"),
+                "last_tdb": self._texts("last"),
+            }
+        )
 
     def to_table(self) -> Any:
         """A `Table` of astropy: the first and the last times, and the turn, with the request in its `meta`."""

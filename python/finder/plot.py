@@ -38,8 +38,8 @@ def curve(found: Windows, files: Files, number: int = 0, *, margin: float = 8.0,
 
 
 def timeline(rows: Mapping[str, Windows], axes: Any = None, title: Optional[str] = None) -> Any:
-    """Draws the windows of several searches on a line of time each, with their names, on axes of matplotlib, and returns
-    these: a triangle is a certain window, upward for a rise, a bar is an undecided one."""
+    """Draws the windows of several searches on a line of time each, with their names, on axes of matplotlib, and
+    returns these: a triangle is a certain window, upward for a rise, a bar is an undecided one."""
     import matplotlib.pyplot as plt
 
     if axes is None:
@@ -50,8 +50,16 @@ def timeline(rows: Mapping[str, Windows], axes: Any = None, title: Optional[str]
             here = found.turn == turn
             axes.plot(times[here], np.full(int(here.sum()), height), mark, color=colour, markersize=5)
         for low, high in zip(found.datetime64("first")[~found.certain], times[~found.certain]):
-            axes.plot([low, high], [height, height], "|-", color="tab:orange", linewidth=5,
-                      solid_capstyle="butt", markersize=9, markeredgewidth=1.5)
+            axes.plot(
+                [low, high],
+                [height, height],
+                "|-",
+                color="tab:orange",
+                linewidth=5,
+                solid_capstyle="butt",
+                markersize=9,
+                markeredgewidth=1.5,
+            )
     axes.set_yticks(range(len(rows)), list(rows))
     axes.set_ylim(len(rows) - 0.4, -0.6)
     axes.grid(axis="x", alpha=0.4)
@@ -62,8 +70,8 @@ def timeline(rows: Mapping[str, Windows], axes: Any = None, title: Optional[str]
 
 
 def around(found: Windows, files: Files, number: int = 0, *, margin: float = 8.0, axes: Any = None) -> Any:
-    """Draws the function of a search around its window of this number, and the window, on axes of matplotlib, and returns
-    these. The caption says that the curve is of positions in doubles."""
+    """Draws the function of a search around its window of this number, and the window, on axes of matplotlib, and
+    returns these. The caption says that the curve is of positions in doubles."""
     import matplotlib.pyplot as plt
 
     if axes is None:

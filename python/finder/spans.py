@@ -5,10 +5,10 @@
     tools/spans files [--header FILE] [--from TIME] [--to TIME] FILE..
     tools/spans join PLAN [REPORT..]
 
-A plan has a line `FROM TO` for each part, in order, each beginning where the one before ended; a part is the times after
-FROM and up to TO. `cut` prints one of at most N parts, cut at borders of blocks. `files` prints one with a part for each
-file, and the file's name as a third word: FILE.. are files in order of time that each begin with the last block of the
-one before, as JPL's do, and each is read after the header, or alone where it has a header of its own. Then
+A plan has a line `FROM TO` for each part, in order, each beginning where the one before ended; a part is the times
+after FROM and up to TO. `cut` prints one of at most N parts, cut at borders of blocks. `files` prints one with a part
+for each file, and the file's name as a third word: FILE.. are files in order of time that each begin with the last
+block of the one before, as JPL's do, and each is read after the header, or alone where it has a header of its own. Then
 
     finder find OPTIONS --from=FROM --to=TO FILE..
 
@@ -36,15 +36,14 @@ from dataclasses import dataclass
 from pathlib import Path
 from typing import NamedTuple, Optional
 
-KINDS = "coord radius apsis conj oppo station sep sepext any full annular".split()
 DAY = 86_400
-# The days from 1 March of year 0 to 1 January 2000, and those of 400, 100, 4 and 1 years.
+# The days from 1 March of year 0 to 1 January 2000, and those of 400 years.
 DAYS_TO_2000 = 730_425
 DAYS_OF_400_YEARS = 146_097
 TIME = re.compile(r"([0-9]{4}|-[0-9]{6})-([0-9]{2})-([0-9]{2})T([0-9]{2}):([0-9]{2}):([0-9]{2})(?:\.([0-9]{3}))?")
 SECONDS = re.compile(r"[+-]?[0-9]{1,12}")
 REQUEST = re.compile(
-    rf"FIND (?P<kind>{'|'.join(KINDS)}) target (?P<target>[a-z]+) second (?P<second>[a-z]+|-) observer (?P<observer>[a-z]+)"
+    r"FIND (?P<kind>[a-z]+) target (?P<target>[a-z]+) second (?P<second>[a-z]+|-) observer (?P<observer>[a-z]+)"
     r" frame (?P<frame>eq|ecl) axis (?P<axis>[xyz-]) values (?P<values>\S+) dir (?P<dir>any|rise|fall)"
     r" width (?P<width>[0-9]+) depth (?P<depth>[0-9]+) cut (?P<cut>half|third)(?P<tick> tick 1000)?"
 )
@@ -164,8 +163,8 @@ def _request(line: str) -> Report:
     return Report(request, tick, start, end, ())
 
 
-def _window(line: str, head: Report, after: int) -> Window:
-    """A line of a window, which begins after a time, within the span of a report, in a direction that it asks for."""
+def _window(line: str, head: Report, direction: str, after: int) -> Window:
+    """A line of a window, which begins after a time, within the span of a report, in the direction that it asks for."""
     found = CERTAIN.fullmatch(line) or UNDECIDED.fullmatch(line)
     if not found:
         raise WrongReport(f"no line of a report: {line}")
@@ -173,7 +172,7 @@ def _window(line: str, head: Report, after: int) -> Window:
     window = Window(ticks_of(found[1], head.tick), ticks_of(found[2], head.tick), turn)
     if not after < window.first <= window.last <= head.end:
         raise WrongReport(f"a window outside of the span, or not after the one before: {line}")
-    if turn and head.asked["dir"] not in ("any", turn):
+    if turn and direction not in ("any", turn):
         raise WrongReport(f"a window in a direction that was not asked for: {line}")
     return window
 
@@ -181,6 +180,7 @@ def _window(line: str, head: Report, after: int) -> Window:
 def _one_report(lines: list[str], at: int) -> tuple[Report, int]:
     """The report that begins at a line, and the line after it."""
     head = _request(lines[at])
+    direction = head.asked["dir"]
     windows: list[Window] = []
     for number in range(at + 1, len(lines)):
         line = lines[number]
@@ -188,9 +188,11 @@ def _one_report(lines: list[str], at: int) -> tuple[Report, int]:
             certain = sum(window.turn is not None for window in windows)
             found = COUNTS.fullmatch(line)
             if not found or (int(found[1]), int(found[2])) != (certain, len(windows) - certain):
-                raise WrongReport(f"the counts are {certain} and {len(windows) - certain}, and the last line says: {line}")
+                raise WrongReport(
+                    f"the counts are {certain} and {len(windows) - certain}, and the last line says: {line}"
+                )
             return Report(head.request, head.tick, head.start, head.end, tuple(windows)), number + 1
-        windows.append(_window(line, head, windows[-1].last if windows else head.start))
+        windows.append(_window(line, head, direction, windows[-1].last if windows else head.start))
     raise WrongReport(f"a report without its last line: {lines[at]}")
 
 
@@ -217,8 +219,8 @@ def read_report(text: str) -> Report:
 
 @dataclass(frozen=True)
 class Summary:
-    """What `finder check` prints of files: seconds since J2000 (TDB) at which they begin and end, the seconds of a block,
-    how many blocks there are and numbers in each, and for each column its coefficients and its granules."""
+    """What `finder check` prints of files: seconds since J2000 (TDB) at which they begin and end, the seconds of a
+    block, how many blocks there are and numbers in each, and for each column its coefficients and its granules."""
 
     start: int
     end: int
@@ -236,8 +238,14 @@ def read_summary(text: str) -> Summary:
     if not found or not all(rows) or columns[-1:] != [""]:
         raise WrongReport("no summary of files")
     block, blocks, ncoeff = (int(word) for word in found.groups()[2:])
-    summary = Summary(ticks_of(found[1]), ticks_of(found[2]), block, blocks, ncoeff,
-                      {row[1]: (int(row[2]), int(row[3])) for row in rows if row})
+    summary = Summary(
+        ticks_of(found[1]),
+        ticks_of(found[2]),
+        block,
+        blocks,
+        ncoeff,
+        {row[1]: (int(row[2]), int(row[3])) for row in rows if row},
+    )
     if summary.end - summary.start != block * blocks:
         raise WrongReport("a summary whose blocks do not fill its span")
     return summary
@@ -283,10 +291,11 @@ def cut(count: int, summary: Summary, start: Optional[int] = None, end: Optional
     return list(zip(ends, ends[1:]))
 
 
-def spans_of_files(names: Sequence[str], found: Sequence[Summary], start: Optional[int] = None,
-                   end: Optional[int] = None) -> list[tuple[int, int, str]]:
-    """A part for each file that a span reaches, in milliseconds since J2000, and the file's name: from its begin to that
-    of the next file, whose first block it has to hold, so that the border is read from the same block in both."""
+def spans_of_files(
+    names: Sequence[str], found: Sequence[Summary], start: Optional[int] = None, end: Optional[int] = None
+) -> list[tuple[int, int, str]]:
+    """A part for each file that a span reaches, in milliseconds since J2000, and the file's name: from its begin to
+    that of the next file, whose first block it has to hold, so that the border is read from the same block in both."""
     for name, this, later in zip(names, found, found[1:]):
         if this.block != later.block:
             raise WrongParts(f"{name} has blocks of another length than the next file")
@@ -385,8 +394,9 @@ def planned_files(words: argparse.Namespace) -> list[str]:
 
 def parser() -> argparse.ArgumentParser:
     """The words that the tool takes."""
-    whole = argparse.ArgumentParser(prog="spans", description=__doc__, allow_abbrev=False,
-                                    formatter_class=argparse.RawDescriptionHelpFormatter)
+    whole = argparse.ArgumentParser(
+        prog="spans", description=__doc__, allow_abbrev=False, formatter_class=argparse.RawDescriptionHelpFormatter
+    )
     commands = whole.add_subparsers(dest="command", required=True)
     for name in ("cut", "files"):
         command = commands.add_parser(name, allow_abbrev=False)

@@ -13,7 +13,6 @@ PROGRAM = TOP / "release" / "finder-x86_64-linux"
 YEAR = TOP / "examples" / "de405-2000.asc"
 TOOL = TOP / "tools" / "spans"
 # The great conjunction, as README.md has it.
-CONJUNCTION = "--kind conj --target jupiter --second saturn --observer earth --frame ecl"
 REPORT = """\
 FIND conj target jupiter second saturn observer earth frame ecl axis - values - dir any width 1 depth 40 cut half \
 span 1999-12-24T00:00:00 2001-01-11T00:00:00

@@ -22,7 +22,9 @@ EVENTS = {
     "sepext": lambda: finder.separation_extremes(YEAR, "mercury", "venus", observer="earth"),
     "any": lambda: finder.occultations(YEAR, "sun", "venus", **DISCS),
     "full": lambda: finder.occultations(YEAR, "sun", "venus", kind="full", **DISCS),
-    "annular": lambda: finder.occultations(YEAR, "mercury", "sun", (2439.7, 696_000), kind="annular", observer="jupiter"),
+    "annular": lambda: finder.occultations(
+        YEAR, "mercury", "sun", (2439.7, 696_000), kind="annular", observer="jupiter"
+    ),
 }
 
 

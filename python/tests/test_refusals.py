@@ -31,7 +31,7 @@ WRONG = {
     "a window after the span": ("2000-05-28T15:55:49 fall", "2001-01-11T00:00:01 fall"),
     "milliseconds in a report of seconds": ("49 fall", "49.000 fall"),
     "a direction that was not asked for": ("dir any", "dir rise"),
-    "a kind of no name": ("FIND conj", "FIND meet"),
+    "a kind in capitals": ("FIND conj", "FIND CONJ"),
     "another frame": ("frame ecl", "frame gal"),
     "no span": (" span", ""),
     "a span without times": ("2001-01-11T00:00:00\n", "1999-12-24T00:00:00\n"),
@@ -70,18 +70,29 @@ class Statuses(InFolder):
         return caught.exception
 
     def test_refusals_of_the_command(self):
-        bad = self.assert_refused(finder.WordsRefused, 2, "finder: words: 63 BadValue second",
-                                  lambda: finder.find(YEAR, "conj", "jupiter"))
+        bad = self.assert_refused(
+            finder.WordsRefused, 2, "finder: words: 63 BadValue second", lambda: finder.find(YEAR, "conj", "jupiter")
+        )
         self.assertEqual((bad.number, bad.name, bad.detail), (63, "BadValue", "second"))
         half = self.folder / "half of a year"
         half.write_text("".join(YEAR.read_text().splitlines(keepends=True)[:100]))
-        fault = self.assert_refused(finder.FileFault, 3, f"finder: file {half} line 101: 36 Truncated", lambda: finder.check(half))
+        fault = self.assert_refused(
+            finder.FileFault, 3, f"finder: file {half} line 101: 36 Truncated", lambda: finder.check(half)
+        )
         self.assertEqual((fault.file, fault.line_number, fault.number, fault.name), (str(half), 101, 36, "Truncated"))
         self.assert_refused(finder.ReadFailed, 4, "finder: read fault none", lambda: finder.check("none"))
-        self.assert_refused(finder.SpanRefused, 6, "finder: span: -734400 32443201 not within -734400 32443200",
-                            lambda: finder.apsides(YEAR, "earth", observer="sun", start=-734_400, end=32_443_201))
-        same = self.assert_refused(finder.EventRefused, 7, "finder: event: 51 SameBody",
-                                   lambda: finder.conjunctions(YEAR, "mars", "mars", observer="earth"))
+        self.assert_refused(
+            finder.SpanRefused,
+            6,
+            "finder: span: -734400 32443201 not within -734400 32443200",
+            lambda: finder.apsides(YEAR, "earth", observer="sun", start=-734_400, end=32_443_201),
+        )
+        same = self.assert_refused(
+            finder.EventRefused,
+            7,
+            "finder: event: 51 SameBody",
+            lambda: finder.conjunctions(YEAR, "mars", "mars", observer="earth"),
+        )
         self.assertIsInstance(same, ValueError)
 
     def test_statuses_that_are_rare(self):
@@ -114,7 +125,9 @@ class Statuses(InFolder):
         tried = f"import sys; sys.path.insert(0, {str(self.folder)!r}); import spans; print(spans.find_program())"
         found = stand_in(self.folder, "exit 1")
         for path, said in ((str(self.folder), f"{found}\n"), ("/nonexistent", "")):
-            done = subprocess.run([sys.executable, "-c", tried], env={"PATH": path}, capture_output=True, text=True, check=False)
+            done = subprocess.run(
+                [sys.executable, "-c", tried], env={"PATH": path}, capture_output=True, text=True, check=False
+            )
             self.assertEqual(done.stdout, said)
 
 
@@ -122,7 +135,9 @@ class Stops(InFolder):
     def setUp(self):
         super().setUp()
         self.number = self.folder / "number"
-        self.slow = stand_in(self.folder, f"echo $$ >{self.number}.new; mv {self.number}.new {self.number}; exec sleep 100")
+        self.slow = stand_in(
+            self.folder, f"echo $$ >{self.number}.new; mv {self.number}.new {self.number}; exec sleep 100"
+        )
 
     def process(self):
         self.assertTrue(wait_for(self.number.exists))
@@ -142,8 +157,11 @@ class Stops(InFolder):
     def test_an_interrupted_caller(self):
         for call in ("finder.check('a')", "finder.over_files(finder.apsides, ['a', 'b'], 'moon', jobs=2)"):
             self.number.unlink(missing_ok=True)
-            caller = subprocess.Popen([sys.executable, "-c", f"import finder; {call}"], stderr=subprocess.PIPE,
-                                      env={**os.environ, "FINDER": str(self.slow), "PYTHONPATH": str(TOP / "python")})
+            caller = subprocess.Popen(
+                [sys.executable, "-c", f"import finder; {call}"],
+                stderr=subprocess.PIPE,
+                env={**os.environ, "FINDER": str(self.slow), "PYTHONPATH": str(TOP / "python")},
+            )
             process = self.process()
             self.assertTrue(is_running(process))
             caller.send_signal(signal.SIGINT)

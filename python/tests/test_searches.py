@@ -8,7 +8,7 @@ import unittest
 import numpy as np
 
 import finder
-from tests.common import CONJUNCTION, REPORT, SECOND, TOP, YEAR, InFolder, command
+from tests.common import REPORT, SECOND, TOP, YEAR, InFolder, command
 
 SEEN = {"observer": "earth", "frame": "ecl"}
 RADII = (696_000, "6051.8")
@@ -21,7 +21,9 @@ SEARCHES = {
     "--kind radius --target mercury --observer earth --ref 100000000": lambda: finder.distance(
         YEAR, "mercury", 100_000_000, observer="earth"
     ),
-    "--kind apsis --target earth --observer sun --dir fall": lambda: finder.apsides(YEAR, "earth", observer="sun", dir="fall"),
+    "--kind apsis --target earth --observer sun --dir fall": lambda: finder.apsides(
+        YEAR, "earth", observer="sun", dir="fall"
+    ),
     "--kind conj --target mercury --second sun --observer earth --frame ecl --workers 2": lambda: finder.conjunctions(
         YEAR, "mercury", "sun", workers=2, **SEEN
     ),
@@ -31,8 +33,9 @@ SEARCHES = {
     "--kind oppo --target jupiter --second sun --observer earth --frame ecl --tick 1000": lambda: finder.oppositions(
         YEAR, "jupiter", tick=1000, **SEEN
     ),
-    "--kind station --target mercury --observer earth --frame ecl --from 2000-03-01T00:00:00 --to 2000-08-01T00:00:00":
-        lambda: finder.stations(YEAR, "mercury", start="2000-03-01", end="2000-08-01", **SEEN),
+    "--kind station --target mercury --observer earth --frame ecl --from 2000-03-01T00:00:00 --to 2000-08-01T00:00:00": lambda: finder.stations(
+        YEAR, "mercury", start="2000-03-01", end="2000-08-01", **SEEN
+    ),
     "--kind sep --target venus --second jupiter --observer earth --ref 0.9998476951563913": lambda: finder.separation(
         YEAR, "venus", "jupiter", cosine=0.9998476951563913, observer="earth"
     ),
@@ -66,7 +69,9 @@ class Searches(InFolder):
                 self.assertEqual(call().text, command("find", *words.split(), YEAR))
 
     def test_each_search_of_the_manual_gives_what_it_shows(self):
-        shown = re.findall(r"^    \$ \./finder find (.*)\n((?:    (?:FIND|C|U|END) .*\n)+)", (TOP / "docs/USAGE.md").read_text(), re.M)
+        shown = re.findall(
+            r"^    \$ \./finder find (.*)\n((?:    (?:FIND|C|U|END) .*\n)+)", (TOP / "docs/USAGE.md").read_text(), re.M
+        )
         self.assertGreater(len(shown), 15)
         for words, report in shown:
             with self.subTest(words):
@@ -79,7 +84,10 @@ class Searches(InFolder):
 
     def test_a_check_gives_the_summary_of_the_command(self):
         found = finder.check(YEAR)
-        self.assertEqual((found.start, found.end, found.block, found.blocks, found.ncoeff), (-734_400, 32_443_200, 2_764_800, 12, 1018))
+        self.assertEqual(
+            (found.start, found.end, found.block, found.blocks, found.ncoeff),
+            (-734_400, 32_443_200, 2_764_800, 12, 1018),
+        )
         lines = [f"COLUMN {name} coefficients {row[0]} granules {row[1]}" for name, row in found.columns.items()]
         self.assertEqual(lines, command("check", YEAR).splitlines()[1:])
 
@@ -133,6 +141,8 @@ class Views(InFolder):
     @unittest.skipUnless(has("pandas"), "pandas is not here")
     def test_tables_of_pandas(self):
         rows = self.moons.to_pandas()
-        lines = [f"{'C' if row.turn else 'U'} {row.first_tdb} {row.last_tdb} {row.turn}".strip() for row in rows.itertuples()]
+        lines = [
+            f"{'C' if row.turn else 'U'} {row.first_tdb} {row.last_tdb} {row.turn}".strip() for row in rows.itertuples()
+        ]
         self.assertEqual(lines, self.moons.text.splitlines()[1:-1])
         self.assertEqual(rows["first"].tolist(), self.moons.first.tolist())

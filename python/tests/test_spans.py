@@ -36,8 +36,14 @@ echo 7
 def part(first, last, *lines, head=HEAD):
     """The report of a part whose windows are these lines."""
     certain = sum(line.startswith("C ") for line in lines)
-    return "\n".join([f"{head} span 2000-01-{first}T00:00:00 2000-01-{last}T00:00:00", *lines,
-                      f"END certain {certain} undecided {len(lines) - certain}", ""])
+    return "\n".join(
+        [
+            f"{head} span 2000-01-{first}T00:00:00 2000-01-{last}T00:00:00",
+            *lines,
+            f"END certain {certain} undecided {len(lines) - certain}",
+            "",
+        ]
+    )
 
 
 class Files(InFolder):
@@ -92,16 +98,33 @@ class Joins(unittest.TestCase):
         return spans.join(spans.read_reports("".join(reports))).text()
 
     def test_undecided_windows_that_meet_are_one(self):
-        whole = self.joined(part("01", "05", "U 2000-01-04T12:00:00 2000-01-05T00:00:00"),
-                            part("05", "06", "U 2000-01-05T00:00:01 2000-01-06T00:00:00"),
-                            part("06", "09", "U 2000-01-06T00:00:01 2000-01-06T12:00:00",
-                                 "C 2000-01-07T00:00:00 2000-01-07T00:00:00 rise"))
-        self.assertEqual(whole, part("01", "09", "U 2000-01-04T12:00:00 2000-01-06T12:00:00",
-                                     "C 2000-01-07T00:00:00 2000-01-07T00:00:00 rise"))
+        whole = self.joined(
+            part("01", "05", "U 2000-01-04T12:00:00 2000-01-05T00:00:00"),
+            part("05", "06", "U 2000-01-05T00:00:01 2000-01-06T00:00:00"),
+            part(
+                "06",
+                "09",
+                "U 2000-01-06T00:00:01 2000-01-06T12:00:00",
+                "C 2000-01-07T00:00:00 2000-01-07T00:00:00 rise",
+            ),
+        )
+        self.assertEqual(
+            whole,
+            part(
+                "01",
+                "09",
+                "U 2000-01-04T12:00:00 2000-01-06T12:00:00",
+                "C 2000-01-07T00:00:00 2000-01-07T00:00:00 rise",
+            ),
+        )
 
     def test_windows_that_do_not_meet_stay_two(self):
-        lines = ("U 2000-01-04T12:00:00 2000-01-04T23:59:59", "U 2000-01-05T00:00:01 2000-01-05T12:00:00",
-                 "C 2000-01-06T00:00:00 2000-01-06T00:00:00 fall", "U 2000-01-06T00:00:01 2000-01-06T12:00:00")
+        lines = (
+            "U 2000-01-04T12:00:00 2000-01-04T23:59:59",
+            "U 2000-01-05T00:00:01 2000-01-05T12:00:00",
+            "C 2000-01-06T00:00:00 2000-01-06T00:00:00 fall",
+            "U 2000-01-06T00:00:01 2000-01-06T12:00:00",
+        )
         whole = self.joined(part("01", "05", lines[0]), part("05", "06", *lines[1:3]), part("06", "09", lines[3]))
         self.assertEqual(whole, part("01", "09", *lines))
 
@@ -112,8 +135,10 @@ class Joins(unittest.TestCase):
             "a part twice": (part("01", "05"), part("01", "05")),
             "another order": (part("05", "09"), part("01", "05")),
             "another request": (part("01", "05"), part("05", "09", head=HEAD.replace("depth 4", "depth 5"))),
-            "another tick": (part("01", "05"), part("05", "09", head=f"{HEAD} tick 1000").replace(":00 ", ":00.000 ")
-                             .replace(":00\n", ":00.000\n")),
+            "another tick": (
+                part("01", "05"),
+                part("05", "09", head=f"{HEAD} tick 1000").replace(":00 ", ":00.000 ").replace(":00\n", ":00.000\n"),
+            ),
             "no part": (),
         }.items():
             with self.subTest(name), self.assertRaises(finder.WrongParts):
@@ -122,7 +147,9 @@ class Joins(unittest.TestCase):
 
 class Tool(InFolder):
     def run_tool(self, *words, text=""):
-        return subprocess.run([sys.executable, TOOL, *words], cwd=self.folder, input=text, capture_output=True, text=True, check=False)
+        return subprocess.run(
+            [sys.executable, TOOL, *words], cwd=self.folder, input=text, capture_output=True, text=True, check=False
+        )
 
     def said(self, *words, text=""):
         done = self.run_tool(*words, text=text)
@@ -138,25 +165,39 @@ class Tool(InFolder):
     def parts(self, plan, options, files=()):
         """The reports of a plan's parts."""
         rows = [line.split(" ") for line in plan.splitlines()]
-        return [command("find", *options.split(), f"--from={row[0]}", f"--to={row[1]}", *(files or row[2:])) for row in rows]
+        return [
+            command("find", *options.split(), f"--from={row[0]}", f"--to={row[1]}", *(files or row[2:])) for row in rows
+        ]
 
     def test_cuts_at_borders_of_blocks(self):
-        self.assertEqual(self.said("cut", "3", YEAR).splitlines(),
-                         ["1999-12-24T00:00:00 2000-04-30T00:00:00", "2000-04-30T00:00:00 2000-09-05T00:00:00",
-                          "2000-09-05T00:00:00 2001-01-11T00:00:00"])
+        self.assertEqual(
+            self.said("cut", "3", YEAR).splitlines(),
+            [
+                "1999-12-24T00:00:00 2000-04-30T00:00:00",
+                "2000-04-30T00:00:00 2000-09-05T00:00:00",
+                "2000-09-05T00:00:00 2001-01-11T00:00:00",
+            ],
+        )
         self.assertEqual(len(self.said("cut", "100", YEAR).splitlines()), 12)
-        self.assertEqual(self.said("cut", "5", "--from", "2000-02-01T00:00:00.250", "--to=3000000", YEAR).splitlines(),
-                         ["2000-02-01T00:00:00.250 2000-02-05T05:20:00"])
-        self.assertEqual(self.said("cut", "5", "--from", "2000-02-01T00:00:00", "--to", "2000-03-01T00:00:00", YEAR).splitlines(),
-                         ["2000-02-01T00:00:00 2000-02-26T00:00:00", "2000-02-26T00:00:00 2000-03-01T00:00:00"])
+        self.assertEqual(
+            self.said("cut", "5", "--from", "2000-02-01T00:00:00.250", "--to=3000000", YEAR).splitlines(),
+            ["2000-02-01T00:00:00.250 2000-02-05T05:20:00"],
+        )
+        self.assertEqual(
+            self.said("cut", "5", "--from", "2000-02-01T00:00:00", "--to", "2000-03-01T00:00:00", YEAR).splitlines(),
+            ["2000-02-01T00:00:00 2000-02-26T00:00:00", "2000-02-26T00:00:00 2000-03-01T00:00:00"],
+        )
         self.assert_refused("not within the files", "cut", "2", "--to", "2002-01-01T00:00:00", YEAR)
         self.assert_refused("finder: read fault none", "cut", "2", "none")
 
     def test_parts_are_joined_to_the_whole(self):
         (self.folder / "plan").write_text(self.said("cut", "5", YEAR))
         plan = (self.folder / "plan").read_text()
-        for options in ("--kind conj --target moon --second sun --observer earth --depth 3", "--kind apsis --target moon --observer earth",
-                        "--kind apsis --target moon --observer earth --tick 1000 --cut third"):
+        for options in (
+            "--kind conj --target moon --second sun --observer earth --depth 3",
+            "--kind apsis --target moon --observer earth",
+            "--kind apsis --target moon --observer earth --tick 1000 --cut third",
+        ):
             joined = self.said("join", "plan", text="".join(self.parts(plan, options, [YEAR])))
             self.assertEqual(joined, command("find", *options.split(), YEAR))
 
@@ -187,7 +228,9 @@ class Tool(InFolder):
         done = subprocess.run(run, cwd=self.folder, env=path, capture_output=True, text=True, check=False)
         self.assertEqual((done.returncode, done.stderr), (0, ""))
         self.assertEqual((self.folder / "moons" / "report").read_text(), command("find", *options, YEAR))
-        self.assertNotEqual(subprocess.run(run, cwd=self.folder, env=path, capture_output=True, check=False).returncode, 0)
+        self.assertNotEqual(
+            subprocess.run(run, cwd=self.folder, env=path, capture_output=True, check=False).returncode, 0
+        )
         (self.folder / "ascp1.405").write_text("")
         run[2] = "others"
         subprocess.run(run, cwd=self.folder, env=path, capture_output=True, check=False)
@@ -208,7 +251,10 @@ class Tool(InFolder):
             ("part 2 of the plan", [first, first, second, third]),
             ("4 reports for 3 parts", [first, second, third, third]),
             ("different requests", [first, other, third]),
-            ("the counts are", [first, second.replace("C ", "", 1).replace(second.split("\n")[1][2:] + "\n", "", 1), third]),
+            (
+                "the counts are",
+                [first, second.replace("C ", "", 1).replace(second.split("\n")[1][2:] + "\n", "", 1), third],
+            ),
             ("cut off", [first, second, third[:-1]]),
             ("without its last line", [first, second, third[: third.index("END")]]),
             ("part 1 of the plan", [REPORT]),

@@ -51,15 +51,30 @@ class Times(unittest.TestCase):
                 self.assertEqual(ticks_of_time(text, 1, False), seconds)
         self.assertEqual(ticks_of("1999-12-31T23:59:59.250", 1000), -43_200_750)
         self.assertEqual(time_text(-43_200_750, 1000), "1999-12-31T23:59:59.250")
-        for text in ("2001-02-29T00:00:00", "2000-01-01T24:00:00", "2000-01-01T12:00:60", "-000000-01-01T00:00:00",
-                     "2000-1-01T00:00:00", "2000-01-01T12:00:00.000", "2000-01-01 12:00:00", ""):
+        for text in (
+            "2001-02-29T00:00:00",
+            "2000-01-01T24:00:00",
+            "2000-01-01T12:00:60",
+            "-000000-01-01T00:00:00",
+            "2000-1-01T00:00:00",
+            "2000-01-01T12:00:00.000",
+            "2000-01-01 12:00:00",
+            "",
+        ):
             self.assertRaises(WrongReport, ticks_of, text)
         self.assertRaises(WrongReport, ticks_of, "2000-01-01T12:00:00", 1000)
 
     def test_forms_of_one_time(self):
-        forms = [1_500, np.int32(1_500), "2000-01-01T12:25:00", "2000-01-01T12:25", "2000-01-01 12:25:00.000",
-                 np.datetime64("2000-01-01T12:25"), np.datetime64("2000-01-01T12:25:00", "ns"),
-                 datetime.datetime(2000, 1, 1, 12, 25)]
+        forms = [
+            1_500,
+            np.int32(1_500),
+            "2000-01-01T12:25:00",
+            "2000-01-01T12:25",
+            "2000-01-01 12:25:00.000",
+            np.datetime64("2000-01-01T12:25"),
+            np.datetime64("2000-01-01T12:25:00", "ns"),
+            datetime.datetime(2000, 1, 1, 12, 25),
+        ]
         for form in forms:
             for tick in (1, 1000):
                 for up in (False, True):
@@ -70,16 +85,37 @@ class Times(unittest.TestCase):
         self.assertEqual(ticks_of_time(np.datetime64("-4713-11-24T12"), 1, True), -2_451_545 * 86_400)
 
     def test_times_between_ticks(self):
-        for form in ("2000-01-01T11:59:58.0004", np.datetime64("2000-01-01T11:59:58.0004", "us"),
-                     datetime.datetime(2000, 1, 1, 11, 59, 58, 400)):
-            self.assertEqual([ticks_of_time(form, tick, up) for tick in (1, 1000) for up in (False, True)],
-                             [-2, -1, -2_000, -1_999], repr(form))
+        for form in (
+            "2000-01-01T11:59:58.0004",
+            np.datetime64("2000-01-01T11:59:58.0004", "us"),
+            datetime.datetime(2000, 1, 1, 11, 59, 58, 400),
+        ):
+            self.assertEqual(
+                [ticks_of_time(form, tick, up) for tick in (1, 1000) for up in (False, True)],
+                [-2, -1, -2_000, -1_999],
+                repr(form),
+            )
 
     def test_what_is_no_time(self):
         zone = datetime.timezone.utc
-        for form in (1.5, True, None, datetime.datetime(2000, 1, 1, tzinfo=zone), np.timedelta64(1, "s"), datetime.time(1)):
+        for form in (
+            1.5,
+            True,
+            None,
+            datetime.datetime(2000, 1, 1, tzinfo=zone),
+            np.timedelta64(1, "s"),
+            datetime.time(1),
+        ):
             self.assertRaises(TypeError, ticks_of_time, form, 1, False)
-        for form in ("", "2000", "2000-13-01", "2000-01-01T12", "2000-01-01T12:00.5", "2000-01-01T12:00:00Z", np.datetime64("NaT")):
+        for form in (
+            "",
+            "2000",
+            "2000-13-01",
+            "2000-01-01T12",
+            "2000-01-01T12:00.5",
+            "2000-01-01T12:00:00Z",
+            np.datetime64("NaT"),
+        ):
             self.assertRaises(ValueError, ticks_of_time, form, 1, False)
 
     @unittest.skipUnless(has("astropy"), "astropy is not here")
@@ -109,8 +145,15 @@ class Times(unittest.TestCase):
 
 class Numbers(unittest.TestCase):
     def test_decimals(self):
-        for value, text in ((5, "5"), (np.int64(-7), "-7"), (149597870.7, "149597870.7"), (np.float64(0.1), "0.1"),
-                            ("1.50e8", "1.50e8"), (Decimal("0.998"), "0.998"), (-1e-7, "-1e-07")):
+        for value, text in (
+            (5, "5"),
+            (np.int64(-7), "-7"),
+            (149597870.7, "149597870.7"),
+            (np.float64(0.1), "0.1"),
+            ("1.50e8", "1.50e8"),
+            (Decimal("0.998"), "0.998"),
+            (-1e-7, "-1e-07"),
+        ):
             self.assertEqual(decimal_text(value), text)
         for value in (float("nan"), float("inf"), Decimal("NaN")):
             self.assertRaises(ValueError, decimal_text, value)

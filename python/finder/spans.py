@@ -339,6 +339,14 @@ def milliseconds_of(text: str) -> int:
         raise argparse.ArgumentTypeError(f"no time: {text}") from None
 
 
+def count_of(text: str) -> int:
+    """How many parts there may be."""
+    count = int(text)
+    if count < 1:
+        raise argparse.ArgumentTypeError(f"no count of parts: {text}")
+    return count
+
+
 def plan_time(milliseconds: int) -> str:
     """A time of a plan, as short as it may be."""
     return time_text(milliseconds, 1_000).removesuffix(".000")
@@ -403,7 +411,7 @@ def parser() -> argparse.ArgumentParser:
         command.add_argument("--from", dest="start", type=milliseconds_of)
         command.add_argument("--to", dest="end", type=milliseconds_of)
         if name == "cut":
-            command.add_argument("count", type=int, metavar="N")
+            command.add_argument("count", type=count_of, metavar="N")
         else:
             command.add_argument("--header")
         command.add_argument("files", nargs="+", metavar="FILE")

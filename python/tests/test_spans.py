@@ -264,4 +264,5 @@ class Tool(InFolder):
         (self.folder / "plan").write_text("")
         self.assert_refused("no part", "join", "plan", text=first)
         self.assertEqual(self.run_tool("join", "none").returncode, 3)
-        self.assertEqual(self.run_tool("join").returncode, 2)
+        for words in (["join"], ["cut", "0", YEAR], ["cut", "two", YEAR], ["cut", "2", "--from", "May", YEAR], []):
+            self.assertEqual(self.run_tool(*words).returncode, 2, words)

@@ -22,9 +22,13 @@ class FinderError(Exception):
     """The command ended without a report: `status` is its exit status, `line` what it wrote to standard error."""
 
     def __init__(self, status: int, line: str) -> None:
-        super().__init__(status, line)
+        # (an OSError takes the first of two words for a number of the system, which a status is not)
+        super().__init__(line)
         self.status = status
         self.line = line
+
+    def __reduce__(self) -> tuple[type[FinderError], tuple[int, str]]:
+        return type(self), (self.status, self.line)
 
     def __str__(self) -> str:
         return self.line or f"the command ended with status {self.status}"

@@ -1,6 +1,7 @@
 """Reports that are not whole are refused, each status is an exception, and a search can be stopped."""
 
 import os
+import pickle
 import signal
 import subprocess
 import sys
@@ -67,6 +68,9 @@ class Statuses(InFolder):
         with self.assertRaises(kind) as caught:
             call()
         self.assertEqual((caught.exception.status, caught.exception.line, str(caught.exception)), (status, line, line))
+        again = pickle.loads(pickle.dumps(caught.exception))
+        self.assertEqual((type(again), again.status, again.line), (kind, status, line))
+        self.assertIsNone(getattr(again, "errno", None))
         return caught.exception
 
     def test_refusals_of_the_command(self):

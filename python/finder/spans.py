@@ -362,16 +362,16 @@ def check(names: Sequence[str]) -> Summary:
 
 def read_plan(text: str) -> list[tuple[int, int]]:
     """The spans of a plan, in milliseconds since J2000."""
+    if not text.endswith("\n"):
+        raise WrongParts("the plan has no part, or is cut off")
     spans = []
-    for line in text.splitlines():
+    for line in text.split("\n")[:-1]:
         words = line.split(" ")
         try:
             first, last = (milliseconds_of(word) for word in words[:2])
         except (ValueError, argparse.ArgumentTypeError):
             raise WrongParts(f"no line of a plan: {line}") from None
         spans.append((first, last))
-    if not spans:
-        raise WrongParts("the plan has no part")
     return spans
 
 
@@ -424,9 +424,9 @@ def parser() -> argparse.ArgumentParser:
 def said(words: argparse.Namespace) -> str:
     """What the tool prints."""
     if words.command == "join":
-        spans = read_plan(Path(words.plan).read_text("utf-8", "surrogateescape"))
-        texts = [Path(name).read_text("ascii") for name in words.reports] or [sys.stdin.read()]
-        return join(by_plan(spans, [report for text in texts for report in read_reports(text)])).text()
+        spans = read_plan(os.fsdecode(Path(words.plan).read_bytes()))
+        texts = [Path(name).read_bytes() for name in words.reports] or [sys.stdin.buffer.read()]
+        return join(by_plan(spans, [report for text in texts for report in read_reports(text.decode("ascii"))])).text()
     if words.command == "files":
         lines = planned_files(words)
     else:
@@ -440,7 +440,7 @@ def main() -> int:
     words = parser().parse_args()
     try:
         text = said(words)
-        sys.stdout.buffer.write(text.encode("utf-8", "surrogateescape"))
+        sys.stdout.buffer.write(os.fsencode(text))
         sys.stdout.flush()
     except (WrongReport, WrongParts, NoProgram, UnicodeDecodeError) as error:
         print(f"spans: {error}", file=sys.stderr)

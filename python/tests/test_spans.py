@@ -258,11 +258,13 @@ class Tool(InFolder):
             ("cut off", [first, second, third[:-1]]),
             ("without its last line", [first, second, third[: third.index("END")]]),
             ("part 1 of the plan", [REPORT]),
+            ("no time of a report", [first.replace("\n", "\r\n"), second, third]),
         ):
             with self.subTest(why):
                 self.assert_refused(why, "join", "plan", text="".join(reports))
-        (self.folder / "plan").write_text("")
-        self.assert_refused("no part", "join", "plan", text=first)
+        for wrong in ("", plan[:-1], plan.replace(" ", "  ")):
+            (self.folder / "plan").write_text(wrong)
+            self.assert_refused("plan", "join", "plan", text=first + second + third)
         self.assertEqual(self.run_tool("join", "none").returncode, 3)
         for words in (["join"], ["cut", "0", YEAR], ["cut", "two", YEAR], ["cut", "2", "--from", "May", YEAR], []):
             self.assertEqual(self.run_tool(*words).returncode, 2, words)

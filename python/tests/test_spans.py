@@ -121,12 +121,15 @@ class Joins(unittest.TestCase):
     def test_windows_that_do_not_meet_stay_two(self):
         lines = (
             "U 2000-01-04T12:00:00 2000-01-04T23:59:59",
-            "U 2000-01-05T00:00:01 2000-01-05T12:00:00",
-            "C 2000-01-06T00:00:00 2000-01-06T00:00:00 fall",
-            "U 2000-01-06T00:00:01 2000-01-06T12:00:00",
+            "U 2000-01-05T00:00:01 2000-01-06T00:00:00",
+            "U 2000-01-06T00:00:02 2000-01-06T12:00:00",
+            "C 2000-01-07T00:00:00 2000-01-07T00:00:00 fall",
+            "U 2000-01-07T00:00:01 2000-01-07T12:00:00",
         )
-        whole = self.joined(part("01", "05", lines[0]), part("05", "06", *lines[1:3]), part("06", "09", lines[3]))
-        self.assertEqual(whole, part("01", "09", *lines))
+        ends = ("01", "05", "06", "07", "09")
+        parts = (lines[:1], lines[1:2], lines[2:4], lines[4:])
+        reports = [part(first, last, *rows) for first, last, rows in zip(ends, ends[1:], parts)]
+        self.assertEqual(self.joined(*reports), part("01", "09", *lines))
 
     def test_what_is_not_joined(self):
         for name, reports in {

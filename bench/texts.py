@@ -6,6 +6,9 @@
                                   which are a century of DE405
     texts.py blocks COUNT FILE SOURCE
                                   the same up to so many blocks
+    texts.py files COUNT FOLDER SOURCE
+                                  the large text in the form in which JPL keeps its files: header.405, and so many files
+                                  ascp1.405 and so on, each of which begins with the last block of the one before
 
 Every block begins where the one before it ended. The header's dates stay as they are.
 """
@@ -99,6 +102,20 @@ def large(source):
             return
 
 
+def write(name, texts):
+    with open(name, "w", encoding="ascii", newline="") as file:
+        file.writelines(texts)
+
+
+def write_files(count, folder, source):
+    """Writes a header and files of about as many blocks each."""
+    header, *blocks = large(source)
+    write(f"{folder}/header.405", [header])
+    places = [len(blocks) * number // count for number in range(count + 1)]
+    for number, (first, last) in enumerate(zip(places, places[1:]), 1):
+        write(f"{folder}/ascp{number}.405", blocks[max(0, first - 1) : last])
+
+
 def main(words):
     match words:
         case ["small", name]:
@@ -107,10 +124,12 @@ def main(words):
             texts = large(source)
         case ["blocks", count, name, source]:
             texts = itertools.islice(repeated(source), int(count) + 1)
+        case ["files", count, folder, source]:
+            write_files(int(count), folder, source)
+            return
         case _:
             sys.exit(__doc__)
-    with open(name, "w", encoding="ascii", newline="") as file:
-        file.writelines(texts)
+    write(name, texts)
 
 
 if __name__ == "__main__":

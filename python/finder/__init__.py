@@ -1,0 +1,92 @@
+"""Events in JPL ephemerides, as proved windows of time: the command `finder`, from Python.
+
+>>> import finder
+>>> found = finder.conjunctions("examples/de405-2000.asc", "jupiter", "saturn", observer="earth", frame="ecl")
+>>> found[0]
+Window(first=12801349, last=12801349, turn='fall')
+>>> print(found.time().iso[0])
+2000-05-28 15:55:49.000
+
+A window with a turn is certain: it holds exactly one event, in that direction. One without is undecided: nothing is
+known of its times. No event of the span is outside of the windows. The numbers of a window are ticks since J2000,
+2000-01-01T12:00:00 TDB: seconds, or milliseconds with `tick=1000`. `docs/USAGE.md` says what each kind means.
+
+The searches are `coordinate`, `distance`, `apsides`, `conjunctions`, `oppositions`, `stations`, `separation`,
+`separation_extremes`, `occultations`, and `find`, which takes a kind by its name; `over_files` runs one of them over
+files in order of time, one by one. Each runs the command in a process of its own, and takes
+
+    observer, frame, dir, tick, width, depth, workers, cut     as the command's options, with its defaults
+    start, end        times of TDB: the events after `start` and up to `end` are looked for
+    program           the command; else $FINDER, the clone's that this package lies in, or `finder` on the path
+    timeout           seconds after which the process is ended, and `TimedOut` raised
+
+A time is a whole number of seconds since J2000, a text as `2000-05-01` or `2000-05-01T12:00:00.25`, a `datetime64`, a
+`datetime` or a `date` without a zone, all of these TDB, or an astropy `Time` of any scale. Between two ticks, `start`
+is rounded down and `end` up. A number is an int, a decimal text, a `Decimal`, a float (its shortest decimal), or an
+astropy quantity. Each refusal is an exception with the command's status and its line: `FinderError` and those below it.
+"""
+
+from ._numbers import cosine_of_degrees
+from ._parts import join, over_files
+from ._program import (
+    EventRefused,
+    FileFault,
+    FinderError,
+    Interrupted,
+    OutOfMemory,
+    ReadFailed,
+    SpanRefused,
+    TimedOut,
+    TooManyLeaves,
+    WordsRefused,
+    WriteFailed,
+)
+from ._search import (
+    apsides,
+    check,
+    conjunctions,
+    coordinate,
+    distance,
+    find,
+    occultations,
+    oppositions,
+    separation,
+    separation_extremes,
+    stations,
+)
+from ._windows import Windows
+from .spans import NoProgram, Summary, Window, WrongParts, WrongReport
+
+__all__ = [
+    "EventRefused",
+    "FileFault",
+    "FinderError",
+    "Interrupted",
+    "NoProgram",
+    "OutOfMemory",
+    "ReadFailed",
+    "SpanRefused",
+    "Summary",
+    "TimedOut",
+    "TooManyLeaves",
+    "Window",
+    "Windows",
+    "WordsRefused",
+    "WriteFailed",
+    "WrongParts",
+    "WrongReport",
+    "apsides",
+    "check",
+    "conjunctions",
+    "coordinate",
+    "cosine_of_degrees",
+    "distance",
+    "find",
+    "join",
+    "occultations",
+    "oppositions",
+    "over_files",
+    "separation",
+    "separation_extremes",
+    "stations",
+]

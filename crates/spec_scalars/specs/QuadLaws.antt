@@ -8,7 +8,7 @@ use Rattle.spec_numbers.proofs.Order.{lin, le-mul, nonneg-square}
 use Rattle.spec_numbers.proofs.Corners.{corner_low, corner_high}
 use Rattle.spec_numbers.proofs.Ring.{v, k as lit, ◌⊕◌, ◌⊖◌, ◌⊗◌, minus, ring}
 use Rattle.spec_scalars.specs.Scalars.{IsReach, KeepsReach}
-use Rattle.spec_scalars.specs.Quads.{Quad, greatest_square, least_square, quad_at, quad_high, quad_low, quad_reach, quad_scalar, quad_step}
+use Rattle.spec_scalars.specs.Quads.{Quadratic, greatest_square, least_square, quad_at, quad_high, quad_low, quad_reach, quad_scalar, quad_step}
 
 min_first : (x y : ℤ) → int_min x y ≤ℤ x
 min_first x y = grind (arith, ints)
@@ -94,7 +94,7 @@ least_is a b t p q = by (int_le a (pos 0) && int_le (pos 0) b) refl
     by false e = by_side (side a b e ordered)
 
 -- ---- the step
-step_is : (k : Quad) (t : ℤ) → quad_at k (t +ℤ pos 1) -ℤ quad_at k t ≡ quad_step k t
+step_is : (k : Quadratic) (t : ℤ) → quad_at k (t +ℤ pos 1) -ℤ quad_at k t ≡ quad_step k t
 step_is k t =
     ring (k.p ∷ k.q ∷ k.r ∷ t ∷ [])
     (((v 0 ⊗ ((v 3 ⊕ lit (pos 1)) ⊗ (v 3 ⊕ lit (pos 1))) ⊕ v 1 ⊗ (v 3 ⊕ lit (pos 1))) ⊕ v 2) ⊖ ((v 0 ⊗ (v 3 ⊗ v 3) ⊕ v 1 ⊗ v 3) ⊕ v 2))
@@ -109,7 +109,7 @@ shifted_min x y z = grind (arith, ints)
 shifted_max : (x y z : ℤ) → int_max (x +ℤ z) (y +ℤ z) ≡ int_max x y +ℤ z
 shifted_max x y z = grind (arith, ints)
 
-module _ (k : Quad) (a b : ℤ) where
+module _ (k : Quadratic) (a b : ℤ) where
   low_at : (t : ℤ) → a ≤ℤ t → t ≤ℤ b → quad_low k a b ≤ℤ quad_at k t
   low_at t p q =
       let square = product_low k.p (least_square a b) (greatest_square a b) (t *ℤ t) (least_is a b t p q) (greatest_is a b t p q) in
@@ -146,5 +146,5 @@ module _ (k : Quad) (a b : ℤ) where
   }
 
 -- and so over each span of its times
-pub quads_keep_reach : (k : Quad) → KeepsReach (quad_scalar k)
+pub quads_keep_reach : (k : Quadratic) → KeepsReach (quad_scalar k)
 quads_keep_reach k a b from ordered upto = quad_within k a b

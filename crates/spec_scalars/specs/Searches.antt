@@ -60,8 +60,11 @@ evidence_at s n = record {
   guards = [];
 }
 
+abbrev pub criteria_of : Plan → Criteria
+criteria_of plan = record { dir = plan.dir; width = plan.width; depth = plan.depth }
+
 abbrev pub criteria : Search → Criteria
-criteria s = record { dir = s.plan.dir; width = s.plan.width; depth = s.plan.depth }
+criteria s = criteria_of s.plan
 
 -- the verdict of events, with no border and no guard
 unfoldable pub verdict_of : Search → Node → Verdict

@@ -10,7 +10,7 @@ ghost use Rattle.spec_trees.specs.Tree.{AreLeaves, Covers, IsSound, IsValid};
 ghost use Rattle.spec_trees.specs.Windows.{window_of, windows};
 ghost use Rattle.spec_events.specs.Events.{AreWindows, HasNoEvent, HoldsOne, wants};
 ghost use Rattle.spec_judged.specs.Judged as judged;
-ghost use Rattle.spec_scalars.specs.Quads.{Quad, quad_at, quad_reach};
+ghost use Rattle.spec_scalars.specs.Quads.{Quadratic, quad_at, quad_reach};
 ghost use Rattle.spec_scalars.specs.Scalars.{IsReach};
 ghost use Rattle.spec_scalars.specs.Searches.{IsLeftUndecided, IsSearch, Search, events, judged_by, rules, verdict_of, windows_of};
 
@@ -50,5 +50,5 @@ pub fn windows_hold_the_events()
 
 /// What is known of a quadratic polynomial over a span is so.
 pub fn quads_keep_within_their_reach()
-    ensures { (k : Quad) (a b : ℤ) → a ≤ℤ b → IsReach (quad_at k) a b (quad_reach k a b) }
+    ensures { (k : Quadratic) (a b : ℤ) → a ≤ℤ b → IsReach (quad_at k) a b (quad_reach k a b) }
 {}

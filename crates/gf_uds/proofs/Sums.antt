@@ -2,7 +2,7 @@
 use Rattle.std.proofs.Common.{◌≡◌, ◌∙◌, ℤ, ◌+ℤ◌, ◌*ℤ◌}
 
 -- f is the lesser or the greater of two
-module _ (f : ℤ → ℤ → ℤ) {a b : ℤ} where
+module _ (f : ℤ → ℤ → ℤ) (a b : ℤ) where
   pub sums_are : {p p' q q' r r' least least' greatest greatest' square line both all : ℤ} → p ≡ p' → q ≡ q' → r ≡ r' → least ≡ least' → greatest ≡ greatest'
       → square ≡ f (p *ℤ least) (p *ℤ greatest) → line ≡ f (q *ℤ a) (q *ℤ b) → both ≡ square +ℤ line → all ≡ both +ℤ r
       → all ≡ (f (p' *ℤ least') (p' *ℤ greatest') +ℤ f (q' *ℤ a) (q' *ℤ b)) +ℤ r'

@@ -27,4 +27,4 @@ returns c =
     let line : c.greater_product.result ≡ int_max (c.parts-p.result.1 *ℤ c.args.a) (c.parts-p.result.1 *ℤ c.args.b) = simp to_z-of_z at c.greater_product.ensures.value in
     let both : c.sum.result ≡ c.greater_product-square.result +ℤ c.greater_product.result = simp to_z-of_z at c.sum.ensures.value in
     let all : c.sum-2.result ≡ c.sum.result +ℤ c.parts-p.result.2 = simp to_z-of_z at c.sum-2.ensures.value in
-    simp to_z-of_z (sums_are int_max c.parts-p.ensures.p c.parts-p.ensures.q c.parts-p.ensures.r least greatest square line both all)
+    simp to_z-of_z (sums_are int_max c.args.a c.args.b c.parts-p.ensures.p c.parts-p.ensures.q c.parts-p.ensures.r least greatest square line both all)

@@ -27,4 +27,4 @@ returns c =
     let line : c.lesser_product.result ≡ int_min (c.parts-p.result.1 *ℤ c.args.a) (c.parts-p.result.1 *ℤ c.args.b) = simp to_z-of_z at c.lesser_product.ensures.value in
     let both : c.sum.result ≡ c.lesser_product-square.result +ℤ c.lesser_product.result = simp to_z-of_z at c.sum.ensures.value in
     let all : c.sum-2.result ≡ c.sum.result +ℤ c.parts-p.result.2 = simp to_z-of_z at c.sum-2.ensures.value in
-    simp to_z-of_z (sums_are int_min c.parts-p.ensures.p c.parts-p.ensures.q c.parts-p.ensures.r least greatest square line both all)
+    simp to_z-of_z (sums_are int_min c.args.a c.args.b c.parts-p.ensures.p c.parts-p.ensures.q c.parts-p.ensures.r least greatest square line both all)

@@ -1,8 +1,8 @@
-//! What signs at the ends of a node, and bounds of the steps over it, tell of its turns: the tests of which a verdict is
-//! made, whatever the function is.
+//! What signs at the ends of a node, and bounds of the steps over it, tell of its turns: the tests of which a verdict
+//! is made, whatever the function is.
 //!
-//! In come signs, the ends of an interval that holds every step, and the turns that are wanted; out come the answers of
-//! `spec_events`' own tests. No call allocates or fails.
+//! In come signs, the ends of an interval that holds every step, and the turns that are wanted; out come the answers
+//! of `spec_events`' own tests. No call allocates or fails.
 #![tactic(auto)]
 
 mod ends;

@@ -15,15 +15,9 @@ use spec_intervals::Sign;
 use spec_scalars::Plan;
 
 impl<L: Law + Drop> ScalarJudge<L> {
-    /// The judge of the search of a scalar for its turns in a wanted direction. Nodes are split down to the width, in times,
-    /// and to the depth, and are cut by the rule.
-    pub fn new(
-        scalar: Scalar<L>,
-        want: Dir,
-        width: i64,
-        depth: u32,
-        cut: CutRule,
-    ) -> ScalarJudge<L>
+    /// The judge of the search of a scalar for its turns in a wanted direction. Nodes are split down to the width, in
+    /// times, and to the depth, and are cut by the rule.
+    pub fn new(scalar: Scalar<L>, want: Dir, width: i64, depth: u32, cut: CutRule) -> ScalarJudge<L>
         requires some_width { pos 1 ≤ℤ width }
         ensures scalar { result.scalar ≡ scalar }
         ensures plan { result.plan ≡ record {

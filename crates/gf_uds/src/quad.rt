@@ -3,13 +3,12 @@ ghost use Rattle.std.specs.Prelude.{◌≡◌, ◌≤◌, unsigned_abs};
 ghost use Rattle.spec_scalars.specs.declared.limits.TheConstants.{MAX_TIME};
 ghost use Rattle.spec_scalars.specs.Quads.{IsSmall, is_small, quad_high, quad_low, quad_step, small_quadratic};
 
-use crate::squares::{
-    greater_product, greatest_square, least_square, lesser_product, step, sum,
-};
+use crate::squares::{greater_product, greatest_square, least_square, lesser_product, step, sum};
 use spec_scalars::{MAX_FACTOR, MAX_SUMMAND};
 use std::marker::Model;
 
-/// p t^2 + q t + r at times t of at most 2^40 in magnitude, where p and q are at most 2^20 in magnitude and r at most 2^62.
+/// p t^2 + q t + r at times t of at most 2^40 in magnitude, where p and q are at most 2^20 in magnitude and r at most
+/// 2^62.
 #[derive(Clone, Copy, Debug, PartialEq, Eq)]
 pub struct Quad {
     p: i64,
@@ -57,11 +56,7 @@ impl Quad {
         ensures r { result.2 ≡ self.now.r }
         ensures small { IsSmall self.now }
     {
-        (
-            i128::from(self.p),
-            i128::from(self.q),
-            i128::from(self.r),
-        )
+        (i128::from(self.p), i128::from(self.q), i128::from(self.r))
     }
 
     /// What it is no less than from `a` to `b`.

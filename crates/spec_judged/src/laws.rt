@@ -19,16 +19,16 @@ pub fn verdicts_are_true()
         → s.rules.verdict n ≡ One turn → HoldsOne (events s) turn (window_of n (Certain turn)) }
 {}
 
-/// Each of some leaves of the rules has the right mark: a clear one has no event, one with one has exactly one, and an
-/// undecided one is no wider than the width or as deep as the depth.
+/// Each of some leaves of the rules has the right mark: a clear one has no event, one with one has exactly one, and
+/// an undecided one is no wider than the width or as deep as the depth.
 pub fn leaves_are_rightly_marked()
     ensures { (s : Judged) (ls : List Leaf) → IsJudged s → AreLeaves s.rules ls
         → AreRightlyMarked (events s) (IsLeftUndecided s ls) ls }
 {}
 
-/// The windows of leaves that cover a span are those of its events: they lie in the span in order, hold every event, each
-/// certain one exactly one, and each time of an undecided one lies in one of these leaves that was left undecided and lies
-/// in the window. It holds of any such leaves, and with that of those of a valid node's tree.
+/// The windows of leaves that cover a span are those of its events: they lie in the span in order, hold every event,
+/// each certain one exactly one, and each time of an undecided one lies in one of these leaves that was left
+/// undecided and lies in the window. It holds of any such leaves, and with that of those of a valid node's tree.
 pub fn windows_hold_the_events()
     ensures of_leaves { (s : Judged) (a b : ℤ) (ls : List Leaf) → IsJudged s
         → Covers a ls b → AreLeaves s.rules ls

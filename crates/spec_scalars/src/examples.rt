@@ -28,8 +28,8 @@ pub fn a_square_turned_over()
         ≡ reach (minus 19) (pos 15) (minus 9) (minus 5) }
 {}
 
-/// t^2 - 100: a node over whose steps nothing is known is split, or undecided at the depth; by one sign, and by its ends, one
-/// is clear, and one of a single time has its turn.
+/// t^2 - 100: a node over whose steps nothing is known is split, or undecided at the depth; by one sign, and by its
+/// ends, one is clear, and one of a single time has its turn.
 pub fn verdicts_on_a_square()
     ensures root { verdict_of (search_to 40 square_less_100) (node_at (minus 50) (pos 50) 0)
         ≡ Split }
@@ -43,8 +43,8 @@ pub fn verdicts_on_a_square()
 
 /// t - 2 from 0 to 4: it rises at 2, and at depth 0 nothing is decided.
 pub fn windows_of_a_line()
-    ensures found { windows_of (search_to 40 (quad (pos 0) (pos 1) (minus 2))) (span (pos 0) (pos 4))
-        ≡ one_window (pos 2) (pos 2) (H.Certain Rise) }
-    ensures undecided { windows_of (search_to 0 (quad (pos 0) (pos 1) (minus 2))) (span (pos 0) (pos 4))
-        ≡ one_window (pos 1) (pos 4) H.Undecided }
+    ensures found { windows_of (search_to 40 (quad (pos 0) (pos 1) (minus 2)))
+        (span (pos 0) (pos 4)) ≡ one_window (pos 2) (pos 2) (H.Certain Rise) }
+    ensures undecided { windows_of (search_to 0 (quad (pos 0) (pos 1) (minus 2)))
+        (span (pos 0) (pos 4)) ≡ one_window (pos 1) (pos 4) H.Undecided }
 {}

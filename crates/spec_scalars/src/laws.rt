@@ -14,7 +14,8 @@ ghost use Rattle.spec_scalars.specs.Quads.{Quadratic, quad_at, quad_reach};
 ghost use Rattle.spec_scalars.specs.Scalars.{IsReach};
 ghost use Rattle.spec_scalars.specs.Searches.{IsLeftUndecided, IsSearch, Search, events, judged_by, rules, verdict_of, windows_of};
 
-/// An event is a wanted passing of 0: the scalar is below 0 at the time before and at least 0 then, or the other way round.
+/// An event is a wanted passing of 0: the scalar is below 0 at the time before and at least 0 then, or the other way
+/// round.
 pub fn events_are_passings()
     ensures rises { (s : Search) (t : ℤ) → events s Rise t
         ↔ ((wants s.plan.dir Rise ≡ true)
@@ -37,9 +38,9 @@ pub fn searches_are_sound()
     ensures { (s : Search) → IsSearch s → IsSound (rules s) }
 {}
 
-/// The windows that a search finds in a span are those of its events: they lie in the span in order, hold every event,
-/// each certain one exactly one, and each time of an undecided one lies in a leaf that was left undecided and lies in the
-/// window. It holds of the leaves of a node's tree, and of any leaves that cover a span.
+/// The windows that a search finds in a span are those of its events: they lie in the span in order, hold every
+/// event, each certain one exactly one, and each time of an undecided one lies in a leaf that was left undecided and
+/// lies in the window. It holds of the leaves of a node's tree, and of any leaves that cover a span.
 pub fn windows_hold_the_events()
     ensures of_trees { (s : Search) (n : Node) → IsSearch s → IsValid (rules s) n
         → AreWindows (events s) (IsLeftUndecided s n) n.a n.b (windows_of s n) }

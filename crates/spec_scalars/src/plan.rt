@@ -3,7 +3,8 @@
 use spec_events::Dir;
 use spec_trees::CutRule;
 
-/// The turns that are wanted, the width, in times, and the depth down to which nodes are split, and the rule of the cuts.
+/// The turns that are wanted, the width, in times, and the depth down to which nodes are split, and the rule of the
+/// cuts.
 #[derive(Clone, Copy, PartialEq, Eq, Debug)]
 pub struct Plan {
     pub dir: Dir,

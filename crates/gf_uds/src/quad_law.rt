@@ -1,0 +1,45 @@
+// Quadratic polynomials as scalars.
+ghost use Rattle.std.specs.Prelude.{◌≡◌, ◌≤◌, int_lt, true, unsigned_abs};
+ghost use Rattle.spec_scalars.specs.declared.limits.TheConstants.{MAX_TIME};
+ghost use Rattle.spec_scalars.specs.QuadLaws.{quads_keep_reach};
+ghost use Rattle.spec_scalars.specs.Quads.{quad_reach, quad_scalar};
+
+use crate::law::Law;
+use crate::quad::Quad;
+use spec_scalars::Reach;
+
+// What is known of a polynomial from `a` to a later time `b`: its changes lie between the first and the last of them.
+fn wide_reach(quad: &Quad, a: i128, b: i128) -> Reach
+    requires first { unsigned_abs a ≤ MAX_TIME }
+    requires last { unsigned_abs b ≤ MAX_TIME }
+    requires later { int_lt a b ≡ true }
+    ensures { result ≡ quad_reach quad.now a b }
+{
+    let (first, last) = (quad.step(a), quad.step(b - 1));
+    Reach {
+        lo: quad.low(a, b),
+        hi: quad.high(a, b),
+        step_lo: first.min(last),
+        step_hi: first.max(last),
+    }
+}
+
+impl Law for Quad {
+    ghost scalar = { λ k. quad_scalar k };
+
+    fn reach(&self, a: i64, b: i64) -> Reach {
+        let (a, b) = (i128::from(a), i128::from(b));
+        if a < b {
+            wide_reach(self, a, b)
+        } else {
+            Reach {
+                lo: self.low(a, b),
+                hi: self.high(a, b),
+                step_lo: 0,
+                step_hi: 0,
+            }
+        }
+    }
+
+    ghost keeps = { λ k. quads_keep_reach k };
+}

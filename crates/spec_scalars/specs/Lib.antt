@@ -1,0 +1,5 @@
+pub mod Scalars
+pub mod Quads
+pub mod QuadLaws
+pub mod Searches
+pub mod Examples

@@ -10,8 +10,8 @@ use std::io::ErrorKind;
 use std::process::ExitCode;
 use std::rt::Stderr;
 
-/// The words of the command line, without the program's name. A word that isn't UTF-8 is in no request, so there are no
-/// words then, and the call refuses that list as it would refuse them.
+/// The words of the command line, without the program's name. A word that isn't UTF-8 is in no request: the list is then
+/// that of a command without its files, which the call refuses as it would refuse a word that no command has.
 fn words(rt: &HostRuntime) -> Result<Vec<String>, AllocError> {
     let mut words = Vec::new(rt.alloc());
     match env::args(rt) {
@@ -21,7 +21,7 @@ fn words(rt: &HostRuntime) -> Result<Vec<String>, AllocError> {
             }
         }
         Err(error) if error.kind() == ErrorKind::OutOfMemory => return Err(AllocError),
-        Err(_) => {}
+        Err(_) => words.push(String::from_str(rt.alloc(), "check")?)?,
     }
     Ok(words)
 }

@@ -1,5 +1,5 @@
 pub mod Windowing
-mod Lasting
+pub mod Lasting
 pub mod Judging
 pub mod Evidence
 pub mod Limits

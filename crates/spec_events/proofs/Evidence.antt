@@ -30,7 +30,7 @@ decide exact t = by (exact t).numerator
 not_both : (z : ℤ) → pos 0 ≤ℤ z → z <ℤ pos 0 → ⊥
 not_both z p q = absurd (omega (arith, lin))
 
-tells : (interval : Interval) (r : Fraction) → IsFraction r → Holds interval r → Tells (sign_of interval) (pos 0 ≤ℤ r.numerator)
+pub tells : (interval : Interval) (r : Fraction) → IsFraction r → Holds interval r → Tells (sign_of interval) (pos 0 ≤ℤ r.numerator)
 tells interval r d h = record { yes = λ e. yes-not_negative interval r e h; no = λ e p. not_both r.numerator p (no-negative interval r e d h) }
 
 -- ---- steps

@@ -4,3 +4,4 @@ pub mod Runs
 pub mod Telling
 pub mod Marks
 pub mod Sets
+pub mod Points

@@ -2,7 +2,9 @@
 ghost use Rattle.std.specs.Prelude.{◌≡◌, ◌&&◌, ◌⊎◌, Bool, true, List, ℤ, ◌≤ℤ◌, []};
 ghost use Rattle.spec_intervals.specs.Fraction.{Fraction};
 ghost use Rattle.spec_intervals.specs.declared.signs.Sign.{Sign};
-ghost use Rattle.spec_trees.specs.declared.tree.Leaf.{Leaf};
+ghost use Rattle.spec_intervals.specs.Enclosure.{Enclosure};
+ghost use Rattle.spec_expressions.specs.Term.{HasLeaves, Leaf, LeavesAreEnclosed, LeavesAreNumbers, Term, exact_of};
+ghost use Rattle.spec_trees.specs.declared.tree.Leaf.{Leaf as TreeLeaf};
 ghost use Rattle.spec_trees.specs.declared.tree.Node.{Node};
 ghost use Rattle.spec_trees.specs.Tree.{Covers};
 ghost use Rattle.spec_events.specs.declared.dir.Dir.TheVariants as D;
@@ -11,6 +13,7 @@ ghost use Rattle.spec_events.specs.Functions.{EventsOf, IsNotNegative};
 ghost use Rattle.spec_events.specs.Marks.{AreRightlyMarked};
 ghost use Rattle.spec_events.specs.Soundness.{Tells};
 ghost use Rattle.spec_sets.specs.Pairs.{AreOf, AreSets};
+ghost use Rattle.spec_sets.specs.Points.{point_of};
 ghost use Rattle.spec_sets.specs.Signs.{AreTold, both, either, opposite, sign_of_leaves};
 ghost use Rattle.spec_sets.specs.Spans.{AreSpans, Span, earliest, has, is_between, latest, spans_of};
 
@@ -35,7 +38,7 @@ pub fn runs_have_their_times()
 
 /// Leaves that cover a span and are told of a condition give each time of the span a sign that tells of it.
 pub fn leaves_tell_of_each_time()
-    ensures { (p : ℤ → Bool) (point : ℤ → Sign) (from upto : ℤ) (ls : List Leaf)
+    ensures { (p : ℤ → Bool) (point : ℤ → Sign) (from upto : ℤ) (ls : List TreeLeaf)
         → Covers from ls upto → AreTold (Passes p) ls
         → ((t : ℤ) → from ≤ℤ t → t ≤ℤ upto → Tells (point t) (Passes p t))
         → (t : ℤ) → from ≤ℤ t → t ≤ℤ upto
@@ -44,7 +47,7 @@ pub fn leaves_tell_of_each_time()
 
 /// Leaves that are rightly marked for all turns of a function are told of where it is at least 0.
 pub fn rightly_marked_leaves_tell()
-    ensures { (exact : ℤ → Fraction) (u : Node → Bool) (from upto : ℤ) (ls : List Leaf)
+    ensures { (exact : ℤ → Fraction) (u : Node → Bool) (from upto : ℤ) (ls : List TreeLeaf)
         → Covers from ls upto → AreRightlyMarked (EventsOf exact D.Any []) (Passes u) ls
         → AreTold (IsNotNegative exact) ls }
 {}
@@ -56,6 +59,15 @@ pub fn true_signs_give_sets()
         → AreOf sign from upto sure maybe
         → ((t : ℤ) → from ≤ℤ t → t ≤ℤ upto → Tells (sign t) (Passes p t))
         → AreSets (Passes p) from upto sure maybe }
+{}
+
+/// The sign of a term at a single time tells whether its exact value is at least 0, where what is returned for its leaves
+/// encloses their exact values.
+pub fn points_tell()
+    ensures { (exact : Leaf → ℤ → Fraction) (answer : Leaf → ℤ → ℤ → Enclosure) (e : Term)
+        → HasLeaves e → (t : ℤ) → LeavesAreNumbers exact t t
+        → LeavesAreEnclosed exact t t (λ l. answer l t t)
+        → Tells (point_of answer e t) (IsNotNegative (exact_of exact e) t) }
 {}
 
 /// Signs of a condition's opposite, and of two conditions together, tell of these where those of the conditions do.

@@ -7,6 +7,6 @@ mod laws;
 
 pub use examples::{runs_of_times, signs_of_four_leaves};
 pub use laws::{
-    leaves_tell_of_each_time, rightly_marked_leaves_tell, runs_have_their_times, signs_together,
-    spans_are_told_by_their_times, true_signs_give_sets,
+    leaves_tell_of_each_time, points_tell, rightly_marked_leaves_tell, runs_have_their_times,
+    signs_together, spans_are_told_by_their_times, true_signs_give_sets,
 };

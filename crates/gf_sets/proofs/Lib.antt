@@ -1,0 +1,6 @@
+mod Reading
+mod Pushing
+mod Complements
+mod Meeting
+mod Pairs
+mod Leaves

@@ -1,0 +1,101 @@
+use Rattle.std.proofs.Common.{◌∙◌, ap, sym, subst, w64, ℤ, ◌≤ℤ◌, drop, get_or, ◌+◌, arith}
+use Rattle.std.proofs.lemmas.Int.{ints, to_z-of_z}
+use Rattle.spec_expressions.specs.Term.{exact_of}
+use Rattle.spec_events.specs.Functions.{IsNotNegative}
+use Rattle.spec_sets.specs.Points.{point_of}
+use Rattle.spec_sets.specs.Signs.{end_from, sign_of_leaves}
+use Rattle.spec_sets.specs.Spans.{latest}
+use Rattle.spec_sets.proofs.Points.{point_tells}
+use Rattle.spec_sets.proofs.Sets.{sets_of_true_signs}
+use Rattle.spec_sets.proofs.Telling.{leaves_tell}
+use Rattle.gf_sets.specs.Walking.{IsWalked}
+use Rattle.gf_sets.proofs.Leaves.{all_walked, covers_upto, filler, first_are, first_walked, leaf_after, leaf_here, leaf_upto, leaf_wide, sets_end, walked_on}
+use Rattle.gf_sets.proofs.Pairs.{run_as_read}
+use Rattle.gf_sets.proofs.from_leaves.at_least.Goals as goal
+
+pub sign_at-requires : goal.sign_at-requires
+sign_at-requires g c =
+    let upto = covers_upto c.args.from (end_from c.args.from c.args.leaves.now) c.args.leaves.now c.requires.follow in
+    subst (λ (z : ℤ). g.S.States.fits c.args.states.now z z) (sym (to_z-of_z w64 c.args.from c.ranges.from))
+    (c.requires.fits c.args.from (omega (arith, ints)) upto)
+
+pub add-requires-clause-late : goal.add-requires-clause-late
+add-requires-clause-late g c =
+    let upto = covers_upto c.args.from (end_from c.args.from c.args.leaves.now) c.args.leaves.now c.requires.follow in
+    let late = c.requires.late in
+    subst (λ (z : ℤ). z ≤ℤ latest) (sym (to_z-of_z w64 c.args.from c.ranges.from)) (omega (arith, ints, upto, late))
+
+pub loop-leaf-init : goal.loop-leaf-init
+loop-leaf-init g c =
+    let point = point_of (g.S.States.answer c.args.states.now) c.args.f.now in
+    let from = to_z-of_z w64 c.args.from c.ranges.from in
+    subst (λ (z : ℤ). IsWalked point z (end_from z c.args.leaves.now) c.args.leaves.now c.args.leaves.now c.add.new.self.sure c.add.new.self.maybe) (sym from)
+    (first_walked point c.args.from c.args.leaves.now c.add.new.self.sure c.add.new.self.maybe c.requires.follow
+    (first_are point c.args.from c.args.leaves.now c.sign_at.result c.new.result c.new-2.result c.add.new.self.sure c.add.new.self.maybe
+    c.new.ensures c.new-2.ensures (c.sign_at.ensures ∙ ap point from)
+    (run_as_read c.sign_at.result c.sign_at.result _ _ c.args.from c.args.from c.new.result c.new-2.result c.add.new.self.sure c.add.new.self.maybe
+    (λ i. c.sign_at.result) from from c.in_ok-add.ensures)))
+
+pub put_leaf-requires-clause-late : goal.put_leaf-requires-clause-late
+put_leaf-requires-clause-late g c =
+    let point = point_of (g.S.States.answer c.args.states.now) c.args.f.now in
+    let from = to_z-of_z w64 c.args.from c.ranges.from in
+    let here = leaf_here point _ c.args.from from c.args.leaves.now c.loop-leaf.leaf-index c.loop-leaf.pair.sure c.loop-leaf.pair.maybe
+    c.loop-leaf.invariant filler c.loop-leaf-test.true in
+    let upto = leaf_upto point c.args.from (end_from c.args.from c.args.leaves.now) c.args.leaves.now
+    (get_or c.args.leaves.now c.loop-leaf.leaf-index filler) (drop (c.loop-leaf.leaf-index + 1) c.args.leaves.now)
+    c.loop-leaf.pair.sure c.loop-leaf.pair.maybe here in
+    let late = c.requires.late in
+    omega (arith, ints, upto, late)
+
+pub put_leaf-requires-clause-fits : goal.put_leaf-requires-clause-fits
+put_leaf-requires-clause-fits g c =
+    let point = point_of (g.S.States.answer c.args.states.now) c.args.f.now in
+    let from = to_z-of_z w64 c.args.from c.ranges.from in
+    let here = leaf_here point _ c.args.from from c.args.leaves.now c.loop-leaf.leaf-index c.loop-leaf.pair.sure c.loop-leaf.pair.maybe
+    c.loop-leaf.invariant filler c.loop-leaf-test.true in
+    let upto = leaf_upto point c.args.from (end_from c.args.from c.args.leaves.now) c.args.leaves.now
+    (get_or c.args.leaves.now c.loop-leaf.leaf-index filler) (drop (c.loop-leaf.leaf-index + 1) c.args.leaves.now)
+    c.loop-leaf.pair.sure c.loop-leaf.pair.maybe here in
+    let wide = leaf_wide point c.args.from (end_from c.args.from c.args.leaves.now) c.args.leaves.now
+    (get_or c.args.leaves.now c.loop-leaf.leaf-index filler) (drop (c.loop-leaf.leaf-index + 1) c.args.leaves.now)
+    c.loop-leaf.pair.sure c.loop-leaf.pair.maybe here in
+    let after = leaf_after point c.args.from (end_from c.args.from c.args.leaves.now) c.args.leaves.now
+    (get_or c.args.leaves.now c.loop-leaf.leaf-index filler) (drop (c.loop-leaf.leaf-index + 1) c.args.leaves.now)
+    c.loop-leaf.pair.sure c.loop-leaf.pair.maybe here in
+    c.requires.fits (get_or c.args.leaves.now c.loop-leaf.leaf-index filler).node.b (omega (arith, ints, wide, after)) upto
+
+pub put_leaf-requires-clause-after_sure : goal.put_leaf-requires-clause-after_sure
+put_leaf-requires-clause-after_sure g c =
+    let point = point_of (g.S.States.answer c.args.states.now) c.args.f.now in
+    let from = to_z-of_z w64 c.args.from c.ranges.from in
+    let here = leaf_here point _ c.args.from from c.args.leaves.now c.loop-leaf.leaf-index c.loop-leaf.pair.sure c.loop-leaf.pair.maybe
+    c.loop-leaf.invariant filler c.loop-leaf-test.true in
+    (sets_end point c.args.from (end_from c.args.from c.args.leaves.now) c.args.leaves.now
+    (get_or c.args.leaves.now c.loop-leaf.leaf-index filler) (drop (c.loop-leaf.leaf-index + 1) c.args.leaves.now)
+    c.loop-leaf.pair.sure c.loop-leaf.pair.maybe here).0
+
+pub loop-leaf-preserved : goal.loop-leaf-preserved
+loop-leaf-preserved g c =
+    let point = point_of (g.S.States.answer c.args.states.now) c.args.f.now in
+    let from = to_z-of_z w64 c.args.from c.ranges.from in
+    let here = leaf_here point _ c.args.from from c.args.leaves.now c.loop-leaf.leaf-index c.loop-leaf.pair.sure c.loop-leaf.pair.maybe
+    c.loop-leaf.invariant filler c.loop-leaf-test.true in
+    subst (λ (z : ℤ). IsWalked point z (end_from z c.args.leaves.now) c.args.leaves.now (drop (c.loop-leaf.leaf-index + 1) c.args.leaves.now)
+    c.put_leaf.new.pair.sure c.put_leaf.new.pair.maybe) (sym from)
+    (walked_on point c.args.from (end_from c.args.from c.args.leaves.now) c.args.leaves.now
+    (get_or c.args.leaves.now c.loop-leaf.leaf-index filler) (drop (c.loop-leaf.leaf-index + 1) c.args.leaves.now)
+    c.loop-leaf.pair.sure c.loop-leaf.pair.maybe here c.put_leaf.new.pair.sure c.put_leaf.new.pair.maybe c.in_ok-put_leaf.ensures)
+
+pub returns-clause-meets : goal.returns-clause-meets
+returns-clause-meets g c = λ formula told.
+    let point = point_of (g.S.States.answer c.args.states.now) c.args.f.now in
+    let upto = end_from c.args.from c.args.leaves.now in
+    let meets = IsNotNegative (exact_of (g.S.States.exact c.args.states.now) c.args.f.now) in
+    sets_of_true_signs meets (sign_of_leaves point c.args.from c.args.leaves.now) c.args.from upto c.loop-leaf.pair.sure c.loop-leaf.pair.maybe
+    (all_walked point _ c.args.from (to_z-of_z w64 c.args.from c.ranges.from) c.args.leaves.now c.loop-leaf.leaf-index c.loop-leaf.pair.sure
+    c.loop-leaf.pair.maybe c.loop-leaf.invariant c.loop-leaf-test.false)
+    (leaves_tell meets point c.args.from upto c.args.leaves.now c.requires.follow told
+    (λ t low high. point_tells (g.S.States.exact c.args.states.now) (g.S.States.answer c.args.states.now) c.args.f.now formula.leaves t
+    (λ leaf is. g.met.S.States.numbers c.args.states.now leaf t t is (c.requires.fits t low high))
+    (λ leaf is. g.met.S.States.holds c.args.states.now leaf t t is (c.requires.fits t low high))))

@@ -1,0 +1,4 @@
+pub mod Complements
+pub mod Meeting
+pub mod Adding
+pub mod Walking

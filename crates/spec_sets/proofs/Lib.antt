@@ -1,0 +1,7 @@
+pub mod Members
+pub mod Unique
+pub mod Runs
+pub mod Telling
+pub mod Marks
+pub mod Sets
+pub mod Points

@@ -1,5 +1,7 @@
 // A cursor over the tokens of a line.
+ghost use Rattle.std.specs.Prelude.{◌≡◌};
 ghost use Rattle.std.specs.Iterator.{YieldsFirstRef, item_count};
+ghost use Rattle.spec_text.specs.Lines.{tokens};
 
 use crate::tokens::cut_token;
 use std::marker::Model;
@@ -17,6 +19,15 @@ impl<'a> Model for Words<'a> {
     ghost Value = { List (List ℕ) };
 
     ghost view = { λ w. tokens w.rest.now };
+}
+
+impl<'a> Words<'a> {
+    /// A cursor over the tokens of a line, which has no line end.
+    pub fn of(line: &'a [u8]) -> Self
+        ensures { result ≡ tokens line.entry.now }
+    {
+        Words { rest: line }
+    }
 }
 
 impl<'a> Iterator for Words<'a> {

@@ -1,5 +1,6 @@
 // A search for an event of two bodies.
 ghost use Rattle.std.specs.Prelude.{◌≡◌, ◌<◌, ◌≤ℤ◌, pos, unsigned_abs};
+ghost use Rattle.spec_searches.specs.Search.{IsSearch};
 ghost use Rattle.event_expr.specs.Leaves.{leaves_of};
 ghost use Rattle.event_judge.specs.Wanted.{event_leaves};
 
@@ -11,7 +12,8 @@ use event_kinds::Event;
 use gf_hooks::CutRule;
 use std::marker::Model;
 
-/// A search for an event of two bodies over the times of an ephemeris, in seconds of TDB since J2000.
+/// A search for an event of two bodies over the times of an ephemeris, in its units of TDB since J2000: seconds, or
+/// ticks.
 #[derive(Drop)]
 pub struct EventSearch<'e> {
     states: BodyStates<'e>,
@@ -53,8 +55,8 @@ impl<'e> Model for EventSearch<'e> {
 }
 
 impl<'e> EventSearch<'e> {
-    /// The search for an event of the two targets of the states, which read this ephemeris, where nodes are split down to
-    /// the width, in seconds, and to the depth, and are cut by the rule.
+    /// The search for an event of the two targets of the states, which read this ephemeris, where nodes are split down
+    /// to the width and to the depth, and are cut by the rule.
     pub(crate) fn new(
         states: BodyStates<'e>,
         ephemeris: &'e Ephemeris,
@@ -127,13 +129,23 @@ impl<'e> EventSearch<'e> {
         &self.of_function
     }
 
-    /// The width down to which nodes are split, in seconds.
+    /// The width down to which nodes are split, in units of the ephemeris's times.
     #[inline(always)]
     pub(crate) fn width(&self) -> u64
         ensures width { result ≡ self.now.width }
         ensures some { 0 < self.now.width }
     {
         self.width
+    }
+
+    /// What is known of it by its parts: the states read a checked ephemeris, the event has formulas, and the width is
+    /// at least 1. Nothing is done.
+    #[inline(always)]
+    pub(crate) fn is_search(&self)
+        ensures { IsSearch self.now }
+    {
+        let _columns = self.states.columns();
+        let _function = self.event.function();
     }
 
     /// The depth down to which nodes are split.

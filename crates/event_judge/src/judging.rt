@@ -1,6 +1,14 @@
 // What a judge says of the nodes of its search, and where it cuts them.
-ghost use Rattle.std.specs.Prelude.{◌≡◌, ◌≤ℤ◌, pos, unsigned_abs};
+ghost use Rattle.std.specs.Prelude.{◌≡◌, ◌≤ℤ◌, pos, true, unsigned_abs};
+ghost use Rattle.spec_trees.specs.declared.tree.Node.{Node};
+ghost use Rattle.spec_trees.specs.declared.tree.Turn.{Turn};
+ghost use Rattle.spec_trees.specs.declared.tree.Verdict.TheVariants.{Clear, One, Split};
+ghost use Rattle.spec_trees.specs.declared.window.Holds.TheVariants.{Certain};
+ghost use Rattle.spec_trees.specs.Tree.{IsCut, IsSound, IsValid};
+ghost use Rattle.spec_trees.specs.Windows.{window_of};
+ghost use Rattle.spec_events.specs.Events.{HasNoEvent, HoldsOne};
 ghost use Rattle.spec_searches.specs.Found.{rules};
+ghost use Rattle.spec_searches.specs.Search.{IsSearch, events, may_be_cut, parts, verdict_of};
 
 use crate::event_search::EventSearch;
 use crate::judge::EventJudge;
@@ -9,11 +17,11 @@ use body_states::BodyStates;
 use eph_model::Ephemeris;
 use event_kinds::Event;
 use gf_hooks::Cutter;
-use halving::{Judge, Node, Verdict};
+use tree_judge::{Judge, Node, Verdict};
 
 impl<'e> EventJudge<'e> {
-    /// The judge of the search for an event of the two targets of the states, which read this ephemeris. Nodes are split
-    /// down to the width, in seconds, and to the depth, and are cut by the cutter.
+    /// The judge of the search for an event of the two targets of the states, which read this ephemeris. Nodes are
+    /// split down to the width and to the depth, and are cut by the cutter.
     pub fn new(
         states: BodyStates<'e>,
         eph: &'e Ephemeris,
@@ -40,10 +48,60 @@ impl<'e> EventJudge<'e> {
     }
 }
 
+impl<'e> EventJudge<'e> {
+    /// Whether a valid node may be cut, whatever its verdict: it is wider than one unit of time, and a border falls
+    /// into it or it is not as deep as the depth of the search.
+    pub fn may_be_cut(&self, node: Node) -> bool
+        requires { IsValid (rules self.now.search) node }
+        ensures { result ≡ may_be_cut self.now.search node }
+    {
+        ValidNode {
+            search: &self.search,
+            node,
+        }
+        .may_be_cut()
+    }
+
+    /// The parts of a valid node that may be cut.
+    pub fn parts(&self, node: Node) -> (Node, Node)
+        requires valid { IsValid (rules self.now.search) node }
+        requires may { may_be_cut self.now.search node ≡ true }
+        ensures { result ≡ parts self.now.search node }
+    {
+        ValidNode {
+            search: &self.search,
+            node,
+        }
+        .parts(&self.cutter)
+    }
+
+    /// What a search is holds for this one: its rules are sound, a node that is split may be cut, and the parts of a
+    /// valid node that may be cut are valid and cut it. Nothing is done.
+    pub fn nodes_may_be_cut(&self)
+        ensures search { IsSearch self.now.search }
+        ensures sound { IsSound (rules self.now.search) }
+        ensures split { (n : Node) → verdict_of self.now.search n ≡ Split
+            → may_be_cut self.now.search n ≡ true }
+        ensures cut { (n : Node) → IsValid (rules self.now.search) n
+            → may_be_cut self.now.search n ≡ true → IsCut (rules self.now.search) n }
+    {
+        self.search.is_search();
+    }
+}
+
 impl<'e> Judge for EventJudge<'e> {
     ghost rules = { λ judge. rules judge.search };
 
-    fn judge(&self, node: Node) -> Verdict {
+    /// The verdict of a valid node: by enclosures alone, and true of the events.
+    fn judge(&self, node: Node) -> Verdict
+        requires { IsValid (rules self.now.search) node }
+        ensures verdict { result ≡ verdict_of self.now.search node }
+        // A clear node holds no event, and one with one turn exactly one event, a turn in its direction.
+        ensures clear { result ≡ Clear → HasNoEvent (events self.now.search) node.a node.b }
+        ensures one { (turn : Turn) → result ≡ One turn
+            → HoldsOne (events self.now.search) turn (window_of node (Certain turn)) }
+    {
+        self.search.is_search();
         ValidNode {
             search: &self.search,
             node,

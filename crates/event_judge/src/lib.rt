@@ -1,9 +1,9 @@
 //! The judge of events: what is said of each node of the tree of a search, and the parts of a node that is split.
 //!
-//! In come the states of two bodies with their ephemeris, an event of theirs as formulas, the width and the depth down to
-//! which nodes are split, and a cutter; out comes a `Judge`, whose rules are those of the search that it stands for. It
-//! looks at no more of a node than decides: at no enclosure where a border falls into a wide node, at no end where the
-//! function over the whole node decides, or where the ends decide nothing. No call allocates or fails.
+//! In come the states of two bodies with their ephemeris, an event of theirs as formulas, the width and the depth down
+//! to which nodes are split, and a cutter; out comes a `Judge`, whose rules are those of the search that it stands for.
+//! It looks at no more of a node than decides: at no enclosure where a border falls into a wide node, at no end where
+//! the function over the whole node decides, or where the ends decide nothing. No call allocates or fails.
 #![tactic(auto)]
 
 mod conditions;
@@ -20,5 +20,5 @@ pub use body_states::BodyStates;
 pub use event_kinds::Event;
 pub use event_search::EventSearch;
 pub use gf_hooks::Cutter;
-pub use halving::{Judge, Node, Verdict};
 pub use judge::EventJudge;
+pub use tree_judge::{Judge, Node, Verdict};

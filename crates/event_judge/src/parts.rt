@@ -4,7 +4,7 @@ ghost use Rattle.spec_searches.specs.Search.{border_cut, may_be_cut, parts, part
 
 use crate::valid_node::ValidNode;
 use gf_hooks::Cutter;
-use halving::Node;
+use tree_judge::Node;
 
 // The two parts of a node that is cut at a time, at a depth.
 fn parts_at(time: i64, depth: u32, node: Node) -> (Node, Node)

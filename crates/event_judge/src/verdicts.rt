@@ -3,15 +3,15 @@ ghost use Rattle.std.specs.Prelude.{◌≡◌, ◌-ℤ◌, nat_le, false, true};
 ghost use Rattle.spec_trees.specs.Cuts.{is_wide};
 ghost use Rattle.spec_trees.specs.Tree.{width};
 ghost use Rattle.spec_events.specs.Stages.{end_verdict, is_above_limits, limit_verdict, open_verdict, unit_verdict};
-ghost use Rattle.spec_searches.specs.Search.{border_in, criteria, crosses, verdict_of};
+ghost use Rattle.spec_searches.specs.Search.{border_in, criteria, crosses, may_be_cut, verdict_of};
 ghost use Rattle.event_judge.specs.Found.{enclosure_at, first_moment, guards_at, is_certified_at, is_refuted_at, is_turnless_by, last_moment, sign_at, whole_moment};
 
 use crate::conditions::{are_certified, is_one_refuted};
 use crate::signs::{differ, has_no_turn, is_one_way, is_turnless, turn_to};
 use crate::valid_node::ValidNode;
 use body_states::Snapshot;
-use halving::Verdict;
 use ival_core::{Enclosure, Sign};
+use tree_judge::Verdict;
 
 impl<'s, 'e> ValidNode<'s, 'e> {
     /// The border of the columns in use in the node, the nearest to its middle.
@@ -33,12 +33,19 @@ impl<'s, 'e> ValidNode<'s, 'e> {
         (self.node.b - self.node.a).unsigned_abs()
     }
 
-    // Wider than one second.
+    // Wider than one unit of time.
     #[inline(always)]
     fn is_wide(self) -> bool
         ensures { result ≡ is_wide self.entry.node }
     {
         self.width() > 1
+    }
+
+    /// It may be cut, whatever its verdict.
+    pub(crate) fn may_be_cut(self) -> bool
+        ensures { result ≡ may_be_cut self.entry.search.now self.entry.node }
+    {
+        self.is_wide() && (self.border().is_some() || self.node.depth < self.search.depth())
     }
 
     // No wider than the width of the search.
@@ -150,7 +157,8 @@ impl<'s, 'e> ValidNode<'s, 'e> {
         }
     }
 
-    // The verdict by the signs at the ends, by which the turns between them are known, with the conditions over some times.
+    // The verdict by the signs at the ends, by which the turns between them are known, with the conditions over some
+    // times.
     #[inline(always)]
     fn end_verdict(self, states: &Snapshot, first: Sign, last: Sign) -> Verdict
         ensures { result ≡ end_verdict (criteria self.entry.search.now) self.entry.node
@@ -166,7 +174,7 @@ impl<'s, 'e> ValidNode<'s, 'e> {
         }
     }
 
-    // The verdict of a node that is one second wide, by the states at its two times.
+    // The verdict of a node that is one unit wide, by the states at its two times.
     fn unit_verdict(self) -> Verdict
         ensures { let s = self.entry.search.now in
             let last = last_moment s self.entry.node in

@@ -1,12 +1,24 @@
-//! Certificates of searches: a text that says of each leaf of a search's tree where it stands and what is known of it, so
-//! that somebody else can see that the windows are those of the events without searching again.
+//! Certificates of searches: a text that names the leaves of a search's tree, each with its mark, so that somebody else
+//! can check the windows without searching again.
 //!
-//! The line of a request and leaves come in, and a certificate's text goes out. What a certificate is, and which lines
-//! break its rules, is said in `spec_certificates`.
+//! The line of a request and leaves come in, and a certificate's text goes out. Or a text comes in, with the line of a
+//! request, the judge of a search and a root; out come the leaves that the text names, or the first line that breaks a
+//! rule. Whoever made the text is not trusted: each leaf is judged again, and stands where cutting the nodes that wait
+//! leads. No other node is judged, and nothing here searches. What a certificate is, and which lines break its rules, is
+//! said in `spec_certificates`.
 #![tactic(auto)]
 
+mod checking;
+mod errors;
+mod leaves;
+mod lines;
+mod places;
+mod words;
 mod writing;
 
+pub use checking::check_cert;
+pub use errors::CertError;
+pub use event_judge::{EventJudge, Node};
 pub use spec_trees::Leaf;
 pub use writing::certificate;
 

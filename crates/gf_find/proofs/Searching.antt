@@ -7,7 +7,6 @@ use Rattle.spec_numbers.proofs.Naturals.{positive_product}
 use Rattle.spec_ephemeris.specs.Ephemeris.{Ephemeris, IsEphemeris}
 use Rattle.spec_trees.specs.declared.window.Window.{Window}
 use Rattle.spec_trees.specs.Tree.{IsValid, leaf_count}
-use Rattle.spec_searches.specs.declared.limits.TheConstants.{MAX_WIDTH}
 use Rattle.spec_searches.specs.Search.{IsSearch, Search}
 use Rattle.spec_searches.specs.Found.{IsSpan, root, rules}
 use Rattle.spec_searches.proofs.Finding.{windows_are_found}
@@ -45,10 +44,6 @@ abs_some : (z : ℤ) → pos 1 ≤ℤ z → 0 < unsigned_abs z
 abs_some (pos n) some = omega (arith, ints, some)
 abs_some (negsuc n) some = absurd (omega (arith, ints, some))
 
-abs_most : (z : ℤ) (n : ℕ) → pos 1 ≤ℤ z → z ≤ℤ pos n → unsigned_abs z ≤ n
-abs_most (pos m) n some most = omega (arith, ints, most)
-abs_most (negsuc m) n some most = absurd (omega (arith, ints, some))
-
 -- the search of a generated text keeps to the limits
 pub conjunctions_are : IsQuery conjunctions
 conjunctions_are = record {
@@ -78,7 +73,6 @@ module _ (q : Query) (e : Ephemeris) (span : Span) (checked : IsEphemeris e) (bl
   searchable : IsSearch (search q e)
   searchable =
       search_is e q.ask (unsigned_abs q.width) q.depth q.cut checked block is.ask sound (abs_some q.width is.some_width)
-      (abs_most q.width MAX_WIDTH is.some_width is.width) is.depth
 
   are_found : AreFound (search q e) span (windows_in (search q e) span)
   are_found = windows_are_found (search q e) searchable span.from span.upto (inside q e span within)

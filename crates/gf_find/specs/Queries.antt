@@ -13,7 +13,7 @@ use Rattle.spec_trees.specs.declared.window.Window.{Window}
 use Rattle.spec_events.specs.Events.{AreWindows}
 use Rattle.spec_searches.specs.declared.limits.TheConstants.{MAX_DEPTH, MAX_WIDTH}
 use Rattle.spec_searches.specs.Search.{Search, events}
-use Rattle.spec_searches.specs.Found.{IsLeftUndecided, root, windows_of}
+use Rattle.spec_searches.specs.Found.{IsLeftUndecided, leaves_of, windows_of}
 use Rattle.spec_kinds.specs.Asks.{IsAsk}
 use Rattle.spec_kinds.specs.Searches.{search_of}
 use Rattle.spec_requests.specs.declared.request.FindAsk.{FindAsk}
@@ -61,7 +61,7 @@ windows_in s span = windows_of s span.from span.upto
 
 -- an undecided leaf of the tree of the search over a span
 abbrev pub IsLeft : Search → Span → Node → Type 0
-IsLeft s span = IsLeftUndecided s (root span.from span.upto)
+IsLeft s span = IsLeftUndecided s (leaves_of s span.from span.upto)
 
 -- the windows of a search's events in a span
 abbrev pub AreFound : Search → Span → List Window → Type 0

@@ -7,11 +7,11 @@ ghost use Rattle.spec_trees.specs.declared.tree.Leaf.{Leaf};
 ghost use Rattle.halving.specs.Shares.{AreEnough, AreJudged, IsJudged, IsWalk, IsWidest, NoneIsSplit, leaves_of, split_width};
 ghost use Rattle.halving.specs.declared.run.RunError.TheVariants.{TooMany, Memory};
 
-use crate::judge::{Judge, rules_are_sound};
 use crate::run::{RunError, append, run_one};
 use spec_trees::{Leaf, Node, Verdict};
 use std::alloc::Global;
 use std::thread::{Threads, join};
+use tree_judge::{Judge, rules_are_sound};
 
 /// A node and its verdict.
 #[derive(Clone, Copy, Debug, PartialEq, Eq)]

@@ -1,6 +1,6 @@
 // What is true of asks: each law is the contract of a function with nothing to do.
 
-ghost use Rattle.std.specs.Prelude.{◌≡◌, ◌≢◌, ◌↔◌, ◌<◌, ◌≤◌, ℕ, ◌∷◌, All, IsTrue, None, length};
+ghost use Rattle.std.specs.Prelude.{◌≡◌, ◌≢◌, ◌↔◌, ◌<◌, ℕ, ◌∷◌, All, IsTrue, None, length};
 ghost use Rattle.spec_text.specs.declared.decimals.Decimal.{Decimal};
 ghost use Rattle.spec_intervals.specs.Interval.{IsDistance, IsCosine};
 ghost use Rattle.spec_trees.specs.declared.cuts.CutRule.{CutRule};
@@ -8,7 +8,6 @@ ghost use Rattle.spec_ephemeris.specs.declared.body.Body.{Body};
 ghost use Rattle.spec_ephemeris.specs.declared.body.Body.TheVariants.{Ssb};
 ghost use Rattle.spec_ephemeris.specs.Ephemeris.{Ephemeris, IsEphemeris};
 ghost use Rattle.spec_bodies.specs.Views.{HasBody, IsView};
-ghost use Rattle.spec_searches.specs.declared.limits.TheConstants.{MAX_WIDTH, MAX_DEPTH};
 ghost use Rattle.spec_searches.specs.Event.{AreFormulas};
 ghost use Rattle.spec_searches.specs.Search.{IsSearch};
 ghost use Rattle.spec_kinds.specs.declared.ask.Ask.{Ask};
@@ -40,8 +39,7 @@ pub fn targets_are_there()
 pub fn asks_mean_searches()
     ensures { (e : Ephemeris) (ask : Ask) (width depth : ℕ) (cut : CutRule)
         → IsEphemeris e → 0 < e.blocks → IsAsk ask → fault_of e ask ≡ None
-        → 0 < width → width ≤ MAX_WIDTH → depth ≤ MAX_DEPTH
-        → IsSearch (search_of e ask width depth cut) }
+        → 0 < width → IsSearch (search_of e ask width depth cut) }
 {}
 
 /// What the tests of faults mean.

@@ -1,6 +1,7 @@
 -- The tree of a search, and the windows that it finds.
 use Rattle.std.specs.Prelude.{◌≡◌, ◌≤◌, ◌⊎◌, List, Contains, ℤ, ◌≤ℤ◌, ◌<ℤ◌}
 use Rattle.spec_ephemeris.specs.Ephemeris.{end_of}
+use Rattle.spec_trees.specs.declared.tree.Leaf.{Leaf}
 use Rattle.spec_trees.specs.declared.tree.Mark.TheVariants as M
 use Rattle.spec_trees.specs.declared.tree.Node.{Node}
 use Rattle.spec_trees.specs.declared.tree.Verdict.TheVariants as V
@@ -29,13 +30,16 @@ pub record IsSpan (s : Search) (first last : ℤ) : Type 0 where
   pub ordered : first <ℤ last
   pub to : last ≤ℤ end_of s.view.ephemeris
 
--- the windows of the leaves of a span
-abbrev pub windows_of : Search → ℤ → ℤ → List Window
-windows_of s from upto = windows (leaves (rules s) (root from upto))
+-- the leaves of a span, and their windows
+abbrev pub leaves_of : Search → ℤ → ℤ → List Leaf
+leaves_of s from upto = leaves (rules s) (root from upto)
 
--- a leaf of the tree of this root that is left undecided, no wider than the width or as deep as the depth
-pub record IsLeftUndecided (s : Search) (top n : Node) : Type 0 where
-  pub leaf : Contains (leaves (rules s) top) (leaf_of n M.Undecided)
+abbrev pub windows_of : Search → ℤ → ℤ → List Window
+windows_of s from upto = windows (leaves_of s from upto)
+
+-- one of these leaves that is left undecided, no wider than the width or as deep as the depth
+pub record IsLeftUndecided (s : Search) (ls : List Leaf) (n : Node) : Type 0 where
+  pub leaf : Contains ls (leaf_of n M.Undecided)
   pub valid : IsValid (rules s) n
   pub undecided : verdict_of s n ≡ V.Undecided
   pub limit : (width n ≤ s.width) ⊎ (n.depth ≡ s.depth)

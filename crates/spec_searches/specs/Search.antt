@@ -1,6 +1,6 @@
 -- A search for an event over the times of an ephemeris: the verdict of each node of its tree, by enclosures alone, and the
 -- two parts of a node that is cut. Times are seconds of TDB since J2000.
-use Rattle.std.specs.Prelude.{ℕ, ◌+◌, ◌<◌, ◌≤◌, Bool, ◌&&◌, ◌||◌, nat_lt, int_lt, if◌then◌else◌, map, Option, None, Some, is_some, ℤ, pos, ◌-ℤ◌}
+use Rattle.std.specs.Prelude.{ℕ, ◌+◌, ◌<◌, Bool, ◌&&◌, ◌||◌, nat_lt, int_lt, if◌then◌else◌, map, Option, None, Some, is_some, ℤ, pos, ◌-ℤ◌}
 use Rattle.spec_intervals.specs.Fraction.{Fraction}
 use Rattle.spec_intervals.specs.Enclosure.{Enclosure}
 use Rattle.spec_expressions.specs.Term.{Leaf, Term, enclosure_of}
@@ -13,7 +13,6 @@ use Rattle.spec_trees.specs.declared.tree.Verdict.{Verdict}
 use Rattle.spec_trees.specs.Cuts.{cut_of, is_wide}
 use Rattle.spec_events.specs.Verdict.{Criteria, verdict}
 use Rattle.spec_events.specs.Soundness.{GuardEvidence, Evidence, findings_of}
-use Rattle.spec_searches.specs.declared.limits.TheConstants.{MAX_WIDTH, MAX_DEPTH}
 use Rattle.spec_searches.specs.Event.{Condition, Event, AreFormulas, guard_of, events_by}
 
 -- an event of the two targets of a view, the width and the depth down to which nodes are split, and the rule of the cuts
@@ -24,12 +23,11 @@ pub record Search : Type 0 where
   pub depth : ℕ
   pub cut : CutRule
 
+-- what its verdicts are true by: an ephemeris that the view reads, formulas within limits, and some width
 pub record IsSearch (s : Search) : Type 0 where
   pub view : IsView s.view
   pub formulas : AreFormulas s.event
   pub some_width : 0 < s.width
-  pub width : s.width ≤ MAX_WIDTH
-  pub depth : s.depth ≤ MAX_DEPTH
 
 abbrev pub criteria : Search → Criteria
 criteria s = record { dir = s.event.dir; width = s.width; depth = s.depth }

@@ -1,18 +1,19 @@
 // What is true of every search: each law is the contract of a function with nothing to do.
-ghost use Rattle.std.specs.Prelude.{◌≡◌, true, ℤ};
+ghost use Rattle.std.specs.Prelude.{◌≡◌, List, true, ℤ};
 ghost use Rattle.spec_expressions.specs.Term.{exact_of};
 ghost use Rattle.spec_bodies.specs.Views.{exact_state};
+ghost use Rattle.spec_trees.specs.declared.tree.Leaf.{Leaf};
 ghost use Rattle.spec_trees.specs.declared.tree.Node.{Node};
 ghost use Rattle.spec_trees.specs.declared.tree.Turn.{Turn};
 ghost use Rattle.spec_trees.specs.declared.tree.Verdict.TheVariants.{Clear, One, Split};
 ghost use Rattle.spec_trees.specs.declared.window.Holds.TheVariants.{Certain};
-ghost use Rattle.spec_trees.specs.Tree.{Cuts, IsSound, IsValid, leaves};
-ghost use Rattle.spec_trees.specs.Windows.{window_of};
+ghost use Rattle.spec_trees.specs.Tree.{AreLeaves, Covers, Cuts, IsSound, IsValid, leaves};
+ghost use Rattle.spec_trees.specs.Windows.{window_of, windows};
 ghost use Rattle.spec_events.specs.Events.{AreWindows, HasNoEvent, HoldsOne};
 ghost use Rattle.spec_events.specs.Marks.{AreRightlyMarked};
 ghost use Rattle.spec_events.specs.Soundness.{IsEvidence};
 ghost use Rattle.spec_searches.specs.Search.{IsSearch, Search, events, evidence_at, may_be_cut, parts, verdict_of};
-ghost use Rattle.spec_searches.specs.Found.{IsLeftUndecided, IsSpan, root, rules, windows_of};
+ghost use Rattle.spec_searches.specs.Found.{IsLeftUndecided, IsSpan, leaves_of, root, rules, windows_of};
 
 /// What is found at a valid node are the enclosures of the function and of the conditions.
 pub fn what_is_found_is_true()
@@ -47,11 +48,22 @@ pub fn searches_are_sound()
         → IsValid (rules s) (root first last) }
 {}
 
+/// Valid nodes that are not split, each with the mark of its verdict, are rightly marked, wherever they come from; and where
+/// they follow one another over a span, their windows are those of the events in it.
+pub fn windows_of_any_leaves()
+    ensures marks { (s : Search) (ls : List Leaf) → IsSearch s → AreLeaves (rules s) ls
+        → AreRightlyMarked (events s) (IsLeftUndecided s ls) ls }
+    ensures windows { (s : Search) (first last : ℤ) (ls : List Leaf) → IsSearch s
+        → Covers first ls last → AreLeaves (rules s) ls
+        → AreWindows (events s) (IsLeftUndecided s ls) first last (windows ls) }
+{}
+
 /// Each leaf of a valid node has the right mark: a clear one has no event, one with one has exactly one, and an undecided
 /// one is no wider than the width or as deep as the depth.
 pub fn leaves_are_rightly_marked()
     ensures { (s : Search) (n : Node) → IsSearch s → IsValid (rules s) n
-        → AreRightlyMarked (events s) (IsLeftUndecided s n) (leaves (rules s) n) }
+        → AreRightlyMarked (events s) (IsLeftUndecided s (leaves (rules s) n))
+        (leaves (rules s) n) }
 {}
 
 /// The windows that a search finds in a span are those of its events: they lie in the span in order, hold every event,
@@ -59,6 +71,6 @@ pub fn leaves_are_rightly_marked()
 /// undecided and lies in the window.
 pub fn windows_hold_the_events()
     ensures { (s : Search) (first last : ℤ) → IsSearch s → IsSpan s first last
-        → AreWindows (events s) (IsLeftUndecided s (root first last)) first last
+        → AreWindows (events s) (IsLeftUndecided s (leaves_of s first last)) first last
         (windows_of s first last) }
 {}

@@ -1,0 +1,4 @@
+mod Digits
+mod Placing
+mod Walking
+mod Outcomes

@@ -1,0 +1,52 @@
+use Rattle.std.proofs.Common.{sym, subst}
+use Rattle.spec_trees.specs.Tree.{AreLeaves, Covers}
+use Rattle.spec_trees.specs.Windows.{windows}
+use Rattle.spec_events.specs.Events.{AreWindows}
+use Rattle.spec_searches.specs.Search.{events}
+use Rattle.spec_searches.specs.Found.{IsLeftUndecided, rules}
+use Rattle.spec_certificates.specs.Checks.{checked}
+use Rattle.spec_certificates.proofs.Sound.{are_certified}
+use Rattle.gf_cert.specs.Answers.{Fails, Gives}
+use Rattle.gf_cert.specs.Search.{cutting}
+use Rattle.gf_cert.proofs.Placing.{is_cutting}
+use Rattle.gf_cert.proofs.Outcomes.{checked_by, if_given, stopped_by}
+use Rattle.spec_searches.proofs.Finding.{windows_of_leaves}
+use Rattle.gf_cert.proofs.checking.check_cert.Goals as goal
+
+pub returns-in-Ok-clause-checked : goal.returns-in-Ok-clause-checked
+returns-in-Ok-clause-checked g c =
+    let s = c.args.judge.now.search in
+    subst (λ w. Gives (λ found. found.items) w c.leaves_for.result)
+    (checked_by (cutting s) c.args.root c.args.line.now c.args.text.now c.new-lines.result.left c.new-lines.result.end_line c.new-lines.ensures.left c.new-lines.ensures.end_line
+    c.check_words.new.lines.left c.check_words.new.lines.end_line c.check_words.ensures.end c.in-Ok.ensures.steps) c.leaves_for.ensures
+
+pub returns-in-Ok-clause-cover : goal.returns-in-Ok-clause-cover
+returns-in-Ok-clause-cover g c =
+    let s = c.args.judge.now.search in
+    let is = is_cutting s c.nodes_may_be_cut.ensures.sound c.nodes_may_be_cut.ensures.split c.nodes_may_be_cut.ensures.cut in
+    let gives : Gives (λ found. found.items) (checked (cutting s) c.args.root c.args.line.now c.args.text.now) c.leaves_for.result = returns-in-Ok-clause-checked g c in
+    if_given (λ found. found.items) (λ ls. Covers c.args.root.a ls c.args.root.b) (checked (cutting s) c.args.root c.args.line.now c.args.text.now) c.leaves_for.result
+    (λ ls e. (are_certified (cutting s) is c.args.root c.requires.valid c.args.line.now c.args.text.now ls e).cover) gives
+
+pub returns-in-Ok-clause-are_leaves : goal.returns-in-Ok-clause-are_leaves
+returns-in-Ok-clause-are_leaves g c =
+    let s = c.args.judge.now.search in
+    let is = is_cutting s c.nodes_may_be_cut.ensures.sound c.nodes_may_be_cut.ensures.split c.nodes_may_be_cut.ensures.cut in
+    let gives : Gives (λ found. found.items) (checked (cutting s) c.args.root c.args.line.now c.args.text.now) c.leaves_for.result = returns-in-Ok-clause-checked g c in
+    if_given (λ found. found.items) (AreLeaves (rules s)) (checked (cutting s) c.args.root c.args.line.now c.args.text.now) c.leaves_for.result
+    (λ ls e. (are_certified (cutting s) is c.args.root c.requires.valid c.args.line.now c.args.text.now ls e).are) gives
+
+pub returns-in-Ok-clause-windows : goal.returns-in-Ok-clause-windows
+returns-in-Ok-clause-windows g c =
+    let s = c.args.judge.now.search in
+    let is = is_cutting s c.nodes_may_be_cut.ensures.sound c.nodes_may_be_cut.ensures.split c.nodes_may_be_cut.ensures.cut in
+    let gives : Gives (λ found. found.items) (checked (cutting s) c.args.root c.args.line.now c.args.text.now) c.leaves_for.result = returns-in-Ok-clause-checked g c in
+    let search = c.nodes_may_be_cut.ensures.search in
+    if_given (λ found. found.items) (λ ls. AreWindows (events s) (IsLeftUndecided s ls) c.args.root.a c.args.root.b (windows ls)) (checked (cutting s) c.args.root c.args.line.now c.args.text.now) c.leaves_for.result
+    (λ ls e. let certified = are_certified (cutting s) is c.args.root c.requires.valid c.args.line.now c.args.text.now ls e in windows_of_leaves s search c.args.root.a c.args.root.b ls certified.cover certified.are) gives
+
+pub returns-in-Err-clause-checked : goal.returns-in-Err-clause-checked
+returns-in-Err-clause-checked g c =
+    let s = c.args.judge.now.search in
+    subst (Fails (checked (cutting s) c.args.root c.args.line.now c.args.text.now)) (sym c.refusal.ensures)
+    (stopped_by (cutting s) c.args.root c.args.line.now c.args.text.now c.new-lines.result.left c.new-lines.result.end_line c.new-lines.ensures.left c.new-lines.ensures.end_line c.in-Err.fault c.in-Err.ensures.steps)

@@ -1,0 +1,83 @@
+// The leaves of a certificate, after its first two lines.
+ghost use Rattle.std.specs.Prelude.{◌≡◌, ◌∷◌, [], reverse};
+ghost use Rattle.spec_trees.specs.Tree.{IsValid};
+ghost use Rattle.spec_searches.specs.Found.{rules};
+ghost use Rattle.spec_certificates.specs.Checks.{after_end, is_end, leaves_from};
+ghost use Rattle.gf_cert.specs.Answers.{Gives, refusal_of};
+ghost use Rattle.gf_cert.specs.Search.{cutting};
+ghost use Rattle.gf_cert.specs.Steps.{Ends};
+
+use crate::errors::CertError;
+use crate::lines::{fault_at, next_entry};
+use crate::places::place;
+use de_text::Tokens;
+use event_judge::{EventJudge, Node};
+use spec_certificates::{CERT_END, CertFault, Entry};
+use spec_trees::Leaf;
+use std::alloc::Global;
+
+// No line is left after the end.
+fn check_rest(lines: &mut Tokens<'_>) -> Result<(), CertFault>
+    ensures { Ends (after_end lines.old.left) result }
+{
+    match next_entry(lines)? {
+        None => Ok(()),
+        Some((number, _)) => Err(fault_at(number, CERT_END)),
+    }
+}
+
+// No node waits, and there are as many leaves as the end says.
+fn is_end(waiting: &[Node], leaves: usize, count: u32) -> bool
+    ensures { result ≡ is_end (reverse waiting.now) leaves count }
+{
+    waiting.is_empty() && leaves as u64 == u64::from(count)
+}
+
+/// The refusal of a text for a line that breaks a rule.
+pub(crate) fn refusal(fault: CertFault) -> CertError
+    ensures { result ≡ refusal_of fault }
+{
+    CertError::Refused {
+        line: fault.line,
+        number: fault.number,
+    }
+}
+
+/// The leaves that the lines which are left name, one after the other over the root, up to the end of the text.
+pub(crate) fn leaves(
+    alloc: Global,
+    judge: &EventJudge<'_>,
+    root: Node,
+    lines: &mut Tokens<'_>,
+) -> Result<Vec<Leaf>, CertError>
+    requires { IsValid (rules judge.now.search) root }
+    ensures { Gives (λ found. found.items)
+        (leaves_from (cutting judge.now.search) lines.old.end_line (root ∷ []) 0 lines.old.left)
+        result }
+{
+    let mut waiting = Vec::new(alloc);
+    waiting.push(root)?;
+    let mut found = Vec::new(alloc);
+    loop {
+        match next_entry(lines) {
+            Err(fault) => return Err(refusal(fault)),
+            Ok(None) => return Err(refusal(fault_at(lines.end_line(), CERT_END))),
+            Ok(Some((line, Entry::Leaf(leaf)))) => {
+                match place(judge, &mut waiting, leaf, line) {
+                    Ok(()) => {}
+                    Err(error) => return Err(error),
+                }
+                found.push(leaf)?;
+            }
+            Ok(Some((line, Entry::End(count)))) => {
+                if !is_end(&waiting, found.len(), count) {
+                    return Err(refusal(fault_at(line, CERT_END)));
+                }
+                match check_rest(lines) {
+                    Ok(()) => return Ok(found),
+                    Err(fault) => return Err(refusal(fault)),
+                }
+            }
+        }
+    }
+}

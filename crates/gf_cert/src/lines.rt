@@ -1,0 +1,142 @@
+// Lines of a certificate, taken one by one.
+ghost use Rattle.std.specs.Prelude.{◌≡◌, [], List, OnOk, Result};
+ghost use Rattle.spec_text.specs.Lines.{Numbered, tokens};
+ghost use Rattle.spec_trees.specs.declared.tree.Leaf.{Leaf};
+ghost use Rattle.spec_certificates.specs.declared.entry.CertFault.{CertFault};
+ghost use Rattle.spec_certificates.specs.Checks.{with_words};
+ghost use Rattle.spec_certificates.specs.Entries.{are_same, end_in, entry_of, leaf_in};
+ghost use Rattle.gf_cert.specs.Steps.{Steps, next_entry, next_words, rest_of};
+
+use crate::words::{count, depth, is_word, mark, time};
+use de_text::{Line, LineStep, Tokens, Words};
+use spec_certificates::{CERT_END, CERT_LINE, CertFault, Entry};
+use spec_trees::{Leaf, Node};
+
+/// What is said of a line that breaks a rule: its number, and that of the rule.
+pub(crate) fn fault_at(line: u32, number: u8) -> CertFault
+    ensures { result ≡ record { line = line; number = number } }
+{
+    CertFault { line, number }
+}
+
+// `L`, the leaf's first time and last time, its depth and its mark.
+fn leaf_in(word: &[u8], a: &[u8], b: &[u8], depth_word: &[u8], mark_word: &[u8]) -> Option<Entry>
+    ensures { result ≡ leaf_in word.now a.now b.now depth_word.now mark_word.now }
+{
+    if !is_word(word, b"L") {
+        return None;
+    }
+    let (Some(a), Some(b)) = (time(a), time(b)) else {
+        return None;
+    };
+    let (Some(depth), Some(mark)) = (depth(depth_word), mark(mark_word)) else {
+        return None;
+    };
+    Some(Entry::Leaf(Leaf {
+        node: Node { a, b, depth },
+        mark,
+    }))
+}
+
+// `END leaves`, and their number.
+fn end_in(word: &[u8], name: &[u8], count_word: &[u8]) -> Option<Entry>
+    ensures { result ≡ end_in word.now name.now count_word.now }
+{
+    if is_word(word, b"END") && is_word(name, b"leaves") {
+        match count(count_word) {
+            Some(count) => Some(Entry::End(count)),
+            None => None,
+        }
+    } else {
+        None
+    }
+}
+
+// What the words of a line say.
+fn entry_of(mut words: Words<'_>) -> Option<Entry>
+    ensures { result ≡ entry_of words.entry }
+{
+    let first = words.next()?;
+    let second = words.next()?;
+    let third = words.next()?;
+    let Some(fourth) = words.next() else {
+        return end_in(first, second, third);
+    };
+    let fifth = words.next()?;
+    match words.next() {
+        None => leaf_in(first, second, third, fourth, fifth),
+        Some(_) => None,
+    }
+}
+
+/// What the next line says, with its number, if one is left.
+pub(crate) fn next_entry(lines: &mut Tokens<'_>) -> Result<Option<(u32, Entry)>, CertFault>
+    ensures entry { result ≡ next_entry lines.old.left }
+    ensures left { OnOk result (lines.new.left ≡ rest_of lines.old.left) }
+    ensures end { lines.new.end_line ≡ lines.old.end_line }
+{
+    match lines.line() {
+        LineStep::Line(line) => match entry_of(line.words()) {
+            Some(entry) => Ok(Some((line.number(), entry))),
+            None => Err(fault_at(line.number(), CERT_LINE)),
+        },
+        LineStep::TooLong(number) => Err(fault_at(number, CERT_LINE)),
+        LineStep::End => Ok(None),
+    }
+}
+
+// The words of the next line, with its number, if one is left.
+fn next_words<'a>(lines: &mut Tokens<'a>) -> Result<Option<(u32, Words<'a>)>, CertFault>
+    ensures words { result ≡ next_words lines.old.left }
+    ensures left { OnOk result (lines.new.left ≡ rest_of lines.old.left) }
+    ensures end { lines.new.end_line ≡ lines.old.end_line }
+{
+    match lines.line() {
+        LineStep::Line(line) => Ok(Some((line.number(), line.words()))),
+        LineStep::TooLong(number) => Err(fault_at(number, CERT_LINE)),
+        LineStep::End => Ok(None),
+    }
+}
+
+// No word is left.
+fn is_done(mut words: Words<'_>) -> bool
+    ensures { result ≡ are_same [] words.entry }
+{
+    words.next().is_none()
+}
+
+// Both have the same words, in the same order.
+fn are_same(mut one: Words<'_>, mut other: Words<'_>) -> bool
+    ensures { result ≡ are_same one.entry other.entry }
+{
+    loop {
+        let Some(word) = one.next() else {
+            return is_done(other);
+        };
+        let Some(wanted) = other.next() else {
+            return false;
+        };
+        if word != wanted {
+            return false;
+        }
+    }
+}
+
+/// The next line has the words of this one, else a rule is broken.
+pub(crate) fn check_words(lines: &mut Tokens<'_>, wanted: &[u8], rule: u8) -> Result<(), CertFault>
+    ensures steps { (further : List Numbered → Result (List Leaf) CertFault)
+        → Steps (with_words (tokens wanted.now) rule lines.old.end_line further lines.old.left)
+        result (further lines.new.left) }
+    ensures end { lines.new.end_line ≡ lines.old.end_line }
+{
+    match next_words(lines)? {
+        Some((number, words)) => {
+            if are_same(words, Words::of(wanted)) {
+                Ok(())
+            } else {
+                Err(fault_at(number, rule))
+            }
+        }
+        None => Err(fault_at(lines.end_line(), CERT_END)),
+    }
+}

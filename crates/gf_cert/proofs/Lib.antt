@@ -2,3 +2,4 @@ mod Digits
 mod Placing
 mod Walking
 mod Outcomes
+mod Fitting

@@ -10,6 +10,7 @@
 
 mod checking;
 mod errors;
+mod laws;
 mod leaves;
 mod lines;
 mod places;
@@ -19,6 +20,7 @@ mod writing;
 pub use checking::check_cert;
 pub use errors::CertError;
 pub use event_judge::{EventJudge, Node};
+pub use laws::certificates_of_searches_are_accepted;
 pub use spec_trees::Leaf;
 pub use writing::certificate;
 

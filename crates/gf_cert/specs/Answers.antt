@@ -1,7 +1,5 @@
 -- What a reader of a certificate answers.
-use Rattle.std.specs.Prelude.{◌≡◌, List, Result, Ok, Err}
-use Rattle.std.specs.declared.alloc.Global.{Global}
-use Rattle.spec_trees.specs.declared.tree.Leaf.{Leaf}
+use Rattle.std.specs.Prelude.{◌≡◌, Result, Ok, Err}
 use Rattle.spec_certificates.specs.declared.entry.CertFault.{CertFault}
 use Rattle.gf_cert.specs.declared.errors.CertError.{CertError}
 use Rattle.gf_cert.specs.declared.errors.CertError.TheVariants.{Refused, Memory}

@@ -1,5 +1,4 @@
-use Rattle.std.proofs.Common.{◌≡◌, List, sym, subst}
-use Rattle.spec_trees.specs.declared.tree.Leaf.{Leaf}
+use Rattle.std.proofs.Common.{sym, subst}
 use Rattle.spec_trees.specs.Tree.{AreLeaves, Covers}
 use Rattle.spec_trees.specs.Windows.{windows}
 use Rattle.spec_events.specs.Events.{AreWindows}

@@ -1,4 +1,4 @@
-use Rattle.std.proofs.Common.{◌≡◌, [], ◌∷◌, sym, ◌∙◌, subst}
+use Rattle.std.proofs.Common.{[], ◌∷◌, sym, ◌∙◌, subst}
 use Rattle.spec_text.specs.Lines.{tokens}
 use Rattle.spec_certificates.specs.Checks.{leaves_from, with_words}
 use Rattle.spec_faults.specs.declared.numbers.TheConstants.{CERT_REQUEST}

@@ -1,10 +1,9 @@
-use Rattle.std.proofs.Common.{◌≡◌, [], ◌∷◌, Ok, Err, Some, None, sym, ap, ◌∙◌, subst, false, true, arith}
+use Rattle.std.proofs.Common.{◌≡◌, [], ◌∷◌, Ok, Some, None, sym, ap, ◌∙◌, subst, false, true, arith}
 use Rattle.std.specs.Prelude.{reverse, length}
-use Rattle.spec_certificates.specs.declared.entry.CertFault.{CertFault}
 use Rattle.spec_certificates.specs.declared.entry.Entry.TheVariants as entry
 use Rattle.spec_certificates.specs.Checks.{after_end, is_end, leaf_at, leaves_from}
 use Rattle.spec_certificates.proofs.Binds.{fronted}
-use Rattle.gf_cert.specs.Steps.{next_entry, rest_of}
+use Rattle.gf_cert.specs.Steps.{next_entry}
 use Rattle.gf_cert.specs.Answers.{Fails, refusal_of}
 use Rattle.gf_cert.specs.Search.{cutting}
 use Rattle.gf_cert.proofs.Walking.{bad_end, bad_leaf, ends_early, fails_so, good_end, good_leaf, more_after, stops}

@@ -16,11 +16,11 @@ use ival_core::Sign;
 use spec_trees::{Leaf, Mark, Turn};
 use std::alloc::{AllocError, Global};
 
-/// Of the times from `from` to the end of the last of some leaves those at which a function is sure to be at least 0, and
-/// those at which it may be. The leaves follow one another from `from`, and times are those that the states fit. A clear
-/// leaf has the sign of its end, a leaf with one turn is told at its end alone, and an undecided one never: where that is
-/// so of the leaves, each sure time meets the relation, and each time that meets it is possible. The states are asked at
-/// `from` and at the end of each clear leaf.
+/// Of the times from `from` to the end of the last of some leaves those at which a function is sure to be at least 0,
+/// and those at which it may be. The leaves follow one another from `from`, and their times are such as the states can
+/// be asked for, in their unit. A clear leaf has the sign of its end, a leaf with one turn is told at its end alone, and
+/// an undecided one never: where the marks are true of the function, each sure time meets the relation, and each time that
+/// meets it is possible. The states are asked at `from` and at the end of each clear leaf.
 pub fn at_least<S: States>(
     alloc: Global,
     f: &Formula,

@@ -1,8 +1,8 @@
 //! Sets of times, and those at which a function is at least 0.
 //!
-//! Leaves of a search come in, with what returns the function's sign at a single time; out come two sets, of sure times and
-//! of possible ones. Union, intersection and complement keep what both say. Nothing here knows which leaves a search has,
-//! or prints.
+//! Leaves of a search come in, with what returns the function's sign at a single time; out come two sets, of sure times
+//! and of possible ones. Union, intersection and complement keep what both say. Nothing here knows which leaves a search
+//! has, or prints.
 #![tactic(auto)]
 
 mod algebra;
@@ -13,3 +13,6 @@ mod spans;
 pub use from_leaves::at_least;
 pub use pair::Pair;
 pub use spans::Spans;
+
+#[cfg(test)]
+mod tests;

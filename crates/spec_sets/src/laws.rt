@@ -23,8 +23,8 @@ pub fn spans_are_told_by_their_times()
         → xs ≡ ys }
 {}
 
-/// The longest runs of times at which a test holds are spans, have exactly these times, and are the only spans that have
-/// them.
+/// The longest runs of times at which a test holds are spans, have exactly these times, and are the only spans that
+/// have them.
 pub fn runs_have_their_times()
     ensures spans { (test : ℤ → Bool) (from upto : ℤ) → from ≤ℤ upto → earliest ≤ℤ from
         → upto ≤ℤ latest → AreSpans (spans_of test from upto) }
@@ -61,8 +61,8 @@ pub fn true_signs_give_sets()
         → AreSets (Passes p) from upto sure maybe }
 {}
 
-/// The sign of a term at a single time tells whether its exact value is at least 0, where what is returned for its leaves
-/// encloses their exact values.
+/// The sign of a term at a single time tells whether its exact value is at least 0, where what is returned for its
+/// leaves encloses their exact values.
 pub fn points_tell()
     ensures { (exact : Leaf → ℤ → Fraction) (answer : Leaf → ℤ → ℤ → Enclosure) (e : Term)
         → HasLeaves e → (t : ℤ) → LeavesAreNumbers exact t t

@@ -1,5 +1,5 @@
-//! Sets of times: spans in order of which no two touch, and what the leaves of a span tell of a condition at each of its
-//! times, with their laws. Leaves and signs come in; sets of sure and of possible times go out.
+//! Sets of times: spans in order of which no two touch, and what the leaves of a span tell of a condition at each of
+//! its times, with their laws. Leaves and signs come in; sets of sure and of possible times go out.
 #![tactic(auto)]
 
 mod examples;

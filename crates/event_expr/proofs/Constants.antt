@@ -1,5 +1,5 @@
 -- An interval on which nothing is added is met by itself: what `constant` owes, over plain intervals.
-use Rattle.std.proofs.Common.{◌≡◌, ◌≤◌, ◌+◌, ◌-◌, ◌*◌, ◌^◌, ◌/◌, ◌&&◌, arith, refl, ap, ◌∙◌, sym, ℕ, zero, suc, ℤ, pos, negsuc, neg_ℤ, ◌+ℤ◌, ◌-ℤ◌, ◌*ℤ◌, Bool, true, false, if◌then◌else◌, min, unsigned_abs}
+use Rattle.std.proofs.Common.{◌≡◌, ◌≤◌, ◌-◌, ◌^◌, ◌&&◌, arith, refl, ap, ◌∙◌, sym, ℕ, zero, suc, ℤ, pos, negsuc, neg_ℤ, ◌+ℤ◌, ◌*ℤ◌, Bool, true, false, if◌then◌else◌, min, unsigned_abs}
 use Rattle.std.proofs.Math.IntN.{zero-*ℤ, *ℤ-one}
 use Rattle.std.proofs.Math.Nat.{zero-div}
 use Rattle.std.proofs.lemmas.Int.{ints, int_max_is, int_min_is}
@@ -8,8 +8,8 @@ use lib.Signed.{lt_z, le_z}
 use Rattle.spec_numbers.specs.Numbers.{floor_div, ceil_div}
 use Rattle.spec_numbers.proofs.Floor.{floor_div-one, ceil_div-one}
 use Rattle.spec_numbers.proofs.Order.{lin}
-use Rattle.spec_intervals.specs.Interval.{Interval, interval, zero_interval, zero_end, is_zero, end_limit, settled, narrow, least4, greatest4, product, sum, meet, meet_up}
-use Rattle.spec_intervals.specs.Enclosure.{Enclosure, IsWithin, offsets, centred, enclosure, constant_of}
+use Rattle.spec_intervals.specs.Interval.{Interval, interval, zero_interval, zero_end, is_zero, end_limit, settled, narrow, product, sum, meet, meet_up}
+use Rattle.spec_intervals.specs.Enclosure.{IsWithin, offsets, centred, enclosure, constant_of}
 use Rattle.spec_intervals.proofs.Offsets.{narrow-small}
 
 either-way : (b : Bool) (x : Interval) → (if b then x else x) ≡ x

@@ -1,45 +1,23 @@
 -- From the text that a run has, or from the cause why it has none, to what it writes and returns.
 use Rattle.std.proofs.Common.{◌≡◌, ◌⊎◌, ℕ, List, Option, Result, Ok, Err, sym, ap, ◌∙◌, subst, arith, inl, inr}
-use Rattle.std.specs.Prelude.{IfErr, IfOk}
 use Rattle.std.specs.Io.KnownBytes.{Appends}
 use Rattle.spec_requests.specs.declared.request.FindAsk.{FindAsk}
 use Rattle.spec_requests.specs.declared.request.Request.{Request}
 use Rattle.spec_requests.specs.declared.request.Request.TheVariants.{Find, Check, Gen}
 use Rattle.spec_requests.specs.Requests.{request_of}
 use Rattle.gf_edges.specs.Edges.{Files, Rose}
-use Rattle.gf_find.specs.declared.refusal.Refusal.{Refusal}
-use Rattle.gf_find.specs.declared.refusal.Refusal.TheVariants as R
-use Rattle.gf_find.specs.declared.statuses.TheConstants.{NOT_WRITTEN, OUT_OF_MEMORY, REPORTED}
-use Rattle.gf_find.specs.Outcomes.{Ask, RequestHasOutcome, HaveCause, HaveOutcome, HoldEphemeris, Outcome, Words, texts_of}
-use Rattle.gf_find.specs.Refusals.{status_of}
-use Rattle.gf_find.specs.Reported.{KnowsFiles, ReportsEvents, ReportsGeneration, ReportsSummary}
+use Rattle.spec_outcomes.specs.declared.refusal.Refusal.{Refusal}
+use Rattle.spec_outcomes.specs.declared.refusal.Refusal.TheVariants as R
+use Rattle.spec_outcomes.specs.declared.statuses.TheConstants.{OUT_OF_MEMORY}
+use Rattle.spec_outcomes.specs.Outcomes.{Outcome}
+use Rattle.spec_outcomes.specs.Refusals.{status_of}
+use Rattle.gf_find.specs.Outcomes.{Ask, RequestHasOutcome, HaveCause, HaveOutcome, HoldEphemeris, Words, texts_of}
+use Rattle.gf_find.specs.Finds.{ReportsEvents}
+use Rattle.gf_find.specs.Checks.{ReportsSummary}
+use Rattle.gf_find.specs.Generates.{ReportsGeneration}
+use Rattle.gf_find.specs.Reported.{KnowsFiles}
 use Rattle.gf_find.specs.Texts.{IsAnswer, IsAnswered}
 use Rattle.gf_find.proofs.Causes.{one_outcome_by}
-
-pub err_also : {X E : Type 0} (P Q : E → Type 0) (r : Result X E) → ((e : E) → P e → Q e) → IfErr r P → IfErr r Q
-err_also P Q (Ok x) also holds = tt
-err_also P Q (Err e) also holds = also e holds
-
--- ---- statuses
-pub ok_also : {X E : Type 0} (P Q R : X → Type 0) (r : Result X E) → ((x : X) → P x → Q x → R x) → IfOk r P → IfOk r Q → IfOk r R
-ok_also P Q R (Ok x) also first second = also x first second
-ok_also P Q R (Err e) also first second = tt
-
--- no cause has the status of a text
-differ_from_texts : (r : Refusal) → (status_of r ≡ REPORTED → ⊥) × (status_of r ≡ NOT_WRITTEN → ⊥)
-differ_from_texts (R.Words number option) = (λ is. absurd (omega (arith, is)), λ is. absurd (omega (arith, is)))
-differ_from_texts (R.File name fault) = (λ is. absurd (omega (arith, is)), λ is. absurd (omega (arith, is)))
-differ_from_texts (R.NotRead name) = (λ is. absurd (omega (arith, is)), λ is. absurd (omega (arith, is)))
-differ_from_texts (R.Outside span whole) = (λ is. absurd (omega (arith, is)), λ is. absurd (omega (arith, is)))
-differ_from_texts (R.Event fault) = (λ is. absurd (omega (arith, is)), λ is. absurd (omega (arith, is)))
-differ_from_texts R.TooManyLeaves = (λ is. absurd (omega (arith, is)), λ is. absurd (omega (arith, is)))
-differ_from_texts R.Memory = (λ is. absurd (omega (arith, is)), λ is. absurd (omega (arith, is)))
-
-pub not_reported : (r : Refusal) → status_of r ≡ REPORTED → ⊥
-not_reported r = (differ_from_texts r).0
-
-pub not_unwritten : (r : Refusal) → status_of r ≡ NOT_WRITTEN → ⊥
-not_unwritten r = (differ_from_texts r).1
 
 -- ---- a text
 module _ (words : Words) (files : Option Files) (text : List ℕ) (answered : IsAnswered words files text) where

@@ -11,9 +11,10 @@ use Rattle.spec_requests.specs.declared.request.Request.{Request}
 use Rattle.spec_requests.specs.declared.request.Request.TheVariants.{Find, Check, Gen}
 use Rattle.spec_requests.specs.declared.request.WordFault.{WordFault}
 use Rattle.gf_edges.specs.Edges.{Files, Rose}
-use Rattle.gf_find.specs.declared.refusal.Refusal.{Refusal}
-use Rattle.gf_find.specs.declared.refusal.Refusal.TheVariants as R
-use Rattle.gf_find.specs.Outcomes.{RequestHasOutcome, FilesHaveOutcome, FilesStop, HaveEphemeris, HoldEphemeris, LackFile, Outcome, RefuseFile, report_of, summary_of}
+use Rattle.spec_outcomes.specs.declared.refusal.Refusal.{Refusal}
+use Rattle.spec_outcomes.specs.declared.refusal.Refusal.TheVariants as R
+use Rattle.spec_outcomes.specs.Outcomes.{Outcome, report_of, summary_of}
+use Rattle.gf_find.specs.Outcomes.{RequestHasOutcome, FilesHaveOutcome, FilesStop, HaveEphemeris, HoldEphemeris, LackFile, RefuseFile}
 use Rattle.gf_find.specs.Reported.{AreNotOpened, OpensNone}
 use Rattle.gf_find.proofs.Accepted.{none_held}
 

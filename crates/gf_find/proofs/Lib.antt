@@ -1,10 +1,9 @@
 pub mod Gains
-pub mod Entries
 pub mod Accepted
 pub mod Causes
-pub mod Searching
 pub mod Asked
 pub mod Times
 pub mod Answered
 pub mod Reporting
+pub mod FoundLeaves
 pub mod Workers

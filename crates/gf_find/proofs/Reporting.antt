@@ -1,41 +1,25 @@
--- The texts of what a search found.
-use Rattle.std.proofs.Common.{◌≡◌, ◌⊎◌, ◌<◌, ℕ, Bool, List, [], ◌∷◌, length, Option, None, Some, Ok, Err, refl, sym, ap, ◌∙◌, subst, arith, inl, inr}
-use Rattle.spec_ephemeris.specs.Ephemeris.{Ephemeris}
-use Rattle.spec_trees.specs.declared.window.Window.{Window}
-use Rattle.spec_kinds.specs.declared.fault.EventFault.{EventFault}
+-- The texts of what a search of a generated text found.
+use Rattle.std.proofs.Common.{◌≡◌, ◌⊎◌, ◌<◌, ℕ, Bool, true, false, List, [], ◌∷◌, length, Option, None, Some, Ok, Err, refl, sym, ap, ◌∙◌, subst, arith, inl, inr}
+use Rattle.spec_ephemeris.specs.Ephemeris.{Ephemeris, IsEphemeris}
+use Rattle.spec_trees.specs.declared.tree.Leaf.{Leaf}
+use Rattle.spec_trees.specs.Windows.{windows}
 use Rattle.spec_kinds.specs.Faults.{fault_of}
 use Rattle.spec_files.specs.Outcome.{outcome}
 use Rattle.spec_files.specs.Texts.{end_line}
 use Rattle.spec_generated.specs.Generated.{generated_ephemeris, generated_text}
-use Rattle.spec_requests.specs.declared.request.FindAsk.{FindAsk}
-use Rattle.spec_output.specs.Report.{generation, report}
+use Rattle.spec_output.specs.declared.limits.TheConstants.{MAX_LEAVES}
+use Rattle.spec_output.specs.Report.{generation}
 use Rattle.gf_edges.specs.Edges.{Rose}
-use Rattle.gf_find.specs.declared.query.Query.{Query}
-use Rattle.gf_find.specs.declared.query.Span.{Span}
-use Rattle.gf_find.specs.declared.refusal.Refusal.{Refusal}
-use Rattle.gf_find.specs.declared.refusal.Refusal.TheVariants.{Memory}
-use Rattle.gf_find.specs.Outcomes.{FilesStop, HaveEphemeris, found, found_within, generated_search, generated_span, generation_by, generation_of, searched, searched_by, text_by}
-use Rattle.gf_find.specs.Queries.{AreFound, conjunctions, query_of, search, span_of, whole_span}
-use Rattle.gf_find.specs.Texts.{IsCountedReport, IsFound, IsGeneration}
+use Rattle.spec_outcomes.specs.declared.query.Query.{Query}
+use Rattle.spec_outcomes.specs.declared.query.Span.{Span}
+use Rattle.spec_outcomes.specs.declared.refusal.Refusal.{Refusal}
+use Rattle.spec_outcomes.specs.declared.refusal.Refusal.TheVariants.{Memory}
+use Rattle.spec_outcomes.specs.Outcomes.{IsFound, Stops, found, generated_search, generated_span, generation_by, generation_of, searched, text_by}
+use Rattle.spec_outcomes.specs.Queries.{AreFound, conjunctions, is_within, whole_span}
+use Rattle.spec_outcomes.proofs.Searching.{found_is, whole_within}
+use Rattle.gf_find.specs.Outcomes.{FilesStop, HaveEphemeris}
+use Rattle.gf_find.specs.Generates.{IsGeneration}
 use Rattle.gf_find.proofs.Causes.{held_stops}
-
--- ---- the report of a search
-report_here : (find : FindAsk) (e : Ephemeris) (ws : List Window) (text : List ℕ) → IsFound (query_of find) e (span_of find e) ws
-    → text ≡ report find (span_of find e).from (span_of find e).upto ws → IsCountedReport find text e
-report_here find e ws text is printed =
-    let R : List Window → List ℕ = report find (span_of find e).from (span_of find e).upto in
-    record {
-      outcome = ap (λ (b : Bool). text_by R (found_within b (query_of find) e (span_of find e))) is.within ∙ ap (text_by R) is.outcome ∙ ap (λ (t : List ℕ). Ok t) (sym printed);
-      printed = printed ∙ ap R is.same;
-      windows = subst (λ (vs : List Window). AreFound (search (query_of find) e) (span_of find e) vs) is.same is.windows;
-    }
-
-pub report_is : (find : FindAsk) (e : Ephemeris) (q : Query) (span : Span) (ws : List Window) (text : List ℕ) → q ≡ query_of find → span ≡ span_of find e
-    → IsFound q e span ws → text ≡ report find span.from span.upto ws → IsCountedReport find text e
-report_is find e q span ws text same whole is printed =
-    report_here find e ws text
-    (subst (λ (s : Span). IsFound (query_of find) e s ws) whole (subst (λ (p : Query). IsFound p e span ws) same is))
-    (printed ∙ ap (λ (s : Span). report find s.from s.upto ws) whole)
 
 -- ---- a text that is the one file of a shelf
 abbrev one_file : List ℕ → List (List ℕ × List ℕ)
@@ -68,15 +52,19 @@ pub some_blocks : (blocks seed : ℕ) → 0 < blocks → 0 < (generated_ephemeri
 unfolding generated_ephemeris
 some_blocks blocks seed some = some
 
-searched_there : (blocks seed : ℕ) (span : Span) → found conjunctions (generated_ephemeris blocks seed) span ≡ searched (generated_search blocks seed) span
-searched_there blocks seed span = ap (λ (fault : Option EventFault). searched_by fault (generated_search blocks seed) span) (conjunctions_served blocks seed)
+searched_there : (blocks seed : ℕ) (span : Span) → is_within span (generated_ephemeris blocks seed) ≡ true
+    → found MAX_LEAVES conjunctions (generated_ephemeris blocks seed) span ≡ searched MAX_LEAVES (generated_search blocks seed) span
+searched_there blocks seed span within = found_is MAX_LEAVES conjunctions (generated_ephemeris blocks seed) span within (conjunctions_served blocks seed)
 
-generation_here : (blocks seed : ℕ) (ws : List Window) (lines : List ℕ) → IsFound conjunctions (generated_ephemeris blocks seed) (generated_span blocks seed) ws
-    → lines ≡ generation_by blocks seed ws → IsGeneration blocks seed lines
-generation_here blocks seed ws lines is printed = record {
-  outcome = ap (text_by (generation_by blocks seed)) (sym (searched_there blocks seed (generated_span blocks seed)) ∙ is.outcome) ∙ ap (λ (t : List ℕ). Ok t) (sym printed);
-  printed = printed ∙ ap (generation_by blocks seed) is.same;
-  windows = subst (λ (vs : List Window). AreFound (generated_search blocks seed) (generated_span blocks seed) vs) is.same is.windows;
+abbrev lines_by : ℕ → ℕ → List Leaf → List ℕ
+lines_by blocks seed ls = generation_by blocks seed (windows ls)
+
+generation_here : (blocks seed : ℕ) (ls : List Leaf) (lines : List ℕ) → IsFound MAX_LEAVES conjunctions (generated_ephemeris blocks seed) (generated_span blocks seed) ls
+    → lines ≡ lines_by blocks seed ls → IsGeneration blocks seed lines
+generation_here blocks seed ls lines is printed = record {
+  outcome = ap (text_by (lines_by blocks seed)) (sym (searched_there blocks seed (generated_span blocks seed) is.within) ∙ is.outcome) ∙ ap (λ (t : List ℕ). Ok t) (sym printed);
+  printed = printed ∙ ap (lines_by blocks seed) is.same;
+  windows = subst (λ (vs : List Leaf). AreFound (generated_search blocks seed) (generated_span blocks seed) vs) is.same is.windows;
 }
 
 module _ (blocks seed bytes : ℕ) (e : Ephemeris) (q : Query) (span : Span) (of : e ≡ generated_ephemeris blocks seed) (asks : q ≡ conjunctions) (whole : span ≡ whole_span e) (size : bytes ≡ length (generated_text blocks seed)) where
@@ -86,20 +74,22 @@ module _ (blocks seed bytes : ℕ) (e : Ephemeris) (q : Query) (span : Span) (of
   whole_of : span ≡ all
   whole_of = whole ∙ ap whole_span of
 
-  pub generation_is : (ws : List Window) (lines : List ℕ) → IsFound q e span ws → lines ≡ generation blocks seed bytes ws → IsGeneration blocks seed lines
-  generation_is ws lines is printed =
-      generation_here blocks seed ws lines
-      (subst (λ (s : Span). IsFound conjunctions (generated_ephemeris blocks seed) s ws) whole_of
-      (subst (λ (f : Ephemeris). IsFound conjunctions f span ws) of (subst (λ (p : Query). IsFound p e span ws) asks is)))
-      (printed ∙ ap (λ (n : ℕ). generation blocks seed n ws) size)
+  pub generation_is : (ls : List Leaf) (lines : List ℕ) → IsFound MAX_LEAVES q e span ls → lines ≡ generation blocks seed bytes (windows ls) → IsGeneration blocks seed lines
+  generation_is ls lines is printed =
+      generation_here blocks seed ls lines
+      (subst (λ (s : Span). IsFound MAX_LEAVES conjunctions (generated_ephemeris blocks seed) s ls) whole_of
+      (subst (λ (f : Ephemeris). IsFound MAX_LEAVES conjunctions f span ls) of (subst (λ (p : Query). IsFound MAX_LEAVES p e span ls) asks is)))
+      (printed ∙ ap (λ (n : ℕ). generation blocks seed n (windows ls)) size)
 
-  pub generation_stops : (r : Refusal) → (r ≡ Memory) ⊎ (found q e span ≡ Err r) → (r ≡ Memory) ⊎ (generation_of blocks seed ≡ Err r)
-  generation_stops r (inl none) = inl none
-  generation_stops r (inr stops) =
-      let there : found conjunctions (generated_ephemeris blocks seed) all ≡ Err r =
-      subst (λ (s : Span). found conjunctions (generated_ephemeris blocks seed) s ≡ Err r) whole_of
-      (subst (λ (f : Ephemeris). found conjunctions f span ≡ Err r) of (subst (λ (p : Query). found p e span ≡ Err r) asks stops)) in
-      inr (ap (text_by (generation_by blocks seed)) (sym (searched_there blocks seed all) ∙ there))
+  pub generation_stops : IsEphemeris e → 0 < e.blocks → (r : Refusal) → Stops MAX_LEAVES q e span r → (r ≡ Memory) ⊎ (generation_of blocks seed ≡ Err r)
+  generation_stops checked block r (inl none) = inl none
+  generation_stops checked block r (inr stops) =
+      let there : found MAX_LEAVES conjunctions (generated_ephemeris blocks seed) all ≡ Err r =
+      subst (λ (s : Span). found MAX_LEAVES conjunctions (generated_ephemeris blocks seed) s ≡ Err r) whole_of
+      (subst (λ (f : Ephemeris). found MAX_LEAVES conjunctions f span ≡ Err r) of (subst (λ (p : Query). found MAX_LEAVES p e span ≡ Err r) asks stops)) in
+      let within : is_within all (generated_ephemeris blocks seed) ≡ true =
+      subst (λ (f : Ephemeris). is_within (whole_span f) f ≡ true) of (whole_within e checked block) in
+      inr (ap (text_by (lines_by blocks seed)) (sym (searched_there blocks seed all within) ∙ there))
 
 pub same_ephemeris : (text : List ℕ) (e f : Ephemeris) → outcome (text ∷ []) ≡ Ok e → outcome (text ∷ []) ≡ Ok f → e ≡ f
 same_ephemeris text e f one two = let same : Ok e ≡ Ok f = sym one ∙ two in cc

@@ -7,14 +7,16 @@ use Rattle.spec_ephemeris.specs.declared.limits.TheConstants.{FIRST_TIME, LAST_T
 use Rattle.spec_ephemeris.specs.Ticks.{IsInSeconds, in_ticks}
 use Rattle.spec_ephemeris.proofs.Ticks.{end_in_ticks}
 use Rattle.spec_ephemeris.specs.Ephemeris.{Ephemeris, IsEphemeris, end_of}
+use Rattle.spec_trees.specs.declared.tree.Leaf.{Leaf}
 use Rattle.spec_trees.specs.declared.window.Window.{Window}
+use Rattle.spec_trees.specs.Windows.{windows}
 use Rattle.spec_trees.specs.Placement.{IsWithin}
 use Rattle.spec_searches.specs.Search.{Search}
 use Rattle.spec_times.specs.TimeWords.{IsTime}
 use Rattle.spec_times.specs.Ticks.{IsTimeIn}
 use Rattle.spec_output.specs.Report.{HasTimes}
-use Rattle.gf_find.specs.declared.query.Span.{Span}
-use Rattle.gf_find.specs.Queries.{AreFound, is_within}
+use Rattle.spec_outcomes.specs.declared.query.Span.{Span}
+use Rattle.spec_outcomes.specs.Queries.{AreFound, is_within}
 
 module _ (tick : ℕ) (e : Ephemeris) (start : IsTimeIn tick e.start) (end : IsTimeIn tick (end_of e)) where
   module _ (span : Span) (within : is_within span e ≡ true) where
@@ -33,8 +35,8 @@ module _ (tick : ℕ) (e : Ephemeris) (start : IsTimeIn tick e.start) (end : IsT
           last = record { low = omega (arith, ints, low, is.from, is.ordered); high = omega (arith, ints, high, is.to) };
         }
 
-    pub windows_are : (s : Search) (ws : List Window) → AreFound s span ws → All (HasTimes tick) ws
-    windows_are s ws found = All-weaker (IsWithin span.from span.upto) (HasTimes tick) one ws found.within
+    pub windows_are : (s : Search) (ls : List Leaf) → AreFound s span ls → All (HasTimes tick) (windows ls)
+    windows_are s ls found = All-weaker (IsWithin span.from span.upto) (HasTimes tick) one (windows ls) found.within
 
 -- an ephemeris ends no earlier than it begins
 no_earlier : (start block : ℤ) (count : ℕ) → pos 1 ≤ℤ block → start ≤ℤ (start +ℤ (pos count *ℤ block))

@@ -3,7 +3,8 @@ use Rattle.std.proofs.Common.{ℕ, Option, Ok, sym, subst}
 use Rattle.spec_requests.specs.declared.request.Request.{Request}
 use Rattle.spec_requests.specs.declared.request.Request.TheVariants.{Find, Check, Gen}
 use Rattle.gf_edges.specs.Edges.{Files}
-use Rattle.gf_find.specs.Outcomes.{Ask, RequestHasOutcome, HaveOutcome, Outcome, Words, with_workers}
+use Rattle.spec_outcomes.specs.Outcomes.{Outcome}
+use Rattle.gf_find.specs.Outcomes.{Ask, RequestHasOutcome, HaveOutcome, Words, with_workers}
 
 same_by : (request : Request) (count : ℕ) (files : Option Files) (before now : ℕ) (outcome : Outcome) → RequestHasOutcome (Ok request) files before now outcome
     → RequestHasOutcome (Ok (with_workers count request)) files before now outcome

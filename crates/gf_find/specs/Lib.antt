@@ -1,5 +1,7 @@
-pub mod Queries
-pub mod Refusals
 pub mod Outcomes
-pub mod Reported
+pub mod Searches
+pub mod Finds
+pub mod Checks
+pub mod Generates
 pub mod Texts
+pub mod Reported

@@ -1,91 +1,21 @@
--- The outcome of a run: the text that it writes to its output, or the cause why it has none. Where the files are known, a
--- run has one outcome, and the causes stand in the order in which they are looked for: the words, the files, the span, the
--- event, the leaves of the search.
-use Rattle.std.specs.Prelude.{◌≡◌, ◌⊎◌, ℕ, nat_lt, Bool, true, false, List, [], length, map, slice_get, Option, None, Some, Result, Ok, Err, String, string_bytes, if◌then◌else◌}
+-- The outcome of a run: that of the ephemeris of its files, or the cause why they have none. Where the files are known, a run has
+-- one outcome, and the causes stand in the order in which they are looked for: the words, the files, the span, the event, the
+-- leaves of the search.
+use Rattle.std.specs.Prelude.{◌≡◌, ◌⊎◌, ℕ, List, [], map, slice_get, Option, None, Some, Result, Ok, Err, String, string_bytes}
 use Rattle.std.specs.declared.alloc.Global.{Global}
 use Rattle.spec_text.specs.declared.decimals.Fault.{Fault}
 use Rattle.spec_faults.specs.declared.numbers.TheConstants.{WORDS}
 use Rattle.spec_ephemeris.specs.Ephemeris.{Ephemeris}
-use Rattle.spec_ephemeris.specs.Ticks.{in_ticks}
-use Rattle.spec_trees.specs.declared.window.Window.{Window}
-use Rattle.spec_trees.specs.Tree.{leaf_count}
-use Rattle.spec_searches.specs.Search.{Search}
-use Rattle.spec_searches.specs.Found.{root, rules}
-use Rattle.spec_kinds.specs.declared.fault.EventFault.{EventFault}
-use Rattle.spec_kinds.specs.Faults.{fault_of}
 use Rattle.spec_files.specs.Reading.{AreAccepted, AreRefused, IsNotRead}
-use Rattle.spec_generated.specs.Generated.{generated_ephemeris, generated_text}
-use Rattle.spec_requests.specs.declared.request.FindAsk.{FindAsk}
 use Rattle.spec_requests.specs.declared.request.Request.{Request}
 use Rattle.spec_requests.specs.declared.request.Request.TheVariants.{Find, Check, Gen}
 use Rattle.spec_requests.specs.declared.request.WordFault.{WordFault}
 use Rattle.spec_requests.specs.Requests.{request_of}
-use Rattle.spec_output.specs.declared.limits.TheConstants.{MAX_LEAVES}
-use Rattle.spec_output.specs.Report.{generation, report}
-use Rattle.spec_output.specs.Summary.{summary}
 use Rattle.gf_edges.specs.Edges.{Files}
-use Rattle.gf_find.specs.declared.query.Query.{Query}
-use Rattle.gf_find.specs.declared.query.Span.{Span}
-use Rattle.gf_find.specs.declared.refusal.Refusal.{Refusal}
-use Rattle.gf_find.specs.declared.refusal.Refusal.TheVariants as R
-use Rattle.gf_find.specs.Queries.{conjunctions, is_within, query_of, search, span_of, whole_span, windows_in}
-use Rattle.gf_find.specs.Refusals.{of_words}
-
-abbrev pub Outcome : Type 0
-Outcome = Result (List ℕ) Refusal
-
--- ---- of an ephemeris
--- the windows in a span of the ephemeris, unless the tree has too many leaves
-unfoldable pub searched : Search → Span → Result (List Window) Refusal
-searched s span =
-    if nat_lt MAX_LEAVES (leaf_count (rules s) (root span.from span.upto)) then Err R.TooManyLeaves
-    else Ok (windows_in s span)
-
--- the same, unless the event has a fault
-abbrev pub searched_by : Option EventFault → Search → Span → Result (List Window) Refusal
-searched_by (Some fault) s span = Err (R.Event fault)
-searched_by None s span = searched s span
-
-abbrev pub found : Query → Ephemeris → Span → Result (List Window) Refusal
-found q e span = searched_by (fault_of e q.ask) (search q e) span
-
--- the same, unless the span isn't one of the ephemeris
-abbrev pub found_within : Bool → Query → Ephemeris → Span → Result (List Window) Refusal
-found_within true q e span = found q e span
-found_within false q e span = Err (R.Outside span (whole_span e))
-
--- a text of the windows
-abbrev pub text_by : (List Window → List ℕ) → Result (List Window) Refusal → Outcome
-text_by text (Ok ws) = Ok (text ws)
-text_by text (Err refusal) = Err refusal
-
--- the outcome of `find`, over an ephemeris that counts the ticks of the search
-abbrev pub report_by : FindAsk → Ephemeris → Span → Outcome
-report_by find e span = text_by (report find span.from span.upto) (found_within (is_within span e) (query_of find) e span)
-
-abbrev pub counted_report : FindAsk → Ephemeris → Outcome
-counted_report find e = report_by find e (span_of find e)
-
--- the same over the ephemeris of its files, which counts seconds
-abbrev pub report_of : FindAsk → Ephemeris → Outcome
-report_of find e = counted_report find (in_ticks find.tick e)
-
--- the outcome of `check`
-abbrev pub summary_of : Ephemeris → Outcome
-summary_of e = Ok (summary e)
-
--- the outcome of `gen`: its search is one of the whole ephemeris of the generated text
-abbrev pub generated_search : ℕ → ℕ → Search
-generated_search blocks seed = search conjunctions (generated_ephemeris blocks seed)
-
-abbrev pub generated_span : ℕ → ℕ → Span
-generated_span blocks seed = whole_span (generated_ephemeris blocks seed)
-
-abbrev pub generation_by : ℕ → ℕ → List Window → List ℕ
-generation_by blocks seed = generation blocks seed (length (generated_text blocks seed))
-
-abbrev pub generation_of : ℕ → ℕ → Outcome
-generation_of blocks seed = text_by (generation_by blocks seed) (searched (generated_search blocks seed) (generated_span blocks seed))
+use Rattle.spec_outcomes.specs.declared.refusal.Refusal.{Refusal}
+use Rattle.spec_outcomes.specs.declared.refusal.Refusal.TheVariants as R
+use Rattle.spec_outcomes.specs.Outcomes.{Outcome, generation_of, report_of, summary_of}
+use Rattle.spec_outcomes.specs.Refusals.{of_words}
 
 -- ---- of files
 -- the files of these names are accepted, with this ephemeris

@@ -1,41 +1,15 @@
--- What a run that isn't refused writes to its output, by the command. Known bytes were the first list, and are the second.
+-- What a run that isn't refused writes to its output, and whether it opens a file. Known bytes were the first list, and are the
+-- second.
 use Rattle.std.specs.Prelude.{◌≡◌, ◌⊎◌, ◌<◌, ℕ, List, length, Option, IsSome, Result, Ok, Err}
 use Rattle.std.specs.Io.KnownBytes.{Appends}
-use Rattle.spec_ephemeris.specs.Ephemeris.{Ephemeris}
-use Rattle.spec_ephemeris.specs.Ticks.{in_ticks}
-use Rattle.spec_searches.specs.Search.{events}
 use Rattle.spec_files.specs.declared.limits.TheConstants.{MAX_FILES}
-use Rattle.spec_requests.specs.declared.request.FindAsk.{FindAsk}
 use Rattle.spec_requests.specs.declared.request.Request.{Request}
 use Rattle.spec_requests.specs.declared.request.Request.TheVariants.{Find, Check, Gen}
 use Rattle.spec_requests.specs.declared.request.WordFault.{WordFault}
 use Rattle.spec_requests.specs.Requests.{request_of}
-use Rattle.spec_output.specs.Runs.{Reports}
 use Rattle.spec_output.specs.Writing.{AppendsPart}
-use Rattle.spec_output.specs.Report.{report}
-use Rattle.spec_output.specs.Summary.{summary}
 use Rattle.gf_edges.specs.Edges.{Files}
-use Rattle.gf_find.specs.Queries.{IsLeft, query_of, search, span_of, windows_in}
-use Rattle.gf_find.specs.Outcomes.{HaveOutcome, Words, generated_search, generated_span, generation_by, texts_of}
-
--- the report of the windows of the events that are asked for, over the span that is asked for; times are ticks
-abbrev pub ReportsEvents : FindAsk → Option (List ℕ) → Option (List ℕ) → Ephemeris → Type 0
-ReportsEvents find old new e =
-    let counted = in_ticks find.tick e in
-    let s = search (query_of find) counted in
-    let span = span_of find counted in
-    Reports (events s) (IsLeft s span) span.from span.upto (windows_in s span) (report find span.from span.upto) old new
-
--- the summary of the ephemeris
-abbrev pub ReportsSummary : Option (List ℕ) → Option (List ℕ) → Ephemeris → Type 0
-ReportsSummary old new e = Appends old new (summary e)
-
--- the two lines of the windows of a search over the whole of a generated text
-abbrev pub ReportsGeneration : ℕ → ℕ → Option (List ℕ) → Option (List ℕ) → Type 0
-ReportsGeneration blocks seed old new =
-    let s = generated_search blocks seed in
-    let span = generated_span blocks seed in
-    Reports (events s) (IsLeft s span) span.from span.upto (windows_in s span) (generation_by blocks seed) old new
+use Rattle.gf_find.specs.Outcomes.{HaveOutcome, Words, texts_of}
 
 -- the whole text of the run's outcome
 abbrev pub ReportsWhole : Words → Option Files → ℕ → ℕ → Option (List ℕ) → Option (List ℕ) → Type 0

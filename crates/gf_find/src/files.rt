@@ -3,11 +3,11 @@ ghost use Rattle.std.specs.Prelude.{◌≡◌, ◌⊎◌, ◌<◌, ℕ, List, So
 ghost use Rattle.gf_find.specs.Outcomes.{FilesStop, HaveEphemeris, texts_of};
 ghost use Rattle.gf_find.specs.Reported.{AreNotOpened};
 
-use crate::refusal::Refusal;
 use eph_model::Ephemeris;
 use gf_edges::Shelf;
 use gf_files::{FilesError, read_files};
 use spec_faults::WORDS;
+use spec_outcomes::Refusal;
 use spec_requests::Text;
 use spec_text::Fault;
 use std::alloc::{AllocError, Global};

@@ -2,7 +2,8 @@
 ghost use Rattle.std.specs.Prelude.{◌≡◌, ◌⊎◌, Option, ℕ};
 ghost use Rattle.spec_requests.specs.declared.request.Request.{Request};
 ghost use Rattle.gf_edges.specs.Edges.{Files, Rose};
-ghost use Rattle.gf_find.specs.Outcomes.{Ask, HaveOutcome, Outcome, Words, with_workers};
+ghost use Rattle.spec_outcomes.specs.Outcomes.{Outcome};
+ghost use Rattle.gf_find.specs.Outcomes.{Ask, HaveOutcome, Words, with_workers};
 ghost use Rattle.gf_find.specs.Reported.{KnowsFiles};
 
 /// Where no file is opened, or the files are known, a run has one outcome, its text or its cause, unless the shelf failed.

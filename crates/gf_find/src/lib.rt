@@ -1,27 +1,24 @@
-//! The search as a whole: words and the bytes of files come in, and a report, a summary or the line of a fault goes out,
-//! with a status. What is public is the call itself with its statuses, and the types of which its contract speaks: why a
-//! run is refused, what is searched for and over which span.
+//! The program as a whole: words and the bytes of files come in, and a report, a summary or the line of a fault goes out,
+//! with a status. Each command has a module of its own, and a record of `specs/` that says what it reports. What is public
+//! is the call itself with its statuses, and the types of which its contract speaks: why a run is refused, and spans.
 #![tactic(auto)]
 
 mod answer;
-mod book;
+mod check;
 mod files;
+mod find;
+mod generated;
 mod laws;
 mod messages;
-mod query;
-mod refusal;
-mod search;
-mod statuses;
+mod searched;
 mod text_shelf;
 mod top;
 mod writing;
 
 pub use laws::{a_run_has_one_outcome, the_number_of_workers_changes_no_byte};
-pub use query::{Query, Span};
-pub use refusal::Refusal;
-pub use statuses::{
-    EVENT_REFUSED, FILES_REFUSED, NOT_READ, NOT_WRITTEN, OUT_OF_MEMORY, REPORTED, SPAN_REFUSED,
-    TOO_MANY_LEAVES, WORDS_REFUSED,
+pub use spec_outcomes::{
+    EVENT_REFUSED, FILES_REFUSED, NOT_READ, NOT_WRITTEN, OUT_OF_MEMORY, REPORTED, Refusal,
+    SPAN_REFUSED, Span, TOO_MANY_LEAVES, WORDS_REFUSED,
 };
 pub use top::finder;
 

@@ -4,11 +4,10 @@ ghost use Rattle.std.specs.Fmt.{decimal, signed_decimal};
 ghost use Rattle.spec_faults.specs.Shown.{kind_of};
 ghost use Rattle.spec_output.specs.Messages.{after_blank, detail_text, event_text, fault_text, file_text, kind_text, leaves_text, memory_text, outside_text, read_text, times, title, words_text};
 ghost use Rattle.spec_requests.specs.Names.{option_name};
-ghost use Rattle.gf_find.specs.Refusals.{line_of};
+ghost use Rattle.spec_outcomes.specs.Refusals.{line_of};
 
-use crate::query::Span;
-use crate::refusal::Refusal;
 use spec_faults::{FaultKind, fault_kind};
+use spec_outcomes::{Refusal, Span};
 use spec_requests::{Named, option_name};
 use spec_text::Fault;
 use std::alloc::{AllocError, Global};

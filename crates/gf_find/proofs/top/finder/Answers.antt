@@ -1,7 +1,8 @@
 use Rattle.std.proofs.Common.{◌∙◌, inl, inr, List, ℕ, subst, sym}
 use Rattle.std.specs.Io.KnownBytes.{Appends}
 use Rattle.spec_output.specs.Writing.{AppendsPart}
-use Rattle.gf_find.proofs.Answered.{cause_is, checks, outcome_is, finds, generates, not_reported, not_unwritten, refused_exactly, refused_only, text_not_refused}
+use Rattle.spec_outcomes.proofs.TextStatuses.{not_reported, not_unwritten}
+use Rattle.gf_find.proofs.Answered.{cause_is, checks, outcome_is, finds, generates, refused_exactly, refused_only, text_not_refused}
 use Rattle.gf_find.proofs.top.finder.Goals as goal
 
 pub returns-in-Ok-clause-reported : goal.returns-in-Ok-clause-reported

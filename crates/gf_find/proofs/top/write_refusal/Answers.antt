@@ -1,5 +1,5 @@
 use Rattle.std.proofs.Common.{inr, refl}
-use Rattle.gf_find.specs.declared.refusal.Refusal.TheVariants.{Memory}
+use Rattle.spec_outcomes.specs.declared.refusal.Refusal.TheVariants.{Memory}
 use Rattle.gf_find.proofs.top.write_refusal.Goals as goal
 
 pub returns-in-Err : goal.returns-in-Err

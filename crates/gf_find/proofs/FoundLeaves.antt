@@ -1,0 +1,119 @@
+-- The leaves of the search that words ask of their files, and what is made of them.
+use Rattle.std.proofs.Common.{◌≡◌, ◌⊎◌, ◌<◌, ℕ, false, true, List, Option, Result, Ok, Err, sym, ap, ◌∙◌, subst, inl, inr}
+use Rattle.std.specs.Prelude.{All, IfErr}
+use Rattle.spec_ephemeris.specs.Ephemeris.{Ephemeris, end_of}
+use Rattle.spec_ephemeris.specs.Ticks.{in_ticks}
+use Rattle.spec_trees.specs.declared.tree.Leaf.{Leaf}
+use Rattle.spec_trees.specs.Tree.{Covers}
+use Rattle.spec_trees.specs.Windows.{windows}
+use Rattle.spec_requests.specs.declared.request.FindAsk.{FindAsk}
+use Rattle.spec_requests.specs.Limits.{IsWithinLimits}
+use Rattle.spec_times.specs.Ticks.{IsTimeIn}
+use Rattle.spec_output.specs.declared.limits.TheConstants.{MAX_LEAVES}
+use Rattle.spec_output.specs.Report.{HasTimes}
+use Rattle.gf_edges.specs.Edges.{Files}
+use Rattle.spec_outcomes.specs.declared.query.Query.{Query}
+use Rattle.spec_outcomes.specs.declared.query.Span.{Span}
+use Rattle.spec_outcomes.specs.declared.refusal.Refusal.{Refusal}
+use Rattle.spec_outcomes.specs.declared.refusal.Refusal.TheVariants.{Memory, Outside}
+use Rattle.spec_outcomes.specs.Outcomes.{IsFound, Stops, found, report_by, text_by}
+use Rattle.spec_outcomes.specs.Queries.{AreFound, IsQuery, is_within, query_of, search, span_of, whole_span}
+use Rattle.spec_outcomes.proofs.Searching.{outside_stops}
+use Rattle.gf_find.specs.Outcomes.{FilesHaveOutcome, FilesStop, HaveEphemeris, HoldEphemeris}
+use Rattle.gf_find.specs.Searches.{AreSearched, SearchStops}
+use Rattle.gf_find.specs.Finds.{IsCountedReport, IsReport}
+use Rattle.gf_find.proofs.Accepted.{in_seconds, is_checked}
+use Rattle.gf_find.proofs.Times.{end_counted, from_is, start_counted, upto_is, windows_are}
+
+-- out of memory, or another cause
+pub memory_also : {X : Type 0} (P : Refusal → Type 0) (r : Result X Refusal) → IfErr r (λ refusal. refusal ≡ Memory) → IfErr r (λ refusal. (refusal ≡ Memory) ⊎ P refusal)
+memory_also P (Ok x) is = tt
+memory_also P (Err refusal) is = inl is
+
+-- ---- over an ephemeris
+-- what words ask for keeps to the limits of a query
+pub asked_is : (find : FindAsk) (q : Query) → q ≡ query_of find → IsWithinLimits find → IsQuery q
+asked_is find q same limits =
+    subst IsQuery (sym same) (record { ask = limits.ask; some_width = limits.some_width; width = limits.width; depth = limits.depth })
+
+module _ (most : ℕ) (find : FindAsk) (e : Ephemeris) where
+  -- a span that isn't one of the ephemeris stops the search
+  pub outside_is : (r : Refusal) → is_within (span_of find e) e ≡ false → r ≡ Outside (span_of find e) (whole_span e) → found most (query_of find) e (span_of find e) ≡ Err r
+  outside_is r out is = outside_stops most (query_of find) e (span_of find e) out ∙ ap (λ (s : Refusal). Err s) (sym is)
+
+  module _ (q : Query) (span : Span) where
+    pub found_asked : (ls : List Leaf) → q ≡ query_of find → span ≡ span_of find e → IsFound most q e span ls → AreSearched most find e span ls
+    found_asked ls same whole is = record { span_is = whole; found = subst (λ (p : Query). IsFound most p e span ls) same is }
+
+    pub stops_asked : (r : Refusal) → q ≡ query_of find → span ≡ span_of find e → Stops most q e span r → Stops most (query_of find) e (span_of find e) r
+    stops_asked r same whole stops = subst (λ (s : Span). Stops most (query_of find) e s r) whole (subst (λ (p : Query). Stops most p e span r) same stops)
+
+-- ---- over files
+module _ (files : Option Files) (find : FindAsk) (most : ℕ) (e counted : Ephemeris) where
+  pub held_leaves : (span : Span) (ls : List Leaf) → HaveEphemeris files find.files e → counted ≡ in_ticks find.tick e → AreSearched most find counted span ls
+      → HoldEphemeris files find.files (λ f. AreSearched most find (in_ticks find.tick f) span ls)
+  held_leaves span ls held same is = record { ephemeris = e; held = held; is = subst (λ (f : Ephemeris). AreSearched most find f span ls) same is }
+
+  pub search_stops : (count now : ℕ) (r : Refusal) → HaveEphemeris files find.files e → counted ≡ in_ticks find.tick e → Stops most (query_of find) counted (span_of find counted) r
+      → SearchStops most find files count now r
+  search_stops count now r held same (inl none) = inl none
+  search_stops count now r held same (inr stops) =
+      inr (inr (record { ephemeris = e; held = held; is = subst (λ (f : Ephemeris). found most (query_of find) f (span_of find f) ≡ Err r) same stops }))
+
+-- ---- what is made of them
+-- why there are no leaves is why there is no text of them
+pub text_stops : (most : ℕ) (find : FindAsk) (files : Option Files) (count now : ℕ) (text : Span → List Leaf → List ℕ) (r : Refusal) → SearchStops most find files count now r
+    → (r ≡ Memory) ⊎ FilesHaveOutcome files find.files count now
+    (λ e. text_by (text (span_of find (in_ticks find.tick e))) (found most (query_of find) (in_ticks find.tick e) (span_of find (in_ticks find.tick e)))) (Err r)
+text_stops most find files count now text r (inl none) = inl none
+text_stops most find files count now text r (inr (inl stops)) = inr (inr (r, stops, λ i. Err r))
+text_stops most find files count now text r (inr (inr held)) =
+    inr (inl (record { ephemeris = held.ephemeris; held = held.held; is = ap (text_by (text (span_of find (in_ticks find.tick held.ephemeris)))) held.is }))
+
+module _ (files : Option Files) (find : FindAsk) (most : ℕ) (span : Span) (ls : List Leaf) (held : HoldEphemeris files find.files (λ e. AreSearched most find (in_ticks find.tick e) span ls)) where
+  abbrev counted : Ephemeris
+  counted = in_ticks find.tick held.ephemeris
+
+  start : IsTimeIn find.tick counted.start
+  start = start_counted find.tick held.ephemeris (in_seconds files find.files held.ephemeris held.held)
+
+  end : IsTimeIn find.tick (end_of counted)
+  end = end_counted find.tick held.ephemeris (is_checked files find.files held.ephemeris held.held) (in_seconds files find.files held.ephemeris held.held)
+
+  pub from_time : IsTimeIn find.tick span.from
+  from_time = from_is find.tick counted start end span held.is.found.within
+
+  pub upto_time : IsTimeIn find.tick span.upto
+  upto_time = upto_is find.tick counted start end span held.is.found.within
+
+  pub follow_one_another : Covers span.from ls span.upto
+  follow_one_another = held.is.found.follow
+
+  pub have_times : All (HasTimes find.tick) (windows ls)
+  have_times = windows_are find.tick counted start end span held.is.found.within (search (query_of find) counted) ls held.is.found.windows
+
+-- the report of their windows
+module _ (find : FindAsk) (e : Ephemeris) where
+  abbrev asked : Span
+  asked = span_of find e
+
+  report_here : (ls : List Leaf) (text : List ℕ) → IsFound MAX_LEAVES (query_of find) e asked ls → text ≡ report_by find asked ls → IsCountedReport find text e
+  report_here ls text is printed = record {
+    outcome = ap (text_by (report_by find asked)) is.outcome ∙ ap (λ (t : List ℕ). Ok t) (sym printed);
+    printed = printed ∙ ap (report_by find asked) is.same;
+    windows = subst (λ (vs : List Leaf). AreFound (search (query_of find) e) asked vs) is.same is.windows;
+  }
+
+  report_is : (span : Span) (ls : List Leaf) (text : List ℕ) → AreSearched MAX_LEAVES find e span ls → text ≡ report_by find span ls → IsCountedReport find text e
+  report_is span ls text is printed =
+      report_here ls text (subst (λ (s : Span). IsFound MAX_LEAVES (query_of find) e s ls) is.span_is is.found)
+      (printed ∙ ap (λ (s : Span). report_by find s ls) is.span_is)
+
+pub report_held : (files : Option Files) (find : FindAsk) (span : Span) (ls shown : List Leaf) (text : List ℕ)
+    → HoldEphemeris files find.files (λ e. AreSearched MAX_LEAVES find (in_ticks find.tick e) span ls) → shown ≡ ls → text ≡ report_by find span shown
+    → HoldEphemeris files find.files (IsReport find text)
+report_held files find span ls shown text held same printed = record {
+  ephemeris = held.ephemeris;
+  held = held.held;
+  is = report_is find (in_ticks find.tick held.ephemeris) span ls text held.is (printed ∙ ap (report_by find span) same);
+}

@@ -1,0 +1,30 @@
+// The command `check`: the summary of files.
+ghost use Rattle.std.specs.Prelude.{◌≡◌, ◌⊎◌, Err, IfErr, IfOk};
+ghost use Rattle.spec_output.specs.Summary.{summary};
+ghost use Rattle.spec_outcomes.specs.Outcomes.{summary_of};
+ghost use Rattle.gf_find.specs.Outcomes.{FilesHaveOutcome, HoldEphemeris, texts_of};
+ghost use Rattle.gf_find.specs.Reported.{AreNotOpened};
+
+use crate::files::ephemeris_of;
+use gf_edges::Shelf;
+use spec_outcomes::Refusal;
+use std::alloc::Global;
+use window_text::summary;
+
+/// The summary of files.
+pub(crate) fn summary_of_files<S: Shelf>(
+    alloc: Global,
+    shelf: &mut S,
+    names: &[String],
+) -> Result<Vec<u8>, Refusal>
+    ensures summary { IfOk result (λ text. HoldEphemeris
+        (S.files shelf.old) (texts_of names.now) (λ e. text.items ≡ summary e)) }
+    ensures stopped { IfErr result (λ refusal. (refusal ≡ Refusal.Memory)
+        ⊎ FilesHaveOutcome (S.files shelf.old) (texts_of names.now)
+        (S.faults shelf.old) (S.faults shelf.new) summary_of (Err refusal)) }
+    ensures unopened { AreNotOpened (texts_of names.now) → shelf.new ≡ shelf.old }
+{
+    let ephemeris = ephemeris_of(alloc, shelf, names)?;
+    let text = summary(alloc, &ephemeris)?;
+    Ok(text)
+}

@@ -1,0 +1,146 @@
+// The command `gen`: the two lines of a generated text.
+ghost use Rattle.std.specs.Prelude.{◌≡◌, ◌∷◌, [], ◌⊎◌, ◌<◌, ◌≤◌, Err, IfErr, IfOk, Ok, length, string_bytes};
+ghost use Rattle.spec_ephemeris.specs.Ephemeris as e;
+ghost use Rattle.spec_files.specs.Outcome.{outcome};
+ghost use Rattle.spec_generated.specs.declared.limits.TheConstants.{MAX_GENERATED};
+ghost use Rattle.spec_generated.specs.Generated.{generated_ephemeris, generated_text};
+ghost use Rattle.spec_trees.specs.Tree.{Covers};
+ghost use Rattle.spec_trees.specs.Windows.{windows};
+ghost use Rattle.spec_requests.specs.declared.limits.TheConstants.{MAX_WORKERS};
+ghost use Rattle.spec_output.specs.Report.{generation};
+ghost use Rattle.spec_outcomes.specs.Outcomes.{generation_of};
+ghost use Rattle.gf_find.specs.Generates.{IsGeneration};
+
+use crate::files::ephemeris_of;
+use crate::text_shelf::TextShelf;
+use eph_gen::generate;
+use eph_model::Ephemeris;
+use gf_edges::Gate;
+use gf_query::whole_span;
+use gf_search::leaves;
+use ordered_join::leaf_windows;
+use spec_outcomes::{Refusal, Span, conjunctions};
+use spec_output::MAX_LEAVES;
+use spec_trees::Leaf;
+use std::alloc::Global;
+use std::sync::Wait;
+use std::thread::Threads;
+use window_text::generation;
+
+fn no_name(alloc: Global) -> String
+    ensures { string_bytes result ≡ [] }
+{
+    String::new(alloc)
+}
+
+// The ephemeris of a text, which is read as the one file of a shelf.
+fn ephemeris_of_text(alloc: Global, text: &[u8]) -> Result<Ephemeris, Refusal>
+    ensures read { IfOk result (λ e. outcome (text.now ∷ []) ≡ Ok e) }
+    ensures refused { (e : e.Ephemeris) → outcome (text.now ∷ []) ≡ Ok e
+        → IfErr result (λ refusal. refusal ≡ Refusal.Memory) }
+{
+    let mut shelf = TextShelf::new(text);
+    ephemeris_of(alloc, &mut shelf, &[no_name(alloc)])
+}
+
+// The two lines of the windows of leaves that follow one another over a generated text, which has so many bytes.
+fn lines_of_leaves(
+    alloc: Global,
+    blocks: u32,
+    seed: u64,
+    bytes: usize,
+    span: Span,
+    leaves: &[Leaf],
+) -> Result<Vec<u8>, Refusal>
+    requires { Covers span.from leaves.now span.upto }
+    ensures text { IfOk result (λ text.
+        text.items ≡ generation blocks seed bytes (windows leaves.now)) }
+    ensures memory { IfErr result (λ refusal. refusal ≡ Refusal.Memory) }
+{
+    let windows = leaf_windows(alloc, leaves)?;
+    let lines = generation(alloc, blocks, seed, bytes, &windows)?;
+    Ok(lines)
+}
+
+// The two lines of the ephemeris of a generated text that has so many bytes.
+fn lines_of<R: Threads + Wait + Sync, G: Gate>(
+    rt: &R,
+    alloc: Global,
+    blocks: u32,
+    seed: u64,
+    workers: u32,
+    bytes: usize,
+    ephemeris: &Ephemeris,
+    gate: &G,
+) -> Result<Vec<u8>, Refusal>
+    requires some { 0 < blocks }
+    requires some_workers { 1 ≤ workers }
+    requires workers { workers ≤ MAX_WORKERS }
+    requires bytes { bytes ≡ length (generated_text blocks seed) }
+    requires same { ephemeris.now ≡ generated_ephemeris blocks seed }
+    ensures lines { IfOk result (λ text. IsGeneration blocks seed text.items) }
+    ensures stopped { IfErr result (λ refusal. (refusal ≡ Refusal.Memory)
+        ⊎ (generation_of blocks seed ≡ Err refusal)) }
+{
+    let span = whole_span(ephemeris);
+    let query = conjunctions();
+    match leaves(
+        rt, alloc, ephemeris, &query, span, workers, MAX_LEAVES, gate,
+    ) {
+        Ok(found) => lines_of_leaves(alloc, blocks, seed, bytes, span, &found),
+        Err(refusal) => Err(refusal),
+    }
+}
+
+// The two lines of a generated text.
+fn lines_of_text<R: Threads + Wait + Sync, G: Gate>(
+    rt: &R,
+    alloc: Global,
+    blocks: u32,
+    seed: u64,
+    workers: u32,
+    text: &[u8],
+    gate: &G,
+) -> Result<Vec<u8>, Refusal>
+    requires some { 0 < blocks }
+    requires some_workers { 1 ≤ workers }
+    requires workers { workers ≤ MAX_WORKERS }
+    requires text { text.now ≡ generated_text blocks seed }
+    requires accepted { outcome (text.now ∷ []) ≡ Ok (generated_ephemeris blocks seed) }
+    ensures lines { IfOk result (λ text. IsGeneration blocks seed text.items) }
+    ensures stopped { IfErr result (λ refusal. (refusal ≡ Refusal.Memory)
+        ⊎ (generation_of blocks seed ≡ Err refusal)) }
+{
+    let ephemeris = ephemeris_of_text(alloc, text)?;
+    lines_of(
+        rt,
+        alloc,
+        blocks,
+        seed,
+        workers,
+        text.len(),
+        &ephemeris,
+        gate,
+    )
+}
+
+/// The two lines of the generated text of so many blocks from this seed.
+pub(crate) fn generation_of<R: Threads + Wait + Sync, G: Gate>(
+    rt: &R,
+    alloc: Global,
+    blocks: u32,
+    seed: u64,
+    workers: u32,
+    gate: &G,
+) -> Result<Vec<u8>, Refusal>
+    requires some { 0 < blocks }
+    requires some_workers { 1 ≤ workers }
+    requires workers { workers ≤ MAX_WORKERS }
+    requires few { blocks ≤ MAX_GENERATED }
+    ensures lines { IfOk result (λ text. IsGeneration blocks seed text.items) }
+    ensures stopped { IfErr result (λ refusal. (refusal ≡ Refusal.Memory)
+        ⊎ (generation_of blocks seed ≡ Err refusal)) }
+{
+    let text = generate(alloc, blocks, seed)?;
+    lines_of_text(rt, alloc, blocks, seed, workers, &text, gate)
+}

@@ -1,0 +1,98 @@
+// The leaves of the search that words ask of their files.
+ghost use Rattle.std.specs.Prelude.{◌≡◌, ◌<◌, IfErr, IfOk, true};
+ghost use Rattle.spec_ephemeris.specs.Ticks.{in_ticks};
+ghost use Rattle.spec_requests.specs.Limits.{IsWithinLimits};
+ghost use Rattle.spec_outcomes.specs.Outcomes.{Stops};
+ghost use Rattle.spec_outcomes.specs.Queries.{is_within, query_of, span_of};
+ghost use Rattle.gf_find.specs.Outcomes.{HoldEphemeris};
+ghost use Rattle.gf_find.specs.Searches.{AreSearched, SearchStops};
+ghost use Rattle.gf_find.specs.Reported.{AreNotOpened};
+
+use crate::files::ephemeris_of;
+use eph_model::Ephemeris;
+use gf_edges::{Gate, Shelf};
+use gf_query::span_asked;
+use gf_search::leaves;
+use spec_outcomes::{Refusal, Span, query_of};
+use spec_requests::FindAsk;
+use spec_trees::Leaf;
+use std::alloc::Global;
+use std::sync::Wait;
+use std::thread::Threads;
+
+/// The leaves of a search in order of time, and the span that they follow one another over. Times are in the ticks of the
+/// search since J2000 in TDB.
+#[derive(Drop)]
+pub(crate) struct Searched {
+    pub(crate) span: Span,
+    pub(crate) leaves: Vec<Leaf>,
+}
+
+// Those of a search of a span of an ephemeris that counts its ticks.
+fn search_span<R: Threads + Wait + Sync, G: Gate>(
+    rt: &R,
+    alloc: Global,
+    ephemeris: &Ephemeris,
+    find: &FindAsk,
+    span: Span,
+    most: u32,
+    gate: &G,
+) -> Result<Searched, Refusal>
+    requires block { 0 < ephemeris.now.blocks }
+    requires limits { IsWithinLimits find.now }
+    requires span { span ≡ span_of find.now ephemeris.now }
+    requires within { is_within span ephemeris.now ≡ true }
+    ensures found { IfOk result (λ found.
+        AreSearched most find.now ephemeris.now found.span found.leaves.items) }
+    ensures stopped { IfErr result (λ refusal. Stops most (query_of find.now) ephemeris.now
+        (span_of find.now ephemeris.now) refusal) }
+{
+    let query = query_of(find);
+    match leaves(rt, alloc, ephemeris, &query, span, find.workers, most, gate) {
+        Ok(leaves) => Ok(Searched { span, leaves }),
+        Err(refusal) => Err(refusal),
+    }
+}
+
+// Those of a search of an ephemeris that counts its ticks.
+fn search_ephemeris<R: Threads + Wait + Sync, G: Gate>(
+    rt: &R,
+    alloc: Global,
+    ephemeris: &Ephemeris,
+    find: &FindAsk,
+    most: u32,
+    gate: &G,
+) -> Result<Searched, Refusal>
+    requires block { 0 < ephemeris.now.blocks }
+    requires limits { IsWithinLimits find.now }
+    ensures found { IfOk result (λ found.
+        AreSearched most find.now ephemeris.now found.span found.leaves.items) }
+    ensures stopped { IfErr result (λ refusal. Stops most (query_of find.now) ephemeris.now
+        (span_of find.now ephemeris.now) refusal) }
+{
+    match span_asked(find, ephemeris) {
+        Ok(span) => search_span(rt, alloc, ephemeris, find, span, most, gate),
+        Err(refusal) => Err(refusal),
+    }
+}
+
+/// The leaves of the search that words ask of their files, at most so many.
+pub(crate) fn search_files<R: Threads + Wait + Sync, S: Shelf, G: Gate>(
+    rt: &R,
+    alloc: Global,
+    shelf: &mut S,
+    find: &FindAsk,
+    most: u32,
+    gate: &G,
+) -> Result<Searched, Refusal>
+    requires { IsWithinLimits find.now }
+    ensures found { IfOk result (λ found. HoldEphemeris (S.files shelf.old) find.now.files
+        (λ e. AreSearched most find.now (in_ticks find.now.tick e) found.span found.leaves.items)) }
+    ensures stopped { IfErr result (λ refusal. SearchStops most find.now
+        (S.files shelf.old) (S.faults shelf.old) (S.faults shelf.new) refusal) }
+    ensures unopened { AreNotOpened find.now.files → shelf.new ≡ shelf.old }
+{
+    let ephemeris = ephemeris_of(alloc, shelf, find.files.as_slice())?;
+    let counted = ephemeris.in_ticks(find.tick);
+    search_ephemeris(rt, alloc, &counted, find, most, gate)
+}

@@ -1,0 +1,9 @@
+//! What searches an ephemeris: a query, a span and a number of workers come in, and the leaves of the query's tree over the
+//! span go out in order of time, or why there are none. The workers walk the tree at once, each through a gate. What is made
+//! of the leaves, and what they are searched for, is not known here.
+#![tactic(auto)]
+
+mod book;
+mod search;
+
+pub use search::leaves;

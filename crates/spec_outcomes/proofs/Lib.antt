@@ -1,0 +1,4 @@
+pub mod TextStatuses
+pub mod Searching
+pub mod Following
+pub mod Results

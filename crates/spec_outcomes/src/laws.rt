@@ -1,0 +1,22 @@
+// What is true of every run over an ephemeris.
+ghost use Rattle.std.specs.Prelude.{◌≡◌, ◌≢◌, ◌<◌, None};
+ghost use Rattle.spec_ephemeris.specs.Ephemeris.{Ephemeris, IsEphemeris};
+ghost use Rattle.spec_outcomes.specs.Outcomes.{cause_of};
+ghost use Rattle.spec_outcomes.specs.Queries.{AreFound, IsQuery, leaves_in, search};
+ghost use Rattle.spec_outcomes.specs.Refusals.{status_of};
+
+use crate::query::{Query, Span};
+use crate::refusal::Refusal;
+use crate::statuses::{NOT_WRITTEN, REPORTED};
+
+/// Where there is no cause against a search, the windows of its leaves are those of the query's events.
+pub fn searches_find_the_events()
+    ensures { (q : Query) (e : Ephemeris) (span : Span) → IsEphemeris e → 0 < e.blocks → IsQuery q
+        → cause_of q e span ≡ None → AreFound (search q e) span (leaves_in (search q e) span) }
+{}
+
+/// No cause has a status of a run that has a text.
+pub fn causes_are_no_texts()
+    ensures reported { (refusal : Refusal) → status_of refusal ≢ REPORTED }
+    ensures unwritten { (refusal : Refusal) → status_of refusal ≢ NOT_WRITTEN }
+{}

@@ -1,0 +1,19 @@
+//! What a run over an ephemeris comes to: the definitions that contracts cite. A query, which is what the words of a search
+//! ask of an ephemeris, a span and an ephemeris come in; the leaves of the search go out, the text that they make, or the
+//! cause why there is none, with its status and its line. Nothing here is searched, and no word or file is known.
+#![tactic(auto)]
+
+mod examples;
+mod laws;
+mod query;
+mod refusal;
+mod statuses;
+
+pub use examples::{causes_have_an_order, statuses_of_causes};
+pub use laws::{causes_are_no_texts, searches_find_the_events};
+pub use query::{Query, Span, conjunctions, query_of};
+pub use refusal::Refusal;
+pub use statuses::{
+    EVENT_REFUSED, FILES_REFUSED, NOT_READ, NOT_WRITTEN, OUT_OF_MEMORY, REPORTED, SPAN_REFUSED,
+    TOO_MANY_LEAVES, WORDS_REFUSED,
+};

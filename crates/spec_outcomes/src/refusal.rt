@@ -1,0 +1,100 @@
+// Why a run has nothing to write to its output.
+use crate::query::Span;
+use crate::statuses::{
+    EVENT_REFUSED, FILES_REFUSED, NOT_READ, OUT_OF_MEMORY, SPAN_REFUSED, TOO_MANY_LEAVES,
+    WORDS_REFUSED,
+};
+use spec_faults::{BAD_VALUE, NO_COMMAND, UNKNOWN_COMMAND, WORDS};
+use spec_kinds::EventFault;
+use spec_requests::{Named, Text, WordFault};
+use spec_text::Fault;
+use std::alloc::AllocError;
+
+/// Why a run has nothing to write to its output.
+#[derive(Drop)]
+pub enum Refusal {
+    /// The command line is invalid, by the fault of this number, which an option may have.
+    Words { number: u8, option: Option<Named> },
+    /// The file of this name has the first fault, or is the first of too many.
+    File { name: Text, fault: Fault },
+    /// The file of this name couldn't be read.
+    NotRead { name: Text },
+    /// The span isn't one of the files, whose whole span the other is.
+    Outside { span: Span, whole: Span },
+    /// The event can't be searched for in the files.
+    Event(EventFault),
+    /// The search has more leaves than it may have.
+    TooManyLeaves,
+    /// Out of memory.
+    Memory,
+}
+
+impl Refusal {
+    ghost use Rattle.std.specs.Prelude.{◌≡◌};
+    ghost use Rattle.spec_outcomes.specs.Refusals.{of_fault, status_of};
+
+    /// What a fault of an event is to a run; where there is none, memory is out.
+    pub fn of_fault(fault: Option<EventFault>) -> Refusal
+        ensures { result ≡ of_fault fault }
+    {
+        match fault {
+            Some(fault) => Refusal::Event(fault),
+            None => Refusal::Memory,
+        }
+    }
+
+    /// The status of a run that is refused.
+    pub fn status(&self) -> u8
+        ensures { result ≡ status_of self.now }
+    {
+        match self {
+            Refusal::Words { .. } => WORDS_REFUSED,
+            Refusal::File { .. } => FILES_REFUSED,
+            Refusal::NotRead { .. } => NOT_READ,
+            Refusal::Outside { .. } => SPAN_REFUSED,
+            Refusal::Event(_) => EVENT_REFUSED,
+            Refusal::TooManyLeaves => TOO_MANY_LEAVES,
+            Refusal::Memory => OUT_OF_MEMORY,
+        }
+    }
+}
+
+impl From<WordFault> for Refusal {
+    ghost use Rattle.std.specs.Prelude.{◌≡◌};
+    ghost use Rattle.spec_outcomes.specs.Refusals.{of_words};
+
+    ghost from_gives = { λ fault refusal. refusal ≡ of_words fault };
+
+    fn from(fault: WordFault) -> Self {
+        match fault {
+            WordFault::NoCommand => Refusal::Words {
+                number: NO_COMMAND,
+                option: None,
+            },
+            WordFault::UnknownCommand => Refusal::Words {
+                number: UNKNOWN_COMMAND,
+                option: None,
+            },
+            WordFault::Words => Refusal::Words {
+                number: WORDS,
+                option: None,
+            },
+            WordFault::BadValue(option) => Refusal::Words {
+                number: BAD_VALUE,
+                option: Some(option),
+            },
+            WordFault::Memory => Refusal::Memory,
+        }
+    }
+}
+
+impl From<AllocError> for Refusal {
+    ghost use Rattle.std.specs.Prelude.{◌≡◌};
+    ghost use Rattle.spec_outcomes.specs.declared.refusal.Refusal.TheVariants.{Memory};
+
+    ghost from_gives = { λ _ refusal. refusal ≡ Memory };
+
+    fn from(_: AllocError) -> Self {
+        Refusal::Memory
+    }
+}

@@ -205,6 +205,7 @@ values_are values kind none =
   where
     no_word : IsPlain []
     no_word = record { bytes = tt; short = lit≤ tt }
+
     nought_word : IsPlain (codes "0")
     nought_word = record { bytes = (lit≤ tt, tt); short = lit≤ tt }
 

@@ -22,7 +22,10 @@ pub(crate) struct Answer {
 
 /// Whether the words are those of a search, and name no number of workers themselves.
 pub(crate) fn takes_workers(words: &[&str]) -> bool {
-    let is_search = matches!(words.first(), Some(&"find") | Some(&"gen"));
+    let is_search = matches!(
+        words.first(),
+        Some(&"find") | Some(&"cert") | Some(&"verify") | Some(&"gen")
+    );
     is_search && words.iter().all(|word| !word.starts_with("--workers"))
 }
 

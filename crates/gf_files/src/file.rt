@@ -104,7 +104,7 @@ fn read_rest<S: Shelf>(alloc: Global, shelf: &mut S, file: usize) -> Result<Vec<
 
 /// The bytes of the file of this number and name. One that is too large has a fault, which is found once one byte past
 /// the limit was read.
-pub(crate) fn read_file<S: Shelf>(
+pub fn read_file<S: Shelf>(
     alloc: Global,
     shelf: &mut S,
     file: usize,

@@ -9,6 +9,7 @@ mod files;
 mod reader;
 
 pub use errors::FilesError;
+pub use file::read_file;
 pub use files::{Accepted, read_files};
 
 #[cfg(test)]

@@ -1,9 +1,10 @@
 -- From the text that a run has, or from the cause why it has none, to what it writes and returns.
 use Rattle.std.proofs.Common.{◌≡◌, ◌⊎◌, ℕ, List, Option, Result, Ok, Err, sym, ap, ◌∙◌, subst, arith, inl, inr}
 use Rattle.std.specs.Io.KnownBytes.{Appends}
+use Rattle.spec_ephemeris.specs.Ticks.{in_ticks}
 use Rattle.spec_requests.specs.declared.request.FindAsk.{FindAsk}
 use Rattle.spec_requests.specs.declared.request.Request.{Request}
-use Rattle.spec_requests.specs.declared.request.Request.TheVariants.{Find, Check, Gen}
+use Rattle.spec_requests.specs.declared.request.Request.TheVariants.{Find, Cert, Verify, Check, Gen}
 use Rattle.spec_requests.specs.Requests.{request_of}
 use Rattle.gf_edges.specs.Edges.{Files, Rose}
 use Rattle.spec_outcomes.specs.declared.refusal.Refusal.{Refusal}
@@ -13,11 +14,14 @@ use Rattle.spec_outcomes.specs.Outcomes.{Outcome}
 use Rattle.spec_outcomes.specs.Refusals.{status_of}
 use Rattle.gf_find.specs.Outcomes.{Ask, RequestHasOutcome, HaveCause, HaveOutcome, HoldEphemeris, Words, texts_of}
 use Rattle.gf_find.specs.Finds.{ReportsEvents}
+use Rattle.gf_find.specs.Certifies.{ReportsCertificate}
+use Rattle.gf_find.specs.Verifies.{ReportsVerified}
 use Rattle.gf_find.specs.Checks.{ReportsSummary}
 use Rattle.gf_find.specs.Generates.{ReportsGeneration}
 use Rattle.gf_find.specs.Reported.{KnowsFiles}
 use Rattle.gf_find.specs.Texts.{IsAnswer, IsAnswered}
 use Rattle.gf_find.proofs.Causes.{one_outcome_by}
+use Rattle.gf_find.proofs.Verifying.{verified_outcome}
 
 -- ---- a text
 module _ (words : Words) (files : Option Files) (text : List ℕ) (answered : IsAnswered words files text) where
@@ -36,6 +40,26 @@ module _ (words : Words) (files : Option Files) (text : List ℕ) (answered : Is
         let held = asked_for (Find find) asked in
         record { ephemeris = held.ephemeris; held = held.held; is = record { printed = subst P held.is.printed gained; windows = held.is.windows } }
 
+    pub certifies : (find : FindAsk) → Ask words (Cert find) → HoldEphemeris files find.files (ReportsCertificate find old new)
+    certifies find asked =
+        let held = asked_for (Cert find) asked in
+        record { ephemeris = held.ephemeris; held = held.held; is = subst P held.is.printed gained }
+
+    pub verifies : (find : FindAsk) (cert : List ℕ) → Ask words (Verify find cert) → HoldEphemeris files find.files (ReportsVerified files find cert old new)
+    verifies find cert asked =
+        let held = asked_for (Verify find cert) asked in
+        let holds = held.is.holds in
+        record {
+          ephemeris = held.ephemeris;
+          held = held.held;
+          is = record {
+            text = holds.text;
+            there = holds.there;
+            small = holds.small;
+            is = record { leaves = holds.is.leaves; checked = holds.is.checked; reports = record { printed = subst P holds.is.printed gained; windows = holds.is.windows } };
+          };
+        }
+
     pub checks : (names : List (List ℕ)) → Ask words (Check names) → HoldEphemeris files names (ReportsSummary old new)
     checks names asked =
         let held = asked_for (Check names) asked in
@@ -52,6 +76,8 @@ module _ (words : Words) (files : Option Files) (text : List ℕ) (answered : Is
     where
       by : (request : Request) → IsAnswer request files text → RequestHasOutcome (Ok request) files count now (Ok text)
       by (Find find) held = inl (record { ephemeris = held.ephemeris; held = held.held; is = held.is.outcome })
+      by (Cert find) held = inl (record { ephemeris = held.ephemeris; held = held.held; is = held.is.outcome })
+      by (Verify find cert) held = inl (record { ephemeris = held.ephemeris; held = held.held; is = verified_outcome files find cert count now (in_ticks find.tick held.ephemeris) text held.is })
       by (Check names) held = inl (record { ephemeris = held.ephemeris; held = held.held; is = ap (λ (t : List ℕ). Ok t) (sym held.is) })
       by (Gen blocks seed workers) is = sym is.outcome
 

@@ -4,19 +4,23 @@ use Rattle.std.proofs.lemmas.Option.{slice_get_within}
 use Rattle.std.specs.Prelude.{IsSome, slice_get}
 use Rattle.spec_text.specs.declared.decimals.Fault.{Fault}
 use Rattle.spec_ephemeris.specs.Ephemeris.{Ephemeris}
+use Rattle.spec_ephemeris.specs.Ticks.{in_ticks}
 use Rattle.spec_files.specs.Reading.{AreRefused, IsNotRead}
 use Rattle.spec_files.proofs.Exclusions.{accepted_not_lacking, accepted_not_refused, accepted_once, refused_not_lacking}
 use Rattle.spec_files.proofs.Once.{lacking_once, refused_once}
 use Rattle.spec_requests.specs.declared.request.Request.{Request}
-use Rattle.spec_requests.specs.declared.request.Request.TheVariants.{Find, Check, Gen}
+use Rattle.spec_requests.specs.declared.request.Request.TheVariants.{Find, Cert, Verify, Check, Gen}
 use Rattle.spec_requests.specs.declared.request.WordFault.{WordFault}
 use Rattle.gf_edges.specs.Edges.{Files, Rose}
 use Rattle.spec_outcomes.specs.declared.refusal.Refusal.{Refusal}
 use Rattle.spec_outcomes.specs.declared.refusal.Refusal.TheVariants as R
 use Rattle.spec_outcomes.specs.Outcomes.{Outcome, report_of, summary_of}
-use Rattle.gf_find.specs.Outcomes.{RequestHasOutcome, FilesHaveOutcome, FilesStop, HaveEphemeris, HoldEphemeris, LackFile, RefuseFile}
+use Rattle.spec_outcomes.specs.Certificates.{certificate_of}
+use Rattle.gf_find.specs.CertificateFiles.{VerifyHasOutcome}
+use Rattle.gf_find.specs.Outcomes.{RequestHasOutcome, FilesHave, FilesStop, HaveEphemeris, HoldEphemeris, LackFile, RefuseFile}
 use Rattle.gf_find.specs.Reported.{AreNotOpened, OpensNone}
 use Rattle.gf_find.proofs.Accepted.{none_held}
+use Rattle.gf_find.proofs.Certified.{verify_once}
 
 abbrev Texts : Type 0
 Texts = List (List ℕ)
@@ -77,13 +81,13 @@ module _ (known : Files) (names : Texts) (count now : ℕ) where
   one_stop r s (inr (inr a)) (inr (inl b)) = inl (refused_not_lacking known names b.file b.fault count now a.file b.cause a.cause)
   one_stop r s (inr (inr a)) (inr (inr b)) = one_lack r s a b
 
-  pub files_once : (f : Ephemeris → Outcome) (a b : Outcome) → FilesHaveOutcome (Some known) names count now f a → FilesHaveOutcome (Some known) names count now f b
-      → Rose count now ⊎ (a ≡ b)
-  files_once f a b (inl p) (inl q) =
-      let one = one_ephemeris (λ e. f e ≡ a) (λ e. f e ≡ b) p q in inr (sym one.1 ∙ one.2)
-  files_once f a b (inl p) (inr q) = inl (held_stops (λ e. f e ≡ a) q.0 p q.1)
-  files_once f a b (inr p) (inl q) = inl (held_stops (λ e. f e ≡ b) p.0 q p.1)
-  files_once f a b (inr p) (inr q) = same (one_stop p.0 q.0 p.1 q.1)
+  -- where an ephemeris has one outcome, so have files
+  pub files_once : (P : Ephemeris → Outcome → Type 0) (a b : Outcome) → ((e : Ephemeris) → P e a → P e b → Rose count now ⊎ (a ≡ b))
+      → FilesHave (Some known) names count now P a → FilesHave (Some known) names count now P b → Rose count now ⊎ (a ≡ b)
+  files_once P a b once (inl p) (inl q) = let one = one_ephemeris (λ e. P e a) (λ e. P e b) p q in once one.0 one.1 one.2
+  files_once P a b once (inl p) (inr q) = inl (held_stops (λ e. P e a) q.0 p q.1)
+  files_once P a b once (inr p) (inl q) = inl (held_stops (λ e. P e b) p.0 q p.1)
+  files_once P a b once (inr p) (inr q) = same (one_stop p.0 q.0 p.1 q.1)
     where
       same : Rose count now ⊎ (p.0 ≡ q.0) → Rose count now ⊎ (a ≡ b)
       same (inl rose) = inl rose
@@ -107,27 +111,40 @@ module _ (files : Option Files) (names : Texts) (count now : ℕ) where
   ]
   unopened_stop r (inr many) (inr (inr a)) = let few = a.cause.few in absurd (omega (arith, many, few))
 
-  unopened_outcome : (f : Ephemeris → Outcome) (a : Outcome) → AreNotOpened names → FilesHaveOutcome files names count now f a → FilesHaveOutcome (Some []) names count now f a
-  unopened_outcome f a not (inl p) = absurd (unopened_held (λ e. f e ≡ a) not p)
-  unopened_outcome f a not (inr p) = inr (p.0, unopened_stop p.0 not p.1, p.2)
+  -- so no ephemeris has a part in their outcome
+  unopened_outcome : (P : Ephemeris → Outcome → Type 0) (a : Outcome) → AreNotOpened names → FilesHave files names count now P a → FilesHave (Some []) names count now (λ e o. ⊥) a
+  unopened_outcome P a not (inl p) = absurd (unopened_held (λ e. P e a) not p)
+  unopened_outcome P a not (inr p) = inr (p.0, unopened_stop p.0 not p.1, p.2)
 
-  unopened_once : (f : Ephemeris → Outcome) (a b : Outcome) → AreNotOpened names → FilesHaveOutcome files names count now f a → FilesHaveOutcome files names count now f b
+  unopened_once : (P : Ephemeris → Outcome → Type 0) (a b : Outcome) → AreNotOpened names → FilesHave files names count now P a → FilesHave files names count now P b
       → Rose count now ⊎ (a ≡ b)
-  unopened_once f a b not p q = files_once [] names count now f a b (unopened_outcome f a not p) (unopened_outcome f b not q)
+  unopened_once P a b not p q =
+      files_once [] names count now (λ e o. ⊥) a b (λ e one two. absurd one) (unopened_outcome P a not p) (unopened_outcome P b not q)
+
+-- a function of the ephemeris has one value
+value_once : (count now : ℕ) (f : Ephemeris → Outcome) (a b : Outcome) (e : Ephemeris) → f e ≡ a → f e ≡ b → Rose count now ⊎ (a ≡ b)
+value_once count now f a b e one two = inr (sym one ∙ two)
 
 -- a run has one outcome
 known_once : (known : Files) (count now : ℕ) (asked : Result Request WordFault) (a b : Outcome)
     → RequestHasOutcome asked (Some known) count now a → RequestHasOutcome asked (Some known) count now b → Rose count now ⊎ (a ≡ b)
 known_once known count now (Err fault) a b p q = inr (p ∙ sym q)
-known_once known count now (Ok (Find find)) a b p q = files_once known find.files count now (report_of find) a b p q
-known_once known count now (Ok (Check names)) a b p q = files_once known names count now summary_of a b p q
+known_once known count now (Ok (Find find)) a b p q = files_once known find.files count now (λ e o. report_of find e ≡ o) a b (value_once count now (report_of find) a b) p q
+known_once known count now (Ok (Cert find)) a b p q = files_once known find.files count now (λ e o. certificate_of find e ≡ o) a b (value_once count now (certificate_of find) a b) p q
+known_once known count now (Ok (Verify find cert)) a b p q =
+    files_once known find.files count now (λ e o. VerifyHasOutcome (Some known) find cert count now (in_ticks find.tick e) o) a b
+    (λ e one two. verify_once known cert count now find (in_ticks find.tick e) a b one two) p q
+known_once known count now (Ok (Check names)) a b p q = files_once known names count now (λ e o. summary_of e ≡ o) a b (value_once count now summary_of a b) p q
 known_once known count now (Ok (Gen blocks seed workers)) a b p q = inr (p ∙ sym q)
 
 none_opened_once : (files : Option Files) (count now : ℕ) (asked : Result Request WordFault) (a b : Outcome) → OpensNone asked
     → RequestHasOutcome asked files count now a → RequestHasOutcome asked files count now b → Rose count now ⊎ (a ≡ b)
 none_opened_once files count now (Err fault) a b none p q = inr (p ∙ sym q)
-none_opened_once files count now (Ok (Find find)) a b none p q = unopened_once files find.files count now (report_of find) a b none p q
-none_opened_once files count now (Ok (Check names)) a b none p q = unopened_once files names count now summary_of a b none p q
+none_opened_once files count now (Ok (Find find)) a b none p q = unopened_once files find.files count now (λ e o. report_of find e ≡ o) a b none p q
+none_opened_once files count now (Ok (Cert find)) a b none p q = unopened_once files find.files count now (λ e o. certificate_of find e ≡ o) a b none p q
+none_opened_once files count now (Ok (Verify find cert)) a b none p q =
+    unopened_once files find.files count now (λ e o. VerifyHasOutcome files find cert count now (in_ticks find.tick e) o) a b none p q
+none_opened_once files count now (Ok (Check names)) a b none p q = unopened_once files names count now (λ e o. summary_of e ≡ o) a b none p q
 none_opened_once files count now (Ok (Gen blocks seed workers)) a b none p q = inr (p ∙ sym q)
 
 pub one_outcome_by : (files : Option Files) (count now : ℕ) (asked : Result Request WordFault) (a b : Outcome) → OpensNone asked ⊎ IsSome files

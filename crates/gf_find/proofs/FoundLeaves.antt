@@ -17,13 +17,17 @@ use Rattle.spec_outcomes.specs.declared.query.Span.{Span}
 use Rattle.spec_outcomes.specs.declared.refusal.Refusal.{Refusal}
 use Rattle.spec_outcomes.specs.declared.refusal.Refusal.TheVariants.{Memory, Outside}
 use Rattle.spec_outcomes.specs.Outcomes.{IsFound, Stops, found, report_by, text_by}
+use Rattle.spec_outcomes.specs.Certificates.{certificate_by}
+use Rattle.spec_certificates.specs.declared.limits.TheConstants.{MAX_CERT_LEAVES}
 use Rattle.spec_outcomes.specs.Queries.{AreFound, IsQuery, is_within, query_of, search, span_of, whole_span}
 use Rattle.spec_outcomes.proofs.Searching.{outside_stops}
 use Rattle.gf_find.specs.Outcomes.{FilesHaveOutcome, FilesStop, HaveEphemeris, HoldEphemeris}
 use Rattle.gf_find.specs.Searches.{AreSearched, SearchStops}
 use Rattle.gf_find.specs.Finds.{IsCountedReport, IsReport}
+use Rattle.gf_find.specs.Certifies.{IsCertificate, IsCountedCertificate}
 use Rattle.gf_find.proofs.Accepted.{in_seconds, is_checked}
-use Rattle.gf_find.proofs.Times.{end_counted, from_is, start_counted, upto_is, windows_are}
+use Rattle.spec_outcomes.proofs.SpanTimes.{from_is, upto_is, windows_are}
+use Rattle.gf_find.proofs.Times.{end_counted, start_counted}
 
 -- out of memory, or another cause
 pub memory_also : {X : Type 0} (P : Refusal → Type 0) (r : Result X Refusal) → IfErr r (λ refusal. refusal ≡ Memory) → IfErr r (λ refusal. (refusal ≡ Memory) ⊎ P refusal)
@@ -90,7 +94,7 @@ module _ (files : Option Files) (find : FindAsk) (most : ℕ) (span : Span) (ls 
   follow_one_another = held.is.found.follow
 
   pub have_times : All (HasTimes find.tick) (windows ls)
-  have_times = windows_are find.tick counted start end span held.is.found.within (search (query_of find) counted) ls held.is.found.windows
+  have_times = windows_are find.tick span from_time upto_time (search (query_of find) counted) ls held.is.found.windows
 
 -- the report of their windows
 module _ (find : FindAsk) (e : Ephemeris) where
@@ -116,4 +120,29 @@ report_held files find span ls shown text held same printed = record {
   ephemeris = held.ephemeris;
   held = held.held;
   is = report_is find (in_ticks find.tick held.ephemeris) span ls text held.is (printed ∙ ap (report_by find span) same);
+}
+
+-- the certificate of the leaves
+module _ (find : FindAsk) (e : Ephemeris) where
+  abbrev over : Span
+  over = span_of find e
+
+  certificate_here : (ls : List Leaf) (text : List ℕ) → IsFound MAX_CERT_LEAVES (query_of find) e over ls → text ≡ certificate_by find over ls → IsCountedCertificate find text e
+  certificate_here ls text is printed = record {
+    outcome = ap (text_by (certificate_by find over)) is.outcome ∙ ap (λ (t : List ℕ). Ok t) (sym printed);
+    printed = printed ∙ ap (certificate_by find over) is.same;
+  }
+
+  certificate_is : (span : Span) (ls : List Leaf) (text : List ℕ) → AreSearched MAX_CERT_LEAVES find e span ls → text ≡ certificate_by find span ls → IsCountedCertificate find text e
+  certificate_is span ls text is printed =
+      certificate_here ls text (subst (λ (s : Span). IsFound MAX_CERT_LEAVES (query_of find) e s ls) is.span_is is.found)
+      (printed ∙ ap (λ (s : Span). certificate_by find s ls) is.span_is)
+
+pub certificate_held : (files : Option Files) (find : FindAsk) (span : Span) (ls shown : List Leaf) (text : List ℕ)
+    → HoldEphemeris files find.files (λ e. AreSearched MAX_CERT_LEAVES find (in_ticks find.tick e) span ls) → shown ≡ ls → text ≡ certificate_by find span shown
+    → HoldEphemeris files find.files (IsCertificate find text)
+certificate_held files find span ls shown text held same printed = record {
+  ephemeris = held.ephemeris;
+  held = held.held;
+  is = certificate_is find (in_ticks find.tick held.ephemeris) span ls text held.is (printed ∙ ap (certificate_by find span) same);
 }

@@ -7,3 +7,5 @@ pub mod Answered
 pub mod Reporting
 pub mod FoundLeaves
 pub mod Workers
+pub mod Certified
+pub mod Verifying

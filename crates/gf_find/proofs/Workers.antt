@@ -1,7 +1,7 @@
 -- The number of workers is no part of the outcome.
 use Rattle.std.proofs.Common.{ℕ, Option, Ok, sym, subst}
 use Rattle.spec_requests.specs.declared.request.Request.{Request}
-use Rattle.spec_requests.specs.declared.request.Request.TheVariants.{Find, Check, Gen}
+use Rattle.spec_requests.specs.declared.request.Request.TheVariants.{Find, Cert, Verify, Check, Gen}
 use Rattle.gf_edges.specs.Edges.{Files}
 use Rattle.spec_outcomes.specs.Outcomes.{Outcome}
 use Rattle.gf_find.specs.Outcomes.{Ask, RequestHasOutcome, HaveOutcome, Words, with_workers}
@@ -9,6 +9,8 @@ use Rattle.gf_find.specs.Outcomes.{Ask, RequestHasOutcome, HaveOutcome, Words, w
 same_by : (request : Request) (count : ℕ) (files : Option Files) (before now : ℕ) (outcome : Outcome) → RequestHasOutcome (Ok request) files before now outcome
     → RequestHasOutcome (Ok (with_workers count request)) files before now outcome
 same_by (Find find) count files before now outcome has = has
+same_by (Cert find) count files before now outcome has = has
+same_by (Verify find cert) count files before now outcome has = has
 same_by (Check names) count files before now outcome has = has
 same_by (Gen blocks seed workers) count files before now outcome has = has
 

@@ -1,6 +1,9 @@
+pub mod CertificateFiles
 pub mod Outcomes
 pub mod Searches
 pub mod Finds
+pub mod Certifies
+pub mod Verifies
 pub mod Checks
 pub mod Generates
 pub mod Texts

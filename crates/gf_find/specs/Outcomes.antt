@@ -1,21 +1,24 @@
 -- The outcome of a run: that of the ephemeris of its files, or the cause why they have none. Where the files are known, a run has
 -- one outcome, and the causes stand in the order in which they are looked for: the words, the files, the span, the event, the
--- leaves of the search.
+-- leaves of the search, the file of a certificate, its lines.
 use Rattle.std.specs.Prelude.{◌≡◌, ◌⊎◌, ℕ, List, [], map, slice_get, Option, None, Some, Result, Ok, Err, String, string_bytes}
 use Rattle.std.specs.declared.alloc.Global.{Global}
 use Rattle.spec_text.specs.declared.decimals.Fault.{Fault}
 use Rattle.spec_faults.specs.declared.numbers.TheConstants.{WORDS}
 use Rattle.spec_ephemeris.specs.Ephemeris.{Ephemeris}
+use Rattle.spec_ephemeris.specs.Ticks.{in_ticks}
 use Rattle.spec_files.specs.Reading.{AreAccepted, AreRefused, IsNotRead}
 use Rattle.spec_requests.specs.declared.request.Request.{Request}
-use Rattle.spec_requests.specs.declared.request.Request.TheVariants.{Find, Check, Gen}
+use Rattle.spec_requests.specs.declared.request.Request.TheVariants.{Find, Cert, Verify, Check, Gen}
 use Rattle.spec_requests.specs.declared.request.WordFault.{WordFault}
 use Rattle.spec_requests.specs.Requests.{request_of}
 use Rattle.gf_edges.specs.Edges.{Files}
 use Rattle.spec_outcomes.specs.declared.refusal.Refusal.{Refusal}
 use Rattle.spec_outcomes.specs.declared.refusal.Refusal.TheVariants as R
 use Rattle.spec_outcomes.specs.Outcomes.{Outcome, generation_of, report_of, summary_of}
+use Rattle.spec_outcomes.specs.Certificates.{certificate_of}
 use Rattle.spec_outcomes.specs.Refusals.{of_words}
+use Rattle.gf_find.specs.CertificateFiles.{VerifyHasOutcome}
 
 -- ---- of files
 -- the files of these names are accepted, with this ephemeris
@@ -56,11 +59,15 @@ abbrev pub FilesStop : Option Files → List (List ℕ) → ℕ → ℕ → Refu
 FilesStop files names count now refusal =
     NameNoFile names refusal ⊎ (RefuseFile files names refusal ⊎ LackFile files names count now refusal)
 
--- files that are accepted have the outcome of their ephemeris
-abbrev pub FilesHaveOutcome : Option Files → List (List ℕ) → ℕ → ℕ → (Ephemeris → Outcome) → Outcome → Type 0
-FilesHaveOutcome files names count now of_ephemeris outcome =
-    HoldEphemeris files names (λ e. of_ephemeris e ≡ outcome)
+-- files that are accepted have an outcome of their ephemeris
+abbrev pub FilesHave : Option Files → List (List ℕ) → ℕ → ℕ → (Ephemeris → Outcome → Type 0) → Outcome → Type 0
+FilesHave files names count now of_ephemeris outcome =
+    HoldEphemeris files names (λ e. of_ephemeris e outcome)
     ⊎ ((refusal : Refusal) × FilesStop files names count now refusal × (outcome ≡ Err refusal))
+
+-- the same where an ephemeris has one outcome
+abbrev pub FilesHaveOutcome : Option Files → List (List ℕ) → ℕ → ℕ → (Ephemeris → Outcome) → Outcome → Type 0
+FilesHaveOutcome files names count now of_ephemeris outcome = FilesHave files names count now (λ e o. of_ephemeris e ≡ o) outcome
 
 -- ---- of words
 abbrev pub Words : Type 0
@@ -76,6 +83,9 @@ Ask words request = request_of (texts_of words) ≡ Ok request
 abbrev pub RequestHasOutcome : Result Request WordFault → Option Files → ℕ → ℕ → Outcome → Type 0
 RequestHasOutcome (Err fault) files count now outcome = outcome ≡ Err (of_words fault)
 RequestHasOutcome (Ok (Find find)) files count now outcome = FilesHaveOutcome files find.files count now (report_of find) outcome
+RequestHasOutcome (Ok (Cert find)) files count now outcome = FilesHaveOutcome files find.files count now (certificate_of find) outcome
+RequestHasOutcome (Ok (Verify find cert)) files count now outcome =
+    FilesHave files find.files count now (λ e o. VerifyHasOutcome files find cert count now (in_ticks find.tick e) o) outcome
 RequestHasOutcome (Ok (Check names)) files count now outcome = FilesHaveOutcome files names count now summary_of outcome
 RequestHasOutcome (Ok (Gen blocks seed workers)) files count now outcome = outcome ≡ generation_of blocks seed
 
@@ -87,6 +97,8 @@ HaveOutcome words files count now outcome = RequestHasOutcome (request_of (texts
 -- the same request, by so many workers
 abbrev pub with_workers : ℕ → Request → Request
 with_workers count (Find find) = Find (record find { workers = count })
+with_workers count (Cert find) = Cert (record find { workers = count })
+with_workers count (Verify find cert) = Verify (record find { workers = count }) cert
 with_workers count (Check names) = Check names
 with_workers count (Gen blocks seed workers) = Gen blocks seed count
 

@@ -4,7 +4,7 @@ use Rattle.std.specs.Prelude.{◌≡◌, ◌⊎◌, ◌<◌, ℕ, List, length, 
 use Rattle.std.specs.Io.KnownBytes.{Appends}
 use Rattle.spec_files.specs.declared.limits.TheConstants.{MAX_FILES}
 use Rattle.spec_requests.specs.declared.request.Request.{Request}
-use Rattle.spec_requests.specs.declared.request.Request.TheVariants.{Find, Check, Gen}
+use Rattle.spec_requests.specs.declared.request.Request.TheVariants.{Find, Cert, Verify, Check, Gen}
 use Rattle.spec_requests.specs.declared.request.WordFault.{WordFault}
 use Rattle.spec_requests.specs.Requests.{request_of}
 use Rattle.spec_output.specs.Writing.{AppendsPart}
@@ -28,6 +28,8 @@ AreNotOpened names = (length names ≡ 0) ⊎ (MAX_FILES < length names)
 abbrev pub OpensNone : Result Request WordFault → Type 0
 OpensNone (Err fault) = Unit {0}
 OpensNone (Ok (Find find)) = AreNotOpened find.files
+OpensNone (Ok (Cert find)) = AreNotOpened find.files
+OpensNone (Ok (Verify find cert)) = AreNotOpened find.files
 OpensNone (Ok (Check names)) = AreNotOpened names
 OpensNone (Ok (Gen blocks seed workers)) = Unit {0}
 

@@ -1,16 +1,21 @@
 -- The text that a run has is what its words ask for.
 use Rattle.std.specs.Prelude.{◌≡◌, ℕ, List, Option}
+use Rattle.spec_ephemeris.specs.Ticks.{in_ticks}
 use Rattle.spec_requests.specs.declared.request.Request.{Request}
-use Rattle.spec_requests.specs.declared.request.Request.TheVariants.{Find, Check, Gen}
+use Rattle.spec_requests.specs.declared.request.Request.TheVariants.{Find, Cert, Verify, Check, Gen}
 use Rattle.spec_output.specs.Summary.{summary}
 use Rattle.gf_edges.specs.Edges.{Files}
 use Rattle.gf_find.specs.Outcomes.{Ask, HoldEphemeris, Words}
 use Rattle.gf_find.specs.Finds.{IsReport}
+use Rattle.gf_find.specs.Certifies.{IsCertificate}
+use Rattle.gf_find.specs.Verifies.{IsVerified}
 use Rattle.gf_find.specs.Generates.{IsGeneration}
 
 -- the text is what a request asks for
 abbrev pub IsAnswer : Request → Option Files → List ℕ → Type 0
 IsAnswer (Find find) files text = HoldEphemeris files find.files (IsReport find text)
+IsAnswer (Cert find) files text = HoldEphemeris files find.files (IsCertificate find text)
+IsAnswer (Verify find cert) files text = HoldEphemeris files find.files (λ e. IsVerified files find cert (in_ticks find.tick e) text)
 IsAnswer (Check names) files text = HoldEphemeris files names (λ e. text ≡ summary e)
 IsAnswer (Gen blocks seed workers) files text = IsGeneration blocks seed text
 

@@ -5,9 +5,11 @@ ghost use Rattle.gf_find.specs.Outcomes.{HaveCause, texts_of};
 ghost use Rattle.gf_find.specs.Reported.{OpensNone};
 ghost use Rattle.gf_find.specs.Texts.{IsAnswered};
 
+use crate::cert::certificate_in_files;
 use crate::check::summary_of_files;
 use crate::find::find_in_files;
 use crate::generated::generation_of;
+use crate::verify::verify_in_files;
 use gf_edges::{Gate, Shelf};
 use gf_words::request;
 use spec_outcomes::Refusal;
@@ -32,6 +34,8 @@ pub(crate) fn answer<R: Threads + Wait + Sync, S: Shelf, G: Gate>(
 {
     match request(alloc, words)? {
         Request::Find(find) => find_in_files(rt, alloc, shelf, &find, gate),
+        Request::Cert(find) => certificate_in_files(rt, alloc, shelf, &find, gate),
+        Request::Verify { find, cert } => verify_in_files(alloc, shelf, &find, &cert),
         Request::Check { files } => summary_of_files(alloc, shelf, files.as_slice()),
         Request::Gen {
             blocks,

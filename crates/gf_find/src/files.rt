@@ -1,5 +1,5 @@
 // The ephemeris of named files.
-ghost use Rattle.std.specs.Prelude.{◌≡◌, ◌⊎◌, ◌<◌, ℕ, List, Some, IfErr, IfOk, length, slice_get};
+ghost use Rattle.std.specs.Prelude.{◌≡◌, ◌⊎◌, ◌<◌, ◌≤◌, ℕ, List, Some, IfErr, IfOk, length, slice_get};
 ghost use Rattle.gf_find.specs.Outcomes.{FilesStop, HaveEphemeris, texts_of};
 ghost use Rattle.gf_find.specs.Reported.{AreNotOpened};
 
@@ -18,16 +18,33 @@ fn text(alloc: Global, name: &str) -> Result<Text, AllocError>
     Ok(Text::new(String::from_str(alloc, name)?))
 }
 
+/// The refusal of the file of this name, which has this fault.
+pub(crate) fn refused_as(alloc: Global, name: &str, fault: Fault) -> Refusal
+    ensures { (result ≡ Refusal.Memory) ⊎ (result ≡ Refusal.File name.now fault) }
+{
+    match text(alloc, name) {
+        Ok(name) => Refusal::File { name, fault },
+        Err(AllocError) => Refusal::Memory,
+    }
+}
+
+/// The refusal of the file of this name, which couldn't be read.
+pub(crate) fn not_read_as(alloc: Global, name: &str) -> Refusal
+    ensures { (result ≡ Refusal.Memory) ⊎ (result ≡ Refusal.NotRead name.now) }
+{
+    match text(alloc, name) {
+        Ok(name) => Refusal::NotRead { name },
+        Err(AllocError) => Refusal::Memory,
+    }
+}
+
 // This file has this fault.
 fn refused(alloc: Global, names: &[String], file: usize, fault: Fault) -> Refusal
     requires { file < length names.now }
     ensures { (result ≡ Refusal.Memory) ⊎ ((name : List ℕ)
         × (slice_get (texts_of names.now) file ≡ Some name) × (result ≡ Refusal.File name fault)) }
 {
-    match text(alloc, &names[file]) {
-        Ok(name) => Refusal::File { name, fault },
-        Err(AllocError) => Refusal::Memory,
-    }
+    refused_as(alloc, &names[file], fault)
 }
 
 // This file couldn't be read.
@@ -36,10 +53,7 @@ fn not_read(alloc: Global, names: &[String], file: usize) -> Refusal
     ensures { (result ≡ Refusal.Memory) ⊎ ((name : List ℕ)
         × (slice_get (texts_of names.now) file ≡ Some name) × (result ≡ Refusal.NotRead name)) }
 {
-    match text(alloc, &names[file]) {
-        Ok(name) => Refusal::NotRead { name },
-        Err(AllocError) => Refusal::Memory,
-    }
+    not_read_as(alloc, &names[file])
 }
 
 /// The ephemeris of the files of these names. No name at all is a fault of the words.
@@ -53,6 +67,8 @@ pub(crate) fn ephemeris_of<S: Shelf>(
         ⊎ FilesStop (S.files shelf.old) (texts_of names.now)
         (S.faults shelf.old) (S.faults shelf.new) refusal) }
     ensures unopened { AreNotOpened (texts_of names.now) → shelf.new ≡ shelf.old }
+    ensures files { S.files shelf.new ≡ S.files shelf.old }
+    ensures later { S.faults shelf.old ≤ S.faults shelf.new }
 {
     if names.is_empty() {
         return Err(Refusal::Words {

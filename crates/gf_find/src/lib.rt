@@ -4,6 +4,8 @@
 #![tactic(auto)]
 
 mod answer;
+mod cert;
+mod certificate_file;
 mod check;
 mod files;
 mod find;
@@ -13,12 +15,13 @@ mod messages;
 mod searched;
 mod text_shelf;
 mod top;
+mod verify;
 mod writing;
 
 pub use laws::{a_run_has_one_outcome, the_number_of_workers_changes_no_byte};
 pub use spec_outcomes::{
-    EVENT_REFUSED, FILES_REFUSED, NOT_READ, NOT_WRITTEN, OUT_OF_MEMORY, REPORTED, Refusal,
-    SPAN_REFUSED, Span, TOO_MANY_LEAVES, WORDS_REFUSED,
+    CERTIFICATE_REFUSED, EVENT_REFUSED, FILES_REFUSED, NOT_READ, NOT_WRITTEN, OUT_OF_MEMORY,
+    REPORTED, Refusal, SPAN_REFUSED, Span, TOO_MANY_LEAVES, WORDS_REFUSED,
 };
 pub use top::finder;
 

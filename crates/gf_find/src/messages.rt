@@ -2,7 +2,7 @@
 ghost use Rattle.std.specs.Prelude.{◌≡◌, ◌++◌, IfOk, OnOk, option_map};
 ghost use Rattle.std.specs.Fmt.{decimal, signed_decimal};
 ghost use Rattle.spec_faults.specs.Shown.{kind_of};
-ghost use Rattle.spec_output.specs.Messages.{after_blank, detail_text, event_text, fault_text, file_text, kind_text, leaves_text, memory_text, outside_text, read_text, times, title, words_text};
+ghost use Rattle.spec_output.specs.Messages.{after_blank, certificate_text, detail_text, event_text, fault_text, file_text, kind_text, leaves_text, memory_text, outside_text, read_text, times, title, words_text};
 ghost use Rattle.spec_requests.specs.Names.{option_name};
 ghost use Rattle.spec_outcomes.specs.Refusals.{line_of};
 
@@ -11,13 +11,6 @@ use spec_outcomes::{Refusal, Span};
 use spec_requests::{Named, option_name};
 use spec_text::Fault;
 use std::alloc::{AllocError, Global};
-
-// The line of a search that has more leaves than it may have.
-fn leaves_line() -> &'static [u8]
-    ensures { result.now ≡ leaves_text }
-{
-    b"finder: more than 33554432 leaves\n"
-}
 
 // A number, and a text after it.
 fn add_number(text: &mut Vec<u8>, number: u32, after: &[u8]) -> Result<(), AllocError>
@@ -108,6 +101,28 @@ fn event_line(alloc: Global, number: u8) -> Result<Vec<u8>, AllocError>
     Ok(text)
 }
 
+// The line of a search that has more leaves than it may have, which are so many.
+fn leaves_line(alloc: Global, most: u32) -> Result<Vec<u8>, AllocError>
+    ensures { IfOk result (λ text. text.items ≡ leaves_text most) }
+{
+    let mut text = Vec::new(alloc);
+    text.extend_from_slice(b"finder: more than ")?;
+    add_number(&mut text, most, b" leaves\n")?;
+    Ok(text)
+}
+
+// The line of a certificate that breaks the rule of this number in this line.
+fn certificate_line(alloc: Global, line: u32, number: u8) -> Result<Vec<u8>, AllocError>
+    ensures { IfOk result (λ text. text.items ≡ certificate_text line number) }
+{
+    let mut text = Vec::new(alloc);
+    text.extend_from_slice(b"finder: certificate line ")?;
+    add_number(&mut text, line, b": ")?;
+    add_fault(&mut text, number, 0)?;
+    text.extend_from_slice(b"\n")?;
+    Ok(text)
+}
+
 // The name of an option after a blank, where there is one.
 fn add_option(text: &mut Vec<u8>, option: Option<Named>) -> Result<(), AllocError>
     ensures { OnOk result (text.new.items
@@ -182,7 +197,8 @@ pub(crate) fn line_of(alloc: Global, refusal: &Refusal) -> Result<Vec<u8>, Alloc
         Refusal::NotRead { name } => read_line(alloc, name.as_str()),
         Refusal::Outside { span, whole } => outside_line(alloc, *span, *whole),
         Refusal::Event(fault) => event_line(alloc, fault.number()),
-        Refusal::TooManyLeaves => leaves_line().to_vec(alloc),
+        Refusal::TooManyLeaves { most } => leaves_line(alloc, *most),
+        Refusal::Certificate { line, number } => certificate_line(alloc, *line, *number),
         Refusal::Memory => memory_line().to_vec(alloc),
     }
 }

@@ -214,8 +214,8 @@ fn noting(alloc: Global, fails: u64) -> Result<NotingShelf, AllocError> {
 }
 
 // Words, the call of the shelf that fails, the status, and the names that are opened: those of the words, in their order,
-// up to the first file that can't be read or has a fault.
-const OPENED: [(&str, u64, u8, &str); 10] = [
+// up to the first file that can't be read or has a fault. A certificate is opened after them, where its search could be made.
+const OPENED: [(&str, u64, u8, &str); 14] = [
     (
         "find --kind coord --target mercury --axis x a b c",
         0,
@@ -244,6 +244,30 @@ const OPENED: [(&str, u64, u8, &str); 10] = [
         0,
         WORDS_REFUSED,
         "",
+    ),
+    (
+        "verify --kind coord --target venus --axis x --cert c a b",
+        0,
+        EVENT_REFUSED,
+        "a b ",
+    ),
+    (
+        "verify --kind coord --target mercury --axis x --to 2721601 --cert c a b",
+        0,
+        SPAN_REFUSED,
+        "a b ",
+    ),
+    (
+        "verify --kind coord --target mercury --axis x --cert c a b",
+        0,
+        CERTIFICATE_REFUSED,
+        "a b c ",
+    ),
+    (
+        "verify --kind coord --target mercury --axis x --cert d a b",
+        0,
+        NOT_READ,
+        "a b d ",
     ),
     ("gen 405 1 7", 0, REPORTED, ""),
 ];

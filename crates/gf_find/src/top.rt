@@ -2,7 +2,7 @@
 ghost use Rattle.std.specs.Prelude.{◌≡◌, ◌≢◌, ◌⊎◌, List, ℕ, Err, Ok};
 ghost use Rattle.std.specs.Io.KnownBytes.{Appends, Keeps};
 ghost use Rattle.spec_requests.specs.declared.request.FindAsk.{FindAsk};
-ghost use Rattle.spec_requests.specs.declared.request.Request.TheVariants.{Find, Check, Gen};
+ghost use Rattle.spec_requests.specs.declared.request.Request.TheVariants.{Find, Cert, Verify, Check, Gen};
 ghost use Rattle.spec_requests.specs.Requests.{request_of};
 ghost use Rattle.spec_output.specs.Messages.{memory_text, write_text};
 ghost use Rattle.spec_output.specs.Writing.{AppendsPart, Receives};
@@ -10,6 +10,8 @@ ghost use Rattle.gf_edges.specs.Edges.{Rose};
 ghost use Rattle.gf_find.specs.Outcomes.{Ask, HaveCause, HaveOutcome, HoldEphemeris, texts_of};
 ghost use Rattle.spec_outcomes.specs.Refusals.{line_of, status_of};
 ghost use Rattle.gf_find.specs.Finds.{ReportsEvents};
+ghost use Rattle.gf_find.specs.Certifies.{ReportsCertificate};
+ghost use Rattle.gf_find.specs.Verifies.{ReportsVerified};
 ghost use Rattle.gf_find.specs.Checks.{ReportsSummary};
 ghost use Rattle.gf_find.specs.Generates.{ReportsGeneration};
 ghost use Rattle.gf_find.specs.Reported.{KnowsFiles, OpensNone, ReportsPart, ReportsWhole};
@@ -24,20 +26,21 @@ use std::sync::Wait;
 use std::thread::Threads;
 
 /// Does what the words of the command line, without the program's name, ask for: writes a text to `out`, or the line of
-/// an error to `err`, and returns the status. The words are `find` with options and files, `check` with files, or `gen`
-/// with a layout, a number of blocks and a seed.
+/// an error to `err`, and returns the status. The words are `find`, `cert` or `verify` with options and files, `check` with
+/// files, or `gen` with a layout, a number of blocks and a seed.
 ///
 /// | Status | Meaning |
 /// |---|---|
-/// | 0 | the report, the summary or the lines of the generated text were written whole |
+/// | 0 | the report, the certificate, the summary or the lines of the generated text were written whole |
 /// | 2 | the command line is invalid |
-/// | 3 | the files have a first fault, or there are too many |
+/// | 3 | the files have a first fault, or there are too many; or the certificate's is too large |
 /// | 4 | a file couldn't be read |
 /// | 5 | the text couldn't be written whole |
 /// | 6 | the span that is asked for isn't one of the files |
 /// | 7 | the event can't be searched for in the files: a body is absent, two are the same, a number is out of range |
 /// | 8 | out of memory |
-/// | 9 | the search has more than 33,554,432 leaves |
+/// | 9 | the search has more than 33,554,432 leaves, or than 4,194,304 for a certificate |
+/// | 10 | the certificate breaks a rule |
 pub fn finder<R: Threads + Wait + Sync, S: Shelf, O: Sink, E: Sink, G: Gate>(
     rt: &R,
     alloc: Global,
@@ -58,6 +61,19 @@ pub fn finder<R: Threads + Wait + Sync, S: Shelf, O: Sink, E: Sink, G: Gate>(
     ensures find { (find : FindAsk) → Ask words.now (Find find) → result ≡ REPORTED
         → HoldEphemeris (S.files shelf.old) find.files
         (ReportsEvents find (O.bytes out.old) (O.bytes out.new)) }
+
+    // For `cert` it is the certificate of the leaves of that search, in their order.
+    ensures certified { (find : FindAsk) → Ask words.now (Cert find) → result ≡ REPORTED
+        → HoldEphemeris (S.files shelf.old) find.files
+        (ReportsCertificate find (O.bytes out.old) (O.bytes out.new)) }
+
+    // For `verify` it is the report of the windows of a certificate, and how many leaves it has: whoever made the certificate,
+    // it breaks no rule, and of its windows is true all that is true of those of `find`, with its own leaves in place of the
+    // search's.
+    ensures verified { (find : FindAsk) (cert : List ℕ) → Ask words.now (Verify find cert)
+        → result ≡ REPORTED → HoldEphemeris (S.files shelf.old) find.files
+        (ReportsVerified (S.files shelf.old) find cert (O.bytes out.old) (O.bytes out.new)) }
+
     ensures check { (names : List (List ℕ)) → Ask words.now (Check names) → result ≡ REPORTED
         → HoldEphemeris (S.files shelf.old) names
         (ReportsSummary (O.bytes out.old) (O.bytes out.new)) }

@@ -41,12 +41,12 @@ pub(crate) fn leaves_by<R: Threads + Wait + Sync, J: Judge, G: Gate>(
     ensures leaves { IfOk result (λ found. found.items ≡ leaves (J.rules judge.now) root) }
     ensures few { IfOk result (λ found. leaf_count (J.rules judge.now) root ≤ most) }
     ensures stopped { IfErr result (λ refusal. (refusal ≡ Refusal.Memory)
-        ⊎ ((refusal ≡ Refusal.TooManyLeaves)
+        ⊎ ((refusal ≡ Refusal.TooManyLeaves most)
         × (most < leaf_count (J.rules judge.now) root))) }
 {
     match run(rt, alloc, judge, root, workers, most, gate) {
         Ok(book) => leaves_of(alloc, &book),
-        Err(PoolError::TooMany) => Err(Refusal::TooManyLeaves),
+        Err(PoolError::TooMany) => Err(Refusal::TooManyLeaves { most }),
         Err(PoolError::Memory) => Err(Refusal::Memory),
     }
 }

@@ -2,3 +2,4 @@ pub mod TextStatuses
 pub mod Searching
 pub mod Following
 pub mod Results
+pub mod SpanTimes

@@ -25,21 +25,21 @@ use Rattle.spec_outcomes.specs.Queries.{AreFound, IsQuery, conjunctions, is_with
 -- ---- the leaves of a search
 pub few_searched : (most : ℕ) (s : Search) (span : Span) → length (leaves_in s span) ≤ most → searched most s span ≡ Ok (leaves_in s span)
 unfolding searched
-few_searched most s span few = ap (λ (many : Bool). if many then Err TooManyLeaves else Ok (leaves_in s span)) (le-ltb most (length (leaves_in s span)) few)
+few_searched most s span few = ap (λ (many : Bool). if many then Err (TooManyLeaves most) else Ok (leaves_in s span)) (le-ltb most (length (leaves_in s span)) few)
 
-pub many_searched : (most : ℕ) (s : Search) (span : Span) → most < length (leaves_in s span) → searched most s span ≡ Err TooManyLeaves
+pub many_searched : (most : ℕ) (s : Search) (span : Span) → most < length (leaves_in s span) → searched most s span ≡ Err (TooManyLeaves most)
 unfolding searched
-many_searched most s span many = ap (λ (many : Bool). if many then Err TooManyLeaves else Ok (leaves_in s span)) (lt-ltb most (length (leaves_in s span)) many)
+many_searched most s span many = ap (λ (many : Bool). if many then Err (TooManyLeaves most) else Ok (leaves_in s span)) (lt-ltb most (length (leaves_in s span)) many)
 
 -- too many stop the search
 pub leaves_stop : (most : ℕ) (q : Query) (e : Ephemeris) (span : Span) (r : Refusal) → found most q e span ≡ searched most (search q e) span
-    → (r ≡ Memory) ⊎ ((r ≡ TooManyLeaves) × (most < length (leaves_in (search q e) span))) → Stops most q e span r
+    → (r ≡ Memory) ⊎ ((r ≡ TooManyLeaves most) × (most < length (leaves_in (search q e) span))) → Stops most q e span r
 leaves_stop most q e span r is (inl none) = inl none
 leaves_stop most q e span r is (inr many) = inr (is ∙ many_searched most (search q e) span many.1 ∙ ap (λ (s : Refusal). Err s) (sym many.0))
 
 -- ---- causes
 -- where there is none, the span is one of the ephemeris, and the event has no fault
-none_by : (inside : Bool) (fault : Option EventFault) (span whole : Span) → cause_by inside fault span whole ≡ None → (inside ≡ true) × (fault ≡ None)
+pub none_by : (inside : Bool) (fault : Option EventFault) (span whole : Span) → cause_by inside fault span whole ≡ None → (inside ≡ true) × (fault ≡ None)
 none_by false fault span whole is = absurd (cc)
 none_by true (Some fault) span whole is = absurd (cc)
 none_by true None span whole is = (refl, refl)

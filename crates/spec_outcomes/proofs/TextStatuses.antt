@@ -11,7 +11,8 @@ differ_from_texts (R.File name fault) = (λ is. absurd (omega (arith, is)), λ i
 differ_from_texts (R.NotRead name) = (λ is. absurd (omega (arith, is)), λ is. absurd (omega (arith, is)))
 differ_from_texts (R.Outside span whole) = (λ is. absurd (omega (arith, is)), λ is. absurd (omega (arith, is)))
 differ_from_texts (R.Event fault) = (λ is. absurd (omega (arith, is)), λ is. absurd (omega (arith, is)))
-differ_from_texts R.TooManyLeaves = (λ is. absurd (omega (arith, is)), λ is. absurd (omega (arith, is)))
+differ_from_texts (R.TooManyLeaves most) = (λ is. absurd (omega (arith, is)), λ is. absurd (omega (arith, is)))
+differ_from_texts (R.Certificate line number) = (λ is. absurd (omega (arith, is)), λ is. absurd (omega (arith, is)))
 differ_from_texts R.Memory = (λ is. absurd (omega (arith, is)), λ is. absurd (omega (arith, is)))
 
 pub not_reported : (r : Refusal) → status_of r ≡ REPORTED → ⊥

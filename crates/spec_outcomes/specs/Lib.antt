@@ -1,3 +1,4 @@
 pub mod Queries
 pub mod Refusals
 pub mod Outcomes
+pub mod Certificates

@@ -48,7 +48,7 @@ unless None found = found
 -- ---- leaves
 -- the leaves of a search in a span, unless they are more than so many
 unfoldable pub searched : ℕ → Search → Span → Result (List Leaf) Refusal
-searched most s span = if nat_lt most (length (leaves_in s span)) then Err TooManyLeaves else Ok (leaves_in s span)
+searched most s span = if nat_lt most (length (leaves_in s span)) then Err (TooManyLeaves most) else Ok (leaves_in s span)
 
 -- the same for a query over a span of an ephemeris, unless there is a cause against it
 abbrev pub found : ℕ → Query → Ephemeris → Span → Result (List Leaf) Refusal

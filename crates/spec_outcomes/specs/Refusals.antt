@@ -7,10 +7,10 @@ use Rattle.spec_kinds.specs.Faults.{number_of}
 use Rattle.spec_requests.specs.declared.request.WordFault.{WordFault}
 use Rattle.spec_requests.specs.declared.request.WordFault.TheVariants as W
 use Rattle.spec_requests.specs.Names.{option_name}
-use Rattle.spec_output.specs.Messages.{words_text, file_text, read_text, outside_text, event_text, leaves_text, memory_text}
+use Rattle.spec_output.specs.Messages.{words_text, file_text, read_text, outside_text, event_text, leaves_text, certificate_text, memory_text}
 use Rattle.spec_outcomes.specs.declared.refusal.Refusal.{Refusal}
-use Rattle.spec_outcomes.specs.declared.refusal.Refusal.TheVariants.{Words, File, NotRead, Outside, Event, TooManyLeaves, Memory}
-use Rattle.spec_outcomes.specs.declared.statuses.TheConstants.{WORDS_REFUSED, FILES_REFUSED, NOT_READ, SPAN_REFUSED, EVENT_REFUSED, OUT_OF_MEMORY, TOO_MANY_LEAVES}
+use Rattle.spec_outcomes.specs.declared.refusal.Refusal.TheVariants.{Words, File, NotRead, Outside, Event, TooManyLeaves, Certificate, Memory}
+use Rattle.spec_outcomes.specs.declared.statuses.TheConstants.{WORDS_REFUSED, FILES_REFUSED, NOT_READ, SPAN_REFUSED, EVENT_REFUSED, OUT_OF_MEMORY, TOO_MANY_LEAVES, CERTIFICATE_REFUSED}
 
 -- the status of a run that is refused
 abbrev pub status_of : Refusal → ℕ
@@ -19,7 +19,8 @@ status_of (File name fault) = FILES_REFUSED
 status_of (NotRead name) = NOT_READ
 status_of (Outside span whole) = SPAN_REFUSED
 status_of (Event fault) = EVENT_REFUSED
-status_of TooManyLeaves = TOO_MANY_LEAVES
+status_of (TooManyLeaves most) = TOO_MANY_LEAVES
+status_of (Certificate line number) = CERTIFICATE_REFUSED
 status_of Memory = OUT_OF_MEMORY
 
 -- what standard error is given
@@ -29,7 +30,8 @@ line_of (File name fault) = file_text name fault
 line_of (NotRead name) = read_text name
 line_of (Outside span whole) = outside_text span.from span.upto whole.from whole.upto
 line_of (Event fault) = event_text (number_of fault)
-line_of TooManyLeaves = leaves_text
+line_of (TooManyLeaves most) = leaves_text most
+line_of (Certificate line number) = certificate_text line number
 line_of Memory = memory_text
 
 -- ---- what errors are to a run

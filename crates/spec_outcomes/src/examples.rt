@@ -1,7 +1,7 @@
 // Worked causes.
 ghost use Rattle.std.specs.Prelude.{◌≡◌, None, Some, true, false, pos};
 ghost use Rattle.spec_kinds.specs.declared.fault.EventFault.TheVariants.{SameBody};
-ghost use Rattle.spec_outcomes.specs.declared.refusal.Refusal.TheVariants.{Event, Outside, TooManyLeaves};
+ghost use Rattle.spec_outcomes.specs.declared.refusal.Refusal.TheVariants.{Certificate, Event, Outside, TooManyLeaves};
 ghost use Rattle.spec_outcomes.specs.Outcomes.{cause_by};
 ghost use Rattle.spec_outcomes.specs.Refusals.{status_of};
 
@@ -21,5 +21,6 @@ pub fn statuses_of_causes()
     ensures span { status_of (Outside (record { from = pos 5; upto = pos 5 })
         (record { from = pos 0; upto = pos 9 })) ≡ 6 }
     ensures event { status_of (Event SameBody) ≡ 7 }
-    ensures leaves { status_of TooManyLeaves ≡ 9 }
+    ensures leaves { status_of (TooManyLeaves 4_194_304) ≡ 9 }
+    ensures certificate { status_of (Certificate 5 73) ≡ 10 }
 {}

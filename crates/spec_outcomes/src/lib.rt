@@ -14,6 +14,6 @@ pub use laws::{causes_are_no_texts, searches_find_the_events};
 pub use query::{Query, Span, conjunctions, query_of};
 pub use refusal::Refusal;
 pub use statuses::{
-    EVENT_REFUSED, FILES_REFUSED, NOT_READ, NOT_WRITTEN, OUT_OF_MEMORY, REPORTED, SPAN_REFUSED,
-    TOO_MANY_LEAVES, WORDS_REFUSED,
+    CERTIFICATE_REFUSED, EVENT_REFUSED, FILES_REFUSED, NOT_READ, NOT_WRITTEN, OUT_OF_MEMORY,
+    REPORTED, SPAN_REFUSED, TOO_MANY_LEAVES, WORDS_REFUSED,
 };

@@ -1,8 +1,8 @@
 // Why a run has nothing to write to its output.
 use crate::query::Span;
 use crate::statuses::{
-    EVENT_REFUSED, FILES_REFUSED, NOT_READ, OUT_OF_MEMORY, SPAN_REFUSED, TOO_MANY_LEAVES,
-    WORDS_REFUSED,
+    CERTIFICATE_REFUSED, EVENT_REFUSED, FILES_REFUSED, NOT_READ, OUT_OF_MEMORY, SPAN_REFUSED,
+    TOO_MANY_LEAVES, WORDS_REFUSED,
 };
 use spec_faults::{BAD_VALUE, NO_COMMAND, UNKNOWN_COMMAND, WORDS};
 use spec_kinds::EventFault;
@@ -23,8 +23,10 @@ pub enum Refusal {
     Outside { span: Span, whole: Span },
     /// The event can't be searched for in the files.
     Event(EventFault),
-    /// The search has more leaves than it may have.
-    TooManyLeaves,
+    /// The search has more leaves than this, the most that it may have.
+    TooManyLeaves { most: u32 },
+    /// The first line of the certificate that breaks a rule, counted from 1, and the number of the rule.
+    Certificate { line: u32, number: u8 },
     /// Out of memory.
     Memory,
 }
@@ -53,7 +55,8 @@ impl Refusal {
             Refusal::NotRead { .. } => NOT_READ,
             Refusal::Outside { .. } => SPAN_REFUSED,
             Refusal::Event(_) => EVENT_REFUSED,
-            Refusal::TooManyLeaves => TOO_MANY_LEAVES,
+            Refusal::TooManyLeaves { .. } => TOO_MANY_LEAVES,
+            Refusal::Certificate { .. } => CERTIFICATE_REFUSED,
             Refusal::Memory => OUT_OF_MEMORY,
         }
     }

@@ -26,3 +26,6 @@ pub const OUT_OF_MEMORY: u8 = 8;
 
 /// The search has more leaves than it may have.
 pub const TOO_MANY_LEAVES: u8 = 9;
+
+/// The certificate breaks a rule.
+pub const CERTIFICATE_REFUSED: u8 = 10;

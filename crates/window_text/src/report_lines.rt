@@ -77,7 +77,7 @@ pub fn verification(
     from: i64,
     to: i64,
     windows: &[Window],
-    leaves: u32,
+    leaves: u64,
 ) -> Result<Vec<u8>, Memory>
     requires tick { IsTick find.now.tick }
     requires from { IsTimeIn find.now.tick from }
@@ -88,7 +88,7 @@ pub fn verification(
 {
     let mut text = String::new(alloc);
     add_report(&mut text, find, from, to, windows)?;
-    add_last_number(&mut text, "VERIFIED leaves ", leaves as u64, "\n")?;
+    add_last_number(&mut text, "VERIFIED leaves ", leaves, "\n")?;
     Ok(text.into_bytes())
 }
 

@@ -1,7 +1,7 @@
 use Rattle.std.proofs.Common.{◌≡◌, Ok, rules}
-use Rattle.spec_requests.specs.declared.request.Request.TheVariants.{Find}
+use Rattle.spec_requests.specs.declared.request.Request.TheVariants.{Cert, Find, Verify}
 use Rattle.spec_requests.specs.Requests.{request_of}
-use Rattle.spec_requests.proofs.LimitLemmas.{searches_keep_to_limits}
+use Rattle.spec_requests.proofs.LimitLemmas.{requests_keep_to_limits}
 use Rattle.gf_find.specs.Outcomes.{texts_of}
 use Rattle.gf_find.proofs.Asked.{blocks_are_some, blocks_are_within, workers_are_some, workers_are_within}
 use Rattle.gf_find.proofs.answer.answer.Goals as goal
@@ -9,7 +9,17 @@ use Rattle.gf_find.proofs.answer.answer.Goals as goal
 pub find_in_files-requires-after_bounds : goal.find_in_files-requires-after_bounds
 find_in_files-requires-after_bounds g c κs lives =
     let asked : request_of (texts_of c.args.words.now) ≡ Ok (Find c.in-Find.find) = search rules in
-    searches_keep_to_limits _ _ asked
+    requests_keep_to_limits _ _ asked
+
+pub certificate_in_files-requires-after_bounds : goal.certificate_in_files-requires-after_bounds
+certificate_in_files-requires-after_bounds g c κs lives =
+    let asked : request_of (texts_of c.args.words.now) ≡ Ok (Cert c.in-Cert.find) = search rules in
+    requests_keep_to_limits _ _ asked
+
+pub verify_in_files-requires : goal.verify_in_files-requires
+verify_in_files-requires g c =
+    let asked : request_of (texts_of c.args.words.now) ≡ Ok (Verify c.in-Verify.find c.in-Verify.cert) = search rules in
+    requests_keep_to_limits _ _ asked
 
 pub generation_of-requires-clause-some : goal.generation_of-requires-clause-some
 generation_of-requires-clause-some g c = search (rules, blocks_are_some)

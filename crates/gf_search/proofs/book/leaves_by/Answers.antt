@@ -24,7 +24,7 @@ returns-in-Ok-clause-few g c =
 pub returns-in-Ok-clause-stopped : goal.returns-in-Ok-clause-stopped
 returns-in-Ok-clause-stopped g c =
     err_also {X = Vec Leaf Global} {E = Refusal} (λ refusal. refusal ≡ Memory)
-    (λ refusal. (refusal ≡ Memory) ⊎ ((refusal ≡ TooManyLeaves) × (c.args.most < leaf_count (g.J.Judge.rules c.args.judge.now) c.args.root))) c.leaves_of.result
+    (λ refusal. (refusal ≡ Memory) ⊎ ((refusal ≡ TooManyLeaves c.args.most) × (c.args.most < leaf_count (g.J.Judge.rules c.args.judge.now) c.args.root))) c.leaves_of.result
     (λ refusal is. inl is) c.leaves_of.ensures.memory
 
 pub returns-in-Err-TooMany-clause-stopped : goal.returns-in-Err-TooMany-clause-stopped

@@ -43,10 +43,10 @@ returns-in-Ok-clause-stopped g c =
     let e = c.args.ephemeris.now in
     let is = c.in-Ok.ensures.search in
     let whole = c.root_of.ensures in
-    err_also {X = Vec Leaf Global} {E = Refusal} (λ r. (r ≡ Memory) ⊎ ((r ≡ TooManyLeaves) × (c.args.most < leaf_count (rules c.in-Ok.judge.search) c.root_of.result)))
+    err_also {X = Vec Leaf Global} {E = Refusal} (λ r. (r ≡ Memory) ⊎ ((r ≡ TooManyLeaves c.args.most) × (c.args.most < leaf_count (rules c.in-Ok.judge.search) c.root_of.result)))
     (λ r. Stops c.args.most q e c.args.span r) c.leaves_by.result (λ r stops.
     leaves_stop c.args.most q e c.args.span r (found_is c.args.most q e c.args.span c.requires.within c.in-Ok.ensures.sound)
-    (subst (λ (n : ℕ). (r ≡ Memory) ⊎ ((r ≡ TooManyLeaves) × (c.args.most < n))) (λ i. leaf_count (rules (is i)) (whole i)) stops)) c.leaves_by.ensures.stopped
+    (subst (λ (n : ℕ). (r ≡ Memory) ⊎ ((r ≡ TooManyLeaves c.args.most) × (c.args.most < n))) (λ i. leaf_count (rules (is i)) (whole i)) stops)) c.leaves_by.ensures.stopped
 
 pub returns-in-Err-clause-stopped : goal.returns-in-Err-clause-stopped
 returns-in-Err-clause-stopped g c = fault_is c.args.most c.args.query.now c.args.ephemeris.now c.args.span c.requires.within c.in-Err.refusal c.in-Err.ensures.refused

@@ -1,0 +1,65 @@
+// The check of a certificate, and what is printed of one that holds.
+ghost use Rattle.std.specs.Prelude.{All, ◌≡◌, ◌⊎◌, ◌≤◌, Err, IfErr, IfOk, length};
+ghost use Rattle.spec_text.specs.declared.limits.TheConstants.{MAX_TEXT_BYTES};
+ghost use Rattle.spec_ephemeris.specs.Ticks.{IsTick};
+ghost use Rattle.spec_trees.specs.Tree.{Covers, IsValid};
+ghost use Rattle.spec_trees.specs.Windows.{windows};
+ghost use Rattle.spec_searches.specs.Found.{root, rules};
+ghost use Rattle.spec_times.specs.Ticks.{IsTimeIn};
+ghost use Rattle.spec_output.specs.Report.{HasTimes, verification};
+ghost use Rattle.spec_outcomes.specs.Certificates.{IsVerification, verification_of};
+
+use gf_cert::{CertError, check_cert};
+use gf_query::{EventJudge, root_of};
+use ordered_join::leaf_windows;
+use spec_outcomes::{Refusal, Span};
+use spec_requests::FindAsk;
+use spec_trees::Leaf;
+use std::alloc::Global;
+use window_text::{request_line, verification};
+
+// What is printed of leaves that follow one another over a span.
+fn printed(alloc: Global, find: &FindAsk, span: Span, leaves: &[Leaf]) -> Result<Vec<u8>, Refusal>
+    requires tick { IsTick find.now.tick }
+    requires from { IsTimeIn find.now.tick span.from }
+    requires upto { IsTimeIn find.now.tick span.upto }
+    requires follow { Covers span.from leaves.now span.upto }
+    requires windows { All (HasTimes find.now.tick) (windows leaves.now) }
+    ensures text { IfOk result (λ text. text.items
+        ≡ verification find.now span.from span.upto (windows leaves.now) (length leaves.now)) }
+    ensures memory { IfErr result (λ refusal. refusal ≡ Refusal.Memory) }
+{
+    let windows = leaf_windows(alloc, leaves)?;
+    let count = leaves.len() as u64;
+    let text = verification(alloc, find, span.from, span.upto, &windows, count)?;
+    Ok(text)
+}
+
+/// The bytes that `verify` prints of a text, for the words of a search, their span and the judge of their query: the report
+/// of the certificate's windows, which are those of the events that are asked for, whoever made the text, and how many
+/// leaves it has. `Certificate` for the first line that breaks a rule, or `Memory`. Each leaf is judged, and no other node.
+/// Times are in the ticks of the search since J2000 in TDB; the text has at most 268,435,456 bytes.
+pub fn verify(
+    alloc: Global,
+    find: &FindAsk,
+    span: Span,
+    judge: &EventJudge<'_>,
+    text: &[u8],
+) -> Result<Vec<u8>, Refusal>
+    requires tick { IsTick find.now.tick }
+    requires from { IsTimeIn find.now.tick span.from }
+    requires upto { IsTimeIn find.now.tick span.upto }
+    requires valid { IsValid (rules judge.now.search) (root span.from span.upto) }
+    requires small { length text.now ≤ MAX_TEXT_BYTES }
+    ensures verified { IfOk result (λ bytes.
+        IsVerification find.now judge.now.search span text.now bytes.items) }
+    ensures stopped { IfErr result (λ refusal. (refusal ≡ Refusal.Memory)
+        ⊎ (verification_of find.now judge.now.search span text.now ≡ Err refusal)) }
+{
+    let line = request_line(alloc, find, span.from, span.upto)?;
+    match check_cert(alloc, text, &line, judge, root_of(span)) {
+        Ok(leaves) => printed(alloc, find, span, &leaves),
+        Err(CertError::Refused { line, number }) => Err(Refusal::Certificate { line, number }),
+        Err(CertError::Memory) => Err(Refusal::Memory),
+    }
+}

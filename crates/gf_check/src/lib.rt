@@ -1,0 +1,13 @@
+//! What checks a certificate over an ephemeris: the text of a certificate comes in, with the words of the search that it is
+//! of, their span and the judge of their query; out go the bytes that `verify` prints, which are the report of the
+//! certificate's windows and how many leaves it has, or the first line that breaks a rule.
+//!
+//! Whoever made the text is not trusted, and nothing below this crate searches: no pool, no ledger, no walk of a tree.
+#![tactic(auto)]
+
+mod checks;
+mod laws;
+
+pub use checks::verify;
+pub use gf_query::EventJudge;
+pub use laws::what_is_certified_is_verified;

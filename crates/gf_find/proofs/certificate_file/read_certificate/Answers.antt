@@ -1,0 +1,29 @@
+use Rattle.std.proofs.Common.{◌≡◌, ◌⊎◌, List, ℕ, subst, Err}
+use Rattle.spec_files.specs.Files.{IsFile}
+use Rattle.spec_outcomes.specs.declared.refusal.Refusal.TheVariants.{Memory}
+use Rattle.gf_find.specs.CertificateFiles.{CertificateStops}
+use Rattle.gf_find.proofs.Verifying.{not_read_stops, too_long_stops}
+use Rattle.gf_find.proofs.certificate_file.read_certificate.Goals as goal
+
+pub returns-in-Ok-clause-there : goal.returns-in-Ok-clause-there
+returns-in-Ok-clause-there g c =
+    subst (λ (n : List ℕ). IsFile (g.S.Shelf.files c.args.shelf.now) n c.in-Ok.text.items) c.as_str-word.ensures c.in-Ok.ensures.whole
+
+pub returns-in-Err-Fault-clause-stopped : goal.returns-in-Err-Fault-clause-stopped
+returns-in-Err-Fault-clause-stopped g c =
+    let files = g.S.Shelf.files c.args.shelf.now in
+    let count = g.S.Shelf.faults c.args.shelf.now in
+    let now = g.S.Shelf.faults c.read_file.new.shelf in
+    let r = c.refused_as.result in
+    subst (λ (n : List ℕ). (r ≡ Memory) ⊎ CertificateStops files n count now r) c.as_str-word.ensures
+    (too_long_stops files c.as_str-word.result.now count now r c.in-Err-Fault.fault (c.in-Err-Fault.ensures.fault _ c.in-Err-Fault.fault (λ i. Err (c.in-Err-Fault.field-0-is i))).1
+    (c.in-Err-Fault.ensures.large _ c.in-Err-Fault.fault (λ i. Err (c.in-Err-Fault.field-0-is i))) c.refused_as.ensures)
+
+pub returns-in-Err-NotRead-clause-stopped : goal.returns-in-Err-NotRead-clause-stopped
+returns-in-Err-NotRead-clause-stopped g c =
+    let files = g.S.Shelf.files c.args.shelf.now in
+    let count = g.S.Shelf.faults c.args.shelf.now in
+    let now = g.S.Shelf.faults c.read_file.new.shelf in
+    let r = c.not_read_as.result in
+    subst (λ (n : List ℕ). (r ≡ Memory) ⊎ CertificateStops files n count now r) c.as_str-word.ensures
+    (not_read_stops files c.as_str-word.result.now count now r (c.in-Err-NotRead.ensures.failed _ (λ i. Err (c.in-Err-NotRead.field-0-is i))).1 c.not_read_as.ensures)

@@ -1,0 +1,33 @@
+// The file of a certificate.
+ghost use Rattle.std.specs.Prelude.{◌≡◌, ◌⊎◌, ◌≤◌, IfErr, IfOk, length};
+ghost use Rattle.spec_text.specs.declared.limits.TheConstants.{MAX_TEXT_BYTES};
+ghost use Rattle.spec_files.specs.Files.{IsFile};
+ghost use Rattle.gf_find.specs.CertificateFiles.{CertificateStops};
+
+use crate::files::{not_read_as, refused_as};
+use gf_edges::Shelf;
+use gf_files::{FilesError, read_file};
+use spec_outcomes::Refusal;
+use spec_requests::Text;
+use std::alloc::Global;
+
+/// The text of the certificate in the file of this name.
+pub(crate) fn read_certificate<S: Shelf>(
+    alloc: Global,
+    shelf: &mut S,
+    name: &Text,
+) -> Result<Vec<u8>, Refusal>
+    ensures there { IfOk result (λ text. IsFile (S.files shelf.old) name.now text.items) }
+    ensures small { IfOk result (λ text. length text.items ≤ MAX_TEXT_BYTES) }
+    ensures stopped { IfErr result (λ refusal. (refusal ≡ Refusal.Memory)
+        ⊎ CertificateStops (S.files shelf.old) name.now
+        (S.faults shelf.old) (S.faults shelf.new) refusal) }
+{
+    let word = name.as_str();
+    match read_file(alloc, shelf, 0, word) {
+        Ok(text) => Ok(text),
+        Err(FilesError::Fault { file: _, fault }) => Err(refused_as(alloc, word, fault)),
+        Err(FilesError::NotRead { file: _ }) => Err(not_read_as(alloc, word)),
+        Err(FilesError::Memory) => Err(Refusal::Memory),
+    }
+}

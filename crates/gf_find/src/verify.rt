@@ -1,0 +1,124 @@
+// The command `verify`: the report of the windows of a certificate, where it breaks no rule.
+ghost use Rattle.std.specs.Prelude.{◌≡◌, ◌⊎◌, ◌<◌, Err, IfErr, IfOk, None, true};
+ghost use Rattle.spec_ephemeris.specs.Ephemeris.{end_of};
+ghost use Rattle.spec_ephemeris.specs.Ticks.{IsTick, in_ticks};
+ghost use Rattle.spec_trees.specs.Tree.{IsValid};
+ghost use Rattle.spec_searches.specs.Found.{root, rules};
+ghost use Rattle.spec_kinds.specs.Faults.{fault_of};
+ghost use Rattle.spec_requests.specs.Limits.{IsWithinLimits};
+ghost use Rattle.spec_times.specs.Ticks.{IsTimeIn};
+ghost use Rattle.spec_outcomes.specs.Certificates.{IsVerification, verification_of};
+ghost use Rattle.spec_outcomes.specs.Queries.{is_within, query_of, search, span_of};
+ghost use Rattle.gf_find.specs.Outcomes.{FilesHave, HoldEphemeris};
+ghost use Rattle.gf_find.specs.CertificateFiles.{CertificateHasOutcome, HoldsText, VerifyHasOutcome};
+ghost use Rattle.gf_find.specs.Verifies.{IsVerified};
+ghost use Rattle.gf_find.specs.Reported.{AreNotOpened};
+
+use crate::certificate_file::read_certificate;
+use crate::files::ephemeris_of;
+use eph_model::Ephemeris;
+use gf_check::verify;
+use gf_edges::Shelf;
+use gf_query::{EventJudge, judge, span_asked};
+use spec_outcomes::{Refusal, Span, query_of};
+use spec_requests::{FindAsk, Text};
+use std::alloc::Global;
+
+// What is printed of the certificate in a file, for a search whose judge this is.
+fn verify_by<S: Shelf>(
+    alloc: Global,
+    shelf: &mut S,
+    find: &FindAsk,
+    cert: &Text,
+    span: Span,
+    judge: &EventJudge<'_>,
+) -> Result<Vec<u8>, Refusal>
+    requires tick { IsTick find.now.tick }
+    requires from { IsTimeIn find.now.tick span.from }
+    requires upto { IsTimeIn find.now.tick span.upto }
+    requires valid { IsValid (rules judge.now.search) (root span.from span.upto) }
+    ensures verified { IfOk result (λ bytes. HoldsText (S.files shelf.old) cert.now
+        (λ text. IsVerification find.now judge.now.search span text bytes.items)) }
+    ensures stopped { IfErr result (λ refusal. (refusal ≡ Refusal.Memory)
+        ⊎ CertificateHasOutcome (S.files shelf.old) cert.now (S.faults shelf.old) (S.faults shelf.new)
+        (verification_of find.now judge.now.search span) (Err refusal)) }
+{
+    match read_certificate(alloc, shelf, cert) {
+        Ok(text) => verify(alloc, find, span, judge, &text),
+        Err(refusal) => Err(refusal),
+    }
+}
+
+// The same over a span of an ephemeris that counts the ticks of the search.
+fn verify_span<S: Shelf>(
+    alloc: Global,
+    shelf: &mut S,
+    ephemeris: &Ephemeris,
+    find: &FindAsk,
+    cert: &Text,
+    span: Span,
+) -> Result<Vec<u8>, Refusal>
+    requires block { 0 < ephemeris.now.blocks }
+    requires start { IsTimeIn find.now.tick ephemeris.now.start }
+    requires end { IsTimeIn find.now.tick (end_of ephemeris.now) }
+    requires limits { IsWithinLimits find.now }
+    requires span { span ≡ span_of find.now ephemeris.now }
+    requires within { is_within span ephemeris.now ≡ true }
+    ensures verified { IfOk result (λ bytes.
+        IsVerified (S.files shelf.old) find.now cert.now ephemeris.now bytes.items) }
+    ensures stopped { IfErr result (λ refusal. (refusal ≡ Refusal.Memory)
+        ⊎ VerifyHasOutcome (S.files shelf.old) find.now cert.now
+        (S.faults shelf.old) (S.faults shelf.new) ephemeris.now (Err refusal)) }
+{
+    let query = query_of(find);
+    match judge(alloc, ephemeris, &query) {
+        Ok(judge) => verify_by(alloc, shelf, find, cert, span, &judge),
+        Err(refusal) => Err(refusal),
+    }
+}
+
+// The same over the span that is asked for.
+fn verify_ephemeris<S: Shelf>(
+    alloc: Global,
+    shelf: &mut S,
+    ephemeris: &Ephemeris,
+    find: &FindAsk,
+    cert: &Text,
+) -> Result<Vec<u8>, Refusal>
+    requires block { 0 < ephemeris.now.blocks }
+    requires start { IsTimeIn find.now.tick ephemeris.now.start }
+    requires end { IsTimeIn find.now.tick (end_of ephemeris.now) }
+    requires limits { IsWithinLimits find.now }
+    ensures verified { IfOk result (λ bytes.
+        IsVerified (S.files shelf.old) find.now cert.now ephemeris.now bytes.items) }
+    ensures stopped { IfErr result (λ refusal. (refusal ≡ Refusal.Memory)
+        ⊎ VerifyHasOutcome (S.files shelf.old) find.now cert.now
+        (S.faults shelf.old) (S.faults shelf.new) ephemeris.now (Err refusal)) }
+{
+    match span_asked(find, ephemeris) {
+        Ok(span) => verify_span(alloc, shelf, ephemeris, find, cert, span),
+        Err(refusal) => Err(refusal),
+    }
+}
+
+/// What is printed of the certificate in a file, for the search of these files. It is opened only where the search could be
+/// made.
+pub(crate) fn verify_in_files<S: Shelf>(
+    alloc: Global,
+    shelf: &mut S,
+    find: &FindAsk,
+    cert: &Text,
+) -> Result<Vec<u8>, Refusal>
+    requires { IsWithinLimits find.now }
+    ensures verified { IfOk result (λ bytes. HoldEphemeris (S.files shelf.old) find.now.files
+        (λ e. IsVerified (S.files shelf.old) find.now cert.now (in_ticks find.now.tick e) bytes.items)) }
+    ensures stopped { IfErr result (λ refusal. (refusal ≡ Refusal.Memory)
+        ⊎ FilesHave (S.files shelf.old) find.now.files (S.faults shelf.old) (S.faults shelf.new)
+        (λ e outcome. VerifyHasOutcome (S.files shelf.old) find.now cert.now (S.faults shelf.old)
+        (S.faults shelf.new) (in_ticks find.now.tick e) outcome) (Err refusal)) }
+    ensures unopened { AreNotOpened find.now.files → shelf.new ≡ shelf.old }
+{
+    let ephemeris = ephemeris_of(alloc, shelf, find.files.as_slice())?;
+    let counted = ephemeris.in_ticks(find.tick);
+    verify_ephemeris(alloc, shelf, &counted, find, cert)
+}

@@ -1,6 +1,5 @@
 -- What is printed of a text that is a certificate, and why another is refused.
-use Rattle.std.proofs.Common.{◌≡◌, ◌∙◌, ℕ, List, length, Ok, Err, Result, All, sym, ap, subst, arith}
-use Rattle.std.proofs.lemmas.Int.{ints}
+use Rattle.std.proofs.Common.{◌≡◌, ◌⊎◌, ◌∙◌, ℕ, List, length, Ok, Err, Result, All, refl, sym, ap, subst, inl, inr}
 use Rattle.spec_trees.specs.declared.tree.Leaf.{Leaf}
 use Rattle.spec_trees.specs.declared.tree.Node.{Node}
 use Rattle.spec_trees.specs.Tree.{Covers}
@@ -10,11 +9,15 @@ use Rattle.spec_searches.specs.Search.{Search, events}
 use Rattle.spec_searches.specs.Found.{IsLeftUndecided, root}
 use Rattle.spec_certificates.specs.declared.entry.CertFault.{CertFault}
 use Rattle.spec_certificates.specs.Checks.{checked}
+use Rattle.gf_cert.specs.declared.errors.CertError.{CertError}
+use Rattle.gf_cert.specs.declared.errors.CertError.TheVariants as C
+use Rattle.gf_cert.specs.Answers.{Fails}
+use Rattle.gf_check.specs.Errors.{of_cert}
 use Rattle.spec_requests.specs.declared.request.FindAsk.{FindAsk}
 use Rattle.spec_times.specs.Ticks.{IsTimeIn}
 use Rattle.spec_output.specs.Report.{HasTimes, verification}
 use Rattle.spec_outcomes.specs.declared.query.Span.{Span}
-use Rattle.spec_outcomes.specs.declared.refusal.Refusal.TheVariants.{Certificate}
+use Rattle.spec_outcomes.specs.declared.refusal.Refusal.TheVariants.{Certificate, Memory}
 use Rattle.spec_outcomes.specs.Certificates.{IsVerification, cutting, line_over, verification_of, verified_by}
 use Rattle.spec_outcomes.proofs.SpanTimes.{windows_are}
 
@@ -43,5 +46,9 @@ module _ (find : FindAsk) (s : Search) (span : Span) (top : Node) (line text : L
   pub follow : (ls shown : List Leaf) → shown ≡ ls → Covers top.a ls top.b → Covers span.from shown span.upto
   follow ls shown same cover = subst (λ (vs : List Leaf). Covers span.from vs span.upto) (sym same) (subst (λ (n : Node). Covers n.a ls n.b) whole cover)
 
-  pub refused : (fault : CertFault) → checked (cutting s) top line text ≡ Err fault → verification_of find s span text ≡ Err (Certificate fault.line fault.number)
+  refused : (fault : CertFault) → checked (cutting s) top line text ≡ Err fault → verification_of find s span text ≡ Err (Certificate fault.line fault.number)
   refused fault is = ap (verified_by find span) (theirs (Err fault) is)
+
+  pub error_is : (e : CertError) → Fails (checked (cutting s) top line text) e → (of_cert e ≡ Memory) ⊎ (verification_of find s span text ≡ Err (of_cert e))
+  error_is (C.Refused number rule) is = inr (refused (record { line = number; number = rule }) is)
+  error_is C.Memory is = inl refl

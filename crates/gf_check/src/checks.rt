@@ -7,7 +7,8 @@ ghost use Rattle.spec_trees.specs.Windows.{windows};
 ghost use Rattle.spec_searches.specs.Found.{root, rules};
 ghost use Rattle.spec_times.specs.Ticks.{IsTimeIn};
 ghost use Rattle.spec_output.specs.Report.{HasTimes, verification};
-ghost use Rattle.spec_outcomes.specs.Certificates.{IsVerification, verification_of};
+ghost use Rattle.spec_outcomes.specs.Certificates.{IsVerification, line_over, verification_of};
+ghost use Rattle.gf_check.specs.Errors.{of_cert};
 
 use gf_cert::{CertError, check_cert};
 use gf_query::{EventJudge, root_of};
@@ -17,6 +18,28 @@ use spec_requests::FindAsk;
 use spec_trees::Leaf;
 use std::alloc::Global;
 use window_text::{request_line, verification};
+
+// The refusal of a text that is no certificate, or of which memory ran out.
+fn refusal_of(error: CertError) -> Refusal
+    ensures { result ≡ of_cert error }
+{
+    match error {
+        CertError::Refused { line, number } => Refusal::Certificate { line, number },
+        CertError::Memory => Refusal::Memory,
+    }
+}
+
+/// The line of a request over a span, without its end: the second line of its certificate.
+pub fn line_over(alloc: Global, find: &FindAsk, span: Span) -> Result<Vec<u8>, Refusal>
+    requires tick { IsTick find.now.tick }
+    requires from { IsTimeIn find.now.tick span.from }
+    requires upto { IsTimeIn find.now.tick span.upto }
+    ensures line { IfOk result (λ line. line.items ≡ line_over find.now span) }
+    ensures memory { IfErr result (λ refusal. refusal ≡ Refusal.Memory) }
+{
+    let line = request_line(alloc, find, span.from, span.upto)?;
+    Ok(line)
+}
 
 // What is printed of leaves that follow one another over a span.
 fn printed(alloc: Global, find: &FindAsk, span: Span, leaves: &[Leaf]) -> Result<Vec<u8>, Refusal>
@@ -56,10 +79,9 @@ pub fn verify(
     ensures stopped { IfErr result (λ refusal. (refusal ≡ Refusal.Memory)
         ⊎ (verification_of find.now judge.now.search span text.now ≡ Err refusal)) }
 {
-    let line = request_line(alloc, find, span.from, span.upto)?;
+    let line = line_over(alloc, find, span)?;
     match check_cert(alloc, text, &line, judge, root_of(span)) {
         Ok(leaves) => printed(alloc, find, span, &leaves),
-        Err(CertError::Refused { line, number }) => Err(Refusal::Certificate { line, number }),
-        Err(CertError::Memory) => Err(Refusal::Memory),
+        Err(error) => Err(refusal_of(error)),
     }
 }

@@ -8,6 +8,6 @@
 mod checks;
 mod laws;
 
-pub use checks::verify;
+pub use checks::{line_over, verify};
 pub use gf_query::EventJudge;
 pub use laws::what_is_certified_is_verified;

@@ -10,6 +10,7 @@ ghost use Rattle.gf_find.specs.Reported.{AreNotOpened};
 
 use crate::searched::search_files;
 use gf_cert::certificate;
+use gf_check::line_over;
 use gf_edges::{Gate, Shelf};
 use spec_certificates::MAX_CERT_LEAVES;
 use spec_outcomes::{Refusal, Span};
@@ -18,7 +19,6 @@ use spec_trees::Leaf;
 use std::alloc::Global;
 use std::sync::Wait;
 use std::thread::Threads;
-use window_text::request_line;
 
 // The certificate of leaves in a span.
 fn certificate_in(
@@ -33,7 +33,7 @@ fn certificate_in(
     ensures text { IfOk result (λ text. text.items ≡ certificate_by find.now span leaves.now) }
     ensures memory { IfErr result (λ refusal. refusal ≡ Refusal.Memory) }
 {
-    let line = request_line(alloc, find, span.from, span.upto)?;
+    let line = line_over(alloc, find, span)?;
     let text = certificate(alloc, &line, leaves)?;
     Ok(text)
 }

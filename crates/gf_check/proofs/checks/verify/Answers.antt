@@ -1,4 +1,4 @@
-use Rattle.std.proofs.Common.{◌≡◌, ◌⊎◌, ◌∙◌, ℕ, List, Err, length, inl, inr, subst, sym}
+use Rattle.std.proofs.Common.{◌≡◌, ◌⊎◌, ◌∙◌, ℕ, List, Err, length, inl, subst, sym}
 use Rattle.std.specs.Prelude.{Vec}
 use Rattle.std.specs.declared.alloc.Global.{Global}
 use Rattle.spec_trees.specs.declared.tree.Node.{Node}
@@ -8,12 +8,9 @@ use Rattle.spec_searches.specs.Found.{rules}
 use Rattle.spec_output.specs.Report.{verification}
 use Rattle.spec_outcomes.specs.declared.refusal.Refusal.{Refusal}
 use Rattle.spec_outcomes.specs.declared.refusal.Refusal.TheVariants.{Memory}
-use Rattle.spec_outcomes.specs.Certificates.{IsVerification, cutting, verification_of}
-use Rattle.spec_certificates.specs.Checks.{checked}
-use Rattle.gf_cert.specs.declared.errors.CertError.{CertError}
-use Rattle.gf_cert.specs.Answers.{Fails}
+use Rattle.spec_outcomes.specs.Certificates.{IsVerification, verification_of}
 use Rattle.spec_outcomes.proofs.Results.{err_also, ok_also}
-use Rattle.gf_check.proofs.Verified.{accepted, follow, have_times, refused}
+use Rattle.gf_check.proofs.Verified.{accepted, error_is, follow, have_times}
 use Rattle.gf_check.proofs.checks.verify.Goals as goal
 
 pub check_cert-requires-clause-valid : goal.check_cert-requires-clause-valid
@@ -21,32 +18,34 @@ check_cert-requires-clause-valid g c = subst (λ (n : Node). IsValid (rules c.ar
 
 pub printed-requires-clause-follow : goal.printed-requires-clause-follow
 printed-requires-clause-follow g c =
-    follow c.args.find.now c.args.judge.now.search c.args.span c.root_of.result c.deref.result.now c.args.text.now c.root_of.ensures (c.deref.ensures.value ∙ c.in_ok-line.ensures)
-    c.in-Ok.leaves.items c.deref-2.result.now c.deref-2.ensures.value c.in-Ok.ensures.cover
+    follow c.args.find.now c.args.judge.now.search c.args.span c.root_of.result c.deref.result.now c.args.text.now c.root_of.ensures (c.deref.ensures.value ∙ c.in_ok-line.ensures.line)
+    c.in-Ok.leaves.items c.deref-in-Ok.result.now c.deref-in-Ok.ensures.value c.in-Ok.ensures.cover
 
 pub printed-requires-clause-windows : goal.printed-requires-clause-windows
 printed-requires-clause-windows g c =
-    have_times c.args.find.now c.args.judge.now.search c.args.span c.root_of.result c.deref.result.now c.args.text.now c.root_of.ensures (c.deref.ensures.value ∙ c.in_ok-line.ensures)
-    c.in-Ok.leaves.items c.in-Ok.ensures.windows c.deref-2.result.now c.deref-2.ensures.value c.requires.from c.requires.upto
+    have_times c.args.find.now c.args.judge.now.search c.args.span c.root_of.result c.deref.result.now c.args.text.now c.root_of.ensures (c.deref.ensures.value ∙ c.in_ok-line.ensures.line)
+    c.in-Ok.leaves.items c.in-Ok.ensures.windows c.deref-in-Ok.result.now c.deref-in-Ok.ensures.value c.requires.from c.requires.upto
 
 pub returns-in-Ok-clause-verified : goal.returns-in-Ok-clause-verified
 returns-in-Ok-clause-verified g c =
     let find = c.args.find.now in
     let s = c.args.judge.now.search in
     let span = c.args.span in
-    ok_also {X = Vec ℕ Global} {E = Refusal} (λ text. text.items ≡ verification find span.from span.upto (windows c.deref-2.result.now) (length c.deref-2.result.now))
+    ok_also {X = Vec ℕ Global} {E = Refusal} (λ text. text.items ≡ verification find span.from span.upto (windows c.deref-in-Ok.result.now) (length c.deref-in-Ok.result.now))
     (λ bytes. IsVerification find s span c.args.text.now bytes.items) c.printed.result
-    (λ bytes is. accepted find s span c.root_of.result c.deref.result.now c.args.text.now c.root_of.ensures (c.deref.ensures.value ∙ c.in_ok-line.ensures)
-    c.in-Ok.leaves.items c.in-Ok.ensures.windows c.deref-2.result.now bytes.items c.in-Ok.ensures.checked c.deref-2.ensures.value is) c.printed.ensures.text
+    (λ bytes is. accepted find s span c.root_of.result c.deref.result.now c.args.text.now c.root_of.ensures (c.deref.ensures.value ∙ c.in_ok-line.ensures.line)
+    c.in-Ok.leaves.items c.in-Ok.ensures.windows c.deref-in-Ok.result.now bytes.items c.in-Ok.ensures.checked c.deref-in-Ok.ensures.value is) c.printed.ensures.text
 
 pub returns-in-Ok-clause-stopped : goal.returns-in-Ok-clause-stopped
 returns-in-Ok-clause-stopped g c =
     err_also {X = Vec ℕ Global} {E = Refusal} (λ r. r ≡ Memory)
     (λ r. (r ≡ Memory) ⊎ (verification_of c.args.find.now c.args.judge.now.search c.args.span c.args.text.now ≡ Err r)) c.printed.result (λ r is. inl is) c.printed.ensures.memory
 
-pub returns-in-Err-Refused-clause-stopped : goal.returns-in-Err-Refused-clause-stopped
-returns-in-Err-Refused-clause-stopped g c =
+pub returns-in-Err-clause-stopped : goal.returns-in-Err-clause-stopped
+returns-in-Err-clause-stopped g c =
+    let find = c.args.find.now in
     let s = c.args.judge.now.search in
-    inr (refused c.args.find.now s c.args.span c.root_of.result c.deref.result.now c.args.text.now c.root_of.ensures (c.deref.ensures.value ∙ c.in_ok-line.ensures)
-    (record { line = c.in-Err-Refused.line; number = c.in-Err-Refused.number })
-    (subst (λ (e : CertError). Fails (checked (cutting s) c.root_of.result c.deref.result.now c.args.text.now) e) c.in-Err-Refused.field-0-is c.in-Err-Refused.ensures.checked))
+    let span = c.args.span in
+    let text = c.args.text.now in
+    subst (λ (r : Refusal). (r ≡ Memory) ⊎ (verification_of find s span text ≡ Err r)) (sym c.refusal_of.ensures)
+    (error_is find s span c.root_of.result c.deref.result.now text c.root_of.ensures (c.deref.ensures.value ∙ c.in_ok-line.ensures.line) c.in-Err.error c.in-Err.ensures.checked)

@@ -23,7 +23,8 @@ use Rattle.gf_cert.specs.Search.{cutting}
 
 -- ---- times of an ephemeris have at most 15 digits
 times_small : (start t : ℤ) (blocks : ℕ) (length : ℤ) → FIRST_TICK ≤ℤ start → start ≤ℤ LAST_TICK → blocks ≤ MAX_BLOCKS
-    → pos 1 ≤ℤ length → length ≤ℤ LONGEST_TICKS → start ≤ℤ t → t ≤ℤ (start +ℤ (pos blocks *ℤ length)) → unsigned_abs t < 10 ^ 15
+    → pos 1 ≤ℤ length → length ≤ℤ LONGEST_TICKS → start ≤ℤ t → t ≤ℤ (start +ℤ (pos blocks *ℤ length))
+    → unsigned_abs t < 10 ^ 15
 times_small start t blocks (pos length) first last few some long from to =
     let all : blocks * length ≤ 16384 * 5529600000 = mul-le blocks length 16384 5529600000 few (omega (arith, ints, long)) in
     omega (arith, ints, first, last, from, to, all)
@@ -38,7 +39,9 @@ module _ (s : Search) (is : IsSearch s) where
   is_cutting_of = record {
     sound = rules_are_sound s is.view;
     split = split_may s;
-    cut = λ n valid may. let are = parts_are s is.view n valid may in record { cuts = are.0; left = are.1; right = are.2 };
+    cut =
+        λ n valid may. let are =
+        parts_are s is.view n valid may in record { cuts = are.0; left = are.1; right = are.2 };
   }
 
   module _ (few : s.depth ≤ 40) where
@@ -55,7 +58,8 @@ module _ (s : Search) (is : IsSearch s) where
 
     all_fit : (ls : List Leaf) → All (IsLeaf (rules s)) ls → AllFit ls
     all_fit [] are = tt
-    all_fit (l ∷ ls) are = (leaf_fits l (All-head (IsLeaf (rules s)) l ls are), all_fit ls (All-tail (IsLeaf (rules s)) l ls are))
+    all_fit (l ∷ ls) are =
+        (leaf_fits l (All-head (IsLeaf (rules s)) l ls are), all_fit ls (All-tail (IsLeaf (rules s)) l ls are))
 
     module _ (root : Node) (valid : IsValid (rules s) root) where
       leaves_fit : AllFit (leaves (rules s) root)

@@ -8,7 +8,8 @@ use Rattle.spec_trees.proofs.Leaves.{parts_width, some_width}
 use Rattle.spec_certificates.specs.Places.{Cutting, IsCutting, is_same, waiting_after, waiting_within}
 
 -- ---- nodes that are the same
-same_parts : (a b : ℤ) (c d : ℤ) (e f : ℕ) → (int_eq a b && (int_eq c d && (e == f))) ≡ true → (a ≡ b) × (c ≡ d) × (e ≡ f)
+same_parts : (a b : ℤ) (c d : ℤ) (e f : ℕ) → (int_eq a b && (int_eq c d && (e == f))) ≡ true
+    → (a ≡ b) × (c ≡ d) × (e ≡ f)
 same_parts a b c d e f is = (grind (arith, ints), grind (arith, ints), grind (arith, ints))
 
 pub same_node : (n m : Node) → is_same n m ≡ true → n ≡ m
@@ -45,17 +46,21 @@ module _ (c : Cutting) (here : Node) (rest : List Node) (node : Node) where
   unfolding waiting_within
   cut_again k other may = rw (other, may, waiting_within) refl
 
-  pub not_cut : (k : ℕ) → is_same here node ≡ false → c.may here ≡ false → waiting_within c (suc k) here rest node ≡ None
+  pub not_cut : (k : ℕ) → is_same here node ≡ false → c.may here ≡ false
+      → waiting_within c (suc k) here rest node ≡ None
   unfolding waiting_within
   not_cut k other may = rw (other, may, waiting_within) refl
 
 -- ---- any bound on the width serves
-enough_by : (c : Cutting) → IsCutting c → (k j : ℕ) (here : Node) (rest : List Node) (node : Node) → IsValid c.rules here → width here ≤ suc k → width here ≤ suc j
+enough_by : (c : Cutting) → IsCutting c → (k j : ℕ) (here : Node) (rest : List Node) (node : Node)
+    → IsValid c.rules here → width here ≤ suc k → width here ≤ suc j
     → (same may : Bool) → is_same here node ≡ same → c.may here ≡ may
     → ((i : Node) (more : List Node) → IsValid c.rules i → width i ≤ k → width i ≤ j → waiting_within c k i more node ≡ waiting_within c j i more node)
     → waiting_within c (suc k) here rest node ≡ waiting_within c (suc j) here rest node
-enough_by c is k j here rest node valid p q true may s m below = here_it_is c here rest node (suc k) s ∙ sym (here_it_is c here rest node (suc j) s)
-enough_by c is k j here rest node valid p q false false s m below = not_cut c here rest node k s m ∙ sym (not_cut c here rest node j s m)
+enough_by c is k j here rest node valid p q true may s m below =
+    here_it_is c here rest node (suc k) s ∙ sym (here_it_is c here rest node (suc j) s)
+enough_by c is k j here rest node valid p q false false s m below =
+    not_cut c here rest node k s m ∙ sym (not_cut c here rest node j s m)
 enough_by c is k j here rest node valid p q false true s m below =
     let cut = is.cut here valid m in
     let sum = parts_width c.rules here cut in
@@ -64,7 +69,8 @@ enough_by c is k j here rest node valid p q false true s m below =
     ∙ below (c.rules.parts here).0 ((c.rules.parts here).1 ∷ rest) cut.left (omega (arith, sum, some, p)) (omega (arith, sum, some, q))
     ∙ sym (cut_again c here rest node j s m)
 
-pub enough : (c : Cutting) → IsCutting c → (node : Node) (k j : ℕ) (here : Node) (rest : List Node) → IsValid c.rules here → width here ≤ k → width here ≤ j
+pub enough : (c : Cutting) → IsCutting c → (node : Node) (k j : ℕ) (here : Node) (rest : List Node)
+    → IsValid c.rules here → width here ≤ k → width here ≤ j
     → waiting_within c k here rest node ≡ waiting_within c j here rest node
 enough c is node zero j here rest valid p q = absurd (omega (arith, some_width c.rules here valid, p))
 enough c is node (suc k) zero here rest valid p q = absurd (omega (arith, some_width c.rules here valid, q))
@@ -105,7 +111,9 @@ pub record IsPlaced (t : Rules) (a b : ℤ) (node : Node) (later : List Node) : 
   pub valid : IsValid t node
   pub rest : Follow t node.b later b
 
-placed_by : (c : Cutting) → IsCutting c → (k : ℕ) (here : Node) (rest : List Node) (node : Node) (later : List Node) (a b : ℤ) → here.a ≡ a → IsValid c.rules here → Follow c.rules here.b rest b
+placed_by : (c : Cutting) → IsCutting c
+    → (k : ℕ) (here : Node) (rest : List Node) (node : Node) (later : List Node) (a b : ℤ) → here.a ≡ a
+    → IsValid c.rules here → Follow c.rules here.b rest b
     → (same may : Bool) → is_same here node ≡ same → c.may here ≡ may
     → ((i : Node) (more : List Node) → i.a ≡ a → IsValid c.rules i → Follow c.rules i.b more b → waiting_within c k i more node ≡ Some later → IsPlaced c.rules a b node later)
     → waiting_within c (suc k) here rest node ≡ Some later → IsPlaced c.rules a b node later
@@ -116,7 +124,8 @@ placed_by c is k here rest node later a b from valid follow true may s m below e
     record {
       from = subst (λ (n : Node). n.a ≡ a) it from;
       valid = subst (IsValid c.rules) it valid;
-      rest = subst (λ (n : Node). Follow c.rules n.b later b) it (subst (λ (ns : List Node). Follow c.rules here.b ns b) last follow);
+      rest =
+          subst (λ (n : Node). Follow c.rules n.b later b) it (subst (λ (ns : List Node). Follow c.rules here.b ns b) last follow);
     }
 placed_by c is k here rest node later a b from valid follow false false s m below e =
     let none : None ≡ Some later = sym (not_cut c here rest node k s m) ∙ e in absurd (cc)
@@ -126,8 +135,10 @@ placed_by c is k here rest node later a b from valid follow false true s m below
     (sym cut.cuts.meet, cut.right, subst (λ (z : ℤ). Follow c.rules z rest b) (sym cut.cuts.to) follow)
     (sym (cut_again c here rest node k s m) ∙ e)
 
-placed_last : (c : Cutting) (here : Node) (rest : List Node) (node : Node) (later : List Node) (a b : ℤ) → here.a ≡ a → IsValid c.rules here → Follow c.rules here.b rest b
-    → (same : Bool) → is_same here node ≡ same → waiting_within c 0 here rest node ≡ Some later → IsPlaced c.rules a b node later
+placed_last : (c : Cutting) (here : Node) (rest : List Node) (node : Node) (later : List Node) (a b : ℤ) → here.a ≡ a
+    → IsValid c.rules here → Follow c.rules here.b rest b
+    → (same : Bool) → is_same here node ≡ same → waiting_within c 0 here rest node ≡ Some later
+    → IsPlaced c.rules a b node later
 placed_last c here rest node later a b from valid follow true s e =
     let one : Some rest ≡ Some later = sym (here_it_is c here rest node 0 s) ∙ e in
     let last : rest ≡ later = cc in
@@ -135,18 +146,24 @@ placed_last c here rest node later a b from valid follow true s e =
     record {
       from = subst (λ (n : Node). n.a ≡ a) it from;
       valid = subst (IsValid c.rules) it valid;
-      rest = subst (λ (n : Node). Follow c.rules n.b later b) it (subst (λ (ns : List Node). Follow c.rules here.b ns b) last follow);
+      rest =
+          subst (λ (n : Node). Follow c.rules n.b later b) it (subst (λ (ns : List Node). Follow c.rules here.b ns b) last follow);
     }
 placed_last c here rest node later a b from valid follow false s e =
     let none : None ≡ Some later = sym (nowhere c here rest node s) ∙ e in absurd (cc)
 
-placed_within : (c : Cutting) → IsCutting c → (node : Node) (later : List Node) (a b : ℤ) (k : ℕ) (here : Node) (rest : List Node) → here.a ≡ a → IsValid c.rules here → Follow c.rules here.b rest b
+placed_within : (c : Cutting) → IsCutting c
+    → (node : Node) (later : List Node) (a b : ℤ) (k : ℕ) (here : Node) (rest : List Node) → here.a ≡ a
+    → IsValid c.rules here → Follow c.rules here.b rest b
     → waiting_within c k here rest node ≡ Some later → IsPlaced c.rules a b node later
-placed_within c is node later a b zero here rest from valid follow e = placed_last c here rest node later a b from valid follow (is_same here node) refl e
+placed_within c is node later a b zero here rest from valid follow e =
+    placed_last c here rest node later a b from valid follow (is_same here node) refl e
 placed_within c is node later a b (suc k) here rest from valid follow e =
     placed_by c is k here rest node later a b from valid follow (is_same here node) (c.may here) refl refl (placed_within c is node later a b k) e
 
-pub placed : (c : Cutting) → IsCutting c → (here : Node) (rest : List Node) (node : Node) (later : List Node) (a b : ℤ) → Follow c.rules a (here ∷ rest) b
+pub placed : (c : Cutting) → IsCutting c
+    → (here : Node) (rest : List Node) (node : Node) (later : List Node) (a b : ℤ) → Follow c.rules a (here ∷ rest) b
     → waiting_after c here rest node ≡ Some later → IsPlaced c.rules a b node later
 unfolding waiting_after
-placed c is here rest node later a b follow e = placed_within c is node later a b (width here) here rest follow.0 follow.1 follow.2 e
+placed c is here rest node later a b follow e =
+    placed_within c is node later a b (width here) here rest follow.0 follow.1 follow.2 e

@@ -48,16 +48,19 @@ parted (line ∷ lines) (x ∷ xs) ys names =
 
 module _ (c : Cutting) (is : IsCutting c) (end : ℕ) where
   -- ---- one line
-  says_leaf : (line : Numbered) (rest : List Numbered) (waiting : List Node) (count : ℕ) (l : Leaf) → entry_at line ≡ Ok (entry.Leaf l)
+  says_leaf : (line : Numbered) (rest : List Numbered) (waiting : List Node) (count : ℕ) (l : Leaf)
+      → entry_at line ≡ Ok (entry.Leaf l)
       → leaves_from c end waiting count (line ∷ rest) ≡ (leaf_at c line.number waiting l >>= λ later. with_first l (leaves_from c end later (count + 1) rest))
   unfolding leaves_from
   says_leaf line rest waiting count l e =
       ap (λ (said : Result Entry CertFault). said >>= after_entry c line.number waiting count (λ later. leaves_from c end later (count + 1) rest) rest) e
 
-  right_mark : (n : Node) (m : Mark) → mark_of (c.rules.verdict n) ≡ Some m → is_mark (mark_of (c.rules.verdict n)) m ≡ true
+  right_mark : (n : Node) (m : Mark) → mark_of (c.rules.verdict n) ≡ Some m
+      → is_mark (mark_of (c.rules.verdict n)) m ≡ true
   right_mark n m e = ap (λ (found : Option Mark). is_mark found m) e ∙ is_that_mark m
 
-  stands : (line : ℕ) (n : Node) (rest : List Node) (m : Mark) → IsValid c.rules n → mark_of (c.rules.verdict n) ≡ Some m → leaf_at c line (n ∷ rest) (leaf_of n m) ≡ Ok rest
+  stands : (line : ℕ) (n : Node) (rest : List Node) (m : Mark) → IsValid c.rules n
+      → mark_of (c.rules.verdict n) ≡ Some m → leaf_at c line (n ∷ rest) (leaf_of n m) ≡ Ok rest
   stands line n rest m valid e =
       let place : or_broken (at_line line CERT_PLACE) (waiting_after c n rest n) ≡ Ok rest = ap (or_broken (at_line line CERT_PLACE)) (placed_here c is n valid rest n (same_self n)) in
       let mark : holds_or (at_line line CERT_MARK) (is_mark (mark_of (c.rules.verdict n)) m) ≡ Ok tt = ap (holds_or (at_line line CERT_MARK)) (right_mark n m e) in
@@ -65,7 +68,9 @@ module _ (c : Cutting) (is : IsCutting c) (end : ℕ) where
       ∙ ap (λ (r : Result (Unit {0}) CertFault). r >>= λ _. Ok rest) mark
 
   -- a leaf that ends before a node does stands in its parts
-  opens : (n : Node) (rest : List Node) → IsValid c.rules n → c.may n ≡ true → (line : Numbered) (lines : List Numbered) (count : ℕ) (l : Leaf) → entry_at line ≡ Ok (entry.Leaf l) → l.node.b <ℤ n.b
+  opens : (n : Node) (rest : List Node) → IsValid c.rules n → c.may n ≡ true
+      → (line : Numbered) (lines : List Numbered) (count : ℕ) (l : Leaf) → entry_at line ≡ Ok (entry.Leaf l)
+      → l.node.b <ℤ n.b
       → leaves_from c end (n ∷ rest) count (line ∷ lines) ≡ leaves_from c end ((c.rules.parts n).0 ∷ (c.rules.parts n).1 ∷ rest) count (line ∷ lines)
   opens n rest valid may line lines count l e before =
       let there = placed_in_parts c is n valid rest l.node (ends_later n l.node before) may in
@@ -77,7 +82,8 @@ module _ (c : Cutting) (is : IsCutting c) (end : ℕ) where
 
   -- ---- the lines of all leaves of a node
   abbrev IsTaken : Node → Type 0
-  IsTaken n = (lines : List Numbered) (rest : List Node) (count : ℕ) (more : List Numbered) → NameLeaves lines (leaves c.rules n)
+  IsTaken n =
+      (lines : List Numbered) (rest : List Node) (count : ℕ) (more : List Numbered) → NameLeaves lines (leaves c.rules n)
       → leaves_from c end (n ∷ rest) count (lines ++ more) ≡ fronted (leaves c.rules n) (leaves_from c end rest (count + length (leaves c.rules n)) more)
 
   -- the same, of leaves that are given
@@ -85,7 +91,8 @@ module _ (c : Cutting) (is : IsCutting c) (end : ℕ) where
   Takes n ls = (lines : List Numbered) (rest : List Node) (count : ℕ) (more : List Numbered) → NameLeaves lines ls
       → leaves_from c end (n ∷ rest) count (lines ++ more) ≡ fronted ls (leaves_from c end rest (count + length ls) more)
 
-  one_leaf : (n : Node) (m : Mark) → IsValid c.rules n → mark_of (c.rules.verdict n) ≡ Some m → Takes n (leaf_of n m ∷ [])
+  one_leaf : (n : Node) (m : Mark) → IsValid c.rules n → mark_of (c.rules.verdict n) ≡ Some m
+      → Takes n (leaf_of n m ∷ [])
   one_leaf n m valid e [] rest count more names = absurd names
   one_leaf n m valid e (line ∷ []) rest count more names =
       says_leaf line more (n ∷ rest) count (leaf_of n m) names.0
@@ -94,10 +101,13 @@ module _ (c : Cutting) (is : IsCutting c) (end : ℕ) where
   one_leaf n m valid e (line ∷ other ∷ lines) rest count more names = absurd names.1
 
   -- the first line of the leaves of a left part opens the node
-  opened : (n : Node) (rest : List Node) → IsValid c.rules n → c.may n ≡ true → (lines more : List Numbered) (ls : List Leaf) (count : ℕ) → Covers (c.rules.parts n).0.a ls (c.rules.parts n).0.b
+  opened : (n : Node) (rest : List Node) → IsValid c.rules n → c.may n ≡ true
+      → (lines more : List Numbered) (ls : List Leaf) (count : ℕ)
+      → Covers (c.rules.parts n).0.a ls (c.rules.parts n).0.b
       → NameLeaves lines ls → IsCut c.rules n
       → leaves_from c end (n ∷ rest) count (lines ++ more) ≡ leaves_from c end ((c.rules.parts n).0 ∷ (c.rules.parts n).1 ∷ rest) count (lines ++ more)
-  opened n rest valid may [] more [] count cover names cut = let none : (c.rules.parts n).0.a ≡ (c.rules.parts n).0.b = cover in absurd (omega (arith, ints, none, cut.left.inside))
+  opened n rest valid may [] more [] count cover names cut =
+      let none : (c.rules.parts n).0.a ≡ (c.rules.parts n).0.b = cover in absurd (omega (arith, ints, none, cut.left.inside))
   opened n rest valid may [] more (l ∷ ls) count cover names cut = absurd names
   opened n rest valid may (line ∷ lines) more [] count cover names cut = absurd names
   opened n rest valid may (line ∷ lines) more (l ∷ ls) count cover names cut =
@@ -105,7 +115,8 @@ module _ (c : Cutting) (is : IsCutting c) (end : ℕ) where
       let right = cut.right.inside in
       opens n rest valid may line (lines ++ more) count l names.0 (omega (arith, ints, within, cut.cuts.meet, cut.cuts.to, right))
 
-  two_parts : (n : Node) → IsValid c.rules n → c.may n ≡ true → IsCut c.rules n → (xs ys : List Leaf) → Covers (c.rules.parts n).0.a xs (c.rules.parts n).0.b
+  two_parts : (n : Node) → IsValid c.rules n → c.may n ≡ true → IsCut c.rules n → (xs ys : List Leaf)
+      → Covers (c.rules.parts n).0.a xs (c.rules.parts n).0.b
       → Takes (c.rules.parts n).0 xs → Takes (c.rules.parts n).1 ys → Takes n (xs ++ ys)
   two_parts n valid may cut xs ys cover left right lines rest count more names =
       let parts = parted lines xs ys names in
@@ -118,9 +129,11 @@ module _ (c : Cutting) (is : IsCutting c) (end : ℕ) where
       ∙ fronted_twice xs ys (leaves_from c end rest (count + length xs + length ys) more)
       ∙ ap (λ (k : ℕ). fronted (xs ++ ys) (leaves_from c end rest k more)) sum
 
-  taken_by : (k : ℕ) (n : Node) → IsValid c.rules n → width n ≤ suc k → (found : Option Mark) → mark_of (c.rules.verdict n) ≡ found
+  taken_by : (k : ℕ) (n : Node) → IsValid c.rules n → width n ≤ suc k → (found : Option Mark)
+      → mark_of (c.rules.verdict n) ≡ found
       → ((i : Node) → IsValid c.rules i → width i ≤ k → IsTaken i) → IsTaken n
-  taken_by k n valid w (Some m) e below = subst (Takes n) (sym (leaves_settled c.rules is.sound n valid m e)) (one_leaf n m valid e)
+  taken_by k n valid w (Some m) e below =
+      subst (Takes n) (sym (leaves_settled c.rules is.sound n valid m e)) (one_leaf n m valid e)
   taken_by k n valid w None e below =
       let split = no_mark (c.rules.verdict n) e in
       let cut = is.sound.cut n valid split in

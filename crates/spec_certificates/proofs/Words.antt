@@ -1,13 +1,11 @@
 -- The words of the lines of leaves and of the end, and what they say.
-use Rattle.std.proofs.Common.{◌≡◌, ◌^◌, ◌<◌, ◌≤◌, ◌&&◌, ℕ, suc, Bool, true, List, [], ◌∷◌, ◌++◌, length, Some, ℤ, pos, negsuc, neg_ℤ, option_map, refl, sym, ap, ◌∙◌, subst, arith, lit<, lit≤, rules, ne_eqb, append_assoc}
+use Rattle.std.proofs.Common.{◌≡◌, ◌^◌, ◌<◌, ◌≤◌, ℕ, suc, List, [], ◌∷◌, ◌++◌, length, Some, ℤ, pos, negsuc, neg_ℤ, option_map, refl, sym, ap, ◌∙◌, subst, arith, lit<, lit≤, rules, ne_eqb, append_assoc}
 use Rattle.std.specs.Prelude.{unsigned_abs}
-use Rattle.std.specs.Char.{is_ascii_digit}
 use Rattle.std.specs.Fmt.{decimal, signed_decimal}
-use Rattle.std.specs.List.{list_all}
 use Rattle.std.proofs.lemmas.Bool.{lt-ltb, le-leb}
 use Rattle.std.proofs.lemmas.Fmt.{decimal_nonempty, digits_value-decimal, length-decimal-le}
 use Rattle.std.proofs.lemmas.List.{length-append}
-use Rattle.spec_text.specs.Decimals.{AreDigits, value, value_after}
+use Rattle.spec_text.specs.Decimals.{AreDigits}
 use Rattle.spec_text.specs.Lines.{tokens}
 use Rattle.spec_text.specs.Printed.{AreFrom, IsLine}
 use Rattle.spec_text.proofs.Printed.{decimal_digits, digits_from, digits_pass, from_append, from_less, no_separators, numerals, printed}
@@ -44,7 +42,8 @@ module _ (most n : ℕ) (some : 0 < most) (few : n < 10 ^ most) (fits : n < 2 ^ 
       rw (all, is, within) (ap (λ (k : ℕ). Some k) (digits_value-decimal numerals n fits))
 
 -- ---- times
-plain_time : (word : List ℕ) (n : ℕ) → AreDigits word → 0 < length word → count_of 15 word ≡ Some n → time_of word ≡ Some (pos n)
+plain_time : (word : List ℕ) (n : ℕ) → AreDigits word → 0 < length word → count_of 15 word ≡ Some n
+    → time_of word ≡ Some (pos n)
 plain_time [] n are some e = absurd (omega (arith, some))
 plain_time (b ∷ word) n are some e = rw (ne_eqb b 45 (λ same. omega (arith, same, are.0.0)), e) refl
 
@@ -77,7 +76,8 @@ mark_is_word Undecided = record { bytes = (lit≤ tt, tt); some = lit< tt; short
 
 -- ---- the line of a leaf
 -- words with a blank between each two
-nested : (w a b d m : List ℕ) → (w ++ 32 ∷ a) ++ (32 ∷ b) ++ (32 ∷ d) ++ (32 ∷ m) ≡ w ++ 32 ∷ (a ++ 32 ∷ (b ++ 32 ∷ (d ++ 32 ∷ m)))
+nested : (w a b d m : List ℕ)
+    → (w ++ 32 ∷ a) ++ (32 ∷ b) ++ (32 ∷ d) ++ (32 ∷ m) ≡ w ++ 32 ∷ (a ++ 32 ∷ (b ++ 32 ∷ (d ++ 32 ∷ m)))
 nested w a b d m =
     append_assoc ((w ++ 32 ∷ a) ++ (32 ∷ b)) (32 ∷ d) (32 ∷ m)
     ∙ append_assoc (w ++ 32 ∷ a) (32 ∷ b) (32 ∷ (d ++ 32 ∷ m))
@@ -106,7 +106,8 @@ module _ (l : Leaf) (fits : FitsLine l) where
   d_word = number_word 2 l.node.depth (lit< tt) fits.depth (omega (arith, fits.depth))
 
   leaf_nested : leaf_text l ≡ (76 ∷ []) ++ 32 ∷ (signed_decimal l.node.a ++ 32 ∷ (signed_decimal l.node.b ++ 32 ∷ (decimal l.node.depth ++ 32 ∷ mark_word l.mark)))
-  leaf_nested = nested (76 ∷ []) (signed_decimal l.node.a) (signed_decimal l.node.b) (decimal l.node.depth) (mark_word l.mark)
+  leaf_nested =
+      nested (76 ∷ []) (signed_decimal l.node.a) (signed_decimal l.node.b) (decimal l.node.depth) (mark_word l.mark)
 
   leaf_tokens : tokens (leaf_text l) ≡ (76 ∷ []) ∷ signed_decimal l.node.a ∷ signed_decimal l.node.b ∷ decimal l.node.depth ∷ mark_word l.mark ∷ []
   leaf_tokens =
@@ -161,7 +162,8 @@ module _ (n : ℕ) (few : n < 10 ^ 8) where
       ∙ ap (λ (ts : List (List ℕ)). (108 ∷ 101 ∷ 97 ∷ 118 ∷ 101 ∷ 115 ∷ []) ∷ ts) (last_token (decimal n) (no_separators (decimal n) n_word.bytes) n_word.some))
 
   pub end_said : entry_of (tokens (end_text n)) ≡ Some (entry.End n)
-  end_said = ap entry_of end_tokens ∙ ap (option_map (λ k. entry.End k)) (counted 8 n (lit< tt) few (omega (arith, few)))
+  end_said =
+      ap entry_of end_tokens ∙ ap (option_map (λ k. entry.End k)) (counted 8 n (lit< tt) few (omega (arith, few)))
 
   pub end_is_line : IsLine (end_text n)
   end_is_line = printed (end_text n)
@@ -170,4 +172,5 @@ module _ (n : ℕ) (few : n < 10 ^ 8) where
       (omega (arith, ap length end_tokens))
 
   pub end_short : length (end_text n) ≤ 19
-  end_short = omega (arith, length-append (69 ∷ 78 ∷ 68 ∷ 32 ∷ 108 ∷ 101 ∷ 97 ∷ 118 ∷ 101 ∷ 115 ∷ 32 ∷ []) (decimal n), n_word.short)
+  end_short =
+      omega (arith, length-append (69 ∷ 78 ∷ 68 ∷ 32 ∷ 108 ∷ 101 ∷ 97 ∷ 118 ∷ 101 ∷ 115 ∷ 32 ∷ []) (decimal n), n_word.short)

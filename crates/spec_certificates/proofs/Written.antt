@@ -18,7 +18,7 @@ use Rattle.spec_certificates.specs.Checks.{◌>>=◌, after_entry, at_line, chec
 use Rattle.spec_certificates.specs.Places.{Cutting, IsCutting}
 use Rattle.spec_certificates.specs.Texts.{certificate, end_text, leaf_lines, leaf_text}
 use Rattle.spec_certificates.proofs.Binds.{fronted}
-use Rattle.spec_certificates.specs.Shapes.{AllFit, FitsLine}
+use Rattle.spec_certificates.specs.Shapes.{AllFit}
 use Rattle.spec_certificates.proofs.Trees.{NameLeaves, taken}
 use Rattle.spec_certificates.proofs.Words.{end_is_line, end_said, end_short, leaf_is_line, leaf_said, leaf_short}
 
@@ -26,7 +26,8 @@ use Rattle.spec_certificates.proofs.Words.{end_is_line, end_said, end_short, lea
 abbrev all_lines : List ℕ → List Leaf → List (List ℕ)
 all_lines request ls = codes "CERT 1" ∷ request ∷ (map leaf_text ls ++ end_text (length ls) ∷ [])
 
-leaves_joined : (ls : List Leaf) (end : List ℕ) → leaf_lines ls ++ (end ++ 10 ∷ []) ≡ joined_lines (map leaf_text ls ++ end ∷ [])
+leaves_joined : (ls : List Leaf) (end : List ℕ)
+    → leaf_lines ls ++ (end ++ 10 ∷ []) ≡ joined_lines (map leaf_text ls ++ end ∷ [])
 unfolding joined_lines
 leaves_joined [] end = refl
 leaves_joined (l ∷ ls) end =
@@ -50,23 +51,27 @@ leaves_are_lines : (ls : List Leaf) → AllFit ls → AreLines (map leaf_text ls
 leaves_are_lines [] fit = tt
 leaves_are_lines (l ∷ ls) fit = (leaf_is_line l fit.0, leaves_are_lines ls fit.1)
 
-are_lines : (request : List ℕ) → IsLine request → (ls : List Leaf) → AllFit ls → length ls < 10 ^ 8 → AreLines (all_lines request ls)
+are_lines : (request : List ℕ) → IsLine request → (ls : List Leaf) → AllFit ls → length ls < 10 ^ 8
+    → AreLines (all_lines request ls)
 are_lines request is ls fit few =
     (first_is_line, (is, lines_append (map leaf_text ls) (end_text (length ls) ∷ []) (leaves_are_lines ls fit) (end_is_line (length ls) few, tt)))
 
 -- ---- what the lines say
-numbered_append : (n : ℕ) (xs ys : List (List ℕ)) → numbered_from n (xs ++ ys) ≡ numbered_from n xs ++ numbered_from (n + length xs) ys
+numbered_append : (n : ℕ) (xs ys : List (List ℕ))
+    → numbered_from n (xs ++ ys) ≡ numbered_from n xs ++ numbered_from (n + length xs) ys
 numbered_append n [] ys = let same : n ≡ n + 0 = omega arith in ap (λ (k : ℕ). numbered_from k ys) same
 numbered_append n (x ∷ xs) ys =
     let next : n + 1 + length xs ≡ n + suc (length xs) = omega arith in
     ap (λ (l : List Numbered). record { number = n; bytes = x } ∷ l) (numbered_append (n + 1) xs ys ∙ ap (λ (k : ℕ). numbered_from (n + 1) xs ++ numbered_from k ys) next)
 
-says : (n : ℕ) (line : List ℕ) (said : Entry) → IsLine line → entry_of (tokens line) ≡ Some said → entry_at (record { number = n; bytes = line }) ≡ Ok said
+says : (n : ℕ) (line : List ℕ) (said : Entry) → IsLine line → entry_of (tokens line) ≡ Some said
+    → entry_at (record { number = n; bytes = line }) ≡ Ok said
 says n line said is e = rw (not_long line is) (ap (or_broken (at_line n CERT_LINE)) e)
 
 leaves_named : (n : ℕ) (ls : List Leaf) → AllFit ls → NameLeaves (numbered_from n (map leaf_text ls)) ls
 leaves_named n [] fit = tt
-leaves_named n (l ∷ ls) fit = (says n (leaf_text l) (entry.Leaf l) (leaf_is_line l fit.0) (leaf_said l fit.0), leaves_named (n + 1) ls fit.1)
+leaves_named n (l ∷ ls) fit =
+    (says n (leaf_text l) (entry.Leaf l) (leaf_is_line l fit.0) (leaf_said l fit.0), leaves_named (n + 1) ls fit.1)
 
 words_same : (word : List ℕ) → bytes_eq word word ≡ true
 words_same word = search rules
@@ -86,7 +91,9 @@ wanted words rule end n further line rest is e =
     (ap (λ (ts : List (List ℕ)). holds_or (at_line n rule) (are_same ts words) >>= λ _. further rest) e
     ∙ ap (λ (b : Bool). holds_or (at_line n rule) b >>= λ _. further rest) (same_words words))
 
-ended : (c : Cutting) (end n count : ℕ) (line : List ℕ) → IsLine line → entry_of (tokens line) ≡ Some (entry.End count) → leaves_from c end [] count (record { number = n; bytes = line } ∷ []) ≡ Ok []
+ended : (c : Cutting) (end n count : ℕ) (line : List ℕ) → IsLine line
+    → entry_of (tokens line) ≡ Some (entry.End count)
+    → leaves_from c end [] count (record { number = n; bytes = line } ∷ []) ≡ Ok []
 unfolding leaves_from
 ended c end n count line is e =
     ap (λ (said : Result Entry CertFault). said >>= after_entry c n [] count (λ later. leaves_from c end later (count + 1) []) []) (says n line (entry.End count) is e)
@@ -96,14 +103,16 @@ module _ (c : Cutting) (is : IsCutting c) (root : Node) (valid : IsValid c.rules
   abbrev ls : List Leaf
   ls = leaves c.rules root
 
-  pub written : AllFit (leaves c.rules root) → length (leaves c.rules root) < 10 ^ 8 → checked c root request (certificate request (leaves c.rules root)) ≡ Ok (leaves c.rules root)
+  pub written : AllFit (leaves c.rules root) → length (leaves c.rules root) < 10 ^ 8
+      → checked c root request (certificate request (leaves c.rules root)) ≡ Ok (leaves c.rules root)
   unfolding checked
   written fit few =
       let text = certificate request ls in
       let end = length (lines text) + 1 in
       let further = leaves_from c end (root ∷ []) 0 in
       let last : Numbered = record { number = 3 + length (map leaf_text ls); bytes = end_text (length ls) } in
-      let are : text_lines text ≡ numbered_from 1 (all_lines request ls) = ap text_lines (text_joined request ls) ∙ text_lines_are (all_lines request ls) (are_lines request line ls fit few) in
+      let are : text_lines text ≡ numbered_from 1 (all_lines request ls) = ap text_lines (text_joined request ls)
+      ∙ text_lines_are (all_lines request ls) (are_lines request line ls fit few) in
       ap (with_words form_words CERT_LINE end (with_words (tokens request) CERT_REQUEST end further)) are
       ∙ wanted form_words CERT_LINE end 1 (with_words (tokens request) CERT_REQUEST end further) (codes "CERT 1") (numbered_from 2 (request ∷ (map leaf_text ls ++ end_text (length ls) ∷ []))) first_is_line refl
       ∙ wanted (tokens request) CERT_REQUEST end 2 further request (numbered_from 3 (map leaf_text ls ++ end_text (length ls) ∷ [])) line refl
@@ -119,7 +128,8 @@ leaves_short [] fit = omega arith
 leaves_short (l ∷ ls) fit =
     omega (arith, length-append (leaf_text l ++ 10 ∷ []) (leaf_lines ls), length-append (leaf_text l) (10 ∷ []), leaf_short l fit.0, leaves_short ls fit.1)
 
-pub short : (request : List ℕ) (ls : List Leaf) → length request ≤ 4096 → AllFit ls → length ls ≤ 4194304 → length (certificate request ls) ≤ 268435456
+pub short : (request : List ℕ) (ls : List Leaf) → length request ≤ 4096 → AllFit ls → length ls ≤ 4194304
+    → length (certificate request ls) ≤ 268435456
 short request ls line fit few =
     let end = end_text (length ls) in
     omega (

@@ -1,5 +1,5 @@
 -- The shape of the lines of leaves.
-use Rattle.std.specs.Prelude.{ℕ, ◌^◌, ◌<◌, List, [], ◌∷◌}
+use Rattle.std.specs.Prelude.{◌^◌, ◌<◌, List, [], ◌∷◌}
 use Rattle.std.specs.Int.RustNames.{unsigned_abs}
 use Rattle.spec_trees.specs.declared.tree.Leaf.{Leaf}
 

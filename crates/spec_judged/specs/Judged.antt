@@ -6,7 +6,6 @@ use Rattle.spec_trees.specs.declared.tree.Leaf.{Leaf}
 use Rattle.spec_trees.specs.declared.tree.Mark.TheVariants as M
 use Rattle.spec_trees.specs.declared.tree.Node.{Node}
 use Rattle.spec_trees.specs.declared.tree.Turn.{Turn}
-use Rattle.spec_trees.specs.declared.tree.Verdict.{Verdict}
 use Rattle.spec_trees.specs.declared.tree.Verdict.TheVariants as V
 use Rattle.spec_trees.specs.Tree.{Rules, IsSound, IsValid, leaf_of, width}
 use Rattle.spec_events.specs.declared.dir.Dir.{Dir}

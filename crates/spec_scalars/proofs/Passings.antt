@@ -1,5 +1,5 @@
 -- The events of a scalar are its wanted passings of 0.
-use Rattle.std.proofs.Common.{◌≡◌, ◌↔◌, true, [], ℤ, pos, negsuc, ◌-ℤ◌, ◌≤ℤ◌, ◌<ℤ◌, arith}
+use Rattle.std.proofs.Common.{◌≡◌, ◌↔◌, true, ℤ, pos, negsuc, ◌-ℤ◌, ◌≤ℤ◌, ◌<ℤ◌, arith}
 use Rattle.std.proofs.lemmas.Int.{ints}
 use Rattle.std.proofs.lemmas.List.Elements.{All-nil}
 use Rattle.spec_trees.specs.declared.tree.Turn.TheVariants.{Fall, Rise}

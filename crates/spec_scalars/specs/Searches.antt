@@ -1,5 +1,5 @@
 -- The search for the times at which a scalar passes 0.
-use Rattle.std.specs.Prelude.{◌≡◌, ◌+◌, ◌<◌, ◌≤ℤ◌, ◌<ℤ◌, ℕ, ℤ, false, List, [], pos}
+use Rattle.std.specs.Prelude.{◌+◌, ◌<◌, ℤ, false, List, [], pos}
 use Rattle.spec_intervals.specs.Enclosure.{Enclosure, triple}
 use Rattle.spec_intervals.specs.Fraction.{Fraction, fraction}
 use Rattle.spec_intervals.specs.Interval.{Interval, interval}

@@ -1,8 +1,6 @@
-use Rattle.std.proofs.Common.{◌≡◌}
 use Rattle.spec_trees.specs.declared.book.Book.{Book}
 use Rattle.spec_trees.specs.Order.{ordered_leaves}
 use Rattle.spec_scalars.specs.Searches.{search_over}
-use Rattle.steal_pool.specs.declared.seat.PoolError.{PoolError}
 use Rattle.gf_uds.proofs.Rules.{is_search, windows_of_result}
 use Rattle.gf_uds.proofs.finding.find_scalar.Goals as goal
 

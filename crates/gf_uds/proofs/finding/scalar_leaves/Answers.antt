@@ -1,4 +1,3 @@
-use Rattle.std.proofs.Common.{◌≡◌}
 use Rattle.spec_scalars.specs.Searches.{search_over}
 use Rattle.gf_uds.proofs.Rules.{is_search, windows_of_result}
 use Rattle.gf_uds.proofs.finding.scalar_leaves.Goals as goal

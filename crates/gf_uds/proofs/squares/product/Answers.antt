@@ -1,4 +1,4 @@
-use Rattle.std.proofs.Common.{◌*ℤ◌, ◌^◌, arith}
+use Rattle.std.proofs.Common.{◌^◌, arith}
 use Rattle.std.proofs.lemmas.Int.{fits_signed_mul, to_z-of_z}
 use mir.Syntax.{w128}
 use Rattle.spec_numbers.proofs.Sizes.{product_size}

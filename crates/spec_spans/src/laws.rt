@@ -1,0 +1,67 @@
+// The laws of neighbouring spans: each law is the contract of a function with nothing to do.
+ghost use Rattle.std.specs.Prelude.{◌≡◌, ◌⊎◌, ◌++◌, ◌<ℤ◌, ◌+ℤ◌, Contains, IsTrue, List, pos, ℕ, ℤ};
+ghost use Rattle.spec_ephemeris.specs.Ephemeris.{Ephemeris, IsBorder, IsEphemeris};
+ghost use Rattle.spec_ephemeris.specs.Header.{has_column};
+ghost use Rattle.spec_bodies.specs.Views.{columns_of};
+ghost use Rattle.spec_trees.specs.declared.cuts.CutRule.{CutRule};
+ghost use Rattle.spec_trees.specs.declared.tree.Leaf.{Leaf};
+ghost use Rattle.spec_trees.specs.Tree.{AreLeaves, Covers};
+ghost use Rattle.spec_trees.specs.Windows.{windows};
+ghost use Rattle.spec_events.specs.Events.{AreWindows};
+ghost use Rattle.spec_searches.specs.Search.{IsSearch, Search, events};
+ghost use Rattle.spec_searches.specs.Found.{IsLeftUndecided, IsSpan, leaves_of, rules, windows_of};
+ghost use Rattle.spec_spans.specs.Joins.{AreDecided, joined};
+ghost use Rattle.spec_spans.specs.Seams.{IsBlockBorder, IsSeam, limited};
+
+/// Where a span is cut at a border of a column in use, or one tick before it, the windows of its two parts, joined, are
+/// the windows of the span: with every width, depth and cut rule, and with the undecided ones.
+pub fn spans_meet_at_borders()
+    ensures { (s : Search) (first last time : ℤ) → IsSearch s → IsSpan s first last
+        → IsSeam s first last time
+        → windows_of s first last ≡ joined (windows_of s first time) (windows_of s time last) }
+{}
+
+/// Wherever spans meet, the windows of the one and those of the other, joined or side by side, keep every promise of
+/// the windows of both, where the leaves that are left undecided are those of the two.
+pub fn neighbouring_spans()
+    ensures joined { (s : Search) (first time last : ℤ) → IsSearch s → IsSpan s first time
+        → IsSpan s time last
+        → AreWindows (events s)
+        (IsLeftUndecided s (leaves_of s first time ++ leaves_of s time last)) first last
+        (joined (windows_of s first time) (windows_of s time last)) }
+    ensures side_by_side { (s : Search) (first time last : ℤ) → IsSearch s
+        → IsSpan s first time → IsSpan s time last
+        → AreWindows (events s)
+        (IsLeftUndecided s (leaves_of s first time ++ leaves_of s time last)) first last
+        (windows_of s first time ++ windows_of s time last) }
+{}
+
+/// The border of two blocks is a border of every column; where some column is in use, that time, and the tick before
+/// it, are times at which a span can be cut.
+pub fn borders_of_blocks()
+    ensures of_columns { (e : Ephemeris) (number : ℕ) (time : ℤ) → IsEphemeris e
+        → IsTrue (has_column e.header number) → IsBlockBorder e time → IsBorder e number time }
+    ensures seams { (s : Search) (number : ℕ) (first last border time : ℤ) → IsSearch s
+        → Contains (columns_of s.view) number → IsBlockBorder s.view.ephemeris border
+        → (time ≡ border) ⊎ (time +ℤ pos 1 ≡ border) → first <ℤ time → time <ℤ last
+        → IsSeam s first last time }
+{}
+
+/// Where the width is one tick and nothing is left undecided, a span has one list of windows: any leaves that cover it
+/// have the same, a span cut anywhere has those of its parts, and neither the depth nor the rule of the cuts changes
+/// them.
+pub fn decided_ticks()
+    ensures leaves { (s : Search) (first last : ℤ) (ls ms : List Leaf) → IsSearch s → s.width ≡ 1
+        → Covers first ls last → AreLeaves (rules s) ls → AreDecided (windows ls)
+        → Covers first ms last → AreLeaves (rules s) ms → AreDecided (windows ms)
+        → windows ls ≡ windows ms }
+    ensures parts { (s : Search) (first time last : ℤ) → IsSearch s → s.width ≡ 1
+        → IsSpan s first time → IsSpan s time last
+        → AreDecided (windows_of s first last) → AreDecided (windows_of s first time)
+        → AreDecided (windows_of s time last)
+        → windows_of s first last ≡ windows_of s first time ++ windows_of s time last }
+    ensures limits { (s : Search) (depth : ℕ) (rule : CutRule) (first last : ℤ) → IsSearch s
+        → s.width ≡ 1 → IsSpan s first last → AreDecided (windows_of s first last)
+        → AreDecided (windows_of (limited depth rule s) first last)
+        → windows_of s first last ≡ windows_of (limited depth rule s) first last }
+{}

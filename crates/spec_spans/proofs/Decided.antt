@@ -10,7 +10,7 @@ use Rattle.spec_trees.specs.Windows.{windows}
 use Rattle.spec_searches.specs.Search.{IsSearch, Search, events}
 use Rattle.spec_searches.specs.Found.{IsSpan, leaves_of, rules, windows_of}
 use Rattle.spec_spans.specs.Joins.{AreDecided, goes_on, is_open, joined, met}
-use Rattle.spec_spans.specs.Seams.{limited}
+use Rattle.spec_spans.specs.Searches.{limited}
 use Rattle.spec_spans.proofs.Neighbours.{are_leaves, are_leaves_both, cover, cover_both, joined_windows}
 use Rattle.spec_spans.proofs.Ticks.{decided_ticks, one_list, one_way}
 

@@ -4,3 +4,6 @@ pub mod Neighbours
 pub mod Ticks
 pub mod Decided
 pub mod Blocks
+pub mod Fewer
+pub mod Readings
+pub mod Alike

@@ -1,3 +1,4 @@
 pub mod Joins
 pub mod Seams
+pub mod Searches
 pub mod Examples

@@ -2,7 +2,6 @@
 use Rattle.std.specs.Prelude.{◌≡◌, ◌⊎◌, ℕ, ◌<◌, ℤ, pos, ◌+ℤ◌, ◌*ℤ◌, ◌<ℤ◌}
 use Rattle.spec_ephemeris.specs.Ephemeris.{Ephemeris, IsBorderIn}
 use Rattle.spec_bodies.specs.Views.{columns_of}
-use Rattle.spec_trees.specs.declared.cuts.CutRule.{CutRule}
 use Rattle.spec_searches.specs.Search.{Search}
 
 -- a time strictly inside a span that is a border of a column in use, or the tick before one
@@ -23,7 +22,3 @@ pub record IsBlockBorder (e : Ephemeris) (time : ℤ) : Type 0 where
   pub later : 0 < block
   pub within : block < e.blocks
   pub begins : block_start e block ≡ time
-
--- the search down to another depth, by another rule of the cuts
-abbrev pub limited : ℕ → CutRule → Search → Search
-limited depth rule s = record s { depth = depth; cut = rule }

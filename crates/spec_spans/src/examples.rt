@@ -1,10 +1,12 @@
-// Worked values of windows that are joined, by computation.
+// Worked values of windows that are joined, and of blocks, by computation.
 ghost use Rattle.std.specs.Prelude.{◌≡◌, ◌∷◌, ◌++◌, [], pos};
 ghost use Rattle.spec_trees.specs.declared.tree.Turn.TheVariants.{Rise};
 ghost use Rattle.spec_trees.specs.declared.window.Holds.TheVariants.{Certain, Undecided};
 ghost use Rattle.spec_trees.specs.Examples.{window};
-ghost use Rattle.spec_spans.specs.Examples.{earlier, later, later_by_one};
+ghost use Rattle.spec_spans.specs.Examples.{earlier, last_two_blocks, later, later_by_one, three_blocks};
 ghost use Rattle.spec_spans.specs.Joins.{joined};
+ghost use Rattle.spec_spans.specs.Searches.{some_blocks};
+ghost use Rattle.spec_spans.specs.Seams.{block_start};
 
 /// An undecided window that ends with a span and one that begins with the next are one; a tick between them, or a
 /// certain window, keeps windows apart.
@@ -15,4 +17,10 @@ pub fn windows_joined()
     ensures apart { joined earlier later_by_one ≡ earlier ++ later_by_one }
     ensures certain { joined later earlier ≡ later ++ earlier }
     ensures none { joined [] later ≡ later }
+{}
+
+/// The last of three blocks of 100 ticks begins 200 ticks after the first; the last two alone have their own numbers.
+pub fn blocks_alone()
+    ensures start { block_start three_blocks 2 ≡ pos 1200 }
+    ensures last_two { some_blocks 1 2 three_blocks ≡ last_two_blocks }
 {}

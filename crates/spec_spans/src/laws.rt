@@ -11,7 +11,8 @@ ghost use Rattle.spec_events.specs.Events.{AreWindows};
 ghost use Rattle.spec_searches.specs.Search.{IsSearch, Search, events};
 ghost use Rattle.spec_searches.specs.Found.{IsLeftUndecided, IsSpan, leaves_of, rules, windows_of};
 ghost use Rattle.spec_spans.specs.Joins.{AreDecided, joined};
-ghost use Rattle.spec_spans.specs.Seams.{IsBlockBorder, IsSeam, limited};
+ghost use Rattle.spec_spans.specs.Seams.{IsBlockBorder, IsSeam};
+ghost use Rattle.spec_spans.specs.Searches.{AreBlocksUpTo, limited, over_blocks};
 
 /// Where a span is cut at a border of a column in use, or one tick before it, the windows of its two parts, joined, are
 /// the windows of the span: with every width, depth and cut rule, and with the undecided ones.
@@ -64,4 +65,15 @@ pub fn decided_ticks()
         → s.width ≡ 1 → IsSpan s first last → AreDecided (windows_of s first last)
         → AreDecided (windows_of (limited depth rule s) first last)
         → windows_of s first last ≡ windows_of (limited depth rule s) first last }
+{}
+
+/// A search over some of the blocks alone finds what the search over all of them does, in every span that ends before
+/// these blocks end, or wherever it ends where they are the last: a time at a border is read from the block that begins
+/// there, so that block has to be there.
+pub fn searches_over_some_blocks()
+    ensures { (s : Search) (skipped count : ℕ) (first last : ℤ) → IsSearch s
+        → IsSearch (over_blocks skipped count s)
+        → AreBlocksUpTo s.view.ephemeris skipped count last
+        → IsSpan (over_blocks skipped count s) first last
+        → windows_of (over_blocks skipped count s) first last ≡ windows_of s first last }
 {}

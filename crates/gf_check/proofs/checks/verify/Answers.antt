@@ -41,8 +41,8 @@ returns-in-Ok-clause-stopped g c =
     err_also {X = Vec ℕ Global} {E = Refusal} (λ r. r ≡ Memory)
     (λ r. (r ≡ Memory) ⊎ (verification_of c.args.find.now c.args.judge.now.search c.args.span c.args.text.now ≡ Err r)) c.printed.result (λ r is. inl is) c.printed.ensures.memory
 
-pub returns-in-Err-clause-stopped : goal.returns-in-Err-clause-stopped
-returns-in-Err-clause-stopped g c =
+pub returns-clause-stopped : goal.returns-clause-stopped
+returns-clause-stopped g c =
     let find = c.args.find.now in
     let s = c.args.judge.now.search in
     let span = c.args.span in

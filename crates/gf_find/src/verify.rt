@@ -2,9 +2,11 @@
 ghost use Rattle.std.specs.Prelude.{◌≡◌, ◌⊎◌, ◌<◌, Err, IfErr, IfOk, None, true};
 ghost use Rattle.spec_ephemeris.specs.Ephemeris.{end_of};
 ghost use Rattle.spec_ephemeris.specs.Ticks.{IsTick, in_ticks};
+ghost use Rattle.spec_trees.specs.Cuts.{CanCut, cut_of};
 ghost use Rattle.spec_trees.specs.Tree.{IsValid};
 ghost use Rattle.spec_searches.specs.Found.{root, rules};
 ghost use Rattle.spec_kinds.specs.Faults.{fault_of};
+ghost use Rattle.spec_kinds.specs.Kinds.{event_of};
 ghost use Rattle.spec_requests.specs.Limits.{IsWithinLimits};
 ghost use Rattle.spec_times.specs.Ticks.{IsTimeIn};
 ghost use Rattle.spec_outcomes.specs.Certificates.{IsVerification, verification_of};
@@ -17,9 +19,11 @@ ghost use Rattle.gf_find.specs.Reported.{AreNotOpened};
 use crate::certificate_file::read_certificate;
 use crate::files::ephemeris_of;
 use eph_model::Ephemeris;
+use event_kinds::Event;
 use gf_check::verify;
 use gf_edges::Shelf;
-use gf_query::{EventJudge, judge, span_asked};
+use gf_hooks::{Cutter, rule_cut};
+use gf_query::{EventJudge, event_of, judge, span_asked};
 use spec_outcomes::{Refusal, Span, query_of};
 use spec_requests::{FindAsk, Text};
 use std::alloc::Global;
@@ -49,7 +53,46 @@ fn verify_by<S: Shelf>(
     }
 }
 
-// The same over a span of an ephemeris that counts the ticks of the search.
+// The same over a span of an ephemeris that counts the ticks of the search, for its event, which has no fault.
+fn verify_event<S: Shelf>(
+    alloc: Global,
+    shelf: &mut S,
+    ephemeris: &Ephemeris,
+    find: &FindAsk,
+    cert: &Text,
+    span: Span,
+    event: Event,
+) -> Result<Vec<u8>, Refusal>
+    requires block { 0 < ephemeris.now.blocks }
+    requires start { IsTimeIn find.now.tick ephemeris.now.start }
+    requires end { IsTimeIn find.now.tick (end_of ephemeris.now) }
+    requires limits { IsWithinLimits find.now }
+    requires span { span ≡ span_of find.now ephemeris.now }
+    requires within { is_within span ephemeris.now ≡ true }
+    requires sound { fault_of ephemeris.now find.now.ask ≡ None }
+    requires event { event ≡ event_of find.now.ask }
+    ensures verified { IfOk result (λ bytes.
+        IsVerified (S.files shelf.old) find.now cert.now ephemeris.now bytes.items) }
+    ensures stopped { IfErr result (λ refusal. (refusal ≡ Refusal.Memory)
+        ⊎ VerifyHasOutcome (S.files shelf.old) find.now cert.now
+        (S.faults shelf.old) (S.faults shelf.new) ephemeris.now (Err refusal)) }
+{
+    let query = query_of(find);
+    let rule = query.cut;
+    let Ok(cut) = Box::new(
+        alloc,
+        move |a: i64, b: i64| -> i64
+            requires { CanCut a b }
+            ensures { result ≡ cut_of rule a b }
+        { rule_cut(rule, a, b) },
+    ) else {
+        return Err(Refusal::Memory);
+    };
+    let judge = judge(ephemeris, &query, event, Cutter::new(rule, cut));
+    verify_by(alloc, shelf, find, cert, span, &judge)
+}
+
+// The same, unless its event has a fault.
 fn verify_span<S: Shelf>(
     alloc: Global,
     shelf: &mut S,
@@ -71,8 +114,8 @@ fn verify_span<S: Shelf>(
         (S.faults shelf.old) (S.faults shelf.new) ephemeris.now (Err refusal)) }
 {
     let query = query_of(find);
-    match judge(alloc, ephemeris, &query) {
-        Ok(judge) => verify_by(alloc, shelf, find, cert, span, &judge),
+    match event_of(alloc, ephemeris, &query) {
+        Ok(event) => verify_event(alloc, shelf, ephemeris, find, cert, span, event),
         Err(refusal) => Err(refusal),
     }
 }

@@ -1,17 +1,18 @@
-use Rattle.std.proofs.Common.{◌≡◌, ◌⊎◌, ◌∙◌, ap, sym, subst}
-use Rattle.spec_outcomes.specs.declared.refusal.Refusal.{Refusal}
-use Rattle.spec_outcomes.specs.declared.refusal.Refusal.TheVariants.{Memory}
-use Rattle.spec_outcomes.specs.Outcomes.{HasFault}
-use Rattle.spec_outcomes.specs.Refusals.{of_fault}
-use Rattle.gf_query.proofs.Faults.{fault_stops, memory_stops}
+use Rattle.std.proofs.Common.{◌≢◌, [], ◌∷◌, sym, subst}
+use Rattle.std.specs.Prelude.{All}
+use Rattle.spec_ephemeris.specs.declared.body.Body.{Body}
+use Rattle.spec_bodies.specs.Views.{HasBody}
+use Rattle.spec_kinds.proofs.Served.{apart, present}
 use Rattle.gf_query.proofs.judges.judge.Goals as goal
 
-pub returns-in-Ok-clause-refused : goal.returns-in-Ok-clause-refused
-returns-in-Ok-clause-refused g c = memory_stops _ _ _ c.judge_by.ensures.memory
-
-pub returns-in-Err-clause-refused : goal.returns-in-Err-clause-refused
-returns-in-Err-clause-refused g c =
-    let e = c.args.ephemeris.now in
+pub new-states-requires-clause-present : goal.new-states-requires-clause-present
+new-states-requires-clause-present g c =
     let ask = c.args.query.now.ask in
-    let P : Refusal → Type 0 = λ refusal. (refusal ≡ Memory) ⊎ HasFault e ask refusal in
-    subst P (sym (c.of_fault.ensures ∙ ap of_fault c.event_fault.ensures)) (fault_stops e ask _ c.in-Err.ensures.refused)
+    let P : Body → Type 0 = λ second. All (HasBody c.args.ephemeris.now) (ask.observer ∷ ask.target ∷ second ∷ []) in
+    subst P (sym c.unwrap_or-second.ensures) (present c.args.ephemeris.now ask c.requires.sound)
+
+pub new-states-requires-clause-apart : goal.new-states-requires-clause-apart
+new-states-requires-clause-apart g c =
+    let ask = c.args.query.now.ask in
+    let P : Body → Type 0 = λ second. All (λ target. target ≢ ask.observer) (ask.target ∷ second ∷ []) in
+    subst P (sym c.unwrap_or-second.ensures) (apart c.args.ephemeris.now ask c.requires.sound)

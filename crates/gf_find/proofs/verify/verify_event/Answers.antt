@@ -1,0 +1,57 @@
+use Rattle.std.proofs.Common.{◌≡◌, ◌⊎◌, ℕ, Err, subst, sym}
+use Rattle.std.specs.Prelude.{Vec}
+use Rattle.std.specs.declared.alloc.Global.{Global}
+use Rattle.spec_trees.specs.Tree.{IsValid}
+use Rattle.spec_searches.specs.Search.{Search}
+use Rattle.spec_searches.specs.Found.{root, rules}
+use Rattle.spec_outcomes.specs.declared.refusal.Refusal.{Refusal}
+use Rattle.spec_outcomes.specs.declared.refusal.Refusal.TheVariants.{Memory}
+use Rattle.spec_outcomes.specs.Certificates.{IsVerification, verification_of}
+use Rattle.gf_find.specs.CertificateFiles.{CertificateHasOutcome, HoldsText, VerifyHasOutcome}
+use Rattle.gf_find.specs.Verifies.{IsVerified}
+use Rattle.spec_outcomes.proofs.Results.{err_also, ok_also}
+use Rattle.spec_outcomes.proofs.Searching.{root_valid}
+use Rattle.spec_outcomes.proofs.SpanTimes.{from_is, upto_is}
+use Rattle.gf_find.proofs.FoundLeaves.{asked_is}
+use Rattle.gf_find.proofs.Verifying.{certificate_refused, certificate_verified}
+use Rattle.gf_find.proofs.verify.verify_event.Goals as goal
+
+pub judge-requires-clause-query : goal.judge-requires-clause-query
+judge-requires-clause-query g c = asked_is c.args.find.now _ c.query_of-query.ensures c.requires.limits
+
+pub verify_by-requires-clause-from : goal.verify_by-requires-clause-from
+verify_by-requires-clause-from g c = from_is _ c.args.ephemeris.now c.requires.start c.requires.end c.args.span c.requires.within
+
+pub verify_by-requires-clause-upto : goal.verify_by-requires-clause-upto
+verify_by-requires-clause-upto g c = upto_is _ c.args.ephemeris.now c.requires.start c.requires.end c.args.span c.requires.within
+
+pub verify_by-requires-clause-valid : goal.verify_by-requires-clause-valid
+verify_by-requires-clause-valid g c =
+    subst (λ (s : Search). IsValid (rules s) (root c.args.span.from c.args.span.upto)) (sym c.judge-judge.ensures)
+    (root_valid c.query_of-query.result c.args.ephemeris.now c.args.span c.requires.within)
+
+pub returns-clause-verified : goal.returns-clause-verified
+returns-clause-verified g c =
+    let find = c.args.find.now in
+    let e = c.args.ephemeris.now in
+    let files = g.S.Shelf.files c.args.shelf.now in
+    let cert = c.args.cert.now in
+    let s = c.judge-judge.result.search in
+    ok_also {X = Vec ℕ Global} {E = Refusal} (λ bytes. HoldsText files cert (λ text. IsVerification find s c.args.span text bytes.items))
+    (λ bytes. IsVerified files find cert e bytes.items) c.verify_by.result
+    (λ bytes held. certificate_verified files find cert 0 0 e c.query_of-query.result c.args.span c.query_of-query.ensures c.requires.span c.requires.within c.requires.sound
+    s c.judge-judge.ensures bytes.items held) c.verify_by.ensures.verified
+
+pub returns-clause-stopped : goal.returns-clause-stopped
+returns-clause-stopped g c =
+    let find = c.args.find.now in
+    let e = c.args.ephemeris.now in
+    let files = g.S.Shelf.files c.args.shelf.now in
+    let cert = c.args.cert.now in
+    let s = c.judge-judge.result.search in
+    let count = g.S.Shelf.faults c.args.shelf.now in
+    let now = g.S.Shelf.faults c.verify_by.new.shelf in
+    err_also {X = Vec ℕ Global} {E = Refusal} (λ r. (r ≡ Memory) ⊎ CertificateHasOutcome files cert count now (verification_of find s c.args.span) (Err r))
+    (λ r. (r ≡ Memory) ⊎ VerifyHasOutcome files find cert count now e (Err r)) c.verify_by.result
+    (λ r has. certificate_refused files find cert count now e c.query_of-query.result c.args.span c.query_of-query.ensures c.requires.span c.requires.within c.requires.sound
+    s c.judge-judge.ensures r has) c.verify_by.ensures.stopped

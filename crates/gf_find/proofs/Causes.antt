@@ -95,7 +95,7 @@ module _ (known : Files) (names : Texts) (count now : ℕ) where
 
 -- files that are not opened have one outcome, whatever is known of them
 module _ (files : Option Files) (names : Texts) (count now : ℕ) where
-  unopened_held : (P : Ephemeris → Type 0) → AreNotOpened names → HoldEphemeris files names P → ⊥
+  pub unopened_held : (P : Ephemeris → Type 0) → AreNotOpened names → HoldEphemeris files names P → ⊥
   unopened_held P (inl none) p =
       none_held files p.ephemeris (subst (λ (ns : Texts). HaveEphemeris files ns p.ephemeris) (length-zero names none) p.held)
   unopened_held P (inr many) p = let few = p.held.accepted.few in absurd (omega (arith, many, few))

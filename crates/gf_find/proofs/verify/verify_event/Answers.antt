@@ -1,4 +1,6 @@
-use Rattle.std.proofs.Common.{◌≡◌, ◌⊎◌, ℕ, Err, subst, sym}
+use Rattle.std.proofs.Common.{◌≡◌, ◌⊎◌, ℕ, Err, None, subst, sym}
+use Rattle.spec_kinds.specs.Faults.{fault_of}
+use Rattle.spec_outcomes.specs.declared.query.Query.{Query}
 use Rattle.std.specs.Prelude.{Vec}
 use Rattle.std.specs.declared.alloc.Global.{Global}
 use Rattle.spec_trees.specs.Tree.{IsValid}
@@ -16,8 +18,8 @@ use Rattle.gf_find.proofs.FoundLeaves.{asked_is}
 use Rattle.gf_find.proofs.Verifying.{certificate_refused, certificate_verified}
 use Rattle.gf_find.proofs.verify.verify_event.Goals as goal
 
-pub judge-requires-clause-query : goal.judge-requires-clause-query
-judge-requires-clause-query g c = asked_is c.args.find.now _ c.query_of-query.ensures c.requires.limits
+pub judge-judge-requires-clause-query : goal.judge-judge-requires-clause-query
+judge-judge-requires-clause-query g c = asked_is c.args.find.now _ c.query_of-query.ensures c.requires.limits
 
 pub verify_by-requires-clause-from : goal.verify_by-requires-clause-from
 verify_by-requires-clause-from g c = from_is _ c.args.ephemeris.now c.requires.start c.requires.end c.args.span c.requires.within
@@ -37,9 +39,10 @@ returns-clause-verified g c =
     let files = g.S.Shelf.files c.args.shelf.now in
     let cert = c.args.cert.now in
     let s = c.judge-judge.result.search in
+    let sound : fault_of e c.query_of-query.result.ask ≡ None = subst (λ (q : Query). fault_of e q.ask ≡ None) (sym c.query_of-query.ensures) c.requires.sound in
     ok_also {X = Vec ℕ Global} {E = Refusal} (λ bytes. HoldsText files cert (λ text. IsVerification find s c.args.span text bytes.items))
     (λ bytes. IsVerified files find cert e bytes.items) c.verify_by.result
-    (λ bytes held. certificate_verified files find cert 0 0 e c.query_of-query.result c.args.span c.query_of-query.ensures c.requires.span c.requires.within c.requires.sound
+    (λ bytes held. certificate_verified files find cert 0 0 e c.query_of-query.result c.args.span c.query_of-query.ensures c.requires.span c.requires.within sound
     s c.judge-judge.ensures bytes.items held) c.verify_by.ensures.verified
 
 pub returns-clause-stopped : goal.returns-clause-stopped
@@ -49,9 +52,10 @@ returns-clause-stopped g c =
     let files = g.S.Shelf.files c.args.shelf.now in
     let cert = c.args.cert.now in
     let s = c.judge-judge.result.search in
+    let sound : fault_of e c.query_of-query.result.ask ≡ None = subst (λ (q : Query). fault_of e q.ask ≡ None) (sym c.query_of-query.ensures) c.requires.sound in
     let count = g.S.Shelf.faults c.args.shelf.now in
     let now = g.S.Shelf.faults c.verify_by.new.shelf in
     err_also {X = Vec ℕ Global} {E = Refusal} (λ r. (r ≡ Memory) ⊎ CertificateHasOutcome files cert count now (verification_of find s c.args.span) (Err r))
     (λ r. (r ≡ Memory) ⊎ VerifyHasOutcome files find cert count now e (Err r)) c.verify_by.result
-    (λ r has. certificate_refused files find cert count now e c.query_of-query.result c.args.span c.query_of-query.ensures c.requires.span c.requires.within c.requires.sound
+    (λ r has. certificate_refused files find cert count now e c.query_of-query.result c.args.span c.query_of-query.ensures c.requires.span c.requires.within sound
     s c.judge-judge.ensures r has) c.verify_by.ensures.stopped

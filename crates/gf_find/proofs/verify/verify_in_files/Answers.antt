@@ -8,6 +8,7 @@ use Rattle.gf_find.specs.Outcomes.{FilesHave, HaveEphemeris, HoldEphemeris}
 use Rattle.gf_find.specs.CertificateFiles.{VerifyHasOutcome}
 use Rattle.gf_find.specs.Verifies.{IsVerified}
 use Rattle.spec_outcomes.proofs.Results.{err_also, ok_also}
+use Rattle.gf_find.proofs.Causes.{unopened_held}
 use Rattle.gf_find.proofs.Accepted.{has_block, in_seconds, is_checked}
 use Rattle.gf_find.proofs.Times.{end_counted, start_counted}
 use Rattle.gf_find.proofs.Verifying.{files_refused, files_verified}
@@ -52,3 +53,10 @@ returns-clause-stopped g c =
     err_also {X = Vec ℕ Global} {E = Refusal} (λ r. (r ≡ Memory) ⊎ VerifyHasOutcome later find cert count now c.in_ticks-counted.result (Err r))
     (λ r. (r ≡ Memory) ⊎ FilesHave files find.files before now (λ e o. VerifyHasOutcome files find cert before now (in_ticks find.tick e) o) (Err r)) c.verify_ephemeris.result
     (λ r has. files_refused files later find cert before count now c.in_ok-ephemeris.ephemeris c.in_ticks-counted.result held c.in_ticks-counted.ensures c.ephemeris_of.ensures.files c.ephemeris_of.ensures.later r has) c.verify_ephemeris.ensures.stopped
+
+pub returns-clause-unopened : goal.returns-clause-unopened
+returns-clause-unopened g c =
+    let find = c.args.find.now in
+    let files = g.S.Shelf.files c.args.shelf.now in
+    let held : HaveEphemeris files find.files c.in_ok-ephemeris.ephemeris = subst (λ (names : List (List ℕ)). HaveEphemeris files names c.in_ok-ephemeris.ephemeris) c.as_slice.ensures c.in_ok-ephemeris.ensures.accepted in
+    λ none. absurd (unopened_held files find.files 0 0 (λ e. Unit {0}) none (record { ephemeris = c.in_ok-ephemeris.ephemeris; held = held; is = tt }))

@@ -165,6 +165,8 @@ class Stops(InFolder):
                 [sys.executable, "-c", f"import finder; {call}"],
                 stderr=subprocess.PIPE,
                 env={**os.environ, "FINDER": str(self.slow), "PYTHONPATH": str(TOP / "python")},
+                # (what runs in the background of a shell ignores the signal, and so would its children)
+                preexec_fn=lambda: signal.signal(signal.SIGINT, signal.SIG_DFL),
             )
             process = self.process()
             self.assertTrue(is_running(process))

@@ -8,7 +8,6 @@ swapped with the next one, CHANGES times for each search, and each has to be ref
 `finder_ref` whose `finder(words, files)` gives a status and what both outputs gain; where it is named, each answer has to be
 its answer, byte for byte.
 """
-import functools
 import os
 import random
 import subprocess
@@ -66,13 +65,15 @@ def reference_in(folder, files):
     import finder_ref
 
     read = finder_ref.read_ephemeris
-    finder_ref.read_ephemeris = lambda shelf, names, *more: kept(tuple(names), *more)
-    shelf_of = finder_ref.MemoryShelf
+    known = {}
 
-    @functools.lru_cache(maxsize=None)
-    def kept(names, *more):
-        return read(shelf_of(files), list(names), *more)
+    def read_once(shelf, names, *more):
+        key = (tuple(names),) + more
+        if key not in known:
+            known[key] = read(shelf, names, *more)
+        return known[key]
 
+    finder_ref.read_ephemeris = read_once
     return lambda words, cert: finder_ref.finder(words, dict(files, **{"certificate": cert}))
 
 

@@ -2,7 +2,7 @@
 use Rattle.std.proofs.Common.{◌≡◌, ◌≤◌, ◌-◌, ◌^◌, ◌&&◌, arith, refl, ap, ◌∙◌, sym, ℕ, zero, suc, ℤ, pos, negsuc, neg_ℤ, ◌+ℤ◌, ◌*ℤ◌, Bool, true, false, if◌then◌else◌, min, unsigned_abs}
 use Rattle.std.proofs.Math.IntN.{zero-*ℤ, *ℤ-one}
 use Rattle.std.proofs.Math.Nat.{zero-div}
-use Rattle.std.proofs.lemmas.Int.{ints, int_max_is, int_min_is}
+use Rattle.std.proofs.lemmas.Int.{clamps, ints}
 use Rattle.std.specs.Int.{int_min, int_max, int_gap}
 use lib.Signed.{lt_z, le_z}
 use Rattle.spec_numbers.specs.Numbers.{floor_div, ceil_div}
@@ -34,19 +34,15 @@ int_gap-self : (z : ℤ) → int_gap z z ≡ 0
 int_gap-self (pos n) = omega arith
 int_gap-self (negsuc n) = omega arith
 
-int_max-self : (z : ℤ) → int_max z z ≡ z
-int_max-self z = let e = int_max_is z z in omega (arith, ints)
-
-int_min-self : (z : ℤ) → int_min z z ≡ z
-int_min-self z = let e = int_min_is z z in omega (arith, ints)
-
 meet_up-self : (x : Interval) → meet_up x x ≡ narrow x.lo x.hi x.s
 unfolding meet_up lib.IntN.one
 meet_up-self x =
     let l : x.lo *ℤ pos 1 ≡ x.lo = *ℤ-one x.lo in
     let h : x.hi *ℤ pos 1 ≡ x.hi = *ℤ-one x.hi in
     let e : x.s +ℤ pos 0 ≡ x.s = omega (arith, lin) in
-    rw (int_gap-self x.s, floor_div-one x.lo, ceil_div-one x.hi, l, h, int_max-self x.lo, int_min-self x.hi, e)
+    let top : int_max x.lo x.lo ≡ x.lo = omega (arith, ints, clamps) in
+    let bottom : int_min x.hi x.hi ≡ x.hi = omega (arith, ints, clamps) in
+    rw (int_gap-self x.s, floor_div-one x.lo, ceil_div-one x.hi, l, h, top, bottom, e)
 
 narrow-zeros : (a b c d s : ℤ) → a ≡ pos 0 → b ≡ pos 0 → c ≡ pos 0 → d ≡ pos 0 → narrow (int_max a b) (int_min c d) s ≡ zero_interval
 narrow-zeros a b c d s e f g h = rw (e, f, g, h) (narrow-zero s)

@@ -1,18 +1,14 @@
 -- The times of an accepted ephemeris have texts, in its ticks too.
-use Rattle.std.proofs.Common.{ℕ, ℤ, pos, negsuc, ◌+ℤ◌, ◌*ℤ◌, ◌≤ℤ◌, arith}
+use Rattle.std.proofs.Common.{ℕ, ℤ, pos, ◌*ℤ◌, ◌≤ℤ◌, arith}
 use Rattle.std.proofs.lemmas.Int.{ints}
 use Rattle.spec_numbers.proofs.Order.{le-mul}
 use Rattle.spec_ephemeris.specs.declared.limits.TheConstants.{FIRST_TIME, LAST_TIME}
 use Rattle.spec_ephemeris.specs.Ticks.{IsInSeconds, in_ticks}
 use Rattle.spec_ephemeris.proofs.Ticks.{end_in_ticks}
 use Rattle.spec_ephemeris.specs.Ephemeris.{Ephemeris, IsEphemeris, end_of}
+use Rattle.spec_searches.proofs.Parts.{no_earlier}
 use Rattle.spec_times.specs.TimeWords.{IsTime}
 use Rattle.spec_times.specs.Ticks.{IsTimeIn}
-
--- an ephemeris ends no earlier than it begins
-no_earlier : (start block : ℤ) (count : ℕ) → pos 1 ≤ℤ block → start ≤ℤ (start +ℤ (pos count *ℤ block))
-no_earlier start (pos block) count some = omega (arith, ints)
-no_earlier start (negsuc block) count some = absurd (omega (arith, ints, some))
 
 end_late : (e : Ephemeris) → IsEphemeris e → IsInSeconds e → FIRST_TIME ≤ℤ end_of e
 end_late e checked seconds =

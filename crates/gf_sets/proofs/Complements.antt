@@ -9,11 +9,9 @@ use Rattle.spec_sets.proofs.Members.{le_so, le_test, has_first, has_rest, holds_
 use mir.Val.{SFits}
 use Rattle.std.proofs.Common.{w64}
 use Rattle.gf_sets.proofs.Reading.{ends_fit, split_at}
+use Rattle.spec_trees.proofs.Sides.{upto_or_after}
 use Rattle.gf_sets.specs.Complements.{IsLeftOut}
 use Rattle.spec_sets.specs.Spans.{IsAfterAll}
-
-order : (t m : ℤ) → (t ≤ℤ m) ⊎ (m <ℤ t)
-order t m = grind (arith, ints)
 
 abbrev pub AreInside : List Span → ℤ → ℤ → Type 0
 AreInside spans from to = (t : ℤ) → has spans t ≡ true → is_between from to t ≡ true
@@ -66,7 +64,7 @@ module _ (spans : List Span) (s : Span) (rest : List Span) (from to next : ℤ) 
   at : (t : ℤ) → (next ≤ℤ t) ⊎ (t <ℤ next) → has more t ≡ (int_le from t && (int_lt t (s.1 +ℤ pos 1) && not (has spans t)))
   at t (inl after) =
       added t
-      ∙ here t (has out t) (has spans t) (has rest t) after so_far.ordered (so_far.before t) (so_far.after t after) (order t (s.1 +ℤ pos 1))
+      ∙ here t (has out t) (has spans t) (has rest t) after so_far.ordered (so_far.before t) (so_far.after t after) (upto_or_after t (s.1 +ℤ pos 1))
       (not_later next s rest so_far.spans t)
   at t (inr before) = added t ∙ earlier t (has out t) (has spans t) before (so_far.before t)
 
@@ -78,7 +76,7 @@ module _ (spans : List Span) (s : Span) (rest : List Span) (from to next : ℤ) 
       record {
         ordered = omega (arith, ints, begins, ordered, first);
         upto = omega (arith, ints, last);
-        before = λ t. at t (order next t);
+        before = λ t. at t (upto_or_after next t);
         spans = lower (s.1 +ℤ pos 1) (s.1 +ℤ pos 2) rest (omega (arith, ints)) so_far.spans.3;
         after = λ t later. so_far.after t (omega (arith, ints, begins, ordered, later)) ∙ has_rest s rest t (is_past s t (omega (arith, ints, later)));
       }
@@ -98,7 +96,7 @@ out_before spans rest from to next out so_far t e = by (sym (so_far.before t) �
 -- and at the end the rest up to `to`
 pub whole_out : (spans : List Span) (from to next : ℤ) (out more : List Span) → IsLeftOut spans [] from to next out
     → ((t : ℤ) → has more t ≡ (has out t || (int_le next t && int_le t to))) → (t : ℤ) → has more t ≡ (is_between from to t && not (has spans t))
-whole_out spans from to next out more so_far added t = by (order next t)
+whole_out spans from to next out more so_far added t = by (upto_or_after next t)
   where
     past : (o h : Bool) → next ≤ℤ t → from ≤ℤ next → next ≤ℤ (to +ℤ pos 1) → o ≡ (int_le from t && (int_lt t next && not h)) → h ≡ false
         → (o || (int_le next t && int_le t to)) ≡ ((int_le from t && int_le t to) && not h)

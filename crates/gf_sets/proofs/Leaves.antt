@@ -5,33 +5,21 @@ use Rattle.spec_intervals.specs.declared.signs.Sign.{Sign}
 use Rattle.spec_trees.specs.declared.tree.Leaf.{Leaf}
 use Rattle.spec_trees.specs.declared.tree.Mark.TheVariants.{Clear}
 use Rattle.spec_trees.specs.Tree.{Covers}
+use Rattle.spec_trees.proofs.Placing.{covers_forward}
 use Rattle.spec_sets.specs.Spans.{IsAfterAll, Span}
 use Rattle.spec_sets.specs.Pairs.{AreOf}
 use Rattle.spec_sets.specs.Signs.{Follow, end_from, sign_in, sign_of_leaves}
+use Rattle.spec_sets.proofs.Members.{le_not, le_test}
 use Rattle.gf_sets.specs.Adding.{AreAdded}
 use Rattle.gf_sets.specs.Walking.{IsWalked, begins}
 use Rattle.std.proofs.lemmas.List.{drop_all}
 use Rattle.gf_sets.proofs.Pairs.{ends_before, longer_by, none_yet}
 use Rattle.gf_sets.proofs.Reading.{split_at}
 
-past : (t b : ℤ) → b <ℤ t → int_le t b ≡ false
-past t b h = grind (arith, ints)
-
-within : (t b : ℤ) → t ≤ℤ b → int_le t b ≡ true
-within t b h = grind (arith, ints)
-
 -- where leaves begin that cover the times from one to another
 begin_is : (a b : ℤ) (ls : List Leaf) → Covers a ls b → begins ls b ≡ a
 begin_is a b [] c = sym c
 begin_is a b (l ∷ ls) c = c.0
-
-pub covers_upto : (a b : ℤ) (ls : List Leaf) → Covers a ls b → a ≤ℤ b
-covers_upto a b [] c = omega (arith, ints, c)
-covers_upto a b (l ∷ ls) c =
-    let later = covers_upto l.node.b b ls c.2 in
-    let from = c.0 in
-    let wide = c.1 in
-    omega (arith, ints, later, from, wide)
 
 -- the first time alone
 pub first_walked : (point : ℤ → Sign) (from : ℤ) (leaves : List Leaf) (sure maybe : List Span) → Follow from leaves
@@ -47,14 +35,14 @@ first_walked point from leaves sure maybe follow are =
 
 -- the sign at the first time
 pub first_sign : (point : ℤ → Sign) (from : ℤ) (leaves : List Leaf) (t : ℤ) → from ≤ℤ t → t ≤ℤ from → sign_of_leaves point from leaves t ≡ point from
-first_sign point from leaves t low high = rw (within t from high) refl
+first_sign point from leaves t low high = rw (le_test t from high) refl
 
 module _ (point : ℤ → Sign) (from upto : ℤ) (leaves : List Leaf) (l : Leaf) (rest : List Leaf) (sure maybe : List Span) (walked : IsWalked point from upto leaves (l ∷ rest) sure maybe) where
   wide : l.node.a <ℤ l.node.b
   wide = walked.covers.1
 
   pub leaf_upto : l.node.b ≤ℤ upto
-  leaf_upto = covers_upto l.node.b upto rest walked.covers.2
+  leaf_upto = covers_forward rest l.node.b upto walked.covers.2
 
   pub leaf_wide : l.node.a <ℤ l.node.b
   leaf_wide = walked.covers.1
@@ -71,7 +59,7 @@ module _ (point : ℤ → Sign) (from upto : ℤ) (leaves : List Leaf) (l : Leaf
   sign_here t after before =
       let first = walked.ordered in
       let late : from <ℤ t = omega (arith, ints, first, after) in
-      rw (past t from late) (walked.same t (omega (arith, ints, after)) ∙ rw (within t l.node.b before) refl)
+      rw (le_not t from late) (walked.same t (omega (arith, ints, after)) ∙ rw (le_test t l.node.b before) refl)
 
   pub walked_on : (s m : List Span) → AreAdded (sign_in point l.node l.mark) (l.node.a +ℤ pos 1) l.node.b sure maybe s m → IsWalked point from upto leaves rest s m
   walked_on s m added =
@@ -80,7 +68,7 @@ module _ (point : ℤ → Sign) (from upto : ℤ) (leaves : List Leaf) (l : Leaf
       record {
         ordered = omega (arith, ints, at, first, wide);
         covers = subst (λ (z : ℤ). Covers z rest upto) (sym at) walked.covers.2;
-        same = λ t after. walked.same t (omega (arith, ints, at, wide, after)) ∙ rw (past t l.node.b (omega (arith, ints, at, after))) refl;
+        same = λ t after. walked.same t (omega (arith, ints, at, wide, after)) ∙ rw (le_not t l.node.b (omega (arith, ints, at, after))) refl;
         sets = subst (λ (z : ℤ). AreOf (sign_of_leaves point from leaves) from z s m) (sym at)
             (longer_by (sign_of_leaves point from leaves) (sign_in point l.node l.mark) from (l.node.a +ℤ pos 1) l.node.b sure maybe s m
             (omega (arith, ints, first)) (omega (arith, ints, wide))

@@ -8,11 +8,9 @@ use Rattle.spec_sets.specs.Spans.{Span, is_in, has, AreSpansFrom, earliest}
 use Rattle.spec_sets.proofs.Members.{has_first, holds_no, inside, lower, not_later}
 use mir.Val.{SFits}
 use Rattle.gf_sets.proofs.Reading.{ends_fit, le_by, split_at}
+use Rattle.spec_trees.proofs.Sides.{upto_or_after}
 use Rattle.gf_sets.specs.Meeting.{IsMet}
 use Rattle.spec_sets.specs.Spans.{IsAfterAll}
-
-order : (t m : ℤ) → (t ≤ℤ m) ⊎ (m <ℤ t)
-order t m = grind (arith, ints)
 
 pub not_met_yet : (xs ys : List Span) → AreSpansFrom earliest xs → AreSpansFrom earliest ys → IsMet xs ys xs ys []
 not_met_yet xs ys is js = record { shared = λ t. refl; later = λ t u e. absurd (false≢true e); more_are = is; others_are = js }
@@ -44,7 +42,7 @@ module _ (xs ys : List Span) (x y : Span) (more others out now : List Span) (so_
 
     first_shared : (t : ℤ) → (has xs t && has ys t) ≡ (has now t || (has more t && has (y ∷ others) t))
     first_shared t =
-        first_at t (has xs t && has ys t) (has out t) (has more t) (has others t) (so_far.shared t) (order t x.1) (no_more t) (no_others t)
+        first_at t (has xs t && has ys t) (has out t) (has more t) (has others t) (so_far.shared t) (upto_or_after t x.1) (no_more t) (no_others t)
         ∙ ap (λ (b : Bool). b || (has more t && has (y ∷ others) t)) (sym (added t))
 
     before_more : (t u : ℤ) → (int_le (int_max x.0 y.0) t && int_le t (int_min x.1 y.1)) ≡ true → has more u ≡ true → t <ℤ u
@@ -84,7 +82,7 @@ module _ (xs ys : List Span) (x y : Span) (more others out now : List Span) (so_
 
     second_shared : (t : ℤ) → (has xs t && has ys t) ≡ (has now t || (has (x ∷ more) t && has others t))
     second_shared t =
-        second_at t (has xs t && has ys t) (has out t) (has more t) (has others t) (so_far.shared t) (order t y.1) (no_more t) (no_others t)
+        second_at t (has xs t && has ys t) (has out t) (has more t) (has others t) (so_far.shared t) (upto_or_after t y.1) (no_more t) (no_others t)
         ∙ ap (λ (b : Bool). b || (has (x ∷ more) t && has others t)) (sym (added t))
 
     before_others : (t u : ℤ) → (int_le (int_max x.0 y.0) t && int_le t (int_min x.1 y.1)) ≡ true → has others u ≡ true → t <ℤ u

@@ -5,6 +5,7 @@ use Rattle.std.proofs.lemmas.Int.{ints}
 use Rattle.std.proofs.lemmas.Bool.{and_parts}
 use Rattle.spec_intervals.specs.declared.signs.Sign.{Sign}
 use Rattle.spec_intervals.specs.declared.signs.Sign.TheVariants.{Yes, No, Open}
+use Rattle.spec_trees.proofs.Sides.{upto_or_after}
 use Rattle.spec_sets.specs.Spans.{Span, is_in, has}
 use Rattle.spec_sets.specs.Pairs.{AreOf}
 use Rattle.spec_sets.specs.Spans.{is_between}
@@ -62,10 +63,6 @@ opposite_of x from upto sure maybe s m are a b = record {
   maybe = λ t. b t ∙ (ap (λ h. is_between from upto t && not h) (are.sure t) ∙ (not_within (is_between from upto t) (is_sure (x t)) ∙ ap (λ p. is_between from upto t && p) (sym (opposite_possible (x t)))));
 }
 
--- ---- longer
-order : (t m : ℤ) → (t ≤ℤ m) ⊎ (m <ℤ t)
-order t m = grind (arith, ints)
-
 -- ---- one run of times more
 -- a span by other names of its ends
 pub by_ends : (now old : List Span) (a b first last : ℤ) → a ≡ first → b ≡ last → ((t : ℤ) → has now t ≡ (has old t || is_in (a, b) t))
@@ -118,8 +115,8 @@ run_as_read x y a b first last sure maybe s m e f l added =
 pub turn_added : (x : Sign) (first last : ℤ) (sure maybe s m s_now m_now : List Span) → first ≤ℤ last → AreAdded (λ t. Open) first (last -ℤ pos 1) sure maybe s m
     → AreAdded (λ t. x) last last s m s_now m_now → AreAdded (λ t. if int_lt t last then Open else x) first last sure maybe s_now m_now
 turn_added x first last sure maybe s m s_now m_now ordered before at = record {
-  sure = λ t. at.sure t ∙ (ap (λ (h : Bool). h || (is_between last last t && is_sure x)) (before.sure t) ∙ both is_sure t (has sure t) (order last t));
-  maybe = λ t. at.maybe t ∙ (ap (λ (h : Bool). h || (is_between last last t && is_possible x)) (before.maybe t) ∙ both is_possible t (has maybe t) (order last t));
+  sure = λ t. at.sure t ∙ (ap (λ (h : Bool). h || (is_between last last t && is_sure x)) (before.sure t) ∙ both is_sure t (has sure t) (upto_or_after last t));
+  maybe = λ t. at.maybe t ∙ (ap (λ (h : Bool). h || (is_between last last t && is_possible x)) (before.maybe t) ∙ both is_possible t (has maybe t) (upto_or_after last t));
 }
   where
     early : (t : ℤ) (o p q : Bool) → t <ℤ last → ((o || ((int_le first t && int_le t (last -ℤ pos 1)) && p)) || ((int_le last t && int_le t last) && q)) ≡ (o || ((int_le first t && int_le t last) && p))
@@ -143,8 +140,8 @@ turn_added x first last sure maybe s m s_now m_now ordered before at = record {
 pub longer_by : (x y : ℤ → Sign) (from first last : ℤ) (sure maybe s m : List Span) → from ≤ℤ first → first ≤ℤ (last +ℤ pos 1)
     → AreOf x from (first -ℤ pos 1) sure maybe → AreAdded y first last sure maybe s m → ((t : ℤ) → first ≤ℤ t → t ≤ℤ last → x t ≡ y t) → AreOf x from last s m
 longer_by x y from first last sure maybe s m start ordered are added same = record {
-  sure = λ t. added.sure t ∙ at is_sure t (has sure t) (are.sure t) (order first t) (order t last);
-  maybe = λ t. added.maybe t ∙ at is_possible t (has maybe t) (are.maybe t) (order first t) (order t last);
+  sure = λ t. added.sure t ∙ at is_sure t (has sure t) (are.sure t) (upto_or_after first t) (upto_or_after t last);
+  maybe = λ t. added.maybe t ∙ at is_possible t (has maybe t) (are.maybe t) (upto_or_after first t) (upto_or_after t last);
 }
   where
     inside : (t : ℤ) (h p : Bool) → first ≤ℤ t → t ≤ℤ last → h ≡ ((int_le from t && int_le t (first -ℤ pos 1)) && p) → (h || ((int_le first t && int_le t last) && p)) ≡ ((int_le from t && int_le t last) && p)

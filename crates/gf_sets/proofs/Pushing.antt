@@ -5,6 +5,7 @@ use Rattle.std.proofs.lemmas.Int.{fits_signed_from_abs, ints, to_z-of_z}
 use Rattle.std.proofs.lemmas.List.{get_or_read}
 use mir.Val.{SFits}
 use Rattle.std.proofs.lemmas.Bool.{or_cases, false≢true}
+use Rattle.spec_trees.proofs.Sides.{upto_or_after}
 use Rattle.spec_sets.specs.Spans.{Span, is_in, has, AreSpansFrom, earliest}
 use Rattle.spec_sets.proofs.Members.{inside, has_first, holds_no, in_parts}
 use Rattle.spec_sets.specs.Spans.{IsAfterAll}
@@ -117,11 +118,8 @@ apart_from low xs i d first last is after untouched t e =
     by (get_or xs i d).1 untouched upto before
   where
     by : (end : ℤ) → ((end +ℤ pos 1) ≡ first → ⊥) → t ≤ℤ end → end <ℤ first → (t +ℤ pos 2) ≤ℤ first
-    by end apart upto before = split (order (first -ℤ end) (pos 1))
+    by end apart upto before = split (upto_or_after (first -ℤ end) (pos 1))
       where
-        order : (a b : ℤ) → (a ≤ℤ b) ⊎ (b <ℤ a)
-        order a b = grind (arith, ints)
-
         split : ((first -ℤ end) ≤ℤ pos 1) ⊎ (pos 1 <ℤ (first -ℤ end)) → (t +ℤ pos 2) ≤ℤ first
         split (inl near) = absurd (apart (omega (arith, ints, near, before)))
         split (inr far) = omega (arith, ints, far, upto)

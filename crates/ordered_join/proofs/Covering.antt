@@ -1,17 +1,11 @@
--- Each leaf of a cover stands for some time, and entries that follow one another cover a root.
-use Rattle.std.proofs.Common.{◌≡◌, ◌<ℤ◌, ◌++◌, List, [], ◌∷◌, All, ℤ, refl, sym, ap, ◌∙◌, subst}
-use Rattle.std.proofs.lemmas.List.Elements.{All-nil, All-cons}
+-- Entries that follow one another cover a root.
+use Rattle.std.proofs.Common.{◌≡◌, ◌<ℤ◌, ◌++◌, List, [], ◌∷◌, ℤ, refl, sym, ap, ◌∙◌, subst}
 use Rattle.spec_trees.specs.declared.tree.Leaf.{Leaf}
 use Rattle.spec_trees.specs.declared.book.Booked.{Booked}
 use Rattle.spec_trees.specs.declared.tree.Node.{Node}
 use Rattle.spec_trees.specs.Order.{CoverRoot, booked_leaves}
 use Rattle.spec_trees.specs.Tree.{Covers}
 use Rattle.spec_trees.proofs.Ordering.{cover_in_order}
-use Rattle.ordered_join.specs.Spans.{HasTime}
-
-pub all_have_time : (a b : ℤ) (ls : List Leaf) → Covers a ls b → All HasTime ls
-all_have_time a b [] c = All-nil HasTime
-all_have_time a b (l ∷ ls) c = All-cons HasTime l ls c.1 (all_have_time l.node.b b ls c.2)
 
 -- a leaf more, at the end
 pub covers-append : (ls : List Leaf) (a b : ℤ) (l : Leaf) → Covers a ls b → l.node.a ≡ b → l.node.a <ℤ l.node.b → Covers a (ls ++ l ∷ []) l.node.b

@@ -1,8 +1,8 @@
 // From leaves in order to windows.
 ghost use Rattle.std.specs.Prelude.{◌≡◌, ◌++◌, [], All, IfOk, OnOk};
+ghost use Rattle.spec_trees.specs.Tree.{HasTime};
 ghost use Rattle.spec_trees.specs.Windows.{window_of, windows};
 ghost use Rattle.spec_trees.specs.Runs.{ended, longer};
-ghost use Rattle.ordered_join.specs.Spans.{HasTime};
 
 use spec_trees::{Holds, Leaf, Mark, Window};
 use std::alloc::{AllocError, Global};

@@ -18,15 +18,13 @@ use Rattle.spec_events.specs.Marks.{IsRightMark, AreRightlyMarked}
 use Rattle.spec_trees.specs.Runs.{longer, ended, joined}
 use Rattle.spec_trees.proofs.Placing.{covers_forward, earlier, in_order-cons}
 use Rattle.spec_trees.proofs.Runs.{joined_are_windows}
+use Rattle.spec_trees.proofs.Sides.{upto_or_after}
 
 any_first : (Q : Window → Type 0) (w : Window) (ws : List Window) → Q w → Any Q (w ∷ ws)
 any_first Q w ws q = (0, w, omega arith, refl, q)
 
-any_later : (Q : Window → Type 0) (w : Window) (ws : List Window) → Any Q ws → Any Q (w ∷ ws)
+pub any_later : (Q : Window → Type 0) (w : Window) (ws : List Window) → Any Q ws → Any Q (w ∷ ws)
 any_later Q w ws a = (suc a.0, a.1, omega (arith, a.2), a.3, a.4)
-
-order : (t m : ℤ) → (t ≤ℤ m) ⊎ (m <ℤ t)
-order t m = grind (arith, ints)
 
 module _ (E : Turn → ℤ → Type 0) (U : Node → Type 0) where
   -- times without an event in front
@@ -34,7 +32,7 @@ module _ (E : Turn → ℤ → Type 0) (U : Node → Type 0) where
   skip low mid upto ws h none g = record {
     within = All-weaker (IsWithin mid upto) (IsWithin low upto) (earlier low mid upto h) ws g.within;
     in_order = g.in_order;
-    every_event = λ t a b e. by t a b e (order t mid);
+    every_event = λ t a b e. by t a b e (upto_or_after t mid);
     certain = g.certain;
     undecided = g.undecided;
   }
@@ -60,7 +58,7 @@ module _ (E : Turn → ℤ → Type 0) (U : Node → Type 0) where
     within = All-cons (IsWithin low upto) w ws (record { from = omega (arith, ints, f); ordered = omega (arith, ints, f, i); to = j })
         (All-weaker (IsWithin w.last upto) (IsWithin low upto) (earlier low w.last upto (omega (arith, ints, i))) ws g.within);
     in_order = in_order-cons w upto ws (omega (arith, ints, f, i)) g.within g.in_order;
-    every_event = λ t a b e. by t a b e (order t w.last);
+    every_event = λ t a b e. by t a b e (upto_or_after t w.last);
     certain = All-cons (λ v. (turn : Turn) → v.holds ≡ H.Certain turn → HoldsOne E turn v) w ws (λ turn e. certain_as w turn h e) g.certain;
     undecided = All-cons (λ v. v.holds ≡ H.Undecided → (t : ℤ) → IsIn v t → IsLeftIn U v t) w ws (open_as w h) g.undecided;
   }
@@ -97,7 +95,7 @@ module _ (E : Turn → ℤ → Type 0) (U : Node → Type 0) where
   stretch : (run : Option Window) (low : ℤ) (n : Node) → IsRun run low n.a → n.a <ℤ n.b → IsRightMark E U n M.Undecided → IsRun (Some (longer run n)) low n.b
   stretch None low n r i h =
       (ap (λ z. z +ℤ pos 1) (sym r), refl, omega (arith, ints, r, i), refl, λ t k. at_end (longer None n) n h (omega (arith, ints)) (omega (arith, ints)) t (omega (arith, ints, k.from)) k.to)
-  stretch (Some w) low n r i h = (r.0, refl, omega (arith, ints, r.2, i), refl, λ t k. by t k (order t w.last))
+  stretch (Some w) low n r i h = (r.0, refl, omega (arith, ints, r.2, i), refl, λ t k. by t k (upto_or_after t w.last))
     where
       by : (t : ℤ) → IsIn (longer (Some w) n) t → (t ≤ℤ w.last) ⊎ (w.last <ℤ t) → IsLeftIn U (longer (Some w) n) t
       by t k (inl p) = wider w (longer (Some w) n) t (omega (arith, ints)) (omega (arith, ints, r.1, i)) (r.4 t (record { from = k.from; to = p }))

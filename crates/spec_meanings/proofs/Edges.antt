@@ -14,6 +14,7 @@ use Rattle.spec_meanings.specs.Space.{Triple, dot, square}
 use Rattle.spec_meanings.specs.Rays.{combined, IsSphere, Meets, Covers}
 use Rattle.spec_meanings.specs.Angles.{IsNoSmaller}
 use Rattle.spec_meanings.proofs.Cancel.{positive-mul, cancel_le, cancel_low, cancel_zero, le-products, square_none}
+use Rattle.spec_meanings.proofs.Overlaps.{signed_own}
 use Rattle.spec_meanings.proofs.Rays.{IsTowards, square_low, cauchy, distance, towards, meets_close}
 use Rattle.spec_meanings.proofs.Roots.{IsRootAbove, HasRootAbove, root_above, just_above, in_the_limit}
 
@@ -501,14 +502,9 @@ module _ (p q : Triple) (r s : ℤ) (front : IsSphere p r) (back : IsSphere q s)
       let g = gram_low in
       by_lt_z (pos 0) (square p *ℤ square q -ℤ dot p q *ℤ dot p q) apart (λ h. together (omega (arith, lin)))
 
--- the square of a number that is at least 0, with its sign
-signed_high : (e : ℤ) → pos 0 ≤ℤ e → signed_sq e ≡ e *ℤ e
-signed_high (pos n) h = refl
-signed_high (negsuc n) h = absurd (omega (arith, lin))
-
 pub covers_low : (p q : Triple) (r s : ℤ) → IsSphere p r → IsSphere q s → Covers p r q s → (pos 0 ≤ℤ (signed_sq (dot p q -ℤ r *ℤ s) -ℤ (square p -ℤ r *ℤ r) *ℤ (square q -ℤ s *ℤ s))) × IsNoSmaller p r q s
 covers_low p q r s front back covers =
     let c = covered p q r s front back covers in
-    let e = signed_high (dot p q -ℤ r *ℤ s) c.ahead in
+    let e = signed_own (dot p q -ℤ r *ℤ s) c.ahead in
     let i : ((square p -ℤ r *ℤ r) *ℤ (square q -ℤ s *ℤ s)) ≤ℤ ((dot p q -ℤ r *ℤ s) *ℤ (dot p q -ℤ r *ℤ s)) = c.inside in
     (omega (arith, lin), c.larger)

@@ -22,10 +22,10 @@ wide_is n e = grind (arith, ints)
 border_cut_inside : (n : Node) (border : ℤ) → is_wide n ≡ true → n.a <ℤ border → border ≤ℤ n.b → (n.a <ℤ border_cut n border) × (border_cut n border <ℤ n.b)
 border_cut_inside n border e after upto = grind (arith, ints)
 
--- some blocks of some length
-later : (start length : ℤ) (count : ℕ) → pos 1 ≤ℤ length → start ≤ℤ (start +ℤ (pos count *ℤ length))
-later start (pos length) count some = omega (arith, ints)
-later start (negsuc length) count some = absurd (omega (arith, ints, some))
+-- some blocks of some length end no earlier than they begin
+pub no_earlier : (start length : ℤ) (count : ℕ) → pos 1 ≤ℤ length → start ≤ℤ (start +ℤ (pos count *ℤ length))
+no_earlier start (pos length) count some = omega (arith, ints)
+no_earlier start (negsuc length) count some = absurd (omega (arith, ints, some))
 
 pub split_may : (s : Search) (n : Node) → verdict_of s n ≡ Split → may_be_cut s n ≡ true
 unfolding verdict_of
@@ -33,7 +33,7 @@ split_may s n split = split_may_be_cut (criteria s) n (findings_of (evidence_at 
 
 module _ (s : Search) (is : IsView s.view) where
   some_time : s.view.ephemeris.start ≤ℤ end_of s.view.ephemeris
-  some_time = later s.view.ephemeris.start s.view.ephemeris.header.block_seconds s.view.ephemeris.blocks is.checked.header.shortest
+  some_time = no_earlier s.view.ephemeris.start s.view.ephemeris.header.block_seconds s.view.ephemeris.blocks is.checked.header.shortest
 
   pub first_near : neg_ℤ (pos (2 ^ 50)) ≤ℤ s.view.ephemeris.start
   first_near =

@@ -1,7 +1,7 @@
 -- Which times spans have.
 use Rattle.std.proofs.Common.{◌≡◌, ◌⊎◌, inl, inr, Bool, true, false, ◌&&◌, int_le, List, [], ◌∷◌, ℤ, pos, ◌+ℤ◌, ◌≤ℤ◌, ◌<ℤ◌, refl, arith}
 use Rattle.std.proofs.lemmas.Int.{ints}
-use Rattle.std.proofs.lemmas.Bool.{and_parts, or_cases, false≢true}
+use Rattle.std.proofs.lemmas.Bool.{and_parts, or_cases, false_from_ne_true, false≢true}
 use Rattle.spec_sets.specs.Spans.{Span, is_in, has, AreSpansFrom}
 
 pub le_so : (a b : ℤ) → int_le a b ≡ true → a ≤ℤ b
@@ -30,10 +30,6 @@ is_past x t h = by (int_le x.0 t) (int_le t x.1) (le_not t x.1 h)
     by false q e = refl
 
 -- a test that cannot be passed
-pub never : (b : Bool) → (b ≡ true → ⊥) → b ≡ false
-never true h = absurd (h refl)
-never false h = refl
-
 pub holds_no : (low : ℤ) (xs : List Span) → AreSpansFrom low xs → (t : ℤ) → has xs t ≡ true → low ≤ℤ t
 holds_no low [] is t e = absurd (false≢true e)
 holds_no low (x ∷ xs) is t e = by (or_cases (is_in x t) (has xs t) e) (holds_no (x.1 +ℤ pos 2) xs is.3 t)
@@ -48,7 +44,7 @@ holds_no low (x ∷ xs) is t e = by (or_cases (is_in x t) (has xs t) e) (holds_n
 
 -- a time before all
 pub none_before : (low : ℤ) (xs : List Span) → AreSpansFrom low xs → (t : ℤ) → t <ℤ low → has xs t ≡ false
-none_before low xs is t early = never (has xs t) (λ e. let late = holds_no low xs is t e in absurd (omega (arith, ints, late, early)))
+none_before low xs is t early = false_from_ne_true (has xs t) (λ e. let late = holds_no low xs is t e in absurd (omega (arith, ints, late, early)))
 
 -- a time up to the end of the first is in none of the others
 pub not_later : (low : ℤ) (x : Span) (xs : List Span) → AreSpansFrom low (x ∷ xs) → (t : ℤ) → t ≤ℤ (x.1 +ℤ pos 1) → has xs t ≡ false

@@ -2,11 +2,9 @@
 use Rattle.std.proofs.Common.{◌≡◌, ◌⊎◌, inl, inr, true, false, List, [], ◌∷◌, ℤ, pos, ◌+ℤ◌, ◌≤ℤ◌, ◌<ℤ◌, refl, sym, ◌∙◌, subst, arith}
 use Rattle.std.proofs.lemmas.Int.{ints}
 use Rattle.std.proofs.lemmas.Bool.{both_ways}
+use Rattle.spec_trees.proofs.Sides.{upto_or_after}
 use Rattle.spec_sets.specs.Spans.{Span, is_in, has, AreSpansFrom}
 use Rattle.spec_sets.proofs.Members.{holds_no, not_later, inside, is_past, has_first, has_rest}
-
-order : (t m : ℤ) → (t ≤ℤ m) ⊎ (m <ℤ t)
-order t m = grind (arith, ints)
 
 begins : (low : ℤ) (x : Span) (xs : List Span) → AreSpansFrom low (x ∷ xs) → has (x ∷ xs) x.0 ≡ true
 begins low x xs is = let ordered = is.1 in has_first x xs x.0 (inside x x.0 (omega (arith, ints)) ordered)
@@ -18,7 +16,7 @@ from_first low x xs is = holds_no x.0 (x ∷ xs) (omega (arith, ints), is.1, is.
 -- the first of those that begin together ends no later than that of the others
 ends_by : (low : ℤ) (x y : Span) (xs ys : List Span) → AreSpansFrom low (x ∷ xs) → AreSpansFrom low (y ∷ ys) → x.0 ≡ y.0
     → ((t : ℤ) → has (x ∷ xs) t ≡ has (y ∷ ys) t) → x.1 ≤ℤ y.1
-ends_by low x y xs ys is js same h = by (order x.1 y.1)
+ends_by low x y xs ys is js same h = by (upto_or_after x.1 y.1)
   where
     next : ℤ
     next = y.1 +ℤ pos 1
@@ -35,7 +33,7 @@ pub same_spans : (low : ℤ) (xs ys : List Span) → AreSpansFrom low xs → Are
 same_spans low [] [] is js h = refl
 same_spans low [] (y ∷ ys) is js h = absurd (both_ways (has (y ∷ ys) y.0) (sym (h y.0)) (begins low y ys js))
 same_spans low (x ∷ xs) [] is js h = absurd (both_ways (has (x ∷ xs) x.0) (h x.0) (begins low x xs is))
-same_spans low (x ∷ xs) (y ∷ ys) is js h = λ i. (first i, last i) ∷ same_spans (x.1 +ℤ pos 2) xs ys is.3 rest_are (λ t. rest_at t (order t x.1)) i
+same_spans low (x ∷ xs) (y ∷ ys) is js h = λ i. (first i, last i) ∷ same_spans (x.1 +ℤ pos 2) xs ys is.3 rest_are (λ t. rest_at t (upto_or_after t x.1)) i
   where
     first : x.0 ≡ y.0
     first =

@@ -7,6 +7,7 @@ use Rattle.std.proofs.lemmas.List.{drop-drop, drop-take, take-take}
 use Rattle.spec_numbers.proofs.Naturals.{row_fits}
 use Rattle.spec_numbers.proofs.Ring.{v, ◌⊕◌, ◌⊗◌, ring}
 use Rattle.spec_ephemeris.specs.Ephemeris.{Ephemeris, Granule, IsBorderIn, IsEphemeris, IsGranule, IsGranuleAt, block_numbers, end_of, granule_end, granule_numbers}
+use Rattle.spec_searches.proofs.Parts.{no_earlier}
 use Rattle.spec_spans.specs.Seams.{block_start}
 use Rattle.spec_spans.specs.Searches.{some_blocks}
 
@@ -27,10 +28,6 @@ same_block n skipped count block xs below =
 -- ---- times
 two_starts : (start length : ℤ) (a b : ℕ) → (start +ℤ (pos a *ℤ length)) +ℤ (pos b *ℤ length) ≡ start +ℤ (pos (a + b) *ℤ length)
 two_starts start length a b = ring (start ∷ length ∷ pos a ∷ pos b ∷ []) ((v 0 ⊕ v 2 ⊗ v 1) ⊕ v 3 ⊗ v 1) (v 0 ⊕ (v 2 ⊕ v 3) ⊗ v 1) tt
-
-no_earlier : (start length : ℤ) (count : ℕ) → pos 1 ≤ℤ length → start ≤ℤ (start +ℤ (pos count *ℤ length))
-no_earlier start (pos length) count some = omega (arith, ints)
-no_earlier start (negsuc length) count some = absurd (omega (arith, ints, some))
 
 -- a granule's start from the start of the blocks that are not skipped
 moved : (skipped block granules inner l : ℕ) → (pos skipped *ℤ pos (l * granules)) +ℤ pos ((block * granules + inner) * l) ≡ pos (((skipped + block) * granules + inner) * l)

@@ -1,6 +1,7 @@
 -- The windows of leaves and of the leaves after them are the windows of both, joined.
 use Rattle.std.proofs.Common.{◌≡◌, ◌&&◌, Bool, true, false, List, [], ◌∷◌, ◌++◌, ℤ, pos, ◌+ℤ◌, ◌≤ℤ◌, ◌<ℤ◌, int_le, if◌then◌else◌, refl, sym, ap, ◌∙◌, subst, arith}
 use Rattle.std.proofs.lemmas.Int.{ints}
+use Rattle.std.proofs.lemmas.Bool.{and_right}
 use Rattle.std.proofs.lemmas.List.Elements.{All-head}
 use Rattle.spec_trees.specs.declared.tree.Leaf.{Leaf}
 use Rattle.spec_trees.specs.declared.tree.Mark.{Mark}
@@ -12,35 +13,25 @@ use Rattle.spec_trees.specs.declared.window.Window.{Window}
 use Rattle.spec_trees.specs.Placement.{AreWithin, IsWithin}
 use Rattle.spec_trees.specs.Tree.{Covers}
 use Rattle.spec_trees.specs.Windows.{begin_undecided, is_undecided, widened, window_of, windows, windows_by}
-use Rattle.spec_trees.proofs.Placing.{windows_within}
+use Rattle.spec_trees.proofs.Placing.{covers_forward, windows_within}
 use Rattle.spec_spans.specs.Joins.{goes_on, is_open, joined, met}
 
 -- ---- a last window and the windows of the next span
-neither : (p q : Bool) → (p && (q && false)) ≡ false
-neither true true = refl
-neither true false = refl
-neither false q = refl
-
-is_late : (x y : ℤ) → y <ℤ x → int_le x y ≡ false
-is_late x y h = grind (arith, ints)
-
-is_early : (x y : ℤ) → x ≤ℤ y → int_le x y ≡ true
-is_early x y h = grind (arith, ints)
-
 -- what begins later isn't met
 apart : (w : Window) (low upto : ℤ) (vs : List Window) → (w.last +ℤ pos 1) ≤ℤ low → AreWithin low upto vs → w ∷ vs ≡ met w vs
 apart w low upto [] h inside = refl
 apart w low upto (v ∷ vs) h inside =
     let first = All-head (IsWithin low upto) v vs inside in
     let from = first.from in
-    let late = is_late v.first (w.last +ℤ pos 1) (omega (arith, ints, h, from)) in
-    let not_on : goes_on w v ≡ false = ap (λ b. is_open w.holds && (is_open v.holds && b)) late ∙ neither (is_open w.holds) (is_open v.holds) in
+    let late : false ≡ int_le v.first (w.last +ℤ pos 1) = omega (arith, ints, h, from) in
+    let not_on : goes_on w v ≡ false = and_right (is_open w.holds) _ (and_right (is_open v.holds) _ (sym late)) in
     rw not_on refl
 
 -- an undecided one behind an undecided one
 open_met : (w v : Window) (vs : List Window) → w.holds ≡ H.Undecided → v.holds ≡ H.Undecided → v.first ≤ℤ (w.last +ℤ pos 1) → record v { first = w.first } ∷ vs ≡ met w (v ∷ vs)
 open_met w v vs wu vu h =
-    let on : goes_on w v ≡ true = (λ i. is_open (wu i) && (is_open (vu i) && is_early v.first (w.last +ℤ pos 1) h i)) in
+    let early : true ≡ int_le v.first (w.last +ℤ pos 1) = omega (arith, ints, h) in
+    let on : goes_on w v ≡ true = (λ i. is_open (wu i) && (is_open (vu i) && sym early i)) in
     rw on refl
 
 -- ---- windows that begin with an undecided one
@@ -110,10 +101,6 @@ at_seam_by n (m ∷ ms) c cover false e = rw e (by m.mark e)
     by M.Undecided is = absurd (cc)
 
 -- ---- leaves and the leaves after them
-covers_on : (ls : List Leaf) (a b : ℤ) → Covers a ls b → a ≤ℤ b
-covers_on [] a b c = omega (arith, ints, c)
-covers_on (l ∷ ls) a b c = omega (arith, ints, c.0, c.1, covers_on ls l.node.b b c.2)
-
 step : (m : Mark) (n : Node) (ls ms : List Leaf) (b c : ℤ) → Covers n.b ls b → Covers b ms c → windows (ls ++ ms) ≡ joined (windows ls) (windows ms)
     → windows_by m n (ls ++ ms) (windows (ls ++ ms)) ≡ joined (windows_by m n ls (windows ls)) (windows ms)
 step M.Clear n ls ms b c p q rest = rest
@@ -131,7 +118,7 @@ step M.Undecided n (l ∷ ls) ms b c p q rest = by (is_undecided l.mark) refl
     by false e =
         let from = p.0 in
         let inside = p.1 in
-        let on = covers_on ls l.node.b b p.2 in
+        let on = covers_forward ls l.node.b b p.2 in
         rw e (ap (λ ws. window_of n H.Undecided ∷ ws) rest
         ∙ open_first (window_of n H.Undecided) b c (windows (l ∷ ls)) (windows ms) (omega (arith, ints, from, inside, on)) (windows_within b c ms q))
 

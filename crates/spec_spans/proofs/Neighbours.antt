@@ -13,7 +13,9 @@ use Rattle.spec_trees.specs.Placement.{AreInOrder, AreWithin, IsBefore, IsIn, Is
 use Rattle.spec_trees.specs.Tree.{AreLeaves, Covers, IsLeaf}
 use Rattle.spec_trees.specs.Windows.{windows}
 use Rattle.spec_trees.proofs.Covering.{covers_append, leaves_are, leaves_cover}
+use Rattle.spec_trees.proofs.Sides.{upto_or_after}
 use Rattle.spec_events.specs.Events.{AreWindows, HoldsOne, IsEvent, IsLeftIn}
+use Rattle.spec_events.proofs.Windowing.{any_later}
 use Rattle.spec_searches.specs.Search.{IsSearch, Search, events}
 use Rattle.spec_searches.specs.Found.{IsLeftUndecided, IsSpan, leaves_of, root, rules, windows_of}
 use Rattle.spec_searches.proofs.Finding.{windows_are_found, windows_of_leaves}
@@ -59,9 +61,6 @@ module _ (s : Search) (is : IsSearch s) where
       (windows_of_leaves s is first last (leaves_of s first time ++ leaves_of s time last) (cover_both first time last left right) (are_leaves_both first time last left right))
 
 -- ---- windows of any events
-any_later : (Q : Window → Type 0) (w : Window) (ws : List Window) → Any Q ws → Any Q (w ∷ ws)
-any_later Q w ws a = (suc a.0, a.1, omega (arith, a.2), a.3, a.4)
-
 any_back : (Q : Window → Type 0) (ws vs : List Window) → Any Q vs → Any Q (ws ++ vs)
 any_back Q [] vs a = a
 any_back Q (w ∷ ws) vs a = any_later Q w (ws ++ vs) (any_back Q ws vs a)
@@ -70,9 +69,6 @@ any_front : (Q : Window → Type 0) (ws vs : List Window) → Any Q ws → Any Q
 any_front Q [] vs a = let none = a.2 in absurd (omega (arith, none))
 any_front Q (w ∷ ws) vs (zero, v, below, at, q) = (zero, v, omega arith, at, q)
 any_front Q (w ∷ ws) vs (suc k, v, below, at, q) = any_later Q w (ws ++ vs) (any_front Q ws vs (k, v, omega (arith, below), at, q))
-
-order : (t m : ℤ) → (t ≤ℤ m) ⊎ (m <ℤ t)
-order t m = grind (arith, ints)
 
 -- windows up to a time, and then windows after it
 in_order : (a b c : ℤ) (ws vs : List Window) → AreInOrder ws → AreWithin a b ws → AreInOrder vs → AreWithin b c vs → AreInOrder (ws ++ vs)
@@ -95,7 +91,7 @@ module _ (E : Turn → ℤ → Type 0) (V W U : Node → Type 0) (one : (n : Nod
         (All-weaker (IsWithin a b) (IsWithin a c) (λ w i. let to = i.to in record { from = i.from; ordered = i.ordered; to = omega (arith, ints, to, j) }) ws f.within)
         (All-weaker (IsWithin b c) (IsWithin a c) (λ w i. let from = i.from in record { from = omega (arith, ints, from, h); ordered = i.ordered; to = i.to }) vs g.within);
     in_order = in_order a b c ws vs f.in_order f.within g.in_order g.within;
-    every_event = λ t p q e. by t p q e (order t b);
+    every_event = λ t p q e. by t p q e (upto_or_after t b);
     certain = All-append (λ w. (turn : Turn) → w.holds ≡ Certain turn → HoldsOne E turn w) ws vs f.certain g.certain;
     undecided = All-append (λ w. w.holds ≡ Undecided → (t : ℤ) → IsIn w t → IsLeftIn U w t) ws vs
         (All-weaker (λ w. w.holds ≡ Undecided → (t : ℤ) → IsIn w t → IsLeftIn V w t) (λ w. w.holds ≡ Undecided → (t : ℤ) → IsIn w t → IsLeftIn U w t) (λ w l h t i. left_in V one w t (l h t i)) ws f.undecided)

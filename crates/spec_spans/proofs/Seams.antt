@@ -17,14 +17,12 @@ use Rattle.spec_events.specs.Soundness.{findings_of}
 use Rattle.spec_events.proofs.Limits.{border_splits}
 use Rattle.spec_searches.specs.Search.{IsSearch, Search, border_cut, border_in, criteria, evidence_at, parts_by, verdict_of}
 use Rattle.spec_searches.specs.Found.{rules}
+use Rattle.spec_trees.proofs.Sides.{before_after_or_at}
 use Rattle.spec_searches.proofs.Parts.{rules_are_sound}
 use Rattle.spec_spans.specs.Seams.{IsSeam}
 
 abbrev pub node : ℤ → ℤ → ℕ → Node
 node a b d = record { a = a; b = b; depth = d }
-
-order : (t m : ℤ) → (t <ℤ m) ⊎ ((m <ℤ t) ⊎ (t ≡ m))
-order t m = grind (arith, ints)
 
 wide : (n : Node) (t : ℤ) → n.a <ℤ t → t <ℤ n.b → is_wide n ≡ true
 wide n t after before = grind (arith, ints)
@@ -124,7 +122,7 @@ module _ (s : Search) (is : IsSearch s) where
       let near = cut_near (node a b d) f.0 f.2.after f.2.upto is_wide_node in
       let o : IsSeam s a b (border_cut (node a b d) f.0) = record { border = f.0; inside = f.2; near = near.2; after = near.0; before = near.1 } in
       by_cut k a b d valid w t (border_cut (node a b d) f.0) m o (at_border a b d f.0 valid f.1 is_wide_node)
-      (λ c e u v x y. by_width k c e d v x u y) (order t (border_cut (node a b d) f.0))
+      (λ c e u v x y. by_width k c e d v x u y) (before_after_or_at t (border_cut (node a b d) f.0))
 
   pub leaves_at_seam : (a b : ℤ) (d : ℕ) → IsValid (rules s) (node a b d) → (t : ℤ) → IsSeam s a b t → Meets a b d t
   leaves_at_seam a b d valid t m = by_width (width (node a b d)) a b d valid (omega arith) t m

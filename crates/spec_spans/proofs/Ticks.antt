@@ -17,6 +17,7 @@ use Rattle.spec_trees.specs.declared.window.Window.{Window}
 use Rattle.spec_trees.specs.Tree.{AreLeaves, Covers, IsLeaf, mark_of, width}
 use Rattle.spec_trees.specs.Windows.{window_of, windows}
 use Rattle.spec_trees.proofs.Placing.{covers_forward}
+use Rattle.spec_trees.proofs.Sides.{before_after_or_at, upto_or_after}
 use Rattle.spec_events.specs.Events.{HasNoEvent, IsEvent}
 use Rattle.spec_events.specs.Marks.{AreRightlyMarked, IsRightMark}
 use Rattle.spec_events.specs.Soundness.{findings_of}
@@ -26,12 +27,6 @@ use Rattle.spec_searches.specs.Found.{IsLeftUndecided, rules}
 use Rattle.spec_searches.proofs.Finding.{are_right}
 use Rattle.spec_spans.specs.Joins.{AreDecided, is_open}
 use Rattle.spec_spans.proofs.Joining.{begin_open}
-
-order : (t m : ℤ) → (t <ℤ m) ⊎ ((m <ℤ t) ⊎ (t ≡ m))
-order t m = grind (arith, ints)
-
-one_more : (t m : ℤ) → (t ≤ℤ m) ⊎ (m <ℤ t)
-one_more t m = grind (arith, ints)
 
 -- a window that isn't undecided has a turn
 is_certain : (w : Window) → is_open w.holds ≡ false → (turn : Turn) × (w.holds ≡ H.Certain turn)
@@ -59,7 +54,7 @@ module _ (E : Turn → ℤ → Type 0) where
   event Fall t e = inr e
 
   none_after : (a b c : ℤ) → HasNoEvent E a b → HasNoEvent E b c → HasNoEvent E a c
-  none_after a b c p q = λ t after upto e. elim (one_more t b) [
+  none_after a b c p q = λ t after upto e. elim (upto_or_after t b) [
     | inl before ↦ p t after before e
     | inr later ↦ q t later upto e
   ]
@@ -127,7 +122,7 @@ module _ (E : Turn → ℤ → Type 0) (one_way : (t : ℤ) → E Rise t → E F
   one_list a b [] [] p q = refl
   one_list a b [] (v ∷ vs) p q = absurd (p v.last q.0 q.1 (event E q.2.turn v.last q.2.turns))
   one_list a b (w ∷ ws) [] p q = absurd (q w.last p.0 p.1 (event E p.2.turn w.last p.2.turns))
-  one_list a b (w ∷ ws) (v ∷ vs) p q = by (order w.last v.last) (λ c x y. one_list c b ws vs x y)
+  one_list a b (w ∷ ws) (v ∷ vs) p q = by (before_after_or_at w.last v.last) (λ c x y. one_list c b ws vs x y)
     where
       by : (w.last <ℤ v.last) ⊎ ((v.last <ℤ w.last) ⊎ (w.last ≡ v.last)) → ((c : ℤ) → Ticks E c b ws → Ticks E c b vs → ws ≡ vs) → w ∷ ws ≡ v ∷ vs
       by (inl before) below = absurd (q.3 w.last p.0 (omega (arith, ints, before)) (event E p.2.turn w.last p.2.turns))

@@ -3,6 +3,7 @@ use Rattle.std.proofs.Common.{◌≡◌, ◌*◌, ◌++◌, ℕ, ◌+◌, ◌-�
 use Rattle.std.specs.Prelude.{if◌then◌else◌, codes}
 use Rattle.std.specs.Char.{is_ascii_digit}
 use Rattle.std.specs.List.{list_all}
+use Rattle.std.proofs.lemmas.Int.{ints}
 use Rattle.std.proofs.lemmas.Bool.{cases_Bool}
 use Rattle.std.proofs.lemmas.Bool.Decides.{nat_tests}
 use Rattle.std.proofs.lemmas.List.{append-nil, length-append}
@@ -21,7 +22,7 @@ use Rattle.spec_times.specs.declared.faults.TimeFault.{TimeFault}
 use Rattle.spec_times.specs.Ticks.{IsTimeIn, before_fraction, ending, has_fraction, past_second, second_of, tick_text, tick_from, tick_of, tick_or_shown, within_tick_limits}
 use Rattle.spec_times.specs.declared.limits.TheConstants.{FIRST_YEAR, LAST_YEAR}
 use Rattle.spec_times.proofs.Texts.{digit}
-use Rattle.spec_times.proofs.Times.{le_true, text_is_read, time_within_limits}
+use Rattle.spec_times.proofs.Times.{text_is_read, time_within_limits}
 use Rattle.spec_times.proofs.Words.{within_is}
 
 -- ---- long words are no whole numbers
@@ -82,7 +83,10 @@ second_is t is =
     record { low = omega (arith, signed_arith, whole, few, low); high = omega (arith, signed_arith, whole, few, high) }
 
 within : (tick : ℕ) (t : ℤ) → IsTimeIn tick t → within_tick_limits tick t ≡ Ok t
-within tick t is = rw (le_true (FIRST_TIME *ℤ pos tick) t is.low, le_true t (LAST_TIME *ℤ pos tick) is.high) refl
+within tick t is =
+    let late : true ≡ int_le (FIRST_TIME *ℤ pos tick) t = omega (arith, ints, is.low) in
+    let early : true ≡ int_le t (LAST_TIME *ℤ pos tick) = omega (arith, ints, is.high) in
+    rw (sym late, sym early) refl
 
 -- ---- a text with its fraction
 fraction_fits : (n : ℕ) → has_form (codes ".000") (46 ∷ digits 3 n) ≡ true

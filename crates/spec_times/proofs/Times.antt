@@ -1,5 +1,6 @@
 -- The calendar time of a time is the one that shows it, and its text is read as the time.
 use Rattle.std.proofs.Common.{◌≡◌, ◌++◌, ℕ, ◌+◌, ◌*◌, ◌/◌, ◌%◌, ◌<◌, ◌≤◌, inl, inr, int_le, int_lt, true, false, Ok, refl, sym, ◌∙◌, arith, ℤ, pos, negsuc, neg_ℤ, ◌+ℤ◌, ◌*ℤ◌, ◌≤ℤ◌, unsigned_abs}
+use Rattle.std.proofs.lemmas.Int.{ints}
 use Rattle.std.proofs.lemmas.Bool.{cases_Bool, and_from, lt-ltb}
 use Rattle.std.proofs.lemmas.Bool.Decides.{nat_tests}
 use Rattle.std.specs.Int.{int_div_euclid, int_rem_euclid}
@@ -48,15 +49,14 @@ calendar_is time is =
     let number = (date_of_day (day_number time) (day_is time is)).number in
     (λ i. midnight (number i) +ℤ pos (seconds_are (clock time) i)) ∙ whole_is time
 
-pub le_true : (a b : ℤ) → a ≤ℤ b → int_le a b ≡ true
-le_true a b h = elim (cases_Bool (int_le a b)) [ inl t ↦ t | inr f ↦ absurd (omega (arith, signed_arith)) ]
-
 lt_false : (a b : ℤ) → b ≤ℤ a → int_lt a b ≡ false
 lt_false a b h = elim (cases_Bool (int_lt a b)) [ inl t ↦ absurd (omega (arith, signed_arith)) | inr f ↦ f ]
 
 pub time_within_limits : (time : ℤ) → IsTime time → within_limits time ≡ Ok time
 time_within_limits time is =
-    rw (le_true FIRST_TIME time is.low, le_true time LAST_TIME is.high) refl
+    let late : true ≡ int_le FIRST_TIME time = omega (arith, ints, is.low) in
+    let early : true ≡ int_le time LAST_TIME = omega (arith, ints, is.high) in
+    rw (sym late, sym early) refl
 
 pub text_is_read : (time : ℤ) → IsTime time → time_of (time_text time) ≡ Ok time
 unfolding time_text

@@ -1,15 +1,19 @@
 -- The leaves of a node cover it, and each is a valid node with the mark of its verdict.
-use Rattle.std.proofs.Common.{◌≡◌, ℕ, zero, suc, ◌≤◌, ℤ, List, [], ◌∷◌, ◌++◌, refl, sym, subst, Option, Some, None, arith}
+use Rattle.std.proofs.Common.{◌≡◌, ℕ, zero, suc, ◌≤◌, ℤ, List, [], ◌∷◌, ◌++◌, All, refl, sym, subst, Option, Some, None, arith}
 use Rattle.spec_trees.specs.declared.tree.Node.{Node}
 use Rattle.spec_trees.specs.declared.tree.Leaf.{Leaf}
 use Rattle.spec_trees.specs.declared.tree.Mark.{Mark}
 use Rattle.std.proofs.lemmas.List.Elements.{All-nil, All-cons, All-append}
-use Rattle.spec_trees.specs.Tree.{Rules, IsValid, IsSound, IsLeaf, AreLeaves, Covers, mark_of, width, leaf_of, leaves}
+use Rattle.spec_trees.specs.Tree.{Rules, IsValid, IsSound, IsLeaf, AreLeaves, Covers, HasTime, mark_of, width, leaf_of, leaves}
 use Rattle.spec_trees.proofs.Leaves.{some_width, parts_width, no_mark, leaves_settled, leaves_split}
 
 pub covers_append : (xs ys : List Leaf) (a b c : ℤ) → Covers a xs b → Covers b ys c → Covers a (xs ++ ys) c
 covers_append [] ys a b c p q = subst (λ (z : ℤ). Covers z ys c) (sym p) q
 covers_append (x ∷ xs) ys a b c p q = (p.0, p.1, covers_append xs ys x.node.b b c p.2 q)
+
+pub all_have_time : (a b : ℤ) (ls : List Leaf) → Covers a ls b → All HasTime ls
+all_have_time a b [] c = All-nil HasTime
+all_have_time a b (l ∷ ls) c = All-cons HasTime l ls c.1 (all_have_time l.node.b b ls c.2)
 
 by_mark : (t : Rules) → IsSound t → (k : ℕ) (n : Node) → IsValid t n → width n ≤ suc k → (m : Option Mark) → mark_of (t.verdict n) ≡ m
     → ((i : Node) → IsValid t i → width i ≤ k → Covers i.a (leaves t i) i.b) → Covers n.a (leaves t n) n.b

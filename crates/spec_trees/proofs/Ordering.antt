@@ -7,6 +7,7 @@ use Rattle.std.specs.Ordering.{is_lt, int_cmp}
 use Rattle.spec_trees.specs.declared.tree.Leaf.{Leaf}
 use Rattle.spec_trees.specs.Tree.{Covers}
 use Rattle.spec_trees.specs.Order.{inserted, in_order}
+use Rattle.spec_trees.proofs.Sides.{before_after_or_at}
 
 -- ---- a cover
 before_first : (l : Leaf) (ls : List Leaf) (b : ℤ) → Covers l.node.b ls b → l.node.a <ℤ l.node.b → inserted l ls ≡ l ∷ ls
@@ -56,9 +57,6 @@ tie_self x = grind (arith, ints)
 pub tie_apart : (x y : ℤ) → x <ℤ y → tie x y ≡ false
 tie_apart x y h = grind (arith, ints)
 
-order : (x y : ℤ) → (x <ℤ y) ⊎ ((y <ℤ x) ⊎ (x ≡ y))
-order x y = grind (arith, ints)
-
 -- ---- what a test keeps of a first leaf and others
 abbrev pub kept : Bool → Leaf → List Leaf → List Leaf
 kept b l ls = cond b (l ∷ ls) ls
@@ -99,7 +97,7 @@ module _ (y z : Leaf) (ys zs : List Leaf) (r : AllFrom y.node.a ys) (s : AllFrom
       same_first y z (filter (same y) ys) (filter (same y) zs) (sym (kept_first y ys) ∙ (h y ∙ kept_if (same y z) z (filter (same y) zs) met))
 
   one_first : y ≡ z
-  one_first = first_by (order y.node.a z.node.a)
+  one_first = first_by (before_after_or_at y.node.a z.node.a)
 
   others : (x : Leaf) → filter (same x) ys ≡ filter (same x) zs
   others x =

@@ -74,6 +74,10 @@ abbrev pub Covers : ℤ → List Leaf → ℤ → Type 0
 Covers a [] b = a ≡ b
 Covers a (l ∷ ls) b = (l.node.a ≡ a) × (l.node.a <ℤ l.node.b) × Covers l.node.b ls b
 
+-- the leaf stands for some time
+abbrev pub HasTime : Leaf → Type 0
+HasTime l = l.node.a <ℤ l.node.b
+
 -- a valid node that isn't split, with the mark of its verdict
 pub record IsLeaf (t : Rules) (l : Leaf) : Type 0 where
   pub valid : IsValid t l.node

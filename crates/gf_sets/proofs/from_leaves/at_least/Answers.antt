@@ -8,20 +8,21 @@ use Rattle.spec_sets.specs.Spans.{latest}
 use Rattle.spec_sets.proofs.Points.{point_tells}
 use Rattle.spec_sets.proofs.Sets.{sets_of_true_signs}
 use Rattle.spec_sets.proofs.Telling.{leaves_tell}
+use Rattle.spec_trees.proofs.Placing.{covers_forward}
 use Rattle.gf_sets.specs.Walking.{IsWalked}
-use Rattle.gf_sets.proofs.Leaves.{all_walked, covers_upto, filler, first_are, first_walked, leaf_after, leaf_here, leaf_upto, leaf_wide, sets_end, walked_on}
+use Rattle.gf_sets.proofs.Leaves.{all_walked, filler, first_are, first_walked, leaf_after, leaf_here, leaf_upto, leaf_wide, sets_end, walked_on}
 use Rattle.gf_sets.proofs.Pairs.{run_as_read}
 use Rattle.gf_sets.proofs.from_leaves.at_least.Goals as goal
 
 pub sign_at-requires : goal.sign_at-requires
 sign_at-requires g c =
-    let upto = covers_upto c.args.from (end_from c.args.from c.args.leaves.now) c.args.leaves.now c.requires.follow in
+    let upto = covers_forward c.args.leaves.now c.args.from (end_from c.args.from c.args.leaves.now) c.requires.follow in
     subst (λ (z : ℤ). g.S.States.fits c.args.states.now z z) (sym (to_z-of_z w64 c.args.from c.ranges.from))
     (c.requires.fits c.args.from (omega (arith, ints)) upto)
 
 pub add-requires-clause-late : goal.add-requires-clause-late
 add-requires-clause-late g c =
-    let upto = covers_upto c.args.from (end_from c.args.from c.args.leaves.now) c.args.leaves.now c.requires.follow in
+    let upto = covers_forward c.args.leaves.now c.args.from (end_from c.args.from c.args.leaves.now) c.requires.follow in
     let late = c.requires.late in
     subst (λ (z : ℤ). z ≤ℤ latest) (sym (to_z-of_z w64 c.args.from c.ranges.from)) (omega (arith, ints, upto, late))
 

@@ -1,5 +1,5 @@
 use Rattle.spec_trees.proofs.Placing.{windows_within, windows_in_order}
-use Rattle.ordered_join.proofs.Covering.{all_have_time}
+use Rattle.spec_trees.proofs.Covering.{all_have_time}
 use Rattle.ordered_join.proofs.ordering.windows.Goals as goal
 
 pub leaf_windows-requires : goal.leaf_windows-requires

@@ -1,6 +1,7 @@
 // The reader.
 ghost use Rattle.std.specs.Prelude.{◌≡◌, ◌∷◌, [], ◌+◌, ◌≤◌, ◌<◌, IfErr, IfOk, List, None, Err, Ok, ℕ, length, min, take};
 ghost use Rattle.spec_text.specs.declared.decimals.Fault.{Fault};
+ghost use Rattle.spec_ephemeris.specs.declared.limits.TheConstants.{MAX_COLUMNS};
 ghost use Rattle.spec_header.specs.declared.limits.TheConstants.{MAX_CONSTANTS};
 ghost use Rattle.spec_ephemeris.specs.Header.{IsHeader};
 ghost use Rattle.spec_header.specs.HeaderLines.{header, header_of};
@@ -144,6 +145,62 @@ fn pass_more_values(facts: Facts, left: u32, line: &Line<'_>) -> State
     to_more_values(facts, left - here)
 }
 
+// The state after the row of starts.
+#[tactic(auto, unfolding(crate::specs::Reader::says))]
+fn pass_starts(facts: Facts, line: &Line<'_>) -> Result<State, BrokenRule>
+    ensures moves { Moves (states.Starts facts) line.now result }
+    ensures fits { IfOk result Fits }
+{
+    let starts = first_row(line)?;
+    Ok(State::Coefficients {
+        facts,
+        count: line.count(),
+        starts,
+    })
+}
+
+// The state after the row of coefficients.
+#[tactic(auto, unfolding(crate::specs::Reader::says))]
+fn pass_coefficients(
+    facts: Facts,
+    count: usize,
+    starts: [u32; MAX_COLUMNS],
+    line: &Line<'_>,
+) -> Result<State, BrokenRule>
+    requires { count ≤ MAX_COLUMNS }
+    ensures moves { Moves (states.Coefficients facts count starts) line.now result }
+    ensures fits { IfOk result Fits }
+{
+    let coefs = row_of(count, line)?;
+    Ok(State::Granules {
+        facts,
+        count,
+        starts,
+        coefs,
+    })
+}
+
+// The state after the row of granules.
+#[tactic(auto, unfolding(crate::specs::Reader::says))]
+fn pass_granules(
+    facts: Facts,
+    count: usize,
+    starts: [u32; MAX_COLUMNS],
+    coefs: [u32; MAX_COLUMNS],
+    line: &Line<'_>,
+) -> Result<State, BrokenRule>
+    requires { count ≤ MAX_COLUMNS }
+    ensures moves { Moves (states.Granules facts count starts coefs) line.now result }
+    ensures fits { IfOk result Fits }
+{
+    let columns = columns_row(facts, count, &starts, &coefs, line)?;
+    Ok(State::EndGroup {
+        facts,
+        count,
+        columns,
+    })
+}
+
 // The state after a line of the columns, or the first rule that the line breaks.
 #[tactic(auto, unfolding(crate::specs::Reader::says))]
 fn step_after_values(state: State, line: &Line<'_>) -> Result<State, BrokenRule>
@@ -158,40 +215,18 @@ fn step_after_values(state: State, line: &Line<'_>) -> Result<State, BrokenRule>
             group(b"1050", 1050, line)?;
             Ok(State::Starts { facts })
         }
-        State::Starts { facts } => {
-            let starts = first_row(line)?;
-            Ok(State::Coefficients {
-                facts,
-                count: line.count(),
-                starts,
-            })
-        }
+        State::Starts { facts } => pass_starts(facts, line),
         State::Coefficients {
             facts,
             count,
             starts,
-        } => {
-            let coefs = row_of(count, line)?;
-            Ok(State::Granules {
-                facts,
-                count,
-                starts,
-                coefs,
-            })
-        }
+        } => pass_coefficients(facts, count, starts, line),
         State::Granules {
             facts,
             count,
             starts,
             coefs,
-        } => {
-            let columns = columns_row(facts, count, &starts, &coefs, line)?;
-            Ok(State::EndGroup {
-                facts,
-                count,
-                columns,
-            })
-        }
+        } => pass_granules(facts, count, starts, coefs, line),
         State::EndGroup {
             facts,
             count,

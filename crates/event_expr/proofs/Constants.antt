@@ -11,20 +11,13 @@ use Rattle.spec_numbers.proofs.Order.{lin}
 use Rattle.spec_intervals.specs.Interval.{Interval, interval, zero_interval, zero_end, is_zero, end_limit, settled, narrow, product, sum, meet, meet_up}
 use Rattle.spec_intervals.specs.Enclosure.{IsWithin, offsets, centred, enclosure, constant_of}
 use Rattle.spec_intervals.proofs.Offsets.{narrow-small}
+use Rattle.spec_expressions.proofs.Zeros.{narrow_of_zero, product_of_zero}
 
 either-way : (b : Bool) (x : Interval) → (if b then x else x) ≡ x
 either-way true x = refl
 either-way false x = refl
 
-narrow-zero : (s : ℤ) → narrow (pos 0) (pos 0) s ≡ zero_interval
-unfolding settled
-narrow-zero s = narrow-small (pos 0) (pos 0) s (omega arith) (omega arith)
-
--- ---- a product with 0, and a sum with it
-product-zero : (y : Interval) → product zero_interval y ≡ zero_interval
-unfolding product
-product-zero y = rw (zero-*ℤ y.lo, zero-*ℤ y.hi) (narrow-zero (pos 0 +ℤ y.s))
-
+-- ---- a sum with 0
 sum-zero : (x : Interval) → sum x zero_interval ≡ (if is_zero x then zero_interval else x)
 unfolding sum
 sum-zero x = refl
@@ -45,7 +38,7 @@ meet_up-self x =
     rw (int_gap-self x.s, floor_div-one x.lo, ceil_div-one x.hi, l, h, top, bottom, e)
 
 narrow-zeros : (a b c d s : ℤ) → a ≡ pos 0 → b ≡ pos 0 → c ≡ pos 0 → d ≡ pos 0 → narrow (int_max a b) (int_min c d) s ≡ zero_interval
-narrow-zeros a b c d s e f g h = rw (e, f, g, h) (narrow-zero s)
+narrow-zeros a b c d s e f g h = rw (e, f, g, h) (narrow_of_zero s)
 
 meet_up-zero : (s t : ℤ) → meet_up (interval (pos 0) (pos 0) s) (interval (pos 0) (pos 0) t) ≡ zero_interval
 unfolding meet_up
@@ -83,4 +76,4 @@ meet-sum_zero x p q = rw (sum-zero x) (by (is_zero x) refl)
 pub constant-wide : (a b : ℤ) → lt_z a b ≡ true → (n : ℕ) (x z r : Interval) → IsWithin n x → z ≡ zero_interval → r ≡ sum x z → record { mid = x; range = r; step = z } ≡ constant_of a b x
 unfolding constant_of enclosure centred
 constant-wide a b h n x z r w e f =
-    rw (h, f, e, product-zero (offsets a b)) (λ i. record { mid = x; range = sym (meet-sum_zero x w.lo_small w.hi_small) i; step = zero_interval })
+    rw (h, f, e, product_of_zero (offsets a b)) (λ i. record { mid = x; range = sym (meet-sum_zero x w.lo_small w.hi_small) i; step = zero_interval })

@@ -1,13 +1,24 @@
 // What is known of conditions over one span of times.
 ghost use Rattle.std.specs.Prelude.{◌≡◌};
 ghost use Rattle.std.specs.List.{list_all, list_any};
-ghost use Rattle.spec_events.specs.Verdict.{is_certified, is_refuted};
+ghost use Rattle.spec_events.specs.Verdict.{certifies, is_certified, is_refuted};
 ghost use Rattle.event_judge.specs.Moments.{finding_in, sign_in};
 
-use crate::signs::certifies;
 use body_states::Snapshot;
 use event_kinds::Guard;
 use ival_core::Sign;
+
+// The sign certifies what has to be at least 0, or below 0.
+#[inline(always)]
+fn certifies(at_least: bool, sign: Sign) -> bool
+    ensures { result ≡ certifies at_least sign }
+{
+    match sign {
+        Sign::Yes => at_least,
+        Sign::No => !at_least,
+        Sign::Open => false,
+    }
+}
 
 // The sign of its formula at each of these times.
 #[inline(always)]

@@ -11,7 +11,7 @@ mod event_search;
 mod judge;
 mod judging;
 mod parts;
-mod signs;
+mod steps;
 mod valid_node;
 mod verdicts;
 mod wanted;

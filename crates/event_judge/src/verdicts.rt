@@ -7,9 +7,10 @@ ghost use Rattle.spec_searches.specs.Search.{border_in, criteria, crosses, may_b
 ghost use Rattle.event_judge.specs.Found.{enclosure_at, first_moment, guards_at, is_certified_at, is_refuted_at, is_turnless_by, last_moment, sign_at, whole_moment};
 
 use crate::conditions::{are_certified, is_one_refuted};
-use crate::signs::{differ, has_no_turn, is_one_way, is_turnless, turn_to};
+use crate::steps::{is_one_way, is_turnless};
 use crate::valid_node::ValidNode;
 use body_states::Snapshot;
+use gf_signs::{differ, has_no_turn, turn_to};
 use ival_core::{Enclosure, Sign};
 use tree_judge::Verdict;
 
@@ -126,7 +127,7 @@ impl<'s, 'e> ValidNode<'s, 'e> {
     fn is_turnless(self, over: &Enclosure) -> bool
         ensures { result ≡ is_turnless_by self.entry.search.now over.now }
     {
-        is_turnless(self.search.event().dir(), over.range.sign(), over.step)
+        is_turnless(self.search.event().dir(), over)
     }
 
     // Some condition is false at each of some times.
@@ -203,7 +204,7 @@ impl<'s, 'e> ValidNode<'s, 'e> {
             self.unit_verdict()
         } else if self.is_refuted(&whole) {
             Verdict::Clear
-        } else if is_one_way(over.step) {
+        } else if is_one_way(&over) {
             self.end_verdict(
                 &whole,
                 self.sign(&self.first()),

@@ -18,6 +18,7 @@ use Rattle.spec_numbers.proofs.Floor.{floor_div-lt, floor_div-small, ceil_div-sm
 use Rattle.spec_ephemeris.specs.Header.{IsMassRatio}
 use Rattle.spec_intervals.specs.Enclosure.{Enclosure, offsets, centred, enclosure, constant_of, product_of}
 use Rattle.spec_intervals.proofs.Offsets.{narrow-small}
+use Rattle.spec_expressions.proofs.Zeros.{narrow_of_zero, product_of_zero}
 use Rattle.spec_bodies.specs.declared.factor.Factor.{Factor}
 use Rattle.spec_bodies.specs.declared.factor.Factor.TheVariants.{MoonShare, Cosine, Sine}
 use Rattle.spec_bodies.specs.Reading.{IsFactor}
@@ -27,20 +28,9 @@ use Rattle.spec_bodies.specs.Meanings.{share_beside, factor, factor_interval}
 times_zero : (z : ℤ) → z *ℤ pos 0 ≡ pos 0
 times_zero z = ring (z ∷ []) (v 0 ⊗ lit (pos 0)) (lit (pos 0)) tt
 
-zero_times : (z : ℤ) → pos 0 *ℤ z ≡ pos 0
-zero_times z = ring (z ∷ []) (lit (pos 0) ⊗ v 0) (lit (pos 0)) tt
-
-zero_narrowed : (s : ℤ) → narrow (pos 0) (pos 0) s ≡ zero_interval
-unfolding narrow narrow_by narrow_shift first_fit settled
-zero_narrowed s = refl
-
 pub product_by_zero : (x : Interval) → product x zero_interval ≡ zero_interval
 unfolding product
-product_by_zero x = rw (times_zero x.lo, times_zero x.hi) (zero_narrowed (x.s +ℤ pos 0))
-
-pub product_of_zero : (x : Interval) → product zero_interval x ≡ zero_interval
-unfolding product
-product_of_zero x = rw (zero_times x.lo, zero_times x.hi) (zero_narrowed (pos 0 +ℤ x.s))
+product_by_zero x = rw (times_zero x.lo, times_zero x.hi) (narrow_of_zero (x.s +ℤ pos 0))
 
 pub sum_with_zero : (x : Interval) → is_zero x ≡ false → sum x zero_interval ≡ x
 unfolding sum

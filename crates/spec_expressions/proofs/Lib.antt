@@ -1,3 +1,4 @@
 pub mod Induction
 pub mod Reach
 pub mod Clock
+pub mod Zeros

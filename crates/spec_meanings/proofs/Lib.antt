@@ -1,3 +1,4 @@
+pub mod Variables
 pub mod Ratios
 pub mod Signs
 pub mod Rows

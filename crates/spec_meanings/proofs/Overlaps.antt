@@ -9,6 +9,7 @@ use Rattle.spec_meanings.specs.Space.{Triple, dot, square}
 use Rattle.spec_meanings.specs.Rays.{combined, IsSphere, SomeRayMeetsBoth}
 use Rattle.spec_meanings.proofs.Cancel.{positive-mul, cancel_le, cancel_low, low_from_squares, le-products}
 use Rattle.spec_meanings.proofs.Rays.{cross, square_low, lagrange, cauchy, IsTowards, towards, meets}
+use Rattle.spec_meanings.proofs.Variables.{dots, together, triple}
 
 -- ---- signed squares
 pub signed_own : (e : ℤ) → pos 0 ≤ℤ e → signed_sq e ≡ e *ℤ e
@@ -69,43 +70,28 @@ module _ (w p q : Triple) (r s : ℤ) (front : IsSphere p r) (back : IsSphere q 
 -- ---- the ray through the centre of similitude between the spheres, s p + r q
 centre_square : (p q : Triple) (r s : ℤ) → square (combined s p r q) ≡ ((s *ℤ s) *ℤ square p +ℤ ((r *ℤ s) *ℤ dot p q +ℤ (r *ℤ s) *ℤ dot p q)) +ℤ (r *ℤ r) *ℤ square q
 centre_square p q r s =
-    let a : Poly = v 0 in
-    let b : Poly = v 1 in
-    let c : Poly = v 2 in
-    let d : Poly = v 3 in
-    let e : Poly = v 4 in
-    let f : Poly = v 5 in
-    let R : Poly = v 6 in
-    let S : Poly = v 7 in
-    let X : Poly = S ⊗ a ⊕ R ⊗ d in
-    let Y : Poly = S ⊗ b ⊕ R ⊗ e in
-    let Z : Poly = S ⊗ c ⊕ R ⊗ f in
-    let D : Poly = (a ⊗ d ⊕ b ⊗ e) ⊕ c ⊗ f in
-    ring (p.x ∷ p.y ∷ p.z ∷ q.x ∷ q.y ∷ q.z ∷ r ∷ s ∷ []) ((X ⊗ X ⊕ Y ⊗ Y) ⊕ Z ⊗ Z) (((S ⊗ S) ⊗ ((a ⊗ a ⊕ b ⊗ b) ⊕ c ⊗ c) ⊕ ((R ⊗ S) ⊗ D ⊕ (R ⊗ S) ⊗ D)) ⊕ (R ⊗ R) ⊗ ((d ⊗ d ⊕ e ⊗ e) ⊕ f ⊗ f)) tt
+    let P = triple 0 in
+    let Q = triple 3 in
+    let R = v 6 in
+    let S = v 7 in
+    let centre = together S P R Q in
+    ring (p.x ∷ p.y ∷ p.z ∷ q.x ∷ q.y ∷ q.z ∷ r ∷ s ∷ []) (dots centre centre) (((S ⊗ S) ⊗ dots P P ⊕ ((R ⊗ S) ⊗ dots P Q ⊕ (R ⊗ S) ⊗ dots P Q)) ⊕ (R ⊗ R) ⊗ dots Q Q) tt
 
 centre_first : (p q : Triple) (r s : ℤ) → dot (combined s p r q) p ≡ s *ℤ square p +ℤ r *ℤ dot p q
 centre_first p q r s =
-    let a : Poly = v 0 in
-    let b : Poly = v 1 in
-    let c : Poly = v 2 in
-    let d : Poly = v 3 in
-    let e : Poly = v 4 in
-    let f : Poly = v 5 in
-    let R : Poly = v 6 in
-    let S : Poly = v 7 in
-    ring (p.x ∷ p.y ∷ p.z ∷ q.x ∷ q.y ∷ q.z ∷ r ∷ s ∷ []) (((S ⊗ a ⊕ R ⊗ d) ⊗ a ⊕ (S ⊗ b ⊕ R ⊗ e) ⊗ b) ⊕ (S ⊗ c ⊕ R ⊗ f) ⊗ c) (S ⊗ ((a ⊗ a ⊕ b ⊗ b) ⊕ c ⊗ c) ⊕ R ⊗ ((a ⊗ d ⊕ b ⊗ e) ⊕ c ⊗ f)) tt
+    let P = triple 0 in
+    let Q = triple 3 in
+    let R = v 6 in
+    let S = v 7 in
+    ring (p.x ∷ p.y ∷ p.z ∷ q.x ∷ q.y ∷ q.z ∷ r ∷ s ∷ []) (dots (together S P R Q) P) (S ⊗ dots P P ⊕ R ⊗ dots P Q) tt
 
 centre_second : (p q : Triple) (r s : ℤ) → dot (combined s p r q) q ≡ s *ℤ dot p q +ℤ r *ℤ square q
 centre_second p q r s =
-    let a : Poly = v 0 in
-    let b : Poly = v 1 in
-    let c : Poly = v 2 in
-    let d : Poly = v 3 in
-    let e : Poly = v 4 in
-    let f : Poly = v 5 in
-    let R : Poly = v 6 in
-    let S : Poly = v 7 in
-    ring (p.x ∷ p.y ∷ p.z ∷ q.x ∷ q.y ∷ q.z ∷ r ∷ s ∷ []) (((S ⊗ a ⊕ R ⊗ d) ⊗ d ⊕ (S ⊗ b ⊕ R ⊗ e) ⊗ e) ⊕ (S ⊗ c ⊕ R ⊗ f) ⊗ f) (S ⊗ ((a ⊗ d ⊕ b ⊗ e) ⊕ c ⊗ f) ⊕ R ⊗ ((d ⊗ d ⊕ e ⊗ e) ⊕ f ⊗ f)) tt
+    let P = triple 0 in
+    let Q = triple 3 in
+    let R = v 6 in
+    let S = v 7 in
+    ring (p.x ∷ p.y ∷ p.z ∷ q.x ∷ q.y ∷ q.z ∷ r ∷ s ∷ []) (dots (together S P R Q) Q) (S ⊗ dots P Q ⊕ R ⊗ dots Q Q) tt
 
 -- the same in numbers: w stands for the square of the ray, x and y for its dot products
 abbrev numbers : ℤ → ℤ → ℤ → ℤ → ℤ → ℤ

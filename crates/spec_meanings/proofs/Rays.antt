@@ -6,6 +6,7 @@ use Rattle.spec_numbers.proofs.Whole.{nonneg-mul}
 use Rattle.spec_meanings.specs.Space.{Triple, dot, square}
 use Rattle.spec_meanings.specs.Rays.{combined, IsSphere, Meets}
 use Rattle.spec_meanings.proofs.Cancel.{positive-mul, cancel_le, factor_above, le-products}
+use Rattle.spec_meanings.proofs.Variables.{crossed, dots, together, triple}
 
 -- the cross product
 abbrev pub cross : Triple → Triple → Triple
@@ -21,16 +22,10 @@ square_low p =
 -- (w x p).(w x q) = W (p.q) - (w.p) (w.q)
 pub lagrange : (w p q : Triple) → dot (cross w p) (cross w q) ≡ square w *ℤ dot p q -ℤ dot w p *ℤ dot w q
 lagrange w p q =
-    let a : Poly = v 0 in
-    let b : Poly = v 1 in
-    let c : Poly = v 2 in
-    let d : Poly = v 3 in
-    let e : Poly = v 4 in
-    let f : Poly = v 5 in
-    let g : Poly = v 6 in
-    let h : Poly = v 7 in
-    let i : Poly = v 8 in
-    ring (w.x ∷ w.y ∷ w.z ∷ p.x ∷ p.y ∷ p.z ∷ q.x ∷ q.y ∷ q.z ∷ []) (((b ⊗ f ⊖ c ⊗ e) ⊗ (b ⊗ i ⊖ c ⊗ h) ⊕ (c ⊗ d ⊖ a ⊗ f) ⊗ (c ⊗ g ⊖ a ⊗ i)) ⊕ (a ⊗ e ⊖ b ⊗ d) ⊗ (a ⊗ h ⊖ b ⊗ g)) (((a ⊗ a ⊕ b ⊗ b) ⊕ c ⊗ c) ⊗ ((d ⊗ g ⊕ e ⊗ h) ⊕ f ⊗ i) ⊖ ((a ⊗ d ⊕ b ⊗ e) ⊕ c ⊗ f) ⊗ ((a ⊗ g ⊕ b ⊗ h) ⊕ c ⊗ i)) tt
+    let W = triple 0 in
+    let P = triple 3 in
+    let Q = triple 6 in
+    ring (w.x ∷ w.y ∷ w.z ∷ p.x ∷ p.y ∷ p.z ∷ q.x ∷ q.y ∷ q.z ∷ []) (dots (crossed W P) (crossed W Q)) (dots W W ⊗ dots P Q ⊖ dots W P ⊗ dots W Q) tt
 
 -- (u.v)^2 <= (u.u) (v.v)
 pub cauchy : (u w : Triple) → (dot u w *ℤ dot u w) ≤ℤ (square u *ℤ square w)
@@ -39,19 +34,12 @@ cauchy u w = let e = lagrange u w w in let n : pos 0 ≤ℤ square (cross u w) =
 -- |m w - n p|^2 = m^2 W - 2 m n (w.p) + n^2 A
 pub distance : (m n : ℤ) (w p : Triple) → square (combined m w (neg_ℤ n) p) ≡ (m *ℤ m) *ℤ square w -ℤ (dot w p *ℤ (m *ℤ n) +ℤ dot w p *ℤ (m *ℤ n)) +ℤ (n *ℤ n) *ℤ square p
 distance m n w p =
-    let a : Poly = v 0 in
-    let b : Poly = v 1 in
-    let c : Poly = v 2 in
-    let d : Poly = v 3 in
-    let e : Poly = v 4 in
-    let f : Poly = v 5 in
-    let M : Poly = v 6 in
-    let N : Poly = v 7 in
-    let X : Poly = M ⊗ a ⊕ minus N ⊗ d in
-    let Y : Poly = M ⊗ b ⊕ minus N ⊗ e in
-    let Z : Poly = M ⊗ c ⊕ minus N ⊗ f in
-    let D : Poly = (a ⊗ d ⊕ b ⊗ e) ⊕ c ⊗ f in
-    ring (w.x ∷ w.y ∷ w.z ∷ p.x ∷ p.y ∷ p.z ∷ m ∷ n ∷ []) ((X ⊗ X ⊕ Y ⊗ Y) ⊕ Z ⊗ Z) ((M ⊗ M) ⊗ ((a ⊗ a ⊕ b ⊗ b) ⊕ c ⊗ c) ⊖ (D ⊗ (M ⊗ N) ⊕ D ⊗ (M ⊗ N)) ⊕ (N ⊗ N) ⊗ ((d ⊗ d ⊕ e ⊗ e) ⊕ f ⊗ f)) tt
+    let W = triple 0 in
+    let P = triple 3 in
+    let M = v 6 in
+    let N = v 7 in
+    let ray = together M W (minus N) P in
+    ring (w.x ∷ w.y ∷ w.z ∷ p.x ∷ p.y ∷ p.z ∷ m ∷ n ∷ []) (dots ray ray) ((M ⊗ M) ⊗ dots W W ⊖ (dots W P ⊗ (M ⊗ N) ⊕ dots W P ⊗ (M ⊗ N)) ⊕ (N ⊗ N) ⊗ dots P P) tt
 
 -- x + y <= 2 z gives x y <= z^2
 mean : (x y z : ℤ) → pos 0 ≤ℤ x → pos 0 ≤ℤ y → (x +ℤ y) ≤ℤ (z +ℤ z) → (x *ℤ y) ≤ℤ (z *ℤ z)

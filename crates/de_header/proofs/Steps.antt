@@ -1,9 +1,10 @@
 -- What is left to read after a line of counted words.
-use Rattle.std.proofs.Common.{◌≡◌, ℕ, suc, ◌+◌, ◌-◌, ◌<◌, ◌≤◌, min, List, [], ◌∷◌, ◌++◌, length, take, Option, None, Some, Result, Ok, Err, refl, sym, ap, ◌∙◌, inl, inr, arith}
+use Rattle.std.proofs.Common.{◌≡◌, ℕ, suc, ◌+◌, ◌-◌, ◌<◌, ◌≤◌, min, List, [], ◌∷◌, ◌++◌, length, get_or, take, Option, None, Some, Result, Ok, Err, refl, sym, ap, ◌∙◌, inl, inr, arith}
 use Rattle.std.specs.Prelude.{slice_get, codes}
 use Rattle.std.specs.Str.{bytes_eq}
 use Rattle.std.proofs.lemmas.Bool.{cases_Bool}
 use Rattle.std.proofs.lemmas.List.{length-take}
+use Rattle.std.proofs.lemmas.Option.{slice_get-get_or}
 use Rattle.spec_text.specs.declared.decimals.Decimal.{Decimal}
 use Rattle.spec_sections.specs.declared.rules.BrokenRule.{BrokenRule}
 use Rattle.spec_faults.specs.declared.numbers.TheConstants.{ENDED}
@@ -83,19 +84,20 @@ module _ (shape : BlockShape) where
   rated_after d (Ok x) = refl
   rated_after d (Err e) = refl
 
-  pub value_here : (left here before : ℕ) (line : FileLine) (rest : List FileLine) (word : List ℕ) (d : Decimal)
-      → here ≡ min left (length line.words) → before < here → slice_get line.words before ≡ Some word → mass_ratio word ≡ Ok d
-      → from_values shape left before (line ∷ rest) ≡ from_more_values (facts_of shape d) (left - here) rest
-  value_here left here before line rest word d here_is below is read =
-      ap (λ (r : Result (Decimal × List FileLine) Stop). r >>= rated)
-      (ratio_here left here before line rest word here_is below is
-      ∙ ap (λ (r : Result Decimal BrokenRule). at_line line.file line.number r >>= λ emrat. after_words ENDED (left - here) rest >>= with_ratio emrat) read)
-      ∙ rated_after d (after_words ENDED (left - here) rest)
+  -- on the line that has the value of EMRAT, by what is read of its word
+  module _ (left here before : ℕ) (line : FileLine) (rest : List FileLine) (read : Result Decimal BrokenRule) (here_is : here ≡ min left (length line.words)) (below : before < here)
+      (of_word : (word : List ℕ) → slice_get line.words before ≡ Some word → read ≡ mass_ratio word) where
+    abbrev after : Result Decimal BrokenRule → HeaderOrStop
+    after r = (at_line line.file line.number r >>= λ emrat. after_words ENDED (left - here) rest >>= with_ratio emrat) >>= rated
 
-  pub value_breaks : (left here before : ℕ) (line : FileLine) (rest : List FileLine) (word : List ℕ) (broken : BrokenRule)
-      → here ≡ min left (length line.words) → before < here → slice_get line.words before ≡ Some word → mass_ratio word ≡ Err broken
-      → from_values shape left before (line ∷ rest) ≡ at_line line.file line.number (Err broken)
-  value_breaks left here before line rest word broken here_is below is read =
-      ap (λ (r : Result (Decimal × List FileLine) Stop). r >>= rated)
-      (ratio_here left here before line rest word here_is below is
-      ∙ ap (λ (r : Result Decimal BrokenRule). at_line line.file line.number r >>= λ emrat. after_words ENDED (left - here) rest >>= with_ratio emrat) read)
+    value_read : from_values shape left before (line ∷ rest) ≡ after read
+    value_read =
+        let word = slice_get-get_or line.words before [] (omega (arith, here_is, below)) in
+        ap (λ (r : Result (Decimal × List FileLine) Stop). r >>= rated) (ratio_here left here before line rest (get_or line.words before []) here_is below word)
+        ∙ ap after (sym (of_word (get_or line.words before []) word))
+
+    pub value_here : (d : Decimal) → read ≡ Ok d → from_values shape left before (line ∷ rest) ≡ from_more_values (facts_of shape d) (left - here) rest
+    value_here d is = value_read ∙ ap after is ∙ rated_after d (after_words ENDED (left - here) rest)
+
+    pub value_breaks : (broken : BrokenRule) → read ≡ Err broken → from_values shape left before (line ∷ rest) ≡ at_line line.file line.number (Err broken)
+    value_breaks broken is = value_read ∙ ap after is

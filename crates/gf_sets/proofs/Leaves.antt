@@ -41,17 +41,17 @@ module _ (point : ℤ → Sign) (from upto : ℤ) (leaves : List Leaf) (l : Leaf
   wide : l.node.a <ℤ l.node.b
   wide = walked.covers.1
 
-  pub leaf_upto : l.node.b ≤ℤ upto
+  leaf_upto : l.node.b ≤ℤ upto
   leaf_upto = covers_forward rest l.node.b upto walked.covers.2
 
-  pub leaf_wide : l.node.a <ℤ l.node.b
+  leaf_wide : l.node.a <ℤ l.node.b
   leaf_wide = walked.covers.1
 
-  pub leaf_after : from ≤ℤ l.node.a
+  leaf_after : from ≤ℤ l.node.a
   leaf_after = walked.ordered
 
   -- its times come after all so far
-  pub sets_end : IsAfterAll sure (l.node.a +ℤ pos 1) × IsAfterAll maybe (l.node.a +ℤ pos 1)
+  sets_end : IsAfterAll sure (l.node.a +ℤ pos 1) × IsAfterAll maybe (l.node.a +ℤ pos 1)
   sets_end = ends_before (sign_of_leaves point from leaves) from l.node.a sure maybe walked.sets
 
   -- the sign at its times
@@ -61,7 +61,7 @@ module _ (point : ℤ → Sign) (from upto : ℤ) (leaves : List Leaf) (l : Leaf
       let late : from <ℤ t = omega (arith, ints, first, after) in
       rw (le_not t from late) (walked.same t (omega (arith, ints, after)) ∙ rw (le_test t l.node.b before) refl)
 
-  pub walked_on : (s m : List Span) → AreAdded (sign_in point l.node l.mark) (l.node.a +ℤ pos 1) l.node.b sure maybe s m → IsWalked point from upto leaves rest s m
+  walked_on : (s m : List Span) → AreAdded (sign_in point l.node l.mark) (l.node.a +ℤ pos 1) l.node.b sure maybe s m → IsWalked point from upto leaves rest s m
   walked_on s m added =
       let at = begin_is l.node.b upto rest walked.covers.2 in
       let first = walked.ordered in
@@ -97,8 +97,34 @@ module _ (point : ℤ → Sign) (read from : ℤ) (same : read ≡ from) (leaves
   renamed : IsWalked point from (end_from from leaves) leaves (drop i leaves) sure maybe
   renamed = subst (λ (z : ℤ). IsWalked point z (end_from z leaves) leaves (drop i leaves) sure maybe) same so_far
 
-  pub leaf_here : (d : Leaf) → i < length leaves → IsWalked point from (end_from from leaves) leaves (get_or leaves i d ∷ drop (i + 1) leaves) sure maybe
+  leaf_here : (d : Leaf) → i < length leaves → IsWalked point from (end_from from leaves) leaves (get_or leaves i d ∷ drop (i + 1) leaves) sure maybe
   leaf_here d within = subst (λ (rest : List Leaf). IsWalked point from (end_from from leaves) leaves rest sure maybe) (split_at leaves i d within) renamed
 
   pub all_walked : length leaves ≤ i → AreOf (sign_of_leaves point from leaves) from (end_from from leaves) sure maybe
   all_walked past = (subst (λ (rest : List Leaf). IsWalked point from (end_from from leaves) leaves rest sure maybe) (drop_all i leaves past) renamed).sets
+
+  -- the leaf at that place
+  module _ (within : i < length leaves) where
+    abbrev pub here : Leaf
+    here = get_or leaves i filler
+
+    walked : IsWalked point from (end_from from leaves) leaves (here ∷ drop (i + 1) leaves) sure maybe
+    walked = leaf_here filler within
+
+    pub here_upto : here.node.b ≤ℤ end_from from leaves
+    here_upto = leaf_upto point from (end_from from leaves) leaves here (drop (i + 1) leaves) sure maybe walked
+
+    pub here_after : from ≤ℤ here.node.b
+    here_after =
+        let wide = leaf_wide point from (end_from from leaves) leaves here (drop (i + 1) leaves) sure maybe walked in
+        let after = leaf_after point from (end_from from leaves) leaves here (drop (i + 1) leaves) sure maybe walked in
+        omega (arith, ints, wide, after)
+
+    pub sets_before : IsAfterAll sure (here.node.a +ℤ pos 1) × IsAfterAll maybe (here.node.a +ℤ pos 1)
+    sets_before = sets_end point from (end_from from leaves) leaves here (drop (i + 1) leaves) sure maybe walked
+
+    pub here_walked : (s m : List Span) → AreAdded (sign_in point here.node here.mark) (here.node.a +ℤ pos 1) here.node.b sure maybe s m
+        → IsWalked point read (end_from read leaves) leaves (drop (i + 1) leaves) s m
+    here_walked s m added =
+        subst (λ (z : ℤ). IsWalked point z (end_from z leaves) leaves (drop (i + 1) leaves) s m) (sym same)
+        (walked_on point from (end_from from leaves) leaves here (drop (i + 1) leaves) sure maybe walked s m added)

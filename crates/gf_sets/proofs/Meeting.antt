@@ -1,7 +1,8 @@
 -- A walk over two lists of spans that keeps what they share.
 use Rattle.std.proofs.Common.{◌≡◌, ◌⊎◌, inl, inr, Bool, true, false, ◌&&◌, ◌||◌, int_le, List, [], ◌∷◌, ℤ, pos, ◌+ℤ◌, ◌≤ℤ◌, ◌<ℤ◌, ℕ, ◌+◌, ◌<◌, length, drop, get_or, refl, sym, ap, ◌∙◌, subst, to_z, of_z, w64, ◌^◌, arith}
 use Rattle.std.specs.Int.{int_min, int_max}
-use Rattle.std.proofs.lemmas.Int.{ints, to_z-of_z}
+use Rattle.std.proofs.lemmas.Int.{clamps, ints, to_z-of_z}
+use mathlib.Core.Bool.{and_comm}
 use lib.Signed.{lt_z}
 use Rattle.std.proofs.lemmas.Bool.{or_cases, false≢true}
 use Rattle.spec_sets.specs.Spans.{Span, is_in, has, AreSpansFrom, earliest}
@@ -23,17 +24,14 @@ module _ (xs ys : List Span) (x y : Span) (more others out now : List Span) (so_
   low_more : earliest ≤ℤ (x.1 +ℤ pos 2)
   low_more = let a = so_far.more_are.0 in let b = so_far.more_are.1 in omega (arith, ints, a, b)
 
-  low_others : earliest ≤ℤ (y.1 +ℤ pos 2)
-  low_others = let a = so_far.others_are.0 in let b = so_far.others_are.1 in omega (arith, ints, a, b)
-
   no_more : (t : ℤ) → t ≤ℤ (x.1 +ℤ pos 1) → has more t ≡ false
   no_more = not_later earliest x more so_far.more_are
 
   no_others : (t : ℤ) → t ≤ℤ (y.1 +ℤ pos 1) → has others t ≡ false
   no_others = not_later earliest y others so_far.others_are
 
-  -- the span of the first list ends first
-  module _ (ends : x.1 <ℤ y.1) where
+  -- the span of the first list ends first, or both end together
+  module _ (ends : x.1 ≤ℤ y.1) where
     first_at : (t : ℤ) (w o m r : Bool) → w ≡ (o || (((int_le x.0 t && int_le t x.1) || m) && ((int_le y.0 t && int_le t y.1) || r)))
         → (t ≤ℤ x.1) ⊎ (x.1 <ℤ t) → (t ≤ℤ (x.1 +ℤ pos 1) → m ≡ false) → (t ≤ℤ (y.1 +ℤ pos 1) → r ≡ false)
         → w ≡ ((o || (int_le (int_max x.0 y.0) t && int_le t (int_min x.1 y.1))) || (m && ((int_le y.0 t && int_le t y.1) || r)))
@@ -72,45 +70,28 @@ module _ (xs ys : List Span) (x y : Span) (more others out now : List Span) (so_
         by t u (inl e) there other = so_far.later t u e (later_too u there) other
         by t u (inr e) there other = before_more t u e there
 
-  -- that of the second does, or both end together
-  module _ (ends : y.1 ≤ℤ x.1) where
-    second_at : (t : ℤ) (w o m r : Bool) → w ≡ (o || (((int_le x.0 t && int_le t x.1) || m) && ((int_le y.0 t && int_le t y.1) || r)))
-        → (t ≤ℤ y.1) ⊎ (y.1 <ℤ t) → (t ≤ℤ (x.1 +ℤ pos 1) → m ≡ false) → (t ≤ℤ (y.1 +ℤ pos 1) → r ≡ false)
-        → w ≡ ((o || (int_le (int_max x.0 y.0) t && int_le t (int_min x.1 y.1))) || (((int_le x.0 t && int_le t x.1) || m) && r))
-    second_at t w o m r e (inl upto) none other = let a = none (omega (arith, ints, upto, ends)) in let b = other (omega (arith, ints, upto)) in grind (arith, ints)
-    second_at t w o m r e (inr past) none other = grind (arith, ints)
+-- the two lists in the other order
+swapped : (xs ys more others out : List Span) → IsMet xs ys more others out → IsMet ys xs others more out
+swapped xs ys more others out so_far = record {
+  shared = λ t. and_comm (has ys t) (has xs t) ∙ (so_far.shared t ∙ ap (λ (b : Bool). has out t || b) (and_comm (has more t) (has others t)));
+  later = λ t u e there other. so_far.later t u e other there;
+  more_are = so_far.others_are;
+  others_are = so_far.more_are;
+}
 
-    second_shared : (t : ℤ) → (has xs t && has ys t) ≡ (has now t || (has (x ∷ more) t && has others t))
-    second_shared t =
-        second_at t (has xs t && has ys t) (has out t) (has more t) (has others t) (so_far.shared t) (upto_or_after t y.1) (no_more t) (no_others t)
-        ∙ ap (λ (b : Bool). b || (has (x ∷ more) t && has others t)) (sym (added t))
+-- that of the second list ends first, or both end together
+second_met : (xs ys : List Span) (x y : Span) (more others out now : List Span) → IsMet xs ys (x ∷ more) (y ∷ others) out
+    → ((t : ℤ) → has now t ≡ (has out t || (int_le (int_max x.0 y.0) t && int_le t (int_min x.1 y.1)))) → y.1 ≤ℤ x.1 → IsMet xs ys (x ∷ more) others now
+second_met xs ys x y more others out now so_far added ends =
+    swapped ys xs others (x ∷ more) now
+    (first_met ys xs y x others more out now (swapped xs ys (x ∷ more) (y ∷ others) out so_far)
+    (λ t. added t ∙ λ i. has out t || (int_le (either_max x.0 y.0 i) t && int_le t (either_min x.1 y.1 i))) ends)
+  where
+    either_max : (a b : ℤ) → int_max a b ≡ int_max b a
+    either_max a b = omega (arith, ints, clamps)
 
-    before_others : (t u : ℤ) → (int_le (int_max x.0 y.0) t && int_le t (int_min x.1 y.1)) ≡ true → has others u ≡ true → t <ℤ u
-    before_others t u e there =
-        let late = holds_no (y.1 +ℤ pos 2) others so_far.others_are.3 u there in
-        within t u late e
-      where
-        within : (t u : ℤ) → (y.1 +ℤ pos 2) ≤ℤ u → (int_le (int_max x.0 y.0) t && int_le t (int_min x.1 y.1)) ≡ true → t <ℤ u
-        within t u late e = grind (arith, ints)
-
-    pub second_met : IsMet xs ys (x ∷ more) others now
-    second_met = record {
-      shared = second_shared;
-      later = λ t u e there other. by t u (or_cases (has out t) _ (sym (added t) ∙ e)) there other;
-      more_are = so_far.more_are;
-      others_are = tail earliest y others low_others so_far.others_are;
-    }
-      where
-        later_too : (u : ℤ) → has others u ≡ true → has (y ∷ others) u ≡ true
-        later_too u e = or_second (is_in y u) (has others u) e
-          where
-            or_second : (a b : Bool) → b ≡ true → (a || b) ≡ true
-            or_second true b e = refl
-            or_second false b e = e
-
-        by : (t u : ℤ) → (has out t ≡ true) ⊎ ((int_le (int_max x.0 y.0) t && int_le t (int_min x.1 y.1)) ≡ true) → has (x ∷ more) u ≡ true → has others u ≡ true → t <ℤ u
-        by t u (inl e) there other = so_far.later t u e there (later_too u other)
-        by t u (inr e) there other = before_others t u e other
+    either_min : (a b : ℤ) → int_min a b ≡ int_min b a
+    either_min a b = omega (arith, ints, clamps)
 
 -- what both spans share comes after all so far
 pub shared_after : (xs ys : List Span) (x y : Span) (more others out : List Span) → IsMet xs ys (x ∷ more) (y ∷ others) out
@@ -202,7 +183,7 @@ module _ (xs ys own others : List Span) (i j : ℕ) (out : List Span) (in_own : 
       pub first_as_read : one.1 <ℤ other.1 → IsMet xs ys (drop (i + 1) own) (drop j others) now
       first_as_read ends =
           subst (λ (more : List Span). IsMet xs ys (drop (i + 1) own) more now) (sym (split_at others j (pos 0, pos 0) in_others))
-          (first_met xs ys one other (drop (i + 1) own) (drop (j + 1) others) out now here in_both ends)
+          (first_met xs ys one other (drop (i + 1) own) (drop (j + 1) others) out now here in_both (omega (arith, ints, ends)))
 
       pub second_as_read : other.1 ≤ℤ one.1 → IsMet xs ys (drop i own) (drop (j + 1) others) now
       second_as_read ends =

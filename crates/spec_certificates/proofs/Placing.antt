@@ -111,6 +111,19 @@ pub record IsPlaced (t : Rules) (a b : ℤ) (node : Node) (later : List Node) : 
   pub valid : IsValid t node
   pub rest : Follow t node.b later b
 
+-- the node that is looked for stands first
+placed_at : (c : Cutting) (here : Node) (rest : List Node) (node : Node) (later : List Node) (a b : ℤ) → here.a ≡ a
+    → IsValid c.rules here → Follow c.rules here.b rest b → is_same here node ≡ true → Some rest ≡ Some later → IsPlaced c.rules a b node later
+placed_at c here rest node later a b from valid follow same one =
+    let last : rest ≡ later = cc in
+    let it = same_node here node same in
+    record {
+      from = subst (λ (n : Node). n.a ≡ a) it from;
+      valid = subst (IsValid c.rules) it valid;
+      rest =
+          subst (λ (n : Node). Follow c.rules n.b later b) it (subst (λ (ns : List Node). Follow c.rules here.b ns b) last follow);
+    }
+
 placed_by : (c : Cutting) → IsCutting c
     → (k : ℕ) (here : Node) (rest : List Node) (node : Node) (later : List Node) (a b : ℤ) → here.a ≡ a
     → IsValid c.rules here → Follow c.rules here.b rest b
@@ -118,15 +131,7 @@ placed_by : (c : Cutting) → IsCutting c
     → ((i : Node) (more : List Node) → i.a ≡ a → IsValid c.rules i → Follow c.rules i.b more b → waiting_within c k i more node ≡ Some later → IsPlaced c.rules a b node later)
     → waiting_within c (suc k) here rest node ≡ Some later → IsPlaced c.rules a b node later
 placed_by c is k here rest node later a b from valid follow true may s m below e =
-    let one : Some rest ≡ Some later = sym (here_it_is c here rest node (suc k) s) ∙ e in
-    let last : rest ≡ later = cc in
-    let it = same_node here node s in
-    record {
-      from = subst (λ (n : Node). n.a ≡ a) it from;
-      valid = subst (IsValid c.rules) it valid;
-      rest =
-          subst (λ (n : Node). Follow c.rules n.b later b) it (subst (λ (ns : List Node). Follow c.rules here.b ns b) last follow);
-    }
+    placed_at c here rest node later a b from valid follow s (sym (here_it_is c here rest node (suc k) s) ∙ e)
 placed_by c is k here rest node later a b from valid follow false false s m below e =
     let none : None ≡ Some later = sym (not_cut c here rest node k s m) ∙ e in absurd (cc)
 placed_by c is k here rest node later a b from valid follow false true s m below e =
@@ -140,15 +145,7 @@ placed_last : (c : Cutting) (here : Node) (rest : List Node) (node : Node) (late
     → (same : Bool) → is_same here node ≡ same → waiting_within c 0 here rest node ≡ Some later
     → IsPlaced c.rules a b node later
 placed_last c here rest node later a b from valid follow true s e =
-    let one : Some rest ≡ Some later = sym (here_it_is c here rest node 0 s) ∙ e in
-    let last : rest ≡ later = cc in
-    let it = same_node here node s in
-    record {
-      from = subst (λ (n : Node). n.a ≡ a) it from;
-      valid = subst (IsValid c.rules) it valid;
-      rest =
-          subst (λ (n : Node). Follow c.rules n.b later b) it (subst (λ (ns : List Node). Follow c.rules here.b ns b) last follow);
-    }
+    placed_at c here rest node later a b from valid follow s (sym (here_it_is c here rest node 0 s) ∙ e)
 placed_last c here rest node later a b from valid follow false s e =
     let none : None ≡ Some later = sym (nowhere c here rest node s) ∙ e in absurd (cc)
 

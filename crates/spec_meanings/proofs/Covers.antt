@@ -5,15 +5,15 @@ use Rattle.std.proofs.Common.{◌≡◌, arith, ap, ◌∙◌, [], ◌∷◌, �
 use Rattle.std.proofs.lemmas.Int.{by_lt_z}
 use Rattle.spec_numbers.proofs.Ring.{Poly, v, ◌⊕◌, ◌⊖◌, ◌⊗◌, minus, ring}
 use Rattle.spec_numbers.proofs.Order.{lin, le-mul, nonneg-square}
-use Rattle.spec_numbers.proofs.Whole.{nonneg-mul}
+use Rattle.spec_numbers.proofs.Whole.{mul_comm, nonneg-mul}
 use Rattle.spec_intervals.specs.Interval.{signed_sq}
 use Rattle.spec_meanings.specs.Space.{Triple, dot, square}
 use Rattle.spec_meanings.specs.Rays.{combined, IsSphere, Covers}
 use Rattle.spec_meanings.specs.Angles.{IsNoSmaller}
 use Rattle.spec_meanings.proofs.Cancel.{positive-mul, cancel_le, cancel_low, low_from_squares, le-products}
-use Rattle.spec_meanings.proofs.Rays.{square_low, cauchy, towards, meets_close}
+use Rattle.spec_meanings.proofs.Rays.{square_low, cauchy, distance, towards, meets_close}
 use Rattle.spec_meanings.proofs.Overlaps.{root_low}
-use Rattle.spec_meanings.proofs.Variables.{dots, together, triple}
+use Rattle.spec_meanings.proofs.Variables.{inner, together, triple}
 
 -- ---- B' r >= E s, in numbers: a and b stand for A' and B'
 module _ (a b e r s : ℤ) (b0 : pos 0 <ℤ b) (e0 : pos 0 ≤ℤ e) (r0 : pos 0 ≤ℤ r) (s0 : pos 0 ≤ℤ s) (inside : (a *ℤ b) ≤ℤ (e *ℤ e)) (larger : ((s *ℤ s) *ℤ a) ≤ℤ ((r *ℤ r) *ℤ b)) (causal : ((e *ℤ e -ℤ a *ℤ b) *ℤ (b +ℤ s *ℤ s)) ≤ℤ ((e *ℤ s -ℤ b *ℤ r) *ℤ (e *ℤ s -ℤ b *ℤ r))) where
@@ -64,12 +64,7 @@ mixed_left b e r s x y =
 -- ---- squares and dot products of what is left: b p - e q
 left_square : (b e : ℤ) (p q : Triple) → square (combined b p (neg_ℤ e) q) ≡ ((b *ℤ b) *ℤ square p -ℤ ((b *ℤ e) *ℤ dot p q +ℤ (b *ℤ e) *ℤ dot p q)) +ℤ (e *ℤ e) *ℤ square q
 left_square b e p q =
-    let P = triple 0 in
-    let Q = triple 3 in
-    let B = v 6 in
-    let E = v 7 in
-    let left = together B P (minus E) Q in
-    ring (p.x ∷ p.y ∷ p.z ∷ q.x ∷ q.y ∷ q.z ∷ b ∷ e ∷ []) (dots left left) (((B ⊗ B) ⊗ dots P P ⊖ ((B ⊗ E) ⊗ dots P Q ⊕ (B ⊗ E) ⊗ dots P Q)) ⊕ (E ⊗ E) ⊗ dots Q Q) tt
+    distance b e p q ∙ ap (λ (d : ℤ). (b *ℤ b) *ℤ square p -ℤ (d +ℤ d) +ℤ (e *ℤ e) *ℤ square q) (mul_comm (dot p q) (b *ℤ e))
 
 left_dot : (b e y : ℤ) (p q w : Triple) → dot (combined b p (neg_ℤ e) q) (combined b w (neg_ℤ y) q) ≡ (((b *ℤ b) *ℤ dot w p -ℤ (b *ℤ y) *ℤ dot p q) -ℤ (e *ℤ b) *ℤ dot w q) +ℤ (e *ℤ y) *ℤ square q
 left_dot b e y p q w =
@@ -79,7 +74,7 @@ left_dot b e y p q w =
     let B = v 9 in
     let E = v 10 in
     let Y = v 11 in
-    ring (p.x ∷ p.y ∷ p.z ∷ q.x ∷ q.y ∷ q.z ∷ w.x ∷ w.y ∷ w.z ∷ b ∷ e ∷ y ∷ []) (dots (together B P (minus E) Q) (together B W (minus Y) Q)) ((((B ⊗ B) ⊗ dots W P ⊖ (B ⊗ Y) ⊗ dots P Q) ⊖ (E ⊗ B) ⊗ dots W Q) ⊕ (E ⊗ Y) ⊗ dots Q Q) tt
+    ring (p.x ∷ p.y ∷ p.z ∷ q.x ∷ q.y ∷ q.z ∷ w.x ∷ w.y ∷ w.z ∷ b ∷ e ∷ y ∷ []) (inner (together B P (minus E) Q) (together B W (minus Y) Q)) ((((B ⊗ B) ⊗ inner W P ⊖ (B ⊗ Y) ⊗ inner P Q) ⊖ (E ⊗ B) ⊗ inner W Q) ⊕ (E ⊗ Y) ⊗ inner Q Q) tt
 
 -- ---- the step from one ray
 module _ (p q w : Triple) (a b e r s : ℤ) (ea : square p ≡ a +ℤ r *ℤ r) (eb : square q ≡ b +ℤ s *ℤ s) (ed : dot p q ≡ e +ℤ r *ℤ s) (b0 : pos 0 <ℤ b) (e0 : pos 0 ≤ℤ e) (s0 : pos 0 ≤ℤ s) (inside : (a *ℤ b) ≤ℤ (e *ℤ e)) (ahead : (e *ℤ s) ≤ℤ (b *ℤ r)) (y0 : pos 0 ≤ℤ dot w q) (close : (square w *ℤ b) ≤ℤ (dot w q *ℤ dot w q)) where

@@ -6,7 +6,7 @@ use Rattle.spec_numbers.proofs.Whole.{nonneg-mul}
 use Rattle.spec_meanings.specs.Space.{Triple, dot, square}
 use Rattle.spec_meanings.specs.Rays.{combined, IsSphere, Meets}
 use Rattle.spec_meanings.proofs.Cancel.{positive-mul, cancel_le, factor_above, le-products}
-use Rattle.spec_meanings.proofs.Variables.{crossed, dots, together, triple}
+use Rattle.spec_meanings.proofs.Variables.{crossed, inner, together, triple}
 
 -- the cross product
 abbrev pub cross : Triple → Triple → Triple
@@ -25,7 +25,7 @@ lagrange w p q =
     let W = triple 0 in
     let P = triple 3 in
     let Q = triple 6 in
-    ring (w.x ∷ w.y ∷ w.z ∷ p.x ∷ p.y ∷ p.z ∷ q.x ∷ q.y ∷ q.z ∷ []) (dots (crossed W P) (crossed W Q)) (dots W W ⊗ dots P Q ⊖ dots W P ⊗ dots W Q) tt
+    ring (w.x ∷ w.y ∷ w.z ∷ p.x ∷ p.y ∷ p.z ∷ q.x ∷ q.y ∷ q.z ∷ []) (inner (crossed W P) (crossed W Q)) (inner W W ⊗ inner P Q ⊖ inner W P ⊗ inner W Q) tt
 
 -- (u.v)^2 <= (u.u) (v.v)
 pub cauchy : (u w : Triple) → (dot u w *ℤ dot u w) ≤ℤ (square u *ℤ square w)
@@ -39,7 +39,7 @@ distance m n w p =
     let M = v 6 in
     let N = v 7 in
     let ray = together M W (minus N) P in
-    ring (w.x ∷ w.y ∷ w.z ∷ p.x ∷ p.y ∷ p.z ∷ m ∷ n ∷ []) (dots ray ray) ((M ⊗ M) ⊗ dots W W ⊖ (dots W P ⊗ (M ⊗ N) ⊕ dots W P ⊗ (M ⊗ N)) ⊕ (N ⊗ N) ⊗ dots P P) tt
+    ring (w.x ∷ w.y ∷ w.z ∷ p.x ∷ p.y ∷ p.z ∷ m ∷ n ∷ []) (inner ray ray) ((M ⊗ M) ⊗ inner W W ⊖ (inner W P ⊗ (M ⊗ N) ⊕ inner W P ⊗ (M ⊗ N)) ⊕ (N ⊗ N) ⊗ inner P P) tt
 
 -- x + y <= 2 z gives x y <= z^2
 mean : (x y z : ℤ) → pos 0 ≤ℤ x → pos 0 ≤ℤ y → (x +ℤ y) ≤ℤ (z +ℤ z) → (x *ℤ y) ≤ℤ (z *ℤ z)

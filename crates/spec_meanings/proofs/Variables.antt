@@ -11,8 +11,8 @@ pub record Variables : Type 0 where
 abbrev pub triple : ℕ → Variables
 triple k = record { x = v k; y = v (k + 1); z = v (k + 2) }
 
-abbrev pub dots : Variables → Variables → Poly
-dots p q = (p.x ⊗ q.x ⊕ p.y ⊗ q.y) ⊕ p.z ⊗ q.z
+abbrev pub inner : Variables → Variables → Poly
+inner p q = (p.x ⊗ q.x ⊕ p.y ⊗ q.y) ⊕ p.z ⊗ q.z
 
 abbrev pub crossed : Variables → Variables → Variables
 crossed p q = record { x = p.y ⊗ q.z ⊖ p.z ⊗ q.y; y = p.z ⊗ q.x ⊖ p.x ⊗ q.z; z = p.x ⊗ q.y ⊖ p.y ⊗ q.x }

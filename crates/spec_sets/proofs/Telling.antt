@@ -13,6 +13,7 @@ use Rattle.spec_trees.specs.declared.tree.Turn.{Turn}
 use Rattle.spec_trees.specs.declared.tree.Turn.TheVariants.{Rise, Fall}
 use Rattle.spec_trees.specs.Tree.{Covers}
 use Rattle.spec_events.specs.Soundness.{Tells}
+use Rattle.spec_sets.proofs.Members.{le_so}
 use Rattle.spec_sets.specs.Signs.{sign_after, sign_in, sign_among, sign_of_leaves, IsTold, AreTold, opposite, either, both}
 
 tells_nothing : (fact : Type 0) → Tells Open fact
@@ -39,9 +40,6 @@ module _ (P : ℤ → Type 0) (point : ℤ → Sign) where
 
   le_past : (t b : ℤ) → int_le t b ≡ false → b <ℤ t
   le_past t b e = grind (arith, ints)
-
-  le_upto : (t b : ℤ) → int_le t b ≡ true → t ≤ℤ b
-  le_upto t b e = grind (arith, ints)
 
   covers_upto : (a b : ℤ) (ls : List Leaf) → Covers a ls b → a ≤ℤ b
   covers_upto a b [] c = omega (arith, ints, c)
@@ -71,7 +69,7 @@ module _ (P : ℤ → Type 0) (point : ℤ → Sign) where
       by : (here : Bool) → int_le t l.node.b ≡ here → (l.node.b <ℤ t → t ≤ℤ b → Tells (sign_among point ls t) (P t)) → Tells (if here then sign_in point l.node l.mark t else sign_among point ls t) (P t)
       by true e later_tells =
           leaf_tells l.node l.mark (All-head (λ (l : Leaf). IsTold P l.node l.mark) l ls told)
-          (points l.node.b (omega (arith, ints, from, inside)) later) t (omega (arith, ints, from, after)) (le_upto t l.node.b e)
+          (points l.node.b (omega (arith, ints, from, inside)) later) t (omega (arith, ints, from, after)) (le_so t l.node.b e)
       by false e later_tells = later_tells (le_past t l.node.b e) upto
 
   pub leaves_tell : (a b : ℤ) (ls : List Leaf) → Covers a ls b → AreTold P ls → ((t : ℤ) → a ≤ℤ t → t ≤ℤ b → Tells (point t) (P t))
@@ -82,7 +80,7 @@ module _ (P : ℤ → Type 0) (point : ℤ → Sign) where
       only h = omega (arith, ints, h, after)
 
       by : (first : Bool) → int_le t a ≡ first → Tells (if first then point a else sign_among point ls t) (P t)
-      by true e = subst (λ (u : ℤ). Tells (point a) (P u)) (sym (only (le_upto t a e))) (points a (omega (arith, ints)) (omega (arith, ints, after, upto)))
+      by true e = subst (λ (u : ℤ). Tells (point a) (P u)) (sym (only (le_so t a e))) (points a (omega (arith, ints)) (omega (arith, ints, after, upto)))
       by false e = among_tells a b ls c told points t (le_past t a e) upto
 
 -- ---- two conditions

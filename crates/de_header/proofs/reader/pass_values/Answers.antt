@@ -1,5 +1,4 @@
-use Rattle.std.proofs.Common.{[], arith, sym, ◌∙◌, ◌<◌, length}
-use Rattle.std.proofs.lemmas.Option.{slice_get-get_or}
+use Rattle.std.proofs.Common.{arith, sym, ◌∙◌}
 use Rattle.de_header.specs.Reader.{says}
 use Rattle.de_header.proofs.Steps.{value_breaks, value_here, values_later}
 use Rattle.de_header.proofs.reader.pass_values.Goals as goal
@@ -12,16 +11,12 @@ returns-then-here-before-clause-moves c = λ file rest.
 pub returns-in-Err-clause-moves : goal.returns-in-Err-clause-moves
 unfolding says
 returns-in-Err-clause-moves c = λ file rest.
-    let within : c.args.before < length c.args.line.now.tokens = omega (arith, c.words_here-here.ensures, c.if-here-before.false) in
-    let word = slice_get-get_or c.args.line.now.tokens c.args.before [] within in
-    value_breaks c.args.shape c.args.left c.words_here-here.result c.args.before _ rest _ c.in-Err.broken c.words_here-here.ensures
-    (omega (arith, c.if-here-before.false)) word (sym (c.mass_ratio.ensures _ word) ∙ c.in-Err.is)
+    value_breaks c.args.shape c.args.left c.words_here-here.result c.args.before _ rest c.mass_ratio.result c.words_here-here.ensures
+    (omega (arith, c.if-here-before.false)) c.mass_ratio.ensures c.in-Err.broken c.in-Err.is
 
 pub returns-in-Ok-clause-moves : goal.returns-in-Ok-clause-moves
 unfolding says
 returns-in-Ok-clause-moves c = λ file rest.
-    let within : c.args.before < length c.args.line.now.tokens = omega (arith, c.words_here-here.ensures, c.if-here-before.false) in
-    let word = slice_get-get_or c.args.line.now.tokens c.args.before [] within in
-    value_here c.args.shape c.args.left c.words_here-here.result c.args.before _ rest _ c.in-Ok.emrat c.words_here-here.ensures
-    (omega (arith, c.if-here-before.false)) word (sym (c.mass_ratio.ensures _ word) ∙ c.in-Ok.is)
+    value_here c.args.shape c.args.left c.words_here-here.result c.args.before _ rest c.mass_ratio.result c.words_here-here.ensures
+    (omega (arith, c.if-here-before.false)) c.mass_ratio.ensures c.in-Ok.emrat c.in-Ok.is
     ∙ sym (c.to_more_values.ensures.place file rest)

@@ -10,7 +10,7 @@ use Rattle.spec_sets.proofs.Sets.{sets_of_true_signs}
 use Rattle.spec_sets.proofs.Telling.{leaves_tell}
 use Rattle.spec_trees.proofs.Placing.{covers_forward}
 use Rattle.gf_sets.specs.Walking.{IsWalked}
-use Rattle.gf_sets.proofs.Leaves.{all_walked, filler, first_are, first_walked, leaf_after, leaf_here, leaf_upto, leaf_wide, sets_end, walked_on}
+use Rattle.gf_sets.proofs.Leaves.{all_walked, filler, first_are, first_walked, here_after, here_upto, here_walked, sets_before}
 use Rattle.gf_sets.proofs.Pairs.{run_as_read}
 use Rattle.gf_sets.proofs.from_leaves.at_least.Goals as goal
 
@@ -39,54 +39,29 @@ loop-leaf-init g c =
 
 pub put_leaf-requires-clause-late : goal.put_leaf-requires-clause-late
 put_leaf-requires-clause-late g c =
-    let point = point_of (g.S.States.answer c.args.states.now) c.args.f.now in
-    let from = to_z-of_z w64 c.args.from c.ranges.from in
-    let here = leaf_here point _ c.args.from from c.args.leaves.now c.loop-leaf.leaf-index c.loop-leaf.pair.sure c.loop-leaf.pair.maybe
-    c.loop-leaf.invariant filler c.loop-leaf-test.true in
-    let upto = leaf_upto point c.args.from (end_from c.args.from c.args.leaves.now) c.args.leaves.now
-    (get_or c.args.leaves.now c.loop-leaf.leaf-index filler) (drop (c.loop-leaf.leaf-index + 1) c.args.leaves.now)
-    c.loop-leaf.pair.sure c.loop-leaf.pair.maybe here in
+    let upto = here_upto (point_of (g.S.States.answer c.args.states.now) c.args.f.now) _ c.args.from (to_z-of_z w64 c.args.from c.ranges.from) c.args.leaves.now
+    c.loop-leaf.leaf-index c.loop-leaf.pair.sure c.loop-leaf.pair.maybe c.loop-leaf.invariant c.loop-leaf-test.true in
     let late = c.requires.late in
     omega (arith, ints, upto, late)
 
 pub put_leaf-requires-clause-fits : goal.put_leaf-requires-clause-fits
 put_leaf-requires-clause-fits g c =
-    let point = point_of (g.S.States.answer c.args.states.now) c.args.f.now in
-    let from = to_z-of_z w64 c.args.from c.ranges.from in
-    let here = leaf_here point _ c.args.from from c.args.leaves.now c.loop-leaf.leaf-index c.loop-leaf.pair.sure c.loop-leaf.pair.maybe
-    c.loop-leaf.invariant filler c.loop-leaf-test.true in
-    let upto = leaf_upto point c.args.from (end_from c.args.from c.args.leaves.now) c.args.leaves.now
-    (get_or c.args.leaves.now c.loop-leaf.leaf-index filler) (drop (c.loop-leaf.leaf-index + 1) c.args.leaves.now)
-    c.loop-leaf.pair.sure c.loop-leaf.pair.maybe here in
-    let wide = leaf_wide point c.args.from (end_from c.args.from c.args.leaves.now) c.args.leaves.now
-    (get_or c.args.leaves.now c.loop-leaf.leaf-index filler) (drop (c.loop-leaf.leaf-index + 1) c.args.leaves.now)
-    c.loop-leaf.pair.sure c.loop-leaf.pair.maybe here in
-    let after = leaf_after point c.args.from (end_from c.args.from c.args.leaves.now) c.args.leaves.now
-    (get_or c.args.leaves.now c.loop-leaf.leaf-index filler) (drop (c.loop-leaf.leaf-index + 1) c.args.leaves.now)
-    c.loop-leaf.pair.sure c.loop-leaf.pair.maybe here in
-    c.requires.fits (get_or c.args.leaves.now c.loop-leaf.leaf-index filler).node.b (omega (arith, ints, wide, after)) upto
+    c.requires.fits (get_or c.args.leaves.now c.loop-leaf.leaf-index filler).node.b
+    (here_after (point_of (g.S.States.answer c.args.states.now) c.args.f.now) _ c.args.from (to_z-of_z w64 c.args.from c.ranges.from) c.args.leaves.now
+    c.loop-leaf.leaf-index c.loop-leaf.pair.sure c.loop-leaf.pair.maybe c.loop-leaf.invariant c.loop-leaf-test.true)
+    (here_upto (point_of (g.S.States.answer c.args.states.now) c.args.f.now) _ c.args.from (to_z-of_z w64 c.args.from c.ranges.from) c.args.leaves.now
+    c.loop-leaf.leaf-index c.loop-leaf.pair.sure c.loop-leaf.pair.maybe c.loop-leaf.invariant c.loop-leaf-test.true)
 
 pub put_leaf-requires-clause-after_sure : goal.put_leaf-requires-clause-after_sure
 put_leaf-requires-clause-after_sure g c =
-    let point = point_of (g.S.States.answer c.args.states.now) c.args.f.now in
-    let from = to_z-of_z w64 c.args.from c.ranges.from in
-    let here = leaf_here point _ c.args.from from c.args.leaves.now c.loop-leaf.leaf-index c.loop-leaf.pair.sure c.loop-leaf.pair.maybe
-    c.loop-leaf.invariant filler c.loop-leaf-test.true in
-    (sets_end point c.args.from (end_from c.args.from c.args.leaves.now) c.args.leaves.now
-    (get_or c.args.leaves.now c.loop-leaf.leaf-index filler) (drop (c.loop-leaf.leaf-index + 1) c.args.leaves.now)
-    c.loop-leaf.pair.sure c.loop-leaf.pair.maybe here).0
+    (sets_before (point_of (g.S.States.answer c.args.states.now) c.args.f.now) _ c.args.from (to_z-of_z w64 c.args.from c.ranges.from) c.args.leaves.now
+    c.loop-leaf.leaf-index c.loop-leaf.pair.sure c.loop-leaf.pair.maybe c.loop-leaf.invariant c.loop-leaf-test.true).0
 
 pub loop-leaf-preserved : goal.loop-leaf-preserved
 loop-leaf-preserved g c =
-    let point = point_of (g.S.States.answer c.args.states.now) c.args.f.now in
-    let from = to_z-of_z w64 c.args.from c.ranges.from in
-    let here = leaf_here point _ c.args.from from c.args.leaves.now c.loop-leaf.leaf-index c.loop-leaf.pair.sure c.loop-leaf.pair.maybe
-    c.loop-leaf.invariant filler c.loop-leaf-test.true in
-    subst (λ (z : ℤ). IsWalked point z (end_from z c.args.leaves.now) c.args.leaves.now (drop (c.loop-leaf.leaf-index + 1) c.args.leaves.now)
-    c.put_leaf.new.pair.sure c.put_leaf.new.pair.maybe) (sym from)
-    (walked_on point c.args.from (end_from c.args.from c.args.leaves.now) c.args.leaves.now
-    (get_or c.args.leaves.now c.loop-leaf.leaf-index filler) (drop (c.loop-leaf.leaf-index + 1) c.args.leaves.now)
-    c.loop-leaf.pair.sure c.loop-leaf.pair.maybe here c.put_leaf.new.pair.sure c.put_leaf.new.pair.maybe c.in_ok-put_leaf.ensures)
+    here_walked (point_of (g.S.States.answer c.args.states.now) c.args.f.now) _ c.args.from (to_z-of_z w64 c.args.from c.ranges.from) c.args.leaves.now
+    c.loop-leaf.leaf-index c.loop-leaf.pair.sure c.loop-leaf.pair.maybe c.loop-leaf.invariant c.loop-leaf-test.true
+    c.put_leaf.new.pair.sure c.put_leaf.new.pair.maybe c.in_ok-put_leaf.ensures
 
 pub returns-clause-meets : goal.returns-clause-meets
 returns-clause-meets g c = λ formula told.

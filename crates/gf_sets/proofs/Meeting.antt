@@ -151,19 +151,27 @@ module _ (xs ys own others : List Span) (i j : ℕ) (out : List Span) (in_own : 
   other_fits = let f = ends_fit earliest other (drop (j + 1) others) (omega (arith, ints)) here.others_are in (f.0, f.1)
 
   -- by what code reads of the two
-  pub first_is : (max : ℤ) → SFits w64 max → max ≡ int_max (to_z w64 (of_z w64 one.0)) (to_z w64 (of_z w64 other.0)) → to_z w64 (of_z w64 max) ≡ int_max one.0 other.0
-  first_is max fits e = to_z-of_z w64 max fits ∙ (e ∙ (λ k. int_max (to_z-of_z w64 one.0 one_fits.0 k) (to_z-of_z w64 other.0 other_fits.0 k)))
-
-  pub last_is : (min : ℤ) → SFits w64 min → min ≡ int_min (to_z w64 (of_z w64 one.1)) (to_z w64 (of_z w64 other.1)) → to_z w64 (of_z w64 min) ≡ int_min one.1 other.1
-  last_is min fits e = to_z-of_z w64 min fits ∙ (e ∙ (λ k. int_min (to_z-of_z w64 one.1 one_fits.1 k) (to_z-of_z w64 other.1 other_fits.1 k)))
-
   pub ends_first : lt_z (to_z w64 (of_z w64 one.1)) (to_z w64 (of_z w64 other.1)) ≡ true → one.1 <ℤ other.1
   ends_first e = lt_read one.1 other.1 ((λ k. lt_z (sym (to_z-of_z w64 one.1 one_fits.1) k) (sym (to_z-of_z w64 other.1 other_fits.1) k)) ∙ e)
 
   pub ends_later : lt_z (to_z w64 (of_z w64 one.1)) (to_z w64 (of_z w64 other.1)) ≡ false → other.1 ≤ℤ one.1
   ends_later e = not_lt_read one.1 other.1 ((λ k. lt_z (sym (to_z-of_z w64 one.1 one_fits.1) k) (sym (to_z-of_z w64 other.1 other_fits.1) k)) ∙ e)
 
-  module _ (first last : ℤ) (same_first : first ≡ int_max one.0 other.0) (same_last : last ≡ int_min one.1 other.1) where
+  -- the greater beginning and the lesser end, as code finds them
+  module _ (max min : ℤ) (max_fits : SFits w64 max) (min_fits : SFits w64 min)
+      (max_is : max ≡ int_max (to_z w64 (of_z w64 one.0)) (to_z w64 (of_z w64 other.0))) (min_is : min ≡ int_min (to_z w64 (of_z w64 one.1)) (to_z w64 (of_z w64 other.1))) where
+    abbrev pub first : ℤ
+    first = to_z w64 (of_z w64 max)
+
+    abbrev pub last : ℤ
+    last = to_z w64 (of_z w64 min)
+
+    same_first : first ≡ int_max one.0 other.0
+    same_first = to_z-of_z w64 max max_fits ∙ (max_is ∙ (λ k. int_max (to_z-of_z w64 one.0 one_fits.0 k) (to_z-of_z w64 other.0 other_fits.0 k)))
+
+    same_last : last ≡ int_min one.1 other.1
+    same_last = to_z-of_z w64 min min_fits ∙ (min_is ∙ (λ k. int_min (to_z-of_z w64 one.1 one_fits.1 k) (to_z-of_z w64 other.1 other_fits.1 k)))
+
     pub shared_early : earliest ≤ℤ first
     shared_early = subst (λ (z : ℤ). earliest ≤ℤ z) (sym same_first) (max_from earliest one.0 other.0 here.more_are.0)
 

@@ -9,7 +9,7 @@ use Rattle.spec_meanings.specs.Space.{Triple, dot, square}
 use Rattle.spec_meanings.specs.Rays.{combined, IsSphere, SomeRayMeetsBoth}
 use Rattle.spec_meanings.proofs.Cancel.{positive-mul, cancel_le, cancel_low, low_from_squares, le-products}
 use Rattle.spec_meanings.proofs.Rays.{cross, square_low, lagrange, cauchy, IsTowards, towards, meets}
-use Rattle.spec_meanings.proofs.Variables.{Variables, inner, together, triple}
+use Rattle.spec_meanings.proofs.Variables.{inner, together, triple}
 
 -- ---- signed squares
 pub signed_own : (e : ℤ) → pos 0 ≤ℤ e → signed_sq e ≡ e *ℤ e
@@ -68,31 +68,26 @@ module _ (w p q : Triple) (r s : ℤ) (front : IsSphere p r) (back : IsSphere q 
       omega (arith, lin)
 
 -- ---- the ray through the centre of similitude between the spheres, s p + r q
--- p and q, and then r and s, as variables
-abbrev P : Variables
-P = triple 0
-
-abbrev Q : Variables
-Q = triple 3
-
-abbrev R : Poly
-R = v 6
-
-abbrev S : Poly
-S = v 7
-
 centre_square : (p q : Triple) (r s : ℤ) → square (combined s p r q) ≡ ((s *ℤ s) *ℤ square p +ℤ ((r *ℤ s) *ℤ dot p q +ℤ (r *ℤ s) *ℤ dot p q)) +ℤ (r *ℤ r) *ℤ square q
 centre_square p q r s =
+    let P = triple 0 in
+    let Q = triple 3 in
+    let R = v 6 in
+    let S = v 7 in
     let centre = together S P R Q in
     ring (p.x ∷ p.y ∷ p.z ∷ q.x ∷ q.y ∷ q.z ∷ r ∷ s ∷ []) (inner centre centre) (((S ⊗ S) ⊗ inner P P ⊕ ((R ⊗ S) ⊗ inner P Q ⊕ (R ⊗ S) ⊗ inner P Q)) ⊕ (R ⊗ R) ⊗ inner Q Q) tt
 
 centre_first : (p q : Triple) (r s : ℤ) → dot (combined s p r q) p ≡ s *ℤ square p +ℤ r *ℤ dot p q
 centre_first p q r s =
-    ring (p.x ∷ p.y ∷ p.z ∷ q.x ∷ q.y ∷ q.z ∷ r ∷ s ∷ []) (inner (together S P R Q) P) (S ⊗ inner P P ⊕ R ⊗ inner P Q) tt
+    let P = triple 0 in
+    let Q = triple 3 in
+    ring (p.x ∷ p.y ∷ p.z ∷ q.x ∷ q.y ∷ q.z ∷ r ∷ s ∷ []) (inner (together (v 7) P (v 6) Q) P) (v 7 ⊗ inner P P ⊕ v 6 ⊗ inner P Q) tt
 
 centre_second : (p q : Triple) (r s : ℤ) → dot (combined s p r q) q ≡ s *ℤ dot p q +ℤ r *ℤ square q
 centre_second p q r s =
-    ring (p.x ∷ p.y ∷ p.z ∷ q.x ∷ q.y ∷ q.z ∷ r ∷ s ∷ []) (inner (together S P R Q) Q) (S ⊗ inner P Q ⊕ R ⊗ inner Q Q) tt
+    let P = triple 0 in
+    let Q = triple 3 in
+    ring (p.x ∷ p.y ∷ p.z ∷ q.x ∷ q.y ∷ q.z ∷ r ∷ s ∷ []) (inner (together (v 7) P (v 6) Q) Q) (v 7 ⊗ inner P Q ⊕ v 6 ⊗ inner Q Q) tt
 
 -- the same in numbers: w stands for the square of the ray, x and y for its dot products
 abbrev numbers : ℤ → ℤ → ℤ → ℤ → ℤ → ℤ

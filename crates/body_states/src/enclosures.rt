@@ -4,8 +4,8 @@ ghost use Rattle.body_states.specs.Enclosures.{along, with_along, of_target, not
 
 use ival_core::Enclosure;
 
-/// The enclosures of a position, in km, or of a velocity, in km per second, along the three axes; none along an axis where
-/// it was not asked for.
+/// The enclosures of a position, in km, or of a velocity, in km per unit of time, along the three axes; none along an axis
+/// where it was not asked for.
 #[derive(Clone, Copy)]
 pub(crate) struct AxisEnclosures {
     pub x: Option<Enclosure>,

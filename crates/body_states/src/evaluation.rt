@@ -14,7 +14,7 @@ use ival_core::{Divider, Enclosure, Ival};
 use spec_bodies::Quantity;
 
 impl<'g> GranuleSpan<'g> {
-    /// Writes the enclosures of a quantity, a position in km or a velocity in km per second, along some axes.
+    /// Writes the enclosures of a quantity, a position in km or a velocity in km per unit of time, along some axes.
     #[inline(always)]
     pub fn write_along(&self, quantity: Quantity, axes: Axes, out: &mut AxisEnclosures)
         requires known { AreAlong (enclosure_along self.now quantity) out.old }
@@ -148,7 +148,7 @@ fn value_over(
     }
 }
 
-// The interval of its change in one second.
+// The interval of its change in one unit of time.
 #[inline(always)]
 fn step_over(quantity: Quantity, terms: &AxisCoefficients, rows: &Rows, divider: &Divider) -> Ival
     requires rows { AreAll quantity (length terms.now) rows.now }

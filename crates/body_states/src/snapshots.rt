@@ -42,8 +42,9 @@ impl<'s, 'e> Model for Snapshot<'s, 'e> {
 }
 
 impl<'e> BodyStates<'e> {
-    /// The states of both targets over the times from `a` to `b`, in seconds of TDB since J2000, of which the wanted ones
-    /// are made at once, with each basis of a column in use made once. What is not wanted is read when it is asked for.
+    /// The states of both targets over the times from `a` to `b`, in the unit of the ephemeris's times, of which the
+    /// wanted ones are made at once, with each basis of a column in use made once. What is not wanted is read when it is
+    /// asked for.
     pub fn at(&self, a: i64, b: i64, wanted: &Leaves) -> Snapshot<'_, 'e>
         requires { Fits self.now a b }
         ensures { result ≡ record { view = self.now; first = a; last = b } }

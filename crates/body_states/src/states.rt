@@ -14,8 +14,8 @@ use spec_bodies::{Frame, Source};
 use std::marker::Model;
 
 /// Two targets seen from an observer in a frame, over an ephemeris. Where there is one body, both targets are that body.
-/// Times are seconds of TDB since J2000, positions are in km and velocities in km per second; they are geometric, with no
-/// account of the time that light takes.
+/// Times are in the unit of the ephemeris's times, seconds of TDB since J2000 or ticks, positions are in km and velocities
+/// in km per unit of time; they are geometric, with no account of the time that light takes.
 #[derive(Drop)]
 pub struct BodyStates<'e> {
     pub(crate) ephemeris: &'e Ephemeris,

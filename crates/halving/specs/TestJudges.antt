@@ -22,8 +22,8 @@ comb = record {
 }
 
 -- a root of so many ticks
-abbrev pub seconds : ℤ → Node
-seconds count = record { a = pos 0; b = count; depth = 0 }
+abbrev pub ticks : ℤ → Node
+ticks count = record { a = pos 0; b = count; depth = 0 }
 
 comb_wide : (n : Node) → comb.verdict n ≡ Split → (pos 1 <ℤ (n.b -ℤ n.a)) × (n.depth < 20000)
 comb_wide n e = grind (arith, ints)

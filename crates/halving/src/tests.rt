@@ -1,7 +1,7 @@
 // Whole walks of trees that are as deep as their root is wide.
 ghost use Rattle.std.specs.Prelude.{◌≡◌, ◌<◌};
 ghost use Rattle.spec_trees.specs.CutExamples.{parts_at};
-ghost use Rattle.halving.specs.TestJudges.{comb, comb_is_sound, seconds, thirds, thirds_are_sound};
+ghost use Rattle.halving.specs.TestJudges.{comb, comb_is_sound, thirds, thirds_are_sound, ticks};
 
 use super::*;
 use crate::run::append;
@@ -71,8 +71,8 @@ impl Judge for Thirds {
 }
 
 // A root of so many ticks.
-fn seconds(count: i64) -> Node
-    ensures { result ≡ seconds count }
+fn ticks(count: i64) -> Node
+    ensures { result ≡ ticks count }
 {
     Node {
         a: 0,
@@ -84,10 +84,10 @@ fn seconds(count: i64) -> Node
 #[test]
 fn a_limit_is_kept(rt: HostRuntime) -> Result<(), Fail> {
     assert_eq!(rt;
-        run_one(rt.alloc(), &Comb, seconds(3), 2),
+        run_one(rt.alloc(), &Comb, ticks(3), 2),
         Err(RunError::TooMany)
     );
-    let Ok(leaves) = run_one(rt.alloc(), &Comb, seconds(3), 3) else {
+    let Ok(leaves) = run_one(rt.alloc(), &Comb, ticks(3), 3) else {
         assert!(rt; false);
         return Ok(());
     };
@@ -97,7 +97,7 @@ fn a_limit_is_kept(rt: HostRuntime) -> Result<(), Fail> {
 
 #[test]
 fn a_deep_tree(rt: HostRuntime) -> Result<(), Fail> {
-    let Ok(leaves) = run_one(rt.alloc(), &Comb, seconds(20_000), 20_000) else {
+    let Ok(leaves) = run_one(rt.alloc(), &Comb, ticks(20_000), 20_000) else {
         assert!(rt; false);
         return Ok(());
     };
@@ -125,7 +125,7 @@ fn five_leaves(alloc: Global) -> Result<Vec<Leaf>, RunError> {
 #[test]
 fn five_leaves_by_any_number_of_workers(rt: HostRuntime) {
     let alloc = rt.alloc();
-    let root = seconds(8);
+    let root = ticks(8);
     assert_eq!(rt;
         run_shares(&rt, alloc, &Thirds, root, 1, 5),
         five_leaves(alloc)
@@ -147,7 +147,7 @@ fn five_leaves_by_any_number_of_workers(rt: HostRuntime) {
 #[test]
 fn a_limit_is_kept_by_any_number_of_workers(rt: HostRuntime) {
     let alloc = rt.alloc();
-    let root = seconds(8);
+    let root = ticks(8);
     assert_eq!(rt;
         run_shares(&rt, alloc, &Thirds, root, 1, 4),
         Err(RunError::TooMany)

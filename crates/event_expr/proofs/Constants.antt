@@ -8,7 +8,7 @@ use lib.Signed.{lt_z, le_z}
 use Rattle.spec_numbers.specs.Numbers.{floor_div, ceil_div}
 use Rattle.spec_numbers.proofs.Floor.{floor_div-one, ceil_div-one}
 use Rattle.spec_numbers.proofs.Order.{lin}
-use Rattle.spec_intervals.specs.Interval.{Interval, interval, zero_interval, zero_end, is_zero, end_limit, settled, narrow, product, sum, meet, meet_up}
+use Rattle.spec_intervals.specs.Interval.{Interval, interval, zero_interval, zero_end, is_zero, end_limit, settled, narrow, sum, meet, meet_up}
 use Rattle.spec_intervals.specs.Enclosure.{IsWithin, offsets, centred, enclosure, constant_of}
 use Rattle.spec_intervals.proofs.Offsets.{narrow-small}
 use Rattle.spec_expressions.proofs.Zeros.{narrow_of_zero, product_of_zero}

@@ -8,7 +8,7 @@ use Rattle.std.proofs.Math.Nat.{one-le-pow}
 use borrow.Author.Differences.{up, down}
 use lib.Signed.{lt_z}
 use Rattle.spec_text.specs.declared.decimals.Decimal.{Decimal}
-use Rattle.spec_intervals.specs.Interval.{Interval, interval, end_limit, cosine_exponent, first_fit, narrow_shift, zero_end, settled, narrow_by, narrow, sum, is_zero, least4, greatest4, product, meet_up, meet, zero_interval}
+use Rattle.spec_intervals.specs.Interval.{Interval, interval, end_limit, cosine_exponent, narrow_shift, zero_end, settled, narrow_by, narrow, sum, is_zero, least4, greatest4, product, meet_up, meet, zero_interval}
 use Rattle.spec_numbers.proofs.Booleans.{not_both}
 use Rattle.spec_numbers.specs.Numbers.{floor_div, ceil_div}
 use Rattle.spec_numbers.proofs.Integers.{times_one}

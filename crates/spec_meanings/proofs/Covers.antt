@@ -3,7 +3,7 @@
 -- vectors of four numbers, with the product p.q - r s, and at what is left of the first and the third beside the second.
 use Rattle.std.proofs.Common.{◌≡◌, arith, ap, ◌∙◌, [], ◌∷◌, ℤ, pos, ◌+ℤ◌, ◌-ℤ◌, ◌*ℤ◌, neg_ℤ, ◌≤ℤ◌, ◌<ℤ◌}
 use Rattle.std.proofs.lemmas.Int.{by_lt_z}
-use Rattle.spec_numbers.proofs.Ring.{Poly, v, ◌⊕◌, ◌⊖◌, ◌⊗◌, minus, ring}
+use Rattle.spec_numbers.proofs.Ring.{v, ◌⊕◌, ◌⊖◌, ◌⊗◌, minus, ring}
 use Rattle.spec_numbers.proofs.Order.{lin, le-mul, nonneg-square}
 use Rattle.spec_numbers.proofs.Whole.{mul_comm, nonneg-mul}
 use Rattle.spec_intervals.specs.Interval.{signed_sq}

@@ -3,7 +3,7 @@
 -- numbers; so one ray is taken that lies near it, and inside the disc: m q - n p with m = s k D + t and n = s k B, for a
 -- large k and the least t whose square is above k^2 G B'. Here A and B are the squares of p and q, D their dot product,
 -- G = A B - D^2, A' = A - r^2 and B' = B - s^2.
-use Rattle.std.proofs.Common.{◌≡◌, arith, ap, sym, ◌∙◌, [], ◌∷◌, ℤ, pos, negsuc, ◌+ℤ◌, ◌-ℤ◌, ◌*ℤ◌, neg_ℤ, ◌≤ℤ◌, ◌<ℤ◌, refl}
+use Rattle.std.proofs.Common.{◌≡◌, arith, ap, sym, ◌∙◌, [], ◌∷◌, ℤ, pos, ◌+ℤ◌, ◌-ℤ◌, ◌*ℤ◌, neg_ℤ, ◌≤ℤ◌, ◌<ℤ◌}
 use Rattle.std.proofs.lemmas.Int.{by_lt_z}
 use Rattle.spec_numbers.proofs.Ring.{Poly, v, k as lit, ◌⊕◌, ◌⊖◌, ◌⊗◌, minus, ring}
 use Rattle.spec_numbers.proofs.Order.{lin, le-mul, nonneg-square}
@@ -15,8 +15,8 @@ use Rattle.spec_meanings.specs.Rays.{combined, IsSphere, Meets, Covers}
 use Rattle.spec_meanings.specs.Angles.{IsNoSmaller}
 use Rattle.spec_meanings.proofs.Cancel.{positive-mul, cancel_le, cancel_low, cancel_zero, le-products, square_none}
 use Rattle.spec_meanings.proofs.Overlaps.{signed_own}
-use Rattle.spec_meanings.proofs.Rays.{IsTowards, square_low, cauchy, distance, towards, meets_close}
-use Rattle.spec_meanings.proofs.Roots.{IsRootAbove, HasRootAbove, root_above, just_above, in_the_limit}
+use Rattle.spec_meanings.proofs.Rays.{IsTowards, cauchy, distance, towards, meets_close}
+use Rattle.spec_meanings.proofs.Roots.{IsRootAbove, root_above, just_above, in_the_limit}
 
 -- ---- in numbers: what one ray near the edge tells. b is B, c is B', g is G
 -- from the front: s^2 G <= D^2 B'

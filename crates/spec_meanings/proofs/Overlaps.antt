@@ -1,7 +1,7 @@
 -- Discs that overlap.
 use Rattle.std.proofs.Common.{◌≡◌, arith, refl, ap, ◌∙◌, suc, [], ◌∷◌, ℤ, pos, negsuc, ◌+ℤ◌, ◌-ℤ◌, ◌*ℤ◌, neg_ℤ, ◌≤ℤ◌, ◌<ℤ◌}
 use Rattle.std.proofs.lemmas.Int.{by_lt_z}
-use Rattle.spec_numbers.proofs.Ring.{Poly, v, k as lit, ◌⊕◌, ◌⊖◌, ◌⊗◌, minus, ring}
+use Rattle.spec_numbers.proofs.Ring.{v, k as lit, ◌⊕◌, ◌⊖◌, ◌⊗◌, minus, ring}
 use Rattle.spec_numbers.proofs.Order.{lin, le-mul, nonneg-square}
 use Rattle.spec_numbers.proofs.Whole.{nonneg-mul}
 use Rattle.spec_intervals.specs.Interval.{signed_sq}

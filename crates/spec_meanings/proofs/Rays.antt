@@ -1,6 +1,6 @@
 -- Which rays meet a sphere, by squares of dot products.
 use Rattle.std.proofs.Common.{◌≡◌, arith, [], ◌∷◌, ℤ, pos, ◌+ℤ◌, ◌-ℤ◌, ◌*ℤ◌, neg_ℤ, ◌≤ℤ◌, ◌<ℤ◌}
-use Rattle.spec_numbers.proofs.Ring.{Poly, v, ◌⊕◌, ◌⊖◌, ◌⊗◌, minus, ring}
+use Rattle.spec_numbers.proofs.Ring.{v, ◌⊕◌, ◌⊖◌, ◌⊗◌, minus, ring}
 use Rattle.spec_numbers.proofs.Order.{lin, le-mul, nonneg-square}
 use Rattle.spec_numbers.proofs.Whole.{nonneg-mul}
 use Rattle.spec_meanings.specs.Space.{Triple, dot, square}

@@ -1,4 +1,4 @@
-use Rattle.std.proofs.Common.{◌∙◌, ap, sym, subst, w64, ℤ, ◌≤ℤ◌, drop, get_or, ◌+◌, arith}
+use Rattle.std.proofs.Common.{◌∙◌, ap, sym, subst, w64, ℤ, ◌≤ℤ◌, get_or, arith}
 use Rattle.std.proofs.lemmas.Int.{ints, to_z-of_z}
 use Rattle.spec_expressions.specs.Term.{exact_of}
 use Rattle.spec_events.specs.Functions.{IsNotNegative}

@@ -1,6 +1,7 @@
 pub mod Fails
 pub mod Values
 pub mod Fronts
+pub mod EightDigits
 pub mod Assembly
 pub mod Parting
 pub mod Splits

@@ -1,5 +1,5 @@
 // Tokens, cut from the front of a line.
-ghost use Rattle.std.specs.Prelude.{◌≡◌, ◌<◌, ◌≤◌, ◌==◌, [], ◌∷◌, length, IfNone, IfSome, ℕ, false, slice_get, slice_index, true};
+ghost use Rattle.std.specs.Prelude.{◌≡◌, ◌<◌, ◌≤◌, ◌==◌, [], ◌∷◌, length, IfNone, IfSome, IsFalse, IsTrue, ℕ, false, slice_get, slice_index, true};
 ghost use Rattle.std.specs.Option.{option_copied};
 ghost use Rattle.std.specs.List.{position_or_len};
 ghost use Rattle.spec_text.specs.Lines.{is_separator, tokens};
@@ -24,6 +24,15 @@ fn blank_len(line: &[u8]) -> usize
         }
     }
     line.len()
+}
+
+// Whether the line has no token.
+#[tactic(auto, using(spec_text::proofs::TokenLemmas::blank_line))]
+pub(crate) fn is_blank(line: &[u8]) -> bool
+    ensures blank { IsTrue result → tokens line.now ≡ [] }
+    ensures some { IsFalse result → 0 < length (tokens line.now) }
+{
+    blank_len(line) == line.len()
 }
 
 // How many bytes the token at the front has.

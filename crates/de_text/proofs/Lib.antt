@@ -6,4 +6,5 @@ pub mod Assembly
 pub mod Parting
 pub mod Splits
 pub mod TokenPlaces
+pub mod TokenRuns
 pub mod Sizes

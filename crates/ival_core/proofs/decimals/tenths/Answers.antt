@@ -1,4 +1,4 @@
-use Rattle.std.proofs.Common.{arith, ◌≡◌, ◌∙◌, ap, ◌≤◌, ◌<◌}
+use Rattle.std.proofs.Common.{arith, ◌≡◌, ◌∙◌, ap, ◌≤◌}
 use Rattle.std.proofs.lemmas.Int.{to_z-of_z}
 use Rattle.spec_numbers.specs.Numbers.{floor_div, ceil_div}
 use Rattle.ival_core.proofs.Powers.{ten_pos, tenths_capped, ceil_capped}

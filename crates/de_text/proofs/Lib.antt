@@ -1,8 +1,10 @@
 pub mod Fails
 pub mod Values
 pub mod Fronts
+pub mod EightDigits
 pub mod Assembly
 pub mod Parting
 pub mod Splits
 pub mod TokenPlaces
+pub mod TokenRuns
 pub mod Sizes

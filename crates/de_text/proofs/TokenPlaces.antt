@@ -1,9 +1,9 @@
 -- The first token of a line, by the places where it begins and ends, and a token by its place.
 use Rattle.std.proofs.Common.{◌≡◌, ℕ, zero, suc, ◌+◌, ◌<◌, ◌≤◌, true, false, List, [], ◌∷◌, length, get_or, take, drop, length-drop, refl, sym, ap, ◌∙◌, arith}
 use Rattle.std.specs.Prelude.{slice_get, None}
-use Rattle.std.proofs.lemmas.List.{get_or-drop}
+use Rattle.std.proofs.lemmas.List.{get_or-drop, drop_more}
 use Rattle.spec_text.specs.Lines.{is_separator, tokens}
-use Rattle.spec_text.proofs.TokenLemmas.{skip, token_at}
+use Rattle.spec_text.proofs.TokenLemmas.{skip, some_token, token_at}
 
 front_is : (line text : List ℕ) (start : ℕ) → text ≡ drop start line → get_or text 0 0 ≡ get_or line start 0
 front_is line text start is =
@@ -19,6 +19,12 @@ some_len line text start zero is below here at =
     let same = ap is_separator (front_is line text start is) in
     absurd (cc)
 some_len line text start (suc n) is below here at = omega arith
+
+-- a line has a token where something stands after its separators
+pub has_token : (line : List ℕ) (start : ℕ) → start < length line → ((k : ℕ) → k < start → is_separator (get_or line k 0) ≡ true)
+    → is_separator (get_or line start 0) ≡ false → 0 < length (tokens line)
+has_token line start below before here =
+    rw (skip line start (omega arith) before, drop_more line start 0 below) (some_token (get_or line start 0) (drop (start + 1) line) here)
 
 -- a token after separators
 pub token_after : (line text : List ℕ) (start n : ℕ) → text ≡ drop start line → start < length line

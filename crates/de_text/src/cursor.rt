@@ -8,7 +8,7 @@ ghost use Rattle.de_text.specs.Steps.{lines_after, step_of};
 
 use crate::decimal::read_whole;
 use crate::lines::{cut_line, line_count};
-use crate::tokens::{count, cut_token, token};
+use crate::tokens::{count, is_blank, token};
 use crate::words::Words;
 use spec_text::{MAX_LINE_BYTES, MAX_TEXT_BYTES};
 use std::marker::Model;
@@ -123,7 +123,7 @@ fn next_line<'a>(text: &'a [u8], before: u32) -> (LineStep<'a>, &'a [u8], u32)
         if bytes.len() > MAX_LINE_BYTES {
             return (LineStep::TooLong(number), rest, passed);
         }
-        if cut_token(bytes).is_some() {
+        if !is_blank(bytes) {
             return (LineStep::Line(Line { number, bytes }), after, number);
         }
         rest = after;

@@ -3,6 +3,8 @@ ghost use Rattle.std.specs.Prelude.{◌≡◌, ◌≤◌, ◌^◌, drop, length,
 ghost use Rattle.spec_text.specs.Decimals.{AreDigits, value_after};
 ghost use Rattle.spec_text.specs.Splitting.{digits_at};
 
+use crate::eights::take_eight;
+
 // Ten to the number of digits that a decimal may have. A greater number counts as this one.
 pub(crate) const CAP: u64 = 1_000_000_000_000_000_000;
 
@@ -61,6 +63,29 @@ pub(crate) fn take_digits(start: u64, text: &[u8]) -> Digits<'_>
         number: number.min(CAP),
         count: text.len(),
         rest: &[],
+    }
+}
+
+// The digits at the front, of which there may be many: eight at a time, and the last ones one by one.
+pub(crate) fn take_many_digits(start: u64, text: &[u8]) -> Digits<'_>
+    requires { start ≤ 10 ^ 18 }
+    ensures number { result.number ≡ min (value_after start (digits_at text.now).0) (10 ^ 18) }
+    ensures count { result.count ≡ length (digits_at text.now).0 }
+    ensures rest { result.rest.now ≡ (digits_at text.now).1 }
+{
+    let mut number = start;
+    let mut rest = text;
+    let mut count = 0;
+    while let Some((longer, after)) = take_eight(number, rest) {
+        number = longer;
+        rest = after;
+        count += 8;
+    }
+    let last = take_digits(number, rest);
+    Digits {
+        number: last.number,
+        count: count + last.count,
+        rest: last.rest,
     }
 }
 

@@ -6,6 +6,7 @@ mod cursor;
 mod days;
 mod decimal;
 mod digits;
+mod eights;
 mod examples;
 mod lines;
 mod parts;

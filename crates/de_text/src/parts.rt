@@ -4,7 +4,7 @@ ghost use Rattle.spec_text.specs.Decimals.{value_after};
 ghost use Rattle.spec_text.specs.Splitting.{exponent_at, fraction_at, numeral_of, sign_at};
 ghost use Rattle.de_text.specs.Parts.{ShowsExponent, Splits, fraction_digits, is_minus};
 
-use crate::digits::{Digits, take_digits};
+use crate::digits::{Digits, take_digits, take_many_digits};
 
 // The sign, the number that the digits without the point write, how many of them stand after the point, and the sign
 // and the size of the written exponent. Both numbers are at most `CAP`.
@@ -36,7 +36,7 @@ fn take_fraction(start: u64, text: &[u8]) -> Digits<'_>
     ensures rest { result.rest.now ≡ (fraction_at text.now).1 }
 {
     match text {
-        [b'.', rest @ ..] => take_digits(start, rest),
+        [b'.', rest @ ..] => take_many_digits(start, rest),
         _ => Digits {
             number: start,
             count: 0,

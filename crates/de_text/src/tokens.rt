@@ -1,10 +1,13 @@
 // Tokens, cut from the front of a line.
-ghost use Rattle.std.specs.Prelude.{◌≡◌, ◌<◌, ◌≤◌, ◌==◌, [], ◌∷◌, length, IfNone, IfSome, ℕ, false, slice_get, slice_index, true};
+ghost use Rattle.std.specs.Prelude.{◌≡◌, ◌<◌, ◌≤◌, ◌+◌, ◌==◌, [], ◌∷◌, length, IfNone, IfSome, IsFalse, IsTrue, ℕ, false, slice_get, slice_index, true};
 ghost use Rattle.std.specs.Option.{option_copied};
 ghost use Rattle.std.specs.List.{position_or_len};
 ghost use Rattle.spec_text.specs.Lines.{is_separator, tokens};
 
-use memchr::memchr2;
+use std::simd::prelude::*;
+
+// How many bytes are looked at at a time.
+const LANES: usize = 16;
 
 fn is_separator(b: u8) -> bool
     ensures { result ≡ is_separator b }
@@ -26,16 +29,62 @@ fn blank_len(line: &[u8]) -> usize
     line.len()
 }
 
+// Whether the line has no token.
+#[tactic(auto, using(spec_text::proofs::TokenLemmas::blank_line))]
+pub(crate) fn is_blank(line: &[u8]) -> bool
+    ensures blank { IsTrue result → tokens line.now ≡ [] }
+    ensures some { IsFalse result → 0 < length (tokens line.now) }
+{
+    blank_len(line) == line.len()
+}
+
+// How many of sixteen bytes, from a place on, come before the first that is no greater than a blank. None of these is a
+// separator.
+#[inline(always)]
+fn token_run(text: &[u8], at: usize) -> usize
+    requires { at + LANES ≤ length text.now }
+    ensures within { result ≤ LANES }
+    ensures before { (k : ℕ) → at ≤ k → k < at + result
+        → is_separator (slice_index text.now k) ≡ false }
+{
+    let bytes = u8x16::from_slice(&text[at..]);
+    let stops = bytes.simd_le(u8x16::splat(b' ')).to_bitmask();
+    if stops == 0 {
+        LANES
+    } else {
+        stops.trailing_zeros() as usize
+    }
+}
+
+// How many bytes of the token at the front are passed sixteen at a time.
+#[inline(always)]
+fn token_front(text: &[u8]) -> usize
+    ensures within { result ≤ length text.now }
+    ensures before { (k : ℕ) → k < result → is_separator (slice_index text.now k) ≡ false }
+{
+    let mut passed = 0;
+    while LANES <= text.len() - passed {
+        let run = token_run(text, passed);
+        passed += run;
+        if run < LANES {
+            return passed;
+        }
+    }
+    passed
+}
+
 // How many bytes the token at the front has.
 fn token_len(text: &[u8]) -> usize
     ensures within { result ≤ length text.now }
     ensures before { (k : ℕ) → k < result → is_separator (slice_index text.now k) ≡ false }
     ensures at { result < length text.now → is_separator (slice_index text.now result) ≡ true }
 {
-    match memchr2(b' ', b'\t', text) {
-        Some(end) => end,
-        None => text.len(),
+    for i in token_front(text)..text.len() {
+        if is_separator(text[i]) {
+            return i;
+        }
     }
+    text.len()
 }
 
 // The first token, and what follows it.

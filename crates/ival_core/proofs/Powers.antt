@@ -1,12 +1,11 @@
 -- Mantissas at an exponent, and powers of ten.
-use Rattle.std.proofs.Common.{◌≡◌, ℕ, zero, suc, ◌*◌, ◌/◌, ◌^◌, ◌<◌, ◌≤◌, arith, refl, sym, ap, ◌∙◌, ℤ, pos, negsuc, neg_ℤ, ◌+ℤ◌, ◌*ℤ◌, ◌≤ℤ◌, ◌<ℤ◌, unsigned_abs, to_z, of_z, w64, FitsSigned, min, ◌⊎◌, inl, inr}
-use Rattle.std.proofs.lemmas.Int.{ints, to_z-of_z, to_z_pos, unsigned_abs-mul, fits_signed_from_abs}
+use Rattle.std.proofs.Common.{◌≡◌, ℕ, zero, suc, ◌*◌, ◌/◌, ◌^◌, ◌<◌, ◌≤◌, arith, refl, sym, ap, ◌∙◌, ℤ, pos, negsuc, neg_ℤ, ◌*ℤ◌, unsigned_abs, w64, FitsSigned, min, ◌⊎◌, inl, inr}
+use Rattle.std.proofs.lemmas.Int.{ints, unsigned_abs-mul, fits_signed_from_abs}
 use Rattle.std.proofs.lemmas.Nat.{mul-le}
 use Rattle.std.proofs.Math.Nat.{div-eq_of_lt, pow-le-pow_right, one-le-pow}
 use Rattle.std.proofs.lemmas.Bool.{cases_lt}
 use mir.Syntax.{w128}
 use Rattle.spec_numbers.specs.Numbers.{floor_div, ceil_div}
-use Rattle.spec_numbers.proofs.Floor.{floor_div-le, floor_div-lt, floor_div-small}
 use Rattle.spec_numbers.proofs.Sizes.{unsigned_abs-neg}
 
 -- a mantissa of 64 bits at an exponent
@@ -84,32 +83,3 @@ ten_wide m h = let p : 10 ^ m ≤ 10 ^ 38 = ten_bound m (omega arith) in omega a
 
 pub ceil_capped : (z : ℤ) (n m : ℕ) → unsigned_abs z ≤ 2 ^ 123 → m ≡ min n 38 → ceil_div z (10 ^ m) ≡ ceil_div z (10 ^ n)
 ceil_capped z n m h e = ap neg_ℤ (tenths_capped (neg_ℤ z) n m (rw unsigned_abs-neg h) e)
-
--- a quotient times its divisor, and the next quotient, are within 128 bits
-pub multiple_fits : (z : ℤ) (d : ℕ) → 0 < d → d ≤ 10 ^ 38 → unsigned_abs z ≤ 2 ^ 123 → FitsSigned w128 (floor_div z d *ℤ pos d)
-multiple_fits z d p q h =
-    let f : (floor_div z d *ℤ pos d) ≤ℤ z = floor_div-le z d p in
-    let g : z <ℤ (floor_div z d *ℤ pos d +ℤ pos d) = floor_div-lt z d p in
-    bounded (floor_div z d *ℤ pos d) f g
-  where
-    bounded : (w : ℤ) → w ≤ℤ z → z <ℤ (w +ℤ pos d) → FitsSigned w128 w
-    bounded w f g = omega (arith, ints)
-
-pub next_fits : (z : ℤ) (d : ℕ) → 0 < d → unsigned_abs z ≤ 2 ^ 123 → FitsSigned w128 (floor_div z d +ℤ pos 1)
-next_fits z d p h =
-    let b : unsigned_abs (floor_div z d) ≤ 2 ^ 123 = floor_div-small z d (2 ^ 123) p (wider d p) in
-    next (floor_div z d) b
-  where
-    wider : (d : ℕ) → 0 < d → unsigned_abs z ≤ 2 ^ 123 * d
-    wider (suc d) p = omega arith
-    wider zero p = absurd (omega arith)
-
-    next : (w : ℤ) → unsigned_abs w ≤ 2 ^ 123 → FitsSigned w128 (w +ℤ pos 1)
-    next w b = omega (arith, ints)
-
--- the product of a quotient and its divisor, as the code makes it
-pub multiple_is : (z low : ℤ) (d : ℕ) → FitsSigned w128 low → low ≡ floor_div z d → d ≤ 10 ^ 38 → to_z w128 (of_z w128 low) *ℤ to_z w128 d ≡ floor_div z d *ℤ pos d
-multiple_is z low d f e h =
-    let a : to_z w128 (of_z w128 low) ≡ floor_div z d = to_z-of_z w128 low f ∙ e in
-    let b : to_z w128 d ≡ pos d = to_z_pos w128 d (omega arith) in
-    ap (λ w. w *ℤ to_z w128 d) a ∙ ap (λ w. floor_div z d *ℤ w) b

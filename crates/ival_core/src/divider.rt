@@ -102,7 +102,7 @@ fn checked(x: u128, guess: u64, seconds: u64) -> Division
 
 /// The quotient rounded down of a number, from that of its magnitude.
 #[inline(always)]
-fn rounded_down(z: i128, quotient: u128, rest: u64) -> i128
+pub(crate) fn rounded_down(z: i128, quotient: u128, rest: u128) -> i128
     requires { quotient < 2 ^ 127 }
     ensures { (d : ℕ) → quotient * d + rest ≡ unsigned_abs z → rest < d → result ≡ floor_div z d }
 {
@@ -117,7 +117,7 @@ fn rounded_down(z: i128, quotient: u128, rest: u64) -> i128
 
 /// The quotient rounded up of a number, from that of its magnitude.
 #[inline(always)]
-fn rounded_up(z: i128, quotient: u128, rest: u64) -> i128
+pub(crate) fn rounded_up(z: i128, quotient: u128, rest: u128) -> i128
     requires size { quotient < 2 ^ 127 }
     requires spare { 1 ≤ rest → quotient < 2 ^ 126 }
     ensures { (d : ℕ) → quotient * d + rest ≡ unsigned_abs z → rest < d → result ≡ ceil_div z d }
@@ -209,7 +209,7 @@ impl Divider {
         ensures positive { 1 ≤ self.now }
     {
         let whole = self.whole(z.unsigned_abs());
-        rounded_down(z, whole.quotient, whole.rest)
+        rounded_down(z, whole.quotient, u128::from(whole.rest))
     }
 
     /// `ceil(z / seconds)`.
@@ -221,7 +221,7 @@ impl Divider {
         ensures positive { 1 ≤ self.now }
     {
         let whole = self.whole(z.unsigned_abs());
-        rounded_up(z, whole.quotient, whole.rest)
+        rounded_up(z, whole.quotient, u128::from(whole.rest))
     }
 
     /// `floor(z / seconds)` and `ceil(z / seconds)`.
@@ -235,8 +235,8 @@ impl Divider {
         ensures positive { 1 ≤ self.now }
     {
         let whole = self.whole(z.unsigned_abs());
-        let low = rounded_down(z, whole.quotient, whole.rest);
-        let high = rounded_up(z, whole.quotient, whole.rest);
+        let low = rounded_down(z, whole.quotient, u128::from(whole.rest));
+        let high = rounded_up(z, whole.quotient, u128::from(whole.rest));
         (low, high)
     }
 }

@@ -12,8 +12,8 @@ scaled_is : (c : After-unsigned_abs-n) → c.at_exponent-scaled.result ≡ c.arg
 scaled_is c =
     let m = c.ranges.mant in
     let s = c.ranges.s in
-    let k : c.unsigned_abs.result ≡ unsigned_abs c.args.s = simp to_z-of_z at c.unsigned_abs.ensures.value in
-    let e : c.at_exponent-scaled.result ≡ c.args.mant *ℤ pos (2 ^ c.unsigned_abs.result) = simp to_z-of_z at c.at_exponent-scaled.ensures.equals in
+    let k : c.unsigned_abs-k.result ≡ unsigned_abs c.args.s = simp to_z-of_z at c.unsigned_abs-k.ensures.value in
+    let e : c.at_exponent-scaled.result ≡ c.args.mant *ℤ pos (2 ^ c.unsigned_abs-k.result) = simp to_z-of_z at c.at_exponent-scaled.ensures.equals in
     e ∙ ap (λ n. c.args.mant *ℤ pos (2 ^ n)) k
 
 power_is : (c : After-unsigned_abs-n) → c.unsigned_abs-n.result ≡ unsigned_abs c.args.exp

@@ -1,0 +1,10 @@
+use Rattle.std.proofs.Common.{◌<◌, length, arith}
+use Rattle.std.proofs.lemmas.Bool.Decides.{nat_tests}
+use Rattle.de_text.proofs.TokenPlaces.{has_token}
+use Rattle.de_text.proofs.tokens.is_blank.Goals as goal
+
+pub returns-clause-some : goal.returns-clause-some
+returns-clause-some c test =
+    let within = c.blank_len.ensures.within in
+    let below : c.blank_len.result < length c.args.line.now = grind (arith, nat_tests) in
+    has_token c.args.line.now c.blank_len.result below c.blank_len.ensures.before (c.blank_len.ensures.at below)

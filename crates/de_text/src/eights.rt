@@ -1,0 +1,78 @@
+// Eight digits at a time, in a word of 64 bits.
+ghost use Rattle.std.specs.Prelude.{◌≡◌, ◌≤◌, ◌<◌, ◌^◌, ◌+◌, IfSome, IsTrue, length, take};
+ghost use lib.Lanes.{number_l};
+ghost use Rattle.spec_text.specs.Decimals.{AreDigits, value, value_after};
+ghost use Rattle.spec_text.specs.Splitting.{digits_at};
+
+use std::simd::prelude::*;
+
+// How many digits are taken at a time.
+const EIGHT: usize = 8;
+
+// Ten to the number of digits that are taken at a time.
+const EIGHT_DIGITS: u64 = 100_000_000;
+
+// A number below this one, with eight digits after it, has at most 18 digits.
+const ROOM: u64 = 10_000_000_000;
+
+// The word of eight bytes that are each a zero.
+const ZEROS: u64 = 0x3030_3030_3030_3030;
+
+// Whether the first eight bytes are digits.
+#[inline(always)]
+fn are_eight_digits(text: &[u8]) -> bool
+    requires { EIGHT ≤ length text.now }
+    ensures { IsTrue result → AreDigits (take 8 text.now) }
+{
+    let bytes = u8x8::from_slice(text);
+    let below = bytes.simd_lt(u8x8::splat(b'0')).to_bitmask();
+    let above = bytes.simd_gt(u8x8::splat(b'9')).to_bitmask();
+    below == 0 && above == 0
+}
+
+// The word of the first eight bytes, of which the first is the lowest.
+#[inline(always)]
+fn first_word(text: &[u8]) -> u64
+    requires { EIGHT ≤ length text.now }
+    ensures { result ≡ number_l 256 (take 8 text.now) }
+{
+    let words = u64x1::from_le_bytes(u8x8::from_slice(text)).to_array();
+    words[0]
+}
+
+// The number that the first eight bytes write, which are digits. Each byte is joined with the next to a number below 100,
+// and every second of these counts.
+#[inline(always)]
+fn eight_digits(text: &[u8]) -> u64
+    requires long { EIGHT ≤ length text.now }
+    requires digits { AreDigits (take 8 text.now) }
+    ensures value { result ≡ value (take 8 text.now) }
+    ensures bound { result < 10 ^ 8 }
+{
+    let digits = first_word(text) - ZEROS;
+    let pairs = 10 * digits + digits / (1 << 8);
+    let first = pairs % (1 << 8);
+    let second = pairs / (1 << 16) % (1 << 8);
+    let third = pairs / (1 << 32) % (1 << 8);
+    let last = pairs / (1 << 48) % (1 << 8);
+    1_000_000 * first + 10_000 * second + 100 * third + last
+}
+
+// The number that eight digits at the front write after an earlier one, and what follows them. There is none where other
+// bytes stand there, or where the earlier number is too great.
+#[inline(always)]
+pub(crate) fn take_eight(before: u64, text: &[u8]) -> Option<(u64, &[u8])>
+    ensures number { IfSome result (λ p. value_after p.0 (digits_at p.1.now).0
+        ≡ value_after before (digits_at text.now).0) }
+    ensures count { IfSome result (λ p. length (digits_at text.now).0
+        ≡ 8 + length (digits_at p.1.now).0) }
+    ensures rest { IfSome result (λ p. (digits_at p.1.now).1 ≡ (digits_at text.now).1) }
+    ensures few { IfSome result (λ p. p.0 ≤ 10 ^ 18) }
+    ensures shorter { IfSome result (λ p. length text.now ≡ 8 + length p.1.now) }
+{
+    if before >= ROOM || text.len() < EIGHT || !are_eight_digits(text) {
+        return None;
+    }
+    let number = EIGHT_DIGITS * before + eight_digits(text);
+    Some((number, &text[EIGHT..]))
+}

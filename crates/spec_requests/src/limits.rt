@@ -35,3 +35,6 @@ pub const DEFAULT_DEPTH: u32 = 40;
 
 /// The workers of a search, or of a generated text, that is asked for none.
 pub const DEFAULT_WORKERS: u32 = 1;
+
+/// The greatest magnitude of the times of a scalar: 12 digits.
+pub const MAX_SCALAR_TIME: u64 = 999_999_999_999;

@@ -1,8 +1,6 @@
 use Rattle.std.proofs.Common.{◌∙◌, Ok, rules}
 use Rattle.std.proofs.lemmas.Int.{to_z-of_z}
 use Rattle.std.specs.Int.{w64}
-use Rattle.spec_events.specs.declared.dir.Dir.{Dir}
-use Rattle.gf_words.specs.declared.scalars.ScalarOptions.{ScalarOptions}
 use Rattle.gf_words.specs.Parts.{scalar_of_parts}
 use Rattle.gf_words.proofs.Pairs.{all_read, along, first_bad}
 use Rattle.gf_words.proofs.scalars.read_scalar.Goals as goal

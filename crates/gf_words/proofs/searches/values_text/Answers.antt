@@ -1,6 +1,5 @@
-use Rattle.std.proofs.Common.{◌∙◌, ◌++◌, Some, sym, ap}
+use Rattle.std.proofs.Common.{◌∙◌, sym, ap}
 use Rattle.spec_requests.specs.Names.{Text}
-use Rattle.spec_requests.specs.Requests.{ref2_text}
 use Rattle.spec_kinds.specs.Table.{is_unused}
 use Rattle.gf_words.specs.Readings.{values_of}
 use Rattle.gf_words.proofs.Answering.{no_text, radii_text, ref_text}

@@ -1,7 +1,5 @@
 use Rattle.std.proofs.Common.{◌∙◌, ◌++◌, ap}
-use Rattle.spec_requests.specs.declared.request.Named.TheVariants as opt
 use Rattle.spec_requests.specs.declared.request.Request.TheVariants.{Set}
-use Rattle.spec_requests.specs.Names.{Text}
 use Rattle.spec_requests.specs.Requests.{ref2_text, set_of}
 use Rattle.gf_words.specs.Readings.{file_names_of, values_of}
 use Rattle.gf_words.proofs.Answering.{set_made}

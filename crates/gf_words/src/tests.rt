@@ -4,7 +4,7 @@ use crate::{Named, WordFault, request};
 use std::alloc::{AllocError, Global};
 use std::test::Fail;
 
-const ROWS: [(&str, Option<WordFault>); 26] = [
+const ROWS: [(&str, Option<WordFault>); 44] = [
     ("", Some(WordFault::NoCommand)),
     ("search a", Some(WordFault::UnknownCommand)),
     ("check", Some(WordFault::Words)),
@@ -68,6 +68,75 @@ const ROWS: [(&str, Option<WordFault>); 26] = [
     ),
     (
         "find --kind apsis --target moon --kind apsis a",
+        Some(WordFault::Words),
+    ),
+    (
+        "set --kind coord --target mercury --axis x --relation less a",
+        None,
+    ),
+    (
+        "set --kind coord --target mercury --axis x --ref=-100.5 --ref2 100.5 --relation within a",
+        None,
+    ),
+    (
+        "set --kind conj --target mercury --second venus --relation less a",
+        Some(WordFault::BadValue(Named::Kind)),
+    ),
+    (
+        "set --kind apsis --target moon --dir any --relation less a",
+        Some(WordFault::Words),
+    ),
+    (
+        "set --kind apsis --target moon --ref2 1 a",
+        Some(WordFault::BadValue(Named::Relation)),
+    ),
+    (
+        "set --kind apsis --target moon --relation within --ref2 1 a",
+        Some(WordFault::BadValue(Named::Relation)),
+    ),
+    (
+        "set --kind apsis --target moon --relation atleast --ref2 1 a",
+        Some(WordFault::BadValue(Named::Ref2)),
+    ),
+    (
+        "set --kind radius --target moon --ref 4e5 --relation outside --ref2 1x a",
+        Some(WordFault::BadValue(Named::Ref2)),
+    ),
+    ("scalar --quad 1,0,-100 --from=-50 --to 50", None),
+    (
+        "scalar --quad=-1048576,1048576,-4611686018427387904 --from=0 --to=-999999999999 --depth 0",
+        None,
+    ),
+    (
+        "scalar --quad 1,0 --from 0 --to 9",
+        Some(WordFault::BadValue(Named::Quad)),
+    ),
+    (
+        "scalar --quad 1,0,4611686018427387905 --from 0 --to 9",
+        Some(WordFault::BadValue(Named::Quad)),
+    ),
+    (
+        "scalar --quad 1,0,9999999999999999999 --from 0 --to 9",
+        Some(WordFault::BadValue(Named::Quad)),
+    ),
+    (
+        "scalar --quad 1,00000000000000000000,0 --from 0 --to 9",
+        Some(WordFault::BadValue(Named::Quad)),
+    ),
+    (
+        "scalar --quad 1,0,+1 --from 0 --to 9",
+        Some(WordFault::BadValue(Named::Quad)),
+    ),
+    (
+        "scalar --quad 1,0,0 --to 9",
+        Some(WordFault::BadValue(Named::From)),
+    ),
+    (
+        "scalar --quad 1,0,0 --from 0 --to 1000000000000",
+        Some(WordFault::BadValue(Named::To)),
+    ),
+    (
+        "scalar --quad 1,0,0 --from 0 --to 9 a",
         Some(WordFault::Words),
     ),
 ];

@@ -12,8 +12,11 @@ use Rattle.spec_kinds.specs.declared.ask.Ask.{Ask}
 use Rattle.spec_kinds.specs.declared.kind.Kind.{Kind}
 use Rattle.spec_kinds.specs.Table.{is_unused, kind_name, row_of}
 use Rattle.spec_requests.specs.declared.request.FindAsk.{FindAsk}
-use Rattle.spec_requests.specs.Names.{axis_name, body_name, cut_name, dir_name, frame_name}
+use Rattle.spec_requests.specs.declared.request.Relation.{Relation}
+use Rattle.spec_requests.specs.declared.request.ScalarAsk.{ScalarAsk}
+use Rattle.spec_requests.specs.Names.{axis_name, body_name, cut_name, dir_name, frame_name, relation_name}
 use Rattle.spec_times.specs.Ticks.{IsTimeIn, tick_text}
+use Rattle.spec_output.specs.Messages.{times}
 
 -- ---- the request
 
@@ -73,10 +76,14 @@ request_line find = query_line (codes "FIND ") (turns_text find.ask.dir) find
 
 -- ---- the windows
 
+-- the line of a window whose times have this text
+abbrev pub line_by : List ℕ → Holds → List ℕ
+line_by times (Certain Rise) = codes "C " ++ times ++ codes " rise\n"
+line_by times (Certain Fall) = codes "C " ++ times ++ codes " fall\n"
+line_by times Undecided = codes "U " ++ times ++ codes "\n"
+
 abbrev pub line_of : ℕ → ℤ → ℤ → Holds → List ℕ
-line_of tick first last (Certain Rise) = codes "C " ++ span_text tick first last ++ codes " rise\n"
-line_of tick first last (Certain Fall) = codes "C " ++ span_text tick first last ++ codes " fall\n"
-line_of tick first last Undecided = codes "U " ++ span_text tick first last ++ codes "\n"
+line_of tick first last = line_by (span_text tick first last)
 
 -- a window from a time to another that have texts
 pub record HasTimes (tick : ℕ) (w : Window) : Type 0 where
@@ -124,3 +131,42 @@ generation_line blocks seed bytes =
 -- so many blocks from this seed make so many bytes, in which these windows were found
 abbrev pub generation : ℕ → ℕ → ℕ → List Window → List ℕ
 generation blocks seed bytes ws = generation_line blocks seed bytes ++ end_line ws
+
+-- ---- the report of the times at which a function has a relation to its references
+
+-- which relation is asked for
+abbrev pub relation_text : Relation → List ℕ
+relation_text relation = codes " relation " ++ relation_name relation
+
+-- the times from a first to a last have texts
+pub record AreTimesIn (tick : ℕ) (span : ℤ × ℤ) : Type 0 where
+  pub first : IsTimeIn tick span.0
+  pub last : IsTimeIn tick span.1
+
+-- a line for each span of times, after a word
+abbrev pub span_lines : List ℕ → ℕ → List (ℤ × ℤ) → List ℕ
+span_lines word tick spans = flat_map (λ span. word ++ span_text tick span.0 span.1 ++ codes "\n") spans
+
+-- how many spans there are of sure times and of possible ones
+abbrev pub set_end_line : List (ℤ × ℤ) → List (ℤ × ℤ) → List ℕ
+set_end_line surely perhaps =
+    codes "END sure " ++ decimal (length surely) ++ (codes " possible " ++ decimal (length perhaps) ++ codes "\n")
+
+abbrev pub set_report : FindAsk → Relation → ℤ → ℤ → List (ℤ × ℤ) → List (ℤ × ℤ) → List ℕ
+set_report find relation from to surely perhaps =
+    query_line (codes "SET ") (relation_text relation) find from to ++ codes "\n"
+    ++ (span_lines (codes "S ") find.tick surely ++ span_lines (codes "P ") find.tick perhaps)
+    ++ set_end_line surely perhaps
+
+-- ---- the report of a scalar, whose times are whole numbers
+
+abbrev pub scalar_line : ScalarAsk → List ℕ
+scalar_line ask =
+    codes "SCALAR quad " ++ ask.text ++ turns_text ask.plan.dir
+    ++ limits_text (pos ask.plan.width) ask.plan.depth ask.plan.cut ++ (codes " span " ++ times ask.from ask.to)
+
+abbrev pub scalar_window_lines : List Window → List ℕ
+scalar_window_lines ws = flat_map (λ w. line_by (times w.first w.last) w.holds) ws
+
+abbrev pub scalar_report : ScalarAsk → List Window → List ℕ
+scalar_report ask ws = scalar_line ask ++ codes "\n" ++ scalar_window_lines ws ++ end_line ws

@@ -15,9 +15,11 @@ use Rattle.spec_kinds.specs.Table.{rows}
 use Rattle.spec_kinds.specs.Faults.{body_number}
 use Rattle.spec_requests.specs.declared.request.Named.{Named}
 use Rattle.spec_requests.specs.declared.request.Named.TheVariants as opt
+use Rattle.spec_requests.specs.declared.request.Relation.{Relation}
+use Rattle.spec_requests.specs.declared.request.Relation.TheVariants as relation
 use Rattle.spec_requests.specs.declared.tables.CommandName.{CommandName}
 use Rattle.spec_requests.specs.declared.tables.CommandName.TheVariants as command
-use Rattle.spec_requests.specs.declared.tables.TheConstants.{COMMANDS, BODIES, FRAMES, AXES, DIRS, CUTS, OPTIONS, LAYOUTS, TICKS}
+use Rattle.spec_requests.specs.declared.tables.TheConstants.{COMMANDS, BODIES, FRAMES, AXES, DIRS, RELATIONS, CUTS, OPTIONS, LAYOUTS, TICKS}
 
 abbrev pub Text : Type 0
 Text = List ℕ
@@ -55,6 +57,9 @@ axes = map (λ row. (row.0.now, row.1)) AXES
 
 abbrev pub dirs : Table Dir
 dirs = map (λ row. (row.0.now, row.1)) DIRS
+
+abbrev pub relations : Table Relation
+relations = map (λ row. (row.0.now, row.1)) RELATIONS
 
 abbrev pub cuts : Table CutRule
 cuts = map (λ row. (row.0.now, row.1)) CUTS
@@ -98,6 +103,9 @@ axis_of = named axes
 unfoldable pub dir_of : Text → Option Dir
 dir_of = named dirs
 
+unfoldable pub relation_of : Text → Option Relation
+relation_of = named relations
+
 unfoldable pub cut_of : Text → Option CutRule
 cut_of = named cuts
 
@@ -120,6 +128,8 @@ command_place command.Cert = 1
 command_place command.Verify = 2
 command_place command.Check = 3
 command_place command.Gen = 4
+command_place command.Set = 5
+command_place command.Scalar = 6
 
 abbrev pub command_name : CommandName → Text
 command_name command = name_at commands (command_place command)
@@ -142,6 +152,15 @@ dir_place dir.Fall = 2
 abbrev pub dir_name : Dir → Text
 dir_name dir = name_at dirs (dir_place dir)
 
+abbrev pub relation_place : Relation → ℕ
+relation_place relation.Less = 0
+relation_place relation.AtLeast = 1
+relation_place relation.Within = 2
+relation_place relation.Outside = 3
+
+abbrev pub relation_name : Relation → Text
+relation_name relation = name_at relations (relation_place relation)
+
 abbrev pub cut_place : CutRule → ℕ
 cut_place cut.Half = 0
 cut_place cut.Third = 1
@@ -163,18 +182,21 @@ option_place opt.Axis = 5
 option_place opt.Ref = 6
 option_place opt.Radius1 = 7
 option_place opt.Radius2 = 8
-option_place opt.Dir = 9
-option_place opt.Tick = 10
-option_place opt.From = 11
-option_place opt.To = 12
-option_place opt.Width = 13
-option_place opt.Depth = 14
-option_place opt.Workers = 15
-option_place opt.Cut = 16
-option_place opt.Cert = 17
-option_place opt.Layout = 18
-option_place opt.Blocks = 19
-option_place opt.Seed = 20
+option_place opt.Relation = 9
+option_place opt.Ref2 = 10
+option_place opt.Dir = 11
+option_place opt.Tick = 12
+option_place opt.From = 13
+option_place opt.To = 14
+option_place opt.Width = 15
+option_place opt.Depth = 16
+option_place opt.Workers = 17
+option_place opt.Cut = 18
+option_place opt.Cert = 19
+option_place opt.Layout = 20
+option_place opt.Blocks = 21
+option_place opt.Seed = 22
+option_place opt.Quad = 23
 
 -- the option's name, which follows two dashes, or the name of a word of `gen`
 abbrev pub option_name : Named → Text

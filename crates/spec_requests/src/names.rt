@@ -1,9 +1,9 @@
 // The names of what words stand for, as words and reports write them: each is looked up in its table.
 ghost use Rattle.std.specs.Prelude.{◌≡◌};
-ghost use Rattle.spec_requests.specs.Names.{axis_name, body_name, command_name, cut_name, dir_name, frame_name, option_name};
+ghost use Rattle.spec_requests.specs.Names.{axis_name, body_name, command_name, cut_name, dir_name, frame_name, option_name, relation_name};
 
-use crate::request::Named;
-use crate::tables::{AXES, BODIES, COMMANDS, CUTS, CommandName, DIRS, FRAMES, OPTIONS};
+use crate::request::{Named, Relation};
+use crate::tables::{AXES, BODIES, COMMANDS, CUTS, CommandName, DIRS, FRAMES, OPTIONS, RELATIONS};
 use spec_bodies::Frame;
 use spec_ephemeris::Body;
 use spec_events::Dir;
@@ -42,6 +42,13 @@ pub fn cut_name(cut: CutRule) -> &'static str
     ensures { result.now ≡ cut_name cut }
 {
     CUTS[cut as usize].0
+}
+
+/// The name of a relation.
+pub fn relation_name(relation: Relation) -> &'static str
+    ensures { result.now ≡ relation_name relation }
+{
+    RELATIONS[relation as usize].0
 }
 
 /// The name of an axis: x, y and z are 0, 1 and 2. Another number has no name.

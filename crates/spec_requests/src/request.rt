@@ -2,6 +2,8 @@
 
 use crate::text::{FileNames, Text};
 use spec_kinds::Ask;
+use spec_scalars::Plan;
+use spec_text::Decimal;
 use spec_trees::CutRule;
 use thiserror::Error;
 
@@ -28,6 +30,37 @@ pub struct FindAsk {
     pub cut: CutRule,
     /// The files in their order, at least one.
     pub files: FileNames,
+}
+
+/// A relation that a function has to one reference or two: the times at which it is below the reference, or at least the
+/// reference; at least the first and below the second; below the first or at least the second.
+#[derive(Clone, Copy, Debug, PartialEq, Eq)]
+pub enum Relation {
+    Less,
+    AtLeast,
+    Within,
+    Outside,
+}
+
+/// A search for the times at which a quadratic polynomial p t^2 + q t + r passes 0, with whole factors and whole times.
+#[derive(Drop)]
+pub struct ScalarAsk {
+    /// The factor of the square: at most 2^20 in magnitude.
+    pub p: i64,
+    /// The factor of the time: at most 2^20 in magnitude.
+    pub q: i64,
+    /// The summand: at most 2^62 in magnitude.
+    pub r: i64,
+    /// The three numbers as the words give them.
+    pub text: Text,
+    /// The time before the first that is searched.
+    pub from: i64,
+    /// The last time that is searched.
+    pub to: i64,
+    /// Which turns are wanted, and how the span is searched.
+    pub plan: Plan,
+    /// How many workers search: 1 to 64.
+    pub workers: u32,
 }
 
 /// What a command line asks for.
@@ -58,6 +91,16 @@ pub enum Request {
         /// How many workers search: 1 to 64.
         workers: u32,
     },
+    /// The times at which a function has a relation to its references.
+    Set {
+        /// The search for the turns about the first reference, which wants both.
+        find: FindAsk,
+        /// The second reference, of the relations that have two.
+        ref2: Option<Decimal>,
+        relation: Relation,
+    },
+    /// The times at which a polynomial passes 0.
+    Scalar(ScalarAsk),
 }
 
 /// An option of a command, or a word of `gen`.
@@ -72,6 +115,8 @@ pub enum Named {
     Ref,
     Radius1,
     Radius2,
+    Relation,
+    Ref2,
     Dir,
     Tick,
     From,
@@ -84,6 +129,7 @@ pub enum Named {
     Layout,
     Blocks,
     Seed,
+    Quad,
 }
 
 /// Why a command line is invalid.

@@ -1,7 +1,7 @@
 // The tables of names: how each thing is called in words and in reports. Where its values are those of an enum, a table
 // stands in the enum's order, so that a name is looked up in it as well as what a name stands for.
 
-use crate::request::Named;
+use crate::request::{Named, Relation};
 use spec_bodies::Frame;
 use spec_ephemeris::Body;
 use spec_events::Dir;
@@ -15,15 +15,19 @@ pub enum CommandName {
     Verify,
     Check,
     Gen,
+    Set,
+    Scalar,
 }
 
 /// The first words of command lines.
-pub const COMMANDS: [(&str, CommandName); 5] = [
+pub const COMMANDS: [(&str, CommandName); 7] = [
     ("find", CommandName::Find),
     ("cert", CommandName::Cert),
     ("verify", CommandName::Verify),
     ("check", CommandName::Check),
     ("gen", CommandName::Gen),
+    ("set", CommandName::Set),
+    ("scalar", CommandName::Scalar),
 ];
 
 /// The bodies. All can be observers; the last, the barycentre of the solar system, can be nothing else.
@@ -52,6 +56,14 @@ pub const AXES: [(&str, u8); 3] = [("x", 0), ("y", 1), ("z", 2)];
 /// The turns that a search may want.
 pub const DIRS: [(&str, Dir); 3] = [("any", Dir::Any), ("rise", Dir::Rise), ("fall", Dir::Fall)];
 
+/// The relations of a function to its references.
+pub const RELATIONS: [(&str, Relation); 4] = [
+    ("less", Relation::Less),
+    ("atleast", Relation::AtLeast),
+    ("within", Relation::Within),
+    ("outside", Relation::Outside),
+];
+
 /// The rules of cutting.
 pub const CUTS: [(&str, CutRule); 2] = [("half", CutRule::Half), ("third", CutRule::Third)];
 
@@ -62,7 +74,7 @@ pub const LAYOUTS: [(&str, u16); 1] = [("405", 405)];
 pub const TICKS: [(&str, u32); 2] = [("1", 1), ("1000", 1_000)];
 
 /// The options of all commands, and the words of `gen`.
-pub const OPTIONS: [(&str, Named); 21] = [
+pub const OPTIONS: [(&str, Named); 24] = [
     ("kind", Named::Kind),
     ("target", Named::Target),
     ("second", Named::Second),
@@ -72,6 +84,8 @@ pub const OPTIONS: [(&str, Named); 21] = [
     ("ref", Named::Ref),
     ("radius1", Named::Radius1),
     ("radius2", Named::Radius2),
+    ("relation", Named::Relation),
+    ("ref2", Named::Ref2),
     ("dir", Named::Dir),
     ("tick", Named::Tick),
     ("from", Named::From),
@@ -84,6 +98,7 @@ pub const OPTIONS: [(&str, Named); 21] = [
     ("layout", Named::Layout),
     ("blocks", Named::Blocks),
     ("seed", Named::Seed),
+    ("quad", Named::Quad),
 ];
 
 /// The options of `find` and `cert`, in the order in which their faults count. `verify` has one more, the last.
@@ -99,6 +114,41 @@ pub const FIND_OPTIONS: [Named; 17] = [
     Named::Radius2,
     Named::Dir,
     Named::Tick,
+    Named::From,
+    Named::To,
+    Named::Width,
+    Named::Depth,
+    Named::Workers,
+    Named::Cut,
+];
+
+/// The options of `set`, in the order in which their faults count: those of `find` without the direction, and with the
+/// relation and the second reference.
+pub const SET_OPTIONS: [Named; 18] = [
+    Named::Kind,
+    Named::Target,
+    Named::Second,
+    Named::Observer,
+    Named::Frame,
+    Named::Axis,
+    Named::Ref,
+    Named::Radius1,
+    Named::Radius2,
+    Named::Relation,
+    Named::Ref2,
+    Named::Tick,
+    Named::From,
+    Named::To,
+    Named::Width,
+    Named::Depth,
+    Named::Workers,
+    Named::Cut,
+];
+
+/// The options of `scalar`, in the order in which their faults count.
+pub const SCALAR_OPTIONS: [Named; 8] = [
+    Named::Quad,
+    Named::Dir,
     Named::From,
     Named::To,
     Named::Width,

@@ -2,3 +2,4 @@ pub mod Queries
 pub mod Refusals
 pub mod Outcomes
 pub mod Certificates
+pub mod Sets

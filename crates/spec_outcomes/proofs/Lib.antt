@@ -3,3 +3,5 @@ pub mod Searching
 pub mod Following
 pub mod Results
 pub mod SpanTimes
+pub mod SetSigns
+pub mod SetOutcomes

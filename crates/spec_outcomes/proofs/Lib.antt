@@ -3,3 +3,4 @@ pub mod Searching
 pub mod Following
 pub mod Results
 pub mod SpanTimes
+pub mod Passings

@@ -2,3 +2,5 @@ pub mod Queries
 pub mod Refusals
 pub mod Outcomes
 pub mod Certificates
+pub mod Scalars
+pub mod ScalarExamples

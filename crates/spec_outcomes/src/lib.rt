@@ -7,12 +7,16 @@ mod examples;
 mod laws;
 mod query;
 mod refusal;
+mod scalar_examples;
 mod statuses;
 
 pub use examples::{causes_have_an_order, statuses_of_causes};
-pub use laws::{causes_are_no_texts, searches_find_the_events};
+pub use laws::{
+    causes_are_no_texts, polynomials_pass_0_in_their_windows, searches_find_the_events,
+};
 pub use query::{Query, Span, conjunctions, query_of};
 pub use refusal::Refusal;
+pub use scalar_examples::{outcomes_of_a_square, windows_of_a_square};
 pub use statuses::{
     CERTIFICATE_REFUSED, EVENT_REFUSED, FILES_REFUSED, NOT_READ, NOT_WRITTEN, OUT_OF_MEMORY,
     REPORTED, SPAN_REFUSED, TOO_MANY_LEAVES, WORDS_REFUSED,

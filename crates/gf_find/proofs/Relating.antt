@@ -45,7 +45,7 @@ module _ (find : FindAsk) (ref2 : Option Decimal) (relation : Relation) where
   -- what words ask for keeps to the limits of a query
   pub set_query_is : (p : Query) → p ≡ query_of find → IsSetWithinLimits find ref2 relation → IsSetQuery p
   set_query_is p same limits =
-      subst IsSetQuery (sym same) (record { query = asked_is find (query_of find) refl limits.find; all = limits.all; kind = limits.kind })
+      subst IsSetQuery (sym same) (record { query = asked_is find (query_of find) refl limits.search; all = limits.all; kind = limits.kind })
 
   module _ (e : Ephemeris) where
     abbrev asked : Span

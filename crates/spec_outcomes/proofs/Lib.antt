@@ -4,3 +4,5 @@ pub mod Following
 pub mod Results
 pub mod SpanTimes
 pub mod Passings
+pub mod SetSigns
+pub mod SetOutcomes

@@ -4,3 +4,4 @@ pub mod Outcomes
 pub mod Certificates
 pub mod Scalars
 pub mod ScalarExamples
+pub mod Sets

@@ -8,6 +8,8 @@ mod laws;
 mod query;
 mod refusal;
 mod scalar_examples;
+mod set_examples;
+mod set_laws;
 mod statuses;
 
 pub use examples::{causes_have_an_order, statuses_of_causes};
@@ -17,6 +19,8 @@ pub use laws::{
 pub use query::{Query, Span, conjunctions, query_of};
 pub use refusal::Refusal;
 pub use scalar_examples::{outcomes_of_a_square, windows_of_a_square};
+pub use set_examples::{signs_of_open_times, signs_of_relations};
+pub use set_laws::{causes_against_sets, queries_of_sets, sets_meet_their_relation};
 pub use statuses::{
     CERTIFICATE_REFUSED, EVENT_REFUSED, FILES_REFUSED, NOT_READ, NOT_WRITTEN, OUT_OF_MEMORY,
     REPORTED, SPAN_REFUSED, TOO_MANY_LEAVES, WORDS_REFUSED,

@@ -1,5 +1,5 @@
 -- Polynomials that are asked for in worked values.
-use Rattle.std.specs.Prelude.{ℕ, ℤ, List, [], ◌∷◌, codes, pos}
+use Rattle.std.specs.Prelude.{ℕ, ℤ, codes, pos}
 use Rattle.spec_numbers.specs.Numbers.{minus}
 use Rattle.spec_trees.specs.declared.cuts.CutRule.TheVariants.{Half}
 use Rattle.spec_trees.specs.declared.window.Holds.{Holds}

@@ -1,6 +1,6 @@
 -- What `scalar` comes to: the report of the windows of the times at which a polynomial passes 0, or the cause why there is none.
 -- Times are whole numbers.
-use Rattle.std.specs.Prelude.{◌≡◌, ℕ, nat_lt, int_lt, if◌then◌else◌, ℤ, pos, neg_ℤ, List, Result, Ok, Err}
+use Rattle.std.specs.Prelude.{◌≡◌, ℕ, nat_lt, int_lt, if◌then◌else◌, pos, neg_ℤ, List, Result, Ok, Err}
 use Rattle.spec_trees.specs.declared.tree.Leaf.{Leaf}
 use Rattle.spec_trees.specs.declared.tree.Node.{Node}
 use Rattle.spec_trees.specs.declared.window.Window.{Window}

@@ -1,5 +1,5 @@
 -- The outcome of the search for sets: the causes against it in their order, and the sets that are found.
-use Rattle.std.proofs.Common.{◌≡◌, ◌⊎◌, ◌<◌, ◌≤◌, ℕ, Bool, true, false, ◌||◌, ◌&&◌, List, [], ◌∷◌, length, All, Option, None, Some, Ok, Err, Result, ℤ, pos, ◌+ℤ◌, ◌≤ℤ◌, refl, sym, ◌∙◌, ap, subst, arith, inl, inr}
+use Rattle.std.proofs.Common.{◌≡◌, ◌<◌, ℕ, Bool, true, false, ◌||◌, ◌&&◌, List, [], ◌∷◌, All, None, Some, Ok, Err, Result, ℤ, pos, ◌+ℤ◌, ◌≤ℤ◌, refl, sym, ◌∙◌, ap, arith}
 use Rattle.std.proofs.lemmas.Bool.{and_parts}
 use Rattle.std.proofs.lemmas.Int.{ints}
 use Rattle.std.proofs.lemmas.List.Elements.{All-nil, All-cons, All-weaker}
@@ -11,7 +11,6 @@ use Rattle.spec_sets.specs.Signs.{is_possible, is_sure}
 use Rattle.spec_sets.specs.Spans.{AreSpans, AreSpansFrom, has, is_between, is_in}
 use Rattle.spec_sets.proofs.Members.{has_first, in_parts, inside}
 use Rattle.spec_sets.proofs.Runs.{are_spans_of}
-use Rattle.spec_searches.specs.Search.{Search}
 use Rattle.spec_kinds.specs.declared.fault.EventFault.{EventFault}
 use Rattle.spec_kinds.specs.Faults.{fault_of}
 use Rattle.spec_times.specs.Ticks.{IsTimeIn}
@@ -22,10 +21,9 @@ use Rattle.spec_outcomes.specs.declared.query.Query.{Query}
 use Rattle.spec_outcomes.specs.declared.query.Span.{Span}
 use Rattle.spec_outcomes.specs.declared.refusal.Refusal.{Refusal}
 use Rattle.spec_outcomes.specs.declared.refusal.Refusal.TheVariants.{Event, Outside}
-use Rattle.spec_outcomes.specs.Outcomes.{IsFound, cause_by, cause_of, found, searched, unless}
+use Rattle.spec_outcomes.specs.Outcomes.{cause_by, cause_of, searched, unless}
 use Rattle.spec_outcomes.specs.Queries.{is_within, leaves_in, search, whole_span}
 use Rattle.spec_outcomes.specs.Sets.{AreSetsFound, IsPart, IsSetQuery, related_signs, relation_sign, searched_signs, signs_by, signs_found, together}
-use Rattle.spec_outcomes.proofs.Searching.{found_is}
 use Rattle.spec_outcomes.proofs.SetSigns.{sets_meet, span_early, span_late}
 
 -- ---- spans within a span

@@ -1,7 +1,6 @@
 -- The signs of a relation tell at which times of a span a function has it, and their sets are those of the relation.
-use Rattle.std.proofs.Common.{◌≡◌, ◌⊎◌, ◌<◌, ◌≤◌, ℕ, Bool, true, ◌||◌, List, [], ◌∷◌, map, All, Option, None, Some, Ok, Err, Result, ℤ, pos, ◌+ℤ◌, ◌≤ℤ◌, refl, sym, ◌∙◌, ap, subst, arith}
+use Rattle.std.proofs.Common.{◌≡◌, ◌<◌, true, List, [], map, Option, None, Some, ℤ, ◌≤ℤ◌, refl, subst, arith}
 use Rattle.std.proofs.lemmas.Int.{ints}
-use Rattle.std.proofs.lemmas.List.Elements.{All-nil, All-cons}
 use Rattle.spec_text.specs.declared.decimals.Decimal.{Decimal}
 use Rattle.spec_intervals.specs.Fraction.{Fraction}
 use Rattle.spec_intervals.specs.declared.signs.Sign.{Sign}
@@ -26,7 +25,7 @@ use Rattle.spec_sets.proofs.Sets.{sets_of_true_signs}
 use Rattle.spec_sets.proofs.Telling.{both_tells, either_tells, leaves_tell, opposite_tells}
 use Rattle.spec_searches.specs.Event.{Condition, guard_of}
 use Rattle.spec_searches.specs.Found.{root}
-use Rattle.spec_searches.specs.Search.{IsSearch, Search, events}
+use Rattle.spec_searches.specs.Search.{IsSearch, Search}
 use Rattle.spec_searches.proofs.Borders.{time_fits}
 use Rattle.spec_searches.proofs.Finding.{leaves_are_right}
 use Rattle.spec_searches.proofs.Parts.{first_near, last_near}

@@ -1,10 +1,14 @@
 -- Lines whose bytes are known.
-use Rattle.std.proofs.Common.{◌≡◌, ◌+◌, ◌/◌, ◌%◌, ◌≤◌, ◌<◌, ◌^◌, ℕ, None, Some, List, [], ◌∷◌, ◌++◌, ◌∙◌, ap, lit<, lit≤}
+use Rattle.std.proofs.Common.{◌≡◌, ◌+◌, ◌/◌, ◌%◌, ◌≤◌, ◌<◌, ◌^◌, ℕ, None, Some, List, [], ◌∷◌, ◌++◌, refl, ◌∙◌, ap, lit<, lit≤}
 use Rattle.std.proofs.lemmas.Fmt.{decimal_digit, decimal_step}
-use Rattle.std.specs.Prelude.{codes}
+use Rattle.std.proofs.lemmas.List.{append-nil}
+use Rattle.std.specs.Prelude.{codes, pos}
 use Rattle.std.specs.Fmt.{decimal}
 use Rattle.spec_faults.specs.Faults.{fault_kind}
+use Rattle.spec_requests.specs.Examples.{search_in}
+use Rattle.spec_requests.specs.declared.request.Relation.TheVariants.{Less}
 use Rattle.spec_output.specs.Messages.{event_text, leaves_text, title, words_text}
+use Rattle.spec_output.specs.Report.{query_text, relation_text}
 
 -- a number whose digits but the last are known
 number : (n : ℕ) (tens : List ℕ) → 10 ≤ n → n < 2 ^ 64 → decimal (n / 10) ≡ tens → decimal n ≡ tens ++ ((48 + n % 10) ∷ [])
@@ -24,7 +28,7 @@ pub option_line : words_text 63 (Some (codes "width")) ≡ codes "finder: words:
 unfolding title fault_kind
 option_line = ap (λ (number : List ℕ). codes "finder: words: " ++ (number ++ codes " " ++ title 63 0) ++ codes " width" ++ codes "\n") number_63
 
-number_50 : decimal 50 ≡ codes "50"
+pub number_50 : decimal 50 ≡ codes "50"
 number_50 = number 50 (codes "5") (lit≤ tt) (lit< tt) (decimal_digit 5 (lit< tt))
 
 number_51 : decimal 51 ≡ codes "51"
@@ -75,3 +79,31 @@ many_leaves_line = leaves_line 33554432 (codes "33554432") number_33554432
 
 pub certificate_leaves_line : leaves_text 4194304 ≡ codes "finder: more than 4194304 leaves\n"
 certificate_leaves_line = leaves_line 4194304 (codes "4194304") number_4194304
+
+-- ---- numbers of the worked reports
+pub number_0 : decimal 0 ≡ codes "0"
+number_0 = decimal_digit 0 (lit< tt)
+
+pub number_1 : decimal 1 ≡ codes "1"
+number_1 = decimal_digit 1 (lit< tt)
+
+pub number_2 : decimal 2 ≡ codes "2"
+number_2 = decimal_digit 2 (lit< tt)
+
+pub number_9 : decimal 9 ≡ codes "9"
+number_9 = decimal_digit 9 (lit< tt)
+
+pub number_10 : decimal 10 ≡ codes "10"
+number_10 = number 10 (codes "1") (lit≤ tt) (lit< tt) number_1
+
+pub number_40 : decimal 40 ≡ codes "40"
+number_40 = number 40 (codes "4") (lit≤ tt) (lit< tt) (decimal_digit 4 (lit< tt))
+
+pub set_line : query_text (codes "SET ") (relation_text Less) (record (search_in (codes "a")) { width = pos 60 })
+    ≡ codes "SET coord target mercury second - observer ssb frame eq axis x values 0 relation less width 60 depth 40 cut half"
+set_line = rw (number_60, number_40) refl
+
+-- one span of either sort, whose lines are these
+pub lines_of_two_spans : (sure possible : List ℕ) → sure ++ [] ++ (possible ++ []) ++ (codes "END sure " ++ decimal 1 ++ (codes " possible " ++ decimal 1 ++ codes "\n"))
+    ≡ sure ++ possible ++ codes "END sure 1 possible 1\n"
+lines_of_two_spans sure possible = λ i. append-nil sure i ++ append-nil possible i ++ (codes "END sure " ++ number_1 i ++ (codes " possible " ++ number_1 i ++ codes "\n"))

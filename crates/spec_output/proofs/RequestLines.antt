@@ -1,5 +1,5 @@
 -- The line of a request is a line: printed bytes, some words, and far fewer bytes than a line may have.
-use Rattle.std.proofs.Common.{◌≡◌, ◌+◌, ◌*◌, ◌/◌, ◌%◌, ◌^◌, ◌<◌, ◌≤◌, ◌&&◌, ◌==◌, ℕ, zero, suc, Bool, true, false, List, [], ◌∷◌, ◌++◌, length, Option, None, Some, cond, drop, nat_le, ℤ, ◌<ℤ◌, ◌≤ℤ◌, pos, negsuc, refl, sym, ap, ◌∙◌, subst, arith, lit<, lit≤}
+use Rattle.std.proofs.Common.{◌≡◌, ◌+◌, ◌/◌, ◌%◌, ◌^◌, ◌<◌, ◌≤◌, ◌&&◌, ◌==◌, ℕ, zero, suc, Bool, true, false, List, [], ◌∷◌, ◌++◌, length, Option, None, Some, cond, drop, nat_le, ℤ, ◌<ℤ◌, ◌≤ℤ◌, pos, negsuc, refl, arith, lit<, lit≤}
 use Rattle.std.specs.Prelude.{codes}
 use Rattle.std.specs.Fmt.{decimal, signed_decimal}
 use Rattle.std.specs.List.{list_all}
@@ -26,7 +26,7 @@ use Rattle.spec_times.specs.Ticks.{fraction_text, past_second, second_of, tick_t
 use Rattle.spec_requests.specs.declared.request.FindAsk.{FindAsk}
 use Rattle.spec_requests.specs.Limits.{IsWithinLimits}
 use Rattle.spec_requests.specs.Names.{axis_name, body_name, cut_name, dir_name, frame_name}
-use Rattle.spec_output.specs.Report.{axes_text, axis_of_kind, bodies_text, limits_text, request_line, second_name, span_text, ticks_text, turns_text}
+use Rattle.spec_output.specs.Report.{axes_text, axis_of_kind, bodies_text, limits_text, request_line, second_name, span_text}
 
 -- printed bytes, so many at most
 record IsPrinted (most : ℕ) (text : List ℕ) : Type 0 where

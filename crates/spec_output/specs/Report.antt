@@ -1,5 +1,6 @@
--- What a search prints: its request, a line for each window, and the counts of windows. Times are calendar texts of ticks.
-use Rattle.std.specs.Prelude.{ℕ, ℤ, List, [], ◌++◌, ◌==◌, Bool, true, false, not, count_by, codes, flat_map, Option, None, Some, if◌then◌else◌}
+-- What a search prints: its request, a line for each window or span of a set, and the counts of these. Times are calendar
+-- texts of ticks, and those of a scalar are whole numbers.
+use Rattle.std.specs.Prelude.{ℕ, ℤ, List, [], ◌++◌, length, ◌==◌, Bool, true, false, not, count_by, codes, flat_map, Option, None, Some, pos, if◌then◌else◌}
 use Rattle.std.specs.Fmt.{decimal, signed_decimal}
 use Rattle.spec_ephemeris.specs.declared.body.Body.{Body}
 use Rattle.spec_events.specs.declared.dir.Dir.{Dir}
@@ -76,11 +77,19 @@ request_line find = query_line (codes "FIND ") (turns_text find.ask.dir) find
 
 -- ---- the windows
 
+-- what a line begins with, and what stands behind its times, by what the window holds
+abbrev pub line_word : Holds → List ℕ
+line_word (Certain turn) = codes "C "
+line_word Undecided = codes "U "
+
+abbrev pub line_end : Holds → List ℕ
+line_end (Certain Rise) = codes " rise\n"
+line_end (Certain Fall) = codes " fall\n"
+line_end Undecided = codes "\n"
+
 -- the line of a window whose times have this text
 abbrev pub line_by : List ℕ → Holds → List ℕ
-line_by times (Certain Rise) = codes "C " ++ times ++ codes " rise\n"
-line_by times (Certain Fall) = codes "C " ++ times ++ codes " fall\n"
-line_by times Undecided = codes "U " ++ times ++ codes "\n"
+line_by times holds = line_word holds ++ times ++ line_end holds
 
 abbrev pub line_of : ℕ → ℤ → ℤ → Holds → List ℕ
 line_of tick first last = line_by (span_text tick first last)
@@ -152,11 +161,14 @@ abbrev pub set_end_line : List (ℤ × ℤ) → List (ℤ × ℤ) → List ℕ
 set_end_line surely perhaps =
     codes "END sure " ++ decimal (length surely) ++ (codes " possible " ++ decimal (length perhaps) ++ codes "\n")
 
+-- the lines of sure times come first
+abbrev pub set_lines : ℕ → List (ℤ × ℤ) → List (ℤ × ℤ) → List ℕ
+set_lines tick surely perhaps =
+    span_lines (codes "S ") tick surely ++ span_lines (codes "P ") tick perhaps ++ set_end_line surely perhaps
+
 abbrev pub set_report : FindAsk → Relation → ℤ → ℤ → List (ℤ × ℤ) → List (ℤ × ℤ) → List ℕ
 set_report find relation from to surely perhaps =
-    query_line (codes "SET ") (relation_text relation) find from to ++ codes "\n"
-    ++ (span_lines (codes "S ") find.tick surely ++ span_lines (codes "P ") find.tick perhaps)
-    ++ set_end_line surely perhaps
+    query_line (codes "SET ") (relation_text relation) find from to ++ codes "\n" ++ set_lines find.tick surely perhaps
 
 -- ---- the report of a scalar, whose times are whole numbers
 

@@ -1,13 +1,15 @@
 // Worked lines.
-ghost use Rattle.std.specs.Prelude.{◌≡◌, ◌∷◌, ◌++◌, [], None, Some, codes, pos};
+ghost use Rattle.std.specs.Prelude.{◌≡◌, ◌∷◌, ◌++◌, [], None, Some, codes, neg_ℤ, pos, ℤ, List};
 ghost use Rattle.std.specs.Fmt.{decimal};
 ghost use Rattle.spec_ephemeris.specs.declared.body.Body.TheVariants.{Venus};
 ghost use Rattle.spec_events.specs.declared.dir.Dir.TheVariants.{Any};
 ghost use Rattle.spec_requests.specs.Examples.{search_in};
+ghost use Rattle.spec_requests.specs.declared.request.Relation.TheVariants.{Less};
+ghost use Rattle.spec_trees.specs.declared.cuts.CutRule.TheVariants.{Half};
 ghost use Rattle.spec_kinds.specs.declared.kind.Kind.TheVariants.{Apsis, Coord};
 ghost use Rattle.spec_trees.specs.declared.tree.Turn.TheVariants.{Fall, Rise};
 ghost use Rattle.spec_trees.specs.declared.window.Holds.TheVariants.{Certain, Undecided};
-ghost use Rattle.spec_output.specs.Report.{axis_of_kind, end_line, query_text, second_name, ticks_text, turns_text, verified_line};
+ghost use Rattle.spec_output.specs.Report.{axis_of_kind, end_line, query_line, query_text, relation_text, scalar_report, second_name, set_lines, set_report, span_text, ticks_text, turns_text, verified_line};
 ghost use Rattle.spec_output.specs.Summary.{column_lines, column_name};
 
 /// Only a coordinate has an axis, and only kinds of two bodies have a second body.
@@ -38,6 +40,41 @@ pub fn windows_are_counted()
         ∷ record { first = pos 2; last = pos 5; holds = Undecided }
         ∷ record { first = pos 9; last = pos 9; holds = Certain Fall } ∷ [])
         ≡ codes "END certain " ++ decimal 2 ++ (codes " undecided " ++ decimal 1 ++ codes "\n") }
+{}
+
+/// The times at which Mercury's x is below 0, about the one at which it rises, in windows of a minute: the first line names
+/// the relation, and the spans of sure times come before those of possible ones.
+pub fn sets_are_printed()
+    ensures line { query_text (codes "SET ") (relation_text Less) (record (search_in (codes "a")) {
+      width = pos 60;
+    }) ≡ codes "SET coord target mercury second - observer ssb frame eq axis x values 0 relation less width 60 depth 40 cut half" }
+    ensures spans { set_lines 1 ((pos 1_339_000, pos 1_339_150) ∷ [])
+        ((pos 1_339_000, pos 1_339_199) ∷ [])
+        ≡ codes "S " ++ span_text 1 (pos 1_339_000) (pos 1_339_150) ++ codes "\n"
+        ++ (codes "P " ++ span_text 1 (pos 1_339_000) (pos 1_339_199) ++ codes "\n")
+        ++ codes "END sure 1 possible 1\n" }
+    ensures report { (from to : ℤ) (surely perhaps : List (ℤ × ℤ))
+        → set_report (search_in (codes "a")) Less from to surely perhaps
+        ≡ query_line (codes "SET ") (codes " relation less") (search_in (codes "a")) from to
+        ++ codes "\n" ++ set_lines 1 surely perhaps }
+{}
+
+/// The times at which t^2 - 100 passes 0: they are printed as whole numbers.
+pub fn scalars_are_printed()
+    ensures { scalar_report (record {
+      p = pos 1;
+      q = pos 0;
+      r = neg_ℤ (pos 100);
+      text = codes "1,0,-100";
+      from = neg_ℤ (pos 50);
+      to = pos 50;
+      plan = record { dir = Any; width = 1; depth = 40; cut = Half };
+      workers = 1;
+    }) (record { first = neg_ℤ (pos 9); last = neg_ℤ (pos 9); holds = Certain Fall }
+        ∷ record { first = pos 10; last = pos 10; holds = Certain Rise } ∷ [])
+        ≡ codes "SCALAR quad 1,0,-100 dir any width 1 depth 40 cut half span -50 50\n"
+        ++ codes "C -9 -9 fall\n" ++ codes "C 10 10 rise\n"
+        ++ codes "END certain 2 undecided 0\n" }
 {}
 
 /// The columns are those of the planets, the Moon, the Sun, nutations and librations; one past them has its number, and an

@@ -7,7 +7,7 @@ use Rattle.clap.specs.declared.builder.action.ArgAction.TheVariants.{Append}
 use Rattle.spec_requests.specs.declared.request.Named.{Named}
 use Rattle.spec_requests.specs.declared.tables.CommandName.{CommandName}
 use Rattle.spec_requests.specs.declared.tables.CommandName.TheVariants as command
-use Rattle.spec_requests.specs.declared.tables.TheConstants.{FIND_OPTIONS, GEN_WORDS, GEN_OPTIONS}
+use Rattle.spec_requests.specs.declared.tables.TheConstants.{FIND_OPTIONS, GEN_OPTIONS, GEN_WORDS, SCALAR_OPTIONS, SET_OPTIONS}
 use Rattle.spec_requests.specs.Names.{Text, command_name, option_name}
 use Rattle.spec_requests.specs.Options.{verify_options, Values}
 
@@ -34,10 +34,13 @@ options_of command.Cert = FIND_OPTIONS
 options_of command.Verify = verify_options
 options_of command.Check = []
 options_of command.Gen = GEN_OPTIONS
+options_of command.Set = SET_OPTIONS
+options_of command.Scalar = SCALAR_OPTIONS
 
--- what follows them: the words of `gen`, the files of all others
+-- what follows them: the words of `gen`, nothing where no file is read, the files of all others
 abbrev pub places_of : CommandName → List Rule
 places_of command.Gen = map word_rule GEN_WORDS
+places_of command.Scalar = []
 places_of _ = files_rule ∷ []
 
 -- the command of this name

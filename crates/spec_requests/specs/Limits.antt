@@ -1,14 +1,20 @@
 -- What requests keep to.
-use Rattle.std.specs.Prelude.{ℕ, ◌+◌, ◌*◌, ◌≤◌, List, length, pos, ◌≤ℤ◌, ⊤}
+use Rattle.std.specs.Prelude.{◌≡◌, ℕ, ◌+◌, ◌*◌, ◌≤◌, true, List, length, Option, None, IsSome, pos, ◌≤ℤ◌, unsigned_abs, ⊤}
 use Rattle.spec_text.specs.Printed.{AreFrom}
+use Rattle.spec_text.specs.declared.decimals.Decimal.{Decimal}
 use Rattle.spec_text.specs.declared.limits.TheConstants.{MAX_WORD_BYTES}
 use Rattle.spec_ephemeris.specs.Ticks.{IsTick}
+use Rattle.spec_events.specs.declared.dir.Dir.TheVariants.{Any}
 use Rattle.spec_kinds.specs.Asks.{IsAsk}
+use Rattle.spec_scalars.specs.Quads.{IsSmall}
 use Rattle.spec_requests.specs.declared.request.FindAsk.{FindAsk}
 use Rattle.spec_requests.specs.declared.request.ScalarAsk.{ScalarAsk}
+use Rattle.spec_requests.specs.declared.request.Relation.{Relation}
+use Rattle.spec_requests.specs.declared.request.Relation.TheVariants.{Less, AtLeast, Within, Outside}
 use Rattle.spec_requests.specs.declared.request.Request.{Request}
 use Rattle.spec_requests.specs.declared.request.Request.TheVariants.{Find, Cert, Verify, Check, Gen, Set, Scalar}
-use Rattle.spec_requests.specs.declared.limits.TheConstants.{MAX_GENERATED_BLOCKS, MAX_WIDTH, MAX_DEPTH, MAX_WORKERS}
+use Rattle.spec_requests.specs.declared.limits.TheConstants.{MAX_GENERATED_BLOCKS, MAX_WIDTH, MAX_DEPTH, MAX_WORKERS, MAX_SCALAR_TIME}
+use Rattle.spec_requests.specs.Options.{has_sets}
 
 -- the numbers of an event as they are given: bytes after the blank, no more than two decimals and a comma have
 pub record ArePlain (values : List ℕ) : Type 0 where
@@ -42,7 +48,7 @@ HasReferences Outside ref2 = IsSome ref2
 
 -- the relation can be asked of an ephemeris: its search wants all turns, of a kind that sets can be made of
 pub record IsSetWithinLimits (find : FindAsk) (ref2 : Option Decimal) (relation : Relation) : Type 0 where
-  pub find : IsWithinLimits find
+  pub search : IsWithinLimits find
   pub all : find.ask.dir ≡ Any
   pub kind : has_sets find.ask.kind ≡ true
   pub references : HasReferences relation ref2

@@ -12,9 +12,13 @@ use Rattle.spec_kinds.specs.declared.kind.Kind.{Kind}
 use Rattle.spec_kinds.specs.declared.table.Use.{Use}
 use Rattle.spec_kinds.specs.declared.table.Use.TheVariants.{Needed, Optional}
 use Rattle.spec_kinds.specs.Table.{row_of, is_unused, takes_radii}
+use Rattle.spec_scalars.specs.declared.plan.Plan.{Plan}
+use Rattle.spec_scalars.specs.Quads.{Quadratic}
 use Rattle.spec_requests.specs.declared.request.FindAsk.{FindAsk}
+use Rattle.spec_requests.specs.declared.request.ScalarAsk.{ScalarAsk}
+use Rattle.spec_requests.specs.declared.request.Relation.TheVariants.{Less}
 use Rattle.spec_requests.specs.declared.request.Request.{Request}
-use Rattle.spec_requests.specs.declared.request.Request.TheVariants.{Find, Cert, Verify, Check, Gen}
+use Rattle.spec_requests.specs.declared.request.Request.TheVariants.{Find, Cert, Verify, Check, Gen, Set, Scalar}
 use Rattle.spec_requests.specs.declared.request.Named.{Named}
 use Rattle.spec_requests.specs.declared.request.Named.TheVariants as opt
 use Rattle.spec_requests.specs.declared.request.WordFault.{WordFault}
@@ -24,7 +28,7 @@ use Rattle.spec_requests.specs.declared.tables.CommandName.TheVariants as comman
 use Rattle.spec_requests.specs.declared.limits.TheConstants.{DEFAULT_TICK, DEFAULT_WIDTH, DEFAULT_DEPTH, DEFAULT_WORKERS}
 use Rattle.spec_requests.specs.declared.tables.TheConstants.{GEN_WORDS, GEN_OPTIONS}
 use Rattle.spec_requests.specs.Names.{Text, command_of, kind_of, target_of, observer_of, frame_of, axis_of, dir_of, cut_of}
-use Rattle.spec_requests.specs.Options.{Values, name_of, is_bad, bad_option, tick_in, decimal_of, instant_of, width_of, depth_of, workers_of, blocks_of, seed_of}
+use Rattle.spec_requests.specs.Options.{Values, name_of, is_bad, bad_option, tick_in, decimal_of, instant_of, width_of, depth_of, workers_of, blocks_of, seed_of, quad_of, scalar_time_of, set_kind_of, relation_in, bad_in_set, bad_in_scalar}
 use Rattle.spec_requests.specs.Commands.{command_rules, is_refused, values_in, files_in}
 
 -- ---- searches
@@ -81,17 +85,75 @@ abbrev pub checked_search : Values → Kind → Body → List Text → Option Na
 checked_search values kind target files None = Ok (search_of values kind target files)
 checked_search values kind target files (Some option) = Err (BadValue option)
 
--- a search needs a kind and a target, the first two of its options
-abbrev pub search_of_target : Values → List Text → Kind → Option Body → Result FindAsk WordFault
-search_of_target values files kind None = Err (BadValue opt.Target)
-search_of_target values files kind (Some target) = checked_search values kind target files (bad_option values kind)
+-- a search needs a kind and a target, the first two of its options; its kind finds the first that is bad
+abbrev pub search_of_target : (Kind → Option Named) → Values → List Text → Kind → Option Body → Result FindAsk WordFault
+search_of_target bad values files kind None = Err (BadValue opt.Target)
+search_of_target bad values files kind (Some target) = checked_search values kind target files (bad kind)
 
-abbrev pub search_of_kind : Values → List Text → Option Kind → Result FindAsk WordFault
-search_of_kind values files None = Err (BadValue opt.Kind)
-search_of_kind values files (Some kind) = search_of_target values files kind (option_and_then target_of (values opt.Target))
+abbrev pub search_of_kind : (Kind → Option Named) → Values → List Text → Option Kind → Result FindAsk WordFault
+search_of_kind bad values files None = Err (BadValue opt.Kind)
+search_of_kind bad values files (Some kind) = search_of_target bad values files kind (option_and_then target_of (values opt.Target))
 
 unfoldable pub search_by : Values → List Text → Result FindAsk WordFault
-search_by values files = search_of_kind values files (option_and_then kind_of (values opt.Kind))
+search_by values files = search_of_kind (bad_option values) values files (option_and_then kind_of (values opt.Kind))
+
+-- ---- sets
+
+-- the search about the first reference, of a kind that has sets
+unfoldable pub set_search_by : Values → List Text → Result FindAsk WordFault
+set_search_by values files = search_of_kind (bad_in_set values) values files (option_and_then set_kind_of (values opt.Kind))
+
+-- the second reference as it is given, behind a comma
+abbrev pub ref2_text : Option Text → Text
+ref2_text None = []
+ref2_text (Some word) = codes "," ++ word
+
+-- a set is made of all turns, and both references are printed
+unfoldable pub search_of_set : Values → FindAsk → FindAsk
+search_of_set values find = record find {
+  ask = record find.ask { dir = dir.Any };
+  values = find.values ++ ref2_text (values opt.Ref2);
+}
+
+unfoldable pub set_of : Values → FindAsk → Request
+set_of values find =
+    Set (search_of_set values find) (option_and_then decimal_of (values opt.Ref2)) (unwrap_or (relation_in values) Less)
+
+-- ---- scalars
+
+abbrev pub nought_quad : Quadratic
+nought_quad = record { p = pos 0; q = pos 0; r = pos 0 }
+
+abbrev pub quad_in : Values → Quadratic
+quad_in values = value_or quad_of nought_quad (values opt.Quad)
+
+-- how a scalar is searched
+unfoldable pub plan_of : Values → Plan
+plan_of values = record {
+  dir = value_or dir_of dir.Any (values opt.Dir);
+  width = value_or width_of DEFAULT_WIDTH (values opt.Width);
+  depth = value_or depth_of DEFAULT_DEPTH (values opt.Depth);
+  cut = value_or cut_of Half (values opt.Cut);
+}
+
+unfoldable pub scalar_of : Values → ScalarAsk
+scalar_of values = record {
+  p = (quad_in values).p;
+  q = (quad_in values).q;
+  r = (quad_in values).r;
+  text = unwrap_or (values opt.Quad) [];
+  from = value_or scalar_time_of (pos 0) (values opt.From);
+  to = value_or scalar_time_of (pos 0) (values opt.To);
+  plan = plan_of values;
+  workers = value_or workers_of DEFAULT_WORKERS (values opt.Workers);
+}
+
+abbrev pub checked_scalar : Values → Option Named → Result Request WordFault
+checked_scalar values None = Ok (Scalar (scalar_of values))
+checked_scalar values (Some option) = Err (BadValue option)
+
+unfoldable pub scalar_by : Values → Result Request WordFault
+scalar_by values = checked_scalar values (bad_in_scalar values)
 
 -- ---- generated texts
 
@@ -134,6 +196,8 @@ request_by command.Cert values files = of_search (λ find. Ok (Cert find)) (sear
 request_by command.Verify values files = of_search (verify_of (option_and_then name_of (values opt.Cert))) (search_by values files)
 request_by command.Check values files = Ok (Check files)
 request_by command.Gen values files = text_by values
+request_by command.Set values files = of_search (λ find. Ok (set_of values find)) (set_search_by values files)
+request_by command.Scalar values files = scalar_by values
 
 -- what words ask for by the rules of a command
 abbrev pub request_in : App → CommandName → List Text → Result Request WordFault

@@ -7,24 +7,28 @@ ghost use Rattle.spec_events.specs.declared.dir.Dir.{Dir};
 ghost use Rattle.spec_trees.specs.declared.cuts.CutRule.{CutRule};
 ghost use Rattle.spec_kinds.specs.declared.kind.Kind.{Kind};
 ghost use Rattle.spec_kinds.specs.Table.{kind_name};
-ghost use Rattle.spec_requests.specs.Names.{axis_name, axis_of, body_name, command_name, command_of, cut_name, cut_of, dir_name, dir_of, frame_name, frame_of, kind_of, layout_of, observer_of, option_name, option_of, tick_of_word};
+ghost use Rattle.spec_requests.specs.Names.{axis_name, axis_of, body_name, command_name, command_of, cut_name, cut_of, dir_name, dir_of, frame_name, frame_of, kind_of, layout_of, observer_of, option_name, option_of, relation_name, relation_of, tick_of_word};
 ghost use Rattle.spec_requests.specs.Limits.{KeepsToLimits};
 ghost use Rattle.spec_requests.specs.Options.{verify_options};
 ghost use Rattle.spec_requests.specs.Requests.{request_of};
 ghost use Rattle.spec_requests.specs.declared.request.Named.{Named};
 ghost use Rattle.spec_requests.specs.declared.request.Named.TheVariants as opt;
+ghost use Rattle.spec_requests.specs.declared.request.Relation.{Relation};
 ghost use Rattle.spec_requests.specs.declared.request.Request.{Request};
 ghost use Rattle.spec_requests.specs.declared.tables.CommandName.{CommandName};
-ghost use Rattle.spec_requests.specs.declared.tables.TheConstants.{FIND_OPTIONS, GEN_OPTIONS, GEN_WORDS};
+ghost use Rattle.spec_requests.specs.declared.tables.TheConstants.{FIND_OPTIONS, GEN_OPTIONS, GEN_WORDS, SCALAR_OPTIONS, SET_OPTIONS};
 
 /// What words ask for lies in its limits. A search can be asked of an ephemeris: it has a second body exactly where the
 /// kind takes one, looks at no barycentre of the solar system, and its tick, width, depth and workers lie in their limits.
+/// A set is of such a search, for all turns of a kind that has sets, with a second reference exactly where the relation is
+/// to two. The numbers, times and limits of a scalar are those that a polynomial and its search may have.
 pub fn requests_keep_to_limits()
     ensures { (words : List (List ℕ)) (request : Request) → request_of words ≡ Ok request
         → KeepsToLimits request }
 {}
 
-/// Each command, option, kind, body, frame, axis, direction, rule of cutting, layout and tick has a name that is read as it.
+/// Each command, option, kind, body, frame, axis, direction, relation, rule of cutting, layout and tick has a name that is
+/// read as it.
 pub fn names_are_read_back()
     ensures commands { (command : CommandName) → command_of (command_name command) ≡ Some command }
     ensures options { (option : Named) → option_of (option_name option) ≡ Some option }
@@ -33,6 +37,7 @@ pub fn names_are_read_back()
     ensures frames { (frame : Frame) → frame_of (frame_name frame) ≡ Some frame }
     ensures axes { (axis : ℕ) → axis < 3 → axis_of (axis_name axis) ≡ Some axis }
     ensures dirs { (dir : Dir) → dir_of (dir_name dir) ≡ Some dir }
+    ensures relations { (relation : Relation) → relation_of (relation_name relation) ≡ Some relation }
     ensures cuts { (cut : CutRule) → cut_of (cut_name cut) ≡ Some cut }
     ensures layouts { layout_of (decimal 405) ≡ Some 405 }
     ensures seconds { tick_of_word (decimal 1) ≡ Some 1 }
@@ -53,6 +58,8 @@ pub fn words_stand_for_one_thing()
         → word ≡ frame_name frame }
     ensures axes { (word : List ℕ) (axis : ℕ) → axis_of word ≡ Some axis → word ≡ axis_name axis }
     ensures dirs { (word : List ℕ) (dir : Dir) → dir_of word ≡ Some dir → word ≡ dir_name dir }
+    ensures relations { (word : List ℕ) (relation : Relation) → relation_of word ≡ Some relation
+        → word ≡ relation_name relation }
     ensures cuts { (word : List ℕ) (cut : CutRule) → cut_of word ≡ Some cut → word ≡ cut_name cut }
     ensures layouts { (word : List ℕ) (layout : ℕ) → layout_of word ≡ Some layout
         → word ≡ decimal layout }
@@ -61,7 +68,8 @@ pub fn words_stand_for_one_thing()
 {}
 
 /// The order in which options are looked at: the first that is bad is the one whose fault is reported. The words of `gen`
-/// come before its option, and the certificate after all options of its search.
+/// come before its option, and the certificate after all options of its search. The relation and the second reference stand
+/// where a search has its direction, and the polynomial comes first.
 pub fn options_in_their_order()
     ensures find { FIND_OPTIONS ≡ opt.Kind ∷ opt.Target ∷ opt.Second ∷ opt.Observer ∷ opt.Frame
         ∷ opt.Axis ∷ opt.Ref ∷ opt.Radius1 ∷ opt.Radius2 ∷ opt.Dir ∷ opt.Tick ∷ opt.From ∷ opt.To
@@ -69,4 +77,9 @@ pub fn options_in_their_order()
     ensures verified { verify_options ≡ FIND_OPTIONS ++ opt.Cert ∷ [] }
     ensures generated { GEN_WORDS ++ GEN_OPTIONS
         ≡ opt.Layout ∷ opt.Blocks ∷ opt.Seed ∷ opt.Workers ∷ [] }
+    ensures set { SET_OPTIONS ≡ opt.Kind ∷ opt.Target ∷ opt.Second ∷ opt.Observer ∷ opt.Frame
+        ∷ opt.Axis ∷ opt.Ref ∷ opt.Radius1 ∷ opt.Radius2 ∷ opt.Relation ∷ opt.Ref2 ∷ opt.Tick
+        ∷ opt.From ∷ opt.To ∷ opt.Width ∷ opt.Depth ∷ opt.Workers ∷ opt.Cut ∷ [] }
+    ensures scalar { SCALAR_OPTIONS ≡ opt.Quad ∷ opt.Dir ∷ opt.From ∷ opt.To ∷ opt.Width
+        ∷ opt.Depth ∷ opt.Workers ∷ opt.Cut ∷ [] }
 {}

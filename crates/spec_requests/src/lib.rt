@@ -15,16 +15,17 @@ pub use laws::{
 };
 pub use limits::{
     DEFAULT_DEPTH, DEFAULT_TICK, DEFAULT_WIDTH, DEFAULT_WORKERS, MAX_DEPTH, MAX_DIGITS_OF_A_COUNT,
-    MAX_DIGITS_OF_A_SEED, MAX_DIGITS_OF_BLOCKS, MAX_GENERATED_BLOCKS, MAX_SCALAR_TIME,
-    MAX_SEED, MAX_WIDTH, MAX_WORKERS,
+    MAX_DIGITS_OF_A_FACTOR, MAX_DIGITS_OF_A_SEED, MAX_DIGITS_OF_A_TIME, MAX_DIGITS_OF_BLOCKS,
+    MAX_GENERATED_BLOCKS, MAX_SCALAR_TIME, MAX_SEED, MAX_WIDTH, MAX_WORKERS, MAX_WRITTEN_FACTOR,
 };
 pub use names::{
     axis_name, body_name, command_name, cut_name, dir_name, frame_name, option_name, relation_name,
 };
 pub use request::{FindAsk, Named, Relation, Request, ScalarAsk, WordFault};
 pub use request_examples::{
-    faults_of_certificates, faults_of_searches, faults_of_words, requests_of_certificates,
-    requests_of_words, searches_of_words,
+    faults_of_certificates, faults_of_scalars, faults_of_searches, faults_of_sets, faults_of_words,
+    requests_of_certificates, requests_of_scalars, requests_of_sets, requests_of_words,
+    searches_of_words,
 };
 pub use tables::{
     AXES, BODIES, COMMANDS, CUTS, CommandName, DIRS, FIND_OPTIONS, FRAMES, GEN_OPTIONS, GEN_WORDS,

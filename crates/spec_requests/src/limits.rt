@@ -36,5 +36,14 @@ pub const DEFAULT_DEPTH: u32 = 40;
 /// The workers of a search, or of a generated text, that is asked for none.
 pub const DEFAULT_WORKERS: u32 = 1;
 
-/// The greatest magnitude of the times of a scalar: 12 digits.
+/// The most digits of a number of a polynomial.
+pub const MAX_DIGITS_OF_A_FACTOR: usize = 19;
+
+/// The greatest magnitude that so many digits write.
+pub const MAX_WRITTEN_FACTOR: u64 = 9_999_999_999_999_999_999;
+
+/// The most digits of a time of a scalar: those of a time that is written as a whole number.
+pub const MAX_DIGITS_OF_A_TIME: usize = spec_times::MAX_TIME_DIGITS;
+
+/// The greatest magnitude of the times of a scalar: that of 12 digits.
 pub const MAX_SCALAR_TIME: u64 = 999_999_999_999;

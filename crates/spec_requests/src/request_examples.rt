@@ -1,10 +1,11 @@
 // Worked values of requests.
-ghost use Rattle.std.specs.Prelude.{◌≡◌, ◌∷◌, [], Ok, Err, Some, codes, neg_ℤ, pos};
-ghost use Rattle.spec_requests.specs.Requests.{request_of};
-ghost use Rattle.spec_requests.specs.Examples.{search_in, search_words, with_search};
+ghost use Rattle.std.specs.Prelude.{◌≡◌, ◌∷◌, [], Ok, Err, Some, codes, neg_ℤ, pos, None};
+ghost use Rattle.spec_requests.specs.Requests.{nought, request_of};
+ghost use Rattle.spec_requests.specs.Examples.{scalar_in, scalar_words, search_in, search_words, set_between, set_words, tenths, with_search};
 ghost use Rattle.spec_requests.specs.declared.request.Named.TheVariants as opt;
 ghost use Rattle.spec_requests.specs.declared.request.WordFault.TheVariants.{NoCommand, UnknownCommand, Words, BadValue};
-ghost use Rattle.spec_requests.specs.declared.request.Request.TheVariants.{Find, Cert, Verify, Check, Gen};
+ghost use Rattle.spec_requests.specs.declared.request.Request.TheVariants.{Find, Cert, Verify, Check, Gen, Set, Scalar};
+ghost use Rattle.spec_requests.specs.declared.request.Relation.TheVariants as relation;
 
 /// Files are named in any number, also after `--`. A generated text is asked for by three words.
 pub fn requests_of_words()
@@ -79,4 +80,59 @@ pub fn faults_of_certificates()
     ensures written { request_of (search_words (codes "cert") (codes "--cert=c" ∷ codes "a" ∷ []))
         ≡ Err Words }
     ensures found { request_of (with_search (codes "--cert=c" ∷ codes "a" ∷ [])) ≡ Err Words }
+{}
+
+/// A set is asked for as a search is, with a relation in place of a direction. Both references are kept as they are given,
+/// and the first is 0 where it is left out.
+pub fn requests_of_sets()
+    ensures below { request_of (set_words (codes "less") (codes "a" ∷ []))
+        ≡ Ok (Set (search_in (codes "a")) None relation.Less) }
+    ensures between { request_of (set_words (codes "within") (codes "--ref=-100.5" ∷ codes "--ref2"
+        ∷ codes "100.5" ∷ codes "a" ∷ []))
+        ≡ Ok (set_between relation.Within (tenths (neg_ℤ (pos 1005))) (codes "-100.5,100.5")) }
+    ensures outside { request_of (set_words (codes "outside") (codes "--ref2=100.5" ∷ codes "a" ∷ []))
+        ≡ Ok (set_between relation.Outside nought (codes "0,100.5")) }
+{}
+
+/// A kind without sets is a bad kind, also where no target is named. A relation has to be there, to two references only for
+/// a kind with a reference, and the second reference exactly with such a relation. A set has no direction.
+pub fn faults_of_sets()
+    ensures kind { request_of (codes "set" ∷ codes "--kind" ∷ codes "conj" ∷ codes "--relation"
+        ∷ codes "less" ∷ codes "a" ∷ []) ≡ Err (BadValue opt.Kind) }
+    ensures unnamed { request_of (search_words (codes "set") (codes "--ref2=x" ∷ codes "a" ∷ []))
+        ≡ Err (BadValue opt.Relation) }
+    ensures station { request_of (codes "set" ∷ codes "--kind=station" ∷ codes "--target=mars"
+        ∷ codes "--relation=within" ∷ codes "--ref2=1" ∷ codes "a" ∷ [])
+        ≡ Err (BadValue opt.Relation) }
+    ensures one { request_of (set_words (codes "less") (codes "--ref2=1" ∷ codes "a" ∷ []))
+        ≡ Err (BadValue opt.Ref2) }
+    ensures two { request_of (set_words (codes "outside") (codes "a" ∷ []))
+        ≡ Err (BadValue opt.Ref2) }
+    ensures direction { request_of (set_words (codes "less") (codes "--dir=any" ∷ codes "a" ∷ []))
+        ≡ Err Words }
+{}
+
+/// A scalar is asked for by its polynomial and the ends of its span, which are not compared here.
+pub fn requests_of_scalars()
+    ensures forward { request_of (scalar_words (codes "1,0,-100") (codes "--from=-50" ∷ codes "--to"
+        ∷ codes "50" ∷ [])) ≡ Ok (Scalar (scalar_in 40 (neg_ℤ (pos 50)) (pos 50))) }
+    ensures depth { request_of (scalar_words (codes "1,0,-100") (codes "--depth=0" ∷ codes "--from=50"
+        ∷ codes "--to=-50" ∷ [])) ≡ Ok (Scalar (scalar_in 0 (pos 50) (neg_ℤ (pos 50)))) }
+{}
+
+/// A polynomial has three numbers, of at most 19 digits and in their limits, and comes first. Both ends are needed, as whole
+/// numbers, and no file is read.
+pub fn faults_of_scalars()
+    ensures two { request_of (scalar_words (codes "1,0") (codes "--from=x" ∷ []))
+        ≡ Err (BadValue opt.Quad) }
+    ensures four { request_of (scalar_words (codes "1,0,0,0") []) ≡ Err (BadValue opt.Quad) }
+    ensures large { request_of (scalar_words (codes "1,0,9999999999999999999") [])
+        ≡ Err (BadValue opt.Quad) }
+    ensures long { request_of (scalar_words (codes "1,0,00000000000000000000") [])
+        ≡ Err (BadValue opt.Quad) }
+    ensures from { request_of (scalar_words (codes "1,0,0") (codes "--to=9" ∷ []))
+        ≡ Err (BadValue opt.From) }
+    ensures date { request_of (scalar_words (codes "1,0,0") (codes "--from=0"
+        ∷ codes "--to=2000-01-01T00:00:00" ∷ [])) ≡ Err (BadValue opt.To) }
+    ensures file { request_of (scalar_words (codes "1,0") (codes "a" ∷ [])) ≡ Err Words }
 {}

@@ -2,9 +2,12 @@
 use Rattle.std.proofs.Common.{◌≡◌, ◌⊎◌, ℕ, List, Option, Result, Ok, Err, sym, ap, ◌∙◌, subst, arith, inl, inr}
 use Rattle.std.specs.Io.KnownBytes.{Appends}
 use Rattle.spec_ephemeris.specs.Ticks.{in_ticks}
+use Rattle.spec_text.specs.declared.decimals.Decimal.{Decimal}
 use Rattle.spec_requests.specs.declared.request.FindAsk.{FindAsk}
+use Rattle.spec_requests.specs.declared.request.Relation.{Relation}
+use Rattle.spec_requests.specs.declared.request.ScalarAsk.{ScalarAsk}
 use Rattle.spec_requests.specs.declared.request.Request.{Request}
-use Rattle.spec_requests.specs.declared.request.Request.TheVariants.{Find, Cert, Verify, Check, Gen}
+use Rattle.spec_requests.specs.declared.request.Request.TheVariants.{Find, Cert, Verify, Check, Gen, Set, Scalar}
 use Rattle.spec_requests.specs.Requests.{request_of}
 use Rattle.gf_edges.specs.Edges.{Files, Rose}
 use Rattle.spec_outcomes.specs.declared.refusal.Refusal.{Refusal}
@@ -18,6 +21,8 @@ use Rattle.gf_find.specs.Certifies.{ReportsCertificate}
 use Rattle.gf_find.specs.Verifies.{ReportsVerified}
 use Rattle.gf_find.specs.Checks.{ReportsSummary}
 use Rattle.gf_find.specs.Generates.{ReportsGeneration}
+use Rattle.gf_find.specs.Sets.{ReportsSet}
+use Rattle.gf_find.specs.Scalars.{ReportsScalar}
 use Rattle.gf_find.specs.Reported.{KnowsFiles}
 use Rattle.gf_find.specs.Texts.{IsAnswer, IsAnswered}
 use Rattle.gf_find.proofs.Causes.{one_outcome_by}
@@ -70,6 +75,17 @@ module _ (words : Words) (files : Option Files) (text : List ℕ) (answered : Is
         let is = asked_for (Gen blocks seed workers) asked in
         record { printed = subst P is.printed gained; windows = is.windows }
 
+    pub relates : (find : FindAsk) (ref2 : Option Decimal) (relation : Relation) → Ask words (Set find ref2 relation)
+        → HoldEphemeris files find.files (ReportsSet find ref2 relation old new)
+    relates find ref2 relation asked =
+        let held = asked_for (Set find ref2 relation) asked in
+        record { ephemeris = held.ephemeris; held = held.held; is = record { printed = subst P held.is.printed gained; sets = held.is.sets } }
+
+    pub passes : (ask : ScalarAsk) → Ask words (Scalar ask) → ReportsScalar ask old new
+    passes ask asked =
+        let is = asked_for (Scalar ask) asked in
+        record { printed = subst P is.printed gained; windows = is.windows }
+
   pub outcome_is : (count now : ℕ) → HaveOutcome words files count now (Ok text)
   outcome_is count now =
       subst (λ asked. RequestHasOutcome asked files count now (Ok text)) (sym answered.asked) (by answered.request answered.answer)
@@ -80,6 +96,8 @@ module _ (words : Words) (files : Option Files) (text : List ℕ) (answered : Is
       by (Verify find cert) held = inl (record { ephemeris = held.ephemeris; held = held.held; is = verified_outcome files find cert count now (in_ticks find.tick held.ephemeris) text held.is })
       by (Check names) held = inl (record { ephemeris = held.ephemeris; held = held.held; is = ap (λ (t : List ℕ). Ok t) (sym held.is) })
       by (Gen blocks seed workers) is = sym is.outcome
+      by (Set find ref2 relation) held = inl (record { ephemeris = held.ephemeris; held = held.held; is = held.is.outcome })
+      by (Scalar ask) is = sym is.outcome
 
 abbrev refused : Refusal → Outcome
 refused r = Err r

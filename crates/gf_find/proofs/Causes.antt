@@ -9,13 +9,14 @@ use Rattle.spec_files.specs.Reading.{AreRefused, IsNotRead}
 use Rattle.spec_files.proofs.Exclusions.{accepted_not_lacking, accepted_not_refused, accepted_once, refused_not_lacking}
 use Rattle.spec_files.proofs.Once.{lacking_once, refused_once}
 use Rattle.spec_requests.specs.declared.request.Request.{Request}
-use Rattle.spec_requests.specs.declared.request.Request.TheVariants.{Find, Cert, Verify, Check, Gen}
+use Rattle.spec_requests.specs.declared.request.Request.TheVariants.{Find, Cert, Verify, Check, Gen, Set, Scalar}
 use Rattle.spec_requests.specs.declared.request.WordFault.{WordFault}
 use Rattle.gf_edges.specs.Edges.{Files, Rose}
 use Rattle.spec_outcomes.specs.declared.refusal.Refusal.{Refusal}
 use Rattle.spec_outcomes.specs.declared.refusal.Refusal.TheVariants as R
 use Rattle.spec_outcomes.specs.Outcomes.{Outcome, report_of, summary_of}
 use Rattle.spec_outcomes.specs.Certificates.{certificate_of}
+use Rattle.spec_outcomes.specs.Sets.{set_of}
 use Rattle.gf_find.specs.CertificateFiles.{VerifyHasOutcome}
 use Rattle.gf_find.specs.Outcomes.{RequestHasOutcome, FilesHave, FilesStop, HaveEphemeris, HoldEphemeris, LackFile, RefuseFile}
 use Rattle.gf_find.specs.Reported.{AreNotOpened, OpensNone}
@@ -136,6 +137,9 @@ known_once known count now (Ok (Verify find cert)) a b p q =
     (λ e one two. verify_once known cert count now find (in_ticks find.tick e) a b one two) p q
 known_once known count now (Ok (Check names)) a b p q = files_once known names count now (λ e o. summary_of e ≡ o) a b (value_once count now summary_of a b) p q
 known_once known count now (Ok (Gen blocks seed workers)) a b p q = inr (p ∙ sym q)
+known_once known count now (Ok (Set find ref2 relation)) a b p q =
+    files_once known find.files count now (λ e o. set_of find ref2 relation e ≡ o) a b (value_once count now (set_of find ref2 relation) a b) p q
+known_once known count now (Ok (Scalar ask)) a b p q = inr (p ∙ sym q)
 
 none_opened_once : (files : Option Files) (count now : ℕ) (asked : Result Request WordFault) (a b : Outcome) → OpensNone asked
     → RequestHasOutcome asked files count now a → RequestHasOutcome asked files count now b → Rose count now ⊎ (a ≡ b)
@@ -146,6 +150,9 @@ none_opened_once files count now (Ok (Verify find cert)) a b none p q =
     unopened_once files find.files count now (λ e o. VerifyHasOutcome files find cert count now (in_ticks find.tick e) o) a b none p q
 none_opened_once files count now (Ok (Check names)) a b none p q = unopened_once files names count now (λ e o. summary_of e ≡ o) a b none p q
 none_opened_once files count now (Ok (Gen blocks seed workers)) a b none p q = inr (p ∙ sym q)
+none_opened_once files count now (Ok (Set find ref2 relation)) a b none p q =
+    unopened_once files find.files count now (λ e o. set_of find ref2 relation e ≡ o) a b none p q
+none_opened_once files count now (Ok (Scalar ask)) a b none p q = inr (p ∙ sym q)
 
 pub one_outcome_by : (files : Option Files) (count now : ℕ) (asked : Result Request WordFault) (a b : Outcome) → OpensNone asked ⊎ IsSome files
     → RequestHasOutcome asked files count now a → RequestHasOutcome asked files count now b → Rose count now ⊎ (a ≡ b)

@@ -9,3 +9,5 @@ pub mod FoundLeaves
 pub mod Workers
 pub mod Certified
 pub mod Verifying
+pub mod Passings
+pub mod Relating

@@ -1,7 +1,7 @@
 -- The number of workers is no part of the outcome.
 use Rattle.std.proofs.Common.{ℕ, Option, Ok, sym, subst}
 use Rattle.spec_requests.specs.declared.request.Request.{Request}
-use Rattle.spec_requests.specs.declared.request.Request.TheVariants.{Find, Cert, Verify, Check, Gen}
+use Rattle.spec_requests.specs.declared.request.Request.TheVariants.{Find, Cert, Verify, Check, Gen, Set, Scalar}
 use Rattle.gf_edges.specs.Edges.{Files}
 use Rattle.spec_outcomes.specs.Outcomes.{Outcome}
 use Rattle.gf_find.specs.Outcomes.{Ask, RequestHasOutcome, HaveOutcome, Words, with_workers}
@@ -13,6 +13,8 @@ same_by (Cert find) count files before now outcome has = has
 same_by (Verify find cert) count files before now outcome has = has
 same_by (Check names) count files before now outcome has = has
 same_by (Gen blocks seed workers) count files before now outcome has = has
+same_by (Set find ref2 relation) count files before now outcome has = has
+same_by (Scalar ask) count files before now outcome has = has
 
 pub same_outcome : (words others : Words) (files : Option Files) (before now count : ℕ) (request : Request) (outcome : Outcome) → Ask words request
     → Ask others (with_workers count request) → HaveOutcome words files before now outcome → HaveOutcome others files before now outcome

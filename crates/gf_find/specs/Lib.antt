@@ -6,5 +6,7 @@ pub mod Certifies
 pub mod Verifies
 pub mod Checks
 pub mod Generates
+pub mod Sets
+pub mod Scalars
 pub mod Texts
 pub mod Reported

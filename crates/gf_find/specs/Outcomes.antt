@@ -9,7 +9,7 @@ use Rattle.spec_ephemeris.specs.Ephemeris.{Ephemeris}
 use Rattle.spec_ephemeris.specs.Ticks.{in_ticks}
 use Rattle.spec_files.specs.Reading.{AreAccepted, AreRefused, IsNotRead}
 use Rattle.spec_requests.specs.declared.request.Request.{Request}
-use Rattle.spec_requests.specs.declared.request.Request.TheVariants.{Find, Cert, Verify, Check, Gen}
+use Rattle.spec_requests.specs.declared.request.Request.TheVariants.{Find, Cert, Verify, Check, Gen, Set, Scalar}
 use Rattle.spec_requests.specs.declared.request.WordFault.{WordFault}
 use Rattle.spec_requests.specs.Requests.{request_of}
 use Rattle.gf_edges.specs.Edges.{Files}
@@ -17,6 +17,8 @@ use Rattle.spec_outcomes.specs.declared.refusal.Refusal.{Refusal}
 use Rattle.spec_outcomes.specs.declared.refusal.Refusal.TheVariants as R
 use Rattle.spec_outcomes.specs.Outcomes.{Outcome, generation_of, report_of, summary_of}
 use Rattle.spec_outcomes.specs.Certificates.{certificate_of}
+use Rattle.spec_outcomes.specs.Sets.{set_of}
+use Rattle.spec_outcomes.specs.Scalars.{scalar_of}
 use Rattle.spec_outcomes.specs.Refusals.{of_words}
 use Rattle.gf_find.specs.CertificateFiles.{VerifyHasOutcome}
 
@@ -88,6 +90,8 @@ RequestHasOutcome (Ok (Verify find cert)) files count now outcome =
     FilesHave files find.files count now (λ e o. VerifyHasOutcome files find cert count now (in_ticks find.tick e) o) outcome
 RequestHasOutcome (Ok (Check names)) files count now outcome = FilesHaveOutcome files names count now summary_of outcome
 RequestHasOutcome (Ok (Gen blocks seed workers)) files count now outcome = outcome ≡ generation_of blocks seed
+RequestHasOutcome (Ok (Set find ref2 relation)) files count now outcome = FilesHaveOutcome files find.files count now (set_of find ref2 relation) outcome
+RequestHasOutcome (Ok (Scalar ask)) files count now outcome = outcome ≡ scalar_of ask
 
 -- the run of these words over these files has this outcome; the shelf's count of faults was the first number, and is the
 -- second
@@ -101,6 +105,8 @@ with_workers count (Cert find) = Cert (record find { workers = count })
 with_workers count (Verify find cert) = Verify (record find { workers = count }) cert
 with_workers count (Check names) = Check names
 with_workers count (Gen blocks seed workers) = Gen blocks seed count
+with_workers count (Set find ref2 relation) = Set (record find { workers = count }) ref2 relation
+with_workers count (Scalar ask) = Scalar (record ask { workers = count })
 
 -- it is refused for this cause, or memory ran out
 abbrev pub HaveCause : Words → Option Files → ℕ → ℕ → Refusal → Type 0

@@ -4,7 +4,7 @@ use Rattle.std.specs.Prelude.{◌≡◌, ◌⊎◌, ◌<◌, ℕ, List, length, 
 use Rattle.std.specs.Io.KnownBytes.{Appends}
 use Rattle.spec_files.specs.declared.limits.TheConstants.{MAX_FILES}
 use Rattle.spec_requests.specs.declared.request.Request.{Request}
-use Rattle.spec_requests.specs.declared.request.Request.TheVariants.{Find, Cert, Verify, Check, Gen}
+use Rattle.spec_requests.specs.declared.request.Request.TheVariants.{Find, Cert, Verify, Check, Gen, Set, Scalar}
 use Rattle.spec_requests.specs.declared.request.WordFault.{WordFault}
 use Rattle.spec_requests.specs.Requests.{request_of}
 use Rattle.spec_output.specs.Writing.{AppendsPart}
@@ -24,7 +24,7 @@ ReportsPart words files count now old new = (text : List ℕ) × HaveOutcome wor
 abbrev pub AreNotOpened : List (List ℕ) → Type 0
 AreNotOpened names = (length names ≡ 0) ⊎ (MAX_FILES < length names)
 
--- none is where the command line is invalid, or asks for a generated text
+-- none is where the command line is invalid, or asks for a generated text or a polynomial
 abbrev pub OpensNone : Result Request WordFault → Type 0
 OpensNone (Err fault) = Unit {0}
 OpensNone (Ok (Find find)) = AreNotOpened find.files
@@ -32,6 +32,8 @@ OpensNone (Ok (Cert find)) = AreNotOpened find.files
 OpensNone (Ok (Verify find cert)) = AreNotOpened find.files
 OpensNone (Ok (Check names)) = AreNotOpened names
 OpensNone (Ok (Gen blocks seed workers)) = Unit {0}
+OpensNone (Ok (Set find ref2 relation)) = AreNotOpened find.files
+OpensNone (Ok (Scalar ask)) = Unit {0}
 
 -- no file is opened, or it is known which files there are
 abbrev pub KnowsFiles : Words → Option Files → Type 0

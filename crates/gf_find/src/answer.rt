@@ -9,6 +9,8 @@ use crate::cert::certificate_in_files;
 use crate::check::summary_of_files;
 use crate::find::find_in_files;
 use crate::generated::generation_of;
+use crate::scalar::scalar_text;
+use crate::set::set_in_files;
 use crate::verify::verify_in_files;
 use gf_edges::{Gate, Shelf};
 use gf_words::request;
@@ -42,5 +44,11 @@ pub(crate) fn answer<R: Threads + Wait + Sync, S: Shelf, G: Gate>(
             seed,
             workers,
         } => generation_of(rt, alloc, blocks, seed, workers, gate),
+        Request::Set {
+            find,
+            ref2,
+            relation,
+        } => set_in_files(rt, alloc, shelf, &find, ref2, relation, gate),
+        Request::Scalar(ask) => scalar_text(rt, alloc, &ask, gate),
     }
 }

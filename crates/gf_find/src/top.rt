@@ -1,8 +1,11 @@
 // The call that the program makes.
-ghost use Rattle.std.specs.Prelude.{◌≡◌, ◌≢◌, ◌⊎◌, List, ℕ, Err, Ok};
+ghost use Rattle.std.specs.Prelude.{◌≡◌, ◌≢◌, ◌⊎◌, List, ℕ, Option, Err, Ok};
 ghost use Rattle.std.specs.Io.KnownBytes.{Appends, Keeps};
+ghost use Rattle.spec_text.specs.declared.decimals.Decimal.{Decimal};
 ghost use Rattle.spec_requests.specs.declared.request.FindAsk.{FindAsk};
-ghost use Rattle.spec_requests.specs.declared.request.Request.TheVariants.{Find, Cert, Verify, Check, Gen};
+ghost use Rattle.spec_requests.specs.declared.request.Relation.{Relation};
+ghost use Rattle.spec_requests.specs.declared.request.ScalarAsk.{ScalarAsk};
+ghost use Rattle.spec_requests.specs.declared.request.Request.TheVariants.{Find, Cert, Verify, Check, Gen, Set, Scalar};
 ghost use Rattle.spec_requests.specs.Requests.{request_of};
 ghost use Rattle.spec_output.specs.Messages.{memory_text, write_text};
 ghost use Rattle.spec_output.specs.Writing.{AppendsPart, Receives};
@@ -14,6 +17,8 @@ ghost use Rattle.gf_find.specs.Certifies.{ReportsCertificate};
 ghost use Rattle.gf_find.specs.Verifies.{ReportsVerified};
 ghost use Rattle.gf_find.specs.Checks.{ReportsSummary};
 ghost use Rattle.gf_find.specs.Generates.{ReportsGeneration};
+ghost use Rattle.gf_find.specs.Sets.{ReportsSet};
+ghost use Rattle.gf_find.specs.Scalars.{ReportsScalar};
 ghost use Rattle.gf_find.specs.Reported.{KnowsFiles, OpensNone, ReportsPart, ReportsWhole};
 
 use crate::answer::answer;
@@ -26,20 +31,20 @@ use std::sync::Wait;
 use std::thread::Threads;
 
 /// Does what the words of the command line, without the program's name, ask for: writes a text to `out`, or the line of
-/// an error to `err`, and returns the status. The words are `find`, `cert` or `verify` with options and files, `check` with
-/// files, or `gen` with a layout, a number of blocks and a seed.
+/// an error to `err`, and returns the status. The words are `find`, `cert`, `verify` or `set` with options and files, `check`
+/// with files, `gen` with a layout, a number of blocks and a seed, or `scalar` with options.
 ///
 /// | Status | Meaning |
 /// |---|---|
-/// | 0 | the report, the certificate, the summary or the lines of the generated text were written whole |
+/// | 0 | the report, the certificate, the summary, the sets or the lines of the generated text were written whole |
 /// | 2 | the command line is invalid |
 /// | 3 | the files have a first fault, or there are too many; or the certificate's is too large |
 /// | 4 | a file couldn't be read |
 /// | 5 | the text couldn't be written whole |
-/// | 6 | the span that is asked for isn't one of the files |
+/// | 6 | the span that is asked for is not one of the files, or that of a polynomial holds no time |
 /// | 7 | the event can't be searched for in the files: a body is absent, two are the same, a number is out of range |
 /// | 8 | out of memory |
-/// | 9 | the search has more than 33,554,432 leaves, or than 4,194,304 for a certificate |
+/// | 9 | the search, or one of two, has more than 33,554,432 leaves, or than 4,194,304 for a certificate |
 /// | 10 | the certificate breaks a rule |
 pub fn finder<R: Threads + Wait + Sync, S: Shelf, O: Sink, E: Sink, G: Gate>(
     rt: &R,
@@ -80,6 +85,18 @@ pub fn finder<R: Threads + Wait + Sync, S: Shelf, O: Sink, E: Sink, G: Gate>(
     ensures generated { (blocks seed workers : ℕ) → Ask words.now (Gen blocks seed workers)
         → result ≡ REPORTED → ReportsGeneration blocks seed (O.bytes out.old) (O.bytes out.new) }
 
+    // For `set` it is the report of two sets of times of the span: each sure time has the relation to the references that are
+    // asked for, and each time that has it is possible.
+    ensures set { (find : FindAsk) (ref2 : Option Decimal) (relation : Relation)
+        → Ask words.now (Set find ref2 relation) → result ≡ REPORTED
+        → HoldEphemeris (S.files shelf.old) find.files
+        (ReportsSet find ref2 relation (O.bytes out.old) (O.bytes out.new)) }
+
+    // For `scalar` it is the report of the windows of the times at which a polynomial passes 0, of which is true all that is
+    // true of those of `find`.
+    ensures scalar { (ask : ScalarAsk) → Ask words.now (Scalar ask) → result ≡ REPORTED
+        → ReportsScalar ask (O.bytes out.old) (O.bytes out.new) }
+
     // Each status but 0 and 5 is that of a cause, which the words, the files and the shelf have; its line goes to `err`.
     ensures refused { result ≢ REPORTED → result ≢ NOT_WRITTEN → (refusal : Refusal)
         × HaveCause words.now (S.files shelf.old) (S.faults shelf.old) (S.faults shelf.new) refusal
@@ -108,7 +125,7 @@ pub fn finder<R: Threads + Wait + Sync, S: Shelf, O: Sink, E: Sink, G: Gate>(
         → (result ≡ status_of refusal) ⊎ ((result ≡ OUT_OF_MEMORY)
         ⊎ Rose (S.faults shelf.old) (S.faults shelf.new)) }
 
-    // No file is opened where the words are refused, ask for a generated text, or name too many files.
+    // No file is opened where the words are refused, ask for a generated text or a polynomial, or name too many files.
     ensures unopened { OpensNone (request_of (texts_of words.now)) → shelf.new ≡ shelf.old }
 
     // Nothing else is written.

@@ -2,6 +2,7 @@
 ghost use Rattle.std.specs.Prelude.{◌≡◌, ◌⊎◌, ◌<◌, IfErr, IfOk, None, OnOk};
 ghost use Rattle.spec_kinds.specs.Faults.{fault_of};
 ghost use Rattle.spec_kinds.specs.Kinds.{event_of};
+ghost use Rattle.spec_kinds.specs.Searches.{view_of_ask};
 ghost use Rattle.spec_outcomes.specs.Outcomes.{HasFault};
 ghost use Rattle.spec_outcomes.specs.Queries.{IsQuery, search};
 
@@ -12,6 +13,18 @@ use event_kinds::{Event, event};
 use gf_hooks::Cutter;
 use spec_outcomes::{Query, Refusal};
 use std::alloc::Global;
+
+/// The states of the two bodies of a query over an ephemeris, whose ticks are those of the query.
+pub fn states<'e>(ephemeris: &'e Ephemeris, query: &Query) -> BodyStates<'e>
+    requires block { 0 < ephemeris.now.blocks }
+    requires query { IsQuery query.now }
+    requires sound { fault_of ephemeris.now query.now.ask ≡ None }
+    ensures { result ≡ view_of_ask ephemeris.now query.now.ask }
+{
+    let ask = query.ask;
+    let second = ask.second.unwrap_or(ask.target);
+    BodyStates::new(ephemeris, [ask.target, second], ask.observer, ask.frame)
+}
 
 /// The judge of a query's search of an ephemeris, whose ticks are those of the query. The event is that of the query, and
 /// has no fault; the cutter is one by the query's rule, which whoever searches or checks makes: it holds a closure.
@@ -28,9 +41,7 @@ pub fn judge<'e>(
     requires rule { cutter.rule ≡ query.now.cut }
     ensures { result.search ≡ search query.now ephemeris.now }
 {
-    let ask = query.ask;
-    let second = ask.second.unwrap_or(ask.target);
-    let states = BodyStates::new(ephemeris, [ask.target, second], ask.observer, ask.frame);
+    let states = states(ephemeris, query);
     EventJudge::new(states, ephemeris, event, query.width, query.depth, cutter)
 }
 

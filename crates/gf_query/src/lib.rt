@@ -1,13 +1,14 @@
-//! What a query asks of an ephemeris: its span, and the judge of its search.
+//! What a query asks of an ephemeris: its span, its bodies, and the judge of its search.
 //!
 //! In come the words of a search, or a query, and the ephemeris that they are asked of; out come the span that is
 //! searched, or the refusal where it isn't one of the ephemeris, the event of the query, or the refusal where it has a
-//! fault, and the judge of the query's search. Nothing here walks a tree.
+//! fault, the states of its bodies, and the judge of its search. Nothing here walks a tree.
 #![tactic(auto)]
 
 mod judges;
 mod spans;
 
 pub use event_judge::EventJudge;
-pub use judges::{event_of, judge};
+pub use body_states::BodyStates;
+pub use judges::{event_of, judge, states};
 pub use spans::{root_of, span_asked, whole_span};

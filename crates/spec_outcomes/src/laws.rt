@@ -1,9 +1,12 @@
 // What is true of every run over an ephemeris.
-ghost use Rattle.std.specs.Prelude.{◌≡◌, ◌≢◌, ◌<◌, None};
+ghost use Rattle.std.specs.Prelude.{◌≡◌, ◌≢◌, ◌<◌, ◌<ℤ◌, None};
 ghost use Rattle.spec_ephemeris.specs.Ephemeris.{Ephemeris, IsEphemeris};
+ghost use Rattle.spec_requests.specs.declared.request.ScalarAsk.{ScalarAsk};
+ghost use Rattle.spec_requests.specs.Limits.{IsScalarWithinLimits};
 ghost use Rattle.spec_outcomes.specs.Outcomes.{cause_of};
 ghost use Rattle.spec_outcomes.specs.Queries.{AreFound, IsQuery, leaves_in, search};
 ghost use Rattle.spec_outcomes.specs.Refusals.{status_of};
+ghost use Rattle.spec_outcomes.specs.Scalars.{ArePassings, scalar_windows};
 
 use crate::query::{Query, Span};
 use crate::refusal::Refusal;
@@ -13,6 +16,13 @@ use crate::statuses::{NOT_WRITTEN, REPORTED};
 pub fn searches_find_the_events()
     ensures { (q : Query) (e : Ephemeris) (span : Span) → IsEphemeris e → 0 < e.blocks → IsQuery q
         → cause_of q e span ≡ None → AreFound (search q e) span (leaves_in (search q e) span) }
+{}
+
+/// Where the span holds a time, the windows of a polynomial's search are those of the times at which it passes 0 in a
+/// wanted direction.
+pub fn polynomials_pass_0_in_their_windows()
+    ensures { (ask : ScalarAsk) → IsScalarWithinLimits ask → ask.from <ℤ ask.to
+        → ArePassings ask (scalar_windows ask) }
 {}
 
 /// No cause has a status of a run that has a text.

@@ -7,12 +7,20 @@ mod examples;
 mod laws;
 mod query;
 mod refusal;
+mod scalar_examples;
+mod set_examples;
+mod set_laws;
 mod statuses;
 
 pub use examples::{causes_have_an_order, statuses_of_causes};
-pub use laws::{causes_are_no_texts, searches_find_the_events};
+pub use laws::{
+    causes_are_no_texts, polynomials_pass_0_in_their_windows, searches_find_the_events,
+};
 pub use query::{Query, Span, conjunctions, query_of};
 pub use refusal::Refusal;
+pub use scalar_examples::{outcomes_of_a_square, windows_of_a_square};
+pub use set_examples::{signs_of_open_times, signs_of_relations};
+pub use set_laws::{causes_against_sets, queries_of_sets, sets_meet_their_relation};
 pub use statuses::{
     CERTIFICATE_REFUSED, EVENT_REFUSED, FILES_REFUSED, NOT_READ, NOT_WRITTEN, OUT_OF_MEMORY,
     REPORTED, SPAN_REFUSED, TOO_MANY_LEAVES, WORDS_REFUSED,

@@ -1,5 +1,5 @@
 use Rattle.std.proofs.Common.{◌≡◌, Ok, rules}
-use Rattle.spec_requests.specs.declared.request.Request.TheVariants.{Cert, Find, Verify}
+use Rattle.spec_requests.specs.declared.request.Request.TheVariants.{Cert, Find, Scalar, Set, Verify}
 use Rattle.spec_requests.specs.Requests.{request_of}
 use Rattle.spec_requests.proofs.LimitLemmas.{requests_keep_to_limits}
 use Rattle.gf_find.specs.Outcomes.{texts_of}
@@ -32,3 +32,13 @@ generation_of-requires-clause-some_workers g c = search (rules, workers_are_some
 
 pub generation_of-requires-clause-workers : goal.generation_of-requires-clause-workers
 generation_of-requires-clause-workers g c = search (rules, workers_are_within)
+
+pub set_in_files-requires-after_bounds : goal.set_in_files-requires-after_bounds
+set_in_files-requires-after_bounds g c κs lives =
+    let asked : request_of (texts_of c.args.words.now) ≡ Ok (Set c.in-Set.find c.in-Set.ref2 c.in-Set.relation) = search rules in
+    requests_keep_to_limits _ _ asked
+
+pub scalar_text-requires-after_bounds : goal.scalar_text-requires-after_bounds
+scalar_text-requires-after_bounds g c κs lives =
+    let asked : request_of (texts_of c.args.words.now) ≡ Ok (Scalar c.in-Scalar.ask) = search rules in
+    requests_keep_to_limits _ _ asked

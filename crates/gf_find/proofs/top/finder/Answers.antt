@@ -2,7 +2,7 @@ use Rattle.std.proofs.Common.{◌∙◌, inl, inr, List, ℕ, subst, sym}
 use Rattle.std.specs.Io.KnownBytes.{Appends}
 use Rattle.spec_output.specs.Writing.{AppendsPart}
 use Rattle.spec_outcomes.proofs.TextStatuses.{not_reported, not_unwritten}
-use Rattle.gf_find.proofs.Answered.{cause_is, certifies, checks, verifies, outcome_is, finds, generates, refused_exactly, refused_only, text_not_refused}
+use Rattle.gf_find.proofs.Answered.{cause_is, certifies, checks, verifies, outcome_is, finds, generates, passes, refused_exactly, refused_only, relates, text_not_refused}
 use Rattle.gf_find.proofs.top.finder.Goals as goal
 
 pub returns-in-Ok-clause-reported : goal.returns-in-Ok-clause-reported
@@ -34,6 +34,16 @@ pub returns-in-Ok-clause-generated : goal.returns-in-Ok-clause-generated
 returns-in-Ok-clause-generated g c = λ blocks seed workers asked zero.
     let P : List ℕ → Type 0 = λ text. Appends (g.O.Sink.bytes c.args.out.now) (g.O.Sink.bytes c.write_text.new.out) text in
     generates _ _ _ c.in-Ok.ensures.answered _ _ (subst P c.deref.ensures.value (c.write_text.ensures.whole zero)) blocks seed workers asked
+
+pub returns-in-Ok-clause-set : goal.returns-in-Ok-clause-set
+returns-in-Ok-clause-set g c = λ find ref2 relation asked zero.
+    let P : List ℕ → Type 0 = λ text. Appends (g.O.Sink.bytes c.args.out.now) (g.O.Sink.bytes c.write_text.new.out) text in
+    relates _ _ _ c.in-Ok.ensures.answered _ _ (subst P c.deref.ensures.value (c.write_text.ensures.whole zero)) find ref2 relation asked
+
+pub returns-in-Ok-clause-scalar : goal.returns-in-Ok-clause-scalar
+returns-in-Ok-clause-scalar g c = λ ask asked zero.
+    let P : List ℕ → Type 0 = λ text. Appends (g.O.Sink.bytes c.args.out.now) (g.O.Sink.bytes c.write_text.new.out) text in
+    passes _ _ _ c.in-Ok.ensures.answered _ _ (subst P c.deref.ensures.value (c.write_text.ensures.whole zero)) ask asked
 
 pub returns-in-Ok-clause-write : goal.returns-in-Ok-clause-write
 returns-in-Ok-clause-write g c = λ five.
@@ -68,6 +78,12 @@ returns-in-Err-clause-check g c = λ names asked zero. absurd (not_reported _ (s
 
 pub returns-in-Err-clause-generated : goal.returns-in-Err-clause-generated
 returns-in-Err-clause-generated g c = λ blocks seed workers asked zero. absurd (not_reported _ (sym c.write_refusal.ensures.written.2 ∙ zero))
+
+pub returns-in-Err-clause-set : goal.returns-in-Err-clause-set
+returns-in-Err-clause-set g c = λ find ref2 relation asked zero. absurd (not_reported _ (sym c.write_refusal.ensures.written.2 ∙ zero))
+
+pub returns-in-Err-clause-scalar : goal.returns-in-Err-clause-scalar
+returns-in-Err-clause-scalar g c = λ ask asked zero. absurd (not_reported _ (sym c.write_refusal.ensures.written.2 ∙ zero))
 
 pub returns-in-Err-clause-refused : goal.returns-in-Err-clause-refused
 returns-in-Err-clause-refused g c = λ zero five.

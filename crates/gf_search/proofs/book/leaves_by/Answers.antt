@@ -7,7 +7,7 @@ use Rattle.spec_trees.specs.Tree.{leaf_count, leaves}
 use Rattle.spec_outcomes.specs.declared.refusal.Refusal.{Refusal}
 use Rattle.spec_outcomes.specs.declared.refusal.Refusal.TheVariants.{Memory, TooManyLeaves}
 use Rattle.spec_outcomes.proofs.Results.{err_also, ok_also}
-use Rattle.gf_search.proofs.Entries.{no_more}
+use Rattle.ordered_join.proofs.Entries.{no_more}
 use Rattle.gf_search.proofs.book.leaves_by.Goals as goal
 
 pub returns-in-Ok-clause-leaves : goal.returns-in-Ok-clause-leaves

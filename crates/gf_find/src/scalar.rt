@@ -1,0 +1,48 @@
+// The command `scalar`: the report of the windows of the times at which a polynomial passes 0.
+ghost use Rattle.std.specs.Prelude.{◌≡◌, ◌⊎◌, Err, IfErr, IfOk};
+ghost use Rattle.spec_trees.specs.Tree.{Covers};
+ghost use Rattle.spec_trees.specs.Windows.{windows};
+ghost use Rattle.spec_requests.specs.Limits.{IsScalarWithinLimits};
+ghost use Rattle.spec_output.specs.Report.{scalar_report};
+ghost use Rattle.spec_outcomes.specs.Scalars.{scalar_of};
+ghost use Rattle.gf_find.specs.Scalars.{IsScalarReport};
+
+use gf_edges::Gate;
+use gf_scalar::search_scalar;
+use ordered_join::leaf_windows;
+use spec_outcomes::Refusal;
+use spec_requests::ScalarAsk;
+use spec_trees::Leaf;
+use std::alloc::Global;
+use std::sync::Wait;
+use std::thread::Threads;
+use window_text::scalar_report;
+
+// The report of the windows of leaves that follow one another over the span.
+fn report_of_leaves(alloc: Global, ask: &ScalarAsk, leaves: &[Leaf]) -> Result<Vec<u8>, Refusal>
+    requires { Covers ask.now.from leaves.now ask.now.to }
+    ensures text { IfOk result (λ text. text.items ≡ scalar_report ask.now (windows leaves.now)) }
+    ensures memory { IfErr result (λ refusal. refusal ≡ Refusal.Memory) }
+{
+    let windows = leaf_windows(alloc, leaves)?;
+    let text = scalar_report(alloc, ask, &windows)?;
+    Ok(text)
+}
+
+/// The report of a polynomial's passings of 0. No file is opened.
+pub(crate) fn scalar_text<R: Threads + Wait + Sync, G: Gate>(
+    rt: &R,
+    alloc: Global,
+    ask: &ScalarAsk,
+    gate: &G,
+) -> Result<Vec<u8>, Refusal>
+    requires { IsScalarWithinLimits ask.now }
+    ensures report { IfOk result (λ text. IsScalarReport ask.now text.items) }
+    ensures stopped { IfErr result (λ refusal. (refusal ≡ Refusal.Memory)
+        ⊎ (scalar_of ask.now ≡ Err refusal)) }
+{
+    match search_scalar(rt, alloc, ask, gate) {
+        Ok(leaves) => report_of_leaves(alloc, ask, &leaves),
+        Err(refusal) => Err(refusal),
+    }
+}

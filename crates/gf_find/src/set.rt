@@ -1,0 +1,126 @@
+// The command `set`: the report of the times at which a function has a relation to its references.
+ghost use Rattle.std.specs.Prelude.{All, ◌≡◌, ◌⊎◌, ◌<◌, Err, IfErr, IfOk, true};
+ghost use Rattle.spec_ephemeris.specs.Ephemeris.{end_of};
+ghost use Rattle.spec_ephemeris.specs.Ticks.{IsTick};
+ghost use Rattle.spec_requests.specs.Limits.{IsSetWithinLimits};
+ghost use Rattle.spec_times.specs.Ticks.{IsTimeIn};
+ghost use Rattle.spec_output.specs.Report.{AreTimesIn, set_report};
+ghost use Rattle.spec_outcomes.specs.Queries.{is_within, span_of};
+ghost use Rattle.spec_outcomes.specs.Sets.{counted_set, set_of};
+ghost use Rattle.gf_find.specs.Outcomes.{FilesHaveOutcome, HoldEphemeris};
+ghost use Rattle.gf_find.specs.Reported.{AreNotOpened};
+ghost use Rattle.gf_find.specs.Sets.{IsCountedSet, IsSetReport};
+
+use crate::files::ephemeris_of;
+use eph_model::Ephemeris;
+use gf_edges::{Gate, Shelf};
+use gf_query::span_asked;
+use gf_relations::related;
+use gf_sets::Pair;
+use spec_outcomes::{Refusal, Span, query_of};
+use spec_requests::{FindAsk, Relation};
+use spec_text::Decimal;
+use std::alloc::Global;
+use std::sync::Wait;
+use std::thread::Threads;
+use window_text::set_report;
+
+// The report of two sets of times of a span.
+fn report_of_sets(
+    alloc: Global,
+    find: &FindAsk,
+    relation: Relation,
+    span: Span,
+    sets: &Pair,
+) -> Result<Vec<u8>, Refusal>
+    requires tick { IsTick find.now.tick }
+    requires from { IsTimeIn find.now.tick span.from }
+    requires upto { IsTimeIn find.now.tick span.upto }
+    requires sure { All (AreTimesIn find.now.tick) sets.now.sure }
+    requires possible { All (AreTimesIn find.now.tick) sets.now.maybe }
+    ensures text { IfOk result (λ text. text.items
+        ≡ set_report find.now relation span.from span.upto sets.now.sure sets.now.maybe) }
+    ensures memory { IfErr result (λ refusal. refusal ≡ Refusal.Memory) }
+{
+    let (sure, possible) = (sets.sure.list(), sets.maybe.list());
+    let text = set_report(alloc, find, relation, span.from, span.upto, sure, possible)?;
+    Ok(text)
+}
+
+// The report of a search of a span of an ephemeris that counts its ticks.
+fn set_in_span<R: Threads + Wait + Sync, G: Gate>(
+    rt: &R,
+    alloc: Global,
+    ephemeris: &Ephemeris,
+    find: &FindAsk,
+    ref2: Option<Decimal>,
+    relation: Relation,
+    span: Span,
+    gate: &G,
+) -> Result<Vec<u8>, Refusal>
+    requires block { 0 < ephemeris.now.blocks }
+    requires start { IsTimeIn find.now.tick ephemeris.now.start }
+    requires end { IsTimeIn find.now.tick (end_of ephemeris.now) }
+    requires limits { IsSetWithinLimits find.now ref2 relation }
+    requires span { span ≡ span_of find.now ephemeris.now }
+    requires within { is_within span ephemeris.now ≡ true }
+    ensures report { IfOk result (λ text.
+        IsCountedSet find.now ref2 relation text.items ephemeris.now) }
+    ensures stopped { IfErr result (λ refusal. (refusal ≡ Refusal.Memory)
+        ⊎ (counted_set find.now ref2 relation ephemeris.now ≡ Err refusal)) }
+{
+    let query = query_of(find);
+    let workers = find.workers;
+    match related(rt, alloc, ephemeris, &query, ref2, relation, span, workers, gate) {
+        Ok(sets) => report_of_sets(alloc, find, relation, span, &sets),
+        Err(refusal) => Err(refusal),
+    }
+}
+
+// The report of a search of an ephemeris that counts its ticks.
+fn set_in_ephemeris<R: Threads + Wait + Sync, G: Gate>(
+    rt: &R,
+    alloc: Global,
+    ephemeris: &Ephemeris,
+    find: &FindAsk,
+    ref2: Option<Decimal>,
+    relation: Relation,
+    gate: &G,
+) -> Result<Vec<u8>, Refusal>
+    requires block { 0 < ephemeris.now.blocks }
+    requires start { IsTimeIn find.now.tick ephemeris.now.start }
+    requires end { IsTimeIn find.now.tick (end_of ephemeris.now) }
+    requires limits { IsSetWithinLimits find.now ref2 relation }
+    ensures report { IfOk result (λ text.
+        IsCountedSet find.now ref2 relation text.items ephemeris.now) }
+    ensures stopped { IfErr result (λ refusal. (refusal ≡ Refusal.Memory)
+        ⊎ (counted_set find.now ref2 relation ephemeris.now ≡ Err refusal)) }
+{
+    match span_asked(find, ephemeris) {
+        Ok(span) => set_in_span(rt, alloc, ephemeris, find, ref2, relation, span, gate),
+        Err(refusal) => Err(refusal),
+    }
+}
+
+/// The report of the files of a search, of the times at which its function has a relation to its references.
+pub(crate) fn set_in_files<R: Threads + Wait + Sync, S: Shelf, G: Gate>(
+    rt: &R,
+    alloc: Global,
+    shelf: &mut S,
+    find: &FindAsk,
+    ref2: Option<Decimal>,
+    relation: Relation,
+    gate: &G,
+) -> Result<Vec<u8>, Refusal>
+    requires { IsSetWithinLimits find.now ref2 relation }
+    ensures report { IfOk result (λ text. HoldEphemeris (S.files shelf.old) find.now.files
+        (IsSetReport find.now ref2 relation text.items)) }
+    ensures stopped { IfErr result (λ refusal. (refusal ≡ Refusal.Memory)
+        ⊎ FilesHaveOutcome (S.files shelf.old) find.now.files (S.faults shelf.old) (S.faults shelf.new)
+        (set_of find.now ref2 relation) (Err refusal)) }
+    ensures unopened { AreNotOpened find.now.files → shelf.new ≡ shelf.old }
+{
+    let ephemeris = ephemeris_of(alloc, shelf, find.files.as_slice())?;
+    let counted = ephemeris.in_ticks(find.tick);
+    set_in_ephemeris(rt, alloc, &counted, find, ref2, relation, gate)
+}

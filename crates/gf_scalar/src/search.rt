@@ -1,0 +1,107 @@
+// The search of a polynomial for the times at which it passes 0.
+ghost use Rattle.std.specs.Prelude.{◌≡◌, ◌⊎◌, ◌<ℤ◌, Err, IfErr, IfOk};
+ghost use Rattle.spec_requests.specs.Limits.{IsScalarWithinLimits};
+ghost use Rattle.spec_outcomes.specs.Scalars.{AreScalarLeaves, found_scalar, quadratic_of, scalar_root, scalar_span, whole_scalar_span};
+
+use gf_edges::Gate;
+use gf_uds::{Quad, Scalar, ScalarJudge, find_scalar, law_holds};
+use ordered_join::leaves;
+use spec_outcomes::{Refusal, Span};
+use spec_output::MAX_LEAVES;
+use spec_requests::{MAX_SCALAR_TIME, ScalarAsk};
+use spec_trees::{Leaf, Node};
+use std::alloc::Global;
+use std::sync::Wait;
+use std::thread::Threads;
+use steal_pool::PoolError;
+
+// The latest time of a scalar; the first is as early.
+const LATEST: i64 = MAX_SCALAR_TIME as i64;
+
+// The judge of the search of the polynomial.
+fn judge_of(ask: &ScalarAsk) -> ScalarJudge<Quad>
+    requires { IsScalarWithinLimits ask.now }
+    ensures law { result.scalar.law ≡ quadratic_of ask.now }
+    ensures first { result.scalar.first ≡ ask.now.from }
+    ensures last { result.scalar.last ≡ ask.now.to }
+    ensures plan { result.plan ≡ ask.now.plan }
+{
+    let quad = Quad::new(ask.p, ask.q, ask.r).unwrap();
+    let scalar = Scalar::new(quad, ask.from, ask.to);
+    law_holds(&scalar.law);
+    ScalarJudge {
+        scalar,
+        plan: ask.plan,
+    }
+}
+
+// The root of its tree.
+fn root_of(ask: &ScalarAsk) -> Node
+    ensures { result ≡ scalar_root ask.now }
+{
+    Node {
+        a: ask.from,
+        b: ask.to,
+        depth: 0,
+    }
+}
+
+// The refusal of a span that holds no time.
+fn outside(ask: &ScalarAsk) -> Refusal
+    ensures { result ≡ Refusal.Outside (scalar_span ask.now) whole_scalar_span }
+{
+    Refusal::Outside {
+        span: Span {
+            from: ask.from,
+            upto: ask.to,
+        },
+        whole: Span {
+            from: -LATEST,
+            upto: LATEST,
+        },
+    }
+}
+
+// The leaves of a search over a span that holds a time.
+fn search_span<R: Threads + Wait + Sync, G: Gate>(
+    rt: &R,
+    alloc: Global,
+    ask: &ScalarAsk,
+    gate: &G,
+) -> Result<Vec<Leaf>, Refusal>
+    requires limits { IsScalarWithinLimits ask.now }
+    requires ordered { ask.now.from <ℤ ask.now.to }
+    ensures found { IfOk result (λ found. AreScalarLeaves ask.now found.items) }
+    ensures stopped { IfErr result (λ refusal. (refusal ≡ Refusal.Memory)
+        ⊎ (found_scalar ask.now ≡ Err refusal)) }
+{
+    let judge = judge_of(ask);
+    let root = root_of(ask);
+    match find_scalar(rt, alloc, &judge, root, ask.workers, MAX_LEAVES, gate) {
+        Ok(book) => Ok(leaves(alloc, &book)?),
+        Err(PoolError::TooMany) => Err(Refusal::TooManyLeaves { most: MAX_LEAVES }),
+        Err(PoolError::Memory) => Err(Refusal::Memory),
+    }
+}
+
+/// The leaves of the search of a polynomial that is asked for, in order of time, which its workers look for at once: they
+/// follow one another over the span, and their windows are those of the times at which the polynomial passes 0 in a wanted
+/// direction. Times are whole numbers. `Outside` where the span holds no time, `TooManyLeaves` where there are more than a
+/// report may have, or `Memory`.
+pub fn search_scalar<R: Threads + Wait + Sync, G: Gate>(
+    rt: &R,
+    alloc: Global,
+    ask: &ScalarAsk,
+    gate: &G,
+) -> Result<Vec<Leaf>, Refusal>
+    requires { IsScalarWithinLimits ask.now }
+    ensures found { IfOk result (λ found. AreScalarLeaves ask.now found.items) }
+    ensures stopped { IfErr result (λ refusal. (refusal ≡ Refusal.Memory)
+        ⊎ (found_scalar ask.now ≡ Err refusal)) }
+{
+    if ask.from < ask.to {
+        search_span(rt, alloc, ask, gate)
+    } else {
+        Err(outside(ask))
+    }
+}

@@ -1,5 +1,5 @@
 -- The polynomial that is searched is the one that is asked for.
-use Rattle.std.proofs.Common.{◌≡◌, Bool, true, false, Option, None, Some}
+use Rattle.std.proofs.Common.{◌≡◌, Bool, true, false, None, Some}
 use Rattle.std.specs.Prelude.{if◌then◌else◌}
 use Rattle.spec_scalars.specs.Quads.{Quadratic}
 

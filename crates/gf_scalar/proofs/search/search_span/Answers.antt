@@ -1,10 +1,10 @@
-use Rattle.std.proofs.Common.{◌≡◌, ◌<◌, ◌∙◌, ap, inr, refl, subst, Err, ℕ}
+use Rattle.std.proofs.Common.{◌≡◌, ◌<◌, ◌∙◌, inr, refl, subst, Err, ℕ}
 use Rattle.spec_trees.specs.Tree.{leaf_count, leaves}
 use Rattle.spec_scalars.specs.Quads.{quad_scalar}
-use Rattle.spec_scalars.specs.Searches.{Search, rules, search_over}
+use Rattle.spec_scalars.specs.Searches.{rules, search_over}
 use Rattle.spec_output.specs.declared.limits.TheConstants.{MAX_LEAVES}
 use Rattle.spec_outcomes.specs.declared.refusal.Refusal.TheVariants.{TooManyLeaves}
-use Rattle.spec_outcomes.specs.Scalars.{scalar_root, scalar_search}
+use Rattle.spec_outcomes.specs.Scalars.{scalar_search}
 use Rattle.spec_outcomes.proofs.Passings.{leaves_are, leaves_stop}
 use Rattle.ordered_join.proofs.Entries.{no_more}
 use Rattle.gf_scalar.proofs.search.search_span.Goals as goal

@@ -1,6 +1,8 @@
 -- One piece behind another.
-use Rattle.std.proofs.Common.{◌≡◌, List, ℕ, ◌++◌, Result, Ok, Err, OnOk, ap, ◌∙◌}
-use Rattle.std.proofs.lemmas.List.{append_assoc}
+use Rattle.std.proofs.Common.{◌≡◌, List, [], ◌∷◌, ℕ, suc, ◌+◌, ◌<◌, ◌++◌, length, take, take-suc, get_or, Result, Ok, Err, OnOk, sym, ap, ◌∙◌, arith}
+use Rattle.std.proofs.lemmas.Grind.{flat_map-append}
+use Rattle.std.proofs.lemmas.List.{append_assoc, append-nil}
+use Rattle.std.specs.List.{flat_map}
 
 both : (old mid new a b : List ℕ) → mid ≡ old ++ a → new ≡ mid ++ b → new ≡ old ++ (a ++ b)
 both old mid new a b first last = last ∙ ap (λ (xs : List ℕ). xs ++ b) first ∙ append_assoc old a b
@@ -14,3 +16,13 @@ three_pieces result old mid next new a b d first second last = two_pieces result
 
 pub four_pieces : {T E : Type 0} (result : Result T E) (old mid next more new a b d e : List ℕ) → mid ≡ old ++ a → next ≡ mid ++ b → more ≡ next ++ d → OnOk result (new ≡ more ++ e) → OnOk result (new ≡ old ++ (a ++ b ++ d ++ e))
 four_pieces result old mid next more new a b d e first second third last = three_pieces result old next more new (a ++ b) d e (both old mid next a b first second) third last
+
+-- the piece of one more element
+pub one_more_piece : {X : Type 0} (f : X → List ℕ) (xs : List X) (k : ℕ) (d : X) (old mid new : List ℕ) → k < length xs
+    → mid ≡ old ++ flat_map f (take k xs) → new ≡ mid ++ f (get_or xs k d) → new ≡ old ++ flat_map f (take (k + 1) xs)
+one_more_piece f xs k d old mid new below first last =
+    let next : suc k ≡ k + 1 = omega arith in
+    let here = f (get_or xs k d) in
+    let before = flat_map f (take k xs) in
+    let pieces : flat_map f (take (suc k) xs) ≡ before ++ here = ap (flat_map f) (take-suc xs k d below) ∙ flat_map-append f (take k xs) (get_or xs k d ∷ []) ∙ ap (λ (more : List ℕ). before ++ more) (append-nil here) in
+    both old mid new before here first last ∙ ap (λ (more : List ℕ). old ++ more) (sym pieces) ∙ ap (λ (n : ℕ). old ++ flat_map f (take n xs)) next

@@ -12,6 +12,7 @@ use spec_ephemeris::{Body, Column, Columns, FIRST_TIME, Header, LAST_TIME, MAX_B
 use spec_events::Dir;
 use spec_kinds::{Ask, Kind};
 use spec_requests::{FileNames, Text};
+use spec_scalars::Plan;
 use spec_text::Decimal;
 use spec_trees::{CutRule, Holds, Turn, Window};
 use std::alloc::{AllocError, Global};
@@ -222,6 +223,122 @@ fn a_certificate_that_holds_is_reported(rt: HostRuntime) -> Result<(), Fail> {
     assert!(rt; line.as_slice() == LINE.as_bytes());
     let text = verification(alloc, &find, -43_200, 2_721_600, &[], 4)?;
     assert!(rt; text.as_slice() == VERIFIED.as_bytes());
+    Ok(())
+}
+
+const BELOW_ZERO: &str =
+    "SET coord target mercury second - observer ssb frame eq axis x values 0 relation less width 60 depth 40 cut half span 2000-01-16T23:56:40 2000-01-17T00:03:20
+S 2000-01-16T23:56:40 2000-01-16T23:59:10
+P 2000-01-16T23:56:40 2000-01-16T23:59:59
+END sure 1 possible 1
+";
+
+const NOTHING_SURE: &str =
+    "SET coord target mercury second - observer ssb frame eq axis x values 0 relation atleast width 1 depth 40 cut half span 2000-01-01T12:00:00 2000-01-01T12:00:16
+P 2000-01-01T12:00:00 2000-01-01T12:00:16
+END sure 0 possible 1
+";
+
+const OUTSIDE: &str =
+    "SET coord target mercury second - observer ssb frame eq axis x values 0 relation outside width 1 depth 40 cut half span 2000-01-01T00:00:00 2000-02-02T00:00:00
+S 2000-01-01T00:00:00 2000-01-16T23:58:19
+S 2000-01-17T00:01:41 2000-02-02T00:00:00
+P 2000-01-01T00:00:00 2000-01-16T23:58:19
+P 2000-01-17T00:01:41 2000-02-02T00:00:00
+END sure 2 possible 2
+";
+
+#[test]
+fn a_report_of_sets_is_printed(rt: HostRuntime) -> Result<(), Fail> {
+    let alloc = rt.alloc();
+    let mut find = mercury_crossing(alloc)?;
+    find.width = 60;
+    let text = set_report(
+        alloc,
+        &find,
+        Relation::Less,
+        1_339_000,
+        1_339_400,
+        &[(1_339_000, 1_339_150)],
+        &[(1_339_000, 1_339_199)],
+    )?;
+    assert!(rt; text.as_slice() == BELOW_ZERO.as_bytes());
+    Ok(())
+}
+
+#[test]
+fn sets_of_no_span_and_of_two_are_printed(rt: HostRuntime) -> Result<(), Fail> {
+    let alloc = rt.alloc();
+    let find = mercury_crossing(alloc)?;
+    let text = set_report(alloc, &find, Relation::AtLeast, 0, 16, &[], &[(0, 16)])?;
+    assert!(rt; text.as_slice() == NOTHING_SURE.as_bytes());
+    let spans = [(-43_200, 1_339_099), (1_339_301, 2_721_600)];
+    let text = set_report(
+        alloc,
+        &find,
+        Relation::Outside,
+        -43_200,
+        2_721_600,
+        &spans,
+        &spans,
+    )?;
+    assert!(rt; text.as_slice() == OUTSIDE.as_bytes());
+    Ok(())
+}
+
+// t^2 - 100 from -50 to 50.
+fn square_less_100(alloc: Global) -> Result<ScalarAsk, AllocError> {
+    Ok(ScalarAsk {
+        p: 1,
+        q: 0,
+        r: -100,
+        text: Text::new(String::from_str(alloc, "1,0,-100")?),
+        from: -50,
+        to: 50,
+        plan: Plan {
+            dir: Dir::Any,
+            width: 1,
+            depth: 40,
+            cut: CutRule::Half,
+        },
+        workers: 1,
+    })
+}
+
+const SQUARE: &str = "SCALAR quad 1,0,-100 dir any width 1 depth 40 cut half span -50 50
+C -9 -9 fall
+C 10 10 rise
+END certain 2 undecided 0
+";
+
+const UNDECIDED: &str = "SCALAR quad 1,0,-100 dir any width 1 depth 40 cut half span -50 50
+U -49 50
+END certain 0 undecided 1
+";
+
+#[test]
+fn a_report_of_a_scalar_is_printed(rt: HostRuntime) -> Result<(), Fail> {
+    let alloc = rt.alloc();
+    let ask = square_less_100(alloc)?;
+    let fall = Window {
+        first: -9,
+        last: -9,
+        holds: Holds::Certain(Turn::Fall),
+    };
+    let rise = Window {
+        first: 10,
+        last: 10,
+        holds: Holds::Certain(Turn::Rise),
+    };
+    let text = scalar_report(alloc, &ask, &[fall, rise])?;
+    assert!(rt; text.as_slice() == SQUARE.as_bytes());
+    let all = Window {
+        first: -49,
+        last: 50,
+        holds: Holds::Undecided,
+    };
+    let text = scalar_report(alloc, &ask, &[all])?;
+    assert!(rt; text.as_slice() == UNDECIDED.as_bytes());
     Ok(())
 }
 

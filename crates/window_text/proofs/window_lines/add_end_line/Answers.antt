@@ -1,7 +1,7 @@
 use Rattle.std.proofs.Common.{◌++◌, codes}
 use Rattle.std.specs.Fmt.{decimal}
 use Rattle.window_text.proofs.Appended.{two_pieces}
-use Rattle.window_text.proofs.report_lines.add_end_line.Goals as goal
+use Rattle.window_text.proofs.window_lines.add_end_line.Goals as goal
 
 pub returns : goal.returns
 returns c =

@@ -1,0 +1,67 @@
+// The text of a scalar's search, whose times are whole numbers.
+ghost use Rattle.std.specs.Prelude.{◌≡◌, ◌++◌, IfOk, OnOk, string_bytes};
+ghost use Rattle.spec_output.specs.Messages.{times};
+ghost use Rattle.spec_output.specs.Report.{line_by, scalar_line, scalar_report, scalar_window_lines};
+
+use crate::Memory;
+use crate::pieces::{add_line_feed, add_pair, add_signed_number};
+use crate::query_lines::add_limits;
+use crate::window_lines::{add_end_line, line_end, line_word};
+use spec_requests::{ScalarAsk, dir_name};
+use spec_trees::Window;
+use std::alloc::{AllocError, Global};
+
+/// The report of the windows that a search of a scalar found: the request, a line for each window, and the counts. Times
+/// are printed as whole numbers.
+pub fn scalar_report(alloc: Global, ask: &ScalarAsk, windows: &[Window]) -> Result<Vec<u8>, Memory>
+    ensures { IfOk result (λ text. text.items ≡ scalar_report ask.now windows.now) }
+{
+    let mut text = String::new(alloc);
+    add_scalar_line(&mut text, ask)?;
+    add_line_feed(&mut text)?;
+    add_windows(&mut text, windows)?;
+    add_end_line(&mut text, windows)?;
+    Ok(text.into_bytes())
+}
+
+fn add_scalar_line(text: &mut String, ask: &ScalarAsk) -> Result<(), AllocError>
+    ensures { OnOk result
+        (string_bytes text.new ≡ string_bytes text.old ++ scalar_line ask.now) }
+{
+    add_pair(text, "SCALAR quad ", ask.text.as_str())?;
+    add_pair(text, " dir ", dir_name(ask.plan.dir))?;
+    add_limits(
+        text,
+        i128::from(ask.plan.width),
+        ask.plan.depth,
+        ask.plan.cut,
+    )?;
+    add_times(text, " span ", ask.from, ask.to)
+}
+
+fn add_windows(text: &mut String, windows: &[Window]) -> Result<(), AllocError>
+    ensures { OnOk result (string_bytes text.new
+        ≡ string_bytes text.old ++ scalar_window_lines windows.now) }
+{
+    for window in windows {
+        add_window(text, *window)?;
+    }
+    Ok(())
+}
+
+fn add_window(text: &mut String, window: Window) -> Result<(), AllocError>
+    ensures { OnOk result (string_bytes text.new
+        ≡ string_bytes text.old ++ line_by (times window.first window.last) window.holds) }
+{
+    add_times(text, line_word(window.holds), window.first, window.last)?;
+    text.push_str(line_end(window.holds))
+}
+
+// Two whole numbers after a word.
+fn add_times(text: &mut String, word: &str, first: i64, last: i64) -> Result<(), AllocError>
+    ensures { OnOk result (string_bytes text.new
+        ≡ string_bytes text.old ++ (word.now ++ times first last)) }
+{
+    add_signed_number(text, word, first)?;
+    add_signed_number(text, " ", last)
+}

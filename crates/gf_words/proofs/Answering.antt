@@ -1,23 +1,28 @@
 -- What is answered, from what was read.
-use Rattle.std.proofs.Common.{◌≡◌, ◌∙◌, ◌⊎◌, ◌++◌, [], true, false, List, Result, Ok, Err, refl, sym, ap, subst, inl, inr, codes, unwrap_or}
+use Rattle.std.proofs.Common.{◌≡◌, ◌∙◌, ◌⊎◌, ◌++◌, [], true, false, List, Result, Some, Ok, Err, refl, sym, ap, subst, inl, inr, codes, Option, option_and_then, unwrap_or}
 use Rattle.clap.specs.Walk.{all_of, first_of}
 use Rattle.clap.specs.Simple.{App}
 use Rattle.clap.specs.Faults.{is_simple_and_free}
 use Rattle.clap.specs.declared.parser.matches.ArgMatches.{ArgMatches}
+use Rattle.spec_ephemeris.specs.declared.body.Body.{Body}
+use Rattle.spec_events.specs.declared.dir.Dir.{Dir}
+use Rattle.spec_events.specs.declared.dir.Dir.TheVariants as dir
 use Rattle.spec_kinds.specs.declared.kind.Kind.{Kind}
 use Rattle.spec_requests.specs.declared.request.Named.TheVariants as opt
 use Rattle.spec_requests.specs.declared.request.Request.{Request}
 use Rattle.spec_requests.specs.declared.request.WordFault.{WordFault}
 use Rattle.spec_requests.specs.declared.request.WordFault.TheVariants.{Memory, Words}
-use Rattle.spec_requests.specs.Names.{Text, option_name}
+use Rattle.spec_requests.specs.Names.{Text, dir_of, option_name}
 use Rattle.spec_kinds.specs.Table.{is_unused, row_of, takes_radii}
 use Rattle.spec_requests.specs.Options.{Values}
 use Rattle.spec_requests.specs.Commands.{command_rules, files_in, is_refused, values_in}
-use Rattle.spec_requests.specs.Requests.{of_search, request_by, request_in, values_text}
+use Rattle.spec_requests.specs.Requests.{ask_of, of_search, ref2_text, request_by, request_in, search_of, search_of_set, values_text}
 use Rattle.spec_requests.specs.declared.request.FindAsk.{FindAsk}
 use Rattle.spec_requests.specs.declared.tables.CommandName.{CommandName}
 use Rattle.spec_requests.specs.declared.tables.CommandName.TheVariants as command
+use Rattle.gf_words.specs.declared.searches.SearchOptions.{SearchOptions}
 use Rattle.gf_words.specs.Answers.{Answers}
+use Rattle.gf_words.specs.Parts.{search_by_options, search_with_texts}
 use Rattle.gf_words.specs.Readings.{IsReading, file_names_of, values_of}
 
 pub answers_along : (x y result : Result Request WordFault) → x ≡ y → Answers x result → Answers y result
@@ -27,7 +32,7 @@ answers_along x y result same answers = subst (λ z. Answers z result) same answ
 
 pub radii_text : (values : Values) (kind : Kind) (first second : Text) → takes_radii kind ≡ true
     → first ≡ unwrap_or (values opt.Radius1) [] → second ≡ unwrap_or (values opt.Radius2) []
-    → first ++ (codes "," ++ second) ≡ values_text values kind
+    → first ++ ref2_text (Some second) ≡ values_text values kind
 unfolding values_text
 radii_text values kind first second radii one two = rw radii (λ i. one i ++ (codes "," ++ two i))
 
@@ -41,6 +46,27 @@ pub ref_text : (values : Values) (kind : Kind) (word : Text) → takes_radii kin
 unfolding values_text
 ref_text values kind word radii used is = rw (radii, used) is
 
+-- the search that was read, with its texts
+pub search_made : (values : Values) (kind : Kind) (target : Body) (files : List Text) (search : SearchOptions)
+    (turns : Option Dir) (wanted : Dir) (text : Text) → search ≡ search_by_options values kind target
+    → turns ≡ option_and_then dir_of (values opt.Dir) → wanted ≡ unwrap_or turns dir.Any → text ≡ values_text values kind
+    → search_with_texts search wanted text files ≡ search_of values kind target files
+unfolding search_of ask_of
+search_made values kind target files search turns wanted text search_is turns_are wanted_is text_is =
+    let all : wanted ≡ unwrap_or (option_and_then dir_of (values opt.Dir)) dir.Any =
+    wanted_is ∙ ap (λ (d : Option Dir). unwrap_or d dir.Any) turns_are in
+    λ i. search_with_texts (search_is i) (all i) (text_is i) files
+
+-- the search of a set, with both references as they are given
+pub set_made : (values : Values) (kind : Kind) (target : Body) (files : List Text) (search : SearchOptions) (first text : Text)
+    → search ≡ search_by_options values kind target → first ≡ values_text values kind
+    → text ≡ first ++ ref2_text (values opt.Ref2)
+    → search_with_texts search dir.Any text files ≡ search_of_set values (search_of values kind target files)
+unfolding search_of_set search_of
+set_made values kind target files search first text search_is first_is text_is =
+    let all = text_is ∙ ap (λ (t : Text). t ++ ref2_text (values opt.Ref2)) first_is in
+    λ i. search_with_texts (search_is i) dir.Any (all i) files
+
 -- ---- what the commands read
 
 pub is_simple : (name : CommandName) → is_simple_and_free (command_rules name) ≡ true
@@ -50,6 +76,8 @@ is_simple command.Cert = refl
 is_simple command.Verify = refl
 is_simple command.Check = refl
 is_simple command.Gen = refl
+is_simple command.Set = refl
+is_simple command.Scalar = refl
 
 pub values_read : (command : App) (words : List Text) (matches : ArgMatches) → IsReading command words matches
     → values_of matches ≡ values_in command words

@@ -1,22 +1,32 @@
 -- Parts that are read in the order of a table of options: the first that is bad is the first of the table that is bad.
-use Rattle.std.proofs.Common.{◌≡◌, ◌∙◌, ◌||◌, Bool, true, false, not, List, [], ◌∷◌, ◌++◌, drop, Option, Some, None, Result, Ok, Err, cond, find, is_some, if◌then◌else◌, option_and_then, unwrap_or, refl, sym, ap}
+use Rattle.std.proofs.Common.{◌≡◌, ◌∙◌, ◌||◌, pos, Bool, true, false, not, List, [], ◌∷◌, ◌++◌, drop, Option, Some, None, Result, Ok, Err, cond, find, is_some, if◌then◌else◌, option_and_then, option_map, unwrap_or, refl, sym, ap}
 use Rattle.spec_ephemeris.specs.declared.body.Body.{Body}
+use Rattle.spec_events.specs.declared.dir.Dir.{Dir}
 use Rattle.spec_kinds.specs.declared.kind.Kind.{Kind}
 use Rattle.spec_kinds.specs.declared.table.Use.{Use}
 use Rattle.spec_kinds.specs.declared.table.Use.TheVariants.{Needed, Optional, Unused}
 use Rattle.spec_kinds.specs.Table.{is_unused, row_of, takes_radii}
+use Rattle.spec_scalars.specs.Quads.{Quadratic}
 use Rattle.spec_requests.specs.declared.request.FindAsk.{FindAsk}
 use Rattle.spec_requests.specs.declared.request.Named.{Named}
 use Rattle.spec_requests.specs.declared.request.Named.TheVariants as opt
+use Rattle.spec_requests.specs.declared.request.Relation.{Relation}
+use Rattle.spec_requests.specs.declared.request.Relation.TheVariants.{Less}
 use Rattle.spec_requests.specs.declared.request.Request.{Request}
+use Rattle.spec_requests.specs.declared.request.Request.TheVariants.{Scalar}
+use Rattle.spec_requests.specs.declared.request.WordFault.{WordFault}
 use Rattle.spec_requests.specs.declared.request.WordFault.TheVariants.{BadValue}
-use Rattle.spec_requests.specs.declared.tables.TheConstants.{FIND_OPTIONS}
+use Rattle.spec_requests.specs.declared.tables.TheConstants.{FIND_OPTIONS, SET_OPTIONS}
 use Rattle.spec_requests.specs.declared.limits.TheConstants.{DEFAULT_TICK}
-use Rattle.spec_requests.specs.Names.{Text, axis_of, cut_of, dir_of, frame_of, kind_of, layout_of, observer_of, target_of, tick_of_word}
-use Rattle.spec_requests.specs.Options.{Values, bad_option, blocks_of, decimal_of, depth_of, instant_of, is_bad, is_misread, seed_of, tick_in, use_of, width_of, workers_of}
-use Rattle.spec_requests.specs.Requests.{ask_of, bad_word, checked_search, checked_text, nought, search_by, search_of, search_of_kind, search_of_target, text_by, text_of, use_in_text, value_or}
+use Rattle.spec_requests.specs.Names.{Text, axis_of, cut_of, dir_of, frame_of, kind_of, layout_of, observer_of, relation_of, target_of, tick_of_word}
+use Rattle.spec_requests.specs.Options.{Values, bad_in_scalar, bad_in_set, bad_option, blocks_of, decimal_of, depth_of, has_relation, instant_of, is_bad, is_bad_in_scalar, is_bad_in_set, is_misread, passing, quad_of, relation_for, scalar_time_of, seed_of, set_kind_of, tick_in, use_of, use_of_ref2, width_of, workers_of}
+use Rattle.spec_requests.specs.Requests.{ask_of, bad_word, checked_scalar, checked_search, checked_text, nought, nought_quad, scalar_by, scalar_of, search_by, search_of, search_of_kind, search_of_target, set_search_by, text_by, text_of, use_in_text, value_or}
+use Rattle.gf_words.specs.declared.polynomials.Polynomial.{Polynomial}
+use Rattle.gf_words.specs.declared.scalars.ScalarOptions.{ScalarOptions}
 use Rattle.gf_words.specs.declared.searches.SearchOptions.{SearchOptions}
-use Rattle.gf_words.specs.Parts.{made, needed, pair, part, required, used, ask_of_parts, ask_read, axes_by, axes_of, axes_read, bodies_by, bodies_of, bodies_read, ends_by, ends_of, ends_read, limits_by, limits_of, limits_read, numbers_by, numbers_of, numbers_read, search_by_options, search_of_parts, search_read, text_of_parts, text_read}
+use Rattle.gf_words.specs.declared.sets.References.{References}
+use Rattle.gf_words.specs.Polynomials.{as_polynomial, polynomial_of}
+use Rattle.gf_words.specs.Parts.{made, needed, pair, part, required, used, ask_of_parts, axes_by, axes_of, axes_read, bodies_by, bodies_of, bodies_read, ends_by, ends_of, ends_read, limits_by, limits_of, limits_read, numbers_by, numbers_of, numbers_read, references_after, references_by, references_of, references_read, scalar_by_options, scalar_of_parts, scalar_read, search_by_options, search_of_parts, search_read, text_of_parts, text_read, turns_read}
 
 -- what is read, or the first option that is bad, where there is one
 abbrev answer : {R : Type 0} → Option Named → R → Result R Named
@@ -142,14 +152,41 @@ of_axes = opt.Frame ∷ opt.Axis ∷ []
 abbrev of_numbers : List Named
 of_numbers = opt.Ref ∷ opt.Radius1 ∷ opt.Radius2 ∷ []
 
-abbrev of_ask : List Named
-of_ask = (of_bodies ++ of_axes) ++ (of_numbers ++ opt.Dir ∷ [])
-
 abbrev of_ends : List Named
 of_ends = opt.Tick ∷ opt.From ∷ opt.To ∷ []
 
 abbrev of_limits : List Named
 of_limits = opt.Width ∷ opt.Depth ∷ opt.Workers ∷ opt.Cut ∷ []
+
+abbrev of_references : List Named
+of_references = opt.Relation ∷ opt.Ref2 ∷ []
+
+module _ (values : Values) where
+  -- whether an option is bad that each search may leave out
+  abbrev finds_any : Named → Bool
+  finds_any option = is_bad (tick_in values) option Optional (values option)
+
+  of_any : {X : Type 0} (form : Text → Option X) (option : Named) → finds_any option ≡ is_misread form Optional (values option)
+      → part form option Optional (values option) ≡ answer (find finds_any (option ∷ [])) (option_and_then form (values option))
+  of_any form option is = one_part form finds_any option Optional (values option) is
+
+  ends_are : ends_read values ≡ answer (find finds_any of_ends) (ends_by values)
+  ends_are =
+      made_is ends_of (find finds_any of_ends) _ _ (paired finds_any (opt.Tick ∷ []) (opt.From ∷ opt.To ∷ []) _ _ _ _
+      (of_any tick_of_word opt.Tick refl) (paired finds_any (opt.From ∷ []) (opt.To ∷ []) _ _ _ _
+      (of_any (instant_of (tick_in values)) opt.From refl) (of_any (instant_of (tick_in values)) opt.To refl)))
+
+  limits_are : limits_read values ≡ answer (find finds_any of_limits) (limits_by values)
+  limits_are =
+      made_is limits_of (find finds_any of_limits) _ _
+      (paired finds_any (opt.Width ∷ opt.Depth ∷ []) (opt.Workers ∷ opt.Cut ∷ []) _ _ _ _
+      (paired finds_any (opt.Width ∷ []) (opt.Depth ∷ []) _ _ _ _
+      (of_any width_of opt.Width refl) (of_any depth_of opt.Depth refl))
+      (paired finds_any (opt.Workers ∷ []) (opt.Cut ∷ []) _ _ _ _
+      (of_any workers_of opt.Workers refl) (of_any cut_of opt.Cut refl)))
+
+  turns_are : turns_read values ≡ answer (find finds_any (opt.Dir ∷ [])) (option_and_then dir_of (values opt.Dir))
+  turns_are = of_any dir_of opt.Dir refl
 
 module _ (values : Values) (kind : Kind) (target : Body) where
   -- whether the kind finds an option bad
@@ -179,111 +216,240 @@ module _ (values : Values) (kind : Kind) (target : Body) where
       ∙ ap (answer (find finds of_numbers))
       (λ i. record { value1 = first_number_is (takes_radii kind) values i; value2 = value_or decimal_of nought (values opt.Radius2) })
 
-  ask_is : ask_read values kind target ≡ answer (find finds of_ask) (ask_of values kind target)
+  -- the options of a search, of which some are read after the numbers of its event
+  options_are : {X : Type 0} (p : Named → Bool) (options : List Named) (last : Result X Named) (x : X)
+      → bodies_read values kind target ≡ answer (find p of_bodies) (bodies_by values target)
+      → axes_read values kind ≡ answer (find p of_axes) (axes_by values)
+      → numbers_read values kind ≡ answer (find p of_numbers) (numbers_by values kind)
+      → last ≡ answer (find p options) x
+      → ends_read values ≡ answer (find p of_ends) (ends_by values)
+      → limits_read values ≡ answer (find p of_limits) (limits_by values)
+      → search_read last values kind target
+      ≡ answer (find p (((of_bodies ++ of_axes) ++ (of_numbers ++ options)) ++ (of_ends ++ of_limits))) (search_by_options values kind target, x)
   unfolding ask_of
-  ask_is =
-      made_is (ask_of_parts kind) (find finds of_ask) _ _ (paired finds (of_bodies ++ of_axes) (of_numbers ++ opt.Dir ∷ []) _ _ _ _
-      (paired finds of_bodies of_axes _ _ _ _ bodies_are axes_are)
-      (paired finds of_numbers (opt.Dir ∷ []) _ _ _ _ numbers_are (of_one dir_of opt.Dir Optional refl)))
+  options_are p options last x bodies axes numbers rest ends limits =
+      let asked = (of_bodies ++ of_axes) ++ (of_numbers ++ options) in
+      made_is search_of_parts (find p (asked ++ (of_ends ++ of_limits))) _ _ (paired p asked (of_ends ++ of_limits) _ _ _ _
+      (made_is (ask_of_parts kind) (find p asked) _ _ (paired p (of_bodies ++ of_axes) (of_numbers ++ options) _ _ _ _
+      (paired p of_bodies of_axes _ _ _ _ bodies axes) (paired p of_numbers options _ _ _ _ numbers rest)))
+      (paired p of_ends of_limits _ _ _ _ ends limits))
 
-  ends_are : ends_read values ≡ answer (find finds of_ends) (ends_by values)
-  ends_are =
-      made_is ends_of (find finds of_ends) _ _ (paired finds (opt.Tick ∷ []) (opt.From ∷ opt.To ∷ []) _ _ _ _
-      (of_one tick_of_word opt.Tick Optional refl) (paired finds (opt.From ∷ []) (opt.To ∷ []) _ _ _ _
-      (of_one (instant_of (tick_in values)) opt.From Optional refl) (of_one (instant_of (tick_in values)) opt.To Optional refl)))
-
-  limits_are : limits_read values ≡ answer (find finds of_limits) (limits_by values)
-  limits_are =
-      made_is limits_of (find finds of_limits) _ _
-      (paired finds (opt.Width ∷ opt.Depth ∷ []) (opt.Workers ∷ opt.Cut ∷ []) _ _ _ _
-      (paired finds (opt.Width ∷ []) (opt.Depth ∷ []) _ _ _ _
-      (of_one width_of opt.Width Optional refl) (of_one depth_of opt.Depth Optional refl))
-      (paired finds (opt.Workers ∷ []) (opt.Cut ∷ []) _ _ _ _
-      (of_one workers_of opt.Workers Optional refl) (of_one cut_of opt.Cut Optional refl)))
-
-  options_are : search_read values kind target ≡ answer (find finds (drop 2 FIND_OPTIONS)) (search_by_options values kind target)
-  options_are =
-      made_is search_of_parts (find finds (drop 2 FIND_OPTIONS)) _ _ (paired finds of_ask (of_ends ++ of_limits) _ _ _ _ ask_is
-      (paired finds of_ends of_limits _ _ _ _ ends_are limits_are))
-
--- the words give a kind and a target
-pub record AreKnown (values : Values) (kind : Kind) (target : Body) : Type 0 where
-  pub kind_is : option_and_then kind_of (values opt.Kind) ≡ Some kind
+-- the words give a kind, which is read so, and a target
+pub record AreKnown (form : Text → Option Kind) (values : Values) (kind : Kind) (target : Body) : Type 0 where
+  pub kind_is : option_and_then form (values opt.Kind) ≡ Some kind
   pub target_is : option_and_then target_of (values opt.Target) ≡ Some target
 
-search_is_read : (values : Values) (kind : Kind) (target : Body) → AreKnown values kind target
-    → search_read values kind target ≡ answer (bad_option values kind) (search_by_options values kind target)
+-- the first two options are good
+after_two : (p : Named → Bool) (rest : List Named) → p opt.Kind ≡ false → p opt.Target ≡ false
+    → find p rest ≡ find p (opt.Kind ∷ opt.Target ∷ rest)
+after_two p rest kind target =
+    sym (ap (λ (b : Bool). cond b (Some opt.Kind) (find p (opt.Target ∷ rest))) kind
+    ∙ ap (λ (b : Bool). cond b (Some opt.Target) (find p rest)) target)
+
+search_is_read : (values : Values) (kind : Kind) (target : Body) → AreKnown kind_of values kind target
+    → search_read (turns_read values) values kind target
+    ≡ answer (bad_option values kind) (search_by_options values kind target, option_and_then dir_of (values opt.Dir))
 unfolding bad_option
 search_is_read values kind target known =
     let p : Named → Bool = finds values kind target in
-    let kind_good : p opt.Kind ≡ false = known_good kind_of (values opt.Kind) kind known.kind_is in
-    let target_good : p opt.Target ≡ false = known_good target_of (values opt.Target) target known.target_is in
-    let second : find p (drop 1 FIND_OPTIONS) ≡ find p (drop 2 FIND_OPTIONS) =
-    ap (λ (b : Bool). cond b (Some opt.Target) (find p (drop 2 FIND_OPTIONS))) target_good in
-    let first : find p FIND_OPTIONS ≡ find p (drop 1 FIND_OPTIONS) =
-    ap (λ (b : Bool). cond b (Some opt.Kind) (find p (drop 1 FIND_OPTIONS))) kind_good in
-    options_are values kind target
-    ∙ ap (λ (o : Option Named). answer o (search_by_options values kind target)) (sym (first ∙ second))
+    options_are values kind target p (opt.Dir ∷ []) _ _ (bodies_are values kind target) (axes_are values kind target)
+    (numbers_are values kind target) (turns_are values) (ends_are values) (limits_are values)
+    ∙ ap (λ (o : Option Named). answer o (search_by_options values kind target, option_and_then dir_of (values opt.Dir)))
+    (after_two p (drop 2 FIND_OPTIONS) (known_good kind_of (values opt.Kind) kind known.kind_is)
+    (known_good target_of (values opt.Target) target known.target_is))
 
-pub known : {X : Type 0} (form : Text → Option X) (option : Named) (given : Option Text) (x : X) → Ok x ≡ needed form option given
-    → option_and_then form given ≡ Some x
-known {X = X} form option given x is = one (option_and_then form given) is
-  where
-    one : (read : Option X) → Ok x ≡ required option read → read ≡ Some x
-    one None is = absurd (cc)
-    one (Some other) is = let same : x ≡ other = cc in ap (λ (y : X). Some y) (sym same)
+-- ---- sets
 
-pub no_kind : (values : Values) (files : List Text) (option : Named) → Err option ≡ needed kind_of opt.Kind (values opt.Kind)
+module _ (kind : Kind) (p : Named → Bool) (ref2 : Option Text) where
+  one_bad_relation : (x : References) → p opt.Relation ≡ true → Err opt.Relation ≡ answer (find p of_references) x
+  one_bad_relation x is = rw is refl
+
+  good_relation : (relation : Relation) → p opt.Relation ≡ false
+      → p opt.Ref2 ≡ is_misread decimal_of (use_of_ref2 (Some relation)) ref2
+      → references_after ref2 (Ok relation)
+      ≡ answer (find p of_references) (references_of relation (option_and_then decimal_of ref2))
+  good_relation relation good second =
+      made_is (references_of relation) (find p (opt.Ref2 ∷ [])) _ _
+      (one_part decimal_of p opt.Ref2 (use_of_ref2 (Some relation)) ref2 second)
+      ∙ ap (λ (o : Option Named). answer o (references_of relation (option_and_then decimal_of ref2)))
+      (sym (ap (λ (b : Bool). cond b (Some opt.Relation) (find p (opt.Ref2 ∷ []))) good))
+
+  of_found : (found : Option Relation) → p opt.Relation ≡ not (is_some (passing (has_relation kind) found))
+      → p opt.Ref2 ≡ is_misread decimal_of (use_of_ref2 found) ref2
+      → references_after ref2 (required opt.Relation (passing (has_relation kind) found))
+      ≡ answer (find p of_references) (references_of (unwrap_or found Less) (option_and_then decimal_of ref2))
+  of_found None first second = one_bad_relation _ first
+  of_found (Some relation) first second = by (has_relation kind relation) first
+    where
+      by : (b : Bool) → p opt.Relation ≡ not (is_some (cond b (Some relation) None))
+          → references_after ref2 (required opt.Relation (cond b (Some relation) None))
+          ≡ answer (find p of_references) (references_of relation (option_and_then decimal_of ref2))
+      by true is = good_relation relation is second
+      by false is = one_bad_relation _ is
+
+  of_relation : (given : Option Text) → p opt.Relation ≡ is_misread (relation_for kind) Needed given
+      → p opt.Ref2 ≡ is_misread decimal_of (use_of_ref2 (option_and_then relation_of given)) ref2
+      → references_after ref2 (needed (relation_for kind) opt.Relation given)
+      ≡ answer (find p of_references) (references_of (unwrap_or (option_and_then relation_of given) Less) (option_and_then decimal_of ref2))
+  of_relation None first second = one_bad_relation _ first
+  of_relation (Some word) first second = of_found (relation_of word) first second
+
+set_is_read : (values : Values) (kind : Kind) (target : Body) → AreKnown set_kind_of values kind target
+    → search_read (references_read values kind) values kind target
+    ≡ answer (bad_in_set values kind) (search_by_options values kind target, references_by values)
+unfolding bad_in_set
+set_is_read values kind target known =
+    let p : Named → Bool = is_bad_in_set values kind in
+    options_are values kind target p of_references _ _ (bodies_are values kind target) (axes_are values kind target)
+    (numbers_are values kind target) (of_relation kind p (values opt.Ref2) (values opt.Relation) refl refl)
+    (ends_are values) (limits_are values)
+    ∙ ap (λ (o : Option Named). answer o (search_by_options values kind target, references_by values))
+    (after_two p (drop 2 SET_OPTIONS) (known_good set_kind_of (values opt.Kind) kind known.kind_is)
+    (known_good target_of (values opt.Target) target known.target_is))
+
+-- ---- kinds and targets
+
+abbrev bad_value : Named → Result FindAsk WordFault
+bad_value option = Err (BadValue option)
+
+module _ (form : Text → Option Kind) (bad : Kind → Option Named) (values : Values) (files : List Text) where
+  -- the first of the two that is bad
+  pub not_known : (option : Named)
+      → Err option ≡ pair (needed form opt.Kind (values opt.Kind)) (needed target_of opt.Target (values opt.Target))
+      → search_of_kind bad values files (option_and_then form (values opt.Kind)) ≡ Err (BadValue option)
+  not_known option is = by (option_and_then form (values opt.Kind)) (option_and_then target_of (values opt.Target)) refl is
+    where
+      fault : (other : Named) → option ≡ other → bad_value other ≡ bad_value option
+      fault other same = ap bad_value (sym same)
+
+      by : (one : Option Kind) (other : Option Body) → option_and_then target_of (values opt.Target) ≡ other
+          → Err option ≡ pair (required opt.Kind one) (required opt.Target other)
+          → search_of_kind bad values files one ≡ Err (BadValue option)
+      by None None second e = fault opt.Kind cc
+      by None (Some y) second e = fault opt.Kind cc
+      by (Some x) None second e = ap (search_of_target bad values files x) second ∙ fault opt.Target cc
+      by (Some x) (Some y) second e = absurd (cc)
+
+  -- where both are there, the first option that the kind finds bad
+  of_known : (kind : Kind) (target : Body) → AreKnown form values kind target
+      → search_of_kind bad values files (option_and_then form (values opt.Kind)) ≡ checked_search values kind target files (bad kind)
+  of_known kind target known =
+      ap (search_of_kind bad values files) known.kind_is ∙ ap (search_of_target bad values files kind) known.target_is
+
+  all_good : {X : Type 0} (kind : Kind) (target : Body) (read : Result X Named) (x y : X) → AreKnown form values kind target
+      → read ≡ answer (bad kind) y → Ok x ≡ read
+      → (x ≡ y) × (search_of_kind bad values files (option_and_then form (values opt.Kind)) ≡ Ok (search_of values kind target files))
+  all_good kind target read x y known is found =
+      let none = none_bad (bad kind) y x (found ∙ is) in
+      (none.1, of_known kind target known ∙ ap (checked_search values kind target files) none.0)
+
+  option_bad : {X : Type 0} (kind : Kind) (target : Body) (read : Result X Named) (option : Named) (y : X)
+      → AreKnown form values kind target → read ≡ answer (bad kind) y → Err option ≡ read
+      → search_of_kind bad values files (option_and_then form (values opt.Kind)) ≡ Err (BadValue option)
+  option_bad kind target read option y known is found =
+      of_known kind target known
+      ∙ ap (checked_search values kind target files) (one_bad (bad kind) y option (found ∙ is))
+
+-- a search that was read, or the first option that is bad
+pub search_found : (values : Values) (files : List Text) (kind : Kind) (target : Body) (last : Result (Option Dir) Named)
+    (search : SearchOptions) (turns : Option Dir) → AreKnown kind_of values kind target → last ≡ turns_read values
+    → Ok (search, turns) ≡ search_read last values kind target
+    → ((search ≡ search_by_options values kind target) × (turns ≡ option_and_then dir_of (values opt.Dir)))
+    × (search_by values files ≡ Ok (search_of values kind target files))
+unfolding search_by
+search_found values files kind target last search turns known last_is read =
+    let is = ap (λ (l : Result (Option Dir) Named). search_read l values kind target) last_is ∙ search_is_read values kind target known in
+    let all = all_good kind_of (bad_option values) values files kind target _ _ _ known is read in
+    ((λ i. (all.0 i).0, λ i. (all.0 i).1), all.1)
+
+pub search_bad : (values : Values) (files : List Text) (kind : Kind) (target : Body) (last : Result (Option Dir) Named)
+    (option : Named) → AreKnown kind_of values kind target → last ≡ turns_read values
+    → Err option ≡ search_read last values kind target → search_by values files ≡ Err (BadValue option)
+unfolding search_by
+search_bad values files kind target last option known last_is read =
+    let is = ap (λ (l : Result (Option Dir) Named). search_read l values kind target) last_is ∙ search_is_read values kind target known in
+    option_bad kind_of (bad_option values) values files kind target _ option _ known is read
+
+pub search_unknown : (values : Values) (files : List Text) (option : Named)
+    → Err option ≡ pair (needed kind_of opt.Kind (values opt.Kind)) (needed target_of opt.Target (values opt.Target))
     → search_by values files ≡ Err (BadValue option)
 unfolding search_by
-no_kind values files option is = one (option_and_then kind_of (values opt.Kind)) is
+search_unknown values files = not_known kind_of (bad_option values) values files
+
+-- and of a set
+pub set_found : (values : Values) (files : List Text) (kind : Kind) (target : Body) (last : Result References Named)
+    (search : SearchOptions) (references : References) → AreKnown set_kind_of values kind target
+    → last ≡ references_read values kind → Ok (search, references) ≡ search_read last values kind target
+    → ((search ≡ search_by_options values kind target) × (references ≡ references_by values))
+    × (set_search_by values files ≡ Ok (search_of values kind target files))
+unfolding set_search_by
+set_found values files kind target last search references known last_is read =
+    let is = ap (λ (l : Result References Named). search_read l values kind target) last_is ∙ set_is_read values kind target known in
+    let all = all_good set_kind_of (bad_in_set values) values files kind target _ _ _ known is read in
+    ((λ i. (all.0 i).0, λ i. (all.0 i).1), all.1)
+
+pub set_bad : (values : Values) (files : List Text) (kind : Kind) (target : Body) (last : Result References Named)
+    (option : Named) → AreKnown set_kind_of values kind target → last ≡ references_read values kind
+    → Err option ≡ search_read last values kind target → set_search_by values files ≡ Err (BadValue option)
+unfolding set_search_by
+set_bad values files kind target last option known last_is read =
+    let is = ap (λ (l : Result References Named). search_read l values kind target) last_is ∙ set_is_read values kind target known in
+    option_bad set_kind_of (bad_in_set values) values files kind target _ option _ known is read
+
+pub set_unknown : (values : Values) (files : List Text) (option : Named)
+    → Err option ≡ pair (needed set_kind_of opt.Kind (values opt.Kind)) (needed target_of opt.Target (values opt.Target))
+    → set_search_by values files ≡ Err (BadValue option)
+unfolding set_search_by
+set_unknown values files = not_known set_kind_of (bad_in_set values) values files
+
+-- ---- scalars
+
+mapped_some : {A B : Type 0} (f : A → B) (found : Option A) → is_some (option_map f found) ≡ is_some found
+mapped_some f None = refl
+mapped_some f (Some x) = refl
+
+quad_misread : (given : Option Text) → is_misread quad_of Needed given ≡ is_misread polynomial_of Needed given
+quad_misread None = refl
+quad_misread (Some word) = ap not (sym (mapped_some as_polynomial (quad_of word)))
+
+quad_value : (given : Option Text)
+    → value_or polynomial_of (as_polynomial nought_quad) given ≡ as_polynomial (value_or quad_of nought_quad given)
+quad_value None = refl
+quad_value (Some word) = by (quad_of word)
   where
-    one : (read : Option Kind) → Err option ≡ required opt.Kind read → search_of_kind values files read ≡ Err (BadValue option)
-    one None is = let same : option ≡ opt.Kind = cc in ap (λ (o : Named). Err (BadValue o)) (sym same)
-    one (Some kind) is = absurd (cc)
+    by : (found : Option Quadratic)
+        → unwrap_or (option_map as_polynomial found) (as_polynomial nought_quad) ≡ as_polynomial (unwrap_or found nought_quad)
+    by None = refl
+    by (Some k) = refl
 
-of_known_kind : (values : Values) (files : List Text) (kind : Kind) → option_and_then kind_of (values opt.Kind) ≡ Some kind
-    → search_by values files ≡ search_of_target values files kind (option_and_then target_of (values opt.Target))
-unfolding search_by
-of_known_kind values files kind is = ap (search_of_kind values files) is
+scalar_is_read : (values : Values) → scalar_read values ≡ answer (bad_in_scalar values) (scalar_by_options values)
+unfolding bad_in_scalar
+scalar_is_read values =
+    let p : Named → Bool = is_bad_in_scalar values in
+    made_is scalar_of_parts (bad_in_scalar values) _ _
+    (paired p (opt.Quad ∷ opt.Dir ∷ []) ((opt.From ∷ opt.To ∷ []) ++ of_limits) _ _ _ _
+    (paired p (opt.Quad ∷ []) (opt.Dir ∷ []) _ _ _ _
+    (needed_part polynomial_of p opt.Quad (values opt.Quad) (as_polynomial nought_quad) (quad_misread (values opt.Quad)))
+    (turns_are values))
+    (paired p (opt.From ∷ opt.To ∷ []) of_limits _ _ _ _
+    (paired p (opt.From ∷ []) (opt.To ∷ []) _ _ _ _
+    (needed_part scalar_time_of p opt.From (values opt.From) (pos 0) refl)
+    (needed_part scalar_time_of p opt.To (values opt.To) (pos 0) refl))
+    (limits_are values)))
+    ∙ ap (λ (k : Polynomial). answer (bad_in_scalar values) (record (scalar_by_options values) { polynomial = k }))
+    (quad_value (values opt.Quad))
 
-pub no_target : (values : Values) (files : List Text) (kind : Kind) (option : Named)
-    → option_and_then kind_of (values opt.Kind) ≡ Some kind → Err option ≡ needed target_of opt.Target (values opt.Target)
-    → search_by values files ≡ Err (BadValue option)
-no_target values files kind option kind_is is =
-    of_known_kind values files kind kind_is ∙ one (option_and_then target_of (values opt.Target)) is
-  where
-    one : (read : Option Body) → Err option ≡ required opt.Target read → search_of_target values files kind read ≡ Err (BadValue option)
-    one None is = let same : option ≡ opt.Target = cc in ap (λ (o : Named). Err (BadValue o)) (sym same)
-    one (Some target) is = absurd (cc)
+pub scalar_found : (values : Values) (options : ScalarOptions) → Ok options ≡ scalar_read values
+    → (options ≡ scalar_by_options values) × (scalar_by values ≡ Ok (Scalar (scalar_of values)))
+unfolding scalar_by
+scalar_found values options read =
+    let found = none_bad (bad_in_scalar values) (scalar_by_options values) options (read ∙ scalar_is_read values) in
+    (found.1, ap (checked_scalar values) found.0)
 
-of_known : (values : Values) (files : List Text) (kind : Kind) (target : Body) → AreKnown values kind target
-    → search_by values files ≡ checked_search values kind target files (bad_option values kind)
-of_known values files kind target known =
-    of_known_kind values files kind known.kind_is ∙ ap (search_of_target values files kind) known.target_is
-
-pub search_of_options : (values : Values) (kind : Kind) (target : Body) (search : SearchOptions) → AreKnown values kind target
-    → Ok search ≡ search_read values kind target → search ≡ search_by_options values kind target
-search_of_options values kind target search known read =
-    (none_bad (bad_option values kind) (search_by_options values kind target) search
-    (read ∙ search_is_read values kind target known)).1
-
-pub search_found : (values : Values) (kind : Kind) (target : Body) (files : List Text) (search : SearchOptions) (asked : FindAsk)
-    → AreKnown values kind target → Ok search ≡ search_read values kind target
-    → asked ≡ search_of values kind target files → search_by values files ≡ Ok asked
-search_found values kind target files search asked known read is =
-    let none = (none_bad (bad_option values kind) (search_by_options values kind target) search
-    (read ∙ search_is_read values kind target known)).0 in
-    of_known values files kind target known ∙ ap (checked_search values kind target files) none
-    ∙ ap (λ (f : FindAsk). Ok f) (sym is)
-
-pub option_bad : (values : Values) (kind : Kind) (target : Body) (files : List Text) (option : Named) → AreKnown values kind target
-    → Err option ≡ search_read values kind target → search_by values files ≡ Err (BadValue option)
-option_bad values kind target files option known read =
-    of_known values files kind target known
-    ∙ ap (checked_search values kind target files)
-    (one_bad (bad_option values kind) (search_by_options values kind target) option
-    (read ∙ search_is_read values kind target known))
+pub scalar_bad : (values : Values) (option : Named) → Err option ≡ scalar_read values → scalar_by values ≡ Err (BadValue option)
+unfolding scalar_by
+scalar_bad values option read =
+    ap (checked_scalar values) (one_bad (bad_in_scalar values) (scalar_by_options values) option (read ∙ scalar_is_read values))
 
 -- ---- generated texts
 

@@ -1,4 +1,5 @@
 mod Parsing
+mod Numbers
 mod Faults
 mod Rules
 mod Pairs

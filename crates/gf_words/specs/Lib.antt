@@ -1,4 +1,5 @@
 pub mod Readings
+pub mod Polynomials
 pub mod Parts
 pub mod Commands
 pub mod Answers

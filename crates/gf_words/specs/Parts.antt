@@ -1,5 +1,5 @@
 -- The parts of a request, read one after another in the order of the tables of options.
-use Rattle.std.specs.Prelude.{ℕ, ℤ, Option, None, Some, Result, Ok, Err, if◌then◌else◌, option_and_then, option_map, unwrap_or}
+use Rattle.std.specs.Prelude.{ℕ, ℤ, List, Option, None, Some, Result, Ok, Err, if◌then◌else◌, option_and_then, option_map, unwrap_or, pos}
 use Rattle.spec_text.specs.declared.decimals.Decimal.{Decimal}
 use Rattle.spec_ephemeris.specs.declared.body.Body.{Body}
 use Rattle.spec_ephemeris.specs.declared.body.Body.TheVariants.{Ssb}
@@ -14,14 +14,21 @@ use Rattle.spec_kinds.specs.declared.kind.Kind.{Kind}
 use Rattle.spec_kinds.specs.declared.table.Use.{Use}
 use Rattle.spec_kinds.specs.declared.table.Use.TheVariants.{Needed, Optional, Unused}
 use Rattle.spec_kinds.specs.Table.{row_of, takes_radii}
+use Rattle.spec_requests.specs.declared.request.FindAsk.{FindAsk}
 use Rattle.spec_requests.specs.declared.request.Named.{Named}
 use Rattle.spec_requests.specs.declared.request.Named.TheVariants as opt
+use Rattle.spec_requests.specs.declared.request.Relation.{Relation}
+use Rattle.spec_requests.specs.declared.request.Relation.TheVariants.{Less}
 use Rattle.spec_requests.specs.declared.request.Request.{Request}
 use Rattle.spec_requests.specs.declared.request.Request.TheVariants.{Gen}
 use Rattle.spec_requests.specs.declared.limits.TheConstants.{DEFAULT_TICK, DEFAULT_WIDTH, DEFAULT_DEPTH, DEFAULT_WORKERS}
 use Rattle.spec_requests.specs.Names.{Text, axis_of, cut_of, dir_of, frame_of, layout_of, observer_of, target_of, tick_of_word}
-use Rattle.spec_requests.specs.Options.{Values, blocks_of, decimal_of, depth_of, instant_of, seed_of, tick_in, width_of, workers_of}
-use Rattle.spec_requests.specs.Requests.{ask_of, first_number, nought, value_or}
+use Rattle.spec_requests.specs.Options.{Values, blocks_of, decimal_of, depth_of, instant_of, relation_for, relation_in, scalar_time_of, seed_of, tick_in, use_of_ref2, width_of, workers_of}
+use Rattle.spec_requests.specs.Requests.{ask_of, first_number, nought, quad_in, value_or}
+use Rattle.gf_words.specs.declared.polynomials.Polynomial.{Polynomial}
+use Rattle.gf_words.specs.declared.scalars.ScalarOptions.{ScalarOptions}
+use Rattle.gf_words.specs.declared.sets.References.{References}
+use Rattle.gf_words.specs.Polynomials.{as_polynomial, polynomial_of}
 use Rattle.gf_words.specs.declared.searches.Axes.{Axes}
 use Rattle.gf_words.specs.declared.searches.Bodies.{Bodies}
 use Rattle.gf_words.specs.declared.searches.Ends.{Ends}
@@ -118,22 +125,26 @@ abbrev pub numbers_read : Values → Kind → Result Numbers Named
 numbers_read values kind = made (numbers_of kind)
     (pair (part decimal_of opt.Ref (row_of kind).reference (values opt.Ref)) (radii_read values kind))
 
-abbrev pub ask_of_parts : Kind → (Bodies × Axes) × (Numbers × Option Dir) → Ask
-ask_of_parts kind ((bodies, axes), (numbers, turns)) = record {
-  kind = kind;
-  target = bodies.target;
-  second = bodies.second;
-  observer = bodies.observer;
-  frame = axes.frame;
-  axis = axes.axis;
-  value1 = numbers.value1;
-  value2 = numbers.value2;
-  dir = unwrap_or turns dir.Any;
-}
+-- the ask, for all turns, and what is read after its numbers
+abbrev pub ask_of_parts : {X : Type 0} → Kind → (Bodies × Axes) × (Numbers × X) → Ask × X
+ask_of_parts kind ((bodies, axes), (numbers, last)) = (
+  record {
+    kind = kind;
+    target = bodies.target;
+    second = bodies.second;
+    observer = bodies.observer;
+    frame = axes.frame;
+    axis = axes.axis;
+    value1 = numbers.value1;
+    value2 = numbers.value2;
+    dir = dir.Any;
+  },
+  last,
+)
 
-abbrev pub ask_read : Values → Kind → Body → Result Ask Named
-ask_read values kind target = made (ask_of_parts kind) (pair (pair (bodies_read values kind target) (axes_read values kind))
-    (pair (numbers_read values kind) (part dir_of opt.Dir Optional (values opt.Dir))))
+abbrev pub ask_read : {X : Type 0} → Result X Named → Values → Kind → Body → Result (Ask × X) Named
+ask_read last values kind target = made (ask_of_parts kind)
+    (pair (pair (bodies_read values kind target) (axes_read values kind)) (pair (numbers_read values kind) last))
 
 abbrev pub ends_by : Values → Ends
 ends_by values = record {
@@ -173,16 +184,82 @@ limits_read values = made limits_of
     (pair (pair (part width_of opt.Width Optional (values opt.Width)) (part depth_of opt.Depth Optional (values opt.Depth)))
     (pair (part workers_of opt.Workers Optional (values opt.Workers)) (part cut_of opt.Cut Optional (values opt.Cut))))
 
--- a search without its texts
+-- a search for all turns without its texts
 abbrev pub search_by_options : Values → Kind → Body → SearchOptions
-search_by_options values kind target = record { ask = ask_of values kind target; ends = ends_by values; limits = limits_by values }
+search_by_options values kind target =
+    record { ask = record (ask_of values kind target) { dir = dir.Any }; ends = ends_by values; limits = limits_by values }
 
-abbrev pub search_of_parts : Ask × (Ends × Limits) → SearchOptions
-search_of_parts (ask, (ends, limits)) = record { ask = ask; ends = ends; limits = limits }
+-- the search for these turns, with its texts
+abbrev pub search_with_texts : SearchOptions → Dir → Text → List Text → FindAsk
+search_with_texts search turns values files = record {
+  ask = record search.ask { dir = turns };
+  values = values;
+  tick = search.ends.tick;
+  from = search.ends.from;
+  to = search.ends.to;
+  width = pos search.limits.width;
+  depth = search.limits.depth;
+  workers = search.limits.workers;
+  cut = search.limits.cut;
+  files = files;
+}
 
-abbrev pub search_read : Values → Kind → Body → Result SearchOptions Named
-search_read values kind target =
-    made search_of_parts (pair (ask_read values kind target) (pair (ends_read values) (limits_read values)))
+abbrev pub search_of_parts : {X : Type 0} → (Ask × X) × (Ends × Limits) → SearchOptions × X
+search_of_parts ((ask, last), (ends, limits)) = (record { ask = ask; ends = ends; limits = limits }, last)
+
+-- a search without its texts, and what is read after the numbers of its event
+abbrev pub search_read : {X : Type 0} → Result X Named → Values → Kind → Body → Result (SearchOptions × X) Named
+search_read last values kind target =
+    made search_of_parts (pair (ask_read last values kind target) (pair (ends_read values) (limits_read values)))
+
+-- which turns a search wants
+abbrev pub turns_read : Values → Result (Option Dir) Named
+turns_read values = part dir_of opt.Dir Optional (values opt.Dir)
+
+-- ---- the parts of a set
+
+abbrev pub references_by : Values → References
+references_by values = record {
+  relation = unwrap_or (relation_in values) Less;
+  ref2 = option_and_then decimal_of (values opt.Ref2);
+}
+
+abbrev pub references_of : Relation → Option Decimal → References
+references_of relation ref2 = record { relation = relation; ref2 = ref2 }
+
+-- the relation, and the second reference as it uses it
+abbrev pub references_after : Option Text → Result Relation Named → Result References Named
+references_after given (Ok relation) =
+    made (references_of relation) (part decimal_of opt.Ref2 (use_of_ref2 (Some relation)) given)
+references_after given (Err option) = Err option
+
+abbrev pub references_read : Values → Kind → Result References Named
+references_read values kind =
+    references_after (values opt.Ref2) (needed (relation_for kind) opt.Relation (values opt.Relation))
+
+-- ---- the parts of a scalar
+
+abbrev pub scalar_by_options : Values → ScalarOptions
+scalar_by_options values = record {
+  polynomial = as_polynomial (quad_in values);
+  dir = value_or dir_of dir.Any (values opt.Dir);
+  from = value_or scalar_time_of (pos 0) (values opt.From);
+  to = value_or scalar_time_of (pos 0) (values opt.To);
+  limits = limits_by values;
+}
+
+abbrev pub scalar_of_parts : (Polynomial × Option Dir) × ((ℤ × ℤ) × Limits) → ScalarOptions
+scalar_of_parts ((polynomial, turns), ((from, to), limits)) =
+    record { polynomial = polynomial; dir = unwrap_or turns dir.Any; from = from; to = to; limits = limits }
+
+abbrev pub times_read : Values → Result (ℤ × ℤ) Named
+times_read values =
+    pair (needed scalar_time_of opt.From (values opt.From)) (needed scalar_time_of opt.To (values opt.To))
+
+abbrev pub scalar_read : Values → Result ScalarOptions Named
+scalar_read values = made scalar_of_parts
+    (pair (pair (needed polynomial_of opt.Quad (values opt.Quad)) (turns_read values))
+    (pair (times_read values) (limits_read values)))
 
 -- ---- the parts of a generated text
 

@@ -7,7 +7,8 @@ ghost use Rattle.gf_words.specs.Commands.{rule_of, with_rules};
 
 use clap::{Arg, ArgAction, Command};
 use spec_requests::{
-    CommandName, FIND_OPTIONS, GEN_OPTIONS, GEN_WORDS, Named, command_name, option_name,
+    CommandName, FIND_OPTIONS, GEN_OPTIONS, GEN_WORDS, Named, SCALAR_OPTIONS, SET_OPTIONS,
+    command_name, option_name,
 };
 use std::alloc::{AllocError, Global};
 
@@ -79,6 +80,8 @@ fn with_options<'a>(
         CommandName::Verify => with_certificate(alloc, command),
         CommandName::Check => with_all(alloc, command, Role::Option, &[]),
         CommandName::Gen => with_all(alloc, command, Role::Option, &GEN_OPTIONS),
+        CommandName::Set => with_all(alloc, command, Role::Option, &SET_OPTIONS),
+        CommandName::Scalar => with_all(alloc, command, Role::Option, &SCALAR_OPTIONS),
     }
 }
 
@@ -105,6 +108,8 @@ fn with_places<'a>(
         CommandName::Verify => with_files(alloc, command),
         CommandName::Check => with_files(alloc, command),
         CommandName::Gen => with_all(alloc, command, Role::Word, &GEN_WORDS),
+        CommandName::Set => with_files(alloc, command),
+        CommandName::Scalar => with_all(alloc, command, Role::Word, &[]),
     }
 }
 

@@ -22,7 +22,7 @@ use spec_trees::CutRule;
 use window_text::read_time;
 
 // What the word stands for: the value beside the first name of the table that it is.
-fn named<T: Copy>(table: &[(&'static str, T)], word: &str) -> Option<T>
+pub(crate) fn named<T: Copy>(table: &[(&'static str, T)], word: &str) -> Option<T>
     ensures { result ≡ named (rows_of table.now) word.now }
 {
     match table {
@@ -131,7 +131,7 @@ fn are_digits(word: &str, most: usize) -> bool
 }
 
 // The number from `least` to `most` that a word of 1 to `digits` digits is.
-fn number(word: &str, digits: usize, least: u64, most: u64) -> Option<u64>
+pub(crate) fn number(word: &str, digits: usize, least: u64, most: u64) -> Option<u64>
     ensures number { result ≡ number_of digits least most word.now }
     ensures most { IfSome result (λ number. number ≤ most) }
 {

@@ -5,12 +5,16 @@
 mod commands;
 mod forms;
 mod parts;
+mod polynomials;
 mod readings;
+mod relations;
 mod requests;
+mod scalars;
 mod searches;
+mod sets;
 #[cfg(test)]
 mod tests;
 mod texts;
 
 pub use requests::request;
-pub use spec_requests::{FindAsk, Named, Request, WordFault};
+pub use spec_requests::{FindAsk, Named, Relation, Request, ScalarAsk, WordFault};

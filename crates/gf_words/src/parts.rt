@@ -4,18 +4,20 @@ ghost use Rattle.spec_kinds.specs.declared.table.Use.TheVariants.{Optional};
 ghost use Rattle.spec_requests.specs.declared.request.Named.TheVariants as opt;
 ghost use Rattle.spec_ephemeris.specs.Ticks.{IsTick};
 ghost use Rattle.spec_requests.specs.Names.{axis_of, cut_of, dir_of, frame_of, kind_of, layout_of, observer_of, target_of, tick_of_word};
-ghost use Rattle.spec_requests.specs.Options.{blocks_of, decimal_of, depth_of, instant_of, name_of, seed_of, tick_in, width_of, workers_of};
+ghost use Rattle.spec_requests.specs.Options.{blocks_of, decimal_of, depth_of, instant_of, name_of, relation_for, scalar_time_of, seed_of, set_kind_of, tick_in, width_of, workers_of};
 ghost use Rattle.gf_words.specs.Parts.{by_use, left_out, needed, pair, part, required, used};
+ghost use Rattle.gf_words.specs.Polynomials.{polynomial_of};
 ghost use Rattle.gf_words.specs.Readings.{text_in, values_of};
 
-use crate::forms;
+use crate::polynomials::{self, Polynomial};
 use crate::readings::value;
+use crate::{forms, relations};
 use clap::ArgMatches;
 use spec_bodies::Frame;
 use spec_ephemeris::Body;
 use spec_events::Dir;
 use spec_kinds::{Kind, Use};
-use spec_requests::{DEFAULT_TICK, Named};
+use spec_requests::{DEFAULT_TICK, Named, Relation};
 use spec_text::Decimal;
 use spec_trees::CutRule;
 
@@ -75,6 +77,14 @@ pub(crate) fn kind(matches: &ArgMatches<'_>) -> Result<Kind, Named>
     required(Named::Kind, read)
 }
 
+// The kind of a set.
+pub(crate) fn set_kind(matches: &ArgMatches<'_>) -> Result<Kind, Named>
+    ensures { result ≡ needed set_kind_of opt.Kind (values_of matches.now opt.Kind) }
+{
+    let read = value(matches, Named::Kind).and_then(relations::kind);
+    required(Named::Kind, read)
+}
+
 pub(crate) fn target(matches: &ArgMatches<'_>) -> Result<Body, Named>
     ensures { result ≡ needed target_of opt.Target (values_of matches.now opt.Target) }
 {
@@ -110,7 +120,7 @@ pub(crate) fn axis(matches: &ArgMatches<'_>, usage: Use) -> Result<Option<u8>, N
     check_use(Named::Axis, usage, read)
 }
 
-// A number of the event: its reference value, or a radius.
+// A number of the event: a reference value, or a radius.
 pub(crate) fn number(
     matches: &ArgMatches<'_>,
     option: Named,
@@ -120,6 +130,16 @@ pub(crate) fn number(
 {
     let read = value(matches, option).map(forms::decimal);
     check_use(option, usage, read)
+}
+
+// A relation that the kind has.
+pub(crate) fn relation(matches: &ArgMatches<'_>, kind: Kind) -> Result<Relation, Named>
+    ensures { result ≡ needed (relation_for kind) opt.Relation (values_of matches.now opt.Relation) }
+{
+    match value(matches, Named::Relation) {
+        Some(word) => required(Named::Relation, relations::relation(kind, word)),
+        None => required(Named::Relation, None),
+    }
 }
 
 pub(crate) fn dir(matches: &ArgMatches<'_>) -> Result<Option<Dir>, Named>
@@ -208,6 +228,21 @@ pub(crate) fn seed(matches: &ArgMatches<'_>) -> Result<u64, Named>
 {
     let read = value(matches, Named::Seed).and_then(forms::seed);
     required(Named::Seed, read)
+}
+
+pub(crate) fn quad(matches: &ArgMatches<'_>) -> Result<Polynomial, Named>
+    ensures { result ≡ needed polynomial_of opt.Quad (values_of matches.now opt.Quad) }
+{
+    let read = value(matches, Named::Quad).and_then(polynomials::quad);
+    required(Named::Quad, read)
+}
+
+// An end of the span of a scalar.
+pub(crate) fn scalar_time(matches: &ArgMatches<'_>, option: Named) -> Result<i64, Named>
+    ensures { result ≡ needed scalar_time_of option (values_of matches.now option) }
+{
+    let read = value(matches, option).and_then(polynomials::time);
+    required(option, read)
 }
 
 // The name of the file that holds the certificate, where it has one.

@@ -10,7 +10,9 @@ ghost use Rattle.gf_words.specs.Readings.{file_names_of, values_of};
 
 use crate::commands::command;
 use crate::readings::{file_names, read};
+use crate::scalars::scalar;
 use crate::searches::{search, text};
+use crate::sets::set;
 use crate::texts::generated;
 use crate::{forms, parts};
 use clap::ArgMatches;
@@ -88,6 +90,8 @@ fn request_by(
         CommandName::Verify => verify(alloc, matches),
         CommandName::Check => check(alloc, matches),
         CommandName::Gen => generated(matches),
+        CommandName::Set => set(alloc, matches),
+        CommandName::Scalar => scalar(alloc, matches),
     }
 }
 

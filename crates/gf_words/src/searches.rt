@@ -1,12 +1,12 @@
 // The search that words ask for.
-ghost use Rattle.std.specs.Prelude.{◌≡◌, ◌++◌, IfOk, Some, codes, if◌then◌else◌, option_and_then, unwrap_or};
+ghost use Rattle.std.specs.Prelude.{◌≡◌, ◌++◌, IfOk, Some, if◌then◌else◌, option_and_then, unwrap_or};
 ghost use Rattle.spec_requests.specs.declared.request.Named.TheVariants as opt;
-ghost use Rattle.spec_requests.specs.Requests.{nought, search_by, search_of, values_text};
+ghost use Rattle.spec_requests.specs.Requests.{nought, ref2_text, search_by, search_of, values_text};
 ghost use Rattle.spec_kinds.specs.Table.{takes_radii};
-ghost use Rattle.spec_requests.specs.Names.{kind_of, target_of};
+ghost use Rattle.spec_requests.specs.Names.{dir_of, kind_of, target_of};
 ghost use Rattle.gf_words.specs.Answers.{Answers};
-ghost use Rattle.gf_words.specs.Parts.{ask_read, axes_read, bodies_read, ends_read, limits_read, numbers_read, radii_read, search_by_options, search_read, span_read};
-ghost use Rattle.gf_words.specs.Readings.{file_names_of, values_of};
+ghost use Rattle.gf_words.specs.Parts.{ask_read, axes_read, bodies_read, ends_read, limits_read, numbers_read, radii_read, search_by_options, search_read, search_with_texts, span_read};
+ghost use Rattle.gf_words.specs.Readings.{file_names_of, text_in, values_of};
 
 use crate::parts::{self, pair};
 use crate::readings::{file_names, value};
@@ -142,24 +142,33 @@ fn read_numbers(matches: &ArgMatches<'_>, kind: Kind) -> Result<Numbers, Named>
     }
 }
 
-fn read_ask(matches: &ArgMatches<'_>, kind: Kind, target: Body) -> Result<Ask, Named>
-    ensures { result ≡ ask_read (values_of matches.now) kind target }
+// What is asked of an ephemeris, for all turns, and what was read after the numbers of the event.
+fn read_ask<X: Copy>(
+    matches: &ArgMatches<'_>,
+    kind: Kind,
+    target: Body,
+    last: Result<X, Named>,
+) -> Result<(Ask, X), Named>
+    ensures { result ≡ ask_read last (values_of matches.now) kind target }
 {
     let bodies = read_bodies(matches, kind, target);
     let places = pair(bodies, read_axes(matches, kind));
-    let numbers = pair(read_numbers(matches, kind), parts::dir(matches));
+    let numbers = pair(read_numbers(matches, kind), last);
     match pair(places, numbers) {
-        Ok(((bodies, axes), (numbers, dir))) => Ok(Ask {
-            kind,
-            target: bodies.target,
-            second: bodies.second,
-            observer: bodies.observer,
-            frame: axes.frame,
-            axis: axes.axis,
-            value1: numbers.value1,
-            value2: numbers.value2,
-            dir: dir.unwrap_or(Dir::Any),
-        }),
+        Ok(((bodies, axes), (numbers, last))) => {
+            let ask = Ask {
+                kind,
+                target: bodies.target,
+                second: bodies.second,
+                observer: bodies.observer,
+                frame: axes.frame,
+                axis: axes.axis,
+                value1: numbers.value1,
+                value2: numbers.value2,
+                dir: Dir::Any,
+            };
+            Ok((ask, last))
+        }
         Err(option) => Err(option),
     }
 }
@@ -185,7 +194,7 @@ fn read_ends(matches: &ArgMatches<'_>) -> Result<Ends, Named>
     }
 }
 
-fn read_limits(matches: &ArgMatches<'_>) -> Result<Limits, Named>
+pub(crate) fn read_limits(matches: &ArgMatches<'_>) -> Result<Limits, Named>
     ensures { result ≡ limits_read (values_of matches.now) }
 {
     let sizes = pair(parts::width(matches), parts::depth(matches));
@@ -201,19 +210,25 @@ fn read_limits(matches: &ArgMatches<'_>) -> Result<Limits, Named>
     }
 }
 
-fn options(matches: &ArgMatches<'_>, kind: Kind, target: Body) -> Result<SearchOptions, Named>
-    ensures { result ≡ search_read (values_of matches.now) kind target }
+/// A search for all turns without its texts, and what was read after the numbers of its event.
+pub(crate) fn read_search<X: Copy>(
+    matches: &ArgMatches<'_>,
+    kind: Kind,
+    target: Body,
+    last: Result<X, Named>,
+) -> Result<(SearchOptions, X), Named>
+    ensures { result ≡ search_read last (values_of matches.now) kind target }
 {
     let manner = pair(read_ends(matches), read_limits(matches));
-    match pair(read_ask(matches, kind, target), manner) {
-        Ok((ask, (ends, limits))) => Ok(SearchOptions { ask, ends, limits }),
+    match pair(read_ask(matches, kind, target, last), manner) {
+        Ok(((ask, last), (ends, limits))) => Ok((SearchOptions { ask, ends, limits }, last)),
         Err(option) => Err(option),
     }
 }
 
 // ---- the texts
 
-fn word_or<'a>(matches: &ArgMatches<'a>, option: Named, default: &'a str) -> &'a str
+pub(crate) fn word_or<'a>(matches: &ArgMatches<'a>, option: Named, default: &'a str) -> &'a str
     ensures { result.now ≡ unwrap_or (values_of matches.now option) default.entry.now }
 {
     match value(matches, option) {
@@ -228,22 +243,32 @@ pub(crate) fn text(alloc: Global, word: &str) -> Result<Text, AllocError>
     Ok(Text::new(String::from_str(alloc, word)?))
 }
 
-fn text_of_two(alloc: Global, first: &str, second: &str) -> Result<Text, AllocError>
-    ensures { IfOk result (λ text. text ≡ first.now ++ (codes "," ++ second.now)) }
+/// The text with a comma and a second word, where there is one.
+pub(crate) fn with_second(first: Text, second: Option<&str>) -> Result<Text, AllocError>
+    ensures { IfOk result (λ text. text ≡ first ++ ref2_text (text_in second.entry)) }
 {
-    let mut string = String::from_str(alloc, first)?;
-    string.push_str(",")?;
-    string.push_str(second)?;
-    Ok(Text::new(string))
+    match second {
+        Some(word) => {
+            let mut string = first.into_string();
+            string.push_str(",")?;
+            string.push_str(word)?;
+            Ok(Text::new(string))
+        }
+        None => Ok(first),
+    }
 }
 
-// The numbers of the event as they are given.
-fn values_text(alloc: Global, matches: &ArgMatches<'_>, kind: Kind) -> Result<Text, AllocError>
+/// The numbers of the event as they are given.
+pub(crate) fn values_text(
+    alloc: Global,
+    matches: &ArgMatches<'_>,
+    kind: Kind,
+) -> Result<Text, AllocError>
     ensures { IfOk result (λ text. text ≡ values_text (values_of matches.now) kind) }
 {
     if kind.takes_radii() {
-        let first = word_or(matches, Named::Radius1, "");
-        return text_of_two(alloc, first, word_or(matches, Named::Radius2, ""));
+        let first = text(alloc, word_or(matches, Named::Radius1, ""))?;
+        return with_second(first, Some(word_or(matches, Named::Radius2, "")));
     }
     if kind.reference().is_unused() {
         return text(alloc, "-");
@@ -251,21 +276,22 @@ fn values_text(alloc: Global, matches: &ArgMatches<'_>, kind: Kind) -> Result<Te
     text(alloc, word_or(matches, Named::Ref, "0"))
 }
 
-// The search with its texts.
-fn with_texts(
+/// The search for these turns, with these numbers as they are given and its files.
+pub(crate) fn with_texts(
     alloc: Global,
     matches: &ArgMatches<'_>,
-    kind: Kind,
-    target: Body,
     search: SearchOptions,
+    dir: Dir,
+    values: Text,
 ) -> Result<FindAsk, AllocError>
-    requires { search ≡ search_by_options (values_of matches.now) kind target }
     ensures { IfOk result (λ find.
-        find ≡ search_of (values_of matches.now) kind target (file_names_of matches.now)) }
+        find ≡ search_with_texts search dir values (file_names_of matches.now)) }
 {
+    let mut ask = search.ask;
+    ask.dir = dir;
     Ok(FindAsk {
-        ask: search.ask,
-        values: values_text(alloc, matches, kind)?,
+        ask,
+        values,
         tick: search.ends.tick,
         from: search.ends.from,
         to: search.ends.to,
@@ -275,6 +301,24 @@ fn with_texts(
         cut: search.limits.cut,
         files: file_names(alloc, matches)?,
     })
+}
+
+// The search as it was read, with its texts.
+fn found(
+    alloc: Global,
+    matches: &ArgMatches<'_>,
+    kind: Kind,
+    target: Body,
+    search: SearchOptions,
+    dir: Option<Dir>,
+) -> Result<FindAsk, AllocError>
+    requires search { search ≡ search_by_options (values_of matches.now) kind target }
+    requires turns { dir ≡ option_and_then dir_of (values_of matches.now opt.Dir) }
+    ensures { IfOk result (λ find.
+        find ≡ search_of (values_of matches.now) kind target (file_names_of matches.now)) }
+{
+    let values = values_text(alloc, matches, kind)?;
+    with_texts(alloc, matches, search, dir.unwrap_or(Dir::Any), values)
 }
 
 // The search of this kind and this target, or the first option that is bad.
@@ -288,21 +332,11 @@ fn search_of_target(
     requires target { option_and_then target_of (values_of matches.now opt.Target) ≡ Some target }
     ensures { Answers (search_by (values_of matches.now) (file_names_of matches.now)) result }
 {
-    match options(matches, kind, target) {
-        Ok(search) => match with_texts(alloc, matches, kind, target, search) {
+    match read_search(matches, kind, target, parts::dir(matches)) {
+        Ok((search, dir)) => match found(alloc, matches, kind, target, search, dir) {
             Ok(find) => Ok(find),
             Err(_) => Err(WordFault::Memory),
         },
-        Err(option) => Err(WordFault::BadValue(option)),
-    }
-}
-
-fn search_of_kind(alloc: Global, matches: &ArgMatches<'_>, kind: Kind) -> Result<FindAsk, WordFault>
-    requires { option_and_then kind_of (values_of matches.now opt.Kind) ≡ Some kind }
-    ensures { Answers (search_by (values_of matches.now) (file_names_of matches.now)) result }
-{
-    match parts::target(matches) {
-        Ok(target) => search_of_target(alloc, matches, kind, target),
         Err(option) => Err(WordFault::BadValue(option)),
     }
 }
@@ -311,8 +345,8 @@ fn search_of_kind(alloc: Global, matches: &ArgMatches<'_>, kind: Kind) -> Result
 pub(crate) fn search(alloc: Global, matches: &ArgMatches<'_>) -> Result<FindAsk, WordFault>
     ensures { Answers (search_by (values_of matches.now) (file_names_of matches.now)) result }
 {
-    match parts::kind(matches) {
-        Ok(kind) => search_of_kind(alloc, matches, kind),
+    match pair(parts::kind(matches), parts::target(matches)) {
+        Ok((kind, target)) => search_of_target(alloc, matches, kind, target),
         Err(option) => Err(WordFault::BadValue(option)),
     }
 }

@@ -1,9 +1,9 @@
-use Rattle.std.proofs.Common.{◌∙◌}
+use Rattle.std.proofs.Common.{◌∙◌, refl}
 use Rattle.gf_words.specs.Parts.{ask_of_parts}
 use Rattle.gf_words.proofs.Pairs.{along, first_bad}
 use Rattle.gf_words.proofs.searches.read_ask.Goals as goal
 
 pub returns-in-Err : goal.returns-in-Err
-returns-in-Err c =
+returns-in-Err g c =
     first_bad (ask_of_parts c.args.kind) c.in-Err.ensures
-    (along (c.pair-places.ensures ∙ along c.read_bodies-bodies.ensures c.read_axes.ensures) (c.pair-numbers.ensures ∙ along c.read_numbers.ensures c.dir.ensures))
+    (along (c.pair-places.ensures ∙ along c.read_bodies-bodies.ensures c.read_axes.ensures) (c.pair-numbers.ensures ∙ along c.read_numbers.ensures refl))

@@ -1,19 +1,26 @@
-use Rattle.std.proofs.Common.{inr}
+use Rattle.std.proofs.Common.{◌∙◌, Ok, ap, inr, sym}
+use Rattle.spec_requests.specs.declared.request.FindAsk.{FindAsk}
 use Rattle.gf_words.specs.Readings.{file_names_of, values_of}
-use Rattle.gf_words.proofs.Filling.{option_bad, search_found, search_of_options}
+use Rattle.gf_words.proofs.Filling.{search_bad, search_found}
 use Rattle.gf_words.proofs.searches.search_of_target.Goals as goal
 
-pub with_texts-requires : goal.with_texts-requires
-with_texts-requires c =
-    search_of_options (values_of c.args.matches.now) c.args.kind c.args.target c.in-Ok.search
-    (record { kind_is = c.requires.kind; target_is = c.requires.target }) c.in-Ok.ensures
+pub found-requires-clause-search : goal.found-requires-clause-search
+found-requires-clause-search c =
+    (search_found (values_of c.args.matches.now) (file_names_of c.args.matches.now) c.args.kind c.args.target c.dir.result c.in-Ok.search
+    c.in-Ok.dir (record { kind_is = c.requires.kind; target_is = c.requires.target }) c.dir.ensures c.in-Ok.ensures).0.0
 
-pub returns-in-Ok-with_texts : goal.returns-in-Ok-with_texts
-returns-in-Ok-with_texts c =
-    search_found (values_of c.args.matches.now) c.args.kind c.args.target (file_names_of c.args.matches.now) c.in-Ok.search
-    c.in-Ok-with_texts.find (record { kind_is = c.requires.kind; target_is = c.requires.target }) c.in-Ok.ensures c.in-Ok-with_texts.ensures
+pub found-requires-clause-turns : goal.found-requires-clause-turns
+found-requires-clause-turns c =
+    (search_found (values_of c.args.matches.now) (file_names_of c.args.matches.now) c.args.kind c.args.target c.dir.result c.in-Ok.search
+    c.in-Ok.dir (record { kind_is = c.requires.kind; target_is = c.requires.target }) c.dir.ensures c.in-Ok.ensures).0.1
+
+pub returns-in-Ok-found : goal.returns-in-Ok-found
+returns-in-Ok-found c =
+    (search_found (values_of c.args.matches.now) (file_names_of c.args.matches.now) c.args.kind c.args.target c.dir.result c.in-Ok.search
+    c.in-Ok.dir (record { kind_is = c.requires.kind; target_is = c.requires.target }) c.dir.ensures c.in-Ok.ensures).1
+    ∙ ap (λ (f : FindAsk). Ok f) (sym c.in-Ok-found.ensures)
 
 pub returns-in-Err : goal.returns-in-Err
 returns-in-Err c =
-    inr (option_bad (values_of c.args.matches.now) c.args.kind c.args.target (file_names_of c.args.matches.now) c.in-Err.option
-    (record { kind_is = c.requires.kind; target_is = c.requires.target }) c.in-Err.ensures)
+    inr (search_bad (values_of c.args.matches.now) (file_names_of c.args.matches.now) c.args.kind c.args.target c.dir.result
+    c.in-Err.option (record { kind_is = c.requires.kind; target_is = c.requires.target }) c.dir.ensures c.in-Err.ensures)

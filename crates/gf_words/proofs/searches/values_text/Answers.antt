@@ -1,5 +1,6 @@
-use Rattle.std.proofs.Common.{◌∙◌, sym, ap}
+use Rattle.std.proofs.Common.{◌∙◌, ◌++◌, Some, sym, ap}
 use Rattle.spec_requests.specs.Names.{Text}
+use Rattle.spec_requests.specs.Requests.{ref2_text}
 use Rattle.spec_kinds.specs.Table.{is_unused}
 use Rattle.gf_words.specs.Readings.{values_of}
 use Rattle.gf_words.proofs.Answering.{no_text, radii_text, ref_text}
@@ -8,17 +9,17 @@ use Rattle.gf_words.proofs.searches.values_text.Goals as goal
 
 pub returns-then-takes_radii : goal.returns-then-takes_radii
 returns-then-takes_radii c =
-    made_along (λ (text : Text). text) c.text_of_two.result _ _
-    (radii_text (values_of c.args.matches.now) c.args.kind c.word_or-first.result.now c.word_or.result.now
-    (sym c.takes_radii.ensures ∙ c.if-takes_radii.true) c.word_or-first.ensures c.word_or.ensures)
-    c.text_of_two.ensures
+    made_along (λ (text : Text). text) c.with_second.result _ _
+    (radii_text (values_of c.args.matches.now) c.args.kind c.in_ok-first.first c.word_or-then-takes_radii.result.now
+    (sym c.takes_radii.ensures ∙ c.if-takes_radii.true) (c.in_ok-first.ensures ∙ c.word_or.ensures) c.word_or-then-takes_radii.ensures)
+    c.with_second.ensures
 
 pub returns-then-is_unused : goal.returns-then-is_unused
 returns-then-is_unused c =
-    made_along (λ (text : Text). text) c.text.result _ _
+    made_along (λ (text : Text). text) c.text-then-is_unused.result _ _
     (no_text (values_of c.args.matches.now) c.args.kind (sym c.takes_radii.ensures ∙ c.if-takes_radii.false)
     (ap is_unused (sym c.reference.ensures) ∙ sym c.is_unused.ensures ∙ c.if-is_unused.true))
-    c.text.ensures
+    c.text-then-is_unused.ensures
 
 pub returns : goal.returns
 returns c =

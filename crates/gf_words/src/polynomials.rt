@@ -1,0 +1,120 @@
+// The numbers of scalars: what a word stands for.
+ghost use Rattle.std.specs.Prelude.{◌≡◌, ◌≤◌, IfSome, neg_ℤ, option_map, pos, unsigned_abs};
+ghost use Rattle.spec_requests.specs.Options.{at_comma, factor_of, scalar_time_of, signed_of};
+ghost use Rattle.spec_scalars.specs.Quads.{is_small};
+ghost use Rattle.gf_words.specs.Polynomials.{bytes_of_two, polynomial_of, polynomial_of_numbers, polynomial_of_two, small_polynomial};
+
+use crate::forms::number;
+use spec_requests::{
+    MAX_DIGITS_OF_A_FACTOR, MAX_DIGITS_OF_A_TIME, MAX_SCALAR_TIME, MAX_WRITTEN_FACTOR,
+};
+use spec_scalars::{MAX_FACTOR, MAX_SUMMAND};
+
+/// The numbers of a polynomial p t^2 + q t + r that can be searched for.
+#[derive(Clone, Copy)]
+pub(crate) struct Polynomial {
+    pub(crate) p: i64,
+    pub(crate) q: i64,
+    pub(crate) r: i64,
+}
+
+fn above_0(number: Option<u64>) -> Option<i128>
+    ensures { result ≡ option_map pos number }
+{
+    match number {
+        Some(number) => Some(i128::from(number)),
+        None => None,
+    }
+}
+
+fn below_0(number: Option<u64>) -> Option<i128>
+    ensures { result ≡ option_map (λ n. neg_ℤ (pos n)) number }
+{
+    match number {
+        Some(number) => Some(-i128::from(number)),
+        None => None,
+    }
+}
+
+// The whole number that a word of 1 to `digits` digits is, perhaps with a minus sign before them, where its magnitude is
+// at most `most`.
+fn signed(word: &str, digits: usize, most: u64) -> Option<i128>
+    ensures signed { result ≡ signed_of digits most word.now }
+    ensures most { IfSome result (λ number. unsigned_abs number ≤ most) }
+{
+    match word.strip_prefix('-') {
+        Some(rest) => below_0(number(rest, digits, 0, most)),
+        None => above_0(number(word, digits, 0, most)),
+    }
+}
+
+/// A time of a scalar.
+pub(crate) fn time(word: &str) -> Option<i64>
+    ensures { result ≡ scalar_time_of word.now }
+{
+    match signed(word, MAX_DIGITS_OF_A_TIME, MAX_SCALAR_TIME) {
+        Some(time) => Some(time as i64),
+        None => None,
+    }
+}
+
+fn factor(word: &str) -> Option<i128>
+    ensures { result ≡ factor_of word.now }
+{
+    signed(word, MAX_DIGITS_OF_A_FACTOR, MAX_WRITTEN_FACTOR)
+}
+
+// What stands before the first comma, and what stands after it.
+fn at_comma<'a>(word: &'a str) -> Option<(&'a str, &'a str)>
+    ensures { bytes_of_two result ≡ at_comma word.entry.now }
+{
+    word.split_once(',')
+}
+
+fn is_small(p: i128, q: i128, r: i128) -> bool
+    ensures { result ≡ is_small (record { p = p; q = q; r = r }) }
+{
+    p.unsigned_abs() <= u128::from(MAX_FACTOR)
+        && q.unsigned_abs() <= u128::from(MAX_FACTOR)
+        && r.unsigned_abs() <= u128::from(MAX_SUMMAND)
+}
+
+// The polynomial of these numbers, where it can be searched for.
+fn small(p: i128, q: i128, r: i128) -> Option<Polynomial>
+    ensures { result ≡ small_polynomial p q r }
+{
+    if is_small(p, q, r) {
+        Some(Polynomial {
+            p: p as i64,
+            q: q as i64,
+            r: r as i64,
+        })
+    } else {
+        None
+    }
+}
+
+fn of_numbers(p: Option<i128>, q: Option<i128>, r: Option<i128>) -> Option<Polynomial>
+    ensures { result ≡ polynomial_of_numbers p q r }
+{
+    small(p?, q?, r?)
+}
+
+fn of_two(p: &str, others: Option<(&str, &str)>) -> Option<Polynomial>
+    ensures { result ≡ polynomial_of_two p.now (bytes_of_two others.entry) }
+{
+    match others {
+        Some((q, r)) => of_numbers(factor(p), factor(q), factor(r)),
+        None => None,
+    }
+}
+
+/// A polynomial that can be searched for: its three numbers, joined by commas.
+pub(crate) fn quad(word: &str) -> Option<Polynomial>
+    ensures { result ≡ polynomial_of word.now }
+{
+    match at_comma(word) {
+        Some((p, others)) => of_two(p, at_comma(others)),
+        None => None,
+    }
+}

@@ -1,0 +1,89 @@
+// The scalars that words ask for.
+ghost use Rattle.std.specs.Prelude.{◌≡◌, IfOk};
+ghost use Rattle.spec_requests.specs.Requests.{scalar_by, scalar_of};
+ghost use Rattle.gf_words.specs.Answers.{Answers};
+ghost use Rattle.gf_words.specs.Parts.{scalar_by_options, scalar_read, times_read};
+ghost use Rattle.gf_words.specs.Readings.{values_of};
+
+use crate::parts::{self, pair};
+use crate::polynomials::Polynomial;
+use crate::searches::{Limits, read_limits, text, word_or};
+use clap::ArgMatches;
+use spec_events::Dir;
+use spec_requests::{Named, Request, ScalarAsk, WordFault};
+use spec_scalars::Plan;
+use std::alloc::{AllocError, Global};
+
+// A scalar as its options ask for it, without the text of its polynomial.
+#[derive(Clone, Copy)]
+pub(crate) struct ScalarOptions {
+    pub(crate) polynomial: Polynomial,
+    pub(crate) dir: Dir,
+    pub(crate) from: i64,
+    pub(crate) to: i64,
+    pub(crate) limits: Limits,
+}
+
+fn read_times(matches: &ArgMatches<'_>) -> Result<(i64, i64), Named>
+    ensures { result ≡ times_read (values_of matches.now) }
+{
+    let from = parts::scalar_time(matches, Named::From);
+    pair(from, parts::scalar_time(matches, Named::To))
+}
+
+// The options of `scalar` in their order. What may be left out has its default.
+fn read_scalar(matches: &ArgMatches<'_>) -> Result<ScalarOptions, Named>
+    ensures { result ≡ scalar_read (values_of matches.now) }
+{
+    let sought = pair(parts::quad(matches), parts::dir(matches));
+    let manner = pair(read_times(matches), read_limits(matches));
+    match pair(sought, manner) {
+        Ok(((polynomial, dir), ((from, to), limits))) => Ok(ScalarOptions {
+            polynomial,
+            dir: dir.unwrap_or(Dir::Any),
+            from,
+            to,
+            limits,
+        }),
+        Err(option) => Err(option),
+    }
+}
+
+// The scalar as it was read, with the text of its polynomial.
+fn found(
+    alloc: Global,
+    matches: &ArgMatches<'_>,
+    options: ScalarOptions,
+) -> Result<ScalarAsk, AllocError>
+    requires { options ≡ scalar_by_options (values_of matches.now) }
+    ensures { IfOk result (λ ask. ask ≡ scalar_of (values_of matches.now)) }
+{
+    Ok(ScalarAsk {
+        p: options.polynomial.p,
+        q: options.polynomial.q,
+        r: options.polynomial.r,
+        text: text(alloc, word_or(matches, Named::Quad, ""))?,
+        from: options.from,
+        to: options.to,
+        plan: Plan {
+            dir: options.dir,
+            width: u64::from(options.limits.width),
+            depth: options.limits.depth,
+            cut: options.limits.cut,
+        },
+        workers: options.limits.workers,
+    })
+}
+
+/// The scalar that the words ask for, or the first option that is bad.
+pub(crate) fn scalar(alloc: Global, matches: &ArgMatches<'_>) -> Result<Request, WordFault>
+    ensures { Answers (scalar_by (values_of matches.now)) result }
+{
+    match read_scalar(matches) {
+        Ok(options) => match found(alloc, matches, options) {
+            Ok(ask) => Ok(Request::Scalar(ask)),
+            Err(_) => Err(WordFault::Memory),
+        },
+        Err(option) => Err(WordFault::BadValue(option)),
+    }
+}

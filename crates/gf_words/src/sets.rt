@@ -1,0 +1,103 @@
+// The sets that words ask for.
+ghost use Rattle.std.specs.Prelude.{◌≡◌, IfOk, Ok, Some, option_and_then};
+ghost use Rattle.spec_requests.specs.declared.request.Named.TheVariants as opt;
+ghost use Rattle.spec_requests.specs.declared.tables.CommandName.TheVariants as command;
+ghost use Rattle.spec_requests.specs.Names.{target_of};
+ghost use Rattle.spec_requests.specs.Options.{set_kind_of};
+ghost use Rattle.spec_requests.specs.Requests.{request_by, search_of, set_of};
+ghost use Rattle.gf_words.specs.Answers.{Answers};
+ghost use Rattle.gf_words.specs.Parts.{references_after, references_by, references_read, search_by_options};
+ghost use Rattle.gf_words.specs.Readings.{file_names_of, values_of};
+
+use crate::parts::{self, pair};
+use crate::readings::value;
+use crate::relations::use_of_ref2;
+use crate::searches::{SearchOptions, read_search, values_text, with_second, with_texts};
+use clap::ArgMatches;
+use spec_ephemeris::Body;
+use spec_events::Dir;
+use spec_kinds::Kind;
+use spec_requests::{Named, Relation, Request, WordFault};
+use spec_text::Decimal;
+use std::alloc::{AllocError, Global};
+
+// The relation, and its second reference, where it is to two.
+#[derive(Clone, Copy)]
+pub(crate) struct References {
+    pub(crate) relation: Relation,
+    pub(crate) ref2: Option<Decimal>,
+}
+
+fn read_references(matches: &ArgMatches<'_>, kind: Kind) -> Result<References, Named>
+    ensures { result ≡ references_read (values_of matches.now) kind }
+{
+    match parts::relation(matches, kind) {
+        Ok(relation) => read_ref2(matches, relation),
+        Err(option) => Err(option),
+    }
+}
+
+// The relation and its second reference, which it needs or does not use.
+fn read_ref2(matches: &ArgMatches<'_>, relation: Relation) -> Result<References, Named>
+    ensures { result ≡ references_after (values_of matches.now opt.Ref2) (Ok relation) }
+{
+    match parts::number(matches, Named::Ref2, use_of_ref2(relation)) {
+        Ok(ref2) => Ok(References { relation, ref2 }),
+        Err(option) => Err(option),
+    }
+}
+
+// The set as it was read, with its texts.
+fn found(
+    alloc: Global,
+    matches: &ArgMatches<'_>,
+    kind: Kind,
+    target: Body,
+    search: SearchOptions,
+    references: References,
+) -> Result<Request, AllocError>
+    requires search { search ≡ search_by_options (values_of matches.now) kind target }
+    requires references { references ≡ references_by (values_of matches.now) }
+    ensures { IfOk result (λ request. request ≡ set_of (values_of matches.now)
+        (search_of (values_of matches.now) kind target (file_names_of matches.now))) }
+{
+    let first = values_text(alloc, matches, kind)?;
+    let values = with_second(first, value(matches, Named::Ref2))?;
+    Ok(Request::Set {
+        find: with_texts(alloc, matches, search, Dir::Any, values)?,
+        ref2: references.ref2,
+        relation: references.relation,
+    })
+}
+
+// The set of this kind and this target, or the first option that is bad.
+fn set_of_target(
+    alloc: Global,
+    matches: &ArgMatches<'_>,
+    kind: Kind,
+    target: Body,
+) -> Result<Request, WordFault>
+    requires kind { option_and_then set_kind_of (values_of matches.now opt.Kind) ≡ Some kind }
+    requires target { option_and_then target_of (values_of matches.now opt.Target) ≡ Some target }
+    ensures { Answers (request_by command.Set (values_of matches.now) (file_names_of matches.now))
+        result }
+{
+    match read_search(matches, kind, target, read_references(matches, kind)) {
+        Ok((search, references)) => match found(alloc, matches, kind, target, search, references) {
+            Ok(request) => Ok(request),
+            Err(_) => Err(WordFault::Memory),
+        },
+        Err(option) => Err(WordFault::BadValue(option)),
+    }
+}
+
+/// The set that the words ask for, or the first option that is bad.
+pub(crate) fn set(alloc: Global, matches: &ArgMatches<'_>) -> Result<Request, WordFault>
+    ensures { Answers (request_by command.Set (values_of matches.now) (file_names_of matches.now))
+        result }
+{
+    match pair(parts::set_kind(matches), parts::target(matches)) {
+        Ok((kind, target)) => set_of_target(alloc, matches, kind, target),
+        Err(option) => Err(WordFault::BadValue(option)),
+    }
+}

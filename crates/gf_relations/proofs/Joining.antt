@@ -1,12 +1,10 @@
 -- The sets of a relation, from those of the searches about its references.
-use Rattle.std.proofs.Common.{◌≡◌, ◌<◌, ◌&&◌, ◌∙◌, Bool, true, None, List, ℤ, ◌≤ℤ◌, sym, arith}
-use Rattle.std.proofs.lemmas.Bool.{and_parts}
+use Rattle.std.proofs.Common.{◌≡◌, ◌<◌, true, None, List, ℤ, ◌≤ℤ◌, arith}
 use Rattle.std.proofs.lemmas.Int.{ints}
 use Rattle.spec_ephemeris.specs.Ephemeris.{Ephemeris, IsEphemeris}
 use Rattle.spec_intervals.specs.declared.signs.Sign.{Sign}
 use Rattle.spec_sets.specs.Pairs.{AreOf}
-use Rattle.spec_sets.specs.Signs.{is_possible, is_sure}
-use Rattle.spec_sets.specs.Spans.{AreSpans, is_between}
+use Rattle.spec_sets.specs.Spans.{AreSpans}
 use Rattle.spec_kinds.specs.Faults.{fault_of}
 use Rattle.spec_requests.specs.declared.request.Relation.{Relation}
 use Rattle.spec_outcomes.specs.declared.query.Query.{Query}
@@ -15,7 +13,7 @@ use Rattle.spec_outcomes.specs.Queries.{is_within, search}
 use Rattle.spec_outcomes.specs.Sets.{AreSetsFound, IsSetQuery, related_signs}
 use Rattle.spec_outcomes.proofs.SetOutcomes.{sets_are_found}
 use Rattle.spec_outcomes.proofs.SetSigns.{span_early, span_late}
-use Rattle.gf_relations.specs.Reached.{AreReached, AreWithin, HasSets}
+use Rattle.gf_relations.specs.Reached.{AreReached, HasSets}
 
 ordered : (e : Ephemeris) (span : Span) → is_within span e ≡ true → span.from ≤ℤ span.upto
 ordered e span within = grind (arith, ints, within)
@@ -26,13 +24,6 @@ has_sets q e span checked block is within sound = record {
   ordered = ordered e span within;
   early = span_early q e span checked block is within sound;
   late = span_late q e span checked block is within sound;
-}
-
--- sets of signs over a span lie in it
-pub are_within : (sign : ℤ → Sign) (span : Span) (surely perhaps : List (ℤ × ℤ)) → AreOf sign span.from span.upto surely perhaps → AreWithin span surely perhaps
-are_within sign span surely perhaps are = record {
-  sure = λ t there. (and_parts (is_between span.from span.upto t) (is_sure (sign t)) (sym (are.sure t) ∙ there)).0;
-  maybe = λ t there. (and_parts (is_between span.from span.upto t) (is_possible (sign t)) (sym (are.maybe t) ∙ there)).0;
 }
 
 pub related_are_found : (relation : Relation) (q r : Query) (e : Ephemeris) (span : Span) → IsEphemeris e → 0 < e.blocks → IsSetQuery q → IsSetQuery r

@@ -1,3 +1,3 @@
 mod Times
 mod Joining
-mod Stops
+mod Ends

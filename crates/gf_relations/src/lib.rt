@@ -9,6 +9,6 @@
 mod combined;
 mod reached;
 mod references;
-mod related;
+mod relations;
 
-pub use related::related;
+pub use relations::related;

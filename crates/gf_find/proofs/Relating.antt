@@ -1,51 +1,30 @@
 -- The report of the sets of times that were found.
-use Rattle.std.proofs.Common.{◌≡◌, ◌⊎◌, ◌∙◌, ℕ, ℤ, Bool, false, true, List, Option, Ok, Err, refl, sym, ap, subst, arith, inl, inr}
-use Rattle.std.specs.Prelude.{All}
-use Rattle.std.proofs.lemmas.Int.{ints}
-use Rattle.std.proofs.lemmas.List.Elements.{All-weaker}
+use Rattle.std.proofs.Common.{◌≡◌, ◌⊎◌, ◌∙◌, ℕ, ℤ, false, List, Option, Ok, Err, sym, ap, subst, inl, inr}
 use Rattle.spec_text.specs.declared.decimals.Decimal.{Decimal}
-use Rattle.spec_ephemeris.specs.Ephemeris.{Ephemeris, end_of}
+use Rattle.spec_ephemeris.specs.Ephemeris.{Ephemeris}
 use Rattle.spec_ephemeris.specs.Ticks.{in_ticks}
 use Rattle.spec_sets.specs.Pairs.{AreSets}
-use Rattle.spec_kinds.specs.Faults.{fault_of}
-use Rattle.spec_times.specs.Ticks.{IsTimeIn}
 use Rattle.spec_requests.specs.declared.request.FindAsk.{FindAsk}
 use Rattle.spec_requests.specs.declared.request.Relation.{Relation}
 use Rattle.spec_requests.specs.Limits.{IsSetWithinLimits}
-use Rattle.spec_output.specs.Report.{AreTimesIn, set_report}
+use Rattle.spec_output.specs.Report.{set_report}
 use Rattle.gf_edges.specs.Edges.{Files}
 use Rattle.spec_outcomes.specs.declared.query.Query.{Query}
 use Rattle.spec_outcomes.specs.declared.query.Span.{Span}
 use Rattle.spec_outcomes.specs.declared.refusal.Refusal.{Refusal}
 use Rattle.spec_outcomes.specs.declared.refusal.Refusal.TheVariants.{Memory, Outside}
-use Rattle.spec_outcomes.specs.Outcomes.{cause_by, cause_of, unless}
-use Rattle.spec_outcomes.specs.Queries.{is_within, query_of, search, span_of, whole_span}
-use Rattle.spec_outcomes.specs.Sets.{AreSetsFound, IsPart, IsSetQuery, SetStops, counted_set, other_query, searched_signs, set_by, set_of, set_outcome, signs_found}
-use Rattle.spec_outcomes.proofs.SpanTimes.{from_is, upto_is}
+use Rattle.spec_outcomes.specs.Queries.{is_within, query_of, span_of, whole_span}
+use Rattle.spec_outcomes.specs.Sets.{AreSetsFound, IsSetQuery, SetStops, counted_set, other_query, set_by, set_of, set_outcome, signs_found}
+use Rattle.spec_outcomes.proofs.SetOutcomes.{outside_stops_sets}
+use Rattle.spec_outcomes.proofs.SetSigns.{asked_for_sets}
 use Rattle.gf_find.specs.Outcomes.{FilesHaveOutcome, HaveEphemeris, HoldEphemeris}
-use Rattle.gf_find.specs.Sets.{IsCountedSet, IsMet, IsSetReport, possible_times, signs_asked, sure_times}
-use Rattle.gf_find.proofs.FoundLeaves.{asked_is}
-
--- ---- times
-module _ (tick : ℕ) (e : Ephemeris) (start : IsTimeIn tick e.start) (end : IsTimeIn tick (end_of e)) (span : Span) (within : is_within span e ≡ true) where
-  one : (times : ℤ × ℤ) → IsPart span times → AreTimesIn tick times
-  one times is =
-      let low = (from_is tick e start end span within).low in
-      let high = (upto_is tick e start end span within).high in
-      record {
-        first = record { low = omega (arith, ints, low, is.from); high = omega (arith, ints, high, is.ordered, is.upto) };
-        last = record { low = omega (arith, ints, low, is.from, is.ordered); high = omega (arith, ints, high, is.upto) };
-      }
-
-  pub parts_have_times : (spans : List (ℤ × ℤ)) → All (IsPart span) spans → All (AreTimesIn tick) spans
-  parts_have_times spans parts = All-weaker (IsPart span) (AreTimesIn tick) one spans parts
+use Rattle.gf_find.specs.Sets.{IsCountedSet, IsMet, IsSetReport, possible_times, signs_asked}
 
 -- ---- over an ephemeris
 module _ (find : FindAsk) (ref2 : Option Decimal) (relation : Relation) where
   -- what words ask for keeps to the limits of a query
   pub set_query_is : (p : Query) → p ≡ query_of find → IsSetWithinLimits find ref2 relation → IsSetQuery p
-  set_query_is p same limits =
-      subst IsSetQuery (sym same) (record { query = asked_is find (query_of find) refl limits.search; all = limits.all; kind = limits.kind })
+  set_query_is p same limits = subst IsSetQuery (sym same) (asked_for_sets find ref2 relation limits)
 
   module _ (e : Ephemeris) where
     abbrev asked : Span
@@ -57,9 +36,7 @@ module _ (find : FindAsk) (ref2 : Option Decimal) (relation : Relation) where
     -- a span that is not one of the ephemeris stops the search
     pub outside_set : (r : Refusal) → is_within asked e ≡ false → r ≡ Outside asked (whole_span e) → counted_set find ref2 relation e ≡ Err r
     outside_set r out is =
-        ap (λ (inside : Bool). set_outcome find relation asked (unless (cause_by inside (fault_of e q.ask) asked (whole_span e))
-        (unless (cause_of (other_query q ref2) e asked) (searched_signs relation (search q e) (search (other_query q ref2) e) asked)))) out
-        ∙ ap (λ (s : Refusal). Err s) (sym is)
+        ap (set_outcome find relation asked) (outside_stops_sets relation q (other_query q ref2) e asked out) ∙ ap (λ (s : Refusal). Err s) (sym is)
 
     sets_here : (surely perhaps : List (ℤ × ℤ)) (text : List ℕ) → AreSetsFound relation q (other_query q ref2) e asked surely perhaps
         → text ≡ set_report find relation asked.from asked.upto surely perhaps → IsCountedSet find ref2 relation text e

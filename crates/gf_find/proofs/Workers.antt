@@ -4,10 +4,12 @@ use Rattle.spec_requests.specs.declared.request.Request.{Request}
 use Rattle.spec_requests.specs.declared.request.Request.TheVariants.{Find, Cert, Verify, Check, Gen, Set, Scalar}
 use Rattle.gf_edges.specs.Edges.{Files}
 use Rattle.spec_outcomes.specs.Outcomes.{Outcome}
+use Rattle.spec_outcomes.specs.Scalars.{searched_scalar}
 use Rattle.gf_find.specs.Outcomes.{Ask, RequestHasOutcome, HaveOutcome, Words, with_workers}
 
 same_by : (request : Request) (count : ℕ) (files : Option Files) (before now : ℕ) (outcome : Outcome) → RequestHasOutcome (Ok request) files before now outcome
     → RequestHasOutcome (Ok (with_workers count request)) files before now outcome
+unfolding searched_scalar
 same_by (Find find) count files before now outcome has = has
 same_by (Cert find) count files before now outcome has = has
 same_by (Verify find cert) count files before now outcome has = has

@@ -215,7 +215,7 @@ fn noting(alloc: Global, fails: u64) -> Result<NotingShelf, AllocError> {
 
 // Words, the call of the shelf that fails, the status, and the names that are opened: those of the words, in their order,
 // up to the first file that can't be read or has a fault. A certificate is opened after them, where its search could be made.
-const OPENED: [(&str, u64, u8, &str); 14] = [
+const OPENED: [(&str, u64, u8, &str); 16] = [
     (
         "find --kind coord --target mercury --axis x a b c",
         0,
@@ -270,6 +270,13 @@ const OPENED: [(&str, u64, u8, &str); 14] = [
         "a b d ",
     ),
     ("gen 405 1 7", 0, REPORTED, ""),
+    (
+        "set --kind coord --target mercury --axis x --relation less a b",
+        0,
+        REPORTED,
+        "a b ",
+    ),
+    ("scalar --quad 1,0,-4 --from 0 --to 9", 0, REPORTED, ""),
 ];
 
 #[test]
@@ -281,6 +288,109 @@ fn the_named_files_alone_are_opened(rt: HostRuntime) -> Result<(), Fail> {
         let answer = run_over(&rt, alloc, &words, &mut shelf, SOUND)?;
         assert!(rt; answer.status == *status, "{line}");
         assert!(rt; shelf.opened.as_slice() == opened.as_bytes(), "{line}");
+    }
+    Ok(())
+}
+
+// A command and its words, the status, the end of the report, and the line of the error. Mercury's x in the file `a` rises
+// past 0 in the middle of the block, by one unit a second.
+const SETS: [(&str, &str, u8, &str, &str); 9] = [
+    (
+        "set",
+        "--kind coord --target mercury --axis x --relation less a",
+        REPORTED,
+        "\nS 2000-01-01T00:00:00 2000-01-16T23:59:59
+P 2000-01-01T00:00:00 2000-01-16T23:59:59
+END sure 1 possible 1
+",
+        "",
+    ),
+    (
+        "set",
+        "--kind coord --target mercury --axis x --relation less --from 1339000 --to 1339400 --width 60 a",
+        REPORTED,
+        "\nS 2000-01-16T23:56:40 2000-01-16T23:59:10
+P 2000-01-16T23:56:40 2000-01-16T23:59:59
+END sure 1 possible 1
+",
+        "",
+    ),
+    (
+        "set",
+        "--kind coord --target mercury --axis x --ref=-100.5 --ref2 100.5 --relation within a",
+        REPORTED,
+        "\nS 2000-01-16T23:58:20 2000-01-17T00:01:40
+P 2000-01-16T23:58:20 2000-01-17T00:01:40
+END sure 1 possible 1
+",
+        "",
+    ),
+    (
+        "set",
+        "--kind coord --target mercury --axis x --ref=-100.5 --ref2 100.5 --relation outside a",
+        REPORTED,
+        "\nS 2000-01-01T00:00:00 2000-01-16T23:58:19
+S 2000-01-17T00:01:41 2000-02-02T00:00:00
+P 2000-01-01T00:00:00 2000-01-16T23:58:19
+P 2000-01-17T00:01:41 2000-02-02T00:00:00
+END sure 2 possible 2
+",
+        "",
+    ),
+    (
+        "set",
+        "--kind conj --target mercury --second venus --relation less a",
+        WORDS_REFUSED,
+        "",
+        "finder: words: 63 BadValue kind\n",
+    ),
+    (
+        "scalar",
+        "--quad 1,0,-100 --from=-50 --to 50",
+        REPORTED,
+        "SCALAR quad 1,0,-100 dir any width 1 depth 40 cut half span -50 50
+C -9 -9 fall
+C 10 10 rise
+END certain 2 undecided 0
+",
+        "",
+    ),
+    (
+        "scalar",
+        "--quad 1,0,-100 --from=-50 --to 50 --depth 0",
+        REPORTED,
+        "\nU -49 50\nEND certain 0 undecided 1\n",
+        "",
+    ),
+    (
+        "scalar",
+        "--quad 1,0 --from 0 --to 9",
+        WORDS_REFUSED,
+        "",
+        "finder: words: 63 BadValue quad\n",
+    ),
+    (
+        "scalar",
+        "--quad 1,0,0 --from 50 --to=-50",
+        SPAN_REFUSED,
+        "",
+        "finder: span: 50 -50 not within -999999999999 999999999999\n",
+    ),
+];
+
+#[test]
+fn sets_and_scalars_by_one_worker_and_by_eight(rt: HostRuntime) -> Result<(), Fail> {
+    let alloc = rt.alloc();
+    for (command, rest, status, out, err) in &SETS {
+        for workers in [1u32, 8] {
+            let line = format!(in alloc; "{command} --workers {workers} {rest}")?;
+            let words = words_of(alloc, line.as_str())?;
+            let file = blocks(alloc, 1, "0.138240000000000000D+07 0.0 0.0")?;
+            let answer = run(&rt, alloc, &words, file, 0, SOUND)?;
+            assert!(rt; answer.status == *status, "{line}");
+            assert!(rt; answer.out.as_slice().ends_with(out.as_bytes()), "{line}");
+            assert!(rt; answer.err.as_slice() == err.as_bytes(), "{line}");
+        }
     }
     Ok(())
 }

@@ -8,23 +8,28 @@ use Rattle.spec_outcomes.proofs.Results.{ok_also}
 use Rattle.spec_outcomes.proofs.SpanTimes.{from_is, upto_is}
 use Rattle.gf_find.specs.Sets.{IsCountedSet}
 use Rattle.gf_find.proofs.FoundLeaves.{memory_also}
-use Rattle.gf_find.proofs.Relating.{parts_have_times, set_query_is, set_stops, sets_are}
+use Rattle.spec_outcomes.proofs.SetOutcomes.{parts_have_times}
+use Rattle.gf_find.proofs.Relating.{set_query_is, set_stops, sets_are}
 use Rattle.gf_find.proofs.set.set_in_span.Goals as goal
 
 pub related-requires-clause-query : goal.related-requires-clause-query
 related-requires-clause-query g c κs lives = set_query_is c.args.find.now c.args.ref2 c.args.relation _ c.query_of-query.ensures c.requires.limits
 
 pub report_of_sets-requires-clause-from : goal.report_of_sets-requires-clause-from
-report_of_sets-requires-clause-from g c = from_is _ _ c.requires.start c.requires.end _ c.requires.within
+report_of_sets-requires-clause-from g c = from_is c.args.find.now.tick c.args.ephemeris.now c.requires.start c.requires.end c.args.span c.requires.within
 
 pub report_of_sets-requires-clause-upto : goal.report_of_sets-requires-clause-upto
-report_of_sets-requires-clause-upto g c = upto_is _ _ c.requires.start c.requires.end _ c.requires.within
+report_of_sets-requires-clause-upto g c = upto_is c.args.find.now.tick c.args.ephemeris.now c.requires.start c.requires.end c.args.span c.requires.within
 
 pub report_of_sets-requires-clause-sure : goal.report_of_sets-requires-clause-sure
-report_of_sets-requires-clause-sure g c = parts_have_times _ _ c.requires.start c.requires.end c.args.span c.requires.within _ c.in-Ok.ensures.found.sure_within
+report_of_sets-requires-clause-sure g c =
+    parts_have_times c.args.find.now.tick c.args.span (from_is c.args.find.now.tick c.args.ephemeris.now c.requires.start c.requires.end c.args.span c.requires.within)
+    (upto_is c.args.find.now.tick c.args.ephemeris.now c.requires.start c.requires.end c.args.span c.requires.within) _ c.in-Ok.ensures.found.sure_within
 
 pub report_of_sets-requires-clause-possible : goal.report_of_sets-requires-clause-possible
-report_of_sets-requires-clause-possible g c = parts_have_times _ _ c.requires.start c.requires.end c.args.span c.requires.within _ c.in-Ok.ensures.found.maybe_within
+report_of_sets-requires-clause-possible g c =
+    parts_have_times c.args.find.now.tick c.args.span (from_is c.args.find.now.tick c.args.ephemeris.now c.requires.start c.requires.end c.args.span c.requires.within)
+    (upto_is c.args.find.now.tick c.args.ephemeris.now c.requires.start c.requires.end c.args.span c.requires.within) _ c.in-Ok.ensures.found.maybe_within
 
 pub returns-in-Ok-clause-report : goal.returns-in-Ok-clause-report
 returns-in-Ok-clause-report g c =

@@ -24,7 +24,12 @@ pub(crate) struct Answer {
 pub(crate) fn takes_workers(words: &[&str]) -> bool {
     let is_search = matches!(
         words.first(),
-        Some(&"find") | Some(&"cert") | Some(&"verify") | Some(&"gen")
+        Some(&"find")
+            | Some(&"cert")
+            | Some(&"verify")
+            | Some(&"gen")
+            | Some(&"set")
+            | Some(&"scalar")
     );
     is_search && words.iter().all(|word| !word.starts_with("--workers"))
 }

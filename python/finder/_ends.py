@@ -15,8 +15,7 @@ UNITS = {1: "s", 1_000: "ms"}
 
 
 class Ends:
-    """What has first and last ticks: `first` and `last` are arrays of int64, ticks since J2000 (TDB) of which `tick` are
-    in a second."""
+    """What has `first` and `last`: arrays of int64, ticks since J2000 (TDB) of which `tick` are in a second."""
 
     tick: int
     first: npt.NDArray[np.int64]

@@ -156,10 +156,11 @@ def times(
     (`docs/USAGE.md`): `less`, it is below `ref`; `atleast`, it is at least `ref`; `within`, at least `ref` and below
     `ref2`; `outside`, below `ref` or at least `ref2`. For `sep` the numbers are cosines, so that `atleast` is near.
 
-    The set is that of the decimals which are passed, and no number is rounded here, in neither direction: a text, an int
-    and a `Decimal` are passed as they are, and refused by the command where they have more digits than it takes; a float
-    is the shortest decimal that is it. So the numbers of `less` and of `atleast` are the same, and each set is exactly
-    the other times of the other one. An angle in degrees has no such decimal: `near` and `far` take one.
+    The set is that of the numbers which are passed, and none is rounded here, in neither direction: a text, an int and
+    a `Decimal` are passed as they are, and refused by the command where they have more digits than it takes; a float is
+    the shortest decimal that is it, and an astropy quantity the float that is its value in km. So `less` and `atleast`
+    of one number are each exactly the rest of the span of the other. The cosine of an angle in degrees is no such
+    number: `near` and `far` take angles.
 
     The times of the set are ticks of the span from `start` to `end`, both among them. A `start` between two ticks is
     rounded down and an `end` up, so that no time of what was asked for is left out.
@@ -282,9 +283,9 @@ def near(
 ) -> TimeSet:
     """The times at which the angle between two bodies is at most one, given in degrees or by its cosine.
 
-    A cosine is taken exactly, and is one search (`atleast`). The cosine of degrees is no decimal, but for 0, 60, 90, 120
-    and 180: for others there are two searches, of the two decimals of 18 places between which it lies. The sure times
-    are those of the one above it, whose angle is smaller, and the possible times are those of the one below it, whose
+    A cosine is taken exactly, and is one search (`atleast`). The cosine of degrees is no decimal, but for 0, 60, 90,
+    120 and 180: of others there are two searches, for the two decimals of 18 places between which it lies. The sure
+    times are those of the one above it, whose angle is smaller, and the possible times those of the one below it, whose
     angle is greater. So each sure time is within the given angle itself, and each time within it is possible.
     """
     return _by_angle(files, target, second, "atleast", degrees, cosine, options)
@@ -333,5 +334,5 @@ def _by_angle(
 
 
 def retrograde(files: Files, target: Body, **options: Unpack[SetOptions]) -> TimeSet:
-    """The times at which a body moves backward in longitude, of `frame`. At its other times it moves forward or rests."""
+    """The times at which a body moves backward in longitude, of `frame`; at the others it moves forward or rests."""
     return times(files, "station", target, relation="less", **options)

@@ -132,10 +132,9 @@ class TimeSet:
     `made_of` are the requests of all searches that it comes from.
 
     Of sets of one span and one tick, `a & b` has the times that are in both, `a | b` those in either, and `~a` those of
-    the span that are not in `a`. The sure times of `a & b` are sure in both, its possible ones possible in both, and so
-    with either. The sure times of `~a` are those that are not possible in `a`, its possible ones those that are not sure
-    there. So both promises hold of what is made, where they hold of what it is made of. Two sets are equal where their
-    span, tick, sure and possible times are, whatever the requests.
+    the span that are not in `a`. The sure times of `a & b` are sure in both and its possible ones possible in both, and
+    so with either; the sure times of `~a` are not possible in `a`, and its possible ones are not sure there. So what is
+    made keeps both promises. Sets are equal where span, tick, sure and possible times are, whatever the requests.
     """
 
     def __init__(

@@ -35,7 +35,7 @@ class Spans(Ends, Sequence[Span]):
     """Spans in order of time. Between two of them there is a tick that is in none.
 
     `first` and `last` are arrays of int64, ticks since J2000 (TDB) of which `tick` are in a second; both ends of a span
-    are in it. A slice holds some of the spans.
+    are in it. A slice holds some of the spans, and `in` looks for a tick in them.
     """
 
     def __init__(self, tick: int, first: Any, last: Any) -> None:
@@ -64,6 +64,14 @@ class Spans(Ends, Sequence[Span]):
         if isinstance(place, (int, np.integer)):
             return Span(int(self.first[place]), int(self.last[place]))
         return Spans(self.tick, self.first[place], self.last[place])
+
+    def __contains__(self, sought: object) -> bool:
+        """Whether a tick is in one of the spans, or a span is one of them."""
+        if isinstance(sought, tuple):
+            return any(span == sought for span in self)
+        if isinstance(sought, bool) or not isinstance(sought, (int, np.integer)):
+            raise TypeError(f"a tick or a span is wanted: {sought!r}")
+        return Spans(self.tick, [sought], [sought])._within(self)
 
     def __eq__(self, other: object) -> bool:
         return isinstance(other, Spans) and self._key() == other._key()

@@ -73,10 +73,12 @@ WRONG = {
     "a span before that of the report": ("S 2000-01-01", "S 1999-12-31"),
     "a span after that of the report": ("P 2000-01-20T00:00:00 2000-02-02", "P 2000-01-20T00:00:00 2000-02-03"),
     "a span that overlaps the one before": ("S 2000-01-20T00:00:01", "S 2000-01-16T23:59:10"),
-    "a span that touches the one before": ("S 2000-01-20T00:00:01", "S 2000-01-16T23:59:11"),
+    "a span that touches the one before": ("P 2000-01-20T00:00:00", "P 2000-01-17T00:00:00"),
+    "a sure span that touches the one before": ("S 2000-01-20T00:00:01", "S 2000-01-16T23:59:11"),
     "spans in another order": ("S 2000-01-20T00:00:01 2000-02-02", "S 2000-01-01T00:00:00 2000-01-02"),
     "a sure time that is not possible": ("23:59:10", "23:59:59\nS 2000-01-18T00:00:00 2000-01-18T00:00:00"),
-    "a sure span of two possible ones": ("S 2000-01-20T00:00:01", "S 2000-01-19T23:59:59"),
+    "a sure time before all that are possible": ("P 2000-01-01", "P 2000-01-02"),
+    "a sure span that begins before its possible one": ("S 2000-01-20T00:00:01", "S 2000-01-19T23:59:59"),
     "milliseconds in a report of seconds": ("23:59:10", "23:59:10.000"),
     "a kind that has no sets": ("SET coord", "SET conj"),
     "a relation of no name": ("less", "more"),
@@ -234,11 +236,9 @@ class Angles(InFolder):
         self.assertRaises(ValueError, finder.far, YEAR, "moon", "sun", degrees=181, **self.asked)
 
     def test_a_time_is_of_both_searches(self):
-        slow = stand_in(self.folder, f"[ ! -e {self.folder}/one ] || exec sleep 100; touch {self.folder}/one; exit 8")
-        with self.assertRaises(finder.OutOfMemory):
-            finder.near(YEAR, "moon", "sun", degrees=45, program=slow, timeout=20)
+        slow = stand_in(self.folder, f"sleep 0.6\n{ANGLES}")
         with self.assertRaises(finder.TimedOut):
-            finder.near(YEAR, "moon", "sun", degrees=45, program=slow, timeout=0.2)
+            finder.near(YEAR, "moon", "sun", degrees=45, observer="earth", program=slow, timeout=1)
 
 
 class Algebra(unittest.TestCase):
@@ -369,6 +369,15 @@ class Reports(InFolder):
         ):
             with self.subTest(change), self.assertRaises(finder.WrongReport):
                 finder.times(YEAR, **{**asked, **change})
+        for old, new in (
+            ("second -", "second venus"),
+            ("frame eq", "frame ecl"),
+            ("values 0", "values 0,5"),
+            ("axis x", "axis -"),
+        ):
+            (self.folder / "report").write_text(REPORT.replace(old, new))
+            with self.subTest(new), self.assertRaises(finder.WrongReport):
+                finder.times(YEAR, **asked)
 
 
 class Views(InFolder):
@@ -386,7 +395,18 @@ class Views(InFolder):
         with self.assertRaises(ValueError):
             sure.first[0] = 0
         self.assertNotEqual(sure, self.found.possible)
+        self.assertNotEqual(sure, Spans(1000, sure.first, sure.last))
         self.assertEqual((self.found.start, self.found.end, self.found.tick), (-43_200, 2_721_600, 1))
+
+    def test_ticks_in_spans(self):
+        sure = self.found.sure
+        for tick, inside in ((-43_201, False), (-43_200, True), (np.int64(1_339_150), True), (1_339_151, False)):
+            self.assertIs(tick in sure, inside)
+        self.assertEqual([tick in sure for tick in (1_598_400, 2_721_600, 2_721_601)], [False, True, False])
+        self.assertTrue(sure[0] in sure and sure[0] not in self.found.possible)
+        for other in (True, None, "2000-01-01T12:00:00", sure.datetime64()[0], 0.0):
+            self.assertRaises(TypeError, lambda: other in sure)
+        self.assertRaises(TypeError, lambda: 0 in self.found)
 
     def test_times_of_the_calendar(self):
         lasts = [str(time) for time in self.found.sure.datetime64()]

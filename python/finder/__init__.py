@@ -11,12 +11,15 @@ A window with a turn is certain: it holds exactly one event, in that direction. 
 known of its times. No event of the span is outside of the windows. The numbers of a window are ticks since J2000,
 2000-01-01T12:00:00 TDB: seconds, or milliseconds with `tick=1000`. `docs/USAGE.md` says what each kind means.
 
-The searches are `coordinate`, `distance`, `apsides`, `conjunctions`, `oppositions`, `stations`, `separation`,
-`separation_extremes`, `occultations`, and `find`, which takes a kind by its name; `over_files` runs one of them over
-files in order of time, one by one. Each runs the command in a process of its own, and takes
+The searches for events are `coordinate`, `distance`, `apsides`, `conjunctions`, `oppositions`, `stations`,
+`separation`, `separation_extremes`, `occultations`, and `find`, which takes a kind by its name; `over_files` runs one
+of them over files in order of time, one by one. `times` finds how long something lasts, as a set of sure and of
+possible times; `near`, `far` and `retrograde` do so by an astronomer's words, and `a & b`, `a | b` and `~a` are sets
+made of others. Each search runs the command in a process of its own, and takes
 
-    observer, frame, dir, tick, width, depth, workers, cut     as the command's options, with its defaults
-    start, end        times of TDB: the events after `start` and up to `end` are looked for
+    observer, frame, dir, tick, width, depth, workers, cut     as the command's options, with its defaults; sets no dir
+    start, end        times of TDB: the events after `start` and up to `end` are looked for, and the times of a set from
+                      `start` to `end`
     program           the command; else $FINDER, the clone's that this package lies in, or `finder` on the path
     timeout           seconds after which the process is ended, and `TimedOut` raised
 
@@ -47,13 +50,18 @@ from ._search import (
     conjunctions,
     coordinate,
     distance,
+    far,
     find,
+    near,
     occultations,
     oppositions,
+    retrograde,
     separation,
     separation_extremes,
     stations,
+    times,
 )
+from ._sets import Span, Spans, TimeSet, WrongSets
 from ._windows import Windows
 from .spans import NoProgram, Summary, Window, WrongParts, WrongReport
 
@@ -65,8 +73,11 @@ __all__ = [
     "NoProgram",
     "OutOfMemory",
     "ReadFailed",
+    "Span",
     "SpanRefused",
+    "Spans",
     "Summary",
+    "TimeSet",
     "TimedOut",
     "TooManyLeaves",
     "Window",
@@ -75,18 +86,23 @@ __all__ = [
     "WriteFailed",
     "WrongParts",
     "WrongReport",
+    "WrongSets",
     "apsides",
     "check",
     "conjunctions",
     "coordinate",
     "cosine_of_degrees",
     "distance",
+    "far",
     "find",
     "join",
+    "near",
     "occultations",
     "oppositions",
     "over_files",
+    "retrograde",
     "separation",
     "separation_extremes",
     "stations",
+    "times",
 ]

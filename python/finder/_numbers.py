@@ -58,11 +58,13 @@ def _cosine(angle: Decimal) -> Decimal:
     return total
 
 
-def cosine_of_degrees(degrees: Number) -> str:
-    """The cosine of an angle from 0 to 180 degrees, as the decimal for `separation`: the greatest one of 18 places that
-    is not above it. So the angle whose cosine it is, is the given one or a greater one, by about 10^-18 radians over
-    the sine of the angle at most: that is below 10^-10 arc seconds from a quarter of a degree to 179.75 degrees, and
-    below 10^-7 from one arc second on. A float is taken as the shortest decimal that is it."""
+def cosine_of_degrees(degrees: Number, *, up: bool = False) -> str:
+    """The cosine of an angle from 0 to 180 degrees, as a decimal of at most 18 places, rounded down: the greatest one
+    that is not above it. So the angle whose cosine it is, is the given one or a greater one, by about 10^-18 radians
+    over the sine of the angle at most: that is below 10^-10 arc seconds from a quarter of a degree to 179.75 degrees,
+    and below 10^-7 from one arc second on. With `up` it is the least decimal that is not below it, and its angle the
+    given one or a smaller one. Both are the cosine itself at 0, 60, 90, 120 and 180 degrees, and at no others. A float
+    is taken as the shortest decimal that is it."""
     try:
         angle = degrees if isinstance(degrees, Fraction) else Fraction(decimal_text(degrees, "deg"))
     except (ValueError, ZeroDivisionError):
@@ -71,15 +73,22 @@ def cosine_of_degrees(degrees: Number) -> str:
         raise ValueError(f"an angle is from 0 to 180 degrees: {degrees!r}")
     if angle in EXACT:
         return EXACT[int(angle)]
+    # (it is no decimal, so it lies between this one and the next)
+    units = _floor_of_cosine(angle) + up
+    whole, places = divmod(abs(units), 10**PLACES)
+    return f"{'-' if units < 0 else ''}{whole}.{places:0{PLACES}}".rstrip("0").rstrip(".")
+
+
+def _floor_of_cosine(angle: Fraction) -> int:
+    """The cosine of degrees, in units of the last place and rounded down."""
     digits = 60
     while True:
-        with decimal.localcontext() as context:
-            context.prec = digits
+        with decimal.localcontext(decimal.Context(prec=digits)):
             radians = _pi() * angle.numerator / (180 * angle.denominator)
             scaled = _cosine(radians).scaleb(PLACES)
             # (the last ten digits are not trusted)
             slack = Decimal(10) ** (PLACES + 10 - digits)
             low, high = ((scaled + way).to_integral_value(decimal.ROUND_FLOOR) for way in (-slack, slack))
         if low == high:
-            return format(low.scaleb(-PLACES), "f").rstrip("0").rstrip(".")
+            return int(low)
         digits *= 2

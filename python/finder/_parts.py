@@ -49,7 +49,10 @@ def over_files(
 
     def part(begin: int, stop: int, name: str) -> Windows:
         span = {"start": _time_of(begin), "end": _time_of(stop)}
-        return search([*first, name], *words, tick=tick, program=runs, **span, **options)
+        found = search([*first, name], *words, tick=tick, program=runs, **span, **options)
+        if not isinstance(found, Windows):
+            raise TypeError("the windows of parts are joined, and not sets of times: one search takes up to 64 files")
+        return found
 
     with concurrent.futures.ThreadPoolExecutor(max(1, jobs)) as pool:
         try:

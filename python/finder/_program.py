@@ -2,6 +2,7 @@
 
 from __future__ import annotations
 
+import concurrent.futures
 import os
 import re
 import signal
@@ -136,8 +137,8 @@ class Runs:
         self._lock = threading.Lock()
         self._stopped = False
 
-    def _start(self, words: Sequence[Union[str, bytes]]) -> subprocess.Popen[bytes]:
-        """Starts the command, in a group of its own, unless the call is over."""
+    def _start(self, words: Sequence[Union[str, bytes]], begun: list[subprocess.Popen[bytes]]) -> None:
+        """Starts the command, in a group of its own, unless the call is over, and adds it to those that have begun."""
         with self._lock:
             if self._stopped:
                 raise Interrupted(-signal.SIGKILL, "finder: the call is over")
@@ -152,25 +153,33 @@ class Runs:
             except OSError as error:
                 raise spans.NoProgram(error.errno, f"{self._program} cannot be run: {error.strerror}") from error
             self._live.add(process)
-            return process
+            begun.append(process)
 
     def run(self, words: Sequence[Union[str, bytes]]) -> str:
         """What the command prints for these words."""
-        process = self._start(words)
+        begun: list[subprocess.Popen[bytes]] = []
         try:
+            # (an interrupt comes to the main thread alone, and so not between a process and its record)
+            with concurrent.futures.ThreadPoolExecutor(1) as pool:
+                pool.submit(self._start, words, begun).result()
             left = None if self._deadline is None else max(0.0, self._deadline - time.monotonic())
-            out, err = process.communicate(timeout=left)
+            out, err = begun[0].communicate(timeout=left)
         except subprocess.TimeoutExpired:
             raise TimedOut(-signal.SIGKILL, f"finder: not done after {self._timeout} seconds") from None
         finally:
-            _end(process)
-            process.wait()
-            for stream in (process.stdout, process.stderr):
-                if stream:
-                    stream.close()
-            with self._lock:
-                self._live.discard(process)
-        return _answer(process.returncode, out, err)
+            for process in begun:
+                self._finish(process)
+        return _answer(begun[0].returncode, out, err)
+
+    def _finish(self, process: subprocess.Popen[bytes]) -> None:
+        """Ends a process where it runs still, and waits for its end."""
+        _end(process)
+        process.wait()
+        for stream in (process.stdout, process.stderr):
+            if stream:
+                stream.close()
+        with self._lock:
+            self._live.discard(process)
 
     def stop(self) -> None:
         """Ends every process, and starts none any more."""

@@ -9,6 +9,7 @@ from typing import TYPE_CHECKING, Any, Literal, Optional, TypedDict, Union
 from . import spans
 from ._numbers import Number, cosine_of_degrees, decimal_text
 from ._program import Program, runs_of
+from ._sets import TimeSet
 from ._times import Time, ticks_of_time
 from ._windows import Windows
 from .spans import Summary
@@ -17,6 +18,8 @@ if TYPE_CHECKING:
     from typing_extensions import Unpack
 
 Kind = Literal["coord", "radius", "apsis", "conj", "oppo", "station", "sep", "sepext", "any", "full", "annular"]
+SetKind = Literal["coord", "radius", "apsis", "station", "sep", "sepext"]
+Relation = Literal["less", "atleast", "within", "outside"]
 Body = Literal[
     "mercury", "venus", "emb", "mars", "jupiter", "saturn", "uranus", "neptune", "pluto", "moon", "sun", "earth"
 ]
@@ -28,12 +31,11 @@ Cut = Literal["half", "third"]
 Files = Union[str, "os.PathLike[str]", Iterable[Union[str, "os.PathLike[str]"]]]
 
 
-class Options(TypedDict, total=False):
-    """What every search takes, as `find` does."""
+class SetOptions(TypedDict, total=False):
+    """What every search takes."""
 
     observer: Observer
     frame: Frame
-    dir: Direction
     tick: Literal[1, 1000]
     start: Time
     end: Time
@@ -45,6 +47,16 @@ class Options(TypedDict, total=False):
     timeout: Optional[float]
 
 
+class Options(SetOptions, total=False):
+    """What every search for events takes, as `find` does."""
+
+    dir: Direction
+
+
+# What a report says of an option that is not given. (A span that is not given is that of the files.)
+DEFAULTS = {"second": "-", "frame": "eq", "axis": "-"}
+
+
 def file_names(files: Files) -> list[str]:
     """The names of one file or of several."""
     if isinstance(files, (str, os.PathLike)):
@@ -52,20 +64,22 @@ def file_names(files: Files) -> list[str]:
     return [os.fspath(file) for file in files]
 
 
-def _words(kind: str, options: dict[str, Any]) -> list[str]:
-    """The words of a search before its files."""
-    words = ["find", f"--kind={kind}"]
-    return words + [f"--{name}={value}" for name, value in options.items() if value is not None]
+def _said(command: str, options: dict[str, Any], files: Files, program: Program, timeout: Optional[float]) -> str:
+    """What a command prints for these options of files."""
+    words = [f"--{name}={value}" for name, value in options.items() if value is not None]
+    return runs_of(program, timeout).run([command, *words, "--", *file_names(files)])
 
 
-def _is_answer(report: spans.Report, kind: str, options: dict[str, Any]) -> bool:
+def _is_answer(report: Union[spans.Report, TimeSet], options: dict[str, Any]) -> bool:
     """Whether a report is of what was asked for, so that another search's text is no answer."""
-    wanted = {"kind": kind, **options, "values": options["ref"]}
-    if options["radius1"] is not None:
-        wanted["values"] = f"{options['radius1']},{options['radius2']}"
     start, end = report.span.split(" ")
     said = {**report.asked, "tick": str(report.tick), "from": start, "to": end}
-    return all(said[name] == str(value) for name, value in wanted.items() if value is not None and name in said)
+    wanted = {**DEFAULTS, **{name: value for name, value in options.items() if value is not None}}
+    if options["kind"] == "coord":
+        wanted.setdefault("ref", "0")
+    numbers = [wanted[name] for name in ("ref", "ref2", "radius1", "radius2") if name in wanted]
+    wanted["values"] = ",".join(numbers) or "-"
+    return all(value == str(wanted[name]) for name, value in said.items() if name in wanted)
 
 
 def find(
@@ -92,6 +106,7 @@ def find(
 ) -> Windows:
     """The windows of the events of a kind in files, with the options of `finder find` (`docs/USAGE.md`)."""
     options: dict[str, Any] = {
+        "kind": kind,
         "target": target,
         "second": second,
         "observer": observer,
@@ -109,11 +124,69 @@ def find(
         "workers": workers,
         "cut": cut,
     }
-    said = runs_of(program, timeout).run([*_words(kind, options), "--", *file_names(files)])
-    report = spans.read_report(said)
-    if not _is_answer(report, kind, options):
+    report = spans.read_report(_said("find", options, files, program, timeout))
+    if not _is_answer(report, options):
         raise spans.WrongReport(f"a report of another request: {report.request}")
     return Windows(report)
+
+
+def times(
+    files: Files,
+    kind: SetKind,
+    target: Body,
+    second: Optional[Body] = None,
+    *,
+    relation: Relation,
+    ref: Optional[Number] = None,
+    ref2: Optional[Number] = None,
+    observer: Observer = "ssb",
+    frame: Optional[Frame] = None,
+    axis: Optional[Axis] = None,
+    tick: Literal[1, 1000] = 1,
+    start: Optional[Time] = None,
+    end: Optional[Time] = None,
+    width: int = 1,
+    depth: int = 40,
+    workers: int = 1,
+    cut: Cut = "half",
+    program: Program = None,
+    timeout: Optional[float] = None,
+) -> TimeSet:
+    """The times at which the function of a kind has a relation to a number, with the options of `finder set`
+    (`docs/USAGE.md`): `less`, it is below `ref`; `atleast`, it is at least `ref`; `within`, at least `ref` and below
+    `ref2`; `outside`, below `ref` or at least `ref2`. For `sep` the numbers are cosines, so that `atleast` is near.
+
+    The set is that of the numbers which are passed, and none is rounded here, in neither direction: a text, an int and
+    a `Decimal` are passed as they are, and refused by the command where they have more digits than it takes; a float is
+    the shortest decimal that is it, and an astropy quantity the float that is its value in km. So `less` and `atleast`
+    of one number are each exactly the rest of the span of the other. The cosine of an angle in degrees is no such
+    number: `near` and `far` take angles.
+
+    The times of the set are ticks of the span from `start` to `end`, both among them. A `start` between two ticks is
+    rounded down and an `end` up, so that no time of what was asked for is left out.
+    """
+    options: dict[str, Any] = {
+        "kind": kind,
+        "target": target,
+        "second": second,
+        "observer": observer,
+        "frame": frame,
+        "axis": axis,
+        "ref": None if ref is None else decimal_text(ref),
+        "relation": relation,
+        "ref2": None if ref2 is None else decimal_text(ref2),
+        "tick": tick,
+        "from": _time_word(start, tick, up=False),
+        "to": _time_word(end, tick, up=True),
+        "width": width,
+        "depth": depth,
+        "workers": workers,
+        "cut": cut,
+    }
+    found = TimeSet.of_text(_said("set", options, files, program, timeout))
+    if not _is_answer(found, options):
+        raise spans.WrongReport(f"a report of another request: {found.request}")
+    return found
 
 
 def _time_word(time: Optional[Time], tick: int, up: bool) -> Optional[str]:
@@ -197,3 +270,69 @@ def occultations(
     (`any`), all of it (`full`), or to lie within it (`annular`), of spheres with these radii in km. The target is the
     nearer body, and the observer is outside of both."""
     return find(files, kind, target, second, radii=radii, **options)
+
+
+def near(
+    files: Files,
+    target: Body,
+    second: Body,
+    *,
+    degrees: Optional[Number] = None,
+    cosine: Optional[Number] = None,
+    **options: Unpack[SetOptions],
+) -> TimeSet:
+    """The times at which the angle between two bodies is at most one, given in degrees or by its cosine.
+
+    A cosine is taken exactly, and is one search (`atleast`). The cosine of degrees is no decimal, but for 0, 60, 90,
+    120 and 180: of others there are two searches, for the two decimals of 18 places between which it lies. The sure
+    times are those of the one above it, whose angle is smaller, and the possible times those of the one below it, whose
+    angle is greater. So each sure time is within the given angle itself, and each time within it is possible.
+    """
+    return _by_angle(files, target, second, "atleast", degrees, cosine, options)
+
+
+def far(
+    files: Files,
+    target: Body,
+    second: Body,
+    *,
+    degrees: Optional[Number] = None,
+    cosine: Optional[Number] = None,
+    **options: Unpack[SetOptions],
+) -> TimeSet:
+    """The times at which the angle between two bodies is greater than one, given in degrees or by its cosine: the other
+    times of `near`, of the same span.
+
+    A cosine is taken exactly, and is one search (`less`). Of degrees the sure times are those of the decimal below
+    their cosine, whose angle is greater, and the possible times those of the one above it, whose angle is smaller. So
+    each sure time is farther than the given angle itself, and each time farther than it is possible.
+    """
+    return _by_angle(files, target, second, "less", degrees, cosine, options)
+
+
+def _by_angle(
+    files: Files,
+    target: Body,
+    second: Body,
+    relation: Relation,
+    degrees: Optional[Number],
+    cosine: Optional[Number],
+    options: SetOptions,
+) -> TimeSet:
+    """The times of `near` or `far`: of one search where the cosine is a decimal, else of two."""
+    if (degrees is None) == (cosine is None):
+        raise TypeError("either degrees or cosine is wanted")
+    if degrees is None:
+        return times(files, "sep", target, second, relation=relation, ref=cosine, **options)
+    # The cosine of sure times, then that of possible ones: one where it is a decimal.
+    cosines = dict.fromkeys(cosine_of_degrees(degrees, up=up) for up in (relation == "atleast", relation == "less"))
+    names = file_names(files)
+    # (`timeout` is of both searches)
+    options["program"] = runs_of(options.get("program"), options.get("timeout"))
+    sure, *possible = (times(names, "sep", target, second, relation=relation, ref=ref, **options) for ref in cosines)
+    return sure.up_to(possible[0]) if possible else sure
+
+
+def retrograde(files: Files, target: Body, **options: Unpack[SetOptions]) -> TimeSet:
+    """The times at which a body moves backward in longitude, of `frame`; at the others it moves forward or rests."""
+    return times(files, "station", target, relation="less", **options)

@@ -3,20 +3,17 @@
 from __future__ import annotations
 
 from collections.abc import Iterator, Sequence
-from typing import Any, Literal, Union, overload
+from typing import Any, Union, overload
 
 import numpy as np
 import numpy.typing as npt
 
 from . import spans
-from ._times import J2000, J2000_DAYS
+from ._ends import Ends
 from .spans import Report, Window
 
-End = Literal["first", "last"]
-UNITS = {1: "s", 1_000: "ms"}
 
-
-class Windows(Sequence[Window]):
+class Windows(Ends, Sequence[Window]):
     """The windows of a search, in order of time, after `start` and up to `end`.
 
     `first` and `last` are arrays of int64, ticks since J2000 (TDB) of which `tick` are in a second; `turn` is an array
@@ -29,8 +26,8 @@ class Windows(Sequence[Window]):
         self.tick = report.tick
         self.start = report.start
         self.end = report.end
-        self.first: npt.NDArray[np.int64] = np.array([window.first for window in report.windows], dtype=np.int64)
-        self.last: npt.NDArray[np.int64] = np.array([window.last for window in report.windows], dtype=np.int64)
+        self.first = np.array([window.first for window in report.windows], dtype=np.int64)
+        self.last = np.array([window.last for window in report.windows], dtype=np.int64)
         self.turn: npt.NDArray[np.str_] = np.array([window.turn or "" for window in report.windows], dtype="<U4")
         for array in (self.first, self.last, self.turn):
             array.flags.writeable = False
@@ -108,23 +105,6 @@ class Windows(Sequence[Window]):
         mask: npt.NDArray[np.bool_] = self.turn == "fall"
         return mask
 
-    def datetime64(self, which: End = "last") -> npt.NDArray[np.datetime64]:
-        """The first or the last ticks on the calendar of TDB, exactly, to the second or the millisecond."""
-        unit = UNITS[self.tick]
-        times: npt.NDArray[np.datetime64] = J2000.astype(f"datetime64[{unit}]") + self._ticks(which).astype(
-            f"m8[{unit}]"
-        )
-        return times
-
-    def time(self, which: End = "last") -> Any:
-        """The first or the last ticks as an astropy `Time`, of scale TDB, to 10^-11 seconds."""
-        from astropy.time import Time
-
-        days, rest = np.divmod(self._ticks(which), spans.DAY * self.tick)
-        made = Time(J2000_DAYS + days, rest / (spans.DAY * self.tick), format="jd", scale="tdb")
-        made.format = "isot"
-        return made
-
     def to_pandas(self) -> Any:
         """A `DataFrame` of pandas: first and last ticks, the turn (empty where it is undecided), and the times on the
         calendar of TDB as texts, since the times of pandas may end at 1677 and 2262."""
@@ -146,11 +126,3 @@ class Windows(Sequence[Window]):
 
         columns = {"first": self.time("first"), "last": self.time("last"), "turn": self.turn.copy()}
         return Table(columns, meta={"request": self.request})
-
-    def _ticks(self, which: End) -> npt.NDArray[np.int64]:
-        if which not in ("first", "last"):
-            raise ValueError(f"`first` or `last` is wanted, not {which!r}")
-        return self.first if which == "first" else self.last
-
-    def _texts(self, which: End) -> list[str]:
-        return [spans.time_text(ticks, self.tick) for ticks in self._ticks(which).tolist()]

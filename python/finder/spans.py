@@ -42,11 +42,13 @@ DAYS_TO_2000 = 730_425
 DAYS_OF_400_YEARS = 146_097
 TIME = re.compile(r"([0-9]{4}|-[0-9]{6})-([0-9]{2})-([0-9]{2})T([0-9]{2}):([0-9]{2}):([0-9]{2})(?:\.([0-9]{3}))?")
 SECONDS = re.compile(r"[+-]?[0-9]{1,12}")
-REQUEST = re.compile(
-    r"FIND (?P<kind>[a-z]+) target (?P<target>[a-z]+) second (?P<second>[a-z]+|-) observer (?P<observer>[a-z]+)"
-    r" frame (?P<frame>eq|ecl) axis (?P<axis>[xyz-]) values (?P<values>\S+) dir (?P<dir>any|rise|fall)"
-    r" width (?P<width>[0-9]+) depth (?P<depth>[0-9]+) cut (?P<cut>half|third)(?P<tick> tick 1000)?"
+# The words of a request between its kind and what is looked for, and those after it.
+ASKED = (
+    r" target (?P<target>[a-z]+) second (?P<second>[a-z]+|-) observer (?P<observer>[a-z]+) frame (?P<frame>eq|ecl)"
+    r" axis (?P<axis>[xyz-]) values (?P<values>\S+)"
 )
+LIMITS = r" width (?P<width>[0-9]+) depth (?P<depth>[0-9]+) cut (?P<cut>half|third)(?P<tick> tick 1000)?"
+REQUEST = re.compile(rf"FIND (?P<kind>[a-z]+){ASKED} dir (?P<dir>any|rise|fall){LIMITS}")
 CERTAIN = re.compile(r"C (\S+) (\S+) (rise|fall)")
 UNDECIDED = re.compile(r"U (\S+) (\S+)")
 COUNTS = re.compile(r"END certain (0|[1-9][0-9]*) undecided (0|[1-9][0-9]*)")
@@ -130,29 +132,28 @@ class Report:
     @property
     def asked(self) -> dict[str, str]:
         """The words of the request by their names: kind, target, second, observer and so on."""
-        found = REQUEST.fullmatch(self.request)
-        return {name: word or "1" for name, word in found.groupdict().items()} if found else {}
+        return words_of(self.request, REQUEST)
 
     @property
     def span(self) -> str:
         """The span as the report has it."""
-        return f"{time_text(self.start, self.tick)} {time_text(self.end, self.tick)}"
+        return span_text(self.start, self.end, self.tick)
 
     def text(self) -> str:
         """The report, letter for letter as the command prints it."""
         lines = [f"{self.request} span {self.span}"]
         for first, last, turn in self.windows:
-            times = f"{time_text(first, self.tick)} {time_text(last, self.tick)}"
+            times = span_text(first, last, self.tick)
             lines.append(f"C {times} {turn}" if turn else f"U {times}")
         certain = sum(window.turn is not None for window in self.windows)
         lines.append(f"END certain {certain} undecided {len(self.windows) - certain}")
         return "\n".join(lines) + "\n"
 
 
-def _request(line: str) -> Report:
-    """The first line of a report, which has no windows yet."""
+def read_head(line: str, form: re.Pattern[str]) -> tuple[str, int, int, int]:
+    """The first line of a report: the request, which has this form, the ticks in a second, and the span in ticks."""
     request, found, span = line.partition(" span ")
-    asked = REQUEST.fullmatch(request)
+    asked = form.fullmatch(request)
     times = span.split(" ")
     if not (found and asked and len(times) == 2):
         raise WrongReport(f"no first line of a report: {line}")
@@ -160,7 +161,18 @@ def _request(line: str) -> Report:
     start, end = (ticks_of(time, tick) for time in times)
     if not start < end:
         raise WrongReport(f"a span without times: {line}")
-    return Report(request, tick, start, end, ())
+    return request, tick, start, end
+
+
+def words_of(request: str, form: re.Pattern[str]) -> dict[str, str]:
+    """The words of a request by their names."""
+    found = form.fullmatch(request)
+    return {name: word or "1" for name, word in found.groupdict().items()} if found else {}
+
+
+def span_text(start: int, end: int, tick: int) -> str:
+    """A span, or a window, as a report has it."""
+    return f"{time_text(start, tick)} {time_text(end, tick)}"
 
 
 def _window(line: str, head: Report, direction: str, after: int) -> Window:
@@ -179,7 +191,7 @@ def _window(line: str, head: Report, direction: str, after: int) -> Window:
 
 def _one_report(lines: list[str], at: int) -> tuple[Report, int]:
     """The report that begins at a line, and the line after it."""
-    head = _request(lines[at])
+    head = Report(*read_head(lines[at], REQUEST), ())
     direction = head.asked["dir"]
     windows: list[Window] = []
     for number in range(at + 1, len(lines)):

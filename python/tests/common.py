@@ -5,6 +5,7 @@ import os
 import subprocess
 import tempfile
 import time
+import types
 import unittest
 from pathlib import Path
 
@@ -12,6 +13,7 @@ TOP = Path(__file__).resolve().parents[2]
 PROGRAM = TOP / "release" / "finder-x86_64-linux"
 YEAR = TOP / "examples" / "de405-2000.asc"
 TOOL = TOP / "tools" / "spans"
+CASES = TOP / "crates" / "finder_cases" / "data"
 # The great conjunction, as README.md has it.
 REPORT = """\
 FIND conj target jupiter second saturn observer earth frame ecl axis - values - dir any width 1 depth 40 cut half \
@@ -28,6 +30,31 @@ def command(*words):
     """What the command prints for these words."""
     done = subprocess.run([PROGRAM, *words], capture_output=True, check=True, text=True)
     return done.stdout
+
+
+def cases(name):
+    """The runs of a file of cases, whose README says what its lines are: their words, their files, and their exact
+    answers, by a reference that is not this program."""
+    texts = {}
+    with open(CASES / name, "rb") as file:
+        for line in file:
+            record, *rest = line.decode().split()
+            if record in ("text", "word", "file", "out", "err"):
+                piece = file.read(int(rest[-1]) + 1)[:-1].decode()
+            if record == "text":
+                texts[rest[0]] = piece
+            elif record == "case":
+                case = types.SimpleNamespace(name=rest[0], words=[], files={})
+            elif record == "word":
+                case.words.append(piece)
+            elif record == "file":
+                case.files[piece] = texts[rest[0]]
+            elif record == "status":
+                case.status = int(rest[0])
+            elif record in ("out", "err"):
+                setattr(case, record, piece)
+            elif record == "end":
+                yield case
 
 
 def split_year(folder, rows=FILES):

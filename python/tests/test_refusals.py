@@ -39,6 +39,16 @@ WRONG = {
     "two reports": ("END certain 1 undecided 0\n", "END certain 1 undecided 0\n" + REPORT),
     "nothing": (REPORT, ""),
 }
+# A process that has begun before its caller knows of it, and the words of a search of two files.
+SLOW = """
+import subprocess, time
+class Popen(subprocess.Popen):
+    def __init__(self, *words, **options):
+        super().__init__(*words, **options)
+        time.sleep(0.5)
+subprocess.Popen = Popen
+"""
+MOONS = "finder.apsides, ['a', 'b'], 'moon'"
 
 
 class Reports(InFolder):
@@ -159,10 +169,10 @@ class Stops(InFolder):
         self.assertRaises(finder.TimedOut, finder.check, pipe, timeout=0.2)
 
     def test_an_interrupted_caller(self):
-        for call in ("finder.check('a')", "finder.over_files(finder.apsides, ['a', 'b'], 'moon', jobs=2)"):
+        for call in ("finder.check('a')", f"{SLOW}finder.check('a')", f"finder.over_files({MOONS}, jobs=2)"):
             self.number.unlink(missing_ok=True)
             caller = subprocess.Popen(
-                [sys.executable, "-c", f"import finder; {call}"],
+                [sys.executable, "-c", f"import finder\n{call}"],
                 stderr=subprocess.PIPE,
                 env={**os.environ, "FINDER": str(self.slow), "PYTHONPATH": str(TOP / "python")},
                 # (what runs in the background of a shell ignores the signal, and so would its children)

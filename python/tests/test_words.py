@@ -1,6 +1,7 @@
 """Times and numbers of every form are the command's."""
 
 import datetime
+import decimal
 import importlib.util
 import unittest
 from decimal import Decimal
@@ -36,6 +37,15 @@ COSINES = {
     135: "-0.707106781186547525",
     144: "-0.809016994374947425",
     180: "-1",
+}
+# Those that are not the cosine itself, rounded up.
+COSINES_UP = {
+    1: "0.99984769515639124",
+    "30": "0.866025403784438647",
+    36.0: "0.809016994374947425",
+    Decimal(45): "0.707106781186547525",
+    135: "-0.707106781186547524",
+    144: "-0.809016994374947424",
 }
 
 
@@ -167,12 +177,20 @@ class Numbers(unittest.TestCase):
         self.assertEqual(decimal_text(1 * units.au), "149597870.7")
         self.assertEqual(cosine_of_degrees(60 * units.arcmin), COSINES[1])
 
-    def test_cosines_are_rounded_down_to_18_places(self):
+    def test_cosines_are_rounded_to_18_places(self):
         for degrees, text in COSINES.items():
             self.assertEqual(cosine_of_degrees(degrees), text, repr(degrees))
         self.assertEqual(cosine_of_degrees("0.00000001"), "0.999999999999999999")
         self.assertEqual(cosine_of_degrees("179.99999999"), "-1")
         self.assertEqual(cosine_of_degrees(Fraction(1, 3)), "0.999983076857744188")
+        for degrees in COSINES:
+            self.assertEqual(cosine_of_degrees(degrees, up=True), COSINES_UP.get(degrees, COSINES[degrees]))
+        self.assertEqual(cosine_of_degrees("0.00000001", up=True), "1")
+        self.assertEqual(cosine_of_degrees("179.99999999", up=True), "-0.999999999999999999")
+        self.assertEqual(cosine_of_degrees("90.00000000000000001", up=True), "0")
+        with decimal.localcontext() as context:
+            context.prec = 5
+            self.assertEqual(cosine_of_degrees(1), COSINES[1])
         for degrees in (-1, "180.1", "north"):
             self.assertRaises(ValueError, cosine_of_degrees, degrees)
         self.assertIs(finder.cosine_of_degrees, cosine_of_degrees)

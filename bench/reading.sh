@@ -12,7 +12,7 @@ ours=$(realpath -m "${2:-$here/../crates/finder_main/out/finder_main}")
 [ -x "$ours" ] || { echo "build it first: cd crates/finder_main && rt run" >&2; exit 1; }
 work=$(mktemp -d)
 trap 'rm -rf "$work"' EXIT
-cc -O2 -o "$work/peer" "$here/reading.c" -lm
+cc -O2 -o "$work/peer" "$here/doubles.c" -lm
 python3 "$here/texts.py" small "$work/small.asc"
 python3 "$here/texts.py" large "$work/large.asc" "$source"
 
@@ -31,9 +31,9 @@ least() {
 measure() {
     echo "$1: $(wc -c < "$work/$1") bytes, $(wc -l < "$work/$1") lines"
     rm -f "$work/ours.times" "$work/peer.times"
-    for run in 1 2 3 4 5; do
+    for _ in 1 2 3 4 5; do
         /usr/bin/time -q -f '%U %S %e %M %x' -a -o "$work/ours.times" "$ours" check "$work/$1" > "$work/ours.out" 2>&1 || true
-        /usr/bin/time -q -f '%U %S %e %M %x' -a -o "$work/peer.times" "$work/peer" "$work/$1" > "$work/peer.out"
+        /usr/bin/time -q -f '%U %S %e %M %x' -a -o "$work/peer.times" "$work/peer" reading "$work/$1" > "$work/peer.out"
     done
     least "finder check" "$work/ours.times"
     least "C with strtod" "$work/peer.times"

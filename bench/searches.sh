@@ -13,7 +13,7 @@ ours=crates/measure_main/out/measure_main
 work=$(mktemp -d)
 trap 'rm -rf "$work"' EXIT
 cc -O2 -o "$work/nodes" bench/nodes.c
-cc -O2 -o "$work/doubles" bench/searches.c -lm
+cc -O2 -o "$work/doubles" bench/doubles.c -lm
 
 # Adds the time of the user for so many rounds of a kind to a file of times.
 run() {
@@ -32,13 +32,13 @@ least() {
 # doubles.
 measure() {
     rm -f "$work"/ours.* "$work"/nodes.[0-9o]* "$work"/doubles.[0-9o]*
-    for turn in 1 2 3 4 5; do
+    for _ in 1 2 3 4 5; do
         run ours 1 "$ours" search "$1"
         run nodes 1 "$work/nodes" "$1"
-        run doubles 1 "$work/doubles" "$1"
+        run doubles 1 "$work/doubles" rounds "$1"
         run ours "$2" "$ours" search "$1"
         run nodes "$2" "$work/nodes" "$1"
-        run doubles "$3" "$work/doubles" "$1"
+        run doubles "$3" "$work/doubles" rounds "$1"
     done
     sum=$(awk '{ print $8 }' "$work/ours.out")
     [ "$sum" = "$(awk '{ print $10 }' "$work/nodes.out")" ] || { echo "$1: the checksums differ" >&2; exit 1; }

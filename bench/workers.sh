@@ -47,7 +47,7 @@ found() {
 # The words are a kind, the rounds, a file and its name.
 measure() {
     rm -f "$work"/*.times
-    for turn in 1 2 3 4 5; do
+    for _ in 1 2 3 4 5; do
         for way in $ways; do
             run "$way" "$1" 1 "$3"
             run "$way" "$1" "$2" "$3"

@@ -2,7 +2,6 @@
 use Rattle.std.proofs.Common.{◌≡◌, ◌<◌, true, None, List, ℤ, ◌≤ℤ◌, arith}
 use Rattle.std.proofs.lemmas.Int.{ints}
 use Rattle.spec_ephemeris.specs.Ephemeris.{Ephemeris, IsEphemeris}
-use Rattle.spec_intervals.specs.declared.signs.Sign.{Sign}
 use Rattle.spec_sets.specs.Pairs.{AreOf}
 use Rattle.spec_sets.specs.Spans.{AreSpans}
 use Rattle.spec_kinds.specs.Faults.{fault_of}

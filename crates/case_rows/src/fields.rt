@@ -24,16 +24,6 @@ impl From<AllocError> for RowError {
     }
 }
 
-fn number_of<N: FromStr>(word: &str) -> Result<N, RowError>
-where
-    <N as FromStr>::Err: Drop,
-{
-    match word.parse::<N>() {
-        Ok(number) => Ok(number),
-        Err(_) => Err(RowError::Malformed),
-    }
-}
-
 /// The fields of a row that are left.
 #[derive(Clone, Copy)]
 pub struct Fields<'a> {
@@ -73,17 +63,9 @@ impl<'a> Fields<'a> {
     where
         <N as FromStr>::Err: Drop,
     {
-        number_of(self.word()?)
-    }
-
-    /// The next field as a number, or as the word `none`.
-    pub fn number_or_none<N: FromStr>(&mut self) -> Result<Option<N>, RowError>
-    where
-        <N as FromStr>::Err: Drop,
-    {
-        match self.word()? {
-            "none" => Ok(None),
-            word => Ok(Some(number_of(word)?)),
+        match self.word()?.parse::<N>() {
+            Ok(number) => Ok(number),
+            Err(_) => Err(RowError::Malformed),
         }
     }
 

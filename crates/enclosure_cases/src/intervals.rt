@@ -1,7 +1,7 @@
 // Operations on intervals.
 ghost use Rattle.std.specs.Prelude.{◌<◌, ◌^◌, ◌≤ℤ◌, IfOk, pos, unsigned_abs};
-ghost use Rattle.spec_intervals.specs.Interval.{IsExponent, interval};
-ghost use Rattle.spec_intervals.specs.Fraction.{Fraction, Holds, fraction};
+ghost use Rattle.spec_intervals.specs.Interval.{IsExponent};
+ghost use Rattle.spec_intervals.specs.Fraction.{Holds, fraction};
 
 use case_rows::{Fields, Parts, RowError, interval_parts};
 use ival_core::{COSINE_EXPONENT, DISTANCE_EXPONENT, Divider, Ival, is_cosine, is_distance};
@@ -11,13 +11,11 @@ const MAX_EXPONENT: i32 = 65_536;
 // One past the greatest end that is scaled.
 const END_LIMIT: i128 = 1 << 126;
 
-// The interval of three numbers, whose exponent may be computed with, and so may that of the numbers.
-fn normalized(parts: Parts) -> Result<Ival, RowError>
-    ensures exponent { IfOk result (λ x. IsExponent x.s) }
-    ensures holds { IfOk result (λ x. (r : Fraction)
-        → Holds (interval parts.0 parts.1 parts.2) r → Holds x r) }
+// The interval of the next numbers.
+fn interval(fields: &mut Fields<'_>) -> Result<Ival, RowError>
+    ensures { IfOk result (λ x. IsExponent x.s) }
 {
-    let (lo, hi, s) = parts;
+    let (lo, hi, s) = interval_parts(fields)?;
     if hi < lo || s < -MAX_EXPONENT || MAX_EXPONENT < s {
         return Err(RowError::Malformed);
     }
@@ -29,22 +27,21 @@ fn normalized(parts: Parts) -> Result<Ival, RowError>
     Ok(x)
 }
 
-// The interval of the next numbers.
-fn interval(fields: &mut Fields<'_>) -> Result<Ival, RowError>
-    ensures { IfOk result (λ x. IsExponent x.s) }
-{
-    normalized(interval_parts(fields)?)
-}
-
 // The interval of numbers round 0, so that two of them have a number in common.
 fn interval_round_zero(parts: Parts) -> Result<Ival, RowError>
     ensures exponent { IfOk result (λ x. IsExponent x.s) }
     ensures zero { IfOk result (λ x. Holds x (fraction (pos 0) 1)) }
 {
-    if 0 < parts.0 || parts.1 < 0 {
+    let (lo, hi, s) = parts;
+    if 0 < lo || hi < 0 || s < -MAX_EXPONENT || MAX_EXPONENT < s {
         return Err(RowError::Malformed);
     }
-    normalized(parts)
+    let x = Ival::of(lo, hi, s);
+    let (_, _, exponent) = x.parts();
+    if exponent < -MAX_EXPONENT || MAX_EXPONENT < exponent {
+        return Err(RowError::Malformed);
+    }
+    Ok(x)
 }
 
 fn meet(fields: &mut Fields<'_>) -> Result<Ival, RowError> {

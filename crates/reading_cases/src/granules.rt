@@ -30,6 +30,16 @@ fn expected_shape(fields: &mut Fields<'_>) -> Result<Shape, RowError> {
     })
 }
 
+fn expected_border(fields: &mut Fields<'_>) -> Result<Option<i64>, RowError> {
+    match fields.word()? {
+        "none" => Ok(None),
+        word => match word.parse::<i64>() {
+            Ok(time) => Ok(Some(time)),
+            Err(_) => Err(RowError::Malformed),
+        },
+    }
+}
+
 // The granule of a column at a time, of an ephemeris that has both.
 fn shape_at(ephemeris: &Ephemeris, column: usize, t: i64) -> Result<Shape, RowError>
     requires present { IsTrue (has_column ephemeris.now.header column) }
@@ -73,6 +83,6 @@ pub(crate) fn granule_agrees(rt: &HostRuntime, fields: &mut Fields<'_>) -> Resul
     let a = fields.number::<i64>()?;
     let b = fields.number::<i64>()?;
     let border = border_in(&ephemeris, column, a, b)?;
-    let is_border = fields.number_or_none::<i64>()? == border;
+    let is_border = expected_border(fields)? == border;
     Ok(is_border && shape == expected)
 }

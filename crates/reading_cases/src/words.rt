@@ -24,11 +24,22 @@ fn expected_decimal(fields: &mut Fields<'_>) -> Result<Result<Decimal, NumberFau
     }
 }
 
+// The whole number of the next field, or none.
+fn expected_whole(fields: &mut Fields<'_>) -> Result<Option<u32>, RowError> {
+    match fields.word()? {
+        "none" => Ok(None),
+        word => match word.parse::<u32>() {
+            Ok(number) => Ok(Some(number)),
+            Err(_) => Err(RowError::Malformed),
+        },
+    }
+}
+
 /// A word, the decimal or the fault that it is, and the whole number or none.
 pub(crate) fn decimal_agrees(alloc: Global, fields: &mut Fields<'_>) -> Result<bool, RowError> {
     let word = fields.bytes(alloc)?;
     let decimal = expected_decimal(fields)?;
-    let whole = fields.number_or_none::<u32>()?;
+    let whole = expected_whole(fields)?;
     Ok(read_decimal(&word) == decimal && read_whole(&word) == whole)
 }
 

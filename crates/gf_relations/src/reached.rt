@@ -67,9 +67,7 @@ pub(crate) fn reached<R: Threads + Wait + Sync, G: Gate>(
     ensures stopped { IfErr result (λ refusal.
         HasTooMany (search query.now ephemeris.now) span refusal) }
 {
-    let found = leaves(
-        rt, alloc, ephemeris, query, span, workers, MAX_LEAVES, gate,
-    )?;
+    let found = leaves(rt, alloc, ephemeris, query, span, workers, MAX_LEAVES, gate)?;
     let pair = reached_by(alloc, ephemeris, query, event, span, &found)?;
     Ok(pair)
 }

@@ -1,5 +1,6 @@
 -- The times at which the function of a search is at least 0, by the search alone, and sets of a span.
 use Rattle.std.specs.Prelude.{◌≡◌, ◌⊎◌, ℤ, ◌≤ℤ◌, true, List, Ok, Err}
+use Rattle.spec_intervals.specs.declared.signs.Sign.{Sign}
 use Rattle.spec_sets.specs.Pairs.{AreOf}
 use Rattle.spec_sets.specs.Spans.{earliest, has, is_between, latest}
 use Rattle.spec_searches.specs.Search.{Search}
@@ -10,6 +11,7 @@ use Rattle.spec_outcomes.specs.declared.refusal.Refusal.TheVariants.{Memory}
 use Rattle.spec_outcomes.specs.Outcomes.{searched}
 use Rattle.spec_outcomes.specs.Queries.{leaves_in}
 use Rattle.spec_outcomes.specs.Sets.{signs_in}
+use Rattle.gf_sets.specs.declared.pair.Pair.{Pair}
 
 -- ---- by a search
 -- these times are sure and possible by the leaves of a search, which has no more than may be
@@ -32,3 +34,9 @@ pub record HasSets (span : Span) : Type 0 where
 pub record AreWithin (span : Span) (surely perhaps : List (ℤ × ℤ)) : Type 0 where
   pub sure : (t : ℤ) → has surely t ≡ true → is_between span.from span.upto t ≡ true
   pub maybe : (t : ℤ) → has perhaps t ≡ true → is_between span.from span.upto t ≡ true
+
+-- wherever two pairs of sets are of signs, a third is of what the signs make together
+abbrev pub AreJoined : (Sign → Sign → Sign) → Span → Pair → Pair → Pair → Type 0
+AreJoined join span first second pair =
+    (x y : ℤ → Sign) → AreOf x span.from span.upto first.sure first.maybe → AreOf y span.from span.upto second.sure second.maybe
+    → AreOf (λ t. join (x t) (y t)) span.from span.upto pair.sure pair.maybe

@@ -1,10 +1,8 @@
 // Two sets made of those about one reference or two.
-ghost use Rattle.std.specs.Prelude.{◌≡◌, ℤ, IfOk, unwrap_or};
-ghost use Rattle.spec_intervals.specs.declared.signs.Sign.{Sign};
-ghost use Rattle.spec_sets.specs.Pairs.{AreOf};
+ghost use Rattle.std.specs.Prelude.{IfOk, unwrap_or};
 ghost use Rattle.spec_sets.specs.Signs.{both, either, opposite};
 ghost use Rattle.spec_outcomes.specs.Sets.{relation_sign};
-ghost use Rattle.gf_relations.specs.Reached.{AreWithin, HasSets};
+ghost use Rattle.gf_relations.specs.Reached.{AreJoined, AreWithin, HasSets};
 
 use crate::references::Both;
 use gf_sets::Pair;
@@ -16,10 +14,8 @@ use std::alloc::{AllocError, Global};
 fn inside(alloc: Global, first: &Pair, second: &Pair, span: Span) -> Result<Pair, AllocError>
     requires span { HasSets span }
     requires within { AreWithin span second.now.sure second.now.maybe }
-    ensures { IfOk result (λ pair. (x y : ℤ → Sign)
-        → AreOf x span.from span.upto first.now.sure first.now.maybe
-        → AreOf y span.from span.upto second.now.sure second.now.maybe
-        → AreOf (λ t. both (x t) (opposite (y t))) span.from span.upto pair.sure pair.maybe) }
+    ensures { IfOk result (λ pair.
+        AreJoined (λ s t. both s (opposite t)) span first.now second.now pair) }
 {
     let below = second.complement(alloc, span.from, span.upto)?;
     first.intersect(alloc, &below)
@@ -29,10 +25,8 @@ fn inside(alloc: Global, first: &Pair, second: &Pair, span: Span) -> Result<Pair
 fn outside(alloc: Global, first: &Pair, second: &Pair, span: Span) -> Result<Pair, AllocError>
     requires span { HasSets span }
     requires within { AreWithin span first.now.sure first.now.maybe }
-    ensures { IfOk result (λ pair. (x y : ℤ → Sign)
-        → AreOf x span.from span.upto first.now.sure first.now.maybe
-        → AreOf y span.from span.upto second.now.sure second.now.maybe
-        → AreOf (λ t. either (opposite (x t)) (y t)) span.from span.upto pair.sure pair.maybe) }
+    ensures { IfOk result (λ pair.
+        AreJoined (λ s t. either (opposite s) t) span first.now second.now pair) }
 {
     let below = first.complement(alloc, span.from, span.upto)?;
     below.union(alloc, second)
@@ -49,11 +43,8 @@ pub(crate) fn combined(
     requires first { AreWithin span both.first.sure both.first.maybe }
     requires second { AreWithin span (unwrap_or both.second both.first).sure
         (unwrap_or both.second both.first).maybe }
-    ensures { IfOk result (λ pair. (x y : ℤ → Sign)
-        → AreOf x span.from span.upto both.first.sure both.first.maybe
-        → AreOf y span.from span.upto (unwrap_or both.second both.first).sure
-        (unwrap_or both.second both.first).maybe
-        → AreOf (λ t. relation_sign relation (x t) (y t)) span.from span.upto pair.sure pair.maybe) }
+    ensures { IfOk result (λ pair. AreJoined (relation_sign relation) span
+        both.first (unwrap_or both.second both.first) pair) }
 {
     match relation {
         Relation::AtLeast => Ok(both.first),

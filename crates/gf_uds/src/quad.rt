@@ -1,9 +1,10 @@
 // Quadratic polynomials.
 ghost use Rattle.std.specs.Prelude.{◌≡◌, ◌≤◌, unsigned_abs};
 ghost use Rattle.spec_scalars.specs.declared.limits.TheConstants.{MAX_TIME};
-ghost use Rattle.spec_scalars.specs.Quads.{IsSmall, is_small, quad_high, quad_low, quad_step, small_quadratic};
+ghost use Rattle.spec_scalars.specs.Quads.{IsSmall, is_small, quad_step, small_quadratic};
+ghost use Rattle.gf_uds.specs.Bounds.{quad_bound};
 
-use crate::squares::{greater_product, greatest_square, least_square, lesser_product, step, sum};
+use crate::squares::{Bound, greatest_square, least_square, product_bound, step, sum};
 use spec_scalars::{MAX_FACTOR, MAX_SUMMAND};
 use std::marker::Model;
 
@@ -59,26 +60,15 @@ impl Quad {
         (i128::from(self.p), i128::from(self.q), i128::from(self.r))
     }
 
-    /// What it is no less than from `a` to `b`.
-    pub(crate) fn low(&self, a: i128, b: i128) -> i128
+    /// What it is no less than from `a` to `b`, or no more than.
+    pub(crate) fn bound(&self, bound: Bound, a: i128, b: i128) -> i128
         requires first { unsigned_abs a ≤ MAX_TIME }
         requires last { unsigned_abs b ≤ MAX_TIME }
-        ensures { result ≡ quad_low self.now a b }
+        ensures { result ≡ quad_bound bound self.now a b }
     {
         let (p, q, r) = self.parts();
-        let square = lesser_product(p, least_square(a, b), greatest_square(a, b));
-        sum(sum(square, lesser_product(q, a, b)), r)
-    }
-
-    /// What it is no more than.
-    pub(crate) fn high(&self, a: i128, b: i128) -> i128
-        requires first { unsigned_abs a ≤ MAX_TIME }
-        requires last { unsigned_abs b ≤ MAX_TIME }
-        ensures { result ≡ quad_high self.now a b }
-    {
-        let (p, q, r) = self.parts();
-        let square = greater_product(p, least_square(a, b), greatest_square(a, b));
-        sum(sum(square, greater_product(q, a, b)), r)
+        let square = product_bound(bound, p, least_square(a, b), greatest_square(a, b));
+        sum(sum(square, product_bound(bound, q, a, b)), r)
     }
 
     /// Its change from a time to the next.

@@ -6,6 +6,7 @@ ghost use Rattle.spec_scalars.specs.Quads.{quad_reach, quad_scalar};
 
 use crate::law::Law;
 use crate::quad::Quad;
+use crate::squares::Bound;
 use spec_scalars::Reach;
 
 // What is known of a polynomial from `a` to a later time `b`: its changes lie between the first and the last of them.
@@ -17,8 +18,8 @@ fn wide_reach(quad: &Quad, a: i128, b: i128) -> Reach
 {
     let (first, last) = (quad.step(a), quad.step(b - 1));
     Reach {
-        lo: quad.low(a, b),
-        hi: quad.high(a, b),
+        lo: quad.bound(Bound::Low, a, b),
+        hi: quad.bound(Bound::High, a, b),
         step_lo: first.min(last),
         step_hi: first.max(last),
     }
@@ -33,8 +34,8 @@ impl Law for Quad {
             wide_reach(self, a, b)
         } else {
             Reach {
-                lo: self.low(a, b),
-                hi: self.high(a, b),
+                lo: self.bound(Bound::Low, a, b),
+                hi: self.bound(Bound::High, a, b),
                 step_lo: 0,
                 step_hi: 0,
             }

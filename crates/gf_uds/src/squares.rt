@@ -1,8 +1,8 @@
 // Numbers of which a quadratic polynomial is made, over times of at most 2^40 in magnitude.
 ghost use Rattle.std.specs.Prelude.{◌≡◌, ◌≤◌, ◌^◌, ◌&&◌, ◌+ℤ◌, ◌*ℤ◌, int_le, pos, unsigned_abs};
-ghost use Rattle.std.specs.Int.{int_max, int_min};
 ghost use Rattle.spec_scalars.specs.declared.limits.TheConstants.{MAX_FACTOR, MAX_TIME};
 ghost use Rattle.spec_scalars.specs.Quads.{greatest_square, least_square};
+ghost use Rattle.gf_uds.specs.Bounds.{outer};
 
 // The product of a factor and a number that is no greater than the square of a time.
 fn product(factor: i128, number: i128) -> i128
@@ -24,26 +24,35 @@ pub(crate) fn sum(x: i128, y: i128) -> i128
     x + y
 }
 
-/// The lesser of the products of a factor with two numbers.
-pub(crate) fn lesser_product(factor: i128, one: i128, other: i128) -> i128
-    requires factor { unsigned_abs factor ≤ MAX_FACTOR }
-    requires one { unsigned_abs one ≤ 2 ^ 80 }
-    requires other { unsigned_abs other ≤ 2 ^ 80 }
-    ensures value { result ≡ int_min (factor *ℤ one) (factor *ℤ other) }
-    ensures small { unsigned_abs result ≤ 2 ^ 100 }
-{
-    product(factor, one).min(product(factor, other))
+/// A bound of what a number may be.
+#[derive(Clone, Copy)]
+pub(crate) enum Bound {
+    Low,
+    High,
 }
 
-/// The greater of them.
-pub(crate) fn greater_product(factor: i128, one: i128, other: i128) -> i128
+// The lesser of two numbers for a bound from below, the greater for one from above.
+fn outer(bound: Bound, x: i128, y: i128) -> i128
+    requires x { unsigned_abs x ≤ 2 ^ 100 }
+    requires y { unsigned_abs y ≤ 2 ^ 100 }
+    ensures value { result ≡ outer bound x y }
+    ensures small { unsigned_abs result ≤ 2 ^ 100 }
+{
+    match bound {
+        Bound::Low => x.min(y),
+        Bound::High => x.max(y),
+    }
+}
+
+/// The bound of the products of a factor with numbers from one to another.
+pub(crate) fn product_bound(bound: Bound, factor: i128, one: i128, other: i128) -> i128
     requires factor { unsigned_abs factor ≤ MAX_FACTOR }
     requires one { unsigned_abs one ≤ 2 ^ 80 }
     requires other { unsigned_abs other ≤ 2 ^ 80 }
-    ensures value { result ≡ int_max (factor *ℤ one) (factor *ℤ other) }
+    ensures value { result ≡ outer bound (factor *ℤ one) (factor *ℤ other) }
     ensures small { unsigned_abs result ≤ 2 ^ 100 }
 {
-    product(factor, one).max(product(factor, other))
+    outer(bound, product(factor, one), product(factor, other))
 }
 
 fn square(t: i128) -> i128

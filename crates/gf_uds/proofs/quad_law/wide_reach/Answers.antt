@@ -14,12 +14,12 @@ returns c =
     let before : SFits w128 (c.args.b -ℤ pos 1) = fits_signed_from_abs w128 (c.args.b -ℤ pos 1) (omega (arith, ints, c.requires.last)) in
     let f1 : SFits w128 c.step-first.result = record { sfits = c.step-first.type_inv } in
     let f2 : SFits w128 c.step-last.result = record { sfits = c.step-last.type_inv } in
-    let f3 : SFits w128 c.low.result = record { sfits = c.low.type_inv } in
-    let f4 : SFits w128 c.high.result = record { sfits = c.high.type_inv } in
+    let f3 : SFits w128 c.bound.result = record { sfits = c.bound.type_inv } in
+    let f4 : SFits w128 c.bound-2.result = record { sfits = c.bound-2.type_inv } in
     let f5 : SFits w128 c.min.result = record { sfits = c.min.type_inv } in
     let f6 : SFits w128 c.max.result = record { sfits = c.max.type_inv } in
-    let low : c.low.result ≡ quad_low k c.args.a c.args.b = simp to_z-of_z at c.low.ensures in
-    let high : c.high.result ≡ quad_high k c.args.a c.args.b = simp to_z-of_z at c.high.ensures in
+    let low : c.bound.result ≡ quad_low k c.args.a c.args.b = simp to_z-of_z at c.bound.ensures in
+    let high : c.bound-2.result ≡ quad_high k c.args.a c.args.b = simp to_z-of_z at c.bound-2.ensures in
     let first : c.step-first.result ≡ quad_step k c.args.a = simp to_z-of_z at c.step-first.ensures in
     let last : c.step-last.result ≡ quad_step k (c.args.b -ℤ pos 1) = simp to_z-of_z at c.step-last.ensures in
     let lesser : c.min.result ≡ int_min c.step-first.result c.step-last.result = simp to_z-of_z at c.min.ensures.value in

@@ -1,11 +1,11 @@
 use Rattle.std.proofs.Common.{◌≡◌, ◌+ℤ◌, ◌*ℤ◌, arith}
-use Rattle.std.specs.Int.{int_min}
 use Rattle.std.proofs.lemmas.Int.{fits_signed_from_abs, to_z-of_z}
 use mir.Syntax.{w128}
 use mir.Val.{SFits}
 use Rattle.spec_scalars.specs.Quads.{greatest_square, least_square}
+use Rattle.gf_uds.specs.Bounds.{outer}
 use Rattle.gf_uds.proofs.Sums.{sums_are}
-use Rattle.gf_uds.proofs.quad.Quad.low.Goals as goal
+use Rattle.gf_uds.proofs.quad.Quad.bound.Goals as goal
 
 pub returns : goal.returns
 returns c =
@@ -17,14 +17,14 @@ returns c =
     let r : SFits w128 c.parts-p.result.2 = rw c.parts-p.ensures.r (fits_signed_from_abs w128 c.args.self.now.r (omega (arith, small.small_r))) in
     let f1 : SFits w128 c.least_square.result = record { sfits = c.least_square.type_inv } in
     let f2 : SFits w128 c.greatest_square.result = record { sfits = c.greatest_square.type_inv } in
-    let f3 : SFits w128 c.lesser_product-square.result = record { sfits = c.lesser_product-square.type_inv } in
-    let f4 : SFits w128 c.lesser_product.result = record { sfits = c.lesser_product.type_inv } in
+    let f3 : SFits w128 c.product_bound-square.result = record { sfits = c.product_bound-square.type_inv } in
+    let f4 : SFits w128 c.product_bound.result = record { sfits = c.product_bound.type_inv } in
     let f5 : SFits w128 c.sum.result = record { sfits = c.sum.type_inv } in
     let f6 : SFits w128 c.sum-2.result = record { sfits = c.sum-2.type_inv } in
     let least : c.least_square.result ≡ least_square c.args.a c.args.b = simp to_z-of_z at c.least_square.ensures.value in
     let greatest : c.greatest_square.result ≡ greatest_square c.args.a c.args.b = simp to_z-of_z at c.greatest_square.ensures.value in
-    let square : c.lesser_product-square.result ≡ int_min (c.parts-p.result.0 *ℤ c.least_square.result) (c.parts-p.result.0 *ℤ c.greatest_square.result) = simp to_z-of_z at c.lesser_product-square.ensures.value in
-    let line : c.lesser_product.result ≡ int_min (c.parts-p.result.1 *ℤ c.args.a) (c.parts-p.result.1 *ℤ c.args.b) = simp to_z-of_z at c.lesser_product.ensures.value in
-    let both : c.sum.result ≡ c.lesser_product-square.result +ℤ c.lesser_product.result = simp to_z-of_z at c.sum.ensures.value in
+    let square : c.product_bound-square.result ≡ outer c.args.bound (c.parts-p.result.0 *ℤ c.least_square.result) (c.parts-p.result.0 *ℤ c.greatest_square.result) = simp to_z-of_z at c.product_bound-square.ensures.value in
+    let line : c.product_bound.result ≡ outer c.args.bound (c.parts-p.result.1 *ℤ c.args.a) (c.parts-p.result.1 *ℤ c.args.b) = simp to_z-of_z at c.product_bound.ensures.value in
+    let both : c.sum.result ≡ c.product_bound-square.result +ℤ c.product_bound.result = simp to_z-of_z at c.sum.ensures.value in
     let all : c.sum-2.result ≡ c.sum.result +ℤ c.parts-p.result.2 = simp to_z-of_z at c.sum-2.ensures.value in
-    simp to_z-of_z (sums_are int_min c.args.a c.args.b c.parts-p.ensures.p c.parts-p.ensures.q c.parts-p.ensures.r least greatest square line both all)
+    simp to_z-of_z (sums_are (outer c.args.bound) c.args.a c.args.b c.parts-p.ensures.p c.parts-p.ensures.q c.parts-p.ensures.r least greatest square line both all)

@@ -8,7 +8,7 @@
 mod judges;
 mod spans;
 
-pub use event_judge::EventJudge;
 pub use body_states::BodyStates;
+pub use event_judge::EventJudge;
 pub use judges::{event_of, judge, states};
 pub use spans::{root_of, span_asked, whole_span};

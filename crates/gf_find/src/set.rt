@@ -71,7 +71,9 @@ fn set_in_span<R: Threads + Wait + Sync, G: Gate>(
 {
     let query = query_of(find);
     let workers = find.workers;
-    match related(rt, alloc, ephemeris, &query, ref2, relation, span, workers, gate) {
+    match related(
+        rt, alloc, ephemeris, &query, ref2, relation, span, workers, gate,
+    ) {
         Ok(sets) => report_of_sets(alloc, find, relation, span, &sets),
         Err(refusal) => Err(refusal),
     }

@@ -1,5 +1,5 @@
 -- An ephemeris that is accepted has a block, and counts seconds.
-use Rattle.std.proofs.Common.{◌≡◌, ◌<◌, ℕ, ◌≤ℤ◌, List, [], ◌∷◌, Option, None, Some, Result, Ok, Err}
+use Rattle.std.proofs.Common.{◌≡◌, ◌<◌, ℕ, ◌≤ℤ◌, List, [], ◌∷◌, Option, None, Some, Result, Ok, Err, subst}
 use Rattle.spec_text.specs.declared.decimals.Fault.{Fault}
 use Rattle.spec_ephemeris.specs.Ephemeris.{Ephemeris, IsEphemeris}
 use Rattle.spec_ephemeris.specs.Ticks.{IsInSeconds}
@@ -37,6 +37,10 @@ module _ (files : Option Files) (names : List (List ℕ)) (e : Ephemeris) (held 
 
   pub in_seconds : IsInSeconds e
   in_seconds = holds_ok IsInSeconds (ephemeris (joined held.accepted.texts)) e are (seconds_hold (joined held.accepted.texts))
+
+-- the same files by other names of their names
+pub held_as : (files : Option Files) (shown names : List (List ℕ)) (e : Ephemeris) → shown ≡ names → HaveEphemeris files shown e → HaveEphemeris files names e
+held_as files shown names e same held = subst (λ (ns : List (List ℕ)). HaveEphemeris files ns e) same held
 
 -- no files are no ephemeris
 none_are : (files : Option Files) (texts : List (List ℕ)) (e : Ephemeris) → AreFiles files [] texts → ephemeris (joined texts) ≡ Ok e → ⊥

@@ -31,6 +31,17 @@ pub refused_inside : (files : Option Files) (names : Texts) (file : ℕ) (fault 
 refused_inside files names file fault (inl many) = let first = many.first in let more = many.many in omega (arith, first, more)
 refused_inside files names file fault (inr first) = first.inside
 
+module _ (files : Option Files) (names : Texts) (count now file : ℕ) (r : Refusal) where
+  pub refused_stops : (fault : Fault) → AreRefused files names file fault → (r ≡ R.Memory) ⊎ ((name : List ℕ) × (slice_get names file ≡ Some name) × (r ≡ R.File name fault))
+      → (r ≡ R.Memory) ⊎ FilesStop files names count now r
+  refused_stops fault cause (inl none) = inl none
+  refused_stops fault cause (inr is) = inr (inr (inl (record { file = file; name = is.0; here = is.1; fault = fault; cause = cause; same = is.2 })))
+
+  pub lacking_stops : IsNotRead files names count now file → (r ≡ R.Memory) ⊎ ((name : List ℕ) × (slice_get names file ≡ Some name) × (r ≡ R.NotRead name))
+      → (r ≡ R.Memory) ⊎ FilesStop files names count now r
+  lacking_stops cause (inl none) = inl none
+  lacking_stops cause (inr is) = inr (inr (inr (record { file = file; name = is.0; here = is.1; cause = cause; same = is.2 })))
+
 length-zero : (names : Texts) → length names ≡ 0 → names ≡ []
 length-zero [] none = refl
 length-zero (first ∷ names) none = absurd (omega (arith, none))
@@ -121,6 +132,10 @@ module _ (files : Option Files) (names : Texts) (count now : ℕ) where
       → Rose count now ⊎ (a ≡ b)
   unopened_once P a b not p q =
       files_once [] names count now (λ e o. ⊥) a b (λ e one two. absurd one) (unopened_outcome P a not p) (unopened_outcome P b not q)
+
+-- nothing is held of them
+pub not_opened : (files : Option Files) (names : Texts) (e : Ephemeris) → HaveEphemeris files names e → AreNotOpened names → ⊥
+not_opened files names e held none = unopened_held files names 0 0 (λ f. Unit {0}) none (record { ephemeris = e; held = held; is = tt })
 
 -- a function of the ephemeris has one value
 value_once : (count now : ℕ) (f : Ephemeris → Outcome) (a b : Outcome) (e : Ephemeris) → f e ≡ a → f e ≡ b → Rose count now ⊎ (a ≡ b)

@@ -96,53 +96,43 @@ module _ (files : Option Files) (find : FindAsk) (most : ℕ) (span : Span) (ls 
   pub have_times : All (HasTimes find.tick) (windows ls)
   have_times = windows_are find.tick span from_time upto_time (search (query_of find) counted) ls held.is.found.windows
 
--- the report of their windows
-module _ (find : FindAsk) (e : Ephemeris) where
-  abbrev asked : Span
-  asked = span_of find e
+-- what is known of their text over the span that is asked for is known over the files
+module _ (most : ℕ) (find : FindAsk) (text_over : Span → List Leaf → List ℕ) (Is : List ℕ → Ephemeris → Type 0)
+    (here : (e : Ephemeris) (ls : List Leaf) (text : List ℕ) → IsFound most (query_of find) e (span_of find e) ls → text ≡ text_over (span_of find e) ls → Is text e) where
+  text_is : (e : Ephemeris) (span : Span) (ls : List Leaf) (text : List ℕ) → AreSearched most find e span ls → text ≡ text_over span ls → Is text e
+  text_is e span ls text is printed =
+      here e ls text (subst (λ (s : Span). IsFound most (query_of find) e s ls) is.span_is is.found) (printed ∙ ap (λ (s : Span). text_over s ls) is.span_is)
 
-  report_here : (ls : List Leaf) (text : List ℕ) → IsFound MAX_LEAVES (query_of find) e asked ls → text ≡ report_by find asked ls → IsCountedReport find text e
-  report_here ls text is printed = record {
-    outcome = ap (text_by (report_by find asked)) is.outcome ∙ ap (λ (t : List ℕ). Ok t) (sym printed);
-    printed = printed ∙ ap (report_by find asked) is.same;
-    windows = subst (λ (vs : List Leaf). AreFound (search (query_of find) e) asked vs) is.same is.windows;
+  text_held : (files : Option Files) (span : Span) (ls shown : List Leaf) (text : List ℕ) → HoldEphemeris files find.files (λ e. AreSearched most find (in_ticks find.tick e) span ls)
+      → shown ≡ ls → text ≡ text_over span shown → HoldEphemeris files find.files (λ e. Is text (in_ticks find.tick e))
+  text_held files span ls shown text held same printed = record {
+    ephemeris = held.ephemeris;
+    held = held.held;
+    is = text_is (in_ticks find.tick held.ephemeris) span ls text held.is (printed ∙ ap (text_over span) same);
   }
 
-  report_is : (span : Span) (ls : List Leaf) (text : List ℕ) → AreSearched MAX_LEAVES find e span ls → text ≡ report_by find span ls → IsCountedReport find text e
-  report_is span ls text is printed =
-      report_here ls text (subst (λ (s : Span). IsFound MAX_LEAVES (query_of find) e s ls) is.span_is is.found)
-      (printed ∙ ap (λ (s : Span). report_by find s ls) is.span_is)
-
-pub report_held : (files : Option Files) (find : FindAsk) (span : Span) (ls shown : List Leaf) (text : List ℕ)
-    → HoldEphemeris files find.files (λ e. AreSearched MAX_LEAVES find (in_ticks find.tick e) span ls) → shown ≡ ls → text ≡ report_by find span shown
-    → HoldEphemeris files find.files (IsReport find text)
-report_held files find span ls shown text held same printed = record {
-  ephemeris = held.ephemeris;
-  held = held.held;
-  is = report_is find (in_ticks find.tick held.ephemeris) span ls text held.is (printed ∙ ap (report_by find span) same);
-}
-
--- the certificate of the leaves
-module _ (find : FindAsk) (e : Ephemeris) where
-  abbrev over : Span
-  over = span_of find e
-
-  certificate_here : (ls : List Leaf) (text : List ℕ) → IsFound MAX_CERT_LEAVES (query_of find) e over ls → text ≡ certificate_by find over ls → IsCountedCertificate find text e
-  certificate_here ls text is printed = record {
-    outcome = ap (text_by (certificate_by find over)) is.outcome ∙ ap (λ (t : List ℕ). Ok t) (sym printed);
-    printed = printed ∙ ap (certificate_by find over) is.same;
+module _ (find : FindAsk) where
+  -- the report of their windows
+  report_here : (e : Ephemeris) (ls : List Leaf) (text : List ℕ) → IsFound MAX_LEAVES (query_of find) e (span_of find e) ls → text ≡ report_by find (span_of find e) ls → IsCountedReport find text e
+  report_here e ls text is printed = record {
+    outcome = ap (text_by (report_by find (span_of find e))) is.outcome ∙ ap (λ (t : List ℕ). Ok t) (sym printed);
+    printed = printed ∙ ap (report_by find (span_of find e)) is.same;
+    windows = subst (λ (vs : List Leaf). AreFound (search (query_of find) e) (span_of find e) vs) is.same is.windows;
   }
 
-  certificate_is : (span : Span) (ls : List Leaf) (text : List ℕ) → AreSearched MAX_CERT_LEAVES find e span ls → text ≡ certificate_by find span ls → IsCountedCertificate find text e
-  certificate_is span ls text is printed =
-      certificate_here ls text (subst (λ (s : Span). IsFound MAX_CERT_LEAVES (query_of find) e s ls) is.span_is is.found)
-      (printed ∙ ap (λ (s : Span). certificate_by find s ls) is.span_is)
+  pub report_held : (files : Option Files) (span : Span) (ls shown : List Leaf) (text : List ℕ) → HoldEphemeris files find.files (λ e. AreSearched MAX_LEAVES find (in_ticks find.tick e) span ls)
+      → shown ≡ ls → text ≡ report_by find span shown → HoldEphemeris files find.files (IsReport find text)
+  report_held = text_held MAX_LEAVES find (report_by find) (IsCountedReport find) report_here
 
-pub certificate_held : (files : Option Files) (find : FindAsk) (span : Span) (ls shown : List Leaf) (text : List ℕ)
-    → HoldEphemeris files find.files (λ e. AreSearched MAX_CERT_LEAVES find (in_ticks find.tick e) span ls) → shown ≡ ls → text ≡ certificate_by find span shown
-    → HoldEphemeris files find.files (IsCertificate find text)
-certificate_held files find span ls shown text held same printed = record {
-  ephemeris = held.ephemeris;
-  held = held.held;
-  is = certificate_is find (in_ticks find.tick held.ephemeris) span ls text held.is (printed ∙ ap (certificate_by find span) same);
-}
+  -- the certificate of the leaves
+  certificate_here : (e : Ephemeris) (ls : List Leaf) (text : List ℕ) → IsFound MAX_CERT_LEAVES (query_of find) e (span_of find e) ls → text ≡ certificate_by find (span_of find e) ls
+      → IsCountedCertificate find text e
+  certificate_here e ls text is printed = record {
+    outcome = ap (text_by (certificate_by find (span_of find e))) is.outcome ∙ ap (λ (t : List ℕ). Ok t) (sym printed);
+    printed = printed ∙ ap (certificate_by find (span_of find e)) is.same;
+  }
+
+  pub certificate_held : (files : Option Files) (span : Span) (ls shown : List Leaf) (text : List ℕ)
+      → HoldEphemeris files find.files (λ e. AreSearched MAX_CERT_LEAVES find (in_ticks find.tick e) span ls) → shown ≡ ls → text ≡ certificate_by find span shown
+      → HoldEphemeris files find.files (IsCertificate find text)
+  certificate_held = text_held MAX_CERT_LEAVES find (certificate_by find) (IsCountedCertificate find) certificate_here

@@ -1,5 +1,7 @@
 -- The report of the sets of times that were found.
-use Rattle.std.proofs.Common.{◌≡◌, ◌⊎◌, ◌∙◌, ℕ, ℤ, false, List, Option, Ok, Err, sym, ap, subst, inl, inr}
+use Rattle.std.proofs.Common.{◌≡◌, ◌⊎◌, ◌∙◌, ℕ, ℤ, false, List, Option, Result, Ok, Err, sym, ap, subst, inl, inr}
+use Rattle.std.specs.Prelude.{IfErr, IfOk, Vec}
+use Rattle.std.specs.declared.alloc.Global.{Global}
 use Rattle.spec_text.specs.declared.decimals.Decimal.{Decimal}
 use Rattle.spec_ephemeris.specs.Ephemeris.{Ephemeris}
 use Rattle.spec_ephemeris.specs.Ticks.{in_ticks}
@@ -67,11 +69,14 @@ module _ (find : FindAsk) (ref2 : Option Decimal) (relation : Relation) where
 
 -- ---- over files
 module _ (files : Option Files) (find : FindAsk) (ref2 : Option Decimal) (relation : Relation) (e counted : Ephemeris) (held : HaveEphemeris files find.files e) (same : counted ≡ in_ticks find.tick e) where
-  pub set_held : (text : List ℕ) → IsCountedSet find ref2 relation text counted → HoldEphemeris files find.files (IsSetReport find ref2 relation text)
-  set_held text is = record { ephemeris = e; held = held; is = subst (λ (f : Ephemeris). IsCountedSet find ref2 relation text f) same is }
+  pub set_held : (r : Result (Vec ℕ Global) Refusal) → IfOk r (λ text. IsCountedSet find ref2 relation text.items counted)
+      → IfOk r (λ text. HoldEphemeris files find.files (IsSetReport find ref2 relation text.items))
+  set_held (Ok text) is = record { ephemeris = e; held = held; is = subst (λ (f : Ephemeris). IsCountedSet find ref2 relation text.items f) same is }
+  set_held (Err r) is = tt
 
-  pub set_refused : (count now : ℕ) (r : Refusal) → (r ≡ Memory) ⊎ (counted_set find ref2 relation counted ≡ Err r)
-      → (r ≡ Memory) ⊎ FilesHaveOutcome files find.files count now (set_of find ref2 relation) (Err r)
-  set_refused count now r (inl none) = inl none
-  set_refused count now r (inr stops) =
+  pub set_refused : (count now : ℕ) (r : Result (Vec ℕ Global) Refusal) → IfErr r (λ s. (s ≡ Memory) ⊎ (counted_set find ref2 relation counted ≡ Err s))
+      → IfErr r (λ s. (s ≡ Memory) ⊎ FilesHaveOutcome files find.files count now (set_of find ref2 relation) (Err s))
+  set_refused count now (Ok text) stops = tt
+  set_refused count now (Err r) (inl none) = inl none
+  set_refused count now (Err r) (inr stops) =
       inr (inl (record { ephemeris = e; held = held; is = subst (λ (f : Ephemeris). counted_set find ref2 relation f ≡ Err r) same stops }))

@@ -1,5 +1,7 @@
 -- What a run that checks a certificate comes to.
-use Rattle.std.proofs.Common.{◌≡◌, ◌⊎◌, ◌<◌, ◌≤◌, ◌∙◌, ℕ, false, true, List, length, Option, None, Some, Ok, Err, refl, sym, ap, subst, arith, inl, inr}
+use Rattle.std.proofs.Common.{◌≡◌, ◌⊎◌, ◌<◌, ◌≤◌, ◌∙◌, ℕ, false, true, List, length, Option, None, Some, Result, Ok, Err, refl, sym, ap, subst, arith, inl, inr}
+use Rattle.std.specs.Prelude.{IfErr, IfOk, Vec}
+use Rattle.std.specs.declared.alloc.Global.{Global}
 use Rattle.spec_text.specs.declared.limits.TheConstants.{MAX_TEXT_BYTES}
 use Rattle.spec_ephemeris.specs.Ephemeris.{Ephemeris}
 use Rattle.spec_ephemeris.specs.Ticks.{in_ticks}
@@ -23,31 +25,40 @@ use Rattle.gf_find.specs.Outcomes.{FilesHave, HaveEphemeris, HoldEphemeris}
 use Rattle.gf_find.specs.Verifies.{IsVerified}
 
 -- ---- a text that was read
-pub holds_text : (files : Option Files) (name text shown : List ℕ) (P : List ℕ → Type 0) → IsFile files name text → length text ≤ MAX_TEXT_BYTES → shown ≡ text → P shown
-    → HoldsText files name P
-holds_text files name text shown P there small same is = record { text = text; there = there; small = small; is = subst P same is }
+module _ (files : Option Files) (name text shown : List ℕ) (there : IsFile files name text) (small : length text ≤ MAX_TEXT_BYTES) (same : shown ≡ text) where
+  holds_text : (P : List ℕ → Type 0) → P shown → HoldsText files name P
+  holds_text P is = record { text = text; there = there; small = small; is = subst P same is }
 
-module _ (files : Option Files) (name : List ℕ) (count now : ℕ) (f : List ℕ → Outcome) (r : Refusal) where
-  -- its refusal is that of the file
-  pub text_refused : (text shown : List ℕ) → IsFile files name text → length text ≤ MAX_TEXT_BYTES → shown ≡ text → (r ≡ Memory) ⊎ (f shown ≡ Err r)
-      → (r ≡ Memory) ⊎ CertificateHasOutcome files name count now f (Err r)
-  text_refused text shown there small same (inl none) = inl none
-  text_refused text shown there small same (inr stops) = inr (inl (holds_text files name text shown (λ t. f t ≡ Err r) there small same stops))
+  -- what is printed of it is printed of the file, and its refusal is that of the file
+  pub text_printed : (P : List ℕ → List ℕ → Type 0) (r : Result (Vec ℕ Global) Refusal) → IfOk r (λ bytes. P shown bytes.items)
+      → IfOk r (λ bytes. HoldsText files name (λ t. P t bytes.items))
+  text_printed P (Ok bytes) is = holds_text (λ t. P t bytes.items) is
+  text_printed P (Err r) is = tt
 
-  pub file_refused : (r ≡ Memory) ⊎ CertificateStops files name count now r → (r ≡ Memory) ⊎ CertificateHasOutcome files name count now f (Err r)
-  file_refused (inl none) = inl none
-  file_refused (inr stops) = inr (inr (r, stops, refl))
+  pub text_refused : (count now : ℕ) (f : List ℕ → Outcome) (r : Result (Vec ℕ Global) Refusal) → IfErr r (λ s. (s ≡ Memory) ⊎ (f shown ≡ Err s))
+      → IfErr r (λ s. (s ≡ Memory) ⊎ CertificateHasOutcome files name count now f (Err s))
+  text_refused count now f (Ok bytes) stops = tt
+  text_refused count now f (Err s) (inl none) = inl none
+  text_refused count now f (Err s) (inr stops) = inr (inl (holds_text (λ t. f t ≡ Err s) stops))
 
 -- ---- a file that was not read
-module _ (files : Option Files) (name : List ℕ) (count now : ℕ) (r : Refusal) where
-  pub too_long_stops : (fault : Fault) → fault ≡ fault_at 0 FILE_TOO_LARGE → IsLongFile files name → (r ≡ Memory) ⊎ (r ≡ File name fault)
+module _ (files : Option Files) (shown name : List ℕ) (named : shown ≡ name) (count now : ℕ) (r : Refusal) where
+  stopped : CertificateStops files shown count now r → (r ≡ Memory) ⊎ CertificateStops files name count now r
+  stopped stops = inr (subst (λ (n : List ℕ). CertificateStops files n count now r) named stops)
+
+  pub too_long_stops : (fault : Fault) → fault ≡ fault_at 0 FILE_TOO_LARGE → IsLongFile files shown → (r ≡ Memory) ⊎ (r ≡ File shown fault)
       → (r ≡ Memory) ⊎ CertificateStops files name count now r
   too_long_stops fault of long (inl none) = inl none
-  too_long_stops fault of long (inr same) = inr (inl (record { long = long; same = same ∙ ap (File name) of }))
+  too_long_stops fault of long (inr same) = stopped (inl (record { long = long; same = same ∙ ap (File shown) of }))
 
-  pub not_read_stops : Rose count now ⊎ Lacks files name → (r ≡ Memory) ⊎ (r ≡ NotRead name) → (r ≡ Memory) ⊎ CertificateStops files name count now r
+  pub not_read_stops : Rose count now ⊎ Lacks files shown → (r ≡ Memory) ⊎ (r ≡ NotRead shown) → (r ≡ Memory) ⊎ CertificateStops files name count now r
   not_read_stops cause (inl none) = inl none
-  not_read_stops cause (inr same) = inr (inr (record { cause = cause; same = same }))
+  not_read_stops cause (inr same) = stopped (inr (record { cause = cause; same = same }))
+
+pub file_refused : (files : Option Files) (name : List ℕ) (count now : ℕ) (f : List ℕ → Outcome) (r : Refusal) → (r ≡ Memory) ⊎ CertificateStops files name count now r
+    → (r ≡ Memory) ⊎ CertificateHasOutcome files name count now f (Err r)
+file_refused files name count now f r (inl none) = inl none
+file_refused files name count now f r (inr stops) = inr (inr (r, stops, refl))
 
 -- ---- a count that was lower before
 rose_before : (before count now : ℕ) → before ≤ count → Rose count now → Rose before now
@@ -102,47 +113,51 @@ module _ (files : Option Files) (find : FindAsk) (cert : List ℕ) (count now : 
         let fault = subst (λ (p : Query). HasFault e p.ask r) same has in
         inr (by_cause (Some (Event fault.0)) (Err r) (λ i. cause_by (inside i) (fault.1 i) asked (whole_span e)) (ap (λ (s : Refusal). Err s) fault.2))
 
-    module _ (sound : fault_of e q.ask ≡ None) (s : Search) (is : s ≡ search q e) where
+    module _ (sound : fault_of e find.ask ≡ None) (searched : Search) (is : searched ≡ search q e) where
       no_cause : cause_of (query_of find) e asked ≡ None
-      no_cause =
-          let none : fault_of e find.ask ≡ None = subst (λ (p : Query). fault_of e p.ask ≡ None) same sound in
-          λ i. cause_by (inside i) (none i) asked (whole_span e)
+      no_cause = λ i. cause_by (inside i) (sound i) asked (whole_span e)
 
-      search_is : s ≡ search (query_of find) e
+      search_is : searched ≡ search (query_of find) e
       search_is = is ∙ ap (λ (p : Query). search p e) same
 
-      pub certificate_refused : (r : Refusal) → (r ≡ Memory) ⊎ CertificateHasOutcome files cert count now (verification_of find s span) (Err r)
-          → (r ≡ Memory) ⊎ VerifyHasOutcome files find cert count now e (Err r)
-      certificate_refused r (inl none) = inl none
-      certificate_refused r (inr has) =
+      pub certificate_refused : (r : Result (Vec ℕ Global) Refusal) → IfErr r (λ s. (s ≡ Memory) ⊎ CertificateHasOutcome files cert count now (verification_of find searched span) (Err s))
+          → IfErr r (λ s. (s ≡ Memory) ⊎ VerifyHasOutcome files find cert count now e (Err s))
+      certificate_refused (Ok bytes) has = tt
+      certificate_refused (Err r) (inl none) = inl none
+      certificate_refused (Err r) (inr has) =
           inr (by_cause None (Err r) no_cause (subst (λ (f : List ℕ → Outcome). CertificateHasOutcome files cert count now f (Err r)) (λ i. verification_of find (search_is i) (whole i)) has))
 
-      pub certificate_verified : (bytes : List ℕ) → HoldsText files cert (λ text. IsVerification find s span text bytes) → IsVerified files find cert e bytes
-      certificate_verified bytes held = record {
+      pub certificate_verified : (r : Result (Vec ℕ Global) Refusal) → IfOk r (λ bytes. HoldsText files cert (λ text. IsVerification find searched span text bytes.items))
+          → IfOk r (λ bytes. IsVerified files find cert e bytes.items)
+      certificate_verified (Err r) held = tt
+      certificate_verified (Ok bytes) held = record {
         sound = no_cause;
         holds = record {
           text = held.text;
           there = held.there;
           small = held.small;
-          is = subst (λ (p : Search). IsVerification find p asked held.text bytes) search_is
-              (subst (λ (t : Span). IsVerification find s t held.text bytes) whole held.is);
+          is = subst (λ (p : Search). IsVerification find p asked held.text bytes.items) search_is
+              (subst (λ (t : Span). IsVerification find searched t held.text bytes.items) whole held.is);
         };
       }
 
 -- ---- over files
 module _ (files later : Option Files) (find : FindAsk) (cert : List ℕ) (before count now : ℕ) (e counted : Ephemeris) (held : HaveEphemeris files find.files e) (same : counted ≡ in_ticks find.tick e) (kept : later ≡ files) where
-  pub files_verified : (bytes : List ℕ) → IsVerified later find cert counted bytes → HoldEphemeris files find.files (λ f. IsVerified files find cert (in_ticks find.tick f) bytes)
-  files_verified bytes is = record {
+  pub files_verified : (r : Result (Vec ℕ Global) Refusal) → IfOk r (λ bytes. IsVerified later find cert counted bytes.items)
+      → IfOk r (λ bytes. HoldEphemeris files find.files (λ f. IsVerified files find cert (in_ticks find.tick f) bytes.items))
+  files_verified (Err r) is = tt
+  files_verified (Ok bytes) is = record {
     ephemeris = e;
     held = held;
-    is = subst (λ (fs : Option Files). IsVerified fs find cert (in_ticks find.tick e) bytes) kept
-        (subst (λ (f : Ephemeris). IsVerified later find cert f bytes) same is);
+    is = subst (λ (fs : Option Files). IsVerified fs find cert (in_ticks find.tick e) bytes.items) kept
+        (subst (λ (f : Ephemeris). IsVerified later find cert f bytes.items) same is);
   }
 
-  pub files_refused : before ≤ count → (r : Refusal) → (r ≡ Memory) ⊎ VerifyHasOutcome later find cert count now counted (Err r)
-      → (r ≡ Memory) ⊎ FilesHave files find.files before now (λ f o. VerifyHasOutcome files find cert before now (in_ticks find.tick f) o) (Err r)
-  files_refused lower r (inl none) = inl none
-  files_refused lower r (inr has) =
+  pub files_refused : before ≤ count → (r : Result (Vec ℕ Global) Refusal) → IfErr r (λ s. (s ≡ Memory) ⊎ VerifyHasOutcome later find cert count now counted (Err s))
+      → IfErr r (λ s. (s ≡ Memory) ⊎ FilesHave files find.files before now (λ f o. VerifyHasOutcome files find cert before now (in_ticks find.tick f) o) (Err s))
+  files_refused lower (Ok bytes) has = tt
+  files_refused lower (Err r) (inl none) = inl none
+  files_refused lower (Err r) (inr has) =
       inr (inl (record {
         ephemeris = e;
         held = held;

@@ -23,7 +23,7 @@ returns-in-Ok-clause-certificate g c =
     let span = c.in-Ok.found.span in
     ok_also {X = Vec ℕ Global} {E = Refusal} (λ text. text.items ≡ certificate_by find span c.deref.result.now)
     (λ text. HoldEphemeris files find.files (IsCertificate find text.items)) c.certificate_in.result
-    (λ text printed. certificate_held files find span c.in-Ok.found.leaves.items _ text.items c.in-Ok.ensures.found c.deref.ensures.value printed) c.certificate_in.ensures.text
+    (λ text printed. certificate_held find files span c.in-Ok.found.leaves.items _ text.items c.in-Ok.ensures.found c.deref.ensures.value printed) c.certificate_in.ensures.text
 
 pub returns-in-Ok-clause-stopped : goal.returns-in-Ok-clause-stopped
 returns-in-Ok-clause-stopped g c =

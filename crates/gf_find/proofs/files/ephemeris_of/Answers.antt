@@ -1,6 +1,6 @@
 use Rattle.std.proofs.Common.{Err, arith, inl, inr, string_bytes}
 use Rattle.std.proofs.lemmas.List.{length-map}
-use Rattle.gf_find.proofs.Causes.{missing_inside, refused_inside}
+use Rattle.gf_find.proofs.Causes.{lacking_stops, missing_inside, refused_inside, refused_stops}
 use Rattle.gf_find.proofs.files.ephemeris_of.Goals as goal
 
 pub refused-requires : goal.refused-requires
@@ -16,26 +16,10 @@ not_read-requires g c =
     omega (arith, inside, many)
 
 pub returns-in-Err-Fault-clause-refused : goal.returns-in-Err-Fault-clause-refused
-returns-in-Err-Fault-clause-refused g c = elim c.refused.ensures [
-  | inl none ↦ inl none
-  | inr is ↦ inr (inr (inl (record {
-    file = c.in-Err-Fault.file;
-    name = is.0;
-    here = is.1;
-    fault = c.in-Err-Fault.fault;
-    cause = c.in-Err-Fault.ensures.fault c.in-Err-Fault.file c.in-Err-Fault.fault (λ i. Err (c.in-Err-Fault.field-0-is i));
-    same = is.2;
-  })))
-]
+returns-in-Err-Fault-clause-refused g c =
+    refused_stops _ _ _ _ c.in-Err-Fault.file c.refused.result c.in-Err-Fault.fault
+    (c.in-Err-Fault.ensures.fault c.in-Err-Fault.file c.in-Err-Fault.fault (λ i. Err (c.in-Err-Fault.field-0-is i))) c.refused.ensures
 
 pub returns-in-Err-NotRead-clause-refused : goal.returns-in-Err-NotRead-clause-refused
-returns-in-Err-NotRead-clause-refused g c = elim c.not_read.ensures [
-  | inl none ↦ inl none
-  | inr is ↦ inr (inr (inr (record {
-    file = c.in-Err-NotRead.file;
-    name = is.0;
-    here = is.1;
-    cause = c.in-Err-NotRead.ensures.not_read c.in-Err-NotRead.file (λ i. Err (c.in-Err-NotRead.field-0-is i));
-    same = is.2;
-  })))
-]
+returns-in-Err-NotRead-clause-refused g c =
+    lacking_stops _ _ _ _ c.in-Err-NotRead.file c.not_read.result (c.in-Err-NotRead.ensures.not_read c.in-Err-NotRead.file (λ i. Err (c.in-Err-NotRead.field-0-is i))) c.not_read.ensures

@@ -36,7 +36,7 @@ returns-in-Ok-clause-report g c =
     let span = c.in-Ok.found.span in
     ok_also {X = Vec ℕ Global} {E = Refusal} (λ text. text.items ≡ report find span.from span.upto (windows c.deref.result.now))
     (λ text. HoldEphemeris files find.files (IsReport find text.items)) c.report_in.result
-    (λ text printed. report_held files find span c.in-Ok.found.leaves.items _ text.items c.in-Ok.ensures.found c.deref.ensures.value printed) c.report_in.ensures.text
+    (λ text printed. report_held find files span c.in-Ok.found.leaves.items _ text.items c.in-Ok.ensures.found c.deref.ensures.value printed) c.report_in.ensures.text
 
 pub returns-in-Ok-clause-stopped : goal.returns-in-Ok-clause-stopped
 returns-in-Ok-clause-stopped g c =

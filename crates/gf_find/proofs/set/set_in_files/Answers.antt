@@ -7,8 +7,8 @@ use Rattle.spec_outcomes.specs.Sets.{counted_set, set_of}
 use Rattle.spec_outcomes.proofs.Results.{err_also, ok_also}
 use Rattle.gf_find.specs.Outcomes.{FilesHaveOutcome, HaveEphemeris, HoldEphemeris}
 use Rattle.gf_find.specs.Sets.{IsCountedSet, IsSetReport}
-use Rattle.gf_find.proofs.Accepted.{has_block, in_seconds, is_checked}
-use Rattle.gf_find.proofs.Causes.{unopened_held}
+use Rattle.gf_find.proofs.Accepted.{has_block, held_as, in_seconds, is_checked}
+use Rattle.gf_find.proofs.Causes.{not_opened}
 use Rattle.gf_find.proofs.Relating.{set_held, set_refused}
 use Rattle.gf_find.proofs.Times.{end_counted, start_counted}
 use Rattle.gf_find.proofs.set.set_in_files.Goals as goal
@@ -30,27 +30,13 @@ set_in_ephemeris-requires-clause-end g c κs lives =
 
 pub returns-clause-report : goal.returns-clause-report
 returns-clause-report g c =
-    let find = c.args.find.now in
-    let files = g.S.Shelf.files c.args.shelf.now in
-    let held : HaveEphemeris files find.files c.in_ok-ephemeris.ephemeris = subst (λ (names : List (List ℕ)). HaveEphemeris files names c.in_ok-ephemeris.ephemeris) c.as_slice.ensures c.in_ok-ephemeris.ensures.accepted in
-    ok_also {X = Vec ℕ Global} {E = Refusal} (λ text. IsCountedSet find c.args.ref2 c.args.relation text.items c.in_ticks-counted.result)
-    (λ text. HoldEphemeris files find.files (IsSetReport find c.args.ref2 c.args.relation text.items)) c.set_in_ephemeris.result
-    (λ text is. set_held files find c.args.ref2 c.args.relation c.in_ok-ephemeris.ephemeris c.in_ticks-counted.result held c.in_ticks-counted.ensures text.items is) c.set_in_ephemeris.ensures.report
+    set_held (g.S.Shelf.files c.args.shelf.now) c.args.find.now c.args.ref2 c.args.relation c.in_ok-ephemeris.ephemeris c.in_ticks-counted.result
+    (held_as _ _ _ _ c.as_slice.ensures c.in_ok-ephemeris.ensures.accepted) c.in_ticks-counted.ensures c.set_in_ephemeris.result c.set_in_ephemeris.ensures.report
 
 pub returns-clause-stopped : goal.returns-clause-stopped
 returns-clause-stopped g c =
-    let find = c.args.find.now in
-    let files = g.S.Shelf.files c.args.shelf.now in
-    let count = g.S.Shelf.faults c.args.shelf.now in
-    let now = g.S.Shelf.faults c.ephemeris_of.new.shelf in
-    let held : HaveEphemeris files find.files c.in_ok-ephemeris.ephemeris = subst (λ (names : List (List ℕ)). HaveEphemeris files names c.in_ok-ephemeris.ephemeris) c.as_slice.ensures c.in_ok-ephemeris.ensures.accepted in
-    err_also {X = Vec ℕ Global} {E = Refusal} (λ r. (r ≡ Memory) ⊎ (counted_set find c.args.ref2 c.args.relation c.in_ticks-counted.result ≡ Err r))
-    (λ r. (r ≡ Memory) ⊎ FilesHaveOutcome files find.files count now (set_of find c.args.ref2 c.args.relation) (Err r)) c.set_in_ephemeris.result
-    (λ r stops. set_refused files find c.args.ref2 c.args.relation c.in_ok-ephemeris.ephemeris c.in_ticks-counted.result held c.in_ticks-counted.ensures count now r stops) c.set_in_ephemeris.ensures.stopped
+    set_refused (g.S.Shelf.files c.args.shelf.now) c.args.find.now c.args.ref2 c.args.relation c.in_ok-ephemeris.ephemeris c.in_ticks-counted.result
+    (held_as _ _ _ _ c.as_slice.ensures c.in_ok-ephemeris.ensures.accepted) c.in_ticks-counted.ensures (g.S.Shelf.faults c.args.shelf.now) (g.S.Shelf.faults c.ephemeris_of.new.shelf) c.set_in_ephemeris.result c.set_in_ephemeris.ensures.stopped
 
 pub returns-clause-unopened : goal.returns-clause-unopened
-returns-clause-unopened g c =
-    let find = c.args.find.now in
-    let files = g.S.Shelf.files c.args.shelf.now in
-    let held : HaveEphemeris files find.files c.in_ok-ephemeris.ephemeris = subst (λ (names : List (List ℕ)). HaveEphemeris files names c.in_ok-ephemeris.ephemeris) c.as_slice.ensures c.in_ok-ephemeris.ensures.accepted in
-    λ none. absurd (unopened_held files find.files 0 0 (λ e. Unit {0}) none (record { ephemeris = c.in_ok-ephemeris.ephemeris; held = held; is = tt }))
+returns-clause-unopened g c = λ none. absurd (not_opened _ _ _ (held_as _ _ _ _ c.as_slice.ensures c.in_ok-ephemeris.ensures.accepted) none)

@@ -7,7 +7,7 @@ use Rattle.spec_outcomes.specs.declared.refusal.Refusal.TheVariants.{Memory}
 use Rattle.spec_outcomes.specs.Certificates.{IsVerification, verification_of}
 use Rattle.spec_outcomes.proofs.Results.{err_also, ok_also}
 use Rattle.gf_find.specs.CertificateFiles.{CertificateHasOutcome, HoldsText}
-use Rattle.gf_find.proofs.Verifying.{file_refused, holds_text, text_refused}
+use Rattle.gf_find.proofs.Verifying.{file_refused, text_printed, text_refused}
 use Rattle.gf_find.proofs.verify.verify_by.Goals as goal
 
 pub verify-requires-clause-small : goal.verify-requires-clause-small
@@ -15,27 +15,13 @@ verify-requires-clause-small g c = subst (λ (t : List ℕ). length t ≤ MAX_TE
 
 pub returns-in-Ok-clause-verified : goal.returns-in-Ok-clause-verified
 returns-in-Ok-clause-verified g c =
-    let find = c.args.find.now in
-    let s = c.args.judge.now.search in
-    let files = g.S.Shelf.files c.args.shelf.now in
-    let cert = c.args.cert.now in
-    ok_also {X = Vec ℕ Global} {E = Refusal} (λ bytes. IsVerification find s c.args.span c.deref.result.now bytes.items)
-    (λ bytes. HoldsText files cert (λ text. IsVerification find s c.args.span text bytes.items)) c.verify.result
-    (λ bytes is. holds_text files cert c.in-Ok.text.items c.deref.result.now (λ text. IsVerification find s c.args.span text bytes.items)
-    c.in-Ok.ensures.there c.in-Ok.ensures.small c.deref.ensures.value is) c.verify.ensures.verified
+    text_printed (g.S.Shelf.files c.args.shelf.now) c.args.cert.now c.in-Ok.text.items c.deref.result.now c.in-Ok.ensures.there c.in-Ok.ensures.small c.deref.ensures.value
+    (λ text bytes. IsVerification c.args.find.now c.args.judge.now.search c.args.span text bytes) c.verify.result c.verify.ensures.verified
 
 pub returns-in-Ok-clause-stopped : goal.returns-in-Ok-clause-stopped
 returns-in-Ok-clause-stopped g c =
-    let find = c.args.find.now in
-    let s = c.args.judge.now.search in
-    let files = g.S.Shelf.files c.args.shelf.now in
-    let cert = c.args.cert.now in
-    let count = g.S.Shelf.faults c.args.shelf.now in
-    let now = g.S.Shelf.faults c.read_certificate.new.shelf in
-    err_also {X = Vec ℕ Global} {E = Refusal} (λ r. (r ≡ Memory) ⊎ (verification_of find s c.args.span c.deref.result.now ≡ Err r))
-    (λ r. (r ≡ Memory) ⊎ CertificateHasOutcome files cert count now (verification_of find s c.args.span) (Err r)) c.verify.result
-    (λ r stops. text_refused files cert count now (verification_of find s c.args.span) r c.in-Ok.text.items c.deref.result.now
-    c.in-Ok.ensures.there c.in-Ok.ensures.small c.deref.ensures.value stops) c.verify.ensures.stopped
+    text_refused (g.S.Shelf.files c.args.shelf.now) c.args.cert.now c.in-Ok.text.items c.deref.result.now c.in-Ok.ensures.there c.in-Ok.ensures.small c.deref.ensures.value
+    (g.S.Shelf.faults c.args.shelf.now) (g.S.Shelf.faults c.read_certificate.new.shelf) (verification_of c.args.find.now c.args.judge.now.search c.args.span) c.verify.result c.verify.ensures.stopped
 
 pub returns-in-Err-clause-stopped : goal.returns-in-Err-clause-stopped
 returns-in-Err-clause-stopped g c =

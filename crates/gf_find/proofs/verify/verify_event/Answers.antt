@@ -34,28 +34,10 @@ verify_by-requires-clause-valid g c =
 
 pub returns-clause-verified : goal.returns-clause-verified
 returns-clause-verified g c =
-    let find = c.args.find.now in
-    let e = c.args.ephemeris.now in
-    let files = g.S.Shelf.files c.args.shelf.now in
-    let cert = c.args.cert.now in
-    let s = c.judge-judge.result.search in
-    let sound : fault_of e c.query_of-query.result.ask ≡ None = subst (λ (q : Query). fault_of e q.ask ≡ None) (sym c.query_of-query.ensures) c.requires.sound in
-    ok_also {X = Vec ℕ Global} {E = Refusal} (λ bytes. HoldsText files cert (λ text. IsVerification find s c.args.span text bytes.items))
-    (λ bytes. IsVerified files find cert e bytes.items) c.verify_by.result
-    (λ bytes held. certificate_verified files find cert 0 0 e c.query_of-query.result c.args.span c.query_of-query.ensures c.requires.span c.requires.within sound
-    s c.judge-judge.ensures bytes.items held) c.verify_by.ensures.verified
+    certificate_verified (g.S.Shelf.files c.args.shelf.now) c.args.find.now c.args.cert.now 0 0 c.args.ephemeris.now c.query_of-query.result c.args.span
+    c.query_of-query.ensures c.requires.span c.requires.within c.requires.sound c.judge-judge.result.search c.judge-judge.ensures c.verify_by.result c.verify_by.ensures.verified
 
 pub returns-clause-stopped : goal.returns-clause-stopped
 returns-clause-stopped g c =
-    let find = c.args.find.now in
-    let e = c.args.ephemeris.now in
-    let files = g.S.Shelf.files c.args.shelf.now in
-    let cert = c.args.cert.now in
-    let s = c.judge-judge.result.search in
-    let sound : fault_of e c.query_of-query.result.ask ≡ None = subst (λ (q : Query). fault_of e q.ask ≡ None) (sym c.query_of-query.ensures) c.requires.sound in
-    let count = g.S.Shelf.faults c.args.shelf.now in
-    let now = g.S.Shelf.faults c.verify_by.new.shelf in
-    err_also {X = Vec ℕ Global} {E = Refusal} (λ r. (r ≡ Memory) ⊎ CertificateHasOutcome files cert count now (verification_of find s c.args.span) (Err r))
-    (λ r. (r ≡ Memory) ⊎ VerifyHasOutcome files find cert count now e (Err r)) c.verify_by.result
-    (λ r has. certificate_refused files find cert count now e c.query_of-query.result c.args.span c.query_of-query.ensures c.requires.span c.requires.within sound
-    s c.judge-judge.ensures r has) c.verify_by.ensures.stopped
+    certificate_refused (g.S.Shelf.files c.args.shelf.now) c.args.find.now c.args.cert.now (g.S.Shelf.faults c.args.shelf.now) (g.S.Shelf.faults c.verify_by.new.shelf) c.args.ephemeris.now c.query_of-query.result c.args.span
+    c.query_of-query.ensures c.requires.span c.requires.within c.requires.sound c.judge-judge.result.search c.judge-judge.ensures c.verify_by.result c.verify_by.ensures.stopped

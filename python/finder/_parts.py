@@ -8,7 +8,7 @@ from collections.abc import Callable, Iterable
 from typing import Any, Optional, Union
 
 from . import spans
-from ._program import Program, runs_of
+from ._program import WAIT, Program, runs_of
 from ._search import Files, check, file_names
 from ._times import Time, ticks_of_time
 from ._windows import Windows
@@ -75,8 +75,11 @@ def _time_of(milliseconds: int) -> str:
 
 def _results(futures: list[concurrent.futures.Future[Any]]) -> list[Any]:
     """The results of all, or the exception of the first that fails."""
-    concurrent.futures.wait(futures, return_when=concurrent.futures.FIRST_EXCEPTION)
-    for future in futures:
-        if future.done():
-            future.result()
+    waiting = True
+    while waiting:
+        done, left = concurrent.futures.wait(futures, WAIT, concurrent.futures.FIRST_EXCEPTION)
+        for future in futures:
+            if future in done:
+                future.result()
+        waiting = bool(left)
     return [future.result() for future in futures]

@@ -15,6 +15,8 @@ from typing import Optional, Union
 from . import spans
 
 Program = Union[str, "os.PathLike[str]", "Runs", None]
+# Seconds after which a wait begins anew: an interrupt that comes just before a wait begins is seen only when it ends.
+WAIT = 0.2
 NUMBERED = re.compile(r"(?:^|: )([0-9]+) ([A-Z][A-Za-z]*)(?: (\S+))?$")
 FAULT = re.compile(r"finder: file (.*) line ([0-9]+): [0-9]+ [A-Za-z]+(?: \S+)?", re.DOTALL)
 
@@ -162,14 +164,21 @@ class Runs:
             # (an interrupt comes to the main thread alone, and so not between a process and its record)
             with concurrent.futures.ThreadPoolExecutor(1) as pool:
                 pool.submit(self._start, words, begun).result()
-            left = None if self._deadline is None else max(0.0, self._deadline - time.monotonic())
-            out, err = begun[0].communicate(timeout=left)
-        except subprocess.TimeoutExpired:
-            raise TimedOut(-signal.SIGKILL, f"finder: not done after {self._timeout} seconds") from None
+            out, err = self._output(begun[0])
         finally:
             for process in begun:
                 self._finish(process)
         return _answer(begun[0].returncode, out, err)
+
+    def _output(self, process: subprocess.Popen[bytes]) -> tuple[bytes, bytes]:
+        """What the command wrote to both outputs until it ended."""
+        while self._deadline is None or time.monotonic() < self._deadline:
+            left = WAIT if self._deadline is None else min(WAIT, max(0.0, self._deadline - time.monotonic()))
+            try:
+                return process.communicate(timeout=left)
+            except subprocess.TimeoutExpired:
+                pass
+        raise TimedOut(-signal.SIGKILL, f"finder: not done after {self._timeout} seconds")
 
     def _finish(self, process: subprocess.Popen[bytes]) -> None:
         """Ends a process where it runs still, and waits for its end."""

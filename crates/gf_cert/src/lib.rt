@@ -23,6 +23,3 @@ pub use event_judge::{EventJudge, Node};
 pub use laws::certificates_of_searches_are_accepted;
 pub use spec_trees::Leaf;
 pub use writing::certificate;
-
-#[cfg(test)]
-mod tests;

@@ -11,6 +11,3 @@ mod rules;
 pub use cutter::{Cut, Cutter};
 pub use rules::rule_cut;
 pub use spec_trees::CutRule;
-
-#[cfg(test)]
-mod tests;

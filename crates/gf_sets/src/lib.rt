@@ -13,6 +13,3 @@ mod spans;
 pub use from_leaves::at_least;
 pub use pair::Pair;
 pub use spans::Spans;
-
-#[cfg(test)]
-mod tests;

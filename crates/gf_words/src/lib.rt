@@ -12,8 +12,6 @@ mod requests;
 mod scalars;
 mod searches;
 mod sets;
-#[cfg(test)]
-mod tests;
 mod texts;
 
 pub use requests::request;

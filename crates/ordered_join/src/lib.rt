@@ -9,6 +9,3 @@ mod ordering;
 pub use joining::leaf_windows;
 pub use ordering::{Memory, leaves, windows};
 pub use spec_trees::{Holds, Window};
-
-#[cfg(test)]
-mod tests;

@@ -26,6 +26,3 @@ pub use set_lines::set_report;
 pub use spec_requests::{FindAsk, Relation, ScalarAsk};
 pub use spec_times::TimeFault;
 pub use summary_lines::summary;
-
-#[cfg(test)]
-mod tests;

@@ -11,6 +11,3 @@ mod reader;
 pub use errors::FilesError;
 pub use file::read_file;
 pub use files::{Accepted, read_files};
-
-#[cfg(test)]
-mod tests;

@@ -26,8 +26,3 @@ pub use spec_outcomes::{
     REPORTED, Refusal, SPAN_REFUSED, Span, TOO_MANY_LEAVES, WORDS_REFUSED,
 };
 pub use top::finder;
-
-#[cfg(test)]
-mod tests;
-#[cfg(test)]
-mod thread_tests;

@@ -1,11 +1,9 @@
 // Searches run on as many threads as the words ask for.
-use crate::*;
-use gf_edges::{Gate, MemoryShelf, MemorySink};
-use std::alloc::{AllocError, Global};
-use std::sync::Wait;
+use crate::calls::call;
+use gf_edges::{Gate, MemoryShelf};
+use gf_find::REPORTED;
 use std::sync::atomic::{AtomicU64, Ordering};
 use std::test::Fail;
-use std::thread::Threads;
 
 // How often a worker that is held looks whether another has come.
 const TURNS: u64 = 200_000_000;
@@ -42,37 +40,20 @@ impl Gate for Meeting {
     }
 }
 
-// Whether two workers met in a run of these words, which ends with its text.
-fn have_met<R: Threads + Wait + Sync>(
-    rt: &R,
-    alloc: Global,
-    line: &str,
-) -> Result<bool, AllocError> {
-    let gate = Meeting {
-        first: AtomicU64::new(0),
-        others: AtomicU64::new(0),
-        given_up: AtomicU64::new(0),
-    };
-    let mut words = Vec::new(alloc);
-    for word in line.split_ascii_whitespace() {
-        words.push(String::from_str(alloc, word)?)?;
-    }
-    let mut shelf = MemoryShelf::new(Vec::new(alloc), 4096, Vec::new(alloc));
-    let Ok(mut out) = MemorySink::new(alloc, 4096, 4096, Vec::new(alloc)) else {
-        return Ok(false);
-    };
-    let Ok(mut err) = MemorySink::new(alloc, 4096, 4096, Vec::new(alloc)) else {
-        return Ok(false);
-    };
-    let status = finder(rt, alloc, &words, &mut shelf, &mut out, &mut err, &gate);
-    let others = gate.others.load(Ordering::SeqCst);
-    Ok(status == REPORTED && others > 0 && gate.given_up.load(Ordering::SeqCst) == 0)
-}
-
 #[test]
 fn workers_of_a_search_meet(rt: HostRuntime) -> Result<(), Fail> {
+    let alloc = rt.alloc();
     for line in ["gen 405 1 1 --workers 2", "gen 405 1 1 --workers 3"] {
-        assert!(rt; have_met(&rt, rt.alloc(), line)?, "{line}");
+        let gate = Meeting {
+            first: AtomicU64::new(0),
+            others: AtomicU64::new(0),
+            given_up: AtomicU64::new(0),
+        };
+        let mut shelf = MemoryShelf::new(Vec::new(alloc), 4096, Vec::new(alloc));
+        let answer = call(&rt, alloc, line, &mut shelf, 4096, &gate)?;
+        assert!(rt; answer.status == REPORTED, "{line}");
+        assert!(rt; gate.others.load(Ordering::SeqCst) > 0, "{line}");
+        assert!(rt; gate.given_up.load(Ordering::SeqCst) == 0, "{line}");
     }
     Ok(())
 }

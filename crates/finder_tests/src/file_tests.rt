@@ -1,67 +1,10 @@
-// What no clause can say: that files are accepted while memory lasts, which files are opened, and how much is read of one.
-use crate::*;
-use gf_edges::{Failed, MemoryShelf, Shelf};
+// Which files are opened, and how much is read of one.
+use crate::inputs::{BLOCK, HEADER, NotingShelf, words_of};
+use gf_edges::{Failed, Shelf};
+use gf_files::{FilesError, read_files};
 use spec_faults::FILE_TOO_LARGE;
 use spec_text::Fault;
 use std::test::Fail;
-
-const HEADER: &str = "KSIZE= 52 NCOEFF= 26
-GROUP 1010
-E1 TEST EPHEMERIS
-GROUP 1030
-2451544.50 2451576.50 32.
-GROUP 1040
-1
-EMRAT
-GROUP 1041
-1
-0.810000000000000000D+02
-GROUP 1050
-3 9 9 15 15 15 15 15 15 15 21 27 27
-2 0 2 0 0 0 0 0 0 2 2 0 0
-1 0 1 0 0 0 0 0 0 1 1 0 0
-GROUP 1070
-";
-
-const BLOCK: &str = "1 26
-0.245154450000000000D+07 0.245157650000000000D+07 0.0
-0.0 0.0 0.0
-0.0 0.0 0.0
-0.0 0.0 0.0
-0.0 0.0 0.0
-0.0 0.0 0.0
-0.0 0.0 0.0
-0.0 0.0 0.0
-0.0 0.0 0.0
-";
-
-// Files in memory, with the names that were opened, one behind the other.
-#[derive(Drop)]
-struct NotingShelf {
-    shelf: MemoryShelf,
-    opened: Vec<u8>,
-}
-
-impl Shelf for NotingShelf {
-    ghost use Rattle.std.specs.Prelude.{IsSome, Some};
-
-    ghost files = { λ s. Some s.shelf.files };
-
-    ghost left = { λ s. s.shelf.left };
-
-    ghost ready = { λ s. IsSome s.shelf.left };
-
-    ghost faults = { λ s. s.shelf.faults };
-
-    fn open(&mut self, name: &str) -> Result<(), Failed> {
-        let _ = self.opened.extend_from_slice(name.as_bytes());
-        self.shelf.open(name)
-    }
-
-    fn read(&mut self, buf: &mut [u8]) -> Result<usize, Failed> {
-        self.shelf.read(buf)
-    }
-}
 
 // One file without an end, with the number of its bytes that were read.
 #[derive(Drop)]
@@ -93,7 +36,7 @@ impl Shelf for EndlessShelf {
 // Three files, the call of the shelf that fails, the names that are opened, and the error.
 #[derive(Clone, Copy)]
 struct Row {
-    texts: [(&'static str, &'static str); 3],
+    texts: [&'static str; 3],
     failing: u64,
     opened: &'static str,
     error: Option<FilesError>,
@@ -101,15 +44,15 @@ struct Row {
 
 const ROWS: [Row; 5] = [
     Row {
-        texts: [("a", HEADER), ("b", BLOCK), ("c", "")],
+        texts: [HEADER, BLOCK, ""],
         failing: 0,
-        opened: "abc",
+        opened: "a b c ",
         error: None,
     },
     Row {
-        texts: [("a", HEADER), ("b", "1\n"), ("c", BLOCK)],
+        texts: [HEADER, "1\n", BLOCK],
         failing: 0,
-        opened: "ab",
+        opened: "a b ",
         error: Some(FilesError::Fault {
             file: 1,
             fault: Fault {
@@ -120,9 +63,9 @@ const ROWS: [Row; 5] = [
         }),
     },
     Row {
-        texts: [("a", HEADER), ("b", BLOCK), ("c", "1 26\n")],
+        texts: [HEADER, BLOCK, "1 26\n"],
         failing: 0,
-        opened: "abc",
+        opened: "a b c ",
         error: Some(FilesError::Fault {
             file: 2,
             fault: Fault {
@@ -133,15 +76,15 @@ const ROWS: [Row; 5] = [
         }),
     },
     Row {
-        texts: [("a", HEADER), ("b", BLOCK), ("c", "")],
+        texts: [HEADER, BLOCK, ""],
         failing: 4,
-        opened: "ab",
+        opened: "a b ",
         error: Some(FilesError::NotRead { file: 1 }),
     },
     Row {
-        texts: [("a", HEADER), ("b", BLOCK), ("c", "")],
+        texts: [HEADER, BLOCK, ""],
         failing: 5,
-        opened: "ab",
+        opened: "a b ",
         error: Some(FilesError::NotRead { file: 1 }),
     },
 ];
@@ -149,21 +92,10 @@ const ROWS: [Row; 5] = [
 #[test]
 fn no_file_is_opened_after_the_first_that_fails(rt: HostRuntime) -> Result<(), Fail> {
     let alloc = rt.alloc();
+    let names = words_of(alloc, "a b c")?;
+    assert!(rt; !names.is_empty());
     for row in ROWS {
-        let mut files = Vec::new(alloc);
-        let mut names: Vec<String> = Vec::new(alloc);
-        for (name, text) in row.texts {
-            files.push((
-                String::from_str(alloc, name)?,
-                text.as_bytes().to_vec(alloc)?,
-            ))?;
-            names.push(String::from_str(alloc, name)?)?;
-        }
-        assert!(rt; !names.is_empty());
-        let mut shelf = NotingShelf {
-            shelf: MemoryShelf::new(files, 4096, [row.failing].to_vec(alloc)?),
-            opened: Vec::new(alloc),
-        };
+        let mut shelf = NotingShelf::new(alloc, row.texts, row.failing)?;
         match read_files(alloc, &mut shelf, &names) {
             Ok(found) => {
                 assert!(rt; row.error.is_none());
@@ -172,7 +104,7 @@ fn no_file_is_opened_after_the_first_that_fails(rt: HostRuntime) -> Result<(), F
             }
             Err(error) => assert_eq!(rt; Some(error), row.error),
         }
-        assert_eq!(rt; shelf.opened.as_slice(), row.opened.as_bytes());
+        assert_eq!(rt; shelf.opened(), row.opened.as_bytes());
     }
     Ok(())
 }

@@ -1,0 +1,158 @@
+// Which files the call opens, and that files and reports of a size that no case has are answered while there is memory.
+use crate::calls::{Answer, call};
+use crate::inputs::{BLOCK, HEADER, NotingShelf};
+use gf_edges::{MemoryShelf, OpenGate};
+use gf_find::{
+    CERTIFICATE_REFUSED, EVENT_REFUSED, FILES_REFUSED, NOT_READ, REPORTED, SPAN_REFUSED,
+    WORDS_REFUSED,
+};
+use std::alloc::{AllocError, Global};
+use std::sync::Wait;
+use std::test::Fail;
+use std::thread::Threads;
+
+const ZEROS: &str = "0.0 0.0 0.0
+0.0 0.0 0.0
+0.0 0.0 0.0
+0.0 0.0 0.0
+0.0 0.0 0.0
+0.0 0.0 0.0
+0.0 0.0 0.0
+";
+
+// A file of so many blocks, in each of which Mercury's x has these coefficients.
+fn blocks(alloc: Global, count: i64, row: &str) -> Result<Vec<u8>, AllocError> {
+    let mut text = HEADER.as_bytes().to_vec(alloc)?;
+    let mut day: i64 = 2_451_544;
+    for _ in 0..count {
+        let next = day.saturating_add(32);
+        let dates = format!(in alloc; "1 26\n{day}.5 {next}.5 0.0\n{row}\n")?;
+        text.extend_from_slice(dates.as_bytes())?;
+        text.extend_from_slice(ZEROS.as_bytes())?;
+        day = next;
+    }
+    Ok(text)
+}
+
+// The answer to words over one file `a`.
+fn call_over<R: Threads + Wait + Sync>(
+    rt: &R,
+    alloc: Global,
+    line: &str,
+    file: Vec<u8>,
+    room: usize,
+) -> Result<Answer, AllocError> {
+    let mut files = Vec::new(alloc);
+    files.push((String::from_str(alloc, "a")?, file))?;
+    let mut shelf = MemoryShelf::new(files, 4096, Vec::new(alloc));
+    call(rt, alloc, line, &mut shelf, room, &OpenGate)
+}
+
+#[test]
+fn too_many_blocks_are_refused(rt: HostRuntime) -> Result<(), Fail> {
+    let alloc = rt.alloc();
+    let file = blocks(alloc, 16_385, "0.0 0.0 0.0")?;
+    let answer = call_over(&rt, alloc, "check a", file, 4096)?;
+    assert!(rt; answer.status == FILES_REFUSED);
+    assert!(rt;
+        answer.err.as_slice() == "finder: file a line 163858: 38 TooManyBlocks\n".as_bytes()
+    );
+    Ok(())
+}
+
+// Mercury's x rises in the middle of each block, and falls where the next one begins: a report is never too long while
+// there is memory.
+#[test]
+fn a_report_of_many_windows(rt: HostRuntime) -> Result<(), Fail> {
+    let alloc = rt.alloc();
+    let line = "find --kind coord --target mercury --axis x --width 1000000 a";
+    let file = blocks(alloc, 600, "0.138240000000000000D+07 0.0 0.0")?;
+    let answer = call_over(&rt, alloc, line, file, 65_536)?;
+    assert!(rt; answer.status == REPORTED);
+    assert!(rt;
+        answer
+            .out
+            .as_slice()
+            .ends_with("END certain 1199 undecided 0\n".as_bytes())
+    );
+    Ok(())
+}
+
+// Words over three files, of which `a` is a header, `b` a block, and `c` is empty; the call of the shelf that fails; the
+// status, and the names that are opened: those of the words, in their order, up to the first file that can't be read or
+// has a fault. A certificate is opened after them, where its search could be made.
+const OPENED: [(&str, u64, u8, &str); 16] = [
+    (
+        "find --kind coord --target mercury --axis x a b c",
+        0,
+        REPORTED,
+        "a b c ",
+    ),
+    ("check a b", 0, REPORTED, "a b "),
+    ("check c b a", 0, FILES_REFUSED, "c b "),
+    ("check a a b", 0, FILES_REFUSED, "a a "),
+    ("check a d b", 0, NOT_READ, "a d "),
+    ("check a b c", 4, NOT_READ, "a b "),
+    (
+        "find --kind coord --target venus --axis x a b",
+        0,
+        EVENT_REFUSED,
+        "a b ",
+    ),
+    (
+        "find --kind coord --target mercury --axis x --to 2721601 a b",
+        0,
+        SPAN_REFUSED,
+        "a b ",
+    ),
+    (
+        "find --kind coord --target mercury a b",
+        0,
+        WORDS_REFUSED,
+        "",
+    ),
+    (
+        "verify --kind coord --target venus --axis x --cert c a b",
+        0,
+        EVENT_REFUSED,
+        "a b ",
+    ),
+    (
+        "verify --kind coord --target mercury --axis x --to 2721601 --cert c a b",
+        0,
+        SPAN_REFUSED,
+        "a b ",
+    ),
+    (
+        "verify --kind coord --target mercury --axis x --cert c a b",
+        0,
+        CERTIFICATE_REFUSED,
+        "a b c ",
+    ),
+    (
+        "verify --kind coord --target mercury --axis x --cert d a b",
+        0,
+        NOT_READ,
+        "a b d ",
+    ),
+    ("gen 405 1 7", 0, REPORTED, ""),
+    (
+        "set --kind coord --target mercury --axis x --relation less a b",
+        0,
+        REPORTED,
+        "a b ",
+    ),
+    ("scalar --quad 1,0,-4 --from 0 --to 9", 0, REPORTED, ""),
+];
+
+#[test]
+fn the_named_files_alone_are_opened(rt: HostRuntime) -> Result<(), Fail> {
+    let alloc = rt.alloc();
+    for (line, failing, status, opened) in &OPENED {
+        let mut shelf = NotingShelf::new(alloc, [HEADER, BLOCK, ""], *failing)?;
+        let answer = call(&rt, alloc, line, &mut shelf, 4096, &OpenGate)?;
+        assert!(rt; answer.status == *status, "{line}");
+        assert!(rt; shelf.opened() == opened.as_bytes(), "{line}");
+    }
+    Ok(())
+}

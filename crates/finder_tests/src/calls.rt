@@ -1,0 +1,41 @@
+// The call that the program makes, with words and a shelf.
+use crate::inputs::words_of;
+use gf_edges::{Gate, MemorySink, Shelf};
+use gf_find::finder;
+use std::alloc::{AllocError, Global};
+use std::sync::Wait;
+use std::thread::Threads;
+
+// How many bytes the outputs take at once.
+const PIECE: usize = 16;
+
+// How many bytes the error output has room for.
+const ERR_ROOM: usize = 4096;
+
+/// What a call returned and wrote.
+#[derive(Drop)]
+pub(crate) struct Answer {
+    pub(crate) status: u8,
+    pub(crate) out: Vec<u8>,
+    pub(crate) err: Vec<u8>,
+}
+
+/// The answer of the call with the words of this line, where the output has room for so many bytes.
+pub(crate) fn call<R: Threads + Wait + Sync, S: Shelf, G: Gate>(
+    rt: &R,
+    alloc: Global,
+    line: &str,
+    shelf: &mut S,
+    room: usize,
+    gate: &G,
+) -> Result<Answer, AllocError> {
+    let words = words_of(alloc, line)?;
+    let mut out = MemorySink::new(alloc, room, PIECE, Vec::new(alloc))?;
+    let mut err = MemorySink::new(alloc, ERR_ROOM, PIECE, Vec::new(alloc))?;
+    let status = finder(rt, alloc, &words, shelf, &mut out, &mut err, gate);
+    Ok(Answer {
+        status,
+        out: out.bytes().to_vec(alloc)?,
+        err: err.bytes().to_vec(alloc)?,
+    })
+}

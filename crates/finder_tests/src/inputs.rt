@@ -1,0 +1,95 @@
+// What the tests give to the calls: words, and three small files in memory that note which of them are opened.
+use gf_edges::{Failed, MemoryShelf, Shelf};
+use std::alloc::{AllocError, Global};
+
+/// The header of an ephemeris, a file of its own.
+pub(crate) const HEADER: &str = "KSIZE= 52 NCOEFF= 26
+GROUP 1010
+E1 TEST EPHEMERIS
+GROUP 1030
+2451544.50 2451576.50 32.
+GROUP 1040
+1
+EMRAT
+GROUP 1041
+1
+0.810000000000000000D+02
+GROUP 1050
+3 9 9 15 15 15 15 15 15 15 21 27 27
+2 0 2 0 0 0 0 0 0 2 2 0 0
+1 0 1 0 0 0 0 0 0 1 1 0 0
+GROUP 1070
+";
+
+/// The first block that may follow it, in which Mercury's x rises through 0 in the middle.
+pub(crate) const BLOCK: &str = "1 26
+0.245154450000000000D+07 0.245157650000000000D+07 0.0
+0.138240000000000000D+07 0.0 0.0
+0.0 0.0 0.0
+0.0 0.0 0.0
+0.0 0.0 0.0
+0.0 0.0 0.0
+0.0 0.0 0.0
+0.0 0.0 0.0
+0.0 0.0 0.0
+";
+
+/// The words of a line.
+pub(crate) fn words_of(alloc: Global, line: &str) -> Result<Vec<String>, AllocError> {
+    let mut words = Vec::new(alloc);
+    for word in line.split_ascii_whitespace() {
+        words.push(String::from_str(alloc, word)?)?;
+    }
+    Ok(words)
+}
+
+/// Files in memory, with the names that were opened, each before a blank.
+#[derive(Drop)]
+pub(crate) struct NotingShelf {
+    files: MemoryShelf,
+    opened: Vec<u8>,
+}
+
+impl NotingShelf {
+    /// The files `a`, `b` and `c`, of these texts. The call whose number is given fails; where it is 0, none does.
+    pub(crate) fn new(alloc: Global, texts: [&str; 3], failing: u64) -> Result<Self, AllocError> {
+        let mut files = Vec::new(alloc);
+        for (name, text) in [("a", texts[0]), ("b", texts[1]), ("c", texts[2])] {
+            files.push((
+                String::from_str(alloc, name)?,
+                text.as_bytes().to_vec(alloc)?,
+            ))?;
+        }
+        Ok(NotingShelf {
+            files: MemoryShelf::new(files, 4096, [failing].to_vec(alloc)?),
+            opened: Vec::new(alloc),
+        })
+    }
+
+    /// The names of the files that were opened, in that order, each before a blank.
+    pub(crate) fn opened(&self) -> &[u8] {
+        self.opened.as_slice()
+    }
+}
+
+impl Shelf for NotingShelf {
+    ghost use Rattle.std.specs.Prelude.{IsSome, Some};
+
+    ghost files = { λ s. Some s.files.files };
+
+    ghost left = { λ s. s.files.left };
+
+    ghost ready = { λ s. IsSome s.files.left };
+
+    ghost faults = { λ s. s.files.faults };
+
+    fn open(&mut self, name: &str) -> Result<(), Failed> {
+        let _ = self.opened.extend_from_slice(name.as_bytes());
+        let _ = self.opened.push(b' ');
+        self.files.open(name)
+    }
+
+    fn read(&mut self, buf: &mut [u8]) -> Result<usize, Failed> {
+        self.files.read(buf)
+    }
+}

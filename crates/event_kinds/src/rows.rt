@@ -1,13 +1,15 @@
 // The functions of the kinds that are no occultations, row by row.
 ghost use Rattle.std.specs.Prelude.{◌≡◌, ◌<◌, IfOk};
-ghost use Rattle.spec_expressions.specs.Term.{term};
+ghost use Rattle.spec_expressions.specs.Term.{term, cosine, product, signed_square, sum};
+ghost use Rattle.spec_expressions.specs.Vectors.{IsVector, dot};
 ghost use Rattle.spec_kinds.specs.Kinds.{coordinate_function, radius_function, apsis_function, separation_function, dot_change, separation_change};
+ghost use Rattle.spec_kinds.specs.Vectors.{target, second, target_velocity, second_velocity};
 
 use crate::vectors::{SECOND, SECOND_VELOCITY, TARGET, TARGET_VELOCITY};
-use event_expr::Expr;
 use event_expr::builders::{
     coordinate, cosine, difference, dot, length, product, signed_square, squared_length, sum,
 };
+use event_expr::{Expr, Vector};
 use spec_text::Decimal;
 use std::alloc::{AllocError, Global};
 
@@ -43,50 +45,82 @@ pub fn separation_function(alloc: Global, angle: Decimal) -> Result<Expr, AllocE
     ensures { IfOk result (λ e. term e ≡ separation_function angle) }
 {
     let square = signed_square(alloc, dot(alloc, TARGET, SECOND)?)?;
-    let distances = product(
-        alloc,
-        dot(alloc, TARGET, TARGET)?,
-        dot(alloc, SECOND, SECOND)?,
-    )?;
-    let angle_square = signed_square(alloc, cosine(angle))?;
-    difference(alloc, square, product(alloc, angle_square, distances)?)
+    difference(alloc, square, at_angle(alloc, angle)?)
 }
 
-/// What changes the dot product of the places, in square km a second.
-fn dot_change(alloc: Global) -> Result<Expr, AllocError>
-    ensures { IfOk result (λ e. term e ≡ dot_change) }
+// What that signed square is where the bodies are at an angle.
+fn at_angle(alloc: Global, angle: Decimal) -> Result<Expr, AllocError>
+    ensures { IfOk result (λ e. term e
+        ≡ product (signed_square (cosine angle)) (product (dot target target) (dot second second))) }
 {
-    sum(
-        alloc,
-        dot(alloc, TARGET_VELOCITY, SECOND)?,
-        dot(alloc, TARGET, SECOND_VELOCITY)?,
-    )
+    let square = signed_square(alloc, cosine(angle))?;
+    product(alloc, square, distances(alloc)?)
+}
+
+// The product of the squares of the distances.
+fn distances(alloc: Global) -> Result<Expr, AllocError>
+    ensures { IfOk result (λ e. term e ≡ product (dot target target) (dot second second)) }
+{
+    dots(alloc, (TARGET, TARGET), (SECOND, SECOND))
+}
+
+// The product of two dot products.
+fn dots(alloc: Global, one: (Vector, Vector), other: (Vector, Vector)) -> Result<Expr, AllocError>
+    requires first { IsVector one.0 }
+    requires second { IsVector one.1 }
+    requires third { IsVector other.0 }
+    requires fourth { IsVector other.1 }
+    ensures { IfOk result (λ e. term e ≡ product (dot one.0 one.1) (dot other.0 other.1)) }
+{
+    let first = dot(alloc, one.0, one.1)?;
+    product(alloc, first, dot(alloc, other.0, other.1)?)
 }
 
 /// What changes the cosine of the angle between target and second body, times positive numbers.
 pub fn separation_change(alloc: Global) -> Result<Expr, AllocError>
     ensures { IfOk result (λ e. term e ≡ separation_change) }
 {
-    let distances = product(
+    let turning = turning(alloc)?;
+    difference(alloc, turning, receding(alloc)?)
+}
+
+// The part of it that comes from the dot product of the places.
+fn turning(alloc: Global) -> Result<Expr, AllocError>
+    ensures { IfOk result (λ e. term e
+        ≡ product dot_change (product (dot target target) (dot second second))) }
+{
+    let change = dot_change(alloc)?;
+    product(alloc, change, distances(alloc)?)
+}
+
+// What changes the dot product of the places, in square km a second.
+fn dot_change(alloc: Global) -> Result<Expr, AllocError>
+    ensures { IfOk result (λ e. term e ≡ dot_change) }
+{
+    let first = dot(alloc, TARGET_VELOCITY, SECOND)?;
+    sum(alloc, first, dot(alloc, TARGET, SECOND_VELOCITY)?)
+}
+
+// The part of it that comes from the distances.
+fn receding(alloc: Global) -> Result<Expr, AllocError>
+    ensures { IfOk result (λ e. term e ≡ product (dot target second) (sum
+        (product (dot target target_velocity) (dot second second))
+        (product (dot target target) (dot second second_velocity)))) }
+{
+    let places = dot(alloc, TARGET, SECOND)?;
+    product(alloc, places, distances_change(alloc)?)
+}
+
+// Half of what changes the product of the squares of the distances.
+fn distances_change(alloc: Global) -> Result<Expr, AllocError>
+    ensures { IfOk result (λ e. term e ≡ sum
+        (product (dot target target_velocity) (dot second second))
+        (product (dot target target) (dot second second_velocity))) }
+{
+    let first = dots(alloc, (TARGET, TARGET_VELOCITY), (SECOND, SECOND))?;
+    sum(
         alloc,
-        dot(alloc, TARGET, TARGET)?,
-        dot(alloc, SECOND, SECOND)?,
-    )?;
-    let turning = product(alloc, dot_change(alloc)?, distances)?;
-    let first = product(
-        alloc,
-        dot(alloc, TARGET, TARGET_VELOCITY)?,
-        dot(alloc, SECOND, SECOND)?,
-    )?;
-    let second = product(
-        alloc,
-        dot(alloc, TARGET, TARGET)?,
-        dot(alloc, SECOND, SECOND_VELOCITY)?,
-    )?;
-    let receding = product(
-        alloc,
-        dot(alloc, TARGET, SECOND)?,
-        sum(alloc, first, second)?,
-    )?;
-    difference(alloc, turning, receding)
+        first,
+        dots(alloc, (TARGET, TARGET), (SECOND, SECOND_VELOCITY))?,
+    )
 }

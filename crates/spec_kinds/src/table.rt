@@ -209,46 +209,53 @@ impl Kind {
         KINDS[self as usize].0
     }
 
+    // The row of the table.
+    fn row(self) -> KindRow
+        ensures { result ≡ row_of self }
+    {
+        KINDS[self as usize].1
+    }
+
     /// How the second body is used.
     pub fn second(self) -> Use
         ensures { result ≡ (row_of self).second }
     {
-        KINDS[self as usize].1.second
+        self.row().second
     }
 
     /// How the frame is used.
     pub fn frame(self) -> Use
         ensures { result ≡ (row_of self).frame }
     {
-        KINDS[self as usize].1.frame
+        self.row().frame
     }
 
     /// How the axis is used.
     pub fn axis(self) -> Use
         ensures { result ≡ (row_of self).axis }
     {
-        KINDS[self as usize].1.axis
+        self.row().axis
     }
 
     /// How the reference value is used.
     pub fn reference(self) -> Use
         ensures { result ≡ (row_of self).reference }
     {
-        KINDS[self as usize].1.reference
+        self.row().reference
     }
 
     /// What the reference value may be.
     pub fn range(self) -> Range
         ensures { result ≡ (row_of self).range }
     {
-        KINDS[self as usize].1.range
+        self.row().range
     }
 
     /// How the two radii are used.
     pub fn radii(self) -> Use
         ensures { result ≡ (row_of self).radii }
     {
-        KINDS[self as usize].1.radii
+        self.row().radii
     }
 
     /// Whether events of the kind are of two bodies.

@@ -3,6 +3,7 @@ use Rattle.std.proofs.Common.{◌≡◌, List, [], ◌∷◌, ℕ, suc, ◌+◌,
 use Rattle.std.proofs.lemmas.Grind.{flat_map-append}
 use Rattle.std.proofs.lemmas.List.{append_assoc, append-nil}
 use Rattle.std.specs.List.{flat_map}
+use Rattle.std.specs.Prelude.{is_ok, if◌then◌else◌}
 
 both : (old mid new a b : List ℕ) → mid ≡ old ++ a → new ≡ mid ++ b → new ≡ old ++ (a ++ b)
 both old mid new a b first last = last ∙ ap (λ (xs : List ℕ). xs ++ b) first ∙ append_assoc old a b
@@ -26,3 +27,8 @@ one_more_piece f xs k d old mid new below first last =
     let before = flat_map f (take k xs) in
     let pieces : flat_map f (take (suc k) xs) ≡ before ++ here = ap (flat_map f) (take-suc xs k d below) ∙ flat_map-append f (take k xs) (get_or xs k d ∷ []) ∙ ap (λ (more : List ℕ). before ++ more) (append-nil here) in
     both old mid new before here first last ∙ ap (λ (more : List ℕ). old ++ more) (sym pieces) ∙ ap (λ (n : ℕ). old ++ flat_map f (take n xs)) next
+
+-- what `push_str` leaves, where its result is the caller's own
+pub last_text : {T E : Type 0} (result : Result T E) (mid new b : List ℕ) → new ≡ (if is_ok result then mid ++ b else mid) → OnOk result (new ≡ mid ++ b)
+last_text (Ok u) mid new b is = is
+last_text (Err e) mid new b is = tt

@@ -1,8 +1,7 @@
-use Rattle.std.proofs.Common.{rules, arith, ℕ, ◌≡◌, ◌≤◌, ◌*◌, pos, ◌+ℤ◌, unsigned_abs, ap, sym, to_z, of_z, FitsSigned, w64, ◌∙◌}
+use Rattle.std.proofs.Common.{rules, arith, ℕ, ◌≡◌, ◌≤◌, ◌*◌, pos, ◌+ℤ◌, unsigned_abs, ap, to_z, of_z, FitsSigned, w64, ◌∙◌}
 use Rattle.std.proofs.lemmas.Int.{ints, to_z-of_z}
 use Rattle.std.proofs.lemmas.Nat.{mul-le}
 use Rattle.spec_ephemeris.specs.declared.header.Column.{Column}
-use Rattle.spec_ephemeris.specs.Rounding.{pairs_of}
 use Rattle.eph_model.proofs.GridLemmas.{block_of, column_is, ends, found, length_passed}
 use Rattle.eph_model.proofs.ephemeris.Ephemeris.granule.Goals as goal
 
@@ -42,15 +41,3 @@ returns-clause-start c =
     let fits : FitsSigned w64 c.time_of.result = search rules in
     let same : to_z w64 (of_z w64 c.time_of.result) ≡ c.time_of.result = to_z-of_z w64 c.time_of.result fits in
     rw same (omega (arith, ints, c.time_of.ensures, grid.early, last), omega (arith, ints, c.time_of.ensures, grid.late, last, grid.within))
-
-pub returns-clause-components : goal.returns-clause-components
-returns-clause-components c = c.components.ensures.value
-
-pub returns-clause-few : goal.returns-clause-few
-returns-clause-few c = c.grid-grid.ensures.coefficients
-
-pub returns-clause-bodies : goal.returns-clause-bodies
-returns-clause-bodies c = c.granule_numbers.ensures.bodies
-
-pub returns-clause-rounded : goal.returns-clause-rounded
-returns-clause-rounded c = c.granule_pairs.ensures ∙ ap (pairs_of c.args.column) (sym c.granule_numbers.ensures.numbers)

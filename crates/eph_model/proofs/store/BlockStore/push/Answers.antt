@@ -1,7 +1,6 @@
 use Rattle.std.proofs.Common.{◌∙◌, ap, [], ◌∷◌, ◌++◌}
-use Rattle.eph_model.specs.Stores.{Store, with_number}
 use Rattle.eph_model.proofs.PairLists.{pairs_pushed}
-use Rattle.eph_model.proofs.StoreLists.{store_of, number_pushed, still_checked}
+use Rattle.eph_model.proofs.StoreLists.{still_checked}
 use Rattle.eph_model.proofs.store.BlockStore.push.Goals as goal
 
 pub invariant_of-self-2 : goal.invariant_of-self-2
@@ -12,11 +11,3 @@ invariant_of-self-2 c =
           (c.kept_pair.ensures c.args.number c.requires) c.in_ok-push.ensures.items
           (c.push_pair.ensures.added ∙ ap (λ l. l ++ c.kept_pair.result ∷ []) c.in_ok-reserve.ensures.items) c.self.invariant.1,
     )
-
-pub returns : goal.returns
-returns c =
-    let e = c.self.inside in record {
-      added = ap (store_of e.header e.start e.blocks) c.in_ok-push.ensures.items
-          ∙ (number_pushed e.header e.start e.blocks e.numbers.items c.self.invariant.0 c.args.number ∙ ap (λ (s : Store). with_number s c.args.number) c.self.view_is);
-      memory = tt;
-    }

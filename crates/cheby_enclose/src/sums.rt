@@ -13,7 +13,7 @@ use ival_core::product_ends;
 use spec_chebyshev::Ival62;
 
 /// The ends of an interval in 128 bits, before it is normalized.
-#[derive(Clone, Copy, Debug, PartialEq, Eq)]
+#[derive(Clone, Copy)]
 pub struct WideEnds {
     pub lo: i128,
     pub hi: i128,

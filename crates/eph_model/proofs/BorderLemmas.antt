@@ -1,11 +1,12 @@
 -- The borders of a grid around the middle of a span: one of the two is preferred to each other.
-use Rattle.std.proofs.Common.{◌≡◌, ℕ, ◌+◌, ◌*◌, ◌<◌, ◌≤◌, ℤ, pos, ◌+ℤ◌, ◌-ℤ◌, ◌<ℤ◌, ◌≤ℤ◌, refl, arith, inl, inr}
+use Rattle.std.proofs.Common.{◌≡◌, ℕ, ◌+◌, ◌*◌, ◌<◌, ◌≤◌, ℤ, pos, ◌+ℤ◌, ◌-ℤ◌, ◌<ℤ◌, ◌≤ℤ◌, Option, Some, None, refl, arith, inl, inr}
 use Rattle.std.proofs.lemmas.Int.{ints}
 use Rattle.std.proofs.lemmas.Nat.{mul-le}
 use Rattle.std.proofs.lemmas.Bool.{cases_lt}
-use Rattle.spec_ephemeris.specs.Ephemeris.{IsPreferred}
+use Rattle.spec_ephemeris.specs.Ephemeris.{IsNearest, IsPreferred}
 use Rattle.eph_model.specs.declared.grid.Grid.{Grid}
 use Rattle.eph_model.specs.Grids.{IsBorderAt, IsGridBorder}
+use Rattle.eph_model.specs.Short.{IsShort}
 use Rattle.spec_ephemeris.proofs.Nearer.{nearer, IsCovered}
 
 -- n is at the middle of a and b or before it, and n + l is past it; both count from `start`
@@ -67,3 +68,14 @@ covered g a b s j order within from before border =
       | inl later ↦ inr (covered_past g a b s j around order border later)
       | inr no_later ↦ inl (covered_before g a b s j around order within border no_later)
     ]
+
+-- times in a span of the grid are far from the ends of 64 bits
+pub short_in_grid : (P : ℤ → Type 0) (g : Grid) (a b : ℤ) (o : Option ℤ) → g.start ≤ℤ a → b ≤ℤ (g.start +ℤ pos (g.count * g.seconds))
+    → ((s : ℤ) → P s → (a <ℤ s) × (s ≤ℤ b)) → IsNearest P a b o → IsShort a b o
+short_in_grid P g a b None from upto within nearest = tt
+short_in_grid P g a b (Some t) from upto within nearest = record {
+  after = (within t nearest.0).0;
+  upto = (within t nearest.0).1;
+  early = omega (arith, ints, from, g.early);
+  late = omega (arith, ints, upto, g.late, g.within);
+}

@@ -1,6 +1,5 @@
 -- The borders of a grid are those of its column, and the nearest border of one column more.
-use Rattle.std.proofs.Common.{◌≡◌, ℕ, ◌+◌, ◌<◌, IsTrue, List, [], ◌∷◌, ◌++◌, length, take, slice_index_or, Option, Some, None, ℤ, ◌<ℤ◌, ◌≤ℤ◌, arith, inl, inr, sym, ◌∙◌}
-use Rattle.std.proofs.lemmas.Int.{ints}
+use Rattle.std.proofs.Common.{◌≡◌, ℕ, ◌+◌, ◌<◌, IsTrue, List, [], ◌∷◌, ◌++◌, length, take, slice_index_or, Option, None, ℤ, ◌<ℤ◌, ◌≤ℤ◌, arith, inl, inr, sym, ◌∙◌}
 use Rattle.std.proofs.lemmas.List.{take_more}
 use Rattle.std.proofs.lemmas.List.Elements.{Contains-append_left, Contains-push, Contains-push_cases}
 use Rattle.spec_ephemeris.specs.Header.{has_column}
@@ -10,6 +9,7 @@ use Rattle.spec_ephemeris.specs.Borders.{preferred, border_count}
 use Rattle.eph_model.specs.declared.grid.Grid.{Grid}
 use Rattle.eph_model.specs.Grids.{IsGridOf, IsGridBorder}
 use Rattle.eph_model.specs.Short.{IsShort}
+use Rattle.eph_model.proofs.BorderLemmas.{short_in_grid}
 use Rattle.eph_model.proofs.GridLemmas.{starts_at, count_is, ends}
 use Rattle.spec_ephemeris.proofs.Nearer.{nearest_of_two, same, IsCovered}
 use Rattle.spec_ephemeris.proofs.NearestBorders.{IsAmong, IsColumnBorder, border_of, among, nearest_as}
@@ -77,12 +77,4 @@ one_more e columns i a b x y within one other =
 -- times in a span of the ephemeris are far from the ends of 64 bits
 pub short : (P : ℤ → Type 0) (e : Ephemeris) (number : ℕ) (g : Grid) (a b : ℤ) (o : Option ℤ) → IsGridOf e number g
     → e.start ≤ℤ a → b ≤ℤ end_of e → ((s : ℤ) → P s → (a <ℤ s) × (s ≤ℤ b)) → IsNearest P a b o → IsShort a b o
-short P e number g a b None is from upto within nearest = tt
-short P e number g a b (Some t) is from upto within nearest =
-    let last = ends e number g is in
-    record {
-      after = (within t nearest.0).0;
-      upto = (within t nearest.0).1;
-      early = omega (arith, ints, from, is.start, g.early);
-      late = omega (arith, ints, upto, last, g.late, g.within);
-    }
+short P e number g a b o is from upto = short_in_grid P g a b o (rw is.start from) (rw (← ends e number g is) upto)

@@ -4,3 +4,4 @@ pub mod BorderLemmas
 pub mod ColumnBorders
 pub mod PairLists
 pub mod StoreLists
+pub mod Times

@@ -1,12 +1,10 @@
 -- Whole blocks, and after them the numbers of one that was begun.
-use Rattle.std.proofs.Common.{◌≡◌, ℕ, ◌+◌, ◌*◌, ◌<◌, ◌≤◌, List, [], ◌∷◌, ◌++◌, length, take, drop, sym, ◌∙◌, subst, arith, ℤ, pos, negsuc, ◌+ℤ◌, ◌*ℤ◌, ◌≤ℤ◌, unsigned_abs, w64, FitsSigned}
-use Rattle.std.proofs.lemmas.Int.{ints}
-use Rattle.std.proofs.lemmas.Nat.{mul-le}
+use Rattle.std.proofs.Common.{◌≡◌, ℕ, ◌+◌, ◌*◌, ◌<◌, ◌≤◌, List, [], ◌∷◌, ◌++◌, length, take, drop, sym, ◌∙◌, subst, arith, ℤ}
 use Rattle.std.proofs.lemmas.List.{length-take, length-drop, take-append-le, drop-append-le, take-append-drop, take-take, take_all, drop-take, drop_all}
 use Rattle.spec_text.specs.declared.decimals.Decimal.{Decimal}
 use Rattle.spec_ephemeris.specs.declared.header.Header.{Header}
-use Rattle.spec_ephemeris.specs.declared.limits.TheConstants.{LONGEST_TICKS, MAX_BLOCKS, SHORTEST_BLOCK}
-use Rattle.spec_ephemeris.specs.Ephemeris.{Ephemeris, IsBlock, IsEphemeris, IsStart}
+use Rattle.spec_ephemeris.specs.declared.limits.TheConstants.{MAX_BLOCKS}
+use Rattle.spec_ephemeris.specs.Ephemeris.{Ephemeris, IsBlock, IsEphemeris}
 use Rattle.spec_ephemeris.proofs.Pushing.{pushed}
 use Rattle.eph_model.specs.Stores.{Store, closed, cut_to, with_number}
 
@@ -75,12 +73,3 @@ module _ (h : Header) (start : ℤ) (blocks : ℕ) (all : List Decimal) (checked
     closed_checked room =
         subst (λ (l : List Decimal). IsEphemeris (record { header = h; start = start; blocks = blocks + 1; numbers = l })) (sym all_taken)
         (pushed (accepted_of h start blocks all) (drop n all) checked fits room)
-
--- ---- times of blocks in 64 bits
-pub times_fit : (start seconds : ℤ) (blocks : ℕ) → blocks ≤ MAX_BLOCKS → SHORTEST_BLOCK ≤ℤ seconds → seconds ≤ℤ LONGEST_TICKS → IsStart start
-    → FitsSigned w64 (pos blocks *ℤ seconds) × FitsSigned w64 (start +ℤ (pos blocks *ℤ seconds))
-times_fit start (pos k) blocks few low high within_bounds =
-    let short : k ≤ unsigned_abs LONGEST_TICKS = omega (arith, ints, high) in
-    let most : blocks * k ≤ MAX_BLOCKS * unsigned_abs LONGEST_TICKS = mul-le blocks k MAX_BLOCKS (unsigned_abs LONGEST_TICKS) few short in
-    (omega (arith, ints, most), omega (arith, ints, most, within_bounds))
-times_fit start (negsuc k) blocks few low high within_bounds = absurd (omega (arith, ints, low))

@@ -4,7 +4,7 @@ ghost use Rattle.std.specs.Prelude.{◌≡◌, ◌<◌, ◌||◌};
 ghost use Rattle.event_expr.specs.Leaves.{no_axes, one_axis, either_axes, has_axis};
 
 /// A set of axes.
-#[derive(Clone, Copy, Debug, PartialEq, Eq)]
+#[derive(Clone, Copy)]
 pub struct Axes {
     /// The axis 0 is in it.
     pub x: bool,

@@ -9,7 +9,7 @@ use crate::axes::Axes;
 use spec_expressions::{Expr, Vector};
 
 /// A set of coordinates of the two targets: of each vector the axes along which it is named.
-#[derive(Clone, Copy, Debug, PartialEq, Eq)]
+#[derive(Clone, Copy)]
 pub struct Leaves {
     /// Of the position of target 0.
     pub first_position: Axes,

@@ -8,7 +8,7 @@ use crate::{Failed, Shelf};
 use std::marker::Model;
 
 /// Which file is open, and how many of its bytes were read.
-#[derive(Clone, Copy, Debug)]
+#[derive(Clone, Copy)]
 pub(crate) struct Place {
     pub(crate) index: usize,
     pub(crate) at: usize,

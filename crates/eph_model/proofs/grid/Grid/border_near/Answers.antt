@@ -1,7 +1,7 @@
 use Rattle.std.proofs.Common.{◌≡◌, ◌+◌, to_z, of_z, w64}
 use Rattle.std.proofs.lemmas.Int.{to_z-of_z}
 use Rattle.eph_model.specs.Grids.{IsBorderAt, IsGridBorder}
-use Rattle.eph_model.proofs.BorderLemmas.{covered}
+use Rattle.eph_model.proofs.BorderLemmas.{covered, short_in_grid}
 use Rattle.spec_ephemeris.proofs.Nearer.{nearest_of_two}
 use Rattle.eph_model.proofs.grid.Grid.border_near.Goals as goal
 
@@ -20,3 +20,19 @@ returns c =
     (λ s border. record { index = j; border = border }) (λ s border. record { index = j + 1; border = border })
     (λ s border. covered grid a b s j c.requires.order middle.in_range
     (rw (same_a, same_b) at middle.from) (rw (same_a, same_b) at middle.before) border))
+
+pub preferred-requires-clause-first : goal.preferred-requires-clause-first
+preferred-requires-clause-first c =
+    let same_a : to_z w64 (of_z w64 c.args.a) ≡ c.args.a = to_z-of_z w64 c.args.a c.ranges.a in
+    let same_b : to_z w64 (of_z w64 c.args.b) ≡ c.args.b = to_z-of_z w64 c.args.b c.ranges.b in
+    rw (same_a, same_b)
+    (short_in_grid (IsBorderAt c.args.self c.index_before_middle-before.result c.args.a c.args.b) c.args.self c.args.a c.args.b c.border_at-last.result
+    c.requires.from c.requires.upto (λ s border. (border.after, border.upto)) (rw (same_a, same_b) at c.border_at-last.ensures))
+
+pub preferred-requires-clause-second : goal.preferred-requires-clause-second
+preferred-requires-clause-second c =
+    let same_a : to_z w64 (of_z w64 c.args.a) ≡ c.args.a = to_z-of_z w64 c.args.a c.ranges.a in
+    let same_b : to_z w64 (of_z w64 c.args.b) ≡ c.args.b = to_z-of_z w64 c.args.b c.ranges.b in
+    rw (same_a, same_b)
+    (short_in_grid (IsBorderAt c.args.self (c.index_before_middle-before.result + 1) c.args.a c.args.b) c.args.self c.args.a c.args.b c.border_at-next.result
+    c.requires.from c.requires.upto (λ s border. (border.after, border.upto)) (rw (same_a, same_b) at c.border_at-next.ensures))

@@ -5,7 +5,7 @@ use spec_text::Fault;
 
 /// What a reader waits for, and what it keeps. A place of `EMRAT` is counted from 0. Of rows and columns the first `count`
 /// are kept, as many as the first line of columns has words.
-#[derive(Clone, Copy, Debug, PartialEq, Eq)]
+#[derive(Clone, Copy)]
 pub enum State {
     /// The first line.
     First,

@@ -198,9 +198,8 @@ fn leave_nothing<N: Naming + Send + Sync, R: Abort + Threads + Wait + Sync>(
 {
     let gate = new_meeting();
     let root = span(-43_200, 2_721_600);
-    let Ok(mut seats) = make::<N, Crossing, Meeting>(
-        alloc, &Crossing, ledger, entries, root, &gate,
-    ) else {
+    let Ok(mut seats) = make::<N, Crossing, Meeting>(alloc, &Crossing, ledger, entries, root, &gate)
+    else {
         assert!(rt; false);
         return Ok(());
     };

@@ -84,6 +84,7 @@ fn book_of_one<N: Naming, R: Abort + Wait>(
     entries: Vec<LedgerSeat>,
 ) -> Option<Book>
     requires pool { CanMake N.rules stairs ledger entries.items (span (pos 0) (pos 100)) }
+    requires one { length entries.items ≡ 1 }
 {
     let root = span(0, 100);
     let Ok(mut seats) = make::<N, Stairs, OpenGate>(
@@ -149,6 +150,7 @@ fn book_of_two<N: Naming, R: Abort + Wait>(
 ) -> Option<Book>
     requires pool { CanMake N.rules long_crossing ledger entries.items
         (span (pos 1339000) (pos 1339400)) }
+    requires two { length entries.items ≡ 2 }
 {
     let root = span(1_339_000, 1_339_400);
     let Ok(mut seats) = make::<N, Crossing, OpenGate>(
@@ -250,10 +252,7 @@ const WAY: [(usize, usize); 12] = [
 ];
 
 // Whether the seats handed over on the whole way.
-fn hand_round<N: Naming, R: Wait>(
-    rt: &R,
-    seats: &mut [PoolSeat<N, Crossing, OpenGate>],
-) -> bool
+fn hand_round<N: Naming, R: Wait>(rt: &R, seats: &mut [PoolSeat<N, Crossing, OpenGate>]) -> bool
     requires named { AreNamed N.rules long_crossing }
     requires free { AreFree seats.old }
 {

@@ -107,7 +107,8 @@ fn turns_of(book: &Book) -> Option<u32> {
 fn workers_find_each_passing_of_a_table(rt: HostRuntime) -> Result<(), Fail> {
     for workers in [1u32, 2, 8] {
         let judge = judge();
-        let Ok(book) = find_scalar(&rt, rt.alloc(), &judge, span(0, 12), workers, 13, &OpenGate) else {
+        let Ok(book) = find_scalar(&rt, rt.alloc(), &judge, span(0, 12), workers, 13, &OpenGate)
+        else {
             assert!(rt; false);
             return Ok(());
         };

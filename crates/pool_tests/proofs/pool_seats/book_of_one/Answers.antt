@@ -17,6 +17,6 @@ close-requires g c =
     let same = same_last c.in-Ok.seats.items c.push.new.self.items c.pop.new.self.items c.pop.new.self.items c.in-Some.seat c.push_stairs.new.seat
     (same_all c.pop.new.self.items) c.push_stairs.ensures.same c.in-Some.ensures.items c.in-Ok-push.ensures.items in
     all_ours c.args.ledger c.in-Ok-finish.entries.items (come_back c.args.ledger c.push.new.self.items
-          (same_seats c.args.ledger c.span-root.result c.in-Ok.seats.items c.push.new.self.items c.in-Ok.ensures.begin same)
-          (zip_length SameSeat c.in-Ok.seats.items c.push.new.self.items same ∙ c.in-Ok.ensures.count ∙ c.requires.pool.all)
-          c.in-Ok-finish.entries.items c.in-Ok-finish.ensures.back)
+    (same_seats c.args.ledger c.span-root.result c.in-Ok.seats.items c.push.new.self.items c.in-Ok.ensures.begin same)
+    (zip_length SameSeat c.in-Ok.seats.items c.push.new.self.items same ∙ c.in-Ok.ensures.count ∙ c.requires.pool.all)
+    c.in-Ok-finish.entries.items c.in-Ok-finish.ensures.back)

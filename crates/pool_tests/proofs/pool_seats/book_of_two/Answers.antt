@@ -18,6 +18,6 @@ close-requires g c =
     let same = same_last c.in-Ok.seats.items c.push-2.new.self.items c.pop.new.self.items c.push.new.self.items c.in-Some.second c.take_from_other.new.second
     first c.take_from_other.ensures.second.0 c.in-Some.ensures.items c.in-Ok-push-2.ensures.items in
     all_ours c.args.ledger c.in-Ok-finish.entries.items (come_back c.args.ledger c.push-2.new.self.items
-          (same_seats c.args.ledger c.span-root.result c.in-Ok.seats.items c.push-2.new.self.items c.in-Ok.ensures.begin same)
-          (zip_length SameSeat c.in-Ok.seats.items c.push-2.new.self.items same ∙ c.in-Ok.ensures.count ∙ c.requires.pool.all)
-          c.in-Ok-finish.entries.items c.in-Ok-finish.ensures.back)
+    (same_seats c.args.ledger c.span-root.result c.in-Ok.seats.items c.push-2.new.self.items c.in-Ok.ensures.begin same)
+    (zip_length SameSeat c.in-Ok.seats.items c.push-2.new.self.items same ∙ c.in-Ok.ensures.count ∙ c.requires.pool.all)
+    c.in-Ok-finish.entries.items c.in-Ok-finish.ensures.back)

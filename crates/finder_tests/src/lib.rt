@@ -1,13 +1,16 @@
-//! What only a test can do over the public calls of `gf_files` and `gf_find`: see which files are opened and how much is
-//! read of one, hold workers until they have met, and read files and reports of a size that no case has. In come words and
-//! files in memory, over shelves and a gate that note what is asked of them. It holds tests alone, and stands beside these
-//! crates so that they are not proved once more with them; what a case can show belongs to `finder_cases`.
+//! What only a test can do over the public calls of `gf_edges`, `gf_files` and `gf_find`: see what comes back of the
+//! system's files and streams, which files are opened and how much is read of one, hold workers until they have met, and
+//! read files and reports of a size that no case has. In come words and files, in memory over shelves and a gate that note
+//! what is asked of them, or of the system. It holds tests alone, and stands beside these crates so that they are not proved
+//! once more with them; what a case can show belongs to `finder_cases`.
 #![tactic(auto)]
 
 #[cfg(test)]
 mod call_tests;
 #[cfg(test)]
 mod calls;
+#[cfg(test)]
+mod edge_tests;
 #[cfg(test)]
 mod file_tests;
 #[cfg(test)]

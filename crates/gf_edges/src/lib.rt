@@ -18,6 +18,3 @@ pub use laws::{counts_rise, files_are_found_by_name, pieces_are_as_long_as_can_b
 pub use memory_shelf::MemoryShelf;
 pub use memory_sink::{Memory, MemorySink};
 pub use system::{FileShelf, StdSink};
-
-#[cfg(test)]
-mod tests;

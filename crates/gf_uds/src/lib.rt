@@ -23,6 +23,3 @@ pub use quad::Quad;
 pub use scalar::Scalar;
 pub use spec_events::Dir as Want;
 pub use spec_scalars::{Plan, Reach};
-
-#[cfg(test)]
-mod tests;

@@ -12,6 +12,3 @@ pub use run::{RunError, run_one};
 pub use shares::run_shares;
 pub use spec_trees::{Leaf, Mark, Node, Turn, Verdict};
 pub use tree_judge::{Judge, rules_are_sound};
-
-#[cfg(test)]
-mod tests;

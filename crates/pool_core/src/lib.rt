@@ -20,6 +20,3 @@ mod worker;
 
 pub use pool::Pool;
 pub use worker::StepError;
-
-#[cfg(test)]
-mod tests;

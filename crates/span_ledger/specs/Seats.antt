@@ -1,5 +1,5 @@
 -- How contracts see a ledger and its seats.
-use Rattle.std.specs.Prelude.{◌≡◌, ◌<◌, ℕ, min, pos, List, [], length, slice_index_or, All}
+use Rattle.std.specs.Prelude.{◌≡◌, ◌<◌, ℕ, min, List, [], length, slice_index_or, All}
 use Rattle.atomic_table.specs.Seated.{TableId}
 use Rattle.spec_trees.specs.declared.book.Booked.{Booked}
 use Rattle.spec_pool.specs.declared.ledger.SeatHistory.{SeatHistory}
@@ -48,7 +48,3 @@ AllFit log seats = All (λ s. FitsPart log (part s)) seats
 -- the two numbers that are reported
 abbrev pub IsMissing : ℕ → ℕ → CloseError → Type 0
 IsMissing given made (Missing g m) = (g ≡ min given 4294967295) × (m ≡ made)
-
--- the root of a test: a thousand seconds for each number of a seat
-abbrev pub IsThousands : SpanLedger → Type 0
-IsThousands ledger = ((terms ledger).root.a ≡ pos 0) × ((terms ledger).root.b ≡ pos 64000)

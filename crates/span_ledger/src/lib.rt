@@ -12,6 +12,3 @@ mod register;
 pub use desk::{LedgerSeat, SpanLedger};
 pub use spec_pool::{CloseError, Entry, Memory};
 pub use spec_trees::{Book, Booked};
-
-#[cfg(test)]
-mod tests;

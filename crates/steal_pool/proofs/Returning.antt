@@ -25,8 +25,7 @@ use Rattle.steal_pool.specs.declared.finishing.FinishError.TheVariants.{TooMany,
 use Rattle.steal_pool.specs.declared.seat.PoolError.{PoolError}
 use Rattle.steal_pool.specs.Pools.{AllBegin, Begins, ComeBack, IfTooMany, IsLeftOver, IsRefused, entered_in}
 use Rattle.steal_pool.specs.Runs.{AreAll, AreFree, AreSeatsOf, EnteredOnce, HaveEntered, IsOverfull, IsSeatAt}
-use Rattle.steal_pool.proofs.Listing.{all_each, all_left, all_right, zip_get, zip_push, zip_self}
-use Rattle.steal_pool.proofs.Pooling.{same_self}
+use Rattle.steal_pool.proofs.Listing.{all_each, zip_get}
 use Rattle.steal_pool.proofs.Booking.{Fit, Numbered, book_in_order, book_once, more_than, parts_entered}
 
 -- ---- the beginning
@@ -42,19 +41,6 @@ seat_at ledger k hand s q b same = (same.table ∙ b.table, same.terms ∙ b.ter
 pub same_seats : (ledger : SpanLedger) (root : Node) (ss qs : List Seat) → AllBegin ledger root ss → AllZip SameSeat ss qs → AreSeatsOf ledger qs
 same_seats ledger root ss qs b z k q at =
     let r = zip_get SameSeat ss qs k q z at in seat_at ledger k _ r.0 q (b k r.0 r.1) r.2
-
--- ---- seats that are taken out of the list of all one by one, from its end, and put back
-pub free_last : (ss front : List Seat) (s : Seat) → AreFree ss → ss ≡ front ++ s ∷ [] → AreFree front × (s.refusal ≡ None)
-free_last ss front s all e =
-    let split : AreFree (front ++ s ∷ []) = subst AreFree e all in
-    (all_left (λ (x : Seat). x.refusal ≡ None) front (s ∷ []) split, (all_right (λ (x : Seat). x.refusal ≡ None) front (s ∷ []) split).0)
-
-pub same_last : (ss qs front back : List Seat) (s q : Seat) → AllZip SameSeat front back → SameSeat s q → ss ≡ front ++ s ∷ [] → qs ≡ back ++ q ∷ [] → AllZip SameSeat ss qs
-same_last ss qs front back s q b same e f =
-    subst (λ (xs : List Seat). AllZip SameSeat xs qs) (sym e) (subst (AllZip SameSeat (front ++ s ∷ [])) (sym f) (zip_push SameSeat front back s q b same))
-
-pub same_all : (ss : List Seat) → AllZip SameSeat ss ss
-same_all ss = zip_self SameSeat ss same_self
 
 -- ---- coming back
 same_head : {A : Type 0} (x y : A) (xs ys : List A) → x ∷ xs ≡ y ∷ ys → (x ≡ y) × (xs ≡ ys)

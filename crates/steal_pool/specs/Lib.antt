@@ -3,6 +3,5 @@ pub mod Workers
 pub mod Seats
 pub mod Pools
 pub mod Runs
-pub mod TestJudges
 pub mod Stealers
 pub mod Closing

@@ -68,7 +68,7 @@ fn worst_stop<'p, N: Naming, J: Judge, G: Gate>(seats: &[PoolSeat<'p, N, J, G>])
 }
 
 // Whether no seat stopped.
-pub(crate) fn keep_none<'p, N: Naming, J: Judge, G: Gate>(seats: &[PoolSeat<'p, N, J, G>]) -> bool
+fn keep_none<'p, N: Naming, J: Judge, G: Gate>(seats: &[PoolSeat<'p, N, J, G>]) -> bool
     ensures all { IsTrue result → KeepNone seats.now }
     ensures some { IsFalse result → KeepNone seats.now → ⊥ }
 {

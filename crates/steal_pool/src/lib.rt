@@ -33,6 +33,3 @@ pub use seat::{PoolError, PoolSeat, Stop};
 pub use stealer::Stealer;
 pub use view::{DequeView, Naming};
 pub use worker::Pushed;
-
-#[cfg(test)]
-mod tests;

@@ -56,7 +56,7 @@ impl<'p, N: Naming, J: Judge, G: Gate> PoolSeat<'p, N, J, G> {
 }
 
 // All seats work at once, each in a thread of its own.
-pub(crate) fn work_all<R: Threads + Wait + Sync, N: Naming + Send + Sync, J: Judge, G: Gate>(
+fn work_all<R: Threads + Wait + Sync, N: Naming + Send + Sync, J: Judge, G: Gate>(
     rt: &R,
     seats: &mut [PoolSeat<N, J, G>],
 )
@@ -94,7 +94,7 @@ fn begin_and_work<R: Threads + Wait + Sync, N: Naming + Send + Sync, J: Judge, G
 }
 
 // The seats of a pool over a ledger, once all have worked.
-pub(crate) fn worked<'p, R: Threads + Wait + Sync, N: Naming + Send + Sync, J: Judge, G: Gate>(
+fn worked<'p, R: Threads + Wait + Sync, N: Naming + Send + Sync, J: Judge, G: Gate>(
     rt: &R,
     alloc: Global,
     judge: &'p J,
@@ -117,7 +117,7 @@ pub(crate) fn worked<'p, R: Threads + Wait + Sync, N: Naming + Send + Sync, J: J
 }
 
 // The book of a ledger, all of whose seats have come back.
-pub(crate) fn closed(ledger: SpanLedger, seats: Vec<LedgerSeat>) -> Book
+fn closed(ledger: SpanLedger, seats: Vec<LedgerSeat>) -> Book
     requires all { AreAll ledger seats.items }
     ensures root { result.root ≡ (terms ledger).root }
     ensures sound { Sound (terms ledger) result.entries.items }

@@ -65,8 +65,8 @@ impl<'p, N: Naming, J: Judge, G: Gate> PoolSeat<'p, N, J, G> {
         self.worker.take()
     }
 
-    // The node in the hand.
-    pub(crate) fn node(&self) -> Option<Node>
+    /// The node in the hand, if there is one: it is the one whose right part `push` puts away.
+    pub fn node(&self) -> Option<Node>
         ensures hand { result ≡ self.now.worker.hand }
         ensures valid { IfSome result (IsValid N.rules) }
     {

@@ -1,0 +1,10 @@
+use Rattle.std.proofs.Common.{List, sym, subst}
+use Rattle.steal_pool.specs.Pools.{AllBegin}
+use Rattle.steal_pool.specs.Seats.{Seat}
+use Rattle.steal_pool.proofs.Returning.{begin_free}
+use Rattle.pool_tests.proofs.pool_seats.make_and_hand_round.Goals as goal
+
+pub hand_round-requires-clause-free : goal.hand_round-requires-clause-free
+hand_round-requires-clause-free g c =
+    begin_free c.args.ledger.now c.span-root.result c.as_mut_slice.result.now
+    (subst (λ (ss : List Seat). AllBegin c.args.ledger.now c.span-root.result ss) (sym c.as_mut_slice.ensures.value) c.in-Ok.ensures.begin)

@@ -1,0 +1,4 @@
+pub mod Judges
+pub mod Laws
+pub mod Ledgers
+pub mod Named

@@ -1,0 +1,298 @@
+// Seats of a pool in one thread: what they push and take, and the books that they leave.
+ghost use Rattle.std.specs.Prelude.{◌≡◌, ◌<◌, IsTrue, None, pos, neg_ℤ, length};
+ghost use Rattle.steal_pool.specs.Pools.{CanMake};
+ghost use Rattle.steal_pool.specs.Runs.{AreFree};
+ghost use Rattle.steal_pool.specs.Seats.{IsLeft, SameSeat};
+ghost use Rattle.pool_tests.specs.Judges.{long_crossing, span, stairs};
+ghost use Rattle.pool_tests.specs.Named.{AreNamed};
+
+use crate::judges::{Crossing, Stairs, span};
+use gf_edges::{Gate, OpenGate};
+use halving::{Judge, Node, Verdict};
+use span_ledger::{Book, LedgerSeat, SpanLedger};
+use std::alloc::Global;
+use std::marker::Brand;
+use std::process::Abort;
+use std::sync::Wait;
+use std::test::*;
+use steal_pool::{Naming, PoolSeat, Pushed, finish, make};
+
+// The right part of the node in the hand, put away, or nothing where that node is not to be split.
+fn push_right<N: Naming, J: Judge, G: Gate>(
+    judge: &J,
+    seat: &mut PoolSeat<N, J, G>,
+) -> Option<Pushed>
+    requires named { AreNamed N.rules (J.rules judge.now) }
+    ensures same { SameSeat seat.old seat.new }
+    ensures refusal { seat.new.refusal ≡ seat.old.refusal }
+{
+    let node = seat.node()?;
+    let Verdict::Split = judge.judge(node) else {
+        return None;
+    };
+    let (_, right) = judge.cut(node);
+    Some(seat.push(right))
+}
+
+/// Puts the right parts of so many splits away, one after the other. Whether all of them went on the deque.
+pub fn push_rights<N: Naming, J: Judge, G: Gate>(
+    judge: &J,
+    seat: &mut PoolSeat<N, J, G>,
+    count: u32,
+) -> bool
+    requires named { AreNamed N.rules (J.rules judge.now) }
+    ensures same { SameSeat seat.old seat.new }
+    ensures refusal { seat.new.refusal ≡ seat.old.refusal }
+{
+    for _ in 0..count {
+        let Some(Pushed::OnDeque) = push_right(judge, seat) else {
+            return false;
+        };
+    }
+    true
+}
+
+// The next node, taken into an empty hand.
+fn take_next<N: Naming, J: Judge, G: Gate>(seat: &mut PoolSeat<N, J, G>) -> Option<Node>
+    ensures same { SameSeat seat.old seat.new }
+    ensures refusal { seat.new.refusal ≡ seat.old.refusal }
+{
+    match seat.node() {
+        Some(_) => None,
+        None => seat.take(),
+    }
+}
+
+// A seat over a hundred seconds of stairs, which holds the root: it puts 64 nodes on its deque and one on its local
+// stack, and then it works.
+fn push_stairs<N: Naming, R: Abort + Wait>(rt: &R, seat: &mut PoolSeat<N, Stairs, OpenGate>)
+    requires named { AreNamed N.rules stairs }
+    requires free { seat.old.refusal ≡ None }
+    ensures same { SameSeat seat.old seat.new }
+    ensures left { IsLeft N.rules seat.new }
+{
+    assert!(rt; push_rights(&Stairs, seat, 64));
+    assert_eq!(rt; push_right(&Stairs, seat), Some(Pushed::Kept));
+    assert!(rt; seat.work(rt).is_ok());
+}
+
+// The book of the only seat of a pool, once it filled its deque and worked.
+fn book_of_one<N: Naming, R: Abort + Wait>(
+    rt: &R,
+    alloc: Global,
+    ledger: SpanLedger,
+    entries: Vec<LedgerSeat>,
+) -> Option<Book>
+    requires pool { CanMake N.rules stairs ledger entries.items (span (pos 0) (pos 100)) }
+    requires one { length entries.items ≡ 1 }
+{
+    let root = span(0, 100);
+    let Ok(mut seats) = make::<N, Stairs, OpenGate>(
+        alloc, &Stairs, &ledger, entries, root, &OpenGate,
+    ) else {
+        return None;
+    };
+    let Some(mut seat) = seats.pop() else {
+        return None;
+    };
+    push_stairs(rt, &mut seat);
+    let Ok(_) = seats.push(seat) else {
+        return None;
+    };
+    let Ok(entries) = finish(rt, alloc, seats) else {
+        return None;
+    };
+    ledger.close(entries).ok()
+}
+
+#[test]
+fn a_deque_takes_64_nodes_in_a_row(rt: HostRuntime) -> Result<(), Fail> {
+    let Ok((ledger, entries)) = SpanLedger::new(rt.alloc(), span(0, 100), 100, 1) else {
+        assert!(rt; false);
+        return Ok(());
+    };
+    let Some(book) = book_of_one::<Brand, _>(&rt, rt.alloc(), ledger, entries) else {
+        assert!(rt; false);
+        return Ok(());
+    };
+    assert_eq!(rt; book.entries.len(), 100);
+    Ok(())
+}
+
+// The second seat takes what the first puts on its deque, and then both work.
+fn take_from_other<N: Naming, R: Abort + Wait>(
+    rt: &R,
+    first: &mut PoolSeat<N, Crossing, OpenGate>,
+    second: &mut PoolSeat<N, Crossing, OpenGate>,
+)
+    requires named { AreNamed N.rules long_crossing }
+    requires free { (first.old.refusal ≡ None) × (second.old.refusal ≡ None) }
+    ensures first { SameSeat first.old first.new × IsLeft N.rules first.new }
+    ensures second { SameSeat second.old second.new × IsLeft N.rules second.new }
+{
+    let right = Node {
+        a: 1_339_200,
+        b: 1_339_400,
+        depth: 1,
+    };
+    assert_eq!(rt; push_right(&Crossing, first), Some(Pushed::OnDeque));
+    assert_eq!(rt; take_next(second), Some(right));
+    assert!(rt; first.work(rt).is_ok());
+    assert!(rt; second.work(rt).is_ok());
+}
+
+// The book of two seats in one thread, once the second took a node of the first.
+fn book_of_two<N: Naming, R: Abort + Wait>(
+    rt: &R,
+    alloc: Global,
+    ledger: SpanLedger,
+    entries: Vec<LedgerSeat>,
+) -> Option<Book>
+    requires pool { CanMake N.rules long_crossing ledger entries.items
+        (span (pos 1339000) (pos 1339400)) }
+    requires two { length entries.items ≡ 2 }
+{
+    let root = span(1_339_000, 1_339_400);
+    let Ok(mut seats) = make::<N, Crossing, OpenGate>(
+        alloc, &Crossing, &ledger, entries, root, &OpenGate,
+    ) else {
+        return None;
+    };
+    let Some(mut second) = seats.pop() else {
+        return None;
+    };
+    let Some(mut first) = seats.pop() else {
+        return None;
+    };
+    take_from_other(rt, &mut first, &mut second);
+    let Ok(_) = seats.push(first) else {
+        return None;
+    };
+    let Ok(_) = seats.push(second) else {
+        return None;
+    };
+    let Ok(entries) = finish(rt, alloc, seats) else {
+        return None;
+    };
+    ledger.close(entries).ok()
+}
+
+// The number of the seat that entered the leaf from `a` to `b`.
+fn seat_of(book: &Book, a: i64, b: i64) -> Option<u32> {
+    for booked in book.entries.iter() {
+        if booked.leaf.node.a == a && booked.leaf.node.b == b {
+            return Some(booked.seat);
+        }
+    }
+    None
+}
+
+#[test]
+fn a_seat_takes_what_another_put_on_its_deque(rt: HostRuntime) -> Result<(), Fail> {
+    let root = span(1_339_000, 1_339_400);
+    let Ok((ledger, entries)) = SpanLedger::new(rt.alloc(), root, 100, 2) else {
+        assert!(rt; false);
+        return Ok(());
+    };
+    let Some(book) = book_of_two::<Brand, _>(&rt, rt.alloc(), ledger, entries) else {
+        assert!(rt; false);
+        return Ok(());
+    };
+    assert_eq!(rt; book.entries.len(), 4);
+    for (a, b, seat) in [
+        (1_339_000, 1_339_100, 0),
+        (1_339_100, 1_339_150, 0),
+        (1_339_150, 1_339_200, 0),
+        (1_339_200, 1_339_400, 1),
+    ] {
+        assert_eq!(rt; seat_of(&book, a, b), Some(seat));
+    }
+    Ok(())
+}
+
+// A seat puts the right part of its node on its deque, another takes it, and the first works off what it has. No other
+// deque holds a node meanwhile.
+fn hand_over<N: Naming, R: Wait>(
+    rt: &R,
+    seats: &mut [PoolSeat<N, Crossing, OpenGate>],
+    owner: usize,
+    taker: usize,
+) -> bool
+    requires named { AreNamed N.rules long_crossing }
+    requires inside { (owner < length seats.old) × (taker < length seats.old) }
+    requires free { AreFree seats.old }
+    ensures free { IsTrue result → AreFree seats.new }
+{
+    let Some(Pushed::OnDeque) = push_right(&Crossing, &mut seats[owner]) else {
+        return false;
+    };
+    let Some(_) = take_next(&mut seats[taker]) else {
+        return false;
+    };
+    match seats[owner].work(rt) {
+        Ok(()) => true,
+        Err(_) => false,
+    }
+}
+
+// A way over four seats on which each hands over to each other one once.
+const WAY: [(usize, usize); 12] = [
+    (0, 1),
+    (1, 0),
+    (0, 2),
+    (2, 0),
+    (0, 3),
+    (3, 1),
+    (1, 2),
+    (2, 1),
+    (1, 3),
+    (3, 2),
+    (2, 3),
+    (3, 0),
+];
+
+// Whether the seats handed over on the whole way.
+fn hand_round<N: Naming, R: Wait>(rt: &R, seats: &mut [PoolSeat<N, Crossing, OpenGate>]) -> bool
+    requires named { AreNamed N.rules long_crossing }
+    requires free { AreFree seats.old }
+{
+    for (owner, taker) in WAY {
+        if owner >= seats.len() || taker >= seats.len() {
+            return false;
+        }
+        if !hand_over(rt, seats, owner, taker) {
+            return false;
+        }
+    }
+    true
+}
+
+// The same for the seats of a pool that is made for it.
+fn make_and_hand_round<N: Naming, R: Wait>(
+    rt: &R,
+    alloc: Global,
+    ledger: &SpanLedger,
+    entries: Vec<LedgerSeat>,
+) -> bool
+    requires pool { CanMake N.rules long_crossing ledger.now entries.items
+        (span (neg_ℤ (pos 43200)) (pos 1339200)) }
+{
+    let root = span(-43_200, 1_339_200);
+    let Ok(mut seats) = make::<N, Crossing, OpenGate>(
+        alloc, &Crossing, ledger, entries, root, &OpenGate,
+    ) else {
+        return false;
+    };
+    hand_round(rt, seats.as_mut_slice())
+}
+
+#[test]
+fn each_of_four_seats_steals_from_each_other_one(rt: HostRuntime) -> Result<(), Fail> {
+    let root = span(-43_200, 1_339_200);
+    let Ok((ledger, entries)) = SpanLedger::new(rt.alloc(), root, 1000, 4) else {
+        assert!(rt; false);
+        return Ok(());
+    };
+    assert!(rt; make_and_hand_round::<Brand, _>(&rt, rt.alloc(), &ledger, entries));
+    Ok(())
+}

@@ -1,0 +1,129 @@
+// Searches of a table of numbers, which is no polynomial.
+ghost use Rattle.std.specs.Prelude.{◌≡◌, ◌<◌, ◌≤ℤ◌, pos, slice_index};
+ghost use Rattle.pool_tests.specs.Laws.{heights, tide, tides, tides_keep_reach};
+
+use crate::judges::span;
+use gf_edges::OpenGate;
+use gf_hooks::CutRule;
+use gf_uds::{Law, Reach, Scalar, ScalarJudge, Want, find_scalar, scalar_leaves};
+use halving::{Mark, Turn};
+use spec_trees::{Book, Leaf};
+use std::test::*;
+
+// The heights of the water at times 0 to 12.
+const HEIGHTS: [u8; 13] = [10, 8, 6, 3, 1, 3, 5, 7, 6, 4, 4, 7, 9];
+
+fn height(i: usize) -> u8
+    requires { i < 13 }
+    ensures { result ≡ slice_index heights i }
+{
+    HEIGHTS[i]
+}
+
+// The heights above a mark at 5.
+fn tide(t: i64) -> i128
+    requires from { pos 0 ≤ℤ t }
+    requires to { t ≤ℤ pos 12 }
+    ensures { result ≡ tide t }
+{
+    i128::from(height(t.unsigned_abs() as usize)) - 5
+}
+
+// The tides, which change by at most 3 from one time to the next.
+#[derive(Drop)]
+struct Tides;
+
+impl Law for Tides {
+    ghost scalar = { λ _. tides };
+
+    fn reach(&self, a: i64, b: i64) -> Reach {
+        if a < b {
+            Reach {
+                lo: -5,
+                hi: 5,
+                step_lo: -3,
+                step_hi: 3,
+            }
+        } else {
+            Reach {
+                lo: tide(a),
+                hi: tide(a),
+                step_lo: 0,
+                step_hi: 0,
+            }
+        }
+    }
+
+    ghost keeps = { λ _. tides_keep_reach };
+}
+
+// The search of the tides for each passing of the mark, down to one time.
+fn judge() -> ScalarJudge<Tides>
+    ensures first { result.scalar.first ≡ pos 0 }
+    ensures last { result.scalar.last ≡ pos 12 }
+{
+    let scalar = Scalar::new(Tides, 0, 12);
+    ScalarJudge::new(scalar, Want::Any, 1, 40, CutRule::Half)
+}
+
+// The mark of a leaf whose last time is this: the water passes the mark of 5 at four times.
+fn mark_at(t: i64) -> Mark {
+    match t {
+        3 | 9 => Mark::One(Turn::Fall),
+        6 | 11 => Mark::One(Turn::Rise),
+        _ => Mark::Clear,
+    }
+}
+
+// How many of the leaves have a turn, where each has its mark.
+fn turns(leaves: &[Leaf]) -> Option<u32> {
+    let mut turns = 0u32;
+    for leaf in leaves {
+        if leaf.mark != mark_at(leaf.node.b) {
+            return None;
+        }
+        if leaf.mark != Mark::Clear {
+            turns = turns.saturating_add(1);
+        }
+    }
+    Some(turns)
+}
+
+// The same of a book.
+fn turns_of(book: &Book) -> Option<u32> {
+    let mut turns = 0u32;
+    for entry in &book.entries {
+        if entry.leaf.mark != mark_at(entry.leaf.node.b) {
+            return None;
+        }
+        if entry.leaf.mark != Mark::Clear {
+            turns = turns.saturating_add(1);
+        }
+    }
+    Some(turns)
+}
+
+#[test]
+fn workers_find_each_passing_of_a_table(rt: HostRuntime) -> Result<(), Fail> {
+    for workers in [1u32, 2, 8] {
+        let judge = judge();
+        let Ok(book) = find_scalar(&rt, rt.alloc(), &judge, span(0, 12), workers, 13, &OpenGate)
+        else {
+            assert!(rt; false);
+            return Ok(());
+        };
+        assert_eq!(rt; turns_of(&book), Some(4));
+    }
+    Ok(())
+}
+
+#[test]
+fn one_walk_finds_them(rt: HostRuntime) -> Result<(), Fail> {
+    let judge = judge();
+    let Ok(leaves) = scalar_leaves(rt.alloc(), &judge, span(0, 12), 13) else {
+        assert!(rt; false);
+        return Ok(());
+    };
+    assert_eq!(rt; turns(leaves.as_slice()), Some(4));
+    Ok(())
+}

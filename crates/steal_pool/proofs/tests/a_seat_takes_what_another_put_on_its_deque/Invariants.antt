@@ -1,7 +1,0 @@
-use Rattle.std.proofs.Common.{pos}
-use Rattle.steal_pool.specs.Seats.{rules_within}
-use Rattle.steal_pool.specs.TestJudges.{long_crossing, span}
-use Rattle.steal_pool.proofs.tests.a_seat_takes_what_another_put_on_its_deque.Given as goal
-
-abbrev pub ghosts-book_of_two : goal.ghosts-book_of_two
-ghosts-book_of_two g a = record { rules = rules_within long_crossing (span (pos 1339000) (pos 1339400)) }

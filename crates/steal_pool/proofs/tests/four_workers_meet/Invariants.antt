@@ -1,7 +1,0 @@
-use Rattle.std.proofs.Common.{pos}
-use Rattle.steal_pool.specs.Seats.{rules_within}
-use Rattle.steal_pool.specs.TestJudges.{span, stairs}
-use Rattle.steal_pool.proofs.tests.four_workers_meet.Given as goal
-
-abbrev pub ghosts-meet : goal.ghosts-meet
-ghosts-meet g a = record { rules = rules_within stairs (span (pos 0) (pos 100)) }

@@ -4,11 +4,17 @@
    Prints how many nodes were judged in a round, how many leaves and events there are, and a checksum of the leaves and of
    the enclosures over them.
 
-       nodes KIND ROUNDS FILE [TICK] */
+       nodes KIND ROUNDS FILE [TICK]
+       nodes least KIND FILE
+
+   The second way searches once, and prints how many leaves are clear by what is known over the whole of them, and the
+   seconds of the processor that one enclosure of the function over each of these takes, and nothing else: what a search
+   cannot do without, as long as a leaf is clear by its enclosure. */
 #include <stdint.h>
 #include <stdio.h>
 #include <stdlib.h>
 #include <string.h>
+#include <time.h>
 
 #define STEP static inline __attribute__((always_inline))
 
@@ -171,7 +177,7 @@ STEP interval scale(wide_pair ends, int s, const divider *d) {
 
 /* ---------- the file ---------- */
 
-enum { MERCURY, VENUS, EMB, MOON, SUN, BODIES, AXES = 3, COLUMNS = 13, MAX_BLOCKS = 64, MAX_TERMS = 32 };
+enum { MERCURY, VENUS, EMB, MOON, SUN, BODIES, AXES = 3, COLUMNS = 13, MAX_BLOCKS = 4096, MAX_TERMS = 32 };
 
 /* The place of a body's column in the header. */
 static const int COLUMN[BODIES] = { 0, 1, 2, 9, 10 };
@@ -699,6 +705,8 @@ static const struct kind {
         { "b.b a.a -", "r r * b.b * s s * a.a * -" }, 1, { "1737.4", "696000", "0" } },
     { "sepext", MERCURY, VENUS,
         "a'.b a.b' + a.a b.b * * a.b a.a' b.b * a.a b.b' * + * -", { 0, 0 }, 0, { "0", "0", "0" } },
+    { "moonext", MOON, SUN,
+        "a'.b a.b' + a.a b.b * * a.b a.a' b.b * a.a b.b' * + * -", { 0, 0 }, 0, { "0", "0", "0" } },
 };
 
 static formula function, guards[MAX_GUARDS];
@@ -875,12 +883,43 @@ static void search(leaves *found) {
     }
 }
 
-int main(int argc, char **argv) {
-    if (argc != 4 && argc != 5) fail("KIND ROUNDS FILE [TICK]");
-    const struct kind *kind = 0;
+static const struct kind *kind_of(const char *name) {
     for (size_t i = 0; i < sizeof KINDS / sizeof *KINDS; i++)
-        if (!strcmp(KINDS[i].name, argv[1])) kind = &KINDS[i];
-    if (!kind) fail("the kind is coord, radius, apsis, conj, station, sep, any, full, annular or sepext");
+        if (!strcmp(KINDS[i].name, name)) return &KINDS[i];
+    fail("the kind is coord, radius, apsis, conj, station, sep, any, full, annular, sepext or moonext");
+    return 0;
+}
+
+/* The function over each leaf that is clear by what is known over the whole of it, once. */
+static int least(const char *name, const char *from) {
+    leaves found = { 0, 0, 0, 0 };
+    uint64_t checksum = 0, clear = 0;
+    read_file(from, 1);
+    choose_kind(kind_of(name));
+    search(&found);
+    clock_t began = clock();
+    for (size_t i = 0; i < found.count; i++) {
+        node n = found.nodes[i];
+        int64_t border;
+        if (found.verdicts[i] != CLEAR || n.b - n.a == 1 || border_in(n.a, n.b, &border)) continue;
+        enclosure states[COORDINATES], e;
+        span s = span_of(n.a, n.b);
+        states_over(&s, function.asked, states);
+        e = evaluate_over(&function, &s, states);
+        if (sign_of(e.range) == OPEN) continue;
+        checksum = fold(checksum, e.range);
+        clear++;
+    }
+    double taken = (double)(clock() - began) / CLOCKS_PER_SEC;
+    printf("%s leaves %zu clear %llu seconds %.3f checksum %llu\n", name, found.count, (unsigned long long)clear, taken,
+        (unsigned long long)checksum);
+    return 0;
+}
+
+int main(int argc, char **argv) {
+    if (argc != 4 && argc != 5) fail("KIND ROUNDS FILE [TICK], or: least KIND FILE");
+    if (!strcmp(argv[1], "least")) return least(argv[2], argv[3]);
+    const struct kind *kind = kind_of(argv[1]);
     unsigned long rounds = strtoul(argv[2], 0, 10);
     int64_t tick = argc == 5 ? strtol(argv[4], 0, 10) : 1;
     if (tick != 1 && tick != 1000) fail("the tick is 1 or 1000");

@@ -3,8 +3,7 @@ ghost use Rattle.std.specs.Prelude.{◌<◌, IfOk};
 ghost use Rattle.spec_expressions.specs.Term.{term, HasLeaves};
 ghost use Rattle.spec_expressions.specs.Vectors.{IsVector};
 
-use crate::names::decimal;
-use case_rows::{Fields, RowError};
+use case_rows::{Fields, RowError, decimal};
 use event_expr::builders::{
     coordinate, cosine, difference, dot, length, product, signed_square, squared_length, sum,
 };

@@ -1,11 +1,10 @@
-// Names and decimals of rows. A name is looked up in the table of those that words and reports write.
+// Names of rows. A name is looked up in the table of those that words and reports write.
 use case_rows::{Fields, RowError};
 use spec_bodies::Frame;
 use spec_ephemeris::Body;
 use spec_events::Dir;
 use spec_kinds::{KINDS, Kind};
 use spec_requests::{BODIES, CUTS, DIRS, FRAMES};
-use spec_text::Decimal;
 use spec_trees::CutRule;
 
 // What stands in place of a second body where there is none.
@@ -48,11 +47,4 @@ pub(crate) fn direction(fields: &mut Fields<'_>) -> Result<Dir, RowError> {
 
 pub(crate) fn cut_rule(fields: &mut Fields<'_>) -> Result<CutRule, RowError> {
     value_of(&CUTS, fields.word()?)
-}
-
-/// A mantissa and an exponent of ten.
-pub(crate) fn decimal(fields: &mut Fields<'_>) -> Result<Decimal, RowError> {
-    let mant = fields.number::<i64>()?;
-    let exp = fields.number::<i16>()?;
-    Ok(Decimal { mant, exp })
 }

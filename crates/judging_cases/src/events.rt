@@ -121,6 +121,19 @@ fn formulas_agree(
     Ok(is_function && are_guards)
 }
 
+// The first and the last time, the enclosure of the function of an ask's event, and its guards.
+fn meaning_agrees(
+    ephemeris: &Ephemeris,
+    ask: &Ask,
+    event: &Event,
+    fields: &mut Fields<'_>,
+) -> Result<bool, RowError> {
+    let states = states(ephemeris, scene_of(ask))?;
+    let (a, b) = span(ephemeris, &states, fields)?;
+    let are_formulas = formulas_agree(event, &states, a, b, fields)?;
+    Ok(are_formulas && event.dir() == ask.dir)
+}
+
 /// An ask, the first and the last time, the enclosure of the event's function, and its guards.
 pub(crate) fn event_agrees(
     alloc: Global,
@@ -128,9 +141,6 @@ pub(crate) fn event_agrees(
     fields: &mut Fields<'_>,
 ) -> Result<bool, RowError> {
     let ask = ask(fields)?;
-    let states = states(ephemeris, scene_of(&ask))?;
-    let (a, b) = span(ephemeris, &states, fields)?;
     let event = event_of(alloc, ephemeris, &ask)?;
-    let are_formulas = formulas_agree(&event, &states, a, b, fields)?;
-    Ok(are_formulas && event.dir() == ask.dir)
+    meaning_agrees(ephemeris, &ask, &event, fields)
 }

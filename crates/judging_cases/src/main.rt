@@ -37,15 +37,12 @@ impl<'r> RowJudge for Judgements<'r> {
     fn agrees(&self, fields: &mut Fields<'_>) -> Result<bool, RowError> {
         match fields.word()? {
             "limit" => limit_agrees(self.rt.alloc(), fields),
-            kind => {
-                let ephemeris = ephemeris_of(self.rt, fields.word()?)?;
-                agrees_over(self.rt.alloc(), &ephemeris, kind, fields)
-            }
+            kind => agrees_in_file(self.rt, kind, fields),
         }
     }
 }
 
-// Compares a row of this kind, whose file has this ephemeris.
+// Compares the rest of a row of this kind, whose file has this ephemeris.
 fn agrees_over(
     alloc: Global,
     ephemeris: &Ephemeris,
@@ -60,6 +57,12 @@ fn agrees_over(
         "verdict" => verdict_agrees(alloc, ephemeris, fields),
         _ => Err(RowError::Malformed),
     }
+}
+
+// Compares a row of this kind, whose first field is the name of a file.
+fn agrees_in_file(rt: &HostRuntime, kind: &str, fields: &mut Fields<'_>) -> Result<bool, RowError> {
+    let ephemeris = ephemeris_of(rt, fields.word()?)?;
+    agrees_over(rt.alloc(), &ephemeris, kind, fields)
 }
 
 fn main(rt: HostRuntime) -> io::Result<ExitCode> {

@@ -3,18 +3,18 @@ ghost use Rattle.std.specs.Prelude.{◌≡◌, ◌≤◌, ◌≤ℤ◌, ◌<ℤ�
 ghost use Rattle.spec_ephemeris.specs.Ephemeris.{end_of};
 ghost use Rattle.spec_trees.specs.Cuts.{CanCut, cut_of};
 ghost use Rattle.spec_trees.specs.Tree.{IsValid};
+ghost use Rattle.spec_kinds.specs.Asks.{IsAsk};
 
 use crate::asks::{ask, scene_of};
 use crate::events::event_of;
 use crate::names::cut_rule;
 use crate::scenes::states;
-use body_states::BodyStates;
 use case_rows::{Fields, RowError};
 use eph_model::Ephemeris;
 use event_judge::EventJudge;
-use event_kinds::Event;
 use gf_hooks::{Cutter, rule_cut};
 use halving::{Judge, Node, Turn, Verdict};
+use spec_kinds::Ask;
 use spec_trees::CutRule;
 use std::alloc::Global;
 
@@ -107,7 +107,7 @@ struct Splitting {
     rule: CutRule,
 }
 
-fn splitting(fields: &mut Fields<'_>) -> Result<Splitting, RowError>
+fn next_splitting(fields: &mut Fields<'_>) -> Result<Splitting, RowError>
     ensures { IfOk result (λ splitting. pos 1 ≤ℤ splitting.width) }
 {
     let width = fields.number::<i64>()?;
@@ -119,16 +119,38 @@ fn splitting(fields: &mut Fields<'_>) -> Result<Splitting, RowError>
     Ok(Splitting { width, depth, rule })
 }
 
-// What is said of a node in the search for an event.
-fn judgement<'e>(
+// What is said of a node in the search for the event of an ask, with this cutter.
+fn judgement_by(
     alloc: Global,
-    ephemeris: &'e Ephemeris,
-    states: BodyStates<'e>,
-    event: Event,
+    ephemeris: &Ephemeris,
+    ask: &Ask,
+    splitting: Splitting,
+    cutter: Cutter,
+    node: Node,
+) -> Result<Judgement, RowError>
+    requires ask { IsAsk ask.now }
+    requires width { pos 1 ≤ℤ splitting.width }
+    requires from { ephemeris.now.start ≤ℤ node.a }
+    requires inside { node.a <ℤ node.b }
+    requires to { node.b ≤ℤ end_of ephemeris.now }
+    requires depth { node.depth ≤ splitting.depth }
+{
+    let states = states(ephemeris, scene_of(ask))?;
+    let event = event_of(alloc, ephemeris, ask)?;
+    let (width, depth) = (splitting.width, splitting.depth);
+    let judge = EventJudge::new(states, ephemeris, event, width, depth, cutter);
+    Ok(judgement_on(&judge, node))
+}
+
+// What is said of a node in the search for the event of an ask.
+fn judgement_of(
+    alloc: Global,
+    ephemeris: &Ephemeris,
+    ask: &Ask,
     splitting: Splitting,
     node: Node,
 ) -> Result<Judgement, RowError>
-    requires ephemeris { states.ephemeris ≡ ephemeris.now }
+    requires ask { IsAsk ask.now }
     requires width { pos 1 ≤ℤ splitting.width }
     requires from { ephemeris.now.start ≤ℤ node.a }
     requires inside { node.a <ℤ node.b }
@@ -136,17 +158,23 @@ fn judgement<'e>(
     requires depth { node.depth ≤ splitting.depth }
 {
     let rule = splitting.rule;
-    let cut = Box::new(
+    let Ok(cut) = Box::new(
         alloc,
         move |from: i64, to: i64| -> i64
             requires { CanCut from to }
             ensures { result ≡ cut_of rule from to }
         { rule_cut(rule, from, to) },
-    )?;
-    let cutter = Cutter::new(rule, cut);
-    let (width, depth) = (splitting.width, splitting.depth);
-    let judge = EventJudge::new(states, ephemeris, event, width, depth, cutter);
-    Ok(judgement_on(&judge, node))
+    ) else {
+        return Err(RowError::Memory);
+    };
+    judgement_by(
+        alloc,
+        ephemeris,
+        ask,
+        splitting,
+        Cutter::new(rule, cut),
+        node,
+    )
 }
 
 /// An ask, a width, a depth and a rule of cutting, a node, the verdict on it, and the time at which it is cut and the
@@ -157,11 +185,8 @@ pub(crate) fn verdict_agrees(
     fields: &mut Fields<'_>,
 ) -> Result<bool, RowError> {
     let ask = ask(fields)?;
-    let splitting = splitting(fields)?;
+    let splitting = next_splitting(fields)?;
     let node = node(ephemeris, splitting.depth, fields)?;
     let expected = expected_judgement(fields)?;
-    let states = states(ephemeris, scene_of(&ask))?;
-    let event = event_of(alloc, ephemeris, &ask)?;
-    let found = judgement(alloc, ephemeris, states, event, splitting, node)?;
-    Ok(found == expected)
+    Ok(judgement_of(alloc, ephemeris, &ask, splitting, node)? == expected)
 }

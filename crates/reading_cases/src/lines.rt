@@ -1,6 +1,6 @@
 // The lines of a text with their tokens.
 use case_rows::{Fields, RowError};
-use de_text::{Line, LineStep, Tokens};
+use de_text::{Line, LineStep, Tokens, Words};
 use spec_text::MAX_TEXT_BYTES;
 use std::alloc::Global;
 

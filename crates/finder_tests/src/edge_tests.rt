@@ -8,11 +8,11 @@ use std::test::Fail;
 // A file of the folder that the test runs in.
 const NAME: &str = "finder_tests_bytes.tmp";
 
-// The whole numbers from 0, one a line.
+// The bytes of so many whole numbers, 10,000 in all.
 fn numbers(alloc: Global) -> Result<Vec<u8>, AllocError> {
     let mut text = Vec::new(alloc);
     for number in 0..2_500u32 {
-        text.extend_from_slice(format!(in alloc; "{number}\n")?.as_bytes())?;
+        text.extend_from_slice(&number.to_le_bytes())?;
     }
     Ok(text)
 }

@@ -8,7 +8,7 @@ use std::test::Fail;
 // A file of the folder that the test runs in.
 const NAME: &str = "finder_tests_bytes.tmp";
 
-// The bytes of so many whole numbers, 10,000 in all.
+// The bytes of the whole numbers from 0, 10,000 in all.
 fn numbers(alloc: Global) -> Result<Vec<u8>, AllocError> {
     let mut text = Vec::new(alloc);
     for number in 0..2_500u32 {

@@ -4,7 +4,7 @@ use std::alloc::{AllocError, AllocFailed, Global};
 use std::str::FromStr;
 
 /// Why a row cannot be compared.
-#[derive(Clone, Copy, Debug, Drop)]
+#[derive(Clone, Copy)]
 pub enum RowError {
     /// It does not have the form of a row of its kind, or a number in it lies outside of what may be asked.
     Malformed,

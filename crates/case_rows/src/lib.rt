@@ -12,6 +12,6 @@ mod tables;
 mod texts;
 
 pub use fields::{Fields, RowError};
-pub use parts::{Parts, interval_parts};
+pub use parts::{Parts, decimal, interval_parts, pair};
 pub use tables::{RowJudge, compare_tables};
 pub use texts::{ephemeris_of, read_text};

@@ -90,21 +90,28 @@ fn tally_of_file<J: RowJudge>(
     }
 }
 
+// Compares the table of this name, and prints how many rows it has: whether one of them differs, or none where it can't be
+// read as a table.
+fn differs<J: RowJudge>(rt: &HostRuntime, judge: &J, name: &str) -> io::Result<Option<bool>> {
+    let Some(tally) = tally_of_file(rt, judge, name)? else {
+        eprintln!(rt; "{name} can't be read as a table")?;
+        return Ok(None);
+    };
+    let Tally { rows, differing } = tally;
+    println!(rt; "{name}: {rows} rows, {differing} differ")?;
+    Ok(Some(differing != 0))
+}
+
 /// Compares the tables that the words of the command line name, and prints the rows that differ and how many rows there
 /// are. The status is 0 where no row differs, 1 where one does, and 2 where a table cannot be read.
 pub fn compare_tables<J: RowJudge>(rt: &HostRuntime, judge: &J) -> io::Result<ExitCode> {
     let mut status = 0u8;
     for name in env::args(rt)?.skip(1) {
-        let Some(tally) = tally_of_file(rt, judge, &name)? else {
-            eprintln!(rt; "{name} can't be read as a table")?;
-            return Ok(ExitCode::from(NOT_READ));
-        };
-        if tally.differing != 0 {
-            status = DIFFERENT;
+        match differs(rt, judge, &name)? {
+            Some(true) => status = DIFFERENT,
+            Some(false) => {}
+            None => return Ok(ExitCode::from(NOT_READ)),
         }
-        let rows = tally.rows;
-        let differing = tally.differing;
-        println!(rt; "{name}: {rows} rows, {differing} differ")?;
     }
     Ok(ExitCode::from(status))
 }

@@ -11,13 +11,17 @@ const PIECE: usize = 4096;
 
 const NAME: &str = "text";
 
+// A shelf with this text alone.
+fn shelf_of(alloc: Global, text: Vec<u8>) -> Result<MemoryShelf, RowError> {
+    let file = (String::from_str(alloc, NAME)?, text);
+    let files = Vec::from_array(alloc, [file])?;
+    Ok(MemoryShelf::new(files, PIECE, Vec::new(alloc)))
+}
+
 /// The ephemeris of a text, or why it is none.
 pub fn read_text(alloc: Global, text: Vec<u8>) -> Result<Result<Ephemeris, FilesError>, RowError> {
-    let mut names = Vec::new(alloc);
-    names.push(String::from_str(alloc, NAME)?)?;
-    let mut files = Vec::new(alloc);
-    files.push((String::from_str(alloc, NAME)?, text))?;
-    let mut shelf = MemoryShelf::new(files, PIECE, Vec::new(alloc));
+    let mut shelf = shelf_of(alloc, text)?;
+    let names = [String::from_str(alloc, NAME)?];
     match read_files(alloc, &mut shelf, &names) {
         Ok(found) => Ok(Ok(found.ephemeris)),
         Err(FilesError::Memory) => Err(RowError::Memory),

@@ -2,7 +2,7 @@
 ghost use Rattle.std.specs.Prelude.{◌<◌, ◌≤◌, ◌≤ℤ◌, IfOk, neg_ℤ, pos};
 ghost use Rattle.spec_chebyshev.specs.Rows.{IsArguments};
 
-use case_rows::{Fields, RowError};
+use case_rows::{Fields, RowError, pair};
 use cheby_laws::{
     Basis, Ival62, argument, argument_of, basis_q, basis_r, basis_t, basis_u, fill_tq, fill_ur,
 };
@@ -14,12 +14,6 @@ const MAX_ENTRIES: usize = 32;
 
 // The ends of an interval.
 type Ends = (i64, i64);
-
-fn ends(fields: &mut Fields<'_>) -> Result<Ends, RowError> {
-    let lo = fields.number::<i64>()?;
-    let hi = fields.number::<i64>()?;
-    Ok((lo, hi))
-}
 
 // The argument of one time.
 fn single_argument(u: i64, seconds: i64) -> Ends
@@ -33,9 +27,9 @@ fn single_argument(u: i64, seconds: i64) -> Ends
 
 /// The numerators of a span in a granule of so many seconds, and the interval of its arguments.
 pub(crate) fn argument_agrees(fields: &mut Fields<'_>) -> Result<bool, RowError> {
-    let (ua, ub) = ends(fields)?;
+    let (ua, ub) = pair(fields)?;
     let seconds = fields.number::<i64>()?;
-    let expected = ends(fields)?;
+    let expected = pair(fields)?;
     if seconds < 1 || ua < -seconds || ub < ua || seconds < ub {
         return Err(RowError::Malformed);
     }
@@ -47,7 +41,7 @@ pub(crate) fn argument_agrees(fields: &mut Fields<'_>) -> Result<bool, RowError>
 fn arguments(fields: &mut Fields<'_>) -> Result<Ival62, RowError>
     ensures { IfOk result IsArguments }
 {
-    let (lo, hi) = ends(fields)?;
+    let (lo, hi) = pair(fields)?;
     if lo < -ONE || hi < lo || ONE < hi {
         return Err(RowError::Malformed);
     }
@@ -97,16 +91,34 @@ fn entries(basis: &Basis, k: usize) -> [Ends; 4]
     [(t.lo, t.hi), (u.lo, u.hi), (q.lo, q.hi), (r.lo, r.hi)]
 }
 
+// The ends of the entries of the four rows.
+fn expected_entries(fields: &mut Fields<'_>) -> Result<[Ends; 4], RowError> {
+    let t = pair(fields)?;
+    let u = pair(fields)?;
+    let q = pair(fields)?;
+    let r = pair(fields)?;
+    Ok([t, u, q, r])
+}
+
+// Whether the four rows to `n` entries have these at place `k`, made each by itself and two at a time.
+fn are_entries(x: Ival62, n: usize, k: usize, expected: &[Ends; 4]) -> bool
+    requires n_in { n ≤ 32 }
+    requires k_in { k < n }
+    requires x_in { IsArguments x }
+{
+    let are_rows = entries(&rows_of(x, n), k) == *expected;
+    let are_pairs = entries(&pairs_of(x, n), k) == *expected;
+    are_rows && are_pairs
+}
+
 /// An interval of arguments, a count of entries, a place among them, and the entries of the four rows at this place.
 pub(crate) fn basis_agrees(fields: &mut Fields<'_>) -> Result<bool, RowError> {
     let x = arguments(fields)?;
     let n = fields.number::<usize>()?;
     let k = fields.number::<usize>()?;
-    let expected = [ends(fields)?, ends(fields)?, ends(fields)?, ends(fields)?];
+    let expected = expected_entries(fields)?;
     if k >= n || n > MAX_ENTRIES {
         return Err(RowError::Malformed);
     }
-    let are_rows = entries(&rows_of(x, n), k) == expected;
-    let are_pairs = entries(&pairs_of(x, n), k) == expected;
-    Ok(are_rows && are_pairs)
+    Ok(are_entries(x, n, k, &expected))
 }

@@ -97,19 +97,28 @@ fn scaled(fields: &mut Fields<'_>) -> Result<Option<Ival>, RowError> {
     }
 }
 
+// What an operation on two intervals gives.
+fn result_of_two(operation: &str, fields: &mut Fields<'_>) -> Result<Ival, RowError> {
+    let x = interval(fields)?;
+    let y = interval(fields)?;
+    match operation {
+        "add" => Ok(x.add(y)),
+        "sub" => Ok(x.sub(y)),
+        "mul" => Ok(x.mul(y)),
+        "join" => Ok(x.join(y)),
+        _ => Err(RowError::Malformed),
+    }
+}
+
 // What an operation gives.
 fn result_of(operation: &str, fields: &mut Fields<'_>) -> Result<Option<Ival>, RowError> {
     match operation {
-        "add" => Ok(Some(interval(fields)?.add(interval(fields)?))),
-        "sub" => Ok(Some(interval(fields)?.sub(interval(fields)?))),
-        "mul" => Ok(Some(interval(fields)?.mul(interval(fields)?))),
-        "join" => Ok(Some(interval(fields)?.join(interval(fields)?))),
         "meet" => Ok(Some(meet(fields)?)),
         "signed_square" => Ok(Some(interval(fields)?.signed_square())),
         "of" => Ok(Some(interval(fields)?)),
         "scale" => scaled(fields),
         "from_decimal" => Ok(Some(decimal(fields)?)),
-        _ => Err(RowError::Malformed),
+        _ => Ok(Some(result_of_two(operation, fields)?)),
     }
 }
 

@@ -2,7 +2,7 @@
 ghost use Rattle.std.specs.Prelude.{◌<◌, ◌≤ℤ◌, ◌+ℤ◌};
 ghost use Rattle.spec_motions.specs.Granules.{IsEvaluable};
 
-use case_rows::{Fields, Parts, RowError, interval_parts};
+use case_rows::{Fields, Parts, RowError, decimal, interval_parts, pair};
 use cheby_difference::{position_step, velocity, velocity_step};
 use cheby_enclose::{is_evaluable, position};
 use eph_model::{Granule, Rounded, pair_of};
@@ -30,9 +30,7 @@ fn coefficients(
         return Err(RowError::Malformed);
     }
     for _ in 0..COMPONENTS * n {
-        let mant = fields.number::<i64>()?;
-        let exp = fields.number::<i16>()?;
-        coefs.push(Decimal { mant, exp })?;
+        coefs.push(decimal(fields)?)?;
     }
     Ok(coefs)
 }
@@ -80,30 +78,59 @@ fn checked(g: &Granule, axis: usize, a: i64, b: i64) -> Result<[Parts; 4], RowEr
     Ok(all_four(g, axis, a, b))
 }
 
-/// A granule's first time, length and count of coefficients, an axis, a span, the coefficients of all three axes, and the
-/// four intervals: of the position, of its step, of the velocity, and of its step.
-pub(crate) fn ranges_agree(alloc: Global, fields: &mut Fields<'_>) -> Result<bool, RowError> {
-    let start = fields.number::<i64>()?;
-    let seconds = fields.number::<i64>()?;
+// A granule but for its coefficients, of which it has so many on each axis, an axis, and a span.
+#[derive(Clone, Copy)]
+struct Scope {
+    start: i64,
+    seconds: i64,
+    n: usize,
+    axis: usize,
+    a: i64,
+    b: i64,
+}
+
+fn next_scope(fields: &mut Fields<'_>) -> Result<Scope, RowError> {
+    let (start, seconds) = pair(fields)?;
     let n = fields.number::<usize>()?;
     let axis = fields.number::<usize>()?;
-    let a = fields.number::<i64>()?;
-    let b = fields.number::<i64>()?;
-    let coefs = coefficients(alloc, fields, n)?;
-    let rounded = pairs(alloc, &coefs)?;
-    let expected = [
-        interval_parts(fields)?,
-        interval_parts(fields)?,
-        interval_parts(fields)?,
-        interval_parts(fields)?,
-    ];
-    let granule = Granule {
+    let (a, b) = pair(fields)?;
+    Ok(Scope {
         start,
         seconds,
         n,
+        axis,
+        a,
+        b,
+    })
+}
+
+fn expected_ranges(fields: &mut Fields<'_>) -> Result<[Parts; 4], RowError> {
+    let position = interval_parts(fields)?;
+    let position_step = interval_parts(fields)?;
+    let velocity = interval_parts(fields)?;
+    let velocity_step = interval_parts(fields)?;
+    Ok([position, position_step, velocity, velocity_step])
+}
+
+// The intervals over the span of the granule with these coefficients.
+fn ranges_of(alloc: Global, scope: &Scope, coefs: &[Decimal]) -> Result<[Parts; 4], RowError> {
+    let rounded = pairs(alloc, coefs)?;
+    let granule = Granule {
+        start: scope.start,
+        seconds: scope.seconds,
+        n: scope.n,
         comps: COMPONENTS,
-        coefs: &coefs,
+        coefs,
         rounded: &rounded,
     };
-    Ok(checked(&granule, axis, a, b)? == expected)
+    checked(&granule, scope.axis, scope.a, scope.b)
+}
+
+/// A granule's first time, length and count of coefficients, an axis, a span, the coefficients of all three axes, and the
+/// four intervals: of the position, of its step, of the velocity, and of its step.
+pub(crate) fn ranges_agree(alloc: Global, fields: &mut Fields<'_>) -> Result<bool, RowError> {
+    let scope = next_scope(fields)?;
+    let coefs = coefficients(alloc, fields, scope.n)?;
+    let found = ranges_of(alloc, &scope, &coefs)?;
+    Ok(expected_ranges(fields)? == found)
 }

@@ -6,45 +6,57 @@ use std::alloc::Global;
 const PIECE: usize = 65536;
 
 /// A shelf or an output.
-#[derive(Drop)]
-pub(crate) struct Device {
+#[derive(Clone, Copy)]
+pub(crate) struct Device<'a> {
     /// How many bytes an output takes in all.
     pub(crate) room: usize,
     /// How many bytes a call moves at most.
     pub(crate) piece: usize,
-    /// The numbers of the calls that fail, from 1.
-    pub(crate) failing: Vec<u64>,
+    // The numbers of the calls that fail, from 1, as words.
+    failing: &'a str,
 }
 
-impl Device {
+impl<'a> Device<'a> {
     /// A device that never fails.
-    pub(crate) fn sound(alloc: Global) -> Self {
+    pub(crate) fn sound() -> Self {
         Device {
             room: usize::MAX,
             piece: PIECE,
-            failing: Vec::new(alloc),
+            failing: "",
         }
     }
 
     /// A shelf, by the words of its record: its piece and the calls that fail.
-    pub(crate) fn shelf(alloc: Global, words: &str) -> Result<Self, CasesError> {
-        let (piece, calls) = words.split_once(' ').unwrap_or((words, ""));
+    pub(crate) fn shelf(words: &'a str) -> Result<Self, CasesError> {
+        let (piece, failing) = words.split_once(' ').unwrap_or((words, ""));
         Ok(Device {
             room: usize::MAX,
             piece: count(piece)?,
-            failing: numbers(alloc, calls)?,
+            failing,
         })
     }
 
     /// An output, by the words of its record: its room, its piece and the calls that fail.
-    pub(crate) fn sink(alloc: Global, words: &str) -> Result<Self, CasesError> {
+    pub(crate) fn sink(words: &'a str) -> Result<Self, CasesError> {
         let (room, rest) = words.split_once(' ').unwrap_or((words, ""));
-        let (piece, calls) = rest.split_once(' ').unwrap_or((rest, ""));
+        let (piece, failing) = rest.split_once(' ').unwrap_or((rest, ""));
         Ok(Device {
             room: count(room)?,
             piece: count(piece)?,
-            failing: numbers(alloc, calls)?,
+            failing,
         })
+    }
+
+    /// The numbers of the calls that fail, from 1.
+    pub(crate) fn failing(&self, alloc: Global) -> Result<Vec<u64>, CasesError> {
+        let mut numbers = Vec::new(alloc);
+        for word in self.failing.split_ascii_whitespace() {
+            match word.parse::<u64>() {
+                Ok(number) => numbers.push(number)?,
+                Err(_) => return Err(CasesError::Malformed),
+            }
+        }
+        Ok(numbers)
     }
 }
 
@@ -53,15 +65,4 @@ fn count(word: &str) -> Result<usize, CasesError> {
         Ok(count) => Ok(count),
         Err(_) => Err(CasesError::Malformed),
     }
-}
-
-fn numbers(alloc: Global, words: &str) -> Result<Vec<u64>, CasesError> {
-    let mut numbers = Vec::new(alloc);
-    for word in words.split_ascii_whitespace() {
-        match word.parse::<u64>() {
-            Ok(number) => numbers.push(number)?,
-            Err(_) => return Err(CasesError::Malformed),
-        }
-    }
-    Ok(numbers)
 }

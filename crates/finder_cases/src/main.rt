@@ -65,7 +65,7 @@ fn run_by<R: Threads + Wait + Sync>(
     case: &Case<'_>,
     workers: Option<&str>,
     tally: &mut Tally,
-) -> io::Result<()> {
+) -> Result<(), CasesError> {
     let answer = run(rt, host.alloc(), case, workers)?;
     tally.runs = tally.runs.saturating_add(1);
     if !agrees(case, &answer) {
@@ -81,7 +81,7 @@ fn run_by_workers<R: Threads + Wait + Sync>(
     rt: &R,
     case: &Case<'_>,
     tally: &mut Tally,
-) -> io::Result<()> {
+) -> Result<(), CasesError> {
     for workers in WORKERS {
         run_by(host, rt, case, Some(workers), tally)?;
     }
@@ -93,7 +93,7 @@ fn run_all<R: Threads + Wait + Sync>(
     host: &HostRuntime,
     rt: &R,
     cases: &[Case<'_>],
-) -> io::Result<Tally> {
+) -> Result<Tally, CasesError> {
     let mut tally = Tally {
         cases: 0,
         runs: 0,
@@ -109,6 +109,16 @@ fn run_all<R: Threads + Wait + Sync>(
     Ok(tally)
 }
 
+// Runs the cases of a packed text.
+fn run_text<R: Threads + Wait + Sync>(
+    host: &HostRuntime,
+    rt: &R,
+    text: &[u8],
+) -> Result<Tally, CasesError> {
+    let cases = cases(host.alloc(), text)?;
+    run_all(host, rt, &cases)
+}
+
 // Runs the cases of a file, or of none that has no such form.
 fn run_file<R: Threads + Wait + Sync>(
     host: &HostRuntime,
@@ -116,25 +126,40 @@ fn run_file<R: Threads + Wait + Sync>(
     name: &str,
 ) -> io::Result<Option<Tally>> {
     let text = fs::read(host, name)?;
-    match cases(host.alloc(), &text) {
-        Ok(cases) => Ok(Some(run_all(host, rt, &cases)?)),
+    match run_text(host, rt, &text) {
+        Ok(tally) => Ok(Some(tally)),
         Err(CasesError::Malformed) => Ok(None),
         Err(CasesError::Memory) => Err(io::ErrorKind::OutOfMemory.into()),
+        Err(CasesError::Output(error)) => Err(error),
     }
+}
+
+// Runs the cases of a file, and prints how many there are: how many runs differ, or none of a file that has no such form.
+fn differing_in<R: Threads + Wait + Sync>(
+    host: &HostRuntime,
+    rt: &R,
+    name: &str,
+) -> io::Result<Option<u64>> {
+    let Some(tally) = run_file(host, rt, name)? else {
+        eprintln!(host; "finder_cases: {name} isn't in the form of cases")?;
+        return Ok(None);
+    };
+    let Tally {
+        cases,
+        runs,
+        differing,
+    } = tally;
+    println!(host; "{name}: {cases} cases, {runs} runs, {differing} differ")?;
+    Ok(Some(differing))
 }
 
 fn main(rt: HostRuntime) -> io::Result<ExitCode> {
     let mut differing = 0u64;
     for name in env::args(&rt)?.skip(1) {
-        let Some(tally) = run_file(&rt, &rt, &name)? else {
-            eprintln!(&rt; "finder_cases: {name} isn't in the form of cases")?;
+        let Some(count) = differing_in(&rt, &rt, &name)? else {
             return Ok(ExitCode::from(NOT_READ));
         };
-        differing = differing.saturating_add(tally.differing);
-        let count = tally.cases;
-        let runs = tally.runs;
-        let different = tally.differing;
-        println!(&rt; "{name}: {count} cases, {runs} runs, {different} differ")?;
+        differing = differing.saturating_add(count);
     }
     if differing == 0 {
         return Ok(ExitCode::from(0));

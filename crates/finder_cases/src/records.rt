@@ -42,6 +42,11 @@ impl<'a> Records<'a> {
         Records { rest: text }
     }
 
+    /// How many bytes are left.
+    pub(crate) fn len(&self) -> usize {
+        self.rest.len()
+    }
+
     pub(crate) fn is_at_end(&self) -> bool {
         self.rest.is_empty()
     }
@@ -72,29 +77,36 @@ impl<'a> Records<'a> {
         str::from_utf8(self.piece(count)?).ok()
     }
 
-    /// The next record, or none at the end and where the text is not in this form.
-    pub(crate) fn record(&mut self) -> Option<Record<'a>> {
-        let line = self.line()?;
-        let (kind, rest) = line.split_once(' ').unwrap_or((line, ""));
+    // The record whose line begins with this word, where bytes follow it.
+    fn sized_record(&mut self, kind: &str, rest: &'a str) -> Option<Record<'a>> {
         match kind {
             "text" => {
                 let (name, length) = rest.split_once(' ')?;
                 Some(Record::Text(name, self.sized(length)?))
             }
-            "case" => Some(Record::Case(rest)),
             "word" => Some(Record::Word(self.sized_text(rest)?)),
             "file" => {
                 let (text, length) = rest.split_once(' ')?;
                 Some(Record::File(self.sized_text(length)?, text))
             }
+            "out" => Some(Record::Out(self.sized(rest)?)),
+            "err" => Some(Record::Err(self.sized(rest)?)),
+            _ => None,
+        }
+    }
+
+    /// The next record, or none at the end and where the text is not in this form.
+    pub(crate) fn record(&mut self) -> Option<Record<'a>> {
+        let line = self.line()?;
+        let (kind, rest) = line.split_once(' ').unwrap_or((line, ""));
+        match kind {
+            "case" => Some(Record::Case(rest)),
             "shelf" => Some(Record::Shelf(rest)),
             "out-sink" => Some(Record::OutSink(rest)),
             "err-sink" => Some(Record::ErrSink(rest)),
             "status" => Some(Record::Status(rest.parse::<u8>().ok()?)),
-            "out" => Some(Record::Out(self.sized(rest)?)),
-            "err" => Some(Record::Err(self.sized(rest)?)),
             "end" => Some(Record::End),
-            _ => None,
+            _ => self.sized_record(kind, rest),
         }
     }
 }

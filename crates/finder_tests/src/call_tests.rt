@@ -20,43 +20,47 @@ const ZEROS: &str = "0.0 0.0 0.0
 0.0 0.0 0.0
 ";
 
+// Adds a block that begins on this day, in which Mercury's x has these coefficients.
+fn add_block(alloc: Global, text: &mut Vec<u8>, day: i64, row: &str) -> Result<(), AllocError> {
+    let next = day.saturating_add(32);
+    let block = format!(in alloc; "1 26\n{day}.5 {next}.5 0.0\n{row}\n{ZEROS}")?;
+    Ok(text.extend_from_slice(block.as_bytes())?)
+}
+
 // A file of so many blocks, in each of which Mercury's x has these coefficients.
 fn blocks(alloc: Global, count: i64, row: &str) -> Result<Vec<u8>, AllocError> {
     let mut text = HEADER.as_bytes().to_vec(alloc)?;
-    let mut day: i64 = 2_451_544;
-    for _ in 0..count {
-        let next = day.saturating_add(32);
-        let dates = format!(in alloc; "1 26\n{day}.5 {next}.5 0.0\n{row}\n")?;
-        text.extend_from_slice(dates.as_bytes())?;
-        text.extend_from_slice(ZEROS.as_bytes())?;
-        day = next;
+    for number in 0..count {
+        let day = number.saturating_mul(32).saturating_add(2_451_544);
+        add_block(alloc, &mut text, day, row)?;
     }
     Ok(text)
 }
 
-// The answer to words over one file `a`.
+// A shelf with one file `a`.
+fn shelf_of(alloc: Global, file: Vec<u8>) -> Result<MemoryShelf, AllocError> {
+    let mut files = Vec::with_capacity(alloc, 1)?;
+    files.push((String::from_str(alloc, "a")?, file))?;
+    Ok(MemoryShelf::new(files, 4096, Vec::new(alloc)))
+}
+
+// The answer to words over a file `a` of so many blocks.
 fn call_over<R: Threads + Wait + Sync>(
     rt: &R,
     alloc: Global,
     line: &str,
-    file: Vec<u8>,
-    room: usize,
+    count: i64,
+    row: &str,
 ) -> Result<Answer, AllocError> {
-    let mut files = Vec::new(alloc);
-    files.push((String::from_str(alloc, "a")?, file))?;
-    let mut shelf = MemoryShelf::new(files, 4096, Vec::new(alloc));
-    call(rt, alloc, line, &mut shelf, room, &OpenGate)
+    let mut shelf = shelf_of(alloc, blocks(alloc, count, row)?)?;
+    call(rt, alloc, line, &mut shelf, 65_536, &OpenGate)
 }
 
 #[test]
 fn too_many_blocks_are_refused(rt: HostRuntime) -> Result<(), Fail> {
-    let alloc = rt.alloc();
-    let file = blocks(alloc, 16_385, "0.0 0.0 0.0")?;
-    let answer = call_over(&rt, alloc, "check a", file, 4096)?;
+    let answer = call_over(&rt, rt.alloc(), "check a", 16_385, "0.0 0.0 0.0")?;
     assert!(rt; answer.status == FILES_REFUSED);
-    assert!(rt;
-        answer.err.as_slice() == "finder: file a line 163858: 38 TooManyBlocks\n".as_bytes()
-    );
+    assert!(rt; answer.err.bytes() == "finder: file a line 163858: 38 TooManyBlocks\n".as_bytes());
     Ok(())
 }
 
@@ -64,15 +68,14 @@ fn too_many_blocks_are_refused(rt: HostRuntime) -> Result<(), Fail> {
 // there is memory.
 #[test]
 fn a_report_of_many_windows(rt: HostRuntime) -> Result<(), Fail> {
-    let alloc = rt.alloc();
     let line = "find --kind coord --target mercury --axis x --width 1000000 a";
-    let file = blocks(alloc, 600, "0.138240000000000000D+07 0.0 0.0")?;
-    let answer = call_over(&rt, alloc, line, file, 65_536)?;
+    let row = "0.138240000000000000D+07 0.0 0.0";
+    let answer = call_over(&rt, rt.alloc(), line, 600, row)?;
     assert!(rt; answer.status == REPORTED);
     assert!(rt;
         answer
             .out
-            .as_slice()
+            .bytes()
             .ends_with("END certain 1199 undecided 0\n".as_bytes())
     );
     Ok(())
@@ -145,14 +148,23 @@ const OPENED: [(&str, u64, u8, &str); 16] = [
     ("scalar --quad 1,0,-4 --from 0 --to 9", 0, REPORTED, ""),
 ];
 
+// Whether the words of a row have its status, and its files are opened.
+fn opens<R: Threads + Wait + Sync>(
+    rt: &R,
+    alloc: Global,
+    row: &(&str, u64, u8, &str),
+) -> Result<bool, AllocError> {
+    let (line, failing, status, opened) = *row;
+    let mut shelf = NotingShelf::new(alloc, [HEADER, BLOCK, ""], failing)?;
+    let answer = call(rt, alloc, line, &mut shelf, 4096, &OpenGate)?;
+    Ok(answer.status == status && shelf.opened() == opened.as_bytes())
+}
+
 #[test]
 fn the_named_files_alone_are_opened(rt: HostRuntime) -> Result<(), Fail> {
-    let alloc = rt.alloc();
-    for (line, failing, status, opened) in &OPENED {
-        let mut shelf = NotingShelf::new(alloc, [HEADER, BLOCK, ""], *failing)?;
-        let answer = call(&rt, alloc, line, &mut shelf, 4096, &OpenGate)?;
-        assert!(rt; answer.status == *status, "{line}");
-        assert!(rt; shelf.opened() == opened.as_bytes(), "{line}");
+    for row in &OPENED {
+        let line = row.0;
+        assert!(rt; opens(&rt, rt.alloc(), row)?, "{line}");
     }
     Ok(())
 }

@@ -12,12 +12,32 @@ const PIECE: usize = 16;
 // How many bytes the error output has room for.
 const ERR_ROOM: usize = 4096;
 
-/// What a call returned and wrote.
+/// What a call returned, and the outputs that it wrote to.
 #[derive(Drop)]
 pub(crate) struct Answer {
     pub(crate) status: u8,
-    pub(crate) out: Vec<u8>,
-    pub(crate) err: Vec<u8>,
+    pub(crate) out: MemorySink,
+    pub(crate) err: MemorySink,
+}
+
+// An output with room for so many bytes.
+fn output(alloc: Global, room: usize) -> Result<MemorySink, AllocError> {
+    MemorySink::new(alloc, room, PIECE, Vec::new(alloc))
+}
+
+// The answer of the call with these words.
+fn answer_to<R: Threads + Wait + Sync, S: Shelf, G: Gate>(
+    rt: &R,
+    alloc: Global,
+    words: &[String],
+    shelf: &mut S,
+    room: usize,
+    gate: &G,
+) -> Result<Answer, AllocError> {
+    let mut out = output(alloc, room)?;
+    let mut err = output(alloc, ERR_ROOM)?;
+    let status = finder(rt, alloc, words, shelf, &mut out, &mut err, gate);
+    Ok(Answer { status, out, err })
 }
 
 /// The answer of the call with the words of this line, where the output has room for so many bytes.
@@ -30,12 +50,5 @@ pub(crate) fn call<R: Threads + Wait + Sync, S: Shelf, G: Gate>(
     gate: &G,
 ) -> Result<Answer, AllocError> {
     let words = words_of(alloc, line)?;
-    let mut out = MemorySink::new(alloc, room, PIECE, Vec::new(alloc))?;
-    let mut err = MemorySink::new(alloc, ERR_ROOM, PIECE, Vec::new(alloc))?;
-    let status = finder(rt, alloc, &words, shelf, &mut out, &mut err, gate);
-    Ok(Answer {
-        status,
-        out: out.bytes().to_vec(alloc)?,
-        err: err.bytes().to_vec(alloc)?,
-    })
+    answer_to(rt, alloc, &words, shelf, room, gate)
 }

@@ -4,6 +4,7 @@ use gf_edges::{Failed, Shelf};
 use gf_files::{FilesError, read_files};
 use spec_faults::FILE_TOO_LARGE;
 use spec_text::Fault;
+use std::alloc::{AllocError, Global};
 use std::test::Fail;
 
 // One file without an end, with the number of its bytes that were read.
@@ -89,38 +90,49 @@ const ROWS: [Row; 5] = [
     },
 ];
 
+// Whether the files of these names are accepted, as one block that ends with its first line, or this is their error.
+fn is_answered<S: Shelf>(
+    alloc: Global,
+    shelf: &mut S,
+    names: &[String],
+    error: Option<FilesError>,
+) -> bool {
+    if names.is_empty() {
+        return false;
+    }
+    match read_files(alloc, shelf, names) {
+        Ok(found) => error.is_none() && found.ephemeris.blocks() == 1 && found.end_line == 1,
+        Err(found) => error == Some(found),
+    }
+}
+
+// Whether the files are answered as a row says, and those of its names are opened.
+fn agrees(alloc: Global, row: &Row) -> Result<bool, AllocError> {
+    let names = words_of(alloc, "a b c")?;
+    let mut shelf = NotingShelf::new(alloc, row.texts, row.failing)?;
+    let is_answered = is_answered(alloc, &mut shelf, &names, row.error);
+    Ok(is_answered && shelf.opened() == row.opened.as_bytes())
+}
+
 #[test]
 fn no_file_is_opened_after_the_first_that_fails(rt: HostRuntime) -> Result<(), Fail> {
-    let alloc = rt.alloc();
-    let names = words_of(alloc, "a b c")?;
-    assert!(rt; !names.is_empty());
-    for row in ROWS {
-        let mut shelf = NotingShelf::new(alloc, row.texts, row.failing)?;
-        match read_files(alloc, &mut shelf, &names) {
-            Ok(found) => {
-                assert!(rt; row.error.is_none());
-                assert_eq!(rt; found.ephemeris.blocks(), 1);
-                assert_eq!(rt; found.end_line, 1);
-            }
-            Err(error) => assert_eq!(rt; Some(error), row.error),
-        }
-        assert_eq!(rt; shelf.opened(), row.opened.as_bytes());
+    for (number, row) in ROWS.iter().enumerate() {
+        assert!(rt; agrees(rt.alloc(), row)?, "row {number}");
     }
     Ok(())
 }
 
 #[test]
 fn one_byte_past_the_limit_is_read_of_a_file(rt: HostRuntime) -> Result<(), Fail> {
-    let alloc = rt.alloc();
-    let names = [String::from_str(alloc, "a")?];
+    let names = words_of(rt.alloc(), "a")?;
     let mut shelf = EndlessShelf { given: 0 };
-    let error = read_files(alloc, &mut shelf, &names).err();
     let fault = Fault {
         line: 0,
         number: FILE_TOO_LARGE,
         detail: 0,
     };
-    assert_eq!(rt; error, Some(FilesError::Fault { file: 0, fault }));
+    let error = Some(FilesError::Fault { file: 0, fault });
+    assert!(rt; is_answered(rt.alloc(), &mut shelf, &names, error));
     assert_eq!(rt; shelf.given, 268_435_457);
     Ok(())
 }

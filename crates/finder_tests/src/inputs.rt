@@ -50,18 +50,28 @@ pub(crate) struct NotingShelf {
     opened: Vec<u8>,
 }
 
+// A name, and the bytes of a text.
+fn file(alloc: Global, name: &str, text: &str) -> Result<(String, Vec<u8>), AllocError> {
+    let bytes = text.as_bytes().to_vec(alloc)?;
+    Ok((String::from_str(alloc, name)?, bytes))
+}
+
+// The files `a`, `b` and `c`, of these texts.
+fn three_files(alloc: Global, texts: [&str; 3]) -> Result<Vec<(String, Vec<u8>)>, AllocError> {
+    let mut files = Vec::new(alloc);
+    for (name, text) in [("a", texts[0]), ("b", texts[1]), ("c", texts[2])] {
+        files.push(file(alloc, name, text)?)?;
+    }
+    Ok(files)
+}
+
 impl NotingShelf {
     /// The files `a`, `b` and `c`, of these texts. The call whose number is given fails; where it is 0, none does.
     pub(crate) fn new(alloc: Global, texts: [&str; 3], failing: u64) -> Result<Self, AllocError> {
-        let mut files = Vec::new(alloc);
-        for (name, text) in [("a", texts[0]), ("b", texts[1]), ("c", texts[2])] {
-            files.push((
-                String::from_str(alloc, name)?,
-                text.as_bytes().to_vec(alloc)?,
-            ))?;
-        }
+        let failing = [failing].to_vec(alloc)?;
+        let files = three_files(alloc, texts)?;
         Ok(NotingShelf {
-            files: MemoryShelf::new(files, 4096, [failing].to_vec(alloc)?),
+            files: MemoryShelf::new(files, 4096, failing),
             opened: Vec::new(alloc),
         })
     }

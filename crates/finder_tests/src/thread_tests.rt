@@ -2,8 +2,11 @@
 use crate::calls::call;
 use gf_edges::{Gate, MemoryShelf};
 use gf_find::REPORTED;
+use std::alloc::{AllocError, Global};
+use std::sync::Wait;
 use std::sync::atomic::{AtomicU64, Ordering};
 use std::test::Fail;
+use std::thread::Threads;
 
 // How often a worker that is held looks whether another has come.
 const TURNS: u64 = 200_000_000;
@@ -40,20 +43,23 @@ impl Gate for Meeting {
     }
 }
 
+// Whether another worker has come to the gate of the search of this line, and no worker has waited in vain.
+fn is_met<R: Threads + Wait + Sync>(rt: &R, alloc: Global, line: &str) -> Result<bool, AllocError> {
+    let gate = Meeting {
+        first: AtomicU64::new(0),
+        others: AtomicU64::new(0),
+        given_up: AtomicU64::new(0),
+    };
+    let mut shelf = MemoryShelf::new(Vec::new(alloc), 4096, Vec::new(alloc));
+    let answer = call(rt, alloc, line, &mut shelf, 4096, &gate)?;
+    let have_come = gate.others.load(Ordering::SeqCst) > 0;
+    let have_met = gate.given_up.load(Ordering::SeqCst) == 0;
+    Ok(answer.status == REPORTED && have_come && have_met)
+}
+
 #[test]
 fn workers_of_a_search_meet(rt: HostRuntime) -> Result<(), Fail> {
-    let alloc = rt.alloc();
-    for line in ["gen 405 1 1 --workers 2", "gen 405 1 1 --workers 3"] {
-        let gate = Meeting {
-            first: AtomicU64::new(0),
-            others: AtomicU64::new(0),
-            given_up: AtomicU64::new(0),
-        };
-        let mut shelf = MemoryShelf::new(Vec::new(alloc), 4096, Vec::new(alloc));
-        let answer = call(&rt, alloc, line, &mut shelf, 4096, &gate)?;
-        assert!(rt; answer.status == REPORTED, "{line}");
-        assert!(rt; gate.others.load(Ordering::SeqCst) > 0, "{line}");
-        assert!(rt; gate.given_up.load(Ordering::SeqCst) == 0, "{line}");
-    }
+    assert!(rt; is_met(&rt, rt.alloc(), "gen 405 1 1 --workers 2")?);
+    assert!(rt; is_met(&rt, rt.alloc(), "gen 405 1 1 --workers 3")?);
     Ok(())
 }

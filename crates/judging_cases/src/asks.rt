@@ -2,9 +2,9 @@
 ghost use Rattle.std.specs.Prelude.{IfOk};
 ghost use Rattle.spec_kinds.specs.Asks.{IsAsk};
 
-use crate::names::{body, decimal, direction, frame, kind, second_body};
+use crate::names::{body, direction, frame, kind, second_body};
 use crate::scenes::Scene;
-use case_rows::{Fields, RowError};
+use case_rows::{Fields, RowError, decimal};
 use event_kinds::is_ask;
 use spec_kinds::Ask;
 

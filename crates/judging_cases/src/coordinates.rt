@@ -6,7 +6,8 @@ use crate::enclosures::{EnclosureParts, enclosure_parts, parts_of};
 use crate::formulas::has_enclosure;
 use crate::scenes::{next_scene, span, states};
 use body_states::{BodyStates, Quantity, States};
-use case_rows::{Fields, RowError, ephemeris_of};
+use case_rows::{Fields, RowError};
+use eph_model::Ephemeris;
 use event_expr::Formula;
 use event_expr::builders::{position, velocity};
 
@@ -105,16 +106,15 @@ fn enclosure_agrees(
     Ok(has_enclosure(&formula, states, a, b, &expected) && is_given)
 }
 
-/// A file, two targets, an observer, a frame, a coordinate, the first and the last time, the enclosure of the coordinate,
-/// and the columns in use.
+/// Two targets, an observer, a frame, a coordinate, the first and the last time, the enclosure of the coordinate, and the
+/// columns in use.
 pub(crate) fn coordinate_agrees(
-    rt: &HostRuntime,
+    ephemeris: &Ephemeris,
     fields: &mut Fields<'_>,
 ) -> Result<bool, RowError> {
-    let ephemeris = ephemeris_of(rt, fields.word()?)?;
-    let states = states(&ephemeris, next_scene(fields)?)?;
+    let states = states(ephemeris, next_scene(fields)?)?;
     let coordinate = next_coordinate(fields)?;
-    let (a, b) = span(&ephemeris, &states, fields)?;
+    let (a, b) = span(ephemeris, &states, fields)?;
     let is_coordinate = enclosure_agrees(&states, coordinate, a, b, fields)?;
     let are_columns = columns_agree(&states, fields)?;
     Ok(is_coordinate && are_columns)

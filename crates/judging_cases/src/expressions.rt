@@ -3,13 +3,12 @@ ghost use Rattle.std.specs.Prelude.{◌<◌, IfOk};
 ghost use Rattle.spec_expressions.specs.Term.{term, HasLeaves};
 ghost use Rattle.spec_expressions.specs.Vectors.{IsVector};
 
-use crate::names::decimal;
-use case_rows::{Fields, RowError};
+use case_rows::{Fields, RowError, decimal};
 use event_expr::builders::{
     coordinate, cosine, difference, dot, length, product, signed_square, squared_length, sum,
 };
 use event_expr::{Expr, Vector};
-use std::alloc::Global;
+use std::alloc::{AllocError, Global};
 
 // The deepest that an expression is read.
 const DEEPEST: u32 = 200;
@@ -17,6 +16,14 @@ const DEEPEST: u32 = 200;
 const TARGETS: u8 = 2;
 
 const AXES: u8 = 3;
+
+// What makes one expression of two.
+#[derive(Clone, Copy)]
+enum Operation {
+    Sum,
+    Difference,
+    Product,
+}
 
 // The position or the velocity of a target.
 fn vector(quantity: &str, fields: &mut Fields<'_>) -> Result<Vector, RowError>
@@ -45,11 +52,18 @@ fn axis(fields: &mut Fields<'_>) -> Result<u8, RowError>
     }
 }
 
+// The vector of the next words.
+fn next_vector(fields: &mut Fields<'_>) -> Result<Vector, RowError>
+    ensures { IfOk result IsVector }
+{
+    vector(fields.word()?, fields)
+}
+
 fn dot_product(alloc: Global, fields: &mut Fields<'_>) -> Result<Expr, RowError>
     ensures { IfOk result (λ expr. HasLeaves (term expr)) }
 {
-    let first = vector(fields.word()?, fields)?;
-    let second = vector(fields.word()?, fields)?;
+    let first = next_vector(fields)?;
+    let second = next_vector(fields)?;
     Ok(dot(alloc, first, second)?)
 }
 
@@ -69,16 +83,26 @@ fn simple(alloc: Global, word: &str, fields: &mut Fields<'_>) -> Result<Expr, Ro
     }
 }
 
-// Two expressions, made into one by the operation of this name.
-fn combined(alloc: Global, operation: &str, x: Expr, y: Expr) -> Result<Expr, RowError>
+// The operation of this name on two expressions.
+fn operation_of(word: &str) -> Option<Operation> {
+    match word {
+        "sum" => Some(Operation::Sum),
+        "difference" => Some(Operation::Difference),
+        "product" => Some(Operation::Product),
+        _ => None,
+    }
+}
+
+// Two expressions, made into one.
+fn combined(alloc: Global, operation: Operation, x: Expr, y: Expr) -> Result<Expr, AllocError>
     requires x { HasLeaves (term x) }
     requires y { HasLeaves (term y) }
     ensures { IfOk result (λ expr. HasLeaves (term expr)) }
 {
     match operation {
-        "sum" => Ok(sum(alloc, x, y)?),
-        "difference" => Ok(difference(alloc, x, y)?),
-        _ => Ok(product(alloc, x, y)?),
+        Operation::Sum => sum(alloc, x, y),
+        Operation::Difference => difference(alloc, x, y),
+        Operation::Product => product(alloc, x, y),
     }
 }
 
@@ -89,20 +113,18 @@ fn expression_within(alloc: Global, fields: &mut Fields<'_>, room: u32) -> Resul
     if room == 0 {
         return Err(RowError::Malformed);
     }
-    match fields.word()? {
-        "signed_square" => {
+    let word = fields.word()?;
+    if word == "signed_square" {
+        let x = expression_within(alloc, fields, room - 1)?;
+        return Ok(signed_square(alloc, x)?);
+    }
+    match operation_of(word) {
+        Some(operation) => {
             let x = expression_within(alloc, fields, room - 1)?;
-            Ok(signed_square(alloc, x)?)
+            let y = expression_within(alloc, fields, room - 1)?;
+            Ok(combined(alloc, operation, x, y)?)
         }
-        word => {
-            if word == "sum" || word == "difference" || word == "product" {
-                let x = expression_within(alloc, fields, room - 1)?;
-                let y = expression_within(alloc, fields, room - 1)?;
-                combined(alloc, word, x, y)
-            } else {
-                simple(alloc, word, fields)
-            }
-        }
+        None => simple(alloc, word, fields),
     }
 }
 

@@ -5,7 +5,8 @@ use crate::enclosures::{EnclosureParts, enclosure_parts, parts_of};
 use crate::expressions::expression;
 use crate::scenes::{next_scene, span, states};
 use body_states::BodyStates;
-use case_rows::{Fields, RowError, ephemeris_of};
+use case_rows::{Fields, RowError};
+use eph_model::Ephemeris;
 use event_expr::{ExprFault, Formula, Leaves, enclose};
 use std::alloc::Global;
 
@@ -34,12 +35,15 @@ fn formula(alloc: Global, fields: &mut Fields<'_>) -> Result<Formula, RowError> 
     }
 }
 
-/// A file, two targets, an observer, a frame, the first and the last time, a formula and its enclosure.
-pub(crate) fn formula_agrees(rt: &HostRuntime, fields: &mut Fields<'_>) -> Result<bool, RowError> {
-    let ephemeris = ephemeris_of(rt, fields.word()?)?;
-    let states = states(&ephemeris, next_scene(fields)?)?;
-    let (a, b) = span(&ephemeris, &states, fields)?;
-    let formula = formula(rt.alloc(), fields)?;
+/// Two targets, an observer, a frame, the first and the last time, a formula and its enclosure.
+pub(crate) fn formula_agrees(
+    alloc: Global,
+    ephemeris: &Ephemeris,
+    fields: &mut Fields<'_>,
+) -> Result<bool, RowError> {
+    let states = states(ephemeris, next_scene(fields)?)?;
+    let (a, b) = span(ephemeris, &states, fields)?;
+    let formula = formula(alloc, fields)?;
     let expected = enclosure_parts(fields)?;
     Ok(has_enclosure(&formula, &states, a, b, &expected))
 }

@@ -17,10 +17,12 @@ mod names;
 mod scenes;
 mod verdicts;
 
-use case_rows::{Fields, RowError, RowJudge, compare_tables};
+use case_rows::{Fields, RowError, RowJudge, compare_tables, ephemeris_of};
 use coordinates::coordinate_agrees;
+use eph_model::Ephemeris;
 use events::{event_agrees, refusal_agrees};
 use formulas::{formula_agrees, limit_agrees};
+use std::alloc::Global;
 use std::io;
 use std::process::ExitCode;
 use verdicts::verdict_agrees;
@@ -34,15 +36,33 @@ struct Judgements<'r> {
 impl<'r> RowJudge for Judgements<'r> {
     fn agrees(&self, fields: &mut Fields<'_>) -> Result<bool, RowError> {
         match fields.word()? {
-            "coordinate" => coordinate_agrees(self.rt, fields),
-            "event" => event_agrees(self.rt, fields),
-            "formula" => formula_agrees(self.rt, fields),
             "limit" => limit_agrees(self.rt.alloc(), fields),
-            "refusal" => refusal_agrees(self.rt, fields),
-            "verdict" => verdict_agrees(self.rt, fields),
-            _ => Err(RowError::Malformed),
+            kind => agrees_in_file(self.rt, kind, fields),
         }
     }
+}
+
+// Compares the rest of a row of this kind, whose file has this ephemeris.
+fn agrees_over(
+    alloc: Global,
+    ephemeris: &Ephemeris,
+    kind: &str,
+    fields: &mut Fields<'_>,
+) -> Result<bool, RowError> {
+    match kind {
+        "coordinate" => coordinate_agrees(ephemeris, fields),
+        "event" => event_agrees(alloc, ephemeris, fields),
+        "formula" => formula_agrees(alloc, ephemeris, fields),
+        "refusal" => refusal_agrees(alloc, ephemeris, fields),
+        "verdict" => verdict_agrees(alloc, ephemeris, fields),
+        _ => Err(RowError::Malformed),
+    }
+}
+
+// Compares a row of this kind, whose first field is the name of a file.
+fn agrees_in_file(rt: &HostRuntime, kind: &str, fields: &mut Fields<'_>) -> Result<bool, RowError> {
+    let ephemeris = ephemeris_of(rt, fields.word()?)?;
+    agrees_over(rt.alloc(), &ephemeris, kind, fields)
 }
 
 fn main(rt: HostRuntime) -> io::Result<ExitCode> {

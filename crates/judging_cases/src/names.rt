@@ -1,12 +1,32 @@
-// Names and decimals of rows. A name is looked up in the table of those that words and reports write.
+// Names of rows.
 use case_rows::{Fields, RowError};
 use spec_bodies::Frame;
 use spec_ephemeris::Body;
 use spec_events::Dir;
 use spec_kinds::{KINDS, Kind};
-use spec_requests::{BODIES, CUTS, DIRS, FRAMES};
-use spec_text::Decimal;
 use spec_trees::CutRule;
+
+const BODIES: [(&str, Body); 13] = [
+    ("mercury", Body::Mercury),
+    ("venus", Body::Venus),
+    ("emb", Body::Emb),
+    ("mars", Body::Mars),
+    ("jupiter", Body::Jupiter),
+    ("saturn", Body::Saturn),
+    ("uranus", Body::Uranus),
+    ("neptune", Body::Neptune),
+    ("pluto", Body::Pluto),
+    ("moon", Body::Moon),
+    ("sun", Body::Sun),
+    ("earth", Body::Earth),
+    ("ssb", Body::Ssb),
+];
+
+const FRAMES: [(&str, Frame); 2] = [("eq", Frame::Eq), ("ecl", Frame::Ecl)];
+
+const DIRS: [(&str, Dir); 3] = [("any", Dir::Any), ("rise", Dir::Rise), ("fall", Dir::Fall)];
+
+const CUTS: [(&str, CutRule); 2] = [("half", CutRule::Half), ("third", CutRule::Third)];
 
 // What stands in place of a second body where there is none.
 const NO_BODY: &str = "-";
@@ -48,11 +68,4 @@ pub(crate) fn direction(fields: &mut Fields<'_>) -> Result<Dir, RowError> {
 
 pub(crate) fn cut_rule(fields: &mut Fields<'_>) -> Result<CutRule, RowError> {
     value_of(&CUTS, fields.word()?)
-}
-
-/// A mantissa and an exponent of ten.
-pub(crate) fn decimal(fields: &mut Fields<'_>) -> Result<Decimal, RowError> {
-    let mant = fields.number::<i64>()?;
-    let exp = fields.number::<i16>()?;
-    Ok(Decimal { mant, exp })
 }

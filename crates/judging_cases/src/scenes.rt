@@ -8,7 +8,7 @@ ghost use Rattle.spec_bodies.specs.Views.{Fits};
 
 use crate::names::{body, frame};
 use body_states::BodyStates;
-use case_rows::{Fields, RowError};
+use case_rows::{Fields, RowError, pair};
 use eph_model::{Body, Ephemeris};
 use spec_bodies::{EMB_COLUMN, Frame, MOON_COLUMN, Source};
 
@@ -86,8 +86,7 @@ pub(crate) fn span(
     requires { states.now.ephemeris ≡ ephemeris.now }
     ensures { IfOk result (λ span. Fits states.now span.0 span.1) }
 {
-    let a = fields.number::<i64>()?;
-    let b = fields.number::<i64>()?;
+    let (a, b) = pair(fields)?;
     if a < ephemeris.start() || b < a || ephemeris.end() < b {
         return Err(RowError::Malformed);
     }

@@ -3,16 +3,20 @@ ghost use Rattle.std.specs.Prelude.{◌≡◌, ◌≤◌, ◌≤ℤ◌, ◌<ℤ�
 ghost use Rattle.spec_ephemeris.specs.Ephemeris.{end_of};
 ghost use Rattle.spec_trees.specs.Cuts.{CanCut, cut_of};
 ghost use Rattle.spec_trees.specs.Tree.{IsValid};
+ghost use Rattle.spec_kinds.specs.Asks.{IsAsk};
 
 use crate::asks::{ask, scene_of};
 use crate::events::event_of;
 use crate::names::cut_rule;
 use crate::scenes::states;
-use case_rows::{Fields, RowError, ephemeris_of};
+use case_rows::{Fields, RowError};
 use eph_model::Ephemeris;
 use event_judge::EventJudge;
 use gf_hooks::{Cutter, rule_cut};
 use halving::{Judge, Node, Turn, Verdict};
+use spec_kinds::Ask;
+use spec_trees::CutRule;
+use std::alloc::Global;
 
 // Where the parts of a node meet, and how deep each is.
 #[derive(Clone, Copy, PartialEq, Eq)]
@@ -95,38 +99,94 @@ fn meeting_of((left, right): (Node, Node)) -> Meeting {
     }
 }
 
-// The width down to which nodes are split.
-fn width(fields: &mut Fields<'_>) -> Result<i64, RowError>
-    ensures { IfOk result (λ width. pos 1 ≤ℤ width) }
-{
-    let width = fields.number::<i64>()?;
-    if width < 1 {
-        Err(RowError::Malformed)
-    } else {
-        Ok(width)
-    }
+// Down to which width and depth nodes are split, and by which rule.
+#[derive(Clone, Copy)]
+struct Splitting {
+    width: i64,
+    depth: u32,
+    rule: CutRule,
 }
 
-/// A file, an ask, a width, a depth and a rule of cutting, a node, the verdict on it, and the time at which it is cut and
-/// the depth of its parts where it is split.
-pub(crate) fn verdict_agrees(rt: &HostRuntime, fields: &mut Fields<'_>) -> Result<bool, RowError> {
-    let ephemeris = ephemeris_of(rt, fields.word()?)?;
-    let ask = ask(fields)?;
-    let width = width(fields)?;
+fn next_splitting(fields: &mut Fields<'_>) -> Result<Splitting, RowError>
+    ensures { IfOk result (λ splitting. pos 1 ≤ℤ splitting.width) }
+{
+    let width = fields.number::<i64>()?;
     let depth = fields.number::<u32>()?;
     let rule = cut_rule(fields)?;
-    let node = node(&ephemeris, depth, fields)?;
-    let expected = expected_judgement(fields)?;
-    let states = states(&ephemeris, scene_of(&ask))?;
-    let event = event_of(rt.alloc(), &ephemeris, &ask)?;
-    let cut = Box::new(
-        rt.alloc(),
+    if width < 1 {
+        return Err(RowError::Malformed);
+    }
+    Ok(Splitting { width, depth, rule })
+}
+
+// What is said of a node in the search for the event of an ask, with this cutter.
+fn judgement_by(
+    alloc: Global,
+    ephemeris: &Ephemeris,
+    ask: &Ask,
+    splitting: Splitting,
+    cutter: Cutter,
+    node: Node,
+) -> Result<Judgement, RowError>
+    requires ask { IsAsk ask.now }
+    requires width { pos 1 ≤ℤ splitting.width }
+    requires from { ephemeris.now.start ≤ℤ node.a }
+    requires inside { node.a <ℤ node.b }
+    requires to { node.b ≤ℤ end_of ephemeris.now }
+    requires depth { node.depth ≤ splitting.depth }
+{
+    let states = states(ephemeris, scene_of(ask))?;
+    let event = event_of(alloc, ephemeris, ask)?;
+    let (width, depth) = (splitting.width, splitting.depth);
+    let judge = EventJudge::new(states, ephemeris, event, width, depth, cutter);
+    Ok(judgement_on(&judge, node))
+}
+
+// What is said of a node in the search for the event of an ask.
+fn judgement_of(
+    alloc: Global,
+    ephemeris: &Ephemeris,
+    ask: &Ask,
+    splitting: Splitting,
+    node: Node,
+) -> Result<Judgement, RowError>
+    requires ask { IsAsk ask.now }
+    requires width { pos 1 ≤ℤ splitting.width }
+    requires from { ephemeris.now.start ≤ℤ node.a }
+    requires inside { node.a <ℤ node.b }
+    requires to { node.b ≤ℤ end_of ephemeris.now }
+    requires depth { node.depth ≤ splitting.depth }
+{
+    let rule = splitting.rule;
+    let Ok(cut) = Box::new(
+        alloc,
         move |from: i64, to: i64| -> i64
             requires { CanCut from to }
             ensures { result ≡ cut_of rule from to }
         { rule_cut(rule, from, to) },
-    )?;
-    let cutter = Cutter::new(rule, cut);
-    let judge = EventJudge::new(states, &ephemeris, event, width, depth, cutter);
-    Ok(judgement_on(&judge, node) == expected)
+    ) else {
+        return Err(RowError::Memory);
+    };
+    judgement_by(
+        alloc,
+        ephemeris,
+        ask,
+        splitting,
+        Cutter::new(rule, cut),
+        node,
+    )
+}
+
+/// An ask, a width, a depth and a rule of cutting, a node, the verdict on it, and the time at which it is cut and the
+/// depth of its parts where it is split.
+pub(crate) fn verdict_agrees(
+    alloc: Global,
+    ephemeris: &Ephemeris,
+    fields: &mut Fields<'_>,
+) -> Result<bool, RowError> {
+    let ask = ask(fields)?;
+    let splitting = next_splitting(fields)?;
+    let node = node(ephemeris, splitting.depth, fields)?;
+    let expected = expected_judgement(fields)?;
+    Ok(judgement_of(alloc, ephemeris, &ask, splitting, node)? == expected)
 }

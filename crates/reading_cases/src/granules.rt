@@ -2,7 +2,7 @@
 ghost use Rattle.std.specs.Prelude.{◌<◌, IsTrue};
 ghost use Rattle.spec_ephemeris.specs.Header.{has_column};
 
-use case_rows::{Fields, RowError, ephemeris_of};
+use case_rows::{Fields, RowError, decimal, ephemeris_of, pair};
 use eph_model::Ephemeris;
 use spec_text::Decimal;
 
@@ -23,10 +23,7 @@ fn expected_shape(fields: &mut Fields<'_>) -> Result<Shape, RowError> {
         seconds: fields.number::<i64>()?,
         coefficients: fields.number::<usize>()?,
         components: fields.number::<usize>()?,
-        first: Decimal {
-            mant: fields.number::<i64>()?,
-            exp: fields.number::<i16>()?,
-        },
+        first: decimal(fields)?,
     })
 }
 
@@ -71,18 +68,26 @@ fn border_in(ephemeris: &Ephemeris, column: usize, a: i64, b: i64) -> Result<Opt
     Ok(ephemeris.border_near(&[column], a, b))
 }
 
-/// A file, a column and a time, the granule that is read there, and the border that is nearest to the middle of a span.
-pub(crate) fn granule_agrees(rt: &HostRuntime, fields: &mut Fields<'_>) -> Result<bool, RowError> {
-    let ephemeris = ephemeris_of(rt, fields.word()?)?;
+// A column and a time of an ephemeris, the granule that is read there, and the border that is nearest to the middle of a
+// span.
+fn granule_of_column_agrees(
+    ephemeris: &Ephemeris,
+    fields: &mut Fields<'_>,
+) -> Result<bool, RowError> {
     let column = fields.number::<usize>()?;
     if ephemeris.blocks() == 0 || !ephemeris.has(column) {
         return Err(RowError::Malformed);
     }
-    let shape = shape_at(&ephemeris, column, fields.number::<i64>()?)?;
+    let shape = shape_at(ephemeris, column, fields.number::<i64>()?)?;
     let expected = expected_shape(fields)?;
-    let a = fields.number::<i64>()?;
-    let b = fields.number::<i64>()?;
-    let border = border_in(&ephemeris, column, a, b)?;
+    let (a, b) = pair(fields)?;
+    let border = border_in(ephemeris, column, a, b)?;
     let is_border = expected_border(fields)? == border;
     Ok(is_border && shape == expected)
+}
+
+/// A file, a column and a time, the granule that is read there, and the border that is nearest to the middle of a span.
+pub(crate) fn granule_agrees(rt: &HostRuntime, fields: &mut Fields<'_>) -> Result<bool, RowError> {
+    let ephemeris = ephemeris_of(rt, fields.word()?)?;
+    granule_of_column_agrees(&ephemeris, fields)
 }

@@ -1,8 +1,13 @@
 // The lines of a text with their tokens.
 use case_rows::{Fields, RowError};
-use de_text::{Line, LineStep, Tokens};
+use de_text::{Line, LineStep, Tokens, Words};
 use spec_text::MAX_TEXT_BYTES;
 use std::alloc::Global;
+
+// Whether these bytes are the token of a line at this place, and the next of its words.
+fn is_token(line: &Line<'_>, words: &mut Words<'_>, place: usize, token: &[u8]) -> bool {
+    words.next() == Some(token) && line.token(place) == Some(token)
+}
 
 // Whether a line has the number and the tokens of the next fields.
 fn line_agrees(alloc: Global, fields: &mut Fields<'_>, line: &Line<'_>) -> Result<bool, RowError> {
@@ -10,11 +15,9 @@ fn line_agrees(alloc: Global, fields: &mut Fields<'_>, line: &Line<'_>) -> Resul
     let count = fields.number::<usize>()?;
     let mut words = line.words();
     let mut agrees = line.number() == number && line.count() == count;
-    for i in 0..count {
+    for place in 0..count {
         let token = fields.bytes(alloc)?;
-        let is_next = words.next() == Some(token.as_slice());
-        let is_there = line.token(i) == Some(token.as_slice());
-        agrees = agrees && is_next && is_there;
+        agrees = is_token(line, &mut words, place, &token) && agrees;
     }
     let is_last = words.next().is_none() && line.token(count).is_none();
     Ok(agrees && is_last)
@@ -61,27 +64,45 @@ fn stays_at_long_line(tokens: &mut Tokens<'_>, number: u32) -> bool {
     is_next && is_again
 }
 
-/// A text, the number after that of its last line, the lines that aren't blank with their numbers and tokens, and whether
-/// they end or stop at a line that is too long.
-pub(crate) fn lines_agree(alloc: Global, fields: &mut Fields<'_>) -> Result<bool, RowError> {
-    let text = fields.bytes(alloc)?;
+// Whether the text that is left ends here, or at a line that is too long, as the next fields say.
+fn is_last(
+    fields: &mut Fields<'_>,
+    kind: &str,
+    tokens: &mut Tokens<'_>,
+    end: u32,
+) -> Result<bool, RowError> {
+    match kind {
+        "end" => Ok(has_ended(tokens) && tokens.end_line() == end),
+        "long" => Ok(stays_at_long_line(tokens, fields.number::<u32>()?)),
+        _ => Err(RowError::Malformed),
+    }
+}
+
+// Whether a text has the lines of the next fields.
+fn lines_of_text_agree(
+    alloc: Global,
+    fields: &mut Fields<'_>,
+    text: &[u8],
+) -> Result<bool, RowError> {
     if text.len() > MAX_TEXT_BYTES {
         return Err(RowError::Malformed);
     }
     let end = fields.number::<u32>()?;
-    let mut tokens = Tokens::new(&text);
+    let mut tokens = Tokens::new(text);
     let mut agrees = tokens.end_line() == end;
     // Each line takes a byte at least, and the end is one row more.
     for _ in 0..=text.len() {
         match fields.word()? {
             "line" => agrees = next_agrees(alloc, fields, &tokens.line())? && agrees,
-            "end" => return Ok(has_ended(&mut tokens) && agrees && tokens.end_line() == end),
-            "long" => {
-                let number = fields.number::<u32>()?;
-                return Ok(stays_at_long_line(&mut tokens, number) && agrees);
-            }
-            _ => return Err(RowError::Malformed),
+            kind => return Ok(is_last(fields, kind, &mut tokens, end)? && agrees),
         }
     }
     Err(RowError::Malformed)
+}
+
+/// A text, the number after that of its last line, the lines that aren't blank with their numbers and tokens, and whether
+/// they end or stop at a line that is too long.
+pub(crate) fn lines_agree(alloc: Global, fields: &mut Fields<'_>) -> Result<bool, RowError> {
+    let text = fields.bytes(alloc)?;
+    lines_of_text_agree(alloc, fields, &text)
 }

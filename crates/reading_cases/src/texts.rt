@@ -1,5 +1,5 @@
 // Texts, and what they are read as.
-use case_rows::{Fields, RowError, read_text};
+use case_rows::{Fields, RowError, decimal, read_text};
 use eph_gen::generate;
 use eph_model::Ephemeris;
 use gf_files::FilesError;
@@ -50,10 +50,7 @@ fn expected_summary(fields: &mut Fields<'_>) -> Result<Summary, RowError> {
     Ok(Summary {
         ncoeff: fields.number::<u32>()?,
         block_seconds: fields.number::<i64>()?,
-        emrat: Decimal {
-            mant: fields.number::<i64>()?,
-            exp: fields.number::<i16>()?,
-        },
+        emrat: decimal(fields)?,
         blocks: fields.number::<u32>()?,
         start: fields.number::<i64>()?,
         end: fields.number::<i64>()?,
@@ -83,12 +80,16 @@ struct Change {
     line: Vec<u8>,
 }
 
+fn next_change(alloc: Global, fields: &mut Fields<'_>) -> Result<Change, RowError> {
+    let number = fields.number::<usize>()?;
+    let line = fields.bytes(alloc)?;
+    Ok(Change { number, line })
+}
+
 fn changes_of(alloc: Global, fields: &mut Fields<'_>) -> Result<Vec<Change>, RowError> {
     let mut changes = Vec::new(alloc);
     for _ in 0..fields.number::<usize>()? {
-        let number = fields.number::<usize>()?;
-        let line = fields.bytes(alloc)?;
-        changes.push(Change { number, line })?;
+        changes.push(next_change(alloc, fields)?)?;
     }
     Ok(changes)
 }
@@ -104,7 +105,10 @@ fn line_of<'a>(changes: &'a [Change], number: usize, line: &'a [u8]) -> &'a [u8]
 }
 
 // A text with other lines in place of some of its own.
-fn changed(alloc: Global, text: &str, changes: &[Change]) -> Result<Vec<u8>, RowError> {
+fn changed(alloc: Global, text: &[u8], changes: &[Change]) -> Result<Vec<u8>, RowError> {
+    let Ok(text) = str::from_utf8(text) else {
+        return Err(RowError::Malformed);
+    };
     let mut made = Vec::new(alloc);
     let mut number = 0usize;
     for line in text.lines() {
@@ -115,20 +119,22 @@ fn changed(alloc: Global, text: &str, changes: &[Change]) -> Result<Vec<u8>, Row
     Ok(made)
 }
 
+// The text of the file of this name, with other lines in place of some of its own.
+fn changed_file(rt: &HostRuntime, name: &str, changes: &[Change]) -> Result<Vec<u8>, RowError> {
+    match fs::read(rt, name) {
+        Ok(text) => changed(rt.alloc(), &text, changes),
+        Err(_) => Err(RowError::Malformed),
+    }
+}
+
 /// A name, a file, the lines that differ, and what the text is read as.
 pub(crate) fn text_agrees(rt: &HostRuntime, fields: &mut Fields<'_>) -> Result<bool, RowError> {
-    let alloc = rt.alloc();
     let _name = fields.word()?;
-    let Ok(bytes) = fs::read(rt, fields.word()?) else {
-        return Err(RowError::Malformed);
-    };
-    let Ok(text) = str::from_utf8(&bytes) else {
-        return Err(RowError::Malformed);
-    };
-    let changes = changes_of(alloc, fields)?;
+    let file = fields.word()?;
+    let changes = changes_of(rt.alloc(), fields)?;
     let expected = expected_outcome(fields)?;
-    let found = outcome_of(alloc, changed(alloc, text, &changes)?)?;
-    Ok(found == expected)
+    let text = changed_file(rt, file, &changes)?;
+    Ok(outcome_of(rt.alloc(), text)? == expected)
 }
 
 // Each byte counts, and so does its place.

@@ -14,7 +14,7 @@ use std::thread::{Threads, join};
 use tree_judge::{Judge, rules_are_sound};
 
 /// A node and its verdict.
-#[derive(Clone, Copy, Debug, PartialEq, Eq)]
+#[derive(Clone, Copy)]
 pub(crate) struct Share {
     pub(crate) node: Node,
     pub(crate) verdict: Verdict,

@@ -3,19 +3,25 @@ use crate::judges::{Comb, Thirds, span};
 use halving::{Leaf, Mark, Node, RunError, run_one, run_shares};
 use std::alloc::Global;
 use std::test::*;
+use std::thread::Threads;
 
 #[test]
 fn a_limit_is_kept(rt: HostRuntime) -> Result<(), Fail> {
-    assert_eq!(rt;
-        run_one(rt.alloc(), &Comb, span(0, 3), 2),
-        Err(RunError::TooMany)
-    );
+    let refused = run_one(rt.alloc(), &Comb, span(0, 3), 2);
+    assert!(rt; refused == Err(RunError::TooMany));
     let Ok(leaves) = run_one(rt.alloc(), &Comb, span(0, 3), 3) else {
         assert!(rt; false);
         return Ok(());
     };
-    assert_eq!(rt; leaves.len(), 3);
+    assert!(rt; leaves.len() == 3);
     Ok(())
+}
+
+// The depths of the first leaf and of the last.
+fn end_depths(leaves: &[Leaf]) -> Option<(u32, u32)> {
+    let first = leaves.first()?;
+    let last = leaves.last()?;
+    Some((first.node.depth, last.node.depth))
 }
 
 #[test]
@@ -24,9 +30,8 @@ fn a_deep_tree(rt: HostRuntime) -> Result<(), Fail> {
         assert!(rt; false);
         return Ok(());
     };
-    assert_eq!(rt; leaves.len(), 20_000);
-    assert_eq!(rt; leaves.first().map(|leaf| leaf.node.depth), Some(19_999));
-    assert_eq!(rt; leaves.last().map(|leaf| leaf.node.depth), Some(1));
+    assert!(rt; leaves.len() == 20_000);
+    assert!(rt; end_depths(leaves.as_slice()) == Some((19_999, 1)));
     Ok(())
 }
 
@@ -45,46 +50,36 @@ fn five_leaves(alloc: Global) -> Result<Vec<Leaf>, RunError> {
     Ok(leaves)
 }
 
+// Whether so many workers find the five leaves where as many may be found.
+fn finds_five<R: Threads + Sync>(rt: &R, alloc: Global, workers: u32) -> bool {
+    if workers < 1 || workers > 64 {
+        return false;
+    }
+    let found = run_shares(rt, alloc, &Thirds, span(0, 8), workers, 5);
+    found == five_leaves(alloc)
+}
+
 #[test]
 fn five_leaves_by_any_number_of_workers(rt: HostRuntime) {
-    let alloc = rt.alloc();
-    let root = span(0, 8);
-    assert_eq!(rt;
-        run_shares(&rt, alloc, &Thirds, root, 1, 5),
-        five_leaves(alloc)
-    );
-    assert_eq!(rt;
-        run_shares(&rt, alloc, &Thirds, root, 2, 5),
-        five_leaves(alloc)
-    );
-    assert_eq!(rt;
-        run_shares(&rt, alloc, &Thirds, root, 3, 5),
-        five_leaves(alloc)
-    );
-    assert_eq!(rt;
-        run_shares(&rt, alloc, &Thirds, root, 64, 5),
-        five_leaves(alloc)
-    );
+    for workers in [1, 2, 3, 64] {
+        assert!(rt; finds_five(&rt, rt.alloc(), workers));
+    }
+}
+
+// Whether the five leaves are too many for so many workers where four may be found.
+fn finds_too_many<R: Threads + Sync>(rt: &R, alloc: Global, workers: u32) -> bool {
+    if workers < 1 || workers > 64 {
+        return false;
+    }
+    match run_shares(rt, alloc, &Thirds, span(0, 8), workers, 4) {
+        Err(RunError::TooMany) => true,
+        _ => false,
+    }
 }
 
 #[test]
 fn a_limit_is_kept_by_any_number_of_workers(rt: HostRuntime) {
-    let alloc = rt.alloc();
-    let root = span(0, 8);
-    assert_eq!(rt;
-        run_shares(&rt, alloc, &Thirds, root, 1, 4),
-        Err(RunError::TooMany)
-    );
-    assert_eq!(rt;
-        run_shares(&rt, alloc, &Thirds, root, 2, 4),
-        Err(RunError::TooMany)
-    );
-    assert_eq!(rt;
-        run_shares(&rt, alloc, &Thirds, root, 3, 4),
-        Err(RunError::TooMany)
-    );
-    assert_eq!(rt;
-        run_shares(&rt, alloc, &Thirds, root, 64, 4),
-        Err(RunError::TooMany)
-    );
+    for workers in [1, 2, 3, 64] {
+        assert!(rt; finds_too_many(&rt, rt.alloc(), workers));
+    }
 }

@@ -1,10 +1,9 @@
 // The judges of the tests.
 ghost use Rattle.std.specs.Prelude.{◌≡◌, ◌<◌};
-ghost use Rattle.spec_trees.specs.declared.cuts.CutRule.TheVariants.{Half};
-ghost use Rattle.spec_trees.specs.Cuts.{CanCut, cut_of};
 ghost use Rattle.spec_trees.specs.CutExamples.{parts_at};
 ghost use Rattle.pool_tests.specs.Judges.{comb, comb_is_sound, long_crossing, long_crossing_is_sound, span, stairs, stairs_are_sound, thirds, thirds_are_sound};
 
+use gf_hooks::{CutRule, rule_cut};
 use halving::{Judge, Node, Turn, Verdict};
 
 /// A root at depth 0.
@@ -31,13 +30,6 @@ fn parts_at(time: i64, node: Node) -> (Node, Node)
         depth,
     };
     (left, right)
-}
-
-fn middle(a: i64, b: i64) -> i64
-    requires { CanCut a b }
-    ensures { result ≡ cut_of Half a b }
-{
-    a + (b - a) / 2
 }
 
 /// Splits what is wider than one tick before its last tick.
@@ -102,7 +94,7 @@ impl Judge for Crossing {
     }
 
     fn cut(&self, node: Node) -> (Node, Node) {
-        parts_at(middle(node.a, node.b), node)
+        parts_at(rule_cut(CutRule::Half, node.a, node.b), node)
     }
 
     ghost sound = { λ _. long_crossing_is_sound };
@@ -123,7 +115,9 @@ impl Judge for Stairs {
     }
 
     fn cut(&self, node: Node) -> (Node, Node) {
-        (span(node.a, node.b - 1), span(node.b - 1, node.b))
+        let left = span(node.a, node.b - 1);
+        let right = span(node.b - 1, node.b);
+        (left, right)
     }
 
     ghost sound = { λ _. stairs_are_sound };

@@ -1,10 +1,10 @@
 // A ledger of two leaves, one that is closed with a seat missing, and one that two threads fill.
 ghost use Rattle.std.specs.Prelude.{All, pos, ◌≡◌, ◌<◌, ◌+◌};
 ghost use Rattle.span_ledger.specs.Seats.{IsSeatOf};
-ghost use Rattle.pool_tests.specs.Ledgers.{IsThousands};
+ghost use Rattle.pool_tests.specs.Ledgers.{IsHundred, IsThousands};
 
 use span_ledger::{CloseError, Entry, LedgerSeat, SpanLedger};
-use spec_trees::{Leaf, Mark, Node};
+use spec_trees::{Booked, Leaf, Mark, Node};
 use std::sync::Wait;
 use std::test::*;
 use std::thread;
@@ -39,6 +39,22 @@ fn leaf_at(time: u32) -> Leaf
     }
 }
 
+// Whether this is what the ledger answers where the second after `time` is entered.
+fn answers<R: Wait>(
+    rt: &R,
+    ledger: &SpanLedger,
+    seat: &mut LedgerSeat,
+    time: u32,
+    answer: Entry,
+) -> bool
+    requires ours { IsSeatOf ledger.now seat.old }
+    requires root { IsHundred ledger.now }
+    requires time { time < 100 }
+    ensures { IsSeatOf ledger.now seat.new }
+{
+    ledger.enter(rt, seat, leaf_at(time)) == answer
+}
+
 #[test]
 fn limit_of_two(rt: HostRuntime) -> Result<(), Fail> {
     let Ok((ledger, mut seats)) = SpanLedger::new(rt.alloc(), HUNDRED, 2, 2) else {
@@ -51,23 +67,15 @@ fn limit_of_two(rt: HostRuntime) -> Result<(), Fail> {
     let Some(mut first) = seats.pop() else {
         return Ok(());
     };
-    assert_eq!(rt;
-        ledger.enter(&rt, &mut first, leaf_at(5)),
-        Entry::Entered { place: 0 }
-    );
-    assert_eq!(rt;
-        ledger.enter(&rt, &mut second, leaf_at(5)),
-        Entry::Again { place: 0 }
-    );
-    assert_eq!(rt;
-        ledger.enter(&rt, &mut second, leaf_at(4)),
-        Entry::Entered { place: 1 }
-    );
-    assert_eq!(rt; ledger.enter(&rt, &mut first, leaf_at(6)), Entry::Full);
-    assert_eq!(rt;
-        ledger.enter(&rt, &mut first, leaf_at(4)),
-        Entry::Again { place: 1 }
-    );
+    let zeroth = Entry::Entered { place: 0 };
+    assert!(rt; answers(&rt, &ledger, &mut first, 5, zeroth));
+    let again = Entry::Again { place: 0 };
+    assert!(rt; answers(&rt, &ledger, &mut second, 5, again));
+    let next = Entry::Entered { place: 1 };
+    assert!(rt; answers(&rt, &ledger, &mut second, 4, next));
+    assert!(rt; answers(&rt, &ledger, &mut first, 6, Entry::Full));
+    let again = Entry::Again { place: 1 };
+    assert!(rt; answers(&rt, &ledger, &mut first, 4, again));
     Ok(())
 }
 
@@ -78,11 +86,11 @@ fn missing_seat(rt: HostRuntime) -> Result<(), Fail> {
         return Ok(());
     };
     let _last = seats.pop();
-    let missing = CloseError::Missing { given: 1, made: 2 };
-    match ledger.close(seats) {
-        Ok(_) => assert!(rt; false),
-        Err(error) => assert_eq!(rt; error, missing),
-    }
+    let Err(error) = ledger.close(seats) else {
+        assert!(rt; false);
+        return Ok(());
+    };
+    assert!(rt; error == CloseError::Missing { given: 1, made: 2 });
     Ok(())
 }
 
@@ -114,6 +122,17 @@ fn enter_all<R: Threads + Wait + Sync>(rt: &R, ledger: &SpanLedger, seats: &mut 
     );
 }
 
+// How many entries the first seat made.
+fn first_entries(entries: &[Booked]) -> u32 {
+    let mut count = 0u32;
+    for entry in entries {
+        if entry.seat == 0 {
+            count = count.saturating_add(1);
+        }
+    }
+    count
+}
+
 #[test]
 fn two_threads(rt: HostRuntime) -> Result<(), Fail> {
     let Ok((ledger, mut seats)) = SpanLedger::new(rt.alloc(), THOUSANDS, 5000, 2) else {
@@ -125,8 +144,7 @@ fn two_threads(rt: HostRuntime) -> Result<(), Fail> {
         assert!(rt; false);
         return Ok(());
     };
-    assert_eq!(rt; book.entries.len(), 2000);
-    let firsts = book.entries.iter().filter(|entry| entry.seat == 0).count();
-    assert_eq!(rt; firsts, 1000);
+    assert!(rt; book.entries.len() == 2000);
+    assert!(rt; first_entries(&book.entries) == 1000);
     Ok(())
 }

@@ -1,6 +1,6 @@
 // Ten steps of two workers over a tree of four leaves, and what the opening state refuses.
 use crate::judges::Crossing;
-use halving::Node;
+use halving::{Leaf, Node};
 use pool_core::{Pool, StepError};
 use spec_pool::Step;
 use std::test::*;
@@ -10,6 +10,29 @@ const ROOT: Node = Node {
     b: 1_339_400,
     depth: 0,
 };
+
+// Whether these steps can be made one after the other, and the last of them alone leaves nothing to do.
+fn ends_by(pool: &mut Pool<Crossing>, steps: &[Step]) -> bool {
+    for step in steps {
+        if pool.is_done() || pool.step(*step).is_err() {
+            return false;
+        }
+    }
+    pool.is_done()
+}
+
+// Whether the leaves that were entered begin at these times, in this order.
+fn have_begins(leaves: &[Leaf], begins: &[i64]) -> bool {
+    if leaves.len() != begins.len() {
+        return false;
+    }
+    for (leaf, begin) in leaves.iter().zip(begins) {
+        if leaf.node.a != *begin {
+            return false;
+        }
+    }
+    true
+}
 
 #[test]
 fn ten_steps(rt: HostRuntime) -> Result<(), Fail> {
@@ -29,20 +52,20 @@ fn ten_steps(rt: HostRuntime) -> Result<(), Fail> {
         Step::Pop { w: 0 },
         Step::Enter { w: 0 },
     ];
-    for step in steps {
-        assert!(rt; !pool.is_done());
-        assert_eq!(rt; pool.step(step), Ok(()));
-    }
-    assert!(rt; pool.is_done());
-    let mut begins = Vec::new(rt.alloc());
-    for leaf in pool.entered() {
-        begins.push(leaf.node.a)?;
-    }
-    assert_eq!(rt;
-        begins.as_slice(),
-        [1_339_200, 1_339_000, 1_339_100, 1_339_150].as_slice()
-    );
+    assert!(rt; ends_by(&mut pool, steps.as_slice()));
+    let begins = [1_339_200, 1_339_000, 1_339_100, 1_339_150];
+    assert!(rt; have_begins(pool.entered(), begins.as_slice()));
     Ok(())
+}
+
+// Whether each of these steps is refused.
+fn refuses_all(pool: &mut Pool<Crossing>, steps: &[Step]) -> bool {
+    for step in steps {
+        let Err(StepError::Refused) = pool.step(*step) else {
+            return false;
+        };
+    }
+    true
 }
 
 #[test]
@@ -58,13 +81,11 @@ fn opening_state_refuses(rt: HostRuntime) -> Result<(), Fail> {
         Step::Steal { w: 0, from: 0 },
         Step::Push { w: 2 },
     ];
-    for step in refused {
-        assert_eq!(rt; pool.step(step), Err(StepError::Refused));
-    }
-    assert_eq!(rt; pool.entered().len(), 0);
-    assert_eq!(rt; pool.step(Step::Keep { w: 0 }), Ok(()));
-    assert_eq!(rt; pool.step(Step::TakeKept { w: 0 }), Err(StepError::Refused));
-    assert_eq!(rt; pool.step(Step::Pop { w: 1 }), Err(StepError::Refused));
+    assert!(rt; refuses_all(&mut pool, refused.as_slice()));
+    assert!(rt; pool.entered().is_empty());
+    assert!(rt; pool.step(Step::Keep { w: 0 }).is_ok());
+    let refused = [Step::TakeKept { w: 0 }, Step::Pop { w: 1 }];
+    assert!(rt; refuses_all(&mut pool, refused.as_slice()));
     assert!(rt; !pool.is_done());
     Ok(())
 }

@@ -1,5 +1,5 @@
 // Pools whose seats work at once, each in a thread of its own: the leaves that they find, and workers that meet.
-ghost use Rattle.std.specs.Prelude.{◌≡◌, ◌<◌, ℕ, None, pos, neg_ℤ, length, slice_index_or};
+ghost use Rattle.std.specs.Prelude.{◌≡◌, ◌<◌, ◌≤◌, ℕ, None, pos, neg_ℤ, length, slice_index_or};
 ghost use Rattle.std.specs.List.{AllByRecursion};
 ghost use Rattle.steal_pool.specs.Pools.{AreLinked, CanMake};
 ghost use Rattle.steal_pool.specs.Runs.{AreFree, HasWorked};
@@ -14,7 +14,6 @@ use halving::Judge;
 use span_ledger::{LedgerSeat, SpanLedger};
 use std::alloc::Global;
 use std::marker::Brand;
-use std::process::Abort;
 use std::sync::Wait;
 use std::sync::atomic::{AtomicU64, Ordering};
 use std::test::*;
@@ -22,21 +21,33 @@ use std::thread;
 use std::thread::Threads;
 use steal_pool::{Naming, PoolError, PoolSeat, finish, make, run};
 
-#[test]
-fn any_number_of_workers_finds_the_leaves(rt: HostRuntime) -> Result<(), Fail> {
-    for workers in [1u32, 2, 4, 64] {
-        let Ok(book) = run(&rt, rt.alloc(), &Stairs, span(0, 5), workers, 5, &OpenGate) else {
-            assert!(rt; false);
-            return Ok(());
-        };
-        assert_eq!(rt; book.entries.len(), 5);
-        let Err(error) = run(&rt, rt.alloc(), &Stairs, span(0, 5), workers, 4, &OpenGate) else {
-            assert!(rt; false);
-            return Ok(());
-        };
-        assert_eq!(rt; error, PoolError::TooMany);
+// How many leaves so many workers find where as many as `limit` may be found, or why they find none.
+fn found_by<R: Threads + Wait + Sync>(
+    rt: &R,
+    alloc: Global,
+    workers: u32,
+    limit: u32,
+) -> Result<usize, PoolError>
+    requires { (1 ≤ workers) × (workers ≤ 64) }
+{
+    let book = run(rt, alloc, &Stairs, span(0, 5), workers, limit, &OpenGate)?;
+    Ok(book.entries.len())
+}
+
+// Whether so many workers find the five leaves where five may be found, and too many where four may.
+fn finds_five<R: Threads + Wait + Sync>(rt: &R, alloc: Global, workers: u32) -> bool {
+    if workers < 1 || workers > 64 {
+        return false;
     }
-    Ok(())
+    found_by(rt, alloc, workers, 5) == Ok(5)
+        && found_by(rt, alloc, workers, 4) == Err(PoolError::TooMany)
+}
+
+#[test]
+fn any_number_of_workers_finds_the_leaves(rt: HostRuntime) {
+    for workers in [1, 2, 4, 64] {
+        assert!(rt; finds_five(&rt, rt.alloc(), workers));
+    }
 }
 
 // How often a worker that is held looks whether another has come.
@@ -90,7 +101,7 @@ fn two_workers_meet(rt: HostRuntime) -> Result<(), Fail> {
         return Ok(());
     };
     assert!(rt; book.entries.len() > 2);
-    assert_eq!(rt; gate.given_up.load(Ordering::SeqCst), 0);
+    assert!(rt; all_met(&gate));
     Ok(())
 }
 
@@ -185,14 +196,26 @@ fn four_workers_meet(rt: HostRuntime) -> Result<(), Fail> {
     Ok(())
 }
 
-// Four seats that work in threads of their own, of which the first and another meet, and what is left for the end of
-// their pool.
-fn leave_nothing<N: Naming + Send + Sync, R: Abort + Threads + Wait + Sync>(
+// How often the first worker and the others have passed the gate.
+fn passes(gate: &Meeting) -> (u64, u64) {
+    let first = gate.first.load(Ordering::SeqCst);
+    let others = gate.others.load(Ordering::SeqCst);
+    (first, others)
+}
+
+// Whether no worker gave up waiting.
+fn all_met(gate: &Meeting) -> bool {
+    gate.given_up.load(Ordering::SeqCst) == 0
+}
+
+// Whether four seats that work in threads of their own, of which the first and another meet, leave nothing for the end
+// of their pool.
+fn leave_nothing<N: Naming + Send + Sync, R: Threads + Wait + Sync>(
     rt: &R,
     alloc: Global,
     ledger: &SpanLedger,
     entries: Vec<LedgerSeat>,
-) -> Result<(), Fail>
+) -> bool
     requires pool { CanMake N.rules long_crossing ledger.now entries.items
         (span (neg_ℤ (pos 43200)) (pos 2721600)) }
 {
@@ -200,18 +223,13 @@ fn leave_nothing<N: Naming + Send + Sync, R: Abort + Threads + Wait + Sync>(
     let root = span(-43_200, 2_721_600);
     let Ok(mut seats) = make::<N, Crossing, Meeting>(alloc, &Crossing, ledger, entries, root, &gate)
     else {
-        assert!(rt; false);
-        return Ok(());
+        return false;
     };
-    assert!(rt; push_and_work(rt, &Crossing, seats.as_mut_slice(), 1));
-    assert_eq!(rt; gate.given_up.load(Ordering::SeqCst), 0);
-    let first = gate.first.load(Ordering::SeqCst);
-    let others = gate.others.load(Ordering::SeqCst);
-    let ended = finish(rt, alloc, seats);
-    assert!(rt; ended.is_ok());
-    assert_eq!(rt; gate.first.load(Ordering::SeqCst), first);
-    assert_eq!(rt; gate.others.load(Ordering::SeqCst), others);
-    Ok(())
+    let pushed = push_and_work(rt, &Crossing, seats.as_mut_slice(), 1);
+    let met = all_met(&gate);
+    let before = passes(&gate);
+    let ended = finish(rt, alloc, seats).is_ok();
+    pushed & met & ended & (passes(&gate) == before)
 }
 
 #[test]
@@ -221,5 +239,6 @@ fn workers_leave_nothing_for_the_end(rt: HostRuntime) -> Result<(), Fail> {
         assert!(rt; false);
         return Ok(());
     };
-    leave_nothing::<Brand, _>(&rt, rt.alloc(), &ledger, entries)
+    assert!(rt; leave_nothing::<Brand, _>(&rt, rt.alloc(), &ledger, entries));
+    Ok(())
 }

@@ -8,7 +8,10 @@ use gf_hooks::CutRule;
 use gf_uds::{Law, Reach, Scalar, ScalarJudge, Want, find_scalar, scalar_leaves};
 use halving::{Mark, Turn};
 use spec_trees::{Book, Leaf};
+use std::alloc::Global;
+use std::sync::Wait;
 use std::test::*;
+use std::thread::Threads;
 
 // The heights of the water at times 0 to 12.
 const HEIGHTS: [u8; 13] = [10, 8, 6, 3, 1, 3, 5, 7, 6, 4, 4, 7, 9];
@@ -103,18 +106,22 @@ fn turns_of(book: &Book) -> Option<u32> {
     Some(turns)
 }
 
-#[test]
-fn workers_find_each_passing_of_a_table(rt: HostRuntime) -> Result<(), Fail> {
-    for workers in [1u32, 2, 8] {
-        let judge = judge();
-        let Ok(book) = find_scalar(&rt, rt.alloc(), &judge, span(0, 12), workers, 13, &OpenGate)
-        else {
-            assert!(rt; false);
-            return Ok(());
-        };
-        assert_eq!(rt; turns_of(&book), Some(4));
+// How many of the leaves that so many workers find have a turn, where each has its mark.
+fn turns_by<R: Threads + Wait + Sync>(rt: &R, alloc: Global, workers: u32) -> Option<u32> {
+    if workers < 1 || workers > 64 {
+        return None;
     }
-    Ok(())
+    match find_scalar(rt, alloc, &judge(), span(0, 12), workers, 13, &OpenGate) {
+        Ok(book) => turns_of(&book),
+        Err(_) => None,
+    }
+}
+
+#[test]
+fn workers_find_each_passing_of_a_table(rt: HostRuntime) {
+    for workers in [1, 2, 8] {
+        assert!(rt; turns_by(&rt, rt.alloc(), workers) == Some(4));
+    }
 }
 
 #[test]
@@ -124,6 +131,6 @@ fn one_walk_finds_them(rt: HostRuntime) -> Result<(), Fail> {
         assert!(rt; false);
         return Ok(());
     };
-    assert_eq!(rt; turns(leaves.as_slice()), Some(4));
+    assert!(rt; turns(leaves.as_slice()) == Some(4));
     Ok(())
 }

@@ -1,8 +1,8 @@
 -- Seats that are opened, and get their stealers.
-use Rattle.std.proofs.Common.{◌≡◌, ◌≢◌, inl, inr, ℕ, suc, ◌+◌, ◌<◌, ◌==◌, List, [], ◌∷◌, ◌++◌, map, flat_map, length, Option, Some, slice_get, slice_set, sum_by, if◌then◌else◌, append_assoc, refl, sym, ap, ◌∙◌, subst, arith}
+use Rattle.std.proofs.Common.{◌≡◌, ◌≢◌, inl, inr, ℕ, suc, ◌+◌, ◌<◌, ◌==◌, List, [], ◌∷◌, ◌++◌, map, flat_map, length, Option, Some, get_or, Result, Ok, Err, OnOk, slice_get, slice_set, sum_by, if◌then◌else◌, append_assoc, refl, sym, ap, ◌∙◌, subst, arith}
 use Rattle.std.proofs.lemmas.Bool.{cases_eq}
 use Rattle.std.proofs.lemmas.Bool.Decides.{nat_tests}
-use Rattle.std.proofs.lemmas.Option.{get_or_from_slice_get}
+use Rattle.std.proofs.lemmas.Option.{get_or_from_slice_get, slice_get-get_or}
 use Rattle.std.specs.List.{AllByRecursion, AllZip}
 use Rattle.spec_trees.specs.declared.tree.Node.{Node}
 use Rattle.spec_pool.specs.declared.ledger.SeatHistory.{SeatHistory}
@@ -217,3 +217,20 @@ linking_next ledger root n i j ss e l =
 
 pub linked_whole : (ledger : SpanLedger) (root : Node) (n : ℕ) (ss : List Seat) → Linking ledger root n n 0 ss → HaveAllStealers ss
 linked_whole ledger root n ss l k s e = l.numbers k s e ∙ so_far_below n n 0 k (omega (arith, l.count, within ss k s e)) ∙ ap (λ (m : ℕ). other_numbers m k) (sym l.count)
+
+-- ---- in the words of the code: seat j was read as the default d or another, and seat i after it as d' or another
+pub read_links : (ss : List Seat) (i j : ℕ) (d d' r s : Seat) (e : End) → i < length ss → j < length ss → r ≡ lent (get_or ss j d) → e ≡ new_stealer (get_or ss j d).worker → s ≡ gained (get_or (slice_set ss j r) i d') e
+    → Links i j ss (slice_set (slice_set ss j r) i s)
+read_links ss i j d d' r s e in_i in_j lends is gains =
+    let from = get_or ss j d in
+    let to = get_or (slice_set ss j (lent from)) i d' in (
+      from,
+      to,
+      slice_get-get_or ss j d in_j,
+      slice_get-get_or (slice_set ss j (lent from)) i d' (omega (arith, in_i, set_length ss j (lent from))),
+      (λ k. slice_set (slice_set ss j (lends k)) i ((gains ∙ (λ m. gained (get_or (slice_set ss j (lends m)) i d') (is m))) k)),
+    )
+
+pub links_ok : {A E : Type 0} (r : Result A E) (P Q : Type 0) → OnOk r P → (P → Q) → OnOk r Q
+links_ok (Ok x) P Q p f = f p
+links_ok (Err e) P Q p f = tt

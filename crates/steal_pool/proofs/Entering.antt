@@ -4,7 +4,7 @@ use Rattle.std.proofs.lemmas.List.Sorted.{IsPermutation-refl}
 use Rattle.spec_trees.specs.declared.tree.Node.{Node}
 use Rattle.spec_trees.specs.declared.tree.Leaf.{Leaf}
 use Rattle.spec_trees.specs.declared.book.Booked.{Booked}
-use Rattle.spec_trees.specs.Tree.{Rules, IsLeaf, IsSound, IsValid}
+use Rattle.spec_trees.specs.Tree.{Rules, IsLeaf, IsSound, IsValid, leaves, mark_of}
 use Rattle.spec_pool.specs.declared.ledger.SeatHistory.{SeatHistory}
 use Rattle.spec_pool.specs.declared.ledger.Entry.{Entry}
 use Rattle.spec_pool.specs.declared.ledger.Entry.TheVariants.{Entered, Again, Full, Memory}
@@ -15,8 +15,20 @@ use Rattle.spec_pool.proofs.Weights.{weigh-push}
 use Rattle.steal_pool.specs.declared.worker.Pushed.{Pushed}
 use Rattle.steal_pool.specs.declared.worker.Pushed.TheVariants as P
 use Rattle.steal_pool.specs.Workers.{Holder, IsSplit, on_deque, on_stack, taken_by, with_hand}
-use Rattle.steal_pool.specs.Seats.{IsLike, SameSeat, Seat, Works, account_of, entered_by, with_refusal}
+use Rattle.steal_pool.specs.declared.seat.Stop.{Stop}
+use Rattle.steal_pool.specs.declared.seat.Stop.TheVariants as S
+use Rattle.steal_pool.specs.Seats.{IfFull, IsFullOf, IsLike, SameSeat, Seat, Works, account_of, entered_by, stop_at, ways, with_refusal}
 use Rattle.steal_pool.proofs.Accounts.{Worked, entered_weigh, entered_weight, enter_works, idle_works, split_works, works_more}
+
+-- ---- why a seat stops
+no_stop : (stop : Stop) → Some stop ≡ None → ⊥
+no_stop stop e = cc
+
+no_leaf : (l : Leaf) → Some (S.Full l) ≡ Some S.Memory → ⊥
+no_leaf l e = cc
+
+same_leaf : (l leaf : Leaf) → Some (S.Full l) ≡ Some (S.Full leaf) → l ≡ leaf
+same_leaf l leaf e = cc
 
 -- ---- entering
 module _ (limit : ℕ) (leaf : Leaf) (p q : SeatHistory) (r : Entry) (m : Entering limit leaf p q r) where
@@ -42,6 +54,55 @@ module _ (limit : ℕ) (leaf : Leaf) (p q : SeatHistory) (r : Entry) (m : Enteri
 
   pub memory_same : r ≡ Memory → (q.mine ≡ p.mine) × (q.again ≡ p.again)
   memory_same e = let t = told Memory e in (ap (λ (x : SeatHistory). x.mine) t, ap (λ (x : SeatHistory). x.again) t)
+
+  stopped_same_by : (stop : Stop) (x : Entry) → r ≡ x → Some stop ≡ stop_at x leaf → (q.mine ≡ p.mine) × (q.again ≡ p.again)
+  stopped_same_by stop (Entered place) e s = absurd (no_stop stop s)
+  stopped_same_by stop (Again place) e s = absurd (no_stop stop s)
+  stopped_same_by stop Full e s = full_same e
+  stopped_same_by stop Memory e s = memory_same e
+
+  pub stopped_same : (stop : Stop) → Some stop ≡ stop_at r leaf → (q.mine ≡ p.mine) × (q.again ≡ p.again)
+  stopped_same stop s = stopped_same_by stop r refl s
+
+  abbrev pub IsSeenFull : Leaf → Type 0
+  IsSeenFull l = (l ≡ leaf) × (limit ≤ length q.seen) × Fresh leaf q.seen
+
+  stopped_full_by : (l : Leaf) (x : Entry) → r ≡ x → Some (S.Full l) ≡ stop_at x leaf → IsSeenFull l
+  stopped_full_by l (Entered place) e s = absurd (no_stop (S.Full l) s)
+  stopped_full_by l (Again place) e s = absurd (no_stop (S.Full l) s)
+  stopped_full_by l Full e s = let seen = full_seen e in (same_leaf l leaf s, seen.0, seen.1)
+  stopped_full_by l Memory e s = absurd (no_leaf l s)
+
+  pub stopped_full : (stop : Stop) → Some stop ≡ stop_at r leaf → IfFull stop IsSeenFull
+  stopped_full (S.Full l) s = stopped_full_by l r refl s
+  stopped_full S.Memory s = tt
+
+  went_more_by : (x : Entry) → r ≡ x → None ≡ stop_at x leaf → (h : Leaf → ℕ) → entered_weight h q ≡ entered_weight h p + h leaf
+  went_more_by (Entered place) e s = entered_more place e
+  went_more_by (Again place) e s = again_more place e
+  went_more_by Full e s = absurd (no_stop (S.Full leaf) (sym s))
+  went_more_by Memory e s = absurd (no_stop S.Memory (sym s))
+
+  pub went_more : None ≡ stop_at r leaf → (h : Leaf → ℕ) → entered_weight h q ≡ entered_weight h p + h leaf
+  went_more s = went_more_by r refl s
+
+  kept_number_by : (x : Entry) → r ≡ x → q.number ≡ p.number
+  kept_number_by (Entered place) e = ap (λ (h : SeatHistory). h.number) (told (Entered place) e).2
+  kept_number_by (Again place) e = ap (λ (h : SeatHistory). h.number) (told (Again place) e).1
+  kept_number_by Full e = ap (λ (h : SeatHistory). h.number) (told Full e).2
+  kept_number_by Memory e = ap (λ (h : SeatHistory). h.number) (told Memory e)
+
+  pub kept_number : q.number ≡ p.number
+  kept_number = kept_number_by r refl
+
+pub full_of : (t : Rules) (s : Seat) (leaf l : Leaf) → s.worker.hand ≡ Some leaf.node → mark_of (t.verdict leaf.node) ≡ Some leaf.mark → leaves t leaf.node ≡ leaf ∷ []
+    → (l ≡ leaf) × (s.terms.limit ≤ length s.part.seen) × Fresh leaf s.part.seen → IsFullOf t l s
+full_of t s leaf l hand marked one seen =
+    subst (λ (x : Leaf). IsFullOf t x s) (sym seen.0) (record { hand = hand; marked = marked; leaves = one; limit = seen.1; fresh = seen.2 })
+
+pub if_full : (stop : Stop) (P Q : Leaf → Type 0) → IfFull stop P → ((l : Leaf) → P l → Q l) → IfFull stop Q
+if_full (S.Full l) P Q p f = f l p
+if_full S.Memory P Q p f = tt
 
 pub leaf_works : (t : Rules) (w v : Holder) (p q : SeatHistory) (leaf : Leaf) → IsSound t → IsLeaf t leaf → w.hand ≡ Some leaf.node → v ≡ with_hand w None → ((h : Leaf → ℕ) → entered_weight h q ≡ entered_weight h p + h leaf) → Worked t w p v q
 leaf_works t w v p q leaf sound is hand e more = enter_works t w v p q leaf.node leaf.mark sound is.valid is.marked hand e more
@@ -76,6 +137,14 @@ push_works t w v p left right sound valid split (P.Memory n) deque kept memory =
 -- ---- pieces of a seat's work
 pub same_more : (a b c : Seat) → SameSeat a b → SameSeat b c → SameSeat a c
 same_more a b c x y = record { ways = y.ways ∙ x.ways; table = y.table ∙ x.table; terms = y.terms ∙ x.terms; number = y.number ∙ x.number }
+
+pub same_refused : (a b c : Seat) (e : _) → SameSeat a b → c ≡ with_refusal b e → SameSeat a c
+same_refused a b c e x is = record {
+  ways = ap (λ (s : Seat). ways s.worker) is ∙ x.ways;
+  table = ap (λ (s : Seat). s.table) is ∙ x.table;
+  terms = ap (λ (s : Seat). s.terms) is ∙ x.terms;
+  number = ap (λ (s : Seat). s.part.number) is ∙ x.number;
+}
 
 pub seat_idle : (t : Rules) (s : Seat) → Works t s s
 seat_idle t s = same_works t s.worker s.part s.part (refl, refl)

@@ -1,6 +1,7 @@
 -- Why seats stopped, and the worst of these.
-use Rattle.std.proofs.Common.{◌≡◌, ◌≢◌, ◌⊎◌, inl, inr, ℕ, suc, List, [], ◌∷◌, Option, Some, None, slice_get, refl, sym, ap, ◌∙◌, subst}
+use Rattle.std.proofs.Common.{◌≡◌, ◌≢◌, ◌⊎◌, inl, inr, ℕ, suc, ◌+◌, ◌<◌, List, [], ◌∷◌, length, take, get_or, Option, Some, None, slice_get, refl, sym, ap, ◌∙◌, subst}
 use Rattle.std.specs.Prelude.{Bool, true, false, is_some, not, IsTrue, IsFalse}
+use Rattle.std.proofs.lemmas.List.Sums.{fold_more}
 use Rattle.spec_trees.specs.declared.tree.Leaf.{Leaf}
 use Rattle.spec_trees.specs.Tree.{Rules}
 use Rattle.steal_pool.specs.declared.seat.PoolError.{PoolError}
@@ -49,6 +50,11 @@ none_stopped ss e = (none_from None ss e).1
 pub kept_free : (ss : List Seat) → KeepNone ss → worst_stop ss ≡ None
 kept_free [] all = refl
 kept_free (s ∷ ss) all = ap (λ (r : Option Stop). worst_from r ss) all.0 ∙ kept_free ss all.1
+
+-- a seat more
+pub worst_more : (ss : List Seat) (i : ℕ) (s : Seat) (r q w : Option Stop) → i < length ss → s ≡ get_or ss i s → r ≡ worst_stop (take i ss) → q ≡ s.refusal → w ≡ worse r q → w ≡ worst_stop (take (i + 1) ss)
+worst_more ss i s r q w inside at before here is =
+    is ∙ (λ k. worse (before k) ((here ∙ ap (λ (x : Seat). x.refusal) at) k)) ∙ sym (fold_more (λ (x : Option Stop) (y : Seat). worse x y.refusal) None ss i s inside)
 
 -- as a test of the worst says it
 pub is_none_stopped : (ss : List Seat) (r : Option Stop) (b : Bool) → r ≡ worst_stop ss → is_some r ≡ not b → IsTrue b → KeepNone ss

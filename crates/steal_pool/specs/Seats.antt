@@ -6,6 +6,8 @@ use Rattle.spec_trees.specs.declared.tree.Leaf.{Leaf}
 use Rattle.spec_trees.specs.Tree.{IsValid, Rules, leaves, mark_of}
 use Rattle.spec_pool.specs.declared.ledger.SeatHistory.{SeatHistory}
 use Rattle.spec_pool.specs.declared.ledger.LedgerTerms.{LedgerTerms}
+use Rattle.spec_pool.specs.declared.ledger.Entry.{Entry}
+use Rattle.spec_pool.specs.declared.ledger.Entry.TheVariants.{Entered, Again, Full as NoRoom, Memory as NoMemory}
 use Rattle.spec_pool.specs.History.{Fresh}
 use Rattle.spec_pool.specs.Accounts.{Account, Balances, TakesNode, TakesTop}
 use Rattle.steal_pool.specs.declared.seat.PoolError.{PoolError}
@@ -108,6 +110,13 @@ pub record IsFullOf (t : Rules) (leaf : Leaf) (s : Seat) : Type 0 where
 abbrev pub IfFull : Stop → (Leaf → Type 0) → Type 0
 IfFull (Full leaf) P = P leaf
 IfFull Memory P = ⊤
+
+-- why a seat stops once the ledger has answered this for a leaf, if it does
+abbrev pub stop_at : Entry → Leaf → Option Stop
+stop_at (Entered place) leaf = None
+stop_at (Again place) leaf = None
+stop_at NoRoom leaf = Some (Full leaf)
+stop_at NoMemory leaf = Some Memory
 
 -- it stopped, as the ledger was full for a leaf
 abbrev pub IsFull : Rules → Seat → Type 0

@@ -5,8 +5,10 @@ ghost use Rattle.spec_trees.specs.declared.tree.Node.{Node};
 ghost use Rattle.spec_trees.specs.Tree.{leaves};
 ghost use Rattle.steal_pool.specs.Seats.{IsLeft};
 ghost use Rattle.steal_pool.specs.Closing.{Drains, Ended, Leaves, worse, worst_stop};
+ghost use Rattle.steal_pool.specs.declared.seat.Stop.TheVariants.{Full};
 ghost use Rattle.steal_pool.specs.Pools.{AccountFor, AreLinked, ComeBack, IfTooMany, IsLeftOver, IsRefused, KeepNone, NoneIsOutOfMemory, entered_in};
 
+use crate::adding::add;
 use crate::joining::join_all;
 use crate::seat::{PoolSeat, Stop};
 use crate::view::Naming;
@@ -62,9 +64,11 @@ fn worse(first: Option<Stop>, second: Option<Stop>) -> Option<Stop>
 fn worst_stop<'p, N: Naming, J: Judge, G: Gate>(seats: &[PoolSeat<'p, N, J, G>]) -> Option<Stop>
     ensures { result ≡ worst_stop seats.now }
 {
-    seats
-        .iter()
-        .fold(None, |worst, seat| worse(worst, seat.stop()))
+    let mut worst = None;
+    for seat in seats {
+        worst = worse(worst, seat.stop());
+    }
+    worst
 }
 
 // Whether no seat stopped.
@@ -109,11 +113,25 @@ fn leave_all<'p, N: Naming, J: Judge, G: Gate>(
 {
     let mut entries = Vec::new(alloc);
     for seat in seats {
-        let Ok(_) = entries.push(seat.leave()) else {
-            return Err(Memory);
-        };
+        add(&mut entries, seat.leave())?;
     }
     Ok(entries)
+}
+
+// The ledger's seats, or why the pool was not ended, by the worst of why its seats stopped.
+fn outcome(worst: Option<Stop>, entries: Vec<LedgerSeat>) -> Result<Vec<LedgerSeat>, FinishError>
+    ensures back { IfOk result (λ v. (v.items ≡ entries.items) × (worst ≡ None)) }
+    ensures too_many { IfErr result (λ e. IfTooMany e
+        (λ es leaf. (es ≡ entries.items) × (worst ≡ Some (Full leaf)))) }
+{
+    match worst {
+        Some(Stop::Full(leaf)) => Err(FinishError::TooMany {
+            seats: entries,
+            leaf,
+        }),
+        Some(Stop::Memory) => Err(FinishError::Memory),
+        None => Ok(entries),
+    }
 }
 
 /// Ends a pool, whose seats have all worked, and hands the ledger's seats back in order. Every stealer is joined. Where
@@ -142,12 +160,5 @@ pub fn finish<'p, R: Wait, N: Naming, J: Judge, G: Gate>(
     let Ok(entries) = leave_all(alloc, seats) else {
         return Err(FinishError::Memory);
     };
-    match worst {
-        Some(Stop::Full(leaf)) => Err(FinishError::TooMany {
-            seats: entries,
-            leaf,
-        }),
-        Some(Stop::Memory) => Err(FinishError::Memory),
-        None => Ok(entries),
-    }
+    outcome(worst, entries)
 }

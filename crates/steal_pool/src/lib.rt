@@ -16,6 +16,7 @@
 //! it, whatever the other threads do meanwhile, and `Naming`, by which that rule, a type, speaks of the judge's nodes.
 #![tactic(auto)]
 
+mod adding;
 mod finishing;
 mod joining;
 mod making;

@@ -9,6 +9,7 @@ ghost use Rattle.steal_pool.specs.Pools.{AccountFor, AllBegin, AreLinked, CanMak
 ghost use Rattle.steal_pool.specs.Workers.{new_stealer};
 ghost use Rattle.steal_pool.specs.Stealers.{Linking, Links, LinksOther, Opens, gained, lent};
 
+use crate::adding::add;
 use crate::seat::PoolSeat;
 use crate::stealer::Stealer;
 use crate::view::Naming;
@@ -89,9 +90,7 @@ fn open_seats<'p, N: Naming, J: Judge, G: Gate>(
     for entry in entries {
         let hand = first_hand(root, entry.number());
         let seat = PoolSeat::new(alloc, judge, ledger, entry, hand, gate)?;
-        let Ok(_) = seats.push(seat) else {
-            return Err(Memory);
-        };
+        add(&mut seats, seat)?;
     }
     Ok(seats)
 }

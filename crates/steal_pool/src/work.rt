@@ -6,7 +6,7 @@ ghost use Rattle.spec_trees.specs.declared.tree.Verdict.TheVariants.{Split};
 ghost use Rattle.spec_pool.specs.Accounts.{EntersNode, KeepsRight, PutsRight};
 ghost use Rattle.steal_pool.specs.Rule.{IsUsedUp};
 ghost use Rattle.steal_pool.specs.Workers.{FindsNone, IsRight, Takes};
-ghost use Rattle.steal_pool.specs.Seats.{Changes, Gets, IfFull, IsFull, IsFullOf, IsHolding, IsLeft, IsStoppedBy, SameSeat, Works, with_refusal};
+ghost use Rattle.steal_pool.specs.Seats.{Changes, Gets, IfFull, IsFull, IsFullOf, IsHolding, IsLeft, IsStoppedBy, SameSeat, Works, stop_at, with_refusal};
 ghost use Rattle.steal_pool.specs.declared.worker.Pushed.TheVariants.{OnDeque, Kept, Memory};
 ghost use Rattle.steal_pool.specs.declared.seat.PoolError.TheVariants.{TooMany};
 ghost use Rattle.steal_pool.specs.declared.seat.Stop.TheVariants.{Memory as OutOfMemory};
@@ -19,6 +19,17 @@ use halving::{Judge, Mark, Node, rules_are_sound};
 use spec_pool::Entry;
 use spec_trees::Leaf;
 use std::sync::Wait;
+
+// Why a seat stops once the ledger has answered this for a leaf, if it does.
+fn stop_at(entry: Entry, leaf: Leaf) -> Option<Stop>
+    ensures { result ≡ stop_at entry leaf }
+{
+    match entry {
+        Entry::Entered { place: _ } | Entry::Again { place: _ } => None,
+        Entry::Full => Some(Stop::Full(leaf)),
+        Entry::Memory => Some(Stop::Memory),
+    }
+}
 
 impl<'p, N: Naming, J: Judge, G: Gate> PoolSeat<'p, N, J, G> {
     /// Puts the right part of the node in the hand, which is to be split, at the back of the own deque (`OnDeque`) or on
@@ -92,17 +103,13 @@ impl<'p, N: Naming, J: Judge, G: Gate> PoolSeat<'p, N, J, G> {
         ensures full { IfErr result (λ stop. IfFull stop (λ leaf. IsFullOf N.rules leaf self.new)) }
     {
         rules_are_sound(self.judge);
-        match self.ledger.enter(rt, &mut self.entries, leaf) {
-            Entry::Entered { place: _ } => {
+        let entry = self.ledger.enter(rt, &mut self.entries, leaf);
+        match stop_at(entry, leaf) {
+            Some(stop) => Err(stop),
+            None => {
                 self.worker.clear_hand();
                 Ok(())
             }
-            Entry::Again { place: _ } => {
-                self.worker.clear_hand();
-                Ok(())
-            }
-            Entry::Full => Err(Stop::Full(leaf)),
-            Entry::Memory => Err(Stop::Memory),
         }
     }
 
@@ -151,6 +158,25 @@ impl<'p, N: Naming, J: Judge, G: Gate> PoolSeat<'p, N, J, G> {
         }
     }
 
+    // The node in the hand, or else the next one, which is taken into it.
+    fn next_node(&mut self) -> Option<Node>
+        ensures hand { result ≡ self.new.worker.hand }
+        ensures valid { IfSome result (IsValid N.rules) }
+        ensures kept { IfNone result (self.new.worker.kept ≡ []) }
+        ensures used_up { IfNone result (IsUsedUp self.new.worker.own.view) }
+        ensures works { Works N.rules self.old self.new }
+        ensures same { SameSeat self.old self.new }
+        ensures refusal { self.new.refusal ≡ self.old.refusal }
+    {
+        match self.node() {
+            Some(node) => Some(node),
+            None => match self.take() {
+                Some(_) => self.node(),
+                None => None,
+            },
+        }
+    }
+
     /// Works on the node in the hand and on all that it takes, until it finds none or is refused. The gate is passed
     /// before each judging. After a refusal the hand still holds the node that was being worked on, and the seat keeps
     /// why it stopped, with the leaf for which the ledger was full. It waits for the ledger's lock.
@@ -168,19 +194,14 @@ impl<'p, N: Naming, J: Judge, G: Gate> PoolSeat<'p, N, J, G> {
         ensures left { IsLeft N.rules self.new }
     {
         for _ in rt.forever() {
-            match self.node() {
+            match self.next_node() {
                 Some(node) => {
                     if let Err(stop) = self.step(rt, node) {
                         self.refuse(stop);
                         return Err(stop.error());
                     }
                 }
-                None => {
-                    match self.take() {
-                        Some(_) => {}
-                        None => return Ok(()),
-                    }
-                }
+                None => return Ok(()),
             }
         }
         unreachable!()

@@ -6,6 +6,7 @@ ghost use Rattle.steal_pool.specs.Rule.{HasLeft, IsOldest, IsUsedUp};
 ghost use Rattle.steal_pool.specs.Workers.{FindsNone, IsNew, IsSplit, TookOne, Takes, TakesKept, TakesOther, TakesOwn, Gives, gains, joins, lends, after_empty_pop, new_stealer, on_deque, on_stack, with_hand};
 ghost use Rattle.steal_pool.specs.declared.worker.Pushed.TheVariants.{OnDeque, Kept, Memory as OutOfMemory};
 
+use crate::adding::add;
 use crate::stealer::{Attempts, Stealer};
 use crate::view::{Balance, DequeView, Naming, Puts, StealerSplits, Takes as TakesFront};
 use crossbeam_deque::Worker as Deque;
@@ -241,10 +242,7 @@ impl<N: Naming> Worker<N> {
     pub fn keep_stealer(&mut self, stealer: Stealer<N>) -> Result<(), Memory>
         ensures { OnOk result (self.new ≡ gains self.old stealer) }
     {
-        let Ok(_) = self.stealers.push(stealer) else {
-            return Err(Memory);
-        };
-        Ok(())
+        add(&mut self.stealers, stealer)
     }
 
     /// Gives its last stealer away, if it has one.

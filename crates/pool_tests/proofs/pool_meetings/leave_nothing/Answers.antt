@@ -4,7 +4,7 @@ use Rattle.steal_pool.specs.Seats.{Seat}
 use Rattle.steal_pool.proofs.Returning.{begin_free}
 use Rattle.pool_tests.proofs.pool_meetings.leave_nothing.Goals as goal
 
-pub push_and_work-requires-clause-free : goal.push_and_work-requires-clause-free
-push_and_work-requires-clause-free g c κs within =
+pub push_and_work-pushed-requires-clause-free : goal.push_and_work-pushed-requires-clause-free
+push_and_work-pushed-requires-clause-free g c κs within =
     begin_free c.args.ledger.now c.span-root.result c.as_mut_slice.result.now
     (subst (λ (ss : List Seat). AllBegin c.args.ledger.now c.span-root.result ss) (sym c.as_mut_slice.ensures.value) c.in-Ok.ensures.begin)

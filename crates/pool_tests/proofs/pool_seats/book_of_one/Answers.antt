@@ -6,16 +6,16 @@ use Rattle.steal_pool.proofs.Returning.{begin_free, come_back, same_seats}
 use Rattle.pool_tests.proofs.Seats.{all_ours, free_last, same_all, same_last}
 use Rattle.pool_tests.proofs.pool_seats.book_of_one.Goals as goal
 
-pub push_stairs-requires : goal.push_stairs-requires
-push_stairs-requires g c = record {
+pub push_stairs-pushed-requires : goal.push_stairs-pushed-requires
+push_stairs-pushed-requires g c = record {
   named = (span (pos 0) (pos 100), c.requires.pool.named);
   free = (free_last c.in-Ok.seats.items c.pop.new.self.items c.in-Some.seat (begin_free c.args.ledger c.span-root.result c.in-Ok.seats.items c.in-Ok.ensures.begin) c.in-Some.ensures.items).1;
 }
 
 pub close-requires : goal.close-requires
 close-requires g c =
-    let same = same_last c.in-Ok.seats.items c.push.new.self.items c.pop.new.self.items c.pop.new.self.items c.in-Some.seat c.push_stairs.new.seat
-    (same_all c.pop.new.self.items) c.push_stairs.ensures.same c.in-Some.ensures.items c.in-Ok-push.ensures.items in
+    let same = same_last c.in-Ok.seats.items c.push.new.self.items c.pop.new.self.items c.pop.new.self.items c.in-Some.seat c.push_stairs-pushed.new.seat
+    (same_all c.pop.new.self.items) c.push_stairs-pushed.ensures.same c.in-Some.ensures.items c.in-Ok-push.ensures.items in
     all_ours c.args.ledger c.in-Ok-finish.entries.items (come_back c.args.ledger c.push.new.self.items
     (same_seats c.args.ledger c.span-root.result c.in-Ok.seats.items c.push.new.self.items c.in-Ok.ensures.begin same)
     (zip_length SameSeat c.in-Ok.seats.items c.push.new.self.items same ∙ c.in-Ok.ensures.count ∙ c.requires.pool.all)

@@ -1,29 +1,31 @@
-use Rattle.std.proofs.Common.{List, Some, sym, subst, ap, ◌∙◌, rules}
+use Rattle.std.proofs.Common.{◌≡◌, List, length, sym, subst, ap, ◌∙◌}
 use Rattle.std.specs.List.{AllZip}
-use Rattle.std.proofs.lemmas.List.{with_items_is, places}
+use Rattle.std.proofs.lemmas.List.{with_items_is}
 use Rattle.steal_pool.specs.Seats.{Seat}
 use Rattle.steal_pool.specs.Closing.{Ended, Leaves, worst_stop}
-use Rattle.steal_pool.proofs.Ending.{all_entered, come_back, some_left_over, some_refused, worst_is_full}
-use Rattle.steal_pool.proofs.Stopping.{none_stopped}
+use Rattle.steal_pool.specs.Pools.{right_of}
+use Rattle.steal_pool.proofs.Listing.{map_length}
+use Rattle.steal_pool.proofs.Outcomes.{all_back, back, free, if_ok, if_too_many, left_over, memory, refused}
 use Rattle.steal_pool.proofs.finishing.finish.Goals as goal
 
-pub returns-in-Some-Full-clause-too_many : goal.returns-in-Some-Full-clause-too_many
-returns-in-Some-Full-clause-too_many g c = come_back g.N.Naming.rules c.args.seats.items c.end_work.new.seats c.in-Ok.entries.items (subst (λ (ss : List Seat). Ended g.N.Naming.rules ss c.end_work.new.seats) c.as_mut_slice.ensures.value c.end_work.ensures) (subst (λ (ss : List Seat). AllZip Leaves ss c.in-Ok.entries.items) (with_items_is c.args.seats c.end_work.new.seats (search (rules, places))) c.in-Ok.ensures)
-
-pub returns-in-Some-Full-clause-memory : goal.returns-in-Some-Full-clause-memory
-returns-in-Some-Full-clause-memory g c = let d = (subst (λ (ss : List Seat). Ended g.N.Naming.rules ss c.end_work.new.seats) c.as_mut_slice.ensures.value c.end_work.ensures) in d.memory (worst_is_full g.N.Naming.rules c.end_work.new.seats c.in-Some-Full.leaf d.left (sym (c.worst_stop-worst.ensures ∙ ap worst_stop (c.as_slice.ensures.value ∙ (with_items_is c.args.seats c.end_work.new.seats (search (rules, places))))) ∙ c.in-Some-Full.is ∙ ap Some (rw c.in-Some-Full.is at c.in-Some-Full.field-0-is))).0
-
-pub returns-in-Some-Full-clause-refused : goal.returns-in-Some-Full-clause-refused
-returns-in-Some-Full-clause-refused g c = let d = (subst (λ (ss : List Seat). Ended g.N.Naming.rules ss c.end_work.new.seats) c.as_mut_slice.ensures.value c.end_work.ensures) in some_refused g.N.Naming.rules c.args.seats.items c.end_work.new.seats c.in-Ok.entries.items c.in-Some-Full.leaf d (subst (λ (ss : List Seat). AllZip Leaves ss c.in-Ok.entries.items) (with_items_is c.args.seats c.end_work.new.seats (search (rules, places))) c.in-Ok.ensures) (worst_is_full g.N.Naming.rules c.end_work.new.seats c.in-Some-Full.leaf d.left (sym (c.worst_stop-worst.ensures ∙ ap worst_stop (c.as_slice.ensures.value ∙ (with_items_is c.args.seats c.end_work.new.seats (search (rules, places))))) ∙ c.in-Some-Full.is ∙ ap Some (rw c.in-Some-Full.is at c.in-Some-Full.field-0-is))).1
-
-pub returns-in-Some-Full-clause-left_over : goal.returns-in-Some-Full-clause-left_over
-returns-in-Some-Full-clause-left_over g c = λ root a. let d = (subst (λ (ss : List Seat). Ended g.N.Naming.rules ss c.end_work.new.seats) c.as_mut_slice.ensures.value c.end_work.ensures) in some_left_over g.N.Naming.rules c.args.seats.items c.end_work.new.seats c.in-Ok.entries.items c.in-Some-Full.leaf d (subst (λ (ss : List Seat). AllZip Leaves ss c.in-Ok.entries.items) (with_items_is c.args.seats c.end_work.new.seats (search (rules, places))) c.in-Ok.ensures) (worst_is_full g.N.Naming.rules c.end_work.new.seats c.in-Some-Full.leaf d.left (sym (c.worst_stop-worst.ensures ∙ ap worst_stop (c.as_slice.ensures.value ∙ (with_items_is c.args.seats c.end_work.new.seats (search (rules, places))))) ∙ c.in-Some-Full.is ∙ ap Some (rw c.in-Some-Full.is at c.in-Some-Full.field-0-is))).1 root a
-
-pub returns-in-None-clause-back : goal.returns-in-None-clause-back
-returns-in-None-clause-back g c = come_back g.N.Naming.rules c.args.seats.items c.end_work.new.seats c.in-Ok.entries.items (subst (λ (ss : List Seat). Ended g.N.Naming.rules ss c.end_work.new.seats) c.as_mut_slice.ensures.value c.end_work.ensures) (subst (λ (ss : List Seat). AllZip Leaves ss c.in-Ok.entries.items) (with_items_is c.args.seats c.end_work.new.seats (search (rules, places))) c.in-Ok.ensures)
-
-pub returns-in-None-clause-free : goal.returns-in-None-clause-free
-returns-in-None-clause-free g c = let d = (subst (λ (ss : List Seat). Ended g.N.Naming.rules ss c.end_work.new.seats) c.as_mut_slice.ensures.value c.end_work.ensures) in d.free (none_stopped c.end_work.new.seats (sym (c.worst_stop-worst.ensures ∙ ap worst_stop (c.as_slice.ensures.value ∙ (with_items_is c.args.seats c.end_work.new.seats (search (rules, places))))) ∙ c.in-None.is))
-
-pub returns-in-None-clause-leaves : goal.returns-in-None-clause-leaves
-returns-in-None-clause-leaves g c = λ root a. all_entered g.N.Naming.rules c.args.seats.items c.end_work.new.seats c.in-Ok.entries.items (subst (λ (ss : List Seat). Ended g.N.Naming.rules ss c.end_work.new.seats) c.as_mut_slice.ensures.value c.end_work.ensures) (subst (λ (ss : List Seat). AllZip Leaves ss c.in-Ok.entries.items) (with_items_is c.args.seats c.end_work.new.seats (search (rules, places))) c.in-Ok.ensures) (none_stopped c.end_work.new.seats (sym (c.worst_stop-worst.ensures ∙ ap worst_stop (c.as_slice.ensures.value ∙ (with_items_is c.args.seats c.end_work.new.seats (search (rules, places))))) ∙ c.in-None.is)) root a
+pub returns : goal.returns
+returns g c =
+    let t = g.N.Naming.rules in
+    let ss = c.args.seats.items in
+    let qs = c.end_work.new.seats in
+    let es = c.in-Ok.entries.items in
+    let d : Ended t ss qs = subst (λ (xs : List Seat). Ended t xs qs) c.as_mut_slice.ensures.value c.end_work.ensures in
+    let len : length qs ≡ c.args.seats.len = map_length right_of ss qs d.rights ∙ sym c.args.seats.ok.0 in
+    let items = with_items_is c.args.seats qs len in
+    let b : AllZip Leaves qs es = subst (λ (xs : List Seat). AllZip Leaves xs es) items c.in-Ok.ensures in
+    let worst = c.worst_stop-worst.result in
+    let w : worst ≡ worst_stop qs = c.worst_stop-worst.ensures ∙ ap worst_stop (c.as_slice.ensures.value ∙ items) in
+    record {
+      back = if_ok c.outcome.result _ _ c.outcome.ensures.back (λ v is. back t ss qs es worst d b w v.items is.0);
+      free = if_ok c.outcome.result _ _ c.outcome.ensures.back (λ v is. free t ss qs es worst d b w is.1);
+      leaves = λ root a. if_ok c.outcome.result _ _ c.outcome.ensures.back (λ v is. all_back t ss qs es worst d b w v.items is.0 is.1 root a);
+      too_many = if_too_many c.outcome.result _ _ c.outcome.ensures.too_many (λ vs leaf is. back t ss qs es worst d b w vs is.0);
+      memory = if_too_many c.outcome.result _ _ c.outcome.ensures.too_many (λ vs leaf is. memory t ss qs es worst d b w leaf is.1);
+      refused = if_too_many c.outcome.result _ _ c.outcome.ensures.too_many (λ vs leaf is. refused t ss qs es worst d b w vs leaf is.0 is.1);
+      left_over = λ root a. if_too_many c.outcome.result _ _ c.outcome.ensures.too_many (λ vs leaf is. left_over t ss qs es worst d b w vs leaf is.0 is.1 root a);
+    }

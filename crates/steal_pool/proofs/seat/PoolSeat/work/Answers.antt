@@ -1,39 +1,58 @@
-use Rattle.std.proofs.Common.{refl, ◌∙◌}
-use Rattle.steal_pool.proofs.Entering.{same_more, seat_idle, seat_more, seat_refused}
+use Rattle.std.proofs.Common.{refl, sym, ap, ◌∙◌}
+use Rattle.steal_pool.specs.Seats.{Seat}
+use Rattle.steal_pool.proofs.Entering.{same_more, same_refused, seat_idle, seat_more, seat_refused}
 use Rattle.steal_pool.proofs.Stopping.{left_done, left_refused, stopped_by, too_many_is_full}
 use Rattle.steal_pool.proofs.seat.PoolSeat.work.Goals as goal
 
 pub loop-init : goal.loop-init
 loop-init g c = record { works = seat_idle g.N.Naming.rules c.args.self.now; same = record { ways = refl; table = refl; terms = refl; number = refl }; free = c.requires.free }
 
-pub returns-in-Err-clause-works : goal.returns-in-Err-clause-works
-returns-in-Err-clause-works g c = seat_refused g.N.Naming.rules c.args.self.now c.loop.self c.step.new.self c.refuse.new.self _ c.loop.invariant.works c.step.ensures.works c.refuse.ensures
-
-pub loop-preserved-in_default : goal.loop-preserved-in_default
-loop-preserved-in_default g c = record {
-  works = seat_more g.N.Naming.rules c.args.self.now c.loop.self c.step.new.self c.loop.invariant.works c.step.ensures.works;
-  same = same_more c.args.self.now c.loop.self c.step.new.self c.loop.invariant.same c.step.ensures.same;
-  free = c.step.ensures.refusal ∙ c.loop.invariant.free;
-}
-
 pub loop-preserved : goal.loop-preserved
 loop-preserved g c = record {
-  works = seat_more g.N.Naming.rules c.args.self.now c.loop.self c.take.new.self c.loop.invariant.works c.take.ensures.works;
-  same = same_more c.args.self.now c.loop.self c.take.new.self c.loop.invariant.same c.take.ensures.same;
-  free = c.take.ensures.refusal ∙ c.loop.invariant.free;
+  works = seat_more g.N.Naming.rules c.args.self.now c.next_node.new.self c.step.new.self (seat_more g.N.Naming.rules c.args.self.now c.loop.self c.next_node.new.self c.loop.invariant.works c.next_node.ensures.works) c.step.ensures.works;
+  same = same_more c.args.self.now c.next_node.new.self c.step.new.self (same_more c.args.self.now c.loop.self c.next_node.new.self c.loop.invariant.same c.next_node.ensures.same) c.step.ensures.same;
+  free = c.step.ensures.refusal ∙ c.next_node.ensures.refusal ∙ c.loop.invariant.free;
 }
 
-pub returns-in-None-take-clause-works : goal.returns-in-None-take-clause-works
-returns-in-None-take-clause-works g c = seat_more g.N.Naming.rules c.args.self.now c.loop.self c.take.new.self c.loop.invariant.works c.take.ensures.works
+pub returns-in-None-next_node-clause-works : goal.returns-in-None-next_node-clause-works
+returns-in-None-next_node-clause-works g c = seat_more g.N.Naming.rules c.args.self.now c.loop.self c.next_node.new.self c.loop.invariant.works c.next_node.ensures.works
 
-pub returns-in-Err-clause-left : goal.returns-in-Err-clause-left
-returns-in-Err-clause-left g c = left_refused g.N.Naming.rules c.step.new.self c.refuse.new.self c.in-Err.stop c.refuse.ensures c.in-Err.ensures.full
+pub returns-in-None-next_node-clause-same : goal.returns-in-None-next_node-clause-same
+returns-in-None-next_node-clause-same g c = same_more c.args.self.now c.loop.self c.next_node.new.self c.loop.invariant.same c.next_node.ensures.same
 
-pub returns-in-None-take-clause-left : goal.returns-in-None-take-clause-left
-returns-in-None-take-clause-left g c = left_done g.N.Naming.rules c.take.new.self (c.take.ensures.refusal ∙ c.loop.invariant.free) c.in-None-take.ensures.hand c.in-None-take.ensures.kept.1
+pub returns-in-None-next_node-clause-hand : goal.returns-in-None-next_node-clause-hand
+returns-in-None-next_node-clause-hand g c = sym c.in-None-next_node.ensures.hand
+
+pub returns-in-None-next_node-clause-kept : goal.returns-in-None-next_node-clause-kept
+returns-in-None-next_node-clause-kept g c = c.in-None-next_node.ensures.kept
+
+pub returns-in-None-next_node-clause-used_up : goal.returns-in-None-next_node-clause-used_up
+returns-in-None-next_node-clause-used_up g c = c.in-None-next_node.ensures.used_up
+
+pub returns-in-None-next_node-clause-free : goal.returns-in-None-next_node-clause-free
+returns-in-None-next_node-clause-free g c = c.next_node.ensures.refusal ∙ c.loop.invariant.free
+
+pub returns-in-None-next_node-clause-left : goal.returns-in-None-next_node-clause-left
+returns-in-None-next_node-clause-left g c = left_done g.N.Naming.rules c.next_node.new.self (c.next_node.ensures.refusal ∙ c.loop.invariant.free) (sym c.in-None-next_node.ensures.hand) c.in-None-next_node.ensures.kept
+
+pub returns-in-Err-clause-works : goal.returns-in-Err-clause-works
+returns-in-Err-clause-works g c =
+    seat_refused g.N.Naming.rules c.args.self.now c.next_node.new.self c.step.new.self c.refuse.new.self _
+    (seat_more g.N.Naming.rules c.args.self.now c.loop.self c.next_node.new.self c.loop.invariant.works c.next_node.ensures.works) c.step.ensures.works c.refuse.ensures
+
+pub returns-in-Err-clause-same : goal.returns-in-Err-clause-same
+returns-in-Err-clause-same g c =
+    same_refused c.args.self.now c.step.new.self c.refuse.new.self _
+    (same_more c.args.self.now c.next_node.new.self c.step.new.self (same_more c.args.self.now c.loop.self c.next_node.new.self c.loop.invariant.same c.next_node.ensures.same) c.step.ensures.same) c.refuse.ensures
 
 pub returns-in-Err-clause-refusal : goal.returns-in-Err-clause-refusal
 returns-in-Err-clause-refusal g c = stopped_by g.N.Naming.rules c.step.new.self c.refuse.new.self c.in-Err.stop c.refuse.ensures c.in-Err.ensures.full c.error.result c.error.ensures
 
+pub returns-in-Err-clause-holds : goal.returns-in-Err-clause-holds
+returns-in-Err-clause-holds g c = (c.in-Some-next_node.node, ap (λ (s : Seat). s.worker.hand) c.refuse.ensures ∙ c.in-Err.ensures.holds ∙ sym c.in-Some-next_node.ensures.hand)
+
 pub returns-in-Err-clause-full : goal.returns-in-Err-clause-full
 returns-in-Err-clause-full g c = too_many_is_full g.N.Naming.rules c.step.new.self c.refuse.new.self c.in-Err.stop c.refuse.ensures c.in-Err.ensures.full c.error.result c.error.ensures
+
+pub returns-in-Err-clause-left : goal.returns-in-Err-clause-left
+returns-in-Err-clause-left g c = left_refused g.N.Naming.rules c.step.new.self c.refuse.new.self c.in-Err.stop c.refuse.ensures c.in-Err.ensures.full

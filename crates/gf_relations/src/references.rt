@@ -1,6 +1,7 @@
 // The times that are at least each reference.
 ghost use Rattle.std.specs.Prelude.{◌≡◌, ◌<◌, ◌≤◌, IfErr, IfOk, None, OnOk, true, unwrap_or};
 ghost use Rattle.spec_kinds.specs.Faults.{fault_of};
+ghost use Rattle.spec_kinds.specs.Kinds.{event_of};
 ghost use Rattle.spec_requests.specs.declared.limits.TheConstants.{MAX_WORKERS};
 ghost use Rattle.spec_requests.specs.declared.request.Relation.{Relation};
 ghost use Rattle.spec_outcomes.specs.Queries.{is_within, search};
@@ -9,6 +10,7 @@ ghost use Rattle.gf_relations.specs.Reached.{AreReached};
 
 use crate::reached::reached;
 use eph_model::Ephemeris;
+use event_kinds::Event;
 use gf_edges::Gate;
 use gf_query::event_of;
 use gf_sets::Pair;
@@ -81,6 +83,45 @@ fn about_one<R: Threads + Wait + Sync, G: Gate>(
     })
 }
 
+// The times of a span that are at least the reference of each of two queries, by searches for their events, which have no
+// fault, or why there are none.
+fn both_reached<R: Threads + Wait + Sync, G: Gate>(
+    rt: &R,
+    alloc: Global,
+    ephemeris: &Ephemeris,
+    query: &Query,
+    event: &Event,
+    other: &Query,
+    others: &Event,
+    span: Span,
+    workers: u32,
+    gate: &G,
+) -> Result<Both, Refusal>
+    requires some { 1 ≤ workers }
+    requires workers { workers ≤ MAX_WORKERS }
+    requires block { 0 < ephemeris.now.blocks }
+    requires query { IsSetQuery query.now }
+    requires sound { fault_of ephemeris.now query.now.ask ≡ None }
+    requires event { event.now ≡ event_of query.now.ask }
+    requires other { IsSetQuery other.now }
+    requires other_sound { fault_of ephemeris.now other.now.ask ≡ None }
+    requires others { others.now ≡ event_of other.now.ask }
+    requires within { is_within span ephemeris.now ≡ true }
+    ensures first { IfOk result (λ both. AreReached (search query.now ephemeris.now)
+        span both.first.sure both.first.maybe) }
+    ensures second { IfOk result (λ both. AreReached (search other.now ephemeris.now) span
+        (unwrap_or both.second both.first).sure (unwrap_or both.second both.first).maybe) }
+    ensures stopped { IfErr result (λ refusal. (relation : Relation)
+        → SetStops relation query.now other.now ephemeris.now span refusal) }
+{
+    let first = reached(rt, alloc, ephemeris, query, event, span, workers, gate)?;
+    let second = reached(rt, alloc, ephemeris, other, others, span, workers, gate)?;
+    Ok(Both {
+        first,
+        second: Some(second),
+    })
+}
+
 // The times of a span that are at least the reference of each of two queries, or why there are none. A fault of either is
 // looked for before any search, that of the first before that of the second.
 fn about_two<R: Threads + Wait + Sync, G: Gate>(
@@ -110,12 +151,9 @@ fn about_two<R: Threads + Wait + Sync, G: Gate>(
 {
     let event = event_of(alloc, ephemeris, query)?;
     let others = event_of(alloc, ephemeris, other)?;
-    let first = reached(rt, alloc, ephemeris, query, &event, span, workers, gate)?;
-    let second = reached(rt, alloc, ephemeris, other, &others, span, workers, gate)?;
-    Ok(Both {
-        first,
-        second: Some(second),
-    })
+    both_reached(
+        rt, alloc, ephemeris, query, &event, other, &others, span, workers, gate,
+    )
 }
 
 /// The times of a span that are at least the reference of a query, and those that are at least the second one, or why

@@ -1,17 +1,18 @@
 -- A walk over leaves that gives each time its sign.
-use Rattle.std.proofs.Common.{◌≡◌, List, [], ◌∷◌, ℤ, pos, ◌+ℤ◌, ◌-ℤ◌, ◌≤ℤ◌, ◌<ℤ◌, refl, sym, ◌∙◌, subst, ℕ, ◌+◌, ◌<◌, ◌≤◌, length, drop, get_or, arith}
+use Rattle.std.proofs.Common.{◌≡◌, List, [], ◌∷◌, ℤ, pos, ◌+ℤ◌, ◌-ℤ◌, ◌≤ℤ◌, ◌<ℤ◌, refl, ap, sym, ◌∙◌, subst, ℕ, ◌+◌, ◌<◌, ◌≤◌, length, drop, get_or, arith}
 use Rattle.std.proofs.lemmas.Int.{ints}
 use Rattle.spec_intervals.specs.declared.signs.Sign.{Sign}
 use Rattle.spec_trees.specs.declared.tree.Leaf.{Leaf}
 use Rattle.spec_trees.specs.declared.tree.Mark.TheVariants.{Clear}
 use Rattle.spec_trees.specs.Tree.{Covers}
 use Rattle.spec_trees.proofs.Placing.{covers_forward}
-use Rattle.spec_sets.specs.Spans.{IsAfterAll, Span}
+use Rattle.spec_sets.specs.Spans.{IsAfterAll, Span, has}
 use Rattle.spec_sets.specs.Pairs.{AreOf}
 use Rattle.spec_sets.specs.Signs.{Follow, end_from, sign_in, sign_of_leaves}
 use Rattle.spec_sets.proofs.Members.{le_not, le_test}
 use Rattle.gf_sets.specs.Adding.{AreAdded}
 use Rattle.gf_sets.specs.Walking.{IsWalked, begins}
+use Rattle.std.proofs.lemmas.Bool.{false≢true}
 use Rattle.std.proofs.lemmas.List.{drop_all}
 use Rattle.gf_sets.proofs.Pairs.{ends_before, longer_by, none_yet}
 use Rattle.gf_sets.proofs.Reading.{split_at}
@@ -83,6 +84,10 @@ module _ (point : ℤ → Sign) (from upto : ℤ) (leaves : List Leaf) (l : Leaf
 abbrev pub filler : Leaf
 filler = record { node = record { a = pos 0; b = pos 0; depth = 0 }; mark = Clear }
 
+-- no times come before any
+pub none_before : (spans : List Span) (first : ℤ) → spans ≡ [] → IsAfterAll spans first
+none_before spans first none = λ t is. absurd (false≢true (sym (ap (λ (xs : List Span). has xs t) none) ∙ is))
+
 -- the two sets after the first time
 pub first_are : (point : ℤ → Sign) (from : ℤ) (leaves : List Leaf) (x : Sign) (none nothing s m : List Span) → none ≡ [] → nothing ≡ [] → x ≡ point from
     → AreAdded (λ t. x) from from none nothing s m → AreOf (sign_of_leaves point from leaves) from from s m
@@ -111,13 +116,19 @@ module _ (point : ℤ → Sign) (read from : ℤ) (same : read ≡ from) (leaves
     walked : IsWalked point from (end_from from leaves) leaves (here ∷ drop (i + 1) leaves) sure maybe
     walked = leaf_here filler within
 
+    pub here_wide : here.node.a <ℤ here.node.b
+    here_wide = leaf_wide point from (end_from from leaves) leaves here (drop (i + 1) leaves) sure maybe walked
+
+    pub here_from : from ≤ℤ here.node.a
+    here_from = leaf_after point from (end_from from leaves) leaves here (drop (i + 1) leaves) sure maybe walked
+
     pub here_upto : here.node.b ≤ℤ end_from from leaves
     here_upto = leaf_upto point from (end_from from leaves) leaves here (drop (i + 1) leaves) sure maybe walked
 
     pub here_after : from ≤ℤ here.node.b
     here_after =
-        let wide = leaf_wide point from (end_from from leaves) leaves here (drop (i + 1) leaves) sure maybe walked in
-        let after = leaf_after point from (end_from from leaves) leaves here (drop (i + 1) leaves) sure maybe walked in
+        let wide = here_wide in
+        let after = here_from in
         omega (arith, ints, wide, after)
 
     pub sets_before : IsAfterAll sure (here.node.a +ℤ pos 1) × IsAfterAll maybe (here.node.a +ℤ pos 1)

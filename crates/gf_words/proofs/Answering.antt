@@ -1,5 +1,6 @@
 -- What is answered, from what was read.
 use Rattle.std.proofs.Common.{◌≡◌, ◌∙◌, ◌⊎◌, ◌++◌, [], true, false, List, Result, Some, Ok, Err, refl, sym, ap, subst, inl, inr, codes, Option, option_and_then, unwrap_or}
+use Rattle.std.specs.Prelude.{IfErr, IfOk}
 use Rattle.clap.specs.Walk.{all_of, first_of}
 use Rattle.clap.specs.Simple.{App}
 use Rattle.clap.specs.Faults.{is_simple_and_free}
@@ -90,26 +91,37 @@ unfolding file_names_of files_in
 files_read command words matches reading = λ i. unwrap_or (all_of (codes "FILE") (reading.rows i)) []
 
 -- what is answered by the rules of a command
-pub words_answer : (rules known : App) (name : CommandName) (words : List Text) (matches : ArgMatches) (result : Result Request WordFault)
-    → rules ≡ known → IsReading rules words matches
-    → Answers (request_by name (values_of matches) (file_names_of matches)) result → Answers (request_in known name words) result
-words_answer rules known name words matches result same reading answers =
+pub words_answer : (rules : App) (name : CommandName) (words : List Text) (matches : ArgMatches) (result : Result Request WordFault)
+    → IsReading rules words matches
+    → Answers (request_by name (values_of matches) (file_names_of matches)) result → Answers (request_in rules name words) result
+words_answer rules name words matches result reading answers =
     let values = values_read rules words matches reading in
     let files = files_read rules words matches reading in
     let read : request_by name (values_in rules words) (files_in rules words) ≡ request_in rules name words = rw reading.read refl in
-    let all : request_by name (values_of matches) (file_names_of matches) ≡ request_in known name words =
-    (λ i. request_by name (values i) (files i)) ∙ read ∙ ap (λ (a : App). request_in a name words) same in
+    let all : request_by name (values_of matches) (file_names_of matches) ≡ request_in rules name words =
+    (λ i. request_by name (values i) (files i)) ∙ read in
     answers_along _ _ result all answers
 
 -- where they refuse the words
-pub words_refused : (rules known : App) (name : CommandName) (words : List Text) (fault : WordFault) → rules ≡ known
+pub words_refused : (rules : App) (name : CommandName) (words : List Text) (fault : WordFault)
     → (fault ≡ Memory) ⊎ ((fault ≡ Words) × (is_refused rules words ≡ true))
-    → (fault ≡ Memory) ⊎ (request_in known name words ≡ Err fault)
-words_refused rules known name words fault same (inl memory) = inl memory
-words_refused rules known name words fault same (inr refused) =
+    → (fault ≡ Memory) ⊎ (request_in rules name words ≡ Err fault)
+words_refused rules name words fault (inl memory) = inl memory
+words_refused rules name words fault (inr refused) =
     let read : request_in rules name words ≡ Err Words = rw refused.1 refl in
     let fault_is : Err Words ≡ Err fault = λ i. Err (sym refused.0 i) in
-    inr (ap (λ (a : App). request_in a name words) (sym same) ∙ read ∙ fault_is)
+    inr (read ∙ fault_is)
+
+-- the same for a command that has known rules
+pub read_by : (rules known : App) (words : List Text) (result : Result ArgMatches WordFault) → rules ≡ known
+    → IfOk result (IsReading rules words) → IfOk result (IsReading known words)
+read_by rules known words result same reading = subst (λ (a : App). IfOk result (IsReading a words)) same reading
+
+pub refused_by : (rules known : App) (words : List Text) (result : Result ArgMatches WordFault) → rules ≡ known
+    → IfErr result (λ fault. (fault ≡ Memory) ⊎ ((fault ≡ Words) × (is_refused rules words ≡ true)))
+    → IfErr result (λ fault. (fault ≡ Memory) ⊎ ((fault ≡ Words) × (is_refused known words ≡ true)))
+refused_by rules known words result same refused =
+    subst (λ (a : App). IfErr result (λ fault. (fault ≡ Memory) ⊎ ((fault ≡ Words) × (is_refused a words ≡ true)))) same refused
 
 pub answers_same : (expected result : Result Request WordFault) → expected ≡ result → Answers expected result
 answers_same expected (Ok request) same = same

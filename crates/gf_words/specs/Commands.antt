@@ -1,8 +1,11 @@
 -- Commands under construction.
-use Rattle.std.specs.Prelude.{List, ◌++◌}
+use Rattle.std.specs.Prelude.{Bool, true, false, List, [], ◌++◌}
 use Rattle.clap.specs.Walk.{Rule}
 use Rattle.clap.specs.Simple.{App, on_top}
 use Rattle.spec_requests.specs.declared.request.Named.{Named}
+use Rattle.spec_requests.specs.declared.tables.CommandName.{CommandName}
+use Rattle.spec_requests.specs.declared.tables.CommandName.TheVariants as command
+use Rattle.spec_requests.specs.declared.tables.TheConstants.{GEN_WORDS}
 use Rattle.spec_requests.specs.Commands.{option_rule, word_rule}
 use Rattle.gf_words.specs.declared.commands.Role.{Role}
 use Rattle.gf_words.specs.declared.commands.Role.TheVariants as role
@@ -15,3 +18,14 @@ with_rules rules = on_top (λ top. record top { rules = top.rules ++ rules })
 abbrev pub rule_of : Role → Named → Rule
 rule_of role.Option = option_rule
 rule_of role.Word = word_rule
+
+-- files follow the options of the command
+abbrev pub reads_files : CommandName → Bool
+reads_files command.Gen = false
+reads_files command.Scalar = false
+reads_files _ = true
+
+-- the words that follow the options of a command that reads no files
+abbrev pub words_of : CommandName → List Named
+words_of command.Gen = GEN_WORDS
+words_of _ = []

@@ -1,9 +1,8 @@
 // The commands, as `clap` takes them.
 ghost use Rattle.std.specs.Prelude.{◌≡◌, ◌++◌, ◌∷◌, [], IfOk, map};
 ghost use Rattle.clap.specs.Simple.{app_of, on_top};
-ghost use Rattle.spec_requests.specs.Commands.{command_rules, command_with, files_rule, option_rule, options_of, places_of};
-ghost use Rattle.spec_requests.specs.Options.{verify_options};
-ghost use Rattle.gf_words.specs.Commands.{rule_of, with_rules};
+ghost use Rattle.spec_requests.specs.Commands.{command_rules, command_with, files_rule, options_of, places_of};
+ghost use Rattle.gf_words.specs.Commands.{reads_files, rule_of, with_rules, words_of};
 
 use clap::{Arg, ArgAction, Command};
 use spec_requests::{
@@ -11,6 +10,28 @@ use spec_requests::{
     command_name, option_name,
 };
 use std::alloc::{AllocError, Global};
+
+/// The options of `verify`: those of a search, and the name of its certificate.
+const VERIFY_OPTIONS: [Named; 18] = [
+    Named::Kind,
+    Named::Target,
+    Named::Second,
+    Named::Observer,
+    Named::Frame,
+    Named::Axis,
+    Named::Ref,
+    Named::Radius1,
+    Named::Radius2,
+    Named::Dir,
+    Named::Tick,
+    Named::From,
+    Named::To,
+    Named::Width,
+    Named::Depth,
+    Named::Workers,
+    Named::Cut,
+    Named::Cert,
+];
 
 /// How words give a value: behind its option's name, or in its place.
 #[derive(Clone, Copy)]
@@ -66,32 +87,36 @@ fn without_help<'a>(alloc: Global, name: &'a str) -> Command<'a>
     Command::new(alloc, name).disable_help_flag(true)
 }
 
-fn with_options<'a>(
-    alloc: Global,
-    command: Command<'a>,
-    name: CommandName,
-) -> Result<Command<'a>, AllocError>
-    ensures { IfOk result (λ more.
-        app_of more ≡ with_rules (map option_rule (options_of name)) (app_of command.entry)) }
+fn options_of(name: CommandName) -> &'static [Named]
+    ensures { result.now ≡ options_of name }
 {
     match name {
-        CommandName::Find => with_all(alloc, command, Role::Option, &FIND_OPTIONS),
-        CommandName::Cert => with_all(alloc, command, Role::Option, &FIND_OPTIONS),
-        CommandName::Verify => with_certificate(alloc, command),
-        CommandName::Check => with_all(alloc, command, Role::Option, &[]),
-        CommandName::Gen => with_all(alloc, command, Role::Option, &GEN_OPTIONS),
-        CommandName::Set => with_all(alloc, command, Role::Option, &SET_OPTIONS),
-        CommandName::Scalar => with_all(alloc, command, Role::Option, &SCALAR_OPTIONS),
+        CommandName::Find => &FIND_OPTIONS,
+        CommandName::Cert => &FIND_OPTIONS,
+        CommandName::Verify => &VERIFY_OPTIONS,
+        CommandName::Check => &[],
+        CommandName::Gen => &GEN_OPTIONS,
+        CommandName::Set => &SET_OPTIONS,
+        CommandName::Scalar => &SCALAR_OPTIONS,
     }
 }
 
-// The options of a search, and the name of its certificate.
-fn with_certificate<'a>(alloc: Global, command: Command<'a>) -> Result<Command<'a>, AllocError>
-    ensures { IfOk result (λ more.
-        app_of more ≡ with_rules (map option_rule verify_options) (app_of command.entry)) }
+// Whether files follow the options.
+fn reads_files(name: CommandName) -> bool
+    ensures { result ≡ reads_files name }
 {
-    let command = with_all(alloc, command, Role::Option, &FIND_OPTIONS)?;
-    with_one(alloc, command, Role::Option, Named::Cert)
+    !matches!(name, CommandName::Gen | CommandName::Scalar)
+}
+
+// The words that follow the options of a command that reads no files.
+fn words_of(name: CommandName) -> &'static [Named]
+    ensures { result.now ≡ words_of name }
+{
+    if matches!(name, CommandName::Gen) {
+        &GEN_WORDS
+    } else {
+        &[]
+    }
 }
 
 fn with_places<'a>(
@@ -102,14 +127,10 @@ fn with_places<'a>(
     ensures { IfOk result (λ more.
         app_of more ≡ with_rules (places_of name) (app_of command.entry)) }
 {
-    match name {
-        CommandName::Find => with_files(alloc, command),
-        CommandName::Cert => with_files(alloc, command),
-        CommandName::Verify => with_files(alloc, command),
-        CommandName::Check => with_files(alloc, command),
-        CommandName::Gen => with_all(alloc, command, Role::Word, &GEN_WORDS),
-        CommandName::Set => with_files(alloc, command),
-        CommandName::Scalar => with_all(alloc, command, Role::Word, &[]),
+    if reads_files(name) {
+        with_files(alloc, command)
+    } else {
+        with_all(alloc, command, Role::Word, words_of(name))
     }
 }
 
@@ -118,6 +139,7 @@ pub(crate) fn command<'a>(alloc: Global, name: CommandName) -> Result<Command<'a
     ensures { IfOk result (λ command. app_of command ≡ command_rules name) }
 {
     let text: &'a str = command_name(name);
-    let command = with_options(alloc, without_help(alloc, text), name)?;
+    let command = without_help(alloc, text);
+    let command = with_all(alloc, command, Role::Option, options_of(name))?;
     with_places(alloc, command, name)
 }

@@ -1,12 +1,13 @@
 // What words ask for.
-ghost use Rattle.std.specs.Prelude.{◌≡◌, ◌⊎◌, IfErr, IfOk, Ok, Err, Some, map, option_and_then, string_bytes};
+ghost use Rattle.std.specs.Prelude.{◌≡◌, ◌⊎◌, IfErr, IfOk, Ok, Err, Some, map, option_and_then, string_bytes, true};
+ghost use Rattle.spec_requests.specs.Commands.{command_rules, is_refused};
 ghost use Rattle.spec_requests.specs.Options.{name_of};
 ghost use Rattle.spec_requests.specs.Requests.{request_by, request_for, request_of, verify_of};
 ghost use Rattle.spec_requests.specs.declared.request.Named.TheVariants as opt;
 ghost use Rattle.spec_requests.specs.declared.tables.CommandName.TheVariants as command;
 ghost use Rattle.spec_requests.specs.declared.request.Request.TheVariants.{Check};
 ghost use Rattle.gf_words.specs.Answers.{Answers};
-ghost use Rattle.gf_words.specs.Readings.{file_names_of, values_of};
+ghost use Rattle.gf_words.specs.Readings.{IsReading, file_names_of, values_of};
 
 use crate::commands::command;
 use crate::readings::{file_names, read};
@@ -95,15 +96,28 @@ fn request_by(
     }
 }
 
+// What the command of this name reads in the words, of which it is the first.
+fn matches_of<'a>(
+    alloc: Global,
+    name: CommandName,
+    words: &'a [String],
+) -> Result<ArgMatches<'a>, WordFault>
+    ensures read { IfOk result
+        (IsReading (command_rules name) (map string_bytes words.entry.now)) }
+    ensures refused { IfErr result (λ e. (e ≡ WordFault.Memory) ⊎ ((e ≡ WordFault.Words)
+        × (is_refused (command_rules name) (map string_bytes words.entry.now) ≡ true))) }
+{
+    match command(alloc, name) {
+        Ok(command) => read(command, words),
+        Err(_) => Err(WordFault::Memory),
+    }
+}
+
 // What the words ask of this command, which the first of them names.
 fn request_for(alloc: Global, name: CommandName, words: &[String]) -> Result<Request, WordFault>
     ensures { Answers (request_for (Some name) (map string_bytes words.now)) result }
 {
-    let command = match command(alloc, name) {
-        Ok(command) => command,
-        Err(_) => return Err(WordFault::Memory),
-    };
-    match read(command, words) {
+    match matches_of(alloc, name, words) {
         Ok(matches) => request_by(alloc, name, &matches),
         Err(fault) => Err(fault),
     }

@@ -7,3 +7,4 @@ mod DecimalSizes
 mod Signs
 mod Quotients
 mod Passing
+mod Chosen

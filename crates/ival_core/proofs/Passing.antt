@@ -1,8 +1,10 @@
 -- Numbers that fit are passed from call to call as they are.
-use Rattle.std.proofs.Common.{◌≡◌, ℕ, ◌∙◌, ℤ, ◌*ℤ◌, to_z, of_z, w64}
-use Rattle.std.proofs.lemmas.Int.{to_z-of_z}
+use Rattle.std.proofs.Common.{◌≡◌, ℕ, ◌≤ℤ◌, ◌*◌, ◌^◌, ◌≤◌, ◌∙◌, sym, subst, ℤ, pos, ◌*ℤ◌, unsigned_abs, to_z, of_z, w32, w64, arith}
+use Rattle.std.proofs.lemmas.Int.{ints, to_z-of_z}
 use mir.Syntax.{w128}
 use mir.Val.{SFits}
+use lib.Signed.{le_z}
+use Rattle.spec_intervals.specs.Interval.{IsExponent, IsIval, end_limit, exponent_limit, interval}
 
 pub kept : (z v : ℤ) → SFits w128 z → z ≡ v → to_z w128 (of_z w128 z) ≡ v
 kept z v f e = to_z-of_z w128 z f ∙ e
@@ -25,3 +27,41 @@ shifted op z v r k n f g e p q = to_z-of_z w128 r g ∙ ((rw (to_z-of_z w64 z f)
 -- what a call makes of the products of two ends with a third
 pub made_of_products : (op : ℤ → ℤ → ℤ) (a b z r : ℤ) → SFits w64 a → SFits w64 b → SFits w64 z → SFits w128 r → r ≡ op (to_z w64 (of_z w64 a) *ℤ to_z w64 (of_z w64 z)) (to_z w64 (of_z w64 b) *ℤ to_z w64 (of_z w64 z)) → to_z w128 (of_z w128 r) ≡ op (a *ℤ z) (b *ℤ z)
 made_of_products op a b z r f g h k e = to_z-of_z w128 r k ∙ (rw (to_z-of_z w64 a f, to_z-of_z w64 b g, to_z-of_z w64 z h) at e)
+
+-- ---- bounds and order of what is passed on
+
+pub small_end_kept : (z : ℤ) → unsigned_abs z ≤ end_limit → unsigned_abs (to_z w64 (of_z w64 z)) ≤ end_limit
+small_end_kept z h = omega (arith, ints)
+
+pub end_kept : (z : ℤ) → unsigned_abs z ≤ end_limit → unsigned_abs (to_z w128 (of_z w128 z)) ≤ end_limit
+end_kept z h = omega (arith, ints)
+
+pub lifted_kept : (z : ℤ) → unsigned_abs z ≤ 2 ^ 122 → unsigned_abs (to_z w128 (of_z w128 z)) ≤ 2 ^ 122
+lifted_kept z h = omega (arith, ints)
+
+pub wide_kept : (z : ℤ) → unsigned_abs z ≤ 2 ^ 124 → unsigned_abs (to_z w128 (of_z w128 z)) ≤ 2 ^ 124
+wide_kept z h = omega (arith, ints)
+
+pub step_kept : (z : ℤ) → unsigned_abs z ≤ 2 ^ 123 → unsigned_abs (to_z w128 (of_z w128 z)) ≤ 2 ^ 124
+step_kept z h = omega (arith, ints)
+
+pub exponent_kept : (z : ℤ) → unsigned_abs z ≤ 4 * exponent_limit → unsigned_abs (to_z w32 (of_z w32 z)) ≤ 4 * exponent_limit
+exponent_kept z h = omega (arith, ints)
+
+pub ends_kept : (a b : ℤ) → IsIval (interval a b (pos 0)) → IsIval (interval (to_z w64 (of_z w64 a)) (to_z w64 (of_z w64 b)) (pos 0))
+ends_kept a b is =
+    let low = is.lo_small in
+    let high = is.hi_small in
+    let first : to_z w64 (of_z w64 a) ≡ a = to_z-of_z w64 a (omega (arith, ints)) in
+    let last : to_z w64 (of_z w64 b) ≡ b = to_z-of_z w64 b (omega (arith, ints)) in
+    subst (λ z. IsIval (interval z (to_z w64 (of_z w64 b)) (pos 0))) (sym first) (subst (λ z. IsIval (interval a z (pos 0))) (sym last) is)
+
+pub order_kept : (a b : ℤ) → unsigned_abs a ≤ 2 ^ 124 → unsigned_abs b ≤ 2 ^ 124 → a ≤ℤ b → to_z w128 (of_z w128 a) ≤ℤ to_z w128 (of_z w128 b)
+order_kept a b p q h = omega (arith, ints)
+
+-- how two exponents compare as the code has them
+pub compared : (a b s t : ℤ) → a ≡ s → b ≡ t → IsExponent s → IsExponent t → le_z (to_z w32 (of_z w32 a)) (to_z w32 (of_z w32 b)) ≡ le_z s t
+compared a b s t p q small other =
+    let f : SFits w32 a = rw p (omega (arith, ints)) in
+    let g : SFits w32 b = rw q (omega (arith, ints)) in
+    λ i. le_z ((to_z-of_z w32 a f ∙ p) i) ((to_z-of_z w32 b g ∙ q) i)

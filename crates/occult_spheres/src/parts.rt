@@ -39,6 +39,22 @@ pub fn occult(
         ≡ shadow_conditions kind front back) }
 {
     let f = Formula::of(function(alloc, kind, front, back)?);
+    let guards = guards_of(alloc, kind, front, back)?;
+    Ok(OccultParts { f, guards })
+}
+
+// The guards, each with whether it has to be at least 0, or else below 0.
+fn guards_of(
+    alloc: Global,
+    kind: Shadow,
+    front: Decimal,
+    back: Decimal,
+) -> Result<Vec<(Formula, bool)>, AllocError>
+    requires front { IsTrue (is_radius front) }
+    requires back { IsTrue (is_radius back) }
+    ensures { IfOk result (λ guards. map condition_of guards.items
+        ≡ shadow_conditions kind front back) }
+{
     let mut guards = Vec::new(alloc);
     guards.push((Formula::of(farther(alloc)?), true))?;
     match kind {
@@ -46,5 +62,5 @@ pub fn occult(
         Shadow::Full => guards.push((Formula::of(larger(alloc, front, back)?), true))?,
         Shadow::Annular => guards.push((Formula::of(larger(alloc, front, back)?), false))?,
     }
-    Ok(OccultParts { f, guards })
+    Ok(guards)
 }

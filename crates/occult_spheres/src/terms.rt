@@ -1,6 +1,7 @@
 // The expressions of which the function and the guards are made. Target 0 is in front, target 1 at the back.
 ghost use Rattle.std.specs.Prelude.{◌≡◌, IfOk};
-ghost use Rattle.spec_expressions.specs.Term.{term};
+ghost use Rattle.spec_expressions.specs.Term.{term, difference, product};
+ghost use Rattle.spec_expressions.specs.Vectors.{dot, squared_length, IsVector};
 ghost use Rattle.spec_kinds.specs.Shadows.{between, tangents, shadow_function, farther, larger};
 
 use event_expr::builders::{difference, dot, length, product, signed_square, squared_length, sum};
@@ -31,13 +32,18 @@ fn between(alloc: Global, shadow: Shadow, front: Decimal, back: Decimal) -> Resu
 fn tangents(alloc: Global, front: Decimal, back: Decimal) -> Result<Expr, AllocError>
     ensures { IfOk result (λ e. term e ≡ tangents front back) }
 {
-    let near = difference(
-        alloc,
-        dot(alloc, FRONT, FRONT)?,
-        squared_length(alloc, front)?,
-    )?;
-    let far = difference(alloc, dot(alloc, BACK, BACK)?, squared_length(alloc, back)?)?;
+    let near = squared_tangent(alloc, FRONT, front)?;
+    let far = squared_tangent(alloc, BACK, back)?;
     product(alloc, near, far)
+}
+
+// The square of the tangent from the observer to a sphere at a place.
+fn squared_tangent(alloc: Global, place: Vector, radius: Decimal) -> Result<Expr, AllocError>
+    requires { IsVector place }
+    ensures { IfOk result (λ e. term e ≡ difference (dot place place) (squared_length radius)) }
+{
+    let distance = dot(alloc, place, place)?;
+    difference(alloc, distance, squared_length(alloc, radius)?)
 }
 
 /// The function of an occultation, or an error where memory runs out.
@@ -64,15 +70,16 @@ pub fn farther(alloc: Global) -> Result<Expr, AllocError>
 pub fn larger(alloc: Global, front: Decimal, back: Decimal) -> Result<Expr, AllocError>
     ensures { IfOk result (λ e. term e ≡ larger front back) }
 {
-    let front_disc = product(
-        alloc,
-        squared_length(alloc, front)?,
-        dot(alloc, BACK, BACK)?,
-    )?;
-    let back_disc = product(
-        alloc,
-        squared_length(alloc, back)?,
-        dot(alloc, FRONT, FRONT)?,
-    )?;
+    let front_disc = disc(alloc, front, BACK)?;
+    let back_disc = disc(alloc, back, FRONT)?;
     difference(alloc, front_disc, back_disc)
+}
+
+// The square of a radius times that of the distance of the other sphere's place.
+fn disc(alloc: Global, radius: Decimal, other: Vector) -> Result<Expr, AllocError>
+    requires { IsVector other }
+    ensures { IfOk result (λ e. term e ≡ product (squared_length radius) (dot other other)) }
+{
+    let square = squared_length(alloc, radius)?;
+    product(alloc, square, dot(alloc, other, other)?)
 }

@@ -1,5 +1,6 @@
 mod Digits
 mod Forms
 mod Dates
+mod Products
 mod Appended
 pub mod Seconds

@@ -1,4 +1,7 @@
-use Rattle.std.proofs.Common.{rules, sym, ◌∙◌}
+use Rattle.std.proofs.Common.{arith, rules, sym, ◌∙◌, inl, inr, refl, w64}
+use Rattle.std.proofs.lemmas.Int.{ints, to_z-of_z}
+use mir.Syntax.{w16}
+use mir.Val.{SFits}
 use Rattle.spec_intervals.specs.Interval as I
 use Rattle.spec_intervals.specs.Interval.{distance_exponent, cosine_exponent}
 use Rattle.spec_intervals.specs.Enclosure.{sum_of, difference_of, product_of}
@@ -41,3 +44,39 @@ returns-in-Mul g t c = rw c.in-Mul.is (two_mids c.args.span.now.first c.args.spa
 
 pub returns-in-SignedSquare : goal.returns-in-SignedSquare
 returns-in-SignedSquare g t c = rw c.in-SignedSquare.is (one_mid c.args.span.now.first c.args.span.now.last _ _ _ (rw c.deref-in-SignedSquare.ensures at c.value_at-in-SignedSquare.ensures) c.signed_square.ensures.equals)
+
+pub pos-requires-clause-target : goal.pos-requires-clause-target
+pos-requires-clause-target g t c = (rw c.in-Pos.is at c.requires.formula).leaves.0
+
+pub pos-requires-clause-axis : goal.pos-requires-clause-axis
+pos-requires-clause-axis g t c = (rw c.in-Pos.is at c.requires.formula).leaves.1
+
+pub vel-requires-clause-target : goal.vel-requires-clause-target
+vel-requires-clause-target g t c = (rw c.in-Vel.is at c.requires.formula).leaves.0
+
+pub vel-requires-clause-axis : goal.vel-requires-clause-axis
+vel-requires-clause-axis g t c = (rw c.in-Vel.is at c.requires.formula).leaves.1
+
+pub from_decimal-requires-clause-exponent : goal.from_decimal-requires-clause-exponent
+from_decimal-requires-clause-exponent g t c = inl refl
+
+pub from_decimal-requires-clause-distance : goal.from_decimal-requires-clause-distance
+from_decimal-requires-clause-distance g t c =
+    let m : SFits w64 c.in-Length.length.mant = search rules in
+    let q : SFits w16 c.in-Length.length.exp = search rules in
+    λ e. rw (to_z-of_z w64 c.in-Length.length.mant m, to_z-of_z w16 c.in-Length.length.exp q) (rw c.in-Length.is at c.requires.formula).constants
+
+pub from_decimal-requires-clause-cosine : goal.from_decimal-requires-clause-cosine
+from_decimal-requires-clause-cosine g t c = λ e. absurd (omega (arith, ints, e))
+
+pub from_decimal-requires-in-Cosine-clause-exponent : goal.from_decimal-requires-in-Cosine-clause-exponent
+from_decimal-requires-in-Cosine-clause-exponent g t c = inr refl
+
+pub from_decimal-requires-in-Cosine-clause-cosine : goal.from_decimal-requires-in-Cosine-clause-cosine
+from_decimal-requires-in-Cosine-clause-cosine g t c =
+    let m : SFits w64 c.in-Cosine.cosine.mant = search rules in
+    let q : SFits w16 c.in-Cosine.cosine.exp = search rules in
+    λ e. rw (to_z-of_z w64 c.in-Cosine.cosine.mant m, to_z-of_z w16 c.in-Cosine.cosine.exp q) (rw c.in-Cosine.is at c.requires.formula).constants
+
+pub from_decimal-requires-in-Cosine-clause-distance : goal.from_decimal-requires-in-Cosine-clause-distance
+from_decimal-requires-in-Cosine-clause-distance g t c = λ e. absurd (omega (arith, ints, e))

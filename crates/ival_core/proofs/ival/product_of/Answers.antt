@@ -5,6 +5,7 @@ use Rattle.spec_intervals.specs.Interval.{Interval, least4, greatest4}
 use Rattle.spec_intervals.proofs.Products.{product-parts, corners_ordered}
 use Rattle.ival_core.proofs.Passing.{kept}
 use Rattle.ival_core.proofs.Shifts.{small_narrow}
+use Rattle.ival_core.proofs.Passing.{small_end_kept, wide_kept}
 use Rattle.ival_core.proofs.ival.product_of.Goals as goal
 use Rattle.ival_core.proofs.ival.product_of.Goals.{After-product_ends-lo}
 
@@ -47,3 +48,21 @@ overflow_add-s c =
     let p = c.requires.exponent in
     let q = c.requires.other_exponent in
     omega (arith, ints)
+
+pub product_ends-lo-requires-clause-a_small : goal.product_ends-lo-requires-clause-a_small
+product_ends-lo-requires-clause-a_small c = small_end_kept c.x.inside.lo c.x.invariant.lo_small
+
+pub product_ends-lo-requires-clause-b_small : goal.product_ends-lo-requires-clause-b_small
+product_ends-lo-requires-clause-b_small c = small_end_kept c.x.inside.hi c.x.invariant.hi_small
+
+pub product_ends-lo-requires-clause-c_small : goal.product_ends-lo-requires-clause-c_small
+product_ends-lo-requires-clause-c_small c = small_end_kept c.y.inside.lo c.y.invariant.lo_small
+
+pub product_ends-lo-requires-clause-d_small : goal.product_ends-lo-requires-clause-d_small
+product_ends-lo-requires-clause-d_small c = small_end_kept c.y.inside.hi c.y.invariant.hi_small
+
+pub narrowed-requires-clause-lo_bound : goal.narrowed-requires-clause-lo_bound
+narrowed-requires-clause-lo_bound c = wide_kept c.product_ends-lo.result.0 c.product_ends-lo.ensures.least_bound
+
+pub narrowed-requires-clause-hi_bound : goal.narrowed-requires-clause-hi_bound
+narrowed-requires-clause-hi_bound c = wide_kept c.product_ends-lo.result.1 c.product_ends-lo.ensures.greatest_bound

@@ -1,7 +1,8 @@
-use Rattle.std.proofs.Common.{rules, arith, ℕ, ◌≡◌, ◌≤◌, ◌*◌, pos, ◌+ℤ◌, unsigned_abs, ap, to_z, of_z, FitsSigned, w64, ◌∙◌}
+use Rattle.std.proofs.Common.{rules, arith, ℕ, ◌≡◌, ◌≤◌, ◌*◌, pos, ◌+ℤ◌, unsigned_abs, ap, sym, to_z, of_z, FitsSigned, w64, ◌∙◌}
 use Rattle.std.proofs.lemmas.Int.{ints, to_z-of_z}
 use Rattle.std.proofs.lemmas.Nat.{mul-le}
 use Rattle.spec_ephemeris.specs.declared.header.Column.{Column}
+use Rattle.spec_ephemeris.specs.Rounding.{pairs_of}
 use Rattle.eph_model.proofs.GridLemmas.{block_of, column_is, ends, found, length_passed}
 use Rattle.eph_model.proofs.ephemeris.Ephemeris.granule.Goals as goal
 
@@ -41,3 +42,46 @@ returns-clause-start c =
     let fits : FitsSigned w64 c.time_of.result = search rules in
     let same : to_z w64 (of_z w64 c.time_of.result) ≡ c.time_of.result = to_z-of_z w64 c.time_of.result fits in
     rw same (omega (arith, ints, c.time_of.ensures, grid.early, last), omega (arith, ints, c.time_of.ensures, grid.late, last, grid.within))
+
+pub time_of-requires : goal.time_of-requires
+time_of-requires c = omega (arith, c.index_at-index.ensures.in_range)
+
+pub nonzero_div-block : goal.nonzero_div-block
+nonzero_div-block c =
+    let some = c.grid-grid.result.shared in
+    let same = c.from-granules.ensures in
+    omega arith
+
+pub nonzero_rem-inner : goal.nonzero_rem-inner
+nonzero_rem-inner c =
+    let some = c.grid-grid.result.shared in
+    let same = c.from-granules.ensures in
+    omega arith
+
+pub granule_numbers-requires-clause-inner : goal.granule_numbers-requires-clause-inner
+granule_numbers-requires-clause-inner c =
+    let some = c.grid-grid.result.shared in
+    let same = c.from-granules.ensures in
+    omega arith
+
+pub granule_pairs-requires-clause-inner : goal.granule_pairs-requires-clause-inner
+granule_pairs-requires-clause-inner c =
+    let some = c.grid-grid.result.shared in
+    let same = c.from-granules.ensures in
+    omega arith
+
+pub granule_numbers-requires-clause-block : goal.granule_numbers-requires-clause-block
+granule_numbers-requires-clause-block c =
+    rw c.from-granules.ensures (block_of c.args.self.now c.args.column c.grid-grid.result c.index_at-index.result c.grid-grid.ensures.grid c.index_at-index.ensures.in_range)
+
+pub returns-clause-components : goal.returns-clause-components
+returns-clause-components c = c.components.ensures.value
+
+pub returns-clause-count : goal.returns-clause-count
+returns-clause-count c = c.granule_numbers.ensures.count ∙ ap (λ (k : ℕ). k * c.grid-grid.result.column.coefs) (sym c.components.ensures.value)
+
+pub returns-clause-bodies : goal.returns-clause-bodies
+returns-clause-bodies c = c.granule_numbers.ensures.bodies
+
+pub returns-clause-rounded : goal.returns-clause-rounded
+returns-clause-rounded c = c.granule_pairs.ensures ∙ ap (pairs_of c.args.column) (sym c.granule_numbers.ensures.numbers)

@@ -1,8 +1,8 @@
--- What a choice by zeros or by the order of exponents comes to.
+-- What the choice by zeros and by the order of exponents comes to in a sum.
 use Rattle.std.proofs.Common.{◌≡◌, true, false, if◌then◌else◌, sym, ◌≤ℤ◌, ℤ, arith}
 use Rattle.std.proofs.lemmas.Int.{ints}
 use lib.Signed.{le_z}
-use Rattle.spec_intervals.specs.Interval.{Interval, is_zero, join, join_up, meet, meet_up, sum, sum_up}
+use Rattle.spec_intervals.specs.Interval.{Interval, is_zero, sum, sum_up}
 
 pub in_order : (s t : ℤ) → le_z s t ≡ true → s ≤ℤ t
 in_order s t e = omega (arith, ints, e)
@@ -26,19 +26,3 @@ module _ (x y : Interval) where
   pub sum-downward : is_zero x ≡ false → is_zero y ≡ false → le_z x.s y.s ≡ false → sum_up y x ≡ sum x y
   unfolding sum
   sum-downward e f g = λ i. if sym e i then y else (if sym f i then x else (if sym g i then sum_up x y else sum_up y x))
-
-  pub join-upward : le_z x.s y.s ≡ true → join_up x y ≡ join x y
-  unfolding join
-  join-upward g = λ i. if sym g i then join_up x y else join_up y x
-
-  pub join-downward : le_z x.s y.s ≡ false → join_up y x ≡ join x y
-  unfolding join
-  join-downward g = λ i. if sym g i then join_up x y else join_up y x
-
-  pub meet-upward : le_z x.s y.s ≡ true → meet_up x y ≡ meet x y
-  unfolding meet
-  meet-upward g = λ i. if sym g i then meet_up x y else meet_up y x
-
-  pub meet-downward : le_z x.s y.s ≡ false → meet_up y x ≡ meet x y
-  unfolding meet
-  meet-downward g = λ i. if sym g i then meet_up x y else meet_up y x

@@ -1,32 +1,11 @@
-// Names of rows.
+// Names of rows. A name is looked up in the table of those that words and reports write.
 use case_rows::{Fields, RowError};
 use spec_bodies::Frame;
 use spec_ephemeris::Body;
 use spec_events::Dir;
 use spec_kinds::{KINDS, Kind};
+use spec_requests::{BODIES, CUTS, DIRS, FRAMES};
 use spec_trees::CutRule;
-
-const BODIES: [(&str, Body); 13] = [
-    ("mercury", Body::Mercury),
-    ("venus", Body::Venus),
-    ("emb", Body::Emb),
-    ("mars", Body::Mars),
-    ("jupiter", Body::Jupiter),
-    ("saturn", Body::Saturn),
-    ("uranus", Body::Uranus),
-    ("neptune", Body::Neptune),
-    ("pluto", Body::Pluto),
-    ("moon", Body::Moon),
-    ("sun", Body::Sun),
-    ("earth", Body::Earth),
-    ("ssb", Body::Ssb),
-];
-
-const FRAMES: [(&str, Frame); 2] = [("eq", Frame::Eq), ("ecl", Frame::Ecl)];
-
-const DIRS: [(&str, Dir); 3] = [("any", Dir::Any), ("rise", Dir::Rise), ("fall", Dir::Fall)];
-
-const CUTS: [(&str, CutRule); 2] = [("half", CutRule::Half), ("third", CutRule::Third)];
 
 // What stands in place of a second body where there is none.
 const NO_BODY: &str = "-";

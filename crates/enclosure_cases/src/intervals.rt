@@ -1,5 +1,5 @@
 // Operations on intervals.
-ghost use Rattle.std.specs.Prelude.{◌<◌, ◌^◌, ◌≤ℤ◌, IfOk, pos, unsigned_abs};
+ghost use Rattle.std.specs.Prelude.{◌≡◌, ◌<◌, ◌^◌, ◌≤ℤ◌, IfOk, pos, unsigned_abs};
 ghost use Rattle.spec_intervals.specs.Interval.{IsExponent};
 ghost use Rattle.spec_intervals.specs.Fraction.{Holds, fraction};
 
@@ -11,6 +11,18 @@ const MAX_EXPONENT: i32 = 65_536;
 // One past the greatest end that is scaled.
 const END_LIMIT: i128 = 1 << 126;
 
+// An interval whose exponent is no greater in magnitude than those of rows.
+fn moderate(x: Ival) -> Result<Ival, RowError>
+    ensures exponent { IfOk result (λ y. IsExponent y.s) }
+    ensures same { IfOk result (λ y. y ≡ x) }
+{
+    let (_, _, exponent) = x.parts();
+    if exponent < -MAX_EXPONENT || MAX_EXPONENT < exponent {
+        return Err(RowError::Malformed);
+    }
+    Ok(x)
+}
+
 // The interval of the next numbers.
 fn interval(fields: &mut Fields<'_>) -> Result<Ival, RowError>
     ensures { IfOk result (λ x. IsExponent x.s) }
@@ -19,12 +31,7 @@ fn interval(fields: &mut Fields<'_>) -> Result<Ival, RowError>
     if hi < lo || s < -MAX_EXPONENT || MAX_EXPONENT < s {
         return Err(RowError::Malformed);
     }
-    let x = Ival::of(lo, hi, s);
-    let (_, _, exponent) = x.parts();
-    if exponent < -MAX_EXPONENT || MAX_EXPONENT < exponent {
-        return Err(RowError::Malformed);
-    }
-    Ok(x)
+    moderate(Ival::of(lo, hi, s))
 }
 
 // The interval of numbers round 0, so that two of them have a number in common.
@@ -36,12 +43,7 @@ fn interval_round_zero(parts: Parts) -> Result<Ival, RowError>
     if 0 < lo || hi < 0 || s < -MAX_EXPONENT || MAX_EXPONENT < s {
         return Err(RowError::Malformed);
     }
-    let x = Ival::of(lo, hi, s);
-    let (_, _, exponent) = x.parts();
-    if exponent < -MAX_EXPONENT || MAX_EXPONENT < exponent {
-        return Err(RowError::Malformed);
-    }
-    Ok(x)
+    moderate(Ival::of(lo, hi, s))
 }
 
 fn meet(fields: &mut Fields<'_>) -> Result<Ival, RowError> {

@@ -11,20 +11,18 @@ use std::sync::Wait;
 use std::test::Fail;
 use std::thread::Threads;
 
-const ZEROS: &str = "0.0 0.0 0.0
-0.0 0.0 0.0
-0.0 0.0 0.0
-0.0 0.0 0.0
-0.0 0.0 0.0
-0.0 0.0 0.0
-0.0 0.0 0.0
-";
+// The rows of a block behind its first two.
+const ZERO_ROWS: usize = 7;
 
 // Adds a block that begins on this day, in which Mercury's x has these coefficients.
 fn add_block(alloc: Global, text: &mut Vec<u8>, day: i64, row: &str) -> Result<(), AllocError> {
     let next = day.saturating_add(32);
-    let block = format!(in alloc; "1 26\n{day}.5 {next}.5 0.0\n{row}\n{ZEROS}")?;
-    Ok(text.extend_from_slice(block.as_bytes())?)
+    let first_rows = format!(in alloc; "1 26\n{day}.5 {next}.5 0.0\n{row}\n")?;
+    text.extend_from_slice(first_rows.as_bytes())?;
+    for _ in 0..ZERO_ROWS {
+        text.extend_from_slice(b"0.0 0.0 0.0\n")?;
+    }
+    Ok(())
 }
 
 // A file of so many blocks, in each of which Mercury's x has these coefficients.

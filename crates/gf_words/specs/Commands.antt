@@ -1,8 +1,9 @@
 -- Commands under construction.
-use Rattle.std.specs.Prelude.{Bool, true, false, List, [], ◌++◌}
+use Rattle.std.specs.Prelude.{Bool, true, false, List, [], ◌∷◌, ◌++◌}
 use Rattle.clap.specs.Walk.{Rule}
 use Rattle.clap.specs.Simple.{App, on_top}
 use Rattle.spec_requests.specs.declared.request.Named.{Named}
+use Rattle.spec_requests.specs.declared.request.Named.TheVariants as option
 use Rattle.spec_requests.specs.declared.tables.CommandName.{CommandName}
 use Rattle.spec_requests.specs.declared.tables.CommandName.TheVariants as command
 use Rattle.spec_requests.specs.declared.tables.TheConstants.{GEN_WORDS}
@@ -18,6 +19,11 @@ with_rules rules = on_top (λ top. record top { rules = top.rules ++ rules })
 abbrev pub rule_of : Role → Named → Rule
 rule_of role.Option = option_rule
 rule_of role.Word = word_rule
+
+-- the options of a command that stand behind those of a search
+abbrev pub last_options : CommandName → List Named
+last_options command.Verify = option.Cert ∷ []
+last_options _ = []
 
 -- files follow the options of the command
 abbrev pub reads_files : CommandName → Bool

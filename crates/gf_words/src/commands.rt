@@ -2,7 +2,7 @@
 ghost use Rattle.std.specs.Prelude.{◌≡◌, ◌++◌, ◌∷◌, [], IfOk, map};
 ghost use Rattle.clap.specs.Simple.{app_of, on_top};
 ghost use Rattle.spec_requests.specs.Commands.{command_rules, command_with, files_rule, options_of, places_of};
-ghost use Rattle.gf_words.specs.Commands.{reads_files, rule_of, with_rules, words_of};
+ghost use Rattle.gf_words.specs.Commands.{last_options, reads_files, rule_of, with_rules, words_of};
 
 use clap::{Arg, ArgAction, Command};
 use spec_requests::{
@@ -10,28 +10,6 @@ use spec_requests::{
     command_name, option_name,
 };
 use std::alloc::{AllocError, Global};
-
-/// The options of `verify`: those of a search, and the name of its certificate.
-const VERIFY_OPTIONS: [Named; 18] = [
-    Named::Kind,
-    Named::Target,
-    Named::Second,
-    Named::Observer,
-    Named::Frame,
-    Named::Axis,
-    Named::Ref,
-    Named::Radius1,
-    Named::Radius2,
-    Named::Dir,
-    Named::Tick,
-    Named::From,
-    Named::To,
-    Named::Width,
-    Named::Depth,
-    Named::Workers,
-    Named::Cut,
-    Named::Cert,
-];
 
 /// How words give a value: behind its option's name, or in its place.
 #[derive(Clone, Copy)]
@@ -87,17 +65,27 @@ fn without_help<'a>(alloc: Global, name: &'a str) -> Command<'a>
     Command::new(alloc, name).disable_help_flag(true)
 }
 
-fn options_of(name: CommandName) -> &'static [Named]
-    ensures { result.now ≡ options_of name }
+// The options of a command, less those that stand at its end.
+fn first_options(name: CommandName) -> &'static [Named]
+    ensures { options_of name ≡ result.now ++ last_options name }
 {
     match name {
-        CommandName::Find => &FIND_OPTIONS,
-        CommandName::Cert => &FIND_OPTIONS,
-        CommandName::Verify => &VERIFY_OPTIONS,
+        CommandName::Find | CommandName::Cert | CommandName::Verify => &FIND_OPTIONS,
         CommandName::Check => &[],
         CommandName::Gen => &GEN_OPTIONS,
         CommandName::Set => &SET_OPTIONS,
         CommandName::Scalar => &SCALAR_OPTIONS,
+    }
+}
+
+// The name of the certificate, which stands behind the options of a search.
+fn last_options(name: CommandName) -> &'static [Named]
+    ensures { result.now ≡ last_options name }
+{
+    if matches!(name, CommandName::Verify) {
+        &[Named::Cert]
+    } else {
+        &[]
     }
 }
 
@@ -140,6 +128,7 @@ pub(crate) fn command<'a>(alloc: Global, name: CommandName) -> Result<Command<'a
 {
     let text: &'a str = command_name(name);
     let command = without_help(alloc, text);
-    let command = with_all(alloc, command, Role::Option, options_of(name))?;
+    let command = with_all(alloc, command, Role::Option, first_options(name))?;
+    let command = with_all(alloc, command, Role::Option, last_options(name))?;
     with_places(alloc, command, name)
 }

@@ -70,9 +70,7 @@ pub fn farther(alloc: Global) -> Result<Expr, AllocError>
 pub fn larger(alloc: Global, front: Decimal, back: Decimal) -> Result<Expr, AllocError>
     ensures { IfOk result (λ e. term e ≡ larger front back) }
 {
-    let front_disc = disc(alloc, front, BACK)?;
-    let back_disc = disc(alloc, back, FRONT)?;
-    difference(alloc, front_disc, back_disc)
+    difference(alloc, disc(alloc, front, BACK)?, disc(alloc, back, FRONT)?)
 }
 
 // The square of a radius times that of the distance of the other sphere's place.

@@ -2,12 +2,10 @@ use Rattle.std.proofs.Common.{ℤ, pos, ◌+ℤ◌, ◌-ℤ◌, int_div, sym, ap
 use Rattle.std.proofs.lemmas.Int.{ints, to_z-of_z}
 use Rattle.spec_trees.specs.declared.cuts.CutRule.{CutRule}
 use Rattle.spec_trees.specs.Cuts.{CanCut, cut_of}
+use Rattle.gf_hooks.proofs.Widths.{width_fits}
 use mir.Syntax.{w64}
 use mir.Val.{SFits}
 use Rattle.gf_hooks.proofs.rules.rule_cut.Goals as goal
-
-width_fits : (a b : ℤ) → CanCut a b → SFits w64 (b -ℤ a)
-width_fits a b c = omega (arith, ints, c.wide, c.low, c.high)
 
 half_fits : (a b : ℤ) → CanCut a b → SFits w64 (int_div (b -ℤ a) (pos 2))
 half_fits a b c = omega (arith, ints, c.wide, c.low, c.high)

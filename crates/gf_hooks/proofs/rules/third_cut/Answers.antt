@@ -2,12 +2,10 @@ use Rattle.std.proofs.Common.{◌≡◌, Bool, true, false, ℤ, pos, ◌+ℤ◌
 use Rattle.std.proofs.lemmas.Int.{ints, to_z-of_z}
 use Rattle.std.specs.Int.{int_max}
 use Rattle.spec_trees.specs.Cuts.{CanCut}
+use Rattle.gf_hooks.proofs.Widths.{width_fits}
 use mir.Syntax.{w64}
 use mir.Val.{SFits}
 use Rattle.gf_hooks.proofs.rules.third_cut.Goals as goal
-
-width_fits : (a b : ℤ) → CanCut a b → SFits w64 (b -ℤ a)
-width_fits a b c = omega (arith, ints, c.wide, c.low, c.high)
 
 third_fits : (a b : ℤ) → CanCut a b → SFits w64 (int_div (b -ℤ a) (pos 3))
 third_fits a b c = omega (arith, ints, c.wide, c.low, c.high)
@@ -24,16 +22,16 @@ small_third t h = ap (λ (small : Bool). if small then pos 1 else t) h
 great_third : (t : ℤ) → int_lt t (pos 1) ≡ false → int_max (pos 1) t ≡ t
 great_third t h = ap (λ (small : Bool). if small then pos 1 else t) h
 
+pub overflow_add-result : goal.overflow_add-result
+overflow_add-result c =
+    let a : SFits w64 c.args.a = c.ranges.a in
+    simp to_z-of_z (next_fits c.args.a c.args.b c.requires)
+
 pub overflow_sub-third : goal.overflow_sub-third
 overflow_sub-third c =
     let a : SFits w64 c.args.a = c.ranges.a in
     let b : SFits w64 c.args.b = c.ranges.b in
     simp to_z-of_z (width_fits c.args.a c.args.b c.requires)
-
-pub overflow_add-result : goal.overflow_add-result
-overflow_add-result c =
-    let a : SFits w64 c.args.a = c.ranges.a in
-    simp to_z-of_z (next_fits c.args.a c.args.b c.requires)
 
 pub overflow_add-result-else-third-lt1 : goal.overflow_add-result-else-third-lt1
 overflow_add-result-else-third-lt1 c =

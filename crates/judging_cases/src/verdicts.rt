@@ -1,9 +1,9 @@
 // What is said of the nodes of searches, and where they are cut.
-ghost use Rattle.std.specs.Prelude.{◌≡◌, ◌≤◌, ◌≤ℤ◌, ◌<ℤ◌, IfOk, pos};
-ghost use Rattle.spec_ephemeris.specs.Ephemeris.{end_of};
+ghost use Rattle.std.specs.Prelude.{◌≡◌, ◌≤ℤ◌, IfOk, pos};
 ghost use Rattle.spec_trees.specs.Cuts.{CanCut, cut_of};
 ghost use Rattle.spec_trees.specs.Tree.{IsValid};
 ghost use Rattle.spec_kinds.specs.Asks.{IsAsk};
+ghost use Rattle.judging_cases.specs.Nodes.{IsWithin};
 
 use crate::asks::{ask, scene_of};
 use crate::events::event_of;
@@ -34,10 +34,7 @@ struct Judgement {
 
 // A node of the times of the ephemeris, no deeper than this.
 fn node(ephemeris: &Ephemeris, depth: u32, fields: &mut Fields<'_>) -> Result<Node, RowError>
-    ensures from { IfOk result (λ node. ephemeris.now.start ≤ℤ node.a) }
-    ensures inside { IfOk result (λ node. node.a <ℤ node.b) }
-    ensures to { IfOk result (λ node. node.b ≤ℤ end_of ephemeris.now) }
-    ensures depth { IfOk result (λ node. node.depth ≤ depth) }
+    ensures { IfOk result (IsWithin ephemeris.now depth) }
 {
     let node = Node {
         a: fields.number::<i64>()?,
@@ -130,10 +127,7 @@ fn judgement_by(
 ) -> Result<Judgement, RowError>
     requires ask { IsAsk ask.now }
     requires width { pos 1 ≤ℤ splitting.width }
-    requires from { ephemeris.now.start ≤ℤ node.a }
-    requires inside { node.a <ℤ node.b }
-    requires to { node.b ≤ℤ end_of ephemeris.now }
-    requires depth { node.depth ≤ splitting.depth }
+    requires node { IsWithin ephemeris.now splitting.depth node }
 {
     let states = states(ephemeris, scene_of(ask))?;
     let event = event_of(alloc, ephemeris, ask)?;
@@ -152,10 +146,7 @@ fn judgement_of(
 ) -> Result<Judgement, RowError>
     requires ask { IsAsk ask.now }
     requires width { pos 1 ≤ℤ splitting.width }
-    requires from { ephemeris.now.start ≤ℤ node.a }
-    requires inside { node.a <ℤ node.b }
-    requires to { node.b ≤ℤ end_of ephemeris.now }
-    requires depth { node.depth ≤ splitting.depth }
+    requires node { IsWithin ephemeris.now splitting.depth node }
 {
     let rule = splitting.rule;
     let Ok(cut) = Box::new(

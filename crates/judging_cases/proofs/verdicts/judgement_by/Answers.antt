@@ -9,8 +9,8 @@ judgement_on-requires-after_bounds g c κs =
     let same : c.new-judge.result.search.view.ephemeris ≡ c.args.ephemeris.now = ap (λ (s : Search). s.view.ephemeris) c.new-judge.ensures ∙ c.in_ok-states.ensures in
     let deep : c.new-judge.result.search.depth ≡ c.args.splitting.depth = ap (λ (s : Search). s.depth) c.new-judge.ensures in
     record {
-      from = subst (λ (e : Ephemeris). e.start ≤ℤ n.a) (sym same) c.requires.from;
-      inside = c.requires.inside;
-      to = subst (λ (e : Ephemeris). n.b ≤ℤ end_of e) (sym same) c.requires.to;
-      depth = subst (λ (k : ℕ). n.depth ≤ k) (sym deep) c.requires.depth;
+      from = subst (λ (e : Ephemeris). e.start ≤ℤ n.a) (sym same) c.requires.node.from;
+      inside = c.requires.node.inside;
+      to = subst (λ (e : Ephemeris). n.b ≤ℤ end_of e) (sym same) c.requires.node.to;
+      depth = subst (λ (k : ℕ). n.depth ≤ k) (sym deep) c.requires.node.depth;
     }

@@ -108,12 +108,14 @@ fn next_splitting(fields: &mut Fields<'_>) -> Result<Splitting, RowError>
     ensures { IfOk result (λ splitting. pos 1 ≤ℤ splitting.width) }
 {
     let width = fields.number::<i64>()?;
-    let depth = fields.number::<u32>()?;
-    let rule = cut_rule(fields)?;
     if width < 1 {
         return Err(RowError::Malformed);
     }
-    Ok(Splitting { width, depth, rule })
+    Ok(Splitting {
+        width,
+        depth: fields.number::<u32>()?,
+        rule: cut_rule(fields)?,
+    })
 }
 
 // What is said of a node in the search for the event of an ask, with this cutter.
@@ -149,13 +151,11 @@ fn judgement_of(
     requires node { IsWithin ephemeris.now splitting.depth node }
 {
     let rule = splitting.rule;
-    let Ok(cut) = Box::new(
-        alloc,
-        move |from: i64, to: i64| -> i64
-            requires { CanCut from to }
-            ensures { result ≡ cut_of rule from to }
-        { rule_cut(rule, from, to) },
-    ) else {
+    let cut = move |from: i64, to: i64| -> i64
+        requires { CanCut from to }
+        ensures { result ≡ cut_of rule from to }
+    { rule_cut(rule, from, to) };
+    let Ok(cut) = Box::new(alloc, cut) else {
         return Err(RowError::Memory);
     };
     judgement_by(

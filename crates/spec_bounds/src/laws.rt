@@ -1,0 +1,71 @@
+// What is true of bounds, of steady spans and of mids: each law is the contract of a function with nothing to do.
+ghost use Rattle.std.specs.Prelude.{◌≡◌, true, false, nat_le, [], All, ℤ, ◌≤ℤ◌, ◌<ℤ◌};
+ghost use Rattle.spec_intervals.specs.declared.signs.Sign.{Sign};
+ghost use Rattle.spec_intervals.specs.Enclosure.{middle};
+ghost use Rattle.spec_intervals.specs.Signs.{sign_of};
+ghost use Rattle.spec_trees.specs.declared.tree.Node.{Node};
+ghost use Rattle.spec_trees.specs.Cuts.{is_wide};
+ghost use Rattle.spec_trees.specs.Tree.{IsValid, width};
+ghost use Rattle.spec_events.specs.Stages.{limit_verdict};
+ghost use Rattle.spec_events.specs.Verdict.{differ, is_known};
+ghost use Rattle.spec_expressions.specs.Term.{HasLeaves, IsLeaf, Leaf, Term};
+ghost use Rattle.spec_ephemeris.specs.Series.{Series};
+ghost use Rattle.spec_motions.specs.Enclosures.{IsSeries, IsSpanOf};
+ghost use Rattle.spec_bodies.specs.declared.quantity.Quantity.{Quantity};
+ghost use Rattle.spec_bodies.specs.Views.{Fits, View, state_enclosure, step_interval, value_interval};
+ghost use Rattle.spec_searches.specs.Found.{rules};
+ghost use Rattle.spec_searches.specs.Search.{IsSearch, Search, criteria, crosses, enclosure_over, verdict_of};
+ghost use Rattle.spec_inclusions.specs.Bounds.{IncludesEnclosure};
+ghost use Rattle.spec_inclusions.specs.Inclusion.{Includes};
+ghost use Rattle.spec_bounds.specs.Terms.{state_bound};
+ghost use Rattle.spec_bounds.specs.Steady.{IsSteady, is_certified_at, sign_at, steady_verdict};
+
+/// The bound of a coordinate over times that fit includes its enclosure over every span within them.
+pub fn bounds_include_states()
+    ensures { (v : View) (l : Leaf) (a b c d : ℤ) → IsLeaf l → Fits v c d
+        → c ≤ℤ a → a <ℤ b → b ≤ℤ d
+        → IncludesEnclosure (state_bound v l c d) (state_enclosure v l a b) }
+{}
+
+/// The verdict of a node within a steady span is told by the signs at its two ends, where both are known.
+pub fn steady_spans_tell_verdicts()
+    ensures { (s : Search) (a b : ℤ) (n : Node) → IsSearch s → IsSteady s a b
+        → IsValid (rules s) n → a ≤ℤ n.a → n.b ≤ℤ b
+        → is_known (sign_at s n.a) ≡ true → is_known (sign_at s n.b) ≡ true
+        → verdict_of s n ≡ steady_verdict (criteria s) n (sign_at s n.a) (sign_at s n.b) }
+{}
+
+/// Signs at the ends of a wide node that differ in a wanted direction leave the limits to decide, where the node is wider
+/// than the width: without conditions, and with conditions that are each certified at one time of the node.
+pub fn ends_that_differ()
+    ensures unconditional { (s : Search) (n : Node) → IsSearch s → IsValid (rules s) n
+        → s.event.conditions ≡ [] → crosses s n ≡ false → is_wide n ≡ true
+        → differ s.event.dir (sign_at s n.a) (sign_at s n.b) ≡ true
+        → nat_le (width n) s.width ≡ false → verdict_of s n ≡ limit_verdict (criteria s) n }
+    ensures certified { (s : Search) (n : Node) (t : ℤ) → IsSearch s → IsValid (rules s) n
+        → n.a ≤ℤ t → t ≤ℤ n.b → All (λ c. is_certified_at s t c ≡ true) s.event.conditions
+        → crosses s n ≡ false → is_wide n ≡ true
+        → differ s.event.dir (sign_at s n.a) (sign_at s n.b) ≡ true
+        → nat_le (width n) s.width ≡ false → verdict_of s n ≡ limit_verdict (criteria s) n }
+{}
+
+/// The intervals of a series over a span include those over every shorter span within it, of its values and of its steps.
+pub fn bounds_include_series()
+    ensures value { (quantity : Quantity) (s : Series) (a b c d : ℤ) → IsSeries s
+        → IsSpanOf s c d → c ≤ℤ a → a ≤ℤ b → b ≤ℤ d
+        → Includes (value_interval quantity s c d) (value_interval quantity s a b) }
+    ensures step { (quantity : Quantity) (s : Series) (a b c d : ℤ) → IsSeries s
+        → IsSpanOf s c d → c ≤ℤ a → a <ℤ b → b ≤ℤ d
+        → Includes (step_interval quantity s c d) (step_interval quantity s a b) }
+{}
+
+/// The mid of a formula's enclosure over times that fit is the range of its enclosure at their middle; so over a node into
+/// which no border falls, the sign of the mid of the function of a search is its sign at the middle of the node.
+pub fn middles_are_told()
+    ensures of_formulas { (v : View) (x : Term) (a b : ℤ) → HasLeaves x → Fits v a b → a <ℤ b
+        → (enclosure_over (state_enclosure v) x a b).mid
+        ≡ (enclosure_over (state_enclosure v) x (middle a b) (middle a b)).range }
+    ensures of_searches { (s : Search) (n : Node) → IsSearch s → IsValid (rules s) n → crosses s n ≡ false
+        → sign_of (enclosure_over (state_enclosure s.view) s.event.function n.a n.b).mid
+        ≡ sign_at s (middle n.a n.b) }
+{}

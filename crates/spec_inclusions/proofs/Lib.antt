@@ -1,0 +1,10 @@
+pub mod Spans
+pub mod Narrowing
+pub mod Coarse
+pub mod Products
+pub mod Gaps
+pub mod Sums
+pub mod Squares
+pub mod Meets
+pub mod Enclosures
+pub mod Inclusions

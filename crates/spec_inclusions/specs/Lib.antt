@@ -1,0 +1,2 @@
+pub mod Inclusion
+pub mod Bounds

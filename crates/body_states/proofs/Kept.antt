@@ -2,7 +2,7 @@
 use Rattle.std.proofs.Common.{◌≡◌, ℕ, zero, suc, ◌+◌, ◌<◌, ◌≤◌, ◌⊎◌, inl, inr, true, false, IfSome, List, Option, Some, length, slice_index_or, slice_set, arith, refl, sym, subst, ℤ}
 use Rattle.std.specs.Prelude.{All, Contains, IsSome}
 use Rattle.std.proofs.lemmas.Bool.{both_ways, cases_lt}
-use Rattle.std.proofs.lemmas.List.{get_or-set_same, get_or-set_other}
+use Rattle.std.proofs.lemmas.List.{get_or-set_same, get_or-set_other, get_or_default, length-set}
 use Rattle.std.proofs.lemmas.List.Elements.{All-filter, All-contains, All-contains_itself}
 use Rattle.spec_ephemeris.specs.declared.limits.TheConstants.{BODY_COLUMNS}
 use Rattle.spec_bodies.specs.Sources.{body_columns, is_in_use}
@@ -16,7 +16,7 @@ use Rattle.event_expr.specs.Leaves.{has_axis}
 use Rattle.body_states.specs.declared.enclosures.AxisEnclosures.{AxisEnclosures}
 use Rattle.body_states.specs.declared.enclosures.ColumnEnclosures.{ColumnEnclosures}
 use Rattle.body_states.specs.declared.enclosures.TargetEnclosures.{TargetEnclosures}
-use Rattle.body_states.specs.Enclosures.{AreAlong, AreOfTargets, IsRead, along, with_along, of_target, nothing_known, nothing_known_of_targets, nothing_known_of_column}
+use Rattle.body_states.specs.Enclosures.{AreAlong, AreOfTargets, AreReadOrNot, IsRead, IsUnread, along, with_along, of_target, nothing_known, nothing_known_of_targets, nothing_known_of_column}
 use Rattle.body_states.specs.Answers.{IsKnown}
 
 few : All (λ n. n ≤ BODY_COLUMNS) body_columns
@@ -120,6 +120,46 @@ read_with axes numbers n columns c below is read place less = by (cases_lt place
         let same : n ≡ place = omega (arith, less, after) in
         subst (λ (k : ℕ). IsRead axes (slice_index_or numbers k 0) (slice_index_or (slice_set columns n c) k nothing_known_of_column)) same
         (subst (IsRead axes (slice_index_or numbers n 0)) (sym (get_or-set_same columns n c nothing_known_of_column below)) is)
+
+-- ---- each of the first columns of a list is read or not
+pub unread_or_not : (axes : Axes) (numbers : List ℕ) (columns : List ColumnEnclosures) → All IsUnread columns → AreReadOrNot axes numbers columns
+unread_or_not axes numbers columns unread place listed kept = inl (unread place nothing_known_of_column kept)
+
+abbrev ReadOrNot : Axes → List ℕ → List ColumnEnclosures → ℕ → Type 0
+ReadOrNot axes numbers columns place = IsUnread (slice_index_or columns place nothing_known_of_column) ⊎ IsRead axes (slice_index_or numbers place 0) (slice_index_or columns place nothing_known_of_column)
+
+pub read_or_not_with : (axes : Axes) (numbers : List ℕ) (n : ℕ) (columns : List ColumnEnclosures) (c : ColumnEnclosures) → n < length columns → IsRead axes (slice_index_or numbers n 0) c → AreReadOrNot axes numbers columns
+    → AreReadOrNot axes numbers (slice_set columns n c)
+read_or_not_with axes numbers n columns c below is read place listed kept = by (cases_lt place n) (cases_lt n place)
+  where
+    within : place < length columns
+    within = subst (λ (k : ℕ). place < k) (length-set columns n c) kept
+
+    other : (place ≡ n → ⊥) → ReadOrNot axes numbers (slice_set columns n c) place
+    other apart = subst (λ (k : ColumnEnclosures). IsUnread k ⊎ IsRead axes (slice_index_or numbers place 0) k) (sym (get_or-set_other columns n place c nothing_known_of_column apart)) (read place listed within)
+
+    by : (place < n) ⊎ (n ≤ place) → (n < place) ⊎ (place ≤ n) → ReadOrNot axes numbers (slice_set columns n c) place
+    by (inl before) d = other (λ same. omega (arith, before, same))
+    by (inr from) (inl after) = other (λ same. omega (arith, after, same))
+    by (inr from) (inr upto) =
+        let same : n ≡ place = omega (arith, from, upto) in
+        subst (ReadOrNot axes numbers (slice_set columns n c)) same
+        (inr (subst (IsRead axes (slice_index_or numbers n 0)) (sym (get_or-set_same columns n c nothing_known_of_column below)) is))
+
+-- one that is not unread is read
+pub read_already : (axes : Axes) (numbers : List ℕ) (n : ℕ) (columns : List ColumnEnclosures) → n < length numbers → n < length columns → (d : ColumnEnclosures) → (IsUnread (slice_index_or columns n d) → ⊥)
+    → AreReadOrNot axes numbers columns → ReadBelow axes numbers n columns → ReadBelow axes numbers (n + 1) columns
+read_already axes numbers n columns listed kept d not read below place less = by (cases_lt place n)
+  where
+    there : ReadOrNot axes numbers columns n → IsRead axes (slice_index_or numbers n 0) (slice_index_or columns n nothing_known_of_column)
+    there (inl unread) = absurd (not (subst IsUnread (get_or_default columns n nothing_known_of_column d kept) unread))
+    there (inr is) = is
+
+    by : (place < n) ⊎ (n ≤ place) → IsRead axes (slice_index_or numbers place 0) (slice_index_or columns place nothing_known_of_column)
+    by (inl before) = below place before
+    by (inr after) =
+        let same : n ≡ place = omega (arith, less, after) in
+        subst (λ (k : ℕ). IsRead axes (slice_index_or numbers k 0) (slice_index_or columns k nothing_known_of_column)) same (there (read n listed kept))
 
 pub right_of_target : (f : ℕ → ℕ → Enclosure) (m : TargetEnclosures) (target : ℕ) → target < 2 → AreOfTargets f m → AreAlong (f target) (of_target m target)
 right_of_target f m zero below are = are.first

@@ -5,3 +5,4 @@ pub mod Readable
 pub mod Reading
 pub mod Sums
 pub mod Kept
+pub mod Shared

@@ -1,5 +1,5 @@
 -- Rows of the bases, and sums over them.
-use Rattle.std.specs.Prelude.{◌≡◌, true, false, ℕ, List, ℤ}
+use Rattle.std.specs.Prelude.{◌≡◌, ◌≤◌, true, false, ℕ, List, ℤ}
 use lib.Signed.{lt_z}
 use Rattle.spec_intervals.specs.Interval.{Interval}
 use Rattle.spec_intervals.specs.Enclosure.{middle}
@@ -13,6 +13,7 @@ use Rattle.spec_bodies.specs.declared.quantity.Quantity.TheVariants.{Position, V
 use Rattle.spec_motions.specs.RowSizes.{IsRow, IsShorterRow}
 use Rattle.body_states.specs.declared.bases.PlainRow.{PlainRow}
 use Rattle.body_states.specs.declared.bases.Rows.{Rows}
+use Rattle.body_states.specs.declared.bases.RowRoom.{RowRoom}
 use Rattle.body_states.specs.declared.granule_span.GranuleSpan.{GranuleSpan}
 
 -- the first entries of the row of a quantity's values, as many as sums over n terms take: T for positions, U for
@@ -54,6 +55,18 @@ IsSingle s = lt_z s.times.now.first s.times.now.last ≡ false
 
 abbrev pub AreSeveral : GranuleSpan → Type 0
 AreSeveral s = lt_z s.times.now.first s.times.now.last ≡ true
+
+-- rows that are kept are those of a granule which begins with theirs, takes as long and has no more coefficients than they
+-- have entries
+pub record IsServed (g : Granule) (room : RowRoom) : Type 0 where
+  pub start : g.start ≡ room.start
+  pub seconds : g.seconds ≡ room.seconds
+  pub few : g.n ≤ room.entries
+
+-- what is kept over the times from a to b is right for each granule that it serves
+pub record AreKept (a b : ℤ) (quantity : Quantity) (room : RowRoom) : Type 0 where
+  pub centre : (s : GranuleSpan) → s.times.now.first ≡ a → s.times.now.last ≡ b → IsServed s.granule room → IsCentre s quantity room.centre
+  pub whole : (s : GranuleSpan) → s.times.now.first ≡ a → s.times.now.last ≡ b → AreSeveral s → IsServed s.granule room → IsWhole s quantity room.whole
 
 -- ---- sums over the rows, by terms, arguments and a length in seconds
 abbrev pub value_over : Quantity → List Ival62 → Ival62 → ℕ → Interval

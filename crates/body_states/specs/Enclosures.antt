@@ -1,5 +1,5 @@
 -- The enclosures of a quantity along each axis.
-use Rattle.std.specs.Prelude.{◌≡◌, ◌<◌, ℕ, zero, suc, true, Option, None, Some, IsSome, IfSome, List, length, slice_index_or}
+use Rattle.std.specs.Prelude.{◌≡◌, ◌<◌, ◌⊎◌, ℕ, zero, suc, true, Option, None, Some, IsSome, IfSome, List, length, slice_index_or}
 use Rattle.spec_intervals.specs.Enclosure.{Enclosure}
 use Rattle.spec_ephemeris.specs.Granules.{series_of}
 use Rattle.spec_bodies.specs.declared.quantity.Quantity.{Quantity}
@@ -59,6 +59,14 @@ pub record IsRead (axes : Axes) (number : ℕ) (c : ColumnEnclosures) : Type 0 w
 abbrev pub AreRead : Axes → List ℕ → List ColumnEnclosures → Type 0
 AreRead axes numbers columns =
     (place : ℕ) → place < length numbers → place < length columns → IsRead axes (slice_index_or numbers place 0) (slice_index_or columns place nothing_known_of_column)
+
+-- a column is not read yet; each of the first columns of a list is either read or not
+abbrev pub IsUnread : ColumnEnclosures → Type 0
+IsUnread c = c.number ≡ 0
+
+abbrev pub AreReadOrNot : Axes → List ℕ → List ColumnEnclosures → Type 0
+AreReadOrNot axes numbers columns =
+    (place : ℕ) → place < length numbers → place < length columns → IsUnread (slice_index_or columns place nothing_known_of_column) ⊎ IsRead axes (slice_index_or numbers place 0) (slice_index_or columns place nothing_known_of_column)
 
 -- and of both targets, by target and axis
 pub record AreOfTargets (enclosures : ℕ → ℕ → Enclosure) (m : TargetEnclosures) : Type 0 where

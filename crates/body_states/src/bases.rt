@@ -1,10 +1,11 @@
-// Rows of the bases of one quantity, made once for all axes.
-ghost use Rattle.std.specs.Prelude.{◌≡◌, ◌≤◌};
+// Rows of the bases of one quantity, made once for all axes of all columns whose granules begin and end together.
+ghost use Rattle.std.specs.Prelude.{◌≡◌, ◌≤◌, IsTrue};
 ghost use Rattle.spec_chebyshev.specs.Rows.{IsArguments};
-ghost use Rattle.body_states.specs.Bases.{ArePlain, AreAll};
+ghost use Rattle.body_states.specs.Bases.{ArePlain, AreAll, IsServed};
 
 use cheby_enclose::empty_row;
 use cheby_laws::{Row, fill_t, fill_tq, fill_u, fill_ur};
+use eph_model::Granule;
 use spec_bodies::Quantity;
 use spec_chebyshev::Ival62;
 
@@ -74,9 +75,13 @@ impl Rows {
     }
 }
 
-/// The row in the middle of several times, and the rows over all of them.
+/// The row in the middle of some times, and where there are several the rows over all of them, with the granules whose
+/// rows they are: when these begin, how long they take and how many entries are made.
 #[derive(Drop)]
 pub(crate) struct RowRoom {
+    pub start: i64,
+    pub seconds: i64,
+    pub entries: usize,
     pub centre: PlainRow,
     pub whole: Rows,
 }
@@ -84,10 +89,35 @@ pub(crate) struct RowRoom {
 impl RowRoom {
     /// Room in which no row is made.
     #[inline(always)]
-    pub fn new() -> RowRoom {
+    pub fn new() -> RowRoom
+        ensures { result.entries ≡ 0 }
+    {
         RowRoom {
+            start: 0,
+            seconds: 0,
+            entries: 0,
             centre: PlainRow::none(),
             whole: Rows::none(),
         }
+    }
+
+    /// Whether its rows are those of a granule.
+    #[inline(always)]
+    pub fn serves(&self, granule: &Granule) -> bool
+        ensures { IsTrue result → IsServed granule.now self.now }
+    {
+        granule.start == self.start && granule.seconds == self.seconds && granule.n <= self.entries
+    }
+
+    /// Turns to the rows of a granule with some number of entries.
+    #[inline(always)]
+    pub fn turn_to(&mut self, granule: &Granule, entries: usize)
+        requires { granule.now.n ≤ entries }
+        ensures served { IsServed granule.now self.new }
+        ensures entries { self.new.entries ≡ entries }
+    {
+        self.start = granule.start;
+        self.seconds = granule.seconds;
+        self.entries = entries;
     }
 }

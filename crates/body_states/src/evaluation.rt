@@ -1,8 +1,9 @@
-// The enclosures of a quantity over times within a granule, with each basis made once for all axes.
-ghost use Rattle.std.specs.Prelude.{◌≡◌, ◌<◌, length};
+// The enclosures of a quantity over times within a granule, with each basis made once for all axes, and for all granules
+// that begin and end together.
+ghost use Rattle.std.specs.Prelude.{◌≡◌, ◌<◌, ◌≤◌, length};
 ghost use Rattle.spec_intervals.specs.Enclosure.{middle};
 ghost use Rattle.body_states.specs.Enclosures.{AreAlong, AreMade, enclosure_along};
-ghost use Rattle.body_states.specs.Bases.{ArePlain, AreAll, IsCentre, IsWhole, IsSingle, AreSeveral, value_over, step_over};
+ghost use Rattle.body_states.specs.Bases.{ArePlain, AreAll, AreKept, AreOver, IsCentre, IsServed, IsWhole, IsSingle, AreSeveral, value_over, step_over};
 
 use crate::bases::{PlainRow, RowRoom, Rows};
 use crate::enclosures::AxisEnclosures;
@@ -14,51 +15,82 @@ use ival_core::{Divider, Enclosure, Ival};
 use spec_bodies::Quantity;
 
 impl<'g> GranuleSpan<'g> {
-    /// Writes the enclosures of a quantity, a position in km or a velocity in km per unit of time, along some axes.
+    /// Writes the enclosures of a quantity, a position in km or a velocity in km per unit of time, along some axes. Rows that
+    /// are not kept are made, with as many entries at least.
     #[inline(always)]
-    pub fn write_along(&self, quantity: Quantity, axes: Axes, out: &mut AxisEnclosures)
+    pub fn write_along(
+        &self,
+        quantity: Quantity,
+        axes: Axes,
+        entries: usize,
+        room: &mut RowRoom,
+        out: &mut AxisEnclosures,
+    )
+        requires kept { let times = self.now.times.now in
+            AreKept times.first times.last quantity room.old }
         requires known { AreAlong (enclosure_along self.now quantity) out.old }
+        ensures kept { let times = self.now.times.now in
+            AreKept times.first times.last quantity room.new }
         ensures right { AreAlong (enclosure_along self.now quantity) out.new }
         ensures made { AreMade axes out.new }
     {
         if self.times.has_several() {
-            self.along_over(quantity, axes, out);
+            self.along_over(quantity, axes, entries, room, out);
         } else {
-            self.along_at(quantity, axes, out);
+            self.along_at(quantity, axes, entries, room, out);
         }
     }
 
     // Writes them over several times.
     #[inline(never)]
-    fn along_over(&self, quantity: Quantity, axes: Axes, out: &mut AxisEnclosures)
+    fn along_over(
+        &self,
+        quantity: Quantity,
+        axes: Axes,
+        entries: usize,
+        room: &mut RowRoom,
+        out: &mut AxisEnclosures,
+    )
         requires several { AreSeveral self.now }
+        requires kept { let times = self.now.times.now in
+            AreKept times.first times.last quantity room.old }
         requires known { AreAlong (enclosure_along self.now quantity) out.old }
+        ensures kept { let times = self.now.times.now in
+            AreKept times.first times.last quantity room.new }
         ensures right { AreAlong (enclosure_along self.now quantity) out.new }
         ensures made { AreMade axes out.new }
     {
-        let mut room = RowRoom::new();
-        self.make_centre(quantity, &mut room.centre);
-        self.make_whole(quantity, &mut room.whole);
+        self.keep_over(quantity, entries, room);
         for axis in 0..3 {
             if axes.has(axis) {
-                out.set(axis, self.over(quantity, axis, &room));
+                out.set(axis, self.over(quantity, axis, room));
             }
         }
     }
 
     // Writes them at a single time, for which neither a row over several nor one of changes is made.
     #[inline(never)]
-    fn along_at(&self, quantity: Quantity, axes: Axes, out: &mut AxisEnclosures)
+    fn along_at(
+        &self,
+        quantity: Quantity,
+        axes: Axes,
+        entries: usize,
+        room: &mut RowRoom,
+        out: &mut AxisEnclosures,
+    )
         requires single { IsSingle self.now }
+        requires kept { let times = self.now.times.now in
+            AreKept times.first times.last quantity room.old }
         requires known { AreAlong (enclosure_along self.now quantity) out.old }
+        ensures kept { let times = self.now.times.now in
+            AreKept times.first times.last quantity room.new }
         ensures right { AreAlong (enclosure_along self.now quantity) out.new }
         ensures made { AreMade axes out.new }
     {
-        let mut centre = PlainRow::none();
-        self.make_centre(quantity, &mut centre);
+        self.keep_at(quantity, entries, room);
         for axis in 0..3 {
             if axes.has(axis) {
-                out.set(axis, self.at(quantity, axis, &centre));
+                out.set(axis, self.at(quantity, axis, &room.centre));
             }
         }
     }
@@ -69,7 +101,8 @@ impl<'g> GranuleSpan<'g> {
         ensures { result ≡ enclosure_along self.now quantity axis }
     {
         let mut made = AxisEnclosures::none();
-        self.write_along(quantity, Axes::one(axis as u8), &mut made);
+        let mut room = RowRoom::new();
+        self.write_along(quantity, Axes::one(axis as u8), 0, &mut room, &mut made);
         made.along(axis).unwrap()
     }
 
@@ -102,23 +135,97 @@ impl<'g> GranuleSpan<'g> {
         self.times.single(mid)
     }
 
+    // Makes the rows over several times, where those that are kept are not the granule's.
+    #[inline(always)]
+    fn keep_over(&self, quantity: Quantity, entries: usize, room: &mut RowRoom)
+        requires several { AreSeveral self.now }
+        requires kept { let times = self.now.times.now in
+            AreKept times.first times.last quantity room.old }
+        ensures kept { let times = self.now.times.now in
+            AreKept times.first times.last quantity room.new }
+        ensures served { IsServed self.now.granule room.new }
+    {
+        if !room.serves(&self.granule) {
+            self.make_over(quantity, entries, room);
+        }
+    }
+
+    #[inline(always)]
+    fn make_over(&self, quantity: Quantity, entries: usize, room: &mut RowRoom)
+        requires several { AreSeveral self.now }
+        ensures kept { let times = self.now.times.now in
+            AreKept times.first times.last quantity room.new }
+        ensures served { IsServed self.now.granule room.new }
+    {
+        let made = self.as_many(entries);
+        room.turn_to(&self.granule, made);
+        self.make_centre(quantity, made, &mut room.centre);
+        self.make_whole(quantity, made, &mut room.whole);
+    }
+
+    // Makes the row at a single time, where that which is kept is not the granule's.
+    #[inline(always)]
+    fn keep_at(&self, quantity: Quantity, entries: usize, room: &mut RowRoom)
+        requires single { IsSingle self.now }
+        requires kept { let times = self.now.times.now in
+            AreKept times.first times.last quantity room.old }
+        ensures kept { let times = self.now.times.now in
+            AreKept times.first times.last quantity room.new }
+        ensures served { IsServed self.now.granule room.new }
+    {
+        if !room.serves(&self.granule) {
+            self.make_at(quantity, entries, room);
+        }
+    }
+
+    #[inline(always)]
+    fn make_at(&self, quantity: Quantity, entries: usize, room: &mut RowRoom)
+        requires single { IsSingle self.now }
+        ensures kept { let times = self.now.times.now in
+            AreKept times.first times.last quantity room.new }
+        ensures served { IsServed self.now.granule room.new }
+    {
+        let made = self.as_many(entries);
+        room.turn_to(&self.granule, made);
+        self.make_centre(quantity, made, &mut room.centre);
+    }
+
+    // As many entries as the granule has coefficients, or more where more are wanted.
+    #[inline(always)]
+    fn as_many(&self, entries: usize) -> usize
+        ensures enough { self.now.granule.n ≤ result }
+        ensures few { result ≤ 32 }
+    {
+        if entries <= 32 {
+            entries.max(self.granule.n)
+        } else {
+            self.granule.n
+        }
+    }
+
     // Makes the row of values in the middle of the times.
     #[inline(always)]
-    fn make_centre(&self, quantity: Quantity, row: &mut PlainRow)
-        ensures { IsCentre self.now quantity row.new }
+    fn make_centre(&self, quantity: Quantity, n: usize, row: &mut PlainRow)
+        requires few { n ≤ 32 }
+        ensures over { let middle = middle self.now.times.now.first self.now.times.now.last in
+            AreOver self.now.granule middle middle row.new }
+        ensures row { ArePlain quantity n row.new }
     {
         let argument = argument_at(&self.granule, self.middle(), self.divider);
-        row.make(quantity, argument, self.granule.n);
+        row.make(quantity, argument, n);
     }
 
     // Makes both rows over all times.
     #[inline(always)]
-    fn make_whole(&self, quantity: Quantity, rows: &mut Rows)
-        ensures { IsWhole self.now quantity rows.new }
+    fn make_whole(&self, quantity: Quantity, n: usize, rows: &mut Rows)
+        requires few { n ≤ 32 }
+        ensures over { let times = self.now.times.now in
+            AreOver self.now.granule times.first times.last rows.new.plain }
+        ensures rows { AreAll quantity n rows.new }
     {
         let (first, last) = (self.times.first(), self.times.last());
         let arguments = arguments_by(&self.granule, first, last, self.divider);
-        rows.make(quantity, arguments, self.granule.n);
+        rows.make(quantity, arguments, n);
     }
 
     // The time halfway, or the last before it.

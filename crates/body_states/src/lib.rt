@@ -14,6 +14,7 @@ mod evaluation;
 mod factors;
 mod granule_span;
 mod question;
+mod ranges;
 mod snapshots;
 mod sources;
 mod states;
@@ -21,6 +22,7 @@ mod targets;
 
 pub use eph_model::{Body, Ephemeris};
 pub use event_expr::States;
+pub use ranges::ColumnRange;
 pub use snapshots::Snapshot;
-pub use spec_bodies::{Frame, Quantity};
+pub use spec_bodies::{Factor, Frame, Quantity, Source};
 pub use states::BodyStates;

@@ -27,6 +27,10 @@ pub struct BodyStates<'e> {
     in_use: InUse,
     /// By the granules of the columns in use, in their order, as far as there are so many.
     dividers: [Divider; KEPT_COLUMNS],
+    /// How many entries their rows want, where columns share them, and 0 where a column shares none.
+    entries: [usize; KEPT_COLUMNS],
+    /// How many of the first columns in use there are to look at for those that share rows: none, where none does.
+    sharing: usize,
 }
 
 impl<'e> Model for BodyStates<'e> {
@@ -80,8 +84,11 @@ impl<'e> BodyStates<'e> {
         let observer = Source::of(observer);
         let factors = Factors::new(ephemeris.header().emrat);
         let in_use = InUse::of(first, second, observer);
+        let entries = entries_of(ephemeris, &in_use.numbers[..in_use.count]);
         BodyStates {
             dividers: dividers_of(ephemeris, &in_use.numbers[..in_use.count]),
+            sharing: sharing_of(&entries),
+            entries,
             ephemeris,
             first,
             second,
@@ -107,6 +114,20 @@ impl<'e> BodyStates<'e> {
         ensures count { length result.now ≡ 4 }
     {
         &self.dividers
+    }
+
+    /// Of the first four columns in use, in their order, how many entries the rows want that a column shares with others,
+    /// and 0 where it shares none. No answer rests on it.
+    pub(crate) fn entries(&self) -> &[usize]
+        ensures { length result.now ≡ 4 }
+    {
+        &self.entries
+    }
+
+    /// How many of the first columns in use there are to look at for those that share rows: none, where none does. No answer
+    /// rests on it.
+    pub(crate) fn sharing(&self) -> usize {
+        self.sharing
     }
 }
 
@@ -148,4 +169,48 @@ fn divider_at(ephemeris: &Ephemeris, numbers: &[usize], place: usize) -> Divider
     } else {
         Divider::of(1)
     }
+}
+
+// How many entries the rows of the first four of some columns want, where columns share them.
+fn entries_of(ephemeris: &Ephemeris, numbers: &[usize]) -> [usize; KEPT_COLUMNS]
+    requires checked { IsEphemeris ephemeris.now }
+    requires block { 0 < ephemeris.now.blocks }
+    requires present { HasColumns ephemeris.now numbers.now }
+{
+    [
+        entries_at(ephemeris, numbers, 0),
+        entries_at(ephemeris, numbers, 1),
+        entries_at(ephemeris, numbers, 2),
+        entries_at(ephemeris, numbers, 3),
+    ]
+}
+
+// As many as the most coefficients of the columns with granules as long as those of the column at a place, and 0 where
+// those of no other are.
+fn entries_at(ephemeris: &Ephemeris, numbers: &[usize], place: usize) -> usize
+    requires checked { IsEphemeris ephemeris.now }
+    requires block { 0 < ephemeris.now.blocks }
+    requires present { HasColumns ephemeris.now numbers.now }
+{
+    let mut entries = 0;
+    if place < numbers.len() {
+        let own = ephemeris.granule(numbers[place], ephemeris.start());
+        for other in 0..numbers.len().min(KEPT_COLUMNS) {
+            let granule = ephemeris.granule(numbers[other], ephemeris.start());
+            if other != place && granule.seconds == own.seconds {
+                entries = entries.max(own.n).max(granule.n);
+            }
+        }
+    }
+    entries
+}
+
+// How many of these there are to look at for one that is not 0.
+fn sharing_of(entries: &[usize; KEPT_COLUMNS]) -> usize {
+    for place in 0..entries.len() {
+        if entries[place] > 0 {
+            return entries.len();
+        }
+    }
+    0
 }

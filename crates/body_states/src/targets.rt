@@ -1,12 +1,14 @@
 // What is wanted of a quantity of both targets over a span of times, with each basis of a column made once.
-ghost use Rattle.std.specs.Prelude.{◌≡◌, ◌<◌, IsTrue};
+ghost use Rattle.std.specs.Prelude.{◌≡◌, ◌<◌, All, IsTrue};
 ghost use Rattle.spec_bodies.specs.Reading.{IsUsable};
 ghost use Rattle.spec_bodies.specs.Views.{Fits, columns_of};
 ghost use Rattle.body_states.specs.Answers.{CanAsk, CanReadSource, CanReadObserver, IsApart, IsKnown, AreKnown, observer_answer, displacement_answer, ecliptic_answer};
+ghost use Rattle.body_states.specs.Bases.{AreKept};
 ghost use Rattle.body_states.specs.Dividers.{granule_seconds};
-ghost use Rattle.body_states.specs.Enclosures.{AreAlong, AreRead, IsRead};
+ghost use Rattle.body_states.specs.Enclosures.{AreAlong, AreRead, AreReadOrNot, IsRead, IsUnread};
 ghost use Rattle.body_states.specs.Moments.{question_state, target_state, AreStates};
 
+use crate::bases::RowRoom;
 use crate::enclosures::{AxisEnclosures, ColumnEnclosures, TargetEnclosures};
 use crate::question::Question;
 use crate::sources::KEPT_COLUMNS;
@@ -88,7 +90,8 @@ impl<'e> BodyStates<'e> {
         }
     }
 
-    // Writes the first columns in use along some axes, as many as are kept.
+    // Writes the first columns in use along some axes, as many as are kept, of which none is written yet. Those with
+    // granules as long as those of others come first, one behind another, so that they share their rows.
     fn write_columns(
         &self,
         quantity: Quantity,
@@ -98,44 +101,114 @@ impl<'e> BodyStates<'e> {
     )
         requires fits { Fits self.now times.now.first times.now.last }
         requires known { AreKnown self.now quantity times.now.first times.now.last columns.old }
+        requires unread { All IsUnread columns.old }
+        ensures right { AreKnown self.now quantity times.now.first times.now.last columns.new }
+        ensures made { AreRead axes (columns_of self.now) columns.new }
+    {
+        let mut room = RowRoom::new();
+        self.write_shared(quantity, times, axes, &mut room, columns);
+        self.write_others(quantity, times, axes, &mut room, columns);
+    }
+
+    // Writes those with granules as long as those of others.
+    fn write_shared(
+        &self,
+        quantity: Quantity,
+        times: &TimeSpan,
+        axes: Axes,
+        room: &mut RowRoom,
+        columns: &mut [ColumnEnclosures; KEPT_COLUMNS],
+    )
+        requires fits { Fits self.now times.now.first times.now.last }
+        requires kept { AreKept times.now.first times.now.last quantity room.old }
+        requires known { AreKnown self.now quantity times.now.first times.now.last columns.old }
+        requires unread { AreReadOrNot axes (columns_of self.now) columns.old }
+        ensures kept { AreKept times.now.first times.now.last quantity room.new }
+        ensures right { AreKnown self.now quantity times.now.first times.now.last columns.new }
+        ensures read { AreReadOrNot axes (columns_of self.now) columns.new }
+    {
+        let numbers = self.columns();
+        let dividers = self.dividers();
+        let entries = self.entries();
+        let sharing = self.sharing().min(KEPT_COLUMNS);
+        for place in 0..numbers.len().min(sharing) {
+            if entries[place] > 0 {
+                let column = &mut columns[place];
+                self.write_column(
+                    numbers[place],
+                    &dividers[place],
+                    entries[place],
+                    quantity,
+                    times,
+                    axes,
+                    room,
+                    column,
+                );
+            }
+        }
+    }
+
+    // Writes those that are not written yet.
+    fn write_others(
+        &self,
+        quantity: Quantity,
+        times: &TimeSpan,
+        axes: Axes,
+        room: &mut RowRoom,
+        columns: &mut [ColumnEnclosures; KEPT_COLUMNS],
+    )
+        requires fits { Fits self.now times.now.first times.now.last }
+        requires kept { AreKept times.now.first times.now.last quantity room.old }
+        requires known { AreKnown self.now quantity times.now.first times.now.last columns.old }
+        requires read { AreReadOrNot axes (columns_of self.now) columns.old }
         ensures right { AreKnown self.now quantity times.now.first times.now.last columns.new }
         ensures made { AreRead axes (columns_of self.now) columns.new }
     {
         let numbers = self.columns();
         let dividers = self.dividers();
         for place in 0..numbers.len().min(KEPT_COLUMNS) {
-            let column = &mut columns[place];
-            self.write_column(
-                numbers[place],
-                &dividers[place],
-                quantity,
-                times,
-                axes,
-                column,
-            );
+            if columns[place].number == 0 {
+                let divider = &dividers[place];
+                let column = &mut columns[place];
+                self.write_column(
+                    numbers[place],
+                    divider,
+                    0,
+                    quantity,
+                    times,
+                    axes,
+                    room,
+                    column,
+                );
+            }
         }
     }
 
     // Writes a column along some axes, and forgets what stood there.
+    #[inline(always)]
     fn write_column(
         &self,
         number: usize,
         divider: &Divider,
+        entries: usize,
         quantity: Quantity,
         times: &TimeSpan,
         axes: Axes,
+        room: &mut RowRoom,
         column: &mut ColumnEnclosures,
     )
         requires fits { Fits self.now times.now.first times.now.last }
         requires usable { IsUsable self.now number }
         requires divider { divider.now ≡ granule_seconds self.now.ephemeris number }
+        requires kept { AreKept times.now.first times.now.last quantity room.old }
+        ensures kept { AreKept times.now.first times.now.last quantity room.new }
         ensures right { IsKnown self.now quantity times.now.first times.now.last column.new }
         ensures made { IsRead axes number column.new }
     {
         column.number = number;
         column.along = AxisEnclosures::none();
         let span = self.granule_span(number, times, divider);
-        span.write_along(quantity, axes, &mut column.along);
+        span.write_along(quantity, axes, entries, room, &mut column.along);
     }
 
     // Writes the observer along some axes of the files, where a target is seen from it.

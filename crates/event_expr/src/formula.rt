@@ -63,7 +63,7 @@ impl Formula {
     }
 
     /// The expression.
-    pub(crate) fn expr(&self) -> &Expr
+    pub fn expr(&self) -> &Expr
         ensures whole { term result.now ≡ self.now }
         ensures formula { IsFormula (term result.now) }
     {

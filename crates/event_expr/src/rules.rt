@@ -4,7 +4,7 @@ ghost use Rattle.std.specs.Prelude.{◌≡◌, ◌≤◌, ◌*◌, ◌-ℤ◌, p
 ghost use lib.Signed.{lt_z};
 ghost use Rattle.spec_intervals.specs.Interval.{Interval, end_limit};
 ghost use Rattle.spec_intervals.specs.Fraction.{Overlaps};
-ghost use Rattle.spec_intervals.specs.Enclosure.{IsSpan, IsWithin, AllWithin, Encloses, middle, centred, enclosure, constant_of, sum_of, difference_of, product_of, signed_square_of, twice_size};
+ghost use Rattle.spec_intervals.specs.Enclosure.{IsSpan, IsWithin, AllWithin, Encloses, middle, offsets, centred, enclosure, constant_of, sum_of, difference_of, product_of, signed_square_of, twice_size};
 ghost use Rattle.spec_expressions.specs.Term.{part_exponent};
 ghost use Rattle.event_expr.specs.States.{wide_exponent};
 
@@ -62,6 +62,14 @@ impl TimeSpan {
         ensures { result ≡ self.now.last }
     {
         self.last
+    }
+
+    /// The distances of the first and of the last time from the middle.
+    #[inline(always)]
+    pub fn distances(&self) -> Ival
+        ensures { result ≡ offsets self.now.first self.now.last }
+    {
+        self.distances
     }
 
     /// A constant, by an interval that holds some number. Since nothing changes, the values that are reached from the middle
@@ -282,7 +290,7 @@ fn distance(time: i64, origin: i64) -> i128
 
 /// From 0 to twice the greatest magnitude in the interval.
 #[inline(always)]
-fn twice_size(range: Ival) -> Ival
+pub fn twice_size(range: Ival) -> Ival
     requires { IsWithin part_exponent range }
     ensures { result ≡ twice_size range }
 {

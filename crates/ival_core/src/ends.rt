@@ -165,6 +165,26 @@ pub fn exponent_gap(s: i32, t: i32) -> u32
     (t - s) as u32
 }
 
+/// How far one exponent has to rise to reach another: not at all where that is lower.
+pub fn exponent_rise(s: i32, t: i32) -> u32
+    requires exponent { IsExponent s }
+    requires other_exponent { IsExponent t }
+    ensures equals { result ≡ int_gap s t }
+    ensures bound { result ≤ 2 * exponent_limit }
+{
+    if s < t { exponent_gap(s, t) } else { 0 }
+}
+
+/// The greater of two exponents.
+pub fn greater_exponent(s: i32, t: i32) -> i32
+    requires exponent { IsExponent s }
+    requires other_exponent { IsExponent t }
+    ensures equals { result ≡ int_max s t }
+    ensures bound { IsExponent result }
+{
+    if s < t { t } else { s }
+}
+
 /// The product of two ends, by one multiplication of 64-bit numbers.
 #[inline(always)]
 fn times(a: i64, b: i64) -> i128

@@ -1,18 +1,20 @@
 // The interval, and the calls that make one from others.
 
 ghost use Rattle.std.specs.Prelude.{◌≡◌, ◌≤◌, ◌<◌, ◌^◌, ◌*◌, ◌≤ℤ◌, ℤ, pos, neg_ℤ, unsigned_abs, ◌⊎◌};
+ghost use Rattle.spec_inclusions.specs.Bounds.{coarse_difference, coarse_sum, coarsened, raised_sum};
 ghost use Rattle.spec_intervals.specs.Interval.{Interval, IsIval, IsExponent, exponent_limit, narrow_shift, IsDistance, IsCosine, end_limit, distance_exponent, cosine_exponent, interval, narrow, settled, is_zero, sum, sum_up, negated, difference, product, join, join_up, meet, meet_up, signed_square, scale, from_decimal};
 ghost use Rattle.spec_intervals.specs.Fraction.{Fraction, Holds, Overlaps, fraction_add, fraction_sub, fraction_mul, fraction_signed_square, fraction_scale, decimal};
 ghost use Rattle.spec_intervals.specs.Signs.{sign_of};
 ghost use Rattle.ival_core.specs.Aligned.{IsAligned};
+ghost use Rattle.ival_core.specs.Raised.{IsRaised};
 ghost use borrow.Author.Differences.{up, down};
 
 use crate::decimals::decimal_ends;
 use crate::divider::Divider;
 use crate::ends::{
-    added, ceil_shift, exponent_gap, floor_shift, greater_size, half_down, high_end, in_order,
-    is_moderate, is_small, leading_shift, least_shift, lifted, low_end, product_ends, small_end,
-    square_end,
+    added, ceil_shift, exponent_gap, exponent_rise, floor_shift, greater_exponent, greater_size,
+    half_down, high_end, in_order, is_moderate, is_small, leading_shift, least_shift, lifted,
+    low_end, product_ends, small_end, square_end,
 };
 use spec_intervals::Sign;
 use std::marker::Model;
@@ -203,6 +205,42 @@ impl Ival {
             → Holds result (fraction_scale r divider.now) }
     {
         scaled_by(lo, hi, s, divider)
+    }
+
+    /// The interval at an exponent of at least `s`, rounded outward and normalized.
+    pub fn coarsened(self, s: i32) -> Ival
+        requires exponent { IsExponent self.s }
+        requires other_exponent { IsExponent s }
+        ensures { result ≡ coarsened s self }
+    {
+        let own = at_exponent(self, s);
+        narrowed(own.lo, own.hi, own.s)
+    }
+
+    /// The sum in the coarser of both units: the ends are added at the greater exponent and normalized. An interval of 0
+    /// alone adds nothing.
+    #[tactic(auto, unfolding(spec_inclusions::specs::Bounds::coarse_sum))]
+    pub fn coarse_sum(self, other: Ival) -> Ival
+        requires exponent { IsExponent self.s }
+        requires other_exponent { IsExponent other.s }
+        ensures { result ≡ coarse_sum self other }
+    {
+        if self.is_zero() {
+            other
+        } else if other.is_zero() {
+            self
+        } else {
+            raised_sum(self, other)
+        }
+    }
+
+    /// The difference in the coarser of both units.
+    pub fn coarse_difference(self, other: Ival) -> Ival
+        requires exponent { IsExponent self.s }
+        requires other_exponent { IsExponent other.s }
+        ensures { result ≡ coarse_difference self other }
+    {
+        self.coarse_sum(other.negated())
     }
 
     /// The interval negated.
@@ -496,4 +534,38 @@ fn at_one_exponent(x: Ival, y: Ival) -> Aligned
         upper_hi,
         s,
     }
+}
+
+/// The ends of an interval in a unit that is no finer than its own, rounded outward.
+#[derive(Clone, Copy)]
+struct Raised {
+    lo: i128,
+    hi: i128,
+    s: i32,
+}
+
+/// An interval at an exponent of at least `s`.
+fn at_exponent(x: Ival, s: i32) -> Raised
+    requires exponent { IsExponent x.s }
+    requires other_exponent { IsExponent s }
+    ensures { IsRaised s x result }
+{
+    let k = exponent_rise(x.s, s);
+    let (lo, hi) = (floor_shift(x.lo, k), ceil_shift(x.hi, k));
+    Raised {
+        lo,
+        hi,
+        s: x.s + k as i32,
+    }
+}
+
+/// The sum of two intervals at the greater of both exponents.
+fn raised_sum(x: Ival, y: Ival) -> Ival
+    requires exponent { IsExponent x.s }
+    requires other_exponent { IsExponent y.s }
+    ensures { result ≡ raised_sum x y }
+{
+    let s = greater_exponent(x.s, y.s);
+    let (own, more) = (at_exponent(x, s), at_exponent(y, s));
+    narrowed(added(own.lo, more.lo), added(own.hi, more.hi), s)
 }

@@ -1,4 +1,4 @@
-use Rattle.std.proofs.Common.{◌∙◌, arith, sym}
+use Rattle.std.proofs.Common.{◌∙◌, arith, refl, sym}
 use Rattle.body_states.specs.Enclosures.{enclosure_along}
 use Rattle.body_states.proofs.Kept.{right_with, made_with, made_without}
 use Rattle.body_states.proofs.granule_span.GranuleSpan.along_at.Goals as goal
@@ -22,3 +22,6 @@ returns-clause-right c = c.loop-axis.invariant.0
 
 pub returns-clause-made : goal.returns-clause-made
 returns-clause-made c = λ axis below has. let end = c.loop-axis-test.false in c.loop-axis.invariant.1 axis (omega (arith, below, end)) has
+
+pub at-requires-clause-centre : goal.at-requires-clause-centre
+at-requires-clause-centre c = c.keep_at.ensures.kept.centre c.args.self.now refl refl c.keep_at.ensures.served

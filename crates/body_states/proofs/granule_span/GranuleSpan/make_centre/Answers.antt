@@ -2,8 +2,8 @@ use Rattle.std.proofs.Common.{rules, ◌∙◌, FitsSigned, w64}
 use Rattle.std.proofs.lemmas.Int.{to_z-of_z}
 use Rattle.body_states.proofs.granule_span.GranuleSpan.make_centre.Goals as goal
 
-pub returns : goal.returns
-returns c =
+pub returns-clause-over : goal.returns-clause-over
+returns-clause-over c =
     let fm : FitsSigned w64 c.middle.result = search rules in
     let sm = to_z-of_z w64 c.middle.result fm ∙ c.middle.ensures in
-    record { over = λ axis. c.make.ensures.arguments ∙ (rw sm at (c.argument_at-argument.ensures.equals axis)); row = c.make.ensures.row }
+    λ axis. c.make.ensures.arguments ∙ (rw sm at (c.argument_at-argument.ensures.equals axis))

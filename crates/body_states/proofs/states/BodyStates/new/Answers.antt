@@ -21,6 +21,11 @@ dividers_of-requires-clause-present c =
     let d = (goal.at.dividers_of-requires-clause-present c).After-of-in_use in
     rw c.of-in_use.ensures.numbers (present_in_use _ (is_view d))
 
+pub entries_of-entries-requires-clause-present : goal.entries_of-entries-requires-clause-present
+entries_of-entries-requires-clause-present c =
+    let d = (goal.at.entries_of-entries-requires-clause-present c).After-of-in_use in
+    rw c.of-in_use.ensures.numbers (present_in_use _ (is_view d))
+
 pub invariant_of-result : goal.invariant_of-result
 invariant_of-result c =
     let d = (goal.at.invariant_of-result c).After-of-in_use in (

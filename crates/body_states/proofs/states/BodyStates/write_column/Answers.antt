@@ -4,7 +4,7 @@ use Rattle.body_states.proofs.Kept.{nothing_is_along, same_along}
 use Rattle.body_states.proofs.states.BodyStates.write_column.Goals as goal
 
 pub write_along-requires : goal.write_along-requires
-write_along-requires c = record { known = nothing_is_along _ _ c.none-column.ensures }
+write_along-requires c = record { kept = rw c.granule_span-span.ensures.times c.requires.kept; known = nothing_is_along _ _ c.none-column.ensures }
 
 pub returns-clause-right : goal.returns-clause-right
 returns-clause-right c = λ usable.

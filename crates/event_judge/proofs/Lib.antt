@@ -1,2 +1,4 @@
 mod Near
 mod Looking
+mod Remembered
+mod Middles

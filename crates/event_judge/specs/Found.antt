@@ -29,6 +29,9 @@ whole_moment s n = moment s.view n.a n.b
 abbrev pub enclosure_at : Search → Moment → Enclosure
 enclosure_at s m = enclosure_in m s.event.function
 
+abbrev pub whole_enclosure : Search → Node → Enclosure
+whole_enclosure s n = enclosure_at s (whole_moment s n)
+
 abbrev pub sign_at : Search → Moment → Sign
 sign_at s m = sign_in m s.event.function
 

@@ -1,3 +1,6 @@
 pub mod Moments
 pub mod Found
 pub mod Wanted
+pub mod Named
+pub mod Memory
+pub mod Plain

@@ -8,9 +8,9 @@ use body_states::Snapshot;
 use event_kinds::Guard;
 use ival_core::Sign;
 
-// The sign certifies what has to be at least 0, or below 0.
+/// The sign certifies what has to be at least 0, or below 0.
 #[inline(always)]
-fn certifies(at_least: bool, sign: Sign) -> bool
+pub(crate) fn certifies(at_least: bool, sign: Sign) -> bool
     ensures { result ≡ certifies at_least sign }
 {
     match sign {

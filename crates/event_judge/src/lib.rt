@@ -4,13 +4,27 @@
 //! to which nodes are split, and a cutter; out comes a `Judge`, whose rules are those of the search that it stands for.
 //! It looks at no more of a node than decides: at no enclosure where a border falls into a wide node, at no end where
 //! the function over the whole node decides, or where the ends decide nothing. No call allocates or fails.
+//!
+//! A `RememberingJudge` stands for another judge of the same search, has its rules, and remembers what it found out in words
+//! that its workers share: the signs of the function at times, and steady spans. The verdict of a node in such a span is told
+//! by the signs at its two ends alone. Memory can run out as one is made, and nothing waits.
 #![tactic(auto)]
 
 mod conditions;
 mod event_search;
+pub mod examples;
 mod judge;
 mod judging;
+mod memory;
+mod named_judge;
+mod naming;
 mod parts;
+mod recalling;
+mod remembering;
+mod remembering_judge;
+mod sign_words;
+mod span_words;
+mod steady;
 mod steps;
 mod valid_node;
 mod verdicts;
@@ -21,4 +35,7 @@ pub use event_kinds::Event;
 pub use event_search::EventSearch;
 pub use gf_hooks::Cutter;
 pub use judge::EventJudge;
+pub use named_judge::NamedJudge;
+pub use naming::Naming;
+pub use remembering_judge::RememberingJudge;
 pub use tree_judge::{Judge, Node, Verdict};

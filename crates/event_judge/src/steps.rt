@@ -5,17 +5,25 @@ ghost use Rattle.spec_events.specs.Stages.{is_turnless};
 ghost use Rattle.spec_events.specs.Verdict.{is_one_way};
 
 use gf_signs::Steps;
-use ival_core::Enclosure;
+use ival_core::{Enclosure, Ival};
 use spec_events::Dir;
 
 // The ends of the interval of the steps, in a unit of their own.
 #[inline(always)]
-fn steps(over: &Enclosure) -> Steps
-    ensures lo { result.lo ≡ over.now.step.lo }
-    ensures hi { result.hi ≡ over.now.step.hi }
+fn steps(step: &Ival) -> Steps
+    ensures lo { result.lo ≡ step.now.lo }
+    ensures hi { result.hi ≡ step.now.hi }
 {
-    let (lo, hi, _) = over.step.parts();
+    let (lo, hi, _) = step.parts();
     Steps { lo, hi }
+}
+
+/// What has such steps is monotone.
+#[inline(always)]
+pub(crate) fn leads_one_way(step: Ival) -> bool
+    ensures { result ≡ is_one_way step }
+{
+    gf_signs::is_one_way(steps(&step))
 }
 
 /// It is monotone, so that its turns are known by the signs at the ends.
@@ -23,7 +31,7 @@ fn steps(over: &Enclosure) -> Steps
 pub(crate) fn is_one_way(over: &Enclosure) -> bool
     ensures { result ≡ is_one_way over.now.step }
 {
-    gf_signs::is_one_way(steps(over))
+    gf_signs::is_one_way(steps(&over.step))
 }
 
 /// It has one sign over all times, or its steps lead against the direction that is wanted.
@@ -31,5 +39,5 @@ pub(crate) fn is_one_way(over: &Enclosure) -> bool
 pub(crate) fn is_turnless(dir: Dir, over: &Enclosure) -> bool
     ensures { result ≡ is_turnless dir (sign_of over.now.range) over.now.step }
 {
-    gf_signs::is_turnless(dir, over.range.sign(), steps(over))
+    gf_signs::is_turnless(dir, over.range.sign(), steps(&over.step))
 }

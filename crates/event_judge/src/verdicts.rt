@@ -4,6 +4,7 @@ ghost use Rattle.spec_trees.specs.Cuts.{is_wide};
 ghost use Rattle.spec_trees.specs.Tree.{width};
 ghost use Rattle.spec_events.specs.Stages.{end_verdict, is_above_limits, limit_verdict, open_verdict, unit_verdict};
 ghost use Rattle.spec_searches.specs.Search.{border_in, criteria, crosses, may_be_cut, verdict_of};
+ghost use Rattle.spec_bounds.specs.Steady.{steady_verdict};
 ghost use Rattle.event_judge.specs.Found.{enclosure_at, first_moment, guards_at, is_certified_at, is_refuted_at, is_turnless_by, last_moment, sign_at, whole_moment};
 
 use crate::conditions::{are_certified, is_one_refuted};
@@ -26,17 +27,17 @@ impl<'s, 'e> ValidNode<'s, 'e> {
             .border_near(columns, self.node.a, self.node.b)
     }
 
-    // The number of its times.
+    /// The number of its times.
     #[inline(always)]
-    fn width(self) -> u64
+    pub(crate) fn width(self) -> u64
         ensures { result ≡ width self.entry.node }
     {
         (self.node.b - self.node.a).unsigned_abs()
     }
 
-    // Wider than one unit of time.
+    /// Wider than one unit of time.
     #[inline(always)]
-    fn is_wide(self) -> bool
+    pub(crate) fn is_wide(self) -> bool
         ensures { result ≡ is_wide self.entry.node }
     {
         self.width() > 1
@@ -49,9 +50,9 @@ impl<'s, 'e> ValidNode<'s, 'e> {
         self.is_wide() && (self.border().is_some() || self.node.depth < self.search.depth())
     }
 
-    // No wider than the width of the search.
+    /// No wider than the width of the search.
     #[inline(always)]
-    fn is_narrow(self) -> bool
+    pub(crate) fn is_narrow(self) -> bool
         ensures { result ≡ nat_le (width self.entry.node) self.entry.search.now.width }
     {
         self.width() <= self.search.width()
@@ -65,9 +66,9 @@ impl<'s, 'e> ValidNode<'s, 'e> {
         !self.is_narrow() && self.node.depth < self.search.depth()
     }
 
-    // The states at its first time, of which only the function is asked.
+    /// The states at its first time, of which only the function is asked.
     #[inline(always)]
-    fn first(self) -> Snapshot<'s, 'e>
+    pub(crate) fn first(self) -> Snapshot<'s, 'e>
         ensures { result ≡ first_moment self.entry.search.now self.entry.node }
     {
         let states = self.search.states();
@@ -85,9 +86,9 @@ impl<'s, 'e> ValidNode<'s, 'e> {
         states.at(self.node.b, self.node.b, self.search.wanted())
     }
 
-    // The states at its last time, of which only the function is asked.
+    /// The states at its last time, of which only the function is asked.
     #[inline(always)]
-    fn last_of_function(self) -> Snapshot<'s, 'e>
+    pub(crate) fn last_of_function(self) -> Snapshot<'s, 'e>
         ensures { result ≡ last_moment self.entry.search.now self.entry.node }
     {
         let (states, time) = (self.search.states(), self.node.b);
@@ -95,9 +96,9 @@ impl<'s, 'e> ValidNode<'s, 'e> {
         states.at(time, time, self.search.of_function())
     }
 
-    // The states over all its times, where no border falls into it.
+    /// The states over all its times, where no border falls into it.
     #[inline(always)]
-    fn whole(self) -> Snapshot<'s, 'e>
+    pub(crate) fn whole(self) -> Snapshot<'s, 'e>
         requires { crosses self.search.now self.node ≡ false }
         ensures { result ≡ whole_moment self.entry.search.now self.entry.node }
     {
@@ -106,17 +107,17 @@ impl<'s, 'e> ValidNode<'s, 'e> {
         states.at(self.node.a, self.node.b, self.search.wanted())
     }
 
-    // The enclosure of the function over some times.
+    /// The enclosure of the function over some times.
     #[inline(always)]
-    fn enclosure(self, states: &Snapshot) -> Enclosure
+    pub(crate) fn enclosure(self, states: &Snapshot) -> Enclosure
         ensures { result ≡ enclosure_at self.entry.search.now states.now }
     {
         states.enclosure(self.search.event().function())
     }
 
-    // Its sign.
+    /// Its sign.
     #[inline(always)]
-    fn sign(self, states: &Snapshot) -> Sign
+    pub(crate) fn sign(self, states: &Snapshot) -> Sign
         ensures { result ≡ sign_at self.entry.search.now states.now }
     {
         self.enclosure(states).range.sign()
@@ -146,9 +147,9 @@ impl<'s, 'e> ValidNode<'s, 'e> {
         are_certified(self.search.event().guards(), states)
     }
 
-    // The verdict where nothing decides.
+    /// The verdict where nothing decides.
     #[inline(always)]
-    fn limit_verdict(self) -> Verdict
+    pub(crate) fn limit_verdict(self) -> Verdict
         ensures { result ≡ limit_verdict (criteria self.entry.search.now) self.entry.node }
     {
         if self.is_above_limits() {
@@ -175,6 +176,20 @@ impl<'s, 'e> ValidNode<'s, 'e> {
         }
     }
 
+    /// The verdict of a node in a steady span, by signs at its ends that are both known.
+    pub(crate) fn steady_verdict(self, at_first: Sign, at_last: Sign) -> Verdict
+        ensures { result ≡ steady_verdict (criteria self.entry.search.now) self.entry.node
+            at_first at_last }
+    {
+        if has_no_turn(self.search.event().dir(), at_first, at_last) {
+            Verdict::Clear
+        } else if self.is_narrow() {
+            Verdict::One(turn_to(at_last))
+        } else {
+            self.limit_verdict()
+        }
+    }
+
     // The verdict of a node that is one unit wide, by the states at its two times.
     fn unit_verdict(self) -> Verdict
         ensures { let s = self.entry.search.now in
@@ -190,23 +205,23 @@ impl<'s, 'e> ValidNode<'s, 'e> {
         }
     }
 
-    // The verdict of a node into which no border falls.
-    fn open_verdict(self) -> Verdict
-        requires { crosses self.search.now self.node ≡ false }
+    /// The verdict of a node into which no border falls, by the states over all its times and the enclosure of the function.
+    pub(crate) fn verdict_over(self, whole: &Snapshot, over: &Enclosure) -> Verdict
+        requires uncrossed { crosses self.search.now self.node ≡ false }
+        requires whole { whole.now ≡ whole_moment self.search.now self.node }
+        requires over { over.now ≡ enclosure_at self.search.now whole.now }
         ensures { result ≡ verdict_of self.entry.search.now self.entry.node }
     {
         let _width = self.search.width();
-        let whole = self.whole();
-        let over = self.enclosure(&whole);
-        if self.is_turnless(&over) {
+        if self.is_turnless(over) {
             Verdict::Clear
         } else if !self.is_wide() {
             self.unit_verdict()
-        } else if self.is_refuted(&whole) {
+        } else if self.is_refuted(whole) {
             Verdict::Clear
-        } else if is_one_way(&over) {
+        } else if is_one_way(over) {
             self.end_verdict(
-                &whole,
+                whole,
                 self.sign(&self.first()),
                 self.sign(&self.last_of_function()),
             )
@@ -215,8 +230,18 @@ impl<'s, 'e> ValidNode<'s, 'e> {
         }
     }
 
-    // The verdict of a node into which a border falls.
-    fn border_verdict(self) -> Verdict
+    // The verdict of a node into which no border falls.
+    fn open_verdict(self) -> Verdict
+        requires { crosses self.search.now self.node ≡ false }
+        ensures { result ≡ verdict_of self.entry.search.now self.entry.node }
+    {
+        let whole = self.whole();
+        let over = self.enclosure(&whole);
+        self.verdict_over(&whole, &over)
+    }
+
+    /// The verdict of a node into which a border falls.
+    pub(crate) fn border_verdict(self) -> Verdict
         requires { crosses self.search.now self.node ≡ true }
         ensures { result ≡ verdict_of self.entry.search.now self.entry.node }
     {

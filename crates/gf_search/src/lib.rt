@@ -4,6 +4,7 @@
 #![tactic(auto)]
 
 mod book;
+mod remembered;
 mod search;
 
 pub use search::leaves;

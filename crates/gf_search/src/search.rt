@@ -7,7 +7,7 @@ ghost use Rattle.spec_requests.specs.declared.limits.TheConstants.{MAX_WORKERS};
 ghost use Rattle.spec_outcomes.specs.Outcomes.{IsFound, Stops};
 ghost use Rattle.spec_outcomes.specs.Queries.{IsQuery, is_within};
 
-use crate::book::leaves_by;
+use crate::remembered::remembered_leaves;
 use eph_model::Ephemeris;
 use event_kinds::Event;
 use gf_edges::Gate;
@@ -55,7 +55,8 @@ fn leaves_of<R: Threads + Wait + Sync, G: Gate>(
         return Err(Refusal::Memory);
     };
     let judge = judge(ephemeris, query, event, Cutter::new(rule, cut));
-    leaves_by(rt, alloc, &judge, root_of(span), workers, most, gate)
+    let root = root_of(span);
+    remembered_leaves(rt, alloc, &judge, &judge.search, root, workers, most, gate)
 }
 
 /// The leaves of a query's search over a span of an ephemeris, in order of time, which so many workers look for, 1 to 64:

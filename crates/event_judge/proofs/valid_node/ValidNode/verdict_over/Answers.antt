@@ -7,7 +7,7 @@ use Rattle.spec_searches.specs.Search.{Search, criteria}
 use Rattle.body_states.specs.Moments.{Moment}
 use Rattle.event_judge.specs.Found.{enclosure_at, first_moment, guards_at, is_refuted_at, is_turnless_by, last_moment, sign_at, whole_moment}
 use Rattle.event_judge.proofs.Looking.{both_ways, is_one_way_at, is_turnless_at, one_way, open_unit, refuted, turnless}
-use Rattle.event_judge.proofs.valid_node.ValidNode.open_verdict.Goals as goal
+use Rattle.event_judge.proofs.valid_node.ValidNode.verdict_over.Goals as goal
 
 -- ---- what is found over all times of the node, by the states that were made of them
 module _ (s : Search) (n : Node) (m : Moment) (whole : m ≡ whole_moment s n) (found : Bool) (b : Bool) (test : found ≡ b) where
@@ -28,8 +28,8 @@ pub returns-then-is_turnless : goal.returns-then-is_turnless
 returns-then-is_turnless c =
     let s = c.args.self.search.now in
     let n = c.args.self.node in
-    let tells : is_turnless_at s n ≡ true = turnless_is s n _ c.whole-whole.ensures _ true c.if-is_turnless.true _ c.enclosure-over.ensures c.is_turnless.ensures in
-    sym (turnless s c.width-width.ensures.some n c.args.self.valid.inside c.requires tells)
+    let tells : is_turnless_at s n ≡ true = turnless_is s n _ c.requires.whole _ true c.if-is_turnless.true _ c.requires.over c.is_turnless.ensures in
+    sym (turnless s c.width-width.ensures.some n c.args.self.valid.inside c.requires.uncrossed tells)
 
 pub returns-then-not-is_wide : goal.returns-then-not-is_wide
 returns-then-not-is_wide c =
@@ -37,26 +37,26 @@ returns-then-not-is_wide c =
     let n = c.args.self.node in
     let test = c.if-not-is_wide.true in
     let narrow : c.is_wide.result ≡ false = cc in
-    c.unit_verdict.ensures ∙ sym (open_unit s c.width-width.ensures.some n c.args.self.valid.inside c.requires (turnless_is s n _ c.whole-whole.ensures _ false c.if-is_turnless.false _ c.enclosure-over.ensures c.is_turnless.ensures) (sym c.is_wide.ensures ∙ narrow))
+    c.unit_verdict.ensures ∙ sym (open_unit s c.width-width.ensures.some n c.args.self.valid.inside c.requires.uncrossed (turnless_is s n _ c.requires.whole _ false c.if-is_turnless.false _ c.requires.over c.is_turnless.ensures) (sym c.is_wide.ensures ∙ narrow))
 
 pub returns-then-is_refuted : goal.returns-then-is_refuted
 returns-then-is_refuted c =
     let s = c.args.self.search.now in
     let n = c.args.self.node in
-    sym (refuted s c.width-width.ensures.some n c.args.self.valid.inside c.requires (turnless_is s n _ c.whole-whole.ensures _ false c.if-is_turnless.false _ c.enclosure-over.ensures c.is_turnless.ensures) (sym c.is_wide.ensures ∙ c.if-not-is_wide.false) (refuted_is s n _ c.whole-whole.ensures _ true c.if-is_refuted.true c.is_refuted.ensures))
+    sym (refuted s c.width-width.ensures.some n c.args.self.valid.inside c.requires.uncrossed (turnless_is s n _ c.requires.whole _ false c.if-is_turnless.false _ c.requires.over c.is_turnless.ensures) (sym c.is_wide.ensures ∙ c.if-not-is_wide.false) (refuted_is s n _ c.requires.whole _ true c.if-is_refuted.true c.is_refuted.ensures))
 
 pub returns-then-is_one_way : goal.returns-then-is_one_way
 returns-then-is_one_way c =
     let s = c.args.self.search.now in
     let n = c.args.self.node in
-    let whole : c.whole-whole.result ≡ whole_moment s n = c.whole-whole.ensures in
+    let whole : c.args.whole.now ≡ whole_moment s n = c.requires.whole in
     let first : c.sign.result ≡ sign_at s (first_moment s n) = c.sign.ensures ∙ ap (sign_at s) c.first.ensures in
     let last : c.sign-then-is_one_way.result ≡ sign_at s (last_moment s n) = c.sign-then-is_one_way.ensures ∙ ap (sign_at s) c.last_of_function.ensures in
     (c.end_verdict.ensures ∙ λ i. end_verdict (criteria s) n (guards_at s (whole i)) (first i) (last i))
-    ∙ sym (one_way s c.width-width.ensures.some n c.args.self.valid.inside c.requires (turnless_is s n _ c.whole-whole.ensures _ false c.if-is_turnless.false _ c.enclosure-over.ensures c.is_turnless.ensures) (sym c.is_wide.ensures ∙ c.if-not-is_wide.false) (refuted_is s n _ c.whole-whole.ensures _ false c.if-is_refuted.false c.is_refuted.ensures) (one_way_is s n _ c.whole-whole.ensures _ true c.if-is_one_way.true _ c.enclosure-over.ensures c.is_one_way.ensures))
+    ∙ sym (one_way s c.width-width.ensures.some n c.args.self.valid.inside c.requires.uncrossed (turnless_is s n _ c.requires.whole _ false c.if-is_turnless.false _ c.requires.over c.is_turnless.ensures) (sym c.is_wide.ensures ∙ c.if-not-is_wide.false) (refuted_is s n _ c.requires.whole _ false c.if-is_refuted.false c.is_refuted.ensures) (one_way_is s n _ c.requires.whole _ true c.if-is_one_way.true _ c.requires.over c.is_one_way.ensures))
 
 pub returns-else-is_one_way : goal.returns-else-is_one_way
 returns-else-is_one_way c =
     let s = c.args.self.search.now in
     let n = c.args.self.node in
-    c.limit_verdict.ensures ∙ sym (both_ways s c.width-width.ensures.some n c.args.self.valid.inside c.requires (turnless_is s n _ c.whole-whole.ensures _ false c.if-is_turnless.false _ c.enclosure-over.ensures c.is_turnless.ensures) (sym c.is_wide.ensures ∙ c.if-not-is_wide.false) (refuted_is s n _ c.whole-whole.ensures _ false c.if-is_refuted.false c.is_refuted.ensures) (one_way_is s n _ c.whole-whole.ensures _ false c.if-is_one_way.false _ c.enclosure-over.ensures c.is_one_way.ensures))
+    c.limit_verdict.ensures ∙ sym (both_ways s c.width-width.ensures.some n c.args.self.valid.inside c.requires.uncrossed (turnless_is s n _ c.requires.whole _ false c.if-is_turnless.false _ c.requires.over c.is_turnless.ensures) (sym c.is_wide.ensures ∙ c.if-not-is_wide.false) (refuted_is s n _ c.requires.whole _ false c.if-is_refuted.false c.is_refuted.ensures) (one_way_is s n _ c.requires.whole _ false c.if-is_one_way.false _ c.requires.over c.is_one_way.ensures))

@@ -1,0 +1,51 @@
+-- What a judge remembers of a search, in words: the sign of the function at a time, and a steady span.
+use Rattle.std.specs.Prelude.{◌≡◌, ℕ, ◌+◌, ◌*◌, ◌^◌, ◌/◌, ◌%◌, ◌<◌, ℤ, pos, neg_ℤ, ◌+ℤ◌, ◌*ℤ◌, ◌≤ℤ◌}
+use Rattle.spec_intervals.specs.declared.signs.Sign.{Sign}
+use Rattle.spec_intervals.specs.declared.signs.Sign.TheVariants.{Yes, No, Open}
+use Rattle.spec_searches.specs.Search.{Search}
+use Rattle.spec_bounds.specs.Steady.{IsSteady, sign_at}
+
+-- a time within 2^50 of J2000
+pub record IsNear (t : ℤ) : Type 0 where
+  pub low : neg_ℤ (pos (2 ^ 50)) ≤ℤ t
+  pub high : t ≤ℤ pos (2 ^ 50)
+
+-- ---- signs
+abbrev pub code_of : Sign → ℕ
+code_of Yes = 1
+code_of No = 2
+code_of Open = 3
+
+-- the word for a sign at a time; 0 is none
+abbrev pub sign_word : ℤ → Sign → ℤ
+sign_word t sign = ((t +ℤ pos (2 ^ 51)) *ℤ pos 4) +ℤ pos (code_of sign)
+
+-- where it is the word for a sign at a time, the function has that sign there
+abbrev pub KeepsSign : Search → ℕ → Type 0
+KeepsSign s word = (t : ℤ) (sign : Sign) → pos word ≡ sign_word t sign → sign_at s t ≡ sign
+
+-- ---- spans, by how many times after the first of the ephemeris they begin, and by their width
+abbrev pub time_of : Search → ℕ → ℤ
+time_of s offset = s.view.ephemeris.start +ℤ pos offset
+
+-- the word for a span; 0 is none
+abbrev pub span_word : ℕ → ℕ → ℕ
+span_word offset width = offset * 2 ^ 22 + width
+
+abbrev pub offset_in : ℕ → ℕ
+offset_in word = word / 2 ^ 22
+
+abbrev pub width_in : ℕ → ℕ
+width_in word = word % 2 ^ 22
+
+-- where it is the word for a span with some width, the span is steady
+abbrev pub KeepsSpan : Search → ℕ → Type 0
+KeepsSpan s word = 0 < width_in word → IsSteady s (time_of s (offset_in word)) (time_of s (offset_in word + width_in word))
+
+-- the times from a to b lie within a steady span
+pub record LiesInSteady (s : Search) (a b : ℤ) : Type 0 where
+  pub first : ℤ
+  pub last : ℤ
+  pub steady : IsSteady s first last
+  pub from : first ≤ℤ a
+  pub upto : b ≤ℤ last

@@ -1,0 +1,24 @@
+// Worked values of the words in which things are remembered, by computation.
+ghost use Rattle.std.specs.Prelude.{◌≡◌, pos};
+ghost use Rattle.spec_numbers.specs.Numbers.{minus};
+ghost use Rattle.spec_intervals.specs.declared.signs.Sign.TheVariants.{No, Open, Yes};
+ghost use Rattle.event_judge.specs.Memory.{offset_in, sign_word, span_word, width_in};
+
+/// The words for the three signs at one time and at the next, and for a sign at the first time of all: each is another, and
+/// none is 0.
+pub fn words_of_signs()
+    ensures yes { sign_word (pos 7) Yes ≡ pos 9007199254741021 }
+    ensures no { sign_word (pos 7) No ≡ pos 9007199254741022 }
+    ensures open { sign_word (pos 7) Open ≡ pos 9007199254741023 }
+    ensures next { sign_word (pos 8) Yes ≡ pos 9007199254741025 }
+    ensures first { sign_word (minus 1125899906842624) Yes ≡ pos 4503599627370497 }
+{}
+
+/// The word for a span of 3 times that begins 5 times after the first of all; it is read as it was written, and the word 0
+/// is for none.
+pub fn words_of_spans()
+    ensures word { span_word 5 3 ≡ 20971523 }
+    ensures offset { offset_in 20971523 ≡ 5 }
+    ensures width { width_in 20971523 ≡ 3 }
+    ensures none { width_in 0 ≡ 0 }
+{}

@@ -1,0 +1,136 @@
+// What is remembered of a search, in words that workers share: signs of its function, and steady spans.
+ghost use Rattle.std.specs.Prelude.{◌≡◌, ◌+◌, IfSome, IsTrue};
+ghost use Rattle.spec_bounds.specs.Steady.{IsSteady, sign_at};
+ghost use Rattle.event_judge.specs.Memory.{IsNear, LiesInSteady, time_of};
+
+use crate::naming::Naming;
+use crate::sign_words::{OfSign, keep_sign, no_sign, sign_kept};
+use crate::span_words::{OfSpan, keep_span, lies_in_span, no_span};
+use ival_core::Sign;
+use std::alloc::{AllocError, Global};
+use std::sync::atomic::Ordering::SeqCst;
+use std::sync::atomic::{AtomicIn, AtomicU64};
+
+/// How many signs are kept.
+const SIGNS: usize = 256;
+
+/// How many spans are kept.
+const SPANS: usize = 8;
+
+/// An odd number by which the places of words are spread.
+const SPREAD: u64 = 0x9E37_79B9_7F4A_7C15;
+
+/// What is remembered of a search: the sign of its function at some times, and some steady spans. What is kept later may take
+/// the place of what was kept before.
+#[derive(Drop)]
+pub(crate) struct Memory<N: Naming> {
+    signs: Vec<AtomicIn<OfSign<N>>>,
+    spans: Vec<AtomicIn<OfSpan<N>>>,
+    /// The greatest width of a node that is tried whether it is a steady span. No answer rests on it.
+    widest: AtomicU64,
+}
+
+// Words that know no sign.
+fn no_signs<N: Naming>(alloc: Global) -> Result<Vec<AtomicIn<OfSign<N>>>, AllocError> {
+    let mut words = Vec::with_capacity(alloc, SIGNS)?;
+    for _ in 0..SIGNS {
+        words.push(no_sign::<N>())?;
+    }
+    Ok(words)
+}
+
+// Words that know no span.
+fn no_spans<N: Naming>(alloc: Global) -> Result<Vec<AtomicIn<OfSpan<N>>>, AllocError> {
+    let mut words = Vec::with_capacity(alloc, SPANS)?;
+    for _ in 0..SPANS {
+        words.push(no_span::<N>())?;
+    }
+    Ok(words)
+}
+
+// The place of the word for a number, of 2^8 places.
+#[inline(always)]
+fn place_of(number: u64) -> usize {
+    (number.wrapping_mul(SPREAD) >> 56) as usize
+}
+
+impl<N: Naming> Memory<N> {
+    /// A memory of nothing.
+    pub(crate) fn new(alloc: Global) -> Result<Memory<N>, AllocError> {
+        Ok(Memory {
+            signs: no_signs::<N>(alloc)?,
+            spans: no_spans::<N>(alloc)?,
+            widest: AtomicU64::new(u64::MAX),
+        })
+    }
+
+    /// The sign of the function at a time, where it is known.
+    #[inline(always)]
+    pub(crate) fn sign(&self, time: i64) -> Option<Sign>
+        requires { IsNear time }
+        ensures { IfSome result (λ sign. sign_at N.search time ≡ sign) }
+    {
+        match self.signs.get(place_of(time.cast_unsigned())) {
+            Some(word) => sign_kept::<N>(word, time),
+            None => None,
+        }
+    }
+
+    /// Keeps the sign of the function at a time.
+    #[inline(always)]
+    pub(crate) fn keep_sign(&self, time: i64, sign: Sign)
+        requires near { IsNear time }
+        requires right { sign_at N.search time ≡ sign }
+    {
+        if let Some(word) = self.signs.get(place_of(time.cast_unsigned())) {
+            keep_sign::<N>(word, time, sign);
+        }
+    }
+
+    /// Whether it is known that the times, each so many after the first of the ephemeris, lie within a steady span.
+    #[inline(always)]
+    pub(crate) fn lies_in_steady(&self, from: u64, upto: u64) -> bool
+        ensures { IsTrue result
+            → LiesInSteady N.search (time_of N.search from) (time_of N.search upto) }
+    {
+        for word in self.spans.iter() {
+            if lies_in_span::<N>(word, from, upto) {
+                return true;
+            }
+        }
+        false
+    }
+
+    /// Whether a node of some width is to be tried, whether it is a steady span. Where it is too wide, somewhat wider nodes are
+    /// tried from now on, so that the widths of later spans can be found again.
+    pub(crate) fn is_worth_trying(&self, width: u64) -> bool {
+        let widest = self.widest.load(SeqCst);
+        if width <= widest {
+            return true;
+        }
+        let more = (widest / 4).saturating_add(1);
+        self.widest.store(widest.saturating_add(more), SeqCst);
+        false
+    }
+
+    /// Keeps how a node of some width was found: its parts are tried next where it is not a steady span, and nodes of twice
+    /// its width where it is.
+    pub(crate) fn keep_trial(&self, width: u64, is_steady: bool) {
+        let widest = if is_steady {
+            width.saturating_mul(2).saturating_add(2)
+        } else {
+            width.div_ceil(2)
+        };
+        self.widest.store(widest, SeqCst);
+    }
+
+    /// Keeps a steady span of some width, which begins so many times after the first of the ephemeris.
+    pub(crate) fn keep_span(&self, offset: u64, width: u64)
+        requires { IsSteady N.search (time_of N.search offset)
+            (time_of N.search (offset + width)) }
+    {
+        if let Some(word) = self.spans.get(place_of(offset) % SPANS) {
+            keep_span::<N>(word, offset, width);
+        }
+    }
+}

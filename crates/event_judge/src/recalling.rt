@@ -1,0 +1,65 @@
+// What a judge that remembers says of nodes, and where it cuts them.
+ghost use Rattle.std.specs.Prelude.{◌≡◌, IfOk};
+ghost use Rattle.spec_trees.specs.Tree.{IsSound, IsValid};
+ghost use Rattle.spec_searches.specs.Found.{rules};
+
+use crate::event_search::EventSearch;
+use crate::memory::Memory;
+use crate::named_judge::NamedJudge;
+use crate::naming::Naming;
+use crate::remembering_judge::RememberingJudge;
+use crate::valid_node::ValidNode;
+use std::alloc::{AllocError, Global};
+use std::marker::PhantomData;
+use tree_judge::{Judge, Node, Verdict, rules_are_sound};
+
+impl<'j, 'e, N: Naming, J: Judge> NamedJudge<'j, 'e, N, J> {
+    // The judge, whose rules are those of the search that a call has named.
+    fn new(judge: &'j J, search: &'j EventSearch<'e>) -> NamedJudge<'j, 'e, N, J>
+        requires named { search.now ≡ N.search }
+        requires rules { J.rules judge.now ≡ rules search.now }
+        ensures { J.rules result.judge.now ≡ J.rules judge.now }
+    {
+        rules_are_sound(judge);
+        NamedJudge {
+            judge,
+            search,
+            of: PhantomData,
+        }
+    }
+}
+
+impl<'j, 'e, N: Naming, J: Judge> RememberingJudge<'j, 'e, N, J> {
+    /// The judge that says what another does of the nodes of a search, which a call has named, and remembers nothing yet; or
+    /// `AllocError` where memory ran out.
+    pub fn new(
+        alloc: Global,
+        judge: &'j J,
+        search: &'j EventSearch<'e>,
+    ) -> Result<RememberingJudge<'j, 'e, N, J>, AllocError>
+        requires named { search.now ≡ N.search }
+        requires rules { J.rules judge.now ≡ rules search.now }
+        ensures { IfOk result (λ made. J.rules made.named.judge.now ≡ J.rules judge.now) }
+    {
+        let memory = Memory::new(alloc)?;
+        let named = NamedJudge::new(judge, search);
+        Ok(RememberingJudge { named, memory })
+    }
+}
+
+impl<'j, 'e, N: Naming + Send + Sync, J: Judge> Judge for RememberingJudge<'j, 'e, N, J> {
+    ghost rules = { λ judge. J.rules judge.named.judge.now };
+
+    fn judge(&self, node: Node) -> Verdict {
+        self.memory.judge(ValidNode {
+            search: self.named.search,
+            node,
+        })
+    }
+
+    fn cut(&self, node: Node) -> (Node, Node) {
+        self.named.judge.cut(node)
+    }
+
+    ghost sound = { λ judge. J.sound judge.named.judge.now };
+}

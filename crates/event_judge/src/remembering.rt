@@ -1,0 +1,271 @@
+// What is remembered of a node: the signs at its ends, and the steady span that it lies in.
+ghost use Rattle.std.specs.Prelude.{◌≡◌, ◌-ℤ◌, IfSome, IsTrue, [], false, pos, true};
+ghost use Rattle.spec_events.specs.Verdict.{differ, is_known};
+ghost use Rattle.spec_searches.specs.Search.{crosses, verdict_of};
+ghost use Rattle.spec_bounds.specs.Steady.{IsSteady, sign_at};
+ghost use Rattle.spec_intervals.specs.Enclosure.{middle};
+ghost use Rattle.event_judge.specs.Found.{whole_enclosure};
+ghost use Rattle.event_judge.specs.Memory.{LiesInSteady};
+ghost use Rattle.event_judge.specs.Plain.{IsPlain};
+
+use crate::memory::Memory;
+use crate::naming::Naming;
+use crate::valid_node::ValidNode;
+use gf_signs::differ;
+use ival_core::{Enclosure, Sign};
+use spec_bounds::laws::{ends_that_differ, middles_are_told, steady_spans_tell_verdicts};
+use tree_judge::Verdict;
+
+// It is one of the two that are known.
+#[inline(always)]
+fn is_known(sign: Sign) -> bool
+    ensures { result ≡ is_known sign }
+{
+    match sign {
+        Sign::Yes | Sign::No => true,
+        Sign::Open => false,
+    }
+}
+
+impl<'s, 'e> ValidNode<'s, 'e> {
+    // The sign of the function at its first time.
+    fn first_sign(self) -> Sign
+        ensures { result ≡ sign_at self.entry.search.now self.entry.node.a }
+    {
+        self.sign(&self.first())
+    }
+
+    // The sign of the function at its last time.
+    fn last_sign(self) -> Sign
+        ensures { result ≡ sign_at self.entry.search.now self.entry.node.b }
+    {
+        self.sign(&self.last_of_function())
+    }
+
+    // The time halfway, or the last before it.
+    fn middle(self) -> i64
+        ensures { result ≡ middle self.entry.node.a self.entry.node.b }
+    {
+        (self.node.a + self.node.b).div_euclid(2)
+    }
+
+    // How many times after the first of the ephemeris it begins.
+    fn first_offset(self) -> u64
+        ensures { pos result ≡ self.entry.node.a -ℤ self.entry.search.now.view.ephemeris.start }
+    {
+        (self.node.a - self.search.ephemeris().start()).unsigned_abs()
+    }
+
+    // How many times after the first of the ephemeris it ends.
+    fn last_offset(self) -> u64
+        ensures { pos result ≡ self.entry.node.b -ℤ self.entry.search.now.view.ephemeris.start }
+    {
+        (self.node.b - self.search.ephemeris().start()).unsigned_abs()
+    }
+
+    // Whether signs at its ends that differ leave nothing to decide but the limits.
+    fn is_plain(self) -> bool
+        ensures { IsTrue result → IsPlain self.entry.search.now self.entry.node }
+    {
+        self.has_no_guard() && self.is_wide() && !self.is_narrow() && self.border().is_none()
+    }
+
+    // Whether the event has no conditions.
+    fn has_no_guard(self) -> bool
+        ensures { IsTrue result → self.entry.search.now.event.conditions ≡ [] }
+    {
+        self.search.event().guards().is_empty()
+    }
+
+    // Whether the search is known to be steady over it.
+    fn is_steady(self) -> bool
+        requires { crosses self.search.now self.node ≡ false }
+        ensures { IsTrue result
+            → IsSteady self.entry.search.now self.entry.node.a self.entry.node.b }
+    {
+        let _columns = self.search.states().columns();
+        self.search.is_steady(self.node.a, self.node.b)
+    }
+}
+
+impl<N: Naming> Memory<N> {
+    // The sign at the first time of a node, which is kept from now on.
+    fn first_sign(&self, node: ValidNode) -> Sign
+        requires named { node.search.now ≡ N.search }
+        ensures { result ≡ sign_at N.search node.entry.node.a }
+    {
+        match self.sign(node.node.a) {
+            Some(sign) => sign,
+            None => {
+                let sign = node.first_sign();
+                self.keep_sign(node.node.a, sign);
+                sign
+            }
+        }
+    }
+
+    // The sign at the last time of a node, which is kept from now on.
+    fn last_sign(&self, node: ValidNode) -> Sign
+        requires named { node.search.now ≡ N.search }
+        ensures { result ≡ sign_at N.search node.entry.node.b }
+    {
+        match self.sign(node.node.b) {
+            Some(sign) => sign,
+            None => {
+                let sign = node.last_sign();
+                self.keep_sign(node.node.b, sign);
+                sign
+            }
+        }
+    }
+
+    // Whether it is known that a node lies in a steady span.
+    fn knows_steady(&self, node: ValidNode) -> bool
+        requires named { node.search.now ≡ N.search }
+        ensures { IsTrue result → LiesInSteady N.search node.entry.node.a node.entry.node.b }
+    {
+        self.lies_in_steady(node.first_offset(), node.last_offset())
+    }
+
+    // The verdict of a node that lies in a steady span, where the signs at its two ends are known.
+    fn verdict_by_ends(&self, node: ValidNode) -> Option<Verdict>
+        requires named { node.search.now ≡ N.search }
+        requires steady { LiesInSteady N.search node.node.a node.node.b }
+        ensures { IfSome result (λ verdict. verdict ≡ verdict_of N.search node.entry.node) }
+    {
+        steady_spans_tell_verdicts();
+        node.search.is_search();
+        let first = self.first_sign(node);
+        let last = self.last_sign(node);
+        if is_known(first) && is_known(last) {
+            Some(node.steady_verdict(first, last))
+        } else {
+            None
+        }
+    }
+
+    // Whether the signs that are remembered at the two ends of a node differ in the direction that is wanted.
+    fn knows_turn(&self, node: ValidNode) -> bool
+        requires named { node.search.now ≡ N.search }
+        ensures { IsTrue result → differ N.search.event.dir
+            (sign_at N.search node.entry.node.a) (sign_at N.search node.entry.node.b) ≡ true }
+    {
+        match (self.sign(node.node.a), self.sign(node.node.b)) {
+            (Some(first), Some(last)) => differ(node.search.event().dir(), first, last),
+            _ => false,
+        }
+    }
+
+    // The verdict of a node whose ends are known to have signs that differ, which no condition can refute. It is looked at,
+    // whether it is a steady span.
+    fn verdict_by_turn(&self, node: ValidNode) -> Verdict
+        requires named { node.search.now ≡ N.search }
+        requires plain { IsPlain node.search.now node.node }
+        requires turn { differ N.search.event.dir
+            (sign_at N.search node.node.a) (sign_at N.search node.node.b) ≡ true }
+        ensures { result ≡ verdict_of N.search node.entry.node }
+    {
+        ends_that_differ();
+        node.search.is_search();
+        self.keep_node(node);
+        node.limit_verdict()
+    }
+
+    // The verdict of a node, where what is remembered tells it.
+    fn verdict(&self, node: ValidNode) -> Option<Verdict>
+        requires named { node.search.now ≡ N.search }
+        ensures { IfSome result (λ verdict. verdict ≡ verdict_of N.search node.entry.node) }
+    {
+        if self.knows_steady(node) {
+            self.verdict_by_ends(node)
+        } else if self.knows_turn(node) && node.is_plain() {
+            Some(self.verdict_by_turn(node))
+        } else {
+            None
+        }
+    }
+
+    // Keeps a node as a span, where it is worth trying and the search is known to be steady over it.
+    fn keep_node(&self, node: ValidNode)
+        requires named { node.search.now ≡ N.search }
+        requires open { crosses node.search.now node.node ≡ false }
+    {
+        let width = node.width();
+        if self.is_worth_trying(width) {
+            let is_steady = node.is_steady();
+            self.keep_trial(width, is_steady);
+            if is_steady {
+                let from = node.first_offset();
+                self.keep_span(from, node.width());
+            }
+        }
+    }
+
+    // Whether a turn that is wanted is known to lie between the ends of a node.
+    fn turns(&self, node: ValidNode) -> bool
+        requires named { node.search.now ≡ N.search }
+    {
+        let dir = node.search.event().dir();
+        differ(dir, self.first_sign(node), self.last_sign(node))
+    }
+
+    // Looks at a node that is to be split, whether it is a steady span with a turn in it, to be kept.
+    fn learn(&self, node: ValidNode)
+        requires named { node.search.now ≡ N.search }
+        requires uncrossed { crosses node.search.now node.node ≡ false }
+    {
+        if self.turns(node) {
+            self.keep_node(node);
+        }
+    }
+
+    // Keeps the sign of the function in the middle of a node, which the enclosure over the whole of it has.
+    fn keep_middle(&self, node: ValidNode, over: &Enclosure)
+        requires named { node.search.now ≡ N.search }
+        requires uncrossed { crosses node.search.now node.node ≡ false }
+        requires over { over.now ≡ whole_enclosure node.search.now node.node }
+    {
+        middles_are_told();
+        node.search.is_search();
+        self.keep_sign(node.middle(), over.mid.sign());
+    }
+
+    // The verdict of a node into which no border falls, of which nothing tells it that is remembered. A node that is to be
+    // split is looked at.
+    fn judge_open(&self, node: ValidNode) -> Verdict
+        requires named { node.search.now ≡ N.search }
+        requires uncrossed { crosses node.search.now node.node ≡ false }
+        ensures { result ≡ verdict_of N.search node.entry.node }
+    {
+        let whole = node.whole();
+        let over = node.enclosure(&whole);
+        let verdict = node.verdict_over(&whole, &over);
+        if verdict == Verdict::Split {
+            self.keep_middle(node, &over);
+            self.learn(node);
+        }
+        verdict
+    }
+
+    // The verdict of a node of which nothing tells it that is remembered.
+    fn judge_anew(&self, node: ValidNode) -> Verdict
+        requires named { node.search.now ≡ N.search }
+        ensures { result ≡ verdict_of N.search node.entry.node }
+    {
+        match node.border() {
+            None => self.judge_open(node),
+            Some(_) => node.border_verdict(),
+        }
+    }
+
+    /// The verdict of a node: by what is remembered, or anew.
+    pub(crate) fn judge(&self, node: ValidNode) -> Verdict
+        requires named { node.search.now ≡ N.search }
+        ensures { result ≡ verdict_of N.search node.entry.node }
+    {
+        match self.verdict(node) {
+            Some(verdict) => verdict,
+            None => self.judge_anew(node),
+        }
+    }
+}

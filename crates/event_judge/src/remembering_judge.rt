@@ -1,0 +1,14 @@
+// A judge that remembers.
+use crate::memory::Memory;
+use crate::named_judge::NamedJudge;
+use crate::naming::Naming;
+use tree_judge::Judge;
+
+/// A judge of the nodes of a search with what it remembers of them, which its workers share: signs at times, and spans in
+/// which the signs at two ends tell the verdict of a node.
+#[derive(Drop)]
+pub struct RememberingJudge<'j, 'e, N: Naming, J: Judge> {
+    /// The judge that it stands for.
+    pub named: NamedJudge<'j, 'e, N, J>,
+    pub(crate) memory: Memory<N>,
+}

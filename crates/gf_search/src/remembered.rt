@@ -1,0 +1,68 @@
+// The leaves by a judge that remembers.
+ghost use Rattle.std.specs.Prelude.{◌≡◌, ◌⊎◌, ◌<◌, ◌≤◌, IfErr, IfOk};
+ghost use Rattle.spec_requests.specs.declared.limits.TheConstants.{MAX_WORKERS};
+ghost use Rattle.spec_trees.specs.Tree.{IsValid, leaf_count, leaves};
+ghost use Rattle.spec_searches.specs.Found.{rules};
+
+use crate::book::leaves_by;
+use event_judge::{EventSearch, Judge, Naming, RememberingJudge};
+use gf_edges::Gate;
+use spec_outcomes::Refusal;
+use spec_trees::{Leaf, Node};
+use std::alloc::Global;
+use std::marker::Brand;
+use std::sync::Wait;
+use std::thread::Threads;
+
+// The leaves of a root by a judge of the search that a call has named, which remembers.
+fn named_leaves<R: Threads + Wait + Sync, N: Naming + Send + Sync, J: Judge, G: Gate>(
+    rt: &R,
+    alloc: Global,
+    judge: &J,
+    search: &EventSearch,
+    root: Node,
+    workers: u32,
+    most: u32,
+    gate: &G,
+) -> Result<Vec<Leaf>, Refusal>
+    requires some { 1 ≤ workers }
+    requires workers { workers ≤ MAX_WORKERS }
+    requires named { search.now ≡ N.search }
+    requires rules { J.rules judge.now ≡ rules search.now }
+    requires valid { IsValid (J.rules judge.now) root }
+    ensures leaves { IfOk result (λ found. found.items ≡ leaves (J.rules judge.now) root) }
+    ensures few { IfOk result (λ found. leaf_count (J.rules judge.now) root ≤ most) }
+    ensures stopped { IfErr result (λ refusal. (refusal ≡ Refusal.Memory)
+        ⊎ ((refusal ≡ Refusal.TooManyLeaves most)
+        × (most < leaf_count (J.rules judge.now) root))) }
+{
+    let Ok(remembering) = RememberingJudge::<N, J>::new(alloc, judge, search) else {
+        return Err(Refusal::Memory);
+    };
+    leaves_by(rt, alloc, &remembering, root, workers, most, gate)
+}
+
+/// The leaves of a root by a judge of the nodes of a search, as `leaves_by` has them. What its workers find out of the search
+/// is remembered, and each is told what the others found.
+pub(crate) fn remembered_leaves<R: Threads + Wait + Sync, J: Judge, G: Gate>(
+    rt: &R,
+    alloc: Global,
+    judge: &J,
+    search: &EventSearch,
+    root: Node,
+    workers: u32,
+    most: u32,
+    gate: &G,
+) -> Result<Vec<Leaf>, Refusal>
+    requires some { 1 ≤ workers }
+    requires workers { workers ≤ MAX_WORKERS }
+    requires rules { J.rules judge.now ≡ rules search.now }
+    requires valid { IsValid (J.rules judge.now) root }
+    ensures leaves { IfOk result (λ found. found.items ≡ leaves (J.rules judge.now) root) }
+    ensures few { IfOk result (λ found. leaf_count (J.rules judge.now) root ≤ most) }
+    ensures stopped { IfErr result (λ refusal. (refusal ≡ Refusal.Memory)
+        ⊎ ((refusal ≡ Refusal.TooManyLeaves most)
+        × (most < leaf_count (J.rules judge.now) root))) }
+{
+    named_leaves::<R, Brand, J, G>(rt, alloc, judge, search, root, workers, most, gate)
+}

@@ -5,6 +5,7 @@
 
 mod checksums;
 mod reading;
+mod remembered;
 mod searches;
 mod telling;
 mod walks;

@@ -8,7 +8,8 @@ ghost use Rattle.spec_kinds.specs.Asks.{IsAsk};
 ghost use Rattle.spec_kinds.specs.Faults.{fault_of};
 
 use crate::checksums::checksum;
-use crate::walks::{Walk, leaves_by};
+use crate::remembered::remembered_leaves;
+use crate::walks::Walk;
 use body_states::BodyStates;
 use eph_model::{Body, Ephemeris};
 use event_judge::EventJudge;
@@ -130,7 +131,7 @@ fn leaves<R: Threads + Wait + Sync>(
         b: ephemeris.end(),
         depth: 0,
     };
-    leaves_by(rt, alloc, &judge, root, walk)
+    remembered_leaves(rt, alloc, &judge, &judge.search, root, walk)
 }
 
 /// How many leaves hold an event.

@@ -1,9 +1,10 @@
 -- A constant factor: its interval is not 0 and stays as it is, so that a product with it multiplies each part of the other
 -- operand.
-use Rattle.std.proofs.Common.{◌≡◌, ℕ, zero, suc, ◌+◌, ◌*◌, ◌^◌, ◌<◌, ◌≤◌, arith, refl, sym, subst, ◌∙◌, ℤ, pos, negsuc, ◌+ℤ◌, ◌*ℤ◌, ◌≤ℤ◌, ◌<ℤ◌, Bool, true, false, ◌&&◌, unsigned_abs, [], ◌∷◌}
+use Rattle.std.proofs.Common.{◌≡◌, ℕ, zero, suc, ◌+◌, ◌*◌, ◌^◌, ◌<◌, ◌≤◌, arith, refl, sym, subst, ◌∙◌, ℤ, pos, negsuc, ◌+ℤ◌, ◌*ℤ◌, ◌≤ℤ◌, ◌<ℤ◌, Bool, true, false, ◌&&◌, unsigned_abs}
 use Rattle.std.specs.Prelude.{if◌then◌else◌}
 use Rattle.std.specs.Int.{int_min, int_max}
 use Rattle.std.proofs.lemmas.Int.{ints, clamps, unsigned_abs-mul}
+use Rattle.std.proofs.Math.IntN.{*ℤ-zero}
 use Rattle.std.proofs.Math.Nat.{one-le-pow}
 use borrow.Author.Differences.{up, down}
 use lib.Signed.{lt_z}
@@ -12,25 +13,22 @@ use Rattle.spec_intervals.specs.Interval.{Interval, interval, end_limit, cosine_
 use Rattle.spec_numbers.proofs.Booleans.{not_both}
 use Rattle.spec_numbers.specs.Numbers.{floor_div, ceil_div}
 use Rattle.spec_numbers.proofs.Integers.{times_one}
-use Rattle.spec_numbers.proofs.Ring.{v, k as lit, ◌⊗◌, ring}
 use Rattle.spec_numbers.proofs.Order.{lin}
 use Rattle.spec_numbers.proofs.Floor.{floor_div-lt, floor_div-small, ceil_div-small, floor_div-one as floor_one, ceil_div-one as ceil_one}
 use Rattle.spec_ephemeris.specs.Header.{IsMassRatio}
 use Rattle.spec_intervals.specs.Enclosure.{Enclosure, offsets, centred, enclosure, constant_of, product_of}
 use Rattle.spec_intervals.proofs.Offsets.{narrow-small}
-use Rattle.spec_expressions.proofs.Zeros.{narrow_of_zero, product_of_zero}
+use Rattle.spec_intervals.proofs.Narrow.{narrow_of_zero}
+use Rattle.spec_expressions.proofs.Zeros.{product_of_zero}
 use Rattle.spec_bodies.specs.declared.factor.Factor.{Factor}
 use Rattle.spec_bodies.specs.declared.factor.Factor.TheVariants.{MoonShare, Cosine, Sine}
 use Rattle.spec_bodies.specs.Reading.{IsFactor}
 use Rattle.spec_bodies.specs.Meanings.{share_beside, factor, factor_interval}
 
 -- ---- 0 in products and sums
-times_zero : (z : ℤ) → z *ℤ pos 0 ≡ pos 0
-times_zero z = ring (z ∷ []) (v 0 ⊗ lit (pos 0)) (lit (pos 0)) tt
-
 pub product_by_zero : (x : Interval) → product x zero_interval ≡ zero_interval
 unfolding product
-product_by_zero x = rw (times_zero x.lo, times_zero x.hi) (narrow_of_zero (x.s +ℤ pos 0))
+product_by_zero x = rw (*ℤ-zero x.lo, *ℤ-zero x.hi) (narrow_of_zero (x.s +ℤ pos 0))
 
 pub sum_with_zero : (x : Interval) → is_zero x ≡ false → sum x zero_interval ≡ x
 unfolding sum

@@ -56,13 +56,13 @@ module _ (v : View) (a b : ℤ) (fits : Fits v a b) where
   none_of number usable t border after upto = fits.no_border t (record { number = number; listed = usable.in_use; border = border; after = after; upto = upto })
 
   module _ (number axis : ℕ) (three : axis < 3) (usable : IsUsable v number) where
-    same : (t : ℤ) → a ≤ℤ t → t ≤ℤ b → series_at v.ephemeris number axis t ≡ series_at v.ephemeris number axis a
+    pub same : (t : ℤ) → a ≤ℤ t → t ≤ℤ b → series_at v.ephemeris number axis t ≡ series_at v.ephemeris number axis a
     same = same_series v.ephemeris number fits.view.checked usable.there fits.view.block a b fits.from fits.ordered fits.upto (none_of number usable) axis
 
-    own_series : IsSeries (series_at v.ephemeris number axis a)
+    pub own_series : IsSeries (series_at v.ephemeris number axis a)
     own_series = series_of v.ephemeris number fits.view.checked usable.there fits.view.block a b fits.from fits.ordered fits.upto (none_of number usable) axis three usable.of_body
 
-    own_span : IsSpanOf (series_at v.ephemeris number axis a) a b
+    pub own_span : IsSpanOf (series_at v.ephemeris number axis a) a b
     own_span = span_of v.ephemeris number fits.view.checked usable.there fits.view.block a b fits.from fits.ordered fits.upto (none_of number usable) axis
 
     column_held : (quantity : Quantity) → IsHeld a b (exact_column v quantity) (column_enclosure v quantity a b) number axis

@@ -7,7 +7,7 @@ use Rattle.std.proofs.lemmas.List.{length-map}
 use Rattle.std.proofs.lemmas.List.Elements.{All-map, All-weaker, All-head, All-tail, All-drop}
 use lib.Signed.{lt_z}
 use Rattle.spec_text.specs.declared.decimals.Decimal.{Decimal}
-use Rattle.spec_intervals.specs.Interval.{end_limit, least4, greatest4, scale, zero_interval as no_change}
+use Rattle.spec_intervals.specs.Interval.{Interval, end_limit, least4, greatest4, scale, zero_interval as no_change}
 use Rattle.spec_numbers.specs.Numbers.{floor_div, ceil_div}
 use Rattle.spec_numbers.proofs.Floor.{floor_div-small, ceil_div-small}
 use Rattle.spec_numbers.proofs.Sizes.{sum_size, product_size, least_size, greatest_size}
@@ -163,29 +163,26 @@ module _ (s : Series) (is : IsSeries s) where
         let sizes = from_second (slope_row (arguments s a b)) (slope_small (arguments s a b) arguments_are) in
         scaled-between 68 _ _ (neg_ℤ (pos 74)) s.duration is.long sizes.0 sizes.1 (omega arith) (omega (arith, ints)) (omega (arith, ints))
 
-    pub position_step-between : IsBetween column_lowest column_highest (position_step_interval s a b)
-    unfolding position_step_over
-    position_step-between = by (lt_z a b)
-      where
-        wide : IsBetween column_lowest column_highest (position_step_over (coefficients_of s) (arguments s a b) s.duration)
-        wide =
-            let sizes = from_first (q_row (arguments s a b)) (λ k p q. q_small (arguments s a b) arguments_are k q) (q_small (arguments s a b) arguments_are 0 (omega arith)) in
-            scaled-between 68 _ _ (neg_ℤ (pos 70)) s.duration is.long sizes.0 sizes.1 (omega arith) (omega (arith, ints)) (omega (arith, ints))
+    -- a change over one time is 0
+    or_no_change : (c : Bool) (x : Interval) → IsBetween column_lowest column_highest x → IsBetween column_lowest column_highest (if c then x else no_change)
+    or_no_change true x is = is
+    or_no_change false x is = zero-between column_lowest column_highest
 
-        by : (c : Bool) → IsBetween column_lowest column_highest (if c then position_step_over (coefficients_of s) (arguments s a b) s.duration else no_change)
-        by true = wide
-        by false = zero-between column_lowest column_highest
+    wide_position_step : IsBetween column_lowest column_highest (position_step_over (coefficients_of s) (arguments s a b) s.duration)
+    unfolding position_step_over
+    wide_position_step =
+        let sizes = from_first (q_row (arguments s a b)) (λ k p q. q_small (arguments s a b) arguments_are k q) (q_small (arguments s a b) arguments_are 0 (omega arith)) in
+        scaled-between 68 _ _ (neg_ℤ (pos 70)) s.duration is.long sizes.0 sizes.1 (omega arith) (omega (arith, ints)) (omega (arith, ints))
+
+    pub position_step-between : IsBetween column_lowest column_highest (position_step_interval s a b)
+    position_step-between = or_no_change (lt_z a b) _ wide_position_step
+
+    wide_velocity_step : IsBetween column_lowest column_highest (velocity_step_over (coefficients_of s) (arguments s a b) s.duration)
+    unfolding velocity_step_over
+    wide_velocity_step =
+        let sizes = from_second (slope_difference_row (arguments s a b)) (slope_difference_small (arguments s a b) arguments_are) in
+        let once = of_quotients 68 (sum_low (slope_difference_row (arguments s a b)) 1 (drop 1 (coefficients_of s))) (sum_high (slope_difference_row (arguments s a b)) 1 (drop 1 (coefficients_of s))) (neg_ℤ (pos 68)) s.duration is.long sizes.0 sizes.1 in
+        scaled-between 69 _ _ (neg_ℤ (pos 68)) s.duration is.long (omega (arith, once.0)) (omega (arith, once.1)) (omega arith) (omega (arith, ints)) (omega (arith, ints))
 
     pub velocity_step-between : IsBetween column_lowest column_highest (velocity_step_interval s a b)
-    unfolding velocity_step_over
-    velocity_step-between = by (lt_z a b)
-      where
-        wide : IsBetween column_lowest column_highest (velocity_step_over (coefficients_of s) (arguments s a b) s.duration)
-        wide =
-            let sizes = from_second (slope_difference_row (arguments s a b)) (slope_difference_small (arguments s a b) arguments_are) in
-            let once = of_quotients 68 (sum_low (slope_difference_row (arguments s a b)) 1 (drop 1 (coefficients_of s))) (sum_high (slope_difference_row (arguments s a b)) 1 (drop 1 (coefficients_of s))) (neg_ℤ (pos 68)) s.duration is.long sizes.0 sizes.1 in
-            scaled-between 69 _ _ (neg_ℤ (pos 68)) s.duration is.long (omega (arith, once.0)) (omega (arith, once.1)) (omega arith) (omega (arith, ints)) (omega (arith, ints))
-
-        by : (c : Bool) → IsBetween column_lowest column_highest (if c then velocity_step_over (coefficients_of s) (arguments s a b) s.duration else no_change)
-        by true = wide
-        by false = zero-between column_lowest column_highest
+    velocity_step-between = or_no_change (lt_z a b) _ wide_velocity_step

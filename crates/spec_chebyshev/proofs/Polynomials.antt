@@ -79,24 +79,24 @@ le_from_squares a b h q = by (a -ℤ b -ℤ pos 1) refl
         let b2 : pos 0 ≤ℤ (pos 2 *ℤ b) = nonneg-mul (pos 2) b (omega (arith, lin)) h in
         absurd (omega (arith, lin))
 
-pub cleared_t-above : (u l : ℤ) (k : ℕ) → pos 0 ≤ℤ l → u ≤ℤ l → neg_ℤ l ≤ℤ u → cleared_t u l k ≤ℤ power l k
-cleared_t-above u l zero h p q = omega (arith, lin)
-cleared_t-above u l (suc k) h p q =
+-- by the circle, the square of a polynomial is at most that of the power
+square_within : (u l : ℤ) (k : ℕ) → u ≤ℤ l → neg_ℤ l ≤ℤ u → (cleared_t u l (suc k) *ℤ cleared_t u l (suc k)) ≤ℤ (power l (suc k) *ℤ power l (suc k))
+square_within u l k p q =
     let c : cleared_t u l (suc k) *ℤ cleared_t u l (suc k) +ℤ (l *ℤ l -ℤ u *ℤ u) *ℤ (cleared_u u l k *ℤ cleared_u u l k) ≡ power l (suc k) *ℤ power l (suc k) = circle u l k ∙ power_square l (suc k) in
     let d : l *ℤ l -ℤ u *ℤ u ≡ (l -ℤ u) *ℤ (l +ℤ u) = ring (u ∷ l ∷ []) (v 1 ⊗ v 1 ⊖ v 0 ⊗ v 0) ((v 1 ⊖ v 0) ⊗ (v 1 ⊕ v 0)) tt in
     let n : pos 0 ≤ℤ ((l -ℤ u) *ℤ (l +ℤ u)) = nonneg-mul (l -ℤ u) (l +ℤ u) (omega (arith, lin)) (omega (arith, lin)) in
     let n2 : pos 0 ≤ℤ (l *ℤ l -ℤ u *ℤ u) = rw d n in
     let m : pos 0 ≤ℤ ((l *ℤ l -ℤ u *ℤ u) *ℤ (cleared_u u l k *ℤ cleared_u u l k)) = nonneg-mul (l *ℤ l -ℤ u *ℤ u) (cleared_u u l k *ℤ cleared_u u l k) n2 (nonneg-square (cleared_u u l k)) in
-    le_from_squares (cleared_t u l (suc k)) (power l (suc k)) (nonneg-power l (suc k) h) (omega (arith, lin))
+    omega (arith, lin)
+
+pub cleared_t-above : (u l : ℤ) (k : ℕ) → pos 0 ≤ℤ l → u ≤ℤ l → neg_ℤ l ≤ℤ u → cleared_t u l k ≤ℤ power l k
+cleared_t-above u l zero h p q = omega (arith, lin)
+cleared_t-above u l (suc k) h p q = le_from_squares (cleared_t u l (suc k)) (power l (suc k)) (nonneg-power l (suc k) h) (square_within u l k p q)
 
 pub cleared_t-below : (u l : ℤ) (k : ℕ) → pos 0 ≤ℤ l → u ≤ℤ l → neg_ℤ l ≤ℤ u → neg_ℤ (power l k) ≤ℤ cleared_t u l k
 cleared_t-below u l zero h p q = omega (arith, lin)
 cleared_t-below u l (suc k) h p q =
-    let c : cleared_t u l (suc k) *ℤ cleared_t u l (suc k) +ℤ (l *ℤ l -ℤ u *ℤ u) *ℤ (cleared_u u l k *ℤ cleared_u u l k) ≡ power l (suc k) *ℤ power l (suc k) = circle u l k ∙ power_square l (suc k) in
-    let d : l *ℤ l -ℤ u *ℤ u ≡ (l -ℤ u) *ℤ (l +ℤ u) = ring (u ∷ l ∷ []) (v 1 ⊗ v 1 ⊖ v 0 ⊗ v 0) ((v 1 ⊖ v 0) ⊗ (v 1 ⊕ v 0)) tt in
-    let n : pos 0 ≤ℤ ((l -ℤ u) *ℤ (l +ℤ u)) = nonneg-mul (l -ℤ u) (l +ℤ u) (omega (arith, lin)) (omega (arith, lin)) in
-    let n2 : pos 0 ≤ℤ (l *ℤ l -ℤ u *ℤ u) = rw d n in
-    let m : pos 0 ≤ℤ ((l *ℤ l -ℤ u *ℤ u) *ℤ (cleared_u u l k *ℤ cleared_u u l k)) = nonneg-mul (l *ℤ l -ℤ u *ℤ u) (cleared_u u l k *ℤ cleared_u u l k) n2 (nonneg-square (cleared_u u l k)) in
+    let s = square_within u l k p q in
     let e : neg_ℤ (cleared_t u l (suc k)) *ℤ neg_ℤ (cleared_t u l (suc k)) ≡ cleared_t u l (suc k) *ℤ cleared_t u l (suc k) = ring (cleared_t u l (suc k) ∷ []) (minus (v 0) ⊗ minus (v 0)) (v 0 ⊗ v 0) tt in
     let r : neg_ℤ (cleared_t u l (suc k)) ≤ℤ power l (suc k) = le_from_squares (neg_ℤ (cleared_t u l (suc k))) (power l (suc k)) (nonneg-power l (suc k) h) (omega (arith, lin)) in
     omega (arith, lin)

@@ -57,17 +57,13 @@ ordered_ends s k e N h =
 -- 2^60 in size is divided by 2^9 to 2^51
 half_low : (z : ℤ) → Within z (pos (2 ^ 60)) → neg_ℤ (pos (2 ^ 51)) ≤ℤ floor_div z (2 ^ 9)
 half_low z w =
-    let l = w.low in
-    let h = w.high in
-    let a : unsigned_abs z ≤ 2 ^ 51 * 2 ^ 9 = omega (arith, ints) in
+    let a : unsigned_abs z ≤ 2 ^ 51 * 2 ^ 9 = omega (arith, ints, w.low, w.high) in
     let b : unsigned_abs (floor_div z (2 ^ 9)) ≤ 2 ^ 51 = floor_div-small z (2 ^ 9) (2 ^ 51) (pow_pos 9) a in
     omega (arith, ints)
 
 half_high : (z : ℤ) → Within z (pos (2 ^ 60)) → ceil_div z (2 ^ 9) ≤ℤ pos (2 ^ 51)
 half_high z w =
-    let l = w.low in
-    let h = w.high in
-    let a : unsigned_abs z ≤ 2 ^ 51 * 2 ^ 9 = omega (arith, ints) in
+    let a : unsigned_abs z ≤ 2 ^ 51 * 2 ^ 9 = omega (arith, ints, w.low, w.high) in
     let b : unsigned_abs (ceil_div z (2 ^ 9)) ≤ 2 ^ 51 = ceil_div-small z (2 ^ 9) (2 ^ 51) (pow_pos 9) a in
     omega (arith, ints)
 

@@ -5,10 +5,11 @@ use Rattle.std.proofs.lemmas.Nat.{pow_pos}
 use Rattle.std.specs.Int.{int_gap}
 use Rattle.spec_numbers.proofs.Order.{lin}
 use Rattle.spec_intervals.specs.Interval.{Interval}
+use Rattle.spec_intervals.proofs.Narrow.{zero_ends}
 use Rattle.spec_inclusions.specs.Inclusion.{Includes}
 use Rattle.spec_inclusions.specs.Bounds.{at_exponent, coarsened}
 use Rattle.spec_inclusions.proofs.Spans.{scaled_le, Spans-refl}
-use Rattle.spec_inclusions.proofs.Narrowing.{zero_ends, Includes-raised, Includes-outer}
+use Rattle.spec_inclusions.proofs.Narrowing.{Includes-raised, Includes-outer}
 
 pub Includes-refl : (x : Interval) → Includes x x
 Includes-refl x = inl (Spans-refl x)

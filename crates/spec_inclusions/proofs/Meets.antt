@@ -5,19 +5,19 @@ use Rattle.std.specs.Prelude.{if◌then◌else◌}
 use Rattle.std.specs.Int.{int_gap, int_min, int_max}
 use Rattle.std.proofs.lemmas.Int.{ints, clamps}
 use Rattle.std.proofs.lemmas.Nat.{pow_pos}
-use borrow.Author.Differences.{down}
 use lib.Signed.{le_z}
 use Rattle.spec_numbers.specs.Numbers.{floor_div, ceil_div}
-use Rattle.spec_numbers.proofs.Order.{lin, le-mul_cancel}
+use Rattle.spec_numbers.proofs.Order.{lin}
 use Rattle.spec_intervals.specs.Interval.{Interval, interval, zero_interval, is_zero, lift_limit, lift, surplus, aligned_lower, aligned_upper, narrow, meet_up, meet}
-use Rattle.spec_intervals.specs.Fraction.{Fraction, Holds, Overlaps}
-use Rattle.spec_intervals.proofs.Sums.{meets}
-use Rattle.spec_intervals.proofs.Rules.{ends-in_order, meet-in_order}
+use Rattle.spec_intervals.specs.Fraction.{Overlaps}
+use Rattle.spec_intervals.proofs.Sums.{gap_is, meets, zero_num}
+use Rattle.spec_intervals.proofs.Rules.{min_bounds, max_bounds, ends-in_order, meet-in_order}
+use Rattle.spec_intervals.proofs.Narrow.{zero_ends}
 use Rattle.spec_inclusions.specs.Inclusion.{Spans, HoldsZero, Includes}
 use Rattle.spec_inclusions.specs.Bounds.{at_exponent, coarsened}
-use Rattle.spec_inclusions.proofs.Gaps.{gap-is, gap-reaches}
+use Rattle.spec_inclusions.proofs.Gaps.{brought, gap-reaches}
 use Rattle.spec_inclusions.proofs.Spans.{floor_div-greatest, ceil_div-least, Spans-outer, Spans-raised, Spans-lowered, Spans-within}
-use Rattle.spec_inclusions.proofs.Narrowing.{zero_ends, zero_down, zero_up, spans_zero, zero_moved, narrow-zero, Includes-narrow}
+use Rattle.spec_inclusions.proofs.Narrowing.{zero_down, zero_up, spans_zero, zero_moved, narrow-zero, Includes-narrow}
 use Rattle.spec_inclusions.proofs.Coarse.{Includes-coarsened}
 
 overlaps_back : (x y : Interval) → Overlaps x y → Overlaps y x
@@ -33,25 +33,16 @@ met_hi x y = int_min (aligned_lower x y).hi (aligned_upper x y).hi
 abbrev met : Interval → Interval → Interval
 met x y = interval (met_lo x y) (met_hi x y) (aligned_lower x y).s
 
-least_two : (p q : ℤ) → (int_min p q ≤ℤ p) × (int_min p q ≤ℤ q)
-least_two p q = omega (arith, ints, clamps)
-
-greatest_two : (p q : ℤ) → (p ≤ℤ int_max p q) × (q ≤ℤ int_max p q)
-greatest_two p q = omega (arith, ints, clamps)
-
 within_lower : (y u w : Interval) → Spans y (aligned_lower u w) → Spans y (met u w)
 within_lower y u w s =
-    let low = greatest_two (aligned_lower u w).lo (aligned_upper u w).lo in
-    let high = least_two (aligned_lower u w).hi (aligned_upper u w).hi in
+    let low = max_bounds (aligned_lower u w).lo (aligned_upper u w).lo in
+    let high = min_bounds (aligned_lower u w).hi (aligned_upper u w).hi in
     Spans-within (met_lo u w) (met_hi u w) y (aligned_lower u w) low.0 high.0 s
-
-brought : (b a : ℤ) (k : ℕ) → b ≡ a +ℤ pos k → b -ℤ pos k ≡ a
-brought b a k e = omega (arith, lin)
 
 within_upper : (y u w : Interval) → u.s ≤ℤ w.s → Spans y (aligned_upper u w) → Spans y (met u w)
 within_upper y u w h s =
-    let low = greatest_two (aligned_lower u w).lo (aligned_upper u w).lo in
-    let high = least_two (aligned_lower u w).hi (aligned_upper u w).hi in
+    let low = max_bounds (aligned_lower u w).lo (aligned_upper u w).lo in
+    let high = min_bounds (aligned_lower u w).hi (aligned_upper u w).hi in
     let same = brought w.s (aligned_lower u w).s (lift u w) (meets u.s w.s h) in
     subst (λ e. Spans y (interval (met_lo u w) (met_hi u w) e)) same
     (Spans-within (met_lo u w) (met_hi u w) y (aligned_upper u w) low.1 high.1 s)
@@ -71,7 +62,7 @@ module _ (y z u w : Interval) (o : Overlaps u w) (m : Spans y u) where
   first_finer : u.s ≤ℤ w.s → w.s ≤ℤ z.s → Includes (coarsened least y) (meet_up u w)
   unfolding coarsened meet_up
   first_finer h c =
-      let gap = gap-is u.s w.s h in
+      let gap = gap_is u.s w.s h in
       let far = gap-reaches y.s least in
       let small = deep u.s y.s z.s w.s (int_gap u.s w.s) m.gap (int_gap y.s least) gap c m.exponent far in
       let spanned = Spans-raised (int_gap y.s least) (surplus u w) y u m small in
@@ -144,15 +135,6 @@ meet-zero x y o z = by (le_z x.s y.s) refl
     by false e = meet_up-zero y x (omega (arith, lin)) (overlaps_back x y o) (turn z)
 
 -- what overlaps 0 alone holds 0
-zero_num : (x : Interval) (r : Fraction) → is_zero x ≡ true → Holds x r → r.numerator ≡ pos 0
-zero_num x r z h =
-    let e = zero_ends x.lo x.hi z in
-    let low = rw e.0 at h.low in
-    let high = rw e.1 at h.high in
-    let a = le-mul_cancel (pos 0) r.numerator (2 ^ down x.s) (pow_pos (down x.s)) (omega (arith, ints)) in
-    let b = le-mul_cancel r.numerator (pos 0) (2 ^ down x.s) (pow_pos (down x.s)) (omega (arith, ints)) in
-    omega (arith, lin)
-
 zero_between : (x y : Interval) → Overlaps x y → is_zero y ≡ true → (x.lo ≤ℤ pos 0) × (pos 0 ≤ℤ x.hi)
 zero_between x y o z =
     let e = zero_num y o.common z o.in_second in

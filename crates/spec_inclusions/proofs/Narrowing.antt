@@ -6,19 +6,12 @@ use Rattle.spec_numbers.specs.Numbers.{floor_div, ceil_div}
 use Rattle.spec_numbers.proofs.Order.{lin, le-mul_cancel}
 use Rattle.spec_numbers.proofs.Floor.{ordered_quotients}
 use Rattle.spec_numbers.proofs.Booleans.{both_true}
-use Rattle.spec_intervals.specs.Interval.{Interval, interval, zero_interval, raised, is_zero, end_limit, zero_end, fits_after, first_fit, narrow_shift, is_small, settled, narrow_by, narrow}
-use Rattle.spec_intervals.proofs.Narrow.{is_small-from, is_small-both, narrow_shift-fits, narrow_shift-le}
+use Rattle.spec_intervals.specs.Interval.{Interval, interval, zero_interval, raised, is_zero, end_limit, zero_end, fits_after, narrow_shift, is_small, settled, narrow_by, narrow}
+use Rattle.spec_intervals.proofs.Narrow.{zero_ends, narrow_of_zero, is_small-from, is_small-both, narrow_shift-fits, narrow_shift-le}
 use Rattle.spec_inclusions.specs.Inclusion.{Spans, HoldsZero, Includes}
 use Rattle.spec_inclusions.proofs.Spans.{Spans-outer, Spans-raised, floor_div-greatest, ceil_div-least, low-outer, high-outer}
 
 -- ---- 0
-pub zero_ends : (lo hi : ℤ) → (zero_end lo && zero_end hi) ≡ true → (lo ≡ pos 0) × (hi ≡ pos 0)
-zero_ends (pos zero) (pos zero) t = (refl, refl)
-zero_ends (pos zero) (pos (suc n)) t = cc
-zero_ends (pos zero) (negsuc n) t = cc
-zero_ends (pos (suc n)) hi t = cc
-zero_ends (negsuc n) hi t = cc
-
 pub zero_alone : (lo hi : ℤ) → lo ≡ pos 0 → hi ≡ pos 0 → (zero_end lo && zero_end hi) ≡ true
 zero_alone lo hi p q = rw (p, q) refl
 
@@ -96,12 +89,8 @@ pub Includes-outer : (y x : Interval) → x.lo ≤ℤ x.hi → Includes y x → 
 unfolding narrow narrow_by
 Includes-outer y x o h = settled-outer _ x o (Includes-raised (narrow_shift y.lo y.hi) y x h)
 
-narrow-at_zero : (s : ℤ) → narrow (pos 0) (pos 0) s ≡ zero_interval
-unfolding narrow narrow_by narrow_shift first_fit settled
-narrow-at_zero s = refl
-
 pub narrow-zero : (lo hi s : ℤ) → lo ≡ pos 0 → hi ≡ pos 0 → narrow lo hi s ≡ zero_interval
-narrow-zero lo hi s p q = rw (p, q) (narrow-at_zero s)
+narrow-zero lo hi s p q = rw (p, q) (narrow_of_zero s)
 
 -- a number between two small ones is small
 between_small : (a b z : ℤ) (m : ℕ) → unsigned_abs a ≤ m → unsigned_abs b ≤ m → a ≤ℤ z → z ≤ℤ b → unsigned_abs z ≤ m

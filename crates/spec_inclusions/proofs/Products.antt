@@ -1,16 +1,17 @@
 -- Products keep inclusion: the ends of the inner factors lie between those of the outer ones, brought to their units.
-use Rattle.std.proofs.Common.{◌≡◌, ℕ, ◌+◌, ◌^◌, arith, refl, ap, ◌∙◌, [], ◌∷◌, ℤ, pos, ◌+ℤ◌, ◌*ℤ◌, ◌≤ℤ◌, true, ◌&&◌, inl, inr}
+use Rattle.std.proofs.Common.{◌≡◌, ℕ, ◌+◌, ◌^◌, arith, refl, ap, ◌∙◌, ℤ, pos, ◌+ℤ◌, ◌*ℤ◌, ◌≤ℤ◌, true, ◌&&◌, inl, inr}
 use Rattle.std.proofs.lemmas.Int.{ints, clamps}
 use Rattle.std.proofs.lemmas.Nat.{pow_pos}
+use Rattle.std.proofs.Math.IntN.{zero-*ℤ, *ℤ-zero}
 use Rattle.std.specs.Int.{int_min, int_max}
-use Rattle.spec_numbers.proofs.Ring.{v, k as lit, ◌⊗◌, ring}
 use Rattle.spec_numbers.proofs.Order.{lin, le-mul_cancel}
 use Rattle.spec_numbers.proofs.Corners.{corner_low, corner_high}
 use Rattle.spec_intervals.specs.Interval.{Interval, interval, least4, greatest4, product, zero_end}
 use Rattle.spec_intervals.proofs.Products.{least4-le, greatest4-ge, powers, corners_ordered}
+use Rattle.spec_intervals.proofs.Narrow.{zero_ends}
 use Rattle.spec_inclusions.specs.Inclusion.{Spans, HoldsZero, Includes}
 use Rattle.spec_inclusions.proofs.Spans.{scaled_le}
-use Rattle.spec_inclusions.proofs.Narrowing.{zero_ends, Includes-narrow}
+use Rattle.spec_inclusions.proofs.Narrowing.{Includes-narrow}
 
 -- all four products of ends, not yet narrowed
 abbrev corners : Interval → Interval → Interval
@@ -25,10 +26,10 @@ Includes-ordered y x o (inl s) =
 Includes-ordered y x o (inr h) = let a = h.low in let b = h.high in omega (arith, lin)
 
 -- a bound of four numbers is a bound of the least and of the greatest of them
-below_least : (m p q r s : ℤ) → m ≤ℤ p → m ≤ℤ q → m ≤ℤ r → m ≤ℤ s → m ≤ℤ int_min (int_min p q) (int_min r s)
+pub below_least : (m p q r s : ℤ) → m ≤ℤ p → m ≤ℤ q → m ≤ℤ r → m ≤ℤ s → m ≤ℤ int_min (int_min p q) (int_min r s)
 below_least m p q r s a b c d = omega (arith, ints, clamps)
 
-above_greatest : (m p q r s : ℤ) → p ≤ℤ m → q ≤ℤ m → r ≤ℤ m → s ≤ℤ m → int_max (int_max p q) (int_max r s) ≤ℤ m
+pub above_greatest : (m p q r s : ℤ) → p ≤ℤ m → q ≤ℤ m → r ≤ℤ m → s ≤ℤ m → int_max (int_max p q) (int_max r s) ≤ℤ m
 above_greatest m p q r s a b c d = omega (arith, ints, clamps)
 
 -- ---- a to b in units that are 2^g times those of x, c to d in units that are 2^h times those of y
@@ -45,19 +46,13 @@ module _ (a b c d x y : ℤ) (g h : ℕ)
   product_low =
       let l = least4-le a b c d in
       corner_low _ (a *ℤ pos (2 ^ g)) (b *ℤ pos (2 ^ g)) (c *ℤ pos (2 ^ h)) (d *ℤ pos (2 ^ h)) x y p q r s
-      (scaled_low _ a c l.0)
-      (scaled_low _ a d l.1)
-      (scaled_low _ b c l.2)
-      (scaled_low _ b d l.3)
+      (scaled_low _ a c l.0) (scaled_low _ a d l.1) (scaled_low _ b c l.2) (scaled_low _ b d l.3)
 
   product_high : (x *ℤ y) ≤ℤ (greatest4 a b c d *ℤ pos (2 ^ (g + h)))
   product_high =
       let l = greatest4-ge a b c d in
       corner_high _ (a *ℤ pos (2 ^ g)) (b *ℤ pos (2 ^ g)) (c *ℤ pos (2 ^ h)) (d *ℤ pos (2 ^ h)) x y p q r s
-      (scaled_high _ a c l.0)
-      (scaled_high _ a d l.1)
-      (scaled_high _ b c l.2)
-      (scaled_high _ b d l.3)
+      (scaled_high _ a c l.0) (scaled_high _ a d l.1) (scaled_high _ b c l.2) (scaled_high _ b d l.3)
 
 -- both ends of an interval lie in what spans it
 record BothWithin (y x : Interval) (g : ℕ) : Type 0 where
@@ -97,12 +92,6 @@ corners_spanned p q x y o u s t =
     }
 
 -- ---- a product with 0 alone
-none_times : (z : ℤ) → pos 0 *ℤ z ≡ pos 0
-none_times z = ring (z ∷ []) (lit (pos 0) ⊗ v 0) (lit (pos 0)) tt
-
-times_none : (z : ℤ) → z *ℤ pos 0 ≡ pos 0
-times_none z = ring (z ∷ []) (v 0 ⊗ lit (pos 0)) (lit (pos 0)) tt
-
 -- where 0 is a product of numbers between the ends, it lies between the products of ends
 holds_product : (a b c d x y : ℤ) → a ≤ℤ x → x ≤ℤ b → c ≤ℤ y → y ≤ℤ d → x *ℤ y ≡ pos 0
     → (least4 a b c d ≤ℤ pos 0) × (pos 0 ≤ℤ greatest4 a b c d)
@@ -121,16 +110,16 @@ all_zero p q r s a b c d = rw (a, b, c, d) refl
 first_zero : (p q x y : Interval) → q.lo ≤ℤ q.hi → HoldsZero p x → HoldsZero (corners p q) (corners x y)
 first_zero p q x y o h =
     let e = zero_ends x.lo x.hi h.zero in
-    let none = λ (w z : ℤ) (i : w ≡ pos 0). ap (λ n. n *ℤ z) i ∙ none_times z in
-    let w = holds_product p.lo p.hi q.lo q.hi (pos 0) q.lo h.low h.high (omega (arith, lin)) o (none_times q.lo) in
+    let none = λ (w z : ℤ) (i : w ≡ pos 0). ap (λ n. n *ℤ z) i ∙ zero-*ℤ z in
+    let w = holds_product p.lo p.hi q.lo q.hi (pos 0) q.lo h.low h.high (omega (arith, lin)) o (zero-*ℤ q.lo) in
     let zero = all_zero _ _ _ _ (none x.lo y.lo e.0) (none x.lo y.hi e.0) (none x.hi y.lo e.1) (none x.hi y.hi e.1) in
     record { zero = zero; low = w.0; high = w.1 }
 
 second_zero : (p q x y : Interval) → p.lo ≤ℤ p.hi → HoldsZero q y → HoldsZero (corners p q) (corners x y)
 second_zero p q x y o h =
     let e = zero_ends y.lo y.hi h.zero in
-    let none = λ (z w : ℤ) (i : w ≡ pos 0). ap (λ n. z *ℤ n) i ∙ times_none z in
-    let w = holds_product p.lo p.hi q.lo q.hi p.lo (pos 0) (omega (arith, lin)) o h.low h.high (times_none p.lo) in
+    let none = λ (z w : ℤ) (i : w ≡ pos 0). ap (λ n. z *ℤ n) i ∙ *ℤ-zero z in
+    let w = holds_product p.lo p.hi q.lo q.hi p.lo (pos 0) (omega (arith, lin)) o h.low h.high (*ℤ-zero p.lo) in
     let zero = all_zero _ _ _ _ (none x.lo y.lo e.0) (none x.lo y.hi e.1) (none x.hi y.lo e.0) (none x.hi y.hi e.1) in
     record { zero = zero; low = w.0; high = w.1 }
 

@@ -1,5 +1,5 @@
 -- Sums keep inclusion: the inner sum is taken in a unit no coarser than that of the outer one.
-use Rattle.std.proofs.Common.{◌≡◌, ℕ, ◌+◌, ◌*◌, ◌^◌, ap, ◌≤◌, arith, refl, sym, [], ◌∷◌, ℤ, pos, neg_ℤ, ◌+ℤ◌, ◌-ℤ◌, ◌*ℤ◌, ◌≤ℤ◌, Bool, true, false, ◌∙◌, inl, inr}
+use Rattle.std.proofs.Common.{◌≡◌, ℕ, ◌+◌, ◌*◌, ◌^◌, ap, ◌≤◌, arith, refl, sym, [], ◌∷◌, ℤ, pos, neg_ℤ, ◌+ℤ◌, ◌*ℤ◌, ◌≤ℤ◌, Bool, true, false, ◌∙◌, inl, inr}
 use Rattle.std.specs.Prelude.{if◌then◌else◌}
 use Rattle.std.specs.Int.{int_gap, int_max}
 use Rattle.std.proofs.lemmas.Bool.{false≢true}
@@ -9,12 +9,14 @@ use Rattle.spec_numbers.proofs.Ring.{v, ◌⊕◌, ◌⊗◌, minus, ring}
 use Rattle.spec_numbers.proofs.Order.{lin}
 use Rattle.spec_numbers.proofs.Floor.{ordered_quotients}
 use Rattle.spec_intervals.specs.Interval.{Interval, interval, is_zero, lift, surplus, aligned_lower, aligned_upper, sum_up, sum, negated, difference, narrow}
-use Rattle.spec_intervals.proofs.Sums.{meets}
+use Rattle.spec_intervals.proofs.Sums.{gap_is, meets}
+use Rattle.spec_intervals.proofs.Rules.{max_bounds}
+use Rattle.spec_intervals.proofs.Narrow.{zero_ends}
 use Rattle.spec_inclusions.specs.Inclusion.{Spans, HoldsZero, Includes}
 use Rattle.spec_inclusions.specs.Bounds.{at_exponent, raised_sum, coarse_sum, coarse_difference}
-use Rattle.spec_inclusions.proofs.Gaps.{gap-is, below_max}
+use Rattle.spec_inclusions.proofs.Gaps.{brought}
 use Rattle.spec_inclusions.proofs.Spans.{scaled_le, Spans-outer, Spans-raised, Spans-lowered, Spans-wider}
-use Rattle.spec_inclusions.proofs.Narrowing.{zero_ends, zero_alone, holds_zero, zero_down, zero_up, Includes-raised, Includes-outer, Includes-narrow}
+use Rattle.spec_inclusions.proofs.Narrowing.{zero_alone, holds_zero, zero_down, zero_up, Includes-raised, Includes-outer, Includes-narrow}
 
 -- ---- two intervals at one exponent
 -- their ends added, at the exponent s
@@ -60,10 +62,7 @@ shallow : (x y p q s : ℤ) (surplus lift g h gap : ℕ) → y ≡ (x +ℤ pos s
     → p ≡ x +ℤ pos g → q ≡ y +ℤ pos h → q ≤ℤ s → s ≡ p +ℤ pos gap → surplus ≤ gap + g
 shallow x y p q s surplus lift g h gap a b c d e = omega (arith, lin)
 
-brought : (y x : ℤ) (k : ℕ) → y ≡ x +ℤ pos k → y -ℤ pos k ≡ x
-brought y x k e = omega (arith, lin)
-
-sums_ordered : (a b c d : ℤ) → a ≤ℤ b → c ≤ℤ d → (a +ℤ c) ≤ℤ (b +ℤ d)
+pub sums_ordered : (a b c d : ℤ) → a ≤ℤ b → c ≤ℤ d → (a +ℤ c) ≤ℤ (b +ℤ d)
 sums_ordered a b c d h g = omega (arith, lin)
 
 module _ (s : ℤ) (p q x y : Interval) (h : x.s ≤ℤ y.s) (a : p.s ≤ℤ s) (b : q.s ≤ℤ s)
@@ -75,7 +74,7 @@ module _ (s : ℤ) (p q x y : Interval) (h : x.s ≤ℤ y.s) (a : p.s ≤ℤ s) 
   small_surplus : surplus x y ≤ int_gap p.s s + m.gap
   small_surplus =
       shallow x.s y.s p.s q.s s (surplus x y) (lift x y) m.gap n.gap (int_gap p.s s)
-      (meets x.s y.s h) m.exponent n.exponent b (gap-is p.s s a)
+      (meets x.s y.s h) m.exponent n.exponent b (gap_is p.s s a)
 
   lower_spanned : Spans (at_exponent s p) (aligned_lower x y)
   lower_spanned = Spans-raised (int_gap p.s s) (surplus x y) p x m small_surplus
@@ -87,7 +86,7 @@ module _ (s : ℤ) (p q x y : Interval) (h : x.s ≤ℤ y.s) (a : p.s ≤ℤ s) 
   sum_up_spanned =
       let same = brought y.s (aligned_lower x y).s (lift x y) (meets x.s y.s h) in
       Spans-added s (aligned_lower x y).s (at_exponent s p) (at_exponent s q) (aligned_lower x y) (aligned_upper x y)
-      (sym (gap-is p.s s a)) (sym (gap-is q.s s b)) refl same lower_spanned upper_spanned
+      (sym (gap_is p.s s a)) (sym (gap_is q.s s b)) refl same lower_spanned upper_spanned
 
   sum_up_included : x.lo ≤ℤ x.hi → y.lo ≤ℤ y.hi → Includes (sum_at s p q) (sum_up x y)
   unfolding sum_up
@@ -101,24 +100,6 @@ not_zero : (y x : Interval) → is_zero x ≡ false → Includes y x → Spans y
 not_zero y x e (inl s) = s
 not_zero y x e (inr h) = absurd (false≢true (sym e ∙ h.zero))
 
--- 0 may be added on either side
-module _ (s : ℤ) (p q x y : Interval) (a : p.s ≤ℤ s) (b : q.s ≤ℤ s) where
-  first_alone : y.lo ≤ℤ y.hi → HoldsZero p x → Includes q y → Includes (sum_at s p q) y
-  first_alone u h j =
-      let low = zero_down p.lo (2 ^ int_gap p.s s) (pow_pos (int_gap p.s s)) h.low in
-      let high = zero_up p.hi (2 ^ int_gap p.s s) (pow_pos (int_gap p.s s)) h.high in
-      let raised_in = Includes-raised (int_gap q.s s) q y j in
-      let wider = Includes-wider _ _ s (at_exponent s q) y (gap-is q.s s b) (omega (arith, lin)) (omega (arith, lin)) raised_in in
-      Includes-outer (ends_at s p q) y u wider
-
-  second_alone : x.lo ≤ℤ x.hi → HoldsZero q y → Includes p x → Includes (sum_at s p q) x
-  second_alone o h i =
-      let low = zero_down q.lo (2 ^ int_gap q.s s) (pow_pos (int_gap q.s s)) h.low in
-      let high = zero_up q.hi (2 ^ int_gap q.s s) (pow_pos (int_gap q.s s)) h.high in
-      let raised_in = Includes-raised (int_gap p.s s) p x i in
-      let wider = Includes-wider _ _ s (at_exponent s p) x (gap-is p.s s a) (omega (arith, lin)) (omega (arith, lin)) raised_in in
-      Includes-outer (ends_at s p q) x o wider
-
 exchanged_sum : (s : ℤ) (p q : Interval) → sum_at s p q ≡ sum_at s q p
 exchanged_sum s p q = by (at_exponent s p) (at_exponent s q)
   where
@@ -127,6 +108,18 @@ exchanged_sum s p q = by (at_exponent s p) (at_exponent s q)
         let a : p.lo +ℤ q.lo ≡ q.lo +ℤ p.lo = omega (arith, lin) in
         let b : p.hi +ℤ q.hi ≡ q.hi +ℤ p.hi = omega (arith, lin) in
         cc
+
+-- 0 may be added on either side
+first_alone : (s : ℤ) (p q x y : Interval) → p.s ≤ℤ s → q.s ≤ℤ s → y.lo ≤ℤ y.hi → HoldsZero p x → Includes q y → Includes (sum_at s p q) y
+first_alone s p q x y a b u h j =
+    let low = zero_down p.lo (2 ^ int_gap p.s s) (pow_pos (int_gap p.s s)) h.low in
+    let high = zero_up p.hi (2 ^ int_gap p.s s) (pow_pos (int_gap p.s s)) h.high in
+    let raised_in = Includes-raised (int_gap q.s s) q y j in
+    let wider = Includes-wider _ _ s (at_exponent s q) y (gap_is q.s s b) (omega (arith, lin)) (omega (arith, lin)) raised_in in
+    Includes-outer (ends_at s p q) y u wider
+
+second_alone : (s : ℤ) (p q x y : Interval) → p.s ≤ℤ s → q.s ≤ℤ s → x.lo ≤ℤ x.hi → HoldsZero q y → Includes p x → Includes (sum_at s p q) x
+second_alone s p q x y a b o h i = rw (exchanged_sum s p q) (first_alone s q p y x b a o h i)
 
 sum_included : (s : ℤ) (p q x y : Interval) → p.s ≤ℤ s → q.s ≤ℤ s → x.lo ≤ℤ x.hi → y.lo ≤ℤ y.hi → Includes p x → Includes q y
     → Includes (sum_at s p q) (sum x y)
@@ -145,7 +138,7 @@ Includes-raised_sum : (p q x y : Interval) → x.lo ≤ℤ x.hi → y.lo ≤ℤ 
     → Includes (raised_sum p q) (sum x y)
 unfolding raised_sum
 Includes-raised_sum p q x y o u i j =
-    let most = below_max p.s q.s in
+    let most = max_bounds p.s q.s in
     sum_included (int_max p.s q.s) p q x y most.0 most.1 o u i j
 
 -- what 0 alone includes is 0 alone

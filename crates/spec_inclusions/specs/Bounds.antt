@@ -1,8 +1,7 @@
 -- Bounds: what includes an enclosure over every span within a longer one. They are made like enclosures, but for the middle,
 -- at which nothing is looked, and for sums, which are taken in the coarser of two units.
-use Rattle.std.specs.Prelude.{◌^◌, if◌then◌else◌, ℤ, pos, ◌+ℤ◌, ◌-ℤ◌}
+use Rattle.std.specs.Prelude.{if◌then◌else◌, ℤ, pos, ◌+ℤ◌, ◌-ℤ◌}
 use Rattle.std.specs.Int.{int_max, int_gap}
-use Rattle.spec_numbers.specs.Numbers.{floor_div, ceil_div}
 use Rattle.spec_intervals.specs.Interval.{Interval, is_zero, lift_limit, narrow, negated, product, raised, signed_square, zero_interval}
 use Rattle.spec_intervals.specs.Enclosure.{Enclosure, offsets, twice_size}
 use Rattle.spec_inclusions.specs.Inclusion.{Includes}

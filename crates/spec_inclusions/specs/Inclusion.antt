@@ -1,6 +1,6 @@
 -- When one interval includes another so firmly that every rule keeps it: all numbers of the other lie in it, and its unit
 -- is no finer, so that rounding outward cannot carry the other past it.
-use Rattle.std.specs.Prelude.{◌≡◌, ◌⊎◌, ℕ, ◌^◌, true, ℤ, pos, ◌+ℤ◌, ◌*ℤ◌, ◌≤ℤ◌}
+use Rattle.std.specs.Prelude.{◌≡◌, ◌⊎◌, ℕ, ◌^◌, true, pos, ◌+ℤ◌, ◌*ℤ◌, ◌≤ℤ◌}
 use Rattle.spec_intervals.specs.Interval.{Interval, is_zero}
 
 -- y is in units that are 2^gap times those of x, and x lies in it

@@ -7,14 +7,14 @@ use Rattle.spec_numbers.proofs.Whole.{mul_comm}
 use Rattle.spec_numbers.proofs.Order.{lin}
 use Rattle.spec_intervals.specs.Fraction.{Fraction, IsFraction, Holds, AtMost, AtLeast, fraction_add, fraction_sub}
 use Rattle.spec_intervals.proofs.Narrow.{Holds-narrow}
-use Rattle.spec_intervals.specs.Interval.{Interval, least4, greatest4, product, sum}
+use Rattle.spec_intervals.specs.Interval.{Interval, interval, least4, greatest4, product, sum}
 use Rattle.spec_intervals.specs.Enclosure.{AllFractions, change, middle, centred}
 use Rattle.spec_numbers.proofs.Floor.{floor_div-le, floor_div-lt}
 use Rattle.spec_intervals.proofs.Compare.{AtMost-le, AtLeast-le, AtMost-less, AtLeast-more, Holds-same}
 use Rattle.spec_numbers.proofs.Naturals.{positive_product}
 use Rattle.spec_intervals.proofs.Sums.{sum_low, sum_high, Holds-sum}
 use Rattle.spec_intervals.proofs.Products.{least4-le, greatest4-ge}
-use Rattle.spec_numbers.proofs.Corners.{corner_low, corner_high}
+use Rattle.spec_numbers.proofs.Corners.{between_low, between_high}
 use Rattle.spec_intervals.proofs.Rules.{AtMost-neg, AtLeast-neg, fraction_neg}
 
 -- from x to y and from y to z is from x to z
@@ -63,52 +63,34 @@ next t k = omega (arith, lin)
 
 -- the change over k times is k times a change
 module _ (f : ℤ → Fraction) (a b : ℤ) (fs : AllFractions f a b) (step : Interval) (h : (t : ℤ) → a ≤ℤ t → t <ℤ b → Holds step (change f t)) where
-  pub run_low : (t : ℤ) (k : ℕ) → a ≤ℤ t → (t +ℤ pos k) ≤ℤ b → AtMost (pos k *ℤ step.lo) step.s (fraction_sub (f (t +ℤ pos k)) (f t))
-  run_low t zero p q =
+  pub run : (t : ℤ) (k : ℕ) → a ≤ℤ t → (t +ℤ pos k) ≤ℤ b → Holds (interval (pos k *ℤ step.lo) (pos k *ℤ step.hi) step.s) (fraction_sub (f (t +ℤ pos k)) (f t))
+  run t zero p q =
       let e : t +ℤ pos 0 ≡ t = omega (arith, lin) in
-      rw e (zero_low step.lo step.s (fraction_sub (f t) (f t)) (itself (f t)))
-  run_low t (suc k) p q =
+      let same = itself (f t) in
+      rw e (record { low = zero_low step.lo step.s (fraction_sub (f t) (f t)) same; high = zero_high step.hi step.s (fraction_sub (f t) (f t)) same })
+  run t (suc k) p q =
       let i : IsFraction (f t) = fs t p (omega (arith, lin)) in
       let j : IsFraction (f (t +ℤ pos k)) = fs (t +ℤ pos k) (omega (arith, lin)) (omega (arith, lin)) in
       let n : IsFraction (f (t +ℤ pos k +ℤ pos 1)) = fs (t +ℤ pos k +ℤ pos 1) (omega (arith, lin)) (omega (arith, lin)) in
-      let ih : AtMost (pos k *ℤ step.lo) step.s (fraction_sub (f (t +ℤ pos k)) (f t)) = run_low t k p (omega (arith, lin)) in
-      let g : AtMost step.lo step.s (fraction_sub (f (t +ℤ pos k +ℤ pos 1)) (f (t +ℤ pos k))) = (h (t +ℤ pos k) (omega (arith, lin)) (omega (arith, lin))).low in
-      let w = sum_low (pos k *ℤ step.lo) step.lo step.s (fraction_sub (f (t +ℤ pos k)) (f t)) (fraction_sub (f (t +ℤ pos k +ℤ pos 1)) (f (t +ℤ pos k))) ih g in
-      let w' : AtMost (pos k *ℤ step.lo +ℤ step.lo) step.s (fraction_sub (f (t +ℤ pos k +ℤ pos 1)) (f t)) = AtMost-same (pos k *ℤ step.lo +ℤ step.lo) step.s _ (fraction_sub (f (t +ℤ pos k +ℤ pos 1)) (f t)) (positive_product _ _ (IsFraction-sub (f (t +ℤ pos k)) (f t) j i) (IsFraction-sub (f (t +ℤ pos k +ℤ pos 1)) (f (t +ℤ pos k)) n j)) (path (f t) (f (t +ℤ pos k)) (f (t +ℤ pos k +ℤ pos 1))) w in
-      subst (λ x. AtMost x step.s (fraction_sub (f (t +ℤ pos (suc k))) (f t))) (more k step.lo) (subst (λ x. AtMost (pos k *ℤ step.lo +ℤ step.lo) step.s (fraction_sub (f x) (f t))) (next t k) w')
-
-  pub run_high : (t : ℤ) (k : ℕ) → a ≤ℤ t → (t +ℤ pos k) ≤ℤ b → AtLeast (pos k *ℤ step.hi) step.s (fraction_sub (f (t +ℤ pos k)) (f t))
-  run_high t zero p q =
-      let e : t +ℤ pos 0 ≡ t = omega (arith, lin) in
-      rw e (zero_high step.hi step.s (fraction_sub (f t) (f t)) (itself (f t)))
-  run_high t (suc k) p q =
-      let i : IsFraction (f t) = fs t p (omega (arith, lin)) in
-      let j : IsFraction (f (t +ℤ pos k)) = fs (t +ℤ pos k) (omega (arith, lin)) (omega (arith, lin)) in
-      let n : IsFraction (f (t +ℤ pos k +ℤ pos 1)) = fs (t +ℤ pos k +ℤ pos 1) (omega (arith, lin)) (omega (arith, lin)) in
-      let ih : AtLeast (pos k *ℤ step.hi) step.s (fraction_sub (f (t +ℤ pos k)) (f t)) = run_high t k p (omega (arith, lin)) in
-      let g : AtLeast step.hi step.s (fraction_sub (f (t +ℤ pos k +ℤ pos 1)) (f (t +ℤ pos k))) = (h (t +ℤ pos k) (omega (arith, lin)) (omega (arith, lin))).high in
-      let w = sum_high (pos k *ℤ step.hi) step.hi step.s (fraction_sub (f (t +ℤ pos k)) (f t)) (fraction_sub (f (t +ℤ pos k +ℤ pos 1)) (f (t +ℤ pos k))) ih g in
-      let w' : AtLeast (pos k *ℤ step.hi +ℤ step.hi) step.s (fraction_sub (f (t +ℤ pos k +ℤ pos 1)) (f t)) = AtLeast-same (pos k *ℤ step.hi +ℤ step.hi) step.s _ (fraction_sub (f (t +ℤ pos k +ℤ pos 1)) (f t)) (positive_product _ _ (IsFraction-sub (f (t +ℤ pos k)) (f t) j i) (IsFraction-sub (f (t +ℤ pos k +ℤ pos 1)) (f (t +ℤ pos k)) n j)) (path (f t) (f (t +ℤ pos k)) (f (t +ℤ pos k +ℤ pos 1))) w in
-      subst (λ x. AtLeast x step.s (fraction_sub (f (t +ℤ pos (suc k))) (f t))) (more k step.hi) (subst (λ x. AtLeast (pos k *ℤ step.hi +ℤ step.hi) step.s (fraction_sub (f x) (f t))) (next t k) w')
+      let before = fraction_sub (f (t +ℤ pos k)) (f t) in
+      let last = fraction_sub (f (t +ℤ pos k +ℤ pos 1)) (f (t +ℤ pos k)) in
+      let ih = run t k p (omega (arith, lin)) in
+      let g = h (t +ℤ pos k) (omega (arith, lin)) (omega (arith, lin)) in
+      let wider = interval (pos k *ℤ step.lo +ℤ step.lo) (pos k *ℤ step.hi +ℤ step.hi) step.s in
+      let both : Holds wider (fraction_add before last) = record { low = sum_low (pos k *ℤ step.lo) step.lo step.s before last ih.low g.low; high = sum_high (pos k *ℤ step.hi) step.hi step.s before last ih.high g.high } in
+      let whole : Holds wider (fraction_sub (f (t +ℤ pos k +ℤ pos 1)) (f t)) = Holds-same wider (fraction_add before last) (fraction_sub (f (t +ℤ pos k +ℤ pos 1)) (f t)) (positive_product _ _ (IsFraction-sub (f (t +ℤ pos k)) (f t) j i) (IsFraction-sub (f (t +ℤ pos k +ℤ pos 1)) (f (t +ℤ pos k)) n j)) (path (f t) (f (t +ℤ pos k)) (f (t +ℤ pos k +ℤ pos 1))) both in
+      subst (λ x. Holds x (fraction_sub (f (t +ℤ pos (suc k))) (f t))) (λ m. interval (more k step.lo m) (more k step.hi m) step.s) (subst (λ x. Holds wider (fraction_sub (f x) (f t))) (next t k) whole)
 
 against : (a b : ℤ) → a *ℤ neg_ℤ b ≡ neg_ℤ (b *ℤ a)
 against a b = ring (a ∷ b ∷ []) (v 0 ⊗ minus (v 1)) (minus (v 1 ⊗ v 0)) tt
 
 least_at : (lo hi c d y z : ℤ) → z ≡ lo ⊎ z ≡ hi → c ≤ℤ y → y ≤ℤ d → least4 lo hi c d ≤ℤ (z *ℤ y)
-least_at lo hi c d y z (inl e) p q =
-    let l = least4-le lo hi c d in
-    rw e (corner_low (least4 lo hi c d) lo lo c d lo y (omega (arith, lin)) (omega (arith, lin)) p q l.0 l.1 l.0 l.1)
-least_at lo hi c d y z (inr e) p q =
-    let l = least4-le lo hi c d in
-    rw e (corner_low (least4 lo hi c d) hi hi c d hi y (omega (arith, lin)) (omega (arith, lin)) p q l.2 l.3 l.2 l.3)
+least_at lo hi c d y z (inl e) p q = let l = least4-le lo hi c d in rw e (between_low (least4 lo hi c d) lo c d y p q l.0 l.1)
+least_at lo hi c d y z (inr e) p q = let l = least4-le lo hi c d in rw e (between_low (least4 lo hi c d) hi c d y p q l.2 l.3)
 
 greatest_at : (lo hi c d y z : ℤ) → z ≡ lo ⊎ z ≡ hi → c ≤ℤ y → y ≤ℤ d → (z *ℤ y) ≤ℤ greatest4 lo hi c d
-greatest_at lo hi c d y z (inl e) p q =
-    let l = greatest4-ge lo hi c d in
-    rw e (corner_high (greatest4 lo hi c d) lo lo c d lo y (omega (arith, lin)) (omega (arith, lin)) p q l.0 l.1 l.0 l.1)
-greatest_at lo hi c d y z (inr e) p q =
-    let l = greatest4-ge lo hi c d in
-    rw e (corner_high (greatest4 lo hi c d) hi hi c d hi y (omega (arith, lin)) (omega (arith, lin)) p q l.2 l.3 l.2 l.3)
+greatest_at lo hi c d y z (inl e) p q = let l = greatest4-ge lo hi c d in rw e (between_high (greatest4 lo hi c d) lo c d y p q l.0 l.1)
+greatest_at lo hi c d y z (inr e) p q = let l = greatest4-ge lo hi c d in rw e (between_high (greatest4 lo hi c d) hi c d y p q l.2 l.3)
 
 -- t seen from m: k times above, or k times below
 apart : (t m : ℤ) → ((k : ℕ) × (t ≡ m +ℤ pos k)) ⊎ ((k : ℕ) × (m ≡ t +ℤ pos k))
@@ -134,14 +116,14 @@ module _ (f : ℤ → Fraction) (a b m : ℤ) (fs : AllFractions f a b) (step : 
   up_from k q =
       let l : least4 step.lo step.hi (a -ℤ m) (b -ℤ m) ≤ℤ (step.lo *ℤ pos k) = least_at step.lo step.hi (a -ℤ m) (b -ℤ m) (pos k) step.lo (inl refl) (omega (arith, lin)) (omega (arith, lin)) in
       let g : (step.hi *ℤ pos k) ≤ℤ greatest4 step.lo step.hi (a -ℤ m) (b -ℤ m) = greatest_at step.lo step.hi (a -ℤ m) (b -ℤ m) (pos k) step.hi (inr refl) (omega (arith, lin)) (omega (arith, lin)) in
-      from_ends (fraction_sub (f (m +ℤ pos k)) (f m)) (AtMost-less (least4 step.lo step.hi (a -ℤ m) (b -ℤ m)) (pos k *ℤ step.lo) step.s _ (rw (mul_comm step.lo (pos k)) at l) (run_low f a b fs step h m k am q)) (AtLeast-more (pos k *ℤ step.hi) (greatest4 step.lo step.hi (a -ℤ m) (b -ℤ m)) step.s _ (rw (mul_comm step.hi (pos k)) at g) (run_high f a b fs step h m k am q))
+      from_ends (fraction_sub (f (m +ℤ pos k)) (f m)) (AtMost-less (least4 step.lo step.hi (a -ℤ m) (b -ℤ m)) (pos k *ℤ step.lo) step.s _ (rw (mul_comm step.lo (pos k)) at l) (run f a b fs step h m k am q).low) (AtLeast-more (pos k *ℤ step.hi) (greatest4 step.lo step.hi (a -ℤ m) (b -ℤ m)) step.s _ (rw (mul_comm step.hi (pos k)) at g) (run f a b fs step h m k am q).high)
 
   down_from : (t : ℤ) (k : ℕ) → a ≤ℤ t → m ≡ t +ℤ pos k → Holds (product step seen) (fraction_sub (f t) (f m))
   down_from t k p e =
       let l : least4 step.lo step.hi (a -ℤ m) (b -ℤ m) ≤ℤ (step.hi *ℤ neg_ℤ (pos k)) = least_at step.lo step.hi (a -ℤ m) (b -ℤ m) (neg_ℤ (pos k)) step.hi (inr refl) (omega (arith, lin)) (omega (arith, lin)) in
       let g : (step.lo *ℤ neg_ℤ (pos k)) ≤ℤ greatest4 step.lo step.hi (a -ℤ m) (b -ℤ m) = greatest_at step.lo step.hi (a -ℤ m) (b -ℤ m) (neg_ℤ (pos k)) step.lo (inl refl) (omega (arith, lin)) (omega (arith, lin)) in
-      let x : AtMost (pos k *ℤ step.lo) step.s (fraction_sub (f m) (f t)) = subst (λ n. AtMost (pos k *ℤ step.lo) step.s (fraction_sub (f n) (f t))) (sym e) (run_low f a b fs step h t k p (omega (arith, lin))) in
-      let y : AtLeast (pos k *ℤ step.hi) step.s (fraction_sub (f m) (f t)) = subst (λ n. AtLeast (pos k *ℤ step.hi) step.s (fraction_sub (f n) (f t))) (sym e) (run_high f a b fs step h t k p (omega (arith, lin))) in
+      let x : AtMost (pos k *ℤ step.lo) step.s (fraction_sub (f m) (f t)) = subst (λ n. AtMost (pos k *ℤ step.lo) step.s (fraction_sub (f n) (f t))) (sym e) (run f a b fs step h t k p (omega (arith, lin))).low in
+      let y : AtLeast (pos k *ℤ step.hi) step.s (fraction_sub (f m) (f t)) = subst (λ n. AtLeast (pos k *ℤ step.hi) step.s (fraction_sub (f n) (f t))) (sym e) (run f a b fs step h t k p (omega (arith, lin))).high in
       let w : IsFraction (fraction_sub (f m) (f t)) = IsFraction-sub (f m) (f t) (fs m am mb) (fs t p (omega (arith, lin))) in
       let y' : AtMost (neg_ℤ (pos k *ℤ step.hi)) step.s (fraction_sub (f t) (f m)) = AtMost-same (neg_ℤ (pos k *ℤ step.hi)) step.s (fraction_neg (fraction_sub (f m) (f t))) (fraction_sub (f t) (f m)) w (turned_back (f m) (f t)) (AtMost-neg (pos k *ℤ step.hi) step.s (fraction_sub (f m) (f t)) y) in
       let x' : AtLeast (neg_ℤ (pos k *ℤ step.lo)) step.s (fraction_sub (f t) (f m)) = AtLeast-same (neg_ℤ (pos k *ℤ step.lo)) step.s (fraction_neg (fraction_sub (f m) (f t))) (fraction_sub (f t) (f m)) w (turned_back (f m) (f t)) (AtLeast-neg (pos k *ℤ step.lo) step.s (fraction_sub (f m) (f t)) x) in

@@ -28,19 +28,17 @@ bottom_is : (q s : ℤ) → s ≤ℤ pos 0 → decimal_bottom q s ≡ 10 ^ down 
 bottom_is q s h = let e : up s ≡ 0 = (not_above s h).0 in rw e (omega arith)
 
 module _ (m q s : ℤ) (h : s ≤ℤ pos 0) where
+  whole_top : pos 0 ≤ℤ q → decimal_top m q s ≡ m *ℤ pos (2 ^ unsigned_abs s) *ℤ pos (10 ^ unsigned_abs q)
+  whole_top p = top_is m q s h ∙ ap (λ n. m *ℤ pos (2 ^ unsigned_abs s) *ℤ pos (10 ^ n)) (not_below q p).1
+
+  whole_bottom : pos 0 ≤ℤ q → decimal_bottom q s ≡ 1
+  whole_bottom p = bottom_is q s h ∙ ap (λ n. 10 ^ n) (not_below q p).0
+
   pub whole-low : pos 0 ≤ℤ q → floor_div (decimal_top m q s) (decimal_bottom q s) ≡ m *ℤ pos (2 ^ unsigned_abs s) *ℤ pos (10 ^ unsigned_abs q)
-  whole-low p =
-      let d : down q ≡ 0 = (not_below q p).0 in
-      let u : up q ≡ unsigned_abs q = (not_below q p).1 in
-      let b : decimal_bottom q s ≡ 1 = bottom_is q s h ∙ ap (λ n. 10 ^ n) d in
-      ap (λ n. floor_div (decimal_top m q s) n) b ∙ (floor_div-one (decimal_top m q s) ∙ (top_is m q s h ∙ ap (λ n. m *ℤ pos (2 ^ unsigned_abs s) *ℤ pos (10 ^ n)) u))
+  whole-low p = ap (λ n. floor_div (decimal_top m q s) n) (whole_bottom p) ∙ (floor_div-one (decimal_top m q s) ∙ whole_top p)
 
   pub whole-high : pos 0 ≤ℤ q → ceil_div (decimal_top m q s) (decimal_bottom q s) ≡ m *ℤ pos (2 ^ unsigned_abs s) *ℤ pos (10 ^ unsigned_abs q)
-  whole-high p =
-      let d : down q ≡ 0 = (not_below q p).0 in
-      let u : up q ≡ unsigned_abs q = (not_below q p).1 in
-      let b : decimal_bottom q s ≡ 1 = bottom_is q s h ∙ ap (λ n. 10 ^ n) d in
-      ap (λ n. ceil_div (decimal_top m q s) n) b ∙ (ceil_div-one (decimal_top m q s) ∙ (top_is m q s h ∙ ap (λ n. m *ℤ pos (2 ^ unsigned_abs s) *ℤ pos (10 ^ n)) u))
+  whole-high p = ap (λ n. ceil_div (decimal_top m q s) n) (whole_bottom p) ∙ (ceil_div-one (decimal_top m q s) ∙ whole_top p)
 
   tenths_top : q ≤ℤ pos 0 → decimal_top m q s ≡ m *ℤ pos (2 ^ unsigned_abs s)
   tenths_top p =

@@ -10,13 +10,22 @@ use Rattle.spec_intervals.proofs.Squares.{Holds-signed_square}
 use Rattle.spec_intervals.proofs.Sums.{Holds-sum}
 use Rattle.spec_intervals.specs.Fraction.{Fraction, IsFraction, Holds, Overlaps, fraction_add, fraction_sub, fraction_mul, fraction_signed_square}
 use Rattle.spec_intervals.specs.Interval.{Interval, product, sum, difference, meet, signed_square, zero_interval}
-use Rattle.spec_intervals.specs.Enclosure.{Enclosure, IsEnclosure, PartsHold, AllFractions, middle, centred, enclosure, twice_size, constant_of, sum_of, difference_of, product_of, signed_square_of}
+use Rattle.spec_intervals.specs.Enclosure.{Enclosure, IsEnclosure, PartsHold, AllFractions, middle, triple, centred, enclosure, twice_size, constant_of, sum_of, difference_of, product_of, signed_square_of}
 use Rattle.spec_intervals.proofs.Compare.{Holds-same, Holds-zero}
 use Rattle.spec_numbers.proofs.Naturals.{positive_product}
 use Rattle.spec_intervals.proofs.SquareChanges.{Holds-square_step}
 use Rattle.spec_intervals.proofs.Centred.{IsFraction-sub, itself, middle_between, Holds-centred}
 
 -- ---- an enclosure from its parts
+-- its mid is the one that it is made of
+pub mid-of : (a b : ℤ) (mid plain step : Interval) → (enclosure a b mid plain step).mid ≡ mid
+unfolding enclosure
+mid-of a b mid plain step = by (lt_z a b)
+  where
+    by : (c : Bool) → (if c then triple mid (meet plain (centred a b mid step)) step else triple mid mid zero_interval).mid ≡ mid
+    by true = refl
+    by false = refl
+
 module _ (f : ℤ → Fraction) (a b : ℤ) (fs : AllFractions f a b) (h : a ≤ℤ b) (mid plain step : Interval) (parts : PartsHold f a b mid plain step) where
   pub IsEnclosure-parts : IsEnclosure f a b (enclosure a b mid plain step)
   unfolding enclosure

@@ -2,7 +2,7 @@
 use Rattle.std.proofs.Common.{ℕ, ◌+◌, ◌≤◌, arith, ℤ, Bool, true, false}
 use Rattle.std.specs.Prelude.{if◌then◌else◌}
 use lib.Signed.{lt_z}
-use Rattle.spec_intervals.specs.Interval.{Interval, zero_interval, sum, difference, product, meet, signed_square}
+use Rattle.spec_intervals.specs.Interval.{Interval, zero_interval, sum, product, meet, signed_square}
 use Rattle.spec_intervals.specs.Enclosure.{Enclosure, IsSpan, IsWithin, AllWithin, offsets, centred, enclosure, twice_size, constant_of, sum_of, difference_of, product_of, signed_square_of}
 use Rattle.spec_intervals.proofs.Exponents.{IsBetween, between-more, between-within, within-between, zero-between, factors-between, sum-between, difference-between, meet-between, signed_square-between, twice_size-between}
 use Rattle.spec_intervals.proofs.Offsets.{offsets-within}

@@ -3,13 +3,14 @@ use Rattle.std.proofs.Common.{◌≡◌, ℕ, zero, suc, ◌+◌, ◌*◌, ◌^�
 use Rattle.std.proofs.lemmas.Int.{ints}
 use Rattle.std.proofs.lemmas.Nat.{pow-add, pow_pos}
 use borrow.Author.Differences.{up, down}
-use Rattle.spec_intervals.specs.Interval.{end_limit, IsIval, is_small, zero_end, fits_after, first_fit, narrow_shift, settled, narrow_by, narrow}
+use Rattle.spec_intervals.specs.Interval.{end_limit, IsIval, is_small, zero_end, fits_after, first_fit, narrow_shift, settled, narrow_by, narrow, zero_interval}
 use Rattle.spec_numbers.specs.Numbers.{floor_div, ceil_div}
 use Rattle.spec_intervals.specs.Fraction.{Fraction, Holds, AtMost, AtLeast}
 use Rattle.spec_numbers.proofs.Ring.{v, ◌⊗◌, minus, ring}
 use Rattle.spec_numbers.proofs.Order.{lin, le-mul, le-mul_cancel}
 use Rattle.spec_numbers.proofs.Floor.{floor_div-small, ceil_div-small, floor_div-le, ceil_div-ge, ordered_quotients}
 use Rattle.spec_numbers.proofs.Booleans.{both_true}
+use Rattle.spec_numbers.proofs.Integers.{exchanged_scales}
 use Rattle.std.proofs.lemmas.Bool.Decides.{nat_tests}
 use Rattle.std.proofs.lemmas.Bool.{false≢true, cases_lt}
 
@@ -43,14 +44,14 @@ sizes-fit k lo hi p q =
 within_neg : (w : ℤ) (m d : ℕ) → unsigned_abs w ≤ m → (neg_ℤ (pos m) *ℤ pos d) ≤ℤ (w *ℤ pos d)
 within_neg w m d h = le-mul (neg_ℤ (pos m)) w (pos d) (omega (arith, lin)) (omega (arith, lin))
 
-negated : (m d : ℕ) → neg_ℤ (pos m) *ℤ pos d ≡ neg_ℤ (pos (m * d))
-negated m d = ring (pos m ∷ pos d ∷ []) (minus (v 0) ⊗ v 1) (minus (v 0 ⊗ v 1)) tt
+pub negated_product : (m d : ℕ) → neg_ℤ (pos m) *ℤ pos d ≡ neg_ℤ (pos (m * d))
+negated_product m d = ring (pos m ∷ pos d ∷ []) (minus (v 0) ⊗ v 1) (minus (v 0 ⊗ v 1)) tt
 
 bounded : (lo hi a b : ℤ) (m d : ℕ) → lo ≤ℤ hi → unsigned_abs a ≤ m → unsigned_abs b ≤ m → (a *ℤ pos d) ≤ℤ lo → hi ≤ℤ (b *ℤ pos d) → (unsigned_abs lo ≤ m * d) × (unsigned_abs hi ≤ m * d)
 bounded lo hi a b m d o p q f g =
     let u : (neg_ℤ (pos m) *ℤ pos d) ≤ℤ (a *ℤ pos d) = within_neg a m d p in
     let w : (b *ℤ pos d) ≤ℤ pos (m * d) = le-mul b (pos m) (pos d) (omega (arith, lin)) (omega (arith, lin)) in
-    let e : neg_ℤ (pos m) *ℤ pos d ≡ neg_ℤ (pos (m * d)) = negated m d in
+    let e : neg_ℤ (pos m) *ℤ pos d ≡ neg_ℤ (pos (m * d)) = negated_product m d in
     (omega (arith, lin), omega (arith, lin))
 
 pub fits-sizes : (k : ℕ) (lo hi : ℤ) → lo ≤ℤ hi → fits_after k lo hi ≡ true → (unsigned_abs lo ≤ end_limit * 2 ^ k) × (unsigned_abs hi ≤ end_limit * 2 ^ k)
@@ -116,14 +117,15 @@ narrow_shift-le m lo hi enough = by (cases_lt m (narrow_shift lo hi))
     by (inl less) = absurd (false≢true (sym (narrow_shift-least lo hi m less) ∙ enough))
     by (inr at_most) = at_most
 
--- what is narrowed is an interval of the code
-zero_ends : (lo hi : ℤ) → (zero_end lo && zero_end hi) ≡ true → (lo ≡ pos 0) × (hi ≡ pos 0)
+-- both ends are 0 where the tests say so
+pub zero_ends : (lo hi : ℤ) → (zero_end lo && zero_end hi) ≡ true → (lo ≡ pos 0) × (hi ≡ pos 0)
 zero_ends (pos zero) (pos zero) t = (refl, refl)
 zero_ends (pos zero) (pos (suc n)) t = cc
 zero_ends (pos zero) (negsuc n) t = cc
 zero_ends (pos (suc n)) hi t = cc
 zero_ends (negsuc n) hi t = cc
 
+-- what is narrowed is an interval of the code
 pub IsIval-settled : (lo hi s : ℤ) → IsIval (record { lo = lo; hi = hi; s = s }) → IsIval (settled lo hi s)
 unfolding settled
 IsIval-settled (pos zero) (pos zero) s h = record { ordered = omega (arith, ints); lo_small = omega arith; hi_small = omega arith }
@@ -139,29 +141,30 @@ IsIval-narrow lo hi s o =
     let e : (unsigned_abs (floor_div lo (2 ^ narrow_shift lo hi)) ≤ end_limit) × (unsigned_abs (ceil_div hi (2 ^ narrow_shift lo hi)) ≤ end_limit) = is_small-both (floor_div lo (2 ^ narrow_shift lo hi)) (ceil_div hi (2 ^ narrow_shift lo hi)) (narrow_shift-fits lo hi) in
     IsIval-settled (floor_div lo (2 ^ narrow_shift lo hi)) (ceil_div hi (2 ^ narrow_shift lo hi)) (s +ℤ pos (narrow_shift lo hi)) (record { ordered = ordered_quotients lo hi (2 ^ narrow_shift lo hi) (pow_pos (narrow_shift lo hi)) o; lo_small = e.0; hi_small = e.1 })
 
+-- 0 alone stays so, at the exponent 0
+pub narrow_of_zero : (s : ℤ) → narrow (pos 0) (pos 0) s ≡ zero_interval
+unfolding narrow narrow_by narrow_shift first_fit settled
+narrow_of_zero s = refl
+
 -- ---- what is held
+-- a number times one power of 2, in both ways of writing an exponent
+same_power : (z : ℤ) (den u d m e : ℕ) → u + e ≡ m + d → z *ℤ pos (2 ^ u * den) *ℤ pos (2 ^ e) ≡ z *ℤ pos (2 ^ m * den) *ℤ pos (2 ^ d)
+same_power z den u d m e q =
+    let w : 2 ^ u * 2 ^ e ≡ 2 ^ m * 2 ^ d = sym (pow-add 2 u e) ∙ (ap (λ x. 2 ^ x) q ∙ pow-add 2 m d) in
+    let l : z *ℤ pos (2 ^ u * den) *ℤ pos (2 ^ e) ≡ z *ℤ pos den *ℤ pos (2 ^ u * 2 ^ e) = ring (z ∷ pos (2 ^ u) ∷ pos den ∷ pos (2 ^ e) ∷ []) (v 0 ⊗ (v 1 ⊗ v 2) ⊗ v 3) (v 0 ⊗ v 2 ⊗ (v 1 ⊗ v 3)) tt in
+    let r : z *ℤ pos den *ℤ pos (2 ^ m * 2 ^ d) ≡ z *ℤ pos (2 ^ m * den) *ℤ pos (2 ^ d) = ring (z ∷ pos (2 ^ m) ∷ pos den ∷ pos (2 ^ d) ∷ []) (v 0 ⊗ v 2 ⊗ (v 1 ⊗ v 3)) (v 0 ⊗ (v 1 ⊗ v 2) ⊗ v 3) tt in
+    l ∙ (ap (λ n. z *ℤ pos den *ℤ pos n) w ∙ r)
+
 -- the comparison with the exponent u - d, and with the same exponent written m - e
 pub rescale_low : (z n : ℤ) (den u d m e : ℕ) → u + e ≡ m + d → (z *ℤ pos (2 ^ u * den)) ≤ℤ (n *ℤ pos (2 ^ d)) → (z *ℤ pos (2 ^ m * den)) ≤ℤ (n *ℤ pos (2 ^ e))
 rescale_low z n den u d m e q h =
-    let g : (z *ℤ pos (2 ^ u * den) *ℤ pos (2 ^ e)) ≤ℤ (n *ℤ pos (2 ^ d) *ℤ pos (2 ^ e)) = le-mul (z *ℤ pos (2 ^ u * den)) (n *ℤ pos (2 ^ d)) (pos (2 ^ e)) (omega (arith, lin)) h in
-    let w : 2 ^ u * 2 ^ e ≡ 2 ^ m * 2 ^ d = sym (pow-add 2 u e) ∙ (ap (λ x. 2 ^ x) q ∙ pow-add 2 m d) in
-    let w' : pos (2 ^ u) *ℤ pos (2 ^ e) ≡ pos (2 ^ m) *ℤ pos (2 ^ d) = ap pos w in
-    let l : z *ℤ pos (2 ^ u * den) *ℤ pos (2 ^ e) ≡ z *ℤ pos den *ℤ (pos (2 ^ u) *ℤ pos (2 ^ e)) = ring (z ∷ pos (2 ^ u) ∷ pos den ∷ pos (2 ^ e) ∷ []) (v 0 ⊗ (v 1 ⊗ v 2) ⊗ v 3) (v 0 ⊗ v 2 ⊗ (v 1 ⊗ v 3)) tt in
-    let r : z *ℤ pos den *ℤ (pos (2 ^ m) *ℤ pos (2 ^ d)) ≡ z *ℤ pos (2 ^ m * den) *ℤ pos (2 ^ d) = ring (z ∷ pos (2 ^ m) ∷ pos den ∷ pos (2 ^ d) ∷ []) (v 0 ⊗ v 2 ⊗ (v 1 ⊗ v 3)) (v 0 ⊗ (v 1 ⊗ v 2) ⊗ v 3) tt in
-    let t : n *ℤ pos (2 ^ d) *ℤ pos (2 ^ e) ≡ n *ℤ pos (2 ^ e) *ℤ pos (2 ^ d) = ring (n ∷ pos (2 ^ d) ∷ pos (2 ^ e) ∷ []) (v 0 ⊗ v 1 ⊗ v 2) (v 0 ⊗ v 2 ⊗ v 1) tt in
-    let a : z *ℤ pos (2 ^ u * den) *ℤ pos (2 ^ e) ≡ z *ℤ pos (2 ^ m * den) *ℤ pos (2 ^ d) = l ∙ (ap (λ x. z *ℤ pos den *ℤ x) w' ∙ r) in
-    le-mul_cancel (z *ℤ pos (2 ^ m * den)) (n *ℤ pos (2 ^ e)) (2 ^ d) (pow_pos d) (omega (arith, lin))
+    let g = le-mul (z *ℤ pos (2 ^ u * den)) (n *ℤ pos (2 ^ d)) (pos (2 ^ e)) (omega (arith, lin)) h in
+    le-mul_cancel (z *ℤ pos (2 ^ m * den)) (n *ℤ pos (2 ^ e)) (2 ^ d) (pow_pos d) (omega (arith, lin, g, same_power z den u d m e q, exchanged_scales n (2 ^ d) (2 ^ e)))
 
 pub rescale_high : (z n : ℤ) (den u d m e : ℕ) → u + e ≡ m + d → (n *ℤ pos (2 ^ d)) ≤ℤ (z *ℤ pos (2 ^ u * den)) → (n *ℤ pos (2 ^ e)) ≤ℤ (z *ℤ pos (2 ^ m * den))
 rescale_high z n den u d m e q h =
-    let g : (n *ℤ pos (2 ^ d) *ℤ pos (2 ^ e)) ≤ℤ (z *ℤ pos (2 ^ u * den) *ℤ pos (2 ^ e)) = le-mul (n *ℤ pos (2 ^ d)) (z *ℤ pos (2 ^ u * den)) (pos (2 ^ e)) (omega (arith, lin)) h in
-    let w : 2 ^ u * 2 ^ e ≡ 2 ^ m * 2 ^ d = sym (pow-add 2 u e) ∙ (ap (λ x. 2 ^ x) q ∙ pow-add 2 m d) in
-    let w' : pos (2 ^ u) *ℤ pos (2 ^ e) ≡ pos (2 ^ m) *ℤ pos (2 ^ d) = ap pos w in
-    let l : z *ℤ pos (2 ^ u * den) *ℤ pos (2 ^ e) ≡ z *ℤ pos den *ℤ (pos (2 ^ u) *ℤ pos (2 ^ e)) = ring (z ∷ pos (2 ^ u) ∷ pos den ∷ pos (2 ^ e) ∷ []) (v 0 ⊗ (v 1 ⊗ v 2) ⊗ v 3) (v 0 ⊗ v 2 ⊗ (v 1 ⊗ v 3)) tt in
-    let r : z *ℤ pos den *ℤ (pos (2 ^ m) *ℤ pos (2 ^ d)) ≡ z *ℤ pos (2 ^ m * den) *ℤ pos (2 ^ d) = ring (z ∷ pos (2 ^ m) ∷ pos den ∷ pos (2 ^ d) ∷ []) (v 0 ⊗ v 2 ⊗ (v 1 ⊗ v 3)) (v 0 ⊗ (v 1 ⊗ v 2) ⊗ v 3) tt in
-    let t : n *ℤ pos (2 ^ d) *ℤ pos (2 ^ e) ≡ n *ℤ pos (2 ^ e) *ℤ pos (2 ^ d) = ring (n ∷ pos (2 ^ d) ∷ pos (2 ^ e) ∷ []) (v 0 ⊗ v 1 ⊗ v 2) (v 0 ⊗ v 2 ⊗ v 1) tt in
-    let a : z *ℤ pos (2 ^ u * den) *ℤ pos (2 ^ e) ≡ z *ℤ pos (2 ^ m * den) *ℤ pos (2 ^ d) = l ∙ (ap (λ x. z *ℤ pos den *ℤ x) w' ∙ r) in
-    le-mul_cancel (n *ℤ pos (2 ^ e)) (z *ℤ pos (2 ^ m * den)) (2 ^ d) (pow_pos d) (omega (arith, lin))
+    let g = le-mul (n *ℤ pos (2 ^ d)) (z *ℤ pos (2 ^ u * den)) (pos (2 ^ e)) (omega (arith, lin)) h in
+    le-mul_cancel (n *ℤ pos (2 ^ e)) (z *ℤ pos (2 ^ m * den)) (2 ^ d) (pow_pos d) (omega (arith, lin, g, same_power z den u d m e q, exchanged_scales n (2 ^ d) (2 ^ e)))
 
 -- a factor 2^k moves between the end and the exponent
 pub shifted : (z : ℤ) (u k den : ℕ) → z *ℤ pos (2 ^ k) *ℤ pos (2 ^ u * den) ≡ z *ℤ pos (2 ^ (u + k) * den)

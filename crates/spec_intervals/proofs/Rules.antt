@@ -62,10 +62,10 @@ module _ (x y : Interval) (r : Fraction) (h : x.s ≤ℤ y.s) where
   pub lowered-high : Holds y r → AtLeast (aligned_upper x y).hi (aligned_lower x y).s r
   lowered-high q = lift_high y.hi y.s (x.s +ℤ pos (surplus x y)) (lift x y) r (meets x.s y.s h) q.high
 
-min_bounds : (p q : ℤ) → (int_min p q ≤ℤ p) × (int_min p q ≤ℤ q)
+pub min_bounds : (p q : ℤ) → (int_min p q ≤ℤ p) × (int_min p q ≤ℤ q)
 min_bounds p q = omega (arith, ints, clamps)
 
-max_bounds : (p q : ℤ) → (p ≤ℤ int_max p q) × (q ≤ℤ int_max p q)
+pub max_bounds : (p q : ℤ) → (p ≤ℤ int_max p q) × (q ≤ℤ int_max p q)
 max_bounds p q = omega (arith, ints, clamps)
 
 -- ---- joins

@@ -12,7 +12,7 @@ use Rattle.spec_intervals.specs.Signs.{sign_of}
 use Rattle.spec_numbers.proofs.Naturals.{positive_product}
 use Rattle.spec_numbers.proofs.Order.{lin, le-mul, le-mul_cancel}
 
-yes-low : (x : Interval) → sign_of x ≡ Yes → pos 0 ≤ℤ x.lo
+pub yes-low : (x : Interval) → sign_of x ≡ Yes → pos 0 ≤ℤ x.lo
 yes-low x e = by (le_z (pos 0) x.lo) (lt_z x.hi (pos 0)) refl refl e
   where
     by : (a b : Bool) → le_z (pos 0) x.lo ≡ a → lt_z x.hi (pos 0) ≡ b → (if a then Yes else (if b then No else Open)) ≡ Yes → pos 0 ≤ℤ x.lo
@@ -20,7 +20,7 @@ yes-low x e = by (le_z (pos 0) x.lo) (lt_z x.hi (pos 0)) refl refl e
     by false true p q r = cc
     by false false p q r = cc
 
-no-high : (x : Interval) → sign_of x ≡ No → x.hi <ℤ pos 0
+pub no-high : (x : Interval) → sign_of x ≡ No → x.hi <ℤ pos 0
 no-high x e = by (le_z (pos 0) x.lo) (lt_z x.hi (pos 0)) refl refl e
   where
     by : (a b : Bool) → le_z (pos 0) x.lo ≡ a → lt_z x.hi (pos 0) ≡ b → (if a then Yes else (if b then No else Open)) ≡ No → x.hi <ℤ pos 0

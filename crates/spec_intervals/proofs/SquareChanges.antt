@@ -133,14 +133,8 @@ module _ (range step : Interval) (f g : Fraction) (pf : IsFraction f) (pg : IsFr
       by (inl h) =
           let u : signed_sq q ≤ℤ signed_sq p = signed_sq-le q p h in
           let w : pos 0 ≤ℤ (pos (unsigned_abs q) *ℤ p -ℤ pos (unsigned_abs p) *ℤ q) = cross p q h in
-          let i = wanted_is in
-          let k = whole_is in
-          let z = none_num in
-          Holds-between (product (twice_size range) step) none wanted whole none_is whole_real (fraction_le-signs none wanted (omega (arith, lin)) (omega (arith, lin))) (fraction_le-over wanted whole (sym dens) (omega (arith, lin))) h0 h1
+          Holds-between (product (twice_size range) step) none wanted whole none_is whole_real (fraction_le-signs none wanted (omega (arith, lin, none_num)) (omega (arith, lin, wanted_is, u))) (fraction_le-over wanted whole (sym dens) (omega (arith, lin, whole_is, w))) h0 h1
       by (inr h) =
           let u : signed_sq p ≤ℤ signed_sq q = signed_sq-le p q h in
           let w : pos 0 ≤ℤ (pos (unsigned_abs p) *ℤ q -ℤ pos (unsigned_abs q) *ℤ p) = cross q p h in
-          let i = wanted_is in
-          let k = whole_is in
-          let z = none_num in
-          Holds-between (product (twice_size range) step) whole wanted none whole_real none_is (fraction_le-over whole wanted dens (omega (arith, lin))) (fraction_le-signs wanted none (omega (arith, lin)) (omega (arith, lin))) h1 h0
+          Holds-between (product (twice_size range) step) whole wanted none whole_real none_is (fraction_le-over whole wanted dens (omega (arith, lin, whole_is, w))) (fraction_le-signs wanted none (omega (arith, lin, wanted_is, u)) (omega (arith, lin, none_num))) h1 h0

@@ -58,7 +58,7 @@ sum_high p q s r t h g =
     omega (arith, lin)
 
 -- the exponents of a sum meet
-gap_is : (a b : ℤ) → a ≤ℤ b → b ≡ a +ℤ pos (int_gap a b)
+pub gap_is : (a b : ℤ) → a ≤ℤ b → b ≡ a +ℤ pos (int_gap a b)
 gap_is (pos a) (pos b) h = omega (arith, lin)
 gap_is (pos a) (negsuc b) h = omega (arith, lin)
 gap_is (negsuc a) (pos b) h = omega (arith, lin)
@@ -74,7 +74,7 @@ Holds-sum_up x y r t h p q =
     Holds-narrow (floor_div x.lo (2 ^ surplus x y) +ℤ y.lo *ℤ pos (2 ^ lift x y)) (ceil_div x.hi (2 ^ surplus x y) +ℤ y.hi *ℤ pos (2 ^ lift x y)) (x.s +ℤ pos (surplus x y)) (fraction_add r t) (sum_low (floor_div x.lo (2 ^ surplus x y)) (y.lo *ℤ pos (2 ^ lift x y)) (x.s +ℤ pos (surplus x y)) r t (low-floor x.lo x.s (surplus x y) r p.low) (lift_low y.lo y.s (x.s +ℤ pos (surplus x y)) (lift x y) t e q.low)) (sum_high (ceil_div x.hi (2 ^ surplus x y)) (y.hi *ℤ pos (2 ^ lift x y)) (x.s +ℤ pos (surplus x y)) r t (high-ceil x.hi x.s (surplus x y) r p.high) (lift_high y.hi y.s (x.s +ℤ pos (surplus x y)) (lift x y) t e q.high))
 
 -- the interval of 0 alone holds 0 alone
-zero_num : (x : Interval) (r : Fraction) → is_zero x ≡ true → Holds x r → r.numerator ≡ pos 0
+pub zero_num : (x : Interval) (r : Fraction) → is_zero x ≡ true → Holds x r → r.numerator ≡ pos 0
 zero_num x r z h = by x.lo x.hi z h.low h.high
   where
     by : (lo hi : ℤ) → (zero_end lo && zero_end hi) ≡ true → AtMost lo x.s r → AtLeast hi x.s r → r.numerator ≡ pos 0

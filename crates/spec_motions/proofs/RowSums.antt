@@ -102,25 +102,26 @@ module _ (k : ℕ) (a b c d : ℤ) where
 
 -- one term more, with the entry before
 module _ (row : ℕ → Ival62) (cs : List Ival62) (sum whole : ℤ) where
+  -- of one end: the corners of products, and the sum of the terms that are left
+  module _ (corner : ℤ → ℤ → ℤ → ℤ → ℤ) (rest : ℕ → List Ival62 → ℤ)
+      (corner_times : (k : ℕ) (a b c d : ℤ) → corner a b (pos k *ℤ c) (pos k *ℤ d) ≡ pos k *ℤ corner a b c d) where
+    one_multiple : (k : ℕ) → 1 ≤ k
+        → (sum +ℤ corner (get_or cs k nothing).lo (get_or cs k nothing).hi (multiples row k).lo (multiples row k).hi) +ℤ rest (k + 1) (drop (k + 1) cs) ≡ whole
+        → (sum +ℤ (pos k *ℤ corner (get_or cs k nothing).lo (get_or cs k nothing).hi (row (k - 1)).lo (row (k - 1)).hi)) +ℤ rest (k + 1) (drop (k + 1) cs) ≡ whole
+    one_multiple zero h is = absurd (omega (arith, h))
+    one_multiple (suc j) h is =
+        let e : suc j - 1 ≡ j = omega arith in
+        let c = get_or cs (suc j) nothing in
+        ap (λ (i : ℕ). (sum +ℤ (pos (suc j) *ℤ corner c.lo c.hi (row i).lo (row i).hi)) +ℤ rest (suc j + 1) (drop (suc j + 1) cs)) e
+        ∙ (ap (λ (z : ℤ). (sum +ℤ z) +ℤ rest (suc j + 1) (drop (suc j + 1) cs)) (sym (corner_times (suc j) c.lo c.hi (row j).lo (row j).hi)) ∙ is)
+
   pub low_multiple : (k : ℕ) → 1 ≤ k → k < length cs → sum +ℤ sum_low (multiples row) k (drop k cs) ≡ whole
       → (sum +ℤ (pos k *ℤ least4 (get_or cs k nothing).lo (get_or cs k nothing).hi (row (k - 1)).lo (row (k - 1)).hi)) +ℤ sum_low (multiples row) (k + 1) (drop (k + 1) cs) ≡ whole
-  low_multiple zero h below is = absurd (omega (arith, h))
-  low_multiple (suc j) h below is =
-      let e : suc j - 1 ≡ j = omega arith in
-      let c = get_or cs (suc j) nothing in
-      ap (λ (i : ℕ). (sum +ℤ (pos (suc j) *ℤ least4 c.lo c.hi (row i).lo (row i).hi)) +ℤ sum_low (multiples row) (suc j + 1) (drop (suc j + 1) cs)) e
-      ∙ (ap (λ (z : ℤ). (sum +ℤ z) +ℤ sum_low (multiples row) (suc j + 1) (drop (suc j + 1) cs)) (sym (least_times (suc j) c.lo c.hi (row j).lo (row j).hi))
-      ∙ low_more (multiples row) cs (suc j) sum whole below is)
+  low_multiple k h below is = one_multiple least4 (sum_low (multiples row)) least_times k h (low_more (multiples row) cs k sum whole below is)
 
   pub high_multiple : (k : ℕ) → 1 ≤ k → k < length cs → sum +ℤ sum_high (multiples row) k (drop k cs) ≡ whole
       → (sum +ℤ (pos k *ℤ greatest4 (get_or cs k nothing).lo (get_or cs k nothing).hi (row (k - 1)).lo (row (k - 1)).hi)) +ℤ sum_high (multiples row) (k + 1) (drop (k + 1) cs) ≡ whole
-  high_multiple zero h below is = absurd (omega (arith, h))
-  high_multiple (suc j) h below is =
-      let e : suc j - 1 ≡ j = omega arith in
-      let c = get_or cs (suc j) nothing in
-      ap (λ (i : ℕ). (sum +ℤ (pos (suc j) *ℤ greatest4 c.lo c.hi (row i).lo (row i).hi)) +ℤ sum_high (multiples row) (suc j + 1) (drop (suc j + 1) cs)) e
-      ∙ (ap (λ (z : ℤ). (sum +ℤ z) +ℤ sum_high (multiples row) (suc j + 1) (drop (suc j + 1) cs)) (sym (greatest_times (suc j) c.lo c.hi (row j).lo (row j).hi))
-      ∙ high_more (multiples row) cs (suc j) sum whole below is)
+  high_multiple k h below is = one_multiple greatest4 (sum_high (multiples row)) greatest_times k h (high_more (multiples row) cs k sum whole below is)
 
 -- its size
 pub size_more : (size : ℕ → ℕ) (k : ℕ) → 1 ≤ k → slope_sizes size k + k * (2 ^ 60 * size (k - 1)) ≡ slope_sizes size (k + 1)

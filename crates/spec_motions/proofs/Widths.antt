@@ -1,5 +1,5 @@
 -- How wide the row of T is at one argument, and the product of two intervals.
-use Rattle.std.proofs.Common.{◌≡◌, ℕ, zero, suc, ◌+◌, ◌-◌, ◌*◌, ◌^◌, ◌<◌, ◌≤◌, arith, [], ◌∷◌, ℤ, pos, negsuc, ◌+ℤ◌, ◌-ℤ◌, ◌*ℤ◌, neg_ℤ, ◌≤ℤ◌, ◌<ℤ◌, unsigned_abs}
+use Rattle.std.proofs.Common.{◌≡◌, ℕ, zero, suc, ◌+◌, ◌-◌, ◌*◌, ◌^◌, ◌<◌, ◌≤◌, arith, refl, ◌⊎◌, inl, inr, [], ◌∷◌, ℤ, pos, negsuc, ◌+ℤ◌, ◌-ℤ◌, ◌*ℤ◌, neg_ℤ, ◌≤ℤ◌, ◌<ℤ◌, unsigned_abs}
 use Rattle.std.proofs.lemmas.Int.{ints}
 use Rattle.std.proofs.lemmas.Nat.{pow_pos}
 use Rattle.std.proofs.Math.Nat.{pow-suc}
@@ -62,29 +62,12 @@ module _ (c e : Ival62) (m n wc we : ℕ) (hc : EndsWithin m c) (he : EndsWithin
       (min_above (x *ℤ y -ℤ pos B) (c.lo *ℤ e.lo) (c.lo *ℤ e.hi) (near x c.lo y e.lo m n wc we hx (within_size e.lo n he.lo) xl yl) (near x c.lo y e.hi m n wc we hx (within_size e.hi n he.hi) xl yh))
       (min_above (x *ℤ y -ℤ pos B) (c.hi *ℤ e.lo) (c.hi *ℤ e.hi) (near x c.hi y e.lo m n wc we hx (within_size e.lo n he.lo) xh yl) (near x c.hi y e.hi m n wc we hx (within_size e.hi n he.hi) xh yh))
 
-  c_ll : unsigned_abs (c.lo -ℤ c.lo) ≤ wc
-  c_ll = omega (arith, lin)
-
-  c_lh : unsigned_abs (c.lo -ℤ c.hi) ≤ wc
-  c_lh = omega (arith, lin)
-
-  c_hl : unsigned_abs (c.hi -ℤ c.lo) ≤ wc
-  c_hl = omega (arith, lin)
-
-  c_hh : unsigned_abs (c.hi -ℤ c.hi) ≤ wc
-  c_hh = omega (arith, lin)
-
-  e_ll : unsigned_abs (e.lo -ℤ e.lo) ≤ we
-  e_ll = omega (arith, lin)
-
-  e_lh : unsigned_abs (e.lo -ℤ e.hi) ≤ we
-  e_lh = omega (arith, lin)
-
-  e_hl : unsigned_abs (e.hi -ℤ e.lo) ≤ we
-  e_hl = omega (arith, lin)
-
-  e_hh : unsigned_abs (e.hi -ℤ e.hi) ≤ we
-  e_hh = omega (arith, lin)
+  -- ends are as near to each other as their interval is wide
+  below_ends : (x y : ℤ) → unsigned_abs x ≤ m → (x ≡ c.lo) ⊎ (x ≡ c.hi) → (y ≡ e.lo) ⊎ (y ≡ e.hi) → (x *ℤ y -ℤ pos B) ≤ℤ least4 c.lo c.hi e.lo e.hi
+  below_ends x y hx (inl p) (inl q) = below_all x y hx (omega (arith, lin)) (omega (arith, lin)) (omega (arith, lin)) (omega (arith, lin))
+  below_ends x y hx (inl p) (inr q) = below_all x y hx (omega (arith, lin)) (omega (arith, lin)) (omega (arith, lin)) (omega (arith, lin))
+  below_ends x y hx (inr p) (inl q) = below_all x y hx (omega (arith, lin)) (omega (arith, lin)) (omega (arith, lin)) (omega (arith, lin))
+  below_ends x y hx (inr p) (inr q) = below_all x y hx (omega (arith, lin)) (omega (arith, lin)) (omega (arith, lin)) (omega (arith, lin))
 
   moved : (x y z : ℤ) → (x -ℤ y) ≤ℤ z → x ≤ℤ (z +ℤ y)
   moved x y z h = omega (arith, lin)
@@ -92,10 +75,10 @@ module _ (c e : Ival62) (m n wc we : ℕ) (hc : EndsWithin m c) (he : EndsWithin
   pub product_width : greatest4 c.lo c.hi e.lo e.hi ≤ℤ (least4 c.lo c.hi e.lo e.hi +ℤ pos B)
   product_width =
       let least = least4 c.lo c.hi e.lo e.hi in
-      let ll = moved (c.lo *ℤ e.lo) (pos B) least (below_all c.lo e.lo (within_size c.lo m hc.lo) c_ll c_lh e_ll e_lh) in
-      let lh = moved (c.lo *ℤ e.hi) (pos B) least (below_all c.lo e.hi (within_size c.lo m hc.lo) c_ll c_lh e_hl e_hh) in
-      let hl = moved (c.hi *ℤ e.lo) (pos B) least (below_all c.hi e.lo (within_size c.hi m hc.hi) c_hl c_hh e_ll e_lh) in
-      let hh = moved (c.hi *ℤ e.hi) (pos B) least (below_all c.hi e.hi (within_size c.hi m hc.hi) c_hl c_hh e_hl e_hh) in
+      let ll = moved (c.lo *ℤ e.lo) (pos B) least (below_ends c.lo e.lo (within_size c.lo m hc.lo) (inl refl) (inl refl)) in
+      let lh = moved (c.lo *ℤ e.hi) (pos B) least (below_ends c.lo e.hi (within_size c.lo m hc.lo) (inl refl) (inr refl)) in
+      let hl = moved (c.hi *ℤ e.lo) (pos B) least (below_ends c.hi e.lo (within_size c.hi m hc.hi) (inr refl) (inl refl)) in
+      let hh = moved (c.hi *ℤ e.hi) (pos B) least (below_ends c.hi e.hi (within_size c.hi m hc.hi) (inr refl) (inr refl)) in
       max_below (least +ℤ pos B) (int_max (c.lo *ℤ e.lo) (c.lo *ℤ e.hi)) (int_max (c.hi *ℤ e.lo) (c.hi *ℤ e.hi)) (max_below (least +ℤ pos B) (c.lo *ℤ e.lo) (c.lo *ℤ e.hi) ll lh) (max_below (least +ℤ pos B) (c.hi *ℤ e.lo) (c.hi *ℤ e.hi) hl hh)
 
 positive : (k : ℕ) → 0 < 3 ^ k

@@ -9,7 +9,7 @@ sign_cases (pos n) = inl (omega (arith, lin))
 sign_cases (negsuc n) = inr (omega (arith, lin))
 
 -- a bound of the products with both ends is a bound of each product between
-between_low : (m x c d y : ℤ) → c ≤ℤ y → y ≤ℤ d → m ≤ℤ (x *ℤ c) → m ≤ℤ (x *ℤ d) → m ≤ℤ (x *ℤ y)
+pub between_low : (m x c d y : ℤ) → c ≤ℤ y → y ≤ℤ d → m ≤ℤ (x *ℤ c) → m ≤ℤ (x *ℤ d) → m ≤ℤ (x *ℤ y)
 between_low m x c d y p q r s = by (sign_cases x)
   where
     by : (pos 0 ≤ℤ x) ⊎ (x ≤ℤ pos 0) → m ≤ℤ (x *ℤ y)
@@ -38,3 +38,6 @@ corner_high m a b c d x y p q r s ac ad bc bd =
     let h : neg_ℤ m ≤ℤ (neg_ℤ x *ℤ y) = corner_low (neg_ℤ m) (neg_ℤ b) (neg_ℤ a) c d (neg_ℤ x) y (omega (arith, lin)) (omega (arith, lin)) r s (rw (e b c) (omega (arith, lin))) (rw (e b d) (omega (arith, lin))) (rw (e a c) (omega (arith, lin))) (rw (e a d) (omega (arith, lin))) in
     let g : neg_ℤ x *ℤ y ≡ neg_ℤ (x *ℤ y) = e x y in
     omega (arith, lin)
+
+pub between_high : (m x c d y : ℤ) → c ≤ℤ y → y ≤ℤ d → (x *ℤ c) ≤ℤ m → (x *ℤ d) ≤ℤ m → (x *ℤ y) ≤ℤ m
+between_high m x c d y p q r s = corner_high m x x c d x y (omega (arith, lin)) (omega (arith, lin)) p q r s r s

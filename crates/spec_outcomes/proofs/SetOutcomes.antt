@@ -46,13 +46,10 @@ pub parts_have_times : (tick : ℕ) (span : Span) → IsTimeIn tick span.from �
 parts_have_times tick span from upto xs are = All-weaker (IsPart span) (AreTimesIn tick) one xs are
   where
     one : (x : ℤ × ℤ) → IsPart span x → AreTimesIn tick x
-    one x is =
-        let low = from.low in
-        let high = upto.high in
-        record {
-          first = record { low = omega (arith, ints, low, is.from); high = omega (arith, ints, high, is.ordered, is.upto) };
-          last = record { low = omega (arith, ints, low, is.from, is.ordered); high = omega (arith, ints, high, is.upto) };
-        }
+    one x is = record {
+      first = record { low = omega (arith, ints, from.low, is.from); high = omega (arith, ints, upto.high, is.ordered, is.upto) };
+      last = record { low = omega (arith, ints, from.low, is.from, is.ordered); high = omega (arith, ints, upto.high, is.upto) };
+    }
 
 -- ---- causes
 module _ (relation : Relation) (q r : Query) (e : Ephemeris) (span : Span) where

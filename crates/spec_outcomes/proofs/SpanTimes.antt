@@ -22,13 +22,10 @@ module _ (tick : ℕ) (e : Ephemeris) (start : IsTimeIn tick e.start) (end : IsT
 
 module _ (tick : ℕ) (span : Span) (from : IsTimeIn tick span.from) (upto : IsTimeIn tick span.upto) where
   one : (w : Window) → IsWithin span.from span.upto w → HasTimes tick w
-  one w is =
-      let low = from.low in
-      let high = upto.high in
-      record {
-        first = record { low = omega (arith, ints, low, is.from); high = omega (arith, ints, high, is.ordered, is.to) };
-        last = record { low = omega (arith, ints, low, is.from, is.ordered); high = omega (arith, ints, high, is.to) };
-      }
+  one w is = record {
+    first = record { low = omega (arith, ints, from.low, is.from); high = omega (arith, ints, upto.high, is.ordered, is.to) };
+    last = record { low = omega (arith, ints, from.low, is.from, is.ordered); high = omega (arith, ints, upto.high, is.to) };
+  }
 
   pub windows_are : (s : Search) (ls : List Leaf) → AreFound s span ls → All (HasTimes tick) (windows ls)
   windows_are s ls found = All-weaker (IsWithin span.from span.upto) (HasTimes tick) one (windows ls) found.within

@@ -3,18 +3,6 @@ use Rattle.spec_events.specs.Verdict.{verdict}
 use Rattle.spec_scalars.specs.Searches.{verdict_of}
 use Rattle.spec_scalars.proofs.examples.verdicts_on_a_square.Goals as goal
 
-pub returns-clause-root : goal.returns-clause-root
+pub returns : goal.returns
 unfolding verdict verdict_of
-returns-clause-root c = refl
-
-pub returns-clause-deep : goal.returns-clause-deep
-unfolding verdict verdict_of
-returns-clause-deep c = refl
-
-pub returns-clause-below_zero : goal.returns-clause-below_zero
-unfolding verdict verdict_of
-returns-clause-below_zero c = refl
-
-pub returns-clause-passing : goal.returns-clause-passing
-unfolding verdict verdict_of
-returns-clause-passing c = refl
+returns c = record { root = refl; deep = refl; below_zero = refl; passing = refl }

@@ -18,26 +18,26 @@ module _ (s : Search) (n : Node) where
   abbrev guards_found : List Condition → List GuardFinding
   guards_found cs = map finding_of (map (guard_evidence (exact_state s.view) (state_enclosure s.view) n) cs)
 
+  -- by induction, what holds for no conditions and is kept by one more of which P holds
+  over_guards : (P : Condition → Type 0) (Q : List Condition → Type 0) → Q [] → ((c : Condition) (cs : List Condition) → P c → Q cs → Q (c ∷ cs))
+      → (cs : List Condition) → All P cs → Q cs
+  over_guards P Q none more [] all = none
+  over_guards P Q none more (c ∷ cs) all = more c cs (All-head P c cs all) (over_guards P Q none more cs (All-tail P c cs all))
+
   abbrev pub IsCertified : Condition → Type 0
   IsCertified c = is_certified (guard_found c) ≡ true
 
   pub all_certified : (cs : List Condition) → All IsCertified cs → list_all is_certified (guards_found cs) ≡ true
-  all_certified [] all = refl
-  all_certified (c ∷ cs) all =
-      both_true (is_certified (guard_found c)) (list_all is_certified (guards_found cs))
-      (All-head IsCertified c cs all) (all_certified cs (All-tail IsCertified c cs all))
+  all_certified = over_guards IsCertified (λ cs. list_all is_certified (guards_found cs) ≡ true) refl (λ c cs. both_true _ _)
 
   abbrev pub IsNotRefuted : Condition → Type 0
   IsNotRefuted c = is_refuted (guard_found c) ≡ false
 
+  neither : (p q : Bool) → p ≡ false → q ≡ false → (p || q) ≡ false
+  neither p q h g = rw (h, g) refl
+
   pub none_refuted : (cs : List Condition) → All IsNotRefuted cs → list_any is_refuted (guards_found cs) ≡ false
-  none_refuted [] all = refl
-  none_refuted (c ∷ cs) all =
-      neither (is_refuted (guard_found c)) (list_any is_refuted (guards_found cs))
-      (All-head IsNotRefuted c cs all) (none_refuted cs (All-tail IsNotRefuted c cs all))
-    where
-      neither : (p q : Bool) → p ≡ false → q ≡ false → (p || q) ≡ false
-      neither p q h g = rw (h, g) refl
+  none_refuted = over_guards IsNotRefuted (λ cs. list_any is_refuted (guards_found cs) ≡ false) refl (λ c cs. neither _ _)
 
   -- what is certified is not refuted
   pub still_holds : (c : Condition) → IsCertified c → IsNotRefuted c

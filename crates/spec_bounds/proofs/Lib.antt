@@ -22,3 +22,7 @@ pub mod Staged
 pub mod CertifiedAtTime
 pub mod Limits
 pub mod Steadiness
+pub mod Quiet
+pub mod Certified
+pub mod Exponents
+pub mod Within

@@ -7,9 +7,10 @@ use Rattle.spec_numbers.specs.Numbers.{floor_div, ceil_div}
 use Rattle.spec_numbers.proofs.Ring.{v, k as lit, ◌⊕◌, ◌⊗◌, ring}
 use Rattle.spec_numbers.proofs.Order.{lin, lt-mul_cancel}
 use Rattle.spec_numbers.proofs.Floor.{floor_div-le, floor_div-lt}
-use Rattle.spec_numbers.proofs.Corners.{corner_low, corner_high}
+use Rattle.spec_numbers.proofs.Corners.{corner_low, corner_high, between_low, between_high}
 use Rattle.spec_intervals.specs.Interval.{least4, greatest4}
 use Rattle.spec_intervals.proofs.Products.{least4-le, greatest4-ge}
+use Rattle.spec_inclusions.proofs.Products.{below_least, above_greatest}
 use Rattle.spec_chebyshev.specs.declared.ends.Ival62.{Ival62}
 use Rattle.spec_bounds.proofs.Covers.{Covers, IsOrdered}
 
@@ -28,12 +29,6 @@ ceil_div-grows a b d d0 h =
     omega (arith, lin)
 
 -- ---- the lesser and the greater of two numbers
-min_above : (z p q : ℤ) → z ≤ℤ p → z ≤ℤ q → z ≤ℤ int_min p q
-min_above z p q h g = grind (arith, ints)
-
-max_below : (z p q : ℤ) → p ≤ℤ z → q ≤ℤ z → int_max p q ≤ℤ z
-max_below z p q h g = grind (arith, ints)
-
 pub max_grows : (a b c : ℤ) → a ≤ℤ b → int_max a c ≤ℤ int_max b c
 max_grows a b c h = grind (arith, ints)
 
@@ -41,18 +36,6 @@ pub min_grows : (a b c : ℤ) → a ≤ℤ b → int_min a c ≤ℤ int_min b c
 min_grows a b c h = grind (arith, ints)
 
 -- ---- products of ends
-above_least : (z a b c d : ℤ) → z ≤ℤ (a *ℤ c) → z ≤ℤ (a *ℤ d) → z ≤ℤ (b *ℤ c) → z ≤ℤ (b *ℤ d) → z ≤ℤ least4 a b c d
-above_least z a b c d p q r s =
-    let first = min_above z (a *ℤ c) (a *ℤ d) p q in
-    let second = min_above z (b *ℤ c) (b *ℤ d) r s in
-    min_above z (int_min (a *ℤ c) (a *ℤ d)) (int_min (b *ℤ c) (b *ℤ d)) first second
-
-below_greatest : (z a b c d : ℤ) → (a *ℤ c) ≤ℤ z → (a *ℤ d) ≤ℤ z → (b *ℤ c) ≤ℤ z → (b *ℤ d) ≤ℤ z → greatest4 a b c d ≤ℤ z
-below_greatest z a b c d p q r s =
-    let first = max_below z (a *ℤ c) (a *ℤ d) p q in
-    let second = max_below z (b *ℤ c) (b *ℤ d) r s in
-    max_below z (int_max (a *ℤ c) (a *ℤ d)) (int_max (b *ℤ c) (b *ℤ d)) first second
-
 -- each end of an interval whose ends are in order lies in one that covers it
 module _ (y x : Ival62) (ordered : IsOrdered x) (covers : Covers y x) where
   after_low : y.lo ≤ℤ x.hi
@@ -61,24 +44,25 @@ module _ (y x : Ival62) (ordered : IsOrdered x) (covers : Covers y x) where
   before_high : x.lo ≤ℤ y.hi
   before_high = let p = covers.high in omega (arith, lin)
 
+-- the least and the greatest of the products of their ends
+abbrev least_of : Ival62 → Ival62 → ℤ
+least_of c e = least4 c.lo c.hi e.lo e.hi
+
+abbrev greatest_of : Ival62 → Ival62 → ℤ
+greatest_of c e = greatest4 c.lo c.hi e.lo e.hi
+
 -- both factors in wider intervals
 module _ (y x f e : Ival62) (x_ordered : IsOrdered x) (e_ordered : IsOrdered e) (round_x : Covers y x) (round_e : Covers f e) where
-  abbrev least : ℤ
-  least = least4 y.lo y.hi f.lo f.hi
-
-  abbrev greatest : ℤ
-  greatest = greatest4 y.lo y.hi f.lo f.hi
-
   -- they bound each product of two numbers in the wider intervals
-  least_below : (u w : ℤ) → y.lo ≤ℤ u → u ≤ℤ y.hi → f.lo ≤ℤ w → w ≤ℤ f.hi → least ≤ℤ (u *ℤ w)
+  least_below : (u w : ℤ) → y.lo ≤ℤ u → u ≤ℤ y.hi → f.lo ≤ℤ w → w ≤ℤ f.hi → least_of y f ≤ℤ (u *ℤ w)
   least_below u w ul uh wl wh =
       let c = least4-le y.lo y.hi f.lo f.hi in
-      corner_low least y.lo y.hi f.lo f.hi u w ul uh wl wh c.0 c.1 c.2 c.3
+      corner_low (least_of y f) y.lo y.hi f.lo f.hi u w ul uh wl wh c.0 c.1 c.2 c.3
 
-  greatest_above : (u w : ℤ) → y.lo ≤ℤ u → u ≤ℤ y.hi → f.lo ≤ℤ w → w ≤ℤ f.hi → (u *ℤ w) ≤ℤ greatest
+  greatest_above : (u w : ℤ) → y.lo ≤ℤ u → u ≤ℤ y.hi → f.lo ≤ℤ w → w ≤ℤ f.hi → (u *ℤ w) ≤ℤ greatest_of y f
   greatest_above u w ul uh wl wh =
       let c = greatest4-ge y.lo y.hi f.lo f.hi in
-      corner_high greatest y.lo y.hi f.lo f.hi u w ul uh wl wh c.0 c.1 c.2 c.3
+      corner_high (greatest_of y f) y.lo y.hi f.lo f.hi u w ul uh wl wh c.0 c.1 c.2 c.3
 
   xh : y.lo ≤ℤ x.hi
   xh = after_low y x x_ordered round_x
@@ -92,57 +76,30 @@ module _ (y x f e : Ival62) (x_ordered : IsOrdered x) (e_ordered : IsOrdered e) 
   el : e.lo ≤ℤ f.hi
   el = before_high f e e_ordered round_e
 
-  pub least-falls : least ≤ℤ least4 x.lo x.hi e.lo e.hi
+  pub least-falls : least_of y f ≤ℤ least4 x.lo x.hi e.lo e.hi
   least-falls =
-      above_least least x.lo x.hi e.lo e.hi
-      (least_below x.lo e.lo round_x.low xl round_e.low el)
-      (least_below x.lo e.hi round_x.low xl eh round_e.high)
-      (least_below x.hi e.lo xh round_x.high round_e.low el)
-      (least_below x.hi e.hi xh round_x.high eh round_e.high)
+      below_least (least_of y f) (x.lo *ℤ e.lo) (x.lo *ℤ e.hi) (x.hi *ℤ e.lo) (x.hi *ℤ e.hi)
+      (least_below x.lo e.lo round_x.low xl round_e.low el) (least_below x.lo e.hi round_x.low xl eh round_e.high)
+      (least_below x.hi e.lo xh round_x.high round_e.low el) (least_below x.hi e.hi xh round_x.high eh round_e.high)
 
-  pub greatest-grows : greatest4 x.lo x.hi e.lo e.hi ≤ℤ greatest
+  pub greatest-grows : greatest4 x.lo x.hi e.lo e.hi ≤ℤ greatest_of y f
   greatest-grows =
-      below_greatest greatest x.lo x.hi e.lo e.hi
-      (greatest_above x.lo e.lo round_x.low xl round_e.low el)
-      (greatest_above x.lo e.hi round_x.low xl eh round_e.high)
-      (greatest_above x.hi e.lo xh round_x.high round_e.low el)
-      (greatest_above x.hi e.hi xh round_x.high eh round_e.high)
+      above_greatest (greatest_of y f) (x.lo *ℤ e.lo) (x.lo *ℤ e.hi) (x.hi *ℤ e.lo) (x.hi *ℤ e.hi)
+      (greatest_above x.lo e.lo round_x.low xl round_e.low el) (greatest_above x.lo e.hi round_x.low xl eh round_e.high)
+      (greatest_above x.hi e.lo xh round_x.high round_e.low el) (greatest_above x.hi e.hi xh round_x.high eh round_e.high)
 
 -- one factor in a wider interval, and the other between ends that may be in any order: so coefficients need no order
 module _ (c f e : Ival62) (ordered : IsOrdered e) (round : Covers f e) where
-  abbrev least_of : ℤ
-  least_of = least4 c.lo c.hi f.lo f.hi
-
-  abbrev greatest_of : ℤ
-  greatest_of = greatest4 c.lo c.hi f.lo f.hi
-
-  -- a product with a number between two others lies between the products with these
-  low_between : (u w : ℤ) → f.lo ≤ℤ w → w ≤ℤ f.hi → least_of ≤ℤ (u *ℤ f.lo) → least_of ≤ℤ (u *ℤ f.hi) → least_of ≤ℤ (u *ℤ w)
-  low_between u w wl wh p q = corner_low least_of u u f.lo f.hi u w (omega (arith, lin)) (omega (arith, lin)) wl wh p q p q
-
-  high_between : (u w : ℤ) → f.lo ≤ℤ w → w ≤ℤ f.hi → (u *ℤ f.lo) ≤ℤ greatest_of → (u *ℤ f.hi) ≤ℤ greatest_of → (u *ℤ w) ≤ℤ greatest_of
-  high_between u w wl wh p q = corner_high greatest_of u u f.lo f.hi u w (omega (arith, lin)) (omega (arith, lin)) wl wh p q p q
-
-  hi_after : f.lo ≤ℤ e.hi
-  hi_after = after_low f e ordered round
-
-  lo_before : e.lo ≤ℤ f.hi
-  lo_before = before_high f e ordered round
-
-  pub least-falls_beside : least_of ≤ℤ least4 c.lo c.hi e.lo e.hi
+  pub least-falls_beside : least_of c f ≤ℤ least4 c.lo c.hi e.lo e.hi
   least-falls_beside =
       let p = least4-le c.lo c.hi f.lo f.hi in
-      above_least least_of c.lo c.hi e.lo e.hi
-      (low_between c.lo e.lo round.low lo_before p.0 p.1)
-      (low_between c.lo e.hi hi_after round.high p.0 p.1)
-      (low_between c.hi e.lo round.low lo_before p.2 p.3)
-      (low_between c.hi e.hi hi_after round.high p.2 p.3)
+      below_least (least_of c f) (c.lo *ℤ e.lo) (c.lo *ℤ e.hi) (c.hi *ℤ e.lo) (c.hi *ℤ e.hi)
+      (between_low (least_of c f) c.lo f.lo f.hi e.lo round.low (before_high f e ordered round) p.0 p.1) (between_low (least_of c f) c.lo f.lo f.hi e.hi (after_low f e ordered round) round.high p.0 p.1)
+      (between_low (least_of c f) c.hi f.lo f.hi e.lo round.low (before_high f e ordered round) p.2 p.3) (between_low (least_of c f) c.hi f.lo f.hi e.hi (after_low f e ordered round) round.high p.2 p.3)
 
-  pub greatest-grows_beside : greatest4 c.lo c.hi e.lo e.hi ≤ℤ greatest_of
+  pub greatest-grows_beside : greatest4 c.lo c.hi e.lo e.hi ≤ℤ greatest_of c f
   greatest-grows_beside =
       let p = greatest4-ge c.lo c.hi f.lo f.hi in
-      below_greatest greatest_of c.lo c.hi e.lo e.hi
-      (high_between c.lo e.lo round.low lo_before p.0 p.1)
-      (high_between c.lo e.hi hi_after round.high p.0 p.1)
-      (high_between c.hi e.lo round.low lo_before p.2 p.3)
-      (high_between c.hi e.hi hi_after round.high p.2 p.3)
+      above_greatest (greatest_of c f) (c.lo *ℤ e.lo) (c.lo *ℤ e.hi) (c.hi *ℤ e.lo) (c.hi *ℤ e.hi)
+      (between_high (greatest_of c f) c.lo f.lo f.hi e.lo round.low (before_high f e ordered round) p.0 p.1) (between_high (greatest_of c f) c.lo f.lo f.hi e.hi (after_low f e ordered round) round.high p.0 p.1)
+      (between_high (greatest_of c f) c.hi f.lo f.hi e.lo round.low (before_high f e ordered round) p.2 p.3) (between_high (greatest_of c f) c.hi f.lo f.hi e.hi (after_low f e ordered round) round.high p.2 p.3)

@@ -35,17 +35,13 @@ module _ (limit : ℕ) (y x f e more_y more_x f0 e0 : Ival62) (x_ordered : IsOrd
   low =
       let least = least-falls y x f e x_ordered e_ordered round_x round_e in
       let p = floor_div-grows (least4 y.lo y.hi f.lo f.hi) (least4 x.lo x.hi e.lo e.hi) (2 ^ 59) (pow_pos 59) least in
-      let q = round_extra.low in
-      let r = round_before.high in
-      omega (arith, lin)
+      omega (arith, lin, round_extra.low, round_before.high)
 
   high : inner_high ≤ℤ outer_high
   high =
       let greatest = greatest-grows y x f e x_ordered e_ordered round_x round_e in
       let p = ceil_div-grows (greatest4 x.lo x.hi e.lo e.hi) (greatest4 y.lo y.hi f.lo f.hi) (2 ^ 59) (pow_pos 59) greatest in
-      let q = round_extra.high in
-      let r = round_before.low in
-      omega (arith, lin)
+      omega (arith, lin, round_extra.high, round_before.low)
 
   pub Covers-next : Covers (next limit y f more_y f0) (next limit x e more_x e0)
   unfolding next
@@ -56,52 +52,36 @@ module _ (y x : Ival62) (is : IsArguments x) (round : Covers y x) where
   abbrev BothCover : (Ival62 → ℕ → Ival62) → ℕ → Type 0
   BothCover row k = Covers (row y k) (row x k) × Covers (row y (suc k)) (row x (suc k))
 
-  t_two : (k : ℕ) → BothCover t_row k
-  unfolding t_row
-  t_two zero = (Covers-itself _, round)
-  t_two (suc k) =
-      let both = t_two k in
-      let limit = t_size (suc (suc k)) * 2 ^ t_unit in
-      (both.1, Covers-next limit y x (t_row y (suc k)) (t_row x (suc k)) nothing nothing (t_row y k) (t_row x k) is.ordered (t_ordered x is (suc k)) round both.1 (Covers-itself nothing) both.0)
+  -- by induction, every entry of a row
+  by_steps : (row : Ival62 → ℕ → Ival62) → BothCover row 0 → ((k : ℕ) → BothCover row k → Covers (row y (suc (suc k))) (row x (suc (suc k))))
+      → (k : ℕ) → BothCover row k
+  by_steps row first step zero = first
+  by_steps row first step (suc k) = let both = by_steps row first step k in (both.1, step k both)
 
-  u_two : (k : ℕ) → BothCover u_row k
+  t_next : (k : ℕ) → BothCover t_row k → Covers (t_row y (suc (suc k))) (t_row x (suc (suc k)))
+  unfolding t_row
+  t_next k both =
+      Covers-next (t_size (suc (suc k)) * 2 ^ t_unit) y x (t_row y (suc k)) (t_row x (suc k)) nothing nothing (t_row y k) (t_row x k)
+      is.ordered (t_ordered x is (suc k)) round both.1 (Covers-itself nothing) both.0
+
+  u_next : (k : ℕ) → BothCover u_row k → Covers (u_row y (suc (suc k))) (u_row x (suc (suc k)))
   unfolding u_row
-  u_two zero = (Covers-itself _, Covers-shifted 9 y x round)
-  u_two (suc k) =
-      let both = u_two k in
-      let limit = u_size (suc (suc k)) * 2 ^ u_unit in
-      (both.1, Covers-next limit y x (u_row y (suc k)) (u_row x (suc k)) nothing nothing (u_row y k) (u_row x k) is.ordered (u_ordered x is (suc k)) round both.1 (Covers-itself nothing) both.0)
+  u_next k both =
+      Covers-next (u_size (suc (suc k)) * 2 ^ u_unit) y x (u_row y (suc k)) (u_row x (suc k)) nothing nothing (u_row y k) (u_row x k)
+      is.ordered (u_ordered x is (suc k)) round both.1 (Covers-itself nothing) both.0
 
   pub Covers-t : (k : ℕ) → Covers (t_row y k) (t_row x k)
-  Covers-t k = (t_two k).0
+  unfolding t_row
+  Covers-t k = (by_steps t_row (Covers-itself _, round) t_next k).0
 
   pub Covers-u : (k : ℕ) → Covers (u_row y k) (u_row x k)
-  Covers-u k = (u_two k).0
-
-  q_two : (k : ℕ) → BothCover q_row k
-  unfolding q_row
-  q_two zero = (Covers-itself _, Covers-itself _)
-  q_two (suc k) =
-      let both = q_two k in
-      let limit = q_size (suc (suc k)) * 2 ^ q_unit in
-      let twice_y = shifted 13 (t_row y (suc k)) in
-      let twice_x = shifted 13 (t_row x (suc k)) in
-      let twice = Covers-shifted 13 (t_row y (suc k)) (t_row x (suc k)) (Covers-t (suc k)) in
-      (both.1, Covers-next limit y x (q_row y (suc k)) (q_row x (suc k)) twice_y twice_x (q_row y k) (q_row x k) is.ordered (q_ordered x is (suc k)) round both.1 twice both.0)
-
-  r_two : (k : ℕ) → BothCover r_row k
-  unfolding r_row
-  r_two zero = (Covers-itself _, Covers-itself _)
-  r_two (suc k) =
-      let both = r_two k in
-      let limit = r_size (suc (suc k)) * 2 ^ r_unit in
-      let twice_y = shifted 5 (u_row y (suc k)) in
-      let twice_x = shifted 5 (u_row x (suc k)) in
-      let twice = Covers-shifted 5 (u_row y (suc k)) (u_row x (suc k)) (Covers-u (suc k)) in
-      (both.1, Covers-next limit y x (r_row y (suc k)) (r_row x (suc k)) twice_y twice_x (r_row y k) (r_row x k) is.ordered (r_ordered x is (suc k)) round both.1 twice both.0)
+  unfolding u_row
+  Covers-u k = (by_steps u_row (Covers-itself _, Covers-shifted 9 y x round) u_next k).0
 
   pub Covers-q : (k : ℕ) → Covers (q_row y k) (q_row x k)
-  Covers-q k = (q_two k).0
+  unfolding q_row
+  Covers-q k = (by_steps q_row (Covers-itself _, Covers-itself _) (λ k both. Covers-next (q_size (suc (suc k)) * 2 ^ q_unit) y x (q_row y (suc k)) (q_row x (suc k)) (shifted 13 (t_row y (suc k))) (shifted 13 (t_row x (suc k))) (q_row y k) (q_row x k) is.ordered (q_ordered x is (suc k)) round both.1 (Covers-shifted 13 (t_row y (suc k)) (t_row x (suc k)) (Covers-t (suc k))) both.0) k).0
 
   pub Covers-r : (k : ℕ) → Covers (r_row y k) (r_row x k)
-  Covers-r k = (r_two k).0
+  unfolding r_row
+  Covers-r k = (by_steps r_row (Covers-itself _, Covers-itself _) (λ k both. Covers-next (r_size (suc (suc k)) * 2 ^ r_unit) y x (r_row y (suc k)) (r_row x (suc k)) (shifted 5 (u_row y (suc k))) (shifted 5 (u_row x (suc k))) (r_row y k) (r_row x k) is.ordered (r_ordered x is (suc k)) round both.1 (Covers-shifted 5 (u_row y (suc k)) (u_row x (suc k)) (Covers-u (suc k))) both.0) k).0

@@ -6,23 +6,14 @@ use lib.Signed.{lt_z}
 use Rattle.spec_numbers.proofs.Order.{lin}
 use Rattle.spec_intervals.specs.Interval.{Interval, meet, product, sum, difference, signed_square, zero_interval}
 use Rattle.spec_intervals.specs.Enclosure.{Enclosure, triple, centred, enclosure, constant_of, sum_of, difference_of, product_of, signed_square_of}
+use Rattle.spec_intervals.proofs.Enclosed.{mid-of}
 
 -- an enclosure at one time has the mid of x for its mid, and for its range
 pub record IsMidOf (x at_time : Enclosure) : Type 0 where
   pub same : x.mid ≡ at_time.mid
   pub single : at_time.range ≡ at_time.mid
 
--- the mid of an enclosure is the one that it is made of
-mid_given : (a b : ℤ) (mid plain step : Interval) → (enclosure a b mid plain step).mid ≡ mid
-unfolding enclosure
-mid_given a b mid plain step = by (lt_z a b)
-  where
-    by : (later : Bool)
-        → (if later then triple mid (meet plain (centred a b mid step)) step else triple mid mid zero_interval).mid ≡ mid
-    by true = refl
-    by false = refl
-
--- and at one time so is its range
+-- at one time the range is the mid that it is made of
 range_given : (t : ℤ) (mid plain step : Interval) → (enclosure t t mid plain step).range ≡ mid
 unfolding enclosure
 range_given t mid plain step = by (lt_z t t) refl
@@ -37,8 +28,8 @@ module _ (a b t : ℤ) where
   pub parts_at_middle : (mid plain step mid_then plain_then step_then : Interval) → mid ≡ mid_then
       → IsMidOf (enclosure a b mid plain step) (enclosure t t mid_then plain_then step_then)
   parts_at_middle mid plain step mid_then plain_then step_then same = record {
-    same = mid_given a b mid plain step ∙ same ∙ sym (mid_given t t mid_then plain_then step_then);
-    single = range_given t mid_then plain_then step_then ∙ sym (mid_given t t mid_then plain_then step_then);
+    same = mid-of a b mid plain step ∙ same ∙ sym (mid-of t t mid_then plain_then step_then);
+    single = range_given t mid_then plain_then step_then ∙ sym (mid-of t t mid_then plain_then step_then);
   }
 
   -- ---- the rules

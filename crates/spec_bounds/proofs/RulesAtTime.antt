@@ -4,7 +4,7 @@ use Rattle.std.specs.Prelude.{if◌then◌else◌}
 use lib.Signed.{lt_z}
 use Rattle.spec_numbers.proofs.Naturals.{positive_product}
 use Rattle.spec_numbers.proofs.Order.{lin}
-use Rattle.spec_intervals.specs.Fraction.{Fraction, IsFraction, Holds, fraction_add, fraction_sub, fraction_mul, fraction_signed_square}
+use Rattle.spec_intervals.specs.Fraction.{Fraction, IsFraction, Holds, fraction_mul, fraction_signed_square}
 use Rattle.spec_intervals.specs.Interval.{Interval, lift_limit, meet, product, sum, difference, signed_square, zero_interval}
 use Rattle.spec_intervals.specs.Enclosure.{Enclosure, triple, centred, enclosure, constant_of, sum_of, difference_of, product_of, signed_square_of}
 use Rattle.spec_intervals.proofs.Products.{Holds-product}
@@ -61,26 +61,28 @@ module _ (c d t : ℤ) where
     both : IsFraction (fraction_mul first.value second.value)
     both = positive_product _ _ first.number second.number
 
+    -- made of the mids by an operation that keeps inclusion
+    made_at_time : (made made_outer : Interval → Interval → Interval) (value : Fraction) (change plain step : Interval)
+        → ((p q x y : Interval) → x.lo ≤ℤ x.hi → y.lo ≤ℤ y.hi → Includes p x → Includes q y → Includes (made_outer p q) (made x y))
+        → IsFraction value → Holds (made x.mid y.mid) value
+        → IsIncludedAtTime (bound c d (made_outer p.range q.range) change).range (enclosure t t (made x.mid y.mid) plain step)
+    made_at_time made made_outer value change plain step keeps number held =
+        parts_included _ change _ plain step value number held (keeps p.range q.range x.mid y.mid first_ordered second_ordered first.mid second.mid)
+
     pub sum_at_time : IsIncludedAtTime (sum_bound c d p q).range (sum_of t t x y)
     unfolding sum_of
-    sum_at_time =
-        parts_included (coarse_sum p.range q.range) _ (sum x.mid y.mid) _ _ (fraction_add first.value second.value) both
-        (Holds-sum x.mid y.mid first.value second.value first.held second.held)
-        (Includes-sum p.range q.range x.mid y.mid first_ordered second_ordered first.mid second.mid)
+    sum_at_time = made_at_time sum coarse_sum _ _ _ _ Includes-sum both (Holds-sum x.mid y.mid first.value second.value first.held second.held)
 
     pub difference_at_time : IsIncludedAtTime (difference_bound c d p q).range (difference_of t t x y)
     unfolding difference_of
     difference_at_time =
-        parts_included (coarse_difference p.range q.range) _ (difference x.mid y.mid) _ _ (fraction_sub first.value second.value) both
+        made_at_time difference coarse_difference _ _ _ _ Includes-difference both
         (Holds-difference x.mid y.mid first.value second.value first.held second.held)
-        (Includes-difference p.range q.range x.mid y.mid first_ordered second_ordered first.mid second.mid)
 
     pub product_at_time : IsIncludedAtTime (product_bound c d p q).range (product_of t t x y)
     unfolding product_of
     product_at_time =
-        parts_included (product p.range q.range) _ (product x.mid y.mid) _ _ (fraction_mul first.value second.value) both
-        (Holds-product x.mid y.mid first.value second.value first.held second.held)
-        (Includes-product p.range q.range x.mid y.mid first_ordered second_ordered first.mid second.mid)
+        made_at_time product product _ _ _ _ Includes-product both (Holds-product x.mid y.mid first.value second.value first.held second.held)
 
   pub signed_square_at_time : (p : Bound) (x : Enclosure) → IsIncludedAtTime p.range x
       → IsIncludedAtTime (signed_square_bound c d p).range (signed_square_of t t x)

@@ -9,6 +9,7 @@ use Rattle.spec_intervals.specs.declared.signs.Sign.{Sign}
 use Rattle.spec_intervals.specs.declared.signs.Sign.TheVariants.{Yes, No, Open}
 use Rattle.spec_intervals.specs.Interval.{Interval}
 use Rattle.spec_intervals.specs.Signs.{sign_of}
+use Rattle.spec_intervals.proofs.SignLaws.{yes-low, no-high}
 use Rattle.spec_events.specs.Verdict.{certifies, is_one_way, rises, falls}
 use Rattle.spec_inclusions.specs.Inclusion.{Includes}
 use Rattle.spec_inclusions.proofs.Inclusions.{Includes-not_negative, Includes-not_positive, Includes-negative}
@@ -21,22 +22,6 @@ tested p q h = by (le_z p q) refl
     by false e = absurd (omega (arith, lin))
 
 -- ---- signs
-low_of_yes : (x : Interval) → sign_of x ≡ Yes → pos 0 ≤ℤ x.lo
-low_of_yes x e = by (le_z (pos 0) x.lo) (lt_z x.hi (pos 0)) refl e
-  where
-    by : (p q : Bool) → le_z (pos 0) x.lo ≡ p → (if p then Yes else (if q then No else Open)) ≡ Yes → pos 0 ≤ℤ x.lo
-    by true q h is = omega (arith, lin)
-    by false true h is = cc
-    by false false h is = cc
-
-high_of_no : (x : Interval) → sign_of x ≡ No → x.hi <ℤ pos 0
-high_of_no x e = by (le_z (pos 0) x.lo) (lt_z x.hi (pos 0)) refl e
-  where
-    by : (p q : Bool) → lt_z x.hi (pos 0) ≡ q → (if p then Yes else (if q then No else Open)) ≡ No → x.hi <ℤ pos 0
-    by true q h is = cc
-    by false true h is = omega (arith, lin)
-    by false false h is = cc
-
 yes_from : (x : Interval) → pos 0 ≤ℤ x.lo → sign_of x ≡ Yes
 yes_from x low = rw (tested (pos 0) x.lo low) refl
 
@@ -53,11 +38,11 @@ pub certified_included : (at_least : Bool) (y x : Interval) → x.lo ≤ℤ x.hi
 certified_included at_least y x in_order includes certified = by at_least (sign_of y) refl certified
   where
     by : (at_least : Bool) (sign : Sign) → sign_of y ≡ sign → certifies at_least sign ≡ true → certifies at_least (sign_of x) ≡ true
-    by true Yes e is = rw (yes_from x (Includes-not_negative y x includes (low_of_yes y e))) refl
+    by true Yes e is = rw (yes_from x (Includes-not_negative y x includes (yes-low y e))) refl
     by true No e is = absurd (false≢true is)
     by true Open e is = absurd (false≢true is)
     by false Yes e is = absurd (false≢true is)
-    by false No e is = rw (no_from x in_order (Includes-negative y x includes (high_of_no y e))) refl
+    by false No e is = rw (no_from x in_order (Includes-negative y x includes (no-high y e))) refl
     by false Open e is = absurd (false≢true is)
 
 -- and then the opposite is not certified

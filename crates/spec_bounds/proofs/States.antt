@@ -1,13 +1,11 @@
 -- Over times that fit, the bounds of columns, of the coordinates of bodies and of formulas of these include their enclosures
 -- over every span within.
-use Rattle.std.proofs.Common.{◌≡◌, ℕ, ◌<◌, sym, subst, arith, ℤ, ◌≤ℤ◌, ◌<ℤ◌}
+use Rattle.std.proofs.Common.{ℕ, ◌<◌, sym, subst, arith, ℤ, ◌≤ℤ◌, ◌<ℤ◌}
 use Rattle.std.proofs.lemmas.Int.{ints}
 use Rattle.spec_intervals.specs.Fraction.{Fraction}
 use Rattle.spec_intervals.specs.Enclosure.{PartsHold, middle}
 use Rattle.spec_intervals.proofs.Centred.{middle_between}
-use Rattle.spec_intervals.proofs.Enclosed.{IsEnclosure-parts}
 use Rattle.spec_ephemeris.specs.Series.{Series}
-use Rattle.spec_ephemeris.specs.Ephemeris.{IsBorder}
 use Rattle.spec_ephemeris.specs.Granules.{series_at}
 use Rattle.spec_motions.specs.Enclosures.{IsSeries, IsSpanOf}
 use Rattle.spec_expressions.specs.Term.{Leaf, Term, position as position_of, velocity as velocity_of, IsLeaf, HasLeaves, exact_of}
@@ -15,16 +13,14 @@ use Rattle.spec_bodies.specs.declared.quantity.Quantity.{Quantity}
 use Rattle.spec_bodies.specs.declared.quantity.Quantity.TheVariants.{Position, Velocity}
 use Rattle.spec_bodies.specs.Reading.{IsReadable}
 use Rattle.spec_bodies.specs.Views.{View, Fits, coordinate_of, factor_of, exact_value, exact_state, value_interval, step_interval, series_enclosure, column_enclosure, coordinate_enclosure, state_enclosure}
-use Rattle.spec_bodies.proofs.Columns.{same_series, span_of, series_of}
 use Rattle.spec_bodies.proofs.Formulas.{IsFraction-factor, all_columns}
-use Rattle.spec_bodies.proofs.Held.{readable_columns, fractions_of_states, states_held}
+use Rattle.spec_bodies.proofs.Held.{same, own_series, own_span, readable_columns, fractions_of_states, states_held}
 use Rattle.spec_bodies.proofs.Series.{IsFraction-value, Holds-value, Holds-step, mid_span}
 use Rattle.spec_searches.specs.Search.{enclosure_over}
 use Rattle.spec_inclusions.specs.Bounds.{IncludesEnclosure}
 use Rattle.spec_bounds.specs.Terms.{series_bound, column_bound, coordinate_bound, state_bound, bound_over}
-use Rattle.spec_inclusions.proofs.Inclusions.{IncludesEnclosure-parts}
 use Rattle.spec_bounds.proofs.Series.{Includes-value, Includes-step}
-use Rattle.spec_bounds.proofs.Rules.{IsIncluded}
+use Rattle.spec_bounds.proofs.Rules.{IsIncluded, parts_included}
 use Rattle.spec_bounds.proofs.Induction.{coordinate_included, term_included}
 
 -- ---- a quantity of a series
@@ -47,15 +43,10 @@ module _ (quantity : Quantity) (s : Series) (is : IsSeries s) (a b c d : ℤ) (c
       let between = middle_between a b span.ordered in
       let after = between.0 in
       let before = between.1 in
-      record {
-        numbers = λ t p q. IsFraction-value s is quantity t;
-        enclosed = IsEnclosure-parts (exact_value quantity s) a b (λ t p q. IsFraction-value s is quantity t) span.ordered _ _ _ series_parts;
-        included =
-            IncludesEnclosure-parts (exact_value quantity s) a b c d ca ab bd (λ t p q. IsFraction-value s is quantity t) _ _ _ _ _ series_parts
-            (Includes-value s (middle a b) (middle a b) c d is whole (omega (arith, ints, ca, after)) (omega (arith, ints)) (omega (arith, ints, bd, before)) quantity)
-            (Includes-value s a b c d is whole ca span.ordered bd quantity)
-            (Includes-step s a b c d is whole ca ab bd quantity);
-      }
+      parts_included a b c d ca ab bd (exact_value quantity s) (λ t p q. IsFraction-value s is quantity t) _ _ _ _ _ series_parts
+      (Includes-value s (middle a b) (middle a b) c d is whole (omega (arith, ints, ca, after)) (omega (arith, ints)) (omega (arith, ints, bd, before)) quantity)
+      (Includes-value s a b c d is whole ca span.ordered bd quantity)
+      (Includes-step s a b c d is whole ca ab bd quantity)
 
 -- ---- the times from a to b within those from c to d, which fit
 module _ (v : View) (a b c d : ℤ) (fits : Fits v c d) (ca : c ≤ℤ a) (ab : a <ℤ b) (bd : b ≤ℤ d) where
@@ -85,22 +76,11 @@ module _ (v : View) (a b c d : ℤ) (fits : Fits v c d) (ca : c ≤ℤ a) (ab : 
   exact_here quantity number axis = exact_value quantity (series_here number axis)
 
   module _ (number axis : ℕ) (is : IsReadable v number axis) where
-    none_of : (t : ℤ) → IsBorder v.ephemeris number t → c <ℤ t → t ≤ℤ d → ⊥
-    none_of t border after upto = fits.no_border t (record { number = number; listed = is.usable.in_use; border = border; after = after; upto = upto })
-
-    same : series_at v.ephemeris number axis a ≡ series_here number axis
-    same = same_series v.ephemeris number fits.view.checked is.usable.there fits.view.block c d fits.from fits.ordered fits.upto none_of axis a ca (omega (arith, ints, ab, bd))
-
-    is_series : IsSeries (series_here number axis)
-    is_series = series_of v.ephemeris number fits.view.checked is.usable.there fits.view.block c d fits.from fits.ordered fits.upto none_of axis is.along is.usable.of_body
-
-    is_span : IsSpanOf (series_here number axis) c d
-    is_span = span_of v.ephemeris number fits.view.checked is.usable.there fits.view.block c d fits.from fits.ordered fits.upto none_of axis
-
     column_included : (quantity : Quantity) → IsIncluded (exact_here quantity number axis) a b (column_bound v quantity c d number axis) (column_enclosure v quantity a b number axis)
     column_included quantity =
-        subst (λ s. IsIncluded (exact_here quantity number axis) a b (column_bound v quantity c d number axis) (series_enclosure quantity a b s)) (sym same)
-        (series_included quantity (series_here number axis) is_series a b c d ca ab bd is_span)
+        subst (λ s. IsIncluded (exact_here quantity number axis) a b (column_bound v quantity c d number axis) (series_enclosure quantity a b s)) (sym (same v c d fits number axis is.along is.usable a ca (omega (arith, ints, ab, bd))))
+        (series_included quantity (series_here number axis) (own_series v c d fits number axis is.along is.usable) a b c d ca ab bd
+        (own_span v c d fits number axis is.along is.usable))
 
   coordinates_included : (quantity : Quantity) (target axis : ℕ) → axis < 3
       → IncludesEnclosure (coordinate_bound v quantity target axis c d) (coordinate_enclosure v quantity target axis a b)

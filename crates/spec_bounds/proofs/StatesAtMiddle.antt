@@ -1,20 +1,18 @@
 -- Over times that fit, the mids of columns, of the coordinates of bodies and of formulas of these are the ranges of their
 -- enclosures at the middle: no granule begins in between, so the series at the first time is that at the middle too.
-use Rattle.std.proofs.Common.{◌≡◌, ℕ, ◌<◌, sym, ◌∙◌, arith, ℤ, ◌≤ℤ◌, ◌<ℤ◌}
+use Rattle.std.proofs.Common.{◌≡◌, ℕ, ◌<◌, sym, ◌∙◌, arith, ℤ, ◌≤ℤ◌}
 use Rattle.std.proofs.lemmas.Int.{ints}
 use Rattle.spec_numbers.proofs.Order.{lin}
 use Rattle.spec_intervals.specs.Enclosure.{middle}
 use Rattle.spec_intervals.proofs.Centred.{middle_between}
-use Rattle.spec_ephemeris.specs.Ephemeris.{IsBorder}
 use Rattle.spec_ephemeris.specs.Granules.{series_at}
 use Rattle.spec_expressions.specs.Term.{Leaf, Term, position as position_of, velocity as velocity_of, IsLeaf, HasLeaves}
 use Rattle.spec_bodies.specs.declared.quantity.Quantity.{Quantity}
 use Rattle.spec_bodies.specs.declared.quantity.Quantity.TheVariants.{Position, Velocity}
 use Rattle.spec_bodies.specs.Reading.{IsReadable}
 use Rattle.spec_bodies.specs.Views.{View, Fits, coordinate_of, factor_of, value_interval, column_enclosure, coordinate_enclosure, state_enclosure}
-use Rattle.spec_bodies.proofs.Columns.{same_series}
 use Rattle.spec_bodies.proofs.Formulas.{all_columns}
-use Rattle.spec_bodies.proofs.Held.{readable_columns}
+use Rattle.spec_bodies.proofs.Held.{same, readable_columns}
 use Rattle.spec_searches.specs.Search.{enclosure_over}
 use Rattle.spec_bounds.proofs.RulesAtMiddle.{IsMidOf, parts_at_middle}
 use Rattle.spec_bounds.proofs.InductionAtMiddle.{coordinate_at_middle, term_at_middle}
@@ -32,15 +30,10 @@ module _ (v : View) (a b : ℤ) (fits : Fits v a b) where
 
   -- of a column that can be read
   module _ (number axis : ℕ) (is : IsReadable v number axis) where
-    none_of : (t : ℤ) → IsBorder v.ephemeris number t → a <ℤ t → t ≤ℤ b → ⊥
-    none_of t border after upto =
-        fits.no_border t (record { number = number; listed = is.usable.in_use; border = border; after = after; upto = upto })
-
-    same : series_at v.ephemeris number axis mid_time ≡ series_at v.ephemeris number axis a
-    same =
+    same_at_middle : series_at v.ephemeris number axis mid_time ≡ series_at v.ephemeris number axis a
+    same_at_middle =
         let between = middle_between a b fits.ordered in
-        same_series v.ephemeris number fits.view.checked is.usable.there fits.view.block a b fits.from fits.ordered fits.upto none_of
-        axis mid_time between.0 between.1
+        same v a b fits number axis is.along is.usable mid_time between.0 between.1
 
     column_at_middle : (quantity : Quantity)
         → IsMidOf (column_enclosure v quantity a b number axis) (column_enclosure v quantity mid_time mid_time number axis)
@@ -48,7 +41,7 @@ module _ (v : View) (a b : ℤ) (fits : Fits v a b) where
         parts_at_middle a b mid_time
         (value_interval quantity (series_at v.ephemeris number axis a) mid_time mid_time) _ _
         (value_interval quantity (series_at v.ephemeris number axis mid_time) (middle mid_time mid_time) (middle mid_time mid_time)) _ _
-        (λ i. value_interval quantity (sym same i) (middle_of_one mid_time i) (middle_of_one mid_time i))
+        (λ i. value_interval quantity (sym same_at_middle i) (middle_of_one mid_time i) (middle_of_one mid_time i))
 
   coordinates_at_middle : (quantity : Quantity) (target axis : ℕ) → axis < 3
       → IsMidOf (coordinate_enclosure v quantity target axis a b) (coordinate_enclosure v quantity target axis mid_time mid_time)

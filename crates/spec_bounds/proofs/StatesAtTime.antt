@@ -1,10 +1,9 @@
 -- Over times that fit, the bounds of columns, of the coordinates of bodies and of formulas of these include their enclosures
 -- at each single time within.
-use Rattle.std.proofs.Common.{◌≡◌, ℕ, ◌<◌, sym, subst, arith, ℤ, ◌≤ℤ◌, ◌<ℤ◌}
+use Rattle.std.proofs.Common.{ℕ, ◌<◌, sym, subst, arith, ℤ, ◌≤ℤ◌}
 use Rattle.std.proofs.lemmas.Int.{ints}
 use Rattle.spec_intervals.specs.Enclosure.{middle}
 use Rattle.spec_intervals.proofs.Centred.{middle_between}
-use Rattle.spec_ephemeris.specs.Ephemeris.{IsBorder}
 use Rattle.spec_ephemeris.specs.Granules.{series_at}
 use Rattle.spec_ephemeris.specs.Series.{Series}
 use Rattle.spec_motions.specs.Enclosures.{IsSeries, IsSpanOf}
@@ -13,9 +12,8 @@ use Rattle.spec_bodies.specs.declared.quantity.Quantity.{Quantity}
 use Rattle.spec_bodies.specs.declared.quantity.Quantity.TheVariants.{Position, Velocity}
 use Rattle.spec_bodies.specs.Reading.{IsReadable}
 use Rattle.spec_bodies.specs.Views.{View, Fits, coordinate_of, factor_of, exact_value, value_interval, step_interval, series_enclosure, column_enclosure, coordinate_enclosure, state_enclosure}
-use Rattle.spec_bodies.proofs.Columns.{same_series, span_of, series_of}
 use Rattle.spec_bodies.proofs.Formulas.{IsFraction-factor, all_columns}
-use Rattle.spec_bodies.proofs.Held.{readable_columns}
+use Rattle.spec_bodies.proofs.Held.{same, own_series, own_span, readable_columns}
 use Rattle.spec_bodies.proofs.Series.{IsFraction-value, Holds-value, time_span}
 use Rattle.spec_searches.specs.Search.{enclosure_over}
 use Rattle.spec_bounds.specs.Terms.{bound_over, column_bound, coordinate_bound, series_bound, state_bound}
@@ -44,22 +42,11 @@ module _ (quantity : Quantity) (s : Series) (is : IsSeries s) (c d t : ℤ) (aft
 module _ (v : View) (c d t : ℤ) (fits : Fits v c d) (after : c ≤ℤ t) (before : t ≤ℤ d) where
   -- of a column that can be read, the series at c is that at t too
   module _ (number axis : ℕ) (is : IsReadable v number axis) where
-    none_of : (u : ℤ) → IsBorder v.ephemeris number u → c <ℤ u → u ≤ℤ d → ⊥
-    none_of u border later upto = fits.no_border u (record { number = number; listed = is.usable.in_use; border = border; after = later; upto = upto })
-
-    same : series_at v.ephemeris number axis t ≡ series_at v.ephemeris number axis c
-    same = same_series v.ephemeris number fits.view.checked is.usable.there fits.view.block c d fits.from fits.ordered fits.upto none_of axis t after before
-
-    is_series : IsSeries (series_at v.ephemeris number axis c)
-    is_series = series_of v.ephemeris number fits.view.checked is.usable.there fits.view.block c d fits.from fits.ordered fits.upto none_of axis is.along is.usable.of_body
-
-    is_span : IsSpanOf (series_at v.ephemeris number axis c) c d
-    is_span = span_of v.ephemeris number fits.view.checked is.usable.there fits.view.block c d fits.from fits.ordered fits.upto none_of axis
-
     column_at_time : (quantity : Quantity) → IsIncludedAtTime (column_bound v quantity c d number axis).range (column_enclosure v quantity t t number axis)
     column_at_time quantity =
-        subst (λ s. IsIncludedAtTime (column_bound v quantity c d number axis).range (series_enclosure quantity t t s)) (sym same)
-        (series_at_time quantity (series_at v.ephemeris number axis c) is_series c d t after before is_span)
+        subst (λ s. IsIncludedAtTime (column_bound v quantity c d number axis).range (series_enclosure quantity t t s)) (sym (same v c d fits number axis is.along is.usable t after before))
+        (series_at_time quantity (series_at v.ephemeris number axis c) (own_series v c d fits number axis is.along is.usable) c d t after before
+        (own_span v c d fits number axis is.along is.usable))
 
   coordinates_at_time : (quantity : Quantity) (target axis : ℕ) → axis < 3
       → IsIncludedAtTime (coordinate_bound v quantity target axis c d).range (coordinate_enclosure v quantity target axis t t)

@@ -1,5 +1,5 @@
 -- The verdict of a node in a steady span, by the signs at its ends.
-use Rattle.std.proofs.Common.{◌≡◌, Bool, true, false, ◌&&◌, nat_le, All, Option, None, Some, is_some, ℤ, ◌≤ℤ◌, refl, sym, subst, ◌∙◌, arith}
+use Rattle.std.proofs.Common.{◌≡◌, Bool, true, false, ◌&&◌, nat_le, All, ℤ, ◌≤ℤ◌, refl, sym, subst, ◌∙◌, arith}
 use Rattle.std.specs.Prelude.{if◌then◌else◌}
 use Rattle.std.specs.List.{list_all, list_any}
 use Rattle.spec_intervals.specs.Enclosure.{Enclosure}
@@ -7,11 +7,7 @@ use Rattle.spec_intervals.specs.Interval.{Interval}
 use Rattle.spec_intervals.specs.Signs.{sign_of}
 use Rattle.spec_numbers.proofs.Order.{lin}
 use Rattle.spec_expressions.specs.Term.{Term, HasLeaves}
-use Rattle.spec_ephemeris.specs.Borders.{nearest_border}
-use Rattle.spec_ephemeris.specs.Ephemeris.{IsNearestBorder}
-use Rattle.spec_ephemeris.proofs.NearestBorders.{nearest_of_all}
-use Rattle.spec_bodies.specs.Views.{Fits, columns_of, state_enclosure}
-use Rattle.spec_bodies.proofs.InUse.{present_in_use}
+use Rattle.spec_bodies.specs.Views.{Fits, state_enclosure}
 use Rattle.spec_trees.specs.declared.tree.Node.{Node}
 use Rattle.spec_trees.specs.declared.tree.Verdict.{Verdict}
 use Rattle.spec_trees.specs.declared.tree.Verdict.TheVariants.{Clear, One}
@@ -27,6 +23,7 @@ use Rattle.spec_inclusions.proofs.Inclusions.{holds_ordered}
 use Rattle.spec_bounds.specs.Terms.{bound_over}
 use Rattle.spec_bounds.specs.Steady.{IsSteady, is_certified_over, sign_at, steady_verdict}
 use Rattle.spec_bounds.proofs.Rules.{IsIncluded, enclosures_in_order}
+use Rattle.spec_bounds.proofs.Quiet.{open_by_fit}
 use Rattle.spec_bounds.proofs.Guards.{IsCertified, all_certified, none_refuted, still_holds}
 use Rattle.spec_bounds.proofs.Signs.{certified_included, one_way_included}
 use Rattle.spec_bounds.proofs.States.{part_fits, formula_included}
@@ -71,13 +68,7 @@ module _ (s : Search) (a b : ℤ) (n : Node) (is : IsSearch s) (steady : IsStead
   fits = part_fits s.view n.a n.b a b steady.fits after valid.inside upto
 
   open_node : crosses s n ≡ false
-  open_node =
-      by (nearest_border s.view.ephemeris (columns_of s.view) n.a n.b)
-      (nearest_of_all s.view.ephemeris (columns_of s.view) n.a n.b is.view.checked (present_in_use s.view is.view))
-    where
-      by : (border : Option ℤ) → IsNearestBorder s.view.ephemeris (columns_of s.view) n.a n.b border → is_some border ≡ false
-      by None nearest = refl
-      by (Some t) nearest = absurd (fits.no_border t nearest.0)
+  open_node = open_by_fit s n is fits
 
   included : (x : Term) → HasLeaves x → IsIncluded (exact_in s x) n.a n.b (over_span x) (over_node x)
   included = formula_included s.view n.a n.b a b steady.fits after valid.inside upto

@@ -16,17 +16,11 @@ pub record CoversRow (outer inner : ℕ → Ival62) : Type 0 where
 module _ (q r : ℕ → Ival62) (h : CoversRow q r) where
   pub sum_low-falls : (k : ℕ) (cs : List Ival62) → sum_low q k cs ≤ℤ sum_low r k cs
   sum_low-falls k [] = omega (arith, lin)
-  sum_low-falls k (c ∷ cs) =
-      let first = least-falls_beside c (q k) (r k) (h.ordered k) (h.covers k) in
-      let others = sum_low-falls (suc k) cs in
-      omega (arith, lin)
+  sum_low-falls k (c ∷ cs) = omega (arith, lin, least-falls_beside c (q k) (r k) (h.ordered k) (h.covers k), sum_low-falls (suc k) cs)
 
   pub sum_high-grows : (k : ℕ) (cs : List Ival62) → sum_high r k cs ≤ℤ sum_high q k cs
   sum_high-grows k [] = omega (arith, lin)
-  sum_high-grows k (c ∷ cs) =
-      let first = greatest-grows_beside c (q k) (r k) (h.ordered k) (h.covers k) in
-      let others = sum_high-grows (suc k) cs in
-      omega (arith, lin)
+  sum_high-grows k (c ∷ cs) = omega (arith, lin, greatest-grows_beside c (q k) (r k) (h.ordered k) (h.covers k), sum_high-grows (suc k) cs)
 
 -- ---- k times the numbers of an entry
 times_in_order : (k : ℕ) (a b : ℤ) → a ≤ℤ b → (pos k *ℤ a) ≤ℤ (pos k *ℤ b)

@@ -1,2 +1,5 @@
 pub mod Terms
 pub mod Steady
+pub mod Quiet
+pub mod Certified
+pub mod Limits

@@ -1,14 +1,15 @@
-// What is true of bounds, of steady spans and of mids: each law is the contract of a function with nothing to do.
+// What is true of bounds, of steady and quiet spans and of mids: each law is the contract of a function with nothing to do.
 ghost use Rattle.std.specs.Prelude.{◌≡◌, true, false, nat_le, [], All, ℤ, ◌≤ℤ◌, ◌<ℤ◌};
 ghost use Rattle.spec_intervals.specs.declared.signs.Sign.{Sign};
 ghost use Rattle.spec_intervals.specs.Enclosure.{middle};
 ghost use Rattle.spec_intervals.specs.Signs.{sign_of};
 ghost use Rattle.spec_trees.specs.declared.tree.Node.{Node};
+ghost use Rattle.spec_trees.specs.declared.tree.Verdict.TheVariants.{Clear};
 ghost use Rattle.spec_trees.specs.Cuts.{is_wide};
 ghost use Rattle.spec_trees.specs.Tree.{IsValid, width};
-ghost use Rattle.spec_events.specs.Stages.{limit_verdict};
+ghost use Rattle.spec_events.specs.Stages.{has_no_turn, limit_verdict};
 ghost use Rattle.spec_events.specs.Verdict.{differ, is_known};
-ghost use Rattle.spec_expressions.specs.Term.{HasLeaves, IsLeaf, Leaf, Term};
+ghost use Rattle.spec_expressions.specs.Term.{HasLeaves, IsFormula, IsLeaf, Leaf, Term, leaf_exponent, part_exponent};
 ghost use Rattle.spec_ephemeris.specs.Series.{Series};
 ghost use Rattle.spec_motions.specs.Enclosures.{IsSeries, IsSpanOf};
 ghost use Rattle.spec_bodies.specs.declared.quantity.Quantity.{Quantity};
@@ -17,7 +18,10 @@ ghost use Rattle.spec_searches.specs.Found.{rules};
 ghost use Rattle.spec_searches.specs.Search.{IsSearch, Search, criteria, crosses, enclosure_over, verdict_of};
 ghost use Rattle.spec_inclusions.specs.Bounds.{IncludesEnclosure};
 ghost use Rattle.spec_inclusions.specs.Inclusion.{Includes};
-ghost use Rattle.spec_bounds.specs.Terms.{state_bound};
+ghost use Rattle.spec_bounds.specs.Quiet.{IsQuiet, sign_over};
+ghost use Rattle.spec_bounds.specs.Certified.{HoldsConditions, unconditional};
+ghost use Rattle.spec_bounds.specs.Terms.{bound_over, state_bound};
+ghost use Rattle.spec_bounds.specs.Limits.{IsBoundWithin};
 ghost use Rattle.spec_bounds.specs.Steady.{IsSteady, is_certified_at, sign_at, steady_verdict};
 
 /// The bound of a coordinate over times that fit includes its enclosure over every span within them.
@@ -68,4 +72,32 @@ pub fn middles_are_told()
     ensures of_searches { (s : Search) (n : Node) → IsSearch s → IsValid (rules s) n → crosses s n ≡ false
         → sign_of (enclosure_over (state_enclosure s.view) s.event.function n.a n.b).mid
         ≡ sign_at s (middle n.a n.b) }
+{}
+
+/// In a quiet span the function has the sign of its bound at each time, and each node is clear; and so is a node of one unit
+/// into which a border falls, where the signs at its two ends show that no wanted turn lies between them.
+pub fn quiet_spans_are_clear()
+    ensures times { (s : Search) (a b t : ℤ) → IsSearch s → IsQuiet s a b → a ≤ℤ t → t ≤ℤ b
+        → sign_at s t ≡ sign_over s a b }
+    ensures nodes { (s : Search) (a b : ℤ) (n : Node) → IsSearch s → IsQuiet s a b
+        → IsValid (rules s) n → a ≤ℤ n.a → n.b ≤ℤ b → verdict_of s n ≡ Clear }
+    ensures borders { (s : Search) (n : Node) → IsSearch s → IsValid (rules s) n
+        → crosses s n ≡ true → is_wide n ≡ false
+        → has_no_turn s.event.dir (sign_at s n.a) (sign_at s n.b) ≡ true → verdict_of s n ≡ Clear }
+{}
+
+/// In a span in which each condition holds by its bound, the verdict of a node is the one that it has in the same search
+/// without conditions.
+pub fn conditions_that_hold()
+    ensures { (s : Search) (a b : ℤ) (n : Node) → IsSearch s → HoldsConditions s a b
+        → IsValid (rules s) n → a ≤ℤ n.a → n.b ≤ℤ b
+        → verdict_of s n ≡ verdict_of (unconditional s) n }
+{}
+
+/// In the bounds of coordinates and of formulas no exponent passes the limit, so that every rule can be applied.
+pub fn bounds_are_within_limits()
+    ensures states { (v : View) (l : Leaf) (a b : ℤ) → IsLeaf l → Fits v a b
+        → IsBoundWithin leaf_exponent (state_bound v l a b) }
+    ensures formulas { (v : View) (x : Term) (a b : ℤ) → IsFormula x → Fits v a b
+        → IsBoundWithin part_exponent (bound_over v x a b) }
 {}

@@ -8,9 +8,11 @@
 
 mod positions;
 mod scaled;
+mod slopes;
 mod spans;
 mod velocities;
 
 pub use positions::position_step;
 pub use scaled::{position_step_over_row, velocity_over_row, velocity_step_over_row};
+pub use slopes::{fill_slopes, fill_slopes_and_changes};
 pub use velocities::{velocity, velocity_step};

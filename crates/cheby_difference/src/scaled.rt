@@ -2,7 +2,8 @@
 ghost use Rattle.std.specs.Prelude.{◌≡◌, ◌<◌, ◌≤◌, ◌^◌, length, pos, unsigned_abs, ◌*ℤ◌};
 ghost use Rattle.spec_numbers.specs.Numbers.{floor_div, ceil_div};
 ghost use Rattle.spec_chebyshev.specs.Rows.{u_row, q_row, r_row, IsArguments};
-ghost use Rattle.spec_motions.specs.RowSizes.{IsRow, IsShorterRow};
+ghost use Rattle.spec_motions.specs.RowSizes.{IsRow};
+ghost use Rattle.cheby_difference.specs.Slopes.{AreSlopes};
 ghost use Rattle.spec_motions.specs.Enclosures.{position_step_over, velocity_over, velocity_step_over};
 
 use cheby_enclose::{AxisCoefficients, WideEnds, row_sum, slope_sum};
@@ -38,31 +39,37 @@ pub fn position_step_over_row(
 }
 
 /// The interval of the velocity along one axis, in km per second: the derivative of JPL's sum, by `T_k' = k U_(k-1)`, as
-/// the sum of k C_k U_(k-1) times `2 / seconds`.
+/// the sum of k C_k U_(k-1) times `2 / seconds`. The row is that of slopes, of `fill_slopes`.
 #[inline(always)]
-pub fn velocity_over_row(terms: &AxisCoefficients, x: Ival62, u: &Row, divider: &Divider) -> Ival
+pub fn velocity_over_row(
+    terms: &AxisCoefficients,
+    x: Ival62,
+    slopes: &Row,
+    divider: &Divider,
+) -> Ival
     requires arguments { IsArguments x }
-    requires u { IsShorterRow (length terms.now) u.now (u_row x) }
+    requires slopes { AreSlopes (length terms.now) slopes.now (u_row x) }
     ensures { result ≡ velocity_over terms.now x divider.now }
 {
-    let sum = slope_sum(terms, u);
+    let sum = slope_sum(terms, slopes);
     Ival::scale_by(sum.lo, sum.hi, VELOCITY_EXPONENT, divider)
 }
 
 /// The interval of the changes of the velocity along one axis from each time to the next, in km per second: the sum of
-/// k C_k R_(k-1), with the divided differences R of U, times `2 / seconds` twice and normalized once.
+/// k C_k R_(k-1), with the divided differences R of U, times `2 / seconds` twice and normalized once. The row is that of
+/// the changes of slopes, of `fill_slopes_and_changes`.
 #[inline(always)]
 pub fn velocity_step_over_row(
     terms: &AxisCoefficients,
     x: Ival62,
-    r: &Row,
+    changes: &Row,
     divider: &Divider,
 ) -> Ival
     requires arguments { IsArguments x }
-    requires r { IsShorterRow (length terms.now) r.now (r_row x) }
+    requires changes { AreSlopes (length terms.now) changes.now (r_row x) }
     ensures { result ≡ velocity_step_over terms.now x divider.now }
 {
-    let sum = once_scaled(slope_sum(terms, r), divider);
+    let sum = once_scaled(slope_sum(terms, changes), divider);
     Ival::scale_by(sum.lo, sum.hi, VELOCITY_STEP_EXPONENT, divider)
 }
 

@@ -7,9 +7,9 @@ ghost use Rattle.cheby_enclose.specs.Spans.{IsSpanWithin};
 ghost use Rattle.spec_ephemeris.specs.Granules.{series_of};
 
 use crate::scaled::{velocity_over_row, velocity_step_over_row};
+use crate::slopes::{fill_slopes, fill_slopes_and_changes};
 use crate::spans::span_parts;
 use cheby_enclose::empty_row;
-use cheby_laws::{fill_u, fill_ur};
 use eph_model::Granule;
 use ival_core::Ival;
 
@@ -21,9 +21,9 @@ pub fn velocity(g: &Granule, axis: usize, a: i64, b: i64) -> Ival
     ensures holds { HoldsEach (velocity (series_of g.now axis)) a b result }
 {
     let (terms, x, divider) = span_parts(g, axis, a, b);
-    let mut u = empty_row();
-    fill_u(x, g.n, &mut u);
-    velocity_over_row(&terms, x, &u, &divider)
+    let mut slopes = empty_row();
+    fill_slopes(x, g.n, &mut slopes);
+    velocity_over_row(&terms, x, &slopes, &divider)
 }
 
 /// The interval of the changes of the velocity of one axis of a granule, in km per second, from each time to the next,
@@ -36,10 +36,10 @@ pub fn velocity_step(g: &Granule, axis: usize, a: i64, b: i64) -> Ival
 {
     if a < b {
         let (terms, x, divider) = span_parts(g, axis, a, b);
-        let mut u = empty_row();
-        let mut r = empty_row();
-        fill_ur(x, g.n, &mut u, &mut r);
-        velocity_step_over_row(&terms, x, &r, &divider)
+        let mut slopes = empty_row();
+        let mut changes = empty_row();
+        fill_slopes_and_changes(x, g.n, &mut slopes, &mut changes);
+        velocity_step_over_row(&terms, x, &changes, &divider)
     } else {
         Ival::zero()
     }

@@ -1,2 +1,4 @@
 pub mod TermLists
 pub mod SpanSeries
+mod OneSign
+pub mod ProductSums

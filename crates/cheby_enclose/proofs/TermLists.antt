@@ -1,10 +1,12 @@
 -- The intervals of pairs and of coefficients, one after the other.
-use Rattle.std.proofs.Common.{◌≡◌, ℕ, ◌+◌, ◌-◌, ◌^◌, ◌<◌, ◌≤◌, arith, refl, ap, ◌∙◌, subst, List, [], ◌∷◌, length, map, take, drop, get_or, All, ℤ, pos, negsuc, ◌+ℤ◌, ◌*ℤ◌}
+use Rattle.std.proofs.Common.{◌≡◌, ℕ, ◌+◌, ◌^◌, ◌<◌, ◌≤◌, arith, refl, ap, ◌∙◌, subst, List, [], ◌∷◌, length, map, take, drop, get_or, All, ℤ, pos, negsuc, ◌+ℤ◌, ◌*ℤ◌, ◌≤ℤ◌, ◌<ℤ◌, neg_ℤ}
+use Rattle.std.proofs.lemmas.Int.{ints}
 use Rattle.std.proofs.lemmas.List.{length-map, length-take, take-map, drop-map, get_or-map}
 use Rattle.std.proofs.lemmas.List.Elements.{All-nil, All-cons, All-head, All-tail, All-take, All-drop}
 use Rattle.spec_text.specs.declared.decimals.Decimal.{Decimal}
-use Rattle.spec_numbers.proofs.Order.{lin}
-use Rattle.spec_numbers.proofs.Floor.{ordered_quotients}
+use Rattle.spec_numbers.specs.Numbers.{floor_div, ceil_div}
+use Rattle.spec_numbers.proofs.Order.{lin, le-mul, lt-mul_cancel}
+use Rattle.spec_numbers.proofs.Floor.{ordered_quotients, floor_div-lt, ceil_div-lt}
 use Rattle.spec_intervals.specs.Interval.{IsDistance, from_decimal, decimal_top, decimal_bottom, least4, greatest4}
 use Rattle.spec_intervals.proofs.Decimals.{bottom_pos}
 use Rattle.spec_chebyshev.specs.declared.ends.Ival62.{Ival62}
@@ -14,8 +16,8 @@ use Rattle.spec_ephemeris.specs.declared.granule.Rounded.{Rounded}
 use Rattle.spec_ephemeris.specs.Ephemeris.{IsBodyNumber}
 use Rattle.spec_ephemeris.specs.Rounding.{pair_of}
 use Rattle.spec_ephemeris.proofs.Rounding.{low_size, high_size}
-use Rattle.spec_motions.specs.Sums.{coefficient, multiples, sum_low, sum_high}
-use Rattle.spec_motions.proofs.RowSums.{low_more, high_more, low_multiple, high_multiple}
+use Rattle.spec_motions.specs.Sums.{coefficient, sum_low, sum_high}
+use Rattle.spec_motions.proofs.RowSums.{low_more, high_more}
 use Rattle.cheby_enclose.specs.Pairs.{term_of, IsPair, ArePairs}
 
 -- ---- the pair of a coefficient is its interval
@@ -31,12 +33,22 @@ terms_of_axis cs ps from n is =
     ∙ ap (map term_of) (take-map pair_of n (drop from cs))
     ∙ terms_are (take n (drop from cs))
 
--- ---- and each pair is in order and small
+-- ---- and each pair is small, in order and of one sign
+quotients_of_one_sign : (z : ℤ) (d : ℕ) → 0 < d → floor_div z d <ℤ pos 0 → ceil_div z d ≤ℤ pos 0
+quotients_of_one_sign z d positive below =
+    let f = floor_div-lt z d positive in
+    let c = ceil_div-lt z d positive in
+    let g : (floor_div z d *ℤ pos d) ≤ℤ (neg_ℤ (pos 1) *ℤ pos d) = le-mul (floor_div z d) (neg_ℤ (pos 1)) (pos d) (omega (arith, lin)) (omega (arith, lin)) in
+    let e : (ceil_div z d *ℤ pos d) <ℤ (pos 1 *ℤ pos d) = omega (arith, ints) in
+    let r = lt-mul_cancel (ceil_div z d) (pos 1) d e in
+    omega (arith, lin)
+
 pub IsPair-of : (c : Decimal) → IsDistance c.mant c.exp → IsPair (pair_of c)
 unfolding from_decimal
 IsPair-of c h = record {
   small = record { lo = size_within (pair_of c).lo (2 ^ 60) (low_size c h); hi = size_within (pair_of c).hi (2 ^ 60) (high_size c h) };
   ordered = ordered_quotients (decimal_top c.mant c.exp (negsuc 23)) (decimal_top c.mant c.exp (negsuc 23)) (decimal_bottom c.exp (negsuc 23)) (bottom_pos c.exp (negsuc 23)) (omega (arith, lin));
+  one_sign = quotients_of_one_sign (decimal_top c.mant c.exp (negsuc 23)) (decimal_bottom c.exp (negsuc 23)) (bottom_pos c.exp (negsuc 23));
 }
 
 all_pairs : (cs : List Decimal) → All IsBodyNumber cs → All IsPair (map pair_of cs)
@@ -71,11 +83,3 @@ module _ (row : ℕ → Ival62) (ps : List Rounded) (k : ℕ) (sum whole : ℤ) 
 
   pub pair_high : sum +ℤ sum_high row k (drop k cs) ≡ whole → (sum +ℤ greatest4 pair.lo pair.hi (row k).lo (row k).hi) +ℤ sum_high row (k + 1) (drop (k + 1) cs) ≡ whole
   pair_high h = subst (λ (c : Ival62). (sum +ℤ greatest4 c.lo c.hi (row k).lo (row k).hi) +ℤ sum_high row (k + 1) (drop (k + 1) cs) ≡ whole) (term_at ps k below) (high_more row cs k sum whole (below_terms ps k below) h)
-
-  pub pair_low_multiple : 1 ≤ k → sum +ℤ sum_low (multiples row) k (drop k cs) ≡ whole
-      → (sum +ℤ (pos k *ℤ least4 pair.lo pair.hi (row (k - 1)).lo (row (k - 1)).hi)) +ℤ sum_low (multiples row) (k + 1) (drop (k + 1) cs) ≡ whole
-  pair_low_multiple one h = subst (λ (c : Ival62). (sum +ℤ (pos k *ℤ least4 c.lo c.hi (row (k - 1)).lo (row (k - 1)).hi)) +ℤ sum_low (multiples row) (k + 1) (drop (k + 1) cs) ≡ whole) (term_at ps k below) (low_multiple row cs sum whole k one (below_terms ps k below) h)
-
-  pub pair_high_multiple : 1 ≤ k → sum +ℤ sum_high (multiples row) k (drop k cs) ≡ whole
-      → (sum +ℤ (pos k *ℤ greatest4 pair.lo pair.hi (row (k - 1)).lo (row (k - 1)).hi)) +ℤ sum_high (multiples row) (k + 1) (drop (k + 1) cs) ≡ whole
-  pair_high_multiple one h = subst (λ (c : Ival62). (sum +ℤ (pos k *ℤ greatest4 c.lo c.hi (row (k - 1)).lo (row (k - 1)).hi)) +ℤ sum_high (multiples row) (k + 1) (drop (k + 1) cs) ≡ whole) (term_at ps k below) (high_multiple row cs sum whole k one (below_terms ps k below) h)

@@ -1,3 +1,4 @@
 pub mod EmptyRow
 pub mod Pairs
+pub mod ProductSizes
 pub mod Spans

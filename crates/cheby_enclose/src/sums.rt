@@ -1,15 +1,16 @@
 // Sums of the intervals of coefficients times the entries of a row.
-ghost use Rattle.std.specs.Prelude.{◌≡◌, ℕ, ◌≤◌, ◌<◌, ◌^◌, length, map, drop, pos, unsigned_abs, ◌+ℤ◌, ◌*ℤ◌, ◌≤ℤ◌};
+ghost use Rattle.std.specs.Prelude.{◌≡◌, ◌≤◌, ◌<◌, ◌-◌, ◌^◌, length, map, drop, unsigned_abs, ◌+ℤ◌, ◌*ℤ◌, ◌≤ℤ◌};
+ghost use Rattle.std.specs.Int.{int_min, int_max};
 ghost use Rattle.spec_intervals.specs.Interval.{least4, greatest4};
-ghost use Rattle.spec_chebyshev.specs.Rows.{entry, EndsWithin};
-ghost use Rattle.spec_motions.specs.Sums.{multiples, sum_low, sum_high};
-ghost use Rattle.spec_motions.specs.RowSizes.{IsSmallRow, IsSlopeRow};
+ghost use Rattle.spec_chebyshev.specs.Rows.{entry};
+ghost use Rattle.spec_motions.specs.Sums.{sum_low, sum_high};
+ghost use Rattle.spec_motions.specs.RowSizes.{entry_size, IsSmallRow};
+ghost use Rattle.cheby_enclose.specs.ProductSizes.{product_sizes, IsSummable};
 ghost use Rattle.cheby_enclose.specs.Pairs.{term_of, IsPair, ArePairs, IsOrderedRow, IsOrderedShorterRow};
 
 use crate::terms::AxisCoefficients;
 use cheby_laws::Row;
 use eph_model::Rounded;
-use ival_core::product_ends;
 use spec_chebyshev::Ival62;
 
 /// The ends of an interval in 128 bits, before it is normalized.
@@ -33,28 +34,38 @@ pub fn row_sum(terms: &AxisCoefficients, row: &Row) -> WideEnds
     sum_of_products(terms.pairs, row)
 }
 
-/// The sum of k C_k X_(k-1), C_1 X_0 + 2 C_2 X_1 + .., in units of 2^-24 times the row's.
+/// The sum of the products of the terms but the first with the entries of a row, C_1 X_0 + C_2 X_1 + .., in units of 2^-24
+/// times the row's.
 #[inline(always)]
 pub fn slope_sum(terms: &AxisCoefficients, row: &Row) -> WideEnds
-    requires small { length terms.now ≤ 32 → IsSlopeRow row.now (length terms.now) }
+    requires small { length terms.now ≤ 32
+        → IsSummable (2 ^ 125 - 1) row.now (length terms.now - 1) }
     requires order { IsOrderedShorterRow row.now (length terms.now) }
-    ensures lo { result.lo ≡ sum_low (multiples (entry row.now)) 1 (drop 1 terms.now) }
-    ensures hi { result.hi ≡ sum_high (multiples (entry row.now)) 1 (drop 1 terms.now) }
+    ensures lo { result.lo ≡ sum_low (entry row.now) 0 (drop 1 terms.now) }
+    ensures hi { result.hi ≡ sum_high (entry row.now) 0 (drop 1 terms.now) }
     ensures lo_size { unsigned_abs result.lo < 2 ^ 125 }
     ensures hi_size { unsigned_abs result.hi < 2 ^ 125 }
 {
-    sum_of_multiples(terms.pairs, row)
+    sum_of_products(after_first(terms.pairs), row)
+}
+
+// All pairs but the first.
+#[inline(always)]
+fn after_first(pairs: &[Rounded]) -> &[Rounded]
+    ensures { result.now ≡ drop 1 pairs.now }
+{
+    &pairs[pairs.len().min(1)..]
 }
 
 #[inline(always)]
 fn sum_of_products(pairs: &[Rounded], row: &Row) -> WideEnds
     requires pairs { ArePairs pairs.now }
-    requires row { IsSmallRow row.now (length pairs.now) }
+    requires row { IsSummable (2 ^ 125) row.now (length pairs.now) }
     requires order { IsOrderedRow row.now (length pairs.now) }
     ensures lo { result.lo ≡ sum_low (entry row.now) 0 (map term_of pairs.now) }
     ensures hi { result.hi ≡ sum_high (entry row.now) 0 (map term_of pairs.now) }
-    ensures lo_size { unsigned_abs result.lo ≤ 2 ^ 125 }
-    ensures hi_size { unsigned_abs result.hi ≤ 2 ^ 125 }
+    ensures lo_size { unsigned_abs result.lo ≤ product_sizes (entry_size row.now) (length pairs.now) }
+    ensures hi_size { unsigned_abs result.hi ≤ product_sizes (entry_size row.now) (length pairs.now) }
 {
     let mut sum = WideEnds { lo: 0, hi: 0 };
     for k in 0..pairs.len() {
@@ -63,52 +74,58 @@ fn sum_of_products(pairs: &[Rounded], row: &Row) -> WideEnds
     sum
 }
 
-#[inline(always)]
-fn sum_of_multiples(pairs: &[Rounded], row: &Row) -> WideEnds
-    requires pairs { ArePairs pairs.now }
-    requires row { IsSlopeRow row.now (length pairs.now) }
-    requires order { IsOrderedShorterRow row.now (length pairs.now) }
-    ensures lo { let cs = drop 1 (map term_of pairs.now) in
-        result.lo ≡ sum_low (multiples (entry row.now)) 1 cs }
-    ensures hi { let cs = drop 1 (map term_of pairs.now) in
-        result.hi ≡ sum_high (multiples (entry row.now)) 1 cs }
-    ensures lo_size { unsigned_abs result.lo < 2 ^ 125 }
-    ensures hi_size { unsigned_abs result.hi < 2 ^ 125 }
-{
-    let mut sum = WideEnds { lo: 0, hi: 0 };
-    for k in 1..pairs.len() {
-        sum = added(sum, multiple(k, product(pairs[k], row[k - 1])));
-    }
-    sum
-}
-
 // The least and the greatest product of two ends. A pair has one sign, since its ends are the floor and the ceiling of one
-// number, so that two multiplications are made.
+// number, so that two multiplications are made. Ends are chosen and then multiplied, so that no branch hangs on a sign.
 #[inline(always)]
 fn product(c: Rounded, e: Ival62) -> WideEnds
     requires pair { IsPair c }
-    requires entry { EndsWithin (2 ^ 60) e }
+    requires lo_fits { unsigned_abs e.lo < 2 ^ 63 }
+    requires hi_fits { unsigned_abs e.hi < 2 ^ 63 }
     requires ordered { e.lo ≤ℤ e.hi }
     ensures lo { result.lo ≡ least4 c.lo c.hi e.lo e.hi }
     ensures hi { result.hi ≡ greatest4 c.lo c.hi e.lo e.hi }
 {
-    let (lo, hi) = product_ends(c.lo, c.hi, e.lo, e.hi);
-    WideEnds { lo, hi }
+    let (x, y) = ends_by_pair(c, e);
+    let lesser = ends_by_number(c, x).0;
+    let greater = ends_by_number(c, y).1;
+    WideEnds {
+        lo: times(lesser, x),
+        hi: times(greater, y),
+    }
 }
 
-// k times both ends.
+// The end of an entry that the least product with a pair is made of, and the one of the greatest.
 #[inline(always)]
-fn multiple(k: usize, ends: WideEnds) -> WideEnds
-    requires few { k < 32 }
-    requires lo_size { unsigned_abs ends.lo ≤ 2 ^ 120 }
-    requires hi_size { unsigned_abs ends.hi ≤ 2 ^ 120 }
-    ensures lo { result.lo ≡ pos k *ℤ ends.lo }
-    ensures hi { result.hi ≡ pos k *ℤ ends.hi }
+fn ends_by_pair(c: Rounded, e: Ival62) -> (i64, i64)
+    requires pair { IsPair c }
+    requires lo_fits { unsigned_abs e.lo < 2 ^ 63 }
+    requires hi_fits { unsigned_abs e.hi < 2 ^ 63 }
+    requires ordered { e.lo ≤ℤ e.hi }
+    ensures least { int_min (c.lo *ℤ result.0) (c.hi *ℤ result.0) ≡ least4 c.lo c.hi e.lo e.hi }
+    ensures greatest { int_max (c.lo *ℤ result.1) (c.hi *ℤ result.1) ≡ greatest4 c.lo c.hi e.lo e.hi }
 {
-    WideEnds {
-        lo: k as i128 * ends.lo,
-        hi: k as i128 * ends.hi,
-    }
+    if c.lo < 0 { (e.hi, e.lo) } else { (e.lo, e.hi) }
+}
+
+// The end of a pair whose product with a number is the lesser, and the one whose product is the greater.
+#[inline(always)]
+fn ends_by_number(c: Rounded, z: i64) -> (i64, i64)
+    requires pair { IsPair c }
+    ensures lesser { result.0 *ℤ z ≡ int_min (c.lo *ℤ z) (c.hi *ℤ z) }
+    ensures greater { result.1 *ℤ z ≡ int_max (c.lo *ℤ z) (c.hi *ℤ z) }
+    ensures small_lesser { unsigned_abs result.0 ≤ 2 ^ 60 }
+    ensures small_greater { unsigned_abs result.1 ≤ 2 ^ 60 }
+{
+    if z < 0 { (c.hi, c.lo) } else { (c.lo, c.hi) }
+}
+
+// The product of an end of a pair and one of an entry, by one multiplication of 64-bit numbers.
+#[inline(always)]
+fn times(c: i64, e: i64) -> i128
+    requires { unsigned_abs c ≤ 2 ^ 60 }
+    ensures { result ≡ c *ℤ e }
+{
+    c as i128 * e as i128
 }
 
 // The sums of the low ends and of the high ends.

@@ -30,9 +30,6 @@ module _ (low high : ℤ → ℤ → ℤ) (x y : Interval) (at : Aligned) (k : I
 pub min_to_max : (a b c d : ℤ) → a ≤ℤ c → int_min a b ≤ℤ int_max c d
 min_to_max a b c d h = grind (arith, ints)
 
-pub sums_ordered : (a b c d : ℤ) → a ≤ℤ b → c ≤ℤ d → (a +ℤ c) ≤ℤ (b +ℤ d)
-sums_ordered a b c d p q = omega (arith, ints)
-
 pub scale-is : (lo hi s : ℤ) (n : ℕ) (a b : ℤ) → a ≡ floor_div (pos 2 *ℤ lo) n → b ≡ ceil_div (pos 2 *ℤ hi) n → narrow a b s ≡ scale lo hi s n
 unfolding scale
 scale-is lo hi s n a b p q = rw (p, q) refl

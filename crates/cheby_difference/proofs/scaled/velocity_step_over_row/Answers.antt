@@ -5,32 +5,32 @@ use mir.Val.{SFits}
 use Rattle.spec_intervals.specs.Interval.{scale}
 use Rattle.spec_numbers.specs.Numbers.{floor_div, ceil_div}
 use Rattle.spec_numbers.proofs.Floor.{ordered_quotients}
-use Rattle.spec_chebyshev.specs.Rows.{entry, r_row}
+use Rattle.spec_chebyshev.specs.Rows.{r_row}
 use Rattle.spec_motions.specs.Sums.{slope_difference_row, sum_low, sum_high}
 use Rattle.spec_motions.specs.Enclosures.{velocity_step_over}
 use Rattle.spec_chebyshev.proofs.RowEnds.{r_ordered}
-use Rattle.spec_motions.proofs.RowSums.{sums_ordered, low_slopes_same, high_slopes_same}
-use Rattle.cheby_difference.proofs.SlopeRows.{IsSlopeRow-r}
+use Rattle.spec_motions.proofs.RowSums.{sums_ordered}
+use Rattle.cheby_difference.proofs.SlopeRows.{IsSummable-changes, IsOrdered-slopes, low_slopes, high_slopes}
 use Rattle.spec_numbers.proofs.Integers.{doubles_ordered}
 use Rattle.cheby_difference.proofs.scaled.velocity_step_over_row.Goals as goal
 use Rattle.cheby_difference.proofs.scaled.velocity_step_over_row.Goals.{After-once_scaled-sum}
 
 pub slope_sum-requires-clause-small : goal.slope_sum-requires-clause-small
-slope_sum-requires-clause-small c few = IsSlopeRow-r c.args.x c.requires.arguments c.args.r.now (length c.args.terms.now) few c.requires.r
+slope_sum-requires-clause-small c few = IsSummable-changes c.args.x c.requires.arguments c.args.changes.now (length c.args.terms.now) few c.requires.changes
 
 pub slope_sum-requires-clause-order : goal.slope_sum-requires-clause-order
-slope_sum-requires-clause-order c k h = rw (c.requires.r k h) (r_ordered c.args.x c.requires.arguments k)
+slope_sum-requires-clause-order c = IsOrdered-slopes c.args.changes.now (length c.args.terms.now) (r_row c.args.x) c.requires.changes (r_ordered c.args.x c.requires.arguments)
 
 low_is : (c : After-once_scaled-sum) → to_z w128 (of_z w128 c.once_scaled-sum.result.lo) ≡ floor_div (pos 2 *ℤ sum_low (slope_difference_row c.args.x) 1 (drop 1 c.args.terms.now)) c.args.divider.now
 low_is c =
     let f : SFits w128 c.once_scaled-sum.result.lo = search rules in
-    let s = c.slope_sum.ensures.lo ∙ low_slopes_same (entry c.args.r.now) (r_row c.args.x) c.args.terms.now c.requires.r in
+    let s = c.slope_sum.ensures.lo ∙ low_slopes c.args.changes.now (r_row c.args.x) c.args.terms.now c.requires.changes in
     to_z-of_z w128 c.once_scaled-sum.result.lo f ∙ (c.once_scaled-sum.ensures.lo ∙ ap (λ (z : ℤ). floor_div (pos 2 *ℤ z) c.args.divider.now) s)
 
 high_is : (c : After-once_scaled-sum) → to_z w128 (of_z w128 c.once_scaled-sum.result.hi) ≡ ceil_div (pos 2 *ℤ sum_high (slope_difference_row c.args.x) 1 (drop 1 c.args.terms.now)) c.args.divider.now
 high_is c =
     let f : SFits w128 c.once_scaled-sum.result.hi = search rules in
-    let s = c.slope_sum.ensures.hi ∙ high_slopes_same (entry c.args.r.now) (r_row c.args.x) c.args.terms.now c.requires.r in
+    let s = c.slope_sum.ensures.hi ∙ high_slopes c.args.changes.now (r_row c.args.x) c.args.terms.now c.requires.changes in
     to_z-of_z w128 c.once_scaled-sum.result.hi f ∙ (c.once_scaled-sum.ensures.hi ∙ ap (λ (z : ℤ). ceil_div (pos 2 *ℤ z) c.args.divider.now) s)
 
 pub scale_by-requires-clause-ordered : goal.scale_by-requires-clause-ordered

@@ -1,39 +1,76 @@
-use Rattle.std.proofs.Common.{◌≤◌, ◌*◌, ◌^◌, arith, get_or, unsigned_abs}
-use Rattle.spec_intervals.specs.Interval.{least4, greatest4}
-use Rattle.spec_chebyshev.specs.Rows.{entry, EndsWithin}
+use Rattle.std.proofs.Common.{◌≡◌, ℕ, ◌≤◌, ◌*◌, ◌^◌, ◌+◌, sym, subst, ℤ, arith, length, get_or, unsigned_abs}
+use Rattle.spec_chebyshev.specs.declared.ends.Ival62.{Ival62}
+use Rattle.spec_chebyshev.specs.Rows.{entry}
 use Rattle.spec_numbers.proofs.Sizes.{sum_size}
+use Rattle.spec_motions.specs.RowSizes.{entry_size}
 use Rattle.spec_motions.proofs.EndSizes.{least_size, greatest_size}
+use Rattle.spec_motions.proofs.RowSums.{EndsWithin-size}
 use Rattle.cheby_enclose.specs.Pairs.{term_of}
+use Rattle.cheby_enclose.specs.ProductSizes.{product_sizes}
 use Rattle.cheby_enclose.proofs.TermLists.{none, pair_low, pair_high}
+use Rattle.cheby_enclose.proofs.ProductSums.{sizes_more, product_sizes-grow}
 use Rattle.cheby_enclose.proofs.sums.sum_of_products.Goals as goal
+use Rattle.cheby_enclose.proofs.sums.sum_of_products.Goals.{After-product}
+
+module _ (c : After-product) where
+  abbrev k : ℕ
+  k = c.loop-k.k
+
+  abbrev here : Ival62
+  here = term_of (get_or c.args.pairs.now k none)
+
+  abbrev there : Ival62
+  there = entry c.args.row.now k
+
+  abbrev size : ℕ
+  size = entry_size c.args.row.now k
+
+  low_size : unsigned_abs c.product.result.lo ≤ 2 ^ 60 * size
+  low_size = subst (λ (z : ℤ). unsigned_abs z ≤ 2 ^ 60 * size) (sym c.product.ensures.lo) (least_size here there (2 ^ 60) size ((c.requires.pairs.pairs k none c.loop-k-test.true).small) (EndsWithin-size c.args.row.now k))
+
+  high_size : unsigned_abs c.product.result.hi ≤ 2 ^ 60 * size
+  high_size = subst (λ (z : ℤ). unsigned_abs z ≤ 2 ^ 60 * size) (sym c.product.ensures.hi) (greatest_size here there (2 ^ 60) size ((c.requires.pairs.pairs k none c.loop-k-test.true).small) (EndsWithin-size c.args.row.now k))
+
+  more : product_sizes (entry_size c.args.row.now) (k + 1) ≡ product_sizes (entry_size c.args.row.now) k + 2 ^ 60 * size
+  more = sizes_more (entry_size c.args.row.now) k
+
+  bounded : product_sizes (entry_size c.args.row.now) (k + 1) ≤ 2 ^ 125
+  bounded =
+      let g = product_sizes-grow (entry_size c.args.row.now) (k + 1) (length c.args.pairs.now) (let p = c.loop-k-test.true in omega (arith, p)) in
+      let t = c.requires.row.total in
+      omega (arith, g, t)
+
+  sum_fits : (z : ℤ) → unsigned_abs z ≤ product_sizes (entry_size c.args.row.now) k → unsigned_abs z ≤ 2 ^ 125
+  sum_fits z p = let m = more in let b = bounded in omega (arith, p, m, b)
+
+  product_fits : (z : ℤ) → unsigned_abs z ≤ 2 ^ 60 * size → unsigned_abs z ≤ 2 ^ 125
+  product_fits z p = let m = more in let b = bounded in omega (arith, p, m, b)
+
+pub added-sum-requires-clause-one_lo : goal.added-sum-requires-clause-one_lo
+added-sum-requires-clause-one_lo c = sum_fits (goal.at.added-sum-requires-clause-one_lo c).After-product c.loop-k.sum.lo c.loop-k.invariant.lo_size
+
+pub added-sum-requires-clause-one_hi : goal.added-sum-requires-clause-one_hi
+added-sum-requires-clause-one_hi c = sum_fits (goal.at.added-sum-requires-clause-one_hi c).After-product c.loop-k.sum.hi c.loop-k.invariant.hi_size
+
+pub added-sum-requires-clause-other_lo : goal.added-sum-requires-clause-other_lo
+added-sum-requires-clause-other_lo c = let d = (goal.at.added-sum-requires-clause-other_lo c).After-product in product_fits d c.product.result.lo (low_size d)
+
+pub added-sum-requires-clause-other_hi : goal.added-sum-requires-clause-other_hi
+added-sum-requires-clause-other_hi c = let d = (goal.at.added-sum-requires-clause-other_hi c).After-product in product_fits d c.product.result.hi (high_size d)
 
 pub loop-k-preserved : goal.loop-k-preserved
 loop-k-preserved c =
+    let d = (goal.at.loop-k-preserved c).After-product in
     let inv = c.loop-k.invariant in
-    let k = c.loop-k.k in
-    let here = term_of (get_or c.args.pairs.now k none) in
-    let there = entry c.args.row.now k in
-    let hc : EndsWithin (2 ^ 60) here = (c.requires.pairs.pairs k none c.loop-k-test.true).small in
-    let he : EndsWithin (2 ^ 60) there = c.requires.row k c.loop-k-test.true in
-    let l : unsigned_abs (least4 here.lo here.hi there.lo there.hi) ≤ 2 ^ 60 * 2 ^ 60 = least_size here there (2 ^ 60) (2 ^ 60) hc he in
-    let h : unsigned_abs (greatest4 here.lo here.hi there.lo there.hi) ≤ 2 ^ 60 * 2 ^ 60 = greatest_size here there (2 ^ 60) (2 ^ 60) hc he in
-    let sl = sum_size c.loop-k.sum.lo (least4 here.lo here.hi there.lo there.hi) (k * 2 ^ 120) (2 ^ 60 * 2 ^ 60) inv.lo_size l in
-    let sh = sum_size c.loop-k.sum.hi (greatest4 here.lo here.hi there.lo there.hi) (k * 2 ^ 120) (2 ^ 60 * 2 ^ 60) inv.hi_size h in
+    let row = entry c.args.row.now in
+    let pairs = c.args.pairs.now in
+    let m = more d in
+    let sl = sum_size c.loop-k.sum.lo c.product.result.lo _ _ inv.lo_size (low_size d) in
+    let sh = sum_size c.loop-k.sum.hi c.product.result.hi _ _ inv.hi_size (high_size d) in
     record {
-      lo = rw (c.added-sum.ensures.lo, c.product.ensures.lo) (pair_low (entry c.args.row.now) c.args.pairs.now k c.loop-k.sum.lo _ c.loop-k-test.true inv.lo);
-      hi = rw (c.added-sum.ensures.hi, c.product.ensures.hi) (pair_high (entry c.args.row.now) c.args.pairs.now k c.loop-k.sum.hi _ c.loop-k-test.true inv.hi);
-      lo_size = rw (c.added-sum.ensures.lo, c.product.ensures.lo) (omega (arith, sl));
-      hi_size = rw (c.added-sum.ensures.hi, c.product.ensures.hi) (omega (arith, sh));
+      lo = rw (c.added-sum.ensures.lo, c.product.ensures.lo) (pair_low row pairs c.loop-k.k c.loop-k.sum.lo _ c.loop-k-test.true inv.lo);
+      hi = rw (c.added-sum.ensures.hi, c.product.ensures.hi) (pair_high row pairs c.loop-k.k c.loop-k.sum.hi _ c.loop-k-test.true inv.hi);
+      lo_size = rw c.added-sum.ensures.lo (omega (arith, sl, m));
+      hi_size = rw c.added-sum.ensures.hi (omega (arith, sh, m));
+      within = let p = c.loop-k-test.true in omega (arith, p);
     }
-
-pub added-sum-requires-clause-other_lo : goal.added-sum-requires-clause-other_lo
-added-sum-requires-clause-other_lo c =
-    let k = c.loop-k.k in
-    let l = least_size (term_of (get_or c.args.pairs.now k none)) (entry c.args.row.now k) (2 ^ 60) (2 ^ 60) ((c.requires.pairs.pairs k none c.loop-k-test.true).small) (c.requires.row k c.loop-k-test.true) in
-    rw c.product.ensures.lo (omega (arith, l))
-
-pub added-sum-requires-clause-other_hi : goal.added-sum-requires-clause-other_hi
-added-sum-requires-clause-other_hi c =
-    let k = c.loop-k.k in
-    let h = greatest_size (term_of (get_or c.args.pairs.now k none)) (entry c.args.row.now k) (2 ^ 60) (2 ^ 60) ((c.requires.pairs.pairs k none c.loop-k-test.true).small) (c.requires.row k c.loop-k-test.true) in
-    rw c.product.ensures.hi (omega (arith, h))

@@ -5,8 +5,8 @@ use mir.Syntax.{w128}
 use mir.Val.{SFits}
 use Rattle.spec_intervals.specs.Interval.{Interval, narrow}
 use Rattle.spec_inclusions.specs.Bounds.{at_exponent, raised_sum}
-use Rattle.ival_core.proofs.Aligning.{sums_ordered}
-use Rattle.ival_core.proofs.Passing.{kept, made_of, order_kept}
+use Rattle.spec_inclusions.proofs.Sums.{sums_ordered}
+use Rattle.ival_core.proofs.Passing.{made_of}
 use Rattle.ival_core.proofs.ival.raised_sum.Goals as goal
 use Rattle.ival_core.proofs.ival.raised_sum.Goals.{After-added-2}
 

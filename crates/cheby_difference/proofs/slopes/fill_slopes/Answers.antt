@@ -1,0 +1,9 @@
+use Rattle.std.proofs.Common.{arith}
+use Rattle.cheby_difference.proofs.SlopeRows.{u_multiple_fits}
+use Rattle.cheby_difference.proofs.slopes.fill_slopes.Goals as goal
+
+pub multiply_by_degrees-requires-clause-fits : goal.multiply_by_degrees-requires-clause-fits
+multiply_by_degrees-requires-clause-fits c k h =
+    let few = c.requires.n_in in
+    let entries = c.saturating_sub-entries.ensures in
+    u_multiple_fits c.args.x c.requires.x_in c.fill_u.new.u k (omega (arith, h, few, entries)) (c.fill_u.ensures.row k h)

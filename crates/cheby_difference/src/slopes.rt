@@ -1,0 +1,63 @@
+// Rows of the derivatives of the polynomials, and of the divided differences of these.
+ghost use Rattle.std.specs.Prelude.{◌≡◌, ℕ, suc, ◌<◌, ◌≤◌, ◌*◌, ◌^◌, pos, ◌*ℤ◌, unsigned_abs};
+ghost use Rattle.spec_chebyshev.specs.Rows.{u_row, r_row, entry, IsArguments};
+ghost use Rattle.spec_motions.specs.RowSizes.{entry_size};
+ghost use Rattle.spec_motions.specs.Sums.{times};
+ghost use Rattle.cheby_difference.specs.Slopes.{AreSlopes};
+
+use cheby_laws::{Row, fill_u, fill_ur};
+use spec_chebyshev::Ival62;
+
+/// Writes what sums over `n` terms take of the row of slopes, `n - 1` entries. By `T_k' = k U_(k-1)` entry `k` is that of
+/// degree `k + 1`, `(k + 1) U_k`, in units of 2^-50.
+#[inline(always)]
+pub fn fill_slopes(x: Ival62, n: usize, slopes: &mut Row)
+    requires n_in { n ≤ 32 }
+    requires x_in { IsArguments x }
+    ensures { AreSlopes n slopes.new (u_row x) }
+{
+    let entries = n.saturating_sub(1);
+    fill_u(x, entries, slopes);
+    multiply_by_degrees(entries, slopes);
+}
+
+/// Writes both that row and the row of the divided differences of slopes, whose entry `k` is `(k + 1) R_k`, in units of
+/// 2^-44.
+#[inline(always)]
+pub fn fill_slopes_and_changes(x: Ival62, n: usize, slopes: &mut Row, changes: &mut Row)
+    requires n_in { n ≤ 32 }
+    requires x_in { IsArguments x }
+    ensures slopes { AreSlopes n slopes.new (u_row x) }
+    ensures changes { AreSlopes n changes.new (r_row x) }
+{
+    let entries = n.saturating_sub(1);
+    fill_ur(x, entries, slopes, changes);
+    multiply_by_degrees(entries, slopes);
+    multiply_by_degrees(entries, changes);
+}
+
+// Entry 0 once, entry 1 twice, and so on for the first entries of a row, which begins with that of degree 1.
+#[inline(always)]
+fn multiply_by_degrees(entries: usize, row: &mut Row)
+    requires few { entries ≤ 32 }
+    requires fits { (k : ℕ) → k < entries → suc k * entry_size row.old k < 2 ^ 63 }
+    ensures { (k : ℕ) → k < entries → entry row.new k ≡ times (suc k) (entry row.old k) }
+{
+    for k in 0..entries {
+        row[k] = multiple(k + 1, row[k]);
+    }
+}
+
+// The multiple of an entry.
+#[inline(always)]
+fn multiple(degree: usize, e: Ival62) -> Ival62
+    requires few { degree ≤ 32 }
+    requires lo_fits { degree * unsigned_abs e.lo < 2 ^ 63 }
+    requires hi_fits { degree * unsigned_abs e.hi < 2 ^ 63 }
+    ensures { result ≡ times degree e }
+{
+    Ival62 {
+        lo: degree as i64 * e.lo,
+        hi: degree as i64 * e.hi,
+    }
+}

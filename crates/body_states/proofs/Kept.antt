@@ -1,9 +1,9 @@
 -- What is kept of the columns in use is right.
-use Rattle.std.proofs.Common.{◌≡◌, ℕ, zero, suc, ◌+◌, ◌<◌, ◌≤◌, ◌⊎◌, inl, inr, true, false, IfSome, List, Option, Some, length, slice_index_or, slice_set, arith, refl, sym, subst, ℤ}
+use Rattle.std.proofs.Common.{◌≡◌, ℕ, zero, suc, ◌+◌, ◌<◌, ◌≤◌, ◌⊎◌, inl, inr, true, false, IfSome, List, Option, Some, length, slice_index_or, slice_set, arith, refl, sym, subst, ◌∙◌, ℤ}
 use Rattle.std.specs.Prelude.{All, Contains, IsSome}
 use Rattle.std.proofs.lemmas.Bool.{both_ways, cases_lt}
 use Rattle.std.proofs.lemmas.List.{get_or-set_same, get_or-set_other, get_or_default, length-set}
-use Rattle.std.proofs.lemmas.List.Elements.{All-filter, All-contains, All-contains_itself}
+use Rattle.std.proofs.lemmas.List.Elements.{All-filter, All-contains, All-contains_itself, All-set}
 use Rattle.spec_ephemeris.specs.declared.limits.TheConstants.{BODY_COLUMNS}
 use Rattle.spec_bodies.specs.Sources.{body_columns, is_in_use}
 use Rattle.spec_bodies.specs.Reading.{IsUsable}
@@ -16,6 +16,8 @@ use Rattle.event_expr.specs.Leaves.{has_axis}
 use Rattle.body_states.specs.declared.enclosures.AxisEnclosures.{AxisEnclosures}
 use Rattle.body_states.specs.declared.enclosures.ColumnEnclosures.{ColumnEnclosures}
 use Rattle.body_states.specs.declared.enclosures.TargetEnclosures.{TargetEnclosures}
+use Rattle.body_states.specs.declared.bases.RowRoom.{RowRoom}
+use Rattle.body_states.specs.Bases.{AreKept}
 use Rattle.body_states.specs.Enclosures.{AreAlong, AreOfTargets, AreReadOrNot, IsRead, IsUnread, along, with_along, of_target, nothing_known, nothing_known_of_targets, nothing_known_of_column}
 use Rattle.body_states.specs.Answers.{IsKnown}
 
@@ -39,6 +41,10 @@ usable_in_use v is = λ k d within. record {
   of_body = All-filter (is_in_use v.first v.second v.observer) (λ n. n ≤ BODY_COLUMNS) body_columns few k d within;
   in_use = All-contains_itself (columns_of v) k d within;
 }
+
+-- by whatever name they are listed
+pub usable_numbers : (v : View) → IsView v → (numbers : List ℕ) → numbers ≡ columns_of v → All (IsUsable v) numbers
+usable_numbers v is numbers same = subst (All (IsUsable v)) (sym same) (usable_in_use v is)
 
 -- ---- nothing known is right by itself
 pub nothing_along : (f : ℕ → Enclosure) → AreAlong f nothing_known
@@ -145,6 +151,21 @@ read_or_not_with axes numbers n columns c below is read place listed kept = by (
         let same : n ≡ place = omega (arith, from, upto) in
         subst (ReadOrNot axes numbers (slice_set columns n c)) same
         (inr (subst (IsRead axes (slice_index_or numbers n 0)) (sym (get_or-set_same columns n c nothing_known_of_column below)) is))
+
+-- ---- four columns that are written one by one: they are right, and each is read or not, beside the rows that are kept
+abbrev pub AreFilled : View → Quantity → ℤ → ℤ → Axes → List ColumnEnclosures → RowRoom → Type 0
+AreFilled v quantity a b axes columns room =
+    All (IsKnown v quantity a b) columns × (length columns ≡ 4) × AreReadOrNot axes (columns_of v) columns × AreKept a b quantity room
+
+pub one_column_more : (v : View) (quantity : Quantity) (a b : ℤ) (axes : Axes) (columns : List ColumnEnclosures) (room after : RowRoom) (n : ℕ) (c : ColumnEnclosures)
+    → n < length columns → IsKnown v quantity a b c → IsRead axes (slice_index_or (columns_of v) n 0) c → AreKept a b quantity after
+    → AreFilled v quantity a b axes columns room → AreFilled v quantity a b axes (slice_set columns n c) after
+one_column_more v quantity a b axes columns room after n c inside right read kept filled = (
+  All-set (IsKnown v quantity a b) columns _ _ right filled.0,
+  length-set columns _ _ ∙ filled.1,
+  read_or_not_with axes (columns_of v) n columns c inside read filled.2,
+  kept,
+)
 
 -- one that is not unread is read
 pub read_already : (axes : Axes) (numbers : List ℕ) (n : ℕ) (columns : List ColumnEnclosures) → n < length numbers → n < length columns → (d : ColumnEnclosures) → (IsUnread (slice_index_or columns n d) → ⊥)

@@ -1,3 +1,4 @@
+pub mod AlongAxes
 pub mod Masses
 pub mod Good
 pub mod SeriesParts
@@ -6,3 +7,4 @@ pub mod Reading
 pub mod Sums
 pub mod Kept
 pub mod Shared
+pub mod Entries

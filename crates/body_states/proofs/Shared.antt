@@ -13,6 +13,7 @@ use Rattle.body_states.specs.declared.bases.PlainRow.{PlainRow}
 use Rattle.body_states.specs.declared.bases.Rows.{Rows}
 use Rattle.body_states.specs.declared.bases.RowRoom.{RowRoom}
 use Rattle.body_states.specs.Bases.{ArePlain, AreAll, AreOver, AreKept, AreSeveral, IsServed, IsSingle, IsCentre, IsWhole}
+use Rattle.body_states.specs.Ranges.{AreRowsKept}
 
 -- ---- rows of n entries are rows of fewer
 fewer_plain : (quantity : Quantity) (m n : ℕ) (row : PlainRow) → m ≤ n → ArePlain quantity n row → ArePlain quantity m row
@@ -69,6 +70,9 @@ module _ (own : GranuleSpan) (quantity : Quantity) (room : RowRoom) (served : Is
     whole = λ s firsts lasts several is. never_both s firsts lasts is single several;
   }
 
+  pub rows_kept : AreOver own.granule own.times.now.first own.times.now.last room.whole.plain → AreAll quantity room.entries room.whole → AreRowsKept own.times.now.first own.times.now.last quantity room
+  rows_kept whole rows = λ s firsts lasts is. whole_of s firsts lasts is whole rows
+
 -- where no entry is made, no granule is served
 none_served : (s : GranuleSpan) (room : RowRoom) → room.entries ≡ 0 → IsServed s.granule room → ⊥
 none_served s room none is = let some = s.evaluable.some in let few = is.few in omega (arith, some, few, none)
@@ -78,3 +82,6 @@ nothing_kept a b quantity room none = record {
   centre = λ s firsts lasts is. absurd (none_served s room none is);
   whole = λ s firsts lasts several is. absurd (none_served s room none is);
 }
+
+pub no_rows_kept : (a b : ℤ) (quantity : Quantity) (room : RowRoom) → room.entries ≡ 0 → AreRowsKept a b quantity room
+no_rows_kept a b quantity room none = λ s firsts lasts is. absurd (none_served s room none is)

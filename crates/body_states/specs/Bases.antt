@@ -10,22 +10,23 @@ use Rattle.spec_ephemeris.specs.Granules.{series_of}
 use Rattle.spec_motions.specs.Enclosures.{arguments, position_over, position_step_over, velocity_over, velocity_step_over}
 use Rattle.spec_bodies.specs.declared.quantity.Quantity.{Quantity}
 use Rattle.spec_bodies.specs.declared.quantity.Quantity.TheVariants.{Position, Velocity}
-use Rattle.spec_motions.specs.RowSizes.{IsRow, IsShorterRow}
+use Rattle.spec_motions.specs.RowSizes.{IsRow}
+use Rattle.cheby_difference.specs.Slopes.{AreSlopes}
 use Rattle.body_states.specs.declared.bases.PlainRow.{PlainRow}
 use Rattle.body_states.specs.declared.bases.Rows.{Rows}
 use Rattle.body_states.specs.declared.bases.RowRoom.{RowRoom}
 use Rattle.body_states.specs.declared.granule_span.GranuleSpan.{GranuleSpan}
 
--- the first entries of the row of a quantity's values, as many as sums over n terms take: T for positions, U for
--- velocities
+-- the first entries of the row of a quantity's values, as many as sums over n terms take: T for positions, slopes by U
+-- for velocities
 abbrev pub AreValues : Quantity → ℕ → PlainRow → Type 0
 AreValues Position n row = IsRow n row.values (t_row row.arguments)
-AreValues Velocity n row = IsShorterRow n row.values (u_row row.arguments)
+AreValues Velocity n row = AreSlopes n row.values (u_row row.arguments)
 
--- and of that of its changes: Q for positions, R for velocities
+-- and of that of its changes: Q for positions, changes of slopes by R for velocities
 abbrev pub AreSteps : Quantity → ℕ → Rows → Type 0
 AreSteps Position n rows = IsRow n rows.steps (q_row rows.plain.arguments)
-AreSteps Velocity n rows = IsShorterRow n rows.steps (r_row rows.plain.arguments)
+AreSteps Velocity n rows = AreSlopes n rows.steps (r_row rows.plain.arguments)
 
 pub record ArePlain (quantity : Quantity) (n : ℕ) (row : PlainRow) : Type 0 where
   pub unit : IsArguments row.arguments

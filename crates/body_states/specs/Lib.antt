@@ -4,3 +4,4 @@ pub mod Dividers
 pub mod Enclosures
 pub mod Factors
 pub mod Moments
+pub mod Ranges

@@ -3,20 +3,21 @@ ghost use Rattle.std.specs.Prelude.{◌≡◌, ◌≤◌, IsTrue};
 ghost use Rattle.spec_chebyshev.specs.Rows.{IsArguments};
 ghost use Rattle.body_states.specs.Bases.{ArePlain, AreAll, IsServed};
 
+use cheby_difference::{fill_slopes, fill_slopes_and_changes};
 use cheby_enclose::empty_row;
-use cheby_laws::{Row, fill_t, fill_tq, fill_u, fill_ur};
+use cheby_laws::{Row, fill_t, fill_tq};
 use eph_model::Granule;
 use spec_bodies::Quantity;
 use spec_chebyshev::Ival62;
 
-/// The row of a quantity's values over an interval of arguments: T for positions and U for velocities.
+/// The row of a quantity's values over an interval of arguments: T for positions and slopes for velocities.
 #[derive(Drop)]
 pub(crate) struct PlainRow {
     pub arguments: Ival62,
     pub values: Row,
 }
 
-/// The same, with the row of the quantity's changes: Q for positions and R for velocities.
+/// The same, with the row of the quantity's changes: Q for positions and the changes of slopes for velocities.
 #[derive(Drop)]
 pub(crate) struct Rows {
     pub plain: PlainRow,
@@ -44,7 +45,7 @@ impl PlainRow {
         self.arguments = arguments;
         match quantity {
             Quantity::Position => fill_t(arguments, n, &mut self.values),
-            Quantity::Velocity => fill_u(arguments, n, &mut self.values),
+            Quantity::Velocity => fill_slopes(arguments, n, &mut self.values),
         }
     }
 }
@@ -70,7 +71,9 @@ impl Rows {
         self.plain.arguments = arguments;
         match quantity {
             Quantity::Position => fill_tq(arguments, n, &mut self.plain.values, &mut self.steps),
-            Quantity::Velocity => fill_ur(arguments, n, &mut self.plain.values, &mut self.steps),
+            Quantity::Velocity => {
+                fill_slopes_and_changes(arguments, n, &mut self.plain.values, &mut self.steps)
+            }
         }
     }
 }

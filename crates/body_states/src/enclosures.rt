@@ -2,6 +2,7 @@
 ghost use Rattle.std.specs.Prelude.{◌≡◌, ◌<◌};
 ghost use Rattle.body_states.specs.Enclosures.{along, with_along, of_target, nothing_known, nothing_known_of_targets, nothing_known_of_column};
 
+use crate::axes::by_axis;
 use ival_core::Enclosure;
 
 /// The enclosures of a position, in km, or of a velocity, in km per unit of time, along the three axes; none along an axis
@@ -46,11 +47,7 @@ impl AxisEnclosures {
         requires { axis < 3 }
         ensures { result ≡ along self.now axis }
     {
-        match axis {
-            0 => self.x,
-            1 => self.y,
-            _ => self.z,
-        }
+        *by_axis(axis, &self.x, &self.y, &self.z)
     }
 
     /// Keeps what is known along an axis, counted from 0.

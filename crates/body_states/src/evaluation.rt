@@ -190,9 +190,9 @@ impl<'g> GranuleSpan<'g> {
         self.make_centre(quantity, made, &mut room.centre);
     }
 
-    // As many entries as the granule has coefficients, or more where more are wanted.
+    /// As many entries as the granule has coefficients, or more where more are wanted.
     #[inline(always)]
-    fn as_many(&self, entries: usize) -> usize
+    pub fn as_many(&self, entries: usize) -> usize
         ensures enough { self.now.granule.n ≤ result }
         ensures few { result ≤ 32 }
     {
@@ -215,9 +215,9 @@ impl<'g> GranuleSpan<'g> {
         row.make(quantity, argument, n);
     }
 
-    // Makes both rows over all times.
+    /// Makes both rows over all times.
     #[inline(always)]
-    fn make_whole(&self, quantity: Quantity, n: usize, rows: &mut Rows)
+    pub fn make_whole(&self, quantity: Quantity, n: usize, rows: &mut Rows)
         requires few { n ≤ 32 }
         ensures over { let times = self.now.times.now in
             AreOver self.now.granule times.first times.last rows.new.plain }
@@ -238,9 +238,9 @@ impl<'g> GranuleSpan<'g> {
     }
 }
 
-// The interval of a quantity, by the coefficients of one axis and the divider by the granule's seconds.
+/// The interval of a quantity, by the coefficients of one axis and the divider by the granule's seconds.
 #[inline(always)]
-fn value_over(
+pub(crate) fn value_over(
     quantity: Quantity,
     terms: &AxisCoefficients,
     row: &PlainRow,
@@ -255,9 +255,14 @@ fn value_over(
     }
 }
 
-// The interval of its change in one unit of time.
+/// The interval of its change in one unit of time.
 #[inline(always)]
-fn step_over(quantity: Quantity, terms: &AxisCoefficients, rows: &Rows, divider: &Divider) -> Ival
+pub(crate) fn step_over(
+    quantity: Quantity,
+    terms: &AxisCoefficients,
+    rows: &Rows,
+    divider: &Divider,
+) -> Ival
     requires rows { AreAll quantity (length terms.now) rows.now }
     ensures { result ≡ step_over quantity terms.now rows.now.plain.arguments divider.now }
 {

@@ -7,19 +7,24 @@
 #![tactic(auto)]
 
 mod answers;
+mod axes;
 mod bases;
+mod column_entries;
+mod column_ranges;
 mod coordinates;
 mod enclosures;
 mod evaluation;
 mod factors;
 mod granule_span;
 mod question;
+mod range_rows;
 mod ranges;
 mod snapshots;
 mod sources;
 mod states;
 mod targets;
 
+pub use column_ranges::ColumnRanges;
 pub use eph_model::{Body, Ephemeris};
 pub use event_expr::States;
 pub use ranges::ColumnRange;

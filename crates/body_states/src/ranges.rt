@@ -1,5 +1,5 @@
 // What a column is over some times, as it is calculated without looking at the middle.
-ghost use Rattle.std.specs.Prelude.{◌≡◌, ◌<◌, IfSome, IsTrue};
+ghost use Rattle.std.specs.Prelude.{◌≡◌, ◌<◌};
 ghost use Rattle.spec_ephemeris.specs.Granules.{series_at, series_of};
 ghost use Rattle.spec_bodies.specs.Meanings.{factor_interval};
 ghost use Rattle.spec_bodies.specs.Reading.{IsUsable};
@@ -50,44 +50,8 @@ impl<'e> BodyStates<'e> {
         self.factors.interval(factor)
     }
 
-    /// What a column's quantity is along an axis, counted from 0, over the times from `a` to `b`; none where the column is
-    /// not in use, or where there is no such axis.
-    pub fn column_range(
-        &self,
-        quantity: Quantity,
-        number: usize,
-        axis: usize,
-        a: i64,
-        b: i64,
-    ) -> Option<ColumnRange>
-        requires { Fits self.now a b }
-        ensures values { IfSome result (λ r. r.values
-            ≡ value_interval quantity (series_at self.now.ephemeris number axis a) a b) }
-        ensures changes { IfSome result (λ r. r.changes
-            ≡ step_interval quantity (series_at self.now.ephemeris number axis a) a b) }
-    {
-        if axis < 3 && self.uses(number) {
-            Some(self.range_of(quantity, number, axis, a, b))
-        } else {
-            None
-        }
-    }
-
-    // Whether a column is in use.
-    fn uses(&self, number: usize) -> bool
-        ensures { IsTrue result → IsUsable self.now number }
-    {
-        let numbers = self.columns();
-        for place in 0..numbers.len() {
-            if numbers[place] == number {
-                return true;
-            }
-        }
-        false
-    }
-
-    // What a column in use is over some times.
-    fn range_of(
+    /// What the quantity of a column in use is along an axis, counted from 0, over the times from `a` to `b`.
+    pub fn range_of_column(
         &self,
         quantity: Quantity,
         number: usize,

@@ -177,12 +177,11 @@ fn entries_of(ephemeris: &Ephemeris, numbers: &[usize]) -> [usize; KEPT_COLUMNS]
     requires block { 0 < ephemeris.now.blocks }
     requires present { HasColumns ephemeris.now numbers.now }
 {
-    [
-        entries_at(ephemeris, numbers, 0),
-        entries_at(ephemeris, numbers, 1),
-        entries_at(ephemeris, numbers, 2),
-        entries_at(ephemeris, numbers, 3),
-    ]
+    let mut entries = [0; KEPT_COLUMNS];
+    for place in 0..numbers.len().min(KEPT_COLUMNS) {
+        entries[place] = entries_at(ephemeris, numbers, place);
+    }
+    entries
 }
 
 // As many as the most coefficients of the columns with granules as long as those of the column at a place, and 0 where

@@ -6,6 +6,7 @@ ghost use Rattle.body_states.specs.Answers.{CanAsk, CanReadSource, CanReadObserv
 ghost use Rattle.body_states.specs.Bases.{AreKept};
 ghost use Rattle.body_states.specs.Dividers.{granule_seconds};
 ghost use Rattle.body_states.specs.Enclosures.{AreAlong, AreRead, AreReadOrNot, IsRead, IsUnread};
+ghost use Rattle.body_states.specs.Ranges.{own_axes};
 ghost use Rattle.body_states.specs.Moments.{question_state, target_state, AreStates};
 
 use crate::bases::RowRoom;
@@ -80,13 +81,17 @@ impl<'e> BodyStates<'e> {
         self.coordinate(target, usize::from(axis), &question)
     }
 
-    // The axes of the files that axes of the frame are made of: y and z of the ecliptic are turned by the obliquity.
-    fn own_axes(&self, axes: Axes) -> Axes {
-        let is_turned = self.frame == Frame::Ecl && (axes.y || axes.z);
-        Axes {
-            x: axes.x,
-            y: axes.y || is_turned,
-            z: axes.z || is_turned,
+    /// The axes of the files that axes of the frame are made of: y and z of the ecliptic are turned by the obliquity.
+    pub fn own_axes(&self, axes: Axes) -> Axes
+        ensures { result ≡ own_axes self.now.frame axes }
+    {
+        match self.frame {
+            Frame::Eq => axes,
+            Frame::Ecl => Axes {
+                x: axes.x,
+                y: axes.y || axes.z,
+                z: axes.y || axes.z,
+            },
         }
     }
 
@@ -235,8 +240,8 @@ impl<'e> BodyStates<'e> {
         }
     }
 
-    // Whether a target is its own coordinates less those of the observer.
-    fn needs_observer(&self) -> bool
+    /// Whether a target is its own coordinates less those of the observer. No answer rests on it.
+    pub fn needs_observer(&self) -> bool
         ensures { IsTrue result → CanReadObserver self.now }
     {
         self.is_apart(self.first) || self.is_apart(self.second)

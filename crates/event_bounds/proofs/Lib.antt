@@ -1,1 +1,5 @@
-mod Spanned
+mod Rules
+mod Within
+mod Named
+mod Known
+mod Fine

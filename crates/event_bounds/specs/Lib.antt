@@ -1,3 +1,5 @@
+pub mod Fine
 pub mod Made
+pub mod Observer
 pub mod Seen
 pub mod Spans

@@ -1,6 +1,8 @@
 -- What the code makes of a bound.
-use Rattle.std.specs.Prelude.{◌≡◌, Option, IfSome}
+use Rattle.std.specs.Prelude.{◌≡◌, ℕ, Bool, IsTrue}
+use Rattle.spec_expressions.specs.Term.{leaf_exponent}
 use Rattle.spec_inclusions.specs.Bounds.{Bound}
+use Rattle.spec_bounds.specs.Limits.{IsBoundWithin}
 use Rattle.event_bounds.specs.declared.bound.Bound.{Bound as Made}
 
 -- both its parts are made
@@ -8,6 +10,15 @@ pub record IsBound (made : Made) (p : Bound) : Type 0 where
   pub range : made.range ≡ p.range
   pub step : made.step ≡ p.step
 
--- so it is, or nothing is made
-abbrev pub IfBound : Option Made → Bound → Type 0
-IfBound made p = IfSome made (λ b. IsBound b p)
+-- the bound that is made
+abbrev pub bound_made : Made → Bound
+bound_made made = record { range = made.range; step = made.step }
+
+-- no exponent of it passes a limit
+abbrev pub IsMadeWithin : ℕ → Made → Type 0
+IsMadeWithin n made = IsBoundWithin n (bound_made made)
+
+-- it is the bound where it is wanted, and within the limit of leaves in any case
+pub record IsIfWanted (wanted : Bool) (made : Made) (p : Bound) : Type 0 where
+  pub is : IsTrue wanted → IsBound made p
+  pub within : IsMadeWithin leaf_exponent made

@@ -1,67 +1,84 @@
 // The bounds of formulas, made of those of coordinates.
-ghost use Rattle.std.specs.Prelude.{◌≡◌, ◌<◌, ◌≤ℤ◌, IfSome};
-ghost use Rattle.spec_bodies.specs.Views.{Fits, View};
+ghost use Rattle.std.specs.Prelude.{◌≡◌, ◌<◌};
+ghost use Rattle.spec_bodies.specs.Views.{Fits};
 ghost use Rattle.spec_expressions.specs.Term.{IsFormula, term};
-ghost use Rattle.spec_bounds.specs.Terms.{bound_over, coordinate_bound};
-ghost use Rattle.event_bounds.specs.Made.{IfBound};
-ghost use Rattle.event_bounds.specs.Spans.{AreBounds, IsSpanSeen, bound_along, bounds_of};
+ghost use Rattle.spec_bounds.specs.Terms.{bound_over, term_bound};
+ghost use Rattle.event_bounds.specs.Made.{IsBound};
+ghost use Rattle.event_bounds.specs.Seen.{IsKnownRight, SeenFits};
+ghost use Rattle.event_bounds.specs.Spans.{AreBounds, IsSpanSeen, IsSpanWithin, bound_along, bounds_of, leaf_bound};
 
-use crate::bound::{Bound, BoundTimes};
+use crate::bound::Bound;
 use crate::seen::Seen;
-use crate::spans::{AxisBounds, Span};
+use crate::spans::{AxisBounds, ObserverBounds, Span, TargetBounds};
+use crate::times::BoundTimes;
 use body_states::{BodyStates, Quantity};
+use event_expr::laws::sets_have_what_is_named;
 use event_expr::rules::TimeSpan;
 use event_expr::{Axes, Formula, Leaves};
 use ival_core::{COSINE_EXPONENT, DISTANCE_EXPONENT, Ival};
 use spec_expressions::Expr;
 
-/// The bound of a formula over the times from `a` to `b`, in the unit of the times of the ephemeris that the states read,
-/// or nothing where an exponent passes a limit.
-pub fn bound_over(formula: &Formula, states: &BodyStates, a: i64, b: i64) -> Option<Bound>
+/// The bound of a formula over the times from `a` to `b`, in the unit of the times of the ephemeris that the states read.
+pub fn bound_over(formula: &Formula, states: &BodyStates, a: i64, b: i64) -> Bound
     requires { Fits states.now a b }
-    ensures range { IfSome result (λ made. made.range
-        ≡ (bound_over states.now formula.now a b).range) }
-    ensures step { IfSome result (λ made. made.step
-        ≡ (bound_over states.now formula.now a b).step) }
+    ensures range { result.range ≡ (bound_over states.now formula.now a b).range }
+    ensures step { result.step ≡ (bound_over states.now formula.now a b).step }
 {
+    sets_have_what_is_named();
     let span = TimeSpan::new(a, b);
     let times = BoundTimes { span: &span };
     Span::new(states, times, &formula.leaves()).bound(formula.expr())
 }
 
-// The bounds of a quantity of a target along those axes of the frame that are wanted.
-fn along<'s, 't, 'e>(
-    states: &'s BodyStates<'e>,
-    times: BoundTimes<'t>,
+impl<'s, 't, 'e> Seen<'s, 't, 'e> {
+    // The bounds of a target along those axes of the frame that are wanted.
+    fn along(&self, target: u8, wanted: Axes) -> AxisBounds
+        requires target { target < 2 }
+        requires fits { SeenFits self.now }
+        requires known { IsKnownRight self.now }
+        ensures { AreBounds self.now.states.now self.now.times.span.now self.now.quantity target wanted result }
+    {
+        AxisBounds {
+            x: self.coordinate_if(wanted.x, target, 0),
+            y: self.coordinate_if(wanted.y, target, 1),
+            z: self.coordinate_if(wanted.z, target, 2),
+        }
+    }
+}
+
+// The bounds of a quantity of both targets along those axes of the frame that are wanted. What their
+// columns are is made once, and so is the observer.
+fn both(
+    states: &BodyStates,
+    times: BoundTimes,
     quantity: Quantity,
-    target: u8,
-    wanted: Axes,
-) -> AxisBounds
-    requires target { target < 2 }
+    first: Axes,
+    second: Axes,
+) -> TargetBounds
     requires fits { Fits states.now times.span.now.first times.span.now.last }
-    ensures { AreBounds states.now times.entry.span.now quantity target result }
+    ensures first { AreBounds states.now times.entry.span.now quantity 0 first result.first }
+    ensures second { AreBounds states.now times.entry.span.now quantity 1 second result.second }
 {
+    let axes = states.own_axes(first.union(second));
+    let columns = states.column_ranges(quantity, axes, times.span);
+    let unobserved = Seen {
+        states,
+        quantity,
+        times,
+        columns: &columns,
+        observer: &ObserverBounds::none(),
+    };
+    let observer = unobserved.observer_bounds(axes);
     let seen = Seen {
         states,
         quantity,
         times,
+        columns: &columns,
+        observer: &observer,
     };
-    AxisBounds {
-        x: if wanted.x {
-            seen.coordinate(target, 0)
-        } else {
-            None
-        },
-        y: if wanted.y {
-            seen.coordinate(target, 1)
-        } else {
-            None
-        },
-        z: if wanted.z {
-            seen.coordinate(target, 2)
-        } else {
-            None
-        },
+    TargetBounds {
+        first: seen.along(0, first),
+        second: seen.along(1, second),
     }
 }
 
@@ -70,22 +87,25 @@ impl<'t> Span<'t> {
     fn new(states: &BodyStates, times: BoundTimes<'t>, wanted: &Leaves) -> Span<'t>
         requires { Fits states.now times.span.now.first times.span.now.last }
         ensures times { result.times.span.now ≡ times.entry.span.now }
-        ensures seen { IsSpanSeen states.now result }
+        ensures seen { IsSpanSeen states.now wanted.now result }
     {
-        let (position, velocity) = (Quantity::Position, Quantity::Velocity);
+        let (first, second) = (wanted.first_position, wanted.second_position);
+        let position = both(states, times, Quantity::Position, first, second);
+        let (first, second) = (wanted.first_velocity, wanted.second_velocity);
+        let velocity = both(states, times, Quantity::Velocity, first, second);
         Span {
             times,
-            first_position: along(states, times, position, 0, wanted.first_position),
-            second_position: along(states, times, position, 1, wanted.second_position),
-            first_velocity: along(states, times, velocity, 0, wanted.first_velocity),
-            second_velocity: along(states, times, velocity, 1, wanted.second_velocity),
+            first_position: position.first,
+            second_position: position.second,
+            first_velocity: velocity.first,
+            second_velocity: velocity.second,
         }
     }
 }
 
 impl AxisBounds {
     // The bound along an axis, counted from 0.
-    fn along(&self, axis: u8) -> Option<Bound>
+    fn along(&self, axis: u8) -> Bound
         requires { axis < 3 }
         ensures { result ≡ bound_along self.now axis }
     {
@@ -112,7 +132,7 @@ impl<'t> Span<'t> {
     }
 
     // The bound of a coordinate of a target.
-    fn coordinate(&self, quantity: Quantity, target: u8, axis: u8) -> Option<Bound>
+    fn coordinate(&self, quantity: Quantity, target: u8, axis: u8) -> Bound
         requires target { target < 2 }
         requires axis { axis < 3 }
         ensures { result ≡ bound_along (bounds_of self.now quantity target) axis }
@@ -121,10 +141,11 @@ impl<'t> Span<'t> {
     }
 
     // The bound of a formula's expression or of a part of it.
-    fn bound(&self, expr: &Expr) -> Option<Bound>
+    fn bound(&self, expr: &Expr) -> Bound
         requires formula { IsFormula (term expr.now) }
-        ensures { (v : View) → IsSpanSeen v self.now → IfBound result
-            (bound_over v (term expr.now) self.now.times.span.now.first self.now.times.span.now.last) }
+        requires within { IsSpanWithin self.now }
+        ensures { let times = self.now.times.span.now in
+            IsBound result (term_bound (leaf_bound self.now) times.first times.last (term expr.now)) }
     {
         let times = &self.times;
         match expr {

@@ -11,7 +11,8 @@ use Rattle.spec_numbers.proofs.Order.{lin}
 use Rattle.spec_intervals.specs.Interval.{Interval, interval, zero_interval, zero_end, is_zero, end_limit, settled, narrow, sum, meet, meet_up}
 use Rattle.spec_intervals.specs.Enclosure.{IsWithin, offsets, centred, enclosure, constant_of}
 use Rattle.spec_intervals.proofs.Offsets.{narrow-small}
-use Rattle.spec_expressions.proofs.Zeros.{narrow_of_zero, product_of_zero}
+use Rattle.spec_intervals.proofs.Narrow.{narrow_of_zero}
+use Rattle.spec_expressions.proofs.Zeros.{product_of_zero}
 
 either-way : (b : Bool) (x : Interval) → (if b then x else x) ≡ x
 either-way true x = refl

@@ -1,21 +1,13 @@
 -- The mid of an enclosure is made of mids alone, and at a single time it is all that there is.
-use Rattle.std.proofs.Common.{◌≡◌, ◌∙◌, sym, ap, refl, arith, ℤ, Bool, true, false}
-use Rattle.std.specs.Prelude.{⊤, if◌then◌else◌}
-use lib.Signed.{lt_z}
+use Rattle.std.proofs.Common.{◌≡◌, ◌∙◌, sym, ap, refl, arith, ℤ}
+use Rattle.std.specs.Prelude.{⊤}
 use Rattle.spec_intervals.specs.Interval as I
 use Rattle.spec_intervals.specs.Interval.{Interval, IsExponent, zero_interval, meet, from_decimal, distance_exponent, cosine_exponent}
-use Rattle.spec_intervals.specs.Enclosure.{Enclosure, AllWithin, triple, centred, enclosure, twice_size, constant_of, sum_of, difference_of, product_of, signed_square_of}
+use Rattle.spec_intervals.specs.Enclosure.{Enclosure, AllWithin, enclosure, twice_size, constant_of, sum_of, difference_of, product_of, signed_square_of}
 use Rattle.spec_expressions.specs.Term.{part_exponent, Leaf, Term, leaf, length, cosine, sum, difference, product, signed_square, enclosure_of, IsFormula}
 use Rattle.spec_intervals.specs.Fraction.{Fraction}
+use Rattle.spec_intervals.proofs.Enclosed.{mid-of}
 use Rattle.event_expr.proofs.Walk.{Known, part-within}
-
-mid-of : (a b : ℤ) (mid plain step : Interval) → (enclosure a b mid plain step).mid ≡ mid
-unfolding enclosure
-mid-of a b mid plain step = by (lt_z a b)
-  where
-    by : (c : Bool) → (if c then triple mid (meet plain (centred a b mid step)) step else triple mid mid zero_interval).mid ≡ mid
-    by true = refl
-    by false = refl
 
 pub mid-constant : (a b : ℤ) (v : Interval) → (constant_of a b v).mid ≡ v
 unfolding constant_of

@@ -1,11 +1,5 @@
-use Rattle.std.proofs.Common.{rules, ◌≡◌, ◌<◌, ◌∙◌, arith, length, sym, subst}
-use Rattle.std.specs.Prelude.{All}
-use Rattle.std.proofs.lemmas.List.{length-set}
-use Rattle.std.proofs.lemmas.List.Elements.{All-set}
-use Rattle.spec_bodies.specs.Reading.{IsUsable}
-use Rattle.spec_bodies.specs.Views.{columns_of}
-use Rattle.body_states.specs.Answers.{IsKnown}
-use Rattle.body_states.proofs.Kept.{usable_in_use, read_or_not_with}
+use Rattle.std.proofs.Common.{rules, ◌≡◌, ◌<◌, arith, length}
+use Rattle.body_states.proofs.Kept.{usable_numbers, one_column_more}
 use Rattle.body_states.proofs.states.BodyStates.write_shared.Goals as goal
 use Rattle.body_states.proofs.states.BodyStates.write_shared.Goals.{then-entries-place-gt0, else-entries-place-gt0}
 
@@ -14,25 +8,17 @@ loop-place-init c = let long : length c.args.columns.now ≡ 4 = search rules in
 
 pub loop-place-preserved : goal.loop-place-preserved
 loop-place-preserved c =
-    let v = c.args.self.now in
-    let known = c.loop-place.invariant.0 in
     let count = c.loop-place.invariant.1 in
-    let read = c.loop-place.invariant.2 in
     let inside : c.loop-place.place < length c.loop-place.columns = omega (arith, count) in
     elim c.if-entries-place-gt0.branch [
       | then-entries-place-gt0 w ↦
           let made = rw c.columns-numbers.ensures.in_use at w.write_column.ensures.made in
-          rw (w.columns-is, w.room-is) (
-            All-set (IsKnown v c.args.quantity c.args.times.now.first c.args.times.now.last) c.loop-place.columns _ _ w.write_column.ensures.right known,
-            length-set c.loop-place.columns _ _ ∙ count,
-            read_or_not_with c.args.axes (columns_of v) c.loop-place.place c.loop-place.columns _ inside made read,
-            w.write_column.ensures.kept,
-          )
+          rw (w.columns-is, w.room-is)
+          (one_column_more c.args.self.now c.args.quantity _ _ c.args.axes c.loop-place.columns _ _ c.loop-place.place _ inside
+          w.write_column.ensures.right made w.write_column.ensures.kept c.loop-place.invariant)
       | else-entries-place-gt0 w ↦ rw (w.columns-is, w.room-is) c.loop-place.invariant
     ]
 
 pub write_column-requires-clause-usable : goal.write_column-requires-clause-usable
 write_column-requires-clause-usable c =
-    let v = c.args.self.now in
-    let usable = subst (All (IsUsable v)) (sym c.columns-numbers.ensures.in_use) (usable_in_use v c.columns-numbers.ensures.view) in
-    usable c.loop-place.place 0 (omega arith)
+    usable_numbers c.args.self.now c.columns-numbers.ensures.view _ c.columns-numbers.ensures.in_use c.loop-place.place 0 (omega arith)

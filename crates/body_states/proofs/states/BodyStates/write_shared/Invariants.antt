@@ -1,14 +1,5 @@
-use Rattle.std.proofs.Common.{◌≡◌, length}
-use Rattle.std.specs.Prelude.{All}
-use Rattle.spec_bodies.specs.Views.{columns_of}
-use Rattle.body_states.specs.Answers.{IsKnown}
-use Rattle.body_states.specs.Bases.{AreKept}
-use Rattle.body_states.specs.Enclosures.{AreReadOrNot}
+use Rattle.body_states.proofs.Kept.{AreFilled}
 use Rattle.body_states.proofs.states.BodyStates.write_shared.Given as goal
 
 abbrev pub invariant-loop-place : goal.invariant-loop-place
-invariant-loop-place l =
-    All (IsKnown l.fn.self l.fn.quantity l.fn.times.first l.fn.times.last) l.columns
-    × (length l.columns ≡ 4)
-    × AreReadOrNot l.fn.axes (columns_of l.fn.self) l.columns
-    × AreKept l.fn.times.first l.fn.times.last l.fn.quantity l.room
+invariant-loop-place l = AreFilled l.fn.self l.fn.quantity l.fn.times.first l.fn.times.last l.fn.axes l.columns l.room

@@ -1,0 +1,4 @@
+use Rattle.body_states.proofs.states.BodyStates.column_ranges.Goals as goal
+
+pub invariant_of-result : goal.invariant_of-result
+invariant_of-result c = (c.write_entries.ensures.entries, c.write_entries.ensures.count, c.requires)

@@ -2,3 +2,4 @@ mod Near
 mod Looking
 mod Remembered
 mod Middles
+mod QuietSpans

@@ -1,14 +1,15 @@
--- A word stands for one sign at one time.
-use Rattle.std.proofs.Common.{◌≡◌, ℕ, ◌+◌, ◌<◌, ◌^◌, ℤ, pos, negsuc, ◌+ℤ◌, ◌-ℤ◌, ◌*ℤ◌, ◌<ℤ◌, refl, sym, ap, subst, ◌∙◌, arith}
+-- A word stands for one sign at one time, and times for how far they are after the first of the ephemeris.
+use Rattle.std.proofs.Common.{◌≡◌, ℕ, ◌+◌, ◌<◌, ◌^◌, Option, Some, ℤ, pos, negsuc, ◌+ℤ◌, ◌-ℤ◌, ◌*ℤ◌, ◌<ℤ◌, refl, sym, ap, subst, ◌∙◌, arith}
 use Rattle.std.proofs.lemmas.Int.{ints}
+use Rattle.std.specs.Prelude.{IfSome}
 use Rattle.std.specs.Int.RustNames.{unsigned_abs}
 use Rattle.spec_intervals.specs.declared.signs.Sign.{Sign}
 use Rattle.spec_intervals.specs.declared.signs.Sign.TheVariants.{Yes, No, Open}
 use Rattle.spec_trees.specs.declared.tree.Node.{Node}
 use Rattle.spec_trees.specs.Tree.{width}
 use Rattle.spec_searches.specs.Search.{Search}
-use Rattle.spec_bounds.specs.Steady.{IsSteady, sign_at}
-use Rattle.event_judge.specs.Memory.{KeepsSign, LiesInSteady, code_of, sign_word, time_of}
+use Rattle.spec_bounds.specs.Steady.{sign_at}
+use Rattle.event_judge.specs.Memory.{KeepsSign, code_of, sign_word, time_of}
 
 few : (sign : Sign) → code_of sign < 4
 few Yes = omega arith
@@ -50,19 +51,26 @@ width_is n inside = abs_is (n.b -ℤ n.a) (omega (arith, ints, inside))
 time_is : (s : Search) (t : ℤ) (offset : ℕ) → pos offset ≡ t -ℤ s.view.ephemeris.start → time_of s offset ≡ t
 time_is s t offset e = let start = s.view.ephemeris.start in omega (arith, ints, e)
 
-pub lies : (s named : Search) (a b : ℤ) (from upto : ℕ) → s ≡ named → pos from ≡ a -ℤ s.view.ephemeris.start → pos upto ≡ b -ℤ s.view.ephemeris.start
-    → LiesInSteady named (time_of named from) (time_of named upto) → LiesInSteady named a b
-lies s named a b from upto same begins ends inside =
-    let first : time_of named from ≡ a = ap (λ (s : Search). time_of s from) (sym same) ∙ time_is s a from begins in
-    let last : time_of named upto ≡ b = ap (λ (s : Search). time_of s upto) (sym same) ∙ time_is s b upto ends in
-    subst (λ (t : ℤ). LiesInSteady named t b) first (subst (λ (t : ℤ). LiesInSteady named (time_of named from) t) last inside)
+pub named_time : (s named : Search) (t : ℤ) (offset : ℕ) → s ≡ named → pos offset ≡ t -ℤ s.view.ephemeris.start → time_of named offset ≡ t
+named_time s named t offset same e = ap (λ (s : Search). time_of s offset) (sym same) ∙ time_is s t offset e
 
-pub steady_span : (s named : Search) (n : Node) (from count : ℕ) → s ≡ named → n.a <ℤ n.b → pos from ≡ n.a -ℤ s.view.ephemeris.start → count ≡ width n → IsSteady s n.a n.b
-    → IsSteady named (time_of named from) (time_of named (from + count))
-steady_span s named n from count same inside begins many steady =
+-- the sign at a time, by one that is found at so many after the first
+pub sign_of_offset : (s named : Search) (t : ℤ) (offset : ℕ) → s ≡ named → pos offset ≡ t -ℤ s.view.ephemeris.start
+    → (found : Option Sign) (sign : Sign) → found ≡ Some sign → IfSome found (λ sign. sign_at named (time_of named offset) ≡ sign) → sign_at named t ≡ sign
+sign_of_offset s named t offset same e found sign is known =
+    ap (sign_at named) (sym (named_time s named t offset same e)) ∙ subst (λ (found : Option Sign). IfSome found (λ sign. sign_at named (time_of named offset) ≡ sign)) is known
+
+pub lies : (P : Search → ℤ → ℤ → Type 0) (s named : Search) (a b : ℤ) (from upto : ℕ) → s ≡ named → pos from ≡ a -ℤ s.view.ephemeris.start → pos upto ≡ b -ℤ s.view.ephemeris.start
+    → P named (time_of named from) (time_of named upto) → P named a b
+lies P s named a b from upto same begins ends inside =
+    subst (λ (t : ℤ). P named t b) (named_time s named a from same begins) (subst (λ (t : ℤ). P named (time_of named from) t) (named_time s named b upto same ends) inside)
+
+pub span_of : (P : Search → ℤ → ℤ → Type 0) (s named : Search) (n : Node) (from count : ℕ) → s ≡ named → n.a <ℤ n.b → pos from ≡ n.a -ℤ s.view.ephemeris.start → count ≡ width n → P s n.a n.b
+    → P named (time_of named from) (time_of named (from + count))
+span_of P s named n from count same inside begins many holds =
     let wide : pos count ≡ n.b -ℤ n.a = ap pos many ∙ width_is n inside in
     let first : time_of s from ≡ n.a = time_is s n.a from begins in
     let ends : pos (from + count) ≡ n.b -ℤ s.view.ephemeris.start = omega (arith, ints, begins, wide) in
     let last : time_of s (from + count) ≡ n.b = time_is s n.b (from + count) ends in
-    subst (λ (s : Search). IsSteady s (time_of s from) (time_of s (from + count))) same
-    (subst (λ (t : ℤ). IsSteady s t (time_of s (from + count))) (sym first) (subst (λ (t : ℤ). IsSteady s n.a t) (sym last) steady))
+    subst (λ (s : Search). P s (time_of s from) (time_of s (from + count))) same
+    (subst (λ (t : ℤ). P s t (time_of s (from + count))) (sym first) (subst (λ (t : ℤ). P s n.a t) (sym last) holds))

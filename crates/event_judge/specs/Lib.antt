@@ -3,4 +3,6 @@ pub mod Found
 pub mod Wanted
 pub mod Named
 pub mod Memory
+pub mod Quiet
+pub mod Certified
 pub mod Plain

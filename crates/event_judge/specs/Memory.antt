@@ -1,5 +1,5 @@
 -- What a judge remembers of a search, in words: the sign of the function at a time, and a steady span.
-use Rattle.std.specs.Prelude.{◌≡◌, ℕ, ◌+◌, ◌*◌, ◌^◌, ◌/◌, ◌%◌, ◌<◌, ℤ, pos, neg_ℤ, ◌+ℤ◌, ◌*ℤ◌, ◌≤ℤ◌}
+use Rattle.std.specs.Prelude.{◌≡◌, ℕ, ◌+◌, ◌*◌, ◌^◌, ◌/◌, ◌%◌, ◌<◌, ◌≤◌, ℤ, pos, neg_ℤ, ◌+ℤ◌, ◌*ℤ◌, ◌≤ℤ◌}
 use Rattle.spec_intervals.specs.declared.signs.Sign.{Sign}
 use Rattle.spec_intervals.specs.declared.signs.Sign.TheVariants.{Yes, No, Open}
 use Rattle.spec_searches.specs.Search.{Search}
@@ -37,6 +37,17 @@ offset_in word = word / 2 ^ 22
 
 abbrev pub width_in : ℕ → ℕ
 width_in word = word % 2 ^ 22
+
+-- the word is that for the span
+pub record IsWordOf (word offset width : ℕ) : Type 0 where
+  pub begins : offset_in word ≡ offset
+  pub wide : width_in word ≡ width
+
+-- the times, each so many after the first of the ephemeris, lie within the span of a word
+pub record LiesInSpan (word first last : ℕ) : Type 0 where
+  pub some : 0 < width_in word
+  pub from : offset_in word ≤ first
+  pub upto : last ≤ offset_in word + width_in word
 
 -- where it is the word for a span with some width, the span is steady
 abbrev pub KeepsSpan : Search → ℕ → Type 0

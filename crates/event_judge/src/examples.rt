@@ -3,6 +3,7 @@ ghost use Rattle.std.specs.Prelude.{◌≡◌, pos};
 ghost use Rattle.spec_numbers.specs.Numbers.{minus};
 ghost use Rattle.spec_intervals.specs.declared.signs.Sign.TheVariants.{No, Open, Yes};
 ghost use Rattle.event_judge.specs.Memory.{offset_in, sign_word, span_word, width_in};
+ghost use Rattle.event_judge.specs.Quiet.{quiet_word, sign_in, span_in};
 
 /// The words for the three signs at one time and at the next, and for a sign at the first time of all: each is another, and
 /// none is 0.
@@ -21,4 +22,16 @@ pub fn words_of_spans()
     ensures offset { offset_in 20971523 ≡ 5 }
     ensures width { width_in 20971523 ≡ 3 }
     ensures none { width_in 0 ≡ 0 }
+{}
+
+/// The words for a quiet span of 3 times that begins 5 times after the first of all, with each of the two signs that are known;
+/// the span and the sign are read as they were written, and the word 0 is for no span.
+pub fn words_of_quiet_spans()
+    ensures yes { quiet_word 5 3 Yes ≡ 41943046 }
+    ensures no { quiet_word 5 3 No ≡ 41943047 }
+    ensures span_of_yes { span_in 41943046 ≡ 20971523 }
+    ensures span_of_no { span_in 41943047 ≡ 20971523 }
+    ensures sign_of_yes { sign_in 41943046 ≡ Yes }
+    ensures sign_of_no { sign_in 41943047 ≡ No }
+    ensures none { width_in (span_in 0) ≡ 0 }
 {}

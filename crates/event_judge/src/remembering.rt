@@ -1,4 +1,4 @@
-// What is remembered of a node: the signs at its ends, and the steady span that it lies in.
+// What is remembered of a node: the signs at its ends, and the steady or quiet span that it lies in.
 ghost use Rattle.std.specs.Prelude.{◌≡◌, ◌-ℤ◌, IfSome, IsTrue, [], false, pos, true};
 ghost use Rattle.spec_events.specs.Verdict.{differ, is_known};
 ghost use Rattle.spec_searches.specs.Search.{crosses, verdict_of};
@@ -49,15 +49,15 @@ impl<'s, 'e> ValidNode<'s, 'e> {
         (self.node.a + self.node.b).div_euclid(2)
     }
 
-    // How many times after the first of the ephemeris it begins.
-    fn first_offset(self) -> u64
+    /// How many times after the first of the ephemeris it begins.
+    pub(crate) fn first_offset(self) -> u64
         ensures { pos result ≡ self.entry.node.a -ℤ self.entry.search.now.view.ephemeris.start }
     {
         (self.node.a - self.search.ephemeris().start()).unsigned_abs()
     }
 
-    // How many times after the first of the ephemeris it ends.
-    fn last_offset(self) -> u64
+    /// How many times after the first of the ephemeris it ends.
+    pub(crate) fn last_offset(self) -> u64
         ensures { pos result ≡ self.entry.node.b -ℤ self.entry.search.now.view.ephemeris.start }
     {
         (self.node.b - self.search.ephemeris().start()).unsigned_abs()
@@ -70,8 +70,8 @@ impl<'s, 'e> ValidNode<'s, 'e> {
         self.has_no_guard() && self.is_wide() && !self.is_narrow() && self.border().is_none()
     }
 
-    // Whether the event has no conditions.
-    fn has_no_guard(self) -> bool
+    /// Whether the event has no conditions.
+    pub(crate) fn has_no_guard(self) -> bool
         ensures { IsTrue result → self.entry.search.now.event.conditions ≡ [] }
     {
         self.search.event().guards().is_empty()
@@ -89,8 +89,8 @@ impl<'s, 'e> ValidNode<'s, 'e> {
 }
 
 impl<N: Naming> Memory<N> {
-    // The sign at the first time of a node, which is kept from now on.
-    fn first_sign(&self, node: ValidNode) -> Sign
+    /// The sign at the first time of a node, which is kept from now on.
+    pub(crate) fn first_sign(&self, node: ValidNode) -> Sign
         requires named { node.search.now ≡ N.search }
         ensures { result ≡ sign_at N.search node.entry.node.a }
     {
@@ -104,8 +104,8 @@ impl<N: Naming> Memory<N> {
         }
     }
 
-    // The sign at the last time of a node, which is kept from now on.
-    fn last_sign(&self, node: ValidNode) -> Sign
+    /// The sign at the last time of a node, which is kept from now on.
+    pub(crate) fn last_sign(&self, node: ValidNode) -> Sign
         requires named { node.search.now ≡ N.search }
         ensures { result ≡ sign_at N.search node.entry.node.b }
     {
@@ -178,6 +178,8 @@ impl<N: Naming> Memory<N> {
     {
         if self.knows_steady(node) {
             self.verdict_by_ends(node)
+        } else if self.knows_quiet(node) {
+            Some(Verdict::Clear)
         } else if self.knows_turn(node) && node.is_plain() {
             Some(self.verdict_by_turn(node))
         } else {
@@ -230,21 +232,48 @@ impl<N: Naming> Memory<N> {
         self.keep_sign(node.middle(), over.mid.sign());
     }
 
-    // The verdict of a node into which no border falls, of which nothing tells it that is remembered. A node that is to be
-    // split is looked at.
-    fn judge_open(&self, node: ValidNode) -> Verdict
+    // The verdict of a node into which no border falls, by the enclosure over the whole of it. A node that is to be split is
+    // looked at.
+    fn judge_over(&self, node: ValidNode) -> Verdict
         requires named { node.search.now ≡ N.search }
         requires uncrossed { crosses node.search.now node.node ≡ false }
         ensures { result ≡ verdict_of N.search node.entry.node }
     {
         let whole = node.whole();
         let over = node.enclosure(&whole);
-        let verdict = node.verdict_over(&whole, &over);
+        let verdict = self.verdict_over(node, &whole, &over);
         if verdict == Verdict::Split {
             self.keep_middle(node, &over);
             self.learn(node);
+            self.learn_certified(node);
         }
         verdict
+    }
+
+    // The verdict of a node into which no border falls, of which nothing tells it that is remembered.
+    fn judge_open(&self, node: ValidNode) -> Verdict
+        requires named { node.search.now ≡ N.search }
+        requires uncrossed { crosses node.search.now node.node ≡ false }
+        ensures { result ≡ verdict_of N.search node.entry.node }
+    {
+        if self.finds_quiet(node) {
+            Verdict::Clear
+        } else {
+            self.judge_over(node)
+        }
+    }
+
+    // The verdict of a node into which a border falls.
+    fn judge_border(&self, node: ValidNode) -> Verdict
+        requires named { node.search.now ≡ N.search }
+        requires crossed { crosses node.search.now node.node ≡ true }
+        ensures { result ≡ verdict_of N.search node.entry.node }
+    {
+        if self.finds_clear(node) {
+            Verdict::Clear
+        } else {
+            node.border_verdict()
+        }
     }
 
     // The verdict of a node of which nothing tells it that is remembered.
@@ -254,7 +283,7 @@ impl<N: Naming> Memory<N> {
     {
         match node.border() {
             None => self.judge_open(node),
-            Some(_) => node.border_verdict(),
+            Some(_) => self.judge_border(node),
         }
     }
 

@@ -4,8 +4,9 @@ use crate::named_judge::NamedJudge;
 use crate::naming::Naming;
 use tree_judge::Judge;
 
-/// A judge of the nodes of a search with what it remembers of them, which its workers share: signs at times, and spans in
-/// which the signs at two ends tell the verdict of a node.
+/// A judge of the nodes of a search with what it remembers of them, which its workers share: signs at times, spans in which
+/// the signs at two ends tell the verdict of a node, spans in which each node is clear, and spans over which the conditions
+/// hold.
 #[derive(Drop)]
 pub struct RememberingJudge<'j, 'e, N: Naming, J: Judge> {
     /// The judge that it stands for.

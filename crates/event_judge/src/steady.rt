@@ -1,23 +1,37 @@
-// Whether the signs at two ends tell the verdict of each node between them.
-ghost use Rattle.std.specs.Prelude.{◌≡◌, ◌<ℤ◌, All, IsTrue, true};
+// Whether the signs at two ends, or one sign between them, tell the verdict of each node between them.
+ghost use Rattle.std.specs.Prelude.{◌≡◌, ◌↔◌, ◌<ℤ◌, All, IfNone, IfSome, IsTrue, false, true};
 ghost use Rattle.spec_bodies.specs.Views.{Fits};
-ghost use Rattle.spec_events.specs.Verdict.{is_one_way};
+ghost use Rattle.spec_events.specs.Verdict.{is_known, is_one_way};
 ghost use Rattle.spec_bounds.specs.Steady.{IsSteady, is_certified_over};
 ghost use Rattle.spec_bounds.specs.Terms.{bound_over};
+ghost use Rattle.spec_bounds.specs.Quiet.{sign_over};
+ghost use Rattle.event_judge.specs.Quiet.{HasSign};
 
 use crate::conditions::certifies;
 use crate::event_search::EventSearch;
 use crate::steps::leads_one_way;
 use event_bounds::bound_over;
 use event_kinds::Guard;
+use ival_core::Sign;
+
+// The sign, where it is one of the two that are known.
+fn known(sign: Sign) -> Option<Sign>
+    ensures some { IfSome result (λ found. (found ≡ sign) × (is_known sign ≡ true)) }
+    ensures none { IfNone result (is_known sign ≡ false) }
+{
+    match sign {
+        Sign::Yes | Sign::No => Some(sign),
+        Sign::Open => None,
+    }
+}
 
 impl<'e> EventSearch<'e> {
-    /// Whether the search is known to be steady from one time to another, between which no granule begins, by the bounds of
+    /// Whether the search is steady from one time to another, between which no granule begins, by the bounds of
     /// its function and of its conditions.
     pub(crate) fn is_steady(&self, a: i64, b: i64) -> bool
         requires fits { Fits self.now.view a b }
         requires several { a <ℤ b }
-        ensures { IsTrue result → IsSteady self.now a b }
+        ensures { IsTrue result ↔ IsSteady self.now a b }
     {
         self.leads_one_way(a, b) && self.are_certified(a, b)
     }
@@ -25,31 +39,25 @@ impl<'e> EventSearch<'e> {
     // By its bound the function is monotone.
     fn leads_one_way(&self, a: i64, b: i64) -> bool
         requires { Fits self.now.view a b }
-        ensures { IsTrue result
-            → is_one_way (bound_over self.now.view self.now.event.function a b).step ≡ true }
+        ensures { result ≡ is_one_way (bound_over self.now.view self.now.event.function a b).step }
     {
-        match bound_over(self.event().function(), self.states(), a, b) {
-            Some(bound) => leads_one_way(bound.step),
-            None => false,
-        }
+        leads_one_way(bound_over(self.event().function(), self.states(), a, b).step)
     }
 
     // By its bound a condition holds at each of the times.
     fn is_certified(&self, guard: &Guard, a: i64, b: i64) -> bool
         requires { Fits self.now.view a b }
-        ensures { IsTrue result → is_certified_over self.now a b guard.now ≡ true }
+        ensures { result ≡ is_certified_over self.now a b guard.now }
     {
-        match bound_over(guard.formula(), self.states(), a, b) {
-            Some(bound) => certifies(guard.at_least(), bound.range.sign()),
-            None => false,
-        }
+        let bound = bound_over(guard.formula(), self.states(), a, b);
+        certifies(guard.at_least(), bound.range.sign())
     }
 
-    // So does each.
-    fn are_certified(&self, a: i64, b: i64) -> bool
+    /// By their bounds each condition holds at each of the times.
+    pub(crate) fn are_certified(&self, a: i64, b: i64) -> bool
         requires { Fits self.now.view a b }
         ensures { IsTrue result
-            → All (λ c. is_certified_over self.now a b c ≡ true) self.now.event.conditions }
+            ↔ All (λ c. is_certified_over self.now a b c ≡ true) self.now.event.conditions }
     {
         let guards = self.event().guards();
         for place in 0..guards.len() {
@@ -58,5 +66,16 @@ impl<'e> EventSearch<'e> {
             }
         }
         true
+    }
+
+    /// The sign that the function has from one time to another, between which no granule begins, where its bound tells it.
+    pub(crate) fn sign_over(&self, a: i64, b: i64) -> Option<Sign>
+        requires fits { Fits self.now.view a b }
+        requires several { a <ℤ b }
+        ensures some { IfSome result (λ sign. HasSign self.now a b sign) }
+        ensures none { IfNone result (is_known (sign_over self.now a b) ≡ false) }
+    {
+        let bound = bound_over(self.event().function(), self.states(), a, b);
+        known(bound.range.sign())
     }
 }

@@ -1,5 +1,5 @@
 // The verdict of a node, by what is looked at in turn.
-ghost use Rattle.std.specs.Prelude.{◌≡◌, ◌-ℤ◌, nat_le, false, true};
+ghost use Rattle.std.specs.Prelude.{◌≡◌, ◌-ℤ◌, nat_le, [], false, true};
 ghost use Rattle.spec_trees.specs.Cuts.{is_wide};
 ghost use Rattle.spec_trees.specs.Tree.{width};
 ghost use Rattle.spec_events.specs.Stages.{end_verdict, is_above_limits, limit_verdict, open_verdict, unit_verdict};
@@ -123,9 +123,9 @@ impl<'s, 'e> ValidNode<'s, 'e> {
         self.enclosure(states).range.sign()
     }
 
-    // By an enclosure of the function it has no turn that is wanted.
+    /// By an enclosure of the function it has no turn that is wanted.
     #[inline(always)]
-    fn is_turnless(self, over: &Enclosure) -> bool
+    pub(crate) fn is_turnless(self, over: &Enclosure) -> bool
         ensures { result ≡ is_turnless_by self.entry.search.now over.now }
     {
         is_turnless(self.search.event().dir(), over)
@@ -184,6 +184,21 @@ impl<'s, 'e> ValidNode<'s, 'e> {
         if has_no_turn(self.search.event().dir(), at_first, at_last) {
             Verdict::Clear
         } else if self.is_narrow() {
+            Verdict::One(turn_to(at_last))
+        } else {
+            self.limit_verdict()
+        }
+    }
+
+    /// The verdict without conditions by the signs at the ends, by which the turns between them are known.
+    pub(crate) fn unconditional_verdict(self, at_first: Sign, at_last: Sign) -> Verdict
+        ensures { result ≡ end_verdict (criteria self.entry.search.now) self.entry.node []
+            at_first at_last }
+    {
+        let dir = self.search.event().dir();
+        if has_no_turn(dir, at_first, at_last) {
+            Verdict::Clear
+        } else if self.is_narrow() && differ(dir, at_first, at_last) {
             Verdict::One(turn_to(at_last))
         } else {
             self.limit_verdict()

@@ -1,4 +1,4 @@
-use Rattle.std.proofs.Common.{rules, ◌≡◌, ◌∙◌, ◌≤◌, ap, arith, length, refl, subst, sym, take, true, w64, to_z, of_z, List}
+use Rattle.std.proofs.Common.{◌≡◌, ◌∙◌, ap, arith, length, refl, subst, sym, take, true, w64, to_z, of_z, List}
 use Rattle.std.proofs.lemmas.Int.{to_z-of_z}
 use Rattle.std.proofs.lemmas.List.Elements.{All-more}
 use Rattle.std.proofs.Math.Seq.{take-length}
@@ -11,12 +11,12 @@ pub loop-place-preserved : goal.loop-place-preserved
 loop-place-preserved c =
     let s = c.args.self.now in
     let own = c.index-guards-place.result in
-    let holds : is_certified_over s (to_z w64 (of_z w64 c.args.a)) (to_z w64 (of_z w64 c.args.b)) own ≡ true = c.is_certified.ensures c.if-not-is_certified.false in
+    let holds : is_certified_over s (to_z w64 (of_z w64 c.args.a)) (to_z w64 (of_z w64 c.args.b)) own ≡ true = sym c.is_certified.ensures ∙ c.if-not-is_certified.false in
     All-more (λ (x : Condition). is_certified_over s (to_z w64 (of_z w64 c.args.a)) (to_z w64 (of_z w64 c.args.b)) x ≡ true) c.guards-guards.result.now c.loop-place.place own c.loop-place-test.true c.loop-place.invariant
     (subst (λ (x : Condition). is_certified_over s (to_z w64 (of_z w64 c.args.a)) (to_z w64 (of_z w64 c.args.b)) x ≡ true) c.index-guards-place.is holds)
 
 pub returns : goal.returns
-returns c = λ _.
+returns c =
     let s = c.args.self.now in
     let guards = c.guards-guards.result.now in
     let ended = c.loop-place-test.false in
@@ -26,4 +26,4 @@ returns c = λ _.
     let are : guards ≡ s.event.conditions = c.guards-guards.ensures ∙ ap (λ e. e.conditions) c.event.ensures in
     let a : to_z w64 (of_z w64 c.args.a) ≡ c.args.a = to_z-of_z w64 c.args.a c.ranges.a in
     let b : to_z w64 (of_z w64 c.args.b) ≡ c.args.b = to_z-of_z w64 c.args.b c.ranges.b in
-    subst (λ (xs : List Condition). All (λ (x : Condition). is_certified_over s c.args.a c.args.b x ≡ true) xs) (whole ∙ are) (rw (a, b) at c.loop-place.invariant)
+    (λ _. subst (λ (xs : List Condition). All (λ (x : Condition). is_certified_over s c.args.a c.args.b x ≡ true) xs) (whole ∙ are) (rw (a, b) at c.loop-place.invariant), λ _. refl)

@@ -1,0 +1,18 @@
+use Rattle.std.proofs.Common.{subst}
+use Rattle.std.specs.Prelude.{IfSome}
+use Rattle.spec_searches.specs.Found.{rules}
+use Rattle.spec_searches.specs.Search.{IsSearch, Search}
+use Rattle.spec_trees.specs.Tree.{IsValid}
+use Rattle.event_judge.specs.Quiet.{LiesInQuiet}
+use Rattle.event_judge.proofs.QuietSpans.{clear_within}
+use Rattle.event_judge.proofs.Remembered.{lies}
+use Rattle.event_judge.proofs.memory.Memory.knows_quiet.Goals as goal
+
+pub returns : goal.returns
+returns g c = λ some.
+    let n = c.args.node in
+    let s = g.N.Naming.search in
+    let found = c.quiet_sign-known.result in
+    let inside = lies (λ s a b. IfSome found (λ sign. LiesInQuiet s a b sign)) n.search.now s n.node.a n.node.b c.first_offset.result c.last_offset.result c.requires.named c.first_offset.ensures c.last_offset.ensures c.quiet_sign-known.ensures in
+    clear_within c.quiet_spans_are_clear.ensures.nodes s n.node found (subst IsSearch c.requires.named c.is_search.ensures) (subst (λ (s : Search). IsValid (rules s) n.node) c.requires.named n.valid) inside
+    (rw (← c.is_some.ensures) some)

@@ -1,0 +1,12 @@
+use Rattle.std.proofs.Common.{ℤ}
+use Rattle.std.specs.Prelude.{IsTrue}
+use Rattle.spec_searches.specs.Found.{rules}
+use Rattle.spec_bounds.specs.Certified.{HoldsConditions}
+use Rattle.event_judge.proofs.Near.{between_ends, columns_fit}
+use Rattle.event_judge.proofs.valid_node.ValidNode.holds_conditions.Goals as goal
+
+pub holds_conditions-requires-clause-fits : goal.holds_conditions-requires-clause-fits
+holds_conditions-requires-clause-fits c = columns_fit c.args.self.search.now c.args.self.sound c.args.self.node c.args.self.valid _ c.states.ensures c.columns-columns.ensures.view c.requires
+
+pub returns : goal.returns
+returns c = between_ends (λ (a b : ℤ). IsTrue c.holds_conditions.result → HoldsConditions c.args.self.search.now a b) (rules c.args.self.search.now) c.args.self.sound c.args.self.node c.args.self.valid c.holds_conditions.ensures

@@ -27,12 +27,12 @@ unmarked_digits (b ∷ bs) below above = ((low, high), unmarked_digits bs (omega
       | inr most ↦ most
     ]
 
--- the marks of eight bytes above a 9, as they are made
-pub above_marks : (bs : List ℕ) → length bs ≡ 8
-    → mask_l (map (top 7) (zip2 (λ a b. cond (nat_lt a b) 255 0) (replicate 8 57) bs)) % 2 ^ 64 ≡ mask_l (map (λ b. nat_lt 57 b) bs)
-above_marks bs long =
-    ap (λ ms. mask_l ms % 2 ^ 64) (tops_compared w8 nat_lt (replicate 8 57) bs ∙ zip2_splat_left nat_lt 57 8 bs long)
-    ∙ mask_l-mod (map (λ b. nat_lt 57 b) bs) 64 (omega (arith, length-map bs (λ b. nat_lt 57 b), long))
+-- the marks of some bytes above a 9, as they are made
+pub above_marks : (n : ℕ) → n ≤ 64 → (bs : List ℕ) → length bs ≡ n
+    → mask_l (map (top 7) (zip2 (λ a b. cond (nat_lt a b) 255 0) (replicate n 57) bs)) % 2 ^ 64 ≡ mask_l (map (λ b. nat_lt 57 b) bs)
+above_marks n few bs long =
+    ap (λ ms. mask_l ms % 2 ^ 64) (tops_compared w8 nat_lt (replicate n 57) bs ∙ zip2_splat_left nat_lt 57 n bs long)
+    ∙ mask_l-mod (map (λ b. nat_lt 57 b) bs) 64 (omega (arith, length-map bs (λ b. nat_lt 57 b), long, few))
 
 -- the word of eight bytes
 pub word_is : (text : List ℕ) → 8 ≤ length text → ((k : ℕ) → Fits w8 (get_or text k 0)) → number_l 256 (take 8 text) % 2 ^ 64 ≡ number_l 256 (take 8 text)

@@ -1,15 +1,17 @@
 // Words, read as decimals and as whole numbers.
-ghost use Rattle.std.specs.Prelude.{◌≡◌, ◌≤◌, ◌≤ℤ◌, ◌^◌, ◌++◌, Some, if◌then◌else◌, min, neg_ℤ, pos};
+ghost use Rattle.std.specs.Prelude.{◌≡◌, ◌≤◌, ◌≤ℤ◌, ◌^◌, ◌++◌, Some, if◌then◌else◌, min, neg_ℤ, length, pos};
 ghost use Rattle.std.specs.Char.{is_ascii_digit};
 ghost use Rattle.std.specs.List.{list_all};
 ghost use Rattle.spec_text.specs.Decimals.{AreDigits, Numeral, digits};
+ghost use Rattle.spec_text.specs.declared.limits.TheConstants.{MAX_WORD_BYTES};
 ghost use Rattle.spec_text.specs.Reading.{Reads, reading, reading_of, whole_of};
 ghost use Rattle.de_text.specs.Parts.{IsOfShortWord, Shows};
 
 use crate::digits::{CAP, capped};
-use crate::parts::{Parts, split};
+use crate::parts::{Parts, split, split_plain};
 use spec_text::{Decimal, MAX_EXPONENT, MAX_WHOLE_DIGITS, MAX_WORD_BYTES, NumberFault};
 
+#[inline(always)]
 fn signed(negative: bool, size: u64) -> i64
     requires { size ≤ 10 ^ 18 }
     ensures value { result ≡ if negative then neg_ℤ (pos size) else pos size }
@@ -21,6 +23,7 @@ fn signed(negative: bool, size: u64) -> i64
 }
 
 // The decimal of the parts, or the second or the third fault.
+#[inline(always)]
 fn assemble(parts: &Parts) -> Result<Decimal, NumberFault>
     requires { IsOfShortWord parts.now }
     ensures { (n : Numeral) → AreDigits (digits n) → Shows n parts.now
@@ -43,6 +46,19 @@ fn assemble(parts: &Parts) -> Result<Decimal, NumberFault>
     })
 }
 
+// The decimal that any word is, or its first fault; `read_decimal` calls it for words that JPL does not write.
+#[inline(never)]
+fn read_any(word: &[u8]) -> Result<Decimal, NumberFault>
+    requires { length word.now ≤ MAX_WORD_BYTES }
+    ensures reads { Reads word.now result }
+    ensures reading { result ≡ reading word.now }
+{
+    match split(word) {
+        Some(parts) => assemble(&parts),
+        None => Err(NumberFault::NotNumber),
+    }
+}
+
 /// The decimal that the word is, or the first of its faults in the order of `NumberFault`.
 pub fn read_decimal(word: &[u8]) -> Result<Decimal, NumberFault>
     ensures reads { Reads word.now result }
@@ -51,9 +67,9 @@ pub fn read_decimal(word: &[u8]) -> Result<Decimal, NumberFault>
     if word.len() > MAX_WORD_BYTES {
         return Err(NumberFault::NotNumber);
     }
-    match split(word) {
+    match split_plain(word) {
         Some(parts) => assemble(&parts),
-        None => Err(NumberFault::NotNumber),
+        None => read_any(word),
     }
 }
 

@@ -1,9 +1,9 @@
 // Digits, and the number that they write.
-ghost use Rattle.std.specs.Prelude.{◌≡◌, ◌≤◌, ◌^◌, drop, length, min};
-ghost use Rattle.spec_text.specs.Decimals.{AreDigits, value_after};
+ghost use Rattle.std.specs.Prelude.{◌≡◌, ◌≤◌, ◌^◌, ◌<◌, [], IfSome, IsTrue, drop, length, min};
+ghost use Rattle.spec_text.specs.Decimals.{AreDigits, value, value_after};
 ghost use Rattle.spec_text.specs.Splitting.{digits_at};
 
-use crate::eights::take_eight;
+use crate::eights::{take_eight, take_sixteen};
 
 // Ten to the number of digits that a decimal may have. A greater number counts as this one.
 pub(crate) const CAP: u64 = 1_000_000_000_000_000_000;
@@ -64,6 +64,80 @@ pub(crate) fn take_digits(start: u64, text: &[u8]) -> Digits<'_>
         count: text.len(),
         rest: &[],
     }
+}
+
+// The digits at the front, where there is one.
+#[inline(always)]
+pub(crate) fn one_digit(text: &[u8]) -> Option<Digits<'_>>
+    ensures number { IfSome result (λ d. d.number ≡ min (value (digits_at text.now).0) (10 ^ 18)) }
+    ensures count { IfSome result (λ d. d.count ≡ length (digits_at text.now).0) }
+    ensures rest { IfSome result (λ d. d.rest.now ≡ (digits_at text.now).1) }
+    ensures some { IfSome result (λ d. 0 < d.count) }
+    ensures few { IfSome result (λ d. d.number < 10) }
+{
+    if text.len() < 2 || !text[0].is_ascii_digit() || text[1].is_ascii_digit() {
+        return None;
+    }
+    Some(Digits {
+        number: u64::from(text[0] - b'0'),
+        count: 1,
+        rest: &text[1..],
+    })
+}
+
+// Whether no digit stands at a place.
+#[tactic(auto, using(crate::proofs::Fronts::digits_end, crate::proofs::Fronts::digits_none))]
+#[inline(always)]
+fn is_end(text: &[u8], at: usize) -> bool
+    requires { at ≤ length text.now }
+    ensures { IsTrue result → digits_at (drop at text.now) ≡ ([], drop at text.now) }
+{
+    if at < text.len() {
+        !text[at].is_ascii_digit()
+    } else {
+        true
+    }
+}
+
+// The digits at the front, where there are two.
+#[inline(always)]
+pub(crate) fn two_digits(start: u64, text: &[u8]) -> Option<Digits<'_>>
+    requires { start < 10 ^ 17 }
+    ensures number { IfSome result (λ d. d.number
+        ≡ min (value_after start (digits_at text.now).0) (10 ^ 18)) }
+    ensures count { IfSome result (λ d. d.count ≡ length (digits_at text.now).0) }
+    ensures rest { IfSome result (λ d. d.rest.now ≡ (digits_at text.now).1) }
+    ensures two { IfSome result (λ d. d.count ≡ 2) }
+{
+    if text.len() < 2 || !text[0].is_ascii_digit() || !text[1].is_ascii_digit() {
+        return None;
+    }
+    if !is_end(text, 2) {
+        return None;
+    }
+    let number = 10 * start + u64::from(text[0] - b'0');
+    Some(Digits {
+        number: (10 * number + u64::from(text[1] - b'0')).min(CAP),
+        count: 2,
+        rest: &text[2..],
+    })
+}
+
+// The digits at the front, where there are eighteen.
+#[inline(always)]
+pub(crate) fn eighteen_digits(start: u64, text: &[u8]) -> Option<Digits<'_>>
+    ensures number { IfSome result (λ d. d.number
+        ≡ min (value_after start (digits_at text.now).0) (10 ^ 18)) }
+    ensures count { IfSome result (λ d. d.count ≡ length (digits_at text.now).0) }
+    ensures rest { IfSome result (λ d. d.rest.now ≡ (digits_at text.now).1) }
+{
+    let (number, rest) = take_sixteen(start, text)?;
+    let last = two_digits(number, rest)?;
+    Some(Digits {
+        number: last.number,
+        count: 16 + last.count,
+        rest: last.rest,
+    })
 }
 
 // The digits at the front, of which there may be many: eight at a time, and the last ones one by one.

@@ -1,5 +1,5 @@
 // Eight digits at a time, in a word of 64 bits.
-ghost use Rattle.std.specs.Prelude.{◌≡◌, ◌≤◌, ◌<◌, ◌^◌, ◌+◌, IfSome, IsTrue, length, take};
+ghost use Rattle.std.specs.Prelude.{◌≡◌, ◌≤◌, ◌<◌, ◌^◌, ◌+◌, ◌*◌, IfSome, IsTrue, drop, length, take};
 ghost use lib.Lanes.{number_l};
 ghost use Rattle.spec_text.specs.Decimals.{AreDigits, value, value_after};
 ghost use Rattle.spec_text.specs.Splitting.{digits_at};
@@ -8,6 +8,12 @@ use std::simd::prelude::*;
 
 // How many digits are taken at a time.
 const EIGHT: usize = 8;
+
+// How many are taken where as many stand.
+const SIXTEEN: usize = 16;
+
+// A number below this one, with sixteen digits after it, has at most 17 digits.
+const SIXTEEN_ROOM: u64 = 10;
 
 // Ten to the number of digits that are taken at a time.
 const EIGHT_DIGITS: u64 = 100_000_000;
@@ -58,6 +64,23 @@ fn eight_digits(text: &[u8]) -> u64
     1_000_000 * first + 10_000 * second + 100 * third + last
 }
 
+// The number that eight digits at the front write after an earlier one, and what follows them.
+#[inline(always)]
+fn after_eight(before: u64, text: &[u8]) -> (u64, &[u8])
+    requires room { before < ROOM }
+    requires long { EIGHT ≤ length text.now }
+    requires digits { AreDigits (take 8 text.now) }
+    ensures number { value_after result.0 (digits_at result.1.now).0
+        ≡ value_after before (digits_at text.now).0 }
+    ensures count { length (digits_at text.now).0 ≡ 8 + length (digits_at result.1.now).0 }
+    ensures rest { (digits_at result.1.now).1 ≡ (digits_at text.now).1 }
+    ensures next { result.1.now ≡ drop 8 text.now }
+    ensures bound { result.0 < 10 ^ 8 * (before + 1) }
+{
+    let number = EIGHT_DIGITS * before + eight_digits(text);
+    (number, &text[EIGHT..])
+}
+
 // The number that eight digits at the front write after an earlier one, and what follows them. There is none where other
 // bytes stand there, or where the earlier number is too great.
 #[inline(always)]
@@ -73,6 +96,34 @@ pub(crate) fn take_eight(before: u64, text: &[u8]) -> Option<(u64, &[u8])>
     if before >= ROOM || text.len() < EIGHT || !are_eight_digits(text) {
         return None;
     }
-    let number = EIGHT_DIGITS * before + eight_digits(text);
-    Some((number, &text[EIGHT..]))
+    Some(after_eight(before, text))
+}
+
+// Whether the first sixteen bytes are digits.
+#[inline(always)]
+fn are_sixteen_digits(text: &[u8]) -> bool
+    requires { SIXTEEN ≤ length text.now }
+    ensures { IsTrue result → AreDigits (take 16 text.now) }
+{
+    let bytes = u8x16::from_slice(text);
+    let below = bytes.simd_lt(u8x16::splat(b'0')).to_bitmask();
+    let above = bytes.simd_gt(u8x16::splat(b'9')).to_bitmask();
+    below == 0 && above == 0
+}
+
+// The number that sixteen digits at the front write after an earlier one, as `take_eight`.
+#[inline(always)]
+pub(crate) fn take_sixteen(before: u64, text: &[u8]) -> Option<(u64, &[u8])>
+    ensures number { IfSome result (λ p. value_after p.0 (digits_at p.1.now).0
+        ≡ value_after before (digits_at text.now).0) }
+    ensures count { IfSome result (λ p. length (digits_at text.now).0
+        ≡ 16 + length (digits_at p.1.now).0) }
+    ensures rest { IfSome result (λ p. (digits_at p.1.now).1 ≡ (digits_at text.now).1) }
+    ensures few { IfSome result (λ p. p.0 < 10 ^ 17) }
+{
+    if before >= SIXTEEN_ROOM || text.len() < SIXTEEN || !are_sixteen_digits(text) {
+        return None;
+    }
+    let (number, rest) = after_eight(before, text);
+    Some(after_eight(number, rest))
 }

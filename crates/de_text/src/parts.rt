@@ -1,10 +1,12 @@
 // The parts of a numeral, cut from the front of a word.
-ghost use Rattle.std.specs.Prelude.{◌≡◌, ◌≤◌, ◌^◌, length, min};
+ghost use Rattle.std.specs.Prelude.{◌≡◌, ◌≤◌, ◌^◌, IfSome, Some, length, min};
 ghost use Rattle.spec_text.specs.Decimals.{value_after};
 ghost use Rattle.spec_text.specs.Splitting.{exponent_at, fraction_at, numeral_of, sign_at};
 ghost use Rattle.de_text.specs.Parts.{ShowsExponent, Splits, fraction_digits, is_minus};
 
-use crate::digits::{Digits, take_digits, take_many_digits};
+use crate::digits::{
+    Digits, eighteen_digits, one_digit, take_digits, take_many_digits, two_digits,
+};
 
 // The sign, the number that the digits without the point write, how many of them stand after the point, and the sign
 // and the size of the written exponent. Both numbers are at most `CAP`.
@@ -17,6 +19,7 @@ pub(crate) struct Parts {
     pub exponent: u64,
 }
 
+#[inline(always)]
 fn take_sign(word: &[u8]) -> (bool, &[u8])
     ensures negative { result.0 ≡ is_minus (sign_at word.now).0 }
     ensures rest { result.1.now ≡ (sign_at word.now).1 }
@@ -63,6 +66,26 @@ fn take_exponent(text: &[u8]) -> Option<(bool, u64)>
     }
 }
 
+// The parts of a numeral, by its sign, all its digits and its exponent.
+#[inline(always)]
+fn parts_of(negative: bool, digits: &Digits, exponent_negative: bool, exponent: u64) -> Parts
+    ensures { result ≡ record {
+      negative = negative;
+      mantissa = digits.now.number;
+      places = digits.now.count;
+      exponent_negative = exponent_negative;
+      exponent = exponent;
+    } }
+{
+    Parts {
+        negative,
+        mantissa: digits.number,
+        places: digits.count,
+        exponent_negative,
+        exponent,
+    }
+}
+
 // The parts of the numeral that the word is, if it is one.
 pub(crate) fn split(word: &[u8]) -> Option<Parts>
     ensures { Splits (numeral_of word.now) result }
@@ -74,11 +97,49 @@ pub(crate) fn split(word: &[u8]) -> Option<Parts>
     if whole.count == 0 && digits.count == 0 {
         return None;
     }
-    Some(Parts {
-        negative,
-        mantissa: digits.number,
-        places: digits.count,
-        exponent_negative,
-        exponent,
-    })
+    Some(parts_of(negative, &digits, exponent_negative, exponent))
+}
+
+// A point and eighteen digits at the front.
+#[inline(always)]
+fn plain_fraction(start: u64, text: &[u8]) -> Option<Digits<'_>>
+    ensures number { IfSome result (λ d. d.number
+        ≡ min (value_after start (fraction_digits text.now)) (10 ^ 18)) }
+    ensures count { IfSome result (λ d. d.count ≡ length (fraction_digits text.now)) }
+    ensures rest { IfSome result (λ d. d.rest.now ≡ (fraction_at text.now).1) }
+{
+    match text {
+        [b'.', rest @ ..] => eighteen_digits(start, rest),
+        _ => None,
+    }
+}
+
+// The sign and the size of an exponent of two digits that is the whole text.
+#[inline(always)]
+fn plain_exponent(text: &[u8]) -> Option<(bool, u64)>
+    ensures { IfSome result (λ e. ShowsExponent (exponent_at text.now) (Some e)) }
+{
+    match text {
+        [b'D' | b'd' | b'E' | b'e', rest @ ..] => {
+            let (negative, rest) = take_sign(rest);
+            let digits = two_digits(0, rest)?;
+            if digits.count == 0 || !digits.rest.is_empty() {
+                return None;
+            }
+            Some((negative, digits.number))
+        }
+        _ => None,
+    }
+}
+
+// The parts of a word as JPL writes its numbers: a digit, a point, eighteen digits, and an exponent of two.
+#[inline(always)]
+pub(crate) fn split_plain(word: &[u8]) -> Option<Parts>
+    ensures { IfSome result (λ parts. Splits (numeral_of word.now) (Some parts)) }
+{
+    let (negative, rest) = take_sign(word);
+    let whole = one_digit(rest)?;
+    let digits = plain_fraction(whole.number, whole.rest)?;
+    let (exponent_negative, exponent) = plain_exponent(digits.rest)?;
+    Some(parts_of(negative, &digits, exponent_negative, exponent))
 }

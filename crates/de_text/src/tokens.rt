@@ -9,6 +9,8 @@ use std::simd::prelude::*;
 // How many bytes are looked at at a time.
 const LANES: usize = 16;
 
+const WIDE: usize = 32;
+
 fn is_separator(b: u8) -> bool
     ensures { result ≡ is_separator b }
 {
@@ -38,8 +40,25 @@ pub(crate) fn is_blank(line: &[u8]) -> bool
     blank_len(line) == line.len()
 }
 
-// How many of sixteen bytes, from a place on, come before the first that is no greater than a blank. None of these is a
-// separator.
+// How many of thirty-two bytes, from a place on, come before the first that is no greater than a blank. None of these is
+// a separator.
+#[inline(always)]
+fn wide_run(text: &[u8], at: usize) -> usize
+    requires { at + WIDE ≤ length text.now }
+    ensures within { result ≤ WIDE }
+    ensures before { (k : ℕ) → at ≤ k → k < at + result
+        → is_separator (slice_index text.now k) ≡ false }
+{
+    let bytes = u8x32::from_slice(&text[at..]);
+    let stops = bytes.simd_le(u8x32::splat(b' ')).to_bitmask();
+    if stops == 0 {
+        WIDE
+    } else {
+        stops.trailing_zeros() as usize
+    }
+}
+
+// The same of sixteen bytes.
 #[inline(always)]
 fn token_run(text: &[u8], at: usize) -> usize
     requires { at + LANES ≤ length text.now }
@@ -56,21 +75,41 @@ fn token_run(text: &[u8], at: usize) -> usize
     }
 }
 
-// How many bytes of the token at the front are passed sixteen at a time.
+// How many bytes of the token at the front are passed thirty-two at a time.
 #[inline(always)]
-fn token_front(text: &[u8]) -> usize
+fn wide_front(text: &[u8]) -> usize
     ensures within { result ≤ length text.now }
     ensures before { (k : ℕ) → k < result → is_separator (slice_index text.now k) ≡ false }
 {
     let mut passed = 0;
-    while LANES <= text.len() - passed {
-        let run = token_run(text, passed);
+    while WIDE <= text.len() - passed {
+        let run = wide_run(text, passed);
         passed += run;
-        if run < LANES {
+        if run < WIDE {
             return passed;
         }
     }
     passed
+}
+
+// How many bytes of it are passed in all, after those that were passed before: the next sixteen are looked at, and the
+// text's last sixteen, which meet them where fewer than thirty-two are left. Fewer than sixteen are left to a plain loop.
+#[inline(always)]
+fn last_front(text: &[u8], passed: usize) -> usize
+    requires within { passed ≤ length text.now }
+    requires before { (k : ℕ) → k < passed → is_separator (slice_index text.now k) ≡ false }
+    ensures within { result ≤ length text.now }
+    ensures before { (k : ℕ) → k < result → is_separator (slice_index text.now k) ≡ false }
+{
+    if text.len() - passed < LANES {
+        return passed;
+    }
+    let run = token_run(text, passed);
+    let last = text.len() - LANES;
+    if run < LANES || passed + LANES < last {
+        return passed + run;
+    }
+    last + token_run(text, last)
 }
 
 // How many bytes the token at the front has.
@@ -79,7 +118,7 @@ fn token_len(text: &[u8]) -> usize
     ensures before { (k : ℕ) → k < result → is_separator (slice_index text.now k) ≡ false }
     ensures at { result < length text.now → is_separator (slice_index text.now result) ≡ true }
 {
-    for i in token_front(text)..text.len() {
+    for i in last_front(text, wide_front(text))..text.len() {
         if is_separator(text[i]) {
             return i;
         }

@@ -5,3 +5,4 @@ pub mod ColumnBorders
 pub mod PairLists
 pub mod StoreLists
 pub mod Times
+pub mod Small

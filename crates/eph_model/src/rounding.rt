@@ -1,5 +1,5 @@
 // Numbers rounded once, and the pairs that are kept beside them.
-ghost use Rattle.std.specs.Prelude.{◌≡◌, ◌+◌, ◌<◌, ◌≤◌, [], ◌∷◌, ◌++◌, List, length, OnOk, IsOk, vec_len, vec_capacity};
+ghost use Rattle.std.specs.Prelude.{◌≡◌, ◌↔◌, ◌+◌, ◌<◌, ◌≤◌, [], ◌∷◌, ◌++◌, List, length, OnOk, IsOk, IsTrue, vec_len, vec_capacity};
 ghost use Rattle.spec_text.specs.declared.decimals.Decimal.{Decimal};
 ghost use Rattle.spec_intervals.specs.Interval.{IsDistance};
 ghost use Rattle.spec_ephemeris.specs.Rounding.{pair_of};
@@ -10,6 +10,9 @@ use ival_core::{DISTANCE_EXPONENT, Ival, is_distance};
 use spec_ephemeris::Rounded;
 use spec_text::Decimal;
 use std::alloc::AllocError;
+
+// 2^63 times ten to this exponent is below 2^36.
+const SMALL_EXPONENT: i16 = -9;
 
 /// A number of km below 2^36 in size, rounded down and up to a whole number of units of 2^-24 km.
 pub fn pair_of(number: Decimal) -> Rounded
@@ -23,11 +26,20 @@ pub fn pair_of(number: Decimal) -> Rounded
     }
 }
 
+// Whether a number of km is below 2^36 in size. From this exponent of 10 down each number of 64 bits is.
+#[tactic(auto, using(crate::proofs::Small::small_below))]
+#[inline(always)]
+fn is_small(number: Decimal) -> bool
+    ensures { IsTrue result ↔ IsDistance number.mant number.exp }
+{
+    number.exp <= SMALL_EXPONENT || is_distance(number.mant, number.exp)
+}
+
 /// A number of km rounded, where it is below 2^36 in size, and none where it is not.
 pub fn rounded(number: Decimal) -> Option<Rounded>
     ensures { IsRounded number result }
 {
-    if is_distance(number.mant, number.exp) {
+    if is_small(number) {
         Some(pair_of(number))
     } else {
         None

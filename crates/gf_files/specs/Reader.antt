@@ -60,6 +60,11 @@ Moves reader line (Err (errors.Fault fault)) =
     (file : ℕ) (rest : List FileLine) → ephemeris_after file reader (headers.line_of file line ∷ rest) ≡ Err (breaks file fault)
 Moves reader line (Err errors.Memory) = Unit {0}
 
+-- what came of a line that left this reader
+abbrev pub moved : Result (Unit {0}) ReadError → Reader → Result Reader ReadError
+moved (Ok done) new = Ok new
+moved (Err stop) new = Err stop
+
 -- a file with this text was taken to its end
 pub record IsFed (reader : Reader) (text : List ℕ) (fed : Fed) : Type 0 where
   pub same : (file : ℕ) (rest : List FileLine) → ephemeris_after file fed.reader rest ≡ ephemeris_after file reader (file_lines file text ++ rest)

@@ -5,7 +5,7 @@ ghost use Rattle.spec_sections.specs.Sections.{FileLine};
 ghost use Rattle.spec_files.specs.Lines.{ephemeris};
 ghost use Rattle.de_header.specs.Reader as headers;
 ghost use Rattle.gf_files.specs.declared.reader.Reader.TheVariants as readers;
-ghost use Rattle.gf_files.specs.Reader.{Feeds, Finishes, IsOfHeader, IsReady, Moves, TookLine, WantsMore, ephemeris_after};
+ghost use Rattle.gf_files.specs.Reader.{Feeds, Finishes, IsOfHeader, IsReady, Moves, TookLine, WantsMore, ephemeris_after, moved};
 
 use de_blocks::BlockReader;
 use de_header::{HeaderReader, Step};
@@ -15,6 +15,7 @@ use spec_faults::LINE_TOO_LONG;
 use spec_sections::ReadError;
 use spec_text::Fault;
 use std::alloc::Global;
+use std::mem;
 
 /// What the next line belongs to.
 #[derive(Drop)]
@@ -66,23 +67,28 @@ fn take_header_line(
     }
 }
 
-// The reader after a line of the blocks.
-fn take_block_line(mut reader: BlockReader, line: &Line<'_>) -> Result<Reader, ReadError>
-    requires { IsReady (readers.Blocks reader) }
-    ensures { Moves (readers.Blocks reader) line.now result }
+// Takes a line of the blocks.
+fn take_block_line(reader: &mut BlockReader, line: &Line<'_>) -> Result<(), ReadError>
+    requires { IsReady (readers.Blocks reader.old) }
+    ensures { Moves (readers.Blocks reader.old) line.now
+        (moved result (readers.Blocks reader.new)) }
 {
     reader.line(line)?;
-    Ok(Reader::Blocks(reader))
+    Ok(())
 }
 
-// The reader after a line.
-fn take_line(alloc: Global, reader: Reader, line: &Line<'_>) -> Result<Reader, ReadError>
-    requires { IsReady reader }
-    ensures { Moves reader line.now result }
+// Takes a line, where it is: a reader of blocks is large.
+fn take_line(alloc: Global, reader: &mut Reader, line: &Line<'_>) -> Result<(), ReadError>
+    requires { IsReady reader.old }
+    ensures { Moves reader.old line.now (moved result reader.new) }
 {
     match reader {
-        Reader::Header(reader) => take_header_line(alloc, reader, line),
-        Reader::Blocks(reader) => take_block_line(reader, line),
+        Reader::Header(header) => {
+            let header = mem::replace(header, HeaderReader::new());
+            *reader = take_header_line(alloc, header, line)?;
+            Ok(())
+        }
+        Reader::Blocks(blocks) => take_block_line(blocks, line),
     }
 }
 
@@ -95,7 +101,7 @@ pub(crate) fn feed(alloc: Global, mut reader: Reader, text: &[u8]) -> Result<Fed
     let mut lines = Tokens::new(text);
     loop {
         match lines.line() {
-            LineStep::Line(line) => reader = take_line(alloc, reader, &line)?,
+            LineStep::Line(line) => take_line(alloc, &mut reader, &line)?,
             LineStep::TooLong(line) => {
                 return Err(ReadError::Fault(Fault {
                     line,

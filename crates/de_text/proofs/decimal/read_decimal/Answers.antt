@@ -1,5 +1,5 @@
 use Rattle.spec_text.proofs.Answering.{reads_by}
-use Rattle.de_text.proofs.Splits.{fits, some_is, none_is}
+use Rattle.de_text.proofs.Splits.{fits, some_is}
 use Rattle.de_text.proofs.decimal.read_decimal.Goals as goal
 
 pub assemble-requires : goal.assemble-requires
@@ -10,6 +10,3 @@ returns-in-Some-clause-reading c = some_is c.args.word.now c.in-Some.parts _ c.i
 
 pub returns-in-Some-clause-reads : goal.returns-in-Some-clause-reads
 returns-in-Some-clause-reads c = reads_by c.args.word.now _ (some_is c.args.word.now c.in-Some.parts _ c.if-word-gt-MAX_WORD_BYTES.false c.in-Some.ensures c.assemble.ensures)
-
-pub returns-in-None-clause-reads : goal.returns-in-None-clause-reads
-returns-in-None-clause-reads c = reads_by c.args.word.now _ (none_is c.args.word.now c.if-word-gt-MAX_WORD_BYTES.false c.in-None.ensures)

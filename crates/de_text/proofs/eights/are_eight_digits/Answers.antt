@@ -8,4 +8,4 @@ pub returns-then-below-eq0 : goal.returns-then-below-eq0
 returns-then-below-eq0 c test =
     let bytes = take 8 c.args.text.now in
     let long = length-take-le 8 c.args.text.now c.requires in
-    unmarked_digits bytes (sym (bitmask_splat w8 nat_lt bytes 8 48 long (omega arith)) ∙ c.if-below-eq0.true) (sym (above_marks bytes long) ∙ true_is _ _ test)
+    unmarked_digits bytes (sym (bitmask_splat w8 nat_lt bytes 8 48 long (omega arith)) ∙ c.if-below-eq0.true) (sym (above_marks 8 (omega arith) bytes long) ∙ true_is _ _ test)

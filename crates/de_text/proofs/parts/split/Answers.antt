@@ -9,7 +9,8 @@ returns c =
       | else-whole-eq0-via-then-whole-eq0+else-digits-eq0 w ↦ omega (arith, w.if-digits-eq0.false)
       | else-whole-eq0-via-else-whole-eq0 w ↦ omega (arith, w.if-whole-eq0.false)
     ] in
-    split_is c.args.word.now _ _ _ _ _ _ c.take_sign-negative.ensures.negative c.take_sign-negative.ensures.rest
+    rw c.parts_of.ensures
+    (split_is c.args.word.now _ _ _ _ _ _ c.take_sign-negative.ensures.negative c.take_sign-negative.ensures.rest
     c.take_digits-whole.ensures.number c.take_digits-whole.ensures.count c.take_digits-whole.ensures.rest
     c.take_fraction-digits.ensures.number c.take_fraction-digits.ensures.count c.take_fraction-digits.ensures.rest
-    c.in_ok-exponent_negative.ensures some
+    c.in_ok-exponent_negative.ensures some)

@@ -17,4 +17,4 @@ returns c =
 pub returns-in_err-line : goal.returns-in_err-line
 returns-in_err-line c =
     let given = err_from_is_err_and c.from_residual.result c.from_residual.ensures.1 in
-    rw (given.1, given.2) (block_stops c.args.reader c.line.new.self c.args.line.now _ c.in_err-line.ensures.says c.in_err-line.ensures.refused)
+    rw (given.1, given.2) (block_stops c.args.reader.now c.line.new.self c.args.line.now _ c.in_err-line.ensures.says c.in_err-line.ensures.refused)

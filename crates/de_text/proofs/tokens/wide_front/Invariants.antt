@@ -1,6 +1,6 @@
 use Rattle.std.proofs.Common.{◌≡◌, ℕ, ◌-◌, ◌<◌, ◌≤◌, length, get_or, false}
 use Rattle.spec_text.specs.Lines.{is_separator}
-use Rattle.de_text.proofs.tokens.token_front.Given as goal
+use Rattle.de_text.proofs.tokens.wide_front.Given as goal
 
 abbrev pub invariant-loop-passed : goal.invariant-loop-passed
 invariant-loop-passed l = record {

@@ -75,7 +75,7 @@ fn sum_of_products(pairs: &[Rounded], row: &Row) -> WideEnds
 }
 
 // The least and the greatest product of two ends. A pair has one sign, since its ends are the floor and the ceiling of one
-// number, so that two multiplications are made. Ends are chosen and then multiplied, so that no branch hangs on a sign.
+// number, so that two multiplications are made; the last case is none of a pair.
 #[inline(always)]
 fn product(c: Rounded, e: Ival62) -> WideEnds
     requires pair { IsPair c }
@@ -85,26 +85,28 @@ fn product(c: Rounded, e: Ival62) -> WideEnds
     ensures lo { result.lo ≡ least4 c.lo c.hi e.lo e.hi }
     ensures hi { result.hi ≡ greatest4 c.lo c.hi e.lo e.hi }
 {
-    let (x, y) = ends_by_pair(c, e);
+    if c.lo >= 0 {
+        lesser_and_greater(c, e.lo, e.hi)
+    } else if c.hi <= 0 {
+        lesser_and_greater(c, e.hi, e.lo)
+    } else {
+        WideEnds { lo: 0, hi: 0 }
+    }
+}
+
+// The lesser of the products of both ends of a pair with one number, and the greater of those with another.
+#[inline(always)]
+fn lesser_and_greater(c: Rounded, x: i64, y: i64) -> WideEnds
+    requires pair { IsPair c }
+    ensures lo { result.lo ≡ int_min (c.lo *ℤ x) (c.hi *ℤ x) }
+    ensures hi { result.hi ≡ int_max (c.lo *ℤ y) (c.hi *ℤ y) }
+{
     let lesser = ends_by_number(c, x).0;
     let greater = ends_by_number(c, y).1;
     WideEnds {
         lo: times(lesser, x),
         hi: times(greater, y),
     }
-}
-
-// The end of an entry that the least product with a pair is made of, and the one of the greatest.
-#[inline(always)]
-fn ends_by_pair(c: Rounded, e: Ival62) -> (i64, i64)
-    requires pair { IsPair c }
-    requires lo_fits { unsigned_abs e.lo < 2 ^ 63 }
-    requires hi_fits { unsigned_abs e.hi < 2 ^ 63 }
-    requires ordered { e.lo ≤ℤ e.hi }
-    ensures least { int_min (c.lo *ℤ result.0) (c.hi *ℤ result.0) ≡ least4 c.lo c.hi e.lo e.hi }
-    ensures greatest { int_max (c.lo *ℤ result.1) (c.hi *ℤ result.1) ≡ greatest4 c.lo c.hi e.lo e.hi }
-{
-    if c.lo < 0 { (e.hi, e.lo) } else { (e.lo, e.hi) }
 }
 
 // The end of a pair whose product with a number is the lesser, and the one whose product is the greater.

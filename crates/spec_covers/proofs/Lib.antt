@@ -1,0 +1,12 @@
+pub mod Points
+pub mod Fractions
+pub mod Near
+pub mod Rounded
+pub mod Units
+pub mod Argument
+pub mod Steps
+pub mod Rows
+pub mod Sums
+pub mod Enough
+pub mod Values
+pub mod Signs

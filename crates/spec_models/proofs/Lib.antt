@@ -1,0 +1,9 @@
+pub mod Lists
+pub mod Bounds
+pub mod Nearness
+pub mod Operations
+pub mod Made
+pub mod Between
+pub mod Values
+pub mod Coefficients
+pub mod Curvature

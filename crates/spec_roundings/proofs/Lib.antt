@@ -1,0 +1,6 @@
+pub mod Near
+pub mod Narrowing
+pub mod Products
+pub mod Scaling
+pub mod Sums
+pub mod Ordered

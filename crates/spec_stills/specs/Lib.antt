@@ -1,0 +1,4 @@
+pub mod Still
+pub mod Coarse
+pub mod Weights
+pub mod Examples

@@ -51,7 +51,7 @@ impl<'e> BodyStates<'e> {
     }
 
     /// What the quantity of a column in use is along an axis, counted from 0, over the times from `a` to `b`.
-    pub fn range_of_column(
+    pub(crate) fn range_of_column(
         &self,
         quantity: Quantity,
         number: usize,

@@ -10,6 +10,7 @@ use Rattle.spec_bodies.specs.Views.{View}
 use Rattle.spec_inclusions.specs.Bounds.{Bound}
 use Rattle.spec_bounds.specs.Terms.{coordinate_bound}
 use Rattle.event_bounds.specs.declared.bound.Bound.{Bound as Made}
+use Rattle.event_bounds.specs.declared.seen.Seen.{Seen}
 use Rattle.event_bounds.specs.declared.spans.AxisBounds.{AxisBounds}
 use Rattle.event_bounds.specs.declared.spans.Span.{Span}
 use Rattle.event_bounds.specs.Made.{IsIfWanted, IsMadeWithin, bound_made}
@@ -35,6 +36,10 @@ pub record AreBounds (v : View) (t : Times) (q : Quantity) (target : ℕ) (wante
   pub x : IsIfWanted wanted.x b.x (coordinate_bound v q target 0 t.first t.last)
   pub y : IsIfWanted wanted.y b.y (coordinate_bound v q target 1 t.first t.last)
   pub z : IsIfWanted wanted.z b.z (coordinate_bound v q target 2 t.first t.last)
+
+-- those of a target, as it is seen
+abbrev pub AreBoundsOf : Seen → ℕ → Axes → AxisBounds → Type 0
+AreBoundsOf s target wanted b = AreBounds s.states.now s.times.span.now s.quantity target wanted b
 
 pub record IsSpanSeen (v : View) (wanted : Leaves) (s : Span) : Type 0 where
   pub first_position : AreBounds v s.times.span.now Position 0 wanted.first_position s.first_position

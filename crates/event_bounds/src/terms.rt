@@ -5,7 +5,7 @@ ghost use Rattle.spec_expressions.specs.Term.{IsFormula, term};
 ghost use Rattle.spec_bounds.specs.Terms.{bound_over, term_bound};
 ghost use Rattle.event_bounds.specs.Made.{IsBound};
 ghost use Rattle.event_bounds.specs.Seen.{IsKnownRight, SeenFits};
-ghost use Rattle.event_bounds.specs.Spans.{AreBounds, IsSpanSeen, IsSpanWithin, bound_along, bounds_of, leaf_bound};
+ghost use Rattle.event_bounds.specs.Spans.{AreBounds, AreBoundsOf, IsSpanSeen, IsSpanWithin, bound_along, bounds_of, leaf_bound};
 
 use crate::bound::Bound;
 use crate::seen::Seen;
@@ -36,7 +36,7 @@ impl<'s, 't, 'e> Seen<'s, 't, 'e> {
         requires target { target < 2 }
         requires fits { SeenFits self.now }
         requires known { IsKnownRight self.now }
-        ensures { AreBounds self.now.states.now self.now.times.span.now self.now.quantity target wanted result }
+        ensures { AreBoundsOf self.now target wanted result }
     {
         AxisBounds {
             x: self.coordinate_if(wanted.x, target, 0),

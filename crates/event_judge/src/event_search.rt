@@ -91,7 +91,7 @@ impl<'e> EventSearch<'e> {
 
     /// The states of the two bodies.
     #[inline(always)]
-    pub(crate) fn states(&self) -> &BodyStates<'e>
+    pub fn states(&self) -> &BodyStates<'e>
         ensures { result.now ≡ self.now.view }
     {
         &self.states
@@ -99,7 +99,7 @@ impl<'e> EventSearch<'e> {
 
     /// The ephemeris that they read.
     #[inline(always)]
-    pub(crate) fn ephemeris(&self) -> &'e Ephemeris
+    pub fn ephemeris(&self) -> &'e Ephemeris
         ensures { result.now ≡ self.now.view.ephemeris }
     {
         self.ephemeris
@@ -107,7 +107,7 @@ impl<'e> EventSearch<'e> {
 
     /// The event.
     #[inline(always)]
-    pub(crate) fn event(&self) -> &Event
+    pub fn event(&self) -> &Event
         ensures { result.now ≡ self.now.event }
     {
         &self.event
@@ -131,7 +131,7 @@ impl<'e> EventSearch<'e> {
 
     /// The width down to which nodes are split, in units of the ephemeris's times.
     #[inline(always)]
-    pub(crate) fn width(&self) -> u64
+    pub fn width(&self) -> u64
         ensures width { result ≡ self.now.width }
         ensures some { 0 < self.now.width }
     {
@@ -141,16 +141,24 @@ impl<'e> EventSearch<'e> {
     /// What is known of it by its parts: the states read a checked ephemeris, the event has formulas, and the width is
     /// at least 1. Nothing is done.
     #[inline(always)]
-    pub(crate) fn is_search(&self)
+    pub fn is_search(&self)
         ensures { IsSearch self.now }
     {
         let _columns = self.states.columns();
         let _function = self.event.function();
     }
 
+    /// The rule by which nodes are cut.
+    #[inline(always)]
+    pub fn rule(&self) -> CutRule
+        ensures { result ≡ self.now.cut }
+    {
+        self.rule
+    }
+
     /// The depth down to which nodes are split.
     #[inline(always)]
-    pub(crate) fn depth(&self) -> u32
+    pub fn depth(&self) -> u32
         ensures { result ≡ self.now.depth }
     {
         self.depth

@@ -1,0 +1,43 @@
+-- What constants are read as has its ends in order.
+use Rattle.std.proofs.Common.{◌≡◌, arith, ℤ, Option, to_z, of_z, w64, subst}
+use Rattle.std.proofs.Math.Nat.{one-le-pow}
+use Rattle.std.proofs.lemmas.Int.{ints, to_z-of_z}
+use mir.Syntax.{w16}
+use mir.Val.{SFits}
+use borrow.Author.Differences.{down}
+use Rattle.spec_numbers.proofs.Floor.{ordered_quotients}
+use Rattle.spec_numbers.proofs.Order.{lin}
+use Rattle.spec_text.specs.declared.decimals.Decimal.{Decimal}
+use Rattle.spec_intervals.specs.Fraction.{Fraction, IsFraction}
+use Rattle.spec_intervals.specs.Interval.{Interval, decimal_bottom, decimal_top, from_decimal, zero_interval}
+use Rattle.spec_intervals.proofs.Decimals.{bottom_pos}
+use Rattle.spec_models.specs.Models.{Model}
+use Rattle.event_models.specs.Covered.{IsIfMade}
+use Rattle.spec_roundings.specs.Ends.{IsOrdered}
+use Rattle.spec_bodies.specs.declared.factor.Factor.{Factor}
+use Rattle.spec_bodies.specs.declared.factor.Factor.TheVariants.{MoonShare, Cosine, Sine}
+use Rattle.spec_bodies.specs.Meanings.{factor, factor_interval}
+
+pub zero_ordered : IsOrdered zero_interval
+zero_ordered = omega (arith, ints)
+
+pub decimal_ordered : (m q s : ℤ) → IsOrdered (from_decimal m q s)
+unfolding from_decimal
+decimal_ordered m q s = ordered_quotients (decimal_top m q s) (decimal_top m q s) (decimal_bottom q s) (bottom_pos q s) (omega (arith, lin))
+
+quotient_ordered : (r : Fraction) → IsFraction r → IsOrdered (factor_interval r)
+unfolding factor_interval
+quotient_ordered r is = ordered_quotients _ _ r.denominator is (omega (arith, lin))
+
+is_factor : (ratio : Decimal) (f : Factor) → IsFraction (factor ratio f)
+is_factor ratio MoonShare = let e = one-le-pow (down ratio.exp) 10 (omega arith) in omega (arith, e)
+is_factor ratio Cosine = omega arith
+is_factor ratio Sine = omega arith
+
+pub factor_ordered : (ratio : Decimal) (f : Factor) → IsOrdered (factor_interval (factor ratio f))
+factor_ordered ratio f = quotient_ordered (factor ratio f) (is_factor ratio f)
+
+-- a model of what is read of a decimal's parts
+pub decimal_made : (c d s m q : ℤ) (x : Interval) (r : Option Model) → SFits w64 m → SFits w16 q → x ≡ from_decimal (to_z w64 (of_z w64 m)) (to_z w16 (of_z w16 q)) s
+    → IsIfMade c d r (λ t. x) → IsIfMade c d r (λ t. from_decimal m q s)
+decimal_made c d s m q x r f g e is = subst (λ (y : Interval). IsIfMade c d r (λ t. y)) (rw (to_z-of_z w64 m f, to_z-of_z w16 q g) at e) is

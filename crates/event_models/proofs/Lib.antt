@@ -1,0 +1,20 @@
+mod Rules
+mod Constants
+mod Leaves
+mod ColumnEntries
+mod Steps
+pub mod Like
+pub mod RowSteps
+pub mod RowCovers
+pub mod SumCovers
+pub mod RowStarts
+mod RowSizes
+mod Reading
+mod PairLists
+mod Usable
+mod AxisValues
+mod GranuleLines
+mod LostUnits
+mod Rooms
+pub mod SumRows
+mod SlopeRows

@@ -1,0 +1,59 @@
+-- The rules on models at each time of a span.
+use Rattle.std.proofs.Common.{◌≡◌, [], ◌∷◌, arith, ℤ, pos, neg_ℤ, ◌+ℤ◌, ◌-ℤ◌, ◌*ℤ◌, ◌≤ℤ◌, ◌<ℤ◌, Option, None, Some}
+use Rattle.std.specs.Prelude.{IfSome}
+use Rattle.std.proofs.lemmas.Int.{ints}
+use Rattle.spec_numbers.proofs.Ring.{k, v, ◌⊕◌, ◌⊗◌, ring}
+use Rattle.spec_intervals.specs.Interval.{Interval}
+use Rattle.spec_chebyshev.specs.Differences.{IsArgument}
+use Rattle.spec_roundings.specs.Ends.{IsOrdered}
+use Rattle.spec_models.specs.Models.{Covers, Model}
+use Rattle.event_models.specs.Covered.{IsIfMade, IsModelOf, argument}
+
+-- the argument of a time
+doubled : (t : ℤ) → pos 2 *ℤ t ≡ t +ℤ t
+doubled t = ring (t ∷ []) (k (pos 2) ⊗ v 0) (v 0 ⊕ v 0) tt
+
+argument_low : (c d t u : ℤ) → u ≡ t +ℤ t → c ≤ℤ t → neg_ℤ (d -ℤ c) ≤ℤ (u -ℤ c -ℤ d)
+argument_low c d t u is after = omega (arith, ints, is, after)
+
+argument_high : (c d t u : ℤ) → u ≡ t +ℤ t → t ≤ℤ d → (u -ℤ c -ℤ d) ≤ℤ (d -ℤ c)
+argument_high c d t u is before = omega (arith, ints, is, before)
+
+positive_length : (c d : ℤ) → c <ℤ d → pos 0 <ℤ (d -ℤ c)
+positive_length c d later = omega (arith, ints, later)
+
+pub is_argument : (c d t : ℤ) → c <ℤ d → c ≤ℤ t → t ≤ℤ d → IsArgument (argument c d t) (d -ℤ c)
+is_argument c d t later after before = record {
+  positive = positive_length c d later;
+  low = argument_low c d t (pos 2 *ℤ t) (doubled t) after;
+  high = argument_high c d t (pos 2 *ℤ t) (doubled t) before;
+}
+
+module _ (c d : ℤ) (later : c <ℤ d) where
+  pub constant_made : (r : Option Model) (value : Interval) → IsOrdered value
+      → IfSome r (λ m. (p q : ℤ) → IsArgument p q → Covers m p q value) → IsIfMade c d r (λ t. value)
+  constant_made None value ordered covers = covers
+  constant_made (Some m) value ordered covers =
+      λ t after before. record { ordered = ordered; covers = covers (argument c d t) (d -ℤ c) (is_argument c d t later after before) }
+
+  -- of one operand
+  pub one_made : (op : Interval → Interval) → ((x : Interval) → IsOrdered x → IsOrdered (op x))
+      → (r : Option Model) (m : Model)
+      → IfSome r (λ k. (p q : ℤ) (x : Interval) → IsArgument p q → x.lo ≤ℤ x.hi → Covers m p q x → Covers k p q (op x))
+      → (f : ℤ → Interval) → IsModelOf c d m f → IsIfMade c d r (λ t. op (f t))
+  one_made op ordered None m covers f x = covers
+  one_made op ordered (Some made) m covers f x = λ t after before. record {
+    ordered = ordered (f t) (x t after before).ordered;
+    covers = covers (argument c d t) (d -ℤ c) (f t) (is_argument c d t later after before) (x t after before).ordered (x t after before).covers;
+  }
+
+  -- of two
+  pub two_made : (op : Interval → Interval → Interval) → ((x y : Interval) → IsOrdered x → IsOrdered y → IsOrdered (op x y))
+      → (r : Option Model) (m n : Model)
+      → IfSome r (λ k. (p q : ℤ) (x y : Interval) → IsArgument p q → x.lo ≤ℤ x.hi → y.lo ≤ℤ y.hi → Covers m p q x → Covers n p q y → Covers k p q (op x y))
+      → (f g : ℤ → Interval) → IsModelOf c d m f → IsModelOf c d n g → IsIfMade c d r (λ t. op (f t) (g t))
+  two_made op ordered None m n covers f g x y = covers
+  two_made op ordered (Some made) m n covers f g x y = λ t after before. record {
+    ordered = ordered (f t) (g t) (x t after before).ordered (y t after before).ordered;
+    covers = covers (argument c d t) (d -ℤ c) (f t) (g t) (is_argument c d t later after before) (x t after before).ordered (y t after before).ordered (x t after before).covers (y t after before).covers;
+  }

@@ -1,0 +1,12 @@
+use Rattle.std.proofs.Common.{◌-◌, arith}
+use Rattle.event_models.proofs.SlopeRows.{entry_none, entry_repeated}
+use Rattle.event_models.proofs.filling_slopes.entry_slope.Goals as goal
+
+pub returns-then-k-eq0-clause-entry : goal.returns-then-k-eq0-clause-entry
+returns-then-k-eq0-clause-entry c = entry_none c.args.line.now c.args.k c.no_entry.result c.if-k-eq0.true c.no_entry.ensures.nothing
+
+pub returns-else-k-eq0-clause-entry : goal.returns-else-k-eq0-clause-entry
+returns-else-k-eq0-clause-entry c =
+    let none = c.if-k-eq0.false in
+    let place = c.requires.place in
+    entry_repeated c.args.k _ c.multiple.result (omega (arith, none)) c.multiple.ensures.multiple c.args.line.now (c.requires.entries (c.args.k - 1) (omega (arith, none, place)))

@@ -1,0 +1,15 @@
+use Rattle.std.proofs.Common.{◌∙◌, arith}
+use Rattle.std.proofs.lemmas.List.{length-set}
+use Rattle.event_models.specs.Rows.{step_number}
+use Rattle.event_models.proofs.Steps.{kept58, one_more}
+use Rattle.event_models.proofs.rows.step_numbers.Goals as goal
+
+pub loop-k-preserved : goal.loop-k-preserved
+loop-k-preserved c =
+    let below = c.loop-k-test.true in
+    let count = c.loop-k.invariant.count in
+    record {
+      count = length-set c.loop-k.numbers c.loop-k.k _ ∙ count;
+      numbers = one_more (step_number c.args.line.now c.args.last.now.coefficients c.args.before.now.coefficients) c.loop-k.k c.loop-k.numbers _ (omega (arith, below, count)) c.loop-k.invariant.numbers
+          (kept58 c.number_at.result c.number_at.ensures.small ∙ c.number_at.ensures.equals);
+    }

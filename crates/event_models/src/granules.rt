@@ -1,0 +1,42 @@
+// The granules of columns over some times, and the pairs of their axes.
+ghost use Rattle.std.specs.Prelude.{◌≡◌, ◌<◌, ◌≤◌, ℕ, IsTrue, length, map};
+ghost use Rattle.spec_ephemeris.specs.Granules.{series_at, series_of};
+ghost use Rattle.spec_motions.specs.Enclosures.{coefficients_of};
+ghost use Rattle.spec_motions.specs.Granules.{IsEvaluable};
+ghost use Rattle.spec_bodies.specs.Reading.{IsUsable};
+ghost use Rattle.spec_bodies.specs.Views.{Fits};
+ghost use Rattle.cheby_enclose.specs.Pairs.{ArePairs, term_of};
+ghost use Rattle.event_models.specs.Granules.{IsGranuleOver};
+
+use crate::times::ModelTimes;
+use body_states::{BodyStates, Ephemeris};
+use eph_model::{Granule, Rounded};
+
+/// The granule of a column in use in which some times lie.
+pub(crate) fn granule_of<'e>(
+    states: &BodyStates,
+    ephemeris: &'e Ephemeris,
+    number: usize,
+    times: &ModelTimes,
+) -> Granule<'e>
+    requires same { states.now.ephemeris ≡ ephemeris.now }
+    requires fits { Fits states.now times.now.first times.now.last }
+    requires usable { IsUsable states.now number }
+    ensures over { IsGranuleOver times.now.first times.now.last result }
+    ensures series { (axis : ℕ)
+        → series_of result axis ≡ series_at states.now.ephemeris number axis times.now.first }
+{
+    ephemeris.granule(number, times.first)
+}
+
+/// The pairs of the coefficients of an axis.
+pub(crate) fn axis_pairs<'g>(granule: &Granule<'g>, axis: usize) -> &'g [Rounded]
+    requires granule { IsEvaluable granule.now }
+    requires axis { axis < granule.now.comps }
+    ensures pairs { ArePairs result.now }
+    ensures terms { map term_of result.now ≡ coefficients_of (series_of granule.now axis) }
+    ensures count { length result.now ≡ granule.now.n }
+{
+    let from = axis * granule.n;
+    &granule.rounded[from..from + granule.n]
+}

@@ -1,0 +1,91 @@
+// Room for the row of a quantity, which all columns share whose granules begin and end together.
+ghost use Rattle.std.specs.Prelude.{◌≡◌, ◌≤◌, IsTrue};
+ghost use Rattle.event_models.specs.Granules.{AreMade, IsGranuleOver, IsServed};
+
+use crate::filling::fill_t;
+use crate::filling_slopes::fill_slopes;
+use crate::lines::line_of;
+use crate::rows::{ENTRIES, RowModel};
+use crate::times::ModelTimes;
+use body_states::Quantity;
+use eph_model::Granule;
+use span_models::TERMS;
+
+/// The row of a quantity, with the granules whose row it is: when these begin, how long they take, and how many entries are
+/// made.
+#[derive(Drop)]
+pub(crate) struct RowRoom {
+    pub start: i64,
+    pub seconds: i64,
+    pub entries: usize,
+    pub rows: [RowModel; ENTRIES],
+}
+
+impl RowRoom {
+    /// Room in which no entry is made.
+    pub fn new() -> RowRoom
+        ensures { result.entries ≡ 0 }
+    {
+        let none = RowModel {
+            coefficients: [0; TERMS],
+            size: 0,
+            error: 0,
+        };
+        RowRoom {
+            start: 0,
+            seconds: 0,
+            entries: 0,
+            rows: [none; ENTRIES],
+        }
+    }
+
+    /// Whether its row is that of a granule.
+    pub fn serves(&self, granule: &Granule) -> bool
+        ensures { IsTrue result → IsServed granule.now self.now }
+    {
+        granule.start == self.start && granule.seconds == self.seconds && granule.n <= self.entries
+    }
+
+    /// Makes the row of a granule with some number of entries.
+    pub fn make(
+        &mut self,
+        granule: &Granule,
+        times: &ModelTimes,
+        quantity: Quantity,
+        entries: usize,
+    )
+        requires granule { IsGranuleOver times.now.first times.now.last granule.now }
+        requires enough { granule.now.n ≤ entries }
+        requires few { entries ≤ 32 }
+        ensures made { AreMade quantity times.now.first times.now.last self.new }
+        ensures served { IsServed granule.now self.new }
+    {
+        let line = line_of(granule, times);
+        self.start = granule.start;
+        self.seconds = granule.seconds;
+        self.entries = entries;
+        match quantity {
+            Quantity::Position => fill_t(&line, entries, &mut self.rows),
+            Quantity::Velocity => fill_slopes(&line, entries, &mut self.rows),
+        }
+    }
+
+    /// Makes the row of a granule where there is another.
+    pub fn turn_to(
+        &mut self,
+        granule: &Granule,
+        times: &ModelTimes,
+        quantity: Quantity,
+        entries: usize,
+    )
+        requires granule { IsGranuleOver times.now.first times.now.last granule.now }
+        requires few { entries ≤ 32 }
+        requires made { AreMade quantity times.now.first times.now.last self.old }
+        ensures made { AreMade quantity times.now.first times.now.last self.new }
+        ensures served { IsServed granule.now self.new }
+    {
+        if !self.serves(granule) {
+            self.make(granule, times, quantity, entries.max(granule.n));
+        }
+    }
+}

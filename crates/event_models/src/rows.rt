@@ -1,0 +1,213 @@
+// Models of the entries of a row, in a unit that all have in common.
+ghost use Rattle.std.specs.Prelude.{◌≡◌, ◌≤◌, ◌<◌, ◌+◌, ◌*◌, ◌^◌, ◌/◌, ◌↔◌, ℕ, ℤ, All, IfSome, IsTrue, length, slice_index_or, pos, ◌+ℤ◌, ◌-ℤ◌, ◌*ℤ◌, unsigned_abs};
+ghost use Rattle.spec_numbers.specs.Numbers.{floor_div};
+ghost use Rattle.spec_models.specs.Models.{coefficient, sizes};
+ghost use Rattle.event_models.specs.Rows.{AreNumbers, IsLine, IsNextT, IsNextU, IsRow, IsRowOf, IsSmallNumber, IsStep, last_size, line_limit, lower, product_error, row_limit, step_error, step_number, terms, without_last};
+
+use span_models::TERMS;
+
+/// The greatest size of a coefficient and of an error.
+const LIMIT: u64 = 1 << 55;
+
+/// A whole row has so many entries.
+pub(crate) const ENTRIES: usize = 32;
+
+/// A polynomial of the argument of a span, with a bound of error, and the sizes of its coefficients together.
+#[derive(Clone, Copy)]
+pub(crate) struct RowModel {
+    pub coefficients: [i64; TERMS],
+    pub size: u64,
+    pub error: u64,
+}
+
+/// The argument in the middle of a span, and by how much it grows from there to the end, in units of 2^-60.
+#[derive(Clone, Copy)]
+pub(crate) struct Line {
+    pub middle: i64,
+    pub slope: i64,
+}
+
+/// The entry after two of the row of T or of U, where its numbers are not too large.
+pub(crate) fn next_row(line: &Line, last: &RowModel, before: &RowModel) -> Option<RowModel>
+    requires line { IsLine line.now }
+    requires last { IsRow last.now }
+    requires before { IsRow before.now }
+    ensures row { IfSome result IsRow }
+    ensures of_t { IfSome result (IsNextT line.now last.now before.now) }
+    ensures of_u { IfSome result (IsNextU line.now last.now before.now) }
+{
+    stepped(line, last, before)
+}
+
+// Twice the argument times an entry, less the one before, where its numbers are not too large.
+fn stepped(line: &Line, last: &RowModel, before: &RowModel) -> Option<RowModel>
+    requires line { IsLine line.now }
+    requires last { IsRow last.now }
+    requires before { IsRow before.now }
+    ensures row { IfSome result IsRow }
+    ensures step { IfSome result (IsStep line.now last.now before.now) }
+{
+    row_of(
+        &step_numbers(line, last, before),
+        step_error(line, last, before),
+    )
+}
+
+// The model of these numbers, where none is too large.
+fn row_of(coefficients: &[i64; TERMS], error: u64) -> Option<RowModel>
+    requires count { length coefficients.now ≡ terms }
+    ensures row { IfSome result IsRow }
+    ensures numbers { IfSome result (IsRowOf coefficients.now error) }
+{
+    if error <= LIMIT && are_small(coefficients) {
+        Some(RowModel {
+            coefficients: *coefficients,
+            size: sizes_of(coefficients),
+            error,
+        })
+    } else {
+        None
+    }
+}
+
+// No number is too large.
+fn are_small(numbers: &[i64]) -> bool
+    ensures { IsTrue result ↔ All IsSmallNumber numbers.now }
+{
+    numbers.iter().all(|z| is_small(*z))
+}
+
+fn is_small(z: i64) -> bool
+    ensures { IsTrue result ↔ IsSmallNumber z }
+{
+    z.unsigned_abs() <= LIMIT
+}
+
+// The sizes of the coefficients together.
+fn sizes_of(numbers: &[i64; TERMS]) -> u64
+    requires { AreNumbers numbers.now }
+    ensures equals { result ≡ sizes numbers.now }
+    ensures small { result ≤ terms * row_limit }
+{
+    let mut sum: u64 = 0;
+    for k in 0..TERMS {
+        sum += numbers[k].unsigned_abs();
+    }
+    sum
+}
+
+// The coefficients of the step.
+fn step_numbers(line: &Line, last: &RowModel, before: &RowModel) -> [i64; TERMS]
+    requires line { IsLine line.now }
+    requires last { IsRow last.now }
+    requires before { IsRow before.now }
+    ensures count { length result ≡ terms }
+    ensures numbers { (k : ℕ) → k < terms → slice_index_or result k (pos 0)
+        ≡ step_number line.now last.now.coefficients before.now.coefficients k }
+{
+    let mut numbers = [0; TERMS];
+    for k in 0..TERMS {
+        numbers[k] = number_at(line, last, before, k);
+    }
+    numbers
+}
+
+// A coefficient of it.
+#[inline(always)]
+fn number_at(line: &Line, last: &RowModel, before: &RowModel, k: usize) -> i64
+    requires line { IsLine line.now }
+    requires last { IsRow last.now }
+    requires before { IsRow before.now }
+    requires place { k < terms }
+    ensures equals { result
+        ≡ step_number line.now last.now.coefficients before.now.coefficients k }
+    ensures small { unsigned_abs result ≤ 2 ^ 58 }
+{
+    let own = inner(&last.coefficients, k);
+    let under = below(&last.coefficients, k);
+    number(line, own, under, before.coefficients[k])
+}
+
+// A coefficient that is not the last.
+#[inline(always)]
+fn inner(numbers: &[i64; TERMS], k: usize) -> i64
+    requires numbers { AreNumbers numbers.now }
+    requires place { k < terms }
+    ensures equals { result ≡ coefficient (without_last numbers.now) k }
+    ensures small { unsigned_abs result ≤ row_limit }
+{
+    if k < TERMS - 1 { numbers[k] } else { 0 }
+}
+
+// The coefficient before.
+#[inline(always)]
+fn below(numbers: &[i64; TERMS], k: usize) -> i64
+    requires numbers { AreNumbers numbers.now }
+    requires place { k < terms }
+    ensures equals { result ≡ lower (without_last numbers.now) k }
+    ensures small { unsigned_abs result ≤ row_limit }
+{
+    if k == 0 { 0 } else { inner(numbers, k - 1) }
+}
+
+// `floor((middle own + slope below) / 2^59) - before`.
+#[inline(always)]
+fn number(line: &Line, own: i64, below: i64, before: i64) -> i64
+    requires line { IsLine line.now }
+    requires own { unsigned_abs own ≤ row_limit }
+    requires below { unsigned_abs below ≤ row_limit }
+    requires before { unsigned_abs before ≤ row_limit }
+    ensures equals { result
+        ≡ floor_div (line.now.middle *ℤ own +ℤ line.now.slope *ℤ below) (2 ^ 59) -ℤ before }
+    ensures small { unsigned_abs result ≤ 2 ^ 58 }
+{
+    halves(times(line.middle, own), times(line.slope, below)) - before
+}
+
+// `floor((a + b) / 2^59)`.
+#[inline(always)]
+fn halves(a: i128, b: i128) -> i64
+    requires a { unsigned_abs a ≤ 2 ^ 115 }
+    requires b { unsigned_abs b ≤ 2 ^ 115 }
+    ensures equals { result ≡ floor_div (a +ℤ b) (2 ^ 59) }
+    ensures small { unsigned_abs result ≤ 2 ^ 57 }
+{
+    ((a + b) >> 59) as i64
+}
+
+// The product, by one multiplication of 64-bit numbers.
+#[inline(always)]
+fn times(a: i64, b: i64) -> i128
+    requires a { unsigned_abs a ≤ line_limit }
+    requires b { unsigned_abs b ≤ row_limit }
+    ensures equals { result ≡ a *ℤ b }
+    ensures small { unsigned_abs result ≤ 2 ^ 115 }
+{
+    a as i128 * b as i128
+}
+
+// The error of the step.
+fn step_error(line: &Line, last: &RowModel, before: &RowModel) -> u64
+    requires line { IsLine line.now }
+    requires last { IsRow last.now }
+    requires before { IsRow before.now }
+    ensures { result ≡ step_error line.now last.now before.now }
+{
+    let own = last.error + last.coefficients[TERMS - 1].unsigned_abs();
+    let spread = line.middle.unsigned_abs() + line.slope.unsigned_abs();
+    let product = product_error(spread, own, last.size);
+    product + before.error + (TERMS as u64 + 3)
+}
+
+// `(spread own + 3 size + 3 own) / 2^59`.
+#[inline(always)]
+fn product_error(spread: u64, own: u64, size: u64) -> u64
+    requires spread { spread ≤ 2 ^ 61 }
+    requires own { own ≤ 2 ^ 56 }
+    requires size { size ≤ 2 ^ 60 }
+    ensures equals { result ≡ (spread * own + size * 3 + 3 * own) / 2 ^ 59 }
+    ensures small { result ≤ 2 ^ 59 }
+{
+    let wide = spread as u128 * own as u128 + size as u128 * 3 + 3 * own as u128;
+    (wide >> 59) as u64
+}

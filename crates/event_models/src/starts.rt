@@ -1,0 +1,76 @@
+// The first entries of the rows of T and U, and an entry of which its size alone is known.
+ghost use Rattle.std.specs.Prelude.{◌≡◌, ◌≤◌, ◌-◌, ◌*◌, ◌^◌, ◌∷◌, ℕ, ℤ, pos, replicate, unsigned_abs};
+ghost use Rattle.spec_numbers.specs.Numbers.{floor_div};
+ghost use Rattle.event_models.specs.Rows.{IsFirst, IsLine, IsRow, IsSecondT, IsSecondU, IsSizedT, IsSizedU, line_limit, row_limit, terms};
+
+use crate::rows::{Line, RowModel};
+use span_models::TERMS;
+
+/// 1, in units of 2^-42.
+const ONE: i64 = 1 << 42;
+
+/// That of 1, the first entry of both rows.
+pub(crate) fn first_row() -> RowModel
+    ensures row { IsRow result }
+    ensures first { IsFirst result }
+{
+    of_two(ONE, 0, 2)
+}
+
+/// That of the argument.
+pub(crate) fn second_t(line: &Line) -> RowModel
+    requires line { IsLine line.now }
+    ensures row { IsRow result }
+    ensures second { IsSecondT line.now result }
+{
+    of_two(halved(line.middle, 18), halved(line.slope, 18), 3)
+}
+
+/// That of twice the argument.
+pub(crate) fn second_u(line: &Line) -> RowModel
+    requires line { IsLine line.now }
+    ensures row { IsRow result }
+    ensures second { IsSecondU line.now result }
+{
+    of_two(halved(line.middle, 17), halved(line.slope, 17), 4)
+}
+
+// `floor(z / 2^k)`.
+fn halved(z: i64, k: u32) -> i64
+    requires small { unsigned_abs z ≤ line_limit }
+    requires many { 17 ≤ k }
+    requires few { k ≤ 18 }
+    ensures equals { result ≡ floor_div z (2 ^ k) }
+    ensures small { unsigned_abs result ≤ 2 ^ 44 }
+{
+    z >> k
+}
+
+// The model of two coefficients.
+fn of_two(first: i64, second: i64, error: u64) -> RowModel
+    requires first { unsigned_abs first ≤ 2 ^ 44 }
+    requires second { unsigned_abs second ≤ 2 ^ 44 }
+    requires error { error ≤ row_limit }
+    ensures row { IsRow result }
+    ensures numbers { result.coefficients ≡ first ∷ second ∷ replicate (terms - 2) (pos 0) }
+    ensures error { result.error ≡ error }
+{
+    let mut coefficients = [0; TERMS];
+    coefficients[0] = first;
+    coefficients[1] = second;
+    RowModel {
+        coefficients,
+        size: first.unsigned_abs() + second.unsigned_abs(),
+        error,
+    }
+}
+
+/// That of an entry of which it is known alone that it is at most so great.
+pub(crate) fn sized(size: u64) -> RowModel
+    requires size { size ≤ 32 }
+    ensures row { IsRow result }
+    ensures of_t { 1 ≤ size → IsSizedT result }
+    ensures of_u { IsSizedU size result }
+{
+    of_two(0, 0, size * (1 << 42) + 2)
+}

@@ -1,0 +1,127 @@
+// Sums of coefficients times the models of the entries of a row.
+ghost use Rattle.std.specs.Prelude.{◌≡◌, ◌≤◌, ◌<◌, ◌+◌, ◌*◌, ◌^◌, ◌-◌, ℕ, length, slice_index_or, pos, ◌+ℤ◌, ◌*ℤ◌, ◌≤ℤ◌, IfSome, false, unsigned_abs};
+ghost use Rattle.cheby_enclose.specs.Pairs.{ArePairs, IsPair};
+ghost use Rattle.event_models.specs.Rows.{AreSumRows, IsSumRow, sum_limit, terms};
+ghost use Rattle.event_models.specs.Sums.{IsAdded, IsSumOf, IsWideWithin, added_error, added_number, no_sum};
+
+use crate::rows::{ENTRIES, RowModel};
+use span_models::TERMS;
+use spec_ephemeris::Rounded;
+
+/// A polynomial with a bound of error, in 128 bits.
+#[derive(Clone, Copy)]
+pub(crate) struct Wide {
+    pub coefficients: [i128; TERMS],
+    pub error: u128,
+}
+
+/// The sum of coefficients from a place on times the entries of a row. None is made where a coefficient does not lie between two
+/// numbers next to each other.
+pub(crate) fn sum_of(pairs: &[Rounded], rows: &[RowModel; ENTRIES], from: usize) -> Option<Wide>
+    requires pairs { ArePairs pairs.now }
+    requires rows { AreSumRows (length pairs.now) rows.now }
+    requires from { from ≤ length pairs.now }
+    ensures within { IfSome result (IsWideWithin 32) }
+    ensures covers { IfSome result (IsSumOf pairs.now rows.now from) }
+{
+    let mut wide = Wide::none();
+    for i in 0..pairs.len() - from {
+        let k = pairs.len() - 1 - i;
+        if is_wide(pairs[k]) {
+            return None;
+        }
+        wide = wide.plus(pairs[k], &rows[k], i);
+    }
+    Some(wide)
+}
+
+// The ends of a coefficient are farther apart than by one.
+fn is_wide(pair: Rounded) -> bool
+    requires { IsPair pair }
+    ensures { result ≡ false → pair.hi ≤ℤ (pair.lo +ℤ pos 1) }
+{
+    pair.lo + 1 < pair.hi
+}
+
+impl Wide {
+    /// 0 alone.
+    pub fn none() -> Wide
+        ensures { result ≡ no_sum }
+    {
+        Wide {
+            coefficients: [0; TERMS],
+            error: 0,
+        }
+    }
+
+    /// The sum with a coefficient times an entry, where the coefficient is a number or lies between two next to each other.
+    pub fn plus(&self, pair: Rounded, row: &RowModel, count: usize) -> Wide
+        requires few { count < 32 }
+        requires within { IsWideWithin count self.now }
+        requires row { IsSumRow row.now }
+        requires pair { unsigned_abs pair.lo ≤ 2 ^ 60 }
+        ensures added { IsAdded pair.lo row.now self.now result }
+        ensures within { IsWideWithin (count + 1) result }
+    {
+        Wide {
+            coefficients: sums(self, pair.lo, row, count),
+            error: sum_error(self.error, pair.lo, row, count),
+        }
+    }
+}
+
+// The coefficients of the sum.
+fn sums(wide: &Wide, low: i64, row: &RowModel, count: usize) -> [i128; TERMS]
+    requires few { count < 32 }
+    requires within { IsWideWithin count wide.now }
+    requires row { IsSumRow row.now }
+    requires low { unsigned_abs low ≤ 2 ^ 60 }
+    ensures count { length result ≡ terms }
+    ensures numbers { (k : ℕ) → k < terms → slice_index_or result k (pos 0)
+        ≡ added_number low row.now.coefficients wide.now.coefficients k }
+    ensures small { (k : ℕ) → k < terms
+        → unsigned_abs (slice_index_or result k (pos 0)) ≤ (count + 1) * 2 ^ 120 }
+{
+    let mut numbers = [0; TERMS];
+    for k in 0..TERMS {
+        numbers[k] = sum(wide.coefficients[k], low, row.coefficients[k], count);
+    }
+    numbers
+}
+
+// `own + low entry`.
+#[inline(always)]
+fn sum(own: i128, low: i64, entry: i64, count: usize) -> i128
+    requires few { count < 32 }
+    requires own { unsigned_abs own ≤ count * 2 ^ 120 }
+    requires low { unsigned_abs low ≤ 2 ^ 60 }
+    requires entry { unsigned_abs entry ≤ sum_limit }
+    ensures equals { result ≡ own +ℤ low *ℤ entry }
+    ensures small { unsigned_abs result ≤ (count + 1) * 2 ^ 120 }
+{
+    own + times(low, entry)
+}
+
+// The product, by one multiplication of 64-bit numbers.
+#[inline(always)]
+fn times(low: i64, entry: i64) -> i128
+    requires low { unsigned_abs low ≤ 2 ^ 60 }
+    requires entry { unsigned_abs entry ≤ sum_limit }
+    ensures equals { result ≡ low *ℤ entry }
+    ensures small { unsigned_abs result ≤ 2 ^ 120 }
+{
+    low as i128 * entry as i128
+}
+
+// The error of the sum.
+fn sum_error(own: u128, low: i64, row: &RowModel, count: usize) -> u128
+    requires few { count < 32 }
+    requires own { own ≤ count * 2 ^ 121 }
+    requires low { unsigned_abs low ≤ 2 ^ 60 }
+    requires row { IsSumRow row.now }
+    ensures equals { result ≡ added_error low row.now own }
+    ensures small { result ≤ (count + 1) * 2 ^ 121 }
+{
+    let wide = u128::from(low.unsigned_abs()) * u128::from(row.error);
+    own + wide + u128::from(row.size) + u128::from(row.error)
+}

@@ -1,0 +1,14 @@
+mod Numbers
+mod Convolved
+mod Exponents
+mod Lifting
+mod NearMultiples
+mod NearProducts
+mod NearSums
+mod NearMargins
+mod NearTangents
+mod TangentLists
+mod TangentSteps
+mod Widened
+mod ProductSteps
+mod Halvings

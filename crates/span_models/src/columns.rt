@@ -1,0 +1,81 @@
+// The coefficients of a product, in 128 bits.
+
+ghost use Rattle.std.specs.Prelude.{◌≡◌, ◌≤◌, ◌<◌, ◌*◌, ◌^◌, ◌*ℤ◌, unsigned_abs};
+ghost use Rattle.span_models.specs.Columns.{column, AreColumns, tail_sizes};
+ghost use Rattle.spec_models.specs.Models.{sizes};
+ghost use Rattle.span_models.specs.Sizes.{size_limit, terms, AreWithin};
+
+use crate::model::TERMS;
+
+/// The first coefficients of the product of two polynomials.
+#[inline(always)]
+pub(crate) fn columns_of(a: &[i64; TERMS], b: &[i64; TERMS]) -> [i128; TERMS]
+    requires first { AreWithin size_limit a.now }
+    requires second { AreWithin size_limit b.now }
+    ensures columns { AreColumns a.now b.now terms result }
+    ensures small { AreWithin (terms * 2 ^ 120) result }
+{
+    let mut sums = [0; TERMS];
+    for k in 0..TERMS {
+        sums[k] = column_of(a, b, k);
+    }
+    sums
+}
+
+// The sum of the products of `a[i]` and `b[k - i]`.
+#[inline(always)]
+fn column_of(a: &[i64; TERMS], b: &[i64; TERMS], k: usize) -> i128
+    requires first { AreWithin size_limit a.now }
+    requires second { AreWithin size_limit b.now }
+    requires place { k < terms }
+    ensures equals { result ≡ column a.now b.now k }
+    ensures small { unsigned_abs result ≤ terms * 2 ^ 120 }
+{
+    let mut sum: i128 = 0;
+    for i in 0..k + 1 {
+        sum += times(a[i], b[k - i]);
+    }
+    sum
+}
+
+/// The sum of `|a[i]| |b[j]|` over `i + j >= TERMS`: the sizes of the coefficients that are left out.
+#[inline(always)]
+pub(crate) fn tail_of(a: &[i64; TERMS], b: &[i64; TERMS]) -> u128
+    requires first { AreWithin size_limit a.now }
+    requires second { AreWithin size_limit b.now }
+    ensures equals { result ≡ tail_sizes a.now b.now terms }
+    ensures small { result ≤ terms * (terms * 2 ^ 120) }
+{
+    let mut back: u64 = 0;
+    let mut sum: u128 = 0;
+    for i in 0..TERMS {
+        sum += a[i].unsigned_abs() as u128 * back as u128;
+        back += b[TERMS - 1 - i].unsigned_abs();
+    }
+    sum
+}
+
+/// The sum of the sizes of the coefficients.
+#[inline(always)]
+pub(crate) fn sizes_of(a: &[i64; TERMS]) -> u64
+    requires small { AreWithin size_limit a.now }
+    ensures equals { result ≡ sizes a.now }
+    ensures small { result ≤ terms * 2 ^ 60 }
+{
+    let mut sum: u64 = 0;
+    for i in 0..TERMS {
+        sum += a[i].unsigned_abs();
+    }
+    sum
+}
+
+// The product of two coefficients, by one multiplication of 64-bit numbers.
+#[inline(always)]
+fn times(a: i64, b: i64) -> i128
+    requires a_small { unsigned_abs a ≤ size_limit }
+    requires b_small { unsigned_abs b ≤ size_limit }
+    ensures equals { result ≡ a *ℤ b }
+    ensures small { unsigned_abs result ≤ 2 ^ 120 }
+{
+    a as i128 * b as i128
+}

@@ -1,0 +1,133 @@
+// Models of single numbers, of lines and of intervals.
+
+ghost use Rattle.std.specs.Prelude.{◌≡◌, ◌≤◌, ◌<◌, ◌*◌, ◌^◌, ℤ, ℕ, pos, ◌*ℤ◌, ◌+ℤ◌, ◌-ℤ◌, ◌≤ℤ◌, unsigned_abs, IfSome, [], ◌∷◌, length};
+ghost use Rattle.spec_numbers.specs.Numbers.{floor_div};
+ghost use Rattle.spec_intervals.specs.Fraction.{fraction};
+ghost use Rattle.spec_chebyshev.specs.Differences.{IsArgument};
+ghost use Rattle.spec_models.specs.Models.{Covers, IsNear, coefficient, constant, model};
+ghost use Rattle.span_models.specs.Sizes.{terms};
+ghost use Rattle.span_models.specs.Settled.{Reaches};
+ghost use Rattle.span_models.specs.Making.{IsMiddle};
+
+use crate::model::{Model, TERMS};
+use crate::settling::settled;
+use ival_core::Ival;
+use spec_models::laws::{changes, constants, lists};
+
+/// The greatest size of an exponent that a number is given, 2^20.
+const EXPONENT_LIMIT: u32 = 1 << 20;
+
+impl Model {
+    /// A model near which all is that is near `first + second u`, within `error`, all in units of `2^exponent`. Its own unit is
+    /// as fine as its numbers allow.
+    pub fn of_line(first: i64, second: i64, error: u64, exponent: i32) -> Option<Model>
+        requires { unsigned_abs exponent ≤ 2 ^ 20 }
+        ensures { IfSome result (λ m. Reaches (model (first ∷ second ∷ []) error exponent) m) }
+    {
+        changes();
+        lists();
+        let j = fine_shift(greatest_of(first, second, error));
+        let wide = line_of(lifted(first, j), lifted(second, j));
+        settled(&wide, lifted_error(error, j), exponent - j as i32)
+    }
+
+    /// A model that covers an interval at each argument: that of its middle, with half its width as error. None where the
+    /// exponent is past the limit.
+    pub fn of_interval(x: Ival) -> Option<Model>
+        ensures { IfSome result (λ m. (p q : ℤ) → IsArgument p q → Covers m p q x) }
+    {
+        constants();
+        lists();
+        let (lo, hi, exponent) = x.parts();
+        if exponent.unsigned_abs() <= EXPONENT_LIMIT {
+            let (middle, error) = middle_of(lo, hi);
+            Model::of_line(middle, 0, error, exponent)
+        } else {
+            None
+        }
+    }
+}
+
+// The greatest size of three numbers.
+#[inline(always)]
+fn greatest_of(first: i64, second: i64, error: u64) -> u64 {
+    first.unsigned_abs().max(second.unsigned_abs()).max(error)
+}
+
+// By how many bits the unit of numbers of this size can be made finer.
+#[inline(always)]
+fn fine_shift(size: u64) -> u32
+    ensures { result ≤ 58 }
+{
+    if size >= 1 << 58 {
+        0
+    } else if size == 0 {
+        0
+    } else {
+        58 - size.ilog2()
+    }
+}
+
+// `2^j z`.
+#[inline(always)]
+fn lifted(z: i64, j: u32) -> i128
+    requires { j ≤ 58 }
+    ensures { result ≡ pos (2 ^ j) *ℤ z }
+{
+    (1i128 << (j % 64)) * z as i128
+}
+
+// `2^j error`.
+#[inline(always)]
+fn lifted_error(error: u64, j: u32) -> u128
+    requires { j ≤ 58 }
+    ensures { result ≡ error * 2 ^ j }
+{
+    error as u128 * (1u128 << (j % 64))
+}
+
+// Two coefficients, and 0 for the others.
+#[inline(always)]
+fn line_of(first: i128, second: i128) -> [i128; TERMS]
+    ensures coefficients { (k : ℕ) → coefficient (first ∷ second ∷ []) k ≡ coefficient result k }
+    ensures count { length result ≡ terms }
+{
+    let mut wide = [0; TERMS];
+    wide[0] = first;
+    wide[1] = second;
+    wide
+}
+
+// The middle of two ends in order, rounded down, and the greater distance of an end from it.
+#[inline(always)]
+fn middle_of(lo: i128, hi: i128) -> (i64, u64)
+    requires lo_small { unsigned_abs lo ≤ 2 ^ 62 }
+    requires hi_small { unsigned_abs hi ≤ 2 ^ 62 }
+    requires ordered { lo ≤ℤ hi }
+    ensures { IsMiddle lo hi result.0 result.1 }
+{
+    let middle = half_sum(lo, hi);
+    let distance = distance_to(middle, hi);
+    (middle, distance)
+}
+
+// `floor((lo + hi) / 2)`.
+#[inline(always)]
+fn half_sum(lo: i128, hi: i128) -> i64
+    requires lo_small { unsigned_abs lo ≤ 2 ^ 62 }
+    requires hi_small { unsigned_abs hi ≤ 2 ^ 62 }
+    ensures { result ≡ floor_div (lo +ℤ hi) 2 }
+{
+    ((lo + hi) >> 1) as i64
+}
+
+// How far one number is above another.
+#[inline(always)]
+fn distance_to(low: i64, high: i128) -> u64
+    requires low_small { unsigned_abs low ≤ 2 ^ 62 }
+    requires high_small { unsigned_abs high ≤ 2 ^ 62 }
+    requires ordered { low ≤ℤ high }
+    ensures { pos result ≡ high -ℤ low }
+{
+    (high - low as i128) as u64
+}

@@ -1,0 +1,75 @@
+// How far numbers keep from 0.
+
+ghost use Rattle.std.specs.Prelude.{◌≡◌, ◌+◌, ℤ, pos, ◌-ℤ◌, ◌≤ℤ◌, ◌<◌, ◌≤◌, ◌^◌, unsigned_abs, IfSome};
+ghost use Rattle.spec_intervals.specs.Fraction.{Fraction};
+ghost use Rattle.spec_chebyshev.specs.Differences.{IsArgument};
+ghost use Rattle.spec_models.specs.Models.{IsNear};
+ghost use Rattle.span_models.specs.Margins.{KeepsFrom};
+ghost use Rattle.span_models.specs.Tangents.{IsMarginOf, IsSmallTangent};
+
+use crate::model::Model;
+use crate::tangents::{Tangent, line_of, place_of, tangent_of};
+use spec_models::laws::{arguments, betweens, changes, constants, lists, operations, widenings};
+
+/// How far numbers keep from 0, on one side of it: `size` times 2^`exponent`.
+#[derive(Clone, Copy, Debug, PartialEq, Eq)]
+pub struct Margin {
+    pub is_above: bool,
+    pub size: u64,
+    pub exponent: i32,
+}
+
+impl Model {
+    /// How far from 0 all numbers keep that are near it at arguments from `first` to `last`, over `q`. None where some may
+    /// be 0.
+    pub fn margin(&self, first: i64, last: i64, q: i64) -> Option<Margin>
+        requires first { IsArgument first q }
+        requires last { IsArgument last q }
+        requires ordered { first ≤ℤ last }
+        ensures { IfSome result (λ g. (p : ℤ) (r : Fraction) → first ≤ℤ p → p ≤ℤ last
+            → IsNear self.now p q r → KeepsFrom g r) }
+    {
+        arguments();
+        betweens();
+        changes();
+        constants();
+        lists();
+        operations();
+        widenings();
+        let (middle, width) = place_of(first, last, q);
+        let line = line_of(middle, width, q);
+        match tangent_of(self.coefficients(), &line) {
+            Some(known) => margin_by(&known, self.error(), self.exponent()),
+            None => None,
+        }
+    }
+}
+
+// That of a tangent, of which numbers are within an error.
+#[inline(always)]
+fn margin_by(known: &Tangent, error: u64, exponent: i32) -> Option<Margin>
+    requires known { IsSmallTangent known.now }
+    ensures { IfSome result (IsMarginOf known.now.value
+        (known.now.error + error + unsigned_abs known.now.slope) exponent) }
+{
+    let spread = known.error + error as u128 + known.slope.unsigned_abs();
+    margin_beyond(known.value, spread, exponent)
+}
+
+// That of numbers up to a spread from a value.
+#[inline(always)]
+fn margin_beyond(value: i128, spread: u128, exponent: i32) -> Option<Margin>
+    requires { unsigned_abs value < 2 ^ 64 }
+    ensures { IfSome result (IsMarginOf value spread exponent) }
+{
+    let size = value.unsigned_abs();
+    if size > spread {
+        Some(Margin {
+            is_above: value > 0,
+            size: (size - spread) as u64,
+            exponent,
+        })
+    } else {
+        None
+    }
+}

@@ -1,0 +1,114 @@
+// Models made from models.
+
+ghost use Rattle.std.specs.Prelude.{◌≡◌, ◌≤◌, ◌+◌, ◌*◌, ◌^◌, ◌≤ℤ◌, IfSome};
+ghost use Rattle.spec_models.specs.Models.{bulk, negated, sizes, widened};
+ghost use Rattle.span_models.specs.Sizes.{terms, IsSmall};
+ghost use Rattle.span_models.specs.Columns.{tail_sizes};
+ghost use Rattle.span_models.specs.Near.{IsSumOf, IsDifferenceOf, IsProductOf, IsMultipleOf};
+
+use crate::columns::{columns_of, sizes_of, tail_of};
+use crate::model::Model;
+use crate::settling::settled;
+use crate::sums::{coarser_error, exponent_gap, multiples_of, opposite_of, sums_of};
+use spec_models::laws::{changes, multiples, operations};
+
+/// The greatest error of a model, 2^60.
+const SIZE_LIMIT: u64 = 1 << 60;
+
+impl Model {
+    /// The product, if its exponent is not past the limit: the upper coefficients are in its error.
+    pub fn product(&self, other: &Model) -> Option<Model>
+        ensures { IfSome result (λ m. IsProductOf m self.now other.now) }
+    {
+        operations();
+        changes();
+        let wide = columns_of(self.coefficients(), other.coefficients());
+        let error = product_error(self, other);
+        settled(&wide, error, self.exponent() + other.exponent())
+    }
+
+    /// The sum, if its exponent is not past the limit, at the greater exponent of both.
+    pub fn sum(&self, other: &Model) -> Option<Model>
+        ensures { IfSome result (λ m. IsSumOf m self.now other.now) }
+    {
+        if self.exponent() <= other.exponent() {
+            sum_upward(self, other)
+        } else {
+            sum_upward(other, self)
+        }
+    }
+
+    /// The difference, if its exponent is not past the limit, at the greater exponent of both.
+    pub fn difference(&self, other: &Model) -> Option<Model>
+        ensures { IfSome result (λ m. IsDifferenceOf m self.now other.now) }
+    {
+        operations();
+        self.sum(&other.negated())
+    }
+
+    /// The numbers that are near it times a whole number, if the exponent is not past the limit.
+    pub fn scaled(&self, times: u32) -> Option<Model>
+        ensures { IfSome result (λ m. IsMultipleOf m times self.now) }
+    {
+        multiples();
+        let wide = multiples_of(self.coefficients(), times);
+        let error = self.error() as u128 * times as u128;
+        settled(&wide, error, self.exponent())
+    }
+
+    /// With an error that is greater by so many units, unless it is past the limit then.
+    pub fn widened(&self, units: u64) -> Option<Model>
+        ensures { IfSome result (λ m. m ≡ widened units self.now) }
+    {
+        let error = self.error().checked_add(units)?;
+        if error <= SIZE_LIMIT {
+            Some(Model::of_parts(*self.coefficients(), error, self.exponent()))
+        } else {
+            None
+        }
+    }
+
+    /// No number near it is greater than so many units in size.
+    pub fn bulk(&self) -> u64
+        ensures { result ≡ bulk self.now }
+    {
+        sizes_of(self.coefficients()) + self.error()
+    }
+
+    /// The model of the negated numbers.
+    pub fn negated(&self) -> Model
+        ensures { result ≡ negated self.now }
+    {
+        Model::of_parts(
+            opposite_of(self.coefficients()),
+            self.error(),
+            self.exponent(),
+        )
+    }
+}
+
+// What the errors of two models, and the coefficients that are left out, come to in a product.
+#[inline(always)]
+fn product_error(a: &Model, b: &Model) -> u128
+    ensures { result ≡ sizes a.now.coefficients * b.now.error + sizes b.now.coefficients * a.now.error
+        + a.now.error * b.now.error + tail_sizes a.now.coefficients b.now.coefficients terms }
+{
+    let by_first = sizes_of(a.coefficients()) as u128 * b.error() as u128;
+    let by_second = sizes_of(b.coefficients()) as u128 * a.error() as u128;
+    let by_both = a.error() as u128 * b.error() as u128;
+    by_first + by_second + by_both + tail_of(a.coefficients(), b.coefficients())
+}
+
+// The sum of two models, the first at the lower exponent.
+#[inline(always)]
+fn sum_upward(lower: &Model, upper: &Model) -> Option<Model>
+    requires order { lower.now.exponent ≤ℤ upper.now.exponent }
+    ensures { IfSome result (λ m. IsSumOf m lower.now upper.now) }
+{
+    operations();
+    changes();
+    let k = exponent_gap(lower.exponent(), upper.exponent());
+    let wide = sums_of(lower.coefficients(), k, upper.coefficients());
+    let error = coarser_error(lower.error(), k) as u128 + upper.error() as u128;
+    settled(&wide, error, upper.exponent())
+}

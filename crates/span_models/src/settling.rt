@@ -1,0 +1,119 @@
+// Models of large numbers, brought to a unit in which their numbers are those of a model.
+
+ghost use Rattle.std.specs.Prelude.{◌≡◌, ◌≤◌, ◌<◌, ◌+◌, ◌*◌, ◌^◌, pos, ◌+ℤ◌, unsigned_abs, IfSome, ◌↔◌, IsTrue, length};
+ghost use Rattle.spec_numbers.specs.Numbers.{floor_div};
+ghost use Rattle.spec_models.specs.Models.{model, halved};
+ghost use Rattle.span_models.specs.Sizes.{settled_limit, exponent_limit, terms, AreWithin};
+ghost use Rattle.span_models.specs.Settled.{Reaches, at_coarser, raised_error};
+
+use crate::model::{Model, TERMS};
+use spec_models::laws::changes;
+
+/// The greatest size of an exponent of a model, 2^20.
+const EXPONENT_LIMIT: u32 = 1 << 20;
+
+/// What an error gains where a unit grows: one for each coefficient that is rounded, and one for itself.
+pub(crate) const ROUNDING: u64 = TERMS as u64 + 1;
+
+/// A model near which all is that is near the one of these coefficients, this error and this exponent. None where its own
+/// exponent is past the limit.
+#[inline(always)]
+pub fn settled(wide: &[i128; TERMS], error: u128, exponent: i32) -> Option<Model>
+    requires exponent { unsigned_abs exponent ≤ 2 ^ 22 }
+    requires count { length wide.now ≡ terms }
+    ensures { IfSome result (λ m. Reaches (model wide.now error exponent) m) }
+{
+    changes();
+    let k = settling_shift(greatest_size(wide, error));
+    let coarser = exponent + k as i32;
+    if is_exponent(coarser) {
+        Some(settled_by(wide, error, exponent, k))
+    } else {
+        None
+    }
+}
+
+// The greatest size of some numbers and an error.
+#[inline(always)]
+fn greatest_size(wide: &[i128; TERMS], error: u128) -> u128
+    requires count { length wide.now ≡ terms }
+    ensures error { error ≤ result }
+    ensures coefficients { AreWithin result wide.now }
+{
+    let mut size = error;
+    for i in 0..TERMS {
+        size = size.max(wide[i].unsigned_abs());
+    }
+    size
+}
+
+// How often a number of this size is halved until it is below 2^59.
+#[inline(always)]
+fn settling_shift(size: u128) -> u32
+    ensures enough { size < settled_limit * 2 ^ result }
+    ensures few { result ≤ 69 }
+{
+    if size < 1 << 59 { 0 } else { size.ilog2() - 58 }
+}
+
+// Whether an exponent is not past the limit.
+#[inline(always)]
+fn is_exponent(exponent: i32) -> bool
+    ensures { IsTrue result ↔ unsigned_abs exponent ≤ exponent_limit }
+{
+    exponent.unsigned_abs() <= EXPONENT_LIMIT
+}
+
+// The model of numbers that are halved so often, which is enough.
+#[inline(always)]
+fn settled_by(wide: &[i128; TERMS], error: u128, exponent: i32, k: u32) -> Model
+    requires coefficients { AreWithin (settled_limit * 2 ^ k) wide.now }
+    requires error { error < settled_limit * 2 ^ k }
+    requires exponent { unsigned_abs exponent ≤ 2 ^ 22 }
+    requires coarser { unsigned_abs (exponent +ℤ pos k) ≤ exponent_limit }
+    requires few { k ≤ 69 }
+    ensures { result ≡ at_coarser k (model wide.now error exponent) }
+{
+    Model::of_parts(halved_by(wide, k), error_by(error, k), exponent + k as i32)
+}
+
+// Each number halved so often, rounded down.
+#[inline(always)]
+fn halved_by(wide: &[i128; TERMS], k: u32) -> [i64; TERMS]
+    requires small { AreWithin (settled_limit * 2 ^ k) wide.now }
+    requires few { k ≤ 69 }
+    ensures equals { result ≡ halved k wide.now }
+    ensures small { AreWithin settled_limit result }
+{
+    let mut halves = [0; TERMS];
+    for i in 0..TERMS {
+        halves[i] = shifted(wide[i], k);
+    }
+    halves
+}
+
+// `floor(z / 2^k)`.
+#[inline(always)]
+fn shifted(z: i128, k: u32) -> i64
+    requires small { unsigned_abs z ≤ settled_limit * 2 ^ k }
+    requires few { k ≤ 69 }
+    ensures equals { result ≡ floor_div z (2 ^ k) }
+    ensures small { unsigned_abs result ≤ settled_limit }
+{
+    (z >> k) as i64
+}
+
+// The error in units that are 2^k as great: rounded up, and one unit more for each coefficient.
+#[inline(always)]
+fn error_by(error: u128, k: u32) -> u64
+    requires small { error < settled_limit * 2 ^ k }
+    requires few { k ≤ 69 }
+    ensures equals { result ≡ raised_error k error }
+    ensures small { result ≤ settled_limit + terms + 1 }
+{
+    if k == 0 {
+        error as u64
+    } else {
+        (error >> k) as u64 + ROUNDING
+    }
+}

@@ -1,0 +1,111 @@
+// Sums of coefficients in two units.
+
+ghost use Rattle.std.specs.Prelude.{◌≡◌, ◌≤◌, ◌<◌, ◌+◌, ◌*◌, ◌^◌, ℕ, slice_index_or, pos, ◌+ℤ◌, ◌*ℤ◌, ◌≤ℤ◌, neg_ℤ, unsigned_abs, length};
+ghost use Rattle.std.specs.Int.{int_gap};
+ghost use Rattle.spec_numbers.specs.Numbers.{floor_div};
+ghost use Rattle.spec_models.specs.Models.{added, halved, opposite};
+ghost use Rattle.span_models.specs.Sizes.{size_limit, exponent_limit, terms, AreWithin};
+ghost use Rattle.span_models.specs.Settled.{raised_error};
+
+use crate::model::TERMS;
+use crate::settling::ROUNDING;
+
+/// The sums of some coefficients, each halved so often and rounded down, and others.
+#[inline(always)]
+pub(crate) fn sums_of(a: &[i64; TERMS], k: u32, b: &[i64; TERMS]) -> [i128; TERMS]
+    requires first { AreWithin size_limit a.now }
+    requires second { AreWithin size_limit b.now }
+    ensures equals { result ≡ added (halved k a.now) b.now }
+    ensures count { length result ≡ terms }
+{
+    let mut sums = [0; TERMS];
+    for i in 0..TERMS {
+        sums[i] = sum_of_two(a[i], k, b[i]);
+    }
+    sums
+}
+
+// `floor(a / 2^k) + b`.
+#[inline(always)]
+fn sum_of_two(a: i64, k: u32, b: i64) -> i128
+    requires a_small { unsigned_abs a ≤ size_limit }
+    requires b_small { unsigned_abs b ≤ size_limit }
+    ensures equals { result ≡ floor_div a (2 ^ k) +ℤ b }
+    ensures small { unsigned_abs result ≤ 2 ^ 61 }
+{
+    ((a >> k.min(63)) + b) as i128
+}
+
+/// The error in units that are 2^k as great, of any k.
+#[inline(always)]
+pub(crate) fn coarser_error(error: u64, k: u32) -> u64
+    requires { error ≤ size_limit }
+    ensures equals { result ≡ raised_error k error }
+    ensures small { result ≤ size_limit + terms + 1 }
+{
+    if k == 0 {
+        error
+    } else {
+        (error >> k.min(63)) + ROUNDING
+    }
+}
+
+/// The numbers times a whole number.
+#[inline(always)]
+pub(crate) fn multiples_of(a: &[i64; TERMS], times: u32) -> [i128; TERMS]
+    requires { AreWithin size_limit a.now }
+    ensures multiples { (k : ℕ) → k < terms
+        → slice_index_or result k (pos 0) ≡ pos times *ℤ slice_index_or a.now k (pos 0) }
+    ensures count { length result ≡ terms }
+{
+    let mut multiples = [0; TERMS];
+    for i in 0..TERMS {
+        multiples[i] = multiple(a[i], times);
+    }
+    multiples
+}
+
+// `times z`.
+#[inline(always)]
+fn multiple(z: i64, times: u32) -> i128
+    requires { unsigned_abs z ≤ size_limit }
+    ensures equals { result ≡ pos times *ℤ z }
+    ensures small { unsigned_abs result ≤ 2 ^ 92 }
+{
+    times as i128 * z as i128
+}
+
+/// How far one exponent is above another.
+#[inline(always)]
+pub(crate) fn exponent_gap(low: i32, high: i32) -> u32
+    requires order { low ≤ℤ high }
+    requires low_small { unsigned_abs low ≤ 2 * exponent_limit }
+    requires high_small { unsigned_abs high ≤ 2 * exponent_limit }
+    ensures { low +ℤ pos result ≡ high }
+{
+    (high - low) as u32
+}
+
+/// The numbers negated.
+#[inline(always)]
+pub(crate) fn opposite_of(a: &[i64; TERMS]) -> [i64; TERMS]
+    requires { AreWithin size_limit a.now }
+    ensures equals { result ≡ opposite a.now }
+    ensures small { AreWithin size_limit result }
+{
+    let mut negated = [0; TERMS];
+    for i in 0..TERMS {
+        negated[i] = minus(a[i]);
+    }
+    negated
+}
+
+// `-z`.
+#[inline(always)]
+fn minus(z: i64) -> i64
+    requires { unsigned_abs z ≤ size_limit }
+    ensures equals { result ≡ neg_ℤ z }
+    ensures small { unsigned_abs result ≤ size_limit }
+{
+    -z
+}

@@ -1,0 +1,58 @@
+-- One still span more at the end of those that are found.
+use Rattle.std.proofs.Common.{◌≡◌, ◌<◌, List, [], ◌∷◌, ◌++◌, Result, Ok, Err, ℤ, pos, negsuc, ◌+ℤ◌, ◌-ℤ◌, ◌≤ℤ◌, ◌<ℤ◌, arith, refl}
+use Rattle.std.specs.Prelude.{IfOk, Vec}
+use Rattle.std.specs.declared.alloc.Global.{Global}
+use Rattle.std.proofs.lemmas.Int.{ints}
+use Rattle.std.proofs.lemmas.List.Elements.{All-nil, All-push}
+use Rattle.spec_ephemeris.specs.Series.{to_nat}
+use Rattle.spec_searches.specs.Search.{Search}
+use Rattle.spec_stills.specs.declared.still.StillSpan.{StillSpan}
+use Rattle.spec_stills.specs.Still.{IsStill}
+use Rattle.still_spans.specs.Found.{AreFound, AreInOrder, Follow, IsStillOver}
+
+follow_on : (from : ℤ) (xs : List StillSpan) (a b : ℤ) → Follow from xs a → a ≤ℤ b → Follow from xs b
+follow_on from [] a b follow later = omega (arith, ints, follow, later)
+follow_on from (x ∷ xs) a b follow later = (follow.0, follow.1, follow_on x.upto xs a b follow.2 later)
+
+follow_more : (from : ℤ) (xs : List StillSpan) (a b : ℤ) (x : StillSpan) → Follow from xs a → a ≤ℤ x.from → x.from <ℤ x.upto → x.upto ≤ℤ b
+    → Follow from (xs ++ x ∷ []) b
+follow_more from [] a b x follow after several upto = (omega (arith, ints, follow, after), several, upto)
+follow_more from (y ∷ xs) a b x follow after several upto = (follow.0, follow.1, follow_more y.upto xs a b x follow.2 after several upto)
+
+pub in_order : (from : ℤ) (xs : List StillSpan) (upto : ℤ) → Follow from xs upto → AreInOrder from xs
+in_order from [] upto follow = tt
+in_order from (x ∷ xs) upto follow = (follow.0, follow.1, in_order x.upto xs upto follow.2)
+
+pub sooner : (from later : ℤ) (xs : List StillSpan) → from ≤ℤ later → AreInOrder later xs → AreInOrder from xs
+sooner from later [] less order = tt
+sooner from later (x ∷ xs) less order = let after = order.0 in (omega (arith, ints, less, after), order.1, order.2)
+
+pub passed : (s : Search) (from : ℤ) (xs : List StillSpan) (a b : ℤ) → AreFound s from xs a → a ≤ℤ b → AreFound s from xs b
+passed s from xs a b found later = record { still = found.still; follow = follow_on from xs a b found.follow later }
+
+pub added : (s : Search) (from : ℤ) (xs : List StillSpan) (a b : ℤ) (x : StillSpan) → AreFound s from xs a → a <ℤ b → IsStillOver s a b x
+    → AreFound s from (xs ++ x ∷ []) b
+added s from xs a b x found several over =
+    let begins = over.from in
+    let ends = over.upto in
+    record {
+      still = All-push (IsStill s) xs x found.still over.still;
+      follow = follow_more from xs a b x found.follow (omega (arith, ints, begins)) (omega (arith, ints, begins, ends, several)) (omega (arith, ints, ends));
+    }
+
+pub none_yet : (s : Search) (from : ℤ) → AreFound s from [] from
+none_yet s from = record { still = All-nil (IsStill s); follow = omega (arith, ints) }
+
+-- from a later time on
+pub sooner_if : {E : Type 0} (from later : ℤ) (r : Result (Vec StillSpan Global) E) → from ≤ℤ later → IfOk r (λ found. AreInOrder later found.items) → IfOk r (λ found. AreInOrder from found.items)
+sooner_if from later (Ok found) less order = sooner from later found.items less order
+sooner_if from later (Err e) less order = order
+
+-- the time after the end of a granule is nearer to the last
+pub nearer : (here end upto : ℤ) → here <ℤ upto → here ≤ℤ end → to_nat (upto -ℤ (end +ℤ pos 1)) < to_nat (upto -ℤ here)
+nearer here end upto before after = by (upto -ℤ (end +ℤ pos 1)) (upto -ℤ here) refl refl
+  where
+    by : (x y : ℤ) → upto -ℤ (end +ℤ pos 1) ≡ x → upto -ℤ here ≡ y → to_nat x < to_nat y
+    by (pos m) (pos n) e f = omega (arith, ints, e, f, after)
+    by (negsuc m) (pos n) e f = omega (arith, ints, f, before)
+    by x (negsuc n) e f = absurd (omega (arith, ints, f, before))

@@ -1,0 +1,4 @@
+mod Doubled
+mod Margins
+mod Following
+pub mod Quieted

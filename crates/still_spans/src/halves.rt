@@ -1,0 +1,94 @@
+// The still spans of one granule: those of its halves, of their halves, and so on.
+ghost use Rattle.std.specs.Prelude.{◌≡◌, ◌^◌, ◌≤ℤ◌, ◌<ℤ◌, ◌+ℤ◌, neg_ℤ, pos, ℤ, OnOk, false};
+ghost use Rattle.spec_trees.specs.Cuts.{CanCut};
+ghost use Rattle.still_spans.specs.Found.{AreFound, IsStillOver};
+ghost use Rattle.still_spans.specs.Knowledge.{IsKnown};
+
+use crate::known::Known;
+use event_judge::EventSearch;
+use gf_hooks::{CutRule, rule_cut};
+use spec_stills::StillSpan;
+use std::alloc::AllocError;
+
+/// How often a granule is halved at most.
+pub(crate) const DEEPEST: u32 = 24;
+
+/// How many spans of a granule are looked at at most.
+pub(crate) const MOST_TRIES: u32 = 256;
+
+/// The width, in ticks, of the widest spans that are not halved.
+const NARROWEST: u64 = 16;
+
+/// The still spans that are found, and how many more spans of a granule are looked at.
+#[derive(Drop)]
+pub(crate) struct Walk {
+    pub(crate) found: Vec<StillSpan>,
+    pub(crate) tries: u32,
+}
+
+// No wider than what is not halved, or than the nodes that are not split.
+fn is_narrow(search: &EventSearch, a: i64, b: i64) -> bool
+    requires { a <ℤ b }
+    ensures { result ≡ false → (a +ℤ pos 1) <ℤ b }
+{
+    b.abs_diff(a) <= search.width().max(NARROWEST)
+}
+
+// Where the tree cuts a node of these times.
+fn middle(a: i64, b: i64) -> i64
+    requires { CanCut a b }
+    ensures from { a <ℤ result }
+    ensures upto { result <ℤ b }
+{
+    rule_cut(CutRule::Half, a, b)
+}
+
+impl Walk {
+    /// One still span more, after those before.
+    pub(crate) fn add(
+        &mut self,
+        search: &EventSearch,
+        a: i64,
+        b: i64,
+        still: StillSpan,
+    ) -> Result<(), AllocError>
+        requires several { a <ℤ b }
+        requires still { IsStillOver search.now a b still }
+        ensures { (from : ℤ) → AreFound search.now from self.old.found.items a
+            → OnOk result (AreFound search.now from self.new.found.items b) }
+    {
+        self.found.push(still)?;
+        Ok(())
+    }
+
+    /// Adds still spans from one time to another: the span itself, or those of its halves.
+    pub(crate) fn add_halves(
+        &mut self,
+        search: &EventSearch,
+        known: &Known,
+        a: i64,
+        b: i64,
+        depth: u32,
+    ) -> Result<(), AllocError>
+        requires known { IsKnown search.now known.now }
+        requires from { known.now.first ≤ℤ a }
+        requires several { a <ℤ b }
+        requires upto { b ≤ℤ known.now.last }
+        ensures { (from : ℤ) → AreFound search.now from self.old.found.items a
+            → OnOk result (AreFound search.now from self.new.found.items b) }
+    {
+        if self.tries == 0 {
+            return Ok(());
+        }
+        self.tries -= 1;
+        if let Some(still) = known.still_over(search, a, b) {
+            return self.add(search, a, b, still);
+        }
+        if depth == 0 || is_narrow(search, a, b) {
+            return Ok(());
+        }
+        let middle = middle(a, b);
+        self.add_halves(search, known, a, middle, depth - 1)?;
+        self.add_halves(search, known, middle, b, depth - 1)
+    }
+}

@@ -12,6 +12,7 @@ use crate::searched::search_files;
 use gf_cert::certificate;
 use gf_check::line_over;
 use gf_edges::{Gate, Shelf};
+use gf_search::Wanted;
 use spec_certificates::MAX_CERT_LEAVES;
 use spec_outcomes::{Refusal, Span};
 use spec_requests::FindAsk;
@@ -54,7 +55,15 @@ pub(crate) fn certificate_in_files<R: Threads + Wait + Sync, S: Shelf, G: Gate>(
         (certificate_of find.now) (Err refusal)) }
     ensures unopened { AreNotOpened find.now.files → shelf.new ≡ shelf.old }
 {
-    match search_files(rt, alloc, shelf, find, MAX_CERT_LEAVES, gate) {
+    match search_files(
+        rt,
+        alloc,
+        Wanted::Leaves,
+        shelf,
+        find,
+        MAX_CERT_LEAVES,
+        gate,
+    ) {
         Ok(found) => certificate_in(alloc, find, found.span, &found.leaves),
         Err(refusal) => Err(refusal),
     }

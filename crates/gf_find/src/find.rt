@@ -13,6 +13,7 @@ ghost use Rattle.gf_find.specs.Reported.{AreNotOpened};
 
 use crate::searched::search_files;
 use gf_edges::{Gate, Shelf};
+use gf_search::Wanted;
 use ordered_join::leaf_windows;
 use spec_outcomes::{Refusal, Span};
 use spec_output::MAX_LEAVES;
@@ -55,7 +56,7 @@ pub(crate) fn find_in_files<R: Threads + Wait + Sync, S: Shelf, G: Gate>(
         (report_of find.now) (Err refusal)) }
     ensures unopened { AreNotOpened find.now.files → shelf.new ≡ shelf.old }
 {
-    match search_files(rt, alloc, shelf, find, MAX_LEAVES, gate) {
+    match search_files(rt, alloc, Wanted::Windows, shelf, find, MAX_LEAVES, gate) {
         Ok(found) => report_in(alloc, find, found.span, &found.leaves),
         Err(refusal) => Err(refusal),
     }

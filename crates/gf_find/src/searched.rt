@@ -1,37 +1,67 @@
-// The leaves of the search that words ask of their files.
-ghost use Rattle.std.specs.Prelude.{◌≡◌, ◌<◌, IfErr, IfOk, true};
-ghost use Rattle.spec_ephemeris.specs.Ticks.{in_ticks};
+// The leaves of the search that words ask of their files, or leaves that have their windows.
+ghost use Rattle.std.specs.Prelude.{◌≡◌, ◌<◌, ◌≤◌, IfErr, IfOk, true};
+ghost use Rattle.spec_requests.specs.declared.limits.TheConstants.{MAX_WORKERS};
 ghost use Rattle.spec_requests.specs.Limits.{IsWithinLimits};
 ghost use Rattle.spec_outcomes.specs.Outcomes.{Stops};
-ghost use Rattle.spec_outcomes.specs.Queries.{is_within, query_of, span_of};
+ghost use Rattle.spec_outcomes.specs.Queries.{IsQuery, is_within, query_of, span_of};
+ghost use Rattle.gf_search.specs.Wanted.{IsWanted};
 ghost use Rattle.gf_find.specs.Outcomes.{HoldEphemeris};
-ghost use Rattle.gf_find.specs.Searches.{AreSearched, SearchStops};
+ghost use Rattle.gf_find.specs.Searches.{AreSearched, AreSearchedIn, SearchStops};
 ghost use Rattle.gf_find.specs.Reported.{AreNotOpened};
 
 use crate::files::ephemeris_of;
 use eph_model::Ephemeris;
 use gf_edges::{Gate, Shelf};
 use gf_query::span_asked;
-use gf_search::leaves;
-use spec_outcomes::{Refusal, Span, query_of};
+use gf_search::{Wanted, coarse_leaves, leaves};
+use spec_outcomes::{Query, Refusal, Span, query_of};
 use spec_requests::FindAsk;
 use spec_trees::Leaf;
 use std::alloc::Global;
 use std::sync::Wait;
 use std::thread::Threads;
 
-/// The leaves of a search in order of time, and the span that they follow one another over. Times are in the ticks of the
-/// search since J2000 in TDB.
+/// Leaves in order of time that have the windows of a search, and the span that they follow one another over. Times are in
+/// the ticks of the search since J2000 in TDB.
 #[derive(Drop)]
 pub(crate) struct Searched {
     pub(crate) span: Span,
     pub(crate) leaves: Vec<Leaf>,
 }
 
-// Those of a search of a span of an ephemeris that counts its ticks.
+// What is wanted of a query's search over a span of an ephemeris.
+fn wanted_leaves<R: Threads + Wait + Sync, G: Gate>(
+    rt: &R,
+    alloc: Global,
+    wanted: Wanted,
+    ephemeris: &Ephemeris,
+    query: &Query,
+    span: Span,
+    workers: u32,
+    most: u32,
+    gate: &G,
+) -> Result<Vec<Leaf>, Refusal>
+    requires some { 1 ≤ workers }
+    requires workers { workers ≤ MAX_WORKERS }
+    requires block { 0 < ephemeris.now.blocks }
+    requires query { IsQuery query.now }
+    requires within { is_within span ephemeris.now ≡ true }
+    ensures found { IfOk result (λ found.
+        IsWanted wanted most query.now ephemeris.now span found.items) }
+    ensures stopped { IfErr result (λ refusal.
+        Stops most query.now ephemeris.now span refusal) }
+{
+    match wanted {
+        Wanted::Leaves => leaves(rt, alloc, ephemeris, query, span, workers, most, gate),
+        Wanted::Windows => coarse_leaves(rt, alloc, ephemeris, query, span, workers, most, gate),
+    }
+}
+
+// What is wanted of a search of a span of an ephemeris that counts its ticks.
 fn search_span<R: Threads + Wait + Sync, G: Gate>(
     rt: &R,
     alloc: Global,
+    wanted: Wanted,
     ephemeris: &Ephemeris,
     find: &FindAsk,
     span: Span,
@@ -43,21 +73,32 @@ fn search_span<R: Threads + Wait + Sync, G: Gate>(
     requires span { span ≡ span_of find.now ephemeris.now }
     requires within { is_within span ephemeris.now ≡ true }
     ensures found { IfOk result (λ found.
-        AreSearched most find.now ephemeris.now found.span found.leaves.items) }
+        AreSearched wanted most find.now ephemeris.now found.span found.leaves.items) }
     ensures stopped { IfErr result (λ refusal. Stops most (query_of find.now) ephemeris.now
         (span_of find.now ephemeris.now) refusal) }
 {
     let query = query_of(find);
-    match leaves(rt, alloc, ephemeris, &query, span, find.workers, most, gate) {
+    match wanted_leaves(
+        rt,
+        alloc,
+        wanted,
+        ephemeris,
+        &query,
+        span,
+        find.workers,
+        most,
+        gate,
+    ) {
         Ok(leaves) => Ok(Searched { span, leaves }),
         Err(refusal) => Err(refusal),
     }
 }
 
-// Those of a search of an ephemeris that counts its ticks.
+// What is wanted of a search of an ephemeris that counts its ticks.
 fn search_ephemeris<R: Threads + Wait + Sync, G: Gate>(
     rt: &R,
     alloc: Global,
+    wanted: Wanted,
     ephemeris: &Ephemeris,
     find: &FindAsk,
     most: u32,
@@ -66,20 +107,22 @@ fn search_ephemeris<R: Threads + Wait + Sync, G: Gate>(
     requires block { 0 < ephemeris.now.blocks }
     requires limits { IsWithinLimits find.now }
     ensures found { IfOk result (λ found.
-        AreSearched most find.now ephemeris.now found.span found.leaves.items) }
+        AreSearched wanted most find.now ephemeris.now found.span found.leaves.items) }
     ensures stopped { IfErr result (λ refusal. Stops most (query_of find.now) ephemeris.now
         (span_of find.now ephemeris.now) refusal) }
 {
     match span_asked(find, ephemeris) {
-        Ok(span) => search_span(rt, alloc, ephemeris, find, span, most, gate),
+        Ok(span) => search_span(rt, alloc, wanted, ephemeris, find, span, most, gate),
         Err(refusal) => Err(refusal),
     }
 }
 
-/// The leaves of the search that words ask of their files, at most so many.
+/// What is wanted of the search that words ask of their files: its leaves, or leaves with their windows, where it has at
+/// most so many.
 pub(crate) fn search_files<R: Threads + Wait + Sync, S: Shelf, G: Gate>(
     rt: &R,
     alloc: Global,
+    wanted: Wanted,
     shelf: &mut S,
     find: &FindAsk,
     most: u32,
@@ -87,12 +130,12 @@ pub(crate) fn search_files<R: Threads + Wait + Sync, S: Shelf, G: Gate>(
 ) -> Result<Searched, Refusal>
     requires { IsWithinLimits find.now }
     ensures found { IfOk result (λ found. HoldEphemeris (S.files shelf.old) find.now.files
-        (λ e. AreSearched most find.now (in_ticks find.now.tick e) found.span found.leaves.items)) }
+        (AreSearchedIn wanted most find.now found.span found.leaves.items)) }
     ensures stopped { IfErr result (λ refusal. SearchStops most find.now
         (S.files shelf.old) (S.faults shelf.old) (S.faults shelf.new) refusal) }
     ensures unopened { AreNotOpened find.now.files → shelf.new ≡ shelf.old }
 {
     let ephemeris = ephemeris_of(alloc, shelf, find.files.as_slice())?;
     let counted = ephemeris.in_ticks(find.tick);
-    search_ephemeris(rt, alloc, &counted, find, most, gate)
+    search_ephemeris(rt, alloc, wanted, &counted, find, most, gate)
 }

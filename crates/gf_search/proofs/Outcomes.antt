@@ -1,11 +1,12 @@
 -- What a search of a query finds, and what stops it.
-use Rattle.std.proofs.Common.{◌≡◌, ◌⊎◌, ◌∙◌, ◌<◌, ◌≤◌, ℕ, None, Result, Ok, Err, true, sym, ap, subst, inl, inr}
+use Rattle.std.proofs.Common.{◌≡◌, ◌⊎◌, ◌∙◌, ◌<◌, ◌≤◌, ℕ, None, List, Result, Ok, Err, true, sym, ap, subst, inl, inr}
 use Rattle.std.specs.Prelude.{IfErr, IfOk, Vec}
 use Rattle.std.specs.declared.alloc.Global.{Global}
 use Rattle.spec_ephemeris.specs.Ephemeris.{Ephemeris, IsEphemeris}
 use Rattle.spec_trees.specs.declared.tree.Leaf.{Leaf}
 use Rattle.spec_trees.specs.declared.tree.Node.{Node}
-use Rattle.spec_trees.specs.Tree.{leaf_count, leaves}
+use Rattle.spec_trees.specs.Tree.{Covers, Rules, leaf_count, leaves}
+use Rattle.spec_trees.specs.Windows.{windows}
 use Rattle.spec_searches.specs.Search.{Search}
 use Rattle.spec_searches.specs.Found.{root, rules}
 use Rattle.spec_kinds.specs.Faults.{fault_of}
@@ -15,21 +16,55 @@ use Rattle.spec_outcomes.specs.declared.refusal.Refusal.{Refusal}
 use Rattle.spec_outcomes.specs.declared.refusal.Refusal.TheVariants.{Memory, TooManyLeaves}
 use Rattle.spec_outcomes.specs.Outcomes.{HasFault, IsFound, Stops}
 use Rattle.spec_outcomes.specs.Queries.{IsQuery, is_within, search}
-use Rattle.spec_outcomes.proofs.Searching.{fault_stops, found_is, is_found, leaves_stop}
+use Rattle.spec_outcomes.proofs.Searching.{are_found, fault_stops, few_searched, found_is, is_found, leaves_stop}
+use Rattle.gf_search.specs.declared.wanted.Wanted.{Wanted}
+use Rattle.gf_search.specs.declared.wanted.Wanted.TheVariants.{Leaves, Windows}
+use Rattle.gf_search.specs.Wanted.{AreLeaves, AreWanted, HasWindows, HaveWindows, IsWanted}
 
 -- there is no judge
 pub fault_is : (most : ℕ) (q : Query) (e : Ephemeris) (span : Span) → is_within span e ≡ true → (r : Refusal) → (r ≡ Memory) ⊎ HasFault e q.ask r → Stops most q e span r
 fault_is most q e span within r (inl none) = inl none
 fault_is most q e span within r (inr has) = inr (fault_stops most q e span within has.0 has.1 ∙ ap (λ (s : Refusal). Err s) (sym has.2))
 
+-- two facts of what is found are one
+both_ok : (P Q R : Vec Leaf Global → Type 0) → ((found : Vec Leaf Global) → P found → Q found → R found) → (r : Result (Vec Leaf Global) Refusal) → IfOk r P → IfOk r Q → IfOk r R
+both_ok P Q R join (Ok found) p q = join found p q
+both_ok P Q R join (Err stop) p q = tt
+
+-- the rules of the judge are those of the search
+module _ (most : ℕ) (t : Rules) (s : Search) (n : Node) (same : t ≡ rules s) (r : Result (Vec Leaf Global) Refusal) where
+  leaves_by : (found : Vec Leaf Global) → found.items ≡ leaves t n → leaf_count t n ≤ most → AreLeaves most s n found.items
+  leaves_by found is few = record {
+    same = is ∙ ap (λ (u : Rules). leaves u n) same;
+    few = subst (λ (u : Rules). leaf_count u n ≤ most) same few;
+  }
+
+  pub are_leaves : IfOk r (λ found. found.items ≡ leaves t n) → IfOk r (λ found. leaf_count t n ≤ most) → IfOk r (λ found. AreLeaves most s n found.items)
+  are_leaves = both_ok (λ found. found.items ≡ leaves t n) (λ found. leaf_count t n ≤ most) (λ found. AreLeaves most s n found.items) leaves_by r
+
+  pub leaves_stopped_by : IfErr r (λ stop. (stop ≡ Memory) ⊎ ((stop ≡ TooManyLeaves most) × (most < leaf_count t n)))
+      → IfErr r (λ stop. (stop ≡ Memory) ⊎ ((stop ≡ TooManyLeaves most) × (most < leaf_count (rules s) n)))
+  leaves_stopped_by = subst (λ (u : Rules). IfErr r (λ stop. (stop ≡ Memory) ⊎ ((stop ≡ TooManyLeaves most) × (most < leaf_count u n)))) same
+
 -- the tree of the judge is that of the query
 module _ (most : ℕ) (q : Query) (e : Ephemeris) (span : Span) (within : is_within span e ≡ true) (sound : fault_of e q.ask ≡ None) (s : Search) (n : Node) (is : s ≡ search q e) (whole : n ≡ root span.from span.upto) where
-  pub leaves_found : IsEphemeris e → 0 < e.blocks → IsQuery q → (r : Result (Vec Leaf Global) Refusal) → IfOk r (λ found. found.items ≡ leaves (rules s) n) → IfOk r (λ found. leaf_count (rules s) n ≤ most)
-      → IfOk r (λ found. IsFound most q e span found.items)
-  leaves_found checked block query (Ok found) same few =
-      is_found q e checked block query most span found.items within sound (same ∙ (λ i. leaves (rules (is i)) (whole i)))
-      (subst (λ (count : ℕ). count ≤ most) (λ i. leaf_count (rules (is i)) (whole i)) few)
-  leaves_found checked block query (Err r) same few = tt
+  leaves_found : IsEphemeris e → 0 < e.blocks → IsQuery q → (ls : List Leaf) → AreLeaves most s n ls → IsFound most q e span ls
+  leaves_found checked block query ls are =
+      is_found q e checked block query most span ls within sound (are.same ∙ (λ i. leaves (rules (is i)) (whole i)))
+      (subst (λ (count : ℕ). count ≤ most) (λ i. leaf_count (rules (is i)) (whole i)) are.few)
+
+  windows_found : IsEphemeris e → 0 < e.blocks → IsQuery q → (ls : List Leaf) → HaveWindows most s n ls → HasWindows most q e span ls
+  windows_found checked block query ls have = record {
+    within = within;
+    outcome = found_is most q e span within sound ∙ few_searched most (search q e) span (subst (λ (count : ℕ). count ≤ most) (λ i. leaf_count (rules (is i)) (whole i)) have.few);
+    windows = have.windows ∙ (λ i. windows (leaves (rules (is i)) (whole i)));
+    follow = subst (λ (m : Node). Covers m.a ls m.b) whole have.follow;
+    events = are_found q e checked block query span within sound;
+  }
+
+  pub wanted_found : IsEphemeris e → 0 < e.blocks → IsQuery q → (w : Wanted) (ls : List Leaf) → AreWanted w most s n ls → IsWanted w most q e span ls
+  wanted_found checked block query Leaves ls are = leaves_found checked block query ls are
+  wanted_found checked block query Windows ls have = windows_found checked block query ls have
 
   pub leaves_stopped : (r : Result (Vec Leaf Global) Refusal) → IfErr r (λ stop. (stop ≡ Memory) ⊎ ((stop ≡ TooManyLeaves most) × (most < leaf_count (rules s) n)))
       → IfErr r (λ stop. Stops most q e span stop)

@@ -5,16 +5,17 @@ use Rattle.spec_certificates.specs.declared.limits.TheConstants.{MAX_CERT_LEAVES
 use Rattle.spec_outcomes.specs.declared.refusal.Refusal.{Refusal}
 use Rattle.spec_outcomes.specs.Certificates.{certificate_by, certificate_of}
 use Rattle.spec_outcomes.proofs.Results.{ok_also}
+use Rattle.gf_search.specs.declared.wanted.Wanted.TheVariants.{Leaves}
 use Rattle.gf_find.specs.Outcomes.{FilesHaveOutcome, HoldEphemeris}
 use Rattle.gf_find.specs.Certifies.{IsCertificate}
 use Rattle.gf_find.proofs.FoundLeaves.{certificate_held, from_time, memory_also, text_stops, upto_time}
 use Rattle.gf_find.proofs.cert.certificate_in_files.Goals as goal
 
 pub certificate_in-requires-clause-from : goal.certificate_in-requires-clause-from
-certificate_in-requires-clause-from g c = from_time (g.S.Shelf.files c.args.shelf.now) c.args.find.now MAX_CERT_LEAVES c.in-Ok.found.span c.in-Ok.found.leaves.items c.in-Ok.ensures.found
+certificate_in-requires-clause-from g c = from_time (g.S.Shelf.files c.args.shelf.now) c.args.find.now Leaves MAX_CERT_LEAVES c.in-Ok.found.span c.in-Ok.found.leaves.items c.in-Ok.ensures.found
 
 pub certificate_in-requires-clause-upto : goal.certificate_in-requires-clause-upto
-certificate_in-requires-clause-upto g c = upto_time (g.S.Shelf.files c.args.shelf.now) c.args.find.now MAX_CERT_LEAVES c.in-Ok.found.span c.in-Ok.found.leaves.items c.in-Ok.ensures.found
+certificate_in-requires-clause-upto g c = upto_time (g.S.Shelf.files c.args.shelf.now) c.args.find.now Leaves MAX_CERT_LEAVES c.in-Ok.found.span c.in-Ok.found.leaves.items c.in-Ok.ensures.found
 
 pub returns-in-Ok-clause-certificate : goal.returns-in-Ok-clause-certificate
 returns-in-Ok-clause-certificate g c =

@@ -9,21 +9,22 @@ use Rattle.spec_output.specs.declared.limits.TheConstants.{MAX_LEAVES}
 use Rattle.spec_outcomes.specs.declared.refusal.Refusal.{Refusal}
 use Rattle.spec_outcomes.specs.Outcomes.{report_by, report_of}
 use Rattle.spec_outcomes.proofs.Results.{ok_also}
+use Rattle.gf_search.specs.declared.wanted.Wanted.TheVariants.{Windows}
 use Rattle.gf_find.specs.Outcomes.{FilesHaveOutcome, HoldEphemeris}
 use Rattle.gf_find.specs.Finds.{IsReport}
 use Rattle.gf_find.proofs.FoundLeaves.{follow_one_another, from_time, have_times, memory_also, report_held, text_stops, upto_time}
 use Rattle.gf_find.proofs.find.find_in_files.Goals as goal
 
 pub report_in-requires-clause-from : goal.report_in-requires-clause-from
-report_in-requires-clause-from g c = from_time (g.S.Shelf.files c.args.shelf.now) c.args.find.now MAX_LEAVES c.in-Ok.found.span c.in-Ok.found.leaves.items c.in-Ok.ensures.found
+report_in-requires-clause-from g c = from_time (g.S.Shelf.files c.args.shelf.now) c.args.find.now Windows MAX_LEAVES c.in-Ok.found.span c.in-Ok.found.leaves.items c.in-Ok.ensures.found
 
 pub report_in-requires-clause-upto : goal.report_in-requires-clause-upto
-report_in-requires-clause-upto g c = upto_time (g.S.Shelf.files c.args.shelf.now) c.args.find.now MAX_LEAVES c.in-Ok.found.span c.in-Ok.found.leaves.items c.in-Ok.ensures.found
+report_in-requires-clause-upto g c = upto_time (g.S.Shelf.files c.args.shelf.now) c.args.find.now Windows MAX_LEAVES c.in-Ok.found.span c.in-Ok.found.leaves.items c.in-Ok.ensures.found
 
 pub report_in-requires-clause-follow : goal.report_in-requires-clause-follow
 report_in-requires-clause-follow g c =
     let span = c.in-Ok.found.span in
-    subst (λ (ls : List Leaf). Covers span.from ls span.upto) (sym c.deref.ensures.value) (follow_one_another (g.S.Shelf.files c.args.shelf.now) c.args.find.now MAX_LEAVES c.in-Ok.found.span c.in-Ok.found.leaves.items c.in-Ok.ensures.found)
+    subst (λ (ls : List Leaf). Covers span.from ls span.upto) (sym c.deref.ensures.value) (follow_one_another (g.S.Shelf.files c.args.shelf.now) c.args.find.now Windows MAX_LEAVES c.in-Ok.found.span c.in-Ok.found.leaves.items c.in-Ok.ensures.found)
 
 pub report_in-requires-clause-windows : goal.report_in-requires-clause-windows
 report_in-requires-clause-windows g c =

@@ -6,7 +6,7 @@ use Rattle.spec_outcomes.specs.Queries.{query_of, span_of}
 use Rattle.spec_outcomes.proofs.Results.{err_also, ok_also}
 use Rattle.gf_find.specs.declared.searched.Searched.{Searched}
 use Rattle.gf_find.specs.Outcomes.{HaveEphemeris, HoldEphemeris}
-use Rattle.gf_find.specs.Searches.{AreSearched, SearchStops}
+use Rattle.gf_find.specs.Searches.{AreSearched, AreSearchedIn, SearchStops}
 use Rattle.gf_find.proofs.Accepted.{has_block, in_seconds}
 use Rattle.gf_find.proofs.FoundLeaves.{held_leaves, search_stops}
 use Rattle.gf_find.proofs.searched.search_files.Goals as goal
@@ -22,9 +22,9 @@ returns-clause-found g c =
     let find = c.args.find.now in
     let files = g.S.Shelf.files c.args.shelf.now in
     let held : HaveEphemeris files find.files c.in_ok-ephemeris.ephemeris = subst (λ (names : List (List ℕ)). HaveEphemeris files names c.in_ok-ephemeris.ephemeris) c.as_slice.ensures c.in_ok-ephemeris.ensures.accepted in
-    ok_also {X = Searched} {E = Refusal} (λ found. AreSearched c.args.most find c.in_ticks-counted.result found.span found.leaves.items)
-    (λ found. HoldEphemeris files find.files (λ e. AreSearched c.args.most find (in_ticks find.tick e) found.span found.leaves.items)) c.search_ephemeris.result
-    (λ found is. held_leaves files find c.args.most c.in_ok-ephemeris.ephemeris c.in_ticks-counted.result found.span found.leaves.items held c.in_ticks-counted.ensures is) c.search_ephemeris.ensures.found
+    ok_also {X = Searched} {E = Refusal} (λ found. AreSearched c.args.wanted c.args.most find c.in_ticks-counted.result found.span found.leaves.items)
+    (λ found. HoldEphemeris files find.files (AreSearchedIn c.args.wanted c.args.most find found.span found.leaves.items)) c.search_ephemeris.result
+    (λ found is. held_leaves files find c.args.most c.in_ok-ephemeris.ephemeris c.in_ticks-counted.result c.args.wanted found.span found.leaves.items held c.in_ticks-counted.ensures is) c.search_ephemeris.ensures.found
 
 pub returns-clause-stopped : goal.returns-clause-stopped
 returns-clause-stopped g c =

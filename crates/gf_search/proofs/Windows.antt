@@ -1,0 +1,57 @@
+-- The leaves of the coarse tree of a search have the windows of its tree.
+use Rattle.std.proofs.Common.{◌≡◌, ◌⊎◌, ◌<◌, ◌≤◌, ℕ, Bool, true, false, List, [], Result, Ok, Err, sym, ap, ◌∙◌, subst, inl, inr, arith}
+use Rattle.std.proofs.lemmas.Bool.{leb-true}
+use Rattle.std.specs.Prelude.{All, IfErr, IfOk, Vec, if◌then◌else◌, nat_le}
+use Rattle.std.specs.declared.alloc.Global.{Global}
+use Rattle.spec_trees.specs.declared.tree.Leaf.{Leaf}
+use Rattle.spec_trees.specs.declared.tree.Node.{Node}
+use Rattle.spec_trees.specs.Tree.{Covers, IsValid, Rules, leaf_count, leaves}
+use Rattle.spec_trees.specs.Windows.{windows}
+use Rattle.spec_searches.specs.Found.{rules}
+use Rattle.spec_searches.specs.Search.{Search}
+use Rattle.spec_stills.specs.declared.still.StillSpan.{StillSpan}
+use Rattle.spec_stills.specs.Coarse.{coarse_rules}
+use Rattle.spec_stills.specs.Still.{IsStill}
+use Rattle.spec_stills.specs.Weights.{weights}
+use Rattle.still_judge.specs.Order.{are_in_order, in_order_or_none}
+use Rattle.spec_outcomes.specs.declared.refusal.Refusal.{Refusal}
+use Rattle.spec_outcomes.specs.declared.refusal.Refusal.TheVariants.{Memory, TooManyLeaves}
+use Rattle.gf_search.specs.Wanted.{HaveWindows}
+
+-- ---- still spans that stand in order
+kept_by : (s : Search) (xs : List StillSpan) (ordered : Bool) → All (IsStill s) xs → All (IsStill s) (if ordered then xs else [])
+kept_by s xs true stills = stills
+kept_by s xs false stills = λ k d below. absurd (omega (arith, below))
+
+pub kept_still : (s : Search) (xs kept : List StillSpan) → kept ≡ in_order_or_none xs → All (IsStill s) xs → All (IsStill s) kept
+kept_still s xs kept is stills = subst (All (IsStill s)) (sym is) (kept_by s xs (are_in_order xs) stills)
+
+-- ---- too many leaves
+abbrev Stop : ℕ → ℕ → Refusal → Type 0
+Stop most count r = (r ≡ Memory) ⊎ ((r ≡ TooManyLeaves most) × (most < count))
+
+pub more_stop : (most count more : ℕ) → count ≤ more → (r : Refusal) → Stop most count r → Stop most more r
+more_stop most count more no_more r (inl none) = inl none
+more_stop most count more no_more r (inr many) = let above = many.1 in inr (many.0, omega (arith, above, no_more))
+
+-- ---- windows
+module _ (most : ℕ) (s : Search) (n : Node) (ls : List Leaf) where
+  -- the leaves of the tree have its windows
+  pub fine_have : Covers n.a (leaves (rules s) n) n.b → ls ≡ leaves (rules s) n → leaf_count (rules s) n ≤ most → HaveWindows most s n ls
+  fine_have cover same few = record {
+    windows = ap windows same;
+    follow = subst (λ (vs : List Leaf). Covers n.a vs n.b) (sym same) cover;
+    few = few;
+  }
+
+  -- and so have those of the coarse tree, where they weigh no more than so much
+  pub coarse_have : (xs : List StillSpan) → windows (leaves (coarse_rules s xs) n) ≡ windows (leaves (rules s) n) → Covers n.a (leaves (coarse_rules s xs) n) n.b
+      → leaf_count (rules s) n ≤ weights s xs (leaves (coarse_rules s xs) n) → ls ≡ leaves (coarse_rules s xs) n → nat_le (weights s xs ls) most ≡ true → HaveWindows most s n ls
+  coarse_have xs windows_same cover weighed same light =
+      let few = leb-true (weights s xs ls) most light in
+      let here = subst (λ (vs : List Leaf). leaf_count (rules s) n ≤ weights s xs vs) (sym same) weighed in
+      record {
+        windows = ap windows same ∙ windows_same;
+        follow = subst (λ (vs : List Leaf). Covers n.a vs n.b) (sym same) cover;
+        few = omega (arith, few, here);
+      }

@@ -46,7 +46,7 @@ fn main(rt: HostRuntime) -> io::Result<ExitCode> {
         return measure(&rt, &rt, &work);
     }
     eprintln!(&rt;
-        "measure_main: search KIND ROUNDS FILE; or pool or shares KIND WORKERS ROUNDS FILE, with 1 to 64 workers"
+        "measure_main: search or windows KIND ROUNDS FILE; or pool or shares KIND WORKERS ROUNDS FILE, with 1 to 64 workers"
     )?;
     Ok(ExitCode::from(2))
 }

@@ -1,4 +1,4 @@
-// The leaves by a judge that remembers, as `finder` finds them.
+// The leaves by a judge that remembers, as `finder` finds them: those of the tree, or of the coarse tree.
 ghost use Rattle.std.specs.Prelude.{◌≡◌};
 ghost use Rattle.spec_trees.specs.Tree.{IsValid};
 ghost use Rattle.spec_searches.specs.Found.{rules};
@@ -6,10 +6,52 @@ ghost use Rattle.spec_searches.specs.Found.{rules};
 use crate::walks::{Walk, leaves_by};
 use event_judge::{EventSearch, Naming, RememberingJudge};
 use halving::{Judge, Leaf, Node};
+use spec_stills::laws::coarse_trees_are_sound;
 use std::alloc::Global;
 use std::marker::Brand;
 use std::sync::Wait;
 use std::thread::Threads;
+use still_judge::{StillJudge, StillList};
+use still_spans::still_spans;
+
+// The leaves of a root by a judge, where those of the coarse tree are wanted by the search's still spans.
+fn leaves_of<R: Threads + Wait + Sync, J: Judge>(
+    rt: &R,
+    alloc: Global,
+    judge: &J,
+    search: &EventSearch,
+    root: Node,
+    walk: Walk,
+) -> Option<Vec<Leaf>>
+    requires rules { J.rules judge.now ≡ rules search.now }
+    requires valid { IsValid (J.rules judge.now) root }
+{
+    match walk {
+        Walk::Coarse => coarse_leaves(rt, alloc, judge, search, root),
+        _ => leaves_by(rt, alloc, judge, root, walk),
+    }
+}
+
+// The leaves of the coarse tree of a root.
+fn coarse_leaves<R: Threads + Wait + Sync, J: Judge>(
+    rt: &R,
+    alloc: Global,
+    judge: &J,
+    search: &EventSearch,
+    root: Node,
+) -> Option<Vec<Leaf>>
+    requires rules { J.rules judge.now ≡ rules search.now }
+    requires valid { IsValid (J.rules judge.now) root }
+{
+    coarse_trees_are_sound();
+    let stills = StillList::new(still_spans(alloc, search, root.a, root.b).ok()?);
+    let coarse = StillJudge {
+        judge,
+        search,
+        stills: &stills,
+    };
+    leaves_by(rt, alloc, &coarse, root, Walk::Coarse)
+}
 
 // The leaves of a root by a judge of the search that a call has named, which remembers.
 fn named_leaves<R: Threads + Wait + Sync, N: Naming + Send + Sync, J: Judge>(
@@ -25,7 +67,7 @@ fn named_leaves<R: Threads + Wait + Sync, N: Naming + Send + Sync, J: Judge>(
     requires valid { IsValid (J.rules judge.now) root }
 {
     let remembering = RememberingJudge::<N, J>::new(alloc, judge, search).ok()?;
-    leaves_by(rt, alloc, &remembering, root, walk)
+    leaves_of(rt, alloc, &remembering, search, root, walk)
 }
 
 /// The leaves of a valid root from left to right, by a judge of a search, with what is found out of it remembered; none where

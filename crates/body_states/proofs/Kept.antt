@@ -3,12 +3,9 @@ use Rattle.std.proofs.Common.{◌≡◌, ℕ, zero, suc, ◌+◌, ◌<◌, ◌�
 use Rattle.std.specs.Prelude.{All, Contains, IsSome}
 use Rattle.std.proofs.lemmas.Bool.{both_ways, cases_lt}
 use Rattle.std.proofs.lemmas.List.{get_or-set_same, get_or-set_other, get_or_default, length-set}
-use Rattle.std.proofs.lemmas.List.Elements.{All-filter, All-contains, All-contains_itself, All-set}
-use Rattle.spec_ephemeris.specs.declared.limits.TheConstants.{BODY_COLUMNS}
-use Rattle.spec_bodies.specs.Sources.{body_columns, is_in_use}
+use Rattle.std.proofs.lemmas.List.Elements.{All-contains, All-set}
 use Rattle.spec_bodies.specs.Reading.{IsUsable}
-use Rattle.spec_bodies.specs.Views.{View, IsView, columns_of, column_enclosure}
-use Rattle.spec_bodies.proofs.InUse.{present_in_use}
+use Rattle.spec_bodies.specs.Views.{View, columns_of, column_enclosure}
 use Rattle.spec_intervals.specs.Enclosure.{Enclosure}
 use Rattle.spec_bodies.specs.declared.quantity.Quantity.{Quantity}
 use Rattle.event_expr.specs.declared.axes.Axes.{Axes}
@@ -20,31 +17,6 @@ use Rattle.body_states.specs.declared.bases.RowRoom.{RowRoom}
 use Rattle.body_states.specs.Bases.{AreKept}
 use Rattle.body_states.specs.Enclosures.{AreAlong, AreOfTargets, AreReadOrNot, IsRead, IsUnread, along, with_along, of_target, nothing_known, nothing_known_of_targets, nothing_known_of_column}
 use Rattle.body_states.specs.Answers.{IsKnown}
-
-few : All (λ n. n ≤ BODY_COLUMNS) body_columns
-few zero d w = omega arith
-few (suc zero) d w = omega arith
-few (suc (suc zero)) d w = omega arith
-few (suc (suc (suc zero))) d w = omega arith
-few (suc (suc (suc (suc zero)))) d w = omega arith
-few (suc (suc (suc (suc (suc zero))))) d w = omega arith
-few (suc (suc (suc (suc (suc (suc zero)))))) d w = omega arith
-few (suc (suc (suc (suc (suc (suc (suc zero))))))) d w = omega arith
-few (suc (suc (suc (suc (suc (suc (suc (suc zero)))))))) d w = omega arith
-few (suc (suc (suc (suc (suc (suc (suc (suc (suc zero))))))))) d w = omega arith
-few (suc (suc (suc (suc (suc (suc (suc (suc (suc (suc zero)))))))))) d w = omega arith
-few (suc (suc (suc (suc (suc (suc (suc (suc (suc (suc (suc n))))))))))) d w = absurd (omega (arith, w))
-
-pub usable_in_use : (v : View) → IsView v → All (IsUsable v) (columns_of v)
-usable_in_use v is = λ k d within. record {
-  there = present_in_use v is k d within;
-  of_body = All-filter (is_in_use v.first v.second v.observer) (λ n. n ≤ BODY_COLUMNS) body_columns few k d within;
-  in_use = All-contains_itself (columns_of v) k d within;
-}
-
--- by whatever name they are listed
-pub usable_numbers : (v : View) → IsView v → (numbers : List ℕ) → numbers ≡ columns_of v → All (IsUsable v) numbers
-usable_numbers v is numbers same = subst (All (IsUsable v)) (sym same) (usable_in_use v is)
 
 -- ---- nothing known is right by itself
 pub nothing_along : (f : ℕ → Enclosure) → AreAlong f nothing_known

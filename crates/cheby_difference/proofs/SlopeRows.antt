@@ -13,7 +13,7 @@ use Rattle.spec_chebyshev.proofs.Bounds.{r_product}
 use Rattle.spec_motions.specs.RowSizes.{entry_size}
 use Rattle.spec_motions.specs.Sums.{times, multiples, sum_low, sum_high}
 use Rattle.spec_motions.proofs.RowSums.{multiple_size, low_same, high_same}
-use Rattle.cheby_enclose.specs.Pairs.{IsOrderedShorterRow}
+use Rattle.cheby_enclose.specs.OrderedRows.{IsOrderedShorterRow}
 use Rattle.cheby_enclose.specs.ProductSizes.{product_sizes, IsSummable}
 use Rattle.cheby_enclose.proofs.ProductSums.{entry_size-within, product_sizes-le, product_sizes-grow}
 use Rattle.cheby_difference.specs.Slopes.{AreSlopes}

@@ -1,65 +1,13 @@
--- The intervals of pairs and of coefficients, one after the other.
-use Rattle.std.proofs.Common.{◌≡◌, ℕ, ◌+◌, ◌^◌, ◌<◌, ◌≤◌, arith, refl, ap, ◌∙◌, subst, List, [], ◌∷◌, length, map, take, drop, get_or, All, ℤ, pos, negsuc, ◌+ℤ◌, ◌*ℤ◌, ◌≤ℤ◌, ◌<ℤ◌, neg_ℤ}
-use Rattle.std.proofs.lemmas.Int.{ints}
-use Rattle.std.proofs.lemmas.List.{length-map, length-take, take-map, drop-map, get_or-map}
-use Rattle.std.proofs.lemmas.List.Elements.{All-nil, All-cons, All-head, All-tail, All-take, All-drop}
-use Rattle.spec_text.specs.declared.decimals.Decimal.{Decimal}
-use Rattle.spec_numbers.specs.Numbers.{floor_div, ceil_div}
-use Rattle.spec_numbers.proofs.Order.{lin, le-mul, lt-mul_cancel}
-use Rattle.spec_numbers.proofs.Floor.{ordered_quotients, floor_div-lt, ceil_div-lt}
-use Rattle.spec_intervals.specs.Interval.{IsDistance, from_decimal, decimal_top, decimal_bottom, least4, greatest4}
-use Rattle.spec_intervals.proofs.Decimals.{bottom_pos}
+-- Sums over the intervals of pairs, one term after the other.
+use Rattle.std.proofs.Common.{◌≡◌, ℕ, ◌+◌, ◌<◌, subst, List, length, map, drop, get_or, ℤ, pos, ◌+ℤ◌}
+use Rattle.std.proofs.lemmas.List.{length-map, get_or-map}
+use Rattle.spec_intervals.specs.Interval.{least4, greatest4}
 use Rattle.spec_chebyshev.specs.declared.ends.Ival62.{Ival62}
 use Rattle.spec_chebyshev.specs.Rows.{nothing}
-use Rattle.spec_chebyshev.proofs.Arguments.{size_within}
 use Rattle.spec_ephemeris.specs.declared.granule.Rounded.{Rounded}
-use Rattle.spec_ephemeris.specs.Ephemeris.{IsBodyNumber}
-use Rattle.spec_ephemeris.specs.Rounding.{pair_of}
-use Rattle.spec_ephemeris.proofs.Rounding.{low_size, high_size}
-use Rattle.spec_motions.specs.Sums.{coefficient, sum_low, sum_high}
+use Rattle.spec_motions.specs.Sums.{sum_low, sum_high}
 use Rattle.spec_motions.proofs.RowSums.{low_more, high_more}
-use Rattle.cheby_enclose.specs.Pairs.{term_of, IsPair, ArePairs}
-
--- ---- the pair of a coefficient is its interval
-terms_are : (cs : List Decimal) → map term_of (map pair_of cs) ≡ map coefficient cs
-terms_are [] = refl
-terms_are (c ∷ cs) = ap (λ (l : List Ival62). coefficient c ∷ l) (terms_are cs)
-
-pub terms_of_axis : (cs : List Decimal) (ps : List Rounded) (from n : ℕ) → ps ≡ map pair_of cs
-    → map term_of (take n (drop from ps)) ≡ map coefficient (take n (drop from cs))
-terms_of_axis cs ps from n is =
-    ap (λ (l : List Rounded). map term_of (take n (drop from l))) is
-    ∙ ap (λ (l : List Rounded). map term_of (take n l)) (drop-map pair_of from cs)
-    ∙ ap (map term_of) (take-map pair_of n (drop from cs))
-    ∙ terms_are (take n (drop from cs))
-
--- ---- and each pair is small, in order and of one sign
-quotients_of_one_sign : (z : ℤ) (d : ℕ) → 0 < d → floor_div z d <ℤ pos 0 → ceil_div z d ≤ℤ pos 0
-quotients_of_one_sign z d positive below =
-    let f = floor_div-lt z d positive in
-    let c = ceil_div-lt z d positive in
-    let g : (floor_div z d *ℤ pos d) ≤ℤ (neg_ℤ (pos 1) *ℤ pos d) = le-mul (floor_div z d) (neg_ℤ (pos 1)) (pos d) (omega (arith, lin)) (omega (arith, lin)) in
-    let e : (ceil_div z d *ℤ pos d) <ℤ (pos 1 *ℤ pos d) = omega (arith, ints) in
-    let r = lt-mul_cancel (ceil_div z d) (pos 1) d e in
-    omega (arith, lin)
-
-pub IsPair-of : (c : Decimal) → IsDistance c.mant c.exp → IsPair (pair_of c)
-unfolding from_decimal
-IsPair-of c h = record {
-  small = record { lo = size_within (pair_of c).lo (2 ^ 60) (low_size c h); hi = size_within (pair_of c).hi (2 ^ 60) (high_size c h) };
-  ordered = ordered_quotients (decimal_top c.mant c.exp (negsuc 23)) (decimal_top c.mant c.exp (negsuc 23)) (decimal_bottom c.exp (negsuc 23)) (bottom_pos c.exp (negsuc 23)) (omega (arith, lin));
-  one_sign = quotients_of_one_sign (decimal_top c.mant c.exp (negsuc 23)) (decimal_bottom c.exp (negsuc 23)) (bottom_pos c.exp (negsuc 23));
-}
-
-all_pairs : (cs : List Decimal) → All IsBodyNumber cs → All IsPair (map pair_of cs)
-all_pairs [] h = All-nil IsPair
-all_pairs (c ∷ cs) h = All-cons IsPair (pair_of c) (map pair_of cs) (IsPair-of c (All-head IsBodyNumber c cs h).small) (all_pairs cs (All-tail IsBodyNumber c cs h))
-
-pub ArePairs-axis : (cs : List Decimal) (ps : List Rounded) (from n : ℕ) → n ≤ 32 → All IsBodyNumber cs → ps ≡ map pair_of cs → ArePairs (take n (drop from ps))
-ArePairs-axis cs ps from n few bodies is = record {
-  few = let t = length-take n (drop from ps) in omega (arith, t, few);
-  pairs = All-take IsPair n (drop from ps) (All-drop IsPair from ps (rw is (all_pairs cs bodies)));
-}
+use Rattle.spec_motions.specs.Pairs.{term_of}
 
 -- ---- one term more of a sum from the left
 abbrev pub none : Rounded

@@ -1,4 +1,4 @@
 pub mod EmptyRow
-pub mod Pairs
+pub mod OrderedRows
 pub mod ProductSizes
 pub mod Spans

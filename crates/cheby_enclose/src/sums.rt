@@ -6,7 +6,8 @@ ghost use Rattle.spec_chebyshev.specs.Rows.{entry};
 ghost use Rattle.spec_motions.specs.Sums.{sum_low, sum_high};
 ghost use Rattle.spec_motions.specs.RowSizes.{entry_size, IsSmallRow};
 ghost use Rattle.cheby_enclose.specs.ProductSizes.{product_sizes, IsSummable};
-ghost use Rattle.cheby_enclose.specs.Pairs.{term_of, IsPair, ArePairs, IsOrderedRow, IsOrderedShorterRow};
+ghost use Rattle.spec_motions.specs.Pairs.{term_of, IsPair, ArePairs};
+ghost use Rattle.cheby_enclose.specs.OrderedRows.{IsOrderedRow, IsOrderedShorterRow};
 
 use crate::terms::AxisCoefficients;
 use cheby_laws::Row;

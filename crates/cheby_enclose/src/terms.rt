@@ -1,6 +1,6 @@
 // The coefficients of one axis as intervals.
 ghost use Rattle.std.specs.Prelude.{◌≡◌, ◌≤◌, ◌<◌, length, map};
-ghost use Rattle.cheby_enclose.specs.Pairs.{term_of, ArePairs};
+ghost use Rattle.spec_motions.specs.Pairs.{term_of, ArePairs};
 ghost use Rattle.spec_motions.specs.Enclosures.{coefficients_of};
 ghost use Rattle.spec_motions.specs.Granules.{IsEvaluable};
 ghost use Rattle.spec_ephemeris.specs.Granules.{series_of};
@@ -18,7 +18,7 @@ pub struct AxisCoefficients<'g> {
 impl<'g> Model for AxisCoefficients<'g> {
     ghost use Rattle.std.specs.Prelude.{List, map};
     ghost use Rattle.spec_chebyshev.specs.declared.ends.Ival62.{Ival62};
-    ghost use Rattle.cheby_enclose.specs.Pairs.{term_of, ArePairs};
+    ghost use Rattle.spec_motions.specs.Pairs.{term_of, ArePairs};
 
     ghost Value = { List Ival62 };
 

@@ -1,25 +1,11 @@
 -- Shifts of small ends.
-use Rattle.std.proofs.Common.{◌≡◌, ℕ, zero, suc, ◌*◌, ◌/◌, ◌%◌, ◌^◌, ◌<◌, ◌≤◌, min, ◌⊎◌, inl, inr, arith, sym, ap, ◌∙◌, ℤ, pos, negsuc, ◌+ℤ◌, ◌*ℤ◌, unsigned_abs, to_z, of_z, w32, w64, FitsSigned}
+use Rattle.std.proofs.Common.{◌≡◌, ℕ, ◌*◌, ◌%◌, ◌^◌, ◌≤◌, arith, ap, ◌∙◌, ℤ, pos, ◌+ℤ◌, ◌*ℤ◌, unsigned_abs, to_z, of_z, w32, w64, FitsSigned}
 use Rattle.std.proofs.lemmas.Int.{ints, to_z_pos, unsigned_abs-mul, fits_signed_from_abs}
-use Rattle.std.proofs.lemmas.Nat.{one_shl, mul-le, pow_pos}
-use Rattle.std.proofs.lemmas.Bool.{cases_lt}
-use Rattle.std.proofs.Math.Nat.{div-eq_of_lt, pow-le-pow_right, one-le-pow}
+use Rattle.std.proofs.lemmas.Nat.{one_shl, mul-le}
+use Rattle.std.proofs.Math.Nat.{pow-le-pow_right}
 use mir.Syntax.{w128}
-use Rattle.spec_numbers.specs.Numbers.{floor_div}
-use Rattle.spec_numbers.proofs.Floor.{floor_div-small}
 use Rattle.spec_numbers.proofs.Sizes.{product_size, least_size, greatest_size}
 use Rattle.spec_intervals.specs.Interval.{greatest4, least4}
-
--- past 2^64 a small end is divided to 0 or -1
-pub floor_div-past : (z : ℤ) (d e : ℕ) → unsigned_abs z ≤ 2 ^ 62 → 2 ^ 63 ≤ d → 2 ^ 63 ≤ e → floor_div z d ≡ floor_div z e
-floor_div-past (pos n) d e h p q =
-    let a : n / d ≡ 0 = div-eq_of_lt (omega arith) in
-    let b : n / e ≡ 0 = div-eq_of_lt (omega arith) in
-    ap pos (a ∙ sym b)
-floor_div-past (negsuc n) d e h p q =
-    let a : n / d ≡ 0 = div-eq_of_lt (omega arith) in
-    let b : n / e ≡ 0 = div-eq_of_lt (omega arith) in
-    ap negsuc (a ∙ sym b)
 
 pub one_shifted : (m : ℕ) → m ≤ 60 → to_z w128 (1 * 2 ^ m % 2 ^ 128) ≡ pos (2 ^ m)
 one_shifted m h =
@@ -60,20 +46,6 @@ module _ (a b c d : ℤ) (p : unsigned_abs a ≤ 2 ^ 62) (q : unsigned_abs b ≤
 -- a small end is within 64 bits
 pub small_narrow : (z : ℤ) → unsigned_abs z ≤ 2 ^ 62 → FitsSigned w64 z
 small_narrow z h = fits_signed_from_abs w64 z (omega arith)
-
-pub capped_shift : (z : ℤ) (k m : ℕ) → unsigned_abs z ≤ 2 ^ 62 → m ≡ min k 63 → floor_div z (2 ^ m) ≡ floor_div z (2 ^ k)
-capped_shift z k m h e = by (cases_lt k 63)
-  where
-    by : (k < 63) ⊎ (63 ≤ k) → floor_div z (2 ^ m) ≡ floor_div z (2 ^ k)
-    by (inl r) = let f : m ≡ k = omega arith in ap (λ n. floor_div z (2 ^ n)) f
-    by (inr r) = let f : m ≡ 63 = omega arith in let p : 2 ^ 63 ≤ 2 ^ k = pow_above 63 k r in ap (λ n. floor_div z (2 ^ n)) f ∙ floor_div-past z (2 ^ 63) (2 ^ k) h (omega arith) p
-
-pub shift_small : (z : ℤ) (k : ℕ) → unsigned_abs z ≤ 2 ^ 62 → unsigned_abs (floor_div z (2 ^ k)) ≤ 2 ^ 62
-shift_small z k h = let p : 1 ≤ 2 ^ k = one-le-pow k 2 (omega arith) in floor_div-small z (2 ^ k) (2 ^ 62) (pow_pos k) (wider (2 ^ k) p)
-  where
-    wider : (d : ℕ) → 1 ≤ d → unsigned_abs z ≤ 2 ^ 62 * d
-    wider zero p = absurd (omega arith)
-    wider (suc d) p = omega arith
 
 -- an exponent and a shift, as the code adds them
 pub exponent_sum : (a b : ℤ) (k : ℕ) → a ≡ b → unsigned_abs b ≤ 65536 → k ≤ 131072 → to_z w32 (of_z w32 (to_z w32 (of_z w32 a) +ℤ to_z w32 k)) ≡ a +ℤ pos k

@@ -1,8 +1,8 @@
 -- What a target is made of stands among the columns in use, and these are there.
-use Rattle.std.proofs.Common.{◌≡◌, ◌⊎◌, ℕ, zero, suc, ◌<◌, ◌≤◌, ◌==◌, ◌||◌, Bool, true, false, cond, IsTrue, List, [], ◌∷◌, slice_index_or, refl, ap, subst, ◌∙◌, arith, inl, inr, eq-eqb}
+use Rattle.std.proofs.Common.{◌≡◌, ◌⊎◌, ℕ, zero, suc, ◌<◌, ◌≤◌, ◌==◌, ◌||◌, Bool, true, false, cond, IsTrue, List, [], ◌∷◌, slice_index_or, refl, ap, subst, ◌∙◌, arith, inl, inr, eq-eqb, sym}
 use Rattle.std.specs.Prelude.{All, Contains}
 use Rattle.std.specs.List.{filter}
-use Rattle.std.proofs.lemmas.List.Elements.{All-append, All-head, All-tail, All-contains_itself, filter_passes}
+use Rattle.std.proofs.lemmas.List.Elements.{All-append, All-head, All-tail, All-contains_itself, filter_passes, All-filter}
 use Rattle.std.proofs.lemmas.List.Folds.{list_any_at}
 use Rattle.std.proofs.lemmas.Bool.{eqb-true}
 use Rattle.std.proofs.Math.Bool.{or-true}
@@ -137,3 +137,29 @@ present_in_use v is = λ k d within. by (slice_index_or (columns_of v) k d) (is_
     by : (number : ℕ) (b : Bool) → is_among (used v.first v.observer) number ≡ b → is_in_use v.first v.second v.observer number ≡ true → IsTrue (has_column v.ephemeris.header number)
     by number true among in_use = among_all (λ n. IsTrue (has_column v.ephemeris.header n)) (used v.first v.observer) number (used_all (λ n. IsTrue (has_column v.ephemeris.header n)) v.first v.observer is.first.present is.observer.present) among
     by number false other in_use = among_all (λ n. IsTrue (has_column v.ephemeris.header n)) (used v.second v.observer) number (used_all (λ n. IsTrue (has_column v.ephemeris.header n)) v.second v.observer is.second.present is.observer.present) (rw other at in_use)
+
+-- ---- and so they can be read
+few : All (λ n. n ≤ BODY_COLUMNS) body_columns
+few zero d w = omega arith
+few (suc zero) d w = omega arith
+few (suc (suc zero)) d w = omega arith
+few (suc (suc (suc zero))) d w = omega arith
+few (suc (suc (suc (suc zero)))) d w = omega arith
+few (suc (suc (suc (suc (suc zero))))) d w = omega arith
+few (suc (suc (suc (suc (suc (suc zero)))))) d w = omega arith
+few (suc (suc (suc (suc (suc (suc (suc zero))))))) d w = omega arith
+few (suc (suc (suc (suc (suc (suc (suc (suc zero)))))))) d w = omega arith
+few (suc (suc (suc (suc (suc (suc (suc (suc (suc zero))))))))) d w = omega arith
+few (suc (suc (suc (suc (suc (suc (suc (suc (suc (suc zero)))))))))) d w = omega arith
+few (suc (suc (suc (suc (suc (suc (suc (suc (suc (suc (suc n))))))))))) d w = absurd (omega (arith, w))
+
+pub usable_in_use : (v : View) → IsView v → All (IsUsable v) (columns_of v)
+usable_in_use v is = λ k d within. record {
+  there = present_in_use v is k d within;
+  of_body = All-filter (is_in_use v.first v.second v.observer) (λ n. n ≤ BODY_COLUMNS) body_columns few k d within;
+  in_use = All-contains_itself (columns_of v) k d within;
+}
+
+-- by whatever name they are listed
+pub usable_numbers : (v : View) → IsView v → (numbers : List ℕ) → numbers ≡ columns_of v → All (IsUsable v) numbers
+usable_numbers v is numbers same = subst (All (IsUsable v)) (sym same) (usable_in_use v is)

@@ -7,3 +7,4 @@ pub mod Sizes
 pub mod Series
 pub mod Bounds
 pub mod Apart
+pub mod Reading

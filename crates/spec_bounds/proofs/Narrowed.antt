@@ -1,9 +1,10 @@
 -- What has its ends round those of another at one exponent includes it once both are narrowed, also after both are scaled.
-use Rattle.std.proofs.Common.{◌≡◌, ℕ, ◌^◌, ◌<◌, arith, [], ◌∷◌, ℤ, pos, ◌+ℤ◌, ◌*ℤ◌, inl}
+use Rattle.std.proofs.Common.{◌≡◌, ℕ, ◌^◌, ◌<◌, arith, [], ◌∷◌, ℤ, pos, ◌*ℤ◌, inl}
 use Rattle.spec_numbers.specs.Numbers.{floor_div, ceil_div}
-use Rattle.spec_numbers.proofs.Ring.{v, k as lit, ◌⊕◌, ◌⊗◌, ring}
+use Rattle.spec_numbers.proofs.Ring.{v, k as lit, ◌⊗◌, ring}
 use Rattle.spec_numbers.proofs.Order.{lin}
 use Rattle.spec_numbers.proofs.Floor.{ordered_quotients}
+use Rattle.spec_numbers.proofs.Integers.{doubled}
 use Rattle.spec_intervals.specs.Interval.{interval, narrow, scale}
 use Rattle.spec_chebyshev.specs.declared.ends.Ival62.{Ival62}
 use Rattle.spec_chebyshev.specs.Rows.{ends}
@@ -31,24 +32,21 @@ Includes-narrowed f e s ordered h = Includes-narrow (interval f.lo f.hi s) (inte
 abbrev pub scaled : ℕ → Ival62 → Ival62
 scaled length e = ends (floor_div (pos 2 *ℤ e.lo) length) (ceil_div (pos 2 *ℤ e.hi) length)
 
-twice : (z : ℤ) → pos 2 *ℤ z ≡ z +ℤ z
-twice z = ring (z ∷ []) (lit (pos 2) ⊗ v 0) (v 0 ⊕ v 0) tt
-
 module _ (length : ℕ) (long : 0 < length) where
   pub scaled_ordered : (e : Ival62) → IsOrdered e → IsOrdered (scaled length e)
   scaled_ordered e h =
-      let p = twice e.lo in
-      let q = twice e.hi in
+      let p = doubled e.lo in
+      let q = doubled e.hi in
       ordered_quotients (pos 2 *ℤ e.lo) (pos 2 *ℤ e.hi) length long (omega (arith, lin))
 
   pub Covers-scaled : (f e : Ival62) → Covers f e → Covers (scaled length f) (scaled length e)
   Covers-scaled f e h =
       let low = h.low in
       let high = h.high in
-      let ll = twice f.lo in
-      let lh = twice f.hi in
-      let hl = twice e.lo in
-      let hh = twice e.hi in
+      let ll = doubled f.lo in
+      let lh = doubled f.hi in
+      let hl = doubled e.lo in
+      let hh = doubled e.hi in
       record {
         low = floor_div-grows (pos 2 *ℤ f.lo) (pos 2 *ℤ e.lo) length long (omega (arith, lin));
         high = ceil_div-grows (pos 2 *ℤ e.hi) (pos 2 *ℤ f.hi) length long (omega (arith, lin));

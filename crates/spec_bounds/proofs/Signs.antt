@@ -22,11 +22,11 @@ tested p q h = by (le_z p q) refl
     by false e = absurd (omega (arith, lin))
 
 -- ---- signs
-yes_from : (x : Interval) → pos 0 ≤ℤ x.lo → sign_of x ≡ Yes
-yes_from x low = rw (tested (pos 0) x.lo low) refl
+pub sign_above : (x : Interval) → pos 0 ≤ℤ x.lo → sign_of x ≡ Yes
+sign_above x low = rw (tested (pos 0) x.lo low) refl
 
-no_from : (x : Interval) → x.lo ≤ℤ x.hi → x.hi <ℤ pos 0 → sign_of x ≡ No
-no_from x in_order high = by (le_z (pos 0) x.lo) (lt_z x.hi (pos 0)) refl refl
+pub sign_below : (x : Interval) → x.lo ≤ℤ x.hi → x.hi <ℤ pos 0 → sign_of x ≡ No
+sign_below x in_order high = by (le_z (pos 0) x.lo) (lt_z x.hi (pos 0)) refl refl
   where
     by : (p q : Bool) → le_z (pos 0) x.lo ≡ p → lt_z x.hi (pos 0) ≡ q → (if p then Yes else (if q then No else Open)) ≡ No
     by true q h g = absurd (omega (arith, lin))
@@ -38,11 +38,11 @@ pub certified_included : (at_least : Bool) (y x : Interval) → x.lo ≤ℤ x.hi
 certified_included at_least y x in_order includes certified = by at_least (sign_of y) refl certified
   where
     by : (at_least : Bool) (sign : Sign) → sign_of y ≡ sign → certifies at_least sign ≡ true → certifies at_least (sign_of x) ≡ true
-    by true Yes e is = rw (yes_from x (Includes-not_negative y x includes (yes-low y e))) refl
+    by true Yes e is = rw (sign_above x (Includes-not_negative y x includes (yes-low y e))) refl
     by true No e is = absurd (false≢true is)
     by true Open e is = absurd (false≢true is)
     by false Yes e is = absurd (false≢true is)
-    by false No e is = rw (no_from x in_order (Includes-negative y x includes (no-high y e))) refl
+    by false No e is = rw (sign_below x in_order (Includes-negative y x includes (no-high y e))) refl
     by false Open e is = absurd (false≢true is)
 
 -- and then the opposite is not certified

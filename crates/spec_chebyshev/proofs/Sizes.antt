@@ -50,7 +50,7 @@ pub difference_u-sum : (a u l : ℤ) (k : ℕ) → difference_u a u l k ≡ weig
 difference_u-sum a u l k = (u_two a u l k).0
 
 -- ---- sizes of products and sums
-Within-mul : (p q a b : ℤ) → pos 0 ≤ℤ a → pos 0 ≤ℤ b → Within p a → Within q b → Within (p *ℤ q) (a *ℤ b)
+pub Within-mul : (p q a b : ℤ) → pos 0 ≤ℤ a → pos 0 ≤ℤ b → Within p a → Within q b → Within (p *ℤ q) (a *ℤ b)
 Within-mul p q a b ha hb wp wq =
     let n : pos 0 ≤ℤ (a *ℤ b) = nonneg-mul a b ha hb in
     let nn : neg_ℤ a *ℤ neg_ℤ b ≡ a *ℤ b = ring (a ∷ b ∷ []) (minus (v 0) ⊗ minus (v 1)) (v 0 ⊗ v 1) tt in
@@ -61,7 +61,7 @@ Within-mul p q a b ha hb wp wq =
       high = corner_high (a *ℤ b) (neg_ℤ a) a (neg_ℤ b) b p q wp.low wp.high wq.low wq.high (omega (arith, lin)) (omega (arith, lin)) (omega (arith, lin)) (omega (arith, lin));
     }
 
-Within-add : (p q a b : ℤ) → Within p a → Within q b → Within (p +ℤ q) (a +ℤ b)
+pub Within-add : (p q a b : ℤ) → Within p a → Within q b → Within (p +ℤ q) (a +ℤ b)
 Within-add p q a b wp wq =
     let pl = wp.low in
     let ph = wp.high in

@@ -5,24 +5,23 @@ use Rattle.std.proofs.lemmas.Int.{ints}
 use Rattle.std.proofs.lemmas.Nat.{pow_pos, pow-add}
 use borrow.Author.Differences.{up, down}
 use Rattle.spec_numbers.proofs.Ring.{v, k as lit, ◌⊗◌, ring}
-use Rattle.spec_numbers.proofs.Order.{lin, le-mul, le-mul_cancel}
+use Rattle.spec_numbers.proofs.Order.{lin, le-mul, le-mul_cancel, natural}
 use Rattle.spec_numbers.proofs.Naturals.{positive_product}
 use Rattle.spec_intervals.specs.Fraction.{fraction_add, fraction_mul, fraction_scale}
 use Rattle.spec_intervals.proofs.Sums.{gap_is}
 use Rattle.spec_roundings.specs.Ends.{NoMore, in_units, slight}
 use Rattle.spec_roundings.proofs.Near.{raised_powers}
+use Rattle.spec_roundings.proofs.Ordered.{no_more_trans, add_no_more, slight_no_more, slight_is_fraction}
 use Rattle.spec_models.specs.Models.{Model, bulk}
-use Rattle.spec_models.proofs.Between.{NoMore-trans}
 use Rattle.spec_covers.specs.Combining.{greatest, IsUpto, IsEnough, scaled_loss}
-use Rattle.spec_covers.proofs.Fractions.{nonneg, same_through, same_below, sums_in_order}
-use Rattle.spec_covers.proofs.Rounded.{slight_in_order, slight_number}
+use Rattle.spec_covers.proofs.Fractions.{same_through, same_below}
 use Rattle.spec_covers.proofs.Units.{same_sum, same_product}
 
 -- ---- z units of 2^(t + a) are at most n of 2^(t + b), where z 2^a is at most n 2^b
 compared : (z n : ℕ) (ut ds us ue de dt pa pb : ℕ) → 0 < dt → us * dt ≡ ut * pa * ds → ue * dt ≡ ut * pb * de → z * pa ≤ n * pb
     → (pos z *ℤ pos us *ℤ pos de) ≤ℤ (pos n *ℤ pos ue *ℤ pos ds)
 compared z n ut ds us ue de dt pa pb positive e f h =
-    let g : (pos (z * pa) *ℤ pos (ut * ds * de)) ≤ℤ (pos (n * pb) *ℤ pos (ut * ds * de)) = le-mul (pos (z * pa)) (pos (n * pb)) (pos (ut * ds * de)) (nonneg (ut * ds * de)) (omega (arith, ints)) in
+    let g : (pos (z * pa) *ℤ pos (ut * ds * de)) ≤ℤ (pos (n * pb) *ℤ pos (ut * ds * de)) = le-mul (pos (z * pa)) (pos (n * pb)) (pos (ut * ds * de)) (natural (ut * ds * de)) (omega (arith, ints)) in
     let x : pos z *ℤ pos us *ℤ pos de *ℤ pos dt ≡ pos (z * pa) *ℤ pos (ut * ds * de) =
     ring (pos z ∷ pos us ∷ pos de ∷ pos dt ∷ []) (v 0 ⊗ v 1 ⊗ v 2 ⊗ v 3) (v 0 ⊗ v 2 ⊗ (v 1 ⊗ v 3)) tt ∙
     (ap (λ k. pos z *ℤ pos de *ℤ pos k) e ∙
@@ -65,9 +64,9 @@ enough_product k m n d g exponents h =
     let e : m.exponent +ℤ n.exponent ≡ m.exponent +ℤ n.exponent +ℤ pos 0 = omega (arith, lin) in
     let same = same_product (pos (bulk m)) (pos (bulk n)) m.exponent n.exponent (m.exponent +ℤ n.exponent) refl in
     let p = power_split d g in
-    NoMore-trans (slight (fraction_mul (greatest m) (greatest n))) (slight (in_units (pos (bulk m * bulk n)) (m.exponent +ℤ n.exponent))) (in_units (pos d) k.exponent)
-    (slight_number (in_units (pos (bulk m * bulk n)) (m.exponent +ℤ n.exponent)) (pow_pos (down (m.exponent +ℤ n.exponent))))
-    (slight_in_order (fraction_mul (greatest m) (greatest n)) (in_units (pos (bulk m * bulk n)) (m.exponent +ℤ n.exponent)) (same_below (fraction_mul (greatest m) (greatest n)) (in_units (pos (bulk m * bulk n)) (m.exponent +ℤ n.exponent)) same))
+    no_more_trans (slight (fraction_mul (greatest m) (greatest n))) (slight (in_units (pos (bulk m * bulk n)) (m.exponent +ℤ n.exponent))) (in_units (pos d) k.exponent)
+    (slight_is_fraction (in_units (pos (bulk m * bulk n)) (m.exponent +ℤ n.exponent)) (pow_pos (down (m.exponent +ℤ n.exponent))))
+    (slight_no_more (fraction_mul (greatest m) (greatest n)) (in_units (pos (bulk m * bulk n)) (m.exponent +ℤ n.exponent)) (same_below (fraction_mul (greatest m) (greatest n)) (in_units (pos (bulk m * bulk n)) (m.exponent +ℤ n.exponent)) same))
     (slight_fits (bulk m * bulk n) d 0 g (m.exponent +ℤ n.exponent) (m.exponent +ℤ n.exponent) k.exponent e exponents (omega (arith, h, p)))
 
 pub enough_sum : (k m n : Model) (d a b g : ℕ) (t : ℤ) → m.exponent ≡ t +ℤ pos a → n.exponent ≡ t +ℤ pos b → k.exponent ≡ t +ℤ pos g
@@ -79,11 +78,11 @@ enough_sum k m n d a b g t first second third h =
     let s = same_sum (pos (bulk m * 2 ^ a)) (pos (bulk n * 2 ^ b)) t in
     let both = same_through (fraction_add (greatest m) (greatest n)) (fraction_add (in_units (pos (bulk m * 2 ^ a)) t) (in_units (pos (bulk n * 2 ^ b)) t)) (in_units (pos (bulk m * 2 ^ a + bulk n * 2 ^ b)) t)
     (positive_product (2 ^ down t) (2 ^ down t) (pow_pos (down t)) (pow_pos (down t)))
-    (sums_in_order (greatest m) (in_units (pos (bulk m * 2 ^ a)) t) (greatest n) (in_units (pos (bulk n * 2 ^ b)) t) x y) s in
+    (add_no_more (greatest m) (in_units (pos (bulk m * 2 ^ a)) t) (greatest n) (in_units (pos (bulk n * 2 ^ b)) t) x y) s in
     let p = power_split d g in
-    NoMore-trans (slight (fraction_add (greatest m) (greatest n))) (slight (in_units (pos (bulk m * 2 ^ a + bulk n * 2 ^ b)) t)) (in_units (pos d) k.exponent)
-    (slight_number (in_units (pos (bulk m * 2 ^ a + bulk n * 2 ^ b)) t) (pow_pos (down t)))
-    (slight_in_order (fraction_add (greatest m) (greatest n)) (in_units (pos (bulk m * 2 ^ a + bulk n * 2 ^ b)) t) both)
+    no_more_trans (slight (fraction_add (greatest m) (greatest n))) (slight (in_units (pos (bulk m * 2 ^ a + bulk n * 2 ^ b)) t)) (in_units (pos d) k.exponent)
+    (slight_is_fraction (in_units (pos (bulk m * 2 ^ a + bulk n * 2 ^ b)) t) (pow_pos (down t)))
+    (slight_no_more (fraction_add (greatest m) (greatest n)) (in_units (pos (bulk m * 2 ^ a + bulk n * 2 ^ b)) t) both)
     (slight_fits (bulk m * 2 ^ a + bulk n * 2 ^ b) d 0 g t t k.exponent zero_up third (omega (arith, h, p)))
 
 -- two units of 2^s, and a little of 2 / length times the bulk
@@ -99,7 +98,7 @@ upto_scaled k m length d a b s t positive above first second h =
     let z = divided (bulk m) length d (2 ^ up m.exponent) (2 ^ down m.exponent) (2 ^ up k.exponent) (2 ^ down k.exponent) positive y in
     same_through (scaled_loss s m length) (fraction_add (in_units (pos 2) k.exponent) (in_units (pos d) k.exponent)) (in_units (pos (2 + d)) k.exponent)
     (positive_product (2 ^ down k.exponent) (2 ^ down k.exponent) (pow_pos (down k.exponent)) (pow_pos (down k.exponent)))
-    (sums_in_order (in_units (pos 2) s) (in_units (pos 2) k.exponent) (slight (fraction_scale (greatest m) length)) (in_units (pos d) k.exponent) x z)
+    (add_no_more (in_units (pos 2) s) (in_units (pos 2) k.exponent) (slight (fraction_scale (greatest m) length)) (in_units (pos d) k.exponent) x z)
     (same_sum (pos 2) (pos d) k.exponent)
   where
     divided : (n length d um dm uk dk : ℕ) → 0 < length → (pos (2 * n) *ℤ pos um *ℤ pos dk) ≤ℤ (pos (length * d) *ℤ pos uk *ℤ pos (dm * 2 ^ 58))

@@ -1,12 +1,11 @@
 -- The order of fractions, with nothing divided.
-use Rattle.std.proofs.Common.{◌≡◌, ℕ, ◌*◌, arith, [], ◌∷◌, pos, ◌*ℤ◌, ◌≤ℤ◌}
-use Rattle.std.proofs.lemmas.Int.{ints}
-use Rattle.spec_numbers.proofs.Ring.{v, ◌⊕◌, ◌⊗◌, ring}
-use Rattle.spec_numbers.proofs.Order.{lin, le-mul}
+use Rattle.std.proofs.Common.{◌≡◌, arith, [], ◌∷◌, pos, ◌*ℤ◌, ◌≤ℤ◌}
+use Rattle.spec_numbers.proofs.Ring.{v, ◌⊗◌, ring}
+use Rattle.spec_numbers.proofs.Order.{lin, le-mul, natural}
 use Rattle.spec_numbers.proofs.Whole.{mul_comm, nonneg-mul}
-use Rattle.spec_intervals.specs.Fraction.{Fraction, IsFraction, fraction_add, fraction_mul}
+use Rattle.spec_intervals.specs.Fraction.{Fraction, IsFraction, fraction_mul}
 use Rattle.spec_roundings.specs.Ends.{NoMore}
-use Rattle.spec_models.proofs.Between.{NoMore-trans}
+use Rattle.spec_roundings.proofs.Ordered.{no_more_trans}
 
 -- two fractions are one number
 abbrev pub IsSame : Fraction → Fraction → Type 0
@@ -15,31 +14,18 @@ IsSame a b = a.numerator *ℤ pos b.denominator ≡ b.numerator *ℤ pos a.denom
 pub same_below : (a b : Fraction) → IsSame a b → NoMore a b
 same_below a b e = omega (arith, lin, e)
 
-pub nonneg : (n : ℕ) → pos 0 ≤ℤ pos n
-nonneg n = omega (arith, ints)
-
-pub sums_in_order : (a b c d : Fraction) → NoMore a b → NoMore c d → NoMore (fraction_add a c) (fraction_add b d)
-sums_in_order a b c d h g =
-    let p = le-mul (a.numerator *ℤ pos b.denominator) (b.numerator *ℤ pos a.denominator) (pos (c.denominator * d.denominator)) (nonneg (c.denominator * d.denominator)) h in
-    let q = le-mul (c.numerator *ℤ pos d.denominator) (d.numerator *ℤ pos c.denominator) (pos (a.denominator * b.denominator)) (nonneg (a.denominator * b.denominator)) g in
-    let e = ring (a.numerator ∷ pos a.denominator ∷ c.numerator ∷ pos c.denominator ∷ pos b.denominator ∷ pos d.denominator ∷ [])
-    ((v 0 ⊗ v 3 ⊕ v 2 ⊗ v 1) ⊗ (v 4 ⊗ v 5)) (v 0 ⊗ v 4 ⊗ (v 3 ⊗ v 5) ⊕ v 2 ⊗ v 5 ⊗ (v 1 ⊗ v 4)) tt in
-    let f = ring (b.numerator ∷ pos b.denominator ∷ d.numerator ∷ pos d.denominator ∷ pos a.denominator ∷ pos c.denominator ∷ [])
-    ((v 0 ⊗ v 3 ⊕ v 2 ⊗ v 1) ⊗ (v 4 ⊗ v 5)) (v 0 ⊗ v 4 ⊗ (v 5 ⊗ v 3) ⊕ v 2 ⊗ v 5 ⊗ (v 4 ⊗ v 1)) tt in
-    omega (arith, lin)
-
 -- no more than what is the same number
 pub same_through : (a b c : Fraction) → IsFraction b → NoMore a b → IsSame b c → NoMore a c
-same_through a b c number h e = NoMore-trans a b c number h (same_below b c e)
+same_through a b c number h e = no_more_trans a b c number h (same_below b c e)
 
 -- products of what is not negative
 pub products_in_order : (a b c d : Fraction) → pos 0 ≤ℤ b.numerator → pos 0 ≤ℤ c.numerator → NoMore a b → NoMore c d
     → NoMore (fraction_mul a c) (fraction_mul b d)
 products_in_order a b c d b0 c0 h g =
     let first : (a.numerator *ℤ pos b.denominator *ℤ (c.numerator *ℤ pos d.denominator)) ≤ℤ (b.numerator *ℤ pos a.denominator *ℤ (c.numerator *ℤ pos d.denominator)) =
-    le-mul _ _ (c.numerator *ℤ pos d.denominator) (nonneg-mul c.numerator (pos d.denominator) c0 (nonneg d.denominator)) h in
+    le-mul _ _ (c.numerator *ℤ pos d.denominator) (nonneg-mul c.numerator (pos d.denominator) c0 (natural d.denominator)) h in
     let second : (c.numerator *ℤ pos d.denominator *ℤ (b.numerator *ℤ pos a.denominator)) ≤ℤ (d.numerator *ℤ pos c.denominator *ℤ (b.numerator *ℤ pos a.denominator)) =
-    le-mul _ _ (b.numerator *ℤ pos a.denominator) (nonneg-mul b.numerator (pos a.denominator) b0 (nonneg a.denominator)) g in
+    le-mul _ _ (b.numerator *ℤ pos a.denominator) (nonneg-mul b.numerator (pos a.denominator) b0 (natural a.denominator)) g in
     let e = ring (a.numerator ∷ c.numerator ∷ pos b.denominator ∷ pos d.denominator ∷ []) (v 0 ⊗ v 1 ⊗ (v 2 ⊗ v 3)) (v 0 ⊗ v 2 ⊗ (v 1 ⊗ v 3)) tt in
     let f = ring (b.numerator ∷ d.numerator ∷ pos a.denominator ∷ pos c.denominator ∷ []) (v 0 ⊗ v 1 ⊗ (v 2 ⊗ v 3)) (v 1 ⊗ v 3 ⊗ (v 0 ⊗ v 2)) tt in
     let x = mul_comm (b.numerator *ℤ pos a.denominator) (c.numerator *ℤ pos d.denominator) in

@@ -4,7 +4,7 @@ use Rattle.std.proofs.lemmas.Nat.{pow_pos}
 use borrow.Author.Differences.{up, down}
 use Rattle.spec_numbers.proofs.Naturals.{positive_product}
 use Rattle.spec_numbers.proofs.Ring.{v, k as lit, ◌⊗◌, ring}
-use Rattle.spec_numbers.proofs.Order.{lin, le-mul}
+use Rattle.spec_numbers.proofs.Order.{lin, le-mul, natural}
 use Rattle.spec_intervals.specs.Fraction.{Fraction, IsFraction, fraction_add, fraction_sub, fraction_mul, fraction_signed_square, fraction_scale}
 use Rattle.spec_intervals.specs.Interval.{Interval, interval, narrow, sum, difference, product, signed_square, scale}
 use Rattle.spec_chebyshev.specs.Differences.{IsArgument}
@@ -13,10 +13,11 @@ use Rattle.spec_roundings.proofs.Narrowing.{narrowed_under, narrowed_over}
 use Rattle.spec_roundings.proofs.Products.{product_corner_under, product_corner_over, square_under, square_over}
 use Rattle.spec_roundings.proofs.Sums.{sum_under, sum_over, difference_under, difference_over}
 use Rattle.spec_roundings.proofs.Scaling.{scale_under, scale_over}
+use Rattle.spec_roundings.proofs.Ordered.{no_more_trans, add_no_more, slight_no_more, slight_is_fraction}
 use Rattle.spec_models.specs.Models.{Model, IsNear, Covers, bulk, widened}
 use Rattle.spec_covers.specs.Combining.{AddsTo, SubtractsTo, MultipliesTo, SquaresTo, ScalesTo, greatest, IsUpto, IsEnough, scaled_loss}
-use Rattle.spec_covers.proofs.Fractions.{nonneg, sums_in_order, products_in_order}
-use Rattle.spec_models.proofs.Between.{NoMore-trans, near-under, near-over}
+use Rattle.spec_covers.proofs.Fractions.{products_in_order}
+use Rattle.spec_models.proofs.Between.{near-under, near-over}
 use Rattle.spec_covers.proofs.Near.{covered_size}
 
 -- denominators that are powers of 2, and products of two
@@ -26,29 +27,19 @@ end_number s = pow_pos (down s)
 both_number : (s t : ℤ) → 0 < 2 ^ down s * 2 ^ down t
 both_number s t = positive_product (2 ^ down s) (2 ^ down t) (pow_pos (down s)) (pow_pos (down t))
 
-pub slight_number : (r : Fraction) → IsFraction r → IsFraction (slight r)
-slight_number r number = positive_product r.denominator (2 ^ 58) number (pow_pos 58)
-
-pub slight_in_order : (a b : Fraction) → NoMore a b → NoMore (slight a) (slight b)
-slight_in_order a b h =
-    let p = le-mul (a.numerator *ℤ pos b.denominator) (b.numerator *ℤ pos a.denominator) (pos (2 ^ 58)) (nonneg (2 ^ 58)) h in
-    let e = ring (a.numerator ∷ pos b.denominator ∷ pos (2 ^ 58) ∷ []) (v 0 ⊗ v 1 ⊗ v 2) (v 0 ⊗ (v 1 ⊗ v 2)) tt in
-    let f = ring (b.numerator ∷ pos a.denominator ∷ pos (2 ^ 58) ∷ []) (v 0 ⊗ v 1 ⊗ v 2) (v 0 ⊗ (v 1 ⊗ v 2)) tt in
-    omega (arith, lin)
-
 -- what may be lost of numbers up to some bound is enough for what is lost of smaller ones
 enough_for : (d : ℕ) (k : Model) (r bound : Fraction) → IsFraction bound → NoMore r bound → IsEnough d k bound → IsUpto d k (slight r)
-enough_for d k r bound number h enough = NoMore-trans (slight r) (slight bound) (in_units (pos d) k.exponent) (slight_number bound number) (slight_in_order r bound h) enough
+enough_for d k r bound number h enough = no_more_trans (slight r) (slight bound) (in_units (pos d) k.exponent) (slight_is_fraction bound number) (slight_no_more r bound h) enough
 
 -- ---- sizes, which are not negative
 scaled_nonneg : (m n : ℕ) → pos 0 ≤ℤ (pos m *ℤ pos n)
-scaled_nonneg m n = nonneg (m * n)
+scaled_nonneg m n = natural (m * n)
 
 module _ (d : ℕ) (p q : ℤ) (is : IsArgument p q) where
   -- ---- of two operands
   module _ (m n : Model) (x y : Interval) (first : Covers m p q x) (second : Covers n p q y) where
     sum_size : NoMore (fraction_add (size x) (size y)) (fraction_add (greatest m) (greatest n))
-    sum_size = sums_in_order (size x) (greatest m) (size y) (greatest n) (covered_size m p q is x first) (covered_size n p q is y second)
+    sum_size = add_no_more (size x) (greatest m) (size y) (greatest n) (covered_size m p q is x first) (covered_size n p q is y second)
 
     product_size : NoMore (fraction_mul (size x) (size y)) (fraction_mul (greatest m) (greatest n))
     product_size =
@@ -58,10 +49,10 @@ module _ (d : ℕ) (p q : ℤ) (is : IsArgument p q) where
     module _ (k : Model) (bound : Fraction) (number : IsFraction bound) (loss : Fraction) (loss_number : IsFraction loss) (less : NoMore loss bound)
         (enough : IsEnough d k bound) where
       rounded_down : (r : Fraction) (z s : ℤ) → IsNear k p q r → Under (slight loss) (in_units z s) r → IsNear (widened d k) p q (in_units z s)
-      rounded_down r z s near under = near-under k p q d r (in_units z s) (slight loss) is (end_number s) (slight_number loss loss_number) (enough_for d k loss bound number less enough) under near
+      rounded_down r z s near under = near-under k p q d r (in_units z s) (slight loss) is (end_number s) (slight_is_fraction loss loss_number) (enough_for d k loss bound number less enough) under near
 
       rounded_up : (r : Fraction) (z s : ℤ) → IsNear k p q r → Over (slight loss) (in_units z s) r → IsNear (widened d k) p q (in_units z s)
-      rounded_up r z s near over = near-over k p q d r (in_units z s) (slight loss) is (end_number s) (slight_number loss loss_number) (enough_for d k loss bound number less enough) over near
+      rounded_up r z s near over = near-over k p q d r (in_units z s) (slight loss) is (end_number s) (slight_is_fraction loss loss_number) (enough_for d k loss bound number less enough) over near
 
     pub Covers-product : (k : Model) → MultipliesTo m n k → IsEnough d k (fraction_mul (greatest m) (greatest n)) → Covers (widened d k) p q (product x y)
     Covers-product k multiplies enough =
@@ -101,7 +92,7 @@ module _ (d : ℕ) (p q : ℤ) (is : IsArgument p q) where
       let bound_number = positive_product (2 ^ down m.exponent) (2 ^ down m.exponent) (pow_pos (down m.exponent)) (pow_pos (down m.exponent)) in
       let less = product_size m m x x covers covers in
       let upto = enough_for d k (fraction_mul (size x) (size x)) (fraction_mul (greatest m) (greatest m)) bound_number less enough in
-      let number = slight_number (fraction_mul (size x) (size x)) loss_number in
+      let number = slight_is_fraction (fraction_mul (size x) (size x)) loss_number in
       record {
         low = near-under k p q d (fraction_signed_square (low x)) (low (signed_square x)) (slight (fraction_mul (size x) (size x))) is (end_number (signed_square x).s) number upto (square_under x) (squares p q (low x) is covers.low);
         high = near-over k p q d (fraction_signed_square (high x)) (high (signed_square x)) (slight (fraction_mul (size x) (size x))) is (end_number (signed_square x).s) number upto (square_over x) (squares p q (high x) is covers.high);
@@ -111,7 +102,7 @@ module _ (d : ℕ) (p q : ℤ) (is : IsArgument p q) where
     pub Covers-narrow : IsEnough d m (greatest m) → Covers (widened d m) p q (narrow lo hi s)
     Covers-narrow enough =
         let upto = enough_for d m (size (interval lo hi s)) (greatest m) (end_number m.exponent) (covered_size m p q is (interval lo hi s) covers) enough in
-        let number = slight_number (size (interval lo hi s)) (end_number s) in
+        let number = slight_is_fraction (size (interval lo hi s)) (end_number s) in
         record {
           low = near-under m p q d (low (interval lo hi s)) (low (narrow lo hi s)) (slight (size (interval lo hi s))) is (end_number (narrow lo hi s).s) number upto (narrowed_under lo hi s) covers.low;
           high = near-over m p q d (high (interval lo hi s)) (high (narrow lo hi s)) (slight (size (interval lo hi s))) is (end_number (narrow lo hi s).s) number upto (narrowed_over lo hi s) covers.high;
@@ -123,10 +114,10 @@ module _ (d : ℕ) (p q : ℤ) (is : IsArgument p q) where
         → Covers (widened d k) p q (scale lo hi s length)
     Covers-scale length k positive scales enough =
         let less = scales_in_order (size (interval lo hi s)) (greatest m) length (covered_size m p q is (interval lo hi s) covers) in
-        let less_lost = sums_in_order (in_units (pos 2) s) (in_units (pos 2) s) (slight (fraction_scale (size (interval lo hi s)) length)) (slight (fraction_scale (greatest m) length)) (omega (arith, lin)) (slight_in_order (fraction_scale (size (interval lo hi s)) length) (fraction_scale (greatest m) length) less) in
+        let less_lost = add_no_more (in_units (pos 2) s) (in_units (pos 2) s) (slight (fraction_scale (size (interval lo hi s)) length)) (slight (fraction_scale (greatest m) length)) (omega (arith, lin)) (slight_no_more (fraction_scale (size (interval lo hi s)) length) (fraction_scale (greatest m) length) less) in
         let number = lost_number (pos (greatest_end (interval lo hi s))) s length positive in
         let bound_number = lost_number (pos (bulk m)) m.exponent length positive in
-        let upto = NoMore-trans (scale_loss lo hi s length) (fraction_add (in_units (pos 2) s) (slight (fraction_scale (greatest m) length))) (in_units (pos d) k.exponent) bound_number less_lost enough in
+        let upto = no_more_trans (scale_loss lo hi s length) (fraction_add (in_units (pos 2) s) (slight (fraction_scale (greatest m) length))) (in_units (pos d) k.exponent) bound_number less_lost enough in
         record {
           low = near-under k p q d (fraction_scale (low (interval lo hi s)) length) (low (scale lo hi s length)) (scale_loss lo hi s length) is (end_number (scale lo hi s length).s) number upto (scale_under lo hi s length positive) (scales p q (low (interval lo hi s)) is covers.low);
           high = near-over k p q d (fraction_scale (high (interval lo hi s)) length) (high (scale lo hi s length)) (scale_loss lo hi s length) is (end_number (scale lo hi s length).s) number upto (scale_over lo hi s length positive) (scales p q (high (interval lo hi s)) is covers.high);
@@ -134,7 +125,7 @@ module _ (d : ℕ) (p q : ℤ) (is : IsArgument p q) where
       where
         scales_in_order : (a b : Fraction) (length : ℕ) → NoMore a b → NoMore (fraction_scale a length) (fraction_scale b length)
         scales_in_order a b length h =
-            let p = le-mul (a.numerator *ℤ pos b.denominator) (b.numerator *ℤ pos a.denominator) (pos (2 * length)) (nonneg (2 * length)) h in
+            let p = le-mul (a.numerator *ℤ pos b.denominator) (b.numerator *ℤ pos a.denominator) (pos (2 * length)) (natural (2 * length)) h in
             let e = ring (a.numerator ∷ pos b.denominator ∷ pos length ∷ []) (lit (pos 2) ⊗ v 0 ⊗ (v 1 ⊗ v 2)) (v 0 ⊗ v 1 ⊗ (lit (pos 2) ⊗ v 2)) tt in
             let f = ring (b.numerator ∷ pos a.denominator ∷ pos length ∷ []) (lit (pos 2) ⊗ v 0 ⊗ (v 1 ⊗ v 2)) (v 0 ⊗ v 1 ⊗ (lit (pos 2) ⊗ v 2)) tt in
             omega (arith, lin)

@@ -6,7 +6,7 @@ use Rattle.spec_numbers.proofs.Naturals.{positive_product}
 use borrow.Author.Differences.{up, down}
 use Rattle.spec_numbers.specs.Numbers.{power}
 use Rattle.spec_numbers.proofs.Ring.{v, k as lit, ◌⊕◌, ◌⊖◌, ◌⊗◌, minus, ring}
-use Rattle.spec_numbers.proofs.Order.{lin, le-mul_cancel}
+use Rattle.spec_numbers.proofs.Order.{lin, le-mul_cancel, natural}
 use Rattle.spec_numbers.proofs.Whole.{nonneg-mul}
 use Rattle.spec_intervals.specs.Fraction.{Fraction, fraction, fraction_mul}
 use Rattle.spec_intervals.specs.Interval.{signed_sq}
@@ -14,7 +14,6 @@ use Rattle.spec_chebyshev.specs.Differences.{IsArgument}
 use Rattle.spec_models.specs.Models.{Model, model, IsNear, at, degree, sizes}
 use Rattle.spec_models.proofs.Bounds.{Within-at}
 use Rattle.spec_covers.specs.Combining.{MultipliesTo, SquaresTo, OpposesTo, IsNotNegative, IsNotPositive}
-use Rattle.spec_covers.proofs.Fractions.{nonneg}
 use Rattle.spec_covers.proofs.Near.{whole_positive}
 
 square_up : (z : ℤ) → pos 0 ≤ℤ z → z *ℤ z ≡ signed_sq z
@@ -66,13 +65,13 @@ module _ (x : ℤ) (xs : List ℤ) (e : ℕ) (s : ℤ) where
     -- what is at least 0 over a positive number, and so at most 0
     up_from : (a n : ℤ) (u d l : ℕ) → 0 < l → pos 0 ≤ℤ a → (a *ℤ pos u *ℤ pos d) ≤ℤ (n *ℤ pos l) → pos 0 ≤ℤ n
     up_from a n u d l positive h g =
-        let e = nonneg-mul (a *ℤ pos u) (pos d) (nonneg-mul a (pos u) h (nonneg u)) (nonneg d) in
+        let e = nonneg-mul (a *ℤ pos u) (pos d) (nonneg-mul a (pos u) h (natural u)) (natural d) in
         let f = ring (pos l ∷ []) (lit (pos 0) ⊗ v 0) (lit (pos 0)) tt in
         le-mul_cancel (pos 0) n l positive (omega (arith, lin))
 
     down_from : (a n : ℤ) (u d l : ℕ) → 0 < l → a ≤ℤ pos 0 → (n *ℤ pos l) ≤ℤ (a *ℤ pos u *ℤ pos d) → n ≤ℤ pos 0
     down_from a n u d l positive h g =
-        let e = nonneg-mul (neg_ℤ a *ℤ pos u) (pos d) (nonneg-mul (neg_ℤ a) (pos u) (omega (arith, lin)) (nonneg u)) (nonneg d) in
+        let e = nonneg-mul (neg_ℤ a *ℤ pos u) (pos d) (nonneg-mul (neg_ℤ a) (pos u) (omega (arith, lin)) (natural u)) (natural d) in
         let i = ring (a ∷ pos u ∷ pos d ∷ []) (minus (v 0) ⊗ v 1 ⊗ v 2) (minus (v 0 ⊗ v 1 ⊗ v 2)) tt in
         let f = ring (pos l ∷ []) (lit (pos 0) ⊗ v 0) (lit (pos 0)) tt in
         le-mul_cancel n (pos 0) l positive (omega (arith, lin))

@@ -5,7 +5,7 @@ use Rattle.std.proofs.lemmas.Int.{ints, clamps}
 use Rattle.std.proofs.lemmas.Nat.{pow_pos}
 use Rattle.spec_numbers.specs.Numbers.{floor_div, ceil_div}
 use Rattle.spec_numbers.proofs.Ring.{v, k as lit, ◌⊕◌, ◌⊖◌, ◌⊗◌, ring}
-use Rattle.spec_numbers.proofs.Order.{lin, le-mul}
+use Rattle.spec_numbers.proofs.Order.{lin, le-mul, natural}
 use Rattle.spec_numbers.proofs.Floor.{floor_div-le, floor_div-lt, ceil_div-ge, ceil_div-lt}
 use Rattle.spec_intervals.specs.Fraction.{Fraction, fraction, fraction_sub, fraction_mul}
 use Rattle.spec_intervals.specs.Interval.{least4, greatest4}
@@ -15,7 +15,6 @@ use Rattle.spec_chebyshev.specs.Rows.{nothing, next}
 use Rattle.spec_roundings.specs.Ends.{NoMore, Under, Over}
 use Rattle.spec_models.specs.Models.{Model, IsNear, widened}
 use Rattle.spec_covers.specs.Combining.{MultipliesTo, SubtractsTo, IsUpto}
-use Rattle.spec_covers.proofs.Fractions.{nonneg}
 use Rattle.spec_models.proofs.Between.{near-under, near-over, near-between}
 
 -- ---- the least of four products of ends is one of them, and so is the greatest
@@ -56,8 +55,8 @@ module _ (x e b f : ℤ) (k n : ℕ) where
 
   rounded_below : (f *ℤ pos k) ≤ℤ (x *ℤ e) → (x *ℤ e) ≤ℤ (f *ℤ pos k +ℤ pos k) → Under (units (pos 1) n) (units (f -ℤ b) n) exact
   rounded_below h g =
-      let first = le-mul (f *ℤ pos k) (x *ℤ e) (pos (n * n)) (nonneg (n * n)) h in
-      let second = le-mul (x *ℤ e) (f *ℤ pos k +ℤ pos k) (pos (n * n * n)) (nonneg (n * n * n)) g in
+      let first = le-mul (f *ℤ pos k) (x *ℤ e) (pos (n * n)) (natural (n * n)) h in
+      let second = le-mul (x *ℤ e) (f *ℤ pos k +ℤ pos k) (pos (n * n * n)) (natural (n * n * n)) g in
       let r1 = ring (x ∷ e ∷ b ∷ pos k ∷ pos n ∷ [])
       (((v 0 ⊗ lit (pos 1) ⊗ (v 1 ⊗ lit (pos 1)) ⊗ v 4 ⊖ v 2 ⊗ lit (pos 1) ⊗ (v 3 ⊗ v 4)) ⊗ v 4 ⊖ lit (pos 1) ⊗ lit (pos 1) ⊗ (v 3 ⊗ v 4 ⊗ v 4)) ⊗ v 4)
       (v 0 ⊗ v 1 ⊗ (v 4 ⊗ v 4 ⊗ v 4) ⊖ v 2 ⊗ v 3 ⊗ (v 4 ⊗ v 4 ⊗ v 4) ⊖ v 3 ⊗ (v 4 ⊗ v 4 ⊗ v 4)) tt in
@@ -70,8 +69,8 @@ module _ (x e b f : ℤ) (k n : ℕ) where
 
   rounded_above : (x *ℤ e) ≤ℤ (f *ℤ pos k) → (f *ℤ pos k) ≤ℤ (x *ℤ e +ℤ pos k) → Over (units (pos 1) n) (units (f -ℤ b) n) exact
   rounded_above h g =
-      let first = le-mul (x *ℤ e) (f *ℤ pos k) (pos (n * n)) (nonneg (n * n)) h in
-      let second = le-mul (f *ℤ pos k) (x *ℤ e +ℤ pos k) (pos (n * n * n)) (nonneg (n * n * n)) g in
+      let first = le-mul (x *ℤ e) (f *ℤ pos k) (pos (n * n)) (natural (n * n)) h in
+      let second = le-mul (f *ℤ pos k) (x *ℤ e +ℤ pos k) (pos (n * n * n)) (natural (n * n * n)) g in
       let r1 = ring (x ∷ e ∷ b ∷ pos k ∷ pos n ∷ [])
       (((v 0 ⊗ lit (pos 1) ⊗ (v 1 ⊗ lit (pos 1)) ⊗ v 4 ⊖ v 2 ⊗ lit (pos 1) ⊗ (v 3 ⊗ v 4)) ⊗ v 4 ⊕ lit (pos 1) ⊗ lit (pos 1) ⊗ (v 3 ⊗ v 4 ⊗ v 4)) ⊗ v 4)
       ((v 0 ⊗ v 1 ⊕ v 3) ⊗ (v 4 ⊗ v 4 ⊗ v 4) ⊖ v 2 ⊗ v 3 ⊗ (v 4 ⊗ v 4 ⊗ v 4)) tt in
@@ -147,7 +146,7 @@ module _ (d : ℕ) (p q : ℤ) (is : IsArgument p q) (m a w b k : Model) (multip
         subst (λ z. IsNear (widened d k) p q (units (z -ℤ y.lo) n)) e (high_side (ceil_div most half) below (omega (arith, lin)))
 
     in_order : (z t : ℤ) → z ≤ℤ t → NoMore (units z n) (units t n)
-    in_order z t h = le-mul (z *ℤ pos 1) (t *ℤ pos 1) (pos n) (nonneg n) (le-mul z t (pos 1) (omega (arith, lin)) h)
+    in_order z t h = le-mul (z *ℤ pos 1) (t *ℤ pos 1) (pos n) (natural n) (le-mul z t (pos 1) (omega (arith, lin)) h)
 
     -- what is cut lies between the two
     near_cut : (z : ℤ) → uncut_low ≤ℤ z → z ≤ℤ uncut_high → IsNear (widened d k) p q (units z n)

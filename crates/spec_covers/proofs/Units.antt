@@ -6,14 +6,15 @@ use borrow.Author.Differences.{up, down}
 use Rattle.spec_numbers.specs.Numbers.{power}
 use Rattle.spec_numbers.proofs.Naturals.{positive_product}
 use Rattle.spec_numbers.proofs.Ring.{v, k as lit, ◌⊕◌, ◌⊗◌, ring}
-use Rattle.spec_numbers.proofs.Order.{lin, le-mul}
+use Rattle.spec_numbers.proofs.Order.{lin, le-mul, natural}
 use Rattle.spec_intervals.specs.Fraction.{fraction, fraction_add, fraction_mul, fraction_scale}
 use Rattle.spec_intervals.specs.Interval.{interval}
 use Rattle.spec_chebyshev.specs.Differences.{IsArgument, Within}
 use Rattle.spec_roundings.specs.Ends.{NoMore, in_units}
+use Rattle.spec_roundings.proofs.Ordered.{more_units}
 use Rattle.spec_models.specs.Models.{Model, constant, at, degree, IsNear, Covers}
 use Rattle.spec_covers.specs.Combining.{MultipliesTo, RepeatsTo, ScalesTo}
-use Rattle.spec_covers.proofs.Fractions.{IsSame, nonneg}
+use Rattle.spec_covers.proofs.Fractions.{IsSame}
 use Rattle.spec_models.proofs.Between.{near-same}
 use Rattle.spec_models.proofs.Values.{near-constant}
 use Rattle.spec_covers.proofs.Near.{whole_positive}
@@ -41,14 +42,10 @@ pub same_multiple : (n : ℕ) (z s : ℤ) → IsSame (fraction_mul (fraction (po
 same_multiple n z s =
     ring (pos n ∷ z ∷ pos (2 ^ up s) ∷ pos (2 ^ down s) ∷ []) (v 0 ⊗ (v 1 ⊗ v 2) ⊗ v 3) (v 0 ⊗ v 1 ⊗ v 2 ⊗ (lit (pos 1) ⊗ v 3)) tt
 
-pub units_in_order : (z w s : ℤ) → z ≤ℤ w → NoMore (in_units z s) (in_units w s)
-units_in_order z w s h =
-    le-mul (z *ℤ pos (2 ^ up s)) (w *ℤ pos (2 ^ up s)) (pos (2 ^ down s)) (nonneg (2 ^ down s)) (le-mul z w (pos (2 ^ up s)) (nonneg (2 ^ up s)) h)
-
 -- ---- near a model: w whole units beside a polynomial a / y
 beside_units : (a e w y : ℤ) (n u l : ℕ) → y ≡ pos n → (a +ℤ e *ℤ y) ≤ℤ (w *ℤ y) → NoMore (fraction ((a +ℤ e *ℤ y) *ℤ pos u) (n * l)) (fraction (w *ℤ pos u) l)
 beside_units a e w y n u l same h =
-    let g = le-mul (a +ℤ e *ℤ y) (w *ℤ y) (pos (u * l)) (nonneg (u * l)) h in
+    let g = le-mul (a +ℤ e *ℤ y) (w *ℤ y) (pos (u * l)) (natural (u * l)) h in
     let r1 = ring ((a +ℤ e *ℤ y) ∷ pos u ∷ pos l ∷ []) (v 0 ⊗ v 1 ⊗ v 2) (v 0 ⊗ (v 1 ⊗ v 2)) tt in
     let r2 = ring (w ∷ y ∷ pos u ∷ pos l ∷ []) (v 0 ⊗ v 2 ⊗ (v 1 ⊗ v 3)) (v 0 ⊗ v 1 ⊗ (v 2 ⊗ v 3)) tt in
     let s1 : w *ℤ pos u *ℤ pos (n * l) ≡ w *ℤ pos u *ℤ (y *ℤ pos l) = ap (λ k. w *ℤ pos u *ℤ (k *ℤ pos l)) (sym same) in
@@ -56,7 +53,7 @@ beside_units a e w y n u l same h =
 
 units_beside : (a e w y : ℤ) (n u l : ℕ) → y ≡ pos n → (w *ℤ y) ≤ℤ (a +ℤ e *ℤ y) → NoMore (fraction (w *ℤ pos u) l) (fraction ((a +ℤ e *ℤ y) *ℤ pos u) (n * l))
 units_beside a e w y n u l same h =
-    let g = le-mul (w *ℤ y) (a +ℤ e *ℤ y) (pos (u * l)) (nonneg (u * l)) h in
+    let g = le-mul (w *ℤ y) (a +ℤ e *ℤ y) (pos (u * l)) (natural (u * l)) h in
     let r1 = ring ((a +ℤ e *ℤ y) ∷ pos u ∷ pos l ∷ []) (v 0 ⊗ v 1 ⊗ v 2) (v 0 ⊗ (v 1 ⊗ v 2)) tt in
     let r2 = ring (w ∷ y ∷ pos u ∷ pos l ∷ []) (v 0 ⊗ v 2 ⊗ (v 1 ⊗ v 3)) (v 0 ⊗ v 1 ⊗ (v 2 ⊗ v 3)) tt in
     let s1 : w *ℤ pos u *ℤ pos (n * l) ≡ w *ℤ pos u *ℤ (y *ℤ pos l) = ap (λ k. w *ℤ pos u *ℤ (k *ℤ pos l)) (sym same) in
@@ -81,7 +78,7 @@ module _ (p q : ℤ) (is : IsArgument p q) where
   near_whole a z s e within =
       let lower = within.low in
       let upper = within.high in
-      near-constant p q is a e s (in_units z s) (pow_pos (down s)) (units_in_order (a -ℤ pos e) z s (omega (arith, lin))) (units_in_order z (a +ℤ pos e) s (omega (arith, lin)))
+      near-constant p q is a e s (in_units z s) (pow_pos (down s)) (more_units (a -ℤ pos e) z s (omega (arith, lin))) (more_units z (a +ℤ pos e) s (omega (arith, lin)))
 
   pub Covers-constant : (a lo hi s : ℤ) (e : ℕ) → Within (lo -ℤ a) (pos e) → Within (hi -ℤ a) (pos e) → Covers (constant a e s) p q (interval lo hi s)
   Covers-constant a lo hi s e first second = record { low = near_whole a lo s e first; high = near_whole a hi s e second }

@@ -1,3 +1,4 @@
 pub mod Points
 pub mod Combining
 pub mod Series
+pub mod Examples

@@ -5,4 +5,5 @@
 //! the rows and sums of a series (`Series`); `laws` says what covers them.
 #![tactic(auto)]
 
+pub mod examples;
 pub mod laws;

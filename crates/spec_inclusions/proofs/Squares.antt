@@ -1,14 +1,15 @@
 -- Signed squares, sizes, and the times of a span as seen from its middle.
-use Rattle.std.proofs.Common.{◌≡◌, ℕ, ◌+◌, ◌*◌, ◌^◌, max, ◌≤◌, arith, refl, ap, sym, ◌∙◌, ℤ, pos, ◌+ℤ◌, ◌-ℤ◌, ◌*ℤ◌, neg_ℤ, ◌≤ℤ◌, ◌<ℤ◌, unsigned_abs, inl, inr}
+use Rattle.std.proofs.Common.{◌≡◌, ℕ, ◌+◌, ◌*◌, ◌^◌, max, ◌≤◌, arith, refl, ap, sym, ◌∙◌, ℤ, pos, ◌+ℤ◌, ◌-ℤ◌, ◌*ℤ◌, ◌≤ℤ◌, ◌<ℤ◌, unsigned_abs, inl, inr}
 use Rattle.std.proofs.lemmas.Int.{ints}
 use Rattle.std.proofs.lemmas.Nat.{pow-add}
 use Rattle.std.proofs.Math.Nat.{mul_assoc}
-use Rattle.spec_numbers.proofs.Order.{lin, le-mul}
+use Rattle.spec_numbers.proofs.Order.{lin}
 use Rattle.spec_numbers.proofs.Floor.{floor_div-le, floor_div-lt}
+use Rattle.spec_numbers.proofs.Sizes.{size_between}
 use Rattle.spec_intervals.specs.Interval.{Interval, interval, signed_sq, signed_square}
 use Rattle.spec_intervals.specs.Enclosure.{middle, offsets, twice_size}
 use Rattle.spec_intervals.proofs.Squares.{signed_sq-le, signed_sq-scaled}
-use Rattle.spec_intervals.proofs.Narrow.{zero_ends, negated_product}
+use Rattle.spec_intervals.proofs.Narrow.{zero_ends}
 use Rattle.spec_inclusions.specs.Inclusion.{Includes}
 use Rattle.spec_inclusions.proofs.Spans.{Spans-refl, Spans-wider}
 use Rattle.spec_inclusions.proofs.Narrowing.{zero_alone, Includes-narrow}
@@ -47,15 +48,6 @@ greatest_size x = max (unsigned_abs x.lo) (unsigned_abs x.hi)
 
 abbrev sizes : Interval → Interval
 sizes x = interval (pos 0) (pos (2 * greatest_size x)) x.s
-
--- a number between two others is no greater in size than one of them
-size_between : (a b z : ℤ) (m d : ℕ) → unsigned_abs a ≤ m → unsigned_abs b ≤ m → (a *ℤ pos d) ≤ℤ z → z ≤ℤ (b *ℤ pos d)
-    → unsigned_abs z ≤ m * d
-size_between a b z m d p q r s =
-    let low = le-mul (neg_ℤ (pos m)) a (pos d) (omega (arith, lin)) (omega (arith, lin)) in
-    let high = le-mul b (pos m) (pos d) (omega (arith, lin)) (omega (arith, lin)) in
-    let e = negated_product m d in
-    omega (arith, lin)
 
 doubled_size : (a b m d : ℕ) → a ≤ m * d → b ≤ m * d → pos (2 * max a b) ≤ℤ (pos (2 * m) *ℤ pos d)
 doubled_size a b m d p q =

@@ -7,7 +7,7 @@ use borrow.Author.Differences.{up, down}
 use lib.Signed.{le_z}
 use Rattle.spec_numbers.proofs.Ring.{v, k as lit, ◌⊕◌, ◌⊖◌, ◌⊗◌, minus, ring}
 use Rattle.spec_numbers.proofs.Naturals.{positive_product}
-use Rattle.spec_numbers.proofs.Order.{lin, le-mul, le-mul_cancel}
+use Rattle.spec_numbers.proofs.Order.{lin, le-mul, le-mul_cancel, min_is, max_is}
 use Rattle.spec_numbers.proofs.Floor.{floor_div-le, ceil_div-ge}
 use Rattle.spec_intervals.specs.Fraction.{Fraction, IsFraction, Holds, AtMost, AtLeast, fraction_add, fraction_sub, fraction_scale, Overlaps}
 use Rattle.spec_intervals.proofs.Compare.{AtMost-less, AtLeast-more}
@@ -103,12 +103,6 @@ Holds-join_either x y r (inr q) = Holds-join_second x y r q
 either : (P : ℤ → Type 0) (p q z : ℤ) → (z ≡ p) ⊎ (z ≡ q) → P p → P q → P z
 either P p q z (inl e) h g = subst P (sym e) h
 either P p q z (inr e) h g = subst P (sym e) g
-
-max_is : (p q : ℤ) → (int_max p q ≡ p) ⊎ (int_max p q ≡ q)
-max_is p q = grind (arith, ints)
-
-min_is : (p q : ℤ) → (int_min p q ≡ p) ⊎ (int_min p q ≡ q)
-min_is p q = grind (arith, ints)
 
 max_low : (p q s : ℤ) (r : Fraction) → AtMost p s r → AtMost q s r → AtMost (int_max p q) s r
 max_low p q s r = either (λ z. AtMost z s r) p q (int_max p q) (max_is p q)

@@ -102,7 +102,7 @@ zero_add_high z s r t e h =
     let n : (r.numerator *ℤ pos t.denominator +ℤ t.numerator *ℤ pos r.denominator) *ℤ pos (2 ^ down s) ≡ t.numerator *ℤ pos (2 ^ down s) *ℤ pos r.denominator = ap (λ w. (w *ℤ pos t.denominator +ℤ t.numerator *ℤ pos r.denominator) *ℤ pos (2 ^ down s)) e ∙ ring (t.numerator ∷ pos r.denominator ∷ pos t.denominator ∷ pos (2 ^ down s) ∷ []) ((lit (pos 0) ⊗ v 2 ⊕ v 0 ⊗ v 1) ⊗ v 3) (v 0 ⊗ v 3 ⊗ v 1) tt in
     omega (arith, lin)
 
-fraction_add-comm : (r t : Fraction) → fraction_add r t ≡ fraction_add t r
+pub fraction_add-comm : (r t : Fraction) → fraction_add r t ≡ fraction_add t r
 fraction_add-comm r t =
     let a : r.numerator *ℤ pos t.denominator +ℤ t.numerator *ℤ pos r.denominator ≡ t.numerator *ℤ pos r.denominator +ℤ r.numerator *ℤ pos t.denominator = omega (arith, lin) in
     let b : r.denominator * t.denominator ≡ t.denominator * r.denominator = omega arith in

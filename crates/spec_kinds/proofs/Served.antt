@@ -2,7 +2,7 @@
 use Rattle.std.proofs.Common.{◌≡◌, ◌≢◌, ◌<◌, Bool, true, false, ◌||◌, not, [], ◌∷◌, Option, None, Some, unwrap_or, if◌then◌else◌, refl}
 use Rattle.std.specs.Prelude.{All, IfSome}
 use Rattle.std.specs.List.{list_all}
-use Rattle.std.proofs.lemmas.Bool.{and_parts}
+use Rattle.std.proofs.lemmas.Bool.{and_parts, or_parts}
 use Rattle.std.proofs.lemmas.List.Elements.{All-nil, All-cons}
 use Rattle.spec_ephemeris.specs.declared.body.Body.{Body}
 use Rattle.spec_ephemeris.specs.declared.body.Body.TheVariants.{Ssb}
@@ -44,18 +44,14 @@ all_pass P target (Some second) observer all =
     let rest = and_parts (P second) (list_all P (observer ∷ [])) parts.1 in
     (parts.0, rest.0, (and_parts (P observer) true rest.1).0)
 
-neither : (a b : Bool) → (a || b) ≡ false → (a ≡ false) × (b ≡ false)
-neither false b is = (refl, is)
-neither true b is = absurd (cc)
-
 none_same : (target : Body) (second : Option Body) (observer : Body) → has_twice (target ∷ before second (observer ∷ [])) ≡ false → (is_same target observer ≡ false) × (is_same (unwrap_or second target) observer ≡ false)
 none_same target None observer apart =
-    let own = (neither (is_same target observer) false (neither (is_same target observer || false) (has_twice (observer ∷ [])) apart).0).0 in
+    let own = (or_parts (is_same target observer) false (or_parts (is_same target observer || false) (has_twice (observer ∷ [])) apart).0).0 in
     (own, own)
 none_same target (Some second) observer apart =
-    let parts = neither (is_same target second || (is_same target observer || false)) (has_twice (second ∷ observer ∷ [])) apart in
-    let own = (neither (is_same target observer) false (neither (is_same target second) (is_same target observer || false) parts.0).1).0 in
-    (own, (neither (is_same second observer) false (neither (is_same second observer || false) (has_twice (observer ∷ [])) parts.1).0).0)
+    let parts = or_parts (is_same target second || (is_same target observer || false)) (has_twice (second ∷ observer ∷ [])) apart in
+    let own = (or_parts (is_same target observer) false (or_parts (is_same target second) (is_same target observer || false) parts.0).1).0 in
+    (own, (or_parts (is_same second observer) false (or_parts (is_same second observer || false) (has_twice (observer ∷ [])) parts.1).0).0)
 
 all_of_two : (P : Body → Type 0) (one other : Body) → P one → P other → All P (one ∷ other ∷ [])
 all_of_two P one other p q = All-cons P one (other ∷ []) p (All-cons P other [] q (All-nil P))

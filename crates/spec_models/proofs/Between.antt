@@ -3,33 +3,24 @@ use Rattle.std.proofs.Common.{◌≡◌, ℕ, ◌+◌, ◌*◌, ◌^◌, ◌<◌
 use borrow.Author.Differences.{up, down}
 use Rattle.spec_numbers.specs.Numbers.{power}
 use Rattle.spec_numbers.proofs.Ring.{v, ◌⊕◌, ◌⊖◌, ◌⊗◌, minus, ring}
-use Rattle.spec_numbers.proofs.Order.{lin, le-mul, le-mul_cancel}
+use Rattle.spec_numbers.proofs.Order.{lin, le-mul, le-mul_cancel, natural}
 use Rattle.spec_numbers.proofs.Whole.{nonneg-mul}
 use Rattle.spec_numbers.proofs.Naturals.{positive_product}
 use Rattle.spec_intervals.specs.Fraction.{Fraction, IsFraction, fraction_add, fraction_sub}
 use Rattle.spec_chebyshev.specs.Differences.{IsArgument}
 use Rattle.spec_roundings.specs.Ends.{NoMore, in_units, Under, Over}
+use Rattle.spec_roundings.proofs.Ordered.{no_more_trans}
 use Rattle.spec_models.specs.Models.{Model, at, IsNear, beside, widened}
 use Rattle.spec_models.proofs.Nearness.{Apart-in, Apart-low, Apart-high, near-at, at-near}
-use Rattle.spec_models.proofs.Made.{natural, power0}
+use Rattle.spec_models.proofs.Bounds.{power0}
 
 -- ---- fractions in order
-pub NoMore-trans : (a b c : Fraction) → IsFraction b → NoMore a b → NoMore b c → NoMore a c
-NoMore-trans a b c f h k =
-    let x : (a.numerator *ℤ pos b.denominator *ℤ pos c.denominator) ≤ℤ (b.numerator *ℤ pos a.denominator *ℤ pos c.denominator) = le-mul (a.numerator *ℤ pos b.denominator) (b.numerator *ℤ pos a.denominator) (pos c.denominator) (natural c.denominator) h in
-    let y : (b.numerator *ℤ pos c.denominator *ℤ pos a.denominator) ≤ℤ (c.numerator *ℤ pos b.denominator *ℤ pos a.denominator) = le-mul (b.numerator *ℤ pos c.denominator) (c.numerator *ℤ pos b.denominator) (pos a.denominator) (natural a.denominator) k in
-    let s : (z : ℤ) (i j : ℕ) → z *ℤ pos i *ℤ pos j ≡ z *ℤ pos j *ℤ pos i = λ z i j. ring (z ∷ pos i ∷ pos j ∷ []) (v 0 ⊗ v 1 ⊗ v 2) (v 0 ⊗ v 2 ⊗ v 1) tt in
-    let e = s a.numerator b.denominator c.denominator in
-    let d = s b.numerator a.denominator c.denominator in
-    let g = s c.numerator a.denominator b.denominator in
-    le-mul_cancel (a.numerator *ℤ pos c.denominator) (c.numerator *ℤ pos a.denominator) b.denominator f (omega (arith, lin))
-
 -- ---- between two numbers near a model, and another form of one
 pub near-between : (m : Model) (p q : ℤ) (a r b : Fraction) → IsFraction r → NoMore a r → NoMore r b → IsNear m p q a → IsNear m p q b → IsNear m p q r
 near-between m p q a r b f h k x y = record {
   is_fraction = f;
-  low = NoMore-trans (beside (neg_ℤ (pos m.error)) m p q) a r x.is_fraction x.low h;
-  high = NoMore-trans r b (beside (pos m.error) m p q) y.is_fraction k y.high;
+  low = no_more_trans (beside (neg_ℤ (pos m.error)) m p q) a r x.is_fraction x.low h;
+  high = no_more_trans r b (beside (pos m.error) m p q) y.is_fraction k y.high;
 }
 
 pub near-same : (m : Model) (p q : ℤ) (a b : Fraction) → IsFraction b → a.numerator *ℤ pos b.denominator ≡ b.numerator *ℤ pos a.denominator → IsNear m p q a → IsNear m p q b

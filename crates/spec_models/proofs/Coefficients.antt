@@ -1,5 +1,5 @@
 -- The coefficients of a list, one after the other: what loops over arrays of coefficients need.
-use Rattle.std.proofs.Common.{◌≡◌, ℕ, zero, suc, ◌+◌, ◌-◌, ◌*◌, ◌^◌, ◌<◌, ◌≤◌, arith, refl, sym, ap, subst, ◌∙◌, List, [], ◌∷◌, length, take, drop, ℤ, pos, ◌+ℤ◌, ◌*ℤ◌, neg_ℤ, unsigned_abs}
+use Rattle.std.proofs.Common.{◌≡◌, ℕ, zero, suc, ◌+◌, ◌-◌, ◌*◌, ◌^◌, ◌<◌, ◌≤◌, arith, refl, sym, ap, subst, ◌∙◌, List, [], ◌∷◌, length, take, drop, replicate, ℤ, pos, ◌+ℤ◌, ◌*ℤ◌, neg_ℤ, unsigned_abs}
 use Rattle.spec_numbers.specs.Numbers.{power, floor_div}
 use Rattle.spec_numbers.proofs.Ring.{v, k as lit, ◌⊕◌, ◌⊗◌, ring}
 use Rattle.spec_intervals.specs.Fraction.{Fraction}
@@ -41,6 +41,16 @@ pub coefficient-drop : (n : ℕ) (xs : List ℤ) (k : ℕ) → coefficient (drop
 coefficient-drop zero xs k = let z : 0 + k ≡ k = omega arith in sym (ap (λ i. coefficient xs i) z)
 coefficient-drop (suc n) [] k = refl
 coefficient-drop (suc n) (x ∷ xs) k = let s : suc n + k ≡ suc (n + k) = omega arith in coefficient-drop n xs k ∙ sym (ap (λ i. coefficient (x ∷ xs) i) s)
+
+-- of zeros, however many
+pub coefficient-zeros : (n k : ℕ) → coefficient (replicate n (pos 0)) k ≡ pos 0
+coefficient-zeros zero k = refl
+coefficient-zeros (suc n) zero = refl
+coefficient-zeros (suc n) (suc k) = coefficient-zeros n k
+
+pub zeros-same : (n k : ℕ) → coefficient (pos 0 ∷ []) k ≡ coefficient (replicate n (pos 0)) k
+zeros-same n zero = sym (coefficient-zeros n 0)
+zeros-same n (suc k) = sym (coefficient-zeros n (suc k))
 
 -- ---- of products
 -- the first factor's first coefficient apart

@@ -5,17 +5,17 @@ use Rattle.std.proofs.lemmas.Nat.{pow_pos}
 use borrow.Author.Differences.{up, down}
 use Rattle.spec_numbers.specs.Numbers.{power}
 use Rattle.spec_numbers.proofs.Ring.{v, k as lit, ◌⊕◌, ◌⊖◌, ◌⊗◌, minus, ring}
-use Rattle.spec_numbers.proofs.Order.{lin, le-mul}
+use Rattle.spec_numbers.proofs.Order.{lin, le-mul, natural}
 use Rattle.spec_numbers.proofs.Whole.{nonneg-mul}
-use Rattle.spec_numbers.proofs.Naturals.{positive_product}
+use Rattle.spec_numbers.proofs.Naturals.{positive_product, power-add}
 use Rattle.spec_intervals.specs.Fraction.{Fraction, fraction, fraction_add, fraction_mul}
 use Rattle.spec_chebyshev.specs.Differences.{IsArgument, Within}
+use Rattle.spec_chebyshev.proofs.Sizes.{Within-mul, Within-add}
 use Rattle.spec_models.specs.Models.{Model, model, at, IsNear, value, widened, slope, weighted_sizes, bent_sizes, curvature, by_place, derivative, coefficient, constant}
-use Rattle.spec_models.proofs.Lists.{at-none, at-more, at-many, power-add}
-use Rattle.spec_models.proofs.Bounds.{Within-mul, Within-add, Within-more, Within-is, Within-scale, Within-cancel, Within-size, Within-times, Within-zero, Within-moved}
+use Rattle.spec_models.proofs.Lists.{at-none, at-more, at-many}
+use Rattle.spec_models.proofs.Bounds.{Within-more, Within-is, Within-scale, Within-cancel, Within-size, Within-times, Within-zero, Within-moved, power0}
 use Rattle.spec_models.proofs.Nearness.{Apart, near-at, at-near, power-one, own-power, Within-cancel_above}
 use Rattle.spec_models.proofs.Operations.{Apart-moved}
-use Rattle.spec_models.proofs.Made.{natural, power0}
 use Rattle.spec_models.proofs.Between.{near-same}
 use Rattle.spec_models.proofs.Values.{own-argument, constant-bounds, value-denominator}
 

@@ -24,14 +24,6 @@ at-many p q (suc n) d xs h =
     let s : suc n + d ≡ suc (n + d) = omega arith in
     ap (λ m. at p q m xs) s ∙ (at-more p q (n + d) xs (omega arith) ∙ (ap (λ y. q *ℤ y) (at-many p q n d xs h) ∙ ring (q ∷ power q n ∷ at p q d xs ∷ []) (v 0 ⊗ (v 1 ⊗ v 2)) ((v 0 ⊗ v 1) ⊗ v 2) tt))
 
-pub power-add : (q : ℤ) (n d : ℕ) → power q (n + d) ≡ power q n *ℤ power q d
-power-add q zero d =
-    let z : 0 + d ≡ d = omega arith in
-    ap (λ n. power q n) z ∙ ring (power q d ∷ []) (v 0) (lit (pos 1) ⊗ v 0) tt
-power-add q (suc n) d =
-    let s : suc n + d ≡ suc (n + d) = omega arith in
-    ap (λ m. power q m) s ∙ (ap (λ y. q *ℤ y) (power-add q n d) ∙ ring (q ∷ power q n ∷ power q d ∷ []) (v 0 ⊗ (v 1 ⊗ v 2)) ((v 0 ⊗ v 1) ⊗ v 2) tt)
-
 -- ---- sums, multiples, opposites
 pub at-added : (p q : ℤ) (d : ℕ) (xs ys : List ℤ) → at p q d (added xs ys) ≡ at p q d xs +ℤ at p q d ys
 at-added p q zero [] ys = ring (at p q zero ys ∷ []) (v 0) (lit (pos 0) ⊕ v 0) tt

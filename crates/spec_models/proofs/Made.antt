@@ -7,22 +7,16 @@ use Rattle.std.proofs.Math.Nat.{lt-div-mul-add}
 use borrow.Author.Differences.{up, down}
 use Rattle.spec_numbers.specs.Numbers.{power}
 use Rattle.spec_numbers.proofs.Ring.{v, k as lit, ◌⊕◌, ◌⊖◌, ◌⊗◌, minus, ring}
-use Rattle.spec_numbers.proofs.Order.{lin}
+use Rattle.spec_numbers.proofs.Order.{lin, natural}
 use Rattle.spec_numbers.proofs.Whole.{nonneg-mul}
-use Rattle.spec_numbers.proofs.Naturals.{positive_product}
+use Rattle.spec_numbers.proofs.Naturals.{positive_product, power-add}
 use Rattle.spec_intervals.specs.Fraction.{Fraction, fraction, fraction_add, fraction_sub, fraction_mul}
 use Rattle.spec_chebyshev.specs.Differences.{IsArgument, Within}
 use Rattle.spec_models.specs.Models.{Model, model, at, IsNear, sizes, added, multiplied, opposite, convolved, halved, raised, lowered, cut, negated, sum_model, difference_model, product_model}
-use Rattle.spec_models.proofs.Lists.{at-added, at-multiplied, at-opposite, at-convolved, power-add, length-added, length-multiplied, length-opposite, length-halved, length-convolved}
-use Rattle.spec_models.proofs.Bounds.{Within-is, Within-at, Within-halved, Within-cut}
-use Rattle.spec_models.proofs.Nearness.{Apart, near-at, at-near, power-one}
+use Rattle.spec_models.proofs.Lists.{at-added, at-multiplied, at-opposite, at-convolved, length-added, length-multiplied, length-opposite, length-halved, length-convolved}
+use Rattle.spec_models.proofs.Bounds.{Within-is, Within-at, Within-halved, Within-cut, power0}
+use Rattle.spec_models.proofs.Nearness.{Apart, near-at, at-near}
 use Rattle.spec_models.proofs.Operations.{Apart-is, Apart-wider, Apart-moved, Apart-lowered, Apart-negated, Apart-sum, Apart-product, Apart-multiplied, Apart-greater, Apart-lesser}
-
-pub natural : (n : ℕ) → pos 0 ≤ℤ pos n
-natural n = omega (arith, lin)
-
-pub power0 : (p q : ℤ) (d : ℕ) → IsArgument p q → pos 0 ≤ℤ power q d
-power0 p q d g = let o : pos 1 ≤ℤ power q d = power-one q d g.positive in omega (arith, lin)
 
 abbrev pub fraction_neg : Fraction → Fraction
 fraction_neg r = fraction (neg_ℤ r.numerator) r.denominator

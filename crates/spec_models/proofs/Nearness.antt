@@ -7,10 +7,11 @@ use Rattle.spec_numbers.specs.Numbers.{power}
 use Rattle.spec_numbers.proofs.Ring.{v, k as lit, ◌⊕◌, ◌⊖◌, ◌⊗◌, minus, ring}
 use Rattle.spec_numbers.proofs.Order.{lin, le-mul}
 use Rattle.spec_numbers.proofs.Sizes.{own_size}
+use Rattle.spec_numbers.proofs.Naturals.{power-add}
 use Rattle.spec_intervals.specs.Fraction.{Fraction, IsFraction}
 use Rattle.spec_chebyshev.specs.Differences.{IsArgument, Within}
 use Rattle.spec_models.specs.Models.{Model, at, IsNear}
-use Rattle.spec_models.proofs.Lists.{at-many, power-add}
+use Rattle.spec_models.proofs.Lists.{at-many}
 use Rattle.spec_models.proofs.Bounds.{Within-is, Within-scale, Within-cancel}
 
 -- n / D is within E units U / W of A / Q

@@ -4,7 +4,8 @@ use Rattle.spec_numbers.proofs.Ring.{v, ◌⊕◌, ◌⊖◌, ◌⊗◌, minus, 
 use Rattle.spec_numbers.proofs.Order.{lin, le-mul}
 use Rattle.spec_numbers.proofs.Whole.{nonneg-mul}
 use Rattle.spec_chebyshev.specs.Differences.{Within}
-use Rattle.spec_models.proofs.Bounds.{Within-mul, Within-add, Within-neg, Within-more, Within-is, Within-scale, Within-size}
+use Rattle.spec_chebyshev.proofs.Sizes.{Within-mul, Within-add}
+use Rattle.spec_models.proofs.Bounds.{Within-neg, Within-more, Within-is, Within-scale, Within-size}
 use Rattle.spec_models.proofs.Nearness.{Apart}
 
 -- ---- over plain numbers

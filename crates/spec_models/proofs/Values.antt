@@ -6,18 +6,19 @@ use Rattle.std.proofs.lemmas.Nat.{pow_pos}
 use borrow.Author.Differences.{up, down}
 use Rattle.spec_numbers.specs.Numbers.{power}
 use Rattle.spec_numbers.proofs.Ring.{v, k as lit, ◌⊕◌, ◌⊖◌, ◌⊗◌, minus, ring}
-use Rattle.spec_numbers.proofs.Order.{lin, le-mul}
+use Rattle.spec_numbers.proofs.Order.{lin, le-mul, natural}
 use Rattle.spec_numbers.proofs.Whole.{nonneg-mul}
 use Rattle.spec_numbers.proofs.Naturals.{positive_product}
 use Rattle.spec_numbers.proofs.Sizes.{own_size}
 use Rattle.spec_intervals.specs.Fraction.{Fraction, fraction, IsFraction, fraction_add, fraction_mul}
 use Rattle.spec_chebyshev.specs.Differences.{IsArgument, Within}
+use Rattle.spec_chebyshev.proofs.Sizes.{Within-mul, Within-add}
 use Rattle.spec_roundings.specs.Ends.{NoMore, in_units}
 use Rattle.spec_models.specs.Models.{Model, model, at, IsNear, value, widened, sizes, bulk, slope, constant, argument}
-use Rattle.spec_models.proofs.Bounds.{Within-mul, Within-add, Within-more, Within-is, Within-scale, Within-at, Within-moved}
+use Rattle.spec_models.proofs.Bounds.{Within-more, Within-is, Within-scale, Within-at, Within-moved, power0}
 use Rattle.spec_models.proofs.Nearness.{Apart, Apart-in, Apart-low, Apart-high, Apart-more, Apart-less, near-at, at-near, power-one, own-power, Within-cancel_above}
 use Rattle.spec_models.proofs.Operations.{Apart-is, Apart-moved}
-use Rattle.spec_models.proofs.Made.{natural, power0, near-sum, near-product}
+use Rattle.spec_models.proofs.Made.{near-sum, near-product}
 use Rattle.spec_models.proofs.Between.{near-same, near-off}
 
 pub own-argument : (p q : ℤ) → IsArgument p q → pos (unsigned_abs q) ≡ q

@@ -1,5 +1,6 @@
 -- Cleared sums of sums and of multiples.
-use Rattle.std.proofs.Common.{◌≡◌, ℕ, zero, suc, ◌+◌, arith, refl, ap, ◌∙◌, List, [], ◌∷◌, length, ℤ, pos, ◌+ℤ◌, ◌*ℤ◌}
+use Rattle.std.proofs.Common.{◌≡◌, ℕ, suc, refl, ap, ◌∙◌, List, [], ◌∷◌, length, ℤ, pos, ◌+ℤ◌, ◌*ℤ◌, sym}
+use Rattle.std.proofs.Math.IntN.{*ℤ-zero}
 use Rattle.spec_text.specs.declared.decimals.Decimal.{Decimal}
 use Rattle.spec_numbers.specs.Numbers.{power}
 use Rattle.spec_numbers.proofs.Ring.{v, k as lit, ◌⊕◌, ◌⊗◌, ring}
@@ -19,16 +20,8 @@ cleared_sum-change p q d l e k (c ∷ cs) =
 times_term : (m c d w y : ℤ) → c *ℤ ((m *ℤ d) *ℤ w) +ℤ m *ℤ y ≡ m *ℤ (c *ℤ (d *ℤ w) +ℤ y)
 times_term m c d w y = ring (m ∷ c ∷ d ∷ w ∷ y ∷ []) (v 1 ⊗ ((v 0 ⊗ v 2) ⊗ v 3) ⊕ v 0 ⊗ v 4) (v 0 ⊗ (v 1 ⊗ (v 2 ⊗ v 3) ⊕ v 4)) tt
 
-nothing_times : (m : ℤ) → pos 0 ≡ m *ℤ pos 0
-nothing_times m = ring (m ∷ []) (lit (pos 0)) (v 0 ⊗ lit (pos 0)) tt
-
 pub cleared_sum-times : (d : ℕ → ℤ) (m l : ℤ) (k : ℕ) (cs : List Decimal) → cleared_sum (λ j. m *ℤ d j) l k cs ≡ m *ℤ cleared_sum d l k cs
-cleared_sum-times d m l k [] = nothing_times m
+cleared_sum-times d m l k [] = sym (*ℤ-zero m)
 cleared_sum-times d m l k (c ∷ cs) =
     ap (λ (z : ℤ). scaled c *ℤ ((m *ℤ d k) *ℤ power l (length cs)) +ℤ z) (cleared_sum-times d m l (suc k) cs)
     ∙ times_term m (scaled c) (d k) (power l (length cs)) (cleared_sum d l (suc k) cs)
-
--- ---- powers
-pub power-add : (l : ℤ) (j k : ℕ) → power l (j + k) ≡ power l j *ℤ power l k
-power-add l zero k = let e : 0 + k ≡ k = omega arith in ap (power l) e ∙ ring (power l k ∷ []) (v 0) (lit (pos 1) ⊗ v 0) tt
-power-add l (suc j) k = let e : suc j + k ≡ suc (j + k) = omega arith in ap (power l) e ∙ (ap (λ (z : ℤ). l *ℤ z) (power-add l j k) ∙ ring (l ∷ power l j ∷ power l k ∷ []) (v 0 ⊗ (v 1 ⊗ v 2)) ((v 0 ⊗ v 1) ⊗ v 2) tt)

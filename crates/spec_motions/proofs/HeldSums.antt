@@ -14,13 +14,13 @@ use Rattle.spec_chebyshev.specs.declared.ends.Ival62.{Ival62}
 use Rattle.spec_chebyshev.specs.Rows.{ends, HoldsIn}
 use Rattle.spec_numbers.proofs.Whole.{add-mul}
 use Rattle.spec_numbers.proofs.Integers.{joined_beside}
+use Rattle.spec_numbers.proofs.Naturals.{power-add}
 use Rattle.spec_ephemeris.proofs.Units.{units_below, units_above, all_units}
 use Rattle.spec_chebyshev.proofs.Polynomials.{nonneg-power}
 use Rattle.spec_chebyshev.proofs.Quotients.{least_below, greatest_above}
 use Rattle.spec_ephemeris.specs.Series.{IsInUnits, to_nat, scaled, cleared_sum}
 use Rattle.spec_ephemeris.specs.Ephemeris.{IsBodyNumber}
 use Rattle.spec_motions.specs.Sums.{coefficient, sum_low, sum_high}
-use Rattle.spec_motions.proofs.ClearedSums.{power-add}
 
 -- ---- a coefficient
 pub HoldsIn-coefficient : (d : Decimal) → IsInUnits d → HoldsIn 24 (coefficient d) (scaled d) (pos (10 ^ 140))

@@ -7,3 +7,4 @@ pub mod Tight
 pub mod RowSums
 pub mod GranuleSeries
 pub mod EndSizes
+pub mod Pairs

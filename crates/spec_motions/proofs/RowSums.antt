@@ -1,13 +1,12 @@
 -- Sums over rows: one term more, which entries they depend on, the order of their ends and their sizes.
-use Rattle.std.proofs.Common.{◌≡◌, ℕ, zero, suc, ◌+◌, ◌-◌, ◌*◌, ◌^◌, ◌<◌, ◌≤◌, max, arith, refl, sym, ap, ◌∙◌, List, [], ◌∷◌, length, drop, get_or, ℤ, pos, ◌+ℤ◌, ◌*ℤ◌, ◌≤ℤ◌, unsigned_abs, drop-cons, ◌⊎◌, inl, inr}
+use Rattle.std.proofs.Common.{◌≡◌, ℕ, zero, suc, ◌+◌, ◌-◌, ◌*◌, ◌<◌, ◌≤◌, arith, refl, sym, ap, ◌∙◌, List, [], ◌∷◌, length, drop, get_or, ℤ, pos, ◌+ℤ◌, ◌*ℤ◌, ◌≤ℤ◌, unsigned_abs, drop-cons}
 use Rattle.std.proofs.lemmas.Int.{ints, by_lt_z}
 use Rattle.std.specs.Int.{int_min, int_max}
 use Rattle.spec_intervals.specs.Interval.{least4, greatest4}
 use Rattle.spec_numbers.proofs.Ring.{v, ◌⊕◌, ring}
 use Rattle.spec_numbers.proofs.Whole.{mul_comm, exchanged}
-use Rattle.std.proofs.lemmas.Bool.{cases_lt}
 use Rattle.spec_chebyshev.specs.Differences.{Within}
-use Rattle.spec_motions.specs.RowSizes.{slope_sizes, entry_size}
+use Rattle.spec_motions.specs.RowSizes.{entry_size}
 use Rattle.spec_numbers.proofs.Order.{lin, le-mul}
 use Rattle.spec_intervals.proofs.Products.{corners_ordered}
 use Rattle.spec_chebyshev.specs.declared.ends.Ival62.{Ival62}
@@ -122,26 +121,6 @@ module _ (row : ℕ → Ival62) (cs : List Ival62) (sum whole : ℤ) where
   pub high_multiple : (k : ℕ) → 1 ≤ k → k < length cs → sum +ℤ sum_high (multiples row) k (drop k cs) ≡ whole
       → (sum +ℤ (pos k *ℤ greatest4 (get_or cs k nothing).lo (get_or cs k nothing).hi (row (k - 1)).lo (row (k - 1)).hi)) +ℤ sum_high (multiples row) (k + 1) (drop (k + 1) cs) ≡ whole
   high_multiple k h below is = one_multiple greatest4 (sum_high (multiples row)) greatest_times k h (high_more (multiples row) cs k sum whole below is)
-
--- its size
-pub size_more : (size : ℕ → ℕ) (k : ℕ) → 1 ≤ k → slope_sizes size k + k * (2 ^ 60 * size (k - 1)) ≡ slope_sizes size (k + 1)
-size_more size zero h = absurd (omega (arith, h))
-size_more size (suc j) h =
-    let e : suc j - 1 ≡ j = omega arith in
-    let f : suc j + 1 ≡ suc (suc j) = omega arith in
-    ap (λ (i : ℕ). slope_sizes size (suc j) + suc j * (2 ^ 60 * size i)) e ∙ ap (slope_sizes size) (sym f)
-
-pub sizes_grow : (size : ℕ → ℕ) (j n : ℕ) → j ≤ n → slope_sizes size j ≤ slope_sizes size n
-sizes_grow size j zero h = let e : j ≡ 0 = omega (arith, h) in rw e (omega arith)
-sizes_grow size j (suc n) h = by (sizes_grow size j n) (cases_lt n j)
-  where
-    by : (j ≤ n → slope_sizes size j ≤ slope_sizes size n) → (n < j) ⊎ (j ≤ n) → slope_sizes size j ≤ slope_sizes size (suc n)
-    by ih (inl p) = let e : j ≡ suc n = omega arith in rw e (omega arith)
-    by ih (inr p) = let q = ih p in omega (arith, q)
-
-pub total_from_one : (size : ℕ → ℕ) (n : ℕ) → slope_sizes size n < 2 ^ 125 → slope_sizes size (max 1 n) < 2 ^ 125
-total_from_one size zero h = omega arith
-total_from_one size (suc n) h = let e : max 1 (suc n) ≡ suc n = omega arith in rw e h
 
 pub multiple_size : (k : ℕ) (z : ℤ) (m : ℕ) → unsigned_abs z ≤ m → unsigned_abs (pos k *ℤ z) ≤ k * m
 multiple_size k' z m h = product_size (pos k') z k' m (omega (arith, ints)) h

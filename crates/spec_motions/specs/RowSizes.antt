@@ -1,6 +1,6 @@
 -- What is asked of rows and of the intervals of coefficients: which entries they have, and sizes that keep the sums of
 -- their products within 128 bits.
-use Rattle.std.specs.Prelude.{◌≡◌, ℕ, zero, suc, ◌+◌, ◌*◌, ◌^◌, ◌<◌, ◌≤◌, max, List, length, All, unsigned_abs}
+use Rattle.std.specs.Prelude.{◌≡◌, ℕ, suc, ◌^◌, ◌<◌, ◌≤◌, max, List, length, All, unsigned_abs}
 use Rattle.spec_chebyshev.specs.declared.ends.Ival62.{Ival62}
 use Rattle.spec_chebyshev.specs.Rows.{entry, EndsWithin}
 
@@ -21,19 +21,6 @@ pub record AreTerms (cs : List Ival62) : Type 0 where
 abbrev pub IsSmallRow : List Ival62 → ℕ → Type 0
 IsSmallRow row n = (k : ℕ) → k < n → EndsWithin (2 ^ 60) (entry row k)
 
--- how large the sum of k C_k X_(k-1) for k below a count can be, where X_k is at most `size k` in size
-abbrev pub slope_size : (ℕ → ℕ) → ℕ → ℕ
-slope_size size zero = 0
-slope_size size (suc k) = suc k * (2 ^ 60 * size k)
-
-abbrev pub slope_sizes : (ℕ → ℕ) → ℕ → ℕ
-slope_sizes size zero = 0
-slope_sizes size (suc k) = slope_sizes size k + slope_size size k
-
+-- how large an entry is
 abbrev pub entry_size : List Ival62 → ℕ → ℕ
 entry_size row k = max (unsigned_abs (entry row k).lo) (unsigned_abs (entry row k).hi)
-
--- a row whose entries are small enough for that sum
-pub record IsSlopeRow (row : List Ival62) (n : ℕ) : Type 0 where
-  pub small : (k : ℕ) → suc k < n → EndsWithin (2 ^ 60) (entry row k)
-  pub total : slope_sizes (entry_size row) n < 2 ^ 125

@@ -1,11 +1,13 @@
 -- Division rounded down and up.
-use Rattle.std.proofs.Common.{◌≡◌, ℕ, zero, suc, ◌+◌, ◌*◌, ◌/◌, ◌<◌, ◌≤◌, arith, refl, ap, ◌∙◌, [], ◌∷◌, ℤ, pos, negsuc, ◌+ℤ◌, ◌-ℤ◌, ◌*ℤ◌, neg_ℤ, ◌≤ℤ◌, ◌<ℤ◌, unsigned_abs}
+use Rattle.std.proofs.Common.{◌≡◌, ℕ, zero, suc, ◌+◌, ◌*◌, ◌/◌, ◌<◌, ◌≤◌, ◌^◌, min, ◌⊎◌, inl, inr, arith, refl, sym, ap, ◌∙◌, [], ◌∷◌, ℤ, pos, negsuc, ◌+ℤ◌, ◌-ℤ◌, ◌*ℤ◌, neg_ℤ, ◌≤ℤ◌, ◌<ℤ◌, unsigned_abs}
 use Rattle.std.proofs.lemmas.Int.{ints, by_lt_z}
-use Rattle.std.proofs.Math.Nat.{div-div-eq-div-mul, div-mul-le_self, lt-div-mul-add, div-lt_iff_lt-mul}
+use Rattle.std.proofs.lemmas.Bool.{cases_lt}
+use Rattle.std.proofs.lemmas.Nat.{pow_pos}
+use Rattle.std.proofs.Math.Nat.{div-div-eq-div-mul, div-eq_of_lt, div-mul-le_self, lt-div-mul-add, div-lt_iff_lt-mul, pow-le-pow_right}
 use Rattle.std.proofs.Math.IntN.{neg_ℤ-neg_ℤ}
 use Rattle.spec_numbers.specs.Numbers.{floor_div, ceil_div}
 use Rattle.spec_numbers.proofs.Ring.{v, ◌⊕◌, ◌⊗◌, ring, minus}
-use Rattle.spec_numbers.proofs.Order.{lin, le-mul_cancel, lt-mul_cancel}
+use Rattle.spec_numbers.proofs.Order.{lin, le-mul, le-mul_cancel, lt-mul_cancel}
 use Rattle.spec_numbers.proofs.Sizes.{unsigned_abs-neg}
 
 pub floor_div-one : (z : ℤ) → floor_div z 1 ≡ z
@@ -88,3 +90,40 @@ ceil_div-next z d h n =
     let p : floor_div z d <ℤ ceil_div z d = lt-mul_cancel (floor_div z d) (ceil_div z d) d (omega (arith, lin)) in
     let q : ceil_div z d <ℤ (floor_div z d +ℤ pos 2) = lt-mul_cancel (ceil_div z d) (floor_div z d +ℤ pos 2) d (omega (arith, lin)) in
     omega (arith, lin)
+
+-- where the quotient rounded down is below 0, the one rounded up is not above it
+pub quotients_of_one_sign : (z : ℤ) (d : ℕ) → 0 < d → floor_div z d <ℤ pos 0 → ceil_div z d ≤ℤ pos 0
+quotients_of_one_sign z d positive below =
+    let f = floor_div-lt z d positive in
+    let c = ceil_div-lt z d positive in
+    let g : (floor_div z d *ℤ pos d) ≤ℤ (neg_ℤ (pos 1) *ℤ pos d) = le-mul (floor_div z d) (neg_ℤ (pos 1)) (pos d) (omega (arith, lin)) (omega (arith, lin)) in
+    let e : (ceil_div z d *ℤ pos d) <ℤ (pos 1 *ℤ pos d) = omega (arith, ints) in
+    let r = lt-mul_cancel (ceil_div z d) (pos 1) d e in
+    omega (arith, lin)
+
+-- ---- quotients by powers of 2, of numbers of at most 2^62
+-- past 2^63 such a number is divided to 0 or -1
+floor_div-past : (z : ℤ) (d e : ℕ) → unsigned_abs z ≤ 2 ^ 62 → 2 ^ 63 ≤ d → 2 ^ 63 ≤ e → floor_div z d ≡ floor_div z e
+floor_div-past (pos n) d e h p q =
+    let a : n / d ≡ 0 = div-eq_of_lt (omega arith) in
+    let b : n / e ≡ 0 = div-eq_of_lt (omega arith) in
+    ap pos (a ∙ sym b)
+floor_div-past (negsuc n) d e h p q =
+    let a : n / d ≡ 0 = div-eq_of_lt (omega arith) in
+    let b : n / e ≡ 0 = div-eq_of_lt (omega arith) in
+    ap negsuc (a ∙ sym b)
+
+pub capped_shift : (z : ℤ) (k m : ℕ) → unsigned_abs z ≤ 2 ^ 62 → m ≡ min k 63 → floor_div z (2 ^ m) ≡ floor_div z (2 ^ k)
+capped_shift z k m h e = by (cases_lt k 63)
+  where
+    by : (k < 63) ⊎ (63 ≤ k) → floor_div z (2 ^ m) ≡ floor_div z (2 ^ k)
+    by (inl r) = let f : m ≡ k = omega arith in ap (λ n. floor_div z (2 ^ n)) f
+    by (inr r) = let f : m ≡ 63 = omega arith in let p : 2 ^ 63 ≤ 2 ^ k = pow-le-pow_right (omega arith) r in ap (λ n. floor_div z (2 ^ n)) f ∙ floor_div-past z (2 ^ 63) (2 ^ k) h (omega arith) p
+
+-- a quotient is no greater in size
+pub shift_small : (z : ℤ) (k limit : ℕ) → unsigned_abs z ≤ limit → unsigned_abs (floor_div z (2 ^ k)) ≤ limit
+shift_small z k limit h = floor_div-small z (2 ^ k) limit (pow_pos k) (wider (2 ^ k) (pow_pos k))
+  where
+    wider : (d : ℕ) → 0 < d → unsigned_abs z ≤ limit * d
+    wider zero p = absurd (omega arith)
+    wider (suc d) p = omega arith

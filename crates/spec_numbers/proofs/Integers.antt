@@ -1,13 +1,16 @@
 -- Laws of sums, products and powers of ten of the integers.
-use Rattle.std.proofs.Common.{◌≡◌, ℕ, ◌+◌, ◌*◌, ◌^◌, arith, sym, ap, ◌∙◌, [], ◌∷◌, ℤ, pos, ◌*ℤ◌, ◌≤ℤ◌}
+use Rattle.std.proofs.Common.{◌≡◌, ℕ, ◌+◌, ◌*◌, ◌^◌, arith, sym, ap, ◌∙◌, [], ◌∷◌, ℤ, pos, ◌+ℤ◌, ◌*ℤ◌, ◌≤ℤ◌}
 use Rattle.std.proofs.lemmas.Int.{ints}
 use Rattle.std.proofs.lemmas.Nat.{pow-add}
-use Rattle.spec_numbers.proofs.Ring.{v, k as lit, ◌⊗◌, ring}
+use Rattle.spec_numbers.proofs.Ring.{v, k as lit, ◌⊕◌, ◌⊗◌, ring}
 pub use Rattle.spec_numbers.proofs.Whole.{mul_comm, mul_assoc, mul-add, add-mul, exchanged, one-mul}
 pub use Rattle.spec_numbers.proofs.Order.{lt-mul_cancel}
 
 pub times_one : (z : ℤ) → z *ℤ pos 1 ≡ z
 times_one z = ring (z ∷ []) (v 0 ⊗ lit (pos 1)) (v 0) tt
+
+pub doubled : (z : ℤ) → pos 2 *ℤ z ≡ z +ℤ z
+doubled z = ring (z ∷ []) (lit (pos 2) ⊗ v 0) (v 0 ⊕ v 0) tt
 
 pub doubles_ordered : (a b : ℤ) → a ≤ℤ b → (pos 2 *ℤ a) ≤ℤ (pos 2 *ℤ b)
 doubles_ordered a b h = omega (arith, ints, h)

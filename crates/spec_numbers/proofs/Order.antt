@@ -1,12 +1,16 @@
 -- The order of the integers under sums and products.
-use Rattle.std.proofs.Common.{◌≡◌, ℕ, zero, suc, ◌*◌, ◌<◌, arith, refl, ap, ◌∙◌, [], ◌∷◌, ℤ, pos, negsuc, ◌-ℤ◌, ◌*ℤ◌, neg_ℤ, ◌≤ℤ◌, ◌<ℤ◌}
-use Rattle.std.proofs.lemmas.Int.{ints, by_lt_z}
+use Rattle.std.proofs.Common.{◌≡◌, ℕ, zero, suc, ◌*◌, ◌<◌, ◌⊎◌, arith, refl, ap, ◌∙◌, [], ◌∷◌, ℤ, pos, negsuc, ◌-ℤ◌, ◌*ℤ◌, neg_ℤ, ◌≤ℤ◌, ◌<ℤ◌}
+use Rattle.std.proofs.lemmas.Int.{ints, clamps, by_lt_z}
+use Rattle.std.specs.Int.{int_min, int_max}
 use borrow.Author.Differences.{up, down, fits_out, same_out, Apart-out, lt_T, le_T, lt_not, le_not, lt-true, lt-false, le-true, le-false, true-lt, false-lt, true-le, false-le, not_negative_out, lt_out, le_out, fits_in, same_in, lt_in, le_in, below_in, at_most_in, not_negative_in, true_is_lt, false_is_lt, true_is_le, false_is_le, sum_is_lem, neg_is, abs_is, mag_is}
 use Rattle.spec_numbers.proofs.Whole.{nonneg-mul}
 use Rattle.spec_numbers.proofs.Ring.{v, ◌⊖◌, ◌⊗◌, minus, ring}
 
 -- linear arithmetic over the integers, a product as an unknown
 pub ruleset lin = (fits_out, same_out, Apart-out, lt_T, le_T, lt_not, le_not, lt-true, lt-false, le-true, le-false, true-lt, false-lt, true-le, false-le, not_negative_out, lt_out, le_out, fits_in, same_in, lt_in, le_in, below_in, at_most_in, not_negative_in, true_is_lt, false_is_lt, true_is_le, false_is_le, sum_is_lem, neg_is, abs_is, mag_is)
+
+pub natural : (n : ℕ) → pos 0 ≤ℤ pos n
+natural n = omega (arith, lin)
 
 pub le_by : (a b d : ℤ) → b -ℤ a ≡ d → pos 0 ≤ℤ d → a ≤ℤ b
 le_by a b d e h = omega (arith, lin)
@@ -41,3 +45,16 @@ lt-mul_cancel a b d h = by_lt_z a b (λ p. p) (λ q. let g : (b *ℤ pos d) ≤�
 pub nonneg-square : (a : ℤ) → pos 0 ≤ℤ (a *ℤ a)
 nonneg-square (pos n) = omega (arith, ints)
 nonneg-square (negsuc n) = omega (arith, ints)
+
+-- ---- the lesser and the greater of two
+pub min_is : (p q : ℤ) → (int_min p q ≡ p) ⊎ (int_min p q ≡ q)
+min_is p q = grind (arith, ints)
+
+pub max_is : (p q : ℤ) → (int_max p q ≡ p) ⊎ (int_max p q ≡ q)
+max_is p q = grind (arith, ints)
+
+pub min_first : (p q : ℤ) → int_min p q ≤ℤ p
+min_first p q = omega (arith, ints, clamps)
+
+pub min_second : (p q : ℤ) → int_min p q ≤ℤ q
+min_second p q = omega (arith, ints, clamps)

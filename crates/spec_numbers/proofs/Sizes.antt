@@ -1,8 +1,10 @@
 -- The size |z| of a whole number, and what that of a sum, a product, a least or a greatest number is at most.
-use Rattle.std.proofs.Common.{◌≡◌, ℕ, zero, suc, ◌+◌, ◌*◌, ◌≤◌, arith, refl, ℤ, pos, negsuc, neg_ℤ, ◌+ℤ◌, ◌*ℤ◌, ◌≤ℤ◌, unsigned_abs}
+use Rattle.std.proofs.Common.{◌≡◌, ℕ, zero, suc, ◌+◌, ◌*◌, ◌≤◌, arith, refl, [], ◌∷◌, ℤ, pos, negsuc, neg_ℤ, ◌+ℤ◌, ◌*ℤ◌, ◌≤ℤ◌, unsigned_abs}
 use Rattle.std.proofs.lemmas.Int.{ints, unsigned_abs-mul}
 use Rattle.std.proofs.lemmas.Nat.{mul-le}
 use Rattle.std.specs.Int.{int_min, int_max}
+use Rattle.spec_numbers.proofs.Ring.{v, ◌⊗◌, minus, ring}
+use Rattle.spec_numbers.proofs.Order.{lin, le-mul}
 
 pub unsigned_abs-neg : (z : ℤ) → unsigned_abs (neg_ℤ z) ≡ unsigned_abs z
 unsigned_abs-neg (pos zero) = refl
@@ -45,3 +47,11 @@ module _ (a b c d : ℤ) (m : ℕ) (p : unsigned_abs a ≤ m) (q : unsigned_abs 
 pub four_sizes : (a b c d : ℤ) (m : ℕ) → unsigned_abs a ≤ m → unsigned_abs b ≤ m → unsigned_abs c ≤ m → unsigned_abs d ≤ m
     → (unsigned_abs (int_min (int_min a b) (int_min c d)) ≤ m) × (unsigned_abs (int_max (int_max a b) (int_max c d)) ≤ m)
 four_sizes a b c d m p q r s = (least_size a b c d m p q r s, greatest_size a b c d m p q r s)
+
+-- a number between the multiples of two others is no greater in size than d times one of them
+pub size_between : (a b z : ℤ) (m d : ℕ) → unsigned_abs a ≤ m → unsigned_abs b ≤ m → (a *ℤ pos d) ≤ℤ z → z ≤ℤ (b *ℤ pos d) → unsigned_abs z ≤ m * d
+size_between a b z m d p q r s =
+    let low = le-mul (neg_ℤ (pos m)) a (pos d) (omega (arith, lin)) (omega (arith, lin)) in
+    let high = le-mul b (pos m) (pos d) (omega (arith, lin)) (omega (arith, lin)) in
+    let e : neg_ℤ (pos m) *ℤ pos d ≡ neg_ℤ (pos (m * d)) = ring (pos m ∷ pos d ∷ []) (minus (v 0) ⊗ v 1) (minus (v 0 ⊗ v 1)) tt in
+    omega (arith, lin)

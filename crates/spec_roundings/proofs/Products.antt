@@ -1,11 +1,10 @@
 -- How near products and signed squares are: nothing is lost but by narrowing.
 use Rattle.std.proofs.Common.{◌≡◌, ◌⊎◌, ℕ, ◌+◌, ◌*◌, ◌^◌, ◌≤◌, max, arith, refl, sym, ap, ◌∙◌, [], ◌∷◌, ℤ, pos, ◌+ℤ◌, ◌*ℤ◌, unsigned_abs, inl, inr}
-use Rattle.std.proofs.lemmas.Int.{ints, clamps}
 use Rattle.std.proofs.lemmas.Nat.{pow-add}
 use Rattle.std.specs.Int.{int_min, int_max}
 use borrow.Author.Differences.{up, down}
 use Rattle.spec_numbers.proofs.Ring.{v, ◌⊗◌, ring}
-use Rattle.spec_numbers.proofs.Order.{lin}
+use Rattle.spec_numbers.proofs.Order.{lin, min_is, max_is}
 use Rattle.spec_numbers.proofs.Sizes.{four_sizes, product_size}
 use Rattle.spec_intervals.specs.Interval.{Interval, least4, greatest4, product, signed_sq, signed_square}
 use Rattle.spec_intervals.specs.Fraction.{fraction_mul, fraction_signed_square}
@@ -64,17 +63,10 @@ module _ (x y : Interval) (a c : ℤ) where
       exact_over (least4 x.lo x.hi y.lo y.hi) (greatest4 x.lo x.hi y.lo y.hi) (x.s +ℤ y.s) (greatest_end x * greatest_end y) _ _
       (corners_bounded x y) (product_allowed x y) (rw e (product_is_ratio a c x.s y.s (2 ^ 58)))
 
--- the least of four is one of them, and so is the greatest
-lesser : (p q : ℤ) → (int_min p q ≡ p) ⊎ (int_min p q ≡ q)
-lesser p q = grind (arith, ints, clamps)
-
-greater : (p q : ℤ) → (int_max p q ≡ p) ⊎ (int_max p q ≡ q)
-greater p q = grind (arith, ints, clamps)
-
 pub product_corner_under : (x y : Interval) → IsCornerUnder (slight (fraction_mul (size x) (size y))) (product x y) x y
 product_corner_under x y =
-    by (lesser (int_min (x.lo *ℤ y.lo) (x.lo *ℤ y.hi)) (int_min (x.hi *ℤ y.lo) (x.hi *ℤ y.hi)))
-    (lesser (x.lo *ℤ y.lo) (x.lo *ℤ y.hi)) (lesser (x.hi *ℤ y.lo) (x.hi *ℤ y.hi))
+    by (min_is (int_min (x.lo *ℤ y.lo) (x.lo *ℤ y.hi)) (int_min (x.hi *ℤ y.lo) (x.hi *ℤ y.hi)))
+    (min_is (x.lo *ℤ y.lo) (x.lo *ℤ y.hi)) (min_is (x.hi *ℤ y.lo) (x.hi *ℤ y.hi))
   where
     by : (least4 x.lo x.hi y.lo y.hi ≡ int_min (x.lo *ℤ y.lo) (x.lo *ℤ y.hi)) ⊎
         (least4 x.lo x.hi y.lo y.hi ≡ int_min (x.hi *ℤ y.lo) (x.hi *ℤ y.hi))
@@ -88,8 +80,8 @@ product_corner_under x y =
 
 pub product_corner_over : (x y : Interval) → IsCornerOver (slight (fraction_mul (size x) (size y))) (product x y) x y
 product_corner_over x y =
-    by (greater (int_max (x.lo *ℤ y.lo) (x.lo *ℤ y.hi)) (int_max (x.hi *ℤ y.lo) (x.hi *ℤ y.hi)))
-    (greater (x.lo *ℤ y.lo) (x.lo *ℤ y.hi)) (greater (x.hi *ℤ y.lo) (x.hi *ℤ y.hi))
+    by (max_is (int_max (x.lo *ℤ y.lo) (x.lo *ℤ y.hi)) (int_max (x.hi *ℤ y.lo) (x.hi *ℤ y.hi)))
+    (max_is (x.lo *ℤ y.lo) (x.lo *ℤ y.hi)) (max_is (x.hi *ℤ y.lo) (x.hi *ℤ y.hi))
   where
     by : (greatest4 x.lo x.hi y.lo y.hi ≡ int_max (x.lo *ℤ y.lo) (x.lo *ℤ y.hi)) ⊎
         (greatest4 x.lo x.hi y.lo y.hi ≡ int_max (x.hi *ℤ y.lo) (x.hi *ℤ y.hi))

@@ -16,7 +16,7 @@ use Rattle.spec_numbers.proofs.Sizes.{scaled_size, sum_size}
 use Rattle.spec_intervals.specs.Interval.{Interval, zero_end, is_zero, lift, surplus, sum_up, sum, negated, difference}
 use Rattle.spec_intervals.specs.Fraction.{Fraction, fraction, fraction_add, fraction_sub}
 use Rattle.spec_intervals.proofs.Narrow.{zero_ends}
-use Rattle.spec_intervals.proofs.Sums.{gap_is}
+use Rattle.spec_intervals.proofs.Sums.{gap_is, fraction_add-comm}
 use Rattle.spec_roundings.specs.Ends.{in_units, low, high, greatest_end, size, slight, Under, Over}
 use Rattle.spec_roundings.proofs.Near.{IsRatio, IsAllowed, raised_powers, rounded_under, rounded_over}
 use Rattle.spec_roundings.proofs.Narrowing.{greatest, IsLeftDown, IsLeftUp, IsKeptDown, IsKeptUp, slight_allowed, narrow_under, narrow_over}
@@ -239,24 +239,17 @@ module _ (x y : Interval) (order : x.s ≤ℤ y.s) (present : is_zero y ≡ fals
       (surplus_is_small x y present) high_above high_near left)
 
 -- ---- in either order, and with 0
-added_either_way : (a b : Fraction) → fraction_add a b ≡ fraction_add b a
-added_either_way a b =
-    let e : a.numerator *ℤ pos b.denominator +ℤ b.numerator *ℤ pos a.denominator
-    ≡ b.numerator *ℤ pos a.denominator +ℤ a.numerator *ℤ pos b.denominator = omega (arith, lin) in
-    let f : a.denominator * b.denominator ≡ b.denominator * a.denominator = omega arith in
-    cc
-
 swapped_under : (a b r t z : Fraction) → Under (slight (fraction_add a b)) z (fraction_add r t)
     → Under (slight (fraction_add b a)) z (fraction_add t r)
 swapped_under a b r t z h =
-    subst (λ d. Under (slight d) z (fraction_add t r)) (added_either_way a b)
-    (subst (λ q. Under (slight (fraction_add a b)) z q) (added_either_way r t) h)
+    subst (λ d. Under (slight d) z (fraction_add t r)) (fraction_add-comm a b)
+    (subst (λ q. Under (slight (fraction_add a b)) z q) (fraction_add-comm r t) h)
 
 swapped_over : (a b r t z : Fraction) → Over (slight (fraction_add a b)) z (fraction_add r t)
     → Over (slight (fraction_add b a)) z (fraction_add t r)
 swapped_over a b r t z h =
-    subst (λ d. Over (slight d) z (fraction_add t r)) (added_either_way a b)
-    (subst (λ q. Over (slight (fraction_add a b)) z q) (added_either_way r t) h)
+    subst (λ d. Over (slight d) z (fraction_add t r)) (fraction_add-comm a b)
+    (subst (λ q. Over (slight (fraction_add a b)) z q) (fraction_add-comm r t) h)
 
 -- a number of no units adds nothing
 zero_is_ratio : (p q s t : ℤ) → p ≡ pos 0 → IsRatio (fraction_add (in_units p s) (in_units q t)) q t 1

@@ -4,4 +4,5 @@
 //! another from below or from above; `laws` says it of each rule.
 #![tactic(auto)]
 
+pub mod examples;
 pub mod laws;

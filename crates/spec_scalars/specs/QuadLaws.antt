@@ -3,17 +3,11 @@ use Rattle.std.proofs.Common.{◌≡◌, ◌⊎◌, inl, inr, Bool, true, false,
 use Rattle.std.specs.Prelude.{if◌then◌else◌}
 use Rattle.std.specs.Int.{int_min, int_max}
 use Rattle.std.proofs.lemmas.Int.{ints}
-use Rattle.spec_numbers.proofs.Order.{lin, le-mul, nonneg-square}
+use Rattle.spec_numbers.proofs.Order.{lin, le-mul, nonneg-square, min_first, min_second}
 use Rattle.spec_numbers.proofs.Corners.{corner_low, corner_high}
 use Rattle.spec_numbers.proofs.Ring.{v, k as lit, ◌⊕◌, ◌⊖◌, ◌⊗◌, minus, ring}
 use Rattle.spec_scalars.specs.Scalars.{IsReach, KeepsReach}
 use Rattle.spec_scalars.specs.Quads.{Quadratic, greatest_square, least_square, quad_at, quad_high, quad_low, quad_reach, quad_scalar, quad_step}
-
-min_first : (x y : ℤ) → int_min x y ≤ℤ x
-min_first x y = grind (arith, ints)
-
-min_second : (x y : ℤ) → int_min x y ≤ℤ y
-min_second x y = grind (arith, ints)
 
 max_first : (x y : ℤ) → x ≤ℤ int_max x y
 max_first x y = grind (arith, ints)

@@ -1,6 +1,6 @@
 use Rattle.std.proofs.Common.{◌≡◌, ◌∙◌, ◌^◌, arith, sym, ap, length}
 use Rattle.std.proofs.lemmas.List.{length-map}
-use Rattle.cheby_enclose.specs.Pairs.{term_of}
+use Rattle.spec_motions.specs.Pairs.{term_of}
 use Rattle.cheby_enclose.specs.ProductSizes.{IsSummable}
 use Rattle.cheby_enclose.proofs.ProductSums.{IsSummable-small}
 use Rattle.cheby_enclose.proofs.sums.row_sum.Goals as goal

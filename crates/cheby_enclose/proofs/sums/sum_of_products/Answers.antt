@@ -5,7 +5,7 @@ use Rattle.spec_numbers.proofs.Sizes.{sum_size}
 use Rattle.spec_motions.specs.RowSizes.{entry_size}
 use Rattle.spec_motions.proofs.EndSizes.{least_size, greatest_size}
 use Rattle.spec_motions.proofs.RowSums.{EndsWithin-size}
-use Rattle.cheby_enclose.specs.Pairs.{term_of}
+use Rattle.spec_motions.specs.Pairs.{term_of}
 use Rattle.cheby_enclose.specs.ProductSizes.{product_sizes}
 use Rattle.cheby_enclose.proofs.TermLists.{none, pair_low, pair_high}
 use Rattle.cheby_enclose.proofs.ProductSums.{sizes_more, product_sizes-grow}

@@ -2,7 +2,7 @@ use Rattle.std.proofs.Common.{◌≡◌, ◌≤◌, length, drop, map, ◌+ℤ�
 use Rattle.spec_chebyshev.specs.Rows.{entry}
 use Rattle.spec_motions.specs.Sums.{sum_low, sum_high}
 use Rattle.spec_motions.specs.RowSizes.{entry_size}
-use Rattle.cheby_enclose.specs.Pairs.{term_of}
+use Rattle.spec_motions.specs.Pairs.{term_of}
 use Rattle.cheby_enclose.specs.ProductSizes.{product_sizes}
 use Rattle.cheby_enclose.proofs.sums.sum_of_products.Given as goal
 

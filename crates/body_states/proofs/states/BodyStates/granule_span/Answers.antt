@@ -3,7 +3,7 @@ use Rattle.spec_ephemeris.specs.Ephemeris.{Granule}
 use Rattle.spec_ephemeris.specs.Granules.{column_of, granule_at, granule_of}
 use Rattle.std.proofs.lemmas.Int.{to_z-of_z}
 use Rattle.spec_bodies.proofs.Columns.{three_components}
-use Rattle.body_states.proofs.Reading.{evaluable, from_start, upto_end, series_is}
+use Rattle.spec_bodies.proofs.Reading.{evaluable, from_start, upto_end, series_is}
 use Rattle.body_states.proofs.states.BodyStates.granule_span.Goals as goal
 use Rattle.body_states.proofs.states.BodyStates.granule_span.Goals.{After-granule}
 

@@ -2,9 +2,9 @@ use Rattle.std.proofs.Common.{rules, ◌≡◌, ◌<◌, ◌∙◌, ap, arith, l
 use Rattle.std.specs.Prelude.{All}
 use Rattle.std.proofs.lemmas.List.{length-set}
 use Rattle.spec_bodies.specs.Reading.{IsUsable}
+use Rattle.spec_bodies.proofs.InUse.{usable_in_use}
 use Rattle.body_states.specs.Ranges.{asked_of}
 use Rattle.body_states.proofs.Entries.{entered_with}
-use Rattle.body_states.proofs.Kept.{usable_in_use}
 use Rattle.body_states.proofs.Shared.{no_rows_kept}
 use Rattle.body_states.proofs.states.BodyStates.write_entries.Goals as goal
 use Rattle.body_states.proofs.states.BodyStates.write_entries.Goals.{then-wanted-gt0, else-wanted-gt0}

@@ -1,6 +1,7 @@
 use Rattle.std.proofs.Common.{rules, ◌≡◌, ◌<◌, ap, arith, length}
 use Rattle.spec_bodies.specs.Views.{columns_of}
-use Rattle.body_states.proofs.Kept.{usable_numbers, one_column_more, read_with, read_already}
+use Rattle.spec_bodies.proofs.InUse.{usable_numbers}
+use Rattle.body_states.proofs.Kept.{one_column_more, read_with, read_already}
 use Rattle.body_states.proofs.states.BodyStates.write_others.Goals as goal
 use Rattle.body_states.proofs.states.BodyStates.write_others.Goals.{then-columns-place-eq0, else-columns-place-eq0}
 

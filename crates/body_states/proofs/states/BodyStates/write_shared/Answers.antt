@@ -1,7 +1,8 @@
 use Rattle.std.proofs.Common.{rules, ◌≡◌, ◌<◌, arith, length}
-use Rattle.body_states.proofs.Kept.{usable_numbers, one_column_more}
+use Rattle.body_states.proofs.Kept.{one_column_more}
 use Rattle.body_states.proofs.states.BodyStates.write_shared.Goals as goal
 use Rattle.body_states.proofs.states.BodyStates.write_shared.Goals.{then-entries-place-gt0, else-entries-place-gt0}
+use Rattle.spec_bodies.proofs.InUse.{usable_numbers}
 
 pub loop-place-init : goal.loop-place-init
 loop-place-init c = let long : length c.args.columns.now ≡ 4 = search rules in (c.requires.known, long, c.requires.unread, c.requires.kept)

@@ -3,8 +3,8 @@ use Rattle.std.proofs.lemmas.List.{length-map}
 use Rattle.spec_ephemeris.specs.Granules.{series_of}
 use Rattle.spec_motions.specs.Sums.{coefficient}
 use Rattle.spec_motions.proofs.GranuleSeries.{series_length}
-use Rattle.cheby_enclose.specs.Pairs.{term_of}
-use Rattle.cheby_enclose.proofs.TermLists.{ArePairs-axis, terms_of_axis}
+use Rattle.spec_motions.specs.Pairs.{term_of}
+use Rattle.spec_motions.proofs.Pairs.{ArePairs-axis, terms_of_axis}
 use Rattle.cheby_enclose.proofs.terms.AxisCoefficients.of.Goals as goal
 use Rattle.cheby_enclose.proofs.terms.AxisCoefficients.of.Goals.{Start}
 

@@ -1,7 +1,7 @@
--- The intervals of pairs, and rows whose ends are in order.
-use Rattle.std.specs.Prelude.{ℕ, suc, ◌<◌, ◌≤◌, ◌^◌, List, length, All, pos, ◌≤ℤ◌, ◌<ℤ◌}
+-- The intervals of pairs, which are the coefficients of a granule rounded down and up.
+use Rattle.std.specs.Prelude.{◌≤◌, ◌^◌, List, length, All, pos, ◌≤ℤ◌, ◌<ℤ◌}
 use Rattle.spec_chebyshev.specs.declared.ends.Ival62.{Ival62}
-use Rattle.spec_chebyshev.specs.Rows.{ends, entry, EndsWithin}
+use Rattle.spec_chebyshev.specs.Rows.{ends, EndsWithin}
 use Rattle.spec_ephemeris.specs.declared.granule.Rounded.{Rounded}
 
 -- a coefficient from its pair, in units of 2^-24 km
@@ -18,11 +18,3 @@ pub record IsPair (p : Rounded) : Type 0 where
 pub record ArePairs (ps : List Rounded) : Type 0 where
   pub few : length ps ≤ 32
   pub pairs : All IsPair ps
-
--- the first n entries of a row have their ends in order
-abbrev pub IsOrderedRow : List Ival62 → ℕ → Type 0
-IsOrderedRow row n = (k : ℕ) → k < n → (entry row k).lo ≤ℤ (entry row k).hi
-
--- the first entries have, one less than n
-abbrev pub IsOrderedShorterRow : List Ival62 → ℕ → Type 0
-IsOrderedShorterRow row n = (k : ℕ) → suc k < n → (entry row k).lo ≤ℤ (entry row k).hi

@@ -1,4 +1,4 @@
--- The granule that a column is read from has the series of the column, and the span lies within it.
+-- The granule that a column is read from has the series of the column, and the times lie within it.
 use Rattle.std.proofs.Common.{◌≡◌, ℕ, ◌≤◌, sym, ◌∙◌, subst, arith, ℤ, pos, neg_ℤ, ◌^◌, ◌*◌, length, ◌+ℤ◌, ◌<ℤ◌, ◌≤ℤ◌, unsigned_abs}
 use Rattle.std.specs.Prelude.{All}
 use Rattle.std.proofs.lemmas.Int.{ints}

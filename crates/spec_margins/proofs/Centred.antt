@@ -12,12 +12,12 @@ use Rattle.spec_intervals.specs.Enclosure.{middle, offsets}
 use Rattle.spec_intervals.specs.Fraction.{Fraction, IsFraction, fraction, fraction_add, fraction_mul, fraction_sub}
 use Rattle.spec_intervals.specs.Interval.{Interval, product, sum}
 use Rattle.spec_roundings.specs.Ends.{IsCorner, low_low, low_high, high_low, high_high, NoMore, greatest_end, high, in_units, low, size, slight}
-use Rattle.spec_roundings.proofs.Ordered.{product_ordered}
+use Rattle.spec_roundings.proofs.Ordered.{product_ordered, add_no_more, no_more_trans, slight_is_fraction, slight_no_more}
 use Rattle.spec_roundings.proofs.Products.{product_corner_over, product_corner_under}
 use Rattle.spec_roundings.proofs.Sums.{sum_over, sum_under}
 use Rattle.spec_margins.specs.Margins.{multiple, opposite}
-use Rattle.spec_margins.proofs.Fractions.{add_no_more, multiple_no_more, no_more_trans, opposite_no_more, slight_no_more, sub_no_more}
-use Rattle.spec_margins.proofs.Shares.{add_is_fraction, both_shares, half_and_little, left_above, left_below, share, share_is_fraction, slight_is_fraction}
+use Rattle.spec_margins.proofs.Fractions.{multiple_no_more, opposite_no_more, sub_no_more}
+use Rattle.spec_margins.proofs.Shares.{add_is_fraction, both_shares, half_and_little, left_above, left_below, share, share_is_fraction}
 use Rattle.spec_margins.proofs.Sizes.{high_no_more, size_no_less, size_within, units_are_fraction}
 
 -- ---- a product of ends is no greater in size than that of the sizes

@@ -1,38 +1,15 @@
 -- The order of fractions under sums, differences and small parts.
-use Rattle.std.proofs.Common.{ℕ, ◌*◌, ◌^◌, arith, [], ◌∷◌, ℤ, pos, ◌*ℤ◌, ◌≤ℤ◌}
-use Rattle.spec_numbers.proofs.Ring.{v, k as lit, ◌⊕◌, ◌⊖◌, ◌⊗◌, minus, ring}
-use Rattle.spec_numbers.proofs.Order.{lin, le-mul, le-mul_cancel}
-use Rattle.spec_intervals.specs.Fraction.{Fraction, IsFraction, fraction_add, fraction_sub}
-use Rattle.spec_roundings.specs.Ends.{NoMore, slight}
+use Rattle.std.proofs.Common.{ℕ, ◌*◌, arith, [], ◌∷◌, ℤ, pos, ◌*ℤ◌, ◌≤ℤ◌}
+use Rattle.spec_numbers.proofs.Ring.{v, ◌⊖◌, ◌⊗◌, minus, ring}
+use Rattle.spec_numbers.proofs.Order.{lin, le-mul}
+use Rattle.spec_intervals.specs.Fraction.{Fraction, fraction_sub}
+use Rattle.spec_roundings.specs.Ends.{NoMore}
 use Rattle.spec_margins.specs.Margins.{multiple, opposite}
-
-pub no_more_trans : (a b c : Fraction) → IsFraction b → NoMore a b → NoMore b c → NoMore a c
-no_more_trans a b c is p q =
-    let e = le-mul (a.numerator *ℤ pos b.denominator) (b.numerator *ℤ pos a.denominator) (pos c.denominator)
-    (omega (arith, lin)) p in
-    let f = le-mul (b.numerator *ℤ pos c.denominator) (c.numerator *ℤ pos b.denominator) (pos a.denominator)
-    (omega (arith, lin)) q in
-    let g = ring (a.numerator ∷ pos b.denominator ∷ pos c.denominator ∷ []) (v 0 ⊗ v 2 ⊗ v 1) (v 0 ⊗ v 1 ⊗ v 2) tt in
-    let h = ring (b.numerator ∷ pos a.denominator ∷ pos c.denominator ∷ []) (v 0 ⊗ v 1 ⊗ v 2) (v 0 ⊗ v 2 ⊗ v 1) tt in
-    let i = ring (c.numerator ∷ pos b.denominator ∷ pos a.denominator ∷ []) (v 0 ⊗ v 1 ⊗ v 2) (v 0 ⊗ v 2 ⊗ v 1) tt in
-    le-mul_cancel (a.numerator *ℤ pos c.denominator) (c.numerator *ℤ pos a.denominator) b.denominator is (omega (arith, lin))
 
 -- a comparison over two more denominators
 module _ (x y : ℤ) (p q r s : ℕ) (h : (x *ℤ pos p) ≤ℤ (y *ℤ pos q)) where
   wider : (x *ℤ pos p *ℤ pos (r * s)) ≤ℤ (y *ℤ pos q *ℤ pos (r * s))
   wider = le-mul (x *ℤ pos p) (y *ℤ pos q) (pos (r * s)) (omega (arith, lin)) h
-
-pub add_no_more : (a b c d : Fraction) → NoMore a b → NoMore c d → NoMore (fraction_add a c) (fraction_add b d)
-add_no_more a b c d p q =
-    let e = wider a.numerator b.numerator b.denominator a.denominator c.denominator d.denominator p in
-    let f = wider c.numerator d.numerator d.denominator c.denominator a.denominator b.denominator q in
-    let g = ring (a.numerator ∷ c.numerator ∷ pos a.denominator ∷ pos b.denominator ∷ pos c.denominator ∷ pos
-    d.denominator ∷ [])
-    ((v 0 ⊗ v 4 ⊕ v 1 ⊗ v 2) ⊗ (v 3 ⊗ v 5)) (v 0 ⊗ v 3 ⊗ (v 4 ⊗ v 5) ⊕ v 1 ⊗ v 5 ⊗ (v 2 ⊗ v 3)) tt in
-    let h = ring (b.numerator ∷ d.numerator ∷ pos a.denominator ∷ pos b.denominator ∷ pos c.denominator ∷ pos
-    d.denominator ∷ [])
-    ((v 0 ⊗ v 5 ⊕ v 1 ⊗ v 3) ⊗ (v 2 ⊗ v 4)) (v 0 ⊗ v 2 ⊗ (v 4 ⊗ v 5) ⊕ v 1 ⊗ v 4 ⊗ (v 2 ⊗ v 3)) tt in
-    omega (arith, lin)
 
 pub sub_no_more : (a b c d : Fraction) → NoMore a b → NoMore d c → NoMore (fraction_sub a c) (fraction_sub b d)
 sub_no_more a b c d p q =
@@ -44,16 +21,6 @@ sub_no_more a b c d p q =
     let h = ring (b.numerator ∷ d.numerator ∷ pos a.denominator ∷ pos b.denominator ∷ pos c.denominator ∷ pos
     d.denominator ∷ [])
     ((v 0 ⊗ v 5 ⊖ v 1 ⊗ v 3) ⊗ (v 2 ⊗ v 4)) (v 0 ⊗ v 2 ⊗ (v 4 ⊗ v 5) ⊖ v 1 ⊗ v 4 ⊗ (v 2 ⊗ v 3)) tt in
-    omega (arith, lin)
-
-pub slight_no_more : (a b : Fraction) → NoMore a b → NoMore (slight a) (slight b)
-slight_no_more a b p =
-    let e = le-mul (a.numerator *ℤ pos b.denominator) (b.numerator *ℤ pos a.denominator) (pos (2 ^ 58))
-    (omega (arith, lin)) p in
-    let g = ring (a.numerator ∷ pos b.denominator ∷ []) (v 0 ⊗ (v 1 ⊗ lit (pos (2 ^ 58))))
-    (v 0 ⊗ v 1 ⊗ lit (pos (2 ^ 58))) tt in
-    let h = ring (b.numerator ∷ pos a.denominator ∷ []) (v 0 ⊗ (v 1 ⊗ lit (pos (2 ^ 58))))
-    (v 0 ⊗ v 1 ⊗ lit (pos (2 ^ 58))) tt in
     omega (arith, lin)
 
 pub multiple_no_more : (n : ℕ) (a b : Fraction) → NoMore a b → NoMore (multiple n a) (multiple n b)

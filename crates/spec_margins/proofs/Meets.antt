@@ -2,13 +2,12 @@
 -- than the unit of what is shared.
 use Rattle.std.proofs.Common.{◌≡◌, ◌⊎◌, inl, inr, ℕ, zero, suc, ◌+◌, ◌^◌, arith, refl, [], ◌∷◌, ℤ, pos, negsuc, ◌+ℤ◌, ◌*ℤ◌, ◌≤ℤ◌, ◌<ℤ◌, Bool, true, false}
 use Rattle.std.specs.Prelude.{if◌then◌else◌}
-use Rattle.std.specs.Int.{int_min}
 use Rattle.std.proofs.lemmas.Int.{ints, clamps}
 use Rattle.std.proofs.lemmas.Nat.{pow-add, pow_pos}
 use lib.Signed.{le_z}
 use Rattle.spec_numbers.specs.Numbers.{floor_div, ceil_div}
 use Rattle.spec_numbers.proofs.Ring.{v, k as lit, ◌⊕◌, ◌⊗◌, ring}
-use Rattle.spec_numbers.proofs.Order.{lin, le-mul}
+use Rattle.spec_numbers.proofs.Order.{lin, le-mul, min_first, min_second}
 use Rattle.spec_numbers.proofs.Floor.{ceil_div-lt}
 use Rattle.spec_intervals.specs.Interval.{Interval, is_zero, lift, surplus, meet, meet_up, narrow, narrow_by, narrow_shift, settled}
 use Rattle.spec_intervals.proofs.Sums.{meets}
@@ -119,19 +118,13 @@ lower_given c x h k l (inr is) =
       near = rw is.high (twice_near c.hi h k is.times l);
     })
 
-least_first : (p q : ℤ) → int_min p q ≤ℤ p
-least_first p q = omega (arith, ints, clamps)
-
-least_second : (p q : ℤ) → int_min p q ≤ℤ q
-least_second p q = omega (arith, ints, clamps)
-
 upper_kept : (p c : Interval) → p.s ≤ℤ c.s → IsKeptUp c (meet_up p c)
 unfolding meet_up
-upper_kept p c o = upper_given p c _ _ o (least_second _ _) (narrow_high _ _ _)
+upper_kept p c o = upper_given p c _ _ o (min_second _ _) (narrow_high _ _ _)
 
 lower_kept : (c p : Interval) → IsKeptUp c (meet_up c p)
 unfolding meet_up
-lower_kept c p = lower_given c _ _ (surplus c p) (least_first _ _) (narrow_high _ _ _)
+lower_kept c p = lower_given c _ _ (surplus c p) (min_first _ _) (narrow_high _ _ _)
 
 pub shared_high : (p c : Interval) → IsKeptUp c (meet p c)
 unfolding meet

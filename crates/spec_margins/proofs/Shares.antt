@@ -77,9 +77,6 @@ module _ (g : Fraction) (positive : pos 0 <ℤ g.numerator) where
 pub add_is_fraction : (a b : Fraction) → IsFraction a → IsFraction b → IsFraction (fraction_add a b)
 add_is_fraction a b p q = mul-pos p q
 
-pub slight_is_fraction : (a : Fraction) → IsFraction a → IsFraction (slight a)
-slight_is_fraction a p = mul-pos p (omega arith)
-
 pub share_is_fraction : (k m : ℕ) (g : Fraction) → 0 < m → IsFraction g → IsFraction (share k m g)
 share_is_fraction k m g p is = mul-pos is p
 

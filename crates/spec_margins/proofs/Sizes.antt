@@ -5,13 +5,15 @@ use Rattle.std.proofs.lemmas.Nat.{pow_pos}
 use borrow.Author.Differences.{up, down}
 use Rattle.spec_numbers.proofs.Ring.{v, k as lit, ◌⊗◌, minus, ring}
 use Rattle.spec_numbers.proofs.Order.{lin, le-mul}
+use Rattle.spec_numbers.proofs.Sizes.{size_between}
 use Rattle.spec_intervals.specs.Enclosure.{IsWithin}
 use Rattle.spec_intervals.specs.Fraction.{Fraction, IsFraction}
 use Rattle.spec_intervals.specs.Interval.{Interval, end_limit}
-use Rattle.spec_intervals.proofs.Narrow.{negated_product, zero_ends}
+use Rattle.spec_intervals.proofs.Narrow.{zero_ends}
 use Rattle.spec_inclusions.specs.Inclusion.{Includes, Spans}
 use Rattle.spec_roundings.specs.Ends.{NoMore, greatest_end, high, in_units, low, size}
 use Rattle.spec_roundings.proofs.Near.{raised_powers}
+use Rattle.spec_roundings.proofs.Ordered.{more_units}
 use Rattle.spec_margins.specs.Margins.{opposite}
 
 -- ---- numbers of units
@@ -44,14 +46,6 @@ module _ (z w e s : ℤ) (g : ℕ) (is_raised : s ≡ e +ℤ pos g) where
       let b = right_side in
       omega (arith, lin)
 
--- more of one unit is more
-pub more_units : (z w s : ℤ) → z ≤ℤ w → NoMore (in_units z s) (in_units w s)
-more_units z w s h =
-    let l = le-mul z w (pos (2 ^ up s * 2 ^ down s)) (omega (arith, lin)) h in
-    let a = ring (z ∷ pos (2 ^ up s) ∷ pos (2 ^ down s) ∷ []) (v 0 ⊗ (v 1 ⊗ v 2)) (v 0 ⊗ v 1 ⊗ v 2) tt in
-    let b = ring (w ∷ pos (2 ^ up s) ∷ pos (2 ^ down s) ∷ []) (v 0 ⊗ (v 1 ⊗ v 2)) (v 0 ⊗ v 1 ⊗ v 2) tt in
-    omega (arith, lin)
-
 -- ---- sizes
 -- what holds for both of two numbers holds for the greater
 greater_of : (P : ℕ → Type 0) (a b : ℕ) → P a → P b → P (max a b)
@@ -60,15 +54,6 @@ greater_of P a b p q = by (cases_lt a b)
     by : (a < b) ⊎ (b ≤ a) → P (max a b)
     by (inl h) = let e : max a b ≡ b = omega arith in rw e q
     by (inr h) = let e : max a b ≡ a = omega arith in rw e p
-
--- a number between two others is no greater in size than one of them
-size_between : (a b z : ℤ) (m d : ℕ) → unsigned_abs a ≤ m → unsigned_abs b ≤ m → (a *ℤ pos d) ≤ℤ z → z ≤ℤ (b *ℤ pos d)
-    → unsigned_abs z ≤ m * d
-size_between a b z m d p q r s =
-    let low = le-mul (neg_ℤ (pos m)) a (pos d) (omega (arith, lin)) (omega (arith, lin)) in
-    let high = le-mul b (pos m) (pos d) (omega (arith, lin)) (omega (arith, lin)) in
-    let e = negated_product m d in
-    omega (arith, lin)
 
 spanned_size : (y x : Interval) → x.lo ≤ℤ x.hi → (s : Spans y x) → greatest_end x ≤ greatest_end y * 2 ^ s.gap
 spanned_size y x o s =

@@ -1,15 +1,13 @@
 -- A span with a margin is still.
-use Rattle.std.proofs.Common.{◌≡◌, ◌⊎◌, inl, inr, ℕ, ◌*◌, ◌^◌, ◌<◌, ◌≤◌, arith, refl, sym, ap, subst, ◌∙◌, [], ◌∷◌, ℤ, pos, negsuc, neg_ℤ, ◌+ℤ◌, ◌-ℤ◌, ◌*ℤ◌, ◌≤ℤ◌, ◌<ℤ◌, int_lt, unsigned_abs, Bool, true, false}
+use Rattle.std.proofs.Common.{◌≡◌, ◌⊎◌, inl, inr, ℕ, ◌*◌, ◌^◌, ◌<◌, ◌≤◌, arith, refl, sym, ap, subst, ◌∙◌, [], ◌∷◌, ℤ, pos, negsuc, neg_ℤ, ◌+ℤ◌, ◌*ℤ◌, ◌≤ℤ◌, ◌<ℤ◌, Bool, true, false}
 use Rattle.std.specs.Prelude.{if◌then◌else◌}
-use Rattle.std.specs.List.{list_any}
-use Rattle.std.proofs.lemmas.Int.{ints}
 use Rattle.std.proofs.lemmas.Nat.{pow_pos}
 use Rattle.std.proofs.Math.Nat.{mul-pos}
 use borrow.Author.Differences.{up, down}
-use lib.Signed.{le_z, lt_z}
+use lib.Signed.{lt_z}
 use Rattle.spec_numbers.proofs.Ring.{v, k as lit, ◌⊕◌, ◌⊗◌, minus, ring}
 use Rattle.spec_numbers.proofs.Order.{lin, le-mul, le-mul_cancel, lt-mul_cancel}
-use Rattle.spec_intervals.specs.declared.signs.Sign.TheVariants.{Yes, No, Open}
+use Rattle.spec_intervals.specs.declared.signs.Sign.TheVariants.{Yes, No}
 use Rattle.spec_intervals.specs.Enclosure.{Enclosure, centred, middle, offsets}
 use Rattle.spec_intervals.specs.Fraction.{Fraction, Holds, IsFraction}
 use Rattle.spec_intervals.specs.Interval.{Interval, end_limit, is_zero, meet, product, sum}
@@ -20,11 +18,9 @@ use Rattle.spec_expressions.specs.Term.{HasLeaves}
 use Rattle.spec_ephemeris.specs.Ephemeris.{IsBorderIn}
 use Rattle.spec_bodies.specs.Views.{Fits, columns_of, state_enclosure}
 use Rattle.spec_trees.specs.declared.tree.Node.{Node}
-use Rattle.spec_trees.specs.declared.tree.Verdict.{Verdict}
 use Rattle.spec_trees.specs.declared.tree.Verdict.TheVariants.{Clear}
 use Rattle.spec_trees.specs.Tree.{IsValid, width}
-use Rattle.spec_events.specs.Stages.{has_no_turn, is_turnless}
-use Rattle.spec_events.specs.Verdict.{is_known, is_refuted}
+use Rattle.spec_events.specs.Verdict.{is_known}
 use Rattle.spec_searches.specs.Found.{rules}
 use Rattle.spec_searches.specs.Search.{IsSearch, Search, crosses, enclosure_over, verdict_of}
 use Rattle.spec_inclusions.specs.Bounds.{Bound}
@@ -35,37 +31,24 @@ use Rattle.spec_bounds.specs.Terms.{bound_over}
 use Rattle.spec_bounds.proofs.Within.{formula-within}
 use Rattle.spec_bounds.proofs.Quiet.{open_by_fit}
 use Rattle.spec_bounds.proofs.Rules.{AreInOrder, IsIncluded, enclosures_in_order}
-use Rattle.spec_bounds.proofs.Staged.{exact_in, found_at, stages_of}
+use Rattle.spec_bounds.proofs.Staged.{exact_in, stages_of}
 use Rattle.spec_bounds.proofs.States.{formula_included, part_fits}
 use Rattle.spec_bounds.proofs.StatesAtMiddle.{middle_told}
 use Rattle.spec_bounds.proofs.StatesAtTime.{formula_at_time}
+use Rattle.spec_bounds.proofs.Signs.{sign_above, sign_below}
 use Rattle.spec_stills.specs.declared.still.StillSpan.{StillSpan}
 use Rattle.spec_stills.specs.Still.{IsStill}
+use Rattle.spec_stills.proofs.Units.{clear_unit as clear_by_ends}
 use Rattle.spec_roundings.specs.Ends.{NoMore, greatest_end, high, in_units, low, size}
+use Rattle.spec_roundings.proofs.Ordered.{no_more_trans}
 use Rattle.spec_margins.specs.Margins.{HasMargin, IsAbove, IsBelow, StepsFit, opposite, range_at}
 use Rattle.spec_margins.proofs.Centred.{centred_above, centred_below, changes_fit, sizes}
-use Rattle.spec_margins.proofs.Fractions.{no_more_trans}
 use Rattle.spec_margins.proofs.Made.{IsMade, formula_made}
 use Rattle.spec_margins.proofs.Meets.{IsKeptUp, IsRoundedUp, shared_high, shared_low}
 use Rattle.spec_margins.proofs.Shares.{many_units, one_unit, share}
 use Rattle.spec_margins.proofs.Sizes.{fine_no_more, included_size, limited_size, units_are_fraction}
 
 -- ---- signs
-sign_above : (x : Interval) → pos 0 ≤ℤ x.lo → sign_of x ≡ Yes
-sign_above x low = by (le_z (pos 0) x.lo) refl
-  where
-    by : (p : Bool) → le_z (pos 0) x.lo ≡ p → (if p then Yes else (if lt_z x.hi (pos 0) then No else Open)) ≡ Yes
-    by true h = refl
-    by false h = absurd (omega (arith, lin))
-
-sign_below : (x : Interval) → x.lo ≤ℤ x.hi → x.hi <ℤ pos 0 → sign_of x ≡ No
-sign_below x in_order high = by (le_z (pos 0) x.lo) (lt_z x.hi (pos 0)) refl refl
-  where
-    by : (p q : Bool) → le_z (pos 0) x.lo ≡ p → lt_z x.hi (pos 0) ≡ q → (if p then Yes else (if q then No else Open)) ≡ No
-    by true q h g = absurd (omega (arith, lin))
-    by false true h g = refl
-    by false false h g = absurd (omega (arith, lin))
-
 -- a number of units that is at least something above 0, or at most something below 0
 above_zero : (z n : ℤ) (u q w : ℕ) → pos 0 <ℤ n → 0 < w → (n *ℤ pos w) ≤ℤ (z *ℤ pos u *ℤ pos q) → pos 0 ≤ℤ z
 above_zero (pos z) n u q w p r h = omega (arith, lin)
@@ -266,17 +249,7 @@ module _ (s : Search) (a b c d : ℤ) (g : Fraction) (is : IsSearch s) (fits : F
               let high_time = between.1 in
               clear_by_sign (known_below (rw told (below (middle n.a n.b) (omega (arith, lin)) (omega (arith, lin)))))
 
--- ---- nodes of one unit, by the signs at both ends
--- an if whose third test holds
-clear_in_any_case : (turnless refuted none : Bool) (rest : Verdict) → none ≡ true
-    → (if turnless then Clear else if refuted then Clear else if none then Clear else rest) ≡ Clear
-clear_in_any_case true refuted none rest e = refl
-clear_in_any_case false true none rest e = refl
-clear_in_any_case false false none rest e = rw e refl
-
-not_wide : (a b : ℤ) → a <ℤ b → unsigned_abs (b -ℤ a) ≤ 1 → int_lt (pos 1) (b -ℤ a) ≡ false
-not_wide a b inside narrow = grind (arith, ints)
-
+-- ---- signs at times, and nodes of one unit by those at both ends
 module _ (s : Search) (a b : ℤ) (g : Fraction) where
   pub yes_above : pos 0 <ℤ g.numerator → IsFraction g → IsAbove s a b g → (t : ℤ) → a ≤ℤ t → t ≤ℤ b → sign_at s t ≡ Yes
   yes_above positive is_fraction above t after upto =
@@ -301,28 +274,15 @@ module _ (s : Search) (a b c d : ℤ) (g : Fraction) (is : IsSearch s) (fits : F
       by (inr below) = no_below s a b g c d is fits begins ends margin.positive margin.is_fraction below t after upto
 
   module _ (n : Node) (valid : IsValid (rules s) n) (after : a ≤ℤ n.a) (upto : n.b ≤ℤ b) (narrow : width n ≤ 1) where
-    none_between : has_no_turn s.event.dir (sign_at s n.a) (sign_at s n.b) ≡ true
-    none_between =
-        let inside = valid.inside in
-        rw (sign_there n.a after (omega (arith, lin)), sign_there n.b (omega (arith, lin)) upto) (by margin.one_sign)
-      where
-        by : (one : IsAbove s a b g ⊎ IsBelow s a b g)
-            → has_no_turn s.event.dir (elim one [ inl above ↦ Yes | inr below ↦ No ])
-            (elim one [ inl above ↦ Yes | inr below ↦ No ]) ≡ true
-        by (inl above) = refl
-        by (inr below) = refl
-
     clear_unit : verdict_of s n ≡ Clear
     clear_unit =
-        stages_of s is n valid ∙
-        rw (
-          open_by_fit s n is (part_fits s.view n.a n.b c d fits (omega (arith, lin)) valid.inside (omega (arith, lin))),
-          not_wide n.a n.b valid.inside
-              narrow,
-        )
-        (clear_in_any_case (is_turnless s.event.dir (found_at s n).over (found_at s n).step)
-        (list_any is_refuted (found_at s n).guards)
-        (has_no_turn s.event.dir (sign_at s n.a) (sign_at s n.b)) _ none_between)
+        let inside = valid.inside in
+        clear_by_ends s n is valid narrow (elim margin.one_sign [ inl above ↦ Yes | inr below ↦ No ]) (known margin.one_sign)
+        (sign_there n.a after (omega (arith, lin))) (sign_there n.b (omega (arith, lin)) upto)
+      where
+        known : (one : IsAbove s a b g ⊎ IsBelow s a b g) → is_known (elim one [ inl above ↦ Yes | inr below ↦ No ]) ≡ true
+        known (inl above) = refl
+        known (inr below) = refl
 
 -- ---- spans
 -- a span within times that fit
@@ -346,7 +306,7 @@ module _ (s : Search) (x : StillSpan) (g : Fraction) (c d : ℤ) (is : IsSearch 
 
   pub still_by_steps : StepsFit (bound_over s.view s.event.function c d) x.widest g → IsStill s x
   still_by_steps fit = record {
-    no_border = none_begins;
+    no_border = λ wider. none_begins;
     clear = λ n valid after upto narrow. clear_by_steps s x.from x.upto c d g is fits begins ends margin n valid after upto
         x.widest narrow fit;
     signs = one_sign;
@@ -354,7 +314,7 @@ module _ (s : Search) (x : StillSpan) (g : Fraction) (c d : ℤ) (is : IsSearch 
 
   pub still_by_units : x.widest ≤ 1 → IsStill s x
   still_by_units units = record {
-    no_border = none_begins;
+    no_border = λ wider. none_begins;
     clear = λ n valid after upto narrow. clear_unit s x.from x.upto c d g is fits begins ends margin n valid after upto
         (omega (arith, narrow, units));
     signs = one_sign;

@@ -1,1 +1,2 @@
 pub mod Margins
+pub mod Examples

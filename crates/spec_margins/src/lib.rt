@@ -4,4 +4,5 @@
 //! Nothing runs here. `specs/` has the definitions, and `laws` says that such spans are still.
 #![tactic(auto)]
 
+pub mod examples;
 pub mod laws;

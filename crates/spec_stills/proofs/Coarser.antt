@@ -35,7 +35,7 @@ second true q e either = cc
 second false q e either = either
 
 -- by the first of the spans that serves it, the leaves of a node are clear, and no more than so many
-served_block : (s : Search) (n : Node) → IsSearch s → IsValid (rules s) n → (xs : List StillSpan) → All (IsStill s) xs → is_served s xs n ≡ true
+pub served_block : (s : Search) (n : Node) → IsSearch s → IsValid (rules s) n → (xs : List StillSpan) → All (IsStill s) xs → is_served s xs n ≡ true
     → IsClearBlock (weight_by (first_serving s xs n)) (leaves (rules s) n)
 served_block s n is valid [] stills e = absurd (false≢true e)
 served_block s n is valid (x ∷ xs) stills e =

@@ -23,7 +23,7 @@ use Rattle.spec_searches.specs.Found.{rules}
 use Rattle.spec_searches.specs.Search.{Search, IsSearch, border_in, criteria, crosses, evidence_at, parts, parts_at, parts_by, verdict_of}
 use Rattle.spec_searches.proofs.Parts.{rules_are_sound}
 use Rattle.spec_stills.specs.declared.still.StillSpan.{StillSpan}
-use Rattle.spec_stills.specs.Still.{IsStill, is_fine_enough, is_half, is_near_enough, lies_in, serves}
+use Rattle.spec_stills.specs.Still.{HasWider, IsStill, is_fine_enough, is_half, is_near_enough, lies_in, serves}
 use Rattle.spec_stills.proofs.Blocks.{IsClearBlock, both_clear, one_clear}
 
 -- so often doubled
@@ -44,13 +44,13 @@ some_doubled zero m some = some
 some_doubled (suc k) m some = let below = some_doubled k m some in omega (arith, below)
 
 -- ---- verdicts
-not_one : (p q r : Bool) → q ≡ false → (p && (q && r)) ≡ false
+pub not_one : (p q r : Bool) → q ≡ false → (p && (q && r)) ≡ false
 not_one p q r e = grind arith
 
-is_split_by : (w x y z : Bool) → w ≡ true → y ≡ true → z ≡ true → (w && (x || (y && z))) ≡ true
+pub is_split_by : (w x y z : Bool) → w ≡ true → y ≡ true → z ≡ true → (w && (x || (y && z))) ≡ true
 is_split_by w x y z e f g = grind arith
 
-clear_or_split : (c : Criteria) (n : Node) (f : Findings) → is_one c n f ≡ false → is_split c n f ≡ true → (verdict c n f ≡ Clear) ⊎ (verdict c n f ≡ Split)
+pub clear_or_split : (c : Criteria) (n : Node) (f : Findings) → is_one c n f ≡ false → is_split c n f ≡ true → (verdict c n f ≡ Clear) ⊎ (verdict c n f ≡ Split)
 unfolding verdict
 clear_or_split c n f one split = by (is_clear c n f) (is_one c n f) (is_split c n f) one split
   where
@@ -62,7 +62,7 @@ clear_or_split c n f one split = by (is_clear c n f) (is_one c n f) (is_split c 
     by false false true e g = inr refl
     by false false false e g = cc
 
-wide_by_width : (a b : ℤ) → a <ℤ b → 1 < unsigned_abs (b -ℤ a) → int_lt (pos 1) (b -ℤ a) ≡ true
+pub wide_by_width : (a b : ℤ) → a <ℤ b → 1 < unsigned_abs (b -ℤ a) → int_lt (pos 1) (b -ℤ a) ≡ true
 wide_by_width a b inside w = grind (arith, ints)
 
 -- ---- halves
@@ -86,6 +86,10 @@ after_first a b inside = omega (arith, ints, inside)
 
 before_last : (a b : ℤ) → a <ℤ b → (a +ℤ int_div (b -ℤ a) (pos 2)) ≤ℤ b
 before_last a b inside = omega (arith, ints, inside)
+
+-- what holds a node that is wider than so much is wider than so much
+wider_around : (a b from upto : ℤ) (m : ℕ) → from ≤ℤ a → a <ℤ b → b ≤ℤ upto → m < unsigned_abs (b -ℤ a) → m < unsigned_abs (upto -ℤ from)
+wider_around a b from upto m after inside before wider = omega (arith, ints, after, inside, before, wider)
 
 module _ (s : Search) (x : StillSpan) where
   -- it lies in the span, and halved so often it is as narrow as the span asks, no deeper than the depth
@@ -123,9 +127,9 @@ module _ (s : Search) (x : StillSpan) where
       }
 
   module _ (is : IsSearch s) (still : IsStill s x) (half : is_half s.cut ≡ true) (fine : s.width ≤ x.widest) where
-    -- no border lies in a node within the span
-    open_node : (n : Node) → x.from ≤ℤ n.a → n.b ≤ℤ x.upto → crosses s n ≡ false
-    open_node n from upto =
+    -- no border lies in a node within the span, if that has room for nodes that are wider than it asks
+    open_node : HasWider x → (n : Node) → x.from ≤ℤ n.a → n.b ≤ℤ x.upto → crosses s n ≡ false
+    open_node room n from upto =
         by (nearest_border s.view.ephemeris (columns_of s.view) n.a n.b)
         (nearest_of_all s.view.ephemeris (columns_of s.view) n.a n.b is.view.checked (present_in_use s.view is.view))
       where
@@ -135,7 +139,7 @@ module _ (s : Search) (x : StillSpan) where
             let there = nearest.0 in
             let after = there.after in
             let before = there.upto in
-            absurd (still.no_border t (record {
+            absurd (still.no_border room t (record {
               number = there.number;
               listed = there.listed;
               border = there.border;
@@ -157,24 +161,24 @@ module _ (s : Search) (x : StillSpan) where
         not_narrow : (w v : ℕ) → w < v → nat_le v w ≡ false
         not_narrow w v below = grind (arith, ints)
 
-    parts_are_halves : (n : Node) → x.from ≤ℤ n.a → n.b ≤ℤ x.upto → parts s n ≡ parts_at (cut_of Half n.a n.b) (n.depth + 1) n
-    parts_are_halves n from upto =
+    parts_are_halves : HasWider x → (n : Node) → x.from ≤ℤ n.a → n.b ≤ℤ x.upto → parts s n ≡ parts_at (cut_of Half n.a n.b) (n.depth + 1) n
+    parts_are_halves room n from upto =
         ap (λ (rule : CutRule). parts_by rule (border_in s n) n) (half_is s.cut half)
-        ∙ ap (λ (found : Option ℤ). parts_by Half found n) (none_is (border_in s n) (open_node n from upto))
+        ∙ ap (λ (found : Option ℤ). parts_by Half found n) (none_is (border_in s n) (open_node room n from upto))
 
     by_clear : (k : ℕ) (n : Node) → IsValid (rules s) n → verdict_of s n ≡ Clear → IsClearBlock (doubled k 1) (leaves (rules s) n)
     by_clear k n valid clear =
         subst (IsClearBlock (doubled k 1)) (sym (leaves_settled (rules s) (rules_are_sound s is.view) n valid M.Clear (ap mark_of clear)))
         (one_clear (doubled k 1) n (some_doubled k 1 (omega arith)))
 
-    by_verdict : (k : ℕ) (n : Node) → IsValid (rules s) n → IsNear (suc k) n
+    by_verdict : HasWider x → (k : ℕ) (n : Node) → IsValid (rules s) n → IsNear (suc k) n
         → ((i : Node) → IsValid (rules s) i → IsNear k i → IsClearBlock (doubled k 1) (leaves (rules s) i))
         → (verdict_of s n ≡ Clear) ⊎ (verdict_of s n ≡ Split) → IsClearBlock (doubled (suc k) 1) (leaves (rules s) n)
-    by_verdict k n valid near below (inl clear) = by_clear (suc k) n valid clear
-    by_verdict k n valid near below (inr split) =
+    by_verdict room k n valid near below (inl clear) = by_clear (suc k) n valid clear
+    by_verdict room k n valid near below (inr split) =
         let sound = rules_are_sound s is.view in
         let cut = sound.cut n valid split in
-        let parts_near = subst (AreNear k) (sym (parts_are_halves n near.from near.upto)) (halves_near k n valid near) in
+        let parts_near = subst (AreNear k) (sym (parts_are_halves room n near.from near.upto)) (halves_near k n valid near) in
         subst (IsClearBlock (doubled (suc k) 1)) (sym (leaves_split (rules s) sound n valid split))
         (both_clear (doubled k 1) (doubled k 1) (leaves (rules s) (parts s n).0) (leaves (rules s) (parts s n).1)
         (below (parts s n).0 cut.left parts_near.left) (below (parts s n).1 cut.right parts_near.right))
@@ -182,7 +186,10 @@ module _ (s : Search) (x : StillSpan) where
     by_width : (k : ℕ) (n : Node) → IsValid (rules s) n → IsNear (suc k) n
         → ((i : Node) → IsValid (rules s) i → IsNear k i → IsClearBlock (doubled k 1) (leaves (rules s) i))
         → (x.widest < width n) ⊎ (width n ≤ x.widest) → IsClearBlock (doubled (suc k) 1) (leaves (rules s) n)
-    by_width k n valid near below (inl wider) = let deep = near.deep in by_verdict k n valid near below (wider_verdict n valid wider (omega (arith, deep)))
+    by_width k n valid near below (inl wider) =
+        let deep = near.deep in
+        by_verdict (wider_around n.a n.b x.from x.upto x.widest near.from valid.inside near.upto wider) k n valid near below
+        (wider_verdict n valid wider (omega (arith, deep)))
     by_width k n valid near below (inr narrow) = by_clear (suc k) n valid (still.clear n valid near.from near.upto narrow)
 
     halved_is_clear : (k : ℕ) (n : Node) → IsValid (rules s) n → IsNear k n → IsClearBlock (doubled k 1) (leaves (rules s) n)
@@ -213,12 +220,13 @@ module _ (s : Search) (x : StillSpan) where
       subst (λ (most : ℕ). IsClearBlock most (leaves (rules s) n)) (doubled_is x.halvings 1 ∙ mul-one (2 ^ x.halvings))
       (halved_is_clear is still tests.0 (leb-true s.width x.widest tests.1) x.halvings n valid (served_near n outer.0 inner.0))
 
-pub still_within : (s : Search) (x y : StillSpan) → IsStill s x → x.from ≤ℤ y.from → y.upto ≤ℤ x.upto → y.widest ≤ x.widest → y.sign ≡ x.sign → IsStill s y
-still_within s x y still from upto widest sign = record {
-  no_border = λ t border.
+pub still_within : (s : Search) (x y : StillSpan) → IsStill s x → x.from ≤ℤ y.from → y.upto ≤ℤ x.upto → y.widest ≤ x.widest → (HasWider y → HasWider x)
+    → y.sign ≡ x.sign → IsStill s y
+still_within s x y still from upto widest room sign = record {
+  no_border = λ wider t border.
       let after = border.after in
       let before = border.upto in
-      still.no_border t (record {
+      still.no_border (room wider) t (record {
         number = border.number;
         listed = border.listed;
         border = border.border;

@@ -1,7 +1,9 @@
--- Still spans: spans of times in which no granule begins and the function has one sign, and in which each node that is no wider
--- than so much is clear.
-use Rattle.std.specs.Prelude.{◌≡◌, ◌≤◌, ◌+◌, ◌*◌, ◌^◌, Bool, true, false, ◌&&◌, nat_le, List, All, ℤ, ◌≤ℤ◌, int_le}
+-- Still spans: spans of times in which the function has one sign, and in which each node that is no wider than so much is clear;
+-- no granule begins in one that has room for wider nodes.
+use Rattle.std.specs.Prelude.{◌≡◌, ℕ, ◌<◌, ◌≤◌, ◌+◌, ◌*◌, ◌^◌, Bool, true, false, ◌&&◌, nat_le, List, All, ℤ, pos, ◌+ℤ◌, ◌-ℤ◌, ◌≤ℤ◌, int_le}
+use Rattle.std.specs.Int.RustNames.{unsigned_abs}
 use Rattle.std.specs.List.{list_any}
+use Rattle.spec_intervals.specs.declared.signs.Sign.{Sign}
 use Rattle.spec_ephemeris.specs.Ephemeris.{IsBorderIn}
 use Rattle.spec_bodies.specs.Views.{columns_of}
 use Rattle.spec_trees.specs.declared.cuts.CutRule.{CutRule}
@@ -16,12 +18,20 @@ use Rattle.spec_searches.specs.Search.{Search, verdict_of}
 use Rattle.spec_bounds.specs.Steady.{sign_at}
 use Rattle.spec_stills.specs.declared.still.StillSpan.{StillSpan}
 
--- no granule of the columns in use begins in it, each valid node within it that is no wider than its widest is clear, and the
--- function has its sign at each time of it
+-- a node within it may be wider than its widest
+abbrev pub HasWider : StillSpan → Type 0
+HasWider x = x.widest < unsigned_abs (x.upto -ℤ x.from)
+
+-- no granule of the columns in use begins in it, unless no node within it is wider than its widest; each valid node within it
+-- that is no wider is clear; and the function has its sign at each time of it
 pub record IsStill (s : Search) (x : StillSpan) : Type 0 where
-  pub no_border : (t : ℤ) → IsBorderIn s.view.ephemeris (columns_of s.view) x.from x.upto t → ⊥
+  pub no_border : HasWider x → (t : ℤ) → IsBorderIn s.view.ephemeris (columns_of s.view) x.from x.upto t → ⊥
   pub clear : (n : Node) → IsValid (rules s) n → x.from ≤ℤ n.a → n.b ≤ℤ x.upto → width n ≤ x.widest → verdict_of s n ≡ Clear
   pub signs : (t : ℤ) → x.from ≤ℤ t → t ≤ℤ x.upto → sign_at s t ≡ x.sign
+
+-- the one unit from a time to the next, with a sign, for nodes that are no wider than so much
+abbrev pub unit_from : ℤ → ℕ → Sign → StillSpan
+unit_from t widest sign = record { from = t; upto = t +ℤ pos 1; widest = widest; halvings = 0; sign = sign }
 
 abbrev pub is_half : CutRule → Bool
 is_half Half = true

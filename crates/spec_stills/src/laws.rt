@@ -1,19 +1,31 @@
 // What is true of still spans and of coarse trees: each law is the contract of a function with nothing to do.
-ghost use Rattle.std.specs.Prelude.{◌≡◌, ◌≤◌, ◌^◌, true, All, List, ℤ, ◌≤ℤ◌};
+ghost use Rattle.std.specs.Prelude.{◌≡◌, ℕ, ◌<◌, ◌≤◌, ◌^◌, true, All, List, ℤ, pos, ◌+ℤ◌, ◌≤ℤ◌};
+ghost use Rattle.spec_intervals.specs.declared.signs.Sign.{Sign};
 ghost use Rattle.spec_trees.specs.declared.tree.Node.{Node};
 ghost use Rattle.spec_trees.specs.Tree.{IsSound, IsValid, leaf_count, leaves};
 ghost use Rattle.spec_trees.specs.Windows.{windows};
+ghost use Rattle.spec_events.specs.Verdict.{is_known};
 ghost use Rattle.spec_searches.specs.Found.{rules};
 ghost use Rattle.spec_searches.specs.Search.{IsSearch, Search};
+ghost use Rattle.spec_bounds.specs.Steady.{sign_at};
 ghost use Rattle.spec_stills.specs.declared.still.StillSpan.{StillSpan};
-ghost use Rattle.spec_stills.specs.Still.{AreClear, IsStill, serves};
+ghost use Rattle.spec_stills.specs.Still.{AreClear, HasWider, IsStill, serves, unit_from};
 ghost use Rattle.spec_stills.specs.Coarse.{coarse_rules};
 ghost use Rattle.spec_stills.specs.Weights.{weights};
 
-/// A span within a still span is still, with the same sign and for nodes that are no wider.
+/// A span within a still span is still, with the same sign and for nodes that are no wider, where it has room for wider nodes
+/// only if the whole has.
 pub fn spans_within_still_spans()
     ensures { (s : Search) (x y : StillSpan) → IsStill s x → x.from ≤ℤ y.from → y.upto ≤ℤ x.upto
-        → y.widest ≤ x.widest → y.sign ≡ x.sign → IsStill s y }
+        → y.widest ≤ x.widest → (HasWider y → HasWider x) → y.sign ≡ x.sign → IsStill s y }
+{}
+
+/// One unit is still where the function has one known sign at both its times, also where a granule begins in it; and for nodes
+/// that may be wider, since there are none within it.
+pub fn units_of_one_sign_are_still()
+    ensures { (s : Search) (t : ℤ) (widest : ℕ) (sign : Sign) → IsSearch s → 0 < widest
+        → is_known sign ≡ true → sign_at s t ≡ sign → sign_at s (t +ℤ pos 1) ≡ sign
+        → IsStill s (unit_from t widest sign) }
 {}
 
 /// All leaves of a valid node that a still span serves are clear, and they are few.

@@ -1,9 +1,10 @@
 -- One still span more at the end of those that are found.
-use Rattle.std.proofs.Common.{◌≡◌, ◌<◌, List, [], ◌∷◌, ◌++◌, Result, Ok, Err, ℤ, pos, negsuc, ◌+ℤ◌, ◌-ℤ◌, ◌≤ℤ◌, ◌<ℤ◌, arith, refl}
-use Rattle.std.specs.Prelude.{IfOk, Vec}
+use Rattle.std.proofs.Common.{◌≡◌, suc, ◌-◌, ◌<◌, List, [], ◌∷◌, ◌++◌, All, length, Option, Some, None, Result, Ok, Err, ℤ, pos, negsuc, ◌+ℤ◌, ◌-ℤ◌, ◌≤ℤ◌, ◌<ℤ◌, arith, refl, sym, ap, ◌∙◌, subst}
+use Rattle.std.specs.Prelude.{IfOk, IfSome, Vec, slice_get}
 use Rattle.std.specs.declared.alloc.Global.{Global}
 use Rattle.std.proofs.lemmas.Int.{ints}
-use Rattle.std.proofs.lemmas.List.Elements.{All-nil, All-push}
+use Rattle.std.proofs.lemmas.Option.{same_Some}
+use Rattle.std.proofs.lemmas.List.Elements.{All-head, All-nil, All-push, All-tail}
 use Rattle.spec_ephemeris.specs.Series.{to_nat}
 use Rattle.spec_searches.specs.Search.{Search}
 use Rattle.spec_stills.specs.declared.still.StillSpan.{StillSpan}
@@ -39,6 +40,37 @@ added s from xs a b x found several over =
       still = All-push (IsStill s) xs x found.still over.still;
       follow = follow_more from xs a b x found.follow (omega (arith, ints, begins)) (omega (arith, ints, begins, ends, several)) (omega (arith, ints, ends));
     }
+
+-- ---- the unit between the last of them and one more
+shorter : (y z : StillSpan) (zs : List StillSpan) (x : StillSpan) → slice_get (y ∷ z ∷ zs) (length (y ∷ z ∷ zs) - 1) ≡ Some x
+    → slice_get (z ∷ zs) (length (z ∷ zs) - 1) ≡ Some x
+shorter y z zs x e =
+    let same : length (y ∷ z ∷ zs) - 1 ≡ suc (length (z ∷ zs) - 1) = omega arith in
+    sym (ap (slice_get (y ∷ z ∷ zs)) same) ∙ e
+
+last_all : (s : Search) (xs : List StillSpan) (x : StillSpan) → slice_get xs (length xs - 1) ≡ Some x → All (IsStill s) xs → IsStill s x
+last_all s [] x e stills = cc
+last_all s (y ∷ []) x e stills = subst (IsStill s) (same_Some y x e) (All-head (IsStill s) y [] stills)
+last_all s (y ∷ z ∷ zs) x e stills = last_all s (z ∷ zs) x (shorter y z zs x e) (All-tail (IsStill s) y (z ∷ zs) stills)
+
+last_follow : (from : ℤ) (xs : List StillSpan) (upto : ℤ) (x : StillSpan) → slice_get xs (length xs - 1) ≡ Some x → Follow from xs upto → Follow from xs x.upto
+last_follow from [] upto x e follow = cc
+last_follow from (y ∷ []) upto x e follow = (follow.0, follow.1, subst (λ (u : StillSpan). y.upto ≤ℤ u.upto) (same_Some y x e) (omega (arith, ints)))
+last_follow from (y ∷ z ∷ zs) upto x e follow = (follow.0, follow.1, last_follow y.upto (z ∷ zs) upto x (shorter y z zs x e) follow.2)
+
+last_several : (from : ℤ) (xs : List StillSpan) (upto : ℤ) (x : StillSpan) → slice_get xs (length xs - 1) ≡ Some x → Follow from xs upto → x.from <ℤ x.upto
+last_several from [] upto x e follow = cc
+last_several from (y ∷ []) upto x e follow = subst (λ (u : StillSpan). u.from <ℤ u.upto) (same_Some y x e) follow.1
+last_several from (y ∷ z ∷ zs) upto x e follow = last_several y.upto (z ∷ zs) upto x (shorter y z zs x e) follow.2
+
+pub unit_added : (s : Search) (from : ℤ) (xs : List StillSpan) (upto : ℤ) (x : StillSpan) (found : Option StillSpan) → slice_get xs (length xs - 1) ≡ Some x
+    → AreFound s from xs upto → IfSome found (λ unit. upto ≡ x.upto +ℤ pos 1)
+    → IfSome found (λ unit. IsStill s x → x.from ≤ℤ x.upto → IsStillOver s x.upto upto unit) → IfSome found (λ unit. AreFound s from (xs ++ unit ∷ []) upto)
+unit_added s from xs upto x None last found next over = over
+unit_added s from xs upto x (Some unit) last found next over =
+    let several = last_several from xs upto x last found.follow in
+    added s from xs x.upto upto unit (record { still = found.still; follow = last_follow from xs upto x last found.follow }) (omega (arith, ints, next))
+    (over (last_all s xs x last found.still) (omega (arith, ints, several)))
 
 pub none_yet : (s : Search) (from : ℤ) → AreFound s from [] from
 none_yet s from = record { still = All-nil (IsStill s); follow = omega (arith, ints) }

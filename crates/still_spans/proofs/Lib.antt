@@ -1,4 +1,5 @@
 mod Doubled
 mod Margins
 mod Following
+mod BetweenSpans
 pub mod Quieted

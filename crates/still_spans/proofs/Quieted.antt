@@ -26,7 +26,7 @@ module _ (s : Search) (a b : ℤ) (is : IsSearch s) (fits : Fits s.view a b) (se
 
   pub still_whole : Times → Nodes → (w : ℕ) → IsStill s (still a b w 0 sign)
   still_whole times nodes w = record {
-    no_border = fits.no_border;
+    no_border = λ wider. fits.no_border;
     clear = λ n valid from upto narrow. nodes s a b n is quiet valid from upto;
     signs = λ t from upto. times s a b t is quiet from upto ∙ here;
   }

@@ -1,9 +1,11 @@
 // The still spans of one granule: those of its halves, of their halves, and so on.
-ghost use Rattle.std.specs.Prelude.{◌≡◌, ◌^◌, ◌≤ℤ◌, ◌<ℤ◌, ◌+ℤ◌, neg_ℤ, pos, ℤ, OnOk, false};
+ghost use Rattle.std.specs.Prelude.{◌≡◌, ◌^◌, ◌≤ℤ◌, ◌<ℤ◌, ◌+ℤ◌, neg_ℤ, pos, ℤ, IfSome, OnOk, false, [], ◌∷◌, ◌++◌};
 ghost use Rattle.spec_trees.specs.Cuts.{CanCut};
+ghost use Rattle.spec_stills.specs.Still.{IsStill};
 ghost use Rattle.still_spans.specs.Found.{AreFound, IsStillOver};
 ghost use Rattle.still_spans.specs.Knowledge.{IsKnown};
 
+use crate::borders::unit_between;
 use crate::known::Known;
 use event_judge::EventSearch;
 use gf_hooks::{CutRule, rule_cut};
@@ -44,7 +46,37 @@ fn middle(a: i64, b: i64) -> i64
 }
 
 impl Walk {
-    /// One still span more, after those before.
+    // The unit between the last of the spans and one more, where these are one unit apart and have the same sign.
+    fn unit_before(&self, search: &EventSearch, still: StillSpan) -> Option<StillSpan>
+        requires still { IsStill search.now still }
+        requires several { still.from <ℤ still.upto }
+        ensures { (from : ℤ) → AreFound search.now from self.now.found.items still.from
+            → IfSome result (λ unit. AreFound search.now from
+            (self.now.found.items ++ unit ∷ []) still.from) }
+    {
+        match self.found.last() {
+            Some(last) => unit_between(search, *last, still),
+            None => None,
+        }
+    }
+
+    // Adds that unit.
+    fn add_unit(&mut self, search: &EventSearch, still: StillSpan) -> Result<(), AllocError>
+        requires still { IsStill search.now still }
+        requires several { still.from <ℤ still.upto }
+        ensures { (from : ℤ) → AreFound search.now from self.old.found.items still.from
+            → OnOk result (AreFound search.now from self.new.found.items still.from) }
+    {
+        match self.unit_before(search, still) {
+            Some(unit) => {
+                self.found.push(unit)?;
+                Ok(())
+            }
+            None => Ok(()),
+        }
+    }
+
+    /// One still span more, after those before, and after the unit between where that is still.
     pub(crate) fn add(
         &mut self,
         search: &EventSearch,
@@ -57,6 +89,7 @@ impl Walk {
         ensures { (from : ℤ) → AreFound search.now from self.old.found.items a
             → OnOk result (AreFound search.now from self.new.found.items b) }
     {
+        self.add_unit(search, still)?;
         self.found.push(still)?;
         Ok(())
     }

@@ -11,9 +11,9 @@ ghost use Rattle.still_spans.specs.Found.{IsStillOver, still};
 ghost use Rattle.still_spans.specs.Knowledge.{IsKnown, argument_of, side};
 
 use crate::units::{halvings, steps_allowed};
-use event_bounds::{Bound, bound_over};
+use event_bounds::{Bound, bound_by_steps};
 use event_judge::EventSearch;
-use event_models::model_over;
+use event_models::model_by_steps;
 use ival_core::Sign;
 use span_models::{Margin, Model};
 use spec_margins::laws::{margins_make_spans_still, margins_tell_signs};
@@ -37,7 +37,8 @@ pub(crate) fn bound_between(search: &EventSearch, first: i64, last: i64) -> Boun
     requires { Fits search.now.view first last }
     ensures { IsBound result (bound_over search.now.view search.now.event.function first last) }
 {
-    bound_over(search.event().function(), search.states(), first, last)
+    let (function, listed) = (search.event().function(), search.function_step());
+    bound_by_steps(function, listed, search.states(), first, last)
 }
 
 impl Known {
@@ -53,7 +54,8 @@ impl Known {
     {
         search.is_search();
         let (function, states) = (search.event().function(), search.states());
-        match model_over(function, search.ephemeris(), states, first, last) {
+        let listed = search.function_step();
+        match model_by_steps(function, listed, search.ephemeris(), states, first, last) {
             Some(model) => Some(Known {
                 model,
                 bound,

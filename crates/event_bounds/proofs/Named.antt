@@ -41,7 +41,7 @@ module _ (f g : Leaf → Bound) (a b : ℤ) where
       λ i. signed_square_bound a b (p i)
 
 -- ---- the leaves of a span
-is_made : (made : Made) (p : Bound) → IsBound made p → bound_made made ≡ p
+pub is_made : (made : Made) (p : Bound) → IsBound made p → bound_made made ≡ p
 is_made made p is = λ i. record { range = is.range i; step = is.step i }
 
 along_axis : (v : View) (t : Times) (q : Quantity) (target : ℕ) (wanted : Axes) (b : AxisBounds) → AreBounds v t q target wanted b

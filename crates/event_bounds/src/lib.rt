@@ -5,6 +5,7 @@
 #![tactic(auto)]
 
 mod bound;
+mod by_steps;
 mod coordinates;
 mod seen;
 mod spans;
@@ -12,4 +13,5 @@ mod terms;
 mod times;
 
 pub use bound::Bound;
+pub use by_steps::bound_by_steps;
 pub use terms::bound_over;

@@ -84,7 +84,7 @@ fn both(
 
 impl<'t> Span<'t> {
     // The coordinates that are wanted, each made once.
-    fn new(states: &BodyStates, times: BoundTimes<'t>, wanted: &Leaves) -> Span<'t>
+    pub(crate) fn new(states: &BodyStates, times: BoundTimes<'t>, wanted: &Leaves) -> Span<'t>
         requires { Fits states.now times.span.now.first times.span.now.last }
         ensures times { result.times.span.now ≡ times.entry.span.now }
         ensures seen { IsSpanSeen states.now wanted.now result }
@@ -132,7 +132,7 @@ impl<'t> Span<'t> {
     }
 
     // The bound of a coordinate of a target.
-    fn coordinate(&self, quantity: Quantity, target: u8, axis: u8) -> Bound
+    pub(crate) fn coordinate(&self, quantity: Quantity, target: u8, axis: u8) -> Bound
         requires target { target < 2 }
         requires axis { axis < 3 }
         ensures { result ≡ bound_along (bounds_of self.now quantity target) axis }

@@ -1,8 +1,8 @@
 -- A word stands for one sign at one time, and times for how far they are after the first of the ephemeris.
-use Rattle.std.proofs.Common.{◌≡◌, ℕ, ◌+◌, ◌<◌, ◌^◌, Option, Some, ℤ, pos, negsuc, ◌+ℤ◌, ◌-ℤ◌, ◌*ℤ◌, ◌<ℤ◌, refl, sym, ap, subst, ◌∙◌, arith}
+use Rattle.std.proofs.Common.{◌≡◌, ℕ, ◌+◌, ◌<◌, ◌^◌, Option, Some, ℤ, pos, ◌+ℤ◌, ◌-ℤ◌, ◌*ℤ◌, ◌<ℤ◌, refl, sym, ap, subst, ◌∙◌, arith}
 use Rattle.std.proofs.lemmas.Int.{ints}
 use Rattle.std.specs.Prelude.{IfSome}
-use Rattle.std.specs.Int.RustNames.{unsigned_abs}
+use Rattle.spec_numbers.proofs.Sizes.{own_size}
 use Rattle.spec_intervals.specs.declared.signs.Sign.{Sign}
 use Rattle.spec_intervals.specs.declared.signs.Sign.TheVariants.{Yes, No, Open}
 use Rattle.spec_trees.specs.declared.tree.Node.{Node}
@@ -40,12 +40,8 @@ kept s t sign word right is u other e =
     let code : sign ≡ other = one_code sign other (same_code t u (code_of sign) (code_of other) (few sign) (few other) both) in
     ap (sign_at s) (sym time) ∙ (right ∙ code)
 
-abs_is : (z : ℤ) → pos 0 <ℤ z → pos (unsigned_abs z) ≡ z
-abs_is (pos n) some = refl
-abs_is (negsuc n) some = absurd (omega (arith, ints, some))
-
 width_is : (n : Node) → n.a <ℤ n.b → pos (width n) ≡ n.b -ℤ n.a
-width_is n inside = abs_is (n.b -ℤ n.a) (omega (arith, ints, inside))
+width_is n inside = own_size (n.b -ℤ n.a) (omega (arith, ints, inside))
 
 -- ---- times by how far they are after the first of the ephemeris
 time_is : (s : Search) (t : ℤ) (offset : ℕ) → pos offset ≡ t -ℤ s.view.ephemeris.start → time_of s offset ≡ t

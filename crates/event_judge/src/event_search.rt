@@ -1,7 +1,8 @@
 // A search for an event of two bodies.
-ghost use Rattle.std.specs.Prelude.{◌≡◌, ◌<◌, ◌≤ℤ◌, pos, unsigned_abs};
+ghost use Rattle.std.specs.Prelude.{◌≡◌, ◌<◌, ◌≤ℤ◌, IfSome, pos, unsigned_abs};
 ghost use Rattle.spec_searches.specs.Search.{IsSearch};
 ghost use Rattle.event_expr.specs.Leaves.{leaves_of};
+ghost use Rattle.event_steps.specs.Entered.{IsMadeAt};
 ghost use Rattle.event_judge.specs.Wanted.{event_leaves};
 
 use crate::wanted::wanted_leaves;
@@ -9,6 +10,7 @@ use body_states::BodyStates;
 use eph_model::Ephemeris;
 use event_expr::Leaves;
 use event_kinds::Event;
+use event_steps::{StepList, StepPlace};
 use gf_hooks::CutRule;
 use std::marker::Model;
 
@@ -23,17 +25,22 @@ pub struct EventSearch<'e> {
     wanted: Leaves,
     /// Those that its function names.
     of_function: Leaves,
+    /// The steps of its function.
+    steps: StepList,
+    /// The number of the step that stands for it, where the list has room for all.
+    place: Option<usize>,
     width: u64,
     depth: u32,
     rule: CutRule,
 }
 
 impl<'e> Model for EventSearch<'e> {
-    ghost use Rattle.std.specs.Prelude.{◌≡◌, ◌<◌};
+    ghost use Rattle.std.specs.Prelude.{◌≡◌, ◌<◌, IfSome};
     ghost use Rattle.std.specs.Coded.{codes};
     ghost use Rattle.spec_expressions.specs.Code.{term_code};
     ghost use Rattle.spec_searches.specs.Search.{Search};
     ghost use Rattle.event_expr.specs.Leaves.{leaves_of};
+    ghost use Rattle.event_steps.specs.Entered.{IsMadeAt};
     ghost use Rattle.event_judge.specs.Wanted.{event_leaves};
 
     ghost Value = { Search };
@@ -51,7 +58,8 @@ impl<'e> Model for EventSearch<'e> {
     ghost invariant = { λ s. (s.ephemeris.now ≡ s.states.ephemeris)
         × (0 < s.width)
         × (s.wanted ≡ event_leaves s.event)
-        × (s.of_function ≡ leaves_of s.event.function) };
+        × (s.of_function ≡ leaves_of s.event.function)
+        × IfSome s.place (λ place. IsMadeAt s.steps place s.event.function) };
 }
 
 impl<'e> EventSearch<'e> {
@@ -77,12 +85,15 @@ impl<'e> EventSearch<'e> {
     {
         let wanted = wanted_leaves(&event);
         let of_function = event.function().leaves();
+        let (steps, place) = StepList::of(event.function());
         EventSearch {
             states,
             ephemeris,
             event,
             wanted,
             of_function,
+            steps,
+            place,
             width: width.unsigned_abs(),
             depth,
             rule,
@@ -127,6 +138,19 @@ impl<'e> EventSearch<'e> {
         ensures { result.now ≡ leaves_of self.now.event.function }
     {
         &self.of_function
+    }
+
+    /// The step that stands for its function in a list of steps, where there is one.
+    pub fn function_step(&self) -> Option<StepPlace<'_>>
+        ensures { IfSome result (λ at. IsMadeAt at.steps.now at.place self.now.event.function) }
+    {
+        match self.place {
+            Some(place) => Some(StepPlace {
+                steps: &self.steps,
+                place,
+            }),
+            None => None,
+        }
     }
 
     /// The width down to which nodes are split, in units of the ephemeris's times.

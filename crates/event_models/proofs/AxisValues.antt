@@ -32,7 +32,7 @@ use Rattle.spec_covers.proofs.Values.{Covers-position, Covers-velocity, IsArgume
 use Rattle.span_models.specs.Near.{IsProductOf}
 use Rattle.span_models.specs.Settled.{Reaches}
 use Rattle.span_models.specs.Sizes.{IsSmall, IsWithin, size_limit, terms}
-use Rattle.cheby_enclose.specs.Pairs.{term_of}
+use Rattle.spec_motions.specs.Pairs.{term_of}
 use Rattle.spec_covers.proofs.Argument.{Covers-arguments}
 use Rattle.event_models.proofs.Rules.{is_argument}
 use Rattle.event_models.specs.declared.row_room.RowRoom.{RowRoom}

@@ -1,10 +1,8 @@
 -- What constants are read as has its ends in order.
 use Rattle.std.proofs.Common.{◌≡◌, arith, ℤ, Option, to_z, of_z, w64, subst}
-use Rattle.std.proofs.Math.Nat.{one-le-pow}
 use Rattle.std.proofs.lemmas.Int.{ints, to_z-of_z}
 use mir.Syntax.{w16}
 use mir.Val.{SFits}
-use borrow.Author.Differences.{down}
 use Rattle.spec_numbers.proofs.Floor.{ordered_quotients}
 use Rattle.spec_numbers.proofs.Order.{lin}
 use Rattle.spec_text.specs.declared.decimals.Decimal.{Decimal}
@@ -15,8 +13,8 @@ use Rattle.spec_models.specs.Models.{Model}
 use Rattle.event_models.specs.Covered.{IsIfMade}
 use Rattle.spec_roundings.specs.Ends.{IsOrdered}
 use Rattle.spec_bodies.specs.declared.factor.Factor.{Factor}
-use Rattle.spec_bodies.specs.declared.factor.Factor.TheVariants.{MoonShare, Cosine, Sine}
 use Rattle.spec_bodies.specs.Meanings.{factor, factor_interval}
+use Rattle.spec_bodies.proofs.Formulas.{IsFraction-factor}
 
 pub zero_ordered : IsOrdered zero_interval
 zero_ordered = omega (arith, ints)
@@ -29,13 +27,8 @@ quotient_ordered : (r : Fraction) → IsFraction r → IsOrdered (factor_interva
 unfolding factor_interval
 quotient_ordered r is = ordered_quotients _ _ r.denominator is (omega (arith, lin))
 
-is_factor : (ratio : Decimal) (f : Factor) → IsFraction (factor ratio f)
-is_factor ratio MoonShare = let e = one-le-pow (down ratio.exp) 10 (omega arith) in omega (arith, e)
-is_factor ratio Cosine = omega arith
-is_factor ratio Sine = omega arith
-
 pub factor_ordered : (ratio : Decimal) (f : Factor) → IsOrdered (factor_interval (factor ratio f))
-factor_ordered ratio f = quotient_ordered (factor ratio f) (is_factor ratio f)
+factor_ordered ratio f = quotient_ordered (factor ratio f) (IsFraction-factor ratio f)
 
 -- a model of what is read of a decimal's parts
 pub decimal_made : (c d s m q : ℤ) (x : Interval) (r : Option Model) → SFits w64 m → SFits w16 q → x ≡ from_decimal (to_z w64 (of_z w64 m)) (to_z w16 (of_z w16 q)) s

@@ -9,9 +9,6 @@ pub mod RowCovers
 pub mod SumCovers
 pub mod RowStarts
 mod RowSizes
-mod Reading
-mod PairLists
-mod Usable
 mod AxisValues
 mod GranuleLines
 mod LostUnits

@@ -7,8 +7,8 @@ use borrow.Author.Differences.{down}
 use Rattle.spec_numbers.proofs.Order.{lin}
 use Rattle.spec_intervals.proofs.Sums.{gap_is}
 use Rattle.spec_roundings.specs.Ends.{in_units}
+use Rattle.spec_roundings.proofs.Ordered.{no_more_trans}
 use Rattle.spec_models.specs.Models.{Model, bulk, model}
-use Rattle.spec_models.proofs.Between.{NoMore-trans}
 use Rattle.spec_covers.specs.Combining.{IsUpto, scaled_loss}
 use Rattle.spec_covers.proofs.Enough.{units_fit, upto_scaled}
 
@@ -36,5 +36,5 @@ module _ (m k : Model) (l r low : ℕ) (s e : ℤ) (positive : 0 < l) (small : b
   pub units_enough : IsUpto ((128 * 2 ^ r / l + 3) * 2 ^ low) k (scaled_loss s m l)
   units_enough =
       let same : 2 + parts ≡ 128 * 2 ^ r / l + 3 = omega arith in
-      NoMore-trans (scaled_loss s m l) (in_units (pos (2 + parts)) e) (in_units (pos ((128 * 2 ^ r / l + 3) * 2 ^ low)) k.exponent) (pow_pos (down e)) at_coarser
+      no_more_trans (scaled_loss s m l) (in_units (pos (2 + parts)) e) (in_units (pos ((128 * 2 ^ r / l + 3) * 2 ^ low)) k.exponent) (pow_pos (down e)) at_coarser
       (units_fit (2 + parts) ((128 * 2 ^ r / l + 3) * 2 ^ low) low 0 k.exponent e k.exponent exact (omega (arith, lin)) (rw same (omega arith)))

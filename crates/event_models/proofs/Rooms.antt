@@ -1,22 +1,15 @@
--- Room in which nothing is made, and the models of a column.
-use Rattle.std.proofs.Common.{◌≡◌, ℕ, arith, subst, ℤ, Option}
+-- The models of a column.
+use Rattle.std.proofs.Common.{◌≡◌, ℕ, subst, ℤ, Option}
 use Rattle.spec_ephemeris.specs.declared.granule.Granule.{Granule}
 use Rattle.spec_ephemeris.specs.Granules.{series_at, series_of}
 use Rattle.spec_bodies.specs.declared.quantity.Quantity.{Quantity}
 use Rattle.spec_bodies.specs.Coordinates.{of_column}
 use Rattle.spec_bodies.specs.Views.{View, value_interval}
 use Rattle.spec_models.specs.Models.{Model}
-use Rattle.event_models.specs.declared.row_room.RowRoom.{RowRoom}
 use Rattle.event_models.specs.declared.spans.AxisModels.{AxisModels}
 use Rattle.event_models.specs.Covered.{IsIfMade}
-use Rattle.event_models.specs.Granules.{AreMade, IsAxisModel}
+use Rattle.event_models.specs.Granules.{IsAxisModel}
 use Rattle.event_models.specs.Spans.{AreModels, point_at}
-
-pub nothing_made : (quantity : Quantity) (c d : ℤ) (r : RowRoom) → r.entries ≡ 0 → AreMade quantity c d r
-nothing_made quantity c d r none = record {
-  sums = λ k below. absurd (omega (arith, none, below));
-  covers = λ p q x is arguments line double k below. absurd (omega (arith, none, below));
-}
 
 module _ (v : View) (quantity : Quantity) (c d : ℤ) (number : ℕ) (g : Granule) (series : (axis : ℕ) → series_of g axis ≡ series_at v.ephemeris number axis c) where
   one_axis : (axis : ℕ) (r : Option Model) → IsAxisModel quantity c d g axis r → IsIfMade c d r (point_at v quantity c (of_column number axis))

@@ -38,3 +38,20 @@ one_entry_more P n rows made below first is k h = by (cases_lt k n)
     by (inr after) =
         let same : n ≡ k = omega (arith, after, h) in
         subst (λ (j : ℕ). P j (slice_index_or (slice_set rows n made) j no_row)) same (subst (P n) (sym (get_or-set_same rows n made no_row below)) is)
+
+-- where an entry is replaced, those before it stay
+pub entries_before : (P : ℕ → RowModel → Type 0) (n m : ℕ) (rows : List RowModel) (made : RowModel) → m ≤ n → ((k : ℕ) → k < n → P k (slice_index_or rows k no_row))
+    → (k : ℕ) → k < m → P k (slice_index_or (slice_set rows n made) k no_row)
+entries_before P n m rows made few first k h = subst (P k) (sym (get_or-set_other rows n k made no_row (λ same. absurd (omega (arith, few, h, same))))) (first k (omega (arith, few, h)))
+
+-- one entry more before the last ones
+pub one_entry_before : (P : ℕ → RowModel → Type 0) (n low from upto : ℕ) (rows : List RowModel) (made : RowModel) → n < length rows → low ≡ n → from ≡ suc n
+    → ((k : ℕ) → from ≤ k → k < upto → P k (slice_index_or rows k no_row)) → P n made
+    → (k : ℕ) → low ≤ k → k < upto → P k (slice_index_or (slice_set rows n made) k no_row)
+one_entry_before P n low from upto rows made below own next last is k after before = by (cases_lt n k)
+  where
+    by : (n < k) ⊎ (k ≤ n) → P k (slice_index_or (slice_set rows n made) k no_row)
+    by (inl later) = subst (P k) (sym (get_or-set_other rows n k made no_row (λ same. absurd (omega (arith, later, same))))) (last k (omega (arith, later, next)) before)
+    by (inr h) =
+        let same : n ≡ k = omega (arith, h, own, after) in
+        subst (λ (j : ℕ). P j (slice_index_or (slice_set rows n made) j no_row)) same (subst (P n) (sym (get_or-set_same rows n made no_row below)) is)

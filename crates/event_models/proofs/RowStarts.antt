@@ -10,6 +10,7 @@ use Rattle.spec_chebyshev.proofs.RowEnds.{EndsWithin-t, EndsWithin-u}
 use Rattle.spec_covers.proofs.Units.{Covers-constant}
 use Rattle.spec_models.specs.Models.{Covers, Model, coefficient, constant, raised, widened}
 use Rattle.spec_models.proofs.Made.{near-raised}
+use Rattle.spec_models.proofs.Coefficients.{coefficient-zeros}
 use Rattle.spec_covers.specs.Series.{of_entry}
 use Rattle.spec_covers.proofs.Enough.{upto_units}
 use Rattle.spec_covers.proofs.Rows.{Covers-t_first, Covers-t_second, Covers-u_first, Covers-u_second}
@@ -18,21 +19,15 @@ use Rattle.event_models.specs.declared.rows.Line.{Line}
 use Rattle.event_models.specs.Rows.{IsFirst, IsSecondT, IsSecondU, IsSizedT, IsSizedU, of_line, of_row, terms, unit}
 use Rattle.event_models.proofs.Like.{covers_like}
 
--- two coefficients, and zeros after them
-no_number : (n k : ℕ) → coefficient (replicate n (pos 0)) k ≡ pos 0
-no_number zero k = refl
-no_number (suc n) zero = refl
-no_number (suc n) (suc k) = no_number n k
-
 two_same : (x y : ℤ) (k : ℕ) → coefficient (x ∷ y ∷ []) k ≡ coefficient (x ∷ y ∷ replicate (terms - 2) (pos 0)) k
 two_same x y zero = refl
 two_same x y (suc zero) = refl
-two_same x y (suc (suc k)) = sym (no_number (terms - 2) k)
+two_same x y (suc (suc k)) = sym (coefficient-zeros (terms - 2) k)
 
 one_same : (x : ℤ) (k : ℕ) → coefficient (x ∷ []) k ≡ coefficient (x ∷ pos 0 ∷ replicate (terms - 2) (pos 0)) k
 one_same x zero = refl
 one_same x (suc zero) = refl
-one_same x (suc (suc k)) = sym (no_number (terms - 2) k)
+one_same x (suc (suc k)) = sym (coefficient-zeros (terms - 2) k)
 
 module _ (p q : ℤ) (is : IsArgument p q) where
   covers_raised : (n : ℕ) (m : Model) (x : Interval) → Covers m p q x → Covers (raised n m) p q x

@@ -1,17 +1,13 @@
 -- The rules on models at each time of a span.
-use Rattle.std.proofs.Common.{◌≡◌, [], ◌∷◌, arith, ℤ, pos, neg_ℤ, ◌+ℤ◌, ◌-ℤ◌, ◌*ℤ◌, ◌≤ℤ◌, ◌<ℤ◌, Option, None, Some}
+use Rattle.std.proofs.Common.{◌≡◌, arith, ℤ, pos, neg_ℤ, ◌+ℤ◌, ◌-ℤ◌, ◌*ℤ◌, ◌≤ℤ◌, ◌<ℤ◌, Option, None, Some}
 use Rattle.std.specs.Prelude.{IfSome}
 use Rattle.std.proofs.lemmas.Int.{ints}
-use Rattle.spec_numbers.proofs.Ring.{k, v, ◌⊕◌, ◌⊗◌, ring}
+use Rattle.spec_numbers.proofs.Integers.{doubled}
 use Rattle.spec_intervals.specs.Interval.{Interval}
 use Rattle.spec_chebyshev.specs.Differences.{IsArgument}
 use Rattle.spec_roundings.specs.Ends.{IsOrdered}
 use Rattle.spec_models.specs.Models.{Covers, Model}
 use Rattle.event_models.specs.Covered.{IsIfMade, IsModelOf, argument}
-
--- the argument of a time
-doubled : (t : ℤ) → pos 2 *ℤ t ≡ t +ℤ t
-doubled t = ring (t ∷ []) (k (pos 2) ⊗ v 0) (v 0 ⊕ v 0) tt
 
 argument_low : (c d t u : ℤ) → u ≡ t +ℤ t → c ≤ℤ t → neg_ℤ (d -ℤ c) ≤ℤ (u -ℤ c -ℤ d)
 argument_low c d t u is after = omega (arith, ints, is, after)

@@ -1,11 +1,11 @@
 -- The entries of U one after the other, and those of the row of their multiples.
-use Rattle.std.proofs.Common.{◌≡◌, ◌∙◌, ℕ, zero, suc, ◌+◌, ◌-◌, ◌*◌, ◌^◌, ◌<◌, ◌≤◌, arith, refl, sym, subst, List, [], ◌∷◌, length, replicate, slice_index_or, ℤ, pos, neg_ℤ, ◌*ℤ◌, unsigned_abs}
+use Rattle.std.proofs.Common.{◌≡◌, ◌∙◌, ℕ, suc, ◌+◌, ◌-◌, ◌*◌, ◌^◌, ◌<◌, ◌≤◌, arith, refl, sym, subst, List, [], ◌∷◌, length, slice_index_or, ℤ, pos, neg_ℤ, ◌*ℤ◌, unsigned_abs}
 use Rattle.std.proofs.lemmas.Int.{unsigned_abs-mul}
 use Rattle.std.proofs.lemmas.Nat.{mul-le}
 use Rattle.spec_intervals.specs.Fraction.{fraction}
 use Rattle.spec_chebyshev.specs.Rows.{u_row, u_unit}
 use Rattle.spec_models.specs.Models.{Covers, IsNear, Model, coefficient, constant, model, multiplied, sizes}
-use Rattle.spec_models.proofs.Coefficients.{coefficient-multiplied, same-lists}
+use Rattle.spec_models.proofs.Coefficients.{coefficient-multiplied, same-lists, zeros-same}
 use Rattle.spec_models.proofs.Lists.{length-multiplied}
 use Rattle.spec_models.proofs.Made.{near-multiplied}
 use Rattle.spec_covers.specs.Combining.{RepeatsTo}
@@ -29,19 +29,10 @@ later_entry l k rows made two entries next = λ p q x argument arguments double.
     (entries (k - 2) (omega (arith, two)) p q x argument arguments double))
 
 -- ---- 0
-no_number : (n k : ℕ) → coefficient (replicate n (pos 0)) k ≡ pos 0
-no_number zero k = refl
-no_number (suc n) zero = refl
-no_number (suc n) (suc k) = no_number n k
-
-none_same : (k : ℕ) → coefficient (pos 0 ∷ []) k ≡ coefficient (replicate terms (pos 0)) k
-none_same zero = sym (no_number terms 0)
-none_same (suc k) = sym (no_number terms (suc k))
-
 pub entry_none : (l : Line) (k : ℕ) (made : RowModel) → k ≡ 0 → IsNothing made → IsEntrySlope l k made
 entry_none l k made first is = subst (λ j. IsEntrySlope l j made) (sym first) (λ p q x argument arguments double.
     covers_like p q argument (constant (pos 0) 0 (neg_ℤ (pos unit))) made.coefficients made.error (neg_ℤ (pos unit))
-    (λ k. none_same k ∙ λ i. coefficient (sym is.numbers i) k) (omega arith) refl _
+    (λ k. zeros-same terms k ∙ λ i. coefficient (sym is.numbers i) k) (omega arith) refl _
     (Covers-zero p q argument (neg_ℤ (pos unit)) (neg_ℤ (pos u_unit)) 0))
 
 -- ---- k times an entry

@@ -4,13 +4,13 @@ use Rattle.std.proofs.lemmas.Int.{ints}
 use Rattle.std.proofs.lemmas.Bool.{cases_lt}
 use Rattle.std.proofs.lemmas.List.Elements.{All-get_or}
 use Rattle.spec_ephemeris.specs.declared.granule.Rounded.{Rounded}
-use Rattle.cheby_enclose.specs.Pairs.{ArePairs, IsPair, term_of}
+use Rattle.spec_motions.specs.Pairs.{ArePairs, IsPair, term_of}
 use Rattle.spec_intervals.specs.Interval.{distance_exponent}
 use Rattle.spec_chebyshev.specs.declared.ends.Ival62.{Ival62}
 use Rattle.spec_chebyshev.specs.Differences.{IsArgument}
 use Rattle.spec_motions.specs.Enclosures.{sum_exponent}
 use Rattle.spec_models.specs.Models.{Covers, Model, added, coefficient, constant, convolved, product_model, sizes, sum_model}
-use Rattle.spec_models.proofs.Coefficients.{coefficient-added}
+use Rattle.spec_models.proofs.Coefficients.{coefficient-added, zeros-same, coefficient-zeros}
 use Rattle.spec_models.proofs.Made.{near-product, near-sum}
 use Rattle.spec_covers.specs.Combining.{AddsTo, MultipliesTo}
 use Rattle.spec_covers.specs.Series.{of_entry, sums}
@@ -24,18 +24,9 @@ use Rattle.event_models.proofs.Like.{covers_like}
 use Rattle.event_models.proofs.RowSteps.{alone, past}
 
 -- ---- no coefficient
-no_number : (n k : ℕ) → coefficient (replicate n (pos 0)) k ≡ pos 0
-no_number zero k = refl
-no_number (suc n) zero = refl
-no_number (suc n) (suc k) = no_number n k
-
-none_same : (k : ℕ) → coefficient (pos 0 ∷ []) k ≡ coefficient (replicate terms (pos 0)) k
-none_same zero = sym (no_number terms 0)
-none_same (suc k) = sym (no_number terms (suc k))
-
 pub none_covers : (p q : ℤ) → IsArgument p q → (n : ℕ) (row : ℕ → Ival62) (k : ℕ) → Covers (of_sum no_sum) p q (sums n row k [])
 none_covers p q is n row k =
-    covers_like p q is (constant (pos 0) 0 (sum_exponent unit)) (replicate terms (pos 0)) 0 (sum_exponent unit) none_same (omega arith) refl _
+    covers_like p q is (constant (pos 0) 0 (sum_exponent unit)) (replicate terms (pos 0)) 0 (sum_exponent unit) (zeros-same terms) (omega arith) refl _
     (Covers-zero p q is (sum_exponent unit) (sum_exponent n) 0)
 
 -- ---- one more
@@ -105,13 +96,19 @@ drop_at [] k d h = absurd (omega (arith, h))
 drop_at (x ∷ xs) zero d h = refl
 drop_at (x ∷ xs) (suc k) d h = drop_at xs k d (omega (arith, h))
 
-pub sum_before : (pairs : List Rounded) (rows : List RowModel) (k size : ℕ) (w made : Wide) (d : Rounded) → ArePairs pairs → AreSumRows (length pairs) rows → k < length pairs
+sum_before : (pairs : List Rounded) (rows : List RowModel) (k size : ℕ) (w made : Wide) (d : Rounded) → ArePairs pairs → AreSumRows (length pairs) rows → k < length pairs
     → IsWideWithin size w → (slice_index_or pairs k d).hi ≤ℤ ((slice_index_or pairs k d).lo +ℤ pos 1)
     → IsAdded (slice_index_or pairs k d).lo (slice_index_or rows k no_row) w made → IsSumFrom pairs rows (suc k) w → IsSumFrom pairs rows k made
 sum_before pairs rows k size w made d are small below within narrow added rest = λ n p q row argument entries.
     let pair = All-get_or IsPair pairs k d below are.pairs in
     subst (λ (cs : List Rounded). Covers (of_sum made) p q (sums n row k (map term_of cs))) (sym (drop_at pairs k d below))
     (one_covers (term_of (slice_index_or pairs k d)) (slice_index_or rows k no_row) w made size (small k below) within added pair.ordered narrow n p q argument row k (map term_of (drop (suc k) pairs)) (entries k below) (rest n p q row argument entries))
+
+pub sum_next : (pairs : List Rounded) (rows : List RowModel) (k n size : ℕ) (w made : Wide) (d : Rounded) → k ≡ n → ArePairs pairs → AreSumRows (length pairs) rows → k < length pairs
+    → IsWideWithin size w → (slice_index_or pairs k d).hi ≤ℤ ((slice_index_or pairs k d).lo +ℤ pos 1)
+    → IsAdded (slice_index_or pairs k d).lo (slice_index_or rows k no_row) w made → IsSumFrom pairs rows (suc k) w → IsSumFrom pairs rows n made
+sum_next pairs rows k n size w made d same are small below within narrow added rest =
+    subst (λ (m : ℕ). IsSumFrom pairs rows m made) same (sum_before pairs rows k size w made d are small below within narrow added rest)
 
 -- ---- of none, and of fewer
 drop_all : (xs : List Rounded) (n : ℕ) → length xs ≤ n → drop n xs ≡ []
@@ -132,7 +129,7 @@ pub none_all : (pairs : List Rounded) (rows : List RowModel) → IsStart pairs r
 none_all pairs rows = record {
   within = record {
     terms_there = length_none terms;
-    small = λ k below. let e = no_number terms k in rw e (omega arith);
+    small = λ k below. let e = coefficient-zeros terms k in rw e (omega arith);
     error = omega arith;
   };
   covers = λ n p q row is entries. subst (λ (cs : List Rounded). Covers (of_sum no_sum) p q (sums n row (length pairs - 0) (map term_of cs))) (sym (drop_all pairs (length pairs - 0) (omega arith))) (none_covers p q is n row (length pairs - 0));

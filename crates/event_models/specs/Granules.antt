@@ -1,5 +1,5 @@
 -- The rows of the granules of columns over some times, and the models of sums with them.
-use Rattle.std.specs.Prelude.{◌≡◌, ℕ, ◌^◌, ◌≤◌, ℤ, pos, ◌+ℤ◌, ◌-ℤ◌, ◌*ℤ◌, ◌≤ℤ◌, unsigned_abs, Option}
+use Rattle.std.specs.Prelude.{◌≡◌, ℕ, ◌^◌, ◌≤◌, ℤ, pos, ◌+ℤ◌, ◌-ℤ◌, ◌*ℤ◌, ◌≤ℤ◌, unsigned_abs, Option, IfSome}
 use Rattle.spec_numbers.specs.Numbers.{floor_div}
 use Rattle.spec_chebyshev.specs.declared.ends.Ival62.{Ival62}
 use Rattle.spec_chebyshev.specs.Differences.{IsArgument}
@@ -66,6 +66,10 @@ pub record IsServed (g : Granule) (r : RowRoom) : Type 0 where
 -- ---- a model of the sum of a series at each time, and of its value
 abbrev pub IsSumModel : Quantity → ℤ → ℤ → Series → Model → Type 0
 IsSumModel quantity c d s m = (t : ℤ) → c ≤ℤ t → t ≤ℤ d → Covers m (argument c d t) (d -ℤ c) (value_sum quantity s t)
+
+-- of an axis of a granule, where one is made
+abbrev pub AreAxisSums : Quantity → ℤ → ℤ → Granule → ℕ → Option Model → Type 0
+AreAxisSums quantity c d g axis made = IfSome made (IsSumModel quantity c d (series_of g axis))
 
 -- it covers a value wherever another covers its sum
 abbrev pub IsValueOf : Quantity → Series → Model → Model → Type 0

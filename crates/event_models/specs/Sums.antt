@@ -7,7 +7,7 @@ use Rattle.event_models.specs.declared.sums.Wide.{Wide}
 use Rattle.spec_chebyshev.specs.declared.ends.Ival62.{Ival62}
 use Rattle.spec_chebyshev.specs.Differences.{IsArgument}
 use Rattle.spec_ephemeris.specs.declared.granule.Rounded.{Rounded}
-use Rattle.cheby_enclose.specs.Pairs.{term_of}
+use Rattle.spec_motions.specs.Pairs.{term_of}
 use Rattle.spec_covers.specs.Series.{sums}
 use Rattle.event_models.specs.Rows.{AreEntries, terms, unit}
 
@@ -18,10 +18,14 @@ of_sum w = model w.coefficients w.error (sum_exponent unit)
 abbrev pub no_sum : Wide
 no_sum = record { coefficients = replicate terms (pos 0); error = 0 }
 
+-- the first coefficients are at most so large
+abbrev pub AreNumbersWithin : ℕ → List ℤ → Type 0
+AreNumbersWithin limit xs = (k : ℕ) → k < terms → unsigned_abs (slice_index_or xs k (pos 0)) ≤ limit
+
 -- so many products of numbers of a coefficient and an entry
 pub record IsWideWithin (count : ℕ) (w : Wide) : Type 0 where
   pub terms_there : length w.coefficients ≡ terms
-  pub small : (k : ℕ) → k < terms → unsigned_abs (slice_index_or w.coefficients k (pos 0)) ≤ count * 2 ^ 120
+  pub small : AreNumbersWithin (count * 2 ^ 120) w.coefficients
   pub error : w.error ≤ count * 2 ^ 121
 
 -- ---- with a coefficient that is z or lies between z and the next number

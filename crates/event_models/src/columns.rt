@@ -1,9 +1,9 @@
 // Models of the coordinates of columns.
-ghost use Rattle.std.specs.Prelude.{◌≡◌, ◌<◌, ◌≤◌, ℕ, ℤ};
+ghost use Rattle.std.specs.Prelude.{◌≡◌, ◌<◌, ℕ, ℤ, length};
 ghost use Rattle.spec_ephemeris.specs.Granules.{series_at, series_of};
 ghost use Rattle.spec_bodies.specs.declared.quantity.Quantity.{Quantity as QuantityOf};
 ghost use Rattle.spec_bodies.specs.Reading.{IsUsable};
-ghost use Rattle.spec_bodies.specs.Views.{Fits, View};
+ghost use Rattle.spec_bodies.specs.Views.{Fits, View, columns_of};
 ghost use Rattle.event_models.specs.Covered.{IsIfMade};
 ghost use Rattle.event_models.specs.Columns.{AreColumns, IsEntry, column_at};
 ghost use Rattle.event_models.specs.Granules.{AreMade, IsAxisModel, IsGranuleOver, IsServed};
@@ -84,7 +84,8 @@ impl ColumnModels {
     }
 }
 
-// Writes the models of the first columns in use. The row of the first column's granules is kept, and one other.
+// Writes the models of the first columns in use. Columns whose granules begin and end together are written one after the
+// other, by one row.
 fn write_columns(
     states: &BodyStates,
     ephemeris: &Ephemeris,
@@ -99,73 +100,68 @@ fn write_columns(
     ensures { AreColumns states.now quantity times.now.first times.now.last columns.new }
 {
     let numbers = states.columns();
-    let entries = most_entries(states, ephemeris, times);
-    let mut first = RowRoom::new();
-    let mut other = RowRoom::new();
+    let mut room = RowRoom::new();
     for place in 0..numbers.len().min(KEPT_COLUMNS) {
-        columns[place] = column_entry(
-            states,
-            ephemeris,
-            numbers[place],
-            times,
-            quantity,
-            axes,
-            entries,
-            &mut first,
-            &mut other,
+        if columns[place].number == 0 {
+            write_group(
+                states, ephemeris, times, quantity, axes, place, &mut room, columns,
+            );
+        }
+    }
+}
+
+// Makes the row of a column in use, and writes the models of that column and of those after it that the row serves.
+fn write_group(
+    states: &BodyStates,
+    ephemeris: &Ephemeris,
+    times: &ModelTimes,
+    quantity: Quantity,
+    axes: Axes,
+    place: usize,
+    room: &mut RowRoom,
+    columns: &mut [ColumnEntry; KEPT_COLUMNS],
+)
+    requires same { states.now.ephemeris ≡ ephemeris.now }
+    requires fits { Fits states.now times.now.first times.now.last }
+    requires place { place < length (columns_of states.now) }
+    requires columns { AreColumns states.now quantity times.now.first times.now.last columns.old }
+    ensures columns { AreColumns states.now quantity times.now.first times.now.last columns.new }
+    ensures count { length columns.new ≡ 4 }
+{
+    let numbers = states.columns();
+    let granule = granule_of(states, ephemeris, numbers[place], times);
+    room.make(&granule, times, quantity);
+    for later in place..numbers.len().min(KEPT_COLUMNS) {
+        let number = numbers[later];
+        let column = &mut columns[later];
+        write_served(
+            states, ephemeris, number, times, quantity, axes, room, column,
         );
     }
 }
 
-// The models of a column in use, by the rows of one of two rooms.
-fn column_entry(
+// Writes the models of a column in use, where a row serves it.
+fn write_served(
     states: &BodyStates,
     ephemeris: &Ephemeris,
     number: usize,
     times: &ModelTimes,
     quantity: Quantity,
     axes: Axes,
-    entries: usize,
-    first: &mut RowRoom,
-    other: &mut RowRoom,
-) -> ColumnEntry
+    room: &RowRoom,
+    column: &mut ColumnEntry,
+)
     requires same { states.now.ephemeris ≡ ephemeris.now }
     requires fits { Fits states.now times.now.first times.now.last }
     requires usable { IsUsable states.now number }
-    requires few { entries ≤ 32 }
-    requires first { AreMade quantity times.now.first times.now.last first.old }
-    requires other { AreMade quantity times.now.first times.now.last other.old }
-    ensures first { AreMade quantity times.now.first times.now.last first.new }
-    ensures other { AreMade quantity times.now.first times.now.last other.new }
-    ensures entry { IsEntry states.now quantity times.now.first times.now.last result }
+    requires made { AreMade quantity times.now.first times.now.last room.now }
+    requires column { IsEntry states.now quantity times.now.first times.now.last column.old }
+    ensures { IsEntry states.now quantity times.now.first times.now.last column.new }
 {
     let granule = granule_of(states, ephemeris, number, times);
-    if is_for(first, &granule) {
-        first.turn_to(&granule, times, quantity, entries);
-        entry(number, &granule, times, quantity, axes, first)
-    } else {
-        other.turn_to(&granule, times, quantity, entries);
-        entry(number, &granule, times, quantity, axes, other)
+    if room.serves(&granule) {
+        *column = entry(number, &granule, times, quantity, axes, room);
     }
-}
-
-// Whether room is that of a granule, or nothing is made in it.
-fn is_for(room: &RowRoom, granule: &Granule) -> bool {
-    room.entries == 0 || room.serves(granule)
-}
-
-// The most coefficients of a granule of the first columns in use.
-fn most_entries(states: &BodyStates, ephemeris: &Ephemeris, times: &ModelTimes) -> usize
-    requires same { states.now.ephemeris ≡ ephemeris.now }
-    requires fits { Fits states.now times.now.first times.now.last }
-    ensures { result ≤ 32 }
-{
-    let numbers = states.columns();
-    let mut most = 0;
-    for place in 0..numbers.len().min(KEPT_COLUMNS) {
-        most = most.max(granule_of(states, ephemeris, numbers[place], times).n);
-    }
-    most
 }
 
 // The models of a column along the wanted axes.

@@ -1,5 +1,5 @@
 // The row of U, and that of its multiples, over which velocities are summed.
-ghost use Rattle.std.specs.Prelude.{◌≤◌, ◌<◌};
+ghost use Rattle.std.specs.Prelude.{◌≤◌, ◌<◌, ◌-◌};
 ghost use Rattle.event_models.specs.Rows.{AreRows, AreSumRows, IsLine, IsRow, IsSumRow};
 ghost use Rattle.event_models.specs.Slopes.{AreEntriesSlope, AreEntriesU, IsEntrySlope, IsEntryU};
 
@@ -10,26 +10,37 @@ use crate::starts::{first_row, second_u, sized};
 /// 1, in units of 2^-42.
 const ONE: u64 = 1 << 42;
 
-/// Makes the first `n` entries of the row of k U_(k-1), of which the first is 0.
+/// Makes the first `n` entries of the row of k U_(k-1), of which the first is 0: those of U, which are then replaced.
 pub(crate) fn fill_slopes(line: &Line, n: usize, rows: &mut [RowModel; ENTRIES])
     requires line { IsLine line.now }
+    requires some { 1 ≤ n }
     requires few { n ≤ 32 }
     ensures rows { AreSumRows n rows.new }
     ensures entries { AreEntriesSlope line.now n rows.new }
 {
-    let mut entries = [no_entry(); ENTRIES];
-    fill_u(line, n, &mut entries);
-    for k in 0..n {
-        rows[k] = entry_slope(line, &entries, n, k);
+    fill_u(line, n - 1, rows);
+    turn_slopes(line, n, rows);
+}
+
+// Replaces entries of U by those of the row of their multiples, from the last to the first.
+fn turn_slopes(line: &Line, n: usize, rows: &mut [RowModel; ENTRIES])
+    requires few { n ≤ 32 }
+    requires rows { AreRows (n - 1) rows.old }
+    requires entries { AreEntriesU line.now (n - 1) rows.old }
+    ensures rows { AreSumRows n rows.new }
+    ensures entries { AreEntriesSlope line.now n rows.new }
+{
+    for i in 0..n {
+        let k = n - 1 - i;
+        rows[k] = entry_slope(line, rows, k);
     }
 }
 
 // An entry of it, from those of U.
-fn entry_slope(line: &Line, entries: &[RowModel; ENTRIES], n: usize, k: usize) -> RowModel
-    requires few { n ≤ 32 }
-    requires place { k < n }
-    requires rows { AreRows n entries.now }
-    requires entries { AreEntriesU line.now n entries.now }
+fn entry_slope(line: &Line, entries: &[RowModel; ENTRIES], k: usize) -> RowModel
+    requires few { k < 32 }
+    requires rows { AreRows k entries.now }
+    requires entries { AreEntriesU line.now k entries.now }
     ensures row { IsSumRow result }
     ensures entry { IsEntrySlope line.now k result }
 {

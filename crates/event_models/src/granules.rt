@@ -5,7 +5,7 @@ ghost use Rattle.spec_motions.specs.Enclosures.{coefficients_of};
 ghost use Rattle.spec_motions.specs.Granules.{IsEvaluable};
 ghost use Rattle.spec_bodies.specs.Reading.{IsUsable};
 ghost use Rattle.spec_bodies.specs.Views.{Fits};
-ghost use Rattle.cheby_enclose.specs.Pairs.{ArePairs, term_of};
+ghost use Rattle.spec_motions.specs.Pairs.{ArePairs, term_of};
 ghost use Rattle.event_models.specs.Granules.{IsGranuleOver};
 
 use crate::times::ModelTimes;

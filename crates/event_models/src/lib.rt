@@ -4,6 +4,7 @@
 //! formula, where one can be made. No call allocates.
 #![tactic(auto)]
 
+mod by_steps;
 mod columns;
 mod coordinates;
 mod covering;
@@ -22,4 +23,5 @@ mod terms;
 mod times;
 mod values;
 
+pub use by_steps::model_by_steps;
 pub use terms::model_over;

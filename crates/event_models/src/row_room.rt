@@ -1,5 +1,5 @@
 // Room for the row of a quantity, which all columns share whose granules begin and end together.
-ghost use Rattle.std.specs.Prelude.{◌≡◌, ◌≤◌, IsTrue};
+ghost use Rattle.std.specs.Prelude.{◌≡◌, IsTrue};
 ghost use Rattle.event_models.specs.Granules.{AreMade, IsGranuleOver, IsServed};
 
 use crate::filling::fill_t;
@@ -46,46 +46,19 @@ impl RowRoom {
         granule.start == self.start && granule.seconds == self.seconds && granule.n <= self.entries
     }
 
-    /// Makes the row of a granule with some number of entries.
-    pub fn make(
-        &mut self,
-        granule: &Granule,
-        times: &ModelTimes,
-        quantity: Quantity,
-        entries: usize,
-    )
+    /// Makes the row of a granule, with as many entries as that has coefficients.
+    pub fn make(&mut self, granule: &Granule, times: &ModelTimes, quantity: Quantity)
         requires granule { IsGranuleOver times.now.first times.now.last granule.now }
-        requires enough { granule.now.n ≤ entries }
-        requires few { entries ≤ 32 }
         ensures made { AreMade quantity times.now.first times.now.last self.new }
         ensures served { IsServed granule.now self.new }
     {
         let line = line_of(granule, times);
         self.start = granule.start;
         self.seconds = granule.seconds;
-        self.entries = entries;
+        self.entries = granule.n;
         match quantity {
-            Quantity::Position => fill_t(&line, entries, &mut self.rows),
-            Quantity::Velocity => fill_slopes(&line, entries, &mut self.rows),
-        }
-    }
-
-    /// Makes the row of a granule where there is another.
-    pub fn turn_to(
-        &mut self,
-        granule: &Granule,
-        times: &ModelTimes,
-        quantity: Quantity,
-        entries: usize,
-    )
-        requires granule { IsGranuleOver times.now.first times.now.last granule.now }
-        requires few { entries ≤ 32 }
-        requires made { AreMade quantity times.now.first times.now.last self.old }
-        ensures made { AreMade quantity times.now.first times.now.last self.new }
-        ensures served { IsServed granule.now self.new }
-    {
-        if !self.serves(granule) {
-            self.make(granule, times, quantity, entries.max(granule.n));
+            Quantity::Position => fill_t(&line, granule.n, &mut self.rows),
+            Quantity::Velocity => fill_slopes(&line, granule.n, &mut self.rows),
         }
     }
 }

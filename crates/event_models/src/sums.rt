@@ -1,8 +1,8 @@
 // Sums of coefficients times the models of the entries of a row.
 ghost use Rattle.std.specs.Prelude.{◌≡◌, ◌≤◌, ◌<◌, ◌+◌, ◌*◌, ◌^◌, ◌-◌, ℕ, length, slice_index_or, pos, ◌+ℤ◌, ◌*ℤ◌, ◌≤ℤ◌, IfSome, false, unsigned_abs};
-ghost use Rattle.cheby_enclose.specs.Pairs.{ArePairs, IsPair};
+ghost use Rattle.spec_motions.specs.Pairs.{ArePairs, IsPair};
 ghost use Rattle.event_models.specs.Rows.{AreSumRows, IsSumRow, sum_limit, terms};
-ghost use Rattle.event_models.specs.Sums.{IsAdded, IsSumOf, IsWideWithin, added_error, added_number, no_sum};
+ghost use Rattle.event_models.specs.Sums.{AreNumbersWithin, IsAdded, IsSumOf, IsWideWithin, added_error, added_number, no_sum};
 
 use crate::rows::{ENTRIES, RowModel};
 use span_models::TERMS;
@@ -15,8 +15,8 @@ pub(crate) struct Wide {
     pub error: u128,
 }
 
-/// The sum of coefficients from a place on times the entries of a row. None is made where a coefficient does not lie between two
-/// numbers next to each other.
+/// The sum of coefficients from a place on times the entries of a row. None is made where a coefficient does not lie between
+/// two numbers next to each other.
 pub(crate) fn sum_of(pairs: &[Rounded], rows: &[RowModel; ENTRIES], from: usize) -> Option<Wide>
     requires pairs { ArePairs pairs.now }
     requires rows { AreSumRows (length pairs.now) rows.now }
@@ -30,7 +30,7 @@ pub(crate) fn sum_of(pairs: &[Rounded], rows: &[RowModel; ENTRIES], from: usize)
         if is_wide(pairs[k]) {
             return None;
         }
-        wide = wide.plus(pairs[k], &rows[k], i);
+        wide.add(pairs[k], &rows[k], i);
     }
     Some(wide)
 }
@@ -54,39 +54,36 @@ impl Wide {
         }
     }
 
-    /// The sum with a coefficient times an entry, where the coefficient is a number or lies between two next to each other.
-    pub fn plus(&self, pair: Rounded, row: &RowModel, count: usize) -> Wide
+    /// Adds a coefficient times an entry, where the coefficient is a number or lies between two next to each other.
+    pub fn add(&mut self, pair: Rounded, row: &RowModel, count: usize)
         requires few { count < 32 }
-        requires within { IsWideWithin count self.now }
+        requires within { IsWideWithin count self.old }
         requires row { IsSumRow row.now }
         requires pair { unsigned_abs pair.lo ≤ 2 ^ 60 }
-        ensures added { IsAdded pair.lo row.now self.now result }
-        ensures within { IsWideWithin (count + 1) result }
+        ensures added { IsAdded pair.lo row.now self.old self.new }
+        ensures within { IsWideWithin (count + 1) self.new }
     {
-        Wide {
-            coefficients: sums(self, pair.lo, row, count),
-            error: sum_error(self.error, pair.lo, row, count),
-        }
+        add_numbers(&mut self.coefficients, pair.lo, row, count);
+        self.error = sum_error(self.error, pair.lo, row, count);
     }
 }
 
-// The coefficients of the sum.
-fn sums(wide: &Wide, low: i64, row: &RowModel, count: usize) -> [i128; TERMS]
+// Adds a coefficient times those of an entry to those of the sum.
+#[inline(always)]
+fn add_numbers(numbers: &mut [i128; TERMS], low: i64, row: &RowModel, count: usize)
     requires few { count < 32 }
-    requires within { IsWideWithin count wide.now }
+    requires length { length numbers.old ≡ terms }
+    requires within { AreNumbersWithin (count * 2 ^ 120) numbers.old }
     requires row { IsSumRow row.now }
     requires low { unsigned_abs low ≤ 2 ^ 60 }
-    ensures count { length result ≡ terms }
-    ensures numbers { (k : ℕ) → k < terms → slice_index_or result k (pos 0)
-        ≡ added_number low row.now.coefficients wide.now.coefficients k }
-    ensures small { (k : ℕ) → k < terms
-        → unsigned_abs (slice_index_or result k (pos 0)) ≤ (count + 1) * 2 ^ 120 }
+    ensures length { length numbers.new ≡ terms }
+    ensures numbers { (k : ℕ) → k < terms → slice_index_or numbers.new k (pos 0)
+        ≡ added_number low row.now.coefficients numbers.old k }
+    ensures small { AreNumbersWithin ((count + 1) * 2 ^ 120) numbers.new }
 {
-    let mut numbers = [0; TERMS];
     for k in 0..TERMS {
-        numbers[k] = sum(wide.coefficients[k], low, row.coefficients[k], count);
+        numbers[k] = sum(numbers[k], low, row.coefficients[k], count);
     }
-    numbers
 }
 
 // `own + low entry`.
@@ -114,6 +111,7 @@ fn times(low: i64, entry: i64) -> i128
 }
 
 // The error of the sum.
+#[inline(always)]
 fn sum_error(own: u128, low: i64, row: &RowModel, count: usize) -> u128
     requires few { count < 32 }
     requires own { own ≤ count * 2 ^ 121 }

@@ -79,7 +79,7 @@ fn both(
 
 impl<'s, 'e> Span<'s, 'e> {
     // The coordinates that are wanted, each made once.
-    fn new(
+    pub(crate) fn new(
         states: &'s BodyStates<'e>,
         ephemeris: &Ephemeris,
         times: ModelTimes,
@@ -118,7 +118,7 @@ impl<'s, 'e> Span<'s, 'e> {
     }
 
     // The model of a coordinate of a target.
-    fn coordinate(&self, quantity: Quantity, target: u8, axis: u8) -> Option<Model>
+    pub(crate) fn coordinate(&self, quantity: Quantity, target: u8, axis: u8) -> Option<Model>
         requires target { target < 2 }
         requires axis { axis < 3 }
         ensures { result ≡ model_along (models_of self.now quantity target) axis }

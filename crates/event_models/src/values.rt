@@ -1,12 +1,11 @@
 // Models of positions and velocities, from those of their sums.
 ghost use Rattle.std.specs.Prelude.{◌≡◌, ◌<◌, ◌≤◌, ◌+◌, ◌*◌, ◌/◌, ◌^◌, ℕ, pos, ◌+ℤ◌, ◌≤ℤ◌, unsigned_abs, IfSome};
 ghost use Rattle.spec_chebyshev.specs.Rows.{u_unit};
-ghost use Rattle.spec_ephemeris.specs.Granules.{series_of};
 ghost use Rattle.spec_ephemeris.specs.Series.{Series};
 ghost use Rattle.spec_motions.specs.Enclosures.{IsSeries, sum_exponent};
 ghost use Rattle.spec_bodies.specs.declared.quantity.Quantity.TheVariants.{Position, Velocity};
 ghost use Rattle.spec_covers.specs.Combining.{IsUpto, ScalesTo, scaled_loss};
-ghost use Rattle.event_models.specs.Granules.{AreMade, IsAxisModel, IsGranuleOver, IsServed, IsSumModel, IsValueOf, first_place};
+ghost use Rattle.event_models.specs.Granules.{AreAxisSums, AreMade, IsAxisModel, IsGranuleOver, IsServed, IsValueOf, first_place};
 
 use crate::granules::axis_pairs;
 use crate::row_room::RowRoom;
@@ -56,7 +55,7 @@ fn sum_model(
     requires axis { axis < 3 }
     requires made { AreMade quantity times.now.first times.now.last room.now }
     requires served { IsServed granule.now room.now }
-    ensures { IfSome result (IsSumModel quantity times.now.first times.now.last (series_of granule.now axis)) }
+    ensures { AreAxisSums quantity times.now.first times.now.last granule.now axis result }
 {
     let pairs = axis_pairs(granule, axis);
     let wide = sum_of(pairs, &room.rows, place_of(quantity))?;

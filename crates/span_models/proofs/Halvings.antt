@@ -1,12 +1,12 @@
 -- How often a number is halved, and what is left of it.
-use Rattle.std.proofs.Common.{◌≡◌, ◌∙◌, ℕ, zero, suc, ◌+◌, ◌-◌, ◌*◌, ◌/◌, ◌^◌, ◌<◌, ◌≤◌, ◌⊎◌, inl, inr, min, arith, refl, sym, ap, ℤ, pos, negsuc, ◌+ℤ◌, unsigned_abs, to_z, of_z, w64}
+use Rattle.std.proofs.Common.{◌≡◌, ◌∙◌, ℕ, zero, suc, ◌+◌, ◌-◌, ◌*◌, ◌/◌, ◌^◌, ◌<◌, ◌≤◌, ◌⊎◌, inl, inr, min, arith, refl, ap, ℤ, pos, ◌+ℤ◌, unsigned_abs, to_z, of_z, w64}
 use Rattle.std.proofs.lemmas.Int.{ints}
 use Rattle.std.proofs.lemmas.Bool.{cases_lt}
 use Rattle.std.proofs.lemmas.Nat.{pow-add, pow_pos}
-use Rattle.std.proofs.Math.Nat.{div-eq_of_lt, pow-le-pow_right}
+use Rattle.std.proofs.Math.Nat.{pow-le-pow_right}
 use mir.Syntax.{w128}
 use Rattle.spec_numbers.specs.Numbers.{floor_div}
-use Rattle.spec_numbers.proofs.Floor.{floor_div-small}
+use Rattle.spec_numbers.proofs.Floor.{floor_div-small, capped_shift}
 use Rattle.span_models.specs.Sizes.{settled_limit, terms}
 use Rattle.span_models.specs.Settled.{raised_error}
 
@@ -33,32 +33,8 @@ module _ (z : ℤ) (k : ℕ) (small : unsigned_abs z ≤ settled_limit * 2 ^ k) 
   left_kept = let b = left in omega (arith, ints, b)
 
 -- ---- a shift by a large count, capped
-floor_div-past : (z : ℤ) (d e : ℕ) → unsigned_abs z ≤ 2 ^ 62 → 2 ^ 63 ≤ d → 2 ^ 63 ≤ e → floor_div z d ≡ floor_div z e
-floor_div-past (pos n) d e h p q =
-    let a : n / d ≡ 0 = div-eq_of_lt (omega arith) in
-    let b : n / e ≡ 0 = div-eq_of_lt (omega arith) in
-    ap pos (a ∙ sym b)
-floor_div-past (negsuc n) d e h p q =
-    let a : n / d ≡ 0 = div-eq_of_lt (omega arith) in
-    let b : n / e ≡ 0 = div-eq_of_lt (omega arith) in
-    ap negsuc (a ∙ sym b)
-
-pub capped_shift : (z : ℤ) (k m : ℕ) → unsigned_abs z ≤ 2 ^ 62 → m ≡ min k 63 → floor_div z (2 ^ m) ≡ floor_div z (2 ^ k)
-capped_shift z k m h e = by (cases_lt k 63)
-  where
-    by : (k < 63) ⊎ (63 ≤ k) → floor_div z (2 ^ m) ≡ floor_div z (2 ^ k)
-    by (inl r) = let f : m ≡ k = omega arith in ap (λ n. floor_div z (2 ^ n)) f
-    by (inr r) = let f : m ≡ 63 = omega arith in let p : 2 ^ 63 ≤ 2 ^ k = pow-le-pow_right (omega arith) r in ap (λ n. floor_div z (2 ^ n)) f ∙ floor_div-past z (2 ^ 63) (2 ^ k) h (omega arith) p
-
 pub capped_division : (e k m : ℕ) → e ≤ 2 ^ 62 → m ≡ min k 63 → e / 2 ^ m ≡ e / 2 ^ k
 capped_division e k m h is = ap unsigned_abs (capped_shift (pos e) k m h is)
-
-pub shift_small : (z : ℤ) (k limit : ℕ) → unsigned_abs z ≤ limit → unsigned_abs (floor_div z (2 ^ k)) ≤ limit
-shift_small z k limit h = floor_div-small z (2 ^ k) limit (pow_pos k) (wider (2 ^ k) (pow_pos k))
-  where
-    wider : (d : ℕ) → 0 < d → unsigned_abs z ≤ limit * d
-    wider zero p = absurd (omega arith)
-    wider (suc d) p = omega arith
 
 pub two_kept : (f b : ℤ) → unsigned_abs f ≤ 2 ^ 60 → unsigned_abs b ≤ 2 ^ 60 → to_z w128 (of_z w128 (to_z w64 (of_z w64 (to_z w64 (of_z w64 f) +ℤ to_z w64 (of_z w64 b))))) ≡ f +ℤ b
 two_kept f b p q = omega (arith, ints)

@@ -4,6 +4,7 @@ mod Exponents
 mod Lifting
 mod NearMultiples
 mod NearProducts
+mod NearConstants
 mod NearSums
 mod NearMargins
 mod NearTangents

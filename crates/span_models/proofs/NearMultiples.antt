@@ -2,12 +2,13 @@
 use Rattle.std.proofs.Common.{◌≡◌, ◌∙◌, ℕ, zero, suc, ◌*◌, ◌^◌, arith, refl, sym, subst, Option, IfSome, List, [], ◌∷◌, ℤ, pos, ◌+ℤ◌, ◌-ℤ◌, ◌*ℤ◌, ◌≤ℤ◌, unsigned_abs}
 use Rattle.std.proofs.lemmas.Nat.{pow_pos}
 use Rattle.std.proofs.lemmas.Option.{IfSome_then}
-use borrow.Author.Differences.{up, down}
-use Rattle.spec_numbers.proofs.Order.{lin, le-mul}
+use borrow.Author.Differences.{down}
+use Rattle.spec_numbers.proofs.Order.{lin}
 use Rattle.spec_intervals.specs.Interval.{Interval}
 use Rattle.spec_intervals.specs.Fraction.{Fraction, IsFraction, fraction, fraction_mul}
 use Rattle.spec_chebyshev.specs.Differences.{IsArgument}
 use Rattle.spec_roundings.specs.Ends.{NoMore, in_units}
+use Rattle.spec_roundings.proofs.Ordered.{more_units}
 use Rattle.spec_models.specs.Models.{Covers, Model, IsNear, coefficient, constant, lowered, model, multiplied}
 use Rattle.span_models.specs.Settled.{Reaches}
 use Rattle.span_models.specs.Making.{IsMiddle}
@@ -40,15 +41,11 @@ module _ (similar : (p q : ℤ) → IsArgument p q → (m : Model) (ys : List �
   same_constant a (suc zero) = refl
   same_constant a (suc (suc k)) = refl
 
-  units_in_order : (a b s : ℤ) → a ≤ℤ b → NoMore (in_units a s) (in_units b s)
-  units_in_order a b s h =
-      le-mul (a *ℤ pos (2 ^ up s)) (b *ℤ pos (2 ^ up s)) (pos (2 ^ down s)) (omega (arith, lin)) (le-mul a b (pos (2 ^ up s)) (omega (arith, lin)) h)
-
   -- an end of it
   end_near : ((p q : ℤ) → IsArgument p q → (a : ℤ) (e : ℕ) (s : ℤ) (r : Fraction) → IsFraction r → NoMore (in_units (a -ℤ pos e) s) r → NoMore r (in_units (a +ℤ pos e) s) → IsNear (constant a e s) p q r)
       → (p q : ℤ) → IsArgument p q → (a : ℤ) (e : ℕ) (s z : ℤ) → (a -ℤ pos e) ≤ℤ z → z ≤ℤ (a +ℤ pos e) → IsNear (model (a ∷ pos 0 ∷ []) e s) p q (in_units z s)
   end_near near p q g a e s z above below =
-      similar p q g (constant a e s) (a ∷ pos 0 ∷ []) (in_units z s) (same_constant a) (near p q g a e s (in_units z s) (pow_pos (down s)) (units_in_order (a -ℤ pos e) z s above) (units_in_order z (a +ℤ pos e) s below))
+      similar p q g (constant a e s) (a ∷ pos 0 ∷ []) (in_units z s) (same_constant a) (near p q g a e s (in_units z s) (pow_pos (down s)) (more_units (a -ℤ pos e) z s above) (more_units z (a +ℤ pos e) s below))
 
   pub interval_covered : ((p q : ℤ) → IsArgument p q → (a : ℤ) (e : ℕ) (s : ℤ) (r : Fraction) → IsFraction r → NoMore (in_units (a -ℤ pos e) s) r → NoMore r (in_units (a +ℤ pos e) s) → IsNear (constant a e s) p q r)
       → (x : Interval) (lo hi a : ℤ) (e : ℕ) (b s : ℤ) → IsMiddle lo hi a e → lo ≡ x.lo → hi ≡ x.hi → b ≡ a → s ≡ x.s

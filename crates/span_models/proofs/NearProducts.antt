@@ -5,21 +5,21 @@ use Rattle.std.proofs.lemmas.Option.{IfSome_then}
 use Rattle.spec_intervals.specs.Fraction.{Fraction, fraction_mul}
 use Rattle.spec_chebyshev.specs.Differences.{IsArgument}
 use Rattle.spec_models.specs.Models.{Model, IsNear, model, cut, product_model, convolved, sizes}
+use Rattle.spec_models.proofs.Coefficients.{same-lists, coefficient-convolved}
 use Rattle.span_models.specs.Sizes.{terms, IsSmall}
 use Rattle.span_models.specs.Settled.{Reaches}
 use Rattle.span_models.specs.Columns.{AreColumns, tail_sizes}
 use Rattle.span_models.specs.Near.{IsProductOf}
-use Rattle.span_models.proofs.Convolved.{at-convolved, length-convolved, tail-convolved}
-use Rattle.span_models.proofs.Numbers.{same_lists}
+use Rattle.span_models.proofs.Convolved.{length-convolved, tail-convolved}
 
 -- the first coefficients of a product
 pub first_columns : (xs ys zs : List ℤ) → length xs ≡ terms → length ys ≡ terms → length zs ≡ terms → AreColumns xs ys terms zs → zs ≡ take terms (convolved xs ys)
 first_columns xs ys zs ex ey ez h =
     let enough : terms ≤ length (convolved xs ys) = (let l = length-convolved xs ys (omega (arith, ex)) in omega (arith, l, ey)) in
     let count : length (take terms (convolved xs ys)) ≡ terms = length-take-le terms (convolved xs ys) enough in
-    same_lists zs (take terms (convolved xs ys)) (ez ∙ sym count) (λ k below.
+    same-lists zs (take terms (convolved xs ys)) (ez ∙ sym count) (λ k below.
     let inside : k < terms = omega (arith, below, ez) in
-    h k inside ∙ sym (at-convolved xs ys k) ∙ sym (get_or-take terms (convolved xs ys) k (pos 0) inside))
+    h k inside ∙ sym (coefficient-convolved xs ys k) ∙ sym (get_or-take terms (convolved xs ys) k (pos 0) inside))
 
 module _ (product : (p q : ℤ) → IsArgument p q → (m n : Model) (r z : Fraction) → IsNear m p q r → IsNear n p q z → IsNear (product_model m n) p q (fraction_mul r z))
     (cutting : (p q : ℤ) → IsArgument p q → (n : ℕ) (m : Model) (r : Fraction) → IsNear m p q r → IsNear (cut n m) p q r)

@@ -5,6 +5,7 @@ use Rattle.std.proofs.lemmas.Option.{IfSome_then}
 use Rattle.spec_numbers.proofs.Floor.{floor_div-one}
 use Rattle.spec_numbers.proofs.Ring.{v, ◌⊕◌, ◌⊖◌, ◌⊗◌, minus, ring}
 use Rattle.spec_intervals.specs.Fraction.{Fraction, fraction, fraction_add, fraction_sub}
+use Rattle.spec_intervals.proofs.Sums.{fraction_add-comm}
 use Rattle.spec_chebyshev.specs.Differences.{IsArgument}
 use Rattle.spec_models.specs.Models.{Model, IsNear, model, raised, halved, added, negated, sum_model}
 use Rattle.span_models.specs.Sizes.{terms, IsSmall}
@@ -36,15 +37,8 @@ module _ (raising : (p q : ℤ) → IsArgument p q → (k : ℕ) (m : Model) (r 
       let errors : e ≡ raised_error k m.error + n.error = error ∙ (λ i. raised_error k (ed i) + n.error) in
       subst (λ (l : Model). IsNear l p q (fraction_add r t)) (λ i. model (sym coefficients i) (sym errors i) ((exponent ∙ sym eb) i)) (sums p q g (at_coarser k m) n r t exponent (coarser_near k m count p q r g near_m) near_n)
 
--- sums the other way round
-add_comm : (r t : Fraction) → fraction_add r t ≡ fraction_add t r
-add_comm r t =
-    let e : r.numerator *ℤ pos t.denominator +ℤ t.numerator *ℤ pos r.denominator ≡ t.numerator *ℤ pos r.denominator +ℤ r.numerator *ℤ pos t.denominator = ring (r.numerator ∷ pos t.denominator ∷ t.numerator ∷ pos r.denominator ∷ []) (v 0 ⊗ v 1 ⊕ v 2 ⊗ v 3) (v 2 ⊗ v 3 ⊕ v 0 ⊗ v 1) tt in
-    let f : r.denominator * t.denominator ≡ t.denominator * r.denominator = omega arith in
-    λ i. fraction (e i) (f i)
-
 sum_turned : (k m n : Model) → IsSumOf k m n → IsSumOf k n m
-sum_turned k m n h p q r t g near_n near_m = subst (λ (z : Fraction). IsNear k p q z) (add_comm t r) (h p q t r g near_m near_n)
+sum_turned k m n h p q r t g near_n near_m = subst (λ (z : Fraction). IsNear k p q z) (fraction_add-comm t r) (h p q t r g near_m near_n)
 
 -- a sum with what is negated
 less : (r t : Fraction) → fraction_add r (fraction (neg_ℤ t.numerator) t.denominator) ≡ fraction_sub r t

@@ -4,7 +4,7 @@ use Rattle.spec_models.specs.Models.{Model}
 
 -- how many coefficients a model has
 abbrev pub terms : ℕ
-terms = 12
+terms = 10
 
 -- the greatest size of a coefficient and of an error
 abbrev pub size_limit : ℕ

@@ -7,6 +7,7 @@
 #![tactic(auto)]
 
 mod columns;
+mod constants;
 mod covering;
 mod making;
 mod margin;

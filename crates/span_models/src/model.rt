@@ -5,7 +5,7 @@ ghost use Rattle.spec_models.specs.Models.{model};
 ghost use Rattle.span_models.specs.Sizes.{IsSmall};
 
 /// How many coefficients a model has.
-pub const TERMS: usize = 12;
+pub const TERMS: usize = 10;
 
 /// A polynomial of `u`, from -1 to 1, with a bound of error: coefficients of `u^0`, `u^1`, .., and the error, all in units
 /// of `2^exponent`.

@@ -1,16 +1,17 @@
 // Models made from models.
 
-ghost use Rattle.std.specs.Prelude.{◌≡◌, ◌≤◌, ◌+◌, ◌*◌, ◌^◌, ◌≤ℤ◌, IfSome};
+ghost use Rattle.std.specs.Prelude.{◌≡◌, ◌≤◌, ◌+◌, ◌*◌, ◌^◌, ◌≤ℤ◌, IfSome, unsigned_abs};
 ghost use Rattle.spec_models.specs.Models.{bulk, negated, sizes, widened};
-ghost use Rattle.span_models.specs.Sizes.{terms, IsSmall};
-ghost use Rattle.span_models.specs.Columns.{tail_sizes};
+ghost use Rattle.span_models.specs.Sizes.{size_limit, terms, IsSmall};
+ghost use Rattle.span_models.specs.Columns.{IsConstant, tail_sizes};
 ghost use Rattle.span_models.specs.Near.{IsSumOf, IsDifferenceOf, IsProductOf, IsMultipleOf};
 
 use crate::columns::{columns_of, sizes_of, tail_of};
+use crate::constants::{first_of, is_constant, products_with};
 use crate::model::Model;
 use crate::settling::settled;
 use crate::sums::{coarser_error, exponent_gap, multiples_of, opposite_of, sums_of};
-use spec_models::laws::{changes, multiples, operations};
+use spec_models::laws::{changes, lists, multiples, operations};
 
 /// The greatest error of a model, 2^60.
 const SIZE_LIMIT: u64 = 1 << 60;
@@ -20,11 +21,13 @@ impl Model {
     pub fn product(&self, other: &Model) -> Option<Model>
         ensures { IfSome result (λ m. IsProductOf m self.now other.now) }
     {
-        operations();
-        changes();
-        let wide = columns_of(self.coefficients(), other.coefficients());
-        let error = product_error(self, other);
-        settled(&wide, error, self.exponent() + other.exponent())
+        if is_constant(self.coefficients()) {
+            constant_product(self, other)
+        } else if is_constant(other.coefficients()) {
+            constant_product(other, self)
+        } else {
+            whole_product(self, other)
+        }
     }
 
     /// The sum, if its exponent is not past the limit, at the greater exponent of both.
@@ -85,6 +88,47 @@ impl Model {
             self.exponent(),
         )
     }
+}
+
+// The product, coefficient by coefficient.
+#[inline(always)]
+fn whole_product(m: &Model, n: &Model) -> Option<Model>
+    ensures { IfSome result (λ k. IsProductOf k m.now n.now) }
+{
+    operations();
+    changes();
+    let wide = columns_of(m.coefficients(), n.coefficients());
+    let error = product_error(m, n);
+    settled(&wide, error, m.exponent() + n.exponent())
+}
+
+// The product of a model that has no coefficient but the first and another.
+#[inline(always)]
+fn constant_product(c: &Model, m: &Model) -> Option<Model>
+    requires constant { IsConstant c.now.coefficients }
+    ensures { IfSome result (λ k. IsProductOf k c.now m.now) }
+{
+    operations();
+    changes();
+    lists();
+    let first = first_of(c.coefficients());
+    let wide = products_with(first, m.coefficients());
+    let error = constant_error(first, c.error(), m);
+    settled(&wide, error, c.exponent() + m.exponent())
+}
+
+// What the errors of a number and of a model come to in their product.
+#[inline(always)]
+fn constant_error(first: i64, error: u64, m: &Model) -> u128
+    requires first { unsigned_abs first ≤ size_limit }
+    requires error { error ≤ size_limit }
+    ensures { result ≡ unsigned_abs first * m.now.error + sizes m.now.coefficients * error
+        + error * m.now.error }
+{
+    let by_first = first.unsigned_abs() as u128 * m.error() as u128;
+    let by_second = sizes_of(m.coefficients()) as u128 * error as u128;
+    let by_both = error as u128 * m.error() as u128;
+    by_first + by_second + by_both
 }
 
 // What the errors of two models, and the coefficients that are left out, come to in a product.

@@ -33,7 +33,7 @@ pub fn settled(wide: &[i128; TERMS], error: u128, exponent: i32) -> Option<Model
     }
 }
 
-// The greatest size of some numbers and an error.
+// A size that is no less than those of some numbers and an error, and has no more bits than the greatest.
 #[inline(always)]
 fn greatest_size(wide: &[i128; TERMS], error: u128) -> u128
     requires count { length wide.now ≡ terms }
@@ -42,7 +42,7 @@ fn greatest_size(wide: &[i128; TERMS], error: u128) -> u128
 {
     let mut size = error;
     for i in 0..TERMS {
-        size = size.max(wide[i].unsigned_abs());
+        size |= wide[i].unsigned_abs();
     }
     size
 }

@@ -8,5 +8,4 @@ returns-then-k-eq0-clause-entry c = entry_none c.args.line.now c.args.k c.no_ent
 pub returns-else-k-eq0-clause-entry : goal.returns-else-k-eq0-clause-entry
 returns-else-k-eq0-clause-entry c =
     let none = c.if-k-eq0.false in
-    let place = c.requires.place in
-    entry_repeated c.args.k _ c.multiple.result (omega (arith, none)) c.multiple.ensures.multiple c.args.line.now (c.requires.entries (c.args.k - 1) (omega (arith, none, place)))
+    entry_repeated c.args.k _ c.multiple.result (omega (arith, none)) c.multiple.ensures.multiple c.args.line.now (c.requires.entries (c.args.k - 1) (omega (arith, none)))

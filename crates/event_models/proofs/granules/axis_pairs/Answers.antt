@@ -1,6 +1,6 @@
 use Rattle.std.proofs.Common.{◌≡◌, ◌+◌, ◌-◌, ◌*◌, ◌∙◌, ap, arith, map, take, drop}
-use Rattle.cheby_enclose.specs.Pairs.{term_of}
-use Rattle.event_models.proofs.PairLists.{ArePairs-axis, terms_of_axis}
+use Rattle.spec_motions.specs.Pairs.{term_of}
+use Rattle.spec_motions.proofs.Pairs.{ArePairs-axis, terms_of_axis}
 use Rattle.event_models.proofs.granules.axis_pairs.Goals as goal
 
 pub returns-clause-pairs : goal.returns-clause-pairs

@@ -2,7 +2,7 @@ use Rattle.std.proofs.Common.{rules, ◌≡◌, ◌∙◌, sym, FitsSigned, w64}
 use Rattle.std.proofs.lemmas.Int.{to_z-of_z}
 use Rattle.spec_ephemeris.specs.Granules.{column_of, granule_at, granule_of}
 use Rattle.spec_bodies.proofs.Columns.{three_components}
-use Rattle.event_models.proofs.Reading.{evaluable, from_start, series_is, upto_end}
+use Rattle.spec_bodies.proofs.Reading.{evaluable, from_start, series_is, upto_end}
 use Rattle.event_models.proofs.granules.granule_of.Goals as goal
 use Rattle.event_models.proofs.granules.granule_of.Goals.{After-granule}
 

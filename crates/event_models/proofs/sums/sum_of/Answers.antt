@@ -1,13 +1,13 @@
 use Rattle.std.proofs.Common.{◌≡◌, ◌+◌, ◌-◌, suc, arith, length, subst, ℕ}
 use Rattle.event_models.specs.Sums.{IsSumFrom}
-use Rattle.event_models.proofs.SumCovers.{none_all, sum_before, within_more}
+use Rattle.event_models.proofs.SumCovers.{none_all, sum_next, within_more}
 use Rattle.event_models.proofs.sums.sum_of.Goals as goal
 
 pub loop-i-init : goal.loop-i-init
 loop-i-init c = let start = none_all c.args.pairs.now c.args.rows.now in rw c.none-wide.ensures (record { within = start.within; covers = start.covers })
 
-pub plus-wide-requires-clause-row : goal.plus-wide-requires-clause-row
-plus-wide-requires-clause-row c = let below = c.loop-i-test.true in c.requires.rows (length c.args.pairs.now - 1 - c.loop-i.i) (omega (arith, below))
+pub add-requires-clause-row : goal.add-requires-clause-row
+add-requires-clause-row c = let below = c.loop-i-test.true in c.requires.rows (length c.args.pairs.now - 1 - c.loop-i.i) (omega (arith, below))
 
 pub loop-i-preserved : goal.loop-i-preserved
 loop-i-preserved c =
@@ -15,11 +15,10 @@ loop-i-preserved c =
     let own : length c.args.pairs.now - 1 - c.loop-i.i ≡ length c.args.pairs.now - (c.loop-i.i + 1) = omega arith in
     let next : length c.args.pairs.now - c.loop-i.i ≡ suc (length c.args.pairs.now - 1 - c.loop-i.i) = omega (arith, below) in
     record {
-      within = c.plus-wide.ensures.within;
-      covers = subst (λ (n : ℕ). IsSumFrom c.args.pairs.now c.args.rows.now n c.plus-wide.result) own
-          (sum_before c.args.pairs.now c.args.rows.now (length c.args.pairs.now - 1 - c.loop-i.i) c.loop-i.i c.loop-i.wide c.plus-wide.result _ c.requires.pairs c.requires.rows (omega (arith, below)) c.loop-i.invariant.within
-          (c.is_wide.ensures c.if-is_wide.false) c.plus-wide.ensures.added
-          (subst (λ (n : ℕ). IsSumFrom c.args.pairs.now c.args.rows.now n c.loop-i.wide) next c.loop-i.invariant.covers));
+      within = c.add.ensures.within;
+      covers = sum_next c.args.pairs.now c.args.rows.now (length c.args.pairs.now - 1 - c.loop-i.i) _ c.loop-i.i c.loop-i.wide _ _ own c.requires.pairs c.requires.rows (omega (arith, below)) c.loop-i.invariant.within
+          (c.is_wide.ensures c.if-is_wide.false) c.add.ensures.added
+          (subst (λ (n : ℕ). IsSumFrom c.args.pairs.now c.args.rows.now n c.loop-i.wide) next c.loop-i.invariant.covers);
     }
 
 pub returns-clause-within : goal.returns-clause-within

@@ -1,7 +1,8 @@
 use Rattle.std.proofs.Common.{◌∙◌, ◌^◌, ◌+ℤ◌, ap, arith, w64}
 use Rattle.std.proofs.lemmas.Int.{to_z-of_z}
 use Rattle.spec_numbers.specs.Numbers.{floor_div}
-use Rattle.span_models.proofs.Halvings.{capped_shift, shift_small, two_kept}
+use Rattle.spec_numbers.proofs.Floor.{capped_shift, shift_small}
+use Rattle.span_models.proofs.Halvings.{two_kept}
 use Rattle.span_models.proofs.sums.sum_of_two.Goals as goal
 
 pub returns-clause-equals : goal.returns-clause-equals

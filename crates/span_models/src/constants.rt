@@ -1,0 +1,58 @@
+// Models that have no coefficient but the first, and their products.
+
+ghost use Rattle.std.specs.Prelude.{◌≡◌, ◌≤◌, ◌<◌, ◌^◌, ℕ, pos, slice_index_or, length, ◌*ℤ◌, unsigned_abs, IsTrue};
+ghost use Rattle.span_models.specs.Columns.{IsConstant};
+ghost use Rattle.span_models.specs.Sizes.{size_limit, terms, AreWithin};
+
+use crate::model::TERMS;
+
+/// Whether all coefficients but the first are 0.
+#[inline(always)]
+pub(crate) fn is_constant(a: &[i64; TERMS]) -> bool
+    requires small { AreWithin size_limit a.now }
+    ensures { IsTrue result → IsConstant a.now }
+{
+    for k in 1..TERMS {
+        if a[k] != 0 {
+            return false;
+        }
+    }
+    true
+}
+
+/// The first coefficient.
+#[inline(always)]
+pub(crate) fn first_of(a: &[i64; TERMS]) -> i64
+    requires small { AreWithin size_limit a.now }
+    ensures equals { result ≡ slice_index_or a.now 0 (pos 0) }
+    ensures small { unsigned_abs result ≤ size_limit }
+{
+    a[0]
+}
+
+/// A number times each coefficient.
+#[inline(always)]
+pub(crate) fn products_with(first: i64, a: &[i64; TERMS]) -> [i128; TERMS]
+    requires first { unsigned_abs first ≤ size_limit }
+    requires small { AreWithin size_limit a.now }
+    ensures products { (k : ℕ) → k < terms
+        → slice_index_or result k (pos 0) ≡ first *ℤ slice_index_or a.now k (pos 0) }
+    ensures count { length result ≡ terms }
+{
+    let mut products = [0; TERMS];
+    for i in 0..TERMS {
+        products[i] = product(first, a[i]);
+    }
+    products
+}
+
+// The product, by one multiplication of 64-bit numbers.
+#[inline(always)]
+fn product(first: i64, z: i64) -> i128
+    requires first { unsigned_abs first ≤ size_limit }
+    requires small { unsigned_abs z ≤ size_limit }
+    ensures equals { result ≡ first *ℤ z }
+    ensures small { unsigned_abs result ≤ 2 ^ 120 }
+{
+    first as i128 * z as i128
+}

@@ -1,21 +1,17 @@
--- The leaves of the coarse tree of a search have the windows of its tree.
-use Rattle.std.proofs.Common.{◌≡◌, ◌⊎◌, ◌<◌, ◌≤◌, ℕ, Bool, true, false, List, [], Result, Ok, Err, sym, ap, ◌∙◌, subst, inl, inr, arith}
+-- The leaves of the coarse or the eager tree of a search have the windows of its tree.
+use Rattle.std.proofs.Common.{◌≡◌, ◌≤◌, ℕ, Bool, true, false, List, [], sym, ap, ◌∙◌, subst, arith}
 use Rattle.std.proofs.lemmas.Bool.{leb-true}
-use Rattle.std.specs.Prelude.{All, IfErr, IfOk, Vec, if◌then◌else◌, nat_le}
-use Rattle.std.specs.declared.alloc.Global.{Global}
+use Rattle.std.specs.Prelude.{All, if◌then◌else◌, nat_le}
 use Rattle.spec_trees.specs.declared.tree.Leaf.{Leaf}
 use Rattle.spec_trees.specs.declared.tree.Node.{Node}
-use Rattle.spec_trees.specs.Tree.{Covers, IsValid, Rules, leaf_count, leaves}
+use Rattle.spec_trees.specs.Tree.{Covers, Rules, leaf_count, leaves}
 use Rattle.spec_trees.specs.Windows.{windows}
 use Rattle.spec_searches.specs.Found.{rules}
 use Rattle.spec_searches.specs.Search.{Search}
 use Rattle.spec_stills.specs.declared.still.StillSpan.{StillSpan}
-use Rattle.spec_stills.specs.Coarse.{coarse_rules}
 use Rattle.spec_stills.specs.Still.{IsStill}
 use Rattle.spec_stills.specs.Weights.{weights}
 use Rattle.still_judge.specs.Order.{are_in_order, in_order_or_none}
-use Rattle.spec_outcomes.specs.declared.refusal.Refusal.{Refusal}
-use Rattle.spec_outcomes.specs.declared.refusal.Refusal.TheVariants.{Memory, TooManyLeaves}
 use Rattle.gf_search.specs.Wanted.{HaveWindows}
 
 -- ---- still spans that stand in order
@@ -25,14 +21,6 @@ kept_by s xs false stills = λ k d below. absurd (omega (arith, below))
 
 pub kept_still : (s : Search) (xs kept : List StillSpan) → kept ≡ in_order_or_none xs → All (IsStill s) xs → All (IsStill s) kept
 kept_still s xs kept is stills = subst (All (IsStill s)) (sym is) (kept_by s xs (are_in_order xs) stills)
-
--- ---- too many leaves
-abbrev Stop : ℕ → ℕ → Refusal → Type 0
-Stop most count r = (r ≡ Memory) ⊎ ((r ≡ TooManyLeaves most) × (most < count))
-
-pub more_stop : (most count more : ℕ) → count ≤ more → (r : Refusal) → Stop most count r → Stop most more r
-more_stop most count more no_more r (inl none) = inl none
-more_stop most count more no_more r (inr many) = let above = many.1 in inr (many.0, omega (arith, above, no_more))
 
 -- ---- windows
 module _ (most : ℕ) (s : Search) (n : Node) (ls : List Leaf) where
@@ -44,10 +32,10 @@ module _ (most : ℕ) (s : Search) (n : Node) (ls : List Leaf) where
     few = few;
   }
 
-  -- and so have those of the coarse tree, where they weigh no more than so much
-  pub coarse_have : (xs : List StillSpan) → windows (leaves (coarse_rules s xs) n) ≡ windows (leaves (rules s) n) → Covers n.a (leaves (coarse_rules s xs) n) n.b
-      → leaf_count (rules s) n ≤ weights s xs (leaves (coarse_rules s xs) n) → ls ≡ leaves (coarse_rules s xs) n → nat_le (weights s xs ls) most ≡ true → HaveWindows most s n ls
-  coarse_have xs windows_same cover weighed same light =
+  -- and so have those of a tree with the same windows, where they weigh no more than so much
+  pub weighed_have : (t : Rules) (xs : List StillSpan) → windows (leaves t n) ≡ windows (leaves (rules s) n) → Covers n.a (leaves t n) n.b
+      → leaf_count (rules s) n ≤ weights s xs (leaves t n) → ls ≡ leaves t n → nat_le (weights s xs ls) most ≡ true → HaveWindows most s n ls
+  weighed_have t xs windows_same cover weighed same light =
       let few = leb-true (weights s xs ls) most light in
       let here = subst (λ (vs : List Leaf). leaf_count (rules s) n ≤ weights s xs vs) (sym same) weighed in
       record {

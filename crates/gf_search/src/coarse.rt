@@ -1,16 +1,22 @@
-// The leaves of the coarse tree of a search.
-ghost use Rattle.std.specs.Prelude.{◌≡◌, ◌⊎◌, ◌<◌, ◌≤◌, All, IfErr, IfOk};
+// Leaves that have the windows of a search: those of its eager tree, of its coarse tree or of its tree.
+ghost use Rattle.std.specs.Prelude.{◌≡◌, ◌⊎◌, ◌↔◌, ◌<◌, ◌≤◌, All, IfErr, IfOk, IfSome, IsTrue, nat_le, true};
 ghost use Rattle.spec_requests.specs.declared.limits.TheConstants.{MAX_WORKERS};
-ghost use Rattle.spec_trees.specs.Tree.{IsValid, leaf_count, leaves};
+ghost use Rattle.spec_trees.specs.Tree.{HasTime, IsValid, leaf_count, leaves};
 ghost use Rattle.spec_searches.specs.Found.{rules};
 ghost use Rattle.spec_stills.specs.Coarse.{coarse_rules};
 ghost use Rattle.spec_stills.specs.Still.{IsStill};
+ghost use Rattle.spec_stills.specs.Weights.{weights};
+ghost use Rattle.spec_eager.specs.Eager.{eager_rules};
+ghost use Rattle.spec_eager.specs.Told.{AreTold};
 ghost use Rattle.gf_search.specs.Wanted.{HaveWindows};
 
 use crate::book::leaves_by;
 use event_judge::{EventSearch, Judge};
 use gf_edges::Gate;
 use halving::rules_are_sound;
+use spec_eager::laws::{
+    decided_eager_trees_have_the_same_windows, eager_trees_are_sound, eager_trees_weigh_enough,
+};
 use spec_outcomes::Refusal;
 use spec_stills::laws::{
     coarse_trees_are_sound, coarse_trees_have_fewer_leaves, coarse_trees_have_the_same_windows,
@@ -19,21 +25,95 @@ use spec_trees::{Leaf, Node, leaves_cover_the_node};
 use std::alloc::Global;
 use std::sync::Wait;
 use std::thread::Threads;
-use still_judge::{StillJudge, StillList};
-use still_spans::still_spans;
+use still_judge::{EagerJudge, StillJudge, StillList, are_told};
+use still_shares::still_spans_by;
 
-/// Still spans of a search over the times of a node, in order.
-pub(crate) fn stills_of(
+/// Still spans of a search over the times of a node, in order, which so many workers look for.
+pub(crate) fn stills_of<R: Threads + Sync>(
+    rt: &R,
     alloc: Global,
     search: &EventSearch,
     node: Node,
+    workers: u32,
 ) -> Result<StillList, Refusal>
     ensures still { IfOk result (λ stills. All (IsStill search.now) stills) }
     ensures memory { IfErr result (λ refusal. refusal ≡ Refusal.Memory) }
 {
-    match still_spans(alloc, search, node.a, node.b) {
+    match still_spans_by(rt, alloc, search, node.a, node.b, workers) {
         Ok(spans) => Ok(StillList::new(spans)),
         Err(_) => Err(Refusal::Memory),
+    }
+}
+
+// The leaves of the eager tree of a search, by a judge of its nodes and by spans that may be still.
+fn eager_leaves_by<R: Threads + Wait + Sync, J: Judge, G: Gate>(
+    rt: &R,
+    alloc: Global,
+    judge: &J,
+    search: &EventSearch,
+    stills: &StillList,
+    root: Node,
+    workers: u32,
+    most: u32,
+    gate: &G,
+) -> Result<Vec<Leaf>, Refusal>
+    requires some { 1 ≤ workers }
+    requires workers { workers ≤ MAX_WORKERS }
+    requires rules { J.rules judge.now ≡ rules search.now }
+    requires valid { IsValid (rules search.now) root }
+    ensures { IfOk result (λ found. found.items
+        ≡ leaves (eager_rules search.now stills.now) root) }
+{
+    eager_trees_are_sound();
+    let eager = EagerJudge::new(judge, search, stills);
+    leaves_by(rt, alloc, &eager, root, workers, most, gate)
+}
+
+// Whether no leaf of an eager tree is undecided, and they stand for no more than so many leaves of the tree of the search.
+fn are_decided(search: &EventSearch, stills: &StillList, leaves: &[Leaf], most: u32) -> bool
+    requires { All HasTime leaves.now }
+    ensures { IsTrue result ↔ (AreTold leaves.now
+        × (nat_le (weights search.now stills.now leaves.now) most ≡ true)) }
+{
+    are_told(leaves) && stills.are_few(search, leaves, most)
+}
+
+// The leaves of the eager tree of a search, by a judge of its nodes and by still spans, where they tell the windows of its tree.
+fn eager_windows<R: Threads + Wait + Sync, J: Judge, G: Gate>(
+    rt: &R,
+    alloc: Global,
+    judge: &J,
+    search: &EventSearch,
+    stills: &StillList,
+    root: Node,
+    workers: u32,
+    most: u32,
+    gate: &G,
+) -> Result<Option<Vec<Leaf>>, Refusal>
+    requires some { 1 ≤ workers }
+    requires workers { workers ≤ MAX_WORKERS }
+    requires rules { J.rules judge.now ≡ rules search.now }
+    requires valid { IsValid (rules search.now) root }
+    requires still { All (IsStill search.now) stills.now }
+    ensures windows { IfOk result (λ found. IfSome found (λ told.
+        HaveWindows most search.now root told.items)) }
+    ensures memory { IfErr result (λ refusal. refusal ≡ Refusal.Memory) }
+{
+    search.is_search();
+    eager_trees_are_sound();
+    decided_eager_trees_have_the_same_windows();
+    eager_trees_weigh_enough();
+    leaves_cover_the_node();
+    match eager_leaves_by(rt, alloc, judge, search, stills, root, workers, most, gate) {
+        Ok(found) => {
+            if are_decided(search, stills, &found, most) {
+                Ok(Some(found))
+            } else {
+                Ok(None)
+            }
+        }
+        Err(Refusal::Memory) => Err(Refusal::Memory),
+        Err(_) => Ok(None),
     }
 }
 
@@ -93,9 +173,9 @@ fn fine_leaves_by<R: Threads + Wait + Sync, J: Judge, G: Gate>(
     leaves_by(rt, alloc, judge, root, workers, most, gate)
 }
 
-/// Leaves that have the windows of the tree of a search at a root, by a judge of its nodes and by still spans, in order of
-/// time: those of the coarse tree, or those of the tree where it may have more than `most`; or `TooManyLeaves` where it has.
-pub(crate) fn windowed_leaves<R: Threads + Wait + Sync, J: Judge, G: Gate>(
+// Leaves that have the windows of the tree of a search at a root, by a judge of its nodes and by still spans: those of the
+// coarse tree, or those of the tree where it may have more than `most`; or `TooManyLeaves` where it has.
+fn coarse_windows<R: Threads + Wait + Sync, J: Judge, G: Gate>(
     rt: &R,
     alloc: Global,
     judge: &J,
@@ -130,6 +210,41 @@ pub(crate) fn windowed_leaves<R: Threads + Wait + Sync, J: Judge, G: Gate>(
                 fine_leaves_by(rt, alloc, judge, search, root, workers, most, gate)
             }
         }
+        Err(refusal) => Err(refusal),
+    }
+}
+
+/// Leaves that have the windows of the tree of a search at a root, by a judge of its nodes and by still spans, in order of
+/// time: those of the tree, where there are no spans; those of the eager tree, where they leave nothing undecided; or those of
+/// the coarse tree; or those of the tree, where it may have more than `most`; or `TooManyLeaves` where it has.
+pub(crate) fn windowed_leaves<R: Threads + Wait + Sync, J: Judge, G: Gate>(
+    rt: &R,
+    alloc: Global,
+    judge: &J,
+    search: &EventSearch,
+    stills: &StillList,
+    root: Node,
+    workers: u32,
+    most: u32,
+    gate: &G,
+) -> Result<Vec<Leaf>, Refusal>
+    requires some { 1 ≤ workers }
+    requires workers { workers ≤ MAX_WORKERS }
+    requires rules { J.rules judge.now ≡ rules search.now }
+    requires valid { IsValid (rules search.now) root }
+    requires still { All (IsStill search.now) stills.now }
+    ensures windows { IfOk result (λ found.
+        HaveWindows most search.now root found.items) }
+    ensures stopped { IfErr result (λ refusal. (refusal ≡ Refusal.Memory)
+        ⊎ ((refusal ≡ Refusal.TooManyLeaves most)
+        × (most < leaf_count (rules search.now) root))) }
+{
+    if stills.is_empty() {
+        return fine_leaves_by(rt, alloc, judge, search, root, workers, most, gate);
+    }
+    match eager_windows(rt, alloc, judge, search, stills, root, workers, most, gate) {
+        Ok(Some(found)) => Ok(found),
+        Ok(None) => coarse_windows(rt, alloc, judge, search, stills, root, workers, most, gate),
         Err(refusal) => Err(refusal),
     }
 }

@@ -133,7 +133,7 @@ pub(crate) fn remembered_windows<R: Threads + Wait + Sync, J: Judge, G: Gate>(
         ⊎ ((refusal ≡ Refusal.TooManyLeaves most)
         × (most < leaf_count (rules search.now) root))) }
 {
-    match stills_of(alloc, search, root) {
+    match stills_of(rt, alloc, search, root, workers) {
         Ok(stills) => named_windows::<R, Brand, J, G>(
             rt, alloc, judge, search, &stills, root, workers, most, gate,
         ),

@@ -1,4 +1,4 @@
-// The leaves by a judge that remembers, as `finder` finds them: those of the tree, or of the coarse tree.
+// The leaves by a judge that remembers, as `finder` finds them: those of the tree, or of the eager tree.
 ghost use Rattle.std.specs.Prelude.{◌≡◌};
 ghost use Rattle.spec_trees.specs.Tree.{IsValid};
 ghost use Rattle.spec_searches.specs.Found.{rules};
@@ -6,15 +6,15 @@ ghost use Rattle.spec_searches.specs.Found.{rules};
 use crate::walks::{Walk, leaves_by};
 use event_judge::{EventSearch, Naming, RememberingJudge};
 use halving::{Judge, Leaf, Node};
-use spec_stills::laws::coarse_trees_are_sound;
+use spec_eager::laws::eager_trees_are_sound;
 use std::alloc::Global;
 use std::marker::Brand;
 use std::sync::Wait;
 use std::thread::Threads;
-use still_judge::{StillJudge, StillList};
+use still_judge::{EagerJudge, StillList};
 use still_spans::still_spans;
 
-// The leaves of a root by a judge, where those of the coarse tree are wanted by the search's still spans.
+// The leaves of a root by a judge, where those of the eager tree are wanted by the search's still spans.
 fn leaves_of<R: Threads + Wait + Sync, J: Judge>(
     rt: &R,
     alloc: Global,
@@ -27,13 +27,13 @@ fn leaves_of<R: Threads + Wait + Sync, J: Judge>(
     requires valid { IsValid (J.rules judge.now) root }
 {
     match walk {
-        Walk::Coarse => coarse_leaves(rt, alloc, judge, search, root),
+        Walk::Eager => eager_leaves(rt, alloc, judge, search, root),
         _ => leaves_by(rt, alloc, judge, root, walk),
     }
 }
 
-// The leaves of the coarse tree of a root.
-fn coarse_leaves<R: Threads + Wait + Sync, J: Judge>(
+// The leaves of the eager tree of a root.
+fn eager_leaves<R: Threads + Wait + Sync, J: Judge>(
     rt: &R,
     alloc: Global,
     judge: &J,
@@ -43,14 +43,10 @@ fn coarse_leaves<R: Threads + Wait + Sync, J: Judge>(
     requires rules { J.rules judge.now ≡ rules search.now }
     requires valid { IsValid (J.rules judge.now) root }
 {
-    coarse_trees_are_sound();
+    eager_trees_are_sound();
     let stills = StillList::new(still_spans(alloc, search, root.a, root.b).ok()?);
-    let coarse = StillJudge {
-        judge,
-        search,
-        stills: &stills,
-    };
-    leaves_by(rt, alloc, &coarse, root, Walk::Coarse)
+    let eager = EagerJudge::new(judge, search, &stills);
+    leaves_by(rt, alloc, &eager, root, Walk::Eager)
 }
 
 // The leaves of a root by a judge of the search that a call has named, which remembers.

@@ -15,8 +15,8 @@ use steal_pool::run;
 pub(crate) enum Walk {
     /// In one walk, without a thread.
     One,
-    /// The same of the coarse tree, whose windows are those of the tree.
-    Coarse,
+    /// The same of the eager tree, whose windows are those of the tree where it leaves nothing undecided.
+    Eager,
     /// By workers that steal from one another.
     Pool(Workers),
     /// By workers, each of which walks a share that is dealt to it before all begin.
@@ -69,7 +69,7 @@ pub(crate) fn leaves_by<R: Threads + Wait + Sync, J: Judge>(
     requires { IsValid (J.rules judge.now) root }
 {
     match walk {
-        Walk::One | Walk::Coarse => run_one(alloc, judge, root, u32::MAX).ok(),
+        Walk::One | Walk::Eager => run_one(alloc, judge, root, u32::MAX).ok(),
         Walk::Pool(workers) => leaves_of_pool(rt, alloc, judge, root, workers),
         Walk::Shares(workers) => leaves_of_shares(rt, alloc, judge, root, workers),
     }

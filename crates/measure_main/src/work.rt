@@ -40,7 +40,7 @@ pub(crate) fn work_of<'a>(words: &'a [String]) -> Option<Work<'a>> {
     match words {
         [way, name, rounds, file] => match way.as_str() {
             "search" => search_by(Walk::One, name, rounds, file),
-            "windows" => search_by(Walk::Coarse, name, rounds, file),
+            "windows" => search_by(Walk::Eager, name, rounds, file),
             _ => None,
         },
         [way, name, workers, rounds, file] => {

@@ -15,9 +15,6 @@ pub follow_more : (time : ℤ) (xs : List StillSpan) (i : ℕ) (d : StillSpan) �
     → follow time (drop i xs) ≡ (is_next time (get_or xs i d) && follow (get_or xs i d).upto (drop (i + 1) xs))
 follow_more time xs i d below = at_drop_more (follow time) xs i d below
 
-not_next : (next rest : Bool) → next ≡ false → (next && rest) ≡ false
-not_next next rest e = grind arith
-
 is_next_too : (next rest : Bool) → next ≡ true → (next && rest) ≡ rest
 is_next_too next rest e = grind arith
 
@@ -26,7 +23,7 @@ module _ (first time : ℤ) (xs : List StillSpan) (i : ℕ) (x : StillSpan) (bel
   more = so_far ∙ follow_more time xs i x below ∙ ap (λ (y : StillSpan). is_next time y && follow y.upto (drop (i + 1) xs)) (sym there)
 
   pub stops : is_next time x ≡ false → follow first xs ≡ false
-  stops e = more ∙ not_next (is_next time x) _ e
+  stops e = more ∙ ap (λ (next : Bool). next && follow x.upto (drop (i + 1) xs)) e
 
   pub goes_on : is_next time x ≡ true → follow first xs ≡ follow x.upto (drop (i + 1) xs)
   goes_on e = more ∙ is_next_too (is_next time x) _ e

@@ -1,2 +1,4 @@
+mod Begun
+mod Eager
 mod Following
 mod Served

@@ -3,6 +3,7 @@ ghost use Rattle.std.specs.Prelude.{◌≡◌, ◌≤◌, ◌<ℤ◌, ◌^◌, A
 ghost use Rattle.spec_trees.specs.Tree.{HasTime};
 ghost use Rattle.spec_stills.specs.Still.{is_fine_enough, is_half, is_near_enough, lies_in, serves};
 ghost use Rattle.spec_stills.specs.Weights.{first_serving, weight, weights};
+ghost use Rattle.still_judge.specs.Stands.{IsCount};
 ghost use Rattle.still_judge.specs.declared.limits.TheConstants.{MAX_HALVINGS};
 
 use crate::still_list::StillList;
@@ -68,13 +69,19 @@ fn serves(search: &EventSearch, still: StillSpan, node: Node) -> bool
 }
 
 impl StillList {
-    /// The span that serves a node of a search, if one does: no more than one can.
-    pub(crate) fn serving(&self, search: &EventSearch, node: Node) -> Option<StillSpan>
-        requires { node.a <ℤ node.b }
+    /// The span that serves a node of a search, if one does, given how many begin no later than the node: no more than one can.
+    pub(crate) fn serving_of(
+        &self,
+        search: &EventSearch,
+        node: Node,
+        count: usize,
+    ) -> Option<StillSpan>
+        requires inside { node.a <ℤ node.b }
+        requires counted { IsCount node self.now count }
         ensures span { result ≡ first_serving search.now self.now node }
         ensures few { IfSome result (λ still. still.halvings ≤ MAX_HALVINGS) }
     {
-        let Some(place) = self.count_upto(node).checked_sub(1) else {
+        let Some(place) = count.checked_sub(1) else {
             return None;
         };
         let still = self.span(place);
@@ -83,6 +90,15 @@ impl StillList {
         } else {
             None
         }
+    }
+
+    /// The span that serves a node of a search, if one does.
+    pub(crate) fn serving(&self, search: &EventSearch, node: Node) -> Option<StillSpan>
+        requires { node.a <ℤ node.b }
+        ensures span { result ≡ first_serving search.now self.now node }
+        ensures few { IfSome result (λ still. still.halvings ≤ MAX_HALVINGS) }
+    {
+        self.serving_of(search, node, self.count_upto(node))
     }
 
     // How many leaves of the tree of a search a leaf of its coarse tree stands for at most.

@@ -1,8 +1,8 @@
 // Still spans in order, in which one is found quickly.
-ghost use Rattle.std.specs.Prelude.{◌≡◌, ◌<◌, ◌≤◌, false, get_or, int_le, length, true};
-ghost use Rattle.std.specs.List.Sorted.{IsPartitionPoint};
+ghost use Rattle.std.specs.Prelude.{◌≡◌, ◌<◌, ◌≤◌, get_or, int_le, length, nat_eq};
 ghost use Rattle.spec_stills.specs.declared.still.StillSpan.{StillSpan};
 ghost use Rattle.still_judge.specs.Order.{are_in_order, follow, in_order_or_none, is_next};
+ghost use Rattle.still_judge.specs.Stands.{IsCount};
 ghost use Rattle.still_judge.specs.declared.limits.TheConstants.{MAX_HALVINGS};
 
 use crate::limits::MAX_HALVINGS;
@@ -74,18 +74,30 @@ impl StillList {
         }
     }
 
+    /// Whether there is none.
+    pub fn is_empty(&self) -> bool
+        ensures { result ≡ nat_eq (length self.now) 0 }
+    {
+        self.len() == 0
+    }
+
     /// How many of the spans begin no later than a node.
     pub(crate) fn count_upto(&self, node: Node) -> usize
-        ensures order { are_in_order self.now ≡ true }
-        ensures within { result ≤ length self.now }
-        ensures upto { IsPartitionPoint (λ x. int_le x.from node.a ≡ true)
-            (λ x. int_le x.from node.a ≡ false) self.now result }
+        ensures { IsCount node self.now result }
     {
         self.spans.partition_point(
             |still: &StillSpan| -> bool
                 ensures { result ≡ int_le still.now.from node.a }
             { still.from <= node.a },
         )
+    }
+
+    /// How many spans there are.
+    #[inline(always)]
+    pub(crate) fn len(&self) -> usize
+        ensures { result ≡ length self.now }
+    {
+        self.spans.len()
     }
 
     /// The span at a place.

@@ -1,12 +1,12 @@
-use Rattle.std.proofs.Common.{◌≡◌, List, sym, subst, ◌∙◌, ap, true}
+use Rattle.std.proofs.Common.{List, sym, subst, ◌∙◌, ap}
 use Rattle.std.specs.Prelude.{nat_le}
 use Rattle.spec_trees.specs.declared.tree.Leaf.{Leaf}
 use Rattle.spec_trees.specs.Tree.{Covers}
 use Rattle.spec_stills.specs.Coarse.{coarse_rules}
 use Rattle.spec_stills.specs.Weights.{weights}
 use Rattle.spec_outcomes.proofs.Following.{all_have_time}
-use Rattle.gf_search.proofs.Windows.{coarse_have}
-use Rattle.gf_search.proofs.coarse.windowed_leaves.Goals as goal
+use Rattle.gf_search.proofs.Windows.{weighed_have}
+use Rattle.gf_search.proofs.coarse.coarse_windows.Goals as goal
 
 pub are_few-requires : goal.are_few-requires
 are_few-requires g c =
@@ -21,7 +21,8 @@ returns-then-are_few-clause-windows g c =
     let s = c.args.search.now in
     let xs = c.args.stills.now in
     let n = c.args.root in
-    let cover = c.leaves_cover_the_node.ensures.cover (coarse_rules s xs) n (c.coarse_trees_are_sound.ensures.sound s xs c.is_search.ensures) (c.coarse_trees_are_sound.ensures.nodes s xs n c.requires.valid) in
+    let t = coarse_rules s xs in
+    let cover = c.leaves_cover_the_node.ensures.cover t n (c.coarse_trees_are_sound.ensures.sound s xs c.is_search.ensures) (c.coarse_trees_are_sound.ensures.nodes s xs n c.requires.valid) in
     let light = sym (ap (λ (ls : List Leaf). nat_le (weights s xs ls) c.args.most) c.deref.ensures.value) ∙ sym c.are_few.ensures ∙ c.if-are_few.true in
-    coarse_have c.args.most s n c.in-Ok.found.items xs (c.coarse_trees_have_the_same_windows.ensures s xs n c.is_search.ensures c.requires.still c.requires.valid) cover
+    weighed_have c.args.most s n c.in-Ok.found.items t xs (c.coarse_trees_have_the_same_windows.ensures s xs n c.is_search.ensures c.requires.still c.requires.valid) cover
     (c.coarse_trees_have_fewer_leaves.ensures.weighed s xs n c.is_search.ensures c.requires.still c.requires.valid) c.in-Ok.ensures.leaves light

@@ -66,7 +66,7 @@ pub(crate) fn leaves_by<R: Threads + Wait + Sync, J: Judge>(
     root: Node,
     walk: Walk,
 ) -> Option<Vec<Leaf>>
-    requires { IsValid (J.rules judge.now) root }
+    requires valid { IsValid (J.rules judge.now) root }
 {
     match walk {
         Walk::One | Walk::Eager => run_one(alloc, judge, root, u32::MAX).ok(),

@@ -4,7 +4,7 @@ use Rattle.std.proofs.lemmas.Int.{ints}
 use Rattle.std.proofs.lemmas.Bool.{cases_lt}
 use Rattle.spec_numbers.specs.Numbers.{floor_div}
 use Rattle.spec_models.specs.Models.{Model, coefficient, convolved, cut, difference_model, halved, multiplied, opposite, product_model, raised, sizes, widened}
-use Rattle.spec_models.proofs.Coefficients.{coefficient-added, coefficient-multiplied, coefficient-opposite, sizes-drop, sizes-parts}
+use Rattle.spec_models.proofs.Coefficients.{coefficient-added, coefficient-by_constant, coefficient-multiplied, coefficient-opposite, coefficient-past, sizes-drop, sizes-parts}
 use Rattle.spec_models.proofs.Lists.{length-convolved}
 use Rattle.spec_models.proofs.Made.{near-product, near-raised, near-cut, near-difference}
 use Rattle.spec_covers.specs.Combining.{MultipliesTo, SubtractsTo}
@@ -13,26 +13,14 @@ use Rattle.event_models.specs.declared.rows.Line.{Line}
 use Rattle.event_models.specs.Rows.{IsRow, IsStep, last_size, lower, of_line, of_row, product_error, step_number, terms, without_last}
 
 -- ---- coefficients of a product with a line
-pub alone : (x : ℤ) (ys : List ℤ) (k : ℕ) → coefficient (convolved (x ∷ []) ys) k ≡ x *ℤ coefficient ys k
-alone x ys k = coefficient-added (multiplied x ys) (pos 0 ∷ []) k ∙ (λ i. coefficient-multiplied x ys k i +ℤ none k i) ∙ omega (arith, ints)
-  where
-    none : (k : ℕ) → coefficient (pos 0 ∷ []) k ≡ pos 0
-    none zero = refl
-    none (suc k) = refl
-
 by_line : (x y : ℤ) (ys : List ℤ) (k : ℕ) → coefficient (convolved (x ∷ y ∷ []) ys) k ≡ x *ℤ coefficient ys k +ℤ y *ℤ lower ys k
 by_line x y ys zero = coefficient-added (multiplied x ys) (pos 0 ∷ convolved (y ∷ []) ys) 0 ∙ (λ i. coefficient-multiplied x ys 0 i +ℤ nothing i)
   where
     nothing : pos 0 ≡ y *ℤ pos 0
     nothing = omega (arith, ints)
-by_line x y ys (suc k) = coefficient-added (multiplied x ys) (pos 0 ∷ convolved (y ∷ []) ys) (suc k) ∙ λ i. coefficient-multiplied x ys (suc k) i +ℤ alone y ys k i
+by_line x y ys (suc k) = coefficient-added (multiplied x ys) (pos 0 ∷ convolved (y ∷ []) ys) (suc k) ∙ λ i. coefficient-multiplied x ys (suc k) i +ℤ coefficient-by_constant y ys k i
 
--- ---- past the last
-pub past : (xs : List ℤ) (k : ℕ) → length xs ≤ k → coefficient xs k ≡ pos 0
-past [] k h = refl
-past (x ∷ xs) zero h = absurd (omega (arith, h))
-past (x ∷ xs) (suc k) h = past xs k (omega (arith, h))
-
+-- ---- of a part
 -- floor(0 / n) = 0
 none_left : (n : ℕ) → floor_div (pos 0) (2 ^ n) ≡ pos 0
 none_left n = omega (arith, ints)
@@ -95,9 +83,9 @@ module _ (unit : ℕ) (l : Line) (last before : RowModel) where
     beyond (suc k) h =
         let few = length-take (terms - 1) last.coefficients in
         let count = other.numbers.count in
-        let own = past (without_last last.coefficients) (suc k) (omega (arith, few, h)) in
-        let under = past (without_last last.coefficients) k (omega (arith, few, h)) in
-        let rest = past before.coefficients (suc k) (omega (arith, count, h)) in
+        let own = coefficient-past (without_last last.coefficients) (suc k) (omega (arith, few, h)) in
+        let under = coefficient-past (without_last last.coefficients) k (omega (arith, few, h)) in
+        let rest = coefficient-past before.coefficients (suc k) (omega (arith, count, h)) in
         (λ i. floor_div (l.middle *ℤ own i +ℤ l.slope *ℤ under i) (2 ^ 59) -ℤ rest i) ∙ (λ i. floor_div (nothing l.middle l.slope i) (2 ^ 59) -ℤ pos 0) ∙ ap (λ z. z -ℤ pos 0) (none_left 59)
       where
         nothing : (x y : ℤ) → x *ℤ pos 0 +ℤ y *ℤ pos 0 ≡ pos 0
@@ -108,7 +96,7 @@ module _ (unit : ℕ) (l : Line) (last before : RowModel) where
       where
         by : (k < terms) ⊎ (terms ≤ k) → step_number l last.coefficients before.coefficients k ≡ coefficient made.coefficients k
         by (inl h) = sym (is.numbers k h)
-        by (inr h) = let count = is.count in beyond k h ∙ sym (past made.coefficients k (omega (arith, count, h)))
+        by (inr h) = let count = is.count in beyond k h ∙ sym (coefficient-past made.coefficients k (omega (arith, count, h)))
 
     shared : (a b : ℕ) → a ≤ b → a / 2 ^ 59 ≤ b / 2 ^ 59
     shared a b h = omega (arith, h)

@@ -10,7 +10,7 @@ use Rattle.spec_chebyshev.specs.declared.ends.Ival62.{Ival62}
 use Rattle.spec_chebyshev.specs.Differences.{IsArgument}
 use Rattle.spec_motions.specs.Enclosures.{sum_exponent}
 use Rattle.spec_models.specs.Models.{Covers, Model, added, coefficient, constant, convolved, product_model, sizes, sum_model}
-use Rattle.spec_models.proofs.Coefficients.{coefficient-added, zeros-same, coefficient-zeros}
+use Rattle.spec_models.proofs.Coefficients.{coefficient-added, coefficient-by_constant, coefficient-past, zeros-same, coefficient-zeros}
 use Rattle.spec_models.proofs.Made.{near-product, near-sum}
 use Rattle.spec_covers.specs.Combining.{AddsTo, MultipliesTo}
 use Rattle.spec_covers.specs.Series.{of_entry, sums}
@@ -21,7 +21,6 @@ use Rattle.event_models.specs.declared.sums.Wide.{Wide}
 use Rattle.event_models.specs.Rows.{AreSumRows, IsSumRow, no_row, of_row, terms, unit}
 use Rattle.event_models.specs.Sums.{IsAdded, IsSumFrom, IsWideWithin, added_number, no_sum, of_sum}
 use Rattle.event_models.proofs.Like.{covers_like}
-use Rattle.event_models.proofs.RowSteps.{alone, past}
 
 -- ---- no coefficient
 pub none_covers : (p q : ℤ) → IsArgument p q → (n : ℕ) (row : ℕ → Ival62) (k : ℕ) → Covers (of_sum no_sum) p q (sums n row k [])
@@ -52,7 +51,7 @@ module _ (c : Ival62) (r : RowModel) (w made : Wide) (size : ℕ) (row : IsSumRo
 
   number : (k : ℕ) → coefficient total.coefficients k ≡ added_number c.lo r.coefficients w.coefficients k
   number k =
-      coefficient-added (convolved (c.lo ∷ []) r.coefficients) w.coefficients k ∙ ap (λ z. z +ℤ coefficient w.coefficients k) (alone c.lo r.coefficients k) ∙ turned (c.lo *ℤ coefficient r.coefficients k) (coefficient w.coefficients k)
+      coefficient-added (convolved (c.lo ∷ []) r.coefficients) w.coefficients k ∙ ap (λ z. z +ℤ coefficient w.coefficients k) (coefficient-by_constant c.lo r.coefficients k) ∙ turned (c.lo *ℤ coefficient r.coefficients k) (coefficient w.coefficients k)
     where
       turned : (x y : ℤ) → x +ℤ y ≡ y +ℤ x
       turned x y = omega (arith, ints)
@@ -61,7 +60,7 @@ module _ (c : Ival62) (r : RowModel) (w made : Wide) (size : ℕ) (row : IsSumRo
   beyond k h =
       let a = row.count in
       let b = within.terms_there in
-      (λ i. past w.coefficients k (omega (arith, b, h)) i +ℤ c.lo *ℤ past r.coefficients k (omega (arith, a, h)) i) ∙ nothing c.lo
+      (λ i. coefficient-past w.coefficients k (omega (arith, b, h)) i +ℤ c.lo *ℤ coefficient-past r.coefficients k (omega (arith, a, h)) i) ∙ nothing c.lo
     where
       nothing : (x : ℤ) → pos 0 +ℤ x *ℤ pos 0 ≡ pos 0
       nothing x = omega (arith, ints)
@@ -71,7 +70,7 @@ module _ (c : Ival62) (r : RowModel) (w made : Wide) (size : ℕ) (row : IsSumRo
     where
       by : (k < terms) ⊎ (terms ≤ k) → added_number c.lo r.coefficients w.coefficients k ≡ coefficient made.coefficients k
       by (inl h) = sym (is.numbers k h)
-      by (inr h) = let count = is.count in beyond k h ∙ sym (past made.coefficients k (omega (arith, count, h)))
+      by (inr h) = let count = is.count in beyond k h ∙ sym (coefficient-past made.coefficients k (omega (arith, count, h)))
 
   more : total.error ≤ made.error
   more =

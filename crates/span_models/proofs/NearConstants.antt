@@ -1,22 +1,16 @@
 -- The product of a number and what is near a model.
-use Rattle.std.proofs.Common.{◌≡◌, ◌∙◌, ℕ, zero, suc, ◌+◌, ◌*◌, ◌<◌, ◌≤◌, ◌⊎◌, inl, inr, arith, refl, sym, subst, Option, IfSome, List, [], ◌∷◌, length, ℤ, pos, ◌+ℤ◌, ◌*ℤ◌, unsigned_abs}
+use Rattle.std.proofs.Common.{◌≡◌, ◌∙◌, ℕ, zero, suc, ◌+◌, ◌*◌, ◌<◌, ◌≤◌, ◌⊎◌, inl, inr, arith, sym, subst, Option, IfSome, List, [], ◌∷◌, length, ℤ, pos, ◌+ℤ◌, ◌*ℤ◌, unsigned_abs}
 use Rattle.std.proofs.lemmas.Bool.{cases_lt}
 use Rattle.std.proofs.lemmas.Int.{ints}
 use Rattle.std.proofs.lemmas.Option.{IfSome_then}
 use Rattle.spec_numbers.proofs.Ring.{v, ◌⊗◌, ring}
 use Rattle.spec_intervals.specs.Fraction.{Fraction, fraction, fraction_mul}
 use Rattle.spec_chebyshev.specs.Differences.{IsArgument}
-use Rattle.spec_models.specs.Models.{Model, IsNear, coefficient, constant, convolved, model, multiplied, product_model, sizes}
-use Rattle.spec_models.proofs.Coefficients.{coefficient-added, coefficient-multiplied}
+use Rattle.spec_models.specs.Models.{Model, IsNear, coefficient, constant, convolved, model, product_model, sizes}
+use Rattle.spec_models.proofs.Coefficients.{coefficient-by_constant, coefficient-past}
 use Rattle.span_models.specs.Columns.{IsConstant}
 use Rattle.span_models.specs.Near.{IsProductOf}
 use Rattle.span_models.specs.Sizes.{IsSmall, terms}
-
--- past the last coefficient
-past : (xs : List ℤ) (k : ℕ) → length xs ≤ k → coefficient xs k ≡ pos 0
-past [] k h = refl
-past (x ∷ xs) zero h = absurd (omega (arith, h))
-past (x ∷ xs) (suc k) h = past xs k (omega (arith, h))
 
 -- the first coefficient alone
 first_alone : (xs : List ℤ) (z : ℤ) → length xs ≡ terms → IsConstant xs → z ≡ coefficient xs 0 → (k : ℕ) → coefficient xs k ≡ coefficient (z ∷ []) k
@@ -25,24 +19,17 @@ first_alone xs z count none first (suc k) = by (cases_lt (suc k) terms)
   where
     by : (suc k < terms) ⊎ (terms ≤ suc k) → coefficient xs (suc k) ≡ pos 0
     by (inl below) = none k below
-    by (inr beyond) = past xs (suc k) (omega (arith, count, beyond))
-
-alone : (x : ℤ) (ys : List ℤ) (k : ℕ) → coefficient (convolved (x ∷ []) ys) k ≡ x *ℤ coefficient ys k
-alone x ys k = coefficient-added (multiplied x ys) (pos 0 ∷ []) k ∙ (λ i. coefficient-multiplied x ys k i +ℤ none k i) ∙ omega (arith, ints)
-  where
-    none : (k : ℕ) → coefficient (pos 0 ∷ []) k ≡ pos 0
-    none zero = refl
-    none (suc k) = refl
+    by (inr beyond) = coefficient-past xs (suc k) (omega (arith, count, beyond))
 
 products_are : (z : ℤ) (ys zs : List ℤ) → length ys ≡ terms → length zs ≡ terms → ((k : ℕ) → k < terms → coefficient zs k ≡ z *ℤ coefficient ys k) → (k : ℕ) → coefficient (convolved (z ∷ []) ys) k ≡ coefficient zs k
-products_are z ys zs from count are k = alone z ys k ∙ by (cases_lt k terms)
+products_are z ys zs from count are k = coefficient-by_constant z ys k ∙ by (cases_lt k terms)
   where
     nothing : (x : ℤ) → x *ℤ pos 0 ≡ pos 0
     nothing x = omega (arith, ints)
 
     by : (k < terms) ⊎ (terms ≤ k) → z *ℤ coefficient ys k ≡ coefficient zs k
     by (inl below) = sym (are k below)
-    by (inr beyond) = (λ i. z *ℤ past ys k (omega (arith, from, beyond)) i) ∙ nothing z ∙ sym (past zs k (omega (arith, count, beyond)))
+    by (inr beyond) = (λ i. z *ℤ coefficient-past ys k (omega (arith, from, beyond)) i) ∙ nothing z ∙ sym (coefficient-past zs k (omega (arith, count, beyond)))
 
 module _ (product : (p q : ℤ) → IsArgument p q → (m n : Model) (r z : Fraction) → IsNear m p q r → IsNear n p q z → IsNear (product_model m n) p q (fraction_mul r z))
     (similar : (p q : ℤ) → IsArgument p q → (m : Model) (ys : List ℤ) (r : Fraction) → ((k : ℕ) → coefficient m.coefficients k ≡ coefficient ys k) → IsNear m p q r → IsNear (model ys m.error m.exponent) p q r)

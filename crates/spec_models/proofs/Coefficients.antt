@@ -52,7 +52,18 @@ pub zeros-same : (n k : ℕ) → coefficient (pos 0 ∷ []) k ≡ coefficient (r
 zeros-same n zero = sym (coefficient-zeros n 0)
 zeros-same n (suc k) = sym (coefficient-zeros n (suc k))
 
+-- past the last
+pub coefficient-past : (xs : List ℤ) (k : ℕ) → length xs ≤ k → coefficient xs k ≡ pos 0
+coefficient-past [] k h = refl
+coefficient-past (x ∷ xs) zero h = absurd (omega arith)
+coefficient-past (x ∷ xs) (suc k) h = coefficient-past xs k (omega arith)
+
 -- ---- of products
+-- with a constant
+pub coefficient-by_constant : (x : ℤ) (ys : List ℤ) (k : ℕ) → coefficient (convolved (x ∷ []) ys) k ≡ x *ℤ coefficient ys k
+coefficient-by_constant x ys k =
+    coefficient-added (multiplied x ys) (pos 0 ∷ []) k ∙ ((λ i. coefficient-multiplied x ys k i +ℤ coefficient-zeros 1 k i) ∙ ring (x ∷ coefficient ys k ∷ []) (v 0 ⊗ v 1 ⊕ lit (pos 0)) (v 0 ⊗ v 1) tt)
+
 -- the first factor's first coefficient apart
 products-first : (n k : ℕ) (x : ℤ) (xs ys : List ℤ) → products_upto (suc n) (suc k) (x ∷ xs) ys ≡ x *ℤ coefficient ys (suc k) +ℤ products_upto n k xs ys
 products-first zero k x xs ys =

@@ -1,6 +1,5 @@
--- What is asked of rows and of the intervals of coefficients: which entries they have, and sizes that keep the sums of
--- their products within 128 bits.
-use Rattle.std.specs.Prelude.{◌≡◌, ℕ, suc, ◌^◌, ◌<◌, ◌≤◌, max, List, length, All, unsigned_abs}
+-- What is asked of rows: which entries they have, and sizes that keep the sums of their products within 128 bits.
+use Rattle.std.specs.Prelude.{◌≡◌, ℕ, suc, ◌^◌, ◌<◌, max, List, unsigned_abs}
 use Rattle.spec_chebyshev.specs.declared.ends.Ival62.{Ival62}
 use Rattle.spec_chebyshev.specs.Rows.{entry, EndsWithin}
 
@@ -11,11 +10,6 @@ IsRow n row exact = (k : ℕ) → k < n → entry row k ≡ exact k
 -- the first entries are, one less than n: a sum of k C_k X_(k-1) over n terms takes no more
 abbrev pub IsShorterRow : ℕ → List Ival62 → (ℕ → Ival62) → Type 0
 IsShorterRow n row exact = (k : ℕ) → suc k < n → entry row k ≡ exact k
-
--- the intervals of the coefficients of one axis
-pub record AreTerms (cs : List Ival62) : Type 0 where
-  pub few : length cs ≤ 32
-  pub small : All (EndsWithin (2 ^ 60)) cs
 
 -- the first entries of a row, as many as there are terms, are small
 abbrev pub IsSmallRow : List Ival62 → ℕ → Type 0

@@ -1,8 +1,7 @@
-use Rattle.std.proofs.Common.{◌≡◌, ◌∙◌, to_z, of_z, w64, IsTrue}
+use Rattle.std.proofs.Common.{◌≡◌, ◌∙◌, to_z, of_z, w64}
 use Rattle.std.proofs.lemmas.Int.{to_z-of_z}
-use Rattle.spec_expressions.specs.Term.{HasLeaves, IsLeaf, Leaf}
+use Rattle.spec_expressions.specs.Term.{HasLeaves}
 use Rattle.spec_bounds.specs.Terms.{bound_over}
-use Rattle.event_expr.specs.Leaves.{Names, has_leaf}
 use Rattle.event_bounds.specs.Made.{bound_made}
 use Rattle.event_bounds.proofs.Named.{is_made, span_bound, span_within}
 use Rattle.event_bounds.proofs.by_steps.bound_at.Goals as goal

@@ -1,5 +1,5 @@
 // Lists of steps in fixed room.
-ghost use Rattle.std.specs.Prelude.{◌≡◌, ◌<◌, ◌≤◌, ◌++◌, ◌∷◌, [], IfSome, length};
+ghost use Rattle.std.specs.Prelude.{◌≡◌, ◌+◌, ◌<◌, ◌≤◌, ◌++◌, ◌∷◌, [], IfNone, IfSome, length};
 ghost use Rattle.spec_expressions.specs.Term.{IsFormula};
 ghost use Rattle.spec_steps.specs.Steps.{IsStep, IsStepOf, step_term, term_at, terms_of};
 ghost use Rattle.event_steps.specs.Entered.{IsEntered, IsMadeAt};
@@ -101,8 +101,10 @@ impl StepList {
     pub(crate) fn enter(&mut self, step: Step) -> Option<usize>
         requires step { IsStep (length self.old) step }
         requires formula { IsFormula (step_term (terms_of self.old) step) }
-        ensures { IfSome result (λ place. IsEntered self.old self.new place
+        ensures made { IfSome result (λ place. IsEntered self.old self.new place
             (step_term (terms_of self.old) step)) }
+        ensures room { IfNone result (128 < length self.old + 1) }
+        ensures few { length self.new ≤ length self.old + 1 }
     {
         one_step_more();
         if let Some(place) = self.place_of(&step) {

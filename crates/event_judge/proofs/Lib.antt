@@ -3,3 +3,5 @@ mod Looking
 mod Remembered
 mod Middles
 mod QuietSpans
+mod Guards
+mod Times

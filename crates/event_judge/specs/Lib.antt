@@ -6,3 +6,4 @@ pub mod Memory
 pub mod Quiet
 pub mod Certified
 pub mod Plain
+pub mod Listed

@@ -8,15 +8,17 @@ ghost use Rattle.spec_bounds.specs.Certified.{HoldsConditions, unconditional};
 ghost use Rattle.spec_bounds.specs.Steady.{sign_at};
 ghost use Rattle.event_judge.specs.Certified.{LiesInCertified};
 ghost use Rattle.event_judge.specs.Found.{whole_enclosure, whole_moment};
+ghost use Rattle.event_judge.specs.Listed.{AreStepsOf};
 
 use crate::event_search::EventSearch;
+use crate::listed_event::ListedEvent;
 use crate::memory::Memory;
 use crate::naming::Naming;
 use crate::steps::is_one_way;
 use crate::valid_node::ValidNode;
-use body_states::Snapshot;
 use ival_core::Enclosure;
 use spec_bounds::laws::conditions_that_hold;
+use step_enclosures::StepEnclosures;
 use tree_judge::Verdict;
 
 impl<'e> EventSearch<'e> {
@@ -103,17 +105,21 @@ impl<N: Naming> Memory<N> {
         self.unconditional_verdict(node, over)
     }
 
-    /// The verdict of a node into which no border falls, by the states over all its times and the enclosure of the function.
-    /// Conditions that are known to hold are not asked, and signs at its ends that are remembered are not sought again.
+    /// The verdict of a node into which no border falls, by what is made by steps of the states over all its times, and by the
+    /// enclosure of the function. Conditions that are known to hold are not asked, and signs at its ends that are remembered are
+    /// not sought again.
     pub(crate) fn verdict_over(
         &self,
         node: ValidNode,
-        whole: &Snapshot,
+        listed: &ListedEvent,
+        whole: &mut StepEnclosures,
         over: &Enclosure,
     ) -> Verdict
         requires named { node.search.now ≡ N.search }
         requires uncrossed { crosses node.search.now node.node ≡ false }
-        requires whole { whole.now ≡ whole_moment node.search.now node.node }
+        requires listed { AreStepsOf node.search.now.event listed.now }
+        requires steps { whole.old.steps ≡ listed.now.steps }
+        requires whole { whole.old.moment ≡ whole_moment node.search.now node.node }
         requires over { over.now ≡ whole_enclosure node.search.now node.node }
         ensures { result ≡ verdict_of N.search node.entry.node }
     {
@@ -122,7 +128,7 @@ impl<N: Naming> Memory<N> {
         } else if self.knows_certified(node) {
             self.certified_verdict(node, over)
         } else {
-            node.verdict_over(whole, over)
+            node.verdict_over(listed, whole, over)
         }
     }
 

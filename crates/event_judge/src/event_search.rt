@@ -3,14 +3,16 @@ ghost use Rattle.std.specs.Prelude.{◌≡◌, ◌<◌, ◌≤ℤ◌, IfSome, po
 ghost use Rattle.spec_searches.specs.Search.{IsSearch};
 ghost use Rattle.event_expr.specs.Leaves.{leaves_of};
 ghost use Rattle.event_steps.specs.Entered.{IsMadeAt};
+ghost use Rattle.event_judge.specs.Listed.{AreStepsOf};
 ghost use Rattle.event_judge.specs.Wanted.{event_leaves};
 
+use crate::listed_event::ListedEvent;
 use crate::wanted::wanted_leaves;
 use body_states::BodyStates;
 use eph_model::Ephemeris;
 use event_expr::Leaves;
 use event_kinds::Event;
-use event_steps::{StepList, StepPlace};
+use event_steps::StepPlace;
 use gf_hooks::CutRule;
 use std::marker::Model;
 
@@ -25,22 +27,20 @@ pub struct EventSearch<'e> {
     wanted: Leaves,
     /// Those that its function names.
     of_function: Leaves,
-    /// The steps of its function.
-    steps: StepList,
-    /// The number of the step that stands for it, where the list has room for all.
-    place: Option<usize>,
+    /// The steps of its function and of its conditions.
+    listed: ListedEvent,
     width: u64,
     depth: u32,
     rule: CutRule,
 }
 
 impl<'e> Model for EventSearch<'e> {
-    ghost use Rattle.std.specs.Prelude.{◌≡◌, ◌<◌, IfSome};
+    ghost use Rattle.std.specs.Prelude.{◌≡◌, ◌<◌};
     ghost use Rattle.std.specs.Coded.{codes};
     ghost use Rattle.spec_expressions.specs.Code.{term_code};
     ghost use Rattle.spec_searches.specs.Search.{Search};
     ghost use Rattle.event_expr.specs.Leaves.{leaves_of};
-    ghost use Rattle.event_steps.specs.Entered.{IsMadeAt};
+    ghost use Rattle.event_judge.specs.Listed.{AreStepsOf};
     ghost use Rattle.event_judge.specs.Wanted.{event_leaves};
 
     ghost Value = { Search };
@@ -59,7 +59,7 @@ impl<'e> Model for EventSearch<'e> {
         × (0 < s.width)
         × (s.wanted ≡ event_leaves s.event)
         × (s.of_function ≡ leaves_of s.event.function)
-        × IfSome s.place (λ place. IsMadeAt s.steps place s.event.function) };
+        × AreStepsOf s.event s.listed };
 }
 
 impl<'e> EventSearch<'e> {
@@ -85,15 +85,14 @@ impl<'e> EventSearch<'e> {
     {
         let wanted = wanted_leaves(&event);
         let of_function = event.function().leaves();
-        let (steps, place) = StepList::of(event.function());
+        let listed = ListedEvent::new(&event);
         EventSearch {
             states,
             ephemeris,
             event,
             wanted,
             of_function,
-            steps,
-            place,
+            listed,
             width: width.unsigned_abs(),
             depth,
             rule,
@@ -144,13 +143,21 @@ impl<'e> EventSearch<'e> {
     pub fn function_step(&self) -> Option<StepPlace<'_>>
         ensures { IfSome result (λ at. IsMadeAt at.steps.now at.place self.now.event.function) }
     {
-        match self.place {
+        match self.listed.function {
             Some(place) => Some(StepPlace {
-                steps: &self.steps,
+                steps: &self.listed.steps,
                 place,
             }),
             None => None,
         }
+    }
+
+    /// The steps of its function and of its conditions.
+    #[inline(always)]
+    pub(crate) fn listed(&self) -> &ListedEvent
+        ensures { AreStepsOf self.now.event result.now }
+    {
+        &self.listed
     }
 
     /// The width down to which nodes are split, in units of the ephemeris's times.

@@ -3,7 +3,8 @@
 //! In come the states of two bodies with their ephemeris, an event of theirs as formulas, the width and the depth down
 //! to which nodes are split, and a cutter; out comes a `Judge`, whose rules are those of the search that it stands for.
 //! It looks at no more of a node than decides: at no enclosure where a border falls into a wide node, at no end where
-//! the function over the whole node decides, or where the ends decide nothing. No call allocates or fails.
+//! the function over the whole node decides, or where the ends decide nothing. What the conditions over a node share with the
+//! function is made once, by a list of steps. No call allocates or fails.
 //!
 //! A `RememberingJudge` stands for another judge of the same search, has its rules, and remembers what it found out in words
 //! that its workers share: the signs of the function at times, steady spans and quiet ones. The verdict of a node in a steady
@@ -19,6 +20,7 @@ mod event_search;
 pub mod examples;
 mod judge;
 mod judging;
+mod listed_event;
 mod memory;
 mod named_judge;
 mod naming;

@@ -234,14 +234,17 @@ impl<N: Naming> Memory<N> {
 
     // The verdict of a node into which no border falls, by the enclosure over the whole of it. A node that is to be split is
     // looked at.
+    #[inline(never)]
     fn judge_over(&self, node: ValidNode) -> Verdict
         requires named { node.search.now ≡ N.search }
         requires uncrossed { crosses node.search.now node.node ≡ false }
         ensures { result ≡ verdict_of N.search node.entry.node }
     {
-        let whole = node.whole();
-        let over = node.enclosure(&whole);
-        let verdict = self.verdict_over(node, &whole, &over);
+        let states = node.whole();
+        let listed = node.search.listed();
+        let mut whole = node.steps_over(&states, listed);
+        let over = node.enclosure(listed, &mut whole);
+        let verdict = self.verdict_over(node, listed, &mut whole, &over);
         if verdict == Verdict::Split {
             self.keep_middle(node, &over);
             self.learn(node);

@@ -5,14 +5,18 @@ ghost use Rattle.spec_trees.specs.Tree.{width};
 ghost use Rattle.spec_events.specs.Stages.{end_verdict, is_above_limits, limit_verdict, open_verdict, unit_verdict};
 ghost use Rattle.spec_searches.specs.Search.{border_in, criteria, crosses, may_be_cut, verdict_of};
 ghost use Rattle.spec_bounds.specs.Steady.{steady_verdict};
+ghost use Rattle.event_judge.specs.Listed.{AreStepsOf};
 ghost use Rattle.event_judge.specs.Found.{enclosure_at, first_moment, guards_at, is_certified_at, is_refuted_at, is_turnless_by, last_moment, sign_at, whole_moment};
 
 use crate::conditions::{are_certified, is_one_refuted};
+use crate::listed_event::ListedEvent;
 use crate::steps::{is_one_way, is_turnless};
 use crate::valid_node::ValidNode;
 use body_states::Snapshot;
+use event_expr::rules::TimeSpan;
 use gf_signs::{differ, has_no_turn, turn_to};
 use ival_core::{Enclosure, Sign};
+use step_enclosures::StepEnclosures;
 use tree_judge::Verdict;
 
 impl<'s, 'e> ValidNode<'s, 'e> {
@@ -107,20 +111,57 @@ impl<'s, 'e> ValidNode<'s, 'e> {
         states.at(self.node.a, self.node.b, self.search.wanted())
     }
 
-    /// The enclosure of the function over some times.
+    /// What is made by steps of the states over all its times: nothing yet.
     #[inline(always)]
-    pub(crate) fn enclosure(self, states: &Snapshot) -> Enclosure
-        ensures { result ≡ enclosure_at self.entry.search.now states.now }
+    pub(crate) fn steps_over<'r>(
+        self,
+        whole: &'r Snapshot<'s, 'e>,
+        listed: &'r ListedEvent,
+    ) -> StepEnclosures<'r, 's, 'e>
+        requires uncrossed { crosses self.search.now self.node ≡ false }
+        requires whole { whole.now ≡ whole_moment self.search.now self.node }
+        ensures { result ≡ record { moment = whole.now; steps = listed.now.steps } }
     {
-        states.enclosure(self.search.event().function())
+        let _columns = self.search.states().columns();
+        let times = TimeSpan::new(self.node.a, self.node.b);
+        StepEnclosures::new(whole, times, &listed.steps)
     }
 
-    /// Its sign.
+    // The same of those at its last time.
+    #[inline(always)]
+    fn steps_at_last<'r>(
+        self,
+        last: &'r Snapshot<'s, 'e>,
+        listed: &'r ListedEvent,
+    ) -> StepEnclosures<'r, 's, 'e>
+        requires { last.now ≡ last_moment self.search.now self.node }
+        ensures { result ≡ record { moment = last.now; steps = listed.now.steps } }
+    {
+        let _columns = self.search.states().columns();
+        let times = TimeSpan::new(self.node.b, self.node.b);
+        StepEnclosures::new(last, times, &listed.steps)
+    }
+
+    /// The enclosure of the function over some times, by steps.
+    #[inline(always)]
+    pub(crate) fn enclosure(self, listed: &ListedEvent, made: &mut StepEnclosures) -> Enclosure
+        requires listed { AreStepsOf self.search.now.event listed.now }
+        requires steps { made.old.steps ≡ listed.now.steps }
+        ensures enclosure { result ≡ enclosure_at self.entry.search.now made.old.moment }
+        ensures same { made.new ≡ made.old }
+    {
+        made.enclosure(self.search.event().function(), listed.function)
+    }
+
+    /// The sign of the function at a single time.
     #[inline(always)]
     pub(crate) fn sign(self, states: &Snapshot) -> Sign
         ensures { result ≡ sign_at self.entry.search.now states.now }
     {
-        self.enclosure(states).range.sign()
+        states
+            .enclosure(self.search.event().function())
+            .range
+            .sign()
     }
 
     /// By an enclosure of the function it has no turn that is wanted.
@@ -133,18 +174,24 @@ impl<'s, 'e> ValidNode<'s, 'e> {
 
     // Some condition is false at each of some times.
     #[inline(always)]
-    fn is_refuted(self, states: &Snapshot) -> bool
-        ensures { result ≡ is_refuted_at self.entry.search.now states.now }
+    fn is_refuted(self, listed: &ListedEvent, made: &mut StepEnclosures) -> bool
+        requires listed { AreStepsOf self.search.now.event listed.now }
+        requires steps { made.old.steps ≡ listed.now.steps }
+        ensures refuted { result ≡ is_refuted_at self.entry.search.now made.old.moment }
+        ensures same { made.new ≡ made.old }
     {
-        is_one_refuted(self.search.event().guards(), states)
+        is_one_refuted(self.search.event().guards(), listed, made)
     }
 
     // Each condition holds at each of some times.
     #[inline(always)]
-    fn is_certified(self, states: &Snapshot) -> bool
-        ensures { result ≡ is_certified_at self.entry.search.now states.now }
+    fn is_certified(self, listed: &ListedEvent, made: &mut StepEnclosures) -> bool
+        requires listed { AreStepsOf self.search.now.event listed.now }
+        requires steps { made.old.steps ≡ listed.now.steps }
+        ensures certified { result ≡ is_certified_at self.entry.search.now made.old.moment }
+        ensures same { made.new ≡ made.old }
     {
-        are_certified(self.search.event().guards(), states)
+        are_certified(self.search.event().guards(), listed, made)
     }
 
     /// The verdict where nothing decides.
@@ -162,14 +209,22 @@ impl<'s, 'e> ValidNode<'s, 'e> {
     // The verdict by the signs at the ends, by which the turns between them are known, with the conditions over some
     // times.
     #[inline(always)]
-    fn end_verdict(self, states: &Snapshot, first: Sign, last: Sign) -> Verdict
+    fn end_verdict(
+        self,
+        listed: &ListedEvent,
+        made: &mut StepEnclosures,
+        first: Sign,
+        last: Sign,
+    ) -> Verdict
+        requires listed { AreStepsOf self.search.now.event listed.now }
+        requires steps { made.old.steps ≡ listed.now.steps }
         ensures { result ≡ end_verdict (criteria self.entry.search.now) self.entry.node
-            (guards_at self.entry.search.now states.now) first last }
+            (guards_at self.entry.search.now made.old.moment) first last }
     {
         let dir = self.search.event().dir();
         if has_no_turn(dir, first, last) {
             Verdict::Clear
-        } else if self.is_narrow() && differ(dir, first, last) && self.is_certified(states) {
+        } else if self.is_narrow() && differ(dir, first, last) && self.is_certified(listed, made) {
             Verdict::One(turn_to(last))
         } else {
             self.limit_verdict()
@@ -206,25 +261,37 @@ impl<'s, 'e> ValidNode<'s, 'e> {
     }
 
     // The verdict of a node that is one unit wide, by the states at its two times.
+    #[inline(never)]
     fn unit_verdict(self) -> Verdict
         ensures { let s = self.entry.search.now in
             let last = last_moment s self.entry.node in
             result ≡ unit_verdict (criteria s) self.entry.node (guards_at s last)
             (sign_at s (first_moment s self.entry.node)) (sign_at s last) }
     {
-        let last = self.last();
-        if self.is_refuted(&last) {
+        let states = self.last();
+        let listed = self.search.listed();
+        let mut made = self.steps_at_last(&states, listed);
+        let last = self.enclosure(listed, &mut made).range.sign();
+        if self.is_refuted(listed, &mut made) {
             Verdict::Clear
         } else {
-            self.end_verdict(&last, self.sign(&self.first()), self.sign(&last))
+            self.end_verdict(listed, &mut made, self.sign(&self.first()), last)
         }
     }
 
-    /// The verdict of a node into which no border falls, by the states over all its times and the enclosure of the function.
-    pub(crate) fn verdict_over(self, whole: &Snapshot, over: &Enclosure) -> Verdict
+    /// The verdict of a node into which no border falls, by what is made by steps of the states over all its times, and by the
+    /// enclosure of the function.
+    pub(crate) fn verdict_over(
+        self,
+        listed: &ListedEvent,
+        whole: &mut StepEnclosures,
+        over: &Enclosure,
+    ) -> Verdict
         requires uncrossed { crosses self.search.now self.node ≡ false }
-        requires whole { whole.now ≡ whole_moment self.search.now self.node }
-        requires over { over.now ≡ enclosure_at self.search.now whole.now }
+        requires listed { AreStepsOf self.search.now.event listed.now }
+        requires steps { whole.old.steps ≡ listed.now.steps }
+        requires whole { whole.old.moment ≡ whole_moment self.search.now self.node }
+        requires over { over.now ≡ enclosure_at self.search.now whole.old.moment }
         ensures { result ≡ verdict_of self.entry.search.now self.entry.node }
     {
         let _width = self.search.width();
@@ -232,10 +299,11 @@ impl<'s, 'e> ValidNode<'s, 'e> {
             Verdict::Clear
         } else if !self.is_wide() {
             self.unit_verdict()
-        } else if self.is_refuted(whole) {
+        } else if self.is_refuted(listed, whole) {
             Verdict::Clear
         } else if is_one_way(over) {
             self.end_verdict(
+                listed,
                 whole,
                 self.sign(&self.first()),
                 self.sign(&self.last_of_function()),
@@ -246,13 +314,16 @@ impl<'s, 'e> ValidNode<'s, 'e> {
     }
 
     // The verdict of a node into which no border falls.
+    #[inline(never)]
     fn open_verdict(self) -> Verdict
         requires { crosses self.search.now self.node ≡ false }
         ensures { result ≡ verdict_of self.entry.search.now self.entry.node }
     {
-        let whole = self.whole();
-        let over = self.enclosure(&whole);
-        self.verdict_over(&whole, &over)
+        let states = self.whole();
+        let listed = self.search.listed();
+        let mut whole = self.steps_over(&states, listed);
+        let over = self.enclosure(listed, &mut whole);
+        self.verdict_over(listed, &mut whole, &over)
     }
 
     /// The verdict of a node into which a border falls.

@@ -4,11 +4,15 @@ use Rattle.spec_events.specs.Verdict.{is_refuted}
 use Rattle.spec_searches.specs.Event.{Condition}
 use Rattle.body_states.specs.Moments.{Moment}
 use Rattle.event_judge.specs.Moments.{finding_in}
+use Rattle.event_judge.proofs.Guards.{guards_at}
 use Rattle.event_judge.proofs.valid_node.ValidNode.is_refuted.Goals as goal
 
 any_map : (m : Moment) (cs : List Condition) → list_any (λ (c : Condition). is_refuted (finding_in m c)) cs ≡ list_any is_refuted (map (finding_in m) cs)
 any_map m [] = refl
 any_map m (c ∷ cs) = ap (λ (b : Bool). is_refuted (finding_in m c) || b) (any_map m cs)
 
-pub returns : goal.returns
-returns c = rw (c.is_one_refuted.ensures, c.guards.ensures, c.event.ensures) (any_map c.args.states.now c.args.self.search.now.event.conditions)
+pub is_one_refuted-requires : goal.is_one_refuted-requires
+is_one_refuted-requires c = record { listed = rw (c.requires.steps, c.guards.ensures, c.event.ensures) (guards_at c.args.self.search.now.event c.args.listed.now c.requires.listed) }
+
+pub returns-clause-refuted : goal.returns-clause-refuted
+returns-clause-refuted c = rw (c.is_one_refuted.ensures.refuted, c.guards.ensures, c.event.ensures) (any_map c.args.made.now.moment c.args.self.search.now.event.conditions)

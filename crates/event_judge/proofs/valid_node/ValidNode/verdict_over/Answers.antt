@@ -5,6 +5,7 @@ use Rattle.spec_events.specs.Stages.{end_verdict}
 use Rattle.spec_events.specs.Verdict.{is_one_way}
 use Rattle.spec_searches.specs.Search.{Search, criteria}
 use Rattle.body_states.specs.Moments.{Moment}
+use Rattle.step_enclosures.specs.Moments.{StepMoment}
 use Rattle.event_judge.specs.Found.{enclosure_at, first_moment, guards_at, is_refuted_at, is_turnless_by, last_moment, sign_at, whole_moment}
 use Rattle.event_judge.proofs.Looking.{both_ways, is_one_way_at, is_turnless_at, one_way, open_unit, refuted, turnless}
 use Rattle.event_judge.proofs.valid_node.ValidNode.verdict_over.Goals as goal
@@ -43,20 +44,20 @@ pub returns-then-is_refuted : goal.returns-then-is_refuted
 returns-then-is_refuted c =
     let s = c.args.self.search.now in
     let n = c.args.self.node in
-    sym (refuted s c.width-width.ensures.some n c.args.self.valid.inside c.requires.uncrossed (turnless_is s n _ c.requires.whole _ false c.if-is_turnless.false _ c.requires.over c.is_turnless.ensures) (sym c.is_wide.ensures ∙ c.if-not-is_wide.false) (refuted_is s n _ c.requires.whole _ true c.if-is_refuted.true c.is_refuted.ensures))
+    sym (refuted s c.width-width.ensures.some n c.args.self.valid.inside c.requires.uncrossed (turnless_is s n _ c.requires.whole _ false c.if-is_turnless.false _ c.requires.over c.is_turnless.ensures) (sym c.is_wide.ensures ∙ c.if-not-is_wide.false) (refuted_is s n _ c.requires.whole _ true c.if-is_refuted.true c.is_refuted.ensures.refuted))
 
 pub returns-then-is_one_way : goal.returns-then-is_one_way
 returns-then-is_one_way c =
     let s = c.args.self.search.now in
     let n = c.args.self.node in
-    let whole : c.args.whole.now ≡ whole_moment s n = c.requires.whole in
+    let whole = ap (λ (m : StepMoment). m.moment) c.is_refuted.ensures.same ∙ c.requires.whole in
     let first : c.sign.result ≡ sign_at s (first_moment s n) = c.sign.ensures ∙ ap (sign_at s) c.first.ensures in
     let last : c.sign-then-is_one_way.result ≡ sign_at s (last_moment s n) = c.sign-then-is_one_way.ensures ∙ ap (sign_at s) c.last_of_function.ensures in
     (c.end_verdict.ensures ∙ λ i. end_verdict (criteria s) n (guards_at s (whole i)) (first i) (last i))
-    ∙ sym (one_way s c.width-width.ensures.some n c.args.self.valid.inside c.requires.uncrossed (turnless_is s n _ c.requires.whole _ false c.if-is_turnless.false _ c.requires.over c.is_turnless.ensures) (sym c.is_wide.ensures ∙ c.if-not-is_wide.false) (refuted_is s n _ c.requires.whole _ false c.if-is_refuted.false c.is_refuted.ensures) (one_way_is s n _ c.requires.whole _ true c.if-is_one_way.true _ c.requires.over c.is_one_way.ensures))
+    ∙ sym (one_way s c.width-width.ensures.some n c.args.self.valid.inside c.requires.uncrossed (turnless_is s n _ c.requires.whole _ false c.if-is_turnless.false _ c.requires.over c.is_turnless.ensures) (sym c.is_wide.ensures ∙ c.if-not-is_wide.false) (refuted_is s n _ c.requires.whole _ false c.if-is_refuted.false c.is_refuted.ensures.refuted) (one_way_is s n _ c.requires.whole _ true c.if-is_one_way.true _ c.requires.over c.is_one_way.ensures))
 
 pub returns-else-is_one_way : goal.returns-else-is_one_way
 returns-else-is_one_way c =
     let s = c.args.self.search.now in
     let n = c.args.self.node in
-    c.limit_verdict.ensures ∙ sym (both_ways s c.width-width.ensures.some n c.args.self.valid.inside c.requires.uncrossed (turnless_is s n _ c.requires.whole _ false c.if-is_turnless.false _ c.requires.over c.is_turnless.ensures) (sym c.is_wide.ensures ∙ c.if-not-is_wide.false) (refuted_is s n _ c.requires.whole _ false c.if-is_refuted.false c.is_refuted.ensures) (one_way_is s n _ c.requires.whole _ false c.if-is_one_way.false _ c.requires.over c.is_one_way.ensures))
+    c.limit_verdict.ensures ∙ sym (both_ways s c.width-width.ensures.some n c.args.self.valid.inside c.requires.uncrossed (turnless_is s n _ c.requires.whole _ false c.if-is_turnless.false _ c.requires.over c.is_turnless.ensures) (sym c.is_wide.ensures ∙ c.if-not-is_wide.false) (refuted_is s n _ c.requires.whole _ false c.if-is_refuted.false c.is_refuted.ensures.refuted) (one_way_is s n _ c.requires.whole _ false c.if-is_one_way.false _ c.requires.over c.is_one_way.ensures))

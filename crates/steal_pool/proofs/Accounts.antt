@@ -16,7 +16,7 @@ use Rattle.spec_pool.proofs.Finding.{nodes_permuted, leaves_permuted}
 use Rattle.spec_pool.proofs.Moving.{weigh_hand, hand_weigh}
 use Rattle.spec_pool.proofs.Weights.{weigh, weigh-append, weigh-push, weigh-flat, weigh-map, weigh-set, sum_is_weigh}
 use Rattle.steal_pool.specs.Rule.{DequeId, End, takes_one}
-use Rattle.steal_pool.specs.Workers.{Holder, taken_by, after_empty_pop, on_deque, on_stack, with_hand, IsSplit, IsRight, TookOne, Takes, TakesOwn, TakesOther, FindsNone}
+use Rattle.steal_pool.specs.Workers.{Holder, taken_by, after_empty_pop, on_deque, on_stack, with_hand, IsSplit, IsRight, TookOne, Takes, TakesInOrder, TakesOwn, TakesOther, FindsNone}
 use Rattle.steal_pool.specs.Seats.{IsLike, account_of, entered_by, Gets, place_of, rules_within, ways, ways_of}
 
 -- ---- weights of an account
@@ -214,8 +214,8 @@ from_deque n w v p none hand kept put takes = (
   },
 )
 
-pub gets : (n : Node) (w v : Holder) (p : SeatHistory) → w.hand ≡ None → Takes n w v → (b : Account) × Gets n (account_of w p) b × IsLike b (account_of v p)
-gets n w v p none (inl (rest, top, e)) = (
+gets_in_order : (n : Node) (w v : Holder) (p : SeatHistory) → w.hand ≡ None → TakesInOrder n w v → (b : Account) × Gets n (account_of w p) b × IsLike b (account_of v p)
+gets_in_order n w v p none (inl (rest, top, e)) = (
   account_of v p,
   (
     ap (λ (u : Holder). u.hand) e,
@@ -223,29 +223,42 @@ gets n w v p none (inl (rest, top, e)) = (
   ),
   like_itself (account_of v p),
 )
-gets n w v p none (inr (inl (empty, oldest, e))) = from_deque n w v p none (ap (λ (u : Holder). u.hand) e) (ap (λ (u : Holder). u.kept) e) (ap (λ (u : Holder). u.own.view.put) e) (inl e)
-gets n w v p none (inr (inr (empty, used, (es, took, e)))) = from_deque n w v p none (ap (λ (u : Holder). u.hand) e) (ap (λ (u : Holder). u.kept) e) (ap (λ (u : Holder). u.own.view.put) e) (inr (es, took, e))
+gets_in_order n w v p none (inr (inl (empty, oldest, e))) = from_deque n w v p none (ap (λ (u : Holder). u.hand) e) (ap (λ (u : Holder). u.kept) e) (ap (λ (u : Holder). u.own.view.put) e) (inl e)
+gets_in_order n w v p none (inr (inr (empty, used, (es, took, e)))) = from_deque n w v p none (ap (λ (u : Holder). u.hand) e) (ap (λ (u : Holder). u.kept) e) (ap (λ (u : Holder). u.own.view.put) e) (inr (es, took, e))
+
+pub gets : (n : Node) (w v : Holder) (p : SeatHistory) → w.hand ≡ None → Takes n w v → (b : Account) × Gets n (account_of w p) b × IsLike b (account_of v p)
+gets n w v p none (inl t) = gets_in_order n w v p none t
+gets n w v p none (inr (inl (filled, oldest, e))) = from_deque n w v p none (ap (λ (u : Holder). u.hand) e) (ap (λ (u : Holder). u.kept) e) (ap (λ (u : Holder). u.own.view.put) e) (inl e)
+gets n w v p none (inr (inr (filled, used, t))) = gets_in_order n (after_empty_pop w) v p none t
 
 -- ---- each balances
-pub takes_works : (t : Rules) (n : Node) (w v : Holder) (p : SeatHistory) → w.hand ≡ None → Takes n w v → Worked t w p v p
-takes_works t n w v p none (inl (rest, top, e)) = works t w p v p [] [] [] (
-  ap (λ (u : Holder). u.own.view.put) e ∙ sym (append-nil w.own.view.put),
-  (λ h. omega (arith, ap (taken_weight h) e)),
-  (λ h. omega arith),
-  (λ h. omega (arith, ap (own_weight t h) e, ap (weigh_hand (by_leaves t h)) none, ap (weigh (by_leaves t h)) top, weigh-push (by_leaves t h) rest n)),
-)
-takes_works t n w v p none (inr (inl (empty, oldest, e))) = works t w p v p [] (n ∷ []) [] (
+own_works : (t : Rules) (n : Node) (w v : Holder) (p : SeatHistory) → w.hand ≡ None → TakesOwn n w v → Worked t w p v p
+own_works t n w v p none e = works t w p v p [] (n ∷ []) [] (
   ap (λ (u : Holder). u.own.view.put) e ∙ sym (append-nil w.own.view.put),
   (λ h. omega (arith, taken_more h n w v (inl e))),
   (λ h. omega arith),
   (λ h. omega (arith, ap (own_weight t h) e, ap (weigh_hand (by_leaves t h)) none)),
 )
-takes_works t n w v p none (inr (inr (empty, used, (es, took, e)))) = works t w p v p [] (n ∷ []) [] (
+
+in_order_works : (t : Rules) (n : Node) (w v : Holder) (p : SeatHistory) → w.hand ≡ None → TakesInOrder n w v → Worked t w p v p
+in_order_works t n w v p none (inl (rest, top, e)) = works t w p v p [] [] [] (
+  ap (λ (u : Holder). u.own.view.put) e ∙ sym (append-nil w.own.view.put),
+  (λ h. omega (arith, ap (taken_weight h) e)),
+  (λ h. omega arith),
+  (λ h. omega (arith, ap (own_weight t h) e, ap (weigh_hand (by_leaves t h)) none, ap (weigh (by_leaves t h)) top, weigh-push (by_leaves t h) rest n)),
+)
+in_order_works t n w v p none (inr (inl (empty, oldest, e))) = own_works t n w v p none e
+in_order_works t n w v p none (inr (inr (empty, used, (es, took, e)))) = works t w p v p [] (n ∷ []) [] (
   ap (λ (u : Holder). u.own.view.put) e ∙ sym (append-nil w.own.view.put),
   (λ h. omega (arith, taken_more h n w v (inr (es, took, e)))),
   (λ h. omega arith),
   (λ h. omega (arith, ap (own_weight t h) e, ap (weigh_hand (by_leaves t h)) none)),
 )
+
+pub takes_works : (t : Rules) (n : Node) (w v : Holder) (p : SeatHistory) → w.hand ≡ None → Takes n w v → Worked t w p v p
+takes_works t n w v p none (inl o) = in_order_works t n w v p none o
+takes_works t n w v p none (inr (inl (filled, oldest, e))) = own_works t n w v p none e
+takes_works t n w v p none (inr (inr (filled, used, o))) = in_order_works t n (after_empty_pop w) v p none o
 
 pub none_works : (t : Rules) (w v : Holder) (p : SeatHistory) → FindsNone w v → Worked t w p v p
 none_works t w v p f = idle_works t w p v p
@@ -290,9 +303,14 @@ places_set [] k e f at same = absurd cc
 places_set (x ∷ es) zero e f at same = let is : x ≡ e = cc in ap (λ (y : ℕ × DequeId). y ∷ map place_of es) (same ∙ ap place_of (sym is))
 places_set (x ∷ es) (suc k) e f at same = ap (λ (ys : List (ℕ × DequeId)). place_of x ∷ ys) (places_set es k e f at same)
 
-pub takes_ways : (n : Node) (w v : Holder) → Takes n w v → ways v ≡ ways w
-takes_ways n w v (inl (rest, top, e)) = ap ways e
-takes_ways n w v (inr (inl (empty, oldest, e))) = ap ways e
-takes_ways n w v (inr (inr (empty, used, (es, (k, x, at, is), e)))) =
+in_order_ways : (n : Node) (w v : Holder) → TakesInOrder n w v → ways v ≡ ways w
+in_order_ways n w v (inl (rest, top, e)) = ap ways e
+in_order_ways n w v (inr (inl (empty, oldest, e))) = ap ways e
+in_order_ways n w v (inr (inr (empty, used, (es, (k, x, at, is), e)))) =
     ap ways e ∙ ap (λ (ys : List (ℕ × DequeId)). ways_of (place_of w.own) w.own.view.made ys)
     (ap (map place_of) is ∙ places_set w.stealers k x (takes_one x n) at refl)
+
+pub takes_ways : (n : Node) (w v : Holder) → Takes n w v → ways v ≡ ways w
+takes_ways n w v (inl o) = in_order_ways n w v o
+takes_ways n w v (inr (inl (filled, oldest, e))) = ap ways e
+takes_ways n w v (inr (inr (filled, used, o))) = in_order_ways n (after_empty_pop w) v o

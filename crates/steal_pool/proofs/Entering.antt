@@ -19,11 +19,9 @@ use Rattle.steal_pool.specs.declared.seat.Stop.{Stop}
 use Rattle.steal_pool.specs.declared.seat.Stop.TheVariants as S
 use Rattle.steal_pool.specs.Seats.{IfFull, IsFullOf, IsLike, SameSeat, Seat, Works, account_of, entered_by, stop_at, ways, with_refusal}
 use Rattle.steal_pool.proofs.Accounts.{Worked, entered_weigh, entered_weight, enter_works, idle_works, split_works, works_more}
+use Rattle.steal_pool.proofs.Stopping.{some_stop}
 
 -- ---- why a seat stops
-no_stop : (stop : Stop) → Some stop ≡ None → ⊥
-no_stop stop e = cc
-
 no_leaf : (l : Leaf) → Some (S.Full l) ≡ Some S.Memory → ⊥
 no_leaf l e = cc
 
@@ -56,8 +54,8 @@ module _ (limit : ℕ) (leaf : Leaf) (p q : SeatHistory) (r : Entry) (m : Enteri
   memory_same e = let t = told Memory e in (ap (λ (x : SeatHistory). x.mine) t, ap (λ (x : SeatHistory). x.again) t)
 
   stopped_same_by : (stop : Stop) (x : Entry) → r ≡ x → Some stop ≡ stop_at x leaf → (q.mine ≡ p.mine) × (q.again ≡ p.again)
-  stopped_same_by stop (Entered place) e s = absurd (no_stop stop s)
-  stopped_same_by stop (Again place) e s = absurd (no_stop stop s)
+  stopped_same_by stop (Entered place) e s = absurd (some_stop stop s)
+  stopped_same_by stop (Again place) e s = absurd (some_stop stop s)
   stopped_same_by stop Full e s = full_same e
   stopped_same_by stop Memory e s = memory_same e
 
@@ -68,8 +66,8 @@ module _ (limit : ℕ) (leaf : Leaf) (p q : SeatHistory) (r : Entry) (m : Enteri
   IsSeenFull l = (l ≡ leaf) × (limit ≤ length q.seen) × Fresh leaf q.seen
 
   stopped_full_by : (l : Leaf) (x : Entry) → r ≡ x → Some (S.Full l) ≡ stop_at x leaf → IsSeenFull l
-  stopped_full_by l (Entered place) e s = absurd (no_stop (S.Full l) s)
-  stopped_full_by l (Again place) e s = absurd (no_stop (S.Full l) s)
+  stopped_full_by l (Entered place) e s = absurd (some_stop (S.Full l) s)
+  stopped_full_by l (Again place) e s = absurd (some_stop (S.Full l) s)
   stopped_full_by l Full e s = let seen = full_seen e in (same_leaf l leaf s, seen.0, seen.1)
   stopped_full_by l Memory e s = absurd (no_leaf l s)
 
@@ -80,8 +78,8 @@ module _ (limit : ℕ) (leaf : Leaf) (p q : SeatHistory) (r : Entry) (m : Enteri
   went_more_by : (x : Entry) → r ≡ x → None ≡ stop_at x leaf → (h : Leaf → ℕ) → entered_weight h q ≡ entered_weight h p + h leaf
   went_more_by (Entered place) e s = entered_more place e
   went_more_by (Again place) e s = again_more place e
-  went_more_by Full e s = absurd (no_stop (S.Full leaf) (sym s))
-  went_more_by Memory e s = absurd (no_stop S.Memory (sym s))
+  went_more_by Full e s = absurd (some_stop (S.Full leaf) (sym s))
+  went_more_by Memory e s = absurd (some_stop S.Memory (sym s))
 
   pub went_more : None ≡ stop_at r leaf → (h : Leaf → ℕ) → entered_weight h q ≡ entered_weight h p + h leaf
   went_more s = went_more_by r refl s

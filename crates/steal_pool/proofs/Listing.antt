@@ -1,7 +1,8 @@
 -- Lists in which one element changes, and lists that stand beside one another.
-use Rattle.std.proofs.Common.{◌≡◌, ◌≢◌, inl, inr, ℕ, zero, suc, ◌+◌, ◌<◌, List, [], ◌∷◌, ◌++◌, map, length, Option, Some, slice_get, slice_set, append_assoc, refl, sym, ap, ◌∙◌, subst, arith}
+use Rattle.std.proofs.Common.{◌≡◌, ◌≢◌, inl, inr, ℕ, zero, suc, ◌+◌, ◌<◌, List, [], ◌∷◌, ◌++◌, map, reverse, length, Option, Some, slice_get, slice_set, append_assoc, refl, sym, ap, ◌∙◌, subst, arith}
+use mathlib.Core.List.{reverse_aux}
 use Rattle.std.proofs.lemmas.Bool.{cases_eq}
-use Rattle.std.proofs.lemmas.List.{append-nil}
+use Rattle.std.proofs.lemmas.List.{append-nil, reverse-reverse}
 use Rattle.std.specs.List.{AllByRecursion, AllZip}
 use Rattle.spec_pool.proofs.Weights.{weigh}
 
@@ -62,6 +63,13 @@ module _ {A : Type 0} where
   pub all_right : (P : A → Type 0) (xs ys : List A) → AllByRecursion P (xs ++ ys) → AllByRecursion P ys
   all_right P [] ys all = all
   all_right P (x ∷ xs) ys all = all_right P xs ys all.1
+
+  all_onto : (P : A → Type 0) (xs ys : List A) → AllByRecursion P xs → AllByRecursion P ys → AllByRecursion P (reverse_aux xs ys)
+  all_onto P [] ys a b = b
+  all_onto P (x ∷ xs) ys a b = all_onto P xs (x ∷ ys) a.1 (a.0, b)
+
+  pub all_reverse : (P : A → Type 0) (xs : List A) → AllByRecursion P xs → AllByRecursion P (reverse xs)
+  all_reverse P xs a = all_onto P xs [] a tt
 
   pub all_each : (P : A → Type 0) (xs : List A) → ((k : ℕ) (x : A) → slice_get xs k ≡ Some x → P x) → AllByRecursion P xs
   all_each P [] each = tt
@@ -147,6 +155,19 @@ module _ {A B : Type 0} (R : A → B → Type 0) where
   zip_push [] (v ∷ ys) x y b r = absurd b
   zip_push (u ∷ xs) [] x y b r = absurd b
   zip_push (u ∷ xs) (v ∷ ys) x y b r = (b.0, zip_push xs ys x y b.1 r)
+
+  zip_onto : (xs : List A) (ys : List B) (us : List A) (vs : List B) → AllZip R xs ys → AllZip R us vs → AllZip R (reverse_aux xs us) (reverse_aux ys vs)
+  zip_onto [] [] us vs a b = b
+  zip_onto [] (y ∷ ys) us vs a b = absurd a
+  zip_onto (x ∷ xs) [] us vs a b = absurd a
+  zip_onto (x ∷ xs) (y ∷ ys) us vs a b = zip_onto xs ys (x ∷ us) (y ∷ vs) a.1 (a.0, b)
+
+  zip_reverse : (xs : List A) (ys : List B) → AllZip R xs ys → AllZip R (reverse xs) (reverse ys)
+  zip_reverse xs ys a = zip_onto xs ys [] [] a tt
+
+  -- one of them is reversed before, the other after
+  pub zip_reversed : (xs us : List A) (ys vs : List B) → us ≡ reverse xs → vs ≡ reverse ys → AllZip R us ys → AllZip R xs vs
+  zip_reversed xs us ys vs e f a = subst (AllZip R xs) (sym f) (subst (λ (zs : List A). AllZip R zs (reverse ys)) (ap reverse e ∙ reverse-reverse xs) (zip_reverse us ys a))
 
   pub zip_length : (xs : List A) (ys : List B) → AllZip R xs ys → length ys ≡ length xs
   zip_length [] [] b = refl

@@ -62,7 +62,7 @@ is_none_stopped ss None b e test is = none_stopped ss (sym e)
 is_none_stopped ss (Some stop) true e test is = absurd cc
 is_none_stopped ss (Some stop) false e test is = absurd cc
 
-some_stop : (stop : Stop) → Some stop ≡ None → ⊥
+pub some_stop : (stop : Stop) → Some stop ≡ None → ⊥
 some_stop stop e = cc
 
 pub is_kept : (ss : List Seat) (r : Option Stop) (b : Bool) → r ≡ worst_stop ss → is_some r ≡ not b → IsFalse b → KeepNone ss → ⊥

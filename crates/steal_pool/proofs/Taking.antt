@@ -1,10 +1,10 @@
 -- What holds for a seat once it took a node, or found none.
-use Rattle.std.proofs.Common.{◌≡◌, Option, Some, None, MatchOption, IfSome, ap}
+use Rattle.std.proofs.Common.{◌≡◌, inl, inr, Option, Some, None, MatchOption, IfSome, ap, subst}
 use Rattle.spec_trees.specs.declared.tree.Node.{Node}
 use Rattle.spec_trees.specs.Tree.{Rules}
 use Rattle.spec_pool.specs.declared.ledger.SeatHistory.{SeatHistory}
 use Rattle.spec_pool.specs.Accounts.{Account}
-use Rattle.steal_pool.specs.Workers.{Holder, Takes, FindsNone}
+use Rattle.steal_pool.specs.Workers.{Holder, Takes, TakesInOrder, IsReopened, FindsNone}
 use Rattle.steal_pool.specs.Seats.{IsLike, account_of, Gets, ways}
 use Rattle.steal_pool.proofs.Accounts.{Worked, gets, none_works, takes_ways, takes_works}
 
@@ -22,3 +22,16 @@ taken_works t (Some n) w v p none f = takes_works t n w v p none f
 pub taken_ways : (r : Option Node) (w v : Holder) → Taken r w v → ways v ≡ ways w
 taken_ways None w v f = ap ways f.2
 taken_ways (Some n) w v f = takes_ways n w v f
+
+-- ---- a pop of the own deque before it looks in order
+reopened_takes : (n : Node) (w u v : Holder) → IsReopened w u → TakesInOrder n u v → Takes n w v
+reopened_takes n w u v (inl e) t = inl (subst (λ (x : Holder). TakesInOrder n x v) e t)
+reopened_takes n w u v (inr (filled, used, e)) t = inr (inr (filled, used, subst (λ (x : Holder). TakesInOrder n x v) e t))
+
+reopened_none : (w u v : Holder) → IsReopened w u → FindsNone u v → FindsNone w v
+reopened_none w u v (inl e) f = subst (λ (x : Holder). FindsNone x v) e f
+reopened_none w u v (inr (filled, used, e)) f = subst (λ (x : Holder). FindsNone x v) e f
+
+pub reopened_taken : (r : Option Node) (w u v : Holder) → IsReopened w u → MatchOption r (FindsNone u v) (λ n. TakesInOrder n u v) → Taken r w v
+reopened_taken None w u v o f = reopened_none w u v o f
+reopened_taken (Some n) w u v o t = reopened_takes n w u v o t

@@ -70,11 +70,27 @@ TakesOther n w v = (es : List End) × TookOne n w.stealers es × (v ≡ holder_o
 
 -- it looks there in this order; its own deque gives what was put there first of what is left, and where it gives nothing,
 -- its pushes in a row count from 0 again
-abbrev pub Takes : Node → Holder → Holder → Type 0
-Takes n w v =
+abbrev pub TakesInOrder : Node → Holder → Holder → Type 0
+TakesInOrder n w v =
     TakesKept n w v
     ⊎ ((w.kept ≡ []) × IsOldest w.own.view n × TakesOwn n w v)
     ⊎ ((w.kept ≡ []) × IsUsedUp w.own.view × TakesOther n (after_empty_pop w) v)
+
+-- so many nodes were put on its own deque in a row that it takes no more until a pop of it gives nothing
+abbrev pub HasFilled : Holder → Type 0
+HasFilled w = 64 ≤ w.pushed_in_a_row
+
+-- nothing happened, or a pop of the own deque, which took no more nodes, gave nothing
+abbrev pub IsReopened : Holder → Holder → Type 0
+IsReopened w v = (v ≡ w) ⊎ (HasFilled w × IsUsedUp w.own.view × (v ≡ after_empty_pop w))
+
+-- it looks in that order. Where its own deque takes no more nodes, it may pop that first: then it took what the deque gave,
+-- or the deque gave nothing, its pushes in a row count from 0 again, and it looked in that order
+abbrev pub Takes : Node → Holder → Holder → Type 0
+Takes n w v =
+    TakesInOrder n w v
+    ⊎ (HasFilled w × IsOldest w.own.view n × TakesOwn n w v)
+    ⊎ (HasFilled w × IsUsedUp w.own.view × TakesInOrder n (after_empty_pop w) v)
 
 -- it found none: where no stealer of its deque is out, what it put there is what it took there
 abbrev pub FindsNone : Holder → Holder → Type 0

@@ -1,5 +1,5 @@
 // All leaves of a root, entered by workers that run at once.
-ghost use Rattle.std.specs.Prelude.{◌≡◌, ◌<◌, ◌≤◌, Some, None, Ok, Err, IfOk, IfErr, length, slice_get, slice_index_or, ℕ};
+ghost use Rattle.std.specs.Prelude.{◌≡◌, ◌<◌, ◌≤◌, Some, None, Ok, Err, IfOk, IfErr, length, slice_get};
 ghost use Rattle.std.specs.List.{AllByRecursion, AllZip};
 ghost use Rattle.spec_trees.specs.Tree.{IsSound, IsValid, leaf_count, leaves};
 ghost use Rattle.spec_trees.specs.Order.{CoverRoot, ordered_leaves};
@@ -55,14 +55,13 @@ impl<'p, N: Naming, J: Judge, G: Gate> PoolSeat<'p, N, J, G> {
     }
 }
 
-// All seats work at once, each in a thread of its own.
-fn work_all<R: Threads + Wait + Sync, N: Naming + Send + Sync, J: Judge, G: Gate>(
+// These seats work at once, the last in this thread and each other in one of its own.
+fn work_each<R: Threads + Wait + Sync, N: Naming + Send + Sync, J: Judge, G: Gate>(
     rt: &R,
     seats: &mut [PoolSeat<N, J, G>],
 )
     requires free { AreFree seats.old }
-    ensures worked { (k : ℕ) (d : Seat) → k < length seats.old
-        → HasWorked N.rules (slice_index_or seats.old k d) (slice_index_or seats.new k d) }
+    ensures worked { AllZip (HasWorked N.rules) seats.old seats.new }
 {
     thread::for_each_mut(
         rt,
@@ -73,6 +72,20 @@ fn work_all<R: Threads + Wait + Sync, N: Naming + Send + Sync, J: Judge, G: Gate
             ensures { HasWorked N.rules seat.entry.now seat.exit.now }
         { seat.drain(rt) },
     );
+}
+
+// All seats work at once. Their order is reversed meanwhile, so that the first, which has the root's left part in its hand,
+// works in this thread: it need not wait until threads are made.
+fn work_all<R: Threads + Wait + Sync, N: Naming + Send + Sync, J: Judge, G: Gate>(
+    rt: &R,
+    seats: &mut [PoolSeat<N, J, G>],
+)
+    requires free { AreFree seats.old }
+    ensures worked { AllZip (HasWorked N.rules) seats.old seats.new }
+{
+    seats.reverse();
+    work_each(rt, seats);
+    seats.reverse();
 }
 
 // The first seat, which has the root in its hand, begins, and then all work at once.

@@ -1,7 +1,7 @@
 // What an end of a deque knows, and the rule of the deque.
 ghost use Rattle.spec_trees.specs.Tree.{Rules};
 
-use crossbeam_deque::protocol::{Join, Outcome, Protocol, Split};
+use crossbeam_deque::protocol::{Join, Lesson, Outcome, Protocol, Split};
 use spec_trees::Node;
 use std::collections::LinkedList;
 use std::marker::{Brand, PhantomData};
@@ -67,6 +67,15 @@ impl<N: Naming> Outcome<Node, DequeView> for Takes<N> {
     ghost then = { OwnerTakes N.rules };
 
     ghost empty = { IsUsedUp };
+}
+
+/// A look at how many nodes a deque holds, of which nothing has to be known: others take from it meanwhile.
+pub struct Looks;
+
+impl Lesson<Node, DequeView> for Looks {
+    ghost use Rattle.std.specs.Prelude.{⊤};
+
+    ghost fact = { λ v xs. ⊤ };
 }
 
 /// A steal. Where it gives no node, the stealer learns nothing.

@@ -59,7 +59,9 @@ impl<'p, N: Naming, J: Judge, G: Gate> PoolSeat<'p, N, J, G> {
 
     /// Takes the next node into the empty hand: the top of the own local stack; where that is empty, the front of the own
     /// deque, the node put there right after those that are gone; where that gives none, a node of another worker's
-    /// deque, by at most 10,000 steal attempts at all of these. Nothing is said of the other deques where none is found.
+    /// deque, by at most 10,000 steal attempts at all of these, in at most 50 sweeps over them, after each of which other
+    /// threads may run. Where 64 nodes were put on the own deque in a row and it was stolen empty, it is popped before the
+    /// local stack is looked at, so that it takes nodes again. Nothing is said of the other deques where none is found.
     /// It does not allocate, and waits for nobody.
     pub fn take(&mut self) -> Option<Node>
         requires empty { self.old.worker.hand ≡ None }

@@ -3,20 +3,24 @@ ghost use Rattle.std.specs.Prelude.{◌≡◌, ◌<◌, ◌≤◌, [], Some, Non
 ghost use Rattle.spec_trees.specs.declared.tree.Node.{Node};
 ghost use Rattle.spec_trees.specs.Tree.{IsSound, IsValid};
 ghost use Rattle.steal_pool.specs.Rule.{HasLeft, IsOldest, IsUsedUp};
-ghost use Rattle.steal_pool.specs.Workers.{FindsNone, IsNew, IsSplit, TookOne, Takes, TakesKept, TakesOther, TakesOwn, Gives, gains, joins, lends, after_empty_pop, new_stealer, on_deque, on_stack, with_hand};
+ghost use Rattle.steal_pool.specs.Workers.{FindsNone, HasFilled, IsNew, IsReopened, IsSplit, TookOne, Takes, TakesInOrder, TakesKept, TakesOther, TakesOwn, Gives, gains, joins, lends, after_empty_pop, new_stealer, on_deque, on_stack, with_hand};
 ghost use Rattle.steal_pool.specs.declared.worker.Pushed.TheVariants.{OnDeque, Kept, Memory as OutOfMemory};
 
 use crate::adding::add;
 use crate::stealer::{Attempts, Stealer};
-use crate::view::{Balance, DequeView, Naming, Puts, StealerSplits, Takes as TakesFront};
+use crate::view::{Balance, DequeView, Looks, Naming, Puts, StealerSplits, Takes as TakesFront};
 use crossbeam_deque::Worker as Deque;
 use spec_pool::Memory;
 use spec_trees::Node;
 use std::alloc::Global;
 use std::marker::Model;
+use std::thread;
 
 /// The first slots of a deque, so that its first 64 pushes never fail.
 const ROOM: usize = 64;
+
+/// The most sweeps over the other deques in one search for a node. Where all are empty, those who work may soon push.
+const MAX_SWEEPS: usize = 50;
 
 /// Where the right part of a node was put: on the own deque, on the own local stack, or nowhere, out of memory.
 #[derive(Debug, Drop, PartialEq, Eq)]
@@ -68,6 +72,21 @@ fn steal_from<N: Naming>(stealers: &mut [Stealer<N>], attempts: &mut Attempts) -
         if let Some(node) = stealer.steal(attempts) {
             return Some(node);
         }
+    }
+    None
+}
+
+// Sweeps over the deques until one gives a node, a bounded number of times, and lets other threads run after each.
+fn sweep<N: Naming>(stealers: &mut [Stealer<N>], attempts: &mut Attempts) -> Option<Node>
+    ensures taken { MatchOption result (stealers.new ≡ stealers.old)
+        (λ n. TookOne n stealers.old stealers.new × IsValid N.rules n) }
+    ensures fewer { attempts.new.left ≤ attempts.old.left }
+{
+    for _ in 0..MAX_SWEEPS {
+        if let Some(node) = steal_from(stealers, attempts) {
+            return Some(node);
+        }
+        thread::yield_now();
     }
     None
 }
@@ -141,8 +160,11 @@ impl<N: Naming> Worker<N> {
         ensures taken { MatchOption result (self.new ≡ self.old)
             (λ n. TakesOther n self.old self.new) }
     {
+        if self.stealers.is_empty() {
+            return None;
+        }
         let mut attempts = Attempts::of_search();
-        match steal_from(self.stealers.as_mut_slice(), &mut attempts) {
+        match sweep(self.stealers.as_mut_slice(), &mut attempts) {
             Some(node) => {
                 self.hand = Some(node);
                 Some(node)
@@ -151,11 +173,32 @@ impl<N: Naming> Worker<N> {
         }
     }
 
-    /// Takes the next node into the empty hand: the top of the local stack; where that is empty, a node of the own deque;
-    /// where that gives none, a node of another deque, by at most 10,000 steal attempts. It does not allocate.
-    pub fn take(&mut self) -> Option<Node>
+    // Whether 64 nodes were put on the own deque since it last gave nothing, and it held none when it was looked at.
+    fn is_stolen_empty(&mut self) -> bool
+        ensures same { self.new ≡ self.old }
+        ensures filled { IsTrue result → HasFilled self.old }
+    {
+        if self.pushed_in_a_row < ROOM {
+            return false;
+        }
+        self.deque.len_as::<Looks>() == 0
+    }
+
+    // Pops the own deque where it was stolen empty after 64 nodes in a row, so that it takes nodes again.
+    fn reopen(&mut self) -> Option<Node>
+        ensures taken { MatchOption result (IsReopened self.old self.new)
+            (λ n. HasFilled self.old × IsOldest self.old.own.view n × TakesOwn n self.old self.new) }
+    {
+        if self.is_stolen_empty() {
+            return self.take_own();
+        }
+        None
+    }
+
+    // Takes the top of the local stack, else a node of the own deque, else one of another deque.
+    fn take_in_order(&mut self) -> Option<Node>
         ensures taken { MatchOption result (FindsNone self.old self.new)
-            (λ n. Takes n self.old self.new) }
+            (λ n. TakesInOrder n self.old self.new) }
     {
         if let Some(node) = self.take_kept() {
             return Some(node);
@@ -164,6 +207,20 @@ impl<N: Naming> Worker<N> {
             return Some(node);
         }
         self.take_other()
+    }
+
+    /// Takes the next node into the empty hand: the top of the local stack; where that is empty, a node of the own deque;
+    /// where that gives none, a node of another deque, by at most 10,000 steal attempts in at most 50 sweeps over these.
+    /// Where 64 nodes were put on the own deque in a row and it was stolen empty, it is popped before the local stack is
+    /// looked at, so that it takes nodes again. It does not allocate.
+    pub fn take(&mut self) -> Option<Node>
+        ensures taken { MatchOption result (FindsNone self.old self.new)
+            (λ n. Takes n self.old self.new) }
+    {
+        if let Some(node) = self.reopen() {
+            return Some(node);
+        }
+        self.take_in_order()
     }
 
     // Puts the right part on the own deque, unless 64 nodes were put there since it last gave nothing, or it is full.

@@ -1,15 +1,12 @@
-use Rattle.std.proofs.Common.{rules, slice_set}
-use Rattle.steal_pool.specs.Runs.{HasWorked}
-use Rattle.steal_pool.proofs.Pooling.{later_more, later_first, left_all, zip_of}
+use Rattle.std.proofs.Common.{slice_set}
+use Rattle.steal_pool.proofs.Pooling.{later_more, later_first, left_all}
 use Rattle.steal_pool.proofs.running.begin_and_work.Goals as goal
 
 pub returns-clause-later : goal.returns-clause-later
 returns-clause-later g c =
     later_more g.N.Naming.rules c.args.seats.now (slice_set c.args.seats.now 0 c.begin.new.self) c.work_all.new.seats
     (later_first g.N.Naming.rules c.args.seats.now c.index-seats-0.result c.begin.new.self c.requires.some c.begin.ensures.later)
-    (zip_of (HasWorked g.N.Naming.rules) (slice_set c.args.seats.now 0 c.begin.new.self) c.work_all.new.seats (search rules) c.work_all.ensures.worked)
+    c.work_all.ensures.worked
 
 pub returns-clause-left : goal.returns-clause-left
-returns-clause-left g c =
-    left_all g.N.Naming.rules (slice_set c.args.seats.now 0 c.begin.new.self) c.work_all.new.seats
-    (zip_of (HasWorked g.N.Naming.rules) (slice_set c.args.seats.now 0 c.begin.new.self) c.work_all.new.seats (search rules) c.work_all.ensures.worked)
+returns-clause-left g c = left_all g.N.Naming.rules (slice_set c.args.seats.now 0 c.begin.new.self) c.work_all.new.seats c.work_all.ensures.worked

@@ -8,12 +8,12 @@ use Rattle.steal_pool.proofs.worker.Worker.take_other.Goals as goal
 
 pub returns-in-Some : goal.returns-in-Some
 returns-in-Some g c =
-    let took : TookOne c.in-Some.node c.self.inside.stealers.items c.steal_from.new.stealers = subst (λ (es : List End). TookOne c.in-Some.node es c.steal_from.new.stealers) c.as_mut_slice.ensures.value c.in-Some.ensures.taken.0 in
-    let len : length c.steal_from.new.stealers ≡ c.self.inside.stealers.len = took_length c.in-Some.node c.self.inside.stealers.items c.steal_from.new.stealers took ∙ sym c.self.inside.stealers.ok.0 in
+    let took : TookOne c.in-Some.node c.self.inside.stealers.items c.sweep.new.stealers = subst (λ (es : List End). TookOne c.in-Some.node es c.sweep.new.stealers) c.as_mut_slice.ensures.value c.in-Some.ensures.taken.0 in
+    let len : length c.sweep.new.stealers ≡ c.self.inside.stealers.len = took_length c.in-Some.node c.self.inside.stealers.items c.sweep.new.stealers took ∙ sym c.self.inside.stealers.ok.0 in
     record {
       taken = rw (← c.self.view_is) (
-        c.steal_from.new.stealers,
+        c.sweep.new.stealers,
         took,
-        ap (λ (es : List End). holder_of (end_of c.self.inside.number (worker_deque c.self.inside.deque) (worker_view c.self.inside.deque)) es c.self.inside.pushed_in_a_row (Some c.in-Some.node) c.self.inside.kept.items) (with_items_is c.self.inside.stealers c.steal_from.new.stealers len),
+        ap (λ (es : List End). holder_of (end_of c.self.inside.number (worker_deque c.self.inside.deque) (worker_view c.self.inside.deque)) es c.self.inside.pushed_in_a_row (Some c.in-Some.node) c.self.inside.kept.items) (with_items_is c.self.inside.stealers c.sweep.new.stealers len),
       );
     }

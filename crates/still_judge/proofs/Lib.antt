@@ -1,4 +1,6 @@
 mod Begun
 mod Eager
 mod Following
+mod Within
 mod Served
+mod Tells

@@ -1,3 +1,4 @@
 pub mod Order
 pub mod Stands
 pub mod Pruned
+pub mod Tells

@@ -1,6 +1,5 @@
 // The leaves of the search that words ask of their files, or leaves that have their windows.
-ghost use Rattle.std.specs.Prelude.{◌≡◌, ◌<◌, ◌≤◌, IfErr, IfOk, true};
-ghost use Rattle.spec_requests.specs.declared.limits.TheConstants.{MAX_WORKERS};
+ghost use Rattle.std.specs.Prelude.{◌≡◌, ◌<◌, IfErr, IfOk, true};
 ghost use Rattle.spec_requests.specs.Limits.{IsWithinLimits};
 ghost use Rattle.spec_outcomes.specs.Outcomes.{Stops};
 ghost use Rattle.spec_outcomes.specs.Queries.{IsQuery, is_within, query_of, span_of};
@@ -13,7 +12,7 @@ use crate::files::ephemeris_of;
 use eph_model::Ephemeris;
 use gf_edges::{Gate, Shelf};
 use gf_query::span_asked;
-use gf_search::{Wanted, coarse_leaves, leaves};
+use gf_search::{Crew, Wanted, coarse_leaves, leaves};
 use spec_outcomes::{Query, Refusal, Span, query_of};
 use spec_requests::FindAsk;
 use spec_trees::Leaf;
@@ -31,29 +30,23 @@ pub(crate) struct Searched {
 
 // What is wanted of a query's search over a span of an ephemeris.
 fn wanted_leaves<R: Threads + Wait + Sync, G: Gate>(
-    rt: &R,
-    alloc: Global,
+    crew: &Crew<R, G>,
     wanted: Wanted,
     ephemeris: &Ephemeris,
     query: &Query,
     span: Span,
-    workers: u32,
-    most: u32,
-    gate: &G,
 ) -> Result<Vec<Leaf>, Refusal>
-    requires some { 1 ≤ workers }
-    requires workers { workers ≤ MAX_WORKERS }
     requires block { 0 < ephemeris.now.blocks }
     requires query { IsQuery query.now }
     requires within { is_within span ephemeris.now ≡ true }
     ensures found { IfOk result (λ found.
-        IsWanted wanted most query.now ephemeris.now span found.items) }
+        IsWanted wanted crew.now.most query.now ephemeris.now span found.items) }
     ensures stopped { IfErr result (λ refusal.
-        Stops most query.now ephemeris.now span refusal) }
+        Stops crew.now.most query.now ephemeris.now span refusal) }
 {
     match wanted {
-        Wanted::Leaves => leaves(rt, alloc, ephemeris, query, span, workers, most, gate),
-        Wanted::Windows => coarse_leaves(rt, alloc, ephemeris, query, span, workers, most, gate),
+        Wanted::Leaves => leaves(crew, ephemeris, query, span),
+        Wanted::Windows => coarse_leaves(crew, ephemeris, query, span),
     }
 }
 
@@ -78,17 +71,14 @@ fn search_span<R: Threads + Wait + Sync, G: Gate>(
         (span_of find.now ephemeris.now) refusal) }
 {
     let query = query_of(find);
-    match wanted_leaves(
-        rt,
+    let crew = Crew {
+        runtime: rt,
         alloc,
-        wanted,
-        ephemeris,
-        &query,
-        span,
-        find.workers,
+        workers: find.workers,
         most,
         gate,
-    ) {
+    };
+    match wanted_leaves(&crew, wanted, ephemeris, &query, span) {
         Ok(leaves) => Ok(Searched { span, leaves }),
         Err(refusal) => Err(refusal),
     }

@@ -12,7 +12,7 @@ use eph_model::Ephemeris;
 use event_kinds::Event;
 use gf_edges::Gate;
 use gf_query::states;
-use gf_search::leaves;
+use gf_search::{Crew, leaves};
 use gf_sets::{Pair, at_least};
 use spec_outcomes::{Query, Refusal, Span};
 use spec_output::MAX_LEAVES;
@@ -67,7 +67,14 @@ pub(crate) fn reached<R: Threads + Wait + Sync, G: Gate>(
     ensures stopped { IfErr result (λ refusal.
         HasTooMany (search query.now ephemeris.now) span refusal) }
 {
-    let found = leaves(rt, alloc, ephemeris, query, span, workers, MAX_LEAVES, gate)?;
+    let crew = Crew {
+        runtime: rt,
+        alloc,
+        workers,
+        most: MAX_LEAVES,
+        gate,
+    };
+    let found = leaves(&crew, ephemeris, query, span)?;
     let pair = reached_by(alloc, ephemeris, query, event, span, &found)?;
     Ok(pair)
 }

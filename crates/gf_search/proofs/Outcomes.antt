@@ -13,13 +13,13 @@ use Rattle.spec_kinds.specs.Faults.{fault_of}
 use Rattle.spec_outcomes.specs.declared.query.Query.{Query}
 use Rattle.spec_outcomes.specs.declared.query.Span.{Span}
 use Rattle.spec_outcomes.specs.declared.refusal.Refusal.{Refusal}
-use Rattle.spec_outcomes.specs.declared.refusal.Refusal.TheVariants.{Memory, TooManyLeaves}
+use Rattle.spec_outcomes.specs.declared.refusal.Refusal.TheVariants.{Memory}
 use Rattle.spec_outcomes.specs.Outcomes.{HasFault, IsFound, Stops}
 use Rattle.spec_outcomes.specs.Queries.{IsQuery, is_within, search}
 use Rattle.spec_outcomes.proofs.Searching.{are_found, fault_stops, few_searched, found_is, is_found, leaves_stop}
 use Rattle.gf_search.specs.declared.wanted.Wanted.{Wanted}
 use Rattle.gf_search.specs.declared.wanted.Wanted.TheVariants.{Leaves, Windows}
-use Rattle.gf_search.specs.Wanted.{AreLeaves, AreWanted, HasWindows, HaveWindows, IsWanted}
+use Rattle.gf_search.specs.Wanted.{AreLeaves, AreWanted, HasWindows, HaveWindows, IsWanted, StopsAt}
 
 -- there is no judge
 pub fault_is : (most : ℕ) (q : Query) (e : Ephemeris) (span : Span) → is_within span e ≡ true → (r : Refusal) → (r ≡ Memory) ⊎ HasFault e q.ask r → Stops most q e span r
@@ -42,9 +42,8 @@ module _ (most : ℕ) (t : Rules) (s : Search) (n : Node) (same : t ≡ rules s)
   pub are_leaves : IfOk r (λ found. found.items ≡ leaves t n) → IfOk r (λ found. leaf_count t n ≤ most) → IfOk r (λ found. AreLeaves most s n found.items)
   are_leaves = both_ok (λ found. found.items ≡ leaves t n) (λ found. leaf_count t n ≤ most) (λ found. AreLeaves most s n found.items) leaves_by r
 
-  pub leaves_stopped_by : IfErr r (λ stop. (stop ≡ Memory) ⊎ ((stop ≡ TooManyLeaves most) × (most < leaf_count t n)))
-      → IfErr r (λ stop. (stop ≡ Memory) ⊎ ((stop ≡ TooManyLeaves most) × (most < leaf_count (rules s) n)))
-  leaves_stopped_by = subst (λ (u : Rules). IfErr r (λ stop. (stop ≡ Memory) ⊎ ((stop ≡ TooManyLeaves most) × (most < leaf_count u n)))) same
+  pub leaves_stopped_by : IfErr r (StopsAt most (leaf_count t n)) → IfErr r (StopsAt most (leaf_count (rules s) n))
+  leaves_stopped_by = subst (λ (u : Rules). IfErr r (StopsAt most (leaf_count u n))) same
 
 -- the tree of the judge is that of the query
 module _ (most : ℕ) (q : Query) (e : Ephemeris) (span : Span) (within : is_within span e ≡ true) (sound : fault_of e q.ask ≡ None) (s : Search) (n : Node) (is : s ≡ search q e) (whole : n ≡ root span.from span.upto) where
@@ -66,9 +65,8 @@ module _ (most : ℕ) (q : Query) (e : Ephemeris) (span : Span) (within : is_wit
   wanted_found checked block query Leaves ls are = leaves_found checked block query ls are
   wanted_found checked block query Windows ls have = windows_found checked block query ls have
 
-  pub leaves_stopped : (r : Result (Vec Leaf Global) Refusal) → IfErr r (λ stop. (stop ≡ Memory) ⊎ ((stop ≡ TooManyLeaves most) × (most < leaf_count (rules s) n)))
-      → IfErr r (λ stop. Stops most q e span stop)
+  pub leaves_stopped : (r : Result (Vec Leaf Global) Refusal) → IfErr r (StopsAt most (leaf_count (rules s) n)) → IfErr r (λ stop. Stops most q e span stop)
   leaves_stopped (Ok found) stops = tt
   leaves_stopped (Err r) stops =
       leaves_stop most q e span r (found_is most q e span within sound)
-      (subst (λ (count : ℕ). (r ≡ Memory) ⊎ ((r ≡ TooManyLeaves most) × (most < count))) (λ i. leaf_count (rules (is i)) (whole i)) stops)
+      (subst (λ (count : ℕ). StopsAt most count r) (λ i. leaf_count (rules (is i)) (whole i)) stops)

@@ -1,5 +1,5 @@
 -- What is wanted of a search: its leaves, or leaves that have the windows of its leaves.
-use Rattle.std.specs.Prelude.{◌≡◌, ◌≤◌, ℕ, true, List, Ok}
+use Rattle.std.specs.Prelude.{◌≡◌, ◌⊎◌, ◌<◌, ◌≤◌, ℕ, true, List, Ok}
 use Rattle.spec_ephemeris.specs.Ephemeris.{Ephemeris}
 use Rattle.spec_trees.specs.declared.tree.Leaf.{Leaf}
 use Rattle.spec_trees.specs.declared.tree.Node.{Node}
@@ -9,6 +9,8 @@ use Rattle.spec_searches.specs.Found.{rules}
 use Rattle.spec_searches.specs.Search.{Search}
 use Rattle.spec_outcomes.specs.declared.query.Query.{Query}
 use Rattle.spec_outcomes.specs.declared.query.Span.{Span}
+use Rattle.spec_outcomes.specs.declared.refusal.Refusal.{Refusal}
+use Rattle.spec_outcomes.specs.declared.refusal.Refusal.TheVariants.{Memory, TooManyLeaves}
 use Rattle.spec_outcomes.specs.Outcomes.{IsFound, found}
 use Rattle.spec_outcomes.specs.Queries.{AreFound, is_within, leaves_in, search, windows_in}
 use Rattle.gf_search.specs.declared.wanted.Wanted.{Wanted}
@@ -29,6 +31,10 @@ pub record HaveWindows (most : ℕ) (s : Search) (n : Node) (ls : List Leaf) : T
 abbrev pub AreWanted : Wanted → ℕ → Search → Node → List Leaf → Type 0
 AreWanted Leaves = AreLeaves
 AreWanted Windows = HaveWindows
+
+-- memory ran out, or it has so many leaves, more than there may be
+abbrev pub StopsAt : ℕ → ℕ → Refusal → Type 0
+StopsAt most count refusal = (refusal ≡ Memory) ⊎ ((refusal ≡ TooManyLeaves most) × (most < count))
 
 -- ---- of a query over a span of an ephemeris
 -- leaves that follow one another over the span, and have the windows of what a search of at most so many leaves finds: those

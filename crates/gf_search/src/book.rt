@@ -1,9 +1,10 @@
 // The leaves of the book that workers fill.
-ghost use Rattle.std.specs.Prelude.{◌≡◌, ◌⊎◌, ◌<◌, ◌≤◌, IfErr, IfOk};
-ghost use Rattle.spec_requests.specs.declared.limits.TheConstants.{MAX_WORKERS};
+ghost use Rattle.std.specs.Prelude.{◌≡◌, ◌≤◌, IfErr, IfOk};
 ghost use Rattle.spec_trees.specs.Order.{CoverRoot, ordered_leaves};
 ghost use Rattle.spec_trees.specs.Tree.{IsValid, leaf_count, leaves};
+ghost use Rattle.gf_search.specs.Wanted.{StopsAt};
 
+use crate::crew::Crew;
 use gf_edges::Gate;
 use halving::Judge;
 use ordered_join::leaves;
@@ -24,29 +25,30 @@ fn leaves_of(alloc: Global, book: &Book) -> Result<Vec<Leaf>, Refusal>
     Ok(found)
 }
 
-/// The leaves of a root in order of time, which so many workers enter at once, or `TooManyLeaves` where they are more than
-/// `most`. The gate is passed before each judging.
+/// The leaves of a root in order of time, which a crew enters, or `TooManyLeaves` where they are more than it may find. Its
+/// gate is passed before each judging.
 pub(crate) fn leaves_by<R: Threads + Wait + Sync, J: Judge, G: Gate>(
-    rt: &R,
-    alloc: Global,
+    crew: &Crew<R, G>,
     judge: &J,
     root: Node,
-    workers: u32,
-    most: u32,
-    gate: &G,
 ) -> Result<Vec<Leaf>, Refusal>
-    requires some { 1 ≤ workers }
-    requires workers { workers ≤ MAX_WORKERS }
     requires valid { IsValid (J.rules judge.now) root }
     ensures leaves { IfOk result (λ found. found.items ≡ leaves (J.rules judge.now) root) }
-    ensures few { IfOk result (λ found. leaf_count (J.rules judge.now) root ≤ most) }
-    ensures stopped { IfErr result (λ refusal. (refusal ≡ Refusal.Memory)
-        ⊎ ((refusal ≡ Refusal.TooManyLeaves most)
-        × (most < leaf_count (J.rules judge.now) root))) }
+    ensures few { IfOk result (λ found. leaf_count (J.rules judge.now) root ≤ crew.now.most) }
+    ensures stopped { IfErr result (λ refusal.
+        StopsAt crew.now.most (leaf_count (J.rules judge.now) root) refusal) }
 {
-    match run(rt, alloc, judge, root, workers, most, gate) {
-        Ok(book) => leaves_of(alloc, &book),
-        Err(PoolError::TooMany) => Err(Refusal::TooManyLeaves { most }),
+    match run(
+        crew.runtime,
+        crew.alloc,
+        judge,
+        root,
+        crew.workers,
+        crew.most,
+        crew.gate,
+    ) {
+        Ok(book) => leaves_of(crew.alloc, &book),
+        Err(PoolError::TooMany) => Err(Refusal::TooManyLeaves { most: crew.most }),
         Err(PoolError::Memory) => Err(Refusal::Memory),
     }
 }

@@ -1,6 +1,5 @@
 // Leaves that have the windows of a search: those of its eager tree, of its coarse tree or of its tree.
-ghost use Rattle.std.specs.Prelude.{◌≡◌, ◌⊎◌, ◌↔◌, ◌<◌, ◌≤◌, All, IfErr, IfOk, IfSome, IsTrue, nat_le, true};
-ghost use Rattle.spec_requests.specs.declared.limits.TheConstants.{MAX_WORKERS};
+ghost use Rattle.std.specs.Prelude.{◌≡◌, ◌↔◌, All, IfErr, IfOk, IfSome, IsTrue, nat_le, true};
 ghost use Rattle.spec_trees.specs.Tree.{HasTime, IsValid, leaf_count, leaves};
 ghost use Rattle.spec_searches.specs.Found.{rules};
 ghost use Rattle.spec_stills.specs.Coarse.{coarse_rules};
@@ -8,9 +7,10 @@ ghost use Rattle.spec_stills.specs.Still.{IsStill};
 ghost use Rattle.spec_stills.specs.Weights.{weights};
 ghost use Rattle.spec_eager.specs.Eager.{eager_rules};
 ghost use Rattle.spec_eager.specs.Told.{AreTold};
-ghost use Rattle.gf_search.specs.Wanted.{HaveWindows};
+ghost use Rattle.gf_search.specs.Wanted.{HaveWindows, StopsAt};
 
 use crate::book::leaves_by;
+use crate::crew::Crew;
 use event_judge::{EventSearch, Judge};
 use gf_edges::Gate;
 use halving::rules_are_sound;
@@ -22,24 +22,28 @@ use spec_stills::laws::{
     coarse_trees_are_sound, coarse_trees_have_fewer_leaves, coarse_trees_have_the_same_windows,
 };
 use spec_trees::{Leaf, Node, leaves_cover_the_node};
-use std::alloc::Global;
 use std::sync::Wait;
 use std::thread::Threads;
 use still_judge::{EagerJudge, StillJudge, StillList, are_told};
 use still_shares::still_spans_by;
 
-/// Still spans of a search over the times of a node, in order, which so many workers look for.
-pub(crate) fn stills_of<R: Threads + Sync>(
-    rt: &R,
-    alloc: Global,
+/// Still spans of a search over the times of a node, in order, which a crew looks for.
+pub(crate) fn stills_of<R: Threads + Sync, G>(
+    crew: &Crew<R, G>,
     search: &EventSearch,
     node: Node,
-    workers: u32,
 ) -> Result<StillList, Refusal>
     ensures still { IfOk result (λ stills. All (IsStill search.now) stills) }
     ensures memory { IfErr result (λ refusal. refusal ≡ Refusal.Memory) }
 {
-    match still_spans_by(rt, alloc, search, node.a, node.b, workers) {
+    match still_spans_by(
+        crew.runtime,
+        crew.alloc,
+        search,
+        node.a,
+        node.b,
+        crew.workers,
+    ) {
         Ok(spans) => Ok(StillList::new(spans)),
         Err(_) => Err(Refusal::Memory),
     }
@@ -47,18 +51,12 @@ pub(crate) fn stills_of<R: Threads + Sync>(
 
 // The leaves of the eager tree of a search, by a judge of its nodes and by spans that may be still.
 fn eager_leaves_by<R: Threads + Wait + Sync, J: Judge, G: Gate>(
-    rt: &R,
-    alloc: Global,
+    crew: &Crew<R, G>,
     judge: &J,
     search: &EventSearch,
     stills: &StillList,
     root: Node,
-    workers: u32,
-    most: u32,
-    gate: &G,
 ) -> Result<Vec<Leaf>, Refusal>
-    requires some { 1 ≤ workers }
-    requires workers { workers ≤ MAX_WORKERS }
     requires rules { J.rules judge.now ≡ rules search.now }
     requires valid { IsValid (rules search.now) root }
     ensures { IfOk result (λ found. found.items
@@ -66,7 +64,7 @@ fn eager_leaves_by<R: Threads + Wait + Sync, J: Judge, G: Gate>(
 {
     eager_trees_are_sound();
     let eager = EagerJudge::new(judge, search, stills);
-    leaves_by(rt, alloc, &eager, root, workers, most, gate)
+    leaves_by(crew, &eager, root)
 }
 
 // Whether no leaf of an eager tree is undecided, and they stand for no more than so many leaves of the tree of the search.
@@ -80,23 +78,17 @@ fn are_decided(search: &EventSearch, stills: &StillList, leaves: &[Leaf], most: 
 
 // The leaves of the eager tree of a search, by a judge of its nodes and by still spans, where they tell the windows of its tree.
 fn eager_windows<R: Threads + Wait + Sync, J: Judge, G: Gate>(
-    rt: &R,
-    alloc: Global,
+    crew: &Crew<R, G>,
     judge: &J,
     search: &EventSearch,
     stills: &StillList,
     root: Node,
-    workers: u32,
-    most: u32,
-    gate: &G,
 ) -> Result<Option<Vec<Leaf>>, Refusal>
-    requires some { 1 ≤ workers }
-    requires workers { workers ≤ MAX_WORKERS }
     requires rules { J.rules judge.now ≡ rules search.now }
     requires valid { IsValid (rules search.now) root }
     requires still { All (IsStill search.now) stills.now }
     ensures windows { IfOk result (λ found. IfSome found (λ told.
-        HaveWindows most search.now root told.items)) }
+        HaveWindows crew.now.most search.now root told.items)) }
     ensures memory { IfErr result (λ refusal. refusal ≡ Refusal.Memory) }
 {
     search.is_search();
@@ -104,9 +96,9 @@ fn eager_windows<R: Threads + Wait + Sync, J: Judge, G: Gate>(
     decided_eager_trees_have_the_same_windows();
     eager_trees_weigh_enough();
     leaves_cover_the_node();
-    match eager_leaves_by(rt, alloc, judge, search, stills, root, workers, most, gate) {
+    match eager_leaves_by(crew, judge, search, stills, root) {
         Ok(found) => {
-            if are_decided(search, stills, &found, most) {
+            if are_decided(search, stills, &found, crew.most) {
                 Ok(Some(found))
             } else {
                 Ok(None)
@@ -119,95 +111,74 @@ fn eager_windows<R: Threads + Wait + Sync, J: Judge, G: Gate>(
 
 // The leaves of the coarse tree of a search, by a judge of its nodes and by spans that may be still.
 fn coarse_leaves_by<R: Threads + Wait + Sync, J: Judge, G: Gate>(
-    rt: &R,
-    alloc: Global,
+    crew: &Crew<R, G>,
     judge: &J,
     search: &EventSearch,
     stills: &StillList,
     root: Node,
-    workers: u32,
-    most: u32,
-    gate: &G,
 ) -> Result<Vec<Leaf>, Refusal>
-    requires some { 1 ≤ workers }
-    requires workers { workers ≤ MAX_WORKERS }
     requires rules { J.rules judge.now ≡ rules search.now }
     requires valid { IsValid (rules search.now) root }
     ensures leaves { IfOk result (λ found. found.items
         ≡ leaves (coarse_rules search.now stills.now) root) }
-    ensures stopped { IfErr result (λ refusal. (refusal ≡ Refusal.Memory)
-        ⊎ ((refusal ≡ Refusal.TooManyLeaves most)
-        × (most < leaf_count (coarse_rules search.now stills.now) root))) }
+    ensures stopped { IfErr result (λ refusal.
+        StopsAt crew.now.most (leaf_count (coarse_rules search.now stills.now) root) refusal) }
 {
     let coarse = StillJudge {
         judge,
         search,
         stills,
     };
-    leaves_by(rt, alloc, &coarse, root, workers, most, gate)
+    leaves_by(crew, &coarse, root)
 }
 
 // The leaves of the tree of a search, by a judge of its nodes, which have its windows.
 fn fine_leaves_by<R: Threads + Wait + Sync, J: Judge, G: Gate>(
-    rt: &R,
-    alloc: Global,
+    crew: &Crew<R, G>,
     judge: &J,
     search: &EventSearch,
     root: Node,
-    workers: u32,
-    most: u32,
-    gate: &G,
 ) -> Result<Vec<Leaf>, Refusal>
-    requires some { 1 ≤ workers }
-    requires workers { workers ≤ MAX_WORKERS }
     requires rules { J.rules judge.now ≡ rules search.now }
     requires valid { IsValid (rules search.now) root }
     ensures windows { IfOk result (λ found.
-        HaveWindows most search.now root found.items) }
-    ensures stopped { IfErr result (λ refusal. (refusal ≡ Refusal.Memory)
-        ⊎ ((refusal ≡ Refusal.TooManyLeaves most)
-        × (most < leaf_count (rules search.now) root))) }
+        HaveWindows crew.now.most search.now root found.items) }
+    ensures stopped { IfErr result (λ refusal.
+        StopsAt crew.now.most (leaf_count (rules search.now) root) refusal) }
 {
     rules_are_sound(judge);
     leaves_cover_the_node();
-    leaves_by(rt, alloc, judge, root, workers, most, gate)
+    leaves_by(crew, judge, root)
 }
 
 // Leaves that have the windows of the tree of a search at a root, by a judge of its nodes and by still spans: those of the
-// coarse tree, or those of the tree where it may have more than `most`; or `TooManyLeaves` where it has.
+// coarse tree, or those of the tree where it may have more than the crew may find; or `TooManyLeaves` where it has.
 fn coarse_windows<R: Threads + Wait + Sync, J: Judge, G: Gate>(
-    rt: &R,
-    alloc: Global,
+    crew: &Crew<R, G>,
     judge: &J,
     search: &EventSearch,
     stills: &StillList,
     root: Node,
-    workers: u32,
-    most: u32,
-    gate: &G,
 ) -> Result<Vec<Leaf>, Refusal>
-    requires some { 1 ≤ workers }
-    requires workers { workers ≤ MAX_WORKERS }
     requires rules { J.rules judge.now ≡ rules search.now }
     requires valid { IsValid (rules search.now) root }
     requires still { All (IsStill search.now) stills.now }
     ensures windows { IfOk result (λ found.
-        HaveWindows most search.now root found.items) }
-    ensures stopped { IfErr result (λ refusal. (refusal ≡ Refusal.Memory)
-        ⊎ ((refusal ≡ Refusal.TooManyLeaves most)
-        × (most < leaf_count (rules search.now) root))) }
+        HaveWindows crew.now.most search.now root found.items) }
+    ensures stopped { IfErr result (λ refusal.
+        StopsAt crew.now.most (leaf_count (rules search.now) root) refusal) }
 {
     search.is_search();
     coarse_trees_are_sound();
     coarse_trees_have_the_same_windows();
     coarse_trees_have_fewer_leaves();
     leaves_cover_the_node();
-    match coarse_leaves_by(rt, alloc, judge, search, stills, root, workers, most, gate) {
+    match coarse_leaves_by(crew, judge, search, stills, root) {
         Ok(found) => {
-            if stills.are_few(search, &found, most) {
+            if stills.are_few(search, &found, crew.most) {
                 Ok(found)
             } else {
-                fine_leaves_by(rt, alloc, judge, search, root, workers, most, gate)
+                fine_leaves_by(crew, judge, search, root)
             }
         }
         Err(refusal) => Err(refusal),
@@ -216,35 +187,28 @@ fn coarse_windows<R: Threads + Wait + Sync, J: Judge, G: Gate>(
 
 /// Leaves that have the windows of the tree of a search at a root, by a judge of its nodes and by still spans, in order of
 /// time: those of the tree, where there are no spans; those of the eager tree, where they leave nothing undecided; or those of
-/// the coarse tree; or those of the tree, where it may have more than `most`; or `TooManyLeaves` where it has.
+/// the coarse tree; or those of the tree, where it may have more than the crew may find; or `TooManyLeaves` where it has.
 pub(crate) fn windowed_leaves<R: Threads + Wait + Sync, J: Judge, G: Gate>(
-    rt: &R,
-    alloc: Global,
+    crew: &Crew<R, G>,
     judge: &J,
     search: &EventSearch,
     stills: &StillList,
     root: Node,
-    workers: u32,
-    most: u32,
-    gate: &G,
 ) -> Result<Vec<Leaf>, Refusal>
-    requires some { 1 ≤ workers }
-    requires workers { workers ≤ MAX_WORKERS }
     requires rules { J.rules judge.now ≡ rules search.now }
     requires valid { IsValid (rules search.now) root }
     requires still { All (IsStill search.now) stills.now }
     ensures windows { IfOk result (λ found.
-        HaveWindows most search.now root found.items) }
-    ensures stopped { IfErr result (λ refusal. (refusal ≡ Refusal.Memory)
-        ⊎ ((refusal ≡ Refusal.TooManyLeaves most)
-        × (most < leaf_count (rules search.now) root))) }
+        HaveWindows crew.now.most search.now root found.items) }
+    ensures stopped { IfErr result (λ refusal.
+        StopsAt crew.now.most (leaf_count (rules search.now) root) refusal) }
 {
     if stills.is_empty() {
-        return fine_leaves_by(rt, alloc, judge, search, root, workers, most, gate);
+        return fine_leaves_by(crew, judge, search, root);
     }
-    match eager_windows(rt, alloc, judge, search, stills, root, workers, most, gate) {
+    match eager_windows(crew, judge, search, stills, root) {
         Ok(Some(found)) => Ok(found),
-        Ok(None) => coarse_windows(rt, alloc, judge, search, stills, root, workers, most, gate),
+        Ok(None) => coarse_windows(crew, judge, search, stills, root),
         Err(refusal) => Err(refusal),
     }
 }

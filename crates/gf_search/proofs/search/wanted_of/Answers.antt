@@ -14,8 +14,8 @@ use Rattle.gf_search.specs.Wanted.{AreWanted, IsWanted}
 use Rattle.gf_search.proofs.Outcomes.{leaves_stopped, wanted_found}
 use Rattle.gf_search.proofs.search.wanted_of.Goals as goal
 
-pub wanted_at-requires-clause-valid : goal.wanted_at-requires-clause-valid
-wanted_at-requires-clause-valid g c κs lives =
+pub remembered_leaves-requires-clause-valid : goal.remembered_leaves-requires-clause-valid
+remembered_leaves-requires-clause-valid g c κs lives =
     let q = c.args.query.now in
     let e = c.args.ephemeris.now in
     let valid = root_valid q e c.args.span c.requires.within in
@@ -24,16 +24,16 @@ wanted_at-requires-clause-valid g c κs lives =
 
 pub returns-clause-found : goal.returns-clause-found
 returns-clause-found g c =
-    let most = c.args.most in
+    let most = c.args.crew.now.most in
     let q = c.args.query.now in
     let e = c.args.ephemeris.now in
     let s = c.judge-judge.result.search in
     let n = c.root_of-root.result in
-    ok_also {X = Vec Leaf Global} {E = Refusal} (λ found. AreWanted c.args.wanted most s n found.items) (λ found. IsWanted c.args.wanted most q e c.args.span found.items) c.wanted_at.result
+    ok_also {X = Vec Leaf Global} {E = Refusal} (λ found. AreWanted c.args.wanted most s n found.items) (λ found. IsWanted c.args.wanted most q e c.args.span found.items) c.remembered_leaves.result
     (λ found are. wanted_found most q e c.args.span c.requires.within c.requires.sound s n c.judge-judge.ensures c.root_of-root.ensures c.header-header.ensures.checked c.requires.block c.requires.query c.args.wanted found.items are)
-    c.wanted_at.ensures.found
+    c.remembered_leaves.ensures.found
 
 pub returns-clause-stopped : goal.returns-clause-stopped
 returns-clause-stopped g c =
-    leaves_stopped c.args.most c.args.query.now c.args.ephemeris.now c.args.span c.requires.within c.requires.sound c.judge-judge.result.search c.root_of-root.result c.judge-judge.ensures c.root_of-root.ensures
-    c.wanted_at.result c.wanted_at.ensures.stopped
+    leaves_stopped c.args.crew.now.most c.args.query.now c.args.ephemeris.now c.args.span c.requires.within c.requires.sound c.judge-judge.result.search c.root_of-root.result c.judge-judge.ensures c.root_of-root.ensures
+    c.remembered_leaves.result c.remembered_leaves.ensures.stopped

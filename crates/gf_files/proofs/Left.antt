@@ -5,7 +5,7 @@ use Rattle.std.specs.Io.{ReadsAtMost}
 use Rattle.std.specs.Io.KnownBytes.{Consumes, IsAtEnd, Keeps, ReadConsumes}
 use Rattle.std.proofs.Math.Seq.{drop-append_seam, take-append_seam}
 use Rattle.std.proofs.lemmas.List.{length-drop, take-append-le}
-use Rattle.gf_edges.specs.Edges.{Files, Opens, file_of}
+use Rattle.gf_edges.specs.Edges.{Files, Lacks, Opens, file_of}
 use Rattle.spec_files.specs.Files.{HasLeft}
 use Rattle.gf_files.specs.Read.{Grows}
 
@@ -22,6 +22,15 @@ pub left_past : (files : Option Files) (name : List ℕ) (before after : Option 
     → Consumes before after read → length read ≡ n → HasLeft files name n after
 left_past None name before after read n opens took size = tt
 left_past (Some told) name before after read n opens took size = left_in (file_of name told) before after read n opens.0 opens.1 took size
+
+not_none : (left : Option (List ℕ)) → left ≡ None → IsSome left → ⊥
+not_none None is some = absurd (cc)
+not_none (Some bytes) is some = absurd (cc)
+
+-- a file that is not there does not open
+pub not_opened : (files : Option Files) (name : List ℕ) (left : Option (List ℕ)) → Opens files name left → Lacks files name → ⊥
+not_opened None name left opens lacks = lacks
+not_opened (Some told) name left opens lacks = not_none left (opens.0 ∙ lacks) opens.1
 
 -- bytes are taken, and then more
 pub consumes_more : (a b c : Option (List ℕ)) (xs ys : List ℕ) → Consumes a b xs → Consumes b c ys → Consumes a c (xs ++ ys)

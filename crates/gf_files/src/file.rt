@@ -120,6 +120,8 @@ pub fn read_file<S: Shelf>(
         → HasLeft (S.files shelf.old) name.now (MAX_TEXT_BYTES + 1) (S.left shelf.new) }
     ensures failed { (place : ℕ) → IsErrOf result (FilesError.NotRead place) → (place ≡ file)
         × (Rose (S.faults shelf.old) (S.faults shelf.new) ⊎ Lacks (S.files shelf.old) name.now) }
+    ensures lacking { Lacks (S.files shelf.old) name.now
+        → IsErrOf result (FilesError.NotRead file) }
     ensures taken { S.ready shelf.new → FewAreTaken (S.files shelf.old) name.now (S.left shelf.new) }
     ensures files { S.files shelf.new ≡ S.files shelf.old }
     ensures later { S.faults shelf.old ≤ S.faults shelf.new }

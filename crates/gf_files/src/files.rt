@@ -4,6 +4,7 @@ ghost use Rattle.gf_edges.specs.Edges.{Lacks, Rose};
 ghost use Rattle.spec_text.specs.declared.decimals.Fault.{Fault};
 ghost use Rattle.spec_files.specs.Files.{FewAreTaken, FewAreTakenOfOne};
 ghost use Rattle.spec_files.specs.Reading.{AreAccepted, AreRefused, HasFirstFault, IsNotRead};
+ghost use Rattle.spec_files.specs.Texts.{fault_at};
 ghost use Rattle.gf_files.specs.Read.{HaveRead, StopsAtFile, TakesFile};
 ghost use Rattle.gf_files.specs.Reader.{IsReady};
 
@@ -92,6 +93,8 @@ pub fn read_files<S: Shelf>(
         (S.faults shelf.old) (S.faults shelf.new) file }
     ensures taken { length names.now ≤ MAX_FILES → S.ready shelf.new
         → FewAreTakenOfOne (S.files shelf.old) (map string_bytes names.now) (S.left shelf.new) }
+    ensures too_many { MAX_FILES < length names.now
+        → IsErrOf result (FilesError.Fault MAX_FILES (fault_at 0 TOO_MANY_FILES)) }
     ensures names_are_counted_first { MAX_FILES < length names.now → shelf.new ≡ shelf.old }
     ensures files { S.files shelf.new ≡ S.files shelf.old }
     ensures later { S.faults shelf.old ≤ S.faults shelf.new }

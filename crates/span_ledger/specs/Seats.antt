@@ -2,11 +2,12 @@
 use Rattle.std.specs.Prelude.{◌≡◌, ◌<◌, ℕ, min, List, [], length, slice_index_or, All}
 use Rattle.atomic_table.specs.Seated.{TableId}
 use Rattle.spec_trees.specs.declared.book.Booked.{Booked}
+use Rattle.spec_trees.specs.declared.tree.Leaf.{Leaf}
 use Rattle.spec_pool.specs.declared.ledger.SeatHistory.{SeatHistory}
 use Rattle.spec_pool.specs.declared.ledger.LedgerTerms.{LedgerTerms}
 use Rattle.spec_pool.specs.declared.ledger.CloseError.{CloseError}
 use Rattle.spec_pool.specs.declared.ledger.CloseError.TheVariants.{Missing}
-use Rattle.spec_pool.specs.History.{FitsPart, part_of}
+use Rattle.spec_pool.specs.History.{FitsPart, Fresh, part_of}
 use Rattle.span_ledger.specs.declared.desk.LedgerSeat.{LedgerSeat}
 use Rattle.span_ledger.specs.declared.desk.SpanLedger.{SpanLedger}
 use Rattle.span_ledger.specs.Rule.{the_part}
@@ -48,3 +49,7 @@ AllFit log seats = All (λ s. FitsPart log (part s)) seats
 -- the two numbers that are reported
 abbrev pub IsMissing : ℕ → ℕ → CloseError → Type 0
 IsMissing given made (Missing g m) = (g ≡ min given 4294967295) × (m ≡ made)
+
+-- the history lacks the leaf and is shorter than the limit
+abbrev pub MayEnter : ℕ → Leaf → List Booked → Type 0
+MayEnter limit leaf log = Fresh leaf log × (length log < limit)

@@ -3,7 +3,7 @@ ghost use Rattle.std.specs.Prelude.{◌≡◌, ◌+◌, ◌<◌, ◌≤◌, ◌�
 ghost use Rattle.spec_trees.specs.declared.book.Booked.{Booked};
 ghost use Rattle.spec_pool.specs.History.{StartsWith, Stands, LiesIn, Tells, Entering, saw, repeated};
 ghost use Rattle.span_ledger.specs.Rule.{HasBook, IsIdle, TakesBook, Writes, freed, own_part};
-ghost use Rattle.span_ledger.specs.Seats.{IsSeatOf, part, terms};
+ghost use Rattle.span_ledger.specs.Seats.{IsSeatOf, MayEnter, part, terms};
 
 use crate::desk::{LedgerSeat, SpanLedger};
 use crate::ledger::{Add, Free, Lock, Raw};
@@ -37,6 +37,8 @@ fn write(ledger: &SpanLedger, raw: &mut Raw, entry: Booked) -> Entry
     requires inside { LiesIn (terms ledger.now).root entry.leaf }
     ensures same { raw.new.table_id ≡ raw.old.table_id }
     ensures told { Writes ledger.now.limit raw.old.me entry result raw.new.me }
+    ensures memory { result ≡ Entry.Memory
+        → MayEnter ledger.now.limit entry.leaf (own_part raw.old.me).seen }
 {
     let Some(mut register) = ledger.table.shared.exchange(raw, BOOK, None) else {
         unreachable!()
@@ -112,6 +114,8 @@ fn put(ledger: &SpanLedger, raw: &mut Raw, entry: Booked) -> Entry
     ensures idle { IsIdle raw.new.me }
     ensures told { Tells ledger.now.limit (own_part raw.old.me).seen entry
         (own_part raw.old.me) (own_part raw.new.me) result }
+    ensures memory { result ≡ Entry.Memory
+        → MayEnter ledger.now.limit entry.leaf (own_part raw.new.me).seen }
 {
     let entered = write(ledger, raw, entry);
     if let Entry::Again { place } = entered {
@@ -124,13 +128,16 @@ fn put(ledger: &SpanLedger, raw: &mut Raw, entry: Booked) -> Entry
 
 impl SpanLedger {
     /// Enters a leaf of the root under the seat's number, unless it stands already or as many leaves as the limit stand.
-    /// It waits for the lock. Two leaves are the same where their nodes and their marks are.
+    /// It waits for the lock. Two leaves are the same where their nodes and their marks are. Out of memory comes only of a
+    /// leaf that does not stand yet and for which the limit leaves room.
     pub fn enter<R: Wait>(&self, rt: &R, seat: &mut LedgerSeat, leaf: Leaf) -> Entry
         requires ours { IsSeatOf self.now seat.old }
         requires inside { LiesIn (terms self.now).root leaf }
         ensures ours { IsSeatOf self.now seat.new }
         ensures entering { Entering (terms self.now).limit leaf
             (part seat.old) (part seat.new) result }
+        ensures memory { result ≡ Entry.Memory
+            → MayEnter (terms self.now).limit leaf (part seat.new).seen }
     {
         lock(rt, self, &mut seat.raw);
         let entry = Booked {

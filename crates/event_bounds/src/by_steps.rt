@@ -1,5 +1,5 @@
 // The bounds of formulas that stand in a list of steps.
-ghost use Rattle.std.specs.Prelude.{◌≡◌, ◌<◌, IfSome, length};
+ghost use Rattle.std.specs.Prelude.{◌≡◌, ◌<◌, length};
 ghost use Rattle.spec_bodies.specs.Views.{Fits};
 ghost use Rattle.spec_bounds.specs.Terms.{bound_over, term_bound};
 ghost use Rattle.spec_steps.specs.Steps.{term_at, terms_of};
@@ -9,7 +9,6 @@ ghost use Rattle.event_bounds.specs.Spans.{IsSpanWithin, leaf_bound};
 
 use crate::bound::Bound;
 use crate::spans::Span;
-use crate::terms::bound_over;
 use crate::times::BoundTimes;
 use body_states::{BodyStates, Quantity};
 use event_expr::Formula;
@@ -19,36 +18,16 @@ use event_steps::{MAX_STEPS, StepList, StepPlace, StepRules, fill};
 use ival_core::{COSINE_EXPONENT, DISTANCE_EXPONENT, Ival};
 use spec_text::Decimal;
 
-/// The bound of a formula as `bound_over` makes it, by the step that stands for it where it is listed: what is the same in
-/// several parts is made once.
+/// The bound of a formula as `bound_over` makes it, by the step that stands for it in a list: what is the same in several
+/// parts is made once.
 pub fn bound_by_steps(
     formula: &Formula,
-    listed: Option<StepPlace>,
+    listed: StepPlace,
     states: &BodyStates,
     a: i64,
     b: i64,
 ) -> Bound
-    requires listed { IfSome listed (λ at. IsMadeAt at.steps.now at.place formula.now) }
-    requires fits { Fits states.now a b }
-    ensures range { result.range ≡ (bound_over states.now formula.now a b).range }
-    ensures step { result.step ≡ (bound_over states.now formula.now a b).step }
-{
-    match listed {
-        Some(at) => bound_at(formula, at.steps, at.place, states, a, b),
-        None => bound_over(formula, states, a, b),
-    }
-}
-
-// The same for one that is listed, with the number of its step.
-fn bound_at(
-    formula: &Formula,
-    steps: &StepList,
-    place: usize,
-    states: &BodyStates,
-    a: i64,
-    b: i64,
-) -> Bound
-    requires made { IsMadeAt steps.now place formula.now }
+    requires listed { IsMadeAt listed.steps.now listed.place formula.now }
     requires fits { Fits states.now a b }
     ensures range { result.range ≡ (bound_over states.now formula.now a b).range }
     ensures step { result.step ≡ (bound_over states.now formula.now a b).step }
@@ -58,7 +37,7 @@ fn bound_at(
     let times = TimeSpan::new(a, b);
     let times = BoundTimes { span: &times };
     let span = Span::new(states, times, &formula.leaves());
-    bound_of(&span, steps, place)
+    bound_of(&span, listed.steps, listed.place)
 }
 
 // The bound of the formula of a step.

@@ -1,13 +1,13 @@
 -- Tests of a list, one element after the other; and the steps of the conditions of an event.
-use Rattle.std.proofs.Common.{◌≡◌, ◌∙◌, ℕ, zero, suc, ◌+◌, ◌<◌, ◌≤◌, Bool, true, false, ◌||◌, ◌&&◌, List, length, get_or, drop, Option, None, Some, ap, subst}
+use Rattle.std.proofs.Common.{◌≡◌, ◌∙◌, ℕ, zero, suc, ◌+◌, ◌<◌, ◌≤◌, Bool, true, false, ◌||◌, ◌&&◌, List, length, get_or, drop, Option, None, Some, ap, subst, sym}
 use Rattle.std.specs.Prelude.{IfSome}
 use Rattle.std.specs.List.{list_all, list_any}
 use Rattle.std.proofs.lemmas.List.{at_drop_all, at_drop_more, get_or_default}
 use Rattle.spec_steps.specs.declared.steps.Step.{Step}
 use Rattle.spec_searches.specs.Event.{Condition, Event}
-use Rattle.event_steps.specs.Entered.{IsEntered, IsMadeAt, KeepsSteps}
+use Rattle.event_steps.specs.Entered.{IsMadeAt, KeepsSteps}
 use Rattle.event_judge.specs.declared.listed_event.ListedEvent.{ListedEvent}
-use Rattle.event_judge.specs.Listed.{AreGuardsAt, AreStepsOf, IsAdded, IsGuardAt}
+use Rattle.event_judge.specs.Listed.{AreGuardsAt, AreStepsOf, IsGuardAt}
 
 -- ---- what is left of a list, past an element that does not decide
 module _ {X : Type 0} (p : X → Bool) (xs : List X) (i : ℕ) where
@@ -22,6 +22,10 @@ module _ {X : Type 0} (p : X → Bool) (xs : List X) (i : ℕ) where
 
   pub all_end : length xs ≤ i → list_all p xs ≡ list_all p (drop i xs) → list_all p xs ≡ true
   all_end past left = left ∙ at_drop_all (list_all p) xs i past
+
+-- what was found of one element, by what is known as it was at first
+pub found_first : {K X : Type 0} (test : K → X → Bool) (at before : K) → at ≡ before → (own read : X) → own ≡ read → (r b : Bool) → r ≡ test at own → r ≡ b → test before read ≡ b
+found_first {K} {X} test at before same own read is r b by e = subst (λ (k : K). test k read ≡ b) same (subst (λ (x : X). test at x ≡ b) is (sym by ∙ e))
 
 -- ---- the steps of the conditions
 pub step_of_guard : (steps : List Step) (cs : List Condition) (place : ℕ) (number : Option ℕ) → IsGuardAt steps cs place number → place < length cs → (d c : Condition) → get_or cs place d ≡ c
@@ -38,18 +42,16 @@ pub guard_kept : (before after : List Step) (cs : List Condition) (place : ℕ) 
 guard_kept before after cs place None kept made = made
 guard_kept before after cs place (Some k) kept made = λ below d. kept k (get_or cs place d).term (made below d)
 
--- a condition that was added
-pub guard_added : (before after : List Step) (cs : List Condition) (place k : ℕ) (c : Condition) → c ≡ get_or cs place c → IsEntered before after k c.term → IsAdded before after cs place (Some k)
-guard_added before after cs place k c is entered = record {
-  kept = entered.kept;
-  made = λ below d. subst (λ (x : Condition). IsMadeAt after k x.term) (is ∙ get_or_default cs place c d below) entered.made;
-}
+-- a condition that was added, if there was room
+pub guard_added : (after : List Step) (cs : List Condition) (place : ℕ) (number : Option ℕ) (c : Condition) → c ≡ get_or cs place c → IfSome number (λ k. IsMadeAt after k c.term) → IsGuardAt after cs place number
+guard_added after cs place None c is made = made
+guard_added after cs place (Some k) c is made = λ below d. subst (λ (x : Condition). IsMadeAt after k x.term) (is ∙ get_or_default cs place c d below) made
 
 -- the function and then two conditions
-pub steps_of : (e : Event) (l : ListedEvent) (k : ℕ) (first second : List Step) → l.function ≡ Some k → IsMadeAt first k e.function
-    → IsAdded first second e.conditions 0 l.first → IsAdded second l.steps e.conditions 1 l.second → AreStepsOf e l
-steps_of e l k first second is made one two = record {
-  function = rw is (two.kept k e.function (one.kept k e.function made));
-  first = guard_kept second l.steps e.conditions 0 l.first two.kept one.made;
-  second = two.made;
+pub steps_of : (e : Event) (l : ListedEvent) (first second : List Step) → IsMadeAt first l.function e.function
+    → KeepsSteps first second → IsGuardAt second e.conditions 0 l.first → KeepsSteps second l.steps → IsGuardAt l.steps e.conditions 1 l.second → AreStepsOf e l
+steps_of e l first second made kept one kept_next two = record {
+  function = kept_next l.function e.function (kept l.function e.function made);
+  first = guard_kept second l.steps e.conditions 0 l.first kept_next one;
+  second = two;
 }

@@ -2,7 +2,7 @@
 use Rattle.std.specs.Prelude.{ℕ, zero, suc, ◌<◌, Option, None, IfSome, List, length, slice_index_or}
 use Rattle.spec_steps.specs.declared.steps.Step.{Step}
 use Rattle.spec_searches.specs.Event.{Condition, Event}
-use Rattle.event_steps.specs.Entered.{IsMadeAt, KeepsSteps}
+use Rattle.event_steps.specs.Entered.{IsMadeAt}
 use Rattle.event_judge.specs.declared.listed_event.ListedEvent.{ListedEvent}
 
 -- the step with this number, if there is one, stands for the condition with a place, if there is that
@@ -10,14 +10,9 @@ abbrev pub IsGuardAt : List Step → List Condition → ℕ → Option ℕ → T
 IsGuardAt steps conditions place number =
     IfSome number (λ k. place < length conditions → (d : Condition) → IsMadeAt steps k (slice_index_or conditions place d).term)
 
--- such a step is in the list after, which has what the list before has
-pub record IsAdded (before after : List Step) (conditions : List Condition) (place : ℕ) (number : Option ℕ) : Type 0 where
-  pub kept : KeepsSteps before after
-  pub made : IsGuardAt after conditions place number
-
 -- the numbers are those of the function and of the first two conditions
 pub record AreStepsOf (e : Event) (l : ListedEvent) : Type 0 where
-  pub function : IfSome l.function (λ k. IsMadeAt l.steps k e.function)
+  pub function : IsMadeAt l.steps l.function e.function
   pub first : IsGuardAt l.steps e.conditions 0 l.first
   pub second : IsGuardAt l.steps e.conditions 1 l.second
 

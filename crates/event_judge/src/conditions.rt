@@ -1,5 +1,5 @@
 // What is known of conditions over one span of times.
-ghost use Rattle.std.specs.Prelude.{◌≡◌, ◌<◌, IfSome, IsTrue, length};
+ghost use Rattle.std.specs.Prelude.{◌≡◌, IfSome};
 ghost use Rattle.std.specs.List.{list_all, list_any};
 ghost use Rattle.spec_events.specs.Verdict.{certifies, is_certified, is_refuted};
 ghost use Rattle.event_steps.specs.Entered.{IsMadeAt};

@@ -1,5 +1,5 @@
 // A search for an event of two bodies.
-ghost use Rattle.std.specs.Prelude.{◌≡◌, ◌<◌, ◌≤ℤ◌, IfSome, pos, unsigned_abs};
+ghost use Rattle.std.specs.Prelude.{◌≡◌, ◌<◌, ◌≤ℤ◌, pos, unsigned_abs};
 ghost use Rattle.spec_searches.specs.Search.{IsSearch};
 ghost use Rattle.event_expr.specs.Leaves.{leaves_of};
 ghost use Rattle.event_steps.specs.Entered.{IsMadeAt};
@@ -139,16 +139,13 @@ impl<'e> EventSearch<'e> {
         &self.of_function
     }
 
-    /// The step that stands for its function in a list of steps, where there is one.
-    pub fn function_step(&self) -> Option<StepPlace<'_>>
-        ensures { IfSome result (λ at. IsMadeAt at.steps.now at.place self.now.event.function) }
+    /// The step that stands for its function in a list of steps.
+    pub fn function_step(&self) -> StepPlace<'_>
+        ensures { IsMadeAt result.steps.now result.place self.now.event.function }
     {
-        match self.listed.function {
-            Some(place) => Some(StepPlace {
-                steps: &self.listed.steps,
-                place,
-            }),
-            None => None,
+        StepPlace {
+            steps: &self.listed.steps,
+            place: self.listed.function,
         }
     }
 

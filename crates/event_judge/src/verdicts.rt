@@ -150,7 +150,7 @@ impl<'s, 'e> ValidNode<'s, 'e> {
         ensures enclosure { result ≡ enclosure_at self.entry.search.now made.old.moment }
         ensures same { made.new ≡ made.old }
     {
-        made.enclosure(self.search.event().function(), listed.function)
+        made.enclosure(self.search.event().function(), Some(listed.function))
     }
 
     /// The sign of the function at a single time.

@@ -9,7 +9,6 @@ ghost use Rattle.event_models.specs.Covered.{IsIfMade, argument};
 ghost use Rattle.event_models.specs.Spans.{IsSpanSeen, term_at};
 
 use crate::spans::Span;
-use crate::terms::model_over;
 use crate::times::ModelTimes;
 use body_states::{BodyStates, Ephemeris, Quantity};
 use event_expr::Formula;
@@ -19,41 +18,19 @@ use span_models::Model;
 use spec_covers::laws::points;
 use spec_text::Decimal;
 
-/// A model of a formula as `model_over` makes it, by the step that stands for it where it is listed: what is the same in
-/// several parts is made once.
-pub fn model_by_steps(
+/// A model of a formula over the times from `c` to `d`, by the step that stands for it in a list: what is the same in several
+/// parts is made once. At each of these times it covers the interval of the formula, as its enclosure over that time alone has
+/// it. The ephemeris is that of the states. None is made where an exponent or an error passes its limit, a signed square is
+/// not seen to have one sign, or a column is past the fourth in use.
+pub fn model_over(
     formula: &Formula,
-    listed: Option<StepPlace>,
+    listed: StepPlace,
     ephemeris: &Ephemeris,
     states: &BodyStates,
     c: i64,
     d: i64,
 ) -> Option<Model>
-    requires listed { IfSome listed (λ at. IsMadeAt at.steps.now at.place formula.now) }
-    requires same { states.now.ephemeris ≡ ephemeris.now }
-    requires fits { Fits states.now c d }
-    requires later { c <ℤ d }
-    ensures { IfSome result (λ m. (t : ℤ) → c ≤ℤ t → t ≤ℤ d
-        → Covers m (argument c d t) (d -ℤ c)
-        (enclosure_over (state_enclosure states.now) formula.now t t).range) }
-{
-    match listed {
-        Some(at) => model_at(formula, at.steps, at.place, ephemeris, states, c, d),
-        None => model_over(formula, ephemeris, states, c, d),
-    }
-}
-
-// The same for one that is listed, with the number of its step.
-fn model_at(
-    formula: &Formula,
-    steps: &StepList,
-    place: usize,
-    ephemeris: &Ephemeris,
-    states: &BodyStates,
-    c: i64,
-    d: i64,
-) -> Option<Model>
-    requires made { IsMadeAt steps.now place formula.now }
+    requires listed { IsMadeAt listed.steps.now listed.place formula.now }
     requires same { states.now.ephemeris ≡ ephemeris.now }
     requires fits { Fits states.now c d }
     requires later { c <ℤ d }
@@ -65,7 +42,7 @@ fn model_at(
     let _expr = formula.expr();
     let times = ModelTimes { first: c, last: d };
     let span = Span::new(states, ephemeris, times, &formula.leaves());
-    model_of(&span, steps, place)
+    model_of(&span, listed.steps, listed.place)
 }
 
 // The model of the formula of a step.

@@ -19,9 +19,8 @@ mod seen;
 mod spans;
 mod starts;
 mod sums;
-mod terms;
+mod targets;
 mod times;
 mod values;
 
-pub use by_steps::model_by_steps;
-pub use terms::model_over;
+pub use by_steps::model_over;

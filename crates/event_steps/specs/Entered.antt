@@ -12,8 +12,3 @@ pub record IsMadeAt (ss : List Step) (place : ℕ) (e : Term) : Type 0 where
 -- what stands for a term in the list before does so in the list after
 abbrev pub KeepsSteps : List Step → List Step → Type 0
 KeepsSteps before after = (place : ℕ) (e : Term) → IsMadeAt before place e → IsMadeAt after place e
-
--- the list after has a step for the term besides
-pub record IsEntered (before after : List Step) (place : ℕ) (e : Term) : Type 0 where
-  pub kept : KeepsSteps before after
-  pub made : IsMadeAt after place e

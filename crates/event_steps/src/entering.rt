@@ -1,7 +1,7 @@
 // Formulas that are entered into a list of steps.
-ghost use Rattle.std.specs.Prelude.{◌+◌, ◌<◌, ◌≤◌, IfNone, IfSome, IsSome, length};
+ghost use Rattle.std.specs.Prelude.{◌+◌, ◌<◌, ◌≤◌, IfNone, IfSome, length};
 ghost use Rattle.spec_expressions.specs.Term.{IsFormula, nodes, term};
-ghost use Rattle.event_steps.specs.Entered.{IsEntered, IsMadeAt};
+ghost use Rattle.event_steps.specs.Entered.{IsMadeAt, KeepsSteps};
 
 use crate::step_list::StepList;
 use event_expr::Formula;
@@ -11,22 +11,22 @@ use spec_steps::Step;
 impl StepList {
     /// The steps of a formula, at most as many as it has nodes, and the number of that which stands for it. There is one
     /// for each formula, since none has more than 128 nodes.
-    pub fn of(formula: &Formula) -> (StepList, Option<usize>)
-        ensures made { IfSome result.1 (λ place. IsMadeAt result.0 place formula.now) }
-        ensures room { IsSome result.1 }
+    pub fn of(formula: &Formula) -> (StepList, usize)
+        ensures made { IsMadeAt result.0 result.1 formula.now }
         ensures few { length result.0 ≤ nodes formula.now }
     {
         let _expr = formula.expr();
         let mut steps = StepList::none();
-        let place = steps.add(formula);
+        let place = steps.add(formula).unwrap();
         (steps, place)
     }
 
     /// The number of the step that stands for a formula, whose parts are added where the list has none that are the same;
     /// none only where the steps so far and the nodes of the formula are more than 128 together. The steps that it needs
-    /// are those up to its own.
+    /// are those up to its own, and those so far stay where they are.
     pub fn add(&mut self, formula: &Formula) -> Option<usize>
-        ensures made { IfSome result (λ place. IsEntered self.old self.new place formula.now) }
+        ensures kept { KeepsSteps self.old self.new }
+        ensures made { IfSome result (λ place. IsMadeAt self.new place formula.now) }
         ensures room { IfNone result (128 < length self.old + nodes formula.now) }
         ensures few { length self.new ≤ length self.old + nodes formula.now }
     {
@@ -36,7 +36,8 @@ impl StepList {
     // The same for a formula's expression or a part of it.
     fn add_part(&mut self, expr: &Expr) -> Option<usize>
         requires formula { IsFormula (term expr.now) }
-        ensures made { IfSome result (λ place. IsEntered self.old self.new place (term expr.now)) }
+        ensures kept { KeepsSteps self.old self.new }
+        ensures made { IfSome result (λ place. IsMadeAt self.new place (term expr.now)) }
         ensures room { IfNone result (128 < length self.old + nodes (term expr.now)) }
         ensures few { length self.new ≤ length self.old + nodes (term expr.now) }
     {

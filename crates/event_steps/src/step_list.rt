@@ -2,7 +2,7 @@
 ghost use Rattle.std.specs.Prelude.{◌≡◌, ◌+◌, ◌<◌, ◌≤◌, ◌++◌, ◌∷◌, [], IfNone, IfSome, length};
 ghost use Rattle.spec_expressions.specs.Term.{IsFormula};
 ghost use Rattle.spec_steps.specs.Steps.{IsStep, IsStepOf, step_term, term_at, terms_of};
-ghost use Rattle.event_steps.specs.Entered.{IsEntered, IsMadeAt};
+ghost use Rattle.event_steps.specs.Entered.{IsMadeAt, KeepsSteps};
 
 use crate::sameness::is_same;
 use spec_steps::Step;
@@ -43,7 +43,7 @@ impl Model for StepList {
 
 impl StepList {
     /// No step.
-    pub fn none() -> StepList
+    pub(crate) fn none() -> StepList
         ensures { result ≡ [] }
     {
         StepList {
@@ -61,7 +61,7 @@ impl StepList {
     }
 
     /// The step with a number, which counts from 0.
-    pub fn step(&self, place: usize) -> Step
+    pub(crate) fn step(&self, place: usize) -> Step
         requires { place < length self.now }
         ensures step { IsStepOf (terms_of self.now) place result }
         ensures formula { IsFormula (step_term (terms_of self.now) result) }
@@ -101,7 +101,8 @@ impl StepList {
     pub(crate) fn enter(&mut self, step: Step) -> Option<usize>
         requires step { IsStep (length self.old) step }
         requires formula { IsFormula (step_term (terms_of self.old) step) }
-        ensures made { IfSome result (λ place. IsEntered self.old self.new place
+        ensures kept { KeepsSteps self.old self.new }
+        ensures made { IfSome result (λ place. IsMadeAt self.new place
             (step_term (terms_of self.old) step)) }
         ensures room { IfNone result (128 < length self.old + 1) }
         ensures few { length self.new ≤ length self.old + 1 }

@@ -13,10 +13,11 @@ use event_steps::{StepList, fill};
 use ival_core::{Enclosure, Ival};
 use std::marker::Model;
 
-/// The most steps whose enclosures are kept. The function and the conditions of each kind of event have fewer.
+/// The most steps whose enclosures are kept. Formulas of later steps are enclosed by recursion.
 const MAX_SLOTS: usize = 64;
 
-/// The enclosures of the steps of a list over the times of a snapshot, each made once, and none before it is asked for.
+/// The enclosures of the first 64 steps of a list over the times of a snapshot, each made once: where one is asked for, it and
+/// those before it that are not made yet.
 #[derive(Drop)]
 pub struct StepEnclosures<'r, 's, 'e> {
     rules: SnapshotRules<'r, 's, 'e>,
@@ -72,7 +73,8 @@ impl<'r, 's, 'e> StepEnclosures<'r, 's, 'e> {
         }
     }
 
-    /// The enclosure of a formula over the times, by the step that stands for it where it is listed.
+    /// The enclosure of a formula over the times, by the step that stands for it, or by recursion where it is not listed or past
+    /// the 64th step.
     pub fn enclosure(&mut self, formula: &Formula, place: Option<usize>) -> Enclosure
         requires listed { IfSome place (λ place. IsMadeAt self.old.steps place formula.now) }
         ensures enclosure { result ≡ enclosure_in self.old.moment formula.now }

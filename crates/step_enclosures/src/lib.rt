@@ -2,8 +2,8 @@
 //!
 //! In come a snapshot of the states of two bodies, with its times, and a list of steps; out comes the enclosure of each formula
 //! that is asked for (`StepEnclosures`). What was made for one formula is read for the next: the function of an event makes its
-//! own part, and a condition adds what is missing. A formula that the list does not have is enclosed by recursion. No call
-//! allocates.
+//! own part, and a condition adds what is missing. A formula that the list does not have, or has past its 64th step, is enclosed
+//! by recursion. No call allocates.
 #![tactic(auto)]
 
 mod enclosures;

@@ -13,7 +13,7 @@ ghost use Rattle.still_spans.specs.Knowledge.{IsKnown, argument_of, side};
 use crate::units::{halvings, steps_allowed};
 use event_bounds::{Bound, bound_by_steps};
 use event_judge::EventSearch;
-use event_models::model_by_steps;
+use event_models::model_over;
 use ival_core::Sign;
 use span_models::{Margin, Model};
 use spec_margins::laws::{margins_make_spans_still, margins_tell_signs};
@@ -55,7 +55,7 @@ impl Known {
         search.is_search();
         let (function, states) = (search.event().function(), search.states());
         let listed = search.function_step();
-        match model_by_steps(function, listed, search.ephemeris(), states, first, last) {
+        match model_over(function, listed, search.ephemeris(), states, first, last) {
             Some(model) => Some(Known {
                 model,
                 bound,

@@ -1,18 +1,13 @@
-use Rattle.std.proofs.Common.{◌≡◌, ◌∙◌, Bool, true, subst, sym}
+use Rattle.std.proofs.Common.{◌∙◌, Bool, true, sym}
 use Rattle.spec_events.specs.Verdict.{is_certified}
 use Rattle.spec_searches.specs.Event.{Condition}
 use Rattle.step_enclosures.specs.Moments.{StepMoment}
 use Rattle.event_judge.specs.Moments.{finding_in}
-use Rattle.event_judge.proofs.Guards.{all_more, step_of_guard}
+use Rattle.event_judge.proofs.Guards.{all_more, found_first, step_of_guard}
 use Rattle.event_judge.proofs.conditions.are_certified.Goals as goal
 
 abbrev test : StepMoment → Condition → Bool
 test m g = is_certified (finding_in m.moment g)
-
--- what was found of one condition, by the steps as they were at first
-found : (at before : StepMoment) → at ≡ before → (own read : Condition) → own ≡ read → (r b : Bool) → r ≡ test at own → r ≡ b → test before read ≡ b
-found at before same own read is r b by e =
-    subst (λ (m : StepMoment). test m read ≡ b) same (subst (λ (x : Condition). test at x ≡ b) is (sym by ∙ e))
 
 pub is_certified-requires : goal.is_certified-requires
 is_certified-requires c =
@@ -25,6 +20,6 @@ loop-place-preserved c =
     record {
       same = c.is_certified.ensures.same ∙ c.loop-place.invariant.same;
       left = all_more (test c.args.made.now) c.args.guards.now c.loop-place.place own c.loop-place-test.true
-          (found _ _ c.loop-place.invariant.same own _ c.index-guards-place.is c.is_certified.result true c.is_certified.ensures.certified c.if-not-is_certified.false)
+          (found_first test _ _ c.loop-place.invariant.same own _ c.index-guards-place.is c.is_certified.result true c.is_certified.ensures.certified c.if-not-is_certified.false)
           c.loop-place.invariant.left;
     }

@@ -3,8 +3,8 @@ use Rattle.std.proofs.lemmas.Int.{to_z-of_z}
 use Rattle.still_spans.proofs.Margins.{known_by}
 use Rattle.still_spans.proofs.known.Known.over.Goals as goal
 
-pub model_by_steps-requires-clause-same : goal.model_by_steps-requires-clause-same
-model_by_steps-requires-clause-same c = ap (λ v. v.ephemeris) c.states-states.ensures ∙ sym c.ephemeris.ensures
+pub model_over-requires-clause-same : goal.model_over-requires-clause-same
+model_over-requires-clause-same c = ap (λ v. v.ephemeris) c.states-states.ensures ∙ sym c.ephemeris.ensures
 
 pub returns-in-Some-clause-known : goal.returns-in-Some-clause-known
 returns-in-Some-clause-known c =

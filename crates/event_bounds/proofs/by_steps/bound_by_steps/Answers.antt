@@ -4,8 +4,8 @@ use Rattle.spec_expressions.specs.Term.{HasLeaves}
 use Rattle.spec_bounds.specs.Terms.{bound_over}
 use Rattle.event_bounds.specs.Made.{bound_made}
 use Rattle.event_bounds.proofs.Named.{is_made, span_bound, span_within}
-use Rattle.event_bounds.proofs.by_steps.bound_at.Goals as goal
-use Rattle.event_bounds.proofs.by_steps.bound_at.Goals.{After-bound_of}
+use Rattle.event_bounds.proofs.by_steps.bound_by_steps.Goals as goal
+use Rattle.event_bounds.proofs.by_steps.bound_by_steps.Goals.{After-bound_of}
 
 made : (c : After-bound_of) → bound_made c.bound_of.result ≡ bound_over c.args.states.now c.args.formula.now c.args.a c.args.b
 made c =
@@ -18,7 +18,7 @@ made c =
     let b : to_z w64 (of_z w64 c.args.b) ≡ c.args.b = to_z-of_z w64 c.args.b c.ranges.b in
     let first : s.times.span.now.first ≡ c.args.a = (λ i. (times i).first) ∙ c.new-times.ensures.first ∙ a in
     let last : s.times.span.now.last ≡ c.args.b = (λ i. (times i).last) ∙ c.new-times.ensures.last ∙ b in
-    is_made _ _ (rw c.requires.made.term at c.bound_of.ensures)
+    is_made _ _ (rw c.requires.listed.term at c.bound_of.ensures)
     ∙ span_bound v c.leaves.result s c.new-span.ensures.seen e has (λ l is names. rw c.leaves.ensures ((c.sets_have_what_is_named.ensures e has l is).1 names))
     ∙ λ i. bound_over v e (first i) (last i)
 

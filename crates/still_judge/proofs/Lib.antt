@@ -1,6 +1,4 @@
 mod Begun
 mod Eager
 mod Following
-mod Within
 mod Served
-mod Tells

@@ -1,4 +1,3 @@
 pub mod Order
 pub mod Stands
 pub mod Pruned
-pub mod Tells

@@ -12,9 +12,9 @@ use gf_hooks::CutRule;
 use spec_stills::StillSpan;
 use spec_trees::{Leaf, Node};
 
-/// The node lies within the span.
+// The node lies within the span.
 #[inline(always)]
-pub(crate) fn lies_in(still: StillSpan, node: Node) -> bool
+fn lies_in(still: StillSpan, node: Node) -> bool
     ensures { result ≡ lies_in still node }
 {
     still.from <= node.a && node.b <= still.upto

@@ -1,12 +1,15 @@
-use Rattle.std.proofs.Common.{◌∙◌, arith, pos, sym}
+use Rattle.std.proofs.Common.{◌≡◌, ◌≤◌, ℕ, suc, zero, ◌∙◌, arith, pos, refl, sym}
 use Rattle.spec_intervals.specs.declared.signs.Sign.TheVariants.{Open}
 use Rattle.spec_stills.specs.declared.still.StillSpan.{StillSpan}
 use Rattle.still_judge.proofs.Begun.{begun_at, begun_by, none_begun}
-use Rattle.still_judge.proofs.Within.{none_is}
 use Rattle.still_judge.proofs.still_list.StillList.begin_in.Goals as goal
 
 some_span : StillSpan
 some_span = record { from = pos 0; upto = pos 1; widest = 0; halvings = 0; sign = Open }
+
+none_is : (count : ℕ) → (1 ≤ count → ⊥) → count ≡ 0
+none_is zero never = refl
+none_is (suc count) never = absurd (never (omega arith))
 
 pub returns-then-begins_at : goal.returns-then-begins_at
 returns-then-begins_at c = sym (begun_at c.args.node c.args.self.now c.args.count some_span (sym (c.begins_at.ensures some_span) ∙ c.if-begins_at.true))

@@ -1,8 +1,11 @@
-use Rattle.std.proofs.Common.{sym, subst, ◌∙◌}
+use Rattle.std.proofs.Common.{◌≡◌, ◌≤◌, ℕ, sym, subst, ◌∙◌, arith, refl, zero, suc}
 use Rattle.still_judge.specs.Stands.{IsCount}
 use Rattle.still_judge.proofs.Served.{none_upto, this_fails, this_serves}
-use Rattle.still_judge.proofs.Within.{none_is}
 use Rattle.still_judge.proofs.still_list.StillList.serving_of.Goals as goal
+
+none_is : (count : ℕ) → (1 ≤ count → ⊥) → count ≡ 0
+none_is zero never = refl
+none_is (suc count) never = absurd (never (omega arith))
 
 pub returns-in_default-clause-span : goal.returns-in_default-clause-span
 returns-in_default-clause-span c =

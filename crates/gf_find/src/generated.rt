@@ -17,7 +17,7 @@ use eph_gen::generate;
 use eph_model::Ephemeris;
 use gf_edges::Gate;
 use gf_query::whole_span;
-use gf_search::{Crew, leaves};
+use gf_search::{Crew, Wanted, leaves};
 use ordered_join::leaf_windows;
 use spec_outcomes::{Refusal, Span, conjunctions};
 use spec_output::MAX_LEAVES;
@@ -88,10 +88,10 @@ fn lines_of<R: Threads + Wait + Sync, G: Gate>(
         runtime: rt,
         alloc,
         workers,
-        most: MAX_LEAVES,
+        max_leaves: MAX_LEAVES,
         gate,
     };
-    match leaves(&crew, ephemeris, &query, span) {
+    match leaves(&crew, Wanted::Leaves, ephemeris, &query, span) {
         Ok(found) => lines_of_leaves(alloc, blocks, seed, bytes, span, &found),
         Err(refusal) => Err(refusal),
     }

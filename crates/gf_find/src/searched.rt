@@ -12,7 +12,7 @@ use crate::files::ephemeris_of;
 use eph_model::Ephemeris;
 use gf_edges::{Gate, Shelf};
 use gf_query::span_asked;
-use gf_search::{Crew, Wanted, coarse_leaves, leaves};
+use gf_search::{Crew, Wanted, leaves};
 use spec_outcomes::{Query, Refusal, Span, query_of};
 use spec_requests::FindAsk;
 use spec_trees::Leaf;
@@ -26,28 +26,6 @@ use std::thread::Threads;
 pub(crate) struct Searched {
     pub(crate) span: Span,
     pub(crate) leaves: Vec<Leaf>,
-}
-
-// What is wanted of a query's search over a span of an ephemeris.
-fn wanted_leaves<R: Threads + Wait + Sync, G: Gate>(
-    crew: &Crew<R, G>,
-    wanted: Wanted,
-    ephemeris: &Ephemeris,
-    query: &Query,
-    span: Span,
-) -> Result<Vec<Leaf>, Refusal>
-    requires block { 0 < ephemeris.now.blocks }
-    requires query { IsQuery query.now }
-    requires within { is_within span ephemeris.now ≡ true }
-    ensures found { IfOk result (λ found.
-        IsWanted wanted crew.now.most query.now ephemeris.now span found.items) }
-    ensures stopped { IfErr result (λ refusal.
-        Stops crew.now.most query.now ephemeris.now span refusal) }
-{
-    match wanted {
-        Wanted::Leaves => leaves(crew, ephemeris, query, span),
-        Wanted::Windows => coarse_leaves(crew, ephemeris, query, span),
-    }
 }
 
 // What is wanted of a search of a span of an ephemeris that counts its ticks.
@@ -75,10 +53,10 @@ fn search_span<R: Threads + Wait + Sync, G: Gate>(
         runtime: rt,
         alloc,
         workers: find.workers,
-        most,
+        max_leaves: most,
         gate,
     };
-    match wanted_leaves(&crew, wanted, ephemeris, &query, span) {
+    match leaves(&crew, wanted, ephemeris, &query, span) {
         Ok(leaves) => Ok(Searched { span, leaves }),
         Err(refusal) => Err(refusal),
     }

@@ -12,7 +12,7 @@ use eph_model::Ephemeris;
 use event_kinds::Event;
 use gf_edges::Gate;
 use gf_query::states;
-use gf_search::{Crew, leaves};
+use gf_search::{Crew, Wanted, leaves};
 use gf_sets::{Pair, at_least};
 use spec_outcomes::{Query, Refusal, Span};
 use spec_output::MAX_LEAVES;
@@ -71,10 +71,10 @@ pub(crate) fn reached<R: Threads + Wait + Sync, G: Gate>(
         runtime: rt,
         alloc,
         workers,
-        most: MAX_LEAVES,
+        max_leaves: MAX_LEAVES,
         gate,
     };
-    let found = leaves(&crew, ephemeris, query, span)?;
+    let found = leaves(&crew, Wanted::Leaves, ephemeris, query, span)?;
     let pair = reached_by(alloc, ephemeris, query, event, span, &found)?;
     Ok(pair)
 }

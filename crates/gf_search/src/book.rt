@@ -34,9 +34,9 @@ pub(crate) fn leaves_by<R: Threads + Wait + Sync, J: Judge, G: Gate>(
 ) -> Result<Vec<Leaf>, Refusal>
     requires valid { IsValid (J.rules judge.now) root }
     ensures leaves { IfOk result (λ found. found.items ≡ leaves (J.rules judge.now) root) }
-    ensures few { IfOk result (λ found. leaf_count (J.rules judge.now) root ≤ crew.now.most) }
+    ensures few { IfOk result (λ found. leaf_count (J.rules judge.now) root ≤ crew.now.max_leaves) }
     ensures stopped { IfErr result (λ refusal.
-        StopsAt crew.now.most (leaf_count (J.rules judge.now) root) refusal) }
+        StopsAt crew.now.max_leaves (leaf_count (J.rules judge.now) root) refusal) }
 {
     match run(
         crew.runtime,
@@ -44,11 +44,13 @@ pub(crate) fn leaves_by<R: Threads + Wait + Sync, J: Judge, G: Gate>(
         judge,
         root,
         crew.workers,
-        crew.most,
+        crew.max_leaves,
         crew.gate,
     ) {
         Ok(book) => leaves_of(crew.alloc, &book),
-        Err(PoolError::TooMany) => Err(Refusal::TooManyLeaves { most: crew.most }),
+        Err(PoolError::TooMany) => Err(Refusal::TooManyLeaves {
+            most: crew.max_leaves,
+        }),
         Err(PoolError::Memory) => Err(Refusal::Memory),
     }
 }

@@ -88,7 +88,7 @@ fn eager_windows<R: Threads + Wait + Sync, J: Judge, G: Gate>(
     requires valid { IsValid (rules search.now) root }
     requires still { All (IsStill search.now) stills.now }
     ensures windows { IfOk result (λ found. IfSome found (λ told.
-        HaveWindows crew.now.most search.now root told.items)) }
+        HaveWindows crew.now.max_leaves search.now root told.items)) }
     ensures memory { IfErr result (λ refusal. refusal ≡ Refusal.Memory) }
 {
     search.is_search();
@@ -98,7 +98,7 @@ fn eager_windows<R: Threads + Wait + Sync, J: Judge, G: Gate>(
     leaves_cover_the_node();
     match eager_leaves_by(crew, judge, search, stills, root) {
         Ok(found) => {
-            if are_decided(search, stills, &found, crew.most) {
+            if are_decided(search, stills, &found, crew.max_leaves) {
                 Ok(Some(found))
             } else {
                 Ok(None)
@@ -122,7 +122,7 @@ fn coarse_leaves_by<R: Threads + Wait + Sync, J: Judge, G: Gate>(
     ensures leaves { IfOk result (λ found. found.items
         ≡ leaves (coarse_rules search.now stills.now) root) }
     ensures stopped { IfErr result (λ refusal.
-        StopsAt crew.now.most (leaf_count (coarse_rules search.now stills.now) root) refusal) }
+        StopsAt crew.now.max_leaves (leaf_count (coarse_rules search.now stills.now) root) refusal) }
 {
     let coarse = StillJudge {
         judge,
@@ -142,9 +142,9 @@ fn fine_leaves_by<R: Threads + Wait + Sync, J: Judge, G: Gate>(
     requires rules { J.rules judge.now ≡ rules search.now }
     requires valid { IsValid (rules search.now) root }
     ensures windows { IfOk result (λ found.
-        HaveWindows crew.now.most search.now root found.items) }
+        HaveWindows crew.now.max_leaves search.now root found.items) }
     ensures stopped { IfErr result (λ refusal.
-        StopsAt crew.now.most (leaf_count (rules search.now) root) refusal) }
+        StopsAt crew.now.max_leaves (leaf_count (rules search.now) root) refusal) }
 {
     rules_are_sound(judge);
     leaves_cover_the_node();
@@ -164,9 +164,9 @@ fn coarse_windows<R: Threads + Wait + Sync, J: Judge, G: Gate>(
     requires valid { IsValid (rules search.now) root }
     requires still { All (IsStill search.now) stills.now }
     ensures windows { IfOk result (λ found.
-        HaveWindows crew.now.most search.now root found.items) }
+        HaveWindows crew.now.max_leaves search.now root found.items) }
     ensures stopped { IfErr result (λ refusal.
-        StopsAt crew.now.most (leaf_count (rules search.now) root) refusal) }
+        StopsAt crew.now.max_leaves (leaf_count (rules search.now) root) refusal) }
 {
     search.is_search();
     coarse_trees_are_sound();
@@ -175,7 +175,7 @@ fn coarse_windows<R: Threads + Wait + Sync, J: Judge, G: Gate>(
     leaves_cover_the_node();
     match coarse_leaves_by(crew, judge, search, stills, root) {
         Ok(found) => {
-            if stills.are_few(search, &found, crew.most) {
+            if stills.are_few(search, &found, crew.max_leaves) {
                 Ok(found)
             } else {
                 fine_leaves_by(crew, judge, search, root)
@@ -199,9 +199,9 @@ pub(crate) fn windowed_leaves<R: Threads + Wait + Sync, J: Judge, G: Gate>(
     requires valid { IsValid (rules search.now) root }
     requires still { All (IsStill search.now) stills.now }
     ensures windows { IfOk result (λ found.
-        HaveWindows crew.now.most search.now root found.items) }
+        HaveWindows crew.now.max_leaves search.now root found.items) }
     ensures stopped { IfErr result (λ refusal.
-        StopsAt crew.now.most (leaf_count (rules search.now) root) refusal) }
+        StopsAt crew.now.max_leaves (leaf_count (rules search.now) root) refusal) }
 {
     if stills.is_empty() {
         return fine_leaves_by(crew, judge, search, root);

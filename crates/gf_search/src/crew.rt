@@ -14,7 +14,7 @@ pub struct Crew<'c, R, G> {
     /// How many they are.
     pub workers: u32,
     /// The most leaves of a search.
-    pub most: u32,
+    pub max_leaves: u32,
     /// What each of them passes before it judges a node.
     pub gate: &'c G,
     ghost some: { 1 ≤ workers },

@@ -12,5 +12,5 @@ mod search;
 mod wanted;
 
 pub use crew::Crew;
-pub use search::{coarse_leaves, leaves};
+pub use search::leaves;
 pub use wanted::Wanted;

@@ -26,9 +26,9 @@ fn tree_leaves<R: Threads + Wait + Sync, J: Judge, G: Gate>(
     requires rules { J.rules judge.now ≡ rules search.now }
     requires valid { IsValid (rules search.now) root }
     ensures leaves { IfOk result (λ found.
-        AreLeaves crew.now.most search.now root found.items) }
+        AreLeaves crew.now.max_leaves search.now root found.items) }
     ensures stopped { IfErr result (λ refusal.
-        StopsAt crew.now.most (leaf_count (rules search.now) root) refusal) }
+        StopsAt crew.now.max_leaves (leaf_count (rules search.now) root) refusal) }
 {
     leaves_by(crew, judge, root)
 }
@@ -43,9 +43,9 @@ fn tree_windows<R: Threads + Wait + Sync, J: Judge, G: Gate>(
     requires rules { J.rules judge.now ≡ rules search.now }
     requires valid { IsValid (rules search.now) root }
     ensures windows { IfOk result (λ found.
-        HaveWindows crew.now.most search.now root found.items) }
+        HaveWindows crew.now.max_leaves search.now root found.items) }
     ensures stopped { IfErr result (λ refusal.
-        StopsAt crew.now.most (leaf_count (rules search.now) root) refusal) }
+        StopsAt crew.now.max_leaves (leaf_count (rules search.now) root) refusal) }
 {
     match stills_of(crew, search, root) {
         Ok(stills) => windowed_leaves(crew, judge, search, &stills, root),
@@ -64,9 +64,9 @@ fn wanted_leaves<R: Threads + Wait + Sync, J: Judge, G: Gate>(
     requires rules { J.rules judge.now ≡ rules search.now }
     requires valid { IsValid (rules search.now) root }
     ensures found { IfOk result (λ found.
-        AreWanted wanted crew.now.most search.now root found.items) }
+        AreWanted wanted crew.now.max_leaves search.now root found.items) }
     ensures stopped { IfErr result (λ refusal.
-        StopsAt crew.now.most (leaf_count (rules search.now) root) refusal) }
+        StopsAt crew.now.max_leaves (leaf_count (rules search.now) root) refusal) }
 {
     match wanted {
         Wanted::Leaves => tree_leaves(crew, judge, search, root),
@@ -86,9 +86,9 @@ fn named_leaves<R: Threads + Wait + Sync, N: Naming + Send + Sync, J: Judge, G: 
     requires rules { J.rules judge.now ≡ rules search.now }
     requires valid { IsValid (rules search.now) root }
     ensures found { IfOk result (λ found.
-        AreWanted wanted crew.now.most search.now root found.items) }
+        AreWanted wanted crew.now.max_leaves search.now root found.items) }
     ensures stopped { IfErr result (λ refusal.
-        StopsAt crew.now.most (leaf_count (rules search.now) root) refusal) }
+        StopsAt crew.now.max_leaves (leaf_count (rules search.now) root) refusal) }
 {
     let Ok(remembering) = RememberingJudge::<N, J>::new(crew.alloc, judge, search) else {
         return Err(Refusal::Memory);
@@ -108,9 +108,9 @@ pub(crate) fn remembered_leaves<R: Threads + Wait + Sync, J: Judge, G: Gate>(
     requires rules { J.rules judge.now ≡ rules search.now }
     requires valid { IsValid (rules search.now) root }
     ensures found { IfOk result (λ found.
-        AreWanted wanted crew.now.most search.now root found.items) }
+        AreWanted wanted crew.now.max_leaves search.now root found.items) }
     ensures stopped { IfErr result (λ refusal.
-        StopsAt crew.now.most (leaf_count (rules search.now) root) refusal) }
+        StopsAt crew.now.max_leaves (leaf_count (rules search.now) root) refusal) }
 {
     named_leaves::<R, Brand, J, G>(crew, wanted, judge, search, root)
 }

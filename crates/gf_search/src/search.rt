@@ -3,9 +3,9 @@ ghost use Rattle.std.specs.Prelude.{◌≡◌, ◌<◌, IfErr, IfOk, None, true}
 ghost use Rattle.spec_trees.specs.Cuts.{CanCut, cut_of};
 ghost use Rattle.spec_kinds.specs.Faults.{fault_of};
 ghost use Rattle.spec_kinds.specs.Kinds.{event_of};
-ghost use Rattle.spec_outcomes.specs.Outcomes.{IsFound, Stops};
+ghost use Rattle.spec_outcomes.specs.Outcomes.{Stops};
 ghost use Rattle.spec_outcomes.specs.Queries.{IsQuery, is_within};
-ghost use Rattle.gf_search.specs.Wanted.{HasWindows, IsWanted};
+ghost use Rattle.gf_search.specs.Wanted.{IsWanted};
 
 use crate::crew::Crew;
 use crate::remembered::remembered_leaves;
@@ -35,9 +35,9 @@ fn wanted_of<R: Threads + Wait + Sync, G: Gate>(
     requires sound { fault_of ephemeris.now query.now.ask ≡ None }
     requires event { event ≡ event_of query.now.ask }
     ensures found { IfOk result (λ found.
-        IsWanted wanted crew.now.most query.now ephemeris.now span found.items) }
+        IsWanted wanted crew.now.max_leaves query.now ephemeris.now span found.items) }
     ensures stopped { IfErr result (λ refusal.
-        Stops crew.now.most query.now ephemeris.now span refusal) }
+        Stops crew.now.max_leaves query.now ephemeris.now span refusal) }
 {
     let _header = ephemeris.header();
     let rule = query.cut;
@@ -55,8 +55,12 @@ fn wanted_of<R: Threads + Wait + Sync, G: Gate>(
     remembered_leaves(crew, wanted, &judge, &judge.search, root)
 }
 
-// What is wanted of the search of a query over a span.
-fn wanted_in<R: Threads + Wait + Sync, G: Gate>(
+/// What is wanted of a query's search over a span of an ephemeris, which a crew looks for, in order of time: its leaves, which
+/// follow one another over the span, and whose windows are those of the query's events; or leaves that follow one another over
+/// the span and have these windows, where nodes in spans that are known to be still are not cut, and those in which one begins
+/// are split unjudged. Times are in the ticks of the ephemeris since J2000 in TDB. Errors: the fault of the event;
+/// `TooManyLeaves` where the search has more leaves than the crew may find; `Memory`.
+pub fn leaves<R: Threads + Wait + Sync, G: Gate>(
     crew: &Crew<R, G>,
     wanted: Wanted,
     ephemeris: &Ephemeris,
@@ -67,53 +71,12 @@ fn wanted_in<R: Threads + Wait + Sync, G: Gate>(
     requires query { IsQuery query.now }
     requires within { is_within span ephemeris.now ≡ true }
     ensures found { IfOk result (λ found.
-        IsWanted wanted crew.now.most query.now ephemeris.now span found.items) }
+        IsWanted wanted crew.now.max_leaves query.now ephemeris.now span found.items) }
     ensures stopped { IfErr result (λ refusal.
-        Stops crew.now.most query.now ephemeris.now span refusal) }
+        Stops crew.now.max_leaves query.now ephemeris.now span refusal) }
 {
     match event_of(crew.alloc, ephemeris, query) {
         Ok(event) => wanted_of(crew, wanted, ephemeris, query, event, span),
         Err(refusal) => Err(refusal),
     }
-}
-
-/// The leaves of a query's search over a span of an ephemeris, in order of time, which a crew looks for: they follow one
-/// another over the span, and their windows are those of the query's events. Times are in the ticks of the ephemeris since
-/// J2000 in TDB. The fault of the event, `TooManyLeaves` where there are more than the crew may find, or `Memory`.
-pub fn leaves<R: Threads + Wait + Sync, G: Gate>(
-    crew: &Crew<R, G>,
-    ephemeris: &Ephemeris,
-    query: &Query,
-    span: Span,
-) -> Result<Vec<Leaf>, Refusal>
-    requires block { 0 < ephemeris.now.blocks }
-    requires query { IsQuery query.now }
-    requires within { is_within span ephemeris.now ≡ true }
-    ensures found { IfOk result (λ found.
-        IsFound crew.now.most query.now ephemeris.now span found.items) }
-    ensures stopped { IfErr result (λ refusal.
-        Stops crew.now.most query.now ephemeris.now span refusal) }
-{
-    wanted_in(crew, Wanted::Leaves, ephemeris, query, span)
-}
-
-/// Leaves that follow one another over a span of an ephemeris, in order of time, and have the windows of a query's search,
-/// which a crew looks for: nodes in spans that are known to be still are not cut. Times are in the ticks of the ephemeris since
-/// J2000 in TDB. As for `leaves`, the fault of the event, `TooManyLeaves` where the search has more leaves than the crew may
-/// find, or `Memory`.
-pub fn coarse_leaves<R: Threads + Wait + Sync, G: Gate>(
-    crew: &Crew<R, G>,
-    ephemeris: &Ephemeris,
-    query: &Query,
-    span: Span,
-) -> Result<Vec<Leaf>, Refusal>
-    requires block { 0 < ephemeris.now.blocks }
-    requires query { IsQuery query.now }
-    requires within { is_within span ephemeris.now ≡ true }
-    ensures found { IfOk result (λ found.
-        HasWindows crew.now.most query.now ephemeris.now span found.items) }
-    ensures stopped { IfErr result (λ refusal.
-        Stops crew.now.most query.now ephemeris.now span refusal) }
-{
-    wanted_in(crew, Wanted::Windows, ephemeris, query, span)
 }

@@ -1,8 +1,8 @@
 use Rattle.gf_find.proofs.FoundLeaves.{asked_is, found_asked, stops_asked}
 use Rattle.gf_find.proofs.searched.search_span.Goals as goal
 
-pub wanted_leaves-requires-clause-query : goal.wanted_leaves-requires-clause-query
-wanted_leaves-requires-clause-query g c κs lives = asked_is c.args.find.now _ c.query_of-query.ensures c.requires.limits
+pub leaves-requires-clause-query : goal.leaves-requires-clause-query
+leaves-requires-clause-query g c κs lives = asked_is c.args.find.now _ c.query_of-query.ensures c.requires.limits
 
 pub returns-in-Ok-clause-found : goal.returns-in-Ok-clause-found
 returns-in-Ok-clause-found g c = found_asked c.args.most c.args.find.now c.args.ephemeris.now c.query_of-query.result c.args.span c.args.wanted c.in-Ok.leaves.items c.query_of-query.ensures c.requires.span c.in-Ok.ensures.found

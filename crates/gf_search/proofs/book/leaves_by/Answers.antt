@@ -19,13 +19,13 @@ returns-in-Ok-clause-leaves g c =
 pub returns-in-Ok-clause-few : goal.returns-in-Ok-clause-few
 returns-in-Ok-clause-few g c =
     ok_also {X = Vec Leaf Global} {E = Refusal} (λ found. found.items ≡ ordered_leaves c.in-Ok.book.entries.items)
-    (λ found. leaf_count (g.J.Judge.rules c.args.judge.now) c.args.root ≤ c.args.crew.now.most) c.leaves_of.result
+    (λ found. leaf_count (g.J.Judge.rules c.args.judge.now) c.args.root ≤ c.args.crew.now.max_leaves) c.leaves_of.result
     (λ found is. no_more _ _ _ c.in-Ok.ensures.leaves c.in-Ok.ensures.few) c.leaves_of.ensures.leaves
 
 pub returns-in-Ok-clause-stopped : goal.returns-in-Ok-clause-stopped
 returns-in-Ok-clause-stopped g c =
     err_also {X = Vec Leaf Global} {E = Refusal} (λ refusal. refusal ≡ Memory)
-    (StopsAt c.args.crew.now.most (leaf_count (g.J.Judge.rules c.args.judge.now) c.args.root)) c.leaves_of.result
+    (StopsAt c.args.crew.now.max_leaves (leaf_count (g.J.Judge.rules c.args.judge.now) c.args.root)) c.leaves_of.result
     (λ refusal is. inl is) c.leaves_of.ensures.memory
 
 pub returns-in-Err-TooMany-clause-stopped : goal.returns-in-Err-TooMany-clause-stopped

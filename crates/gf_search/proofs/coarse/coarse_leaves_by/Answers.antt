@@ -6,6 +6,6 @@ use Rattle.gf_search.proofs.coarse.coarse_leaves_by.Goals as goal
 
 pub returns-clause-stopped : goal.returns-clause-stopped
 returns-clause-stopped g c =
-    let most = c.args.crew.now.most in
+    let most = c.args.crew.now.max_leaves in
     subst (λ (t : Rules). IfErr c.leaves_by.result (StopsAt most (leaf_count (pruned t c.args.search.now c.args.stills.now) c.args.root))) c.requires.rules
     c.leaves_by.ensures.stopped

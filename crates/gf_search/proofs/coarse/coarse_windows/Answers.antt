@@ -23,6 +23,6 @@ returns-then-are_few-clause-windows g c =
     let n = c.args.root in
     let t = coarse_rules s xs in
     let cover = c.leaves_cover_the_node.ensures.cover t n (c.coarse_trees_are_sound.ensures.sound s xs c.is_search.ensures) (c.coarse_trees_are_sound.ensures.nodes s xs n c.requires.valid) in
-    let light = sym (ap (λ (ls : List Leaf). nat_le (weights s xs ls) c.args.crew.now.most) c.deref.ensures.value) ∙ sym c.are_few.ensures ∙ c.if-are_few.true in
-    weighed_have c.args.crew.now.most s n c.in-Ok.found.items t xs (c.coarse_trees_have_the_same_windows.ensures s xs n c.is_search.ensures c.requires.still c.requires.valid) cover
+    let light = sym (ap (λ (ls : List Leaf). nat_le (weights s xs ls) c.args.crew.now.max_leaves) c.deref.ensures.value) ∙ sym c.are_few.ensures ∙ c.if-are_few.true in
+    weighed_have c.args.crew.now.max_leaves s n c.in-Ok.found.items t xs (c.coarse_trees_have_the_same_windows.ensures s xs n c.is_search.ensures c.requires.still c.requires.valid) cover
     (c.coarse_trees_have_fewer_leaves.ensures.weighed s xs n c.is_search.ensures c.requires.still c.requires.valid) c.in-Ok.ensures.leaves light

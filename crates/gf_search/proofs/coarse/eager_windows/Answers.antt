@@ -27,6 +27,6 @@ returns-then-are_decided-clause-windows g c =
     let cover = c.leaves_cover_the_node.ensures.cover t n (c.eager_trees_are_sound.ensures.sound s xs is) (c.eager_trees_are_sound.ensures.nodes s xs n c.requires.valid) in
     let decided = c.are_decided.ensures.0 c.if-are_decided.true in
     let told = subst AreTold (c.deref.ensures.value ∙ c.in-Ok.ensures) decided.0 in
-    let light = subst (λ (ls : List Leaf). nat_le (weights s xs ls) c.args.crew.now.most ≡ true) c.deref.ensures.value decided.1 in
-    weighed_have c.args.crew.now.most s n c.in-Ok.found.items t xs (c.decided_eager_trees_have_the_same_windows.ensures s xs n is c.requires.still c.requires.valid told) cover
+    let light = subst (λ (ls : List Leaf). nat_le (weights s xs ls) c.args.crew.now.max_leaves ≡ true) c.deref.ensures.value decided.1 in
+    weighed_have c.args.crew.now.max_leaves s n c.in-Ok.found.items t xs (c.decided_eager_trees_have_the_same_windows.ensures s xs n is c.requires.still c.requires.valid told) cover
     (c.eager_trees_weigh_enough.ensures s xs n is c.requires.still c.requires.valid) c.in-Ok.ensures light

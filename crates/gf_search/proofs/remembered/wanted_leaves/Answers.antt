@@ -6,8 +6,8 @@ use Rattle.gf_search.proofs.remembered.wanted_leaves.Goals as goal
 
 pub returns-in-Leaves-clause-found : goal.returns-in-Leaves-clause-found
 returns-in-Leaves-clause-found g c =
-    subst (λ (w : Wanted). IfOk c.tree_leaves.result (λ found. AreWanted w c.args.crew.now.most c.args.search.now c.args.root found.items)) (sym c.in-Leaves.is) c.tree_leaves.ensures.leaves
+    subst (λ (w : Wanted). IfOk c.tree_leaves.result (λ found. AreWanted w c.args.crew.now.max_leaves c.args.search.now c.args.root found.items)) (sym c.in-Leaves.is) c.tree_leaves.ensures.leaves
 
 pub returns-in-Windows-clause-found : goal.returns-in-Windows-clause-found
 returns-in-Windows-clause-found g c =
-    subst (λ (w : Wanted). IfOk c.tree_windows.result (λ found. AreWanted w c.args.crew.now.most c.args.search.now c.args.root found.items)) (sym c.in-Windows.is) c.tree_windows.ensures.windows
+    subst (λ (w : Wanted). IfOk c.tree_windows.result (λ found. AreWanted w c.args.crew.now.max_leaves c.args.search.now c.args.root found.items)) (sym c.in-Windows.is) c.tree_windows.ensures.windows

@@ -24,7 +24,7 @@ remembered_leaves-requires-clause-valid g c κs lives =
 
 pub returns-clause-found : goal.returns-clause-found
 returns-clause-found g c =
-    let most = c.args.crew.now.most in
+    let most = c.args.crew.now.max_leaves in
     let q = c.args.query.now in
     let e = c.args.ephemeris.now in
     let s = c.judge-judge.result.search in
@@ -35,5 +35,5 @@ returns-clause-found g c =
 
 pub returns-clause-stopped : goal.returns-clause-stopped
 returns-clause-stopped g c =
-    leaves_stopped c.args.crew.now.most c.args.query.now c.args.ephemeris.now c.args.span c.requires.within c.requires.sound c.judge-judge.result.search c.root_of-root.result c.judge-judge.ensures c.root_of-root.ensures
+    leaves_stopped c.args.crew.now.max_leaves c.args.query.now c.args.ephemeris.now c.args.span c.requires.within c.requires.sound c.judge-judge.result.search c.root_of-root.result c.judge-judge.ensures c.root_of-root.ensures
     c.remembered_leaves.result c.remembered_leaves.ensures.stopped

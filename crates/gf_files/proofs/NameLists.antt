@@ -1,6 +1,6 @@
 -- The names of files, one by one.
 use Rattle.std.proofs.Common.{◌≡◌, ◌<◌, ◌≤◌, ◌+◌, ◌-◌, ℕ, zero, suc, List, [], ◌∷◌, ◌++◌, length, map, take, get_or, sym, ap, ◌∙◌, arith, subst, inl, inr, ◌⊎◌, Option, Some, Ok, Err}
-use Rattle.std.specs.Prelude.{String, slice_get, string_bytes}
+use Rattle.std.specs.Prelude.{IsSomeAnd, String, slice_get, string_bytes}
 use Rattle.std.specs.declared.alloc.Global.{Global}
 use Rattle.std.proofs.lemmas.Option.{slice_get_within}
 use Rattle.std.proofs.lemmas.List.{length-take, take_all}
@@ -13,7 +13,7 @@ use Rattle.spec_files.specs.declared.limits.TheConstants.{MAX_FILES}
 use Rattle.spec_sections.specs.declared.errors.ReadError.TheVariants as errors
 use Rattle.gf_files.specs.declared.reader.Fed.{Fed}
 use Rattle.gf_files.specs.declared.reader.Reader.{Reader}
-use Rattle.gf_files.specs.Read.{HaveRead, StopsAtFile, TakesFile}
+use Rattle.gf_files.specs.Read.{HaveRead, LacksFirst, StopsAtFile, TakesFile}
 use Rattle.gf_files.specs.Reader.{Finishes, ephemeris_after}
 use Rattle.gf_files.proofs.Runs.{accepted_outcome, as_many, files_more, next_faults, one_more_read, refused_outcome}
 
@@ -79,6 +79,17 @@ module _ (files : Option Files) (names : Texts) (i : ℕ) (name : List ℕ) (the
     sound = read.sound;
     cause = elim cause [ inl rose ↦ inl (omega (arith, later, rose)) | inr lacks ↦ inr lacks ];
   }
+
+  pub lacks_this : (told : Option Files) → told ≡ files → i ≡ 0 → LacksFirst files names → Lacks told name
+  lacks_this told same first lacks =
+      let here : slice_get names 0 ≡ Some name = subst (λ (k : ℕ). slice_get names k ≡ Some name) first there in
+      let known : Lacks files name = subst (λ (found : Option (List ℕ)). IsSomeAnd found (Lacks files)) here lacks in
+      subst (λ (f : Option Files). Lacks f name) (sym same) known
+
+-- there is a first name
+pub some_first : (files : Option Files) (names : Texts) → LacksFirst files names → 0 < length names
+some_first files [] lacks = absurd lacks
+some_first files (n ∷ names) lacks = omega arith
 
 -- all names
 pub all_read : (files : Option Files) (names : Texts) (i : ℕ) (reader : Reader) (end : ℕ) → length names ≤ i → HaveRead files (take i names) reader end → HaveRead files names reader end

@@ -1,5 +1,5 @@
 -- How far files were read.
-use Rattle.std.specs.Prelude.{◌≡◌, ◌+◌, ◌≤◌, ℕ, List, ◌++◌, length, Option, None}
+use Rattle.std.specs.Prelude.{◌≡◌, ◌+◌, ◌≤◌, ℕ, List, ◌++◌, length, slice_get, Option, None, IsSomeAnd}
 use Rattle.std.specs.Io.KnownBytes.{Consumes}
 use Rattle.spec_text.specs.declared.decimals.Fault.{Fault}
 use Rattle.spec_text.specs.declared.limits.TheConstants.{MAX_TEXT_BYTES}
@@ -8,7 +8,7 @@ use Rattle.spec_files.specs.Lines.{ephemeris}
 use Rattle.spec_files.specs.Files.{AreFiles, IsFile}
 use Rattle.spec_files.specs.Outcome.{first_fault}
 use Rattle.spec_files.specs.Texts.{end_line, first_cut, joined}
-use Rattle.gf_edges.specs.Edges.{Files}
+use Rattle.gf_edges.specs.Edges.{Files, Lacks}
 use Rattle.gf_files.specs.declared.reader.Fed.{Fed}
 use Rattle.gf_files.specs.declared.reader.Reader.{Reader}
 use Rattle.gf_files.specs.Reader.{IsFed, IsFirstFault, IsReady, ephemeris_after}
@@ -34,6 +34,10 @@ pub record HaveRead (files : Option Files) (names : List (List ℕ)) (reader : R
   pub whole : first_cut texts ≡ None
   pub sound : first_fault texts ≡ None
   pub ends : end ≡ end_line texts
+
+-- files are told, and the first of these names is not there
+abbrev pub LacksFirst : Option Files → List (List ℕ) → Type 0
+LacksFirst files names = IsSomeAnd (slice_get names 0) (λ name. Lacks files name)
 
 -- of what is left of a file at most one byte more is taken than a file may have
 pub record TakesFew (before after : Option (List ℕ)) : Type 0 where

@@ -102,8 +102,9 @@ fn read_rest<S: Shelf>(alloc: Global, shelf: &mut S, file: usize) -> Result<Vec<
     })
 }
 
-/// The bytes of the file of this number and name. One that is too large has a fault, which is found once one byte past
-/// the limit was read.
+/// The bytes of the file of this number and name. One that is too large has the fault `FILE_TOO_LARGE`, which is found
+/// once one byte past the limit was read. `NotRead` where the file is missing or the shelf fails; `Memory` where it is
+/// out of memory, and never for a missing file.
 pub fn read_file<S: Shelf>(
     alloc: Global,
     shelf: &mut S,

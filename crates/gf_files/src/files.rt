@@ -5,7 +5,7 @@ ghost use Rattle.spec_text.specs.declared.decimals.Fault.{Fault};
 ghost use Rattle.spec_files.specs.Files.{FewAreTaken, FewAreTakenOfOne};
 ghost use Rattle.spec_files.specs.Reading.{AreAccepted, AreRefused, HasFirstFault, IsNotRead};
 ghost use Rattle.spec_files.specs.Texts.{fault_at};
-ghost use Rattle.gf_files.specs.Read.{HaveRead, StopsAtFile, TakesFile};
+ghost use Rattle.gf_files.specs.Read.{HaveRead, LacksFirst, StopsAtFile, TakesFile};
 ghost use Rattle.gf_files.specs.Reader.{IsReady};
 
 use crate::errors::{FilesError, in_file};
@@ -40,6 +40,8 @@ fn take_file<S: Shelf>(
         → (place ≡ file) × StopsAtFile (S.files shelf.old) name.now reader fault }
     ensures not_read { (place : ℕ) → IsErrOf result (FilesError.NotRead place) → (place ≡ file)
         × (Rose (S.faults shelf.old) (S.faults shelf.new) ⊎ Lacks (S.files shelf.old) name.now) }
+    ensures lacking { Lacks (S.files shelf.old) name.now
+        → IsErrOf result (FilesError.NotRead file) }
     ensures taken { S.ready shelf.new → FewAreTaken (S.files shelf.old) name.now (S.left shelf.new) }
     ensures files { S.files shelf.new ≡ S.files shelf.old }
     ensures later { S.faults shelf.old ≤ S.faults shelf.new }
@@ -61,6 +63,8 @@ fn take_files<S: Shelf>(alloc: Global, shelf: &mut S, names: &[String]) -> Resul
     ensures not_read { (file : ℕ) → IsErrOf result (FilesError.NotRead file)
         → IsNotRead (S.files shelf.old) (map string_bytes names.now)
         (S.faults shelf.old) (S.faults shelf.new) file }
+    ensures lacking { LacksFirst (S.files shelf.old) (map string_bytes names.now)
+        → IsErrOf result (FilesError.NotRead 0) }
     ensures taken { 0 < length names.now → S.ready shelf.new
         → FewAreTakenOfOne (S.files shelf.old) (map string_bytes names.now) (S.left shelf.new) }
     ensures files { S.files shelf.new ≡ S.files shelf.old }
@@ -78,6 +82,10 @@ fn take_files<S: Shelf>(alloc: Global, shelf: &mut S, names: &[String]) -> Resul
 
 /// The ephemeris of the files of these names, which the shelf opens one after the other. No file is opened after one
 /// that has a fault or can't be read, and of none more than 268,435,457 bytes are read.
+///
+/// `Fault` is the first fault; more than `MAX_FILES` names are the fault `TOO_MANY_FILES` at file `MAX_FILES`, before
+/// any is opened. `NotRead` where a file is missing or the shelf fails; `Memory` where it is out of memory, and never
+/// for a first file that is missing.
 pub fn read_files<S: Shelf>(
     alloc: Global,
     shelf: &mut S,
@@ -91,6 +99,9 @@ pub fn read_files<S: Shelf>(
     ensures not_read { (file : ℕ) → IsErrOf result (FilesError.NotRead file)
         → IsNotRead (S.files shelf.old) (map string_bytes names.now)
         (S.faults shelf.old) (S.faults shelf.new) file }
+    ensures lacking { length names.now ≤ MAX_FILES
+        → LacksFirst (S.files shelf.old) (map string_bytes names.now)
+        → IsErrOf result (FilesError.NotRead 0) }
     ensures taken { length names.now ≤ MAX_FILES → S.ready shelf.new
         → FewAreTakenOfOne (S.files shelf.old) (map string_bytes names.now) (S.left shelf.new) }
     ensures too_many { MAX_FILES < length names.now

@@ -8,7 +8,7 @@ use Rattle.spec_files.specs.Reading.{HasFirstFault, IsNotRead}
 use Rattle.gf_files.specs.Read.{StopsAtFile, TakesFile}
 use Rattle.gf_files.specs.declared.errors.FilesError.TheVariants as all
 use Rattle.gf_files.proofs.InFile.{passed_on}
-use Rattle.gf_files.proofs.NameLists.{faults_at, name_at, not_read_at, takes_one, texts_of}
+use Rattle.gf_files.proofs.NameLists.{faults_at, lacks_this, name_at, not_read_at, some_first, takes_one, texts_of}
 use Rattle.gf_files.proofs.Runs.{none_read}
 use Rattle.gf_files.proofs.files.take_files.Goals as goal
 
@@ -17,6 +17,7 @@ loop-file-init g c = record {
   read = none_read _ c.first_reader-reader.result c.first_reader-reader.ensures.ready c.first_reader-reader.ensures.first;
   files = refl;
   later = omega arith;
+  lacking = λ lacks. refl;
   taken = λ some. absurd (omega (arith, some));
 }
 
@@ -50,6 +51,15 @@ returns-in_err-fed-clause-not_read g c = λ file is.
     (not_read_at files names place c.deref.result.now there c.loop-file.reader c.loop-file.end_line _ before now few c.loop-file.invariant.read c.loop-file.invariant.later
     (subst (λ (f : Option Files). Rose before now ⊎ Lacks f c.deref.result.now) c.loop-file.invariant.files of.1))
 
+pub returns-in_err-fed-clause-lacking : goal.returns-in_err-fed-clause-lacking
+returns-in_err-fed-clause-lacking g c = λ lacks.
+    let place = c.loop-file.file in
+    let first = c.loop-file.invariant.lacking lacks in
+    let there = name_at c.args.names.now place c.index-names-file.result c.deref.result.now c.loop-file-test.true c.index-names-file.is c.deref.ensures in
+    let missed = c.take_file.ensures.lacking (lacks_this _ _ place c.deref.result.now there _ c.loop-file.invariant.files first lacks) in
+    let given = err_from_is_err_and c.from_residual.result c.from_residual.ensures.1 in
+    cc (first, missed, c.in_err-fed.was, given.1, given.2)
+
 pub returns-in_err-fed-clause-taken : goal.returns-in_err-fed-clause-taken
 returns-in_err-fed-clause-taken g c = λ some ready.
     let there = name_at c.args.names.now c.loop-file.file c.index-names-file.result c.deref.result.now c.loop-file-test.true c.index-names-file.is c.deref.ensures in
@@ -70,6 +80,10 @@ loop-file-preserved g c =
           (subst (λ (f : Option Files). TakesFile f c.deref.result.now c.loop-file.reader c.in_ok-fed.fed) c.loop-file.invariant.files c.in_ok-fed.ensures.fed);
       files = c.take_file.ensures.files ∙ c.loop-file.invariant.files;
       later = omega (arith, c.take_file.ensures.later, c.loop-file.invariant.later);
+      lacking = λ lacks.
+          let first = c.loop-file.invariant.lacking lacks in
+          let missed = c.take_file.ensures.lacking (lacks_this _ _ place c.deref.result.now there _ c.loop-file.invariant.files first lacks) in
+          absurd (cc (missed, c.in_ok-fed.was));
       taken = λ some ready. record {
         file = place;
         name = c.deref.result.now;
@@ -82,3 +96,10 @@ pub returns-clause-taken : goal.returns-clause-taken
 returns-clause-taken g c = λ some ready.
     let many : 0 < c.loop-file.file = omega (arith, some, c.loop-file-test.false) in
     c.loop-file.invariant.taken many ready
+
+pub returns-clause-lacking : goal.returns-clause-lacking
+returns-clause-lacking g c = λ lacks.
+    let first = c.loop-file.invariant.lacking lacks in
+    let some = some_first _ _ lacks in
+    let many = length-map c.args.names.now string_bytes in
+    absurd (omega (arith, first, some, many, c.loop-file-test.false))

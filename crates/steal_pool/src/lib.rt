@@ -2,11 +2,13 @@
 //!
 //! What comes in: a `Judge` (what is a leaf, and where a node is cut), a root, a number of workers, the most leaves, and a
 //! `Gate` that each worker passes before it judges. What goes out of `run`: the book of all leaves of the root, each once,
-//! or why there is none. The other calls are its parts, in order: `make` (a seat for each worker), `PoolSeat::work` in a
-//! thread of its own for each seat, `finish` (what is left on the deques, and the ledger's seats back).
+//! or why there is none. The other calls are its parts, in order: `make` (a seat for each worker), `PoolSeat::work` for each
+//! seat, the first in the calling thread and each other in one of its own, `finish` (what is left on the deques, and the
+//! ledger's seats back).
 //!
 //! - A worker has a node in its hand, a local stack that it alone sees, and a deque. It pushes the right parts of what it
-//!   splits on its deque while there are at most 64 in a row, and takes from its stack, its deque, then other deques.
+//!   splits on its deque while there are at most 64 in a row, and takes from its stack, its deque, then other deques. A deque
+//!   that took 64 in a row and was stolen empty it pops first, so that it takes nodes again.
 //! - A deque is first in, first out: what its owner put on it is, in order, what was taken and what it holds.
 //! - A worker's end of another's deque is a `Stealer`. `make` hands them out and `finish` joins them into the deque's
 //!   owner; that each belongs to the deque that it names is the fact `AreLinked` of all seats together.

@@ -74,8 +74,8 @@ fn work_each<R: Threads + Wait + Sync, N: Naming + Send + Sync, J: Judge, G: Gat
     );
 }
 
-// All seats work at once. Their order is reversed meanwhile, so that the first, which has the root's left part in its hand,
-// works in this thread: it need not wait until threads are made.
+// All seats work at once. Their order is reversed meanwhile, so that the first, which has the root or its left part in its
+// hand, works in this thread: it need not wait until threads are made.
 fn work_all<R: Threads + Wait + Sync, N: Naming + Send + Sync, J: Judge, G: Gate>(
     rt: &R,
     seats: &mut [PoolSeat<N, J, G>],

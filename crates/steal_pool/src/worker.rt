@@ -16,7 +16,7 @@ use std::alloc::Global;
 use std::marker::Model;
 use std::thread;
 
-/// The first slots of a deque, so that its first 64 pushes never fail.
+/// The first slots of a deque, and the most nodes that are put on it in a row: so these pushes never fail.
 const ROOM: usize = 64;
 
 /// The most sweeps over the other deques in one search for a node. Where all are empty, those who work may soon push.

@@ -2,8 +2,7 @@
 ghost use Rattle.std.specs.Prelude.{◌≡◌, ◌<◌, IfErr, IfOk, true};
 ghost use Rattle.spec_requests.specs.Limits.{IsWithinLimits};
 ghost use Rattle.spec_outcomes.specs.Outcomes.{Stops};
-ghost use Rattle.spec_outcomes.specs.Queries.{IsQuery, is_within, query_of, span_of};
-ghost use Rattle.gf_search.specs.Wanted.{IsWanted};
+ghost use Rattle.spec_outcomes.specs.Queries.{is_within, query_of, span_of};
 ghost use Rattle.gf_find.specs.Outcomes.{HoldEphemeris};
 ghost use Rattle.gf_find.specs.Searches.{AreSearched, AreSearchedIn, SearchStops};
 ghost use Rattle.gf_find.specs.Reported.{AreNotOpened};
@@ -13,7 +12,7 @@ use eph_model::Ephemeris;
 use gf_edges::{Gate, Shelf};
 use gf_query::span_asked;
 use gf_search::{Crew, Wanted, leaves};
-use spec_outcomes::{Query, Refusal, Span, query_of};
+use spec_outcomes::{Refusal, Span, query_of};
 use spec_requests::FindAsk;
 use spec_trees::Leaf;
 use std::alloc::Global;

@@ -11,10 +11,10 @@ use Rattle.spec_numbers.proofs.Sizes.{product_size as size_of_product}
 use Rattle.spec_intervals.specs.Enclosure.{middle, offsets}
 use Rattle.spec_intervals.specs.Fraction.{Fraction, IsFraction, fraction, fraction_add, fraction_mul, fraction_sub}
 use Rattle.spec_intervals.specs.Interval.{Interval, product, sum}
-use Rattle.spec_roundings.specs.Ends.{IsCorner, low_low, low_high, high_low, high_high, NoMore, greatest_end, high, in_units, low, size, slight}
-use Rattle.spec_roundings.proofs.Ordered.{product_ordered, add_no_more, no_more_trans, slight_is_fraction, slight_no_more}
-use Rattle.spec_roundings.proofs.Products.{product_corner_over, product_corner_under}
-use Rattle.spec_roundings.proofs.Sums.{sum_over, sum_under}
+use Rattle.spec_models.specs.Ends.{IsCorner, low_low, low_high, high_low, high_high, NoMore, greatest_end, high, in_units, low, size, slight}
+use Rattle.spec_models.proofs.Ordered.{product_ordered, add_no_more, no_more_trans, slight_is_fraction, slight_no_more}
+use Rattle.spec_models.proofs.ProductRoundings.{product_corner_over, product_corner_under}
+use Rattle.spec_models.proofs.SumRoundings.{sum_over, sum_under}
 use Rattle.spec_margins.specs.Margins.{multiple, opposite}
 use Rattle.spec_margins.proofs.Fractions.{multiple_no_more, opposite_no_more, sub_no_more}
 use Rattle.spec_margins.proofs.Shares.{add_is_fraction, both_shares, half_and_little, left_above, left_below, share, share_is_fraction}

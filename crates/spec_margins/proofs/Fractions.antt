@@ -3,7 +3,7 @@ use Rattle.std.proofs.Common.{ℕ, ◌*◌, arith, [], ◌∷◌, ℤ, pos, ◌*
 use Rattle.spec_numbers.proofs.Ring.{v, ◌⊖◌, ◌⊗◌, minus, ring}
 use Rattle.spec_numbers.proofs.Order.{lin, le-mul}
 use Rattle.spec_intervals.specs.Fraction.{Fraction, fraction_sub}
-use Rattle.spec_roundings.specs.Ends.{NoMore}
+use Rattle.spec_models.specs.Ends.{NoMore}
 use Rattle.spec_margins.specs.Margins.{multiple, opposite}
 
 -- a comparison over two more denominators

@@ -11,7 +11,7 @@ use Rattle.spec_numbers.proofs.Order.{lin, le-mul, min_first, min_second}
 use Rattle.spec_numbers.proofs.Floor.{ceil_div-lt}
 use Rattle.spec_intervals.specs.Interval.{Interval, is_zero, lift, surplus, meet, meet_up, narrow, narrow_by, narrow_shift, settled}
 use Rattle.spec_intervals.proofs.Sums.{meets}
-use Rattle.spec_inclusions.proofs.Spans.{floor_div-greatest}
+use Rattle.spec_models.proofs.Spans.{floor_div-greatest}
 
 -- ---- narrowing
 -- the quotient of a number that is not negative is not negative

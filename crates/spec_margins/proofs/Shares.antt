@@ -5,7 +5,7 @@ use borrow.Author.Differences.{up, down}
 use Rattle.spec_numbers.proofs.Ring.{v, k as lit, ◌⊕◌, ◌⊖◌, ◌⊗◌, minus, ring}
 use Rattle.spec_numbers.proofs.Order.{lin, le_by, le-mul}
 use Rattle.spec_intervals.specs.Fraction.{Fraction, IsFraction, fraction, fraction_add, fraction_sub}
-use Rattle.spec_roundings.specs.Ends.{NoMore, in_units, slight}
+use Rattle.spec_models.specs.Ends.{NoMore, in_units, slight}
 use Rattle.spec_margins.specs.Margins.{opposite}
 
 -- k / m of g

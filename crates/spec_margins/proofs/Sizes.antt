@@ -10,10 +10,10 @@ use Rattle.spec_intervals.specs.Enclosure.{IsWithin}
 use Rattle.spec_intervals.specs.Fraction.{Fraction, IsFraction}
 use Rattle.spec_intervals.specs.Interval.{Interval, end_limit}
 use Rattle.spec_intervals.proofs.Narrow.{zero_ends}
-use Rattle.spec_inclusions.specs.Inclusion.{Includes, Spans}
-use Rattle.spec_roundings.specs.Ends.{NoMore, greatest_end, high, in_units, low, size}
-use Rattle.spec_roundings.proofs.Near.{raised_powers}
-use Rattle.spec_roundings.proofs.Ordered.{more_units}
+use Rattle.spec_models.specs.Inclusion.{Includes, Spans}
+use Rattle.spec_models.specs.Ends.{NoMore, greatest_end, high, in_units, low, size}
+use Rattle.spec_models.proofs.Near.{raised_powers}
+use Rattle.spec_models.proofs.Ordered.{more_units}
 use Rattle.spec_margins.specs.Margins.{opposite}
 
 -- ---- numbers of units

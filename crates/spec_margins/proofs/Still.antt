@@ -23,9 +23,9 @@ use Rattle.spec_trees.specs.Tree.{IsValid, width}
 use Rattle.spec_events.specs.Verdict.{is_known}
 use Rattle.spec_searches.specs.Found.{rules}
 use Rattle.spec_searches.specs.Search.{IsSearch, Search, crosses, enclosure_over, verdict_of}
-use Rattle.spec_inclusions.specs.Bounds.{Bound}
-use Rattle.spec_inclusions.specs.Inclusion.{Includes, Spans}
-use Rattle.spec_inclusions.proofs.Inclusions.{holds_ordered}
+use Rattle.spec_models.specs.Bounds.{Bound}
+use Rattle.spec_models.specs.Inclusion.{Includes, Spans}
+use Rattle.spec_models.proofs.Inclusions.{holds_ordered}
 use Rattle.spec_bounds.specs.Steady.{sign_at}
 use Rattle.spec_bounds.specs.Terms.{bound_over}
 use Rattle.spec_bounds.proofs.Within.{formula-within}
@@ -39,8 +39,8 @@ use Rattle.spec_bounds.proofs.Signs.{sign_above, sign_below}
 use Rattle.spec_stills.specs.declared.still.StillSpan.{StillSpan}
 use Rattle.spec_stills.specs.Still.{IsStill}
 use Rattle.spec_stills.proofs.Units.{clear_unit as clear_by_ends}
-use Rattle.spec_roundings.specs.Ends.{NoMore, greatest_end, high, in_units, low, size}
-use Rattle.spec_roundings.proofs.Ordered.{no_more_trans}
+use Rattle.spec_models.specs.Ends.{NoMore, greatest_end, high, in_units, low, size}
+use Rattle.spec_models.proofs.Ordered.{no_more_trans}
 use Rattle.spec_margins.specs.Margins.{HasMargin, IsAbove, IsBelow, StepsFit, opposite, range_at}
 use Rattle.spec_margins.proofs.Centred.{centred_above, centred_below, changes_fit, sizes}
 use Rattle.spec_margins.proofs.Made.{IsMade, formula_made}

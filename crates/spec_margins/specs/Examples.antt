@@ -6,7 +6,7 @@ use Rattle.spec_ephemeris.specs.Examples.{whole}
 use Rattle.spec_expressions.specs.Term.{length}
 use Rattle.spec_events.specs.declared.dir.Dir.TheVariants as D
 use Rattle.spec_searches.specs.Search.{Search}
-use Rattle.spec_inclusions.specs.Bounds.{Bound}
+use Rattle.spec_models.specs.Bounds.{Bound}
 
 -- a search whose function is so many km at each time
 abbrev pub level : ℤ → Search → Search

@@ -5,8 +5,8 @@ use Rattle.spec_intervals.specs.Fraction.{Fraction, IsFraction, fraction}
 use Rattle.spec_intervals.specs.Interval.{Interval}
 use Rattle.spec_bodies.specs.Views.{state_enclosure}
 use Rattle.spec_searches.specs.Search.{Search, enclosure_over}
-use Rattle.spec_inclusions.specs.Bounds.{Bound}
-use Rattle.spec_roundings.specs.Ends.{NoMore, high, in_units, low, size}
+use Rattle.spec_models.specs.Bounds.{Bound}
+use Rattle.spec_models.specs.Ends.{NoMore, high, in_units, low, size}
 
 -- the interval of the function at one time
 abbrev pub range_at : Search → ℤ → Interval

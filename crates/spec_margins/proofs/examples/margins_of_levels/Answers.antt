@@ -8,7 +8,7 @@ use Rattle.spec_intervals.specs.Enclosure.{centred, constant_of, enclosure, trip
 use Rattle.spec_intervals.specs.Fraction.{Fraction, fraction}
 use Rattle.spec_intervals.specs.Interval.{Interval, from_decimal, interval, meet, zero_interval}
 use Rattle.spec_searches.specs.Search.{Search}
-use Rattle.spec_roundings.specs.Ends.{NoMore, high, low}
+use Rattle.spec_models.specs.Ends.{NoMore, high, low}
 use Rattle.spec_margins.specs.Margins.{IsAbove, IsBelow, opposite, range_at}
 use Rattle.spec_margins.specs.Examples.{level}
 use Rattle.spec_margins.proofs.examples.margins_of_levels.Goals as goal

@@ -4,15 +4,15 @@ use Rattle.std.specs.Prelude.{IfOk}
 use Rattle.spec_text.specs.declared.decimals.Decimal.{Decimal}
 use Rattle.spec_ephemeris.specs.declared.limits.TheConstants.{MAX_BLOCKS}
 use Rattle.spec_ephemeris.specs.Ephemeris.{Ephemeris, IsBlock, IsEphemeris, IsStart, empty_ephemeris, with_block}
-use Rattle.spec_sections.specs.declared.rules.BrokenRule.{BrokenRule}
+use Rattle.spec_files.specs.declared.rules.BrokenRule.{BrokenRule}
 use Rattle.std.proofs.lemmas.Bool.{ltb-true}
-use Rattle.spec_sections.specs.Sections.{broken}
-use Rattle.spec_sections.proofs.Holding.{holds_ok}
+use Rattle.spec_files.specs.Sections.{broken}
+use Rattle.spec_files.proofs.Holding.{holds_ok}
 use Rattle.spec_faults.specs.declared.numbers.TheConstants.{BLOCK_SPAN}
-use Rattle.spec_blocks.specs.BlockRules.{coefficient_rule, first_date, follows, has_length, is_after_gap, is_skipped, second_date, time_of, value_rule}
-use Rattle.spec_blocks.specs.Blocks.{begun, with_numbers}
-use Rattle.spec_blocks.specs.Read.{AreRead}
-use Rattle.spec_blocks.proofs.Blocks.{is_block, right_length, room, time_holds}
+use Rattle.spec_files.specs.BlockRules.{coefficient_rule, first_date, follows, has_length, is_after_gap, is_skipped, second_date, time_of, value_rule}
+use Rattle.spec_files.specs.Blocks.{begun, with_numbers}
+use Rattle.spec_files.specs.Read.{AreRead}
+use Rattle.spec_files.proofs.Blocks.{is_block, right_length, room, time_holds}
 use Rattle.de_blocks.specs.Dates.{AreDates, AreRuled, met}
 use Rattle.de_blocks.specs.declared.dates.Dates.{Dates}
 use Rattle.eph_model.specs.Starting.{starting_at}

@@ -4,13 +4,13 @@ use Rattle.std.proofs.lemmas.List.{length-append, take-append-le}
 use Rattle.spec_text.specs.declared.decimals.Decimal.{Decimal}
 use Rattle.spec_text.specs.declared.decimals.Fault.{Fault as Broken}
 use Rattle.spec_ephemeris.specs.Ephemeris.{Ephemeris}
-use Rattle.spec_sections.specs.declared.rules.BrokenRule.{BrokenRule}
-use Rattle.spec_blocks.specs.BlockRules.{number_rule}
+use Rattle.spec_files.specs.declared.rules.BrokenRule.{BrokenRule}
+use Rattle.spec_files.specs.BlockRules.{number_rule}
 use Rattle.de_blocks.specs.Steps.{Pushes, ReadsNumbers, numbers_on, wanted}
-use Rattle.spec_sections.specs.declared.errors.ReadError.{ReadError}
-use Rattle.spec_sections.specs.declared.errors.ReadError.TheVariants.{Fault, Memory}
-use Rattle.spec_sections.specs.Sections.{ruled_at}
-use Rattle.spec_sections.proofs.Steps.{broken_by}
+use Rattle.spec_files.specs.declared.errors.ReadError.{ReadError}
+use Rattle.spec_files.specs.declared.errors.ReadError.TheVariants.{Fault, Memory}
+use Rattle.spec_files.specs.Sections.{ruled_at}
+use Rattle.spec_files.proofs.Steps.{broken_by}
 use Rattle.eph_model.specs.Stores.{Store}
 use Rattle.de_blocks.specs.Dates.{number_in}
 use Rattle.de_blocks.specs.declared.dates.RuledNumber.{RuledNumber}

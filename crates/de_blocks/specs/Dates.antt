@@ -2,8 +2,8 @@
 use Rattle.std.specs.Prelude.{◌≡◌, List, [], ◌∷◌, ◌++◌, IfOk, Result, Ok, Err}
 use Rattle.spec_text.specs.declared.decimals.Decimal.{Decimal}
 use Rattle.spec_ephemeris.specs.Ephemeris.{Ephemeris}
-use Rattle.spec_sections.specs.declared.rules.BrokenRule.{BrokenRule}
-use Rattle.spec_blocks.specs.BlockRules.{time_of, value_rule}
+use Rattle.spec_files.specs.declared.rules.BrokenRule.{BrokenRule}
+use Rattle.spec_files.specs.BlockRules.{time_of, value_rule}
 use Rattle.de_blocks.specs.declared.dates.Dates.{Dates}
 use Rattle.de_blocks.specs.declared.dates.RuledNumber.{RuledNumber}
 

@@ -3,9 +3,9 @@ ghost use Rattle.std.specs.Prelude.{◌≡◌, ◌<◌, ◌≤◌, ◌++◌, [],
 ghost use Rattle.spec_text.specs.declared.decimals.Decimal.{Decimal};
 ghost use Rattle.spec_ephemeris.specs.Header.{IsHeader};
 ghost use Rattle.spec_ephemeris.specs.Ephemeris.{IsEphemeris};
-ghost use Rattle.spec_blocks.specs.BlockRules.{is_too_large, number_rule};
-ghost use Rattle.spec_blocks.specs.Blocks.{no_blocks, with_numbers};
-ghost use Rattle.spec_blocks.specs.Read.{AreRead};
+ghost use Rattle.spec_files.specs.BlockRules.{is_too_large, number_rule};
+ghost use Rattle.spec_files.specs.Blocks.{no_blocks, with_numbers};
+ghost use Rattle.spec_files.specs.Read.{AreRead};
 ghost use Rattle.eph_model.specs.Stores.{IsRounded, cut_to};
 ghost use Rattle.de_blocks.specs.Dates.{AreDates, AreRuled, met, number_in};
 ghost use Rattle.de_blocks.specs.Steps.{Pushes};
@@ -17,7 +17,7 @@ use crate::rules::{
 };
 use eph_model::{BlockStore, Ephemeris, rounded};
 use spec_ephemeris::Header;
-use spec_sections::{BrokenRule, ReadError, ruled_at};
+use spec_files::{BrokenRule, ReadError, ruled_at};
 use spec_text::Decimal;
 use std::alloc::Global;
 use std::marker::Model;

@@ -1,12 +1,12 @@
 // The words of a line within a block, from left to right.
 ghost use Rattle.std.specs.Prelude.{◌≡◌, ◌<◌, length, take};
-ghost use Rattle.spec_sections.specs.Sections.{ruled_at};
+ghost use Rattle.spec_files.specs.Sections.{ruled_at};
 ghost use Rattle.de_blocks.specs.Steps.{Reads, ReadsNumbers, on_line, zeros_on};
 
 use crate::block::OpenBlock;
 use crate::rules::trailing_rule;
 use de_text::{Line, Words};
-use spec_sections::{ReadError, ruled_at};
+use spec_files::{ReadError, ruled_at};
 use spec_text::Fault;
 
 // Reads words of this line until the block is whole or none is left.

@@ -1,5 +1,5 @@
 // What a reader answers.
-use spec_sections::ReadError;
+use spec_files::ReadError;
 
 /// Whether a reader wants more lines.
 #[derive(Clone, Copy, Debug, PartialEq, Eq)]

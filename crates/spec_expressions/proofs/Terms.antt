@@ -5,9 +5,9 @@ use Rattle.std.proofs.lemmas.Bool.{cases_lt}
 use Rattle.std.proofs.Math.Seq.{get_or-append_seam}
 use Rattle.std.proofs.Math.ListN.{length-append}
 use Rattle.spec_expressions.specs.Term.{IsFormula, Term, position, leaf, sum, difference, product, signed_square}
-use Rattle.spec_steps.specs.declared.steps.Step.{Step}
-use Rattle.spec_steps.specs.declared.steps.Step.TheVariants.{Position, Velocity, Length, Cosine, Sum, Difference, Product, SignedSquare}
-use Rattle.spec_steps.specs.Steps.{AreFormulas, AreStepsAfter, IsStep, IsStepOf, step_term, term_at, terms_after, terms_of}
+use Rattle.spec_expressions.specs.declared.steps.Step.{Step}
+use Rattle.spec_expressions.specs.declared.steps.Step.TheVariants.{Position, Velocity, Length, Cosine, Sum, Difference, Product, SignedSquare}
+use Rattle.spec_expressions.specs.Steps.{AreFormulas, AreStepsAfter, IsStep, IsStepOf, step_term, term_at, terms_after, terms_of}
 
 longer : (ts : List Term) (x : Term) → length (ts ++ x ∷ []) ≡ suc (length ts)
 longer ts x = let e = length-append ts (x ∷ []) in omega (arith, e)

@@ -1,5 +1,5 @@
 use Rattle.spec_expressions.proofs.Induction.{AllFractions-of, IsEnclosure-of}
-use Rattle.spec_expressions.proofs.laws.terms_are_enclosed.Goals as goal
+use Rattle.spec_expressions.proofs.expression_laws.terms_are_enclosed.Goals as goal
 
 pub returns-clause-numbers : goal.returns-clause-numbers
 returns-clause-numbers c = AllFractions-of

@@ -2,9 +2,9 @@
 
 ghost use Rattle.std.specs.Prelude.{◌≡◌, ◌∷◌, [], length};
 ghost use Rattle.spec_expressions.specs.Term.{leaf, position, difference, product, nodes};
-ghost use Rattle.spec_steps.specs.declared.steps.Step.TheVariants.{Sum};
-ghost use Rattle.spec_steps.specs.Steps.{AreSteps, IsStep, term_at, terms_of};
-ghost use Rattle.spec_steps.specs.Examples.{shared, square, x, y};
+ghost use Rattle.spec_expressions.specs.declared.steps.Step.TheVariants.{Sum};
+ghost use Rattle.spec_expressions.specs.Steps.{AreSteps, IsStep, term_at, terms_of};
+ghost use Rattle.spec_expressions.specs.StepExamples.{shared, square, x, y};
 
 /// `x² - (x² - y)` by five steps, of which the square is one: its term names the square twice.
 pub fn shared_squares()

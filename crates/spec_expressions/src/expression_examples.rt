@@ -7,7 +7,7 @@ ghost use Rattle.spec_intervals.specs.Enclosure.{IsEnclosure, AllFractions, IsSp
 ghost use Rattle.spec_expressions.specs.declared.vectors.Vector.TheVariants.{Position, Velocity};
 ghost use Rattle.spec_expressions.specs.Term.{Leaf, length, cosine, exact_of, enclosure_of, nodes, degree};
 ghost use Rattle.spec_expressions.specs.Vectors.{dot};
-ghost use Rattle.spec_expressions.specs.Examples.{clock, clock_over, half_of};
+ghost use Rattle.spec_expressions.specs.ExpressionExamples.{clock, clock_over, half_of};
 
 /// A constant is its decimal at each time, and its enclosure has no step. Where there are several times, the range is
 /// narrowed, so that 0 has the exponent 0 there.

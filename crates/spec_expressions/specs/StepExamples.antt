@@ -1,8 +1,8 @@
 -- A list of steps of the worked examples.
 use Rattle.std.specs.Prelude.{◌∷◌, [], List}
 use Rattle.spec_expressions.specs.Term.{Term, leaf, position, product}
-use Rattle.spec_steps.specs.declared.steps.Step.{Step}
-use Rattle.spec_steps.specs.declared.steps.Step.TheVariants.{Position, Difference, Product}
+use Rattle.spec_expressions.specs.declared.steps.Step.{Step}
+use Rattle.spec_expressions.specs.declared.steps.Step.TheVariants.{Position, Difference, Product}
 
 abbrev pub x : Term
 x = leaf (position 0 0)

@@ -1,6 +1,6 @@
 use Rattle.std.proofs.Common.{[], arith, refl}
-use Rattle.spec_steps.proofs.Terms.{as_many, step_of}
-use Rattle.spec_steps.proofs.laws.steps_stand_for_terms.Goals as goal
+use Rattle.spec_expressions.proofs.Terms.{as_many, step_of}
+use Rattle.spec_expressions.proofs.step_laws.steps_stand_for_terms.Goals as goal
 
 pub returns-clause-count : goal.returns-clause-count
 returns-clause-count c = as_many

@@ -1,8 +1,8 @@
 -- Lists of steps, the terms that they stand for, and which lists are well made.
 use Rattle.std.specs.Prelude.{◌≡◌, ℕ, suc, ◌<◌, ◌++◌, ◌∷◌, [], List, length, slice_index_or, ⊤}
 use Rattle.spec_expressions.specs.Term.{IsFormula, Term, position, velocity, leaf, length as length_of, cosine, sum, difference, product, signed_square}
-use Rattle.spec_steps.specs.declared.steps.Step.{Step}
-use Rattle.spec_steps.specs.declared.steps.Step.TheVariants.{Position, Velocity, Length, Cosine, Sum, Difference, Product, SignedSquare}
+use Rattle.spec_expressions.specs.declared.steps.Step.{Step}
+use Rattle.spec_expressions.specs.declared.steps.Step.TheVariants.{Position, Velocity, Length, Cosine, Sum, Difference, Product, SignedSquare}
 
 -- the term with a number, counted from 0; that of no step is never asked for
 abbrev pub term_at : List Term → ℕ → Term

@@ -1,6 +1,6 @@
 use Rattle.std.proofs.Common.{arith, length}
-use Rattle.spec_steps.proofs.Terms.{formulas_more, kept_more, last_more, steps_more}
-use Rattle.spec_steps.proofs.laws.one_step_more.Goals as goal
+use Rattle.spec_expressions.proofs.Terms.{formulas_more, kept_more, last_more, steps_more}
+use Rattle.spec_expressions.proofs.step_laws.one_step_more.Goals as goal
 
 pub returns-clause-made : goal.returns-clause-made
 returns-clause-made c = λ ss s are step. steps_more ss s 0 (length ss) (omega arith) are step

@@ -2,8 +2,8 @@
 
 ghost use Rattle.std.specs.Prelude.{◌≡◌, ◌<◌, ◌++◌, ◌∷◌, [], ℕ, List, length, slice_index_or};
 ghost use Rattle.spec_expressions.specs.Term.{IsFormula};
-ghost use Rattle.spec_steps.specs.declared.steps.Step.{Step};
-ghost use Rattle.spec_steps.specs.Steps.{AreFormulas, AreSteps, IsStep, IsStepOf, step_term, term_at, terms_of};
+ghost use Rattle.spec_expressions.specs.declared.steps.Step.{Step};
+ghost use Rattle.spec_expressions.specs.Steps.{AreFormulas, AreSteps, IsStep, IsStepOf, step_term, term_at, terms_of};
 
 /// A list stands for as many terms as it has steps. In one that is well made each step stands for its term, by the terms
 /// of earlier steps.

@@ -6,7 +6,7 @@ ghost use Rattle.spec_searches.specs.Found.{rules};
 use crate::walks::{Walk, leaves_by};
 use event_judge::{EventSearch, Naming, RememberingJudge};
 use halving::{Judge, Leaf, Node};
-use spec_eager::laws::eager_trees_are_sound;
+use spec_stills::eager_laws::eager_trees_are_sound;
 use std::alloc::Global;
 use std::marker::Brand;
 use std::sync::Wait;

@@ -8,7 +8,7 @@ use Rattle.std.proofs.lemmas.List.Folds.{list_any_at, list_any_none}
 use Rattle.std.specs.Prelude.{int_le, int_lt, nat_lt}
 use Rattle.spec_trees.specs.declared.tree.Node.{Node}
 use Rattle.spec_stills.specs.declared.still.StillSpan.{StillSpan}
-use Rattle.spec_eager.specs.Eager.{begin_in}
+use Rattle.spec_stills.specs.Eager.{begin_in}
 use Rattle.still_judge.specs.Stands.{IsCount, begins_in}
 use Rattle.still_judge.proofs.Following.{ends_before, followed, has_time}
 

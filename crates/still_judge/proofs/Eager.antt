@@ -8,7 +8,7 @@ use Rattle.spec_events.specs.Stages.{is_above_limits}
 use Rattle.spec_searches.specs.Search.{Search, criteria, verdict_of}
 use Rattle.spec_stills.specs.declared.still.StillSpan.{StillSpan}
 use Rattle.spec_stills.specs.Still.{is_served}
-use Rattle.spec_eager.specs.Eager.{begin_in, eager_verdict}
+use Rattle.spec_stills.specs.Eager.{begin_in, eager_verdict}
 use Rattle.still_judge.specs.declared.standing.Standing.TheVariants.{Begun, Open, Served}
 use Rattle.still_judge.specs.Stands.{standing_of, verdict_at}
 

@@ -4,7 +4,7 @@ ghost use Rattle.spec_events.specs.Stages.{is_above_limits};
 ghost use Rattle.spec_searches.specs.Search.{criteria};
 ghost use Rattle.spec_stills.specs.declared.still.StillSpan.{StillSpan};
 ghost use Rattle.spec_stills.specs.Still.{is_served};
-ghost use Rattle.spec_eager.specs.Eager.{begin_in};
+ghost use Rattle.spec_stills.specs.Eager.{begin_in};
 ghost use Rattle.still_judge.specs.Stands.{IsCount, begins_in, standing_of};
 
 use crate::standing::Standing;

@@ -4,7 +4,7 @@ ghost use Rattle.spec_trees.specs.declared.tree.Node.{Node};
 ghost use Rattle.spec_trees.specs.Tree.{IsSound, IsValid};
 ghost use Rattle.spec_searches.specs.Found.{rules};
 ghost use Rattle.spec_searches.specs.Search.{verdict_of};
-ghost use Rattle.spec_eager.specs.Eager.{eager_rules};
+ghost use Rattle.spec_stills.specs.Eager.{eager_rules};
 
 use crate::still_list::StillList;
 use event_judge::EventSearch;

@@ -1,13 +1,13 @@
 // What a judge of an eager tree says of nodes, and where it cuts them.
 ghost use Rattle.std.specs.Prelude.{◌≡◌};
 ghost use Rattle.spec_searches.specs.Found.{rules};
-ghost use Rattle.spec_eager.specs.Eager.{eager_rules};
+ghost use Rattle.spec_stills.specs.Eager.{eager_rules};
 
 use crate::eager_judge::EagerJudge;
 use crate::standing::Standing;
 use crate::still_list::StillList;
 use event_judge::EventSearch;
-use spec_eager::laws::eager_trees_are_sound;
+use spec_stills::eager_laws::eager_trees_are_sound;
 use tree_judge::{Judge, Node, Verdict};
 
 impl<'j, 'e, J: Judge> EagerJudge<'j, 'e, J> {

@@ -1,7 +1,7 @@
 // Leaves that leave nothing undecided.
 ghost use Rattle.std.specs.Prelude.{◌≡◌, ◌↔◌, IsTrue, false};
 ghost use Rattle.spec_trees.specs.Windows.{is_undecided};
-ghost use Rattle.spec_eager.specs.Told.{AreTold};
+ghost use Rattle.spec_stills.specs.Told.{AreTold};
 
 use spec_trees::{Leaf, Mark};
 

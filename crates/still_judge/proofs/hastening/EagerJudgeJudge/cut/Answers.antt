@@ -1,8 +1,8 @@
 use Rattle.std.proofs.Common.{sym, subst}
 use Rattle.spec_trees.specs.declared.tree.Node.{Node}
 use Rattle.spec_trees.specs.Tree.{Cuts, IsValid}
-use Rattle.spec_eager.specs.Eager.{eager_rules}
-use Rattle.spec_eager.proofs.Sound.{eager_may, valid_fine}
+use Rattle.spec_stills.specs.Eager.{eager_rules}
+use Rattle.spec_stills.proofs.Sound.{eager_may, valid_fine}
 use Rattle.still_judge.proofs.hastening.EagerJudgeJudge.cut.Goals as goal
 
 pub parts-requires-clause-valid : goal.parts-requires-clause-valid

@@ -1,6 +1,6 @@
 use Rattle.std.proofs.Common.{◌∙◌, ap, sym}
 use Rattle.spec_searches.specs.Search.{verdict_of}
-use Rattle.spec_eager.proofs.Sound.{valid_fine}
+use Rattle.spec_stills.proofs.Sound.{valid_fine}
 use Rattle.still_judge.specs.declared.standing.Standing.{Standing}
 use Rattle.still_judge.specs.Stands.{verdict_at}
 use Rattle.still_judge.proofs.Eager.{by_standing}

@@ -8,7 +8,7 @@ ghost use Rattle.spec_stills.specs.Eager.{eager_rules};
 
 use crate::still_list::StillList;
 use event_judge::EventSearch;
-use tree_judge::Judge;
+use gf_hooks::Judge;
 
 /// Judges the nodes of a search as another judge does, but that a node which a still span serves is clear, and one in which a
 /// still span begins is split unjudged, down to the limits of the search.

@@ -7,8 +7,8 @@ use crate::eager_judge::EagerJudge;
 use crate::standing::Standing;
 use crate::still_list::StillList;
 use event_judge::EventSearch;
+use gf_hooks::{Judge, Node, Verdict};
 use spec_stills::eager_laws::eager_trees_are_sound;
-use tree_judge::{Judge, Node, Verdict};
 
 impl<'j, 'e, J: Judge> EagerJudge<'j, 'e, J> {
     /// The judge of the eager tree of a search by still spans, by a judge with the rules of the search.

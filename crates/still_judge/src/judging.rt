@@ -2,7 +2,7 @@
 ghost use Rattle.still_judge.specs.Pruned.{pruned, pruned_sound};
 
 use crate::still_judge::StillJudge;
-use tree_judge::{Judge, Node, Verdict};
+use gf_hooks::{Judge, Node, Verdict};
 
 impl<'j, 'e, J: Judge> Judge for StillJudge<'j, 'e, J> {
     ghost rules = { λ judge. pruned (J.rules judge.judge.now) judge.search.now judge.stills.now };

@@ -1,7 +1,7 @@
 // The judge of a coarse tree.
 use crate::still_list::StillList;
 use event_judge::EventSearch;
-use tree_judge::Judge;
+use gf_hooks::Judge;
 
 /// Judges the nodes of a search as another judge does, but that a node which a still span serves is clear.
 #[derive(Drop)]

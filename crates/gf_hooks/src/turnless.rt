@@ -2,7 +2,7 @@
 ghost use Rattle.std.specs.Prelude.{◌≡◌};
 ghost use Rattle.spec_events.specs.Stages.{is_turnless};
 ghost use Rattle.spec_events.specs.Verdict.{falls, is_known, is_one_way, rises, steps_against};
-ghost use Rattle.gf_signs.specs.Held.{steps_interval};
+ghost use Rattle.gf_hooks.specs.Held.{steps_interval};
 
 use crate::steps::Steps;
 use spec_events::Dir;

@@ -24,8 +24,7 @@ use spec_stills::still_laws::{
 use spec_trees::{Leaf, Node, leaves_cover_the_node};
 use std::sync::Wait;
 use std::thread::Threads;
-use still_judge::{EagerJudge, StillJudge, StillList, are_told};
-use still_shares::still_spans_by;
+use still_spans::{EagerJudge, StillJudge, StillList, are_told, still_spans_by};
 
 /// Still spans of a search over the times of a node, in order, which a crew looks for.
 pub(crate) fn stills_of<R: Threads + Sync, G>(

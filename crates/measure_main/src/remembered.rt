@@ -11,8 +11,7 @@ use std::alloc::Global;
 use std::marker::Brand;
 use std::sync::Wait;
 use std::thread::Threads;
-use still_judge::{EagerJudge, StillList};
-use still_spans::still_spans;
+use still_spans::{EagerJudge, StillList, still_spans};
 
 // The leaves of a root by a judge, where those of the eager tree are wanted by the search's still spans.
 fn leaves_of<R: Threads + Wait + Sync, J: Judge>(

@@ -1,7 +1,7 @@
 use Rattle.std.proofs.Common.{refl, arith}
 use Rattle.std.proofs.lemmas.Int.{ints}
 use Rattle.spec_trees.specs.Order.{inserted, in_order}
-use Rattle.join_tests.proofs.books.a_book_out_of_order.Goals as goal
+use Rattle.pool_tests.proofs.books.a_book_out_of_order.Goals as goal
 
 pub windows-requires : goal.windows-requires
 unfolding in_order inserted

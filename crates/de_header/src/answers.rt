@@ -2,7 +2,7 @@
 use spec_files::ReadError;
 
 /// Whether a reader wants more lines.
-#[derive(Clone, Copy, Debug, PartialEq, Eq)]
+#[derive(Clone, Copy, PartialEq, Eq)]
 pub enum Step {
     /// The header goes on.
     More,

@@ -7,7 +7,7 @@ use crate::tokens::cut_token;
 use std::marker::Model;
 
 /// A cursor over the tokens of a line, from left to right. Its value is the list of those that are left.
-#[derive(Debug, Drop)]
+#[derive(Drop)]
 pub struct Words<'a> {
     pub(crate) rest: &'a [u8],
 }

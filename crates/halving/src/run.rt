@@ -8,7 +8,7 @@ use spec_trees::{Leaf, Node};
 use std::alloc::Global;
 
 /// Why a walk has no leaves to give: they are more than the limit, or memory ran out.
-#[derive(Debug, Drop, PartialEq, Eq)]
+#[derive(Drop, PartialEq, Eq)]
 pub enum RunError {
     TooMany,
     Memory,

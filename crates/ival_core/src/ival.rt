@@ -29,7 +29,7 @@ pub const COSINE_EXPONENT: i32 = -60;
 const LIFT_LIMIT: u32 = 60;
 
 /// All numbers from `lo * 2^s` to `hi * 2^s`, with `lo <= hi` and both at most 2^62 in magnitude.
-#[derive(Clone, Copy, Debug, PartialEq, Eq)]
+#[derive(Clone, Copy, PartialEq, Eq)]
 pub struct Ival {
     lo: i64,
     hi: i64,

@@ -53,6 +53,6 @@ fn a_book_out_of_order(rt: HostRuntime) -> Result<(), Fail> {
         window(3, 5, Holds::Undecided),
         window(6, 6, Holds::Certain(Turn::Fall)),
     ];
-    assert_eq!(rt; found.as_slice(), expected.as_slice());
+    assert!(rt; found.as_slice() == expected.as_slice());
     Ok(())
 }

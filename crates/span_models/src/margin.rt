@@ -14,7 +14,7 @@ use spec_models::model_laws::{
 };
 
 /// How far numbers keep from 0, on one side of it: `size` times 2^`exponent`.
-#[derive(Clone, Copy, Debug, PartialEq, Eq)]
+#[derive(Clone, Copy, PartialEq, Eq)]
 pub struct Margin {
     pub is_above: bool,
     pub size: u64,

@@ -2,7 +2,7 @@
 use spec_text::Decimal;
 
 /// The shape of blocks: what the lines before the constants say.
-#[derive(Clone, Copy, Debug, PartialEq, Eq)]
+#[derive(Clone, Copy, PartialEq, Eq)]
 pub struct BlockShape {
     /// The numbers of a block.
     pub ncoeff: u32,
@@ -11,7 +11,7 @@ pub struct BlockShape {
 }
 
 /// What the lines before the columns say.
-#[derive(Clone, Copy, Debug, PartialEq, Eq)]
+#[derive(Clone, Copy, PartialEq, Eq)]
 pub struct Facts {
     /// The numbers of a block.
     pub ncoeff: u32,

@@ -5,7 +5,7 @@ ghost use Rattle.spec_files.specs.Sections.{broken, line_fault, ruled_at};
 use spec_text::Fault;
 
 /// A rule that a line breaks.
-#[derive(Clone, Copy, Debug, PartialEq, Eq)]
+#[derive(Clone, Copy, PartialEq, Eq)]
 pub struct BrokenRule {
     /// The number of the fault, under which it is reported.
     pub number: u8,

@@ -1,5 +1,5 @@
 // The parts of a numeral, cut from the front of a word.
-ghost use Rattle.std.specs.Prelude.{◌≡◌, ◌≤◌, ◌^◌, IfSome, Some, length, min};
+ghost use Rattle.std.specs.Prelude.{◌≡◌, ◌≤◌, ◌^◌, IfSome, List, Some, length, min, ℕ};
 ghost use Rattle.spec_text.specs.Decimals.{value_after};
 ghost use Rattle.spec_text.specs.Splitting.{exponent_at, fraction_at, numeral_of, sign_at};
 ghost use Rattle.de_text.specs.Parts.{ShowsExponent, Splits, fraction_digits, is_minus};
@@ -132,14 +132,24 @@ fn plain_exponent(text: &[u8]) -> Option<(bool, u64)>
     }
 }
 
-// The parts of a word as JPL writes its numbers: a digit, a point, eighteen digits, and an exponent of two.
+// The parts of a word of which the sign was read, as JPL writes its numbers: a digit, a point, eighteen digits, and an
+// exponent of two.
+#[inline(always)]
+pub(crate) fn split_signless(negative: bool, text: &[u8]) -> Option<Parts>
+    ensures { IfSome result (λ parts. (word : List ℕ) → negative ≡ is_minus (sign_at word).0
+        → text.now ≡ (sign_at word).1 → Splits (numeral_of word) (Some parts)) }
+{
+    let whole = one_digit(text)?;
+    let digits = plain_fraction(whole.number, whole.rest)?;
+    let (exponent_negative, exponent) = plain_exponent(digits.rest)?;
+    Some(parts_of(negative, &digits, exponent_negative, exponent))
+}
+
+// The parts of a word as JPL writes its numbers.
 #[inline(always)]
 pub(crate) fn split_plain(word: &[u8]) -> Option<Parts>
     ensures { IfSome result (λ parts. Splits (numeral_of word.now) (Some parts)) }
 {
     let (negative, rest) = take_sign(word);
-    let whole = one_digit(rest)?;
-    let digits = plain_fraction(whole.number, whole.rest)?;
-    let (exponent_negative, exponent) = plain_exponent(digits.rest)?;
-    Some(parts_of(negative, &digits, exponent_negative, exponent))
+    split_signless(negative, rest)
 }

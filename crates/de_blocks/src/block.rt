@@ -1,13 +1,14 @@
 // A block that was begun, after the blocks before it.
-ghost use Rattle.std.specs.Prelude.{◌≡◌, ◌<◌, ◌≤◌, ◌++◌, [], ◌∷◌, IfOk, length};
+ghost use Rattle.std.specs.Prelude.{◌≡◌, ◌<◌, ◌≤◌, ◌++◌, [], ◌∷◌, IfOk, List, Ok, length, ℕ};
 ghost use Rattle.spec_text.specs.declared.decimals.Decimal.{Decimal};
 ghost use Rattle.spec_ephemeris.specs.Header.{IsHeader};
 ghost use Rattle.spec_ephemeris.specs.Ephemeris.{IsEphemeris};
-ghost use Rattle.spec_files.specs.BlockRules.{is_too_large, number_rule};
+ghost use Rattle.spec_text.specs.Reading.{reading};
+ghost use Rattle.spec_files.specs.BlockRules.{is_too_large};
 ghost use Rattle.spec_files.specs.Blocks.{no_blocks, with_numbers};
 ghost use Rattle.spec_files.specs.Read.{AreRead};
 ghost use Rattle.eph_model.specs.Stores.{IsRounded, cut_to};
-ghost use Rattle.de_blocks.specs.Dates.{AreDates, AreRuled, met, number_in};
+ghost use Rattle.de_blocks.specs.Dates.{AreDates, AreRuled, number_in, ruled_by};
 ghost use Rattle.de_blocks.specs.Steps.{Pushes};
 
 use crate::closing::close;
@@ -94,15 +95,14 @@ impl OpenBlock {
         }
     }
 
-    // The number that a word is after the others.
-    fn number_rule(&self, word: &[u8]) -> Result<RuledNumber, BrokenRule>
+    // A number after the others, with what comes of it.
+    fn ruled(&self, number: Decimal) -> Result<RuledNumber, BrokenRule>
         requires { length self.now.numbers < self.now.accepted.header.ncoeff }
-        ensures value { number_in result ≡ number_rule self.now.accepted self.now.numbers word.now }
+        ensures value { number_in result ≡ ruled_by self.now.accepted self.now.numbers number }
         ensures dates { IfOk result (λ ruled.
             AreDates (self.now.numbers ++ ruled.number ∷ []) ruled.dates) }
         ensures rounded { IfOk result (λ ruled. IsRounded ruled.number ruled.rounded) }
     {
-        let number = number_of(word)?;
         let rounded = rounded(number);
         let dates = self.ruled_dates(number, is_large(number, rounded))?;
         Ok(RuledNumber {
@@ -112,6 +112,19 @@ impl OpenBlock {
         })
     }
 
+    /// Puts a number that was read on this line after the others.
+    pub fn push_number(&mut self, line: u32, number: Decimal) -> Result<(), ReadError>
+        requires { length self.old.numbers < self.old.accepted.header.ncoeff }
+        ensures pushed { (word : List ℕ) → Ok number ≡ reading word
+            → Pushes self.old.accepted self.old.numbers line word result self.new.numbers }
+        ensures same { self.new.accepted ≡ self.old.accepted }
+    {
+        let ruled = ruled_at(line, self.ruled(number))?;
+        self.store.push(ruled.number, ruled.rounded)?;
+        self.dates = ruled.dates;
+        Ok(())
+    }
+
     /// Puts the number that a word of this line is after the others.
     pub fn push_word(&mut self, line: u32, word: &[u8]) -> Result<(), ReadError>
         requires { length self.old.numbers < self.old.accepted.header.ncoeff }
@@ -119,10 +132,8 @@ impl OpenBlock {
             self.new.numbers }
         ensures same { self.new.accepted ≡ self.old.accepted }
     {
-        let ruled = ruled_at(line, self.number_rule(word))?;
-        self.store.push(ruled.number, ruled.rounded)?;
-        self.dates = ruled.dates;
-        Ok(())
+        let number = ruled_at(line, number_of(word))?;
+        self.push_number(line, number)
     }
 
     /// Takes the whole block in, where it is not skipped.

@@ -19,9 +19,12 @@ fn read_numbers(block: &mut OpenBlock, line: u32, words: &mut Words<'_>) -> Resu
 {
     let ncoeff = block.header().ncoeff as usize;
     while block.count() < ncoeff {
-        match words.next() {
-            None => return Ok(()),
-            Some(word) => block.push_word(line, word)?,
+        match words.number() {
+            Some(number) => block.push_number(line, number)?,
+            None => match words.next() {
+                None => return Ok(()),
+                Some(word) => block.push_word(line, word)?,
+            },
         }
     }
     Ok(())

@@ -1,5 +1,5 @@
 // A block that was begun, after the blocks before it.
-ghost use Rattle.std.specs.Prelude.{◌≡◌, ◌<◌, ◌≤◌, ◌++◌, [], ◌∷◌, IfOk, List, Ok, length, ℕ};
+ghost use Rattle.std.specs.Prelude.{◌≡◌, ◌<◌, ◌≤◌, ◌++◌, [], ◌∷◌, IfOk, List, Ok, Some, length, ℕ};
 ghost use Rattle.spec_text.specs.declared.decimals.Decimal.{Decimal};
 ghost use Rattle.spec_ephemeris.specs.Header.{IsHeader};
 ghost use Rattle.spec_ephemeris.specs.Ephemeris.{IsEphemeris};
@@ -16,7 +16,7 @@ use crate::dates::{Dates, RuledNumber};
 use crate::rules::{
     coefficient_rule, first_date, is_large, is_skipped, number_of, second_date, with_dates,
 };
-use eph_model::{BlockStore, Ephemeris, rounded};
+use eph_model::{BlockStore, Ephemeris, Rounded, quick_pair, rounded};
 use spec_ephemeris::Header;
 use spec_files::{BrokenRule, ReadError, ruled_at};
 use spec_text::Decimal;
@@ -112,8 +112,9 @@ impl OpenBlock {
         })
     }
 
-    /// Puts a number that was read on this line after the others.
-    pub fn push_number(&mut self, line: u32, number: Decimal) -> Result<(), ReadError>
+    // Puts a number that was read on this line after the others, by all rules.
+    #[inline(never)]
+    fn push_any(&mut self, line: u32, number: Decimal) -> Result<(), ReadError>
         requires { length self.old.numbers < self.old.accepted.header.ncoeff }
         ensures pushed { (word : List ℕ) → Ok number ≡ reading word
             → Pushes self.old.accepted self.old.numbers line word result self.new.numbers }
@@ -125,6 +126,37 @@ impl OpenBlock {
         Ok(())
     }
 
+    // Puts a number below 2^36 in size after the others, of which the first two are there.
+    #[inline(always)]
+    fn push_small(&mut self, number: Decimal, pair: Rounded) -> Result<(), ReadError>
+        requires dates { 2 ≤ length self.old.numbers }
+        requires rounded { IsRounded number (Some pair) }
+        ensures pushed { (line : ℕ) (word : List ℕ) → Ok number ≡ reading word
+            → Pushes self.old.accepted self.old.numbers line word result self.new.numbers }
+        ensures same { self.new.accepted ≡ self.old.accepted }
+    {
+        self.store.push(number, Some(pair))?;
+        Ok(())
+    }
+
+    /// Puts a number that was read on this line after the others, which are so many.
+    #[inline(always)]
+    pub fn push_number(&mut self, line: u32, count: usize, number: Decimal) -> Result<(), ReadError>
+        requires few { length self.old.numbers < self.old.accepted.header.ncoeff }
+        requires count { count ≡ length self.old.numbers }
+        ensures pushed { (word : List ℕ) → Ok number ≡ reading word
+            → Pushes self.old.accepted self.old.numbers line word result self.new.numbers }
+        ensures same { self.new.accepted ≡ self.old.accepted }
+    {
+        if count < 2 {
+            return self.push_any(line, number);
+        }
+        match quick_pair(number) {
+            Some(pair) => self.push_small(number, pair),
+            None => self.push_any(line, number),
+        }
+    }
+
     /// Puts the number that a word of this line is after the others.
     pub fn push_word(&mut self, line: u32, word: &[u8]) -> Result<(), ReadError>
         requires { length self.old.numbers < self.old.accepted.header.ncoeff }
@@ -133,7 +165,7 @@ impl OpenBlock {
         ensures same { self.new.accepted ≡ self.old.accepted }
     {
         let number = ruled_at(line, number_of(word))?;
-        self.push_number(line, number)
+        self.push_any(line, number)
     }
 
     /// Takes the whole block in, where it is not skipped.

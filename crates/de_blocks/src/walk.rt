@@ -18,12 +18,19 @@ fn read_numbers(block: &mut OpenBlock, line: u32, words: &mut Words<'_>) -> Resu
     ensures same { block.new.accepted ≡ block.old.accepted }
 {
     let ncoeff = block.header().ncoeff as usize;
-    while block.count() < ncoeff {
+    let mut count = block.count();
+    while count < ncoeff {
         match words.number() {
-            Some(number) => block.push_number(line, number)?,
+            Some(number) => {
+                block.push_number(line, count, number)?;
+                count += 1;
+            }
             None => match words.next() {
                 None => return Ok(()),
-                Some(word) => block.push_word(line, word)?,
+                Some(word) => {
+                    block.push_word(line, word)?;
+                    count += 1;
+                }
             },
         }
     }

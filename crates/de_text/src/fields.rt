@@ -14,6 +14,11 @@ use spec_text::Decimal;
 // A blank, a blank or a minus, a digit, a point, eighteen digits, and an exponent of two.
 const FIELD: usize = 26;
 
+// Where the point stands, and the mark of the exponent.
+const POINT: usize = 3;
+
+const MARK: usize = 22;
+
 // Whether a word that goes up to the end of the form ends there.
 #[inline(always)]
 fn is_field_end(line: &[u8]) -> bool
@@ -34,7 +39,7 @@ pub(crate) struct Front {
     pub negative: bool,
 }
 
-// The front of a number: two blanks, or a blank and a minus, and a 0.
+// The front of a number: two blanks, or a blank and a minus, and a 0. A minus is the odd one, which needs no branch.
 #[inline(always)]
 fn field_front(line: &[u8]) -> Option<Front>
     requires { FIELD ≤ length line.now }
@@ -46,22 +51,14 @@ fn field_front(line: &[u8]) -> Option<Front>
     ensures digits { IfSome result (λ f. take 24 (drop 2 line.now)
         ≡ (sign_at (take (26 - f.start) (drop f.start line.now))).1) }
 {
-    if line[0] != b' ' || line[2] != b'0' {
+    let odd = line[1] % 2;
+    if line[0] != b' ' || line[2] != b'0' || line[1] != b' ' + 13 * odd {
         return None;
     }
-    if line[1] == b' ' {
-        return Some(Front {
-            start: 2,
-            negative: false,
-        });
-    }
-    if line[1] == b'-' {
-        return Some(Front {
-            start: 1,
-            negative: true,
-        });
-    }
-    None
+    Some(Front {
+        start: 2 - odd as usize,
+        negative: odd == 1,
+    })
 }
 
 // The decimal that a word is, of which its sign was read, where the rest is written in the form.
@@ -86,7 +83,7 @@ pub(crate) fn cut_number(line: &[u8]) -> Option<(Decimal, &[u8])>
     ensures { IfSome result (λ p. (word : List ℕ)
         × (tokens line.now ≡ word ∷ tokens p.1.now) × (Ok p.0 ≡ reading word)) }
 {
-    if line.len() < FIELD || !is_field_end(line) {
+    if line.len() < FIELD || line[POINT] != b'.' || line[MARK] != b'D' || !is_field_end(line) {
         return None;
     }
     let front = field_front(line)?;

@@ -101,16 +101,17 @@ def outcome_of(name: str, status: int, text: str, seconds: float) -> Outcome:
 
 @dataclass
 class Runner:
-    """Runs parts side by side, and knows which run now, so that all can be ended."""
+    """Runs parts side by side, with a folder for what they write, and knows which run now, so that all can be ended."""
 
     program: Path
+    room: Path
     running: dict[str, subprocess.Popen[str]] = field(default_factory=dict)
     lock: threading.Lock = field(default_factory=threading.Lock)
     is_stopped: bool = False
 
     def start(self, part: Part) -> Optional[subprocess.Popen[str]]:
         """Starts a part, in a group of processes of its own, unless all are to end."""
-        environment = {**os.environ, "LC_ALL": "C", "PYTHONDONTWRITEBYTECODE": "1"}
+        environment = {**os.environ, "LC_ALL": "C", "PYTHONDONTWRITEBYTECODE": "1", "TMPDIR": str(self.room)}
         with self.lock:
             if self.is_stopped:
                 return None

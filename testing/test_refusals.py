@@ -5,6 +5,7 @@ import re
 import shutil
 import subprocess
 import tempfile
+import time
 import unittest
 from pathlib import Path
 
@@ -134,11 +135,23 @@ class Refusals(unittest.TestCase):
         status, said = self.run_test("--program", PROGRAM, "cases/layouts")
         self.assertEqual((status, self.last), (0, "16 passed, 0 failed"), said)
 
+    def test_an_end_by_a_signal(self):
+        room = self.room / "temporary"
+        room.mkdir()
+        environment = {**os.environ, "TMPDIR": str(room)}
+        process = subprocess.Popen(["./test", "cases"], cwd=self.copy, env=environment, stdout=subprocess.DEVNULL)
+        while not list(room.glob("*/finder-cases-*/*")) and process.poll() is None:
+            time.sleep(0.01)
+        process.terminate()
+        self.assertEqual(process.wait(20), 143)
+        self.assertEqual(list(room.iterdir()), [])
+
     def test_words(self):
         for words, said in (
             (["nothing"], "test: there is no part nothing: ./test --list prints the names"),
             (["--program", PROGRAM, "launcher"], "test: launcher is a part that takes no program"),
             (["--program", "nothing", "cases"], "test: nothing is no program"),
+            (["--program", "cases", "cases"], "test: cases is no program"),
         ):
             self.assertEqual(self.run_test(*words), (2, said))
 
@@ -147,10 +160,12 @@ class Lists(unittest.TestCase):
     """Nothing that tests is forgotten."""
 
     def test_each_check_is_called(self):
-        called = (TOP / "test").read_text("utf-8") + (TOP / ".ci/run").read_text("utf-8")
-        for check in (TOP / ".ci").iterdir():
-            if check.name != "run":
-                self.assertTrue(re.search(rf"\.ci/{re.escape(check.name)}\b", called), f"{check} is no part")
+        checks = [file for file in (TOP / ".ci").iterdir() if file.is_file() and os.access(file, os.X_OK)]
+        texts = {file: file.read_text("utf-8") for file in (*checks, TOP / "test")}
+        for check in checks:
+            others = "".join(text for file, text in texts.items() if file != check)
+            named = re.search(rf"\.ci/{re.escape(check.name)}\b", others)
+            self.assertTrue(named or check.name == "run", f"{check} is called by nothing")
 
     def test_each_file_of_cases_is_a_part(self):
         listed = re.findall(r'^    cases\("([\w-]+)"', (TOP / "test").read_text("utf-8"), re.MULTILINE)

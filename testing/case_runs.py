@@ -132,6 +132,8 @@ class CaseRunner:
             found = differences(case, Answer(done.returncode, done.stdout, done.stderr))
         except subprocess.TimeoutExpired:
             found = [f"no end after {self.seconds} seconds"]
+        except OSError as error:
+            found = [f"it cannot be started: {error.strerror}"]
         return [f"finder {shlex.join(map(os.fsdecode, words))}", *found] if found else []
 
     def run(self, case: Case) -> Iterator[list[str]]:

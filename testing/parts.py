@@ -2,10 +2,13 @@
 
 from __future__ import annotations
 
+import contextlib
 import os
 import re
+import shutil
 import signal
 import subprocess
+import tempfile
 import threading
 import time
 from concurrent.futures import Future, ThreadPoolExecutor, as_completed
@@ -143,6 +146,7 @@ class Runner:
             return outcome_of(part.name, process.returncode, text, time.monotonic() - began)
         except subprocess.TimeoutExpired:
             end_group(process)
+            process.wait()
             return not_tried(part.name, f"it had not ended after {SECONDS_OF_A_PART} seconds")
         finally:
             with self.lock:
@@ -162,11 +166,20 @@ class Runner:
 
 
 def end_group(process: subprocess.Popen[str]) -> None:
-    """Ends the processes that a part started, as far as they are of its group."""
+    """Ends the processes of a part; what they wrote goes with its room."""
+    with contextlib.suppress(ProcessLookupError):
+        os.killpg(process.pid, signal.SIGKILL)
+
+
+@contextlib.contextmanager
+def new_room() -> Iterator[Path]:
+    """A folder for what parts write, which goes when they have ended, however they did."""
+    room = tempfile.mkdtemp(prefix="finder-test-")
     try:
-        os.killpg(process.pid, signal.SIGTERM)
-    except ProcessLookupError:
-        pass
+        os.chmod(room, 0o755)
+        yield Path(room)
+    finally:
+        shutil.rmtree(room, ignore_errors=True)
 
 
 def side_by_side() -> int:

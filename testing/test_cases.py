@@ -103,6 +103,11 @@ class Runs(unittest.TestCase):
         self.assertEqual(len(faults), 5)
         self.assertEqual(faults[1][:2], ["finder find --workers=1 n", "status 0, where 2 is right"])
 
+    def test_what_is_no_program_differs(self):
+        self.runner = CaseRunner(self.room, self.room, None)
+        case = Case("", [b"check"], status=2)
+        self.assertEqual(self.faults(case), [["finder check", "it cannot be started: Permission denied"]])
+
     def test_workers(self):
         words = [[word.decode() for word in line] for line in command_lines(Case("", [b"gen", b"x"]))]
         self.assertEqual(words, [["gen", "x"], *(["gen", f"--workers={count}", "x"] for count in (1, 2, 7, 64))])

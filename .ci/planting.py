@@ -1,7 +1,8 @@
-"""Planted bugs as files: what an edit says, the texts that it makes of a crate's files, and the functions of these files.
+"""Planted bugs as files: what an edit says, the texts that it makes of a crate's files, and the functions of these.
 
-An edit has lines `file: PATH`, `old: TEXT` and `new: TEXT`, as `rt` reads them, and `only: MODULE::FUNCTION`, once for each
-function of which the proof has to be refused. It stands in crates/CRATE/must-fail, planted/CRATE or mutations/CRATE."""
+An edit has lines `file: PATH`, `old: TEXT` and `new: TEXT`, as `rt` reads them, and `only: MODULE::FUNCTION`, once for
+each function of which the proof has to be refused. It stands in crates/CRATE/must-fail, planted/CRATE or
+mutations/CRATE."""
 
 import os
 import re
@@ -56,35 +57,37 @@ class Function:
 
 def crate_of(path: str) -> str:
     """The crate of an edit, by where it stands."""
-    parts = path.split("/")
-    return parts[-3] if parts[-2] == "must-fail" else parts[-2]
+    parts = ["", "", *path.split("/")]
+    crate = parts[-3] if parts[-2] == "must-fail" else parts[-2]
+    if not crate or not os.path.isdir(f"crates/{crate}"):
+        raise BadEdit(f"it stands in no folder of a crate's name, and {crate!r} is no crate")
+    return crate
 
 
 def read_edit(path: str) -> Edit:
     """Reads an edit, or raises what is wrong with its lines."""
-    file, old, pairs, only = "", "", [], []
-    with open(path, encoding="utf-8") as lines:
-        for line in lines.read().splitlines():
-            word, _, rest = line.partition(":")
-            rest = rest[1:] if rest.startswith(" ") else rest
-            if word == "file":
-                file = rest.strip()
-                if os.path.normpath(file) != file or not file.startswith(READ):
-                    raise BadEdit(f"{file} is no file below {', '.join(READ)}")
-            elif word == "only":
-                only.append(rest.strip())
-            elif word == "old":
-                old = rest
-            elif word == "new":
-                if not file or not old:
-                    raise BadEdit("a new: stands before a file: or an old:")
-                pairs.append(Pair(file, old, rest))
-                old = ""
-            elif line.strip():
-                raise BadEdit(f"the line {line!r} begins with none of file:, old:, new:, only:")
+    crate, file, old, pairs, only = crate_of(path), "", "", [], []
+    for line in text_of(path).splitlines():
+        word, _, rest = line.partition(":")
+        rest = rest[1:] if rest.startswith(" ") else rest
+        if word == "file":
+            file = rest.strip()
+            if os.path.normpath(file) != file or not file.startswith(READ):
+                raise BadEdit(f"{file} is no file below {', '.join(READ)}")
+        elif word == "only":
+            only.append(rest.strip())
+        elif word == "old":
+            old = rest
+        elif word == "new":
+            if not file or not old:
+                raise BadEdit("a new: stands before a file: or an old:")
+            pairs.append(Pair(file, old, rest))
+            old = ""
+        elif line.strip():
+            raise BadEdit(f"the line {line!r} begins with none of file:, old:, new:, only:")
     if not pairs:
         raise BadEdit("it has no old: and new:")
-    return Edit(path, crate_of(path), tuple(pairs), tuple(only))
+    return Edit(path, crate, tuple(pairs), tuple(only))
 
 
 def text_of(path: str) -> str:

@@ -138,7 +138,7 @@ def sources_of(folder: str) -> Dict[str, str]:
 def owners_of(trait: str, kind: str, module: str, homes: Dict[str, List[str]]) -> List[str]:
     """The paths under which the checker may name the methods of an impl: it stands under the file of the type."""
     kind, trait = kind.split("::")[-1], trait.split("::")[-1]
-    places = [module, *homes.get(kind, [])]
+    places = homes.get(kind, [module])
     joins = [f"{kind}{trait}", f"{kind}+{trait}"] if trait else [kind]
     return [f"{place}{it}::" for place in places for it in joins]
 

@@ -8,7 +8,6 @@ use Rattle.spec_text.specs.declared.decimals.Decimal.{Decimal}
 use Rattle.spec_text.specs.Decimals.{Sign, unsigned, plus, minus, Exponent, AreDigits, IsMark, IsExponent, sign_text, fraction_text, exponent_text, after_point}
 use Rattle.spec_text.specs.Lines.{is_separator, tokens}
 use Rattle.spec_text.specs.Reading.{reading}
-use Rattle.spec_text.specs.Splitting.{sign_at}
 use Rattle.spec_text.proofs.Answering.{reads_by}
 use Rattle.de_text.proofs.TokenPlaces.{token_after}
 
@@ -69,21 +68,6 @@ read_inner word d is =
     (All-append IsInner n.whole _ (digits_inner n.whole form.whole)
     (All-append IsInner (fraction_text n.fraction) _ (fraction_inner n.fraction form.fraction)
     (exponent_inner n.exponent form.exponent))))
-
--- a blank, a minus and a word
-pub minus_front : (line : List ℕ) → get_or line 1 0 ≡ 45
-    → sign_at (take 25 (drop 1 line)) ≡ (minus, take 24 (drop 2 line))
-minus_front [] is = absurd (omega (arith, is))
-minus_front (a ∷ []) is = absurd (omega (arith, is))
-minus_front (a ∷ b ∷ rest) is = rw is refl
-
--- two blanks and a digit
-pub plain_front : (line : List ℕ) → get_or line 2 0 ≡ 48
-    → sign_at (take 24 (drop 2 line)) ≡ (unsigned, take 24 (drop 2 line))
-plain_front [] is = absurd (omega (arith, is))
-plain_front (a ∷ []) is = absurd (omega (arith, is))
-plain_front (a ∷ b ∷ []) is = absurd (omega (arith, is))
-plain_front (a ∷ b ∷ c ∷ rest) is = rw is refl
 
 -- the tokens of a line that begins with separators and a word that is read as a decimal
 pub number_first : (line : List ℕ) (start : ℕ) (d : Decimal) → start ≤ 2 → 26 ≤ length line

@@ -38,6 +38,13 @@ class Parts(unittest.TestCase):
 
     def test_what_failed_is_shown(self):
         self.assertEqual(outcome_of("a", 1, "why\na: 3 passed, 2 failed\n", 0).lines, ("why", "a: 3 passed, 2 failed"))
+        for text, status, why in (
+            ("a: 3 passed, 2 failed", 0, "it ended with status 0, and its last line says that 2 failed"),
+            ("a: 3 passed, 0 failed", 1, "it ended with status 1, and its last line says that nothing failed"),
+            ("a: 0 passed, 0 failed", 0, "it tried nothing"),
+            ("well", 0, "it ended with status 0 and without counts"),
+        ):
+            self.assertEqual(outcome_of("a", status, text, 0).lines, (text, why))
 
     def test_what_is_not_tried_is_shown(self):
         said = "other\na: b not tried, as c\na: 3 passed, 0 failed\n"

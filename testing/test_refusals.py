@@ -43,6 +43,8 @@ class Refusals(unittest.TestCase):
                 shutil.copytree(TOP / name, cls.copy / name, ignore=unused)
             else:
                 shutil.copy2(TOP / name, cls.copy / name)
+        # (without rt, so that nothing is proved where ./finder is started though it may not be)
+        cls.path = path_without(cls.room / "path", {"rt"})
 
     def change(self, name, changed):
         """Puts what a function makes of a file's bytes into their place, and puts them back when the test ends."""
@@ -59,7 +61,7 @@ class Refusals(unittest.TestCase):
 
     def run_test(self, *words, path=None):
         """Runs ./test in the copy: its status, and what it printed, with one blank for blanks and line feeds."""
-        environment = {**os.environ, "PATH": path or os.environ["PATH"]}
+        environment = {**os.environ, "PATH": path or self.path}
         how = {"cwd": self.copy, "env": environment, "capture_output": True, "text": True, "timeout": 300}
         done = subprocess.run(["./test", *words], check=False, **how)
         self.last = (done.stdout.splitlines() or [""])[-1]
@@ -109,12 +111,12 @@ class Refusals(unittest.TestCase):
         self.assertRegex(said, r"words.cases: the record at byte \d+ is not in the form of cases")
 
     def test_a_missing_command(self):
-        status, said = self.run_test("launcher", path=path_without(self.room / "no-sums", {"sha256sum"}))
+        status, said = self.run_test("launcher", path=path_without(self.room / "no-sums", {"rt", "sha256sum"}))
         self.assertEqual(status, 1, said)
         self.assertIn("commands: there is no sha256sum on the path", said)
 
     def test_no_compiler(self):
-        status, said = self.run_test("cases/failing", path=path_without(self.room / "no-compiler", COMPILERS))
+        status, said = self.run_test("cases/failing", path=path_without(self.room / "no-compiler", {"rt", *COMPILERS}))
         self.assertEqual(status, 0, said)
         self.assertIn("69 of failing.cases not tried, as there is no C compiler here (cc, gcc, clang): a_read_of", said)
         self.assertEqual(self.last, "16 passed, 0 failed, 69 skipped")

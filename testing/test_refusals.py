@@ -82,6 +82,7 @@ class Refusals(unittest.TestCase):
         self.assertEqual(status, 1, said)
         self.assertIn(f"{PROGRAM} has other bytes than {PROGRAM}.txt says", said)
         self.assertIn("not tried, as it stands on what failed: program", said)
+        self.assertEqual(len(re.findall(r"launcher +\d+ passed", said)), 1)
         self.assertRegex(self.last, r"^\d+ passed, \d+ failed$")
 
     def test_a_changed_source(self):

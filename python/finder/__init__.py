@@ -29,6 +29,8 @@ is rounded down and `end` up. A number is an int, a decimal text, a `Decimal`, a
 astropy quantity. Each refusal is an exception with the command's status and its line: `FinderError` and those below it.
 """
 
+from ._intervals import Interval, Undecided, intervals, on_at_start
+from ._names import names
 from ._numbers import cosine_of_degrees
 from ._parts import join, over_files
 from ._program import (
@@ -61,7 +63,11 @@ from ._search import (
     stations,
     times,
 )
+from ._seen import Seen, seen
+from ._series import Series
 from ._sets import Span, Spans, TimeSet, WrongSets
+from ._sky import NoErfa, Sky
+from ._values import Place, Values, values
 from ._windows import Windows
 from .spans import NoProgram, Summary, Window, WrongParts, WrongReport
 
@@ -70,9 +76,15 @@ __all__ = [
     "FileFault",
     "FinderError",
     "Interrupted",
+    "Interval",
+    "NoErfa",
     "NoProgram",
     "OutOfMemory",
+    "Place",
     "ReadFailed",
+    "Seen",
+    "Series",
+    "Sky",
     "Span",
     "SpanRefused",
     "Spans",
@@ -80,6 +92,8 @@ __all__ = [
     "TimeSet",
     "TimedOut",
     "TooManyLeaves",
+    "Undecided",
+    "Values",
     "Window",
     "Windows",
     "WordsRefused",
@@ -95,14 +109,19 @@ __all__ = [
     "distance",
     "far",
     "find",
+    "intervals",
     "join",
+    "names",
     "near",
     "occultations",
+    "on_at_start",
     "oppositions",
     "over_files",
     "retrograde",
+    "seen",
     "separation",
     "separation_extremes",
     "stations",
     "times",
+    "values",
 ]

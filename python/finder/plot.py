@@ -11,8 +11,10 @@ from typing import Any, NamedTuple, Optional
 
 import numpy as np
 
-from ._search import Files, file_names
-from ._series import Curve, Floats, Series
+from ._curves import Curve
+from ._search import Files
+from ._series import Series
+from ._vectors import Floats
 from ._windows import Windows
 
 CAPTION = "Window: found by the proved search. Curve: positions in doubles, for the picture alone."
@@ -32,7 +34,7 @@ def curve(found: Windows, files: Files, number: int = 0, *, margin: float = 8.0,
     above 0 after a rise, and below 0 after a fall. The files are read again."""
     window = found[number]
     low, high = ((ticks + shift) / found.tick for ticks, shift in ((window.first, -1), (window.last, 0)))
-    of_kind = Curve(Series(file_names(files)), found.asked)
+    of_kind = Curve(Series(files), found.asked)
     times = np.linspace(low - margin, high + margin, points)
     return Points(times, of_kind.at(times), of_kind.unit)
 

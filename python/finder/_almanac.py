@@ -1,0 +1,145 @@
+"""An almanac of a span: some ninety searches, with the time at which each event is seen and its numbers.
+
+The windows of each entry are certified, as those of every search. Times as seen, numbers and the kinds of solar
+eclipses are doubles, and unproved.
+"""
+
+from __future__ import annotations
+
+import concurrent.futures
+from collections.abc import Callable, Iterable, Sequence
+from typing import Optional
+
+import numpy as np
+
+from . import spans
+from ._eclipses import eclipses
+from ._entries import PLANETS, Almanac, Curves, Entry, Group
+from ._events import meetings, moon_and_seasons, planets
+from ._observed import Observed, Recipe, Search
+from ._parts import results
+from ._program import Program, Runs, runs_of
+from ._search import Files, check, file_names
+from ._series import Series
+from ._sky import erfa_package
+from ._times import Time, ticks_of_time
+from ._vectors import Floats, length, longitude, wrapped
+from ._windows import Windows
+
+# The days before and after a span in which events are searched for that may be seen in it, and how many more there are
+# for each year from 2000: the equinox of date moves away from that of J2000 by 20.4 minutes a year.
+MARGIN, MARGIN_OF_YEAR = 12.0, 1_300 / spans.DAY
+YEAR = 365.25 * spans.DAY
+# The days before and after what is searched whose blocks are read: light comes from there, and roots are looked for.
+PAD = 25.0
+
+
+class SpanNotHeld(ValueError):
+    """The files do not hold the span of an almanac."""
+
+
+def recipes(groups: Iterable[Group]) -> list[Recipe]:
+    """The recipes of some groups."""
+    wanted = set(groups)
+    made: list[Recipe] = [*moon_and_seasons(), *planets(), *meetings(), *eclipses()]
+    return [recipe for recipe in made if recipe.group in wanted]
+
+
+def search_count(groups: Iterable[Group]) -> int:
+    """How many searches an almanac of some groups makes."""
+    return sum(len(recipe.searches) for recipe in recipes(groups))
+
+
+def almanac(
+    files: Files,
+    start: Time,
+    end: Time,
+    *,
+    title: str = "Almanac",
+    groups: Iterable[Group] = tuple(Group),
+    jobs: int = 1,
+    program: Program = None,
+    timeout: Optional[float] = None,
+    progress: Optional[Callable[[int], object]] = None,
+) -> Almanac:
+    """The almanac of what is seen from `start` on and before `end`, which are times of TDB, or astropy's of any scale.
+
+    `groups` are those that are looked for. Searches are processes of their own, `jobs` of them at once; `progress` is
+    called with 1 after each. It wants the package erfa, which comes with astropy: `NoErfa` where it is not there, and
+    `SpanNotHeld` where the files do not hold the span, both before any search.
+    """
+    first, last = (ticks_of_time(time, 1_000, up=False) / 1_000 for time in (start, end))
+    return almanac_of_seconds(
+        file_names(files), (first, last), title, tuple(groups), jobs, runs_of(program, timeout), progress
+    )
+
+
+def almanac_of_seconds(
+    files: list[str],
+    span: tuple[float, float],
+    title: str,
+    groups: tuple[Group, ...],
+    jobs: int,
+    runs: Runs,
+    progress: Optional[Callable[[int], object]],
+) -> Almanac:
+    """The almanac of a span of seconds of TDB since J2000."""
+    erfa_package()
+    start, end = span
+    begin, stop = _searched(start, end, check(files, program=runs))
+    made = recipes(group for group in Group if group in groups)
+    found = _run_all([search for recipe in made for search in recipe.searches], files, (begin, stop), jobs, runs, progress)
+    observed = Observed(files, Series(files, begin - PAD * spans.DAY, stop + PAD * spans.DAY))
+    entries: list[Entry] = []
+    count = 0
+    for recipe in made:
+        size = len(recipe.searches)
+        entries += recipe.entries(observed, found[count : count + size])
+        count += size
+    inside = sorted((each for each in entries if start <= each.seconds < end), key=lambda each: each.seconds)
+    curves = _curves(observed, start, end)
+    return Almanac(title, start, end, tuple(inside), groups, count, tuple(files), begin, stop, curves)
+
+
+def _searched(start: float, end: float, have: spans.Summary) -> tuple[int, int]:
+    """The seconds in which events are searched for: the span and a margin, as far as the files go."""
+    if not start < end:
+        raise ValueError("an almanac ends after it starts")
+    if start < have.start or end > have.end:
+        raise SpanNotHeld(
+            f"the files hold {spans.time_text(have.start)} to {spans.time_text(have.end)} (TDB), and not all of "
+            f"{spans.time_text(round(start))} to {spans.time_text(round(end))}"
+        )
+    margin = MARGIN + MARGIN_OF_YEAR * max(abs(start), abs(end)) / YEAR
+    return max(int(start - margin * spans.DAY), have.start), min(int(end + margin * spans.DAY), have.end)
+
+
+def _run_all(
+    searches: Sequence[Search],
+    files: list[str],
+    span: tuple[int, int],
+    jobs: int,
+    runs: Runs,
+    progress: Optional[Callable[[int], object]],
+) -> list[Windows]:
+    """What each search finds; where one fails, all are ended."""
+    start, end = (spans.time_text(seconds) for seconds in span)
+
+    def run(search: Search) -> Windows:
+        return search.run(files, start=start, end=end, program=runs)
+
+    with concurrent.futures.ThreadPoolExecutor(max(1, jobs)) as pool:
+        try:
+            return results([pool.submit(run, search) for search in searches], progress)
+        except BaseException:
+            runs.stop()
+            raise
+
+
+def _curves(observed: Observed, start: float, end: float) -> Curves:
+    """The curves of a span, at times of at most a day apart or so."""
+    times: Floats = np.linspace(start, end, max(2, round((end - start) / spans.DAY) + 1))
+    longitudes = {body: longitude(observed.geometric(body, times, frame="ecl")) for body in ("sun", *PLANETS)}
+    from_sun = {body: wrapped(longitudes[body] - longitudes["sun"]) for body in PLANETS}
+    backward = tuple(body for body in PLANETS if wrapped(np.diff(longitudes[body][:2]))[0] < 0)
+    return Curves(times, length(observed.geometric("moon", times)), from_sun, backward)

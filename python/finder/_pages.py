@@ -1,0 +1,29 @@
+"""The forms in which an almanac is printed."""
+
+from __future__ import annotations
+
+from enum import Enum
+
+from ._entries import Almanac
+from ._html import html_of
+from ._ics import ics_of
+from ._scales import Clock
+from ._tables import csv_of, json_of, text_of
+
+
+class Format(Enum):
+    """A form of an almanac, by the names that `--format` takes."""
+
+    TEXT = "text"
+    HTML = "html"
+    CSV = "csv"
+    JSON = "json"
+    ICS = "ics"
+
+
+MAKERS = {Format.TEXT: text_of, Format.HTML: html_of, Format.CSV: csv_of, Format.JSON: json_of, Format.ICS: ics_of}
+
+
+def page(found: Almanac, form: Format = Format.TEXT, clock: Clock = Clock()) -> str:
+    """An almanac in a form, with its times by a clock."""
+    return MAKERS[form](found, clock)

@@ -29,9 +29,12 @@ is rounded down and `end` up. A number is an int, a decimal text, a `Decimal`, a
 astropy quantity. Each refusal is an exception with the command's status and its line: `FinderError` and those below it.
 """
 
+from ._almanac import SpanNotHeld, almanac
+from ._entries import Almanac, Contact, Entry, Event, Group, Numbers, Status
 from ._intervals import Interval, Undecided, intervals, on_at_start
 from ._names import names
 from ._numbers import cosine_of_degrees
+from ._pages import Format, page
 from ._parts import join, over_files
 from ._program import (
     EventRefused,
@@ -46,6 +49,7 @@ from ._program import (
     WordsRefused,
     WriteFailed,
 )
+from ._scales import Clock, Scale
 from ._search import (
     apsides,
     check,
@@ -72,22 +76,33 @@ from ._windows import Windows
 from .spans import NoProgram, Summary, Window, WrongParts, WrongReport
 
 __all__ = [
+    "Almanac",
+    "Clock",
+    "Contact",
+    "Entry",
+    "Event",
     "EventRefused",
     "FileFault",
     "FinderError",
+    "Format",
+    "Group",
     "Interrupted",
     "Interval",
     "NoErfa",
     "NoProgram",
+    "Numbers",
     "OutOfMemory",
     "Place",
     "ReadFailed",
+    "Scale",
     "Seen",
     "Series",
     "Sky",
     "Span",
+    "SpanNotHeld",
     "SpanRefused",
     "Spans",
+    "Status",
     "Summary",
     "TimeSet",
     "TimedOut",
@@ -101,6 +116,7 @@ __all__ = [
     "WrongParts",
     "WrongReport",
     "WrongSets",
+    "almanac",
     "apsides",
     "check",
     "conjunctions",
@@ -117,6 +133,7 @@ __all__ = [
     "on_at_start",
     "oppositions",
     "over_files",
+    "page",
     "retrograde",
     "seen",
     "separation",

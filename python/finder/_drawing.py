@@ -9,6 +9,7 @@ from typing import Optional
 
 import numpy as np
 
+from . import spans
 from ._entries import PLANETS, Almanac, Entry, Event, Group, Side
 from ._frame import MARK, MARKS, Frame, Label, Lane, day_text, labels, path, placed, tip
 from ._names import INNER
@@ -22,6 +23,8 @@ NEAREST, FARTHEST = 356_000.0, 407_000.0
 INNER_MOST, OUTER_MOST = 50.0, 180.0
 # Meetings closer than this many degrees are drawn thick, and named where there is room.
 CLOSE = 1.0
+# The least seconds between two phases of the Moon, and the width of one with the room about it.
+BETWEEN_PHASES, PHASE_WIDTH = 6.5 * spans.DAY, 14.0
 MOST_ROWS, MEETING_ROWS = 6, 2
 DARK = '<circle r="6" fill="var(--dark)" stroke="var(--soft)" stroke-width=".8"/>'
 LIT = DARK.replace("--dark", "--lit")
@@ -96,9 +99,11 @@ class Drawing:
                 yield f'<text x="{(left + right) / 2:.1f}" y="17" text-anchor="middle" class="month">{when:%b}</text>'
 
     def _phases(self, lane: Lane) -> Iterator[str]:
+        room = self._frame.x(self._frame.start + BETWEEN_PHASES) - self._frame.left
+        scale = min(1.0, room / PHASE_WIDTH)
         for entry in self._entries:
             if entry.event in PHASES:
-                shape = tip(entry, self._clock) + PHASES[entry.event]
+                shape = f'{tip(entry, self._clock)}<g transform="scale({scale:.2g})">{PHASES[entry.event]}</g>'
                 yield placed(self._frame.x(entry.seconds), lane.middle, shape)
 
     def _curve(self, values: Floats, y_of: Callable[[float], float], leap: float) -> Iterator[str]:

@@ -3,6 +3,7 @@
 from __future__ import annotations
 
 from enum import Enum
+from typing import Union
 
 from ._entries import Almanac
 from ._html import html_of
@@ -24,6 +25,6 @@ class Format(Enum):
 MAKERS = {Format.TEXT: text_of, Format.HTML: html_of, Format.CSV: csv_of, Format.JSON: json_of, Format.ICS: ics_of}
 
 
-def page(found: Almanac, form: Format = Format.TEXT, clock: Clock = Clock()) -> str:
-    """An almanac in a form, with its times by a clock."""
-    return MAKERS[form](found, clock)
+def page(found: Almanac, form: Union[Format, str] = Format.TEXT, clock: Clock = Clock()) -> str:
+    """An almanac in a form, as `"html"`, with its times by a clock, which is UTC unless another is given."""
+    return MAKERS[Format(form)](found, clock)

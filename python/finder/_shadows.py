@@ -75,7 +75,7 @@ def moon_shadow(axis: Axis) -> MoonShadow:
     penumbra = _cone(along, far, MOON_PENUMBRA)
     gamma = math.copysign(off, north)
     magnitude = (penumbra + FLAT - off) / (penumbra + umbra)
-    return MoonShadow(_kind(off, umbra), gamma, umbra, magnitude)
+    return MoonShadow(kind_of(off, umbra), gamma, umbra, magnitude)
 
 
 def _cone(along: float, far: float, moon: float) -> float:

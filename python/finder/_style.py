@@ -73,26 +73,27 @@ tr{display:grid;grid-template-columns:58px 52px minmax(0,1fr);padding:7px 0;bord
 td{border:0!important;padding:0 4px!important;width:auto!important}
 td.what{padding-left:18px!important}
 td.say,td.win{grid-column:3;text-align:left;padding-left:18px!important}td.say:empty,td.win:empty{display:none}
-td.win{font-size:12px;line-height:1.6}td.win::before{content:"certified "}
+td.win,tr.moment td.win{font-size:12px;line-height:1.6}td.win::before{content:"certified "}
 tr.several{border-bottom:0;padding-bottom:0}tr.moment{padding:2px 0;border-bottom:0}
-tr.moment .day{display:none}tr.moment .at{grid-column:1/3;text-align:right;padding-right:10px!important}
+tr.moment .day{display:none}tr.moment .at{grid-column:1/3;text-align:right;padding-right:4px!important}
 tr.moment:has(+tr:not(.moment)),tr.moment:last-child{border-bottom:1px solid var(--line);padding-bottom:7px}
 tr.eclipses{background:var(--tint)}
 """
 
 PAPER = """
-@page{size:A4;margin:14mm 13mm}
-body{font-size:9pt;line-height:1.35;background:#fff}main{max-width:none;padding:0}
-h1{font-size:21pt}h2{font-size:13pt;margin:12pt 0 2pt;break-after:avoid}
+@page{size:A4;margin:13mm 12mm}
+body{font-size:8.2pt;line-height:1.35;background:#fff}main{max-width:none;padding:0}
+h1{font-size:20pt}h2{font-size:12pt;margin:10pt 0 1pt;break-after:avoid}
 .shown{display:none!important}
-.lead{margin-bottom:8pt}.glance{columns:3;padding:5pt 0;margin-bottom:9pt;column-gap:14pt}
-figure,tr{break-inside:avoid}figure{margin-bottom:6pt}figcaption{font-size:7.5pt}
-th{font-size:7.5pt;padding:1pt 4pt}td{padding:1.6pt 4pt}td.win,tr.moment td.win{font-size:7pt;line-height:1.6}
-.day small,tr.moment td{font-size:8pt}.day{width:40pt}.at{width:40pt}.win{width:100pt}
-td.what{padding-left:14pt;text-indent:-10pt}td.what::before{width:5pt;height:5pt;margin-right:5pt}
+.lead{margin-bottom:7pt}.glance{columns:3;padding:4pt 0;margin-bottom:8pt;column-gap:12pt}.glance li{gap:5pt}
+figure,tr{break-inside:avoid}figure{margin-bottom:6pt}figcaption{font-size:7.5pt;margin-top:4pt}
+figcaption span{margin-right:8pt}figcaption svg{width:8pt;height:8pt;margin-right:2pt;vertical-align:-1pt}
+th{font-size:7pt;padding:1pt 3pt}td{padding:1.5pt 3pt}td.win,tr.moment td.win{font-size:6.8pt;line-height:1.6}
+.day small,tr.moment td{font-size:7.4pt}.day{width:36pt}.at{width:40pt}.win{width:90pt}.what{width:172pt}
+td.what{padding-left:13pt;text-indent:-10pt}td.what::before{width:5pt;height:5pt;margin-right:5pt}
 tr.moment{break-before:avoid}
 *{-webkit-print-color-adjust:exact;print-color-adjust:exact}
-footer{font-size:8pt;max-width:none}
+footer{font-size:7.5pt;max-width:none;margin-top:14pt}footer p{margin:3pt 0}footer code{font-size:6.5pt}
 """
 
 

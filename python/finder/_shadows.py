@@ -85,7 +85,9 @@ def _cone(along: float, far: float, moon: float) -> float:
     return along * sine / cosine + moon / cosine
 
 
-def _kind(off: float, umbra: float) -> EclipseKind:
+def kind_of(off: float, umbra: float) -> EclipseKind:
+    """The kind of a solar eclipse whose axis passes so far from the Earth's centre, and whose umbra has such a radius in
+    the plane through it, below 0 for a total one, both in radii of the Earth."""
     if off > FLAT + abs(umbra):
         return EclipseKind.PARTIAL
     if umbra < 0:

@@ -29,7 +29,7 @@ is rounded down and `end` up. A number is an int, a decimal text, a `Decimal`, a
 astropy quantity. Each refusal is an exception with the command's status and its line: `FinderError` and those below it.
 """
 
-from ._intervals import Interval, Undecided, intervals, on_at_start
+from ._intervals import Interval, intervals, on_at_start
 from ._names import names
 from ._numbers import cosine_of_degrees
 from ._parts import join, over_files
@@ -68,8 +68,8 @@ from ._series import Series
 from ._sets import Span, Spans, TimeSet, WrongSets
 from ._sky import NoErfa, Sky
 from ._values import Place, Values, values
-from ._windows import Windows
-from .spans import NoProgram, Summary, Window, WrongParts, WrongReport
+from ._windows import Window, Windows
+from .spans import NoProgram, Summary, WrongParts, WrongReport
 
 __all__ = [
     "EventRefused",
@@ -92,7 +92,6 @@ __all__ = [
     "TimeSet",
     "TimedOut",
     "TooManyLeaves",
-    "Undecided",
     "Values",
     "Window",
     "Windows",

@@ -31,7 +31,7 @@ astropy quantity. Each refusal is an exception with the command's status and its
 
 from ._almanac import SpanNotHeld, almanac
 from ._entries import Almanac, Contact, Entry, Event, Group, Numbers, Status
-from ._intervals import Interval, Undecided, intervals, on_at_start
+from ._intervals import Interval, intervals, on_at_start
 from ._names import names
 from ._numbers import cosine_of_degrees
 from ._pages import Format, page
@@ -72,8 +72,8 @@ from ._series import Series
 from ._sets import Span, Spans, TimeSet, WrongSets
 from ._sky import NoErfa, Sky
 from ._values import Place, Values, values
-from ._windows import Windows
-from .spans import NoProgram, Summary, Window, WrongParts, WrongReport
+from ._windows import Window, Windows
+from .spans import NoProgram, Summary, WrongParts, WrongReport
 
 __all__ = [
     "Almanac",
@@ -107,7 +107,6 @@ __all__ = [
     "TimeSet",
     "TimedOut",
     "TooManyLeaves",
-    "Undecided",
     "Values",
     "Window",
     "Windows",

@@ -89,7 +89,7 @@ def almanac_of_seconds(
     begin, stop = _searched(start, end, check(files, program=runs))
     made = recipes(group for group in Group if group in groups)
     found = _run_all([search for recipe in made for search in recipe.searches], files, (begin, stop), jobs, runs, progress)
-    observed = Observed(files, Series(files, begin - PAD * spans.DAY, stop + PAD * spans.DAY))
+    observed = Observed(Series(files, begin - PAD * spans.DAY, stop + PAD * spans.DAY))
     entries: list[Entry] = []
     count = 0
     for recipe in made:

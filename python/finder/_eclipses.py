@@ -230,8 +230,11 @@ class Occultations:
         time = sum(contact.seconds for contact in group) / len(group)
         at = np.array([time])
         away = float(angle(observed.at(self.planet, at), observed.at("sun", at))[0])
-        name, text = f"Moon covers {self.planet.capitalize()}", f"somewhere on Earth, {away:.0f}° from the Sun"
-        numbers, bodies = Numbers(elongation_deg=round(away, 4)), ("moon", self.planet)
+        name, text, numbers = f"Moon covers {self.planet.capitalize()}", "somewhere on Earth", Numbers()
+        # (the files may end within light time)
+        if np.isfinite(away):
+            text, numbers = f"{text}, {away:.0f}° from the Sun", Numbers(elongation_deg=round(away, 4))
+        bodies = "moon", self.planet
         return Entry(self.group, Event.OCCULTATION, name, bodies, time, tuple(group), numbers, text)
 
 

@@ -136,12 +136,13 @@ class Contact:
     """A moment of an event: its window, whose search `request` is, and the time `seen` at which it is seen.
 
     The window is None for what no search is made for, as the greatest of a solar eclipse. `seen` is None where no time
-    was found near the window."""
+    was found near the window, and `reason` says why."""
 
     name: str
     window: Optional[spans.Window]
     request: str
     seen: Optional[float]
+    reason: str = ""
 
     @property
     def seconds(self) -> float:

@@ -16,7 +16,6 @@ from ._values import AU
 from ._vectors import Floats, angle, latitude, length, longitude, wrapped
 from ._windows import Windows
 
-UNSOLVED = "no time as seen was found near the window, whose own time stands here"
 # Angles from the Sun in degrees: within the first a body is lost in its glare, beyond the second it is up all night.
 GLARE, NIGHT = 12.0, 150.0
 TITLES = {
@@ -83,7 +82,7 @@ class Single:
         at = np.array([contact.seconds for contact in solved], dtype=float)
         said = dict(zip(solved, self.say(observed, asked, [self._event(each) for each in solved], at)))
         either = self._either(windows, asked)
-        return [self._entry(asked, contact, said.get(contact, Said(text=UNSOLVED)), either) for contact in contacts]
+        return [self._entry(asked, contact, said.get(contact, Said()), either) for contact in contacts]
 
     def _event(self, contact: Contact) -> Event:
         if contact.name == Event.UNDECIDED.value:

@@ -3,7 +3,7 @@
 from __future__ import annotations
 
 import html
-from collections.abc import Iterator
+from collections.abc import Iterator, Sequence
 from dataclasses import dataclass
 from itertools import groupby
 
@@ -11,7 +11,7 @@ from . import spans
 from ._drawing import Drawing
 from ._entries import Almanac, Contact, Entry, Event, Status
 from ._frame import MARKS, Frame, day_text
-from ._notes import COMPUTED, MARKED, PROVED, moment_text, notes, sums_of, window_text
+from ._notes import COMPUTED, PROVED, moment_text, notes, sums_of, warning, window_text
 from ._scales import Clock
 from ._style import style
 from ._tables import month_of
@@ -154,14 +154,19 @@ def _rows(entry: Entry, clock: Clock, with_day: bool) -> Iterator[str]:
     day = f"{when.day} <small>{when:%a}</small>" if with_day else ""
     several = len(entry.contacts) > 1
     kind = f"{entry.group.value} several" if several else entry.group.value
-    mark = "" if entry.status is Status.CERTIFIED else f" <em>{MARKED[entry.status]}</em>"
+    said = [html.escape(entry.text)] if entry.text else []
+    said += [_warned(entry.contacts)] if entry.status is not Status.CERTIFIED else []
     at = f'<time datetime="{when.isoformat()}">{when:%H:%M}</time>'
     window = "" if several else _window(entry.contacts[0])
-    yield _row(kind, day, at, entry.name, f"{html.escape(entry.text)}{mark}", window)
+    yield _row(kind, day, at, entry.name, "; ".join(said), window)
     for contact in entry.contacts if several else ():
-        mark = "" if contact.status is Status.CERTIFIED else f"<em>{MARKED[contact.status]}</em>"
+        warned = _warned([contact]) if contact.status is not Status.CERTIFIED else ""
         moment = f"{clock.at(contact.seconds + 0.5):%H:%M:%S}"
-        yield _row(f"{entry.group.value} moment", "", moment, moment_text(contact), mark, _window(contact))
+        yield _row(f"{entry.group.value} moment", "", moment, moment_text(contact), warned, _window(contact))
+
+
+def _warned(contacts: Sequence[Contact]) -> str:
+    return f"<em>{html.escape(warning(contacts))}</em>"
 
 
 def _window(contact: Contact) -> str:

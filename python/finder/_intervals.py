@@ -7,67 +7,100 @@ from typing import Optional
 
 import numpy as np
 
-from . import spans
 from ._curves import Curve
 from ._search import Files
 from ._series import Series
 from ._values import series_about
-from ._windows import Windows
+from ._windows import Window, Windows
+
+# The kinds that are moments: their function has another sign on both sides, but also jumps by a turn between them.
+MOMENTS = ("conj", "oppo")
 
 
 @dataclass(frozen=True)
 class Interval:
-    """Times between a rise and the fall after it: something is on. `begin` is None where it was on at the span's start,
-    and `end` where it is on at its end."""
+    """The times between two windows that follow one another, at which the function of a search is 0 or more: something
+    lasts.
 
-    begin: Optional[spans.Window]
-    end: Optional[spans.Window]
+    `begin` is the window before, or None where the span begins, and `end` the one after, or None where it ends. `on` is
+    True; where it is not known whether it lasts it is None. With `proved` this follows from a certain window at one end
+    at least, else from the function's sign in doubles, or nothing is known. An undecided window parts two intervals.
+    """
+
+    begin: Optional[Window]
+    end: Optional[Window]
+    on: Optional[bool] = True
+    proved: bool = True
 
     def has(self, tick: int) -> Optional[bool]:
-        """Whether it is on at a tick; None within a window of more than one tick, where this is not known."""
-        after = self.begin is None or tick >= self.begin.last
-        before = self.end is None or tick < self.end.first
-        if after and before:
-            return True
-        near = self.begin is not None and self.begin.first <= tick < self.begin.last
-        near = near or (self.end is not None and self.end.first <= tick < self.end.last)
-        return None if near else False
+        """Whether it lasts at a tick since J2000 (TDB): None within a window of more than one tick at an end, and
+        between the ends where it is not known whether it lasts."""
+        if self.begin is not None and tick < self.begin.last:
+            return False if tick < self.begin.first else None
+        if self.end is not None and tick >= self.end.first:
+            return False if tick >= self.end.last else None
+        return self.on
 
 
-class Undecided(ValueError):
-    """An undecided window parts what is known, so that no intervals are told."""
+def intervals(
+    found: Windows, files: Optional[Files] = None, *, series: Optional[Series] = None
+) -> list[Interval]:
+    """The times at which a search's function is 0 or more, in order: each rise with the fall after it.
+
+    That is while the coordinate or the distance is at least the value, the distance grows (`apsis`), the longitude grows
+    (`station`), the angle is at most the one of the value (`sep`), it grows smaller (`sepext`), and one disc covers a
+    part of the other, covers all of it, or lies within it. Conjunctions and oppositions are moments, and refused.
+
+    It is proved as the windows are: of a search for both directions rises and falls take turns, so what holds on one
+    side of a certain window is known. Where the first is a fall it was on at the span's start, and the first interval
+    begins with None; where the last is a rise the last one ends with None. Where no window tells, as where nothing was
+    found, the sign is taken of the `files` in doubles, and the interval is not `proved`; without files an interval says
+    with `on=None` that it is not known.
+    """
+    turns = _turns(found)
+    rows: list[Optional[Window]] = [None, *found, None]
+    made = []
+    for number, (begin, end) in enumerate(zip(rows, rows[1:])):
+        after = {"rise": True, "fall": False}.get(turns[number - 1]) if begin is not None else None
+        before = {"rise": False, "fall": True}.get(turns[number]) if end is not None else None
+        if after is not None and before is not None and after != before:
+            raise ValueError("two turns of one direction follow one another: these are not all windows of a search")
+        known = before if after is None else after
+        low, high = found.start if begin is None else begin.last, found.end if end is None else end.first - 1
+        if known is None and low <= high:
+            sign = _sign(found, files, series, (low + high) / 2)
+            if sign is not False:
+                made.append(Interval(begin, end, sign, proved=False))
+        elif known:
+            made.append(Interval(begin, end))
+    return made
 
 
-def intervals(found: Windows, files: Optional[Files] = None, *, series: Optional[Series] = None) -> list[Interval]:
-    """The intervals at which a search's function is 0 or more: each rise with the fall after it.
+def on_at_start(found: Windows, files: Optional[Files] = None, *, series: Optional[Series] = None) -> Optional[bool]:
+    """Whether the function of a search for both directions is 0 or more at the start of its span: by the first window
+    where that is certain, which is proved; else in doubles of the files, which is not; None without files."""
+    turns = _turns(found)
+    if turns and turns[0]:
+        return turns[0] == "fall"
+    return _sign(found, files, series, found.start)
 
-    This is proved as the windows are: a rise and a fall take turns in a search for both directions, so where the first
-    event is a fall, it was on at the span's start, and where it is a rise, it was not. `ValueError` where the search
-    was for one direction alone, and `Undecided` where a window is undecided. Where the search found nothing, the state
-    is that of the whole span; then the function's sign at the start is taken of `files`, in doubles, and unproved."""
+
+def _turns(found: Windows) -> list[str]:
+    """The turns of the windows of a search whose rises and falls take turns."""
+    if not isinstance(found, Windows):
+        raise TypeError(f"the windows of a search are wanted, and not {type(found).__name__}")
+    if found.asked["kind"] in MOMENTS:
+        raise ValueError("conjunctions and oppositions are moments, and last no time")
     if found.asked["dir"] != "any":
-        raise ValueError("intervals want a search for both directions")
-    if not found.certain.all():
-        raise Undecided("a window is undecided: `finder.times` tells sure and possible times")
-    turns = found.turn.tolist()
-    if any(one == other for one, other in zip(turns, turns[1:])):
-        raise ValueError("two turns of one direction in a row: these are some of the windows of a search")
-    if not turns:
-        return [Interval(None, None)] if on_at_start(found, files, series=series) else []
-    rows: list[Optional[spans.Window]] = list(found)
-    if turns[0] == "fall":
-        rows.insert(0, None)
-    if turns[-1] == "rise":
-        rows.append(None)
-    return [Interval(begin, end) for begin, end in zip(rows[::2], rows[1::2])]
+        raise ValueError("intervals want a search for both directions: dir='any'")
+    turns: list[str] = found.turn.tolist()
+    return turns
 
 
-def on_at_start(found: Windows, files: Optional[Files], *, series: Optional[Series] = None) -> bool:
-    """Whether a search's function is 0 or more at the start of its span, by its first window where it has one, else in
-    doubles of the files."""
-    if len(found) and found.certain[0]:
-        return bool(found.turn[0] == "fall")
-    if series is None and files is None:
-        raise ValueError("nothing was found, so files are wanted for the state at the start")
-    at = np.array([found.start / found.tick])
-    return bool(Curve(series or series_about(files or "", at), found.asked).at(at)[0] >= 0)
+def _sign(found: Windows, files: Optional[Files], series: Optional[Series], tick: float) -> Optional[bool]:
+    """Whether the function is 0 or more at a tick, in doubles; None without files."""
+    if files is None and series is None:
+        return None
+    at = np.array([tick / found.tick])
+    value = float(Curve(series_about(files, series, at, found), found.asked).at(at)[0])
+    return None if np.isnan(value) else value >= 0

@@ -3,6 +3,7 @@
 from __future__ import annotations
 
 import hashlib
+from collections.abc import Sequence
 from pathlib import Path
 
 from . import spans
@@ -42,7 +43,8 @@ MOMENTS = {
     "III": "egress begins",
     "IV": "egress ends",
 }
-MARKED = {Status.UNDECIDED: "undecided window: not proved to happen", Status.UNSOLVED: "time as seen not found"}
+UNDECIDED = "undecided: nothing is proved of this window"
+UNSOLVED = "the time is that of the window, and not of what is seen"
 
 
 def moment_text(contact: Contact) -> str:
@@ -60,9 +62,16 @@ def window_text(contact: Contact) -> str:
     return shown if contact.window.turn else f"{shown} undecided"
 
 
+def warning(contacts: Sequence[Contact]) -> str:
+    """What is said where a window is undecided, or where no time was found near it, and why; nothing where neither is."""
+    said = [UNDECIDED] if any(contact.status is Status.UNDECIDED for contact in contacts) else []
+    said += [f"{UNSOLVED}: {contact.reason}" for contact in contacts if contact.seen is None]
+    return "; ".join(dict.fromkeys(said))
+
+
 def said_of(entry: Entry) -> str:
-    """The text of an entry, and a mark where it is not proved or not solved."""
-    return ", ".join(filter(None, (entry.text, MARKED.get(entry.status, ""))))
+    """The text of an entry, and what there is to warn of."""
+    return "; ".join(filter(None, (entry.text, warning(entry.contacts))))
 
 
 def notes(found: Almanac, clock: Clock) -> list[str]:

@@ -10,6 +10,7 @@ import numpy as np
 import numpy.typing as npt
 
 from ._entries import Contact, Entry, Group
+from ._search import Body
 from ._seen import seen
 from ._series import Series
 from ._sky import Sky
@@ -36,8 +37,7 @@ class Search:
 class Observed:
     """The files of an almanac, and where bodies are seen in them, in doubles."""
 
-    def __init__(self, files: list[str], series: Series) -> None:
-        self.files = files
+    def __init__(self, series: Series) -> None:
         self.series = series
         # (angles between bodies, and on which side one is, are the same on the axes of J2000 but for some arc seconds)
         self._sky = Sky(series, of_date=False)
@@ -58,12 +58,14 @@ class Observed:
         return self._sky.light(observer, "earth", np.array([seconds]))
 
     def contacts(
-        self, found: Windows, label: Label, *, phases: bool = False, arrival: Optional[str] = None
+        self, found: Windows, label: Label, *, phases: bool = False, arrival: Optional[Body] = None
     ) -> list[Contact]:
         """Each window of a search with its name and the time at which it is seen."""
-        times = seen(found, self.files, phases=phases, arrival=arrival, series=self.series)
-        rows = zip(found, label(times.turn), times.seconds.tolist())
-        return [Contact(name, window, found.request, None if np.isnan(at) else at) for window, name, at in rows]
+        times = seen(found, phases=phases, arrival=arrival, series=self.series)
+        rows = zip(found, label(times.turn), times.seconds.tolist(), times.reasons)
+        return [
+            Contact(name, window, found.request, None if np.isnan(at) else at, reason) for window, name, at, reason in rows
+        ]
 
 
 class Recipe(Protocol):

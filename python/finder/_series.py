@@ -1,4 +1,4 @@
-"""Positions in doubles, out of the same files, for pictures alone: nothing is proved of them."""
+"""Places of bodies in doubles, out of the same files that are searched: nothing is proved of them."""
 
 from __future__ import annotations
 
@@ -19,15 +19,22 @@ COLUMNS = "mercury venus emb mars jupiter saturn uranus neptune pluto moon sun".
 OBLIQUITY = np.radians(84_381.448 / 3_600)
 J2000_DATE = 2_451_545.0
 BLOCK = re.compile(rb"^[ \t]*[0-9]+[ \t]+([0-9]+)[ \t]*\r?\n", re.MULTILINE)
-HEAD_END = re.compile(rb"GROUP\s+1070\s")
+HEAD_END = re.compile(rb"^[ \t]*GROUP[ \t]+1070\s", re.MULTILINE)
 E_FOR_D = bytes.maketrans(b"Dd", b"EE")
+# As many bytes of a block have its two dates.
+DATES = 120
+
+
+class OutsideFiles(ValueError):
+    """Files that have no block of a span."""
 
 
 def number_of(word: str) -> float:
+    """A number of a file, whose exponent may be written with D."""
     return float(word.upper().replace("D", "E"))
 
 
-def _sum(series: Floats, at: Floats) -> Floats:
+def _sums(series: Floats, at: Floats) -> Floats:
     """Sums of Chebyshev series, each at its place from -1 to 1, by Clenshaw's recurrence."""
     twice = 2 * at
     last, made = np.zeros_like(series[0]), series[-1]
@@ -37,33 +44,28 @@ def _sum(series: Floats, at: Floats) -> Floats:
 
 
 class Series:
-    """The Chebyshev series of JPL's files, which `finder check` accepts."""
+    """The Chebyshev series of JPL's files, read once, for places of bodies in km and km/s, in doubles and unproved.
+
+    The files are those that `finder check` accepts. Of their blocks those are kept that reach into the span from
+    `start` to `end`, in seconds since J2000 (TDB). `seen`, `values` and the others that read files take one in place of
+    reading them again: `series=finder.Series(files)`. `start` and `end` are those of the blocks that are kept; outside
+    of them there are no places, but NaN.
+    """
+
+    start: float
+    end: float
 
     def __init__(self, files: Files, start: float = -math.inf, end: float = math.inf) -> None:
-        """Of the blocks, those that reach into the span from `start` to `end`, in seconds since J2000."""
         text = b"\n".join(Path(name).read_bytes() for name in file_names(files))
         head = HEAD_END.search(text)
         if head is None:
-            raise ValueError("no header stands first in these files")
+            raise ValueError("no header stands first in these files: name the header's file before the others")
         self._read_header(text[: head.end()].split())
-        heads = list(BLOCK.finditer(text, head.end()))
-        ends = [found.start() for found in heads[1:]] + [len(text)]
-        low, high = start / spans.DAY + J2000_DATE, end / spans.DAY + J2000_DATE
-        blocks = {}
-        for found, stop in zip(heads, ends):
-            begin = found.end()
-            first, last = (number_of(word.decode()) for word in text[begin : begin + 80].split()[:2])
-            if first not in blocks and last >= low and first <= high:
-                # (a line has three numbers, and the last line is filled up)
-                numbers = np.fromstring(text[begin:stop].translate(E_FOR_D), sep=" ")
-                blocks[first] = numbers[: int(found[1])]
-        if not blocks:
-            raise ValueError("the files have no block of this span")
-        self._blocks: Floats = np.array([blocks[date] for date in sorted(blocks)])
-        self._start = (self._blocks[0, 0] - J2000_DATE) * spans.DAY
+        self._blocks = self._read_blocks(text, head.end(), start, end)
         self._length = (self._blocks[0, 1] - self._blocks[0, 0]) * spans.DAY
+        self.start = float((self._blocks[0, 0] - J2000_DATE) * spans.DAY)
+        self.end = float(self.start + self._length * len(self._blocks))
         self._tables: dict[str, tuple[Floats, Floats]] = {}
-        self.start, self.end = float(self._start), float(self._start + self._length * len(self._blocks))
 
     def _read_header(self, words: list[bytes]) -> None:
         """Keeps the columns of a header, and the ratio of the masses of Earth and Moon."""
@@ -77,27 +79,52 @@ class Series:
         self._columns = table[:, :13]
         self._mass_ratio = number_of(values[names.index(b"EMRAT")].decode())
 
+    @staticmethod
+    def _read_blocks(text: bytes, after: int, start: float, end: float) -> Floats:
+        """The numbers of the blocks of a span, one row for each, in order of time and each once."""
+        heads = list(BLOCK.finditer(text, after))
+        ends = [found.start() for found in heads[1:]] + [len(text)]
+        low, high = start / spans.DAY + J2000_DATE, end / spans.DAY + J2000_DATE
+        blocks: dict[float, Floats] = {}
+        for found, stop in zip(heads, ends):
+            begin = found.end()
+            first, last = (number_of(word.decode()) for word in text[begin : begin + DATES].split()[:2])
+            if first not in blocks and last >= low and first <= high:
+                # (a line has three numbers, and the last line is filled up)
+                numbers = np.fromstring(text[begin:stop].translate(E_FOR_D), sep=" ")
+                blocks[first] = numbers[: int(found[1])]
+        if not blocks:
+            raise OutsideFiles("the files have no block of this span")
+        rows = np.array([blocks[date] for date in sorted(blocks)])
+        if not (rows[1:, 0] == rows[:-1, 1]).all():
+            raise ValueError("a block is missing between others: name the files in order of time, without a gap")
+        return rows
+
     def _table(self, name: str) -> tuple[Floats, Floats]:
         """The series of a column, and those of its rates in km/s: by coefficient, axis and granule."""
         if name not in self._tables:
             start, coefficients, granules = self._columns[:, COLUMNS.index(name)]
+            if coefficients == 0:
+                raise ValueError(f"the files have no column of {name}")
             rows = self._blocks[:, start - 1 : start - 1 + 3 * coefficients * granules]
             table = rows.reshape(-1, 3, coefficients).transpose(2, 1, 0)
             rates = chebder(table) * (2 * granules / self._length)  # type: ignore[no-untyped-call]
             self._tables[name] = np.ascontiguousarray(table), np.ascontiguousarray(rates)
         return self._tables[name]
 
-    def _column(self, name: str, times: Floats, rates: bool = False) -> Floats:
-        """Positions of a column in km, an array of three rows; with rates, in km/s, six rows."""
+    def _column(self, name: str, times: Floats, rates: bool) -> Floats:
+        """Positions of a column in km, an array of three rows; with rates, in km/s, six rows. NaN outside."""
         granules = self._columns[2, COLUMNS.index(name)]
-        place = (times - self._start) / self._length * granules
-        granule = np.clip(place.astype(int), 0, len(self._blocks) * granules - 1)
+        inside = (times >= self.start) & (times <= self.end)
+        place = np.where(inside, (times - self.start) / self._length * granules, np.nan)
+        granule = np.clip(np.where(inside, place, 0).astype(int), 0, len(self._blocks) * granules - 1)
         at = 2 * (place - granule) - 1
-        made = [_sum(table[:, :, granule], at) for table in self._table(name)[: 1 + rates]]
+        made = [_sums(table[:, :, granule], at) for table in self._table(name)[: 1 + rates]]
         return made[0] if not rates else floats(np.concatenate(made))
 
     def body(self, name: str, times: Floats, rates: bool = False) -> Floats:
-        """Positions of a body from the barycentre of the solar system in km; with rates, six rows, km and km/s."""
+        """Places of a body from the barycentre of the solar system, on the axes of the file, at seconds since J2000
+        (TDB): three rows in km; with `rates` six, km and km/s. NaN at times outside of the blocks that are kept."""
         if name == "ssb":
             return np.zeros((6 if rates else 3, len(times)))
         if name in ("earth", "moon"):
@@ -107,13 +134,14 @@ class Series:
         return self._column(name, times, rates)
 
     def seen(self, target: str, observer: str, frame: str, times: Any) -> Floats:
-        """Geometric positions of a body from an observer in km, at seconds since J2000, an array of three rows."""
-        at = np.asarray(times, dtype=float)
+        """Geometric places of a body from an observer in km, on the axes `eq` or `ecl` of J2000, at seconds since J2000
+        (TDB): an array of three rows."""
+        at = floats(times)
         return self.turned(frame, self.body(target, at) - self.body(observer, at))
 
     @staticmethod
     def turned(frame: str, places: Floats) -> Floats:
-        """Places on the axes of a frame of J2000."""
+        """Places of the file's axes, on the axes `eq` or `ecl` of J2000."""
         x, y, z = places
         if frame == "eq":
             return np.array([x, y, z])

@@ -54,10 +54,10 @@ def csv_of(found: Almanac, clock: Clock) -> str:
     made = io.StringIO(newline="")
     writer = csv.writer(made)
     seen = f"seen_{clock.scale.value}", "seen_tdb_s"
-    writer.writerow([*COLUMNS, *seen, *TIMES, *(field.name for field in fields(Numbers)), "text", "request"])
+    writer.writerow([*COLUMNS, *seen, *TIMES, *(field.name for field in fields(Numbers)), "text", "reason", "request"])
     for entry in found.entries:
         for contact in entry.contacts:
-            writer.writerow([*_row_of(entry, contact, clock), entry.text, contact.request])
+            writer.writerow([*_row_of(entry, contact, clock), entry.text, contact.reason, contact.request])
     return made.getvalue()
 
 
@@ -120,5 +120,6 @@ def _contact_of(contact: Contact, clock: Clock) -> dict[str, Any]:
         "status": contact.status.value,
         "seen": seen,
         "certified_tdb": window,
+        "reason": contact.reason,
         "request": contact.request,
     }

@@ -1,4 +1,4 @@
-"""The numbers at events: distances, directions, angles, elongations, and names. In doubles: nothing is proved of them."""
+"""The numbers at events: distances, directions, angles, elongations. In doubles: nothing is proved of them."""
 
 from __future__ import annotations
 
@@ -11,20 +11,22 @@ import numpy.typing as npt
 from . import spans
 from ._curves import Curve
 from ._search import Files
-from ._seen import Seen, SeenCurve, middles
+from ._seen import GEOMETRIC, Seen, SeenCurve, middles
 from ._series import Series
 from ._sky import Sky
 from ._vectors import Floats, angle, floats, latitude, length, longitude, wrapped
 from ._windows import Windows
 
-# The astronomical unit of the International Astronomical Union (resolution B2 of 2012).
+# The kilometres of an astronomical unit (International Astronomical Union, resolution B2 of 2012).
 AU = 149_597_870.7
+# The columns of a place, and their units.
+PLACE_UNITS = {"distance_km": "km", "distance_au": "AU", "ra": "deg", "dec": "deg", "lon": "deg", "lat": "deg"}
 
 
 @dataclass(frozen=True)
 class Place:
-    """Where a body is from the observer, as arrays: `distance_km`, and in degrees `ra` (0 to 360), `dec`, and the
-    ecliptic `lon` (0 to 360) and `lat`."""
+    """Where a body is from the observer, as arrays with a number for each window: `distance_km`, and in degrees `ra` (0
+    to 360) and `dec` of the equator, `lon` (0 to 360) and `lat` of the ecliptic."""
 
     body: str
     distance_km: Floats
@@ -35,17 +37,19 @@ class Place:
 
     @property
     def distance_au(self) -> Floats:
+        """The distances in astronomical units of 149,597,870.7 km."""
         return floats(self.distance_km / AU)
 
 
 @dataclass(frozen=True)
 class Values:
-    """What `values` gives, an array with a number for each window.
+    """What `values` gives, in doubles and unproved: arrays with a number for each window.
 
     `seconds` are the times of the numbers, since J2000 (TDB). `angle` is that between target and second body in degrees
-    (None without one), `elongation` that between target and Sun and `east` whether the target's longitude is ahead of
-    the Sun's, so that it is an evening body; both are None from the Sun and where the target is the Sun. `function` is
-    the request's function, in `unit`: about 0 at an event, above 0 after a rise. `apparent` says which places these are.
+    (None without one), `elongation` that between target and Sun in degrees and `east` whether the target's ecliptic
+    longitude is ahead of the Sun's, so that it is an evening body. Both are None where the target is the Sun, and from
+    the Sun and the barycentre. `function` is the request's function, in `unit`: about 0 at an event, above 0 after a
+    rise. `apparent` says whether these are places as they are seen, and `of_date` whether they are on axes of date.
     """
 
     seconds: Floats
@@ -57,60 +61,87 @@ class Values:
     function: Floats
     unit: str
     apparent: bool
+    of_date: bool
 
-    def columns(self) -> dict[str, Any]:
-        """All of it by names, as for a table: `pandas.DataFrame(found.columns())`."""
-        made: dict[str, Any] = {"seconds": self.seconds}
+    def __len__(self) -> int:
+        return len(self.seconds)
+
+    def __repr__(self) -> str:
+        places = "apparent" if self.apparent else "geometric"
+        axes = "of date" if self.of_date else "of J2000"
+        return f"<Values of {len(self)} events, {places}, {axes}, in doubles, unproved>"
+
+    def _units(self) -> dict[str, tuple[Any, str]]:
+        """All columns by their names, each with its unit."""
+        made: dict[str, tuple[Any, str]] = {"seconds": (self.seconds, "s")}
         for role, place in (("target", self.target), ("second", self.second)):
             if place is not None:
-                for name in ("distance_km", "distance_au", "ra", "dec", "lon", "lat"):
-                    made[f"{role}_{name}"] = getattr(place, name)
-        for name in ("angle", "elongation", "east", "function"):
-            if getattr(self, name) is not None:
-                made[name] = getattr(self, name)
+                made.update({f"{role}_{name}": (getattr(place, name), unit) for name, unit in PLACE_UNITS.items()})
+        of_angle = {"angle": (self.angle, "deg"), "elongation": (self.elongation, "deg"), "east": (self.east, "")}
+        made.update({name: row for name, row in of_angle.items() if row[0] is not None})
+        return {**made, "function": (self.function, "")}
+
+    def columns(self) -> dict[str, Any]:
+        """All arrays by names, as for a table: seconds since J2000 (TDB); for target and second body distances in km and
+        in astronomical units, and directions in degrees; angles in degrees; the function in `unit`."""
+        return {name: column for name, (column, _) in self._units().items()}
+
+    def to_pandas(self) -> Any:
+        """A `DataFrame` of pandas with the columns, and in its `attrs` what they are."""
+        import pandas
+
+        made = pandas.DataFrame(self.columns())
+        made.attrs.update(self._about())
         return made
+
+    def to_table(self) -> Any:
+        """A `Table` of astropy with the columns and their units, and in its `meta` what they are."""
+        from astropy.table import Table
+
+        units = {name: unit for name, (_, unit) in self._units().items() if unit}
+        return Table(self.columns(), units=units, meta=self._about())
+
+    def _about(self) -> dict[str, Any]:
+        return {"about": repr(self), "function": self.unit}
 
 
 def values(
     found: Windows,
-    files: Files,
+    files: Optional[Files] = None,
     *,
     at: Union[Seen, Floats, None] = None,
     apparent: bool = False,
     of_date: bool = False,
     series: Optional[Series] = None,
 ) -> Values:
-    """The numbers at the events of a search: unproved, in doubles, of the files that are read again.
+    """The numbers at the events of a search: in doubles and unproved, of the files, which are read again, or of
+    `series`, what was read of them before.
 
     They are those of the middle of each window, in which the event is, or of the times `at`: what `seen` gave, or
-    seconds since J2000. Places are geometric, as the search's are, on the axes of J2000; with `apparent` they are those
-    of bodies as they are seen, and with `of_date` on the axes of date, which is for `apparent` ones alone.
+    seconds since J2000 (TDB), one for each window. Places are geometric, as the search's are, on the axes of J2000; with
+    `apparent` they are those of bodies as they are seen, and with `of_date` on the axes of date, which is for
+    `apparent` ones alone and wants erfa. Where a time is missing, or the files have no place, numbers are NaN.
     """
+    if not isinstance(found, Windows):
+        raise TypeError(f"the windows of a search are wanted, and not {type(found).__name__}")
     if of_date and not apparent:
-        raise ValueError("places of date are those of `apparent` bodies")
-    asked = found.asked
-    seconds = middles(found) if at is None else at.seconds if isinstance(at, Seen) else np.asarray(at, dtype=float)
-    if len(seconds) != len(found):
-        raise ValueError(f"{len(seconds)} times for {len(found)} windows")
-    made = series or series_about(files, seconds)
-    there = np.where(np.isnan(seconds), made.start, seconds)
+        raise ValueError("places of date are those of bodies as they are seen: apparent=True, of_date=True")
+    seconds = middles(found) if at is None else at.seconds if isinstance(at, Seen) else floats(at)
+    if seconds.shape != (len(found),):
+        raise ValueError(f"one time for each of {len(found)} windows is wanted, and not an array of {seconds.shape}")
+    made = series_about(files, series, seconds, found)
     sky: Union[Series, Sky] = Sky(made, of_date) if apparent else made
-
-    def at_times(body: str, frame: str) -> Floats:
-        place = sky.seen(body, asked["observer"], frame, there)
-        place[:, np.isnan(seconds)] = np.nan
-        return place
-
-    eq = {role: at_times(asked[role], "eq") for role in ("target", "second") if asked[role] != "-"}
-    ecl = {role: at_times(asked[role], "ecl") for role in eq}
+    asked = found.asked
+    roles = [role for role in ("target", "second") if asked[role] != "-"]
+    eq, ecl = (
+        {role: sky.seen(asked[role], asked["observer"], frame, seconds) for role in roles} for frame in ("eq", "ecl")
+    )
     elongation = east = None
-    if "sun" not in (asked["target"], asked["observer"]):
-        sun = at_times("sun", "ecl")
-        elongation = angle(ecl["target"], sun)
-        east = wrapped(longitude(ecl["target"]) - longitude(sun)) > 0
-    curve = SeenCurve(made, asked, of_date, True, False) if apparent else Curve(made, asked)
-    function = curve.at(there)
-    function[np.isnan(seconds)] = np.nan
+    if asked["target"] != "sun" and asked["observer"] not in ("sun", "ssb"):
+        sun = sky.seen("sun", asked["observer"], "ecl", seconds)
+        elongation, east = angle(ecl["target"], sun), wrapped(longitude(ecl["target"]) - longitude(sun)) > 0
+    geometric = not apparent or asked["kind"] in GEOMETRIC
+    curve = Curve(made, asked) if geometric else SeenCurve(made, asked, of_date, True, False)
     return Values(
         seconds=seconds,
         target=_place(asked["target"], eq["target"], ecl["target"]),
@@ -118,21 +149,25 @@ def values(
         angle=angle(eq["target"], eq["second"]) if "second" in eq else None,
         elongation=elongation,
         east=east,
-        function=function,
+        function=curve.at(seconds),
         unit=curve.unit,
         apparent=apparent,
+        of_date=of_date,
     )
 
 
-def series_about(files: Files, seconds: Floats) -> Series:
-    """The blocks about some times."""
+def series_about(files: Optional[Files], series: Optional[Series], seconds: Floats, found: Windows) -> Series:
+    """What is read of the files about some times, or about the begin of a search's span where there are none."""
+    if series is not None:
+        return series
+    if files is None:
+        raise TypeError("the files of the search are wanted, or a series of them")
     some = seconds[~np.isnan(seconds)]
-    pad = 2 * spans.DAY
-    low, high = (some.min() - pad, some.max() + pad) if len(some) else (0.0, 0.0)
-    return Series(files, low, high)
+    low, high = (some.min(), some.max()) if len(some) else (found.start / found.tick,) * 2
+    # (light comes from some hours before)
+    return Series(files, float(low) - spans.DAY, float(high) + spans.DAY)
 
 
 def _place(body: str, eq: Floats, ecl: Floats) -> Place:
-    """A place of both frames."""
-    (ra, dec), (lon, lat) = ((longitude(place) % 360, latitude(place)) for place in (eq, ecl))
-    return Place(body, length(eq), ra, dec, lon, lat)
+    """A place, of its vectors in both frames."""
+    return Place(body, length(eq), longitude(eq) % 360, latitude(eq), longitude(ecl) % 360, latitude(ecl))

@@ -20,7 +20,7 @@ from ._observed import Observed, Recipe, Search
 from ._parts import results
 from ._program import Program, Runs, runs_of
 from ._search import Files, check, file_names
-from ._series import Series
+from ._series import Series, refuse_order
 from ._sky import erfa_package
 from ._times import Time, ticks_of_time
 from ._vectors import Floats, length, longitude, wrapped
@@ -86,7 +86,9 @@ def almanac_of_seconds(
     """The almanac of a span of seconds of TDB since J2000."""
     erfa_package()
     start, end = span
-    begin, stop = _searched(start, end, check(files, program=runs))
+    have = check(files, program=runs)
+    refuse_order(files)
+    begin, stop = _searched(start, end, have)
     made = recipes(group for group in Group if group in groups)
     found = _run_all([search for recipe in made for search in recipe.searches], files, (begin, stop), jobs, runs, progress)
     observed = Observed(Series(files, begin - PAD * spans.DAY, stop + PAD * spans.DAY))

@@ -5,7 +5,7 @@ from __future__ import annotations
 import math
 import re
 from pathlib import Path
-from typing import Any
+from typing import Any, Optional
 
 import numpy as np
 from numpy.polynomial.chebyshev import chebder
@@ -32,6 +32,22 @@ class OutsideFiles(ValueError):
 def number_of(word: str) -> float:
     """A number of a file, whose exponent may be written with D."""
     return float(word.upper().replace("D", "E"))
+
+
+def refuse_order(files: Files) -> None:
+    """Refuses files that are not named in order of time: the command leaves out a block that ends before another one
+    does, and so all of a file that is named after a later one."""
+    last: Optional[tuple[float, str]] = None
+    for name in file_names(files):
+        text = Path(name).read_bytes()
+        head = HEAD_END.search(text)
+        first = BLOCK.search(text, head.end() if head else 0)
+        if first is None:
+            continue
+        date = number_of(text[first.end() : first.end() + DATES].split()[0].decode())
+        if last is not None and date <= last[0]:
+            raise ValueError(f"{name} begins before {last[1]}, which is named before it: name files in order of time")
+        last = date, name
 
 
 def _sums(series: Floats, at: Floats) -> Floats:

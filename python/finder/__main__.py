@@ -14,7 +14,7 @@ import zoneinfo
 from collections.abc import Iterable, Sequence
 from typing import Optional
 
-from ._almanac import almanac_of_seconds, search_count
+from ._almanac import Machine, almanac_of_seconds, search_count
 from ._entries import Group
 from ._pages import Format, page
 from ._program import FinderError, runs_of
@@ -161,10 +161,8 @@ def _made(words: argparse.Namespace, clock: Clock) -> str:
     title = f"Almanac {first}" if first == last else f"Almanac {first} to {last}"
     meter = _Meter(search_count(words.only))
     try:
-        runs = runs_of(words.program, None)
-        return page(
-            almanac_of_seconds(words.files, span, title, words.only, words.jobs, runs, meter.update), words.format, clock
-        )
+        machine = Machine(words.files, runs_of(words.program, None), words.jobs, meter.update)
+        return page(almanac_of_seconds(machine, *span, title, words.only), words.format, clock)
     finally:
         meter.clear()
 

@@ -7,7 +7,8 @@ eclipses are doubles, and unproved.
 from __future__ import annotations
 
 import concurrent.futures
-from collections.abc import Callable, Iterable, Sequence
+from collections.abc import Iterable, Sequence
+from dataclasses import dataclass
 from typing import Optional
 
 import numpy as np
@@ -17,7 +18,7 @@ from ._eclipses import eclipses
 from ._entries import PLANETS, Almanac, Curves, Entry, Group
 from ._events import meetings, moon_and_seasons, planets
 from ._observed import Observed, Recipe, Search
-from ._parts import results
+from ._parts import Progress, results
 from ._program import Program, Runs, runs_of
 from ._search import Files, check, file_names
 from ._series import Series, refuse_order
@@ -60,7 +61,7 @@ def almanac(
     jobs: int = 1,
     program: Program = None,
     timeout: Optional[float] = None,
-    progress: Optional[Callable[[int], object]] = None,
+    progress: Optional[Progress] = None,
 ) -> Almanac:
     """The almanac of what is seen from `start` on and before `end`, which are times of TDB, or astropy's of any scale.
 
@@ -69,28 +70,40 @@ def almanac(
     `SpanNotHeld` where the files do not hold the span, both before any search.
     """
     first, last = (ticks_of_time(time, 1_000, up=False) / 1_000 for time in (start, end))
-    return almanac_of_seconds(
-        file_names(files), (first, last), title, tuple(groups), jobs, runs_of(program, timeout), progress
-    )
+    machine = Machine(file_names(files), runs_of(program, timeout), jobs, progress)
+    return almanac_of_seconds(machine, first, last, title, tuple(groups))
 
 
-def almanac_of_seconds(
-    files: list[str],
-    span: tuple[float, float],
-    title: str,
-    groups: tuple[Group, ...],
-    jobs: int,
-    runs: Runs,
-    progress: Optional[Callable[[int], object]],
-) -> Almanac:
+@dataclass(frozen=True)
+class Machine:
+    """The files that are searched, and how: `jobs` of the `runs` at once, and `progress` is called after each."""
+
+    files: list[str]
+    runs: Runs
+    jobs: int = 1
+    progress: Optional[Progress] = None
+
+    def found(self, searches: Sequence[Search], start: int, end: int) -> list[Windows]:
+        """What each search finds in a span of seconds of TDB since J2000; where one fails, all are ended."""
+        span = {"start": spans.time_text(start), "end": spans.time_text(end)}
+        with concurrent.futures.ThreadPoolExecutor(max(1, self.jobs)) as pool:
+            try:
+                futures = [pool.submit(search.run, self.files, program=self.runs, **span) for search in searches]
+                return results(futures, self.progress)
+            except BaseException:
+                self.runs.stop()
+                raise
+
+
+def almanac_of_seconds(machine: Machine, start: float, end: float, title: str, groups: tuple[Group, ...]) -> Almanac:
     """The almanac of a span of seconds of TDB since J2000."""
     erfa_package()
-    start, end = span
-    have = check(files, program=runs)
+    files = machine.files
+    have = check(files, program=machine.runs)
     refuse_order(files)
     begin, stop = _searched(start, end, have)
-    made = recipes(group for group in Group if group in groups)
-    found = _run_all([search for recipe in made for search in recipe.searches], files, (begin, stop), jobs, runs, progress)
+    made = recipes(groups)
+    found = machine.found([search for recipe in made for search in recipe.searches], begin, stop)
     observed = Observed(Series(files, begin - PAD * spans.DAY, stop + PAD * spans.DAY))
     entries: list[Entry] = []
     count = 0
@@ -100,7 +113,8 @@ def almanac_of_seconds(
         count += size
     inside = sorted((each for each in entries if start <= each.seconds < end), key=lambda each: each.seconds)
     curves = _curves(observed, start, end)
-    return Almanac(title, start, end, tuple(inside), groups, count, tuple(files), begin, stop, curves)
+    looked_for = tuple(group for group in Group if group in groups)
+    return Almanac(title, start, end, tuple(inside), looked_for, count, tuple(files), begin, stop, curves)
 
 
 def _searched(start: float, end: float, have: spans.Summary) -> tuple[int, int]:
@@ -114,28 +128,6 @@ def _searched(start: float, end: float, have: spans.Summary) -> tuple[int, int]:
         )
     margin = MARGIN + MARGIN_OF_YEAR * max(abs(start), abs(end)) / YEAR
     return max(int(start - margin * spans.DAY), have.start), min(int(end + margin * spans.DAY), have.end)
-
-
-def _run_all(
-    searches: Sequence[Search],
-    files: list[str],
-    span: tuple[int, int],
-    jobs: int,
-    runs: Runs,
-    progress: Optional[Callable[[int], object]],
-) -> list[Windows]:
-    """What each search finds; where one fails, all are ended."""
-    start, end = (spans.time_text(seconds) for seconds in span)
-
-    def run(search: Search) -> Windows:
-        return search.run(files, start=start, end=end, program=runs)
-
-    with concurrent.futures.ThreadPoolExecutor(max(1, jobs)) as pool:
-        try:
-            return results([pool.submit(run, search) for search in searches], progress)
-        except BaseException:
-            runs.stop()
-            raise
 
 
 def _curves(observed: Observed, start: float, end: float) -> Curves:

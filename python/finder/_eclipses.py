@@ -1,9 +1,9 @@
 """The events of an almanac that several windows belong to: eclipses, transits, and what the Moon covers.
 
 The Moon's sphere touches a cone of the Earth's shadow where its centre is on the cone that lies a radius farther out,
-or farther in. A cone that is tangent to two spheres on one side of its axis each, as the umbra, moves outward by a length
-where both radii grow by it; one that is tangent to them on opposite sides, as the penumbra, where that of the nearer
-body grows and that of the Sun shrinks. So the radii of these searches are those of a sphere that touches.
+or farther in. A cone that is tangent to two spheres on one side of its axis each, as the umbra, moves outward by a
+length where both radii grow by it; one that is tangent to them on opposite sides, as the penumbra, where that of the
+nearer body grows and that of the Sun shrinks. So the radii of these searches are those of a sphere that touches.
 """
 
 from __future__ import annotations
@@ -199,7 +199,8 @@ class Transits:
         of_search = [observed.contacts(each, label) for each, label in zip(found, labels)]
         least = of_search.pop()
         groups = _groups([contact for contacts in of_search for contact in contacts])
-        return [self._entry(observed, group, _greatest(observed, least, group, self.planet, "earth")) for group in groups]
+        body = self.planet
+        return [self._entry(observed, group, _greatest(observed, least, group, body, "earth")) for group in groups]
 
     def _entry(self, observed: Observed, group: list[Contact], greatest: Contact) -> Entry:
         at = np.array([greatest.seconds])

@@ -163,8 +163,8 @@ class Contact:
 
 @dataclass(frozen=True)
 class Entry:
-    """A line of an almanac: `seconds` is its time as it is seen, and `contacts` are the moments that it rests on, of one
-    window mostly, of several for an eclipse. `text` says the numbers as a line does."""
+    """A line of an almanac: `seconds` is its time as it is seen, and `contacts` are the moments that it rests on, of
+    one window mostly, of several for an eclipse. `text` says the numbers as a line does."""
 
     group: Group
     event: Event
@@ -184,8 +184,9 @@ class Entry:
 
 @dataclass(frozen=True)
 class Curves:
-    """What a drawing shows at `times`, in doubles: the Moon's distance in km, and for each planet its ecliptic longitude
-    less the Sun's in degrees, from -180 to 180, above 0 in the evening sky; and which planets move backward at first."""
+    """What a drawing shows at `times`, in doubles: the Moon's distance in km, and for each planet its ecliptic
+    longitude less the Sun's in degrees, from -180 to 180, above 0 in the evening sky; and which planets move backward
+    at first."""
 
     times: Floats
     moon_km: Floats

@@ -1,4 +1,4 @@
-"""The events of an almanac that each have one window: phases, apsides, nodes, seasons, the planets and their meetings."""
+"""The events of an almanac that have one window each: phases, apsides, nodes, seasons, the planets, their meetings."""
 
 from __future__ import annotations
 
@@ -140,7 +140,8 @@ def _from_sun(observed: Observed, asked: Asked, events: Sequence[Event], at: Flo
 def _meeting(observed: Observed, asked: Asked, events: Sequence[Event], at: Floats) -> Iterator[Said]:
     """How far the second body passes the target, on which side, and how far both are from the Sun."""
     one, other, sun = (observed.at(body, at) for body in (asked.target, asked.second, "sun"))
-    ahead = wrapped(longitude(observed.at(asked.second, at, frame="ecl")) - longitude(observed.at("sun", at, frame="ecl")))
+    second, first = (longitude(observed.at(body, at, frame="ecl")) for body in (asked.second, "sun"))
+    ahead = wrapped(second - first)
     of = "the Moon" if asked.target == "moon" else asked.target.capitalize()
     rows = angle(one, other), latitude(other) > latitude(one), angle(other, sun), ahead > 0
     for apart, is_north, away, is_east in zip(*(row.tolist() for row in rows)):

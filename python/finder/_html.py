@@ -77,8 +77,8 @@ def html_of(found: Almanac, clock: Clock) -> str:
         '<meta name="viewport" content="width=device-width, initial-scale=1">\n'
         f"<title>{title}</title>\n<style>{style()}</style>\n</head>\n<body>\n<main>\n<h1>{title}</h1>\n"
         f'<p class="lead">{len(found.entries)} events as they are seen from the Earth\'s centre, in '
-        f"{html.escape(clock.name)}, each with its numbers and with the window of time that is proved to hold it in the "
-        f"numbers of JPL's file.</p>\n{''.join(_year(found, period, clock) for period in periods(found, clock))}"
+        f"{html.escape(clock.name)}, each with its numbers and with the window of time that is proved to hold it in "
+        f"the numbers of JPL's file.</p>\n{''.join(_year(found, period, clock) for period in periods(found, clock))}"
         f"{_footer(found, clock)}</main>\n</body>\n</html>\n"
     )
 
@@ -175,8 +175,8 @@ def _window(contact: Contact) -> str:
 
 def _row(kind: str, day: str, at: str, name: str, said: str, window: str) -> str:
     return (
-        f'<tr class="{kind}"><td class="day">{day}</td><td class="at">{at}</td><td class="what">{html.escape(name)}</td>'
-        f'<td class="say">{said}</td><td class="win">{window}</td></tr>\n'
+        f'<tr class="{kind}"><td class="day">{day}</td><td class="at">{at}</td>'
+        f'<td class="what">{html.escape(name)}</td><td class="say">{said}</td><td class="win">{window}</td></tr>\n'
     )
 
 

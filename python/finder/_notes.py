@@ -11,24 +11,25 @@ from ._entries import Almanac, Contact, Entry, Group, Status
 from ._scales import Clock, Scale, last_leap_second
 
 PROVED = (
-    "Proved: each certified window is of the geometric event in the numbers of the JPL file, and holds exactly one event "
-    "of its search; no event of a search is outside of its windows. A window is one second of TDB where one time stands."
+    "Proved: each certified window is of the geometric event in the numbers of the JPL file, and holds exactly one "
+    "event of its search; no event of a search is outside of its windows. Where one time stands, the window is that "
+    "second of TDB."
 )
 COMPUTED = (
     "Computed in doubles, and not proved: the times at which events are seen from the Earth's centre (by light time, "
-    "aberration, bending by the Sun's mass, and the equinox of date), the numbers beside them, the kinds of eclipses, and "
-    "each moment that has no window. Apsides are geometric."
+    "aberration, bending by the Sun's mass, and the equinox of date), the numbers beside them, the kinds of eclipses, "
+    "and each moment that has no window. Apsides are geometric."
 )
 RULES = {
     Group.MOON: "New and full moons and quarters are of ecliptic longitude of date, nodes of the ecliptic of date.",
     Group.SEASONS: "Equinoxes and solstices are of the equinox of date, perihelion and aphelion of the Earth's centre.",
     Group.ECLIPSES: "Eclipses and transits are of spheres, in km: Sun 695700, Moon 1737.4, Earth 6378.1, and for its "
     "shadow 6442.4. A solar eclipse is central while the shadow's axis passes within 6350 km of the Earth's centre.",
-    Group.PLANETS: "Oppositions, conjunctions with the Sun and stations are of ecliptic longitude of date. From Jupiter "
-    "on, planets are the barycentres of their systems.",
+    Group.PLANETS: "Oppositions, conjunctions with the Sun and stations are of ecliptic longitude of date. From "
+    "Jupiter on, planets are the barycentres of their systems.",
     Group.MEETINGS: "Planets meet where they have one right ascension of date.",
-    Group.MOON_MEETINGS: "The Moon passes a planet at one right ascension of date, and covers it where any place on Earth "
-    "may see so.",
+    Group.MOON_MEETINGS: "The Moon passes a planet at one right ascension of date, and covers it where any place on "
+    "Earth may see so.",
 }
 # What the moments of an eclipse are.
 MOMENTS = {
@@ -63,7 +64,7 @@ def window_text(contact: Contact) -> str:
 
 
 def warning(contacts: Sequence[Contact]) -> str:
-    """What is said where a window is undecided, or where no time was found near it, and why; nothing where neither is."""
+    """What is said where a window is undecided, or where no time was found near it, and why; else nothing."""
     said = [UNDECIDED] if any(contact.status is Status.UNDECIDED for contact in contacts) else []
     said += [f"{UNSOLVED}: {contact.reason}" for contact in contacts if contact.seen is None]
     return "; ".join(dict.fromkeys(said))
@@ -84,8 +85,8 @@ def notes(found: Almanac, clock: Clock) -> list[str]:
         )
     first, last = (spans.time_text(seconds) for seconds in (found.first_searched, found.last_searched))
     made.append(
-        f"Windows were searched for from {first} to {last} (TDB), by {found.searches} searches. An event that is seen in "
-        "this span, and whose window is outside of that, is not here."
+        f"Windows were searched for from {first} to {last} (TDB), by {found.searches} searches. An event that is seen "
+        "in this span, and whose window is outside of that, is not here."
     )
     return made
 

@@ -62,10 +62,9 @@ class Observed:
     ) -> list[Contact]:
         """Each window of a search with its name and the time at which it is seen."""
         times = seen(found, phases=phases, arrival=arrival, series=self.series)
-        rows = zip(found, label(times.turn), times.seconds.tolist(), times.reasons)
-        return [
-            Contact(name, window, found.request, None if np.isnan(at) else at, reason) for window, name, at, reason in rows
-        ]
+        seconds = [None if np.isnan(at) else at for at in times.seconds.tolist()]
+        rows = zip(label(times.turn), found, seconds, times.reasons)
+        return [Contact(name, window, found.request, at, reason) for name, window, at, reason in rows]
 
 
 class Recipe(Protocol):

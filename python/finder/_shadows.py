@@ -86,8 +86,8 @@ def _cone(along: float, far: float, moon: float) -> float:
 
 
 def kind_of(off: float, umbra: float) -> EclipseKind:
-    """The kind of a solar eclipse whose axis passes so far from the Earth's centre, and whose umbra has such a radius in
-    the plane through it, below 0 for a total one, both in radii of the Earth."""
+    """The kind of a solar eclipse whose axis passes so far from the Earth's centre, and whose umbra has such a radius
+    in the plane through it, below 0 for a total one, both in radii of the Earth."""
     if off > FLAT + abs(umbra):
         return EclipseKind.PARTIAL
     if umbra < 0:

@@ -59,7 +59,8 @@ tr.moment td.what{font-weight:400;color:var(--soft)}tr.moment td.what::before{vi
 tr.moment:has(+tr:not(.moment)) td,tr.moment:last-child td{border-bottom:1px solid var(--line);padding-bottom:6px}
 tr.several td{border-bottom:0}
 tr.eclipses td{background:var(--tint)}
-footer{margin-top:44px;border-top:1px solid var(--line);padding-top:14px;color:var(--soft);font-size:14px;max-width:92ch}
+footer{margin-top:44px;border-top:1px solid var(--line);padding-top:14px;color:var(--soft);font-size:14px;
+max-width:92ch}
 footer b{color:var(--ink)}footer code{font-size:12px;overflow-wrap:anywhere}
 """
 

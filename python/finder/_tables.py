@@ -114,7 +114,9 @@ def _contact_of(contact: Contact, clock: Clock) -> dict[str, Any]:
     if contact.window is not None:
         first, last, turn = contact.window
         window = {"first": spans.time_text(first), "last": spans.time_text(last), "turn": turn}
-    seen = None if contact.seen is None else {clock.scale.value: clock.iso(contact.seen), "tdb_s": round(contact.seen, 3)}
+    seen: Optional[dict[str, Any]] = None
+    if contact.seen is not None:
+        seen = {clock.scale.value: clock.iso(contact.seen), "tdb_s": round(contact.seen, 3)}
     return {
         "name": contact.name,
         "status": contact.status.value,

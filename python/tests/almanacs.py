@@ -1,11 +1,12 @@
 """The almanac of 2000 that several tests look at, and programs that stand in for the command."""
 
+import datetime
 import functools
 import importlib.util
 import os
 
 import finder
-from finder._almanac import almanac_of_seconds
+from finder._almanac import Machine, almanac_of_seconds
 from finder._program import runs_of
 from finder._scales import UTC
 from tests.common import PROGRAM, YEAR, stand_in
@@ -38,7 +39,8 @@ def almanac_of(year, groups=tuple(finder.Group), files=(YEAR,), program=PROGRAM,
     """The almanac of a year of UTC."""
     span = CLOCK.start_of(year), CLOCK.start_of(year + 1)
     names = [os.fspath(file) for file in files]
-    return almanac_of_seconds(names, span, f"Almanac {year}", groups, 1, runs_of(program, None), progress)
+    machine = Machine(names, runs_of(program, None), 1, progress)
+    return almanac_of_seconds(machine, *span, f"Almanac {year}", groups)
 
 
 @functools.lru_cache(maxsize=None)
@@ -59,8 +61,6 @@ def wide_moon(folder):
 
 def moment(text):
     """The seconds of a time of 2000 in UTC, as `0106 1814`."""
-    import datetime
-
     return CLOCK.seconds_of(datetime.datetime.strptime(f"2000{text}", "%Y%m%d %H%M"))
 
 

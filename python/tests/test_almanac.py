@@ -1,9 +1,8 @@
 """The entries of an almanac of examples/de405-2000.asc, by values that others printed.
 
-Phases and seasons: US Naval Observatory, Phases of the Moon and Earth's Seasons for 2000, to the minute of UT. Eclipses:
-F. Espenak, Solar and Lunar Eclipses of 2000 (NASA Reference Publication, and the Five Millennium Catalogs): gamma,
-magnitude, contacts. Elongations of Mercury, oppositions and stations: Astronomical Phenomena for 2000 (US Naval
-Observatory), to the degree and the day. Kinds of solar eclipses: J. Meeus, Astronomical Algorithms, chapter 54.
+Phases and seasons: US Naval Observatory, Phases of the Moon and Earth's Seasons for 2000, to the minute of UT.
+Eclipses: F. Espenak, NASA, eclipses of 2000, and the Five Millennium Catalogs: gamma, magnitude, contacts. Elongations
+of Mercury, oppositions and stations: Astronomical Phenomena for 2000 (US Naval Observatory), to the degree and the day. Kinds of solar eclipses: J. Meeus, Astronomical Algorithms, chapter 54.
 Almanacs round to a minute, so a minute is allowed, and for an eclipse as much as their shadows differ.
 """
 
@@ -156,7 +155,7 @@ class Unproved(InFolder):
         self.assertIn("files end", entries[1].contacts[0].reason)
 
     def test_a_transit(self):
-        """Mercury passes the Sun at 3.7 degrees on 1 March (Astronomical Phenomena): it touches it with such a radius."""
+        """Mercury passes the Sun at 3.7 degrees on 1 March (Astronomical Phenomena): such a radius touches it."""
         recipe = Transits("mercury")
         with mock.patch.dict("finder._eclipses.RADII", mercury=5_690_000.0):
             searches = recipe.searches

@@ -2,6 +2,7 @@
 
 import concurrent.futures
 import contextlib
+import logging
 import unittest
 
 import finder
@@ -54,8 +55,10 @@ class Executors(InFolder):
         from distributed import Client, LocalCluster
 
         with contextlib.ExitStack() as stack:
-            cluster = LocalCluster(n_workers=1, threads_per_worker=2, processes=True, dashboard_address=None, silence_logs=50)
-            client = stack.enter_context(Client(stack.enter_context(cluster)))
+            # (the workers would log each refusal)
+            quiet = {"dashboard_address": None, "silence_logs": logging.CRITICAL}
+            cluster = stack.enter_context(LocalCluster(n_workers=1, threads_per_worker=2, processes=True, **quiet))
+            client = stack.enter_context(Client(cluster))
             self.check(client.get_executor())
 
     def test_progress_counts_files_that_the_span_does_not_reach(self):

@@ -67,6 +67,14 @@ class Executors(InFolder):
         self.assertEqual(sum(steps), len(self.files))
         self.assertEqual(steps[0], len(self.files) - 1)
 
+    def test_stretches_that_meet_are_joined(self):
+        """As `docs/MANY-MACHINES.md` keeps them, as texts."""
+        days = "1999-12-24", "2000-03-10", "2000-09-20", "2001-01-11"
+        kept = [self.over(finder.apsides, *MOON, start=one, end=other).text for one, other in zip(days, days[1:])]
+        self.assertEqual(finder.join(map(finder.Windows.of_text, kept)), self.whole)
+        with self.assertRaises(finder.WrongParts):
+            finder.join(map(finder.Windows.of_text, kept[::2]))
+
     def test_a_search_that_fails_cancels_those_that_wait(self):
         program = stand_in(self.folder, f'[ "$1" = check ] && exec {PROGRAM} "$@"\necho run >>{self.folder}/runs\nexit 9')
         with concurrent.futures.ThreadPoolExecutor(1) as pool, self.assertRaises(finder.TooManyLeaves):

@@ -29,6 +29,7 @@ is rounded down and `end` up. A number is an int, a decimal text, a `Decimal`, a
 astropy quantity. Each refusal is an exception with the command's status and its line: `FinderError` and those below it.
 """
 
+from ._files import WrongFiles
 from ._intervals import Interval, intervals, on_at_start
 from ._names import names
 from ._numbers import cosine_of_degrees
@@ -71,6 +72,8 @@ from ._values import Place, Values, values
 from ._windows import Window, Windows
 from .spans import NoProgram, Summary, WrongParts, WrongReport
 
+__version__ = "0.1"
+
 __all__ = [
     "EventRefused",
     "FileFault",
@@ -97,6 +100,7 @@ __all__ = [
     "Windows",
     "WordsRefused",
     "WriteFailed",
+    "WrongFiles",
     "WrongParts",
     "WrongReport",
     "WrongSets",

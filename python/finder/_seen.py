@@ -15,7 +15,8 @@ from . import spans
 from ._curves import Curve
 from ._roots import roots
 from ._search import Body, Files
-from ._series import J2000_DATE, Series
+from ._files import J2000_DATE
+from ._series import Series
 from ._sky import Sky
 from ._times import J2000
 from ._vectors import Floats, floats, longitude, wrapped

@@ -8,7 +8,8 @@ from typing import Any
 import numpy as np
 
 from . import spans
-from ._series import J2000_DATE, Series
+from ._files import J2000_DATE
+from ._series import Series
 from ._vectors import Floats, floats, length
 
 # The speed of light in km/s.

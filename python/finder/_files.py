@@ -10,7 +10,7 @@ from pathlib import Path
 import numpy as np
 
 from . import spans
-from ._search import Files, file_names
+from ._search import Files, some_names
 from ._vectors import Floats, floats
 
 J2000_DATE = 2_451_545.0
@@ -62,7 +62,7 @@ def seconds_of(date: float) -> float:
 def read(files: Files, start: float, end: float) -> Contents:
     """Reads files, and keeps the blocks that reach into a span, in seconds since J2000 (TDB). `WrongFiles` where no
     header stands first, the files are of two series, not in order of time, or have no block of the span."""
-    names = file_names(files)
+    names = some_names(files)
     _refuse_names(names)
     texts = [Path(name).read_bytes() for name in names]
     text = b"\n".join(texts)

@@ -84,7 +84,12 @@ def file_names(files: Files) -> list[str]:
         return [_file_name(files)]
     if files is None or hasattr(files, "read") or isinstance(files, bytes) or not isinstance(files, Iterable):
         raise TypeError(f"files are a name, a path, or several of them in order of time, and not {_shown(files)}")
-    names = [_file_name(file) for file in files]
+    return [_file_name(file) for file in files]
+
+
+def some_names(files: Files) -> list[str]:
+    """The names of files, of which there is one at least."""
+    names = file_names(files)
     if not names:
         raise ValueError("no file is named: a name, a path, or several of them in order of time are wanted")
     return names
@@ -120,7 +125,7 @@ def _refuse_words(options: dict[str, Any], kinds: tuple[str, ...]) -> None:
 def _said(command: str, options: dict[str, Any], files: Files, program: Program, timeout: Optional[float]) -> str:
     """What a command prints for these options of files."""
     words = [f"--{name}={value}" for name, value in options.items() if value is not None]
-    return runs_of(program, timeout).run([command, *words, "--", *file_names(files)])
+    return runs_of(program, timeout).run([command, *words, "--", *some_names(files)])
 
 
 def _is_answer(report: Union[spans.Report, TimeSet], options: dict[str, Any]) -> bool:
@@ -259,7 +264,7 @@ def _time_word(time: Optional[Time], tick: int, up: bool) -> Optional[str]:
 
 def check(files: Files, *, program: Program = None, timeout: Optional[float] = None) -> Summary:
     """The span, the blocks and the columns of files, which are read by all rules of their format."""
-    return spans.read_summary(runs_of(program, timeout).run(["check", "--", *file_names(files)]))
+    return spans.read_summary(runs_of(program, timeout).run(["check", "--", *some_names(files)]))
 
 
 def coordinate(files: Files, target: Body, axis: Axis, value: Number = 0, **options: Unpack[Options]) -> Windows:

@@ -30,8 +30,8 @@ def place_program(folder: Path) -> Path:
     found = [path for path in (HERE / "finder" / PROGRAM, HERE.parent / "release" / PROGRAM) if path.is_file()]
     if not found:
         raise SystemExit(
-            f"the program {PROGRAM} is neither in ../release nor in finder/: build from a clone of the repository, by a "
-            "pip of at least 21.3, or from a source distribution"
+            f"the program {PROGRAM} is neither in ../release nor in finder/: build from a clone of the repository, "
+            "with pip 21.3 or later, or from a source distribution"
         )
     folder.mkdir(parents=True, exist_ok=True)
     copy = Path(shutil.copyfile(found[0], folder / PROGRAM))

@@ -40,8 +40,8 @@ class Block:
 
 @dataclass(frozen=True)
 class Contents:
-    """What was read of files: the words of the header, the numbers of the blocks of a span, a row for each, and the span
-    of all blocks, in seconds since J2000 (TDB)."""
+    """What was read of files: the words of the header, the numbers of the blocks of a span, a row for each, and the
+    span of all blocks, in seconds since J2000 (TDB)."""
 
     header: list[bytes]
     blocks: Floats
@@ -124,7 +124,9 @@ def _blocks(text: bytes, after: int, count: int, file_at: Callable[[int], str]) 
     for found, stop in zip(heads, [later.start() for later in heads[1:]] + [len(text)]):
         name, begin = file_at(found.start()), found.end()
         if int(found[1]) != count:
-            raise WrongFiles(f"{name} has blocks of {int(found[1])} numbers, and the header says {count}: another series")
+            raise WrongFiles(
+                f"{name} has blocks of {int(found[1])} numbers, and the header says {count}: they are of two series"
+            )
         dates = [number_of(word.decode()) for word in text[begin : begin + DATES].split()[:2]]
         if len(dates) < 2:
             raise WrongFiles(f"a block of {name} is cut off: finder.check says where")

@@ -51,7 +51,7 @@ OF_OPTION = {
     "observer": "observer= is a body or 'ssb'",
     "frame": "frame= is 'eq' or 'ecl', and the kinds coord, conj, oppo and station alone have one",
     "axis": "axis= is 'x', 'y' or 'z', and the kind coord alone needs one",
-    "ref": "ref= is a decimal of at most 18 digits, and the kinds coord, radius and sep alone have one (km; of sep a cosine)",
+    "ref": "ref= is a decimal of at most 18 digits (km; of sep a cosine), for the kinds coord, radius and sep alone",
     "ref2": "ref2= is a decimal of at most 18 digits above ref=, for the relations within and outside alone",
     "relation": "relation= is 'less', 'atleast', 'within' or 'outside'",
     "radius1": "radii= is a pair of decimals in km, and the kinds any, full and annular alone need one",

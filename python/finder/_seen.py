@@ -72,7 +72,7 @@ class SeenCurve(Curve):
 
 
 class Seen:
-    """When the events of `found`, the windows of a search, are seen: a time beside each window, in doubles and unproved.
+    """When the events of `found`, the windows of a search, are seen: a time beside each, in doubles and unproved.
 
     `seconds` are those since J2000 (TDB), NaN where no time was found near the window; `missing` is the mask of these,
     and `reasons` says of each why, or is the empty text. `turn` is that of each window, and of an undecided one that of
@@ -134,7 +134,8 @@ class Seen:
 
 
 def middles(found: Windows) -> Floats:
-    """The middles of windows in seconds since J2000: the event is after the tick before the first and up to the last."""
+    """The middles of windows in seconds since J2000 (TDB): an event is after the tick before the first, up to the
+    last."""
     return floats((found.first - 1.0 + found.last) / 2 / found.tick)
 
 
@@ -205,14 +206,15 @@ def _series_near(found: Windows, files: Optional[Files], series: Optional[Series
         raise TypeError("the files of the search are wanted, or a series of them")
     kind = found.asked["kind"]
     # (light comes from some hours before)
-    pad = float((found.last - found.first).max()) / found.tick + REACH[kind] + (MOST if kind == "coord" else 0) + spans.DAY
+    pad = REACH[kind] + (MOST if kind == "coord" else 0) + spans.DAY
+    pad += float((found.last - found.first).max()) / found.tick
     return Series(files, float(middle.min()) - pad, float(middle.max()) + pad)
 
 
 def _signs(curve: Curve, found: Windows, middle: Floats) -> Floats:
     """The direction of each window: 1 where its function grows past 0, -1 where it falls below. Of an undecided one of
-    at most a minute it is that in which the function turns about it, and 0 where it does not, or not in a direction that
-    was asked for: of some thousand windows one is undecided, and mostly has its event."""
+    at most a minute it is that in which the function turns about it, and 0 where it does not, or not in a direction
+    that was asked for: of some thousand windows one is undecided, and mostly has its event."""
     sign = np.select([found.turn == "rise", found.turn == "fall"], [1.0, -1.0], 0.0)
     left = np.flatnonzero(~found.certain & (found.last - found.first < MINUTE * found.tick))
     if len(left):

@@ -59,8 +59,8 @@ def _of_datetime(time: datetime.datetime) -> Fraction:
     """The seconds of a `datetime` without a zone; a `Timestamp` of pandas is one, with nanoseconds."""
     if time.tzinfo is not None:
         raise TypeError(
-            "a time with a zone is of UTC, and times are TDB: write astropy.time.Time(..), which is turned into TDB, or "
-            "leave the zone out where it is TDB"
+            "a time with a zone is of UTC, and times are TDB: write astropy.time.Time(..), which is turned into TDB, "
+            "or leave the zone out where it is TDB"
         )
     if hasattr(time, "to_datetime64"):
         return _of_datetime64(time.to_datetime64())

@@ -68,8 +68,8 @@ def warn_of_barycentre(kind: str, target: str, observer: Optional[str]) -> None:
     """Warns where nobody named an observer, for what is asked from a planet or, of the Moon, from the Earth."""
     if observer is None and (kind in DIRECTIONS or (kind in DISTANCES and target == "moon")):
         text = (
-            f"no observer is named, so that {kind} is searched for from the barycentre of the solar system: what is seen "
-            "from the Earth has observer='earth'; observer='ssb' is the barycentre without a warning"
+            f"no observer is named, so that {kind} is searched for from the barycentre of the solar system: write "
+            "observer='earth' for what is seen from the Earth, and observer='ssb' for the barycentre without a warning"
         )
         warnings.warn(text, BarycentreWarning, stacklevel=_level_of_caller())
 

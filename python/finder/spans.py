@@ -18,8 +18,8 @@ counts are wrong, reports of different requests, and any that are not those of t
 none twice, none that overlap or leave times out. Nothing is printed then.
 
 TIME is a time of TDB as `finder` takes it: `2000-05-01T00:00:00`, with three digits more where a search counts
-milliseconds, or a whole number of seconds since J2000. The command is $FINDER, or the one that was installed beside this
-file, or the clone's that this file is in, or `finder` on the path.
+milliseconds, or a whole number of seconds since J2000. The command is $FINDER, or the one that was installed beside
+this file, or the clone's that this file is in, or `finder` on the path.
 
 Status: 0; 1 refused, and standard error says why; 2 the words; 3 a file could not be read, or standard output failed.
 """

@@ -77,7 +77,10 @@ def kernel_of_year():
     return Kernel()
 
 
-@unittest.skipUnless(importlib.util.find_spec("skyfield") and importlib.util.find_spec("erfa"), "no skyfield or no erfa")
+HERE = importlib.util.find_spec("skyfield") and importlib.util.find_spec("erfa")
+
+
+@unittest.skipUnless(HERE, "skyfield or erfa is not here")
 class BesideSkyfield(InFolder):
     @classmethod
     def setUpClass(cls):
@@ -184,8 +187,8 @@ class BesideSkyfield(InFolder):
 
             def covered(time, sign=sign):
                 earth, sun = self.apparent("earth", time, "moon"), self.apparent("sun", time, "moon")
-                discs = [np.degrees(np.arcsin(radius / each.distance().km)) for radius, each in zip(radii, (earth, sun))]
-                return discs[0] + sign * discs[1] > earth.separation_from(sun).degrees
+                one, other = (np.arcsin(radius / each.distance().km) for radius, each in zip(radii, (earth, sun)))
+                return one + sign * other > earth.separation_from(sun).radians
 
             found = finder.occultations(YEAR, "earth", "sun", radii, kind=kind, observer="moon", **span)
             self.assert_beside(found, self.turns(covered, 0.01, 19.0, 20.0)[0])

@@ -15,7 +15,10 @@ STATIONS = (
     "span 2000-01-01T00:00:00 2000-12-31T00:00:00\n"
 )
 DISCS = "FIND {} target {} second sun observer {} frame eq axis - values {},695700 dir any width 1 depth 40 cut half "
-SPAN = "span 2000-01-01T00:00:00 2000-12-31T00:00:00\nC 2000-02-21T00:00:00 2000-02-21T00:00:00 rise\nEND certain 1 undecided 0\n"
+SPAN = (
+    "span 2000-01-01T00:00:00 2000-12-31T00:00:00\nC 2000-02-21T00:00:00 2000-02-21T00:00:00 rise\n"
+    "END certain 1 undecided 0\n"
+)
 
 
 def has(name):
@@ -24,7 +27,7 @@ def has(name):
 
 class Numbers(InFolder):
     def test_what_an_event_says_of_itself(self):
-        """At an opposition longitudes differ by 180 degrees, at a node the latitude is 0, at a distance it is that one."""
+        """At an opposition longitudes differ by 180 degrees, at a node the latitude is 0, a distance is that one."""
         found = finder.oppositions(YEAR, "saturn", **ECL)
         numbers = finder.values(found, YEAR)
         self.assertAlmostEqual(abs(numbers.target.lon[0] - numbers.second.lon[0]), 180, delta=1e-5)
@@ -82,7 +85,7 @@ class Numbers(InFolder):
 
 class Intervals(InFolder):
     def test_rise_and_fall(self):
-        """Jupiter moves forward at the begin of the year 2000, turns back in September, and has not turned at its end."""
+        """Jupiter moves forward at the begin of 2000, turns back in September, and has not turned at its end."""
         found = finder.stations(YEAR, "jupiter", start="2000-01-01", end="2001-01-01", **ECL)
         held = finder.intervals(found)
         self.assertEqual(held, [finder.Interval(None, found[0])])
@@ -164,7 +167,10 @@ class Names(InFolder):
                 ["station in right ascension, turns direct", "station in right ascension, turns retrograde"],
             ),
             (finder.coordinate(YEAR, "moon", "z", **ECL), ["ascending node", "descending node"]),
-            (finder.separation(YEAR, "venus", "jupiter", degrees=1, **EARTH), ["comes within the angle", "leaves the angle"]),
+            (
+                finder.separation(YEAR, "venus", "jupiter", degrees=1, **EARTH),
+                ["comes within the angle", "leaves the angle"],
+            ),
             (finder.separation_extremes(YEAR, "mars", "jupiter", dir="fall", **EARTH), ["closest approach"]),
             (
                 finder.occultations(YEAR, "mercury", "sun", (2439.4, 695_700), observer="jupiter"),

@@ -121,8 +121,8 @@ class Almanacs(InFolder):
 
 
 def shadow(sky, times):
-    """How far the axis of the Moon's shadow passes the Earth's centre in radii of the Earth, below 0 in the south, how far
-    the Moon is from the plane through it across the axis, and the Moon from the Sun, in the same unit."""
+    """How far the axis of the Moon's shadow passes the Earth's centre in radii of the Earth, below 0 in the south, how
+    far the Moon is from the plane through it across the axis, and the Moon from the Sun, in the same unit."""
     moon, sun = (sky.seen(body, "earth", "eq", times) / 6_378.137 for body in ("moon", "sun"))
     far = np.sqrt(((moon - sun) ** 2).sum(axis=0))
     toward = (moon - sun) / far

@@ -27,7 +27,7 @@ def windows(*lines):
 
 class Unsolved(InFolder):
     def test_a_file_that_ends_within_light_time(self):
-        """What is seen before light from Uranus can have set out in the file is named, and what is seen later solved."""
+        """What is seen before light from Uranus can have set out in the file is named, what is seen later solved."""
         header, files = split_year(self.folder)
         part, whole = finder.Series([header, files[1]]), finder.Series(YEAR)
         sky = finder.Sky(whole, of_date=False)
@@ -52,8 +52,8 @@ class Unsolved(InFolder):
         self.assertEqual(outcomes, {True, False})
 
     def test_two_windows_have_no_time_in_common(self):
-        """The new moon of 6 January is seen 106 seconds before its window. Of two windows about it the nearer one has its
-        time, and of an undecided and a certain one the certain one."""
+        """The new moon of 6 January is seen less than a minute before its window. Of two windows about it the nearer
+        one has its time, and of an undecided and a certain one the certain one."""
         near, far = "C 2000-01-06T18:15:27 2000-01-06T18:15:27 fall", "C 2000-01-06T18:20:00 2000-01-06T18:20:00 fall"
         seen = finder.seen(windows(near, far), YEAR, of_date=False)
         self.assertEqual(seen.missing.tolist(), [False, True])
@@ -76,7 +76,8 @@ class Unsolved(InFolder):
 
     def test_where_nothing_is_near(self):
         """A new moon in the midst of a month, and one that rises, are none."""
-        found = windows("C 2000-01-21T00:00:00 2000-01-21T00:00:00 fall", "C 2000-02-05T13:05:03 2000-02-05T13:05:03 rise")
+        midst = "C 2000-01-21T00:00:00 2000-01-21T00:00:00 fall"
+        found = windows(midst, "C 2000-02-05T13:05:03 2000-02-05T13:05:03 rise")
         seen = finder.seen(found, YEAR, of_date=False)
         self.assertEqual(seen.missing.tolist(), [True, True])
         for reason in seen.reasons:
@@ -163,7 +164,8 @@ class Refusals(InFolder):
         """Only the blocks of a span are kept, whose places are those of the whole; outside of them there are none."""
         header, files = split_year(self.folder)
         whole, part = finder.Series(YEAR), finder.Series([header, *files], 0.0, 86_400.0 * 40)
-        self.assertEqual((time_text(int(part.start)), time_text(int(part.end))), ("1999-12-24T00:00:00", "2000-02-26T00:00:00"))
+        ends = time_text(int(part.start)), time_text(int(part.end))
+        self.assertEqual(ends, ("1999-12-24T00:00:00", "2000-02-26T00:00:00"))
         self.assertEqual((part.files_start, part.files_end), (whole.start, whole.end))
         times = np.linspace(part.start, part.end, 1_000)[:-1]
         for body in ("moon", "earth", "mercury", "pluto", "ssb"):

@@ -11,7 +11,7 @@ import shutil
 import sysconfig
 from pathlib import Path
 
-from setuptools import setup
+from setuptools import Distribution, setup
 from setuptools.command.build_py import build_py
 from setuptools.command.sdist import sdist
 
@@ -60,15 +60,21 @@ class SourceWithProgram(sdist):
         place_program(Path(base_dir, "finder"))
 
 
+class WithProgram(Distribution):
+    """What is built holds more than Python where it holds the program."""
+
+    def has_ext_modules(self) -> bool:
+        return RUNS_HERE
+
+
 class WheelOfPlatform(bdist_wheel):
     """Makes a wheel that says for which machines its program is; it is of every Python 3."""
-
-    def finalize_options(self) -> None:
-        super().finalize_options()
-        self.root_is_pure = not RUNS_HERE
 
     def get_tag(self) -> tuple[str, str, str]:
         return ("py3", "none", "linux_x86_64") if RUNS_HERE else ("py3", "none", "any")
 
 
-setup(cmdclass={"build_py": BuildWithProgram, "sdist": SourceWithProgram, "bdist_wheel": WheelOfPlatform})
+setup(
+    distclass=WithProgram,
+    cmdclass={"build_py": BuildWithProgram, "sdist": SourceWithProgram, "bdist_wheel": WheelOfPlatform},
+)

@@ -70,11 +70,13 @@ from ._sets import Span, Spans, TimeSet, WrongSets
 from ._sky import NoErfa, Sky
 from ._values import Place, Values, values
 from ._windows import Window, Windows
+from ._words import BarycentreWarning
 from .spans import NoProgram, Summary, WrongParts, WrongReport
 
 __version__ = "0.1"
 
 __all__ = [
+    "BarycentreWarning",
     "EventRefused",
     "FileFault",
     "FinderError",

@@ -8,6 +8,7 @@ Causes = tuple[str, ...]
 AGAIN = "the file was changed, or cut off while it was fetched: fetch it again"
 NOT_JPL = "it is no ASCII file of JPL's: a binary or a compressed one, or a page that was saved in its place"
 HEADER: Causes = (AGAIN, "it is of a layout that is not read: docs/FORMATS.md has those that are")
+CERTIFICATE: Causes = ("the certificate was changed, or is of another request: have it made again",)
 MANY = "the span is too long for one search: finder.over_files searches file by file"
 # By the number of a refusal (docs/FORMATS.md).
 OF_NUMBER: dict[int, Causes] = {
@@ -43,6 +44,11 @@ OF_NUMBER: dict[int, Causes] = {
     60: ("the package and the command are of two versions",),
     61: ("the package and the command are of two versions",),
     62: ("the package and the command are of two versions",),
+    70: CERTIFICATE,
+    71: CERTIFICATE,
+    72: CERTIFICATE,
+    73: ("the files are not those of which the certificate is", *CERTIFICATE),
+    74: ("the certificate is cut off: fetch it again", *CERTIFICATE),
 }
 # By the option of a value that is refused: what Python has for it, and its form.
 OF_OPTION = {

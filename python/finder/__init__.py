@@ -31,6 +31,7 @@ astropy quantity. Each refusal is an exception with the command's status and its
 
 from ._almanac import SpanNotHeld, almanac
 from ._entries import Almanac, Contact, Entry, Event, Group, Numbers, Status
+from ._files import WrongFiles
 from ._intervals import Interval, intervals, on_at_start
 from ._names import names
 from ._numbers import cosine_of_degrees
@@ -73,10 +74,14 @@ from ._sets import Span, Spans, TimeSet, WrongSets
 from ._sky import NoErfa, Sky
 from ._values import Place, Values, values
 from ._windows import Window, Windows
+from ._words import BarycentreWarning
 from .spans import NoProgram, Summary, WrongParts, WrongReport
+
+__version__ = "0.1"
 
 __all__ = [
     "Almanac",
+    "BarycentreWarning",
     "Clock",
     "Contact",
     "Entry",
@@ -112,6 +117,7 @@ __all__ = [
     "Windows",
     "WordsRefused",
     "WriteFailed",
+    "WrongFiles",
     "WrongParts",
     "WrongReport",
     "WrongSets",

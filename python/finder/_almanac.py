@@ -17,11 +17,12 @@ from . import spans
 from ._eclipses import eclipses
 from ._entries import PLANETS, Almanac, Curves, Entry, Group
 from ._events import meetings, moon_and_seasons, planets
+from ._files import WrongFiles
 from ._observed import Observed, Recipe, Search
 from ._parts import Progress, results
 from ._program import Program, Runs, runs_of
 from ._search import Files, check, file_names
-from ._series import Series, refuse_order
+from ._series import Series
 from ._sky import erfa_package
 from ._times import Time, ticks_of_time
 from ._vectors import Floats, length, longitude, wrapped
@@ -35,8 +36,8 @@ YEAR = 365.25 * spans.DAY
 PAD = 25.0
 
 
-class SpanNotHeld(ValueError):
-    """The files do not hold the span of an almanac."""
+class SpanNotHeld(WrongFiles):
+    """The files do not hold all of the span of an almanac."""
 
 
 def recipes(groups: Iterable[Group]) -> list[Recipe]:
@@ -67,7 +68,7 @@ def almanac(
 
     `groups` are those that are looked for. Searches are processes of their own, `jobs` of them at once; `progress` is
     called with 1 after each. It wants the package erfa, which comes with astropy: `NoErfa` where it is not there, and
-    `SpanNotHeld` where the files do not hold the span, both before any search.
+    `WrongFiles` where the files are not one series in order of time or do not hold the span, both before any search.
     """
     first, last = (ticks_of_time(time, 1_000, up=False) / 1_000 for time in (start, end))
     machine = Machine(file_names(files), runs_of(program, timeout), jobs, progress)
@@ -100,11 +101,12 @@ def almanac_of_seconds(machine: Machine, start: float, end: float, title: str, g
     erfa_package()
     files = machine.files
     have = check(files, program=machine.runs)
-    refuse_order(files)
-    begin, stop = _searched(start, end, have)
+    margin = (MARGIN + MARGIN_OF_YEAR * max(abs(start), abs(end)) / YEAR) * spans.DAY
+    around = margin + PAD * spans.DAY
+    observed = Observed(Series(files, start - around, end + around))
+    begin, stop = _searched(start, end, margin, have)
     made = recipes(groups)
     found = machine.found([search for recipe in made for search in recipe.searches], begin, stop)
-    observed = Observed(Series(files, begin - PAD * spans.DAY, stop + PAD * spans.DAY))
     entries: list[Entry] = []
     count = 0
     for recipe in made:
@@ -117,8 +119,8 @@ def almanac_of_seconds(machine: Machine, start: float, end: float, title: str, g
     return Almanac(title, start, end, tuple(inside), looked_for, count, tuple(files), begin, stop, curves)
 
 
-def _searched(start: float, end: float, have: spans.Summary) -> tuple[int, int]:
-    """The seconds in which events are searched for: the span and a margin, as far as the files go."""
+def _searched(start: float, end: float, margin: float, have: spans.Summary) -> tuple[int, int]:
+    """The seconds in which events are searched for: the span and a margin on both sides, as far as the files go."""
     if not start < end:
         raise ValueError("an almanac ends after it starts")
     if start < have.start or end > have.end:
@@ -126,8 +128,7 @@ def _searched(start: float, end: float, have: spans.Summary) -> tuple[int, int]:
             f"the files hold {spans.time_text(have.start)} to {spans.time_text(have.end)} (TDB), and not all of "
             f"{spans.time_text(round(start))} to {spans.time_text(round(end))}"
         )
-    margin = MARGIN + MARGIN_OF_YEAR * max(abs(start), abs(end)) / YEAR
-    return max(int(start - margin * spans.DAY), have.start), min(int(end + margin * spans.DAY), have.end)
+    return max(int(start - margin), have.start), min(int(end + margin), have.end)
 
 
 def _curves(observed: Observed, start: float, end: float) -> Curves:

@@ -5,7 +5,8 @@ from __future__ import annotations
 import numpy as np
 
 from . import spans
-from ._series import Series, number_of
+from ._files import number_of
+from ._series import Series
 from ._vectors import Floats, angle, disc, floats, length, longitude, wrapped
 
 # The seconds on each side by which the change of a direction is taken.

@@ -47,9 +47,10 @@ def intervals(
 ) -> list[Interval]:
     """The times at which a search's function is 0 or more, in order: each rise with the fall after it.
 
-    That is while the coordinate or the distance is at least the value, the distance grows (`apsis`), the longitude grows
-    (`station`), the angle is at most the one of the value (`sep`), it grows smaller (`sepext`), and one disc covers a
-    part of the other, covers all of it, or lies within it. Conjunctions and oppositions are moments, and refused.
+    That is while the coordinate or the distance is at least the value, the distance grows (`apsis`), the longitude
+    grows (`station`), the angle is at most the one of the value (`sep`), it grows smaller (`sepext`), and one disc
+    covers a part of the other, covers all of it, or lies within it. Conjunctions and oppositions are moments, and
+    refused.
 
     It is proved as the windows are: of a search for both directions rises and falls take turns, so what holds on one
     side of a certain window is known. Where the first is a fall it was on at the span's start, and the first interval

@@ -13,8 +13,8 @@ from collections.abc import Sequence
 from typing import Optional, Union
 
 from . import spans
+from ._hints import TOO_LONG, causes_of, told
 
-Program = Union[str, "os.PathLike[str]", "Runs", None]
 # Seconds after which a wait begins anew: an interrupt that comes just before a wait begins is seen only when it ends.
 WAIT = 0.2
 NUMBERED = re.compile(r"(?:^|: )([0-9]+) ([A-Z][A-Za-z]*)(?: (\S+))?$")
@@ -53,6 +53,11 @@ class FinderError(Exception):
         """What follows the name: the option of 63, or the number of a bad number."""
         found = NUMBERED.search(self.line)
         return found[3] if found else None
+
+    @property
+    def hint(self) -> str:
+        """The likely causes, the likeliest first, and what to write instead."""
+        return told(causes_of(self.status, self.number, self.detail))
 
 
 class WordsRefused(FinderError, ValueError):
@@ -106,6 +111,11 @@ class Interrupted(FinderError):
 class TimedOut(FinderError, TimeoutError):
     """The search took longer than its `timeout`, and was ended."""
 
+    @property
+    def hint(self) -> str:
+        """The likely causes, the likeliest first, and what to write instead."""
+        return told(TOO_LONG)
+
 
 OF_STATUS: dict[int, type[FinderError]] = {
     2: WordsRefused,
@@ -131,7 +141,7 @@ def _end(process: subprocess.Popen[bytes]) -> None:
 class Runs:
     """The processes of one call, which end with it."""
 
-    def __init__(self, program: "Union[str, os.PathLike[str], None]", timeout: Optional[float]) -> None:
+    def __init__(self, program: Union[str, os.PathLike[str], None], timeout: Optional[float]) -> None:
         self._program = spans.find_program(program)
         self._timeout = timeout
         self._deadline = None if timeout is None else time.monotonic() + timeout
@@ -196,6 +206,9 @@ class Runs:
             self._stopped = True
             for process in self._live:
                 _end(process)
+
+
+Program = Union[str, os.PathLike[str], Runs, None]
 
 
 def _answer(status: int, out: bytes, err: bytes) -> str:

@@ -15,7 +15,8 @@ from . import spans
 from ._curves import Curve
 from ._roots import roots
 from ._search import Body, Files
-from ._series import J2000_DATE, Series
+from ._files import J2000_DATE
+from ._series import Series
 from ._sky import Sky
 from ._times import J2000
 from ._vectors import Floats, floats, longitude, wrapped
@@ -24,8 +25,8 @@ from ._windows import Window, Windows
 # The kinds of distances, which an almanac prints geometric, and those whose function does not depend on axes.
 GEOMETRIC = ("apsis", "radius")
 OF_ANGLES = ("sep", "sepext", "any", "full", "annular")
-# The seconds on both sides of a window within which an event is seen; where the function is slow, so many times the
-# estimate of its distance, up to the most.
+# The seconds on both sides of a window within which an event is seen: where two bodies move almost alike in longitude,
+# they may be seen to meet days from where their places do.
 REACH = {
     "apsis": 900.0,
     "radius": 900.0,
@@ -39,10 +40,10 @@ REACH = {
     "full": 0.1 * spans.DAY,
     "annular": 0.1 * spans.DAY,
 }
+# Precession moves a coordinate of a slow body by years in a century: there so many times the estimate of the distance
+# are added, up to the most.
 ESTIMATES = 4.0
-MOST = 30.0 * spans.DAY
-# Of slow bodies the equinox moves a coordinate by years in a century.
-MOST_OF_COORDINATES = 400.0 * spans.DAY
+MOST = 400.0 * spans.DAY
 # The seconds of an undecided window that is looked at, and those on both sides by which the turn of its function and
 # the changes of a function are taken.
 MINUTE = 60
@@ -71,7 +72,7 @@ class SeenCurve(Curve):
 
 
 class Seen:
-    """When the events of `found`, the windows of a search, are seen: a time beside each window, in doubles and unproved.
+    """When the events of `found`, the windows of a search, are seen: a time beside each, in doubles and unproved.
 
     `seconds` are those since J2000 (TDB), NaN where no time was found near the window; `missing` is the mask of these,
     and `reasons` says of each why, or is the empty text. `turn` is that of each window, and of an undecided one that of
@@ -133,7 +134,8 @@ class Seen:
 
 
 def middles(found: Windows) -> Floats:
-    """The middles of windows in seconds since J2000: the event is after the tick before the first and up to the last."""
+    """The middles of windows in seconds since J2000 (TDB): an event is after the tick before the first, up to the
+    last."""
     return floats((found.first - 1.0 + found.last) / 2 / found.tick)
 
 
@@ -164,24 +166,28 @@ def seen(
     not looked at. What is seen without a window near it is not found here.
     """
     _refuse(found, phases)
-    middle = middles(found)
     if len(found) == 0:
-        return Seen(found, middle, found.turn, ())
-    made = _series_near(found, files, series, middle)
-    kind, observer = found.asked["kind"], found.asked["observer"]
-    curve = Curve(made, found.asked) if kind in GEOMETRIC else SeenCurve(made, found.asked, of_date, bending, phases)
-    sign = _signs(curve, found, middle)
-    reach = _reach(curve, found, middle)
+        return Seen(found, np.empty(0), found.turn, ())
+    asked = found.asked
+    made = _series_near(found, files, series, middles(found))
+    curve = Curve(made, asked) if asked["kind"] in GEOMETRIC else SeenCurve(made, asked, of_date, bending, phases)
+    solved = _solved(curve, found)
+    if arrival is not None and arrival != asked["observer"]:
+        solved.seconds += Sky(made, of_date=False).light(asked["observer"], arrival, solved.seconds)
+    return solved
+
+
+def _solved(curve: Curve, found: Windows) -> Seen:
+    """The time near each window at which a function passes 0 in the window's direction, no two of them the same."""
+    middle = middles(found)
+    sign, reach = _signs(curve, found, middle), _reach(curve, found, middle)
     seconds = roots(lambda times, places: curve.at(times) * sign[places], middle, reach)
-    if kind in GEOMETRIC:
+    if found.asked["kind"] in GEOMETRIC:
         seconds = np.clip(seconds, (found.first - 1) / found.tick, found.last / found.tick)
     twice = _taken(seconds, sign, np.where(found.certain, abs(seconds - middle), np.inf))
     seconds[twice] = np.nan
-    reasons = _reasons(curve, found, seconds, twice, sign, reach)
     turn = np.where(np.isnan(seconds), found.turn, np.where(sign > 0, "rise", "fall"))
-    if arrival is not None and arrival != observer:
-        seconds += Sky(made, of_date=False).light(observer, arrival, seconds)
-    return Seen(found, seconds, turn, reasons)
+    return Seen(found, seconds, turn, _reasons(curve, found, seconds, twice, sign, reach))
 
 
 def _refuse(found: Windows, phases: bool) -> None:
@@ -199,15 +205,16 @@ def _series_near(found: Windows, files: Optional[Files], series: Optional[Series
     if files is None:
         raise TypeError("the files of the search are wanted, or a series of them")
     kind = found.asked["kind"]
-    most = ASIDE if kind in GEOMETRIC else MOST_OF_COORDINATES if kind == "coord" else MOST
-    pad = float((found.last - found.first).max()) / found.tick + REACH[kind] + most + spans.DAY
+    # (light comes from some hours before)
+    pad = REACH[kind] + (MOST if kind == "coord" else 0) + spans.DAY
+    pad += float((found.last - found.first).max()) / found.tick
     return Series(files, float(middle.min()) - pad, float(middle.max()) + pad)
 
 
 def _signs(curve: Curve, found: Windows, middle: Floats) -> Floats:
     """The direction of each window: 1 where its function grows past 0, -1 where it falls below. Of an undecided one of
-    at most a minute it is that in which the function turns about it, and 0 where it does not, or not in a direction that
-    was asked for: of some thousand windows one is undecided, and mostly has its event."""
+    at most a minute it is that in which the function turns about it, and 0 where it does not, or not in a direction
+    that was asked for: of some thousand windows one is undecided, and mostly has its event."""
     sign = np.select([found.turn == "rise", found.turn == "fall"], [1.0, -1.0], 0.0)
     left = np.flatnonzero(~found.certain & (found.last - found.first < MINUTE * found.tick))
     if len(left):
@@ -219,10 +226,10 @@ def _signs(curve: Curve, found: Windows, middle: Floats) -> Floats:
 
 
 def _reach(curve: Curve, found: Windows, middle: Floats) -> Floats:
-    """The seconds on both sides of each window within which its time is looked for."""
+    """The seconds on both sides of the middle of each window within which its time is looked for."""
     kind = found.asked["kind"]
     base = floats(REACH[kind] + (found.last - found.first) / (2 * found.tick))
-    if kind in GEOMETRIC:
+    if kind != "coord":
         return base
     before, here, after = (curve.at(middle + shift) for shift in (-ASIDE, 0.0, ASIDE))
     # (by a straight line, and by a parabola where the function hardly moves)
@@ -230,7 +237,7 @@ def _reach(curve: Curve, found: Windows, middle: Floats) -> Floats:
         straight = abs(here * 2 * ASIDE / (after - before))
         bent = ASIDE * np.sqrt(abs(2 * here / (after - 2 * here + before)))
     far = ESTIMATES * np.nan_to_num(np.fmin(straight, bent))
-    return floats(base + np.minimum(far, MOST_OF_COORDINATES if kind == "coord" else MOST))
+    return floats(base + np.minimum(far, MOST))
 
 
 def _taken(seconds: Floats, sign: Floats, distance: Floats) -> npt.NDArray[np.bool_]:

@@ -3,51 +3,19 @@
 from __future__ import annotations
 
 import math
-import re
-from pathlib import Path
-from typing import Any, Optional
+from typing import Any
 
 import numpy as np
 from numpy.polynomial.chebyshev import chebder
 
 from . import spans
-from ._search import Files, file_names
+from ._files import number_of, read, seconds_of
+from ._search import Files
 from ._vectors import Floats, floats
 
 COLUMNS = "mercury venus emb mars jupiter saturn uranus neptune pluto moon sun".split()
 # The obliquity of the ecliptic of J2000 is 84381.448 arc seconds.
 OBLIQUITY = np.radians(84_381.448 / 3_600)
-J2000_DATE = 2_451_545.0
-BLOCK = re.compile(rb"^[ \t]*[0-9]+[ \t]+([0-9]+)[ \t]*\r?\n", re.MULTILINE)
-HEAD_END = re.compile(rb"^[ \t]*GROUP[ \t]+1070\s", re.MULTILINE)
-E_FOR_D = bytes.maketrans(b"Dd", b"EE")
-# As many bytes of a block have its two dates.
-DATES = 120
-
-
-class OutsideFiles(ValueError):
-    """Files that have no block of a span."""
-
-
-def number_of(word: str) -> float:
-    """A number of a file, whose exponent may be written with D."""
-    return float(word.upper().replace("D", "E"))
-
-
-def refuse_order(files: Files) -> None:
-    """Refuses files that are not named in order of time: the command leaves out a block that ends before another one
-    does, and so all of a file that is named after a later one."""
-    last: Optional[tuple[float, str]] = None
-    for name in file_names(files):
-        text = Path(name).read_bytes()
-        head = HEAD_END.search(text)
-        first = BLOCK.search(text, head.end() if head else 0)
-        if first is None:
-            continue
-        date = number_of(text[first.end() : first.end() + DATES].split()[0].decode())
-        if last is not None and date <= last[0]:
-            raise ValueError(f"{name} begins before {last[1]}, which is named before it: name files in order of time")
-        last = date, name
 
 
 def _sums(series: Floats, at: Floats) -> Floats:
@@ -64,23 +32,23 @@ class Series:
 
     The files are those that `finder check` accepts. Of their blocks those are kept that reach into the span from
     `start` to `end`, in seconds since J2000 (TDB). `seen`, `values` and the others that read files take one in place of
-    reading them again: `series=finder.Series(files)`. `start` and `end` are those of the blocks that are kept; outside
-    of them there are no places, but NaN.
+    reading them again: `series=finder.Series(files)`. `start` and `end` are those of the blocks that are kept, outside
+    of which there are no places, but NaN; `files_start` and `files_end` those of the files. `WrongFiles`, a ValueError,
+    names the file where no header stands first, files are of two series or not in order of time, or have nothing of the
+    span.
     """
 
     start: float
     end: float
 
     def __init__(self, files: Files, start: float = -math.inf, end: float = math.inf) -> None:
-        text = b"\n".join(Path(name).read_bytes() for name in file_names(files))
-        head = HEAD_END.search(text)
-        if head is None:
-            raise ValueError("no header stands first in these files: name the header's file before the others")
-        self._read_header(text[: head.end()].split())
-        self._blocks = self._read_blocks(text, head.end(), start, end)
+        contents = read(files, start, end)
+        self._read_header(contents.header)
+        self._blocks = contents.blocks
         self._length = (self._blocks[0, 1] - self._blocks[0, 0]) * spans.DAY
-        self.start = float((self._blocks[0, 0] - J2000_DATE) * spans.DAY)
-        self.end = float(self.start + self._length * len(self._blocks))
+        self.start = seconds_of(self._blocks[0, 0])
+        self.end = seconds_of(self._blocks[-1, 1])
+        self.files_start, self.files_end = contents.start, contents.end
         self._tables: dict[str, tuple[Floats, Floats]] = {}
 
     def _read_header(self, words: list[bytes]) -> None:
@@ -94,27 +62,6 @@ class Series:
         table = np.array([int(word) for word in words[first : words.index(b"GROUP", first)]]).reshape(3, -1)
         self._columns = table[:, :13]
         self._mass_ratio = number_of(values[names.index(b"EMRAT")].decode())
-
-    @staticmethod
-    def _read_blocks(text: bytes, after: int, start: float, end: float) -> Floats:
-        """The numbers of the blocks of a span, one row for each, in order of time and each once."""
-        heads = list(BLOCK.finditer(text, after))
-        ends = [found.start() for found in heads[1:]] + [len(text)]
-        low, high = start / spans.DAY + J2000_DATE, end / spans.DAY + J2000_DATE
-        blocks: dict[float, Floats] = {}
-        for found, stop in zip(heads, ends):
-            begin = found.end()
-            first, last = (number_of(word.decode()) for word in text[begin : begin + DATES].split()[:2])
-            if first not in blocks and last >= low and first <= high:
-                # (a line has three numbers, and the last line is filled up)
-                numbers = np.fromstring(text[begin:stop].translate(E_FOR_D), sep=" ")
-                blocks[first] = numbers[: int(found[1])]
-        if not blocks:
-            raise OutsideFiles("the files have no block of this span")
-        rows = np.array([blocks[date] for date in sorted(blocks)])
-        if not (rows[1:, 0] == rows[:-1, 1]).all():
-            raise ValueError("a block is missing between others: name the files in order of time, without a gap")
-        return rows
 
     def _table(self, name: str) -> tuple[Floats, Floats]:
         """The series of a column, and those of its rates in km/s: by coefficient, axis and granule."""

@@ -1,4 +1,4 @@
-"""Where bodies are seen: by light time, aberration, the bending of light by the Sun, on the axes of date. In doubles."""
+"""Where bodies are seen: by light time, aberration and the bending of light, on the axes of date. In doubles."""
 
 from __future__ import annotations
 
@@ -8,7 +8,8 @@ from typing import Any
 import numpy as np
 
 from . import spans
-from ._series import J2000_DATE, Series
+from ._files import J2000_DATE
+from ._series import Series
 from ._vectors import Floats, floats, length
 
 # The speed of light in km/s.
@@ -32,8 +33,8 @@ def erfa_package() -> Any:
         import erfa
     except ImportError:
         raise NoErfa(
-            "the equator and equinox of date, and UTC, want the package erfa (pip: pyerfa, Debian: python3-erfa; astropy "
-            "brings it); with of_date=False directions are those of J2000, which want none"
+            "the equator and equinox of date, and UTC, want the package erfa (pip: pyerfa, Debian: python3-erfa; it "
+            "comes with astropy); with of_date=False directions are those of J2000, which want none"
         ) from None
     return erfa
 
@@ -74,8 +75,8 @@ NUTATION = _Nutation()
 
 
 def frames_of_date(frame: str, times: Floats) -> Floats:
-    """Matrices from the axes of the file to the true equator (`eq`) or ecliptic (`ecl`) and the true equinox of date, at
-    seconds since J2000 (TDB): precession of the IAU of 2006, nutation of 2000A."""
+    """Matrices from the axes of the file to the true equator (`eq`) or ecliptic (`ecl`) and the true equinox of date,
+    at seconds since J2000 (TDB): precession of the IAU of 2006, nutation of 2000A."""
     erfa = erfa_package()
     at = np.nan_to_num(times)
     turn, node, tilt, mean = erfa.pfw06(J2000_DATE, at / spans.DAY)

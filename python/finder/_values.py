@@ -82,8 +82,8 @@ class Values:
         return {**made, "function": (self.function, "")}
 
     def columns(self) -> dict[str, Any]:
-        """All arrays by names, as for a table: seconds since J2000 (TDB); for target and second body distances in km and
-        in astronomical units, and directions in degrees; angles in degrees; the function in `unit`."""
+        """All arrays by names, as for a table: seconds since J2000 (TDB); for target and second body distances in km
+        and in astronomical units, and directions in degrees; angles in degrees; the function in `unit`."""
         return {name: column for name, (column, _) in self._units().items()}
 
     def to_pandas(self) -> Any:
@@ -118,8 +118,8 @@ def values(
     `series`, what was read of them before.
 
     They are those of the middle of each window, in which the event is, or of the times `at`: what `seen` gave, or
-    seconds since J2000 (TDB), one for each window. Places are geometric, as the search's are, on the axes of J2000; with
-    `apparent` they are those of bodies as they are seen, and with `of_date` on the axes of date, which is for
+    seconds since J2000 (TDB), one for each window. Places are geometric, as the search's are, on the axes of J2000;
+    with `apparent` they are those of bodies as they are seen, and with `of_date` on the axes of date, which is for
     `apparent` ones alone and wants erfa. Where a time is missing, or the files have no place, numbers are NaN.
     """
     if not isinstance(found, Windows):
@@ -130,22 +130,28 @@ def values(
     if seconds.shape != (len(found),):
         raise ValueError(f"one time for each of {len(found)} windows is wanted, and not an array of {seconds.shape}")
     made = series_about(files, series, seconds, found)
-    sky: Union[Series, Sky] = Sky(made, of_date) if apparent else made
-    asked = found.asked
-    roles = [role for role in ("target", "second") if asked[role] != "-"]
-    eq, ecl = (
-        {role: sky.seen(asked[role], asked["observer"], frame, seconds) for role in roles} for frame in ("eq", "ecl")
-    )
+    if not apparent or found.asked["kind"] in GEOMETRIC:
+        curve = Curve(made, found.asked)
+    else:
+        curve = SeenCurve(made, found.asked, of_date, bending=True, phases=False)
+    return _numbers(curve, Sky(made, of_date) if apparent else made, found.asked, seconds, apparent, of_date)
+
+
+def _numbers(
+    curve: Curve, sky: Union[Series, Sky], asked: dict[str, str], seconds: Floats, apparent: bool, of_date: bool
+) -> Values:
+    """The numbers at some times, of the places in a sky and the function of a request."""
+    observer, roles = asked["observer"], [role for role in ("target", "second") if asked[role] != "-"]
+    eq, ecl = ({role: sky.seen(asked[role], observer, frame, seconds) for role in roles} for frame in ("eq", "ecl"))
+    places = {role: _place(asked[role], eq[role], ecl[role]) for role in roles}
     elongation = east = None
-    if asked["target"] != "sun" and asked["observer"] not in ("sun", "ssb"):
-        sun = sky.seen("sun", asked["observer"], "ecl", seconds)
+    if asked["target"] != "sun" and observer not in ("sun", "ssb"):
+        sun = sky.seen("sun", observer, "ecl", seconds)
         elongation, east = angle(ecl["target"], sun), wrapped(longitude(ecl["target"]) - longitude(sun)) > 0
-    geometric = not apparent or asked["kind"] in GEOMETRIC
-    curve = Curve(made, asked) if geometric else SeenCurve(made, asked, of_date, True, False)
     return Values(
         seconds=seconds,
-        target=_place(asked["target"], eq["target"], ecl["target"]),
-        second=_place(asked["second"], eq["second"], ecl["second"]) if "second" in eq else None,
+        target=places["target"],
+        second=places.get("second"),
         angle=angle(eq["target"], eq["second"]) if "second" in eq else None,
         elongation=elongation,
         east=east,

@@ -174,8 +174,9 @@ def main(arguments: Optional[Sequence[str]] = None) -> int:
     try:
         text = _made(words, clock)
     except (FinderError, NoProgram, NoErfa, WrongReport, ValueError, OSError) as error:
-        said = str(error)
-        print(said if said.startswith("finder: ") else f"finder: {said}", file=sys.stderr)
+        print(f"finder: {str(error).removeprefix('finder: ')}", file=sys.stderr)
+        if isinstance(error, FinderError):
+            print(f"finder: likely: {error.hint}", file=sys.stderr)
         return 1
     except KeyboardInterrupt:
         return 130

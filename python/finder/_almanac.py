@@ -99,6 +99,8 @@ class Machine:
 def almanac_of_seconds(machine: Machine, start: float, end: float, title: str, groups: tuple[Group, ...]) -> Almanac:
     """The almanac of a span of seconds of TDB since J2000."""
     erfa_package()
+    if not start < end:
+        raise ValueError("an almanac ends after it starts")
     files = machine.files
     have = check(files, program=machine.runs)
     margin = (MARGIN + MARGIN_OF_YEAR * max(abs(start), abs(end)) / YEAR) * spans.DAY
@@ -121,8 +123,6 @@ def almanac_of_seconds(machine: Machine, start: float, end: float, title: str, g
 
 def _searched(start: float, end: float, margin: float, have: spans.Summary) -> tuple[int, int]:
     """The seconds in which events are searched for: the span and a margin on both sides, as far as the files go."""
-    if not start < end:
-        raise ValueError("an almanac ends after it starts")
     if start < have.start or end > have.end:
         raise SpanNotHeld(
             f"the files hold {spans.time_text(have.start)} to {spans.time_text(have.end)} (TDB), and not all of "

@@ -8,8 +8,8 @@ from dataclasses import dataclass
 from enum import Enum
 
 from . import spans
+from ._files import J2000_DATE
 from ._sky import erfa_package
-from ._series import J2000_DATE
 
 UTC = datetime.timezone.utc
 J2000 = datetime.datetime(2000, 1, 1, 12)

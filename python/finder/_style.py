@@ -47,7 +47,7 @@ th{font-size:13px;font-weight:600;color:var(--soft);text-align:left;padding:4px 
 td{padding:5px 8px;vertical-align:top;border-bottom:1px solid var(--line);overflow-wrap:break-word}
 .day{width:74px;white-space:nowrap}.day small{color:var(--soft);font-size:14px}
 .at{width:66px;white-space:nowrap;font-variant-numeric:tabular-nums}
-.what{width:34%}td.what{font-weight:600;padding-left:24px;text-indent:-16px}
+.what{width:30%}td.what{font-weight:600;padding-left:24px;text-indent:-16px}
 td.what::before{content:"";display:inline-block;width:9px;height:9px;border-radius:50%;background:var(--c);
 margin-right:7px}
 td.say{color:var(--soft)}.say em{color:var(--eclipses);font-style:normal;font-weight:600}

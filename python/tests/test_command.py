@@ -73,8 +73,8 @@ class Words(InFolder):
         header, files = split_year(self.folder)
         rows = {
             ("2001", str(YEAR)): "finder: the files hold 1999-12-24T00:00:00 to 2001-01-11T00:00:00 (TDB), and not ",
-            ("2000", "no-file"): "finder: read fault no-file\n",
-            ("2000", str(files[0])): f"finder: file {files[0]} line 1: 10 FirstLine\n",
+            ("2000", "no-file"): "finder: read fault no-file\nfinder: likely: (1) no file has this name",
+            ("2000", str(files[0])): f"finder: file {files[0]} line 1: 10 FirstLine\nfinder: likely: (1) the first ",
             ("2000", str(header), str(files[1]), str(files[0])): f"finder: {files[0]} begins before {files[1]}, which ",
             ("2000", str(YEAR), "--program", "/no/finder"): "finder: ",
         }

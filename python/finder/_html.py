@@ -9,7 +9,7 @@ from itertools import groupby
 
 from . import spans
 from ._drawing import Drawing
-from ._entries import Almanac, Contact, Entry, Event, Status
+from ._entries import Almanac, Contact, Entry, Event, Group, Status
 from ._frame import MARKS, Frame, day_text
 from ._notes import COMPUTED, PROVED, moment_text, notes, sums_of, warning, window_text
 from ._scales import Clock
@@ -36,8 +36,9 @@ KEY = (
 )
 LINE = (
     "A planet's line is its longitude from the Sun: above the middle it is in the evening sky, below it in the morning "
-    "sky. Shaded: it moves backward. A thick meeting is closer than a degree."
+    "sky. Shaded: it moves backward. "
 )
+THICK = "A thick meeting is closer than a degree."
 # Drawings: widths, with room for names and at the right edge, and heights of letters.
 WHOLE = (1_000.0, 80.0, 10.0, 11.0)
 HALF = (360.0, 66.0, 6.0, 9.5)
@@ -71,6 +72,9 @@ def periods(found: Almanac, clock: Clock) -> list[Period]:
 def html_of(found: Almanac, clock: Clock) -> str:
     """The page: each year at a glance and as a drawing, and a table for each month."""
     title = html.escape(found.title)
+    undecided = sum(entry.status is Status.UNDECIDED for entry in found.entries)
+    but = f" Of {undecided} the window is undecided, and nothing is proved." if undecided else ""
+    years = "".join(_year(found, period, clock) for period in periods(found, clock))
     return (
         '<!DOCTYPE html>\n<html lang="en">\n<head>\n<meta charset="utf-8">\n'
         f'<meta http-equiv="Content-Security-Policy" content="{POLICY}">\n'
@@ -78,7 +82,7 @@ def html_of(found: Almanac, clock: Clock) -> str:
         f"<title>{title}</title>\n<style>{style()}</style>\n</head>\n<body>\n<main>\n<h1>{title}</h1>\n"
         f'<p class="lead">{len(found.entries)} events as they are seen from the Earth\'s centre, in '
         f"{html.escape(clock.name)}, each with its numbers and with the window of time that is proved to hold it in "
-        f"the numbers of JPL's file.</p>\n{''.join(_year(found, period, clock) for period in periods(found, clock))}"
+        f"the numbers of JPL's file.{but}</p>\n{years}"
         f"{_footer(found, clock)}</main>\n</body>\n</html>\n"
     )
 
@@ -121,9 +125,15 @@ def _figure(found: Almanac, period: Period, clock: Clock) -> str:
     part = (period.end - period.start) / count
     starts = [period.start + part * number for number in range(count)]
     halves = "".join(Drawing(found, clock, Frame(start, start + part, *HALF)).svg() for start in starts)
+    return f'<figure><div class="whole">{whole}</div><div class="halves">{halves}</div>{_caption(found)}</figure>\n'
+
+
+def _caption(found: Almanac) -> str:
+    """What the marks of a drawing mean."""
     marks = "".join(f"<span>{_key_mark(event)}{said}</span>" for event, said in KEY)
-    caption = f"<figcaption>{marks}{LINE}</figcaption>"
-    return f'<figure><div class="whole">{whole}</div><div class="halves">{halves}</div>{caption}</figure>\n'
+    said = f"{marks}{LINE}" if Group.PLANETS in found.groups else ""
+    said += THICK if Group.MEETINGS in found.groups else ""
+    return f"<figcaption>{said}</figcaption>" if said else ""
 
 
 def _key_mark(event: Event) -> str:

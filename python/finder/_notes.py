@@ -45,7 +45,7 @@ MOMENTS = {
     "IV": "egress ends",
 }
 UNDECIDED = "undecided: nothing is proved of this window"
-UNSOLVED = "the time is that of the window, and not of what is seen"
+OF_WINDOW = "the time is the middle of the window"
 
 
 def moment_text(contact: Contact) -> str:
@@ -65,8 +65,12 @@ def window_text(contact: Contact) -> str:
 
 def warning(contacts: Sequence[Contact]) -> str:
     """What is said where a window is undecided, or where no time was found near it, and why; else nothing."""
-    said = [UNDECIDED] if any(contact.status is Status.UNDECIDED for contact in contacts) else []
-    said += [f"{UNSOLVED}: {contact.reason}" for contact in contacts if contact.seen is None]
+    said = []
+    for contact in contacts:
+        if contact.status is Status.UNDECIDED:
+            said.append(UNDECIDED)
+        if contact.seen is None:
+            said.append(f"{OF_WINDOW}, as {contact.reason}")
     return "; ".join(dict.fromkeys(said))
 
 

@@ -47,7 +47,7 @@ th{font-size:13px;font-weight:600;color:var(--soft);text-align:left;padding:4px 
 td{padding:5px 8px;vertical-align:top;border-bottom:1px solid var(--line);overflow-wrap:break-word}
 .day{width:74px;white-space:nowrap}.day small{color:var(--soft);font-size:14px}
 .at{width:66px;white-space:nowrap;font-variant-numeric:tabular-nums}
-.what{width:30%}td.what{font-weight:600;padding-left:24px;text-indent:-16px}
+.what{width:356px}td.what{font-weight:600;padding-left:24px;text-indent:-16px}
 td.what::before{content:"";display:inline-block;width:9px;height:9px;border-radius:50%;background:var(--c);
 margin-right:7px}
 td.say{color:var(--soft)}.say em{color:var(--eclipses);font-style:normal;font-weight:600}
@@ -59,6 +59,7 @@ tr.moment td.what{font-weight:400;color:var(--soft)}tr.moment td.what::before{vi
 tr.moment:has(+tr:not(.moment)) td,tr.moment:last-child td{border-bottom:1px solid var(--line);padding-bottom:6px}
 tr.several td{border-bottom:0}
 tr.eclipses td{background:var(--tint)}
+@media screen and (max-width:1080px){.what{width:30%}.win{width:175px}}
 footer{margin-top:44px;border-top:1px solid var(--line);padding-top:14px;color:var(--soft);font-size:14px;
 max-width:92ch}
 footer b{color:var(--ink)}footer code{font-size:12px;overflow-wrap:anywhere}
@@ -83,14 +84,15 @@ tr.eclipses{background:var(--tint)}
 
 PAPER = """
 @page{size:A4;margin:13mm 12mm}
-body{font-size:8.2pt;line-height:1.35;background:#fff}main{max-width:none;padding:0}
+body{font-size:8pt;line-height:1.35;background:#fff}main{max-width:none;padding:0}
 h1{font-size:20pt}h2{font-size:12pt;margin:10pt 0 1pt;break-after:avoid}
 .shown{display:none!important}
 .lead{margin-bottom:7pt}.glance{columns:3;padding:4pt 0;margin-bottom:8pt;column-gap:12pt}.glance li{gap:5pt}
-figure,tr{break-inside:avoid}figure{margin-bottom:6pt}figcaption{font-size:7.5pt;margin-top:4pt}
+figure,tr{break-inside:avoid}figure svg{width:calc(100% - 1pt)}
+figure{margin-bottom:6pt}figcaption{font-size:7.5pt;margin-top:4pt}
 figcaption span{margin-right:8pt}figcaption svg{width:8pt;height:8pt;margin-right:2pt;vertical-align:-1pt}
 th{font-size:7pt;padding:1pt 3pt}td{padding:1.5pt 3pt}td.win,tr.moment td.win{font-size:6.8pt;line-height:1.6}
-.day small,tr.moment td{font-size:7.4pt}.day{width:36pt}.at{width:40pt}.win{width:90pt}.what{width:172pt}
+.day small,tr.moment td{font-size:7.4pt}.day{width:34pt}.at{width:38pt}.win{width:94pt}.what{width:172pt}
 td.what{padding-left:13pt;text-indent:-10pt}td.what::before{width:5pt;height:5pt;margin-right:5pt}
 tr.moment{break-before:avoid}
 *{-webkit-print-color-adjust:exact;print-color-adjust:exact}

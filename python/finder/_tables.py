@@ -14,7 +14,7 @@ from typing import Any, Optional
 
 from . import spans
 from ._entries import Almanac, Contact, Entry, Numbers
-from ._notes import moment_text, notes, said_of, sums_of, window_text
+from ._notes import moment_text, notes, sums_of, warning, window_text
 from ._scales import Clock
 
 
@@ -37,7 +37,10 @@ def _lines_of(entry: Entry, clock: Clock) -> Iterator[str]:
     alone = len(entry.contacts) == 1
     window = window_text(entry.contacts[0]) if alone else ""
     shown = clock.minute(entry.seconds).strftime("%d %a %H:%M")
-    yield f"  {shown}  {entry.name:<36}  {said_of(entry):<49}  {window}".rstrip()
+    yield f"  {shown}  {entry.name:<36}  {entry.text:<49}  {window}".rstrip()
+    warned = warning(entry.contacts)
+    if warned:
+        yield from textwrap.wrap(warned, WIDE, initial_indent=INDENT, subsequent_indent=INDENT)
     for contact in () if alone else entry.contacts:
         at = clock.at(contact.seconds + 0.5).strftime("%d %a %H:%M:%S")
         yield f"      {at}  {moment_text(contact):<79}  {window_text(contact)}".rstrip()
@@ -45,6 +48,7 @@ def _lines_of(entry: Entry, clock: Clock) -> Iterator[str]:
 
 # The width of a paragraph of text.
 WIDE = 120
+INDENT = " " * 18
 COLUMNS = ("group", "event", "name", "bodies", "contact", "status")
 TIMES = ("certified_first_tdb", "certified_last_tdb", "turn")
 

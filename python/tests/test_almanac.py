@@ -2,7 +2,8 @@
 
 Phases and seasons: US Naval Observatory, Phases of the Moon and Earth's Seasons for 2000, to the minute of UT.
 Eclipses: F. Espenak, NASA, eclipses of 2000, and the Five Millennium Catalogs: gamma, magnitude, contacts. Elongations
-of Mercury, oppositions and stations: Astronomical Phenomena for 2000 (US Naval Observatory), to the degree and the day. Kinds of solar eclipses: J. Meeus, Astronomical Algorithms, chapter 54.
+of Mercury, oppositions and stations: Astronomical Phenomena for 2000 (US Naval Observatory), to the degree and the day.
+Kinds of solar eclipses: J. Meeus, Astronomical Algorithms, chapter 54.
 Almanacs round to a minute, so a minute is allowed, and for an eclipse as much as their shadows differ.
 """
 

@@ -76,7 +76,8 @@ class Executors(InFolder):
             finder.join(map(finder.Windows.of_text, kept[::2]))
 
     def test_a_search_that_fails_cancels_those_that_wait(self):
-        program = stand_in(self.folder, f'[ "$1" = check ] && exec {PROGRAM} "$@"\necho run >>{self.folder}/runs\nexit 9')
+        fails = f'[ "$1" = check ] && exec {PROGRAM} "$@"\necho run >>{self.folder}/runs\nexit 9'
+        program = stand_in(self.folder, fails)
         with concurrent.futures.ThreadPoolExecutor(1) as pool, self.assertRaises(finder.TooManyLeaves):
             self.over(finder.apsides, *MOON, executor=pool, program=program)
         self.assertLess(len((self.folder / "runs").read_text().split()), len(self.files))

@@ -35,9 +35,11 @@ RADII = {
 }
 # The radius in km within which the axis of the Moon's shadow meets the Earth (docs/RECIPES.md).
 CENTRAL = 6_350.0
-# Contacts of one event are less than half a day apart; the greatest is within an hour of them.
+# Contacts of one event are less than half a day apart; the greatest is within an hour of them, or two where there is one
+# contact alone, and within the files, at whose start light is on its way for up to half an hour.
 APART = spans.DAY / 2
 AROUND = 3_600.0
+LIGHT = 1_800.0
 # The seconds on each side by which a change is taken, and how many times are looked at for a least value.
 STEP = 30.0
 GRID = 241
@@ -72,13 +74,15 @@ def _around(observed: Observed, group: list[Contact]) -> tuple[float, float]:
     low, high = group[0].seconds - AROUND, group[-1].seconds + AROUND
     if len(group) < 2:
         low, high = low - AROUND, high + AROUND
-    return max(low, observed.series.start + AROUND), min(high, observed.series.end - AROUND)
+    return max(low, observed.series.start + LIGHT), min(high, observed.series.end - 2 * STEP)
 
 
 def _lowest(function: Callable[[Floats], Floats], low: float, high: float) -> float:
-    """The time at which a function of times is least, between two."""
+    """The time at which a function of times is least, between two; one of the two where it is least there."""
     times = np.linspace(low, high, GRID)
-    place = int(np.clip(function(times).argmin(), 1, GRID - 2))
+    place = int(function(times).argmin())
+    if place in (0, GRID - 1):
+        return float(times[place])
 
     def change(at: Floats) -> Floats:
         return function(at + STEP) - function(at - STEP)

@@ -5,7 +5,7 @@ Times are seconds of TDB since J2000, 2000-01-01T12:00:00 TDB.
 
 from __future__ import annotations
 
-from dataclasses import dataclass
+from dataclasses import dataclass, field
 from enum import Enum
 from typing import Optional
 
@@ -211,7 +211,10 @@ class Almanac:
     files: tuple[str, ...]
     first_searched: int
     last_searched: int
-    curves: Curves
+    curves: Curves = field(compare=False)
+
+    def __repr__(self) -> str:
+        return f"<{self.title!r}: {len(self.entries)} entries of {self.searches} searches>"
 
     def of(self, *events: Event) -> list[Entry]:
         """The entries of some events, in order."""

@@ -148,7 +148,7 @@ def _month(name: str, entries: list[Entry], clock: Clock) -> str:
         last = day
     head = (
         f'<thead><tr><th class="day">Day</th><th class="at">{html.escape(_zone_name(clock))}</th>'
-        '<th class="what">Event</th><th class="say"></th><th class="win">Certified window, TDB</th></tr></thead>'
+        '<th class="what">Event</th><th class="say">Numbers</th><th class="win">Certified window, TDB</th></tr></thead>'
     )
     return f"<h2>{name}</h2>\n<table>{head}\n<tbody>\n{''.join(rows)}</tbody></table>\n"
 

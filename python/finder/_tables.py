@@ -96,7 +96,7 @@ def json_of(found: Almanac, clock: Clock) -> str:
         "groups": [group.value for group in found.groups],
         "events": [_object_of(entry, clock) for entry in found.entries],
     }
-    return json.dumps(whole, ensure_ascii=False, indent=1) + "\n"
+    return json.dumps(whole, ensure_ascii=False, allow_nan=False, indent=1) + "\n"
 
 
 def _object_of(entry: Entry, clock: Clock) -> dict[str, Any]:

@@ -16,7 +16,7 @@ import numpy as np
 import finder
 from finder import Event, Group, Status
 from finder._almanac import recipes, search_count
-from finder._eclipses import Transits
+from finder._eclipses import SolarEclipses, Transits
 from finder._entries import EclipseKind
 from finder._events import planets
 from finder._observed import Observed
@@ -154,6 +154,20 @@ class Unproved(InFolder):
         self.assertEqual(entries[1].name, "Mercury stationary, turns direct")
         self.assertAlmostEqual(entries[1].seconds, found[1].last, delta=1)
         self.assertIn("files end", entries[1].contacts[0].reason)
+
+    def test_an_eclipse_at_the_end_of_the_files(self):
+        """The numbers end between the greatest of a solar eclipse and its end, at 12:49 and 14:43, and before both."""
+        recipe = SolarEclipses()
+        span = {"start": "2000-02-01", "end": "2000-02-10", "program": PROGRAM}
+        found = [search.run([str(YEAR)], **span) for search in recipe.searches]
+        for end, greatest in (("0205 1330", "0205 1249"), ("0205 1200", "0205 1159")):
+            series = finder.Series(YEAR)
+            series.end = moment(end)
+            (entry,) = recipe.entries(Observed(series), found)
+            self.assertIs(entry.status, Status.UNSOLVED)
+            self.assertEqual([contact.seen is None for contact in entry.contacts], [False, False, True])
+            self.assertLess(abs(entry.seconds - moment(greatest)), 61)
+            self.assertTrue(np.isfinite(entry.numbers.gamma))
 
     def test_a_transit(self):
         """Mercury passes the Sun at 3.7 degrees on 1 March (Astronomical Phenomena): such a radius touches it."""

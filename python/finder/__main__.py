@@ -11,10 +11,10 @@ import difflib
 import os
 import sys
 import zoneinfo
-from collections.abc import Iterable, Sequence
+from collections.abc import Sequence
 from typing import Optional
 
-from ._almanac import Machine, almanac_of_seconds, search_count
+from ._almanac import Machine, almanac_of_seconds, groups_of, search_count
 from ._entries import Group
 from ._pages import Format, page
 from ._program import FinderError, runs_of
@@ -76,11 +76,6 @@ def _add_options(command: argparse.ArgumentParser) -> None:
     command.add_argument("--program", metavar="FINDER", help="the command finder, else that of the package")
 
 
-def _nearest(word: str, names: Iterable[str]) -> str:
-    """The name that is most like a word."""
-    return max(names, key=lambda name: difflib.SequenceMatcher(None, word.lower(), name.lower()).ratio())
-
-
 def _years(text: str) -> tuple[int, int]:
     first, _, last = text.partition("-")
     try:
@@ -102,20 +97,18 @@ def _zone(text: str) -> datetime.tzinfo:
     try:
         return zoneinfo.ZoneInfo(text)
     except (zoneinfo.ZoneInfoNotFoundError, ValueError, OSError):
-        known = zoneinfo.available_timezones()
+        known = {name.lower(): name for name in sorted(zoneinfo.available_timezones())}
         if not known:
             raise argparse.ArgumentTypeError("no time zones are here (Debian: tzdata; pip: tzdata)") from None
-        near = _nearest(text, sorted(known))
-        raise argparse.ArgumentTypeError(f"{text!r} is no time zone: the nearest is {near}") from None
+        near = difflib.get_close_matches(text.lower(), known, 1, 0)[0]
+        raise argparse.ArgumentTypeError(f"no time zone is {text!r}: did you mean {known[near]!r}?") from None
 
 
 def _groups(text: str) -> tuple[Group, ...]:
-    names = [group.value for group in Group]
-    for word in text.split(","):
-        if word not in names:
-            near = _nearest(word, names)
-            raise argparse.ArgumentTypeError(f"{word!r} is no group: the nearest is {near}, of {GROUPS}")
-    return tuple(group for group in Group if group.value in text.split(","))
+    try:
+        return groups_of(text.split(","))
+    except ValueError as error:
+        raise argparse.ArgumentTypeError(str(error)) from None
 
 
 def _clock(words: argparse.Namespace) -> Clock:

@@ -1,4 +1,4 @@
-"""An almanac of a span: some ninety searches, with the time at which each event is seen and its numbers.
+"""An almanac of a span: 76 searches of all its groups, with the time at which each event is seen and its numbers.
 
 The windows of each entry are certified, as those of every search. Times as seen, numbers and the kinds of solar
 eclipses are doubles, and unproved.
@@ -9,7 +9,7 @@ from __future__ import annotations
 import concurrent.futures
 from collections.abc import Iterable, Sequence
 from dataclasses import dataclass
-from typing import Optional
+from typing import Optional, Union
 
 import numpy as np
 
@@ -27,6 +27,7 @@ from ._sky import erfa_package
 from ._times import Time, ticks_of_time
 from ._vectors import Floats, length, longitude, wrapped
 from ._windows import Windows
+from ._words import one_of
 
 # The days before and after a span in which events are searched for that may be seen in it, and how many more there are
 # for each year from 2000: the equinox of date moves away from that of J2000 by 20.4 minutes a year.
@@ -38,6 +39,16 @@ PAD = 25.0
 
 class SpanNotHeld(WrongFiles):
     """The files do not hold all of the span of an almanac."""
+
+
+def groups_of(groups: Union[Group, str, Iterable[Union[Group, str]]]) -> tuple[Group, ...]:
+    """Groups, or those of names, in the order of all. The refusal of an unknown one names the nearest."""
+    given = [groups] if isinstance(groups, (Group, str)) else list(groups)
+    for each in given:
+        if not isinstance(each, Group):
+            one_of("group", each, [group.value for group in Group])
+    wanted = {Group(each) for each in given}
+    return tuple(group for group in Group if group in wanted)
 
 
 def recipes(groups: Iterable[Group]) -> list[Recipe]:
@@ -58,7 +69,7 @@ def almanac(
     end: Time,
     *,
     title: str = "Almanac",
-    groups: Iterable[Group] = tuple(Group),
+    groups: Union[Group, str, Iterable[Union[Group, str]]] = tuple(Group),
     jobs: int = 1,
     program: Program = None,
     timeout: Optional[float] = None,
@@ -66,13 +77,14 @@ def almanac(
 ) -> Almanac:
     """The almanac of what is seen from `start` on and before `end`, which are times of TDB, or astropy's of any scale.
 
-    `groups` are those that are looked for. Searches are processes of their own, `jobs` of them at once; `progress` is
-    called with 1 after each. It wants the package erfa, which comes with astropy: `NoErfa` where it is not there, and
-    `WrongFiles` where the files are not one series in order of time or do not hold the span, both before any search.
+    `groups` are those that are looked for, as `"eclipses"`. Searches are processes of their own, `jobs` of them at
+    once; `progress` is called with the number of searches that are done. It wants the package erfa, which comes with
+    astropy: `NoErfa` where it is not there, and `WrongFiles` where the files are not one series in order of time or do
+    not hold the span, both before any search.
     """
     first, last = (ticks_of_time(time, 1_000, up=False) / 1_000 for time in (start, end))
     machine = Machine(file_names(files), runs_of(program, timeout), jobs, progress)
-    return almanac_of_seconds(machine, first, last, title, tuple(groups))
+    return almanac_of_seconds(machine, first, last, title, groups_of(groups))
 
 
 @dataclass(frozen=True)
@@ -117,8 +129,7 @@ def almanac_of_seconds(machine: Machine, start: float, end: float, title: str, g
         count += size
     inside = sorted((each for each in entries if start <= each.seconds < end), key=lambda each: each.seconds)
     curves = _curves(observed, start, end)
-    looked_for = tuple(group for group in Group if group in groups)
-    return Almanac(title, start, end, tuple(inside), looked_for, count, tuple(files), begin, stop, curves)
+    return Almanac(title, start, end, tuple(inside), groups, count, tuple(files), begin, stop, curves)
 
 
 def _searched(start: float, end: float, margin: float, have: spans.Summary) -> tuple[int, int]:

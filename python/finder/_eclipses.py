@@ -35,8 +35,8 @@ RADII = {
 }
 # The radius in km within which the axis of the Moon's shadow meets the Earth (docs/RECIPES.md).
 CENTRAL = 6_350.0
-# Contacts of one event are less than half a day apart; the greatest is within an hour of them, or two where there is one
-# contact alone, and within the files, at whose start light is on its way for up to half an hour.
+# Contacts of one event are less than half a day apart; the greatest is within an hour of them, or two where there is
+# one contact alone, and within the files, at whose start light is on its way for up to half an hour.
 APART = spans.DAY / 2
 AROUND = 3_600.0
 LIGHT = 1_800.0

@@ -10,6 +10,7 @@ from ._html import html_of
 from ._ics import ics_of
 from ._scales import Clock
 from ._tables import csv_of, json_of, text_of
+from ._words import one_of
 
 
 class Format(Enum):
@@ -27,4 +28,6 @@ MAKERS = {Format.TEXT: text_of, Format.HTML: html_of, Format.CSV: csv_of, Format
 
 def page(found: Almanac, form: Union[Format, str] = Format.TEXT, clock: Clock = Clock()) -> str:
     """An almanac in a form, as `"html"`, with its times by a clock, which is UTC unless another is given."""
+    if not isinstance(form, Format):
+        one_of("format", form, [each.value for each in Format])
     return MAKERS[Format(form)](found, clock)

@@ -51,7 +51,7 @@ td{padding:5px 8px;vertical-align:top;border-bottom:1px solid var(--line);overfl
 td.what::before{content:"";display:inline-block;width:9px;height:9px;border-radius:50%;background:var(--c);
 margin-right:7px}
 td.say{color:var(--soft)}.say em{color:var(--eclipses);font-style:normal;font-weight:600}
-.win{width:200px;text-align:right}
+.win{width:178px;text-align:right}
 td.win{font:13px/1.85 ui-monospace,"DejaVu Sans Mono",monospace;color:var(--soft)}
 tr.moment td{font-size:14px;padding-top:1px;padding-bottom:1px;border-bottom:0}
 tr.moment td.win{font-size:13px}

@@ -117,6 +117,10 @@ class Year(unittest.TestCase):
     def test_the_packages_function(self):
         found = finder.almanac(YEAR, "2000-03-01", "2000-04-01", groups=[Group.SEASONS], program=PROGRAM)
         self.assertEqual([entry.name for entry in found.entries], ["March equinox"])
+        with self.assertRaisesRegex(ValueError, "did you mean 'seasons'"):
+            finder.almanac(YEAR, "2000-03-01", "2000-04-01", groups="season", program=PROGRAM)
+        with self.assertRaisesRegex(ValueError, "did you mean 'html'"):
+            finder.page(found, "htm")
         with self.assertRaisesRegex(ValueError, "ends after it starts"):
             finder.almanac(YEAR, "2000-04-01", "2000-03-01", program=PROGRAM)
 

@@ -51,10 +51,10 @@ class Words(InFolder):
 
     def test_wrong_words(self):
         rows = {
-            ("2000", "--only", "eclipse"): "'eclipse' is no group: the nearest is eclipses, of moon, ",
-            ("2000", "--only", "moon,seson"): "'seson' is no group: the nearest is seasons",
+            ("2000", "--only", "eclipse"): "no group is 'eclipse': did you mean 'eclipses'? There are moon, ",
+            ("2000", "--only", "moon,seson"): "no group is 'seson': did you mean 'seasons'?",
             ("2000", "--jobs", "0"): "'0' is no number of searches",
-            ("2000", "--tz", "Europe/Berln"): "'Europe/Berln' is no time zone: the nearest is Europe/Berlin",
+            ("2000", "--tz", "Europe/Berln"): "no time zone is 'Europe/Berln': did you mean 'Europe/Berlin'?",
             ("2000", "--tz", "Europe/Berlin", "--scale", "tt"): "leave --tz out",
             ("2000-1999",): "'2000-1999' are no years from 1 to 9998 in order",
             ("MM",): "'MM' is no year: write 2026",

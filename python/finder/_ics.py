@@ -17,7 +17,7 @@ def ics_of(found: Almanac, clock: Clock) -> str:
     """The calendar: an event lasts where it has several moments. Its times are UTC, whatever the clock."""
     # (no time of day, so that the same almanac makes the same bytes)
     stamp = _utc(found.start)
-    lines = ["BEGIN:VCALENDAR", "VERSION:2.0", "PRODID:-//finder//almanac//EN", "CALSCALE:GREGORIAN", "METHOD:PUBLISH"]
+    lines = ["BEGIN:VCALENDAR", "VERSION:2.0", "PRODID:-//finder//almanac//EN", "CALSCALE:GREGORIAN"]
     lines.append(f"X-WR-CALNAME:{_escaped(found.title)}")
     for entry in found.entries:
         lines += _event_of(entry, stamp)

@@ -14,7 +14,7 @@ import finder
 from finder import Group
 from finder.__main__ import main
 from tests.almanacs import has
-from tests.common import PROGRAM, TOP, YEAR, InFolder, split_year
+from tests.common import PROGRAM, TOP, YEAR, InFolder, split_year, stand_in
 
 SEASONS = ("almanac", "2000", str(YEAR), "--only", "seasons")
 
@@ -106,8 +106,9 @@ class Output(InFolder):
         self.assertEqual((done.returncode, done.stderr), (3, b"finder: standard output: No space left on device\n"))
 
     def test_progress_on_a_terminal(self):
+        slow = stand_in(self.folder, f'[ "$1" = check ] || sleep 0.3\nexec {PROGRAM} "$@"')
         mine, theirs = pty.openpty()
-        done = started("almanac", "2000", str(YEAR), "--only", "moon,planets", stdout=subprocess.PIPE, stderr=theirs)
+        done = started(*SEASONS, "--program", str(slow), stdout=subprocess.PIPE, stderr=theirs)
         os.close(theirs)
         shown = b""
         with contextlib.suppress(OSError):
@@ -116,7 +117,7 @@ class Output(InFolder):
         os.close(mine)
         lines = shown.decode().split("\r")
         self.assertEqual(done.returncode, 0)
-        self.assertRegex(lines[1], r"^finder: [0-9]+ of 26 searches\x1b\[K$")
+        self.assertRegex(lines[1], r"^finder: [12] of 3 searches\x1b\[K$")
         self.assertEqual(lines[-1], "\x1b[K")
 
     def test_no_erfa(self):

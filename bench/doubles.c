@@ -5,11 +5,8 @@
 
        doubles reading FILE                      reads FILE and keeps its numbers; prints how many words and numbers there
                                                  were, and the sum of the numbers' sizes
-       doubles rounds KIND ROUNDS FILE           searches FILE, a text of DE405 by JPL, again and again for the events of
-                                                 one of ten kinds; prints how many events were found and how many values
-                                                 were computed in a round, and a checksum of the seconds found
-       doubles find --step SECONDS OPTIONS FILE  searches it for what the same options of finder ask for; prints the
-                                                 second and the direction of each event */
+       doubles find --step SECONDS OPTIONS FILE  searches FILE, a text of DE405 by JPL, for what the same options of
+                                                 finder ask for; prints the second and the direction of each event */
 #include <math.h>
 #include <stdint.h>
 #include <stdio.h>
@@ -364,11 +361,8 @@ static int condition(const struct search *s, const struct view *v) {
 struct event { long time; int is_up; };
 struct events { size_t count, room; struct event *all; };
 
-static unsigned long values;
-
 static int is_up(const struct file *f, const struct search *s, long time) {
     struct view view = look(f, s, time);
-    values++;
     return function(s, &view) >= 0;
 }
 
@@ -405,41 +399,6 @@ static void search(const struct file *f, const struct search *s, struct events *
 }
 
 /* ---------- commands ---------- */
-
-#define BY_EARTH .observer = EARTH, .step = DAY
-#define BEFORE_SUN .target = MOON, .second = SUN, .observer = EARTH, .radius2 = 696000, .step = DAY / 24
-
-/* The searches that are made in rounds, one of each of ten kinds. */
-static const struct search ROUNDS[] = {
-    { .kind = COORD, .target = MERCURY, BY_EARTH },
-    { .kind = RADIUS, .target = MOON, .value = 384400, BY_EARTH },
-    { .kind = APSIS, .target = MOON, BY_EARTH },
-    { .kind = CONJ, .target = MERCURY, .second = VENUS, BY_EARTH },
-    { .kind = STATION, .target = MERCURY, BY_EARTH },
-    { .kind = SEP, .target = MERCURY, .second = VENUS, .value = 0.998, BY_EARTH },
-    { .kind = SEPEXT, .target = MERCURY, .second = VENUS, BY_EARTH },
-    { .kind = ANY, BEFORE_SUN, .radius1 = 8115.5 },
-    { .kind = FULL, BEFORE_SUN, .radius1 = 8115.5 },
-    { .kind = ANNULAR, BEFORE_SUN, .radius1 = 1737.4 },
-};
-
-static int rounds(const char *kind, const char *times, const char *name) {
-    const struct search *s = 0;
-    for (size_t i = 0; i < sizeof ROUNDS / sizeof *ROUNDS; i++)
-        if (!strcmp(KINDS[ROUNDS[i].kind].name, kind)) s = &ROUNDS[i];
-    if (!s) fail("the kind is coord, radius, apsis, conj, station, sep, sepext, any, full or annular");
-    unsigned long n = strtoul(times, 0, 10);
-    struct file f = read_file(name);
-    struct events found = { 0 };
-    uint64_t sum = 0;
-    for (unsigned long i = 0; i < n; i++) {
-        search(&f, s, &found);
-        for (size_t k = 0; k < found.count; k++) sum = sum * 6364136223846793005ULL + (uint64_t)found.all[k].time;
-    }
-    printf("%s %lu changes %zu values %lu checksum %llu\n", kind, n, found.count, n ? values / n : 0,
-        (unsigned long long)sum);
-    return 0;
-}
 
 static int place_among(const char *const *names, int count, const char *name) {
     for (int i = 0; i < count; i++)
@@ -480,7 +439,6 @@ static int find(char **words, int count) {
 
 int main(int count, char **words) {
     if (count == 3 && !strcmp(words[1], "reading")) return reading(words[2]);
-    if (count == 5 && !strcmp(words[1], "rounds")) return rounds(words[2], words[3], words[4]);
     if (count > 2 && !strcmp(words[1], "find")) return find(words + 2, count - 2);
-    fail("reading FILE, rounds KIND ROUNDS FILE or find --step SECONDS OPTIONS FILE");
+    fail("reading FILE or find --step SECONDS OPTIONS FILE");
 }

@@ -2,14 +2,14 @@
 use Rattle.std.proofs.Common.{◌≡◌, ℕ, zero, suc, ◌≤◌, List, [], ◌∷◌, length, Result, Ok, Err, refl, arith}
 use Rattle.spec_text.specs.declared.decimals.Decimal.{Decimal}
 use Rattle.spec_ephemeris.specs.Ephemeris.{Ephemeris}
-use Rattle.spec_sections.specs.declared.rules.BrokenRule.{BrokenRule}
-use Rattle.spec_sections.specs.Sections.{FileLine, Stop, ◌>>=◌, at_line, after_words, first_words}
-use Rattle.spec_sections.proofs.Holding.{Holds, holds_ok, then_any}
-use Rattle.spec_sections.proofs.Steps.{bind_same}
-use Rattle.spec_sections.proofs.WordSections.{after_fewer}
+use Rattle.spec_files.specs.declared.rules.BrokenRule.{BrokenRule}
+use Rattle.spec_files.specs.Sections.{FileLine, Stop, ◌>>=◌, at_line, after_words, first_words}
+use Rattle.spec_files.proofs.Holding.{Holds, holds_ok, then_any}
+use Rattle.spec_files.proofs.Steps.{bind_same}
+use Rattle.spec_files.proofs.WordSections.{after_fewer}
 use Rattle.spec_faults.specs.declared.numbers.TheConstants.{TRUNCATED}
-use Rattle.spec_blocks.specs.BlockRules.{record_line}
-use Rattle.spec_blocks.specs.Blocks.{block, blocks_after, further_numbers, further_words, numbers_of, with_numbers, zeros_of}
+use Rattle.spec_files.specs.BlockRules.{record_line}
+use Rattle.spec_files.specs.Blocks.{block, blocks_after, further_numbers, further_words, numbers_of, with_numbers, zeros_of}
 
 -- the lines after a block are fewer
 pub further_fewer : (before : Ephemeris) (n : ℕ) (numbers : List Decimal) (lines : List FileLine)

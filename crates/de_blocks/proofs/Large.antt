@@ -6,7 +6,7 @@ use Rattle.spec_intervals.specs.Interval.{IsDistance}
 use Rattle.spec_text.specs.declared.decimals.Decimal.{Decimal}
 use Rattle.spec_ephemeris.specs.declared.granule.Rounded.{Rounded}
 use Rattle.eph_model.specs.Stores.{IsRounded}
-use Rattle.spec_blocks.specs.BlockRules.{is_too_large}
+use Rattle.spec_files.specs.BlockRules.{is_too_large}
 
 not_below : (test : Bool) (x y : ℕ) → IsTrue test ↔ (x < y) → not test ≡ nat_le y x
 not_below true x y known = let below : x < y = known.0 refl in grind (arith, nat_tests)

@@ -3,17 +3,17 @@ use Rattle.std.proofs.Common.{◌≡◌, ◌≢◌, ℕ, ◌+◌, ◌-◌, ◌<�
 use Rattle.std.proofs.lemmas.List.{length-append, length-take, length-drop}
 use Rattle.spec_text.specs.declared.decimals.Decimal.{Decimal}
 use Rattle.spec_ephemeris.specs.Ephemeris.{Ephemeris}
-use Rattle.spec_sections.specs.declared.rules.BrokenRule.{BrokenRule}
-use Rattle.spec_sections.specs.Sections.{FileLine, FileWord, Stop, ◌>>=◌, at_line, after_words, first_words, word_of}
-use Rattle.spec_sections.proofs.Steps.{bind_assoc, bind_at, bind_same}
-use Rattle.spec_sections.proofs.WordSections.{after_no_words, after_words_of_line, no_words}
-use Rattle.spec_sections.proofs.Holding.{holds_also, Holds, holds_ok, then_any}
+use Rattle.spec_files.specs.declared.rules.BrokenRule.{BrokenRule}
+use Rattle.spec_files.specs.Sections.{FileLine, FileWord, Stop, ◌>>=◌, at_line, after_words, first_words, word_of}
+use Rattle.spec_files.proofs.Steps.{bind_assoc, bind_at, bind_same}
+use Rattle.spec_files.proofs.WordSections.{after_no_words, after_words_of_line, no_words}
+use Rattle.spec_files.proofs.Holding.{holds_also, Holds, holds_ok, then_any}
 use Rattle.spec_faults.specs.declared.numbers.TheConstants.{TRUNCATED}
-use Rattle.spec_blocks.specs.BlockRules.{number_rule, trailing_rule}
-use Rattle.spec_blocks.specs.Blocks.{further_numbers, further_words, numbers_of, zeros_of}
-use Rattle.spec_blocks.specs.Read.{AreRead}
-use Rattle.spec_blocks.proofs.FurtherWords.{none_further}
-use Rattle.spec_blocks.proofs.Numbers.{Counted, Meets, number_holds, read_more}
+use Rattle.spec_files.specs.BlockRules.{number_rule, trailing_rule}
+use Rattle.spec_files.specs.Blocks.{further_numbers, further_words, numbers_of, zeros_of}
+use Rattle.spec_files.specs.Read.{AreRead}
+use Rattle.spec_files.proofs.FurtherWords.{none_further}
+use Rattle.spec_files.proofs.Numbers.{Counted, Meets, number_holds, read_more}
 use Rattle.de_blocks.specs.Steps.{numbers_on, on_line, wanted, zeros_on}
 
 -- ---- words one after the other

@@ -1,20 +1,25 @@
 -- A block after the blocks before it.
-use Rattle.std.proofs.Common.{◌≡◌, ℕ, zero, suc, ◌+◌, ◌*◌, ◌<◌, ◌≤◌, List, [], ◌∷◌, ◌++◌, length, take, sym, subst, Result, Ok, Err, refl, ap, ◌∙◌, arith, ℤ, eq-eqb, false, if◌then◌else◌, nat_lt, true}
+use Rattle.std.proofs.Common.{◌≡◌, ℕ, zero, suc, ◌+◌, ◌*◌, ◌<◌, ◌≤◌, List, [], ◌∷◌, ◌++◌, length, take, sym, subst, Result, Ok, Err, Some, refl, ap, ◌∙◌, arith, ℤ, eq-eqb, false, if◌then◌else◌, nat_lt, true}
 use Rattle.std.specs.Prelude.{IfOk}
 use Rattle.spec_text.specs.declared.decimals.Decimal.{Decimal}
 use Rattle.spec_ephemeris.specs.declared.limits.TheConstants.{MAX_BLOCKS}
 use Rattle.spec_ephemeris.specs.Ephemeris.{Ephemeris, IsBlock, IsEphemeris, IsStart, empty_ephemeris, with_block}
-use Rattle.spec_sections.specs.declared.rules.BrokenRule.{BrokenRule}
+use Rattle.spec_files.specs.declared.rules.BrokenRule.{BrokenRule}
 use Rattle.std.proofs.lemmas.Bool.{ltb-true}
-use Rattle.spec_sections.specs.Sections.{broken}
-use Rattle.spec_sections.proofs.Holding.{holds_ok}
+use Rattle.spec_files.specs.Sections.{broken}
+use Rattle.spec_files.proofs.Holding.{holds_ok}
 use Rattle.spec_faults.specs.declared.numbers.TheConstants.{BLOCK_SPAN}
-use Rattle.spec_blocks.specs.BlockRules.{coefficient_rule, first_date, follows, has_length, is_after_gap, is_skipped, second_date, time_of, value_rule}
-use Rattle.spec_blocks.specs.Blocks.{begun, with_numbers}
-use Rattle.spec_blocks.specs.Read.{AreRead}
-use Rattle.spec_blocks.proofs.Blocks.{is_block, right_length, room, time_holds}
+use Rattle.spec_files.specs.BlockRules.{coefficient_rule, first_date, follows, has_length, is_after_gap, is_skipped, is_too_large, number_rule, second_date, time_of, value_rule}
+use Rattle.spec_files.specs.Blocks.{begun, with_numbers}
+use Rattle.spec_files.specs.Read.{AreRead}
+use Rattle.spec_files.proofs.Blocks.{is_block, right_length, room, time_holds}
 use Rattle.de_blocks.specs.Dates.{AreDates, AreRuled, met}
 use Rattle.de_blocks.specs.declared.dates.Dates.{Dates}
+use Rattle.de_blocks.specs.Steps.{Pushes}
+use Rattle.de_blocks.proofs.Large.{small_one}
+use Rattle.spec_ephemeris.specs.declared.granule.Rounded.{Rounded}
+use Rattle.spec_text.specs.Reading.{reading}
+use Rattle.eph_model.specs.Stores.{IsRounded}
 use Rattle.eph_model.specs.Starting.{starting_at}
 
 no_numbers : (numbers : List Decimal) → length numbers ≡ 0 → numbers ≡ []
@@ -130,3 +135,15 @@ at_later before numbers d own r q two are rule is same = record {
 pub second_refused : (before : Ephemeris) (first d : Decimal) (start end : ℤ) (b : BrokenRule) → time_of first ≡ Ok start → Ok end ≡ time_of d
     → has_length before.header.block_seconds start end ≡ true → Err b ≡ follows before start end → Err b ≡ second_date before first d
 second_refused before first d start end b a e has rule = rw (a, ← e, has) rule
+
+-- ---- a number below 2^36 in size after the dates
+pub small_rule : (before : Ephemeris) (numbers : List Decimal) (word : List ℕ) (d : Decimal) (p : Rounded) → 2 ≤ length numbers → Ok d ≡ reading word
+    → IsRounded d (Some p) → number_rule before numbers word ≡ Ok d
+small_rule before numbers word d p two reads rounded =
+    let small : false ≡ is_too_large d = small_one d p (Some p) refl rounded in
+    let rule : value_rule before numbers d ≡ Ok tt = sym (of_coefficient before numbers d two) ∙ rw (← small) refl in
+    rw (← reads, rule) refl
+
+pub small_pushed : (before : Ephemeris) (numbers new : List Decimal) (line : ℕ) (word : List ℕ) (d : Decimal) (p : Rounded) → 2 ≤ length numbers
+    → Ok d ≡ reading word → IsRounded d (Some p) → new ≡ numbers ++ d ∷ [] → Pushes before numbers line word (Ok tt) new
+small_pushed before numbers new line word d p two reads rounded pushed = (d, small_rule before numbers word d p two reads rounded, pushed)

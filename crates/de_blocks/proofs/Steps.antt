@@ -5,23 +5,23 @@ use Rattle.spec_text.specs.Lines.{TokenLine}
 use Rattle.spec_text.specs.declared.decimals.Decimal.{Decimal}
 use Rattle.spec_text.specs.declared.decimals.Fault.{Fault}
 use Rattle.spec_ephemeris.specs.Ephemeris.{Ephemeris}
-use Rattle.spec_sections.specs.declared.rules.BrokenRule.{BrokenRule}
-use Rattle.spec_sections.specs.Sections.{FileLine, Stop, ended, breaks as breaks_rule, ◌>>=◌, at_line, line_fault}
-use Rattle.spec_sections.proofs.Holding.{holds_ok}
+use Rattle.spec_files.specs.declared.rules.BrokenRule.{BrokenRule}
+use Rattle.spec_files.specs.Sections.{FileLine, Stop, ended, breaks as breaks_rule, ◌>>=◌, at_line, line_fault}
+use Rattle.spec_files.proofs.Holding.{holds_ok}
 use Rattle.spec_faults.specs.declared.numbers.TheConstants.{TRUNCATED}
-use Rattle.spec_blocks.specs.BlockRules.{record_line}
-use Rattle.spec_blocks.specs.Blocks.{blocks_after, further_numbers, with_numbers}
-use Rattle.spec_blocks.specs.Read.{AreRead}
-use Rattle.spec_sections.specs.FileLines.{line_of}
-use Rattle.spec_sections.specs.declared.errors.ReadError.{ReadError}
-use Rattle.spec_sections.specs.declared.errors.ReadError.TheVariants as errors
+use Rattle.spec_files.specs.BlockRules.{record_line}
+use Rattle.spec_files.specs.Blocks.{blocks_after, further_numbers, with_numbers}
+use Rattle.spec_files.specs.Read.{AreRead}
+use Rattle.spec_files.specs.FileLines.{line_of}
+use Rattle.spec_files.specs.declared.errors.ReadError.{ReadError}
+use Rattle.spec_files.specs.declared.errors.ReadError.TheVariants as errors
 use Rattle.de_blocks.specs.declared.state.Place.{Place}
 use Rattle.de_blocks.specs.declared.state.Place.TheVariants.{Between, Inside, Refused}
-use Rattle.spec_blocks.proofs.Blocks.{is_with}
-use Rattle.spec_blocks.proofs.Numbers.{none_read}
+use Rattle.spec_files.proofs.Blocks.{is_with}
+use Rattle.spec_files.proofs.Numbers.{none_read}
 use Rattle.de_blocks.specs.Steps.{TakesLine, on_line, wanted}
 use Rattle.de_blocks.specs.Reader.{Ends, Fits, Progress, Says, Takes, answer, at_end, from_numbers, from_record, numbers_at, says, says_at}
-use Rattle.spec_sections.proofs.Steps.{bind_same, broken_by}
+use Rattle.spec_files.proofs.Steps.{bind_same, broken_by}
 use Rattle.de_blocks.proofs.Enough.{enough, further_fewer}
 use Rattle.de_blocks.proofs.OnLines.{Accepted, accepted, breaks, ends, goes_on}
 

@@ -3,10 +3,10 @@ use Rattle.std.proofs.Common.{◌≡◌, Result, Ok, Err, subst, sym, ℤ}
 use Rattle.std.specs.Prelude.{IfOk}
 use Rattle.spec_text.specs.declared.decimals.Decimal.{Decimal}
 use Rattle.spec_ephemeris.specs.Ephemeris.{IsStart}
-use Rattle.spec_sections.specs.declared.rules.BrokenRule.{BrokenRule}
-use Rattle.spec_sections.proofs.Holding.{Holds}
-use Rattle.spec_blocks.specs.BlockRules.{time_of}
-use Rattle.spec_blocks.proofs.Blocks.{time_holds}
+use Rattle.spec_files.specs.declared.rules.BrokenRule.{BrokenRule}
+use Rattle.spec_files.proofs.Holding.{Holds}
+use Rattle.spec_files.specs.BlockRules.{time_of}
+use Rattle.spec_files.proofs.Blocks.{time_holds}
 
 of_held : (r : Result ℤ BrokenRule) → Holds IsStart r → IfOk r IsStart
 of_held (Ok t) holds = holds

@@ -1,16 +1,16 @@
 -- Numbers, word by word.
-use Rattle.std.proofs.Common.{◌≡◌, ℕ, suc, ◌-◌, ◌<◌, ◌≤◌, List, [], ◌∷◌, ◌++◌, length, take, drop, Result, Ok, Err, refl, sym, ap, ◌∙◌, subst, arith}
+use Rattle.std.proofs.Common.{◌≡◌, ℕ, suc, ◌+◌, ◌-◌, ◌<◌, ◌≤◌, List, [], ◌∷◌, ◌++◌, length, take, drop, Result, Ok, Err, refl, sym, ap, ◌∙◌, subst, arith}
 use Rattle.std.proofs.lemmas.List.{length-append, take-append-le}
 use Rattle.spec_text.specs.declared.decimals.Decimal.{Decimal}
 use Rattle.spec_text.specs.declared.decimals.Fault.{Fault as Broken}
 use Rattle.spec_ephemeris.specs.Ephemeris.{Ephemeris}
-use Rattle.spec_sections.specs.declared.rules.BrokenRule.{BrokenRule}
-use Rattle.spec_blocks.specs.BlockRules.{number_rule}
+use Rattle.spec_files.specs.declared.rules.BrokenRule.{BrokenRule}
+use Rattle.spec_files.specs.BlockRules.{number_rule}
 use Rattle.de_blocks.specs.Steps.{Pushes, ReadsNumbers, numbers_on, wanted}
-use Rattle.spec_sections.specs.declared.errors.ReadError.{ReadError}
-use Rattle.spec_sections.specs.declared.errors.ReadError.TheVariants.{Fault, Memory}
-use Rattle.spec_sections.specs.Sections.{ruled_at}
-use Rattle.spec_sections.proofs.Steps.{broken_by}
+use Rattle.spec_files.specs.declared.errors.ReadError.{ReadError}
+use Rattle.spec_files.specs.declared.errors.ReadError.TheVariants.{Fault, Memory}
+use Rattle.spec_files.specs.Sections.{ruled_at}
+use Rattle.spec_files.proofs.Steps.{broken_by}
 use Rattle.eph_model.specs.Stores.{Store}
 use Rattle.de_blocks.specs.Dates.{number_in}
 use Rattle.de_blocks.specs.declared.dates.RuledNumber.{RuledNumber}
@@ -45,6 +45,11 @@ keeps_on before old mid new words left rest line word keeps is few (d, rule, pus
       more = omega (arith, keeps.more, length-append mid (d ∷ []));
       few = omega (arith, few, length-append mid (d ∷ []));
     })
+
+-- how many numbers there are after a word
+pub counted : (before : Ephemeris) (numbers new : List Decimal) (line : ℕ) (word : List ℕ) (count : ℕ) → count ≡ length numbers
+    → Pushes before numbers line word (Ok tt) new → count + 1 ≡ length new
+counted before numbers new line word count is (d, rule, pushed) = omega (arith, is, length-append numbers (d ∷ []), ap length pushed)
 
 pub stops_at : (before : Ephemeris) (old mid : List Decimal) (words left rest : List (List ℕ)) (word : List ℕ) (b : BrokenRule) → Keeps before old mid words left
     → left ≡ word ∷ rest → length mid < before.header.ncoeff → number_rule before mid word ≡ Err b

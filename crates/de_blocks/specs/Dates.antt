@@ -2,8 +2,9 @@
 use Rattle.std.specs.Prelude.{◌≡◌, List, [], ◌∷◌, ◌++◌, IfOk, Result, Ok, Err}
 use Rattle.spec_text.specs.declared.decimals.Decimal.{Decimal}
 use Rattle.spec_ephemeris.specs.Ephemeris.{Ephemeris}
-use Rattle.spec_sections.specs.declared.rules.BrokenRule.{BrokenRule}
-use Rattle.spec_blocks.specs.BlockRules.{time_of, value_rule}
+use Rattle.spec_files.specs.declared.rules.BrokenRule.{BrokenRule}
+use Rattle.spec_files.specs.Sections.{◌>>=◌}
+use Rattle.spec_files.specs.BlockRules.{time_of, value_rule}
 use Rattle.de_blocks.specs.declared.dates.Dates.{Dates}
 use Rattle.de_blocks.specs.declared.dates.RuledNumber.{RuledNumber}
 
@@ -27,3 +28,7 @@ pub record AreRuled (before : Ephemeris) (numbers : List Decimal) (d : Decimal) 
 abbrev pub number_in : Result RuledNumber BrokenRule → Result Decimal BrokenRule
 number_in (Ok ruled) = Ok ruled.number
 number_in (Err b) = Err b
+
+-- a number as the one after these
+abbrev pub ruled_by : Ephemeris → List Decimal → Decimal → Result Decimal BrokenRule
+ruled_by before numbers d = value_rule before numbers d >>= λ meets. Ok d

@@ -4,12 +4,12 @@ use Rattle.spec_text.specs.Lines.{TokenLine}
 use Rattle.spec_text.specs.declared.decimals.Decimal.{Decimal}
 use Rattle.spec_text.specs.declared.decimals.Fault.{Fault}
 use Rattle.spec_ephemeris.specs.Ephemeris.{Ephemeris, IsEphemeris}
-use Rattle.spec_sections.specs.Sections.{FileLine, Stop, ended, breaks, ◌>>=◌}
-use Rattle.spec_blocks.specs.Blocks.{blocks_after, further_numbers, with_numbers}
-use Rattle.spec_blocks.specs.Read.{AreRead}
-use Rattle.spec_sections.specs.FileLines.{line_of, stopped_at}
-use Rattle.spec_sections.specs.declared.errors.ReadError.{ReadError}
-use Rattle.spec_sections.specs.declared.errors.ReadError.TheVariants as errors
+use Rattle.spec_files.specs.Sections.{FileLine, Stop, ended, breaks, ◌>>=◌}
+use Rattle.spec_files.specs.Blocks.{blocks_after, further_numbers, with_numbers}
+use Rattle.spec_files.specs.Read.{AreRead}
+use Rattle.spec_files.specs.FileLines.{line_of, stopped_at}
+use Rattle.spec_files.specs.declared.errors.ReadError.{ReadError}
+use Rattle.spec_files.specs.declared.errors.ReadError.TheVariants as errors
 use Rattle.de_blocks.specs.declared.state.Place.{Place}
 use Rattle.de_blocks.specs.declared.state.Place.TheVariants.{Between, Inside, Refused}
 use Rattle.de_blocks.specs.Steps.{wanted}

@@ -2,13 +2,13 @@
 use Rattle.std.specs.Prelude.{◌≡◌, ℕ, ◌-◌, ◌<◌, List, [], ◌∷◌, ◌++◌, length, take, drop, Result, Ok, Err}
 use Rattle.spec_text.specs.declared.decimals.Decimal.{Decimal}
 use Rattle.spec_ephemeris.specs.Ephemeris.{Ephemeris}
-use Rattle.spec_sections.specs.declared.rules.BrokenRule.{BrokenRule}
-use Rattle.spec_sections.specs.Sections.{◌>>=◌, ruled_at}
-use Rattle.spec_sections.specs.declared.errors.ReadError.{ReadError}
-use Rattle.spec_sections.specs.declared.errors.ReadError.TheVariants.{Fault, Memory}
+use Rattle.spec_files.specs.declared.rules.BrokenRule.{BrokenRule}
+use Rattle.spec_files.specs.Sections.{◌>>=◌, ruled_at}
+use Rattle.spec_files.specs.declared.errors.ReadError.{ReadError}
+use Rattle.spec_files.specs.declared.errors.ReadError.TheVariants.{Fault, Memory}
 use Rattle.spec_text.specs.Lines.{TokenLine}
-use Rattle.spec_blocks.specs.BlockRules.{number_rule, trailing_rule}
-use Rattle.spec_blocks.specs.Blocks.{with_numbers}
+use Rattle.spec_files.specs.BlockRules.{number_rule, trailing_rule}
+use Rattle.spec_files.specs.Blocks.{with_numbers}
 use Rattle.de_blocks.specs.declared.state.Place.{Place}
 use Rattle.de_blocks.specs.declared.state.Place.TheVariants.{Between, Inside, Refused}
 

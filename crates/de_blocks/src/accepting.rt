@@ -1,14 +1,14 @@
 // A line within a block.
 ghost use Rattle.std.specs.Prelude.{◌<◌, length};
 ghost use Rattle.spec_ephemeris.specs.Ephemeris.{IsEphemeris};
-ghost use Rattle.spec_blocks.specs.Read.{AreRead};
+ghost use Rattle.spec_files.specs.Read.{AreRead};
 ghost use Rattle.de_blocks.specs.Steps.{TakesLine};
 
 use crate::block::OpenBlock;
 use crate::state::Place;
 use crate::walk::read_line;
 use de_text::Line;
-use spec_sections::ReadError;
+use spec_files::ReadError;
 
 // Reads a line within a block, and takes the block in once it is whole. The place is where the line leaves the reader.
 pub(crate) fn take_line(block: &mut OpenBlock, line: &Line<'_>) -> Result<Place, ReadError>

@@ -1,13 +1,14 @@
 // A block that was begun, after the blocks before it.
-ghost use Rattle.std.specs.Prelude.{◌≡◌, ◌<◌, ◌≤◌, ◌++◌, [], ◌∷◌, IfOk, length};
+ghost use Rattle.std.specs.Prelude.{◌≡◌, ◌<◌, ◌≤◌, ◌++◌, [], ◌∷◌, IfOk, List, Ok, Some, length, ℕ};
 ghost use Rattle.spec_text.specs.declared.decimals.Decimal.{Decimal};
 ghost use Rattle.spec_ephemeris.specs.Header.{IsHeader};
 ghost use Rattle.spec_ephemeris.specs.Ephemeris.{IsEphemeris};
-ghost use Rattle.spec_blocks.specs.BlockRules.{is_too_large, number_rule};
-ghost use Rattle.spec_blocks.specs.Blocks.{no_blocks, with_numbers};
-ghost use Rattle.spec_blocks.specs.Read.{AreRead};
+ghost use Rattle.spec_text.specs.Reading.{reading};
+ghost use Rattle.spec_files.specs.BlockRules.{is_too_large};
+ghost use Rattle.spec_files.specs.Blocks.{no_blocks, with_numbers};
+ghost use Rattle.spec_files.specs.Read.{AreRead};
 ghost use Rattle.eph_model.specs.Stores.{IsRounded, cut_to};
-ghost use Rattle.de_blocks.specs.Dates.{AreDates, AreRuled, met, number_in};
+ghost use Rattle.de_blocks.specs.Dates.{AreDates, AreRuled, number_in, ruled_by};
 ghost use Rattle.de_blocks.specs.Steps.{Pushes};
 
 use crate::closing::close;
@@ -15,9 +16,9 @@ use crate::dates::{Dates, RuledNumber};
 use crate::rules::{
     coefficient_rule, first_date, is_large, is_skipped, number_of, second_date, with_dates,
 };
-use eph_model::{BlockStore, Ephemeris, rounded};
+use eph_model::{BlockStore, Ephemeris, Rounded, quick_pair, rounded};
 use spec_ephemeris::Header;
-use spec_sections::{BrokenRule, ReadError, ruled_at};
+use spec_files::{BrokenRule, ReadError, ruled_at};
 use spec_text::Decimal;
 use std::alloc::Global;
 use std::marker::Model;
@@ -94,15 +95,14 @@ impl OpenBlock {
         }
     }
 
-    // The number that a word is after the others.
-    fn number_rule(&self, word: &[u8]) -> Result<RuledNumber, BrokenRule>
+    // A number after the others, with what comes of it.
+    fn ruled(&self, number: Decimal) -> Result<RuledNumber, BrokenRule>
         requires { length self.now.numbers < self.now.accepted.header.ncoeff }
-        ensures value { number_in result ≡ number_rule self.now.accepted self.now.numbers word.now }
+        ensures value { number_in result ≡ ruled_by self.now.accepted self.now.numbers number }
         ensures dates { IfOk result (λ ruled.
             AreDates (self.now.numbers ++ ruled.number ∷ []) ruled.dates) }
         ensures rounded { IfOk result (λ ruled. IsRounded ruled.number ruled.rounded) }
     {
-        let number = number_of(word)?;
         let rounded = rounded(number);
         let dates = self.ruled_dates(number, is_large(number, rounded))?;
         Ok(RuledNumber {
@@ -112,6 +112,51 @@ impl OpenBlock {
         })
     }
 
+    // Puts a number that was read on this line after the others, by all rules.
+    #[inline(never)]
+    fn push_any(&mut self, line: u32, number: Decimal) -> Result<(), ReadError>
+        requires { length self.old.numbers < self.old.accepted.header.ncoeff }
+        ensures pushed { (word : List ℕ) → Ok number ≡ reading word
+            → Pushes self.old.accepted self.old.numbers line word result self.new.numbers }
+        ensures same { self.new.accepted ≡ self.old.accepted }
+    {
+        let ruled = ruled_at(line, self.ruled(number))?;
+        self.store.push(ruled.number, ruled.rounded)?;
+        self.dates = ruled.dates;
+        Ok(())
+    }
+
+    // Puts a number below 2^36 in size after the others, of which the first two are there.
+    #[inline(always)]
+    fn push_small(&mut self, number: Decimal, pair: Rounded) -> Result<(), ReadError>
+        requires dates { 2 ≤ length self.old.numbers }
+        requires rounded { IsRounded number (Some pair) }
+        ensures pushed { (line : ℕ) (word : List ℕ) → Ok number ≡ reading word
+            → Pushes self.old.accepted self.old.numbers line word result self.new.numbers }
+        ensures same { self.new.accepted ≡ self.old.accepted }
+    {
+        self.store.push(number, Some(pair))?;
+        Ok(())
+    }
+
+    /// Puts a number that was read on this line after the others, which are so many.
+    #[inline(always)]
+    pub fn push_number(&mut self, line: u32, count: usize, number: Decimal) -> Result<(), ReadError>
+        requires few { length self.old.numbers < self.old.accepted.header.ncoeff }
+        requires count { count ≡ length self.old.numbers }
+        ensures pushed { (word : List ℕ) → Ok number ≡ reading word
+            → Pushes self.old.accepted self.old.numbers line word result self.new.numbers }
+        ensures same { self.new.accepted ≡ self.old.accepted }
+    {
+        if count < 2 {
+            return self.push_any(line, number);
+        }
+        match quick_pair(number) {
+            Some(pair) => self.push_small(number, pair),
+            None => self.push_any(line, number),
+        }
+    }
+
     /// Puts the number that a word of this line is after the others.
     pub fn push_word(&mut self, line: u32, word: &[u8]) -> Result<(), ReadError>
         requires { length self.old.numbers < self.old.accepted.header.ncoeff }
@@ -119,10 +164,8 @@ impl OpenBlock {
             self.new.numbers }
         ensures same { self.new.accepted ≡ self.old.accepted }
     {
-        let ruled = ruled_at(line, self.number_rule(word))?;
-        self.store.push(ruled.number, ruled.rounded)?;
-        self.dates = ruled.dates;
-        Ok(())
+        let number = ruled_at(line, number_of(word))?;
+        self.push_any(line, number)
     }
 
     /// Takes the whole block in, where it is not skipped.

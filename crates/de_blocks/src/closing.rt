@@ -2,7 +2,7 @@
 ghost use Rattle.std.specs.Prelude.{◌≡◌, ◌<◌, []};
 ghost use Rattle.spec_ephemeris.specs.declared.limits.TheConstants.{MAX_BLOCKS};
 ghost use Rattle.spec_ephemeris.specs.Ephemeris.{IsBlock, IsEphemeris, IsStart, with_block};
-ghost use Rattle.spec_blocks.specs.Blocks.{begun};
+ghost use Rattle.spec_files.specs.Blocks.{begun};
 ghost use Rattle.eph_model.specs.Starting.{starting_at};
 
 use eph_model::BlockStore;

@@ -1,6 +1,6 @@
 // What readers say in several files.
 ghost use Rattle.std.specs.Prelude.{◌≡◌, List, ℕ};
-ghost use Rattle.spec_sections.specs.Sections.{FileLine};
+ghost use Rattle.spec_files.specs.Sections.{FileLine};
 ghost use Rattle.de_blocks.specs.Reader.{IsNotRefused, Progress, says};
 
 /// A reader that met no fault takes lines from any file: what it says of them doesn't depend on the file that it read

@@ -7,7 +7,7 @@ ghost use Rattle.spec_text.specs.Reading.{reading};
 ghost use Rattle.spec_text.specs.declared.decimals.Decimal.{Decimal};
 ghost use Rattle.eph_model.specs.Stores.{IsRounded};
 ghost use Rattle.de_blocks.specs.Dates.{AreDates, met};
-ghost use Rattle.spec_blocks.specs.BlockRules.{coefficient_rule, first_date, follows, has_length, is_after_gap, is_skipped, is_place, is_place_of, is_place_of_body, is_too_large, number_by, record_line, second_date, time_of, trailing_rule};
+ghost use Rattle.spec_files.specs.BlockRules.{coefficient_rule, first_date, follows, has_length, is_after_gap, is_skipped, is_place, is_place_of, is_place_of_body, is_too_large, number_by, record_line, second_date, time_of, trailing_rule};
 
 use crate::dates::Dates;
 use de_text::{Line, read_decimal, seconds_of_julian_date};
@@ -17,7 +17,7 @@ use spec_faults::{
     BLOCK_GAP, BLOCK_SPAN, NCOEFF_DIFFERS, NUMBER, RECORD_LINE, TOO_LARGE, TOO_MANY_BLOCKS,
     TRAILING_NUMBERS,
 };
-use spec_sections::BrokenRule;
+use spec_files::BrokenRule;
 use spec_text::Decimal;
 
 // The line before the numbers of a block.

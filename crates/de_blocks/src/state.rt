@@ -2,7 +2,7 @@
 use spec_text::Fault;
 
 /// What a reader waits for.
-#[derive(Clone, Copy, Debug, PartialEq, Eq)]
+#[derive(Clone, Copy, PartialEq, Eq)]
 pub enum Place {
     /// The record line of a block, or the end.
     Between,

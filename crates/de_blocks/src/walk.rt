@@ -1,12 +1,12 @@
 // The words of a line within a block, from left to right.
 ghost use Rattle.std.specs.Prelude.{◌≡◌, ◌<◌, length, take};
-ghost use Rattle.spec_sections.specs.Sections.{ruled_at};
+ghost use Rattle.spec_files.specs.Sections.{ruled_at};
 ghost use Rattle.de_blocks.specs.Steps.{Reads, ReadsNumbers, on_line, zeros_on};
 
 use crate::block::OpenBlock;
 use crate::rules::trailing_rule;
 use de_text::{Line, Words};
-use spec_sections::{ReadError, ruled_at};
+use spec_files::{ReadError, ruled_at};
 use spec_text::Fault;
 
 // Reads words of this line until the block is whole or none is left.
@@ -18,10 +18,20 @@ fn read_numbers(block: &mut OpenBlock, line: u32, words: &mut Words<'_>) -> Resu
     ensures same { block.new.accepted ≡ block.old.accepted }
 {
     let ncoeff = block.header().ncoeff as usize;
-    while block.count() < ncoeff {
-        match words.next() {
-            None => return Ok(()),
-            Some(word) => block.push_word(line, word)?,
+    let mut count = block.count();
+    while count < ncoeff {
+        match words.number() {
+            Some(number) => {
+                block.push_number(line, count, number)?;
+                count += 1;
+            }
+            None => match words.next() {
+                None => return Ok(()),
+                Some(word) => {
+                    block.push_word(line, word)?;
+                    count += 1;
+                }
+            },
         }
     }
     Ok(())

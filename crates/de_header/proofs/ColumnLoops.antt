@@ -4,9 +4,9 @@ use Rattle.std.specs.Prelude.{slice_get}
 use Rattle.std.proofs.lemmas.List.{take_more_set, drop_all}
 use Rattle.spec_faults.specs.declared.numbers.TheConstants.{HEADER_NUMBER}
 use Rattle.spec_ephemeris.specs.declared.header.Column.{Column}
-use Rattle.spec_sections.specs.declared.rules.BrokenRule.{BrokenRule}
-use Rattle.spec_header.specs.ColumnRules.{columns_of, whole_numbers}
-use Rattle.spec_sections.specs.Sections.{broken}
+use Rattle.spec_files.specs.declared.rules.BrokenRule.{BrokenRule}
+use Rattle.spec_files.specs.ColumnRules.{columns_of, whole_numbers}
+use Rattle.spec_files.specs.Sections.{broken}
 use Rattle.spec_text.specs.Reading.{whole_at}
 
 abbrev column_at : List ℕ → List ℕ → List ℕ → ℕ → Column

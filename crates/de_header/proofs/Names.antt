@@ -3,8 +3,8 @@ use Rattle.std.proofs.Common.{◌≡◌, ℕ, zero, suc, ◌+◌, ◌<◌, ◌�
 use Rattle.std.specs.Prelude.{slice_get, codes}
 use Rattle.std.proofs.lemmas.List.{length-take-le}
 use Rattle.spec_numbers.proofs.Lists.{get_take}
-use Rattle.spec_sections.specs.Sections.{is_word}
-use Rattle.spec_header.specs.HeaderRules.{emrat_from}
+use Rattle.spec_files.specs.Sections.{is_word}
+use Rattle.spec_files.specs.HeaderRules.{emrat_from}
 
 no_emrat : (ws : List (List ℕ)) (i k : ℕ) → i < length ws → is_word (slice_get ws i) (codes "EMRAT") ≡ false
     → emrat_from k (drop i ws) ≡ emrat_from (suc k) (drop (suc i) ws)

@@ -5,11 +5,11 @@ use Rattle.std.proofs.lemmas.Bool.{cases_lt, cases_eq}
 use Rattle.std.proofs.lemmas.List.{length-map, length-take, map-append, take_all}
 use Rattle.std.proofs.lemmas.Option.{none-some}
 use Rattle.spec_faults.specs.declared.numbers.TheConstants.{ENDED}
-use Rattle.spec_header.specs.HeaderLines.{mass_ratio_among, names}
-use Rattle.spec_header.specs.HeaderRules.{mass_ratio}
-use Rattle.spec_sections.proofs.WordSections.{after_no_words, after_words_of_line, no_words}
+use Rattle.spec_files.specs.HeaderLines.{mass_ratio_among, names}
+use Rattle.spec_files.specs.HeaderRules.{mass_ratio}
+use Rattle.spec_files.proofs.WordSections.{after_no_words, after_words_of_line, no_words}
 use Rattle.spec_numbers.proofs.Lists.{get_take}
-use Rattle.spec_sections.specs.Sections.{FileLine, FileWord, Stop, ended, ◌>>=◌, at_line, after_words, first_words, word_of}
+use Rattle.spec_files.specs.Sections.{FileLine, FileWord, Stop, ended, ◌>>=◌, at_line, after_words, first_words, word_of}
 
 abbrev map_some : {X Y : Type 0} → (X → Y) → Option X → Option Y
 map_some f None = None

@@ -6,13 +6,13 @@ use Rattle.std.proofs.lemmas.Bool.{cases_Bool}
 use Rattle.std.proofs.lemmas.List.{length-take}
 use Rattle.std.proofs.lemmas.Option.{slice_get-get_or}
 use Rattle.spec_text.specs.declared.decimals.Decimal.{Decimal}
-use Rattle.spec_sections.specs.declared.rules.BrokenRule.{BrokenRule}
+use Rattle.spec_files.specs.declared.rules.BrokenRule.{BrokenRule}
 use Rattle.spec_faults.specs.declared.numbers.TheConstants.{ENDED}
-use Rattle.spec_header.specs.HeaderLines.{names, HeaderOrStop, facts_of, from_column_group, from_value_group, from_values}
-use Rattle.spec_header.specs.HeaderRules.{emrat_from, mass_ratio}
-use Rattle.spec_sections.specs.Sections.{FileLine, Stop, ◌>>=◌, at_line, after_words}
-use Rattle.spec_header.specs.declared.facts.Facts.{Facts}
-use Rattle.spec_header.specs.declared.facts.BlockShape.{BlockShape}
+use Rattle.spec_files.specs.HeaderLines.{names, HeaderOrStop, facts_of, from_column_group, from_value_group, from_values}
+use Rattle.spec_files.specs.HeaderRules.{emrat_from, mass_ratio}
+use Rattle.spec_files.specs.Sections.{FileLine, Stop, ◌>>=◌, at_line, after_words}
+use Rattle.spec_files.specs.declared.facts.Facts.{Facts}
+use Rattle.spec_files.specs.declared.facts.BlockShape.{BlockShape}
 use Rattle.de_header.specs.Reader.{from_more_names, from_more_values, or_else}
 use Rattle.de_header.proofs.Runs.{after_names, after_line, after_none, names_line, names_none, ratio_here, ratio_later}
 

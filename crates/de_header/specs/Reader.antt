@@ -4,18 +4,18 @@ use Rattle.spec_text.specs.Lines.{TokenLine}
 use Rattle.spec_text.specs.declared.decimals.Fault.{Fault}
 use Rattle.spec_ephemeris.specs.declared.header.Header.{Header}
 use Rattle.spec_ephemeris.specs.declared.limits.TheConstants.{MAX_COLUMNS}
-use Rattle.spec_sections.specs.declared.rules.BrokenRule.{BrokenRule}
+use Rattle.spec_files.specs.declared.rules.BrokenRule.{BrokenRule}
 use Rattle.spec_faults.specs.declared.numbers.TheConstants.{ENDED}
-use Rattle.spec_header.specs.declared.limits.TheConstants.{MAX_CONSTANTS}
-use Rattle.spec_header.specs.declared.facts.BlockShape.{BlockShape}
-use Rattle.spec_header.specs.declared.facts.Facts.{Facts}
-use Rattle.spec_header.specs.HeaderLines.{HeaderOrStop, from_coefficients, from_column_group, from_end_group, from_first_line, from_granules, from_name_count, from_name_group, from_span, from_starts, from_title_group, from_titles, from_value_count, from_value_group, from_values, header_of, names}
-use Rattle.spec_header.specs.HeaderRules.{emrat_from}
-pub use Rattle.spec_sections.specs.FileLines.{line_of}
-use Rattle.spec_sections.specs.FileLines.{stopped_at}
-use Rattle.spec_sections.specs.Sections.{FileLine, Stop, ended, breaks, ◌>>=◌, after_words, at_line}
-use Rattle.spec_sections.specs.declared.errors.ReadError.{ReadError}
-use Rattle.spec_sections.specs.declared.errors.ReadError.TheVariants as errors
+use Rattle.spec_files.specs.declared.limits.TheConstants.{MAX_CONSTANTS}
+use Rattle.spec_files.specs.declared.facts.BlockShape.{BlockShape}
+use Rattle.spec_files.specs.declared.facts.Facts.{Facts}
+use Rattle.spec_files.specs.HeaderLines.{HeaderOrStop, from_coefficients, from_column_group, from_end_group, from_first_line, from_granules, from_name_count, from_name_group, from_span, from_starts, from_title_group, from_titles, from_value_count, from_value_group, from_values, header_of, names}
+use Rattle.spec_files.specs.HeaderRules.{emrat_from}
+pub use Rattle.spec_files.specs.FileLines.{line_of}
+use Rattle.spec_files.specs.FileLines.{stopped_at}
+use Rattle.spec_files.specs.Sections.{FileLine, Stop, ended, breaks, ◌>>=◌, after_words, at_line}
+use Rattle.spec_files.specs.declared.errors.ReadError.{ReadError}
+use Rattle.spec_files.specs.declared.errors.ReadError.TheVariants as errors
 use Rattle.de_header.specs.declared.answers.Step.{Step}
 use Rattle.de_header.specs.declared.answers.Step.TheVariants.{More, Done}
 use Rattle.de_header.specs.declared.state.State.{State}

@@ -1,6 +1,6 @@
 -- The first of the numbers that are kept of a row.
 use Rattle.std.specs.Prelude.{ℕ, List, take, Result, Ok, Err}
-use Rattle.spec_sections.specs.declared.rules.BrokenRule.{BrokenRule}
+use Rattle.spec_files.specs.declared.rules.BrokenRule.{BrokenRule}
 
 -- so many of a list, where there is one
 abbrev pub first_of : {X : Type 0} → ℕ → Result (List X) BrokenRule → Result (List X) BrokenRule

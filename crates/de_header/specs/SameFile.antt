@@ -1,6 +1,6 @@
 -- A reader that wants more lines says the same in every file.
 use Rattle.std.proofs.Common.{◌≡◌, ℕ, List, refl}
-use Rattle.spec_sections.specs.Sections.{FileLine}
+use Rattle.spec_files.specs.Sections.{FileLine}
 use Rattle.de_header.specs.declared.state.State.{State}
 use Rattle.de_header.specs.declared.state.State.TheVariants.{First, TitleGroup, Titles, Span, NameGroup, NameCount, Names, ValueGroup, ValueCount, ValuesBefore, ValuesAfter, ColumnGroup, Starts, Coefficients, Granules, EndGroup, Whole, Refused}
 use Rattle.de_header.specs.Reader.{IsOpen, says}

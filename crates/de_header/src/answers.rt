@@ -1,8 +1,8 @@
 // What a reader answers.
-use spec_sections::ReadError;
+use spec_files::ReadError;
 
 /// Whether a reader wants more lines.
-#[derive(Clone, Copy, Debug, PartialEq, Eq)]
+#[derive(Clone, Copy, PartialEq, Eq)]
 pub enum Step {
     /// The header goes on.
     More,

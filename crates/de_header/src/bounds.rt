@@ -1,13 +1,12 @@
 // The numbers of a header, within bounds.
 ghost use Rattle.std.specs.Prelude.{◌≡◌, ◌≤◌, IfOk};
 ghost use Rattle.spec_text.specs.Days.{seconds_of_julian_date};
-ghost use Rattle.spec_header.specs.HeaderRules.{block_length, days_by, days_rule, is_mass_ratio};
+ghost use Rattle.spec_files.specs.HeaderRules.{block_length, days_by, days_rule, is_mass_ratio};
 
 use de_text::{DaysFault, seconds_of_julian_date, seconds_within, size_over, size_under};
 use spec_ephemeris::{GREATEST_MASS_RATIO, MIN_MASS_RATIO};
 use spec_faults::{JD_NOT_WHOLE_SECOND, LIMIT};
-use spec_header::MAX_BLOCK_DAYS;
-use spec_sections::BrokenRule;
+use spec_files::{BrokenRule, MAX_BLOCK_DAYS};
 use spec_text::Decimal;
 
 fn days_rule(fault: DaysFault) -> BrokenRule

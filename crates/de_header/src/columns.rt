@@ -1,7 +1,7 @@
 // The rules of the columns.
 ghost use Rattle.std.specs.Prelude.{◌≡◌, ◌<◌, ◌≤◌, [], IfOk, Ok, length, take};
 ghost use Rattle.spec_ephemeris.specs.declared.limits.TheConstants.{MAX_COLUMNS};
-ghost use Rattle.spec_header.specs.ColumnRules.{column_rule, columns_of, columns_rule, columns_row, first_row, is_column_count, is_out_of_place, overlap, overlaps_any, present_column, row_of, whole_numbers};
+ghost use Rattle.spec_files.specs.ColumnRules.{column_rule, columns_of, columns_rule, columns_row, first_row, is_column_count, is_out_of_place, overlap, overlaps_any, present_column, row_of, whole_numbers};
 ghost use Rattle.de_header.specs.Rows.{first_of, if_met};
 
 use de_text::Line;
@@ -10,8 +10,7 @@ use spec_ephemeris::{Column, FIRST_PLACE, MAX_COEFFICIENTS, MAX_COLUMNS, READ_CO
 use spec_faults::{
     COEFFICIENT_COUNT, COLUMN_COUNT, COLUMN_PLACE, GRANULE_NOT_WHOLE, HEADER_NUMBER,
 };
-use spec_header::Facts;
-use spec_sections::BrokenRule;
+use spec_files::{BrokenRule, Facts};
 
 // The whole numbers of a line that has no more words than a header has columns. Zeros stand after them.
 fn whole_numbers(line: &Line<'_>) -> Result<[u32; MAX_COLUMNS], BrokenRule>

@@ -1,6 +1,6 @@
 // What readers say in several files.
 ghost use Rattle.std.specs.Prelude.{◌≡◌, List, ℕ};
-ghost use Rattle.spec_sections.specs.Sections.{FileLine};
+ghost use Rattle.spec_files.specs.Sections.{FileLine};
 ghost use Rattle.de_header.specs.declared.state.State.{State};
 ghost use Rattle.de_header.specs.Reader.{IsOpen, says};
 

@@ -2,13 +2,13 @@
 ghost use Rattle.std.specs.Prelude.{◌≡◌, ◌∷◌, [], ◌+◌, ◌≤◌, ◌<◌, IfErr, IfOk, List, None, Err, Ok, ℕ, length, min, take};
 ghost use Rattle.spec_text.specs.declared.decimals.Fault.{Fault};
 ghost use Rattle.spec_ephemeris.specs.declared.limits.TheConstants.{MAX_COLUMNS};
-ghost use Rattle.spec_header.specs.declared.limits.TheConstants.{MAX_CONSTANTS};
+ghost use Rattle.spec_files.specs.declared.limits.TheConstants.{MAX_CONSTANTS};
 ghost use Rattle.spec_ephemeris.specs.Header.{IsHeader};
-ghost use Rattle.spec_header.specs.HeaderLines.{header, header_of};
-ghost use Rattle.spec_header.specs.HeaderRules.{emrat_from};
-ghost use Rattle.spec_sections.specs.Sections.{FileLine};
+ghost use Rattle.spec_files.specs.HeaderLines.{header, header_of};
+ghost use Rattle.spec_files.specs.HeaderRules.{emrat_from};
+ghost use Rattle.spec_files.specs.Sections.{FileLine};
 ghost use Rattle.de_header.specs.declared.state.State.TheVariants as states;
-ghost use Rattle.spec_sections.specs.declared.errors.ReadError.TheVariants as errors;
+ghost use Rattle.spec_files.specs.declared.errors.ReadError.TheVariants as errors;
 ghost use Rattle.de_header.specs.declared.answers.Step.TheVariants as steps;
 ghost use Rattle.de_header.specs.Reader.{Ends, Fits, GivesAgain, HasRead, IsAfterNames, IsAfterValues, IsAt, IsNotDone, IsNotWhole, IsOpen, IsRefused, IsWhole, KeepsFault, Moves, answer, from_more_names, from_more_values, or_else, says};
 
@@ -21,8 +21,7 @@ use crate::words::{
 use de_text::Line;
 use spec_ephemeris::{Column, Columns, Header, MAX_COLUMNS};
 use spec_faults::ENDED;
-use spec_header::{BlockShape, Facts};
-use spec_sections::BrokenRule;
+use spec_files::{BlockShape, BrokenRule, Facts};
 use spec_text::Fault;
 use std::alloc::Global;
 use std::marker::Model;

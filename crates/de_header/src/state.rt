@@ -1,6 +1,6 @@
 // How far a reader has come, with what it has read.
 use spec_ephemeris::{Column, MAX_COLUMNS};
-use spec_header::{BlockShape, Facts};
+use spec_files::{BlockShape, Facts};
 use spec_text::Fault;
 
 /// What a reader waits for, and what it keeps. A place of `EMRAT` is counted from 0. Of rows and columns the first `count`

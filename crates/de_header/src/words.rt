@@ -1,8 +1,8 @@
 // The rules of the lines before the columns.
 ghost use Rattle.std.specs.Prelude.{◌≡◌, ◌≤◌, ◌<◌, ◌+◌, IfOk, List, Some, length, slice_get, take, codes, ℕ};
 ghost use Rattle.std.specs.Option.{option_copied};
-ghost use Rattle.spec_sections.specs.Sections.{is_word};
-ghost use Rattle.spec_header.specs.HeaderRules.{decimal_at, emrat_from, first_line, group, mass_ratio, mass_ratio_of, name_count, span, value_count};
+ghost use Rattle.spec_files.specs.Sections.{is_word};
+ghost use Rattle.spec_files.specs.HeaderRules.{decimal_at, emrat_from, first_line, group, mass_ratio, mass_ratio_of, name_count, span, value_count};
 
 use crate::bounds::{block_length, check_julian_date, is_mass_ratio};
 use de_text::{Decimal, Line, read_decimal};
@@ -10,8 +10,7 @@ use spec_ephemeris::{MAX_NUMBERS, MIN_NUMBERS};
 use spec_faults::{
     COUNT_MISMATCH, EMRAT_MISSING, EMRAT_RANGE, FIRST_LINE, GROUP_MISSING, HEADER_NUMBER, LIMIT,
 };
-use spec_header::MAX_CONSTANTS;
-use spec_sections::BrokenRule;
+use spec_files::{BrokenRule, MAX_CONSTANTS};
 
 fn is_word(line: &Line<'_>, i: usize, text: &[u8]) -> bool
     ensures { result ≡ is_word (slice_get line.now.tokens i) text.now }

@@ -8,3 +8,4 @@ pub mod Splits
 pub mod TokenPlaces
 pub mod TokenRuns
 pub mod Sizes
+pub mod Numbers

@@ -14,7 +14,7 @@ use spec_text::{MAX_LINE_BYTES, MAX_TEXT_BYTES};
 use std::marker::Model;
 
 /// A line that has tokens: what stands between its blanks and tabs.
-#[derive(Debug, Drop)]
+#[derive(Drop)]
 pub struct Line<'a> {
     number: u32,
     bytes: &'a [u8],
@@ -73,7 +73,7 @@ impl<'a> Line<'a> {
 }
 
 /// What a cursor meets next.
-#[derive(Debug, Drop)]
+#[derive(Drop)]
 pub enum LineStep<'a> {
     /// The next line that isn't blank.
     Line(Line<'a>),
@@ -84,7 +84,7 @@ pub enum LineStep<'a> {
 }
 
 /// A cursor over the lines of a text. It skips blank lines, and stays for good at a line that is too long.
-#[derive(Debug, Drop)]
+#[derive(Drop)]
 pub struct Tokens<'a> {
     rest: &'a [u8],
     passed: u32,

@@ -24,7 +24,7 @@ fn signed(negative: bool, size: u64) -> i64
 
 // The decimal of the parts, or the second or the third fault.
 #[inline(always)]
-fn assemble(parts: &Parts) -> Result<Decimal, NumberFault>
+pub(crate) fn assemble(parts: &Parts) -> Result<Decimal, NumberFault>
     requires { IsOfShortWord parts.now }
     ensures { (n : Numeral) → AreDigits (digits n) → Shows n parts.now
         → result ≡ reading_of (Some n) }

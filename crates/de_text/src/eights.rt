@@ -47,7 +47,8 @@ fn first_word(text: &[u8]) -> u64
 }
 
 // The number that the first eight bytes write, which are digits. Each byte is joined with the next to a number below 100,
-// and every second of these counts.
+// of which every second counts, and each of these with the next to a number below 10,000, of which again every second
+// counts.
 #[inline(always)]
 fn eight_digits(text: &[u8]) -> u64
     requires long { EIGHT ≤ length text.now }
@@ -61,7 +62,9 @@ fn eight_digits(text: &[u8]) -> u64
     let second = pairs / (1 << 16) % (1 << 8);
     let third = pairs / (1 << 32) % (1 << 8);
     let last = pairs / (1 << 48) % (1 << 8);
-    1_000_000 * first + 10_000 * second + 100 * third + last
+    let twos = first + (1 << 16) * second + (1 << 32) * third + (1 << 48) * last;
+    let fours = 100 * twos + twos / (1 << 16);
+    10_000 * (fours % (1 << 16)) + fours / (1 << 32) % (1 << 16)
 }
 
 // The number that eight digits at the front write after an earlier one, and what follows them.

@@ -8,6 +8,7 @@ mod decimal;
 mod digits;
 mod eights;
 mod examples;
+mod fields;
 mod lines;
 mod parts;
 mod tokens;

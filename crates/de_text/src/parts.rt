@@ -1,5 +1,5 @@
 // The parts of a numeral, cut from the front of a word.
-ghost use Rattle.std.specs.Prelude.{◌≡◌, ◌≤◌, ◌^◌, IfSome, Some, length, min};
+ghost use Rattle.std.specs.Prelude.{◌≡◌, ◌≤◌, ◌^◌, ◌∷◌, IfSome, List, Some, length, min, ℕ};
 ghost use Rattle.spec_text.specs.Decimals.{value_after};
 ghost use Rattle.spec_text.specs.Splitting.{exponent_at, fraction_at, numeral_of, sign_at};
 ghost use Rattle.de_text.specs.Parts.{ShowsExponent, Splits, fraction_digits, is_minus};
@@ -114,14 +114,28 @@ fn plain_fraction(start: u64, text: &[u8]) -> Option<Digits<'_>>
     }
 }
 
-// The sign and the size of an exponent of two digits that is the whole text.
+// Whether a sign that is written is a minus. Of both signs one bit tells that, which needs no branch.
 #[inline(always)]
-fn plain_exponent(text: &[u8]) -> Option<(bool, u64)>
+fn written_sign(sign: u8) -> Option<bool>
+    ensures negative { IfSome result (λ negative. (rest : List ℕ)
+        → negative ≡ is_minus (sign_at (sign ∷ rest)).0) }
+    ensures rest { IfSome result (λ negative. (rest : List ℕ) → rest ≡ (sign_at (sign ∷ rest)).1) }
+{
+    let minus = sign / 4 % 2;
+    if sign != b'+' + 2 * minus {
+        return None;
+    }
+    Some(minus == 1)
+}
+
+// The sign and the size of an exponent as JPL writes it: a D, a sign and two digits.
+#[inline(always)]
+fn field_exponent(text: &[u8]) -> Option<(bool, u64)>
     ensures { IfSome result (λ e. ShowsExponent (exponent_at text.now) (Some e)) }
 {
     match text {
-        [b'D' | b'd' | b'E' | b'e', rest @ ..] => {
-            let (negative, rest) = take_sign(rest);
+        [b'D', sign, rest @ ..] => {
+            let negative = written_sign(*sign)?;
             let digits = two_digits(0, rest)?;
             if digits.count == 0 || !digits.rest.is_empty() {
                 return None;
@@ -132,14 +146,24 @@ fn plain_exponent(text: &[u8]) -> Option<(bool, u64)>
     }
 }
 
-// The parts of a word as JPL writes its numbers: a digit, a point, eighteen digits, and an exponent of two.
+// The parts of a word of which the sign was read, as JPL writes its numbers: a digit, a point, eighteen digits, and an
+// exponent of two.
+#[inline(always)]
+pub(crate) fn split_signless(negative: bool, text: &[u8]) -> Option<Parts>
+    ensures { IfSome result (λ parts. (word : List ℕ) → negative ≡ is_minus (sign_at word).0
+        → text.now ≡ (sign_at word).1 → Splits (numeral_of word) (Some parts)) }
+{
+    let whole = one_digit(text)?;
+    let digits = plain_fraction(whole.number, whole.rest)?;
+    let (exponent_negative, exponent) = field_exponent(digits.rest)?;
+    Some(parts_of(negative, &digits, exponent_negative, exponent))
+}
+
+// The parts of a word as JPL writes its numbers.
 #[inline(always)]
 pub(crate) fn split_plain(word: &[u8]) -> Option<Parts>
     ensures { IfSome result (λ parts. Splits (numeral_of word.now) (Some parts)) }
 {
     let (negative, rest) = take_sign(word);
-    let whole = one_digit(rest)?;
-    let digits = plain_fraction(whole.number, whole.rest)?;
-    let (exponent_negative, exponent) = plain_exponent(digits.rest)?;
-    Some(parts_of(negative, &digits, exponent_negative, exponent))
+    split_signless(negative, rest)
 }

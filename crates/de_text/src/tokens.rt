@@ -11,7 +11,7 @@ const LANES: usize = 16;
 
 const WIDE: usize = 32;
 
-fn is_separator(b: u8) -> bool
+pub(crate) fn is_separator(b: u8) -> bool
     ensures { result ≡ is_separator b }
 {
     b == b' ' || b == b'\t'

@@ -1,13 +1,16 @@
 // A cursor over the tokens of a line.
-ghost use Rattle.std.specs.Prelude.{◌≡◌};
+ghost use Rattle.std.specs.Prelude.{◌≡◌, ◌∷◌, IfNone, IfSome, List, Ok, ℕ};
 ghost use Rattle.std.specs.Iterator.{YieldsFirstRef, item_count};
 ghost use Rattle.spec_text.specs.Lines.{tokens};
+ghost use Rattle.spec_text.specs.Reading.{reading};
 
+use crate::fields::cut_number;
 use crate::tokens::cut_token;
+use spec_text::Decimal;
 use std::marker::Model;
 
 /// A cursor over the tokens of a line, from left to right. Its value is the list of those that are left.
-#[derive(Debug, Drop)]
+#[derive(Drop)]
 pub struct Words<'a> {
     pub(crate) rest: &'a [u8],
 }
@@ -27,6 +30,19 @@ impl<'a> Words<'a> {
         ensures { result ≡ tokens line.entry.now }
     {
         Words { rest: line }
+    }
+
+    /// The number that the next word is, where it is written as JPL writes those of blocks; that word is then passed.
+    /// Elsewhere nothing is passed.
+    #[inline(always)]
+    pub fn number(&mut self) -> Option<Decimal>
+        ensures number { IfSome result (λ d. (word : List ℕ)
+            × (self.old ≡ word ∷ self.new) × (Ok d ≡ reading word)) }
+        ensures other { IfNone result (self.new ≡ self.old) }
+    {
+        let (number, rest) = cut_number(self.rest)?;
+        self.rest = rest;
+        Some(number)
     }
 }
 

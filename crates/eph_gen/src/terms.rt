@@ -1,7 +1,7 @@
 // The coefficients of generated blocks.
 ghost use Rattle.std.specs.Prelude.{◌≡◌, ◌+◌, ◌<◌, ◌^◌, ◌-ℤ◌, ◌*ℤ◌, length, pos};
 ghost use Rattle.spec_ephemeris.specs.declared.limits.TheConstants.{MAX_COEFFICIENTS};
-ghost use Rattle.spec_blocks.specs.BlockRules.{is_place};
+ghost use Rattle.spec_files.specs.BlockRules.{is_place};
 ghost use Rattle.spec_generated.specs.Coefficients.{columns_of, millionths, term_among, term_at};
 
 use eph_model::{is_present, place_after};

@@ -6,3 +6,4 @@ pub mod PairLists
 pub mod StoreLists
 pub mod Times
 pub mod Small
+mod QuickPairs

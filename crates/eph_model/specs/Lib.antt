@@ -3,3 +3,4 @@ pub mod Pairs
 pub mod Short
 pub mod Starting
 pub mod Stores
+pub mod Quotients

@@ -11,11 +11,13 @@ mod columns;
 mod ephemeris;
 mod granules;
 mod grid;
+mod quick;
 mod rounding;
 mod store;
 
 pub use columns::{components, is_present, place_after};
 pub use ephemeris::{Ephemeris, Memory};
+pub use quick::quick_pair;
 pub use rounding::{pair_of, rounded};
 pub use spec_ephemeris::{Body, Column, Columns, Granule, Header, Rounded};
 pub use store::BlockStore;

@@ -12,7 +12,7 @@ use spec_text::Decimal;
 use std::alloc::AllocError;
 
 // 2^63 times ten to this exponent is below 2^36.
-const SMALL_EXPONENT: i16 = -9;
+pub(crate) const SMALL_EXPONENT: i16 = -9;
 
 /// A number of km below 2^36 in size, rounded down and up to a whole number of units of 2^-24 km.
 pub fn pair_of(number: Decimal) -> Rounded
@@ -47,6 +47,7 @@ pub fn rounded(number: Decimal) -> Option<Rounded>
 }
 
 // The pair that is kept beside a number. Beside one that is no number of a body it is never read.
+#[inline(always)]
 pub(crate) fn kept_pair(rounded: Option<Rounded>) -> Rounded
     ensures { (number : Decimal) → IsRounded number rounded → IsPair number result }
 {
@@ -57,6 +58,7 @@ pub(crate) fn kept_pair(rounded: Option<Rounded>) -> Rounded
 }
 
 // Adds a pair for which there is room.
+#[inline(always)]
 pub(crate) fn push_pair(pairs: &mut Vec<Rounded>, pair: Rounded) -> Result<(), AllocError>
     requires room { vec_len pairs.old < vec_capacity pairs.old }
     ensures done { IsOk result }

@@ -82,6 +82,7 @@ impl BlockStore {
 
     /// Adds a number, rounded by `rounded`, to the block that was begun: a Julian date or a coefficient in km. After
     /// `Memory` nothing has changed.
+    #[inline(always)]
     pub fn push(&mut self, number: Decimal, rounded: Option<Rounded>) -> Result<(), Memory>
         requires { IsRounded number rounded }
         ensures added { OnOk result (self.new ≡ with_number self.old number) }

@@ -10,7 +10,7 @@ use Rattle.spec_intervals.specs.Interval.{Interval, end_limit, is_zero, narrow, 
 use Rattle.spec_intervals.specs.Enclosure.{IsSpan, IsWithin, offsets}
 use Rattle.spec_intervals.proofs.Exponents.{IsBetween, narrow-between, product-between}
 use Rattle.spec_intervals.proofs.Offsets.{narrow-small, offsets-within}
-use Rattle.spec_inclusions.specs.Bounds.{at_exponent, coarse_sum, coarsened, raised_sum, reached}
+use Rattle.spec_models.specs.Bounds.{at_exponent, coarse_sum, coarsened, raised_sum, reached}
 use Rattle.spec_bounds.proofs.Exponents.{raised_high, raised_low}
 use Rattle.event_bounds.specs.Fine.{IsFine}
 

@@ -4,7 +4,7 @@ use Rattle.spec_expressions.specs.Term.{Leaf, Term, leaf, length, cosine, sum, d
 use Rattle.spec_bodies.specs.declared.quantity.Quantity.{Quantity}
 use Rattle.spec_bodies.specs.declared.quantity.Quantity.TheVariants.{Position, Velocity}
 use Rattle.spec_bodies.specs.Views.{View}
-use Rattle.spec_inclusions.specs.Bounds.{Bound, sum_bound, difference_bound, product_bound, signed_square_bound}
+use Rattle.spec_models.specs.Bounds.{Bound, sum_bound, difference_bound, product_bound, signed_square_bound}
 use Rattle.spec_bounds.specs.Limits.{IsBoundWithin}
 use Rattle.spec_bounds.specs.Terms.{bound_over, state_bound, term_bound}
 use Rattle.event_expr.specs.Leaves.{Names, has_axis, has_leaf}

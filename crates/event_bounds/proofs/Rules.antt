@@ -7,7 +7,7 @@ use Rattle.spec_intervals.specs.Interval.{Interval, IsCosine, IsDistance, IsExpo
 use Rattle.spec_intervals.specs.Enclosure.{IsSpan, IsWithin, offsets, twice_size}
 use Rattle.spec_intervals.proofs.Exponents.{IsWithin-more, cosine-within, distance-within, product-within, signed_square-within, twice_size-within}
 use Rattle.spec_expressions.specs.Term.{part_exponent}
-use Rattle.spec_inclusions.specs.Bounds.{coarse_difference, coarse_sum, constant_bound}
+use Rattle.spec_models.specs.Bounds.{coarse_difference, coarse_sum, constant_bound}
 use Rattle.spec_bounds.proofs.Exponents.{coarse_sum-within, coarse_difference-within, stepped-within}
 use Rattle.event_expr.specs.States.{wide_exponent}
 use Rattle.event_bounds.specs.declared.bound.Bound.{Bound as Made}

@@ -14,7 +14,7 @@ use Rattle.spec_bodies.specs.Reading.{AllColumns, IsReadable, IsShort}
 use Rattle.spec_bodies.specs.Views.{Fits, View, factor_of, target_of}
 use Rattle.spec_bodies.proofs.Bounds.{displacement_low}
 use Rattle.spec_bodies.proofs.Held.{readable_columns}
-use Rattle.spec_inclusions.specs.Bounds.{Bound, constant_bound}
+use Rattle.spec_models.specs.Bounds.{Bound, constant_bound}
 use Rattle.spec_bounds.specs.Limits.{IsBoundWithin}
 use Rattle.spec_bounds.proofs.Exponents.{constant-reached, reached-within}
 use Rattle.spec_bounds.proofs.Within.{coordinate-within, factor-within}

@@ -1,7 +1,7 @@
 -- What the code makes of a bound.
 use Rattle.std.specs.Prelude.{◌≡◌, ℕ, Bool, IsTrue}
 use Rattle.spec_expressions.specs.Term.{leaf_exponent}
-use Rattle.spec_inclusions.specs.Bounds.{Bound}
+use Rattle.spec_models.specs.Bounds.{Bound}
 use Rattle.spec_bounds.specs.Limits.{IsBoundWithin}
 use Rattle.event_bounds.specs.declared.bound.Bound.{Bound as Made}
 

@@ -4,7 +4,7 @@ use Rattle.event_expr.specs.States.{Times}
 use Rattle.spec_bodies.specs.declared.quantity.Quantity.{Quantity}
 use Rattle.spec_bodies.specs.Coordinates.{barycentric_coordinate}
 use Rattle.spec_bodies.specs.Views.{View, factor_of}
-use Rattle.spec_inclusions.specs.Bounds.{Bound}
+use Rattle.spec_models.specs.Bounds.{Bound}
 use Rattle.spec_bounds.specs.Terms.{bound_of, column_bound}
 use Rattle.event_bounds.specs.declared.bound.Bound.{Bound as Made}
 use Rattle.event_bounds.specs.declared.spans.ObserverBounds.{ObserverBounds}

@@ -5,7 +5,7 @@ use Rattle.spec_bodies.specs.Coordinates.{Coordinate}
 use Rattle.spec_bodies.specs.Meanings.{factor_interval}
 use Rattle.spec_bodies.specs.Reading.{AllColumns, IsReadable}
 use Rattle.spec_bodies.specs.Views.{Fits, factor_of}
-use Rattle.spec_inclusions.specs.Bounds.{Bound, constant_bound, product_bound}
+use Rattle.spec_models.specs.Bounds.{Bound, constant_bound, product_bound}
 use Rattle.spec_bounds.specs.Terms.{bound_of, column_bound}
 use Rattle.event_bounds.specs.declared.bound.Bound.{Bound as Made}
 use Rattle.event_bounds.specs.declared.seen.Seen.{Seen}

@@ -3,7 +3,7 @@ ghost use Rattle.std.specs.Prelude.{◌≡◌, ◌-ℤ◌, IsTrue, false, pos};
 ghost use Rattle.spec_intervals.specs.Interval.{Interval, IsExponent, is_zero, lift_limit};
 ghost use Rattle.spec_intervals.specs.Enclosure.{IsWithin};
 ghost use Rattle.spec_expressions.specs.Term.{part_exponent};
-ghost use Rattle.spec_inclusions.specs.Bounds.{Bound as BoundOf, bound, constant_bound, difference_bound, product_bound, reached, signed_square_bound, sum_bound};
+ghost use Rattle.spec_models.specs.Bounds.{Bound as BoundOf, bound, constant_bound, difference_bound, product_bound, reached, signed_square_bound, sum_bound};
 ghost use Rattle.event_expr.specs.States.{wide_exponent};
 ghost use Rattle.event_bounds.specs.Fine.{IsFine};
 ghost use Rattle.event_bounds.specs.Made.{IsBound, IsMadeWithin};

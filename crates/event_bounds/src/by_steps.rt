@@ -2,7 +2,7 @@
 ghost use Rattle.std.specs.Prelude.{◌≡◌, ◌<◌, length};
 ghost use Rattle.spec_bodies.specs.Views.{Fits};
 ghost use Rattle.spec_bounds.specs.Terms.{bound_over, term_bound};
-ghost use Rattle.spec_steps.specs.Steps.{term_at, terms_of};
+ghost use Rattle.spec_expressions.specs.Steps.{term_at, terms_of};
 ghost use Rattle.event_steps.specs.Entered.{IsMadeAt};
 ghost use Rattle.event_bounds.specs.Made.{IsBound};
 ghost use Rattle.event_bounds.specs.Spans.{IsSpanWithin, leaf_bound};

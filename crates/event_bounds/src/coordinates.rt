@@ -3,7 +3,7 @@ ghost use Rattle.std.specs.Prelude.{◌≡◌, ◌<◌};
 ghost use Rattle.spec_expressions.specs.Term.{part_exponent};
 ghost use Rattle.spec_bodies.specs.Coordinates.{barycentric_coordinate, displacement, earth, ecliptic_coordinate, less, nothing, of_column, times};
 ghost use Rattle.spec_bodies.specs.Views.{coordinate_of};
-ghost use Rattle.spec_inclusions.specs.Bounds.{Bound as BoundOf};
+ghost use Rattle.spec_models.specs.Bounds.{Bound as BoundOf};
 ghost use Rattle.event_bounds.specs.Made.{IsBound, IsIfWanted, IsMadeWithin};
 ghost use Rattle.body_states.specs.Answers.{CanReadObserver};
 ghost use Rattle.event_bounds.specs.Observer.{AreObserverBounds, IsIfMade, observer_bound};

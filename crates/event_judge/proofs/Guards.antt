@@ -3,7 +3,7 @@ use Rattle.std.proofs.Common.{◌≡◌, ◌∙◌, ℕ, zero, suc, ◌+◌, ◌
 use Rattle.std.specs.Prelude.{IfSome}
 use Rattle.std.specs.List.{list_all, list_any}
 use Rattle.std.proofs.lemmas.List.{at_drop_all, at_drop_more, get_or_default}
-use Rattle.spec_steps.specs.declared.steps.Step.{Step}
+use Rattle.spec_expressions.specs.declared.steps.Step.{Step}
 use Rattle.spec_searches.specs.Event.{Condition, Event}
 use Rattle.event_steps.specs.Entered.{IsMadeAt, KeepsSteps}
 use Rattle.event_judge.specs.declared.listed_event.ListedEvent.{ListedEvent}

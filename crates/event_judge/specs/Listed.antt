@@ -1,6 +1,6 @@
 -- The steps of an event's function and conditions.
 use Rattle.std.specs.Prelude.{ℕ, zero, suc, ◌<◌, Option, None, IfSome, List, length, slice_index_or}
-use Rattle.spec_steps.specs.declared.steps.Step.{Step}
+use Rattle.spec_expressions.specs.declared.steps.Step.{Step}
 use Rattle.spec_searches.specs.Event.{Condition, Event}
 use Rattle.event_steps.specs.Entered.{IsMadeAt}
 use Rattle.event_judge.specs.declared.listed_event.ListedEvent.{ListedEvent}

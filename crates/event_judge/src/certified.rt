@@ -16,10 +16,10 @@ use crate::memory::Memory;
 use crate::naming::Naming;
 use crate::steps::is_one_way;
 use crate::valid_node::ValidNode;
+use gf_hooks::Verdict;
 use ival_core::Enclosure;
 use spec_bounds::laws::conditions_that_hold;
 use step_enclosures::StepEnclosures;
-use tree_judge::Verdict;
 
 impl<'e> EventSearch<'e> {
     // Whether each condition is known by its bound to hold from one time to another, between which no granule begins.

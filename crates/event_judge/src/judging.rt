@@ -16,8 +16,7 @@ use crate::valid_node::ValidNode;
 use body_states::BodyStates;
 use eph_model::Ephemeris;
 use event_kinds::Event;
-use gf_hooks::Cutter;
-use tree_judge::{Judge, Node, Verdict};
+use gf_hooks::{Cutter, Judge, Node, Verdict};
 
 impl<'e> EventJudge<'e> {
     /// The judge of the search for an event of the two targets of the states, which read this ephemeris. Nodes are

@@ -7,8 +7,8 @@ ghost use Rattle.spec_searches.specs.Search.{verdict_of};
 
 use crate::event_search::EventSearch;
 use crate::naming::Naming;
+use gf_hooks::Judge;
 use std::marker::PhantomData;
-use tree_judge::Judge;
 
 /// A judge of the nodes of the search that a call has named, with that search.
 #[derive(Drop)]

@@ -6,9 +6,8 @@ ghost use Rattle.spec_searches.specs.Search.{border_cut, may_be_cut, parts, part
 
 use crate::event_search::EventSearch;
 use crate::valid_node::ValidNode;
-use gf_hooks::{Cutter, rule_cut};
+use gf_hooks::{Cutter, Node, rule_cut};
 use spec_searches::laws::searches_are_sound;
-use tree_judge::Node;
 
 // The two parts of a node that is cut at a time, at a depth.
 fn parts_at(time: i64, depth: u32, node: Node) -> (Node, Node)

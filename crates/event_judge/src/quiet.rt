@@ -13,10 +13,9 @@ use crate::memory::Memory;
 use crate::naming::Naming;
 use crate::valid_node::ValidNode;
 use eph_model::Ephemeris;
-use gf_signs::has_no_turn;
+use gf_hooks::{Node, has_no_turn};
 use ival_core::Sign;
 use spec_bounds::laws::quiet_spans_are_clear;
-use tree_judge::Node;
 
 // The last time before the next granule of one of some columns begins, or that of the ephemeris.
 fn last_time(ephemeris: &Ephemeris, columns: &[usize], time: i64) -> i64

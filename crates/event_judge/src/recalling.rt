@@ -9,9 +9,9 @@ use crate::named_judge::NamedJudge;
 use crate::naming::Naming;
 use crate::remembering_judge::RememberingJudge;
 use crate::valid_node::ValidNode;
+use gf_hooks::{Judge, Node, Verdict, rules_are_sound};
 use std::alloc::{AllocError, Global};
 use std::marker::PhantomData;
-use tree_judge::{Judge, Node, Verdict, rules_are_sound};
 
 impl<'j, 'e, N: Naming, J: Judge> NamedJudge<'j, 'e, N, J> {
     // The judge, whose rules are those of the search that a call has named.

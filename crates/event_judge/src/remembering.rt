@@ -11,10 +11,9 @@ ghost use Rattle.event_judge.specs.Plain.{IsPlain};
 use crate::memory::Memory;
 use crate::naming::Naming;
 use crate::valid_node::ValidNode;
-use gf_signs::differ;
+use gf_hooks::{Verdict, differ};
 use ival_core::{Enclosure, Sign};
 use spec_bounds::laws::{ends_that_differ, middles_are_told, steady_spans_tell_verdicts};
-use tree_judge::Verdict;
 
 // It is one of the two that are known.
 #[inline(always)]

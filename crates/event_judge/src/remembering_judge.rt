@@ -2,7 +2,7 @@
 use crate::memory::Memory;
 use crate::named_judge::NamedJudge;
 use crate::naming::Naming;
-use tree_judge::Judge;
+use gf_hooks::Judge;
 
 /// A judge of the nodes of a search with what it remembers of them, which its workers share: signs at times, spans in which
 /// the signs at two ends tell the verdict of a node, spans in which each node is clear, and spans over which the conditions

@@ -4,7 +4,7 @@ ghost use Rattle.spec_intervals.specs.Signs.{sign_of};
 ghost use Rattle.spec_events.specs.Stages.{is_turnless};
 ghost use Rattle.spec_events.specs.Verdict.{is_one_way};
 
-use gf_signs::Steps;
+use gf_hooks::Steps;
 use ival_core::{Enclosure, Ival};
 use spec_events::Dir;
 
@@ -23,7 +23,7 @@ fn steps(step: &Ival) -> Steps
 pub(crate) fn leads_one_way(step: Ival) -> bool
     ensures { result ≡ is_one_way step }
 {
-    gf_signs::is_one_way(steps(&step))
+    gf_hooks::is_one_way(steps(&step))
 }
 
 /// It is monotone, so that its turns are known by the signs at the ends.
@@ -31,7 +31,7 @@ pub(crate) fn leads_one_way(step: Ival) -> bool
 pub(crate) fn is_one_way(over: &Enclosure) -> bool
     ensures { result ≡ is_one_way over.now.step }
 {
-    gf_signs::is_one_way(steps(&over.step))
+    gf_hooks::is_one_way(steps(&over.step))
 }
 
 /// It has one sign over all times, or its steps lead against the direction that is wanted.
@@ -39,5 +39,5 @@ pub(crate) fn is_one_way(over: &Enclosure) -> bool
 pub(crate) fn is_turnless(dir: Dir, over: &Enclosure) -> bool
     ensures { result ≡ is_turnless dir (sign_of over.now.range) over.now.step }
 {
-    gf_signs::is_turnless(dir, over.range.sign(), steps(&over.step))
+    gf_hooks::is_turnless(dir, over.range.sign(), steps(&over.step))
 }

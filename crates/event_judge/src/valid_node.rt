@@ -3,7 +3,7 @@ ghost use Rattle.spec_trees.specs.Tree.{IsSound, IsValid};
 ghost use Rattle.spec_searches.specs.Found.{rules};
 
 use crate::event_search::EventSearch;
-use tree_judge::Node;
+use gf_hooks::Node;
 
 /// A valid node of a search.
 #[derive(Clone, Copy)]

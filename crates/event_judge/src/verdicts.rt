@@ -14,10 +14,9 @@ use crate::steps::{is_one_way, is_turnless};
 use crate::valid_node::ValidNode;
 use body_states::Snapshot;
 use event_expr::rules::TimeSpan;
-use gf_signs::{differ, has_no_turn, turn_to};
+use gf_hooks::{Verdict, differ, has_no_turn, turn_to};
 use ival_core::{Enclosure, Sign};
 use step_enclosures::StepEnclosures;
-use tree_judge::Verdict;
 
 impl<'s, 'e> ValidNode<'s, 'e> {
     /// The border of the columns in use in the node, the nearest to its middle.

@@ -5,7 +5,7 @@ use Rattle.std.proofs.lemmas.Int.{ints}
 use Rattle.std.proofs.lemmas.List.{drop-map}
 use Rattle.spec_intervals.specs.Fraction.{Fraction, Holds, fraction, fraction_scale}
 use Rattle.spec_intervals.specs.Interval.{Interval, interval}
-use Rattle.spec_inclusions.proofs.Inclusions.{holds_ordered}
+use Rattle.spec_models.proofs.Inclusions.{holds_ordered}
 use Rattle.spec_chebyshev.specs.declared.ends.Ival62.{Ival62}
 use Rattle.spec_chebyshev.specs.Differences.{IsArgument}
 use Rattle.spec_chebyshev.specs.Rows.{IsArguments}
@@ -19,7 +19,7 @@ use Rattle.spec_bodies.specs.declared.quantity.Quantity.{Quantity}
 use Rattle.spec_bodies.specs.declared.quantity.Quantity.TheVariants.{Position, Velocity}
 use Rattle.spec_bodies.specs.Views.{exact_value, value_interval}
 use Rattle.spec_bodies.proofs.Series.{Holds-value, IsFraction-value}
-use Rattle.spec_roundings.specs.Ends.{IsOrdered}
+use Rattle.spec_models.specs.Ends.{IsOrdered}
 use Rattle.spec_models.specs.Models.{Covers, Model, bulk, sizes, widened}
 use Rattle.spec_covers.specs.Series.{argument_model, argument_unit, double_unit, middle_argument, of_entry, sums, value_sum}
 use Rattle.spec_chebyshev.specs.Rows.{u_unit}

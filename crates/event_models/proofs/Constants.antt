@@ -11,7 +11,7 @@ use Rattle.spec_intervals.specs.Interval.{Interval, decimal_bottom, decimal_top,
 use Rattle.spec_intervals.proofs.Decimals.{bottom_pos}
 use Rattle.spec_models.specs.Models.{Model}
 use Rattle.event_models.specs.Covered.{IsIfMade}
-use Rattle.spec_roundings.specs.Ends.{IsOrdered}
+use Rattle.spec_models.specs.Ends.{IsOrdered}
 use Rattle.spec_bodies.specs.declared.factor.Factor.{Factor}
 use Rattle.spec_bodies.specs.Meanings.{factor, factor_interval}
 use Rattle.spec_bodies.proofs.Formulas.{IsFraction-factor}

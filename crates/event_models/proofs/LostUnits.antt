@@ -6,8 +6,8 @@ use Rattle.std.proofs.lemmas.Nat.{pow_pos, pow-add, mul-le}
 use borrow.Author.Differences.{down}
 use Rattle.spec_numbers.proofs.Order.{lin}
 use Rattle.spec_intervals.proofs.Sums.{gap_is}
-use Rattle.spec_roundings.specs.Ends.{in_units}
-use Rattle.spec_roundings.proofs.Ordered.{no_more_trans}
+use Rattle.spec_models.specs.Ends.{in_units}
+use Rattle.spec_models.proofs.Ordered.{no_more_trans}
 use Rattle.spec_models.specs.Models.{Model, bulk, model}
 use Rattle.spec_covers.specs.Combining.{IsUpto, scaled_loss}
 use Rattle.spec_covers.proofs.Enough.{units_fit, upto_scaled}

@@ -5,7 +5,7 @@ use Rattle.std.proofs.lemmas.Int.{ints}
 use Rattle.spec_numbers.proofs.Integers.{doubled}
 use Rattle.spec_intervals.specs.Interval.{Interval}
 use Rattle.spec_chebyshev.specs.Differences.{IsArgument}
-use Rattle.spec_roundings.specs.Ends.{IsOrdered}
+use Rattle.spec_models.specs.Ends.{IsOrdered}
 use Rattle.spec_models.specs.Models.{Covers, Model}
 use Rattle.event_models.specs.Covered.{IsIfMade, IsModelOf, argument}
 

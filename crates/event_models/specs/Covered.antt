@@ -2,7 +2,7 @@
 use Rattle.std.specs.Prelude.{ℤ, pos, ◌-ℤ◌, ◌*ℤ◌, ◌≤ℤ◌, Option, IfSome}
 use Rattle.spec_intervals.specs.Interval.{Interval}
 use Rattle.spec_models.specs.Models.{Covers, Model}
-use Rattle.spec_roundings.specs.Ends.{IsOrdered}
+use Rattle.spec_models.specs.Ends.{IsOrdered}
 
 -- the numerator of a time's argument over the times from c to d; its denominator is d - c
 abbrev pub argument : ℤ → ℤ → ℤ → ℤ

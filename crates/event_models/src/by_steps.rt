@@ -3,7 +3,7 @@ ghost use Rattle.std.specs.Prelude.{◌≡◌, ◌<◌, ◌<ℤ◌, ◌≤ℤ◌
 ghost use Rattle.spec_models.specs.Models.{Covers};
 ghost use Rattle.spec_bodies.specs.Views.{Fits, state_enclosure};
 ghost use Rattle.spec_searches.specs.Search.{enclosure_over};
-ghost use Rattle.spec_steps.specs.Steps.{term_at as step_term_at, terms_of};
+ghost use Rattle.spec_expressions.specs.Steps.{term_at as step_term_at, terms_of};
 ghost use Rattle.event_steps.specs.Entered.{IsMadeAt};
 ghost use Rattle.event_models.specs.Covered.{IsIfMade, argument};
 ghost use Rattle.event_models.specs.Spans.{IsSpanSeen, term_at};

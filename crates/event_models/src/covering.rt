@@ -1,13 +1,13 @@
 // The rules by which models are made from others.
 ghost use Rattle.std.specs.Prelude.{ℤ};
 ghost use Rattle.spec_intervals.specs.Interval.{Interval, difference, product, signed_square, sum};
-ghost use Rattle.spec_roundings.specs.Ends.{IsOrdered};
+ghost use Rattle.spec_models.specs.Ends.{IsOrdered};
 ghost use Rattle.event_models.specs.Covered.{IsIfMade, IsModelOf};
 
 use crate::times::ModelTimes;
 use ival_core::Ival;
 use span_models::Model;
-use spec_roundings::laws::ends_stay_in_order;
+use spec_models::rounding_laws::ends_stay_in_order;
 
 impl ModelTimes {
     /// A model of what is the same at each time.

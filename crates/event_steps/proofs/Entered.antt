@@ -2,8 +2,8 @@
 use Rattle.std.proofs.Common.{◌≡◌, ◌∙◌, ℕ, ◌<◌, List, length, Option, None, Some, sym, subst}
 use Rattle.std.specs.Prelude.{IfSome}
 use Rattle.spec_expressions.specs.Term.{IsFormula, Term}
-use Rattle.spec_steps.specs.declared.steps.Step.{Step}
-use Rattle.spec_steps.specs.Steps.{term_at, terms_of}
+use Rattle.spec_expressions.specs.declared.steps.Step.{Step}
+use Rattle.spec_expressions.specs.Steps.{term_at, terms_of}
 use Rattle.event_steps.specs.Entered.{IsMadeAt, KeepsSteps}
 
 -- what is kept from each list to the next is kept from the first to the last

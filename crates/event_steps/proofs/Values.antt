@@ -3,7 +3,7 @@ use Rattle.std.proofs.Common.{◌≡◌, ℕ, ◌+◌, ◌<◌, ◌≤◌, ◌�
 use Rattle.std.proofs.lemmas.List.{get_or-set_same, get_or-set_other}
 use Rattle.std.proofs.lemmas.Bool.{cases_lt}
 use Rattle.spec_expressions.specs.Term.{Term}
-use Rattle.spec_steps.specs.Steps.{term_at}
+use Rattle.spec_expressions.specs.Steps.{term_at}
 use Rattle.event_steps.specs.Values.{AreValues}
 
 pub value_more : {V : Type 0} (is_value : Term → V → Type 0) (ts : List Term) (n : ℕ) (slots : List V) (x : V) → n < length slots → AreValues is_value ts n slots → is_value (term_at ts n) x

@@ -1,8 +1,8 @@
 -- What is known of a term that was entered into a list of steps.
 use Rattle.std.specs.Prelude.{◌≡◌, ℕ, ◌<◌, List, length}
 use Rattle.spec_expressions.specs.Term.{Term}
-use Rattle.spec_steps.specs.declared.steps.Step.{Step}
-use Rattle.spec_steps.specs.Steps.{term_at, terms_of}
+use Rattle.spec_expressions.specs.declared.steps.Step.{Step}
+use Rattle.spec_expressions.specs.Steps.{term_at, terms_of}
 
 -- the step with this number stands for the term
 pub record IsMadeAt (ss : List Step) (place : ℕ) (e : Term) : Type 0 where

@@ -1,7 +1,7 @@
 -- Values of terms in slots.
 use Rattle.std.specs.Prelude.{ℕ, ◌<◌, List, slice_index_or}
 use Rattle.spec_expressions.specs.Term.{IsFormula, Term}
-use Rattle.spec_steps.specs.Steps.{term_at}
+use Rattle.spec_expressions.specs.Steps.{term_at}
 
 -- the first n slots hold values of the first n terms
 abbrev pub AreValues : {V : Type 0} → (Term → V → Type 0) → List Term → ℕ → List V → Type 0

@@ -5,8 +5,7 @@ ghost use Rattle.event_steps.specs.Entered.{IsMadeAt, KeepsSteps};
 
 use crate::step_list::StepList;
 use event_expr::Formula;
-use spec_expressions::Expr;
-use spec_steps::Step;
+use spec_expressions::{Expr, Step};
 
 impl StepList {
     /// The steps of a formula, at most as many as it has nodes, and the number of that which stands for it. There is one

@@ -1,11 +1,11 @@
 // The values of steps, one after the other.
 ghost use Rattle.std.specs.Prelude.{◌≡◌, ◌<◌, ◌≤◌, length};
-ghost use Rattle.spec_steps.specs.Steps.{term_at, terms_of};
+ghost use Rattle.spec_expressions.specs.Steps.{term_at, terms_of};
 ghost use Rattle.event_steps.specs.Values.{AreValues};
 
 use crate::rules::StepRules;
 use crate::step_list::StepList;
-use spec_steps::Step;
+use spec_expressions::Step;
 
 /// Writes the values of the steps from number `made` to before number `upto` into their slots, where those before are made.
 pub fn fill<R: StepRules>(

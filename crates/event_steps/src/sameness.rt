@@ -1,7 +1,7 @@
 // When two steps are one.
 ghost use Rattle.std.specs.Prelude.{◌≡◌, IsTrue};
 
-use spec_steps::Step;
+use spec_expressions::Step;
 use spec_text::Decimal;
 
 // Two constants are written alike.

@@ -1,12 +1,12 @@
 // Lists of steps in fixed room.
 ghost use Rattle.std.specs.Prelude.{◌≡◌, ◌+◌, ◌<◌, ◌≤◌, ◌++◌, ◌∷◌, [], IfNone, IfSome, length};
 ghost use Rattle.spec_expressions.specs.Term.{IsFormula};
-ghost use Rattle.spec_steps.specs.Steps.{IsStep, IsStepOf, step_term, term_at, terms_of};
+ghost use Rattle.spec_expressions.specs.Steps.{IsStep, IsStepOf, step_term, term_at, terms_of};
 ghost use Rattle.event_steps.specs.Entered.{IsMadeAt, KeepsSteps};
 
 use crate::sameness::is_same;
-use spec_steps::Step;
-use spec_steps::laws::{one_step_more, steps_stand_for_terms};
+use spec_expressions::Step;
+use spec_expressions::step_laws::{one_step_more, steps_stand_for_terms};
 use std::marker::Model;
 
 /// The most steps of a list.
@@ -30,8 +30,8 @@ pub struct StepPlace<'s> {
 
 impl Model for StepList {
     ghost use Rattle.std.specs.Prelude.{◌≡◌, ◌≤◌, List, length, take};
-    ghost use Rattle.spec_steps.specs.declared.steps.Step.{Step};
-    ghost use Rattle.spec_steps.specs.Steps.{AreFormulas, AreSteps, terms_of};
+    ghost use Rattle.spec_expressions.specs.declared.steps.Step.{Step};
+    ghost use Rattle.spec_expressions.specs.Steps.{AreFormulas, AreSteps, terms_of};
 
     ghost Value = { List Step };
 

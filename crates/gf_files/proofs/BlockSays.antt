@@ -3,12 +3,12 @@ use Rattle.std.proofs.Common.{◌≡◌, ℕ, List, [], Result, Ok, Err, refl, s
 use Rattle.spec_text.specs.declared.decimals.Fault.{Fault}
 use Rattle.spec_ephemeris.specs.Ephemeris.{Ephemeris}
 use Rattle.spec_text.specs.Lines.{TokenLine}
-use Rattle.spec_sections.specs.declared.errors.ReadError.{ReadError}
-use Rattle.spec_sections.specs.Sections.{FileLine, ended, breaks}
+use Rattle.spec_files.specs.declared.errors.ReadError.{ReadError}
+use Rattle.spec_files.specs.Sections.{FileLine, ended, breaks}
 use Rattle.de_blocks.specs.declared.state.Place.{Place}
 use Rattle.de_blocks.specs.Reader.{HasRead, IsNotMemory, KeepsFault, Progress, IsRefused, IsNotRefused, Says, answer, at_end, says, says_at}
 use Rattle.de_blocks.specs.SameFile.{same_file}
-use Rattle.spec_sections.specs.declared.errors.ReadError.TheVariants as errors
+use Rattle.spec_files.specs.declared.errors.ReadError.TheVariants as errors
 use Rattle.gf_files.specs.declared.reader.Reader.TheVariants.{Blocks}
 use Rattle.gf_files.specs.Reader.{Finishes, HasNoFault, IsReady, Moves, ephemeris_after}
 

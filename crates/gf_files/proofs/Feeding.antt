@@ -4,13 +4,13 @@ use Rattle.std.specs.Prelude.{if◌then◌else◌}
 use Rattle.spec_text.specs.Lines.{Numbered, TokenLine, is_too_long, lines, text_lines, token_line}
 use Rattle.spec_text.specs.declared.limits.TheConstants.{MAX_TEXT_BYTES}
 use Rattle.spec_faults.specs.declared.numbers.TheConstants.{LINE_TOO_LONG}
-use Rattle.spec_sections.specs.FileLines.{first_long, readable, line_of}
-use Rattle.spec_sections.specs.Sections.{FileLine}
+use Rattle.spec_files.specs.FileLines.{first_long, readable, line_of}
+use Rattle.spec_files.specs.Sections.{FileLine}
 use Rattle.spec_files.specs.Texts.{fault_at, file_lines}
 use Rattle.de_text.specs.declared.cursor.LineStep.TheVariants.{Line, TooLong, End}
 use Rattle.de_text.specs.Steps.{lines_after, step_of}
-use Rattle.spec_sections.specs.declared.errors.ReadError.{ReadError}
-use Rattle.spec_sections.specs.declared.errors.ReadError.TheVariants as errors
+use Rattle.spec_files.specs.declared.errors.ReadError.{ReadError}
+use Rattle.spec_files.specs.declared.errors.ReadError.TheVariants as errors
 use Rattle.gf_files.specs.declared.reader.Reader.{Reader}
 use Rattle.gf_files.specs.Reader.{Feeds, HasNoFault, IsFed, IsFirstFault, IsReady, Moves, ephemeris_after}
 use Rattle.gf_files.proofs.Passing.{small_cut, small_lines}

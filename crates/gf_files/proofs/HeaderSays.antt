@@ -3,14 +3,14 @@ use Rattle.std.proofs.Common.{◌≡◌, ℕ, List, [], ◌∷◌, ◌++◌, Ok,
 use Rattle.spec_text.specs.Lines.{TokenLine}
 use Rattle.spec_text.specs.declared.decimals.Fault.{Fault}
 use Rattle.spec_ephemeris.specs.declared.header.Header.{Header}
-use Rattle.spec_header.specs.HeaderLines.{header, HeaderOrStop as Says}
-use Rattle.spec_sections.specs.Sections.{FileLine, ended, breaks}
-use Rattle.spec_sections.specs.declared.errors.ReadError.TheVariants as errors
+use Rattle.spec_files.specs.HeaderLines.{header, HeaderOrStop as Says}
+use Rattle.spec_files.specs.Sections.{FileLine, ended, breaks}
+use Rattle.spec_files.specs.declared.errors.ReadError.TheVariants as errors
 use Rattle.de_header.specs.declared.answers.Step.TheVariants.{More}
 use Rattle.de_header.specs.declared.state.State.{State}
 use Rattle.de_header.specs.declared.state.State.TheVariants.{Whole, Refused}
 use Rattle.de_header.specs.Reader.{Ends, IsRefused, IsWhole, answer, says}
-use Rattle.spec_sections.specs.FileLines.{line_of}
+use Rattle.spec_files.specs.FileLines.{line_of}
 use Rattle.gf_files.specs.Reader.{IsOfHeader}
 
 -- a header that is whole is the one that is given at the end, whatever lines follow

@@ -1,8 +1,8 @@
 -- The error of one file, from the error of all.
 use Rattle.std.proofs.Common.{◌≡◌, ℕ, Result, Err, ap, ◌∙◌}
 use Rattle.spec_text.specs.declared.decimals.Fault.{Fault}
-use Rattle.spec_sections.specs.declared.errors.ReadError.{ReadError}
-use Rattle.spec_sections.specs.declared.errors.ReadError.TheVariants as one
+use Rattle.spec_files.specs.declared.errors.ReadError.{ReadError}
+use Rattle.spec_files.specs.declared.errors.ReadError.TheVariants as one
 use Rattle.gf_files.specs.declared.errors.FilesError.{FilesError}
 use Rattle.gf_files.specs.declared.errors.FilesError.TheVariants as all
 use Rattle.gf_files.specs.Errors.{in_file}

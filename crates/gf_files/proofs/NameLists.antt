@@ -10,7 +10,7 @@ use Rattle.spec_ephemeris.specs.Ephemeris.{Ephemeris}
 use Rattle.spec_files.specs.Files.{AreFiles}
 use Rattle.spec_files.specs.Reading.{AreAccepted, HasFirstFault, IsNotRead}
 use Rattle.spec_files.specs.declared.limits.TheConstants.{MAX_FILES}
-use Rattle.spec_sections.specs.declared.errors.ReadError.TheVariants as errors
+use Rattle.spec_files.specs.declared.errors.ReadError.TheVariants as errors
 use Rattle.gf_files.specs.declared.reader.Fed.{Fed}
 use Rattle.gf_files.specs.declared.reader.Reader.{Reader}
 use Rattle.gf_files.specs.Read.{HaveRead, LacksFirst, StopsAtFile, TakesFile}

@@ -5,8 +5,8 @@ use Rattle.std.proofs.lemmas.List.{length-replicate}
 use Rattle.std.specs.Prelude.{IsSomeAnd, replicate}
 use Rattle.spec_text.specs.Lines.{text_lines}
 use Rattle.spec_text.specs.declared.limits.TheConstants.{MAX_TEXT_BYTES}
-use Rattle.spec_sections.specs.FileLines.{first_long, readable}
-use Rattle.spec_sections.specs.Sections.{FileLine}
+use Rattle.spec_files.specs.FileLines.{first_long, readable}
+use Rattle.spec_files.specs.Sections.{FileLine}
 use Rattle.spec_files.specs.Texts.{cut_off, fault_at, file_lines}
 use Rattle.spec_faults.specs.declared.numbers.TheConstants.{FILE_TOO_LARGE}
 use Rattle.gf_edges.specs.Edges.{Files, file_of}

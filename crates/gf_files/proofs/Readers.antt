@@ -4,17 +4,17 @@ use Rattle.spec_text.specs.Lines.{TokenLine}
 use Rattle.spec_text.specs.declared.decimals.Fault.{Fault}
 use Rattle.spec_ephemeris.specs.Ephemeris.{Ephemeris}
 use Rattle.spec_ephemeris.specs.declared.header.Header.{Header}
-use Rattle.spec_sections.specs.Sections.{FileLine, Stop, ◌>>=◌}
-use Rattle.spec_blocks.specs.Blocks.{blocks}
+use Rattle.spec_files.specs.Sections.{FileLine, Stop, ◌>>=◌}
+use Rattle.spec_files.specs.Blocks.{blocks}
 use Rattle.de_header.specs.declared.answers.Step.TheVariants.{More}
 use Rattle.de_header.specs.declared.state.State.{State}
 use Rattle.de_header.specs.Reader.{Ends, IsNotWhole, IsOpen, IsRefused, IsWhole, KeepsFault, answer, says}
-use Rattle.spec_header.specs.HeaderLines.{HeaderOrStop as Says}
-use Rattle.spec_sections.specs.FileLines.{line_of}
+use Rattle.spec_files.specs.HeaderLines.{HeaderOrStop as Says}
+use Rattle.spec_files.specs.FileLines.{line_of}
 use Rattle.de_header.specs.SameFile.{same_file}
 use Rattle.de_blocks.specs.Reader as block_lines
-use Rattle.spec_sections.specs.declared.errors.ReadError.{ReadError}
-use Rattle.spec_sections.specs.declared.errors.ReadError.TheVariants as errors
+use Rattle.spec_files.specs.declared.errors.ReadError.{ReadError}
+use Rattle.spec_files.specs.declared.errors.ReadError.TheVariants as errors
 use Rattle.gf_files.specs.declared.reader.Reader.{Reader}
 use Rattle.gf_files.specs.declared.reader.Reader.TheVariants.{Header as HeaderReader, Blocks}
 use Rattle.gf_files.specs.Reader.{Finishes, HasNoFault, IsOfHeader, IsReady, Moves, TookLine, WantsMore, ephemeris_after}

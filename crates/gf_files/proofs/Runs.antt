@@ -2,8 +2,8 @@
 use Rattle.std.proofs.Common.{◌≡◌, ℕ, suc, ◌+◌, ◌-◌, List, [], ◌∷◌, ◌++◌, length, Option, None, Some, Result, Ok, Err, refl, sym, ap, ◌∙◌, subst, append-nil, append_assoc, arith, inl, inr}
 use Rattle.spec_text.specs.declared.decimals.Fault.{Fault}
 use Rattle.spec_ephemeris.specs.Ephemeris.{Ephemeris}
-use Rattle.spec_header.specs.HeaderLines.{header}
-use Rattle.spec_sections.specs.Sections.{FileLine, Stop, ended, breaks}
+use Rattle.spec_files.specs.HeaderLines.{header}
+use Rattle.spec_files.specs.Sections.{FileLine, Stop, ended, breaks}
 use Rattle.spec_files.specs.Lines.{ephemeris}
 use Rattle.spec_files.specs.Files.{AreFiles, IsFile}
 use Rattle.spec_files.specs.Outcome.{fault_or_cut, first_fault, outcome, outcome_by}
@@ -11,7 +11,7 @@ use Rattle.spec_files.specs.Reading.{StaysFirst}
 use Rattle.spec_files.specs.Texts.{cut_off, end_line, fault_at, file_lines, first_cut, first_cut_from, joined, joined_from, or_later, where_whole}
 use Rattle.spec_files.proofs.Joining.{cut_more, joined_more}
 use Rattle.gf_edges.specs.Edges.{Files}
-use Rattle.spec_sections.specs.declared.errors.ReadError.TheVariants as errors
+use Rattle.spec_files.specs.declared.errors.ReadError.TheVariants as errors
 use Rattle.gf_files.specs.declared.reader.Fed.{Fed}
 use Rattle.gf_files.specs.declared.reader.Reader.{Reader}
 use Rattle.gf_files.specs.Read.{HaveRead, TakesFile}

@@ -3,7 +3,7 @@ use Rattle.std.specs.Prelude.{◌≡◌, ◌+◌, ◌≤◌, ℕ, List, ◌++◌
 use Rattle.std.specs.Io.KnownBytes.{Consumes}
 use Rattle.spec_text.specs.declared.decimals.Fault.{Fault}
 use Rattle.spec_text.specs.declared.limits.TheConstants.{MAX_TEXT_BYTES}
-use Rattle.spec_sections.specs.Sections.{FileLine}
+use Rattle.spec_files.specs.Sections.{FileLine}
 use Rattle.spec_files.specs.Lines.{ephemeris}
 use Rattle.spec_files.specs.Files.{AreFiles, IsFile}
 use Rattle.spec_files.specs.Outcome.{first_fault}

@@ -3,15 +3,15 @@ use Rattle.std.specs.Prelude.{◌≡◌, ◌⊎◌, ℕ, ◌+◌, List, [], ◌�
 use Rattle.spec_text.specs.Lines.{TokenLine, lines}
 use Rattle.spec_text.specs.declared.decimals.Fault.{Fault}
 use Rattle.spec_ephemeris.specs.Ephemeris.{Ephemeris}
-use Rattle.spec_header.specs.HeaderLines.{header}
-use Rattle.spec_sections.specs.Sections.{FileLine, Stop, ended, breaks, ◌>>=◌}
-use Rattle.spec_blocks.specs.Blocks.{blocks}
+use Rattle.spec_files.specs.HeaderLines.{header}
+use Rattle.spec_files.specs.Sections.{FileLine, Stop, ended, breaks, ◌>>=◌}
+use Rattle.spec_files.specs.Blocks.{blocks}
 use Rattle.spec_files.specs.Texts.{cut_off, fault_at, file_lines}
 use Rattle.de_header.specs.declared.state.State.{State}
 use Rattle.de_header.specs.Reader as headers
 use Rattle.de_blocks.specs.Reader as block_lines
-use Rattle.spec_sections.specs.declared.errors.ReadError.{ReadError}
-use Rattle.spec_sections.specs.declared.errors.ReadError.TheVariants as errors
+use Rattle.spec_files.specs.declared.errors.ReadError.{ReadError}
+use Rattle.spec_files.specs.declared.errors.ReadError.TheVariants as errors
 use Rattle.gf_files.specs.declared.reader.Reader.{Reader}
 use Rattle.gf_files.specs.declared.reader.Reader.TheVariants as readers
 use Rattle.gf_files.specs.declared.reader.Fed.{Fed}

@@ -2,7 +2,7 @@
 ghost use Rattle.std.specs.Prelude.{◌≡◌};
 ghost use Rattle.gf_files.specs.Errors.{in_file};
 
-use spec_sections::ReadError;
+use spec_files::ReadError;
 use spec_text::Fault;
 use std::alloc::AllocError;
 use thiserror::Error;

@@ -1,7 +1,7 @@
 // The lines of several files, one file after the other: to the header's reader, and then to that of the blocks.
 ghost use Rattle.std.specs.Prelude.{◌≡◌, ◌≤◌, ◌∷◌, [], List, ℕ, length};
 ghost use Rattle.spec_text.specs.declared.limits.TheConstants.{MAX_TEXT_BYTES};
-ghost use Rattle.spec_sections.specs.Sections.{FileLine};
+ghost use Rattle.spec_files.specs.Sections.{FileLine};
 ghost use Rattle.spec_files.specs.Lines.{ephemeris};
 ghost use Rattle.de_header.specs.Reader as headers;
 ghost use Rattle.gf_files.specs.declared.reader.Reader.TheVariants as readers;
@@ -12,7 +12,7 @@ use de_header::{HeaderReader, Step};
 use de_text::{Line, LineStep, Tokens};
 use eph_model::Ephemeris;
 use spec_faults::LINE_TOO_LONG;
-use spec_sections::ReadError;
+use spec_files::ReadError;
 use spec_text::Fault;
 use std::alloc::Global;
 use std::mem;

@@ -3,9 +3,9 @@ use Rattle.std.proofs.Common.{◌≡◌, ◌<◌, ℕ, ◌≤ℤ◌, List, [], �
 use Rattle.spec_text.specs.declared.decimals.Fault.{Fault}
 use Rattle.spec_ephemeris.specs.Ephemeris.{Ephemeris, IsEphemeris}
 use Rattle.spec_ephemeris.specs.Ticks.{IsInSeconds}
-use Rattle.spec_sections.specs.Sections.{Stop, ended, breaks}
-use Rattle.spec_sections.proofs.Holding.{holds_ok}
-use Rattle.spec_header.specs.HeaderLines.{header}
+use Rattle.spec_files.specs.Sections.{Stop, ended, breaks}
+use Rattle.spec_files.proofs.Holding.{holds_ok}
+use Rattle.spec_files.specs.HeaderLines.{header}
 use Rattle.spec_files.specs.Lines.{ephemeris}
 use Rattle.spec_files.specs.Outcome.{first_fault, outcome, outcome_by}
 use Rattle.spec_files.specs.Files.{AreFiles}

@@ -14,9 +14,11 @@ use Rattle.spec_outcomes.specs.declared.refusal.Refusal.{Refusal}
 use Rattle.spec_outcomes.specs.declared.refusal.Refusal.TheVariants as R
 use Rattle.spec_outcomes.specs.declared.statuses.TheConstants.{OUT_OF_MEMORY}
 use Rattle.spec_outcomes.specs.Outcomes.{Outcome}
+use Rattle.spec_outcomes.specs.Queries.{query_of, search, span_of, windows_in}
 use Rattle.spec_outcomes.specs.Refusals.{status_of}
 use Rattle.gf_find.specs.Outcomes.{Ask, RequestHasOutcome, HaveCause, HaveOutcome, HoldEphemeris, Words, texts_of}
 use Rattle.gf_find.specs.Finds.{ReportsEvents}
+use Rattle.gf_find.specs.Promises.{ReportsAllEvents}
 use Rattle.gf_find.specs.Certifies.{ReportsCertificate}
 use Rattle.gf_find.specs.Verifies.{ReportsVerified}
 use Rattle.gf_find.specs.Checks.{ReportsSummary}
@@ -44,6 +46,20 @@ module _ (words : Words) (files : Option Files) (text : List ℕ) (answered : Is
     finds find asked =
         let held = asked_for (Find find) asked in
         record { ephemeris = held.ephemeris; held = held.held; is = record { printed = subst P held.is.printed gained; windows = held.is.windows } }
+
+    pub promises : (find : FindAsk) → Ask words (Find find) → HoldEphemeris files find.files (ReportsAllEvents find old new)
+    promises find asked =
+        let held = finds find asked in
+        let windows = held.is.windows in
+        record {
+          ephemeris = held.ephemeris;
+          held = held.held;
+          is = record {
+            windows = windows_in (search (query_of find) (in_ticks find.tick held.ephemeris)) (span_of find (in_ticks find.tick held.ephemeris));
+            hold = record { within = windows.within; in_order = windows.in_order; every_event = windows.every_event; certain = windows.certain };
+            printed = held.is.printed;
+          };
+        }
 
     pub certifies : (find : FindAsk) → Ask words (Cert find) → HoldEphemeris files find.files (ReportsCertificate find old new)
     certifies find asked =

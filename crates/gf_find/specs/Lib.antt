@@ -2,6 +2,7 @@ pub mod CertificateFiles
 pub mod Outcomes
 pub mod Searches
 pub mod Finds
+pub mod Promises
 pub mod Certifies
 pub mod Verifies
 pub mod Checks

@@ -8,7 +8,7 @@ ghost use Rattle.spec_outcomes.specs.Scalars.{scalar_of};
 ghost use Rattle.gf_find.specs.Scalars.{IsScalarReport};
 
 use gf_edges::Gate;
-use gf_scalar::search_scalar;
+use gf_search::search_scalar;
 use ordered_join::leaf_windows;
 use spec_outcomes::Refusal;
 use spec_requests::ScalarAsk;

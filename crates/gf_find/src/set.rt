@@ -15,7 +15,7 @@ use crate::files::ephemeris_of;
 use eph_model::Ephemeris;
 use gf_edges::{Gate, Shelf};
 use gf_query::span_asked;
-use gf_relations::related;
+use gf_search::related;
 use gf_sets::Pair;
 use spec_outcomes::{Refusal, Span, query_of};
 use spec_requests::{FindAsk, Relation};

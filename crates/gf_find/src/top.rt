@@ -13,6 +13,7 @@ ghost use Rattle.gf_edges.specs.Edges.{Rose};
 ghost use Rattle.gf_find.specs.Outcomes.{Ask, HaveCause, HaveOutcome, HoldEphemeris, texts_of};
 ghost use Rattle.spec_outcomes.specs.Refusals.{line_of, status_of};
 ghost use Rattle.gf_find.specs.Finds.{ReportsEvents};
+ghost use Rattle.gf_find.specs.Promises.{ReportsAllEvents};
 ghost use Rattle.gf_find.specs.Certifies.{ReportsCertificate};
 ghost use Rattle.gf_find.specs.Verifies.{ReportsVerified};
 ghost use Rattle.gf_find.specs.Checks.{ReportsSummary};
@@ -66,6 +67,12 @@ pub fn finder<R: Threads + Wait + Sync, S: Shelf, O: Sink, E: Sink, G: Gate>(
     ensures find { (find : FindAsk) → Ask words.now (Find find) → result ≡ REPORTED
         → HoldEphemeris (S.files shelf.old) find.files
         (ReportsEvents find (O.bytes out.old) (O.bytes out.new)) }
+
+    // The same in words of the events alone: of windows that are disjoint, in order and hold every event, each certain one exactly
+    // one.
+    ensures events { (find : FindAsk) → Ask words.now (Find find) → result ≡ REPORTED
+        → HoldEphemeris (S.files shelf.old) find.files
+        (ReportsAllEvents find (O.bytes out.old) (O.bytes out.new)) }
 
     // For `cert` it is the certificate of the leaves of that search, in their order.
     ensures certified { (find : FindAsk) → Ask words.now (Cert find) → result ≡ REPORTED

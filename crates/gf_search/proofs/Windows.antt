@@ -11,7 +11,7 @@ use Rattle.spec_searches.specs.Search.{Search}
 use Rattle.spec_stills.specs.declared.still.StillSpan.{StillSpan}
 use Rattle.spec_stills.specs.Still.{IsStill}
 use Rattle.spec_stills.specs.Weights.{weights}
-use Rattle.still_judge.specs.Order.{are_in_order, in_order_or_none}
+use Rattle.still_spans.specs.Order.{are_in_order, in_order_or_none}
 use Rattle.gf_search.specs.Wanted.{HaveWindows}
 
 -- ---- still spans that stand in order

@@ -5,8 +5,8 @@ ghost use Rattle.spec_searches.specs.Found.{rules};
 ghost use Rattle.spec_stills.specs.Coarse.{coarse_rules};
 ghost use Rattle.spec_stills.specs.Still.{IsStill};
 ghost use Rattle.spec_stills.specs.Weights.{weights};
-ghost use Rattle.spec_eager.specs.Eager.{eager_rules};
-ghost use Rattle.spec_eager.specs.Told.{AreTold};
+ghost use Rattle.spec_stills.specs.Eager.{eager_rules};
+ghost use Rattle.spec_stills.specs.Told.{AreTold};
 ghost use Rattle.gf_search.specs.Wanted.{HaveWindows, StopsAt};
 
 use crate::book::leaves_by;
@@ -14,18 +14,17 @@ use crate::crew::Crew;
 use event_judge::{EventSearch, Judge};
 use gf_edges::Gate;
 use halving::rules_are_sound;
-use spec_eager::laws::{
+use spec_outcomes::Refusal;
+use spec_stills::eager_laws::{
     decided_eager_trees_have_the_same_windows, eager_trees_are_sound, eager_trees_weigh_enough,
 };
-use spec_outcomes::Refusal;
-use spec_stills::laws::{
+use spec_stills::still_laws::{
     coarse_trees_are_sound, coarse_trees_have_fewer_leaves, coarse_trees_have_the_same_windows,
 };
 use spec_trees::{Leaf, Node, leaves_cover_the_node};
 use std::sync::Wait;
 use std::thread::Threads;
-use still_judge::{EagerJudge, StillJudge, StillList, are_told};
-use still_shares::still_spans_by;
+use still_spans::{EagerJudge, StillJudge, StillList, are_told, still_spans_by};
 
 /// Still spans of a search over the times of a node, in order, which a crew looks for.
 pub(crate) fn stills_of<R: Threads + Sync, G>(

@@ -1,7 +1,7 @@
 // What is wanted of a search.
 
 /// What is wanted of a search: its leaves, or leaves that follow one another over its span and have the windows of its leaves.
-#[derive(Clone, Copy, PartialEq, Eq, Debug)]
+#[derive(Clone, Copy, PartialEq, Eq)]
 pub enum Wanted {
     Leaves,
     Windows,

@@ -10,7 +10,7 @@ use std::marker::Model;
 
 /// p t^2 + q t + r at times t of at most 2^40 in magnitude, where p and q are at most 2^20 in magnitude and r at most
 /// 2^62.
-#[derive(Clone, Copy, Debug, PartialEq, Eq)]
+#[derive(Clone, Copy, PartialEq, Eq)]
 pub struct Quad {
     p: i64,
     q: i64,

@@ -5,7 +5,7 @@ ghost use Rattle.spec_events.specs.Stages.{end_verdict, limit_verdict};
 ghost use Rattle.spec_scalars.specs.Searches.{criteria_of};
 ghost use Rattle.gf_uds.specs.Found.{is_steady_by, is_turnless_by, reach_sign};
 
-use gf_signs::{Steps, differ, has_no_turn, is_one_way, turn_to};
+use gf_hooks::{Steps, differ, has_no_turn, is_one_way, turn_to};
 use halving::{Node, Verdict};
 use spec_intervals::Sign;
 use spec_scalars::{Plan, Reach};
@@ -37,7 +37,7 @@ fn steps(reach: Reach) -> Steps
 pub(crate) fn is_turnless(plan: Plan, whole: Reach) -> bool
     ensures { result ≡ is_turnless_by plan whole }
 {
-    gf_signs::is_turnless(plan.dir, reach_sign(whole), steps(whole))
+    gf_hooks::is_turnless(plan.dir, reach_sign(whole), steps(whole))
 }
 
 // Wider than one time.

@@ -8,7 +8,7 @@
 mod run;
 mod shares;
 
+pub use gf_hooks::{Judge, rules_are_sound};
 pub use run::{RunError, run_one};
 pub use shares::run_shares;
 pub use spec_trees::{Leaf, Mark, Node, Turn, Verdict};
-pub use tree_judge::{Judge, rules_are_sound};

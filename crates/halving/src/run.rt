@@ -3,12 +3,12 @@ ghost use Rattle.std.specs.Prelude.{◌≡◌, ◌<◌, ◌≤◌, [], ◌∷◌
 ghost use Rattle.spec_trees.specs.Tree.{Covers, IsValid, leaf_count, leaves};
 ghost use Rattle.halving.specs.declared.run.RunError.TheVariants.{TooMany, Memory};
 
+use gf_hooks::{Judge, rules_are_sound};
 use spec_trees::{Leaf, Node};
 use std::alloc::Global;
-use tree_judge::{Judge, rules_are_sound};
 
 /// Why a walk has no leaves to give: they are more than the limit, or memory ran out.
-#[derive(Debug, Drop, PartialEq, Eq)]
+#[derive(Drop, PartialEq, Eq)]
 pub enum RunError {
     TooMany,
     Memory,

@@ -8,10 +8,10 @@ ghost use Rattle.halving.specs.Shares.{AreEnough, AreJudged, IsJudged, IsWalk, I
 ghost use Rattle.halving.specs.declared.run.RunError.TheVariants.{TooMany, Memory};
 
 use crate::run::{RunError, append, run_one};
+use gf_hooks::{Judge, rules_are_sound};
 use spec_trees::{Leaf, Node, Verdict};
 use std::alloc::Global;
 use std::thread::{Threads, join};
-use tree_judge::{Judge, rules_are_sound};
 
 /// A node and its verdict.
 #[derive(Clone, Copy)]

@@ -1,7 +1,7 @@
 -- What the ends of an interval are at an exponent of at least s.
 use Rattle.std.specs.Prelude.{◌≡◌, ◌≤◌, ◌*◌, ◌≤ℤ◌, ℤ, unsigned_abs}
 use Rattle.spec_intervals.specs.Interval.{Interval, end_limit, exponent_limit}
-use Rattle.spec_inclusions.specs.Bounds.{at_exponent}
+use Rattle.spec_models.specs.Bounds.{at_exponent}
 use Rattle.ival_core.specs.declared.ival.Raised.{Raised}
 
 pub record IsRaised (s : ℤ) (x : Interval) (at : Raised) : Type 0 where

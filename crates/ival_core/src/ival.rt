@@ -1,7 +1,7 @@
 // The interval, and the calls that make one from others.
 
 ghost use Rattle.std.specs.Prelude.{◌≡◌, ◌≤◌, ◌<◌, ◌^◌, ◌*◌, ◌≤ℤ◌, ℤ, pos, neg_ℤ, unsigned_abs, ◌⊎◌};
-ghost use Rattle.spec_inclusions.specs.Bounds.{coarse_difference, coarse_sum, coarsened, raised_sum};
+ghost use Rattle.spec_models.specs.Bounds.{coarse_difference, coarse_sum, coarsened, raised_sum};
 ghost use Rattle.spec_intervals.specs.Interval.{Interval, IsIval, IsExponent, exponent_limit, narrow_shift, IsDistance, IsCosine, end_limit, distance_exponent, cosine_exponent, interval, narrow, settled, is_zero, sum, sum_up, negated, difference, product, join, join_up, meet, meet_up, signed_square, scale, from_decimal};
 ghost use Rattle.spec_intervals.specs.Fraction.{Fraction, Holds, Overlaps, fraction_add, fraction_sub, fraction_mul, fraction_signed_square, fraction_scale, decimal};
 ghost use Rattle.spec_intervals.specs.Signs.{sign_of};
@@ -29,7 +29,7 @@ pub const COSINE_EXPONENT: i32 = -60;
 const LIFT_LIMIT: u32 = 60;
 
 /// All numbers from `lo * 2^s` to `hi * 2^s`, with `lo <= hi` and both at most 2^62 in magnitude.
-#[derive(Clone, Copy, Debug, PartialEq, Eq)]
+#[derive(Clone, Copy, PartialEq, Eq)]
 pub struct Ival {
     lo: i64,
     hi: i64,
@@ -219,7 +219,7 @@ impl Ival {
 
     /// The sum in the coarser of both units: the ends are added at the greater exponent and normalized. An interval of 0
     /// alone adds nothing.
-    #[tactic(auto, unfolding(spec_inclusions::specs::Bounds::coarse_sum))]
+    #[tactic(auto, unfolding(spec_models::specs::Bounds::coarse_sum))]
     pub fn coarse_sum(self, other: Ival) -> Ival
         requires exponent { IsExponent self.s }
         requires other_exponent { IsExponent other.s }

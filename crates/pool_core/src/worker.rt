@@ -13,7 +13,7 @@ use std::collections::VecDeque;
 use std::marker::Model;
 
 /// Why a step was not taken: its condition is false, or memory ran out. The pool is then as before.
-#[derive(Debug, Drop, PartialEq, Eq)]
+#[derive(Drop, PartialEq, Eq)]
 pub enum StepError {
     Refused,
     Memory,

@@ -8,7 +8,7 @@ use Rattle.spec_numbers.proofs.Order.{lin, le-mul}
 use Rattle.spec_numbers.proofs.Ring.{v, k as lit, ◌⊕◌, ◌⊖◌, ◌⊗◌, minus, ring}
 use Rattle.spec_intervals.specs.Fraction.{Fraction, IsFraction, fraction, fraction_add, fraction_mul, fraction_sub}
 use Rattle.spec_chebyshev.specs.Differences.{IsArgument}
-use Rattle.spec_roundings.specs.Ends.{NoMore, in_units}
+use Rattle.spec_models.specs.Ends.{NoMore, in_units}
 use Rattle.spec_models.specs.Models.{Model, IsNear, at, coefficient, constant, cut, model, product_model, raised, sum_model, value, widened}
 use Rattle.span_models.specs.declared.margin.Margin.{Margin}
 use Rattle.span_models.specs.declared.tangents.Tangent.{Tangent}

@@ -7,8 +7,8 @@ use Rattle.spec_numbers.proofs.Order.{lin}
 use Rattle.spec_intervals.specs.Interval.{Interval}
 use Rattle.spec_intervals.specs.Fraction.{Fraction, IsFraction, fraction, fraction_mul}
 use Rattle.spec_chebyshev.specs.Differences.{IsArgument}
-use Rattle.spec_roundings.specs.Ends.{NoMore, in_units}
-use Rattle.spec_roundings.proofs.Ordered.{more_units}
+use Rattle.spec_models.specs.Ends.{NoMore, in_units}
+use Rattle.spec_models.proofs.Ordered.{more_units}
 use Rattle.spec_models.specs.Models.{Covers, Model, IsNear, coefficient, constant, lowered, model, multiplied}
 use Rattle.span_models.specs.Settled.{Reaches}
 use Rattle.span_models.specs.Making.{IsMiddle}

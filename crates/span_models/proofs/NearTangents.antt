@@ -11,7 +11,7 @@ use Rattle.spec_numbers.proofs.Ring.{v, k as lit, ◌⊕◌, ◌⊖◌, ◌⊗�
 use Rattle.spec_numbers.proofs.Sizes.{own_size}
 use Rattle.spec_intervals.specs.Fraction.{Fraction, IsFraction, fraction, fraction_add, fraction_mul}
 use Rattle.spec_chebyshev.specs.Differences.{IsArgument}
-use Rattle.spec_roundings.specs.Ends.{NoMore, in_units}
+use Rattle.spec_models.specs.Ends.{NoMore, in_units}
 use Rattle.spec_models.specs.Models.{Model, IsNear, at, coefficient, constant, cut, model, product_model, raised, sum_model, value}
 use Rattle.span_models.specs.declared.tangents.Line.{Line}
 use Rattle.span_models.specs.declared.tangents.Tangent.{Tangent}

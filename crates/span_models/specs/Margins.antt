@@ -1,7 +1,7 @@
 -- How far numbers keep from 0, on one side of it.
 use Rattle.std.specs.Prelude.{◌≡◌, ◌<◌, pos, neg_ℤ, true, false}
 use Rattle.spec_intervals.specs.Fraction.{Fraction, fraction}
-use Rattle.spec_roundings.specs.Ends.{NoMore, in_units}
+use Rattle.spec_models.specs.Ends.{NoMore, in_units}
 use Rattle.span_models.specs.declared.margin.Margin.{Margin}
 
 abbrev pub margin_of : Margin → Fraction

@@ -13,7 +13,7 @@ use crate::sums::exponent_gap;
 use spec_covers::laws::{
     operations_are_covered, signed_squares_are_products, units_that_are_enough,
 };
-use spec_models::laws::operations;
+use spec_models::model_laws::operations;
 
 impl Model {
     /// A model that covers the sums of intervals that the two cover. None where an exponent or an error passes its limit.

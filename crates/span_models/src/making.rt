@@ -12,7 +12,7 @@ ghost use Rattle.span_models.specs.Making.{IsMiddle};
 use crate::model::{Model, TERMS};
 use crate::settling::settled;
 use ival_core::Ival;
-use spec_models::laws::{changes, constants, lists};
+use spec_models::model_laws::{changes, constants, lists};
 
 /// The greatest size of an exponent that a number is given, 2^20.
 const EXPONENT_LIMIT: u32 = 1 << 20;

@@ -9,10 +9,12 @@ ghost use Rattle.span_models.specs.Tangents.{IsMarginOf, IsSmallTangent};
 
 use crate::model::Model;
 use crate::tangents::{Tangent, line_of, place_of, tangent_of};
-use spec_models::laws::{arguments, betweens, changes, constants, lists, operations, widenings};
+use spec_models::model_laws::{
+    arguments, betweens, changes, constants, lists, operations, widenings,
+};
 
 /// How far numbers keep from 0, on one side of it: `size` times 2^`exponent`.
-#[derive(Clone, Copy, Debug, PartialEq, Eq)]
+#[derive(Clone, Copy, PartialEq, Eq)]
 pub struct Margin {
     pub is_above: bool,
     pub size: u64,

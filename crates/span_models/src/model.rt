@@ -9,7 +9,7 @@ pub const TERMS: usize = 10;
 
 /// A polynomial of `u`, from -1 to 1, with a bound of error: coefficients of `u^0`, `u^1`, .., and the error, all in units
 /// of `2^exponent`.
-#[derive(Clone, Copy, Debug, PartialEq, Eq)]
+#[derive(Clone, Copy, PartialEq, Eq)]
 pub struct Model {
     coefficients: [i64; TERMS],
     error: u64,

@@ -7,7 +7,7 @@ ghost use Rattle.span_models.specs.Sizes.{settled_limit, exponent_limit, terms, 
 ghost use Rattle.span_models.specs.Settled.{Reaches, at_coarser, raised_error};
 
 use crate::model::{Model, TERMS};
-use spec_models::laws::changes;
+use spec_models::model_laws::changes;
 
 /// The greatest size of an exponent of a model, 2^20.
 const EXPONENT_LIMIT: u32 = 1 << 20;

@@ -1,7 +1,7 @@
 // The constant factors in the formulas of bodies.
 
 /// A constant by which a coordinate is multiplied.
-#[derive(Clone, Copy, Debug, PartialEq, Eq)]
+#[derive(Clone, Copy, PartialEq, Eq)]
 pub enum Factor {
     /// The mass of the Moon over that of the Earth and the Moon, by the header's EMRAT: `1 / (1 + EMRAT)`.
     MoonShare,

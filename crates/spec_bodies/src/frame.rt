@@ -1,7 +1,7 @@
 // The frames in which coordinates are given.
 
 /// The axes along which coordinates are measured.
-#[derive(Clone, Copy, Debug, PartialEq, Eq)]
+#[derive(Clone, Copy, PartialEq, Eq)]
 pub enum Frame {
     /// The frame of the files: the mean equator and equinox of J2000.
     Eq,

@@ -1,7 +1,7 @@
 // What is known of a body along an axis.
 
 /// Position or velocity.
-#[derive(Clone, Copy, Debug, PartialEq, Eq)]
+#[derive(Clone, Copy, PartialEq, Eq)]
 pub enum Quantity {
     /// In km.
     Position,

@@ -15,7 +15,7 @@ pub const MOON_COLUMN: usize = 10;
 pub const SUN_COLUMN: usize = 11;
 
 /// From which columns the coordinates of a body come.
-#[derive(Clone, Copy, Debug, PartialEq, Eq)]
+#[derive(Clone, Copy, PartialEq, Eq)]
 pub enum Source {
     /// Its own column, counted from 1, relative to the barycentre of the solar system.
     OwnColumn(usize),

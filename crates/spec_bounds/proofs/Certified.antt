@@ -18,7 +18,7 @@ use Rattle.spec_events.proofs.Stages.{staged}
 use Rattle.spec_searches.specs.Event.{Condition, IsCondition}
 use Rattle.spec_searches.specs.Found.{rules}
 use Rattle.spec_searches.specs.Search.{Search, IsSearch, criteria, crosses, enclosure_over, verdict_of}
-use Rattle.spec_inclusions.proofs.Inclusions.{holds_ordered}
+use Rattle.spec_models.proofs.Inclusions.{holds_ordered}
 use Rattle.spec_bounds.specs.Terms.{bound_over}
 use Rattle.spec_bounds.specs.Certified.{HoldsConditions, unconditional}
 use Rattle.spec_bounds.specs.Steady.{is_certified_over, sign_at}

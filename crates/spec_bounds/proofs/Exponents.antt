@@ -12,7 +12,7 @@ use Rattle.spec_intervals.specs.Interval.{Interval, end_limit, is_zero, negated,
 use Rattle.spec_intervals.specs.Enclosure.{IsSpan, IsWithin, offsets, twice_size}
 use Rattle.spec_intervals.proofs.Exponents.{IsWithin-more, between-within, narrow-within, product-within, signed_square-within, twice_size-within, zero-between}
 use Rattle.spec_intervals.proofs.Offsets.{offsets-within}
-use Rattle.spec_inclusions.specs.Bounds.{Bound, at_exponent, bound, coarse_difference, coarse_sum, coarsened, constant_bound, difference_bound, product_bound, raised_sum, reached, signed_square_bound, sum_bound}
+use Rattle.spec_models.specs.Bounds.{Bound, at_exponent, bound, coarse_difference, coarse_sum, coarsened, constant_bound, difference_bound, product_bound, raised_sum, reached, signed_square_bound, sum_bound}
 use Rattle.spec_bounds.specs.Limits.{IsBoundWithin}
 
 -- ---- one exponent for two

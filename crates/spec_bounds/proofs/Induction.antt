@@ -12,7 +12,7 @@ use Rattle.spec_bodies.specs.Coordinates.{Coordinate, nothing, of_column, times,
 use Rattle.spec_bodies.specs.Reading.{AllColumns}
 use Rattle.spec_bodies.specs.Meanings.{factor_interval, exact_of, enclosure_of}
 use Rattle.spec_bodies.proofs.Formulas.{Holds-factor_interval}
-use Rattle.spec_inclusions.specs.Bounds.{Bound}
+use Rattle.spec_models.specs.Bounds.{Bound}
 use Rattle.spec_bounds.specs.Terms.{bound_of, term_bound}
 use Rattle.spec_bounds.proofs.Rules.{IsIncluded, constant_included, sum_included, difference_included, product_included, signed_square_included}
 

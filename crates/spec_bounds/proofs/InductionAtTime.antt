@@ -12,7 +12,7 @@ use Rattle.spec_bodies.specs.Coordinates.{Coordinate, nothing, of_column, times,
 use Rattle.spec_bodies.specs.Meanings.{factor_interval, enclosure_of}
 use Rattle.spec_bodies.specs.Reading.{AllColumns}
 use Rattle.spec_bodies.proofs.Formulas.{Holds-factor_interval}
-use Rattle.spec_inclusions.specs.Bounds.{Bound}
+use Rattle.spec_models.specs.Bounds.{Bound}
 use Rattle.spec_bounds.specs.Terms.{bound_of, term_bound}
 use Rattle.spec_bounds.proofs.RulesAtTime.{IsIncludedAtTime, constant_at_time, sum_at_time, difference_at_time, product_at_time, signed_square_at_time}
 

@@ -8,8 +8,8 @@ use Rattle.spec_numbers.proofs.Integers.{doubled}
 use Rattle.spec_intervals.specs.Interval.{interval, narrow, scale}
 use Rattle.spec_chebyshev.specs.declared.ends.Ival62.{Ival62}
 use Rattle.spec_chebyshev.specs.Rows.{ends}
-use Rattle.spec_inclusions.specs.Inclusion.{Includes, Spans}
-use Rattle.spec_inclusions.proofs.Inclusions.{Includes-narrow}
+use Rattle.spec_models.specs.Inclusion.{Includes, Spans}
+use Rattle.spec_models.proofs.Inclusions.{Includes-narrow}
 use Rattle.spec_bounds.proofs.Covers.{Covers, IsOrdered}
 use Rattle.spec_bounds.proofs.Products.{floor_div-grows, ceil_div-grows}
 

@@ -10,7 +10,7 @@ use Rattle.spec_numbers.proofs.Floor.{floor_div-le, floor_div-lt}
 use Rattle.spec_numbers.proofs.Corners.{corner_low, corner_high, between_low, between_high}
 use Rattle.spec_intervals.specs.Interval.{least4, greatest4}
 use Rattle.spec_intervals.proofs.Products.{least4-le, greatest4-ge}
-use Rattle.spec_inclusions.proofs.Products.{below_least, above_greatest}
+use Rattle.spec_models.proofs.ProductInclusions.{below_least, above_greatest}
 use Rattle.spec_chebyshev.specs.declared.ends.Ival62.{Ival62}
 use Rattle.spec_bounds.proofs.Covers.{Covers, IsOrdered}
 

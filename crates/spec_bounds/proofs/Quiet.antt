@@ -22,8 +22,8 @@ use Rattle.spec_events.specs.Stages.{has_no_turn}
 use Rattle.spec_events.specs.Verdict.{certifies, is_known, is_refuted}
 use Rattle.spec_searches.specs.Found.{rules}
 use Rattle.spec_searches.specs.Search.{Search, IsSearch, crosses, verdict_of}
-use Rattle.spec_inclusions.specs.Inclusion.{Includes}
-use Rattle.spec_inclusions.proofs.Inclusions.{holds_ordered}
+use Rattle.spec_models.specs.Inclusion.{Includes}
+use Rattle.spec_models.proofs.Inclusions.{holds_ordered}
 use Rattle.spec_bounds.specs.Quiet.{IsQuiet, sign_over}
 use Rattle.spec_bounds.specs.Steady.{sign_at}
 use Rattle.spec_bounds.proofs.Rules.{enclosures_in_order}

@@ -10,9 +10,9 @@ use Rattle.spec_intervals.proofs.Narrow.{Holds-narrow}
 use Rattle.spec_intervals.proofs.Products.{Holds-product}
 use Rattle.spec_intervals.proofs.Centred.{IsFraction-sub, middle_between}
 use Rattle.spec_intervals.proofs.Enclosed.{AllFractions-two, PartsHold-constant, PartsHold-sum, PartsHold-difference, PartsHold-product, PartsHold-signed_square, IsEnclosure-parts}
-use Rattle.spec_inclusions.specs.Inclusion.{Includes}
-use Rattle.spec_inclusions.specs.Bounds.{Bound, IncludesEnclosure, bound, coarse_sum, coarse_difference, constant_bound, sum_bound, difference_bound, product_bound, signed_square_bound}
-use Rattle.spec_inclusions.proofs.Inclusions.{Includes-refl, Includes-product, Includes-sum, Includes-difference, Includes-signed_square, Includes-twice_size, holds_ordered, IncludesEnclosure-parts}
+use Rattle.spec_models.specs.Inclusion.{Includes}
+use Rattle.spec_models.specs.Bounds.{Bound, IncludesEnclosure, bound, coarse_sum, coarse_difference, constant_bound, sum_bound, difference_bound, product_bound, signed_square_bound}
+use Rattle.spec_models.proofs.Inclusions.{Includes-refl, Includes-product, Includes-sum, Includes-difference, Includes-signed_square, Includes-twice_size, holds_ordered, IncludesEnclosure-parts}
 
 -- over the times from a to b, some values are numbers, and the enclosure of them is included by a bound
 pub record IsIncluded (f : ℤ → Fraction) (a b : ℤ) (p : Bound) (x : Enclosure) : Type 0 where

@@ -11,9 +11,9 @@ use Rattle.spec_intervals.proofs.Products.{Holds-product}
 use Rattle.spec_intervals.proofs.Rules.{Holds-difference}
 use Rattle.spec_intervals.proofs.Squares.{Holds-signed_square}
 use Rattle.spec_intervals.proofs.Sums.{Holds-sum}
-use Rattle.spec_inclusions.specs.Inclusion.{Includes}
-use Rattle.spec_inclusions.specs.Bounds.{Bound, coarsened, reached, bound, coarse_sum, coarse_difference, constant_bound, sum_bound, difference_bound, product_bound, signed_square_bound}
-use Rattle.spec_inclusions.proofs.Inclusions.{Includes-coarsened, Includes-refl, Includes-product, Includes-sum, Includes-difference, Includes-signed_square, holds_ordered}
+use Rattle.spec_models.specs.Inclusion.{Includes}
+use Rattle.spec_models.specs.Bounds.{Bound, coarsened, reached, bound, coarse_sum, coarse_difference, constant_bound, sum_bound, difference_bound, product_bound, signed_square_bound}
+use Rattle.spec_models.proofs.Inclusions.{Includes-coarsened, Includes-refl, Includes-product, Includes-sum, Includes-difference, Includes-signed_square, holds_ordered}
 
 -- a range includes a mid, which holds some number and is the range of its enclosure
 pub record IsIncludedAtTime (range : Interval) (x : Enclosure) : Type 0 where

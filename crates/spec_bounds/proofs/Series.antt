@@ -12,7 +12,7 @@ use Rattle.spec_motions.proofs.RowSums.{sums_ordered}
 use Rattle.spec_bodies.specs.declared.quantity.Quantity.{Quantity}
 use Rattle.spec_bodies.specs.declared.quantity.Quantity.TheVariants.{Position, Velocity}
 use Rattle.spec_bodies.specs.Views.{value_interval, step_interval}
-use Rattle.spec_inclusions.specs.Inclusion.{Includes}
+use Rattle.spec_models.specs.Inclusion.{Includes}
 use Rattle.spec_bounds.proofs.Covers.{Covers}
 use Rattle.spec_bounds.proofs.Rows.{Covers-t, Covers-u, Covers-q, Covers-r}
 use Rattle.spec_bounds.proofs.Sums.{CoversRow, CoversRow-multiples, sum_low-falls, sum_high-grows}

@@ -11,8 +11,8 @@ use Rattle.spec_intervals.specs.Interval.{Interval}
 use Rattle.spec_intervals.specs.Signs.{sign_of}
 use Rattle.spec_intervals.proofs.SignLaws.{yes-low, no-high}
 use Rattle.spec_events.specs.Verdict.{certifies, is_one_way, rises, falls}
-use Rattle.spec_inclusions.specs.Inclusion.{Includes}
-use Rattle.spec_inclusions.proofs.Inclusions.{Includes-not_negative, Includes-not_positive, Includes-negative}
+use Rattle.spec_models.specs.Inclusion.{Includes}
+use Rattle.spec_models.proofs.Inclusions.{Includes-not_negative, Includes-not_positive, Includes-negative}
 
 tested : (p q : ℤ) → p ≤ℤ q → le_z p q ≡ true
 tested p q h = by (le_z p q) refl

@@ -17,7 +17,7 @@ use Rattle.spec_bodies.proofs.Formulas.{IsFraction-factor, all_columns}
 use Rattle.spec_bodies.proofs.Held.{same, own_series, own_span, readable_columns, fractions_of_states, states_held}
 use Rattle.spec_bodies.proofs.Series.{IsFraction-value, Holds-value, Holds-step, mid_span}
 use Rattle.spec_searches.specs.Search.{enclosure_over}
-use Rattle.spec_inclusions.specs.Bounds.{IncludesEnclosure}
+use Rattle.spec_models.specs.Bounds.{IncludesEnclosure}
 use Rattle.spec_bounds.specs.Terms.{series_bound, column_bound, coordinate_bound, state_bound, bound_over}
 use Rattle.spec_bounds.proofs.Series.{Includes-value, Includes-step}
 use Rattle.spec_bounds.proofs.Rules.{IsIncluded, parts_included}

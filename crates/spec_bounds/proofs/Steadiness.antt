@@ -18,8 +18,8 @@ use Rattle.spec_events.specs.Verdict.{is_known, differ, certifies, is_certified,
 use Rattle.spec_searches.specs.Event.{Condition, IsCondition}
 use Rattle.spec_searches.specs.Found.{rules}
 use Rattle.spec_searches.specs.Search.{Search, IsSearch, criteria, crosses, enclosure_over, verdict_of}
-use Rattle.spec_inclusions.specs.Bounds.{Bound}
-use Rattle.spec_inclusions.proofs.Inclusions.{holds_ordered}
+use Rattle.spec_models.specs.Bounds.{Bound}
+use Rattle.spec_models.proofs.Inclusions.{holds_ordered}
 use Rattle.spec_bounds.specs.Terms.{bound_over}
 use Rattle.spec_bounds.specs.Steady.{IsSteady, is_certified_over, sign_at, steady_verdict}
 use Rattle.spec_bounds.proofs.Rules.{IsIncluded, enclosures_in_order}

@@ -22,7 +22,7 @@ use Rattle.spec_bodies.proofs.Columns.{series_of, span_of}
 use Rattle.spec_bodies.proofs.Factors.{factor_is}
 use Rattle.spec_bodies.proofs.Held.{readable_columns, times_span}
 use Rattle.spec_bodies.proofs.Series.{value-between, step-between}
-use Rattle.spec_inclusions.specs.Bounds.{Bound}
+use Rattle.spec_models.specs.Bounds.{Bound}
 use Rattle.spec_bounds.specs.Limits.{IsBoundWithin}
 use Rattle.spec_bounds.specs.Terms.{bound_of, bound_over, column_bound, coordinate_bound, state_bound, term_bound}
 use Rattle.spec_bounds.proofs.Exponents.{IsReached, reached-more, reached-within, within-reached, bound-reached, constant-reached, sum-reached, difference-reached, product-reached, signed_square-reached}

@@ -12,7 +12,7 @@ use Rattle.spec_bodies.specs.declared.quantity.Quantity.TheVariants.{Position, V
 use Rattle.spec_bodies.specs.Coordinates.{Coordinate, nothing, of_column, times, plus, less}
 use Rattle.spec_bodies.specs.Meanings.{factor_interval}
 use Rattle.spec_bodies.specs.Views.{View, coordinate_of, factor_of, step_interval, value_interval}
-use Rattle.spec_inclusions.specs.Bounds.{Bound, bound, constant_bound, sum_bound, difference_bound, product_bound, signed_square_bound}
+use Rattle.spec_models.specs.Bounds.{Bound, bound, constant_bound, sum_bound, difference_bound, product_bound, signed_square_bound}
 
 -- ---- columns
 abbrev pub series_bound : Quantity → ℤ → ℤ → Series → Bound

@@ -4,7 +4,7 @@ use spec_trees::Leaf;
 
 /// What a line of a certificate says after the first two. The times of a leaf are those of the search, in ticks of TDB
 /// since J2000.
-#[derive(Clone, Copy, Debug, PartialEq, Eq)]
+#[derive(Clone, Copy, PartialEq, Eq)]
 pub enum Entry {
     /// A leaf: its node and its mark.
     Leaf(Leaf),
@@ -13,7 +13,7 @@ pub enum Entry {
 }
 
 /// The first line of a certificate that breaks a rule.
-#[derive(Clone, Copy, Debug, PartialEq, Eq)]
+#[derive(Clone, Copy, PartialEq, Eq)]
 pub struct CertFault {
     /// The number of the line, counted from 1 over all lines of the text.
     pub line: u32,

@@ -9,7 +9,7 @@ use Rattle.spec_numbers.proofs.Whole.{nonneg-mul}
 use Rattle.spec_chebyshev.specs.Differences.{IsArgument, Within}
 use Rattle.spec_chebyshev.specs.Rows.{argument_of}
 use Rattle.spec_chebyshev.proofs.Sizes.{Within-mul}
-use Rattle.spec_roundings.specs.Ends.{in_units}
+use Rattle.spec_models.specs.Ends.{in_units}
 use Rattle.spec_ephemeris.specs.Series.{Series, argument_at}
 use Rattle.spec_motions.specs.Enclosures.{arguments}
 use Rattle.spec_models.specs.Models.{IsNear, Covers}

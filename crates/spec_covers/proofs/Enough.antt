@@ -9,9 +9,9 @@ use Rattle.spec_numbers.proofs.Order.{lin, le-mul, le-mul_cancel, natural}
 use Rattle.spec_numbers.proofs.Naturals.{positive_product}
 use Rattle.spec_intervals.specs.Fraction.{fraction_add, fraction_mul, fraction_scale}
 use Rattle.spec_intervals.proofs.Sums.{gap_is}
-use Rattle.spec_roundings.specs.Ends.{NoMore, in_units, slight}
-use Rattle.spec_roundings.proofs.Near.{raised_powers}
-use Rattle.spec_roundings.proofs.Ordered.{no_more_trans, add_no_more, slight_no_more, slight_is_fraction}
+use Rattle.spec_models.specs.Ends.{NoMore, in_units, slight}
+use Rattle.spec_models.proofs.Near.{raised_powers}
+use Rattle.spec_models.proofs.Ordered.{no_more_trans, add_no_more, slight_no_more, slight_is_fraction}
 use Rattle.spec_models.specs.Models.{Model, bulk}
 use Rattle.spec_covers.specs.Combining.{greatest, IsUpto, IsEnough, scaled_loss}
 use Rattle.spec_covers.proofs.Fractions.{same_through, same_below}

@@ -4,8 +4,8 @@ use Rattle.spec_numbers.proofs.Ring.{v, ◌⊗◌, ring}
 use Rattle.spec_numbers.proofs.Order.{lin, le-mul, natural}
 use Rattle.spec_numbers.proofs.Whole.{mul_comm, nonneg-mul}
 use Rattle.spec_intervals.specs.Fraction.{Fraction, IsFraction, fraction_mul}
-use Rattle.spec_roundings.specs.Ends.{NoMore}
-use Rattle.spec_roundings.proofs.Ordered.{no_more_trans}
+use Rattle.spec_models.specs.Ends.{NoMore}
+use Rattle.spec_models.proofs.Ordered.{no_more_trans}
 
 -- two fractions are one number
 abbrev pub IsSame : Fraction → Fraction → Type 0

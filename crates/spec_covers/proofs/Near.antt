@@ -10,7 +10,7 @@ use Rattle.spec_numbers.proofs.Order.{lin}
 use Rattle.spec_intervals.specs.Fraction.{Fraction, IsFraction, Holds}
 use Rattle.spec_intervals.specs.Interval.{Interval}
 use Rattle.spec_chebyshev.specs.Differences.{IsArgument}
-use Rattle.spec_roundings.specs.Ends.{NoMore, in_units, low, high, size}
+use Rattle.spec_models.specs.Ends.{NoMore, in_units, low, high, size}
 use Rattle.spec_models.specs.Models.{Model, degree, bulk, IsNear, Covers}
 use Rattle.spec_models.proofs.Between.{near-between}
 use Rattle.spec_models.proofs.Nearness.{power-one, own-power}

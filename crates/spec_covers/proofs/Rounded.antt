@@ -8,12 +8,12 @@ use Rattle.spec_numbers.proofs.Order.{lin, le-mul, natural}
 use Rattle.spec_intervals.specs.Fraction.{Fraction, IsFraction, fraction_add, fraction_sub, fraction_mul, fraction_signed_square, fraction_scale}
 use Rattle.spec_intervals.specs.Interval.{Interval, interval, narrow, sum, difference, product, signed_square, scale}
 use Rattle.spec_chebyshev.specs.Differences.{IsArgument}
-use Rattle.spec_roundings.specs.Ends.{NoMore, in_units, low, high, size, greatest_end, slight, scale_loss, Under, Over, IsCorner, low_low, low_high, high_low, high_high}
-use Rattle.spec_roundings.proofs.Narrowing.{narrowed_under, narrowed_over}
-use Rattle.spec_roundings.proofs.Products.{product_corner_under, product_corner_over, square_under, square_over}
-use Rattle.spec_roundings.proofs.Sums.{sum_under, sum_over, difference_under, difference_over}
-use Rattle.spec_roundings.proofs.Scaling.{scale_under, scale_over}
-use Rattle.spec_roundings.proofs.Ordered.{no_more_trans, add_no_more, slight_no_more, slight_is_fraction}
+use Rattle.spec_models.specs.Ends.{NoMore, in_units, low, high, size, greatest_end, slight, scale_loss, Under, Over, IsCorner, low_low, low_high, high_low, high_high}
+use Rattle.spec_models.proofs.NarrowedRoundings.{narrowed_under, narrowed_over}
+use Rattle.spec_models.proofs.ProductRoundings.{product_corner_under, product_corner_over, square_under, square_over}
+use Rattle.spec_models.proofs.SumRoundings.{sum_under, sum_over, difference_under, difference_over}
+use Rattle.spec_models.proofs.Scaling.{scale_under, scale_over}
+use Rattle.spec_models.proofs.Ordered.{no_more_trans, add_no_more, slight_no_more, slight_is_fraction}
 use Rattle.spec_models.specs.Models.{Model, IsNear, Covers, bulk, widened}
 use Rattle.spec_covers.specs.Combining.{AddsTo, SubtractsTo, MultipliesTo, SquaresTo, ScalesTo, greatest, IsUpto, IsEnough, scaled_loss}
 use Rattle.spec_covers.proofs.Fractions.{products_in_order}

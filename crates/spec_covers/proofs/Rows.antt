@@ -9,7 +9,7 @@ use Rattle.spec_chebyshev.specs.declared.ends.Ival62.{Ival62}
 use Rattle.spec_chebyshev.specs.Differences.{IsArgument}
 use Rattle.spec_chebyshev.specs.Rows.{t_unit, u_unit, t_size, u_size, t_row, u_row, IsArguments}
 use Rattle.spec_chebyshev.proofs.RowEnds.{t_ordered, u_ordered}
-use Rattle.spec_roundings.specs.Ends.{in_units, Under, Over}
+use Rattle.spec_models.specs.Ends.{in_units, Under, Over}
 use Rattle.spec_models.specs.Models.{Model, constant, Covers, widened}
 use Rattle.spec_covers.specs.Combining.{MultipliesTo, SubtractsTo, IsUpto}
 use Rattle.spec_covers.specs.Series.{of_entry, double_unit}

@@ -12,7 +12,7 @@ use Rattle.spec_intervals.specs.Interval.{least4, greatest4}
 use Rattle.spec_chebyshev.specs.declared.ends.Ival62.{Ival62}
 use Rattle.spec_chebyshev.specs.Differences.{IsArgument}
 use Rattle.spec_chebyshev.specs.Rows.{nothing, next}
-use Rattle.spec_roundings.specs.Ends.{NoMore, Under, Over}
+use Rattle.spec_models.specs.Ends.{NoMore, Under, Over}
 use Rattle.spec_models.specs.Models.{Model, IsNear, widened}
 use Rattle.spec_covers.specs.Combining.{MultipliesTo, SubtractsTo, IsUpto}
 use Rattle.spec_models.proofs.Between.{near-under, near-over, near-between}

@@ -5,7 +5,7 @@ use borrow.Author.Differences.{down}
 use Rattle.spec_intervals.specs.Interval.{distance_exponent}
 use Rattle.spec_chebyshev.specs.declared.ends.Ival62.{Ival62}
 use Rattle.spec_chebyshev.specs.Differences.{IsArgument}
-use Rattle.spec_roundings.specs.Ends.{in_units}
+use Rattle.spec_models.specs.Ends.{in_units}
 use Rattle.spec_motions.specs.Sums.{multiples, sum_low, sum_high}
 use Rattle.spec_motions.specs.Enclosures.{sum_exponent}
 use Rattle.spec_models.specs.Models.{Model, IsNear, Covers}

@@ -10,8 +10,8 @@ use Rattle.spec_numbers.proofs.Order.{lin, le-mul, natural}
 use Rattle.spec_intervals.specs.Fraction.{fraction, fraction_add, fraction_mul, fraction_scale}
 use Rattle.spec_intervals.specs.Interval.{interval}
 use Rattle.spec_chebyshev.specs.Differences.{IsArgument, Within}
-use Rattle.spec_roundings.specs.Ends.{NoMore, in_units}
-use Rattle.spec_roundings.proofs.Ordered.{more_units}
+use Rattle.spec_models.specs.Ends.{NoMore, in_units}
+use Rattle.spec_models.proofs.Ordered.{more_units}
 use Rattle.spec_models.specs.Models.{Model, constant, at, degree, IsNear, Covers}
 use Rattle.spec_covers.specs.Combining.{MultipliesTo, RepeatsTo, ScalesTo}
 use Rattle.spec_covers.proofs.Fractions.{IsSame}

@@ -3,7 +3,7 @@
 use Rattle.std.specs.Prelude.{ℕ, ℤ, pos, neg_ℤ, ◌≤ℤ◌}
 use Rattle.spec_intervals.specs.Fraction.{Fraction, fraction, fraction_add, fraction_sub, fraction_mul, fraction_signed_square, fraction_scale}
 use Rattle.spec_chebyshev.specs.Differences.{IsArgument}
-use Rattle.spec_roundings.specs.Ends.{NoMore, in_units, slight}
+use Rattle.spec_models.specs.Ends.{NoMore, in_units, slight}
 use Rattle.spec_models.specs.Models.{Model, IsNear, bulk}
 
 -- ---- of two models

@@ -6,7 +6,7 @@ ghost use Rattle.spec_intervals.specs.Interval.{Interval, interval, sum, differe
 ghost use Rattle.spec_chebyshev.specs.declared.ends.Ival62.{Ival62};
 ghost use Rattle.spec_chebyshev.specs.Differences.{IsArgument, Within};
 ghost use Rattle.spec_chebyshev.specs.Rows.{t_unit, u_unit, t_row, u_row, IsArguments};
-ghost use Rattle.spec_roundings.specs.Ends.{in_units};
+ghost use Rattle.spec_models.specs.Ends.{in_units};
 ghost use Rattle.spec_ephemeris.specs.Series.{Series};
 ghost use Rattle.spec_ephemeris.specs.Granules.{series_at};
 ghost use Rattle.spec_motions.specs.Sums.{multiples};

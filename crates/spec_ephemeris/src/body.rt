@@ -1,7 +1,7 @@
 // The bodies that a search can name.
 
 /// A body of the solar system, or a point of it.
-#[derive(Clone, Copy, Debug, PartialEq, Eq)]
+#[derive(Clone, Copy, PartialEq, Eq)]
 pub enum Body {
     Mercury,
     Venus,

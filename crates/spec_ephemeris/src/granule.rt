@@ -20,7 +20,7 @@ pub struct Granule<'a> {
 }
 
 /// A number `v` of km rounded down and up to a whole number of units of 2^-24 km: `floor(v 2^24)` and `ceil(v 2^24)`.
-#[derive(Clone, Copy, Debug, PartialEq, Eq)]
+#[derive(Clone, Copy, PartialEq, Eq)]
 pub struct Rounded {
     /// The number rounded down.
     pub lo: i64,

@@ -6,7 +6,7 @@ use std::marker::Model;
 
 /// Where a block holds the Chebyshev coefficients of one column, for each component and each granule. A column whose
 /// `coefs` or `granules` is 0 is absent.
-#[derive(Clone, Copy, Debug, PartialEq, Eq)]
+#[derive(Clone, Copy, PartialEq, Eq)]
 pub struct Column {
     /// The place of its first number in a block, counted from 1.
     pub start: u32,

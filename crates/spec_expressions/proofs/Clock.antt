@@ -8,7 +8,7 @@ use Rattle.spec_intervals.specs.Fraction.{Holds, fraction}
 use Rattle.spec_intervals.specs.Enclosure.{IsEnclosure, AllFractions, IsSpan, AllWithin, IsWithin, middle, change}
 use Rattle.spec_intervals.proofs.Centred.{middle_between}
 use Rattle.spec_intervals.proofs.Exponents.{narrow-within}
-use Rattle.spec_expressions.specs.Examples.{clock, clock_over}
+use Rattle.spec_expressions.specs.ExpressionExamples.{clock, clock_over}
 use Rattle.spec_expressions.specs.Term.{Leaf}
 
 holds-whole : (lo hi t : ℤ) → lo ≤ℤ t → t ≤ℤ hi → Holds (narrow lo hi (pos 0)) (fraction t 1)

@@ -1,3 +1,4 @@
+pub mod Terms
 pub mod Induction
 pub mod Reach
 pub mod Clock

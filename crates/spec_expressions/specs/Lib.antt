@@ -1,4 +1,6 @@
+pub mod Steps
+pub mod StepExamples
 pub mod Term
 pub mod Code
 pub mod Vectors
-pub mod Examples
+pub mod ExpressionExamples

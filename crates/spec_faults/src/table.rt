@@ -49,7 +49,7 @@ pub const FAULTS: [(u8, &str, bool); 38] = [
 ];
 
 /// One kind of fault: how it is reported.
-#[derive(Clone, Copy, Debug, PartialEq, Eq)]
+#[derive(Clone, Copy, PartialEq, Eq)]
 pub struct FaultKind {
     /// The number under which it is reported.
     pub number: u8,

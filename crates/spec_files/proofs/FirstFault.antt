@@ -2,7 +2,7 @@
 use Rattle.std.proofs.Common.{◌≡◌, ℕ, ◌+◌, List, [], ◌∷◌, ◌++◌, length, Option, None, Some, Result, Ok, Err, refl, ap, ◌∙◌}
 use Rattle.spec_text.specs.declared.decimals.Fault.{Fault}
 use Rattle.spec_ephemeris.specs.Ephemeris.{Ephemeris}
-use Rattle.spec_sections.specs.Sections.{FileLine, Stop, ended, breaks}
+use Rattle.spec_files.specs.Sections.{FileLine, Stop, ended, breaks}
 use Rattle.spec_files.specs.Lines.{ephemeris}
 use Rattle.spec_files.specs.Outcome.{fault_or_cut, first_fault}
 use Rattle.spec_files.specs.Texts.{cut_off, file_lines, first_cut, first_cut_from, joined, joined_from, or_later}

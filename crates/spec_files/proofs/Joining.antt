@@ -1,7 +1,7 @@
 -- Texts after texts.
 use Rattle.std.proofs.Common.{◌≡◌, ℕ, suc, ◌+◌, List, [], ◌∷◌, ◌++◌, length, Option, None, Some, Err, refl, sym, ap, ◌∙◌, append_assoc, arith}
 use Rattle.spec_text.specs.declared.decimals.Fault.{Fault}
-use Rattle.spec_sections.specs.Sections.{FileLine}
+use Rattle.spec_files.specs.Sections.{FileLine}
 use Rattle.spec_files.specs.Lines.{ephemeris}
 use Rattle.spec_files.specs.Texts.{cut_off, file_lines, first_cut_from, joined, joined_from, or_later}
 use Rattle.spec_files.specs.Outcome.{first_fault, outcome, outcome_by}

@@ -1,3 +1,15 @@
+pub mod Steps
+pub mod Holding
+pub mod WordSections
+pub mod Bounds
+pub mod Ratios
+pub mod ColumnsMeet
+pub mod AcceptedHeaders
+pub mod Numbers
+pub mod Blocks
+pub mod AcceptedBlocks
+pub mod FurtherWords
+pub mod Ending
 pub mod Lines
 pub mod Joining
 pub mod MoreLines

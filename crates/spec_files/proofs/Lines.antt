@@ -4,14 +4,14 @@ use Rattle.spec_ephemeris.specs.declared.header.Header.{Header}
 use Rattle.spec_ephemeris.specs.declared.limits.TheConstants.{LONGEST_BLOCK}
 use Rattle.spec_ephemeris.specs.Ephemeris.{Ephemeris, IsEphemeris}
 use Rattle.spec_ephemeris.specs.Ticks.{IsInSeconds}
-use Rattle.spec_header.specs.HeaderLines.{header}
-use Rattle.spec_header.proofs.Accepted.{accepted_header, accepted_length}
-use Rattle.spec_sections.specs.Sections.{FileLine}
-use Rattle.spec_sections.proofs.Holding.{Holds, holds_also, then_any}
-use Rattle.spec_blocks.specs.Blocks.{blocks, no_blocks}
-use Rattle.spec_blocks.proofs.Accepted.{blocks_hold}
-use Rattle.spec_blocks.proofs.Blocks.{IsWith}
-use Rattle.spec_blocks.proofs.Ending.{LiesInTime, blocks_lie}
+use Rattle.spec_files.specs.HeaderLines.{header}
+use Rattle.spec_files.proofs.AcceptedHeaders.{accepted_header, accepted_length}
+use Rattle.spec_files.specs.Sections.{FileLine}
+use Rattle.spec_files.proofs.Holding.{Holds, holds_also, then_any}
+use Rattle.spec_files.specs.Blocks.{blocks, no_blocks}
+use Rattle.spec_files.proofs.AcceptedBlocks.{blocks_hold}
+use Rattle.spec_files.proofs.Blocks.{IsWith}
+use Rattle.spec_files.proofs.Ending.{LiesInTime, blocks_lie}
 use Rattle.spec_files.specs.Lines.{ephemeris}
 
 -- a checked ephemeris with one block or more

@@ -6,11 +6,11 @@ use Rattle.std.proofs.lemmas.List.{length-append}
 use Rattle.spec_text.specs.declared.decimals.Decimal.{Decimal}
 use Rattle.spec_ephemeris.specs.Ephemeris.{Ephemeris}
 use Rattle.spec_ephemeris.specs.declared.header.Header.{Header}
-use Rattle.spec_sections.specs.declared.rules.BrokenRule.{BrokenRule}
-use Rattle.spec_sections.specs.Sections.{FileLine, FileWord, Stop, ended, breaks, ◌>>=◌, at_line, first_words}
+use Rattle.spec_files.specs.declared.rules.BrokenRule.{BrokenRule}
+use Rattle.spec_files.specs.Sections.{FileLine, FileWord, Stop, ended, breaks, ◌>>=◌, at_line, first_words}
 use Rattle.spec_faults.specs.declared.numbers.TheConstants.{NO_BLOCK, TRUNCATED}
-use Rattle.spec_blocks.specs.BlockRules.{number_rule, record_line}
-use Rattle.spec_blocks.specs.Blocks.{block, blocks, blocks_after, further_numbers, further_words, no_blocks, numbers_of, with_numbers, zeros_of}
+use Rattle.spec_files.specs.BlockRules.{number_rule, record_line}
+use Rattle.spec_files.specs.Blocks.{block, blocks, blocks_after, further_numbers, further_words, no_blocks, numbers_of, with_numbers, zeros_of}
 use Rattle.spec_files.specs.Lines.{ephemeris}
 use Rattle.spec_files.proofs.MoreHeader.{header_keeps}
 use Rattle.spec_files.proofs.MoreLines.{Keeps, KeepsFault, are_words, at_most_words, first_words-more, line_keeps, no_further, not_words, section_end, section_then}

@@ -3,11 +3,11 @@ use Rattle.std.proofs.Common.{◌≡◌, ◌-◌, ℕ, zero, suc, List, ◌∷�
 use Rattle.std.specs.Prelude.{codes, slice_get}
 use Rattle.std.proofs.lemmas.Bool.{cases_eq}
 use Rattle.spec_text.specs.declared.decimals.Decimal.{Decimal}
-use Rattle.spec_sections.specs.declared.rules.BrokenRule.{BrokenRule}
+use Rattle.spec_files.specs.declared.rules.BrokenRule.{BrokenRule}
 use Rattle.spec_faults.specs.declared.numbers.TheConstants.{ENDED}
-use Rattle.spec_header.specs.HeaderLines.{header, mass_ratio_among, mass_ratio_at, names}
-use Rattle.spec_header.specs.HeaderRules.{mass_ratio}
-use Rattle.spec_sections.specs.Sections.{FileLine, FileWord, ◌>>=◌, at_line, after_words, first_words}
+use Rattle.spec_files.specs.HeaderLines.{header, mass_ratio_among, mass_ratio_at, names}
+use Rattle.spec_files.specs.HeaderRules.{mass_ratio}
+use Rattle.spec_files.specs.Sections.{FileLine, FileWord, ◌>>=◌, at_line, after_words, first_words}
 use Rattle.spec_files.proofs.MoreLines.{Keeps, are_words, first_words-more, line_keeps, not_words, section_then, word_keeps}
 
 -- a place in a list is the same in a longer one

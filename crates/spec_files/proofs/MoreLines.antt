@@ -4,11 +4,11 @@ use Rattle.std.proofs.Common.{◌≡◌, ◌≢◌, ◌<◌, ◌≤◌, ◌+◌,
 use Rattle.std.specs.Prelude.{slice_get, if◌then◌else◌}
 use Rattle.std.proofs.lemmas.Bool.{cases_eq}
 use Rattle.std.proofs.lemmas.List.{drop_all}
-use Rattle.spec_blocks.proofs.FurtherWords.{none_further}
-use Rattle.spec_sections.specs.declared.rules.BrokenRule.{BrokenRule}
-use Rattle.spec_sections.specs.Sections.{FileLine, FileWord, Stop, ended, breaks, ◌>>=◌, at_line, after_words, first_words, from_word, is_word, lines_after, one_line, word_of}
-use Rattle.spec_sections.proofs.WordSections.{all_after, length_first, no_words}
-use Rattle.spec_blocks.specs.Blocks.{further_words}
+use Rattle.spec_files.proofs.FurtherWords.{none_further}
+use Rattle.spec_files.specs.declared.rules.BrokenRule.{BrokenRule}
+use Rattle.spec_files.specs.Sections.{FileLine, FileWord, Stop, ended, breaks, ◌>>=◌, at_line, after_words, first_words, from_word, is_word, lines_after, one_line, word_of}
+use Rattle.spec_files.proofs.WordSections.{all_after, length_first, no_words}
+use Rattle.spec_files.specs.Blocks.{further_words}
 
 -- what more lines come to, where these come to this: the value with the further lines after it, or the same broken rule
 abbrev pub Keeps : {A : Type 0} → List FileLine → Result (A × List FileLine) Stop → Result (A × List FileLine) Stop → Type 0

@@ -1,3 +1,13 @@
+pub mod Sections
+pub mod FileLines
+pub mod HeaderRules
+pub mod ColumnRules
+pub mod HeaderLines
+pub mod HeaderExamples
+pub mod BlockRules
+pub mod Blocks
+pub mod BlockExamples
+pub mod Read
 pub mod Lines
 pub mod Texts
 pub mod Outcome

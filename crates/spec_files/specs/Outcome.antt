@@ -2,7 +2,7 @@
 use Rattle.std.specs.Prelude.{ℕ, List, Option, None, Some, Result, Ok, Err}
 use Rattle.spec_text.specs.declared.decimals.Fault.{Fault}
 use Rattle.spec_ephemeris.specs.Ephemeris.{Ephemeris}
-use Rattle.spec_sections.specs.Sections.{Stop, ended, breaks}
+use Rattle.spec_files.specs.Sections.{Stop, ended, breaks}
 use Rattle.spec_files.specs.Lines.{ephemeris}
 use Rattle.spec_files.specs.Texts.{at_end, first_cut, joined}
 

@@ -3,8 +3,8 @@ use Rattle.std.specs.Prelude.{ℕ, ◌+◌, ◌-◌, nat_lt, Bool, List, [], ◌
 use Rattle.spec_text.specs.Lines.{lines, text_lines}
 use Rattle.spec_text.specs.declared.decimals.Fault.{Fault}
 use Rattle.spec_text.specs.declared.limits.TheConstants.{MAX_TEXT_BYTES}
-use Rattle.spec_sections.specs.FileLines.{first_long, readable}
-use Rattle.spec_sections.specs.Sections.{FileLine}
+use Rattle.spec_files.specs.FileLines.{first_long, readable}
+use Rattle.spec_files.specs.Sections.{FileLine}
 use Rattle.spec_faults.specs.declared.numbers.TheConstants.{FILE_TOO_LARGE}
 
 -- a fault without a detail

@@ -17,15 +17,15 @@ use Rattle.spec_text.proofs.Wholes.{value_small, whole_is}
 use Rattle.spec_ephemeris.specs.Ephemeris.{Ephemeris, IsEphemeris}
 use Rattle.spec_ephemeris.specs.Examples.{de405}
 use Rattle.spec_ephemeris.specs.declared.header.Header.{Header}
-use Rattle.spec_sections.specs.Sections.{FileLine, Stop, first_words, lines_after}
-use Rattle.spec_header.specs.HeaderLines.{header}
-use Rattle.spec_blocks.specs.BlockRules.{record_line as record_rule, trailing_rule}
-use Rattle.spec_blocks.specs.Blocks.{block, blocks, blocks_after, further_numbers, further_words, numbers_of, with_numbers, zeros_of}
+use Rattle.spec_files.specs.Sections.{FileLine, Stop, first_words, lines_after}
+use Rattle.spec_files.specs.HeaderLines.{header}
+use Rattle.spec_files.specs.BlockRules.{record_line as record_rule, trailing_rule}
+use Rattle.spec_files.specs.Blocks.{block, blocks, blocks_after, further_numbers, further_words, numbers_of, with_numbers, zeros_of}
 use Rattle.spec_faults.specs.declared.numbers.TheConstants.{TRUNCATED}
 use Rattle.spec_files.specs.Lines.{ephemeris}
 use Rattle.spec_files.specs.Outcome.{fault_or_cut, first_fault, outcome, outcome_by}
 use Rattle.spec_files.specs.Texts.{first_cut, joined}
-use Rattle.spec_sections.proofs.Holding.{holds_ok}
+use Rattle.spec_files.proofs.Holding.{holds_ok}
 use Rattle.spec_files.proofs.Lines.{HasBlocks, ephemeris_holds}
 use Rattle.spec_files.proofs.MoreHeader.{header_keeps}
 use Rattle.spec_files.proofs.MoreLines.{Keeps, are_words}

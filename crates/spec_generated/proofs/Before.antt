@@ -8,8 +8,8 @@ use Rattle.spec_text.specs.declared.decimals.Decimal.{Decimal}
 use Rattle.spec_ephemeris.specs.Ephemeris.{Ephemeris, end_of}
 use Rattle.spec_ephemeris.specs.Examples.{de405}
 use Rattle.spec_ephemeris.specs.declared.header.Header.{Header}
-use Rattle.spec_blocks.specs.BlockRules.{follows, has_length, is_after_gap, is_skipped, number_rule, second_date, time_of, value_rule}
-use Rattle.spec_blocks.specs.Blocks.{accept, no_blocks, with_numbers}
+use Rattle.spec_files.specs.BlockRules.{follows, has_length, is_after_gap, is_skipped, number_rule, second_date, time_of, value_rule}
+use Rattle.spec_files.specs.Blocks.{accept, no_blocks, with_numbers}
 use Rattle.spec_generated.specs.Blocks.{block_numbers, numbers_from, numbers_of, state_of}
 use Rattle.spec_generated.specs.Generated.{generated_ephemeris}
 use Rattle.spec_generated.specs.Words.{block_number, block_word, date_number}

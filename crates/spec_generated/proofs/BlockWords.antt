@@ -10,7 +10,7 @@ use Rattle.spec_text.specs.Printed.{AreFrom}
 use Rattle.spec_text.proofs.Printed.{decimal_digits, digits_from, from_append}
 use Rattle.spec_text.specs.Reading.{reading}
 use Rattle.spec_text.specs.declared.decimals.Decimal.{Decimal}
-use Rattle.spec_blocks.specs.BlockRules.{is_too_large}
+use Rattle.spec_files.specs.BlockRules.{is_too_large}
 use Rattle.spec_generated.specs.Draws.{drawn, draws_upto, state_after}
 use Rattle.spec_generated.specs.Words.{block_number, block_word, coefficient_at, coefficient_number, coefficient_word, date_number, date_of, date_word, fraction_word, padded_digits, zero_word}
 use Rattle.spec_generated.proofs.Digits.{is_padded}

@@ -5,8 +5,8 @@ use Rattle.std.proofs.lemmas.List.{length-append}
 use Rattle.spec_text.specs.Lines.{numbered_from, text_lines, tokens}
 use Rattle.spec_text.specs.Printed.{AreFrom, AreLines, joined_lines}
 use Rattle.spec_text.proofs.Printed.{printed, text_lines_are}
-use Rattle.spec_sections.specs.FileLines.{first_long, readable}
-use Rattle.spec_sections.specs.Sections.{FileLine}
+use Rattle.spec_files.specs.FileLines.{first_long, readable}
+use Rattle.spec_files.specs.Sections.{FileLine}
 use Rattle.spec_files.specs.Texts.{first_cut, joined}
 
 -- a line of printed bytes, with words

@@ -6,10 +6,10 @@ use Rattle.spec_text.specs.Lines.{tokens}
 use Rattle.spec_text.proofs.Printed.{from_append, from_less, no_separators}
 use Rattle.spec_text.proofs.TokenLemmas.{first_token, last_token}
 use Rattle.spec_ephemeris.specs.Ephemeris.{Ephemeris}
-use Rattle.spec_sections.specs.Sections.{FileLine, FileWord, first_words, lines_after, word_of}
-use Rattle.spec_sections.proofs.WordSections.{length_first}
-use Rattle.spec_blocks.specs.BlockRules.{number_rule, trailing_rule}
-use Rattle.spec_blocks.specs.Blocks.{further_words, numbers_of, zeros_of}
+use Rattle.spec_files.specs.Sections.{FileLine, FileWord, first_words, lines_after, word_of}
+use Rattle.spec_files.proofs.WordSections.{length_first}
+use Rattle.spec_files.specs.BlockRules.{number_rule, trailing_rule}
+use Rattle.spec_files.specs.Blocks.{further_words, numbers_of, zeros_of}
 use Rattle.spec_generated.specs.Blocks.{numbers_from, rows_from}
 use Rattle.spec_generated.proofs.BlockWords.{IsWord}
 use Rattle.spec_generated.proofs.Lines.{AreShortLines, IsShortLine, lines_at}

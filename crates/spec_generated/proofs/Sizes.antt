@@ -5,7 +5,7 @@ use Rattle.std.proofs.lemmas.Bool.{cases_Bool, cases_eq, lt-leb}
 use Rattle.std.proofs.lemmas.Int.{ints}
 use Rattle.spec_numbers.proofs.Sizes.{product_size}
 use Rattle.spec_generated.proofs.Numbers.{quotient_small}
-use Rattle.spec_blocks.specs.BlockRules.{is_place, is_too_large}
+use Rattle.spec_files.specs.BlockRules.{is_place, is_too_large}
 use Rattle.spec_generated.specs.Coefficients.{ScaledColumn, millionths, scaled_columns, term_among, term_at}
 use Rattle.spec_generated.specs.Words.{coefficient_number}
 

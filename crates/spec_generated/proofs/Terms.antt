@@ -7,7 +7,7 @@ use Rattle.std.proofs.lemmas.Option.{none-some, same_Some}
 use Rattle.spec_numbers.proofs.Naturals.{row_fits}
 use Rattle.spec_ephemeris.specs.declared.header.Column.{Column}
 use Rattle.spec_ephemeris.specs.Header.{column_size, components, granule_size, is_present}
-use Rattle.spec_blocks.specs.BlockRules.{is_place}
+use Rattle.spec_files.specs.BlockRules.{is_place}
 use Rattle.spec_generated.specs.Coefficients.{IsTermAt, ScaledColumn, place_of, scaled_columns, term_among, term_at}
 use Rattle.spec_generated.specs.declared.columns.CoefficientShape.{CoefficientShape}
 

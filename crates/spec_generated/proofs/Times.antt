@@ -5,7 +5,7 @@ use Rattle.std.proofs.Math.Nat.{mul-div_cancel, mul-mod_left}
 use Rattle.std.proofs.lemmas.Bool.{le-ltb}
 use Rattle.std.proofs.lemmas.Int.{ints}
 use Rattle.spec_text.specs.Days.{quotient, seconds_of_days}
-use Rattle.spec_blocks.specs.BlockRules.{time_of}
+use Rattle.spec_files.specs.BlockRules.{time_of}
 use Rattle.spec_generated.specs.Words.{date_number, date_of}
 
 -- the time at which a block begins

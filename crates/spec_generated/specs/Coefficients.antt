@@ -2,7 +2,7 @@
 use Rattle.std.specs.Prelude.{◌≡◌, ℕ, zero, suc, ◌+◌, ◌-◌, ◌*◌, ◌%◌, ◌^◌, ◌<◌, List, [], ◌∷◌, map, slice_get, Option, None, Some, ℤ, pos, ◌-ℤ◌, ◌*ℤ◌, int_div, if◌then◌else◌}
 use Rattle.spec_ephemeris.specs.declared.header.Column.{Column}
 use Rattle.spec_ephemeris.specs.Header.{components, granule_size}
-use Rattle.spec_blocks.specs.BlockRules.{is_place}
+use Rattle.spec_files.specs.BlockRules.{is_place}
 use Rattle.spec_generated.specs.declared.columns.CoefficientShape.{CoefficientShape}
 use Rattle.spec_generated.specs.declared.columns.TheConstants.{COLUMNS}
 

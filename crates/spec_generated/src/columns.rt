@@ -20,7 +20,7 @@ pub const COLUMNS: [(u32, u32, u32, u32); 13] = [
 ];
 
 /// What a coefficient depends on besides its draw.
-#[derive(Clone, Copy, Debug, PartialEq, Eq)]
+#[derive(Clone, Copy, PartialEq, Eq)]
 pub struct CoefficientShape {
     /// The scale of its column: the greatest size of a coefficient of T_0, in units of 2^31 millionths of a km.
     pub scale: u32,

@@ -7,7 +7,7 @@ use spec_events::Dir;
 use spec_text::Decimal;
 
 /// Which events are wanted.
-#[derive(Clone, Copy, Debug, PartialEq, Eq)]
+#[derive(Clone, Copy, PartialEq, Eq)]
 pub struct Ask {
     /// The kind.
     pub kind: Kind,

@@ -4,7 +4,7 @@ ghost use Rattle.std.specs.Prelude.{◌≡◌};
 use spec_faults::{BODY_ABSENT, REFERENCE_RANGE, SAME_BODY};
 
 /// Why an ephemeris does not serve an ask, or a number of it is out of range: the first of these that applies.
-#[derive(Clone, Copy, Debug, PartialEq, Eq)]
+#[derive(Clone, Copy, PartialEq, Eq)]
 pub enum EventFault {
     /// Fault 50: a column is absent that the target, the second body or the observer needs.
     BodyAbsent,

@@ -1,7 +1,7 @@
 // The kinds of events.
 
 /// What has to happen for an event. A body's place is geometric, seen from the observer in the frame.
-#[derive(Clone, Copy, Debug, PartialEq, Eq)]
+#[derive(Clone, Copy, PartialEq, Eq)]
 pub enum Kind {
     /// A coordinate of the target passes a value, as by SPICE's `gfposc`.
     Coord,

@@ -1,7 +1,7 @@
 // The kinds of occultations.
 
 /// How the disc of the front body lies over that of the back body, as by SPICE's `gfoclt` for two spheres.
-#[derive(Clone, Copy, Debug, PartialEq, Eq)]
+#[derive(Clone, Copy, PartialEq, Eq)]
 pub enum Shadow {
     /// The discs overlap.
     Any,

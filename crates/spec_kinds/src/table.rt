@@ -7,7 +7,7 @@ use Range::{Cosine, Distance, Free, Length};
 use Use::{Needed, Optional, Unused};
 
 /// How a kind of event uses a body, a frame, an axis or a number.
-#[derive(Clone, Copy, Debug, PartialEq, Eq)]
+#[derive(Clone, Copy, PartialEq, Eq)]
 pub enum Use {
     /// It has to be there.
     Needed,
@@ -18,7 +18,7 @@ pub enum Use {
 }
 
 /// What a reference value may be.
-#[derive(Clone, Copy, Debug, PartialEq, Eq)]
+#[derive(Clone, Copy, PartialEq, Eq)]
 pub enum Range {
     /// Below 2^36 km in magnitude.
     Length,
@@ -31,7 +31,7 @@ pub enum Range {
 }
 
 /// What a kind of event is asked with.
-#[derive(Clone, Copy, Debug, PartialEq, Eq)]
+#[derive(Clone, Copy, PartialEq, Eq)]
 pub struct KindRow {
     /// The kind.
     pub kind: Kind,

@@ -8,8 +8,8 @@ use Rattle.spec_numbers.proofs.Whole.{nonneg-mul}
 use Rattle.spec_numbers.proofs.Naturals.{positive_product}
 use Rattle.spec_intervals.specs.Fraction.{Fraction, IsFraction, fraction_add, fraction_sub}
 use Rattle.spec_chebyshev.specs.Differences.{IsArgument}
-use Rattle.spec_roundings.specs.Ends.{NoMore, in_units, Under, Over}
-use Rattle.spec_roundings.proofs.Ordered.{no_more_trans}
+use Rattle.spec_models.specs.Ends.{NoMore, in_units, Under, Over}
+use Rattle.spec_models.proofs.Ordered.{no_more_trans}
 use Rattle.spec_models.specs.Models.{Model, at, IsNear, beside, widened}
 use Rattle.spec_models.proofs.Nearness.{Apart-in, Apart-low, Apart-high, near-at, at-near}
 use Rattle.spec_models.proofs.Bounds.{power0}

@@ -13,7 +13,7 @@ use Rattle.spec_numbers.proofs.Sizes.{own_size}
 use Rattle.spec_intervals.specs.Fraction.{Fraction, fraction, IsFraction, fraction_add, fraction_mul}
 use Rattle.spec_chebyshev.specs.Differences.{IsArgument, Within}
 use Rattle.spec_chebyshev.proofs.Sizes.{Within-mul, Within-add}
-use Rattle.spec_roundings.specs.Ends.{NoMore, in_units}
+use Rattle.spec_models.specs.Ends.{NoMore, in_units}
 use Rattle.spec_models.specs.Models.{Model, model, at, IsNear, value, widened, sizes, bulk, slope, constant, argument}
 use Rattle.spec_models.proofs.Bounds.{Within-more, Within-is, Within-scale, Within-at, Within-moved, power0}
 use Rattle.spec_models.proofs.Nearness.{Apart, Apart-in, Apart-low, Apart-high, Apart-more, Apart-less, near-at, at-near, power-one, own-power, Within-cancel_above}

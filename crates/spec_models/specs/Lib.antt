@@ -1,1 +1,4 @@
+pub mod Inclusion
+pub mod Bounds
+pub mod Ends
 pub mod Models

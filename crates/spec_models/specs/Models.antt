@@ -4,7 +4,7 @@ use borrow.Author.Differences.{up, down}
 use Rattle.spec_numbers.specs.Numbers.{floor_div, power}
 use Rattle.spec_intervals.specs.Interval.{Interval}
 use Rattle.spec_intervals.specs.Fraction.{Fraction, fraction, IsFraction}
-use Rattle.spec_roundings.specs.Ends.{NoMore, low, high}
+use Rattle.spec_models.specs.Ends.{NoMore, low, high}
 
 -- coefficients of 1, of p / q, of its square, .., and how far what is modelled may be from that polynomial at most;
 -- all in units of 2^exponent

@@ -22,7 +22,7 @@ pub struct SeatHistory {
 
 /// What entering a leaf returns: it stands at `place` now; it stood there already; as many leaves as the limit stood,
 /// and this one was not among them; or memory ran out.
-#[derive(Debug, Drop, PartialEq, Eq)]
+#[derive(Drop, PartialEq, Eq)]
 pub enum Entry {
     Entered { place: u32 },
     Again { place: u32 },
@@ -31,7 +31,7 @@ pub enum Entry {
 }
 
 /// Why a ledger was not closed: `given` seats came back of the `made` ones.
-#[derive(Debug, Drop, PartialEq, Eq)]
+#[derive(Drop, PartialEq, Eq)]
 pub enum CloseError {
     Missing { given: u32, made: u32 },
 }

@@ -3,7 +3,7 @@
 /// A step of worker `w`: it splits the node in its hand and puts the right part on its deque (`Push`) or on its local
 /// stack (`Keep`), takes the front of its own deque (`Pop`), the top of its local stack (`TakeKept`) or the front of
 /// another worker's deque (`Steal`), or enters the node in its hand as a leaf (`Enter`).
-#[derive(Clone, Copy, PartialEq, Eq, Debug)]
+#[derive(Clone, Copy, PartialEq, Eq)]
 pub enum Step {
     Push { w: u32 },
     Keep { w: u32 },

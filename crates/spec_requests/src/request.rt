@@ -34,7 +34,7 @@ pub struct FindAsk {
 
 /// A relation that a function has to one reference or two: the times at which it is below the reference, or at least the
 /// reference; at least the first and below the second; below the first or at least the second.
-#[derive(Clone, Copy, Debug, PartialEq, Eq)]
+#[derive(Clone, Copy, PartialEq, Eq)]
 pub enum Relation {
     Less,
     AtLeast,

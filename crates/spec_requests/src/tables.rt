@@ -8,7 +8,7 @@ use spec_events::Dir;
 use spec_trees::CutRule;
 
 /// The commands.
-#[derive(Clone, Copy, Debug, PartialEq, Eq)]
+#[derive(Clone, Copy, PartialEq, Eq)]
 pub enum CommandName {
     Find,
     Cert,

@@ -1,7 +1,7 @@
 // What is known of a scalar over a span of times.
 
 /// Bounds of a scalar at each time of a span, and of its change from each of them but the last to the next.
-#[derive(Clone, Copy, PartialEq, Eq, Debug)]
+#[derive(Clone, Copy, PartialEq, Eq)]
 pub struct Reach {
     /// It is no less than this.
     pub lo: i128,

@@ -7,7 +7,7 @@ use Rattle.spec_trees.specs.Tree.{IsSound, IsValid, Rules, leaves, mark_of, widt
 use Rattle.spec_trees.specs.Windows.{windows}
 use Rattle.spec_trees.proofs.Leaves.{leaves_settled, leaves_split, no_mark, parts_width, some_width}
 use Rattle.spec_searches.specs.Search.{IsSearch, Search}
-use Rattle.spec_searches.specs.Found.{IsSpan, root, rules, windows_of}
+use Rattle.spec_searches.specs.Found.{IsSpan, leaves_of, root, rules, windows_of}
 use Rattle.spec_searches.proofs.Parts.{root_is_valid, rules_are_sound}
 use Rattle.spec_spans.specs.Searches.{AreBlocksUpTo, over_blocks}
 use Rattle.spec_spans.proofs.Fewer.{ends_within, starts_later}
@@ -47,13 +47,17 @@ module _ (t u : Rules) (sound : IsSound t) (other_sound : IsSound u) (first last
   pub same_leaves : (n : Node) → IsValid t n → first ≤ℤ n.a → n.b ≤ℤ last → leaves t n ≡ leaves u n
   same_leaves n v from upto = by_width (width n) n v from upto (omega arith)
 
-pub same_windows_over_blocks : (s : Search) (skipped count : ℕ) → IsSearch s → IsSearch (over_blocks skipped count s) → (first last : ℤ)
-    → AreBlocksUpTo s.view.ephemeris skipped count last → IsSpan (over_blocks skipped count s) first last → windows_of (over_blocks skipped count s) first last ≡ windows_of s first last
-same_windows_over_blocks s skipped count is of_part first last held span =
+pub same_leaves_over_blocks : (s : Search) (skipped count : ℕ) → IsSearch s → IsSearch (over_blocks skipped count s) → (first last : ℤ)
+    → AreBlocksUpTo s.view.ephemeris skipped count last → IsSpan (over_blocks skipped count s) first last → leaves_of (over_blocks skipped count s) first last ≡ leaves_of s first last
+same_leaves_over_blocks s skipped count is of_part first last held span =
     let over : Search = over_blocks skipped count s in
     let later = starts_later s.view.ephemeris skipped count is.view.checked held.there in
     let within = ends_within s.view.ephemeris skipped count is.view.checked held.there in
-    ap windows (same_leaves (rules over) (rules s) (rules_are_sound over of_part.view) (rules_are_sound s is.view) over.view.ephemeris.start last
+    same_leaves (rules over) (rules s) (rules_are_sound over of_part.view) (rules_are_sound s is.view) over.view.ephemeris.start last
     (λ n v. let low = v.from in let high = v.to in record { from = omega (arith, ints, low, later); inside = v.inside; to = omega (arith, ints, high, within); depth = v.depth })
     (λ n from some upto. (same_verdict s is skipped count of_part held.there last held.next span.to n from some upto, same_parts s is skipped count of_part held.there last held.next span.to n from some upto))
-    (root first last) (root_is_valid over of_part.view first last span) span.from (omega (arith, ints)))
+    (root first last) (root_is_valid over of_part.view first last span) span.from (omega (arith, ints))
+
+pub same_windows_over_blocks : (s : Search) (skipped count : ℕ) → IsSearch s → IsSearch (over_blocks skipped count s) → (first last : ℤ)
+    → AreBlocksUpTo s.view.ephemeris skipped count last → IsSpan (over_blocks skipped count s) first last → windows_of (over_blocks skipped count s) first last ≡ windows_of s first last
+same_windows_over_blocks s skipped count is of_part first last held span = ap windows (same_leaves_over_blocks s skipped count is of_part first last held span)

@@ -1,5 +1,6 @@
 pub mod Joining
 pub mod Seams
+pub mod Pieces
 pub mod Neighbours
 pub mod Ticks
 pub mod Decided

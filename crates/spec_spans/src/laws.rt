@@ -11,6 +11,7 @@ ghost use Rattle.spec_events.specs.Events.{AreWindows};
 ghost use Rattle.spec_searches.specs.Search.{IsSearch, Search, events};
 ghost use Rattle.spec_searches.specs.Found.{IsLeftUndecided, IsSpan, leaves_of, rules, windows_of};
 ghost use Rattle.spec_spans.specs.Joins.{AreDecided, joined};
+ghost use Rattle.spec_spans.specs.Pieces.{AreSeams, leaves_of_pieces};
 ghost use Rattle.spec_spans.specs.Seams.{IsBlockBorder, IsSeam};
 ghost use Rattle.spec_spans.specs.Searches.{AreBlocksUpTo, limited, over_blocks};
 
@@ -20,6 +21,19 @@ pub fn spans_meet_at_borders()
     ensures { (s : Search) (first last time : ℤ) → IsSearch s → IsSpan s first last
         → IsSeam s first last time
         → windows_of s first last ≡ joined (windows_of s first time) (windows_of s time last) }
+{}
+
+/// Where a span is cut at borders of columns in use, or one tick before them, the leaves of its pieces, one after another,
+/// are the leaves of the span, each with its times, its depth and its mark. A piece that is searched over some of the
+/// blocks alone has the leaves that it has over all of them.
+pub fn leaves_meet_at_borders()
+    ensures pieces { (s : Search) (first last : ℤ) (times : List ℤ) → IsSearch s → IsSpan s first last
+        → AreSeams s first times last → leaves_of s first last ≡ leaves_of_pieces s first times last }
+    ensures over_some_blocks { (s : Search) (skipped count : ℕ) (first last : ℤ) → IsSearch s
+        → IsSearch (over_blocks skipped count s)
+        → AreBlocksUpTo s.view.ephemeris skipped count last
+        → IsSpan (over_blocks skipped count s) first last
+        → leaves_of (over_blocks skipped count s) first last ≡ leaves_of s first last }
 {}
 
 /// Wherever spans meet, the windows of the one and those of the other, joined or side by side, keep every promise of

@@ -2,3 +2,13 @@ pub mod Blocks
 pub mod Halvings
 pub mod Coarser
 pub mod Units
+pub mod Lists
+pub mod Sound
+pub mod Alike
+pub mod Fractions
+pub mod Made
+pub mod Sizes
+pub mod Meets
+pub mod Shares
+pub mod Centred
+pub mod StillMargins

@@ -1,4 +1,8 @@
 pub mod Still
 pub mod Coarse
 pub mod Weights
-pub mod Examples
+pub mod StillExamples
+pub mod Eager
+pub mod Told
+pub mod Margins
+pub mod MarginExamples

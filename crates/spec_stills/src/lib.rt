@@ -1,13 +1,24 @@
 //! Still spans of a search: spans of times in which each node that is no wider than so much is clear. A node within one need
-//! not be cut down to its leaves: it is taken for one clear leaf, and the windows stay what they are.
+//! not be cut down to its leaves: it is taken for one clear leaf, and the windows stay what they are. In an eager tree a node
+//! in which a still span begins is split without being judged, since nothing can come of it but a split, or one clear leaf.
+//! A span is still where the function of the search keeps a margin from 0 at each time, which its steps cannot use up.
 //!
-//! Nothing runs here. `specs/` has the definitions, and `laws` says that coarse trees have the same windows.
+//! Nothing runs here. Searches and spans come in; what goes out are the definitions of `specs/`, worked values of them, and
+//! laws: `still_laws` says that coarse trees have the same windows, `eager_laws` that eager trees have them where they leave
+//! nothing undecided, and how many leaves the tree may have, `margin_laws` that spans with a margin are still.
 #![tactic(auto)]
 
-mod examples;
-pub mod laws;
+mod eager_examples;
+pub mod eager_laws;
+pub mod margin_examples;
+pub mod margin_laws;
 mod still;
+mod still_examples;
+pub mod still_laws;
 
-pub use examples::{nodes_that_are_served, weights_of_leaves};
+pub use eager_examples::{
+    leaves_that_leave_nothing_undecided, nodes_that_are_split_unjudged, spans_that_begin_in_a_node,
+};
 pub use spec_intervals::Sign;
 pub use still::StillSpan;
+pub use still_examples::{nodes_that_are_served, weights_of_leaves};

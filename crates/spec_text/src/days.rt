@@ -1,7 +1,7 @@
 // Numbers of days.
 
 /// Why a number of days isn't taken. Of both it is the first.
-#[derive(Clone, Copy, Debug, PartialEq, Eq)]
+#[derive(Clone, Copy, PartialEq, Eq)]
 pub enum DaysFault {
     /// It is no whole number of seconds.
     NotWholeSecond,

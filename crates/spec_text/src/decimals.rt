@@ -2,7 +2,7 @@
 ghost use Rattle.std.specs.Prelude.{◌≡◌};
 
 /// The number `mant * 10^exp`, exactly as it was written: `32.50` is 3250 and -2. Zero is 0 and 0.
-#[derive(Clone, Copy, Debug, PartialEq, Eq)]
+#[derive(Clone, Copy, PartialEq, Eq)]
 pub struct Decimal {
     /// The digits without the point, as one number with the sign.
     pub mant: i64,
@@ -11,7 +11,7 @@ pub struct Decimal {
 }
 
 /// Why a word is no decimal. Of several faults a word has the first in this order.
-#[derive(Clone, Copy, Debug, PartialEq, Eq)]
+#[derive(Clone, Copy, PartialEq, Eq)]
 pub enum NumberFault {
     /// Fault 1: the word has not the form of a decimal, or more than 40 bytes.
     NotNumber,

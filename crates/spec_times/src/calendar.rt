@@ -1,7 +1,7 @@
 // What calendar and clock show.
 
 /// A date and a time of day.
-#[derive(Clone, Copy, Debug, PartialEq, Eq)]
+#[derive(Clone, Copy, PartialEq, Eq)]
 pub struct CalendarTime {
     /// The year; the one before 1 is 0, and the one before that is -1.
     pub year: i64,

@@ -1,7 +1,7 @@
 // Words that stand for no time.
 
 /// Why a word stands for no time.
-#[derive(Clone, Copy, Debug, PartialEq, Eq)]
+#[derive(Clone, Copy, PartialEq, Eq)]
 pub enum TimeFault {
     /// It has neither form of a time, or shows a date that the calendar doesn't have.
     NotTime,

@@ -2,7 +2,7 @@
 use crate::tree::{Leaf, Node};
 
 /// A leaf, and the number of the seat that entered it.
-#[derive(Clone, Copy, PartialEq, Eq, Debug)]
+#[derive(Clone, Copy, PartialEq, Eq)]
 pub struct Booked {
     pub leaf: Leaf,
     pub seat: u32,

@@ -1,7 +1,7 @@
 // Nodes of a halved span, what a judge says of them, and leaves.
 
 /// The times after `a` and up to `b`, in ticks of TDB since J2000, at a depth below the root.
-#[derive(Clone, Copy, PartialEq, Eq, Debug)]
+#[derive(Clone, Copy, PartialEq, Eq)]
 pub struct Node {
     pub a: i64,
     pub b: i64,
@@ -9,7 +9,7 @@ pub struct Node {
 }
 
 /// The direction in which a function passes 0: from below 0 to at least 0, or back.
-#[derive(Clone, Copy, PartialEq, Eq, Debug)]
+#[derive(Clone, Copy, PartialEq, Eq)]
 pub enum Turn {
     Rise,
     Fall,
@@ -17,7 +17,7 @@ pub enum Turn {
 
 /// What a judge says of a node: it holds no event, exactly one, it is to be split, or nothing is known and it isn't
 /// to be split.
-#[derive(Clone, Copy, PartialEq, Eq, Debug)]
+#[derive(Clone, Copy, PartialEq, Eq)]
 pub enum Verdict {
     Clear,
     One(Turn),
@@ -43,7 +43,7 @@ impl Verdict {
 }
 
 /// What is known of a leaf.
-#[derive(Clone, Copy, PartialEq, Eq, Debug)]
+#[derive(Clone, Copy, PartialEq, Eq)]
 pub enum Mark {
     Clear,
     One(Turn),
@@ -51,7 +51,7 @@ pub enum Mark {
 }
 
 /// A node that isn't split, with its mark.
-#[derive(Clone, Copy, PartialEq, Eq, Debug)]
+#[derive(Clone, Copy, PartialEq, Eq)]
 pub struct Leaf {
     pub node: Node,
     pub mark: Mark,

@@ -11,7 +11,7 @@ use spec_trees::Leaf;
 use std::marker::Model;
 
 /// Why a worker stops before its work is done: the root has more leaves than the limit, or memory ran out.
-#[derive(Clone, Copy, Debug, PartialEq, Eq)]
+#[derive(Clone, Copy, PartialEq, Eq)]
 pub enum PoolError {
     TooMany,
     Memory,

@@ -23,7 +23,7 @@ const ROOM: usize = 64;
 const MAX_SWEEPS: usize = 50;
 
 /// Where the right part of a node was put: on the own deque, on the own local stack, or nowhere, out of memory.
-#[derive(Debug, Drop, PartialEq, Eq)]
+#[derive(Drop, PartialEq, Eq)]
 pub enum Pushed {
     OnDeque,
     Kept,

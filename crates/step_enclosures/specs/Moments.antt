@@ -1,7 +1,7 @@
 -- The steps of a list over the times of a snapshot.
 use Rattle.std.specs.Prelude.{◌≡◌, List}
 use Rattle.event_expr.specs.States.{Times}
-use Rattle.spec_steps.specs.declared.steps.Step.{Step}
+use Rattle.spec_expressions.specs.declared.steps.Step.{Step}
 use Rattle.spec_bodies.specs.Views.{Fits}
 use Rattle.body_states.specs.Moments.{Moment}
 

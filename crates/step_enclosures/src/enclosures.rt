@@ -1,6 +1,6 @@
 // The enclosures of the steps of a list over the times of a snapshot, of which the first ones are made.
 ghost use Rattle.std.specs.Prelude.{◌≡◌, ◌<◌, ◌≤◌, IfSome, length};
-ghost use Rattle.spec_steps.specs.Steps.{term_at, terms_of};
+ghost use Rattle.spec_expressions.specs.Steps.{term_at, terms_of};
 ghost use Rattle.event_steps.specs.Entered.{IsMadeAt};
 ghost use Rattle.body_states.specs.Moments.{enclosure_in};
 ghost use Rattle.step_enclosures.specs.Moments.{AreTimesOf};
@@ -29,7 +29,7 @@ pub struct StepEnclosures<'r, 's, 'e> {
 
 impl<'r, 's, 'e> Model for StepEnclosures<'r, 's, 'e> {
     ghost use Rattle.std.specs.Prelude.{◌≡◌, ◌≤◌, length};
-    ghost use Rattle.spec_steps.specs.Steps.{terms_of};
+    ghost use Rattle.spec_expressions.specs.Steps.{terms_of};
     ghost use Rattle.event_steps.specs.Values.{AreValues};
     ghost use Rattle.body_states.specs.Moments.{enclosure_in};
     ghost use Rattle.step_enclosures.specs.Moments.{AreTimesOf, StepMoment};

@@ -9,9 +9,9 @@ use borrow.Author.Differences.{up, down}
 use Rattle.spec_numbers.proofs.Order.{lin}
 use Rattle.spec_intervals.specs.Fraction.{Fraction}
 use Rattle.spec_intervals.specs.Interval.{Interval}
-use Rattle.spec_inclusions.specs.Bounds.{Bound}
-use Rattle.spec_roundings.specs.Ends.{NoMore, greatest_end, in_units, size}
-use Rattle.spec_margins.specs.Margins.{StepsFit, multiple}
+use Rattle.spec_models.specs.Bounds.{Bound}
+use Rattle.spec_models.specs.Ends.{NoMore, greatest_end, in_units, size}
+use Rattle.spec_stills.specs.Margins.{StepsFit, multiple}
 
 three_powers : (a b c : ℕ) → 2 ^ (a + b + c) ≡ 2 ^ a * 2 ^ b * 2 ^ c
 three_powers a b c = pow-add 2 (a + b) c ∙ ap (λ n. n * 2 ^ c) (pow-add 2 a b)

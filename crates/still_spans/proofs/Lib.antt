@@ -1,5 +1,10 @@
+mod FollowingShares
+mod Begun
+mod Eager
+mod FollowingNodes
+mod Served
 mod Doubled
 mod Margins
-mod Following
+mod FollowingSpans
 mod BetweenSpans
 pub mod Quieted

@@ -19,9 +19,9 @@ use Rattle.spec_bounds.specs.Terms.{bound_over}
 use Rattle.event_bounds.specs.declared.bound.Bound.{Bound as Made}
 use Rattle.event_bounds.specs.Made.{IsBound}
 use Rattle.spec_expressions.specs.Term.{Term}
-use Rattle.spec_roundings.specs.Ends.{low, high}
+use Rattle.spec_models.specs.Ends.{low, high}
 use Rattle.spec_models.specs.Models.{Covers, IsNear, Model}
-use Rattle.spec_margins.specs.Margins.{HasMargin, IsAbove, IsBelow, range_at}
+use Rattle.spec_stills.specs.Margins.{HasMargin, IsAbove, IsBelow, range_at}
 use Rattle.span_models.specs.declared.margin.Margin.{Margin}
 use Rattle.span_models.specs.Margins.{KeepsFrom, margin_of}
 use Rattle.still_spans.specs.declared.known.Known.{Known}

@@ -4,7 +4,7 @@ use Rattle.spec_intervals.specs.declared.signs.Sign.{Sign}
 use Rattle.spec_intervals.specs.declared.signs.Sign.TheVariants.{Yes, No}
 use Rattle.spec_bodies.specs.Views.{Fits}
 use Rattle.spec_searches.specs.Search.{IsSearch, Search}
-use Rattle.spec_margins.specs.Margins.{range_at}
+use Rattle.spec_stills.specs.Margins.{range_at}
 use Rattle.spec_bounds.specs.Terms.{bound_over}
 use Rattle.spec_models.specs.Models.{Model, Covers}
 use Rattle.event_bounds.specs.Made.{IsBound}

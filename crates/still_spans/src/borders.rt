@@ -7,7 +7,7 @@ ghost use Rattle.still_spans.specs.Found.{IsStillOver, still};
 use event_judge::EventSearch;
 use ival_core::Sign;
 use spec_stills::StillSpan;
-use spec_stills::laws::units_of_one_sign_are_still;
+use spec_stills::still_laws::units_of_one_sign_are_still;
 
 // Whether the sign is known.
 fn is_known(sign: Sign) -> bool

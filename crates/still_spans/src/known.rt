@@ -4,7 +4,7 @@ ghost use Rattle.spec_bodies.specs.Views.{Fits};
 ghost use Rattle.spec_bounds.specs.Steady.{sign_at};
 ghost use Rattle.spec_bounds.specs.Terms.{bound_over};
 ghost use Rattle.spec_stills.specs.Still.{IsStill};
-ghost use Rattle.spec_margins.specs.Margins.{HasMargin, StepsFit};
+ghost use Rattle.spec_stills.specs.Margins.{HasMargin, StepsFit};
 ghost use Rattle.span_models.specs.Margins.{margin_of};
 ghost use Rattle.event_bounds.specs.Made.{IsBound};
 ghost use Rattle.still_spans.specs.Found.{IsStillOver, still};
@@ -16,8 +16,8 @@ use event_judge::EventSearch;
 use event_models::model_over;
 use ival_core::Sign;
 use span_models::{Margin, Model};
-use spec_margins::laws::{margins_make_spans_still, margins_tell_signs};
 use spec_stills::StillSpan;
+use spec_stills::margin_laws::{margins_make_spans_still, margins_tell_signs};
 
 /// The width, in ticks, of the widest spans of which the margin alone is asked, where nodes are split down to one tick: 12
 /// halvings bring them there.

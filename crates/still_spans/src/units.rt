@@ -1,7 +1,7 @@
 // Whole numbers of units that a margin allows.
 ghost use Rattle.std.specs.Prelude.{◌≡◌, ◌+◌, ◌*◌, ◌^◌, ◌≤◌, pos, ◌-ℤ◌, ◌≤ℤ◌, ◌<ℤ◌, IfSome, IsTrue};
-ghost use Rattle.spec_roundings.specs.Ends.{NoMore, greatest_end, in_units};
-ghost use Rattle.spec_margins.specs.Margins.{StepsFit};
+ghost use Rattle.spec_models.specs.Ends.{NoMore, greatest_end, in_units};
+ghost use Rattle.spec_stills.specs.Margins.{StepsFit};
 ghost use Rattle.event_bounds.specs.Made.{bound_made};
 ghost use Rattle.span_models.specs.Margins.{margin_of};
 

@@ -1,6 +1,6 @@
 use Rattle.std.proofs.Common.{◌∙◌, ap, rules}
 use Rattle.spec_ephemeris.specs.Ephemeris.{Ephemeris}
-use Rattle.spec_blocks.specs.Blocks.{with_numbers}
+use Rattle.spec_files.specs.Blocks.{with_numbers}
 use Rattle.de_blocks.proofs.Steps.{after_block, is_whole}
 use Rattle.de_blocks.proofs.accepting.take_line.Goals as goal
 

@@ -1,5 +1,5 @@
 use Rattle.std.proofs.Common.{◌≡◌, suc, drop}
-use Rattle.spec_blocks.specs.BlockRules.{is_place_of}
+use Rattle.spec_files.specs.BlockRules.{is_place_of}
 use Rattle.de_blocks.proofs.rules.is_place_of_any.Given as goal
 
 abbrev pub invariant-loop-i : goal.invariant-loop-i

@@ -1,5 +1,5 @@
 use Rattle.std.proofs.Common.{◌≡◌, [], take, drop}
-use Rattle.spec_header.specs.ColumnRules.{columns_rule}
+use Rattle.spec_files.specs.ColumnRules.{columns_rule}
 use Rattle.de_header.proofs.columns.check_columns.Given as goal
 
 abbrev pub invariant-loop-i : goal.invariant-loop-i

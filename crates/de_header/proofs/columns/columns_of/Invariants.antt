@@ -1,6 +1,6 @@
 use Rattle.std.proofs.Common.{◌≡◌, length, take}
 use Rattle.spec_ephemeris.specs.declared.limits.TheConstants.{MAX_COLUMNS}
-use Rattle.spec_header.specs.ColumnRules.{columns_of}
+use Rattle.spec_files.specs.ColumnRules.{columns_of}
 use Rattle.de_header.proofs.columns.columns_of.Given as goal
 
 abbrev pub invariant-loop-i : goal.invariant-loop-i

@@ -1,5 +1,5 @@
 use Rattle.std.proofs.Common.{◌≡◌, suc, drop}
-use Rattle.spec_header.specs.ColumnRules.{overlaps_any}
+use Rattle.spec_files.specs.ColumnRules.{overlaps_any}
 use Rattle.de_header.proofs.columns.overlaps_any.Given as goal
 
 abbrev pub invariant-loop-k : goal.invariant-loop-k

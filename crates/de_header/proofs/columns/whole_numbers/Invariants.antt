@@ -1,6 +1,6 @@
 use Rattle.std.proofs.Common.{◌≡◌, [], length, take, drop}
 use Rattle.spec_ephemeris.specs.declared.limits.TheConstants.{MAX_COLUMNS}
-use Rattle.spec_header.specs.ColumnRules.{whole_numbers}
+use Rattle.spec_files.specs.ColumnRules.{whole_numbers}
 use Rattle.de_header.proofs.columns.whole_numbers.Given as goal
 
 abbrev pub invariant-loop-i : goal.invariant-loop-i

@@ -1,5 +1,5 @@
 use Rattle.std.proofs.Common.{◌≡◌, ◌+◌, take, drop}
-use Rattle.spec_header.specs.HeaderRules.{emrat_from}
+use Rattle.spec_files.specs.HeaderRules.{emrat_from}
 use Rattle.de_header.proofs.words.find_emrat.Given as goal
 
 abbrev pub invariant-loop-i : goal.invariant-loop-i

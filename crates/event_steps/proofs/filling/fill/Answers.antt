@@ -1,6 +1,6 @@
 use Rattle.std.proofs.Common.{◌≡◌, ◌∙◌, ℕ, arith, subst}
 use Rattle.std.proofs.lemmas.List.{length-set}
-use Rattle.spec_steps.specs.Steps.{terms_of}
+use Rattle.spec_expressions.specs.Steps.{terms_of}
 use Rattle.event_steps.specs.Values.{AreValues}
 use Rattle.event_steps.proofs.Values.{value_more}
 use Rattle.event_steps.proofs.filling.fill.Goals as goal

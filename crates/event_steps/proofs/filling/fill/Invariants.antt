@@ -1,5 +1,5 @@
 use Rattle.std.proofs.Common.{◌≡◌, ◌≤◌, length}
-use Rattle.spec_steps.specs.Steps.{terms_of}
+use Rattle.spec_expressions.specs.Steps.{terms_of}
 use Rattle.event_steps.specs.Values.{AreValues}
 use Rattle.event_steps.proofs.filling.fill.Given as goal
 

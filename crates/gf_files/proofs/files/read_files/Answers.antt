@@ -3,7 +3,7 @@ use Rattle.std.proofs.lemmas.List.{length-map}
 use Rattle.std.specs.Prelude.{string_bytes}
 use Rattle.gf_files.specs.Errors.{in_file}
 use Rattle.gf_files.specs.Reader.{Finishes, ephemeris_after}
-use Rattle.spec_sections.specs.declared.errors.ReadError.{ReadError}
+use Rattle.spec_files.specs.declared.errors.ReadError.{ReadError}
 use Rattle.gf_files.specs.declared.errors.FilesError.TheVariants as all
 use Rattle.gf_files.proofs.InFile.{fault_of_file}
 use Rattle.gf_files.proofs.NameLists.{accepted_at_end, refused_at_end, texts_of}

@@ -4,7 +4,7 @@ use Rattle.spec_text.specs.declared.decimals.Fault.{Fault}
 use Rattle.gf_files.specs.Errors.{in_file}
 use Rattle.gf_files.specs.Read.{StopsAtFile}
 use Rattle.gf_files.specs.Reader.{Feeds}
-use Rattle.spec_sections.specs.declared.errors.ReadError.{ReadError}
+use Rattle.spec_files.specs.declared.errors.ReadError.{ReadError}
 use Rattle.gf_files.specs.declared.errors.FilesError.TheVariants as all
 use Rattle.gf_files.proofs.InFile.{fault_of_file, lines_are_read, passed_on}
 use Rattle.gf_files.proofs.Passing.{long_file}

@@ -1,5 +1,5 @@
 use Rattle.std.proofs.Common.{[], ap}
-use Rattle.spec_header.specs.HeaderLines.{header}
+use Rattle.spec_files.specs.HeaderLines.{header}
 use Rattle.gf_files.specs.Reader.{ephemeris_after}
 use Rattle.gf_files.proofs.Readers.{after_header, header_ready}
 use Rattle.gf_files.proofs.reader.first_reader.Goals as goal

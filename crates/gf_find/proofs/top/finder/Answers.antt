@@ -2,7 +2,7 @@ use Rattle.std.proofs.Common.{◌∙◌, inl, inr, List, ℕ, subst, sym}
 use Rattle.std.specs.Io.KnownBytes.{Appends}
 use Rattle.spec_output.specs.Writing.{AppendsPart}
 use Rattle.spec_outcomes.proofs.TextStatuses.{not_reported, not_unwritten}
-use Rattle.gf_find.proofs.Answered.{cause_is, certifies, checks, verifies, outcome_is, finds, generates, passes, refused_exactly, refused_only, relates, text_not_refused}
+use Rattle.gf_find.proofs.Answered.{cause_is, certifies, checks, verifies, outcome_is, finds, generates, passes, promises, refused_exactly, refused_only, relates, text_not_refused}
 use Rattle.gf_find.proofs.top.finder.Goals as goal
 
 pub returns-in-Ok-clause-reported : goal.returns-in-Ok-clause-reported
@@ -14,6 +14,11 @@ pub returns-in-Ok-clause-find : goal.returns-in-Ok-clause-find
 returns-in-Ok-clause-find g c = λ find asked zero.
     let P : List ℕ → Type 0 = λ text. Appends (g.O.Sink.bytes c.args.out.now) (g.O.Sink.bytes c.write_text.new.out) text in
     finds _ _ _ c.in-Ok.ensures.answered _ _ (subst P c.deref.ensures.value (c.write_text.ensures.whole zero)) find asked
+
+pub returns-in-Ok-clause-events : goal.returns-in-Ok-clause-events
+returns-in-Ok-clause-events g c = λ find asked zero.
+    let P : List ℕ → Type 0 = λ text. Appends (g.O.Sink.bytes c.args.out.now) (g.O.Sink.bytes c.write_text.new.out) text in
+    promises _ _ _ c.in-Ok.ensures.answered _ _ (subst P c.deref.ensures.value (c.write_text.ensures.whole zero)) find asked
 
 pub returns-in-Ok-clause-certified : goal.returns-in-Ok-clause-certified
 returns-in-Ok-clause-certified g c = λ find asked zero.
@@ -66,6 +71,9 @@ returns-in-Err-clause-reported g c = λ zero. absurd (not_reported _ (sym c.writ
 
 pub returns-in-Err-clause-find : goal.returns-in-Err-clause-find
 returns-in-Err-clause-find g c = λ find asked zero. absurd (not_reported _ (sym c.write_refusal.ensures.written.2 ∙ zero))
+
+pub returns-in-Err-clause-events : goal.returns-in-Err-clause-events
+returns-in-Err-clause-events g c = λ find asked zero. absurd (not_reported _ (sym c.write_refusal.ensures.written.2 ∙ zero))
 
 pub returns-in-Err-clause-certified : goal.returns-in-Err-clause-certified
 returns-in-Err-clause-certified g c = λ find asked zero. absurd (not_reported _ (sym c.write_refusal.ensures.written.2 ∙ zero))

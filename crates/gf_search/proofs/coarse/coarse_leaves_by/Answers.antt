@@ -1,6 +1,6 @@
 use Rattle.std.proofs.Common.{IfErr, subst}
 use Rattle.spec_trees.specs.Tree.{Rules, leaf_count}
-use Rattle.still_judge.specs.Pruned.{pruned}
+use Rattle.still_spans.specs.Pruned.{pruned}
 use Rattle.gf_search.specs.Wanted.{StopsAt}
 use Rattle.gf_search.proofs.coarse.coarse_leaves_by.Goals as goal
 

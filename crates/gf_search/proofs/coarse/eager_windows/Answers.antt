@@ -3,8 +3,8 @@ use Rattle.std.specs.Prelude.{nat_le}
 use Rattle.spec_trees.specs.declared.tree.Leaf.{Leaf}
 use Rattle.spec_trees.specs.Tree.{Covers}
 use Rattle.spec_stills.specs.Weights.{weights}
-use Rattle.spec_eager.specs.Eager.{eager_rules}
-use Rattle.spec_eager.specs.Told.{AreTold}
+use Rattle.spec_stills.specs.Eager.{eager_rules}
+use Rattle.spec_stills.specs.Told.{AreTold}
 use Rattle.spec_outcomes.proofs.Following.{all_have_time}
 use Rattle.gf_search.proofs.Windows.{weighed_have}
 use Rattle.gf_search.proofs.coarse.eager_windows.Goals as goal

@@ -1,7 +1,7 @@
 use Rattle.std.proofs.Common.{◌≡◌, ◌∙◌, ◌||◌, ap, not, sym, true}
 use Rattle.spec_events.specs.Verdict.{is_one_way}
 use Rattle.spec_scalars.specs.Searches.{step_of}
-use Rattle.gf_signs.specs.Held.{steps_interval}
+use Rattle.gf_hooks.specs.Held.{steps_interval}
 use Rattle.gf_uds.proofs.verdicts.is_steady.Goals as goal
 
 pub returns-else-not-is_wide : goal.returns-else-not-is_wide

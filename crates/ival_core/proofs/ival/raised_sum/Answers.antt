@@ -4,8 +4,8 @@ use Rattle.std.specs.Int.{int_max}
 use mir.Syntax.{w128}
 use mir.Val.{SFits}
 use Rattle.spec_intervals.specs.Interval.{Interval, narrow}
-use Rattle.spec_inclusions.specs.Bounds.{at_exponent, raised_sum}
-use Rattle.spec_inclusions.proofs.Sums.{sums_ordered}
+use Rattle.spec_models.specs.Bounds.{at_exponent, raised_sum}
+use Rattle.spec_models.proofs.SumInclusions.{sums_ordered}
 use Rattle.ival_core.proofs.Passing.{made_of}
 use Rattle.ival_core.proofs.ival.raised_sum.Goals as goal
 use Rattle.ival_core.proofs.ival.raised_sum.Goals.{After-added-2}

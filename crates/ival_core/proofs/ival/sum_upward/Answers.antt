@@ -1,6 +1,6 @@
 use Rattle.std.proofs.Common.{◌∙◌, ◌+ℤ◌}
 use Rattle.spec_intervals.specs.Interval.{sum_up}
-use Rattle.spec_inclusions.proofs.Sums.{sums_ordered}
+use Rattle.spec_models.proofs.SumInclusions.{sums_ordered}
 use Rattle.ival_core.proofs.Aligning.{step-is, step-ordered}
 use Rattle.ival_core.proofs.Passing.{end_kept, exponent_kept, lifted_kept, step_kept}
 use Rattle.ival_core.proofs.ival.sum_upward.Goals as goal

@@ -4,7 +4,7 @@ use mir.Val.{SFits}
 use Rattle.spec_ephemeris.specs.Series.{to_nat}
 use Rattle.spec_searches.proofs.Parts.{first_near, last_near}
 use Rattle.still_spans.specs.Found.{AreInOrder}
-use Rattle.still_spans.proofs.Following.{in_order, nearer, passed}
+use Rattle.still_spans.proofs.FollowingSpans.{in_order, nearer, passed}
 use Rattle.still_spans.proofs.walk.between.Goals as goal
 use Rattle.still_spans.proofs.walk.between.Goals.{In_ok-add_granule}
 

@@ -1,6 +1,6 @@
 use Rattle.std.proofs.Common.{arith, w64}
 use Rattle.std.proofs.lemmas.Int.{ints, to_z-of_z}
-use Rattle.still_spans.proofs.Following.{sooner_if}
+use Rattle.still_spans.proofs.FollowingSpans.{sooner_if}
 use Rattle.still_spans.proofs.walk.still_spans.Goals as goal
 
 pub returns-in-Half-clause-follow : goal.returns-in-Half-clause-follow

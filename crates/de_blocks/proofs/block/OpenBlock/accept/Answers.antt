@@ -1,6 +1,6 @@
 use Rattle.std.proofs.Common.{◌≡◌, ◌∙◌, ap, sym, arith, false, ℤ, to_z, of_z, w64}
 use Rattle.std.proofs.lemmas.Int.{ints}
-use Rattle.spec_blocks.specs.BlockRules.{is_skipped}
+use Rattle.spec_files.specs.BlockRules.{is_skipped}
 use Rattle.eph_model.specs.Stores.{Store}
 use Rattle.de_blocks.proofs.Pushing.{block_of, dates_hold, new_block}
 use Rattle.de_blocks.proofs.block.OpenBlock.accept.Goals as goal

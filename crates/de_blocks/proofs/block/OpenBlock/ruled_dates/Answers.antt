@@ -1,6 +1,6 @@
 use Rattle.std.proofs.Common.{◌≡◌, ◌∙◌, ◌+◌, ◌≤◌, arith, ap, length, subst}
 use Rattle.spec_ephemeris.specs.declared.header.Header.{Header}
-use Rattle.spec_blocks.specs.BlockRules.{coefficient_rule}
+use Rattle.spec_files.specs.BlockRules.{coefficient_rule}
 use Rattle.eph_model.specs.Stores.{Store}
 use Rattle.de_blocks.specs.Dates.{AreRuled}
 use Rattle.de_blocks.proofs.Pushing.{at_later}

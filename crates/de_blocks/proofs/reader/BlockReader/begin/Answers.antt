@@ -1,9 +1,9 @@
 use Rattle.std.proofs.Common.{◌≡◌, ap, subst, sym, ◌∙◌, Ok, Err, ℕ}
 use Rattle.spec_ephemeris.specs.declared.header.Header.{Header}
-use Rattle.spec_blocks.specs.BlockRules.{record_line}
-use Rattle.spec_sections.specs.Sections.{line_fault}
+use Rattle.spec_files.specs.BlockRules.{record_line}
+use Rattle.spec_files.specs.Sections.{line_fault}
 use Rattle.de_blocks.specs.Reader.{Progress, Takes}
-use Rattle.spec_sections.specs.declared.errors.ReadError.TheVariants as errors
+use Rattle.spec_files.specs.declared.errors.ReadError.TheVariants as errors
 use Rattle.de_blocks.specs.declared.state.Place.TheVariants.{Inside}
 use Rattle.de_blocks.proofs.Steps.{at, takes_bad_record, takes_record}
 use Rattle.de_blocks.proofs.reader.BlockReader.begin.Goals as goal

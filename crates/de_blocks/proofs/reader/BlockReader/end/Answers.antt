@@ -2,7 +2,7 @@ use Rattle.std.proofs.Common.{[], ap, subst, ◌∙◌, Err}
 use Rattle.spec_ephemeris.specs.Ephemeris.{Ephemeris}
 use Rattle.spec_faults.specs.declared.numbers.TheConstants.{TRUNCATED}
 use Rattle.de_blocks.specs.Reader.{Ends, Progress, from_record, says}
-use Rattle.spec_sections.specs.declared.errors.ReadError.TheVariants as errors
+use Rattle.spec_files.specs.declared.errors.ReadError.TheVariants as errors
 use Rattle.de_blocks.proofs.Steps.{at, late, ends_between, ends_inside, ends_refused}
 use Rattle.de_blocks.proofs.reader.BlockReader.end.Goals as goal
 

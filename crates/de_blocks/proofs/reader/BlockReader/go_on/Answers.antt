@@ -1,6 +1,6 @@
 use Rattle.std.proofs.Common.{ap, subst, ◌∙◌, Ok, Err}
 use Rattle.de_blocks.specs.Reader.{Progress, Takes}
-use Rattle.spec_sections.specs.declared.errors.ReadError.TheVariants as errors
+use Rattle.spec_files.specs.declared.errors.ReadError.TheVariants as errors
 use Rattle.de_blocks.proofs.Steps.{at, fits_after, took, took_bad}
 use Rattle.de_blocks.proofs.reader.BlockReader.go_on.Goals as goal
 

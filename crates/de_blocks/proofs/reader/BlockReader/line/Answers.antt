@@ -1,5 +1,5 @@
 use Rattle.std.proofs.Common.{◌∷◌, sym, ◌∙◌, ap}
-use Rattle.spec_sections.specs.FileLines.{line_of}
+use Rattle.spec_files.specs.FileLines.{line_of}
 use Rattle.de_blocks.specs.Reader.{Progress}
 use Rattle.de_blocks.proofs.Steps.{stays, tells}
 use Rattle.de_blocks.proofs.reader.BlockReader.line.Goals as goal

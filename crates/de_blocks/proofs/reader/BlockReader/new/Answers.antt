@@ -1,6 +1,6 @@
 use Rattle.std.proofs.Common.{ap}
 use Rattle.spec_ephemeris.specs.Ephemeris.{Ephemeris}
-use Rattle.spec_blocks.specs.Blocks.{blocks}
+use Rattle.spec_files.specs.Blocks.{blocks}
 use Rattle.de_blocks.specs.Reader.{from_record, says}
 use Rattle.de_blocks.proofs.reader.BlockReader.new.Goals as goal
 

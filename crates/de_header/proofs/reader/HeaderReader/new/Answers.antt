@@ -1,5 +1,5 @@
 use Rattle.std.proofs.Common.{refl}
-use Rattle.spec_header.specs.HeaderLines.{header}
+use Rattle.spec_files.specs.HeaderLines.{header}
 use Rattle.de_header.specs.Reader.{says}
 use Rattle.de_header.proofs.reader.HeaderReader.new.Goals as goal
 

@@ -1,5 +1,5 @@
 use Rattle.std.proofs.Common.{refl, sym}
-use Rattle.spec_inclusions.specs.Bounds.{bound}
+use Rattle.spec_models.specs.Bounds.{bound}
 use Rattle.event_expr.specs.States.{wide_exponent}
 use Rattle.event_bounds.proofs.Fine.{kept_range}
 use Rattle.event_bounds.proofs.Rules.{span_of}

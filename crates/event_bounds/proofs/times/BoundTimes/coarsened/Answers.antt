@@ -1,7 +1,7 @@
 use Rattle.std.proofs.Common.{◌≡◌, ◌∙◌, ◌-ℤ◌, pos, refl, to_z, of_z, w32, arith}
 use Rattle.spec_intervals.specs.Interval.{product}
 use Rattle.spec_intervals.specs.Enclosure.{offsets}
-use Rattle.spec_inclusions.specs.Bounds.{bound, coarse_sum, coarsened, reached}
+use Rattle.spec_models.specs.Bounds.{bound, coarse_sum, coarsened, reached}
 use Rattle.event_bounds.proofs.Rules.{is_exponent, lowered, lowered_exponent, reached_by, stepped}
 use Rattle.event_bounds.proofs.times.BoundTimes.coarsened.Goals as goal
 

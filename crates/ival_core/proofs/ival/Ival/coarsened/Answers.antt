@@ -2,7 +2,7 @@ use Rattle.std.proofs.Common.{◌≡◌, ◌∙◌, to_z, of_z, w32, arith}
 use Rattle.std.proofs.lemmas.Int.{ints, to_z-of_z}
 use mir.Syntax.{w128}
 use Rattle.spec_intervals.specs.Interval.{narrow}
-use Rattle.spec_inclusions.specs.Bounds.{at_exponent, coarsened}
+use Rattle.spec_models.specs.Bounds.{at_exponent, coarsened}
 use Rattle.ival_core.proofs.Passing.{kept}
 use Rattle.ival_core.proofs.ival.Ival.coarsened.Goals as goal
 

@@ -1,7 +1,7 @@
 use Rattle.std.proofs.Common.{subst, sym, arith}
 use Rattle.std.proofs.lemmas.Int.{ints}
 use Rattle.still_spans.specs.Found.{AreFound}
-use Rattle.still_spans.proofs.Following.{added}
+use Rattle.still_spans.proofs.FollowingSpans.{added}
 use Rattle.still_spans.proofs.halves.Walk.add.Goals as goal
 
 pub add_unit-requires : goal.add_unit-requires

@@ -2,7 +2,7 @@ use Rattle.std.proofs.Common.{subst, sym, w64, ℤ}
 use Rattle.std.proofs.lemmas.Int.{to_z-of_z}
 use Rattle.std.specs.Prelude.{OnOk}
 use Rattle.still_spans.specs.Found.{AreFound}
-use Rattle.still_spans.proofs.Following.{passed}
+use Rattle.still_spans.proofs.FollowingSpans.{passed}
 use Rattle.still_spans.proofs.halves.Walk.add_granule.Goals as goal
 
 pub returns-then-a-b : goal.returns-then-a-b

@@ -2,7 +2,7 @@ use Rattle.std.proofs.Common.{subst, sym, arith, w64, ℤ}
 use Rattle.std.proofs.lemmas.Int.{ints, to_z-of_z}
 use Rattle.std.specs.Prelude.{OnOk}
 use Rattle.still_spans.specs.Found.{AreFound}
-use Rattle.still_spans.proofs.Following.{passed}
+use Rattle.still_spans.proofs.FollowingSpans.{passed}
 use Rattle.still_spans.proofs.halves.Walk.add_modelled.Goals as goal
 
 pub add_halves-requires-clause-from : goal.add_halves-requires-clause-from

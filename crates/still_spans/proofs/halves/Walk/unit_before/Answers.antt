@@ -2,7 +2,7 @@ use Rattle.std.proofs.Common.{◌-◌, List, length, sym, ap, ◌∙◌}
 use Rattle.std.specs.List.{slice_get}
 use Rattle.std.specs.Option.{option_copied}
 use Rattle.spec_stills.specs.declared.still.StillSpan.{StillSpan}
-use Rattle.still_spans.proofs.Following.{unit_added}
+use Rattle.still_spans.proofs.FollowingSpans.{unit_added}
 use Rattle.still_spans.proofs.halves.Walk.unit_before.Goals as goal
 
 pub returns-in-Some : goal.returns-in-Some

@@ -1,7 +1,7 @@
 use Rattle.std.proofs.Common.{◌≡◌, subst}
 use Rattle.std.specs.Prelude.{IfSome}
 use Rattle.spec_bounds.specs.Terms.{bound_over}
-use Rattle.spec_margins.specs.Margins.{StepsFit}
+use Rattle.spec_stills.specs.Margins.{StepsFit}
 use Rattle.event_bounds.specs.Made.{bound_made}
 use Rattle.span_models.specs.Margins.{margin_of}
 use Rattle.still_spans.proofs.known.Known.by_steps.Goals as goal

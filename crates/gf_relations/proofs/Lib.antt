@@ -1,3 +1,0 @@
-mod Times
-mod Joining
-mod Ends

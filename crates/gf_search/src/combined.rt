@@ -1,0 +1,55 @@
+// Two sets made of those about one reference or two.
+ghost use Rattle.std.specs.Prelude.{IfOk, unwrap_or};
+ghost use Rattle.spec_sets.specs.Signs.{both, either, opposite};
+ghost use Rattle.spec_outcomes.specs.Sets.{relation_sign};
+ghost use Rattle.gf_search.specs.Reached.{AreJoined, AreWithin, HasSets};
+
+use crate::references::Both;
+use gf_sets::Pair;
+use spec_outcomes::Span;
+use spec_requests::Relation;
+use std::alloc::{AllocError, Global};
+
+// The times that are in the first sets and not in the second.
+fn inside(alloc: Global, first: &Pair, second: &Pair, span: Span) -> Result<Pair, AllocError>
+    requires span { HasSets span }
+    requires within { AreWithin span second.now.sure second.now.maybe }
+    ensures { IfOk result (λ pair.
+        AreJoined (λ s t. both s (opposite t)) span first.now second.now pair) }
+{
+    let below = second.complement(alloc, span.from, span.upto)?;
+    first.intersect(alloc, &below)
+}
+
+// The times that are not in the first sets, or in the second.
+fn outside(alloc: Global, first: &Pair, second: &Pair, span: Span) -> Result<Pair, AllocError>
+    requires span { HasSets span }
+    requires within { AreWithin span first.now.sure first.now.maybe }
+    ensures { IfOk result (λ pair.
+        AreJoined (λ s t. either (opposite s) t) span first.now second.now pair) }
+{
+    let below = first.complement(alloc, span.from, span.upto)?;
+    below.union(alloc, second)
+}
+
+/// The times of a span that have a relation to references, by those that are at least each of them.
+pub(crate) fn combined(
+    alloc: Global,
+    relation: Relation,
+    both: Both,
+    span: Span,
+) -> Result<Pair, AllocError>
+    requires span { HasSets span }
+    requires first { AreWithin span both.first.sure both.first.maybe }
+    requires second { AreWithin span (unwrap_or both.second both.first).sure
+        (unwrap_or both.second both.first).maybe }
+    ensures { IfOk result (λ pair. AreJoined (relation_sign relation) span
+        both.first (unwrap_or both.second both.first) pair) }
+{
+    match relation {
+        Relation::AtLeast => Ok(both.first),
+        Relation::Less => both.first.complement(alloc, span.from, span.upto),
+        Relation::Within => inside(alloc, &both.first, both.second(), span),
+        Relation::Outside => outside(alloc, &both.first, both.second(), span),
+    }
+}

@@ -1,0 +1,80 @@
+// The times at which the function of a query is at least 0, which is to say at least the reference.
+ghost use Rattle.std.specs.Prelude.{◌≡◌, ◌<◌, ◌≤◌, IfErr, IfOk, None, true};
+ghost use Rattle.spec_kinds.specs.Faults.{fault_of};
+ghost use Rattle.spec_kinds.specs.Kinds.{event_of};
+ghost use Rattle.spec_sets.specs.Pairs.{AreOf};
+ghost use Rattle.spec_requests.specs.declared.limits.TheConstants.{MAX_WORKERS};
+ghost use Rattle.spec_outcomes.specs.Queries.{is_within, leaves_in, search};
+ghost use Rattle.spec_outcomes.specs.Sets.{IsSetQuery, signs_in};
+ghost use Rattle.gf_search.specs.Reached.{AreReached, HasTooMany};
+
+use crate::{Crew, Wanted, leaves};
+use eph_model::Ephemeris;
+use event_kinds::Event;
+use gf_edges::Gate;
+use gf_query::states;
+use gf_sets::{Pair, at_least};
+use spec_outcomes::{Query, Refusal, Span};
+use spec_output::MAX_LEAVES;
+use spec_trees::Leaf;
+use std::alloc::{AllocError, Global};
+use std::sync::Wait;
+use std::thread::Threads;
+
+// Those of a span, by the leaves of the search for the query's event.
+fn reached_by(
+    alloc: Global,
+    ephemeris: &Ephemeris,
+    query: &Query,
+    event: &Event,
+    span: Span,
+    leaves: &[Leaf],
+) -> Result<Pair, AllocError>
+    requires block { 0 < ephemeris.now.blocks }
+    requires query { IsSetQuery query.now }
+    requires within { is_within span ephemeris.now ≡ true }
+    requires sound { fault_of ephemeris.now query.now.ask ≡ None }
+    requires event { event.now ≡ event_of query.now.ask }
+    requires leaves { leaves.now ≡ leaves_in (search query.now ephemeris.now) span }
+    ensures { IfOk result (λ pair. AreOf (signs_in (search query.now ephemeris.now) span)
+        span.from span.upto pair.sure pair.maybe) }
+{
+    let _header = ephemeris.header();
+    let states = states(ephemeris, query);
+    at_least(alloc, event.function(), &states, span.from, leaves)
+}
+
+/// Those of a span that are sure, and those that are possible, by a search for the query's event, which has no fault.
+pub(crate) fn reached<R: Threads + Wait + Sync, G: Gate>(
+    rt: &R,
+    alloc: Global,
+    ephemeris: &Ephemeris,
+    query: &Query,
+    event: &Event,
+    span: Span,
+    workers: u32,
+    gate: &G,
+) -> Result<Pair, Refusal>
+    requires some { 1 ≤ workers }
+    requires workers { workers ≤ MAX_WORKERS }
+    requires block { 0 < ephemeris.now.blocks }
+    requires query { IsSetQuery query.now }
+    requires within { is_within span ephemeris.now ≡ true }
+    requires sound { fault_of ephemeris.now query.now.ask ≡ None }
+    requires event { event.now ≡ event_of query.now.ask }
+    ensures reached { IfOk result (λ pair.
+        AreReached (search query.now ephemeris.now) span pair.sure pair.maybe) }
+    ensures stopped { IfErr result (λ refusal.
+        HasTooMany (search query.now ephemeris.now) span refusal) }
+{
+    let crew = Crew {
+        runtime: rt,
+        alloc,
+        workers,
+        max_leaves: MAX_LEAVES,
+        gate,
+    };
+    let found = leaves(&crew, Wanted::Leaves, ephemeris, query, span)?;
+    let pair = reached_by(alloc, ephemeris, query, event, span, &found)?;
+    Ok(pair)
+}

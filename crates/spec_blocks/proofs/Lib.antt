@@ -1,5 +1,0 @@
-pub mod Numbers
-pub mod Blocks
-pub mod Accepted
-pub mod FurtherWords
-pub mod Ending

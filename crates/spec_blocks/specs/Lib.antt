@@ -1,4 +1,0 @@
-pub mod BlockRules
-pub mod Blocks
-pub mod Examples
-pub mod Read

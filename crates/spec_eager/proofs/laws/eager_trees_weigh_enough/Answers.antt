@@ -1,5 +1,0 @@
-use Rattle.spec_eager.proofs.Alike.{leaves_alike}
-use Rattle.spec_eager.proofs.laws.eager_trees_weigh_enough.Goals as goal
-
-pub returns : goal.returns
-returns c = λ s xs n is stills valid. (leaves_alike s xs is stills n valid).weighed

@@ -1,0 +1,28 @@
+// What the definitions of blocks come to.
+ghost use Rattle.std.specs.Prelude.{◌≡◌, ◌<◌, ◌≤ℤ◌, List, Ok};
+ghost use Rattle.spec_ephemeris.specs.Header.{IsHeader};
+ghost use Rattle.spec_ephemeris.specs.declared.header.Header.{Header};
+ghost use Rattle.spec_ephemeris.specs.Ephemeris.{Ephemeris, IsEphemeris, end_of};
+ghost use Rattle.spec_ephemeris.specs.declared.limits.TheConstants.{FIRST_TIME, LAST_TIME};
+ghost use Rattle.spec_files.specs.Sections.{FileLine};
+ghost use Rattle.spec_files.specs.Blocks.{blocks};
+
+/// The blocks of accepted lines are a checked ephemeris of the given header, with one block or more.
+pub fn accepted_blocks_are_an_ephemeris()
+    ensures checked { (h : Header) (lines : List FileLine) (e : Ephemeris)
+        → IsHeader h → blocks h lines ≡ Ok e → IsEphemeris e }
+    ensures header { (h : Header) (lines : List FileLine) (e : Ephemeris)
+        → IsHeader h → blocks h lines ≡ Ok e → e.header ≡ h }
+    ensures some { (h : Header) (lines : List FileLine) (e : Ephemeris)
+        → IsHeader h → blocks h lines ≡ Ok e → 0 < e.blocks }
+{}
+
+/// They lie from Julian date 0 to Julian date 5,000,000, in seconds.
+pub fn accepted_blocks_lie_in_time()
+    ensures first { (h : Header) (lines : List FileLine) (e : Ephemeris)
+        → blocks h lines ≡ Ok e → FIRST_TIME ≤ℤ e.start }
+    ensures last { (h : Header) (lines : List FileLine) (e : Ephemeris)
+        → blocks h lines ≡ Ok e → e.start ≤ℤ LAST_TIME }
+    ensures end { (h : Header) (lines : List FileLine) (e : Ephemeris)
+        → blocks h lines ≡ Ok e → end_of e ≤ℤ LAST_TIME }
+{}

@@ -1,0 +1,71 @@
+// What the definitions come to.
+ghost use Rattle.std.specs.Prelude.{◌≡◌, ◌++◌, ◌+◌, ◌<◌, List, None, Some, Ok, Err, length, ℕ};
+ghost use Rattle.spec_text.specs.declared.decimals.Fault.{Fault};
+ghost use Rattle.spec_ephemeris.specs.Ephemeris.{Ephemeris, IsEphemeris};
+ghost use Rattle.spec_ephemeris.specs.Ticks.{IsInSeconds};
+ghost use Rattle.spec_files.specs.Sections.{FileLine};
+ghost use Rattle.spec_files.specs.Lines.{ephemeris};
+ghost use Rattle.gf_edges.specs.Edges.{Files, Rose};
+ghost use Rattle.spec_files.specs.Texts.{first_cut_from, joined_from};
+ghost use Rattle.spec_files.specs.Outcome.{first_fault, outcome};
+ghost use Rattle.spec_files.specs.Reading.{AreAccepted, AreRefused, IsNotRead};
+
+/// Accepted lines are a checked ephemeris with one block or more.
+#[tactic(none)]
+pub fn accepted_lines_are_an_ephemeris()
+    ensures checked { (lines : List FileLine) (e : Ephemeris)
+        → ephemeris lines ≡ Ok e → IsEphemeris e }
+    ensures some { (lines : List FileLine) (e : Ephemeris)
+        → ephemeris lines ≡ Ok e → 0 < e.blocks }
+{}
+
+/// Accepted lines are an ephemeris that counts seconds, from Julian date 0 to Julian date 5,000,000.
+#[tactic(none)]
+pub fn accepted_lines_count_seconds()
+    ensures { (lines : List FileLine) (e : Ephemeris) → ephemeris lines ≡ Ok e → IsInSeconds e }
+{}
+
+/// After texts that can be read to their ends, the lines and the first cut of later ones follow.
+#[tactic(auto, using(crate::proofs::Joining::joined_more, crate::proofs::Joining::cut_more))]
+pub fn later_texts_follow()
+    ensures lines { (file : ℕ) (texts later : List (List ℕ)) → first_cut_from file texts ≡ None
+        → joined_from file (texts ++ later)
+        ≡ joined_from file texts ++ joined_from (file + length texts) later }
+    ensures cuts { (file : ℕ) (texts later : List (List ℕ)) → first_cut_from file texts ≡ None
+        → first_cut_from file (texts ++ later) ≡ first_cut_from (file + length texts) later }
+{}
+
+/// A first fault stays first, whatever texts follow.
+#[tactic(auto, using(crate::proofs::FirstFault::first_fault_stays))]
+pub fn first_faults_stay()
+    ensures { (texts later : List (List ℕ)) (file : ℕ) (fault : Fault)
+        → first_fault texts ≡ Some (file, fault)
+        → first_fault (texts ++ later) ≡ Some (file, fault) }
+{}
+
+/// A fault that texts have whatever follows is their first.
+#[tactic(auto, using(crate::proofs::Joining::first_fault_refused))]
+pub fn texts_with_a_fault_are_refused()
+    ensures { (texts : List (List ℕ)) (file : ℕ) (fault : Fault)
+        → first_fault texts ≡ Some (file, fault) → outcome texts ≡ Err (file, fault) }
+{}
+
+/// Of files that are known, one alone is true: they are accepted, and in one way; they are refused; or one of them isn't
+/// read. Where the outside failed, what is accepted or refused may not be read.
+#[tactic(none)]
+pub fn one_answer_is_true()
+    ensures accepted { (files : Files) (names : List (List ℕ)) (e f : Ephemeris) (end stop : ℕ)
+        → AreAccepted (Some files) names e end → AreAccepted (Some files) names f stop
+        → (e ≡ f) × (end ≡ stop) }
+    ensures not_refused { (files : Files) (names : List (List ℕ)) (e : Ephemeris)
+        (end file : ℕ) (fault : Fault)
+        → AreAccepted (Some files) names e end → AreRefused (Some files) names file fault → ⊥ }
+    ensures accepted_is_read { (files : Files) (names : List (List ℕ)) (e : Ephemeris)
+        (end before now file : ℕ)
+        → AreAccepted (Some files) names e end → IsNotRead (Some files) names before now file
+        → Rose before now }
+    ensures refused_is_read { (files : Files) (names : List (List ℕ)) (place : ℕ) (fault : Fault)
+        (before now file : ℕ)
+        → AreRefused (Some files) names place fault → IsNotRead (Some files) names before now file
+        → Rose before now }
+{}

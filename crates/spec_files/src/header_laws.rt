@@ -1,0 +1,19 @@
+// What the definition of a header comes to.
+ghost use Rattle.std.specs.Prelude.{◌≡◌, ◌≤ℤ◌, List, Ok};
+ghost use Rattle.spec_ephemeris.specs.Header.{IsHeader};
+ghost use Rattle.spec_ephemeris.specs.declared.header.Header.{Header};
+ghost use Rattle.spec_ephemeris.specs.declared.limits.TheConstants.{LONGEST_BLOCK};
+ghost use Rattle.spec_files.specs.HeaderLines.{header};
+ghost use Rattle.spec_files.specs.Sections.{FileLine};
+
+/// The header of an accepted list of lines meets the rules of a header.
+pub fn accepted_headers_meet_the_rules()
+    ensures { (lines : List FileLine) (h : Header) (rest : List FileLine)
+        → header lines ≡ Ok (h, rest) → IsHeader h }
+{}
+
+/// Its blocks have up to 64 days, counted in seconds.
+pub fn accepted_headers_count_seconds()
+    ensures { (lines : List FileLine) (h : Header) (rest : List FileLine)
+        → header lines ≡ Ok (h, rest) → h.block_seconds ≤ℤ LONGEST_BLOCK }
+{}

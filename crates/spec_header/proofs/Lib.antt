@@ -1,4 +1,0 @@
-pub mod Bounds
-pub mod Ratios
-pub mod ColumnsMeet
-pub mod Accepted

@@ -1,5 +1,0 @@
-use Rattle.spec_header.proofs.Accepted.{accepted_length}
-use Rattle.spec_header.proofs.laws.accepted_headers_count_seconds.Goals as goal
-
-pub returns : goal.returns
-returns c = λ lines h rest is. accepted_length lines h rest is

@@ -1,4 +1,0 @@
-pub mod HeaderRules
-pub mod ColumnRules
-pub mod HeaderLines
-pub mod Examples

@@ -1,5 +1,0 @@
-use Rattle.spec_inclusions.proofs.Inclusions.{Includes-negated, Includes-signed_square, Includes-twice_size}
-use Rattle.spec_inclusions.proofs.laws.functions_keep_inclusion.Goals as goal
-
-pub returns : goal.returns
-returns c = record { negated = Includes-negated; signed_square = Includes-signed_square; twice_size = Includes-twice_size }

@@ -1,5 +1,0 @@
-use Rattle.spec_inclusions.proofs.Inclusions.{Includes-refl, Includes-outer, Includes-narrow, Includes-coarsened}
-use Rattle.spec_inclusions.proofs.laws.rounding_keeps_inclusion.Goals as goal
-
-pub returns : goal.returns
-returns c = record { itself = Includes-refl; narrowed = Includes-outer; both_narrowed = Includes-narrow; coarsened = Includes-coarsened }

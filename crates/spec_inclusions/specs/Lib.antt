@@ -1,2 +1,0 @@
-pub mod Inclusion
-pub mod Bounds

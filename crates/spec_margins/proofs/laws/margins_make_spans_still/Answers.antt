@@ -1,9 +1,0 @@
-use Rattle.spec_margins.proofs.Still.{still_by_steps, still_by_units}
-use Rattle.spec_margins.proofs.laws.margins_make_spans_still.Goals as goal
-
-pub returns : goal.returns
-returns c = record {
-  steps = λ s x g c d is fits begins several ends margin sign fit.
-      still_by_steps s x g c d is fits begins ends margin sign fit;
-  units = still_by_units;
-}

@@ -1,0 +1,66 @@
+// How far each rule carries the ends, whatever the intervals: each law is the contract of a function with nothing to do.
+ghost use Rattle.std.specs.Prelude.{ℕ, ◌<◌, ◌≤ℤ◌, ℤ};
+ghost use Rattle.spec_intervals.specs.Fraction.{fraction_add, fraction_mul, fraction_scale, fraction_signed_square, fraction_sub};
+ghost use Rattle.spec_intervals.specs.Interval.{Interval, difference, interval, narrow, product, scale, signed_square, sum};
+ghost use Rattle.spec_models.specs.Ends.{IsCornerOver, IsCornerUnder, IsOrdered, Over, Under, high, low, scale_loss, size, slight};
+
+/// Narrowing carries an end outward, and by no more than a 2^58th of the greater size.
+pub fn narrowing_is_near()
+    ensures low { (lo hi s : ℤ) → Under (slight (size (interval lo hi s)))
+        (low (narrow lo hi s)) (low (interval lo hi s)) }
+    ensures high { (lo hi s : ℤ) → Over (slight (size (interval lo hi s)))
+        (high (narrow lo hi s)) (high (interval lo hi s)) }
+{}
+
+/// The ends of a sum are past the sums of the ends by no more than a 2^58th of both sizes.
+pub fn sums_are_near()
+    ensures low { (x y : Interval) → Under (slight (fraction_add (size x) (size y)))
+        (low (sum x y)) (fraction_add (low x) (low y)) }
+    ensures high { (x y : Interval) → Over (slight (fraction_add (size x) (size y)))
+        (high (sum x y)) (fraction_add (high x) (high y)) }
+{}
+
+/// The ends of a difference are past the differences of opposite ends by no more than a 2^58th of both sizes.
+pub fn differences_are_near()
+    ensures low { (x y : Interval) → Under (slight (fraction_add (size x) (size y)))
+        (low (difference x y)) (fraction_sub (low x) (high y)) }
+    ensures high { (x y : Interval) → Over (slight (fraction_add (size x) (size y)))
+        (high (difference x y)) (fraction_sub (high x) (low y)) }
+{}
+
+/// The ends of a product are past products of ends by no more than a 2^58th of the product of the sizes.
+pub fn products_are_near()
+    ensures low { (x y : Interval) →
+        IsCornerUnder (slight (fraction_mul (size x) (size y))) (product x y) x y }
+    ensures high { (x y : Interval) →
+        IsCornerOver (slight (fraction_mul (size x) (size y))) (product x y) x y }
+{}
+
+/// The ends of a signed square are past those of the ends by no more than a 2^58th of the square of the size.
+pub fn signed_squares_are_near()
+    ensures low { (x : Interval) → Under (slight (fraction_mul (size x) (size x)))
+        (low (signed_square x)) (fraction_signed_square (low x)) }
+    ensures high { (x : Interval) → Over (slight (fraction_mul (size x) (size x)))
+        (high (signed_square x)) (fraction_signed_square (high x)) }
+{}
+
+/// The ends of what is scaled are past the scaled ends by no more than two units, and a 2^58th of the scaled size.
+pub fn scaling_is_near()
+    ensures low { (lo hi s : ℤ) (length : ℕ) → 0 < length
+        → Under (scale_loss lo hi s length) (low (scale lo hi s length))
+        (fraction_scale (low (interval lo hi s)) length) }
+    ensures high { (lo hi s : ℤ) (length : ℕ) → 0 < length
+        → Over (scale_loss lo hi s length) (high (scale lo hi s length))
+        (fraction_scale (high (interval lo hi s)) length) }
+{}
+
+/// Every rule keeps ends in order.
+pub fn ends_stay_in_order()
+    ensures narrow { (lo hi s : ℤ) → lo ≤ℤ hi → IsOrdered (narrow lo hi s) }
+    ensures sum { (x y : Interval) → IsOrdered x → IsOrdered y → IsOrdered (sum x y) }
+    ensures difference { (x y : Interval) → IsOrdered x → IsOrdered y → IsOrdered (difference x y) }
+    ensures product { (x y : Interval) → IsOrdered (product x y) }
+    ensures signed_square { (x : Interval) → IsOrdered x → IsOrdered (signed_square x) }
+    ensures scale { (lo hi s : ℤ) (length : ℕ) → 0 < length → lo ≤ℤ hi
+        → IsOrdered (scale lo hi s length) }
+{}

@@ -1,5 +1,0 @@
-use Rattle.spec_roundings.proofs.Sums.{sum_under, sum_over}
-use Rattle.spec_roundings.proofs.laws.sums_are_near.Goals as goal
-
-pub returns : goal.returns
-returns c = record { low = sum_under; high = sum_over }

@@ -1,0 +1,34 @@
+// Worked values of still spans, by computation.
+ghost use Rattle.std.specs.Prelude.{◌≡◌, [], ◌∷◌, true, false, pos};
+ghost use Rattle.spec_trees.specs.declared.cuts.CutRule.TheVariants.{Half, Third};
+ghost use Rattle.spec_trees.specs.CutExamples.{clear_at};
+ghost use Rattle.spec_events.specs.VerdictExamples.{node_at};
+ghost use Rattle.spec_searches.specs.Search.{Search};
+ghost use Rattle.spec_stills.specs.StillExamples.{both, cutting, early, early_again};
+ghost use Rattle.spec_stills.specs.Still.{is_served, serves};
+ghost use Rattle.spec_stills.specs.Weights.{weight, weights};
+
+/// A node of 24 ticks is served where three halvings make it 3 ticks wide, but neither one that is wider, nor one within
+/// three of the depth, nor one that reaches over the end of the span, nor one that is cut at its first third.
+pub fn nodes_that_are_served()
+    ensures narrow { (s : Search)
+        → serves (cutting Half s) early (node_at (pos 0) (pos 24) 37) ≡ true }
+    ensures wide { (s : Search)
+        → serves (cutting Half s) early (node_at (pos 0) (pos 25) 37) ≡ false }
+    ensures deep { (s : Search)
+        → serves (cutting Half s) early (node_at (pos 0) (pos 24) 38) ≡ false }
+    ensures across { (s : Search)
+        → is_served (cutting Half s) both (node_at (pos 60) (pos 68) 6) ≡ false }
+    ensures thirds { (s : Search)
+        → serves (cutting Third s) early (node_at (pos 0) (pos 24) 37) ≡ false }
+{}
+
+/// Leaves that are served count 8 and 32, by the span that serves each, and one that is not counts 1; by two spans that serve
+/// it, a leaf counts as the first says.
+pub fn weights_of_leaves()
+    ensures sum { (s : Search) → weights (cutting Half s) both
+        (clear_at 6 (pos 40) (pos 60) ∷ clear_at 6 (pos 60) (pos 68)
+        ∷ clear_at 6 (pos 68) (pos 128) ∷ []) ≡ 41 }
+    ensures first { (s : Search) → weight (cutting Half s) (early ∷ early_again ∷ [])
+        (clear_at 6 (pos 40) (pos 60)) ≡ 8 }
+{}

@@ -1,4 +1,0 @@
-mod Begun
-mod Eager
-mod Following
-mod Served

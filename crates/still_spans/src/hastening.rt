@@ -1,0 +1,51 @@
+// What a judge of an eager tree says of nodes, and where it cuts them.
+ghost use Rattle.std.specs.Prelude.{◌≡◌};
+ghost use Rattle.spec_searches.specs.Found.{rules};
+ghost use Rattle.spec_stills.specs.Eager.{eager_rules};
+
+use crate::eager_judge::EagerJudge;
+use crate::standing::Standing;
+use crate::still_list::StillList;
+use event_judge::EventSearch;
+use gf_hooks::{Judge, Node, Verdict};
+use spec_stills::eager_laws::eager_trees_are_sound;
+
+impl<'j, 'e, J: Judge> EagerJudge<'j, 'e, J> {
+    /// The judge of the eager tree of a search by still spans, by a judge with the rules of the search.
+    pub fn new(
+        judge: &'j J,
+        search: &'j EventSearch<'e>,
+        stills: &'j StillList,
+    ) -> EagerJudge<'j, 'e, J>
+        requires { J.rules judge.now ≡ rules search.now }
+        ensures { eager_rules result.search.now result.stills.now
+            ≡ eager_rules search.now stills.now }
+    {
+        search.is_search();
+        eager_trees_are_sound();
+        EagerJudge {
+            judge,
+            search,
+            stills,
+        }
+    }
+}
+
+impl<'j, 'e, J: Judge> Judge for EagerJudge<'j, 'e, J> {
+    ghost rules = { λ judge. eager_rules judge.search.now judge.stills.now };
+
+    fn judge(&self, node: Node) -> Verdict {
+        match self.stills.standing(self.search, node) {
+            Standing::Served => Verdict::Clear,
+            Standing::Begun => Verdict::Split,
+            Standing::Open => self.judge.judge(node),
+        }
+    }
+
+    fn cut(&self, node: Node) -> (Node, Node) {
+        self.search.is_search();
+        self.search.parts(node)
+    }
+
+    ghost sound = { λ judge. judge.sound };
+}

@@ -1,0 +1,69 @@
+// The still spans of shares, one after the other.
+ghost use Rattle.std.specs.Prelude.{◌≡◌, ℤ, All, IfOk, OnOk};
+ghost use Rattle.spec_searches.specs.Search.{Search};
+ghost use Rattle.spec_stills.specs.Still.{IsStill};
+ghost use Rattle.still_spans.specs.Found.{AreInOrder};
+ghost use Rattle.still_spans.specs.Joined.{AreStill, IsJoined};
+
+use spec_stills::StillSpan;
+use std::alloc::{AllocError, Global};
+
+/// The still spans that were found in a share, or none where memory ran out.
+pub(crate) type Found = Result<Vec<StillSpan>, AllocError>;
+
+/// Spans in order of time, and the time at which the last ends.
+#[derive(Drop)]
+pub(crate) struct Joined {
+    pub(crate) spans: Vec<StillSpan>,
+    pub(crate) end: i64,
+}
+
+impl Joined {
+    // One span more, unless it begins before the last ends.
+    fn add(&mut self, span: StillSpan) -> Result<(), AllocError>
+        ensures still { (s : Search) → IsStill s span → All (IsStill s) self.old.spans.items
+            → OnOk result (All (IsStill s) self.new.spans.items) }
+        ensures joined { (from : ℤ) → IsJoined from self.old
+            → OnOk result (IsJoined from self.new) }
+    {
+        if span.from < self.end || span.upto <= span.from {
+            return Ok(());
+        }
+        self.spans.push(span)?;
+        self.end = span.upto;
+        Ok(())
+    }
+
+    // The spans of one share more.
+    fn add_share(&mut self, share: &[StillSpan]) -> Result<(), AllocError>
+        ensures still { (s : Search) → All (IsStill s) share.now
+            → All (IsStill s) self.old.spans.items
+            → OnOk result (All (IsStill s) self.new.spans.items) }
+        ensures joined { (from : ℤ) → IsJoined from self.old
+            → OnOk result (IsJoined from self.new) }
+    {
+        for &span in share {
+            self.add(span)?;
+        }
+        Ok(())
+    }
+}
+
+/// The spans of all shares, in their order, from a time on. A span that begins before the one before it ends is left out.
+pub(crate) fn join(alloc: Global, from: i64, shares: &[Found]) -> Found
+    ensures still { (s : Search) → All (AreStill s) shares.now
+        → IfOk result (λ found. All (IsStill s) found.items) }
+    ensures follow { IfOk result (λ found. AreInOrder from found.items) }
+{
+    let mut all = Joined {
+        spans: Vec::new(alloc),
+        end: from,
+    };
+    for share in shares {
+        match share {
+            Ok(spans) => all.add_share(spans)?,
+            Err(AllocError) => return Err(AllocError),
+        }
+    }
+    Ok(all.spans)
+}

@@ -1,0 +1,146 @@
+// What asks mean: a function and guards, or a fault.
+ghost use Rattle.spec_bodies.specs.Views.{Fits};
+ghost use Rattle.spec_kinds.specs.Asks.{IsAsk};
+
+use crate::asks::{ask, scene_of};
+use crate::enclosures::{EnclosureParts, enclosure_parts};
+use crate::fields::{Fields, RowError};
+use crate::formulas::has_enclosure;
+use crate::scenes::{span, states};
+use body_states::BodyStates;
+use eph_model::Ephemeris;
+use event_kinds::{Event, Guard, KindFault, event};
+use spec_kinds::Ask;
+use std::alloc::Global;
+
+/// The event of an ask that has no fault.
+pub(crate) fn event_of(alloc: Global, ephemeris: &Ephemeris, ask: &Ask) -> Result<Event, RowError>
+    requires { IsAsk ask.now }
+{
+    match event(alloc, ephemeris, ask) {
+        Ok(event) => Ok(event),
+        Err(KindFault::Memory) => Err(RowError::Memory),
+        Err(_) => Err(RowError::Malformed),
+    }
+}
+
+// Whether the fault of an ask has this number.
+fn has_number(fault: KindFault, number: u8) -> Result<bool, RowError> {
+    match fault.event_fault() {
+        Some(fault) => Ok(fault.number() == number),
+        None => Err(RowError::Memory),
+    }
+}
+
+/// An ask, and the number of the fault in it.
+pub(crate) fn refusal_agrees(
+    alloc: Global,
+    ephemeris: &Ephemeris,
+    fields: &mut Fields<'_>,
+) -> Result<bool, RowError> {
+    let ask = ask(fields)?;
+    let number = fields.number::<u8>()?;
+    match event(alloc, ephemeris, &ask) {
+        Ok(_) => Ok(false),
+        Err(fault) => has_number(fault, number),
+    }
+}
+
+// What is expected of a guard: whether it asks that its formula is at least 0, or else that it is below 0, and the
+// enclosure of the formula.
+#[derive(Clone, Copy)]
+struct ExpectedGuard {
+    at_least: bool,
+    enclosure: EnclosureParts,
+}
+
+fn expected_guard(fields: &mut Fields<'_>) -> Result<ExpectedGuard, RowError> {
+    let at_least = match fields.word()? {
+        "at_least" => true,
+        "below" => false,
+        _ => return Err(RowError::Malformed),
+    };
+    let enclosure = enclosure_parts(fields)?;
+    Ok(ExpectedGuard {
+        at_least,
+        enclosure,
+    })
+}
+
+// Whether there is a guard, and it is as expected.
+fn guard_agrees(
+    guard: Option<&Guard>,
+    states: &BodyStates<'_>,
+    a: i64,
+    b: i64,
+    expected: &ExpectedGuard,
+) -> bool
+    requires { Fits states.now a b }
+{
+    match guard {
+        Some(guard) => {
+            guard.at_least() == expected.at_least
+                && has_enclosure(guard.formula(), states, a, b, &expected.enclosure)
+        }
+        None => false,
+    }
+}
+
+// A count of guards and what each is, and whether they are these.
+fn guards_agree(
+    guards: &[Guard],
+    states: &BodyStates<'_>,
+    a: i64,
+    b: i64,
+    fields: &mut Fields<'_>,
+) -> Result<bool, RowError>
+    requires { Fits states.now a b }
+{
+    let count = fields.number::<usize>()?;
+    let mut agree = guards.len() == count;
+    for place in 0..count {
+        let expected = expected_guard(fields)?;
+        agree = guard_agrees(guards.get(place), states, a, b, &expected) && agree;
+    }
+    Ok(agree)
+}
+
+// The enclosure of a function and its guards, and whether they are those of an event.
+fn formulas_agree(
+    event: &Event,
+    states: &BodyStates<'_>,
+    a: i64,
+    b: i64,
+    fields: &mut Fields<'_>,
+) -> Result<bool, RowError>
+    requires { Fits states.now a b }
+{
+    let expected = enclosure_parts(fields)?;
+    let is_function = has_enclosure(event.function(), states, a, b, &expected);
+    let are_guards = guards_agree(event.guards(), states, a, b, fields)?;
+    Ok(is_function && are_guards)
+}
+
+// The first and the last time, the enclosure of the function of an ask's event, and its guards.
+fn meaning_agrees(
+    ephemeris: &Ephemeris,
+    ask: &Ask,
+    event: &Event,
+    fields: &mut Fields<'_>,
+) -> Result<bool, RowError> {
+    let states = states(ephemeris, scene_of(ask))?;
+    let (a, b) = span(ephemeris, &states, fields)?;
+    let are_formulas = formulas_agree(event, &states, a, b, fields)?;
+    Ok(are_formulas && event.dir() == ask.dir)
+}
+
+/// An ask, the first and the last time, the enclosure of the event's function, and its guards.
+pub(crate) fn event_agrees(
+    alloc: Global,
+    ephemeris: &Ephemeris,
+    fields: &mut Fields<'_>,
+) -> Result<bool, RowError> {
+    let ask = ask(fields)?;
+    let event = event_of(alloc, ephemeris, &ask)?;
+    meaning_agrees(ephemeris, &ask, &event, fields)
+}

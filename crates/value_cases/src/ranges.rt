@@ -1,0 +1,137 @@
+// Intervals of positions, of velocities and of their changes over a span of a granule.
+ghost use Rattle.std.specs.Prelude.{◌<◌, ◌≤ℤ◌, ◌+ℤ◌};
+ghost use Rattle.spec_motions.specs.Granules.{IsEvaluable};
+
+use crate::fields::{Fields, RowError};
+use crate::parts::{Parts, decimal, interval_parts, pair};
+use cheby_difference::{position_step, velocity, velocity_step};
+use cheby_enclose::{is_evaluable, position};
+use eph_model::{Granule, Rounded, pair_of};
+use ival_core::is_distance;
+use spec_text::Decimal;
+use std::alloc::Global;
+
+// The farthest that a granule begins from J2000, and its greatest length, both in seconds.
+const FARTHEST: i64 = 1 << 50;
+
+const LONGEST: i64 = 1 << 40;
+
+const COMPONENTS: usize = 3;
+
+const MAX_COEFFICIENTS: usize = 32;
+
+// The numbers of a granule.
+fn coefficients(
+    alloc: Global,
+    fields: &mut Fields<'_>,
+    n: usize,
+) -> Result<Vec<Decimal>, RowError> {
+    let mut coefs = Vec::new(alloc);
+    if n > MAX_COEFFICIENTS {
+        return Err(RowError::Malformed);
+    }
+    for _ in 0..COMPONENTS * n {
+        coefs.push(decimal(fields)?)?;
+    }
+    Ok(coefs)
+}
+
+// The pairs of coefficients.
+fn pairs(alloc: Global, coefs: &[Decimal]) -> Result<Vec<Rounded>, RowError> {
+    let mut pairs = Vec::new(alloc);
+    for &c in coefs {
+        if !is_distance(c.mant, c.exp) {
+            return Err(RowError::Malformed);
+        }
+        pairs.push(pair_of(c))?;
+    }
+    Ok(pairs)
+}
+
+// The position, its step, the velocity and its step.
+fn all_four(g: &Granule, axis: usize, a: i64, b: i64) -> [Parts; 4]
+    requires granule { IsEvaluable g.now }
+    requires axis { axis < g.now.comps }
+    requires from { g.now.start ≤ℤ a }
+    requires order { a ≤ℤ b }
+    requires upto { b ≤ℤ (g.now.start +ℤ g.now.seconds) }
+{
+    [
+        position(g, axis, a, b).parts(),
+        position_step(g, axis, a, b).parts(),
+        velocity(g, axis, a, b).parts(),
+        velocity_step(g, axis, a, b).parts(),
+    ]
+}
+
+// The intervals over a span of a granule, which is checked.
+fn checked(g: &Granule, axis: usize, a: i64, b: i64) -> Result<[Parts; 4], RowError> {
+    if !is_evaluable(g) || axis >= g.comps {
+        return Err(RowError::Malformed);
+    }
+    if g.start < -FARTHEST || FARTHEST < g.start || g.seconds < 1 || LONGEST < g.seconds {
+        return Err(RowError::Malformed);
+    }
+    let end = g.start + g.seconds;
+    if a < g.start || b < a || end < b {
+        return Err(RowError::Malformed);
+    }
+    Ok(all_four(g, axis, a, b))
+}
+
+// A granule but for its coefficients, of which it has so many on each axis, an axis, and a span.
+#[derive(Clone, Copy)]
+struct Scope {
+    start: i64,
+    seconds: i64,
+    n: usize,
+    axis: usize,
+    a: i64,
+    b: i64,
+}
+
+fn next_scope(fields: &mut Fields<'_>) -> Result<Scope, RowError> {
+    let (start, seconds) = pair(fields)?;
+    let n = fields.number::<usize>()?;
+    let axis = fields.number::<usize>()?;
+    let (a, b) = pair(fields)?;
+    Ok(Scope {
+        start,
+        seconds,
+        n,
+        axis,
+        a,
+        b,
+    })
+}
+
+fn expected_ranges(fields: &mut Fields<'_>) -> Result<[Parts; 4], RowError> {
+    let position = interval_parts(fields)?;
+    let position_step = interval_parts(fields)?;
+    let velocity = interval_parts(fields)?;
+    let velocity_step = interval_parts(fields)?;
+    Ok([position, position_step, velocity, velocity_step])
+}
+
+// The intervals over the span of the granule with these coefficients.
+fn ranges_of(alloc: Global, scope: &Scope, coefs: &[Decimal]) -> Result<[Parts; 4], RowError> {
+    let rounded = pairs(alloc, coefs)?;
+    let granule = Granule {
+        start: scope.start,
+        seconds: scope.seconds,
+        n: scope.n,
+        comps: COMPONENTS,
+        coefs,
+        rounded: &rounded,
+    };
+    checked(&granule, scope.axis, scope.a, scope.b)
+}
+
+/// A granule's first time, length and count of coefficients, an axis, a span, the coefficients of all three axes, and the
+/// four intervals: of the position, of its step, of the velocity, and of its step.
+pub(crate) fn ranges_agree(alloc: Global, fields: &mut Fields<'_>) -> Result<bool, RowError> {
+    let scope = next_scope(fields)?;
+    let coefs = coefficients(alloc, fields, scope.n)?;
+    let found = ranges_of(alloc, &scope, &coefs)?;
+    Ok(expected_ranges(fields)? == found)
+}

@@ -1,0 +1,58 @@
+// Rows of each kind, compared with what the code gives.
+use crate::bases::{argument_agrees, basis_agrees};
+use crate::coordinates::coordinate_agrees;
+use crate::events::{event_agrees, refusal_agrees};
+use crate::fields::{Fields, RowError};
+use crate::formulas::{formula_agrees, limit_agrees};
+use crate::granules::granule_agrees;
+use crate::intervals::interval_agrees;
+use crate::lines::lines_agree;
+use crate::ranges::ranges_agree;
+use crate::text_rows::{generated_agrees, text_agrees};
+use crate::texts::ephemeris_of;
+use crate::verdicts::verdict_agrees;
+use crate::words::{date_agrees, decimal_agrees, time_agrees};
+use eph_model::Ephemeris;
+use std::alloc::Global;
+
+// Compares the rest of a row of this kind, whose file has this ephemeris.
+fn agrees_over(
+    alloc: Global,
+    ephemeris: &Ephemeris,
+    kind: &str,
+    fields: &mut Fields<'_>,
+) -> Result<bool, RowError> {
+    match kind {
+        "coordinate" => coordinate_agrees(ephemeris, fields),
+        "event" => event_agrees(alloc, ephemeris, fields),
+        "formula" => formula_agrees(alloc, ephemeris, fields),
+        "refusal" => refusal_agrees(alloc, ephemeris, fields),
+        "verdict" => verdict_agrees(alloc, ephemeris, fields),
+        _ => Err(RowError::Malformed),
+    }
+}
+
+// Compares a row of this kind, whose first field is the name of a file.
+fn agrees_in_file(rt: &HostRuntime, kind: &str, fields: &mut Fields<'_>) -> Result<bool, RowError> {
+    let ephemeris = ephemeris_of(rt, fields.word()?)?;
+    agrees_over(rt.alloc(), &ephemeris, kind, fields)
+}
+
+/// Takes all fields of a row, the first of which is the word for its kind, and compares.
+pub fn agrees(rt: &HostRuntime, fields: &mut Fields<'_>) -> Result<bool, RowError> {
+    match fields.word()? {
+        "argument" => argument_agrees(fields),
+        "basis" => basis_agrees(fields),
+        "date" => date_agrees(rt.alloc(), fields),
+        "decimal" => decimal_agrees(rt.alloc(), fields),
+        "generated" => generated_agrees(rt.alloc(), fields),
+        "granule" => granule_agrees(rt, fields),
+        "interval" => interval_agrees(fields),
+        "limit" => limit_agrees(rt.alloc(), fields),
+        "lines" => lines_agree(rt.alloc(), fields),
+        "ranges" => ranges_agree(rt.alloc(), fields),
+        "text" => text_agrees(rt, fields),
+        "time" => time_agrees(rt.alloc(), fields),
+        kind => agrees_in_file(rt, kind, fields),
+    }
+}

@@ -1,0 +1,99 @@
+// Who is seen from where, over which times.
+ghost use Rattle.std.specs.Prelude.{◌≡◌, ◌≤ℤ◌, IfOk, IsTrue};
+ghost use Rattle.std.specs.List.{list_all};
+ghost use Rattle.spec_ephemeris.specs.Header.{has_column};
+ghost use Rattle.spec_ephemeris.specs.Ephemeris.{end_of};
+ghost use Rattle.spec_bodies.specs.Sources.{source_of, needed_columns};
+ghost use Rattle.spec_bodies.specs.Views.{Fits};
+
+use crate::fields::{Fields, RowError};
+use crate::names::{body, frame};
+use crate::parts::pair;
+use body_states::BodyStates;
+use eph_model::{Body, Ephemeris};
+use spec_bodies::{EMB_COLUMN, Frame, MOON_COLUMN, Source};
+
+/// Two targets, the observer and the frame.
+#[derive(Clone, Copy)]
+pub(crate) struct Scene {
+    pub(crate) first: Body,
+    pub(crate) second: Body,
+    pub(crate) observer: Body,
+    pub(crate) frame: Frame,
+}
+
+/// The scene of the next four fields.
+pub(crate) fn next_scene(fields: &mut Fields<'_>) -> Result<Scene, RowError> {
+    Ok(Scene {
+        first: body(fields)?,
+        second: body(fields)?,
+        observer: body(fields)?,
+        frame: frame(fields)?,
+    })
+}
+
+// Whether the ephemeris has what a body needs.
+fn has(ephemeris: &Ephemeris, body: Body) -> bool
+    ensures { result ≡ list_all (has_column ephemeris.now.header) (needed_columns (source_of body)) }
+{
+    match Source::of(body) {
+        Source::Origin => true,
+        Source::OwnColumn(number) => ephemeris.has(number),
+        Source::EarthOfPair | Source::MoonOfPair => {
+            ephemeris.has(EMB_COLUMN) && ephemeris.has(MOON_COLUMN)
+        }
+    }
+}
+
+/// The states of the targets of a scene that the ephemeris can show.
+pub(crate) fn states<'e>(ephemeris: &'e Ephemeris, scene: Scene) -> Result<BodyStates<'e>, RowError>
+    ensures { IfOk result (λ states. states.ephemeris ≡ ephemeris.now) }
+{
+    let (first, second, observer) = (scene.first, scene.second, scene.observer);
+    let has_first = has(ephemeris, first);
+    let has_second = has(ephemeris, second);
+    let has_observer = has(ephemeris, observer);
+    if ephemeris.blocks() == 0 || !has_first || !has_second || !has_observer {
+        return Err(RowError::Malformed);
+    }
+    if first == Body::Ssb || second == Body::Ssb || first == observer || second == observer {
+        return Err(RowError::Malformed);
+    }
+    Ok(BodyStates::new(ephemeris, [first, second], observer, scene.frame))
+}
+
+// Whether no granule of a column in use begins after the first time and up to the last.
+fn is_free(ephemeris: &Ephemeris, states: &BodyStates<'_>, a: i64, b: i64) -> bool
+    requires ephemeris { states.now.ephemeris ≡ ephemeris.now }
+    requires from { ephemeris.now.start ≤ℤ a }
+    requires order { a ≤ℤ b }
+    requires upto { b ≤ℤ end_of ephemeris.now }
+    ensures { IsTrue result → Fits states.now a b }
+{
+    let columns = states.columns();
+    if a == b {
+        true
+    } else {
+        ephemeris.border_near(columns, a, b).is_none()
+    }
+}
+
+/// The first and the last of the times of a row, which can be asked for.
+pub(crate) fn span(
+    ephemeris: &Ephemeris,
+    states: &BodyStates<'_>,
+    fields: &mut Fields<'_>,
+) -> Result<(i64, i64), RowError>
+    requires { states.now.ephemeris ≡ ephemeris.now }
+    ensures { IfOk result (λ span. Fits states.now span.0 span.1) }
+{
+    let (a, b) = pair(fields)?;
+    if a < ephemeris.start() || b < a || ephemeris.end() < b {
+        return Err(RowError::Malformed);
+    }
+    if is_free(ephemeris, states, a, b) {
+        Ok((a, b))
+    } else {
+        Err(RowError::Malformed)
+    }
+}

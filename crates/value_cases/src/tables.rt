@@ -1,0 +1,103 @@
+// Tables, compared row by row.
+use crate::fields::{Fields, RowError};
+use crate::rows::agrees;
+use std::process::ExitCode;
+use std::{env, fs, io, str};
+
+const DIFFERENT: u8 = 1;
+
+const NOT_READ: u8 = 2;
+
+// How many rows a table has, and how many of them differ.
+#[derive(Clone, Copy)]
+struct Tally {
+    rows: u64,
+    differing: u64,
+}
+
+// Whether a row agrees, of which no field may be left.
+fn row_agrees(rt: &HostRuntime, row: &str) -> Result<bool, RowError> {
+    let mut fields = Fields::new(row);
+    let agrees = agrees(rt, &mut fields)?;
+    if fields.is_at_end() {
+        Ok(agrees)
+    } else {
+        Err(RowError::Malformed)
+    }
+}
+
+fn is_row(line: &str) -> bool {
+    !line.is_empty() && !line.starts_with('#')
+}
+
+// The tally with one more row, which is printed if it differs; none where it cannot be read.
+fn add_row(rt: &HostRuntime, row: &str, tally: Tally) -> io::Result<Option<Tally>> {
+    let rows = tally.rows.saturating_add(1);
+    match row_agrees(rt, row) {
+        Ok(true) => Ok(Some(Tally { rows, ..tally })),
+        Ok(false) => {
+            println!(rt; "differs: {row}")?;
+            Ok(Some(Tally {
+                rows,
+                differing: tally.differing.saturating_add(1),
+            }))
+        }
+        Err(RowError::Malformed) => {
+            println!(rt; "is no row: {row}")?;
+            Ok(None)
+        }
+        Err(RowError::Memory) => Err(io::ErrorKind::OutOfMemory.into()),
+    }
+}
+
+// The tally of a table; none where a row cannot be read.
+fn tally_of(rt: &HostRuntime, text: &str) -> io::Result<Option<Tally>> {
+    let mut tally = Tally {
+        rows: 0,
+        differing: 0,
+    };
+    for line in text.lines() {
+        if is_row(line) {
+            let Some(next) = add_row(rt, line, tally)? else {
+                return Ok(None);
+            };
+            tally = next;
+        }
+    }
+    Ok(Some(tally))
+}
+
+// The tally of the table of this name; none where it is no text, or where a row cannot be read.
+fn tally_of_file(rt: &HostRuntime, name: &str) -> io::Result<Option<Tally>> {
+    let bytes = fs::read(rt, name)?;
+    match str::from_utf8(&bytes) {
+        Ok(text) => tally_of(rt, text),
+        Err(_) => Ok(None),
+    }
+}
+
+// Compares the table of this name, and prints how many rows it has: whether one of them differs, or none where it can't be
+// read as a table.
+fn differs(rt: &HostRuntime, name: &str) -> io::Result<Option<bool>> {
+    let Some(tally) = tally_of_file(rt, name)? else {
+        eprintln!(rt; "{name} can't be read as a table")?;
+        return Ok(None);
+    };
+    let Tally { rows, differing } = tally;
+    println!(rt; "{name}: {rows} rows, {differing} differ")?;
+    Ok(Some(differing != 0))
+}
+
+/// Compares the tables that the words of the command line name, and prints the rows that differ and how many rows there
+/// are. The status is 0 where no row differs, 1 where one does, and 2 where a table cannot be read.
+pub fn compare_tables(rt: &HostRuntime) -> io::Result<ExitCode> {
+    let mut status = 0u8;
+    for name in env::args(rt)?.skip(1) {
+        match differs(rt, &name)? {
+            Some(true) => status = DIFFERENT,
+            Some(false) => {}
+            None => return Ok(ExitCode::from(NOT_READ)),
+        }
+    }
+    Ok(ExitCode::from(status))
+}

@@ -1,0 +1,183 @@
+// What is said of the nodes of searches, and where they are cut.
+ghost use Rattle.std.specs.Prelude.{◌≡◌, ◌≤ℤ◌, IfOk, pos};
+ghost use Rattle.spec_trees.specs.Cuts.{CanCut, cut_of};
+ghost use Rattle.spec_trees.specs.Tree.{IsValid};
+ghost use Rattle.spec_kinds.specs.Asks.{IsAsk};
+ghost use Rattle.value_cases.specs.Nodes.{IsWithin};
+
+use crate::asks::{ask, scene_of};
+use crate::events::event_of;
+use crate::fields::{Fields, RowError};
+use crate::names::cut_rule;
+use crate::scenes::states;
+use eph_model::Ephemeris;
+use event_judge::EventJudge;
+use gf_hooks::{Cutter, rule_cut};
+use halving::{Judge, Node, Turn, Verdict};
+use spec_kinds::Ask;
+use spec_trees::CutRule;
+use std::alloc::Global;
+
+// Where the parts of a node meet, and how deep each is.
+#[derive(Clone, Copy, PartialEq, Eq)]
+struct Meeting {
+    time: i64,
+    depths: [u32; 2],
+}
+
+// A verdict, and where the parts meet of a node that is split.
+#[derive(Clone, Copy, PartialEq, Eq)]
+struct Judgement {
+    verdict: Verdict,
+    meeting: Option<Meeting>,
+}
+
+// A node of the times of the ephemeris, no deeper than this.
+fn node(ephemeris: &Ephemeris, depth: u32, fields: &mut Fields<'_>) -> Result<Node, RowError>
+    ensures { IfOk result (IsWithin ephemeris.now depth) }
+{
+    let node = Node {
+        a: fields.number::<i64>()?,
+        b: fields.number::<i64>()?,
+        depth: fields.number::<u32>()?,
+    };
+    if node.a < ephemeris.start() || node.b <= node.a || ephemeris.end() < node.b {
+        return Err(RowError::Malformed);
+    }
+    if depth < node.depth {
+        return Err(RowError::Malformed);
+    }
+    Ok(node)
+}
+
+// A time, and the depth of both parts that meet there.
+fn expected_meeting(fields: &mut Fields<'_>) -> Result<Meeting, RowError> {
+    let time = fields.number::<i64>()?;
+    let depth = fields.number::<u32>()?;
+    Ok(Meeting {
+        time,
+        depths: [depth, depth],
+    })
+}
+
+fn expected_judgement(fields: &mut Fields<'_>) -> Result<Judgement, RowError> {
+    let verdict = match fields.word()? {
+        "clear" => Verdict::Clear,
+        "rise" => Verdict::One(Turn::Rise),
+        "fall" => Verdict::One(Turn::Fall),
+        "undecided" => Verdict::Undecided,
+        "split" => Verdict::Split,
+        _ => return Err(RowError::Malformed),
+    };
+    let meeting = match verdict {
+        Verdict::Split => Some(expected_meeting(fields)?),
+        _ => None,
+    };
+    Ok(Judgement { verdict, meeting })
+}
+
+// What a judge says of a valid node.
+fn judgement_on<J: Judge>(judge: &J, node: Node) -> Judgement
+    requires { IsValid (J.rules judge.now) node }
+{
+    let verdict = judge.judge(node);
+    let meeting = match verdict {
+        Verdict::Split => Some(meeting_of(judge.cut(node))),
+        _ => None,
+    };
+    Judgement { verdict, meeting }
+}
+
+// Where the parts of a node meet: the judge's contract says that the one ends where the other begins.
+fn meeting_of((left, right): (Node, Node)) -> Meeting {
+    Meeting {
+        time: left.b,
+        depths: [left.depth, right.depth],
+    }
+}
+
+// Down to which width and depth nodes are split, and by which rule.
+#[derive(Clone, Copy)]
+struct Splitting {
+    width: i64,
+    depth: u32,
+    rule: CutRule,
+}
+
+fn next_splitting(fields: &mut Fields<'_>) -> Result<Splitting, RowError>
+    ensures { IfOk result (λ splitting. pos 1 ≤ℤ splitting.width) }
+{
+    let width = fields.number::<i64>()?;
+    if width < 1 {
+        return Err(RowError::Malformed);
+    }
+    Ok(Splitting {
+        width,
+        depth: fields.number::<u32>()?,
+        rule: cut_rule(fields)?,
+    })
+}
+
+// What is said of a node in the search for the event of an ask, with this cutter.
+fn judgement_by(
+    alloc: Global,
+    ephemeris: &Ephemeris,
+    ask: &Ask,
+    splitting: Splitting,
+    cutter: Cutter,
+    node: Node,
+) -> Result<Judgement, RowError>
+    requires ask { IsAsk ask.now }
+    requires width { pos 1 ≤ℤ splitting.width }
+    requires node { IsWithin ephemeris.now splitting.depth node }
+{
+    let states = states(ephemeris, scene_of(ask))?;
+    let event = event_of(alloc, ephemeris, ask)?;
+    let (width, depth) = (splitting.width, splitting.depth);
+    let judge = EventJudge::new(states, ephemeris, event, width, depth, cutter);
+    Ok(judgement_on(&judge, node))
+}
+
+// What is said of a node in the search for the event of an ask.
+fn judgement_of(
+    alloc: Global,
+    ephemeris: &Ephemeris,
+    ask: &Ask,
+    splitting: Splitting,
+    node: Node,
+) -> Result<Judgement, RowError>
+    requires ask { IsAsk ask.now }
+    requires width { pos 1 ≤ℤ splitting.width }
+    requires node { IsWithin ephemeris.now splitting.depth node }
+{
+    let rule = splitting.rule;
+    let cut = move |from: i64, to: i64| -> i64
+        requires { CanCut from to }
+        ensures { result ≡ cut_of rule from to }
+    { rule_cut(rule, from, to) };
+    let Ok(cut) = Box::new(alloc, cut) else {
+        return Err(RowError::Memory);
+    };
+    judgement_by(
+        alloc,
+        ephemeris,
+        ask,
+        splitting,
+        Cutter::new(rule, cut),
+        node,
+    )
+}
+
+/// An ask, a width, a depth and a rule of cutting, a node, the verdict on it, and the time at which it is cut and the
+/// depth of its parts where it is split.
+pub(crate) fn verdict_agrees(
+    alloc: Global,
+    ephemeris: &Ephemeris,
+    fields: &mut Fields<'_>,
+) -> Result<bool, RowError> {
+    let ask = ask(fields)?;
+    let splitting = next_splitting(fields)?;
+    let node = node(ephemeris, splitting.depth, fields)?;
+    let expected = expected_judgement(fields)?;
+    Ok(judgement_of(alloc, ephemeris, &ask, splitting, node)? == expected)
+}

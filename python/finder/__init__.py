@@ -26,7 +26,13 @@ made of others. Each search runs the command in a process of its own, and takes
 A time is a whole number of seconds since J2000, a text as `2000-05-01` or `2000-05-01T12:00:00.25`, a `datetime64`, a
 `datetime` or a `date` without a zone, all of these TDB, or an astropy `Time` of any scale. Between two ticks, `start`
 is rounded down and `end` up. A number is an int, a decimal text, a `Decimal`, a float (its shortest decimal), or an
-astropy quantity. Each refusal is an exception with the command's status and its line: `FinderError` and those below it.
+astropy quantity. Each refusal is an exception with the command's status, its line, and a hint of its likely causes:
+`FinderError` and those below it.
+
+What stands beside the windows is computed of the same files in doubles, and unproved: `seen` says when each event is
+seen, as almanacs print it, `values` where the bodies are then, in km and degrees, and `Sky` and `Series` give places at
+any time. `names` says what an almanac calls each event. `intervals` pairs rises and falls into the times during which
+something lasts, which is proved where an interval says so.
 """
 
 from ._almanac import SpanNotHeld, almanac

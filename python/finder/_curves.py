@@ -9,6 +9,8 @@ from ._files import number_of
 from ._series import Series
 from ._vectors import Floats, angle, disc, floats, length, longitude, wrapped
 
+# The speed of light in km/s.
+LIGHT = 299_792.458
 # The seconds on each side by which the change of a direction is taken.
 STEP = 60.0
 # The kinds whose function is the change of a direction.
@@ -48,6 +50,14 @@ class Curve:
     def _place(self, role: str, times: Floats) -> Floats:
         """The place of the target or the second body from the observer, in km."""
         return self._series.seen(self._asked[role], self._asked["observer"], self._asked["frame"], times)
+
+    def light(self, times: Floats) -> Floats:
+        """The seconds that light takes to the observer from the farther one of the bodies, where they are at seconds
+        since J2000 (TDB)."""
+        observer = self._series.body(self._asked["observer"], times)
+        bodies = {self._asked["target"], self._asked["second"]} - {"-"}
+        ways = [length(self._series.body(body, times) - observer) / LIGHT for body in sorted(bodies)]
+        return floats(np.max(ways, axis=0))
 
     def at(self, times: Floats) -> Floats:
         """The quantity at seconds since J2000 (TDB), in `unit`; NaN where the files have no place."""

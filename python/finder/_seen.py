@@ -25,8 +25,9 @@ from ._windows import Window, Windows
 # The kinds of distances, which an almanac prints geometric, and those whose function does not depend on axes.
 GEOMETRIC = ("apsis", "radius")
 OF_ANGLES = ("sep", "sepext", "any", "full", "annular")
-# The seconds on both sides of a window within which an event is seen: where two bodies move almost alike in longitude,
-# they may be seen to meet days from where their places do.
+# The seconds on both sides of a window within which an event is seen, besides so many times the light's way: where two
+# bodies move almost alike in longitude, they may be seen to meet days from where their places do.
+LIGHT_WAYS = 4.0
 REACH = {
     "apsis": 900.0,
     "radius": 900.0,
@@ -170,17 +171,18 @@ def seen(
         return Seen(found, np.empty(0), found.turn, ())
     asked = found.asked
     made = _series_near(found, files, series, middles(found))
-    curve = Curve(made, asked) if asked["kind"] in GEOMETRIC else SeenCurve(made, asked, of_date, bending, phases)
-    solved = _solved(curve, found)
+    geometric = Curve(made, asked)
+    curve = geometric if asked["kind"] in GEOMETRIC else SeenCurve(made, asked, of_date, bending, phases)
+    solved = _solved(curve, found, _signs(geometric, found))
     if arrival is not None and arrival != asked["observer"]:
         solved.seconds += Sky(made, of_date=False).light(asked["observer"], arrival, solved.seconds)
     return solved
 
 
-def _solved(curve: Curve, found: Windows) -> Seen:
+def _solved(curve: Curve, found: Windows, sign: Floats) -> Seen:
     """The time near each window at which a function passes 0 in the window's direction, no two of them the same."""
     middle = middles(found)
-    sign, reach = _signs(curve, found, middle), _reach(curve, found, middle)
+    reach = _reach(curve, found, middle)
     seconds = roots(lambda times, places: curve.at(times) * sign[places], middle, reach)
     if found.asked["kind"] in GEOMETRIC:
         seconds = np.clip(seconds, (found.first - 1) / found.tick, found.last / found.tick)
@@ -205,16 +207,17 @@ def _series_near(found: Windows, files: Optional[Files], series: Optional[Series
     if files is None:
         raise TypeError("the files of the search are wanted, or a series of them")
     kind = found.asked["kind"]
-    # (light comes from some hours before)
-    pad = REACH[kind] + (MOST if kind == "coord" else 0) + spans.DAY
+    # (light comes from some hours before, and so many times them are looked through)
+    pad = REACH[kind] + (MOST if kind == "coord" else 0) + 3 * spans.DAY
     pad += float((found.last - found.first).max()) / found.tick
     return Series(files, float(middle.min()) - pad, float(middle.max()) + pad)
 
 
-def _signs(curve: Curve, found: Windows, middle: Floats) -> Floats:
+def _signs(curve: Curve, found: Windows) -> Floats:
     """The direction of each window: 1 where its function grows past 0, -1 where it falls below. Of an undecided one of
-    at most a minute it is that in which the function turns about it, and 0 where it does not, or not in a direction
-    that was asked for: of some thousand windows one is undecided, and mostly has its event."""
+    at most a minute it is that in which the geometric function turns about it, and 0 where it does not, or not in a
+    direction that was asked for: of some thousand windows one is undecided, and mostly has its event."""
+    middle = middles(found)
     sign = np.select([found.turn == "rise", found.turn == "fall"], [1.0, -1.0], 0.0)
     left = np.flatnonzero(~found.certain & (found.last - found.first < MINUTE * found.tick))
     if len(left):
@@ -229,6 +232,9 @@ def _reach(curve: Curve, found: Windows, middle: Floats) -> Floats:
     """The seconds on both sides of the middle of each window within which its time is looked for."""
     kind = found.asked["kind"]
     base = floats(REACH[kind] + (found.last - found.first) / (2 * found.tick))
+    if kind in GEOMETRIC:
+        return base
+    base += LIGHT_WAYS * np.nan_to_num(curve.light(middle))
     if kind != "coord":
         return base
     before, here, after = (curve.at(middle + shift) for shift in (-ASIDE, 0.0, ASIDE))

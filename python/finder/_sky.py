@@ -8,12 +8,11 @@ from typing import Any
 import numpy as np
 
 from . import spans
+from ._curves import LIGHT
 from ._files import J2000_DATE
 from ._series import Series
 from ._vectors import Floats, floats, length
 
-# The speed of light in km/s.
-LIGHT = 299_792.458
 # Twice the Sun's mass in km, 2GM/c^2, and the least of 1 + cos at which light is bent: a body further behind the Sun's
 # disc is not seen at all.
 BENDING = 2.95325

@@ -117,7 +117,7 @@ class Hints(InFolder):
 
     def test_refusals_of_the_command(self):
         lines = YEAR.read_text().splitlines(keepends=True)
-        head = next(place for place, line in enumerate(lines) if line.split()[1:] == ["1018"] and len(line.split()) == 2)
+        head = next(place for place, line in enumerate(lines) if line.split() == ["1", "1018"])
         rest, cut = self.folder / "rest", self.folder / "cut"
         rest.write_text("".join(lines[head:]))
         cut.write_text("".join(lines[: head + 100]))
@@ -131,7 +131,7 @@ class Hints(InFolder):
             (lambda: finder.conjunctions(YEAR, "mars", "mars", **EARTH), "(1) two of target, second body and observer"),
             (lambda: finder.distance(YEAR, "mars", -1, **EARTH), "(1) a cosine is from -1 to 1"),
             (lambda: finder.find(YEAR, "conj", "mars", **EARTH), "an option is missing, not of its form, or not used"),
-            (lambda: finder.check(YEAR, program=stand_in(self.folder, "kill -9 $$")), "(1) the system ended the process"),
+            (lambda: finder.check(YEAR, program=stand_in(self.folder, "kill -9 $$")), "(1) the system ended the"),
             (lambda: finder.check(YEAR, program=stand_in(self.folder, "sleep 9"), timeout=0.2), "(1) the search takes"),
         ):
             self.assertTrue(self.hint(call).startswith(begin), self.hint(call))

@@ -165,6 +165,25 @@ class BesideSkyfield(InFolder):
                 found = finder.stations(YEAR, name, frame=frame, **EARTH)
                 self.assert_beside(found, self.turns(forward, step)[0])
 
+    def test_places(self):
+        """Directions of date within a hundredth of an arc second, distances within 50 m in an astronomical unit."""
+        from skyfield.framelib import ecliptic_frame
+
+        for found in (finder.oppositions(YEAR, "saturn", **ECL), finder.apsides(YEAR, "moon", **EARTH)):
+            numbers = finder.values(found, YEAR, apparent=True, of_date=True)
+            name = found.asked["target"]
+            seen = self.apparent(name, self.time(numbers.seconds / DAY))
+            right, up, far = seen.radec("date")
+            north, along, _ = seen.frame_latlon(ecliptic_frame)
+            for ours, theirs in (
+                (numbers.target.ra, right.hours * 15),
+                (numbers.target.dec, up.degrees),
+                (numbers.target.lon, along.degrees),
+                (numbers.target.lat, north.degrees),
+            ):
+                self.assertLess(abs((ours - theirs + 180) % 360 - 180).max() * 3_600, 0.01)
+            self.assertLess(abs(numbers.target.distance_km / far.km - 1).max(), 3e-10)
+
     def test_separations(self):
         limit = 1.0
         found = finder.separation(YEAR, "venus", "jupiter", degrees=limit, **EARTH)
@@ -180,18 +199,25 @@ class BesideSkyfield(InFolder):
         self.assert_beside(finder.separation_extremes(YEAR, "mercury", "sun", **EARTH), times)
 
     def test_discs(self):
-        """The contacts of the Earth's shadow and the Moon's centre, as they are seen from there."""
-        radii = 6_442.4, 695_700.0
-        span = {"start": "2000-01-20", "end": "2000-01-22"}
-        for kind, sign in (("any", 1), ("full", -1)):
+        """The contacts of the Earth's shadow and the Moon's centre, as they are seen from there, and of a transit of the
+        Earth that is seen from Neptune."""
+        eclipse = "earth", "moon", (6_442.4, 695_700.0), 20
+        transit = "earth", "neptune", (6_371.0, 695_700.0), 208
+        for (name, observer, radii, day), kind, signs in (
+            (eclipse, "any", (1, 1)),
+            (eclipse, "full", (1, -1)),
+            (transit, "any", (1, 1)),
+            (transit, "annular", (-1, 1)),
+        ):
 
-            def covered(time, sign=sign):
-                earth, sun = self.apparent("earth", time, "moon"), self.apparent("sun", time, "moon")
-                one, other = (np.arcsin(radius / each.distance().km) for radius, each in zip(radii, (earth, sun)))
-                return one + sign * other > earth.separation_from(sun).radians
+            def covered(time, name=name, observer=observer, radii=radii, signs=signs):
+                pair = [self.apparent(each, time, observer) for each in (name, "sun")]
+                discs = [sign * np.arcsin(size / each.distance().km) for sign, size, each in zip(signs, radii, pair)]
+                return discs[0] + discs[1] > pair[0].separation_from(pair[1]).radians
 
-            found = finder.occultations(YEAR, "earth", "sun", radii, kind=kind, observer="moon", **span)
-            self.assert_beside(found, self.turns(covered, 0.01, 19.0, 20.0)[0])
+            span = {"start": (day - 2) * DAY, "end": (day + 2) * DAY}
+            found = finder.occultations(YEAR, name, "sun", radii, kind=kind, observer=observer, **span)
+            self.assert_beside(found, self.turns(covered, 0.01, day - 1, day + 1)[0])
 
 
 if __name__ == "__main__":

@@ -28,9 +28,8 @@ class Built(InFolder):
         # (building writes beside the sources)
         clone = self.folder / "clone"
         self.sources = clone / "python"
-        shutil.copytree(
-            TOP / "python", self.sources, ignore=shutil.ignore_patterns("__pycache__", "build", "*.egg-info", ".mypy_cache")
-        )
+        left = shutil.ignore_patterns("__pycache__", "build", "*.egg-info", ".mypy_cache")
+        shutil.copytree(TOP / "python", self.sources, ignore=left)
         (clone / "release").mkdir()
         shutil.copy(PROGRAM, clone / "release")
 

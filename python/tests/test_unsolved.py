@@ -74,6 +74,17 @@ class Unsolved(InFolder):
         self.assertEqual(finder.names(found, turn=seen.turn), ["new moon", "undecided"])
         self.assertIn("1 of 2 have a time, in doubles, unproved", repr(seen))
 
+    def test_undecided_windows_that_are_seen_hours_later(self):
+        """From Neptune the angle between Earth and Moon is seen to be greatest or least some four hours later. Many
+        of the windows are undecided, and each has its time."""
+        found = finder.separation_extremes(YEAR, "earth", "moon", observer="neptune", end="2000-12-31")
+        undecided = found[~found.certain]
+        self.assertGreater(len(undecided), 20)
+        seen = finder.seen(undecided, YEAR, of_date=False)
+        self.assertEqual(seen.unsolved, [])
+        later = seen.later / 3_600
+        self.assertTrue(((later > 3.5) & (later < 4.8)).all())
+
     def test_where_nothing_is_near(self):
         """A new moon in the midst of a month, and one that rises, are none."""
         midst = "C 2000-01-21T00:00:00 2000-01-21T00:00:00 fall"

@@ -10,6 +10,7 @@ import subprocess
 import threading
 import time
 from collections.abc import Sequence
+from dataclasses import dataclass, field
 from typing import Optional, Union
 
 from . import spans
@@ -138,6 +139,14 @@ def _end(process: subprocess.Popen[bytes]) -> None:
             pass
 
 
+@dataclass
+class _Begun:
+    """The processes of a run that have begun; once it is over, none begins any more."""
+
+    processes: list[subprocess.Popen[bytes]] = field(default_factory=list)
+    is_over: bool = False
+
+
 class Runs:
     """The processes of one call, which end with it."""
 
@@ -149,10 +158,10 @@ class Runs:
         self._lock = threading.Lock()
         self._stopped = False
 
-    def _start(self, words: Sequence[Union[str, bytes]], begun: list[subprocess.Popen[bytes]]) -> None:
+    def _start(self, words: Sequence[Union[str, bytes]], begun: _Begun) -> None:
         """Starts the command, in a group of its own, unless the call is over, and adds it to those that have begun."""
         with self._lock:
-            if self._stopped:
+            if self._stopped or begun.is_over:
                 raise Interrupted(-signal.SIGKILL, "finder: the call is over")
             try:
                 process = subprocess.Popen(
@@ -165,20 +174,23 @@ class Runs:
             except OSError as error:
                 raise spans.NoProgram(error.errno, f"{self._program} cannot be run: {error.strerror}") from error
             self._live.add(process)
-            begun.append(process)
+            begun.processes.append(process)
 
     def run(self, words: Sequence[Union[str, bytes]]) -> str:
         """What the command prints for these words."""
-        begun: list[subprocess.Popen[bytes]] = []
+        begun = _Begun()
         try:
             # (an interrupt comes to the main thread alone, and so not between a process and its record)
             with concurrent.futures.ThreadPoolExecutor(1) as pool:
                 pool.submit(self._start, words, begun).result()
-            out, err = self._output(begun[0])
+            out, err = self._output(begun.processes[0])
         finally:
-            for process in begun:
+            # (where the interrupt comes while the thread starts, nothing has waited for what that one starts)
+            with self._lock:
+                begun.is_over = True
+            for process in begun.processes:
                 self._finish(process)
-        return _answer(begun[0].returncode, out, err)
+        return _answer(begun.processes[0].returncode, out, err)
 
     def _output(self, process: subprocess.Popen[bytes]) -> tuple[bytes, bytes]:
         """What the command wrote to both outputs until it ended."""

@@ -91,8 +91,8 @@ class Sky:
     """Places of bodies as they are seen from one another, in doubles and unproved.
 
     Each is where the body was when its light set out, turned by aberration, and with `bending` bent by the Sun's mass.
-    With `of_date`, which wants erfa, it is on the axes of date, for files whose axes are those of the ICRS, as JPL's have
-    since DE403; without it on the axes of the file, and the ecliptic of J2000.
+    With `of_date`, which wants erfa, it is on the axes of date, for files whose axes are those of the ICRS, as those of
+    JPL's files have been since DE403; without it on the axes of the file, or the ecliptic of J2000.
     """
 
     def __init__(self, series: Series, of_date: bool = True, bending: bool = True) -> None:

@@ -13,7 +13,7 @@ TOP = Path(__file__).resolve().parents[2]
 PROGRAM = TOP / "release" / "finder-x86_64-linux"
 YEAR = TOP / "examples" / "de405-2000.asc"
 TOOL = TOP / "tools" / "spans"
-CASES = TOP / "crates" / "finder_cases" / "data"
+CASES = TOP / "cases"
 # The great conjunction, as README.md has it.
 REPORT = """\
 FIND conj target jupiter second saturn observer earth frame ecl axis - values - dir any width 1 depth 40 cut half \

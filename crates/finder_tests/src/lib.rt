@@ -2,7 +2,7 @@
 //! system's files and streams, which files are opened and how much is read of one, hold workers until they have met, and
 //! read files and reports of a size that no case has. In come words and files, in memory over shelves and a gate that note
 //! what is asked of them, or of the system. It holds tests alone, and stands beside these crates so that they are not proved
-//! once more with them; what a case can show belongs to `finder_cases`.
+//! once more with them; what a case can show belongs to `cases/`.
 #![tactic(auto)]
 
 #[cfg(test)]

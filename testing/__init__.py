@@ -1,0 +1,1 @@
+"""What ./test is made of, and the trials of it."""

@@ -35,7 +35,10 @@ OF_NUMBER: dict[int, Causes] = {
         "the files have no column of a body that is asked for: finder.check(files).columns names those that they have",
         "earth and moon want the columns of both emb and moon",
     ),
-    51: ("two of target, second body and observer are one body: name three", "no observer is named, and ssb was meant"),
+    51: (
+        "two of target, second body and observer are one body: name three",
+        "for what is seen from a body it is the observer, and neither target nor second body",
+    ),
     52: (
         "a cosine is from -1 to 1: an angle in degrees is given as degrees=",
         "radii and distances are in km, and not below 0",

@@ -174,9 +174,20 @@ def seen(
     geometric = Curve(made, asked)
     curve = geometric if asked["kind"] in GEOMETRIC else SeenCurve(made, asked, of_date, bending, phases)
     solved = _solved(curve, found, _signs(geometric, found))
-    if arrival is not None and arrival != asked["observer"]:
-        solved.seconds += Sky(made, of_date=False).light(asked["observer"], arrival, solved.seconds)
-    return solved
+    if arrival is None or arrival == asked["observer"]:
+        return solved
+    return _arrived(solved, arrival, Sky(made, of_date=False).light_to(arrival, asked["observer"], solved.seconds))
+
+
+def _arrived(solved: Seen, arrival: str, ways: Floats) -> Seen:
+    """The times at which light comes to a body, that takes so many seconds."""
+    seconds = solved.seconds + ways
+    late = np.isnan(seconds) & ~solved.missing
+    reasons = [
+        f"the files end before light of it comes to {arrival}" if each else reason
+        for each, reason in zip(late.tolist(), solved.reasons)
+    ]
+    return Seen(solved.found, seconds, np.where(late, solved.found.turn, solved.turn), tuple(reasons))
 
 
 def _solved(curve: Curve, found: Windows, sign: Floats) -> Seen:

@@ -11,9 +11,11 @@ from numpy.polynomial.chebyshev import chebder
 from . import spans
 from ._files import number_of, read, seconds_of
 from ._search import Files
-from ._vectors import Floats, floats
+from ._vectors import Floats, floats, many
+from ._words import one_of
 
 COLUMNS = "mercury venus emb mars jupiter saturn uranus neptune pluto moon sun".split()
+BODIES = (*COLUMNS, "earth", "ssb")
 # The obliquity of the ecliptic of J2000 is 84381.448 arc seconds.
 OBLIQUITY = np.radians(84_381.448 / 3_600)
 
@@ -85,26 +87,29 @@ class Series:
         made = [_sums(table[:, :, granule], at) for table in self._table(name)[: 1 + rates]]
         return made[0] if not rates else floats(np.concatenate(made))
 
-    def body(self, name: str, times: Floats, rates: bool = False) -> Floats:
+    def body(self, name: str, times: Any, rates: bool = False) -> Floats:
         """Places of a body from the barycentre of the solar system, on the axes of the file, at seconds since J2000
         (TDB): three rows in km; with `rates` six, km and km/s. NaN at times outside of the blocks that are kept."""
+        one_of("body", name, BODIES)
+        at = many(times)
         if name == "ssb":
-            return np.zeros((6 if rates else 3, len(times)))
+            return np.zeros((6 if rates else 3, len(at)))
         if name in ("earth", "moon"):
-            moon = self._column("moon", times, rates)
-            earth = self._column("emb", times, rates) - moon / (1 + self._mass_ratio)
+            moon = self._column("moon", at, rates)
+            earth = self._column("emb", at, rates) - moon / (1 + self._mass_ratio)
             return earth + moon if name == "moon" else earth
-        return self._column(name, times, rates)
+        return self._column(name, at, rates)
 
     def seen(self, target: str, observer: str, frame: str, times: Any) -> Floats:
         """Geometric places of a body from an observer in km, on the axes `eq` or `ecl` of J2000, at seconds since J2000
         (TDB): an array of three rows."""
-        at = floats(times)
+        at = many(times)
         return self.turned(frame, self.body(target, at) - self.body(observer, at))
 
     @staticmethod
     def turned(frame: str, places: Floats) -> Floats:
         """Places of the file's axes, on the axes `eq` or `ecl` of J2000."""
+        one_of("frame", frame, ("eq", "ecl"))
         x, y, z = places
         if frame == "eq":
             return np.array([x, y, z])

@@ -11,12 +11,15 @@ from . import spans
 from ._curves import LIGHT
 from ._files import J2000_DATE
 from ._series import Series
-from ._vectors import Floats, floats, length
+from ._vectors import Floats, floats, length, many
+from ._words import one_of
 
 # Twice the Sun's mass in km, 2GM/c^2, and the least of 1 + cos at which light is bent: a body further behind the Sun's
 # disc is not seen at all.
 BENDING = 2.95325
 BEHIND = 1e-6
+# Each pass leaves a part of v/c of the fault of a place before: the third some decimetres.
+PASSES = 3
 # Nutation is taken at each half day and between them by polynomials through six: to some 10^-7 arc seconds.
 HALF_DAY = spans.DAY / 2
 NODES = np.arange(-2, 4)
@@ -88,7 +91,8 @@ class Sky:
     """Places of bodies as they are seen from one another, in doubles and unproved.
 
     Each is where the body was when its light set out, turned by aberration, and with `bending` bent by the Sun's mass.
-    With `of_date`, which wants erfa, it is on the axes of date, without it on those of J2000.
+    With `of_date`, which wants erfa, it is on the axes of date, for files whose axes are those of the ICRS, as those of
+    JPL's files have been since DE403; without it on the axes of the file, or the ecliptic of J2000.
     """
 
     def __init__(self, series: Series, of_date: bool = True, bending: bool = True) -> None:
@@ -100,20 +104,30 @@ class Sky:
         self._last: dict[str, tuple[Floats, Floats]] = {}
 
     def _kept(self, name: str, times: Floats, make: Callable[[], Floats]) -> Floats:
-        """What was made last of the same array of times, or it is made: two bodies are looked at at once."""
-        if name not in self._last or self._last[name][0] is not times:
-            self._last[name] = times, make()
-        return self._last[name][1]
+        """What was made last of the same times, or it is made: two bodies are looked at at once."""
+        last = self._last.get(name)
+        if last is None or not np.array_equal(last[0], times):
+            last = times.copy(), make()
+            self._last[name] = last
+        return last[1]
 
-    def light(self, target: str, observer: str, times: Floats) -> Floats:
+    def light(self, target: str, observer: str, times: Any) -> Floats:
         """The seconds that light takes from a body to an observer, where it comes in at seconds since J2000 (TDB)."""
-        return self._from(target, self._series.body(observer, times), times)[1]
+        at = many(times)
+        return self._from(target, self._series.body(observer, at), at)[1]
+
+    def light_to(self, target: str, source: str, times: Any) -> Floats:
+        """The seconds that light takes to a body, which sets out from another at seconds since J2000 (TDB)."""
+        at = many(times)
+        here, way = self._series.body(source, at), np.zeros(len(at))
+        for _ in range(PASSES):
+            way = floats(length(self._series.body(target, at + way) - here) / LIGHT)
+        return way
 
     def _from(self, target: str, here: Floats, times: Floats) -> tuple[Floats, Floats]:
         """Where a body was when its light set out, in km from the observer's place, and how many seconds it took."""
         place, delay = here, np.zeros(len(times))
-        # (each pass leaves a part of v/c of the fault before: the third, of a place, some decimetres)
-        for _ in range(3):
+        for _ in range(PASSES):
             place = self._series.body(target, times - delay) - here
             delay = floats(length(place) / LIGHT)
         return place, delay
@@ -122,7 +136,8 @@ class Sky:
         """Where a body is seen at seconds since J2000 (TDB), in km on the axes `eq` or `ecl`: three rows. Its distance
         is that at which its light set out. NaN where the files have no place of a body at a time, or not at the time
         at which its light set out."""
-        at = floats(times)
+        at = many(times)
+        one_of("frame", frame, ("eq", "ecl"))
         if target == observer:
             return np.zeros((3, len(at)))
         state = self._kept(observer, at, lambda: self._series.body(observer, at, rates=True))

@@ -48,8 +48,9 @@ class Values:
     `seconds` are the times of the numbers, since J2000 (TDB). `angle` is that between target and second body in degrees
     (None without one), `elongation` that between target and Sun in degrees and `east` whether the target's ecliptic
     longitude is ahead of the Sun's, so that it is an evening body. Both are None where the target is the Sun, and from
-    the Sun and the barycentre. Where a time is missing numbers are NaN, and `east` is False. `function` is the request's function, in `unit`: about 0 at an event, above 0 after a
+    the Sun and the barycentre. `function` is the request's function, in `unit`: about 0 at an event, above 0 after a
     rise. `apparent` says whether these are places as they are seen, and `of_date` whether they are on axes of date.
+    Where a time is missing numbers are NaN, and `east` is False.
     """
 
     seconds: Floats

@@ -15,6 +15,11 @@ def floats(values: Any) -> Floats:
     return np.asarray(values, dtype=float)
 
 
+def many(values: Any) -> Floats:
+    """A number, or several, as an array of doubles with a row."""
+    return np.atleast_1d(floats(values))
+
+
 def length(place: Floats) -> Floats:
     """Lengths, in the unit of the places."""
     return floats(np.sqrt((place**2).sum(axis=0)))

@@ -134,7 +134,8 @@ def _draw_marks(axes: Any, found: Windows, height: int, as_dates: bool, labels: 
         if not here.any():
             continue
         heights = np.full(int(here.sum()), height + aside)
-        shape = {"marker": "|", "markersize": 8, "markeredgewidth": 0.5} if crowded else {"marker": mark, "markersize": 5}
+        size, edge = (8, 0.5) if crowded else (5, 1.0)
+        shape = {"marker": "|" if crowded else mark, "markersize": size, "markeredgewidth": edge}
         (drawn,) = axes.plot(times[here], heights, linestyle="none", color=colour, **shape)
         labels.setdefault(f"certain window, {turn}" + (" (many)" if crowded else ""), drawn)
 

@@ -85,6 +85,15 @@ class Unsolved(InFolder):
         later = seen.later / 3_600
         self.assertTrue(((later > 3.5) & (later < 4.8)).all())
 
+    @unittest.skipUnless(importlib.util.find_spec("astropy"), "astropy is not here")
+    def test_times_of_astropy(self):
+        found = windows("C 2000-01-06T18:15:27 2000-01-06T18:15:27 fall", "U 2000-02-05T12:00:00 2000-02-05T14:00:00")
+        seen = finder.seen(found, YEAR, of_date=False)
+        for time, scale, text in ((seen.time(), "tdb", "14:42"), (seen.tt, "tt", "14:42"), (seen.utc, "utc", "13:38")):
+            self.assertEqual(time.scale, scale)
+            self.assertEqual(time.mask.tolist(), [False, True])
+            self.assertTrue(time.isot[0].startswith(f"2000-01-06T18:{text}"), time.isot[0])
+
     def test_where_nothing_is_near(self):
         """A new moon in the midst of a month, and one that rises, are none."""
         midst = "C 2000-01-21T00:00:00 2000-01-21T00:00:00 fall"
@@ -119,6 +128,16 @@ class Unsolved(InFolder):
         found = finder.separation_extremes(YEAR, "earth", "sun", observer="moon", dir="fall")
         here, there = (finder.seen(found, YEAR, arrival=body).seconds for body in ("moon", "earth"))
         self.assertTrue(((there - here > 1.15) & (there - here < 1.4)).all())
+
+    def test_light_comes_when_the_files_are_over(self):
+        """An event a quarter of an hour before the end of the files, whose light takes longer to Jupiter."""
+        series = finder.Series(YEAR)
+        place = series.seen("moon", "earth", "eq", series.end - 900)[2, 0]
+        found = finder.coordinate(YEAR, "moon", "z", f"{place:.3f}", observer="earth", start="2001-01-10")
+        for arrival, missing in (("moon", False), ("jupiter", True)):
+            seen = finder.seen(found, YEAR, arrival=arrival, of_date=False)
+            self.assertEqual(seen.missing.tolist(), [missing])
+        self.assertEqual(seen.reasons, ("the files end before light of it comes to jupiter",))
 
 
 class Refusals(InFolder):
@@ -170,6 +189,24 @@ class Refusals(InFolder):
                 self.assertIsInstance(caught.exception, ValueError)
         with self.assertRaisesRegex(finder.WrongFiles, "1999-12-24T00:00:00 to 2001-01-11T00:00:00"):
             finder.Series(YEAR, 2e9, 3e9)
+
+    def test_bodies_and_frames_that_are_none(self):
+        series = finder.Series(YEAR)
+        for sky in (series, finder.Sky(series, of_date=False)):
+            with self.assertRaisesRegex(ValueError, "did you mean 'earth'"):
+                sky.seen("moon", "erth", "eq", [0.0])
+            with self.assertRaisesRegex(ValueError, "no frame"):
+                sky.seen("moon", "earth", "galactic", [0.0])
+
+    def test_places_of_times_that_were_changed(self):
+        """An array of times that is changed in place is another one."""
+        sky = finder.Sky(finder.Series(YEAR), of_date=False)
+        times = np.array([0.0])
+        before = sky.seen("sun", "earth", "eq", times)
+        times += 86_400
+        after = sky.seen("sun", "earth", "eq", times)
+        self.assertTrue(np.array_equal(after, sky.seen("sun", "earth", "eq", 86_400)))
+        self.assertGreater(abs(after - before).max(), 1e6)
 
     def test_a_series_of_a_span(self):
         """Only the blocks of a span are kept, whose places are those of the whole; outside of them there are none."""

@@ -1,10 +1,12 @@
 /* Reading and searching as plain C does it, in doubles. A text is read whole into memory, then its words from left to
-   right: each word that is a number as a whole, with the letter D or E before its exponent, is read by strtod. Nothing of
-   the layout is checked. In a search a function is evaluated at steps of a time, and where its sign changes from one
-   step to the next, the change is bisected to a second. Nothing bounds an error, and two changes within a step are missed.
+   right: each word that is a number as a whole, with the letter D or E before its exponent, is read by strtod, or its
+   digits eight at a time. Nothing of the layout is checked. In a search a function is evaluated at steps of a time, and
+   where its sign changes from one step to the next, the change is bisected to a second. Nothing bounds an error, and
+   two changes within a step are missed.
 
        doubles reading FILE                      reads FILE and keeps its numbers; prints how many words and numbers there
                                                  were, and the sum of the numbers' sizes
+       doubles eights FILE                       does the same, and reads the digits of JPL's numbers eight at a time
        doubles find --step SECONDS OPTIONS FILE  searches FILE, a text of DE405 by JPL, for what the same options of
                                                  finder ask for; prints the second and the direction of each event */
 #include <math.h>
@@ -60,18 +62,50 @@ static int number(const char *word, size_t length, double *value) {
     return end == text + length;
 }
 
+/* The number that eight digits write: each is joined with the next, and so is what comes of it, twice more. */
+static uint64_t eight_digits(const char *digits) {
+    uint64_t word;
+    memcpy(&word, digits, sizeof word);
+    word -= 0x3030303030303030u;
+    word = word * 10 + (word >> 8);
+    return ((word & 0x000000FF000000FFu) * 0x000F424000000064u + (word >> 16 & 0x000000FF000000FFu) * 0x0000271000000001u)
+        >> 32;
+}
+
+enum { PLACES = 18, POWERS = 128 };
+
+/* The number of a word as JPL writes it, 0.123456789012345678D+01 and perhaps a minus before it; of another, as above.
+   No digit is checked. It is rounded twice, so now and then its last bit is another than strtod's. */
+static int number_by_eights(const char *word, size_t length, double *value) {
+    static long double powers[POWERS];
+    if (!powers[0]) {
+        powers[0] = 1;
+        for (int i = 1; i < POWERS; i++) powers[i] = powers[i - 1] * 10;
+    }
+    int is_below = length && *word == '-';
+    const char *p = word + is_below;
+    if (length - (size_t)is_below != 24 || p[0] != '0' || p[1] != '.' || p[20] != 'D') return number(word, length, value);
+    uint64_t size = eight_digits(p + 2) * 10000000000u + eight_digits(p + 10) * 100u
+        + (uint64_t)((p[18] - '0') * 10 + p[19] - '0');
+    int exponent = (p[22] - '0') * 10 + p[23] - '0';
+    exponent = (p[21] == '-' ? -exponent : exponent) - PLACES;
+    long double x = exponent < 0 ? (long double)size / powers[-exponent] : (long double)size * powers[exponent];
+    *value = (double)(is_below ? -x : x);
+    return 1;
+}
+
 static int is_word(const char *word, size_t length, const char *wanted) {
     return length == strlen(wanted) && !memcmp(word, wanted, length);
 }
 
-static int reading(const char *name) {
+static int reading(const char *name, int by_eights) {
     struct text text = open_text(name);
     size_t room = 1 << 16, numbers = 0, all = 0, length;
     const char *word;
     double *kept = malloc(room * sizeof *kept), sum = 0;
     while ((length = next_word(&text, &word))) {
         if (numbers == room && !(kept = realloc(kept, (room *= 2) * sizeof *kept))) fail("no memory");
-        if (number(word, length, kept + numbers)) numbers++;
+        if ((by_eights ? number_by_eights : number)(word, length, kept + numbers)) numbers++;
         all++;
     }
     for (size_t i = 0; i < numbers; i++) sum += fabs(kept[i]);
@@ -438,7 +472,8 @@ static int find(char **words, int count) {
 }
 
 int main(int count, char **words) {
-    if (count == 3 && !strcmp(words[1], "reading")) return reading(words[2]);
+    if (count == 3 && !strcmp(words[1], "reading")) return reading(words[2], 0);
+    if (count == 3 && !strcmp(words[1], "eights")) return reading(words[2], 1);
     if (count > 2 && !strcmp(words[1], "find")) return find(words + 2, count - 2);
-    fail("reading FILE or find --step SECONDS OPTIONS FILE");
+    fail("reading FILE, eights FILE or find --step SECONDS OPTIONS FILE");
 }

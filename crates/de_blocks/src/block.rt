@@ -158,6 +158,7 @@ impl OpenBlock {
     }
 
     /// Puts the number that a word of this line is after the others.
+    #[inline(never)]
     pub fn push_word(&mut self, line: u32, word: &[u8]) -> Result<(), ReadError>
         requires { length self.old.numbers < self.old.accepted.header.ncoeff }
         ensures pushed { Pushes self.old.accepted self.old.numbers line word.now result
@@ -169,6 +170,7 @@ impl OpenBlock {
     }
 
     /// Takes the whole block in, where it is not skipped.
+    #[inline(never)]
     pub fn accept(&mut self)
         requires checked { IsEphemeris self.old.accepted }
         requires read { AreRead self.old.accepted self.old.numbers }

@@ -93,6 +93,7 @@ impl BlockReader {
     }
 
     // Reads the line before the numbers of a block.
+    #[inline(never)]
     fn begin(&mut self, line: &Line<'_>) -> Result<(), BlockError>
         requires { self.old.place ≡ places.Between }
         ensures { Takes self.old line.now result self.new }

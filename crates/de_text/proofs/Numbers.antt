@@ -1,16 +1,15 @@
 -- Numbers in the form in which JPL writes them.
-use Rattle.std.proofs.Common.{◌≡◌, ℕ, zero, suc, ◌+◌, ◌-◌, ◌<◌, ◌≤◌, true, false, List, [], ◌∷◌, ◌++◌, Option, None, Some, Ok, IfSome, length, length-drop, length-take, get_or, take, drop, refl, sym, ap, ◌∙◌, subst, inl, inr, arith}
+use Rattle.std.proofs.Common.{◌≡◌, ℕ, zero, suc, ◌+◌, ◌-◌, ◌<◌, ◌≤◌, true, false, List, [], ◌∷◌, Option, None, Some, Ok, IfSome, length, length-drop, length-take, get_or, take, drop, refl, sym, ap, ◌∙◌, subst, inl, inr, arith}
 use Rattle.std.specs.List.{All}
 use Rattle.std.proofs.lemmas.Bool.Decides.{nat_tests}
 use Rattle.std.proofs.lemmas.List.{drop-drop, get_or-drop, get_or-take}
 use Rattle.std.proofs.lemmas.List.Elements.{All-append}
 use Rattle.spec_text.specs.declared.decimals.Decimal.{Decimal}
-use Rattle.spec_text.specs.Decimals.{Sign, unsigned, plus, minus, Exponent, Numeral, IsDigit, AreDigits, IsMark, IsExponent, sign_text, fraction_text, exponent_text, text, after_point}
+use Rattle.spec_text.specs.Decimals.{Sign, unsigned, plus, minus, Exponent, AreDigits, IsMark, IsExponent, sign_text, fraction_text, exponent_text, after_point}
 use Rattle.spec_text.specs.Lines.{is_separator, tokens}
 use Rattle.spec_text.specs.Reading.{reading}
 use Rattle.spec_text.specs.Splitting.{sign_at}
 use Rattle.spec_text.proofs.Answering.{reads_by}
-use Rattle.de_text.specs.Parts.{is_minus}
 use Rattle.de_text.proofs.TokenPlaces.{token_after}
 
 -- no separator

@@ -54,8 +54,15 @@ impl<'a> Iterator for Words<'a> {
     ghost remaining = { item_count (λ left. left) };
 
     fn next(&mut self) -> Option<&'a [u8]> {
-        let (word, rest) = cut_token(self.rest)?;
-        self.rest = rest;
-        Some(word)
+        match cut_token(self.rest) {
+            Some((word, rest)) => {
+                self.rest = rest;
+                Some(word)
+            }
+            None => {
+                self.rest = &[];
+                None
+            }
+        }
     }
 }

@@ -53,6 +53,7 @@ fn begin_blocks(alloc: Global, header: HeaderReader, line: &Line<'_>) -> Result<
 }
 
 // The reader after a line, while the header goes on.
+#[inline(never)]
 fn take_header_line(
     alloc: Global,
     mut reader: HeaderReader,

@@ -189,6 +189,37 @@ fn part_of(z: i128) -> i128
     z >> 56
 }
 
+// The sizes of the numbers of a line, together.
+#[inline(always)]
+fn sizes_of(line: &Line) -> u128
+    requires line { IsLine line.now }
+    ensures equals { result ≡ unsigned_abs line.now.centre + unsigned_abs line.now.width }
+    ensures small { result ≤ 2 ^ 57 }
+{
+    (line.centre.unsigned_abs() + line.width.unsigned_abs()) as u128
+}
+
+// Twice the sizes of the numbers of a tangent, together.
+#[inline(always)]
+fn changes_of(known: &Tangent) -> u128
+    requires known { IsSmallTangent known.now }
+    ensures equals { result ≡ (unsigned_abs known.now.value + unsigned_abs known.now.slope) * 2 }
+    ensures small { result ≤ 2 ^ 70 }
+{
+    (known.value.unsigned_abs() + known.slope.unsigned_abs()) * 2
+}
+
+// An error times the sizes of a line.
+#[inline(always)]
+fn spread(sizes: u128, error: u128) -> u128
+    requires sizes { sizes ≤ 2 ^ 57 }
+    requires error { error ≤ 2 ^ 62 }
+    ensures equals { result ≡ sizes * error }
+    ensures small { result ≤ 2 ^ 119 }
+{
+    sizes * error
+}
+
 // What the error becomes, where the product of the width and the slope is left out.
 #[inline(always)]
 fn error_of(line: &Line, known: &Tangent, beside: i128) -> u128
@@ -198,8 +229,7 @@ fn error_of(line: &Line, known: &Tangent, beside: i128) -> u128
     requires small { unsigned_abs beside ≤ 2 ^ 124 }
     ensures { result ≡ next_error line.now known.now }
 {
-    let sizes = line.centre.unsigned_abs() + line.width.unsigned_abs();
-    let changes = known.value.unsigned_abs() + known.slope.unsigned_abs();
-    let whole = sizes as u128 * known.error + changes * 2 + 2 * known.error + beside.unsigned_abs();
+    let spread = spread(sizes_of(line), known.error);
+    let whole = spread + changes_of(known) + 2 * known.error + beside.unsigned_abs();
     (whole >> 56) + 3
 }

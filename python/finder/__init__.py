@@ -26,10 +26,22 @@ made of others. Each search runs the command in a process of its own, and takes
 A time is a whole number of seconds since J2000, a text as `2000-05-01` or `2000-05-01T12:00:00.25`, a `datetime64`, a
 `datetime` or a `date` without a zone, all of these TDB, or an astropy `Time` of any scale. Between two ticks, `start`
 is rounded down and `end` up. A number is an int, a decimal text, a `Decimal`, a float (its shortest decimal), or an
-astropy quantity. Each refusal is an exception with the command's status and its line: `FinderError` and those below it.
+astropy quantity. Each refusal is an exception with the command's status, its line, and a hint of its likely causes:
+`FinderError` and those below it.
+
+What stands beside the windows is computed of the same files in doubles, and unproved: `seen` says when each event is
+seen, as almanacs print it, `values` where the bodies are then, in km and degrees, and `Sky` and `Series` give places at
+any time. `names` says what an almanac calls each event. `intervals` pairs rises and falls into the times during which
+something lasts, which is proved where an interval says so.
 """
 
+from ._almanac import SpanNotHeld, almanac
+from ._entries import Almanac, Contact, Entry, Event, Group, Numbers, Status
+from ._files import WrongFiles
+from ._intervals import Interval, intervals, on_at_start
+from ._names import names
 from ._numbers import cosine_of_degrees
+from ._pages import Format, page
 from ._parts import join, over_files
 from ._program import (
     EventRefused,
@@ -44,6 +56,7 @@ from ._program import (
     WordsRefused,
     WriteFailed,
 )
+from ._scales import Clock, Scale
 from ._search import (
     apsides,
     check,
@@ -61,32 +74,60 @@ from ._search import (
     stations,
     times,
 )
+from ._seen import Seen, seen
+from ._series import Series
 from ._sets import Span, Spans, TimeSet, WrongSets
-from ._windows import Windows
-from .spans import NoProgram, Summary, Window, WrongParts, WrongReport
+from ._sky import NoErfa, Sky
+from ._values import Place, Values, values
+from ._windows import Window, Windows
+from ._words import BarycentreWarning
+from .spans import NoProgram, Summary, WrongParts, WrongReport
+
+__version__ = "0.1"
 
 __all__ = [
+    "Almanac",
+    "BarycentreWarning",
+    "Clock",
+    "Contact",
+    "Entry",
+    "Event",
     "EventRefused",
     "FileFault",
     "FinderError",
+    "Format",
+    "Group",
     "Interrupted",
+    "Interval",
+    "NoErfa",
     "NoProgram",
+    "Numbers",
     "OutOfMemory",
+    "Place",
     "ReadFailed",
+    "Scale",
+    "Seen",
+    "Series",
+    "Sky",
     "Span",
+    "SpanNotHeld",
     "SpanRefused",
     "Spans",
+    "Status",
     "Summary",
     "TimeSet",
     "TimedOut",
     "TooManyLeaves",
+    "Values",
     "Window",
     "Windows",
     "WordsRefused",
     "WriteFailed",
+    "WrongFiles",
     "WrongParts",
     "WrongReport",
     "WrongSets",
+    "almanac",
     "apsides",
     "check",
     "conjunctions",
@@ -95,14 +136,20 @@ __all__ = [
     "distance",
     "far",
     "find",
+    "intervals",
     "join",
+    "names",
     "near",
     "occultations",
+    "on_at_start",
     "oppositions",
     "over_files",
+    "page",
     "retrograde",
+    "seen",
     "separation",
     "separation_extremes",
     "stations",
     "times",
+    "values",
 ]

@@ -14,6 +14,13 @@ End = Literal["first", "last"]
 UNITS = {1: "s", 1_000: "ms"}
 
 
+def datetime64_of(ticks: npt.NDArray[np.int64], tick: int) -> npt.NDArray[np.datetime64]:
+    """Ticks since J2000 (TDB) on its calendar, exactly, to the second or the millisecond."""
+    unit = UNITS[tick]
+    times: npt.NDArray[np.datetime64] = J2000.astype(f"datetime64[{unit}]") + ticks.astype(f"m8[{unit}]")
+    return times
+
+
 class Ends:
     """What has `first` and `last`: arrays of int64, ticks since J2000 (TDB) of which `tick` are in a second."""
 
@@ -23,11 +30,7 @@ class Ends:
 
     def datetime64(self, which: End = "last") -> npt.NDArray[np.datetime64]:
         """The first or the last ticks on the calendar of TDB, exactly, to the second or the millisecond."""
-        unit = UNITS[self.tick]
-        times: npt.NDArray[np.datetime64] = J2000.astype(f"datetime64[{unit}]") + self._ticks(which).astype(
-            f"m8[{unit}]"
-        )
-        return times
+        return datetime64_of(self._ticks(which), self.tick)
 
     def time(self, which: End = "last") -> Any:
         """The first or the last ticks as an astropy `Time`, of scale TDB, to 10^-11 seconds."""

@@ -23,7 +23,7 @@ def decimal_text(value: Number, unit: str = "km") -> str:
     if hasattr(value, "to_value"):
         value = value.to_value(unit)
     if isinstance(value, (bool, Fraction)) or not isinstance(value, (numbers.Real, Decimal)):
-        raise TypeError(f"no number: {value!r}")
+        raise TypeError(f"no number: {value!r}; write an int, a decimal as a text, a Decimal, a float or a quantity")
     if isinstance(value, numbers.Integral):
         return str(int(value))
     if not math.isfinite(value):

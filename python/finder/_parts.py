@@ -1,17 +1,20 @@
-"""Searches over files one by one, and their windows joined."""
+"""Searches over files one by one, by threads or by an executor, and their windows joined."""
 
 from __future__ import annotations
 
 import concurrent.futures
 import os
-from collections.abc import Callable, Iterable
+from collections.abc import Callable, Iterable, Sequence
 from typing import Any, Optional, Union
 
 from . import spans
-from ._program import WAIT, Program, runs_of
+from ._program import WAIT, Program, Runs, runs_of
 from ._search import Files, check, file_names
 from ._times import Time, ticks_of_time
 from ._windows import Windows
+
+# What is called with the number of files that have been done since the last call, as tqdm's `update` takes it.
+Progress = Callable[[int], object]
 
 
 def join(parts: Iterable[Windows]) -> Windows:
@@ -29,6 +32,8 @@ def over_files(
     end: Optional[Time] = None,
     tick: int = 1,
     jobs: int = 1,
+    executor: Optional[concurrent.futures.Executor] = None,
+    progress: Optional[Progress] = None,
     program: Program = None,
     timeout: Optional[float] = None,
     **options: Any,
@@ -42,30 +47,84 @@ def over_files(
     has a header of its own. It is searched up to the begin of the next one. So far fewer blocks are held at once than
     by one search, and there may be more than 64 files and 16,384 blocks; the windows are the same. Files that the span
     does not reach are read once, and not searched. Where one search fails, all are ended, and its exception is raised.
+    `progress` is called with the number of files that were done, which sum up to all.
+
+    With an `executor` the searches run where it runs them, and `jobs` is not looked at: a `ThreadPoolExecutor`, a
+    `ProcessPoolExecutor`, `Client(..).get_executor()` of dask.distributed, an `MPIPoolExecutor` of mpi4py. What it is
+    given is pickled, and its exceptions come back. The package, the command and the files have to be there under the
+    same names: `program` is a name, or $FINDER there. The `timeout` is that of each search. Where one fails, those that
+    wait are cancelled, and those that run go on to their end. The executor is not shut down.
     """
     names = file_names(files)
+    if not names:
+        raise spans.WrongParts("no file is named")
     first = [] if header is None else [os.fspath(header)]
-    runs = runs_of(program, timeout)
+    low = None if start is None else ticks_of_time(start, tick, up=False) * (1_000 // tick)
+    high = None if end is None else ticks_of_time(end, tick, up=True) * (1_000 // tick)
+    with _Calls(executor, jobs, program, timeout) as calls:
+        read = calls.results(check, [([*first, name],) for name in names])
+        plan = spans.spans_of_files(names, read, low, high)
+        if progress is not None and len(plan) < len(names):
+            progress(len(names) - len(plan))
+        told = {**options, "tick": tick}
+        rows = [(search, [*first, name], words, _time_of(begin), _time_of(stop), told) for begin, stop, name in plan]
+        return join(calls.results(_part, rows, progress))
 
-    def part(begin: int, stop: int, name: str) -> Windows:
-        span = {"start": _time_of(begin), "end": _time_of(stop)}
-        found = search([*first, name], *words, tick=tick, program=runs, **span, **options)
-        if not isinstance(found, Windows):
-            raise TypeError("the windows of parts are joined, and not sets of times: one search takes up to 64 files")
-        return found
 
-    with concurrent.futures.ThreadPoolExecutor(max(1, jobs)) as pool:
-        try:
-            found = _results([pool.submit(check, [*first, name], program=runs) for name in names])
-            if not found:
-                raise spans.WrongParts("no file is named")
-            low = None if start is None else ticks_of_time(start, tick, up=False) * (1_000 // tick)
-            high = None if end is None else ticks_of_time(end, tick, up=True) * (1_000 // tick)
-            plan = spans.spans_of_files(names, found, low, high)
-            return join(_results([pool.submit(part, *row) for row in plan]))
-        except BaseException:
-            runs.stop()
-            raise
+class _Calls:
+    """The calls that one call makes: by threads of its own, whose processes end with it, or by an executor."""
+
+    def __init__(
+        self, executor: Optional[concurrent.futures.Executor], jobs: int, program: Program, timeout: Optional[float]
+    ) -> None:
+        self._runs = runs_of(program, timeout) if executor is None else None
+        self._pool = executor or concurrent.futures.ThreadPoolExecutor(max(1, jobs))
+        self._options: dict[str, Any] = {"program": self._runs}
+        if executor is not None:
+            self._options = {"program": _name_of(program), "timeout": timeout}
+        self._futures: list[concurrent.futures.Future[Any]] = []
+
+    def __enter__(self) -> _Calls:
+        return self
+
+    def __exit__(self, kind: Optional[type[BaseException]], *rest: object) -> None:
+        if kind is not None:
+            if self._runs:
+                self._runs.stop()
+            for future in self._futures:
+                future.cancel()
+        if self._runs:
+            self._pool.shutdown()
+
+    def results(
+        self, function: Callable[..., Any], rows: Iterable[Sequence[Any]], progress: Optional[Progress] = None
+    ) -> list[Any]:
+        """What a function returns for each row of its words."""
+        self._futures = [self._pool.submit(function, *row, **self._options) for row in rows]
+        return results(self._futures, progress)
+
+
+def _part(
+    search: Callable[..., Windows],
+    files: list[str],
+    words: tuple[Any, ...],
+    start: str,
+    end: str,
+    options: dict[str, Any],
+    **own: Any,
+) -> Windows:
+    """One part, where the executor runs it."""
+    found = search(files, *words, start=start, end=end, **options, **own)
+    if not isinstance(found, Windows):
+        raise TypeError("the windows of parts are joined, and not sets of times: one search takes up to 64 files")
+    return found
+
+
+def _name_of(program: Program) -> Optional[str]:
+    """A command as an executor can be told it."""
+    if isinstance(program, Runs):
+        raise TypeError("an executor wants the name of the command")
+    return None if program is None else os.fspath(program)
 
 
 def _time_of(milliseconds: int) -> str:
@@ -73,13 +132,14 @@ def _time_of(milliseconds: int) -> str:
     return spans.time_text(milliseconds, 1_000)
 
 
-def _results(futures: list[concurrent.futures.Future[Any]]) -> list[Any]:
+def results(futures: Sequence[concurrent.futures.Future[Any]], progress: Optional[Progress] = None) -> list[Any]:
     """The results of all, or the exception of the first that fails."""
-    waiting = True
-    while waiting:
-        done, left = concurrent.futures.wait(futures, WAIT, concurrent.futures.FIRST_EXCEPTION)
+    left: set[concurrent.futures.Future[Any]] = set(futures)
+    while left:
+        done, left = concurrent.futures.wait(left, WAIT, concurrent.futures.FIRST_EXCEPTION)
         for future in futures:
             if future in done:
                 future.result()
-        waiting = bool(left)
+        if progress is not None and done:
+            progress(len(done))
     return [future.result() for future in futures]

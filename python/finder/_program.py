@@ -10,11 +10,12 @@ import subprocess
 import threading
 import time
 from collections.abc import Sequence
+from dataclasses import dataclass, field
 from typing import Optional, Union
 
 from . import spans
+from ._hints import TOO_LONG, causes_of, told
 
-Program = Union[str, "os.PathLike[str]", "Runs", None]
 # Seconds after which a wait begins anew: an interrupt that comes just before a wait begins is seen only when it ends.
 WAIT = 0.2
 NUMBERED = re.compile(r"(?:^|: )([0-9]+) ([A-Z][A-Za-z]*)(?: (\S+))?$")
@@ -53,6 +54,11 @@ class FinderError(Exception):
         """What follows the name: the option of 63, or the number of a bad number."""
         found = NUMBERED.search(self.line)
         return found[3] if found else None
+
+    @property
+    def hint(self) -> str:
+        """The likely causes, the likeliest first, and what to write instead."""
+        return told(causes_of(self.status, self.number, self.detail))
 
 
 class WordsRefused(FinderError, ValueError):
@@ -106,6 +112,11 @@ class Interrupted(FinderError):
 class TimedOut(FinderError, TimeoutError):
     """The search took longer than its `timeout`, and was ended."""
 
+    @property
+    def hint(self) -> str:
+        """The likely causes, the likeliest first, and what to write instead."""
+        return told(TOO_LONG)
+
 
 OF_STATUS: dict[int, type[FinderError]] = {
     2: WordsRefused,
@@ -128,10 +139,18 @@ def _end(process: subprocess.Popen[bytes]) -> None:
             pass
 
 
+@dataclass
+class _Begun:
+    """The processes of a run that have begun; once it is over, none begins any more."""
+
+    processes: list[subprocess.Popen[bytes]] = field(default_factory=list)
+    is_over: bool = False
+
+
 class Runs:
     """The processes of one call, which end with it."""
 
-    def __init__(self, program: "Union[str, os.PathLike[str], None]", timeout: Optional[float]) -> None:
+    def __init__(self, program: Union[str, os.PathLike[str], None], timeout: Optional[float]) -> None:
         self._program = spans.find_program(program)
         self._timeout = timeout
         self._deadline = None if timeout is None else time.monotonic() + timeout
@@ -139,10 +158,10 @@ class Runs:
         self._lock = threading.Lock()
         self._stopped = False
 
-    def _start(self, words: Sequence[Union[str, bytes]], begun: list[subprocess.Popen[bytes]]) -> None:
+    def _start(self, words: Sequence[Union[str, bytes]], begun: _Begun) -> None:
         """Starts the command, in a group of its own, unless the call is over, and adds it to those that have begun."""
         with self._lock:
-            if self._stopped:
+            if self._stopped or begun.is_over:
                 raise Interrupted(-signal.SIGKILL, "finder: the call is over")
             try:
                 process = subprocess.Popen(
@@ -155,20 +174,23 @@ class Runs:
             except OSError as error:
                 raise spans.NoProgram(error.errno, f"{self._program} cannot be run: {error.strerror}") from error
             self._live.add(process)
-            begun.append(process)
+            begun.processes.append(process)
 
     def run(self, words: Sequence[Union[str, bytes]]) -> str:
         """What the command prints for these words."""
-        begun: list[subprocess.Popen[bytes]] = []
+        begun = _Begun()
         try:
             # (an interrupt comes to the main thread alone, and so not between a process and its record)
             with concurrent.futures.ThreadPoolExecutor(1) as pool:
                 pool.submit(self._start, words, begun).result()
-            out, err = self._output(begun[0])
+            out, err = self._output(begun.processes[0])
         finally:
-            for process in begun:
+            # (where the interrupt comes while the thread starts, nothing has waited for what that one starts)
+            with self._lock:
+                begun.is_over = True
+            for process in begun.processes:
                 self._finish(process)
-        return _answer(begun[0].returncode, out, err)
+        return _answer(begun.processes[0].returncode, out, err)
 
     def _output(self, process: subprocess.Popen[bytes]) -> tuple[bytes, bytes]:
         """What the command wrote to both outputs until it ended."""
@@ -196,6 +218,9 @@ class Runs:
             self._stopped = True
             for process in self._live:
                 _end(process)
+
+
+Program = Union[str, os.PathLike[str], Runs, None]
 
 
 def _answer(status: int, out: bytes, err: bytes) -> str:

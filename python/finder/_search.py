@@ -4,7 +4,7 @@ from __future__ import annotations
 
 import os
 from collections.abc import Iterable
-from typing import TYPE_CHECKING, Any, Literal, Optional, TypedDict, Union
+from typing import TYPE_CHECKING, Any, Literal, Optional, TypedDict, Union, get_args
 
 from . import spans
 from ._numbers import Number, cosine_of_degrees, decimal_text
@@ -12,10 +12,19 @@ from ._program import Program, runs_of
 from ._sets import TimeSet
 from ._times import Time, ticks_of_time
 from ._windows import Windows
+from ._words import one_of, radii_of, warn_of_barycentre, whole
 from .spans import Summary
 
 if TYPE_CHECKING:
     from typing_extensions import Unpack
+else:
+
+    class Unpack:
+        """As `typing.Unpack`, which Python has since 3.11: here the hint is the options themselves."""
+
+        def __class_getitem__(cls, options: Any) -> Any:
+            return options
+
 
 Kind = Literal["coord", "radius", "apsis", "conj", "oppo", "station", "sep", "sepext", "any", "full", "annular"]
 SetKind = Literal["coord", "radius", "apsis", "station", "sep", "sepext"]
@@ -28,7 +37,7 @@ Frame = Literal["eq", "ecl"]
 Axis = Literal["x", "y", "z"]
 Direction = Literal["any", "rise", "fall"]
 Cut = Literal["half", "third"]
-Files = Union[str, "os.PathLike[str]", Iterable[Union[str, "os.PathLike[str]"]]]
+Files = Union[str, os.PathLike[str], Iterable[Union[str, os.PathLike[str]]]]
 
 
 class SetOptions(TypedDict, total=False):
@@ -54,20 +63,69 @@ class Options(SetOptions, total=False):
 
 
 # What a report says of an option that is not given. (A span that is not given is that of the files.)
-DEFAULTS = {"second": "-", "frame": "eq", "axis": "-"}
+DEFAULTS = {"second": "-", "observer": "ssb", "frame": "eq", "axis": "-"}
+# The words that an option may be.
+WORDS: dict[str, tuple[str, ...]] = {
+    "target": get_args(Body),
+    "second": get_args(Body),
+    "observer": (*get_args(Body), "ssb"),
+    "frame": get_args(Frame),
+    "axis": get_args(Axis),
+    "relation": get_args(Relation),
+    "dir": get_args(Direction),
+    "cut": get_args(Cut),
+}
+WHOLE = ("tick", "width", "depth", "workers")
 
 
 def file_names(files: Files) -> list[str]:
     """The names of one file or of several."""
     if isinstance(files, (str, os.PathLike)):
-        return [os.fspath(files)]
-    return [os.fspath(file) for file in files]
+        return [_file_name(files)]
+    if files is None or hasattr(files, "read") or isinstance(files, bytes) or not isinstance(files, Iterable):
+        raise TypeError(f"files are a name, a path, or several of them in order of time, and not {_shown(files)}")
+    return [_file_name(file) for file in files]
+
+
+def some_names(files: Files) -> list[str]:
+    """The names of files, of which there is one at least."""
+    names = file_names(files)
+    if not names:
+        raise ValueError("no file is named: a name, a path, or several of them in order of time are wanted")
+    return names
+
+
+def _file_name(file: Union[str, os.PathLike[str]]) -> str:
+    if not isinstance(file, (str, os.PathLike)):
+        raise TypeError(f"a file is a name or a path, and not {_shown(file)}")
+    name = os.fspath(file)
+    if not name:
+        raise ValueError("no file is named: the name is empty")
+    return name
+
+
+def _shown(file: object) -> str:
+    """What was given in place of a name."""
+    if hasattr(file, "read"):
+        return f"an opened file: give its name, {getattr(file, 'name', 'as a text')!r}"
+    return repr(file)
+
+
+def _refuse_words(options: dict[str, Any], kinds: tuple[str, ...]) -> None:
+    """Refuses words that are none, before the command does, and says what to write; warns of a missing observer."""
+    one_of("kind", options["kind"], kinds)
+    for name, allowed in WORDS.items():
+        if options.get(name) is not None or name == "target":
+            one_of("body" if allowed[0] == "mercury" else name, options[name], allowed)
+    for name in WHOLE:
+        whole(name, options[name])
+    warn_of_barycentre(options["kind"], options["target"], options["observer"])
 
 
 def _said(command: str, options: dict[str, Any], files: Files, program: Program, timeout: Optional[float]) -> str:
     """What a command prints for these options of files."""
     words = [f"--{name}={value}" for name, value in options.items() if value is not None]
-    return runs_of(program, timeout).run([command, *words, "--", *file_names(files)])
+    return runs_of(program, timeout).run([command, *words, "--", *some_names(files)])
 
 
 def _is_answer(report: Union[spans.Report, TimeSet], options: dict[str, Any]) -> bool:
@@ -88,7 +146,7 @@ def find(
     target: Body,
     second: Optional[Body] = None,
     *,
-    observer: Observer = "ssb",
+    observer: Optional[Observer] = None,
     frame: Optional[Frame] = None,
     axis: Optional[Axis] = None,
     ref: Optional[Number] = None,
@@ -104,7 +162,11 @@ def find(
     program: Program = None,
     timeout: Optional[float] = None,
 ) -> Windows:
-    """The windows of the events of a kind in files, with the options of `finder find` (`docs/USAGE.md`)."""
+    """The windows of the events of a kind in files, with the options of `finder find` (`docs/USAGE.md`). `ref` and both
+    `radii` are in km, but of `sep` the cosine of an angle; `width` is in ticks, of which `tick` are in a second. Where
+    no observer is named it is `ssb`, the barycentre of the solar system; for what is asked from a planet that is told
+    by a `BarycentreWarning`."""
+    pair = (None, None) if radii is None else radii_of(radii)
     options: dict[str, Any] = {
         "kind": kind,
         "target": target,
@@ -113,8 +175,8 @@ def find(
         "frame": frame,
         "axis": axis,
         "ref": None if ref is None else decimal_text(ref),
-        "radius1": None if radii is None else decimal_text(radii[0]),
-        "radius2": None if radii is None else decimal_text(radii[1]),
+        "radius1": None if radii is None else decimal_text(pair[0]),
+        "radius2": None if radii is None else decimal_text(pair[1]),
         "dir": dir,
         "tick": tick,
         "from": _time_word(start, tick, up=False),
@@ -124,6 +186,7 @@ def find(
         "workers": workers,
         "cut": cut,
     }
+    _refuse_words(options, get_args(Kind))
     report = spans.read_report(_said("find", options, files, program, timeout))
     if not _is_answer(report, options):
         raise spans.WrongReport(f"a report of another request: {report.request}")
@@ -139,7 +202,7 @@ def times(
     relation: Relation,
     ref: Optional[Number] = None,
     ref2: Optional[Number] = None,
-    observer: Observer = "ssb",
+    observer: Optional[Observer] = None,
     frame: Optional[Frame] = None,
     axis: Optional[Axis] = None,
     tick: Literal[1, 1000] = 1,
@@ -183,6 +246,7 @@ def times(
         "workers": workers,
         "cut": cut,
     }
+    _refuse_words(options, get_args(SetKind))
     found = TimeSet.of_text(_said("set", options, files, program, timeout))
     if not _is_answer(found, options):
         raise spans.WrongReport(f"a report of another request: {found.request}")
@@ -200,7 +264,7 @@ def _time_word(time: Optional[Time], tick: int, up: bool) -> Optional[str]:
 
 def check(files: Files, *, program: Program = None, timeout: Optional[float] = None) -> Summary:
     """The span, the blocks and the columns of files, which are read by all rules of their format."""
-    return spans.read_summary(runs_of(program, timeout).run(["check", "--", *file_names(files)]))
+    return spans.read_summary(runs_of(program, timeout).run(["check", "--", *some_names(files)]))
 
 
 def coordinate(files: Files, target: Body, axis: Axis, value: Number = 0, **options: Unpack[Options]) -> Windows:
@@ -262,14 +326,14 @@ def occultations(
     target: Body,
     second: Body,
     radii: tuple[Number, Number],
-    *,
+    *apart: Number,
     kind: Literal["any", "full", "annular"] = "any",
     **options: Unpack[Options],
 ) -> Windows:
     """The times at which the target's disc begins (`rise`) and ends (`fall`) to cover a part of the second body's
-    (`any`), all of it (`full`), or to lie within it (`annular`), of spheres with these radii in km. The target is the
-    nearer body, and the observer is outside of both."""
-    return find(files, kind, target, second, radii=radii, **options)
+    (`any`), all of it (`full`), or to lie within it (`annular`), of spheres with these radii in km, a pair. The target
+    is the nearer body, and the observer is outside of both."""
+    return find(files, kind, target, second, radii=radii_of(radii, apart), **options)
 
 
 def near(

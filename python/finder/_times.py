@@ -15,6 +15,7 @@ Time = Union[int, str, np.datetime64, datetime.datetime, datetime.date, Any]
 J2000 = np.datetime64("2000-01-01T12:00:00", "s")
 J2000_DAYS = 2_451_545
 TEXT = re.compile(r"([0-9]{4}|-[0-9]{6})-[0-9]{2}-[0-9]{2}(?:[T ]([0-9]{2}:[0-9]{2})(:[0-9]{2})?(\.[0-9]+)?)?")
+ZONE = re.compile(r"(.*[0-9:])(?:Z|z|[+-][0-9]{2}:?[0-9]{2}| ?UTC)")
 # How near to a tick an astropy time is that tick: its two doubles hold times to some 10^-11 seconds.
 NEAR = Fraction(1, 10**9)
 
@@ -22,13 +23,19 @@ NEAR = Fraction(1, 10**9)
 def _of_text(text: str) -> Fraction:
     """The seconds of a text: a day, or a day and a time, with seconds and their fraction or without."""
     found = TEXT.fullmatch(text)
+    zone = ZONE.fullmatch(text)
+    if not found and zone and TEXT.fullmatch(zone[1]):
+        raise ValueError(
+            f"a time with a zone is of UTC, and times are TDB: of {text!r} write astropy.time.Time({zone[1]!r}, "
+            f"scale='utc') where it is UTC, and {zone[1]!r} where it is TDB"
+        )
     if not found or (found[4] and not found[3]):
-        raise ValueError(f"no time: {text!r}")
+        raise ValueError(f"no time: {text!r}; write it as 2000-05-01 or 2000-05-01T12:00:00")
     day = text[: found.end(1) + 6]
     try:
         whole = spans.ticks_of(f"{day}T{found[2] or '00:00'}{found[3] or ':00'}")
     except spans.WrongReport:
-        raise ValueError(f"no time: {text!r}") from None
+        raise ValueError(f"no time of the calendar: {text!r}") from None
     return whole + Fraction(f"0{found[4] or ''}")
 
 
@@ -51,7 +58,10 @@ def _part(time: np.datetime64, whole: np.datetime64) -> Fraction:
 def _of_datetime(time: datetime.datetime) -> Fraction:
     """The seconds of a `datetime` without a zone; a `Timestamp` of pandas is one, with nanoseconds."""
     if time.tzinfo is not None:
-        raise TypeError("a time with a zone is of UTC, and the times of finder are TDB: give it as an astropy Time")
+        raise TypeError(
+            "a time with a zone is of UTC, and times are TDB: write astropy.time.Time(..), which is turned into TDB, "
+            "or leave the zone out where it is TDB"
+        )
     if hasattr(time, "to_datetime64"):
         return _of_datetime64(time.to_datetime64())
     days = (time.date() - datetime.date(2000, 1, 1)).days
@@ -71,7 +81,7 @@ def _of_astropy(time: Any, tick: int) -> Fraction:
 
 def ticks_of_time(time: Time, tick: int, up: bool) -> int:
     """The ticks since J2000 of a time, rounded up or down to a whole number of them."""
-    if isinstance(time, bool):
+    if isinstance(time, (bool, np.bool_)):
         raise TypeError(f"no time: {time!r}")
     if isinstance(time, (int, np.integer)) and not isinstance(time, np.timedelta64):
         seconds = Fraction(int(time))

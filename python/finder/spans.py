@@ -18,8 +18,8 @@ counts are wrong, reports of different requests, and any that are not those of t
 none twice, none that overlap or leave times out. Nothing is printed then.
 
 TIME is a time of TDB as `finder` takes it: `2000-05-01T00:00:00`, with three digits more where a search counts
-milliseconds, or a whole number of seconds since J2000. The command is $FINDER, or the clone's that this file is in, or
-`finder` on the path.
+milliseconds, or a whole number of seconds since J2000. The command is $FINDER, or the one that was installed beside
+this file, or the clone's that this file is in, or `finder` on the path.
 
 Status: 0; 1 refused, and standard error says why; 2 the words; 3 a file could not be read, or standard output failed.
 """
@@ -34,8 +34,10 @@ import sys
 from collections.abc import Iterable, Sequence
 from dataclasses import dataclass
 from pathlib import Path
-from typing import NamedTuple, Optional
+from typing import NamedTuple, Optional, Union
 
+# The program as it is shipped, and as an installed package has it.
+PROGRAM = "finder-x86_64-linux"
 DAY = 86_400
 # The days from 1 March of year 0 to 1 January 2000, and those of 400 years.
 DAYS_TO_2000 = 730_425
@@ -323,13 +325,16 @@ def spans_of_files(
     return [(begin, stop, name) for begin, stop, name in parts if begin < stop]
 
 
-def find_program(named: "Optional[str | os.PathLike[str]]" = None) -> str:
-    """The command: the one that is named, else $FINDER, else the clone's that this file is in, else `finder` on the
-    path."""
+def find_program(named: Optional[Union[str, os.PathLike[str]]] = None) -> str:
+    """The command: the one that is named, else $FINDER, else the one that was installed beside this file, else the
+    clone's that this file is in, else `finder` on the path."""
     chosen = named or os.environ.get("FINDER")
     if chosen:
         return os.fspath(chosen)
-    top = Path(__file__).resolve().parent.parent.parent
+    here = Path(__file__).resolve().parent
+    if (here / PROGRAM).is_file():
+        return str(here / PROGRAM)
+    top = here.parent.parent
     if (top / "finder").is_file() and (top / "release" / "common").is_file():
         return str(top / "finder")
     found = shutil.which("finder")

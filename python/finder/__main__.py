@@ -1,0 +1,188 @@
+"""The command `python -m finder`: what is printed of proved windows, of times as they are seen.
+
+Status: 0; 1 refused, and standard error says why; 2 the words; 3 standard output failed.
+"""
+
+from __future__ import annotations
+
+import argparse
+import datetime
+import difflib
+import os
+import sys
+import zoneinfo
+from collections.abc import Sequence
+from typing import Optional
+
+from ._almanac import Machine, almanac_of_seconds, groups_of, search_count
+from ._entries import Group
+from ._pages import Format, page
+from ._program import FinderError, runs_of
+from ._scales import FIRST_UTC_YEAR, UTC, Clock, Scale
+from ._sky import NoErfa
+from .spans import NoProgram, WrongReport
+
+GROUPS = ", ".join(group.value for group in Group)
+ALMANAC = f"""\
+Prints an almanac of a year, or of several, of JPL's files: the phases, apsides and nodes of the Moon, the seasons,
+eclipses of both sorts with their kinds and contacts, transits, oppositions, conjunctions, stations and greatest
+elongations of the planets, meetings of planets, and of the Moon with them.
+
+Each entry has the time at which it is seen from the Earth's centre, its numbers, and the certified window in TDB, which
+is proved. Times as seen and numbers are computed in doubles, and not proved."""
+EXAMPLES = """\
+examples:
+  python -m finder almanac 2000 examples/de405-2000.asc
+  python -m finder almanac 2026 header.405 ascp2020.405 --format html --tz Europe/Berlin >2026.html
+  python -m finder almanac 2020-2029 header.405 ascp2020.405 --only eclipses,seasons --format ics >sky.ics
+
+It wants erfa (Debian: python3-erfa; pip: pyerfa)."""
+STATUS = "status: 0; 1 refused, and standard error says why; 2 the words; 3 standard output failed"
+LAST_YEAR = 9_998
+
+
+def _parser() -> argparse.ArgumentParser:
+    plain = argparse.RawDescriptionHelpFormatter
+    whole = argparse.ArgumentParser(
+        prog="python -m finder",
+        description="Prints what was found in JPL ephemerides by proved searches, at the times at which it is seen.",
+        epilog=f"`python -m finder COMMAND --help` tells the words of a command. {STATUS.capitalize()}.",
+        allow_abbrev=False,
+    )
+    commands = whole.add_subparsers(dest="command", required=True, metavar="COMMAND")
+    command = commands.add_parser(
+        "almanac",
+        help="an almanac of a year: text, a page, a table or a calendar",
+        description=ALMANAC,
+        epilog=f"{EXAMPLES}\n\n{STATUS}",
+        allow_abbrev=False,
+        formatter_class=plain,
+    )
+    command.set_defaults(refuse=command.error)
+    command.add_argument("years", type=_years, metavar="YEAR[-YEAR]", help="a year, or the first and the last one")
+    command.add_argument("files", nargs="+", metavar="FILE", help="a header and files in order of time")
+    _add_options(command)
+    return whole
+
+
+def _add_options(command: argparse.ArgumentParser) -> None:
+    forms = [form.value for form in Format]
+    scales = [scale.value for scale in Scale]
+    command.add_argument("--format", choices=forms, default="text", help="text without it")
+    command.add_argument("--scale", choices=scales, help="of times as seen: utc, or tt for a year before 1972")
+    command.add_argument("--tz", type=_zone, metavar="ZONE", help="a time zone, as Europe/Berlin, for --scale utc")
+    command.add_argument("--jobs", type=_count, default=1, metavar="N", help="searches at once: 1 without it")
+    command.add_argument("--only", type=_groups, default=tuple(Group), metavar="GROUP,..", help=f"of {GROUPS}")
+    command.add_argument("--program", metavar="FINDER", help="the command finder, else that of the package")
+
+
+def _years(text: str) -> tuple[int, int]:
+    first, _, last = text.partition("-")
+    try:
+        made = int(first), int(last or first)
+    except ValueError:
+        raise argparse.ArgumentTypeError(f"{text!r} is no year: write 2026, or 2020-2029 for several") from None
+    if not 1 <= made[0] <= made[1] <= LAST_YEAR:
+        raise argparse.ArgumentTypeError(f"{text!r} are no years from 1 to {LAST_YEAR} in order")
+    return made
+
+
+def _count(text: str) -> int:
+    if not text.isascii() or not text.isdigit() or int(text) == 0:
+        raise argparse.ArgumentTypeError(f"{text!r} is no number of searches: write 4")
+    return int(text)
+
+
+def _zone(text: str) -> datetime.tzinfo:
+    try:
+        return zoneinfo.ZoneInfo(text)
+    except (zoneinfo.ZoneInfoNotFoundError, ValueError, OSError):
+        known = {name.lower(): name for name in sorted(zoneinfo.available_timezones())}
+        if not known:
+            raise argparse.ArgumentTypeError("no time zones are here (Debian: tzdata; pip: tzdata)") from None
+        near = difflib.get_close_matches(text.lower(), known, 1, 0)[0]
+        raise argparse.ArgumentTypeError(f"no time zone is {text!r}: did you mean {known[near]!r}?") from None
+
+
+def _groups(text: str) -> tuple[Group, ...]:
+    try:
+        return groups_of(text.split(","))
+    except ValueError as error:
+        raise argparse.ArgumentTypeError(str(error)) from None
+
+
+def _clock(words: argparse.Namespace) -> Clock:
+    """The clock that is asked for; ends the program with status 2 where there is none such."""
+    first = words.years[0]
+    scale = Scale(words.scale) if words.scale else Scale.UTC if first >= FIRST_UTC_YEAR else Scale.TT
+    if words.tz and scale is not Scale.UTC:
+        words.refuse(f"a time zone is of UTC, and the scale is {scale.value}: leave --tz out")
+    if scale is Scale.UTC and first < FIRST_UTC_YEAR:
+        words.refuse(f"UTC of whole seconds began in {FIRST_UTC_YEAR}: write --scale tt")
+    if words.format == Format.ICS.value and first < FIRST_UTC_YEAR:
+        words.refuse(f"a calendar is of UTC, which began in {FIRST_UTC_YEAR}: choose another --format")
+    if words.tz:
+        return Clock(scale, words.tz, str(words.tz))
+    return Clock(scale, UTC, scale.value.upper())
+
+
+class _Meter:
+    """How many of the searches are done, on standard error where that is a terminal."""
+
+    def __init__(self, total: int) -> None:
+        self._total = total
+        self._done = 0
+        self._on = sys.stderr.isatty()
+
+    def update(self, count: int) -> None:
+        """Says that some more are done; once all are, the line is cleared."""
+        self._done += count
+        if self._on:
+            line = f"finder: {self._done} of {self._total} searches" if self._done < self._total else ""
+            print(f"\r{line}\x1b[K", end="", file=sys.stderr, flush=True)
+
+    def clear(self) -> None:
+        """Clears the line of a search that failed."""
+        if self._on and self._done < self._total:
+            print("\r\x1b[K", end="", file=sys.stderr, flush=True)
+
+
+def _made(words: argparse.Namespace, clock: Clock) -> str:
+    """The almanac in the form that is asked for."""
+    first, last = words.years
+    span = clock.start_of(first), clock.start_of(last + 1)
+    title = f"Almanac {first}" if first == last else f"Almanac {first} to {last}"
+    meter = _Meter(search_count(words.only))
+    try:
+        machine = Machine(words.files, runs_of(words.program, None), words.jobs, meter.update)
+        return page(almanac_of_seconds(machine, *span, title, words.only), words.format, clock)
+    finally:
+        meter.clear()
+
+
+def main(arguments: Optional[Sequence[str]] = None) -> int:
+    """Runs the command, and returns its status."""
+    words = _parser().parse_args(arguments)
+    clock = _clock(words)
+    try:
+        text = _made(words, clock)
+    except (FinderError, NoProgram, NoErfa, WrongReport, ValueError, OSError) as error:
+        print(f"finder: {str(error).removeprefix('finder: ')}", file=sys.stderr)
+        if isinstance(error, FinderError):
+            print(f"finder: likely: {error.hint}", file=sys.stderr)
+        return 1
+    except KeyboardInterrupt:
+        return 130
+    try:
+        sys.stdout.buffer.write(text.encode())
+        sys.stdout.flush()
+    except OSError as error:
+        print(f"finder: standard output: {error.strerror}", file=sys.stderr)
+        # (what is left is not written once more as Python ends)
+        os.dup2(os.open(os.devnull, os.O_WRONLY), sys.stdout.fileno())
+        return 3
+    return 0
+
+
+if __name__ == "__main__":
+    sys.exit(main())

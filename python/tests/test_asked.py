@@ -1,0 +1,188 @@
+"""What is asked wrongly is refused before the command runs, with what to write instead; refusals of the command have
+hints of their likely causes."""
+
+import inspect
+import itertools
+import pickle
+import typing
+import warnings
+
+import numpy as np
+
+import finder
+from finder._hints import OF_NUMBER, OF_OPTION, OF_STATUS
+from tests.common import TOP, YEAR, InFolder, stand_in
+
+EARTH = {"observer": "earth"}
+DISCS = (6051.8, 695_700)
+
+
+class Asked(InFolder):
+    def setUp(self):
+        super().setUp()
+        # (what is refused here never runs)
+        self.never = {"program": stand_in(self.folder, "exit 1"), **EARTH}
+
+    def assert_says(self, kind, says, call):
+        with self.assertRaises(kind) as caught:
+            call()
+        for word in says:
+            self.assertIn(word, str(caught.exception))
+
+    def test_files(self):
+        with open(YEAR) as file:
+            self.assert_says(TypeError, ["opened file", str(YEAR)], lambda: finder.apsides(file, "moon", **self.never))
+            self.assert_says(TypeError, ["opened file"], lambda: finder.check([YEAR, file]))
+        for wrong in (None, 5, b"a", [None], [b"a"]):
+            self.assert_says(TypeError, ["a name"], lambda wrong=wrong: finder.apsides(wrong, "moon", **self.never))
+        for wrong in ([], "", [YEAR, ""]):
+            self.assert_says(ValueError, ["no file is named"], lambda wrong=wrong: finder.check(wrong))
+
+    def test_words(self):
+        for call, says in (
+            (lambda: finder.apsides(YEAR, "jupitr", **self.never), ["'jupitr'", "did you mean 'jupiter'?", "pluto"]),
+            (lambda: finder.apsides(YEAR, "Moon", **self.never), ["did you mean 'moon'?"]),
+            (lambda: finder.conjunctions(YEAR, "moon", "son", **self.never), ["did you mean 'sun'?"]),
+            (lambda: finder.apsides(YEAR, "moon", observer="erth"), ["did you mean 'earth'?", "ssb"]),
+            (lambda: finder.find(YEAR, "conjunction", "moon", "sun", **self.never), ["did you mean 'conj'?"]),
+            (lambda: finder.find(YEAR, "transits", "moon", "sun", **self.never), ["did you mean 'any'?"]),
+            (lambda: finder.find(YEAR, "zenith", "moon", **self.never), ["there are coord, radius"]),
+            (lambda: finder.times(YEAR, "conj", "moon", relation="less", **self.never), ["no kind", "sepext"]),
+            (lambda: finder.coordinate(YEAR, "moon", "Z", **self.never), ["no axis", "did you mean 'z'?"]),
+            (lambda: finder.stations(YEAR, "mars", frame="ecliptic", **self.never), ["did you mean 'ecl'?"]),
+            (lambda: finder.stations(YEAR, "mars", dir="up", **self.never), ["there are any, rise, fall"]),
+        ):
+            self.assert_says(ValueError, says, call)
+        self.assert_says(TypeError, ["body is one of mercury"], lambda: finder.apsides(YEAR, None, **self.never))
+
+    def test_numbers(self):
+        for name in ("width", "depth", "workers", "tick"):
+            for value in (60.0, "60", True, 1.5):
+                says = [f"{name} is a whole number"] + ([f"write {name}=60"] if value == 60.0 else [])
+                call = lambda name=name, value=value: finder.apsides(YEAR, "moon", **{name: value}, **self.never)
+                self.assert_says(TypeError, says, call)
+        found = finder.apsides(YEAR, "moon", width=np.int64(60), end="2000-02-01", **EARTH)
+        self.assertEqual(found.asked["width"], "60")
+
+    def test_radii(self):
+        apart = ["both radii are one pair", "radii=(6051.8, 695700)"]
+        self.assert_says(TypeError, apart, lambda: finder.occultations(YEAR, "venus", "sun", *DISCS, **self.never))
+        for wrong in (6051.8, (1, 2, 3), "12", None, [1]):
+            for call in (
+                lambda wrong=wrong: finder.occultations(YEAR, "venus", "sun", wrong, **self.never),
+                lambda wrong=wrong: finder.find(YEAR, "any", "venus", "sun", radii=wrong or 0, **self.never),
+            ):
+                self.assert_says(TypeError, ["a pair of numbers in km"], call)
+        one, other = (
+            finder.occultations(YEAR, "venus", "sun", radii, end="2000-07-01", **EARTH) for radii in (DISCS, [*DISCS])
+        )
+        self.assertEqual(one, other)
+
+    def test_times_with_a_zone(self):
+        for text in ("2000-05-01T00:00:00Z", "2000-05-01T00:00:00+02:00", "2000-05-01 00:00 UTC"):
+            call = lambda text=text: finder.apsides(YEAR, "moon", start=text, **self.never)
+            self.assert_says(ValueError, ["times are TDB", "scale='utc'"], call)
+        call = lambda: finder.apsides(YEAR, "moon", start="May", **self.never)
+        self.assert_says(ValueError, ["2000-05-01T12:00:00"], call)
+
+
+class Barycentre(InFolder):
+    def warned(self, call):
+        with warnings.catch_warnings(record=True) as caught:
+            warnings.simplefilter("always")
+            call()
+        self.assertTrue(all(each.category is finder.BarycentreWarning for each in caught))
+        self.assertTrue(all(each.filename == __file__ for each in caught))
+        return len(caught)
+
+    def test_what_is_asked_from_a_planet(self):
+        for times, call in (
+            (1, lambda: finder.conjunctions(YEAR, "jupiter", "saturn")),
+            (1, lambda: finder.stations(YEAR, "mars", dir="rise")),
+            (1, lambda: finder.apsides(YEAR, "moon")),
+            (1, lambda: finder.retrograde(YEAR, "mars")),
+            (2, lambda: finder.near(YEAR, "mars", "jupiter", degrees=1)),
+            (0, lambda: finder.conjunctions(YEAR, "jupiter", "saturn", observer="ssb")),
+            (0, lambda: finder.apsides(YEAR, "earth")),
+            (0, lambda: finder.coordinate(YEAR, "mercury", "x")),
+        ):
+            self.assertEqual(self.warned(call), times)
+
+
+class Hints(InFolder):
+    def hint(self, call):
+        with self.assertRaises(finder.FinderError) as caught:
+            call()
+        return caught.exception.hint
+
+    def test_refusals_of_the_command(self):
+        lines = YEAR.read_text().splitlines(keepends=True)
+        head = next(place for place, line in enumerate(lines) if line.split() == ["1", "1018"])
+        rest, cut = self.folder / "rest", self.folder / "cut"
+        rest.write_text("".join(lines[head:]))
+        cut.write_text("".join(lines[: head + 100]))
+        for call, begin in (
+            (lambda: finder.check(rest), "(1) the first file has no header: name the header's file before the others"),
+            (lambda: finder.check(cut), "(1) the last file is cut off"),
+            (lambda: finder.check("none"), "(1) no file has this name"),
+            (lambda: finder.check([YEAR] * 65), "the span is too long for one search: finder.over_files"),
+            (lambda: finder.check([YEAR, YEAR]), "(1) a file has a header of its own"),
+            (lambda: finder.apsides(YEAR, "moon", start="2010-01-01", **EARTH), "(1) the span is not within the files"),
+            (lambda: finder.conjunctions(YEAR, "mars", "mars", **EARTH), "(1) two of target, second body and observer"),
+            (lambda: finder.distance(YEAR, "mars", -1, **EARTH), "(1) a cosine is from -1 to 1"),
+            (lambda: finder.find(YEAR, "conj", "mars", **EARTH), "an option is missing, not of its form, or not used"),
+            (lambda: finder.check(YEAR, program=stand_in(self.folder, "kill -9 $$")), "(1) the system ended the"),
+            (lambda: finder.check(YEAR, program=stand_in(self.folder, "sleep 9"), timeout=0.2), "(1) the search takes"),
+        ):
+            self.assertTrue(self.hint(call).startswith(begin), self.hint(call))
+
+    def test_every_refusal_of_the_manuals_has_a_hint(self):
+        """Each number and status of `docs/FORMATS.md` and `docs/USAGE.md`, and each option of a search."""
+        text = (TOP / "docs/FORMATS.md").read_text()
+        tables = [part.partition("\n\n")[0] for part in text.split("| Fault | Where |")[1:]]
+        rows = " ".join(row.split("|")[1] for table in tables for row in table.splitlines()[2:])
+        numbers = {int(word) for word in rows.replace(",", " ").split() if word.isdigit()}
+        self.assertGreater(len(numbers), 25)
+        self.assertLessEqual(numbers | {50, 51, 52, 60, 61, 62}, set(OF_NUMBER))
+        self.assertLessEqual({4, 5, 6, 8, 9}, set(OF_STATUS))
+        table = (TOP / "docs/USAGE.md").read_text().partition("| Option | Value |")[2].partition("\n\n")[0]
+        options = {word.strip("`-, ") for row in table.splitlines()[2:] for word in row.split("|")[1].split(",")}
+        self.assertEqual(options - set(OF_OPTION) - {"kind", "dir"}, set())
+
+
+class Surface(InFolder):
+    def test_hints_of_types(self):
+        """`typing.get_type_hints` answers for each function and method of the package."""
+        for name in finder.__all__:
+            part = getattr(finder, name)
+            members = vars(part).values() if inspect.isclass(part) else [part]
+            for member in itertools.chain([part], members):
+                plain = getattr(member, "fget", None) or getattr(member, "__func__", member)
+                if inspect.isfunction(plain) or inspect.isclass(plain):
+                    typing.get_type_hints(plain)
+        self.assertIn("target", typing.get_type_hints(finder.conjunctions))
+
+    def test_version_and_names(self):
+        control = (TOP / "packaging/control").read_text()
+        self.assertIn(f"\nVersion: {finder.__version__}\n", control)
+        self.assertEqual(sorted(finder.__all__), list(finder.__all__))
+        for name in finder.__all__:
+            self.assertTrue(inspect.getdoc(getattr(finder, name)), name)
+
+    def test_windows_have_their_times(self):
+        for tick, text in ((1, "2000-01-04T12:23:24"), (1000, "2000-01-04T12:23:23.735")):
+            found = finder.apsides(YEAR, "moon", tick=tick, end="2000-02-01", **EARTH)
+            for window in (found[0], next(iter(found)), pickle.loads(pickle.dumps(found[0]))):
+                self.assertEqual((window.text(), str(window.datetime64()), window.tick), (text, text, tick))
+                self.assertEqual(window.text("first"), text)
+                self.assertEqual(tuple(window), (window.first, window.last, "fall"))
+        wide = finder.apsides(YEAR, "moon", width=3600, end="2000-02-01", **EARTH)[0]
+        self.assertLess(wide.datetime64("first"), wide.datetime64("last"))
+        self.assertRaises(ValueError, wide.text, "middle")
+
+    def test_pickled_windows_stay_as_they_are(self):
+        found = finder.apsides(YEAR, "moon", tick=1000, **EARTH)
+        again = pickle.loads(pickle.dumps(found))
+        self.assertEqual((again, again.text), (found, found.text))
+        for array in (again.first, again.last, again.turn):
+            self.assertFalse(array.flags.writeable)

@@ -1,0 +1,224 @@
+"""What is seen agrees with a solution by Skyfield over the same coefficients, for each kind that both have.
+
+The kernel is made here of the numbers of JPL's text, by numpy's own sums of Chebyshev series. Skyfield solves by its
+own search, its own light time, aberration, precession and nutation.
+"""
+
+import importlib.util
+import types
+import unittest
+
+import numpy as np
+from numpy.polynomial.chebyshev import chebder, chebval
+
+import finder
+from tests.common import YEAR, InFolder
+
+EARTH = {"observer": "earth"}
+ECL = {**EARTH, "frame": "ecl"}
+# The seconds by which times may differ.
+WITHIN = 0.2
+DAY = 86_400
+J2000 = 2_451_545.0
+# The numbers by which SPICE knows what JPL's columns have, all from the barycentre, and the Moon from the Earth.
+BODIES = dict(zip((1, 2, 3, 4, 5, 6, 7, 8, 9, 301, 10), range(11)))
+NAMES = {"mercury": 1, "venus": 2, "mars": 4, "jupiter": 5, "saturn": 6, "uranus": 7, "neptune": 8, "pluto": 9}
+NAMES.update(moon=301, sun=10, earth=399)
+# The days on both sides by which a change is taken.
+ASIDE = 60 / DAY
+
+
+def columns_of_year():
+    """The columns of the header, the ratio of masses, and the blocks as rows of numbers."""
+    lines = [line.replace("D", "E").split() for line in YEAR.read_text().splitlines()]
+    groups = {line[1]: place for place, line in enumerate(lines) if line[:1] == ["GROUP"]}
+    table = np.array([[int(word) for word in line] for line in lines[groups["1050"] :] if len(line) == 13][:3])
+    names = [word for line in lines[groups["1040"] + 1 : groups["1041"]] for word in line][1:]
+    values = [word for line in lines[groups["1041"] + 1 : groups["1050"]] for word in line][1:]
+    heads = [place for place, line in enumerate(lines) if len(line) == 2 and line[1] == "1018"]
+    blocks = [[float(word) for line in lines[head + 1 : head + 341] for word in line][:1018] for head in heads]
+    return table, float(values[names.index("EMRAT")]), np.array(blocks)
+
+
+def kernel_of_year():
+    """A kernel of Skyfield with JPL's year."""
+    from skyfield.jpllib import SpiceKernel, SPICESegment
+
+    table, ratio, blocks = columns_of_year()
+
+    def state(column, days, part):
+        """Km and km a day of a column, at whole and parts of days."""
+        start, count, granules = table[:, column]
+        places = ((days - blocks[0, 0]) + part) / 32 * granules
+        number = np.clip(np.floor(places).astype(int), 0, len(blocks) * granules - 1)
+        rows = blocks[:, start - 1 : start - 1 + 3 * count * granules].reshape(-1, 3, count)[number]
+        at = 2 * (places - number) - 1
+        series = np.moveaxis(rows, -1, 0)
+        position = chebval(at[..., None], series, tensor=False)
+        rate = chebval(at[..., None], chebder(series), tensor=False) * (2 * granules / 32)
+        return np.moveaxis(position, -1, 0), np.moveaxis(rate, -1, 0)
+
+    def segment(target, center, column, factor):
+        def both(days, part):
+            days, part = np.broadcast_arrays(np.asarray(days, float), np.asarray(part, float))
+            return tuple(factor * each for each in state(column, days, part))
+
+        return types.SimpleNamespace(data_type=2, target=target, center=center, compute_and_differentiate=both)
+
+    class Kernel(SpiceKernel):
+        def __init__(self):
+            self.path = self.filename = "JPL's year"
+            made = [segment(code, 0, column, 1.0) for code, column in BODIES.items() if code != 301]
+            made.append(segment(399, 3, BODIES[301], -1 / (1 + ratio)))
+            made.append(segment(301, 3, BODIES[301], ratio / (1 + ratio)))
+            self.segments = [SPICESegment(self, each) for each in made]
+            self.codes = {0, *(each.target for each in made)}
+
+    return Kernel()
+
+
+HERE = importlib.util.find_spec("skyfield") and importlib.util.find_spec("erfa")
+
+
+@unittest.skipUnless(HERE, "skyfield or erfa is not here")
+class BesideSkyfield(InFolder):
+    @classmethod
+    def setUpClass(cls):
+        from skyfield.api import load
+
+        cls.scale = load.timescale(builtin=True)
+        cls.kernel = kernel_of_year()
+
+    def time(self, days):
+        return self.scale.tdb_jd(J2000, days)
+
+    def aside(self, time, way):
+        """A minute after a time, or before it."""
+        return self.scale.tdb_jd(time.whole, time.tdb_fraction + way * ASIDE)
+
+    def apparent(self, name, time, observer="earth"):
+        return self.kernel[NAMES[observer]].at(time).observe(self.kernel[NAMES[name]]).apparent()
+
+    def longitude(self, name, time):
+        from skyfield.framelib import ecliptic_frame
+
+        return self.apparent(name, time).frame_latlon(ecliptic_frame)[1].degrees
+
+    def ascension(self, name, time):
+        return self.apparent(name, time).radec("date")[0].hours * 15
+
+    def angle(self, one, other, time, observer="earth"):
+        return self.apparent(one, time, observer).separation_from(self.apparent(other, time, observer)).degrees
+
+    def turns(self, state, step, begin=0.0, end=360.0):
+        """The seconds at which a whole number changes, and what it is then."""
+        from skyfield.searchlib import find_discrete
+
+        state.step_days = step
+        times, values = find_discrete(self.time(begin), self.time(end), state, epsilon=2e-9)
+        return ((times.whole - J2000) + times.tdb_fraction) * DAY, values
+
+    def assert_beside(self, found, theirs, **options):
+        """All of theirs that are within our span are ours too."""
+        ours = finder.seen(found, YEAR, **options).seconds
+        ours = ours[(ours > 0) & (ours < 360 * DAY)]
+        self.assertEqual(len(ours), len(theirs))
+        self.assertGreater(len(ours), 0)
+        self.assertLess(abs(ours - theirs).max(), WITHIN)
+
+    def test_phases(self):
+        def quarter(time):
+            return ((self.longitude("moon", time) - self.longitude("sun", time)) % 360 // 90).astype(int)
+
+        times, values = self.turns(quarter, 5)
+        self.assert_beside(finder.conjunctions(YEAR, "moon", "sun", **ECL), times[values == 0])
+        self.assert_beside(finder.oppositions(YEAR, "moon", "sun", **ECL), times[values == 2])
+        halves = finder.separation(YEAR, "moon", "sun", cosine=0, **EARTH)
+        self.assert_beside(halves, times[values % 2 == 1], phases=True)
+
+    def test_seasons(self):
+        times, values = self.turns(lambda time: (self.longitude("sun", time) // 90 % 4).astype(int), 40)
+        self.assert_beside(finder.coordinate(YEAR, "sun", "y", **ECL), times[values % 2 == 0])
+        self.assert_beside(finder.coordinate(YEAR, "sun", "x", **ECL), times[values % 2 == 1])
+
+    def test_conjunctions_and_oppositions(self):
+        pairs = (("mercury", "sun", 10), ("jupiter", "saturn", 40), ("saturn", "sun", 40), ("mars", "jupiter", 40))
+        for one, other, step in pairs:
+
+            def ahead(time, one=one, other=other):
+                return (self.longitude(one, time) - self.longitude(other, time)) % 360
+
+            times, _ = self.turns(lambda time, ahead=ahead: (ahead(time) // 180).astype(int), step)
+            apart = 180 - abs(ahead(self.time(times / DAY)) - 180)
+            self.assert_beside(finder.conjunctions(YEAR, one, other, **ECL), times[apart < 1])
+            if (apart > 179).any():
+                self.assert_beside(finder.oppositions(YEAR, one, other, **ECL), times[apart > 179])
+
+    def test_stations(self):
+        for frame, where in (("ecl", self.longitude), ("eq", self.ascension)):
+            for name, step in (("mercury", 5), ("jupiter", 20), ("saturn", 20)):
+
+                def forward(time, name=name, where=where):
+                    ahead, behind = (where(name, self.aside(time, way)) for way in (1, -1))
+                    return (ahead - behind + 180) % 360 > 180
+
+                found = finder.stations(YEAR, name, frame=frame, **EARTH)
+                self.assert_beside(found, self.turns(forward, step)[0])
+
+    def test_places(self):
+        """Directions of date within a hundredth of an arc second, distances within 50 m in an astronomical unit."""
+        from skyfield.framelib import ecliptic_frame
+
+        for found in (finder.oppositions(YEAR, "saturn", **ECL), finder.apsides(YEAR, "moon", **EARTH)):
+            numbers = finder.values(found, YEAR, apparent=True, of_date=True)
+            name = found.asked["target"]
+            seen = self.apparent(name, self.time(numbers.seconds / DAY))
+            right, up, far = seen.radec("date")
+            north, along, _ = seen.frame_latlon(ecliptic_frame)
+            for ours, theirs in (
+                (numbers.target.ra, right.hours * 15),
+                (numbers.target.dec, up.degrees),
+                (numbers.target.lon, along.degrees),
+                (numbers.target.lat, north.degrees),
+            ):
+                self.assertLess(abs((ours - theirs + 180) % 360 - 180).max() * 3_600, 0.01)
+            self.assertLess(abs(numbers.target.distance_km / far.km - 1).max(), 3e-10)
+
+    def test_separations(self):
+        limit = 1.0
+        found = finder.separation(YEAR, "venus", "jupiter", degrees=limit, **EARTH)
+        times, _ = self.turns(lambda time: self.angle("venus", "jupiter", time) < limit, 0.5, 130, 150)
+        self.assert_beside(found, times)
+
+    def test_elongations(self):
+        def grows(time):
+            ahead, behind = (self.angle("mercury", "sun", self.aside(time, way)) for way in (1, -1))
+            return ahead > behind
+
+        times, _ = self.turns(grows, 5)
+        self.assert_beside(finder.separation_extremes(YEAR, "mercury", "sun", **EARTH), times)
+
+    def test_discs(self):
+        """The contacts of the Earth's shadow and the Moon's centre, as they are seen from there, and of a transit of the
+        Earth that is seen from Neptune."""
+        eclipse = "earth", "moon", (6_442.4, 695_700.0), 20
+        transit = "earth", "neptune", (6_371.0, 695_700.0), 208
+        for (name, observer, radii, day), kind, signs in (
+            (eclipse, "any", (1, 1)),
+            (eclipse, "full", (1, -1)),
+            (transit, "any", (1, 1)),
+            (transit, "annular", (-1, 1)),
+        ):
+
+            def covered(time, name=name, observer=observer, radii=radii, signs=signs):
+                pair = [self.apparent(each, time, observer) for each in (name, "sun")]
+                discs = [sign * np.arcsin(size / each.distance().km) for sign, size, each in zip(signs, radii, pair)]
+                return discs[0] + discs[1] > pair[0].separation_from(pair[1]).radians
+
+            span = {"start": (day - 2) * DAY, "end": (day + 2) * DAY}
+            found = finder.occultations(YEAR, name, "sun", radii, kind=kind, observer=observer, **span)
+            self.assert_beside(found, self.turns(covered, 0.01, day - 1, day + 1)[0])
+
+
+if __name__ == "__main__":
+    unittest.main()

@@ -1,0 +1,134 @@
+"""The command `python -m finder`: its words, its refusals, its output and its progress."""
+
+import contextlib
+import io
+import json
+import os
+import pty
+import re
+import subprocess
+import sys
+import unittest
+
+import finder
+from finder import Group
+from finder.__main__ import main
+from tests.almanacs import has
+from tests.common import PROGRAM, TOP, YEAR, InFolder, split_year, stand_in
+
+SEASONS = ("almanac", "2000", str(YEAR), "--only", "seasons")
+
+
+def run(*words):
+    """The status of a command that ends itself, and what it wrote to both outputs."""
+    out, err = io.TextIOWrapper(io.BytesIO(), "utf-8"), io.StringIO()
+    with contextlib.redirect_stdout(out), contextlib.redirect_stderr(err):
+        try:
+            status = main(words)
+        except SystemExit as error:
+            status = error.code
+        out.flush()
+    return status, out.buffer.getvalue().decode(), err.getvalue()
+
+
+def started(*words, **options):
+    """A command as it is started from outside."""
+    environment = {**os.environ, "PYTHONPATH": str(TOP / "python"), "FINDER": str(PROGRAM)}
+    return subprocess.run([sys.executable, "-m", "finder", *words], env=environment, check=False, **options)
+
+
+class Words(InFolder):
+    """Words, and what is wrong with them."""
+
+    def test_help(self):
+        status, out, _ = run("--help")
+        self.assertEqual(status, 0)
+        self.assertIn("almanac", out)
+        status, out, _ = run("almanac", "--help")
+        self.assertEqual(status, 0)
+        for word in ("--format", "--scale", "--tz", "--jobs", "--only", *(group.value for group in Group)):
+            self.assertIn(word, out.replace("moon-\n", "moon-").replace("  ", ""))
+
+    def test_wrong_words(self):
+        rows = {
+            ("2000", "--only", "eclipse"): "no group is 'eclipse': did you mean 'eclipses'? There are moon, ",
+            ("2000", "--only", "moon,seson"): "no group is 'seson': did you mean 'seasons'?",
+            ("2000", "--jobs", "0"): "'0' is no number of searches",
+            ("2000", "--tz", "Europe/Berln"): "no time zone is 'Europe/Berln': did you mean 'Europe/Berlin'?",
+            ("2000", "--tz", "Europe/Berlin", "--scale", "tt"): "leave --tz out",
+            ("2000-1999",): "'2000-1999' are no years from 1 to 9998 in order",
+            ("MM",): "'MM' is no year: write 2026",
+            ("1969", "--scale", "utc"): "write --scale tt",
+            ("1969", "--format", "ics"): "choose another --format",
+            ("2000", "--format", "htm"): "'html'",
+        }
+        for words, said in rows.items():
+            with self.subTest(words):
+                status, out, err = run("almanac", *words[:1], "no-file", *words[1:])
+                self.assertEqual((status, out), (2, ""))
+                self.assertIn(said, err)
+
+    @unittest.skipUnless(has("erfa"), "no erfa")
+    def test_refusals(self):
+        header, files = split_year(self.folder)
+        rows = {
+            ("2001", str(YEAR)): "finder: the files hold 1999-12-24T00:00:00 to 2001-01-11T00:00:00 (TDB), and not ",
+            ("2000", "no-file"): "finder: read fault no-file\nfinder: likely: (1) no file has this name",
+            ("2000", str(files[0])): f"finder: file {files[0]} line 1: 10 FirstLine\nfinder: likely: (1) the first ",
+            ("2000", str(header), str(files[1]), str(files[0])): f"finder: {files[0]} begins before {files[1]}, which ",
+            ("2000", str(YEAR), "--program", "/no/finder"): "finder: ",
+        }
+        for words, said in rows.items():
+            with self.subTest(words):
+                status, out, err = run("almanac", *words)
+                self.assertEqual((status, out), (1, ""))
+                self.assertTrue(err.startswith(said), err)
+
+
+@unittest.skipUnless(has("erfa"), "no erfa")
+class Output(InFolder):
+    """What is printed."""
+
+    def test_forms_scales_and_zones(self):
+        status, out, err = run(*SEASONS)
+        self.assertEqual((status, err), (0, ""))
+        self.assertEqual(re.findall("  (March|September) equinox  ", out), ["March", "September"])
+        _, out, _ = run(*SEASONS, "--format", "json", "--scale", "tt")
+        self.assertEqual(json.loads(out)["events"][1]["seen"][:16], "2000-03-20T07:36")  # 07:35 of UT
+        _, out, _ = run(*SEASONS, "--format", "csv", "--tz", "Asia/Tokyo", "--jobs", "2")
+        self.assertIn("2000-03-20T16:35", out)
+        # (the same words make the same bytes)
+        self.assertEqual(run(*SEASONS, "--format", "ics"), run(*SEASONS, "--format", "ics"))
+
+    def test_no_room_for_it(self):
+        with open("/dev/full", "wb") as full:
+            done = started(*SEASONS, stdout=full, stderr=subprocess.PIPE)
+        self.assertEqual((done.returncode, done.stderr), (3, b"finder: standard output: No space left on device\n"))
+
+    def test_progress_on_a_terminal(self):
+        slow = stand_in(self.folder, f'[ "$1" = check ] || sleep 0.3\nexec {PROGRAM} "$@"')
+        mine, theirs = pty.openpty()
+        done = started(*SEASONS, "--program", str(slow), stdout=subprocess.PIPE, stderr=theirs)
+        os.close(theirs)
+        shown = b""
+        with contextlib.suppress(OSError):
+            while piece := os.read(mine, 4_096):
+                shown += piece
+        os.close(mine)
+        lines = shown.decode().split("\r")
+        self.assertEqual(done.returncode, 0)
+        self.assertRegex(lines[1], r"^finder: [12] of 3 searches\x1b\[K$")
+        self.assertEqual(lines[-1], "\x1b[K")
+
+    def test_no_erfa(self):
+        (self.folder / "erfa.py").write_text("raise ImportError('none here')\n")
+        environment = {**os.environ, "PYTHONPATH": f"{self.folder}:{TOP / 'python'}"}
+        words = [sys.executable, "-m", "finder", *SEASONS]
+        done = subprocess.run(words, env=environment, check=False, capture_output=True, text=True)
+        self.assertEqual((done.returncode, done.stdout), (1, ""))
+        self.assertIn("python3-erfa", done.stderr)
+        self.assertEqual(finder.NoErfa.__bases__, (ImportError,))
+
+
+if __name__ == "__main__":
+    unittest.main()

@@ -9,7 +9,7 @@ import numpy as np
 
 import finder
 from finder.spans import time_text
-from tests.common import YEAR, InFolder, split_year
+from tests.common import TOP, YEAR, InFolder, split_year
 
 ECL = {"observer": "earth", "frame": "ecl"}
 MOONS = (
@@ -189,6 +189,15 @@ class Refusals(InFolder):
                 self.assertIsInstance(caught.exception, ValueError)
         with self.assertRaisesRegex(finder.WrongFiles, "1999-12-24T00:00:00 to 2001-01-11T00:00:00"):
             finder.Series(YEAR, 2e9, 3e9)
+
+    def test_every_layout(self):
+        """What the command reads is read for places too, over the same span: the Earth is about 1 au from the Sun."""
+        for file in sorted((TOP / "examples").glob("de*.asc")):
+            with self.subTest(file.name):
+                series, found = finder.Series(file), finder.check(file)
+                self.assertEqual((series.start, series.end), (found.start, found.end))
+                far = np.linalg.norm(series.seen("earth", "sun", "eq", series.start + 86_400))
+                self.assertAlmostEqual(far / 149_597_870.7, 1, delta=0.02)
 
     def test_bodies_and_frames_that_are_none(self):
         series = finder.Series(YEAR)

@@ -21,6 +21,7 @@ part is there already. With each but 0 no part is left; until all are whole, eac
 """
 import argparse
 import contextlib
+import errno
 import os
 import re
 import signal
@@ -274,8 +275,20 @@ def cut(parts, source_blocks):
     parts.keep()
 
 
+def say(text):
+    """Writes to standard output, whole. What it does not take is not tried again when the process ends."""
+    if sys.stdout is None:
+        raise OSError(errno.EBADF, os.strerror(errno.EBADF), "standard output")
+    try:
+        sys.stdout.write(text)
+        sys.stdout.flush()
+    except OSError as error:
+        os.dup2(os.open(os.devnull, os.O_WRONLY), sys.stdout.fileno())
+        raise OSError(error.errno, error.strerror, "standard output") from None
+
+
 def ask():
-    """The words."""
+    """The words, or None where help is asked for."""
     usage = "tools/cut.py [--blocks N] [--header each|first] PREFIX FILE.. (or --help)"
     parser = argparse.ArgumentParser(prog="cut", usage=usage, add_help=False, allow_abbrev=False)
     parser.add_argument("--blocks", type=int, default=MAX_BLOCKS)
@@ -284,8 +297,7 @@ def ask():
     parser.add_argument("words", nargs="*")
     words = parser.parse_intermixed_args()
     if words.help:
-        print(__doc__, end="")
-        sys.exit(0)
+        return None
     if len(words.words) < 2:
         parser.error("it needs a PREFIX and a FILE")
     if not 2 <= words.blocks <= MAX_BLOCKS:
@@ -293,32 +305,44 @@ def ask():
     return words
 
 
+def cut_files(words, source):
+    """Writes the parts and says what they are; where anything fails, none is left."""
+    left_out, parts = [], None
+    try:
+        lines = source.lines()
+        header = Header(lines)
+        parts = Parts(words.words[0], header, words.blocks, words.header == "each")
+        cut(parts, blocks(header, lines, left_out))
+        said = [
+            f"{part.name} start {date_text(part.start)} end {date_text(part.end)} blocks {part.count}\n"
+            for part in parts.made
+        ]
+        if left_out:
+            said.append(f"left out {len(left_out)} blocks before 0 or after 5000000\n")
+        say("".join(said))
+    except BaseException:
+        if parts is not None:
+            parts.remove()
+        raise
+
+
 def main():
     """The command."""
     for number in (signal.SIGINT, signal.SIGTERM):
         signal.signal(number, lambda number, _: sys.exit(128 + number))
     words = ask()
-    prefix, *names = words.words
-    source, left_out, parts = Source(names), [], None
+    source = Source(words.words[1:] if words else [])
     try:
-        lines = source.lines()
-        header = Header(lines)
-        parts = Parts(prefix, header, words.blocks, words.header == "each")
-        cut(parts, blocks(header, lines, left_out))
-    except BaseException as error:
-        if parts is not None:
-            parts.remove()
-        if isinstance(error, Refused):
-            print(f"cut: {source.place}: {error}", file=sys.stderr)
-            sys.exit(1)
-        if isinstance(error, OSError):
-            print(f"cut: {error.filename or source.place}: {error.strerror}", file=sys.stderr)
-            sys.exit(3)
-        raise
-    for part in parts.made:
-        print(part.name, "start", date_text(part.start), "end", date_text(part.end), "blocks", part.count)
-    if left_out:
-        print("left out", len(left_out), "blocks before 0 or after 5000000")
+        if words:
+            cut_files(words, source)
+        else:
+            say(__doc__)
+    except Refused as error:
+        print(f"cut: {source.place}: {error}", file=sys.stderr)
+        sys.exit(1)
+    except OSError as error:
+        print(f"cut: {error.filename or source.place}: {error.strerror}", file=sys.stderr)
+        sys.exit(3)
 
 
 if __name__ == "__main__":

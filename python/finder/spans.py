@@ -26,6 +26,7 @@ Status: 0; 1 refused, and standard error says why; 2 the words; 3 a file could n
 from __future__ import annotations
 
 import argparse
+import errno
 import os
 import re
 import shutil
@@ -417,9 +418,28 @@ def planned_files(words: argparse.Namespace) -> list[str]:
     return [f"{plan_time(begin)} {plan_time(stop)} {name}" for begin, stop, name in parts]
 
 
+def write(text: str) -> None:
+    """Writes to standard output, whole. What it does not take is not tried again when the process ends."""
+    if sys.stdout is None:
+        raise OSError(errno.EBADF, os.strerror(errno.EBADF), "standard output")
+    try:
+        sys.stdout.buffer.write(os.fsencode(text))
+        sys.stdout.flush()
+    except OSError as error:
+        os.dup2(os.open(os.devnull, os.O_WRONLY), sys.stdout.fileno())
+        raise OSError(error.errno, error.strerror, "standard output") from None
+
+
+class Words(argparse.ArgumentParser):
+    """Words whose help is written as all else is."""
+
+    def print_help(self, file: object = None) -> None:
+        write(self.format_help())
+
+
 def parser() -> argparse.ArgumentParser:
     """The words that the tool takes."""
-    whole = argparse.ArgumentParser(
+    whole = Words(
         prog="spans", description=__doc__, allow_abbrev=False, formatter_class=argparse.RawDescriptionHelpFormatter
     )
     commands = whole.add_subparsers(dest="command", required=True)
@@ -454,11 +474,8 @@ def said(words: argparse.Namespace) -> str:
 
 def main() -> int:
     """Does what the words ask for, and returns the status."""
-    words = parser().parse_args()
     try:
-        text = said(words)
-        sys.stdout.buffer.write(os.fsencode(text))
-        sys.stdout.flush()
+        write(said(parser().parse_args()))
     except (WrongReport, WrongParts, NoProgram, UnicodeDecodeError) as error:
         print(f"spans: {error}", file=sys.stderr)
         return 1

@@ -15,6 +15,7 @@ from typing import Optional, Union
 
 from . import spans
 from ._hints import TOO_LONG, causes_of, told
+from ._watch import watch
 
 # Seconds after which a wait begins anew: an interrupt that comes just before a wait begins is seen only when it ends.
 WAIT = 0.2
@@ -159,7 +160,8 @@ class Runs:
         self._stopped = False
 
     def _start(self, words: Sequence[Union[str, bytes]], begun: _Begun) -> None:
-        """Starts the command, in a group of its own, unless the call is over, and adds it to those that have begun."""
+        """Starts the command, in a group of its own, unless the call is over, and adds it to those that have begun. It
+        ends with this process, however that one ends."""
         with self._lock:
             if self._stopped or begun.is_over:
                 raise Interrupted(-signal.SIGKILL, "finder: the call is over")
@@ -170,6 +172,7 @@ class Runs:
                     stdout=subprocess.PIPE,
                     stderr=subprocess.PIPE,
                     start_new_session=True,
+                    env=watch.environment(),
                 )
             except OSError as error:
                 raise spans.NoProgram(error.errno, f"{self._program} cannot be run: {error.strerror}") from error

@@ -4,10 +4,11 @@
     tools/layouts.py FOLDER    writes FOLDER/de102-layout.asc and the like
 
 The first line, the dates, the number of constants and the columns are those of the published header, as far as
-`examples/README.md` says. The blocks are made: each body moves on a circle, at its mean distance and period, from its
-mean longitude at J2000, in the plane of its mean orbit. What a column holds of it is exact to the 18 digits that are
-printed: cos(a + b x) has the Chebyshev coefficients J_0(b) cos a and 2 J_k(b) cos(a + k pi/2), J_k being Bessel's
-functions. All arithmetic is that of `decimal`, so each machine writes the same bytes.
+`examples/README.md` says. The blocks are made: each body moves on an ellipse about the centre, at its mean distance and
+period, from its mean longitude at J2000, in the plane of its mean orbit. Its eccentric anomaly grows evenly, so it is no
+motion under gravity. What a column holds of it is exact to the 18 digits that are printed: cos(a + b x) has the Chebyshev
+coefficients J_0(b) cos a and 2 J_k(b) cos(a + k pi/2), J_k being Bessel's functions. All arithmetic is that of `decimal`,
+so each machine writes the same bytes.
 """
 import os
 import sys
@@ -17,20 +18,20 @@ PI = Decimal("3.1415926535897932384626433832795028841971693993751058209749445923
 J2000 = Decimal(2451545)
 FIRST_DAY = Decimal("2451536.5")  # 1999-12-24, at which a block of every series begins
 
-# A circle: its radius (km), its period (days), the mean longitude at J2000, the inclination to the ecliptic and the
-# longitude of the node (degrees).
+# An ellipse: half of its greatest width (km), its period (days), the mean longitude at J2000, the inclination to the
+# ecliptic, the longitudes of the node and of the least distance (degrees), and the eccentricity.
 BODIES = [
-    ("57909000", "87.9693", "252.25", "7.00", "48.33"),
-    ("108209000", "224.7008", "181.98", "3.39", "76.68"),
-    ("149598000", "365.2564", "100.46", "0", "0"),
-    ("227940000", "686.9796", "355.43", "1.85", "49.56"),
-    ("778340000", "4332.6", "34.40", "1.30", "100.46"),
-    ("1426700000", "10759.2", "49.94", "2.49", "113.67"),
-    ("2870700000", "30687", "313.23", "0.77", "74.01"),
-    ("4498400000", "60190", "304.88", "1.77", "131.78"),
-    ("5906400000", "90560", "238.93", "17.14", "110.30"),
-    ("384400", "27.321661", "218.32", "5.145", "125.04"),
-    ("742000", "4332.6", "214.40", "1.30", "100.46"),
+    ("57909000", "87.9693", "252.25", "7.00", "48.33", "77.46", "0.2056"),
+    ("108209000", "224.7008", "181.98", "3.39", "76.68", "131.60", "0.0068"),
+    ("149598000", "365.2564", "100.46", "0", "0", "102.94", "0.0167"),
+    ("227940000", "686.9796", "355.43", "1.85", "49.56", "336.06", "0.0934"),
+    ("778340000", "4332.6", "34.40", "1.30", "100.46", "14.73", "0.0485"),
+    ("1426700000", "10759.2", "49.94", "2.49", "113.67", "92.60", "0.0555"),
+    ("2870700000", "30687", "313.23", "0.77", "74.01", "170.95", "0.0463"),
+    ("4498400000", "60190", "304.88", "1.77", "131.78", "44.96", "0.0090"),
+    ("5906400000", "90560", "238.93", "17.14", "110.30", "224.07", "0.2488"),
+    ("384400", "27.321661", "218.32", "5.145", "125.04", "83.35", "0.0549"),
+    ("742000", "4332.6", "214.40", "1.30", "100.46", "194.73", "0.0485"),
 ]
 NUTATIONS = ("0.00008", "6798.38", "125.04")  # radians; two components on a circle
 LIBRATIONS = ("0.03", "27.321661", "218.32")  # radians; three components, the third as the first
@@ -63,7 +64,7 @@ LAYOUTS = [
         "3 183 225 279 315 342 366 390 408 426 738 774 774",
         "15 14 9 12 9 8 8 6 6 13 12 0 0",
         "4 1 2 1 1 1 1 1 1 8 1 0 0"], 2),
-    ("DE200", 826, "2305424.50", "2513360.50", "32.", 200, "149597870.66", "81.300587", [
+    ("DE200", 826, "2305424.50", "2513392.50", "32.", 200, "149597870.66", "81.300587", [
         "3 147 183 273 303 330 354 378 396 414 702 747 0",
         "12 12 15 10 9 8 8 6 6 12 15 10 0",
         "4 1 2 1 1 1 1 1 1 8 1 4 0"], 2),
@@ -130,13 +131,16 @@ def waves(angle, half_turn, count):
 
 def position(body, middle, half, count):
     """The coefficients of x, y and z of a body over a granule, in the axes of the files."""
-    radius, period, longitude, inclination, node = body
+    size, period, longitude, inclination, node, least, eccentricity = body
     node_cosine, node_sine = circle(Decimal(node) * PI / 180)
     tilt_cosine, tilt_sine = circle(Decimal(inclination) * PI / 180)
-    angle, half_turn = turn(period, Decimal(longitude) - Decimal(node), middle, half)
+    least_cosine, least_sine = circle((Decimal(least) - Decimal(node)) * PI / 180)
+    long, short = Decimal(size), Decimal(size) * (1 - Decimal(eccentricity) ** 2).sqrt()
+    angle, half_turn = turn(period, Decimal(longitude) - Decimal(least), middle, half)
     axes = ([], [], [])
-    for u, v in zip(*waves(angle, half_turn, count)):
-        u, v = u * Decimal(radius), v * Decimal(radius)
+    for k, (cosine, sine) in enumerate(zip(*waves(angle, half_turn, count))):
+        p, q = long * (cosine - (Decimal(eccentricity) if k == 0 else 0)), short * sine
+        u, v = least_cosine * p - least_sine * q, least_sine * p + least_cosine * q
         x = node_cosine * u - node_sine * tilt_cosine * v
         y = node_sine * u + node_cosine * tilt_cosine * v
         z = tilt_sine * v

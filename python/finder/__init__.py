@@ -13,7 +13,8 @@ known of its times. No event of the span is outside of the windows. The numbers 
 
 The searches for events are `coordinate`, `distance`, `apsides`, `conjunctions`, `oppositions`, `stations`,
 `separation`, `separation_extremes`, `occultations`, and `find`, which takes a kind by its name; `over_files` runs one
-of them over files in order of time, one by one. `times` finds how long something lasts, as a set of sure and of
+of them over files in order of time, one by one. `certificate` takes what `find` takes, and `verify` checks what it
+gives. `times` finds how long something lasts, as a set of sure and of
 possible times; `near`, `far` and `retrograde` do so by an astronomer's words, and `a & b`, `a | b` and `~a` are sets
 made of others. Each search runs the command in a process of its own, and takes
 
@@ -37,6 +38,7 @@ something lasts, which is proved where an interval says so.
 
 from ._almanac import SpanNotHeld, almanac
 from ._entries import Almanac, Contact, Entry, Event, Group, Numbers, Status
+from ._certificates import Certificate, Verified, certificate, verify
 from ._files import WrongFiles
 from ._intervals import Interval, intervals, on_at_start
 from ._names import names
@@ -44,6 +46,7 @@ from ._numbers import cosine_of_degrees
 from ._pages import Format, page
 from ._parts import join, over_files
 from ._program import (
+    CertificateRefused,
     EventRefused,
     FileFault,
     FinderError,
@@ -88,6 +91,8 @@ __version__ = "0.1"
 __all__ = [
     "Almanac",
     "BarycentreWarning",
+    "Certificate",
+    "CertificateRefused",
     "Clock",
     "Contact",
     "Entry",
@@ -119,6 +124,7 @@ __all__ = [
     "TimedOut",
     "TooManyLeaves",
     "Values",
+    "Verified",
     "Window",
     "Windows",
     "WordsRefused",
@@ -129,6 +135,7 @@ __all__ = [
     "WrongSets",
     "almanac",
     "apsides",
+    "certificate",
     "check",
     "conjunctions",
     "coordinate",
@@ -152,4 +159,5 @@ __all__ = [
     "stations",
     "times",
     "values",
+    "verify",
 ]

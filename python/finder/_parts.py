@@ -1,30 +1,45 @@
-"""Searches over files one by one, by threads or by an executor, and their windows joined."""
+"""Searches over files one by one, by threads or by an executor, and their windows, sets or certificates joined."""
 
 from __future__ import annotations
 
 import concurrent.futures
 import os
 from collections.abc import Callable, Iterable, Sequence
-from typing import Any, Optional, Union
+from typing import Any, Optional, TypeVar, Union
 
 from . import spans
+from ._certificates import Certificate
 from ._program import WAIT, Program, Runs, runs_of
 from ._search import Files, check, file_names
+from ._sets import TimeSet
 from ._times import Time, ticks_of_time
 from ._windows import Windows
+from .spans import Summary
 
 # What is called with the number of files that have been done since the last call, as tqdm's `update` takes it.
 Progress = Callable[[int], object]
+Found = TypeVar("Found", bound=Union[Windows, TimeSet, Certificate])
 
 
-def join(parts: Iterable[Windows]) -> Windows:
-    """The windows of the whole span, of those of its parts, in order. `WrongParts` where they are of different
-    requests, overlap or do not meet."""
-    return Windows(spans.join(part.report for part in parts))
+def join(parts: Iterable[Found], files: Optional[Summary] = None) -> Found:
+    """The windows, the set or the certificate of the whole span, of those of its parts, in order. `WrongParts` where
+    they are of different requests, overlap or do not meet. Certificates have to meet at a border, or a tick before one:
+    they want what `check` says of their files, or of one of these."""
+
+    def checked() -> Summary:
+        if files is None:
+            raise spans.WrongParts("certificates are joined with what `check` says of their files")
+        return files
+
+    found: list[Any] = list(parts)
+    kind: Any = type(found[0]) if found else Windows
+    whole = kind.joined(found) if kind is TimeSet else spans.join_parts([part.report for part in found], checked)
+    made: Found = whole if kind is TimeSet else kind.of_report(whole)
+    return made
 
 
 def over_files(
-    search: Callable[..., Windows],
+    search: Callable[..., Found],
     files: Files,
     *words: Any,
     header: Union[str, os.PathLike[str], None] = None,
@@ -37,8 +52,9 @@ def over_files(
     program: Program = None,
     timeout: Optional[float] = None,
     **options: Any,
-) -> Windows:
-    """The windows of a search over files in order of time, one by one, `jobs` of them at once:
+) -> Found:
+    """The windows of a search, the set of `times`, `near` and others, or the `certificate`, over files in order of
+    time, one by one, `jobs` of them at once:
 
         files = ["ascp2000.405", "ascp2020.405"]
         finder.over_files(finder.apsides, files, "moon", observer="earth", header="header.405")
@@ -68,7 +84,8 @@ def over_files(
             progress(len(names) - len(plan))
         told = {**options, "tick": tick}
         rows = [(search, [*first, name], words, _time_of(begin), _time_of(stop), told) for begin, stop, name in plan]
-        return join(calls.results(_part, rows, progress))
+        made: Found = join(calls.results(_part, rows, progress), read[0])
+        return made
 
 
 class _Calls:
@@ -105,19 +122,16 @@ class _Calls:
 
 
 def _part(
-    search: Callable[..., Windows],
+    search: Callable[..., Found],
     files: list[str],
     words: tuple[Any, ...],
     start: str,
     end: str,
     options: dict[str, Any],
     **own: Any,
-) -> Windows:
+) -> Found:
     """One part, where the executor runs it."""
-    found = search(files, *words, start=start, end=end, **options, **own)
-    if not isinstance(found, Windows):
-        raise TypeError("the windows of parts are joined, and not sets of times: one search takes up to 64 files")
-    return found
+    return search(files, *words, start=start, end=end, **options, **own)
 
 
 def _name_of(program: Program) -> Optional[str]:

@@ -106,6 +106,16 @@ class TooManyLeaves(FinderError, ValueError):
     """Status 9: the search has more leaves than a search may have."""
 
 
+class CertificateRefused(FinderError, ValueError):
+    """Status 10: a line of a certificate breaks a rule, the first of its lines that does."""
+
+    @property
+    def line_number(self) -> Optional[int]:
+        """The number of the line."""
+        found = re.match(r"finder: certificate line ([0-9]+):", self.line)
+        return int(found[1]) if found else None
+
+
 class Interrupted(FinderError):
     """The process was ended by a signal, whose number is `-status`."""
 
@@ -128,6 +138,7 @@ OF_STATUS: dict[int, type[FinderError]] = {
     7: EventRefused,
     8: OutOfMemory,
     9: TooManyLeaves,
+    10: CertificateRefused,
 }
 
 

@@ -43,11 +43,11 @@ Files = Union[str, os.PathLike[str], Iterable[Union[str, os.PathLike[str]]]]
 class SetOptions(TypedDict, total=False):
     """What every search takes."""
 
-    observer: Observer
-    frame: Frame
+    observer: Optional[Observer]
+    frame: Optional[Frame]
     tick: Literal[1, 1000]
-    start: Time
-    end: Time
+    start: Optional[Time]
+    end: Optional[Time]
     width: int
     depth: int
     workers: int
@@ -60,6 +60,14 @@ class Options(SetOptions, total=False):
     """What every search for events takes, as `find` does."""
 
     dir: Direction
+
+
+class Wanted(Options, total=False):
+    """What `find` takes besides a kind and the bodies."""
+
+    axis: Optional[Axis]
+    ref: Optional[Number]
+    radii: Optional[tuple[Number, Number]]
 
 
 # What a report says of an option that is not given. (A span that is not given is that of the files.)
@@ -122,13 +130,13 @@ def _refuse_words(options: dict[str, Any], kinds: tuple[str, ...]) -> None:
     warn_of_barycentre(options["kind"], options["target"], options["observer"])
 
 
-def _said(command: str, options: dict[str, Any], files: Files, program: Program, timeout: Optional[float]) -> str:
+def run(command: str, options: dict[str, Any], files: Files, program: Program, timeout: Optional[float]) -> str:
     """What a command prints for these options of files."""
     words = [f"--{name}={value}" for name, value in options.items() if value is not None]
     return runs_of(program, timeout).run([command, *words, "--", *some_names(files)])
 
 
-def _is_answer(report: Union[spans.Report, TimeSet], options: dict[str, Any]) -> bool:
+def is_answer(report: Union[spans.Report, spans.CertificateText, TimeSet], options: dict[str, Any]) -> bool:
     """Whether a report is of what was asked for, so that another search's text is no answer."""
     start, end = report.span.split(" ")
     said = {**report.asked, "tick": str(report.tick), "from": start, "to": end}
@@ -166,31 +174,57 @@ def find(
     `radii` are in km, but of `sep` the cosine of an angle; `width` is in ticks, of which `tick` are in a second. Where
     no observer is named it is `ssb`, the barycentre of the solar system; for what is asked from a planet that is told
     by a `BarycentreWarning`."""
+    options = find_options(
+        kind,
+        target,
+        second,
+        observer=observer,
+        frame=frame,
+        axis=axis,
+        ref=ref,
+        radii=radii,
+        dir=dir,
+        tick=tick,
+        start=start,
+        end=end,
+        width=width,
+        depth=depth,
+        workers=workers,
+        cut=cut,
+    )
+    report = spans.read_report(run("find", options, files, program, timeout))
+    if not is_answer(report, options):
+        raise spans.WrongReport(f"a report of another request: {report.request}")
+    return Windows(report)
+
+
+def find_options(
+    kind: Kind, target: Body, second: Optional[Body] = None, **wanted: Unpack[Wanted]
+) -> dict[str, Any]:
+    """The options of the command for what `find` takes: words that are none are refused."""
+    tick, ref, radii = wanted.get("tick", 1), wanted.get("ref"), wanted.get("radii")
     pair = (None, None) if radii is None else radii_of(radii)
     options: dict[str, Any] = {
         "kind": kind,
         "target": target,
         "second": second,
-        "observer": observer,
-        "frame": frame,
-        "axis": axis,
+        "observer": wanted.get("observer"),
+        "frame": wanted.get("frame"),
+        "axis": wanted.get("axis"),
         "ref": None if ref is None else decimal_text(ref),
         "radius1": None if radii is None else decimal_text(pair[0]),
         "radius2": None if radii is None else decimal_text(pair[1]),
-        "dir": dir,
+        "dir": wanted.get("dir", "any"),
         "tick": tick,
-        "from": _time_word(start, tick, up=False),
-        "to": _time_word(end, tick, up=True),
-        "width": width,
-        "depth": depth,
-        "workers": workers,
-        "cut": cut,
+        "from": _time_word(wanted.get("start"), tick, up=False),
+        "to": _time_word(wanted.get("end"), tick, up=True),
+        "width": wanted.get("width", 1),
+        "depth": wanted.get("depth", 40),
+        "workers": wanted.get("workers", 1),
+        "cut": wanted.get("cut", "half"),
     }
     _refuse_words(options, get_args(Kind))
-    report = spans.read_report(_said("find", options, files, program, timeout))
-    if not _is_answer(report, options):
-        raise spans.WrongReport(f"a report of another request: {report.request}")
-    return Windows(report)
+    return options
 
 
 def times(
@@ -247,8 +281,8 @@ def times(
         "cut": cut,
     }
     _refuse_words(options, get_args(SetKind))
-    found = TimeSet.of_text(_said("set", options, files, program, timeout))
-    if not _is_answer(found, options):
+    found = TimeSet.of_text(run("set", options, files, program, timeout))
+    if not is_answer(found, options):
         raise spans.WrongReport(f"a report of another request: {found.request}")
     return found
 

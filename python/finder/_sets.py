@@ -2,7 +2,6 @@
 
 from __future__ import annotations
 
-import re
 from collections.abc import Iterator, Sequence
 from typing import Any, NamedTuple, Optional, Union, overload
 
@@ -11,13 +10,6 @@ import numpy.typing as npt
 
 from . import spans
 from ._ends import Ends
-
-REQUEST = re.compile(
-    rf"SET (?P<kind>coord|radius|apsis|station|sep|sepext){spans.ASKED}"
-    rf" relation (?P<relation>less|atleast|within|outside){spans.LIMITS}"
-)
-LINE = re.compile(r"([SP]) (\S+) (\S+)")
-COUNTS = re.compile(r"END sure (0|[1-9][0-9]*) possible (0|[1-9][0-9]*)")
 
 
 class WrongSets(ValueError):
@@ -159,7 +151,32 @@ class TimeSet:
     @classmethod
     def of_text(cls, text: str) -> TimeSet:
         """The set of a report, whose lines and counts are checked: `WrongReport` where it is not whole."""
-        return _read(text)
+        return cls.of_report(spans.one_of(text, spans.SetReport))
+
+    @classmethod
+    def of_report(cls, report: spans.SetReport, made_of: Sequence[str] = ()) -> TimeSet:
+        """The set of a report that was read; of a set that is made of others, of their requests."""
+        sure, possible = (
+            Spans(report.tick, [first for first, _ in rows], [last for _, last in rows])
+            for rows in (report.sure, report.possible)
+        )
+        if not sure._within(possible):
+            raise spans.WrongReport("a sure time is not among the possible ones")
+        request = None if made_of else report.request
+        return cls(report.start, report.end, sure, possible, made_of or [report.request], request)
+
+    @classmethod
+    def joined(cls, parts: Sequence[TimeSet]) -> TimeSet:
+        """The set of the whole span, of those of its parts in order: at the time at which two parts meet, which is in
+        both, the earlier one counts. `WrongParts` where they are of different requests, overlap or do not meet."""
+        whole = spans.join_sets([part._report() for part in parts])
+        return cls.of_report(whole, () if parts[0].request else parts[0].made_of)
+
+    def _report(self) -> spans.SetReport:
+        """The report that has this set, whose request is all those of which the set is made."""
+        sure, possible = (tuple(zip(rows.first.tolist(), rows.last.tolist())) for rows in (self.sure, self.possible))
+        request = self.request or " and ".join(self.made_of)
+        return spans.SetReport(request, self.tick, self.start, self.end, sure, possible)
 
     @property
     def text(self) -> str:
@@ -178,7 +195,7 @@ class TimeSet:
     def asked(self) -> dict[str, str]:
         """The words of the request by their names, with each option at its value or default; of a set that is made of
         others, none."""
-        return {} if self.request is None else spans.words_of(self.request, REQUEST)
+        return {} if self.request is None else spans.words_of(self.request, spans.SET_REQUEST)
 
     def __and__(self, other: TimeSet) -> TimeSet:
         if not isinstance(other, TimeSet):
@@ -224,30 +241,3 @@ class TimeSet:
 
     def _key(self) -> tuple[int, int, Spans, Spans]:
         return self.start, self.end, self.sure, self.possible
-
-
-def _read(text: str) -> TimeSet:
-    """The set of the one report of a text. Each line is checked, and the counts of the last one."""
-    lines = text.split("\n")
-    if len(lines) < 3 or lines.pop():
-        raise spans.WrongReport("a report without its last line, or whose last line is cut off")
-    request, tick, start, end = spans.read_head(lines[0], REQUEST)
-    found: dict[str, list[Span]] = {"S": [], "P": []}
-    for line in lines[1:-1]:
-        row = LINE.fullmatch(line)
-        if not row or (row[1] == "S" and found["P"]):
-            raise spans.WrongReport(f"no line of a report, or not in its place: {line}")
-        before = found[row[1]]
-        span = Span(spans.ticks_of(row[2], tick), spans.ticks_of(row[3], tick))
-        if not (before[-1].last + 2 if before else start) <= span.first <= span.last <= end:
-            raise spans.WrongReport(f"a span outside of the report's, or one that is not after the one before: {line}")
-        before.append(span)
-    counts = COUNTS.fullmatch(lines[-1])
-    if not counts or (int(counts[1]), int(counts[2])) != (len(found["S"]), len(found["P"])):
-        raise spans.WrongReport(
-            f"the counts are {len(found['S'])} and {len(found['P'])}, and the last line says: {lines[-1]}"
-        )
-    sure, possible = (Spans(tick, [row.first for row in rows], [row.last for row in rows]) for rows in found.values())
-    if not sure._within(possible):
-        raise spans.WrongReport("a sure time is not among the possible ones")
-    return TimeSet(start, end, sure, possible, [request], request)

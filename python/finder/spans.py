@@ -3,7 +3,7 @@
 
     tools/spans cut [--from TIME] [--to TIME] N FILE..
     tools/spans files [--header FILE] [--from TIME] [--to TIME] FILE..
-    tools/spans join PLAN [REPORT..]
+    tools/spans join [--header FILE] [--file FILE] PLAN [REPORT..]
 
 A plan has a line `FROM TO` for each part, in order, each beginning where the one before ended; a part is the times
 after FROM and up to TO. `cut` prints one of at most N parts, cut at borders of blocks. `files` prints one with a part
@@ -16,6 +16,10 @@ is a part's report, for which the word `=` is needed: a year below 0 begins with
 files that are named or from its input, and prints the report of the whole. It refuses reports that are cut off or whose
 counts are wrong, reports of different requests, and any that are not those of the plan, in its order: none missing,
 none twice, none that overlap or leave times out. Nothing is printed then.
+
+Sets, which `finder set` prints, are joined in the same way, and so are certificates, which `finder cert` prints: those of
+parts that meet at a border of a column in use, or one tick before one, as all parts of `cut` and `files` do. Where the
+borders are, `finder check` says: of the first file that the plan names, or of --file, each after --header.
 
 TIME is a time of TDB as `finder` takes it: `2000-05-01T00:00:00`, with three digits more where a search counts
 milliseconds, or a whole number of seconds since J2000. The command is $FINDER, or the one that was installed beside
@@ -32,10 +36,10 @@ import re
 import shutil
 import subprocess
 import sys
-from collections.abc import Iterable, Sequence
+from collections.abc import Callable, Iterable, Sequence
 from dataclasses import dataclass
 from pathlib import Path
-from typing import NamedTuple, Optional, Union
+from typing import NamedTuple, Optional, TypeVar, Union
 
 # The program as it is shipped, and as an installed package has it.
 PROGRAM = "finder-x86_64-linux"
@@ -57,6 +61,18 @@ UNDECIDED = re.compile(r"U (\S+) (\S+)")
 COUNTS = re.compile(r"END certain (0|[1-9][0-9]*) undecided (0|[1-9][0-9]*)")
 SUMMARY = re.compile(r"CHECK start (\S+) end (\S+) block ([0-9]+) blocks ([0-9]+) ncoeff ([0-9]+)")
 COLUMN = re.compile(r"COLUMN ([a-z]+[0-9]*) coefficients ([0-9]+) granules ([0-9]+)")
+
+
+SET_REQUEST = re.compile(
+    rf"SET (?P<kind>coord|radius|apsis|station|sep|sepext){ASKED}"
+    rf" relation (?P<relation>less|atleast|within|outside){LIMITS}"
+)
+SET_LINE = re.compile(r"([SP]) (\S+) (\S+)")
+SET_COUNTS = re.compile(r"END sure (0|[1-9][0-9]*) possible (0|[1-9][0-9]*)")
+PIECE = re.compile(r"L (-?[0-9]{1,15}) (-?[0-9]{1,15}) ([0-9]{1,2}) ([NRFU])")
+PIECES = re.compile(r"END leaves ([0-9]{1,8})")
+# The bodies that are not read from a column of their own alone, and the columns that they need.
+MADE_OF = {"earth": ("emb", "moon"), "moon": ("emb", "moon"), "ssb": ()}
 
 
 class WrongReport(ValueError):
@@ -153,6 +169,77 @@ class Report:
         return "\n".join(lines) + "\n"
 
 
+@dataclass(frozen=True)
+class SetReport:
+    """What `finder set` prints: the request, without its span, the ticks in a second, the first and the last tick of the
+    span, and the first and last ticks of its sure and of its possible times, in order."""
+
+    request: str
+    tick: int
+    start: int
+    end: int
+    sure: tuple[tuple[int, int], ...]
+    possible: tuple[tuple[int, int], ...]
+
+    @property
+    def asked(self) -> dict[str, str]:
+        """The words of the request by their names."""
+        return words_of(self.request, SET_REQUEST)
+
+    @property
+    def span(self) -> str:
+        """The span as the report has it."""
+        return span_text(self.start, self.end, self.tick)
+
+    def text(self) -> str:
+        """The report, letter for letter as the command prints it."""
+        lines = [f"{self.request} span {self.span}"]
+        for letter, rows in (("S", self.sure), ("P", self.possible)):
+            lines += [f"{letter} {span_text(first, last, self.tick)}" for first, last in rows]
+        lines.append(f"END sure {len(self.sure)} possible {len(self.possible)}")
+        return "\n".join(lines) + "\n"
+
+
+class Piece(NamedTuple):
+    """A piece of a certificate: the ticks since J2000 after which and up to which it lies, how many cuts by the rule lead
+    to it, and its mark, which is `N`, `R`, `F` or `U`."""
+
+    after: int
+    upto: int
+    depth: int
+    mark: str
+
+
+@dataclass(frozen=True)
+class CertificateText:
+    """What `finder cert` prints: the request, without its span, the ticks in a second, the span in ticks, and the pieces,
+    which follow one another over it."""
+
+    request: str
+    tick: int
+    start: int
+    end: int
+    pieces: tuple[Piece, ...]
+
+    @property
+    def asked(self) -> dict[str, str]:
+        """The words of the request by their names."""
+        return words_of(self.request, REQUEST)
+
+    @property
+    def span(self) -> str:
+        """The span as the request has it."""
+        return span_text(self.start, self.end, self.tick)
+
+    def text(self) -> str:
+        """The certificate, letter for letter as the command prints it."""
+        lines = [f"L {after} {upto} {depth} {mark}" for after, upto, depth, mark in self.pieces]
+        return "\n".join(["CERT 1", f"{self.request} span {self.span}", *lines, f"END leaves {len(lines)}", ""])
+
+
+Part = Union[Report, SetReport, CertificateText]
+
+
 def read_head(line: str, form: re.Pattern[str]) -> tuple[str, int, int, int]:
     """The first line of a report: the request, which has this form, the ticks in a second, and the span in ticks."""
     request, found, span = line.partition(" span ")
@@ -178,8 +265,9 @@ def span_text(start: int, end: int, tick: int) -> str:
     return f"{time_text(start, tick)} {time_text(end, tick)}"
 
 
-def _window(line: str, head: Report, direction: str, after: int) -> Window:
-    """A line of a window, which begins after a time, within the span of a report, in the direction that it asks for."""
+def _window(line: str, head: Report, asked: dict[str, str], after: int) -> Window:
+    """A line of a window, which begins after a time, within the span of a report; a certain one is in the direction that
+    is asked for, and no wider than asked."""
     found = CERTAIN.fullmatch(line) or UNDECIDED.fullmatch(line)
     if not found:
         raise WrongReport(f"no line of a report: {line}")
@@ -187,15 +275,17 @@ def _window(line: str, head: Report, direction: str, after: int) -> Window:
     window = Window(ticks_of(found[1], head.tick), ticks_of(found[2], head.tick), turn)
     if not after < window.first <= window.last <= head.end:
         raise WrongReport(f"a window outside of the span, or not after the one before: {line}")
-    if turn and direction not in ("any", turn):
+    if turn and asked["dir"] not in ("any", turn):
         raise WrongReport(f"a window in a direction that was not asked for: {line}")
+    if turn and window.last - window.first >= int(asked["width"]):
+        raise WrongReport(f"a certain window that is wider than the width: {line}")
     return window
 
 
 def _one_report(lines: list[str], at: int) -> tuple[Report, int]:
     """The report that begins at a line, and the line after it."""
     head = Report(*read_head(lines[at], REQUEST), ())
-    direction = head.asked["dir"]
+    asked = head.asked
     windows: list[Window] = []
     for number in range(at + 1, len(lines)):
         line = lines[number]
@@ -207,29 +297,81 @@ def _one_report(lines: list[str], at: int) -> tuple[Report, int]:
                     f"the counts are {certain} and {len(windows) - certain}, and the last line says: {line}"
                 )
             return Report(head.request, head.tick, head.start, head.end, tuple(windows)), number + 1
-        windows.append(_window(line, head, direction, windows[-1].last if windows else head.start))
+        windows.append(_window(line, head, asked, windows[-1].last if windows else head.start))
     raise WrongReport(f"a report without its last line: {lines[at]}")
 
 
-def read_reports(text: str) -> list[Report]:
-    """The reports that stand one after the other in a text. Each line is checked, and the counts of the last one."""
+def _one_set(lines: list[str], at: int) -> tuple[SetReport, int]:
+    """The set that begins at a line, and the line after it."""
+    request, tick, start, end = read_head(lines[at], SET_REQUEST)
+    found: dict[str, list[tuple[int, int]]] = {"S": [], "P": []}
+    for number in range(at + 1, len(lines)):
+        line = lines[number]
+        if line.startswith("END"):
+            counts = SET_COUNTS.fullmatch(line)
+            if not counts or (int(counts[1]), int(counts[2])) != (len(found["S"]), len(found["P"])):
+                raise WrongReport(
+                    f"the counts are {len(found['S'])} and {len(found['P'])}, and the last line says: {line}"
+                )
+            return SetReport(request, tick, start, end, tuple(found["S"]), tuple(found["P"])), number + 1
+        row = SET_LINE.fullmatch(line)
+        if not row or (row[1] == "S" and found["P"]):
+            raise WrongReport(f"no line of a report, or not in its place: {line}")
+        before, first, last = found[row[1]], ticks_of(row[2], tick), ticks_of(row[3], tick)
+        if not (before[-1][1] + 2 if before else start) <= first <= last <= end:
+            raise WrongReport(f"a span outside of the report's, or one that is not after the one before: {line}")
+        before.append((first, last))
+    raise WrongReport(f"a report without its last line: {lines[at]}")
+
+
+def _one_certificate(lines: list[str], at: int) -> tuple[CertificateText, int]:
+    """The certificate that begins at a line, and the line after it."""
+    if lines[at] != "CERT 1" or at + 1 == len(lines):
+        raise WrongReport(f"no first lines of a certificate: {lines[at]}")
+    request, tick, start, end = read_head(lines[at + 1], REQUEST)
+    pieces: list[Piece] = []
+    upto = start
+    for number in range(at + 2, len(lines)):
+        line = lines[number]
+        found, last = PIECE.fullmatch(line), PIECES.fullmatch(line)
+        if last and upto == end and int(last[1]) == len(pieces):
+            return CertificateText(request, tick, start, end, tuple(pieces)), number + 1
+        if not found or int(found[1]) != upto or not upto < int(found[2]) <= end:
+            raise WrongReport(f"no line of a certificate, or not after the one before: {line}")
+        pieces.append(Piece(upto, int(found[2]), int(found[3]), found[4]))
+        upto = pieces[-1].upto
+    raise WrongReport(f"a certificate without its last line: {lines[at + 1]}")
+
+
+def read_parts(text: str) -> list[Part]:
+    """The reports, sets and certificates that stand one after the other in a text. Each line is checked, and the counts
+    of the last one."""
     if text and not text.endswith("\n"):
         raise WrongReport("the last line is cut off")
     lines = text.split("\n")[:-1]
-    reports = []
+    readers: dict[str, Callable[[list[str], int], tuple[Part, int]]] = {"SET": _one_set, "CERT": _one_certificate}
+    parts: list[Part] = []
     at = 0
     while at < len(lines):
-        report, at = _one_report(lines, at)
-        reports.append(report)
-    return reports
+        part, at = readers.get(lines[at].split(" ")[0], _one_report)(lines, at)
+        parts.append(part)
+    return parts
+
+
+T = TypeVar("T", Report, SetReport, CertificateText)
+
+
+def one_of(text: str, kind: type[T]) -> T:
+    """The one part of a text, which has to be of a kind."""
+    parts = read_parts(text)
+    if len(parts) != 1 or not isinstance(parts[0], kind):
+        raise WrongReport(f"{len(parts)} texts in place of one, or of another command")
+    return parts[0]
 
 
 def read_report(text: str) -> Report:
     """The one report of a text."""
-    reports = read_reports(text)
-    if len(reports) != 1:
-        raise WrongReport(f"{len(reports)} reports in place of one")
-    return reports[0]
+    return one_of(text, Report)
 
 
 @dataclass(frozen=True)
@@ -266,28 +408,83 @@ def read_summary(text: str) -> Summary:
     return summary
 
 
+def _in_order(parts: Iterable[T]) -> list[T]:
+    """Parts of one request whose spans follow one another."""
+    made: list[T] = []
+    for part in parts:
+        before = made[-1] if made else part
+        if type(part) is not type(before) or part.request != before.request:
+            raise WrongParts(f"reports of different requests: {before.request} and {part.request}")
+        if made and part.start != before.end:
+            how = "overlap" if part.start < before.end else "do not meet"
+            raise WrongParts(f"the spans {before.span} and {part.span} {how}")
+        made.append(part)
+    if not made:
+        raise WrongParts("no report")
+    return made
+
+
 def join(reports: Iterable[Report]) -> Report:
     """The report of the whole span, of the reports of its parts in order. An undecided window that ends where a part
     ends, and one that begins at the next tick, are one."""
-    whole: Optional[Report] = None
+    parts = _in_order(reports)
     windows: list[Window] = []
-    for report in reports:
-        if whole is None:
-            whole = report
-        elif report.request != whole.request:
-            raise WrongParts(f"reports of different requests: {whole.request} and {report.request}")
-        elif report.start != whole.end:
-            how = "overlap" if report.start < whole.end else "do not meet"
-            raise WrongParts(f"the spans {whole.span} and {report.span} {how}")
-        parts = report.windows
-        if windows and parts and windows[-1].turn is None and parts[0].turn is None:
-            if windows[-1].last == report.start and parts[0].first == report.start + 1:
-                parts = (Window(windows.pop().first, parts[0].last, None), *parts[1:])
-        windows += parts
-        whole = Report(whole.request, whole.tick, whole.start, report.end, ())
-    if whole is None:
-        raise WrongParts("no report")
-    return Report(whole.request, whole.tick, whole.start, whole.end, tuple(windows))
+    for report in parts:
+        later = report.windows
+        if windows and later and windows[-1].turn is None and later[0].turn is None:
+            if windows[-1].last == report.start and later[0].first == report.start + 1:
+                later = (Window(windows.pop().first, later[0].last, None), *later[1:])
+        windows += later
+    return Report(parts[0].request, parts[0].tick, parts[0].start, parts[-1].end, tuple(windows))
+
+
+def join_sets(sets: Iterable[SetReport]) -> SetReport:
+    """The set of the whole span, of those of its parts in order: at the time at which two parts meet, which is in both,
+    the earlier one counts. Spans that touch are one."""
+    parts = _in_order(sets)
+    found: tuple[list[tuple[int, int]], list[tuple[int, int]]] = ([], [])
+    for number, part in enumerate(parts):
+        after = part.start - 1 if number == 0 else part.start
+        for rows, later in zip(found, (part.sure, part.possible)):
+            for first, last in later:
+                if rows and rows[-1][1] >= max(first, after + 1) - 1:
+                    rows[-1] = (rows[-1][0], max(last, rows[-1][1]))
+                elif last > after:
+                    rows.append((max(first, after + 1), last))
+    return SetReport(parts[0].request, parts[0].tick, parts[0].start, parts[-1].end, tuple(found[0]), tuple(found[1]))
+
+
+def columns_in_use(asked: dict[str, str]) -> set[str]:
+    """The columns of which the bodies of a request are made, as its observer sees them: between the Earth and the Moon
+    it is the Moon's alone."""
+    observer, columns = asked["observer"], set()
+    for body in (asked["target"], asked["second"]):
+        if {body, observer} == {"earth", "moon"}:
+            columns.add("moon")
+        elif body != "-":
+            columns |= {*MADE_OF.get(body, (body,)), *MADE_OF.get(observer, (observer,))}
+    return columns
+
+
+def is_seam(time: int, tick: int, summary: Summary, columns: set[str]) -> bool:
+    """Whether a granule of one of these columns begins at a tick or at the next one."""
+    lengths = {summary.block * tick // summary.columns[name][1] for name in columns}
+    return any((time + later - summary.start * tick) % length == 0 for length in lengths for later in (0, 1))
+
+
+def join_certificates(certificates: Iterable[CertificateText], summary: Summary) -> CertificateText:
+    """The certificate of the whole span, of those of its parts in order, each of which ends at a border of a column in
+    use of the files, or one tick before one: the pieces of all, one after the other."""
+    parts = _in_order(certificates)
+    columns = columns_in_use(parts[0].asked)
+    for before, part in zip(parts, parts[1:]):
+        if not is_seam(part.start, part.tick, summary, columns):
+            raise WrongParts(
+                f"the certificates of {before.span} and {part.span} meet at no border of {', '.join(sorted(columns))},"
+                " nor one tick before one: cut the span by `cut` or `files`"
+            )
+    pieces = tuple(piece for part in parts for piece in part.pieces)
+    return CertificateText(parts[0].request, parts[0].tick, parts[0].start, parts[-1].end, pieces)
 
 
 def cut(count: int, summary: Summary, start: Optional[int] = None, end: Optional[int] = None) -> list[tuple[int, int]]:
@@ -378,22 +575,23 @@ def check(names: Sequence[str]) -> Summary:
     return read_summary(done.stdout.decode("ascii"))
 
 
-def read_plan(text: str) -> list[tuple[int, int]]:
-    """The spans of a plan, in milliseconds since J2000."""
+def read_plan(text: str) -> tuple[list[tuple[int, int]], Optional[str]]:
+    """The spans of a plan, in milliseconds since J2000, and the first file where it names some."""
     if not text.endswith("\n"):
         raise WrongParts("the plan has no part, or is cut off")
     spans = []
-    for line in text.split("\n")[:-1]:
+    lines = text.split("\n")[:-1]
+    for line in lines:
         words = line.split(" ")
         try:
             first, last = (milliseconds_of(word) for word in words[:2])
         except (ValueError, argparse.ArgumentTypeError):
             raise WrongParts(f"no line of a plan: {line}") from None
         spans.append((first, last))
-    return spans
+    return spans, "".join(lines[0].split(" ", 2)[2:]) or None
 
 
-def by_plan(spans: Sequence[tuple[int, int]], reports: Sequence[Report]) -> Iterable[Report]:
+def by_plan(spans: Sequence[tuple[int, int]], reports: Sequence[Part]) -> Iterable[Part]:
     """The reports, each of which has to be of the part of the plan at its place."""
     for number, (first, last) in enumerate(spans, 1):
         planned = f"part {number} of the plan, {plan_time(first)} {plan_time(last)}"
@@ -453,17 +651,46 @@ def parser() -> argparse.ArgumentParser:
             command.add_argument("--header")
         command.add_argument("files", nargs="+", metavar="FILE")
     command = commands.add_parser("join", allow_abbrev=False)
+    command.add_argument("--header")
+    command.add_argument("--file")
     command.add_argument("plan", metavar="PLAN")
     command.add_argument("reports", nargs="*", metavar="REPORT")
     return whole
 
 
+def join_parts(parts: Sequence[Part], check_files: Callable[[], Summary]) -> Part:
+    """The report, the set or the certificate of the whole; certificates want the summary of the files."""
+    reports = [part for part in parts if isinstance(part, Report)]
+    sets = [part for part in parts if isinstance(part, SetReport)]
+    certificates = [part for part in parts if isinstance(part, CertificateText)]
+    if len(reports) == len(parts):
+        return join(reports)
+    if len(sets) == len(parts):
+        return join_sets(sets)
+    if len(certificates) == len(parts):
+        return join_certificates(certificates, check_files())
+    raise WrongParts("reports, sets and certificates are not joined with one another")
+
+
+def joined(words: argparse.Namespace) -> str:
+    """The report, the set or the certificate of the whole of a plan."""
+    spans, named = read_plan(os.fsdecode(Path(words.plan).read_bytes()))
+    texts = [Path(name).read_bytes() for name in words.reports] or [sys.stdin.buffer.read()]
+    parts = list(by_plan(spans, [part for text in texts for part in read_parts(text.decode("ascii"))]))
+
+    def check_files() -> Summary:
+        files = [name for name in (words.header, words.file or named) if name]
+        if not files:
+            raise WrongParts("where the borders of certificates are, a file of theirs says: name one by --file")
+        return check(files)
+
+    return join_parts(parts, check_files).text()
+
+
 def said(words: argparse.Namespace) -> str:
     """What the tool prints."""
     if words.command == "join":
-        spans = read_plan(os.fsdecode(Path(words.plan).read_bytes()))
-        texts = [Path(name).read_bytes() for name in words.reports] or [sys.stdin.buffer.read()]
-        return join(by_plan(spans, [report for text in texts for report in read_reports(text.decode("ascii"))])).text()
+        return joined(words)
     if words.command == "files":
         lines = planned_files(words)
     else:

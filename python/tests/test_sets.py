@@ -11,7 +11,7 @@ import numpy as np
 
 import finder
 from finder import Span, Spans, TimeSet
-from tests.common import TOP, YEAR, InFolder, cases, stand_in
+from tests.common import TOP, YEAR, InFolder, cases, split_year, stand_in
 
 SEEN = {"observer": "earth", "frame": "ecl"}
 # What the options of words are here.
@@ -202,9 +202,13 @@ class Sets(InFolder):
         self.assertEqual(found.span, "2000-06-01T00:00:00 2000-06-02T00:00:01")
         self.assertEqual(found.text.splitlines()[1:], ["END sure 0 possible 0"])
 
-    def test_sets_are_not_joined_over_files(self):
-        with self.assertRaises(TypeError):
-            finder.over_files(finder.retrograde, [YEAR], "mercury", start="2000-06-01", end="2000-06-02", **SEEN)
+    def test_over_files_a_set_that_two_searches_make(self):
+        header, files = split_year(self.folder)
+        words = {"observer": "earth", "degrees": 30}
+        found = finder.over_files(finder.near, files, "moon", "jupiter", header=header, jobs=2, **words)
+        whole = finder.near(YEAR, "moon", "jupiter", **words)
+        self.assertEqual((found, found.made_of, found.text), (whole, whole.made_of, whole.text))
+        self.assertGreater(len(found.sure), 10)
 
 
 class Angles(InFolder):

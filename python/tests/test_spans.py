@@ -95,7 +95,7 @@ class Files(InFolder):
 
 class Joins(unittest.TestCase):
     def joined(self, *reports):
-        return spans.join(spans.read_reports("".join(reports))).text()
+        return spans.join(spans.read_parts("".join(reports))).text()
 
     def test_undecided_windows_that_meet_are_one(self):
         whole = self.joined(

@@ -14,9 +14,9 @@ known of its times. No event of the span is outside of the windows. The numbers 
 The searches for events are `coordinate`, `distance`, `apsides`, `conjunctions`, `oppositions`, `stations`,
 `separation`, `separation_extremes`, `occultations`, and `find`, which takes a kind by its name; `over_files` runs one
 of them over files in order of time, one by one. `certificate` takes what `find` takes, and `verify` checks what it
-gives. `times` finds how long something lasts, as a set of sure and of
-possible times; `near`, `far` and `retrograde` do so by an astronomer's words, and `a & b`, `a | b` and `~a` are sets
-made of others. Each search runs the command in a process of its own, and takes
+gives. `least` and `greatest` prove the extremes of a distance or a separation. `times` finds how long something lasts,
+as a set of sure and of possible times; `near`, `far` and `retrograde` do so by an astronomer's words, and `a & b`,
+`a | b` and `~a` are sets made of others. Each search runs the command in a process of its own, and takes
 
     observer, frame, dir, tick, width, depth, workers, cut     as the command's options, with its defaults; sets no dir
     start, end        times of TDB: the events after `start` and up to `end` are looked for, and the times of a set from
@@ -39,6 +39,7 @@ something lasts, which is proved where an interval says so.
 from ._almanac import SpanNotHeld, almanac
 from ._entries import Almanac, Contact, Entry, Event, Group, Numbers, Status
 from ._certificates import Certificate, Verified, certificate, verify
+from ._extremes import Extreme, NotProved, greatest, least
 from ._files import WrongFiles
 from ._intervals import Interval, intervals, on_at_start
 from ._names import names
@@ -98,6 +99,7 @@ __all__ = [
     "Entry",
     "Event",
     "EventRefused",
+    "Extreme",
     "FileFault",
     "FinderError",
     "Format",
@@ -106,6 +108,7 @@ __all__ = [
     "Interval",
     "NoErfa",
     "NoProgram",
+    "NotProved",
     "Numbers",
     "OutOfMemory",
     "Place",
@@ -143,8 +146,10 @@ __all__ = [
     "distance",
     "far",
     "find",
+    "greatest",
     "intervals",
     "join",
+    "least",
     "names",
     "near",
     "occultations",

@@ -92,7 +92,7 @@ class Certificate:
 
 @dataclass(frozen=True)
 class Verified:
-    """What `verify` says of a certificate that breaks no rule: the windows of its pieces, and how many pieces it has."""
+    """What `verify` says of a certificate that breaks no rule: the windows of its pieces, and their number."""
 
     windows: Windows
     leaves: int
@@ -117,8 +117,8 @@ def verify(
     program: Program = None,
     timeout: Optional[float] = None,
 ) -> Verified:
-    """The windows of a certificate, or of the file that has one, whose pieces are all judged again by the files. Whoever
-    made it is not trusted: `CertificateRefused` names its first line that is not so.
+    """The windows of a certificate, or of the file that has one, whose pieces are all judged again by the files.
+    Whoever made it is not trusted: `CertificateRefused` names its first line that is not so.
 
     What it is of, it says itself: read the `request` of the windows, and whether one of them is undecided; or name the
     request that it has to be of, with its span, as `Certificate.request` has it.

@@ -17,9 +17,9 @@ files that are named or from its input, and prints the report of the whole. It r
 counts are wrong, reports of different requests, and any that are not those of the plan, in its order: none missing,
 none twice, none that overlap or leave times out. Nothing is printed then.
 
-Sets, which `finder set` prints, are joined in the same way, and so are certificates, which `finder cert` prints: those of
-parts that meet at a border of a column in use, or one tick before one, as all parts of `cut` and `files` do. Where the
-borders are, `finder check` says: of the first file that the plan names, or of --file, each after --header.
+Sets, which `finder set` prints, are joined in the same way, and so are certificates, which `finder cert` prints: those
+of parts that meet at a border of a column in use, or one tick before one, as all parts of `cut` and `files` do. Where
+the borders are, `finder check` says: of the first file that the plan names, or of --file, each after --header.
 
 TIME is a time of TDB as `finder` takes it: `2000-05-01T00:00:00`, with three digits more where a search counts
 milliseconds, or a whole number of seconds since J2000. The command is $FINDER, or the one that was installed beside
@@ -171,8 +171,8 @@ class Report:
 
 @dataclass(frozen=True)
 class SetReport:
-    """What `finder set` prints: the request, without its span, the ticks in a second, the first and the last tick of the
-    span, and the first and last ticks of its sure and of its possible times, in order."""
+    """What `finder set` prints: the request, without its span, the ticks in a second, the first and the last tick of
+    the span, and the first and last ticks of its sure and of its possible times, in order."""
 
     request: str
     tick: int
@@ -201,8 +201,8 @@ class SetReport:
 
 
 class Piece(NamedTuple):
-    """A piece of a certificate: the ticks since J2000 after which and up to which it lies, how many cuts by the rule lead
-    to it, and its mark, which is `N`, `R`, `F` or `U`."""
+    """A piece of a certificate: the ticks since J2000 after which and up to which it lies, how many cuts by the rule
+    lead to it, and its mark, which is `N`, `R`, `F` or `U`."""
 
     after: int
     upto: int
@@ -212,8 +212,8 @@ class Piece(NamedTuple):
 
 @dataclass(frozen=True)
 class CertificateText:
-    """What `finder cert` prints: the request, without its span, the ticks in a second, the span in ticks, and the pieces,
-    which follow one another over it."""
+    """What `finder cert` prints: the request, without its span, the ticks in a second, the span in ticks, and the
+    pieces, which follow one another over it."""
 
     request: str
     tick: int
@@ -266,8 +266,8 @@ def span_text(start: int, end: int, tick: int) -> str:
 
 
 def _window(line: str, head: Report, asked: dict[str, str], after: int) -> Window:
-    """A line of a window, which begins after a time, within the span of a report; a certain one is in the direction that
-    is asked for, and no wider than asked."""
+    """A line of a window, which begins after a time, within the span of a report; a certain one is in the direction
+    that is asked for, and no wider than asked."""
     found = CERTAIN.fullmatch(line) or UNDECIDED.fullmatch(line)
     if not found:
         raise WrongReport(f"no line of a report: {line}")

@@ -1,4 +1,4 @@
-"""Certificates from Python, and those of parts, which are joined to that of the whole: its bytes are the command's own."""
+"""Certificates from Python, and those of parts, joined to that of the whole: its bytes are the command's own."""
 
 import subprocess
 import sys

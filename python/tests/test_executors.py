@@ -37,8 +37,10 @@ class Executors(InFolder):
         with self.assertRaises(finder.EventRefused) as caught:
             self.over(finder.conjunctions, "mars", "mars", executor=executor)
         self.assertEqual((caught.exception.status, caught.exception.number), (7, 51))
-        with self.assertRaisesRegex(TypeError, "sets of times"):
-            self.over(finder.retrograde, "mars", executor=executor)
+        back = self.over(finder.retrograde, "mercury", executor=executor)
+        self.assertEqual(back.text, finder.retrograde(YEAR, "mercury", **EARTH).text)
+        made = self.over(finder.certificate, "apsis", *MOON, executor=executor)
+        self.assertEqual(made, finder.certificate(YEAR, "apsis", *MOON, **EARTH))
 
     def test_threads(self):
         with concurrent.futures.ThreadPoolExecutor(2) as pool:

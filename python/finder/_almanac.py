@@ -27,7 +27,7 @@ from ._sky import erfa_package
 from ._times import Time, ticks_of_time
 from ._vectors import Floats, length, longitude, wrapped
 from ._windows import Windows
-from ._words import one_of
+from ._words import count, one_of
 
 # The days before and after a span in which events are searched for that may be seen in it, and how many more there are
 # for each year from 2000: the equinox of date moves away from that of J2000 by 20.4 minutes a year.
@@ -83,7 +83,7 @@ def almanac(
     not hold the span, both before any search.
     """
     first, last = (ticks_of_time(time, 1_000, up=False) / 1_000 for time in (start, end))
-    machine = Machine(file_names(files), runs_of(program, timeout), jobs, progress)
+    machine = Machine(file_names(files), runs_of(program, timeout), count("jobs", jobs), progress)
     return almanac_of_seconds(machine, first, last, title, groups_of(groups))
 
 
@@ -99,7 +99,7 @@ class Machine:
     def found(self, searches: Sequence[Search], start: int, end: int) -> list[Windows]:
         """What each search finds in a span of seconds of TDB since J2000; where one fails, all are ended."""
         span = {"start": spans.time_text(start), "end": spans.time_text(end)}
-        with concurrent.futures.ThreadPoolExecutor(max(1, self.jobs)) as pool:
+        with concurrent.futures.ThreadPoolExecutor(self.jobs) as pool:
             try:
                 futures = [pool.submit(search.run, self.files, program=self.runs, **span) for search in searches]
                 return results(futures, self.progress)
@@ -122,14 +122,14 @@ def almanac_of_seconds(machine: Machine, start: float, end: float, title: str, g
     made = recipes(groups)
     found = machine.found([search for recipe in made for search in recipe.searches], begin, stop)
     entries: list[Entry] = []
-    count = 0
+    done = 0
     for recipe in made:
         size = len(recipe.searches)
-        entries += recipe.entries(observed, found[count : count + size])
-        count += size
+        entries += recipe.entries(observed, found[done : done + size])
+        done += size
     inside = sorted((each for each in entries if start <= each.seconds < end), key=lambda each: each.seconds)
     curves = _curves(observed, start, end)
-    return Almanac(title, start, end, tuple(inside), groups, count, tuple(files), begin, stop, curves)
+    return Almanac(title, start, end, tuple(inside), groups, done, tuple(files), begin, stop, curves)
 
 
 def _searched(start: float, end: float, margin: float, have: spans.Summary) -> tuple[int, int]:

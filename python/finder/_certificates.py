@@ -12,6 +12,7 @@ from . import spans
 from ._program import Program, runs_of
 from ._search import Body, Files, Kind, Wanted, find_options, is_answer, run, some_names
 from ._windows import Windows
+from ._words import known
 
 if TYPE_CHECKING:
     from typing_extensions import Unpack
@@ -46,8 +47,13 @@ class Certificate:
 
     @classmethod
     def load(cls, name: Union[str, os.PathLike[str]]) -> Certificate:
-        """The certificate of a file."""
-        return cls.of_text(Path(name).read_bytes().decode("ascii"))
+        """The certificate of a file: `WrongReport` where the file has none."""
+        if not isinstance(name, (str, os.PathLike)) or "\n" in os.fspath(name):
+            raise TypeError("a file is a name or a path, and a text of a certificate is read by Certificate.of_text")
+        try:
+            return cls.of_text(Path(name).read_bytes().decode("ascii"))
+        except UnicodeDecodeError:
+            raise spans.WrongReport(f"{os.fspath(name)} has bytes that no certificate has") from None
 
     def save(self, name: Union[str, os.PathLike[str]]) -> None:
         """Writes the text to a file: what `finder cert` prints, letter for letter."""
@@ -102,6 +108,7 @@ def certificate(
     files: Files, kind: Kind, target: Body, second: Optional[Body] = None, **wanted: Unpack[Wanted]
 ) -> Certificate:
     """The certificate of a search, which takes what `find` takes."""
+    known("certificate", wanted, Wanted.__optional_keys__)
     options = find_options(kind, target, second, **wanted)
     made = Certificate.of_text(run("cert", options, files, wanted.get("program"), wanted.get("timeout")))
     if not is_answer(made.report, options):

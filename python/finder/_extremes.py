@@ -10,13 +10,14 @@ import numpy as np
 
 from . import spans
 from ._certificates import Certificate, certificate
-from ._numbers import cosine_of_degrees, decimal_text
+from ._numbers import Number, cosine_of_degrees, decimal_text
 from ._program import runs_of
 from ._search import Body, Files, Kind, SetOptions, find, some_names
 from ._series import Series
 from ._sets import Span
 from ._vectors import Floats, angle, length
 from ._windows import Window, Windows
+from ._words import known
 
 if TYPE_CHECKING:
     from typing_extensions import Unpack
@@ -27,6 +28,9 @@ else:
 KILOMETRE = 1.0
 ARC_SECOND = Fraction(1, 3_600)
 DEGREES = 180
+# The digits that the command takes of a length in km, and how many after the point are used at most.
+DIGITS, MOST_PLACES = 18, 9
+Margin = Union[Number, Fraction, None]
 
 
 class NotProved(ValueError):
@@ -71,7 +75,7 @@ def least(
     target: Body,
     second: Optional[Body] = None,
     *,
-    margin: Union[int, float, Fraction, None] = None,
+    margin: Margin = None,
     **options: Unpack[SetOptions],
 ) -> Extreme:
     """The least distance of a body from the observer in the span, in km, or with a second body the least angle between
@@ -90,7 +94,7 @@ def greatest(
     target: Body,
     second: Optional[Body] = None,
     *,
-    margin: Union[int, float, Fraction, None] = None,
+    margin: Margin = None,
     **options: Unpack[SetOptions],
 ) -> Extreme:
     """The greatest distance of a body from the observer in the span, in km, or with a second body the greatest angle
@@ -103,26 +107,42 @@ def _extreme(
     target: Body,
     second: Optional[Body],
     way: int,
-    margin: Union[int, float, Fraction, None],
+    margin: Margin,
     options: SetOptions,
 ) -> Extreme:
     """The extreme in one direction: -1 is the least, 1 the greatest."""
+    known("greatest" if way > 0 else "least", options, SetOptions.__optional_keys__)
     if options.get("tick", 1) != 1:
         raise ValueError("extremes are those of whole seconds: leave tick= out, and name a margin")
-    names = some_names(files)
-    words: dict[str, Any] = {**options, "target": target, "second": second}
+    names, slack = some_names(files), _margin_of(margin, second)
+    asked: dict[str, Any] = {"target": target, "second": second, **options}
+    asked.pop("timeout", None)
     # (`timeout` is of all three searches)
-    words["program"] = runs_of(options.get("program"), options.get("timeout"))
-    kind: Kind = "apsis" if second is None else "sepext"
-    events = find(names, kind, **words)
-    windows, numbers = _candidates(events, names)
+    words: dict[str, Any] = {**asked, "program": runs_of(options.get("program"), options.get("timeout"))}
+    windows, numbers = _candidates(find(names, "apsis" if second is None else "sepext", **words), names)
     best = int(np.nanargmax(way * numbers))
     value = Fraction(float(numbers[best]))
-    margin = Fraction(margin) if margin is not None else Fraction(KILOMETRE) if second is None else ARC_SECOND
-    if margin <= 0:
-        raise ValueError(f"a margin is above 0: {margin}")
-    beyond = _search(names, words, value + way * margin, -way)
-    short = _search(names, words, value - way * margin, way)
+    beyond = _search(names, words, value + way * slack, -way)
+    short = _search(names, words, value - way * slack, way)
+    proved = _proved(beyond, short)
+    where = _spans(proved, way if second is None else -way)
+    quantity = "distance" if second is None else "separation"
+    return Extreme(quantity, windows[best], float(value), float(slack), where, beyond, proved, tuple(names), asked)
+
+
+def _margin_of(margin: Margin, second: Optional[Body]) -> Fraction:
+    """A margin in km, or with a second body in degrees."""
+    if margin is None:
+        return Fraction(KILOMETRE) if second is None else ARC_SECOND
+    unit = "km" if second is None else "deg"
+    made = margin if isinstance(margin, Fraction) else Fraction(decimal_text(margin, unit))
+    if made <= 0:
+        raise ValueError(f"a margin is above 0: {margin!r}")
+    return made
+
+
+def _proved(beyond: Optional[Windows], short: Optional[Windows]) -> Windows:
+    """The windows of the search short of an extreme, where it and the one beyond prove it."""
     if short is None or not len(short):
         raise NotProved("the quantity changes by less than the margin: name a smaller one")
     for found in (beyond, short):
@@ -130,20 +150,7 @@ def _extreme(
             raise NotProved("a search leaves times undecided: name another margin, or a greater depth")
     if beyond is not None and len(beyond):
         raise NotProved(f"a time lies beyond it by more than the margin, {beyond[0]}: name a wider one")
-    made = {name: word for name, word in words.items() if name not in ("program", "timeout")}
-    program = {"program": options["program"]} if "program" in options else {}
-    quantity = "distance" if second is None else "separation"
-    return Extreme(
-        quantity,
-        windows[best],
-        float(value),
-        float(margin),
-        _spans(short, way if second is None else -way),
-        beyond,
-        short,
-        tuple(names),
-        {**made, **program},
-    )
+    return short
 
 
 def _candidates(events: Windows, files: list[str]) -> tuple[list[Window], Floats]:
@@ -171,10 +178,12 @@ def _search(files: list[str], words: dict[str, Any], bound: Fraction, up: int) -
 
 
 def _kilometres(bound: Fraction, up: int) -> str:
-    """A length as a decimal to a micrometre, rounded up or down."""
-    units = bound * 10**9
+    """A length as a decimal of at most 18 digits, nine of them after the point at most, rounded up or down."""
+    places = max(0, min(MOST_PLACES, DIGITS - len(str(int(bound)))))
+    units = bound * 10**places
     whole = -(-units.numerator // units.denominator) if up > 0 else units.numerator // units.denominator
-    return decimal_text(f"{whole // 10**9}.{whole % 10**9:09}")
+    # (a length that is rounded up to a power of ten has a digit more, and no places)
+    return f"{whole // 10**places}.{whole % 10**places:0{places}}".rstrip("0").rstrip(".")
 
 
 def _spans(short: Windows, way: int) -> tuple[Span, ...]:

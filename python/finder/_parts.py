@@ -14,6 +14,7 @@ from ._search import Files, check, file_names
 from ._sets import TimeSet
 from ._times import Time, ticks_of_time
 from ._windows import Windows
+from ._words import count
 from .spans import Summary
 
 # What is called with the number of files that have been done since the last call, as tqdm's `update` takes it.
@@ -95,7 +96,7 @@ class _Calls:
         self, executor: Optional[concurrent.futures.Executor], jobs: int, program: Program, timeout: Optional[float]
     ) -> None:
         self._runs = runs_of(program, timeout) if executor is None else None
-        self._pool = executor or concurrent.futures.ThreadPoolExecutor(max(1, jobs))
+        self._pool = executor or concurrent.futures.ThreadPoolExecutor(count("jobs", jobs))
         self._options: dict[str, Any] = {"program": self._runs}
         if executor is not None:
             self._options = {"program": _name_of(program), "timeout": timeout}

@@ -16,6 +16,7 @@ from typing import Optional, Union
 from . import spans
 from ._hints import TOO_LONG, causes_of, told
 from ._watch import watch
+from ._words import seconds
 
 # Seconds after which a wait begins anew: an interrupt that comes just before a wait begins is seen only when it ends.
 WAIT = 0.2
@@ -163,6 +164,8 @@ class Runs:
     """The processes of one call, which end with it."""
 
     def __init__(self, program: Union[str, os.PathLike[str], None], timeout: Optional[float]) -> None:
+        if timeout is not None:
+            seconds("timeout", timeout)
         self._program = spans.find_program(program)
         self._timeout = timeout
         self._deadline = None if timeout is None else time.monotonic() + timeout

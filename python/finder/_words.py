@@ -3,9 +3,11 @@
 from __future__ import annotations
 
 import difflib
+import math
+import numbers
 import sys
 import warnings
-from collections.abc import Sequence
+from collections.abc import Iterable, Mapping, Sequence
 from typing import Any, Optional
 
 import numpy as np
@@ -48,11 +50,35 @@ def one_of(what: str, value: Any, allowed: Sequence[str]) -> None:
     raise ValueError(f"no {what} is {value!r}: {hint}are {', '.join(allowed)}")
 
 
+def known(function: str, options: Mapping[str, Any], allowed: Iterable[str]) -> None:
+    """Refuses options that a function does not take, as Python does where each is a word of its own."""
+    names = sorted(allowed)
+    for name in options:
+        if name not in names:
+            near = difflib.get_close_matches(name, names, 1)
+            hint = f"did you mean {near[0]!r}?" if near else f"there are {', '.join(names)}"
+            raise TypeError(f"{function}() takes no option {name!r}: {hint}")
+
+
 def whole(name: str, value: Any) -> None:
     """Refuses what is no whole number."""
     if isinstance(value, (bool, np.bool_)) or not isinstance(value, (int, np.integer)):
         instead = f": write {name}={int(value)}" if isinstance(value, float) and value.is_integer() else ""
         raise TypeError(f"{name} is a whole number, and not {value!r}{instead}")
+
+
+def count(name: str, value: Any) -> int:
+    """A whole number from 1 on."""
+    whole(name, value)
+    if value < 1:
+        raise ValueError(f"{name} is 1 or more, and not {value!r}")
+    return int(value)
+
+
+def seconds(name: str, value: Any) -> None:
+    """Refuses what is no number of seconds."""
+    if isinstance(value, (bool, np.bool_)) or not isinstance(value, numbers.Real) or math.isnan(value):
+        raise TypeError(f"{name} is a number of seconds, and not {value!r}")
 
 
 def radii_of(radii: Any, apart: tuple[Any, ...] = ()) -> tuple[Any, Any]:

@@ -195,6 +195,19 @@ class FromPython(InFolder):
         ):
             with self.assertRaises(finder.WrongReport):
                 finder.Certificate.of_text(changed)
+        (self.folder / "cert").write_bytes(text.encode() + b"\xff")
+        with self.assertRaisesRegex(finder.WrongReport, "cert has bytes that no certificate has"):
+            finder.verify(YEAR, self.folder / "cert")
+        for given in (text, None):
+            with self.assertRaisesRegex(TypeError, "Certificate.of_text"):
+                finder.verify(YEAR, given)
+
+    def test_an_option_that_is_none(self):
+        # (it would be a certificate of another search than the one that is meant)
+        with self.assertRaisesRegex(TypeError, "did you mean 'start'"):
+            finder.certificate(YEAR, "apsis", "earth", observer="sun", strat="2000-02-01")
+        with self.assertRaisesRegex(TypeError, r"certificate\(\) takes no option 'relation'"):
+            finder.certificate(YEAR, "apsis", "earth", observer="sun", relation="less")
 
     def test_another_request(self):
         made = finder.certificate(YEAR, "apsis", "earth", observer="sun", end="2000-02-01")

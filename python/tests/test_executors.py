@@ -93,6 +93,13 @@ class Executors(InFolder):
         with self.assertRaises(finder.WrongParts):
             finder.over_files(finder.apsides, [], *MOON, **EARTH)
 
+    def test_how_many_at_once(self):
+        for jobs, error in ((0, ValueError), (-2, ValueError), ("2", TypeError), (2.0, TypeError)):
+            with self.assertRaisesRegex(error, "jobs is "):
+                self.over(finder.apsides, *MOON, jobs=jobs)
+            with self.assertRaisesRegex(error, "jobs is "):
+                finder.almanac(YEAR, "2000-01-01", "2000-02-01", groups="moon", jobs=jobs)
+
 
 if __name__ == "__main__":
     unittest.main()

@@ -4,10 +4,12 @@ What is right is taken from elsewhere: 357,130 km is the Moon's least distance i
 bisection with the command; and each value and its hour are compared with those of a grid of times, in doubles."""
 
 import unittest
+from fractions import Fraction
 
 import numpy as np
 
 import finder
+from finder._extremes import _kilometres
 from finder._vectors import angle, length
 from tests.common import PROGRAM, YEAR, InFolder, stand_in
 
@@ -82,6 +84,24 @@ class Extremes(InFolder):
         wide = finder.greatest(YEAR, "moon", margin=1_000, **YEAR_2000)
         self.assertGreater(len(wide.where), 1)
         self.assertEqual(len(wide.where), int((wide.short.rises).sum()))
+
+    def test_bodies_beyond_a_milliard_of_kilometres(self):
+        # a bound has 18 digits at most, ten of them before the point here
+        for call, way, numbers in ((finder.least, -1, np.min), (finder.greatest, 1, np.max)):
+            self.proved(call(YEAR, "saturn", **EARTH), numbers(grid(-734_400, 32_443_200, "saturn")), way)
+        self.assertEqual(_kilometres(Fraction(9_999_999_999_999_999_999, 10**10), 1), "1000000000")
+        self.assertEqual(_kilometres(Fraction(1_347_789_912_123_456_789, 10**9), -1), "1347789912.12345678")
+        self.assertEqual(_kilometres(Fraction(1, 3), 1), "0.333333334")
+
+    def test_words_that_are_none(self):
+        for margin, error in ((float("nan"), ValueError), (float("inf"), ValueError), ("wide", ValueError)):
+            with self.assertRaises(error):
+                finder.least(YEAR, "moon", margin=margin, **YEAR_2000)
+        # (the spans in which an extreme lies are those of both directions)
+        with self.assertRaisesRegex(TypeError, r"least\(\) takes no option 'dir'"):
+            finder.least(YEAR, "moon", dir="rise", **YEAR_2000)
+        with self.assertRaisesRegex(TypeError, "did you mean 'start'"):
+            finder.greatest(YEAR, "moon", strat="2000-02-01", **EARTH)
 
     def test_what_is_not_proved(self):
         for call, words in (

@@ -163,6 +163,11 @@ class Stops(InFolder):
         self.assertIsInstance(caught.exception, TimeoutError)
         self.assertFalse(is_running(self.process()))
 
+    def test_what_is_no_number_of_seconds(self):
+        for timeout in ("5", float("nan"), True):
+            with self.assertRaisesRegex(TypeError, "timeout is a number of seconds"):
+                finder.check(YEAR, program=self.slow, timeout=timeout)
+
     def test_the_command_itself_is_ended(self):
         pipe = self.folder / "pipe"
         os.mkfifo(pipe)

@@ -8,7 +8,6 @@ from __future__ import annotations
 import argparse
 import datetime
 import difflib
-import os
 import sys
 import zoneinfo
 from collections.abc import Sequence
@@ -20,7 +19,7 @@ from ._pages import Format, page
 from ._program import FinderError, runs_of
 from ._scales import FIRST_UTC_YEAR, UTC, Clock, Scale
 from ._sky import NoErfa
-from .spans import NoProgram, WrongReport
+from .spans import NoProgram, WrongReport, write
 
 GROUPS = ", ".join(group.value for group in Group)
 ALMANAC = f"""\
@@ -174,12 +173,9 @@ def main(arguments: Optional[Sequence[str]] = None) -> int:
     except KeyboardInterrupt:
         return 130
     try:
-        sys.stdout.buffer.write(text.encode())
-        sys.stdout.flush()
+        write(text.encode())
     except OSError as error:
         print(f"finder: standard output: {error.strerror}", file=sys.stderr)
-        # (what is left is not written once more as Python ends)
-        os.dup2(os.open(os.devnull, os.O_WRONLY), sys.stdout.fileno())
         return 3
     return 0
 

@@ -616,12 +616,12 @@ def planned_files(words: argparse.Namespace) -> list[str]:
     return [f"{plan_time(begin)} {plan_time(stop)} {name}" for begin, stop, name in parts]
 
 
-def write(text: str) -> None:
+def write(text: bytes) -> None:
     """Writes to standard output, whole. What it does not take is not tried again when the process ends."""
     if sys.stdout is None:
         raise OSError(errno.EBADF, os.strerror(errno.EBADF), "standard output")
     try:
-        sys.stdout.buffer.write(os.fsencode(text))
+        sys.stdout.buffer.write(text)
         sys.stdout.flush()
     except OSError as error:
         os.dup2(os.open(os.devnull, os.O_WRONLY), sys.stdout.fileno())
@@ -632,7 +632,7 @@ class Words(argparse.ArgumentParser):
     """Words whose help is written as all else is."""
 
     def print_help(self, file: object = None) -> None:
-        write(self.format_help())
+        write(os.fsencode(self.format_help()))
 
 
 def parser() -> argparse.ArgumentParser:
@@ -702,7 +702,7 @@ def said(words: argparse.Namespace) -> str:
 def main() -> int:
     """Does what the words ask for, and returns the status."""
     try:
-        write(said(parser().parse_args()))
+        write(os.fsencode(said(parser().parse_args())))
     except (WrongReport, WrongParts, NoProgram, UnicodeDecodeError) as error:
         print(f"spans: {error}", file=sys.stderr)
         return 1

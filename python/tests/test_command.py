@@ -105,6 +105,12 @@ class Output(InFolder):
             done = started(*SEASONS, stdout=full, stderr=subprocess.PIPE)
         self.assertEqual((done.returncode, done.stderr), (3, b"finder: standard output: No space left on device\n"))
 
+    def test_no_output_at_all(self):
+        words = ["sh", "-c", 'exec "$0" -m finder "$@" >&-', sys.executable, *SEASONS]
+        environment = {**os.environ, "PYTHONPATH": str(TOP / "python"), "FINDER": str(PROGRAM)}
+        done = subprocess.run(words, env=environment, check=False, stderr=subprocess.PIPE)
+        self.assertEqual((done.returncode, done.stderr), (3, b"finder: standard output: Bad file descriptor\n"))
+
     def test_progress_on_a_terminal(self):
         slow = stand_in(self.folder, f'[ "$1" = check ] || sleep 0.3\nexec {PROGRAM} "$@"')
         mine, theirs = pty.openpty()

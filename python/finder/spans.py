@@ -34,6 +34,7 @@ import errno
 import os
 import re
 import shutil
+import signal
 import subprocess
 import sys
 from collections.abc import Callable, Iterable, Sequence
@@ -556,10 +557,9 @@ def milliseconds_of(text: str) -> int:
 
 def count_of(text: str) -> int:
     """How many parts there may be."""
-    count = int(text)
-    if count < 1:
+    if not re.fullmatch("[0-9]{1,9}", text) or int(text) < 1:
         raise argparse.ArgumentTypeError(f"no count of parts: {text}")
-    return count
+    return int(text)
 
 
 def plan_time(milliseconds: int) -> str:
@@ -614,6 +614,13 @@ def planned_files(words: argparse.Namespace) -> list[str]:
     found = [check([*headers, name]) for name in words.files]
     parts = spans_of_files(words.files, found, words.start, words.end)
     return [f"{plan_time(begin)} {plan_time(stop)} {name}" for begin, stop, name in parts]
+
+
+def read() -> bytes:
+    """All of standard input."""
+    if sys.stdin is None:
+        raise OSError(errno.EBADF, os.strerror(errno.EBADF), "standard input")
+    return sys.stdin.buffer.read()
 
 
 def write(text: bytes) -> None:
@@ -675,7 +682,7 @@ def join_parts(parts: Sequence[Part], check_files: Callable[[], Summary]) -> Par
 def joined(words: argparse.Namespace) -> str:
     """The report, the set or the certificate of the whole of a plan."""
     spans, named = read_plan(os.fsdecode(Path(words.plan).read_bytes()))
-    texts = [Path(name).read_bytes() for name in words.reports] or [sys.stdin.buffer.read()]
+    texts = [Path(name).read_bytes() for name in words.reports] or [read()]
     parts = list(by_plan(spans, [part for text in texts for part in read_parts(text.decode("ascii"))]))
 
     def check_files() -> Summary:
@@ -701,6 +708,7 @@ def said(words: argparse.Namespace) -> str:
 
 def main() -> int:
     """Does what the words ask for, and returns the status."""
+    signal.signal(signal.SIGINT, signal.SIG_DFL)
     try:
         write(os.fsencode(said(parser().parse_args())))
     except (WrongReport, WrongParts, NoProgram, UnicodeDecodeError) as error:

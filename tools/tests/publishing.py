@@ -157,6 +157,9 @@ class Checks:
             ("Moon --kind apsis", "small letters"),
             ("moon --kind apsis --target moon\nmoon --kind apsis --target moon", "stands there twice"),
             ("moon --kind apsis --target moon --cert=x", "options of `finder find` alone"),
+            ("moon --kind apsis --cert x --target moon", "options of `finder find` alone"),
+            ("moon --kind=apsis header.405 --target moon", "options of `finder find` alone"),
+            ("moon --kind apsis --target moon\nsun --kind 'apsis", "catalogue line 2: No closing quotation"),
             ("moon --kind apses --target moon", "moon: finder: words: 63 BadValue kind"),
         ):
             (self.folder / "other").write_text(f"{line}\n")
@@ -165,6 +168,20 @@ class Checks:
             shutil.rmtree(self.folder / "none", ignore_errors=True)
         done = published(self.words[0], self.folder / "none", self.folder / "missing")
         self.expect(done.returncode == 3, f"a file that is not there: {done.stderr}")
+        for jobs in ("0", "65", "many"):
+            done = published("--jobs", jobs, *self.words)
+            self.expect(done.returncode == 2 and f"from 1 to 64: {jobs}\n" in done.stderr, f"jobs: {done.stderr}")
+
+    def a_file_that_is_changed(self) -> None:
+        """What is changed while it is searched is not published."""
+        data = self.folder / "year"
+        shutil.copy(YEAR, data)
+        program = self.folder / "changing"
+        program.write_text(f'#!/bin/sh\n{PROGRAM} "$@" || exit\n[ "$1" = cert ] || echo >>"{data}"\n')
+        program.chmod(0o755)
+        done = published(self.words[0], self.folder / "unsure", data, FINDER=str(program))
+        self.expect(done.returncode == 1 and "INPUTS is not what it was" in done.stderr, f"a change: {done.stderr}")
+        self.expect(not (self.folder / "unsure" / "SEAL").exists(), "it has no seal")
 
 
 def main() -> int:
@@ -174,6 +191,7 @@ def main() -> int:
         checks.undisturbed_and_killed()
         checks.changed_bytes()
         checks.refusals()
+        checks.a_file_that_is_changed()
     print(f"publishing: {checks.passed} passed, {checks.failed} failed")
     return 1 if checks.failed else 0
 

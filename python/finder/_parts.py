@@ -33,6 +33,9 @@ def join(parts: Iterable[Found], files: Optional[Summary] = None) -> Found:
         return files
 
     found: list[Any] = list(parts)
+    for part in found:
+        if not isinstance(part, (Windows, TimeSet, Certificate)):
+            raise TypeError(f"windows, sets and certificates are joined, and not {type(part).__name__}")
     kind: Any = type(found[0]) if found else Windows
     whole = kind.joined(found) if kind is TimeSet else spans.join_parts([part.report for part in found], checked)
     made: Found = whole if kind is TimeSet else kind.of_report(whole)

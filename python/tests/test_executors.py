@@ -93,6 +93,12 @@ class Executors(InFolder):
         with self.assertRaises(finder.WrongParts):
             finder.over_files(finder.apsides, [], *MOON, **EARTH)
 
+    def test_what_is_not_joined(self):
+        with self.assertRaisesRegex(TypeError, "and not Extreme"):
+            self.over(finder.least, *MOON)
+        with self.assertRaisesRegex(TypeError, "and not int"):
+            finder.join([3])
+
     def test_how_many_at_once(self):
         for jobs, error in ((0, ValueError), (-2, ValueError), ("2", TypeError), (2.0, TypeError)):
             with self.assertRaisesRegex(error, "jobs is "):

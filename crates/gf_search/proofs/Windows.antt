@@ -1,15 +1,17 @@
--- The leaves of the coarse or the eager tree of a search have the windows of its tree.
+-- The leaves of the tree of a search, and those of its eager tree, settled, have the windows of the tree.
 use Rattle.std.proofs.Common.{◌≡◌, ◌≤◌, ℕ, Bool, true, false, List, [], sym, ap, ◌∙◌, subst, arith}
 use Rattle.std.proofs.lemmas.Bool.{leb-true}
-use Rattle.std.specs.Prelude.{All, if◌then◌else◌, nat_le}
+use Rattle.std.specs.Prelude.{All, if◌then◌else◌, map, nat_le}
 use Rattle.spec_trees.specs.declared.tree.Leaf.{Leaf}
 use Rattle.spec_trees.specs.declared.tree.Node.{Node}
-use Rattle.spec_trees.specs.Tree.{Covers, Rules, leaf_count, leaves}
+use Rattle.spec_trees.specs.Tree.{Covers, leaf_count, leaves}
 use Rattle.spec_trees.specs.Windows.{windows}
 use Rattle.spec_searches.specs.Found.{rules}
 use Rattle.spec_searches.specs.Search.{Search}
 use Rattle.spec_stills.specs.declared.still.StillSpan.{StillSpan}
 use Rattle.spec_stills.specs.Still.{IsStill}
+use Rattle.spec_stills.specs.Eager.{eager_rules}
+use Rattle.spec_stills.specs.Settled.{settled, settled_leaves}
 use Rattle.spec_stills.specs.Weights.{weights}
 use Rattle.still_spans.specs.Order.{are_in_order, in_order_or_none}
 use Rattle.gf_search.specs.Wanted.{HaveWindows}
@@ -32,14 +34,16 @@ module _ (most : ℕ) (s : Search) (n : Node) (ls : List Leaf) where
     few = few;
   }
 
-  -- and so have those of a tree with the same windows, where they weigh no more than so much
-  pub weighed_have : (t : Rules) (xs : List StillSpan) → windows (leaves t n) ≡ windows (leaves (rules s) n) → Covers n.a (leaves t n) n.b
-      → leaf_count (rules s) n ≤ weights s xs (leaves t n) → ls ≡ leaves t n → nat_le (weights s xs ls) most ≡ true → HaveWindows most s n ls
-  weighed_have t xs windows_same cover weighed same light =
-      let few = leb-true (weights s xs ls) most light in
-      let here = subst (λ (vs : List Leaf). leaf_count (rules s) n ≤ weights s xs vs) (sym same) weighed in
+  -- and so have those of the eager tree, settled, where they weigh no more than so much
+  pub settled_have : (xs : List StillSpan) (found : List Leaf) → windows (settled_leaves s xs n) ≡ windows (leaves (rules s) n) → Covers n.a (settled_leaves s xs n) n.b
+      → leaf_count (rules s) n ≤ weights s xs (leaves (eager_rules s xs) n) → found ≡ leaves (eager_rules s xs) n → ls ≡ map (settled s n) found
+      → nat_le (weights s xs found) most ≡ true → HaveWindows most s n ls
+  settled_have xs found windows_same cover weighed found_is same light =
+      let few = leb-true (weights s xs found) most light in
+      let here = subst (λ (vs : List Leaf). leaf_count (rules s) n ≤ weights s xs vs) (sym found_is) weighed in
+      let all = same ∙ ap (map (settled s n)) found_is in
       record {
-        windows = ap windows same ∙ windows_same;
-        follow = subst (λ (vs : List Leaf). Covers n.a vs n.b) (sym same) cover;
+        windows = ap windows all ∙ windows_same;
+        follow = subst (λ (vs : List Leaf). Covers n.a vs n.b) (sym all) cover;
         few = omega (arith, few, here);
       }

@@ -11,9 +11,9 @@
 #![tactic(auto)]
 
 mod book;
-mod coarse;
 mod combined;
 mod crew;
+mod eager;
 mod reached;
 mod references;
 mod relations;

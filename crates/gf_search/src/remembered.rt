@@ -5,8 +5,8 @@ ghost use Rattle.spec_searches.specs.Found.{rules};
 ghost use Rattle.gf_search.specs.Wanted.{AreLeaves, AreWanted, HaveWindows, StopsAt};
 
 use crate::book::leaves_by;
-use crate::coarse::{stills_of, windowed_leaves};
 use crate::crew::Crew;
+use crate::eager::{stills_of, windowed_leaves};
 use crate::wanted::Wanted;
 use event_judge::{EventSearch, Judge, Naming, RememberingJudge};
 use gf_edges::Gate;

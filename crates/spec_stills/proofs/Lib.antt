@@ -1,10 +1,14 @@
 pub mod Blocks
 pub mod Halvings
-pub mod Coarser
+pub mod Served
 pub mod Units
-pub mod Lists
 pub mod Sound
 pub mod Alike
+pub mod Cleared
+pub mod Settling
+pub mod Descending
+pub mod Counting
+pub mod Weighing
 pub mod Fractions
 pub mod Made
 pub mod Sizes

@@ -1,4 +1,4 @@
--- How many leaves of the tree of a search there may be where its coarse tree has one.
+-- How many leaves of the tree of a search there may be where its eager tree has one.
 use Rattle.std.specs.Prelude.{ℕ, ◌^◌, List, Option, None, Some, find, sum_by}
 use Rattle.spec_trees.specs.declared.tree.Leaf.{Leaf}
 use Rattle.spec_trees.specs.declared.tree.Node.{Node}

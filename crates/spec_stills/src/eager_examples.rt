@@ -1,16 +1,11 @@
 // Worked values of eager trees, by computation.
 ghost use Rattle.std.specs.Prelude.{◌≡◌, [], ◌∷◌, true, false, pos};
 ghost use Rattle.spec_trees.specs.declared.cuts.CutRule.TheVariants.{Half};
-ghost use Rattle.spec_trees.specs.declared.tree.Mark.TheVariants as M;
-ghost use Rattle.spec_trees.specs.declared.tree.Turn.TheVariants.{Rise};
 ghost use Rattle.spec_trees.specs.declared.tree.Verdict.TheVariants.{Clear, Split};
-ghost use Rattle.spec_trees.specs.CutExamples.{clear_at};
-ghost use Rattle.spec_trees.specs.Tree.{leaf_of};
 ghost use Rattle.spec_events.specs.VerdictExamples.{node_at};
 ghost use Rattle.spec_searches.specs.Search.{Search, verdict_of};
 ghost use Rattle.spec_stills.specs.StillExamples.{both, cutting, late};
 ghost use Rattle.spec_stills.specs.Eager.{begin_in, eager_verdict};
-ghost use Rattle.spec_stills.specs.Told.{AreTold};
 
 /// A span that begins at the time 64 begins in a node that has 64 as its first time or inside, and not in one that ends there
 /// or begins after it.
@@ -38,12 +33,4 @@ pub fn nodes_that_are_split_unjudged()
     ensures elsewhere { (s : Search)
         → eager_verdict (cutting Half s) both (node_at (pos 128) (pos 136) 6)
         ≡ verdict_of (cutting Half s) (node_at (pos 128) (pos 136) 6) }
-{}
-
-/// A clear leaf and one with an event leave nothing undecided, and an undecided leaf does.
-pub fn leaves_that_leave_nothing_undecided()
-    ensures told { AreTold (clear_at 6 (pos 60) (pos 64)
-        ∷ leaf_of (node_at (pos 64) (pos 65) 6) (M.One Rise) ∷ []) }
-    ensures undecided { AreTold (clear_at 6 (pos 60) (pos 64)
-        ∷ leaf_of (node_at (pos 64) (pos 65) 40) M.Undecided ∷ []) → ⊥ }
 {}

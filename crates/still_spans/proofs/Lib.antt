@@ -1,5 +1,6 @@
 mod FollowingShares
 mod Begun
+mod Changing
 mod Eager
 mod FollowingNodes
 mod Served

@@ -18,8 +18,8 @@ impl<'j, 'e, J: Judge> EagerJudge<'j, 'e, J> {
         stills: &'j StillList,
     ) -> EagerJudge<'j, 'e, J>
         requires { J.rules judge.now ≡ rules search.now }
-        ensures { eager_rules result.search.now result.stills.now
-            ≡ eager_rules search.now stills.now }
+        ensures search { result.search.now ≡ search.now }
+        ensures stills { result.stills.now ≡ stills.now }
     {
         search.is_search();
         eager_trees_are_sound();

@@ -1,4 +1,4 @@
-// The still span that serves a node of a search, and how many leaves of its tree leaves of the coarse tree stand for.
+// The still span that serves a node of a search, and how many leaves of its tree leaves of the eager tree stand for.
 ghost use Rattle.std.specs.Prelude.{◌≡◌, ◌≤◌, ◌<ℤ◌, ◌^◌, All, IfSome, nat_le};
 ghost use Rattle.spec_trees.specs.Tree.{HasTime};
 ghost use Rattle.spec_stills.specs.Still.{is_fine_enough, is_half, is_near_enough, lies_in, serves};
@@ -101,7 +101,7 @@ impl StillList {
         self.serving_of(search, node, self.count_upto(node))
     }
 
-    // How many leaves of the tree of a search a leaf of its coarse tree stands for at most.
+    // How many leaves of the tree of a search a leaf of its eager tree stands for at most.
     fn weight(&self, search: &EventSearch, leaf: Leaf) -> u64
         requires { HasTime leaf }
         ensures weight { result ≡ weight search.now self.now leaf }
@@ -113,7 +113,7 @@ impl StillList {
         }
     }
 
-    /// Whether leaves of the coarse tree of a search stand for no more than so many leaves of its tree, as far as the spans
+    /// Whether leaves of the eager tree of a search stand for no more than so many leaves of its tree, as far as the spans
     /// tell.
     pub fn are_few(&self, search: &EventSearch, leaves: &[Leaf], most: u32) -> bool
         requires { All HasTime leaves.now }

@@ -1,0 +1,161 @@
+// Leaves that have the windows of a search: those of its eager tree, settled, or those of its tree.
+ghost use Rattle.std.specs.Prelude.{◌≡◌, All, IfErr, IfOk, map};
+ghost use Rattle.spec_trees.specs.Tree.{HasTime, IsValid, leaf_count, leaves};
+ghost use Rattle.spec_searches.specs.Found.{rules};
+ghost use Rattle.spec_stills.specs.Still.{IsStill};
+ghost use Rattle.spec_stills.specs.Eager.{eager_rules};
+ghost use Rattle.spec_stills.specs.Settled.{settled};
+ghost use Rattle.gf_search.specs.Wanted.{HaveWindows, StopsAt};
+
+use crate::book::leaves_by;
+use crate::crew::Crew;
+use event_judge::{EventSearch, Judge};
+use gf_edges::Gate;
+use halving::rules_are_sound;
+use spec_outcomes::Refusal;
+use spec_stills::eager_laws::{eager_trees_are_sound, eager_trees_weigh_enough};
+use spec_stills::settled_laws::settled_leaves_have_the_same_windows;
+use spec_trees::{Leaf, Node, leaves_cover_the_node};
+use std::sync::Wait;
+use std::thread::Threads;
+use still_spans::{EagerJudge, StillList, still_spans_by};
+
+/// Still spans of a search over the times of a node, in order, which a crew looks for.
+pub(crate) fn stills_of<R: Threads + Sync, G>(
+    crew: &Crew<R, G>,
+    search: &EventSearch,
+    node: Node,
+) -> Result<StillList, Refusal>
+    ensures still { IfOk result (λ stills. All (IsStill search.now) stills) }
+    ensures memory { IfErr result (λ refusal. refusal ≡ Refusal.Memory) }
+{
+    match still_spans_by(
+        crew.runtime,
+        crew.alloc,
+        search,
+        node.a,
+        node.b,
+        crew.workers,
+    ) {
+        Ok(spans) => Ok(StillList::new(spans)),
+        Err(_) => Err(Refusal::Memory),
+    }
+}
+
+// The leaves of the eager tree of a search, by a judge of its nodes and by spans that may be still.
+fn eager_leaves_by<R: Threads + Wait + Sync, J: Judge, G: Gate>(
+    crew: &Crew<R, G>,
+    judge: &J,
+    search: &EventSearch,
+    stills: &StillList,
+    root: Node,
+) -> Result<Vec<Leaf>, Refusal>
+    requires rules { J.rules judge.now ≡ rules search.now }
+    requires valid { IsValid (rules search.now) root }
+    ensures { IfOk result (λ found. found.items
+        ≡ leaves (eager_rules search.now stills.now) root) }
+{
+    eager_trees_are_sound();
+    let eager = EagerJudge::new(judge, search, stills);
+    leaves_by(crew, &eager, root)
+}
+
+// The leaves of the tree of a search, by a judge of its nodes, which have its windows.
+fn fine_leaves_by<R: Threads + Wait + Sync, J: Judge, G: Gate>(
+    crew: &Crew<R, G>,
+    judge: &J,
+    search: &EventSearch,
+    root: Node,
+) -> Result<Vec<Leaf>, Refusal>
+    requires rules { J.rules judge.now ≡ rules search.now }
+    requires valid { IsValid (rules search.now) root }
+    ensures windows { IfOk result (λ found.
+        HaveWindows crew.now.max_leaves search.now root found.items) }
+    ensures stopped { IfErr result (λ refusal.
+        StopsAt crew.now.max_leaves (leaf_count (rules search.now) root) refusal) }
+{
+    rules_are_sound(judge);
+    leaves_cover_the_node();
+    leaves_by(crew, judge, root)
+}
+
+// Leaves of the eager tree of a search at a root, settled by a judge of its nodes.
+fn settled<J: Judge>(
+    judge: &J,
+    search: &EventSearch,
+    stills: &StillList,
+    root: Node,
+    found: Vec<Leaf>,
+) -> Vec<Leaf>
+    requires rules { J.rules judge.now ≡ rules search.now }
+    requires valid { IsValid (rules search.now) root }
+    requires time { All HasTime found.items }
+    ensures { result.items ≡ map (settled search.now root) found.items }
+{
+    let mut leaves = found;
+    let eager = EagerJudge::new(judge, search, stills);
+    eager.settle(root, &mut leaves);
+    leaves
+}
+
+// Leaves that have the windows of the tree of a search at a root, by a judge of its nodes and by still spans: those of the
+// eager tree, settled, where they weigh no more than the crew may find; or those of the tree; or `TooManyLeaves` where these
+// are more than that.
+fn eager_windows<R: Threads + Wait + Sync, J: Judge, G: Gate>(
+    crew: &Crew<R, G>,
+    judge: &J,
+    search: &EventSearch,
+    stills: &StillList,
+    root: Node,
+) -> Result<Vec<Leaf>, Refusal>
+    requires rules { J.rules judge.now ≡ rules search.now }
+    requires valid { IsValid (rules search.now) root }
+    requires still { All (IsStill search.now) stills.now }
+    ensures windows { IfOk result (λ found.
+        HaveWindows crew.now.max_leaves search.now root found.items) }
+    ensures stopped { IfErr result (λ refusal.
+        StopsAt crew.now.max_leaves (leaf_count (rules search.now) root) refusal) }
+{
+    search.is_search();
+    eager_trees_are_sound();
+    eager_trees_weigh_enough();
+    settled_leaves_have_the_same_windows();
+    leaves_cover_the_node();
+    match eager_leaves_by(crew, judge, search, stills, root) {
+        Ok(found) => {
+            if stills.are_few(search, &found, crew.max_leaves) {
+                let leaves = settled(judge, search, stills, root, found);
+                Ok(leaves)
+            } else {
+                fine_leaves_by(crew, judge, search, root)
+            }
+        }
+        Err(Refusal::Memory) => Err(Refusal::Memory),
+        Err(_) => fine_leaves_by(crew, judge, search, root),
+    }
+}
+
+/// Leaves that have the windows of the tree of a search at a root, by a judge of its nodes and by still spans, in order of
+/// time: those of the eager tree, settled; or those of the tree, where there are no spans, or where the tree may have more
+/// leaves than the crew may find; or `TooManyLeaves` where it has.
+pub(crate) fn windowed_leaves<R: Threads + Wait + Sync, J: Judge, G: Gate>(
+    crew: &Crew<R, G>,
+    judge: &J,
+    search: &EventSearch,
+    stills: &StillList,
+    root: Node,
+) -> Result<Vec<Leaf>, Refusal>
+    requires rules { J.rules judge.now ≡ rules search.now }
+    requires valid { IsValid (rules search.now) root }
+    requires still { All (IsStill search.now) stills.now }
+    ensures windows { IfOk result (λ found.
+        HaveWindows crew.now.max_leaves search.now root found.items) }
+    ensures stopped { IfErr result (λ refusal.
+        StopsAt crew.now.max_leaves (leaf_count (rules search.now) root) refusal) }
+{
+    if stills.is_empty() {
+        fine_leaves_by(crew, judge, search, root)
+    } else {
+        eager_windows(crew, judge, search, stills, root)
+    }
+}

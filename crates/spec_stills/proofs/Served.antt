@@ -1,5 +1,5 @@
 -- A node that still spans serve: its leaves are clear, and no more than the first span that serves it allows.
-use Rattle.std.proofs.Common.{◌≡◌, All, List, [], ◌∷◌, Bool, true, false, Option, Some, None, refl, sym, subst, cond, ◌||◌}
+use Rattle.std.proofs.Common.{◌≡◌, All, List, [], ◌∷◌, Bool, true, false, Some, refl, sym, subst, cond, ◌||◌}
 use Rattle.std.proofs.lemmas.Bool.{false≢true}
 use Rattle.std.proofs.lemmas.List.Elements.{All-head, All-tail}
 use Rattle.spec_trees.specs.declared.tree.Node.{Node}

@@ -19,7 +19,7 @@ from ._pages import Format, page
 from ._program import FinderError, runs_of
 from ._scales import FIRST_UTC_YEAR, UTC, Clock, Scale
 from ._sky import NoErfa
-from .spans import NoProgram, WrongReport, write
+from .spans import NoProgram, Words, WrongReport, write
 
 GROUPS = ", ".join(group.value for group in Group)
 ALMANAC = f"""\
@@ -42,7 +42,7 @@ LAST_YEAR = 9_998
 
 def _parser() -> argparse.ArgumentParser:
     plain = argparse.RawDescriptionHelpFormatter
-    whole = argparse.ArgumentParser(
+    whole = Words(
         prog="python -m finder",
         description="Prints what was found in JPL ephemerides by proved searches, at the times at which it is seen.",
         epilog=f"`python -m finder COMMAND --help` tells the words of a command. {STATUS.capitalize()}.",
@@ -159,9 +159,18 @@ def _made(words: argparse.Namespace, clock: Clock) -> str:
         meter.clear()
 
 
+def _unwritten(error: OSError) -> int:
+    """Says that standard output failed, and returns the status of that."""
+    print(f"finder: standard output: {error.strerror}", file=sys.stderr)
+    return 3
+
+
 def main(arguments: Optional[Sequence[str]] = None) -> int:
     """Runs the command, and returns its status."""
-    words = _parser().parse_args(arguments)
+    try:
+        words = _parser().parse_args(arguments)
+    except OSError as error:
+        return _unwritten(error)
     clock = _clock(words)
     try:
         text = _made(words, clock)
@@ -175,8 +184,7 @@ def main(arguments: Optional[Sequence[str]] = None) -> int:
     try:
         write(text.encode())
     except OSError as error:
-        print(f"finder: standard output: {error.strerror}", file=sys.stderr)
-        return 3
+        return _unwritten(error)
     return 0
 
 

@@ -639,6 +639,7 @@ class Words(argparse.ArgumentParser):
     """Words whose help is written as all else is."""
 
     def print_help(self, file: object = None) -> None:
+        """Writes the help to standard output."""
         write(os.fsencode(self.format_help()))
 
 

@@ -101,9 +101,10 @@ class Output(InFolder):
         self.assertEqual(run(*SEASONS, "--format", "ics"), run(*SEASONS, "--format", "ics"))
 
     def test_no_room_for_it(self):
-        with open("/dev/full", "wb") as full:
-            done = started(*SEASONS, stdout=full, stderr=subprocess.PIPE)
-        self.assertEqual((done.returncode, done.stderr), (3, b"finder: standard output: No space left on device\n"))
+        for words in (SEASONS, ("--help",), ("almanac", "--help")):
+            with open("/dev/full", "wb") as full:
+                done = started(*words, stdout=full, stderr=subprocess.PIPE)
+            self.assertEqual((done.returncode, done.stderr), (3, b"finder: standard output: No space left on device\n"))
 
     def test_no_output_at_all(self):
         words = ["sh", "-c", 'exec "$0" -m finder "$@" >&-', sys.executable, *SEASONS]

@@ -72,7 +72,8 @@ class Built(InFolder):
     def test_sources_without_the_program(self):
         shutil.rmtree(self.folder / "clone" / "release")
         hook = "import setuptools.build_meta as build; build.build_wheel('.')"
-        said = subprocess.run([sys.executable, "-c", hook], cwd=self.sources, capture_output=True, text=True, check=False)
+        words = [sys.executable, "-c", hook]
+        said = subprocess.run(words, cwd=self.sources, capture_output=True, text=True, check=False)
         self.assertNotEqual(said.returncode, 0)
         self.assertIn("neither in ../release nor in finder/", said.stderr)
 

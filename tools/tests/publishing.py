@@ -168,6 +168,9 @@ class Checks:
             shutil.rmtree(self.folder / "none", ignore_errors=True)
         done = published(self.words[0], self.folder / "none", self.folder / "missing")
         self.expect(done.returncode == 3, f"a file that is not there: {done.stderr}")
+        on_path = {"FINDER": PROGRAM.name, "PATH": f"{PROGRAM.parent}:/usr/bin:/bin"}
+        done = published(self.words[0], self.folder / "path", YEAR, **on_path)
+        self.expect(done.returncode == 0, f"a program that is named as on the path: {done.stderr}")
         for jobs in ("0", "65", "many"):
             done = published("--jobs", jobs, *self.words)
             self.expect(done.returncode == 2 and f"from 1 to 64: {jobs}\n" in done.stderr, f"jobs: {done.stderr}")

@@ -45,7 +45,8 @@ class Interval:
 def intervals(
     found: Windows, files: Optional[Files] = None, *, series: Optional[Series] = None
 ) -> list[Interval]:
-    """The times at which a search's function is 0 or more, in order: each rise with the fall after it.
+    """The times at which a search's function is 0 or more, in order: each rise with the fall after it. `found` are all
+    windows of the search, and no slice of them, by which nothing would be proved of the times of the others.
 
     That is while the coordinate or the distance is at least the value, the distance grows (`apsis`), the longitude
     grows (`station`), the angle is at most the one of the value (`sep`), it grows smaller (`sepext`), and one disc

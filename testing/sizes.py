@@ -1,6 +1,6 @@
 """Large inputs, and searches that run out of room: python3 -m testing.sizes PROGRAM.
 
-Mercury's x goes from -1,382,400 km to 1,382,400 km in each block of 32 days, 1 km in 2 seconds, so that every time of the
+Mercury's x goes from -1,382,400 km to 1,382,400 km in each block of 32 days, 1 km a second, so that every time of the
 answers is known by adding up: it is at least 0 from the 17th day of a block to the second before the next one."""
 
 import resource

@@ -1,0 +1,74 @@
+"""How the time of searches grows with the span that they search.
+
+    growth.py FINDER SOURCE TEXT CATALOGUE TURNS MOST
+
+FINDER is the program, SOURCE a text of DE405, and CATALOGUE has the options of each search. TEXT is written with 128
+blocks of SOURCE, repeated with running dates, and with twice as many again and again, up to MOST. Times are those of
+the processor with one worker, user and system together, the least of so many turns, less that of a reading by
+`finder check`. It prints a table in Markdown.
+"""
+
+import itertools
+import sys
+
+import texts
+from century import Command
+
+FIRST_BLOCKS = 128
+SEARCHES = [
+    "apsides of the Moon",
+    "nodes of the Moon",
+    "new moons",
+    "least and greatest angles of the Moon and the Sun",
+    "stations of Mercury",
+    "the Moon before the Sun",
+    "conjunctions of Mercury and Venus",
+    "conjunctions of Jupiter and Saturn",
+]
+
+
+def options_of(catalogue):
+    """The options of each search of a catalogue, by its name."""
+    with open(catalogue, encoding="ascii") as file:
+        rows = [line.split("|") for line in file if not line.startswith("#")]
+    return {name.strip(): options.split() for name, options, _ in rows}
+
+
+def seconds(turns, *words):
+    """The least time of the processor of so many runs of a command."""
+    command = Command(*words)
+    for _ in range(turns):
+        command.run()
+    return command.processor
+
+
+def counts(most):
+    """The numbers of blocks: the first, and twice as many again and again."""
+    return list(itertools.takewhile(lambda count: count <= most, (FIRST_BLOCKS << k for k in itertools.count())))
+
+
+def measured(finder, source, text, options, turns, most):
+    """The microseconds a block of each search, at each number of blocks."""
+    found = {name: [] for name in SEARCHES}
+    for count in counts(most):
+        texts.write(text, itertools.islice(texts.repeated(source), count + 1))
+        reading = seconds(turns, finder, "check", text)
+        for name in SEARCHES:
+            time = seconds(turns, finder, "find", *options[name], text) - reading
+            found[name].append(1_000_000 * time / count)
+    return found
+
+
+def main(finder, source, text, catalogue, turns, most):
+    found = measured(finder, source, text, options_of(catalogue), int(turns), int(most))
+    heads = ["Search", *[f"{count:,} blocks" for count in counts(int(most))], "Greatest to first"]
+    print(f"| {' | '.join(heads)} |\n|{'---|' * len(heads)}")
+    for name, times in found.items():
+        cells = [name, *[f"{time:.0f} us" for time in times], f"{max(times) / times[0]:.2f}"]
+        print(f"| {' | '.join(cells)} |")
+
+
+if __name__ == "__main__":
+    if len(sys.argv) != 7:
+        sys.exit(__doc__)
+    main(*sys.argv[1:])

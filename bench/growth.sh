@@ -1,0 +1,32 @@
+#!/bin/sh
+# How the time of a search grows with its span: eight searches of century.txt over 128 blocks of FILE, and over 2, 4, 8, .. times
+# as many up to MOST: its blocks again and again, with running dates. For each search it prints the time of the processor less
+# that of a reading, in microseconds a block, and how many times the first of these the greatest is. Run by hand, as
+# `bench/growth.sh [-n TURNS] [-b MOST] FILE [PROGRAM]`: FILE is a text of DE405 by JPL, with a header and blocks; each time is
+# the least of TURNS, 3 where they are left out; MOST is 16384 then; PROGRAM may be left out too, and is then the one that is
+# shipped.
+set -e
+usage() {
+    echo "usage: bench/growth.sh [-n TURNS] [-b MOST] FILE [PROGRAM], FILE a text of DE405 by JPL" >&2
+    exit 2
+}
+turns=3
+most=16384
+while getopts n:b: option; do
+    case $option in
+        n) turns=$OPTARG ;;
+        b) most=$OPTARG ;;
+        *) usage ;;
+    esac
+done
+shift $((OPTIND - 1))
+[ -r "$1" ] || usage
+for number in "$turns" "$most"; do
+    [ "$number" -gt 0 ] 2>/dev/null || usage
+done
+here=$(realpath "$(dirname "$0")")
+program=$(realpath -m "${2:-$here/../release/finder-x86_64-linux}")
+[ -x "$program" ] || { echo "$program is no program" >&2; exit 1; }
+work=$(mktemp -d)
+trap 'rm -rf "$work"' EXIT
+python3 -B "$here/growth.py" "$program" "$1" "$work/text" "$here/century.txt" "$turns" "$most"

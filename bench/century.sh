@@ -1,21 +1,23 @@
 #!/bin/sh
-# Searches a century of DE405, the blocks of FILE repeated with running dates to 32 million bytes, for what century.txt lists:
-# by `finder` with one worker and with four, beside C that reads the same text by `strtod`, steps and bisects in doubles
-# (doubles.c), and may miss events, in one run. For each search it prints the times of the processor, the windows, and how
-# many events of the peer differ from them; then how many searches are slower than the peer, the worst and the median
-# ratio, and two readings of the text alone. Run by hand, as `bench/century.sh [-n TURNS] [-s TIMES] FILE [PROGRAM]`: FILE
-# is JPL's text of DE405 with a header and blocks; each time is the least of TURNS, 3 where they are left out; the peer's
-# steps are TIMES as long as century.txt says, where that is given; PROGRAM may be left out too, and is then the one that
-# is shipped.
+# Searches a century of DE405 for what century.txt lists: the blocks of FILE repeated with running dates to 32 million bytes, or
+# FILE as it is (-r). By `finder` with one worker and with four, beside C that reads the same text by `strtod`, steps and
+# bisects in doubles (doubles.c), and may miss events, in one run. For each search it prints the times of the processor, the
+# windows, and how many events of the peer differ from them; then how many searches are slower than the peer, the worst and
+# the median ratio, and two readings of the text alone. Run by hand, as `bench/century.sh [-r] [-n TURNS] [-s TIMES] FILE
+# [PROGRAM]`: FILE is JPL's text of DE405 with a header and blocks; each time is the least of TURNS, 3 where they are left
+# out; the peer's steps are TIMES as long as century.txt says, where that is given; PROGRAM may be left out too, and is then
+# the one that is shipped.
 set -e
 usage() {
-    echo "usage: bench/century.sh [-n TURNS] [-s TIMES] FILE [PROGRAM], FILE a text of DE405 by JPL" >&2
+    echo "usage: bench/century.sh [-r] [-n TURNS] [-s TIMES] FILE [PROGRAM], FILE a text of DE405 by JPL" >&2
     exit 2
 }
+real=
 turns=3
 times=1
-while getopts n:s: option; do
+while getopts rn:s: option; do
     case $option in
+        r) real=yes ;;
         n) turns=$OPTARG ;;
         s) times=$OPTARG ;;
         *) usage ;;
@@ -32,5 +34,9 @@ program=$(realpath -m "${2:-$here/../release/finder-x86_64-linux}")
 work=$(mktemp -d)
 trap 'rm -rf "$work"' EXIT
 cc -O2 -Wall -Wextra -o "$work/doubles" "$here/doubles.c" -lm
-python3 "$here/texts.py" large "$work/century.asc" "$1"
+if [ "$real" ]; then
+    ln -s "$(realpath "$1")" "$work/century.asc"
+else
+    python3 "$here/texts.py" large "$work/century.asc" "$1"
+fi
 python3 -B "$here/century.py" "$program" "$work/doubles" "$work/century.asc" "$here/century.txt" "$turns" "$times"

@@ -1,11 +1,12 @@
 """The searches of a catalogue over a century of DE405, beside C in doubles that steps and bisects.
 
-    century.py FINDER DOUBLES CENTURY CATALOGUE TURNS TIMES
+    century.py FINDER DOUBLES CENTURY CATALOGUE TURNS TIMES TICKS
 
 FINDER is the program, DOUBLES the peer as built of `doubles.c`, CENTURY the text, and CATALOGUE has a line for each search:
-its name, its options, and the peer's step, which is made so many TIMES as long. Each search is made by FINDER with one
-worker and with four, which have to write the same bytes, and by DOUBLES, turn about. It prints a table in Markdown, and
-what came of all searches. Times are those of the processor, user and system together, the least of so many turns.
+its name, its options, and the peer's step, which is made so many TIMES as long. A second has so many TICKS for
+FINDER, and the peer stays in seconds. Each search is made by FINDER with one worker and with four, which have to write the
+same bytes, and by DOUBLES, turn about. It prints a table in Markdown, and what came of all searches. Times are those of the
+processor, user and system together, the least of so many turns.
 
 An event of the peer is the first second of a new sign. It belongs to a certain window of its direction that it lies in, or
 is a second away from, as doubles round; each window takes one. The peer missed a certain window to which no event belongs.
@@ -56,15 +57,16 @@ class Command:
 class Search:
     """A line of the catalogue: its name, its options and the peer's step; and its three commands."""
 
-    def __init__(self, line, times, finder, doubles, text):
+    def __init__(self, line, times, ticks, finder, doubles, text):
         self.name, options, step = (part.strip() for part in line.split("|"))
         words = options.split()
         self.kind = words[words.index("--kind") + 1]
         count, unit = int(step[:-1]) * times, step[-1]
         self.step = f"{count}{unit}"
         step = str(count * UNITS[unit])
-        self.one = Command(finder, "find", *words, text)
-        self.four = Command(finder, "find", *words, "--workers", "4", text)
+        tick = ["--tick", ticks] if ticks != "1" else []
+        self.one = Command(finder, "find", *words, *tick, text)
+        self.four = Command(finder, "find", *words, *tick, "--workers", "4", text)
         self.peer = Command(doubles, "find", "--step", step, *words, text)
 
     def run(self):
@@ -194,10 +196,10 @@ def load():
 
 def main():
     """The command."""
-    finder, doubles, text, catalogue, turns, times = sys.argv[1:]
+    finder, doubles, text, catalogue, turns, times, ticks = sys.argv[1:]
     with open(catalogue, encoding="ascii") as file:
         lines = [line for line in file if line.strip() and not line.startswith("#")]
-    searches = [Search(line, int(times), finder, doubles, text) for line in lines]
+    searches = [Search(line, int(times), ticks, finder, doubles, text) for line in lines]
     check, by_c = Command(finder, "check", text), Command(doubles, "reading", text)
     before = load()
     for _ in range(int(turns)):

@@ -3,29 +3,31 @@
 # FILE as it is (-r). By `finder` with one worker and with four, beside C that reads the same text by `strtod`, steps and
 # bisects in doubles (doubles.c), and may miss events, in one run. For each search it prints the times of the processor, the
 # windows, and how many events of the peer differ from them; then how many searches are slower than the peer, the worst and
-# the median ratio, and two readings of the text alone. Run by hand, as `bench/century.sh [-r] [-n TURNS] [-s TIMES] FILE
-# [PROGRAM]`: FILE is JPL's text of DE405 with a header and blocks; each time is the least of TURNS, 3 where they are left
-# out; the peer's steps are TIMES as long as century.txt says, where that is given; PROGRAM may be left out too, and is then
-# the one that is shipped.
+# the median ratio, and two readings of the text alone. Run by hand, as `bench/century.sh [-r] [-n TURNS] [-s TIMES] [-t TICKS]
+# FILE [PROGRAM]`: FILE is JPL's text of DE405 with a header and blocks; each time is the least of TURNS, 3 where they are
+# left out; the peer's steps are TIMES as long as century.txt says, where that is given; a second has TICKS for `finder`, 1
+# or 1000, and the peer stays in seconds; PROGRAM may be left out too, and is then the one that is shipped.
 set -e
 usage() {
-    echo "usage: bench/century.sh [-r] [-n TURNS] [-s TIMES] FILE [PROGRAM], FILE a text of DE405 by JPL" >&2
+    echo "usage: bench/century.sh [-r] [-n TURNS] [-s TIMES] [-t TICKS] FILE [PROGRAM], FILE a text of DE405 by JPL" >&2
     exit 2
 }
 real=
 turns=3
 times=1
-while getopts rn:s: option; do
+ticks=1
+while getopts rn:s:t: option; do
     case $option in
         r) real=yes ;;
         n) turns=$OPTARG ;;
         s) times=$OPTARG ;;
+        t) ticks=$OPTARG ;;
         *) usage ;;
     esac
 done
 shift $((OPTIND - 1))
 [ -r "$1" ] || usage
-for number in "$turns" "$times"; do
+for number in "$turns" "$times" "$ticks"; do
     [ "$number" -gt 0 ] 2>/dev/null || usage
 done
 here=$(realpath "$(dirname "$0")")
@@ -39,4 +41,4 @@ if [ "$real" ]; then
 else
     python3 "$here/texts.py" large "$work/century.asc" "$1"
 fi
-python3 -B "$here/century.py" "$program" "$work/doubles" "$work/century.asc" "$here/century.txt" "$turns" "$times"
+python3 -B "$here/century.py" "$program" "$work/doubles" "$work/century.asc" "$here/century.txt" "$turns" "$times" "$ticks"

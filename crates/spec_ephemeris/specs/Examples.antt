@@ -87,6 +87,11 @@ blocks_of h blocks = record { header = h; start = neg_ℤ (pos 43200); blocks = 
 abbrev pub blocks_of_de405 : ℕ → Ephemeris
 blocks_of_de405 = blocks_of de405
 
+-- blocks of this many numbers, in which Mercury alone may have a column
+abbrev pub one_column : ℕ → Column → Header
+one_column ncoeff mercury =
+    record { ncoeff = ncoeff; block_seconds = pos 2764800; emrat = whole (pos 81); columns = mercury ∷ replicate 12 (column 3 0 0) }
+
 -- a column of two coefficients that begins within Mercury's
 abbrev pub overlapping : Header
 overlapping = record {

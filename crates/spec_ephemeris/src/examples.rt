@@ -1,13 +1,13 @@
 // Worked values of the definitions, by computation.
 ghost use Rattle.std.specs.Prelude.{◌≡◌, ◌+◌, ◌-◌, ◌*ℤ◌, ◌^◌, true, false, [], ◌∷◌, None, Some, pos, neg_ℤ};
-ghost use Rattle.spec_ephemeris.specs.Header.{IsHeader, column_size, has_column};
+ghost use Rattle.spec_ephemeris.specs.Header.{IsHeader, IsMassRatio, column_size, has_column};
 ghost use Rattle.spec_ephemeris.specs.Ephemeris.{IsPreferred};
 ghost use Rattle.spec_ephemeris.specs.Borders.{nearest_border};
 ghost use Rattle.spec_ephemeris.specs.Rounding.{pair_of, pairs_of};
 ghost use Rattle.spec_ephemeris.specs.Series.{IsCoefficient, argument_at, position};
 ghost use Rattle.spec_ephemeris.specs.Velocity.{velocity};
 ghost use Rattle.spec_ephemeris.specs.Ticks.{IsInSeconds, in_ticks, series_in_ticks};
-ghost use Rattle.spec_ephemeris.specs.Examples.{IsWhole, whole, pair, tiny, growing_x, parabola, column, de405, de405_of_length, de405_with, de430t, blocks_of, blocks_of_de405, four_columns, of_four_columns, overlapping};
+ghost use Rattle.spec_ephemeris.specs.Examples.{IsWhole, whole, pair, tiny, growing_x, parabola, column, de405, de405_of_length, de405_with, de430t, blocks_of, blocks_of_de405, four_columns, of_four_columns, one_column, overlapping};
 
 /// The argument of a block of 2,764,800 seconds runs from minus its length to its length, two for each second.
 pub fn arguments()
@@ -75,6 +75,24 @@ pub fn headers()
     ensures taken_places { IsHeader (de405_with (column 3 40 7 ∷ [])) }
     ensures two_on_one_place { IsHeader overlapping → ⊥ }
     ensures sixteen { IsHeader (de405_with (column 3 0 0 ∷ column 3 0 0 ∷ column 3 0 0 ∷ [])) → ⊥ }
+{}
+
+/// A block has from 3 to 4,096 numbers, and a column up to 32 coefficients.
+pub fn sizes_of_blocks()
+    ensures fewest { IsHeader (one_column 3 (column 3 0 0)) }
+    ensures too_few { IsHeader (one_column 2 (column 3 0 0)) → ⊥ }
+    ensures most { IsHeader (one_column 4_096 (column 3 2 1)) }
+    ensures too_many { IsHeader (one_column 4_097 (column 3 2 1)) → ⊥ }
+    ensures most_coefficients { IsHeader (one_column 98 (column 3 32 1)) }
+    ensures too_many_coefficients { IsHeader (one_column 101 (column 3 33 1)) → ⊥ }
+{}
+
+/// The mass of the Earth is from 1 to 1,000 times that of the Moon.
+pub fn ratios_of_masses()
+    ensures least { IsMassRatio (whole (pos 1)) }
+    ensures too_small { IsMassRatio (whole (pos 0)) → ⊥ }
+    ensures greatest { IsMassRatio (whole (pos 1_000)) }
+    ensures too_great { IsMassRatio (whole (pos 1_001)) → ⊥ }
 {}
 
 /// A block has up to 64 days, in seconds or in ticks of a millisecond.

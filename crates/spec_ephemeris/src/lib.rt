@@ -17,7 +17,8 @@ pub use body::Body;
 pub use examples::{
     arguments, borders_of_de405, borders_of_two_blocks, columns_that_are_present, headers,
     lengths_of_blocks, places_of_columns, positions_on_a_line, positions_on_a_parabola,
-    preferred_times, sizes_of_coefficients, times_in_ticks, velocities,
+    preferred_times, ratios_of_masses, sizes_of_blocks, sizes_of_coefficients, times_in_ticks,
+    velocities,
 };
 pub use granule::{Granule, Rounded};
 pub use header::{Column, Columns, Header};

@@ -9,7 +9,7 @@ pub const TOO_MANY_FILES: u8 = 5;
 /// A file has more than 268,435,456 bytes. The fault is at line 0.
 pub const FILE_TOO_LARGE: u8 = 6;
 
-/// The first line isn't `KSIZE=`, any word, `NCOEFF=` and a whole number.
+/// The first line is not `KSIZE=`, any word, `NCOEFF=` and a whole number.
 pub const FIRST_LINE: u8 = 10;
 
 /// Another line stands where `GROUP` and a number must stand. The detail is the number of the group.
@@ -24,10 +24,10 @@ pub const COUNT_MISMATCH: u8 = 13;
 /// No name is `EMRAT`.
 pub const EMRAT_MISSING: u8 = 14;
 
-/// The value of `EMRAT` isn't from 1 to 1,000.
+/// The value of `EMRAT` is not from 1 to 1,000.
 pub const EMRAT_RANGE: u8 = 15;
 
-/// A line hasn't one word for each column.
+/// A line has not one word for each column.
 pub const COLUMN_COUNT: u8 = 16;
 
 /// A place of a column lies outside the block, is one of the two of its dates, or belongs to an earlier column.
@@ -36,7 +36,7 @@ pub const COLUMN_PLACE: u8 = 17;
 /// A column has more than 32 coefficients.
 pub const COEFFICIENT_COUNT: u8 = 18;
 
-/// A granule of a column isn't a whole number of seconds.
+/// A granule of a column is not a whole number of seconds.
 pub const GRANULE_NOT_WHOLE: u8 = 19;
 
 /// A number of the header is out of bounds.
@@ -48,16 +48,16 @@ pub const HEADER_NUMBER: u8 = 21;
 /// The text ends before `GROUP 1070`.
 pub const ENDED: u8 = 22;
 
-/// A block doesn't begin with two whole numbers.
+/// A block does not begin with two whole numbers.
 pub const RECORD_LINE: u8 = 30;
 
-/// The second number of a record line isn't that of the header.
+/// The second number of a record line is not that of the header.
 pub const NCOEFF_DIFFERS: u8 = 31;
 
-/// A Julian date of a block is no time from day 0 to day 5,000,000, or the block hasn't the header's length.
+/// A Julian date of a block is no time from day 0 to day 5,000,000, or the block has not the header's length.
 pub const BLOCK_SPAN: u8 = 32;
 
-/// A block doesn't begin where the last one ended.
+/// A block does not begin where the last one ended.
 pub const BLOCK_GAP: u8 = 33;
 
 /// A word of a block is no number. The detail is the number of a `NumberFault`.
@@ -75,10 +75,10 @@ pub const NO_BLOCK: u8 = 37;
 /// There are more blocks than an ephemeris has.
 pub const TOO_MANY_BLOCKS: u8 = 38;
 
-/// After the last number of a block stands a word that isn't zero.
+/// After the last number of a block stands a word that is not zero.
 pub const TRAILING_NUMBERS: u8 = 39;
 
-/// A column that the event needs isn't there.
+/// A column that the event needs is not there.
 pub const BODY_ABSENT: u8 = 50;
 
 /// Two of the target, the second body and the observer are one body.
@@ -93,23 +93,23 @@ pub const NO_COMMAND: u8 = 60;
 /// The first word is no command.
 pub const UNKNOWN_COMMAND: u8 = 61;
 
-/// The words after the command aren't of its form.
+/// The words after the command are not of its form.
 pub const WORDS: u8 = 62;
 
-/// A value is missing, isn't used here, or isn't of its form. The name of its option is printed after the fault's.
+/// A value is missing, is not used here, or is not of its form. The name of its option is printed after the fault's.
 pub const BAD_VALUE: u8 = 63;
 
-/// The first line of a certificate isn't `CERT 1`, a line after the second names no leaf and no end, or a line has more
+/// The first line of a certificate is not `CERT 1`, a line after the second names no leaf and no end, or a line has more
 /// than 4,096 bytes.
 pub const CERT_LINE: u8 = 70;
 
-/// The second line of a certificate hasn't the words of the request's line.
+/// The second line of a certificate has not the words of the request's line.
 pub const CERT_REQUEST: u8 = 71;
 
-/// The next node that waits can't be cut to that of the leaf.
+/// The next node that waits cannot be cut to that of the leaf.
 pub const CERT_PLACE: u8 = 72;
 
-/// The mark of a leaf isn't that of its verdict.
+/// The mark of a leaf is not that of its verdict.
 pub const CERT_MARK: u8 = 73;
 
 /// A leaf where no node waits; an end where one waits, or with another number of leaves; a line after the end; or there

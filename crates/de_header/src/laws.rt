@@ -4,7 +4,7 @@ ghost use Rattle.spec_files.specs.Sections.{FileLine};
 ghost use Rattle.de_header.specs.declared.state.State.{State};
 ghost use Rattle.de_header.specs.Reader.{IsOpen, says};
 
-/// A reader that wants more lines takes them from any file: what it says of them doesn't depend on the file that it
+/// A reader that wants more lines takes them from any file: what it says of them does not depend on the file that it
 /// read so far.
 pub fn open_readers_say_the_same_in_every_file()
     ensures { (state : State) (lines : List FileLine) (f g : ℕ) → IsOpen state

@@ -463,7 +463,7 @@ impl HeaderReader {
     }
 
     /// The header, where the lines end at this number, that of the last file's lines plus 1. `Fault` is the kept
-    /// refusal, or fault 22 at this number where the header isn't whole. Where the lines that were given are those of
+    /// refusal, or fault 22 at this number where the header is not whole. Where the lines that were given are those of
     /// which `new` speaks, the header meets the rules of a header.
     pub fn end(self, alloc: Global, line: u32) -> Result<Header, HeaderError>
         ensures end { Ends line (says 0 self []) result }

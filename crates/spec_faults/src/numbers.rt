@@ -99,8 +99,8 @@ pub const WORDS: u8 = 62;
 /// A value is missing, is not used here, or is not of its form. The name of its option is printed after the fault's.
 pub const BAD_VALUE: u8 = 63;
 
-/// The first line of a certificate is not `CERT 1`, a line after the second names no leaf and no end, or a line has more
-/// than 4,096 bytes.
+/// The first line of a certificate is not `CERT 1`, a line after the second names no leaf and no end, or a line has
+/// more than 4,096 bytes.
 pub const CERT_LINE: u8 = 70;
 
 /// The second line of a certificate has not the words of the request's line.

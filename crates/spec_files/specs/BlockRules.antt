@@ -41,7 +41,7 @@ time_of date = time_by (seconds_of_julian_date date)
 abbrev pub is_skipped : Ephemeris → ℤ → Bool
 is_skipped before end = nat_lt 0 before.blocks && int_le end (end_of before)
 
--- a block that doesn't begin where the last of the blocks before it ends
+-- a block that does not begin where the last of the blocks before it ends
 abbrev pub is_after_gap : Ephemeris → ℤ → Bool
 is_after_gap before start = nat_lt 0 before.blocks && (int_lt start (end_of before) || int_lt (end_of before) start)
 

@@ -46,7 +46,7 @@ abbrev pub accept : Ephemeris → List Decimal → Result ℤ BrokenRule → Res
 accept before numbers (Ok start) (Ok end) = if is_skipped before end then before else with_block (begun before start) numbers
 accept before numbers start end = before
 
--- the blocks before, and one with these numbers where it isn't skipped
+-- the blocks before, and one with these numbers where it is not skipped
 abbrev pub with_numbers : Ephemeris → List Decimal → Ephemeris
 with_numbers before (first ∷ second ∷ numbers) = accept before (first ∷ second ∷ numbers) (time_of first) (time_of second)
 with_numbers before numbers = before

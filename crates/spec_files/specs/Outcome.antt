@@ -6,13 +6,13 @@ use Rattle.spec_files.specs.Sections.{Stop, ended, breaks}
 use Rattle.spec_files.specs.Lines.{ephemeris}
 use Rattle.spec_files.specs.Texts.{at_end, first_cut, joined}
 
--- a line that breaks a rule comes before the text that can't be read to its end
+-- a line that breaks a rule comes before the text that cannot be read to its end
 abbrev pub fault_or_cut : Option (ℕ × Fault) → Result Ephemeris Stop → Option (ℕ × Fault)
 fault_or_cut cut (Ok e) = cut
 fault_or_cut cut (Err (ended number)) = cut
 fault_or_cut cut (Err (breaks file fault)) = Some (file, fault)
 
--- the first fault that texts have whatever texts follow: it isn't that they end too early
+-- the first fault that texts have whatever texts follow: it is not that they end too early
 unfoldable pub first_fault : List (List ℕ) → Option (ℕ × Fault)
 first_fault texts = fault_or_cut (first_cut texts) (ephemeris (joined texts))
 

@@ -1,4 +1,4 @@
--- What the reading of named files comes to: they are accepted, one of them has the first fault, or one can't be read.
+-- What the reading of named files comes to: they are accepted, one of them has the first fault, or one cannot be read.
 -- Files are counted from 0.
 use Rattle.std.specs.Prelude.{◌≡◌, ◌⊎◌, ℕ, ◌+◌, ◌<◌, ◌≤◌, List, ◌++◌, length, take, slice_get, Option, None, Some, Ok, Err}
 use Rattle.spec_text.specs.declared.decimals.Fault.{Fault}

@@ -5,7 +5,7 @@ use Rattle.spec_text.specs.declared.decimals.Fault.{Fault}
 pub use Rattle.spec_text.specs.Results.{◌>>=◌}
 use Rattle.spec_files.specs.declared.rules.BrokenRule.{BrokenRule}
 
--- a line of one of the files, which are counted from 0; it isn't blank
+-- a line of one of the files, which are counted from 0; it is not blank
 pub record FileLine : Type 0 where
   pub file : ℕ
   pub number : ℕ

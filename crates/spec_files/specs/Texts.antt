@@ -15,7 +15,7 @@ fault_at line number = record { line = line; number = number; detail = 0 }
 abbrev pub is_too_large : List ℕ → Bool
 is_too_large text = nat_lt MAX_TEXT_BYTES (length text)
 
--- why a text can't be read to its end: it is too large, or has a line that is too long
+-- why a text cannot be read to its end: it is too large, or has a line that is too long
 abbrev pub cut_off : List ℕ → Option Fault
 cut_off text = if is_too_large text then Some (fault_at 0 FILE_TOO_LARGE) else first_long (text_lines text)
 
@@ -37,7 +37,7 @@ abbrev pub or_later : ℕ → Option Fault → Option (ℕ × Fault) → Option 
 or_later file None later = later
 or_later file (Some fault) later = Some (file, fault)
 
--- the first text that can't be read to its end
+-- the first text that cannot be read to its end
 abbrev pub first_cut_from : ℕ → List (List ℕ) → Option (ℕ × Fault)
 first_cut_from file [] = None
 first_cut_from file (text ∷ rest) = or_later file (cut_off text) (first_cut_from (file + 1) rest)

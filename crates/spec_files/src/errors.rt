@@ -1,4 +1,4 @@
-// Why lines aren't read to their end.
+// Why lines are not read to their end.
 ghost use Rattle.std.specs.Prelude.{◌≡◌};
 ghost use Rattle.spec_files.specs.declared.errors.ReadError.TheVariants as errors;
 

@@ -1,9 +1,11 @@
 // Worked examples of the definitions.
 ghost use Rattle.std.specs.Prelude.{◌≡◌, ◌+◌, ◌<◌, [], ◌∷◌, ◌++◌, Err, List, None, Some, codes, length, replicate, ℕ};
 ghost use Rattle.spec_text.specs.declared.limits.TheConstants.{MAX_TEXT_BYTES};
-ghost use Rattle.spec_faults.specs.declared.numbers.TheConstants.{ENDED, FIRST_LINE, LINE_TOO_LONG};
+ghost use Rattle.spec_text.specs.declared.decimals.Fault.{Fault};
+ghost use Rattle.spec_faults.specs.declared.numbers.TheConstants.{ENDED, FIRST_LINE, LINE_TOO_LONG, TOO_MANY_FILES};
 ghost use Rattle.spec_files.specs.Files.{AreFiles, FewAreTaken, HasLeft, IsFile, IsLongFile};
 ghost use Rattle.spec_files.specs.Outcome.{first_fault, outcome};
+ghost use Rattle.spec_files.specs.Reading.{AreTooMany};
 ghost use Rattle.spec_files.specs.Texts.{at_end, first_cut, fault_at, joined};
 
 /// Lines keep their file and their number in it; a text may go on where the one before it ended.
@@ -47,4 +49,12 @@ pub fn named_files_are_read()
     ensures taken { FewAreTaken (Some ((codes "a", 7 ∷ 8 ∷ []) ∷ [])) (codes "a") (Some (8 ∷ [])) }
     ensures taken_too_far { (bytes : List ℕ) → MAX_TEXT_BYTES + 1 < length bytes
         → FewAreTaken (Some ((codes "a", bytes) ∷ [])) (codes "a") (Some []) → ⊥ }
+{}
+
+/// A run has up to 64 files, and is refused for the 65th.
+#[tactic(none)]
+pub fn files_are_counted()
+    ensures most { (file : ℕ) (fault : Fault)
+        → AreTooMany (replicate 64 (codes "a")) file fault → ⊥ }
+    ensures too_many { AreTooMany (replicate 65 (codes "a")) 64 (fault_at 0 TOO_MANY_FILES) }
 {}

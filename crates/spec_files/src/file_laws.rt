@@ -50,8 +50,8 @@ pub fn texts_with_a_fault_are_refused()
         → first_fault texts ≡ Some (file, fault) → outcome texts ≡ Err (file, fault) }
 {}
 
-/// Of files that are known, one alone is true: they are accepted, and in one way; they are refused; or one of them isn't
-/// read. Where the outside failed, what is accepted or refused may not be read.
+/// Of files that are known, one alone is true: they are accepted, and in one way; they are refused; or one of them is
+/// not read. Where the outside failed, what is accepted or refused may not be read.
 #[tactic(none)]
 pub fn one_answer_is_true()
     ensures accepted { (files : Files) (names : List (List ℕ)) (e f : Ephemeris) (end stop : ℕ)

@@ -2,8 +2,8 @@
 ghost use Rattle.std.specs.Prelude.{◌≡◌, ◌++◌, [], ◌∷◌, codes, pos, replicate, take};
 ghost use Rattle.spec_text.specs.Bytes.{blank};
 ghost use Rattle.spec_faults.specs.declared.numbers.TheConstants.{COEFFICIENT_COUNT, COLUMN_COUNT, COLUMN_PLACE, COUNT_MISMATCH, EMRAT_MISSING, EMRAT_RANGE, ENDED, FIRST_LINE, GRANULE_NOT_WHOLE, GROUP_MISSING, HEADER_NUMBER, JD_NOT_WHOLE_SECOND, LIMIT, LINE_TOO_LONG};
-ghost use Rattle.spec_files.specs.HeaderExamples.{half_seconds, header_with, read_before, read_with, refused, rows, text_of, with_more};
-ghost use Rattle.spec_ephemeris.specs.Examples.{column};
+ghost use Rattle.spec_files.specs.HeaderExamples.{half_seconds, header_with, of_numbers, of_ratio, read_as, read_before, read_with, refused, rows, text_of, with_coefficients, with_constants, with_more};
+ghost use Rattle.spec_ephemeris.specs.Examples.{column, one_column};
 ghost use Rattle.spec_files.specs.HeaderLines.{text_header};
 
 /// The header of a text is read, and the lines after it are left.
@@ -13,7 +13,7 @@ pub fn a_header_is_read()
     ensures blank_line { header_with 3 (codes " ") ≡ read_before 17 }
 {}
 
-/// Titles aren't looked at, and further words are skipped where only some are counted.
+/// Titles are not looked at, and further words are skipped where only some are counted.
 #[tactic(none)]
 pub fn some_words_are_skipped()
     ensures titles { header_with 3 (codes "1010 GROUP\n1.5.5") ≡ read_before 18 }
@@ -34,6 +34,22 @@ pub fn wider_headers_are_read()
         ≡ read_with (pos 2764800) (column 3 40 7 ∷ []) 17 }
     ensures longest_block { header_with 5 (codes "2451544.50 2451608.50 64.")
         ≡ read_with (pos 5529600) [] 17 }
+{}
+
+/// A header may have 2,000 constants, blocks of 3 to 4,096 numbers, 32 coefficients of a component, a ratio of masses
+/// from 1 to 1,000, and lines of 4,096 bytes.
+#[tactic(none)]
+pub fn headers_are_read_at_their_limits()
+    ensures constants { text_header (text_of (with_constants (codes "2000") 1_999)) ≡ read_before 17 }
+    ensures numbers { header_with 1 (codes "KSIZE= 8192 NCOEFF= 4096")
+        ≡ read_as (of_numbers 4_096) 17 }
+    ensures many_numbers { header_with 1 (codes "KSIZE= 8194 NCOEFF= 4097") ≡ refused 1 LIMIT 0 }
+    ensures coefficients { text_header (text_of (with_coefficients (codes "32")))
+        ≡ read_as (one_column 98 (column 3 32 1)) 17 }
+    ensures least_ratio { header_with 11 (codes "1 x") ≡ read_as (of_ratio (pos 1)) 17 }
+    ensures greatest_ratio { header_with 11 (codes "1000 x") ≡ read_as (of_ratio (pos 1_000)) 17 }
+    ensures great_ratio { header_with 11 (codes "1000.1 x") ≡ refused 11 EMRAT_RANGE 0 }
+    ensures line { header_with 3 (replicate 4_096 65) ≡ read_before 17 }
 {}
 
 /// The lines before the names.

@@ -26,13 +26,15 @@ pub use block_examples::{
 pub use block_laws::{accepted_blocks_are_an_ephemeris, accepted_blocks_lie_in_time};
 pub use errors::ReadError;
 pub use facts::{BlockShape, Facts};
-pub use file_examples::{named_files_are_read, texts_are_joined, texts_are_refused};
+pub use file_examples::{
+    files_are_counted, named_files_are_read, texts_are_joined, texts_are_refused,
+};
 pub use file_laws::{
     accepted_lines_are_an_ephemeris, accepted_lines_count_seconds, first_faults_stay,
     later_texts_follow, one_answer_is_true, texts_with_a_fault_are_refused,
 };
 pub use header_examples::{
-    a_header_is_read, some_words_are_skipped, the_columns_are_refused, the_constants_are_refused,
+    a_header_is_read, headers_are_read_at_their_limits, some_words_are_skipped, the_columns_are_refused, the_constants_are_refused,
     the_first_lines_are_refused, wider_headers_are_read,
 };
 pub use header_laws::{accepted_headers_count_seconds, accepted_headers_meet_the_rules};

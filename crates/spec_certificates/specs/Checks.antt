@@ -31,7 +31,7 @@ abbrev pub holds_or : CertFault → Bool → Result (Unit {0}) CertFault
 holds_or fault true = Ok tt
 holds_or fault false = Err fault
 
--- the words of a line that isn't too long
+-- the words of a line that is not too long
 abbrev pub words_of : Numbered → Result (List (List ℕ)) CertFault
 words_of line = if is_too_long line then Err (at_line line.number CERT_LINE) else Ok (tokens line.bytes)
 

@@ -10,6 +10,9 @@ mod laws;
 mod limits;
 
 pub use entry::{CertFault, Entry};
-pub use examples::{texts_that_are_certificates, texts_that_are_refused};
+pub use examples::{
+    ends_that_are_refused, first_lines_that_are_refused, lines_of_leaves_that_are_refused,
+    texts_that_are_certificates, texts_that_are_refused, words_of_lines,
+};
 pub use laws::{certificates_are_short, certificates_are_true, what_is_written_is_accepted};
 pub use limits::{MAX_CERT_LEAVES, MAX_COUNT_DIGITS, MAX_DEPTH_DIGITS, MAX_TIME_DIGITS};

@@ -5,3 +5,4 @@ pub mod Telling
 pub mod Marks
 pub mod Sets
 pub mod Points
+mod Exact

@@ -51,6 +51,11 @@ IsTold P n M.Undecided = Unit {0}
 abbrev pub AreTold : (ℤ → Type 0) → List Leaf → Type 0
 AreTold P ls = All (λ l. IsTold P l.node l.mark) ls
 
+-- the sign of a condition that is known to hold, or not to
+abbrev pub known : Bool → Sign
+known true = Yes
+known false = No
+
 -- ---- signs of two conditions together
 abbrev pub opposite : Sign → Sign
 opposite Yes = No

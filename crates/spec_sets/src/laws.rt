@@ -1,5 +1,5 @@
 // What is true of sets of times: each law is the contract of a function with nothing to do.
-ghost use Rattle.std.specs.Prelude.{◌≡◌, ◌&&◌, ◌⊎◌, Bool, true, List, ℤ, ◌≤ℤ◌, []};
+ghost use Rattle.std.specs.Prelude.{◌≡◌, ◌&&◌, ◌||◌, ◌⊎◌, Bool, not, true, List, ℤ, ◌≤ℤ◌, []};
 ghost use Rattle.spec_intervals.specs.Fraction.{Fraction};
 ghost use Rattle.spec_intervals.specs.declared.signs.Sign.{Sign};
 ghost use Rattle.spec_intervals.specs.Enclosure.{Enclosure};
@@ -14,7 +14,7 @@ ghost use Rattle.spec_events.specs.Marks.{AreRightlyMarked};
 ghost use Rattle.spec_events.specs.Soundness.{Tells};
 ghost use Rattle.spec_sets.specs.Pairs.{AreOf, AreSets};
 ghost use Rattle.spec_sets.specs.Points.{point_of};
-ghost use Rattle.spec_sets.specs.Signs.{AreTold, both, either, opposite, sign_of_leaves};
+ghost use Rattle.spec_sets.specs.Signs.{AreTold, both, either, known, opposite, sign_of_leaves};
 ghost use Rattle.spec_sets.specs.Spans.{AreSpans, Span, earliest, has, is_between, latest, spans_of};
 
 /// The normal form is the only one: two lists of spans that have the same times are one.
@@ -78,4 +78,24 @@ pub fn signs_together()
         → Tells y (b ≡ true) → Tells (either x y) ((a ≡ true) ⊎ (b ≡ true)) }
     ensures both { (x y : Sign) (a b : Bool) → Tells x (a ≡ true)
         → Tells y (b ≡ true) → Tells (both x y) ((a ≡ true) × (b ≡ true)) }
+{}
+
+/// Signs together are exact: where those of the conditions are known, so is that of the opposite, of either and of both.
+pub fn known_signs_together()
+    ensures opposite { (a : Bool) → opposite (known a) ≡ known (not a) }
+    ensures either { (a b : Bool) → either (known a) (known b) ≡ known (a || b) }
+    ensures both { (a b : Bool) → both (known a) (known b) ≡ known (a && b) }
+{}
+
+/// Sets are exact: where the sign of each time of a span is known, the sure times are those that meet the condition, and
+/// so are the possible ones.
+pub fn known_signs_give_one_set()
+    ensures sure { (p : ℤ → Bool) (sign : ℤ → Sign) (from upto : ℤ) (sure maybe : List Span)
+        → AreOf sign from upto sure maybe
+        → ((t : ℤ) → from ≤ℤ t → t ≤ℤ upto → sign t ≡ known (p t))
+        → (t : ℤ) → has sure t ≡ (is_between from upto t && p t) }
+    ensures possible { (p : ℤ → Bool) (sign : ℤ → Sign) (from upto : ℤ) (sure maybe : List Span)
+        → AreOf sign from upto sure maybe
+        → ((t : ℤ) → from ≤ℤ t → t ≤ℤ upto → sign t ≡ known (p t))
+        → (t : ℤ) → has maybe t ≡ (is_between from upto t && p t) }
 {}

@@ -1,1 +1,8 @@
-pub mod Stepping
+mod Moving
+mod Keeping
+mod Falling
+mod Ending
+mod Beginning
+mod Accounting
+mod RunBalances
+mod Stepping

@@ -3,15 +3,16 @@ use Rattle.std.proofs.Common.{◌≡◌, ◌≢◌, ℕ, List, [], ◌∷◌, �
 use Rattle.spec_trees.specs.declared.tree.Node.{Node}
 use Rattle.spec_trees.specs.declared.tree.Leaf.{Leaf}
 use Rattle.spec_trees.specs.Tree.{Rules, IsSound}
-use Rattle.spec_pool.specs.declared.step.Step.{Step}
-use Rattle.spec_pool.specs.declared.step.Step.TheVariants.{Steal, Enter}
-use Rattle.spec_pool.specs.Pool.{Holding, State, state, At, Gets, GivesUp, Enters, Steals, Steps, Refuses}
-use Rattle.spec_pool.specs.Tiling.{Conserves}
-use Rattle.spec_pool.proofs.Accounting.{same_set}
+use Rattle.pool_core.specs.declared.step.Step.{Step}
+use Rattle.pool_core.specs.declared.step.Step.TheVariants.{Steal, Enter}
+use Rattle.pool_core.specs.States.{Holding, State, state, At, Gets, GivesUp, Enters, Steals, Steps, Refuses}
+use Rattle.pool_core.specs.Tiling.{Conserves}
+use Rattle.pool_core.proofs.Accounting.{same_set}
 use Rattle.spec_pool.proofs.Weights.{weigh-get}
 use Rattle.spec_pool.proofs.Finding.{is_node}
-use Rattle.spec_pool.proofs.Moving.{weigh_hand, weigh_holding}
-use Rattle.spec_pool.proofs.Keeping.{valid_one, step_conserves}
+use Rattle.spec_pool.proofs.Hands.{weigh_hand}
+use Rattle.pool_core.proofs.Moving.{weigh_holding}
+use Rattle.pool_core.proofs.Keeping.{valid_one, step_conserves}
 use Rattle.pool_core.specs.Views.{Goes, HoldsValid, empty_handed, own_step}
 use Rattle.pool_core.specs.declared.worker.OwnStep.{OwnStep}
 use Rattle.pool_core.specs.declared.worker.OwnStep.TheVariants.{Push, Keep, Pop, TakeKept}

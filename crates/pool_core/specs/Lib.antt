@@ -1,1 +1,5 @@
+pub mod States
+pub mod Tiling
+pub mod Accounted
+pub mod Examples
 pub mod Views

@@ -4,9 +4,9 @@ use Rattle.spec_trees.specs.declared.tree.Leaf.{Leaf}
 use Rattle.spec_trees.specs.declared.tree.Node.{Node}
 use Rattle.spec_trees.specs.declared.tree.Verdict.TheVariants.{Split}
 use Rattle.spec_trees.specs.Tree.{Rules, IsValid}
-use Rattle.spec_pool.specs.declared.step.Step.{Step}
-use Rattle.spec_pool.specs.declared.step.Step.TheVariants as S
-use Rattle.spec_pool.specs.Pool.{Holding, holding, Enters, Keeps, Pops, Pushes, State, Steps, Refuses, TakesKept}
+use Rattle.pool_core.specs.declared.step.Step.{Step}
+use Rattle.pool_core.specs.declared.step.Step.TheVariants as S
+use Rattle.pool_core.specs.States.{Holding, holding, Enters, Keeps, Pops, Pushes, State, Steps, Refuses, TakesKept}
 use Rattle.pool_core.specs.declared.worker.OwnStep.{OwnStep}
 use Rattle.pool_core.specs.declared.worker.OwnStep.TheVariants.{Push, Keep, Pop, TakeKept}
 use Rattle.pool_core.specs.declared.worker.StepError.{StepError}

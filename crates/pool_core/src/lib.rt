@@ -1,22 +1,34 @@
-//! The model of the pool as a program: a pool of workers without threads, whose steps are taken one by one.
+//! The model of the pool, as definitions and as a program: workers without threads, whose steps are taken one by one.
 //!
 //! What comes in: a `Judge`, a root and a number of workers; then one `Step` after another, by whichever worker, in any
 //! order. What goes out: each step is taken or refused, `Refused` exactly where its condition is false, and the leaves
 //! that were entered so far, in order of arrival.
 //!
+//! - `specs/States` has the states and the steps, `specs/Tiling` and `specs/Accounted` what each run of steps keeps, and
+//!   `laws.rt` the laws of all runs.
 //! - `worker.rt` has what one worker holds (hand, deque, local stack) and what each step does to it; `pool.rt` picks the
 //!   worker, and for a steal the two workers, and keeps the entered leaves.
-//! - A pool's contracts see its judge, its root and its state, a value of the model in `spec_pool`; that crate says what
-//!   each run of steps keeps. So a law of all runs is proved there, and holds for this pool by its clause on `step`.
-//! - No command runs it. It shows that the model can be run, and it is what the threads of `steal_pool` are compared
-//!   with: their `push`, `take` and entering are these steps, by the same definitions.
+//! - A pool's contracts see its judge, its root and its state. So a law of all runs holds for this pool by its clause on
+//!   `step`.
+//! - No command runs it. Each step changes the account of its worker by the definitions by which the calls of a seat of
+//!   `steal_pool` change theirs (`Accounts` of `spec_pool`). No clause says that threads take steps of this model, one after
+//!   another: the two meet in the reader's head alone.
 //!
 //! Not to be touched without need: the invariant of `Pool` (the nodes of all places, put in order, tile the root). From
 //! it each step knows that the node in a hand is valid, so that the judge may be asked.
 #![tactic(auto)]
 
+mod examples;
+mod laws;
 mod pool;
+mod step;
 mod worker;
 
+pub use examples::ten_steps_for_four_leaves;
+pub use laws::{
+    a_done_pool_has_entered_all_leaves, each_step_is_accounted, each_step_lowers_todo_by_one,
+    every_run_balances, every_run_conserves, some_step_is_accepted,
+};
 pub use pool::Pool;
+pub use step::Step;
 pub use worker::StepError;

@@ -1,15 +1,16 @@
 // The pool of all workers.
 ghost use Rattle.std.specs.Prelude.{◌≡◌, ◌≤◌, List, [], ◌∷◌, ◌++◌, IsTrue, ◌↔◌, OnOk, OnErr, IfOk, IfErr};
 ghost use Rattle.spec_trees.specs.Tree.{IsValid};
-ghost use Rattle.spec_pool.specs.Pool.{Holding, Steals, opening};
-ghost use Rattle.spec_pool.specs.Tiling.{IsDone};
-ghost use Rattle.spec_pool.specs.declared.step.Step.TheVariants.{Steal, Enter};
+ghost use Rattle.pool_core.specs.States.{Holding, Steals, opening};
+ghost use Rattle.pool_core.specs.Tiling.{IsDone};
+ghost use Rattle.pool_core.specs.declared.step.Step.TheVariants.{Steal, Enter};
 ghost use Rattle.pool_core.specs.Views.{IsRefusal, Takes, own_step, seen};
 ghost use Rattle.pool_core.specs.declared.worker.StepError.TheVariants.{Refused, Memory};
 
+use crate::step::Step;
 use crate::worker::{OwnStep, StepError, Worker};
 use halving::{Judge, Leaf, Node, rules_are_sound};
-use spec_pool::{Memory, Step};
+use spec_pool::Memory;
 use std::alloc::Global;
 use std::marker::Model;
 
@@ -23,8 +24,8 @@ pub struct Pool<J: Judge> {
 }
 
 impl<J: Judge> Model for Pool<J> {
-    ghost use Rattle.spec_pool.specs.Pool.{state};
-    ghost use Rattle.spec_pool.specs.Tiling.{Conserves};
+    ghost use Rattle.pool_core.specs.States.{state};
+    ghost use Rattle.pool_core.specs.Tiling.{Conserves};
     ghost use Rattle.pool_core.specs.Views.{Seen, seen};
 
     ghost Value = { Seen J };

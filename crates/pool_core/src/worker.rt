@@ -3,7 +3,7 @@ ghost use Rattle.std.specs.Prelude.{◌≡◌, [], ◌∷◌, ◌++◌, Some, No
 ghost use Rattle.spec_trees.specs.declared.tree.Node.{Node};
 ghost use Rattle.spec_trees.specs.declared.tree.Leaf.{Leaf};
 ghost use Rattle.spec_trees.specs.Tree.{IsValid};
-ghost use Rattle.spec_pool.specs.Pool.{Holding, holding, nothing, Pushes, Keeps, Pops, TakesKept, Gets, GivesUp, Enters};
+ghost use Rattle.pool_core.specs.States.{Holding, holding, nothing, Pushes, Keeps, Pops, TakesKept, Gets, GivesUp, Enters};
 ghost use Rattle.pool_core.specs.Views.{Goes, HoldsLeaf, HoldsNoLeaf, HoldsNoSplit, HoldsSplit, HoldsValid, IfRefused, IsStuck, empty_handed};
 ghost use Rattle.pool_core.specs.declared.worker.StepError.TheVariants.{Refused, Memory};
 
@@ -36,7 +36,7 @@ pub struct Worker {
 }
 
 impl Model for Worker {
-    ghost use Rattle.spec_pool.specs.Pool.{Holding, holding};
+    ghost use Rattle.pool_core.specs.States.{Holding, holding};
 
     ghost Value = { Holding };
 

@@ -7,7 +7,7 @@ use Rattle.spec_trees.specs.declared.tree.Node.{Node}
 use Rattle.spec_trees.specs.declared.tree.Verdict.TheVariants.{Clear, Split}
 use Rattle.spec_trees.specs.CutExamples.{pairs, parts_at}
 use Rattle.spec_trees.specs.Tree.{Rules, IsCut, IsSound, IsValid}
-use Rattle.spec_pool.specs.Examples.{crossing_in, crossing_in_is_sound}
+use Rattle.pool_core.specs.Examples.{crossing_in, crossing_in_is_sound}
 
 -- a root at depth 0
 abbrev pub span : ℤ → ℤ → Node

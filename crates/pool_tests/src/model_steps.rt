@@ -1,8 +1,7 @@
 // Ten steps of two workers over a tree of four leaves, and what the opening state refuses.
 use crate::judges::Crossing;
 use halving::{Leaf, Node};
-use pool_core::{Pool, StepError};
-use spec_pool::Step;
+use pool_core::{Pool, Step, StepError};
 use std::test::*;
 
 const ROOT: Node = Node {

@@ -1,9 +1,4 @@
 pub mod Weights
 pub mod Finding
-pub mod Moving
-pub mod Keeping
-pub mod Falling
-pub mod Ending
-pub mod Beginning
-pub mod Accounting
+pub mod Hands
 pub mod Balancing

@@ -13,7 +13,7 @@ use Rattle.spec_pool.specs.declared.ledger.SeatHistory.{SeatHistory}
 use Rattle.spec_pool.specs.Accounts.{Account, Balances, PutsRight, KeepsRight, leaves_of, own}
 use Rattle.spec_pool.proofs.Balancing.{by_leaves}
 use Rattle.spec_pool.proofs.Finding.{nodes_permuted, leaves_permuted}
-use Rattle.spec_pool.proofs.Moving.{weigh_hand, hand_weigh}
+use Rattle.spec_pool.proofs.Hands.{weigh_hand, hand_weigh}
 use Rattle.spec_pool.proofs.Weights.{weigh, weigh-append, weigh-push, weigh-flat, weigh-map, weigh-set, sum_is_weigh}
 use Rattle.steal_pool.specs.Rule.{DequeId, End, takes_one}
 use Rattle.steal_pool.specs.Workers.{Holder, taken_by, after_empty_pop, on_deque, on_stack, with_hand, IsSplit, IsRight, TookOne, Takes, TakesInOrder, TakesOwn, TakesOther, FindsNone}

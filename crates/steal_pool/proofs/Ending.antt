@@ -10,7 +10,7 @@ use Rattle.spec_pool.specs.Accounts.{leaves_of}
 use Rattle.spec_pool.specs.History.{Fresh}
 use Rattle.spec_pool.proofs.Balancing.{by_leaves}
 use Rattle.spec_pool.proofs.Finding.{leaves_permuted}
-use Rattle.spec_pool.proofs.Moving.{hand_weigh, weigh_hand}
+use Rattle.spec_pool.proofs.Hands.{hand_weigh, weigh_hand}
 use Rattle.spec_pool.proofs.Weights.{weigh, weigh-append, weigh-flat, weigh-map, weigh-same, sum_is_weigh}
 use Rattle.span_ledger.specs.declared.desk.LedgerSeat.{LedgerSeat}
 use Rattle.span_ledger.specs.Seats.{part}

@@ -8,7 +8,7 @@ use Rattle.spec_trees.specs.Tree.{Rules, leaves}
 use Rattle.spec_pool.specs.Accounts.{leaves_of, own}
 use Rattle.spec_pool.proofs.Balancing.{by_leaves}
 use Rattle.spec_pool.proofs.Finding.{leaves_permuted}
-use Rattle.spec_pool.proofs.Moving.{weigh_hand, hand_weigh}
+use Rattle.spec_pool.proofs.Hands.{weigh_hand, hand_weigh}
 use Rattle.spec_pool.proofs.Weights.{weigh, weigh-append, weigh-flat, weigh-same}
 use Rattle.span_ledger.specs.declared.desk.SpanLedger.{SpanLedger}
 use Rattle.steal_pool.specs.Workers.{taken_by}

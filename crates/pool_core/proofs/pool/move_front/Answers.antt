@@ -1,6 +1,6 @@
 use Rattle.std.proofs.Common.{get_or, slice_set, length-set, arith}
 use Rattle.std.proofs.lemmas.Option.{slice_get-get_or}
-use Rattle.spec_pool.specs.Pool.{Holding}
+use Rattle.pool_core.specs.States.{Holding}
 use Rattle.pool_core.proofs.Stepping.{steals, no_steal}
 use Rattle.pool_core.proofs.pool.move_front.Goals as goal
 

@@ -1,6 +1,6 @@
 use Rattle.std.proofs.Common.{◌≡◌, ℕ, ◌+◌, ◌-◌, ◌≤◌, List, [], ◌∷◌, ◌++◌, Some, replicate, sym, ap, ◌∙◌, arith}
 use Rattle.std.proofs.lemmas.Grind.{replicate_next}
-use Rattle.spec_pool.specs.Pool.{Holding, holding, nothing}
+use Rattle.pool_core.specs.States.{Holding, holding, nothing}
 use Rattle.pool_core.proofs.pool.opening_workers.Goals as goal
 
 one_more : (x y : Holding) (k : ℕ) (xs ys : List Holding) → 1 ≤ k → xs ≡ x ∷ replicate (k - 1) y → ys ≡ xs ++ y ∷ [] → ys ≡ x ∷ replicate ((k + 1) - 1) y

@@ -1,5 +1,5 @@
 use Rattle.std.proofs.Common.{◌≡◌, ◌-◌, ◌∷◌, [], Some, replicate}
-use Rattle.spec_pool.specs.Pool.{holding, nothing}
+use Rattle.pool_core.specs.States.{holding, nothing}
 use Rattle.pool_core.proofs.pool.opening_workers.Given as goal
 
 abbrev pub invariant-loop : goal.invariant-loop

@@ -1,8 +1,8 @@
 use Rattle.std.proofs.Common.{length, slice_set, arith}
 use Rattle.std.proofs.lemmas.Option.{slice_get_read}
-use Rattle.spec_pool.specs.declared.step.Step.TheVariants.{Enter}
-use Rattle.spec_pool.specs.Pool.{state, Refuses}
-use Rattle.spec_pool.proofs.Keeping.{step_conserves}
+use Rattle.pool_core.specs.declared.step.Step.TheVariants.{Enter}
+use Rattle.pool_core.specs.States.{state, Refuses}
+use Rattle.pool_core.proofs.Keeping.{step_conserves}
 use Rattle.pool_core.proofs.Stepping.{hand_valid, enters, no_leaf}
 use Rattle.pool_core.proofs.pool.Pool.enter.Goals as goal
 

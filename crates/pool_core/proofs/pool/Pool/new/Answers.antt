@@ -1,4 +1,4 @@
-use Rattle.spec_pool.proofs.Beginning.{opening_conserves}
+use Rattle.pool_core.proofs.Beginning.{opening_conserves}
 use Rattle.pool_core.proofs.pool.Pool.new.Goals as goal
 
 pub invariant_of-result : goal.invariant_of-result

@@ -1,7 +1,7 @@
 use Rattle.std.proofs.Common.{◌≡◌, List, OnOk, OnErr, sym, subst, arith}
 use Rattle.std.proofs.lemmas.List.{with_items_is}
-use Rattle.spec_pool.specs.Pool.{Holding, state, Steals}
-use Rattle.spec_pool.specs.Tiling.{Conserves}
+use Rattle.pool_core.specs.States.{Holding, state, Steals}
+use Rattle.pool_core.specs.Tiling.{Conserves}
 use Rattle.pool_core.proofs.Stepping.{steal_keeps, steal_refused}
 use Rattle.pool_core.proofs.pool.Pool.steal.Goals as goal
 

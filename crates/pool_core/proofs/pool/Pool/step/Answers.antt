@@ -1,4 +1,4 @@
-use Rattle.spec_pool.specs.declared.step.Step.TheVariants.{Push, Keep, Pop, TakeKept, Steal, Enter}
+use Rattle.pool_core.specs.declared.step.Step.TheVariants.{Push, Keep, Pop, TakeKept, Steal, Enter}
 use Rattle.pool_core.proofs.Stepping.{refused_as}
 use Rattle.pool_core.proofs.pool.Pool.step.Goals as goal
 

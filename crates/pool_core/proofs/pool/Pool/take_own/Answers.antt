@@ -1,8 +1,8 @@
 use Rattle.std.proofs.Common.{length, arith}
 use Rattle.std.proofs.lemmas.Option.{slice_get_read}
-use Rattle.spec_pool.specs.Pool.{state}
-use Rattle.spec_pool.specs.Tiling.{Conserves}
-use Rattle.spec_pool.proofs.Keeping.{step_conserves}
+use Rattle.pool_core.specs.States.{state}
+use Rattle.pool_core.specs.Tiling.{Conserves}
+use Rattle.pool_core.proofs.Keeping.{step_conserves}
 use Rattle.pool_core.specs.Views.{Goes, own_step}
 use Rattle.pool_core.proofs.Stepping.{hand_valid, keeps, own_ok, own_refuses, own_steps}
 use Rattle.pool_core.proofs.pool.Pool.take_own.Goals as goal

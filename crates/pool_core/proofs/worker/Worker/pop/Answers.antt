@@ -1,5 +1,5 @@
 use Rattle.std.proofs.Common.{refl}
-use Rattle.spec_pool.specs.Pool.{holding}
+use Rattle.pool_core.specs.States.{holding}
 use Rattle.pool_core.proofs.worker.Worker.pop.Goals as goal
 
 pub returns-in_default-clause-refused : goal.returns-in_default-clause-refused

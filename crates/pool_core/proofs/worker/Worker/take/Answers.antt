@@ -1,4 +1,4 @@
-use Rattle.spec_pool.specs.Pool.{Pops, TakesKept}
+use Rattle.pool_core.specs.States.{Pops, TakesKept}
 use Rattle.pool_core.specs.Views.{IsStuck}
 use Rattle.pool_core.proofs.Stepping.{on_refused}
 use Rattle.pool_core.proofs.worker.Worker.take.Goals as goal

@@ -2,10 +2,11 @@
 use Rattle.std.proofs.Common.{◌≡◌, ℕ, zero, suc, List, [], ◌∷◌, ◌++◌, map, Option, Some, None, slice_get, slice_set, refl, sym, ap, ◌∙◌}
 use Rattle.spec_trees.specs.declared.tree.Node.{Node}
 use Rattle.spec_trees.specs.Tree.{Rules, leaf_of}
-use Rattle.spec_pool.specs.declared.step.Step.{Step}
-use Rattle.spec_pool.specs.declared.step.Step.TheVariants.{Push, Keep, Pop, TakeKept, Steal, Enter}
-use Rattle.spec_pool.specs.Pool.{Holding, State, At, Steps}
-use Rattle.spec_pool.specs.Accounts.{Account, Deque, Accounts, PutsRight, KeepsRight, TakesNode, TakesTop, EntersNode, GainsBack, LosesFront, Accounted, AreAccounts}
+use Rattle.pool_core.specs.declared.step.Step.{Step}
+use Rattle.pool_core.specs.declared.step.Step.TheVariants.{Push, Keep, Pop, TakeKept, Steal, Enter}
+use Rattle.pool_core.specs.States.{Holding, State, At, Steps}
+use Rattle.spec_pool.specs.Accounts.{Account, EntersNode, KeepsRight, PutsRight, TakesNode, TakesTop}
+use Rattle.pool_core.specs.Accounted.{Accounted, Accounts, AreAccounts, Deque, GainsBack, LosesFront}
 
 pub same_set : {A : Type 0} (xs : List A) (k : ℕ) (x : A) → slice_get xs k ≡ Some x → slice_set xs k x ≡ xs
 same_set [] k x e = refl

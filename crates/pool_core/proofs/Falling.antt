@@ -7,14 +7,15 @@ use Rattle.spec_trees.specs.declared.tree.Verdict.TheVariants.{Split}
 use Rattle.spec_trees.specs.Tree.{Rules, IsValid, IsSound, Covers, leaf_count, leaves}
 use Rattle.spec_trees.proofs.Covering.{leaves_cover}
 use Rattle.spec_trees.proofs.Leaves.{leaves_settled, leaves_split}
-use Rattle.spec_pool.specs.declared.step.Step.{Step}
-use Rattle.spec_pool.specs.declared.step.Step.TheVariants.{Push, Keep, Pop, TakeKept, Steal, Enter}
-use Rattle.spec_pool.specs.Pool.{At, Holding, State, Pushes, Keeps, Pops, TakesKept, Gets, GivesUp, Enters, Steps, Runs}
-use Rattle.spec_pool.specs.Tiling.{Conserves, todo_of, todo}
+use Rattle.pool_core.specs.declared.step.Step.{Step}
+use Rattle.pool_core.specs.declared.step.Step.TheVariants.{Push, Keep, Pop, TakeKept, Steal, Enter}
+use Rattle.pool_core.specs.States.{At, Holding, State, Pushes, Keeps, Pops, TakesKept, Gets, GivesUp, Enters, Steps, Runs}
+use Rattle.pool_core.specs.Tiling.{Conserves, todo_of, todo}
 use Rattle.spec_pool.proofs.Weights.{weigh, weigh-append, weigh-push, weigh-same, sum_is_weigh}
 use Rattle.spec_pool.proofs.Finding.{is_node}
-use Rattle.spec_pool.proofs.Moving.{weigh_hand, weigh_holding, hand_weigh, at_weigh, at_le}
-use Rattle.spec_pool.proofs.Keeping.{valid_one, step_conserves}
+use Rattle.spec_pool.proofs.Hands.{weigh_hand, hand_weigh}
+use Rattle.pool_core.proofs.Moving.{weigh_holding, at_weigh, at_le}
+use Rattle.pool_core.proofs.Keeping.{valid_one, step_conserves}
 
 nonempty : (l : List Leaf) (a b : ℤ) → Covers a l b → a <ℤ b → 0 < length l
 nonempty [] a b c lt = absurd (omega (arith, ints))

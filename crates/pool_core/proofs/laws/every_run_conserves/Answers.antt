@@ -1,6 +1,6 @@
-use Rattle.spec_pool.proofs.Beginning.{opening_conserves}
-use Rattle.spec_pool.proofs.Keeping.{run_conserves}
-use Rattle.spec_pool.proofs.laws.every_run_conserves.Goals as goal
+use Rattle.pool_core.proofs.Beginning.{opening_conserves}
+use Rattle.pool_core.proofs.Keeping.{run_conserves}
+use Rattle.pool_core.proofs.laws.every_run_conserves.Goals as goal
 
 pub returns-clause-opening : goal.returns-clause-opening
 returns-clause-opening c = λ t root workers valid. opening_conserves t root workers valid

@@ -8,13 +8,14 @@ use Rattle.spec_trees.specs.declared.tree.Leaf.{Leaf}
 use Rattle.spec_trees.specs.declared.tree.Verdict.TheVariants.{Split}
 use Rattle.spec_trees.specs.Tree.{Rules, IsValid, IsSound, IsCut, IsLeaf, AreLeaves, leaves}
 use Rattle.spec_trees.proofs.Leaves.{leaves_split}
-use Rattle.spec_pool.specs.declared.step.Step.{Step}
-use Rattle.spec_pool.specs.declared.step.Step.TheVariants.{Push, Keep, Pop, TakeKept, Steal, Enter}
-use Rattle.spec_pool.specs.Pool.{At, Holding, State, Pushes, Keeps, Pops, TakesKept, Enters, Steps, Runs}
-use Rattle.spec_pool.specs.Tiling.{nodes, Follow, Tiles, Conserves}
+use Rattle.pool_core.specs.declared.step.Step.{Step}
+use Rattle.pool_core.specs.declared.step.Step.TheVariants.{Push, Keep, Pop, TakeKept, Steal, Enter}
+use Rattle.pool_core.specs.States.{At, Holding, State, Pushes, Keeps, Pops, TakesKept, Enters, Steps, Runs}
+use Rattle.pool_core.specs.Tiling.{nodes, Follow, Tiles, Conserves}
 use Rattle.spec_pool.proofs.Weights.{weigh, weigh-append, weigh-push, sum_is_weigh}
 use Rattle.spec_pool.proofs.Finding.{is_node, is_itself, find, nodes_permuted}
-use Rattle.spec_pool.proofs.Moving.{weigh_hand, weigh_holding, weigh_all, nodes_weigh, pushes_weigh, keeps_weigh, pops_weigh, takes_weigh, steals_weigh, enters_weigh, at_weigh, at_le}
+use Rattle.spec_pool.proofs.Hands.{weigh_hand}
+use Rattle.pool_core.proofs.Moving.{weigh_holding, weigh_all, nodes_weigh, pushes_weigh, keeps_weigh, pops_weigh, takes_weigh, steals_weigh, enters_weigh, at_weigh, at_le}
 
 -- ---- the nodes in order, by weight
 pub ordered_weigh : (t : Rules) (root : Node) (s : State) (c : Conserves t root s) (h : Node → ℕ) → weigh_all h s ≡ weigh h c.ordered

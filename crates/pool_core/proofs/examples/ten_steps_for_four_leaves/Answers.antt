@@ -1,6 +1,6 @@
 use Rattle.std.proofs.Common.{refl}
 use Rattle.spec_trees.specs.Tree.{leaves_within, leaves}
-use Rattle.spec_pool.proofs.examples.ten_steps_for_four_leaves.Goals as goal
+use Rattle.pool_core.proofs.examples.ten_steps_for_four_leaves.Goals as goal
 
 pub returns : goal.returns
 unfolding leaves leaves_within

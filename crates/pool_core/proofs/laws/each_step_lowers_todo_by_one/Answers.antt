@@ -1,6 +1,6 @@
-use Rattle.spec_pool.proofs.Ending.{done_is_zero, zero_is_done}
-use Rattle.spec_pool.proofs.Falling.{run_falls}
-use Rattle.spec_pool.proofs.laws.each_step_lowers_todo_by_one.Goals as goal
+use Rattle.pool_core.proofs.Ending.{done_is_zero, zero_is_done}
+use Rattle.pool_core.proofs.Falling.{run_falls}
+use Rattle.pool_core.proofs.laws.each_step_lowers_todo_by_one.Goals as goal
 
 pub returns-clause-runs : goal.returns-clause-runs
 returns-clause-runs c = λ t root s xs s' sound kept runs. run_falls t sound root xs s s' runs kept

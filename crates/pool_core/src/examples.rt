@@ -1,9 +1,9 @@
 // Worked values of the definitions, by computation.
 ghost use Rattle.std.specs.Prelude.{◌≡◌, pos, map, ◌∷◌, []};
 ghost use Rattle.spec_trees.specs.Tree.{leaves};
-ghost use Rattle.spec_pool.specs.Pool.{opening};
-ghost use Rattle.spec_pool.specs.Tiling.{todo};
-ghost use Rattle.spec_pool.specs.Examples.{crossing, four_hundred};
+ghost use Rattle.pool_core.specs.States.{opening};
+ghost use Rattle.pool_core.specs.Tiling.{todo};
+ghost use Rattle.pool_core.specs.Examples.{crossing, four_hundred};
 
 /// Four hundred seconds with one crossing have four leaves, so a pool has ten steps to take.
 pub fn ten_steps_for_four_leaves()

@@ -10,15 +10,15 @@ use Rattle.spec_trees.specs.Order.{in_order}
 use Rattle.spec_trees.proofs.Leaves.{no_mark, leaves_settled}
 use Rattle.spec_trees.proofs.Covering.{leaves_cover}
 use Rattle.spec_trees.proofs.Rearranged.{rearranged_in_order}
-use Rattle.spec_pool.specs.declared.step.Step.{Step}
-use Rattle.spec_pool.specs.declared.step.Step.TheVariants.{Push, Pop, TakeKept, Enter}
-use Rattle.spec_pool.specs.Pool.{Holding, holding, nothing, State, state, Pushes, Pops, TakesKept, Enters, At, Steps}
-use Rattle.spec_pool.specs.Tiling.{Conserves, todo, IsDone}
+use Rattle.pool_core.specs.declared.step.Step.{Step}
+use Rattle.pool_core.specs.declared.step.Step.TheVariants.{Push, Pop, TakeKept, Enter}
+use Rattle.pool_core.specs.States.{Holding, holding, nothing, State, state, Pushes, Pops, TakesKept, Enters, At, Steps}
+use Rattle.pool_core.specs.Tiling.{Conserves, todo, IsDone}
 use Rattle.spec_pool.proofs.Weights.{weigh, weigh-flat}
 use Rattle.spec_pool.proofs.Finding.{leaves_permuted}
-use Rattle.spec_pool.proofs.Moving.{weigh_holding}
-use Rattle.spec_pool.proofs.Keeping.{ordered_weigh}
-use Rattle.spec_pool.proofs.Falling.{left_for, todo_is, step_falls}
+use Rattle.pool_core.proofs.Moving.{weigh_holding}
+use Rattle.pool_core.proofs.Keeping.{ordered_weigh}
+use Rattle.pool_core.proofs.Falling.{left_for, todo_is, step_falls}
 
 -- a list that is not empty has a last element
 last : (n : Node) (ns : List Node) → (m : Node) × (rest : List Node) × (n ∷ ns ≡ rest ++ m ∷ [])

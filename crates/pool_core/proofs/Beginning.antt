@@ -4,11 +4,11 @@ use Rattle.std.proofs.lemmas.List.{append-nil}
 use Rattle.std.proofs.lemmas.List.Elements.{All-nil, All-cons}
 use Rattle.spec_trees.specs.declared.tree.Node.{Node}
 use Rattle.spec_trees.specs.Tree.{Rules, IsValid, IsLeaf, leaves}
-use Rattle.spec_pool.specs.Pool.{nothing, opening}
-use Rattle.spec_pool.specs.Tiling.{Tiles, Conserves}
+use Rattle.pool_core.specs.States.{nothing, opening}
+use Rattle.pool_core.specs.Tiling.{Tiles, Conserves}
 use Rattle.spec_pool.proofs.Weights.{weigh}
-use Rattle.spec_pool.proofs.Moving.{weigh_holding, weigh_all}
-use Rattle.spec_pool.proofs.Keeping.{from_weights}
+use Rattle.pool_core.proofs.Moving.{weigh_holding, weigh_all}
+use Rattle.pool_core.proofs.Keeping.{from_weights}
 
 idle_weigh : (h : Node → ℕ) (n : ℕ) → weigh (weigh_holding h) (replicate n nothing) ≡ 0
 idle_weigh h zero = refl

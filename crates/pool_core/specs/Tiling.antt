@@ -2,7 +2,7 @@
 use Rattle.std.specs.Prelude.{◌≡◌, ℕ, ◌+◌, ◌*◌, ◌-◌, ℤ, ◌<ℤ◌, List, [], ◌∷◌, ◌++◌, map, flat_map, sum_by, All, IsPermutation, option_to_list}
 use Rattle.spec_trees.specs.declared.tree.Node.{Node}
 use Rattle.spec_trees.specs.Tree.{Rules, IsValid, AreLeaves, leaf_count, leaves}
-use Rattle.spec_pool.specs.Pool.{Holding, nothing, State}
+use Rattle.pool_core.specs.States.{Holding, nothing, State}
 
 -- the nodes that a worker holds
 abbrev pub held : Holding → List Node

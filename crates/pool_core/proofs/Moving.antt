@@ -3,23 +3,16 @@ use Rattle.std.proofs.Common.{◌≡◌, ℕ, ◌+◌, ◌≤◌, List, ◌++◌
 use Rattle.spec_trees.specs.declared.tree.Node.{Node}
 use Rattle.spec_trees.specs.declared.tree.Leaf.{Leaf}
 use Rattle.spec_trees.specs.Tree.{Rules}
-use Rattle.spec_pool.specs.Pool.{Holding, State, Pushes, Keeps, Pops, TakesKept, Gets, GivesUp, Enters, At, Steals}
-use Rattle.spec_pool.specs.Tiling.{held, nodes}
+use Rattle.pool_core.specs.States.{Holding, State, Pushes, Keeps, Pops, TakesKept, Gets, GivesUp, Enters, At, Steals}
+use Rattle.pool_core.specs.Tiling.{held, nodes}
+use Rattle.spec_pool.proofs.Hands.{weigh_hand, hand_weigh}
 use Rattle.spec_pool.proofs.Weights.{weigh, weigh-append, weigh-push, weigh-set, weigh-get, weigh-map, weigh-flat, weigh-same}
-
-abbrev pub weigh_hand : (Node → ℕ) → Option Node → ℕ
-weigh_hand h None = 0
-weigh_hand h (Some n) = h n
 
 abbrev pub weigh_holding : (Node → ℕ) → Holding → ℕ
 weigh_holding h x = weigh_hand h x.hand + weigh h x.deque + weigh h x.kept
 
 abbrev pub weigh_all : (Node → ℕ) → State → ℕ
 weigh_all h s = weigh (weigh_holding h) s.workers + weigh (λ (l : Leaf). h l.node) s.entered
-
-pub hand_weigh : (h : Node → ℕ) (o : Option Node) → weigh h (option_to_list o) ≡ weigh_hand h o
-hand_weigh h None = refl
-hand_weigh h (Some n) = omega arith
 
 held_weigh : (h : Node → ℕ) (x : Holding) → weigh h (held x) ≡ weigh_holding h x
 held_weigh h x =

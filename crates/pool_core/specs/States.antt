@@ -6,8 +6,8 @@ use Rattle.spec_trees.specs.declared.tree.Leaf.{Leaf}
 use Rattle.spec_trees.specs.declared.tree.Mark.{Mark}
 use Rattle.spec_trees.specs.declared.tree.Verdict.TheVariants.{Split}
 use Rattle.spec_trees.specs.Tree.{Rules, mark_of, leaf_of}
-use Rattle.spec_pool.specs.declared.step.Step.{Step}
-use Rattle.spec_pool.specs.declared.step.Step.TheVariants.{Push, Keep, Pop, TakeKept, Steal, Enter}
+use Rattle.pool_core.specs.declared.step.Step.{Step}
+use Rattle.pool_core.specs.declared.step.Step.TheVariants.{Push, Keep, Pop, TakeKept, Steal, Enter}
 
 -- what one worker holds: the node in its hand, its deque with the front first, its local stack with the top last
 pub record Holding : Type 0 where

@@ -80,7 +80,7 @@ fn a_report_of_many_windows(rt: HostRuntime) -> Result<(), Fail> {
 }
 
 // Words over three files, of which `a` is a header, `b` a block, and `c` is empty; the call of the shelf that fails; the
-// status, and the names that are opened: those of the words, in their order, up to the first file that can't be read or
+// status, and the names that are opened: those of the words, in their order, up to the first file that cannot be read or
 // has a fault. A certificate is opened after them, where its search could be made.
 const OPENED: [(&str, u64, u8, &str); 16] = [
     (

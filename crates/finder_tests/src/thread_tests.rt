@@ -1,6 +1,7 @@
-// Searches run on as many threads as the words ask for.
+// Each command that searches does so on as many threads as its words ask for.
 use crate::calls::call;
-use gf_edges::{Gate, MemoryShelf};
+use crate::inputs::{BLOCK, HEADER, NotingShelf};
+use gf_edges::Gate;
 use gf_find::REPORTED;
 use std::alloc::{AllocError, Global};
 use std::sync::Wait;
@@ -43,23 +44,34 @@ impl Gate for Meeting {
     }
 }
 
-// Whether another worker has come to the gate of the search of this line, and no worker has waited in vain.
+// Whether another worker has come to the gate of the run of this line, and no worker has waited in vain.
 fn is_met<R: Threads + Wait + Sync>(rt: &R, alloc: Global, line: &str) -> Result<bool, AllocError> {
     let gate = Meeting {
         first: AtomicU64::new(0),
         others: AtomicU64::new(0),
         given_up: AtomicU64::new(0),
     };
-    let mut shelf = MemoryShelf::new(Vec::new(alloc), 4096, Vec::new(alloc));
+    let mut shelf = NotingShelf::new(alloc, [HEADER, BLOCK, ""], 0)?;
     let answer = call(rt, alloc, line, &mut shelf, 4096, &gate)?;
     let have_come = gate.others.load(Ordering::SeqCst) > 0;
     let have_met = gate.given_up.load(Ordering::SeqCst) == 0;
     Ok(answer.status == REPORTED && have_come && have_met)
 }
 
+// Words of each command that searches, over the files `a`, a header, and `b`, a block.
+const SEARCHES: [&str; 6] = [
+    "find --kind coord --target mercury --axis x --workers 2 a b",
+    "cert --kind coord --target mercury --axis x --workers 2 a b",
+    "set --kind coord --target mercury --axis x --relation less --workers 2 a b",
+    "scalar --quad 1,0,-4 --from 0 --to 9 --workers 2",
+    "gen 405 1 1 --workers 2",
+    "gen 405 1 1 --workers 3",
+];
+
 #[test]
-fn workers_of_a_search_meet(rt: HostRuntime) -> Result<(), Fail> {
-    assert!(rt; is_met(&rt, rt.alloc(), "gen 405 1 1 --workers 2")?);
-    assert!(rt; is_met(&rt, rt.alloc(), "gen 405 1 1 --workers 3")?);
+fn workers_of_each_search_meet(rt: HostRuntime) -> Result<(), Fail> {
+    for line in &SEARCHES {
+        assert!(rt; is_met(&rt, rt.alloc(), line)?, "{line}");
+    }
     Ok(())
 }

@@ -1,8 +1,9 @@
 """Planted bugs as files: what an edit says, the texts that it makes of a crate's files, and the functions of these.
 
 An edit has lines `file: PATH`, `old: TEXT` and `new: TEXT`, as `rt` reads them, and `only: MODULE::FUNCTION`, once for
-each function of which the proof has to be refused. It stands in crates/CRATE/must-fail, planted/CRATE or
-mutations/CRATE."""
+each function of which the proof has to be refused. Where no contract can refuse it, it has in place of these one line
+`run: CRATE MODULE::TEST`, of a test of that crate that has to fail, or `run: CRATE FILE ..`, of a program that has to fail
+over these files of its data. It stands in crates/CRATE/must-fail, planted/CRATE or mutations/CRATE."""
 
 import os
 import re
@@ -32,12 +33,13 @@ class Pair:
 
 @dataclass(frozen=True)
 class Edit:
-    """A planted bug, and the functions of its crate whose proofs have to be refused."""
+    """A planted bug, and the functions of its crate whose proofs have to be refused, or the words of the run that fails."""
 
     path: str
     crate: str
     pairs: Tuple[Pair, ...]
     only: Tuple[str, ...]
+    run: Tuple[str, ...] = ()
 
     @property
     def name(self) -> str:
@@ -67,6 +69,7 @@ def crate_of(path: str) -> str:
 def read_edit(path: str) -> Edit:
     """Reads an edit, or raises what is wrong with its lines."""
     crate, file, old, pairs, only = crate_of(path), "", "", [], []
+    run: Tuple[str, ...] = ()
     for line in text_of(path).splitlines():
         word, _, rest = line.partition(":")
         rest = rest[1:] if rest.startswith(" ") else rest
@@ -76,6 +79,8 @@ def read_edit(path: str) -> Edit:
                 raise BadEdit(f"{file} is no file below {', '.join(READ)}")
         elif word == "only":
             only.append(rest.strip())
+        elif word == "run":
+            run = tuple(rest.split())
         elif word == "old":
             old = rest
         elif word == "new":
@@ -84,10 +89,12 @@ def read_edit(path: str) -> Edit:
             pairs.append(Pair(file, old, rest))
             old = ""
         elif line.strip():
-            raise BadEdit(f"the line {line!r} begins with none of file:, old:, new:, only:")
+            raise BadEdit(f"the line {line!r} begins with none of file:, old:, new:, only:, run:")
     if not pairs:
         raise BadEdit("it has no old: and new:")
-    return Edit(path, crate, tuple(pairs), tuple(only))
+    if run and (only or len(run) < 2 or not os.path.isdir(f"crates/{run[0]}")):
+        raise BadEdit("its run: names no crate and what is run of it, or an only: stands beside it")
+    return Edit(path, crate, tuple(pairs), tuple(only), run)
 
 
 def text_of(path: str) -> str:

@@ -58,7 +58,7 @@ impl SpanLedger {
         ))
     }
 
-    /// Takes all seats back and hands out the book, or returns how many were given where they aren't all. It does not
+    /// Takes all seats back and hands out the book, or returns how many were given where they are not all. It does not
     /// allocate.
     pub fn close(self, mut seats: Vec<LedgerSeat>) -> Result<Book, CloseError>
         requires { All (IsSeatOf self) seats.items }

@@ -70,9 +70,9 @@ fn border_in(ephemeris: &Ephemeris, column: usize, a: i64, b: i64) -> Result<Opt
     Ok(ephemeris.border_near(&[column], a, b))
 }
 
-// A column and a time of an ephemeris, the granule that is read there, and the border that is nearest to the middle of a
-// span.
-fn granule_of_column_agrees(
+/// A column and a time of an ephemeris, the granule that is read there, and the border that is nearest to the middle of a
+/// span.
+pub(crate) fn granule_of_column_agrees(
     ephemeris: &Ephemeris,
     fields: &mut Fields<'_>,
 ) -> Result<bool, RowError> {

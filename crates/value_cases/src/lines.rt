@@ -23,7 +23,7 @@ fn line_agrees(alloc: Global, fields: &mut Fields<'_>, line: &Line<'_>) -> Resul
     Ok(agrees && is_last)
 }
 
-// Passes the number and the tokens of a line that isn't there.
+// Passes the number and the tokens of a line that is not there.
 fn pass_line(fields: &mut Fields<'_>) -> Result<bool, RowError> {
     let _number = fields.number::<u32>()?;
     for _ in 0..fields.number::<usize>()? {
@@ -100,8 +100,8 @@ fn lines_of_text_agree(
     Err(RowError::Malformed)
 }
 
-/// A text, the number after that of its last line, the lines that aren't blank with their numbers and tokens, and whether
-/// they end or stop at a line that is too long.
+/// A text, the number after that of its last line, the lines that are not blank with their numbers and tokens, and
+/// whether they end or stop at a line that is too long.
 pub(crate) fn lines_agree(alloc: Global, fields: &mut Fields<'_>) -> Result<bool, RowError> {
     let text = fields.bytes(alloc)?;
     lines_of_text_agree(alloc, fields, &text)

@@ -12,6 +12,7 @@
 
 mod asks;
 mod bases;
+mod building;
 mod coordinates;
 mod enclosures;
 mod escapes;

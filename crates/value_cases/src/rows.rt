@@ -1,5 +1,6 @@
 // Rows of each kind, compared with what the code gives.
 use crate::bases::{argument_agrees, basis_agrees};
+use crate::building::built_agrees;
 use crate::coordinates::coordinate_agrees;
 use crate::events::{event_agrees, refusal_agrees};
 use crate::fields::{Fields, RowError};
@@ -43,6 +44,7 @@ pub fn agrees(rt: &HostRuntime, fields: &mut Fields<'_>) -> Result<bool, RowErro
     match fields.word()? {
         "argument" => argument_agrees(fields),
         "basis" => basis_agrees(fields),
+        "built" => built_agrees(rt, fields),
         "date" => date_agrees(rt.alloc(), fields),
         "decimal" => decimal_agrees(rt.alloc(), fields),
         "generated" => generated_agrees(rt.alloc(), fields),

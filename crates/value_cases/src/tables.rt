@@ -76,8 +76,8 @@ fn tally_of_file(rt: &HostRuntime, name: &str) -> io::Result<Option<Tally>> {
     }
 }
 
-// Compares the table of this name, and prints how many rows it has: whether one of them differs, or none where it can't be
-// read as a table.
+// Compares the table of this name, and prints how many rows it has: whether one of them differs, or none where it cannot
+// be read as a table.
 fn differs(rt: &HostRuntime, name: &str) -> io::Result<Option<bool>> {
     let Some(tally) = tally_of_file(rt, name)? else {
         eprintln!(rt; "{name} can't be read as a table")?;

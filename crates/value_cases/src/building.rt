@@ -56,7 +56,7 @@ fn body_numbers(
     ensures { IfOk result (λ numbers. All IsBodyNumber numbers.items) }
 {
     let mut numbers = Vec::new(alloc);
-    for _place in 0..count {
+    for _ in 0..count {
         let number = body_number(fields)?;
         numbers.push(number)?;
     }

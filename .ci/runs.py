@@ -14,7 +14,7 @@ import planting
 from planting import Edit
 
 LIMIT = 1800  # seconds of the clock for one run, with the build before it
-SECONDS = 300  # and for the run alone
+SECONDS = 120  # and for each test of it
 
 
 def commands(edit: Edit) -> List[str]:

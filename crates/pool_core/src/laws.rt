@@ -1,5 +1,5 @@
 // What every run of the pool keeps, whoever takes the steps and in whatever order.
-ghost use Rattle.std.specs.Prelude.{◌≡◌, ℕ, ◌+◌, ◌<◌, ◌⊎◌, List, length};
+ghost use Rattle.std.specs.Prelude.{◌≡◌, ℕ, ◌+◌, ◌⊎◌, List, length};
 ghost use Rattle.spec_trees.specs.declared.tree.Node.{Node};
 ghost use Rattle.spec_trees.specs.Tree.{Rules, IsSound, IsValid, leaves};
 ghost use Rattle.spec_trees.specs.Order.{in_order};

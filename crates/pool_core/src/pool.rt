@@ -1,5 +1,5 @@
 // The pool of all workers.
-ghost use Rattle.std.specs.Prelude.{◌≡◌, ◌≤◌, List, [], ◌∷◌, ◌++◌, IsTrue, ◌↔◌, OnOk, OnErr, IfOk, IfErr};
+ghost use Rattle.std.specs.Prelude.{◌≡◌, ◌≤◌, List, [], ◌∷◌, ◌++◌, IsTrue, ◌↔◌, OnOk, OnErr, IfOk};
 ghost use Rattle.spec_trees.specs.Tree.{IsValid};
 ghost use Rattle.pool_core.specs.States.{Holding, Steals, opening};
 ghost use Rattle.pool_core.specs.Tiling.{IsDone};

@@ -1,9 +1,8 @@
 // What one worker holds, and what each step does to it.
-ghost use Rattle.std.specs.Prelude.{◌≡◌, [], ◌∷◌, ◌++◌, Some, None, IsTrue, ◌↔◌, OnOk, OnErr, IfOk, IfErr, IfSome, IfNone, OnSome};
+ghost use Rattle.std.specs.Prelude.{◌≡◌, [], Some, None, IsTrue, ◌↔◌, OnOk, OnErr, IfSome, IfNone};
 ghost use Rattle.spec_trees.specs.declared.tree.Node.{Node};
 ghost use Rattle.spec_trees.specs.declared.tree.Leaf.{Leaf};
-ghost use Rattle.spec_trees.specs.Tree.{IsValid};
-ghost use Rattle.pool_core.specs.States.{Holding, holding, nothing, Pushes, Keeps, Pops, TakesKept, Gets, GivesUp, Enters};
+ghost use Rattle.pool_core.specs.States.{Holding, holding, nothing, Pushes, Keeps, Pops, TakesKept, Gets, GivesUp};
 ghost use Rattle.pool_core.specs.Views.{Goes, HoldsLeaf, HoldsNoLeaf, HoldsNoSplit, HoldsSplit, HoldsValid, IfRefused, IsStuck, empty_handed};
 ghost use Rattle.pool_core.specs.declared.worker.StepError.TheVariants.{Refused, Memory};
 

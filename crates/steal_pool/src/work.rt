@@ -1,5 +1,5 @@
 // What a seat does: it puts the right part of a node away, takes the next node, and works until it finds none.
-ghost use Rattle.std.specs.Prelude.{◌≡◌, ◌<◌, ◌≤◌, ◌+◌, [], Some, None, IfSome, IfNone, MatchOption, OnOk, IfErr, length};
+ghost use Rattle.std.specs.Prelude.{◌≡◌, ◌<◌, ◌+◌, [], Some, None, IfSome, IfNone, MatchOption, OnOk, IfErr, length};
 ghost use Rattle.spec_trees.specs.declared.tree.Node.{Node};
 ghost use Rattle.spec_trees.specs.Tree.{IsLeaf, IsValid, mark_of};
 ghost use Rattle.spec_trees.specs.declared.tree.Verdict.TheVariants.{Split};

@@ -1,5 +1,5 @@
 // Ephemerides that are built block by block.
-ghost use Rattle.std.specs.Prelude.{◌≡◌, All, IfOk, IsTrue};
+ghost use Rattle.std.specs.Prelude.{◌≡◌, All, IfOk};
 ghost use Rattle.spec_ephemeris.specs.Ephemeris.{IsBodyNumber};
 
 use crate::fields::{Fields, RowError};

@@ -1,0 +1,48 @@
+"""What a run says of a planted bug that no contract refuses."""
+
+import sys
+import unittest
+
+from testing.records import TOP
+
+sys.path.insert(0, str(TOP / ".ci"))
+import planting  # noqa: E402
+import runs  # noqa: E402
+
+TEST = planting.Edit("x.edit", "gf_find", (), (), ("finder_tests", "calls::one"))
+TABLE = planting.Edit("x.edit", "eph_model", (), (), ("value_cases", "granules.rows"))
+
+
+class Runs(unittest.TestCase):
+    """Only a run that ends, and fails, refuses an edit."""
+
+    def test_a_test_that_fails(self) -> None:
+        said = "tests: 2\ntest calls::other ... ok\ntest calls::one ... FAILED\n    checked: exit=101\ntest result: FAILED.\n"
+        self.assertEqual(runs.why_not_failed(TEST, 1, said), "")
+
+    def test_a_test_that_passes(self) -> None:
+        said = "tests: 2\ntest calls::other ... FAILED\n    checked: exit=101\ntest calls::one ... ok\n"
+        self.assertEqual(runs.why_not_failed(TEST, 1, said), "the test ends with ok")
+
+    def test_a_test_that_does_not_end(self) -> None:
+        said = "test calls::one ... FAILED\n    checked: no-answer: the program did not end within the time limit\n"
+        self.assertEqual(runs.why_not_failed(TEST, 1, said), "it did not end in time")
+
+    def test_a_crate_that_is_not_built(self) -> None:
+        why = runs.why_not_failed(TEST, 1, "src/searched.rt:5:1: error[mismatched-types]: no\n")
+        self.assertTrue(why.startswith("the test does not run: "))
+
+    def test_a_program_that_ends_well(self) -> None:
+        said = "granules.rows: 85 rows, 0 differ\nstatus=0\n"
+        self.assertEqual(runs.why_not_failed(TABLE, 0, said), "the program ends with status 0")
+
+    def test_a_program_whose_rows_differ(self) -> None:
+        self.assertEqual(runs.why_not_failed(TABLE, 1, "differs: built a 1 0 0\ngranules.rows: 2 rows, 1 differ\n"), "")
+
+    def test_a_program_that_is_not_built(self) -> None:
+        why = runs.why_not_failed(TABLE, 1, "src/main.rt:5:1: error[mismatched-types]: no\n")
+        self.assertTrue(why.startswith("the program does not run: "))
+
+
+if __name__ == "__main__":
+    unittest.main()

@@ -82,7 +82,7 @@ module _ (s : Search) (is : IsView s.view) (n : Node) (valid : IsValid (rules s)
   pub cut_inside : may_be_cut s n ≡ true → CanCut n.a n.b
   cut_inside may = can_cut s is n valid (and_parts (is_wide n) _ may).0
 
-  -- where no border falls into it, it isn't as deep as the depth
+  -- where no border falls into it, it is not as deep as the depth
   pub deeper : may_be_cut s n ≡ true → border_in s n ≡ None → n.depth < s.depth
   deeper may none = by (or_cases (crosses s n) (nat_lt n.depth s.depth) (and_parts (is_wide n) _ may).1)
     where

@@ -4,6 +4,5 @@ pub mod Wanted
 pub mod Named
 pub mod Memory
 pub mod Quiet
-pub mod Certified
 pub mod Plain
 pub mod Listed

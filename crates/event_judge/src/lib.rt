@@ -9,12 +9,10 @@
 //! A `RememberingJudge` stands for another judge of the same search, has its rules, and remembers what it found out in words
 //! that its workers share: the signs of the function at times, steady spans and quiet ones. The verdict of a node in a steady
 //! span is told by the signs at its two ends alone; a node in a quiet span is clear, and so is one from the end of a quiet span
-//! to the begin of the next where no turn that is wanted lies between their signs. In spans over which each condition is known
-//! to hold no condition is asked. Memory can run out as one is made, and nothing waits.
+//! to the begin of the next where no turn that is wanted lies between their signs. Memory can run out as one is made, and
+//! nothing waits.
 #![tactic(auto)]
 
-mod certified;
-mod certified_words;
 mod conditions;
 mod event_search;
 pub mod examples;
@@ -35,6 +33,7 @@ mod span_words;
 mod steady;
 mod steps;
 mod tries;
+mod unconditional;
 mod valid_node;
 mod verdicts;
 mod wanted;

@@ -1,13 +1,9 @@
-// What is remembered of a search, in words that workers share: signs of its function, steady spans, quiet ones, and spans in
-// which each condition holds.
+// What is remembered of a search, in words that workers share: signs of its function, steady spans and quiet ones.
 ghost use Rattle.std.specs.Prelude.{◌≡◌, ◌+◌, IfSome, IsTrue};
 ghost use Rattle.spec_bounds.specs.Steady.{IsSteady, sign_at};
 ghost use Rattle.event_judge.specs.Memory.{IsNear, LiesInSteady, time_of};
-ghost use Rattle.spec_bounds.specs.Certified.{HoldsConditions};
-ghost use Rattle.event_judge.specs.Certified.{LiesInCertified};
 ghost use Rattle.event_judge.specs.Quiet.{HasSign, KeepsQuiet, LiesInQuiet};
 
-use crate::certified_words::{OfCertified, keep_certified, lies_in_certified, no_certified};
 use crate::naming::Naming;
 use crate::quiet_words::{OfQuiet, keep_quiet, no_quiet, quiet_kept, quiet_word};
 use crate::sign_words::{OfSign, keep_sign, no_sign, sign_kept};
@@ -30,8 +26,8 @@ const QUIETS: usize = 256;
 /// An odd number by which the places of words are spread.
 const SPREAD: u64 = 0x9E37_79B9_7F4A_7C15;
 
-/// What is remembered of a search: the sign of its function at some times, some steady and some quiet spans, and some over
-/// which its conditions hold. What is kept later may take the place of what was kept before.
+/// What is remembered of a search: the sign of its function at some times, and some steady and some quiet spans. What is kept
+/// later may take the place of what was kept before.
 #[derive(Drop)]
 pub(crate) struct Memory<N: Naming> {
     signs: Vec<AtomicIn<OfSign<N>>>,
@@ -42,10 +38,6 @@ pub(crate) struct Memory<N: Naming> {
     quiets: Vec<AtomicIn<OfQuiet<N>>>,
     /// Whether it is worth trying to find a quiet span.
     pub(crate) tries: Tries,
-    /// In each of them every condition holds.
-    certified: Vec<AtomicIn<OfCertified<N>>>,
-    /// Whether it is worth trying to find a span in which each condition holds.
-    pub(crate) certified_tries: Tries,
 }
 
 // Words that know no sign.
@@ -75,17 +67,6 @@ fn no_quiets<N: Naming>(alloc: Global) -> Result<Vec<AtomicIn<OfQuiet<N>>>, Allo
     Ok(words)
 }
 
-// Words that know no span in which each condition holds.
-fn no_certified_spans<N: Naming>(
-    alloc: Global,
-) -> Result<Vec<AtomicIn<OfCertified<N>>>, AllocError> {
-    let mut words = Vec::with_capacity(alloc, SPANS)?;
-    for _ in 0..SPANS {
-        words.push(no_certified::<N>())?;
-    }
-    Ok(words)
-}
-
 // The place of the word for a number, of 2^8 places.
 #[inline(always)]
 fn place_of(number: u64) -> usize {
@@ -101,8 +82,6 @@ impl<N: Naming> Memory<N> {
             widest: AtomicU64::new(u64::MAX),
             quiets: no_quiets::<N>(alloc)?,
             tries: Tries::new(),
-            certified: no_certified_spans::<N>(alloc)?,
-            certified_tries: Tries::new(),
         })
     }
 
@@ -211,31 +190,6 @@ impl<N: Naming> Memory<N> {
     {
         if let Some(word) = self.quiets.get(place_of(offset)) {
             keep_quiet::<N>(word, kept);
-        }
-    }
-
-    /// Whether it is known that the times, each so many after the first of the ephemeris, lie within a span in which each
-    /// condition holds.
-    #[inline(always)]
-    pub(crate) fn lies_in_certified(&self, from: u64, upto: u64) -> bool
-        ensures { IsTrue result
-            → LiesInCertified N.search (time_of N.search from) (time_of N.search upto) }
-    {
-        for word in self.certified.iter() {
-            if lies_in_certified::<N>(word, from, upto) {
-                return true;
-            }
-        }
-        false
-    }
-
-    /// Keeps a span of some width in which each condition holds, which begins so many times after the first of the ephemeris.
-    pub(crate) fn keep_certified(&self, offset: u64, width: u64)
-        requires { HoldsConditions N.search (time_of N.search offset)
-            (time_of N.search (offset + width)) }
-    {
-        if let Some(word) = self.certified.get(place_of(offset) % SPANS) {
-            keep_certified::<N>(word, offset, width);
         }
     }
 }

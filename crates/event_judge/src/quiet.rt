@@ -34,8 +34,8 @@ fn last_time(ephemeris: &Ephemeris, columns: &[usize], time: i64) -> i64
 }
 
 impl<'s, 'e> ValidNode<'s, 'e> {
-    /// It reaches from a border or the begin of its tree's root to the next border or the root's end, and has several times.
-    pub(crate) fn is_whole(self) -> bool {
+    // It reaches from a border or the begin of its tree's root to the next border or the root's end, and has several times.
+    fn is_whole(self) -> bool {
         self.is_wide() && self.node.depth == 0
     }
 

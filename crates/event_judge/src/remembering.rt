@@ -247,7 +247,6 @@ impl<N: Naming> Memory<N> {
         if verdict == Verdict::Split {
             self.keep_middle(node, &over);
             self.learn(node);
-            self.learn_certified(node);
         }
         verdict
     }

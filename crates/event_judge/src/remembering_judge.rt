@@ -5,8 +5,7 @@ use crate::naming::Naming;
 use gf_hooks::Judge;
 
 /// A judge of the nodes of a search with what it remembers of them, which its workers share: signs at times, spans in which
-/// the signs at two ends tell the verdict of a node, spans in which each node is clear, and spans over which the conditions
-/// hold.
+/// the signs at two ends tell the verdict of a node, and spans in which each node is clear.
 #[derive(Drop)]
 pub struct RememberingJudge<'j, 'e, N: Naming, J: Judge> {
     /// The judge that it stands for.

@@ -53,8 +53,8 @@ impl<'e> EventSearch<'e> {
         certifies(guard.at_least(), bound.range.sign())
     }
 
-    /// By their bounds each condition holds at each of the times.
-    pub(crate) fn are_certified(&self, a: i64, b: i64) -> bool
+    // By their bounds each condition holds at each of the times.
+    fn are_certified(&self, a: i64, b: i64) -> bool
         requires { Fits self.now.view a b }
         ensures { IsTrue result
             ↔ All (λ c. is_certified_over self.now a b c ≡ true) self.now.event.conditions }

@@ -26,7 +26,7 @@ use Rattle.spec_searches.proofs.Borders.{span_fits, time_fits}
 use Rattle.spec_bounds.specs.Steady.{is_certified_at}
 use Rattle.spec_bounds.proofs.Guards.{IsNotRefuted}
 
--- signs that tell of one fact are not opposed: what one certifies, the other doesn't refute
+-- signs that tell of one fact are not opposed: what one certifies, the other does not refute
 opposed : (fact : Type 0) (at_least : Bool) (one other : Sign) → Tells one fact → Tells other fact
     → certifies at_least one ≡ true → certifies (not at_least) other ≡ true → ⊥
 opposed fact true Yes No p q is refuted = q.no refl (p.yes refl)

@@ -23,6 +23,5 @@ pub mod CertifiedAtTime
 pub mod Limits
 pub mod Steadiness
 pub mod Quiet
-pub mod Certified
 pub mod Exponents
 pub mod Within

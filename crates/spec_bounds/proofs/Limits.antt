@@ -34,7 +34,7 @@ last_is_known dir first last e = grind arith
 some_turn : (dir : Dir) (first last : Sign) → differ dir first last ≡ true → has_no_turn dir first last ≡ false
 some_turn dir first last e = grind arith
 
--- the stages of a wide node over plain tests, where the function turns, no guard is refuted and the node isn't narrow
+-- the stages of a wide node over plain tests, where the function turns, no guard is refuted and the node is not narrow
 by_limits : (turnless wide refuted one_way none narrow certified : Bool) (unit one limit : Verdict)
     → turnless ≡ false → wide ≡ true → refuted ≡ false → none ≡ false → narrow ≡ false
     → (if turnless then Clear

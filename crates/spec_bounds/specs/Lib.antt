@@ -1,5 +1,4 @@
 pub mod Terms
 pub mod Steady
 pub mod Quiet
-pub mod Certified
 pub mod Limits

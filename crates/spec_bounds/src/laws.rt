@@ -19,7 +19,6 @@ ghost use Rattle.spec_searches.specs.Search.{IsSearch, Search, criteria, crosses
 ghost use Rattle.spec_models.specs.Bounds.{IncludesEnclosure};
 ghost use Rattle.spec_models.specs.Inclusion.{Includes};
 ghost use Rattle.spec_bounds.specs.Quiet.{IsQuiet, sign_over};
-ghost use Rattle.spec_bounds.specs.Certified.{HoldsConditions, unconditional};
 ghost use Rattle.spec_bounds.specs.Terms.{bound_over, state_bound};
 ghost use Rattle.spec_bounds.specs.Limits.{IsBoundWithin};
 ghost use Rattle.spec_bounds.specs.Steady.{IsSteady, is_certified_at, sign_at, steady_verdict};
@@ -84,14 +83,6 @@ pub fn quiet_spans_are_clear()
     ensures borders { (s : Search) (n : Node) → IsSearch s → IsValid (rules s) n
         → crosses s n ≡ true → is_wide n ≡ false
         → has_no_turn s.event.dir (sign_at s n.a) (sign_at s n.b) ≡ true → verdict_of s n ≡ Clear }
-{}
-
-/// In a span in which each condition holds by its bound, the verdict of a node is the one that it has in the same search
-/// without conditions.
-pub fn conditions_that_hold()
-    ensures { (s : Search) (a b : ℤ) (n : Node) → IsSearch s → HoldsConditions s a b
-        → IsValid (rules s) n → a ≤ℤ n.a → n.b ≤ℤ b
-        → verdict_of s n ≡ verdict_of (unconditional s) n }
 {}
 
 /// In the bounds of coordinates and of formulas no exponent passes the limit, so that every rule can be applied.

@@ -108,9 +108,5 @@ end_of worker deque view = record { worker = worker; deque = deque; view = view 
 abbrev pub with_view : End → DequeView → End
 with_view e v = end_of e.worker e.deque v
 
--- two ends of the same worker's deque
-abbrev pub SameDeque : End → End → Type 0
-SameDeque e f = (e.worker ≡ f.worker) × (e.deque ≡ f.deque)
-
 abbrev pub takes_one : End → Node → End
 takes_one e n = with_view e (with_taken e.view (n ∷ []))

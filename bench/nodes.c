@@ -538,7 +538,7 @@ static __attribute__((noinline)) void column_at(const column *c, int64_t t, unsi
     }
 }
 
-/* The columns that the targets need, the Earth's two where one of them isn't the Moon. */
+/* The columns that the targets need, the Earth's two where one of them is not the Moon. */
 static void choose_columns(void) {
     int is_needed[BODIES] = { 0 };
     for (int i = 0; i < 2; i++) {

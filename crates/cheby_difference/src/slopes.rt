@@ -1,5 +1,5 @@
 // Rows of the derivatives of the polynomials, and of the divided differences of these.
-ghost use Rattle.std.specs.Prelude.{◌≡◌, ℕ, suc, ◌<◌, ◌≤◌, ◌*◌, ◌^◌, pos, ◌*ℤ◌, unsigned_abs};
+ghost use Rattle.std.specs.Prelude.{◌≡◌, ℕ, suc, ◌<◌, ◌≤◌, ◌*◌, ◌^◌, unsigned_abs};
 ghost use Rattle.spec_chebyshev.specs.Rows.{u_row, r_row, entry, IsArguments};
 ghost use Rattle.spec_motions.specs.RowSizes.{entry_size};
 ghost use Rattle.spec_motions.specs.Sums.{times};

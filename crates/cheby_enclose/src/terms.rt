@@ -1,5 +1,5 @@
 // The coefficients of one axis as intervals.
-ghost use Rattle.std.specs.Prelude.{◌≡◌, ◌≤◌, ◌<◌, length, map};
+ghost use Rattle.std.specs.Prelude.{◌≡◌, ◌<◌, length, map};
 ghost use Rattle.spec_motions.specs.Pairs.{term_of, ArePairs};
 ghost use Rattle.spec_motions.specs.Enclosures.{coefficients_of};
 ghost use Rattle.spec_motions.specs.Granules.{IsEvaluable};

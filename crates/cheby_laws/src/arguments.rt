@@ -1,7 +1,6 @@
 // The arguments of a span of seconds.
 
 ghost use Rattle.std.specs.Prelude.{◌≡◌, ◌≤◌, ◌*◌, ◌^◌, ◌≤ℤ◌, ◌*ℤ◌, ℤ, pos, neg_ℤ, unsigned_abs};
-ghost use Rattle.spec_numbers.specs.Numbers.{floor_div, ceil_div};
 ghost use Rattle.spec_chebyshev.specs.Rows.{argument_of, HoldsIn, IsArguments};
 
 use ival_core::Divider;

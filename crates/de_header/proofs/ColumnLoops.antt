@@ -1,7 +1,7 @@
 -- The words of a row, and the columns of three rows, one after the other.
-use Rattle.std.proofs.Common.{◌≡◌, ℕ, zero, suc, ◌+◌, ◌<◌, List, [], ◌∷◌, ◌++◌, length, get_or, take, drop, set, None, Some, Result, Ok, Err, refl, sym, ap, ◌∙◌, arith}
+use Rattle.std.proofs.Common.{◌≡◌, ℕ, zero, suc, ◌+◌, ◌<◌, List, [], ◌∷◌, ◌++◌, length, get_or, take, drop, set, None, Some, Result, Err, refl, sym, ap, ◌∙◌, arith}
 use Rattle.std.specs.Prelude.{slice_get}
-use Rattle.std.proofs.lemmas.List.{take_more_set, drop_all}
+use Rattle.std.proofs.lemmas.List.{take_more_set}
 use Rattle.spec_faults.specs.declared.numbers.TheConstants.{HEADER_NUMBER}
 use Rattle.spec_ephemeris.specs.declared.header.Column.{Column}
 use Rattle.spec_files.specs.declared.rules.BrokenRule.{BrokenRule}
@@ -48,9 +48,3 @@ row_more words i n out whole below within some is =
     ap (λ (l : List ℕ). whole_numbers l (drop (i + 1) words)) (take_more_set out i n within)
     ∙ ap (λ (k : ℕ). whole_numbers (take i out ++ n ∷ []) (drop k words)) (sym next)
     ∙ sym (row_goes_on words i n (take i out) below some) ∙ is
-
-pub row_all : (words : List (List ℕ)) (i : ℕ) (out : List ℕ) (whole : Result (List ℕ) BrokenRule) → i ≡ length words
-    → whole_numbers (take i out) (drop i words) ≡ whole → Ok (take (length words) out) ≡ whole
-row_all words i out whole all is =
-    let none : drop i words ≡ [] = drop_all i words (omega (arith, all)) in
-    ap (λ (k : ℕ). Ok (take k out)) (sym all) ∙ (rw none at is)

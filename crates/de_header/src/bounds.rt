@@ -1,5 +1,5 @@
 // The numbers of a header, within bounds.
-ghost use Rattle.std.specs.Prelude.{◌≡◌, ◌≤◌, IfOk};
+ghost use Rattle.std.specs.Prelude.{◌≡◌};
 ghost use Rattle.spec_text.specs.Days.{seconds_of_julian_date};
 ghost use Rattle.spec_files.specs.HeaderRules.{block_length, days_by, days_rule, is_mass_ratio};
 

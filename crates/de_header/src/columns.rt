@@ -1,7 +1,7 @@
 // The rules of the columns.
 ghost use Rattle.std.specs.Prelude.{◌≡◌, ◌<◌, ◌≤◌, [], IfOk, Ok, length, take};
 ghost use Rattle.spec_ephemeris.specs.declared.limits.TheConstants.{MAX_COLUMNS};
-ghost use Rattle.spec_files.specs.ColumnRules.{column_rule, columns_of, columns_rule, columns_row, first_row, is_column_count, is_out_of_place, overlap, overlaps_any, present_column, row_of, whole_numbers};
+ghost use Rattle.spec_files.specs.ColumnRules.{column_rule, columns_of, columns_rule, columns_row, first_row, is_column_count, is_out_of_place, overlap, overlaps_any, row_of, whole_numbers};
 ghost use Rattle.de_header.specs.Rows.{first_of, if_met};
 
 use de_text::Line;

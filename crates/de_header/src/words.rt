@@ -1,6 +1,5 @@
 // The rules of the lines before the columns.
 ghost use Rattle.std.specs.Prelude.{◌≡◌, ◌≤◌, ◌<◌, ◌+◌, IfOk, List, Some, length, slice_get, take, codes, ℕ};
-ghost use Rattle.std.specs.Option.{option_copied};
 ghost use Rattle.spec_files.specs.Sections.{is_word};
 ghost use Rattle.spec_files.specs.HeaderRules.{decimal_at, emrat_from, first_line, group, mass_ratio, mass_ratio_of, name_count, span, value_count};
 

@@ -1,7 +1,7 @@
 // The lines of generated blocks.
 ghost use Rattle.std.specs.Prelude.{◌≡◌, ◌+◌, ◌-◌, ◌*◌, ◌<◌, ◌≤◌, ◌++◌, ◌∷◌, [], ℕ, OnOk, string_bytes};
 ghost use Rattle.spec_text.specs.Bytes.{line_feed};
-ghost use Rattle.spec_generated.specs.Blocks.{block_lines, record_line, row, rows_from};
+ghost use Rattle.spec_generated.specs.Blocks.{block_lines, row, rows_from};
 ghost use Rattle.spec_generated.specs.Draws.{IsUpto, state_after};
 ghost use Rattle.spec_text.specs.Printed.{joined_lines};
 ghost use Rattle.spec_generated.specs.Words.{block_word};

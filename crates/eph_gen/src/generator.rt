@@ -37,7 +37,7 @@ GROUP 1070
 
 /// The text of a number of blocks and a seed: JPL's form of DE405's columns, with blocks of 32 days from Julian date
 /// 2451536.5 on. Each coefficient takes one draw, in the order of the places over all blocks. The text is accepted as the
-/// one file, whatever the seed; its granules don't join smoothly. A block takes about 26,000 bytes.
+/// one file, whatever the seed; its granules do not join smoothly. A block takes about 26,000 bytes.
 pub fn generate(alloc: Global, blocks: u32, seed: u64) -> Result<Vec<u8>, Memory>
     requires some { 0 < blocks }
     requires few { blocks ≤ MAX_GENERATED }

@@ -5,12 +5,7 @@ use mir.Val.{to_z, of_z}
 use mir.Syntax.{w64}
 use Rattle.spec_ephemeris.specs.declared.header.Column.{Column}
 use Rattle.spec_ephemeris.specs.declared.header.Header.{Header}
-use Rattle.spec_ephemeris.specs.Header.{IsHeader, IsColumn, IsShared, MeetsColumnRules}
-use Rattle.spec_ephemeris.specs.Ephemeris.{Ephemeris, IsEphemeris}
-
--- a present column meets the rules
-pub rules_of : (e : Ephemeris) (number : ℕ) (c : Column) → IsEphemeris e → IsColumn e.header number c → MeetsColumnRules e.header number c
-rules_of e number c checked is = checked.header.columns number c is
+use Rattle.spec_ephemeris.specs.Header.{IsHeader, IsColumn, IsShared}
 
 -- the granules of a present column share a block, also as the code passes its length on
 pub shared : (h : Header) (number : ℕ) (c : Column) → IsHeader h → IsColumn h number c → IsShared (to_z w64 (of_z w64 h.block_seconds)) c.granules

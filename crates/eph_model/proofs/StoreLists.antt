@@ -1,12 +1,12 @@
 -- Whole blocks, and after them the numbers of one that was begun.
-use Rattle.std.proofs.Common.{◌≡◌, ℕ, ◌+◌, ◌*◌, ◌<◌, ◌≤◌, List, [], ◌∷◌, ◌++◌, length, take, drop, sym, ◌∙◌, subst, arith, ℤ}
-use Rattle.std.proofs.lemmas.List.{length-take, length-drop, take-append-le, drop-append-le, take-append-drop, take-take, take_all, drop-take, drop_all}
+use Rattle.std.proofs.Common.{◌≡◌, ℕ, ◌+◌, ◌*◌, ◌<◌, ◌≤◌, List, [], ◌++◌, length, take, drop, sym, ◌∙◌, subst, arith, ℤ}
+use Rattle.std.proofs.lemmas.List.{length-take, length-drop, take-append-le, take-append-drop, take-take, take_all, drop-take, drop_all}
 use Rattle.spec_text.specs.declared.decimals.Decimal.{Decimal}
 use Rattle.spec_ephemeris.specs.declared.header.Header.{Header}
 use Rattle.spec_ephemeris.specs.declared.limits.TheConstants.{MAX_BLOCKS}
 use Rattle.spec_ephemeris.specs.Ephemeris.{Ephemeris, IsBlock, IsEphemeris}
 use Rattle.spec_ephemeris.proofs.Pushing.{pushed}
-use Rattle.eph_model.specs.Stores.{Store, closed, cut_to, with_number}
+use Rattle.eph_model.specs.Stores.{Store, closed, cut_to}
 
 -- the whole blocks of a list of numbers
 abbrev pub accepted_of : Header → ℤ → ℕ → List Decimal → Ephemeris
@@ -26,13 +26,6 @@ module _ (h : Header) (start : ℤ) (blocks : ℕ) (all : List Decimal) (checked
 
   enough : n ≤ length all
   enough = within n all checked.whole
-
-  -- one number more
-  pub number_pushed : (d : Decimal) → store_of h start blocks (all ++ d ∷ []) ≡ with_number (store_of h start blocks all) d
-  number_pushed d =
-      let kept : take n (all ++ d ∷ []) ≡ take n all = take-append-le n all (d ∷ []) enough in
-      let more : drop n (all ++ d ∷ []) ≡ drop n all ++ d ∷ [] = drop-append-le n all (d ∷ []) enough in
-      λ i. record { accepted = record { header = h; start = start; blocks = blocks; numbers = kept i }; numbers = more i }
 
   pub still_checked : (more : List Decimal) → IsEphemeris (accepted_of h start blocks (all ++ more))
   still_checked more =

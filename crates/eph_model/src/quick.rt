@@ -1,5 +1,5 @@
 // Numbers of km rounded by one multiplication, and a check of what it gives.
-ghost use Rattle.std.specs.Prelude.{◌≡◌, ◌+◌, ◌-◌, ◌*◌, ◌^◌, ◌<◌, ◌≤◌, IfSome, Some, unsigned_abs};
+ghost use Rattle.std.specs.Prelude.{◌≡◌, ◌+◌, ◌-◌, ◌*◌, ◌^◌, ◌<◌, ◌≤◌, IfSome, Some};
 ghost use Rattle.spec_ephemeris.specs.Rounding.{pair_of};
 ghost use Rattle.eph_model.specs.Quotients.{IsQuotient, IsOf};
 ghost use Rattle.eph_model.specs.Stores.{IsRounded};

@@ -10,7 +10,7 @@ use std::io::ErrorKind;
 use std::process::ExitCode;
 use std::rt::Stderr;
 
-/// The words of the command line, without the program's name. A word that isn't UTF-8 is in no request: the list is then
+/// The words of the command line, without the program's name. A word that is not UTF-8 is in no request: the list is then
 /// that of a command without its files, which the call refuses as it would refuse a word that no command has.
 fn words(rt: &HostRuntime) -> Result<Vec<String>, AllocError> {
     let mut words = Vec::new(rt.alloc());

@@ -9,7 +9,7 @@ use Rattle.spec_ephemeris.specs.declared.limits.TheConstants.{FIRST_TICK, LAST_T
 use Rattle.spec_ephemeris.specs.Ephemeris.{Ephemeris, IsEphemeris, end_of}
 use Rattle.spec_trees.specs.declared.tree.Leaf.{Leaf}
 use Rattle.spec_trees.specs.declared.tree.Node.{Node}
-use Rattle.spec_trees.specs.Tree.{IsCut, IsLeaf, IsValid, leaf_count, leaves}
+use Rattle.spec_trees.specs.Tree.{IsLeaf, IsValid, leaf_count, leaves}
 use Rattle.spec_trees.proofs.Covering.{leaves_are}
 use Rattle.spec_searches.specs.Found.{rules}
 use Rattle.spec_searches.specs.Search.{IsSearch, Search}

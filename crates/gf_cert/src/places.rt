@@ -1,7 +1,7 @@
 // The place of a leaf among the nodes that wait.
-ghost use Rattle.std.specs.Prelude.{◌≡◌, ◌∷◌, reverse, IfOk, true, Some};
+ghost use Rattle.std.specs.Prelude.{◌≡◌, reverse, IfOk, Some};
 ghost use Rattle.spec_trees.specs.declared.tree.Node.{Node};
-ghost use Rattle.spec_trees.specs.Tree.{IsValid, mark_of};
+ghost use Rattle.spec_trees.specs.Tree.{IsValid};
 ghost use Rattle.spec_searches.specs.Found.{rules};
 ghost use Rattle.spec_certificates.specs.Checks.{is_mark, leaf_at, or_broken, at_line};
 ghost use Rattle.spec_certificates.specs.Places.{is_same, waiting_after};

@@ -42,7 +42,7 @@ pub record StreamState : Type 0 where
 abbrev pub IsToFail : List ℕ → ℕ → Type 0
 IsToFail failing calls = Contains failing (raised calls)
 
--- the count rises by one where P holds, and stays where it doesn't
+-- the count rises by one where P holds, and stays where it does not
 pub record RisesWhere (P : Type 0) (before now : ℕ) : Type 0 where
   pub rises : P → now ≡ raised before
   pub stays : (P → ⊥) → now ≡ before
@@ -52,7 +52,7 @@ pub record IsStuck (sink : SinkState) (piece : List ℕ) : Type 0 where
   pub some : 0 < length piece
   pub full : length sink.bytes ≡ sink.room
 
--- a write failed, or took nothing of bytes that aren't empty
+-- a write failed, or took nothing of bytes that are not empty
 abbrev pub IsFruitless : {E : Type 0} → Result ℕ E → List ℕ → Type 0
 IsFruitless result piece = IsErr result ⊎ ((0 < length piece) × IfOk result (λ n. n ≡ 0))
 

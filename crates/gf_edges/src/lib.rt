@@ -2,7 +2,7 @@
 //!
 //! In come the calls of a search that knows no system: open and read a file by its name, write bytes, pass a gate. Out
 //! go the bytes, or `Failed`, which never comes without a cause that contracts can name: a count of faults that rose, or
-//! a file that isn't there. `MemoryShelf` and `MemorySink` tell all of their content and fail where they are told to;
+//! a file that is not there. `MemoryShelf` and `MemorySink` tell all of their content and fail where they are told to;
 //! `FileShelf` and `StdSink` are the files and the streams of the system.
 #![tactic(auto)]
 

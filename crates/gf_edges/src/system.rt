@@ -46,10 +46,10 @@ impl<'a, R: Files> FileShelf<'a, R> {
 }
 
 impl<'a, R: Files> Shelf for FileShelf<'a, R> {
-    ghost use Rattle.std.specs.Prelude.{◌≡◌, ◌⊎◌, ◌<◌, ◌≤◌, ◌^◌, IsErr, IsTrue, OnErr, OnOk, None};
+    ghost use Rattle.std.specs.Prelude.{◌⊎◌, ◌<◌, ◌≤◌, ◌^◌, IsErr, IsTrue, OnErr, OnOk, None};
     ghost use Rattle.std.specs.Io.{ReadsAtMost};
     ghost use Rattle.std.specs.Io.KnownBytes.{ReadConsumes};
-    ghost use Rattle.gf_edges.specs.Edges.{Files, HasCause, Lacks, Opens, Rose};
+    ghost use Rattle.gf_edges.specs.Edges.{HasCause, Lacks, Opens, Rose};
     ghost use Rattle.gf_edges.specs.States.{RisesWhere};
 
     ghost files = { λ _. None };

@@ -1,5 +1,5 @@
 -- From the text that a run has, or from the cause why it has none, to what it writes and returns.
-use Rattle.std.proofs.Common.{◌≡◌, ◌⊎◌, ℕ, List, Option, Result, Ok, Err, sym, ap, ◌∙◌, subst, arith, inl, inr}
+use Rattle.std.proofs.Common.{◌≡◌, ◌⊎◌, ℕ, List, Option, Ok, Err, sym, ap, ◌∙◌, subst, inl, inr}
 use Rattle.std.specs.Io.KnownBytes.{Appends}
 use Rattle.spec_ephemeris.specs.Ticks.{in_ticks}
 use Rattle.spec_text.specs.declared.decimals.Decimal.{Decimal}
@@ -123,7 +123,7 @@ module _ (words : Words) (files : Option Files) (count now : ℕ) (known : Knows
   pub one_outcome : (outcome other : Outcome) → HaveOutcome words files count now outcome → HaveOutcome words files count now other → Rose count now ⊎ (outcome ≡ other)
   one_outcome outcome other one two = one_outcome_by files count now (request_of (texts_of words)) outcome other known one two
 
-  -- a run that has a text isn't refused, unless the shelf failed
+  -- a run that has a text is not refused, unless the shelf failed
   pub text_not_refused : (text : List ℕ) (r : Refusal) → HaveOutcome words files count now (Ok text) → HaveOutcome words files count now (Err r) → Rose count now
   text_not_refused text r is other = by (one_outcome (Ok text) (Err r) is other)
     where

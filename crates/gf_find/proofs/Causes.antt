@@ -175,6 +175,6 @@ one_outcome_by files count now asked a b (inl none) p q = none_opened_once files
 one_outcome_by None count now asked a b (inr known) p q = absurd (cc)
 one_outcome_by (Some known) count now asked a b (inr is) p q = known_once known count now asked a b p q
 
--- a file that couldn't be read is one of those that are named
+-- a file that could not be read is one of those that are named
 pub missing_inside : (files : Option Files) (names : Texts) (count now file : ℕ) → IsNotRead files names count now file → file < length names
 missing_inside files names count now file lack = slice_get_within names file lack.name lack.here

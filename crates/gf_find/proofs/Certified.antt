@@ -1,11 +1,11 @@
 -- Where the file of a certificate is known, a run that reads it has one outcome.
-use Rattle.std.proofs.Common.{◌≡◌, ◌⊎◌, ◌<◌, ◌≤◌, ◌∙◌, ℕ, List, length, Option, None, Some, Result, Ok, Err, refl, sym, ap, subst, arith, inl, inr}
+use Rattle.std.proofs.Common.{◌≡◌, ◌⊎◌, ◌<◌, ◌≤◌, ◌∙◌, ℕ, List, length, Option, None, Some, Err, sym, ap, subst, arith, inl, inr}
 use Rattle.std.specs.Prelude.{IsSomeAnd}
 use Rattle.spec_text.specs.declared.limits.TheConstants.{MAX_TEXT_BYTES}
 use Rattle.spec_ephemeris.specs.Ephemeris.{Ephemeris}
 use Rattle.spec_files.specs.Files.{IsFile, IsLongFile}
 use Rattle.spec_requests.specs.declared.request.FindAsk.{FindAsk}
-use Rattle.gf_edges.specs.Edges.{Files, Lacks, Rose, file_of}
+use Rattle.gf_edges.specs.Edges.{Files, Lacks, Rose}
 use Rattle.spec_outcomes.specs.declared.refusal.Refusal.{Refusal}
 use Rattle.spec_outcomes.specs.Outcomes.{Outcome, cause_of}
 use Rattle.spec_outcomes.specs.Certificates.{verification_of}

@@ -1,5 +1,5 @@
 -- What is wanted of the search that words ask of their files, and what is made of it.
-use Rattle.std.proofs.Common.{◌≡◌, ◌⊎◌, ◌<◌, ℕ, false, true, List, Option, Result, Ok, Err, sym, ap, ◌∙◌, subst, inl, inr}
+use Rattle.std.proofs.Common.{◌≡◌, ◌⊎◌, ℕ, false, true, List, Option, Result, Ok, Err, sym, ap, ◌∙◌, subst, inl, inr}
 use Rattle.std.specs.Prelude.{All, IfErr}
 use Rattle.spec_ephemeris.specs.Ephemeris.{Ephemeris, end_of}
 use Rattle.spec_ephemeris.specs.Ticks.{in_ticks}
@@ -24,7 +24,7 @@ use Rattle.gf_search.specs.declared.wanted.Wanted.{Wanted}
 use Rattle.gf_search.specs.declared.wanted.Wanted.TheVariants.{Leaves, Windows}
 use Rattle.gf_search.specs.Wanted.{HasWindows, IsWanted}
 use Rattle.spec_outcomes.proofs.Searching.{outside_stops}
-use Rattle.gf_find.specs.Outcomes.{FilesHaveOutcome, FilesStop, HaveEphemeris, HoldEphemeris}
+use Rattle.gf_find.specs.Outcomes.{FilesHaveOutcome, HaveEphemeris, HoldEphemeris}
 use Rattle.gf_find.specs.Searches.{AreSearched, AreSearchedIn, SearchStops}
 use Rattle.gf_find.specs.Finds.{IsCountedReport, IsReport}
 use Rattle.gf_find.specs.Certifies.{IsCertificate, IsCountedCertificate}
@@ -44,7 +44,7 @@ asked_is find q same limits =
     subst IsQuery (sym same) (record { ask = limits.ask; some_width = limits.some_width; width = limits.width; depth = limits.depth })
 
 module _ (most : ℕ) (find : FindAsk) (e : Ephemeris) where
-  -- a span that isn't one of the ephemeris stops the search
+  -- a span that is not one of the ephemeris stops the search
   pub outside_is : (r : Refusal) → is_within (span_of find e) e ≡ false → r ≡ Outside (span_of find e) (whole_span e) → found most (query_of find) e (span_of find e) ≡ Err r
   outside_is r out is = outside_stops most (query_of find) e (span_of find e) out ∙ ap (λ (s : Refusal). Err s) (sym is)
 

@@ -1,5 +1,5 @@
 -- The texts of what a search of a generated text found.
-use Rattle.std.proofs.Common.{◌≡◌, ◌⊎◌, ◌<◌, ℕ, Bool, true, false, List, [], ◌∷◌, length, Option, None, Some, Ok, Err, refl, sym, ap, ◌∙◌, subst, arith, inl, inr}
+use Rattle.std.proofs.Common.{◌≡◌, ◌⊎◌, ◌<◌, ℕ, true, List, [], ◌∷◌, length, None, Some, Ok, Err, refl, sym, ap, ◌∙◌, subst, arith, inl, inr}
 use Rattle.spec_ephemeris.specs.Ephemeris.{Ephemeris, IsEphemeris}
 use Rattle.spec_trees.specs.declared.tree.Leaf.{Leaf}
 use Rattle.spec_trees.specs.Windows.{windows}
@@ -90,6 +90,3 @@ module _ (blocks seed bytes : ℕ) (e : Ephemeris) (q : Query) (span : Span) (of
       let within : is_within all (generated_ephemeris blocks seed) ≡ true =
       subst (λ (f : Ephemeris). is_within (whole_span f) f ≡ true) of (whole_within e checked block) in
       inr (ap (text_by (lines_by blocks seed)) (sym (searched_there blocks seed all within) ∙ there))
-
-pub same_ephemeris : (text : List ℕ) (e f : Ephemeris) → outcome (text ∷ []) ≡ Ok e → outcome (text ∷ []) ≡ Ok f → e ≡ f
-same_ephemeris text e f one two = let same : Ok e ≡ Ok f = sym one ∙ two in cc

@@ -1,5 +1,5 @@
 -- What a run that checks a certificate comes to.
-use Rattle.std.proofs.Common.{◌≡◌, ◌⊎◌, ◌<◌, ◌≤◌, ◌∙◌, ℕ, false, true, List, length, Option, None, Some, Result, Ok, Err, refl, sym, ap, subst, arith, inl, inr}
+use Rattle.std.proofs.Common.{◌≡◌, ◌⊎◌, ◌≤◌, ◌∙◌, ℕ, false, true, List, length, Option, None, Some, Result, Ok, Err, refl, sym, ap, subst, arith, inl, inr}
 use Rattle.std.specs.Prelude.{IfErr, IfOk, Vec}
 use Rattle.std.specs.declared.alloc.Global.{Global}
 use Rattle.spec_text.specs.declared.limits.TheConstants.{MAX_TEXT_BYTES}
@@ -97,7 +97,7 @@ module _ (files : Option Files) (find : FindAsk) (cert : List ℕ) (count now : 
   by_cause : (c : Option Refusal) (o : Outcome) → cause_of (query_of find) e asked ≡ c → CauseOr c o (Has o) → VerifyHasOutcome files find cert count now e o
   by_cause c o is has = subst (λ (d : Option Refusal). CauseOr d o (Has o)) (sym is) has
 
-  -- a span that isn't one of the ephemeris
+  -- a span that is not one of the ephemeris
   pub outside_refused : (r : Refusal) → is_within asked e ≡ false → r ≡ Outside asked (whole_span e) → VerifyHasOutcome files find cert count now e (Err r)
   outside_refused r out is =
       by_cause (Some (Outside asked (whole_span e))) (Err r) (λ i. cause_by (out i) (fault_of e find.ask) asked (whole_span e)) (ap (λ (s : Refusal). Err s) is)

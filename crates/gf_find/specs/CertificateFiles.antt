@@ -1,4 +1,4 @@
--- The file of a certificate: the outcome of a run that reads one is that of its text, or the cause why it isn't read. The shelf's
+-- The file of a certificate: the outcome of a run that reads one is that of its text, or the cause why it is not read. The shelf's
 -- count of faults was the first number, and is the second.
 use Rattle.std.specs.Prelude.{◌≡◌, ◌⊎◌, ◌≤◌, ℕ, List, length, Option, None, Some, Err}
 use Rattle.spec_faults.specs.declared.numbers.TheConstants.{FILE_TOO_LARGE}
@@ -8,7 +8,6 @@ use Rattle.spec_files.specs.Files.{IsFile, IsLongFile}
 use Rattle.spec_files.specs.Texts.{fault_at}
 use Rattle.spec_requests.specs.declared.request.FindAsk.{FindAsk}
 use Rattle.gf_edges.specs.Edges.{Files, Lacks, Rose}
-use Rattle.spec_outcomes.specs.declared.query.Span.{Span}
 use Rattle.spec_outcomes.specs.declared.refusal.Refusal.{Refusal}
 use Rattle.spec_outcomes.specs.declared.refusal.Refusal.TheVariants.{File, NotRead}
 use Rattle.spec_outcomes.specs.Outcomes.{Outcome, cause_of}
@@ -27,12 +26,12 @@ pub record IsTooLong (files : Option Files) (name : List ℕ) (refusal : Refusal
   pub long : IsLongFile files name
   pub same : refusal ≡ File name (fault_at 0 FILE_TOO_LARGE)
 
--- the file isn't there, or the shelf failed
+-- the file is not there, or the shelf failed
 pub record IsAbsent (files : Option Files) (name : List ℕ) (count now : ℕ) (refusal : Refusal) : Type 0 where
   pub cause : Rose count now ⊎ Lacks files name
   pub same : refusal ≡ NotRead name
 
--- why a certificate isn't read
+-- why a certificate is not read
 abbrev pub CertificateStops : Option Files → List ℕ → ℕ → ℕ → Refusal → Type 0
 CertificateStops files name count now refusal = IsTooLong files name refusal ⊎ IsAbsent files name count now refusal
 

@@ -48,7 +48,7 @@ pub record RefuseFile (files : Option Files) (names : List (List ℕ)) (refusal 
   pub cause : AreRefused files names file fault
   pub same : refusal ≡ R.File name fault
 
--- one of the files couldn't be read; the shelf's count of faults was the first number, and is the second
+-- one of the files could not be read; the shelf's count of faults was the first number, and is the second
 pub record LackFile (files : Option Files) (names : List (List ℕ)) (count now : ℕ) (refusal : Refusal) : Type 0 where
   pub file : ℕ
   pub name : List ℕ

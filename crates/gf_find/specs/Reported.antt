@@ -1,4 +1,4 @@
--- What a run that isn't refused writes to its output, and whether it opens a file. Known bytes were the first list, and are the
+-- What a run that is not refused writes to its output, and whether it opens a file. Known bytes were the first list, and are the
 -- second.
 use Rattle.std.specs.Prelude.{◌≡◌, ◌⊎◌, ◌<◌, ℕ, List, length, Option, IsSome, Result, Ok, Err}
 use Rattle.std.specs.Io.KnownBytes.{Appends}
@@ -15,7 +15,7 @@ use Rattle.gf_find.specs.Outcomes.{HaveOutcome, Words, texts_of}
 abbrev pub ReportsWhole : Words → Option Files → ℕ → ℕ → Option (List ℕ) → Option (List ℕ) → Type 0
 ReportsWhole words files count now old new = (text : List ℕ) × HaveOutcome words files count now (Ok text) × Appends old new text
 
--- a prefix of the text of the run's outcome, which isn't all of it
+-- a prefix of the text of the run's outcome, which is not all of it
 abbrev pub ReportsPart : Words → Option Files → ℕ → ℕ → Option (List ℕ) → Option (List ℕ) → Type 0
 ReportsPart words files count now old new = (text : List ℕ) × HaveOutcome words files count now (Ok text) × AppendsPart old new text
 

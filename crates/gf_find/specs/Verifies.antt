@@ -7,7 +7,6 @@ use Rattle.spec_trees.specs.declared.tree.Leaf.{Leaf}
 use Rattle.spec_trees.specs.Windows.{windows}
 use Rattle.spec_searches.specs.Search.{Search, events}
 use Rattle.spec_searches.specs.Found.{IsLeftUndecided}
-use Rattle.spec_files.specs.Files.{IsFile}
 use Rattle.spec_requests.specs.declared.request.FindAsk.{FindAsk}
 use Rattle.spec_output.specs.Report.{verification}
 use Rattle.spec_output.specs.Runs.{Reports}

@@ -28,7 +28,7 @@ pub(crate) fn refused_as(alloc: Global, name: &str, fault: Fault) -> Refusal
     }
 }
 
-/// The refusal of the file of this name, which couldn't be read.
+/// The refusal of the file of this name, which could not be read.
 pub(crate) fn not_read_as(alloc: Global, name: &str) -> Refusal
     ensures { (result ≡ Refusal.Memory) ⊎ (result ≡ Refusal.NotRead name.now) }
 {
@@ -47,7 +47,7 @@ fn refused(alloc: Global, names: &[String], file: usize, fault: Fault) -> Refusa
     refused_as(alloc, &names[file], fault)
 }
 
-// This file couldn't be read.
+// This file could not be read.
 fn not_read(alloc: Global, names: &[String], file: usize) -> Refusal
     requires { file < length names.now }
     ensures { (result ≡ Refusal.Memory) ⊎ ((name : List ℕ)

@@ -81,7 +81,7 @@ fn file_line(alloc: Global, name: &str, fault: Fault) -> Result<Vec<u8>, AllocEr
     Ok(text)
 }
 
-// The line of a file that couldn't be read.
+// The line of a file that could not be read.
 fn read_line(alloc: Global, name: &str) -> Result<Vec<u8>, AllocError>
     ensures { IfOk result (λ text. text.items ≡ read_text name.now) }
 {
@@ -90,7 +90,7 @@ fn read_line(alloc: Global, name: &str) -> Result<Vec<u8>, AllocError>
     Ok(text)
 }
 
-// The line of an event that can't be searched for, by the number of the cause.
+// The line of an event that cannot be searched for, by the number of the cause.
 fn event_line(alloc: Global, number: u8) -> Result<Vec<u8>, AllocError>
     ensures { IfOk result (λ text. text.items ≡ event_text number) }
 {
@@ -168,7 +168,7 @@ fn add_span(text: &mut Vec<u8>, span: Span, after: &[u8]) -> Result<(), AllocErr
     text.extend_from_slice(after)
 }
 
-// The line of a span that isn't one of the files, which have the other as their whole span.
+// The line of a span that is not one of the files, which have the other as their whole span.
 fn outside_line(alloc: Global, span: Span, whole: Span) -> Result<Vec<u8>, AllocError>
     ensures { IfOk result (λ text.
         text.items ≡ outside_text span.from span.upto whole.from whole.upto) }

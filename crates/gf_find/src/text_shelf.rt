@@ -11,7 +11,7 @@ pub(crate) struct TextShelf<'t> {
 impl<'t> TextShelf<'t> {
     ghost use Rattle.std.specs.Prelude.{◌≡◌};
 
-    /// A shelf of this text, which isn't open yet.
+    /// A shelf of this text, which is not open yet.
     pub(crate) fn new(text: &'t [u8]) -> Self
         ensures { result.text.now ≡ text.entry.now }
     {

@@ -40,10 +40,10 @@ use std::thread::Threads;
 /// | 0 | the report, the certificate, the summary, the sets or the lines of the generated text were written whole |
 /// | 2 | the command line is invalid |
 /// | 3 | the files have a first fault, or there are too many; or the certificate's is too large |
-/// | 4 | a file couldn't be read |
-/// | 5 | the text couldn't be written whole |
+/// | 4 | a file could not be read |
+/// | 5 | the text could not be written whole |
 /// | 6 | the span that is asked for is not one of the files, or that of a polynomial holds no time |
-/// | 7 | the event can't be searched for in the files: a body is absent, two are the same, a number is out of range |
+/// | 7 | the event cannot be searched for in the files: a body is absent, two are the same, a number is out of range |
 /// | 8 | out of memory |
 /// | 9 | the search, or one of two, has more than 33,554,432 leaves, or than 4,194,304 for a certificate |
 /// | 10 | the certificate breaks a rule |
@@ -110,7 +110,7 @@ pub fn finder<R: Threads + Wait + Sync, S: Shelf, O: Sink, E: Sink, G: Gate>(
         × (result ≡ status_of refusal)
         × Receives E.bytes E.faults err.old err.new (line_of refusal) }
 
-    // With status 5 a write failed, and `out` gained a prefix of the text that isn't all of it.
+    // With status 5 a write failed, and `out` gained a prefix of the text that is not all of it.
     ensures write { result ≡ NOT_WRITTEN → ReportsPart words.now
         (S.files shelf.old) (S.faults shelf.old) (S.faults shelf.new)
         (O.bytes out.old) (O.bytes out.new) }

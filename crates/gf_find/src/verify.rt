@@ -10,7 +10,7 @@ ghost use Rattle.spec_kinds.specs.Kinds.{event_of};
 ghost use Rattle.spec_requests.specs.Limits.{IsWithinLimits};
 ghost use Rattle.spec_times.specs.Ticks.{IsTimeIn};
 ghost use Rattle.spec_outcomes.specs.Certificates.{IsVerification, verification_of};
-ghost use Rattle.spec_outcomes.specs.Queries.{is_within, query_of, search, span_of};
+ghost use Rattle.spec_outcomes.specs.Queries.{is_within, query_of, span_of};
 ghost use Rattle.gf_find.specs.Outcomes.{FilesHave, HoldEphemeris};
 ghost use Rattle.gf_find.specs.CertificateFiles.{CertificateHasOutcome, HoldsText, VerifyHasOutcome};
 ghost use Rattle.gf_find.specs.Verifies.{IsVerified};

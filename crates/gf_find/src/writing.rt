@@ -1,5 +1,5 @@
 // Whole texts to a sink.
-ghost use Rattle.std.specs.Prelude.{◌≤◌, OnErr, OnOk};
+ghost use Rattle.std.specs.Prelude.{OnErr, OnOk};
 ghost use Rattle.std.specs.Io.KnownBytes.{Appends};
 ghost use Rattle.gf_edges.specs.Edges.{HasCause};
 ghost use Rattle.spec_output.specs.Writing.{AppendsPart, Receives};
@@ -7,7 +7,7 @@ ghost use Rattle.spec_output.specs.Writing.{AppendsPart, Receives};
 use gf_edges::{Failed, Sink};
 
 /// Writes the text. Each write offers the whole rest of it. Where the sink fails, a prefix of the text stands on it that
-/// isn't all of it.
+/// is not all of it.
 pub(crate) fn write_whole<K: Sink>(sink: &mut K, text: &[u8]) -> Result<(), Failed>
     ensures whole { OnOk result (Appends (K.bytes sink.old) (K.bytes sink.new) text.now) }
     ensures part { OnErr result (AppendsPart (K.bytes sink.old) (K.bytes sink.new) text.now) }

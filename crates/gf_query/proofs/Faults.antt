@@ -4,7 +4,6 @@ use Rattle.spec_ephemeris.specs.Ephemeris.{Ephemeris}
 use Rattle.spec_kinds.specs.declared.ask.Ask.{Ask}
 use Rattle.spec_kinds.specs.declared.fault.EventFault.{EventFault}
 use Rattle.spec_kinds.specs.Faults.{fault_of}
-use Rattle.spec_outcomes.specs.declared.refusal.Refusal.{Refusal}
 use Rattle.spec_outcomes.specs.declared.refusal.Refusal.TheVariants.{Memory}
 use Rattle.spec_outcomes.specs.Outcomes.{HasFault}
 use Rattle.spec_outcomes.specs.Refusals.{of_fault}

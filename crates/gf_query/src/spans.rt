@@ -1,6 +1,6 @@
 // Over which times a search goes.
-ghost use Rattle.std.specs.Prelude.{◌≡◌, ◌&&◌, IfErr, IfOk, false, int_le, int_lt, true};
-ghost use Rattle.spec_ephemeris.specs.Ephemeris.{IsEphemeris, end_of};
+ghost use Rattle.std.specs.Prelude.{◌≡◌, ◌&&◌, IfErr, IfOk, false, true};
+ghost use Rattle.spec_ephemeris.specs.Ephemeris.{IsEphemeris};
 ghost use Rattle.spec_searches.specs.Found.{root};
 ghost use Rattle.spec_outcomes.specs.Queries.{is_within, span_of, whole_span};
 
@@ -21,7 +21,7 @@ pub fn whole_span(ephemeris: &Ephemeris) -> Span
     }
 }
 
-// The span that the words ask for; the ephemeris begins or ends it where they don't.
+// The span that the words ask for; the ephemeris begins or ends it where they do not.
 fn span_of(find: &FindAsk, ephemeris: &Ephemeris) -> Span
     ensures { result ≡ span_of find.now ephemeris.now }
 {
@@ -39,7 +39,7 @@ fn is_within(span: Span, ephemeris: &Ephemeris) -> bool
 }
 
 /// The span that the words of a search ask of an ephemeris that counts its ticks, which begins or ends the span where they
-/// don't; `Outside` where it holds no time, or doesn't lie within the ephemeris.
+/// do not; `Outside` where it holds no time, or does not lie within the ephemeris.
 pub fn span_asked(find: &FindAsk, ephemeris: &Ephemeris) -> Result<Span, Refusal>
     ensures span { IfOk result (λ span. span ≡ span_of find.now ephemeris.now) }
     ensures within { IfOk result (λ span. is_within span ephemeris.now ≡ true) }

@@ -54,7 +54,7 @@ module _ (spans : List Span) (s : Span) (rest : List Span) (from to next : ℤ) 
       → (o || (int_le next t && int_lt t s.0)) ≡ (int_le from t && (int_lt t (s.1 +ℤ pos 1) && not h))
   earlier t o h before e = grind (arith, ints, begins, ordered)
 
-  -- from there on the span is left out, and what comes before it isn't
+  -- from there on the span is left out, and what comes before it is not
   here : (t : ℤ) (o h r : Bool) → next ≤ℤ t → from ≤ℤ next → o ≡ (int_le from t && (int_lt t next && not h)) → h ≡ ((int_le s.0 t && int_le t s.1) || r)
       → (t ≤ℤ (s.1 +ℤ pos 1)) ⊎ ((s.1 +ℤ pos 1) <ℤ t) → (t ≤ℤ (s.1 +ℤ pos 1) → r ≡ false)
       → (o || (int_le next t && int_lt t s.0)) ≡ (int_le from t && (int_lt t (s.1 +ℤ pos 1) && not h))

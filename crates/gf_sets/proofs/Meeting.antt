@@ -1,10 +1,10 @@
 -- A walk over two lists of spans that keeps what they share.
-use Rattle.std.proofs.Common.{◌≡◌, ◌⊎◌, inl, inr, Bool, true, false, ◌&&◌, ◌||◌, int_le, List, [], ◌∷◌, ℤ, pos, ◌+ℤ◌, ◌≤ℤ◌, ◌<ℤ◌, ℕ, ◌+◌, ◌<◌, length, drop, get_or, refl, sym, ap, ◌∙◌, subst, to_z, of_z, w64, ◌^◌, arith}
+use Rattle.std.proofs.Common.{◌≡◌, ◌⊎◌, inl, inr, Bool, true, false, ◌&&◌, ◌||◌, int_le, List, ◌∷◌, ℤ, pos, ◌+ℤ◌, ◌≤ℤ◌, ◌<ℤ◌, ℕ, ◌+◌, ◌<◌, length, drop, get_or, refl, sym, ap, ◌∙◌, subst, to_z, of_z, w64, ◌^◌, arith}
 use Rattle.std.specs.Int.{int_min, int_max}
 use Rattle.std.proofs.lemmas.Int.{clamps, ints, to_z-of_z}
 use mathlib.Core.Bool.{and_comm}
 use lib.Signed.{lt_z}
-use Rattle.std.proofs.lemmas.Bool.{or_cases, false≢true}
+use Rattle.std.proofs.lemmas.Bool.{or_cases}
 use Rattle.spec_sets.specs.Spans.{Span, is_in, has, AreSpansFrom, earliest}
 use Rattle.spec_sets.proofs.Members.{has_first, holds_no, inside, lower, not_later}
 use mir.Val.{SFits}
@@ -12,9 +12,6 @@ use Rattle.gf_sets.proofs.Reading.{ends_fit, le_by, split_at}
 use Rattle.spec_trees.proofs.Sides.{upto_or_after}
 use Rattle.gf_sets.specs.Meeting.{IsMet}
 use Rattle.spec_sets.specs.Spans.{IsAfterAll}
-
-pub not_met_yet : (xs ys : List Span) → AreSpansFrom earliest xs → AreSpansFrom earliest ys → IsMet xs ys xs ys []
-not_met_yet xs ys is js = record { shared = λ t. refl; later = λ t u e. absurd (false≢true e); more_are = is; others_are = js }
 
 module _ (xs ys : List Span) (x y : Span) (more others out now : List Span) (so_far : IsMet xs ys (x ∷ more) (y ∷ others) out)
     (added : (t : ℤ) → has now t ≡ (has out t || (int_le (int_max x.0 y.0) t && int_le t (int_min x.1 y.1)))) where
@@ -106,17 +103,6 @@ shared_after xs ys x y more others out so_far some t e =
 
     in_y : (a b c d : ℤ) → int_max a b ≤ℤ int_min c d → int_max a b ≤ℤ d
     in_y a b c d h = grind (arith, ints)
-
--- where one list has ended
-pub all_met : (xs ys more others out : List Span) → IsMet xs ys more others out → (more ≡ []) ⊎ (others ≡ []) → (t : ℤ) → has out t ≡ (has xs t && has ys t)
-all_met xs ys more others out so_far (inl e) t = sym (so_far.shared t ∙ (ap (λ (m : List Span). has out t || (has m t && has others t)) e ∙ ended (has out t)))
-  where
-    ended : (a : Bool) → (a || false) ≡ a
-    ended a = grind arith
-all_met xs ys more others out so_far (inr e) t = sym (so_far.shared t ∙ (ap (λ (m : List Span). has out t || (has more t && has m t)) e ∙ ended (has out t) (has more t)))
-  where
-    ended : (a b : Bool) → (a || (b && false)) ≡ a
-    ended a b = grind arith
 
 -- ---- as the code reads them
 lt_read : (a b : ℤ) → lt_z a b ≡ true → a <ℤ b

@@ -10,22 +10,11 @@ use Rattle.spec_sets.specs.Spans.{Span, is_in, has}
 use Rattle.spec_sets.specs.Pairs.{AreOf}
 use Rattle.spec_sets.specs.Spans.{is_between}
 use Rattle.gf_sets.specs.Adding.{AreAdded}
-use Rattle.spec_sets.specs.Signs.{both, either, is_possible, is_sure, opposite}
+use Rattle.spec_sets.specs.Signs.{both, is_possible, is_sure, opposite}
 use Rattle.spec_sets.proofs.Members.{le_so}
 use Rattle.spec_sets.specs.Spans.{IsAfterAll}
 
 -- ---- by signs
-either_sure : (x y : Sign) → is_sure (either x y) ≡ (is_sure x || is_sure y)
-either_sure x y = grind arith
-
-either_possible : (x y : Sign) → is_possible (either x y) ≡ (is_possible x || is_possible y)
-either_possible x y = grind arith
-
-both_sure : (x y : Sign) → is_sure (both x y) ≡ (is_sure x && is_sure y)
-both_sure x y = grind arith
-
-both_possible : (x y : Sign) → is_possible (both x y) ≡ (is_possible x && is_possible y)
-both_possible x y = grind arith
 
 opposite_sure : (x : Sign) → is_sure (opposite x) ≡ not (is_possible x)
 opposite_sure x = grind arith
@@ -33,27 +22,8 @@ opposite_sure x = grind arith
 opposite_possible : (x : Sign) → is_possible (opposite x) ≡ not (is_sure x)
 opposite_possible x = grind arith
 
-either_within : (w p q : Bool) → ((w && p) || (w && q)) ≡ (w && (p || q))
-either_within w p q = grind arith
-
-both_within : (w p q : Bool) → ((w && p) && (w && q)) ≡ (w && (p && q))
-both_within w p q = grind arith
-
 not_within : (w p : Bool) → (w && not (w && p)) ≡ (w && not p)
 not_within w p = grind arith
-
-module _ (x y : ℤ → Sign) (from upto : ℤ) (sure maybe also_sure also_maybe : List Span) (one : AreOf x from upto sure maybe) (other : AreOf y from upto also_sure also_maybe) (s m : List Span) where
-  pub either_of : ((t : ℤ) → has s t ≡ (has sure t || has also_sure t)) → ((t : ℤ) → has m t ≡ (has maybe t || has also_maybe t)) → AreOf (λ t. either (x t) (y t)) from upto s m
-  either_of a b = record {
-    sure = λ t. a t ∙ ((λ i. one.sure t i || other.sure t i) ∙ (either_within (is_between from upto t) (is_sure (x t)) (is_sure (y t)) ∙ ap (λ p. is_between from upto t && p) (sym (either_sure (x t) (y t)))));
-    maybe = λ t. b t ∙ ((λ i. one.maybe t i || other.maybe t i) ∙ (either_within (is_between from upto t) (is_possible (x t)) (is_possible (y t)) ∙ ap (λ p. is_between from upto t && p) (sym (either_possible (x t) (y t)))));
-  }
-
-  pub both_of : ((t : ℤ) → has s t ≡ (has sure t && has also_sure t)) → ((t : ℤ) → has m t ≡ (has maybe t && has also_maybe t)) → AreOf (λ t. both (x t) (y t)) from upto s m
-  both_of a b = record {
-    sure = λ t. a t ∙ ((λ i. one.sure t i && other.sure t i) ∙ (both_within (is_between from upto t) (is_sure (x t)) (is_sure (y t)) ∙ ap (λ p. is_between from upto t && p) (sym (both_sure (x t) (y t)))));
-    maybe = λ t. b t ∙ ((λ i. one.maybe t i && other.maybe t i) ∙ (both_within (is_between from upto t) (is_possible (x t)) (is_possible (y t)) ∙ ap (λ p. is_between from upto t && p) (sym (both_possible (x t) (y t)))));
-  }
 
 pub opposite_of : (x : ℤ → Sign) (from upto : ℤ) (sure maybe s m : List Span) → AreOf x from upto sure maybe
     → ((t : ℤ) → has s t ≡ (is_between from upto t && not (has maybe t))) → ((t : ℤ) → has m t ≡ (is_between from upto t && not (has sure t)))

@@ -109,7 +109,7 @@ module _ (v d : Span) where
       let low_end = more.1 in
       (high, omega (arith, ints, from, ordered, low_end), more.2)
 
--- a span that doesn't touch the last begins at least two units later
+-- a span that does not touch the last begins at least two units later
 pub apart_from : (low : ℤ) (xs : List Span) (i : ℕ) (d : Span) (first : ℤ) → suc i ≡ length xs → AreSpansFrom low xs → IsAfterAll xs first → ((get_or xs i d).1 +ℤ pos 1 ≡ first → ⊥)
     → (t : ℤ) → has xs t ≡ true → (t +ℤ pos 2) ≤ℤ first
 apart_from low xs i d first last is after untouched t e =

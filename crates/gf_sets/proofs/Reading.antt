@@ -1,5 +1,5 @@
 -- Spans as code reads them.
-use Rattle.std.proofs.Common.{◌≡◌, ℕ, ◌+◌, ◌<◌, List, ◌∷◌, ℤ, pos, ◌+ℤ◌, ◌-ℤ◌, ◌≤ℤ◌, ◌<ℤ◌, length, drop, get_or, refl, ap, ◌∙◌, to_z, of_z, w64, add-one, drop-cons, arith}
+use Rattle.std.proofs.Common.{◌≡◌, ℕ, ◌+◌, ◌<◌, List, ◌∷◌, ℤ, pos, ◌+ℤ◌, ◌-ℤ◌, ◌≤ℤ◌, length, drop, get_or, refl, ap, ◌∙◌, to_z, of_z, w64, add-one, drop-cons, arith}
 use Rattle.std.proofs.lemmas.Int.{fits_signed_from_abs, ints, to_z-of_z}
 use mir.Val.{SFits}
 use Rattle.spec_sets.specs.Spans.{AreSpansFrom, Span, earliest}
@@ -31,6 +31,3 @@ read_more z own more = ap (λ (y : ℤ). to_z w64 (of_z w64 (y +ℤ pos 1))) (to
 -- orders of numbers by other names
 pub le_by : (a b c d : ℤ) → a ≡ c → b ≡ d → a ≤ℤ b → c ≤ℤ d
 le_by a b c d e f h = omega (arith, ints, e, f, h)
-
-pub lt_by : (a b c d : ℤ) → a ≡ c → b ≡ d → a <ℤ b → c <ℤ d
-lt_by a b c d e f h = omega (arith, ints, e, f, h)

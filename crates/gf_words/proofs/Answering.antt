@@ -123,10 +123,6 @@ pub refused_by : (rules known : App) (words : List Text) (result : Result ArgMat
 refused_by rules known words result same refused =
     subst (λ (a : App). IfErr result (λ fault. (fault ≡ Memory) ⊎ ((fault ≡ Words) × (is_refused a words ≡ true)))) same refused
 
-pub answers_same : (expected result : Result Request WordFault) → expected ≡ result → Answers expected result
-answers_same expected (Ok request) same = same
-answers_same expected (Err fault) same = inr same
-
 -- ---- what is asked of a search
 
 pub search_asks : (request : FindAsk → Result Request WordFault) (found : Result FindAsk WordFault) (find : FindAsk)

@@ -1,6 +1,6 @@
 // The commands, as `clap` takes them.
 ghost use Rattle.std.specs.Prelude.{◌≡◌, ◌++◌, ◌∷◌, [], IfOk, map};
-ghost use Rattle.clap.specs.Simple.{app_of, on_top};
+ghost use Rattle.clap.specs.Simple.{app_of};
 ghost use Rattle.spec_requests.specs.Commands.{command_rules, command_with, files_rule, options_of, places_of};
 ghost use Rattle.gf_words.specs.Commands.{last_options, reads_files, rule_of, with_rules, words_of};
 

@@ -1,5 +1,5 @@
 // The forms of values: what a word stands for.
-ghost use Rattle.std.specs.Prelude.{◌≡◌, ◌++◌, ◌&&◌, ◌≤◌, IfSome, None, Some, if◌then◌else◌, length, nat_le, nat_lt};
+ghost use Rattle.std.specs.Prelude.{◌≡◌, ◌&&◌, ◌≤◌, IfSome, None, Some, if◌then◌else◌, length, nat_le, nat_lt};
 ghost use Rattle.std.specs.Char.{is_ascii_digit};
 ghost use Rattle.std.specs.List.{list_all};
 ghost use Rattle.spec_requests.specs.Names.{as_target, axis_of, command_of, cut_of, dir_of, frame_of, kind_of, layout_of, named, observer_of, rows_of, target_of, tick_of_word};

@@ -1,5 +1,5 @@
 // The leaves of a root, by workers that walk shares of its tree.
-ghost use Rattle.std.specs.Prelude.{◌≡◌, ◌+◌, ◌<◌, ◌≤◌, ◌++◌, length, List, Err, IfOk, IfErr, IfSome, IfNone, OnOk, slice_index_or};
+ghost use Rattle.std.specs.Prelude.{◌≡◌, ◌+◌, ◌<◌, ◌≤◌, ◌++◌, length, List, Err, IfOk, IfErr, IfSome, IfNone, OnOk};
 ghost use Rattle.std.specs.List.{insert};
 ghost use Rattle.std.specs.Thread.{IsSync};
 ghost use Rattle.spec_trees.specs.Tree.{Covers, IsValid, leaf_count, leaves};

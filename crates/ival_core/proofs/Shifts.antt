@@ -21,9 +21,6 @@ lift_bound z m h p =
 pub lift_fits : (z : ℤ) (m : ℕ) → unsigned_abs z ≤ 2 ^ 62 → m ≤ 60 → FitsSigned w128 (z *ℤ pos (2 ^ m))
 lift_fits z m h p = let b : unsigned_abs (z *ℤ pos (2 ^ m)) ≤ 2 ^ 122 = lift_bound z m h p in fits_signed_from_abs w128 (z *ℤ pos (2 ^ m)) (omega arith)
 
-pub pow_above : (j k : ℕ) → j ≤ k → 2 ^ j ≤ 2 ^ k
-pow_above j k h = pow-le-pow_right (omega arith) h
-
 pub small_fits : (z : ℤ) → unsigned_abs z ≤ 2 ^ 62 → FitsSigned w128 z
 small_fits z h = fits_signed_from_abs w128 z (omega arith)
 

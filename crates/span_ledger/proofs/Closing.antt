@@ -1,5 +1,5 @@
 -- What a list of seats keeps while they are joined.
-use Rattle.std.proofs.Common.{◌≡◌, ℕ, zero, suc, ◌+◌, ◌<◌, List, [], ◌∷◌, ◌++◌, length, Option, Some, None, refl, sym, ap, ◌∙◌, subst, length-append, slice_index_or, arith}
+use Rattle.std.proofs.Common.{◌≡◌, ℕ, ◌+◌, List, [], ◌∷◌, ◌++◌, length, Option, Some, None, refl, sym, ap, ◌∙◌, subst, length-append, arith}
 use Rattle.std.proofs.lemmas.List.Elements.{All-push}
 use Rattle.std.specs.List.{All}
 use mathlib.Core.Option as M
@@ -56,16 +56,6 @@ found_whole t id v ws xs r idle all f e = let x = ends t id v ws xs idle all f i
 pub whole : (t : LedgerTerms) (v : SeatView) (r : Option (List Booked)) (book : List Booked) (x : (log : List Booked) × (r ≡ Some log) × Sound t log × EachFits log v.parts) → r ≡ Some book → Sound t book × EachFits book v.parts
 whole t v r book x e = let same : x.0 ≡ book = some_same r x.0 book x.1 e in subst (λ (l : List Booked). Sound t l × EachFits l v.parts) same (x.2, x.3)
 
-pub pushed : {A : Type 0} (F : ℕ → A → Type 0) (xs : List A) (x : A) → ((k : ℕ) (d : A) → k < length xs → F k (slice_index_or xs k d)) → F (length xs) x → (k : ℕ) (d : A) → k < length (xs ++ x ∷ []) → F k (slice_index_or (xs ++ x ∷ []) k d)
-pushed F [] x h hx zero d below = hx
-pushed F [] x h hx (suc k) d below = absurd (omega (arith, below))
-pushed F (y ∷ ys) x h hx zero d below = h zero d (omega arith)
-pushed F (y ∷ ys) x h hx (suc k) d below = pushed (λ j. F (suc j)) ys x (λ j e lt. h (suc j) e (omega (arith, lt))) hx k d (omega (arith, below))
-
--- the same, where the longer list has another name
-pub pushed_as : {A : Type 0} (F : ℕ → A → Type 0) (xs ys : List A) (x : A) (n : ℕ) → ys ≡ xs ++ x ∷ [] → length xs ≡ n → ((k : ℕ) (d : A) → k < length xs → F k (slice_index_or xs k d)) → F n x → (k : ℕ) (d : A) → k < length ys → F k (slice_index_or ys k d)
-pushed_as {A} F xs ys x n e len h hx = subst (λ (l : List A). (k : ℕ) (d : A) → k < length l → F k (slice_index_or l k d)) (sym e) (pushed F xs x h (subst (λ (j : ℕ). F j x) (sym len) hx))
-
 -- the book that a seat finds is the history, and what it holds once it has put a book back
 slot_of : List (ℕ × Option (List Booked)) → Option (List Booked)
 slot_of [] = None
@@ -86,6 +76,3 @@ after_put m m' m'' log book' held first second =
     let view : m'.0 ≡ m.0 = ap (λ (x : Sat). x.0) first in
     let slots : rest m'.1 ≡ [] = ap (λ (x : Sat). rest x.1) first ∙ ap rest held in
     second ∙ (λ i. (view i, (0, Some book') ∷ slots i))
-
-pub put_back : (m m' m'' : Sat) (log book : List Booked) → m.1 ≡ (0, Some log) ∷ [] → book ≡ log → m' ≡ (m.0, (0, None) ∷ rest m.1) → m'' ≡ (m'.0, (0, Some book) ∷ rest m'.1) → m'' ≡ m
-put_back m m' m'' log book held same first second = after_put m m' m'' log book held first second ∙ (λ i. (m.0, ((ap (λ (l : List Booked). (0, Some l) ∷ []) same) ∙ sym held) i))

@@ -5,9 +5,7 @@ use native.Mathlib.Decide.{ℕ_discrete}
 use Rattle.std.specs.Prelude.{IfSome, IfNone, replicate, take, ◌-◌}
 use Rattle.std.specs.Map.{lookup}
 use Rattle.std.proofs.lemmas.Bool.Decides.{nat_tests}
-use Rattle.std.proofs.lemmas.Cmp.{nat_cmp_total, int_cmp_total, on_total, then_total}
 use Rattle.std.proofs.lemmas.Map.Lookups.{CmpEqualImpliesEq, exact_unsigned, exact_signed, exact_pairs}
-use Rattle.std.specs.Cmp.{IsTotalOrder}
 use Rattle.std.specs.declared.cmp.Ordering.{Ordering}
 use Rattle.std.specs.declared.cmp.Ordering.TheVariants.{Less, Equal, Greater}
 use Rattle.std.specs.Ordering.{ordering_then, int_cmp, nat_cmp, is_eq}
@@ -29,9 +27,6 @@ use Rattle.span_ledger.proofs.Views.{by_seat-append, by_own, by_other}
 exact : CmpEqualImpliesEq key_cmp
 exact = exact_pairs (λ (x y : ℤ × ℤ). ordering_then (int_cmp x.0 y.0) (int_cmp x.1 y.1)) (λ (x y : ℕ × ℕ). ordering_then (nat_cmp x.0 y.0) (nat_cmp x.1 y.1))
     (exact_pairs int_cmp int_cmp exact_signed exact_signed) (exact_pairs nat_cmp nat_cmp exact_unsigned exact_unsigned)
-
-key_total : IsTotalOrder key_cmp
-key_total = then_total (then_total (on_total (λ (p : Key). p.0.0) int_cmp_total) (on_total (λ (p : Key). p.0.1) int_cmp_total)) (then_total (on_total (λ (p : Key). p.1.0) nat_cmp_total) (on_total (λ (p : Key). p.1.1) nat_cmp_total))
 
 differ : (x y : Key) (o : Ordering) → key_cmp x y ≡ o → x ≢ y → is_eq (key_cmp x y) ≡ false
 differ x y Less e n = ap is_eq e

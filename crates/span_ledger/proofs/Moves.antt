@@ -32,9 +32,6 @@ abbrev Goal : LedgerTerms → ℕ → Sat → ℕ → (ℕ → ℕ) → (ℕ →
 Goal t id me i f then views ws hs =
     (w : SeatView) × (a : Act Slot) × Valid hs me.1 a × Keeps t (slice_set ws i (f (slice_index ws i))) (homes_after hs me.1 a) (slice_set views id w) × then (slice_index ws i) (w, carried_after me.1 a)
 
-holds_of : SeatView → ℕ
-holds_of v = v.holds
-
 -- a view with one part of the same number weighs the same
 same_taken : (v : SeatView) (p q : SeatHistory) (h k : ℕ) → v.parts ≡ p ∷ [] → q.number ≡ p.number → taken k (with_part v h q) ≡ taken k v
 same_taken v p q h k one same =

@@ -1,7 +1,7 @@
 // Entering a leaf under the lock.
-ghost use Rattle.std.specs.Prelude.{◌≡◌, ◌+◌, ◌<◌, ◌≤◌, ◌≤ℤ◌, [], ◌∷◌, ◌++◌, length, List, Some, IsTrue, IsFalse};
+ghost use Rattle.std.specs.Prelude.{◌≡◌, ◌+◌, ◌<◌, Some, IsTrue, IsFalse};
 ghost use Rattle.spec_trees.specs.declared.book.Booked.{Booked};
-ghost use Rattle.spec_pool.specs.History.{StartsWith, Stands, LiesIn, Tells, Entering, saw, repeated};
+ghost use Rattle.spec_pool.specs.History.{Stands, LiesIn, Tells, Entering, repeated};
 ghost use Rattle.span_ledger.specs.Rule.{HasBook, IsIdle, TakesBook, Writes, freed, own_part};
 ghost use Rattle.span_ledger.specs.Seats.{IsSeatOf, MayEnter, part, terms};
 

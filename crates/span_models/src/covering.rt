@@ -1,6 +1,6 @@
 // Models that cover what the rules of intervals make of intervals that are covered.
 
-ghost use Rattle.std.specs.Prelude.{◌≡◌, ◌≤◌, ◌+◌, ◌*◌, ◌^◌, ℤ, pos, neg_ℤ, ◌*ℤ◌, ◌≤ℤ◌, IfSome, IsTrue};
+ghost use Rattle.std.specs.Prelude.{◌≤◌, ◌+◌, ◌*◌, ◌^◌, ℤ, pos, neg_ℤ, ◌*ℤ◌, ◌≤ℤ◌, IfSome, IsTrue};
 ghost use Rattle.spec_intervals.specs.Fraction.{fraction_add, fraction_mul};
 ghost use Rattle.spec_intervals.specs.Interval.{Interval, sum, difference, product, signed_square};
 ghost use Rattle.spec_chebyshev.specs.Differences.{IsArgument};

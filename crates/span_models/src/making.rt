@@ -2,9 +2,8 @@
 
 ghost use Rattle.std.specs.Prelude.{◌≡◌, ◌≤◌, ◌<◌, ◌*◌, ◌^◌, ℤ, ℕ, pos, ◌*ℤ◌, ◌+ℤ◌, ◌-ℤ◌, ◌≤ℤ◌, unsigned_abs, IfSome, [], ◌∷◌, length};
 ghost use Rattle.spec_numbers.specs.Numbers.{floor_div};
-ghost use Rattle.spec_intervals.specs.Fraction.{fraction};
 ghost use Rattle.spec_chebyshev.specs.Differences.{IsArgument};
-ghost use Rattle.spec_models.specs.Models.{Covers, IsNear, coefficient, constant, model};
+ghost use Rattle.spec_models.specs.Models.{Covers, coefficient, model};
 ghost use Rattle.span_models.specs.Sizes.{terms};
 ghost use Rattle.span_models.specs.Settled.{Reaches};
 ghost use Rattle.span_models.specs.Making.{IsMiddle};

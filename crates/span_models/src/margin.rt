@@ -1,6 +1,6 @@
 // How far numbers keep from 0.
 
-ghost use Rattle.std.specs.Prelude.{◌≡◌, ◌+◌, ℤ, pos, ◌-ℤ◌, ◌≤ℤ◌, ◌<◌, ◌≤◌, ◌^◌, unsigned_abs, IfSome};
+ghost use Rattle.std.specs.Prelude.{◌+◌, ℤ, ◌≤ℤ◌, ◌<◌, ◌≤◌, ◌^◌, unsigned_abs, IfSome};
 ghost use Rattle.spec_intervals.specs.Fraction.{Fraction};
 ghost use Rattle.spec_chebyshev.specs.Differences.{IsArgument};
 ghost use Rattle.spec_models.specs.Models.{IsNear};

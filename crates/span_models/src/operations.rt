@@ -1,8 +1,8 @@
 // Models made from models.
 
-ghost use Rattle.std.specs.Prelude.{◌≡◌, ◌≤◌, ◌+◌, ◌*◌, ◌^◌, ◌≤ℤ◌, IfSome, unsigned_abs};
+ghost use Rattle.std.specs.Prelude.{◌≡◌, ◌≤◌, ◌+◌, ◌*◌, ◌≤ℤ◌, IfSome, unsigned_abs};
 ghost use Rattle.spec_models.specs.Models.{bulk, negated, sizes, widened};
-ghost use Rattle.span_models.specs.Sizes.{size_limit, terms, IsSmall};
+ghost use Rattle.span_models.specs.Sizes.{size_limit, terms};
 ghost use Rattle.span_models.specs.Columns.{IsConstant, tail_sizes};
 ghost use Rattle.span_models.specs.Near.{IsSumOf, IsDifferenceOf, IsProductOf, IsMultipleOf};
 

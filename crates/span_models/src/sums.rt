@@ -1,7 +1,6 @@
 // Sums of coefficients in two units.
 
 ghost use Rattle.std.specs.Prelude.{◌≡◌, ◌≤◌, ◌<◌, ◌+◌, ◌*◌, ◌^◌, ℕ, slice_index_or, pos, ◌+ℤ◌, ◌*ℤ◌, ◌≤ℤ◌, neg_ℤ, unsigned_abs, length};
-ghost use Rattle.std.specs.Int.{int_gap};
 ghost use Rattle.spec_numbers.specs.Numbers.{floor_div};
 ghost use Rattle.spec_models.specs.Models.{added, halved, opposite};
 ghost use Rattle.span_models.specs.Sizes.{size_limit, exponent_limit, terms, AreWithin};

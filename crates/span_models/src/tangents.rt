@@ -4,7 +4,7 @@ ghost use Rattle.std.specs.Prelude.{◌≡◌, ◌≤◌, ◌<◌, ◌+◌, ◌*
 ghost use Rattle.std.specs.Int.{int_max};
 ghost use Rattle.spec_numbers.specs.Numbers.{floor_div};
 ghost use Rattle.spec_chebyshev.specs.Differences.{IsArgument, Within};
-ghost use Rattle.span_models.specs.Sizes.{size_limit, terms, AreWithin};
+ghost use Rattle.span_models.specs.Sizes.{size_limit, AreWithin};
 ghost use Rattle.span_models.specs.Tangents.{IsLine, IsPlace, IsSmallTangent, line, next, next_error, ratio, tangent};
 
 use crate::model::TERMS;

@@ -1,6 +1,6 @@
 // What is true of the enclosures of bodies: each law is the contract of a function with nothing to do.
 
-ghost use Rattle.std.specs.Prelude.{◌≡◌, ◌<◌, ℕ, ℤ};
+ghost use Rattle.std.specs.Prelude.{ℕ, ℤ};
 ghost use Rattle.spec_intervals.specs.Enclosure.{IsEnclosure, AllFractions, AllWithin, IsSpan};
 ghost use Rattle.spec_expressions.specs.Term.{Leaf, IsLeaf};
 ghost use Rattle.spec_bodies.specs.declared.source.Source.TheVariants.{EarthOfPair, MoonOfPair};

@@ -1,7 +1,6 @@
 -- The first 32 entries of each row are within 2^60, so that their ends fit 64 bits, and products of two ends 128.
-use Rattle.std.proofs.Common.{◌≡◌, ℕ, suc, ◌*◌, ◌^◌, ◌<◌, ◌≤◌, arith, ◌∙◌, ℤ, pos, ◌*ℤ◌, unsigned_abs, FitsSigned, w64, to_z, of_z}
-use mir.Syntax.{w128}
-use Rattle.std.proofs.lemmas.Int.{ints, to_z-of_z}
+use Rattle.std.proofs.Common.{ℕ, suc, ◌*◌, ◌^◌, ◌<◌, ◌≤◌, arith, ℤ, pos, ◌*ℤ◌, unsigned_abs, FitsSigned, w64}
+use Rattle.std.proofs.lemmas.Int.{ints}
 use Rattle.std.proofs.lemmas.Nat.{mul-le, pow_pos}
 use Rattle.spec_numbers.specs.Numbers.{floor_div, ceil_div}
 use Rattle.spec_intervals.specs.Interval.{least4, greatest4}
@@ -63,10 +62,6 @@ module _ (x : Ival62) (h : IsArguments x) where
 
 pub unit_fits : (z : ℤ) → Within z (pos (2 ^ 60)) → FitsSigned w64 z
 unit_fits z w = let l = w.low in let h = w.high in omega (arith, ints)
-
--- a number that a wider type was given, and gave back
-pub widened : (z r : ℤ) → FitsSigned w64 z → FitsSigned w128 r → r ≡ to_z w64 (of_z w64 z) → to_z w128 (of_z w128 r) ≡ z
-widened z r f g e = to_z-of_z w128 r g ∙ (e ∙ to_z-of_z w64 z f)
 
 -- an entry stays within 2^60 at a coarser unit
 pub EndsWithin-shifted : (e : Ival62) (k : ℕ) → EndsWithin (2 ^ 60) e → EndsWithin (2 ^ 60) (shifted k e)

@@ -7,6 +7,5 @@ pub mod NearestBorders
 pub mod GranuleAt
 pub mod Pushing
 pub mod GranuleNumbers
-pub mod SmallNumbers
 pub mod Units
 pub mod Rounding

@@ -1,5 +1,5 @@
 -- Small series with round values.
-use Rattle.std.specs.Prelude.{◌≡◌, ℕ, List, replicate, [], ◌∷◌, ◌++◌, ℤ, pos, neg_ℤ, ◌*ℤ◌}
+use Rattle.std.specs.Prelude.{◌≡◌, ℕ, List, [], ◌∷◌, ◌++◌, ℤ, pos, neg_ℤ, ◌*ℤ◌}
 use Rattle.spec_text.specs.declared.decimals.Decimal.{Decimal}
 use Rattle.spec_intervals.specs.Fraction.{Fraction}
 use Rattle.spec_ephemeris.specs.declared.granule.Rounded.{Rounded}
@@ -106,9 +106,3 @@ overlapping = record {
 -- blocks of that header, with these numbers
 abbrev pub of_four_columns : ℕ → List Decimal → Ephemeris
 of_four_columns blocks numbers = record { header = four_columns; start = neg_ℤ (pos 43200); blocks = blocks; numbers = numbers }
-
--- one block: its two Julian dates, then the two coefficients of Mercury's x
-abbrev pub growing_block : List Decimal
-growing_block =
-    record { mant = pos 245154450000000000; exp = neg_ℤ (pos 11) } ∷ record { mant = pos 245157650000000000; exp = neg_ℤ (pos 11) }
-    ∷ whole (pos 0) ∷ record { mant = pos 138240000000000000; exp = neg_ℤ (pos 11) } ∷ replicate 22 (whole (pos 0))

@@ -1,5 +1,5 @@
 // What the header of a file says.
-ghost use Rattle.std.specs.Prelude.{◌≡◌, ◌<◌, length, slice_get, Some};
+ghost use Rattle.std.specs.Prelude.{◌≡◌, ◌<◌};
 
 use spec_text::Decimal;
 use std::marker::Model;
@@ -37,13 +37,6 @@ impl Columns {
         ensures { result ≡ items.items }
     {
         Columns { items }
-    }
-
-    /// The columns as a vector, in their order. It takes no memory.
-    pub fn into_vec(self) -> Vec<Column>
-        ensures { result.items ≡ self }
-    {
-        self.items
     }
 
     /// The columns in their order.

@@ -49,7 +49,7 @@ known_by p e = grind arith
 first_alone : (a b t : ℤ) → int_lt (pos 1) (b -ℤ a) ≡ false → a ≤ℤ t → t <ℤ b → t ≡ a
 first_alone a b t w p q = grind (arith, ints)
 
--- ---- conditions that don't change
+-- ---- conditions that do not change
 module _ (P : ℤ → Type 0) (a b : ℤ) where
   all_so : ((t : ℤ) → a ≤ℤ t → t ≤ℤ b → P t) → (turn : Turn) → HasNoTurn P turn a b
   all_so h Rise t p q e = e.0 (h (t -ℤ pos 1) (omega (arith, lin)) (omega (arith, lin)))

@@ -1,4 +1,4 @@
--- Where a condition lasts once it is so, or once it isn't, its turns are known from its ends.
+-- Where a condition lasts once it is so, or once it is not, its turns are known from its ends.
 use Rattle.std.proofs.Common.{◌≡◌, ℕ, zero, suc, arith, refl, sym, subst, ℤ, pos, negsuc, ◌+ℤ◌, ◌-ℤ◌, ◌≤ℤ◌, ◌<ℤ◌, ◌⊎◌, inl, inr}
 use Rattle.spec_numbers.proofs.Order.{lin}
 use Rattle.spec_trees.specs.declared.tree.Turn.{Turn}
@@ -74,7 +74,7 @@ module _ (P : ℤ → Type 0) (a b : ℤ) (g : Lasts P a b) where
       by t p q Rise u v w r e = rises_once u t v w p q r e
       by t p q Fall u v w r e = absurd (no_fall t p q e)
 
--- ---- the other way round: once it isn't so, it stays so
+-- ---- the other way round: once it is not so, it stays so
 module _ (P : ℤ → Type 0) (decide : (t : ℤ) → P t ⊎ IsNot P t) (a b : ℤ) (g : Lasts (IsNot P) a b) where
   pub is_so : (t : ℤ) → (IsNot P t → ⊥) → P t
   is_so t h = by (decide t)

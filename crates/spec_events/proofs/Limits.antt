@@ -39,7 +39,7 @@ undecided_at_limit c n f h some e = by (is_clear c n f) (is_one c n f) (is_split
     by false false true k e = cc
     by false false false k e = at_limit c n f h some k
 
--- a node that is split is wide, and a border falls into it or it isn't as deep as the depth
+-- a node that is split is wide, and a border falls into it or it is not as deep as the depth
 pub split_may_be_cut : (c : Criteria) (n : Node) (f : Findings) → verdict c n f ≡ Split → (is_wide n && (f.crosses || nat_lt n.depth c.depth)) ≡ true
 unfolding verdict
 split_may_be_cut c n f e = by (is_clear c n f) (is_one c n f) (is_split c n f) refl e

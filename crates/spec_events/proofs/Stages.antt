@@ -13,7 +13,7 @@ use Rattle.spec_trees.specs.Tree.{width}
 use Rattle.spec_events.specs.Verdict.{Criteria, Findings, is_known, agree, differ, differ_against, turn_to, is_certified, is_refuted, is_one_way, steps_against, verdict}
 use Rattle.spec_events.specs.Stages.{is_above_limits, staged_verdict}
 
--- the verdict and its stages over plain tests, where a node that isn't wide is above no limit
+-- the verdict and its stages over plain tests, where a node that is not wide is above no limit
 module _ (over steps one_way equal against refuted narrow differ certified above : Bool) (turn : Turn) where
   abbrev by_cases : Bool → Bool → Verdict
   by_cases crosses wide =
@@ -45,7 +45,7 @@ module _ (over steps one_way equal against refuted narrow differ certified above
   same false true h = grind arith
   same false false h = let e = h refl in grind arith
 
--- a node that isn't wide is no wider than any width
+-- a node that is not wide is no wider than any width
 not_above : (a b : ℤ) (width : ℕ) → a <ℤ b → 0 < width → int_lt (pos 1) (b -ℤ a) ≡ false → nat_lt width (unsigned_abs (b -ℤ a)) ≡ false
 not_above a b width inside some narrow = grind (arith, ints)
 

@@ -11,7 +11,7 @@ use Rattle.spec_trees.specs.declared.tree.Node.{Node}
 use Rattle.spec_events.specs.Functions.{Guard}
 use Rattle.spec_events.specs.Verdict.{Findings, GuardFinding, rises, falls, is_readable, is_certified, is_refuted}
 
--- a fact is so where the sign is Yes, and isn't where it is No
+-- a fact is so where the sign is Yes, and is not where it is No
 pub record Tells (sign : Sign) (fact : Type 0) : Type 0 where
   pub yes : sign ≡ Yes → fact
   pub no : sign ≡ No → fact → ⊥

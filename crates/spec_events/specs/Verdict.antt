@@ -88,7 +88,7 @@ rises step = le_z (pos 0) step.lo
 abbrev pub falls : Interval → Bool
 falls step = le_z step.hi (pos 0)
 
--- it doesn't do both
+-- it does not do both
 abbrev pub is_one_way : Interval → Bool
 is_one_way step = rises step || falls step
 

@@ -57,7 +57,7 @@ abbrev pub guarded_verdict : Bool → Verdict
 guarded_verdict at_least =
     verdict (criteria D.Any 1 40) (node_at (passing -ℤ pos 1) passing 21) (line_findings (passing -ℤ pos 1) passing (positive_guard at_least ∷ []))
 
--- what is found of a value so near 0 that no sign is known, and that doesn't change
+-- what is found of a value so near 0 that no sign is known, and that does not change
 abbrev pub nothing_known : Findings
 nothing_known = record { crosses = false; at_first = Open; at_last = Open; over = Open; step = zero_interval; guards = [] }
 

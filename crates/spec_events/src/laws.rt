@@ -80,7 +80,7 @@ pub fn undecided_nodes_are_at_a_limit()
         → verdict c n f ≡ Undecided → (width n ≤ c.width) ⊎ (c.depth ≤ n.depth) }
 {}
 
-/// The verdict in the order in which a node is looked at is the verdict: what isn't looked at doesn't change it.
+/// The verdict in the order in which a node is looked at is the verdict: what is not looked at does not change it.
 pub fn verdicts_in_stages()
     ensures same { (c : Criteria) (n : Node) (f : Findings) → n.a <ℤ n.b → 0 < c.width
         → verdict c n f ≡ staged_verdict c n f }

@@ -1,6 +1,6 @@
 // What is true of the two meanings, whatever the leaves: each law is the contract of a function with nothing to do.
 
-ghost use Rattle.std.specs.Prelude.{◌≡◌, ◌≤ℤ◌, ℤ};
+ghost use Rattle.std.specs.Prelude.{◌≤ℤ◌, ℤ};
 ghost use Rattle.spec_intervals.specs.Fraction.{Fraction};
 ghost use Rattle.spec_intervals.specs.Enclosure.{Enclosure, IsEnclosure, AllFractions, IsSpan, AllWithin};
 ghost use Rattle.spec_expressions.specs.Term.{Leaf, Term, LeavesAreNumbers, LeavesAreEnclosed, LeavesAreWithin, leaf_exponent, part_exponent, exact_of, enclosure_of, HasLeaves, IsFormula};

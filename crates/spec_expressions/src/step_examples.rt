@@ -1,10 +1,10 @@
 // Worked values of each definition, by computation.
 
-ghost use Rattle.std.specs.Prelude.{◌≡◌, ◌∷◌, [], length};
-ghost use Rattle.spec_expressions.specs.Term.{leaf, position, difference, product, nodes};
+ghost use Rattle.std.specs.Prelude.{◌≡◌, length};
+ghost use Rattle.spec_expressions.specs.Term.{difference, nodes};
 ghost use Rattle.spec_expressions.specs.declared.steps.Step.TheVariants.{Sum};
 ghost use Rattle.spec_expressions.specs.Steps.{AreSteps, IsStep, term_at, terms_of};
-ghost use Rattle.spec_expressions.specs.StepExamples.{shared, square, x, y};
+ghost use Rattle.spec_expressions.specs.StepExamples.{shared, square, y};
 
 /// `x² - (x² - y)` by five steps, of which the square is one: its term names the square twice.
 pub fn shared_squares()

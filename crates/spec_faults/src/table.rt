@@ -1,5 +1,5 @@
 // The table of all faults.
-ghost use Rattle.std.specs.Prelude.{◌≡◌, ◌↔◌, IfNone, IfSome, None, Some};
+ghost use Rattle.std.specs.Prelude.{◌≡◌, IfNone, IfSome, None, Some};
 ghost use Rattle.spec_faults.specs.Faults.{fault_kind, kind_among, kinds_of};
 ghost use Rattle.spec_faults.specs.Shown.{kind_of};
 

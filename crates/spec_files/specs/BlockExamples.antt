@@ -1,13 +1,11 @@
 -- Blocks of five numbers and one day, and what becomes of them where a line is changed.
-use Rattle.std.specs.Prelude.{ℕ, suc, List, [], ◌∷◌, ◌++◌, codes, replicate, take, Result, Ok, Err, pos, negsuc}
+use Rattle.std.specs.Prelude.{ℕ, suc, List, [], ◌∷◌, ◌++◌, codes, replicate, Result, Ok, Err, pos, negsuc}
 use Rattle.spec_text.specs.Examples.{decimal}
 use Rattle.spec_text.specs.Lines.{tokens}
 use Rattle.spec_text.specs.declared.decimals.Decimal.{Decimal}
 use Rattle.spec_ephemeris.specs.declared.header.Header.{Header}
 use Rattle.spec_ephemeris.specs.Ephemeris.{Ephemeris}
-use Rattle.spec_ephemeris.specs.Examples.{column, four_columns, whole}
-use Rattle.spec_ephemeris.specs.declared.header.Column.{Column}
-use Rattle.spec_ephemeris.specs.declared.limits.TheConstants.{BODY_COLUMNS}
+use Rattle.spec_ephemeris.specs.Examples.{column, whole}
 use Rattle.spec_files.specs.Sections.{FileLine, Stop, breaks}
 use Rattle.spec_files.specs.Blocks.{blocks}
 
@@ -26,11 +24,6 @@ angles_header = record day_header {
   ncoeff = 10;
   columns = column 3 1 1 ∷ replicate 10 (column 6 0 0) ++ column 6 1 1 ∷ column 8 1 1 ∷ [];
 }
-
--- the columns of bodies of a small header, in blocks of so many numbers, with these columns of nutations and librations
-abbrev pub bodies_and_angles : ℕ → Column → Column → Header
-bodies_and_angles ncoeff nutations librations =
-    record four_columns { ncoeff = ncoeff; columns = take BODY_COLUMNS four_columns.columns ++ nutations ∷ librations ∷ [] }
 
 abbrev pub line : ℕ → ℕ → List ℕ → FileLine
 line file number text = record { file = file; number = number; words = tokens text }

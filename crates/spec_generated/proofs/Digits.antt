@@ -1,10 +1,10 @@
 -- Numbers below 10^18 in 18 digits.
-use Rattle.std.proofs.Common.{◌≡◌, ◌-◌, ◌^◌, ◌<◌, ◌≤◌, ℕ, zero, suc, List, [], ◌∷◌, ◌++◌, length, replicate, refl, ap, ◌∙◌, arith, lit<, lit≤, rules, inl, inr, eq-eqb, ne_eqb}
+use Rattle.std.proofs.Common.{◌≡◌, ◌-◌, ◌^◌, ◌<◌, ◌≤◌, ℕ, zero, suc, List, [], ◌∷◌, ◌++◌, length, replicate, refl, ap, ◌∙◌, arith, lit<, lit≤, inl, inr, eq-eqb, ne_eqb}
 use Rattle.std.specs.Fmt.{decimal}
 use Rattle.std.proofs.lemmas.Bool.{cases_eq}
 use Rattle.std.proofs.lemmas.Fmt.{digits_value-decimal, length-decimal-le}
 use Rattle.std.proofs.lemmas.List.{length-append}
-use Rattle.spec_text.specs.Decimals.{AreDigits, significant, value, value_after}
+use Rattle.spec_text.specs.Decimals.{AreDigits, significant, value}
 use Rattle.spec_text.proofs.Assembly.{digits_append}
 use Rattle.spec_text.proofs.Printed.{decimal_digits, numerals}
 use Rattle.spec_generated.specs.Words.{padded_digits}

@@ -168,9 +168,6 @@ meet-between x y l h p q = by (le_z x.s y.s) refl
     by true e = meet_up-between x y l h (omega (arith, lin)) p q
     by false e = meet_up-between y x l h (omega (arith, lin)) q p
 
-pub meet-within : (x y : Interval) (n : ℕ) → IsWithin n x → IsWithin n y → IsWithin n (meet x y)
-meet-within x y n p q = between-within n n n _ (omega arith) (omega arith) (meet-between x y n n (within-between n x p) (within-between n y q))
-
 -- ---- signed squares and sizes
 pub signed_square-between : (t : Interval) (l h : ℕ) → IsBetween l h t → IsBetween (l + l) (h + h + 62) (signed_square t)
 unfolding signed_square

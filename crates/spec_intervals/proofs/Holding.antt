@@ -8,5 +8,3 @@ pub use Rattle.spec_intervals.proofs.Products.{Holds-product}
 
 pub Holds-narrowed : (lo hi s : ℤ) (r : Fraction) → Holds (record { lo = lo; hi = hi; s = s }) r → Holds (narrow lo hi s) r
 Holds-narrowed lo hi s r h = Holds-narrow lo hi s r h.low h.high
-
-pub ruleset holding = (Holds-narrowed, Holds-sum, Holds-product)

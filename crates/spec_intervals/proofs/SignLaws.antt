@@ -34,7 +34,7 @@ yes-not_negative x r e h =
     let b : (pos 0 *ℤ pos (2 ^ up x.s * r.denominator)) ≤ℤ (x.lo *ℤ pos (2 ^ up x.s * r.denominator)) = le-mul (pos 0) x.lo (pos (2 ^ up x.s * r.denominator)) (omega (arith, lin)) a in
     le-mul_cancel (pos 0) r.numerator (2 ^ down x.s) (pow_pos (down x.s)) (omega (arith, ints, h.low))
 
--- z * n is below 0 where z is and n isn't 0
+-- z * n is below 0 where z is and n is not 0
 below : (z : ℤ) (n : ℕ) → z <ℤ pos 0 → 0 < n → (z *ℤ pos n) <ℤ pos 0
 below z n h p =
     let b : (z *ℤ pos n) ≤ℤ (neg_ℤ (pos 1) *ℤ pos n) = le-mul z (neg_ℤ (pos 1)) (pos n) (omega (arith, lin)) (omega (arith, lin)) in

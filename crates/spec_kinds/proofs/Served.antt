@@ -1,17 +1,16 @@
 -- What is so of an ask that has no fault.
 use Rattle.std.proofs.Common.{◌≡◌, ◌≢◌, ◌<◌, Bool, true, false, ◌||◌, not, [], ◌∷◌, Option, None, Some, unwrap_or, if◌then◌else◌, refl}
-use Rattle.std.specs.Prelude.{All, IfSome}
+use Rattle.std.specs.Prelude.{All}
 use Rattle.std.specs.List.{list_all}
 use Rattle.std.proofs.lemmas.Bool.{and_parts, or_parts}
 use Rattle.std.proofs.lemmas.List.Elements.{All-nil, All-cons}
 use Rattle.spec_ephemeris.specs.declared.body.Body.{Body}
-use Rattle.spec_ephemeris.specs.declared.body.Body.TheVariants.{Ssb}
 use Rattle.spec_ephemeris.specs.Ephemeris.{Ephemeris, IsEphemeris}
 use Rattle.spec_bodies.specs.Views.{HasBody, IsView}
 use Rattle.spec_bodies.proofs.InUse.{body_there as source_there}
 use Rattle.spec_kinds.specs.declared.ask.Ask.{Ask}
 use Rattle.spec_kinds.specs.declared.fault.EventFault.TheVariants.{BodyAbsent, SameBody, ReferenceRange}
-use Rattle.spec_kinds.specs.Asks.{IsAsk, targets_of, before, bodies_of}
+use Rattle.spec_kinds.specs.Asks.{targets_of, before, bodies_of}
 use Rattle.spec_kinds.specs.Faults.{has_body, is_same, has_twice, are_in_range, fault_of}
 use Rattle.spec_kinds.specs.Searches.{view_of_ask}
 use Rattle.spec_kinds.proofs.Tests.{body_there, other_body}
@@ -66,13 +65,6 @@ pub apart : (e : Ephemeris) (ask : Ask) → fault_of e ask ≡ None → All (λ 
 apart e ask is =
     let other = none_same ask.target ask.second ask.observer (served e ask is).apart in
     all_of_two (λ target. target ≢ ask.observer) ask.target (unwrap_or ask.second ask.target) (other_body ask.target ask.observer other.0) (other_body _ ask.observer other.1)
-
-or_target : (second : Option Body) (target : Body) → target ≢ Ssb → IfSome second (λ body. body ≢ Ssb) → unwrap_or second target ≢ Ssb
-or_target None target own other = own
-or_target (Some second) target own other = other
-
-pub no_origin : (ask : Ask) → IsAsk ask → All (λ target. target ≢ Ssb) (targets_of ask)
-no_origin ask is = all_of_two (λ target. target ≢ Ssb) ask.target (unwrap_or ask.second ask.target) is.target (or_target ask.second ask.target is.target is.other)
 
 pub viewed : (e : Ephemeris) (ask : Ask) → IsEphemeris e → 0 < e.blocks → fault_of e ask ≡ None → IsView (view_of_ask e ask)
 viewed e ask checked block is =

@@ -1,8 +1,7 @@
 // Worked values of each definition, by computation.
 
-ghost use Rattle.std.specs.Prelude.{◌≡◌, ◌∷◌, [], None, Some, pos, neg_ℤ, ◌^◌, true, false};
-ghost use Rattle.spec_text.specs.declared.decimals.Decimal.{Decimal};
-ghost use Rattle.spec_ephemeris.specs.declared.body.Body.TheVariants.{Mercury, Venus, Emb, Moon, Sun, Earth, Ssb};
+ghost use Rattle.std.specs.Prelude.{◌≡◌, ◌∷◌, [], None, Some, pos, neg_ℤ, ◌^◌, true};
+ghost use Rattle.spec_ephemeris.specs.declared.body.Body.TheVariants.{Mercury, Venus, Moon, Sun, Earth, Ssb};
 ghost use Rattle.spec_ephemeris.specs.Examples.{whole};
 ghost use Rattle.spec_expressions.specs.Term.{position, velocity, leaf, length, sum, difference, product};
 ghost use Rattle.spec_bodies.specs.Examples.{moving_moon};

@@ -78,12 +78,6 @@ left_dot b e y p q w =
 
 -- ---- the step from one ray
 module _ (p q w : Triple) (a b e r s : ℤ) (ea : square p ≡ a +ℤ r *ℤ r) (eb : square q ≡ b +ℤ s *ℤ s) (ed : dot p q ≡ e +ℤ r *ℤ s) (b0 : pos 0 <ℤ b) (e0 : pos 0 ≤ℤ e) (s0 : pos 0 ≤ℤ s) (inside : (a *ℤ b) ≤ℤ (e *ℤ e)) (ahead : (e *ℤ s) ≤ℤ (b *ℤ r)) (y0 : pos 0 ≤ℤ dot w q) (close : (square w *ℤ b) ≤ℤ (dot w q *ℤ dot w q)) where
-  left : Triple
-  left = combined b p (neg_ℤ e) q
-
-  beside : Triple
-  beside = combined b w (neg_ℤ (dot w q)) q
-
   first_small : square (combined b p (neg_ℤ e) q) ≤ℤ ((b *ℤ r -ℤ e *ℤ s) *ℤ (b *ℤ r -ℤ e *ℤ s))
   first_small =
       let l : square (combined b p (neg_ℤ e) q) ≡ ((b *ℤ b) *ℤ (a +ℤ r *ℤ r) -ℤ ((b *ℤ e) *ℤ (e +ℤ r *ℤ s) +ℤ (b *ℤ e) *ℤ (e +ℤ r *ℤ s))) +ℤ (e *ℤ e) *ℤ (b +ℤ s *ℤ s) = left_square b e p q ∙ (ap (λ z. ((b *ℤ b) *ℤ z -ℤ ((b *ℤ e) *ℤ dot p q +ℤ (b *ℤ e) *ℤ dot p q)) +ℤ (e *ℤ e) *ℤ square q) ea ∙ (ap (λ z. ((b *ℤ b) *ℤ (a +ℤ r *ℤ r) -ℤ ((b *ℤ e) *ℤ z +ℤ (b *ℤ e) *ℤ z)) +ℤ (e *ℤ e) *ℤ square q) ed ∙ ap (λ z. ((b *ℤ b) *ℤ (a +ℤ r *ℤ r) -ℤ ((b *ℤ e) *ℤ (e +ℤ r *ℤ s) +ℤ (b *ℤ e) *ℤ (e +ℤ r *ℤ s))) +ℤ (e *ℤ e) *ℤ z) eb)) in

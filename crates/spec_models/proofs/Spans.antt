@@ -85,18 +85,6 @@ Spans-outer k y x s =
       high = high-outer y.hi x.hi s.gap k s.high;
     }
 
--- the inner one is rounded outward, to a unit that is no coarser than the outer one
-pub Spans-inner : (k : ℕ) (y x : Interval) (s : Spans y x) → k ≤ s.gap → Spans y (raised k x)
-Spans-inner k y x s h =
-    let e = s.exponent in
-    let same : s.gap ≡ (s.gap - k) + k = omega arith in
-    record {
-      gap = s.gap - k;
-      exponent = omega (arith, lin);
-      low = low-inner y.lo x.lo (s.gap - k) k s.gap same s.low;
-      high = high-inner y.hi x.hi (s.gap - k) k s.gap same s.high;
-    }
-
 -- both are rounded outward
 pub Spans-raised : (l k : ℕ) (y x : Interval) (s : Spans y x) → k ≤ l + s.gap → Spans (raised l y) (raised k x)
 Spans-raised l k y x s h =

@@ -3,7 +3,7 @@
 ghost use Rattle.std.specs.Prelude.{◌≡◌, pos};
 ghost use Rattle.spec_intervals.specs.Interval.{zero_interval};
 ghost use Rattle.spec_intervals.specs.Signs.{sign_of};
-ghost use Rattle.spec_intervals.specs.declared.signs.Sign.TheVariants.{Yes, No, Open};
+ghost use Rattle.spec_intervals.specs.declared.signs.Sign.TheVariants.{No, Open};
 ghost use Rattle.spec_motions.specs.Enclosures.{position_interval, position_step_interval, velocity_interval, velocity_step_interval};
 ghost use Rattle.spec_ephemeris.specs.Examples.{growing_x};
 ghost use Rattle.spec_motions.specs.Examples.{before, middle, one};
@@ -15,7 +15,7 @@ pub fn positions_of_a_line()
     ensures around { sign_of (position_interval growing_x (pos 1339000) (pos 1339300)) ≡ Open }
 {}
 
-/// Its velocity and its change are 1 alone, as 2^62 in units of 2^-62, and its velocity doesn't change. Over one time
+/// Its velocity and its change are 1 alone, as 2^62 in units of 2^-62, and its velocity does not change. Over one time
 /// nothing does.
 pub fn changes_of_a_line()
     ensures velocity { velocity_interval growing_x before middle ≡ one }

@@ -1,9 +1,9 @@
 -- Division rounded down and up.
-use Rattle.std.proofs.Common.{◌≡◌, ℕ, zero, suc, ◌+◌, ◌*◌, ◌/◌, ◌<◌, ◌≤◌, ◌^◌, min, ◌⊎◌, inl, inr, arith, refl, sym, ap, ◌∙◌, [], ◌∷◌, ℤ, pos, negsuc, ◌+ℤ◌, ◌-ℤ◌, ◌*ℤ◌, neg_ℤ, ◌≤ℤ◌, ◌<ℤ◌, unsigned_abs}
+use Rattle.std.proofs.Common.{◌≡◌, ℕ, zero, suc, ◌+◌, ◌*◌, ◌/◌, ◌<◌, ◌≤◌, ◌^◌, min, ◌⊎◌, inl, inr, arith, sym, ap, ◌∙◌, [], ◌∷◌, ℤ, pos, negsuc, ◌+ℤ◌, ◌*ℤ◌, neg_ℤ, ◌≤ℤ◌, ◌<ℤ◌, unsigned_abs}
 use Rattle.std.proofs.lemmas.Int.{ints, by_lt_z}
 use Rattle.std.proofs.lemmas.Bool.{cases_lt}
 use Rattle.std.proofs.lemmas.Nat.{pow_pos}
-use Rattle.std.proofs.Math.Nat.{div-div-eq-div-mul, div-eq_of_lt, div-mul-le_self, lt-div-mul-add, div-lt_iff_lt-mul, pow-le-pow_right}
+use Rattle.std.proofs.Math.Nat.{div-eq_of_lt, div-mul-le_self, lt-div-mul-add, div-lt_iff_lt-mul, pow-le-pow_right}
 use Rattle.std.proofs.Math.IntN.{neg_ℤ-neg_ℤ}
 use Rattle.spec_numbers.specs.Numbers.{floor_div, ceil_div}
 use Rattle.spec_numbers.proofs.Ring.{v, ◌⊕◌, ◌⊗◌, ring, minus}
@@ -16,20 +16,6 @@ floor_div-one (negsuc n) = ap negsuc (omega arith)
 
 pub ceil_div-one : (z : ℤ) → ceil_div z 1 ≡ z
 ceil_div-one z = ap neg_ℤ (floor_div-one (neg_ℤ z)) ∙ neg_ℤ-neg_ℤ z
-
-pub floor_div-twice : (z : ℤ) (d e : ℕ) → floor_div (floor_div z d) e ≡ floor_div z (d * e)
-floor_div-twice (pos n) d e = ap pos (div-div-eq-div-mul n d e)
-floor_div-twice (negsuc n) d e = ap negsuc (div-div-eq-div-mul n d e)
-
-pub ceil_div-twice : (z : ℤ) (d e : ℕ) → ceil_div (ceil_div z d) e ≡ ceil_div z (d * e)
-ceil_div-twice z d e =
-    ap (λ x. neg_ℤ (floor_div x e)) (neg_ℤ-neg_ℤ (floor_div (neg_ℤ z) d)) ∙ ap neg_ℤ (floor_div-twice (neg_ℤ z) d e)
-
--- the half rounded up is what the half rounded down leaves
-pub half_up : (z : ℤ) → z -ℤ floor_div z 2 ≡ ceil_div z 2
-half_up (pos zero) = refl
-half_up (pos (suc n)) = omega (arith, ints)
-half_up (negsuc n) = omega (arith, ints)
 
 pub floor_div-le : (z : ℤ) (d : ℕ) → 0 < d → (floor_div z d *ℤ pos d) ≤ℤ z
 floor_div-le (pos n) d h = let p : n / d * d ≤ n = div-mul-le_self n d in omega (arith, ints)

@@ -1,7 +1,7 @@
 -- Products and powers of natural numbers.
 use Rattle.std.proofs.Common.{◌≡◌, ℕ, zero, suc, ◌+◌, ◌*◌, ◌^◌, ◌<◌, ◌≤◌, arith, sym, ap, ◌∙◌, [], ◌∷◌, ℤ, pos, ◌*ℤ◌}
 use Rattle.std.proofs.lemmas.Nat.{mul-le}
-use Rattle.std.proofs.Math.Nat.{pow-le-pow_right, one-le-pow, pow-zero, pow-suc, mul_comm}
+use Rattle.std.proofs.Math.Nat.{one-le-pow, pow-zero, pow-suc, mul_comm}
 use Rattle.spec_numbers.specs.Numbers.{power}
 use Rattle.spec_numbers.proofs.Ring.{v, k as lit, ◌⊗◌, ring}
 
@@ -17,16 +17,6 @@ exchanged_factors m n k = omega arith
 -- row m of n rows of k numbers ends within them
 pub row_fits : (m n k : ℕ) → m < n → m * k + k ≤ n * k
 row_fits m n k below = let step : (m + 1) * k ≤ n * k = mul-le (m + 1) k n k (omega (arith, below)) (omega arith) in omega (arith, step)
-
--- the numbers of at most three rows of granules, behind a start, are counted within 128 bits
-pub size_fits : (k c g start : ℕ) → k ≤ 3 → c < 2 ^ 32 → g < 2 ^ 32 → start < 2 ^ 32 → start + k * c * g < 2 ^ 128
-size_fits k c g start few c_fits g_fits s_fits =
-    let inner : k * c ≤ 3 * 2 ^ 32 = mul-le k c 3 (2 ^ 32) few (omega (arith, c_fits)) in
-    let outer : k * c * g ≤ (3 * 2 ^ 32) * 2 ^ 32 = mul-le (k * c) g (3 * 2 ^ 32) (2 ^ 32) inner (omega (arith, g_fits)) in
-    omega (arith, outer, s_fits)
-
-pub ten_fits : (n : ℕ) → n ≤ 38 → 10 ^ n < 2 ^ 128
-ten_fits n few = let bound : 10 ^ n ≤ 10 ^ 38 = pow-le-pow_right (omega arith) few in omega (arith, bound)
 
 pub power-pos : (a k : ℕ) → power (pos a) k ≡ pos (a ^ k)
 power-pos a zero = ap pos (sym (pow-zero a))

@@ -10,7 +10,7 @@ pub fn products()
     ensures naturals { (m n k : ℕ) → m * (n * k) ≡ m * k * n }
 {}
 
-/// An order stays under a factor that isn't below 0, and shows through one above 0.
+/// An order stays under a factor that is not below 0, and shows through one above 0.
 pub fn orders()
     ensures multiplied { (a b c : ℤ) → pos 0 ≤ℤ c → a ≤ℤ b → (a *ℤ c) ≤ℤ (b *ℤ c) }
     ensures divided { (a b : ℤ) (c : ℕ) → 0 < c → (a *ℤ pos c) ≤ℤ (b *ℤ pos c) → a ≤ℤ b }

@@ -62,13 +62,6 @@ impl FileNames {
         FileNames { names }
     }
 
-    /// The names as a vector, in their order. It does not allocate.
-    pub fn into_vec(self) -> Vec<String>
-        ensures { map string_bytes result.items ≡ self }
-    {
-        self.names
-    }
-
     /// The names in their order.
     pub fn as_slice(&self) -> &[String]
         ensures { map string_bytes result.now ≡ self.now }

@@ -1,5 +1,5 @@
 // Worked values of scalars, by computation.
-ghost use Rattle.std.specs.Prelude.{◌≡◌, [], pos};
+ghost use Rattle.std.specs.Prelude.{◌≡◌, pos};
 ghost use Rattle.spec_numbers.specs.Numbers.{minus};
 ghost use Rattle.spec_trees.specs.declared.tree.Turn.TheVariants.{Rise};
 ghost use Rattle.spec_trees.specs.declared.tree.Verdict.TheVariants.{Clear, One, Split, Undecided};

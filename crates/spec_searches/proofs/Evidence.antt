@@ -20,7 +20,7 @@ use Rattle.spec_searches.specs.Search.{Search, IsSearch, crosses, enclosure_over
 use Rattle.spec_searches.specs.Found.{rules}
 use Rattle.spec_searches.proofs.Borders.{span_fits, time_fits}
 
--- the one time of a node that isn't wide
+-- the one time of a node that is not wide
 only_time : (a b t : ℤ) → int_lt (pos 1) (b -ℤ a) ≡ false → a <ℤ t → t ≤ℤ b → t ≡ b
 only_time a b t narrow after upto = grind (arith, ints)
 

@@ -74,7 +74,7 @@ unfoldable pub verdict_of : Search → Node → Verdict
 verdict_of s n = verdict (criteria s) n (findings_of (evidence_at s n))
 
 -- ---- the parts
--- a node that is wider than one unit, and into which a border falls or which isn't as deep as the depth
+-- a node that is wider than one unit, and into which a border falls or which is not as deep as the depth
 abbrev pub may_be_cut : Search → Node → Bool
 may_be_cut s n = is_wide n && (crosses s n || nat_lt n.depth s.depth)
 

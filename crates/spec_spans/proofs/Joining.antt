@@ -17,7 +17,7 @@ use Rattle.spec_trees.proofs.Placing.{covers_forward, windows_within}
 use Rattle.spec_spans.specs.Joins.{goes_on, is_open, joined, met}
 
 -- ---- a last window and the windows of the next span
--- what begins later isn't met
+-- what begins later is not met
 apart : (w : Window) (low upto : ℤ) (vs : List Window) → (w.last +ℤ pos 1) ≤ℤ low → AreWithin low upto vs → w ∷ vs ≡ met w vs
 apart w low upto [] h inside = refl
 apart w low upto (v ∷ vs) h inside =

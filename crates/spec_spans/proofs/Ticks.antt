@@ -11,7 +11,6 @@ use Rattle.spec_trees.specs.declared.tree.Turn.{Turn}
 use Rattle.spec_trees.specs.declared.tree.Turn.TheVariants.{Rise, Fall}
 use Rattle.spec_trees.specs.declared.tree.Verdict.{Verdict}
 use Rattle.spec_trees.specs.declared.tree.Verdict.TheVariants as V
-use Rattle.spec_trees.specs.declared.window.Holds.{Holds}
 use Rattle.spec_trees.specs.declared.window.Holds.TheVariants as H
 use Rattle.spec_trees.specs.declared.window.Window.{Window}
 use Rattle.spec_trees.specs.Tree.{AreLeaves, Covers, IsLeaf, mark_of, width}
@@ -27,14 +26,6 @@ use Rattle.spec_searches.specs.Found.{IsLeftUndecided, rules}
 use Rattle.spec_searches.proofs.Finding.{are_right}
 use Rattle.spec_spans.specs.Joins.{AreDecided, is_open}
 use Rattle.spec_spans.proofs.Joining.{begin_open}
-
--- a window that isn't undecided has a turn
-is_certain : (w : Window) → is_open w.holds ≡ false → (turn : Turn) × (w.holds ≡ H.Certain turn)
-is_certain w e = by w.holds refl
-  where
-    by : (h : Holds) → w.holds ≡ h → (turn : Turn) × (w.holds ≡ H.Certain turn)
-    by (H.Certain turn) is = (turn, is)
-    by H.Undecided is = absurd (cc)
 
 module _ (E : Turn → ℤ → Type 0) where
   -- the window is the tick of an event

@@ -1,5 +1,5 @@
 -- A word that is a decimal is printed, without blanks, and has at most 40 bytes.
-use Rattle.std.proofs.Common.{◌≡◌, ℕ, ◌≤◌, List, [], ◌∷◌, ◌++◌, Option, None, Some, Ok, sym, subst, arith, inl, inr, lit≤}
+use Rattle.std.proofs.Common.{◌≡◌, ℕ, ◌≤◌, List, ◌++◌, Option, None, Some, Ok, sym, subst, arith, inl, inr, lit≤}
 use Rattle.std.specs.Prelude.{IfSome}
 use Rattle.spec_text.specs.Decimals.{AreDigits, Exponent, IsExponent, IsMark, IsNumeral, Numeral, Sign, unsigned, plus, minus, after_point, exponent_text, fraction_text, sign_text, text}
 use Rattle.spec_text.specs.Reading.{Reads, reading}

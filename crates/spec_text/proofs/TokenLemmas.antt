@@ -11,7 +11,7 @@ use Rattle.spec_text.specs.Lines.{is_separator, is_not_empty, tokens}
 pub skip_one : (b : ℕ) (bs : List ℕ) → is_separator b ≡ true → tokens (b ∷ bs) ≡ tokens bs
 skip_one b bs test = rw test refl
 
--- separators at the front don't count
+-- separators at the front do not count
 pub skip : (line : List ℕ) (i : ℕ) → i ≤ length line → ((k : ℕ) → k < i → is_separator (get_or line k 0) ≡ true) → tokens line ≡ tokens (drop i line)
 skip line zero within before = refl
 skip [] (suc i) within before = refl

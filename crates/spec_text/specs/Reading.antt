@@ -24,7 +24,7 @@ decimal_of n =
     if value (digits n) == 0 then record { mant = pos 0; exp = pos 0 }
     else record { mant = signed n.sign (value (digits n)); exp = exponent_value n.exponent -ℤ pos (length (after_point n.fraction)) }
 
--- a numeral of at most 18 digits from the first that isn't 0
+-- a numeral of at most 18 digits from the first that is not 0
 pub record SpellsShort (word : List ℕ) (n : Numeral) : Type 0 where
   pub spells : Spells word n
   pub few : length (significant (digits n)) ≤ MAX_DIGITS

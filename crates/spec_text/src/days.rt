@@ -1,6 +1,6 @@
 // Numbers of days.
 
-/// Why a number of days isn't taken. Of both it is the first.
+/// Why a number of days is not taken. Of both it is the first.
 #[derive(Clone, Copy, PartialEq, Eq)]
 pub enum DaysFault {
     /// It is no whole number of seconds.

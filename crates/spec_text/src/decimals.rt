@@ -15,7 +15,7 @@ pub struct Decimal {
 pub enum NumberFault {
     /// Fault 1: the word has not the form of a decimal, or more than 40 bytes.
     NotNumber,
-    /// Fault 2: there are more than 18 digits from the first that isn't 0.
+    /// Fault 2: there are more than 18 digits from the first that is not 0.
     TooManyDigits,
     /// Fault 3: the written exponent is past 99 in size.
     ExponentRange,

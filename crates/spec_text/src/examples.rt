@@ -18,7 +18,7 @@ pub fn decimals_are_read()
     ensures zero { reading (codes "-0.00e7") ≡ Ok (decimal (pos 0) (pos 0)) }
 {}
 
-/// The answer is the first fault that applies; zeros at the front don't count among the 18 digits, and zeros at the end
+/// The answer is the first fault that applies; zeros at the front do not count among the 18 digits, and zeros at the end
 /// do.
 pub fn decimals_are_refused()
     ensures no_exponent { reading (codes "1d") ≡ Err NotNumber }
@@ -61,7 +61,7 @@ pub fn texts_are_cut_into_lines()
     ensures empty { lines [] ≡ [] }
 {}
 
-/// Blanks and tabs part tokens, and a line of them alone counts as a line, but isn't read.
+/// Blanks and tabs part tokens, and a line of them alone counts as a line, but is not read.
 pub fn lines_are_cut_into_tokens()
     ensures separators { tokens (codes " \tEMRAT  81\tAU 1 ")
         ≡ codes "EMRAT" ∷ codes "81" ∷ codes "AU" ∷ codes "1" ∷ [] }

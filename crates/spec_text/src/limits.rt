@@ -9,7 +9,7 @@ pub const MAX_LINE_BYTES: usize = 4_096;
 /// The most bytes of a word that is read as a decimal.
 pub const MAX_WORD_BYTES: usize = 40;
 
-/// The most digits of a decimal, from the first that isn't 0.
+/// The most digits of a decimal, from the first that is not 0.
 pub const MAX_DIGITS: usize = 18;
 
 /// The greatest size of a written exponent.

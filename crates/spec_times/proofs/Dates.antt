@@ -48,7 +48,7 @@ last_begun_is start day (suc n) first some = elim (cases_Bool (int_le (start (su
   ]
 ]
 
--- a number that isn't below 0 is its size
+-- a number that is not below 0 is its size
 pub abs_is : (z : ℤ) → pos 0 ≤ℤ z → pos (unsigned_abs z) ≡ z
 abs_is (pos n) h = refl
 abs_is (negsuc n) h = absurd (omega (arith, signed_arith))

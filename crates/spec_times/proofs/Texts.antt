@@ -55,7 +55,7 @@ short c is =
 pub rest_fits : (c : CalendarTime) → has_form (codes "-00-00T00:00:00") (rest_text c) ≡ true
 rest_fits c = rw (digit (c.month / 10), digit c.month, digit (c.day / 10), digit c.day, digit (c.hour / 10), digit c.hour, digit (c.minute / 10), digit c.minute, digit (c.second / 10), digit c.second) refl
 
--- ---- the text isn't a whole number
+-- ---- the text is not a whole number
 
 pub not_whole : (c : CalendarTime) → whole_time (calendar_text c) ≡ None
 not_whole c = go c.year refl

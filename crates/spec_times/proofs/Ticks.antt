@@ -7,7 +7,7 @@ use Rattle.std.proofs.lemmas.Int.{ints}
 use Rattle.std.proofs.lemmas.Bool.{cases_Bool}
 use Rattle.std.proofs.lemmas.Bool.Decides.{nat_tests}
 use Rattle.std.proofs.lemmas.List.{append-nil, length-append}
-use Rattle.std.proofs.lemmas.Nat.{div_below, mod_below}
+use Rattle.std.proofs.lemmas.Nat.{div_below}
 use Rattle.std.proofs.Math.Seq.{take-append_seam, drop-append_seam}
 use Rattle.std.specs.Int.{int_div_euclid, int_rem_euclid}
 use Rattle.jiff_core.proofs.SignedLemmas.{signed_arith}
@@ -184,7 +184,3 @@ second_within k (negsuc n) tick is =
     let few : n < 211813488000 * k = omega (arith, signed_arith, low) in
     let below = div_below n k 211813488000 tick.some few in
     record { low = omega (arith, signed_arith, below); high = omega (arith, signed_arith) }
-
-pub past_within : (k : ℕ) (t : ℤ) → 0 < k → past_second k t < k
-past_within k (pos n) some = mod_below n k some
-past_within k (negsuc n) some = let below = mod_below n k some in omega (arith, below)

@@ -43,7 +43,7 @@ day_number time = int_div_euclid (time +ℤ HALF_DAY) DAY +ℤ J2000_DAY
 abbrev pub clock : ℤ → ℕ
 clock time = unsigned_abs (int_rem_euclid (time +ℤ HALF_DAY) DAY)
 
--- the last of the numbers from 1 to n whose start isn't past the day; 0 where there is none
+-- the last of the numbers from 1 to n whose start is not past the day; 0 where there is none
 unfoldable pub last_begun : (ℕ → ℤ) → ℤ → ℕ → ℕ
 last_begun start day zero = 0
 last_begun start day (suc n) = if int_le (start (suc n)) day then suc n else last_begun start day n

@@ -6,4 +6,3 @@ pub mod Ordering
 pub mod Rearranged
 pub mod Runs
 pub mod Placing
-pub mod Parts

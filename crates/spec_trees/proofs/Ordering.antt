@@ -25,7 +25,7 @@ unfolding in_order
 cover_in_order a b [] c = refl
 cover_in_order a b (l ∷ ls) c = ap (inserted l) (cover_in_order l.node.b b ls c.2) ∙ before_first l ls b c.2 c.1
 
--- ---- lists whose beginnings don't fall
+-- ---- lists whose beginnings do not fall
 abbrev pub AllFrom : ℤ → List Leaf → Type 0
 AllFrom a [] = Unit {0}
 AllFrom a (l ∷ ls) = (a ≤ℤ l.node.a) × AllFrom a ls

@@ -11,7 +11,7 @@ use Rattle.spec_trees.specs.Windows.{windows}
 abbrev pub beginning : Leaf → ℤ
 beginning l = l.node.a
 
--- before the first of the leaves that doesn't begin earlier
+-- before the first of the leaves that does not begin earlier
 unfoldable pub inserted : Leaf → List Leaf → List Leaf
 inserted l [] = l ∷ []
 inserted l (m ∷ ms) = if int_lt m.node.a l.node.a then m ∷ inserted l ms else l ∷ m ∷ ms

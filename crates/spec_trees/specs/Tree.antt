@@ -78,7 +78,7 @@ Covers a (l ∷ ls) b = (l.node.a ≡ a) × (l.node.a <ℤ l.node.b) × Covers l
 abbrev pub HasTime : Leaf → Type 0
 HasTime l = l.node.a <ℤ l.node.b
 
--- a valid node that isn't split, with the mark of its verdict
+-- a valid node that is not split, with the mark of its verdict
 pub record IsLeaf (t : Rules) (l : Leaf) : Type 0 where
   pub valid : IsValid t l.node
   pub marked : mark_of (t.verdict l.node) ≡ Some l.mark

@@ -1,5 +1,5 @@
 // Worked values of cuts, by computation.
-ghost use Rattle.std.specs.Prelude.{◌≡◌, ℤ, pos, neg_ℤ};
+ghost use Rattle.std.specs.Prelude.{◌≡◌, pos, neg_ℤ};
 ghost use Rattle.spec_trees.specs.declared.cuts.CutRule.TheVariants.{Half, Third};
 ghost use Rattle.spec_trees.specs.Cuts.{cut_of};
 ghost use Rattle.spec_trees.specs.CutExamples.{cut_at_thirds, halved, pairs};

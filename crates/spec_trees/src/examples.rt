@@ -1,5 +1,5 @@
 // Worked values of trees, leaves and windows, by computation.
-ghost use Rattle.std.specs.Prelude.{◌≡◌, ℤ, pos, neg_ℤ};
+ghost use Rattle.std.specs.Prelude.{◌≡◌, pos, neg_ℤ};
 ghost use Rattle.spec_trees.specs.Cuts.{middle};
 ghost use Rattle.spec_trees.specs.Examples.{five_leaves, four_entries, four_leaves, node, single_units, three_units, three_windows};
 ghost use Rattle.spec_trees.specs.Order.{ordered_leaves};

@@ -15,7 +15,7 @@ pub enum Turn {
     Fall,
 }
 
-/// What a judge says of a node: it holds no event, exactly one, it is to be split, or nothing is known and it isn't
+/// What a judge says of a node: it holds no event, exactly one, it is to be split, or nothing is known and it is not
 /// to be split.
 #[derive(Clone, Copy, PartialEq, Eq)]
 pub enum Verdict {
@@ -50,7 +50,7 @@ pub enum Mark {
     Undecided,
 }
 
-/// A node that isn't split, with its mark.
+/// A node that is not split, with its mark.
 #[derive(Clone, Copy, PartialEq, Eq)]
 pub struct Leaf {
     pub node: Node,

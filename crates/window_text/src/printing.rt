@@ -1,9 +1,9 @@
 // The calendar text of a time.
-ghost use Rattle.std.specs.Prelude.{◌≡◌, ◌<◌, ◌++◌, ◌∷◌, pos, IfOk, OnOk, string_bytes, unsigned_abs};
+ghost use Rattle.std.specs.Prelude.{◌≡◌, ◌<◌, ◌++◌, IfOk, OnOk, string_bytes, unsigned_abs};
 ghost use Rattle.std.specs.Fmt.{decimal};
-ghost use Rattle.jiff_core.specs.Calendar.{IsEpochDay, IsYear};
+ghost use Rattle.jiff_core.specs.Calendar.{IsYear};
 ghost use Rattle.jiff_core.specs.Date.{epoch_day};
-ghost use Rattle.spec_times.specs.Calendar.{calendar_time, clock, clock_text, date_text, day_number, digits, time_text, year_text};
+ghost use Rattle.spec_times.specs.Calendar.{clock, clock_text, date_text, day_number, digits, time_text, year_text};
 ghost use Rattle.spec_ephemeris.specs.Ticks.{IsTick};
 ghost use Rattle.spec_times.specs.TimeWords.{IsTime};
 ghost use Rattle.spec_times.specs.Ticks.{IsTimeIn, fraction_text, past_second, second_of, tick_text};

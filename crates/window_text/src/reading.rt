@@ -7,7 +7,7 @@ ghost use Rattle.spec_times.specs.Calendar.{is_between};
 ghost use Rattle.spec_ephemeris.specs.Ticks.{IsTick};
 ghost use Rattle.jiff_core.specs.Calendar.{IsWithin};
 ghost use Rattle.spec_times.specs.TimeWords.{IsTime, are_time_digits, fits, has_form, negated_of, whole_of, whole_time, within_limits};
-ghost use Rattle.spec_times.specs.Ticks.{ending, has_fraction, shown_tick, tick_from, tick_of, within_tick_limits};
+ghost use Rattle.spec_times.specs.Ticks.{has_fraction, shown_tick, tick_from, tick_of, within_tick_limits};
 
 use crate::showing::time_shown;
 use spec_ephemeris::{FIRST_TIME, LAST_TIME};

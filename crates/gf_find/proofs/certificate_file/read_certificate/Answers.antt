@@ -1,7 +1,5 @@
-use Rattle.std.proofs.Common.{◌≡◌, ◌⊎◌, List, ℕ, subst, Err}
+use Rattle.std.proofs.Common.{List, ℕ, subst, Err}
 use Rattle.spec_files.specs.Files.{IsFile}
-use Rattle.spec_outcomes.specs.declared.refusal.Refusal.TheVariants.{Memory}
-use Rattle.gf_find.specs.CertificateFiles.{CertificateStops}
 use Rattle.gf_find.proofs.Verifying.{not_read_stops, too_long_stops}
 use Rattle.gf_find.proofs.certificate_file.read_certificate.Goals as goal
 

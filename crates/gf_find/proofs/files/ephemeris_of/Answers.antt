@@ -1,4 +1,4 @@
-use Rattle.std.proofs.Common.{Err, arith, inl, inr, string_bytes}
+use Rattle.std.proofs.Common.{Err, arith, string_bytes}
 use Rattle.std.proofs.lemmas.List.{length-map}
 use Rattle.gf_find.proofs.Causes.{lacking_stops, missing_inside, refused_inside, refused_stops}
 use Rattle.gf_find.proofs.files.ephemeris_of.Goals as goal

@@ -1,5 +1,4 @@
 use Rattle.std.proofs.Common.{ℕ, List, subst}
-use Rattle.spec_ephemeris.specs.Ticks.{in_ticks}
 use Rattle.spec_outcomes.specs.declared.refusal.Refusal.{Refusal}
 use Rattle.spec_outcomes.specs.Outcomes.{Stops}
 use Rattle.spec_outcomes.specs.Queries.{query_of, span_of}

@@ -1,12 +1,6 @@
-use Rattle.std.proofs.Common.{◌≡◌, ◌⊎◌, ◌≤◌, ℕ, List, Err, length, subst, sym}
-use Rattle.std.specs.Prelude.{Vec}
-use Rattle.std.specs.declared.alloc.Global.{Global}
+use Rattle.std.proofs.Common.{◌≤◌, ℕ, List, length, subst, sym}
 use Rattle.spec_text.specs.declared.limits.TheConstants.{MAX_TEXT_BYTES}
-use Rattle.spec_outcomes.specs.declared.refusal.Refusal.{Refusal}
-use Rattle.spec_outcomes.specs.declared.refusal.Refusal.TheVariants.{Memory}
 use Rattle.spec_outcomes.specs.Certificates.{IsVerification, verification_of}
-use Rattle.spec_outcomes.proofs.Results.{err_also, ok_also}
-use Rattle.gf_find.specs.CertificateFiles.{CertificateHasOutcome, HoldsText}
 use Rattle.gf_find.proofs.Verifying.{file_refused, text_printed, text_refused}
 use Rattle.gf_find.proofs.verify.verify_by.Goals as goal
 

@@ -1,17 +1,7 @@
-use Rattle.std.proofs.Common.{◌≡◌, ◌⊎◌, ℕ, Err, None, subst, sym}
-use Rattle.spec_kinds.specs.Faults.{fault_of}
-use Rattle.spec_outcomes.specs.declared.query.Query.{Query}
-use Rattle.std.specs.Prelude.{Vec}
-use Rattle.std.specs.declared.alloc.Global.{Global}
+use Rattle.std.proofs.Common.{subst, sym}
 use Rattle.spec_trees.specs.Tree.{IsValid}
 use Rattle.spec_searches.specs.Search.{Search}
 use Rattle.spec_searches.specs.Found.{root, rules}
-use Rattle.spec_outcomes.specs.declared.refusal.Refusal.{Refusal}
-use Rattle.spec_outcomes.specs.declared.refusal.Refusal.TheVariants.{Memory}
-use Rattle.spec_outcomes.specs.Certificates.{IsVerification, verification_of}
-use Rattle.gf_find.specs.CertificateFiles.{CertificateHasOutcome, HoldsText, VerifyHasOutcome}
-use Rattle.gf_find.specs.Verifies.{IsVerified}
-use Rattle.spec_outcomes.proofs.Results.{err_also, ok_also}
 use Rattle.spec_outcomes.proofs.Searching.{root_valid}
 use Rattle.spec_outcomes.proofs.SpanTimes.{from_is, upto_is}
 use Rattle.gf_find.proofs.FoundLeaves.{asked_is}

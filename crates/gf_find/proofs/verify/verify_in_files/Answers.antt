@@ -1,13 +1,3 @@
-use Rattle.std.proofs.Common.{◌≡◌, ◌⊎◌, ℕ, List, Err, subst}
-use Rattle.std.specs.Prelude.{Vec}
-use Rattle.std.specs.declared.alloc.Global.{Global}
-use Rattle.spec_ephemeris.specs.Ticks.{in_ticks}
-use Rattle.spec_outcomes.specs.declared.refusal.Refusal.{Refusal}
-use Rattle.spec_outcomes.specs.declared.refusal.Refusal.TheVariants.{Memory}
-use Rattle.gf_find.specs.Outcomes.{FilesHave, HaveEphemeris, HoldEphemeris}
-use Rattle.gf_find.specs.CertificateFiles.{VerifyHasOutcome}
-use Rattle.gf_find.specs.Verifies.{IsVerified}
-use Rattle.spec_outcomes.proofs.Results.{err_also, ok_also}
 use Rattle.gf_find.proofs.Causes.{not_opened}
 use Rattle.gf_find.proofs.Accepted.{has_block, held_as, in_seconds, is_checked}
 use Rattle.gf_find.proofs.Times.{end_counted, start_counted}

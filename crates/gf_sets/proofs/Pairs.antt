@@ -15,7 +15,6 @@ use Rattle.spec_sets.proofs.Members.{le_so}
 use Rattle.spec_sets.specs.Spans.{IsAfterAll}
 
 -- ---- by signs
-
 opposite_sure : (x : Sign) → is_sure (opposite x) ≡ not (is_possible x)
 opposite_sure x = grind arith
 

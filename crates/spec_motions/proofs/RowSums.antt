@@ -56,8 +56,7 @@ sums_ordered r k (c ∷ cs) =
     let q = sums_ordered r (suc k) cs in
     omega (arith, lin)
 
--- ---- sums of k C_k X_(k-1)
-
+-- ---- sizes
 pub multiple_size : (k : ℕ) (z : ℤ) (m : ℕ) → unsigned_abs z ≤ m → unsigned_abs (pos k *ℤ z) ≤ k * m
 multiple_size k' z m h = product_size (pos k') z k' m (omega (arith, ints)) h
 

@@ -11,6 +11,7 @@ use Rattle.spec_trees.specs.declared.tree.Node.{Node}
 use Rattle.spec_trees.specs.Tree.{Covers, leaf_of}
 use Rattle.spec_trees.proofs.Placing.{covers_forward}
 use Rattle.spec_stills.specs.Settled.{clears, is_clear_mark}
+use Rattle.spec_stills.proofs.Halvings.{not_one}
 
 -- ---- leaves between two times
 pub record IsBetween (a b : ℤ) (l : Leaf) : Type 0 where
@@ -38,9 +39,6 @@ some_leaves [] n inside cover = absurd (omega (arith, ints, inside, cover))
 some_leaves (l ∷ ls) n inside cover = omega arith
 
 -- ---- tests of three parts
-second_fails : (p q r : Bool) → q ≡ false → (p && (q && r)) ≡ false
-second_fails p q r e = grind arith
-
 third_fails : (p q r : Bool) → r ≡ false → (p && (q && r)) ≡ false
 third_fails p q r e = grind arith
 
@@ -54,7 +52,7 @@ none_or p q e = grind arith
 module _ (n : Node) (inside : n.a <ℤ n.b) where
   later_clears_not : (l : Leaf) → n.a <ℤ l.node.a → clears n l ≡ false
   later_clears_not l after =
-      second_fails (is_clear_mark l.mark) (int_le l.node.a n.a) (int_le n.b l.node.b) (grind (arith, ints, after))
+      not_one (is_clear_mark l.mark) (int_le l.node.a n.a) (int_le n.b l.node.b) (grind (arith, ints, after))
 
   earlier_clears_not : (l : Leaf) → l.node.b ≤ℤ n.a → clears n l ≡ false
   earlier_clears_not l before =

@@ -1,7 +1,7 @@
 -- A node within a still span is clear, or it is split where it is wider than the span asks; halved so often, its leaves are
 -- clear alone.
 use Rattle.std.proofs.Common.{◌≡◌, ℕ, zero, suc, ◌+◌, ◌*◌, ◌^◌, ◌<◌, ◌≤◌, ◌⊎◌, inl, inr, Bool, true, false, ◌&&◌, ◌||◌, nat_le, nat_lt, int_lt, int_le, int_div, Option, Some, None, is_some, ℤ, pos, ◌+ℤ◌, ◌-ℤ◌, ◌≤ℤ◌, ◌<ℤ◌, unsigned_abs, refl, sym, ap, ◌∙◌, subst, mul-one, mul_right_comm, pow-suc, arith}
-use Rattle.std.specs.Prelude.{if◌then◌else◌}
+use Rattle.std.specs.Prelude.{if◌then◌else◌, min}
 use Rattle.std.proofs.lemmas.Int.{ints}
 use Rattle.std.proofs.lemmas.Bool.{and_parts, cases_lt, leb-true, lt-ltb}
 use Rattle.spec_ephemeris.specs.Borders.{nearest_border}
@@ -16,6 +16,7 @@ use Rattle.spec_trees.specs.declared.tree.Mark.TheVariants as M
 use Rattle.spec_trees.specs.declared.tree.Verdict.TheVariants.{Clear, One, Split, Undecided}
 use Rattle.spec_trees.specs.Cuts.{cut_of, is_wide}
 use Rattle.spec_trees.specs.Tree.{IsValid, leaves, mark_of, width}
+use Rattle.spec_trees.proofs.Covering.{leaves_cover}
 use Rattle.spec_trees.proofs.Leaves.{leaves_settled, leaves_split}
 use Rattle.spec_events.specs.Soundness.{findings_of}
 use Rattle.spec_events.specs.Verdict.{Criteria, Findings, is_clear, is_one, is_split, turn_to, verdict}
@@ -24,7 +25,8 @@ use Rattle.spec_searches.specs.Search.{Search, IsSearch, border_in, criteria, cr
 use Rattle.spec_searches.proofs.Parts.{rules_are_sound}
 use Rattle.spec_stills.specs.declared.still.StillSpan.{StillSpan}
 use Rattle.spec_stills.specs.Still.{HasWider, IsStill, is_fine_enough, is_half, is_near_enough, lies_in, serves}
-use Rattle.spec_stills.proofs.Blocks.{IsClearBlock, both_clear, one_clear}
+use Rattle.spec_stills.specs.Weights.{fewest_halvings, halvings_of}
+use Rattle.spec_stills.proofs.Blocks.{IsClearBlock, block_within, both_clear, one_clear}
 
 -- so often doubled
 abbrev doubled : ℕ → ℕ → ℕ
@@ -42,6 +44,24 @@ doubled_is (suc k) m =
 some_doubled : (k m : ℕ) → 0 < m → 0 < doubled k m
 some_doubled zero m some = some
 some_doubled (suc k) m some = let below = some_doubled k m some in omega (arith, below)
+
+-- ---- the fewest halvings, which are no more than so many, and do where these do
+fewer_by : (h k : ℕ) (b : Bool) → h ≤ k → (if b then h else suc k) ≤ suc k
+fewer_by h k true fewer = omega (arith, fewer)
+fewer_by h k false fewer = omega arith
+
+no_more_halvings : (m w k : ℕ) → fewest_halvings m w k ≤ k
+no_more_halvings m w zero = omega arith
+no_more_halvings m w (suc k) = fewer_by (fewest_halvings m w k) k (nat_le w (2 ^ k * m)) (no_more_halvings m w k)
+
+enough_by : (m w h k : ℕ) (b : Bool) → nat_le w (2 ^ k * m) ≡ b → w ≤ (2 ^ suc k * m) → (w ≤ (2 ^ k * m) → w ≤ (2 ^ h * m))
+    → w ≤ (2 ^ (if b then h else suc k) * m)
+enough_by m w h k true e all fewer = fewer (leb-true w (2 ^ k * m) e)
+enough_by m w h k false e all fewer = all
+
+enough_halvings : (m w k : ℕ) → w ≤ (2 ^ k * m) → w ≤ (2 ^ fewest_halvings m w k * m)
+enough_halvings m w zero all = all
+enough_halvings m w (suc k) all = enough_by m w (fewest_halvings m w k) k (nat_le w (2 ^ k * m)) refl all (enough_halvings m w k)
 
 -- ---- verdicts
 pub not_one : (p q r : Bool) → q ≡ false → (p && (q && r)) ≡ false
@@ -196,29 +216,33 @@ module _ (s : Search) (x : StillSpan) where
     halved_is_clear zero n valid near = by_clear zero n valid (still.clear n valid near.from near.upto near.narrow)
     halved_is_clear (suc k) n valid near = by_width k n valid near (halved_is_clear k) (cases_lt x.widest (width n))
 
-  served_near : (n : Node) → lies_in x n ≡ true → is_near_enough s x n ≡ true → IsNear x.halvings n
+  served_near : (n : Node) → lies_in x n ≡ true → is_near_enough s x n ≡ true → IsNear (halvings_of x n) n
   served_near n lies near =
       let ends = and_parts (int_le x.from n.a) (int_le n.b x.upto) lies in
       let tests = and_parts (nat_le (width n) (2 ^ x.halvings * x.widest)) (nat_le (n.depth + x.halvings) s.depth) near in
-      let narrow = leb-true (width n) (2 ^ x.halvings * x.widest) tests.0 in
-      let same = doubled_is x.halvings x.widest in
+      let narrow = enough_halvings x.widest (width n) x.halvings (leb-true (width n) (2 ^ x.halvings * x.widest) tests.0) in
+      let same = doubled_is (halvings_of x n) x.widest in
+      let deep = leb-true (n.depth + x.halvings) s.depth tests.1 in
+      let fewer = no_more_halvings x.widest (width n) x.halvings in
       record {
         from = no_later x.from n.a ends.0;
         upto = no_later n.b x.upto ends.1;
         narrow = omega (arith, narrow, same);
-        deep = leb-true (n.depth + x.halvings) s.depth tests.1;
+        deep = omega (arith, deep, fewer);
       }
     where
       no_later : (t u : ℤ) → int_le t u ≡ true → t ≤ℤ u
       no_later t u e = grind (arith, ints)
 
-  pub served_is_clear : (n : Node) → IsSearch s → IsStill s x → IsValid (rules s) n → serves s x n ≡ true → IsClearBlock (2 ^ x.halvings) (leaves (rules s) n)
+  pub served_is_clear : (n : Node) → IsSearch s → IsStill s x → IsValid (rules s) n → serves s x n ≡ true → IsClearBlock (min (2 ^ halvings_of x n) (width n)) (leaves (rules s) n)
   served_is_clear n is still valid e =
       let outer = and_parts (lies_in x n) (is_near_enough s x n && is_fine_enough s x) e in
       let inner = and_parts (is_near_enough s x n) (is_fine_enough s x) outer.1 in
       let tests = and_parts (is_half s.cut) (nat_le s.width x.widest) inner.1 in
-      subst (λ (most : ℕ). IsClearBlock most (leaves (rules s) n)) (doubled_is x.halvings 1 ∙ mul-one (2 ^ x.halvings))
-      (halved_is_clear is still tests.0 (leb-true s.width x.widest tests.1) x.halvings n valid (served_near n outer.0 inner.0))
+      block_within (2 ^ halvings_of x n) n (leaves (rules s) n)
+      (subst (λ (most : ℕ). IsClearBlock most (leaves (rules s) n)) (doubled_is (halvings_of x n) 1 ∙ mul-one (2 ^ halvings_of x n))
+      (halved_is_clear is still tests.0 (leb-true s.width x.widest tests.1) (halvings_of x n) n valid (served_near n outer.0 inner.0)))
+      (leaves_cover (rules s) (rules_are_sound s is.view) n valid)
 
 pub still_within : (s : Search) (x y : StillSpan) → IsStill s x → x.from ≤ℤ y.from → y.upto ≤ℤ x.upto → y.widest ≤ x.widest → (HasWider y → HasWider x)
     → y.sign ≡ x.sign → IsStill s y

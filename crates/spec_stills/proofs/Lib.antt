@@ -2,6 +2,7 @@ pub mod Blocks
 pub mod Halvings
 pub mod Served
 pub mod Units
+pub mod Monotone
 pub mod Sound
 pub mod Alike
 pub mod Cleared

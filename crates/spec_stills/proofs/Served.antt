@@ -17,14 +17,14 @@ second true q e either = cc
 second false q e either = either
 
 pub served_block : (s : Search) (n : Node) → IsSearch s → IsValid (rules s) n → (xs : List StillSpan) → All (IsStill s) xs → is_served s xs n ≡ true
-    → IsClearBlock (weight_by (first_serving s xs n)) (leaves (rules s) n)
+    → IsClearBlock (weight_by (first_serving s xs n) n) (leaves (rules s) n)
 served_block s n is valid [] stills e = absurd (false≢true e)
 served_block s n is valid (x ∷ xs) stills e =
     by (serves s x n) refl (served_block s n is valid xs (All-tail (IsStill s) x xs stills))
   where
     chosen_by : Bool → Type 0
-    chosen_by b = IsClearBlock (weight_by (cond b (Some x) (first_serving s xs n))) (leaves (rules s) n)
+    chosen_by b = IsClearBlock (weight_by (cond b (Some x) (first_serving s xs n)) n) (leaves (rules s) n)
 
-    by : (b : Bool) → serves s x n ≡ b → (is_served s xs n ≡ true → IsClearBlock (weight_by (first_serving s xs n)) (leaves (rules s) n)) → chosen_by (serves s x n)
+    by : (b : Bool) → serves s x n ≡ b → (is_served s xs n ≡ true → IsClearBlock (weight_by (first_serving s xs n) n) (leaves (rules s) n)) → chosen_by (serves s x n)
     by true here later = subst chosen_by (sym here) (served_is_clear s x n is (All-head (IsStill s) x xs stills) valid here)
     by false here later = subst chosen_by (sym here) (later (second (serves s x n) (is_served s xs n) here e))

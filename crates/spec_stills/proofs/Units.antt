@@ -29,7 +29,7 @@ clear_in_any_case false false none rest e = rw e refl
 not_wide : (a b : ℤ) → a <ℤ b → unsigned_abs (b -ℤ a) ≤ 1 → int_lt (pos 1) (b -ℤ a) ≡ false
 not_wide a b inside narrow = grind (arith, ints)
 
-no_turn_between : (dir : Dir) (sign : Sign) → is_known sign ≡ true → has_no_turn dir sign sign ≡ true
+pub no_turn_between : (dir : Dir) (sign : Sign) → is_known sign ≡ true → has_no_turn dir sign sign ≡ true
 no_turn_between dir Yes known = refl
 no_turn_between dir No known = refl
 no_turn_between dir Open known = cc

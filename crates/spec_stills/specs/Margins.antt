@@ -1,11 +1,13 @@
 -- Margins: how far the function of a search keeps from 0 at each time of a span, and when its steps are too small to use that
 -- up within a node.
-use Rattle.std.specs.Prelude.{◌⊎◌, ℕ, ◌+◌, ℤ, pos, neg_ℤ, ◌*ℤ◌, ◌≤ℤ◌, ◌<ℤ◌}
+use Rattle.std.specs.Prelude.{◌≡◌, true, ◌⊎◌, ℕ, ◌+◌, ℤ, pos, neg_ℤ, ◌*ℤ◌, ◌≤ℤ◌, ◌<ℤ◌}
 use Rattle.spec_intervals.specs.Fraction.{Fraction, IsFraction, fraction}
 use Rattle.spec_intervals.specs.Interval.{Interval}
-use Rattle.spec_bodies.specs.Views.{state_enclosure}
+use Rattle.spec_events.specs.Verdict.{is_one_way}
+use Rattle.spec_bodies.specs.Views.{Fits, state_enclosure}
 use Rattle.spec_searches.specs.Search.{Search, enclosure_over}
 use Rattle.spec_models.specs.Bounds.{Bound}
+use Rattle.spec_bounds.specs.Terms.{bound_over}
 use Rattle.spec_models.specs.Ends.{NoMore, high, in_units, low, size}
 
 -- the interval of the function at one time
@@ -36,3 +38,8 @@ multiple n r = fraction (r.numerator *ℤ pos n) r.denominator
 pub record StepsFit (p : Bound) (q : ℕ) (g : Fraction) : Type 0 where
   pub steps : NoMore (multiple (q + 2) (size p.step)) g
   pub unit : NoMore (in_units (pos 1024) p.range.s) g
+
+-- times between which no granule begins, over which the function rises or falls by its bound
+pub record IsMonotone (s : Search) (c d : ℤ) : Type 0 where
+  pub fits : Fits s.view c d
+  pub one_way : is_one_way (bound_over s.view s.event.function c d).step ≡ true

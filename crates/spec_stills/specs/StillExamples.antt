@@ -17,9 +17,9 @@ early = record { from = pos 0; upto = pos 64; widest = 3; halvings = 3; sign = Y
 abbrev pub late : StillSpan
 late = record { from = pos 64; upto = pos 128; widest = 3; halvings = 5; sign = No }
 
--- the first of them, for nodes that need more halvings
+-- the first of them, for nodes that may be twice as wide
 abbrev pub early_again : StillSpan
-early_again = record early { halvings = 5 }
+early_again = record early { widest = 6 }
 
 abbrev pub both : List StillSpan
 both = early ∷ late ∷ []

@@ -24,11 +24,16 @@ pub fn nodes_that_are_served()
 {}
 
 /// Leaves that are served count 8 and 32, by the span that serves each, and one that is not counts 1; by two spans that serve
-/// it, a leaf counts as the first says.
+/// it, a leaf counts as the first says. In a span that allows five halvings a leaf of 24 ticks counts 8, since three bring it
+/// to 3 ticks, one of 25 ticks counts 16, one of 7 ticks counts 4, and one of 3 ticks counts 1.
 pub fn weights_of_leaves()
     ensures sum { (s : Search) → weights (cutting Half s) both
         (clear_at 6 (pos 40) (pos 60) ∷ clear_at 6 (pos 60) (pos 68)
         ∷ clear_at 6 (pos 68) (pos 128) ∷ []) ≡ 41 }
     ensures first { (s : Search) → weight (cutting Half s) (early ∷ early_again ∷ [])
         (clear_at 6 (pos 40) (pos 60)) ≡ 8 }
+    ensures three { (s : Search) → weight (cutting Half s) both (clear_at 6 (pos 70) (pos 94)) ≡ 8 }
+    ensures four { (s : Search) → weight (cutting Half s) both (clear_at 6 (pos 70) (pos 95)) ≡ 16 }
+    ensures two { (s : Search) → weight (cutting Half s) both (clear_at 6 (pos 70) (pos 77)) ≡ 4 }
+    ensures none { (s : Search) → weight (cutting Half s) both (clear_at 6 (pos 70) (pos 73)) ≡ 1 }
 {}

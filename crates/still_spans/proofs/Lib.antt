@@ -6,6 +6,8 @@ mod FollowingNodes
 mod Served
 mod Doubled
 mod Margins
+mod SpanBounds
+mod Fewest
 mod FollowingSpans
 mod BetweenSpans
 pub mod Quieted

@@ -15,9 +15,6 @@ use Rattle.spec_searches.specs.Search.{IsSearch, Search, enclosure_over}
 use Rattle.spec_searches.proofs.Borders.{span_fits}
 use Rattle.spec_searches.proofs.Parts.{first_near, last_near}
 use Rattle.spec_bounds.specs.Steady.{sign_at}
-use Rattle.spec_bounds.specs.Terms.{bound_over}
-use Rattle.event_bounds.specs.declared.bound.Bound.{Bound as Made}
-use Rattle.event_bounds.specs.Made.{IsBound}
 use Rattle.spec_expressions.specs.Term.{Term}
 use Rattle.spec_models.specs.Ends.{low, high}
 use Rattle.spec_models.specs.Models.{Covers, IsNear, Model}
@@ -131,16 +128,15 @@ fits_by s v e columns found a b is same in_use own nearest from several upto non
     let here : found ≡ nearest_border s.view.ephemeris (columns_of s.view) a b = nearest ∙ λ i. nearest_border (own i) ((in_use ∙ ap columns_of same) i) a b in
     span_fits s.view is a b from (omega (arith, ints, several)) upto (sym (ap is_some here) ∙ none)
 
--- what is known by a model and a bound over what is seen
-pub known_by : (s : Search) (m : Model) (p : Made) (v : View) (f : Term) (c d c' d' : ℤ) → v ≡ s.view → f ≡ s.event.function → c' ≡ c → d' ≡ d → IsSearch s → Fits s.view c d → c <ℤ d
+-- what is known by a model over what is seen
+pub known_by : (s : Search) (m : Model) (v : View) (f : Term) (c d c' d' : ℤ) → v ≡ s.view → f ≡ s.event.function → c' ≡ c → d' ≡ d → IsSearch s → Fits s.view c d → c <ℤ d
     → ((t : ℤ) → c' ≤ℤ t → t ≤ℤ d' → Covers m (argument_of c' d' t) (d' -ℤ c') (enclosure_over (state_enclosure v) f t t).range)
-    → IsBound p (bound_over s.view s.event.function c d) → IsKnown s (record { model = m; bound = p; first = c'; last = d' })
-known_by s m p v f c d c' d' same own first last is fits several covers bound = record {
+    → IsKnown s (record { model = m; first = c'; last = d' })
+known_by s m v f c d c' d' same own first last is fits several covers = record {
   search = is;
   fits = rw (first, last) fits;
   several = rw (first, last) several;
   covers = λ t from upto. subst (λ x. Covers m (argument_of c' d' t) (d' -ℤ c') x) (λ i. (enclosure_over (state_enclosure (same i)) (own i) t t).range) (covers t from upto);
-  bound = rw (first, last) bound;
 }
 
 -- the same arguments, as they are passed on

@@ -10,6 +10,7 @@ use Rattle.spec_models.specs.Models.{Model, Covers}
 use Rattle.event_bounds.specs.Made.{IsBound}
 use Rattle.span_models.specs.declared.margin.Margin.{Margin}
 use Rattle.still_spans.specs.declared.known.Known.{Known}
+use Rattle.still_spans.specs.declared.span_bound.SpanBound.{SpanBound}
 
 -- a time as an argument over the times from c to d
 abbrev pub argument_of : ℤ → ℤ → ℤ → ℤ
@@ -19,12 +20,18 @@ argument_of c d t = (pos 2 *ℤ t -ℤ c) -ℤ d
 abbrev pub CoversAll : Search → Model → ℤ → ℤ → Type 0
 CoversAll s m c d = (t : ℤ) → c ≤ℤ t → t ≤ℤ d → Covers m (argument_of c d t) (d -ℤ c) (range_at s t)
 
--- times that fit, a model that covers the function at each of them, and the function's bound over them
+-- times that fit, and a model that covers the function at each of them
 pub record IsKnown (s : Search) (x : Known) : Type 0 where
   pub search : IsSearch s
   pub fits : Fits s.view x.first x.last
   pub several : x.first <ℤ x.last
   pub covers : CoversAll s x.model x.first x.last
+
+-- times that fit, and the function's bound over them
+pub record IsBounded (s : Search) (x : SpanBound) : Type 0 where
+  pub search : IsSearch s
+  pub fits : Fits s.view x.first x.last
+  pub several : x.first <ℤ x.last
   pub bound : IsBound x.bound (bound_over s.view s.event.function x.first x.last)
 
 -- the sign of numbers on the side of 0 that a margin is on

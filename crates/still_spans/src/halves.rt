@@ -3,10 +3,11 @@ ghost use Rattle.std.specs.Prelude.{◌≡◌, ◌^◌, ◌≤ℤ◌, ◌<ℤ◌
 ghost use Rattle.spec_trees.specs.Cuts.{CanCut};
 ghost use Rattle.spec_stills.specs.Still.{IsStill};
 ghost use Rattle.still_spans.specs.Found.{AreFound, IsStillOver};
-ghost use Rattle.still_spans.specs.Knowledge.{IsKnown};
+ghost use Rattle.still_spans.specs.Knowledge.{IsBounded, IsKnown};
 
 use crate::borders::unit_between;
 use crate::known::Known;
+use crate::span_bound::SpanBound;
 use event_judge::EventSearch;
 use gf_hooks::{CutRule, rule_cut};
 use spec_stills::StillSpan;
@@ -94,11 +95,13 @@ impl Walk {
         Ok(())
     }
 
-    /// Adds still spans from one time to another: the span itself, or those of its halves.
+    /// Adds still spans from one time to another, given a bound over these times at least: the span itself, or those of its
+    /// halves, by a bound over it.
     pub(crate) fn add_halves(
         &mut self,
         search: &EventSearch,
         known: &Known,
+        over: &SpanBound,
         a: i64,
         b: i64,
         depth: u32,
@@ -107,6 +110,9 @@ impl Walk {
         requires from { known.now.first ≤ℤ a }
         requires several { a <ℤ b }
         requires upto { b ≤ℤ known.now.last }
+        requires bounded { IsBounded search.now over.now }
+        requires bound_from { over.now.first ≤ℤ a }
+        requires bound_upto { b ≤ℤ over.now.last }
         ensures { (from : ℤ) → AreFound search.now from self.old.found.items a
             → OnOk result (AreFound search.now from self.new.found.items b) }
     {
@@ -114,14 +120,15 @@ impl Walk {
             return Ok(());
         }
         self.tries -= 1;
-        if let Some(still) = known.still_over(search, a, b) {
+        if let Some(still) = known.still_over(search, over, a, b) {
             return self.add(search, a, b, still);
         }
         if depth == 0 || is_narrow(search, a, b) {
             return Ok(());
         }
         let middle = middle(a, b);
-        self.add_halves(search, known, a, middle, depth - 1)?;
-        self.add_halves(search, known, middle, b, depth - 1)
+        let here = over.within(search, a, b, DEEPEST.saturating_sub(depth));
+        self.add_halves(search, known, &here, a, middle, depth - 1)?;
+        self.add_halves(search, known, &here, middle, b, depth - 1)
     }
 }

@@ -1,53 +1,32 @@
 // What is known of the function of a search over times of one granule, and the still spans that it tells.
-ghost use Rattle.std.specs.Prelude.{◌≡◌, ◌^◌, ◌-ℤ◌, ◌≤ℤ◌, ◌<ℤ◌, ℕ, pos, neg_ℤ, IfSome};
+ghost use Rattle.std.specs.Prelude.{◌≡◌, ◌^◌, ◌-ℤ◌, ◌≤ℤ◌, ◌<ℤ◌, pos, neg_ℤ, IfSome};
 ghost use Rattle.spec_bodies.specs.Views.{Fits};
 ghost use Rattle.spec_bounds.specs.Steady.{sign_at};
-ghost use Rattle.spec_bounds.specs.Terms.{bound_over};
-ghost use Rattle.spec_stills.specs.Still.{IsStill};
-ghost use Rattle.spec_stills.specs.Margins.{HasMargin, StepsFit};
+ghost use Rattle.spec_stills.specs.Margins.{HasMargin};
 ghost use Rattle.span_models.specs.Margins.{margin_of};
-ghost use Rattle.event_bounds.specs.Made.{IsBound};
-ghost use Rattle.still_spans.specs.Found.{IsStillOver, still};
-ghost use Rattle.still_spans.specs.Knowledge.{IsKnown, argument_of, side};
+ghost use Rattle.still_spans.specs.Found.{IsStillOver};
+ghost use Rattle.still_spans.specs.Knowledge.{IsBounded, IsKnown, argument_of, side};
 
-use crate::units::{halvings, steps_allowed};
-use event_bounds::{Bound, bound_by_steps};
+use crate::span_bound::SpanBound;
 use event_judge::EventSearch;
 use event_models::model_over;
-use ival_core::Sign;
 use span_models::{Margin, Model};
 use spec_stills::StillSpan;
-use spec_stills::margin_laws::{margins_make_spans_still, margins_tell_signs};
+use spec_stills::margin_laws::margins_tell_signs;
 
-/// The width, in ticks, of the widest spans of which the margin alone is asked, where nodes are split down to one tick: 12
-/// halvings bring them there.
-const BY_MARGIN_ALONE: u64 = 4096;
-
-/// A model and a bound of the function of a search over times of one granule.
+/// A model of the function of a search over times of one granule.
 #[derive(Clone, Copy)]
 pub(crate) struct Known {
     pub(crate) model: Model,
-    pub(crate) bound: Bound,
     pub(crate) first: i64,
     pub(crate) last: i64,
 }
 
-/// The bound of the function of a search over some times.
-pub(crate) fn bound_between(search: &EventSearch, first: i64, last: i64) -> Bound
-    requires { Fits search.now.view first last }
-    ensures { IsBound result (bound_over search.now.view search.now.event.function first last) }
-{
-    let (function, listed) = (search.event().function(), search.function_step());
-    bound_by_steps(function, listed, search.states(), first, last)
-}
-
 impl Known {
-    /// What is known over some times by the bound of the function there, where it has a model.
-    pub(crate) fn over(search: &EventSearch, bound: Bound, first: i64, last: i64) -> Option<Known>
+    /// What is known over some times, where the function has a model there.
+    pub(crate) fn over(search: &EventSearch, first: i64, last: i64) -> Option<Known>
         requires fits { Fits search.now.view first last }
         requires several { first <ℤ last }
-        requires bound { IsBound bound
-            (bound_over search.now.view search.now.event.function first last) }
         ensures known { IfSome result (λ known. IsKnown search.now known) }
         ensures first { IfSome result (λ known. known.first ≡ first) }
         ensures last { IfSome result (λ known. known.last ≡ last) }
@@ -56,12 +35,7 @@ impl Known {
         let (function, states) = (search.event().function(), search.states());
         let listed = search.function_step();
         match model_over(function, listed, search.ephemeris(), states, first, last) {
-            Some(model) => Some(Known {
-                model,
-                bound,
-                first,
-                last,
-            }),
+            Some(model) => Some(Known { model, first, last }),
             None => None,
         }
     }
@@ -104,82 +78,26 @@ impl Known {
         self.model.margin(first, last, length)
     }
 
-    // How wide a node of its times may be that is clear where the function keeps so far from 0, by its steps.
-    fn by_steps(&self, search: &EventSearch, margin: Margin) -> Option<u64>
-        requires known { IsKnown search.now self.now }
-        ensures { let x = self.now in let v = search.now.view in
-            IfSome result (λ few. StepsFit
-            (bound_over v search.now.event.function x.first x.last) few (margin_of margin)) }
-    {
-        steps_allowed(&self.bound, margin)
-    }
-
-    // How wide a node from one of its times to another may be that is clear where the function keeps so far from 0.
-    fn widest(&self, search: &EventSearch, margin: Margin, a: i64, b: i64) -> u64
+    /// The still span from one of its times to another, where there is one of use, given a bound over these times at least.
+    pub(crate) fn still_over(
+        &self,
+        search: &EventSearch,
+        over: &SpanBound,
+        a: i64,
+        b: i64,
+    ) -> Option<StillSpan>
         requires known { IsKnown search.now self.now }
         requires from { self.now.first ≤ℤ a }
         requires several { a <ℤ b }
         requires upto { b ≤ℤ self.now.last }
-        requires margin { HasMargin search.now a b (margin_of margin) }
-        requires sign { sign_at search.now a ≡ side margin }
-        ensures { (k : ℕ) → IsStill search.now (still a b result k (side margin)) }
-    {
-        margins_make_spans_still();
-        if is_by_margin(search, a, b) {
-            return 1;
-        }
-        match self.by_steps(search, margin) {
-            Some(few) => few,
-            None => 1,
-        }
-    }
-
-    /// The still span from one of its times to another, where there is one of use.
-    pub(crate) fn still_over(&self, search: &EventSearch, a: i64, b: i64) -> Option<StillSpan>
-        requires known { IsKnown search.now self.now }
-        requires from { self.now.first ≤ℤ a }
-        requires several { a <ℤ b }
-        requires upto { b ≤ℤ self.now.last }
+        requires bounded { IsBounded search.now over.now }
+        requires bound_from { over.now.first ≤ℤ a }
+        requires bound_upto { b ≤ℤ over.now.last }
         ensures { IfSome result (λ still. IsStillOver search.now a b still) }
     {
         match self.margin(search, a, b) {
-            Some(margin) => {
-                let widest = self.widest(search, margin, a, b);
-                useful(search, a, b, widest, side(margin))
-            }
+            Some(margin) => over.still_by(search, margin, a, b),
             None => None,
         }
-    }
-}
-
-// Whether the margin alone is asked of the nodes from one time to another.
-fn is_by_margin(search: &EventSearch, a: i64, b: i64) -> bool {
-    search.width() == 1 && b.abs_diff(a) <= BY_MARGIN_ALONE
-}
-
-// The sign of numbers on its side of 0.
-fn side(margin: Margin) -> Sign
-    ensures { result ≡ side margin }
-{
-    if margin.is_above { Sign::Yes } else { Sign::No }
-}
-
-// A span in which nodes so wide are clear, where nodes of the tree become so narrow before too many halvings.
-fn useful(search: &EventSearch, a: i64, b: i64, widest: u64, sign: Sign) -> Option<StillSpan>
-    requires still { (k : ℕ) → IsStill search.now (still a b widest k sign) }
-    ensures { IfSome result (λ still. IsStillOver search.now a b still) }
-{
-    if widest < search.width() {
-        return None;
-    }
-    match halvings(a.abs_diff(b), widest) {
-        Some(halvings) => Some(StillSpan {
-            from: a,
-            upto: b,
-            widest,
-            halvings,
-            sign,
-        }),
-        None => None,
     }
 }

@@ -31,6 +31,7 @@ mod quiet;
 mod serving;
 mod settling;
 mod shares;
+mod span_bound;
 mod standing;
 mod still_list;
 mod units;

@@ -1,8 +1,8 @@
 // The still span that serves a node of a search, and how many leaves of its tree leaves of the eager tree stand for.
-ghost use Rattle.std.specs.Prelude.{◌≡◌, ◌≤◌, ◌<ℤ◌, ◌^◌, All, IfSome, nat_le};
-ghost use Rattle.spec_trees.specs.Tree.{HasTime};
+ghost use Rattle.std.specs.Prelude.{◌≡◌, ◌≤◌, ◌<ℤ◌, ◌*◌, ◌^◌, All, IfSome, min, nat_le};
+ghost use Rattle.spec_trees.specs.Tree.{HasTime, width};
 ghost use Rattle.spec_stills.specs.Still.{is_fine_enough, is_half, is_near_enough, lies_in, serves};
-ghost use Rattle.spec_stills.specs.Weights.{first_serving, weight, weights};
+ghost use Rattle.spec_stills.specs.Weights.{fewest_halvings, first_serving, halvings_of, weight, weights};
 ghost use Rattle.still_spans.specs.Stands.{IsCount};
 ghost use Rattle.still_spans.specs.declared.limits.TheConstants.{MAX_HALVINGS};
 
@@ -20,14 +20,23 @@ fn lies_in(still: StillSpan, node: Node) -> bool
     still.from <= node.a && node.b <= still.upto
 }
 
-// How many leaves a node that the span serves has at most.
+// How many parts a node has that is halved so often.
 #[inline(always)]
-fn leaves_of(still: StillSpan) -> u64
-    requires { still.halvings ≤ MAX_HALVINGS }
-    ensures leaves { result ≡ 2 ^ still.halvings }
+fn parts_of(halvings: u32) -> u64
+    requires { halvings ≤ MAX_HALVINGS }
+    ensures parts { result ≡ 2 ^ halvings }
     ensures few { result ≤ 2 ^ MAX_HALVINGS }
 {
-    1 << (still.halvings % 64)
+    1 << (halvings % 64)
+}
+
+// So many halvings bring a width down to another.
+#[inline(always)]
+fn is_halved_to(widest: u64, width: u64, halvings: u32) -> bool
+    requires { halvings ≤ MAX_HALVINGS }
+    ensures { result ≡ nat_le width (2 ^ halvings * widest) }
+{
+    u128::from(width) <= u128::from(parts_of(halvings)) * u128::from(widest)
 }
 
 // Halved so often, the node is as narrow as the span asks, and is not as deep as the depth before.
@@ -36,8 +45,36 @@ fn is_near_enough(search: &EventSearch, still: StillSpan, node: Node) -> bool
     requires { still.halvings ≤ MAX_HALVINGS }
     ensures { result ≡ is_near_enough search.now still node }
 {
-    u128::from(node.b.abs_diff(node.a)) <= u128::from(leaves_of(still)) * u128::from(still.widest)
+    is_halved_to(still.widest, node.b.abs_diff(node.a), still.halvings)
         && u64::from(node.depth) + u64::from(still.halvings) <= u64::from(search.depth())
+}
+
+// The fewest halvings that bring a width down to another, where so many do.
+fn fewest_halvings(widest: u64, width: u64, most: u32) -> u32
+    requires { most ≤ MAX_HALVINGS }
+    ensures fewest { result ≡ fewest_halvings widest width most }
+    ensures few { result ≤ most }
+{
+    match most.checked_sub(1) {
+        Some(fewer) => {
+            if is_halved_to(widest, width, fewer) {
+                fewest_halvings(widest, width, fewer)
+            } else {
+                most
+            }
+        }
+        None => 0,
+    }
+}
+
+// How many leaves a node that the span serves has at most.
+fn leaves_of(still: StillSpan, node: Node) -> u64
+    requires { still.halvings ≤ MAX_HALVINGS }
+    ensures leaves { result ≡ min (2 ^ halvings_of still node) (width node) }
+    ensures few { result ≤ 2 ^ MAX_HALVINGS }
+{
+    let width = node.b.abs_diff(node.a);
+    parts_of(fewest_halvings(still.widest, width, still.halvings)).min(width)
 }
 
 // The rule halves.
@@ -108,7 +145,7 @@ impl StillList {
         ensures few { result ≤ 2 ^ MAX_HALVINGS }
     {
         match self.serving(search, leaf.node) {
-            Some(still) => leaves_of(still),
+            Some(still) => leaves_of(still, leaf.node),
             None => 1,
         }
     }

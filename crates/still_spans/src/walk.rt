@@ -9,8 +9,9 @@ ghost use Rattle.still_spans.specs.Found.{AreFound, AreInOrder};
 
 use crate::granules::{fits, last_before_border};
 use crate::halves::{DEEPEST, MOST_TRIES, Walk};
-use crate::known::{Known, bound_between};
+use crate::known::Known;
 use crate::quiet::quiet_over;
+use crate::span_bound::{SpanBound, bound_between};
 use event_bounds::Bound;
 use event_judge::EventSearch;
 use gf_hooks::CutRule;
@@ -51,10 +52,11 @@ impl Walk {
         ensures { (from : ℤ) → AreFound search.now from self.old.found.items a
             → OnOk result (AreFound search.now from self.new.found.items b) }
     {
-        match Known::over(search, bound, a, b) {
+        let over = SpanBound::new(search, bound, a, b);
+        match Known::over(search, a, b) {
             Some(known) => {
                 self.tries = MOST_TRIES;
-                self.add_halves(search, &known, a, b, DEEPEST)
+                self.add_halves(search, &known, &over, a, b, DEEPEST)
             }
             None => Ok(()),
         }

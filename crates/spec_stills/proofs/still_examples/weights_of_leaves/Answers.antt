@@ -6,3 +6,15 @@ returns-clause-sum c = λ s. refl
 
 pub returns-clause-first : goal.returns-clause-first
 returns-clause-first c = λ s. refl
+
+pub returns-clause-three : goal.returns-clause-three
+returns-clause-three c = λ s. refl
+
+pub returns-clause-four : goal.returns-clause-four
+returns-clause-four c = λ s. refl
+
+pub returns-clause-none : goal.returns-clause-none
+returns-clause-none c = λ s. refl
+
+pub returns-clause-two : goal.returns-clause-two
+returns-clause-two c = λ s. refl

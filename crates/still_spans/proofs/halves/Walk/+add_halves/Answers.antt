@@ -1,4 +1,4 @@
-use Rattle.std.proofs.Common.{subst, sym, arith, w64, ℤ}
+use Rattle.std.proofs.Common.{rules, subst, sym, arith, w64, ℤ}
 use Rattle.std.proofs.lemmas.Int.{ints, to_z-of_z}
 use Rattle.std.specs.Prelude.{OnOk}
 use Rattle.still_spans.specs.Found.{AreFound}
@@ -26,6 +26,60 @@ middle-middle-requires t c =
     let wide = rw (to_z-of_z w64 c.args.a c.ranges.a, to_z-of_z w64 c.args.b c.ranges.b) at (c.is_narrow.ensures c.if-is_narrow.false) in
     rw (to_z-of_z w64 c.args.a c.ranges.a, to_z-of_z w64 c.args.b c.ranges.b)
     (record { wide = wide; low = omega (arith, ints, low, from); high = omega (arith, ints, high, upto) })
+
+pub add_halves-requires : goal.add_halves-requires
+add_halves-requires t c =
+    let a = to_z-of_z w64 c.args.a c.ranges.a in
+    let m = to_z-of_z w64 c.middle-middle.result (record { sfits = c.middle-middle.type_inv }) in
+    let after = c.middle-middle.ensures.from in
+    let before = c.middle-middle.ensures.upto in
+    let b = to_z-of_z w64 c.args.b c.ranges.b in
+    let from = c.requires.from in
+    let upto = c.requires.upto in
+    let bound_from = c.within-here.ensures.from in
+    let bound_upto = c.within-here.ensures.upto in (
+      search rules,
+      (
+        c.requires.known,
+        (
+          omega (arith, ints, a, from),
+          (
+            omega (arith, ints, a, m, after),
+            (
+              omega (arith, ints, b, m, before, upto),
+              (c.within-here.ensures.bounded, (omega (arith, ints, a, bound_from), omega (arith, ints, b, m, before, bound_upto))),
+            ),
+          ),
+        ),
+      ),
+    )
+
+pub add_halves-requires-2 : goal.add_halves-requires-2
+add_halves-requires-2 t c =
+    let a = to_z-of_z w64 c.args.a c.ranges.a in
+    let m = to_z-of_z w64 c.middle-middle.result (record { sfits = c.middle-middle.type_inv }) in
+    let after = c.middle-middle.ensures.from in
+    let before = c.middle-middle.ensures.upto in
+    let b = to_z-of_z w64 c.args.b c.ranges.b in
+    let from = c.requires.from in
+    let upto = c.requires.upto in
+    let bound_from = c.within-here.ensures.from in
+    let bound_upto = c.within-here.ensures.upto in (
+      search rules,
+      (
+        c.requires.known,
+        (
+          omega (arith, ints, a, m, after, from),
+          (
+            omega (arith, ints, b, m, before),
+            (
+              omega (arith, ints, b, upto),
+              (c.within-here.ensures.bounded, (omega (arith, ints, a, m, after, bound_from), omega (arith, ints, b, bound_upto))),
+            ),
+          ),
+        ),
+      ),
+    )
 
 pub returns : goal.returns
 returns t c = λ from found.

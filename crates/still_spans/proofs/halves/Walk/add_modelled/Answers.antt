@@ -11,6 +11,12 @@ add_halves-requires-clause-from c = let e = c.in-Some.ensures.first in omega (ar
 pub add_halves-requires-clause-upto : goal.add_halves-requires-clause-upto
 add_halves-requires-clause-upto c = let e = c.in-Some.ensures.last in omega (arith, ints, e)
 
+pub add_halves-requires-clause-bound_from : goal.add_halves-requires-clause-bound_from
+add_halves-requires-clause-bound_from c = let e = c.new-over.ensures.first in omega (arith, ints, e)
+
+pub add_halves-requires-clause-bound_upto : goal.add_halves-requires-clause-bound_upto
+add_halves-requires-clause-bound_upto c = let e = c.new-over.ensures.last in omega (arith, ints, e)
+
 pub returns-in-Some : goal.returns-in-Some
 returns-in-Some c = λ from found.
     let s = c.args.search.now in

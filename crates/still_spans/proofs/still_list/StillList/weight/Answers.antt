@@ -1,9 +1,12 @@
-use Rattle.std.proofs.Common.{sym, ap, ◌∙◌}
+use Rattle.std.proofs.Common.{sym, ap, ◌∙◌, Option}
+use Rattle.spec_stills.specs.declared.still.StillSpan.{StillSpan}
 use Rattle.spec_stills.specs.Weights.{weight_by}
 use Rattle.still_spans.proofs.still_list.StillList.weight.Goals as goal
 
 pub returns-in-Some-clause-weight : goal.returns-in-Some-clause-weight
-returns-in-Some-clause-weight c = c.leaves_of.ensures.leaves ∙ ap weight_by (sym c.in-Some.is ∙ c.serving.ensures.span)
+returns-in-Some-clause-weight c =
+    c.leaves_of.ensures.leaves ∙ ap (λ (found : Option StillSpan). weight_by found c.args.leaf.node) (sym c.in-Some.is ∙ c.serving.ensures.span)
 
 pub returns-in-None-clause-weight : goal.returns-in-None-clause-weight
-returns-in-None-clause-weight c = ap weight_by (sym c.in-None.is ∙ c.serving.ensures.span)
+returns-in-None-clause-weight c =
+    ap (λ (found : Option StillSpan). weight_by found c.args.leaf.node) (sym c.in-None.is ∙ c.serving.ensures.span)

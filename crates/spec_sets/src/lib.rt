@@ -10,6 +10,7 @@ pub use examples::{
     signs_of_two_conditions, sure_and_possible_signs,
 };
 pub use laws::{
-    known_signs_give_one_set, known_signs_together, leaves_tell_of_each_time, points_tell, rightly_marked_leaves_tell, runs_have_their_times,
-    signs_together, spans_are_told_by_their_times, true_signs_give_sets,
+    known_signs_give_one_set, known_signs_together, leaves_tell_of_each_time, points_tell,
+    rightly_marked_leaves_tell, runs_have_their_times, signs_together,
+    spans_are_told_by_their_times, true_signs_give_sets,
 };

@@ -21,14 +21,23 @@ pub struct Margin {
     pub exponent: i32,
 }
 
+/// What a model tells of the numbers near it at some arguments.
+#[derive(Clone, Copy)]
+pub struct Outlook {
+    /// How far from 0 all of them keep; none where some may be 0.
+    pub margin: Option<Margin>,
+    /// Whether no part of the arguments has a margin: the model is nowhere farther from 0 than its error.
+    pub is_blurred: bool,
+}
+
 impl Model {
-    /// How far from 0 all numbers keep that are near it at arguments from `first` to `last`, over `q`. None where some may
-    /// be 0.
-    pub fn margin(&self, first: i64, last: i64, q: i64) -> Option<Margin>
+    /// How far from 0 all numbers keep that are near it at arguments from `first` to `last`, over `q`, and whether that is
+    /// worth asking of parts of these arguments. No answer rests on the latter.
+    pub fn outlook(&self, first: i64, last: i64, q: i64) -> Outlook
         requires first { IsArgument first q }
         requires last { IsArgument last q }
         requires ordered { first ≤ℤ last }
-        ensures { IfSome result (λ g. (p : ℤ) (r : Fraction) → first ≤ℤ p → p ≤ℤ last
+        ensures { IfSome result.margin (λ g. (p : ℤ) (r : Fraction) → first ≤ℤ p → p ≤ℤ last
             → IsNear self.now p q r → KeepsFrom g r) }
     {
         arguments();
@@ -41,10 +50,24 @@ impl Model {
         let (middle, width) = place_of(first, last, q);
         let line = line_of(middle, width, q);
         match tangent_of(self.coefficients(), &line) {
-            Some(known) => margin_by(&known, self.error(), self.exponent()),
-            None => None,
+            Some(known) => Outlook {
+                margin: margin_by(&known, self.error(), self.exponent()),
+                is_blurred: is_blurred(&known, self.error()),
+            },
+            None => Outlook {
+                margin: None,
+                is_blurred: false,
+            },
         }
     }
+}
+
+// A tangent is nowhere farther from 0 than an error.
+#[inline(always)]
+fn is_blurred(known: &Tangent, error: u64) -> bool
+    requires known { IsSmallTangent known.now }
+{
+    known.value.unsigned_abs() + known.slope.unsigned_abs() + known.error <= error as u128
 }
 
 // That of a tangent, of which numbers are within an error.

@@ -120,15 +120,19 @@ impl Walk {
             return Ok(());
         }
         self.tries -= 1;
-        if let Some(still) = known.still_over(search, over, a, b) {
-            return self.add(search, a, b, still);
-        }
+        let doubt = match known.still_over(search, over, a, b) {
+            Ok(still) => return self.add(search, a, b, still),
+            Err(doubt) => doubt,
+        };
         if depth == 0 || is_narrow(search, a, b) {
             return Ok(());
         }
+        let Some(known) = known.within(search, doubt, a, b) else {
+            return Ok(());
+        };
         let middle = middle(a, b);
         let here = over.within(search, a, b, DEEPEST.saturating_sub(depth));
-        self.add_halves(search, known, &here, a, middle, depth - 1)?;
-        self.add_halves(search, known, &here, middle, b, depth - 1)
+        self.add_halves(search, &known, &here, a, middle, depth - 1)?;
+        self.add_halves(search, &known, &here, middle, b, depth - 1)
     }
 }

@@ -1,5 +1,5 @@
 // What is known of the function of a search over times of one granule, and the still spans that it tells.
-ghost use Rattle.std.specs.Prelude.{◌≡◌, ◌^◌, ◌-ℤ◌, ◌≤ℤ◌, ◌<ℤ◌, pos, neg_ℤ, IfSome};
+ghost use Rattle.std.specs.Prelude.{◌≡◌, ◌^◌, ◌-ℤ◌, ◌≤ℤ◌, ◌<ℤ◌, pos, neg_ℤ, IfOk, IfSome};
 ghost use Rattle.spec_bodies.specs.Views.{Fits};
 ghost use Rattle.spec_bounds.specs.Steady.{sign_at};
 ghost use Rattle.spec_stills.specs.Margins.{HasMargin};
@@ -10,9 +10,21 @@ ghost use Rattle.still_spans.specs.Knowledge.{IsBounded, IsKnown, argument_of, s
 use crate::span_bound::SpanBound;
 use event_judge::EventSearch;
 use event_models::model_over;
-use span_models::{Margin, Model};
+use span_models::{Model, Outlook};
 use spec_stills::StillSpan;
 use spec_stills::margin_laws::margins_tell_signs;
+
+/// How many times as wide the times of a model are, at least, as those of one that tells more.
+const FINER: u64 = 64;
+
+/// Why no still span is found over some times.
+#[derive(Clone, Copy)]
+pub(crate) enum Doubt {
+    /// There may be some in parts of them.
+    Parts,
+    /// The model tells of none in any part.
+    Blurred,
+}
 
 /// A model of the function of a search over times of one granule.
 #[derive(Clone, Copy)]
@@ -61,31 +73,32 @@ impl Known {
         self.last - self.first
     }
 
-    // How far the function keeps from 0 from one of its times to another, and on which side.
-    fn margin(&self, search: &EventSearch, a: i64, b: i64) -> Option<Margin>
+    // What the model tells from one of its times to another: how far the function keeps from 0, and on which side.
+    fn outlook(&self, search: &EventSearch, a: i64, b: i64) -> Outlook
         requires known { IsKnown search.now self.now }
         requires from { self.now.first ≤ℤ a }
         requires several { a <ℤ b }
         requires upto { b ≤ℤ self.now.last }
-        ensures margin { IfSome result (λ margin.
+        ensures margin { IfSome result.margin (λ margin.
             HasMargin search.now a b (margin_of margin)) }
-        ensures sign { IfSome result (λ margin. sign_at search.now a ≡ side margin) }
+        ensures sign { IfSome result.margin (λ margin. sign_at search.now a ≡ side margin) }
     {
         margins_tell_signs();
         let _search = search.width();
         let (first, last) = (self.argument(a), self.argument(b));
         let length = self.length();
-        self.model.margin(first, last, length)
+        self.model.outlook(first, last, length)
     }
 
-    /// The still span from one of its times to another, where there is one of use, given a bound over these times at least.
+    /// The still span from one of its times to another, where there is one of use, given a bound over these times at least;
+    /// else whether there may be some in parts of these times.
     pub(crate) fn still_over(
         &self,
         search: &EventSearch,
         over: &SpanBound,
         a: i64,
         b: i64,
-    ) -> Option<StillSpan>
+    ) -> Result<StillSpan, Doubt>
         requires known { IsKnown search.now self.now }
         requires from { self.now.first ≤ℤ a }
         requires several { a <ℤ b }
@@ -93,11 +106,36 @@ impl Known {
         requires bounded { IsBounded search.now over.now }
         requires bound_from { over.now.first ≤ℤ a }
         requires bound_upto { b ≤ℤ over.now.last }
-        ensures { IfSome result (λ still. IsStillOver search.now a b still) }
+        ensures { IfOk result (λ still. IsStillOver search.now a b still) }
     {
-        match self.margin(search, a, b) {
-            Some(margin) => over.still_by(search, margin, a, b),
-            None => None,
+        let outlook = self.outlook(search, a, b);
+        match outlook.margin {
+            Some(margin) => over.still_by(search, margin, a, b).ok_or(Doubt::Parts),
+            None if outlook.is_blurred => Err(Doubt::Blurred),
+            None => Err(Doubt::Parts),
         }
+    }
+
+    /// What is known over some of its times, to be asked of parts of these: a model over them alone, where that over more is
+    /// blurred there. None where no model tells more.
+    pub(crate) fn within(&self, search: &EventSearch, doubt: Doubt, a: i64, b: i64) -> Option<Known>
+        requires known { IsKnown search.now self.now }
+        requires from { self.now.first ≤ℤ a }
+        requires several { a <ℤ b }
+        requires upto { b ≤ℤ self.now.last }
+        ensures known { IfSome result (λ known. IsKnown search.now known) }
+        ensures from { IfSome result (λ known. known.first ≤ℤ a) }
+        ensures upto { IfSome result (λ known. b ≤ℤ known.last) }
+    {
+        match doubt {
+            Doubt::Parts => Some(*self),
+            Doubt::Blurred if self.is_far_wider(a, b) => Known::over(search, a, b),
+            Doubt::Blurred => None,
+        }
+    }
+
+    // Its times take so much longer than some of them that a model over these alone tells more.
+    fn is_far_wider(&self, a: i64, b: i64) -> bool {
+        b.abs_diff(a) <= self.last.abs_diff(self.first) / FINER
     }
 }

@@ -4,7 +4,7 @@ use mir.Val.{SFits}
 use Rattle.span_models.specs.Tangents.{IsPlace, line, tangent}
 use Rattle.span_models.proofs.Exponents.{exponent_kept}
 use Rattle.span_models.proofs.NearMargins.{margin_known}
-use Rattle.span_models.proofs.model.Model.margin.Goals as goal
+use Rattle.span_models.proofs.model.Model.outlook.Goals as goal
 
 pub returns-in-Some : goal.returns-in-Some
 returns-in-Some c =

@@ -34,8 +34,9 @@ pub use file_laws::{
     later_texts_follow, one_answer_is_true, texts_with_a_fault_are_refused,
 };
 pub use header_examples::{
-    a_header_is_read, headers_are_read_at_their_limits, some_words_are_skipped, the_columns_are_refused, the_constants_are_refused,
-    the_first_lines_are_refused, wider_headers_are_read,
+    a_header_is_read, headers_are_read_at_their_limits, some_words_are_skipped,
+    the_columns_are_refused, the_constants_are_refused, the_first_lines_are_refused,
+    wider_headers_are_read,
 };
 pub use header_laws::{accepted_headers_count_seconds, accepted_headers_meet_the_rules};
 pub use limits::{MAX_BLOCK_DAYS, MAX_CONSTANTS, MAX_FILES};

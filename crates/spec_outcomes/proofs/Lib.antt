@@ -6,3 +6,5 @@ pub mod SpanTimes
 pub mod Passings
 pub mod SetSigns
 pub mod SetOutcomes
+mod Counting
+mod Cutting

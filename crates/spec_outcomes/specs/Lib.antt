@@ -5,3 +5,4 @@ pub mod Certificates
 pub mod Scalars
 pub mod ScalarExamples
 pub mod Sets
+pub mod Asked

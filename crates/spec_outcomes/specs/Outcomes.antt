@@ -26,13 +26,13 @@ abbrev pub Outcome : Type 0
 Outcome = Result (List ℕ) Refusal
 
 -- ---- causes
--- why there is no search of a span, where the span is one of the ephemeris or isn't, and the event has a fault or none
+-- why there is no search of a span, where the span is one of the ephemeris or is not, and the event has a fault or none
 abbrev pub cause_by : Bool → Option EventFault → Span → Span → Option Refusal
 cause_by false fault span whole = Some (Outside span whole)
 cause_by true (Some fault) span whole = Some (Event fault)
 cause_by true None span whole = None
 
--- why the events of a query can't be searched for over a span of an ephemeris
+-- why the events of a query cannot be searched for over a span of an ephemeris
 abbrev pub cause_of : Query → Ephemeris → Span → Option Refusal
 cause_of q e span = cause_by (is_within span e) (fault_of e q.ask) span (whole_span e)
 

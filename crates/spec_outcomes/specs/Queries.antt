@@ -49,7 +49,7 @@ conjunctions = record {
 abbrev pub whole_span : Ephemeris → Span
 whole_span e = record { from = e.start; upto = end_of e }
 
--- the ephemeris begins or ends the span where the words don't
+-- the ephemeris begins or ends the span where the words do not
 abbrev pub span_of : FindAsk → Ephemeris → Span
 span_of find e = record { from = unwrap_or find.from e.start; upto = unwrap_or find.to (end_of e) }
 

@@ -1,8 +1,11 @@
 // What is true of every run over an ephemeris.
-ghost use Rattle.std.specs.Prelude.{◌≡◌, ◌≢◌, ◌<◌, ◌<ℤ◌, None};
+ghost use Rattle.std.specs.Prelude.{◌≡◌, ◌≢◌, ◌<◌, ◌≤◌, ◌<ℤ◌, ◌≤ℤ◌, ◌-ℤ◌, None, false, pos, true};
 ghost use Rattle.spec_ephemeris.specs.Ephemeris.{Ephemeris, IsEphemeris};
+ghost use Rattle.spec_trees.specs.declared.tree.Node.{Node};
+ghost use Rattle.spec_searches.specs.Search.{Search, crosses};
 ghost use Rattle.spec_requests.specs.declared.request.ScalarAsk.{ScalarAsk};
 ghost use Rattle.spec_requests.specs.Limits.{IsScalarWithinLimits};
+ghost use Rattle.spec_outcomes.specs.Certificates.{cutting};
 ghost use Rattle.spec_outcomes.specs.Outcomes.{cause_of};
 ghost use Rattle.spec_outcomes.specs.Queries.{AreFound, IsQuery, leaves_in, search};
 ghost use Rattle.spec_outcomes.specs.Refusals.{status_of};
@@ -29,4 +32,16 @@ pub fn polynomials_pass_0_in_their_windows()
 pub fn causes_are_no_texts()
     ensures reported { (refusal : Refusal) → status_of refusal ≢ REPORTED }
     ensures unwritten { (refusal : Refusal) → status_of refusal ≢ NOT_WRITTEN }
+{}
+
+/// A certificate may cut a node further than the search does, whatever its verdict: each that is wider than a tick, where it
+/// lies above the deepest ones or has a border inside; and no other.
+pub fn nodes_may_be_cut_further()
+    ensures above { (s : Search) (n : Node) → pos 1 <ℤ (n.b -ℤ n.a) → n.depth < s.depth
+        → (cutting s).may n ≡ true }
+    ensures border { (s : Search) (n : Node) → pos 1 <ℤ (n.b -ℤ n.a) → crosses s n ≡ true
+        → (cutting s).may n ≡ true }
+    ensures narrow { (s : Search) (n : Node) → (n.b -ℤ n.a) ≤ℤ pos 1 → (cutting s).may n ≡ false }
+    ensures below { (s : Search) (n : Node) → crosses s n ≡ false → s.depth ≤ n.depth
+        → (cutting s).may n ≡ false }
 {}

@@ -11,10 +11,12 @@ mod scalar_examples;
 mod set_examples;
 mod set_laws;
 mod statuses;
+mod tick_laws;
 
-pub use examples::{causes_have_an_order, statuses_of_causes};
+pub use examples::{causes_have_an_order, statuses_of_causes, statuses_of_texts};
 pub use laws::{
-    causes_are_no_texts, polynomials_pass_0_in_their_windows, searches_find_the_events,
+    causes_are_no_texts, nodes_may_be_cut_further, polynomials_pass_0_in_their_windows,
+    searches_find_the_events,
 };
 pub use query::{Query, Span, conjunctions, query_of};
 pub use refusal::Refusal;
@@ -25,3 +27,4 @@ pub use statuses::{
     CERTIFICATE_REFUSED, EVENT_REFUSED, FILES_REFUSED, NOT_READ, NOT_WRITTEN, OUT_OF_MEMORY,
     REPORTED, SPAN_REFUSED, TOO_MANY_LEAVES, WORDS_REFUSED,
 };
+pub use tick_laws::{searches_count_ticks, spans_are_compared_in_ticks};

@@ -17,11 +17,11 @@ pub enum Refusal {
     Words { number: u8, option: Option<Named> },
     /// The file of this name has the first fault, or is the first of too many.
     File { name: Text, fault: Fault },
-    /// The file of this name couldn't be read.
+    /// The file of this name could not be read.
     NotRead { name: Text },
-    /// The span isn't one of the files, whose whole span the other is.
+    /// The span is not one of the files, whose whole span the other is.
     Outside { span: Span, whole: Span },
-    /// The event can't be searched for in the files.
+    /// The event cannot be searched for in the files.
     Event(EventFault),
     /// The search has more leaves than this, the most that it may have.
     TooManyLeaves { most: u32 },

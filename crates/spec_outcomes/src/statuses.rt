@@ -9,16 +9,16 @@ pub const WORDS_REFUSED: u8 = 2;
 /// The files have a first fault, or there are too many of them.
 pub const FILES_REFUSED: u8 = 3;
 
-/// A file couldn't be read.
+/// A file could not be read.
 pub const NOT_READ: u8 = 4;
 
-/// What the words ask for couldn't be written whole.
+/// What the words ask for could not be written whole.
 pub const NOT_WRITTEN: u8 = 5;
 
-/// The span that is asked for isn't one of the files.
+/// The span that is asked for is not one of the files.
 pub const SPAN_REFUSED: u8 = 6;
 
-/// The event can't be searched for in the files.
+/// The event cannot be searched for in the files.
 pub const EVENT_REFUSED: u8 = 7;
 
 /// Out of memory.

@@ -107,3 +107,22 @@ set_line = rw (number_60, number_40) refl
 pub lines_of_two_spans : (sure possible : List ℕ) → sure ++ [] ++ (possible ++ []) ++ (codes "END sure " ++ decimal 1 ++ (codes " possible " ++ decimal 1 ++ codes "\n"))
     ≡ sure ++ possible ++ codes "END sure 1 possible 1\n"
 lines_of_two_spans sure possible = λ i. append-nil sure i ++ append-nil possible i ++ (codes "END sure " ++ number_1 i ++ (codes " possible " ++ number_1 i ++ codes "\n"))
+
+-- two windows, one certain and one undecided, whose lines are these, after this text
+pub report_of_two_windows : (text certain undecided : List ℕ)
+    → text ++ (certain ++ (undecided ++ [])) ++ (codes "END certain " ++ decimal 1 ++ (codes " undecided " ++ decimal 1 ++ codes "\n"))
+    ≡ text ++ (certain ++ undecided) ++ codes "END certain 1 undecided 1\n"
+report_of_two_windows text certain undecided = λ i.
+    text ++ (certain ++ append-nil undecided i) ++ (codes "END certain " ++ number_1 i ++ (codes " undecided " ++ number_1 i ++ codes "\n"))
+
+-- no window after this text
+pub report_of_no_window : (text : List ℕ)
+    → text ++ [] ++ (codes "END certain " ++ decimal 0 ++ (codes " undecided " ++ decimal 0 ++ codes "\n"))
+    ≡ text ++ codes "END certain 0 undecided 0\n"
+report_of_no_window text = λ i. append-nil text i ++ (codes "END certain " ++ number_0 i ++ (codes " undecided " ++ number_0 i ++ codes "\n"))
+
+-- and a certificate of nine leaves
+pub verified_without_window : (text : List ℕ)
+    → text ++ [] ++ (codes "END certain " ++ decimal 0 ++ (codes " undecided " ++ decimal 0 ++ codes "\n")) ++ (codes "VERIFIED leaves " ++ decimal 9 ++ codes "\n")
+    ≡ text ++ codes "END certain 0 undecided 0\n" ++ codes "VERIFIED leaves 9\n"
+verified_without_window text = λ i. report_of_no_window text i ++ (codes "VERIFIED leaves " ++ number_9 i ++ codes "\n")

@@ -9,7 +9,8 @@ ghost use Rattle.spec_trees.specs.declared.cuts.CutRule.TheVariants.{Half};
 ghost use Rattle.spec_kinds.specs.declared.kind.Kind.TheVariants.{Apsis, Coord};
 ghost use Rattle.spec_trees.specs.declared.tree.Turn.TheVariants.{Fall, Rise};
 ghost use Rattle.spec_trees.specs.declared.window.Holds.TheVariants.{Certain, Undecided};
-ghost use Rattle.spec_output.specs.Report.{axis_of_kind, end_line, query_line, query_text, relation_text, scalar_report, second_name, set_lines, set_report, span_text, ticks_text, turns_text, verified_line};
+ghost use Rattle.spec_trees.specs.Examples.{window};
+ghost use Rattle.spec_output.specs.Report.{axis_of_kind, end_line, generation, query_line, query_text, relation_text, report, request_line, scalar_report, second_name, set_lines, set_report, span_text, ticks_text, turns_text, verification, verified_line};
 ghost use Rattle.spec_output.specs.Summary.{column_lines, column_name};
 
 /// Only a coordinate has an axis, and only kinds of two bodies have a second body.
@@ -40,6 +41,25 @@ pub fn windows_are_counted()
         ∷ record { first = pos 2; last = pos 5; holds = Undecided }
         ∷ record { first = pos 9; last = pos 9; holds = Certain Fall } ∷ [])
         ≡ codes "END certain " ++ decimal 2 ++ (codes " undecided " ++ decimal 1 ++ codes "\n") }
+{}
+
+/// A report is the line of its request, a line for each window and one with their counts; that of a certificate has a line
+/// more, with the number of its leaves. Of a generated text the size is printed, and the counts.
+pub fn reports_end_with_their_counts()
+    ensures windows { report (search_in (codes "a")) (pos 1_339_000) (pos 1_339_400)
+        (window (pos 1_339_200) (pos 1_339_200) (Certain Rise) ∷ window (pos 1_339_300) (pos 1_339_400) Undecided ∷ [])
+        ≡ request_line (search_in (codes "a")) (pos 1_339_000) (pos 1_339_400) ++ codes "\n"
+        ++ (codes "C " ++ span_text 1 (pos 1_339_200) (pos 1_339_200) ++ codes " rise\n"
+        ++ (codes "U " ++ span_text 1 (pos 1_339_300) (pos 1_339_400) ++ codes "\n"))
+        ++ codes "END certain 1 undecided 1\n" }
+    ensures no_window { report (search_in (codes "a")) (pos 1_339_000) (pos 1_339_400) []
+        ≡ request_line (search_in (codes "a")) (pos 1_339_000) (pos 1_339_400) ++ codes "\n"
+        ++ codes "END certain 0 undecided 0\n" }
+    ensures certificate { verification (search_in (codes "a")) (pos 1_339_000) (pos 1_339_400) [] 9
+        ≡ request_line (search_in (codes "a")) (pos 1_339_000) (pos 1_339_400) ++ codes "\n"
+        ++ codes "END certain 0 undecided 0\n" ++ codes "VERIFIED leaves 9\n" }
+    ensures generated { generation 2 9 50 (window (pos 1) (pos 1) (Certain Rise) ∷ [])
+        ≡ codes "GEN 405 blocks 2 seed 9 bytes 50\nEND certain 1 undecided 0\n" }
 {}
 
 /// The times at which Mercury's x is below 0, about the one at which it rises, in windows of a minute: the first line names

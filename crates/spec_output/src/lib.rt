@@ -11,8 +11,9 @@ mod limits;
 
 pub use columns::COLUMN_BODIES;
 pub use examples::{
-    columns_have_names, dashes_stand_for_nothing, requests_are_printed, scalars_are_printed,
-    sets_are_printed, ticks_are_printed, windows_are_counted,
+    columns_have_names, dashes_stand_for_nothing, reports_end_with_their_counts,
+    requests_are_printed, scalars_are_printed, sets_are_printed, ticks_are_printed,
+    windows_are_counted,
 };
 pub use laws::{
     faults_are_named, texts_are_written, the_line_of_a_request_is_a_line, the_lines_of_events,

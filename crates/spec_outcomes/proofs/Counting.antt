@@ -3,7 +3,7 @@ use Rattle.std.proofs.Common.{◌≡◌, ◌<◌, ℕ, Bool, true, false, if◌t
 use Rattle.std.specs.Prelude.{unwrap_or}
 use Rattle.spec_text.specs.declared.decimals.Decimal.{Decimal}
 use Rattle.spec_intervals.specs.declared.signs.Sign.{Sign}
-use Rattle.spec_ephemeris.specs.Ephemeris.{Ephemeris, IsEphemeris, end_of}
+use Rattle.spec_ephemeris.specs.Ephemeris.{Ephemeris, IsEphemeris}
 use Rattle.spec_ephemeris.specs.Ticks.{IsInSeconds, IsTick, in_ticks}
 use Rattle.spec_ephemeris.proofs.Ticks.{are_checked, end_in_ticks}
 use Rattle.spec_trees.specs.declared.tree.Leaf.{Leaf}

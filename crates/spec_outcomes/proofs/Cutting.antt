@@ -1,5 +1,5 @@
 -- Which nodes a certificate may cut.
-use Rattle.std.proofs.Common.{◌≡◌, ◌<◌, ◌≤◌, ◌&&◌, ◌||◌, ℕ, nat_lt, Bool, true, false, ℤ, pos, ◌-ℤ◌, ◌<ℤ◌, ◌≤ℤ◌, int_lt, arith}
+use Rattle.std.proofs.Common.{◌≡◌, ◌<◌, ◌≤◌, ◌&&◌, ◌||◌, ℕ, nat_lt, Bool, true, false, ℤ, pos, ◌<ℤ◌, ◌≤ℤ◌, int_lt, arith}
 use Rattle.std.proofs.lemmas.Int.{ints}
 
 pub cut_above : (width : ℤ) (crosses : Bool) (depth most : ℕ) → pos 1 <ℤ width → depth < most

@@ -1,9 +1,9 @@
 -- Known signs make known signs together, and one set of times.
-use Rattle.std.proofs.Common.{◌≡◌, Bool, true, false, not, ◌&&◌, ◌||◌, int_le, List, ℤ, ◌≤ℤ◌, refl, sym, ap, ◌∙◌}
+use Rattle.std.proofs.Common.{◌≡◌, Bool, true, false, not, ◌&&◌, ◌||◌, List, ℤ, ◌≤ℤ◌, refl, ap, ◌∙◌}
 use Rattle.spec_intervals.specs.declared.signs.Sign.{Sign}
 use Rattle.spec_sets.specs.Pairs.{AreOf}
 use Rattle.spec_sets.specs.Signs.{both, either, is_possible, is_sure, known, opposite}
-use Rattle.spec_sets.specs.Spans.{Span, has, is_between, is_in}
+use Rattle.spec_sets.specs.Spans.{Span, has, is_between}
 use Rattle.spec_sets.proofs.Members.{in_parts}
 
 pub opposite_is : (a : Bool) → opposite (known a) ≡ known (not a)

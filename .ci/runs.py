@@ -8,7 +8,7 @@ import re
 import shutil
 import subprocess
 import tempfile
-from typing import List, Tuple
+from typing import List
 
 import planting
 from planting import Edit
@@ -27,8 +27,8 @@ def commands(edit: Edit) -> List[str]:
     return [*words, *data, "--", *edit.run[1:]]
 
 
-def ran(edit: Edit) -> Tuple[int, str]:
-    """Runs what an edit names, over a copy of the crates in which it is made: the status, and all that was written."""
+def ran(edit: Edit) -> str:
+    """Runs what an edit names, over a copy of the crates in which it is made, and returns all that was written."""
     with tempfile.TemporaryDirectory(prefix="planted-") as room:
         shutil.copytree("crates", f"{room}/crates", ignore=shutil.ignore_patterns("out"))
         for name in ("crates.txt", "HANDLES"):
@@ -48,17 +48,17 @@ def ran(edit: Edit) -> Tuple[int, str]:
                 check=False,
             )
         except subprocess.TimeoutExpired as late:
-            return 124, (late.stdout or b"").decode(errors="replace")
-        return done.returncode, done.stdout.decode(errors="replace")
+            return (late.stdout or b"").decode(errors="replace")
+        return done.stdout.decode(errors="replace")
 
 
-def why_not_failed(edit: Edit, status: int, text: str) -> str:
+def why_not_failed(edit: Edit, text: str) -> str:
     """Why a run does not refuse the edit, or nothing where it does."""
     if os.path.isfile(f"crates/{edit.run[0]}/src/main.rt"):
-        told = re.findall(r"^(differs: .{0,60}|is no row: .{0,60}|run=\S+.*)", text, re.M)
-        if status == 0:
-            return "the program ends with status 0"
-        return "" if told and "no-answer" not in text else f"the program does not run: {text.strip()[-200:]}"
+        ended = re.search(r"^run=ended status=(\d+)", text, re.M)
+        if not ended:
+            return f"the program does not run: {text.strip()[-200:]}"
+        return "" if ended[1] != "0" else "the program ends with status 0"
     found = re.search(rf"^test {re.escape(edit.run[1])} \.\.\. (\w+)((?:\n {{4}}.*)*)", text, re.M)
     if not found:
         return f"the test does not run: {text.strip()[-200:]}"

@@ -2,8 +2,8 @@
 
 An edit has lines `file: PATH`, `old: TEXT` and `new: TEXT`, as `rt` reads them, and `only: MODULE::FUNCTION`, once for
 each function of which the proof has to be refused. Where no contract can refuse it, it has in place of these one line
-`run: CRATE MODULE::TEST`, of a test of that crate that has to fail, or `run: CRATE FILE ..`, of a program that has to fail
-over these files of its data. It stands in crates/CRATE/must-fail, planted/CRATE or mutations/CRATE."""
+`run: CRATE MODULE::TEST`, of a test of that crate that has to fail, or `run: CRATE FILE ..`, of a program that has to
+fail over these files of its data. It stands in crates/CRATE/must-fail, planted/CRATE or mutations/CRATE."""
 
 import os
 import re
@@ -33,7 +33,7 @@ class Pair:
 
 @dataclass(frozen=True)
 class Edit:
-    """A planted bug, and the functions of its crate whose proofs have to be refused, or the words of the run that fails."""
+    """A planted bug, and the functions whose proofs have to be refused, or the words of the run that has to fail."""
 
     path: str
     crate: str

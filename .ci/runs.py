@@ -1,7 +1,7 @@
 """Planted bugs that no contract refuses: a test, or a program over its tables, has to fail with each.
 
-An edit with a line `run:` is made in a copy of the crates, and what it names is run there, unproved. It is refused where
-that runs and fails: a crate that cannot be built counts for nothing, and neither does a run past the limit."""
+An edit with a line `run:` is made in a copy of the crates, and what it names is run there, unproved. It is refused
+where that runs and fails: a crate that cannot be built counts for nothing, and neither does a run past the limit."""
 
 import os
 import re

@@ -17,7 +17,7 @@ class Runs(unittest.TestCase):
     """Only a run that ends, and fails, refuses an edit."""
 
     def test_a_test_that_fails(self) -> None:
-        said = "tests: 2\ntest calls::other ... ok\ntest calls::one ... FAILED\n    checked: exit=101\ntest result: FAILED.\n"
+        said = "tests: 2\ntest calls::other ... ok\ntest calls::one ... FAILED\n    checked: exit=101\n"
         self.assertEqual(runs.why_not_failed(TEST, said), "")
 
     def test_a_test_that_passes(self) -> None:

@@ -1,11 +1,12 @@
 // The words of a line within a block, from left to right.
-ghost use Rattle.std.specs.Prelude.{◌≡◌, ◌<◌, length, take};
+ghost use Rattle.std.specs.Prelude.{◌≡◌, ◌+◌, ◌<◌, ◌≤◌, length, take};
+ghost use Rattle.de_text.specs.Triples.{AreTriple};
 ghost use Rattle.spec_files.specs.Sections.{ruled_at};
 ghost use Rattle.de_blocks.specs.Steps.{Reads, ReadsNumbers, on_line, zeros_on};
 
 use crate::block::OpenBlock;
 use crate::rules::trailing_rule;
-use de_text::{Line, Words};
+use de_text::{Line, Triple, Words};
 use spec_files::{ReadError, ruled_at};
 use spec_text::Fault;
 
@@ -47,9 +48,9 @@ fn check_zeros(line: u32, words: Words<'_>) -> Result<(), Fault>
     Ok(())
 }
 
-// Reads a line after the numbers of a block that isn't whole yet. Where it fails, some of the line's numbers may stand
-// after those that were there before.
-pub(crate) fn read_line(block: &mut OpenBlock, line: &Line<'_>) -> Result<(), ReadError>
+// Reads the words of a line one by one.
+#[inline(never)]
+fn read_words(block: &mut OpenBlock, line: &Line<'_>) -> Result<(), ReadError>
     requires { length block.old.numbers < block.old.accepted.header.ncoeff }
     ensures reads { Reads line.now.number
         (on_line block.old.accepted block.old.numbers line.now.tokens) result block.new.numbers }
@@ -61,4 +62,60 @@ pub(crate) fn read_line(block: &mut OpenBlock, line: &Line<'_>) -> Result<(), Re
     read_numbers(block, number, &mut words)?;
     check_zeros(number, words)?;
     Ok(())
+}
+
+// Puts the three numbers that are the words of a line after the others, which are so many.
+#[inline(always)]
+fn push_triple(
+    block: &mut OpenBlock,
+    line: &Line<'_>,
+    count: usize,
+    triple: Triple,
+) -> Result<(), ReadError>
+    requires triple { AreTriple line.now.tokens triple }
+    requires count { count ≡ length block.old.numbers }
+    requires few { count + 3 ≤ block.old.accepted.header.ncoeff }
+    ensures reads { Reads line.now.number
+        (on_line block.old.accepted block.old.numbers line.now.tokens) result block.new.numbers }
+    ensures front { take (length block.old.numbers) block.new.numbers ≡ block.old.numbers }
+    ensures same { block.new.accepted ≡ block.old.accepted }
+{
+    let number = line.number();
+    block.push_number(number, count, triple.first)?;
+    block.push_number(number, count + 1, triple.second)?;
+    block.push_number(number, count + 2, triple.third)?;
+    Ok(())
+}
+
+// Reads a line whose words are three numbers, which go in at once where the block wants as many.
+#[inline(always)]
+fn read_triple(block: &mut OpenBlock, line: &Line<'_>, triple: Triple) -> Result<(), ReadError>
+    requires triple { AreTriple line.now.tokens triple }
+    requires few { length block.old.numbers < block.old.accepted.header.ncoeff }
+    ensures reads { Reads line.now.number
+        (on_line block.old.accepted block.old.numbers line.now.tokens) result block.new.numbers }
+    ensures front { take (length block.old.numbers) block.new.numbers ≡ block.old.numbers }
+    ensures same { block.new.accepted ≡ block.old.accepted }
+{
+    let count = block.count();
+    if count + 3 <= block.header().ncoeff as usize {
+        push_triple(block, line, count, triple)
+    } else {
+        read_words(block, line)
+    }
+}
+
+// Reads a line after the numbers of a block that isn't whole yet. Where it fails, some of the line's numbers may stand
+// after those that were there before.
+pub(crate) fn read_line(block: &mut OpenBlock, line: &Line<'_>) -> Result<(), ReadError>
+    requires { length block.old.numbers < block.old.accepted.header.ncoeff }
+    ensures reads { Reads line.now.number
+        (on_line block.old.accepted block.old.numbers line.now.tokens) result block.new.numbers }
+    ensures front { take (length block.old.numbers) block.new.numbers ≡ block.old.numbers }
+    ensures same { block.new.accepted ≡ block.old.accepted }
+{
+    match line.triple() {
+        Some(triple) => read_triple(block, line, triple),
+        None => read_words(block, line),
+    }
 }

@@ -9,3 +9,5 @@ pub mod TokenPlaces
 pub mod TokenRuns
 pub mod Sizes
 pub mod Numbers
+pub mod Prefixes
+pub mod Triples

@@ -2,3 +2,4 @@ pub mod Cursor
 pub mod Steps
 pub mod Parts
 pub mod Sizes
+pub mod Triples

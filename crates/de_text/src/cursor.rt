@@ -1,14 +1,18 @@
 // A cursor over the lines of a text.
-ghost use Rattle.std.specs.Prelude.{◌≡◌, ◌+◌, ◌<◌, ◌≤◌, length, slice_get};
+ghost use Rattle.std.specs.Prelude.{◌≡◌, ◌+◌, ◌<◌, ◌≤◌, IfNone, IfSome, length, slice_get};
 ghost use Rattle.std.specs.Option.{option_copied};
 ghost use Rattle.spec_text.specs.Lines.{lines, text_lines};
 ghost use Rattle.spec_text.specs.Reading.{whole_at};
 ghost use Rattle.de_text.specs.Cursor.{counted_after};
 ghost use Rattle.de_text.specs.Steps.{lines_after, step_of};
+ghost use Rattle.de_text.specs.Triples.{AreTriple};
+ghost use Rattle.de_text.specs.declared.cursor.LineStep.TheVariants as steps;
 
 use crate::decimal::read_whole;
+use crate::fields::cut_triple;
 use crate::lines::{cut_line, line_count};
 use crate::tokens::{count, is_blank, token};
+use crate::triple::Triple;
 use crate::words::Words;
 use spec_text::{MAX_LINE_BYTES, MAX_TEXT_BYTES};
 use std::marker::Model;
@@ -18,17 +22,20 @@ use std::marker::Model;
 pub struct Line<'a> {
     number: u32,
     bytes: &'a [u8],
+    triple: Option<Triple>,
 }
 
 impl<'a> Model for Line<'a> {
-    ghost use Rattle.std.specs.Prelude.{◌<◌, length};
+    ghost use Rattle.std.specs.Prelude.{◌<◌, IfSome, length};
     ghost use Rattle.spec_text.specs.Lines.{TokenLine, tokens};
+    ghost use Rattle.de_text.specs.Triples.{AreTriple};
 
     ghost Value = { TokenLine };
 
     ghost view = { λ l. record { number = l.number; tokens = tokens l.bytes.now } };
 
-    ghost invariant = { λ l. 0 < length (tokens l.bytes.now) };
+    ghost invariant = { λ l. (0 < length (tokens l.bytes.now))
+        × IfSome l.triple (λ t. AreTriple (tokens l.bytes.now) t) };
 }
 
 impl<'a> Line<'a> {
@@ -62,6 +69,14 @@ impl<'a> Line<'a> {
             Some(word) => read_whole(word),
             None => None,
         }
+    }
+
+    /// The line's three numbers, where they are its only tokens and were read with it by `plain_line`.
+    #[inline(always)]
+    pub fn triple(&self) -> Option<Triple>
+        ensures { IfSome result (λ t. AreTriple self.now.tokens t) }
+    {
+        self.triple
     }
 
     /// A cursor over the line's tokens, from left to right.
@@ -124,12 +139,38 @@ fn next_line<'a>(text: &'a [u8], before: u32) -> (LineStep<'a>, &'a [u8], u32)
             return (LineStep::TooLong(number), rest, passed);
         }
         if !is_blank(bytes) {
-            return (LineStep::Line(Line { number, bytes }), after, number);
+            let line = Line {
+                number,
+                bytes,
+                triple: None,
+            };
+            return (LineStep::Line(line), after, number);
         }
         rest = after;
         passed = number;
     }
     (LineStep::End, rest, passed)
+}
+
+// The next line, where it has three numbers as JPL writes them, with the text after it and its number.
+#[inline(always)]
+fn next_triple<'a>(text: &'a [u8], before: u32) -> Option<(Line<'a>, &'a [u8], u32)>
+    requires { before + length text.now ≤ MAX_TEXT_BYTES }
+    ensures step { IfSome result (λ r. step_of (counted_after before text.now) ≡ steps.Line r.0) }
+    ensures left { IfSome result (λ r. counted_after r.2 r.1.now
+        ≡ lines_after (counted_after before text.now)) }
+    ensures end { IfSome result (λ r. r.2 + length (lines r.1.now)
+        ≡ before + length (lines text.now)) }
+    ensures fits { IfSome result (λ r. r.2 + length r.1.now ≤ before + length text.now) }
+{
+    let found = cut_triple(text)?;
+    let number = before + 1;
+    let line = Line {
+        number,
+        bytes: found.bytes,
+        triple: Some(found.triple),
+    };
+    Some((line, found.rest, number))
 }
 
 impl<'a> Tokens<'a> {
@@ -155,6 +196,20 @@ impl<'a> Tokens<'a> {
         self.rest = rest;
         self.passed = passed;
         step
+    }
+
+    /// The next line with its numbers, where it has three as JPL writes those of blocks. Elsewhere nothing is passed.
+    #[inline(always)]
+    pub fn plain_line(&mut self) -> Option<Line<'a>>
+        ensures step { IfSome result (λ line. step_of self.old.left ≡ steps.Line line) }
+        ensures left { IfSome result (λ line. self.new.left ≡ lines_after self.old.left) }
+        ensures other { IfNone result (self.new ≡ self.old) }
+        ensures end_line { self.new.end_line ≡ self.old.end_line }
+    {
+        let (line, rest, passed) = next_triple(self.rest, self.passed)?;
+        self.rest = rest;
+        self.passed = passed;
+        Some(line)
     }
 
     /// The number of lines of the whole text plus 1, at every time: where a text ends that ends too early.

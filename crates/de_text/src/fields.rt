@@ -1,14 +1,17 @@
 // Numbers in the form in which JPL writes those of blocks, cut from the front of a line.
-ghost use Rattle.std.specs.Prelude.{◌≡◌, ◌-◌, ◌<◌, ◌≤◌, ◌∷◌, IfSome, IsTrue, List, Ok, ℕ, drop, length, slice_index, take, true};
-ghost use Rattle.spec_text.specs.Lines.{is_separator, tokens};
+ghost use Rattle.std.specs.Prelude.{◌≡◌, ◌+◌, ◌-◌, ◌<◌, ◌≤◌, ◌∷◌, IfSome, IsTrue, List, Ok, ℕ, drop, false, length, slice_index, take, true};
+ghost use Rattle.spec_text.specs.Lines.{is_line_feed, is_separator, lines, tokens};
 ghost use Rattle.spec_text.specs.Reading.{reading};
 ghost use Rattle.spec_text.specs.Splitting.{sign_at};
 ghost use Rattle.spec_text.specs.declared.limits.TheConstants.{MAX_WORD_BYTES};
 ghost use Rattle.de_text.specs.Parts.{is_minus};
+ghost use Rattle.de_text.specs.Triples.{AreTriple};
 
 use crate::decimal::assemble;
+use crate::lines::without_return;
 use crate::parts::split_signless;
-use crate::tokens::is_separator;
+use crate::tokens::{is_blank, is_separator};
+use crate::triple::Triple;
 use spec_text::Decimal;
 
 // A blank, a blank or a minus, a digit, a point, eighteen digits, and an exponent of two.
@@ -80,8 +83,12 @@ fn read_signless(negative: bool, digits: &[u8], word: &[u8]) -> Option<Decimal>
 // The number at the front of a line, and what follows it, where it is written in the form.
 #[inline(always)]
 pub(crate) fn cut_number(line: &[u8]) -> Option<(Decimal, &[u8])>
-    ensures { IfSome result (λ p. (word : List ℕ)
+    ensures number { IfSome result (λ p. (word : List ℕ)
         × (tokens line.now ≡ word ∷ tokens p.1.now) × (Ok p.0 ≡ reading word)) }
+    ensures inner { IfSome result (λ p. (k : ℕ) → k < 26
+        → is_line_feed (slice_index line.now k) ≡ false) }
+    ensures long { IfSome result (λ p. 26 ≤ length line.now) }
+    ensures rest { IfSome result (λ p. p.1.now ≡ drop 26 line.now) }
 {
     if line.len() < FIELD || line[POINT] != b'.' || line[MARK] != b'D' || !is_field_end(line) {
         return None;
@@ -90,4 +97,108 @@ pub(crate) fn cut_number(line: &[u8]) -> Option<(Decimal, &[u8])>
     let word = &line[front.start..FIELD];
     let d = read_signless(front.negative, &line[2..FIELD], word)?;
     Some((d, &line[FIELD..]))
+}
+
+// The numbers of a line of three fields, behind which nothing stands but blanks.
+#[inline(always)]
+fn triple_of(line: &[u8]) -> Option<Triple>
+    ensures triple { IfSome result (λ t. AreTriple (tokens line.now) t) }
+    ensures inner { IfSome result (λ t. (k : ℕ) → k < 78
+        → is_line_feed (slice_index line.now k) ≡ false) }
+    ensures long { IfSome result (λ t. 78 ≤ length line.now) }
+{
+    let (first, more) = cut_number(line)?;
+    let (second, last) = cut_number(more)?;
+    let (third, rest) = cut_number(last)?;
+    if !is_blank(rest) {
+        return None;
+    }
+    Some(Triple {
+        first,
+        second,
+        third,
+    })
+}
+
+// The place of the line feed, where two blanks and a carriage return stand between it and three fields.
+#[tactic(auto, using(crate::proofs::Triples::wide_between))]
+#[inline(always)]
+fn wide_end(text: &[u8]) -> Option<usize>
+    ensures within { IfSome result (λ end. end < length text.now) }
+    ensures near { IfSome result (λ end. end ≤ 81) }
+    ensures at { IfSome result (λ end. is_line_feed (slice_index text.now end) ≡ true) }
+    ensures between { IfSome result (λ end. (k : ℕ) → 78 ≤ k → k < end
+        → is_line_feed (slice_index text.now k) ≡ false) }
+{
+    if text.len() < 82 || text[78] != b' ' || text[79] != b' ' || text[80] != b'\r' {
+        return None;
+    }
+    if text[81] != b'\n' {
+        return None;
+    }
+    Some(81)
+}
+
+// The same where a carriage return or nothing stands between.
+#[tactic(auto, using(crate::proofs::Triples::near_between))]
+#[inline(always)]
+fn near_end(text: &[u8]) -> Option<usize>
+    ensures within { IfSome result (λ end. end < length text.now) }
+    ensures near { IfSome result (λ end. end ≤ 81) }
+    ensures at { IfSome result (λ end. is_line_feed (slice_index text.now end) ≡ true) }
+    ensures between { IfSome result (λ end. (k : ℕ) → 78 ≤ k → k < end
+        → is_line_feed (slice_index text.now k) ≡ false) }
+{
+    if text.len() < 80 {
+        return None;
+    }
+    if text[78] == b'\n' {
+        return Some(78);
+    }
+    if text[78] != b'\r' || text[79] != b'\n' {
+        return None;
+    }
+    Some(79)
+}
+
+// The place of the line feed behind three fields.
+#[inline(always)]
+fn fields_end(text: &[u8]) -> Option<usize>
+    ensures within { IfSome result (λ end. end < length text.now) }
+    ensures near { IfSome result (λ end. end ≤ 81) }
+    ensures at { IfSome result (λ end. is_line_feed (slice_index text.now end) ≡ true) }
+    ensures between { IfSome result (λ end. (k : ℕ) → 78 ≤ k → k < end
+        → is_line_feed (slice_index text.now k) ≡ false) }
+{
+    match wide_end(text) {
+        Some(end) => Some(end),
+        None => near_end(text),
+    }
+}
+
+// A line of three fields, its numbers, and the text after it.
+#[derive(Clone, Copy)]
+pub(crate) struct TripleLine<'a> {
+    pub bytes: &'a [u8],
+    pub triple: Triple,
+    pub rest: &'a [u8],
+}
+
+// The first line of a text, where it has three fields alone.
+#[inline(always)]
+pub(crate) fn cut_triple(text: &[u8]) -> Option<TripleLine<'_>>
+    ensures lines { IfSome result (λ l. lines text.now ≡ l.bytes.now ∷ lines l.rest.now) }
+    ensures triple { IfSome result (λ l. AreTriple (tokens l.bytes.now) l.triple) }
+    ensures some { IfSome result (λ l. 0 < length (tokens l.bytes.now)) }
+    ensures short { IfSome result (λ l. length l.bytes.now ≤ 81) }
+    ensures shorter { IfSome result (λ l. length l.rest.now < length text.now) }
+{
+    let end = fields_end(text)?;
+    let bytes = without_return(&text[..end]);
+    let triple = triple_of(bytes)?;
+    Some(TripleLine {
+        bytes,
+        triple,
+        rest: &text[end + 1..],
+    })
 }

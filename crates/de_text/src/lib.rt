@@ -12,6 +12,7 @@ mod fields;
 mod lines;
 mod parts;
 mod tokens;
+mod triple;
 mod words;
 
 pub use cursor::{Line, LineStep, Tokens};
@@ -19,4 +20,5 @@ pub use days::{seconds_of_julian_date, seconds_within, size_over, size_under};
 pub use decimal::{read_decimal, read_whole};
 pub use examples::a_cursor_steps_from_line_to_line;
 pub use spec_text::{DaysFault, Decimal, Fault, NumberFault};
+pub use triple::Triple;
 pub use words::Words;

@@ -1,13 +1,16 @@
 // Lines, cut from the front of a text.
-ghost use Rattle.std.specs.Prelude.{◌≡◌, ◌<◌, ◌≤◌, ◌+◌, ◌∷◌, length};
+ghost use Rattle.std.specs.Prelude.{◌≡◌, ◌<◌, ◌≤◌, ◌+◌, ◌∷◌, length, take};
 ghost use Rattle.std.specs.Str.Lines.{strip_carriage_return};
 ghost use Rattle.spec_text.specs.Lines.{lines};
 
 use memchr::memchr;
 
 // The line without one carriage return at its end.
-fn without_return(line: &[u8]) -> &[u8]
-    ensures { result.now ≡ strip_carriage_return line.now }
+#[tactic(auto, using(crate::proofs::Prefixes::prefix_all, crate::proofs::Prefixes::prefix_take))]
+#[inline(always)]
+pub(crate) fn without_return(line: &[u8]) -> &[u8]
+    ensures line { result.now ≡ strip_carriage_return line.now }
+    ensures prefix { result.now ≡ take (length result.now) line.now }
 {
     if line.is_empty() {
         return line;

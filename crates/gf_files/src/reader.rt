@@ -78,8 +78,9 @@ fn take_block_line(reader: &mut BlockReader, line: &Line<'_>) -> Result<(), Read
     Ok(())
 }
 
-// Takes a line, where it is: a reader of blocks is large.
-fn take_line(alloc: Global, reader: &mut Reader, line: &Line<'_>) -> Result<(), ReadError>
+// Takes a line, whatever reads it. Its locals are large, and blocks do without them.
+#[inline(never)]
+fn take_any_line(alloc: Global, reader: &mut Reader, line: &Line<'_>) -> Result<(), ReadError>
     requires { IsReady reader.old }
     ensures { Moves reader.old line.now (moved result reader.new) }
 {
@@ -93,6 +94,18 @@ fn take_line(alloc: Global, reader: &mut Reader, line: &Line<'_>) -> Result<(), 
     }
 }
 
+// Takes a line, where it is: a reader of blocks is large.
+#[inline(always)]
+fn take_line(alloc: Global, reader: &mut Reader, line: &Line<'_>) -> Result<(), ReadError>
+    requires { IsReady reader.old }
+    ensures { Moves reader.old line.now (moved result reader.new) }
+{
+    match reader {
+        Reader::Header(_) => take_any_line(alloc, reader, line),
+        Reader::Blocks(blocks) => take_block_line(blocks, line),
+    }
+}
+
 /// The reader after a text, or the first fault of the text.
 pub(crate) fn feed(alloc: Global, mut reader: Reader, text: &[u8]) -> Result<Fed, ReadError>
     requires small { length text.now ≤ MAX_TEXT_BYTES }
@@ -101,19 +114,22 @@ pub(crate) fn feed(alloc: Global, mut reader: Reader, text: &[u8]) -> Result<Fed
 {
     let mut lines = Tokens::new(text);
     loop {
-        match lines.line() {
-            LineStep::Line(line) => take_line(alloc, &mut reader, &line)?,
-            LineStep::TooLong(line) => {
-                return Err(ReadError::Fault(Fault {
-                    line,
-                    number: LINE_TOO_LONG,
-                    detail: 0,
-                }));
-            }
-            LineStep::End => {
-                let end_line = lines.end_line();
-                return Ok(Fed { reader, end_line });
-            }
+        match lines.plain_line() {
+            Some(line) => take_line(alloc, &mut reader, &line)?,
+            None => match lines.line() {
+                LineStep::Line(line) => take_any_line(alloc, &mut reader, &line)?,
+                LineStep::TooLong(line) => {
+                    return Err(ReadError::Fault(Fault {
+                        line,
+                        number: LINE_TOO_LONG,
+                        detail: 0,
+                    }));
+                }
+                LineStep::End => {
+                    let end_line = lines.end_line();
+                    return Ok(Fed { reader, end_line });
+                }
+            },
         }
     }
 }

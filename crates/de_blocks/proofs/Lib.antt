@@ -5,3 +5,4 @@ pub mod Enough
 pub mod Steps
 pub mod Pushing
 pub mod Walking
+pub mod Triples

@@ -11,6 +11,7 @@ use de_text::Line;
 use spec_files::ReadError;
 
 // Reads a line within a block, and takes the block in once it is whole. The place is where the line leaves the reader.
+#[inline(always)]
 pub(crate) fn take_line(block: &mut OpenBlock, line: &Line<'_>) -> Result<Place, ReadError>
     requires checked { IsEphemeris block.old.accepted }
     requires read { AreRead block.old.accepted block.old.numbers }

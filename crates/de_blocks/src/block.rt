@@ -112,9 +112,9 @@ impl OpenBlock {
         })
     }
 
-    // Puts a number that was read on this line after the others, by all rules.
+    /// Puts a number that was read on this line after the others, by all rules.
     #[inline(never)]
-    fn push_any(&mut self, line: u32, number: Decimal) -> Result<(), ReadError>
+    pub fn push_any(&mut self, line: u32, number: Decimal) -> Result<(), ReadError>
         requires { length self.old.numbers < self.old.accepted.header.ncoeff }
         ensures pushed { (word : List ℕ) → Ok number ≡ reading word
             → Pushes self.old.accepted self.old.numbers line word result self.new.numbers }
@@ -139,18 +139,15 @@ impl OpenBlock {
         Ok(())
     }
 
-    /// Puts a number that was read on this line after the others, which are so many.
+    /// Puts a number that was read on this line after the others, of which the first two are there.
     #[inline(always)]
-    pub fn push_number(&mut self, line: u32, count: usize, number: Decimal) -> Result<(), ReadError>
+    pub fn push_later(&mut self, line: u32, number: Decimal) -> Result<(), ReadError>
         requires few { length self.old.numbers < self.old.accepted.header.ncoeff }
-        requires count { count ≡ length self.old.numbers }
+        requires dates { 2 ≤ length self.old.numbers }
         ensures pushed { (word : List ℕ) → Ok number ≡ reading word
             → Pushes self.old.accepted self.old.numbers line word result self.new.numbers }
         ensures same { self.new.accepted ≡ self.old.accepted }
     {
-        if count < 2 {
-            return self.push_any(line, number);
-        }
         match quick_pair(number) {
             Some(pair) => self.push_small(number, pair),
             None => self.push_any(line, number),

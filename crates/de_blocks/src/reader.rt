@@ -108,6 +108,7 @@ impl BlockReader {
     }
 
     // Reads a line within a block.
+    #[inline(always)]
     fn go_on(&mut self, line: &Line<'_>) -> Result<(), BlockError>
         requires { self.old.place ≡ places.Inside }
         ensures { Takes self.old line.now result self.new }
@@ -131,6 +132,7 @@ impl BlockReader {
 
     /// Reads the next line. `Fault` comes at the first line that breaks a rule and at every line after it. After
     /// `Memory` the reader is as it was before the line.
+    #[inline(always)]
     pub fn line(&mut self, line: &Line<'_>) -> Result<(), BlockError>
         ensures says { IsNotMemory result → HasRead self.old line.now self.new }
         ensures answer { IsNotMemory result → result ≡ answer (says 0 self.new []) }

@@ -23,7 +23,7 @@ fn read_numbers(block: &mut OpenBlock, line: u32, words: &mut Words<'_>) -> Resu
     while count < ncoeff {
         match words.number() {
             Some(number) => {
-                block.push_number(line, count, number)?;
+                block.push_any(line, number)?;
                 count += 1;
             }
             None => match words.next() {
@@ -64,30 +64,26 @@ fn read_words(block: &mut OpenBlock, line: &Line<'_>) -> Result<(), ReadError>
     Ok(())
 }
 
-// Puts the three numbers that are the words of a line after the others, which are so many.
+// Puts the three numbers that are the words of a line after the others, of which the dates are there.
 #[inline(always)]
-fn push_triple(
-    block: &mut OpenBlock,
-    line: &Line<'_>,
-    count: usize,
-    triple: Triple,
-) -> Result<(), ReadError>
+fn push_triple(block: &mut OpenBlock, line: &Line<'_>, triple: Triple) -> Result<(), ReadError>
     requires triple { AreTriple line.now.tokens triple }
-    requires count { count ≡ length block.old.numbers }
-    requires few { count + 3 ≤ block.old.accepted.header.ncoeff }
+    requires dates { 2 ≤ length block.old.numbers }
+    requires few { length block.old.numbers + 3 ≤ block.old.accepted.header.ncoeff }
     ensures reads { Reads line.now.number
         (on_line block.old.accepted block.old.numbers line.now.tokens) result block.new.numbers }
     ensures front { take (length block.old.numbers) block.new.numbers ≡ block.old.numbers }
     ensures same { block.new.accepted ≡ block.old.accepted }
 {
     let number = line.number();
-    block.push_number(number, count, triple.first)?;
-    block.push_number(number, count + 1, triple.second)?;
-    block.push_number(number, count + 2, triple.third)?;
+    let numbers = [triple.first, triple.second, triple.third];
+    for i in 0..3 {
+        block.push_later(number, numbers[i])?;
+    }
     Ok(())
 }
 
-// Reads a line whose words are three numbers, which go in at once where the block wants as many.
+// Reads a line whose words are three numbers, which go in at once where the block wants as many coefficients.
 #[inline(always)]
 fn read_triple(block: &mut OpenBlock, line: &Line<'_>, triple: Triple) -> Result<(), ReadError>
     requires triple { AreTriple line.now.tokens triple }
@@ -98,15 +94,16 @@ fn read_triple(block: &mut OpenBlock, line: &Line<'_>, triple: Triple) -> Result
     ensures same { block.new.accepted ≡ block.old.accepted }
 {
     let count = block.count();
-    if count + 3 <= block.header().ncoeff as usize {
-        push_triple(block, line, count, triple)
-    } else {
-        read_words(block, line)
+    let wanted = block.header().ncoeff as usize - count;
+    if count < 2 || wanted < 3 {
+        return read_words(block, line);
     }
+    push_triple(block, line, triple)
 }
 
 // Reads a line after the numbers of a block that isn't whole yet. Where it fails, some of the line's numbers may stand
 // after those that were there before.
+#[inline(always)]
 pub(crate) fn read_line(block: &mut OpenBlock, line: &Line<'_>) -> Result<(), ReadError>
     requires { length block.old.numbers < block.old.accepted.header.ncoeff }
     ensures reads { Reads line.now.number

@@ -69,6 +69,7 @@ fn take_header_line(
 }
 
 // Takes a line of the blocks.
+#[inline(always)]
 fn take_block_line(reader: &mut BlockReader, line: &Line<'_>) -> Result<(), ReadError>
     requires { IsReady (readers.Blocks reader.old) }
     ensures { Moves (readers.Blocks reader.old) line.now

@@ -139,6 +139,11 @@ known_by s m v f c d c' d' same own first last is fits several covers = record {
   covers = λ t from upto. subst (λ x. Covers m (argument_of c' d' t) (d' -ℤ c') x) (λ i. (enclosure_over (state_enclosure (same i)) (own i) t t).range) (covers t from upto);
 }
 
+-- one that may be known reaches up to the time at which it is to end
+pub none_earlier : (found : Option Known) (b b' : ℤ) → b' ≡ b → IfSome found (λ known. known.last ≡ b') → IfSome found (λ known. b ≤ℤ known.last)
+none_earlier None b b' same ends = ends
+none_earlier (Some known) b b' same ends = omega (arith, ints, same, ends)
+
 -- the same arguments, as they are passed on
 pub kept_as : (m : Model) (first' first last' last q' q : ℤ) (found : Option Margin) → first' ≡ first → last' ≡ last → q' ≡ q → IfSome found (KeepAll m first' last' q')
     → IfSome found (KeepAll m first last q)

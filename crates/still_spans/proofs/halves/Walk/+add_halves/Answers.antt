@@ -16,6 +16,11 @@ returns-then-depth-eq0 t c = λ from found.
     let several = c.requires.several in
     passed c.args.search.now from c.args.self.now.found.items c.args.a c.args.b found (omega (arith, ints, several))
 
+pub returns-in_default : goal.returns-in_default
+returns-in_default t c = λ from found.
+    let several = c.requires.several in
+    passed c.args.search.now from c.args.self.now.found.items c.args.a c.args.b found (omega (arith, ints, several))
+
 pub middle-middle-requires : goal.middle-middle-requires
 middle-middle-requires t c =
     let is = near c.args.search.now c.args.known.now c.requires.known in
@@ -34,13 +39,13 @@ add_halves-requires t c =
     let after = c.middle-middle.ensures.from in
     let before = c.middle-middle.ensures.upto in
     let b = to_z-of_z w64 c.args.b c.ranges.b in
-    let from = c.requires.from in
-    let upto = c.requires.upto in
+    let from = c.in-Some.ensures.from in
+    let upto = c.in-Some.ensures.upto in
     let bound_from = c.within-here.ensures.from in
     let bound_upto = c.within-here.ensures.upto in (
       search rules,
       (
-        c.requires.known,
+        c.in-Some.ensures.known,
         (
           omega (arith, ints, a, from),
           (
@@ -61,13 +66,13 @@ add_halves-requires-2 t c =
     let after = c.middle-middle.ensures.from in
     let before = c.middle-middle.ensures.upto in
     let b = to_z-of_z w64 c.args.b c.ranges.b in
-    let from = c.requires.from in
-    let upto = c.requires.upto in
+    let from = c.in-Some.ensures.from in
+    let upto = c.in-Some.ensures.upto in
     let bound_from = c.within-here.ensures.from in
     let bound_upto = c.within-here.ensures.upto in (
       search rules,
       (
-        c.requires.known,
+        c.in-Some.ensures.known,
         (
           omega (arith, ints, a, m, after, from),
           (

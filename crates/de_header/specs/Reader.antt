@@ -13,7 +13,7 @@ use Rattle.spec_files.specs.HeaderLines.{HeaderOrStop, from_coefficients, from_c
 use Rattle.spec_files.specs.HeaderRules.{emrat_from}
 pub use Rattle.spec_files.specs.FileLines.{line_of}
 use Rattle.spec_files.specs.FileLines.{stopped_at}
-use Rattle.spec_files.specs.Sections.{FileLine, Stop, ended, breaks, after_words, at_line}
+use Rattle.spec_files.specs.Sections.{FileLine, Stop, ended, breaks, ◌>>=◌, after_words, at_line}
 use Rattle.spec_files.specs.declared.errors.ReadError.{ReadError}
 use Rattle.spec_files.specs.declared.errors.ReadError.TheVariants as errors
 use Rattle.de_header.specs.declared.answers.Step.{Step}

@@ -1,7 +1,7 @@
 -- The ephemeris of the lines of all files: a header, and blocks after it.
 use Rattle.std.specs.Prelude.{List, Result}
 use Rattle.spec_ephemeris.specs.Ephemeris.{Ephemeris}
-use Rattle.spec_files.specs.Sections.{FileLine, Stop}
+use Rattle.spec_files.specs.Sections.{FileLine, Stop, ◌>>=◌}
 use Rattle.spec_files.specs.HeaderLines.{header}
 use Rattle.spec_files.specs.Blocks.{blocks}
 

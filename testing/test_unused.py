@@ -12,11 +12,13 @@ FILES = {
     "crates.txt": "# Numbers.\nlow:\nhigh may_wait=1: low\nfinder_tests: low\n",
     "crates/low/specs/Lib.antt": "pub mod Numbers\n",
     "crates/low/specs/Numbers.antt": """-- Numbers; thrice is none of them.
-use Rattle.std.specs.Prelude.{ℕ, ◌+◌}
+use Rattle.std.specs.Prelude.{ℕ, ◌+◌, ◌>>=◌}
 
 -- twice
 abbrev pub twice : ℕ → ℕ
-twice n = n + n
+twice n = do
+  more ← n
+  more + n
 """,
     "crates/low/proofs/Laws.antt": """-- Laws.
 use Rattle.std.proofs.Common.{ℕ, ◌≡◌, refl}
@@ -76,8 +78,8 @@ fn main(rt: HostRuntime) {
 }
 # What is put into a file, in place of what or at its end, and what is listed then.
 LISTED = (
-    ("low/specs/Numbers.antt", "", "\nabbrev pub thrice : ℕ → ℕ\nthrice n = n + n\n", ("antt:8: nothing uses thrice",)),
-    ("low/specs/Numbers.antt", "", "\n-- (thrice)\npub record IsIt : Type 0 where\n  pub it : ℕ\n", ("9: nothing uses IsIt",)),
+    ("low/specs/Numbers.antt", "", "\nabbrev pub thrice : ℕ → ℕ\nthrice n = n + n\n", ("antt:10: nothing uses thrice",)),
+    ("low/specs/Numbers.antt", "", "\n-- (thrice)\npub record IsIt : Type 0 where\n  pub it : ℕ\n", ("11: nothing uses IsIt",)),
     ("low/specs/Numbers.antt", "ℕ, ◌+◌", "ℕ, List, ◌*◌, ◌+◌", ("nothing uses the name List", "nothing uses the name ◌*◌")),
     ("low/proofs/Laws.antt", "", "\n    pub by_it : ℕ\n    by_it = 1\n", ("Laws.antt:17: nothing uses by_it",)),
     ("low/proofs/Laws.antt", "inner = is\n", "inner = is\n\n  one : ℕ\n  one = two\n\n  two : ℕ\n  two = one\n", ("one", "two")),

@@ -28,9 +28,6 @@ nothing_is_along f m is = rw is (nothing_along f)
 pub nothing_of_targets : (f : ℕ → ℕ → Enclosure) (m : TargetEnclosures) → m ≡ nothing_known_of_targets → AreOfTargets f m
 nothing_of_targets f m is = rw is (record { first = nothing_along (f 0); second = nothing_along (f 1) })
 
-pub nothing_is_known : (v : View) (quantity : Quantity) (a b : ℤ) (c : ColumnEnclosures) → c ≡ nothing_known_of_column → IsKnown v quantity a b c
-nothing_is_known v quantity a b c is = rw is (λ usable. nothing_along _)
-
 -- ---- what is known of a column
 pub known_right : (v : View) (quantity : Quantity) (a b : ℤ) (columns : List ColumnEnclosures) (number : ℕ) (along : AxisEnclosures) → All (IsKnown v quantity a b) columns
     → Contains columns (record { number = number; along = along }) → IsUsable v number → AreAlong (column_enclosure v quantity a b number) along

@@ -1,11 +1,9 @@
 -- Sums over bases that are made once are the intervals of the series.
-use Rattle.std.proofs.Common.{◌≡◌, ◌∙◌, ℕ, ◌<◌, true, refl, arith, List, ℤ, ◌+ℤ◌, ◌≤ℤ◌}
-use Rattle.std.proofs.lemmas.Int.{ints}
+use Rattle.std.proofs.Common.{◌≡◌, ◌∙◌, ℕ, ◌<◌, true, refl, List, ℤ}
 use lib.Signed.{lt_z}
 use Rattle.spec_chebyshev.specs.declared.ends.Ival62.{Ival62}
 use Rattle.spec_intervals.specs.Interval.{Interval}
 use Rattle.spec_intervals.specs.Enclosure.{middle}
-use Rattle.spec_intervals.proofs.Centred.{middle_between}
 use Rattle.spec_ephemeris.specs.Granules.{series_of}
 use Rattle.spec_ephemeris.specs.Series.{Series}
 use Rattle.spec_motions.specs.Enclosures.{arguments, coefficients_of}
@@ -35,12 +33,6 @@ span_parts s quantity axis three =
     (IsSpan-of s.granule s.evaluable axis within s.times.now.first s.times.now.last s.from s.order s.upto)
 
 -- ---- the times and their middle are within the granule, and near
-pub middle_near : (s : GranuleSpan) → (s.granule.start ≤ℤ middle s.times.now.first s.times.now.last) × (middle s.times.now.first s.times.now.last ≤ℤ (s.granule.start +ℤ s.granule.seconds))
-middle_near s =
-    let between = middle_between s.times.now.first s.times.now.last s.order in
-    let from = s.from in
-    let upto = s.upto in
-    (omega (arith, ints, between.0, from), omega (arith, ints, between.1, upto))
 
 -- ---- sums by the coefficients of an axis are the intervals of its series
 module _ (s : GranuleSpan) (quantity : Quantity) (axis : ℕ) (terms : List Ival62) (are : terms ≡ coefficients_of (series_of s.granule axis)) (t : Interval) where

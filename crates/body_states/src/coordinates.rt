@@ -8,7 +8,7 @@ ghost use Rattle.spec_bodies.specs.Coordinates.{nothing, of_column, less, earth,
 ghost use Rattle.spec_bodies.specs.Reading.{IsUsable};
 ghost use Rattle.spec_bodies.specs.Views.{Fits, coordinate_of, framed};
 ghost use Rattle.body_states.specs.Dividers.{granule_seconds};
-ghost use Rattle.body_states.specs.Answers.{CanAsk, CanRead, CanReadSource, Answers, IsAnswer, IsDisplacement, observer_answer, sum_answer, difference_answer, scaled_answer, displacement_answer, displacement_of, ecliptic_of};
+ghost use Rattle.body_states.specs.Answers.{CanAsk, CanRead, CanReadSource, Answers, IsAnswer, IsDisplacement, observer_answer, difference_answer, scaled_answer, displacement_answer, displacement_of, ecliptic_of};
 
 use crate::enclosures::{AxisEnclosures, ColumnEnclosures};
 use crate::granule_span::GranuleSpan;

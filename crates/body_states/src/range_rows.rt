@@ -4,7 +4,7 @@ ghost use Rattle.std.specs.Prelude.{◌≡◌, ◌<◌, length};
 ghost use Rattle.spec_ephemeris.specs.Granules.{series_of};
 ghost use Rattle.spec_bodies.specs.Views.{step_interval};
 ghost use Rattle.spec_motions.specs.Enclosures.{coefficients_of};
-ghost use Rattle.body_states.specs.Bases.{AreAll, IsServed, IsWhole};
+ghost use Rattle.body_states.specs.Bases.{IsServed, IsWhole};
 ghost use Rattle.body_states.specs.Ranges.{AreRowsKept, if_wanted, is_any, range_along, wanted_along};
 
 use crate::bases::{RowRoom, Rows};

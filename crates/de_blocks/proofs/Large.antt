@@ -1,4 +1,4 @@
--- A decimal that isn't below 2^36 in size is too large.
+-- A decimal that is not below 2^36 in size is too large.
 use Rattle.std.proofs.Common.{◌≡◌, ℕ, ◌<◌, ◌↔◌, Bool, true, false, not, nat_le, IsTrue, Option, None, Some, refl, subst, arith}
 use Rattle.std.proofs.lemmas.Bool.{false≢true}
 use Rattle.std.proofs.lemmas.Bool.Decides.{nat_tests}

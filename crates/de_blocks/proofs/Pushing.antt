@@ -1,5 +1,5 @@
 -- A block after the blocks before it.
-use Rattle.std.proofs.Common.{◌≡◌, ℕ, zero, suc, ◌+◌, ◌*◌, ◌<◌, ◌≤◌, List, [], ◌∷◌, ◌++◌, length, take, sym, subst, Result, Ok, Err, Some, refl, ap, ◌∙◌, arith, ℤ, eq-eqb, false, if◌then◌else◌, nat_lt, true}
+use Rattle.std.proofs.Common.{◌≡◌, ℕ, zero, suc, ◌+◌, ◌*◌, ◌<◌, ◌≤◌, List, [], ◌∷◌, ◌++◌, length, take, sym, subst, Result, Ok, Err, refl, ap, ◌∙◌, arith, ℤ, eq-eqb, false, if◌then◌else◌, nat_lt, true}
 use Rattle.std.specs.Prelude.{IfOk}
 use Rattle.spec_text.specs.declared.decimals.Decimal.{Decimal}
 use Rattle.spec_ephemeris.specs.declared.limits.TheConstants.{MAX_BLOCKS}
@@ -9,17 +9,12 @@ use Rattle.std.proofs.lemmas.Bool.{ltb-true}
 use Rattle.spec_files.specs.Sections.{broken}
 use Rattle.spec_files.proofs.Holding.{holds_ok}
 use Rattle.spec_faults.specs.declared.numbers.TheConstants.{BLOCK_SPAN}
-use Rattle.spec_files.specs.BlockRules.{coefficient_rule, first_date, follows, has_length, is_after_gap, is_skipped, is_too_large, number_rule, second_date, time_of, value_rule}
+use Rattle.spec_files.specs.BlockRules.{coefficient_rule, follows, has_length, is_after_gap, is_skipped, second_date, time_of, value_rule}
 use Rattle.spec_files.specs.Blocks.{begun, with_numbers}
 use Rattle.spec_files.specs.Read.{AreRead}
 use Rattle.spec_files.proofs.Blocks.{is_block, right_length, room, time_holds}
 use Rattle.de_blocks.specs.Dates.{AreDates, AreRuled, met}
 use Rattle.de_blocks.specs.declared.dates.Dates.{Dates}
-use Rattle.de_blocks.specs.Steps.{Pushes}
-use Rattle.de_blocks.proofs.Large.{small_one}
-use Rattle.spec_ephemeris.specs.declared.granule.Rounded.{Rounded}
-use Rattle.spec_text.specs.Reading.{reading}
-use Rattle.eph_model.specs.Stores.{IsRounded}
 use Rattle.eph_model.specs.Starting.{starting_at}
 
 no_numbers : (numbers : List Decimal) → length numbers ≡ 0 → numbers ≡ []
@@ -43,7 +38,7 @@ block_of before [] checked read whole = absurd (omega (arith, checked.header.few
 block_of before (first ∷ []) checked read whole = absurd (omega (arith, checked.header.fewest, whole))
 block_of before (first ∷ second ∷ rest) checked read whole = is_block before first second rest checked.header read whole
 
--- a block of these dates that isn't skipped
+-- a block of these dates that is not skipped
 pub record IsNew (before : Ephemeris) (numbers : List Decimal) (start : ℤ) : Type 0 where
   pub room : before.blocks < MAX_BLOCKS
   pub is : with_numbers before numbers ≡ with_block (begun before start) numbers
@@ -60,12 +55,6 @@ new_block before (first ∷ second ∷ rest) dates checked read whole (a, b) new
     right_length (has_length before.header.block_seconds dates.start dates.end) (follows before dates.start dates.end) (broken BLOCK_SPAN 0) dated in
     let fewer = holds_ok _ _ tt (rw new at after) (room (is_after_gap before dates.start) (nat_lt before.blocks MAX_BLOCKS) _ _) in
     record { room = ltb-true before.blocks MAX_BLOCKS fewer.1; is = rw (a, b, new) refl }
-
-pub skipped : (before : Ephemeris) (numbers : List Decimal) (dates : Dates) → AreDates numbers dates → is_skipped before dates.end ≡ true
-    → before ≡ with_numbers before numbers
-skipped before [] dates are passed = refl
-skipped before (first ∷ []) dates are passed = refl
-skipped before (first ∷ second ∷ rest) dates (a, b) passed = rw (a, b, passed) refl
 
 -- the dates of a whole block are times within bounds
 pub dates_hold : (before : Ephemeris) (numbers : List Decimal) (dates : Dates) → IsEphemeris before → length numbers ≡ before.header.ncoeff
@@ -89,9 +78,6 @@ dates_cut (suc (suc count)) (first ∷ []) dates are = are
 dates_cut (suc zero) (first ∷ second ∷ rest) dates are = are.0
 dates_cut (suc (suc count)) (first ∷ second ∷ rest) dates are = are
 
-pub no_dates : (numbers : List Decimal) (dates : Dates) → numbers ≡ [] → AreDates numbers dates
-no_dates numbers dates is = subst (λ (l : List Decimal). AreDates l dates) (sym is) tt
-
 pub of_coefficient : (before : Ephemeris) (numbers : List Decimal) (d : Decimal) → 2 ≤ length numbers
     → coefficient_rule before.header.columns (length numbers + 1) d ≡ value_rule before numbers d
 of_coefficient before [] d two = absurd (omega (arith, two))
@@ -101,22 +87,6 @@ of_coefficient before (first ∷ second ∷ rest) d two =
     ap (λ (k : ℕ). coefficient_rule before.header.columns k d) place
 
 -- ---- a number by its place
-pub at_first : (before : Ephemeris) (numbers : List Decimal) (d : Decimal) (r : Result Dates BrokenRule) → length numbers ≡ 0
-    → met r ≡ first_date d → IfOk r (λ dates. AreDates (d ∷ []) dates) → AreRuled before numbers d r
-at_first before [] d r none rule dates = record { rule = rule; dates = dates }
-at_first before (first ∷ rest) d r none rule dates = absurd (omega (arith, none))
-
-pub at_second : (before : Ephemeris) (numbers : List Decimal) (d : Decimal) (own : Dates) (r : Result Dates BrokenRule) → length numbers ≡ 1 → AreDates numbers own
-    → ((first : Decimal) → time_of first ≡ Ok own.start → met r ≡ second_date before first d)
-    → ((first : Decimal) → time_of first ≡ Ok own.start → IfOk r (λ dates. AreDates (first ∷ d ∷ []) dates)) → AreRuled before numbers d r
-at_second before [] d own r one are rule dates = absurd (omega (arith, one))
-at_second before (first ∷ []) d own r one are rule dates = record { rule = rule first are; dates = dates first are }
-at_second before (first ∷ second ∷ rest) d own r one are rule dates = absurd (omega (arith, one))
-
-pub first_holds : (numbers : List Decimal) (own : Dates) → length numbers ≡ 1 → AreDates numbers own → IsStart own.start
-first_holds [] own one are = absurd (omega (arith, one))
-first_holds (first ∷ []) own one are = holds_ok IsStart (time_of first) own.start are (time_holds first)
-first_holds (first ∷ second ∷ rest) own one are = absurd (omega (arith, one))
 
 later_dates : (numbers : List Decimal) (d : Decimal) (own : Dates) (r : Result Dates BrokenRule) → AreDates (numbers ++ d ∷ []) own
     → IfOk r (λ dates. dates ≡ own) → IfOk r (λ dates. AreDates (numbers ++ d ∷ []) dates)
@@ -137,13 +107,3 @@ pub second_refused : (before : Ephemeris) (first d : Decimal) (start end : ℤ) 
 second_refused before first d start end b a e has rule = rw (a, ← e, has) rule
 
 -- ---- a number below 2^36 in size after the dates
-pub small_rule : (before : Ephemeris) (numbers : List Decimal) (word : List ℕ) (d : Decimal) (p : Rounded) → 2 ≤ length numbers → Ok d ≡ reading word
-    → IsRounded d (Some p) → number_rule before numbers word ≡ Ok d
-small_rule before numbers word d p two reads rounded =
-    let small : false ≡ is_too_large d = small_one d p (Some p) refl rounded in
-    let rule : value_rule before numbers d ≡ Ok tt = sym (of_coefficient before numbers d two) ∙ rw (← small) refl in
-    rw (← reads, rule) refl
-
-pub small_pushed : (before : Ephemeris) (numbers new : List Decimal) (line : ℕ) (word : List ℕ) (d : Decimal) (p : Rounded) → 2 ≤ length numbers
-    → Ok d ≡ reading word → IsRounded d (Some p) → new ≡ numbers ++ d ∷ [] → Pushes before numbers line word (Ok tt) new
-small_pushed before numbers new line word d p two reads rounded pushed = (d, small_rule before numbers word d p two reads rounded, pushed)

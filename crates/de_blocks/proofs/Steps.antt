@@ -93,15 +93,6 @@ takes_broken old new line fault refused breaks_it = record {
   unchanged = λ no. absurd (cc);
 }
 
-pub takes_nothing : (old new : Progress) (line : TokenLine) → new ≡ old → Takes old line (Err errors.Memory) new
-takes_nothing old new line same = record {
-  read = λ known. absurd known;
-  answers = λ known. absurd known;
-  goes_on = λ no. absurd (cc);
-  kept = λ fault no. absurd (cc);
-  unchanged = λ is. same;
-}
-
 pub takes_more : (before after : Ephemeris) (numbers new : List Decimal) (place : Place) (line : TokenLine) → place ≡ Inside → Fits (at before numbers place)
     → on_line before numbers line.tokens ≡ Ok new → length new < before.header.ncoeff → after ≡ before
     → Takes (at before numbers place) line (Ok tt) (at after new Inside)
@@ -225,7 +216,7 @@ pub after_block : (before after : Ephemeris) (numbers mid new : List Decimal) (l
     → after ≡ with_numbers before mid → new ≡ [] → TakesLine before numbers line (Ok Between) after new
 after_block before after numbers mid new line is whole same none = (mid, is, whole, same, none)
 
--- the numbers are all there where they aren't too few
+-- the numbers are all there where they are not too few
 pub is_whole : (before : Ephemeris) (numbers mid : List Decimal) (words : List (List ℕ)) → AreRead before numbers → length numbers < before.header.ncoeff
     → on_line before numbers words ≡ Ok mid → before.header.ncoeff ≤ length mid → AreRead before mid × (length mid ≡ before.header.ncoeff)
 is_whole before numbers mid words read few is enough =

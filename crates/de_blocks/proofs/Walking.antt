@@ -1,8 +1,7 @@
 -- Numbers, word by word.
-use Rattle.std.proofs.Common.{◌≡◌, ℕ, suc, ◌+◌, ◌-◌, ◌<◌, ◌≤◌, List, [], ◌∷◌, ◌++◌, length, take, drop, Result, Ok, Err, refl, sym, ap, ◌∙◌, subst, arith}
+use Rattle.std.proofs.Common.{◌≡◌, ℕ, suc, ◌+◌, ◌-◌, ◌<◌, ◌≤◌, List, [], ◌∷◌, ◌++◌, length, take, drop, Ok, Err, refl, sym, ap, ◌∙◌, subst, arith}
 use Rattle.std.proofs.lemmas.List.{length-append, take-append-le}
 use Rattle.spec_text.specs.declared.decimals.Decimal.{Decimal}
-use Rattle.spec_text.specs.declared.decimals.Fault.{Fault as Broken}
 use Rattle.spec_ephemeris.specs.Ephemeris.{Ephemeris}
 use Rattle.spec_files.specs.declared.rules.BrokenRule.{BrokenRule}
 use Rattle.spec_files.specs.BlockRules.{number_rule}
@@ -12,8 +11,6 @@ use Rattle.spec_files.specs.declared.errors.ReadError.TheVariants.{Fault, Memory
 use Rattle.spec_files.specs.Sections.{ruled_at}
 use Rattle.spec_files.proofs.Steps.{broken_by}
 use Rattle.eph_model.specs.Stores.{Store}
-use Rattle.de_blocks.specs.Dates.{number_in}
-use Rattle.de_blocks.specs.declared.dates.RuledNumber.{RuledNumber}
 
 -- what a loop over words keeps
 pub record Keeps (before : Ephemeris) (old new : List Decimal) (words left : List (List ℕ)) : Type 0 where
@@ -22,9 +19,6 @@ pub record Keeps (before : Ephemeris) (old new : List Decimal) (words left : Lis
   pub front : take (length old) new ≡ old
   pub more : length old ≤ length new
   pub few : length new ≤ before.header.ncoeff
-
-abbrev on_number : Ephemeris → List Decimal → List (List ℕ) → Decimal → Result (List Decimal) BrokenRule
-on_number before numbers words d = numbers_on before (numbers ++ d ∷ []) words
 
 one_more : (before : Ephemeris) (numbers : List Decimal) (d : Decimal) → length numbers < before.header.ncoeff
     → wanted before numbers ≡ suc (wanted before (numbers ++ d ∷ []))
@@ -104,8 +98,3 @@ front_in old mid new words left line word why is failed =
     ap (take (length old.numbers)) (same_numbers line mid.accepted mid.numbers new.numbers word why failed) ∙ is.keeps.front
 
 -- ---- a word that is refused
-pub refused_word : (line : ℕ) (r : Result RuledNumber BrokenRule) (m : Result Decimal BrokenRule) (fault : Broken) → number_in r ≡ m
-    → ruled_at line r ≡ Err fault → ruled_at line m ≡ Err fault
-refused_word line r m fault is broken =
-    let by = broken_by line r fault broken in
-    ap (ruled_at line) (sym is ∙ ap number_in by.1) ∙ ap (λ f. Err f) by.2

@@ -18,7 +18,7 @@ use Rattle.de_blocks.specs.Steps.{wanted}
 abbrev pub Says : Type 0
 Says = Result Ephemeris Stop
 
--- what a reader keeps: the blocks that it accepted, the numbers of a block that isn't whole, and where it stands
+-- what a reader keeps: the blocks that it accepted, the numbers of a block that is not whole, and where it stands
 pub record Progress : Type 0 where
   pub accepted : Ephemeris
   pub numbers : List Decimal

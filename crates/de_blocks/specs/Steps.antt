@@ -39,7 +39,7 @@ Reads line ruled (Ok done) new = ruled ≡ Ok new
 Reads line ruled (Err (Fault fault)) new = ruled_at line ruled ≡ Err fault
 Reads line ruled (Err Memory) new = Unit {0}
 
--- a word becomes the next number, or breaks its rule; where it doesn't become one the numbers are as they were
+-- a word becomes the next number, or breaks its rule; where it does not become one the numbers are as they were
 abbrev pub Pushes : Ephemeris → List Decimal → ℕ → List ℕ → Result (Unit {0}) ReadError → List Decimal → Type 0
 Pushes before numbers line word (Ok done) new = (d : Decimal) × (number_rule before numbers word ≡ Ok d) × (new ≡ numbers ++ d ∷ [])
 Pushes before numbers line word (Err (Fault fault)) new = (ruled_at line (number_rule before numbers word) ≡ Err fault) × (new ≡ numbers)

@@ -1,8 +1,7 @@
 // The reader.
-ghost use Rattle.std.specs.Prelude.{◌≡◌, ◌∷◌, [], IfOk, List, Ok, Err, ℕ};
+ghost use Rattle.std.specs.Prelude.{◌≡◌, [], IfOk, Ok, Err};
 ghost use Rattle.spec_text.specs.declared.decimals.Fault.{Fault};
 ghost use Rattle.spec_ephemeris.specs.Header.{IsHeader};
-ghost use Rattle.spec_files.specs.Sections.{FileLine};
 ghost use Rattle.spec_files.specs.Blocks.{blocks};
 ghost use Rattle.spec_files.specs.declared.errors.ReadError.TheVariants as errors;
 ghost use Rattle.de_blocks.specs.Reader.{Ends, GivesAgain, HasBlocks, HasRead, IsAt, IsNotMemory, IsNotRefused, IsRefused, KeepsFault, Takes, answer, from_record, says};
@@ -17,7 +16,6 @@ use de_text::Line;
 use eph_model::Ephemeris;
 use spec_ephemeris::Header;
 use spec_faults::{NO_BLOCK, TRUNCATED};
-use spec_files::BrokenRule;
 use spec_text::Fault;
 use std::alloc::Global;
 use std::marker::Model;

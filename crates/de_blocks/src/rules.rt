@@ -1,5 +1,5 @@
 // The rules of the words of blocks.
-ghost use Rattle.std.specs.Prelude.{◌≡◌, ◌≤◌, ◌<◌, ◌+◌, ◌*◌, ◌^◌, [], ◌∷◌, IfOk, Ok, length, min, slice_get};
+ghost use Rattle.std.specs.Prelude.{◌≡◌, ◌≤◌, ◌<◌, ◌+◌, ◌*◌, [], ◌∷◌, IfOk, Ok, length};
 ghost use Rattle.spec_ephemeris.specs.declared.limits.TheConstants.{MAX_COLUMNS};
 ghost use Rattle.spec_ephemeris.specs.Ephemeris.{IsStart};
 ghost use Rattle.spec_ephemeris.specs.Header.{IsColumnCount};

@@ -101,7 +101,7 @@ fn read_triple(block: &mut OpenBlock, line: &Line<'_>, triple: Triple) -> Result
     push_triple(block, line, triple)
 }
 
-// Reads a line after the numbers of a block that isn't whole yet. Where it fails, some of the line's numbers may stand
+// Reads a line after the numbers of a block that is not whole yet. Where it fails, some of the line's numbers may stand
 // after those that were there before.
 #[inline(always)]
 pub(crate) fn read_line(block: &mut OpenBlock, line: &Line<'_>) -> Result<(), ReadError>

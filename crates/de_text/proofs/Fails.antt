@@ -1,4 +1,4 @@
--- A test that doesn't hold.
+-- A test that does not hold.
 use Rattle.std.proofs.Common.{◌≡◌, Bool, true, false, inl, inr}
 use Rattle.std.proofs.lemmas.Bool.{cases_Bool}
 

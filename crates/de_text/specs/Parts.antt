@@ -38,7 +38,7 @@ Splits None (Some parts) = ⊥
 Splits (Some n) None = ⊥
 Splits (Some n) (Some parts) = Shows n parts
 
--- the parts are of a word that isn't too long
+-- the parts are of a word that is not too long
 pub record IsOfShortWord (parts : Parts) : Type 0 where
   pub mantissa : parts.mantissa ≤ 10 ^ 18
   pub places : parts.places ≤ MAX_WORD_BYTES

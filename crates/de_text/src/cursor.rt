@@ -90,7 +90,7 @@ impl<'a> Line<'a> {
 /// What a cursor meets next.
 #[derive(Drop)]
 pub enum LineStep<'a> {
-    /// The next line that isn't blank.
+    /// The next line that is not blank.
     Line(Line<'a>),
     /// The next line, by its number, has more than 4,096 bytes without its line end.
     TooLong(u32),
@@ -186,7 +186,7 @@ impl<'a> Tokens<'a> {
         }
     }
 
-    /// The next line that isn't blank, in order. A line that is too long is given again by every later call.
+    /// The next line that is not blank, in order. A line that is too long is given again by every later call.
     pub fn line(&mut self) -> LineStep<'a>
         ensures step { result ≡ step_of self.old.left }
         ensures left { self.new.left ≡ lines_after self.old.left }

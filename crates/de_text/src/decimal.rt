@@ -1,5 +1,5 @@
 // Words, read as decimals and as whole numbers.
-ghost use Rattle.std.specs.Prelude.{◌≡◌, ◌≤◌, ◌≤ℤ◌, ◌^◌, ◌++◌, Some, if◌then◌else◌, min, neg_ℤ, length, pos};
+ghost use Rattle.std.specs.Prelude.{◌≡◌, ◌≤◌, ◌≤ℤ◌, ◌^◌, Some, if◌then◌else◌, neg_ℤ, length, pos};
 ghost use Rattle.std.specs.Char.{is_ascii_digit};
 ghost use Rattle.std.specs.List.{list_all};
 ghost use Rattle.spec_text.specs.Decimals.{AreDigits, Numeral, digits};

@@ -1,7 +1,6 @@
 // Tokens, cut from the front of a line.
 ghost use Rattle.std.specs.Prelude.{◌≡◌, ◌<◌, ◌≤◌, ◌+◌, ◌==◌, [], ◌∷◌, length, IfNone, IfSome, IsFalse, IsTrue, ℕ, false, slice_get, slice_index, true};
 ghost use Rattle.std.specs.Option.{option_copied};
-ghost use Rattle.std.specs.List.{position_or_len};
 ghost use Rattle.spec_text.specs.Lines.{is_separator, tokens};
 
 use std::simd::prelude::*;

@@ -1,6 +1,6 @@
 // Bounds, and the rules by which one is made from others.
 ghost use Rattle.std.specs.Prelude.{◌≡◌, ◌-ℤ◌, IsTrue, false, pos};
-ghost use Rattle.spec_intervals.specs.Interval.{Interval, IsExponent, is_zero, lift_limit};
+ghost use Rattle.spec_intervals.specs.Interval.{IsExponent, is_zero, lift_limit};
 ghost use Rattle.spec_intervals.specs.Enclosure.{IsWithin};
 ghost use Rattle.spec_expressions.specs.Term.{part_exponent};
 ghost use Rattle.spec_models.specs.Bounds.{Bound as BoundOf, bound, constant_bound, difference_bound, product_bound, reached, signed_square_bound, sum_bound};

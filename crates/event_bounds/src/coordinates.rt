@@ -1,5 +1,5 @@
 // The bounds of coordinates of bodies, made of those of columns.
-ghost use Rattle.std.specs.Prelude.{◌≡◌, ◌<◌};
+ghost use Rattle.std.specs.Prelude.{◌<◌};
 ghost use Rattle.spec_expressions.specs.Term.{part_exponent};
 ghost use Rattle.spec_bodies.specs.Coordinates.{barycentric_coordinate, displacement, earth, ecliptic_coordinate, less, nothing, of_column, times};
 ghost use Rattle.spec_bodies.specs.Views.{coordinate_of};

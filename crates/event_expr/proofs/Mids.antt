@@ -2,7 +2,7 @@
 use Rattle.std.proofs.Common.{◌≡◌, ◌∙◌, sym, ap, refl, arith, ℤ}
 use Rattle.std.specs.Prelude.{⊤}
 use Rattle.spec_intervals.specs.Interval as I
-use Rattle.spec_intervals.specs.Interval.{Interval, IsExponent, zero_interval, meet, from_decimal, distance_exponent, cosine_exponent}
+use Rattle.spec_intervals.specs.Interval.{Interval, IsExponent, zero_interval, from_decimal, distance_exponent, cosine_exponent}
 use Rattle.spec_intervals.specs.Enclosure.{Enclosure, AllWithin, enclosure, twice_size, constant_of, sum_of, difference_of, product_of, signed_square_of}
 use Rattle.spec_expressions.specs.Term.{part_exponent, Leaf, Term, leaf, length, cosine, sum, difference, product, signed_square, enclosure_of, IsFormula}
 use Rattle.spec_intervals.specs.Fraction.{Fraction}

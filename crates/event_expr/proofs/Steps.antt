@@ -9,7 +9,7 @@ use Rattle.spec_expressions.specs.Term.{part_exponent}
 use Rattle.spec_intervals.proofs.Exponents.{IsWithin-more, sum-within, difference-within, product-within, signed_square-within, twice_size-within}
 use Rattle.spec_intervals.proofs.Offsets.{offsets-within, offsets-narrow}
 use Rattle.spec_intervals.proofs.EnclosureExponents.{centred-within}
-use Rattle.spec_intervals.proofs.Enclosed.{AllFractions-two, Overlaps-parts, PartsHold-sum, PartsHold-difference, PartsHold-product, PartsHold-signed_square, PartsHold-constant}
+use Rattle.spec_intervals.proofs.Enclosed.{AllFractions-two, Overlaps-parts, PartsHold-sum, PartsHold-difference, PartsHold-product, PartsHold-signed_square}
 use Rattle.event_expr.specs.States.{Times, wide_exponent}
 
 pub ordered : (a b : ℤ) → lt_z a b ≡ true → a ≤ℤ b
@@ -44,9 +44,6 @@ signed_square-wide s p = IsWithin-more (part_exponent + part_exponent + 62) wide
 
 pub twice_size-exponent : (s : Interval) → IsWithin part_exponent s → IsExponent (twice_size s).s
 twice_size-exponent s p = let e = (twice_size-within s part_exponent p).exponent in omega arith
-
-pub part-wide : (s : Interval) → IsWithin part_exponent s → IsWithin wide_exponent s
-part-wide s p = IsWithin-more part_exponent wide_exponent s (omega arith) p
 
 -- ---- the centred range, over times whose distances are at hand
 module _ (t : Times) (first last : ℤ) (d mid step p : Interval) (view : record { first = first; last = last } ≡ t) (span : IsSpan first last) (e : d ≡ offsets first last) (f : p ≡ product step d) (h : IsWithin wide_exponent mid) (g : IsWithin wide_exponent step) where
@@ -100,10 +97,6 @@ module _ (a b : ℤ) (w : lt_z a b ≡ true) (x y : Enclosure) (u : AllWithin pa
 pub shared-signed_square : (a b : ℤ) → lt_z a b ≡ true → (x : Enclosure) → Encloses a b x → Overlaps (signed_square x.range) (centred a b (signed_square x.mid) (product (twice_size x.range) x.step))
 shared-signed_square a b w x h =
     Overlaps-parts (λ t. fraction_signed_square (h.exact t)) a b (AllFractions-two a b (ordered a b w) h.exact h.exact h.numbers h.numbers) (ordered a b w) (signed_square x.mid) (signed_square x.range) (product (twice_size x.range) x.step) (PartsHold-signed_square a b (ordered a b w) h.exact h.numbers x h.is_enclosure)
-
-pub shared-constant : (a b : ℤ) → lt_z a b ≡ true → (x z : Interval) → z ≡ zero_interval → Overlaps x x → Overlaps x (centred a b x z)
-shared-constant a b w x z e o =
-    rw e (Overlaps-parts (λ t. o.common) a b (λ t p q. o.is_fraction) (ordered a b w) x x zero_interval (PartsHold-constant a b o.common x o.in_first))
 
 pub offsets-made : (a b : ℤ) → IsSpan a b → (m lo hi : ℤ) (r : Interval) → m ≡ middle a b → lo ≡ a -ℤ m → hi ≡ b -ℤ m → r ≡ narrow lo hi (pos 0) → r ≡ offsets a b
 offsets-made a b s m lo hi r e f g h = h ∙ rw (f, g, e) (offsets-narrow a b s)

@@ -3,7 +3,7 @@
 ghost use Rattle.std.specs.Prelude.{◌≡◌};
 ghost use Rattle.spec_expressions.specs.Term.{term, HasLeaves};
 ghost use Rattle.spec_expressions.specs.Vectors.{IsVector};
-ghost use Rattle.event_expr.specs.Leaves.{no_leaves, only, either_leaves, axes_of, leaves_of};
+ghost use Rattle.event_expr.specs.Leaves.{no_leaves, only, either_leaves, leaves_of};
 
 use crate::axes::Axes;
 use spec_expressions::{Expr, Vector};

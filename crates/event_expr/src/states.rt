@@ -1,6 +1,6 @@
 // What is known of the bodies.
 
-ghost use Rattle.std.specs.Prelude.{◌≡◌, ◌<◌, ℕ, ℤ};
+ghost use Rattle.std.specs.Prelude.{◌≡◌, ◌<◌, ℤ};
 ghost use Rattle.spec_intervals.specs.Fraction.{Fraction};
 ghost use Rattle.spec_intervals.specs.Enclosure.{IsEnclosure, AllFractions, IsSpan, AllWithin, Enclosure as Parts};
 ghost use Rattle.spec_expressions.specs.Term.{Leaf, position, velocity, IsLeaf};

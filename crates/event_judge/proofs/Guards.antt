@@ -1,8 +1,8 @@
 -- Tests of a list, one element after the other; and the steps of the conditions of an event.
-use Rattle.std.proofs.Common.{◌≡◌, ◌∙◌, ℕ, zero, suc, ◌+◌, ◌<◌, ◌≤◌, Bool, true, false, ◌||◌, ◌&&◌, List, length, get_or, drop, Option, None, Some, ap, subst, sym}
+use Rattle.std.proofs.Common.{◌≡◌, ◌∙◌, ℕ, zero, suc, ◌+◌, ◌<◌, Bool, true, false, ◌||◌, ◌&&◌, List, length, get_or, drop, Option, None, Some, ap, subst, sym}
 use Rattle.std.specs.Prelude.{IfSome}
 use Rattle.std.specs.List.{list_all, list_any}
-use Rattle.std.proofs.lemmas.List.{at_drop_all, at_drop_more, get_or_default}
+use Rattle.std.proofs.lemmas.List.{at_drop_more}
 use Rattle.spec_expressions.specs.declared.steps.Step.{Step}
 use Rattle.spec_searches.specs.Event.{Condition, Event}
 use Rattle.event_steps.specs.Entered.{IsMadeAt, KeepsSteps}
@@ -16,12 +16,6 @@ module _ {X : Type 0} (p : X → Bool) (xs : List X) (i : ℕ) where
 
   pub all_more : (d : X) → i < length xs → p (get_or xs i d) ≡ true → list_all p xs ≡ list_all p (drop i xs) → list_all p xs ≡ list_all p (drop (i + 1) xs)
   all_more d below holds left = left ∙ (at_drop_more (list_all p) xs i d below ∙ ap (λ (b : Bool). b && list_all p (drop (i + 1) xs)) holds)
-
-  pub any_end : length xs ≤ i → list_any p xs ≡ list_any p (drop i xs) → list_any p xs ≡ false
-  any_end past left = left ∙ at_drop_all (list_any p) xs i past
-
-  pub all_end : length xs ≤ i → list_all p xs ≡ list_all p (drop i xs) → list_all p xs ≡ true
-  all_end past left = left ∙ at_drop_all (list_all p) xs i past
 
 -- what was found of one element, by what is known as it was at first
 pub found_first : {K X : Type 0} (test : K → X → Bool) (at before : K) → at ≡ before → (own read : X) → own ≡ read → (r b : Bool) → r ≡ test at own → r ≡ b → test before read ≡ b
@@ -41,11 +35,6 @@ guards_at e l are (suc (suc place)) = tt
 pub guard_kept : (before after : List Step) (cs : List Condition) (place : ℕ) (number : Option ℕ) → KeepsSteps before after → IsGuardAt before cs place number → IsGuardAt after cs place number
 guard_kept before after cs place None kept made = made
 guard_kept before after cs place (Some k) kept made = λ below d. kept k (get_or cs place d).term (made below d)
-
--- a condition that was added, if there was room
-pub guard_added : (after : List Step) (cs : List Condition) (place : ℕ) (number : Option ℕ) (c : Condition) → c ≡ get_or cs place c → IfSome number (λ k. IsMadeAt after k c.term) → IsGuardAt after cs place number
-guard_added after cs place None c is made = made
-guard_added after cs place (Some k) c is made = λ below d. subst (λ (x : Condition). IsMadeAt after k x.term) (is ∙ get_or_default cs place c d below) made
 
 -- the function and then two conditions
 pub steps_of : (e : Event) (l : ListedEvent) (first second : List Step) → IsMadeAt first l.function e.function

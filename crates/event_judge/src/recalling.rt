@@ -1,6 +1,5 @@
 // What a judge that remembers says of nodes, and where it cuts them.
 ghost use Rattle.std.specs.Prelude.{◌≡◌, IfOk};
-ghost use Rattle.spec_trees.specs.Tree.{IsSound, IsValid};
 ghost use Rattle.spec_searches.specs.Found.{rules};
 
 use crate::event_search::EventSearch;

@@ -1,5 +1,5 @@
 // The verdict of a node, by what is looked at in turn.
-ghost use Rattle.std.specs.Prelude.{◌≡◌, ◌-ℤ◌, nat_le, [], false, true};
+ghost use Rattle.std.specs.Prelude.{◌≡◌, nat_le, [], false, true};
 ghost use Rattle.spec_trees.specs.Cuts.{is_wide};
 ghost use Rattle.spec_trees.specs.Tree.{width};
 ghost use Rattle.spec_events.specs.Stages.{end_verdict, is_above_limits, limit_verdict, open_verdict, unit_verdict};

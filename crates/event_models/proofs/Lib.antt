@@ -13,5 +13,4 @@ mod AxisValues
 mod GranuleLines
 mod LostUnits
 mod Rooms
-pub mod SumRows
 mod SlopeRows

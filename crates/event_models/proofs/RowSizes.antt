@@ -7,17 +7,12 @@ use Rattle.spec_models.specs.Models.{Covers}
 use Rattle.spec_covers.specs.Series.{of_entry}
 use Rattle.event_models.specs.declared.rows.RowModel.{RowModel}
 use Rattle.event_models.specs.declared.rows.Line.{Line}
-use Rattle.event_models.specs.Rows.{AreEntriesT, IsEntryT, IsFirst, IsNextT, IsSecondT, IsSizedT, no_row, of_row, unit}
+use Rattle.event_models.specs.Rows.{AreEntriesT, IsEntryT, IsNextT, IsSizedT, no_row, of_row, unit}
 
 pub next_sized : (l : Line) (last before made : RowModel) → IsSizedT made → IsNextT l last before made
 next_sized l last before made is = λ p q x j argument arguments line covers_last covers_before. is p q x (suc (suc j)) argument arguments
 
 -- ---- the entries one after the other
-pub entry_first : (l : Line) (k : ℕ) (made : RowModel) → k ≡ 0 → IsFirst made → IsEntryT l k made
-entry_first l k made is first = subst (λ j. IsEntryT l j made) (sym is) (λ p q x argument arguments line double. first.of_t p q x argument)
-
-pub entry_second : (l : Line) (k : ℕ) (made : RowModel) → k ≡ 1 → IsSecondT l made → IsEntryT l k made
-entry_second l k made is second = subst (λ j. IsEntryT l j made) (sym is) (λ p q x argument arguments line double. second p q x argument line)
 
 pub entry_later : (l : Line) (k : ℕ) (rows : List RowModel) (made : RowModel) → 2 ≤ k → AreEntriesT l k rows → IsNextT l (slice_index_or rows (k - 1) no_row) (slice_index_or rows (k - 2) no_row) made → IsEntryT l k made
 entry_later l k rows made two entries next = λ p q x argument arguments line double.

@@ -1,5 +1,5 @@
 // The models of coordinates of bodies, made of those of columns.
-ghost use Rattle.std.specs.Prelude.{◌≡◌, ◌<◌, ℤ};
+ghost use Rattle.std.specs.Prelude.{◌<◌, ℤ};
 ghost use Rattle.spec_intervals.specs.Interval.{Interval};
 ghost use Rattle.spec_bodies.specs.Coordinates.{barycentric_coordinate, displacement, earth, ecliptic_coordinate, less, moon, nothing, of_column, times};
 ghost use Rattle.spec_bodies.specs.Views.{coordinate_of};

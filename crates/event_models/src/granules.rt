@@ -1,5 +1,5 @@
 // The granules of columns over some times, and the pairs of their axes.
-ghost use Rattle.std.specs.Prelude.{◌≡◌, ◌<◌, ◌≤◌, ℕ, IsTrue, length, map};
+ghost use Rattle.std.specs.Prelude.{◌≡◌, ◌<◌, ℕ, length, map};
 ghost use Rattle.spec_ephemeris.specs.Granules.{series_at, series_of};
 ghost use Rattle.spec_motions.specs.Enclosures.{coefficients_of};
 ghost use Rattle.spec_motions.specs.Granules.{IsEvaluable};

@@ -2,7 +2,7 @@
 ghost use Rattle.std.specs.Prelude.{◌≡◌, ◌≤◌, ◌<◌, ◌+◌, ◌*◌, ◌^◌, ◌/◌, ◌↔◌, ℕ, ℤ, All, IfSome, IsTrue, length, slice_index_or, pos, ◌+ℤ◌, ◌-ℤ◌, ◌*ℤ◌, unsigned_abs};
 ghost use Rattle.spec_numbers.specs.Numbers.{floor_div};
 ghost use Rattle.spec_models.specs.Models.{coefficient, sizes};
-ghost use Rattle.event_models.specs.Rows.{AreNumbers, IsLine, IsNextT, IsNextU, IsRow, IsRowOf, IsSmallNumber, IsStep, last_size, line_limit, lower, product_error, row_limit, step_error, step_number, terms, without_last};
+ghost use Rattle.event_models.specs.Rows.{AreNumbers, IsLine, IsNextT, IsNextU, IsRow, IsRowOf, IsSmallNumber, IsStep, line_limit, lower, product_error, row_limit, step_error, step_number, terms, without_last};
 
 use span_models::TERMS;
 

@@ -1,5 +1,5 @@
 // The first entries of the rows of T and U, and an entry of which its size alone is known.
-ghost use Rattle.std.specs.Prelude.{◌≡◌, ◌≤◌, ◌-◌, ◌*◌, ◌^◌, ◌∷◌, ℕ, ℤ, pos, replicate, unsigned_abs};
+ghost use Rattle.std.specs.Prelude.{◌≡◌, ◌≤◌, ◌-◌, ◌*◌, ◌^◌, ◌∷◌, pos, replicate, unsigned_abs};
 ghost use Rattle.spec_numbers.specs.Numbers.{floor_div};
 ghost use Rattle.event_models.specs.Rows.{IsFirst, IsLine, IsRow, IsSecondT, IsSecondU, IsSizedT, IsSizedU, line_limit, row_limit, terms};
 

@@ -1,5 +1,5 @@
 // Models of positions and velocities, from those of their sums.
-ghost use Rattle.std.specs.Prelude.{◌≡◌, ◌<◌, ◌≤◌, ◌+◌, ◌*◌, ◌/◌, ◌^◌, ℕ, pos, ◌+ℤ◌, ◌≤ℤ◌, unsigned_abs, IfSome};
+ghost use Rattle.std.specs.Prelude.{◌≡◌, ◌<◌, ◌≤◌, ◌+◌, ◌*◌, ◌/◌, ◌^◌, pos, ◌+ℤ◌, ◌≤ℤ◌, unsigned_abs, IfSome};
 ghost use Rattle.spec_chebyshev.specs.Rows.{u_unit};
 ghost use Rattle.spec_ephemeris.specs.Series.{Series};
 ghost use Rattle.spec_motions.specs.Enclosures.{IsSeries, sum_exponent};

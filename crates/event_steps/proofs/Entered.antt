@@ -1,7 +1,7 @@
 -- A term that is entered after its parts.
-use Rattle.std.proofs.Common.{◌≡◌, ◌∙◌, ℕ, ◌<◌, List, length, Option, None, Some, sym, subst}
+use Rattle.std.proofs.Common.{◌≡◌, ◌∙◌, ℕ, ◌<◌, List, length, Option, None, Some}
 use Rattle.std.specs.Prelude.{IfSome}
-use Rattle.spec_expressions.specs.Term.{IsFormula, Term}
+use Rattle.spec_expressions.specs.Term.{Term}
 use Rattle.spec_expressions.specs.declared.steps.Step.{Step}
 use Rattle.spec_expressions.specs.Steps.{term_at, terms_of}
 use Rattle.event_steps.specs.Entered.{IsMadeAt, KeepsSteps}
@@ -21,9 +21,6 @@ module _ (whole : Term → Term → Term) (middle end : List Step) (x y : ℕ) (
   pub both_parts : whole (term_at (terms_of end) x) (term_at (terms_of end) y) ≡ whole d e
   both_parts = λ i. whole (first_stays.term i) (second.term i)
 
-  pub whole_formula : IsFormula (whole d e) → IsFormula (whole (term_at (terms_of end) x) (term_at (terms_of end) y))
-  whole_formula is = subst IsFormula (sym both_parts) is
-
   pub whole_made : (last : List Step) (r : Option ℕ) → IfSome r (λ place. IsMadeAt last place (whole (term_at (terms_of end) x) (term_at (terms_of end) y)))
       → IfSome r (λ place. IsMadeAt last place (whole d e))
   whole_made last None made = made
@@ -33,9 +30,6 @@ module _ (whole : Term → Term → Term) (middle end : List Step) (x y : ℕ) (
 module _ (whole : Term → Term) (end : List Step) (x : ℕ) (d : Term) (part : IsMadeAt end x d) where
   pub one_part : whole (term_at (terms_of end) x) ≡ whole d
   one_part = λ i. whole (part.term i)
-
-  pub one_formula : IsFormula (whole d) → IsFormula (whole (term_at (terms_of end) x))
-  one_formula is = subst IsFormula (sym one_part) is
 
   pub one_made : (last : List Step) (r : Option ℕ) → IfSome r (λ place. IsMadeAt last place (whole (term_at (terms_of end) x)))
       → IfSome r (λ place. IsMadeAt last place (whole d))

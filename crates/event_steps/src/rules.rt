@@ -1,5 +1,4 @@
 // What a value of a step is made of.
-ghost use Rattle.std.specs.Prelude.{◌≡◌};
 ghost use Rattle.spec_expressions.specs.Term.{Term, position as position_of, velocity as velocity_of, leaf, length as length_of, cosine as cosine_of, sum as sum_of, difference as difference_of, product as product_of, signed_square as signed_square_of, IsFormula};
 ghost use Rattle.event_steps.specs.Values.{AreOperands, IsOperand};
 

@@ -1,7 +1,7 @@
 // Lists of steps in fixed room.
 ghost use Rattle.std.specs.Prelude.{◌≡◌, ◌+◌, ◌<◌, ◌≤◌, ◌++◌, ◌∷◌, [], IfNone, IfSome, length};
 ghost use Rattle.spec_expressions.specs.Term.{IsFormula};
-ghost use Rattle.spec_expressions.specs.Steps.{IsStep, IsStepOf, step_term, term_at, terms_of};
+ghost use Rattle.spec_expressions.specs.Steps.{IsStep, IsStepOf, step_term, terms_of};
 ghost use Rattle.event_steps.specs.Entered.{IsMadeAt, KeepsSteps};
 
 use crate::sameness::is_same;

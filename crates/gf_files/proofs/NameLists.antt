@@ -91,10 +91,6 @@ pub some_first : (files : Option Files) (names : Texts) → LacksFirst files nam
 some_first files [] lacks = absurd lacks
 some_first files (n ∷ names) lacks = omega arith
 
--- all names
-pub all_read : (files : Option Files) (names : Texts) (i : ℕ) (reader : Reader) (end : ℕ) → length names ≤ i → HaveRead files (take i names) reader end → HaveRead files names reader end
-all_read files names i reader end past read = subst (λ (ns : Texts). HaveRead files ns reader end) (take_all i names past) read
-
 pub accepted_at_end : (files : Option Files) (names : Texts) (reader : Reader) (end : ℕ) (e : Ephemeris) → length names ≤ MAX_FILES → HaveRead files names reader end
     → Finishes end (ephemeris_after 0 reader []) (Ok e) → AreAccepted files names e end
 accepted_at_end files names reader end e few read finishes = record {

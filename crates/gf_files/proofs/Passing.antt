@@ -40,7 +40,7 @@ text_of_length n = (replicate n 0, length-replicate n 0)
 long_text : (most : ℕ) → (text : List ℕ) × (most < length text)
 long_text most = let text = text_of_length (most + 1) in (text.0, omega (arith, text.1))
 
--- where files aren't told, any text that is too large will do
+-- where files are not told, any text that is too large will do
 pub long_file : (files : Option Files) (name : List ℕ) (reader : Reader) → IsReady reader → IsLongFile files name
     → StopsAtFile files name reader (fault_at 0 FILE_TOO_LARGE)
 long_file None name reader ready is =

@@ -65,7 +65,7 @@ pub header_took : (old new : State) (line : TokenLine) → ((file : ℕ) (rest :
 unfolding ephemeris_after
 header_took old new line moves file rest = ap after_header (moves file rest)
 
--- where the lines end, a header that wants more lines isn't whole
+-- where the lines end, a header that wants more lines is not whole
 pub early_no_header : (state : State) (end : ℕ) (h : Header) → WantsMore state → Ends end (says 0 state []) (Ok h) → ⊥
 early_no_header state end h wants ends = subst (λ (said : Says). Ends end said (Ok h)) wants.early ends
 

@@ -26,7 +26,7 @@ pub record IsOfHeader (state : State) : Type 0 where
   pub before : List FileLine
   pub same : (rest : List FileLine) → headers.says 0 state rest ≡ header (before ++ rest)
 
--- a header that isn't whole wants more lines
+-- a header that is not whole wants more lines
 pub record WantsMore (state : State) : Type 0 where
   pub not_whole : headers.IsNotWhole state
   pub of_header : IsOfHeader state

@@ -13,7 +13,7 @@ pub enum FilesError {
     /// This file has the first fault, or is the first of too many.
     #[error("a file has a fault")]
     Fault { file: usize, fault: Fault },
-    /// This file couldn't be read.
+    /// This file could not be read.
     #[error("a file couldn't be read")]
     NotRead { file: usize },
     /// Out of memory.

@@ -53,7 +53,7 @@ fn take_file<S: Shelf>(
     }
 }
 
-// The reader after all files of these names. No file is opened after one that has a fault or can't be read.
+// The reader after all files of these names. No file is opened after one that has a fault or cannot be read.
 fn take_files<S: Shelf>(alloc: Global, shelf: &mut S, names: &[String]) -> Result<Fed, FilesError>
     requires { length names.now ≤ MAX_FILES }
     ensures fed { IfOk result (λ fed.
@@ -81,7 +81,7 @@ fn take_files<S: Shelf>(alloc: Global, shelf: &mut S, names: &[String]) -> Resul
 }
 
 /// The ephemeris of the files of these names, which the shelf opens one after the other. No file is opened after one
-/// that has a fault or can't be read, and of none more than 268,435,457 bytes are read.
+/// that has a fault or cannot be read, and of none more than 268,435,457 bytes are read.
 ///
 /// `Fault` is the first fault; more than `MAX_FILES` names are the fault `TOO_MANY_FILES` at file `MAX_FILES`, before
 /// any is opened. `NotRead` where a file is missing or the shelf fails; `Memory` where it is out of memory, and never

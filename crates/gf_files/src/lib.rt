@@ -1,6 +1,6 @@
 //! Files by their names into an ephemeris. A shelf and names come in; out goes the ephemeris that the texts of these
-//! files are, or the first fault with its file, or the file that couldn't be read. No file is opened after one that has
-//! a fault or can't be read.
+//! files are, or the first fault with its file, or the file that could not be read. No file is opened after one that has
+//! a fault or cannot be read.
 #![tactic(auto)]
 
 mod errors;

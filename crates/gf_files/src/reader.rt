@@ -1,5 +1,5 @@
 // The lines of several files, one file after the other: to the header's reader, and then to that of the blocks.
-ghost use Rattle.std.specs.Prelude.{◌≡◌, ◌≤◌, ◌∷◌, [], List, ℕ, length};
+ghost use Rattle.std.specs.Prelude.{◌≡◌, ◌≤◌, [], List, ℕ, length};
 ghost use Rattle.spec_text.specs.declared.limits.TheConstants.{MAX_TEXT_BYTES};
 ghost use Rattle.spec_files.specs.Sections.{FileLine};
 ghost use Rattle.spec_files.specs.Lines.{ephemeris};

@@ -26,14 +26,6 @@ kept_still s xs kept is stills = subst (All (IsStill s)) (sym is) (kept_by s xs 
 
 -- ---- windows
 module _ (most : ℕ) (s : Search) (n : Node) (ls : List Leaf) where
-  -- the leaves of the tree have its windows
-  pub fine_have : Covers n.a (leaves (rules s) n) n.b → ls ≡ leaves (rules s) n → leaf_count (rules s) n ≤ most → HaveWindows most s n ls
-  fine_have cover same few = record {
-    windows = ap windows same;
-    follow = subst (λ (vs : List Leaf). Covers n.a vs n.b) (sym same) cover;
-    few = few;
-  }
-
   -- and so have those of the eager tree, settled, where they weigh no more than so much
   pub settled_have : (xs : List StillSpan) (found : List Leaf) → windows (settled_leaves s xs n) ≡ windows (leaves (rules s) n) → Covers n.a (settled_leaves s xs n) n.b
       → leaf_count (rules s) n ≤ weights s xs (leaves (eager_rules s xs) n) → found ≡ leaves (eager_rules s xs) n → ls ≡ map (settled s n) found

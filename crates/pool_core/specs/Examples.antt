@@ -53,6 +53,3 @@ module _ (first last : ℤ) (low : neg_ℤ (pos (2 ^ 50)) ≤ℤ first) (high : 
 
   pub crossing_in_is_sound : IsSound (crossing_in first last)
   crossing_in_is_sound = record { low = low; high = high; cut = crossing_cut }
-
-pub crossing_is_sound : IsSound crossing
-crossing_is_sound = crossing_in_is_sound (pos 1339000) (pos 1339400) (omega (arith, ints)) (omega (arith, ints))

@@ -1,6 +1,5 @@
 // What is true of bounds, of steady and quiet spans and of mids: each law is the contract of a function with nothing to do.
 ghost use Rattle.std.specs.Prelude.{◌≡◌, true, false, nat_le, [], All, ℤ, ◌≤ℤ◌, ◌<ℤ◌};
-ghost use Rattle.spec_intervals.specs.declared.signs.Sign.{Sign};
 ghost use Rattle.spec_intervals.specs.Enclosure.{middle};
 ghost use Rattle.spec_intervals.specs.Signs.{sign_of};
 ghost use Rattle.spec_trees.specs.declared.tree.Node.{Node};

@@ -1,5 +1,5 @@
 -- The search of a polynomial over a span that holds a time is one, and what it finds are the windows of its passings of 0.
-use Rattle.std.proofs.Common.{◌≡◌, ◌⊎◌, ◌<◌, ◌≤◌, Bool, true, false, if◌then◌else◌, int_lt, ◌<ℤ◌, List, Ok, Err, sym, ap, ◌∙◌, subst, arith, inl, inr}
+use Rattle.std.proofs.Common.{◌≡◌, ◌⊎◌, ◌<◌, ◌≤◌, Bool, true, if◌then◌else◌, int_lt, ◌<ℤ◌, List, Ok, Err, sym, ap, ◌∙◌, subst, arith, inl, inr}
 use Rattle.std.proofs.lemmas.Bool.{lt-ltb, le-ltb}
 use Rattle.std.proofs.lemmas.Int.{ints}
 use Rattle.spec_trees.specs.declared.tree.Leaf.{Leaf}
@@ -21,9 +21,6 @@ module _ (ask : ScalarAsk) where
   -- ---- the outcome of a search
   by_order : (ordered : Bool) → int_lt ask.from ask.to ≡ ordered → found_scalar ask ≡ (if ordered then searched_scalar ask else Err (Outside (scalar_span ask) whole_scalar_span))
   by_order ordered is = ap (λ (o : Bool). if o then searched_scalar ask else Err (Outside (scalar_span ask) whole_scalar_span)) is
-
-  pub empty_span_stops : int_lt ask.from ask.to ≡ false → found_scalar ask ≡ Err (Outside (scalar_span ask) whole_scalar_span)
-  empty_span_stops empty = by_order false empty
 
   module _ (ordered : int_lt ask.from ask.to ≡ true) where
     pub few_found : leaf_count (rules (scalar_search ask)) (scalar_root ask) ≤ MAX_LEAVES → found_scalar ask ≡ Ok (scalar_leaves ask)

@@ -6,10 +6,6 @@ pub ok_also : {X E : Type 0} (P Q : X → Type 0) (r : Result X E) → ((x : X) 
 ok_also P Q (Ok x) also holds = also x holds
 ok_also P Q (Err e) also holds = tt
 
-pub ok_also_both : {X E : Type 0} (P Q R : X → Type 0) (r : Result X E) → ((x : X) → P x → Q x → R x) → IfOk r P → IfOk r Q → IfOk r R
-ok_also_both P Q R (Ok x) also first second = also x first second
-ok_also_both P Q R (Err e) also first second = tt
-
 pub err_also : {X E : Type 0} (P Q : E → Type 0) (r : Result X E) → ((e : E) → P e → Q e) → IfErr r P → IfErr r Q
 err_also P Q (Ok x) also holds = tt
 err_also P Q (Err e) also holds = also e holds

@@ -19,9 +19,6 @@ in_parts x t e = let both = and_parts (int_le x.0 t) (int_le t x.1) e in (le_so 
 pub inside : (x : Span) (t : ℤ) → x.0 ≤ℤ t → t ≤ℤ x.1 → is_in x t ≡ true
 inside x t from upto = rw (le_test x.0 t from, le_test t x.1 upto) refl
 
-pub is_before : (x : Span) (t : ℤ) → t <ℤ x.0 → is_in x t ≡ false
-is_before x t h = rw (le_not x.0 t h) refl
-
 pub is_past : (x : Span) (t : ℤ) → x.1 <ℤ t → is_in x t ≡ false
 is_past x t h = by (int_le x.0 t) (int_le t x.1) (le_not t x.1 h)
   where

@@ -31,14 +31,6 @@ module _ (z w e s : ℤ) (g : ℕ) (is_raised : s ≡ e +ℤ pos g) where
   right_side : w *ℤ pos (2 ^ up e * 2 ^ down s) ≡ w *ℤ pos (2 ^ up e) *ℤ pos (2 ^ down s)
   right_side = ring (w ∷ pos (2 ^ up e) ∷ pos (2 ^ down s) ∷ []) (v 0 ⊗ (v 1 ⊗ v 2)) (v 0 ⊗ v 1 ⊗ v 2) tt
 
-  -- z units of s, which are 2^g times those of e, against w units of e
-  pub coarse_no_more : (z *ℤ pos (2 ^ g)) ≤ℤ w → NoMore (in_units z s) (in_units w e)
-  coarse_no_more h =
-      let l = le-mul (z *ℤ pos (2 ^ g)) w (pos (2 ^ up e * 2 ^ down s)) (omega (arith, lin)) h in
-      let a = left_side in
-      let b = right_side in
-      omega (arith, lin)
-
   pub fine_no_more : w ≤ℤ (z *ℤ pos (2 ^ g)) → NoMore (in_units w e) (in_units z s)
   fine_no_more h =
       let l = le-mul w (z *ℤ pos (2 ^ g)) (pos (2 ^ up e * 2 ^ down s)) (omega (arith, lin)) h in

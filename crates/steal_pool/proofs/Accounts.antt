@@ -55,9 +55,6 @@ own_weigh : (t : Rules) (h : Leaf → ℕ) (a : Account) → weigh h (leaves_of 
 own_weigh t h a =
     omega (arith, weigh-flat (leaves t) h (own a), weigh-append (by_leaves t h) (option_to_list a.hand) a.kept, hand_weigh (by_leaves t h) a.hand)
 
-sides : Rules → Account → Account → List Node → List Node → List Leaf → Type 0
-sides t a b put taken entered = IsPermutation (leaves_of t (own a) ++ leaves_of t taken) (entered ++ leaves_of t put ++ leaves_of t (own b))
-
 -- both sides of the balance weigh so
 left_weigh : (t : Rules) (h : Leaf → ℕ) (a : Account) (taken : List Node) → weigh h (leaves_of t (own a) ++ leaves_of t taken) ≡ (weigh_hand (by_leaves t h) a.hand + weigh (by_leaves t h) a.kept) + weigh (by_leaves t h) taken
 left_weigh t h a taken =

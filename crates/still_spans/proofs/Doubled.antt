@@ -49,12 +49,6 @@ steps_fit step units few g within small =
     let more = mul-le-mul_right (2 ^ up step.s * g.denominator) small in
     omega (arith, ints, within, more)
 
--- so many units are no more where more are not
-pub fewer_units : (few units : ℕ) (s : ℤ) (g : Fraction) → few ≤ units → NoMore (in_units (pos units) s) g → NoMore (in_units (pos few) s) g
-fewer_units few units s g less within =
-    let more = mul-le-mul_right (2 ^ up s * g.denominator) less in
-    omega (arith, ints, within, more)
-
 pub steps_if : (p : Bound) (g : Fraction) (units : ℕ) (found : Option ℕ) → NoMore (in_units (pos 1024) p.range.s) g → NoMore (in_units (pos units) p.step.s) g
     → IfSome found (λ few. greatest_end p.step * (few + 2) ≤ units) → IfSome found (λ few. StepsFit p few g)
 steps_if p g units None fine within small = small

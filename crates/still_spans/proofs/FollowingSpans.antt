@@ -4,7 +4,7 @@ use Rattle.std.specs.Prelude.{IfOk, IfSome, Vec, slice_get}
 use Rattle.std.specs.declared.alloc.Global.{Global}
 use Rattle.std.proofs.lemmas.Int.{ints}
 use Rattle.std.proofs.lemmas.Option.{same_Some}
-use Rattle.std.proofs.lemmas.List.Elements.{All-head, All-nil, All-push, All-tail}
+use Rattle.std.proofs.lemmas.List.Elements.{All-head, All-push, All-tail}
 use Rattle.spec_ephemeris.specs.Series.{to_nat}
 use Rattle.spec_searches.specs.Search.{Search}
 use Rattle.spec_stills.specs.declared.still.StillSpan.{StillSpan}
@@ -71,9 +71,6 @@ unit_added s from xs upto x (Some unit) last found next over =
     let several = last_several from xs upto x last found.follow in
     added s from xs x.upto upto unit (record { still = found.still; follow = last_follow from xs upto x last found.follow }) (omega (arith, ints, next))
     (over (last_all s xs x last found.still) (omega (arith, ints, several)))
-
-pub none_yet : (s : Search) (from : ℤ) → AreFound s from [] from
-none_yet s from = record { still = All-nil (IsStill s); follow = omega (arith, ints) }
 
 -- from a later time on
 pub sooner_if : {E : Type 0} (from later : ℤ) (r : Result (Vec StillSpan Global) E) → from ≤ℤ later → IfOk r (λ found. AreInOrder later found.items) → IfOk r (λ found. AreInOrder from found.items)

@@ -1,5 +1,5 @@
 // Where a node of a search stands among still spans, by one search by halving of their list.
-ghost use Rattle.std.specs.Prelude.{◌≡◌, ◌&&◌, ◌≤◌, ◌<ℤ◌, get_or, length, nat_lt};
+ghost use Rattle.std.specs.Prelude.{◌≡◌, ◌&&◌, ◌<ℤ◌, get_or, length, nat_lt};
 ghost use Rattle.spec_events.specs.Stages.{is_above_limits};
 ghost use Rattle.spec_searches.specs.Search.{criteria};
 ghost use Rattle.spec_stills.specs.declared.still.StillSpan.{StillSpan};

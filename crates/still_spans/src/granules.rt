@@ -1,5 +1,5 @@
 // The granules of the columns in use, one after the other.
-ghost use Rattle.std.specs.Prelude.{◌≡◌, ◌<◌, ◌≤ℤ◌, ◌<ℤ◌, All, IsTrue};
+ghost use Rattle.std.specs.Prelude.{◌<◌, ◌≤ℤ◌, ◌<ℤ◌, All, IsTrue};
 ghost use Rattle.spec_bodies.specs.Views.{Fits};
 ghost use Rattle.spec_ephemeris.specs.Ephemeris.{end_of};
 ghost use Rattle.spec_ephemeris.specs.Header.{has_column};

@@ -1,5 +1,5 @@
 // The still spans of one granule: those of its halves, of their halves, and so on.
-ghost use Rattle.std.specs.Prelude.{◌≡◌, ◌^◌, ◌≤ℤ◌, ◌<ℤ◌, ◌+ℤ◌, neg_ℤ, pos, ℤ, IfSome, OnOk, false, [], ◌∷◌, ◌++◌};
+ghost use Rattle.std.specs.Prelude.{◌≡◌, ◌≤ℤ◌, ◌<ℤ◌, ◌+ℤ◌, pos, ℤ, IfSome, OnOk, false, [], ◌∷◌, ◌++◌};
 ghost use Rattle.spec_trees.specs.Cuts.{CanCut};
 ghost use Rattle.spec_stills.specs.Still.{IsStill};
 ghost use Rattle.still_spans.specs.Found.{AreFound, IsStillOver};

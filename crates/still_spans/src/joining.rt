@@ -1,5 +1,5 @@
 // The still spans of shares, one after the other.
-ghost use Rattle.std.specs.Prelude.{◌≡◌, ℤ, All, IfOk, OnOk};
+ghost use Rattle.std.specs.Prelude.{ℤ, All, IfOk, OnOk};
 ghost use Rattle.spec_searches.specs.Search.{Search};
 ghost use Rattle.spec_stills.specs.Still.{IsStill};
 ghost use Rattle.still_spans.specs.Found.{AreInOrder};

@@ -1,5 +1,5 @@
 // Whole numbers of units that a margin allows.
-ghost use Rattle.std.specs.Prelude.{◌≡◌, ◌+◌, ◌*◌, ◌^◌, ◌≤◌, pos, ◌-ℤ◌, ◌≤ℤ◌, ◌<ℤ◌, IfSome, IsTrue};
+ghost use Rattle.std.specs.Prelude.{◌≡◌, ◌+◌, ◌*◌, ◌^◌, ◌≤◌, pos, ◌-ℤ◌, ◌≤ℤ◌, IfSome, IsTrue};
 ghost use Rattle.spec_models.specs.Ends.{NoMore, greatest_end, in_units};
 ghost use Rattle.spec_stills.specs.Margins.{StepsFit};
 ghost use Rattle.event_bounds.specs.Made.{bound_made};

@@ -1,4 +1,4 @@
-use Rattle.std.proofs.Common.{◌≡◌, ◌+◌, ◌<◌, length, drop, refl, arith}
+use Rattle.std.proofs.Common.{◌+◌, ◌<◌, length, drop, refl, arith}
 use Rattle.de_blocks.proofs.Triples.{at_place}
 use Rattle.de_blocks.proofs.Walking.{counted, is_on}
 use Rattle.de_blocks.proofs.walk.push_triple.Goals as goal

@@ -2,7 +2,6 @@ use Rattle.std.proofs.Common.{◌∙◌, ◌<◌, sym, ap, subst}
 use Rattle.spec_trees.specs.declared.tree.Node.{Node}
 use Rattle.spec_trees.specs.Tree.{IsValid, width}
 use Rattle.spec_searches.specs.Found.{rules}
-use Rattle.spec_searches.specs.Search.{parts}
 use Rattle.spec_searches.proofs.Parts.{split_may}
 use Rattle.spec_stills.specs.Settled.{part_with}
 use Rattle.spec_stills.proofs.Descending.{part_is_narrower, part_is_valid}

@@ -6,6 +6,7 @@ use Rattle.spec_intervals.specs.Interval.{distance_exponent, cosine_exponent}
 use Rattle.spec_intervals.specs.Enclosure.{constant_of, sum_of, difference_of, product_of, signed_square_of}
 use Rattle.event_expr.proofs.Walk.{Known, known, decimal_kept, part-within, part-encloses, two_enclosed, sum-parts, difference-parts, product-parts, square-part, length-within, cosine-part, holds-number, two_parts, one_part}
 use Rattle.event_expr.proofs.enclosing.+enclose_over.Goals as goal
+use Rattle.event_expr.proofs.enclosing.+enclose_over.Goals.{Start}
 
 -- what the states keep over the span
 facts : (g : _) (t : _) (c : goal.Start g t) → Known (g.S.States.exact c.args.states.now) (λ leaf. g.S.States.answer c.args.states.now leaf c.args.span.now.first c.args.span.now.last) c.args.span.now.first c.args.span.now.last

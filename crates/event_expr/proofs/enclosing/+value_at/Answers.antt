@@ -8,6 +8,7 @@ use Rattle.spec_intervals.specs.Enclosure.{sum_of, difference_of, product_of}
 use Rattle.event_expr.proofs.Walk.{Known, known, decimal_kept, sum-parts, difference-parts, product-parts, square-part}
 use Rattle.event_expr.proofs.Mids.{mid-constant, mid-sum, mid-difference, mid-product, two_mids, one_mid, one_exponent, two_exponents}
 use Rattle.event_expr.proofs.enclosing.+value_at.Goals as goal
+use Rattle.event_expr.proofs.enclosing.+value_at.Goals.{Start}
 
 -- what the states keep over the span
 facts : (g : _) (t : _) (c : goal.Start g t) → Known (g.S.States.exact c.args.states.now) (λ leaf. g.S.States.answer c.args.states.now leaf c.args.span.now.first c.args.span.now.last) c.args.span.now.first c.args.span.now.last

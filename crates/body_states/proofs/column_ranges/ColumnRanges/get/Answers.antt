@@ -2,7 +2,7 @@ use Rattle.std.proofs.Common.{subst}
 use Rattle.body_states.specs.Ranges.{Asked, asked_of}
 use Rattle.body_states.proofs.Entries.{AreFirst, any_entered, made_of, right_of}
 use Rattle.body_states.proofs.column_ranges.ColumnRanges.get.Goals as goal
-use Rattle.body_states.proofs.column_ranges.ColumnRanges.get.Goals.{After-entered}
+use Rattle.body_states.proofs.column_ranges.ColumnRanges.get.Goals.{After-entered, After-along, In-None}
 
 first : (c : After-entered) → AreFirst c.args.self.now c.self.inside.columns c.min-count.result
 first c =

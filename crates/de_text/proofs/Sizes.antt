@@ -8,6 +8,9 @@ use Rattle.spec_text.specs.declared.decimals.Decimal.{Decimal}
 use Rattle.spec_text.specs.Days.{quotient, seconds_of_days, size_over, size_under}
 use Rattle.de_text.specs.Sizes.{capped}
 
+pub ten_fits : (n : ℕ) → n ≤ 38 → 10 ^ n < 2 ^ 128
+ten_fits n few = let bound : 10 ^ n ≤ 10 ^ 38 = pow-le-pow_right (omega arith) few in omega (arith, bound)
+
 pub great_power : (e : ℕ) → 38 < e → 2 ^ 128 - 1 ≡ min (10 ^ e) (2 ^ 128 - 1)
 great_power e lt = let bound : 10 ^ 39 ≤ 10 ^ e = pow-le-pow_right (omega arith) {i = 39} (omega (arith, lt)) in omega (arith, bound)
 

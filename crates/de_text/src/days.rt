@@ -13,7 +13,7 @@ const DAY: u128 = DAY_SECONDS as u128;
 // The greatest exponent of a power of ten of 128 bits.
 const MAX_POWER: u32 = 38;
 
-#[tactic(auto, using(spec_numbers::proofs::Naturals::ten_fits, crate::proofs::Sizes::great_power))]
+#[tactic(auto, using(crate::proofs::Sizes::ten_fits, crate::proofs::Sizes::great_power))]
 fn capped_power(exp: u32) -> u128
     ensures { result ≡ min (10 ^ exp) (2 ^ 128 - 1) }
 {

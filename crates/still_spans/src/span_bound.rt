@@ -27,12 +27,18 @@ const MAX_PLAIN_HALVINGS: u32 = 1;
 /// How often a granule is halved at most where a bound is made for the halves.
 const MAX_BOUND_DEPTH: u32 = 6;
 
+/// The most blocks of an ephemeris of which no bounds over pieces of granules are made: what its pieces weigh by the bounds of
+/// granules mostly stays below the limit of leaves.
+const MAX_PLAIN_BLOCKS: u32 = 512;
+
 /// A bound of the function of a search over times of one granule.
 #[derive(Clone, Copy)]
 pub(crate) struct SpanBound {
     pub(crate) bound: Bound,
     pub(crate) first: i64,
     pub(crate) last: i64,
+    /// Whether bounds over parts of its times are worth their cost. No promise rests on it.
+    pub(crate) has_parts: bool,
 }
 
 /// The bound of the function of a search over some times.
@@ -65,7 +71,12 @@ impl SpanBound {
         ensures last { result.last ≡ last }
     {
         search.is_search();
-        SpanBound { bound, first, last }
+        SpanBound {
+            bound,
+            first,
+            last,
+            has_parts: MAX_PLAIN_BLOCKS < search.ephemeris().blocks(),
+        }
     }
 
     // The bound over some times.
@@ -87,8 +98,8 @@ impl SpanBound {
         is_one_way(steps(&self.bound.step))
     }
 
-    /// A bound over some of its times at least: itself where the function is monotone or these are deep in a granule, and else
-    /// that over these.
+    /// A bound over some of its times at least: itself where the function is monotone, where these are deep in a granule or the
+    /// ephemeris is short, and else that over these.
     pub(crate) fn within(&self, search: &EventSearch, a: i64, b: i64, depth: u32) -> SpanBound
         requires bounded { IsBounded search.now self.now }
         requires from { self.now.first ≤ℤ a }
@@ -98,7 +109,7 @@ impl SpanBound {
         ensures from { result.first ≤ℤ a }
         ensures upto { b ≤ℤ result.last }
     {
-        if MAX_BOUND_DEPTH < depth || self.is_monotone() {
+        if !self.has_parts || MAX_BOUND_DEPTH < depth || self.is_monotone() {
             *self
         } else {
             SpanBound::over(search, a, b)
@@ -138,7 +149,7 @@ impl SpanBound {
     }
 
     /// The still span from one of its times to another, where the function keeps so far from 0 and the span is of use: by the
-    /// bound over these times alone, where nodes in it would be halved too often.
+    /// bound over these times alone, where nodes in it would be halved too often and the ephemeris is long.
     pub(crate) fn still_by(
         &self,
         search: &EventSearch,
@@ -155,7 +166,7 @@ impl SpanBound {
         ensures { IfSome result (λ still. IsStillOver search.now a b still) }
     {
         let widest = self.widest(search, margin, a, b);
-        if is_plain(search, a, b, widest) {
+        if !self.has_parts || is_plain(search, a, b, widest) {
             return useful(search, a, b, widest, side(margin));
         }
         let own = SpanBound::over(search, a, b);

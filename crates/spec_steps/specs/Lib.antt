@@ -1,0 +1,5 @@
+pub mod ColumnTerms
+pub mod Meanings
+pub mod Parts
+pub mod Steps
+pub mod Examples

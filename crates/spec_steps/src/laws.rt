@@ -1,0 +1,61 @@
+// What is true of terms over columns: each law is the contract of a function with nothing to do.
+
+ghost use Rattle.std.specs.Prelude.{◌≡◌, ◌<◌, ℕ, ℤ};
+ghost use Rattle.spec_expressions.specs.Term.{IsFormula, IsLeaf, Leaf, Term, part_exponent};
+ghost use Rattle.spec_bodies.specs.declared.factor.Factor.{Factor};
+ghost use Rattle.spec_bodies.specs.declared.quantity.Quantity.{Quantity};
+ghost use Rattle.spec_bodies.specs.Reading.{IsReadable};
+ghost use Rattle.spec_bodies.specs.Views.{Fits, IsView, View, factor_of, state_enclosure};
+ghost use Rattle.spec_searches.specs.Search.{enclosure_over};
+ghost use Rattle.spec_bounds.specs.Limits.{IsBoundWithin};
+ghost use Rattle.spec_bounds.specs.Terms.{bound_over};
+ghost use Rattle.spec_covers.specs.Points.{point_of, state_point};
+ghost use Rattle.spec_steps.specs.declared.sights.Sight.{Sight};
+ghost use Rattle.spec_steps.specs.ColumnTerms.{ColumnTerm, column, coordinate_of, difference, of_leaf, of_term, product, scaled, sight_of, signed_square, sum};
+ghost use Rattle.spec_steps.specs.Meanings.{bound_meant, enclosure_meant, point_meant};
+ghost use Rattle.spec_steps.specs.Parts.{IsPart, IsSeen, IsSeenColumn};
+
+/// In each arithmetic the term of a formula means what the formula does: its enclosure, its bound, and its interval at a
+/// single time.
+pub fn terms_mean_their_formulas()
+    ensures enclosures { (v : View) (e : Term) (a b : ℤ)
+        → enclosure_meant v a b (of_term (sight_of v) e) ≡ enclosure_over (state_enclosure v) e a b }
+    ensures bounds { (v : View) (e : Term) (a b : ℤ)
+        → bound_meant v a b (of_term (sight_of v) e) ≡ bound_over v e a b }
+    ensures points { (v : View) (e : Term) (c t : ℤ)
+        → point_meant v c t (of_term (sight_of v) e) ≡ point_of (state_point v c t) e }
+{}
+
+/// Each coordinate of a target along an axis is made of the columns in use, by a short formula; so its term and that of
+/// each formula may stand in a list.
+pub fn what_may_be_listed()
+    ensures coordinates { (s : Sight) (target axis : ℕ) → axis < 3
+        → IsSeen s (coordinate_of s target axis) }
+    ensures leaves { (s : Sight) (l : Leaf) → IsLeaf l → IsPart s (of_leaf s l) }
+    ensures formulas { (s : Sight) (e : Term) → IsFormula e → IsPart s (of_term s e) }
+{}
+
+/// The parts of what may stand in a list may stand in it.
+pub fn parts_may_be_listed()
+    ensures scaled { (s : Sight) (f : Factor) (x : ColumnTerm) → IsPart s (scaled f x) → IsPart s x }
+    ensures sums { (s : Sight) (x y : ColumnTerm) → IsPart s (sum x y) → IsPart s x × IsPart s y }
+    ensures differences { (s : Sight) (x y : ColumnTerm) → IsPart s (difference x y)
+        → IsPart s x × IsPart s y }
+    ensures products { (s : Sight) (x y : ColumnTerm) → IsPart s (product x y)
+        → IsPart s x × IsPart s y }
+    ensures squares { (s : Sight) (x : ColumnTerm) → IsPart s (signed_square x) → IsPart s x }
+{}
+
+/// The columns of a list are those in use, which can be read.
+pub fn listed_columns_are_read()
+    ensures seen { (s : Sight) (q : Quantity) (number axis : ℕ) → IsPart s (column q number axis)
+        → IsSeenColumn s number axis }
+    ensures readable { (v : View) (number axis : ℕ) → IsView v
+        → IsSeenColumn (sight_of v) number axis → IsReadable v number axis }
+{}
+
+/// Over times that fit, no exponent of a bound passes the limit, so that every rule can be applied.
+pub fn listed_bounds_are_within_limits()
+    ensures { (v : View) (t : ColumnTerm) (a b : ℤ) → IsPart (sight_of v) t → Fits v a b
+        → IsBoundWithin part_exponent (bound_meant v a b t) }
+{}

@@ -1,0 +1,7 @@
+mod Values
+mod Pushed
+mod Apart
+mod Formulas
+mod Framed
+mod Turned
+pub mod Entered

@@ -1,5 +1,4 @@
 // What a value of a step is made of.
-ghost use Rattle.std.specs.Prelude.{◌≡◌};
 ghost use Rattle.spec_steps.specs.declared.sights.Sight.{Sight};
 ghost use Rattle.spec_steps.specs.ColumnTerms.{ColumnTerm, column as column_of, zero_term, length as length_of, cosine as cosine_of, scaled as scaled_of, sum as sum_of, difference as difference_of, product as product_of, signed_square as signed_square_of};
 ghost use Rattle.spec_steps.specs.Parts.{IsPart};

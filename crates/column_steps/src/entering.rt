@@ -2,7 +2,7 @@
 ghost use Rattle.std.specs.Prelude.{◌≡◌, ◌+◌, ◌<◌, ◌≤◌, IfNone, IfSome};
 ghost use Rattle.spec_expressions.specs.Term.{IsFormula, nodes, term};
 ghost use Rattle.spec_steps.specs.ColumnTerms.{of_term};
-ghost use Rattle.column_steps.specs.Listed.{Enters, Grows, IsMadeAt, Stands, step_count};
+ghost use Rattle.column_steps.specs.Listed.{Enters, Grows, IsMadeAt, step_count};
 ghost use Rattle.column_steps.specs.Places.{ArePlaced};
 
 use crate::places::LeafPlaces;

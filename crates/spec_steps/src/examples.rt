@@ -1,12 +1,11 @@
 // Worked values of each definition, by computation.
 
-ghost use Rattle.std.specs.Prelude.{◌≡◌, ◌∷◌, [], List, length};
+ghost use Rattle.std.specs.Prelude.{◌≡◌, length};
 ghost use Rattle.spec_expressions.specs.Term.{leaf, position, velocity, product as product_of};
 ghost use Rattle.spec_bodies.specs.declared.factor.Factor.TheVariants.{MoonShare, Cosine, Sine};
 ghost use Rattle.spec_bodies.specs.declared.quantity.Quantity.TheVariants.{Position, Velocity};
-ghost use Rattle.spec_steps.specs.ColumnTerms.{ColumnTerm, column, zero_term, scaled, sum, difference, product, of_leaf, of_term};
-ghost use Rattle.spec_steps.specs.declared.steps.Step.{Step};
-ghost use Rattle.spec_steps.specs.declared.steps.Step.TheVariants.{Column, Scaled, Sum, Difference, Zero};
+ghost use Rattle.spec_steps.specs.ColumnTerms.{column, zero_term, scaled, sum, difference, product, of_leaf, of_term};
+ghost use Rattle.spec_steps.specs.declared.steps.Step.TheVariants.{Scaled, Sum};
 ghost use Rattle.spec_steps.specs.Steps.{AreSteps, IsStep, term_at, terms_of};
 ghost use Rattle.spec_steps.specs.Examples.{from_the_earth, from_the_moon, earth_steps};
 

@@ -5,7 +5,7 @@ ghost use Rattle.spec_expressions.specs.Term.{IsFormula, IsLeaf, Leaf, Term, par
 ghost use Rattle.spec_bodies.specs.declared.factor.Factor.{Factor};
 ghost use Rattle.spec_bodies.specs.declared.quantity.Quantity.{Quantity};
 ghost use Rattle.spec_bodies.specs.Reading.{IsReadable};
-ghost use Rattle.spec_bodies.specs.Views.{Fits, IsView, View, factor_of, state_enclosure};
+ghost use Rattle.spec_bodies.specs.Views.{Fits, IsView, View, state_enclosure};
 ghost use Rattle.spec_searches.specs.Search.{enclosure_over};
 ghost use Rattle.spec_bounds.specs.Limits.{IsBoundWithin};
 ghost use Rattle.spec_bounds.specs.Terms.{bound_over};

@@ -1,13 +1,15 @@
 -- Tests of a list, one element after the other; and the steps of the conditions of an event.
-use Rattle.std.proofs.Common.{◌≡◌, ◌∙◌, ℕ, zero, suc, ◌+◌, ◌<◌, Bool, true, false, ◌||◌, ◌&&◌, List, length, get_or, drop, Option, None, Some, ap, subst, sym}
+use Rattle.std.proofs.Common.{◌≡◌, ◌∙◌, ℕ, zero, suc, ◌+◌, ◌<◌, ◌≤◌, Bool, true, false, ◌||◌, ◌&&◌, List, length, get_or, drop, Option, None, Some, ap, refl, subst, sym, arith}
 use Rattle.std.specs.Prelude.{IfSome}
 use Rattle.std.specs.List.{list_all, list_any}
 use Rattle.std.proofs.lemmas.List.{at_drop_more}
-use Rattle.spec_expressions.specs.declared.steps.Step.{Step}
+use Rattle.spec_expressions.specs.Term.{Term}
 use Rattle.spec_searches.specs.Event.{Condition, Event}
-use Rattle.event_steps.specs.Entered.{IsMadeAt, KeepsSteps}
+use Rattle.spec_steps.specs.declared.sights.Sight.{Sight}
+use Rattle.spec_steps.specs.ColumnTerms.{of_term}
+use Rattle.column_steps.specs.Listed.{Grows, IsMadeAt, Listed}
 use Rattle.event_judge.specs.declared.listed_event.ListedEvent.{ListedEvent}
-use Rattle.event_judge.specs.Listed.{AreGuardsAt, AreStepsOf, IsGuardAt}
+use Rattle.event_judge.specs.Listed.{AreGuardsAt, AreStepsOf, IsFormulaAt, IsGuardAt, IsSlotOf, KeepsSteps, place_of, slot_count}
 
 -- ---- what is left of a list, past an element that does not decide
 module _ {X : Type 0} (p : X → Bool) (xs : List X) (i : ℕ) where
@@ -22,25 +24,55 @@ pub found_first : {K X : Type 0} (test : K → X → Bool) (at before : K) → a
 found_first {K} {X} test at before same own read is r b by e = subst (λ (k : K). test k read ≡ b) same (subst (λ (x : X). test at x ≡ b) is (sym by ∙ e))
 
 -- ---- the steps of the conditions
-pub step_of_guard : (steps : List Step) (cs : List Condition) (place : ℕ) (number : Option ℕ) → IsGuardAt steps cs place number → place < length cs → (d c : Condition) → get_or cs place d ≡ c
-    → IfSome number (λ k. IsMadeAt steps k c.term)
-step_of_guard steps cs place None made below d c is = made
-step_of_guard steps cs place (Some k) made below d c is = subst (λ (x : Condition). IsMadeAt steps k x.term) is (made below d)
+pub step_of_guard : (steps : Listed) (n : ℕ) (cs : List Condition) (l : ListedEvent) (place : ℕ) → AreGuardsAt steps n cs l → place < length cs → (d c : Condition) → get_or cs place d ≡ c
+    → IsSlotOf steps n c.term (place_of l place)
+step_of_guard steps n cs l place are below d c is = subst (λ (x : Condition). IsSlotOf steps n x.term (place_of l place)) is (are place below d)
 
-pub guards_at : (e : Event) (l : ListedEvent) → AreStepsOf e l → AreGuardsAt l.steps e.conditions l
-guards_at e l are zero = are.first
-guards_at e l are (suc zero) = are.second
-guards_at e l are (suc (suc place)) = tt
+slot_of : (l : Listed) (n : ℕ) (cs : List Condition) (place : ℕ) (number : Option ℕ) → IsGuardAt l cs place number → IfSome number (λ k. k < n) → place < length cs → (d : Condition)
+    → IsSlotOf l n (get_or cs place d).term number
+slot_of l n cs place None made few below d = made
+slot_of l n cs place (Some k) made few below d = (made below d, few)
 
-pub guard_kept : (before after : List Step) (cs : List Condition) (place : ℕ) (number : Option ℕ) → KeepsSteps before after → IsGuardAt before cs place number → IsGuardAt after cs place number
+guard_at : (sight : Sight) (e : Event) (l : ListedEvent) → AreStepsOf sight e l → (place : ℕ) → IsGuardAt l.steps e.conditions place (place_of l place)
+guard_at sight e l are zero = are.first
+guard_at sight e l are (suc zero) = are.second
+guard_at sight e l are (suc (suc place)) = tt
+
+pub guards_at : (sight : Sight) (e : Event) (l : ListedEvent) → AreStepsOf sight e l → AreGuardsAt l.steps (slot_count l.slots) e.conditions l
+guards_at sight e l are place below d = slot_of l.steps (slot_count l.slots) e.conditions place (place_of l place) (guard_at sight e l are place) (are.slots place) below d
+
+-- ---- lists that keep what stands in them
+pub kept_none : (l : Listed) → KeepsSteps l l
+kept_none l = record { sight = refl; kept = λ place t is. is }
+
+pub keeps : (before after : Listed) (n : ℕ) → Grows before after n → KeepsSteps before after
+keeps before after n grown = record { sight = grown.sight; kept = grown.kept }
+
+formula_kept : (before after : Listed) (k : ℕ) (e : Term) → KeepsSteps before after → IsFormulaAt before k e → IsFormulaAt after k e
+formula_kept before after k e kept made = subst (λ (s : Sight). IsMadeAt after k (of_term s e)) (sym kept.sight) (record { stands = kept.kept k (of_term before.sight e) made.stands; slot = made.slot })
+
+guard_kept : (before after : Listed) (cs : List Condition) (place : ℕ) (number : Option ℕ) → KeepsSteps before after → IsGuardAt before cs place number → IsGuardAt after cs place number
 guard_kept before after cs place None kept made = made
-guard_kept before after cs place (Some k) kept made = λ below d. kept k (get_or cs place d).term (made below d)
+guard_kept before after cs place (Some k) kept made = λ below d. formula_kept before after k (get_or cs place d).term kept (made below d)
+
+slot_below : (number : Option ℕ) (last n : ℕ) → last < n → IfSome number (λ k. k ≤ last) → IfSome number (λ k. k < n)
+slot_below None last n below few = few
+slot_below (Some k) last n below few = omega (arith, below, few)
+
+slots_below : (l : ListedEvent) (last n : ℕ) → last < n → IfSome l.first (λ k. k ≤ last) → IfSome l.second (λ k. k ≤ last) → (place : ℕ) → IfSome (place_of l place) (λ k. k < n)
+slots_below l last n below first second zero = slot_below l.first last n below first
+slots_below l last n below first second (suc zero) = slot_below l.second last n below second
+slots_below l last n below first second (suc (suc place)) = tt
 
 -- the function and then two conditions
-pub steps_of : (e : Event) (l : ListedEvent) (first second : List Step) → IsMadeAt first l.function e.function
-    → KeepsSteps first second → IsGuardAt second e.conditions 0 l.first → KeepsSteps second l.steps → IsGuardAt l.steps e.conditions 1 l.second → AreStepsOf e l
-steps_of e l first second made kept one kept_next two = record {
-  function = kept_next l.function e.function (kept l.function e.function made);
+pub steps_of : (sight : Sight) (e : Event) (l : ListedEvent) (first second : Listed) → first.sight ≡ sight → IsMadeAt first l.function (of_term sight e.function)
+    → KeepsSteps first second → IsGuardAt second e.conditions 0 l.first → KeepsSteps second l.steps → IsGuardAt l.steps e.conditions 1 l.second
+    → (last : ℕ) → last < slot_count l.slots → l.function ≤ last → IfSome l.first (λ k. k ≤ last) → IfSome l.second (λ k. k ≤ last) → AreStepsOf sight e l
+steps_of sight e l first second seen made kept one kept_next two last below function_below first_below second_below = record {
+  seen = kept_next.sight ∙ (kept.sight ∙ seen);
+  function = formula_kept second l.steps l.function e.function kept_next (formula_kept first second l.function e.function kept (subst (λ (s : Sight). IsMadeAt first l.function (of_term s e.function)) (sym seen) made));
   first = guard_kept second l.steps e.conditions 0 l.first kept_next one;
   second = two;
+  slot = omega (arith, below, function_below);
+  slots = slots_below l last (slot_count l.slots) below first_below second_below;
 }

@@ -4,4 +4,4 @@ mod Remembered
 mod Middles
 mod QuietSpans
 mod Guards
-mod Times
+mod Bounds

@@ -1,6 +1,5 @@
 pub mod Moments
 pub mod Found
-pub mod Wanted
 pub mod Named
 pub mod Memory
 pub mod Quiet

@@ -1,15 +1,18 @@
 // What is known of conditions over one span of times.
-ghost use Rattle.std.specs.Prelude.{◌≡◌, IfSome};
+ghost use Rattle.std.specs.Prelude.{◌≡◌};
 ghost use Rattle.std.specs.List.{list_all, list_any};
 ghost use Rattle.spec_events.specs.Verdict.{certifies, is_certified, is_refuted};
-ghost use Rattle.event_steps.specs.Entered.{IsMadeAt};
-ghost use Rattle.event_judge.specs.Listed.{AreGuardsAt};
+ghost use Rattle.body_states.specs.Moments.{enclosure_in};
+ghost use Rattle.event_judge.specs.Listed.{AreGuardsAt, IsSlotOf};
 ghost use Rattle.event_judge.specs.Moments.{finding_in, sign_in};
 
 use crate::listed_event::ListedEvent;
+use body_states::Snapshot;
+use column_steps::{MAX_STEPS, StepList};
+use event_expr::Formula;
 use event_kinds::Guard;
-use ival_core::Sign;
-use step_enclosures::StepEnclosures;
+use ival_core::{Enclosure, Sign};
+use step_enclosures::{StepEnclosures, blank};
 
 /// The sign certifies what has to be at least 0, or below 0.
 #[inline(always)]
@@ -23,20 +26,33 @@ pub(crate) fn certifies(at_least: bool, sign: Sign) -> bool
     }
 }
 
-// The sign of its formula at each of these times, by the step that stands for it where it is listed.
+// The enclosure of a formula over some times, by a list of its own.
+#[inline(never)]
+fn own_enclosure(formula: &Formula, states: &Snapshot) -> Enclosure
+    ensures { result ≡ enclosure_in states.now formula.now }
+{
+    let mut slots = [blank(); MAX_STEPS];
+    let (steps, place) = StepList::of(states.sight(), formula);
+    StepEnclosures::new(states, &steps, &mut slots).enclosure(place)
+}
+
+// The sign of its formula at each of these times: by the step that stands for it, or by a list of its own where none does.
 #[inline(always)]
 fn sign(guard: &Guard, number: Option<usize>, made: &mut StepEnclosures) -> Sign
-    requires listed { IfSome number (λ k. IsMadeAt made.old.steps k guard.now.term) }
+    requires listed { IsSlotOf made.old.steps made.old.room guard.now.term number }
     ensures sign { result ≡ sign_in made.old.moment guard.now.term }
     ensures same { made.new ≡ made.old }
 {
-    made.enclosure(guard.formula(), number).range.sign()
+    match number {
+        Some(place) => made.enclosure(place).range.sign(),
+        None => own_enclosure(guard.formula(), made.states()).range.sign(),
+    }
 }
 
 // The condition holds at each of these times.
 #[inline(always)]
 fn is_certified(guard: &Guard, number: Option<usize>, made: &mut StepEnclosures) -> bool
-    requires listed { IfSome number (λ k. IsMadeAt made.old.steps k guard.now.term) }
+    requires listed { IsSlotOf made.old.steps made.old.room guard.now.term number }
     ensures certified { result ≡ is_certified (finding_in made.old.moment guard.now) }
     ensures same { made.new ≡ made.old }
 {
@@ -46,7 +62,7 @@ fn is_certified(guard: &Guard, number: Option<usize>, made: &mut StepEnclosures)
 // It is false at each of them.
 #[inline(always)]
 fn is_refuted(guard: &Guard, number: Option<usize>, made: &mut StepEnclosures) -> bool
-    requires listed { IfSome number (λ k. IsMadeAt made.old.steps k guard.now.term) }
+    requires listed { IsSlotOf made.old.steps made.old.room guard.now.term number }
     ensures refuted { result ≡ is_refuted (finding_in made.old.moment guard.now) }
     ensures same { made.new ≡ made.old }
 {
@@ -59,7 +75,7 @@ pub(crate) fn are_certified(
     listed: &ListedEvent,
     made: &mut StepEnclosures,
 ) -> bool
-    requires listed { AreGuardsAt made.old.steps guards.now listed.now }
+    requires listed { AreGuardsAt made.old.steps made.old.room guards.now listed.now }
     ensures certified { result
         ≡ list_all (λ guard. is_certified (finding_in made.old.moment guard)) guards.now }
     ensures same { made.new ≡ made.old }
@@ -78,7 +94,7 @@ pub(crate) fn is_one_refuted(
     listed: &ListedEvent,
     made: &mut StepEnclosures,
 ) -> bool
-    requires listed { AreGuardsAt made.old.steps guards.now listed.now }
+    requires listed { AreGuardsAt made.old.steps made.old.room guards.now listed.now }
     ensures refuted { result
         ≡ list_any (λ guard. is_refuted (finding_in made.old.moment guard)) guards.now }
     ensures same { made.new ≡ made.old }

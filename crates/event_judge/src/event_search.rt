@@ -1,18 +1,17 @@
 // A search for an event of two bodies.
 ghost use Rattle.std.specs.Prelude.{◌≡◌, ◌<◌, ◌≤ℤ◌, pos, unsigned_abs};
 ghost use Rattle.spec_searches.specs.Search.{IsSearch};
-ghost use Rattle.event_expr.specs.Leaves.{leaves_of};
-ghost use Rattle.event_steps.specs.Entered.{IsMadeAt};
+ghost use Rattle.spec_steps.specs.ColumnTerms.{of_term, sight_of};
+ghost use Rattle.column_steps.specs.Listed.{IsMadeAt};
 ghost use Rattle.event_judge.specs.Listed.{AreStepsOf};
-ghost use Rattle.event_judge.specs.Wanted.{event_leaves};
 
 use crate::listed_event::ListedEvent;
 use crate::wanted::wanted_leaves;
 use body_states::BodyStates;
+use column_steps::StepPlace;
 use eph_model::Ephemeris;
 use event_expr::Leaves;
 use event_kinds::Event;
-use event_steps::StepPlace;
 use gf_hooks::CutRule;
 use std::marker::Model;
 
@@ -39,9 +38,8 @@ impl<'e> Model for EventSearch<'e> {
     ghost use Rattle.std.specs.Coded.{codes};
     ghost use Rattle.spec_expressions.specs.Code.{term_code};
     ghost use Rattle.spec_searches.specs.Search.{Search};
-    ghost use Rattle.event_expr.specs.Leaves.{leaves_of};
+    ghost use Rattle.spec_steps.specs.ColumnTerms.{sight_of};
     ghost use Rattle.event_judge.specs.Listed.{AreStepsOf};
-    ghost use Rattle.event_judge.specs.Wanted.{event_leaves};
 
     ghost Value = { Search };
 
@@ -57,9 +55,7 @@ impl<'e> Model for EventSearch<'e> {
 
     ghost invariant = { λ s. (s.ephemeris.now ≡ s.states.ephemeris)
         × (0 < s.width)
-        × (s.wanted ≡ event_leaves s.event)
-        × (s.of_function ≡ leaves_of s.event.function)
-        × AreStepsOf s.event s.listed };
+        × AreStepsOf (sight_of s.states) s.event s.listed };
 }
 
 impl<'e> EventSearch<'e> {
@@ -85,7 +81,7 @@ impl<'e> EventSearch<'e> {
     {
         let wanted = wanted_leaves(&event);
         let of_function = event.function().leaves();
-        let listed = ListedEvent::new(&event);
+        let listed = ListedEvent::new(&event, states.sight());
         EventSearch {
             states,
             ephemeris,
@@ -123,25 +119,23 @@ impl<'e> EventSearch<'e> {
         &self.event
     }
 
-    /// The coordinates that its function or a guard of it names.
+    /// The coordinates that its function or a guard of it names. No answer rests on them.
     #[inline(always)]
-    pub(crate) fn wanted(&self) -> &Leaves
-        ensures { result.now ≡ event_leaves self.now.event }
-    {
+    pub(crate) fn wanted(&self) -> &Leaves {
         &self.wanted
     }
 
-    /// The coordinates that its function names.
+    /// The coordinates that its function names. No answer rests on them.
     #[inline(always)]
-    pub(crate) fn of_function(&self) -> &Leaves
-        ensures { result.now ≡ leaves_of self.now.event.function }
-    {
+    pub(crate) fn of_function(&self) -> &Leaves {
         &self.of_function
     }
 
-    /// The step that stands for its function in a list of steps.
+    /// The step that stands for its function in a list of steps of what its states see.
     pub fn function_step(&self) -> StepPlace<'_>
-        ensures { IsMadeAt result.steps.now result.place self.now.event.function }
+        ensures seen { result.steps.now.sight ≡ sight_of self.now.view }
+        ensures made { IsMadeAt result.steps.now result.place
+            (of_term (sight_of self.now.view) self.now.event.function) }
     {
         StepPlace {
             steps: &self.listed.steps,
@@ -152,7 +146,7 @@ impl<'e> EventSearch<'e> {
     /// The steps of its function and of its conditions.
     #[inline(always)]
     pub(crate) fn listed(&self) -> &ListedEvent
-        ensures { AreStepsOf self.now.event result.now }
+        ensures { AreStepsOf (sight_of self.now.view) self.now.event result.now }
     {
         &self.listed
     }

@@ -29,6 +29,7 @@ mod recalling;
 mod remembering;
 mod remembering_judge;
 mod sign_words;
+mod slot_count;
 mod span_words;
 mod steady;
 mod steps;

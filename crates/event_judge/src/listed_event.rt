@@ -1,28 +1,31 @@
 // The function and the conditions of an event as one list of steps.
-ghost use Rattle.std.specs.Prelude.{◌≡◌};
-ghost use Rattle.event_steps.specs.Entered.{KeepsSteps};
-ghost use Rattle.event_judge.specs.Listed.{AreStepsOf, IsGuardAt, place_of};
+ghost use Rattle.std.specs.Prelude.{◌≡◌, ◌<◌, ◌≤◌, IfSome};
+ghost use Rattle.event_judge.specs.Listed.{AreStepsOf, IsGuardAt, KeepsSteps, place_of};
 
+use crate::slot_count::SlotCount;
+use column_steps::StepList;
 use event_kinds::{Event, Guard};
-use event_steps::StepList;
+use spec_steps::Sight;
 
-/// The steps of the function of an event and then of its first two conditions, with the numbers of those that stand for them;
-/// none for a condition for which the list has no room.
+/// The steps of the function of an event and then of its first two conditions, for what is seen, with the numbers of those that
+/// stand for them; none for a condition for which the list has no room.
 #[derive(Drop)]
 pub(crate) struct ListedEvent {
     pub steps: StepList,
     pub function: usize,
     pub first: Option<usize>,
     pub second: Option<usize>,
+    /// How many slots there are to be for values of the steps.
+    pub slots: SlotCount,
 }
 
 impl ListedEvent {
-    /// The steps of an event.
-    pub fn new(event: &Event) -> ListedEvent
-        ensures { AreStepsOf event.now result }
+    /// The steps of an event of what is seen.
+    pub fn new(event: &Event, sight: Sight) -> ListedEvent
+        ensures { AreStepsOf sight event.now result }
     {
         let guards = event.guards();
-        let (mut steps, function) = StepList::of(event.function());
+        let (mut steps, function) = StepList::of(sight, event.function());
         let first = add_guard(&mut steps, guards, 0);
         let second = add_guard(&mut steps, guards, 1);
         ListedEvent {
@@ -30,6 +33,7 @@ impl ListedEvent {
             function,
             first,
             second,
+            slots: SlotCount::for_place(last_place(function, first, second)),
         }
     }
 
@@ -51,10 +55,38 @@ impl ListedEvent {
 fn add_guard(steps: &mut StepList, guards: &[Guard], place: usize) -> Option<usize>
     ensures kept { KeepsSteps steps.old steps.new }
     ensures made { IsGuardAt steps.new guards.now place result }
+    ensures slot { IfSome result (λ k. k < 256) }
 {
     if place < guards.len() {
         steps.add(guards[place].formula())
     } else {
         None
+    }
+}
+
+// The greatest of the numbers of steps.
+fn last_place(function: usize, first: Option<usize>, second: Option<usize>) -> usize
+    requires function { function < 256 }
+    requires first { IfSome first (λ k. k < 256) }
+    requires second { IfSome second (λ k. k < 256) }
+    ensures few { result < 256 }
+    ensures function { function ≤ result }
+    ensures first { IfSome first (λ k. k ≤ result) }
+    ensures second { IfSome second (λ k. k ≤ result) }
+{
+    later(later(function, first), second)
+}
+
+// The greater of the number of a step and that of another, if there is one.
+fn later(place: usize, other: Option<usize>) -> usize
+    requires place { place < 256 }
+    requires other { IfSome other (λ k. k < 256) }
+    ensures few { result < 256 }
+    ensures place { place ≤ result }
+    ensures other { IfSome other (λ k. k ≤ result) }
+{
+    match other {
+        Some(other) if other > place => other,
+        _ => place,
     }
 }

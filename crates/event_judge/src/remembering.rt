@@ -1,18 +1,23 @@
 // What is remembered of a node: the signs at its ends, and the steady or quiet span that it lies in.
-ghost use Rattle.std.specs.Prelude.{◌≡◌, ◌-ℤ◌, IfSome, IsTrue, [], false, pos, true};
+ghost use Rattle.std.specs.Prelude.{◌≡◌, ◌≤◌, ◌-ℤ◌, IfSome, IsTrue, [], false, pos, true};
 ghost use Rattle.spec_events.specs.Verdict.{differ, is_known};
 ghost use Rattle.spec_searches.specs.Search.{crosses, verdict_of};
 ghost use Rattle.spec_bounds.specs.Steady.{IsSteady, sign_at};
 ghost use Rattle.spec_intervals.specs.Enclosure.{middle};
+ghost use Rattle.spec_steps.specs.ColumnTerms.{sight_of};
 ghost use Rattle.event_judge.specs.Found.{whole_enclosure};
+ghost use Rattle.event_judge.specs.Listed.{AreStepsOf, slot_count};
 ghost use Rattle.event_judge.specs.Memory.{LiesInSteady};
 ghost use Rattle.event_judge.specs.Plain.{IsPlain};
 
+use crate::listed_event::ListedEvent;
 use crate::memory::Memory;
 use crate::naming::Naming;
+use crate::slot_count::SlotCount;
 use crate::valid_node::ValidNode;
 use gf_hooks::{Verdict, differ};
 use ival_core::{Enclosure, Sign};
+use step_enclosures::blank;
 use spec_bounds::laws::{ends_that_differ, middles_are_told, steady_spans_tell_verdicts};
 
 // It is one of the two that are known.
@@ -233,15 +238,33 @@ impl<N: Naming> Memory<N> {
 
     // The verdict of a node into which no border falls, by the enclosure over the whole of it. A node that is to be split is
     // looked at.
-    #[inline(never)]
     fn judge_over(&self, node: ValidNode) -> Verdict
         requires named { node.search.now ≡ N.search }
         requires uncrossed { crosses node.search.now node.node ≡ false }
         ensures { result ≡ verdict_of N.search node.entry.node }
     {
-        let states = node.whole();
         let listed = node.search.listed();
-        let mut whole = node.steps_over(&states, listed);
+        match listed.slots {
+            SlotCount::Of32 => self.judge_over_by::<32>(node, listed),
+            SlotCount::Of64 => self.judge_over_by::<64>(node, listed),
+            SlotCount::Of128 => self.judge_over_by::<128>(node, listed),
+            SlotCount::Of256 => self.judge_over_by::<256>(node, listed),
+        }
+    }
+
+    // The same by so many slots.
+    #[inline(never)]
+    fn judge_over_by<const M: usize>(&self, node: ValidNode, listed: &ListedEvent) -> Verdict
+        requires named { node.search.now ≡ N.search }
+        requires listed { AreStepsOf (sight_of node.search.now.view) node.search.now.event listed.now }
+        requires slots { slot_count listed.now.slots ≡ M }
+        requires few { M ≤ 256 }
+        requires uncrossed { crosses node.search.now node.node ≡ false }
+        ensures { result ≡ verdict_of N.search node.entry.node }
+    {
+        let states = node.whole();
+        let mut slots = [blank(); M];
+        let mut whole = node.steps(&states, listed, &mut slots);
         let over = node.enclosure(listed, &mut whole);
         let verdict = self.verdict_over(node, listed, &mut whole, &over);
         if verdict == Verdict::Split {

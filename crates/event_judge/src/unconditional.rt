@@ -3,8 +3,9 @@ ghost use Rattle.std.specs.Prelude.{◌≡◌, [], false};
 ghost use Rattle.spec_events.specs.Stages.{end_verdict};
 ghost use Rattle.spec_searches.specs.Search.{criteria, crosses, verdict_of};
 ghost use Rattle.spec_bounds.specs.Steady.{sign_at};
+ghost use Rattle.spec_steps.specs.ColumnTerms.{sight_of};
 ghost use Rattle.event_judge.specs.Found.{whole_enclosure, whole_moment};
-ghost use Rattle.event_judge.specs.Listed.{AreStepsOf};
+ghost use Rattle.event_judge.specs.Listed.{AreStepsOf, slot_count};
 
 use crate::listed_event::ListedEvent;
 use crate::memory::Memory;
@@ -56,8 +57,9 @@ impl<N: Naming> Memory<N> {
     ) -> Verdict
         requires named { node.search.now ≡ N.search }
         requires uncrossed { crosses node.search.now node.node ≡ false }
-        requires listed { AreStepsOf node.search.now.event listed.now }
+        requires listed { AreStepsOf (sight_of node.search.now.view) node.search.now.event listed.now }
         requires steps { whole.old.steps ≡ listed.now.steps }
+        requires room { whole.old.room ≡ slot_count listed.now.slots }
         requires whole { whole.old.moment ≡ whole_moment node.search.now node.node }
         requires over { over.now ≡ whole_enclosure node.search.now node.node }
         ensures { result ≡ verdict_of N.search node.entry.node }

@@ -1,22 +1,23 @@
 // The verdict of a node, by what is looked at in turn.
-ghost use Rattle.std.specs.Prelude.{◌≡◌, nat_le, [], false, true};
+ghost use Rattle.std.specs.Prelude.{◌≡◌, ◌≤◌, nat_le, [], false, length, true};
 ghost use Rattle.spec_trees.specs.Cuts.{is_wide};
 ghost use Rattle.spec_trees.specs.Tree.{width};
 ghost use Rattle.spec_events.specs.Stages.{end_verdict, is_above_limits, limit_verdict, open_verdict, unit_verdict};
 ghost use Rattle.spec_searches.specs.Search.{border_in, criteria, crosses, may_be_cut, verdict_of};
 ghost use Rattle.spec_bounds.specs.Steady.{steady_verdict};
-ghost use Rattle.event_judge.specs.Listed.{AreStepsOf};
+ghost use Rattle.spec_steps.specs.ColumnTerms.{sight_of};
+ghost use Rattle.event_judge.specs.Listed.{AreStepsOf, slot_count};
 ghost use Rattle.event_judge.specs.Found.{enclosure_at, first_moment, guards_at, is_certified_at, is_refuted_at, is_turnless_by, last_moment, sign_at, whole_moment};
 
 use crate::conditions::{are_certified, is_one_refuted};
 use crate::listed_event::ListedEvent;
+use crate::slot_count::SlotCount;
 use crate::steps::{is_one_way, is_turnless};
 use crate::valid_node::ValidNode;
 use body_states::Snapshot;
-use event_expr::rules::TimeSpan;
 use gf_hooks::{Verdict, differ, has_no_turn, turn_to};
 use ival_core::{Enclosure, Sign};
-use step_enclosures::StepEnclosures;
+use step_enclosures::{StepEnclosures, blank};
 
 impl<'s, 'e> ValidNode<'s, 'e> {
     /// The border of the columns in use in the node, the nearest to its middle.
@@ -110,57 +111,63 @@ impl<'s, 'e> ValidNode<'s, 'e> {
         states.at(self.node.a, self.node.b, self.search.wanted())
     }
 
-    /// What is made by steps of the states over all its times: nothing yet.
+    /// What is made by the steps of its event of the states over some times: nothing yet. The slots may hold anything.
     #[inline(always)]
-    pub(crate) fn steps_over<'r>(
+    pub(crate) fn steps<'r>(
         self,
-        whole: &'r Snapshot<'s, 'e>,
+        states: &'r Snapshot<'s, 'e>,
         listed: &'r ListedEvent,
+        slots: &'r mut [Enclosure],
     ) -> StepEnclosures<'r, 's, 'e>
-        requires uncrossed { crosses self.search.now self.node ≡ false }
-        requires whole { whole.now ≡ whole_moment self.search.now self.node }
-        ensures { result ≡ record { moment = whole.now; steps = listed.now.steps } }
+        requires listed { AreStepsOf (sight_of self.search.now.view) self.search.now.event listed.now }
+        requires view { states.now.view ≡ self.search.now.view }
+        ensures { result ≡ record {
+          moment = states.now;
+          steps = listed.now.steps;
+          room = length slots.old;
+        } }
     {
-        let _columns = self.search.states().columns();
-        let times = TimeSpan::new(self.node.a, self.node.b);
-        StepEnclosures::new(whole, times, &listed.steps)
-    }
-
-    // The same of those at its last time.
-    #[inline(always)]
-    fn steps_at_last<'r>(
-        self,
-        last: &'r Snapshot<'s, 'e>,
-        listed: &'r ListedEvent,
-    ) -> StepEnclosures<'r, 's, 'e>
-        requires { last.now ≡ last_moment self.search.now self.node }
-        ensures { result ≡ record { moment = last.now; steps = listed.now.steps } }
-    {
-        let _columns = self.search.states().columns();
-        let times = TimeSpan::new(self.node.b, self.node.b);
-        StepEnclosures::new(last, times, &listed.steps)
+        StepEnclosures::new(states, &listed.steps, slots)
     }
 
     /// The enclosure of the function over some times, by steps.
     #[inline(always)]
     pub(crate) fn enclosure(self, listed: &ListedEvent, made: &mut StepEnclosures) -> Enclosure
-        requires listed { AreStepsOf self.search.now.event listed.now }
+        requires listed { AreStepsOf (sight_of self.search.now.view) self.search.now.event listed.now }
         requires steps { made.old.steps ≡ listed.now.steps }
+        requires room { made.old.room ≡ slot_count listed.now.slots }
         ensures enclosure { result ≡ enclosure_at self.entry.search.now made.old.moment }
         ensures same { made.new ≡ made.old }
     {
-        made.enclosure(self.search.event().function(), Some(listed.function))
+        made.enclosure(listed.function)
     }
 
-    /// The sign of the function at a single time.
-    #[inline(always)]
+    /// The sign of the function over some times.
     pub(crate) fn sign(self, states: &Snapshot) -> Sign
+        requires { states.now.view ≡ self.search.now.view }
         ensures { result ≡ sign_at self.entry.search.now states.now }
     {
-        states
-            .enclosure(self.search.event().function())
-            .range
-            .sign()
+        let listed = self.search.listed();
+        match listed.slots {
+            SlotCount::Of32 => self.sign_by::<32>(states, listed),
+            SlotCount::Of64 => self.sign_by::<64>(states, listed),
+            SlotCount::Of128 => self.sign_by::<128>(states, listed),
+            SlotCount::Of256 => self.sign_by::<256>(states, listed),
+        }
+    }
+
+    // The same by so many slots.
+    #[inline(never)]
+    fn sign_by<const N: usize>(self, states: &Snapshot, listed: &ListedEvent) -> Sign
+        requires listed { AreStepsOf (sight_of self.search.now.view) self.search.now.event listed.now }
+        requires slots { slot_count listed.now.slots ≡ N }
+        requires few { N ≤ 256 }
+        requires view { states.now.view ≡ self.search.now.view }
+        ensures { result ≡ sign_at self.entry.search.now states.now }
+    {
+        let mut slots = [blank(); N];
+        let mut made = self.steps(states, listed, &mut slots);
+        self.enclosure(listed, &mut made).range.sign()
     }
 
     /// By an enclosure of the function it has no turn that is wanted.
@@ -174,8 +181,9 @@ impl<'s, 'e> ValidNode<'s, 'e> {
     // Some condition is false at each of some times.
     #[inline(always)]
     fn is_refuted(self, listed: &ListedEvent, made: &mut StepEnclosures) -> bool
-        requires listed { AreStepsOf self.search.now.event listed.now }
+        requires listed { AreStepsOf (sight_of self.search.now.view) self.search.now.event listed.now }
         requires steps { made.old.steps ≡ listed.now.steps }
+        requires room { made.old.room ≡ slot_count listed.now.slots }
         ensures refuted { result ≡ is_refuted_at self.entry.search.now made.old.moment }
         ensures same { made.new ≡ made.old }
     {
@@ -185,8 +193,9 @@ impl<'s, 'e> ValidNode<'s, 'e> {
     // Each condition holds at each of some times.
     #[inline(always)]
     fn is_certified(self, listed: &ListedEvent, made: &mut StepEnclosures) -> bool
-        requires listed { AreStepsOf self.search.now.event listed.now }
+        requires listed { AreStepsOf (sight_of self.search.now.view) self.search.now.event listed.now }
         requires steps { made.old.steps ≡ listed.now.steps }
+        requires room { made.old.room ≡ slot_count listed.now.slots }
         ensures certified { result ≡ is_certified_at self.entry.search.now made.old.moment }
         ensures same { made.new ≡ made.old }
     {
@@ -215,8 +224,9 @@ impl<'s, 'e> ValidNode<'s, 'e> {
         first: Sign,
         last: Sign,
     ) -> Verdict
-        requires listed { AreStepsOf self.search.now.event listed.now }
+        requires listed { AreStepsOf (sight_of self.search.now.view) self.search.now.event listed.now }
         requires steps { made.old.steps ≡ listed.now.steps }
+        requires room { made.old.room ≡ slot_count listed.now.slots }
         ensures { result ≡ end_verdict (criteria self.entry.search.now) self.entry.node
             (guards_at self.entry.search.now made.old.moment) first last }
     {
@@ -260,16 +270,35 @@ impl<'s, 'e> ValidNode<'s, 'e> {
     }
 
     // The verdict of a node that is one unit wide, by the states at its two times.
-    #[inline(never)]
     fn unit_verdict(self) -> Verdict
         ensures { let s = self.entry.search.now in
             let last = last_moment s self.entry.node in
             result ≡ unit_verdict (criteria s) self.entry.node (guards_at s last)
             (sign_at s (first_moment s self.entry.node)) (sign_at s last) }
     {
-        let states = self.last();
         let listed = self.search.listed();
-        let mut made = self.steps_at_last(&states, listed);
+        match listed.slots {
+            SlotCount::Of32 => self.unit_verdict_by::<32>(listed),
+            SlotCount::Of64 => self.unit_verdict_by::<64>(listed),
+            SlotCount::Of128 => self.unit_verdict_by::<128>(listed),
+            SlotCount::Of256 => self.unit_verdict_by::<256>(listed),
+        }
+    }
+
+    // The same by so many slots.
+    #[inline(never)]
+    fn unit_verdict_by<const N: usize>(self, listed: &ListedEvent) -> Verdict
+        requires listed { AreStepsOf (sight_of self.search.now.view) self.search.now.event listed.now }
+        requires slots { slot_count listed.now.slots ≡ N }
+        requires few { N ≤ 256 }
+        ensures { let s = self.entry.search.now in
+            let last = last_moment s self.entry.node in
+            result ≡ unit_verdict (criteria s) self.entry.node (guards_at s last)
+            (sign_at s (first_moment s self.entry.node)) (sign_at s last) }
+    {
+        let states = self.last();
+        let mut slots = [blank(); N];
+        let mut made = self.steps(&states, listed, &mut slots);
         let last = self.enclosure(listed, &mut made).range.sign();
         if self.is_refuted(listed, &mut made) {
             Verdict::Clear
@@ -287,8 +316,9 @@ impl<'s, 'e> ValidNode<'s, 'e> {
         over: &Enclosure,
     ) -> Verdict
         requires uncrossed { crosses self.search.now self.node ≡ false }
-        requires listed { AreStepsOf self.search.now.event listed.now }
+        requires listed { AreStepsOf (sight_of self.search.now.view) self.search.now.event listed.now }
         requires steps { whole.old.steps ≡ listed.now.steps }
+        requires room { whole.old.room ≡ slot_count listed.now.slots }
         requires whole { whole.old.moment ≡ whole_moment self.search.now self.node }
         requires over { over.now ≡ enclosure_at self.search.now whole.old.moment }
         ensures { result ≡ verdict_of self.entry.search.now self.entry.node }
@@ -313,14 +343,31 @@ impl<'s, 'e> ValidNode<'s, 'e> {
     }
 
     // The verdict of a node into which no border falls.
-    #[inline(never)]
     fn open_verdict(self) -> Verdict
         requires { crosses self.search.now self.node ≡ false }
         ensures { result ≡ verdict_of self.entry.search.now self.entry.node }
     {
-        let states = self.whole();
         let listed = self.search.listed();
-        let mut whole = self.steps_over(&states, listed);
+        match listed.slots {
+            SlotCount::Of32 => self.open_verdict_by::<32>(listed),
+            SlotCount::Of64 => self.open_verdict_by::<64>(listed),
+            SlotCount::Of128 => self.open_verdict_by::<128>(listed),
+            SlotCount::Of256 => self.open_verdict_by::<256>(listed),
+        }
+    }
+
+    // The same by so many slots.
+    #[inline(never)]
+    fn open_verdict_by<const N: usize>(self, listed: &ListedEvent) -> Verdict
+        requires listed { AreStepsOf (sight_of self.search.now.view) self.search.now.event listed.now }
+        requires slots { slot_count listed.now.slots ≡ N }
+        requires few { N ≤ 256 }
+        requires uncrossed { crosses self.search.now self.node ≡ false }
+        ensures { result ≡ verdict_of self.entry.search.now self.entry.node }
+    {
+        let states = self.whole();
+        let mut slots = [blank(); N];
+        let mut whole = self.steps(&states, listed, &mut slots);
         let over = self.enclosure(listed, &mut whole);
         self.verdict_over(listed, &mut whole, &over)
     }

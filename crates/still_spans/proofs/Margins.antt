@@ -15,7 +15,9 @@ use Rattle.spec_searches.specs.Search.{IsSearch, Search, enclosure_over}
 use Rattle.spec_searches.proofs.Borders.{span_fits}
 use Rattle.spec_searches.proofs.Parts.{first_near, last_near}
 use Rattle.spec_bounds.specs.Steady.{sign_at}
-use Rattle.spec_expressions.specs.Term.{Term}
+use Rattle.spec_expressions.specs.Term.{IsFormula, Term}
+use Rattle.spec_steps.specs.ColumnTerms.{of_term, sight_of}
+use Rattle.column_steps.specs.Listed.{IsMadeAt, Listed}
 use Rattle.spec_models.specs.Ends.{low, high}
 use Rattle.spec_models.specs.Models.{Covers, IsNear, Model}
 use Rattle.spec_stills.specs.Margins.{HasMargin, IsAbove, IsBelow, range_at}
@@ -128,15 +130,20 @@ fits_by s v e columns found a b is same in_use own nearest from several upto non
     let here : found ≡ nearest_border s.view.ephemeris (columns_of s.view) a b = nearest ∙ λ i. nearest_border (own i) ((in_use ∙ ap columns_of same) i) a b in
     span_fits s.view is a b from (omega (arith, ints, several)) upto (sym (ap is_some here) ∙ none)
 
--- what is known by a model over what is seen
-pub known_by : (s : Search) (m : Model) (v : View) (f : Term) (c d c' d' : ℤ) → v ≡ s.view → f ≡ s.event.function → c' ≡ c → d' ≡ d → IsSearch s → Fits s.view c d → c <ℤ d
-    → ((t : ℤ) → c' ≤ℤ t → t ≤ℤ d' → Covers m (argument_of c' d' t) (d' -ℤ c') (enclosure_over (state_enclosure v) f t t).range)
+-- what is known by a model over what is seen, of each formula for which a step stands
+pub known_by : (s : Search) (m : Model) (v : View) (l : Listed) (place : ℕ) (c d c' d' : ℤ) → v ≡ s.view → IsMadeAt l place (of_term (sight_of s.view) s.event.function)
+    → c' ≡ c → d' ≡ d → IsSearch s → Fits s.view c d → c <ℤ d
+    → ((f : Term) → IsFormula f → IsMadeAt l place (of_term (sight_of v) f)
+    → (t : ℤ) → c' ≤ℤ t → t ≤ℤ d' → Covers m (argument_of c' d' t) (d' -ℤ c') (enclosure_over (state_enclosure v) f t t).range)
     → IsKnown s (record { model = m; first = c'; last = d' })
-known_by s m v f c d c' d' same own first last is fits several covers = record {
+known_by s m v l place c d c' d' same made first last is fits several covers = record {
   search = is;
   fits = rw (first, last) fits;
   several = rw (first, last) several;
-  covers = λ t from upto. subst (λ x. Covers m (argument_of c' d' t) (d' -ℤ c') x) (λ i. (enclosure_over (state_enclosure (same i)) (own i) t t).range) (covers t from upto);
+  covers = λ t from upto.
+      let f = s.event.function in
+      let stands = subst (λ w. IsMadeAt l place (of_term (sight_of w) f)) (sym same) made in
+      subst (λ x. Covers m (argument_of c' d' t) (d' -ℤ c') x) (λ i. (enclosure_over (state_enclosure (same i)) f t t).range) (covers f is.formulas.function stands t from upto);
 }
 
 -- one that may be known reaches up to the time at which it is to end

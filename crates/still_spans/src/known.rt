@@ -44,9 +44,8 @@ impl Known {
         ensures last { IfSome result (λ known. known.last ≡ last) }
     {
         search.is_search();
-        let (function, states) = (search.event().function(), search.states());
-        let listed = search.function_step();
-        match model_over(function, listed, search.ephemeris(), states, first, last) {
+        let (listed, states) = (search.function_step(), search.states());
+        match model_over(listed, search.ephemeris(), states, first, last) {
             Some(model) => Some(Known { model, first, last }),
             None => None,
         }

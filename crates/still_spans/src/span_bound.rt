@@ -12,7 +12,7 @@ ghost use Rattle.still_spans.specs.Found.{IsStillOver, still};
 ghost use Rattle.still_spans.specs.Knowledge.{IsBounded, side};
 
 use crate::units::{halvings, steps_allowed};
-use event_bounds::{Bound, bound_by_steps};
+use event_bounds::Bound;
 use event_judge::EventSearch;
 use gf_hooks::{Steps, is_one_way};
 use ival_core::{Ival, Sign};
@@ -46,8 +46,7 @@ pub(crate) fn bound_between(search: &EventSearch, first: i64, last: i64) -> Boun
     requires { Fits search.now.view first last }
     ensures { IsBound result (bound_over search.now.view search.now.event.function first last) }
 {
-    let (function, listed) = (search.event().function(), search.function_step());
-    bound_by_steps(function, listed, search.states(), first, last)
+    search.function_bound(first, last)
 }
 
 // The ends of the interval of the steps, in a unit of their own.

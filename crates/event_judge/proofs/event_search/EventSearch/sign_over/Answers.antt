@@ -1,7 +1,6 @@
 use Rattle.std.proofs.Common.{◌≡◌, ◌∙◌, ap, w64, to_z, of_z}
 use Rattle.std.proofs.lemmas.Int.{to_z-of_z}
 use Rattle.spec_intervals.specs.Signs.{sign_of}
-use Rattle.spec_searches.specs.Event.{Event}
 use Rattle.spec_bounds.specs.Quiet.{sign_over}
 use Rattle.spec_bounds.specs.Terms.{bound_over}
 use Rattle.event_judge.proofs.QuietSpans.{has_sign}
@@ -12,6 +11,5 @@ returns-clause-some c =
     let s = c.args.self.now in
     let a : to_z w64 (of_z w64 c.args.a) ≡ c.args.a = to_z-of_z w64 c.args.a c.ranges.a in
     let b : to_z w64 (of_z w64 c.args.b) ≡ c.args.b = to_z-of_z w64 c.args.b c.ranges.b in
-    let function : c.function.result.now ≡ s.event.function = c.function.ensures.function ∙ ap (λ (e : Event). e.function) c.event.ensures in
-    let sign : c.sign.result ≡ sign_over s c.args.a c.args.b = c.sign.ensures ∙ (ap sign_of c.bound_over-bound.ensures.range ∙ λ i. sign_of (bound_over (c.states.ensures i) (function i) (a i) (b i)).range) in
+    let sign : c.sign.result ≡ sign_over s c.args.a c.args.b = c.sign.ensures ∙ (ap sign_of c.function_bound.ensures.range ∙ λ i. sign_of (bound_over s.view s.event.function (a i) (b i)).range) in
     has_sign s c.args.a c.args.b c.sign.result c.known.result c.requires.fits c.requires.several sign c.known.ensures.some

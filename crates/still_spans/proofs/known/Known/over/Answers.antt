@@ -8,6 +8,6 @@ model_over-requires-clause-same c = ap (λ v. v.ephemeris) c.states-states.ensur
 
 pub returns-in-Some-clause-known : goal.returns-in-Some-clause-known
 returns-in-Some-clause-known c =
-    known_by c.args.search.now c.in-Some.model c.states-states.result.now c.function-function.result.now c.args.first c.args.last _ _ c.states-states.ensures
-    (c.function-function.ensures.function ∙ ap (λ e. e.function) c.event.ensures) (to_z-of_z w64 c.args.first c.ranges.first) (to_z-of_z w64 c.args.last c.ranges.last)
+    known_by c.args.search.now c.in-Some.model c.states-states.result.now _ _ c.args.first c.args.last _ _ c.states-states.ensures c.function_step-listed.ensures.made
+    (to_z-of_z w64 c.args.first c.ranges.first) (to_z-of_z w64 c.args.last c.ranges.last)
     c.is_search.ensures c.requires.fits c.requires.several c.in-Some.ensures

@@ -1,5 +1,3 @@
 mod Rules
 mod Within
-mod Named
-mod Known
 mod Fine

@@ -1,47 +1,45 @@
 -- The exponents of what is made stay within the limit of parts.
-use Rattle.std.proofs.Common.{◌≡◌, ◌<◌, ℕ, arith, sym, subst, ℤ}
-use Rattle.spec_intervals.specs.Interval.{Interval}
+use Rattle.std.proofs.Common.{◌≡◌, ℕ, arith, inl, inr, sym, subst, ℤ}
+use Rattle.std.specs.Prelude.{⊤}
+use Rattle.spec_intervals.specs.Interval.{Interval, IsCosine, IsDistance}
 use Rattle.spec_intervals.specs.Enclosure.{IsWithin}
 use Rattle.spec_intervals.proofs.Exponents.{IsWithin-more}
-use Rattle.spec_expressions.specs.Term.{leaf_exponent, part_exponent}
+use Rattle.spec_expressions.specs.Term.{HasConstants, Term, leaf, length as length_of, cosine as cosine_of, sum as sum_of, difference as difference_of, product as product_of, signed_square as square_of, position as position_of, velocity as velocity_of, part_exponent}
 use Rattle.spec_bodies.specs.declared.factor.Factor.{Factor}
-use Rattle.spec_bodies.specs.declared.source.Source.{Source}
-use Rattle.spec_bodies.specs.declared.source.Source.TheVariants.{OwnColumn, EarthOfPair, MoonOfPair, Origin}
-use Rattle.spec_bodies.specs.declared.frame.Frame.{Frame}
-use Rattle.spec_bodies.specs.Coordinates.{Coordinate, barycentric_coordinate, displacement, in_frame, of_column, times}
+use Rattle.spec_bodies.specs.declared.quantity.Quantity.{Quantity}
+use Rattle.spec_bodies.specs.declared.quantity.Quantity.TheVariants.{Position, Velocity}
+use Rattle.spec_bodies.specs.Coordinates.{Coordinate, nothing, of_column, times, plus, less}
 use Rattle.spec_bodies.specs.Meanings.{factor_interval}
-use Rattle.spec_bodies.specs.Reading.{AllColumns, IsReadable, IsShort}
-use Rattle.spec_bodies.specs.Views.{Fits, View, factor_of, target_of}
-use Rattle.spec_bodies.proofs.Bounds.{displacement_low}
-use Rattle.spec_bodies.proofs.Held.{readable_columns}
+use Rattle.spec_bodies.specs.Views.{Fits, View, factor_of}
 use Rattle.spec_models.specs.Bounds.{Bound, constant_bound}
 use Rattle.spec_bounds.specs.Limits.{IsBoundWithin}
 use Rattle.spec_bounds.proofs.Exponents.{constant-reached, reached-within}
-use Rattle.spec_bounds.proofs.Within.{coordinate-within, factor-within}
+use Rattle.spec_bounds.proofs.Within.{factor-within}
+use Rattle.spec_steps.specs.declared.sights.Sight.{Sight}
+use Rattle.spec_steps.specs.ColumnTerms.{ColumnTerm, column, zero_term, length, cosine, scaled, sum, difference, product, signed_square, coordinate_of, of_coordinate, of_term, sight_of}
+use Rattle.spec_steps.specs.Meanings.{bound_meant}
+use Rattle.spec_steps.specs.Parts.{IsPart}
 use Rattle.event_bounds.specs.declared.bound.Bound.{Bound as Made}
-use Rattle.event_bounds.specs.declared.seen.Seen.{Seen}
+use Rattle.event_bounds.specs.declared.spans.Span.{Span}
 use Rattle.event_bounds.specs.Made.{IsBound, IsMadeWithin}
-use Rattle.event_bounds.specs.Seen.{CanRead, IsBoundOf, SeenFits, seen_bound}
+use Rattle.event_bounds.specs.Spans.{IsBoundOf, IsSpanRight}
 use Rattle.event_bounds.proofs.Rules.{span_of}
 
 -- what is a bound has its limits
-pub made_within : (n : ℕ) (made : Made) (p : Bound) → IsBound made p → IsBoundWithin n p → IsMadeWithin n made
+made_within : (n : ℕ) (made : Made) (p : Bound) → IsBound made p → IsBoundWithin n p → IsMadeWithin n made
 made_within n made p is within = record { range = subst (IsWithin n) (sym is.range) within.range; step = subst (IsWithin n) (sym is.step) within.step }
 
--- ---- coordinates
-module _ (s : Seen) (fits : SeenFits s) where
-  pub leaf_within : (c : Coordinate) → CanRead s c → IsShort c → (made : Made) → IsBoundOf s c made → IsMadeWithin leaf_exponent made
-  leaf_within c readable short made is =
-      made_within leaf_exponent made (seen_bound s c) is
-      (coordinate-within s.states.now s.times.span.now.first s.times.span.now.last fits s.quantity c readable short)
+-- ---- the bounds of what may stand in a list
+abbrev pub AreLimited : Type 0
+AreLimited = (v : View) (t : ColumnTerm) (a b : ℤ) → IsPart (sight_of v) t → Fits v a b → IsBoundWithin part_exponent (bound_meant v a b t)
 
-  pub part_within : (c : Coordinate) → CanRead s c → IsShort c → (made : Made) → IsBoundOf s c made → IsMadeWithin part_exponent made
-  part_within c readable short made is =
-      let w = leaf_within c readable short made is in
-      record { range = IsWithin-more leaf_exponent part_exponent made.range (omega arith) w.range; step = IsWithin-more leaf_exponent part_exponent made.step (omega arith) w.step }
+module _ (s : Span) (right : IsSpanRight s) where
+  pub part_within : AreLimited → (t : ColumnTerm) → IsPart (sight_of s.states.now) t → (made : Made) → IsBoundOf s t made → IsMadeWithin part_exponent made
+  part_within limits t part made is = made_within part_exponent made _ is (limits s.states.now t s.times.span.now.first s.times.span.now.last part right.fits)
 
+  -- ---- factors
   pub factor_part : (f : Factor) (r : Interval) → r ≡ factor_interval (factor_of s.states.now f) → IsWithin part_exponent r
-  factor_part f r is = rw is (IsWithin-more 60 part_exponent _ (omega arith) (factor-within s.states.now s.times.span.now.first s.times.span.now.last fits f))
+  factor_part f r is = rw is (IsWithin-more 60 part_exponent _ (omega arith) (factor-within s.states.now s.times.span.now.first s.times.span.now.last right.fits f))
 
   pub constant_part : (f : Factor) (r : Interval) (made : Made) → r ≡ factor_interval (factor_of s.states.now f)
       → IsBound made (constant_bound s.times.span.now.first s.times.span.now.last r) → IsMadeWithin part_exponent made
@@ -49,34 +47,37 @@ module _ (s : Seen) (fits : SeenFits s) where
       made_within part_exponent made _ made_is
       (reached-within 60 part_exponent _ (omega arith)
       (constant-reached s.times.span.now.first s.times.span.now.last (span_of s.times) 60 r
-      (subst (IsWithin 60) (sym is) (factor-within s.states.now s.times.span.now.first s.times.span.now.last fits f))))
+      (subst (IsWithin 60) (sym is) (factor-within s.states.now s.times.span.now.first s.times.span.now.last right.fits f))))
 
-pub share_short : (f : Factor) (number axis : ℕ) → IsShort (times f (of_column number axis))
-share_short f number axis = record { low = omega arith; high = omega arith }
+-- ---- constants that may stand in a list
+abbrev pub HasConstant : ColumnTerm → Type 0
+HasConstant (column q number axis) = ⊤
+HasConstant zero_term = ⊤
+HasConstant (length d) = IsDistance d.mant d.exp
+HasConstant (cosine d) = IsCosine d.mant d.exp
+HasConstant (scaled f x) = ⊤
+HasConstant (sum x y) = ⊤
+HasConstant (difference x y) = ⊤
+HasConstant (product x y) = ⊤
+HasConstant (signed_square x) = ⊤
 
-pub barycentric_short : (source : Source) (axis : ℕ) → IsShort (barycentric_coordinate source axis)
-barycentric_short (OwnColumn n) axis = record { low = omega arith; high = omega arith }
-barycentric_short EarthOfPair axis = record { low = omega arith; high = omega arith }
-barycentric_short MoonOfPair axis = record { low = omega arith; high = omega arith }
-barycentric_short Origin axis = record { low = omega arith; high = omega arith }
+of_coordinates : (q : Quantity) (c : Coordinate) → HasConstant (of_coordinate q c)
+of_coordinates q nothing = tt
+of_coordinates q (of_column number axis) = tt
+of_coordinates q (times f x) = tt
+of_coordinates q (plus x y) = tt
+of_coordinates q (less x y) = tt
 
-pub displacement_short : (source observer : Source) (axis : ℕ) → IsShort (displacement source observer axis)
-displacement_short source observer axis =
-    let is = displacement_low axis source observer in
-    let l = is.low in
-    let h = is.high in
-    record { low = omega (arith, l); high = omega (arith, h) }
+of_formulas : (s : Sight) (e : Term) → HasConstants e → HasConstant (of_term s e)
+of_formulas s (leaf (position_of target axis)) has = of_coordinates Position (coordinate_of s target axis)
+of_formulas s (leaf (velocity_of target axis)) has = of_coordinates Velocity (coordinate_of s target axis)
+of_formulas s (length_of d) has = has
+of_formulas s (cosine_of d) has = has
+of_formulas s (sum_of x y) has = tt
+of_formulas s (difference_of x y) has = tt
+of_formulas s (product_of x y) has = tt
+of_formulas s (square_of x) has = tt
 
-pub turned_short : (f : Factor) (source observer : Source) (axis : ℕ) → IsShort (times f (displacement source observer axis))
-turned_short f source observer axis =
-    let is = displacement_low axis source observer in
-    let l = is.low in
-    let h = is.high in
-    record { low = omega (arith, l); high = omega (arith, h) }
-
--- ---- what a target is made of can be read, in the frame that the code finds
-pub frame_readable : (v : View) (a b : ℤ) → Fits v a b → (target axis : ℕ) → axis < 3 → (frame : Frame) (source : Source) → v.frame ≡ frame → source ≡ target_of v target
-    → AllColumns (IsReadable v) (in_frame frame (displacement source v.observer) axis)
-frame_readable v a b fits target axis three frame source e g =
-    subst (λ s. AllColumns (IsReadable v) (in_frame frame (displacement s v.observer) axis)) (sym g)
-    (subst (λ f. AllColumns (IsReadable v) (in_frame f (displacement (target_of v target) v.observer) axis)) e (readable_columns v a b fits target axis three))
+pub constant_listed : (s : Sight) (t : ColumnTerm) → IsPart s t → HasConstant t
+constant_listed s t (inl part) = subst HasConstant part.term (of_coordinates part.quantity part.coordinate)
+constant_listed s t (inr part) = subst HasConstant part.term (of_formulas s part.whole part.formula.constants)

@@ -1,6 +1,5 @@
 -- What the code makes of a bound.
-use Rattle.std.specs.Prelude.{◌≡◌, ℕ, Bool, IsTrue}
-use Rattle.spec_expressions.specs.Term.{leaf_exponent}
+use Rattle.std.specs.Prelude.{◌≡◌, ℕ}
 use Rattle.spec_models.specs.Bounds.{Bound}
 use Rattle.spec_bounds.specs.Limits.{IsBoundWithin}
 use Rattle.event_bounds.specs.declared.bound.Bound.{Bound as Made}
@@ -17,8 +16,3 @@ bound_made made = record { range = made.range; step = made.step }
 -- no exponent of it passes a limit
 abbrev pub IsMadeWithin : ℕ → Made → Type 0
 IsMadeWithin n made = IsBoundWithin n (bound_made made)
-
--- it is the bound where it is wanted, and within the limit of leaves in any case
-pub record IsIfWanted (wanted : Bool) (made : Made) (p : Bound) : Type 0 where
-  pub is : IsTrue wanted → IsBound made p
-  pub within : IsMadeWithin leaf_exponent made

@@ -1,65 +1,90 @@
-// Bounds of the coordinates of two targets over some times.
-ghost use Rattle.std.specs.Prelude.{◌≡◌, ◌<◌};
-ghost use Rattle.event_bounds.specs.Observer.{no_observer, observer_along};
+// The rules by which the bound of a step over some times is made from those of earlier steps.
+ghost use Rattle.spec_steps.specs.ColumnTerms.{sight_of};
+ghost use Rattle.event_bounds.specs.Spans.{IsAsked, IsBoundOf, IsSpanRight};
 
 use crate::bound::Bound;
 use crate::times::BoundTimes;
+use body_states::{BodyStates, ColumnRanges, Factor, Quantity};
+use column_steps::Arithmetic;
+use ival_core::{COSINE_EXPONENT, DISTANCE_EXPONENT, Ival};
+use spec_steps::laws::listed_bounds_are_within_limits;
+use spec_text::Decimal;
 
-/// The bounds of a quantity of a target along the three axes; those of 0 where it was not asked for.
+/// What is seen of two bodies over some times, with what is known of their columns over these times.
 #[derive(Clone, Copy)]
-pub(crate) struct AxisBounds {
-    pub x: Bound,
-    pub y: Bound,
-    pub z: Bound,
-}
-
-/// Those of both quantities of both targets.
-#[derive(Clone, Copy)]
-pub(crate) struct Span<'t> {
+pub(crate) struct Span<'s, 't, 'e> {
+    pub states: &'s BodyStates<'e>,
     pub times: BoundTimes<'t>,
-    pub first_position: AxisBounds,
-    pub second_position: AxisBounds,
-    pub first_velocity: AxisBounds,
-    pub second_velocity: AxisBounds,
+    /// Of positions.
+    pub position: &'s ColumnRanges<'s, 'e>,
+    /// Of velocities.
+    pub velocity: &'s ColumnRanges<'s, 'e>,
 }
 
-/// Those of one quantity of both targets.
-#[derive(Clone, Copy)]
-pub(crate) struct TargetBounds {
-    pub first: AxisBounds,
-    pub second: AxisBounds,
-}
-
-/// The bounds of the observer relative to the barycentre of the solar system, along the three axes of the files; none along an
-/// axis where it was not made.
-#[derive(Clone, Copy)]
-pub(crate) struct ObserverBounds {
-    pub x: Option<Bound>,
-    pub y: Option<Bound>,
-    pub z: Option<Bound>,
-}
-
-impl ObserverBounds {
-    /// None is made.
-    pub fn none() -> ObserverBounds
-        ensures { result ≡ no_observer }
+impl<'s, 't, 'e> Span<'s, 't, 'e> {
+    // What is known of a quantity of the columns.
+    fn known(&self, quantity: Quantity) -> &ColumnRanges<'s, 'e>
+        requires { IsSpanRight self.now }
+        ensures { IsAsked self.now quantity result.now }
     {
-        ObserverBounds {
-            x: None,
-            y: None,
-            z: None,
+        match quantity {
+            Quantity::Position => self.position,
+            Quantity::Velocity => self.velocity,
         }
     }
+}
 
-    /// What is made along an axis, counted from 0.
-    pub fn along(&self, axis: usize) -> Option<Bound>
-        requires { axis < 3 }
-        ensures { result ≡ observer_along self.now axis }
-    {
-        match axis {
-            0 => self.x,
-            1 => self.y,
-            _ => self.z,
-        }
+impl<'s, 't, 'e> Arithmetic for Span<'s, 't, 'e> {
+    type Value = Bound;
+
+    ghost is_ready = { λ s. IsSpanRight s };
+
+    ghost sight = { λ s. sight_of s.states.now };
+
+    ghost is_value = { λ s t made. IsBoundOf s t made };
+
+    fn column(&self, quantity: Quantity, number: usize, axis: usize) -> Bound {
+        let range = self.known(quantity).of(number, axis);
+        self.times.bound(range.values, range.changes)
+    }
+
+    fn zero(&self) -> Bound {
+        self.times.constant(Ival::zero())
+    }
+
+    fn length(&self, km: Decimal) -> Bound {
+        let value = Ival::from_decimal(km.mant, km.exp, DISTANCE_EXPONENT);
+        self.times.constant(value)
+    }
+
+    fn cosine(&self, number: Decimal) -> Bound {
+        let value = Ival::from_decimal(number.mant, number.exp, COSINE_EXPONENT);
+        self.times.constant(value)
+    }
+
+    fn scaled(&self, factor: Factor, x: &Bound) -> Bound {
+        listed_bounds_are_within_limits();
+        let constant = self.times.constant(self.states.factor(factor));
+        self.times.product(constant, *x)
+    }
+
+    fn sum(&self, x: &Bound, y: &Bound) -> Bound {
+        listed_bounds_are_within_limits();
+        self.times.sum(*x, *y)
+    }
+
+    fn difference(&self, x: &Bound, y: &Bound) -> Bound {
+        listed_bounds_are_within_limits();
+        self.times.difference(*x, *y)
+    }
+
+    fn product(&self, x: &Bound, y: &Bound) -> Bound {
+        listed_bounds_are_within_limits();
+        self.times.product(*x, *y)
+    }
+
+    fn signed_square(&self, x: &Bound) -> Bound {
+        listed_bounds_are_within_limits();
+        self.times.signed_square(*x)
     }
 }

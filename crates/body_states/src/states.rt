@@ -4,6 +4,7 @@ ghost use Rattle.spec_ephemeris.specs.declared.body.Body.TheVariants.{Ssb};
 ghost use Rattle.spec_ephemeris.specs.Header.{has_column};
 ghost use Rattle.spec_ephemeris.specs.Ephemeris.{IsEphemeris};
 ghost use Rattle.spec_bodies.specs.Views.{IsView, HasBody, HasColumns, view_of, columns_of};
+ghost use Rattle.spec_steps.specs.ColumnTerms.{sight_of};
 ghost use Rattle.body_states.specs.Dividers.{granule_seconds, AreDividers};
 
 use crate::factors::Factors;
@@ -11,6 +12,7 @@ use crate::sources::{InUse, KEPT_COLUMNS};
 use eph_model::{Body, Ephemeris};
 use ival_core::Divider;
 use spec_bodies::{Frame, Source};
+use spec_steps::Sight;
 use std::marker::Model;
 
 /// Two targets seen from an observer in a frame, over an ephemeris. Where there is one body, both targets are that body.
@@ -96,6 +98,18 @@ impl<'e> BodyStates<'e> {
             frame,
             factors,
             in_use,
+        }
+    }
+
+    /// What is seen, without the ephemeris.
+    pub fn sight(&self) -> Sight
+        ensures { result ≡ sight_of self.now }
+    {
+        Sight {
+            first: self.first,
+            second: self.second,
+            observer: self.observer,
+            frame: self.frame,
         }
     }
 

@@ -1,8 +1,10 @@
 -- What a list may hold: the coordinates of the targets, and what they are made of.
-use Rattle.std.proofs.Common.{◌≡◌, ◌⊎◌, inl, inr, ℕ, zero, suc, ◌+◌, ◌<◌, ◌≤◌, refl, ap, subst, arith}
-use Rattle.std.specs.Prelude.{All, Contains}
+use Rattle.std.proofs.Common.{◌⊎◌, inl, inr, ℕ, zero, suc, ◌+◌, ◌<◌, ◌≤◌, refl, subst, arith}
+use Rattle.std.specs.Prelude.{All, Contains, ⊤}
 use Rattle.std.proofs.lemmas.List.Elements.{All-contains_itself}
 use Rattle.spec_expressions.specs.Term.{HasLeaves, IsFormula, IsLeaf, Leaf, Term, leaf, length, cosine, sum as sum_of, difference as difference_of, product as product_of, signed_square as square_of, HasConstants, nodes, degree, node_limit, degree_limit, position as position_of, velocity as velocity_of}
+use Rattle.spec_text.specs.declared.decimals.Decimal.{Decimal}
+use Rattle.spec_intervals.specs.Interval.{IsCosine, IsDistance}
 use Rattle.spec_bodies.specs.declared.factor.Factor.{Factor}
 use Rattle.spec_bodies.specs.declared.quantity.Quantity.{Quantity}
 use Rattle.spec_bodies.specs.declared.quantity.Quantity.TheVariants.{Position, Velocity}
@@ -14,7 +16,7 @@ use Rattle.spec_bodies.proofs.Bounds.{displacement_low, in_frame_low}
 use Rattle.spec_bodies.proofs.Formulas.{displacement_columns, in_frame_columns}
 use Rattle.spec_bodies.proofs.InUse.{used_usable}
 use Rattle.spec_steps.specs.declared.sights.Sight.{Sight}
-use Rattle.spec_steps.specs.ColumnTerms.{ColumnTerm, column, zero_term, scaled, sum, difference, product, signed_square, coordinate_of, of_coordinate, of_leaf, of_term, sight_of, target_of}
+use Rattle.spec_steps.specs.ColumnTerms.{ColumnTerm, column, zero_term, length as length_of, cosine as cosine_of, scaled, sum, difference, product, signed_square, coordinate_of, of_coordinate, of_leaf, of_term, sight_of, target_of}
 use Rattle.spec_steps.specs.Parts.{IsPart, IsSeen, IsSeenColumn}
 
 -- ---- the coordinates of the targets
@@ -70,217 +72,79 @@ pub leaf_part : (s : Sight) (l : Leaf) → IsLeaf l → IsPart s (of_leaf s l)
 leaf_part s (position_of target axis) is = seen_part s Position (coordinate_of s target axis) (coordinate_seen s target axis is.1)
 leaf_part s (velocity_of target axis) is = seen_part s Velocity (coordinate_of s target axis) (coordinate_seen s target axis is.1)
 
--- ---- the columns of what may stand in a list
-number_of : ColumnTerm → ℕ
-number_of (column q number axis) = number
-number_of t = 0
+formula_part : (s : Sight) (e : Term) → IsFormula e → IsPart s (of_term s e)
+formula_part s e is = inr (record { whole = e; formula = is; term = refl })
 
-axis_of : ColumnTerm → ℕ
-axis_of (column q number axis) = axis
-axis_of t = 0
-
-module _ (s : Sight) (q : Quantity) (number axis : ℕ) where
-  column_of : (p : Quantity) (c : Coordinate) → AllColumns (IsSeenColumn s) c → of_coordinate p c ≡ column q number axis → IsSeenColumn s number axis
-  unfolding number_of axis_of
-  column_of p nothing all e = absurd (cc)
-  column_of p (of_column m k) all e = subst (λ j. IsSeenColumn s j axis) (ap number_of e) (subst (λ j. IsSeenColumn s m j) (ap axis_of e) all)
-  column_of p (times f x) all e = absurd (cc)
-  column_of p (plus x y) all e = absurd (cc)
-  column_of p (less x y) all e = absurd (cc)
-
-  column_of_leaf : (l : Leaf) → IsLeaf l → of_leaf s l ≡ column q number axis → IsSeenColumn s number axis
-  column_of_leaf (position_of target k) is e = column_of Position (coordinate_of s target k) (coordinate_seen s target k is.1).columns e
-  column_of_leaf (velocity_of target k) is e = column_of Velocity (coordinate_of s target k) (coordinate_seen s target k is.1).columns e
-
-  column_of_term : (e : Term) → HasLeaves e → of_term s e ≡ column q number axis → IsSeenColumn s number axis
-  column_of_term (leaf l) has e = column_of_leaf l has e
-  column_of_term (length d) has e = absurd (cc)
-  column_of_term (cosine d) has e = absurd (cc)
-  column_of_term (sum_of x y) has e = absurd (cc)
-  column_of_term (difference_of x y) has e = absurd (cc)
-  column_of_term (product_of x y) has e = absurd (cc)
-  column_of_term (square_of x) has e = absurd (cc)
-
-  pub column_seen : IsPart s (column q number axis) → IsSeenColumn s number axis
-  column_seen (inl part) = column_of part.quantity part.coordinate part.seen.columns part.term
-  column_seen (inr part) = column_of_term part.whole part.formula.leaves part.term
-
--- ---- the parts of what may stand in a list
-first_of : ColumnTerm → ColumnTerm
-first_of (scaled f x) = x
-first_of (sum x y) = x
-first_of (difference x y) = x
-first_of (product x y) = x
-first_of (signed_square x) = x
-first_of t = zero_term
-
-second_of : ColumnTerm → ColumnTerm
-second_of (sum x y) = y
-second_of (difference x y) = y
-second_of (product x y) = y
-second_of t = zero_term
-
-formula_part : (s : Sight) (e : Term) (t : ColumnTerm) → IsFormula e → of_term s e ≡ t → IsPart s t
-formula_part s e t is same = inr (record { whole = e; formula = is; term = same })
-
-coordinate_part : (s : Sight) (q : Quantity) (c : Coordinate) (t : ColumnTerm) → IsSeen s c → of_coordinate q c ≡ t → IsPart s t
-coordinate_part s q c t is same = inl (record { quantity = q; coordinate = c; seen = is; term = same })
-
--- what is true of the term of each coordinate that is seen, and of no other, is true of that of each leaf
-on_leaf : (s : Sight) (P : ColumnTerm → Type 0) → ((q : Quantity) (c : Coordinate) → IsSeen s c → P (of_coordinate q c)) → (l : Leaf) → IsLeaf l → P (of_leaf s l)
-on_leaf s P each (position_of target axis) is = each Position (coordinate_of s target axis) (coordinate_seen s target axis is.1)
-on_leaf s P each (velocity_of target axis) is = each Velocity (coordinate_of s target axis) (coordinate_seen s target axis is.1)
-
-both_formulas : (e d : Term) → HasLeaves e × HasLeaves d → HasConstants e × HasConstants d → 1 + nodes e + nodes d ≤ node_limit → degree e ≤ degree_limit → degree d ≤ degree_limit → IsFormula e × IsFormula d
-both_formulas e d leaves constants few p q = (
-  record { leaves = leaves.0; nodes_within = omega (arith, few); degree_within = p; constants = constants.0 },
-  record { leaves = leaves.1; nodes_within = omega (arith, few); degree_within = q; constants = constants.1 },
+both_formulas : (s : Sight) (e d : Term) → HasLeaves e × HasLeaves d → HasConstants e × HasConstants d → 1 + nodes e + nodes d ≤ node_limit → degree e ≤ degree_limit → degree d ≤ degree_limit
+    → IsPart s (of_term s e) × IsPart s (of_term s d)
+both_formulas s e d leaves constants few p q = (
+  formula_part s e (record { leaves = leaves.0; nodes_within = omega (arith, few); degree_within = p; constants = constants.0 }),
+  formula_part s d (record { leaves = leaves.1; nodes_within = omega (arith, few); degree_within = q; constants = constants.1 }),
 )
 
-module _ (s : Sight) (f : Factor) (x : ColumnTerm) where
-  abbrev IsScaledPart : ColumnTerm → Type 0
-  IsScaledPart t = t ≡ scaled f x → IsPart s x
+-- ---- what is known of what may stand in a list: its parts may too, its columns are in use, its constants are within the limits
+abbrev pub IsWellMade : Sight → ColumnTerm → Type 0
+IsWellMade s (column q number axis) = IsSeenColumn s number axis
+IsWellMade s zero_term = ⊤
+IsWellMade s (length_of d) = IsDistance d.mant d.exp
+IsWellMade s (cosine_of d) = IsCosine d.mant d.exp
+IsWellMade s (scaled f x) = IsPart s x
+IsWellMade s (sum x y) = IsPart s x × IsPart s y
+IsWellMade s (difference x y) = IsPart s x × IsPart s y
+IsWellMade s (product x y) = IsPart s x × IsPart s y
+IsWellMade s (signed_square x) = IsPart s x
 
-  scaled_of : (q : Quantity) (c : Coordinate) → IsSeen s c → IsScaledPart (of_coordinate q c)
-  unfolding first_of
-  scaled_of q nothing is e = absurd (cc)
-  scaled_of q (of_column m k) is e = absurd (cc)
-  scaled_of q (times g c) is e = coordinate_part s q c x (times_seen s g c is) (ap first_of e)
-  scaled_of q (plus c d) is e = absurd (cc)
-  scaled_of q (less c d) is e = absurd (cc)
+module _ (s : Sight) where
+  coordinate_made : (q : Quantity) (c : Coordinate) → IsSeen s c → IsWellMade s (of_coordinate q c)
+  coordinate_made q nothing is = tt
+  coordinate_made q (of_column number axis) is = is.columns
+  coordinate_made q (times f c) is = seen_part s q c (times_seen s f c is)
+  coordinate_made q (plus c d) is = let both = plus_seen s c d is in (seen_part s q c both.0, seen_part s q d both.1)
+  coordinate_made q (less c d) is = let both = less_seen s c d is in (seen_part s q c both.0, seen_part s q d both.1)
 
-  scaled_in : (e : Term) → IsFormula e → IsScaledPart (of_term s e)
-  scaled_in (leaf l) is = on_leaf s IsScaledPart scaled_of l is.leaves
-  scaled_in (length d) is = λ e. absurd (cc)
-  scaled_in (cosine d) is = λ e. absurd (cc)
-  scaled_in (sum_of a b) is = λ e. absurd (cc)
-  scaled_in (difference_of a b) is = λ e. absurd (cc)
-  scaled_in (product_of a b) is = λ e. absurd (cc)
-  scaled_in (square_of a) is = λ e. absurd (cc)
+  leaf_made : (l : Leaf) → IsLeaf l → IsWellMade s (of_leaf s l)
+  leaf_made (position_of target axis) is = coordinate_made Position (coordinate_of s target axis) (coordinate_seen s target axis is.1)
+  leaf_made (velocity_of target axis) is = coordinate_made Velocity (coordinate_of s target axis) (coordinate_seen s target axis is.1)
 
-  pub scaled_part : IsPart s (scaled f x) → IsPart s x
-  scaled_part (inl part) = scaled_of part.quantity part.coordinate part.seen part.term
-  scaled_part (inr part) = scaled_in part.whole part.formula part.term
-
-module _ (s : Sight) (x y : ColumnTerm) where
-  abbrev AreParts : Type 0
-  AreParts = IsPart s x × IsPart s y
-
-  module _ where
-    abbrev IsSum : ColumnTerm → Type 0
-    IsSum t = t ≡ sum x y → AreParts
-
-    sum_part_of : (q : Quantity) (c : Coordinate) → IsSeen s c → IsSum (of_coordinate q c)
-    unfolding first_of second_of
-    sum_part_of q nothing is e = absurd (cc)
-    sum_part_of q (of_column m k) is e = absurd (cc)
-    sum_part_of q (times g c) is e = absurd (cc)
-    sum_part_of q (plus c d) is e =
-        let both = plus_seen s c d is in
-        (coordinate_part s q c x both.0 (ap first_of e), coordinate_part s q d y both.1 (ap second_of e))
-    sum_part_of q (less c d) is e = absurd (cc)
-
-    sum_in : (e : Term) → IsFormula e → IsSum (of_term s e)
-    unfolding first_of second_of
-    sum_in (leaf l) is = on_leaf s IsSum sum_part_of l is.leaves
-    sum_in (length d) is = λ e. absurd (cc)
-    sum_in (cosine d) is = λ e. absurd (cc)
-    sum_in (sum_of a b) is =
-        let n = is.degree_within in
-        let both = both_formulas a b is.leaves is.constants is.nodes_within (omega (arith, n)) (omega (arith, n)) in
-        λ e. (formula_part s a x both.0 (ap first_of e), formula_part s b y both.1 (ap second_of e))
-    sum_in (difference_of a b) is = λ e. absurd (cc)
-    sum_in (product_of a b) is = λ e. absurd (cc)
-    sum_in (square_of a) is = λ e. absurd (cc)
-
-    pub sum_parts : IsPart s (sum x y) → AreParts
-    sum_parts (inl part) = sum_part_of part.quantity part.coordinate part.seen part.term
-    sum_parts (inr part) = sum_in part.whole part.formula part.term
-
-    abbrev IsDifference : ColumnTerm → Type 0
-    IsDifference t = t ≡ difference x y → AreParts
-
-    difference_part_of : (q : Quantity) (c : Coordinate) → IsSeen s c → IsDifference (of_coordinate q c)
-    unfolding first_of second_of
-    difference_part_of q nothing is e = absurd (cc)
-    difference_part_of q (of_column m k) is e = absurd (cc)
-    difference_part_of q (times g c) is e = absurd (cc)
-    difference_part_of q (plus c d) is e = absurd (cc)
-    difference_part_of q (less c d) is e =
-        let both = less_seen s c d is in
-        (coordinate_part s q c x both.0 (ap first_of e), coordinate_part s q d y both.1 (ap second_of e))
-
-    difference_in : (e : Term) → IsFormula e → IsDifference (of_term s e)
-    unfolding first_of second_of
-    difference_in (leaf l) is = on_leaf s IsDifference difference_part_of l is.leaves
-    difference_in (length d) is = λ e. absurd (cc)
-    difference_in (cosine d) is = λ e. absurd (cc)
-    difference_in (sum_of a b) is = λ e. absurd (cc)
-    difference_in (difference_of a b) is =
-        let n = is.degree_within in
-        let both = both_formulas a b is.leaves is.constants is.nodes_within (omega (arith, n)) (omega (arith, n)) in
-        λ e. (formula_part s a x both.0 (ap first_of e), formula_part s b y both.1 (ap second_of e))
-    difference_in (product_of a b) is = λ e. absurd (cc)
-    difference_in (square_of a) is = λ e. absurd (cc)
-
-    pub difference_parts : IsPart s (difference x y) → AreParts
-    difference_parts (inl part) = difference_part_of part.quantity part.coordinate part.seen part.term
-    difference_parts (inr part) = difference_in part.whole part.formula part.term
-
-    abbrev IsProduct : ColumnTerm → Type 0
-    IsProduct t = t ≡ product x y → AreParts
-
-    product_of_coordinate : (q : Quantity) (c : Coordinate) → IsSeen s c → IsProduct (of_coordinate q c)
-    product_of_coordinate q nothing is e = absurd (cc)
-    product_of_coordinate q (of_column m k) is e = absurd (cc)
-    product_of_coordinate q (times g c) is e = absurd (cc)
-    product_of_coordinate q (plus c d) is e = absurd (cc)
-    product_of_coordinate q (less c d) is e = absurd (cc)
-
-    product_in : (e : Term) → IsFormula e → IsProduct (of_term s e)
-    unfolding first_of second_of
-    product_in (leaf l) is = on_leaf s IsProduct product_of_coordinate l is.leaves
-    product_in (length d) is = λ e. absurd (cc)
-    product_in (cosine d) is = λ e. absurd (cc)
-    product_in (sum_of a b) is = λ e. absurd (cc)
-    product_in (difference_of a b) is = λ e. absurd (cc)
-    product_in (product_of a b) is =
-        let n = is.degree_within in
-        let both = both_formulas a b is.leaves is.constants is.nodes_within (omega (arith, n)) (omega (arith, n)) in
-        λ e. (formula_part s a x both.0 (ap first_of e), formula_part s b y both.1 (ap second_of e))
-    product_in (square_of a) is = λ e. absurd (cc)
-
-    pub product_parts : IsPart s (product x y) → AreParts
-    product_parts (inl part) = product_of_coordinate part.quantity part.coordinate part.seen part.term
-    product_parts (inr part) = product_in part.whole part.formula part.term
-
-module _ (s : Sight) (x : ColumnTerm) where
-  abbrev IsSquare : ColumnTerm → Type 0
-  IsSquare t = t ≡ signed_square x → IsPart s x
-
-  square_of_coordinate : (q : Quantity) (c : Coordinate) → IsSeen s c → IsSquare (of_coordinate q c)
-  square_of_coordinate q nothing is e = absurd (cc)
-  square_of_coordinate q (of_column m k) is e = absurd (cc)
-  square_of_coordinate q (times g c) is e = absurd (cc)
-  square_of_coordinate q (plus c d) is e = absurd (cc)
-  square_of_coordinate q (less c d) is e = absurd (cc)
-
-  square_in : (e : Term) → IsFormula e → IsSquare (of_term s e)
-  unfolding first_of
-  square_in (leaf l) is = on_leaf s IsSquare square_of_coordinate l is.leaves
-  square_in (length d) is = λ e. absurd (cc)
-  square_in (cosine d) is = λ e. absurd (cc)
-  square_in (sum_of a b) is = λ e. absurd (cc)
-  square_in (difference_of a b) is = λ e. absurd (cc)
-  square_in (product_of a b) is = λ e. absurd (cc)
-  square_in (square_of a) is =
+  formula_made : (e : Term) → IsFormula e → IsWellMade s (of_term s e)
+  formula_made (leaf l) is = leaf_made l is.leaves
+  formula_made (length d) is = is.constants
+  formula_made (cosine d) is = is.constants
+  formula_made (sum_of x y) is = let n = is.degree_within in both_formulas s x y is.leaves is.constants is.nodes_within (omega (arith, n)) (omega (arith, n))
+  formula_made (difference_of x y) is = let n = is.degree_within in both_formulas s x y is.leaves is.constants is.nodes_within (omega (arith, n)) (omega (arith, n))
+  formula_made (product_of x y) is = let n = is.degree_within in both_formulas s x y is.leaves is.constants is.nodes_within (omega (arith, n)) (omega (arith, n))
+  formula_made (square_of x) is =
       let n = is.nodes_within in
       let d = is.degree_within in
-      λ e. formula_part s a x (record { leaves = is.leaves; nodes_within = omega (arith, n); degree_within = omega (arith, d); constants = is.constants }) (ap first_of e)
+      formula_part s x (record { leaves = is.leaves; nodes_within = omega (arith, n); degree_within = omega (arith, d); constants = is.constants })
 
-  pub square_part : IsPart s (signed_square x) → IsPart s x
-  square_part (inl part) = square_of_coordinate part.quantity part.coordinate part.seen part.term
-  square_part (inr part) = square_in part.whole part.formula part.term
+  pub well_made : (t : ColumnTerm) → IsPart s t → IsWellMade s t
+  well_made t (inl part) = subst (IsWellMade s) part.term (coordinate_made part.quantity part.coordinate part.seen)
+  well_made t (inr part) = subst (IsWellMade s) part.term (formula_made part.whole part.formula)
+
+pub column_seen : (s : Sight) (q : Quantity) (number axis : ℕ) → IsPart s (column q number axis) → IsSeenColumn s number axis
+column_seen s q number axis = well_made s (column q number axis)
+
+pub scaled_part : (s : Sight) (f : Factor) (x : ColumnTerm) → IsPart s (scaled f x) → IsPart s x
+scaled_part s f x = well_made s (scaled f x)
+
+pub sum_parts : (s : Sight) (x y : ColumnTerm) → IsPart s (sum x y) → IsPart s x × IsPart s y
+sum_parts s x y = well_made s (sum x y)
+
+pub difference_parts : (s : Sight) (x y : ColumnTerm) → IsPart s (difference x y) → IsPart s x × IsPart s y
+difference_parts s x y = well_made s (difference x y)
+
+pub product_parts : (s : Sight) (x y : ColumnTerm) → IsPart s (product x y) → IsPart s x × IsPart s y
+product_parts s x y = well_made s (product x y)
+
+pub square_part : (s : Sight) (x : ColumnTerm) → IsPart s (signed_square x) → IsPart s x
+square_part s x = well_made s (signed_square x)
+
+pub length_kept : (s : Sight) (d : Decimal) → IsPart s (length_of d) → IsDistance d.mant d.exp
+length_kept s d = well_made s (length_of d)
+
+pub cosine_kept : (s : Sight) (d : Decimal) → IsPart s (cosine_of d) → IsCosine d.mant d.exp
+cosine_kept s d = well_made s (cosine_of d)
 
 -- ---- and these can be read
 one_readable : (v : View) (number : ℕ) (numbers : _) → All (IsUsable v) numbers → Contains numbers number → IsUsable v number

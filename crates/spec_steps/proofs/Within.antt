@@ -25,7 +25,7 @@ module _ (v : View) (a b : ℤ) (fits : Fits v a b) where
   abbrev IsListed : ColumnTerm → Type 0
   IsListed t = IsBoundWithin part_exponent (bound_meant v a b t)
 
-  readable : (c : Coordinate) → IsSeen (sight_of v) c → AllColumns (IsReadable v) c
+  pub readable : (c : Coordinate) → IsSeen (sight_of v) c → AllColumns (IsReadable v) c
   readable c seen = all_columns (IsSeenColumn (sight_of v)) (IsReadable v) (λ number axis is. seen_readable v number axis fits.view is) c seen.columns
 
   of_coordinates : (t : ColumnTerm) → IsCoordinatePart (sight_of v) t → IsListed t

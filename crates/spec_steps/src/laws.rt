@@ -1,6 +1,9 @@
 // What is true of terms over columns: each law is the contract of a function with nothing to do.
 
 ghost use Rattle.std.specs.Prelude.{◌≡◌, ◌<◌, ℕ, ℤ};
+ghost use Rattle.spec_text.specs.declared.decimals.Decimal.{Decimal};
+ghost use Rattle.spec_intervals.specs.Interval.{IsCosine, IsDistance};
+ghost use Rattle.spec_intervals.specs.Enclosure.{AllWithin, Encloses};
 ghost use Rattle.spec_expressions.specs.Term.{IsFormula, IsLeaf, Leaf, Term, part_exponent};
 ghost use Rattle.spec_bodies.specs.declared.factor.Factor.{Factor};
 ghost use Rattle.spec_bodies.specs.declared.quantity.Quantity.{Quantity};
@@ -11,7 +14,7 @@ ghost use Rattle.spec_bounds.specs.Limits.{IsBoundWithin};
 ghost use Rattle.spec_bounds.specs.Terms.{bound_over};
 ghost use Rattle.spec_covers.specs.Points.{point_of, state_point};
 ghost use Rattle.spec_steps.specs.declared.sights.Sight.{Sight};
-ghost use Rattle.spec_steps.specs.ColumnTerms.{ColumnTerm, column, coordinate_of, difference, of_leaf, of_term, product, scaled, sight_of, signed_square, sum};
+ghost use Rattle.spec_steps.specs.ColumnTerms.{ColumnTerm, column, coordinate_of, cosine, difference, length, of_leaf, of_term, product, scaled, sight_of, signed_square, sum};
 ghost use Rattle.spec_steps.specs.Meanings.{bound_meant, enclosure_meant, point_meant};
 ghost use Rattle.spec_steps.specs.Parts.{IsPart, IsSeen, IsSeenColumn};
 
@@ -46,6 +49,12 @@ pub fn parts_may_be_listed()
     ensures squares { (s : Sight) (x : ColumnTerm) → IsPart s (signed_square x) → IsPart s x }
 {}
 
+/// The constants of a list are those of formulas, within the limits of these.
+pub fn listed_constants_are_within_limits()
+    ensures lengths { (s : Sight) (d : Decimal) → IsPart s (length d) → IsDistance d.mant d.exp }
+    ensures cosines { (s : Sight) (d : Decimal) → IsPart s (cosine d) → IsCosine d.mant d.exp }
+{}
+
 /// The columns of a list are those in use, which can be read.
 pub fn listed_columns_are_read()
     ensures seen { (s : Sight) (q : Quantity) (number axis : ℕ) → IsPart s (column q number axis)
@@ -58,4 +67,13 @@ pub fn listed_columns_are_read()
 pub fn listed_bounds_are_within_limits()
     ensures { (v : View) (t : ColumnTerm) (a b : ℤ) → IsPart (sight_of v) t → Fits v a b
         → IsBoundWithin part_exponent (bound_meant v a b t) }
+{}
+
+/// Over times that fit, no exponent of an enclosure passes the limit, and some value is enclosed, so that every rule can be
+/// applied.
+pub fn listed_enclosures_are_within_limits()
+    ensures within { (v : View) (t : ColumnTerm) (a b : ℤ) → IsPart (sight_of v) t → Fits v a b
+        → AllWithin part_exponent (enclosure_meant v a b t) }
+    ensures encloses { (v : View) (t : ColumnTerm) (a b : ℤ) → IsPart (sight_of v) t → Fits v a b
+        → Encloses a b (enclosure_meant v a b t) }
 {}

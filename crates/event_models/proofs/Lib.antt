@@ -1,7 +1,7 @@
 mod Rules
 mod Constants
-mod Leaves
-mod ColumnEntries
+mod Terms
+mod Parts
 mod Steps
 pub mod Like
 pub mod RowSteps

@@ -1,5 +1,5 @@
 -- The rules on models at each time of a span.
-use Rattle.std.proofs.Common.{◌≡◌, arith, ℤ, pos, neg_ℤ, ◌+ℤ◌, ◌-ℤ◌, ◌*ℤ◌, ◌≤ℤ◌, ◌<ℤ◌, Option, None, Some}
+use Rattle.std.proofs.Common.{◌≡◌, arith, ℤ, pos, neg_ℤ, ◌+ℤ◌, ◌-ℤ◌, ◌*ℤ◌, ◌≤ℤ◌, ◌<ℤ◌, Option, None, Some, subst}
 use Rattle.std.specs.Prelude.{IfSome}
 use Rattle.std.proofs.lemmas.Int.{ints}
 use Rattle.spec_numbers.proofs.Integers.{doubled}
@@ -33,7 +33,7 @@ module _ (c d : ℤ) (later : c <ℤ d) where
       λ t after before. record { ordered = ordered; covers = covers (argument c d t) (d -ℤ c) (is_argument c d t later after before) }
 
   -- of one operand
-  pub one_made : (op : Interval → Interval) → ((x : Interval) → IsOrdered x → IsOrdered (op x))
+  one_made : (op : Interval → Interval) → ((x : Interval) → IsOrdered x → IsOrdered (op x))
       → (r : Option Model) (m : Model)
       → IfSome r (λ k. (p q : ℤ) (x : Interval) → IsArgument p q → x.lo ≤ℤ x.hi → Covers m p q x → Covers k p q (op x))
       → (f : ℤ → Interval) → IsModelOf c d m f → IsIfMade c d r (λ t. op (f t))
@@ -44,7 +44,7 @@ module _ (c d : ℤ) (later : c <ℤ d) where
   }
 
   -- of two
-  pub two_made : (op : Interval → Interval → Interval) → ((x y : Interval) → IsOrdered x → IsOrdered y → IsOrdered (op x y))
+  two_made : (op : Interval → Interval → Interval) → ((x y : Interval) → IsOrdered x → IsOrdered y → IsOrdered (op x y))
       → (r : Option Model) (m n : Model)
       → IfSome r (λ k. (p q : ℤ) (x y : Interval) → IsArgument p q → x.lo ≤ℤ x.hi → y.lo ≤ℤ y.hi → Covers m p q x → Covers n p q y → Covers k p q (op x y))
       → (f g : ℤ → Interval) → IsModelOf c d m f → IsModelOf c d n g → IsIfMade c d r (λ t. op (f t) (g t))
@@ -53,3 +53,17 @@ module _ (c d : ℤ) (later : c <ℤ d) where
     ordered = ordered (f t) (g t) (x t after before).ordered (y t after before).ordered;
     covers = covers (argument c d t) (d -ℤ c) (f t) (g t) (is_argument c d t later after before) (x t after before).ordered (y t after before).ordered (x t after before).covers (y t after before).covers;
   }
+
+  -- of operands that may be made
+  pub made_of_one : (op : Interval → Interval) → ((x : Interval) → IsOrdered x → IsOrdered (op x))
+      → (r : Option Model) (m : Model)
+      → IfSome r (λ k. (p q : ℤ) (x : Interval) → IsArgument p q → x.lo ≤ℤ x.hi → Covers m p q x → Covers k p q (op x))
+      → (x : Option Model) → x ≡ Some m → (f : ℤ → Interval) → IsIfMade c d x f → IsIfMade c d r (λ t. op (f t))
+  made_of_one op ordered r m covers x is f of_x = one_made op ordered r m covers f (subst (λ made. IsIfMade c d made f) is of_x)
+
+  pub made_of_two : (op : Interval → Interval → Interval) → ((x y : Interval) → IsOrdered x → IsOrdered y → IsOrdered (op x y))
+      → (r : Option Model) (m n : Model)
+      → IfSome r (λ k. (p q : ℤ) (x y : Interval) → IsArgument p q → x.lo ≤ℤ x.hi → y.lo ≤ℤ y.hi → Covers m p q x → Covers n p q y → Covers k p q (op x y))
+      → (x y : Option Model) → x ≡ Some m → y ≡ Some n → (f g : ℤ → Interval) → IsIfMade c d x f → IsIfMade c d y g → IsIfMade c d r (λ t. op (f t) (g t))
+  made_of_two op ordered r m n covers x y is_m is_n f g of_x of_y =
+      two_made op ordered r m n covers f g (subst (λ made. IsIfMade c d made f) is_m of_x) (subst (λ made. IsIfMade c d made g) is_n of_y)

@@ -1,7 +1,6 @@
 pub mod Covered
-pub mod Spans
 pub mod Columns
-pub mod Seen
+pub mod Spans
 pub mod Rows
 pub mod Slopes
 pub mod Sums

@@ -1,113 +1,165 @@
-// The models of formulas that stand in a list of steps.
-ghost use Rattle.std.specs.Prelude.{◌≡◌, ◌<◌, ◌<ℤ◌, ◌≤ℤ◌, ◌-ℤ◌, ℤ, IfSome, length};
-ghost use Rattle.spec_models.specs.Models.{Covers};
-ghost use Rattle.spec_bodies.specs.Views.{Fits, state_enclosure};
-ghost use Rattle.spec_searches.specs.Search.{enclosure_over};
-ghost use Rattle.spec_expressions.specs.Steps.{term_at as step_term_at, terms_of};
-ghost use Rattle.event_steps.specs.Entered.{IsMadeAt};
-ghost use Rattle.event_models.specs.Covered.{IsIfMade, argument};
-ghost use Rattle.event_models.specs.Spans.{IsSpanSeen, term_at};
+// The models of steps of a list over the columns.
+ghost use Rattle.std.specs.Prelude.{◌≡◌, ◌<◌, ◌<ℤ◌, IfSome, length, ℤ};
+ghost use Rattle.spec_intervals.specs.Interval.{Interval, product};
+ghost use Rattle.spec_bodies.specs.Views.{Fits};
+ghost use Rattle.spec_steps.specs.ColumnTerms.{sight_of};
+ghost use Rattle.column_steps.specs.Listed.{listed_term, slot_limit, step_count};
+ghost use Rattle.event_models.specs.Covered.{IsIfMade};
+ghost use Rattle.event_models.specs.Spans.{IsFormulaModel, IsSpanSeen, IsTermModel};
 
+use crate::named::NamedAxes;
 use crate::spans::Span;
 use crate::times::ModelTimes;
-use body_states::{BodyStates, Ephemeris, Quantity};
-use event_expr::Formula;
-use event_steps::{MAX_STEPS, StepList, StepPlace, StepRules, fill};
+use body_states::{BodyStates, Ephemeris, Factor, Quantity};
+use column_steps::{Arithmetic, MAX_STEPS, StepList, StepPlace, fill};
 use ival_core::{COSINE_EXPONENT, DISTANCE_EXPONENT, Ival};
 use span_models::Model;
 use spec_covers::laws::points;
+use spec_models::rounding_laws::ends_stay_in_order;
+use spec_steps::laws::{listed_columns_are_read, terms_mean_their_formulas};
 use spec_text::Decimal;
+
+/// As many steps as those of most formulas, whose models find room in fewer slots than there are at most.
+const FEW_STEPS: usize = 64;
 
 /// A model of a formula over the times from `c` to `d`, by the step that stands for it in a list: what is the same in several
 /// parts is made once. At each of these times it covers the interval of the formula, as its enclosure over that time alone has
 /// it. The ephemeris is that of the states. None is made where an exponent or an error passes its limit, a signed square is
 /// not seen to have one sign, or a column is past the fourth in use.
 pub fn model_over(
-    formula: &Formula,
     listed: StepPlace,
     ephemeris: &Ephemeris,
     states: &BodyStates,
     c: i64,
     d: i64,
 ) -> Option<Model>
-    requires listed { IsMadeAt listed.steps.now listed.place formula.now }
+    requires step { listed.place < step_count listed.steps.now }
+    requires slot { listed.place < slot_limit }
+    requires sight { listed.steps.now.sight ≡ sight_of states.now }
     requires same { states.now.ephemeris ≡ ephemeris.now }
     requires fits { Fits states.now c d }
     requires later { c <ℤ d }
-    ensures { IfSome result (λ m. (t : ℤ) → c ≤ℤ t → t ≤ℤ d
-        → Covers m (argument c d t) (d -ℤ c)
-        (enclosure_over (state_enclosure states.now) formula.now t t).range) }
+    ensures { let l = listed.entry in
+        IfSome result (IsFormulaModel states.now c d l.steps.now l.place) }
 {
     points();
-    let _expr = formula.expr();
+    terms_mean_their_formulas();
     let times = ModelTimes { first: c, last: d };
-    let span = Span::new(states, ephemeris, times, &formula.leaves());
+    let span = Span::new(states, ephemeris, times, NamedAxes::of(listed));
     model_of(&span, listed.steps, listed.place)
 }
 
-// The model of the formula of a step.
+// The model of what a step stands for.
 fn model_of(span: &Span, steps: &StepList, place: usize) -> Option<Model>
     requires seen { IsSpanSeen span.now }
-    requires place { place < length steps.now }
-    ensures { let times = span.now.times in IsIfMade times.first times.last result
-        (term_at span.now (step_term_at (terms_of steps.now) place)) }
+    requires sight { sight_of span.now.states.now ≡ steps.now.sight }
+    requires step { place < step_count steps.now }
+    requires slot { place < slot_limit }
+    ensures { IsTermModel span.now (listed_term steps.now place) result }
 {
-    let _count = steps.count();
-    let mut slots = [None; MAX_STEPS];
-    fill(span, steps, 0, place + 1, &mut slots);
+    if place < FEW_STEPS {
+        let mut slots = [None; FEW_STEPS];
+        model_in(span, steps, place, &mut slots)
+    } else {
+        let mut slots = [None; MAX_STEPS];
+        model_in(span, steps, place, &mut slots)
+    }
+}
+
+// The same, with the models of the steps before it, in some slots.
+fn model_in(
+    span: &Span,
+    steps: &StepList,
+    place: usize,
+    slots: &mut [Option<Model>],
+) -> Option<Model>
+    requires seen { IsSpanSeen span.now }
+    requires sight { sight_of span.now.states.now ≡ steps.now.sight }
+    requires step { place < step_count steps.now }
+    requires room { place < length slots.old }
+    ensures { IsTermModel span.now (listed_term steps.now place) result }
+{
+    fill(span, steps, 0, place + 1, slots);
     slots[place]
 }
 
-impl<'s, 'e> StepRules for Span<'s, 'e> {
+impl<'s, 'e> Arithmetic for Span<'s, 'e> {
     type Value = Option<Model>;
 
     ghost is_ready = { λ s. IsSpanSeen s };
 
-    ghost is_value = { λ s e made. IsIfMade s.times.first s.times.last made (term_at s e) };
+    ghost sight = { λ s. sight_of s.states.now };
 
-    fn position(&self, target: u8, axis: u8) -> Option<Model> {
-        self.coordinate(Quantity::Position, target, axis)
+    ghost is_value = { λ s t made. IsTermModel s t made };
+
+    fn column(&self, quantity: Quantity, number: usize, axis: usize) -> Option<Model> {
+        listed_columns_are_read();
+        match quantity {
+            Quantity::Position => self.position.of(number, axis),
+            Quantity::Velocity => self.velocity.of(number, axis),
+        }
     }
 
-    fn velocity(&self, target: u8, axis: u8) -> Option<Model> {
-        self.coordinate(Quantity::Velocity, target, axis)
+    fn zero(&self) -> Option<Model> {
+        Model::of_interval(Ival::zero())
     }
 
     fn length(&self, km: Decimal) -> Option<Model> {
         let value = Ival::from_decimal(km.mant, km.exp, DISTANCE_EXPONENT);
-        self.times.constant(value)
+        Model::of_interval(value)
     }
 
     fn cosine(&self, number: Decimal) -> Option<Model> {
         let value = Ival::from_decimal(number.mant, number.exp, COSINE_EXPONENT);
-        self.times.constant(value)
+        Model::of_interval(value)
+    }
+
+    fn scaled(&self, factor: Factor, x: &Option<Model>) -> Option<Model> {
+        let constant = Model::of_interval(self.states.factor(factor));
+        self.product_of(&constant, x)
     }
 
     fn sum(&self, x: &Option<Model>, y: &Option<Model>) -> Option<Model> {
+        ends_stay_in_order();
         match (x, y) {
-            (Some(x), Some(y)) => self.times.sum(x, y),
+            (Some(x), Some(y)) => x.covering_sum(y),
             _ => None,
         }
     }
 
     fn difference(&self, x: &Option<Model>, y: &Option<Model>) -> Option<Model> {
+        ends_stay_in_order();
         match (x, y) {
-            (Some(x), Some(y)) => self.times.difference(x, y),
+            (Some(x), Some(y)) => x.covering_difference(y),
             _ => None,
         }
     }
 
     fn product(&self, x: &Option<Model>, y: &Option<Model>) -> Option<Model> {
-        match (x, y) {
-            (Some(x), Some(y)) => self.times.product(x, y),
-            _ => None,
-        }
+        self.product_of(x, y)
     }
 
     fn signed_square(&self, x: &Option<Model>) -> Option<Model> {
+        ends_stay_in_order();
         match x {
-            Some(x) => self.times.signed_square(x),
+            Some(x) => x.covering_square(),
             None => None,
+        }
+    }
+}
+
+impl<'s, 'e> Span<'s, 'e> {
+    // A model of the products of what two others cover.
+    fn product_of(&self, x: &Option<Model>, y: &Option<Model>) -> Option<Model>
+        ensures { (f g : ℤ → Interval)
+            → IsIfMade self.now.times.first self.now.times.last x.now f
+            → IsIfMade self.now.times.first self.now.times.last y.now g
+            → IsIfMade self.now.times.first self.now.times.last result (λ t. product (f t) (g t)) }
+    {
+        ends_stay_in_order();
+        match (x, y) {
+            (Some(x), Some(y)) => x.covering_product(y),
+            _ => None,
         }
     }
 }

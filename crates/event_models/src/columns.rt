@@ -10,7 +10,6 @@ ghost use Rattle.event_models.specs.Granules.{AreMade, IsAxisModel, IsGranuleOve
 
 use crate::granules::granule_of;
 use crate::row_room::RowRoom;
-use crate::spans::AxisModels;
 use crate::times::ModelTimes;
 use crate::values::axis_model;
 use body_states::{BodyStates, Ephemeris, Quantity};
@@ -21,11 +20,12 @@ use span_models::Model;
 /// How many columns are kept: two bodies and the observer are made of no more.
 const KEPT_COLUMNS: usize = 4;
 
-/// The models of a column, counted from 1, along the axes of the files.
+/// The models of a column, counted from 1, along the axes of the files; none along an axis where it was not asked for, or
+/// could not be made.
 #[derive(Clone, Copy)]
 pub(crate) struct ColumnEntry {
     pub number: usize,
-    pub along: AxisModels,
+    pub along: [Option<Model>; 3],
 }
 
 /// The models of the first columns in use.
@@ -41,26 +41,16 @@ impl ColumnModels {
         ensures { (v : View) (quantity : QuantityOf) (c d : ℤ) → AreColumns v quantity c d self.now.columns
             → IsIfMade c d result (column_at v quantity c number axis) }
     {
-        entered(&self.columns, number, axis)
-    }
-}
-
-// What is entered of a column along an axis.
-fn entered(columns: &[ColumnEntry], number: usize, axis: usize) -> Option<Model>
-    requires axis { axis < 3 }
-    ensures { (v : View) (quantity : QuantityOf) (c d : ℤ) → AreColumns v quantity c d columns.now
-        → IsIfMade c d result (column_at v quantity c number axis) }
-{
-    for place in 0..columns.len() {
-        let column = &columns[place];
-        if column.number == number {
-            return column.along.along(axis);
+        let columns = &self.columns;
+        for place in 0..columns.len() {
+            let column = &columns[place];
+            if column.number == number {
+                return column.along[axis];
+            }
         }
+        None
     }
-    None
-}
 
-impl ColumnModels {
     /// The models of the first columns in use along some axes of the files.
     pub fn new(
         states: &BodyStates,
@@ -75,7 +65,7 @@ impl ColumnModels {
     {
         let mut columns = [ColumnEntry {
             number: 0,
-            along: AxisModels::none(),
+            along: [None; 3],
         }; KEPT_COLUMNS];
         if axes.x || axes.y || axes.z {
             write_columns(states, ephemeris, times, quantity, axes, &mut columns);
@@ -182,11 +172,11 @@ fn entry(
 {
     ColumnEntry {
         number,
-        along: AxisModels {
-            x: axis_if(axes.x, quantity, granule, 0, room, times),
-            y: axis_if(axes.y, quantity, granule, 1, room, times),
-            z: axis_if(axes.z, quantity, granule, 2, room, times),
-        },
+        along: [
+            axis_if(axes.x, quantity, granule, 0, room, times),
+            axis_if(axes.y, quantity, granule, 1, room, times),
+            axis_if(axes.z, quantity, granule, 2, room, times),
+        ],
     }
 }
 

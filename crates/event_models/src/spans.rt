@@ -1,56 +1,43 @@
-// Models of the coordinates of two targets over some times.
-ghost use Rattle.std.specs.Prelude.{◌≡◌, ◌<◌};
-ghost use Rattle.event_models.specs.Spans.{model_along, no_models};
+// The models of the columns in use over some times.
+ghost use Rattle.std.specs.Prelude.{◌≡◌};
+ghost use Rattle.spec_bodies.specs.Views.{Fits};
+ghost use Rattle.event_models.specs.Spans.{IsSpanSeen};
 
+use crate::columns::ColumnModels;
+use crate::named::NamedAxes;
 use crate::times::ModelTimes;
-use body_states::BodyStates;
-use span_models::Model;
+use body_states::{BodyStates, Ephemeris, Quantity};
 
-/// The models of a quantity along three axes; none along an axis where it was not asked for, or could not be made.
-#[derive(Clone, Copy)]
-pub(crate) struct AxisModels {
-    pub x: Option<Model>,
-    pub y: Option<Model>,
-    pub z: Option<Model>,
-}
-
-/// Those of one quantity of both targets.
-#[derive(Clone, Copy)]
-pub(crate) struct TargetModels {
-    pub first: AxisModels,
-    pub second: AxisModels,
-}
-
-/// Those of both quantities of both targets.
-#[derive(Clone, Copy)]
+/// Two bodies over some times, with the models of the columns that these are made of.
+#[derive(Drop)]
 pub(crate) struct Span<'s, 'e> {
     pub states: &'s BodyStates<'e>,
     pub times: ModelTimes,
-    pub position: TargetModels,
-    pub velocity: TargetModels,
+    pub position: ColumnModels,
+    pub velocity: ColumnModels,
 }
 
-impl AxisModels {
-    /// None is made.
-    pub fn none() -> AxisModels
-        ensures { result ≡ no_models }
+impl<'s, 'e> Span<'s, 'e> {
+    /// The models of the columns along those axes that are named.
+    pub fn new(
+        states: &'s BodyStates<'e>,
+        ephemeris: &Ephemeris,
+        times: ModelTimes,
+        named: NamedAxes,
+    ) -> Span<'s, 'e>
+        requires same { states.now.ephemeris ≡ ephemeris.now }
+        requires fits { Fits states.now times.first times.last }
+        ensures states { result.states.now ≡ states.now }
+        ensures first { result.times.first ≡ times.first }
+        ensures last { result.times.last ≡ times.last }
+        ensures seen { IsSpanSeen result }
     {
-        AxisModels {
-            x: None,
-            y: None,
-            z: None,
-        }
-    }
-
-    /// The model along an axis, counted from 0.
-    pub fn along(&self, axis: usize) -> Option<Model>
-        requires { axis < 3 }
-        ensures { result ≡ model_along self.now axis }
-    {
-        match axis {
-            0 => self.x,
-            1 => self.y,
-            _ => self.z,
+        let (position, velocity) = (Quantity::Position, Quantity::Velocity);
+        Span {
+            states,
+            times,
+            position: ColumnModels::new(states, ephemeris, &times, position, named.position),
+            velocity: ColumnModels::new(states, ephemeris, &times, velocity, named.velocity),
         }
     }
 }

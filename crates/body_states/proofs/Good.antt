@@ -1,77 +1,64 @@
--- The enclosure of a short formula over columns that can be read is within the limits of the rules, and encloses a value.
-use Rattle.std.proofs.Common.{ℕ, ◌≤◌, arith, ap, sym, subst, ℤ, ◌≤ℤ◌}
+-- What the rules owe for the enclosures of what may stand in a list: they are within the limits, and enclose a value.
+use Rattle.std.proofs.Common.{◌≡◌, arith, refl, sym, subst, ℤ, pos, ◌≤ℤ◌}
 use Rattle.std.proofs.lemmas.Int.{ints}
-use Rattle.spec_intervals.specs.Fraction.{IsFraction, Holds, Overlaps}
+use Rattle.spec_intervals.specs.Interval.{zero_interval}
+use Rattle.spec_intervals.specs.Fraction.{IsFraction, Holds, Overlaps, fraction}
 use Rattle.spec_intervals.specs.Enclosure.{Enclosure, IsWithin, AllWithin, Encloses, constant_of}
+use Rattle.spec_intervals.proofs.Compare.{Holds-zero}
 use Rattle.spec_intervals.proofs.Enclosed.{IsEnclosure-constant}
-use Rattle.spec_intervals.proofs.Exponents.{IsWithin-more}
 use Rattle.spec_expressions.specs.Term.{part_exponent}
 use Rattle.spec_bodies.specs.declared.factor.Factor.{Factor}
-use Rattle.spec_bodies.specs.declared.factor.Factor.TheVariants.{MoonShare}
-use Rattle.spec_bodies.specs.declared.source.Source.{Source}
-use Rattle.spec_bodies.specs.declared.source.Source.TheVariants.{OwnColumn, EarthOfPair, MoonOfPair, Origin}
-use Rattle.spec_bodies.specs.Coordinates.{nothing, of_column, times, earth, barycentric_coordinate, displacement}
 use Rattle.spec_bodies.specs.Meanings.{factor_interval}
-use Rattle.spec_bodies.specs.Reading.{IsShort, IsFactor}
+use Rattle.spec_bodies.specs.Reading.{IsFactor}
 use Rattle.spec_bodies.specs.Views.{View, IsView, Fits, factor_of}
-use Rattle.spec_bodies.proofs.Bounds.{displacement_low}
 use Rattle.spec_bodies.proofs.Factors.{factor_is, constant_is}
 use Rattle.spec_bodies.proofs.Formulas.{IsFraction-factor, Holds-factor_interval}
-use Rattle.spec_bodies.proofs.Held.{formula_encloses, formula_within}
-use Rattle.body_states.specs.declared.question.Question.{Question}
-use Rattle.body_states.specs.Answers.{IsAnswer, IsDisplacement, scaled_answer}
+use Rattle.spec_steps.specs.ColumnTerms.{ColumnTerm, sight_of}
+use Rattle.spec_steps.specs.Parts.{IsPart}
+use Rattle.spec_steps.specs.Meanings.{enclosure_meant}
+use Rattle.column_steps.specs.Values.{AreOperands, IsOperand}
+use Rattle.body_states.specs.Moments.{Moment, meant_in}
 
-more : (m n : ℕ) (e : Enclosure) → m ≤ n → AllWithin m e → AllWithin n e
-more m n e p is = record { mid = IsWithin-more m n e.mid p is.mid; range = IsWithin-more m n e.range p is.range; step = IsWithin-more m n e.step p is.step }
+-- by the law
+abbrev pub AreWithin : Type 0
+AreWithin = (v : View) (t : ColumnTerm) (a b : ℤ) → IsPart (sight_of v) t → Fits v a b → AllWithin part_exponent (enclosure_meant v a b t)
 
-pub good_encloses : (v : View) (q : Question) → Fits v q.times.now.first q.times.now.last → (e : Enclosure) → IsAnswer v q e → Encloses q.times.now.first q.times.now.last e
-good_encloses v q fits e is = subst (Encloses q.times.now.first q.times.now.last) (sym is.is) (formula_encloses v q.times.now.first q.times.now.last fits q.quantity is.formula is.readable)
+abbrev pub AreEnclosing : Type 0
+AreEnclosing = (v : View) (t : ColumnTerm) (a b : ℤ) → IsPart (sight_of v) t → Fits v a b → Encloses a b (enclosure_meant v a b t)
 
-pub good_within : (v : View) (q : Question) → Fits v q.times.now.first q.times.now.last → (e : Enclosure) → IsAnswer v q e → AllWithin part_exponent e
-good_within v q fits e is =
-    more 256 part_exponent e (omega arith) (subst (AllWithin 256) (sym is.is) (formula_within v q.times.now.first q.times.now.last fits q.quantity is.formula is.readable is.short))
+module _ (within : AreWithin) (encloses : AreEnclosing) (m : Moment) (fits : Fits m.view m.first m.last) where
+  abbrev IsOf : ColumnTerm → Enclosure → Type 0
+  IsOf t made = made ≡ meant_in m t
 
--- ---- formulas that are short
-pub column_short : (number axis : ℕ) → IsShort (of_column number axis)
-column_short number axis = record { low = omega arith; high = omega arith }
+  part_within : (t : ColumnTerm) → IsPart (sight_of m.view) t → (x : Enclosure) → IsOf t x → AllWithin part_exponent x
+  part_within t part x is = subst (AllWithin part_exponent) (sym is) (within m.view t m.first m.last part fits)
 
-pub nothing_short : IsShort nothing
-nothing_short = record { low = omega arith; high = omega arith }
+  part_encloses : (t : ColumnTerm) → IsPart (sight_of m.view) t → (x : Enclosure) → IsOf t x → Encloses m.first m.last x
+  part_encloses t part x is = subst (Encloses m.first m.last) (sym is) (encloses m.view t m.first m.last part fits)
 
-pub share_short : (number axis : ℕ) → IsShort (times MoonShare (of_column number axis))
-share_short number axis = record { low = omega arith; high = omega arith }
+  -- one part
+  pub one : (whole : ColumnTerm → ColumnTerm) → ((p : ColumnTerm) → IsPart (sight_of m.view) (whole p) → IsPart (sight_of m.view) p) → (x : Enclosure) → IsOperand (sight_of m.view) IsOf whole x
+      → record { within : AllWithin part_exponent x; encloses : Encloses m.first m.last x }
+  one whole part x is =
+      let own = part is.operand is.part in
+      record { within = part_within is.operand own x is.of_operand; encloses = part_encloses is.operand own x is.of_operand }
 
-pub earth_short : (axis : ℕ) → IsShort (earth axis)
-earth_short axis = record { low = omega arith; high = omega arith }
+  -- two parts
+  pub two : (whole : ColumnTerm → ColumnTerm → ColumnTerm) → ((p q : ColumnTerm) → IsPart (sight_of m.view) (whole p q) → IsPart (sight_of m.view) p × IsPart (sight_of m.view) q)
+      → (x y : Enclosure) → AreOperands (sight_of m.view) IsOf whole x y
+      → record { x_within : AllWithin part_exponent x; y_within : AllWithin part_exponent y; x_encloses : Encloses m.first m.last x; y_encloses : Encloses m.first m.last y }
+  two whole parts x y are =
+      let both = parts are.first are.second are.part in
+      record {
+        x_within = part_within are.first both.0 x are.of_first;
+        y_within = part_within are.second both.1 y are.of_second;
+        x_encloses = part_encloses are.first both.0 x are.of_first;
+        y_encloses = part_encloses are.second both.1 y are.of_second;
+      }
 
-pub barycentric_short : (axis : ℕ) (source : Source) → IsShort (barycentric_coordinate source axis)
-barycentric_short axis (OwnColumn n) = record { low = omega arith; high = omega arith }
-barycentric_short axis EarthOfPair = record { low = omega arith; high = omega arith }
-barycentric_short axis MoonOfPair = record { low = omega arith; high = omega arith }
-barycentric_short axis Origin = record { low = omega arith; high = omega arith }
-
-pub displacement_short : (axis : ℕ) (target observer : Source) → IsShort (displacement target observer axis)
-displacement_short axis target observer = let l = (displacement_low axis target observer).low in let h = (displacement_low axis target observer).high in record { low = omega (arith, l); high = omega (arith, h) }
-
-pub scaled_short : (f : Factor) (axis : ℕ) (target observer : Source) → IsShort (times f (displacement target observer axis))
-scaled_short f axis target observer = let l = (displacement_low axis target observer).low in let h = (displacement_low axis target observer).high in record { low = omega (arith, l); high = omega (arith, h) }
-
--- ---- a coordinate along an axis of the files, and a factor times it
-pub displacement_answers : (v : View) (q : Question) (axis : ℕ) (e : Enclosure) → IsDisplacement v q axis e → IsAnswer v q e
-displacement_answers v q axis e is = record {
-  formula = displacement is.source v.observer axis;
-  readable = is.readable;
-  short = displacement_short axis is.source v.observer;
-  is = is.is;
-}
-
-pub scaled_displacement : (v : View) (q : Question) (f : Factor) (axis : ℕ) (e : Enclosure) → IsDisplacement v q axis e → IsAnswer v q (scaled_answer v q f e)
-scaled_displacement v q f axis e is = record {
-  formula = times f (displacement is.source v.observer axis);
-  readable = is.readable;
-  short = scaled_short f axis is.source v.observer;
-  is = ap (scaled_answer v q f) is.is;
-}
+-- 0 is a number
+pub zero_number : Overlaps zero_interval zero_interval
+zero_number = record { common = fraction (pos 0) 1; is_fraction = omega arith; in_first = Holds-zero (fraction (pos 0) 1) refl; in_second = Holds-zero (fraction (pos 0) 1) refl }
 
 -- ---- a factor of the view
 module _ (v : View) (is : IsView v) (f : Factor) where

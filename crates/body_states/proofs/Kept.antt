@@ -12,11 +12,9 @@ use Rattle.event_expr.specs.declared.axes.Axes.{Axes}
 use Rattle.event_expr.specs.Leaves.{has_axis}
 use Rattle.body_states.specs.declared.enclosures.AxisEnclosures.{AxisEnclosures}
 use Rattle.body_states.specs.declared.enclosures.ColumnEnclosures.{ColumnEnclosures}
-use Rattle.body_states.specs.declared.enclosures.TargetEnclosures.{TargetEnclosures}
 use Rattle.body_states.specs.declared.bases.RowRoom.{RowRoom}
 use Rattle.body_states.specs.Bases.{AreKept}
-use Rattle.body_states.specs.Enclosures.{AreAlong, AreOfTargets, AreReadOrNot, IsRead, IsUnread, along, with_along, of_target, nothing_known, nothing_known_of_targets, nothing_known_of_column}
-use Rattle.body_states.specs.Answers.{IsKnown}
+use Rattle.body_states.specs.Enclosures.{AreAlong, AreKnown, AreReadOrNot, IsKnown, IsRead, IsUnread, along, with_along, nothing_known, nothing_known_of_column}
 
 -- ---- nothing known is right by itself
 pub nothing_along : (f : ℕ → Enclosure) → AreAlong f nothing_known
@@ -24,9 +22,6 @@ nothing_along f = record { x = tt; y = tt; z = tt }
 
 pub nothing_is_along : (f : ℕ → Enclosure) (m : AxisEnclosures) → m ≡ nothing_known → AreAlong f m
 nothing_is_along f m is = rw is (nothing_along f)
-
-pub nothing_of_targets : (f : ℕ → ℕ → Enclosure) (m : TargetEnclosures) → m ≡ nothing_known_of_targets → AreOfTargets f m
-nothing_of_targets f m is = rw is (record { first = nothing_along (f 0); second = nothing_along (f 1) })
 
 -- ---- what is known of a column
 pub known_right : (v : View) (quantity : Quantity) (a b : ℤ) (columns : List ColumnEnclosures) (number : ℕ) (along : AxisEnclosures) → All (IsKnown v quantity a b) columns
@@ -151,12 +146,7 @@ read_already axes numbers n columns listed kept d not read below place less = by
         let same : n ≡ place = omega (arith, less, after) in
         subst (λ (k : ℕ). IsRead axes (slice_index_or numbers k 0) (slice_index_or columns k nothing_known_of_column)) same (there (read n listed kept))
 
-pub right_of_target : (f : ℕ → ℕ → Enclosure) (m : TargetEnclosures) (target : ℕ) → target < 2 → AreOfTargets f m → AreAlong (f target) (of_target m target)
-right_of_target f m zero below are = are.first
-right_of_target f m (suc zero) below are = are.second
-right_of_target f m (suc (suc target)) below are = absurd (omega (arith, below))
-
--- and it is right by any function that is the same along the three axes
+-- ---- and it is right by any function that is the same along the three axes
 same_if : (x : Option Enclosure) (a b : Enclosure) → a ≡ b → IfSome x (λ e. e ≡ a) → IfSome x (λ e. e ≡ b)
 same_if x a b same is = subst (λ (t : Enclosure). IfSome x (λ e. e ≡ t)) same is
 

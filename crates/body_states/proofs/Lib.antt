@@ -2,7 +2,6 @@ pub mod AlongAxes
 pub mod Masses
 pub mod Good
 pub mod SeriesParts
-pub mod Readable
 pub mod Sums
 pub mod Kept
 pub mod Shared

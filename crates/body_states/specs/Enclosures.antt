@@ -1,14 +1,14 @@
 -- The enclosures of a quantity along each axis.
-use Rattle.std.specs.Prelude.{◌≡◌, ◌<◌, ◌⊎◌, ℕ, zero, suc, true, Option, None, Some, IsSome, IfSome, List, length, slice_index_or}
+use Rattle.std.specs.Prelude.{◌≡◌, ◌<◌, ◌⊎◌, ℕ, zero, suc, true, ℤ, All, Option, None, Some, IsSome, IfSome, List, length, slice_index_or}
 use Rattle.spec_intervals.specs.Enclosure.{Enclosure}
 use Rattle.spec_ephemeris.specs.Granules.{series_of}
 use Rattle.spec_bodies.specs.declared.quantity.Quantity.{Quantity}
-use Rattle.spec_bodies.specs.Views.{series_enclosure}
+use Rattle.spec_bodies.specs.Reading.{IsUsable}
+use Rattle.spec_bodies.specs.Views.{View, column_enclosure, series_enclosure}
 use Rattle.event_expr.specs.declared.axes.Axes.{Axes}
 use Rattle.event_expr.specs.Leaves.{has_axis}
 use Rattle.body_states.specs.declared.granule_span.GranuleSpan.{GranuleSpan}
 use Rattle.body_states.specs.declared.enclosures.AxisEnclosures.{AxisEnclosures}
-use Rattle.body_states.specs.declared.enclosures.TargetEnclosures.{TargetEnclosures}
 use Rattle.body_states.specs.declared.enclosures.ColumnEnclosures.{ColumnEnclosures}
 
 abbrev pub along : AxisEnclosures → ℕ → Option Enclosure
@@ -22,17 +22,9 @@ with_along m zero e = record m { x = Some e }
 with_along m (suc zero) e = record m { y = Some e }
 with_along m (suc (suc axis)) e = record m { z = Some e }
 
--- targets are numbered 0 and 1
-abbrev pub of_target : TargetEnclosures → ℕ → AxisEnclosures
-of_target m zero = m.first
-of_target m (suc target) = m.second
-
 -- ---- nothing is known
 abbrev pub nothing_known : AxisEnclosures
 nothing_known = record { x = None; y = None; z = None }
-
-abbrev pub nothing_known_of_targets : TargetEnclosures
-nothing_known_of_targets = record { first = nothing_known; second = nothing_known }
 
 abbrev pub nothing_known_of_column : ColumnEnclosures
 nothing_known_of_column = record { number = 0; along = nothing_known }
@@ -68,11 +60,13 @@ abbrev pub AreReadOrNot : Axes → List ℕ → List ColumnEnclosures → Type 0
 AreReadOrNot axes numbers columns =
     (place : ℕ) → place < length numbers → place < length columns → IsUnread (slice_index_or columns place nothing_known_of_column) ⊎ IsRead axes (slice_index_or numbers place 0) (slice_index_or columns place nothing_known_of_column)
 
--- and of both targets, by target and axis
-pub record AreOfTargets (enclosures : ℕ → ℕ → Enclosure) (m : TargetEnclosures) : Type 0 where
-  pub first : AreAlong (enclosures 0) m.first
-  pub second : AreAlong (enclosures 1) m.second
-
 -- the enclosure of a quantity along an axis, over times within a granule
 abbrev pub enclosure_along : GranuleSpan → Quantity → ℕ → Enclosure
 enclosure_along s quantity axis = series_enclosure quantity s.times.now.first s.times.now.last (series_of s.granule axis)
+
+-- what is kept of a column is right, where the column is usable
+abbrev pub IsKnown : View → Quantity → ℤ → ℤ → ColumnEnclosures → Type 0
+IsKnown v quantity a b c = IsUsable v c.number → AreAlong (column_enclosure v quantity a b c.number) c.along
+
+abbrev pub AreKnown : View → Quantity → ℤ → ℤ → List ColumnEnclosures → Type 0
+AreKnown v quantity a b columns = All (IsKnown v quantity a b) columns

@@ -1,4 +1,3 @@
-pub mod Answers
 pub mod Bases
 pub mod Dividers
 pub mod Enclosures

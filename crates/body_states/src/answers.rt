@@ -1,13 +1,22 @@
 // The enclosures that are returned for a coordinate of a target.
 ghost use Rattle.std.specs.Prelude.{◌≡◌, ◌<◌};
-ghost use Rattle.spec_bodies.specs.Views.{Fits, target_of, exact_state, state_enclosure, coordinate_enclosure};
+ghost use Rattle.spec_expressions.specs.Term.{IsFormula, nodes, term};
+ghost use Rattle.spec_bodies.specs.Views.{Fits, exact_state, state_enclosure, target_of};
 ghost use Rattle.spec_bodies.proofs.Held.{times_span, fractions_of_states, states_held, states_within};
+ghost use Rattle.spec_searches.specs.Search.{enclosure_over};
+ghost use Rattle.spec_steps.specs.ColumnTerms.{sight_of};
+ghost use Rattle.column_steps.specs.Listed.{listed_term, step_count};
+ghost use Rattle.body_states.specs.Moments.{meant_in};
 
+use crate::snapshots::{Snapshot, blank};
 use crate::states::BodyStates;
-use event_expr::States;
-use event_expr::rules::TimeSpan;
+use column_steps::{StepList, fill};
+use event_expr::{Expr, Formula, States};
 use ival_core::Enclosure;
-use spec_bodies::{Quantity, Source};
+use spec_bodies::Source;
+
+/// The most steps of a coordinate, with some room.
+const COORDINATE_STEPS: usize = 128;
 
 impl<'e> States for BodyStates<'e> {
     ghost exact = { λ v leaf. exact_state v leaf };
@@ -17,11 +26,11 @@ impl<'e> States for BodyStates<'e> {
     ghost fits = { λ v a b. Fits v a b };
 
     fn pos(&self, target: u8, axis: u8, a: i64, b: i64) -> Enclosure {
-        self.state(Quantity::Position, target, axis, a, b)
+        self.state(Expr::Pos { target, axis }, a, b)
     }
 
     fn vel(&self, target: u8, axis: u8, a: i64, b: i64) -> Enclosure {
-        self.state(Quantity::Velocity, target, axis, a, b)
+        self.state(Expr::Vel { target, axis }, a, b)
     }
 
     ghost spans = { λ v a b fits. times_span v a b fits };
@@ -34,21 +43,17 @@ impl<'e> States for BodyStates<'e> {
 }
 
 impl<'e> BodyStates<'e> {
-    /// The enclosure of a quantity of a target along an axis, read from its columns.
-    pub(crate) fn state(
-        &self,
-        quantity: Quantity,
-        target: u8,
-        axis: u8,
-        a: i64,
-        b: i64,
-    ) -> Enclosure
-        requires target { target < 2 }
-        requires axis { axis < 3 }
+    // The enclosure of a coordinate of a target, by the steps that it is made of.
+    fn state(&self, leaf: Expr, a: i64, b: i64) -> Enclosure
+        requires formula { IsFormula (term leaf) }
+        requires single { nodes (term leaf) ≡ 1 }
         requires fits { Fits self.now a b }
-        ensures { result ≡ coordinate_enclosure self.now quantity target axis a b }
+        ensures { result ≡ enclosure_over (state_enclosure self.now) (term leaf) a b }
     {
-        self.state_over(quantity, target, axis, &TimeSpan::new(a, b))
+        let formula = Formula::of(leaf);
+        let (steps, place) = StepList::of(self.sight(), &formula);
+        let snapshot = self.at(a, b, &formula.leaves());
+        snapshot.value(&steps, place)
     }
 
     // A target by its number.
@@ -60,5 +65,19 @@ impl<'e> BodyStates<'e> {
             0 => self.first,
             _ => self.second,
         }
+    }
+}
+
+impl<'s, 'e> Snapshot<'s, 'e> {
+    // The enclosure that a step stands for, with no more than 128 before it.
+    fn value(&self, steps: &StepList, place: usize) -> Enclosure
+        requires sight { sight_of self.now.view ≡ steps.now.sight }
+        requires step { place < step_count steps.now }
+        requires few { place < 128 }
+        ensures { result ≡ meant_in self.now (listed_term steps.now place) }
+    {
+        let mut slots = [blank(); COORDINATE_STEPS];
+        fill(self, steps, 0, place + 1, &mut slots);
+        slots[place]
     }
 }

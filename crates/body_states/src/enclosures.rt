@@ -1,6 +1,6 @@
 // Where a body is or how fast it moves along each axis, over a span of times.
 ghost use Rattle.std.specs.Prelude.{◌≡◌, ◌<◌};
-ghost use Rattle.body_states.specs.Enclosures.{along, with_along, of_target, nothing_known, nothing_known_of_targets, nothing_known_of_column};
+ghost use Rattle.body_states.specs.Enclosures.{along, with_along, nothing_known, nothing_known_of_column};
 
 use crate::axes::by_axis;
 use ival_core::Enclosure;
@@ -12,13 +12,6 @@ pub(crate) struct AxisEnclosures {
     pub x: Option<Enclosure>,
     pub y: Option<Enclosure>,
     pub z: Option<Enclosure>,
-}
-
-/// The enclosures of both targets.
-#[derive(Clone, Copy)]
-pub(crate) struct TargetEnclosures {
-    pub first: AxisEnclosures,
-    pub second: AxisEnclosures,
 }
 
 /// The enclosures of a column, counted from 1; where none is known, its number is 0.
@@ -60,31 +53,6 @@ impl AxisEnclosures {
             0 => self.x = Some(enclosure),
             1 => self.y = Some(enclosure),
             _ => self.z = Some(enclosure),
-        }
-    }
-}
-
-impl TargetEnclosures {
-    /// Nothing is known of either target.
-    #[inline(always)]
-    pub fn none() -> TargetEnclosures
-        ensures { result ≡ nothing_known_of_targets }
-    {
-        TargetEnclosures {
-            first: AxisEnclosures::none(),
-            second: AxisEnclosures::none(),
-        }
-    }
-
-    /// The enclosures of a target, counted from 0.
-    #[inline(always)]
-    pub fn of(&self, target: u8) -> &AxisEnclosures
-        requires { target < 2 }
-        ensures { result.now ≡ of_target self.now target }
-    {
-        match target {
-            0 => &self.first,
-            _ => &self.second,
         }
     }
 }

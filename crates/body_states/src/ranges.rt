@@ -4,11 +4,13 @@ ghost use Rattle.spec_ephemeris.specs.Granules.{series_at, series_of};
 ghost use Rattle.spec_bodies.specs.Meanings.{factor_interval};
 ghost use Rattle.spec_bodies.specs.Reading.{IsUsable};
 ghost use Rattle.spec_bodies.specs.Views.{Fits, factor_of, step_interval, target_of, value_interval};
+ghost use Rattle.body_states.specs.Ranges.{own_axes};
 
 use crate::granule_span::GranuleSpan;
 use crate::states::{BodyStates, divider_of};
 use cheby_difference::{position_step, velocity, velocity_step};
 use cheby_enclose::position;
+use event_expr::Axes;
 use event_expr::rules::TimeSpan;
 use ival_core::Ival;
 use spec_bodies::{Factor, Frame, Quantity, Source};
@@ -48,6 +50,20 @@ impl<'e> BodyStates<'e> {
         ensures { result ≡ factor_interval (factor_of self.now factor) }
     {
         self.factors.interval(factor)
+    }
+
+    /// The axes of the files that axes of the frame are made of: y and z of the ecliptic are turned by the obliquity.
+    pub fn own_axes(&self, axes: Axes) -> Axes
+        ensures { result ≡ own_axes self.now.frame axes }
+    {
+        match self.frame {
+            Frame::Eq => axes,
+            Frame::Ecl => Axes {
+                x: axes.x,
+                y: axes.y || axes.z,
+                z: axes.y || axes.z,
+            },
+        }
     }
 
     /// What the quantity of a column in use is along an axis, counted from 0, over the times from `a` to `b`.

@@ -1,32 +1,39 @@
-// The states of both targets over one span of times.
-ghost use Rattle.std.specs.Prelude.{◌≡◌, ◌<◌};
-ghost use Rattle.spec_bodies.specs.Views.{Fits, state_enclosure, exact_state};
-ghost use Rattle.spec_bodies.proofs.Held.{times_span, fractions_of_states, states_held, states_within};
-ghost use Rattle.body_states.specs.Enclosures.{AreAlong};
-ghost use Rattle.body_states.specs.Moments.{enclosure_in, moment_state};
+// What both targets are made of over one span of times.
+ghost use Rattle.std.specs.Prelude.{◌≡◌, ⊤};
+ghost use Rattle.spec_bodies.specs.Views.{Fits};
+ghost use Rattle.spec_steps.specs.ColumnTerms.{sight_of};
+ghost use Rattle.body_states.specs.Enclosures.{AreKnown};
+ghost use Rattle.body_states.specs.Moments.{meant_in};
 
-use crate::enclosures::{AxisEnclosures, TargetEnclosures};
+use crate::enclosures::ColumnEnclosures;
+use crate::sources::KEPT_COLUMNS;
 use crate::states::BodyStates;
+use column_steps::Arithmetic;
+use event_expr::Leaves;
 use event_expr::rules::TimeSpan;
-use event_expr::{Formula, Leaves, States, enclose_during};
-use ival_core::Enclosure;
-use spec_bodies::Quantity;
+use ival_core::{COSINE_EXPONENT, DISTANCE_EXPONENT, Enclosure, Ival};
+use spec_bodies::{Factor, Quantity};
+use spec_steps::Sight;
+use spec_steps::laws::listed_enclosures_are_within_limits;
+use spec_text::Decimal;
 use std::marker::Model;
 
-/// The states of both targets over the times from a first to a last. What was wanted of them is made once: to read it
-/// for these times costs nothing more.
+/// What both targets are made of over the times from a first to a last: by the rules of an arithmetic, the enclosure of each
+/// term that may stand in a list of steps. What was wanted of the columns in use is made once: to read it for these times costs
+/// nothing more. At a single time nothing is worked out but the mids.
 #[derive(Drop)]
 pub struct Snapshot<'s, 'e> {
     states: &'s BodyStates<'e>,
     times: TimeSpan,
-    position: TargetEnclosures,
-    velocity: TargetEnclosures,
+    positions: [ColumnEnclosures; KEPT_COLUMNS],
+    velocities: [ColumnEnclosures; KEPT_COLUMNS],
 }
 
 impl<'s, 'e> Model for Snapshot<'s, 'e> {
     ghost use Rattle.spec_bodies.specs.Views.{Fits};
-    ghost use Rattle.body_states.specs.Moments.{Moment, AreStates};
     ghost use Rattle.spec_bodies.specs.declared.quantity.Quantity.TheVariants.{Position, Velocity};
+    ghost use Rattle.body_states.specs.Enclosures.{AreKnown};
+    ghost use Rattle.body_states.specs.Moments.{Moment};
 
     ghost Value = { Moment };
 
@@ -36,88 +43,116 @@ impl<'s, 'e> Model for Snapshot<'s, 'e> {
       last = s.times.last;
     } };
 
-    ghost invariant = { λ s. AreStates s.states.now s.times.first s.times.last Position s.position
-        × AreStates s.states.now s.times.first s.times.last Velocity s.velocity
+    ghost invariant = { λ s. AreKnown s.states.now Position s.times.first s.times.last s.positions
+        × AreKnown s.states.now Velocity s.times.first s.times.last s.velocities
         × Fits s.states.now s.times.first s.times.last };
 }
 
+/// An enclosure to be written over.
+#[inline(always)]
+pub fn blank() -> Enclosure {
+    Enclosure {
+        mid: Ival::zero(),
+        range: Ival::zero(),
+        step: Ival::zero(),
+    }
+}
+
 impl<'e> BodyStates<'e> {
-    /// The states of both targets over the times from `a` to `b`, in the unit of the ephemeris's times, of which the
-    /// wanted ones are made at once, with each basis of a column in use made once. What is not wanted is read when it is
+    /// What both targets are made of over the times from `a` to `b`, in the unit of the ephemeris's times, where the columns
+    /// in use are made at once for the wanted coordinates, with each basis made once. What is not wanted is read when it is
     /// asked for.
     pub fn at(&self, a: i64, b: i64, wanted: &Leaves) -> Snapshot<'_, 'e>
         requires { Fits self.now a b }
         ensures { result ≡ record { view = self.now; first = a; last = b } }
     {
         let times = TimeSpan::new(a, b);
-        let mut position = TargetEnclosures::none();
-        let mut velocity = TargetEnclosures::none();
-        let (first, second) = (wanted.first_position, wanted.second_position);
-        self.write_targets(Quantity::Position, &times, first, second, &mut position);
-        let (first, second) = (wanted.first_velocity, wanted.second_velocity);
-        self.write_targets(Quantity::Velocity, &times, first, second, &mut velocity);
+        let mut positions = [ColumnEnclosures::none(); KEPT_COLUMNS];
+        let mut velocities = [ColumnEnclosures::none(); KEPT_COLUMNS];
+        let axes = self.own_axes(wanted.first_position.union(wanted.second_position));
+        self.write_wanted(Quantity::Position, &times, axes, &mut positions);
+        let axes = self.own_axes(wanted.first_velocity.union(wanted.second_velocity));
+        self.write_wanted(Quantity::Velocity, &times, axes, &mut velocities);
         Snapshot {
             states: self,
             times,
-            position,
-            velocity,
+            positions,
+            velocities,
         }
     }
 }
 
 impl<'s, 'e> Snapshot<'s, 'e> {
-    /// The enclosure of a formula over its times.
-    #[inline(always)]
-    pub fn enclosure(&self, formula: &Formula) -> Enclosure
-        ensures { result ≡ enclosure_in self.now formula.now }
+    /// What is seen, without the ephemeris.
+    pub fn sight(&self) -> Sight
+        ensures { result ≡ sight_of self.now.view }
     {
-        enclose_during(formula, self, &self.times)
+        self.states.sight()
     }
 
-    // What was made of a quantity of a target.
-    fn known(&self, quantity: Quantity, target: u8) -> &AxisEnclosures
-        requires { target < 2 }
-        ensures { AreAlong (moment_state self.now quantity target) result.now }
+    // What was made of a quantity of the columns in use.
+    #[inline(always)]
+    fn known(&self, quantity: Quantity) -> &[ColumnEnclosures]
+        ensures { AreKnown self.now.view quantity self.now.first self.now.last result.now }
     {
         match quantity {
-            Quantity::Position => self.position.of(target),
-            Quantity::Velocity => self.velocity.of(target),
-        }
-    }
-
-    // The enclosure of a quantity of a target along an axis over its times, as it was made, or else as it is read.
-    fn state(&self, quantity: Quantity, target: u8, axis: u8) -> Enclosure
-        requires target { target < 2 }
-        requires axis { axis < 3 }
-        ensures { result ≡ moment_state self.now quantity target axis }
-    {
-        match self.known(quantity, target).along(usize::from(axis)) {
-            Some(enclosure) => enclosure,
-            None => self.states.state_over(quantity, target, axis, &self.times),
+            Quantity::Position => &self.positions,
+            Quantity::Velocity => &self.velocities,
         }
     }
 }
 
-impl<'s, 'e> States for Snapshot<'s, 'e> {
-    ghost exact = { λ s leaf. exact_state s.view leaf };
+impl<'s, 'e> Arithmetic for Snapshot<'s, 'e> {
+    type Value = Enclosure;
 
-    ghost answer = { λ s leaf a b. state_enclosure s.view leaf a b };
+    ghost is_ready = { λ m. ⊤ };
 
-    ghost fits = { λ s a b. (a ≡ s.first) × (b ≡ s.last) × Fits s.view a b };
+    ghost sight = { λ m. sight_of m.view };
 
-    fn pos(&self, target: u8, axis: u8, _a: i64, _b: i64) -> Enclosure {
-        self.state(Quantity::Position, target, axis)
+    ghost is_value = { λ m t made. made ≡ meant_in m t };
+
+    fn column(&self, quantity: Quantity, number: usize, axis: usize) -> Enclosure {
+        self.states
+            .column_over(quantity, number, axis, &self.times, self.known(quantity))
     }
 
-    fn vel(&self, target: u8, axis: u8, _a: i64, _b: i64) -> Enclosure {
-        self.state(Quantity::Velocity, target, axis)
+    fn zero(&self) -> Enclosure {
+        self.times.constant(Ival::zero())
     }
 
-    ghost spans = { λ s a b fits. times_span s.view a b fits.2 };
+    fn length(&self, km: Decimal) -> Enclosure {
+        let value = Ival::from_decimal(km.mant, km.exp, DISTANCE_EXPONENT);
+        self.times.constant(value)
+    }
 
-    ghost numbers = { λ s leaf a b is fits. fractions_of_states s.view a b fits.2 leaf is };
+    fn cosine(&self, number: Decimal) -> Enclosure {
+        let value = Ival::from_decimal(number.mant, number.exp, COSINE_EXPONENT);
+        self.times.constant(value)
+    }
 
-    ghost holds = { λ s leaf a b is fits. states_held s.view a b fits.2 leaf is };
+    fn scaled(&self, factor: Factor, x: &Enclosure) -> Enclosure {
+        listed_enclosures_are_within_limits();
+        let constant = self.times.constant(self.states.factor(factor));
+        self.times.product(constant, *x)
+    }
 
-    ghost within = { λ s leaf a b is fits. states_within s.view a b fits.2 leaf is };
+    fn sum(&self, x: &Enclosure, y: &Enclosure) -> Enclosure {
+        listed_enclosures_are_within_limits();
+        self.times.sum(*x, *y)
+    }
+
+    fn difference(&self, x: &Enclosure, y: &Enclosure) -> Enclosure {
+        listed_enclosures_are_within_limits();
+        self.times.difference(*x, *y)
+    }
+
+    fn product(&self, x: &Enclosure, y: &Enclosure) -> Enclosure {
+        listed_enclosures_are_within_limits();
+        self.times.product(*x, *y)
+    }
+
+    fn signed_square(&self, x: &Enclosure) -> Enclosure {
+        listed_enclosures_are_within_limits();
+        self.times.signed_square(*x)
+    }
 }

@@ -6,4 +6,4 @@ pub returns : goal.returns
 returns c =
     let times = c.granule_span-span.ensures.times in
     let series = c.granule_span-span.ensures.series c.args.axis c.requires.readable.along in
-    c.enclosure.ensures ∙ λ i. series_enclosure c.args.question.now.quantity (times i).first (times i).last (series i)
+    c.enclosure.ensures ∙ λ i. series_enclosure c.args.quantity (times i).first (times i).last (series i)

@@ -1,120 +1,123 @@
 // The enclosures of the steps of a list over the times of a snapshot, of which the first ones are made.
-ghost use Rattle.std.specs.Prelude.{◌≡◌, ◌<◌, ◌≤◌, IfSome, length};
-ghost use Rattle.spec_expressions.specs.Steps.{term_at, terms_of};
-ghost use Rattle.event_steps.specs.Entered.{IsMadeAt};
-ghost use Rattle.body_states.specs.Moments.{enclosure_in};
-ghost use Rattle.step_enclosures.specs.Moments.{AreTimesOf};
+ghost use Rattle.std.specs.Prelude.{◌≡◌, ◌<◌, ◌≤◌, length};
+ghost use Rattle.spec_expressions.specs.Term.{Term};
+ghost use Rattle.spec_steps.specs.ColumnTerms.{of_term, sight_of};
+ghost use Rattle.column_steps.specs.Listed.{IsMadeAt, listed_term, step_count};
+ghost use Rattle.body_states.specs.Moments.{enclosure_in, meant_in};
+ghost use Rattle.step_enclosures.specs.Moments.{AreMade};
 
-use crate::rules::SnapshotRules;
 use body_states::Snapshot;
-use event_expr::Formula;
-use event_expr::rules::TimeSpan;
-use event_steps::{StepList, fill};
-use ival_core::{Enclosure, Ival};
+use column_steps::{StepList, fill};
+use ival_core::Enclosure;
 use std::marker::Model;
 
-/// The most steps whose enclosures are kept. Formulas of later steps are enclosed by recursion.
-const MAX_SLOTS: usize = 64;
-
-/// The enclosures of the first 64 steps of a list over the times of a snapshot, each made once: where one is asked for, it and
-/// those before it that are not made yet.
+/// The enclosures of the first steps of a list over the times of a snapshot, as far as there are slots, each made once: where
+/// one is asked for, it and those before it that are not made yet.
 #[derive(Drop)]
-pub struct StepEnclosures<'r, 's, 'e> {
-    rules: SnapshotRules<'r, 's, 'e>,
+pub struct StepEnclosures<'w, 'r, 's, 'e> {
+    states: &'r Snapshot<'s, 'e>,
     steps: &'r StepList,
-    slots: [Enclosure; MAX_SLOTS],
+    slots: &'w mut [Enclosure],
     /// How many of the steps have theirs in their slots.
     made: usize,
 }
 
-impl<'r, 's, 'e> Model for StepEnclosures<'r, 's, 'e> {
+impl<'w, 'r, 's, 'e> Model for StepEnclosures<'w, 'r, 's, 'e> {
     ghost use Rattle.std.specs.Prelude.{◌≡◌, ◌≤◌, length};
-    ghost use Rattle.spec_expressions.specs.Steps.{terms_of};
-    ghost use Rattle.event_steps.specs.Values.{AreValues};
-    ghost use Rattle.body_states.specs.Moments.{enclosure_in};
-    ghost use Rattle.step_enclosures.specs.Moments.{AreTimesOf, StepMoment};
+    ghost use Rattle.spec_steps.specs.ColumnTerms.{sight_of};
+    ghost use Rattle.column_steps.specs.Listed.{step_count};
+    ghost use Rattle.step_enclosures.specs.Moments.{AreMade, StepMoment};
 
     ghost Value = { StepMoment };
 
-    ghost view = { λ s. record { moment = s.rules.states.now; steps = s.steps.now } };
+    ghost view = { λ s. record {
+      moment = s.states.now;
+      steps = s.steps.now;
+      room = length s.slots.now;
+    } };
 
-    ghost invariant = { λ s. AreTimesOf s.rules.times s.rules.states.now
-        × (s.made ≤ length s.steps.now) × (s.made ≤ 64) × (length s.slots ≡ 64)
-        × AreValues (λ e made. made ≡ enclosure_in s.rules.states.now e)
-        (terms_of s.steps.now) s.made s.slots };
+    ghost invariant = { λ s. (sight_of s.states.now.view ≡ s.steps.now.sight)
+        × (s.made ≤ step_count s.steps.now) × (s.made ≤ length s.slots.now)
+        × AreMade s.states.now s.steps.now s.made s.slots.now };
 }
 
-// An enclosure to be written over.
-#[inline(always)]
-fn blank() -> Enclosure {
-    Enclosure {
-        mid: Ival::zero(),
-        range: Ival::zero(),
-        step: Ival::zero(),
-    }
-}
-
-impl<'r, 's, 'e> StepEnclosures<'r, 's, 'e> {
-    /// Those of the steps of a list over the times of a snapshot, of which none is made.
+impl<'w, 'r, 's, 'e> StepEnclosures<'w, 'r, 's, 'e> {
+    /// Those of the steps of a list over the times of a snapshot, of which none is made. The slots may hold anything.
     #[inline(always)]
     pub fn new(
         states: &'r Snapshot<'s, 'e>,
-        times: TimeSpan,
         steps: &'r StepList,
-    ) -> StepEnclosures<'r, 's, 'e>
-        requires times { AreTimesOf times states.now }
-        ensures { result ≡ record { moment = states.now; steps = steps.now } }
+        slots: &'w mut [Enclosure],
+    ) -> StepEnclosures<'w, 'r, 's, 'e>
+        requires sight { sight_of states.now.view ≡ steps.now.sight }
+        ensures { result ≡ record {
+          moment = states.now;
+          steps = steps.now;
+          room = length slots.old;
+        } }
     {
         StepEnclosures {
-            rules: SnapshotRules { states, times },
+            states,
             steps,
-            slots: [blank(); MAX_SLOTS],
+            slots,
             made: 0,
         }
     }
 
-    /// The enclosure of a formula over the times, by the step that stands for it, or by recursion where it is not listed or past
-    /// the 64th step.
-    pub fn enclosure(&mut self, formula: &Formula, place: Option<usize>) -> Enclosure
-        requires listed { IfSome place (λ place. IsMadeAt self.old.steps place formula.now) }
-        ensures enclosure { result ≡ enclosure_in self.old.moment formula.now }
-        ensures same { self.new ≡ self.old }
+    /// What both targets are made of over the times.
+    #[inline(always)]
+    pub fn states(&self) -> &'r Snapshot<'s, 'e>
+        ensures { result.now ≡ self.now.moment }
     {
-        match place {
-            Some(place) => self.enclosure_at(formula, place),
-            None => self.rules.states.enclosure(formula),
-        }
+        self.states
     }
 
-    // The same for one that is listed, with the number of its step.
-    fn enclosure_at(&mut self, formula: &Formula, place: usize) -> Enclosure
-        requires made { IsMadeAt self.old.steps place formula.now }
-        ensures enclosure { result ≡ enclosure_in self.old.moment formula.now }
+    /// The enclosure over the times of the formula that a step stands for, by the number of the step, which has a slot.
+    #[inline(always)]
+    pub fn enclosure(&mut self, place: usize) -> Enclosure
+        requires step { place < step_count self.old.steps }
+        requires room { place < self.old.room }
+        ensures enclosure { (e : Term) → IsMadeAt self.old.steps place (of_term self.old.steps.sight e)
+            → result ≡ enclosure_in self.old.moment e }
         ensures same { self.new ≡ self.old }
     {
         if place < self.made {
-            let slots = &self.slots;
-            slots[place]
-        } else if place < MAX_SLOTS {
-            self.make(place)
+            self.slots[place]
         } else {
-            self.rules.states.enclosure(formula)
+            self.make(place)
         }
     }
 
-    // The enclosure of the formula of a step, which is made with those before it that are not made yet.
+    // The enclosure that a step stands for, which is made with those before it that are not made yet.
+    #[inline(never)]
     fn make(&mut self, place: usize) -> Enclosure
-        requires step { place < length self.old.steps }
-        requires room { place < 64 }
-        ensures enclosure { result
-            ≡ enclosure_in self.old.moment (term_at (terms_of self.old.steps) place) }
+        requires step { place < step_count self.old.steps }
+        requires room { place < self.old.room }
+        ensures enclosure { result ≡ meant_in self.old.moment (listed_term self.old.steps place) }
         ensures same { self.new ≡ self.old }
     {
-        let _count = self.steps.count();
         let upto = self.made.max(place + 1);
-        fill(&self.rules, self.steps, self.made, upto, &mut self.slots);
+        fill_slots(self.states, self.steps, self.made, upto, self.slots);
         self.made = upto;
-        let slots = &self.slots;
-        slots[place]
+        self.slots[place]
     }
+}
+
+// Writes the enclosures of the steps from number `made` to before number `upto` into their slots.
+fn fill_slots(
+    states: &Snapshot,
+    steps: &StepList,
+    made: usize,
+    upto: usize,
+    slots: &mut [Enclosure],
+)
+    requires sight { sight_of states.now.view ≡ steps.now.sight }
+    requires steps { upto ≤ step_count steps.now }
+    requires room { upto ≤ length slots.old }
+    requires order { made ≤ upto }
+    requires values { AreMade states.now steps.now made slots.old }
+    ensures room { length slots.new ≡ length slots.old }
+    ensures values { AreMade states.now steps.now upto slots.new }
+{
+    fill(states, steps, made, upto, slots);
 }

@@ -1,12 +1,11 @@
 //! Enclosures over the times of a snapshot, by steps, so that parts that are equal are made once.
 //!
-//! In come a snapshot of the states of two bodies, with its times, and a list of steps; out comes the enclosure of each formula
-//! that is asked for (`StepEnclosures`). What was made for one formula is read for the next: the function of an event makes its
-//! own part, and a condition adds what is missing. A formula that the list does not have, or has past its 64th step, is enclosed
-//! by recursion. No call allocates.
+//! In come a snapshot of two bodies, with its times, a list of steps over columns and slots; out comes the enclosure of each
+//! formula that a step stands for (`StepEnclosures`). What was made for one formula is read for the next: the function of an
+//! event makes its own part, and a condition adds what is missing. No call allocates, and none calls itself.
 #![tactic(auto)]
 
 mod enclosures;
-mod rules;
 
+pub use body_states::blank;
 pub use enclosures::StepEnclosures;

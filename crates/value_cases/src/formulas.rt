@@ -1,17 +1,39 @@
 // Enclosures of formulas over the states of bodies, and the limits of formulas.
-ghost use Rattle.spec_bodies.specs.Views.{Fits};
+ghost use Rattle.std.specs.Prelude.{◌≡◌};
+ghost use Rattle.spec_bodies.specs.Views.{Fits, state_enclosure};
+ghost use Rattle.spec_searches.specs.Search.{enclosure_over};
 
 use crate::enclosures::{EnclosureParts, enclosure_parts, parts_of};
 use crate::expressions::expression;
 use crate::fields::{Fields, RowError};
 use crate::scenes::{next_scene, span, states};
 use body_states::BodyStates;
+use column_steps::{MAX_STEPS, StepList};
 use eph_model::Ephemeris;
 use event_expr::{ExprFault, Formula, Leaves, enclose};
+use ival_core::Enclosure;
 use std::alloc::Global;
+use step_enclosures::{StepEnclosures, blank};
 
-/// Whether a formula has this enclosure: over the states themselves, over a snapshot in which its coordinates were made,
-/// and over one in which none was.
+// The enclosure of a formula over a snapshot, for which the columns of some coordinates are made at once.
+fn enclosure_by_steps(
+    formula: &Formula,
+    states: &BodyStates<'_>,
+    a: i64,
+    b: i64,
+    wanted: &Leaves,
+) -> Enclosure
+    requires { Fits states.now a b }
+    ensures { result ≡ enclosure_over (state_enclosure states.now) formula.now a b }
+{
+    let (steps, place) = StepList::of(states.sight(), formula);
+    let snapshot = states.at(a, b, wanted);
+    let mut slots = [blank(); MAX_STEPS];
+    StepEnclosures::new(&snapshot, &steps, &mut slots).enclosure(place)
+}
+
+/// Whether a formula has this enclosure: over the states themselves, and by steps over a snapshot for which the columns of its
+/// coordinates were made, and over one for which none was.
 pub(crate) fn has_enclosure(
     formula: &Formula,
     states: &BodyStates<'_>,
@@ -22,8 +44,8 @@ pub(crate) fn has_enclosure(
     requires { Fits states.now a b }
 {
     let asked = parts_of(&enclose(formula, states, a, b));
-    let made = parts_of(&states.at(a, b, &formula.leaves()).enclosure(formula));
-    let read = parts_of(&states.at(a, b, &Leaves::none()).enclosure(formula));
+    let made = parts_of(&enclosure_by_steps(formula, states, a, b, &formula.leaves()));
+    let read = parts_of(&enclosure_by_steps(formula, states, a, b, &Leaves::none()));
     asked == *expected && made == *expected && read == *expected
 }
 

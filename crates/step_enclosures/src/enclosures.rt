@@ -4,7 +4,6 @@ ghost use Rattle.spec_expressions.specs.Term.{Term};
 ghost use Rattle.spec_steps.specs.ColumnTerms.{of_term, sight_of};
 ghost use Rattle.column_steps.specs.Listed.{IsMadeAt, listed_term, step_count};
 ghost use Rattle.body_states.specs.Moments.{enclosure_in, meant_in};
-ghost use Rattle.step_enclosures.specs.Moments.{AreMade};
 
 use body_states::Snapshot;
 use column_steps::{StepList, fill};
@@ -97,27 +96,8 @@ impl<'w, 'r, 's, 'e> StepEnclosures<'w, 'r, 's, 'e> {
         ensures same { self.new ≡ self.old }
     {
         let upto = self.made.max(place + 1);
-        fill_slots(self.states, self.steps, self.made, upto, self.slots);
+        fill(self.states, self.steps, self.made, upto, self.slots);
         self.made = upto;
         self.slots[place]
     }
-}
-
-// Writes the enclosures of the steps from number `made` to before number `upto` into their slots.
-fn fill_slots(
-    states: &Snapshot,
-    steps: &StepList,
-    made: usize,
-    upto: usize,
-    slots: &mut [Enclosure],
-)
-    requires sight { sight_of states.now.view ≡ steps.now.sight }
-    requires steps { upto ≤ step_count steps.now }
-    requires room { upto ≤ length slots.old }
-    requires order { made ≤ upto }
-    requires values { AreMade states.now steps.now made slots.old }
-    ensures room { length slots.new ≡ length slots.old }
-    ensures values { AreMade states.now steps.now upto slots.new }
-{
-    fill(states, steps, made, upto, slots);
 }

@@ -2,7 +2,6 @@
 use Rattle.std.proofs.Common.{◌≡◌, ◌∙◌, ℕ, ℤ, sym, subst}
 use Rattle.spec_expressions.specs.Term.{Term}
 use Rattle.spec_bodies.specs.Views.{View}
-use Rattle.spec_models.specs.Bounds.{Bound}
 use Rattle.spec_bounds.specs.Terms.{bound_over}
 use Rattle.spec_steps.specs.declared.sights.Sight.{Sight}
 use Rattle.spec_steps.specs.ColumnTerms.{of_term, sight_of}

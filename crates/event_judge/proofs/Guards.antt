@@ -1,13 +1,16 @@
 -- Tests of a list, one element after the other; and the steps of the conditions of an event.
-use Rattle.std.proofs.Common.{◌≡◌, ◌∙◌, ℕ, zero, suc, ◌+◌, ◌<◌, ◌≤◌, Bool, true, false, ◌||◌, ◌&&◌, List, length, get_or, drop, Option, None, Some, ap, refl, subst, sym, arith}
+use Rattle.std.proofs.Common.{◌≡◌, ◌∙◌, ℕ, zero, suc, ◌+◌, ◌<◌, ◌≤◌, Bool, true, false, ◌||◌, ◌&&◌, List, length, get_or, drop, Option, None, Some, ap, subst, sym, arith}
 use Rattle.std.specs.Prelude.{IfSome}
 use Rattle.std.specs.List.{list_all, list_any}
 use Rattle.std.proofs.lemmas.List.{at_drop_more}
+use Rattle.spec_intervals.specs.Enclosure.{Enclosure}
 use Rattle.spec_expressions.specs.Term.{Term}
 use Rattle.spec_searches.specs.Event.{Condition, Event}
 use Rattle.spec_steps.specs.declared.sights.Sight.{Sight}
 use Rattle.spec_steps.specs.ColumnTerms.{of_term}
-use Rattle.column_steps.specs.Listed.{Grows, IsMadeAt, Listed}
+use Rattle.column_steps.specs.Listed.{IsMadeAt, Listed}
+use Rattle.body_states.specs.Moments.{Moment, enclosure_in}
+use Rattle.step_enclosures.specs.Moments.{StepMoment}
 use Rattle.event_judge.specs.declared.listed_event.ListedEvent.{ListedEvent}
 use Rattle.event_judge.specs.Listed.{AreGuardsAt, AreStepsOf, IsFormulaAt, IsGuardAt, IsSlotOf, KeepsSteps, place_of, slot_count}
 
@@ -41,13 +44,14 @@ guard_at sight e l are (suc (suc place)) = tt
 pub guards_at : (sight : Sight) (e : Event) (l : ListedEvent) → AreStepsOf sight e l → AreGuardsAt l.steps (slot_count l.slots) e.conditions l
 guards_at sight e l are place below d = slot_of l.steps (slot_count l.slots) e.conditions place (place_of l place) (guard_at sight e l are place) (are.slots place) below d
 
+-- the enclosure of a formula by a list of its own
+pub own_by : (l : Listed) (place : ℕ) (sight : Sight) (e : Term) (m : StepMoment) (room : ℕ) (moment : Moment) (made : Enclosure) → m ≡ record { moment = moment; steps = l; room = room } → l.sight ≡ sight
+    → IsMadeAt l place (of_term sight e) → ((f : Term) → IsMadeAt m.steps place (of_term m.steps.sight f) → made ≡ enclosure_in m.moment f) → made ≡ enclosure_in moment e
+own_by l place sight e m room moment made is seen stands law =
+    law e (subst (λ (x : StepMoment). IsMadeAt x.steps place (of_term x.steps.sight e)) (sym is) (subst (λ (s : Sight). IsMadeAt l place (of_term s e)) (sym seen) stands))
+    ∙ ap (λ (x : StepMoment). enclosure_in x.moment e) is
+
 -- ---- lists that keep what stands in them
-pub kept_none : (l : Listed) → KeepsSteps l l
-kept_none l = record { sight = refl; kept = λ place t is. is }
-
-pub keeps : (before after : Listed) (n : ℕ) → Grows before after n → KeepsSteps before after
-keeps before after n grown = record { sight = grown.sight; kept = grown.kept }
-
 formula_kept : (before after : Listed) (k : ℕ) (e : Term) → KeepsSteps before after → IsFormulaAt before k e → IsFormulaAt after k e
 formula_kept before after k e kept made = subst (λ (s : Sight). IsMadeAt after k (of_term s e)) (sym kept.sight) (record { stands = kept.kept k (of_term before.sight e) made.stands; slot = made.slot })
 

@@ -113,12 +113,12 @@ impl<'s, 'e> ValidNode<'s, 'e> {
 
     /// What is made by the steps of its event of the states over some times: nothing yet. The slots may hold anything.
     #[inline(always)]
-    pub(crate) fn steps<'r>(
+    pub(crate) fn steps<'w, 'r>(
         self,
         states: &'r Snapshot<'s, 'e>,
         listed: &'r ListedEvent,
-        slots: &'r mut [Enclosure],
-    ) -> StepEnclosures<'r, 's, 'e>
+        slots: &'w mut [Enclosure],
+    ) -> StepEnclosures<'w, 'r, 's, 'e>
         requires listed { AreStepsOf (sight_of self.search.now.view) self.search.now.event listed.now }
         requires view { states.now.view ≡ self.search.now.view }
         ensures { result ≡ record {

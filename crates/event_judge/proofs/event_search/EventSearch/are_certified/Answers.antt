@@ -1,4 +1,5 @@
-use Rattle.std.proofs.Common.{◌≡◌, ◌∙◌, ap, arith, length, refl, subst, sym, take, true, w64, to_z, of_z, List}
+use Rattle.std.proofs.Common.{◌≡◌, ◌∙◌, ap, arith, false, length, refl, subst, sym, take, true, w64, to_z, of_z, List}
+use Rattle.std.proofs.lemmas.Bool.{false≢true}
 use Rattle.std.proofs.lemmas.Int.{to_z-of_z}
 use Rattle.std.proofs.lemmas.List.Elements.{All-more}
 use Rattle.std.proofs.Math.Seq.{take-length}
@@ -19,6 +20,22 @@ is_certified-requires-clause-step c =
     let n = slot_count l.slots in
     let listed = subst (λ (xs : List Condition). AreGuardsAt l.steps n xs l) (sym are) (guards_at (sight_of s.view) s.event l c.listed-listed.ensures) in
     rw c.guard.ensures (step_of_guard l.steps n c.guards-guards.result.now l c.loop-place.place listed c.loop-place-test.true own own (sym c.index-guards-place.is))
+
+pub returns-then-not-is_certified : goal.returns-then-not-is_certified
+returns-then-not-is_certified c =
+    let s = c.args.self.now in
+    let own = c.index-guards-place.result in
+    let are : c.guards-guards.result.now ≡ s.event.conditions = c.guards-guards.ensures ∙ ap (λ e. e.conditions) c.event.ensures in
+    let a : to_z w64 (of_z w64 c.args.a) ≡ c.args.a = to_z-of_z w64 c.args.a c.ranges.a in
+    let b : to_z w64 (of_z w64 c.args.b) ≡ c.args.b = to_z-of_z w64 c.args.b c.ranges.b in
+    let test = c.if-not-is_certified.true in
+    let fails : c.is_certified.result ≡ false = cc in (
+      λ no. absurd (false≢true no),
+      λ all.
+      let every = subst (λ (xs : List Condition). All (λ (x : Condition). is_certified_over s c.args.a c.args.b x ≡ true) xs) (sym are) all in
+      let holds : is_certified_over s c.args.a c.args.b own ≡ true = subst (λ (x : Condition). is_certified_over s c.args.a c.args.b x ≡ true) (sym c.index-guards-place.is) (every c.loop-place.place own c.loop-place-test.true) in
+      absurd (false≢true (sym fails ∙ (c.is_certified.ensures ∙ rw (a, b) holds))),
+    )
 
 pub loop-place-preserved : goal.loop-place-preserved
 loop-place-preserved c =

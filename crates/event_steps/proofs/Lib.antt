@@ -1,2 +1,0 @@
-pub mod Entered
-mod Values

@@ -14,7 +14,7 @@ use Rattle.body_states.specs.declared.enclosures.AxisEnclosures.{AxisEnclosures}
 use Rattle.body_states.specs.declared.enclosures.ColumnEnclosures.{ColumnEnclosures}
 use Rattle.body_states.specs.declared.bases.RowRoom.{RowRoom}
 use Rattle.body_states.specs.Bases.{AreKept}
-use Rattle.body_states.specs.Enclosures.{AreAlong, AreKnown, AreReadOrNot, IsKnown, IsRead, IsUnread, along, with_along, nothing_known, nothing_known_of_column}
+use Rattle.body_states.specs.Enclosures.{AreAlong, AreReadOrNot, IsKnown, IsRead, IsUnread, along, with_along, nothing_known, nothing_known_of_column}
 
 -- ---- nothing known is right by itself
 pub nothing_along : (f : ℕ → Enclosure) → AreAlong f nothing_known

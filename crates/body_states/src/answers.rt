@@ -1,7 +1,7 @@
 // The enclosures that are returned for a coordinate of a target.
 ghost use Rattle.std.specs.Prelude.{◌≡◌, ◌<◌};
 ghost use Rattle.spec_expressions.specs.Term.{IsFormula, nodes, term};
-ghost use Rattle.spec_bodies.specs.Views.{Fits, exact_state, state_enclosure, target_of};
+ghost use Rattle.spec_bodies.specs.Views.{Fits, exact_state, state_enclosure};
 ghost use Rattle.spec_bodies.proofs.Held.{times_span, fractions_of_states, states_held, states_within};
 ghost use Rattle.spec_searches.specs.Search.{enclosure_over};
 ghost use Rattle.spec_steps.specs.ColumnTerms.{sight_of};
@@ -13,7 +13,6 @@ use crate::states::BodyStates;
 use column_steps::{StepList, fill};
 use event_expr::{Expr, Formula, States};
 use ival_core::Enclosure;
-use spec_bodies::Source;
 
 /// The most steps of a coordinate, with some room.
 const COORDINATE_STEPS: usize = 128;
@@ -54,17 +53,6 @@ impl<'e> BodyStates<'e> {
         let (steps, place) = StepList::of(self.sight(), &formula);
         let snapshot = self.at(a, b, &formula.leaves());
         snapshot.value(&steps, place)
-    }
-
-    // A target by its number.
-    pub(crate) fn target(&self, target: u8) -> Source
-        requires { target < 2 }
-        ensures { result ≡ target_of self.now target }
-    {
-        match target {
-            0 => self.first,
-            _ => self.second,
-        }
     }
 }
 

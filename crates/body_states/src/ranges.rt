@@ -3,7 +3,7 @@ ghost use Rattle.std.specs.Prelude.{◌≡◌, ◌<◌};
 ghost use Rattle.spec_ephemeris.specs.Granules.{series_at, series_of};
 ghost use Rattle.spec_bodies.specs.Meanings.{factor_interval};
 ghost use Rattle.spec_bodies.specs.Reading.{IsUsable};
-ghost use Rattle.spec_bodies.specs.Views.{Fits, factor_of, step_interval, target_of, value_interval};
+ghost use Rattle.spec_bodies.specs.Views.{Fits, factor_of, step_interval, value_interval};
 ghost use Rattle.body_states.specs.Ranges.{own_axes};
 
 use crate::granule_span::GranuleSpan;
@@ -13,7 +13,7 @@ use cheby_enclose::position;
 use event_expr::Axes;
 use event_expr::rules::TimeSpan;
 use ival_core::Ival;
-use spec_bodies::{Factor, Frame, Quantity, Source};
+use spec_bodies::{Factor, Frame, Quantity};
 
 /// The interval of all values of a quantity, in km or km per unit of time, and that of its changes in one unit of time.
 #[derive(Clone, Copy)]
@@ -23,28 +23,6 @@ pub struct ColumnRange {
 }
 
 impl<'e> BodyStates<'e> {
-    /// The source of a target, counted from 0.
-    pub fn source(&self, target: u8) -> Source
-        requires { target < 2 }
-        ensures { result ≡ target_of self.now target }
-    {
-        self.target(target)
-    }
-
-    /// The source of the observer.
-    pub fn observer(&self) -> Source
-        ensures { result ≡ self.now.observer }
-    {
-        self.observer
-    }
-
-    /// The frame of the coordinates.
-    pub fn frame(&self) -> Frame
-        ensures { result ≡ self.now.frame }
-    {
-        self.frame
-    }
-
     /// A factor of the formulas of coordinates.
     pub fn factor(&self, factor: Factor) -> Ival
         ensures { result ≡ factor_interval (factor_of self.now factor) }

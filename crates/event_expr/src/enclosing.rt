@@ -26,16 +26,6 @@ pub fn enclose<S: States>(f: &Formula, states: &S, a: i64, b: i64) -> Enclosure
     enclose_at(f.expr(), states, &TimeSpan::new(a, b))
 }
 
-/// The enclosure of a formula over a span of times that is made already, as `enclose` returns it from its first time to its
-/// last.
-pub fn enclose_during<S: States>(f: &Formula, states: &S, times: &TimeSpan) -> Enclosure
-    requires fits { S.fits states.now times.now.first times.now.last }
-    ensures { result ≡ enclosure_of (λ leaf. S.answer states.now leaf times.now.first times.now.last)
-        times.now.first times.now.last f.now }
-{
-    enclose_at(f.expr(), states, times)
-}
-
 /// The enclosure of a formula's expression.
 fn enclose_at<S: States>(expr: &Expr, states: &S, span: &TimeSpan) -> Enclosure
     requires formula { IsFormula (term expr.now) }

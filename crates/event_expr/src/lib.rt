@@ -17,7 +17,7 @@ pub mod rules;
 mod states;
 
 pub use axes::Axes;
-pub use enclosing::{enclose, enclose_during};
+pub use enclosing::enclose;
 pub use formula::Formula;
 pub use leaves::Leaves;
 pub use limits::ExprFault;

@@ -1,5 +1,5 @@
 -- The models of a column.
-use Rattle.std.proofs.Common.{◌≡◌, ℕ, zero, suc, ◌∷◌, [], arith, subst, ℤ, Option, None}
+use Rattle.std.proofs.Common.{◌≡◌, ℕ, zero, suc, ◌∷◌, [], arith, subst, ℤ, Option}
 use Rattle.spec_ephemeris.specs.declared.granule.Granule.{Granule}
 use Rattle.spec_ephemeris.specs.Granules.{series_at, series_of}
 use Rattle.spec_bodies.specs.declared.quantity.Quantity.{Quantity}
@@ -18,10 +18,3 @@ module _ (v : View) (quantity : Quantity) (c d : ℤ) (number : ℕ) (g : Granul
   column_made x y z of_x of_y of_z (suc zero) three m = one_axis 1 y of_y
   column_made x y z of_x of_y of_z (suc (suc zero)) three m = one_axis 2 z of_z
   column_made x y z of_x of_y of_z (suc (suc (suc axis))) three m = absurd (omega (arith, three))
-
--- none is made
-pub none_made : (v : View) (quantity : Quantity) (c d : ℤ) (number : ℕ) → AreModels v quantity c d number (None ∷ None ∷ None ∷ [])
-none_made v quantity c d number zero three m = tt
-none_made v quantity c d number (suc zero) three m = tt
-none_made v quantity c d number (suc (suc zero)) three m = tt
-none_made v quantity c d number (suc (suc (suc axis))) three m = absurd (omega (arith, three))

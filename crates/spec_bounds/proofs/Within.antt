@@ -148,27 +148,5 @@ module _ (a b : ℤ) (span : IsSpan a b) (answer : Leaf → Bound) (leaves : (l 
   pub term-within : (e : Term) → IsFormula e → IsBoundWithin part_exponent (made e)
   term-within e is = part-within e is.leaves is.constants is.nodes_within is.degree_within
 
-  -- the operands of a formula
-  abbrev pub AreWithin : Term → Term → Type 0
-  AreWithin x y = IsBoundWithin part_exponent (made x) × IsBoundWithin part_exponent (made y)
-
-  operands-within : (x y : Term) → HasLeaves x × HasLeaves y → HasConstants x × HasConstants y → 1 + nodes x + nodes y ≤ node_limit → degree x ≤ degree_limit → degree y ≤ degree_limit → AreWithin x y
-  operands-within x y h c few p q = (part-within x h.0 c.0 (omega (arith, few)) p, part-within y h.1 c.1 (omega (arith, few)) q)
-
-  pub sum-operands : (x y : Term) → IsFormula (sum x y) → AreWithin x y
-  sum-operands x y is = let d = is.degree_within in operands-within x y is.leaves is.constants is.nodes_within (omega (arith, d)) (omega (arith, d))
-
-  pub difference-operands : (x y : Term) → IsFormula (difference x y) → AreWithin x y
-  difference-operands x y is = let d = is.degree_within in operands-within x y is.leaves is.constants is.nodes_within (omega (arith, d)) (omega (arith, d))
-
-  pub product-operands : (x y : Term) → IsFormula (product x y) → AreWithin x y
-  product-operands x y is = let d = is.degree_within in operands-within x y is.leaves is.constants is.nodes_within (omega (arith, d)) (omega (arith, d))
-
-  pub square-operand : (x : Term) → IsFormula (signed_square x) → IsBoundWithin part_exponent (made x)
-  square-operand x is =
-      let n = is.nodes_within in
-      let d = is.degree_within in
-      part-within x is.leaves is.constants (omega (arith, n)) (omega (arith, d))
-
 pub formula-within : (v : View) (e : Term) (a b : ℤ) → IsFormula e → Fits v a b → IsBoundWithin part_exponent (bound_over v e a b)
 formula-within v e a b is fits = term-within a b (times_span v a b fits) (λ l. state_bound v l a b) (state-within v a b fits) e is

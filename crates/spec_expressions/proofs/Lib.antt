@@ -1,4 +1,3 @@
-pub mod Terms
 pub mod Induction
 pub mod Reach
 pub mod Clock

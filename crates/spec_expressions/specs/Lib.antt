@@ -1,5 +1,3 @@
-pub mod Steps
-pub mod StepExamples
 pub mod Term
 pub mod Code
 pub mod Vectors

@@ -9,7 +9,7 @@ use Rattle.spec_bodies.specs.declared.factor.Factor.{Factor}
 use Rattle.spec_bodies.specs.declared.quantity.Quantity.{Quantity}
 use Rattle.spec_bodies.specs.declared.quantity.Quantity.TheVariants.{Position, Velocity}
 use Rattle.spec_bodies.specs.Coordinates.{Coordinate, nothing, of_column, times, plus, less, displacement}
-use Rattle.spec_bodies.specs.Reading.{AllColumns, IsReadable, IsUsable}
+use Rattle.spec_bodies.specs.Reading.{IsReadable, IsUsable}
 use Rattle.spec_bodies.specs.Sources.{used}
 use Rattle.spec_bodies.specs.Views.{IsView, View}
 use Rattle.spec_bodies.proofs.Bounds.{displacement_low, in_frame_low}

@@ -1,6 +1,5 @@
-use Rattle.std.proofs.Common.{◌∙◌, ap}
+use Rattle.std.proofs.Common.{◌∙◌}
 use Rattle.spec_intervals.specs.Enclosure.{constant_of}
-use Rattle.body_states.specs.Moments.{Moment}
 use Rattle.body_states.proofs.Good.{zero_number}
 use Rattle.body_states.proofs.snapshots.SnapshotArithmetic.zero.Goals as goal
 

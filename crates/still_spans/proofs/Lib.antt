@@ -1,6 +1,7 @@
 mod FollowingShares
 mod Begun
 mod Changing
+mod Descent
 mod Eager
 mod FollowingNodes
 mod Served

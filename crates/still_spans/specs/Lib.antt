@@ -3,3 +3,4 @@ pub mod Order
 pub mod Stands
 pub mod Knowledge
 pub mod Found
+pub mod Below

@@ -17,11 +17,21 @@ use spec_stills::margin_laws::margins_tell_signs;
 /// How many times as wide the times of a model are, at least, as those of one that tells more.
 const FINER: u64 = 64;
 
+/// How many ticks the times of a model take at least that tells nothing in many of them beside an event: it is not halved down
+/// to where it tells nothing.
+const LONG: u64 = 1 << 26;
+
+/// How many ticks the times of a model take at most that is halved down to where it tells nothing. One between the two is over
+/// a part of a granule, and one over less would tell no more.
+const SHORT: u64 = 1 << 22;
+
 /// Why no still span is found over some times.
 #[derive(Clone, Copy)]
 pub(crate) enum Doubt {
     /// There may be some in parts of them.
     Parts,
+    /// There may be some in parts of them, and a model over them alone tells of more.
+    Rough,
     /// The model tells of none in any part.
     Blurred,
 }
@@ -110,13 +120,25 @@ impl Known {
         let outlook = self.outlook(search, a, b);
         match outlook.margin {
             Some(margin) => over.still_by(search, margin, a, b).ok_or(Doubt::Parts),
+            None if self.is_rough(a, b) => Err(Doubt::Rough),
+            None if outlook.is_blurred && self.is_sharp(a, b) => Err(Doubt::Rough),
             None if outlook.is_blurred => Err(Doubt::Blurred),
             None => Err(Doubt::Parts),
         }
     }
 
-    /// What is known over some of its times, to be asked of parts of these: a model over them alone, where that over more is
-    /// blurred there. None where no model tells more.
+    // Beside an event it tells nothing in many ticks of some of its times, and a model over these alone tells more.
+    fn is_rough(&self, a: i64, b: i64) -> bool {
+        LONG < self.last.abs_diff(self.first) && self.is_far_wider(a, b)
+    }
+
+    // Where it tells nothing in some of its times, a model over these alone may tell more.
+    fn is_sharp(&self, a: i64, b: i64) -> bool {
+        self.last.abs_diff(self.first) <= SHORT && self.is_far_wider(a, b)
+    }
+
+    /// What is known over some of its times, to be asked of parts of these: a model over them alone, where that tells more than
+    /// one over more. None where no model tells more.
     pub(crate) fn within(&self, search: &EventSearch, doubt: Doubt, a: i64, b: i64) -> Option<Known>
         requires known { IsKnown search.now self.now }
         requires from { self.now.first ≤ℤ a }
@@ -128,7 +150,7 @@ impl Known {
     {
         match doubt {
             Doubt::Parts => Some(*self),
-            Doubt::Blurred if self.is_far_wider(a, b) => Known::over(search, a, b),
+            Doubt::Rough => Known::over(search, a, b),
             Doubt::Blurred => None,
         }
     }

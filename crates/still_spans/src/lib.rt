@@ -27,6 +27,7 @@ mod hastening;
 mod joining;
 mod known;
 mod limits;
+mod nearing;
 mod quiet;
 mod serving;
 mod settling;

@@ -5,6 +5,7 @@ ghost use Rattle.spec_trees.specs.Tree.{HasTime, IsValid, width};
 ghost use Rattle.spec_searches.specs.Found.{rules};
 ghost use Rattle.spec_searches.specs.Search.{parts, verdict_of};
 ghost use Rattle.spec_stills.specs.Settled.{holds, is_cleared, part_with, settled, settled_by};
+ghost use Rattle.still_spans.specs.Below.{IsBelow};
 
 use crate::eager_judge::EagerJudge;
 use gf_hooks::{Judge, Node, Verdict};
@@ -45,8 +46,8 @@ fn settled_by(cleared: bool, leaf: Leaf) -> Leaf
 }
 
 impl<'j, 'e, J: Judge> EagerJudge<'j, 'e, J> {
-    // The part in which a node begins of one that the search splits.
-    fn part_of(&self, at: Node, node: Node) -> Node
+    /// The part in which a node begins of one that the search splits.
+    pub(crate) fn part_of(&self, at: Node, node: Node) -> Node
         requires valid { IsValid (rules self.now.search.now) at }
         requires split { verdict_of self.now.search.now at ≡ Split }
         requires inside { node.a <ℤ node.b }
@@ -74,16 +75,35 @@ impl<'j, 'e, J: Judge> EagerJudge<'j, 'e, J> {
         }
     }
 
-    // A leaf of the eager tree of a root, settled: only where it is undecided a judge is asked.
-    fn settled(&self, root: Node, leaf: Leaf) -> Leaf
-        requires valid { IsValid (rules self.now.search.now) root }
+    // An undecided leaf of the eager tree of a root, settled by a node that tells of it what the root does.
+    fn settled_at(&self, root: Node, at: Node, leaf: Leaf) -> Leaf
+        requires valid { IsValid (rules self.now.search.now) at }
         requires time { HasTime leaf }
+        requires same { is_cleared self.now.search.now root leaf.node
+            ≡ is_cleared self.now.search.now at leaf.node }
         ensures { result ≡ settled self.now.search.now root leaf }
     {
+        settled_by(self.is_cleared(at, leaf.node), leaf)
+    }
+
+    // A leaf of the eager tree of a root, settled, and a node from which the way to the leaves after it begins, given that for
+    // this leaf: only where it is undecided a judge is asked.
+    fn settled(&self, root: Node, last: Node, leaf: Leaf) -> (Leaf, Node)
+        requires root { IsValid (rules self.now.search.now) root }
+        requires last { IsValid (rules self.now.search.now) last }
+        requires below { IsBelow self.now.search.now root last }
+        requires time { HasTime leaf }
+        ensures leaf { result.0 ≡ settled self.now.search.now root leaf }
+        ensures valid { IsValid (rules self.now.search.now) result.1 }
+        ensures below { IsBelow self.now.search.now root result.1 }
+    {
         match leaf.mark {
-            Mark::Clear => leaf,
-            Mark::One(_) => leaf,
-            Mark::Undecided => settled_by(self.is_cleared(root, leaf.node), leaf),
+            Mark::Clear => (leaf, last),
+            Mark::One(_) => (leaf, last),
+            Mark::Undecided => {
+                let near = self.near(root, last, leaf.node);
+                (self.settled_at(root, near, leaf), near)
+            }
         }
     }
 
@@ -94,8 +114,11 @@ impl<'j, 'e, J: Judge> EagerJudge<'j, 'e, J> {
         requires time { All HasTime leaves.old }
         ensures { leaves.new ≡ map (settled self.now.search.now root) leaves.old }
     {
+        let mut near = root;
         for leaf in leaves.iter_mut() {
-            *leaf = self.settled(root, *leaf);
+            let (settled, next) = self.settled(root, near, *leaf);
+            *leaf = settled;
+            near = next;
         }
     }
 }

@@ -9,5 +9,5 @@ over-requires-clause-fits c =
     rw (to_z-of_z w64 c.args.a c.ranges.a, to_z-of_z w64 c.args.b c.ranges.b)
     (fits_within c.args.search.now.view c.args.self.now.first c.args.self.now.last c.requires.known.fits c.args.a c.args.b c.requires.from (omega (arith, ints, several)) c.requires.upto)
 
-pub returns-in-Blurred-clause-upto : goal.returns-in-Blurred-clause-upto
-returns-in-Blurred-clause-upto c = none_earlier c.over.result c.args.b _ (to_z-of_z w64 c.args.b c.ranges.b) c.over.ensures.last
+pub returns-in-Rough-clause-upto : goal.returns-in-Rough-clause-upto
+returns-in-Rough-clause-upto c = none_earlier c.over.result c.args.b _ (to_z-of_z w64 c.args.b c.ranges.b) c.over.ensures.last

@@ -1,0 +1,81 @@
+-- Nodes on the way down the tree of a search, each within the one above it.
+use Rattle.std.proofs.Common.{◌≡◌, Bool, true, false, ◌<ℤ◌, ◌≤ℤ◌, ℤ, int_le, int_lt, refl, ap, ◌∙◌, arith}
+use Rattle.std.specs.Prelude.{if◌then◌else◌}
+use Rattle.std.proofs.lemmas.Int.{ints}
+use Rattle.std.proofs.lemmas.Bool.{and_parts}
+use Rattle.spec_trees.specs.declared.tree.Node.{Node}
+use Rattle.spec_trees.specs.declared.tree.Verdict.TheVariants as V
+use Rattle.spec_trees.specs.Tree.{IsValid}
+use Rattle.spec_searches.specs.Found.{rules}
+use Rattle.spec_searches.specs.Search.{Search, IsSearch, parts, verdict_of}
+use Rattle.spec_searches.proofs.Parts.{rules_are_sound}
+use Rattle.spec_stills.specs.Settled.{is_cleared, part_with}
+use Rattle.spec_stills.proofs.Descending.{at_split}
+use Rattle.still_spans.specs.Below.{IsBelow, holds_begin}
+
+before : (t u : ℤ) → t <ℤ u → int_lt t u ≡ true
+before t u e = grind (arith, ints)
+
+not_before : (t u : ℤ) → u ≤ℤ t → int_lt t u ≡ false
+not_before t u e = grind (arith, ints)
+
+at_or_after : (t u : ℤ) → int_le t u ≡ true → t ≤ℤ u
+at_or_after t u e = grind (arith, ints)
+
+earlier : (t u : ℤ) → int_lt t u ≡ true → t <ℤ u
+earlier t u e = grind (arith, ints)
+
+pub itself : (s : Search) (at : Node) → IsBelow s at at
+itself s at = record {
+  from = omega (arith, ints);
+  upto = omega (arith, ints);
+  same = λ n inside from before. refl;
+}
+
+pub further : (s : Search) (at m low : Node) → IsBelow s at m → IsBelow s m low → IsBelow s at low
+further s at m low above below = record {
+  from = let a = above.from in let b = below.from in omega (arith, ints, a, b);
+  upto = let a = above.upto in let b = below.upto in omega (arith, ints, a, b);
+  same = λ n inside from before.
+      let f = below.from in
+      let u = below.upto in
+      above.same n inside (omega (arith, ints, f, from)) (omega (arith, ints, u, before)) ∙ below.same n inside from before;
+}
+
+-- one that begins in another is told by it
+pub told : (s : Search) (at low n : Node) → IsBelow s at low → n.a <ℤ n.b → holds_begin low n ≡ true → is_cleared s at n ≡ is_cleared s low n
+told s at low n below inside begins =
+    let both = and_parts (int_le low.a n.a) (int_lt n.a low.b) begins in
+    below.same n inside (at_or_after low.a n.a both.0) (earlier n.a low.b both.1)
+
+module _ (s : Search) (is : IsSearch s) (at n : Node) (valid : IsValid (rules s) at) (split : verdict_of s at ≡ V.Split) where
+  by : (b : Bool) → IsBelow s at (if b then (parts s at).0 else (parts s at).1)
+  by true =
+      let cut = (rules_are_sound s is.view).cut at valid split in
+      let cuts = cut.cuts in
+      let from = cuts.from in
+      let meet = cuts.meet in
+      let to = cuts.to in
+      let right = cut.right.inside in
+      record {
+        from = omega (arith, ints, from);
+        upto = omega (arith, ints, meet, to, right);
+        same = λ m inside from upto.
+            at_split s is at m valid inside split ∙ ap (λ (b : Bool). is_cleared s (if b then (parts s at).0 else (parts s at).1) m) (before m.a (parts s at).0.b upto);
+      }
+  by false =
+      let cut = (rules_are_sound s is.view).cut at valid split in
+      let cuts = cut.cuts in
+      let first = cuts.from in
+      let meet = cuts.meet in
+      let to = cuts.to in
+      let left = cut.left.inside in
+      record {
+        from = omega (arith, ints, first, meet, left);
+        upto = omega (arith, ints, to);
+        same = λ m inside from upto.
+            at_split s is at m valid inside split ∙ ap (λ (b : Bool). is_cleared s (if b then (parts s at).0 else (parts s at).1) m) (not_before m.a (parts s at).0.b (omega (arith, ints, meet, from)));
+      }
+
+  pub part_below : IsBelow s at (part_with (parts s at) n)
+  part_below = by (int_lt n.a (parts s at).0.b)

@@ -3,7 +3,7 @@ use Rattle.std.proofs.Common.{◌≡◌, ℕ, ◌+◌, ◌-◌, ◌<◌, ◌≤�
 use Rattle.std.specs.Str.Lines.{strip_carriage_return}
 use Rattle.std.proofs.lemmas.Bool.{cases_lt, lt-ltb, le-ltb}
 use Rattle.std.proofs.lemmas.List.{get_or-drop, get_or-take}
-use Rattle.spec_text.specs.Lines.{counted_lines, is_line_feed, lines, numbered_from, tokens}
+use Rattle.spec_text.specs.Lines.{counted_lines, is_line_feed, is_separator, lines, numbered_from, tokens}
 use Rattle.spec_text.specs.Reading.{reading}
 use Rattle.spec_text.specs.declared.limits.TheConstants.{MAX_LINE_BYTES}
 use Rattle.spec_text.proofs.LineLemmas.{line_at}
@@ -36,6 +36,12 @@ behind : (n : ℕ) (xs ys : List ℕ) (k : ℕ) → ys ≡ drop n xs → n ≤ k
 behind n xs ys k is past =
     let place : n + (k - n) ≡ k = omega (arith, past) in
     sym (ap (λ (l : List ℕ). get_or l (k - n) 0) is ∙ get_or-drop n xs (k - n) 0 ∙ ap (λ (j : ℕ). get_or xs j 0) place)
+
+-- the word of a field ends with it, where a separator or nothing follows
+pub ends_with : (field rest : List ℕ) → rest ≡ drop 26 field → (0 < length rest → is_separator (get_or rest 0 0) ≡ true)
+    → 26 < length field → is_separator (get_or field 26 0) ≡ true
+ends_with field rest is first long =
+    ap is_separator (behind 26 field rest 26 is (omega arith)) ∙ first (omega (arith, long, ap length is, length-drop 26 field))
 
 -- no line feed among so many bytes at the front
 abbrev IsFeedless : ℕ → List ℕ → Type 0

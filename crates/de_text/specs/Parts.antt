@@ -1,6 +1,6 @@
 -- What the parts of a word have to do with the numeral that it is.
-use Rattle.std.specs.Prelude.{◌≡◌, ℕ, ◌≤◌, ◌^◌, min, Bool, true, false, List, length, Option, None, Some}
-use Rattle.spec_text.specs.declared.limits.TheConstants.{MAX_WORD_BYTES}
+use Rattle.std.specs.Prelude.{◌≡◌, ℕ, ◌<◌, ◌≤◌, ◌^◌, min, Bool, true, false, List, length, Option, None, Some}
+use Rattle.spec_text.specs.declared.limits.TheConstants.{MAX_EXPONENT, MAX_WORD_BYTES}
 use Rattle.spec_text.specs.Splitting.{fraction_at}
 use Rattle.spec_text.specs.Decimals.{Sign, minus, Exponent, Numeral, after_point, digits, exponent_size, value}
 use Rattle.de_text.specs.declared.parts.Parts.{Parts}
@@ -43,3 +43,8 @@ pub record IsOfShortWord (parts : Parts) : Type 0 where
   pub mantissa : parts.mantissa ≤ 10 ^ 18
   pub places : parts.places ≤ MAX_WORD_BYTES
   pub exponent : parts.exponent ≤ 10 ^ 18
+
+-- the parts are within the limits of a decimal
+pub record IsNear (parts : Parts) : Type 0 where
+  pub mantissa : parts.mantissa < 10 ^ 18
+  pub exponent : parts.exponent ≤ MAX_EXPONENT

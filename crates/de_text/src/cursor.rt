@@ -79,6 +79,18 @@ impl<'a> Line<'a> {
         self.triple
     }
 
+    /// The same line, of which no number was read.
+    #[inline(always)]
+    pub fn unread(&self) -> Line<'a>
+        ensures { result ≡ self.now }
+    {
+        Line {
+            number: self.number,
+            bytes: self.bytes,
+            triple: None,
+        }
+    }
+
     /// A cursor over the line's tokens, from left to right.
     pub fn words(&self) -> Words<'a>
         ensures { result ≡ self.now.tokens }

@@ -1,11 +1,11 @@
 // Words, read as decimals and as whole numbers.
-ghost use Rattle.std.specs.Prelude.{◌≡◌, ◌≤◌, ◌≤ℤ◌, ◌^◌, Some, if◌then◌else◌, neg_ℤ, length, pos};
+ghost use Rattle.std.specs.Prelude.{◌≡◌, ◌≤◌, ◌≤ℤ◌, ◌^◌, Ok, Some, if◌then◌else◌, neg_ℤ, length, pos};
 ghost use Rattle.std.specs.Char.{is_ascii_digit};
 ghost use Rattle.std.specs.List.{list_all};
 ghost use Rattle.spec_text.specs.Decimals.{AreDigits, Numeral, digits};
 ghost use Rattle.spec_text.specs.declared.limits.TheConstants.{MAX_WORD_BYTES};
 ghost use Rattle.spec_text.specs.Reading.{Reads, reading, reading_of, whole_of};
-ghost use Rattle.de_text.specs.Parts.{IsOfShortWord, Shows};
+ghost use Rattle.de_text.specs.Parts.{IsNear, IsOfShortWord, Shows};
 
 use crate::digits::{CAP, capped};
 use crate::parts::{Parts, split, split_plain};
@@ -22,9 +22,27 @@ fn signed(negative: bool, size: u64) -> i64
     if negative { -size } else { size }
 }
 
-// The decimal of the parts, or the second or the third fault.
+// The decimal of parts that are within its limits.
 #[inline(always)]
-pub(crate) fn assemble(parts: &Parts) -> Result<Decimal, NumberFault>
+pub(crate) fn decimal_of(parts: &Parts) -> Decimal
+    requires short { IsOfShortWord parts.now }
+    requires near { IsNear parts.now }
+    ensures { (n : Numeral) → AreDigits (digits n) → Shows n parts.now
+        → Ok result ≡ reading_of (Some n) }
+{
+    if parts.mantissa == 0 {
+        return Decimal { mant: 0, exp: 0 };
+    }
+    let mant = signed(parts.negative, parts.mantissa);
+    let exp = signed(parts.exponent_negative, parts.exponent) - parts.places as i64;
+    Decimal {
+        mant,
+        exp: exp as i16,
+    }
+}
+
+// The decimal of the parts, or the second or the third fault.
+fn assemble(parts: &Parts) -> Result<Decimal, NumberFault>
     requires { IsOfShortWord parts.now }
     ensures { (n : Numeral) → AreDigits (digits n) → Shows n parts.now
         → result ≡ reading_of (Some n) }
@@ -35,15 +53,7 @@ pub(crate) fn assemble(parts: &Parts) -> Result<Decimal, NumberFault>
     if parts.exponent > MAX_EXPONENT {
         return Err(NumberFault::ExponentRange);
     }
-    if parts.mantissa == 0 {
-        return Ok(Decimal { mant: 0, exp: 0 });
-    }
-    let mant = signed(parts.negative, parts.mantissa);
-    let exp = signed(parts.exponent_negative, parts.exponent) - parts.places as i64;
-    Ok(Decimal {
-        mant,
-        exp: exp as i16,
-    })
+    Ok(decimal_of(parts))
 }
 
 // The decimal that any word is, or its first fault; `read_decimal` calls it for words that JPL does not write.
@@ -68,7 +78,7 @@ pub fn read_decimal(word: &[u8]) -> Result<Decimal, NumberFault>
         return Err(NumberFault::NotNumber);
     }
     match split_plain(word) {
-        Some(parts) => assemble(&parts),
+        Some(parts) => Ok(decimal_of(&parts)),
         None => read_any(word),
     }
 }

@@ -1,5 +1,5 @@
 // Digits, and the number that they write.
-ghost use Rattle.std.specs.Prelude.{◌≡◌, ◌≤◌, ◌^◌, ◌<◌, [], IfSome, IsTrue, drop, length, min};
+ghost use Rattle.std.specs.Prelude.{◌≡◌, ◌≤◌, ◌+◌, ◌*◌, ◌^◌, ◌<◌, [], IfSome, IsTrue, drop, length, min};
 ghost use Rattle.spec_text.specs.Decimals.{AreDigits, value, value_after};
 ghost use Rattle.spec_text.specs.Splitting.{digits_at};
 
@@ -66,20 +66,20 @@ pub(crate) fn take_digits(start: u64, text: &[u8]) -> Digits<'_>
     }
 }
 
-// The digits at the front, where there is one.
+// The digits at the front, where there is a zero alone.
 #[inline(always)]
-pub(crate) fn one_digit(text: &[u8]) -> Option<Digits<'_>>
+pub(crate) fn one_zero(text: &[u8]) -> Option<Digits<'_>>
     ensures number { IfSome result (λ d. d.number ≡ min (value (digits_at text.now).0) (10 ^ 18)) }
     ensures count { IfSome result (λ d. d.count ≡ length (digits_at text.now).0) }
     ensures rest { IfSome result (λ d. d.rest.now ≡ (digits_at text.now).1) }
     ensures some { IfSome result (λ d. 0 < d.count) }
-    ensures few { IfSome result (λ d. d.number < 10) }
+    ensures zero { IfSome result (λ d. d.number ≡ 0) }
 {
-    if text.len() < 2 || !text[0].is_ascii_digit() || text[1].is_ascii_digit() {
+    if text.len() < 2 || text[0] != b'0' || text[1].is_ascii_digit() {
         return None;
     }
     Some(Digits {
-        number: u64::from(text[0] - b'0'),
+        number: 0,
         count: 1,
         rest: &text[1..],
     })
@@ -102,12 +102,13 @@ fn is_end(text: &[u8], at: usize) -> bool
 // The digits at the front, where there are two.
 #[inline(always)]
 pub(crate) fn two_digits(start: u64, text: &[u8]) -> Option<Digits<'_>>
-    requires { start < 10 ^ 17 }
+    requires { start < 10 ^ 16 }
     ensures number { IfSome result (λ d. d.number
         ≡ min (value_after start (digits_at text.now).0) (10 ^ 18)) }
     ensures count { IfSome result (λ d. d.count ≡ length (digits_at text.now).0) }
     ensures rest { IfSome result (λ d. d.rest.now ≡ (digits_at text.now).1) }
     ensures two { IfSome result (λ d. d.count ≡ 2) }
+    ensures few { IfSome result (λ d. d.number < 100 * (start + 1)) }
 {
     if text.len() < 2 || !text[0].is_ascii_digit() || !text[1].is_ascii_digit() {
         return None;
@@ -117,7 +118,7 @@ pub(crate) fn two_digits(start: u64, text: &[u8]) -> Option<Digits<'_>>
     }
     let number = 10 * start + u64::from(text[0] - b'0');
     Some(Digits {
-        number: (10 * number + u64::from(text[1] - b'0')).min(CAP),
+        number: 10 * number + u64::from(text[1] - b'0'),
         count: 2,
         rest: &text[2..],
     })
@@ -125,13 +126,13 @@ pub(crate) fn two_digits(start: u64, text: &[u8]) -> Option<Digits<'_>>
 
 // The digits at the front, where there are eighteen.
 #[inline(always)]
-pub(crate) fn eighteen_digits(start: u64, text: &[u8]) -> Option<Digits<'_>>
-    ensures number { IfSome result (λ d. d.number
-        ≡ min (value_after start (digits_at text.now).0) (10 ^ 18)) }
+pub(crate) fn eighteen_digits(text: &[u8]) -> Option<Digits<'_>>
+    ensures number { IfSome result (λ d. d.number ≡ min (value (digits_at text.now).0) (10 ^ 18)) }
+    ensures few { IfSome result (λ d. d.number < 10 ^ 18) }
     ensures count { IfSome result (λ d. d.count ≡ length (digits_at text.now).0) }
     ensures rest { IfSome result (λ d. d.rest.now ≡ (digits_at text.now).1) }
 {
-    let (number, rest) = take_sixteen(start, text)?;
+    let (number, rest) = take_sixteen(0, text)?;
     let last = two_digits(number, rest)?;
     Some(Digits {
         number: last.number,

@@ -122,7 +122,7 @@ pub(crate) fn take_sixteen(before: u64, text: &[u8]) -> Option<(u64, &[u8])>
     ensures count { IfSome result (λ p. length (digits_at text.now).0
         ≡ 16 + length (digits_at p.1.now).0) }
     ensures rest { IfSome result (λ p. (digits_at p.1.now).1 ≡ (digits_at text.now).1) }
-    ensures few { IfSome result (λ p. p.0 < 10 ^ 17) }
+    ensures few { IfSome result (λ p. p.0 < 10 ^ 16 * (before + 1)) }
 {
     if before >= SIXTEEN_ROOM || text.len() < SIXTEEN || !are_sixteen_digits(text) {
         return None;

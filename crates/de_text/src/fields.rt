@@ -1,5 +1,5 @@
 // Numbers in the form in which JPL writes those of blocks, cut from the front of a line.
-ghost use Rattle.std.specs.Prelude.{◌≡◌, ◌+◌, ◌-◌, ◌<◌, ◌≤◌, ◌∷◌, IfSome, IsTrue, List, Ok, ℕ, drop, false, length, slice_index, take, true};
+ghost use Rattle.std.specs.Prelude.{◌≡◌, ◌+◌, ◌-◌, ◌<◌, ◌≤◌, [], ◌∷◌, IfSome, IsTrue, List, Ok, ℕ, drop, false, length, slice_index, take, true};
 ghost use Rattle.spec_text.specs.Lines.{is_line_feed, is_separator, lines, tokens};
 ghost use Rattle.spec_text.specs.Reading.{reading};
 ghost use Rattle.spec_text.specs.Splitting.{sign_at};
@@ -7,10 +7,10 @@ ghost use Rattle.spec_text.specs.declared.limits.TheConstants.{MAX_WORD_BYTES};
 ghost use Rattle.de_text.specs.Parts.{is_minus};
 ghost use Rattle.de_text.specs.Triples.{AreTriple};
 
-use crate::decimal::assemble;
+use crate::decimal::decimal_of;
 use crate::lines::without_return;
 use crate::parts::split_signless;
-use crate::tokens::{is_blank, is_separator};
+use crate::tokens::is_separator;
 use crate::triple::Triple;
 use spec_text::Decimal;
 
@@ -21,6 +21,16 @@ const FIELD: usize = 26;
 const POINT: usize = 3;
 
 const MARK: usize = 22;
+
+// The length of three fields.
+const FIELDS: usize = 78;
+
+// The length of a line of three fields with its line end, where two blanks and a carriage return stand before the line
+// feed,
+const WIDE_LINE: usize = 82;
+
+// and where a carriage return alone does.
+const NEAR_LINE: usize = 80;
 
 // Whether a word that goes up to the end of the form ends there.
 #[inline(always)]
@@ -47,6 +57,7 @@ pub(crate) struct Front {
 fn field_front(line: &[u8]) -> Option<Front>
     requires { FIELD ≤ length line.now }
     ensures start { IfSome result (λ f. f.start ≤ 2) }
+    ensures some { IfSome result (λ f. 0 < f.start) }
     ensures before { IfSome result (λ f. (k : ℕ) → k < f.start
         → is_separator (slice_index line.now k) ≡ true) }
     ensures negative { IfSome result (λ f. f.negative
@@ -74,29 +85,55 @@ fn read_signless(negative: bool, digits: &[u8], word: &[u8]) -> Option<Decimal>
 {
     let _word = word;
     let parts = split_signless(negative, digits)?;
-    match assemble(&parts) {
-        Ok(d) => Some(d),
-        Err(_) => None,
-    }
+    Some(decimal_of(&parts))
 }
 
-// The number at the front of a line, and what follows it, where it is written in the form.
+// The number at the front of a line, and what follows it, where it is written in the form. Whether its word ends where
+// the form ends is left to the caller.
 #[inline(always)]
-pub(crate) fn cut_number(line: &[u8]) -> Option<(Decimal, &[u8])>
-    ensures number { IfSome result (λ p. (word : List ℕ)
-        × (tokens line.now ≡ word ∷ tokens p.1.now) × (Ok p.0 ≡ reading word)) }
+fn cut_field(line: &[u8]) -> Option<(Decimal, &[u8])>
+    ensures number { IfSome result (λ p.
+        (26 < length line.now → is_separator (slice_index line.now 26) ≡ true)
+        → (word : List ℕ) × (tokens line.now ≡ word ∷ tokens p.1.now) × (Ok p.0 ≡ reading word)) }
+    ensures front { IfSome result (λ p. is_separator (slice_index line.now 0) ≡ true) }
     ensures inner { IfSome result (λ p. (k : ℕ) → k < 26
         → is_line_feed (slice_index line.now k) ≡ false) }
     ensures long { IfSome result (λ p. 26 ≤ length line.now) }
     ensures rest { IfSome result (λ p. p.1.now ≡ drop 26 line.now) }
 {
-    if line.len() < FIELD || line[POINT] != b'.' || line[MARK] != b'D' || !is_field_end(line) {
+    if line.len() < FIELD || line[POINT] != b'.' || line[MARK] != b'D' {
         return None;
     }
     let front = field_front(line)?;
     let word = &line[front.start..FIELD];
     let d = read_signless(front.negative, &line[2..FIELD], word)?;
     Some((d, &line[FIELD..]))
+}
+
+// The number at the front of a line, and what follows it, where it is a word that is written in the form.
+#[inline(always)]
+pub(crate) fn cut_number(line: &[u8]) -> Option<(Decimal, &[u8])>
+    ensures { IfSome result (λ p. (word : List ℕ)
+        × (tokens line.now ≡ word ∷ tokens p.1.now) × (Ok p.0 ≡ reading word)) }
+{
+    if !is_field_end(line) {
+        return None;
+    }
+    let (number, rest) = cut_field(line)?;
+    Some((number, rest))
+}
+
+// Whether nothing is left of a line, or two blanks.
+#[inline(always)]
+fn are_two_blanks(rest: &[u8]) -> bool
+    ensures blank { IsTrue result → tokens rest.now ≡ [] }
+    ensures front { IsTrue result → 0 < length rest.now
+        → is_separator (slice_index rest.now 0) ≡ true }
+{
+    match rest {
+        [] | [b' ', b' '] => true,
+        _ => false,
+    }
 }
 
 // The numbers of a line of three fields, behind which nothing stands but blanks.
@@ -107,10 +144,10 @@ fn triple_of(line: &[u8]) -> Option<Triple>
         → is_line_feed (slice_index line.now k) ≡ false) }
     ensures long { IfSome result (λ t. 78 ≤ length line.now) }
 {
-    let (first, more) = cut_number(line)?;
-    let (second, last) = cut_number(more)?;
-    let (third, rest) = cut_number(last)?;
-    if !is_blank(rest) {
+    let (first, more) = cut_field(line)?;
+    let (second, last) = cut_field(more)?;
+    let (third, rest) = cut_field(last)?;
+    if !are_two_blanks(rest) {
         return None;
     }
     Some(Triple {
@@ -130,13 +167,13 @@ fn wide_end(text: &[u8]) -> Option<usize>
     ensures between { IfSome result (λ end. (k : ℕ) → 78 ≤ k → k < end
         → is_line_feed (slice_index text.now k) ≡ false) }
 {
-    if text.len() < 82 || text[78] != b' ' || text[79] != b' ' || text[80] != b'\r' {
+    if text.len() < WIDE_LINE || text[FIELDS] != b' ' || text[FIELDS + 1] != b' ' {
         return None;
     }
-    if text[81] != b'\n' {
+    if text[FIELDS + 2] != b'\r' || text[WIDE_LINE - 1] != b'\n' {
         return None;
     }
-    Some(81)
+    Some(WIDE_LINE - 1)
 }
 
 // The same where a carriage return or nothing stands between.
@@ -149,16 +186,16 @@ fn near_end(text: &[u8]) -> Option<usize>
     ensures between { IfSome result (λ end. (k : ℕ) → 78 ≤ k → k < end
         → is_line_feed (slice_index text.now k) ≡ false) }
 {
-    if text.len() < 80 {
+    if text.len() < NEAR_LINE {
         return None;
     }
-    if text[78] == b'\n' {
-        return Some(78);
+    if text[FIELDS] == b'\n' {
+        return Some(FIELDS);
     }
-    if text[78] != b'\r' || text[79] != b'\n' {
+    if text[FIELDS] != b'\r' || text[NEAR_LINE - 1] != b'\n' {
         return None;
     }
-    Some(79)
+    Some(NEAR_LINE - 1)
 }
 
 // The place of the line feed behind three fields.

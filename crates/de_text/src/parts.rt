@@ -1,12 +1,11 @@
 // The parts of a numeral, cut from the front of a word.
-ghost use Rattle.std.specs.Prelude.{◌≡◌, ◌≤◌, ◌^◌, ◌∷◌, IfSome, List, Some, length, min, ℕ};
+ghost use Rattle.std.specs.Prelude.{◌≡◌, ◌<◌, ◌≤◌, ◌^◌, ◌∷◌, IfSome, List, Some, length, min, ℕ};
 ghost use Rattle.spec_text.specs.Decimals.{value_after};
 ghost use Rattle.spec_text.specs.Splitting.{exponent_at, fraction_at, numeral_of, sign_at};
-ghost use Rattle.de_text.specs.Parts.{ShowsExponent, Splits, fraction_digits, is_minus};
+ghost use Rattle.spec_text.specs.declared.limits.TheConstants.{MAX_EXPONENT};
+ghost use Rattle.de_text.specs.Parts.{IsNear, ShowsExponent, Splits, fraction_digits, is_minus};
 
-use crate::digits::{
-    Digits, eighteen_digits, one_digit, take_digits, take_many_digits, two_digits,
-};
+use crate::digits::{Digits, eighteen_digits, one_zero, take_digits, take_many_digits, two_digits};
 
 // The sign, the number that the digits without the point write, how many of them stand after the point, and the sign
 // and the size of the written exponent. Both numbers are at most `CAP`.
@@ -102,14 +101,15 @@ pub(crate) fn split(word: &[u8]) -> Option<Parts>
 
 // A point and eighteen digits at the front.
 #[inline(always)]
-fn plain_fraction(start: u64, text: &[u8]) -> Option<Digits<'_>>
+fn plain_fraction(text: &[u8]) -> Option<Digits<'_>>
     ensures number { IfSome result (λ d. d.number
-        ≡ min (value_after start (fraction_digits text.now)) (10 ^ 18)) }
+        ≡ min (value_after 0 (fraction_digits text.now)) (10 ^ 18)) }
+    ensures few { IfSome result (λ d. d.number < 10 ^ 18) }
     ensures count { IfSome result (λ d. d.count ≡ length (fraction_digits text.now)) }
     ensures rest { IfSome result (λ d. d.rest.now ≡ (fraction_at text.now).1) }
 {
     match text {
-        [b'.', rest @ ..] => eighteen_digits(start, rest),
+        [b'.', rest @ ..] => eighteen_digits(rest),
         _ => None,
     }
 }
@@ -131,7 +131,8 @@ fn written_sign(sign: u8) -> Option<bool>
 // The sign and the size of an exponent as JPL writes it: a D, a sign and two digits.
 #[inline(always)]
 fn field_exponent(text: &[u8]) -> Option<(bool, u64)>
-    ensures { IfSome result (λ e. ShowsExponent (exponent_at text.now) (Some e)) }
+    ensures shows { IfSome result (λ e. ShowsExponent (exponent_at text.now) (Some e)) }
+    ensures few { IfSome result (λ e. e.1 ≤ MAX_EXPONENT) }
 {
     match text {
         [b'D', sign, rest @ ..] => {
@@ -146,15 +147,17 @@ fn field_exponent(text: &[u8]) -> Option<(bool, u64)>
     }
 }
 
-// The parts of a word of which the sign was read, as JPL writes its numbers: a digit, a point, eighteen digits, and an
+// The parts of a word of which the sign was read, as JPL writes its numbers: a zero, a point, eighteen digits, and an
 // exponent of two.
 #[inline(always)]
 pub(crate) fn split_signless(negative: bool, text: &[u8]) -> Option<Parts>
-    ensures { IfSome result (λ parts. (word : List ℕ) → negative ≡ is_minus (sign_at word).0
-        → text.now ≡ (sign_at word).1 → Splits (numeral_of word) (Some parts)) }
+    ensures splits { IfSome result (λ parts. (word : List ℕ)
+        → negative ≡ is_minus (sign_at word).0 → text.now ≡ (sign_at word).1
+        → Splits (numeral_of word) (Some parts)) }
+    ensures near { IfSome result IsNear }
 {
-    let whole = one_digit(text)?;
-    let digits = plain_fraction(whole.number, whole.rest)?;
+    let whole = one_zero(text)?;
+    let digits = plain_fraction(whole.rest)?;
     let (exponent_negative, exponent) = field_exponent(digits.rest)?;
     Some(parts_of(negative, &digits, exponent_negative, exponent))
 }
@@ -162,7 +165,8 @@ pub(crate) fn split_signless(negative: bool, text: &[u8]) -> Option<Parts>
 // The parts of a word as JPL writes its numbers.
 #[inline(always)]
 pub(crate) fn split_plain(word: &[u8]) -> Option<Parts>
-    ensures { IfSome result (λ parts. Splits (numeral_of word.now) (Some parts)) }
+    ensures splits { IfSome result (λ parts. Splits (numeral_of word.now) (Some parts)) }
+    ensures near { IfSome result IsNear }
 {
     let (negative, rest) = take_sign(word);
     split_signless(negative, rest)

@@ -1,23 +1,5 @@
-use Rattle.std.proofs.Common.{◌-◌, ◌∷◌, take, drop, refl, sym, ap, ◌∙◌, arith, List, ℕ}
-use Rattle.std.proofs.lemmas.List.{take_rest}
-use Rattle.spec_text.specs.Lines.{tokens}
-use Rattle.de_text.proofs.Numbers.{field_feedless, number_first}
+use Rattle.std.proofs.Common.{refl}
 use Rattle.de_text.proofs.fields.cut_number.Goals as goal
 
-pub returns-clause-number : goal.returns-clause-number
-returns-clause-number c =
-    let line = c.args.line.now in
-    let start = c.in_ok-front.front.start in
-    let word : List ℕ = take (26 - start) (drop start line) in (
-      word,
-      number_first line start _ c.in_ok-front.ensures.start (omega (arith, c.if-line-lt-FIELD.false)) c.in_ok-front.ensures.before (c.if-not-is_field_end.ensures refl) c.in_ok-d.ensures
-          ∙ ap (λ (l : List ℕ). word ∷ tokens l) (sym (take_rest line 26)),
-      c.in_ok-d.ensures,
-    )
-
-pub returns-clause-inner : goal.returns-clause-inner
-returns-clause-inner c =
-    field_feedless c.args.line.now c.in_ok-front.front.start _ c.in_ok-front.ensures.start (omega (arith, c.if-line-lt-FIELD.false)) c.in_ok-front.ensures.before c.in_ok-d.ensures
-
-pub returns-clause-rest : goal.returns-clause-rest
-returns-clause-rest c = take_rest c.args.line.now 26
+pub returns : goal.returns
+returns c = c.in_ok-number.ensures.number (c.if-not-is_field_end.ensures refl)

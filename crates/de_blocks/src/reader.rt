@@ -140,7 +140,7 @@ impl BlockReader {
         ensures memory { result ≡ Err errors.Memory → self.new ≡ self.old }
     {
         match self.place {
-            Place::Between => self.begin(line),
+            Place::Between => self.begin(&line.unread()),
             Place::Inside => self.go_on(line),
             Place::Refused(fault) => Err(BlockError::Fault(fault)),
         }

@@ -8,7 +8,7 @@ use crate::block::OpenBlock;
 use crate::rules::trailing_rule;
 use de_text::{Line, Triple, Words};
 use spec_files::{ReadError, ruled_at};
-use spec_text::Fault;
+use spec_text::{Decimal, Fault};
 
 // Reads words of this line until the block is whole or none is left.
 fn read_numbers(block: &mut OpenBlock, line: u32, words: &mut Words<'_>) -> Result<(), ReadError>
@@ -64,6 +64,17 @@ fn read_words(block: &mut OpenBlock, line: &Line<'_>) -> Result<(), ReadError>
     Ok(())
 }
 
+// The same number, made anew of its parts: the gap behind them is copied no further.
+#[inline(always)]
+fn apart(number: Decimal) -> Decimal
+    ensures { result ≡ number }
+{
+    Decimal {
+        mant: number.mant,
+        exp: number.exp,
+    }
+}
+
 // Puts the three numbers that are the words of a line after the others, of which the dates are there.
 #[inline(always)]
 fn push_triple(block: &mut OpenBlock, line: &Line<'_>, triple: Triple) -> Result<(), ReadError>
@@ -76,7 +87,10 @@ fn push_triple(block: &mut OpenBlock, line: &Line<'_>, triple: Triple) -> Result
     ensures same { block.new.accepted ≡ block.old.accepted }
 {
     let number = line.number();
-    let numbers = [triple.first, triple.second, triple.third];
+    let first = apart(triple.first);
+    let second = apart(triple.second);
+    let third = apart(triple.third);
+    let numbers = [first, second, third];
     for i in 0..3 {
         block.push_later(number, numbers[i])?;
     }
@@ -96,7 +110,7 @@ fn read_triple(block: &mut OpenBlock, line: &Line<'_>, triple: Triple) -> Result
     let count = block.count();
     let wanted = block.header().ncoeff as usize - count;
     if count < 2 || wanted < 3 {
-        return read_words(block, line);
+        return read_words(block, &line.unread());
     }
     push_triple(block, line, triple)
 }
@@ -113,6 +127,6 @@ pub(crate) fn read_line(block: &mut OpenBlock, line: &Line<'_>) -> Result<(), Re
 {
     match line.triple() {
         Some(triple) => read_triple(block, line, triple),
-        None => read_words(block, line),
+        None => read_words(block, &line.unread()),
     }
 }

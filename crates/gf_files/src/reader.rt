@@ -102,7 +102,7 @@ fn take_line(alloc: Global, reader: &mut Reader, line: &Line<'_>) -> Result<(), 
     ensures { Moves reader.old line.now (moved result reader.new) }
 {
     match reader {
-        Reader::Header(_) => take_any_line(alloc, reader, line),
+        Reader::Header(_) => take_any_line(alloc, reader, &line.unread()),
         Reader::Blocks(blocks) => take_block_line(blocks, line),
     }
 }

@@ -9,7 +9,7 @@ loop-i-preserved c =
     let old = c.args.block.now in
     let mid = c.loop-i.block in
     let new = c.push_later.new.self in
-    let here = at_place words c.args.triple c.loop-i.i _ c.requires.triple c.loop-i-test.true in
+    let here = at_place words c.args.triple _ _ _ c.loop-i.i _ c.requires.triple c.loop-i-test.true c.apart-first.ensures c.apart-second.ensures c.apart-third.ensures in
     let pushed = c.in_ok-push_later.ensures.pushed here.word here.reads in
     let few : length mid.numbers < old.accepted.header.ncoeff =
     omega (arith, c.loop-i.invariant.1, c.requires.few, c.loop-i-test.true) in (

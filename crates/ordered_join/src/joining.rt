@@ -18,7 +18,7 @@ fn window_of(leaf: &Leaf, holds: Holds) -> Window
 }
 
 // An open run of undecided leaves, and one leaf more.
-fn longer(run: Option<Window>, leaf: &Leaf) -> Window
+fn extend_run(run: Option<Window>, leaf: &Leaf) -> Window
     requires { HasTime leaf.now }
     ensures { result ≡ longer run leaf.now.node }
 {
@@ -62,7 +62,7 @@ pub fn leaf_windows(alloc: Global, leaves: &[Leaf]) -> Result<Vec<Window>, Alloc
                 run = None;
                 found.push(window_of(leaf, Holds::Certain(turn)))?;
             }
-            Mark::Undecided => run = Some(longer(run, leaf)),
+            Mark::Undecided => run = Some(extend_run(run, leaf)),
         }
     }
     end(&mut found, run)?;

@@ -32,13 +32,13 @@ pub fn leaves(alloc: Global, book: &Book) -> Result<Vec<Leaf>, Memory>
     ensures leaves { IfOk result (λ found. found.items ≡ ordered_leaves book.now.entries.items) }
     ensures cover { IfOk result (λ found. Covers book.now.root.a found.items book.now.root.b) }
 {
-    let mut leaves = booked(alloc, &book.entries)?;
+    let mut leaves = leaves_of_entries(alloc, &book.entries)?;
     leaves.sort_by_key(|leaf| leaf.node.a)?;
     Ok(leaves)
 }
 
 // The leaves of entries, as they came.
-fn booked(alloc: Global, entries: &[Booked]) -> Result<Vec<Leaf>, AllocError>
+fn leaves_of_entries(alloc: Global, entries: &[Booked]) -> Result<Vec<Leaf>, AllocError>
     ensures { IfOk result (λ leaves. leaves.items ≡ booked_leaves entries.now) }
 {
     let mut leaves = Vec::with_capacity(alloc, entries.len())?;

@@ -10,6 +10,7 @@ pub mod Settling
 pub mod Descending
 pub mod Counting
 pub mod Weighing
+pub mod ServedTrees
 pub mod Fractions
 pub mod Made
 pub mod Sizes

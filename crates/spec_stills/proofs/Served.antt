@@ -12,7 +12,7 @@ use Rattle.spec_stills.specs.Weights.{first_serving, weight_by}
 use Rattle.spec_stills.proofs.Blocks.{IsClearBlock}
 use Rattle.spec_stills.proofs.Halvings.{served_is_clear}
 
-second : (p q : Bool) → p ≡ false → (p || q) ≡ true → q ≡ true
+pub second : (p q : Bool) → p ≡ false → (p || q) ≡ true → q ≡ true
 second true q e either = cc
 second false q e either = either
 

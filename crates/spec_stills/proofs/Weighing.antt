@@ -28,7 +28,7 @@ use Rattle.spec_stills.proofs.Sound.{eager_sound, valid_eager, valid_fine}
 some_min : (m w : ℕ) → 0 < m → 0 < w → 0 < min m w
 some_min m w more wide = omega (arith, more, wide)
 
-some_weight : (found : Option StillSpan) (n : Node) → 0 < width n → 0 < weight_by found n
+pub some_weight : (found : Option StillSpan) (n : Node) → 0 < width n → 0 < weight_by found n
 some_weight None n wide = omega arith
 some_weight (Some x) n wide = some_min (2 ^ halvings_of x n) (width n) (pow_pos (halvings_of x n)) wide
 

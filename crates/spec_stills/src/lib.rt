@@ -2,17 +2,21 @@
 //! not be cut down to its leaves: it is taken for one clear leaf, and the windows stay what they are. In an eager tree a node
 //! in which a still span begins is split without being judged, since nothing can come of it but a split, or one clear leaf. An
 //! undecided leaf of the eager tree is settled by the tree of the search: it is clear where it lies in a clear leaf of that.
+//! In a served tree no node is split unjudged: its leaves tell at each time the sign that those of the tree tell.
 //! A span is still where the function of the search keeps a margin from 0 at each time, which its steps cannot use up.
 //!
 //! Nothing runs here. Searches and spans come in; what goes out are the definitions of `specs/`, worked values of them, and
 //! laws: `still_laws` says what is still, `eager_laws` that eager trees are sound, and how many leaves the tree of the search may
-//! have, `settled_laws` that settled leaves have its windows, `margin_laws` that spans with a margin are still.
+//! have, `settled_laws` that settled leaves have its windows, `served_laws` that served trees tell its signs, `margin_laws` that
+//! spans with a margin are still.
 #![tactic(auto)]
 
 mod eager_examples;
 pub mod eager_laws;
 pub mod margin_examples;
 pub mod margin_laws;
+mod served_examples;
+pub mod served_laws;
 mod settled_examples;
 pub mod settled_laws;
 mod still;
@@ -20,6 +24,7 @@ mod still_examples;
 pub mod still_laws;
 
 pub use eager_examples::{nodes_that_are_split_unjudged, spans_that_begin_in_a_node};
+pub use served_examples::nodes_that_are_served_or_judged;
 pub use settled_examples::{leaves_that_are_settled, the_part_of_a_node, what_a_leaf_clears};
 pub use spec_intervals::Sign;
 pub use still::StillSpan;

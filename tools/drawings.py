@@ -1,18 +1,18 @@
 #!/usr/bin/env python3
-"""Makes the two drawings of docs/TOUR.md, of the search in examples/mercury-crossing.asc.
+"""Makes the two drawings of docs/TOUR.md, of the search in examples/mercury-crossing.asc, and that of docs/ARCHITECTURE.md.
 
-    tools/drawings.py           writes docs/node.svg and docs/data.svg
-    tools/drawings.py --check   whether both stand there as they would be written
+    tools/drawings.py           writes docs/node.svg, docs/data.svg and docs/stills.svg
+    tools/drawings.py --check   whether they stand there as they would be written
 
-The nodes that are drawn are those of the certificate that the shipped program writes of this search, and each room that
-is named is one of crates.txt. It needs no package."""
+The nodes that are drawn are those of the certificate that the shipped program writes of this search, each room that is
+named is one of crates.txt, and each file one of crates. It needs no package."""
 from __future__ import annotations
 
 import subprocess
 import sys
 from dataclasses import dataclass
 from pathlib import Path
-from typing import Iterable, List, Tuple
+from typing import Iterable, List, Sequence, Tuple
 
 TOP = Path(__file__).resolve().parents[1]
 EXAMPLE = "examples/mercury-crossing.asc"
@@ -36,11 +36,11 @@ class Leaf:
 
 @dataclass(frozen=True)
 class Box:
-    """A room of the way of the data: where it stands, and what it does to the example."""
+    """A step of a way: where it stands, the rooms or the file that do it, and what it does."""
 
     column: int
     row: int
-    rooms: str
+    places: str
     says: Tuple[str, ...]
 
 
@@ -65,6 +65,24 @@ ARROWS = (
     *((0, 1), (0, 2), (2, 3), (3, 4), (4, 5), (5, 6), (1, 7)),
     *((6, 8), (7, 8), (8, 9), (6, 10), (9, 11), (10, 11), (11, 12), (12, 13)),
 )
+# What is decided of spans, on the left, and of nodes and leaves.
+STILLS = (
+    Box(0, 0, "still_spans/src/worth.rt", ("Is a granule halved into 8 parts or more?", "no: no spans, the plain tree")),
+    Box(0, 1, "still_spans/src/shares.rt", ("a share of the times for each worker,", "granule after granule")),
+    Box(0, 2, "still_spans/src/quiet.rt", ("Has the bound over the granule one sign?", "yes: all of it is still")),
+    Box(0, 3, "still_spans/src/known.rt", ("Does the model keep away from 0?", "no: its halves are asked, and theirs")),
+    Box(0, 4, "still_spans/src/span_bound.rt", ("Is the function monotone by its bound?", "no: nodes so wide as the steps allow")),
+    Box(0, 5, "still_spans/src/borders.rt", ("Has the next span the same sign?", "yes: so has the unit between")),
+    Box(0, 6, "still_spans/src/still_list.rt", ("the spans in order;", "none, where two overlap")),
+    Box(1, 0, "still_spans/src/serving.rt", ("a node: Does a span serve it?", "yes: it is clear")),
+    Box(1, 1, "still_spans/src/beginning.rt", ("find: Does a span begin in it?", "yes: it is split, unjudged")),
+    Box(1, 2, "event_judge", ("any other: the verdict of the search",)),
+    Box(1, 3, "gf_search/src/book.rt", ("the leaves in order",)),
+    Box(1, 4, "still_spans/src/serving.rt", ("Do they weigh more than the limit?", "yes: the plain tree")),
+    Box(1, 5, "still_spans/src/settling.rt", ("find: Is an undecided leaf in a clear one", "of the plain tree? yes: it is clear")),
+    Box(1, 6, "gf_sets/src/from_leaves.rt", ("set: the sign at the end of each clear leaf",)),
+)
+STILL_ARROWS = tuple((place, place + 1) for place in range(len(STILLS) - 1) if place != 6)
 BOX_WIDTH, BOX_HEIGHT, ROW, COLUMN = 330, 74, 104, 400
 
 
@@ -211,9 +229,9 @@ def known_rooms() -> List[str]:
     return [line.split(":")[0].split()[0] for line in lines if line[:1].isalpha()]
 
 
-def middle_of(place: int, is_end: bool, other: int) -> Tuple[float, float]:
+def middle_of(boxes: Sequence[Box], place: int, is_end: bool, other: int) -> Tuple[float, float]:
     """Where an arrow between two boxes touches the one of this place."""
-    it, that = BOXES[place], BOXES[other]
+    it, that = boxes[place], boxes[other]
     x, y = 30 + it.column * COLUMN, 24 + it.row * ROW
     if it.column != that.column and it.row == that.row:
         return (x + (BOX_WIDTH if it.column < that.column else 0), y + BOX_HEIGHT / 2)
@@ -223,24 +241,29 @@ def middle_of(place: int, is_end: bool, other: int) -> Tuple[float, float]:
     return (x + BOX_WIDTH / 2, y + (0 if is_end else BOX_HEIGHT))
 
 
-def data_drawing() -> str:
-    """The drawing of the way of the data."""
-    known, parts = known_rooms(), []
-    for source, target in ARROWS:
-        begin, end = middle_of(source, False, target), middle_of(target, True, source)
+def is_there(place: str) -> bool:
+    """Whether a step names a room of crates.txt, or a file of one."""
+    return (TOP / "crates" / place).is_file() if "/" in place else place in known_rooms()
+
+
+def way_drawing(title: str, boxes: Sequence[Box], arrows: Iterable[Tuple[int, int]]) -> str:
+    """The drawing of a way from step to step."""
+    parts = []
+    for source, target in arrows:
+        begin, end = middle_of(boxes, source, False, target), middle_of(boxes, target, True, source)
         parts.append(stroke(*begin, *end, PALE, 'stroke-width="1.5" marker-end="url(#tip)"'))
-    for it in BOXES:
-        missing = [room for room in it.rooms.split() if room not in known]
+    for it in boxes:
+        names = it.places.split()
+        missing = [name for name in names if not is_there(name)]
         if missing:
-            raise SystemExit(f"tools/drawings.py: crates.txt has no {missing[0]}")
+            raise SystemExit(f"tools/drawings.py: there is no {missing[0]}")
         x, y = 30 + it.column * COLUMN, 24 + it.row * ROW
-        names = it.rooms.split()
-        shown = ", ".join(names) if len(it.rooms) < 40 else f"{names[0]}, .., {names[-1]}"
+        shown = ", ".join(names) if len(it.places) < 40 else f"{names[0]}, .., {names[-1]}"
         parts.append(box(x, y, BOX_WIDTH, BOX_HEIGHT, COLOURS["N"], INK, 'rx="6"'))
         parts.append(text(x + 12, y + 22, shown, 14, INK, "start", ' font-weight="bold"'))
         parts += [text(x + 12, y + 42 + 18 * place, said, 12) for place, said in enumerate(it.says)]
-    height = 24 + ROW * (max(it.row for it in BOXES) + 1)
-    return picture(60 + COLUMN + BOX_WIDTH, height, "The way of the data", parts)
+    height = 24 + ROW * (max(it.row for it in boxes) + 1)
+    return picture(60 + COLUMN + BOX_WIDTH, height, title, parts)
 
 
 def main(words: List[str]) -> int:
@@ -248,7 +271,11 @@ def main(words: List[str]) -> int:
     if words not in ([], ["--check"]):
         sys.exit("usage: tools/drawings.py [--check]")
     failed = 0
-    drawings = {"docs/node.svg": node_drawing(), "docs/data.svg": data_drawing()}
+    drawings = {
+        "docs/node.svg": node_drawing(),
+        "docs/data.svg": way_drawing("The way of the data", BOXES, ARROWS),
+        "docs/stills.svg": way_drawing("What is decided of still spans and of nodes", STILLS, STILL_ARROWS),
+    }
     for name, made in drawings.items():
         path = TOP / name
         if not words:

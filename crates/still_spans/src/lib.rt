@@ -1,20 +1,26 @@
-//! The still spans of a search, and the judge of its eager tree, which such spans serve.
+//! The still spans of a search, and the judges of its eager and of its served tree, which such spans serve.
 //!
-//! In come a search, two times and a number of workers; out come still spans between them, in order of time: spans in which
-//! each node that is no wider than so much is clear. The times are cut into shares, mostly where a block of the ephemeris
-//! begins, so that no granule lies in two; each worker finds the still spans of one share, and they are joined in order. In
-//! each granule the function of the search has a model, which tells how far it keeps from 0 over a span, and a bound of its
-//! steps, which tells how wide a node may be that is clear for that. The unit from one granule to the next is still where the
-//! spans beside it have the same sign. Where a model tells nothing there is no still span; which are found is a matter of
-//! speed alone.
+//! In come a search, two times and a number of workers; out come still spans between them, in order of time. In come a judge,
+//! its search and still spans; out comes a judge by which a node that a still span serves is clear. Where there is no still
+//! span, or no node is served, the search is slow and never wrong: which are found is a matter of speed alone.
 //!
-//! In come a judge, its search and still spans; out comes a judge by which a node that a still span serves is clear, one in
-//! which a still span begins is split unjudged, and any other is judged as the judge does. A `StillList` has spans of which
-//! each begins no earlier than the one before it ends, so that no more than one can serve a node, and it is found by halving;
-//! it is empty where they do not. That the spans are still is the affair of whoever made them: the rules of the judge are
-//! sound whatever they are. `EagerJudge::settle` makes those undecided leaves of the eager tree clear that lie in a clear leaf
-//! of the tree of the search, and `StillList::are_few` tells whether leaves of the eager tree stand for no more than so many
-//! leaves of that tree. No call of a judge allocates or fails.
+//! What is decided, where, and in which order:
+//! 1. Whether spans are worth looking for: `worth`. Then the times are cut into shares where blocks of the ephemeris begin,
+//!    mostly, so that no granule lies in two, one share for each worker: `cuts`, `shares`.
+//! 2. Which times have no border of a granule in them: `granules`, `walk`. A granule is still as a whole where the bound of the
+//!    function over it has one sign: `quiet`.
+//! 3. How far else the function keeps from 0, by a model over the granule: `known`. Where it tells too little the halves are
+//!    asked, and theirs, and where it is blurred a model of their own is made: `halves`.
+//! 4. How wide a node in a piece may be that is clear for that, by the bound of the steps: `span_bound`, `units`.
+//! 5. Whether the unit between two spans is still, which have the same sign: `borders`. Shares are joined in order: `joining`.
+//! 6. Of a node: whether a span serves it, by halving of a `StillList`: `serving`; and in an eager tree whether one begins in it,
+//!    so that it is split unjudged: `beginning`. Else the judge of the search is asked: `hastening`, `serving_judge`.
+//! 7. Of leaves: how many leaves of the tree they stand for at most: `serving`; and which undecided ones of an eager tree lie in
+//!    a clear leaf of the tree, and are clear for that: `settling`.
+//!
+//! A `StillList` has spans of which each begins no earlier than the one before it ends, so that no more than one can serve a
+//! node; it is empty where they do not. That the spans are still is the affair of whoever made them: the rules of the judges
+//! are sound whatever they are. No call of a judge allocates or fails.
 #![tactic(auto)]
 
 mod beginning;
@@ -29,7 +35,9 @@ mod known;
 mod limits;
 mod nearing;
 mod quiet;
+mod served_judge;
 mod serving;
+mod serving_judge;
 mod settling;
 mod shares;
 mod span_bound;
@@ -37,9 +45,11 @@ mod standing;
 mod still_list;
 mod units;
 mod walk;
+mod worth;
 
 pub use eager_judge::EagerJudge;
 pub use limits::MAX_HALVINGS;
+pub use served_judge::ServedJudge;
 pub use shares::still_spans_by;
 pub use spec_stills::StillSpan;
 pub use still_list::StillList;

@@ -7,6 +7,7 @@ ghost use Rattle.still_spans.specs.Joined.{AreStill};
 use crate::cuts::Cuts;
 use crate::joining::{Found, join};
 use crate::still_spans;
+use crate::worth::are_worth;
 use event_judge::EventSearch;
 use spec_stills::StillSpan;
 use std::alloc::{AllocError, Global};
@@ -44,7 +45,8 @@ fn all_shares<R: Threads + Sync>(
 
 /// The still spans of a search from one time to another, as `still_spans` finds them: in order of time, each from the end of
 /// the one before it or later. So many workers look for them at once, up to 64, each in a share of the times; where there is
-/// one, it is `still_spans`. Between two shares a span of one tick may be lost.
+/// one, it is `still_spans`. Between two shares a span of one tick may be lost. There are none where none are worth looking
+/// for: where the nodes of the search are not halved, or not so far that a granule has several.
 pub fn still_spans_by<R: Threads + Sync>(
     rt: &R,
     alloc: Global,
@@ -56,6 +58,9 @@ pub fn still_spans_by<R: Threads + Sync>(
     ensures still { IfOk result (λ found. All (IsStill search.now) found.items) }
     ensures follow { IfOk result (λ found. AreInOrder from found.items) }
 {
+    if !are_worth(search, from, upto) {
+        return Ok(Vec::new(alloc));
+    }
     let cuts = Cuts::new(search.ephemeris(), from, upto, workers);
     if cuts.count == 1 {
         return still_spans(alloc, search, from, upto);

@@ -14,7 +14,6 @@ use crate::quiet::quiet_over;
 use crate::span_bound::{SpanBound, bound_between};
 use event_bounds::Bound;
 use event_judge::EventSearch;
-use gf_hooks::CutRule;
 use spec_stills::StillSpan;
 use std::alloc::{AllocError, Global};
 
@@ -101,8 +100,7 @@ fn between(
 }
 
 /// The still spans of a search from one time to another, as many as models of its function tell: in order of time, each from
-/// the end of the one before it or later. Times before the ephemeris begins and after it ends are left out. There are none
-/// where the nodes of the search are not halved.
+/// the end of the one before it or later. Times before the ephemeris begins and after it ends are left out.
 pub fn still_spans(
     alloc: Global,
     search: &EventSearch,
@@ -112,16 +110,7 @@ pub fn still_spans(
     ensures still { IfOk result (λ found. All (IsStill search.now) found.items) }
     ensures follow { IfOk result (λ found. AreInOrder from found.items) }
 {
-    match search.rule() {
-        CutRule::Third => Ok(Vec::new(alloc)),
-        CutRule::Half => {
-            let ephemeris = search.ephemeris();
-            between(
-                alloc,
-                search,
-                from.max(ephemeris.start()),
-                upto.min(ephemeris.end()),
-            )
-        }
-    }
+    let ephemeris = search.ephemeris();
+    let (first, last) = (from.max(ephemeris.start()), upto.min(ephemeris.end()));
+    between(alloc, search, first, last)
 }

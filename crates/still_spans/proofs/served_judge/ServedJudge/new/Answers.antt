@@ -1,0 +1,10 @@
+use Rattle.std.proofs.Common.{sym, ap, subst}
+use Rattle.spec_trees.specs.Tree.{IsValid, Rules}
+use Rattle.still_spans.proofs.served_judge.ServedJudge.new.Goals as goal
+
+pub invariant_of-result : goal.invariant_of-result
+invariant_of-result g c = record {
+  sound = c.served_trees_are_sound.ensures.sound c.args.search.now c.args.stills.now c.is_search.ensures;
+  valid = λ n valid. subst (λ (t : Rules). IsValid t n) (sym c.requires) valid;
+  verdicts = λ n. ap (λ (t : Rules). t.verdict n) c.requires;
+}

@@ -146,6 +146,7 @@ served_sign s n (x ∷ xs) stills served =
         let upto = ends.1 in
         record { sign = x.sign; signs = λ t begins before. still.signs t (omega (arith, ints, from, begins)) (omega (arith, ints, upto, before)) }
     by false here later = later (second (serves s x n) (is_served s xs n) here served)
+
 -- ---- both trees at a node
 module _ (s : Search) (xs : List StillSpan) (is : IsSearch s) (stills : All (IsStill s) xs) where
   -- the leaves of the served tree tell the signs of those of the tree, which are no more than these weigh

@@ -1,5 +1,5 @@
 -- What a search of a query finds, and what stops it.
-use Rattle.std.proofs.Common.{◌≡◌, ◌⊎◌, ◌∙◌, ◌<◌, ◌≤◌, ℕ, None, List, Result, Ok, Err, true, sym, ap, subst, inl, inr}
+use Rattle.std.proofs.Common.{◌≡◌, ◌⊎◌, ◌∙◌, ◌<◌, ◌≤◌, ℕ, None, List, Result, Ok, Err, true, refl, sym, ap, subst, inl, inr}
 use Rattle.std.specs.Prelude.{IfErr, IfOk, Vec}
 use Rattle.std.specs.declared.alloc.Global.{Global}
 use Rattle.spec_ephemeris.specs.Ephemeris.{Ephemeris, IsEphemeris}
@@ -9,6 +9,7 @@ use Rattle.spec_trees.specs.Tree.{Covers, Rules, leaf_count, leaves}
 use Rattle.spec_trees.specs.Windows.{windows}
 use Rattle.spec_searches.specs.Search.{Search}
 use Rattle.spec_searches.specs.Found.{root, rules}
+use Rattle.spec_stills.specs.ServedTree.{TellTheSame}
 use Rattle.spec_kinds.specs.Faults.{fault_of}
 use Rattle.spec_outcomes.specs.declared.query.Query.{Query}
 use Rattle.spec_outcomes.specs.declared.query.Span.{Span}
@@ -18,8 +19,8 @@ use Rattle.spec_outcomes.specs.Outcomes.{HasFault, IsFound, Stops}
 use Rattle.spec_outcomes.specs.Queries.{IsQuery, is_within, search}
 use Rattle.spec_outcomes.proofs.Searching.{are_found, fault_stops, few_searched, found_is, is_found, leaves_stop}
 use Rattle.gf_search.specs.declared.wanted.Wanted.{Wanted}
-use Rattle.gf_search.specs.declared.wanted.Wanted.TheVariants.{Leaves, Windows}
-use Rattle.gf_search.specs.Wanted.{AreLeaves, AreWanted, HasWindows, HaveWindows, IsWanted, StopsAt}
+use Rattle.gf_search.specs.declared.wanted.Wanted.TheVariants.{Leaves, Signs, Windows}
+use Rattle.gf_search.specs.Wanted.{AreLeaves, AreWanted, HasSigns, HasWindows, HaveSigns, HaveWindows, IsWanted, StopsAt}
 
 -- there is no judge
 pub fault_is : (most : ℕ) (q : Query) (e : Ephemeris) (span : Span) → is_within span e ≡ true → (r : Refusal) → (r ≡ Memory) ⊎ HasFault e q.ask r → Stops most q e span r
@@ -42,6 +43,18 @@ module _ (most : ℕ) (t : Rules) (s : Search) (n : Node) (same : t ≡ rules s)
   pub are_leaves : IfOk r (λ found. found.items ≡ leaves t n) → IfOk r (λ found. leaf_count t n ≤ most) → IfOk r (λ found. AreLeaves most s n found.items)
   are_leaves = both_ok (λ found. found.items ≡ leaves t n) (λ found. leaf_count t n ≤ most) (λ found. AreLeaves most s n found.items) leaves_by r
 
+  tell_signs : Covers n.a (leaves t n) n.b → (found : Vec Leaf Global) → found.items ≡ leaves t n → leaf_count t n ≤ most → HaveSigns most s n found.items
+  tell_signs cover found is few =
+      let are = leaves_by found is few in
+      record {
+        signs = subst (λ (ls : List Leaf). TellTheSame s n.a found.items ls n.b) are.same (λ t upto. refl);
+        follow = subst (λ (ls : List Leaf). Covers n.a ls n.b) (sym is) cover;
+        few = are.few;
+      }
+
+  pub have_signs : Covers n.a (leaves t n) n.b → IfOk r (λ found. found.items ≡ leaves t n) → IfOk r (λ found. leaf_count t n ≤ most) → IfOk r (λ found. HaveSigns most s n found.items)
+  have_signs cover = both_ok (λ found. found.items ≡ leaves t n) (λ found. leaf_count t n ≤ most) (λ found. HaveSigns most s n found.items) (tell_signs cover) r
+
   pub leaves_stopped_by : IfErr r (StopsAt most (leaf_count t n)) → IfErr r (StopsAt most (leaf_count (rules s) n))
   leaves_stopped_by = subst (λ (u : Rules). IfErr r (StopsAt most (leaf_count u n))) same
 
@@ -61,9 +74,19 @@ module _ (most : ℕ) (q : Query) (e : Ephemeris) (span : Span) (within : is_wit
     events = are_found q e checked block query span within sound;
   }
 
+  signs_found : (ls : List Leaf) → HaveSigns most s n ls → HasSigns most q e span ls
+  signs_found ls have = record {
+    within = within;
+    outcome = found_is most q e span within sound ∙ few_searched most (search q e) span (subst (λ (count : ℕ). count ≤ most) (λ i. leaf_count (rules (is i)) (whole i)) have.few);
+    signs = subst (λ (m : Node). TellTheSame (search q e) m.a ls (leaves (rules (search q e)) m) m.b) whole
+        (subst (λ (r : Search). TellTheSame r n.a ls (leaves (rules r) n) n.b) is have.signs);
+    follow = subst (λ (m : Node). Covers m.a ls m.b) whole have.follow;
+  }
+
   pub wanted_found : IsEphemeris e → 0 < e.blocks → IsQuery q → (w : Wanted) (ls : List Leaf) → AreWanted w most s n ls → IsWanted w most q e span ls
   wanted_found checked block query Leaves ls are = leaves_found checked block query ls are
   wanted_found checked block query Windows ls have = windows_found checked block query ls have
+  wanted_found checked block query Signs ls have = signs_found ls have
 
   pub leaves_stopped : (r : Result (Vec Leaf Global) Refusal) → IfErr r (StopsAt most (leaf_count (rules s) n)) → IfErr r (λ stop. Stops most q e span stop)
   leaves_stopped (Ok found) stops = tt

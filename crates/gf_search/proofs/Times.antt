@@ -1,4 +1,4 @@
--- The leaves of a search in a span are such as sets can be made of.
+-- Leaves that follow one another over a span of a search are such as sets can be made of.
 use Rattle.std.proofs.Common.{◌≡◌, ◌<◌, true, None, List, [], ◌∷◌, ℤ, ◌≤ℤ◌, sym, subst, arith}
 use Rattle.std.proofs.lemmas.Int.{ints}
 use Rattle.spec_ephemeris.specs.Ephemeris.{Ephemeris, IsEphemeris}
@@ -10,9 +10,9 @@ use Rattle.spec_sets.specs.Spans.{latest}
 use Rattle.spec_kinds.specs.Faults.{fault_of}
 use Rattle.spec_outcomes.specs.declared.query.Query.{Query}
 use Rattle.spec_outcomes.specs.declared.query.Span.{Span}
-use Rattle.spec_outcomes.specs.Queries.{is_within, leaves_in, search}
+use Rattle.spec_outcomes.specs.Queries.{is_within, search}
 use Rattle.spec_outcomes.specs.Sets.{IsSetQuery}
-use Rattle.spec_outcomes.proofs.SetSigns.{follow, span_late, time_is_fit}
+use Rattle.spec_outcomes.proofs.SetSigns.{span_late, time_is_fit}
 
 -- where leaves end that cover the times from one to another
 end_is : (a b : ℤ) (ls : List Leaf) → Covers a ls b → end_from a ls ≡ b
@@ -20,10 +20,7 @@ end_is a b [] c = c
 end_is a b (l ∷ ls) c = end_is l.node.b b ls c.2
 
 module _ (q : Query) (e : Ephemeris) (span : Span) (checked : IsEphemeris e) (block : 0 < e.blocks) (is : IsSetQuery q)
-    (within : is_within span e ≡ true) (sound : fault_of e q.ask ≡ None) (ls : List Leaf) (same : ls ≡ leaves_in (search q e) span) where
-  covers : Covers span.from ls span.upto
-  covers = subst (λ (vs : List Leaf). Covers span.from vs span.upto) (sym same) (follow q e span checked block is within sound)
-
+    (within : is_within span e ≡ true) (sound : fault_of e q.ask ≡ None) (ls : List Leaf) (covers : Covers span.from ls span.upto) where
   pub end_is_upto : end_from span.from ls ≡ span.upto
   end_is_upto = end_is span.from span.upto ls covers
 

@@ -1,4 +1,5 @@
--- The leaves of the tree of a search, and those of its eager tree, settled, have the windows of the tree.
+-- The leaves of the tree of a search, and those of its eager tree, settled, have the windows of the tree; those of its served
+-- tree tell its signs.
 use Rattle.std.proofs.Common.{◌≡◌, ◌≤◌, ℕ, Bool, true, false, List, [], sym, ap, ◌∙◌, subst, arith}
 use Rattle.std.proofs.lemmas.Bool.{leb-true}
 use Rattle.std.specs.Prelude.{All, if◌then◌else◌, map, nat_le}
@@ -11,10 +12,11 @@ use Rattle.spec_searches.specs.Search.{Search}
 use Rattle.spec_stills.specs.declared.still.StillSpan.{StillSpan}
 use Rattle.spec_stills.specs.Still.{IsStill}
 use Rattle.spec_stills.specs.Eager.{eager_rules}
+use Rattle.spec_stills.specs.ServedTree.{TellTheSame, served_rules}
 use Rattle.spec_stills.specs.Settled.{settled, settled_leaves}
 use Rattle.spec_stills.specs.Weights.{weights}
 use Rattle.still_spans.specs.Order.{are_in_order, in_order_or_none}
-use Rattle.gf_search.specs.Wanted.{HaveWindows}
+use Rattle.gf_search.specs.Wanted.{HaveSigns, HaveWindows}
 
 -- ---- still spans that stand in order
 kept_by : (s : Search) (xs : List StillSpan) (ordered : Bool) → All (IsStill s) xs → All (IsStill s) (if ordered then xs else [])
@@ -39,3 +41,17 @@ module _ (most : ℕ) (s : Search) (n : Node) (ls : List Leaf) where
         follow = subst (λ (vs : List Leaf). Covers n.a vs n.b) (sym all) cover;
         few = omega (arith, few, here);
       }
+
+-- ---- signs
+-- the leaves of the served tree tell the signs of the tree, where they weigh no more than so much
+pub served_tell : (most : ℕ) (s : Search) (n : Node) (ls : List Leaf) (xs : List StillSpan) → TellTheSame s n.a (leaves (served_rules s xs) n) (leaves (rules s) n) n.b
+    → Covers n.a (leaves (served_rules s xs) n) n.b → leaf_count (rules s) n ≤ weights s xs (leaves (served_rules s xs) n) → ls ≡ leaves (served_rules s xs) n
+    → nat_le (weights s xs ls) most ≡ true → HaveSigns most s n ls
+served_tell most s n ls xs same cover weighed is light =
+    let few = leb-true (weights s xs ls) most light in
+    let here = subst (λ (vs : List Leaf). leaf_count (rules s) n ≤ weights s xs vs) (sym is) weighed in
+    record {
+      signs = subst (λ (vs : List Leaf). TellTheSame s n.a vs (leaves (rules s) n) n.b) (sym is) same;
+      follow = subst (λ (vs : List Leaf). Covers n.a vs n.b) (sym is) cover;
+      few = omega (arith, few, here);
+    }

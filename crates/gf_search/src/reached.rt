@@ -1,11 +1,12 @@
 // The times at which the function of a query is at least 0, which is to say at least the reference.
-ghost use Rattle.std.specs.Prelude.{◌≡◌, ◌<◌, ◌≤◌, IfErr, IfOk, None, true};
+ghost use Rattle.std.specs.Prelude.{◌≡◌, ◌<◌, ◌≤◌, ℤ, ◌≤ℤ◌, IfErr, IfOk, None, true};
 ghost use Rattle.spec_kinds.specs.Faults.{fault_of};
 ghost use Rattle.spec_kinds.specs.Kinds.{event_of};
+ghost use Rattle.spec_trees.specs.Tree.{Covers};
 ghost use Rattle.spec_sets.specs.Pairs.{AreOf};
 ghost use Rattle.spec_requests.specs.declared.limits.TheConstants.{MAX_WORKERS};
-ghost use Rattle.spec_outcomes.specs.Queries.{is_within, leaves_in, search};
-ghost use Rattle.spec_outcomes.specs.Sets.{IsSetQuery, signs_in};
+ghost use Rattle.spec_outcomes.specs.Queries.{is_within, search};
+ghost use Rattle.spec_outcomes.specs.Sets.{IsSetQuery, signs_by, signs_in};
 ghost use Rattle.gf_search.specs.Reached.{AreReached, HasTooMany};
 
 use crate::{Crew, Wanted, leaves};
@@ -21,7 +22,7 @@ use std::alloc::{AllocError, Global};
 use std::sync::Wait;
 use std::thread::Threads;
 
-// Those of a span, by the leaves of the search for the query's event.
+// Those of a span, by leaves that tell the signs of the search for the query's event.
 fn reached_by(
     alloc: Global,
     ephemeris: &Ephemeris,
@@ -35,7 +36,10 @@ fn reached_by(
     requires within { is_within span ephemeris.now ≡ true }
     requires sound { fault_of ephemeris.now query.now.ask ≡ None }
     requires event { event.now ≡ event_of query.now.ask }
-    requires leaves { leaves.now ≡ leaves_in (search query.now ephemeris.now) span }
+    requires follow { Covers span.from leaves.now span.upto }
+    requires signs { (t : ℤ) → t ≤ℤ span.upto
+        → signs_by (search query.now ephemeris.now) span leaves.now t
+        ≡ signs_in (search query.now ephemeris.now) span t }
     ensures { IfOk result (λ pair. AreOf (signs_in (search query.now ephemeris.now) span)
         span.from span.upto pair.sure pair.maybe) }
 {
@@ -74,7 +78,7 @@ pub(crate) fn reached<R: Threads + Wait + Sync, G: Gate>(
         max_leaves: MAX_LEAVES,
         gate,
     };
-    let found = leaves(&crew, Wanted::Leaves, ephemeris, query, span)?;
+    let found = leaves(&crew, Wanted::Signs, ephemeris, query, span)?;
     let pair = reached_by(alloc, ephemeris, query, event, span, &found)?;
     Ok(pair)
 }

@@ -7,6 +7,7 @@ ghost use Rattle.gf_search.specs.Wanted.{AreLeaves, AreWanted, HaveWindows, Stop
 use crate::book::leaves_by;
 use crate::crew::Crew;
 use crate::eager::{stills_of, windowed_leaves};
+use crate::signs::tree_signs;
 use crate::wanted::Wanted;
 use event_judge::{EventSearch, Judge, Naming, RememberingJudge};
 use gf_edges::Gate;
@@ -71,6 +72,7 @@ fn wanted_leaves<R: Threads + Wait + Sync, J: Judge, G: Gate>(
     match wanted {
         Wanted::Leaves => tree_leaves(crew, judge, search, root),
         Wanted::Windows => tree_windows(crew, judge, search, root),
+        Wanted::Signs => tree_signs(crew, judge, search, root),
     }
 }
 

@@ -10,7 +10,7 @@ use Rattle.spec_sets.specs.Points.{point_of}
 use Rattle.spec_sets.specs.Signs.{Follow, end_from, sign_of_leaves}
 use Rattle.spec_sets.specs.Spans.{earliest, latest}
 use Rattle.spec_outcomes.proofs.SetSigns.{span_early}
-use Rattle.gf_search.proofs.Ends.{renamed}
+use Rattle.gf_search.proofs.Ends.{renamed, same_signs}
 use Rattle.gf_search.proofs.Times.{end_is_upto, leaves_end, leaves_follow, times_fit}
 use Rattle.gf_search.proofs.reached.reached_by.Goals as goal
 
@@ -19,7 +19,7 @@ at_least-requires-clause-follow c =
     let small : SFits w64 c.args.span.from = search rules in
     subst (λ (z : ℤ). Follow z c.args.leaves.now) (sym (to_z-of_z w64 c.args.span.from small))
     (leaves_follow c.args.query.now c.args.ephemeris.now c.args.span c.header-header.ensures.checked c.requires.block c.requires.query c.requires.within
-    c.requires.sound c.args.leaves.now c.requires.leaves)
+    c.requires.sound c.args.leaves.now c.requires.follow)
 
 pub at_least-requires-clause-early : goal.at_least-requires-clause-early
 at_least-requires-clause-early c =
@@ -32,7 +32,7 @@ at_least-requires-clause-late c =
     let small : SFits w64 c.args.span.from = search rules in
     subst (λ (z : ℤ). end_from z c.args.leaves.now ≤ℤ latest) (sym (to_z-of_z w64 c.args.span.from small))
     (leaves_end c.args.query.now c.args.ephemeris.now c.args.span c.header-header.ensures.checked c.requires.block c.requires.query c.requires.within
-    c.requires.sound c.args.leaves.now c.requires.leaves)
+    c.requires.sound c.args.leaves.now c.requires.follow)
 
 pub at_least-requires-clause-fits : goal.at_least-requires-clause-fits
 at_least-requires-clause-fits c = λ t after before.
@@ -40,7 +40,7 @@ at_least-requires-clause-fits c = λ t after before.
     let from = to_z-of_z w64 c.args.span.from small in
     subst (λ (v : View). Fits v t t) (sym c.states-states.ensures)
     (times_fit c.args.query.now c.args.ephemeris.now c.args.span c.header-header.ensures.checked c.requires.block c.requires.query c.requires.within
-    c.requires.sound c.args.leaves.now c.requires.leaves t (subst (λ (z : ℤ). z ≤ℤ t) from after)
+    c.requires.sound c.args.leaves.now c.requires.follow t (subst (λ (z : ℤ). z ≤ℤ t) from after)
     (subst (λ (z : ℤ). t ≤ℤ end_from z c.args.leaves.now) from before))
 
 pub returns : goal.returns
@@ -50,9 +50,10 @@ returns c =
     let function = c.function.ensures.function ∙ ap (λ (event : Event). event.function) c.requires.event in
     let upto = ap (λ (z : ℤ). end_from z c.args.leaves.now) from
     ∙ end_is_upto c.args.query.now c.args.ephemeris.now c.args.span c.header-header.ensures.checked c.requires.block c.requires.query c.requires.within
-    c.requires.sound c.args.leaves.now c.requires.leaves in
+    c.requires.sound c.args.leaves.now c.requires.follow in
     IfOk-weaker c.at_least.result _ _
-    (λ pair are. renamed _ _ _ c.args.span.from c.args.span.upto pair.sure pair.maybe from upto
+    (λ pair are. same_signs _ _ c.args.span.from c.args.span.upto pair.sure pair.maybe c.requires.signs
+    (renamed _ _ _ c.args.span.from c.args.span.upto pair.sure pair.maybe from upto
     (subst (λ (sign : ℤ → Sign). AreOf sign (to_z w64 (of_z w64 c.args.span.from)) (end_from (to_z w64 (of_z w64 c.args.span.from)) c.args.leaves.now) pair.sure pair.maybe)
-    (λ i. sign_of_leaves (point_of (state_enclosure (c.states-states.ensures i)) (function i)) (from i) (c.requires.leaves i)) are))
+    (λ i. sign_of_leaves (point_of (state_enclosure (c.states-states.ensures i)) (function i)) (from i) c.args.leaves.now) are)))
     c.at_least.ensures.signs

@@ -11,3 +11,7 @@ returns-in-Leaves-clause-found g c =
 pub returns-in-Windows-clause-found : goal.returns-in-Windows-clause-found
 returns-in-Windows-clause-found g c =
     subst (λ (w : Wanted). IfOk c.tree_windows.result (λ found. AreWanted w c.args.crew.now.max_leaves c.args.search.now c.args.root found.items)) (sym c.in-Windows.is) c.tree_windows.ensures.windows
+
+pub returns-in-Signs-clause-found : goal.returns-in-Signs-clause-found
+returns-in-Signs-clause-found g c =
+    subst (λ (w : Wanted). IfOk c.tree_signs.result (λ found. AreWanted w c.args.crew.now.max_leaves c.args.search.now c.args.root found.items)) (sym c.in-Signs.is) c.tree_signs.ensures.signs

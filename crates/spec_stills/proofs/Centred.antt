@@ -1,4 +1,4 @@
--- The values that can be reached from the middle keep a quarter of the margin, where the steps fit it.
+-- The values that can be reached from the middle keep a 256th of the margin, where the steps fit it.
 use Rattle.std.proofs.Common.{◌≡◌, ℕ, ◌+◌, ◌*◌, ◌^◌, max, ◌≤◌, arith, sym, subst, [], ◌∷◌, ℤ, pos, neg_ℤ, ◌+ℤ◌, ◌-ℤ◌, ◌*ℤ◌, ◌≤ℤ◌, ◌<ℤ◌, unsigned_abs}
 use Rattle.std.proofs.lemmas.Int.{ints}
 use Rattle.std.proofs.lemmas.Nat.{pow_pos}
@@ -17,7 +17,7 @@ use Rattle.spec_models.proofs.ProductRoundings.{product_corner_over, product_cor
 use Rattle.spec_models.proofs.SumRoundings.{sum_over, sum_under}
 use Rattle.spec_stills.specs.Margins.{multiple, opposite}
 use Rattle.spec_stills.proofs.Fractions.{multiple_no_more, opposite_no_more, sub_no_more}
-use Rattle.spec_stills.proofs.Shares.{add_is_fraction, both_shares, half_and_little, left_above, left_below, share, share_is_fraction}
+use Rattle.spec_stills.proofs.Shares.{add_is_fraction, both_shares, steps_and_little, left_above, left_below, most_of, share, share_is_fraction}
 use Rattle.spec_stills.proofs.Sizes.{high_no_more, size_no_less, size_within, units_are_fraction}
 
 -- ---- a product of ends is no greater in size than that of the sizes
@@ -102,47 +102,44 @@ module _ (x y : Interval) where
 
 -- ---- the sum of a mid, and of what the steps add to it
 module _ (mid step times : Interval) (g : Fraction) (positive : pos 0 <ℤ g.numerator) (is_fraction : IsFraction g)
-    (mid_limited : NoMore (size mid) (share (2 ^ 52) 1 g)) (changes : NoMore (sizes step times) (share 1 2 g)) where
+    (mid_limited : NoMore (size mid) (share (2 ^ 52) 1 g)) (changes : NoMore (sizes step times) (share 31 32 g)) where
   abbrev added : Interval
   added = product step times
 
-  abbrev five_eighths : Fraction
-  five_eighths = share 5 8 g
+  steps_are_fraction : IsFraction (share 31 32 g)
+  steps_are_fraction = share_is_fraction 31 32 g (omega arith) is_fraction
 
-  half_is_fraction : IsFraction (share 1 2 g)
-  half_is_fraction = share_is_fraction 1 2 g (omega arith) is_fraction
+  most_is_fraction : IsFraction (most_of g)
+  most_is_fraction = share_is_fraction 125 128 g (omega arith) is_fraction
 
-  five_is_fraction : IsFraction five_eighths
-  five_is_fraction = share_is_fraction 5 8 g (omega arith) is_fraction
-
-  added_size : NoMore (size added) five_eighths
+  added_size : NoMore (size added) (most_of g)
   added_size =
-      no_more_trans (size added) (fraction_add (sizes step times) (slight (sizes step times))) five_eighths
+      no_more_trans (size added) (fraction_add (sizes step times) (slight (sizes step times))) (most_of g)
       (add_is_fraction (sizes step times) (slight (sizes step times)) (sizes_are_fraction step times)
       (slight_is_fraction (sizes step times) (sizes_are_fraction step times)))
       (product_size step times)
       (no_more_trans (fraction_add (sizes step times) (slight (sizes step times)))
-      (fraction_add (share 1 2 g) (slight (share 1 2 g))) five_eighths
-      (add_is_fraction (share 1 2 g) (slight (share 1 2 g)) half_is_fraction
-      (slight_is_fraction (share 1 2 g) half_is_fraction))
-      (add_no_more (sizes step times) (share 1 2 g) (slight (sizes step times)) (slight (share 1 2 g)) changes
-      (slight_no_more (sizes step times) (share 1 2 g) changes))
-      (half_and_little g positive))
+      (fraction_add (share 31 32 g) (slight (share 31 32 g))) (most_of g)
+      (add_is_fraction (share 31 32 g) (slight (share 31 32 g)) steps_are_fraction
+      (slight_is_fraction (share 31 32 g) steps_are_fraction))
+      (add_no_more (sizes step times) (share 31 32 g) (slight (sizes step times)) (slight (share 31 32 g)) changes
+      (slight_no_more (sizes step times) (share 31 32 g) changes))
+      (steps_and_little g positive))
 
-  added_high : NoMore (high added) five_eighths
-  added_high = no_more_trans (high added) (size added) five_eighths
+  added_high : NoMore (high added) (most_of g)
+  added_high = no_more_trans (high added) (size added) (most_of g)
       (units_are_fraction (pos (greatest_end added)) added.s) (high_no_more added) added_size
 
-  added_low : NoMore (opposite five_eighths) (low added)
+  added_low : NoMore (opposite (most_of g)) (low added)
   added_low =
-      no_more_trans (opposite five_eighths) (opposite (size added)) (low added)
+      no_more_trans (opposite (most_of g)) (opposite (size added)) (low added)
       (units_are_fraction (pos (greatest_end added)) added.s)
-      (opposite_no_more (size added) five_eighths added_size) (size_no_less added)
+      (opposite_no_more (size added) (most_of g) added_size) (size_no_less added)
 
   lost : NoMore (slight (fraction_add (size mid) (size added))) (slight (both_shares g))
   lost =
       slight_no_more (fraction_add (size mid) (size added)) (both_shares g)
-      (add_no_more (size mid) (share (2 ^ 52) 1 g) (size added) five_eighths mid_limited added_size)
+      (add_no_more (size mid) (share (2 ^ 52) 1 g) (size added) (most_of g) mid_limited added_size)
 
   lost_is_fraction : IsFraction (slight (fraction_add (size mid) (size added)))
   lost_is_fraction =
@@ -153,72 +150,72 @@ module _ (mid step times : Interval) (g : Fraction) (positive : pos 0 <ℤ g.num
   shares_are_fraction : IsFraction (slight (both_shares g))
   shares_are_fraction =
       slight_is_fraction (both_shares g)
-      (add_is_fraction (share (2 ^ 52) 1 g) five_eighths (share_is_fraction (2 ^ 52) 1 g (omega arith) is_fraction)
-      five_is_fraction)
+      (add_is_fraction (share (2 ^ 52) 1 g) (most_of g) (share_is_fraction (2 ^ 52) 1 g (omega arith) is_fraction)
+      most_is_fraction)
 
-  pub centred_below : NoMore (high mid) (opposite g) → NoMore (high (sum mid added)) (opposite (share 1 4 g))
+  pub centred_below : NoMore (high mid) (opposite g) → NoMore (high (sum mid added)) (opposite (share 1 256 g))
   centred_below below =
       no_more_trans (high (sum mid added)) (fraction_add (fraction_add (high mid) (high added))
       (slight (fraction_add (size mid) (size added))))
-      (opposite (share 1 4 g))
+      (opposite (share 1 256 g))
       (add_is_fraction (fraction_add (high mid) (high added)) (slight (fraction_add (size mid) (size added)))
       (add_is_fraction (high mid) (high added) (units_are_fraction mid.hi mid.s) (units_are_fraction added.hi added.s))
       lost_is_fraction)
       (sum_over mid added).near
       (no_more_trans (fraction_add (fraction_add (high mid) (high added)) (slight (fraction_add (size mid) (size added))))
-      (fraction_add (fraction_add (opposite g) five_eighths) (slight (both_shares g))) (opposite (share 1 4 g))
-      (add_is_fraction (fraction_add (opposite g) five_eighths) (slight (both_shares g))
-      (add_is_fraction (opposite g) five_eighths is_fraction five_is_fraction)
+      (fraction_add (fraction_add (opposite g) (most_of g)) (slight (both_shares g))) (opposite (share 1 256 g))
+      (add_is_fraction (fraction_add (opposite g) (most_of g)) (slight (both_shares g))
+      (add_is_fraction (opposite g) (most_of g) is_fraction most_is_fraction)
       shares_are_fraction)
-      (add_no_more (fraction_add (high mid) (high added)) (fraction_add (opposite g) five_eighths)
+      (add_no_more (fraction_add (high mid) (high added)) (fraction_add (opposite g) (most_of g))
       (slight (fraction_add (size mid) (size added)))
       (slight (both_shares g))
-      (add_no_more (high mid) (opposite g) (high added) five_eighths below added_high) lost)
+      (add_no_more (high mid) (opposite g) (high added) (most_of g) below added_high) lost)
       (left_below g positive))
 
-  pub centred_above : NoMore g (low mid) → NoMore (share 1 4 g) (low (sum mid added))
+  pub centred_above : NoMore g (low mid) → NoMore (share 1 256 g) (low (sum mid added))
   centred_above above =
-      no_more_trans (share 1 4 g) (fraction_sub (fraction_add (low mid) (low added))
+      no_more_trans (share 1 256 g) (fraction_sub (fraction_add (low mid) (low added))
       (slight (fraction_add (size mid) (size added))))
       (low (sum mid added))
       (add_is_fraction (fraction_add (low mid) (low added)) (slight (fraction_add (size mid) (size added)))
       (add_is_fraction (low mid) (low added) (units_are_fraction mid.lo mid.s) (units_are_fraction added.lo added.s))
       lost_is_fraction)
-      (no_more_trans (share 1 4 g) (fraction_sub (fraction_add g (opposite five_eighths)) (slight (both_shares g)))
+      (no_more_trans (share 1 256 g) (fraction_sub (fraction_add g (opposite (most_of g))) (slight (both_shares g)))
       (fraction_sub (fraction_add (low mid) (low added)) (slight (fraction_add (size mid) (size added))))
-      (add_is_fraction (fraction_add g (opposite five_eighths)) (slight (both_shares g))
-      (add_is_fraction g (opposite five_eighths) is_fraction five_is_fraction)
+      (add_is_fraction (fraction_add g (opposite (most_of g))) (slight (both_shares g))
+      (add_is_fraction g (opposite (most_of g)) is_fraction most_is_fraction)
       shares_are_fraction)
       (left_above g positive)
-      (sub_no_more (fraction_add g (opposite five_eighths)) (fraction_add (low mid) (low added)) (slight (both_shares g))
+      (sub_no_more (fraction_add g (opposite (most_of g))) (fraction_add (low mid) (low added)) (slight (both_shares g))
       (slight (fraction_add (size mid) (size added)))
-      (add_no_more g (low mid) (opposite five_eighths) (low added) above added_low) lost))
+      (add_no_more g (low mid) (opposite (most_of g)) (low added) above added_low) lost))
       (sum_under mid added).near
 
 -- ---- steps that fit
--- twice the times from the middle of a span to an end are at most its width and one more
-offsets_limited : (a b : ℤ) (q : ℕ) → a ≤ℤ b → unsigned_abs (b -ℤ a) ≤ q → 2 * greatest_end (offsets a b) ≤ q + 2
+-- twice the times from the middle of a span to an end are at most one more than its width
+offsets_limited : (a b : ℤ) (q : ℕ) → a ≤ℤ b → unsigned_abs (b -ℤ a) ≤ q → 2 * greatest_end (offsets a b) ≤ q + 1
 offsets_limited a b q o w =
     let e = floor_div-le (a +ℤ b) 2 (omega arith) in
     let f = floor_div-lt (a +ℤ b) 2 (omega arith) in
     halves (middle a b) e f
   where
     halves : (m : ℤ) → (m *ℤ pos 2) ≤ℤ (a +ℤ b) → (a +ℤ b) <ℤ (m *ℤ pos 2 +ℤ pos 2)
-        → 2 * max (unsigned_abs (a -ℤ m)) (unsigned_abs (b -ℤ m)) ≤ q + 2
+        → 2 * max (unsigned_abs (a -ℤ m)) (unsigned_abs (b -ℤ m)) ≤ q + 1
     halves m e f = omega (arith, ints)
 
 pub changes_fit : (y step : Interval) (a b : ℤ) (q : ℕ) (g : Fraction) → a ≤ℤ b → unsigned_abs (b -ℤ a) ≤ q
-    → NoMore (size step) (size y) → NoMore (multiple (q + 2) (size y)) g → NoMore (sizes step (offsets a b)) (share 1 2 g)
+    → NoMore (size step) (size y) → NoMore (multiple (16 * (q + 1)) (size y)) (multiple 31 g) → NoMore (sizes step (offsets a b)) (share 31 32 g)
 changes_fit y step a b q g o w less fit =
-    let most = no_more_trans (multiple (q + 2) (size step)) (multiple (q + 2) (size y)) g
+    let most = no_more_trans (multiple (16 * (q + 1)) (size step)) (multiple (16 * (q + 1)) (size y)) (multiple 31 g)
     (units_are_fraction (pos (greatest_end y)) y.s)
-    (multiple_no_more (q + 2) (size step) (size y) less) fit in
+    (multiple_no_more (16 * (q + 1)) (size step) (size y) less) fit in
     let m = offsets_limited a b q o w in
-    let l = le-mul (pos (2 * greatest_end (offsets a b))) (pos (q + 2))
+    let l = le-mul (pos (32 * greatest_end (offsets a b))) (pos (16 * (q + 1)))
     (pos (greatest_end step * 2 ^ up step.s * g.denominator)) (omega (arith, lin)) (omega (arith, lin)) in
     let e = ring (pos (greatest_end step) ∷ pos (2 ^ up step.s) ∷ pos (greatest_end (offsets a b)) ∷ pos g.denominator ∷ [])
-    (lit (pos 2) ⊗ v 2 ⊗ (v 0 ⊗ v 1 ⊗ v 3)) (v 0 ⊗ v 1 ⊗ (v 2 ⊗ lit (pos 1)) ⊗ (v 3 ⊗ lit (pos 2))) tt in
-    let f = ring (pos (greatest_end step) ∷ pos (2 ^ up step.s) ∷ pos (q + 2) ∷ pos g.denominator ∷ [])
+    (lit (pos 32) ⊗ v 2 ⊗ (v 0 ⊗ v 1 ⊗ v 3)) (v 0 ⊗ v 1 ⊗ (v 2 ⊗ lit (pos 1)) ⊗ (v 3 ⊗ lit (pos 32))) tt in
+    let f = ring (pos (greatest_end step) ∷ pos (2 ^ up step.s) ∷ pos (16 * (q + 1)) ∷ pos g.denominator ∷ [])
     (v 2 ⊗ (v 0 ⊗ v 1 ⊗ v 3)) (v 0 ⊗ v 1 ⊗ v 2 ⊗ v 3) tt in
-    let h = ring (g.numerator ∷ pos (2 ^ down step.s) ∷ []) (v 0 ⊗ lit (pos 1) ⊗ (v 1 ⊗ lit (pos 1))) (v 0 ⊗ v 1) tt in
+    let h = ring (g.numerator ∷ pos (2 ^ down step.s) ∷ []) (v 0 ⊗ lit (pos 31) ⊗ (v 1 ⊗ lit (pos 1))) (v 0 ⊗ lit (pos 31) ⊗ v 1) tt in
     omega (arith, lin)

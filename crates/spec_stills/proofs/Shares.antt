@@ -12,9 +12,13 @@ use Rattle.spec_stills.specs.Margins.{opposite}
 abbrev pub share : ℕ → ℕ → Fraction → Fraction
 share k m g = fraction (g.numerator *ℤ pos k) (g.denominator * m)
 
+-- what steps that fit add, with what rounding adds to it
+abbrev pub most_of : Fraction → Fraction
+most_of g = share 125 128 g
+
 -- what rounding a sum of two sizes may lose
 abbrev pub both_shares : Fraction → Fraction
-both_shares g = fraction_add (share (2 ^ 52) 1 g) (share 5 8 g)
+both_shares g = fraction_add (share (2 ^ 52) 1 g) (most_of g)
 
 module _ (g : Fraction) (positive : pos 0 <ℤ g.numerator) where
   scaled_positive : (k : ℕ) → pos 0 ≤ℤ (g.numerator *ℤ pos k)
@@ -23,55 +27,55 @@ module _ (g : Fraction) (positive : pos 0 <ℤ g.numerator) where
       let e = ring (pos k ∷ []) (lit (pos 0) ⊗ v 0) (lit (pos 0)) tt in
       omega (arith, lin)
 
-  -- a half and a little of it are at most five eighths
-  pub half_and_little : NoMore (fraction_add (share 1 2 g) (slight (share 1 2 g))) (share 5 8 g)
-  half_and_little =
+  -- 31/32 and a little of it are at most 125/128
+  pub steps_and_little : NoMore (fraction_add (share 31 32 g) (slight (share 31 32 g))) (most_of g)
+  steps_and_little =
       let n = v 0 in
       let d = v 1 in
-      let half = n ⊗ lit (pos 1) in
-      let under = d ⊗ lit (pos 2) in
+      let steps = n ⊗ lit (pos 31) in
+      let under = d ⊗ lit (pos 32) in
       let little = under ⊗ lit (pos (2 ^ 58)) in
-      le_by _ _ (g.numerator *ℤ pos (g.denominator * g.denominator * (4 * 2 ^ 58 - 16)))
+      le_by _ _ (g.numerator *ℤ pos (g.denominator * g.denominator * (1024 * 2 ^ 58 - 126976)))
       (ring (g.numerator ∷ pos g.denominator ∷ [])
-      (n ⊗ lit (pos 5) ⊗ (under ⊗ little) ⊖ (half ⊗ little ⊕ half ⊗ under) ⊗ (d ⊗ lit (pos 8)))
-      (n ⊗ (d ⊗ d ⊗ lit (pos (4 * 2 ^ 58 - 16)))) tt)
-      (scaled_positive (g.denominator * g.denominator * (4 * 2 ^ 58 - 16)))
+      (n ⊗ lit (pos 125) ⊗ (under ⊗ little) ⊖ (steps ⊗ little ⊕ steps ⊗ under) ⊗ (d ⊗ lit (pos 128)))
+      (n ⊗ (d ⊗ d ⊗ lit (pos (1024 * 2 ^ 58 - 126976)))) tt)
+      (scaled_positive (g.denominator * g.denominator * (1024 * 2 ^ 58 - 126976)))
 
-  -- what is left of the whole below 0, and above it: a quarter at least
-  pub left_below : NoMore (fraction_add (fraction_add (opposite g) (share 5 8 g)) (slight (both_shares g)))
-      (opposite (share 1 4 g))
+  -- what is left of the whole below 0, and above it: a 256th at least
+  pub left_below : NoMore (fraction_add (fraction_add (opposite g) (most_of g)) (slight (both_shares g)))
+      (opposite (share 1 256 g))
   left_below =
       let n = v 0 in
       let d = v 1 in
-      let eight = d ⊗ lit (pos 8) in
+      let under = d ⊗ lit (pos 128) in
       let one = d ⊗ lit (pos 1) in
-      let four = d ⊗ lit (pos 4) in
-      let most = minus n ⊗ eight ⊕ n ⊗ lit (pos 5) ⊗ d in
-      let lost = n ⊗ lit (pos (2 ^ 52)) ⊗ eight ⊕ n ⊗ lit (pos 5) ⊗ one in
-      let little = one ⊗ eight ⊗ lit (pos (2 ^ 58)) in
+      let rest = d ⊗ lit (pos 256) in
+      let most = minus n ⊗ under ⊕ n ⊗ lit (pos 125) ⊗ d in
+      let lost = n ⊗ lit (pos (2 ^ 52)) ⊗ under ⊕ n ⊗ lit (pos 125) ⊗ one in
+      let little = one ⊗ under ⊗ lit (pos (2 ^ 58)) in
       le_by _ _
-      (g.numerator *ℤ pos (g.denominator * g.denominator * (g.denominator * g.denominator) * (32 * 2 ^ 58 - 32 * 2 ^ 55 - 160)))
+      (g.numerator *ℤ pos (g.denominator * g.denominator * (g.denominator * g.denominator) * (16384 * 2 ^ 58 - 4096000)))
       (ring (g.numerator ∷ pos g.denominator ∷ [])
-      (minus (n ⊗ lit (pos 1)) ⊗ (d ⊗ eight ⊗ little) ⊖ (most ⊗ little ⊕ lost ⊗ (d ⊗ eight)) ⊗ four)
-      (n ⊗ (d ⊗ d ⊗ (d ⊗ d) ⊗ lit (pos (32 * 2 ^ 58 - 32 * 2 ^ 55 - 160)))) tt)
-      (scaled_positive (g.denominator * g.denominator * (g.denominator * g.denominator) * (32 * 2 ^ 58 - 32 * 2 ^ 55 - 160)))
+      (minus (n ⊗ lit (pos 1)) ⊗ (d ⊗ under ⊗ little) ⊖ (most ⊗ little ⊕ lost ⊗ (d ⊗ under)) ⊗ rest)
+      (n ⊗ (d ⊗ d ⊗ (d ⊗ d) ⊗ lit (pos (16384 * 2 ^ 58 - 4096000)))) tt)
+      (scaled_positive (g.denominator * g.denominator * (g.denominator * g.denominator) * (16384 * 2 ^ 58 - 4096000)))
 
-  pub left_above : NoMore (share 1 4 g) (fraction_sub (fraction_add g (opposite (share 5 8 g))) (slight (both_shares g)))
+  pub left_above : NoMore (share 1 256 g) (fraction_sub (fraction_add g (opposite (most_of g))) (slight (both_shares g)))
   left_above =
       let n = v 0 in
       let d = v 1 in
-      let eight = d ⊗ lit (pos 8) in
+      let under = d ⊗ lit (pos 128) in
       let one = d ⊗ lit (pos 1) in
-      let four = d ⊗ lit (pos 4) in
-      let most = n ⊗ eight ⊕ minus (n ⊗ lit (pos 5)) ⊗ d in
-      let lost = n ⊗ lit (pos (2 ^ 52)) ⊗ eight ⊕ n ⊗ lit (pos 5) ⊗ one in
-      let little = one ⊗ eight ⊗ lit (pos (2 ^ 58)) in
+      let rest = d ⊗ lit (pos 256) in
+      let most = n ⊗ under ⊕ minus (n ⊗ lit (pos 125)) ⊗ d in
+      let lost = n ⊗ lit (pos (2 ^ 52)) ⊗ under ⊕ n ⊗ lit (pos 125) ⊗ one in
+      let little = one ⊗ under ⊗ lit (pos (2 ^ 58)) in
       le_by _ _
-      (g.numerator *ℤ pos (g.denominator * g.denominator * (g.denominator * g.denominator) * (32 * 2 ^ 58 - 32 * 2 ^ 55 - 160)))
+      (g.numerator *ℤ pos (g.denominator * g.denominator * (g.denominator * g.denominator) * (16384 * 2 ^ 58 - 4096000)))
       (ring (g.numerator ∷ pos g.denominator ∷ [])
-      ((most ⊗ little ⊖ lost ⊗ (d ⊗ eight)) ⊗ four ⊖ n ⊗ lit (pos 1) ⊗ (d ⊗ eight ⊗ little))
-      (n ⊗ (d ⊗ d ⊗ (d ⊗ d) ⊗ lit (pos (32 * 2 ^ 58 - 32 * 2 ^ 55 - 160)))) tt)
-      (scaled_positive (g.denominator * g.denominator * (g.denominator * g.denominator) * (32 * 2 ^ 58 - 32 * 2 ^ 55 - 160)))
+      ((most ⊗ little ⊖ lost ⊗ (d ⊗ under)) ⊗ rest ⊖ n ⊗ lit (pos 1) ⊗ (d ⊗ under ⊗ little))
+      (n ⊗ (d ⊗ d ⊗ (d ⊗ d) ⊗ lit (pos (16384 * 2 ^ 58 - 4096000)))) tt)
+      (scaled_positive (g.denominator * g.denominator * (g.denominator * g.denominator) * (16384 * 2 ^ 58 - 4096000)))
 
 -- ---- sums are fractions
 pub add_is_fraction : (a b : Fraction) → IsFraction a → IsFraction b → IsFraction (fraction_add a b)

@@ -72,13 +72,13 @@ module _ (g : Fraction) (positive : pos 0 <ℤ g.numerator) (is_fraction : IsFra
   high_below : (x : Interval) → NoMore (high x) (opposite g) → x.hi <ℤ pos 0
   high_below x h = below_zero x.hi g.numerator (2 ^ up x.s) g.denominator (2 ^ down x.s) positive (pow_pos (down x.s)) h
 
-  -- ---- what is shared with an interval that is a quarter of the margin below 0, in units of at most a 2^10th of it
-  module _ (c x : Interval) (below : NoMore (high c) (opposite (share 1 4 g)))
+  -- ---- what is shared with an interval that is a 256th of the margin below 0, in units of at most a 2^10th of it
+  module _ (c x : Interval) (below : NoMore (high c) (opposite (share 1 256 g)))
       (fine : NoMore (in_units (pos 1) x.s) (share 1 1024 g))
       (near : IsRoundedUp c x) where
-    at_base : NoMore (in_units (c.hi *ℤ pos (2 ^ near.lift_of)) near.base) (opposite (share 1 4 g))
+    at_base : NoMore (in_units (c.hi *ℤ pos (2 ^ near.lift_of)) near.base) (opposite (share 1 256 g))
     at_base =
-        no_more_trans (in_units (c.hi *ℤ pos (2 ^ near.lift_of)) near.base) (high c) (opposite (share 1 4 g))
+        no_more_trans (in_units (c.hi *ℤ pos (2 ^ near.lift_of)) near.base) (high c) (opposite (share 1 256 g))
         (units_are_fraction c.hi c.s)
         (fine_no_more c.hi (c.hi *ℤ pos (2 ^ near.lift_of)) near.base c.s near.lift_of near.from (omega (arith, lin))) below
 
@@ -95,18 +95,18 @@ module _ (g : Fraction) (positive : pos 0 <ℤ g.numerator) (is_fraction : IsFra
         at_base unit_at_base
       where
         negative : (z w : ℤ) (j u d : ℕ) → 0 < u → (z *ℤ pos j) <ℤ (w +ℤ pos j)
-            → (w *ℤ pos u *ℤ pos (g.denominator * 4)) ≤ℤ (neg_ℤ (g.numerator *ℤ pos 1) *ℤ pos d)
+            → (w *ℤ pos u *ℤ pos (g.denominator * 256)) ≤ℤ (neg_ℤ (g.numerator *ℤ pos 1) *ℤ pos d)
             → (pos 1 *ℤ pos j *ℤ pos u *ℤ pos (g.denominator * 1024)) ≤ℤ (g.numerator *ℤ pos 1 *ℤ pos d) → z <ℤ pos 0
         negative z w j u d p l a b =
-            let e = ring (w ∷ pos j ∷ pos u ∷ pos g.denominator ∷ []) ((v 0 ⊕ v 1) ⊗ (v 2 ⊗ (v 3 ⊗ lit (pos 4))))
-            (v 0 ⊗ v 2 ⊗ (v 3 ⊗ lit (pos 4)) ⊕ v 3 ⊗ lit (pos 4) ⊗ (v 1 ⊗ v 2)) tt in
+            let e = ring (w ∷ pos j ∷ pos u ∷ pos g.denominator ∷ []) ((v 0 ⊕ v 1) ⊗ (v 2 ⊗ (v 3 ⊗ lit (pos 256))))
+            (v 0 ⊗ v 2 ⊗ (v 3 ⊗ lit (pos 256)) ⊕ v 3 ⊗ lit (pos 256) ⊗ (v 1 ⊗ v 2)) tt in
             let f = ring (pos j ∷ pos u ∷ pos g.denominator ∷ []) (lit (pos 1) ⊗ v 0 ⊗ v 1 ⊗ (v 2 ⊗ lit (pos 1024)))
             (v 2 ⊗ lit (pos 1024) ⊗ (v 0 ⊗ v 1)) tt in
-            let h = le-mul (pos (g.denominator * 4)) (pos (g.denominator * 1024)) (pos (j * u)) (omega (arith, lin))
+            let h = le-mul (pos (g.denominator * 256)) (pos (g.denominator * 1024)) (pos (j * u)) (omega (arith, lin))
             (omega (arith, lin)) in
             let i = ring (g.numerator ∷ pos d ∷ []) (minus (v 0 ⊗ lit (pos 1)) ⊗ v 1) (minus (v 0 ⊗ lit (pos 1) ⊗ v 1)) tt in
-            let k = ring (pos (u * (g.denominator * 4)) ∷ []) (lit (pos 0) ⊗ v 0) (lit (pos 0)) tt in
-            let m = le-mul_cancel (w +ℤ pos j) (pos 0) (u * (g.denominator * 4))
+            let k = ring (pos (u * (g.denominator * 256)) ∷ []) (lit (pos 0) ⊗ v 0) (lit (pos 0)) tt in
+            let m = le-mul_cancel (w +ℤ pos j) (pos 0) (u * (g.denominator * 256))
             (mul-pos p (mul-pos is_fraction (omega arith))) (omega (arith, lin)) in
             let n = ring (pos j ∷ []) (lit (pos 0) ⊗ v 0) (lit (pos 0)) tt in
             lt-mul_cancel z (pos 0) j (omega (arith, lin))
@@ -176,7 +176,7 @@ module _ (s : Search) (a b c d : ℤ) (g : Fraction) (is : IsSearch s) (fits : F
           (units_are_fraction (pos end_limit) over_span.range.s) (limited_size _ over_span.range within.range)
           (many_units over_span.range.s g fit.unit))
 
-      changes : NoMore (sizes over_node.step (offsets n.a n.b)) (share 1 2 g)
+      changes : NoMore (sizes over_node.step (offsets n.a n.b)) (share 31 32 g)
       changes =
           changes_fit over_span.step over_node.step n.a n.b q g node_ordered narrow
           (included_size over_span.step over_node.step in_order.step part.included.step) fit.steps
@@ -201,13 +201,13 @@ module _ (s : Search) (a b c d : ℤ) (g : Fraction) (is : IsSearch s) (fits : F
       known_above above =
           let c = centred_above over_node.mid over_node.step (offsets n.a n.b) g margin.positive margin.is_fraction
           mid_limited changes above in
-          ap is_known (sign_above over_node.range (rw shares (shared_low made.plain reached (quarter_above reached c))))
+          ap is_known (sign_above over_node.range (rw shares (shared_low made.plain reached (rest_above reached c))))
         where
-          quarter_above : (x : Interval) → NoMore (share 1 4 g) (low x) → pos 0 ≤ℤ x.lo
-          quarter_above x h =
+          rest_above : (x : Interval) → NoMore (share 1 256 g) (low x) → pos 0 ≤ℤ x.lo
+          rest_above x h =
               let p = margin.positive in
               let e = ring (g.numerator ∷ []) (v 0 ⊗ lit (pos 1)) (v 0) tt in
-              low_above (share 1 4 g) (omega (arith, lin)) (mul-pos margin.is_fraction (omega arith)) x h
+              low_above (share 1 256 g) (omega (arith, lin)) (mul-pos margin.is_fraction (omega arith)) x h
 
       known_below : NoMore (high over_node.mid) (opposite g) → is_known (sign_of over_node.range) ≡ true
       known_below below =
@@ -223,7 +223,7 @@ module _ (s : Search) (a b c d : ℤ) (g : Fraction) (is : IsSearch s) (fits : F
               (high_below g margin.positive margin.is_fraction over_node.mid below)
               (part.enclosed.range (middle n.a n.b) between.0 between.1) zero
 
-          by : NoMore (high reached) (opposite (share 1 4 g)) → Includes over_span.range over_node.range
+          by : NoMore (high reached) (opposite (share 1 256 g)) → Includes over_span.range over_node.range
               → IsKeptUp reached over_node.range
               → is_known (sign_of over_node.range) ≡ true
           by c i (inl zero) = absurd (not_zero zero)

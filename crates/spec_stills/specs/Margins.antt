@@ -1,6 +1,6 @@
 -- Margins: how far the function of a search keeps from 0 at each time of a span, and when its steps are too small to use that
 -- up within a node.
-use Rattle.std.specs.Prelude.{◌≡◌, true, ◌⊎◌, ℕ, ◌+◌, ℤ, pos, neg_ℤ, ◌*ℤ◌, ◌≤ℤ◌, ◌<ℤ◌}
+use Rattle.std.specs.Prelude.{◌≡◌, true, ◌⊎◌, ℕ, ◌+◌, ◌*◌, ℤ, pos, neg_ℤ, ◌*ℤ◌, ◌≤ℤ◌, ◌<ℤ◌}
 use Rattle.spec_intervals.specs.Fraction.{Fraction, IsFraction, fraction}
 use Rattle.spec_intervals.specs.Interval.{Interval}
 use Rattle.spec_events.specs.Verdict.{is_one_way}
@@ -33,10 +33,10 @@ pub record HasMargin (s : Search) (a b : ℤ) (g : Fraction) : Type 0 where
 abbrev pub multiple : ℕ → Fraction → Fraction
 multiple n r = fraction (r.numerator *ℤ pos n) r.denominator
 
--- over nodes of at most q units, twice what the steps add from the middle to an end is at most g; and the unit of the range is
--- at most a 2^10th of g
+-- over nodes of at most q units, what the steps add from the middle to an end is at most 31/32 of g; and the unit of the range
+-- is at most a 2^10th of g
 pub record StepsFit (p : Bound) (q : ℕ) (g : Fraction) : Type 0 where
-  pub steps : NoMore (multiple (q + 2) (size p.step)) g
+  pub steps : NoMore (multiple (16 * (q + 1)) (size p.step)) (multiple 31 g)
   pub unit : NoMore (in_units (pos 1024) p.range.s) g
 
 -- times between which no granule begins, over which the function rises or falls by its bound

@@ -25,10 +25,10 @@ pub fn numbers()
     ensures multiple { multiple 3 (fraction (pos 5) 2) ≡ fraction (pos 15) 2 }
 {}
 
-/// Steps of up to 3 fit a margin of 24 over nodes of at most 6 units, for 8 times 3 is 24, and not over nodes of 7. The unit of
-/// the range may be 1/64, for 1024 of these are 16, and not 1/32.
+/// Steps of up to 3 fit a margin of 24 over nodes of at most 14 units, for 15 times 3 is 45, and twice 31/32 of 24 are 46 1/2;
+/// and not over nodes of 15. The unit of the range may be 1/64, for 1024 of these are 16, and not 1/32.
 pub fn steps_that_fit()
-    ensures fit { StepsFit (walk (minus 6)) 6 (fraction (pos 24) 1) }
-    ensures wider { StepsFit (walk (minus 6)) 7 (fraction (pos 24) 1) → ⊥ }
-    ensures coarser { StepsFit (walk (minus 5)) 6 (fraction (pos 24) 1) → ⊥ }
+    ensures fit { StepsFit (walk (minus 6)) 14 (fraction (pos 24) 1) }
+    ensures wider { StepsFit (walk (minus 6)) 15 (fraction (pos 24) 1) → ⊥ }
+    ensures coarser { StepsFit (walk (minus 5)) 14 (fraction (pos 24) 1) → ⊥ }
 {}

@@ -1,12 +1,13 @@
 -- Units of one power of 2 in a number of units of another, and the steps that a margin allows.
-use Rattle.std.proofs.Common.{◌≡◌, ℕ, ◌+◌, ◌*◌, ◌^◌, ◌≤◌, Option, None, Some, ℤ, pos, ◌-ℤ◌, ◌≤ℤ◌, arith, sym, ap, ◌∙◌}
+use Rattle.std.proofs.Common.{◌≡◌, ℕ, ◌+◌, ◌*◌, ◌^◌, ◌≤◌, Option, None, Some, [], ◌∷◌, ℤ, pos, ◌-ℤ◌, ◌*ℤ◌, ◌≤ℤ◌, arith, sym, ap, ◌∙◌}
 use Rattle.std.specs.Prelude.{IfSome}
 use Rattle.std.proofs.lemmas.Int.{ints}
 use Rattle.std.proofs.lemmas.Nat.{pow-add}
 use Rattle.std.proofs.Math.Nat.{mul-le-mul_left, mul-le-mul_right}
 use Rattle.std.proofs.Math.Pow.{pow_mono}
 use borrow.Author.Differences.{up, down}
-use Rattle.spec_numbers.proofs.Order.{lin}
+use Rattle.spec_numbers.proofs.Order.{lin, le-mul}
+use Rattle.spec_numbers.proofs.Ring.{v, k as lit, ◌⊗◌, ring}
 use Rattle.spec_intervals.specs.Fraction.{Fraction}
 use Rattle.spec_intervals.specs.Interval.{Interval}
 use Rattle.spec_models.specs.Bounds.{Bound}
@@ -42,14 +43,19 @@ units_halved n size k exponent unit apart less =
     mul-le-mul_right (2 ^ up exponent * 2 ^ down unit) less in
     omega (arith, ints, left, right)
 
--- so many steps, and two more
-pub steps_fit : (step : Interval) (units few : ℕ) (g : Fraction) → NoMore (in_units (pos units) step.s) g
-    → greatest_end step * (few + 2) ≤ units → NoMore (multiple (few + 2) (size step)) g
-steps_fit step units few g within small =
-    let more = mul-le-mul_right (2 ^ up step.s * g.denominator) small in
-    omega (arith, ints, within, more)
+-- so many steps, and one more, of which nearly twice a number of units are enough
+pub steps_fit : (step : Interval) (units nearly few : ℕ) (g : Fraction) → NoMore (in_units (pos units) step.s) g → 16 * nearly ≤ 31 * units
+    → greatest_end step * (few + 1) ≤ nearly → NoMore (multiple (16 * (few + 1)) (size step)) (multiple 31 g)
+steps_fit step units nearly few g within twice small =
+    let all : greatest_end step * (16 * (few + 1)) ≤ units * 31 = omega (arith, twice, small) in
+    let more = mul-le-mul_right (2 ^ up step.s * g.denominator) all in
+    let most = le-mul (pos units *ℤ pos (2 ^ up step.s) *ℤ pos g.denominator) (g.numerator *ℤ pos (2 ^ down step.s)) (pos 31)
+    (omega (arith, lin)) within in
+    let e = ring (g.numerator ∷ pos (2 ^ down step.s) ∷ []) (v 0 ⊗ lit (pos 31) ⊗ v 1) (v 0 ⊗ v 1 ⊗ lit (pos 31)) tt in
+    omega (arith, ints, most, e, more)
 
-pub steps_if : (p : Bound) (g : Fraction) (units : ℕ) (found : Option ℕ) → NoMore (in_units (pos 1024) p.range.s) g → NoMore (in_units (pos units) p.step.s) g
-    → IfSome found (λ few. greatest_end p.step * (few + 2) ≤ units) → IfSome found (λ few. StepsFit p few g)
-steps_if p g units None fine within small = small
-steps_if p g units (Some few) fine within small = record { steps = steps_fit p.step units few g within small; unit = fine }
+pub steps_if : (p : Bound) (g : Fraction) (units nearly : ℕ) (found : Option ℕ) → NoMore (in_units (pos 1024) p.range.s) g → NoMore (in_units (pos units) p.step.s) g
+    → 16 * nearly ≤ 31 * units → IfSome found (λ few. greatest_end p.step * (few + 1) ≤ nearly) → IfSome found (λ few. StepsFit p few g)
+steps_if p g units nearly None fine within twice small = small
+steps_if p g units nearly (Some few) fine within twice small =
+    record { steps = steps_fit p.step units nearly few g within twice small; unit = fine }

@@ -81,26 +81,33 @@ fn units_of(x: &Ival, margin: Margin) -> u128
     units_within(margin.size, margin.exponent, x.parts().2)
 }
 
-// Two less, where that is at least 1.
-fn less_two(steps: u128) -> Option<u64>
-    ensures { IfSome result (λ few. few + 2 ≤ steps) }
+// One less, where that is at least 1.
+fn less_one(steps: u128) -> Option<u64>
+    ensures { IfSome result (λ few. few + 1 ≤ steps) }
 {
-    if steps < 3 {
+    if steps < 2 {
         None
     } else {
-        Some((steps - 2).min(GREATEST_WIDTH) as u64)
+        Some((steps - 1).min(GREATEST_WIDTH) as u64)
     }
 }
 
-// How many steps there are at most, at least 1, so that two more of them are no more than so many units, of which a step takes
+// How many steps there are at most, at least 1, so that one more of them are no more than so many units, of which a step takes
 // so many. None where there is none.
 fn steps_within(units: u128, step: u128) -> Option<u64>
-    ensures { IfSome result (λ few. step * (few + 2) ≤ units) }
+    ensures { IfSome result (λ few. step * (few + 1) ≤ units) }
 {
     if step == 0 {
         return Some(GREATEST_WIDTH as u64);
     }
-    less_two(units / step)
+    less_one(units / step)
+}
+
+// Nearly twice a number.
+fn nearly_twice(units: u128) -> u128
+    ensures { 16 * result ≤ 31 * units }
+{
+    (units / 16).saturating_mul(31)
 }
 
 // By exponents, 2^10 of its units are no more than a margin.
@@ -116,7 +123,7 @@ pub(crate) fn steps_allowed(bound: &Bound, margin: Margin) -> Option<u64>
 {
     if is_fine(&bound.range, margin) {
         let units = units_of(&bound.step, margin);
-        steps_within(units, greatest_end(&bound.step))
+        steps_within(nearly_twice(units), greatest_end(&bound.step))
     } else {
         None
     }

@@ -13,8 +13,8 @@ use crate::decimals::decimal_ends;
 use crate::divider::Divider;
 use crate::ends::{
     added, ceil_shift, exponent_gap, exponent_rise, floor_shift, greater_exponent, greater_size,
-    half_down, high_end, in_order, is_moderate, is_small, leading_shift, least_shift, scaled_up,
-    low_end, product_ends, small_end, square_end,
+    half_down, high_end, in_order, is_moderate, is_small, leading_shift, least_shift, low_end,
+    product_ends, scaled_up, small_end, square_end,
 };
 use spec_intervals::Sign;
 use std::marker::Model;

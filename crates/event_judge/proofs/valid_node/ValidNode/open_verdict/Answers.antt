@@ -2,8 +2,8 @@ use Rattle.std.proofs.Common.{ap}
 use Rattle.event_judge.specs.Listed.{slot_count}
 use Rattle.event_judge.proofs.valid_node.ValidNode.open_verdict.Goals as goal
 
-pub open_verdict_by-requires-in-Of32-clause-slots : goal.open_verdict_by-requires-in-Of32-clause-slots
-open_verdict_by-requires-in-Of32-clause-slots c = ap slot_count c.in-Of32.is
+pub open_verdict_by-requires-clause-slots : goal.open_verdict_by-requires-clause-slots
+open_verdict_by-requires-clause-slots c = ap slot_count c.in-Of32.is
 
 pub open_verdict_by-requires-in-Of64-clause-slots : goal.open_verdict_by-requires-in-Of64-clause-slots
 open_verdict_by-requires-in-Of64-clause-slots c = ap slot_count c.in-Of64.is

@@ -17,8 +17,8 @@ use crate::slot_count::SlotCount;
 use crate::valid_node::ValidNode;
 use gf_hooks::{Verdict, differ};
 use ival_core::{Enclosure, Sign};
-use step_enclosures::blank;
 use spec_bounds::laws::{ends_that_differ, middles_are_told, steady_spans_tell_verdicts};
+use step_enclosures::blank;
 
 // It is one of the two that are known.
 #[inline(always)]

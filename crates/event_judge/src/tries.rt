@@ -3,7 +3,7 @@ use std::sync::atomic::AtomicU64;
 use std::sync::atomic::Ordering::SeqCst;
 
 /// Half the greatest number of tries of which one is made.
-const MOST_HALVED: u64 = 128;
+const MAX_HALVED_TURN: u64 = 128;
 
 /// How tries to find spans of some sort went: where several fail one after the other, later ones are left out, and the more
 /// of them the more have failed. No answer rests on it.
@@ -51,7 +51,7 @@ impl Tries {
 
     // Keeps that none was found there.
     fn keep_failure(&self, offset: u64) {
-        let turn = (self.turn.load(SeqCst).min(MOST_HALVED) * 2).max(1);
+        let turn = (self.turn.load(SeqCst).min(MAX_HALVED_TURN) * 2).max(1);
         self.turn.store(turn, SeqCst);
         self.left.store(turn - 1, SeqCst);
         self.failed.store(offset, SeqCst);

@@ -17,7 +17,7 @@ use std::alloc::AllocError;
 pub(crate) const DEEPEST: u32 = 24;
 
 /// How many spans of a granule are looked at at most.
-pub(crate) const MOST_TRIES: u32 = 16_384;
+pub(crate) const MAX_TRIES: u32 = 16_384;
 
 /// The width, in ticks, of the widest spans that are not halved.
 const NARROWEST: u64 = 16;

@@ -10,10 +10,10 @@ use ival_core::Ival;
 use span_models::Margin;
 
 /// How often a number is doubled at most.
-const MOST_DOUBLED: i64 = 60;
+const MAX_DOUBLINGS: i64 = 60;
 
 /// How often the nodes of a span are halved at most.
-const MOST_HALVED: u32 = 12;
+const MAX_NODE_HALVINGS: u32 = 12;
 
 /// The greatest width, in ticks, that is said of the nodes of a span.
 const GREATEST_WIDTH: u128 = 1 << 60;
@@ -43,7 +43,7 @@ fn rise(low: i32, high: i32) -> u32
     ensures upto { pos result ≤ℤ (high -ℤ low) }
     ensures few { result ≤ 60 }
 {
-    (i64::from(high) - i64::from(low)).min(MOST_DOUBLED) as u32
+    (i64::from(high) - i64::from(low)).min(MAX_DOUBLINGS) as u32
 }
 
 // How far one exponent is above another.
@@ -131,7 +131,7 @@ pub(crate) fn steps_allowed(bound: &Bound, margin: Margin) -> Option<u64>
 
 /// How often a width is halved until it is no more than another. None where that is too often.
 pub(crate) fn halvings(width: u64, widest: u64) -> Option<u32> {
-    for times in 0..=MOST_HALVED {
+    for times in 0..=MAX_NODE_HALVINGS {
         if width <= widest.saturating_mul(1 << times) {
             return Some(times);
         }

@@ -8,7 +8,7 @@ ghost use Rattle.spec_stills.specs.Still.{IsStill};
 ghost use Rattle.still_spans.specs.Found.{AreFound, AreInOrder};
 
 use crate::granules::{fits, last_before_border};
-use crate::halves::{DEEPEST, MOST_TRIES, Walk};
+use crate::halves::{DEEPEST, MAX_TRIES, Walk};
 use crate::known::Known;
 use crate::quiet::quiet_over;
 use crate::span_bound::{SpanBound, bound_between};
@@ -54,7 +54,7 @@ impl Walk {
         let over = SpanBound::new(search, bound, a, b);
         match Known::over(search, a, b) {
             Some(known) => {
-                self.tries = MOST_TRIES;
+                self.tries = MAX_TRIES;
                 self.add_halves(search, &known, &over, a, b, DEEPEST)
             }
             None => Ok(()),

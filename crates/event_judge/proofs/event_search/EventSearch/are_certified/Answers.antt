@@ -32,9 +32,9 @@ returns-then-not-is_certified c =
     let fails : c.is_certified.result ≡ false = cc in (
       λ no. absurd (false≢true no),
       λ all.
-      let every = subst (λ (xs : List Condition). All (λ (x : Condition). is_certified_over s c.args.a c.args.b x ≡ true) xs) (sym are) all in
-      let holds : is_certified_over s c.args.a c.args.b own ≡ true = subst (λ (x : Condition). is_certified_over s c.args.a c.args.b x ≡ true) (sym c.index-guards-place.is) (every c.loop-place.place own c.loop-place-test.true) in
-      absurd (false≢true (sym fails ∙ (c.is_certified.ensures ∙ rw (a, b) holds))),
+          let every = subst (λ (xs : List Condition). All (λ (x : Condition). is_certified_over s c.args.a c.args.b x ≡ true) xs) (sym are) all in
+          let holds : is_certified_over s c.args.a c.args.b own ≡ true = subst (λ (x : Condition). is_certified_over s c.args.a c.args.b x ≡ true) (sym c.index-guards-place.is) (every c.loop-place.place own c.loop-place-test.true) in
+          absurd (false≢true (sym fails ∙ (c.is_certified.ensures ∙ rw (a, b) holds))),
     )
 
 pub loop-place-preserved : goal.loop-place-preserved

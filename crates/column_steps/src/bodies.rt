@@ -61,7 +61,8 @@ impl StepList {
         self.enter(Step::Difference(own, observer))
     }
 
-    // A coordinate of a source as seen from the Earth.
+    // Enters the steps of a coordinate of a source as seen from the Earth, and returns the number of the step that stands for
+    // it. The column of the Moon has that of the Moon already.
     fn from_earth(&mut self, quantity: Quantity, source: Source, axis: usize) -> usize
         requires room { step_count self.old + 8 ≤ 512 }
         requires seen { IsSeen self.old.sight (displacement source FromEarth axis) }
@@ -87,7 +88,8 @@ impl StepList {
         }
     }
 
-    // A coordinate of a source as seen from the Moon.
+    // Enters the steps of a coordinate of a source as seen from the Moon, and returns the number of the step that stands for
+    // it.
     fn from_moon(&mut self, quantity: Quantity, source: Source, axis: usize) -> usize
         requires room { step_count self.old + 8 ≤ 512 }
         requires seen { IsSeen self.old.sight (displacement source FromMoon axis) }

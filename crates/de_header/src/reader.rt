@@ -462,9 +462,9 @@ impl HeaderReader {
         answer_of(self.state)
     }
 
-    /// The header, where the lines end at this number, that of the last file's lines plus 1. `Fault` is the kept
-    /// refusal, or fault 22 at this number where the header is not whole. Where the lines that were given are those of
-    /// which `new` speaks, the header meets the rules of a header.
+    /// Ends the reading, and returns the header. `line` is one more than the number of the last line of the last file. `Fault`
+    /// is the kept refusal, or fault 22, that the text has ended, at `line` where the header is not whole. Where the reader
+    /// was made by `new` and was given these lines, the header meets the rules of a header.
     pub fn end(self, alloc: Global, line: u32) -> Result<Header, HeaderError>
         ensures end { Ends line (says 0 self []) result }
         ensures memory { result ≡ Err errors.Memory → IsWhole self }

@@ -71,7 +71,7 @@ fn seconds_of_days(d: Decimal) -> Option<u128>
     }
 }
 
-/// The seconds of a number of days, which is from 0 to `most`.
+/// The seconds of a number of days. Errors: `NotWholeSecond` first, then `OutOfRange` for days below 0 or past `most`.
 pub fn seconds_within(most: u64, days: Decimal) -> Result<u64, DaysFault>
     requires { most ≤ LAST_JULIAN_DAY }
     ensures value { result ≡ seconds_within most days }

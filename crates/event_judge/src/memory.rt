@@ -145,7 +145,9 @@ impl<N: Naming> Memory<N> {
         self.widest.store(widest, SeqCst);
     }
 
-    /// Keeps a steady span of some width, which begins so many times after the first of the ephemeris.
+    /// Remembers that the search is steady over `width` times from the one that is `offset` times after the first of the
+    /// ephemeris. Nothing is promised: the span may take the place of another, and one too wide or too late for a word is
+    /// dropped.
     pub(crate) fn keep_span(&self, offset: u64, width: u64)
         requires { IsSteady N.search (time_of N.search offset)
             (time_of N.search (offset + width)) }

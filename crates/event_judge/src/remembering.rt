@@ -252,7 +252,8 @@ impl<N: Naming> Memory<N> {
         }
     }
 
-    // The same by so many slots.
+    // Judges a node by the enclosure over all of it, with room for so many steps. Of one that is to be split the sign in its
+    // middle is kept.
     #[inline(never)]
     fn judge_over_by<const M: usize>(&self, node: ValidNode, listed: &ListedEvent) -> Verdict
         requires named { node.search.now ≡ N.search }

@@ -47,7 +47,8 @@ impl<'s, 'e> ValidNode<'s, 'e> {
         self.width() > 1
     }
 
-    /// It may be cut, whatever its verdict.
+    /// Whether it may be cut, whatever its verdict: it is wider than one unit, and a border falls into it or it is less deep
+    /// than the search goes.
     pub(crate) fn may_be_cut(self) -> bool
         ensures { result ≡ may_be_cut self.entry.search.now self.entry.node }
     {

@@ -76,7 +76,7 @@ impl NotingShelf {
         })
     }
 
-    /// The names of the files that were opened, in that order, each before a blank.
+    /// The names that `open` was asked for, in the order of the calls, each before a blank.
     pub(crate) fn opened(&self) -> &[u8] {
         self.opened.as_slice()
     }
@@ -93,6 +93,8 @@ impl Shelf for NotingShelf {
 
     ghost faults = { λ s. s.files.faults };
 
+    // The name is noted before the file is opened, so that a call that fails is noted too. Where memory runs out the note is
+    // cut short, and the test fails.
     fn open(&mut self, name: &str) -> Result<(), Failed> {
         let _ = self.opened.extend_from_slice(name.as_bytes());
         let _ = self.opened.push(b' ');

@@ -55,12 +55,9 @@ fn wanted_of<R: Threads + Wait + Sync, G: Gate>(
     remembered_leaves(crew, wanted, &judge, &judge.search, root)
 }
 
-/// What is wanted of a query's search over a span of an ephemeris, which a crew looks for, in order of time: its leaves, which
-/// follow one another over the span, and whose windows are those of the query's events; or leaves that follow one another over
-/// the span and have these windows, where nodes in spans that are known to be still are not cut, and those in which one begins
-/// are split unjudged; or such that tell at each time the sign that its leaves tell, where nodes in these spans are not cut.
-/// Times are in the ticks of the ephemeris since J2000 in TDB. Errors: the fault of the event;
-/// `TooManyLeaves` where the search has more leaves than the crew may find; `Memory`.
+/// Searches a span of an ephemeris for the events of a query by the workers of a crew, and returns the leaves that are wanted
+/// (`Wanted`), which follow one another over the span in order of time. Times are in the ticks of the ephemeris since J2000 in
+/// TDB. Errors: the fault of the event; `TooManyLeaves` where the search has more leaves than the crew may find; `Memory`.
 pub fn leaves<R: Threads + Wait + Sync, G: Gate>(
     crew: &Crew<R, G>,
     wanted: Wanted,

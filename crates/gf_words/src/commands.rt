@@ -107,6 +107,7 @@ fn words_of(name: CommandName) -> &'static [Named]
     }
 }
 
+// Adds what follows the options of a command: the files, the words of `gen`, or nothing.
 fn with_places<'a>(
     alloc: Global,
     command: Command<'a>,

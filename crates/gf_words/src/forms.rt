@@ -21,7 +21,7 @@ use spec_text::Decimal;
 use spec_trees::CutRule;
 use window_text::read_time;
 
-// What the word stands for: the value beside the first name of the table that it is.
+// The value in the first row of a table whose name is the word.
 pub(crate) fn named<T: Copy>(table: &[(&'static str, T)], word: &str) -> Option<T>
     ensures { result ≡ named (rows_of table.now) word.now }
 {

@@ -195,8 +195,9 @@ pub fn changes()
         → IsDerivative (squares_product a b) (λ t. pos 2 *ℤ half_change a a' b b' t) }
 {}
 
-/// The function N of `sepext` beside the cosine, which is D over the root of A B: the square of the cosine has the
-/// derivative 2 D N / (A B)^2, and where D is 0, N is D' A B.
+/// The function N of `sepext` beside the cosine, which is D over the root of A B, where D is the dot product of both places, A
+/// and B are the squares of their distances and ' is the change a second: the square of the cosine has the derivative
+/// 2 D N / (A B)^2, and where D is 0, N is D' A B.
 pub fn changes_of_cosines()
     ensures square { (s : Scene) → (pos 2 *ℤ (dot s.target s.second *ℤ dot_change s))
         *ℤ (square s.target *ℤ square s.second)

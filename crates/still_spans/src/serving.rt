@@ -49,7 +49,7 @@ fn is_near_enough(search: &EventSearch, still: StillSpan, node: Node) -> bool
         && u64::from(node.depth) + u64::from(still.halvings) <= u64::from(search.depth())
 }
 
-// The fewest halvings that bring a width down to another, where so many do.
+// The fewest halvings that bring a width down to `widest`, or `most` where fewer do not.
 fn fewest_halvings(widest: u64, width: u64, most: u32) -> u32
     requires { most ≤ MAX_HALVINGS }
     ensures fewest { result ≡ fewest_halvings widest width most }

@@ -15,8 +15,7 @@ pub fn terms_are_enclosed()
         → HasLeaves e → IsEnclosure (exact_of exact e) a b (enclosure_of answer a b e) }
 {}
 
-/// Where the exponents of the enclosures of leaves do not pass `leaf_exponent`, those of a formula and its parts do not pass
-/// `part_exponent`, so that every rule can be applied.
+/// In the enclosure of a formula no exponent passes the limit, so that every rule can be applied.
 pub fn exponents_stay_within()
     ensures { (a b : ℤ) → IsSpan a b → (answer : Leaf → Enclosure)
         → LeavesAreWithin leaf_exponent answer → (e : Term) → IsFormula e

@@ -110,8 +110,7 @@ fn lesser_and_greater(c: Rounded, x: i64, y: i64) -> WideEnds
     }
 }
 
-// The end of a pair whose product with a number is the lesser, and the one whose product is the greater: a number below 0
-// turns their order round.
+// The end of a pair whose product with a number is the lesser, and the one whose product is the greater.
 #[inline(always)]
 fn ends_by_number(c: Rounded, z: i64) -> (i64, i64)
     requires pair { IsPair c }

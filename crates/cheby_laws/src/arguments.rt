@@ -71,7 +71,7 @@ fn one_argument(u: i64, divider: &Divider) -> Ival62
     requires size { unsigned_abs u ≤ divider.now }
     ensures { result ≡ argument_of u u (pos divider.now) }
 {
-    let (lo, hi) = divider.down_and_up(scaled(u));
+    let (lo, hi) = divider.both(scaled(u));
     Ival62 {
         lo: back(lo),
         hi: back(hi),

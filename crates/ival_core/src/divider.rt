@@ -60,7 +60,7 @@ fn low_half(x: u128) -> u64
 
 /// The number of two halves.
 #[inline(always)]
-fn join_halves(high: u64, low: u64) -> u128
+fn joined(high: u64, low: u64) -> u128
     ensures { result ≡ high * 2 ^ 64 + low }
 {
     (high as u128) * (1 << 64) + low as u128
@@ -192,9 +192,9 @@ impl Divider {
             }
         } else {
             let first = self.part(high as u128);
-            let second = self.part(join_halves(first.rest, low));
+            let second = self.part(joined(first.rest, low));
             Whole {
-                quotient: join_halves(first.quotient, second.quotient),
+                quotient: joined(first.quotient, second.quotient),
                 rest: second.rest,
             }
         }
@@ -226,7 +226,7 @@ impl Divider {
 
     /// `floor(z / seconds)` and `ceil(z / seconds)`.
     #[inline(always)]
-    pub fn down_and_up(&self, z: i128) -> (i128, i128)
+    pub fn both(&self, z: i128) -> (i128, i128)
         requires { unsigned_abs z < 2 ^ 127 }
         ensures low { result.0 ≡ floor_div z self.now }
         ensures high { result.1 ≡ ceil_div z self.now }

@@ -120,7 +120,7 @@ pub fn ceil_shift(z: i64, k: u32) -> i128
 
 /// `z * 2^m` of an end.
 #[inline(always)]
-pub fn scaled_up(z: i64, m: u32) -> i128
+pub fn lifted(z: i64, m: u32) -> i128
     requires small { unsigned_abs z ≤ end_limit }
     requires within { m ≤ lift_limit }
     ensures equals { result ≡ z *ℤ pos (2 ^ m) }
@@ -129,7 +129,7 @@ pub fn scaled_up(z: i64, m: u32) -> i128
     z as i128 * (1i128 << (m % 64))
 }
 
-/// The sum of a small end and one that was scaled up.
+/// The sum of a small end and one that was lifted.
 #[inline(always)]
 pub fn added(a: i128, b: i128) -> i128
     requires a_small { unsigned_abs a ≤ end_limit }
@@ -140,7 +140,7 @@ pub fn added(a: i128, b: i128) -> i128
     a + b
 }
 
-/// A small end and one that was scaled up, the lesser first. Where a caller reads one of them, the other is not made.
+/// A small end and one that was lifted, the lesser first. Where a caller reads one of them, the other is not made.
 #[inline(always)]
 pub fn in_order(a: i128, b: i128) -> (i128, i128)
     requires a_small { unsigned_abs a ≤ end_limit }

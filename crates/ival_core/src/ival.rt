@@ -13,8 +13,8 @@ use crate::decimals::decimal_ends;
 use crate::divider::Divider;
 use crate::ends::{
     added, ceil_shift, exponent_gap, exponent_rise, floor_shift, greater_exponent, greater_size,
-    half_down, high_end, in_order, is_moderate, is_small, leading_shift, least_shift, low_end,
-    product_ends, scaled_up, small_end, square_end,
+    half_down, high_end, in_order, is_moderate, is_small, leading_shift, least_shift, lifted,
+    low_end, product_ends, small_end, square_end,
 };
 use spec_intervals::Sign;
 use std::marker::Model;
@@ -526,7 +526,7 @@ fn at_one_exponent(x: Ival, y: Ival) -> Aligned
     let k = d - m;
     let s = x.s + k as i32;
     let (lower_lo, lower_hi) = (floor_shift(x.lo, k), ceil_shift(x.hi, k));
-    let (upper_lo, upper_hi) = (scaled_up(y.lo, m), scaled_up(y.hi, m));
+    let (upper_lo, upper_hi) = (lifted(y.lo, m), lifted(y.hi, m));
     Aligned {
         lower_lo,
         lower_hi,

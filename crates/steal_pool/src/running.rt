@@ -107,7 +107,7 @@ fn begin_and_work<R: Threads + Wait + Sync, N: Naming + Send + Sync, J: Judge, G
 }
 
 // The seats of a pool over a ledger, once all have worked.
-fn run_seats<'p, R: Threads + Wait + Sync, N: Naming + Send + Sync, J: Judge, G: Gate>(
+fn worked<'p, R: Threads + Wait + Sync, N: Naming + Send + Sync, J: Judge, G: Gate>(
     rt: &R,
     alloc: Global,
     judge: &'p J,
@@ -130,7 +130,7 @@ fn run_seats<'p, R: Threads + Wait + Sync, N: Naming + Send + Sync, J: Judge, G:
 }
 
 // The book of a ledger, all of whose seats have come back.
-fn close_ledger(ledger: SpanLedger, seats: Vec<LedgerSeat>) -> Book
+fn closed(ledger: SpanLedger, seats: Vec<LedgerSeat>) -> Book
     requires all { AreAll ledger seats.items }
     ensures root { result.root ≡ (terms ledger).root }
     ensures sound { Sound (terms ledger) result.entries.items }
@@ -163,11 +163,11 @@ fn book_of<N: Naming>(
 {
     match ended {
         Ok(seats) => {
-            let book = close_ledger(ledger, seats);
+            let book = closed(ledger, seats);
             Ok(book)
         }
         Err(FinishError::TooMany { seats, leaf: _ }) => {
-            let _book = close_ledger(ledger, seats);
+            let _book = closed(ledger, seats);
             Err(PoolError::TooMany)
         }
         Err(FinishError::Memory) => Err(PoolError::Memory),
@@ -196,7 +196,7 @@ fn run_named<R: Threads + Wait + Sync, N: Naming + Send + Sync, J: Judge, G: Gat
     let Ok((ledger, entries)) = SpanLedger::new(alloc, root, limit, workers) else {
         return Err(PoolError::Memory);
     };
-    let Ok(seats) = run_seats::<R, N, J, G>(rt, alloc, judge, &ledger, entries, root, gate) else {
+    let Ok(seats) = worked::<R, N, J, G>(rt, alloc, judge, &ledger, entries, root, gate) else {
         return Err(PoolError::Memory);
     };
     let ended = finish(rt, alloc, seats);

@@ -11,10 +11,10 @@ use Rattle.std.proofs.lemmas.Nat.{pow_pos}
 use Rattle.ival_core.proofs.Shifts.{small_narrow, exponent_sum, shift_bound}
 use Rattle.ival_core.proofs.Passing.{shifted}
 use Rattle.ival_core.proofs.ival.at_one_exponent.Goals as goal
-use Rattle.ival_core.proofs.ival.at_one_exponent.Goals.{After-scaled_up-upper_hi}
+use Rattle.ival_core.proofs.ival.at_one_exponent.Goals.{After-lifted-upper_hi}
 
 -- the two shifts are those of the rule
-gap_is : (c : After-scaled_up-upper_hi) → c.exponent_gap-d.result ≡ int_gap c.args.x.s c.args.y.s
+gap_is : (c : After-lifted-upper_hi) → c.exponent_gap-d.result ≡ int_gap c.args.x.s c.args.y.s
 gap_is c =
     let e : c.x.inside.s ≡ c.args.x.s = ap (λ (t : Interval). t.s) c.x.view_is in
     let f : c.y.inside.s ≡ c.args.y.s = ap (λ (t : Interval). t.s) c.y.view_is in
@@ -25,40 +25,40 @@ gap_is c =
     let g : c.exponent_gap-d.result ≡ int_gap c.x.inside.s c.y.inside.s = simp to_z-of_z at c.exponent_gap-d.ensures.equals in
     g ∙ rw (e, f)
 
-lift_is : (c : After-scaled_up-upper_hi) → c.min-m.result ≡ lift c.args.x c.args.y
+lift_is : (c : After-lifted-upper_hi) → c.min-m.result ≡ lift c.args.x c.args.y
 lift_is c = c.min-m.ensures ∙ ap (λ n. min n 60) (gap_is c)
 
-surplus_is : (c : After-scaled_up-upper_hi) → c.exponent_gap-d.result - c.min-m.result ≡ surplus c.args.x c.args.y
+surplus_is : (c : After-lifted-upper_hi) → c.exponent_gap-d.result - c.min-m.result ≡ surplus c.args.x c.args.y
 surplus_is c =
     let m : c.min-m.result ≡ min c.exponent_gap-d.result 60 = c.min-m.ensures in
     let e : c.exponent_gap-d.result - c.min-m.result ≡ c.exponent_gap-d.result - 60 = omega arith in
     e ∙ ap (λ n. n - 60) (gap_is c)
 
-lower_lo_is : (c : After-scaled_up-upper_hi) → to_z w128 (of_z w128 c.floor_shift-lower_lo.result) ≡ floor_div c.args.x.lo (2 ^ surplus c.args.x c.args.y)
+lower_lo_is : (c : After-lifted-upper_hi) → to_z w128 (of_z w128 c.floor_shift-lower_lo.result) ≡ floor_div c.args.x.lo (2 ^ surplus c.args.x c.args.y)
 lower_lo_is c =
     shifted (λ z n. floor_div z (2 ^ n)) _ _ _ _ _ (small_narrow _ c.x.invariant.lo_small) (record { sfits = c.floor_shift-lower_lo.type_inv }) c.floor_shift-lower_lo.ensures.equals (ap (λ (t : Interval). t.lo) c.x.view_is) (surplus_is c)
 
-lower_hi_is : (c : After-scaled_up-upper_hi) → to_z w128 (of_z w128 c.ceil_shift-lower_hi.result) ≡ ceil_div c.args.x.hi (2 ^ surplus c.args.x c.args.y)
+lower_hi_is : (c : After-lifted-upper_hi) → to_z w128 (of_z w128 c.ceil_shift-lower_hi.result) ≡ ceil_div c.args.x.hi (2 ^ surplus c.args.x c.args.y)
 lower_hi_is c =
     shifted (λ z n. ceil_div z (2 ^ n)) _ _ _ _ _ (small_narrow _ c.x.invariant.hi_small) (record { sfits = c.ceil_shift-lower_hi.type_inv }) c.ceil_shift-lower_hi.ensures.equals (ap (λ (t : Interval). t.hi) c.x.view_is) (surplus_is c)
 
-upper_lo_is : (c : After-scaled_up-upper_hi) → to_z w128 (of_z w128 c.scaled_up-upper_lo.result) ≡ c.args.y.lo *ℤ pos (2 ^ lift c.args.x c.args.y)
+upper_lo_is : (c : After-lifted-upper_hi) → to_z w128 (of_z w128 c.lifted-upper_lo.result) ≡ c.args.y.lo *ℤ pos (2 ^ lift c.args.x c.args.y)
 upper_lo_is c =
-    shifted (λ z n. z *ℤ pos (2 ^ n)) _ _ _ _ _ (small_narrow _ c.y.invariant.lo_small) (record { sfits = c.scaled_up-upper_lo.type_inv }) c.scaled_up-upper_lo.ensures.equals (ap (λ (t : Interval). t.lo) c.y.view_is) (lift_is c)
+    shifted (λ z n. z *ℤ pos (2 ^ n)) _ _ _ _ _ (small_narrow _ c.y.invariant.lo_small) (record { sfits = c.lifted-upper_lo.type_inv }) c.lifted-upper_lo.ensures.equals (ap (λ (t : Interval). t.lo) c.y.view_is) (lift_is c)
 
-upper_hi_is : (c : After-scaled_up-upper_hi) → to_z w128 (of_z w128 c.scaled_up-upper_hi.result) ≡ c.args.y.hi *ℤ pos (2 ^ lift c.args.x c.args.y)
+upper_hi_is : (c : After-lifted-upper_hi) → to_z w128 (of_z w128 c.lifted-upper_hi.result) ≡ c.args.y.hi *ℤ pos (2 ^ lift c.args.x c.args.y)
 upper_hi_is c =
-    shifted (λ z n. z *ℤ pos (2 ^ n)) _ _ _ _ _ (small_narrow _ c.y.invariant.hi_small) (record { sfits = c.scaled_up-upper_hi.type_inv }) c.scaled_up-upper_hi.ensures.equals (ap (λ (t : Interval). t.hi) c.y.view_is) (lift_is c)
+    shifted (λ z n. z *ℤ pos (2 ^ n)) _ _ _ _ _ (small_narrow _ c.y.invariant.hi_small) (record { sfits = c.lifted-upper_hi.type_inv }) c.lifted-upper_hi.ensures.equals (ap (λ (t : Interval). t.hi) c.y.view_is) (lift_is c)
 
-x_ordered : (c : After-scaled_up-upper_hi) → c.args.x.lo ≤ℤ c.args.x.hi
+x_ordered : (c : After-lifted-upper_hi) → c.args.x.lo ≤ℤ c.args.x.hi
 x_ordered c = rw (← c.x.view_is) c.x.invariant.ordered
 
-y_ordered : (c : After-scaled_up-upper_hi) → c.args.y.lo ≤ℤ c.args.y.hi
+y_ordered : (c : After-lifted-upper_hi) → c.args.y.lo ≤ℤ c.args.y.hi
 y_ordered c = rw (← c.y.view_is) c.y.invariant.ordered
 
 pub returns : goal.returns
 returns c =
-    let d = (goal.at.returns c).After-scaled_up-upper_hi in
+    let d = (goal.at.returns c).After-lifted-upper_hi in
     let e : c.x.inside.s ≡ c.args.x.s = ap (λ (t : Interval). t.s) c.x.view_is in
     let b = c.exponent_gap-d.ensures.bound in
     record {

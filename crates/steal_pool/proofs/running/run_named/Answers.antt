@@ -10,15 +10,15 @@ book_of-requires-clause-sound g c = named_sound g.N.Naming.rules (g.J.Judge.rule
 
 pub book_of-requires-clause-ok : goal.book_of-requires-clause-ok
 book_of-requires-clause-ok g c =
-    ended_ok g.N.Naming.rules c.args.root c.in-Ok.ledger c.in-Ok-run_seats.seats.items c.in-Ok-run_seats.ensures.seats
-    (c.in-Ok-run_seats.ensures.count ∙ c.in-Ok.ensures.count ∙ sym (ap (λ (t : LedgerTerms). t.seats) c.in-Ok.ensures.terms))
-    c.finish-ended.result c.finish-ended.ensures.back (c.finish-ended.ensures.leaves c.args.root c.in-Ok-run_seats.ensures.account)
+    ended_ok g.N.Naming.rules c.args.root c.in-Ok.ledger c.in-Ok-worked.seats.items c.in-Ok-worked.ensures.seats
+    (c.in-Ok-worked.ensures.count ∙ c.in-Ok.ensures.count ∙ sym (ap (λ (t : LedgerTerms). t.seats) c.in-Ok.ensures.terms))
+    c.finish-ended.result c.finish-ended.ensures.back (c.finish-ended.ensures.leaves c.args.root c.in-Ok-worked.ensures.account)
 
 pub book_of-requires-clause-full : goal.book_of-requires-clause-full
 book_of-requires-clause-full g c =
-    ended_full g.N.Naming.rules c.args.root c.in-Ok.ledger c.in-Ok-run_seats.seats.items c.in-Ok-run_seats.ensures.seats
-    (c.in-Ok-run_seats.ensures.count ∙ c.in-Ok.ensures.count ∙ sym (ap (λ (t : LedgerTerms). t.seats) c.in-Ok.ensures.terms))
-    c.finish-ended.result c.finish-ended.ensures.too_many c.finish-ended.ensures.refused (c.finish-ended.ensures.left_over c.args.root c.in-Ok-run_seats.ensures.account)
+    ended_full g.N.Naming.rules c.args.root c.in-Ok.ledger c.in-Ok-worked.seats.items c.in-Ok-worked.ensures.seats
+    (c.in-Ok-worked.ensures.count ∙ c.in-Ok.ensures.count ∙ sym (ap (λ (t : LedgerTerms). t.seats) c.in-Ok.ensures.terms))
+    c.finish-ended.result c.finish-ended.ensures.too_many c.finish-ended.ensures.refused (c.finish-ended.ensures.left_over c.args.root c.in-Ok-worked.ensures.account)
 
 pub returns-clause-leaves : goal.returns-clause-leaves
 returns-clause-leaves g c = leaves_ok g.N.Naming.rules (g.J.Judge.rules c.args.judge.now) c.args.root c.requires.rules.0 c.book_of.result c.book_of.ensures.leaves

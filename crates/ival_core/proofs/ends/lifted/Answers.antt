@@ -1,7 +1,7 @@
 use Rattle.std.proofs.Common.{◌≡◌, ◌%◌, arith}
 use Rattle.std.proofs.lemmas.Int.{to_z-of_z}
 use Rattle.ival_core.proofs.Shifts.{one_shifted, lift_bound, lift_fits, small_fits}
-use Rattle.ival_core.proofs.ends.scaled_up.Goals as goal
+use Rattle.ival_core.proofs.ends.lifted.Goals as goal
 
 pub overflow_mul-result : goal.overflow_mul-result
 overflow_mul-result c =

@@ -192,6 +192,17 @@ class Checks:
         piece = f"L {first} {last} {int(depth) - 1} N"
         return [*lines[:place], piece, *lines[place + 2 : -1], f"END leaves {len(lines) - 4}"]
 
+    def turned(self) -> None:
+        """A frame that turns x as well, by a quarter about z: its x is the y of the files, and its events are those."""
+        words = words_of(("--kind coord --target mercury --axis y --ref=-1e7", 3, 30), "")
+        text = program("cert", *words, YEAR).stdout
+        axes = checker().AXES
+        own, axes["eq"] = axes["eq"], (1, ((0, 1, 0), (-1, 0, 0), (0, 0, 1)))
+        said = refused(text.replace(" axis y ", " axis x ", 1), self.folder, None)
+        axes["eq"] = own
+        self.expect(" R\n" in text or " F\n" in text, "no event in the frame that turns x")
+        self.expect(not said, f"a frame that turns x: {said}")
+
     def other_files(self, text: str) -> None:
         """By another ratio of the masses the Earth is some km elsewhere, and its events are at other seconds."""
         (self.folder / "cert").write_text(text)
@@ -220,6 +231,7 @@ def main() -> int:
         checks.changes(made, count)
         checks.requests(*next(pair for pair in made if "apsis" in pair[0]))
         checks.differences()
+        checks.turned()
         checks.other_files(next(text for words, text in made if "100000000" in words))
     print(f"certificates: {checks.passed} passed, {checks.failed} failed")
     return 1 if checks.failed else 0

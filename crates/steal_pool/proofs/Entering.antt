@@ -1,5 +1,6 @@
 -- What entering a leaf, and putting a right part away, say of a seat's work, by what was answered.
-use Rattle.std.proofs.Common.{◌≡◌, inl, inr, ℕ, ◌+◌, ◌≤◌, List, length, Some, None, refl, sym, ap, ◌∙◌, subst, arith, [], ◌∷◌, ◌++◌, IsPermutation}
+use Rattle.std.proofs.Common.{◌≡◌, ⊎_elim, inl, inr, ℕ, ◌+◌, ◌<◌, ◌≤◌, List, length, Some, None, refl, sym, ap, ◌∙◌, subst, arith, [], ◌∷◌, ◌++◌, IsPermutation}
+use Rattle.std.proofs.lemmas.Bool.{cases_lt}
 use Rattle.std.proofs.lemmas.List.Sorted.{IsPermutation-refl}
 use Rattle.spec_trees.specs.declared.tree.Node.{Node}
 use Rattle.spec_trees.specs.declared.tree.Leaf.{Leaf}
@@ -131,6 +132,12 @@ push_works t w v p left right sound valid split P.Kept deque kept memory = split
 push_works t w v p left right sound valid split (P.Memory n) deque kept memory =
     let e = (memory n refl).1 in
     subst (λ (u : Holder). Worked t w p u p) (sym e) (same_works t w p p (refl, refl))
+
+pub kept_when_full : (n : ℕ) (r : Pushed) → (n < 64 → r ≡ P.OnDeque) → r ≡ P.Kept → 64 ≤ n
+kept_when_full n r first kept = ⊎_elim (λ less. absurd (not_both (sym (first less) ∙ kept))) (λ full. full) (cases_lt n 64)
+  where
+    not_both : P.OnDeque ≡ P.Kept → ⊥
+    not_both e = cc
 
 -- ---- pieces of a seat's work
 pub same_more : (a b c : Seat) → SameSeat a b → SameSeat b c → SameSeat a c

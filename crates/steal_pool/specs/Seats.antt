@@ -9,7 +9,7 @@ use Rattle.spec_pool.specs.declared.ledger.LedgerTerms.{LedgerTerms}
 use Rattle.spec_pool.specs.declared.ledger.Entry.{Entry}
 use Rattle.spec_pool.specs.declared.ledger.Entry.TheVariants.{Entered, Again, Full as NoRoom, Memory as NoMemory}
 use Rattle.spec_pool.specs.History.{Fresh}
-use Rattle.spec_pool.specs.Accounts.{Account, Balances, TakesNode, TakesTop}
+use Rattle.spec_pool.specs.Accounts.{Account, Balances, EntersNode, KeepsRight, PutsRight, TakesNode, TakesTop}
 use Rattle.steal_pool.specs.declared.seat.PoolError.{PoolError}
 use Rattle.steal_pool.specs.declared.seat.PoolError.TheVariants as E
 use Rattle.steal_pool.specs.declared.seat.Stop.{Stop}
@@ -68,6 +68,15 @@ Changes R s s' = (b : Account) × R (account s) b × IsLike b (account s')
 -- a node comes into the empty hand, from the local stack or from some deque
 abbrev pub Gets : Node → Account → Account → Type 0
 Gets n a b = (b.hand ≡ Some n) × (TakesTop a b ⊎ TakesNode n a b)
+
+-- the node in the hand is split: its left part stays there, its right part goes on the deque, or on the local stack where
+-- at least 64 nodes were put on the deque
+abbrev pub Splits : Rules → Seat → Seat → Type 0
+Splits t s s' = ((right : Node) × Changes (PutsRight t right) s s') ⊎ ((64 ≤ length s.worker.own.view.put) × Changes (KeepsRight t) s s')
+
+-- the node in the hand is entered as a leaf, or split
+abbrev pub Steps : Rules → Seat → Seat → Type 0
+Steps t s s' = Changes (EntersNode t) s s' ⊎ Splits t s s'
 
 -- the seat's account balances over a piece of work
 abbrev pub Works : Rules → Seat → Seat → Type 0

@@ -1,11 +1,12 @@
 // Ending a pool: all stealers are joined, what is left on the deques is worked off, and the ledger's seats come back.
-ghost use Rattle.std.specs.Prelude.{◌≡◌, Some, None, IfOk, IfErr, IsTrue, IsFalse, IsPermutation};
+ghost use Rattle.std.specs.Prelude.{◌≡◌, Some, None, Err, IfOk, IfErr, IsTrue, IsFalse, IsPermutation};
 ghost use Rattle.std.specs.List.{AllByRecursion, AllZip};
 ghost use Rattle.spec_trees.specs.declared.tree.Node.{Node};
 ghost use Rattle.spec_trees.specs.Tree.{leaves};
 ghost use Rattle.steal_pool.specs.Seats.{IsLeft};
 ghost use Rattle.steal_pool.specs.Closing.{Drains, Ended, Leaves, worse, worst_stop};
-ghost use Rattle.steal_pool.specs.declared.seat.Stop.TheVariants.{Full};
+ghost use Rattle.steal_pool.specs.declared.seat.Stop.TheVariants.{Full, Memory as OutOfMemory};
+ghost use Rattle.steal_pool.specs.declared.finishing.FinishError.TheVariants.{Memory as NoMemory};
 ghost use Rattle.steal_pool.specs.Pools.{AccountFor, AreLinked, ComeBack, IfTooMany, IsLeftOver, IsRefused, KeepNone, NoneIsOutOfMemory, entered_in};
 
 use crate::adding::add;
@@ -118,11 +119,12 @@ fn leave_all<'p, N: Naming, J: Judge, G: Gate>(
     Ok(entries)
 }
 
-// The ledger's seats, or why the pool was not ended, by the worst of why its seats stopped.
+// Hands the seats back where none stopped; else the worst stop as an error, and with `TooMany` the seats.
 fn outcome(worst: Option<Stop>, entries: Vec<LedgerSeat>) -> Result<Vec<LedgerSeat>, FinishError>
     ensures back { IfOk result (λ v. (v.items ≡ entries.items) × (worst ≡ None)) }
     ensures too_many { IfErr result (λ e. IfTooMany e
         (λ es leaf. (es ≡ entries.items) × (worst ≡ Some (Full leaf)))) }
+    ensures memory { result ≡ Err NoMemory → worst ≡ Some OutOfMemory }
 {
     match worst {
         Some(Stop::Full(leaf)) => Err(FinishError::TooMany {

@@ -6,7 +6,7 @@ ghost use Rattle.spec_trees.specs.declared.tree.Verdict.TheVariants.{Split};
 ghost use Rattle.spec_pool.specs.Accounts.{EntersNode, KeepsRight, PutsRight};
 ghost use Rattle.steal_pool.specs.Rule.{IsUsedUp};
 ghost use Rattle.steal_pool.specs.Workers.{FindsNone, IsRight, Takes};
-ghost use Rattle.steal_pool.specs.Seats.{Changes, Gets, IfFull, IsFull, IsFullOf, IsHolding, IsLeft, IsStoppedBy, SameSeat, Works, stop_at, with_refusal};
+ghost use Rattle.steal_pool.specs.Seats.{Changes, Gets, IfFull, IsFull, IsFullOf, IsHolding, IsLeft, IsStoppedBy, SameSeat, Splits, Steps, Works, stop_at, with_refusal};
 ghost use Rattle.steal_pool.specs.declared.worker.Pushed.TheVariants.{OnDeque, Kept, Memory};
 ghost use Rattle.steal_pool.specs.declared.seat.PoolError.TheVariants.{TooMany};
 ghost use Rattle.steal_pool.specs.declared.seat.Stop.TheVariants.{Memory as OutOfMemory};
@@ -115,11 +115,13 @@ impl<'p, N: Naming, J: Judge, G: Gate> PoolSeat<'p, N, J, G> {
         }
     }
 
-    // Splits the node in the hand.
+    // Splits the node in the hand: the left part stays in the hand; the right part goes on the deque, or on the local
+    // stack where the deque does not take it.
     pub(crate) fn split(&mut self, node: Node) -> Result<(), Stop>
         requires hand { self.old.worker.hand ≡ Some node }
         requires valid { IsValid N.rules node }
         requires split { N.rules.verdict node ≡ Split }
+        ensures split { OnOk result (Splits N.rules self.old self.new) }
         ensures works { Works N.rules self.old self.new }
         ensures same { SameSeat self.old self.new }
         ensures refusal { self.new.refusal ≡ self.old.refusal }
@@ -148,6 +150,7 @@ impl<'p, N: Naming, J: Judge, G: Gate> PoolSeat<'p, N, J, G> {
     fn step<R: Wait>(&mut self, rt: &R, node: Node) -> Result<(), Stop>
         requires hand { self.old.worker.hand ≡ Some node }
         requires valid { IsValid N.rules node }
+        ensures stepped { OnOk result (Steps N.rules self.old self.new) }
         ensures works { Works N.rules self.old self.new }
         ensures same { SameSeat self.old self.new }
         ensures refusal { self.new.refusal ≡ self.old.refusal }

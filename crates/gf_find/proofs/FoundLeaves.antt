@@ -21,7 +21,7 @@ use Rattle.spec_outcomes.specs.Certificates.{certificate_by}
 use Rattle.spec_certificates.specs.declared.limits.TheConstants.{MAX_CERT_LEAVES}
 use Rattle.spec_outcomes.specs.Queries.{IsQuery, is_within, leaves_in, query_of, search, span_of, whole_span}
 use Rattle.gf_search.specs.declared.wanted.Wanted.{Wanted}
-use Rattle.gf_search.specs.declared.wanted.Wanted.TheVariants.{Leaves, Windows}
+use Rattle.gf_search.specs.declared.wanted.Wanted.TheVariants.{Leaves, Signs, Windows}
 use Rattle.gf_search.specs.Wanted.{HasWindows, IsWanted}
 use Rattle.spec_outcomes.proofs.Searching.{outside_stops}
 use Rattle.gf_find.specs.Outcomes.{FilesHaveOutcome, HaveEphemeris, HoldEphemeris}
@@ -81,10 +81,12 @@ text_stops most find files count now text r (inr (inr held)) =
 wanted_within : (wanted : Wanted) (most : ℕ) (q : Query) (e : Ephemeris) (span : Span) (ls : List Leaf) → IsWanted wanted most q e span ls → is_within span e ≡ true
 wanted_within Leaves most q e span ls is = is.within
 wanted_within Windows most q e span ls has = has.within
+wanted_within Signs most q e span ls has = has.within
 
 wanted_follow : (wanted : Wanted) (most : ℕ) (q : Query) (e : Ephemeris) (span : Span) (ls : List Leaf) → IsWanted wanted most q e span ls → Covers span.from ls span.upto
 wanted_follow Leaves most q e span ls is = is.follow
 wanted_follow Windows most q e span ls has = has.follow
+wanted_follow Signs most q e span ls has = has.follow
 
 module _ (files : Option Files) (find : FindAsk) (wanted : Wanted) (most : ℕ) (span : Span) (ls : List Leaf) (held : HoldEphemeris files find.files (AreSearchedIn wanted most find span ls)) where
   abbrev counted : Ephemeris

@@ -143,9 +143,10 @@ def sources_of(folder: str) -> Dict[str, str]:
 
 
 def owners_of(trait: str, kind: str, module: str, homes: Dict[str, List[str]]) -> List[str]:
-    """The paths under which the checker may name the methods of an impl: it stands under the file of the type."""
+    """The paths under which the checker may name the methods of an impl: those of a type alone stand under its file, those of
+    a trait may stand under the file of the impl."""
     kind, trait = kind.split("::")[-1], trait.split("::")[-1]
-    places = homes.get(kind, [module])
+    places = [*homes.get(kind, [module]), *([module] if trait else [])]
     joins = [f"{kind}{trait}", f"{kind}+{trait}"] if trait else [kind]
     return [f"{place}{it}::" for place in places for it in joins]
 

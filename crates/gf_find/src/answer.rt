@@ -20,7 +20,8 @@ use std::alloc::Global;
 use std::sync::Wait;
 use std::thread::Threads;
 
-/// The text that the words ask for.
+/// Returns the text that the words ask for, or why there is none. The shelf stays as it was where the request opens
+/// no file.
 pub(crate) fn answer<R: Threads + Wait + Sync, S: Shelf, G: Gate>(
     rt: &R,
     alloc: Global,

@@ -21,7 +21,8 @@ use std::alloc::Global;
 use std::sync::Wait;
 use std::thread::Threads;
 
-// The certificate of leaves in a span.
+// Returns the certificate of leaves in a span: the line of the request, then the leaves. The only error is out of
+// memory.
 fn certificate_in(
     alloc: Global,
     find: &FindAsk,
@@ -39,7 +40,7 @@ fn certificate_in(
     Ok(text)
 }
 
-/// The certificate of the files of a search.
+/// Searches the files and returns the certificate of the search's leaves, or why there is none.
 pub(crate) fn certificate_in_files<R: Threads + Wait + Sync, S: Shelf, G: Gate>(
     rt: &R,
     alloc: Global,

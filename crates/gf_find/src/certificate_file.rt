@@ -1,4 +1,4 @@
-// The file of a certificate.
+// The file of a certificate: its text, read as a whole.
 ghost use Rattle.std.specs.Prelude.{◌≡◌, ◌⊎◌, ◌≤◌, IfErr, IfOk, length};
 ghost use Rattle.spec_text.specs.declared.limits.TheConstants.{MAX_TEXT_BYTES};
 ghost use Rattle.spec_files.specs.Files.{IsFile};
@@ -11,7 +11,8 @@ use spec_outcomes::Refusal;
 use spec_requests::Text;
 use std::alloc::Global;
 
-/// The text of the certificate in the file of this name.
+/// Reads the file of this name as the text of a certificate. An error is out of memory, a file that cannot be read,
+/// or one of more than `MAX_TEXT_BYTES` bytes.
 pub(crate) fn read_certificate<S: Shelf>(
     alloc: Global,
     shelf: &mut S,

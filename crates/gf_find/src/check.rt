@@ -1,4 +1,4 @@
-// The command `check`: the summary of files.
+// The command `check`: the summary of the ephemeris in the files.
 ghost use Rattle.std.specs.Prelude.{◌≡◌, ◌⊎◌, Err, IfErr, IfOk};
 ghost use Rattle.spec_output.specs.Summary.{summary};
 ghost use Rattle.spec_outcomes.specs.Outcomes.{summary_of};
@@ -11,7 +11,8 @@ use spec_outcomes::Refusal;
 use std::alloc::Global;
 use window_text::summary;
 
-/// The summary of files.
+/// Returns the summary of the ephemeris in the files, or why there is none. Without a name, or with too many, no file
+/// is opened.
 pub(crate) fn summary_of_files<S: Shelf>(
     alloc: Global,
     shelf: &mut S,

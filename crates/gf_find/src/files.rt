@@ -1,4 +1,4 @@
-// The ephemeris of named files.
+// The ephemeris in named files, and the refusals that name one of them.
 ghost use Rattle.std.specs.Prelude.{◌≡◌, ◌⊎◌, ◌<◌, ◌≤◌, ℕ, List, Some, IfErr, IfOk, length, slice_get};
 ghost use Rattle.gf_find.specs.Outcomes.{FilesStop, HaveEphemeris, texts_of};
 ghost use Rattle.gf_find.specs.Reported.{AreNotOpened};
@@ -12,13 +12,14 @@ use spec_requests::Text;
 use spec_text::Fault;
 use std::alloc::{AllocError, Global};
 
+// Copies a file's name into a text. The only error is out of memory.
 fn text(alloc: Global, name: &str) -> Result<Text, AllocError>
     ensures { IfOk result (λ text. text ≡ name.now) }
 {
     Ok(Text::new(String::from_str(alloc, name)?))
 }
 
-/// The refusal of the file of this name, which has this fault.
+/// Returns the refusal of the file of this name for a fault in it, or out of memory where its name cannot be copied.
 pub(crate) fn refused_as(alloc: Global, name: &str, fault: Fault) -> Refusal
     ensures { (result ≡ Refusal.Memory) ⊎ (result ≡ Refusal.File name.now fault) }
 {
@@ -28,7 +29,8 @@ pub(crate) fn refused_as(alloc: Global, name: &str, fault: Fault) -> Refusal
     }
 }
 
-/// The refusal of the file of this name, which could not be read.
+/// Returns the refusal for the file of this name, which could not be read, or out of memory where its name cannot be
+/// copied.
 pub(crate) fn not_read_as(alloc: Global, name: &str) -> Refusal
     ensures { (result ≡ Refusal.Memory) ⊎ (result ≡ Refusal.NotRead name.now) }
 {
@@ -38,7 +40,7 @@ pub(crate) fn not_read_as(alloc: Global, name: &str) -> Refusal
     }
 }
 
-// This file has this fault.
+// Returns the refusal of a file, by its place among the names, for a fault in it, or out of memory.
 fn refused(alloc: Global, names: &[String], file: usize, fault: Fault) -> Refusal
     requires { file < length names.now }
     ensures { (result ≡ Refusal.Memory) ⊎ ((name : List ℕ)
@@ -47,7 +49,7 @@ fn refused(alloc: Global, names: &[String], file: usize, fault: Fault) -> Refusa
     refused_as(alloc, &names[file], fault)
 }
 
-// This file could not be read.
+// Returns the refusal for a file, by its place among the names, that could not be read, or out of memory.
 fn not_read(alloc: Global, names: &[String], file: usize) -> Refusal
     requires { file < length names.now }
     ensures { (result ≡ Refusal.Memory) ⊎ ((name : List ℕ)
@@ -56,7 +58,8 @@ fn not_read(alloc: Global, names: &[String], file: usize) -> Refusal
     not_read_as(alloc, &names[file])
 }
 
-/// The ephemeris of the files of these names. No name at all is a fault of the words.
+/// Reads the ephemeris in the files of these names, in their order. An error names the first file with a fault, or is
+/// out of memory. Without a name, or with too many, no file is opened.
 pub(crate) fn ephemeris_of<S: Shelf>(
     alloc: Global,
     shelf: &mut S,

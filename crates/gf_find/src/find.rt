@@ -24,7 +24,7 @@ use std::sync::Wait;
 use std::thread::Threads;
 use window_text::report;
 
-// The report of the windows of leaves that follow one another over a span.
+// Returns the report of the windows of leaves that follow one another over a span. The only error is out of memory.
 fn report_in(alloc: Global, find: &FindAsk, span: Span, leaves: &[Leaf]) -> Result<Vec<u8>, Refusal>
     requires tick { IsTick find.now.tick }
     requires from { IsTimeIn find.now.tick span.from }
@@ -40,7 +40,7 @@ fn report_in(alloc: Global, find: &FindAsk, span: Span, leaves: &[Leaf]) -> Resu
     Ok(text)
 }
 
-/// The report of the files of a search.
+/// Searches the files and returns the report of the windows that hold the events, or why there is none.
 pub(crate) fn find_in_files<R: Threads + Wait + Sync, S: Shelf, G: Gate>(
     rt: &R,
     alloc: Global,

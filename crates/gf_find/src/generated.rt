@@ -1,4 +1,4 @@
-// The command `gen`: the two lines of a generated text.
+// The command `gen`: the two lines about a search in a generated text.
 ghost use Rattle.std.specs.Prelude.{◌≡◌, ◌∷◌, [], ◌⊎◌, ◌<◌, ◌≤◌, Err, IfErr, IfOk, Ok, length, string_bytes};
 ghost use Rattle.spec_ephemeris.specs.Ephemeris as e;
 ghost use Rattle.spec_files.specs.Outcome.{outcome};
@@ -27,13 +27,14 @@ use std::sync::Wait;
 use std::thread::Threads;
 use window_text::generation;
 
+// Returns the empty name, which the one file of a `TextShelf` has.
 fn no_name(alloc: Global) -> String
     ensures { string_bytes result ≡ [] }
 {
     String::new(alloc)
 }
 
-// The ephemeris of a text, which is read as the one file of a shelf.
+// Reads the ephemeris in a text in memory. The only error of a text that holds one is out of memory.
 fn ephemeris_of_text(alloc: Global, text: &[u8]) -> Result<Ephemeris, Refusal>
     ensures read { IfOk result (λ e. outcome (text.now ∷ []) ≡ Ok e) }
     ensures refused { (e : e.Ephemeris) → outcome (text.now ∷ []) ≡ Ok e
@@ -43,7 +44,8 @@ fn ephemeris_of_text(alloc: Global, text: &[u8]) -> Result<Ephemeris, Refusal>
     ephemeris_of(alloc, &mut shelf, &[no_name(alloc)])
 }
 
-// The two lines of the windows of leaves that follow one another over a generated text, which has so many bytes.
+// Returns the two lines about the windows of leaves that follow one another over a generated text of `bytes` bytes.
+// The only error is out of memory.
 fn lines_of_leaves(
     alloc: Global,
     blocks: u32,
@@ -62,7 +64,7 @@ fn lines_of_leaves(
     Ok(lines)
 }
 
-// The two lines of the ephemeris of a generated text that has so many bytes.
+// Searches the ephemeris of a generated text of `bytes` bytes, and returns the two lines about it.
 fn lines_of<R: Threads + Wait + Sync, G: Gate>(
     rt: &R,
     alloc: Global,
@@ -97,7 +99,7 @@ fn lines_of<R: Threads + Wait + Sync, G: Gate>(
     }
 }
 
-// The two lines of a generated text.
+// Reads a generated text, searches its ephemeris and returns the two lines about it.
 fn lines_of_text<R: Threads + Wait + Sync, G: Gate>(
     rt: &R,
     alloc: Global,
@@ -129,7 +131,7 @@ fn lines_of_text<R: Threads + Wait + Sync, G: Gate>(
     )
 }
 
-/// The two lines of the generated text of so many blocks from this seed.
+/// Generates the text of `blocks` blocks from this seed, searches it, and returns the two lines about it.
 pub(crate) fn generation_of<R: Threads + Wait + Sync, G: Gate>(
     rt: &R,
     alloc: Global,

@@ -1,4 +1,4 @@
-// What is true of every run.
+// Laws of every run, proved for readers of the contract. The calls do nothing when they run.
 ghost use Rattle.std.specs.Prelude.{◌≡◌, ◌⊎◌, Option, ℕ};
 ghost use Rattle.spec_requests.specs.declared.request.Request.{Request};
 ghost use Rattle.gf_edges.specs.Edges.{Files, Rose};
@@ -6,14 +6,16 @@ ghost use Rattle.spec_outcomes.specs.Outcomes.{Outcome};
 ghost use Rattle.gf_find.specs.Outcomes.{Ask, HaveOutcome, Words, with_workers};
 ghost use Rattle.gf_find.specs.Reported.{KnowsFiles};
 
-/// Where no file is opened, or the files are known, a run has one outcome, its text or its cause, unless the shelf failed.
+/// States that words and files have one outcome, a text or a cause of refusal, unless the shelf failed. The files
+/// have to be known only where one is opened.
 pub fn a_run_has_one_outcome()
     ensures { (words : Words) (files : Option Files) (before now : ℕ) (outcome other : Outcome)
         → KnowsFiles words files → HaveOutcome words files before now outcome
         → HaveOutcome words files before now other → Rose before now ⊎ (outcome ≡ other) }
 {}
 
-/// Words that ask for another number of workers, and for the same otherwise, have the same outcome.
+/// States that the outcome does not depend on the number of workers: words that differ in it alone have the same
+/// outcome.
 pub fn the_number_of_workers_changes_no_byte()
     ensures { (words others : Words) (files : Option Files) (before now count : ℕ)
         (request : Request) (outcome : Outcome)

@@ -1,4 +1,4 @@
-// The lines of errors.
+// The lines of errors, each ended by a line feed. Calls that append fail only where memory is out.
 ghost use Rattle.std.specs.Prelude.{◌≡◌, ◌++◌, IfOk, OnOk, option_map};
 ghost use Rattle.std.specs.Fmt.{decimal, signed_decimal};
 ghost use Rattle.spec_faults.specs.Shown.{kind_of};
@@ -12,7 +12,7 @@ use spec_requests::{Named, option_name};
 use spec_text::Fault;
 use std::alloc::{AllocError, Global};
 
-// A number, and a text after it.
+// Appends a number in decimal digits, and a text after it.
 fn add_number(text: &mut Vec<u8>, number: u32, after: &[u8]) -> Result<(), AllocError>
     ensures { OnOk result (text.new.items ≡ text.old.items ++ (decimal number ++ after.now)) }
 {
@@ -21,7 +21,7 @@ fn add_number(text: &mut Vec<u8>, number: u32, after: &[u8]) -> Result<(), Alloc
     text.extend_from_slice(after)
 }
 
-// A name between two texts.
+// Appends a name between two texts.
 fn add_named(text: &mut Vec<u8>, before: &[u8], name: &str, after: &[u8]) -> Result<(), AllocError>
     ensures { OnOk result (text.new.items
         ≡ text.old.items ++ (before.now ++ name.now ++ after.now)) }
@@ -31,7 +31,7 @@ fn add_named(text: &mut Vec<u8>, before: &[u8], name: &str, after: &[u8]) -> Res
     text.extend_from_slice(after)
 }
 
-// The detail of a fault after a blank, where it has one.
+// Appends a blank and the detail of a fault, or nothing where the fault has no detail.
 fn add_detail(text: &mut Vec<u8>, has_detail: bool, detail: u16) -> Result<(), AllocError>
     ensures { OnOk result (text.new.items ≡ text.old.items ++ detail_text has_detail detail) }
 {
@@ -43,7 +43,7 @@ fn add_detail(text: &mut Vec<u8>, has_detail: bool, detail: u16) -> Result<(), A
     }
 }
 
-// The name of a kind of fault, and the detail where it has one.
+// Appends the name of a kind of fault, and the detail where the kind has one.
 fn add_kind(text: &mut Vec<u8>, kind: FaultKind, detail: u16) -> Result<(), AllocError>
     ensures { OnOk result (text.new.items ≡ text.old.items ++ kind_text (kind_of kind) detail) }
 {
@@ -51,7 +51,7 @@ fn add_kind(text: &mut Vec<u8>, kind: FaultKind, detail: u16) -> Result<(), Allo
     add_detail(text, kind.has_detail, detail)
 }
 
-// The name of the fault with this number, and its detail where it has one.
+// Appends the name of the fault with this number, and its detail where it has one. A number of no fault adds nothing.
 fn add_title(text: &mut Vec<u8>, number: u8, detail: u16) -> Result<(), AllocError>
     ensures { OnOk result (text.new.items ≡ text.old.items ++ title number detail) }
 {
@@ -61,7 +61,7 @@ fn add_title(text: &mut Vec<u8>, number: u8, detail: u16) -> Result<(), AllocErr
     }
 }
 
-// The number of a fault, its name and its detail.
+// Appends the number of a fault, its name, and its detail where it has one.
 fn add_fault(text: &mut Vec<u8>, number: u8, detail: u16) -> Result<(), AllocError>
     ensures { OnOk result (text.new.items ≡ text.old.items ++ fault_text number detail) }
 {
@@ -69,7 +69,7 @@ fn add_fault(text: &mut Vec<u8>, number: u8, detail: u16) -> Result<(), AllocErr
     add_title(text, number, detail)
 }
 
-// The line of a file that is refused.
+// Returns the line for a file with a fault: its name, the line and the fault. The only error is out of memory.
 fn file_line(alloc: Global, name: &str, fault: Fault) -> Result<Vec<u8>, AllocError>
     ensures { IfOk result (λ text. text.items ≡ file_text name.now fault) }
 {
@@ -81,7 +81,7 @@ fn file_line(alloc: Global, name: &str, fault: Fault) -> Result<Vec<u8>, AllocEr
     Ok(text)
 }
 
-// The line of a file that could not be read.
+// Returns the line for a file that could not be read. The only error is out of memory.
 fn read_line(alloc: Global, name: &str) -> Result<Vec<u8>, AllocError>
     ensures { IfOk result (λ text. text.items ≡ read_text name.now) }
 {
@@ -90,7 +90,8 @@ fn read_line(alloc: Global, name: &str) -> Result<Vec<u8>, AllocError>
     Ok(text)
 }
 
-// The line of an event that cannot be searched for, by the number of the cause.
+// Returns the line for an event that cannot be searched for, by the number of the cause. The only error is out of
+// memory.
 fn event_line(alloc: Global, number: u8) -> Result<Vec<u8>, AllocError>
     ensures { IfOk result (λ text. text.items ≡ event_text number) }
 {
@@ -101,7 +102,7 @@ fn event_line(alloc: Global, number: u8) -> Result<Vec<u8>, AllocError>
     Ok(text)
 }
 
-// The line of a search that has more leaves than it may have, which are so many.
+// Returns the line for a search of more than `most` leaves, which is the limit. The only error is out of memory.
 fn leaves_line(alloc: Global, most: u32) -> Result<Vec<u8>, AllocError>
     ensures { IfOk result (λ text. text.items ≡ leaves_text most) }
 {
@@ -111,7 +112,8 @@ fn leaves_line(alloc: Global, most: u32) -> Result<Vec<u8>, AllocError>
     Ok(text)
 }
 
-// The line of a certificate that breaks the rule of this number in this line.
+// Returns the line for a certificate that breaks the rule `number` in the line `line`. The only error is out of
+// memory.
 fn certificate_line(alloc: Global, line: u32, number: u8) -> Result<Vec<u8>, AllocError>
     ensures { IfOk result (λ text. text.items ≡ certificate_text line number) }
 {
@@ -123,7 +125,7 @@ fn certificate_line(alloc: Global, line: u32, number: u8) -> Result<Vec<u8>, All
     Ok(text)
 }
 
-// The name of an option after a blank, where there is one.
+// Appends a blank and the name of an option, or nothing where there is none.
 fn add_option(text: &mut Vec<u8>, option: Option<Named>) -> Result<(), AllocError>
     ensures { OnOk result (text.new.items
         ≡ text.old.items ++ after_blank (option_map option_name option)) }
@@ -137,7 +139,8 @@ fn add_option(text: &mut Vec<u8>, option: Option<Named>) -> Result<(), AllocErro
     }
 }
 
-// The line of an invalid command line.
+// Returns the line for an invalid command line: the fault, and the option that it is about. The only error is out of
+// memory.
 fn words_line(alloc: Global, number: u8, option: Option<Named>) -> Result<Vec<u8>, AllocError>
     ensures { IfOk result (λ text.
         text.items ≡ words_text number (option_map option_name option)) }
@@ -150,6 +153,7 @@ fn words_line(alloc: Global, number: u8, option: Option<Named>) -> Result<Vec<u8
     Ok(text)
 }
 
+// Appends a time as a whole number, with a minus sign below 0.
 fn add_time(text: &mut Vec<u8>, time: i64) -> Result<(), AllocError>
     ensures { OnOk result (text.new.items ≡ text.old.items ++ signed_decimal time) }
 {
@@ -157,7 +161,7 @@ fn add_time(text: &mut Vec<u8>, time: i64) -> Result<(), AllocError>
     text.extend_from_slice(buffer.format(time).as_bytes())
 }
 
-// The two times of a span, before a text.
+// Appends the first and the last time of a span, and a text after them.
 fn add_span(text: &mut Vec<u8>, span: Span, after: &[u8]) -> Result<(), AllocError>
     ensures { OnOk result (text.new.items
         ≡ text.old.items ++ (times span.from span.upto ++ after.now)) }
@@ -168,7 +172,7 @@ fn add_span(text: &mut Vec<u8>, span: Span, after: &[u8]) -> Result<(), AllocErr
     text.extend_from_slice(after)
 }
 
-// The line of a span that is not one of the files, which have the other as their whole span.
+// Returns the line for a span that is not within the whole span of the files. The only error is out of memory.
 fn outside_line(alloc: Global, span: Span, whole: Span) -> Result<Vec<u8>, AllocError>
     ensures { IfOk result (λ text.
         text.items ≡ outside_text span.from span.upto whole.from whole.upto) }
@@ -180,14 +184,14 @@ fn outside_line(alloc: Global, span: Span, whole: Span) -> Result<Vec<u8>, Alloc
     Ok(text)
 }
 
-// The line of a run that is out of memory.
+// Returns the line for a run that is out of memory. It is a constant, since there is no memory to make one.
 fn memory_line() -> &'static [u8]
     ensures { result.now ≡ memory_text }
 {
     b"finder: out of memory\n"
 }
 
-/// The line of a run that is refused.
+/// Returns the line that says why a run is refused. The only error is out of memory.
 pub(crate) fn line_of(alloc: Global, refusal: &Refusal) -> Result<Vec<u8>, AllocError>
     ensures { IfOk result (λ text. text.items ≡ line_of refusal.now) }
 {

@@ -18,7 +18,8 @@ use std::sync::Wait;
 use std::thread::Threads;
 use window_text::scalar_report;
 
-// The report of the windows of leaves that follow one another over the span.
+// Returns the report of the windows of leaves that follow one another over the scalar's span. The only error is out
+// of memory.
 fn report_of_leaves(alloc: Global, ask: &ScalarAsk, leaves: &[Leaf]) -> Result<Vec<u8>, Refusal>
     requires { Covers ask.now.from leaves.now ask.now.to }
     ensures text { IfOk result (λ text. text.items ≡ scalar_report ask.now (windows leaves.now)) }
@@ -29,7 +30,8 @@ fn report_of_leaves(alloc: Global, ask: &ScalarAsk, leaves: &[Leaf]) -> Result<V
     Ok(text)
 }
 
-/// The report of a polynomial's passings of 0. No file is opened.
+/// Searches the span for the times at which a polynomial passes 0, and returns the report of their windows, or why
+/// there is none. No file is opened.
 pub(crate) fn scalar_text<R: Threads + Wait + Sync, G: Gate>(
     rt: &R,
     alloc: Global,

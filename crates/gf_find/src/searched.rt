@@ -1,4 +1,4 @@
-// The leaves of the search that words ask of their files, or leaves that have their windows.
+// Searches of files: the span that is searched, and its leaves or leaves with the same windows.
 ghost use Rattle.std.specs.Prelude.{◌≡◌, ◌<◌, IfErr, IfOk, true};
 ghost use Rattle.spec_requests.specs.Limits.{IsWithinLimits};
 ghost use Rattle.spec_outcomes.specs.Outcomes.{Stops};
@@ -27,7 +27,8 @@ pub(crate) struct Searched {
     pub(crate) leaves: Vec<Leaf>,
 }
 
-// What is wanted of a search of a span of an ephemeris that counts its ticks.
+// Searches a span of an ephemeris that counts the ticks of the search, and returns the leaves that are wanted, or why
+// there are none.
 fn search_span<R: Threads + Wait + Sync, G: Gate>(
     rt: &R,
     alloc: Global,
@@ -61,7 +62,8 @@ fn search_span<R: Threads + Wait + Sync, G: Gate>(
     }
 }
 
-// What is wanted of a search of an ephemeris that counts its ticks.
+// Searches an ephemeris that counts the ticks of the search, over the span that is asked for. A span outside the
+// files is refused.
 fn search_ephemeris<R: Threads + Wait + Sync, G: Gate>(
     rt: &R,
     alloc: Global,
@@ -84,8 +86,8 @@ fn search_ephemeris<R: Threads + Wait + Sync, G: Gate>(
     }
 }
 
-/// What is wanted of the search that words ask of their files: its leaves, or leaves with their windows, where it has at
-/// most so many.
+/// Searches the files and returns what is wanted: all leaves of the search, or fewer leaves with the same windows. A
+/// search of more than `most` leaves is refused.
 pub(crate) fn search_files<R: Threads + Wait + Sync, S: Shelf, G: Gate>(
     rt: &R,
     alloc: Global,

@@ -25,7 +25,7 @@ use std::sync::Wait;
 use std::thread::Threads;
 use window_text::set_report;
 
-// The report of two sets of times of a span.
+// Returns the report of the sure and the possible times in a span. The only error is out of memory.
 fn report_of_sets(
     alloc: Global,
     find: &FindAsk,
@@ -47,7 +47,8 @@ fn report_of_sets(
     Ok(text)
 }
 
-// The report of a search of a span of an ephemeris that counts its ticks.
+// Searches a span of an ephemeris that counts the ticks of the search, and returns the report of its sure and
+// possible times, or why there is none.
 fn set_in_span<R: Threads + Wait + Sync, G: Gate>(
     rt: &R,
     alloc: Global,
@@ -79,7 +80,8 @@ fn set_in_span<R: Threads + Wait + Sync, G: Gate>(
     }
 }
 
-// The report of a search of an ephemeris that counts its ticks.
+// Searches an ephemeris that counts the ticks of the search, over the span that is asked for. A span outside the
+// files is refused.
 fn set_in_ephemeris<R: Threads + Wait + Sync, G: Gate>(
     rt: &R,
     alloc: Global,
@@ -104,7 +106,8 @@ fn set_in_ephemeris<R: Threads + Wait + Sync, G: Gate>(
     }
 }
 
-/// The report of the files of a search, of the times at which its function has a relation to its references.
+/// Searches the files and returns the report of the times at which a function has a relation to its references, or
+/// why there is none.
 pub(crate) fn set_in_files<R: Threads + Wait + Sync, S: Shelf, G: Gate>(
     rt: &R,
     alloc: Global,

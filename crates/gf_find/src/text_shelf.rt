@@ -1,7 +1,7 @@
 // A text in memory as the one file of a shelf.
 use gf_edges::{Failed, Shelf};
 
-/// A shelf whose one file, of the empty name, is a text. No call of it fails but the opening of another file.
+/// A shelf whose one file, of the empty name, is a text in memory. Only the opening of a file of another name fails.
 #[derive(Drop)]
 pub(crate) struct TextShelf<'t> {
     text: &'t [u8],
@@ -11,7 +11,7 @@ pub(crate) struct TextShelf<'t> {
 impl<'t> TextShelf<'t> {
     ghost use Rattle.std.specs.Prelude.{◌≡◌};
 
-    /// A shelf of this text, which is not open yet.
+    /// Makes a shelf of this text. No file is open yet.
     pub(crate) fn new(text: &'t [u8]) -> Self
         ensures { result.text.now ≡ text.entry.now }
     {
@@ -30,6 +30,7 @@ impl<'t> Shelf for TextShelf<'t> {
 
     ghost faults = { λ _. 0 };
 
+    // Opens the text for the empty name, at its start. Any other name fails, and no file is open then.
     fn open(&mut self, name: &str) -> Result<(), Failed> {
         if name.is_empty() {
             self.rest = Some(self.text);
@@ -40,6 +41,7 @@ impl<'t> Shelf for TextShelf<'t> {
         }
     }
 
+    // Reads the next bytes of the text into the buffer and returns how many: 0 at its end, or where no file is open.
     fn read(&mut self, buf: &mut [u8]) -> Result<usize, Failed> {
         let Some(rest) = self.rest else {
             return Ok(0);

@@ -146,7 +146,7 @@ pub fn finder<R: Threads + Wait + Sync, S: Shelf, O: Sink, E: Sink, G: Gate>(
     }
 }
 
-// Writes the text, and returns the status.
+// Writes the text and returns the status: `REPORTED`, or `NOT_WRITTEN` where the sink failed, with a line to `err`.
 fn write_text<O: Sink, E: Sink>(out: &mut O, err: &mut E, text: &[u8]) -> u8
     ensures known { (result ≡ REPORTED) ⊎ (result ≡ NOT_WRITTEN) }
     ensures whole { result ≡ REPORTED → Appends (O.bytes out.old) (O.bytes out.new) text.now }
@@ -164,7 +164,8 @@ fn write_text<O: Sink, E: Sink>(out: &mut O, err: &mut E, text: &[u8]) -> u8
     }
 }
 
-// Writes why there is no text, and returns the status. Where there is no memory for the line, that is written.
+// Writes why there is no text and returns the status of that. Without memory for the line, out of memory is the
+// refusal.
 fn write_refusal<E: Sink>(alloc: Global, err: &mut E, refusal: &Refusal) -> u8
     ensures written { (cause : Refusal) × ((cause ≡ refusal.now) ⊎ (cause ≡ Refusal.Memory))
         × (result ≡ status_of cause)
@@ -179,6 +180,7 @@ fn write_refusal<E: Sink>(alloc: Global, err: &mut E, refusal: &Refusal) -> u8
     }
 }
 
+// Writes that memory is out, and returns the status of that.
 fn write_out_of_memory<E: Sink>(err: &mut E) -> u8
     ensures status { result ≡ OUT_OF_MEMORY }
     ensures line { Receives E.bytes E.faults err.old err.new memory_text }

@@ -28,7 +28,8 @@ use spec_outcomes::{Refusal, Span, query_of};
 use spec_requests::{FindAsk, Text};
 use std::alloc::Global;
 
-// What is printed of the certificate in a file, for a search whose judge this is.
+// Checks the certificate in a file by the judge of its search, and returns the report of its windows, or why there is
+// none.
 fn verify_by<S: Shelf>(
     alloc: Global,
     shelf: &mut S,
@@ -53,7 +54,8 @@ fn verify_by<S: Shelf>(
     }
 }
 
-// The same over a span of an ephemeris that counts the ticks of the search, for its event, which has no fault.
+// Makes the judge of an event without a fault over a span of an ephemeris that counts the ticks of the search, and
+// checks the certificate by it.
 fn verify_event<S: Shelf>(
     alloc: Global,
     shelf: &mut S,
@@ -92,7 +94,7 @@ fn verify_event<S: Shelf>(
     verify_by(alloc, shelf, find, cert, span, &judge)
 }
 
-// The same, unless its event has a fault.
+// Makes the event of a search over a span, and checks the certificate for it. An event with a fault is refused.
 fn verify_span<S: Shelf>(
     alloc: Global,
     shelf: &mut S,
@@ -120,7 +122,7 @@ fn verify_span<S: Shelf>(
     }
 }
 
-// The same over the span that is asked for.
+// Checks the certificate over the span that is asked for. A span outside the files is refused.
 fn verify_ephemeris<S: Shelf>(
     alloc: Global,
     shelf: &mut S,
@@ -144,8 +146,8 @@ fn verify_ephemeris<S: Shelf>(
     }
 }
 
-/// What is printed of the certificate in a file, for the search of these files. It is opened only where the search could be
-/// made.
+/// Checks the certificate in the file `cert` for the search of these files, and returns the report of its windows, or
+/// why there is none. The certificate is opened only where the search could be made.
 pub(crate) fn verify_in_files<S: Shelf>(
     alloc: Global,
     shelf: &mut S,

@@ -1,4 +1,4 @@
-// Whole texts to a sink.
+// Whole texts, written to a sink.
 ghost use Rattle.std.specs.Prelude.{OnErr, OnOk};
 ghost use Rattle.std.specs.Io.KnownBytes.{Appends};
 ghost use Rattle.gf_edges.specs.Edges.{HasCause};
@@ -6,8 +6,8 @@ ghost use Rattle.spec_output.specs.Writing.{AppendsPart, Receives};
 
 use gf_edges::{Failed, Sink};
 
-/// Writes the text. Each write offers the whole rest of it. Where the sink fails, a prefix of the text stands on it that
-/// is not all of it.
+/// Writes the whole text, offering the rest of it to the sink until none is left. Where the sink fails or takes
+/// nothing, a proper prefix of the text has been written.
 pub(crate) fn write_whole<K: Sink>(sink: &mut K, text: &[u8]) -> Result<(), Failed>
     ensures whole { OnOk result (Appends (K.bytes sink.old) (K.bytes sink.new) text.now) }
     ensures part { OnErr result (AppendsPart (K.bytes sink.old) (K.bytes sink.new) text.now) }
@@ -24,7 +24,7 @@ pub(crate) fn write_whole<K: Sink>(sink: &mut K, text: &[u8]) -> Result<(), Fail
     Ok(())
 }
 
-/// Writes the text as far as the sink takes it.
+/// Writes the text as far as the sink takes it. A failure is not reported, since no other place is left for a line.
 pub(crate) fn write_line<E: Sink>(err: &mut E, text: &[u8])
     ensures received { Receives E.bytes E.faults err.old err.new text.now }
 {

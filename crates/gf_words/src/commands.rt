@@ -11,13 +11,15 @@ use spec_requests::{
 };
 use std::alloc::{AllocError, Global};
 
-/// How words give a value: behind its option's name, or in its place.
+/// How a value is given: as the word after an option's name, or as a word in a fixed place.
 #[derive(Clone, Copy)]
 pub(crate) enum Role {
     Option,
     Word,
 }
 
+// Returns the command with one more rule for `clap`: a named option with a value, or a required word. The only error
+// is out of memory.
 fn with_one<'a>(
     alloc: Global,
     command: Command<'a>,
@@ -34,6 +36,7 @@ fn with_one<'a>(
     }
 }
 
+// Returns the command with a rule for each of the options, in their order. The only error is out of memory.
 fn with_all<'a>(
     alloc: Global,
     mut command: Command<'a>,
@@ -49,6 +52,7 @@ fn with_all<'a>(
     Ok(command)
 }
 
+// Returns the command with the rule of its files, of which there is at least one. The only error is out of memory.
 fn with_files<'a>(alloc: Global, command: Command<'a>) -> Result<Command<'a>, AllocError>
     ensures { IfOk result (λ more.
         app_of more ≡ with_rules (files_rule ∷ []) (app_of command.entry)) }
@@ -59,13 +63,15 @@ fn with_files<'a>(alloc: Global, command: Command<'a>) -> Result<Command<'a>, Al
     command.arg(files)
 }
 
+// Returns a command of this name without rules, and without the option `help` that `clap` adds by itself.
 fn without_help<'a>(alloc: Global, name: &'a str) -> Command<'a>
     ensures { app_of result ≡ command_with name.entry.now [] }
 {
     Command::new(alloc, name).disable_help_flag(true)
 }
 
-// The options of a command, less those that stand at its end.
+// Returns the options that a command reads, but for the certificate of `verify`, which `last_options` adds after
+// them.
 fn first_options(name: CommandName) -> &'static [Named]
     ensures { options_of name ≡ result.now ++ last_options name }
 {
@@ -78,7 +84,7 @@ fn first_options(name: CommandName) -> &'static [Named]
     }
 }
 
-// The name of the certificate, which stands behind the options of a search.
+// Returns the option of `verify` that names the certificate, and none for any other command.
 fn last_options(name: CommandName) -> &'static [Named]
     ensures { result.now ≡ last_options name }
 {
@@ -89,14 +95,14 @@ fn last_options(name: CommandName) -> &'static [Named]
     }
 }
 
-// Whether files follow the options.
+// Tells whether a command reads files. Only `gen` and `scalar` do not.
 fn reads_files(name: CommandName) -> bool
     ensures { result ≡ reads_files name }
 {
     !matches!(name, CommandName::Gen | CommandName::Scalar)
 }
 
-// The words that follow the options of a command that reads no files.
+// Returns the words that a command without files reads in fixed places: those of `gen`, and none for `scalar`.
 fn words_of(name: CommandName) -> &'static [Named]
     ensures { result.now ≡ words_of name }
 {
@@ -107,7 +113,7 @@ fn words_of(name: CommandName) -> &'static [Named]
     }
 }
 
-// Adds what follows the options of a command: the files, the words of `gen`, or nothing.
+// Returns the command with the rules of what follows its options: files, the words of `gen`, or nothing.
 fn with_places<'a>(
     alloc: Global,
     command: Command<'a>,
@@ -123,7 +129,8 @@ fn with_places<'a>(
     }
 }
 
-/// The command of this name, as `clap` takes it.
+/// Returns the rules by which `clap` reads this command: its options, then its files or words. The only error is out
+/// of memory.
 pub(crate) fn command<'a>(alloc: Global, name: CommandName) -> Result<Command<'a>, AllocError>
     ensures { IfOk result (λ command. app_of command ≡ command_rules name) }
 {

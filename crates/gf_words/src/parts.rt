@@ -1,4 +1,5 @@
-// The parts of a request: what the word of an option stands for, or the option, where it is bad.
+// Readers of single options: each returns what the option's word stands for, or names the option as bad. An option is
+// bad where it is needed and left out, is not used by the kind and given, or has a word that cannot be read.
 ghost use Rattle.std.specs.Prelude.{◌≡◌, option_and_then};
 ghost use Rattle.spec_kinds.specs.declared.table.Use.TheVariants.{Optional};
 ghost use Rattle.spec_requests.specs.declared.request.Named.TheVariants as opt;
@@ -21,7 +22,8 @@ use spec_requests::{DEFAULT_TICK, Named, Relation};
 use spec_text::Decimal;
 use spec_trees::CutRule;
 
-// A part whose option has a word, which was read so.
+// Checks an option that has a word. The option is bad where the word could not be read (`None`) or the kind does not
+// use it.
 fn used<T: Copy>(option: Named, usage: Use, read: Option<T>) -> Result<Option<T>, Named>
     ensures { result ≡ used option usage read }
 {
@@ -35,7 +37,7 @@ fn used<T: Copy>(option: Named, usage: Use, read: Option<T>) -> Result<Option<T>
     }
 }
 
-// A part whose option has none.
+// Checks an option that was left out. It is bad where the kind needs it, and else has no value.
 fn left_out<T: Copy>(option: Named, usage: Use) -> Result<Option<T>, Named>
     ensures { result ≡ left_out option usage }
 {
@@ -46,7 +48,8 @@ fn left_out<T: Copy>(option: Named, usage: Use) -> Result<Option<T>, Named>
     }
 }
 
-// A part as its usage lets it be: what the word of its option was read as, where the option has a word.
+// Checks an option against its usage. The outer `None` says that it was left out, the inner one that its word could
+// not be read.
 fn check_use<T: Copy>(
     option: Named,
     usage: Use,
@@ -60,7 +63,7 @@ fn check_use<T: Copy>(
     }
 }
 
-// A part that has to be there.
+// Returns the value of an option that every command line needs. It is bad where it was left out or could not be read.
 fn required<T: Copy>(option: Named, read: Option<T>) -> Result<T, Named>
     ensures { result ≡ required option read }
 {
@@ -70,6 +73,7 @@ fn required<T: Copy>(option: Named, read: Option<T>) -> Result<T, Named>
     }
 }
 
+/// Reads the kind of event of a search, which is needed.
 pub(crate) fn kind(matches: &ArgMatches<'_>) -> Result<Kind, Named>
     ensures { result ≡ needed kind_of opt.Kind (values_of matches.now opt.Kind) }
 {
@@ -77,7 +81,7 @@ pub(crate) fn kind(matches: &ArgMatches<'_>) -> Result<Kind, Named>
     required(Named::Kind, read)
 }
 
-// The kind of a set.
+// Reads the kind of a set, which is needed. Kinds with a condition beside their function are bad: they have no sets.
 pub(crate) fn set_kind(matches: &ArgMatches<'_>) -> Result<Kind, Named>
     ensures { result ≡ needed set_kind_of opt.Kind (values_of matches.now opt.Kind) }
 {
@@ -85,6 +89,7 @@ pub(crate) fn set_kind(matches: &ArgMatches<'_>) -> Result<Kind, Named>
     required(Named::Kind, read)
 }
 
+/// Reads the body that is looked at, which is needed. The barycentre of the solar system is bad.
 pub(crate) fn target(matches: &ArgMatches<'_>) -> Result<Body, Named>
     ensures { result ≡ needed target_of opt.Target (values_of matches.now opt.Target) }
 {
@@ -92,6 +97,7 @@ pub(crate) fn target(matches: &ArgMatches<'_>) -> Result<Body, Named>
     required(Named::Target, read)
 }
 
+/// Reads the second body, as far as the kind uses one. The barycentre of the solar system is bad.
 pub(crate) fn second(matches: &ArgMatches<'_>, usage: Use) -> Result<Option<Body>, Named>
     ensures { result ≡ part target_of opt.Second usage (values_of matches.now opt.Second) }
 {
@@ -99,6 +105,7 @@ pub(crate) fn second(matches: &ArgMatches<'_>, usage: Use) -> Result<Option<Body
     check_use(Named::Second, usage, read)
 }
 
+/// Reads the observer, which may be left out. Any body may be one.
 pub(crate) fn observer(matches: &ArgMatches<'_>) -> Result<Option<Body>, Named>
     ensures { result ≡ part observer_of opt.Observer Optional (values_of matches.now opt.Observer) }
 {
@@ -106,6 +113,7 @@ pub(crate) fn observer(matches: &ArgMatches<'_>) -> Result<Option<Body>, Named>
     check_use(Named::Observer, Use::Optional, read)
 }
 
+/// Reads the frame, as far as the kind uses one.
 pub(crate) fn frame(matches: &ArgMatches<'_>, usage: Use) -> Result<Option<Frame>, Named>
     ensures { result ≡ part frame_of opt.Frame usage (values_of matches.now opt.Frame) }
 {
@@ -113,6 +121,7 @@ pub(crate) fn frame(matches: &ArgMatches<'_>, usage: Use) -> Result<Option<Frame
     check_use(Named::Frame, usage, read)
 }
 
+/// Reads the axis of a coordinate, 0 to 2, as far as the kind uses one.
 pub(crate) fn axis(matches: &ArgMatches<'_>, usage: Use) -> Result<Option<u8>, Named>
     ensures { result ≡ part axis_of opt.Axis usage (values_of matches.now opt.Axis) }
 {
@@ -120,7 +129,7 @@ pub(crate) fn axis(matches: &ArgMatches<'_>, usage: Use) -> Result<Option<u8>, N
     check_use(Named::Axis, usage, read)
 }
 
-// A number of the event: a reference value, or a radius.
+// Reads a decimal number of the event, which is a reference value or a radius, as far as the kind uses it.
 pub(crate) fn number(
     matches: &ArgMatches<'_>,
     option: Named,
@@ -132,7 +141,7 @@ pub(crate) fn number(
     check_use(option, usage, read)
 }
 
-// A relation that the kind has.
+// Reads the relation of a set, which is needed. A relation to two references is bad for a kind without references.
 pub(crate) fn relation(matches: &ArgMatches<'_>, kind: Kind) -> Result<Relation, Named>
     ensures { result ≡ needed (relation_for kind) opt.Relation (values_of matches.now opt.Relation) }
 {
@@ -142,6 +151,7 @@ pub(crate) fn relation(matches: &ArgMatches<'_>, kind: Kind) -> Result<Relation,
     }
 }
 
+/// Reads the direction of the events that are wanted, which may be left out.
 pub(crate) fn dir(matches: &ArgMatches<'_>) -> Result<Option<Dir>, Named>
     ensures { result ≡ part dir_of opt.Dir Optional (values_of matches.now opt.Dir) }
 {
@@ -149,7 +159,7 @@ pub(crate) fn dir(matches: &ArgMatches<'_>) -> Result<Option<Dir>, Named>
     check_use(Named::Dir, Use::Optional, read)
 }
 
-// How many ticks a second has.
+// Reads the number of ticks in a second, which may be left out.
 pub(crate) fn tick(matches: &ArgMatches<'_>) -> Result<Option<u32>, Named>
     ensures { result ≡ part tick_of_word opt.Tick Optional (values_of matches.now opt.Tick) }
 {
@@ -157,7 +167,8 @@ pub(crate) fn tick(matches: &ArgMatches<'_>) -> Result<Option<u32>, Named>
     check_use(Named::Tick, Use::Optional, read)
 }
 
-// The same, where it is left out or bad too.
+// Returns the number of ticks in a second by which the times of the command line are read: 1 where the option is left
+// out or bad. A bad option is reported by `tick`, so this call has no fault.
 pub(crate) fn tick_in(matches: &ArgMatches<'_>) -> u32
     ensures { result ≡ tick_in (values_of matches.now) }
 {
@@ -166,7 +177,7 @@ pub(crate) fn tick_in(matches: &ArgMatches<'_>) -> u32
         .unwrap_or(DEFAULT_TICK)
 }
 
-// An end of the span, in ticks since J2000 in TDB.
+// Reads the first or last time of the span, in ticks since J2000 in TDB. It may be left out.
 pub(crate) fn instant(
     matches: &ArgMatches<'_>,
     option: Named,
@@ -181,6 +192,7 @@ pub(crate) fn instant(
     }
 }
 
+/// Reads the width of the search in ticks, which may be left out.
 pub(crate) fn width(matches: &ArgMatches<'_>) -> Result<Option<u32>, Named>
     ensures { result ≡ part width_of opt.Width Optional (values_of matches.now opt.Width) }
 {
@@ -188,6 +200,7 @@ pub(crate) fn width(matches: &ArgMatches<'_>) -> Result<Option<u32>, Named>
     check_use(Named::Width, Use::Optional, read)
 }
 
+/// Reads the depth of the search, which may be left out.
 pub(crate) fn depth(matches: &ArgMatches<'_>) -> Result<Option<u32>, Named>
     ensures { result ≡ part depth_of opt.Depth Optional (values_of matches.now opt.Depth) }
 {
@@ -195,6 +208,7 @@ pub(crate) fn depth(matches: &ArgMatches<'_>) -> Result<Option<u32>, Named>
     check_use(Named::Depth, Use::Optional, read)
 }
 
+/// Reads the number of workers, which may be left out.
 pub(crate) fn workers(matches: &ArgMatches<'_>) -> Result<Option<u32>, Named>
     ensures { result ≡ part workers_of opt.Workers Optional (values_of matches.now opt.Workers) }
 {
@@ -202,6 +216,7 @@ pub(crate) fn workers(matches: &ArgMatches<'_>) -> Result<Option<u32>, Named>
     check_use(Named::Workers, Use::Optional, read)
 }
 
+/// Reads the rule by which nodes are cut, which may be left out.
 pub(crate) fn cut(matches: &ArgMatches<'_>) -> Result<Option<CutRule>, Named>
     ensures { result ≡ part cut_of opt.Cut Optional (values_of matches.now opt.Cut) }
 {
@@ -209,6 +224,7 @@ pub(crate) fn cut(matches: &ArgMatches<'_>) -> Result<Option<CutRule>, Named>
     check_use(Named::Cut, Use::Optional, read)
 }
 
+/// Reads the layout of a generated text, which is needed.
 pub(crate) fn layout(matches: &ArgMatches<'_>) -> Result<u16, Named>
     ensures { result ≡ needed layout_of opt.Layout (values_of matches.now opt.Layout) }
 {
@@ -216,6 +232,7 @@ pub(crate) fn layout(matches: &ArgMatches<'_>) -> Result<u16, Named>
     required(Named::Layout, read)
 }
 
+/// Reads the number of blocks of a generated text, which is needed.
 pub(crate) fn blocks(matches: &ArgMatches<'_>) -> Result<u32, Named>
     ensures { result ≡ needed blocks_of opt.Blocks (values_of matches.now opt.Blocks) }
 {
@@ -223,6 +240,7 @@ pub(crate) fn blocks(matches: &ArgMatches<'_>) -> Result<u32, Named>
     required(Named::Blocks, read)
 }
 
+/// Reads the seed of a generated text, which is needed.
 pub(crate) fn seed(matches: &ArgMatches<'_>) -> Result<u64, Named>
     ensures { result ≡ needed seed_of opt.Seed (values_of matches.now opt.Seed) }
 {
@@ -230,6 +248,7 @@ pub(crate) fn seed(matches: &ArgMatches<'_>) -> Result<u64, Named>
     required(Named::Seed, read)
 }
 
+/// Reads the polynomial of a scalar, which is needed.
 pub(crate) fn quad(matches: &ArgMatches<'_>) -> Result<Polynomial, Named>
     ensures { result ≡ needed polynomial_of opt.Quad (values_of matches.now opt.Quad) }
 {
@@ -237,7 +256,7 @@ pub(crate) fn quad(matches: &ArgMatches<'_>) -> Result<Polynomial, Named>
     required(Named::Quad, read)
 }
 
-// An end of the span of a scalar.
+// Reads the first or last time of a scalar's span, a whole number that is needed.
 pub(crate) fn scalar_time(matches: &ArgMatches<'_>, option: Named) -> Result<i64, Named>
     ensures { result ≡ needed scalar_time_of option (values_of matches.now option) }
 {
@@ -245,7 +264,7 @@ pub(crate) fn scalar_time(matches: &ArgMatches<'_>, option: Named) -> Result<i64
     required(option, read)
 }
 
-// The name of the file that holds the certificate, where it has one.
+// Returns the name of the file that holds the certificate, or none where it is left out or empty.
 pub(crate) fn cert<'a>(matches: &ArgMatches<'a>) -> Option<&'a str>
     ensures { text_in result ≡ option_and_then name_of (values_of matches.now opt.Cert) }
 {
@@ -255,7 +274,8 @@ pub(crate) fn cert<'a>(matches: &ArgMatches<'a>) -> Option<&'a str>
     }
 }
 
-/// Both parts, or the first of the two that is bad.
+/// Joins two parts, or returns the first of them that is bad. Options are joined in the order of the table, so the
+/// option that is reported is the first there.
 pub(crate) fn pair<A: Copy, B: Copy>(
     first: Result<A, Named>,
     second: Result<B, Named>,

@@ -1,4 +1,4 @@
-// The numbers of scalars: what a word stands for.
+// Readers of the words of a scalar: each returns the number or polynomial that a word stands for, or none.
 ghost use Rattle.std.specs.Prelude.{◌≡◌, ◌≤◌, IfSome, neg_ℤ, option_map, pos, unsigned_abs};
 ghost use Rattle.spec_requests.specs.Options.{at_comma, factor_of, scalar_time_of, signed_of};
 ghost use Rattle.spec_scalars.specs.Quads.{is_small};
@@ -10,7 +10,8 @@ use spec_requests::{
 };
 use spec_scalars::{MAX_FACTOR, MAX_SUMMAND};
 
-/// The numbers of a polynomial p t^2 + q t + r that can be searched for.
+/// The numbers of a polynomial p t^2 + q t + r that can be searched for: p and q of at most 2^20 in magnitude, r of
+/// at most 2^62.
 #[derive(Clone, Copy)]
 pub(crate) struct Polynomial {
     pub(crate) p: i64,
@@ -18,6 +19,7 @@ pub(crate) struct Polynomial {
     pub(crate) r: i64,
 }
 
+// Returns a number as it stands, with a sign. None stays none.
 fn above_0(number: Option<u64>) -> Option<i128>
     ensures { result ≡ option_map pos number }
 {
@@ -27,6 +29,7 @@ fn above_0(number: Option<u64>) -> Option<i128>
     }
 }
 
+// Returns the negative of a number. None stays none.
 fn below_0(number: Option<u64>) -> Option<i128>
     ensures { result ≡ option_map (λ n. neg_ℤ (pos n)) number }
 {
@@ -36,8 +39,8 @@ fn below_0(number: Option<u64>) -> Option<i128>
     }
 }
 
-// The whole number that a word of 1 to `digits` digits is, perhaps with a minus sign before them, where its magnitude is
-// at most `most`.
+// Reads a whole number of 1 to `digits` digits, with an optional minus sign. None for another word, or a magnitude
+// above `most`.
 fn signed(word: &str, digits: usize, most: u64) -> Option<i128>
     ensures signed { result ≡ signed_of digits most word.now }
     ensures most { IfSome result (λ number. unsigned_abs number ≤ most) }
@@ -48,7 +51,8 @@ fn signed(word: &str, digits: usize, most: u64) -> Option<i128>
     }
 }
 
-/// A time of a scalar.
+/// Reads a time of a scalar: a whole number of at most 12 digits, with an optional minus sign. None for any other
+/// word.
 pub(crate) fn time(word: &str) -> Option<i64>
     ensures { result ≡ scalar_time_of word.now }
 {
@@ -58,19 +62,23 @@ pub(crate) fn time(word: &str) -> Option<i64>
     }
 }
 
+// Reads a factor of a polynomial: a whole number of at most 19 digits, with an optional minus sign. None for any
+// other word.
 fn factor(word: &str) -> Option<i128>
     ensures { result ≡ factor_of word.now }
 {
     signed(word, MAX_DIGITS_OF_A_FACTOR, MAX_WRITTEN_FACTOR)
 }
 
-// What stands before the first comma, and what stands after it.
+// Splits a word at its first comma into what stands before and after it. None where there is no comma.
 fn at_comma<'a>(word: &'a str) -> Option<(&'a str, &'a str)>
     ensures { bytes_of_two result ≡ at_comma word.entry.now }
 {
     word.split_once(',')
 }
 
+// Tells whether the factors are small enough to be searched for: p and q of at most 2^20, r of at most 2^62 in
+// magnitude.
 fn is_small(p: i128, q: i128, r: i128) -> bool
     ensures { result ≡ is_small (record { p = p; q = q; r = r }) }
 {
@@ -79,7 +87,7 @@ fn is_small(p: i128, q: i128, r: i128) -> bool
         && r.unsigned_abs() <= u128::from(MAX_SUMMAND)
 }
 
-// The polynomial of these numbers, where it can be searched for.
+// Returns the polynomial of these factors, or none where a factor is too large to be searched for.
 fn small(p: i128, q: i128, r: i128) -> Option<Polynomial>
     ensures { result ≡ small_polynomial p q r }
 {
@@ -94,12 +102,14 @@ fn small(p: i128, q: i128, r: i128) -> Option<Polynomial>
     }
 }
 
+// Returns the polynomial of three factors. None where one could not be read or is too large.
 fn of_numbers(p: Option<i128>, q: Option<i128>, r: Option<i128>) -> Option<Polynomial>
     ensures { result ≡ polynomial_of_numbers p q r }
 {
     small(p?, q?, r?)
 }
 
+// Reads a polynomial from its first word and the two others. None where there are no others, or one cannot be read.
 fn of_two(p: &str, others: Option<(&str, &str)>) -> Option<Polynomial>
     ensures { result ≡ polynomial_of_two p.now (bytes_of_two others.entry) }
 {
@@ -109,7 +119,8 @@ fn of_two(p: &str, others: Option<(&str, &str)>) -> Option<Polynomial>
     }
 }
 
-/// A polynomial that can be searched for: its three numbers, joined by commas.
+/// Reads a polynomial that can be searched for: its three numbers p, q and r, joined by commas. None for any other
+/// word.
 pub(crate) fn quad(word: &str) -> Option<Polynomial>
     ensures { result ≡ polynomial_of word.now }
 {

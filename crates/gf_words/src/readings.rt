@@ -1,4 +1,4 @@
-// What `clap` reads in words.
+// What `clap` reads in the words of a command line, and the values and file names in it.
 ghost use Rattle.std.specs.Prelude.{◌≡◌, ◌⊎◌, IfErr, IfOk, map, string_bytes, true};
 ghost use Rattle.clap.specs.Faults.{is_simple_and_free};
 ghost use Rattle.clap.specs.Simple.{app_of};
@@ -10,7 +10,8 @@ use clap::{ArgMatches, Command};
 use spec_requests::{FileNames, Named, WordFault, option_name};
 use std::alloc::{AllocError, Global};
 
-/// What the command reads in the words, of which the first is its name.
+/// Reads the words, of which the first is the command's name, by the command's rules. An error is out of memory, or
+/// says that the rules refuse the words.
 pub(crate) fn read<'a>(
     command: Command<'a>,
     words: &'a [String],
@@ -27,6 +28,7 @@ pub(crate) fn read<'a>(
     }
 }
 
+// Returns why `clap` gave up: out of memory, or words that the command's rules refuse.
 fn fault(kind: ErrorKind) -> WordFault
     ensures { result ≡ word_fault kind }
 {
@@ -36,14 +38,15 @@ fn fault(kind: ErrorKind) -> WordFault
     }
 }
 
-/// The value of an option, or the word of `gen` with this name.
+/// Returns the word that was given for an option, or for a word of `gen` with that name. None where there is none.
 pub(crate) fn value<'a>(matches: &ArgMatches<'a>, option: Named) -> Option<&'a str>
     ensures { text_in result ≡ values_of matches.now option }
 {
     matches.get_str(option_name(option))
 }
 
-/// The files that the words name, in their order.
+/// Copies the names of the files that the words give, in their order. None given makes an empty list. The only error
+/// is out of memory.
 pub(crate) fn file_names(alloc: Global, matches: &ArgMatches<'_>) -> Result<FileNames, AllocError>
     ensures { IfOk result (λ names. names ≡ file_names_of matches.now) }
 {
@@ -53,6 +56,7 @@ pub(crate) fn file_names(alloc: Global, matches: &ArgMatches<'_>) -> Result<File
     }
 }
 
+// Copies texts in their order. The only error is out of memory.
 fn copies(alloc: Global, texts: &[&str]) -> Result<FileNames, AllocError>
     ensures { IfOk result (λ names. names ≡ map (λ text. text.now) texts.now) }
 {

@@ -1,4 +1,4 @@
-// The relations of sets: which kinds of events have them, and what a word stands for.
+// The relations of sets: which kinds of events have sets, which relations a kind has, and the names of both.
 ghost use Rattle.std.specs.Prelude.{◌≡◌, Some};
 ghost use Rattle.spec_requests.specs.Names.{relation_of};
 ghost use Rattle.spec_requests.specs.Options.{has_relation, has_sets, is_to_two, relation_for, set_kind_of, use_of_ref2};
@@ -7,7 +7,7 @@ use crate::forms::{self, named};
 use spec_kinds::{Kind, Use};
 use spec_requests::{RELATIONS, Relation};
 
-// Whether the events of the kind have no condition beside their function.
+// Tells whether a kind has sets: its events have no condition beside their function, and no radii.
 fn has_sets(kind: Kind) -> bool
     ensures { result ≡ has_sets kind }
 {
@@ -18,21 +18,21 @@ fn has_sets(kind: Kind) -> bool
     }
 }
 
-// Whether the relation is to two references.
+// Tells whether a relation compares with two references instead of one.
 fn is_to_two(relation: Relation) -> bool
     ensures { result ≡ is_to_two relation }
 {
     matches!(relation, Relation::Within | Relation::Outside)
 }
 
-// Whether the kind has as many references as the relation.
+// Tells whether a kind has a relation. A relation to two references needs a kind that has a reference.
 fn has_relation(kind: Kind, relation: Relation) -> bool
     ensures { result ≡ has_relation kind relation }
 {
     !is_to_two(relation) || !kind.reference().is_unused()
 }
 
-/// How a relation uses a second reference.
+/// Returns how a relation uses the second reference: it needs one, or has no use for it.
 pub(crate) fn use_of_ref2(relation: Relation) -> Use
     ensures { result ≡ use_of_ref2 (Some relation) }
 {
@@ -43,7 +43,7 @@ pub(crate) fn use_of_ref2(relation: Relation) -> Use
     }
 }
 
-/// The kind of this name, where it has sets.
+/// Returns the kind of this name, or none where there is no such kind or it has no sets.
 pub(crate) fn kind(word: &str) -> Option<Kind>
     ensures { result ≡ set_kind_of word.now }
 {
@@ -53,13 +53,14 @@ pub(crate) fn kind(word: &str) -> Option<Kind>
     }
 }
 
+// Returns the relation of this name for any kind, or none.
 fn any_relation(word: &str) -> Option<Relation>
     ensures { result ≡ relation_of word.now }
 {
     named(&RELATIONS, word)
 }
 
-/// The relation of this name, where the kind has it.
+/// Returns the relation of this name, or none where there is no such relation or the kind does not have it.
 pub(crate) fn relation(kind: Kind, word: &str) -> Option<Relation>
     ensures { result ≡ relation_for kind word.now }
 {

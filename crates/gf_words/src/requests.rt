@@ -1,4 +1,4 @@
-// What words ask for.
+// Requests: a command line is read by its command, and the options become a request or the first fault.
 ghost use Rattle.std.specs.Prelude.{◌≡◌, ◌⊎◌, IfErr, IfOk, Ok, Err, Some, map, option_and_then, string_bytes, true};
 ghost use Rattle.spec_requests.specs.Commands.{command_rules, is_refused};
 ghost use Rattle.spec_requests.specs.Options.{name_of};
@@ -20,6 +20,7 @@ use clap::ArgMatches;
 use spec_requests::{CommandName, FindAsk, Named, Request, WordFault};
 use std::alloc::Global;
 
+// Makes the request of `find` from its options and files, or names the first option that is bad.
 fn find(alloc: Global, matches: &ArgMatches<'_>) -> Result<Request, WordFault>
     ensures { Answers (request_by command.Find (values_of matches.now) (file_names_of matches.now))
         result }
@@ -30,6 +31,7 @@ fn find(alloc: Global, matches: &ArgMatches<'_>) -> Result<Request, WordFault>
     }
 }
 
+// Makes the request of `cert`, which has the options of `find`, or names the first option that is bad.
 fn cert(alloc: Global, matches: &ArgMatches<'_>) -> Result<Request, WordFault>
     ensures { Answers (request_by command.Cert (values_of matches.now) (file_names_of matches.now))
         result }
@@ -40,6 +42,8 @@ fn cert(alloc: Global, matches: &ArgMatches<'_>) -> Result<Request, WordFault>
     }
 }
 
+// Makes the request of `verify`: a search as `find` has it, and the certificate. Else names the first option that is
+// bad.
 fn verify(alloc: Global, matches: &ArgMatches<'_>) -> Result<Request, WordFault>
     ensures { Answers (request_by command.Verify (values_of matches.now)
         (file_names_of matches.now)) result }
@@ -50,7 +54,8 @@ fn verify(alloc: Global, matches: &ArgMatches<'_>) -> Result<Request, WordFault>
     }
 }
 
-// A search and its certificate, which has to be named.
+// Adds the name of the certificate to a search. The option is bad where it is left out or empty. The other error is
+// out of memory.
 fn with_certificate(
     alloc: Global,
     matches: &ArgMatches<'_>,
@@ -68,6 +73,7 @@ fn with_certificate(
     }
 }
 
+// Makes the request of `check` from its files. The only error is out of memory.
 fn check(alloc: Global, matches: &ArgMatches<'_>) -> Result<Request, WordFault>
     ensures { Answers (Ok (Check (file_names_of matches.now))) result }
 {
@@ -77,7 +83,7 @@ fn check(alloc: Global, matches: &ArgMatches<'_>) -> Result<Request, WordFault>
     }
 }
 
-// What the command is asked for by what was read.
+// Makes the request of a command from what `clap` read, or names the first option that is bad.
 fn request_by(
     alloc: Global,
     name: CommandName,
@@ -96,7 +102,8 @@ fn request_by(
     }
 }
 
-// What the command of this name reads in the words, of which it is the first.
+// Reads the words by the rules of the command that the first of them names. An error is out of memory, or says that
+// the rules refuse the words.
 fn matches_of<'a>(
     alloc: Global,
     name: CommandName,
@@ -113,7 +120,7 @@ fn matches_of<'a>(
     }
 }
 
-// What the words ask of this command, which the first of them names.
+// Makes the request that the words ask of a command, which the first of them names, or returns the first fault.
 fn request_for(alloc: Global, name: CommandName, words: &[String]) -> Result<Request, WordFault>
     ensures { Answers (request_for (Some name) (map string_bytes words.now)) result }
 {

@@ -1,4 +1,4 @@
-// The scalars that words ask for.
+// Scalars: the options of `scalar` become the request for the times at which a polynomial passes 0.
 ghost use Rattle.std.specs.Prelude.{◌≡◌, IfOk};
 ghost use Rattle.spec_requests.specs.Requests.{scalar_by, scalar_of};
 ghost use Rattle.gf_words.specs.Answers.{Answers};
@@ -14,7 +14,7 @@ use spec_requests::{Named, Request, ScalarAsk, WordFault};
 use spec_scalars::Plan;
 use std::alloc::{AllocError, Global};
 
-// A scalar as its options ask for it, without the text of its polynomial.
+// A scalar by its options, in whole numbers of time, without the text of its polynomial.
 #[derive(Clone, Copy)]
 pub(crate) struct ScalarOptions {
     pub(crate) polynomial: Polynomial,
@@ -24,6 +24,7 @@ pub(crate) struct ScalarOptions {
     pub(crate) limits: Limits,
 }
 
+// Reads the first and the last time of a scalar's span, both needed, or names the first that is bad.
 fn read_times(matches: &ArgMatches<'_>) -> Result<(i64, i64), Named>
     ensures { result ≡ times_read (values_of matches.now) }
 {
@@ -31,7 +32,8 @@ fn read_times(matches: &ArgMatches<'_>) -> Result<(i64, i64), Named>
     pair(from, parts::scalar_time(matches, Named::To))
 }
 
-// The options of `scalar` in their order. What may be left out has its default.
+// Reads the options of `scalar` in the order of their faults, or names the first that is bad. An option that may be
+// left out has its default.
 fn read_scalar(matches: &ArgMatches<'_>) -> Result<ScalarOptions, Named>
     ensures { result ≡ scalar_read (values_of matches.now) }
 {
@@ -49,7 +51,7 @@ fn read_scalar(matches: &ArgMatches<'_>) -> Result<ScalarOptions, Named>
     }
 }
 
-// The scalar as it was read, with the text of its polynomial.
+// Adds the text of the polynomial, as it was given, to options that were read. The only error is out of memory.
 fn found(
     alloc: Global,
     matches: &ArgMatches<'_>,
@@ -75,7 +77,7 @@ fn found(
     })
 }
 
-/// The scalar that the words ask for, or the first option that is bad.
+/// Makes the request of `scalar` from its options. An error names the first option that is bad, or is out of memory.
 pub(crate) fn scalar(alloc: Global, matches: &ArgMatches<'_>) -> Result<Request, WordFault>
     ensures { Answers (scalar_by (values_of matches.now)) result }
 {

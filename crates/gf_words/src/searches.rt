@@ -1,4 +1,4 @@
-// The search that words ask for.
+// Searches: the options of `find`, `cert` and `verify` become a search, or name the first option that is bad.
 ghost use Rattle.std.specs.Prelude.{◌≡◌, ◌++◌, IfOk, Some, if◌then◌else◌, option_and_then, unwrap_or};
 ghost use Rattle.spec_requests.specs.declared.request.Named.TheVariants as opt;
 ghost use Rattle.spec_requests.specs.Requests.{nought, ref2_text, search_by, search_of, values_text};
@@ -22,7 +22,7 @@ use spec_text::Decimal;
 use spec_trees::CutRule;
 use std::alloc::{AllocError, Global};
 
-// The target, the second body, where the kind has one, and the observer.
+// The body that is looked at, the second body of a kind that has one, and the observer.
 #[derive(Clone, Copy)]
 pub(crate) struct Bodies {
     pub(crate) target: Body,
@@ -30,21 +30,22 @@ pub(crate) struct Bodies {
     pub(crate) observer: Body,
 }
 
-// The frame, and the axis of a coordinate.
+// The frame, and the number of the axis of a coordinate, 0 to 2.
 #[derive(Clone, Copy)]
 pub(crate) struct Axes {
     pub(crate) frame: Frame,
     pub(crate) axis: u8,
 }
 
-// The numbers of an event.
+// The two numbers of an event: a reference value and 0, or two radii.
 #[derive(Clone, Copy)]
 pub(crate) struct Numbers {
     pub(crate) value1: Decimal,
     pub(crate) value2: Decimal,
 }
 
-// How many ticks a second has, and the ends of the span, in ticks since J2000 in TDB, where they are given.
+// The number of ticks in a second, and the first and last time of the span in ticks since J2000 in TDB. A time that
+// is left out is the files' own.
 #[derive(Clone, Copy)]
 pub(crate) struct Ends {
     pub(crate) tick: u32,
@@ -52,7 +53,7 @@ pub(crate) struct Ends {
     pub(crate) to: Option<i64>,
 }
 
-// How the span is searched.
+// How a span is searched: the width in ticks, the depth, the number of workers and the rule by which nodes are cut.
 #[derive(Clone, Copy)]
 pub(crate) struct Limits {
     pub(crate) width: u32,
@@ -61,7 +62,7 @@ pub(crate) struct Limits {
     pub(crate) cut: CutRule,
 }
 
-// A search as its options ask for it, without the texts: the numbers as they are given, and the files.
+// A search by its options, without its texts: the numbers as they are printed, and the names of the files.
 #[derive(Clone, Copy)]
 pub(crate) struct SearchOptions {
     pub(crate) ask: Ask,
@@ -69,14 +70,15 @@ pub(crate) struct SearchOptions {
     pub(crate) limits: Limits,
 }
 
-// A number, or 0 where it is left out.
+// Returns a number, or 0 where it was left out.
 fn number_or_0(number: Option<Decimal>) -> Decimal
     ensures { result ≡ unwrap_or number nought }
 {
     number.unwrap_or(Decimal { mant: 0, exp: 0 })
 }
 
-// The first number of an event: its radius where the kind has radii, else its reference value.
+// Returns the first number of an event: its radius where the kind has radii, else its reference value. It is 0 where
+// it was left out.
 fn first_number(kind: Kind, radius: Option<Decimal>, reference: Option<Decimal>) -> Decimal
     ensures { result ≡ unwrap_or (if takes_radii kind then radius else reference) nought }
 {
@@ -89,6 +91,8 @@ fn first_number(kind: Kind, radius: Option<Decimal>, reference: Option<Decimal>)
 
 // ---- the options of `find` in their order, as this kind uses them. What may be left out has its default.
 
+// Reads the second body and the observer beside the target, or names the first that is bad. The default observer is
+// the barycentre of the solar system.
 fn read_bodies(matches: &ArgMatches<'_>, kind: Kind, target: Body) -> Result<Bodies, Named>
     ensures { result ≡ bodies_read (values_of matches.now) kind target }
 {
@@ -103,6 +107,7 @@ fn read_bodies(matches: &ArgMatches<'_>, kind: Kind, target: Body) -> Result<Bod
     }
 }
 
+// Reads the frame and the axis, or names the first that is bad. The defaults are `eq` and `x`.
 fn read_axes(matches: &ArgMatches<'_>, kind: Kind) -> Result<Axes, Named>
     ensures { result ≡ axes_read (values_of matches.now) kind }
 {
@@ -116,6 +121,7 @@ fn read_axes(matches: &ArgMatches<'_>, kind: Kind) -> Result<Axes, Named>
     }
 }
 
+// Reads both radii, as far as the kind uses them, or names the first that is bad.
 fn read_radii(
     matches: &ArgMatches<'_>,
     kind: Kind,
@@ -129,6 +135,7 @@ fn read_radii(
     )
 }
 
+// Reads the reference value and the radii as the two numbers of an event, or names the first that is bad.
 fn read_numbers(matches: &ArgMatches<'_>, kind: Kind) -> Result<Numbers, Named>
     ensures { result ≡ numbers_read (values_of matches.now) kind }
 {
@@ -142,7 +149,8 @@ fn read_numbers(matches: &ArgMatches<'_>, kind: Kind) -> Result<Numbers, Named>
     }
 }
 
-// What is asked of an ephemeris, for all turns, and what was read after the numbers of the event.
+// Reads the event of a search in either direction, and joins `last`, which was read after its numbers. Else names the
+// first option that is bad.
 fn read_ask<X: Copy>(
     matches: &ArgMatches<'_>,
     kind: Kind,
@@ -173,6 +181,8 @@ fn read_ask<X: Copy>(
     }
 }
 
+// Reads the first and last time of the span, in ticks since J2000 in TDB, or names the first that is bad. Each may be
+// left out.
 fn read_span(matches: &ArgMatches<'_>) -> Result<(Option<i64>, Option<i64>), Named>
     ensures { result ≡ span_read (values_of matches.now) }
 {
@@ -181,6 +191,8 @@ fn read_span(matches: &ArgMatches<'_>) -> Result<(Option<i64>, Option<i64>), Nam
     pair(from, parts::instant(matches, Named::To, tick))
 }
 
+// Reads the ticks of a second and the span, or names the first option that is bad. A second has one tick where none
+// is given.
 fn read_ends(matches: &ArgMatches<'_>) -> Result<Ends, Named>
     ensures { result ≡ ends_read (values_of matches.now) }
 {
@@ -194,6 +206,8 @@ fn read_ends(matches: &ArgMatches<'_>) -> Result<Ends, Named>
     }
 }
 
+/// Reads how a span is searched, or names the first option that is bad. The defaults are one tick, depth 40, one
+/// worker and halves.
 pub(crate) fn read_limits(matches: &ArgMatches<'_>) -> Result<Limits, Named>
     ensures { result ≡ limits_read (values_of matches.now) }
 {
@@ -210,7 +224,8 @@ pub(crate) fn read_limits(matches: &ArgMatches<'_>) -> Result<Limits, Named>
     }
 }
 
-/// A search for all turns without its texts, and what was read after the numbers of its event.
+/// Reads a search in either direction without its texts, and joins `last`, which was read after the numbers of its
+/// event. Else names the first option that is bad.
 pub(crate) fn read_search<X: Copy>(
     matches: &ArgMatches<'_>,
     kind: Kind,
@@ -228,6 +243,7 @@ pub(crate) fn read_search<X: Copy>(
 
 // ---- the texts
 
+/// Returns the word that was given for an option, or the default.
 pub(crate) fn word_or<'a>(matches: &ArgMatches<'a>, option: Named, default: &'a str) -> &'a str
     ensures { result.now ≡ unwrap_or (values_of matches.now option) default.entry.now }
 {
@@ -237,13 +253,14 @@ pub(crate) fn word_or<'a>(matches: &ArgMatches<'a>, option: Named, default: &'a 
     }
 }
 
+/// Copies a word into a text. The only error is out of memory.
 pub(crate) fn text(alloc: Global, word: &str) -> Result<Text, AllocError>
     ensures { IfOk result (λ text. text ≡ word.now) }
 {
     Ok(Text::new(String::from_str(alloc, word)?))
 }
 
-/// The text with a comma and a second word, where there is one.
+/// Appends a comma and a second word to a text, or nothing where there is none. The only error is out of memory.
 pub(crate) fn with_second(first: Text, second: Option<&str>) -> Result<Text, AllocError>
     ensures { IfOk result (λ text. text ≡ first ++ ref2_text (text_in second.entry)) }
 {
@@ -258,7 +275,8 @@ pub(crate) fn with_second(first: Text, second: Option<&str>) -> Result<Text, All
     }
 }
 
-/// The numbers of the event as they are given.
+/// Returns the numbers of an event as they are printed: two radii joined by a comma, the reference value, or `-`
+/// where the kind has neither. A reference that is left out is `0`. The only error is out of memory.
 pub(crate) fn values_text(
     alloc: Global,
     matches: &ArgMatches<'_>,
@@ -276,7 +294,8 @@ pub(crate) fn values_text(
     text(alloc, word_or(matches, Named::Ref, "0"))
 }
 
-/// The search for these turns, with these numbers as they are given and its files.
+/// Makes the search in this direction from its options, with the text of its numbers and the names of its files. The
+/// only error is out of memory.
 pub(crate) fn with_texts(
     alloc: Global,
     matches: &ArgMatches<'_>,
@@ -303,7 +322,8 @@ pub(crate) fn with_texts(
     })
 }
 
-// The search as it was read, with its texts.
+// Adds the direction, the text of the numbers and the names of the files to a search that was read. The only error is
+// out of memory.
 fn found(
     alloc: Global,
     matches: &ArgMatches<'_>,
@@ -321,7 +341,8 @@ fn found(
     with_texts(alloc, matches, search, dir.unwrap_or(Dir::Any), values)
 }
 
-// The search of this kind and this target, or the first option that is bad.
+// Makes the search of a kind and a target that were read. An error names the first option that is bad, or is out of
+// memory.
 fn search_of_target(
     alloc: Global,
     matches: &ArgMatches<'_>,
@@ -341,7 +362,8 @@ fn search_of_target(
     }
 }
 
-/// The search that the words ask for, or the first option that is bad.
+/// Makes the search that the options of `find` ask for. An error names the first option that is bad, or is out of
+/// memory.
 pub(crate) fn search(alloc: Global, matches: &ArgMatches<'_>) -> Result<FindAsk, WordFault>
     ensures { Answers (search_by (values_of matches.now) (file_names_of matches.now)) result }
 {

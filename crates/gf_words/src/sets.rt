@@ -1,4 +1,4 @@
-// The sets that words ask for.
+// Sets: the options of `set` become a search in either direction with a relation, or name the first that is bad.
 ghost use Rattle.std.specs.Prelude.{◌≡◌, IfOk, Ok, Some, option_and_then};
 ghost use Rattle.spec_requests.specs.declared.request.Named.TheVariants as opt;
 ghost use Rattle.spec_requests.specs.declared.tables.CommandName.TheVariants as command;
@@ -21,13 +21,14 @@ use spec_requests::{Named, Relation, Request, WordFault};
 use spec_text::Decimal;
 use std::alloc::{AllocError, Global};
 
-// The relation, and its second reference, where it is to two.
+// A relation, and the second reference of a relation to two of them.
 #[derive(Clone, Copy)]
 pub(crate) struct References {
     pub(crate) relation: Relation,
     pub(crate) ref2: Option<Decimal>,
 }
 
+// Reads the relation and its second reference, or names the first that is bad.
 fn read_references(matches: &ArgMatches<'_>, kind: Kind) -> Result<References, Named>
     ensures { result ≡ references_read (values_of matches.now) kind }
 {
@@ -37,7 +38,7 @@ fn read_references(matches: &ArgMatches<'_>, kind: Kind) -> Result<References, N
     }
 }
 
-// The relation and its second reference, which it needs or does not use.
+// Reads the second reference of a relation. It is bad where a relation to two has none, or another relation has one.
 fn read_ref2(matches: &ArgMatches<'_>, relation: Relation) -> Result<References, Named>
     ensures { result ≡ references_after (values_of matches.now opt.Ref2) (Ok relation) }
 {
@@ -47,7 +48,7 @@ fn read_ref2(matches: &ArgMatches<'_>, relation: Relation) -> Result<References,
     }
 }
 
-// The set as it was read, with its texts.
+// Adds the texts of the numbers and of the files to a set that was read. The only error is out of memory.
 fn found(
     alloc: Global,
     matches: &ArgMatches<'_>,
@@ -70,7 +71,8 @@ fn found(
     })
 }
 
-// The set of this kind and this target, or the first option that is bad.
+// Makes the set of a kind and a target that were read. An error names the first option that is bad, or is out of
+// memory.
 fn set_of_target(
     alloc: Global,
     matches: &ArgMatches<'_>,
@@ -91,7 +93,8 @@ fn set_of_target(
     }
 }
 
-/// The set that the words ask for, or the first option that is bad.
+/// Makes the request of `set` from its options and files. An error names the first option that is bad, or is out of
+/// memory.
 pub(crate) fn set(alloc: Global, matches: &ArgMatches<'_>) -> Result<Request, WordFault>
     ensures { Answers (request_by command.Set (values_of matches.now) (file_names_of matches.now))
         result }

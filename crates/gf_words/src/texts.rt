@@ -1,4 +1,4 @@
-// The generated text that words ask for.
+// Generated texts: the words and the option of `gen` become a request, or name the first that is bad.
 ghost use Rattle.std.specs.Prelude.{◌≡◌};
 ghost use Rattle.spec_requests.specs.Requests.{text_by};
 ghost use Rattle.gf_words.specs.Parts.{text_read};
@@ -8,7 +8,8 @@ use crate::parts::{self, pair};
 use clap::ArgMatches;
 use spec_requests::{DEFAULT_WORKERS, Named, Request, WordFault};
 
-// The words of `gen` and its option in their order. The one layout needs no place in the request.
+// Reads the words of `gen` and its option in the order of their faults. There is one layout, so the request does not
+// hold it.
 fn text(matches: &ArgMatches<'_>) -> Result<Request, Named>
     ensures { result ≡ text_read (values_of matches.now) }
 {
@@ -25,7 +26,7 @@ fn text(matches: &ArgMatches<'_>) -> Result<Request, Named>
     }
 }
 
-/// The generated text that the words ask for, or the first of them that is bad.
+/// Makes the request of `gen` from its words and its option, or names the first that is bad.
 pub(crate) fn generated(matches: &ArgMatches<'_>) -> Result<Request, WordFault>
     ensures { result ≡ text_by (values_of matches.now) }
 {

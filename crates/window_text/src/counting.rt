@@ -1,9 +1,10 @@
-// How many windows there are of each sort.
+// Counts of windows by their sort.
 ghost use Rattle.std.specs.Prelude.{◌≡◌};
 ghost use Rattle.spec_output.specs.Report.{certain_count, undecided_count};
 
 use spec_trees::{Holds, Window};
 
+/// Counts the windows that hold exactly one event.
 pub(crate) fn certain_count(windows: &[Window]) -> usize
     ensures { result ≡ certain_count windows.now }
 {
@@ -16,6 +17,7 @@ pub(crate) fn certain_count(windows: &[Window]) -> usize
     count
 }
 
+/// Counts the windows that are undecided: they may hold events, and may hold none.
 pub(crate) fn undecided_count(windows: &[Window]) -> usize
     ensures { result ≡ undecided_count windows.now }
 {

@@ -1,6 +1,6 @@
-// Out of memory.
+// The error of the calls that make texts.
 
 use std::alloc::AllocError;
 
-/// Out of memory.
+/// The one error of a call that makes a text: out of memory.
 pub type Memory = AllocError;

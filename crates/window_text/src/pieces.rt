@@ -1,10 +1,10 @@
-// Pieces of a line: a name, and what stands behind it.
+// Pieces of a line: a name and a value after it. Calls fail only where memory is out.
 ghost use Rattle.std.specs.Prelude.{◌≡◌, ◌++◌, OnOk, codes, string_bytes};
 ghost use Rattle.std.specs.Fmt.{decimal, signed_decimal};
 
 use std::alloc::AllocError;
 
-/// A name and a value, each with its blanks.
+/// Appends a name and a value after it. Blanks between them belong to the name.
 pub(crate) fn add_pair(text: &mut String, name: &str, value: &str) -> Result<(), AllocError>
     ensures { OnOk result (string_bytes text.new
         ≡ string_bytes text.old ++ (name.now ++ value.now)) }
@@ -13,7 +13,7 @@ pub(crate) fn add_pair(text: &mut String, name: &str, value: &str) -> Result<(),
     text.push_str(value)
 }
 
-/// A name and a number.
+/// Appends a name and a number in decimal digits.
 pub(crate) fn add_number(text: &mut String, name: &str, number: u64) -> Result<(), AllocError>
     ensures { OnOk result (string_bytes text.new
         ≡ string_bytes text.old ++ (name.now ++ decimal number)) }
@@ -22,7 +22,7 @@ pub(crate) fn add_number(text: &mut String, name: &str, number: u64) -> Result<(
     add_pair(text, name, buffer.format(number))
 }
 
-/// A name and a number that may be below 0.
+/// Appends a name and a number in decimal digits, with a minus sign below 0.
 pub(crate) fn add_signed_number(
     text: &mut String,
     name: &str,
@@ -35,7 +35,7 @@ pub(crate) fn add_signed_number(
     add_pair(text, name, buffer.format(number))
 }
 
-/// A name and a number, and the end of the line.
+/// Appends a name, a number in decimal digits, and the text that ends the line.
 pub(crate) fn add_last_number(
     text: &mut String,
     name: &str,
@@ -49,7 +49,7 @@ pub(crate) fn add_last_number(
     text.push_str(end)
 }
 
-/// The end of a line.
+/// Appends a line feed.
 pub(crate) fn add_line_feed(text: &mut String) -> Result<(), AllocError>
     ensures { OnOk result (string_bytes text.new ≡ string_bytes text.old ++ codes "\n") }
 {

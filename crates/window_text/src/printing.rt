@@ -1,4 +1,4 @@
-// The calendar text of a time.
+// The calendar text of a time. Calls that append fail only where memory is out.
 ghost use Rattle.std.specs.Prelude.{◌≡◌, ◌<◌, ◌++◌, IfOk, OnOk, string_bytes, unsigned_abs};
 ghost use Rattle.std.specs.Fmt.{decimal};
 ghost use Rattle.jiff_core.specs.Calendar.{IsYear};
@@ -14,9 +14,9 @@ use spec_ephemeris::DAY;
 use spec_times::{HALF_DAY, J2000_DAY};
 use std::alloc::{AllocError, Global};
 
-/// The calendar text `YYYY-MM-DDTHH:MM:SS` of a time, in ticks since J2000 in TDB, of which a second has so many, from
-/// Julian date 0 to Julian date 5,000,000. Where it has more than one, a point and three digits follow: the ticks past
-/// that second. A year below 0 has a sign and six digits; the year before 1 is 0.
+/// Returns the calendar text `YYYY-MM-DDTHH:MM:SS` of a time in ticks since J2000 in TDB, from Julian date 0 to
+/// Julian date 5,000,000. Where a second has 1,000 ticks, a point and three digits follow: the ticks past the second.
+/// A year below 0 has a sign and six digits; the year before 1 is 0. The only error is out of memory.
 pub fn time_text(alloc: Global, time: i64, tick: u32) -> Result<String, Memory>
     requires tick { IsTick tick }
     requires time { IsTimeIn tick time }
@@ -27,7 +27,7 @@ pub fn time_text(alloc: Global, time: i64, tick: u32) -> Result<String, Memory>
     Ok(text)
 }
 
-/// A text, and the calendar text of a time in ticks after it.
+/// Appends the calendar text of a time in ticks since J2000 in TDB.
 pub(crate) fn add_tick(text: &mut String, tick: u32, time: i64) -> Result<(), AllocError>
     requires tick { IsTick tick }
     requires time { IsTimeIn tick time }
@@ -37,7 +37,7 @@ pub(crate) fn add_tick(text: &mut String, tick: u32, time: i64) -> Result<(), Al
     add_fraction(text, tick, past_second(tick, time))
 }
 
-// The last second that has begun at a time.
+// Returns the second that a time in ticks lies in: the last whole second at or before it, since J2000 in TDB.
 fn second_of(tick: u32, time: i64) -> i64
     requires tick { IsTick tick }
     requires time { IsTimeIn tick time }
@@ -47,7 +47,7 @@ fn second_of(tick: u32, time: i64) -> i64
     time.div_euclid(i64::from(tick))
 }
 
-// The ticks past that second.
+// Returns the ticks from the last whole second to the time: 0 to 999.
 fn past_second(tick: u32, time: i64) -> u32
     requires { IsTick tick }
     ensures past { result ≡ past_second tick time }
@@ -56,7 +56,7 @@ fn past_second(tick: u32, time: i64) -> u32
     time.rem_euclid(i64::from(tick)) as u32
 }
 
-// The ticks past a second, where it has more than one.
+// Appends a point and the three digits of the ticks past a second, or nothing where a tick is a second.
 fn add_fraction(text: &mut String, tick: u32, past: u32) -> Result<(), AllocError>
     requires { past < 1_000 }
     ensures { OnOk result (string_bytes text.new
@@ -69,7 +69,7 @@ fn add_fraction(text: &mut String, tick: u32, past: u32) -> Result<(), AllocErro
     add_three_digits(text, past)
 }
 
-/// A text, and the calendar text of a second after it.
+/// Appends the calendar text of a time in whole seconds since J2000 in TDB.
 pub(crate) fn add_time(text: &mut String, time: i64) -> Result<(), AllocError>
     requires { IsTime time }
     ensures { OnOk result (string_bytes text.new ≡ string_bytes text.old ++ time_text time) }
@@ -77,7 +77,7 @@ pub(crate) fn add_time(text: &mut String, time: i64) -> Result<(), AllocError>
     add_calendar(text, date_of(time), clock_of(time))
 }
 
-// A date and a time of day, which comes so many seconds after midnight.
+// Appends a date and a time of day, which is given in seconds after midnight.
 fn add_calendar(text: &mut String, date: Date, clock: u32) -> Result<(), AllocError>
     requires { clock < 86_400 }
     ensures { OnOk result (string_bytes text.new
@@ -88,7 +88,7 @@ fn add_calendar(text: &mut String, date: Date, clock: u32) -> Result<(), AllocEr
     add_clock(text, clock)
 }
 
-// The date of the day that the time lies in.
+// Returns the date, in the proleptic Gregorian calendar, of the day that a time in seconds lies in.
 fn date_of(time: i64) -> Date
     requires { IsTime time }
     ensures { epoch_day result ≡ day_number time }
@@ -97,7 +97,7 @@ fn date_of(time: i64) -> Date
     Date::from_unix_epoch_day(day).unwrap()
 }
 
-// The seconds from its midnight on.
+// Returns the time of day in seconds after midnight: 0 to 86,399.
 fn clock_of(time: i64) -> u32
     requires { IsTime time }
     ensures value { result ≡ clock time }
@@ -106,6 +106,7 @@ fn clock_of(time: i64) -> u32
     (time + HALF_DAY).rem_euclid(DAY) as u32
 }
 
+// Appends a date as `YYYY-MM-DD`. A year below 0 has a sign and six digits.
 fn add_date(text: &mut String, date: Date) -> Result<(), AllocError>
     ensures { OnOk result (string_bytes text.new
         ≡ string_bytes text.old ++ date_text date.year date.month date.day) }
@@ -115,6 +116,7 @@ fn add_date(text: &mut String, date: Date) -> Result<(), AllocError>
     add_field(text, "-", date.day as u32)
 }
 
+// Appends a time of day, given in seconds after midnight, as `THH:MM:SS`.
 fn add_clock(text: &mut String, clock: u32) -> Result<(), AllocError>
     requires { clock < 86_400 }
     ensures { OnOk result (string_bytes text.new ≡ string_bytes text.old ++ clock_text clock) }
@@ -124,6 +126,7 @@ fn add_clock(text: &mut String, clock: u32) -> Result<(), AllocError>
     add_field(text, ":", clock % 60)
 }
 
+// Appends a year in four digits, or below 0 in a minus sign and six digits.
 fn add_year(text: &mut String, year: i16) -> Result<(), AllocError>
     requires { IsYear year }
     ensures { OnOk result (string_bytes text.new ≡ string_bytes text.old ++ year_text year) }
@@ -132,7 +135,7 @@ fn add_year(text: &mut String, year: i16) -> Result<(), AllocError>
     add_four_digits(text, year.unsigned_abs() as u32)
 }
 
-// What stands before the four digits of a year.
+// Returns what stands before the four digits of a year: nothing, or below 0 a minus sign and two zeros.
 fn year_sign(year: i16) -> &'static str
     requires { IsYear year }
     ensures { result.now ++ digits 4 (unsigned_abs year) ≡ year_text year }
@@ -140,6 +143,7 @@ fn year_sign(year: i16) -> &'static str
     if year < 0 { "-00" } else { "" }
 }
 
+// Appends a number below 10,000 in four digits.
 fn add_four_digits(text: &mut String, n: u32) -> Result<(), AllocError>
     requires { n < 10_000 }
     ensures { OnOk result (string_bytes text.new ≡ string_bytes text.old ++ digits 4 n) }
@@ -148,7 +152,7 @@ fn add_four_digits(text: &mut String, n: u32) -> Result<(), AllocError>
     add_two_digits(text, n % 100)
 }
 
-// A mark, and two digits behind it.
+// Appends a mark and a number below 100 in two digits.
 fn add_field(text: &mut String, mark: &str, n: u32) -> Result<(), AllocError>
     requires { n < 100 }
     ensures { OnOk result (string_bytes text.new
@@ -158,6 +162,7 @@ fn add_field(text: &mut String, mark: &str, n: u32) -> Result<(), AllocError>
     add_two_digits(text, n)
 }
 
+// Appends a number below 100 in two digits.
 fn add_two_digits(text: &mut String, n: u32) -> Result<(), AllocError>
     requires { n < 100 }
     ensures { OnOk result (string_bytes text.new ≡ string_bytes text.old ++ digits 2 n) }
@@ -167,6 +172,7 @@ fn add_two_digits(text: &mut String, n: u32) -> Result<(), AllocError>
     text.push_str(buffer.format(n))
 }
 
+// Appends a number below 1,000 in three digits.
 fn add_three_digits(text: &mut String, n: u32) -> Result<(), AllocError>
     requires { n < 1_000 }
     ensures { OnOk result (string_bytes text.new ≡ string_bytes text.old ++ digits 3 n) }
@@ -176,6 +182,7 @@ fn add_three_digits(text: &mut String, n: u32) -> Result<(), AllocError>
     text.push_str(buffer.format(n))
 }
 
+// Returns the zeros that bring a number below 1,000 to three digits.
 fn leading_zeros(n: u32) -> &'static str
     requires { n < 1_000 }
     ensures { result.now ++ decimal n ≡ digits 3 n }
@@ -189,6 +196,7 @@ fn leading_zeros(n: u32) -> &'static str
     }
 }
 
+// Returns the zero that brings a number below 10 to two digits, or nothing from 10 on.
 fn leading_zero(n: u32) -> &'static str
     requires { n < 100 }
     ensures { result.now ++ decimal n ≡ digits 2 n }

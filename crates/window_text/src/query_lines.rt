@@ -1,4 +1,5 @@
-// The line of a request: the event, what is wanted of it, how it is searched for, and from when to when.
+// The line of a request: the event, what is wanted of it, how it is searched for, and the span. Calls fail only where
+// memory is out.
 ghost use Rattle.std.specs.Prelude.{◌≡◌, ◌++◌, OnOk, string_bytes};
 ghost use Rattle.spec_ephemeris.specs.Ticks.{IsTick};
 ghost use Rattle.spec_output.specs.Report.{axes_text, axis_of_kind, bodies_text, event_text, limits_text, query_line, query_text, second_name, ticks_text};
@@ -12,7 +13,8 @@ use spec_requests::{FindAsk, axis_name, body_name, cut_name, frame_name};
 use spec_trees::CutRule;
 use std::alloc::AllocError;
 
-/// The event after a word, and what is wanted of it, which has a name, from one time to another.
+/// Appends the line of a request without its line feed: a first word, the event, the named thing that is wanted of
+/// it, the limits, and the span in calendar texts.
 pub(crate) fn add_query_line(
     text: &mut String,
     word: &str,
@@ -33,7 +35,8 @@ pub(crate) fn add_query_line(
     add_span(text, " span ", find.tick, from, to)
 }
 
-// The event after a word, and what is wanted of it, which has a name.
+// Appends the request without its span: a first word, the event, the named thing that is wanted of it, and the
+// limits.
 fn add_query(
     text: &mut String,
     word: &str,
@@ -50,6 +53,7 @@ fn add_query(
     add_ticks(text, find.tick)
 }
 
+// Appends the event after a first word: its kind, its bodies, frame and axis, and its numbers as they were given.
 fn add_event(text: &mut String, word: &str, find: &FindAsk) -> Result<(), AllocError>
     ensures { OnOk result (string_bytes text.new
         ≡ string_bytes text.old ++ event_text word.now find.now) }
@@ -60,6 +64,7 @@ fn add_event(text: &mut String, word: &str, find: &FindAsk) -> Result<(), AllocE
     add_pair(text, " values ", find.values.as_str())
 }
 
+// Appends the names of the target, the second body and the observer.
 fn add_bodies(text: &mut String, ask: Ask) -> Result<(), AllocError>
     ensures { OnOk result (string_bytes text.new ≡ string_bytes text.old ++ bodies_text ask) }
 {
@@ -68,6 +73,7 @@ fn add_bodies(text: &mut String, ask: Ask) -> Result<(), AllocError>
     add_pair(text, " observer ", body_name(ask.observer))
 }
 
+// Returns the name of the second body, or `-` where there is none.
 fn second_name(second: Option<Body>) -> &'static str
     ensures { result.now ≡ second_name second }
 {
@@ -77,6 +83,7 @@ fn second_name(second: Option<Body>) -> &'static str
     }
 }
 
+// Appends the names of the frame and of the axis.
 fn add_axes(text: &mut String, ask: Ask) -> Result<(), AllocError>
     ensures { OnOk result (string_bytes text.new ≡ string_bytes text.old ++ axes_text ask) }
 {
@@ -84,7 +91,7 @@ fn add_axes(text: &mut String, ask: Ask) -> Result<(), AllocError>
     add_pair(text, " axis ", axis_of_kind(ask.kind, ask.axis))
 }
 
-// The axis, of the kinds that have one.
+// Returns the name of the axis, or `-` for a kind that has none.
 fn axis_of_kind(kind: Kind, axis: u8) -> &'static str
     ensures { result.now ≡ axis_of_kind kind axis }
 {
@@ -95,7 +102,8 @@ fn axis_of_kind(kind: Kind, axis: u8) -> &'static str
     }
 }
 
-/// How a span is searched, whose narrowest windows may have this width.
+/// Appends how a span is searched: the width in the units of its times, the depth, and the rule by which nodes are
+/// cut.
 pub(crate) fn add_limits(
     text: &mut String,
     width: i128,
@@ -111,7 +119,7 @@ pub(crate) fn add_limits(
     add_pair(text, " cut ", cut_name(cut))
 }
 
-// How many ticks a second has, where that is more than one.
+// Appends the number of ticks in a second, or nothing where a tick is a second.
 fn add_ticks(text: &mut String, tick: u32) -> Result<(), AllocError>
     ensures { OnOk result (string_bytes text.new ≡ string_bytes text.old ++ ticks_text tick) }
 {

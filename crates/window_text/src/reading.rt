@@ -1,4 +1,4 @@
-// The time that a word stands for.
+// Readers of a time in seconds or as a calendar text. None of them allocates.
 ghost use Rattle.std.specs.Prelude.{◌≡◌, ◌≤◌, ◌<◌, ◌+◌, ◌*◌, ◌*ℤ◌, ◌+ℤ◌, ◌^◌, IfOk, IfSome, length, pos};
 ghost use Rattle.std.specs.Char.{is_ascii_digit};
 ghost use Rattle.std.specs.List.{list_all};
@@ -13,11 +13,11 @@ use crate::showing::time_shown;
 use spec_ephemeris::{FIRST_TIME, LAST_TIME};
 use spec_times::{MAX_TIME_DIGITS, TimeFault};
 
-/// The time that a word stands for, in ticks since J2000 in TDB, of which a second has so many. The word is a whole number
-/// of seconds, which is an optional `-` and 1 to 12 digits, or a calendar text `YYYY-MM-DDTHH:MM:SS`, in which a year
-/// below 0 has a `-` and six digits; where a second has 1,000 ticks, a point and three digits may end the calendar text.
-/// `NotTime` where the word has no such form or shows what no calendar and clock show, else `OutOfRange` where the time is
-/// not from Julian date 0 to Julian date 5,000,000. It does not allocate.
+/// Reads a time and returns it in ticks since J2000 in TDB. The word is a whole number of seconds, which is an
+/// optional `-` and 1 to 12 digits, or a calendar text `YYYY-MM-DDTHH:MM:SS`, in which a year below 0 has a `-` and
+/// six digits. Where a second has 1,000 ticks, a point and three digits may end the calendar text. The fault is
+/// `NotTime` where the word has no such form or shows what no calendar and clock show. Else it is `OutOfRange` where
+/// the time is not from Julian date 0 to Julian date 5,000,000. It does not allocate.
 pub fn read_time(word: &[u8], tick: u32) -> Result<i64, TimeFault>
     requires { IsTick tick }
     ensures { result ≡ tick_of tick word.now }
@@ -28,6 +28,7 @@ pub fn read_time(word: &[u8], tick: u32) -> Result<i64, TimeFault>
     }
 }
 
+// Returns a time in ticks that lies from Julian date 0 to Julian date 5,000,000, else `OutOfRange`.
 fn within_tick_limits(tick: u32, time: i64) -> Result<i64, TimeFault>
     requires { IsTick tick }
     ensures { result ≡ within_tick_limits tick time }
@@ -40,7 +41,8 @@ fn within_tick_limits(tick: u32, time: i64) -> Result<i64, TimeFault>
     }
 }
 
-// The ticks that a word shows on calendar and clock.
+// Reads a calendar text and returns its time in ticks. A point and three digits may end it where a second has 1,000
+// ticks.
 fn shown_tick(tick: u32, word: &[u8]) -> Result<i64, TimeFault>
     requires { IsTick tick }
     ensures { result ≡ shown_tick tick word.now }
@@ -53,7 +55,7 @@ fn shown_tick(tick: u32, word: &[u8]) -> Result<i64, TimeFault>
     }
 }
 
-// So many ticks past a second.
+// Returns the time in ticks that comes `past` ticks after a second that was read, or its fault, or `OutOfRange`.
 fn tick_from(tick: u32, past: u64, second: Result<i64, TimeFault>) -> Result<i64, TimeFault>
     requires tick { IsTick tick }
     requires second { IfOk second IsTime }
@@ -64,6 +66,7 @@ fn tick_from(tick: u32, past: u64, second: Result<i64, TimeFault>) -> Result<i64
     within_tick_limits(tick, ticks_past(second, tick, past))
 }
 
+// Converts seconds to ticks.
 fn in_ticks(second: i64, tick: u32) -> i64
     requires tick { IsTick tick }
     requires second { IsWithin (10 ^ 14) second }
@@ -72,6 +75,7 @@ fn in_ticks(second: i64, tick: u32) -> i64
     second * i64::from(tick)
 }
 
+// Converts seconds to ticks and adds the ticks past them.
 fn ticks_past(second: i64, tick: u32, past: u64) -> i64
     requires tick { IsTick tick }
     requires second { IsTime second }
@@ -81,13 +85,14 @@ fn ticks_past(second: i64, tick: u32, past: u64) -> i64
     second * i64::from(tick) + past as i64
 }
 
-// Whether a word ends in a point and three digits.
+// Tells whether a word ends in a point and three digits.
 fn has_fraction(word: &[u8]) -> bool
     ensures { result ≡ has_fraction word.now }
 {
     has_form(b".000", &word[word.len().saturating_sub(4)..])
 }
 
+/// Returns a time in seconds that lies from Julian date 0 to Julian date 5,000,000, else `OutOfRange`.
 pub(crate) fn within_limits(time: i64) -> Result<i64, TimeFault>
     ensures { result ≡ within_limits time }
 {
@@ -98,7 +103,7 @@ pub(crate) fn within_limits(time: i64) -> Result<i64, TimeFault>
     }
 }
 
-// The whole number that a word is.
+// Reads a whole number of 1 to 12 digits, with an optional minus sign. None for any other word.
 fn whole_time(word: &[u8]) -> Option<i64>
     ensures value { result ≡ whole_time word.now }
     ensures bound { IfSome result (IsWithin (10 ^ 14)) }
@@ -110,6 +115,7 @@ fn whole_time(word: &[u8]) -> Option<i64>
     }
 }
 
+// Reads a whole number of 1 to 12 digits. None for any other word.
 fn whole_of(digits: &[u8]) -> Option<i64>
     ensures value { result ≡ whole_of digits.now }
     ensures bound { IfSome result (IsWithin (10 ^ 14)) }
@@ -121,6 +127,7 @@ fn whole_of(digits: &[u8]) -> Option<i64>
     }
 }
 
+// Reads 1 to 12 digits and returns the negative of their number. None for any other word.
 fn negated_of(digits: &[u8]) -> Option<i64>
     ensures value { result ≡ negated_of digits.now }
     ensures bound { IfSome result (IsWithin (10 ^ 14)) }
@@ -132,26 +139,29 @@ fn negated_of(digits: &[u8]) -> Option<i64>
     }
 }
 
-// 1 to 12 digits.
+// Tells whether a word consists of 1 to 12 digits and nothing else.
 fn are_time_digits(word: &[u8]) -> bool
     ensures { result ≡ are_time_digits word.now }
 {
     are_digits(word) && is_between(1, MAX_TIME_DIGITS as u64, word.len() as u64)
 }
 
+// Tells whether all bytes are ASCII digits. No byte at all passes.
 fn are_digits(word: &[u8]) -> bool
     ensures { result ≡ list_all is_ascii_digit word.now }
 {
     word.iter().all(|byte| byte.is_ascii_digit())
 }
 
+/// Tells whether a number lies from `low` to `high`, both included.
 pub(crate) fn is_between(low: u64, high: u64, n: u64) -> bool
     ensures { result ≡ is_between low high n }
 {
     low <= n && n <= high
 }
 
-/// The number that digits write. There are at most 12.
+/// Returns the number that at most 12 digits write. A byte below `0` counts as 0, and one above `9` as more than 9,
+/// so callers test the bytes.
 pub(crate) fn value(digits: &[u8]) -> u64
     requires { length digits.now ≤ 12 }
     ensures value { result ≡ value digits.now }
@@ -164,7 +174,8 @@ pub(crate) fn value(digits: &[u8]) -> u64
     value
 }
 
-/// Whether a word looks as a picture does, in which a 0 stands for any digit and everything else for itself.
+/// Tells whether a word has the form of a picture of the same length. A `0` in the picture stands for any digit, and
+/// every other byte for itself.
 pub(crate) fn has_form(picture: &[u8], word: &[u8]) -> bool
     ensures { result ≡ has_form picture.now word.now }
 {
@@ -179,6 +190,7 @@ pub(crate) fn has_form(picture: &[u8], word: &[u8]) -> bool
     true
 }
 
+// Tells whether a byte is what a mark of a picture stands for: any digit for `0`, else the mark itself.
 fn fits(mark: u8, byte: u8) -> bool
     ensures { result ≡ fits mark byte }
 {

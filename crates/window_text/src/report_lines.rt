@@ -1,4 +1,4 @@
-// The texts of a search.
+// The texts about a search of an ephemeris: reports, and the two lines of a generated text.
 ghost use Rattle.std.specs.Prelude.{◌≡◌, ◌++◌, All, IfOk, OnOk, string_bytes};
 ghost use Rattle.spec_ephemeris.specs.Ticks.{IsTick};
 ghost use Rattle.spec_output.specs.Report.{HasTimes, generation, generation_line, report, request_line, verification};
@@ -12,8 +12,9 @@ use spec_requests::{FindAsk, dir_name};
 use spec_trees::Window;
 use std::alloc::{AllocError, Global};
 
-/// The report of the windows that a search found between two times: the request, a line for each window, and the counts.
-/// Times are ticks since J2000 in TDB, of which a second has as many as the request says, and are printed as calendar texts.
+/// Returns the report of the windows that a search found from `from` to `to`: the request, a line for each window,
+/// and the counts. Times come in ticks since J2000 in TDB and are printed as calendar texts. The only error is out of
+/// memory.
 pub fn report(
     alloc: Global,
     find: &FindAsk,
@@ -32,6 +33,7 @@ pub fn report(
     Ok(text.into_bytes())
 }
 
+// Appends the report of the windows that a search found. It fails only where memory is out.
 fn add_report(
     text: &mut String,
     find: &FindAsk,
@@ -52,7 +54,8 @@ fn add_report(
     add_end_line(text, windows)
 }
 
-/// The two lines of a search in a generated text, which has so many blocks and bytes.
+/// Returns the two lines about a search in a generated text: its blocks, seed and bytes, and the counts of windows.
+/// The only error is out of memory.
 pub fn generation(
     alloc: Global,
     blocks: u32,
@@ -68,7 +71,8 @@ pub fn generation(
     Ok(text.into_bytes())
 }
 
-/// The report of a certificate that holds: that of its windows, and how many leaves it has.
+/// Returns the report of a certificate that breaks no rule: the report of its windows, and a line with the number of
+/// its leaves. The only error is out of memory.
 pub fn verification(
     alloc: Global,
     find: &FindAsk,
@@ -90,7 +94,8 @@ pub fn verification(
     Ok(text.into_bytes())
 }
 
-/// The line of a request that is searched from one time to another, without its line feed. Times are as in a report.
+/// Returns the line of a request that is searched from `from` to `to`, without its line feed. Times come in ticks
+/// since J2000 in TDB and are printed as calendar texts. The only error is out of memory.
 pub fn request_line(alloc: Global, find: &FindAsk, from: i64, to: i64) -> Result<Vec<u8>, Memory>
     requires tick { IsTick find.now.tick }
     requires from { IsTimeIn find.now.tick from }
@@ -102,6 +107,7 @@ pub fn request_line(alloc: Global, find: &FindAsk, from: i64, to: i64) -> Result
     Ok(text.into_bytes())
 }
 
+// Appends the line of a request without its line feed. It fails only where memory is out.
 fn add_request_line(text: &mut String, find: &FindAsk, from: i64, to: i64) -> Result<(), AllocError>
     requires tick { IsTick find.now.tick }
     requires from { IsTimeIn find.now.tick from }
@@ -120,6 +126,7 @@ fn add_request_line(text: &mut String, find: &FindAsk, from: i64, to: i64) -> Re
     )
 }
 
+// Appends the line about a generated text: its layout, blocks, seed and bytes. It fails only where memory is out.
 fn add_generation_line(
     text: &mut String,
     blocks: u32,

@@ -1,4 +1,5 @@
-// The text of a scalar's search, whose times are whole numbers.
+// The text about a search of a scalar, whose times are whole numbers. Calls that append fail only where memory is
+// out.
 ghost use Rattle.std.specs.Prelude.{◌≡◌, ◌++◌, IfOk, OnOk, string_bytes};
 ghost use Rattle.spec_output.specs.Messages.{times};
 ghost use Rattle.spec_output.specs.Report.{line_by, scalar_line, scalar_report, scalar_window_lines};
@@ -11,8 +12,8 @@ use spec_requests::{ScalarAsk, dir_name};
 use spec_trees::Window;
 use std::alloc::{AllocError, Global};
 
-/// The report of the windows that a search of a scalar found: the request, a line for each window, and the counts. Times
-/// are printed as whole numbers.
+/// Returns the report of the windows that a search of a scalar found: the request, a line for each window, and the
+/// counts. Times are printed as whole numbers. The only error is out of memory.
 pub fn scalar_report(alloc: Global, ask: &ScalarAsk, windows: &[Window]) -> Result<Vec<u8>, Memory>
     ensures { IfOk result (λ text. text.items ≡ scalar_report ask.now windows.now) }
 {
@@ -24,6 +25,8 @@ pub fn scalar_report(alloc: Global, ask: &ScalarAsk, windows: &[Window]) -> Resu
     Ok(text.into_bytes())
 }
 
+// Appends the line of a scalar's request without its line feed: the polynomial as given, the direction, the limits
+// and the span.
 fn add_scalar_line(text: &mut String, ask: &ScalarAsk) -> Result<(), AllocError>
     ensures { OnOk result
         (string_bytes text.new ≡ string_bytes text.old ++ scalar_line ask.now) }
@@ -39,6 +42,7 @@ fn add_scalar_line(text: &mut String, ask: &ScalarAsk) -> Result<(), AllocError>
     add_times(text, " span ", ask.from, ask.to)
 }
 
+// Appends a line for each window, with its times as whole numbers.
 fn add_windows(text: &mut String, windows: &[Window]) -> Result<(), AllocError>
     ensures { OnOk result (string_bytes text.new
         ≡ string_bytes text.old ++ scalar_window_lines windows.now) }
@@ -49,6 +53,7 @@ fn add_windows(text: &mut String, windows: &[Window]) -> Result<(), AllocError>
     Ok(())
 }
 
+// Appends the line of a window, with its times as whole numbers.
 fn add_window(text: &mut String, window: Window) -> Result<(), AllocError>
     ensures { OnOk result (string_bytes text.new
         ≡ string_bytes text.old ++ line_by (times window.first window.last) window.holds) }
@@ -57,7 +62,7 @@ fn add_window(text: &mut String, window: Window) -> Result<(), AllocError>
     text.push_str(line_end(window.holds))
 }
 
-// Two whole numbers after a word.
+// Appends a word and two times as whole numbers, with a blank between them.
 fn add_times(text: &mut String, word: &str, first: i64, last: i64) -> Result<(), AllocError>
     ensures { OnOk result (string_bytes text.new
         ≡ string_bytes text.old ++ (word.now ++ times first last)) }

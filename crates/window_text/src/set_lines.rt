@@ -1,4 +1,5 @@
-// The text of the times at which a function has a relation to its references.
+// The text of the times at which a function has a relation to its references. Calls that append fail only where
+// memory is out.
 ghost use Rattle.std.specs.Prelude.{◌≡◌, ◌++◌, All, IfOk, OnOk, string_bytes};
 ghost use Rattle.spec_ephemeris.specs.Ticks.{IsTick};
 ghost use Rattle.spec_output.specs.Report.{AreTimesIn, set_end_line, set_lines, set_report, span_lines};
@@ -11,9 +12,9 @@ use crate::window_lines::add_line;
 use spec_requests::{FindAsk, Relation, relation_name};
 use std::alloc::{AllocError, Global};
 
-/// The report of the times between two others at which a relation holds: the request, a line for each span of times that
-/// are sure, one for each span of those that are possible, and how many spans there are of both sorts. Times are ticks
-/// since J2000 in TDB, of which a second has as many as the request says, and are printed as calendar texts.
+/// Returns the report of the times from `from` to `to` at which a relation holds: the request, a line for each span
+/// of sure times, one for each span of possible times, and how many spans there are of both sorts. Times come in
+/// ticks since J2000 in TDB and are printed as calendar texts. The only error is out of memory.
 pub fn set_report(
     alloc: Global,
     find: &FindAsk,
@@ -46,7 +47,7 @@ pub fn set_report(
     Ok(text.into_bytes())
 }
 
-// The lines of both sorts of spans, and how many there are.
+// Appends the lines of the sure spans, those of the possible spans, and the line with both counts.
 fn add_set_lines(
     text: &mut String,
     tick: u32,
@@ -64,6 +65,7 @@ fn add_set_lines(
     add_set_end_line(text, surely, perhaps)
 }
 
+// Appends the last line of a report of sets: how many sure spans there are, and how many possible ones.
 fn add_set_end_line(
     text: &mut String,
     surely: &[(i64, i64)],
@@ -76,7 +78,7 @@ fn add_set_end_line(
     add_last_number(text, " possible ", perhaps.len() as u64, "\n")
 }
 
-// A line for each span, after a word.
+// Appends a line for each span: a word, and the first and last time of the span as calendar texts.
 fn add_span_lines(
     text: &mut String,
     word: &str,

@@ -1,4 +1,4 @@
-// What is printed of an ephemeris.
+// The text about an ephemeris, which `check` prints. Calls that append fail only where memory is out.
 ghost use Rattle.std.specs.Prelude.{◌≡◌, ◌<◌, ◌++◌, None, IfOk, OnOk, string_bytes};
 ghost use Rattle.spec_ephemeris.specs.Ephemeris.{end_of};
 ghost use Rattle.spec_output.specs.Summary.{column_line, column_lines, column_name, ephemeris_line, line_if_present, name_of_column, sizes_of, span_of, summary};
@@ -14,8 +14,9 @@ use spec_output::COLUMN_BODIES;
 use spec_requests::body_name;
 use std::alloc::{AllocError, Global};
 
-/// What an ephemeris that counts seconds holds: its start and end as calendar texts, the seconds of a block, the number of
-/// blocks and NCOEFF, and a line for each column that is present.
+/// Returns the summary of an ephemeris that counts seconds: its start and end as calendar texts, the seconds of a
+/// block, the number of blocks and NCOEFF, and a line for each column that is present. The only error is out of
+/// memory.
 pub fn summary(alloc: Global, ephemeris: &Ephemeris) -> Result<Vec<u8>, Memory>
     requires start { IsTime ephemeris.now.start }
     requires end { IsTime (end_of ephemeris.now) }
@@ -27,6 +28,7 @@ pub fn summary(alloc: Global, ephemeris: &Ephemeris) -> Result<Vec<u8>, Memory>
     Ok(text.into_bytes())
 }
 
+// Appends the first line of the summary: the span of the ephemeris, and its sizes.
 fn add_ephemeris_line(text: &mut String, ephemeris: &Ephemeris) -> Result<(), AllocError>
     requires start { IsTime ephemeris.now.start }
     requires end { IsTime (end_of ephemeris.now) }
@@ -37,6 +39,7 @@ fn add_ephemeris_line(text: &mut String, ephemeris: &Ephemeris) -> Result<(), Al
     add_sizes(text, ephemeris)
 }
 
+// Appends the start and the end of an ephemeris as calendar texts.
 fn add_span(text: &mut String, ephemeris: &Ephemeris) -> Result<(), AllocError>
     requires start { IsTime ephemeris.now.start }
     requires end { IsTime (end_of ephemeris.now) }
@@ -46,6 +49,7 @@ fn add_span(text: &mut String, ephemeris: &Ephemeris) -> Result<(), AllocError>
     add_named_time(text, " end ", ephemeris.end())
 }
 
+// Appends a name and a time in seconds as a calendar text.
 fn add_named_time(text: &mut String, name: &str, time: i64) -> Result<(), AllocError>
     requires { IsTime time }
     ensures { OnOk result (string_bytes text.new
@@ -55,6 +59,7 @@ fn add_named_time(text: &mut String, name: &str, time: i64) -> Result<(), AllocE
     add_time(text, time)
 }
 
+// Appends the seconds of a block, the number of blocks and NCOEFF, and ends the line.
 fn add_sizes(text: &mut String, ephemeris: &Ephemeris) -> Result<(), AllocError>
     ensures { OnOk result
         (string_bytes text.new ≡ string_bytes text.old ++ sizes_of ephemeris.now) }
@@ -65,7 +70,7 @@ fn add_sizes(text: &mut String, ephemeris: &Ephemeris) -> Result<(), AllocError>
     add_last_number(text, " ncoeff ", header.ncoeff as u64, "\n")
 }
 
-// A line for each column that is present.
+// Appends a line for each column that is present, in the order of their numbers.
 fn add_columns(text: &mut String, columns: &[Column]) -> Result<(), AllocError>
     ensures { OnOk result (string_bytes text.new
         ≡ string_bytes text.old ++ column_lines 1 columns.now) }
@@ -76,6 +81,7 @@ fn add_columns(text: &mut String, columns: &[Column]) -> Result<(), AllocError>
     Ok(())
 }
 
+// Appends the line of a column, or nothing where the column has no coefficient or no granule.
 fn add_if_present(text: &mut String, number: usize, column: Column) -> Result<(), AllocError>
     requires { 0 < number }
     ensures { OnOk result (string_bytes text.new
@@ -88,6 +94,7 @@ fn add_if_present(text: &mut String, number: usize, column: Column) -> Result<()
     }
 }
 
+// Appends the line of a column: its name, its coefficients for an axis, and its granules in a block.
 fn add_column(text: &mut String, number: usize, column: Column) -> Result<(), AllocError>
     requires { 0 < number }
     ensures { OnOk result (string_bytes text.new
@@ -98,7 +105,7 @@ fn add_column(text: &mut String, number: usize, column: Column) -> Result<(), Al
     add_last_number(text, " granules ", column.granules as u64, "\n")
 }
 
-// The name of a column, counted from 1.
+// Returns the name of the column with this number, counted from 1: that of its body, or of what else it holds.
 fn column_name(number: usize) -> &'static str
     requires { 0 < number }
     ensures { result.now ≡ column_name number }
@@ -109,7 +116,7 @@ fn column_name(number: usize) -> &'static str
     }
 }
 
-// The name of a column that is no body's.
+// Returns the name of a column that holds no body: nutations, librations, or its number.
 fn other_name(number: usize) -> &'static str
     ensures { result.now ≡ name_of_column None number }
 {

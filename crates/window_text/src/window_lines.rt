@@ -1,4 +1,4 @@
-// The lines of windows, and of spans of calendar times.
+// The lines of windows, and of spans of calendar times. Calls that append fail only where memory is out.
 ghost use Rattle.std.specs.Prelude.{◌≡◌, ◌++◌, All, OnOk, string_bytes};
 ghost use Rattle.spec_ephemeris.specs.Ticks.{IsTick};
 ghost use Rattle.spec_output.specs.Report.{HasTimes, end_line, line_end, line_of, line_word, span_text, window_lines};
@@ -10,7 +10,7 @@ use crate::printing::add_tick;
 use spec_trees::{Holds, Turn, Window};
 use std::alloc::AllocError;
 
-/// A line for each window.
+/// Appends a line for each window, in their order. Times come in ticks since J2000 in TDB.
 pub(crate) fn add_windows(
     text: &mut String,
     tick: u32,
@@ -27,6 +27,7 @@ pub(crate) fn add_windows(
     Ok(())
 }
 
+// Appends the line of a window: its sort, its first and last time, and the direction of a certain event.
 fn add_window(text: &mut String, tick: u32, window: Window) -> Result<(), AllocError>
     requires tick { IsTick tick }
     requires times { HasTimes tick window }
@@ -44,7 +45,7 @@ fn add_window(text: &mut String, tick: u32, window: Window) -> Result<(), AllocE
     )
 }
 
-/// What the line of a window begins with.
+/// Returns the word that starts a window's line: `C ` where the window holds one event, `U ` where it is undecided.
 pub(crate) fn line_word(holds: Holds) -> &'static str
     ensures { result.now ≡ line_word holds }
 {
@@ -54,7 +55,7 @@ pub(crate) fn line_word(holds: Holds) -> &'static str
     }
 }
 
-/// What stands behind its times.
+/// Returns what ends a window's line: the direction of a certain event, and the line feed.
 pub(crate) fn line_end(holds: Holds) -> &'static str
     ensures { result.now ≡ line_end holds }
 {
@@ -65,7 +66,7 @@ pub(crate) fn line_end(holds: Holds) -> &'static str
     }
 }
 
-/// Two times after a word, and the end of the line.
+/// Appends a word, two times in ticks as calendar texts, and the text that ends the line.
 pub(crate) fn add_line(
     text: &mut String,
     tick: u32,
@@ -84,7 +85,7 @@ pub(crate) fn add_line(
     text.push_str(end)
 }
 
-/// Two times after a word.
+/// Appends a word, and two times in ticks as calendar texts.
 pub(crate) fn add_span(
     text: &mut String,
     word: &str,
@@ -104,7 +105,7 @@ pub(crate) fn add_span(
     add_tick(text, tick, last)
 }
 
-/// How many windows there are of both sorts.
+/// Appends the last line of a report: how many windows are certain, and how many undecided.
 pub(crate) fn add_end_line(text: &mut String, windows: &[Window]) -> Result<(), AllocError>
     ensures { OnOk result (string_bytes text.new ≡ string_bytes text.old ++ end_line windows.now) }
 {

@@ -1,9 +1,9 @@
-// A list that grows by one item.
+// A list that grows by one item, or is out of memory.
 ghost use Rattle.std.specs.Prelude.{◌≡◌, [], ◌∷◌, ◌++◌, OnOk};
 
 use spec_pool::Memory;
 
-/// Adds an item at the end of a list.
+/// Appends an item to a list. The only error is out of memory.
 pub fn add<T: Drop>(items: &mut Vec<T>, item: T) -> Result<(), Memory>
     ensures { OnOk result (items.new.items ≡ items.old.items ++ item ∷ []) }
 {

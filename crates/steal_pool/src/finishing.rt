@@ -1,4 +1,4 @@
-// Ending a pool: all stealers are joined, what is left on the deques is worked off, and the ledger's seats come back.
+// The end of a pool: all stealers are joined, what is left on the deques is done, and the ledger's seats come back.
 ghost use Rattle.std.specs.Prelude.{◌≡◌, Some, None, Err, IfOk, IfErr, IsTrue, IsFalse, IsPermutation};
 ghost use Rattle.std.specs.List.{AllByRecursion, AllZip};
 ghost use Rattle.spec_trees.specs.declared.tree.Node.{Node};
@@ -30,14 +30,14 @@ pub enum FinishError {
 }
 
 impl<'p, N: Naming, J: Judge, G: Gate> PoolSeat<'p, N, J, G> {
-    // Why it stopped, if it did.
+    // Returns why the seat stopped before its work was done, or none.
     fn stop(&self) -> Option<Stop>
         ensures { result ≡ self.now.refusal }
     {
         self.refusal
     }
 
-    // Pops its deque for the last time, and hands the right to enter leaves back.
+    // Ends the seat: pops its deque for the last time, and hands back the right to enter leaves.
     fn leave(self) -> LedgerSeat
         ensures { Leaves self.entry result }
     {
@@ -46,7 +46,7 @@ impl<'p, N: Naming, J: Judge, G: Gate> PoolSeat<'p, N, J, G> {
     }
 }
 
-// The worse of two stops: memory ran out, or else the first leaf for which the ledger was full.
+// Returns the worse of two stops. Out of memory is the worst; of two stops at a full ledger, the first counts.
 fn worse(first: Option<Stop>, second: Option<Stop>) -> Option<Stop>
     ensures { result ≡ worse first second }
 {
@@ -61,7 +61,7 @@ fn worse(first: Option<Stop>, second: Option<Stop>) -> Option<Stop>
     }
 }
 
-// The worst stop of all seats.
+// Returns the worst stop of all seats: out of memory, else the first stop at a full ledger, else none.
 fn worst_stop<'p, N: Naming, J: Judge, G: Gate>(seats: &[PoolSeat<'p, N, J, G>]) -> Option<Stop>
     ensures { result ≡ worst_stop seats.now }
 {
@@ -72,7 +72,7 @@ fn worst_stop<'p, N: Naming, J: Judge, G: Gate>(seats: &[PoolSeat<'p, N, J, G>])
     worst
 }
 
-// Whether no seat stopped.
+// Tells whether no seat stopped before its work was done.
 fn keep_none<'p, N: Naming, J: Judge, G: Gate>(seats: &[PoolSeat<'p, N, J, G>]) -> bool
     ensures all { IsTrue result → KeepNone seats.now }
     ensures some { IsFalse result → KeepNone seats.now → ⊥ }
@@ -80,7 +80,8 @@ fn keep_none<'p, N: Naming, J: Judge, G: Gate>(seats: &[PoolSeat<'p, N, J, G>]) 
     worst_stop(seats).is_none()
 }
 
-// Each worker works off its own deque, unless a seat keeps a refusal, until one is refused.
+// Lets each worker in turn work until its own deque is empty, in this thread. Nothing is done where a seat has
+// stopped already, and the next stop ends the loop.
 fn drain<'p, R: Wait, N: Naming, J: Judge, G: Gate>(rt: &R, seats: &mut [PoolSeat<'p, N, J, G>])
     requires left { AllByRecursion (IsLeft N.rules) seats.old }
     ensures { Drains N.rules seats.old seats.new }
@@ -95,7 +96,7 @@ fn drain<'p, R: Wait, N: Naming, J: Judge, G: Gate>(rt: &R, seats: &mut [PoolSea
     }
 }
 
-// Joins all stealers, and lets each worker work off its own deque.
+// Joins all stealers, then lets each worker in turn work off what is left on its own deque.
 fn end_work<'p, R: Wait, N: Naming, J: Judge, G: Gate>(rt: &R, seats: &mut [PoolSeat<'p, N, J, G>])
     requires linked { AreLinked seats.old }
     requires left { AllByRecursion (IsLeft N.rules) seats.old }
@@ -105,7 +106,7 @@ fn end_work<'p, R: Wait, N: Naming, J: Judge, G: Gate>(rt: &R, seats: &mut [Pool
     drain(rt, seats);
 }
 
-// Every seat leaves, in order.
+// Ends every seat, in order, and collects the rights to enter leaves. The only error is out of memory.
 fn leave_all<'p, N: Naming, J: Judge, G: Gate>(
     alloc: Global,
     seats: Vec<PoolSeat<'p, N, J, G>>,
@@ -119,7 +120,8 @@ fn leave_all<'p, N: Naming, J: Judge, G: Gate>(
     Ok(entries)
 }
 
-// Hands the seats back where none stopped; else the worst stop as an error, and with `TooMany` the seats.
+// Returns the ledger's seats where no seat stopped. Else it returns the worst stop as an error, and gives the seats
+// back with `TooMany`.
 fn outcome(worst: Option<Stop>, entries: Vec<LedgerSeat>) -> Result<Vec<LedgerSeat>, FinishError>
     ensures back { IfOk result (λ v. (v.items ≡ entries.items) × (worst ≡ None)) }
     ensures too_many { IfErr result (λ e. IfTooMany e
@@ -136,9 +138,10 @@ fn outcome(worst: Option<Stop>, entries: Vec<LedgerSeat>) -> Result<Vec<LedgerSe
     }
 }
 
-/// Ends a pool, whose seats have all worked, and hands the ledger's seats back in order. Every stealer is joined. Where
-/// seats stopped before their work was done it returns `Memory` if one of them ran out of memory, else `TooMany` with the
-/// leaf of the first; where none did, each worker works off its own deque. It waits for the ledger's lock.
+/// Ends a pool, whose seats have all worked, and hands the ledger's seats back in order. Every stealer is joined.
+/// Where no seat stopped before its work was done, each worker works off its own deque. Else it returns `Memory` if a
+/// seat ran out of memory, or `TooMany` with the leaf of the first seat that met a full ledger. It waits for the
+/// ledger's lock.
 pub fn finish<'p, R: Wait, N: Naming, J: Judge, G: Gate>(
     rt: &R,
     alloc: Global,

@@ -1,4 +1,4 @@
-// Joining all stealers of a pool into their deques' owners.
+// The joining of all stealers into the owners of their deques.
 ghost use Rattle.std.specs.Prelude.{◌≡◌, ◌<◌, ◌+◌, [], MatchOption, IsTrue, IsFalse, length};
 ghost use Rattle.std.specs.List.{AllByRecursion};
 ghost use Rattle.steal_pool.specs.Pools.{AreLinked};
@@ -11,7 +11,7 @@ use gf_edges::Gate;
 use halving::Judge;
 
 impl<'p, N: Naming, J: Judge, G: Gate> PoolSeat<'p, N, J, G> {
-    // Gives its last stealer away, if it has one.
+    // Gives the seat's last stealer away, or returns none where it has no stealer.
     fn give_stealer(&mut self) -> Option<Stealer<N>>
         ensures { MatchOption result ((self.old.worker.stealers ≡ []) × (self.new ≡ self.old))
             (λ e. GivesStealer e self.old self.new) }
@@ -19,7 +19,7 @@ impl<'p, N: Naming, J: Judge, G: Gate> PoolSeat<'p, N, J, G> {
         self.worker.give_stealer()
     }
 
-    // Joins a stealer on its own deque.
+    // Joins a stealer, which is on this seat's deque, into it: what the stealer took counts as taken by the seat.
     fn join_stealer(&mut self, stealer: Stealer<N>)
         requires ours { stealer.deque ≡ self.old.worker.own.deque }
         requires made { 0 < self.old.worker.own.view.made }
@@ -29,7 +29,7 @@ impl<'p, N: Naming, J: Judge, G: Gate> PoolSeat<'p, N, J, G> {
     }
 }
 
-// Joins the last stealer of seat `i`, if it has one.
+// Joins the last stealer of seat `i` into the owner of its deque. False where the seat has no stealer.
 fn join_last<'p, N: Naming, J: Judge, G: Gate>(
     seats: &mut [PoolSeat<'p, N, J, G>],
     i: usize,
@@ -49,7 +49,7 @@ fn join_last<'p, N: Naming, J: Judge, G: Gate>(
     }
 }
 
-// Joins every stealer of seat `i`. What was taken from deques stays the same, as multisets.
+// Joins every stealer of seat `i` into its deque's owner. All seats together have taken the same nodes, as multisets.
 fn join_seat<'p, N: Naming, J: Judge, G: Gate>(seats: &mut [PoolSeat<'p, N, J, G>], i: usize)
     requires inside { i < length seats.old }
     requires linked { AreLinked seats.old }
@@ -61,7 +61,7 @@ fn join_seat<'p, N: Naming, J: Judge, G: Gate>(seats: &mut [PoolSeat<'p, N, J, G
     while join_last(seats, i) {}
 }
 
-/// Joins every stealer into its deque's owner.
+/// Joins every stealer of all seats into its deque's owner, so that no seat has one.
 pub fn join_all<'p, N: Naming, J: Judge, G: Gate>(seats: &mut [PoolSeat<'p, N, J, G>])
     requires linked { AreLinked seats.old }
     ensures linked { AreLinked seats.new }

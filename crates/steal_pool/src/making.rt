@@ -1,4 +1,4 @@
-// Making the seats of a pool, with a stealer of each on the deque of each other.
+// The making of a pool's seats: each has a stealer on the deque of each other.
 ghost use Rattle.std.specs.Prelude.{◌≡◌, ◌<◌, ◌+◌, Some, IfOk, OnOk, length};
 ghost use Rattle.std.specs.List.{AllByRecursion, AllZip};
 ghost use Rattle.spec_trees.specs.declared.tree.Node.{Node};
@@ -22,7 +22,8 @@ use spec_trees::Node;
 use std::alloc::Global;
 
 impl<'p, N: Naming, J: Judge, G: Gate> PoolSeat<'p, N, J, G> {
-    /// A seat with a deque of its own, which holds nothing, and no stealer on another. A node may be in its hand.
+    /// Makes a seat with an empty deque of its own and no stealer. The hand may hold a node, which has to be valid.
+    /// The only error is out of memory.
     pub fn new(
         alloc: Global,
         judge: &'p J,
@@ -48,8 +49,9 @@ impl<'p, N: Naming, J: Judge, G: Gate> PoolSeat<'p, N, J, G> {
         })
     }
 
-    // A stealer on its deque, for another seat. Of a seat in a list these calls, and not its worker's, are made: what is
-    // proved of an element goes through calls on the whole of it.
+    // Makes a stealer on the seat's deque, for another seat. The only error is out of memory. The call stands here
+    // and not on the worker alone, since what is proved of an element of a list goes through calls on the whole
+    // element.
     fn lend_stealer(&mut self) -> Result<Stealer<N>, Memory>
         ensures made { OnOk result (self.new ≡ lent self.old) }
         ensures stealer { IfOk result (λ e. e ≡ new_stealer self.old.worker) }
@@ -57,7 +59,7 @@ impl<'p, N: Naming, J: Judge, G: Gate> PoolSeat<'p, N, J, G> {
         self.worker.lend_stealer()
     }
 
-    // Keeps a stealer on another seat's deque.
+    // Keeps a stealer on another seat's deque. The only error is out of memory.
     fn keep_stealer(&mut self, stealer: Stealer<N>) -> Result<(), Memory>
         ensures { OnOk result (self.new ≡ gained self.old stealer) }
     {
@@ -65,14 +67,15 @@ impl<'p, N: Naming, J: Judge, G: Gate> PoolSeat<'p, N, J, G> {
     }
 }
 
-// What is in the hand of a seat with this number when it is made.
+// Returns the node that a new seat starts with: the root for the seat with number 0, else none.
 fn first_hand(root: Node, number: u32) -> Option<Node>
     ensures { result ≡ first_hand root number }
 {
     if number == 0 { Some(root) } else { None }
 }
 
-// The seats, one for each seat of the ledger, without stealers.
+// Makes the seats, one for each seat of the ledger and in their order, without stealers. The only error is out of
+// memory.
 fn open_seats<'p, N: Naming, J: Judge, G: Gate>(
     alloc: Global,
     judge: &'p J,
@@ -95,7 +98,7 @@ fn open_seats<'p, N: Naming, J: Judge, G: Gate>(
     Ok(seats)
 }
 
-// Gives seat `i` a stealer on the deque of seat `j`.
+// Gives seat `i` a stealer on the deque of seat `j`. The only error is out of memory.
 fn link<'p, N: Naming, J: Judge, G: Gate>(
     seats: &mut [PoolSeat<'p, N, J, G>],
     i: usize,
@@ -108,7 +111,7 @@ fn link<'p, N: Naming, J: Judge, G: Gate>(
     seats[i].keep_stealer(stealer)
 }
 
-// Gives seat `i` a stealer on the deque of seat `j`, unless they are the same.
+// Gives seat `i` a stealer on the deque of seat `j`, or does nothing where they are the same.
 fn link_other<'p, N: Naming, J: Judge, G: Gate>(
     seats: &mut [PoolSeat<'p, N, J, G>],
     i: usize,
@@ -123,7 +126,7 @@ fn link_other<'p, N: Naming, J: Judge, G: Gate>(
     link(seats, i, j)
 }
 
-// Gives seat `i` a stealer on the deque of each other.
+// Gives seat `i` a stealer on the deque of each other seat. The only error is out of memory.
 fn link_one<'p, N: Naming, J: Judge, G: Gate>(
     ledger: &SpanLedger,
     root: Node,
@@ -140,7 +143,7 @@ fn link_one<'p, N: Naming, J: Judge, G: Gate>(
     Ok(())
 }
 
-// Gives each seat a stealer on the deque of each other.
+// Gives each seat a stealer on the deque of each other seat. The only error is out of memory.
 fn link_all<'p, N: Naming, J: Judge, G: Gate>(
     ledger: &SpanLedger,
     root: Node,
@@ -156,8 +159,9 @@ fn link_all<'p, N: Naming, J: Judge, G: Gate>(
     Ok(())
 }
 
-/// The seats of a pool, one for each seat of the ledger, with the root in the hand of the first. Each has a deque of its
-/// own, which takes 64 nodes without allocating, and a stealer on the deque of each other.
+/// Makes the seats of a pool, one for each seat of the ledger, with the root in the hand of the first. Each has a
+/// deque of its own, which takes 64 nodes without allocating, and a stealer on the deque of each other seat. The only
+/// error is out of memory.
 pub fn make<'p, N: Naming, J: Judge, G: Gate>(
     alloc: Global,
     judge: &'p J,

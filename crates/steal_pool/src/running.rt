@@ -1,4 +1,4 @@
-// All leaves of a root, entered by workers that run at once.
+// Whole runs: all leaves of a root are entered by workers that run at once.
 ghost use Rattle.std.specs.Prelude.{◌≡◌, ◌<◌, ◌≤◌, Some, None, Ok, Err, IfOk, IfErr, length, slice_get};
 ghost use Rattle.std.specs.List.{AllByRecursion, AllZip};
 ghost use Rattle.spec_trees.specs.Tree.{IsSound, IsValid, leaf_count, leaves};
@@ -25,12 +25,12 @@ use std::sync::Wait;
 use std::thread;
 use std::thread::Threads;
 
-/// The most threads of a run.
+/// The most threads of a run, which is also the most workers.
 const MAX_THREADS: usize = 64;
 
 impl<'p, N: Naming, J: Judge, G: Gate> PoolSeat<'p, N, J, G> {
-    // Passes the gate and judges the root, which is in the hand. Where it is to be split, and other workers wait for
-    // its right part, that goes on the deque.
+    // Starts the work on the root, which is in the hand: passes the gate and judges it. A root that is to be split is
+    // split where other workers wait for its right part. Out of memory is ignored here, since `work` meets it again.
     fn begin(&mut self, root: Node, shared: bool)
         requires hand { self.old.worker.hand ≡ Some root }
         requires valid { IsValid N.rules root }
@@ -46,7 +46,8 @@ impl<'p, N: Naming, J: Judge, G: Gate> PoolSeat<'p, N, J, G> {
         let _ = self.split(root);
     }
 
-    // Works until there is no more to do, or until it is refused.
+    // Works until nothing is left to do or the seat is refused. The result is dropped, since the seat keeps why it
+    // stopped.
     fn drain<R: Wait>(&mut self, rt: &R)
         requires free { self.old.refusal ≡ None }
         ensures { HasWorked N.rules self.old self.new }
@@ -55,7 +56,7 @@ impl<'p, N: Naming, J: Judge, G: Gate> PoolSeat<'p, N, J, G> {
     }
 }
 
-// These seats work at once, the last in this thread and each other in one of its own.
+// Lets the seats work at once, the last in this thread and each other in a thread of its own.
 fn work_each<R: Threads + Wait + Sync, N: Naming + Send + Sync, J: Judge, G: Gate>(
     rt: &R,
     seats: &mut [PoolSeat<N, J, G>],
@@ -74,8 +75,8 @@ fn work_each<R: Threads + Wait + Sync, N: Naming + Send + Sync, J: Judge, G: Gat
     );
 }
 
-// All seats work at once. Their order is reversed meanwhile, so that the first, which has the root or its left part in its
-// hand, works in this thread: it need not wait until threads are made.
+// Lets all seats work at once, the first in this thread. It has the root or its left part in its hand, so it need not
+// wait until threads are made. The seats are reversed meanwhile, as `work_each` wants them.
 fn work_all<R: Threads + Wait + Sync, N: Naming + Send + Sync, J: Judge, G: Gate>(
     rt: &R,
     seats: &mut [PoolSeat<N, J, G>],
@@ -88,7 +89,7 @@ fn work_all<R: Threads + Wait + Sync, N: Naming + Send + Sync, J: Judge, G: Gate
     seats.reverse();
 }
 
-// The first seat, which has the root in its hand, begins, and then all work at once.
+// Lets the first seat, which has the root in its hand, start; then lets all seats work at once.
 fn begin_and_work<R: Threads + Wait + Sync, N: Naming + Send + Sync, J: Judge, G: Gate>(
     rt: &R,
     seats: &mut [PoolSeat<N, J, G>],
@@ -106,7 +107,7 @@ fn begin_and_work<R: Threads + Wait + Sync, N: Naming + Send + Sync, J: Judge, G
     work_all(rt, seats);
 }
 
-// The seats of a pool over a ledger, once all have worked.
+// Makes the seats of a pool over a ledger, and returns them once all have worked. The only error is out of memory.
 fn worked<'p, R: Threads + Wait + Sync, N: Naming + Send + Sync, J: Judge, G: Gate>(
     rt: &R,
     alloc: Global,
@@ -129,7 +130,7 @@ fn worked<'p, R: Threads + Wait + Sync, N: Naming + Send + Sync, J: Judge, G: Ga
     Ok(seats)
 }
 
-// The book of a ledger, all of whose seats have come back.
+// Closes a ledger, all of whose seats have come back, and returns its book.
 fn closed(ledger: SpanLedger, seats: Vec<LedgerSeat>) -> Book
     requires all { AreAll ledger seats.items }
     ensures root { result.root ≡ (terms ledger).root }
@@ -142,7 +143,7 @@ fn closed(ledger: SpanLedger, seats: Vec<LedgerSeat>) -> Book
     book
 }
 
-// The book that a pool leaves, or why there is none. Where the pool ended, no leaf was entered again.
+// Returns the book that an ended pool leaves, or why there is none. No leaf stands in it twice.
 fn book_of<N: Naming>(
     ledger: SpanLedger,
     root: Node,
@@ -174,7 +175,7 @@ fn book_of<N: Naming>(
     }
 }
 
-// A run over nodes that are valid by the rules that its caller names.
+// Runs over nodes that are valid by the rules that `N` names. The rest is as `run` says.
 fn run_named<R: Threads + Wait + Sync, N: Naming + Send + Sync, J: Judge, G: Gate>(
     rt: &R,
     alloc: Global,
@@ -203,9 +204,9 @@ fn run_named<R: Threads + Wait + Sync, N: Naming + Send + Sync, J: Judge, G: Gat
     book_of::<N>(ledger, root, ended)
 }
 
-/// The leaves of a valid root, each entered once, by up to 64 workers at once: put in order they are the root's leaves
-/// from left to right. `TooMany` where they are more than `limit`. The gate is passed before each judging, and by the
-/// first worker once more for the root, before the others start.
+/// Returns the leaves of a valid root, each entered once by up to 64 workers that run at once. In order of time they
+/// are the root's leaves from left to right. The error is `TooMany` where there are more than `limit`, or `Memory`.
+/// The gate is passed before each judging, and by the first worker once more for the root, before the others start.
 pub fn run<R: Threads + Wait + Sync, J: Judge, G: Gate>(
     rt: &R,
     alloc: Global,

@@ -17,8 +17,8 @@ pub enum PoolError {
     Memory,
 }
 
-/// Why a seat stopped before its work was done: the ledger was full when this leaf, that of the node in its hand, was to
-/// be entered, or memory ran out.
+/// Why a seat stopped before its work was done: the ledger was full when the leaf of the node in its hand was to be
+/// entered, or memory ran out.
 #[derive(Clone, Copy)]
 pub enum Stop {
     Full(Leaf),
@@ -26,7 +26,7 @@ pub enum Stop {
 }
 
 impl Stop {
-    /// The error that a worker's work ends with.
+    /// Returns the error of a run whose seat stopped for this reason.
     pub fn error(self) -> PoolError
         ensures { result ≡ error_of self }
     {

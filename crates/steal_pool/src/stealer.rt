@@ -31,14 +31,15 @@ impl<N: Naming> Model for Stealer<N> {
         × ((seen t.pass).owner ≡ 0) × ((seen t.pass).out ≡ 1) };
 }
 
-/// The steal attempts that are left in one search for a node. Each attempt uses up one, so a search ends.
+/// A count of the steal attempts that are left in one search for a node. Each attempt uses up one, so that a search
+/// ends.
 #[derive(Drop)]
 pub struct Attempts {
     pub left: u32,
 }
 
 impl Attempts {
-    /// Those of a search that begins: 10,000, at all deques together.
+    /// Returns the attempts of a search that starts: 10,000, at all deques together.
     pub fn of_search() -> Attempts
         ensures { result.left ≡ 10000 }
     {
@@ -47,14 +48,15 @@ impl Attempts {
 }
 
 impl<N: Naming> Stealer<N> {
-    /// The number of the worker whose deque it is.
+    /// Returns the number of the worker that owns the deque.
     pub fn worker(&self) -> u32
         ensures { result ≡ self.now.worker }
     {
         self.number
     }
 
-    // One attempt to take the node at the front.
+    // Tries once to take the node at the front of the deque, and uses up one attempt. Others may have taken it
+    // meanwhile.
     fn attempt(&mut self, attempts: &mut Attempts) -> Steal<Node>
         requires some { 0 < attempts.old.left }
         ensures taken { MatchSteal result (self.new ≡ self.old) (self.new ≡ self.old)
@@ -65,7 +67,8 @@ impl<N: Naming> Stealer<N> {
         self.reader.steal_as::<Steals<N>>(&mut self.pass)
     }
 
-    /// Takes the node at the front, while attempts are left and others take from the same deque meanwhile.
+    /// Takes the node at the front of the deque. It tries again while others take from the same deque and attempts
+    /// are left. None where the deque is empty or no attempt is left.
     pub fn steal(&mut self, attempts: &mut Attempts) -> Option<Node>
         ensures taken { IfSome result (λ n. (self.new ≡ takes_one self.old n) × IsValid N.rules n) }
         ensures none { IfNone result (self.new ≡ self.old) }

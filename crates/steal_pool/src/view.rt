@@ -1,4 +1,4 @@
-// What an end of a deque knows, and the rule of the deque.
+// What an end of a deque knows, and the rule that every step on a deque keeps.
 ghost use Rattle.spec_trees.specs.Tree.{Rules};
 
 use crossbeam_deque::protocol::{Join, Lesson, Outcome, Protocol, Split};
@@ -6,7 +6,8 @@ use spec_trees::Node;
 use std::collections::LinkedList;
 use std::marker::{Brand, PhantomData};
 
-/// By whose rules the nodes of a pool are valid. A call of a program picks them.
+/// A name for the rules by which the nodes of a pool are valid. A deque's rule is a type, so it needs such a name; a
+/// call picks it for the judge that it is passed.
 pub trait Naming {
     ghost use Rattle.spec_trees.specs.Tree.{Rules};
 
@@ -30,7 +31,7 @@ pub struct DequeView {
     pub taken: LinkedList<Node>,
 }
 
-/// The rule of one deque.
+/// The rule of one deque: what was put is, in order, what was taken and what it holds.
 pub struct Balance<N> {
     of: PhantomData<N>,
 }
@@ -45,7 +46,7 @@ impl<N: Naming> Protocol<Node, DequeView> for Balance<N> {
     ghost guest = { spent };
 }
 
-/// A push of the owner.
+/// The step of a push by the owner.
 pub struct Puts;
 
 impl Outcome<Node, DequeView> for Puts {
@@ -55,8 +56,8 @@ impl Outcome<Node, DequeView> for Puts {
     ghost then = { λ v xs w. w ≡ with_put v xs };
 }
 
-/// A pop of the owner. Where no stealer is out, it gives the node that was put first of those that are left; where it
-/// gives none, none is left.
+/// The step of a pop by the owner. Where no stealer is out, it takes the oldest node that is left; where it takes
+/// none, none is left.
 pub struct Takes<N> {
     of: PhantomData<N>,
 }
@@ -69,7 +70,8 @@ impl<N: Naming> Outcome<Node, DequeView> for Takes<N> {
     ghost empty = { IsUsedUp };
 }
 
-/// A look at how many nodes a deque holds, of which nothing has to be known: others take from it meanwhile.
+/// The step of asking how many nodes a deque holds. Nothing is known from the answer, since others take from it
+/// meanwhile.
 pub struct Looks;
 
 impl Lesson<Node, DequeView> for Looks {
@@ -78,7 +80,7 @@ impl Lesson<Node, DequeView> for Looks {
     ghost fact = { λ v xs. ⊤ };
 }
 
-/// A steal. Where it gives no node, the stealer learns nothing.
+/// The step of a steal. Where it gives no node, the stealer learns nothing.
 pub struct Steals<N> {
     of: PhantomData<N>,
 }
@@ -89,7 +91,7 @@ impl<N: Naming> Outcome<Node, DequeView> for Steals<N> {
     ghost then = { HasTaken N.rules };
 }
 
-/// Making a stealer, and joining it.
+/// The step that makes a stealer, and the one that joins it.
 pub struct StealerSplits;
 
 impl Split<DequeView> for StealerSplits {

@@ -20,7 +20,8 @@ use spec_pool::Entry;
 use spec_trees::Leaf;
 use std::sync::Wait;
 
-// Why a seat stops once the ledger has answered this for a leaf, if it does.
+// Returns why a seat stops after the ledger's answer for a leaf: a full ledger or out of memory. None where the leaf
+// stands in the ledger.
 fn stop_at(entry: Entry, leaf: Leaf) -> Option<Stop>
     ensures { result ≡ stop_at entry leaf }
 {
@@ -32,9 +33,10 @@ fn stop_at(entry: Entry, leaf: Leaf) -> Option<Stop>
 }
 
 impl<'p, N: Naming, J: Judge, G: Gate> PoolSeat<'p, N, J, G> {
-    /// Puts the right part of the node in the hand, which is to be split, at the back of the own deque (`OnDeque`) or on
-    /// the own local stack (`Kept`); the left part stays in the hand. The local stack takes it where the deque hands it
-    /// back, and where 64 nodes were put on the deque in a row, with no pop of its owner between that gave nothing.
+    /// Puts away the right part of the node in the hand, which is to be split; the left part stays in the hand. It
+    /// goes to the back of the own deque (`OnDeque`), or else on the own local stack (`Kept`). The local stack takes
+    /// it where the deque is full, and where 64 nodes were put on the deque in a row, without a pop of its owner that
+    /// gave nothing.
     pub fn push(&mut self, right: Node) -> Pushed
         requires right { IsRight N.rules self.old.worker right }
         ensures deque { result ≡ OnDeque → Changes (PutsRight N.rules right) self.old self.new }
@@ -78,7 +80,7 @@ impl<'p, N: Naming, J: Judge, G: Gate> PoolSeat<'p, N, J, G> {
         self.worker.take()
     }
 
-    /// The node in the hand, if there is one: it is the one whose right part `push` puts away.
+    /// Returns the node in the hand, or none. It is the node whose right part `push` puts away.
     pub fn node(&self) -> Option<Node>
         ensures hand { result ≡ self.now.worker.hand }
         ensures valid { IfSome result (IsValid N.rules) }
@@ -86,14 +88,15 @@ impl<'p, N: Naming, J: Judge, G: Gate> PoolSeat<'p, N, J, G> {
         self.worker.node()
     }
 
-    // Keeps why it stops.
+    // Keeps why the seat stops.
     fn refuse(&mut self, stop: Stop)
         ensures { self.new ≡ with_refusal self.old (Some stop) }
     {
         self.refusal = Some(stop);
     }
 
-    // Enters the leaf of the node in the hand.
+    // Enters the leaf of the node in the hand, and empties the hand. The error is a full ledger or out of memory; the
+    // hand keeps its node then. It waits for the ledger's lock.
     fn enter<R: Wait>(&mut self, rt: &R, leaf: Leaf) -> Result<(), Stop>
         requires hand { self.old.worker.hand ≡ Some leaf.node }
         requires leaf { IsLeaf N.rules leaf }
@@ -115,8 +118,8 @@ impl<'p, N: Naming, J: Judge, G: Gate> PoolSeat<'p, N, J, G> {
         }
     }
 
-    // Splits the node in the hand: the left part stays in the hand; the right part goes on the deque, or on the local
-    // stack where the deque does not take it.
+    // Splits the node in the hand: the left part stays in the hand, the right part goes on the deque or on the local
+    // stack. The only error is out of memory; the hand keeps the node then.
     pub(crate) fn split(&mut self, node: Node) -> Result<(), Stop>
         requires hand { self.old.worker.hand ≡ Some node }
         requires valid { IsValid N.rules node }
@@ -137,7 +140,7 @@ impl<'p, N: Naming, J: Judge, G: Gate> PoolSeat<'p, N, J, G> {
         }
     }
 
-    // The judge's mark of a node, once the gate is passed.
+    // Passes the gate, judges the node and returns the mark of a leaf, or none for a node that is to be split.
     pub(crate) fn verdict(&self, node: Node) -> Option<Mark>
         requires valid { IsValid N.rules node }
         ensures { result ≡ mark_of (N.rules.verdict node) }
@@ -146,7 +149,8 @@ impl<'p, N: Naming, J: Judge, G: Gate> PoolSeat<'p, N, J, G> {
         self.judge.judge(node).mark()
     }
 
-    // Enters the node in the hand as a leaf, or splits it.
+    // Judges the node in the hand, and enters it as a leaf or splits it. The error is a full ledger or out of memory;
+    // the hand keeps the node then.
     fn step<R: Wait>(&mut self, rt: &R, node: Node) -> Result<(), Stop>
         requires hand { self.old.worker.hand ≡ Some node }
         requires valid { IsValid N.rules node }
@@ -163,7 +167,7 @@ impl<'p, N: Naming, J: Judge, G: Gate> PoolSeat<'p, N, J, G> {
         }
     }
 
-    // The node in the hand, or else the next one, which is taken into it.
+    // Returns the node in the hand, or takes the next one into the hand. None where no node is found.
     fn next_node(&mut self) -> Option<Node>
         ensures hand { result ≡ self.new.worker.hand }
         ensures valid { IfSome result (IsValid N.rules) }
@@ -182,9 +186,9 @@ impl<'p, N: Naming, J: Judge, G: Gate> PoolSeat<'p, N, J, G> {
         }
     }
 
-    /// Works on the node in the hand and on all that it takes, until it finds none or is refused. The gate is passed
-    /// before each judging. After a refusal the hand still holds the node that was being worked on, and the seat keeps
-    /// why it stopped, with the leaf for which the ledger was full. It waits for the ledger's lock.
+    /// Works on the node in the hand and on all nodes that it takes, until it finds none or is refused. The gate is
+    /// passed before each judging. After a refusal the hand still holds the last node, and the seat keeps why it
+    /// stopped, with the leaf for which the ledger was full. It waits for the ledger's lock.
     pub fn work<R: Wait>(&mut self, rt: &R) -> Result<(), PoolError>
         requires free { self.old.refusal ≡ None }
         ensures works { Works N.rules self.old self.new }

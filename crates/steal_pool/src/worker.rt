@@ -16,10 +16,10 @@ use std::alloc::Global;
 use std::marker::Model;
 use std::thread;
 
-/// The first slots of a deque, and the most nodes that are put on it in a row: so these pushes never fail.
+/// The room of a deque, in nodes, and the most nodes that are put on it in a row. So these pushes never fail.
 const ROOM: usize = 64;
 
-/// The most sweeps over the other deques in one search for a node. Where all are empty, those who work may soon push.
+/// The most sweeps over the other deques in one search for a node. Where all are empty, busy workers may push soon.
 const MAX_SWEEPS: usize = 50;
 
 /// Where the right part of a node was put: on the own deque, on the own local stack, or nowhere, out of memory.
@@ -62,7 +62,7 @@ impl<N: Naming> Model for Worker<N> {
         × (64 ≤ worker_capacity w.deque) };
 }
 
-// Takes the front of the first deque that gives a node, while attempts are left.
+// Takes the node at the front of the first deque that gives one, while attempts are left. None where no deque does.
 fn steal_from<N: Naming>(stealers: &mut [Stealer<N>], attempts: &mut Attempts) -> Option<Node>
     ensures taken { MatchOption result (stealers.new ≡ stealers.old)
         (λ n. TookOne n stealers.old stealers.new × IsValid N.rules n) }
@@ -76,7 +76,8 @@ fn steal_from<N: Naming>(stealers: &mut [Stealer<N>], attempts: &mut Attempts) -
     None
 }
 
-// Sweeps over the deques until one gives a node, a bounded number of times, and lets other threads run after each.
+// Sweeps over the deques until one gives a node, at most 50 times, and lets other threads run after each sweep. None
+// where no sweep finds a node.
 fn sweep<N: Naming>(stealers: &mut [Stealer<N>], attempts: &mut Attempts) -> Option<Node>
     ensures taken { MatchOption result (stealers.new ≡ stealers.old)
         (λ n. TookOne n stealers.old stealers.new × IsValid N.rules n) }
@@ -92,7 +93,8 @@ fn sweep<N: Naming>(stealers: &mut [Stealer<N>], attempts: &mut Attempts) -> Opt
 }
 
 impl<N: Naming> Worker<N> {
-    /// A worker with this number and a deque that holds nothing. It has no stealer on another deque.
+    /// Makes a worker with this number, an empty deque and no stealer. The hand may hold a node, which has to be
+    /// valid. The only error is out of memory.
     pub fn new(alloc: Global, number: u32, hand: Option<Node>) -> Result<Worker<N>, Memory>
         requires hand { (n : Node) → hand ≡ Some n → IsValid N.rules n }
         ensures new { IfOk result (λ w. IsNew number hand w) }
@@ -108,7 +110,7 @@ impl<N: Naming> Worker<N> {
         })
     }
 
-    /// The node in the hand.
+    /// Returns the node in the hand, or none.
     pub fn node(&self) -> Option<Node>
         ensures hand { result ≡ self.now.hand }
         ensures valid { IfSome result (IsValid N.rules) }
@@ -116,14 +118,14 @@ impl<N: Naming> Worker<N> {
         self.hand
     }
 
-    /// Empties the hand, once its node is entered.
+    /// Empties the hand, after its node was entered.
     pub fn clear_hand(&mut self)
         ensures { self.new ≡ with_hand self.old None }
     {
         self.hand = None;
     }
 
-    // Takes the top of the local stack into the empty hand.
+    // Takes the node on top of the local stack into the empty hand. None where the stack is empty.
     fn take_kept(&mut self) -> Option<Node>
         ensures taken { MatchOption result ((self.old.kept ≡ []) × (self.new ≡ self.old))
             (λ n. TakesKept n self.old self.new) }
@@ -137,7 +139,8 @@ impl<N: Naming> Worker<N> {
         }
     }
 
-    // Takes the front of the own deque into the empty hand, or notes that it gave nothing.
+    // Takes the node at the front of the own deque into the empty hand. Where the deque gives none, 64 nodes may be
+    // put there again.
     fn take_own(&mut self) -> Option<Node>
         ensures taken { MatchOption result
             (IsUsedUp self.old.own.view × (self.new ≡ after_empty_pop self.old))
@@ -155,7 +158,8 @@ impl<N: Naming> Worker<N> {
         }
     }
 
-    // Takes the front of another worker's deque into the empty hand.
+    // Takes the node at the front of another worker's deque into the empty hand. None where no search attempt finds
+    // one.
     fn take_other(&mut self) -> Option<Node>
         ensures taken { MatchOption result (self.new ≡ self.old)
             (λ n. TakesOther n self.old self.new) }
@@ -173,7 +177,8 @@ impl<N: Naming> Worker<N> {
         }
     }
 
-    // Whether 64 nodes were put on the own deque since it last gave nothing, and it held none when it was looked at.
+    // Tells whether 64 nodes were put on the own deque since it last gave nothing, and it held none when it was
+    // looked at.
     fn is_stolen_empty(&mut self) -> bool
         ensures same { self.new ≡ self.old }
         ensures filled { IsTrue result → HasFilled self.old }
@@ -184,7 +189,8 @@ impl<N: Naming> Worker<N> {
         self.deque.len_as::<Looks>() == 0
     }
 
-    // Pops the own deque where it was stolen empty after 64 nodes in a row, so that it takes nodes again.
+    // Takes a node of the own deque where it was stolen empty after 64 nodes in a row. The pop, even without a node,
+    // lets the deque take nodes again.
     fn reopen(&mut self) -> Option<Node>
         ensures taken { MatchOption result (IsReopened self.old self.new)
             (λ n. HasFilled self.old × IsOldest self.old.own.view n × TakesOwn n self.old self.new) }
@@ -195,7 +201,8 @@ impl<N: Naming> Worker<N> {
         None
     }
 
-    // Takes the top of the local stack, else a node of the own deque, else one of another deque.
+    // Takes the top of the local stack into the empty hand, else a node of the own deque, else one of another deque.
+    // None where all are empty.
     fn take_in_order(&mut self) -> Option<Node>
         ensures taken { MatchOption result (FindsNone self.old self.new)
             (λ n. TakesInOrder n self.old self.new) }
@@ -209,10 +216,10 @@ impl<N: Naming> Worker<N> {
         self.take_other()
     }
 
-    /// Takes the next node into the empty hand: the top of the local stack; where that is empty, a node of the own deque;
-    /// where that gives none, a node of another deque, by at most 10,000 steal attempts in at most 50 sweeps over these.
-    /// Where 64 nodes were put on the own deque in a row and it was stolen empty, it is popped before the local stack is
-    /// looked at, so that it takes nodes again. It does not allocate.
+    /// Takes the next node into the empty hand: the top of the local stack; where that is empty, a node of the own
+    /// deque; where that gives none, a node of another deque, by at most 10,000 steal attempts in at most 50 sweeps
+    /// over these. Where 64 nodes were put on the own deque in a row and it was stolen empty, it is popped first, so
+    /// that it takes nodes again. None where no node is found. It does not allocate.
     pub fn take(&mut self) -> Option<Node>
         ensures taken { MatchOption result (FindsNone self.old self.new)
             (λ n. Takes n self.old self.new) }
@@ -223,7 +230,8 @@ impl<N: Naming> Worker<N> {
         self.take_in_order()
     }
 
-    // Puts the right part on the own deque, unless 64 nodes were put there since it last gave nothing, or it is full.
+    // Puts the right part on the own deque, and the left part into the hand. False where 64 nodes were put there
+    // since it last gave nothing, or it is full.
     fn offer(&mut self, left: Node, right: Node) -> bool
         requires split { IsSplit N.rules self.old left right }
         requires sound { IsSound N.rules }
@@ -245,7 +253,7 @@ impl<N: Naming> Worker<N> {
         }
     }
 
-    // Puts the right part on the local stack.
+    // Puts the right part on the local stack, and the left part into the hand. False where memory is out.
     fn keep(&mut self, left: Node, right: Node) -> bool
         requires split { IsSplit N.rules self.old left right }
         requires sound { IsSound N.rules }
@@ -261,8 +269,9 @@ impl<N: Naming> Worker<N> {
         }
     }
 
-    /// Puts the right part of the node in the hand on the own deque, or else on the local stack; the left part stays in
-    /// the hand. At most 64 nodes in a row go to the deque without a pop that gives nothing, so it never holds more.
+    /// Puts the right part of the node in the hand on the own deque, or else on the local stack; the left part stays
+    /// in the hand. At most 64 nodes in a row go to the deque without a pop that gives nothing, so it never holds
+    /// more. The right part comes back where memory is out.
     pub fn push(&mut self, left: Node, right: Node) -> Pushed
         requires split { IsSplit N.rules self.old left right }
         requires sound { IsSound N.rules }
@@ -281,7 +290,7 @@ impl<N: Naming> Worker<N> {
         Pushed::Memory(right)
     }
 
-    /// A stealer on its own deque, for another worker.
+    /// Makes a stealer on the own deque, for another worker. The only error is out of memory.
     pub fn lend_stealer(&mut self) -> Result<Stealer<N>, Memory>
         ensures made { OnOk result (self.new ≡ lends self.old) }
         ensures stealer { IfOk result (λ e. e ≡ new_stealer self.old) }
@@ -295,14 +304,14 @@ impl<N: Naming> Worker<N> {
         })
     }
 
-    /// Keeps a stealer on another worker's deque.
+    /// Keeps a stealer on another worker's deque. The only error is out of memory.
     pub fn keep_stealer(&mut self, stealer: Stealer<N>) -> Result<(), Memory>
         ensures { OnOk result (self.new ≡ gains self.old stealer) }
     {
         add(&mut self.stealers, stealer)
     }
 
-    /// Gives its last stealer away, if it has one.
+    /// Gives the last stealer away, or returns none where the worker has no stealer.
     pub fn give_stealer(&mut self) -> Option<Stealer<N>>
         ensures { MatchOption result ((self.old.stealers ≡ []) × (self.new ≡ self.old))
             (λ e. Gives e self.old self.new) }
@@ -310,7 +319,7 @@ impl<N: Naming> Worker<N> {
         self.stealers.pop()
     }
 
-    /// Joins a stealer on its own deque: what the stealer took stands with what the worker took there.
+    /// Joins a stealer, which is on the own deque: what it took counts as taken by the worker.
     pub fn join_stealer(&mut self, stealer: Stealer<N>)
         requires ours { stealer.deque ≡ self.old.own.deque }
         requires made { 0 < self.old.own.view.made }
@@ -319,8 +328,8 @@ impl<N: Naming> Worker<N> {
         self.deque.absorb::<StealerSplits>(stealer.pass);
     }
 
-    /// Pops its own deque for the last time. Where no stealer is out, what was put there is what was taken, and after it,
-    /// in order, what is left.
+    /// Pops the own deque for the last time. Where no stealer is out, this shows that what was put there is what was
+    /// taken and, after it in order, what is left.
     pub fn last_pop(mut self)
         ensures { HasLeft self.own.view }
     {

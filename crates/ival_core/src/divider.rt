@@ -1,12 +1,12 @@
-// Division by one number, again and again.
+// Division of many numbers by one: a quotient is guessed by a multiplication and checked.
 
 ghost use Rattle.std.specs.Prelude.{◌≡◌, ◌≤◌, ◌<◌, ◌+◌, ◌*◌, ◌^◌, ◌/◌, ◌%◌, ◌≤ℤ◌, ℕ, pos, unsigned_abs};
 ghost use Rattle.spec_numbers.specs.Numbers.{floor_div, ceil_div};
 
 use std::marker::Model;
 
-/// A number of seconds, at least 1, by which many numbers are divided: a quotient is guessed by a multiplication with a
-/// kept inverse, and checked.
+/// A divisor of at least 1, a number of seconds, by which many numbers are divided. A quotient is guessed by a
+/// multiplication with a kept inverse, and checked.
 #[derive(Drop)]
 pub struct Divider {
     seconds: u64,
@@ -28,21 +28,21 @@ impl Model for Divider {
     ghost invariant = { λ a. 1 ≤ a.seconds };
 }
 
-/// A quotient and its rest.
+/// A quotient of 64 bits, rounded down, and its rest.
 #[derive(Clone, Copy)]
 struct Division {
     quotient: u64,
     rest: u64,
 }
 
-/// A quotient of up to 128 bits and its rest.
+/// A quotient of up to 128 bits, rounded down, and its rest.
 #[derive(Clone, Copy)]
 struct Whole {
     quotient: u128,
     rest: u64,
 }
 
-/// The upper 64 bits.
+/// Returns the upper 64 bits of a number.
 #[inline(always)]
 fn high_half(x: u128) -> u64
     ensures { result ≡ x / 2 ^ 64 }
@@ -50,7 +50,7 @@ fn high_half(x: u128) -> u64
     (x >> 64) as u64
 }
 
-/// The lower 64 bits.
+/// Returns the lower 64 bits of a number.
 #[inline(always)]
 fn low_half(x: u128) -> u64
     ensures { result ≡ x % 2 ^ 64 }
@@ -58,7 +58,7 @@ fn low_half(x: u128) -> u64
     (x % (1 << 64)) as u64
 }
 
-/// The number of two halves.
+/// Returns the number of 128 bits that has these upper and lower halves.
 #[inline(always)]
 fn joined(high: u64, low: u64) -> u128
     ensures { result ≡ high * 2 ^ 64 + low }
@@ -66,7 +66,8 @@ fn joined(high: u64, low: u64) -> u128
     (high as u128) * (1 << 64) + low as u128
 }
 
-/// The quotient of a number below `seconds 2^64`, by a division.
+/// Divides a number below `seconds * 2^64` by a division of 128 bits. It stands apart from the fast path, which needs
+/// it rarely.
 #[inline(never)]
 fn divided(x: u128, seconds: u64) -> Division
     requires positive { 1 ≤ seconds }
@@ -81,7 +82,8 @@ fn divided(x: u128, seconds: u64) -> Division
     }
 }
 
-/// The quotient of a number below `seconds 2^64`: the guess, where it is right.
+/// Returns the quotient and the rest of a number below `seconds * 2^64`: those of the guess where it is right, else
+/// those of a division.
 #[inline(always)]
 fn checked(x: u128, guess: u64, seconds: u64) -> Division
     requires positive { 1 ≤ seconds }
@@ -100,7 +102,7 @@ fn checked(x: u128, guess: u64, seconds: u64) -> Division
     }
 }
 
-/// The quotient rounded down of a number, from that of its magnitude.
+/// Returns `z / d` rounded down, from the quotient and the rest of the magnitude of `z`.
 #[inline(always)]
 pub(crate) fn rounded_down(z: i128, quotient: u128, rest: u128) -> i128
     requires { quotient < 2 ^ 127 }
@@ -115,7 +117,7 @@ pub(crate) fn rounded_down(z: i128, quotient: u128, rest: u128) -> i128
     }
 }
 
-/// The quotient rounded up of a number, from that of its magnitude.
+/// Returns `z / d` rounded up, from the quotient and the rest of the magnitude of `z`.
 #[inline(always)]
 pub(crate) fn rounded_up(z: i128, quotient: u128, rest: u128) -> i128
     requires size { quotient < 2 ^ 127 }
@@ -132,7 +134,7 @@ pub(crate) fn rounded_up(z: i128, quotient: u128, rest: u128) -> i128
 }
 
 impl Divider {
-    /// The divider by so many seconds.
+    /// Makes the divider by this number of seconds, at least 1, with its inverse.
     pub fn of(seconds: i64) -> Divider
         requires { pos 1 ≤ℤ seconds }
         ensures { result ≡ unsigned_abs seconds }
@@ -149,7 +151,7 @@ impl Divider {
         }
     }
 
-    /// The quotient of a number below `seconds 2^64`, most likely. That it is right is checked, and nowhere claimed.
+    /// Guesses the quotient of a number below `seconds * 2^64`. Nothing is claimed of it, since `checked` tests it.
     #[inline(always)]
     fn guess(&self, x: u128) -> u64 {
         let y = x << (self.shift % 64);
@@ -166,7 +168,7 @@ impl Divider {
         }
     }
 
-    /// The quotient of a number below `seconds 2^64`.
+    /// Returns the quotient and the rest of a number below `seconds * 2^64`.
     #[inline(always)]
     fn part(&self, x: u128) -> Division
         requires { x < self.now * 2 ^ 64 }
@@ -176,7 +178,7 @@ impl Divider {
         checked(x, self.guess(x), self.seconds)
     }
 
-    /// The quotient of any number, in one step or two.
+    /// Returns the quotient and the rest of any number, in one step of 64 bits or two.
     #[inline(always)]
     fn whole(&self, x: u128) -> Whole
         ensures parts { result.quotient * self.now + result.rest ≡ x }
@@ -200,7 +202,7 @@ impl Divider {
         }
     }
 
-    /// `floor(z / seconds)`.
+    /// Returns `floor(z / seconds)`.
     #[inline(always)]
     pub fn down(&self, z: i128) -> i128
         requires { unsigned_abs z < 2 ^ 127 }
@@ -212,7 +214,7 @@ impl Divider {
         rounded_down(z, whole.quotient, u128::from(whole.rest))
     }
 
-    /// `ceil(z / seconds)`.
+    /// Returns `ceil(z / seconds)`.
     #[inline(always)]
     pub fn up(&self, z: i128) -> i128
         requires { unsigned_abs z < 2 ^ 127 }
@@ -224,7 +226,7 @@ impl Divider {
         rounded_up(z, whole.quotient, u128::from(whole.rest))
     }
 
-    /// `floor(z / seconds)` and `ceil(z / seconds)`.
+    /// Returns `floor(z / seconds)` and `ceil(z / seconds)` by one division.
     #[inline(always)]
     pub fn both(&self, z: i128) -> (i128, i128)
         requires { unsigned_abs z < 2 ^ 127 }

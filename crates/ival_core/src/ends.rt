@@ -1,14 +1,14 @@
-// Steps on the ends of intervals, each on plain whole numbers.
+// Steps on the ends of intervals, each on plain whole numbers. None overflows within its bounds.
 
 ghost use Rattle.std.specs.Prelude.{◌≡◌, ◌↔◌, ◌≤◌, ◌<◌, ◌^◌, ◌*◌, ◌≤ℤ◌, ◌+ℤ◌, ◌*ℤ◌, pos, unsigned_abs, max, IsTrue};
 ghost use Rattle.std.specs.Int.{int_gap, int_min, int_max};
 ghost use Rattle.spec_intervals.specs.Interval.{interval, IsIval, IsExponent, exponent_limit, end_limit, lift_limit, narrow_shift, least4, greatest4, signed_sq};
 ghost use Rattle.spec_numbers.specs.Numbers.{floor_div, ceil_div};
 
-/// The greatest magnitude of an end, 2^62: the product of two ends is within 128 bits.
+/// The greatest magnitude of an end, 2^62. The product of two ends is within 128 bits.
 const END_LIMIT: u128 = 1 << 62;
 
-/// The greater magnitude of two ends in order.
+/// Returns the greater magnitude of two ends in order, each at most 2^124.
 #[inline(always)]
 pub fn greater_size(lo: i128, hi: i128) -> u128
     requires ordered { lo ≤ℤ hi }
@@ -20,7 +20,7 @@ pub fn greater_size(lo: i128, hi: i128) -> u128
     hi.max(-lo) as u128
 }
 
-/// Whether two ends of this magnitude are not past the limit.
+/// Tells whether ends of this magnitude need no shift: it is at most 2^62.
 #[inline(always)]
 pub fn is_small(size: u128) -> bool
     ensures { IsTrue result ↔ size ≤ end_limit }
@@ -28,7 +28,7 @@ pub fn is_small(size: u128) -> bool
     size <= END_LIMIT
 }
 
-/// Whether a number is at most 2^124 in magnitude, as products of ends are.
+/// Tells whether a number is at most 2^124 in magnitude, as products of ends are.
 #[inline(always)]
 pub fn is_moderate(z: i128) -> bool
     ensures { IsTrue result ↔ unsigned_abs z ≤ 2 ^ 124 }
@@ -36,9 +36,9 @@ pub fn is_moderate(z: i128) -> bool
     z.unsigned_abs() <= 1 << 124
 }
 
-/// The least shift that brings the magnitudes of two ends in order, of which this is the greater, to at most 2^62.
-///
-/// The end of the greater magnitude is a low end below 0 or a high end above 0, so it is rounded away from 0, and the
+/// Returns the least shift that brings the magnitudes of two ends in order to at most 2^62. `size` is the greater
+/// magnitude, or 2^62 where that is greater.
+/// The end of the greater magnitude is a low end below 0 or a high end above 0, so it is rounded away from 0. So the
 /// leading bit of that magnitude alone determines the shift.
 #[inline(always)]
 pub fn leading_shift(lo: i128, hi: i128, size: u128) -> u32
@@ -51,7 +51,7 @@ pub fn leading_shift(lo: i128, hi: i128, size: u128) -> u32
     (size - 1).ilog2() - 61
 }
 
-/// The same of any two ends in order.
+/// Returns the least shift that brings the magnitudes of any two ends in order to at most 2^62.
 pub fn least_shift(lo: i128, hi: i128) -> u32
     requires { lo ≤ℤ hi }
     ensures equals { result ≡ narrow_shift lo hi }
@@ -61,7 +61,7 @@ pub fn least_shift(lo: i128, hi: i128) -> u32
     leading_shift(lo, hi, size)
 }
 
-/// `z` as an end that is not past the limit.
+/// Returns `z` as an end, where its magnitude is at most 2^62.
 #[inline(always)]
 pub fn small_end(z: i128) -> i64
     requires { unsigned_abs z ≤ end_limit }
@@ -70,7 +70,7 @@ pub fn small_end(z: i128) -> i64
     z as i64
 }
 
-/// `floor(z / 2^k)`, where it is an end.
+/// Returns `floor(z / 2^k)`, where it is at most 2^62 in magnitude.
 #[inline(always)]
 pub fn low_end(z: i128, k: u32) -> i64
     requires few { k ≤ 66 }
@@ -80,7 +80,7 @@ pub fn low_end(z: i128, k: u32) -> i64
     (z >> k) as i64
 }
 
-/// `ceil(z / 2^k)` of a number that can be negated, where it is an end.
+/// Returns `ceil(z / 2^k)`, where it is at most 2^62 in magnitude and `z` can be negated.
 #[inline(always)]
 pub fn high_end(z: i128, k: u32) -> i64
     requires few { k ≤ 66 }
@@ -91,14 +91,14 @@ pub fn high_end(z: i128, k: u32) -> i64
     -((-z >> k) as i64)
 }
 
-/// The half, rounded down.
+/// Returns `z / 2`, rounded down.
 pub fn half_down(z: i128) -> i128
     ensures { result ≡ floor_div z 2 }
 {
     z >> 1
 }
 
-/// `floor(z / 2^k)` of an end, for any `k`.
+/// Returns `floor(z / 2^k)` of an end, for any `k`. Shifts past 63 leave the sign alone.
 #[inline(always)]
 pub fn floor_shift(z: i64, k: u32) -> i128
     requires { unsigned_abs z ≤ end_limit }
@@ -108,7 +108,7 @@ pub fn floor_shift(z: i64, k: u32) -> i128
     (z >> k.min(63)) as i128
 }
 
-/// `ceil(z / 2^k)` of an end, for any `k`.
+/// Returns `ceil(z / 2^k)` of an end, for any `k`.
 #[inline(always)]
 pub fn ceil_shift(z: i64, k: u32) -> i128
     requires { unsigned_abs z ≤ end_limit }
@@ -118,7 +118,7 @@ pub fn ceil_shift(z: i64, k: u32) -> i128
     -floor_shift(-z, k)
 }
 
-/// `z * 2^m` of an end.
+/// Returns `z * 2^m` of an end, for an `m` of at most 60: at most 2^122 in magnitude.
 #[inline(always)]
 pub fn lifted(z: i64, m: u32) -> i128
     requires small { unsigned_abs z ≤ end_limit }
@@ -129,7 +129,7 @@ pub fn lifted(z: i64, m: u32) -> i128
     z as i128 * (1i128 << (m % 64))
 }
 
-/// The sum of a small end and one that was lifted.
+/// Returns the sum of an end and a raised end, which is at most 2^122 in magnitude.
 #[inline(always)]
 pub fn added(a: i128, b: i128) -> i128
     requires a_small { unsigned_abs a ≤ end_limit }
@@ -140,7 +140,7 @@ pub fn added(a: i128, b: i128) -> i128
     a + b
 }
 
-/// A small end and one that was lifted, the lesser first. Where a caller reads one of them, the other is not made.
+/// Returns an end and a raised end, the lesser first. Where a caller reads one of them, the other is not made.
 #[inline(always)]
 pub fn in_order(a: i128, b: i128) -> (i128, i128)
     requires a_small { unsigned_abs a ≤ end_limit }
@@ -153,7 +153,7 @@ pub fn in_order(a: i128, b: i128) -> (i128, i128)
     (a.min(b), a.max(b))
 }
 
-/// How far one exponent is above another.
+/// Returns by how much the exponent `t` is above the exponent `s`, which is not greater.
 #[inline(always)]
 pub fn exponent_gap(s: i32, t: i32) -> u32
     requires order { s ≤ℤ t }
@@ -165,7 +165,7 @@ pub fn exponent_gap(s: i32, t: i32) -> u32
     (t - s) as u32
 }
 
-/// How far one exponent has to rise to reach another: not at all where that is lower.
+/// Returns by how much the exponent `s` has to rise to reach `t`: 0 where `t` is not greater.
 pub fn exponent_rise(s: i32, t: i32) -> u32
     requires exponent { IsExponent s }
     requires other_exponent { IsExponent t }
@@ -175,7 +175,7 @@ pub fn exponent_rise(s: i32, t: i32) -> u32
     if s < t { exponent_gap(s, t) } else { 0 }
 }
 
-/// The greater of two exponents.
+/// Returns the greater of two exponents.
 pub fn greater_exponent(s: i32, t: i32) -> i32
     requires exponent { IsExponent s }
     requires other_exponent { IsExponent t }
@@ -185,7 +185,7 @@ pub fn greater_exponent(s: i32, t: i32) -> i32
     if s < t { t } else { s }
 }
 
-/// The product of two ends, by one multiplication of 64-bit numbers.
+/// Returns the product of two ends, by one multiplication of 64-bit numbers.
 #[inline(always)]
 fn times(a: i64, b: i64) -> i128
     requires a_small { unsigned_abs a ≤ end_limit }
@@ -196,8 +196,8 @@ fn times(a: i64, b: i64) -> i128
     a as i128 * b as i128
 }
 
-/// `a <= b` in the order of `a z` and `b z`. Ends are chosen and then multiplied, so that no branch hangs on a sign that
-/// cannot be foreseen.
+/// Returns `a` and `b`, where `a <= b`, in the order of `a z` and `b z`. Ends are chosen and then multiplied, so that
+/// no branch depends on a sign that cannot be foreseen.
 #[inline(always)]
 fn ends_by_product(a: i64, b: i64, z: i64) -> (i64, i64)
     requires ends { IsIval (interval a b (pos 0)) }
@@ -209,7 +209,8 @@ fn ends_by_product(a: i64, b: i64, z: i64) -> (i64, i64)
     if z >= 0 { (a, b) } else { (b, a) }
 }
 
-/// The lesser and the greater of `a z` and `b z`. A caller reads one of them, and the other is not multiplied.
+/// Returns the lesser and the greater of `a z` and `b z`. A caller reads one of them, and the other is not
+/// multiplied.
 #[inline(always)]
 fn products_with(a: i64, b: i64, z: i64) -> (i128, i128)
     requires ends { IsIval (interval a b (pos 0)) }
@@ -221,7 +222,8 @@ fn products_with(a: i64, b: i64, z: i64) -> (i128, i128)
     (times(low, z), times(high, z))
 }
 
-/// The least and the greatest product, where 0 lies between `a` and `b`.
+/// Returns the least and the greatest product of a number from `a` to `b`, between which 0 lies, with one from `c` to
+/// `d`.
 #[inline(always)]
 fn products_across(a: i64, b: i64, c: i64, d: i64) -> (i128, i128)
     requires ends { IsIval (interval a b (pos 0)) }
@@ -242,8 +244,8 @@ fn products_across(a: i64, b: i64, c: i64, d: i64) -> (i128, i128)
     }
 }
 
-/// The least and the greatest product, by signs: where one of the two intervals has a sign, its ends name the two
-/// products that these are.
+/// Returns the least and the greatest product of a number from `a` to `b` with one from `c` to `d`, by signs. Where
+/// one interval has a sign, that sign tells which two products these are.
 #[inline(always)]
 fn products_by_sign(a: i64, b: i64, c: i64, d: i64) -> (i128, i128)
     requires ends { IsIval (interval a b (pos 0)) }
@@ -260,7 +262,8 @@ fn products_by_sign(a: i64, b: i64, c: i64, d: i64) -> (i128, i128)
     }
 }
 
-/// The least and the greatest product of a number from `a` to `b` with one from `c` to `d`.
+/// Returns the least and the greatest product of a number from `a` to `b` with one from `c` to `d`. Both are at most
+/// 2^124 in magnitude.
 #[inline(always)]
 pub fn product_ends(a: i64, b: i64, c: i64, d: i64) -> (i128, i128)
     requires ordered { a ≤ℤ b }
@@ -278,7 +281,7 @@ pub fn product_ends(a: i64, b: i64, c: i64, d: i64) -> (i128, i128)
     products_by_sign(a, b, c, d)
 }
 
-/// `z |z|` of an end.
+/// Returns `z |z|` of an end: the square with the sign of `z`.
 #[inline(always)]
 pub fn square_end(z: i64) -> i128
     requires { unsigned_abs z ≤ end_limit }

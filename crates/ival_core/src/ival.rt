@@ -19,13 +19,13 @@ use crate::ends::{
 use spec_intervals::Sign;
 use std::marker::Model;
 
-/// The exponent of 2 at which the decimals of distances in km are taken.
+/// The exponent of 2 at which a decimal that is a distance in km becomes an interval.
 pub const DISTANCE_EXPONENT: i32 = -24;
 
-/// The exponent of 2 at which the decimals of cosines are taken.
+/// The exponent of 2 at which a decimal that is a cosine becomes an interval.
 pub const COSINE_EXPONENT: i32 = -60;
 
-/// By how many powers of 2 an end is multiplied at most.
+/// The most bits by which the end of the greater exponent is raised; further bits are taken from the other end.
 const LIFT_LIMIT: u32 = 60;
 
 /// All numbers from `lo * 2^s` to `hi * 2^s`, with `lo <= hi` and both at most 2^62 in magnitude.
@@ -53,7 +53,7 @@ impl Model for Ival {
 pub type Enclosure = spec_intervals::Enclosure<Ival>;
 
 impl Ival {
-    /// The three numbers of the interval: low end, high end, exponent of 2.
+    /// Returns the three numbers of the interval: low end, high end, exponent of 2.
     #[inline(always)]
     pub fn parts(&self) -> (i128, i128, i32)
         ensures lo { result.0 ≡ self.now.lo }
@@ -63,8 +63,8 @@ impl Ival {
         (self.lo as i128, self.hi as i128, self.s)
     }
 
-    /// The interval from `lo * 2^s` to `hi * 2^s`, normalized: both ends are halved together, rounded outward, until
-    /// neither is past 2^62 in magnitude. Where both ends are 0 the exponent is 0.
+    /// Makes the interval from `lo * 2^s` to `hi * 2^s`, normalized: both ends are halved together, rounded outward,
+    /// until both magnitudes are at most 2^62. Where both ends are 0 the exponent is 0.
     pub fn of(lo: i128, hi: i128, s: i32) -> Ival
         requires ordered { lo ≤ℤ hi }
         requires exponent { IsExponent s }
@@ -74,7 +74,7 @@ impl Ival {
         narrowed_any(lo, hi, s)
     }
 
-    /// The interval of 0 alone.
+    /// Returns the interval of 0 alone, with the exponent 0.
     #[inline(always)]
     pub fn zero() -> Ival
         ensures { result ≡ interval (pos 0) (pos 0) (pos 0) }
@@ -82,8 +82,8 @@ impl Ival {
         Ival { lo: 0, hi: 0, s: 0 }
     }
 
-    /// `mant * 10^exp` at the exponent `s`, -24 for a length in km and -60 for a cosine, rounded down and up.
-    /// It is not normalized: 0 keeps the exponent `s`.
+    /// Makes the interval of `mant * 10^exp` at the exponent `s`, -24 for a length in km and -60 for a cosine,
+    /// rounded down and up. It is not normalized: 0 keeps the exponent `s`.
     pub fn from_decimal(mant: i64, exp: i16, s: i32) -> Ival
         requires exponent { (s ≡ distance_exponent) ⊎ (s ≡ cosine_exponent) }
         requires distance { s ≡ distance_exponent → IsDistance mant exp }
@@ -94,7 +94,7 @@ impl Ival {
         decimal_at(mant, exp, s)
     }
 
-    /// Whether all numbers held are at least 0 (`Yes`), all are below 0 (`No`), or neither is known (`Open`).
+    /// Tells whether all numbers held are at least 0 (`Yes`), all are below 0 (`No`), or neither is known (`Open`).
     #[inline(always)]
     pub fn sign(&self) -> Sign
         ensures { result ≡ sign_of self.now }
@@ -108,7 +108,7 @@ impl Ival {
         }
     }
 
-    /// The sum: the ends are added at one exponent and normalized. An interval of 0 alone adds nothing.
+    /// Returns the sum: the ends are added at one exponent and normalized. An interval of 0 alone adds nothing.
     #[inline(always)]
     pub fn add(self, other: Ival) -> Ival
         requires exponent { IsExponent self.s }
@@ -120,7 +120,7 @@ impl Ival {
         sum_of(self, other)
     }
 
-    /// The difference: the sum with the other interval negated.
+    /// Returns the difference: the sum with the other interval negated.
     #[inline(always)]
     pub fn sub(self, other: Ival) -> Ival
         requires exponent { IsExponent self.s }
@@ -132,7 +132,7 @@ impl Ival {
         difference_of(self, other)
     }
 
-    /// The product: the least and the greatest of the four products of ends, normalized.
+    /// Returns the product: the least and the greatest of the four products of ends, normalized.
     #[inline(always)]
     pub fn mul(self, other: Ival) -> Ival
         requires exponent { IsExponent self.s }
@@ -144,7 +144,7 @@ impl Ival {
         product_of(self, other)
     }
 
-    /// The hull: from the lesser low end to the greater high end, at one exponent and normalized.
+    /// Returns the hull: from the lesser low end to the greater high end, at one exponent and normalized.
     #[inline(always)]
     pub fn join(self, other: Ival) -> Ival
         requires exponent { IsExponent self.s }
@@ -155,7 +155,8 @@ impl Ival {
         join_of(self, other)
     }
 
-    /// The intersection: from the greater low end to the lesser high end, at one exponent and normalized.
+    /// Returns the intersection: from the greater low end to the lesser high end, at one exponent and normalized. The
+    /// two have to overlap.
     #[inline(always)]
     pub fn meet(self, other: Ival) -> Ival
         requires exponent { IsExponent self.s }
@@ -167,7 +168,7 @@ impl Ival {
         meet_of(self, other)
     }
 
-    /// `x |x|`, which keeps the sign and grows with `x`: the signed squares of the ends, normalized.
+    /// Returns `x |x|`, which keeps the sign and grows with `x`: the signed squares of the ends, normalized.
     #[inline(always)]
     pub fn signed_square(self) -> Ival
         requires { IsExponent self.s }
@@ -177,8 +178,9 @@ impl Ival {
         signed_square_of(self)
     }
 
-    /// `2 / seconds` times the numbers from `lo * 2^s` to `hi * 2^s`, rounded outward and normalized. The argument of a
-    /// polynomial over a span of that many seconds goes from -1 to 1, so `2 / seconds` is what it gains in a second.
+    /// Returns `2 / seconds` times the numbers from `lo * 2^s` to `hi * 2^s`, rounded outward and normalized. The
+    /// argument of a polynomial over a span of `seconds` goes from -1 to 1, so `2 / seconds` is what it gains in a
+    /// second.
     #[inline(always)]
     pub fn scale(lo: i128, hi: i128, s: i32, seconds: i64) -> Ival
         requires ordered { lo ≤ℤ hi }
@@ -193,7 +195,8 @@ impl Ival {
         scaled(lo, hi, s, seconds)
     }
 
-    /// `scale` by a divider that is made once for many intervals.
+    /// Returns `2 / seconds` times the numbers from `lo * 2^s` to `hi * 2^s`, as `scale` does, by a divider that is
+    /// made once for many intervals.
     #[inline(always)]
     pub fn scale_by(lo: i128, hi: i128, s: i32, divider: &Divider) -> Ival
         requires ordered { lo ≤ℤ hi }
@@ -207,7 +210,7 @@ impl Ival {
         scaled_by(lo, hi, s, divider)
     }
 
-    /// The interval at an exponent of at least `s`, rounded outward and normalized.
+    /// Returns the interval at an exponent of at least `s`, rounded outward and normalized.
     pub fn coarsened(self, s: i32) -> Ival
         requires exponent { IsExponent self.s }
         requires other_exponent { IsExponent s }
@@ -217,8 +220,8 @@ impl Ival {
         narrowed(own.lo, own.hi, own.s)
     }
 
-    /// The sum in the coarser of both units: the ends are added at the greater exponent and normalized. An interval of 0
-    /// alone adds nothing.
+    /// Returns the sum in the coarser of both units: the ends are added at the greater exponent, rounded outward and
+    /// normalized. An interval of 0 alone adds nothing.
     #[tactic(auto, unfolding(spec_models::specs::Bounds::coarse_sum))]
     pub fn coarse_sum(self, other: Ival) -> Ival
         requires exponent { IsExponent self.s }
@@ -234,7 +237,7 @@ impl Ival {
         }
     }
 
-    /// The difference in the coarser of both units.
+    /// Returns the difference in the coarser of both units: the coarse sum with the other interval negated.
     pub fn coarse_difference(self, other: Ival) -> Ival
         requires exponent { IsExponent self.s }
         requires other_exponent { IsExponent other.s }
@@ -243,7 +246,7 @@ impl Ival {
         self.coarse_sum(other.negated())
     }
 
-    /// The interval negated.
+    /// Returns the interval of the negated numbers, with the same exponent.
     #[inline(always)]
     fn negated(self) -> Ival
         ensures { result ≡ negated self }
@@ -255,6 +258,7 @@ impl Ival {
         }
     }
 
+    // Tells whether the interval holds 0 alone.
     #[inline(always)]
     fn is_zero(&self) -> bool
         ensures { result ≡ is_zero self.now }
@@ -263,7 +267,7 @@ impl Ival {
     }
 }
 
-/// The interval of two ends, with the exponent 0 where both are 0.
+/// Returns the interval of two ends that are not past the limit. The exponent is 0 where both ends are 0.
 #[inline(always)]
 fn settle(lo: i64, hi: i64, s: i32) -> Ival
     requires { IsIval (interval lo hi s) }
@@ -276,7 +280,7 @@ fn settle(lo: i64, hi: i64, s: i32) -> Ival
     }
 }
 
-/// Halves two ends `k` times, which is what it takes.
+/// Halves two ends `k` times, rounded outward. `k` is the least shift that brings both to at most 2^62 in magnitude.
 #[inline(always)]
 fn halved(lo: i128, hi: i128, s: i32, k: u32) -> Ival
     requires ordered { lo ≤ℤ hi }
@@ -289,8 +293,8 @@ fn halved(lo: i128, hi: i128, s: i32, k: u32) -> Ival
     settle(low_end(lo, k), high_end(hi, k), s + k as i32)
 }
 
-/// Normalizes two ends in order, as products and sums of ends are. Halved fewer than 64 times, as `% 64` tells the
-/// compiler.
+/// Normalizes two ends in order, each at most 2^124 in magnitude, as products and sums of ends are. The shift is
+/// below 64, as `% 64` tells the compiler.
 #[inline(always)]
 fn narrowed(lo: i128, hi: i128, s: i32) -> Ival
     requires ordered { lo ≤ℤ hi }
@@ -307,7 +311,7 @@ fn narrowed(lo: i128, hi: i128, s: i32) -> Ival
     }
 }
 
-/// Normalizes two ends in order, of which the high one can be negated.
+/// Normalizes two ends in order, of which the high one can be negated. Only large ends take the slow path.
 fn narrowed_wide(lo: i128, hi: i128, s: i32) -> Ival
     requires ordered { lo ≤ℤ hi }
     requires above_least { unsigned_abs hi < 2 ^ 127 }
@@ -321,7 +325,7 @@ fn narrowed_wide(lo: i128, hi: i128, s: i32) -> Ival
     }
 }
 
-/// Normalizes any two ends in order. Where the high end is -2^127 the low end is too, and the halves are exact.
+/// Normalizes any two ends in order. Where the high end is -2^127 the low end is too, and their halves are exact.
 fn narrowed_any(lo: i128, hi: i128, s: i32) -> Ival
     requires ordered { lo ≤ℤ hi }
     requires exponent { IsExponent s }
@@ -335,7 +339,7 @@ fn narrowed_any(lo: i128, hi: i128, s: i32) -> Ival
     }
 }
 
-/// The interval of two ends, as it is.
+/// Returns the interval of two ends that are not past the limit, as they are.
 fn exact(lo: i128, hi: i128, s: i32) -> Ival
     requires { IsIval (interval lo hi s) }
     ensures { result ≡ interval lo hi s }
@@ -347,6 +351,7 @@ fn exact(lo: i128, hi: i128, s: i32) -> Ival
     }
 }
 
+// Makes the interval of a decimal at the exponent `s`, from -60 to 0, rounded down and up. It is not normalized.
 fn decimal_at(mant: i64, exp: i16, s: i32) -> Ival
     requires below { s ≤ℤ pos 0 }
     requires above { neg_ℤ (pos 60) ≤ℤ s }
@@ -357,6 +362,7 @@ fn decimal_at(mant: i64, exp: i16, s: i32) -> Ival
     exact(lo, hi, s)
 }
 
+// Returns the product of two intervals, normalized.
 #[inline(always)]
 fn product_of(x: Ival, y: Ival) -> Ival
     requires exponent { IsExponent x.s }
@@ -368,6 +374,7 @@ fn product_of(x: Ival, y: Ival) -> Ival
     narrowed(lo, hi, s)
 }
 
+// Returns the sum of two intervals, normalized. An interval of 0 alone adds nothing.
 #[tactic(auto, unfolding(spec_intervals::specs::Interval::sum))]
 #[inline(always)]
 fn sum_of(x: Ival, y: Ival) -> Ival
@@ -386,7 +393,7 @@ fn sum_of(x: Ival, y: Ival) -> Ival
     }
 }
 
-/// The sum of two intervals, the first at the lower exponent.
+/// Returns the sum of two intervals, the first at the lower exponent or the same.
 #[inline(always)]
 fn sum_upward(x: Ival, y: Ival) -> Ival
     requires order { x.s ≤ℤ y.s }
@@ -400,6 +407,7 @@ fn sum_upward(x: Ival, y: Ival) -> Ival
     narrowed(lo, hi, at.s)
 }
 
+// Returns the difference of two intervals, normalized.
 #[tactic(auto, unfolding(spec_intervals::specs::Interval::difference))]
 #[inline(always)]
 fn difference_of(x: Ival, y: Ival) -> Ival
@@ -410,6 +418,7 @@ fn difference_of(x: Ival, y: Ival) -> Ival
     sum_of(x, y.negated())
 }
 
+// Returns the hull of two intervals, normalized.
 #[tactic(auto, unfolding(spec_intervals::specs::Interval::join))]
 #[inline(always)]
 fn join_of(x: Ival, y: Ival) -> Ival
@@ -424,7 +433,7 @@ fn join_of(x: Ival, y: Ival) -> Ival
     }
 }
 
-/// The hull of two intervals, the first at the lower exponent.
+/// Returns the hull of two intervals, the first at the lower exponent or the same.
 #[inline(always)]
 fn join_upward(x: Ival, y: Ival) -> Ival
     requires order { x.s ≤ℤ y.s }
@@ -438,6 +447,7 @@ fn join_upward(x: Ival, y: Ival) -> Ival
     narrowed(lo, hi, at.s)
 }
 
+// Returns the intersection of two intervals that overlap, normalized.
 #[tactic(auto, unfolding(spec_intervals::specs::Interval::meet))]
 #[inline(always)]
 fn meet_of(x: Ival, y: Ival) -> Ival
@@ -453,7 +463,7 @@ fn meet_of(x: Ival, y: Ival) -> Ival
     }
 }
 
-/// The intersection of two intervals, the first at the lower exponent.
+/// Returns the intersection of two intervals that overlap, the first at the lower exponent or the same.
 #[inline(always)]
 fn meet_upward(x: Ival, y: Ival) -> Ival
     requires order { x.s ≤ℤ y.s }
@@ -468,6 +478,7 @@ fn meet_upward(x: Ival, y: Ival) -> Ival
     narrowed(lo, hi, at.s)
 }
 
+// Returns the interval of `x |x|`, normalized.
 #[inline(always)]
 fn signed_square_of(x: Ival) -> Ival
     requires { IsExponent x.s }
@@ -477,6 +488,7 @@ fn signed_square_of(x: Ival) -> Ival
     narrowed(square_end(x.lo), square_end(x.hi), s)
 }
 
+// Returns `2 / seconds` times the numbers between two ends, rounded outward, by a divider that is made for this call.
 #[inline(always)]
 fn scaled(lo: i128, hi: i128, s: i32, seconds: i64) -> Ival
     requires ordered { lo ≤ℤ hi }
@@ -490,6 +502,7 @@ fn scaled(lo: i128, hi: i128, s: i32, seconds: i64) -> Ival
     scaled_by(lo, hi, s, &divider)
 }
 
+// Returns `2 / seconds` times the numbers between two ends, rounded outward and normalized, by a kept divider.
 #[inline(always)]
 fn scaled_by(lo: i128, hi: i128, s: i32, divider: &Divider) -> Ival
     requires ordered { lo ≤ℤ hi }
@@ -502,8 +515,8 @@ fn scaled_by(lo: i128, hi: i128, s: i32, divider: &Divider) -> Ival
     narrowed_wide(divider.down(2 * lo), divider.up(2 * hi), s)
 }
 
-/// The ends of two intervals at one exponent `s`: those of the interval that was lower are rounded outward, those of
-/// the one that was upper stand for the same numbers.
+/// The ends of two intervals at one exponent `s`. Those of the lower interval are rounded outward; those of the upper
+/// one stand for the same numbers as before.
 #[derive(Clone, Copy)]
 struct Aligned {
     lower_lo: i128,
@@ -513,7 +526,8 @@ struct Aligned {
     s: i32,
 }
 
-/// Brings two intervals to one exponent, the first at the lower one.
+/// Brings two intervals to one exponent, the first at the lower exponent or the same. The upper ends rise by at most
+/// 60 bits, which keeps them exact; the lower ends lose the rest.
 #[inline(always)]
 fn at_one_exponent(x: Ival, y: Ival) -> Aligned
     requires order { x.s ≤ℤ y.s }
@@ -536,7 +550,7 @@ fn at_one_exponent(x: Ival, y: Ival) -> Aligned
     }
 }
 
-/// The ends of an interval in a unit that is no finer than its own, rounded outward.
+/// The ends of an interval at an exponent that is no lower than its own, rounded outward.
 #[derive(Clone, Copy)]
 struct Raised {
     lo: i128,
@@ -544,7 +558,8 @@ struct Raised {
     s: i32,
 }
 
-/// An interval at an exponent of at least `s`.
+/// Brings an interval to an exponent of at least `s`, rounded outward. An interval at a greater exponent stays as it
+/// is.
 fn at_exponent(x: Ival, s: i32) -> Raised
     requires exponent { IsExponent x.s }
     requires other_exponent { IsExponent s }
@@ -559,7 +574,7 @@ fn at_exponent(x: Ival, s: i32) -> Raised
     }
 }
 
-/// The sum of two intervals at the greater of both exponents.
+/// Returns the sum of two intervals at the greater of both exponents, rounded outward and normalized.
 fn raised_sum(x: Ival, y: Ival) -> Ival
     requires exponent { IsExponent x.s }
     requires other_exponent { IsExponent y.s }

@@ -1,18 +1,18 @@
-// Where the numbers of a column stand in a block.
+// The sizes of columns, and where their numbers stand in a block.
 ghost use Rattle.std.specs.Prelude.{◌≡◌, ◌+◌, ◌≤◌};
 ghost use Rattle.spec_ephemeris.specs.Header.{column_size, components, is_present};
 
 use spec_ephemeris::{Column, NUTATIONS};
 
-/// Whether a column has numbers: some coefficients and some granules.
+/// Tells whether a column has numbers: at least one coefficient and one granule.
 pub fn is_present(column: Column) -> bool
     ensures { result ≡ is_present column }
 {
     column.coefs > 0 && column.granules > 0
 }
 
-/// The components of a column, counted from 1 in the order of the header. Nutations have two, and every other column
-/// has three: x, y and z, or three angles.
+/// Returns the number of components of a column, counted from 1 in the order of the header. Nutations have two, and
+/// every other column has three: x, y and z, or three angles.
 pub fn components(number: usize) -> usize
     ensures value { result ≡ components number }
     ensures few { result ≤ 3 }
@@ -20,8 +20,8 @@ pub fn components(number: usize) -> usize
     if number == NUTATIONS { 2 } else { 3 }
 }
 
-/// The place after the last one of a column, counted from 1: its start and, from there, the product of its components,
-/// the coefficients of each and the granules of a block.
+/// Returns the place after the last number of a column, counted from 1: its start, and from there the product of its
+/// components, the coefficients of each and the granules of a block.
 pub fn place_after(number: usize, column: Column) -> u128
     ensures { result ≡ column.start + column_size number column }
 {

@@ -19,12 +19,12 @@ use spec_text::Decimal;
 use std::alloc::{AllocError, Global};
 use std::marker::Model;
 
-/// Out of memory.
+/// The one error of a call that stores numbers: out of memory.
 pub type Memory = AllocError;
 
-/// A header that meets the rules, the time at which the first block begins, and the numbers of the blocks, each of
-/// which begins where the one before it ends, as JPL's ASCII files of development ephemerides have them. Times are
-/// seconds of TDB since J2000, and after `in_ticks` ticks.
+/// A checked ephemeris: a header that meets the rules, the time at which the first block starts, and the numbers of
+/// the blocks. Each block starts where the one before it ends, as JPL's ASCII files of development ephemerides have
+/// them. Times are seconds of TDB since J2000, and after `in_ticks` ticks.
 #[derive(Drop)]
 pub struct Ephemeris {
     pub(crate) header: Header,
@@ -55,7 +55,7 @@ impl Model for Ephemeris {
     }) × ArePairs e.numbers.items e.pairs.items };
 }
 
-// A header whose block length counts ticks, of which a second has so many.
+// Returns a header whose block length counts ticks, `tick` of them in a second.
 fn header_in_ticks(header: Header, tick: u32) -> Header
     requires tick { IsTick tick }
     requires long { header.block_seconds ≤ℤ LONGEST_BLOCK }
@@ -77,7 +77,7 @@ fn header_in_ticks(header: Header, tick: u32) -> Header
 }
 
 impl Ephemeris {
-    /// An ephemeris with no block, whose first block will begin at `start`.
+    /// Makes an ephemeris without a block, whose first block will start at `start`. It does not allocate.
     pub fn empty(alloc: Global, header: Header, start: i64) -> Self
         requires header { IsHeader header }
         requires start { IsStart start }
@@ -92,8 +92,8 @@ impl Ephemeris {
         }
     }
 
-    /// Adds one block of as many numbers as the header says, after the last: its two Julian dates, and the coefficients
-    /// of its columns in km, each of which is rounded once, here. After `Memory` nothing has changed.
+    /// Adds one block of as many numbers as the header says, after the last: its two Julian dates, and the
+    /// coefficients of its columns in km, each of which is rounded once, here. After `Memory` nothing has changed.
     pub fn push_block(&mut self, numbers: &[Decimal]) -> Result<(), Memory>
         requires block { IsBlock self.old.header numbers.now }
         requires room { self.old.blocks < MAX_BLOCKS }
@@ -107,8 +107,8 @@ impl Ephemeris {
         Ok(())
     }
 
-    /// The same ephemeris, whose times count ticks since J2000 in TDB, of which a second has so many, from 1 to 1,000. From
-    /// then on each time, and the length of a granule in `seconds`, counts ticks. It does not allocate.
+    /// Returns the ephemeris with times that count ticks since J2000 in TDB, `tick` of them in a second, from 1 to
+    /// 1,000. From then on each time, and the length of a granule in `seconds`, counts ticks. It does not allocate.
     pub fn in_ticks(self, tick: u32) -> Ephemeris
         requires tick { IsTick tick }
         requires seconds { IsInSeconds self }
@@ -131,7 +131,7 @@ impl Ephemeris {
         }
     }
 
-    // The time at which the first block begins, in ticks.
+    // Returns the time at which the first block starts, in ticks since J2000 in TDB.
     fn start_in_ticks(&self, tick: u32) -> i64
         requires tick { IsTick tick }
         requires seconds { IsInSeconds self.now }
@@ -140,28 +140,28 @@ impl Ephemeris {
         self.start() * i64::from(tick)
     }
 
-    /// The time at which the first block begins.
+    /// Returns the time at which the first block starts.
     pub fn start(&self) -> i64
         ensures { result ≡ self.now.start }
     {
         self.start
     }
 
-    /// The time at which the last block ends.
+    /// Returns the time at which the last block ends.
     pub fn end(&self) -> i64
         ensures { result ≡ end_of self.now }
     {
         self.start + i64::from(self.blocks) * self.header.block_seconds
     }
 
-    /// The number of blocks.
+    /// Returns the number of blocks.
     pub fn blocks(&self) -> u32
         ensures { result ≡ self.now.blocks }
     {
         self.blocks
     }
 
-    /// The header.
+    /// Returns the header, which meets the rules.
     pub fn header(&self) -> &Header
         ensures same { result.now ≡ self.now.header }
         ensures checked { IsEphemeris self.now }
@@ -169,7 +169,8 @@ impl Ephemeris {
         &self.header
     }
 
-    /// Whether the ephemeris has the column, counted from 1 in the order of the header. Columns past the 13th are not read.
+    /// Tells whether the ephemeris has a column, counted from 1 in the order of the header. Columns past the 13th are
+    /// not read.
     pub fn has(&self, column: usize) -> bool
         ensures { result ≡ has_column self.now.header column }
     {
@@ -179,7 +180,7 @@ impl Ephemeris {
         }
     }
 
-    // The granules of a column.
+    // Returns the granules of a column, counted from 1, over the whole ephemeris.
     fn grid(&self, column: usize) -> Grid
         requires { IsTrue (has_column self.now.header column) }
         ensures grid { IsGridOf self.now column result }
@@ -197,8 +198,8 @@ impl Ephemeris {
         }
     }
 
-    /// The granule of a column at a time, with its coefficients: the granule that begins at the time or is the last to
-    /// begin before it. The time at which the last block ends belongs to the last granule. Columns are counted from 1.
+    /// Returns the granule of a column, counted from 1, at a time, with its coefficients: the granule that starts at
+    /// the time or is the last to start before it. The time at which the last block ends belongs to the last granule.
     pub fn granule(&self, column: usize, t: i64) -> Granule<'_>
         requires present { IsTrue (has_column self.now.header column) }
         requires block { 0 < self.now.blocks }
@@ -228,9 +229,9 @@ impl Ephemeris {
         }
     }
 
-    /// Of the borders of the given columns in (a, b] the one that is nearest to the middle of a and b, and the smaller of
+    /// Returns the border of the given columns in (a, b] that is nearest to the middle of a and b, and the smaller of
     /// two that are as near. None where no border lies there. A border of a column is a time at which any of its
-    /// granules but the first begins. Columns are counted from 1.
+    /// granules but the first starts. Columns are counted from 1.
     pub fn border_near(&self, columns: &[usize], a: i64, b: i64) -> Option<i64>
         requires present { All (λ column. IsTrue (has_column self.now.header column)) columns.now }
         requires from { self.now.start ≤ℤ a }
@@ -247,7 +248,7 @@ impl Ephemeris {
         nearest
     }
 
-    // The numbers of a granule of a block, both counted from 0.
+    // Returns the numbers of a granule of a block, both counted from 0.
     fn granule_numbers(
         &self,
         number: usize,
@@ -273,7 +274,8 @@ impl Ephemeris {
         )
     }
 
-    // The pairs of the numbers of a granule of a body, and none of another column.
+    // Returns the rounded pairs beside the numbers of a granule of a body. Columns of no body have none, and give an
+    // empty slice.
     fn granule_pairs(&self, number: usize, column: Column, block: usize, inner: usize) -> &[Rounded]
         requires present { IsColumn self.now.header number column }
         requires block { block < self.now.blocks }

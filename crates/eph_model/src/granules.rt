@@ -1,4 +1,4 @@
-// The granule of a time: which it is, how long it is, and where its numbers stand.
+// The granule of a time: its place, its length, and where its numbers stand.
 ghost use Rattle.std.specs.Prelude.{◌≡◌, ◌+◌, ◌-◌, ◌*◌, ◌/◌, ◌<◌, ◌≤◌, min, IsTrue, Some, length, take, drop, pos, ◌+ℤ◌, ◌-ℤ◌, ◌<ℤ◌, ◌≤ℤ◌};
 ghost use Rattle.spec_ephemeris.specs.Series.{to_nat};
 ghost use Rattle.spec_ephemeris.specs.Header.{IsColumn, IsHeader, IsShared, column_at, granule_size, is_present, is_present_at};
@@ -7,7 +7,7 @@ use crate::columns::components;
 use crate::grid::Grid;
 use spec_ephemeris::{Column, Header, READ_COLUMNS};
 
-// The column of a number, counted from 1, among those that are read.
+// Returns the column of this number, counted from 1. None where it is not among those that are read.
 pub(crate) fn column_of(columns: &[Column], number: usize) -> Option<Column>
     ensures { result ≡ column_at columns.now number }
 {
@@ -17,7 +17,7 @@ pub(crate) fn column_of(columns: &[Column], number: usize) -> Option<Column>
     columns.get(number - 1).copied()
 }
 
-// The column of a number at which a column is present.
+// Returns the column of this number, counted from 1, at which a column is present.
 pub(crate) fn present_column(columns: &[Column], number: usize) -> Column
     requires { IsTrue (is_present_at (column_at columns.now number)) }
     ensures listed { column_at columns.now number ≡ Some result }
@@ -26,7 +26,7 @@ pub(crate) fn present_column(columns: &[Column], number: usize) -> Column
     columns[number - 1]
 }
 
-// The length of each of the granules that share a block.
+// Returns the length of each of the granules that share a block evenly.
 pub(crate) fn granule_seconds(block: i64, granules: u32) -> u64
     requires length { pos 0 <ℤ block }
     requires some { 0 < granules }
@@ -37,8 +37,8 @@ pub(crate) fn granule_seconds(block: i64, granules: u32) -> u64
     block as u64 / u64::from(granules)
 }
 
-// The place of the first number of a granule in a block, counted from 0, and how many there are. The block's granules are
-// counted from 0 too.
+// Returns the place of a granule's first number in its block, counted from 0, and how many numbers the granule has.
+// The granules of a block are counted from 0.
 pub(crate) fn granule_place(
     header: &Header,
     number: usize,
@@ -57,7 +57,8 @@ pub(crate) fn granule_place(
     (first, size)
 }
 
-// The numbers of a block, or what stands beside them, from `first` on, which is counted from 0.
+// Returns `size` values of a block, from `first` on, which is counted from 0. The values are a block's numbers, or
+// what stands beside them.
 pub(crate) fn numbers_at<T>(
     numbers: &[T],
     ncoeff: usize,
@@ -76,7 +77,7 @@ pub(crate) fn numbers_at<T>(
 }
 
 impl Grid {
-    // The time at which the granule begins that is counted from 0.
+    // Returns the time at which a granule, counted from 0, starts.
     pub fn time_of(self, index: u64) -> i64
         requires { index ≤ self.count }
         ensures { result ≡ self.start +ℤ pos (index * self.seconds) }
@@ -84,7 +85,7 @@ impl Grid {
         self.start + (index * self.seconds) as i64
     }
 
-    // The granule, counted from 0, of a time. The end of the last belongs to the last.
+    // Returns the granule, counted from 0, in which a time lies. The end of the last granule belongs to it.
     pub fn index_at(self, t: i64) -> u64
         requires some { 0 < self.count }
         requires from { self.start ≤ℤ t }
@@ -96,7 +97,8 @@ impl Grid {
     }
 }
 
-// The granule, counted from 0, of a time so long after the first begins.
+// Returns the granule, counted from 0, in which a time lies that is `offset` after the start of the first. From the
+// end of the last granule on it is the last one.
 fn index_at(offset: u64, seconds: u64, count: u64) -> u64
     requires length { 0 < seconds }
     requires some { 0 < count }

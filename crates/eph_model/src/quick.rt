@@ -1,4 +1,4 @@
-// Numbers of km rounded by one multiplication, and a check of what it gives.
+// A fast way to round numbers of km: one multiplication guesses the quotient, and a check follows.
 ghost use Rattle.std.specs.Prelude.{◌≡◌, ◌+◌, ◌-◌, ◌*◌, ◌^◌, ◌<◌, ◌≤◌, IfSome, Some};
 ghost use Rattle.spec_ephemeris.specs.Rounding.{pair_of};
 ghost use Rattle.eph_model.specs.Quotients.{IsQuotient, IsOf};
@@ -8,16 +8,16 @@ use crate::rounding::SMALL_EXPONENT;
 use spec_ephemeris::Rounded;
 use spec_text::Decimal;
 
-// From one digit more after the point on, a number of 64 bits is below 2^-24.
+// The most digits after the point for which the tables stand. With one digit more a number of 64 bits is below 2^-24.
 const MAX_PLACES: usize = 26;
 
-// 2^24 / 10^n is a quotient of two numbers of 64 bits: this one is above,
+// The numerators of 2^24 / 10^n, reduced to a quotient of two numbers of 64 bits, by n.
 const UNITS: [u64; 27] = [
     16_777_216, 8_388_608, 4_194_304, 2_097_152, 1_048_576, 524_288, 262_144, 131_072, 65_536,
     32_768, 16_384, 8_192, 4_096, 2_048, 1_024, 512, 256, 128, 64, 32, 16, 8, 4, 2, 1, 1, 1,
 ];
 
-// and this one below.
+// The denominators of 2^24 / 10^n, reduced to a quotient of two numbers of 64 bits, by n.
 const DIVIDERS: [u64; 27] = [
     1,
     5,
@@ -48,7 +48,7 @@ const DIVIDERS: [u64; 27] = [
     5_960_464_477_539_062_500,
 ];
 
-// The quotient times 2^(64 + k) rounded up, with the greatest k by which it fits,
+// The quotients 2^24 / 10^n times 2^(64 + k), rounded up, with the greatest k by which they fit 64 bits.
 const INVERSES: [u64; 27] = [
     18_446_744_073_709_551_615,
     18_446_744_073_709_551_615,
@@ -79,11 +79,12 @@ const INVERSES: [u64; 27] = [
     14_272_476_927_059_598_811,
 ];
 
-// and that k.
+// The greatest k by which each of the `INVERSES` fits 64 bits.
 const SHIFTS: [u32; 27] = [
     0, 0, 0, 0, 0, 0, 0, 0, 2, 5, 9, 12, 15, 19, 22, 25, 29, 32, 35, 39, 42, 45, 49, 52, 55, 59, 62,
 ];
 
+// Returns the numerator of 2^24 / 10^places in lowest terms with the denominator `divider`.
 fn unit(places: usize) -> u64
     requires { places ≤ MAX_PLACES }
     ensures { result ≡ 2 ^ (24 - places) }
@@ -91,6 +92,7 @@ fn unit(places: usize) -> u64
     UNITS[places]
 }
 
+// Returns the denominator of 2^24 / 10^places in lowest terms with the numerator `unit`.
 fn divider(places: usize) -> u64
     requires { places ≤ MAX_PLACES }
     ensures { result ≡ 5 ^ places * 2 ^ (places - 24) }
@@ -98,7 +100,7 @@ fn divider(places: usize) -> u64
     DIVIDERS[places]
 }
 
-// `size * 2^24 / 10^places` rounded down, most likely. That it is right is checked, and nowhere claimed.
+// Guesses `size * 2^24 / 10^places`, rounded down. Nothing is claimed of it, since `checked` tests it.
 #[inline(always)]
 fn guess(size: u64, places: usize) -> u64
     requires { places ≤ MAX_PLACES }
@@ -107,14 +109,14 @@ fn guess(size: u64, places: usize) -> u64
     ((product >> 64) % (1 << 64)) as u64 >> (SHIFTS[places] % 64)
 }
 
-// A size in units of 2^-24 km rounded down, and 0 where nothing is left.
+// A magnitude in units of 2^-24 km, rounded down, and a rest that is 0 exactly where nothing is lost.
 #[derive(Clone, Copy)]
 struct Quotient {
     quotient: u64,
     left: u64,
 }
 
-// The quotient of a number by a divider, where the guess is right.
+// Returns the quotient and the rest of `top / divider`, where the guess is right, else none.
 #[inline(always)]
 fn checked(top: u128, divider: u64, guess: u64) -> Option<Quotient>
     ensures parts { IfSome result (λ q. q.quotient * divider + q.left ≡ top) }
@@ -130,7 +132,8 @@ fn checked(top: u128, divider: u64, guess: u64) -> Option<Quotient>
     })
 }
 
-// A size with so many digits after the point, where the guess is right.
+// Returns a magnitude with at most 26 digits after the point in units of 2^-24 km, where the guess is right, else
+// none.
 #[inline(always)]
 fn near_quotient(size: u64, places: usize) -> Option<Quotient>
     requires { places ≤ MAX_PLACES }
@@ -140,7 +143,8 @@ fn near_quotient(size: u64, places: usize) -> Option<Quotient>
     checked(top, divider(places), guess(size, places))
 }
 
-// A size with more digits after the point.
+// Returns a magnitude with more than 26 digits after the point in units of 2^-24 km: 0, with the magnitude as its
+// rest.
 #[inline(always)]
 fn tiny_quotient(size: u64, places: usize) -> Quotient
     requires { MAX_PLACES < places }
@@ -153,6 +157,8 @@ fn tiny_quotient(size: u64, places: usize) -> Quotient
     }
 }
 
+// Returns a magnitude with `places` digits after the point in units of 2^-24 km. None where the guess of the quotient
+// is wrong.
 #[inline(always)]
 fn quotient_of(size: u64, places: usize) -> Option<Quotient>
     ensures { IfSome result (λ q. IsQuotient size places q.quotient q.left) }
@@ -164,7 +170,7 @@ fn quotient_of(size: u64, places: usize) -> Option<Quotient>
     }
 }
 
-// The quotient rounded up.
+// Returns the quotient rounded up.
 #[inline(always)]
 fn raised(q: &Quotient) -> u64
     requires { q.now.quotient ≤ 2 ^ 60 }
@@ -179,7 +185,7 @@ fn raised(q: &Quotient) -> u64
     }
 }
 
-// The pair of a number, from its size in units.
+// Returns the pair of a number, rounded down and up, from its magnitude in units.
 #[inline(always)]
 fn outward(number: Decimal, q: &Quotient) -> Rounded
     requires small { q.now.quotient ≤ 2 ^ 60 }
@@ -198,7 +204,8 @@ fn outward(number: Decimal, q: &Quotient) -> Rounded
     }
 }
 
-/// A number of km rounded, where it is below 2^36 in size by its exponent and one multiplication tells the rest.
+/// Rounds a number of km, in units of 2^-24 km, where it is below 2^36 by its exponent and one multiplication tells
+/// the rest. None says nothing of the number.
 #[inline(always)]
 pub fn quick_pair(number: Decimal) -> Option<Rounded>
     ensures { IfSome result (λ p. IsRounded number (Some p)) }

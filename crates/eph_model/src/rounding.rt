@@ -1,4 +1,4 @@
-// Numbers rounded once, and the pairs that are kept beside them.
+// Numbers rounded once, and the rounded pairs that are kept beside them.
 ghost use Rattle.std.specs.Prelude.{◌≡◌, ◌↔◌, ◌+◌, ◌<◌, ◌≤◌, [], ◌∷◌, ◌++◌, List, length, OnOk, IsOk, IsTrue, vec_len, vec_capacity};
 ghost use Rattle.spec_text.specs.declared.decimals.Decimal.{Decimal};
 ghost use Rattle.spec_intervals.specs.Interval.{IsDistance};
@@ -11,10 +11,10 @@ use spec_ephemeris::Rounded;
 use spec_text::Decimal;
 use std::alloc::AllocError;
 
-// 2^63 times ten to this exponent is below 2^36.
+// The greatest exponent of 10 at which every number of 64 bits is below 2^36.
 pub(crate) const SMALL_EXPONENT: i16 = -9;
 
-/// A number of km below 2^36 in size, rounded down and up to a whole number of units of 2^-24 km.
+/// Returns a number of km below 2^36 in magnitude, rounded down and up to a whole number of units of 2^-24 km.
 pub fn pair_of(number: Decimal) -> Rounded
     requires { IsDistance number.mant number.exp }
     ensures { result ≡ pair_of number }
@@ -26,7 +26,7 @@ pub fn pair_of(number: Decimal) -> Rounded
     }
 }
 
-// Whether a number of km is below 2^36 in size. From this exponent of 10 down each number of 64 bits is.
+// Tells whether a number of km is below 2^36 in magnitude. By its exponent alone that is often known.
 #[tactic(auto, using(crate::proofs::Small::small_below))]
 #[inline(always)]
 fn is_small(number: Decimal) -> bool
@@ -35,7 +35,7 @@ fn is_small(number: Decimal) -> bool
     number.exp <= SMALL_EXPONENT || is_distance(number.mant, number.exp)
 }
 
-/// A number of km rounded, where it is below 2^36 in size, and none where it is not.
+/// Returns a number of km, rounded down and up to units of 2^-24 km. None where it is not below 2^36 in magnitude.
 pub fn rounded(number: Decimal) -> Option<Rounded>
     ensures { IsRounded number result }
 {
@@ -46,7 +46,8 @@ pub fn rounded(number: Decimal) -> Option<Rounded>
     }
 }
 
-// The pair that is kept beside a number. Beside one that is no number of a body it is never read.
+// Returns the pair that is kept beside a number: its rounded pair, or zeros. A number that could not be rounded is no
+// number of a body, so its zeros are never read.
 #[inline(always)]
 pub(crate) fn kept_pair(rounded: Option<Rounded>) -> Rounded
     ensures { (number : Decimal) → IsRounded number rounded → IsPair number result }
@@ -57,7 +58,7 @@ pub(crate) fn kept_pair(rounded: Option<Rounded>) -> Rounded
     }
 }
 
-// Adds a pair for which there is room.
+// Appends a pair for which there is room, so that it does not fail.
 #[inline(always)]
 pub(crate) fn push_pair(pairs: &mut Vec<Rounded>, pair: Rounded) -> Result<(), AllocError>
     requires room { vec_len pairs.old < vec_capacity pairs.old }
@@ -68,7 +69,7 @@ pub(crate) fn push_pair(pairs: &mut Vec<Rounded>, pair: Rounded) -> Result<(), A
     Ok(())
 }
 
-// Adds the pairs of numbers for which there is room.
+// Appends the rounded pairs of numbers for which there is room, so that it does not fail.
 pub(crate) fn push_pairs(pairs: &mut Vec<Rounded>, numbers: &[Decimal]) -> Result<(), AllocError>
     requires room { vec_len pairs.old + length numbers.now ≤ vec_capacity pairs.old }
     ensures done { IsOk result }

@@ -12,8 +12,8 @@ use spec_text::Decimal;
 use std::alloc::Global;
 use std::marker::Model;
 
-/// A checked ephemeris whose blocks are still read, and after its blocks, in the same store, the numbers of a block that
-/// was begun. Times are seconds of TDB since J2000.
+/// A checked ephemeris whose blocks are still read. After its blocks, in the same store, stand the numbers of a block
+/// that was started. Times are seconds of TDB since J2000.
 #[derive(Drop)]
 pub struct BlockStore {
     header: Header,
@@ -50,7 +50,7 @@ impl Model for BlockStore {
 }
 
 impl BlockStore {
-    /// A store with no number, whose first block will begin at `start`. It does not allocate.
+    /// Makes a store without a number, whose first block will start at `start`. It does not allocate.
     pub fn new(alloc: Global, header: Header, start: i64) -> Self
         requires header { IsHeader header }
         requires start { IsStart start }
@@ -66,22 +66,22 @@ impl BlockStore {
         }
     }
 
-    // How many numbers the whole blocks have.
+    // Returns how many numbers the whole blocks have, together.
     fn whole(&self) -> usize
         ensures { result ≡ length self.now.accepted.numbers }
     {
         self.blocks as usize * self.header.ncoeff as usize
     }
 
-    /// The numbers of the block that was begun.
+    /// Returns how many numbers of the block that was started are there.
     pub fn count(&self) -> usize
         ensures { result ≡ length self.now.numbers }
     {
         self.numbers.len() - self.whole()
     }
 
-    /// Adds a number, rounded by `rounded`, to the block that was begun: a Julian date or a coefficient in km. After
-    /// `Memory` nothing has changed.
+    /// Adds a number, with its rounded pair, to the block that was started: a Julian date or a coefficient in km.
+    /// After `Memory` nothing has changed.
     #[inline(always)]
     pub fn push(&mut self, number: Decimal, rounded: Option<Rounded>) -> Result<(), Memory>
         requires { IsRounded number rounded }
@@ -94,7 +94,7 @@ impl BlockStore {
         Ok(())
     }
 
-    /// Keeps the first numbers alone of the block that was begun.
+    /// Drops all numbers of the block that was started but the first `count`.
     pub fn truncate(&mut self, count: usize)
         requires { count ≤ length self.old.numbers }
         ensures { self.new ≡ cut_to count self.old }
@@ -105,8 +105,8 @@ impl BlockStore {
         self.pairs.truncate(kept);
     }
 
-    /// Makes the block that was begun one of the whole ones, after the last: its two Julian dates, and the coefficients
-    /// of its columns.
+    /// Makes the block that was started one of the whole blocks, after the last: its two Julian dates, and the
+    /// coefficients of its columns.
     pub fn close_block(&mut self)
         requires block { IsBlock self.old.accepted.header self.old.numbers }
         requires room { self.old.accepted.blocks < MAX_BLOCKS }
@@ -115,7 +115,7 @@ impl BlockStore {
         self.blocks += 1;
     }
 
-    /// Lets the first block begin at this time and the others after it.
+    /// Lets the first block start at this time, and the others after it.
     pub fn start_at(&mut self, start: i64)
         requires { IsStart start }
         ensures { self.new ≡ store_starting_at self.old start }
@@ -123,21 +123,21 @@ impl BlockStore {
         self.start = start;
     }
 
-    /// The time at which the last of the whole blocks ends.
+    /// Returns the time at which the last of the whole blocks ends.
     pub fn end(&self) -> i64
         ensures { result ≡ end_of self.now.accepted }
     {
         self.start + i64::from(self.blocks) * self.header.block_seconds
     }
 
-    /// The number of whole blocks.
+    /// Returns the number of whole blocks.
     pub fn blocks(&self) -> u32
         ensures { result ≡ self.now.accepted.blocks }
     {
         self.blocks
     }
 
-    /// The header.
+    /// Returns the header, which meets the rules.
     pub fn header(&self) -> &Header
         ensures same { result.now ≡ self.now.accepted.header }
         ensures checked { IsEphemeris self.now.accepted }
@@ -145,7 +145,7 @@ impl BlockStore {
         &self.header
     }
 
-    /// The ephemeris of the whole blocks, without the numbers of a block that was begun.
+    /// Returns the ephemeris of the whole blocks, without the numbers of a block that was started.
     pub fn finish(self) -> Ephemeris
         ensures { result ≡ self.accepted }
     {

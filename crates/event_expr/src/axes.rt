@@ -3,19 +3,19 @@
 ghost use Rattle.std.specs.Prelude.{◌≡◌, ◌<◌, ◌||◌};
 ghost use Rattle.event_expr.specs.Leaves.{no_axes, one_axis, either_axes, has_axis};
 
-/// A set of axes.
+/// A set of axes, which are numbered 0, 1 and 2.
 #[derive(Clone, Copy)]
 pub struct Axes {
-    /// The axis 0 is in it.
+    /// Whether the axis 0 is in the set.
     pub x: bool,
-    /// The axis 1 is in it.
+    /// Whether the axis 1 is in the set.
     pub y: bool,
-    /// The axis 2 is in it.
+    /// Whether the axis 2 is in the set.
     pub z: bool,
 }
 
 impl Axes {
-    /// No axis.
+    /// Returns the set of no axis.
     pub fn none() -> Axes
         ensures { result ≡ no_axes }
     {
@@ -26,7 +26,7 @@ impl Axes {
         }
     }
 
-    /// One axis alone: 0, 1 or 2.
+    /// Returns the set of one axis alone: 0, 1 or 2. Any other number gives the empty set.
     pub fn one(axis: u8) -> Axes
         ensures { result ≡ one_axis axis }
     {
@@ -37,7 +37,7 @@ impl Axes {
         }
     }
 
-    /// The axes of either set.
+    /// Returns the axes that are in either set.
     pub fn union(self, other: Axes) -> Axes
         ensures { result ≡ either_axes self other }
     {
@@ -48,7 +48,7 @@ impl Axes {
         }
     }
 
-    /// An axis, 0, 1 or 2, is in the set.
+    /// Tells whether an axis, 0, 1 or 2, is in the set.
     pub fn has(self, axis: usize) -> bool
         requires { axis < 3 }
         ensures { result ≡ has_axis self axis }
@@ -61,7 +61,7 @@ impl Axes {
     }
 }
 
-// One of both.
+// Tells whether at least one of two conditions holds.
 fn either(a: bool, b: bool) -> bool
     ensures { result ≡ (a || b) }
 {

@@ -1,4 +1,4 @@
-// What makes expressions of coordinates, constants and other expressions.
+// The builders of expressions, from coordinates, constants and other expressions.
 
 ghost use Rattle.std.specs.Prelude.{◌≡◌, ◌<◌, IfOk};
 ghost use Rattle.spec_expressions.specs.Term.{position as position_of, velocity as velocity_of, term, leaf, length, cosine, sum, difference, product, signed_square, HasLeaves};
@@ -8,7 +8,8 @@ use spec_expressions::{Expr, Vector};
 use spec_text::Decimal;
 use std::alloc::{AllocError, Global};
 
-/// A coordinate of a target's position, in km. Targets are numbered 0 and 1, axes 0, 1 and 2.
+/// Returns the expression of a coordinate of a target's position, in km. Targets are numbered 0 and 1, axes 0, 1 and
+/// 2.
 pub fn position(target: u8, axis: u8) -> Expr
     requires target { target < 2 }
     requires axis { axis < 3 }
@@ -18,7 +19,8 @@ pub fn position(target: u8, axis: u8) -> Expr
     Expr::Pos { target, axis }
 }
 
-/// A coordinate of a target's velocity, in km a second.
+/// Returns the expression of a coordinate of a target's velocity, in km a tick. Targets are numbered 0 and 1, axes 0,
+/// 1 and 2.
 pub fn velocity(target: u8, axis: u8) -> Expr
     requires target { target < 2 }
     requires axis { axis < 3 }
@@ -28,7 +30,7 @@ pub fn velocity(target: u8, axis: u8) -> Expr
     Expr::Vel { target, axis }
 }
 
-/// A coordinate of a vector.
+/// Returns the expression of a vector's coordinate on one axis, 0, 1 or 2.
 pub fn coordinate(vector: Vector, axis: u8) -> Expr
     requires vector { IsVector vector }
     requires axis { axis < 3 }
@@ -41,7 +43,7 @@ pub fn coordinate(vector: Vector, axis: u8) -> Expr
     }
 }
 
-/// A constant length, in km.
+/// Returns the expression of a constant length, in km.
 pub fn length(km: Decimal) -> Expr
     ensures built { term result ≡ length km }
     ensures leaves { HasLeaves (term result) }
@@ -49,7 +51,7 @@ pub fn length(km: Decimal) -> Expr
     Expr::Length(km)
 }
 
-/// A constant number.
+/// Returns the expression of a constant cosine, a number without a unit.
 pub fn cosine(number: Decimal) -> Expr
     ensures built { term result ≡ cosine number }
     ensures leaves { HasLeaves (term result) }
@@ -57,7 +59,7 @@ pub fn cosine(number: Decimal) -> Expr
     Expr::Cosine(number)
 }
 
-/// The sum of two expressions, or an error where memory runs out.
+/// Returns the expression of a sum. The only error is out of memory.
 pub fn sum(alloc: Global, x: Expr, y: Expr) -> Result<Expr, AllocError>
     ensures built { IfOk result (λ e. term e ≡ sum (term x) (term y)) }
     ensures leaves { HasLeaves (term x) → HasLeaves (term y)
@@ -66,7 +68,7 @@ pub fn sum(alloc: Global, x: Expr, y: Expr) -> Result<Expr, AllocError>
     Ok(Expr::Add(Box::new(alloc, x)?, Box::new(alloc, y)?))
 }
 
-/// The first expression less the second, or an error where memory runs out.
+/// Returns the expression of the first operand less the second. The only error is out of memory.
 pub fn difference(alloc: Global, x: Expr, y: Expr) -> Result<Expr, AllocError>
     ensures built { IfOk result (λ e. term e ≡ difference (term x) (term y)) }
     ensures leaves { HasLeaves (term x) → HasLeaves (term y)
@@ -75,7 +77,7 @@ pub fn difference(alloc: Global, x: Expr, y: Expr) -> Result<Expr, AllocError>
     Ok(Expr::Sub(Box::new(alloc, x)?, Box::new(alloc, y)?))
 }
 
-/// The product of two expressions, or an error where memory runs out.
+/// Returns the expression of a product. The only error is out of memory.
 pub fn product(alloc: Global, x: Expr, y: Expr) -> Result<Expr, AllocError>
     ensures built { IfOk result (λ e. term e ≡ product (term x) (term y)) }
     ensures leaves { HasLeaves (term x) → HasLeaves (term y)
@@ -84,7 +86,7 @@ pub fn product(alloc: Global, x: Expr, y: Expr) -> Result<Expr, AllocError>
     Ok(Expr::Mul(Box::new(alloc, x)?, Box::new(alloc, y)?))
 }
 
-/// The signed square `x |x|` of an expression, or an error where memory runs out.
+/// Returns the expression of the signed square `x |x|`. The only error is out of memory.
 pub fn signed_square(alloc: Global, x: Expr) -> Result<Expr, AllocError>
     ensures built { IfOk result (λ e. term e ≡ signed_square (term x)) }
     ensures leaves { HasLeaves (term x) → IfOk result (λ e. HasLeaves (term e)) }
@@ -92,7 +94,7 @@ pub fn signed_square(alloc: Global, x: Expr) -> Result<Expr, AllocError>
     Ok(Expr::SignedSquare(Box::new(alloc, x)?))
 }
 
-/// The square of a constant length, in square km, or an error where memory runs out.
+/// Returns the expression of the square of a constant length, in square km. The only error is out of memory.
 pub fn squared_length(alloc: Global, km: Decimal) -> Result<Expr, AllocError>
     ensures built { IfOk result (λ e. term e ≡ squared_length km) }
     ensures leaves { IfOk result (λ e. HasLeaves (term e)) }
@@ -100,7 +102,7 @@ pub fn squared_length(alloc: Global, km: Decimal) -> Result<Expr, AllocError>
     product(alloc, length(km), length(km))
 }
 
-/// The product of two vectors on one axis, or an error where memory runs out.
+/// Returns the expression of the product of two vectors' coordinates on one axis. The only error is out of memory.
 fn product_on_axis(alloc: Global, u: Vector, v: Vector, axis: u8) -> Result<Expr, AllocError>
     requires u { IsVector u }
     requires v { IsVector v }
@@ -111,7 +113,7 @@ fn product_on_axis(alloc: Global, u: Vector, v: Vector, axis: u8) -> Result<Expr
     product(alloc, coordinate(u, axis), coordinate(v, axis))
 }
 
-/// The dot product `(u0 v0 + u1 v1) + u2 v2` of two vectors, or an error where memory runs out.
+/// Returns the expression `(u0 v0 + u1 v1) + u2 v2`, the dot product of two vectors. The only error is out of memory.
 pub fn dot(alloc: Global, u: Vector, v: Vector) -> Result<Expr, AllocError>
     requires u { IsVector u }
     requires v { IsVector v }

@@ -1,4 +1,4 @@
-// The enclosure of a formula over what states return.
+// The enclosure of a formula, from the enclosures of its coordinates that states return.
 
 ghost use Rattle.std.specs.Prelude.{◌≡◌, ◌<◌, ◌≤ℤ◌, ◌<ℤ◌, ℤ, false};
 ghost use lib.Signed.{lt_z};
@@ -12,8 +12,8 @@ use crate::states::States;
 use ival_core::{COSINE_EXPONENT, DISTANCE_EXPONENT, Enclosure, Ival};
 use spec_expressions::Expr;
 
-/// The enclosure of a formula over the times from `a` to `b`, by interval arithmetic on what the states return. The
-/// states are asked for each leaf once, and nothing is allocated.
+/// Returns the enclosure of a formula over the times from `a` to `b`, by interval arithmetic on what the states
+/// return. The states are asked once for each leaf of the formula, and nothing is allocated.
 pub fn enclose<S: States>(f: &Formula, states: &S, a: i64, b: i64) -> Enclosure
     requires fits { S.fits states.now a b }
     ensures equals { result ≡ enclosure_of (λ leaf. S.answer states.now leaf a b) a b f.now }
@@ -26,7 +26,7 @@ pub fn enclose<S: States>(f: &Formula, states: &S, a: i64, b: i64) -> Enclosure
     enclose_at(f.expr(), states, &TimeSpan::new(a, b))
 }
 
-/// The enclosure of a formula's expression.
+/// Returns the enclosure of a formula's expression over a span, by the way for one time or for several.
 fn enclose_at<S: States>(expr: &Expr, states: &S, span: &TimeSpan) -> Enclosure
     requires formula { IsFormula (term expr.now) }
     requires fits { S.fits states.now span.now.first span.now.last }
@@ -42,7 +42,8 @@ fn enclose_at<S: States>(expr: &Expr, states: &S, span: &TimeSpan) -> Enclosure
     }
 }
 
-/// Writes the enclosure of a formula's expression or of a part of it.
+/// Writes the enclosure, over a span of times, of a formula's expression or of a part of it. It is written and not
+/// returned, so that large values are not copied.
 fn enclose_over<S: States>(out: &mut Enclosure, expr: &Expr, states: &S, span: &TimeSpan)
     requires formula { IsFormula (term expr.now) }
     requires fits { S.fits states.now span.now.first span.now.last }
@@ -85,7 +86,7 @@ fn enclose_over<S: States>(out: &mut Enclosure, expr: &Expr, states: &S, span: &
     }
 }
 
-/// Writes what the states return for a coordinate of a position.
+/// Writes the enclosure that the states return for a coordinate of a position.
 #[inline(never)]
 fn set_position<S: States>(out: &mut Enclosure, target: u8, axis: u8, states: &S, span: &TimeSpan)
     requires target { target < 2 }
@@ -96,7 +97,7 @@ fn set_position<S: States>(out: &mut Enclosure, target: u8, axis: u8, states: &S
     *out = states.pos(target, axis, span.first(), span.last());
 }
 
-/// Writes what the states return for a coordinate of a velocity.
+/// Writes the enclosure that the states return for a coordinate of a velocity.
 #[inline(never)]
 fn set_velocity<S: States>(out: &mut Enclosure, target: u8, axis: u8, states: &S, span: &TimeSpan)
     requires target { target < 2 }
@@ -107,7 +108,8 @@ fn set_velocity<S: States>(out: &mut Enclosure, target: u8, axis: u8, states: &S
     *out = states.vel(target, axis, span.first(), span.last());
 }
 
-/// The enclosure at a single time of a formula's expression, of which nothing but the mid is worked out.
+/// Returns the enclosure of a formula's expression at a single time. Only its `mid` is computed, since the other
+/// parts follow from it.
 fn enclose_once<S: States>(expr: &Expr, states: &S, span: &TimeSpan) -> Enclosure
     requires formula { IsFormula (term expr.now) }
     requires fits { S.fits states.now span.now.first span.now.last }
@@ -127,7 +129,7 @@ fn enclose_once<S: States>(expr: &Expr, states: &S, span: &TimeSpan) -> Enclosur
     }
 }
 
-/// The mid of the enclosure of a formula's expression or of a part of it.
+/// Returns the `mid` of the enclosure of a formula's expression, or of a part of it, at a single time.
 fn value_at<S: States>(expr: &Expr, states: &S, span: &TimeSpan) -> Ival
     requires formula { IsFormula (term expr.now) }
     requires fits { S.fits states.now span.now.first span.now.last }

@@ -1,4 +1,4 @@
-// Formulas: expressions within limits.
+// Formulas: expressions within the limits that keep their enclosures from overflowing.
 
 ghost use Rattle.std.specs.Prelude.{◌≡◌, ◌↔◌, ◌<◌, ◌≤◌, IfOk, Err};
 ghost use Rattle.spec_expressions.specs.Term.{term, nodes, degree, HasConstants, HasLeaves, IsFormula, node_limit, degree_limit};
@@ -10,7 +10,8 @@ use crate::limits::{ExprFault, limits_kept};
 use spec_expressions::Expr;
 use std::marker::Model;
 
-/// An expression of at most 128 nodes and a degree of at most 16, with lengths below 2^36 km and cosines within 1.
+/// An expression of at most 128 nodes and a degree of at most 16, with lengths below 2^36 km and cosines of at most 1
+/// in magnitude.
 #[derive(Drop)]
 pub struct Formula {
     expr: Expr,
@@ -30,7 +31,8 @@ impl Model for Formula {
 }
 
 impl Formula {
-    /// The expression as a formula, or the first limit that it passes. Does not allocate.
+    /// Returns the expression as a formula, or the first limit that it passes, in the order of `ExprFault`. It does
+    /// not allocate.
     pub fn new(expr: Expr) -> Result<Formula, ExprFault>
         requires { HasLeaves (term expr) }
         ensures made { IfOk result (λ formula. formula ≡ term expr) }
@@ -47,7 +49,7 @@ impl Formula {
         }
     }
 
-    /// An expression that is known to keep the limits, as a formula.
+    /// Returns an expression that is known to keep the limits as a formula, without a test.
     pub fn of(expr: Expr) -> Formula
         requires { IsFormula (term expr) }
         ensures { result ≡ term expr }
@@ -55,14 +57,14 @@ impl Formula {
         Formula { expr }
     }
 
-    /// The coordinates that the formula names. Does not allocate.
+    /// Returns the set of the coordinates that the formula names. It does not allocate.
     pub fn leaves(&self) -> Leaves
         ensures { result ≡ leaves_of self.now }
     {
         leaves_of(&self.expr)
     }
 
-    /// The expression.
+    /// Returns the formula's expression.
     pub fn expr(&self) -> &Expr
         ensures whole { term result.now ≡ self.now }
         ensures formula { IsFormula (term result.now) }

@@ -1,4 +1,4 @@
-// What is true of sets of coordinates, with a worked value.
+// Laws of sets of coordinates, with a worked value. The calls do nothing when they run.
 
 ghost use Rattle.std.specs.Prelude.{◌≡◌, ◌↔◌, IsTrue, true};
 ghost use Rattle.spec_expressions.specs.declared.vectors.Vector.TheVariants.{Position, Velocity};
@@ -6,13 +6,13 @@ ghost use Rattle.spec_expressions.specs.Term.{Leaf, IsLeaf, Term, HasLeaves};
 ghost use Rattle.spec_expressions.specs.Vectors.{dot};
 ghost use Rattle.event_expr.specs.Leaves.{Names, no_axes, axes_of, has_leaf, leaves_of};
 
-/// A coordinate that there is lies in the set of a term exactly where the term names it.
+/// States that a coordinate lies in the set of a term exactly where the term names it.
 pub fn sets_have_what_is_named()
     ensures { (e : Term) → HasLeaves e → (l : Leaf) → IsLeaf l
         → IsTrue (has_leaf (leaves_of e) l) ↔ Names e l }
 {}
 
-/// A dot product names all axes of its vectors, and of no other.
+/// States that a dot product names all axes of its two vectors, and no axis of another.
 pub fn dot_products_name_their_vectors()
     ensures position { axes_of (leaves_of (dot (Position 0) (Velocity 1))) (Position 0)
         ≡ record { x = true; y = true; z = true } }

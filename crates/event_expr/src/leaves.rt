@@ -1,4 +1,4 @@
-// Which coordinates a formula names.
+// The set of the coordinates that an expression names.
 
 ghost use Rattle.std.specs.Prelude.{◌≡◌};
 ghost use Rattle.spec_expressions.specs.Term.{term, HasLeaves};
@@ -8,21 +8,21 @@ ghost use Rattle.event_expr.specs.Leaves.{no_leaves, only, either_leaves, leaves
 use crate::axes::Axes;
 use spec_expressions::{Expr, Vector};
 
-/// A set of coordinates of the two targets: of each vector the axes along which it is named.
+/// A set of coordinates of the two targets: for each vector, the axes along which it is named.
 #[derive(Clone, Copy)]
 pub struct Leaves {
-    /// Of the position of target 0.
+    /// The axes of the position of target 0.
     pub first_position: Axes,
-    /// Of the velocity of target 0.
+    /// The axes of the velocity of target 0.
     pub first_velocity: Axes,
-    /// Of the position of target 1.
+    /// The axes of the position of target 1.
     pub second_position: Axes,
-    /// Of the velocity of target 1.
+    /// The axes of the velocity of target 1.
     pub second_velocity: Axes,
 }
 
 impl Leaves {
-    /// No coordinate.
+    /// Returns the set of no coordinate.
     pub fn none() -> Leaves
         ensures { result ≡ no_leaves }
     {
@@ -34,7 +34,7 @@ impl Leaves {
         }
     }
 
-    /// The coordinates of one vector along some axes.
+    /// Returns the set of the coordinates of one vector along some axes.
     pub fn only(vector: Vector, axes: Axes) -> Leaves
         requires { IsVector vector }
         ensures { result ≡ only vector axes }
@@ -49,7 +49,7 @@ impl Leaves {
         leaves
     }
 
-    /// The coordinates of either set.
+    /// Returns the coordinates that are in either set.
     pub fn union(self, other: Leaves) -> Leaves
         ensures { result ≡ either_leaves self other }
     {
@@ -62,7 +62,7 @@ impl Leaves {
     }
 }
 
-/// The coordinates that an expression names.
+/// Returns the set of the coordinates that an expression names.
 pub(crate) fn leaves_of(expr: &Expr) -> Leaves
     requires { HasLeaves (term expr.now) }
     ensures { result ≡ leaves_of (term expr.now) }

@@ -1,4 +1,4 @@
-// The rules by which one enclosure is made from others, over the times from a first to a last.
+// The rules by which one enclosure is made from others, over the times of a span.
 
 ghost use Rattle.std.specs.Prelude.{◌≡◌, ◌≤◌, ◌*◌, ◌-ℤ◌, pos, unsigned_abs, max, true, false};
 ghost use lib.Signed.{lt_z};
@@ -11,7 +11,7 @@ ghost use Rattle.event_expr.specs.States.{wide_exponent};
 use ival_core::{Enclosure, Ival};
 use std::marker::Model;
 
-/// The times from a first to a last, with their distances from the middle.
+/// A span of times with the distances of its ends from its middle, which are computed once for all rules.
 #[derive(Drop)]
 pub struct TimeSpan {
     first: i64,
@@ -32,7 +32,7 @@ impl Model for TimeSpan {
 }
 
 impl TimeSpan {
-    /// The times from `first` to `last`, at most 2^50 in magnitude.
+    /// Makes the span from `first` to `last`, both at most 2^50 in magnitude and in this order.
     #[inline(always)]
     pub fn new(first: i64, last: i64) -> TimeSpan
         requires { IsSpan first last }
@@ -48,7 +48,7 @@ impl TimeSpan {
         }
     }
 
-    /// The first time.
+    /// Returns the first time of the span.
     #[inline(always)]
     pub fn first(&self) -> i64
         ensures { result ≡ self.now.first }
@@ -56,7 +56,7 @@ impl TimeSpan {
         self.first
     }
 
-    /// The last time.
+    /// Returns the last time of the span.
     #[inline(always)]
     pub fn last(&self) -> i64
         ensures { result ≡ self.now.last }
@@ -64,7 +64,7 @@ impl TimeSpan {
         self.last
     }
 
-    /// The distances of the first and of the last time from the middle.
+    /// Returns the interval from the first time's distance from the middle, at most 0, to the last time's.
     #[inline(always)]
     pub fn distances(&self) -> Ival
         ensures { result ≡ offsets self.now.first self.now.last }
@@ -72,8 +72,8 @@ impl TimeSpan {
         self.distances
     }
 
-    /// A constant, by an interval that holds some number. Since nothing changes, the values that are reached from the middle
-    /// are the constant itself, with the exponent 0 where it is 0.
+    /// Returns the enclosure of a constant, from an interval that holds some number. Since nothing changes, the
+    /// values that are reached from the middle are the constant itself, with the exponent 0 where it is 0.
     #[inline(always)]
     pub fn constant(&self, value: Ival) -> Enclosure
         requires within { IsWithin part_exponent value }
@@ -92,7 +92,7 @@ impl TimeSpan {
         }
     }
 
-    /// The sum.
+    /// Returns the enclosure of a sum.
     #[tactic(auto, unfolding(spec_intervals::specs::Enclosure::sum_of))]
     #[inline(always)]
     pub fn sum(&self, x: Enclosure, y: Enclosure) -> Enclosure
@@ -110,7 +110,7 @@ impl TimeSpan {
         }
     }
 
-    /// The first less the second.
+    /// Returns the enclosure of the first operand less the second.
     #[tactic(auto, unfolding(spec_intervals::specs::Enclosure::difference_of))]
     #[inline(always)]
     pub fn difference(&self, x: Enclosure, y: Enclosure) -> Enclosure
@@ -128,7 +128,8 @@ impl TimeSpan {
         }
     }
 
-    /// The product. Its change is `x' (y' - y) + y (x' - x)`, with the later value of the first operand.
+    /// Returns the enclosure of a product. Its change is `x' (y' - y) + y (x' - x)`, where `x'` and `y'` are the
+    /// values at the later time.
     #[inline(always)]
     pub fn product(&self, x: Enclosure, y: Enclosure) -> Enclosure
         requires x_within { AllWithin part_exponent x }
@@ -142,7 +143,8 @@ impl TimeSpan {
         product
     }
 
-    /// The signed square. Its change lies between 0 and the change of the operand times twice its greatest magnitude.
+    /// Returns the enclosure of a signed square `x |x|`. Its change lies between 0 and the change of `x` times twice
+    /// the greatest magnitude of `x`.
     #[inline(always)]
     pub fn signed_square(&self, x: Enclosure) -> Enclosure
         requires within { AllWithin part_exponent x }
@@ -158,7 +160,7 @@ impl TimeSpan {
         }
     }
 
-    /// A constant is written.
+    /// Writes the enclosure of a constant.
     #[inline(never)]
     pub(crate) fn set_constant(&self, out: &mut Enclosure, value: Ival)
         requires within { IsWithin part_exponent value }
@@ -168,7 +170,7 @@ impl TimeSpan {
         *out = self.constant(value);
     }
 
-    /// The first becomes the sum.
+    /// Replaces the first enclosure by that of the sum.
     #[inline(never)]
     pub(crate) fn add(&self, x: &mut Enclosure, y: &Enclosure)
         requires x_within { AllWithin part_exponent x.old }
@@ -180,7 +182,7 @@ impl TimeSpan {
         *x = self.sum(*x, *y);
     }
 
-    /// The first becomes the difference.
+    /// Replaces the first enclosure by that of the difference.
     #[inline(never)]
     pub(crate) fn subtract(&self, x: &mut Enclosure, y: &Enclosure)
         requires x_within { AllWithin part_exponent x.old }
@@ -192,7 +194,8 @@ impl TimeSpan {
         *x = self.difference(*x, *y);
     }
 
-    /// The first becomes the product. What a product is made of stands here alone, since it is large where it is inlined.
+    /// Replaces the first enclosure by that of the product. The steps of a product stand here alone, since they are
+    /// large where they are inlined.
     #[inline(never)]
     pub(crate) fn multiply(&self, x: &mut Enclosure, y: &Enclosure)
         requires x_within { AllWithin part_exponent x.old }
@@ -210,7 +213,7 @@ impl TimeSpan {
         };
     }
 
-    /// An enclosure becomes its signed square.
+    /// Replaces an enclosure by that of its signed square.
     #[inline(never)]
     pub(crate) fn square(&self, x: &mut Enclosure)
         requires within { AllWithin part_exponent x.old }
@@ -220,7 +223,7 @@ impl TimeSpan {
         *x = self.signed_square(*x);
     }
 
-    /// There is more than one time.
+    /// Tells whether the span has more than one time.
     #[inline(always)]
     pub fn has_several(&self) -> bool
         ensures { result ≡ lt_z self.now.first self.now.last }
@@ -228,7 +231,8 @@ impl TimeSpan {
         self.first < self.last
     }
 
-    /// At a single time the range is the mid and nothing changes, whatever the other parts.
+    /// Returns the enclosure at a single time: the range is the mid, and nothing changes, whatever the other parts
+    /// would be.
     #[inline(always)]
     pub fn single(&self, mid: Ival) -> Enclosure
         requires { lt_z self.now.first self.now.last ≡ false }
@@ -242,7 +246,8 @@ impl TimeSpan {
         }
     }
 
-    /// The range is the intersection of the plain one with what steps reach from the middle.
+    /// Returns the enclosure over several times. Its range is the intersection of the plain range with what steps
+    /// reach from the middle.
     #[inline(always)]
     pub fn wide(&self, mid: Ival, plain: Ival, step: Ival) -> Enclosure
         requires several { lt_z self.now.first self.now.last ≡ true }
@@ -261,7 +266,7 @@ impl TimeSpan {
     }
 }
 
-/// An enclosure to be written over.
+/// Returns an enclosure of 0 that is to be overwritten.
 #[inline(always)]
 pub(crate) fn blank() -> Enclosure {
     Enclosure {
@@ -271,7 +276,7 @@ pub(crate) fn blank() -> Enclosure {
     }
 }
 
-/// The time halfway, or the last before it.
+/// Returns the time halfway between two times, rounded down.
 #[inline(always)]
 pub(crate) fn middle(first: i64, last: i64) -> i64
     requires { IsSpan first last }
@@ -280,7 +285,7 @@ pub(crate) fn middle(first: i64, last: i64) -> i64
     (first + last).div_euclid(2)
 }
 
-/// How far `time` is after `origin`.
+/// Returns by how much `time` is after `origin`; it is below 0 where it is before.
 #[inline(always)]
 fn distance(time: i64, origin: i64) -> i128
     ensures { result ≡ time -ℤ origin }
@@ -288,7 +293,7 @@ fn distance(time: i64, origin: i64) -> i128
     time as i128 - origin as i128
 }
 
-/// From 0 to twice the greatest magnitude in the interval.
+/// Returns the interval from 0 to twice the greatest magnitude in a range.
 #[inline(always)]
 pub fn twice_size(range: Ival) -> Ival
     requires { IsWithin part_exponent range }
@@ -298,7 +303,7 @@ pub fn twice_size(range: Ival) -> Ival
     Ival::of(0, doubled_size(lo, hi), s)
 }
 
-/// Twice the greater magnitude of two ends.
+/// Returns twice the greater magnitude of two ends.
 #[inline(always)]
 fn doubled_size(lo: i128, hi: i128) -> i128
     requires lo_small { unsigned_abs lo ≤ end_limit }

@@ -1,4 +1,4 @@
-// What is known of the bodies.
+// What is known of the bodies: the enclosures of their coordinates.
 
 ghost use Rattle.std.specs.Prelude.{◌≡◌, ◌<◌, ℤ};
 ghost use Rattle.spec_intervals.specs.Fraction.{Fraction};
@@ -8,7 +8,7 @@ ghost use Rattle.event_expr.specs.States.{state_exponent};
 
 use ival_core::Enclosure;
 
-/// What returns an enclosure of each coordinate of two targets, over spans of times in ticks of TDB since J2000.
+/// A source of enclosures of each coordinate of two targets, over spans of times in ticks of TDB since J2000.
 /// Positions are in km and velocities in km a tick; targets are numbered 0 and 1, axes 0, 1 and 2.
 pub trait States {
     /// The exact value of a coordinate at a time.
@@ -20,14 +20,14 @@ pub trait States {
     /// The pairs of times, first and last, that can be asked for.
     ghost fits: { Self → ℤ → ℤ → Type 0 };
 
-    /// The enclosure of a coordinate of a target's position over the times from `a` to `b`.
+    /// Returns the enclosure of a coordinate of a target's position over the times from `a` to `b`.
     fn pos(&self, target: u8, axis: u8, a: i64, b: i64) -> Enclosure
         requires target { target < 2 }
         requires axis { axis < 3 }
         requires fits { fits self.now a b }
         ensures { result ≡ answer self.now (position target axis) a b };
 
-    /// The enclosure of a coordinate of a target's velocity over the times from `a` to `b`.
+    /// Returns the enclosure of a coordinate of a target's velocity over the times from `a` to `b`.
     fn vel(&self, target: u8, axis: u8, a: i64, b: i64) -> Enclosure
         requires target { target < 2 }
         requires axis { axis < 3 }

@@ -1,4 +1,4 @@
-// The coefficients of a product, in 128 bits.
+// The coefficients of the product of two polynomials, in 128 bits, and the sizes of coefficients.
 
 ghost use Rattle.std.specs.Prelude.{◌≡◌, ◌≤◌, ◌<◌, ◌*◌, ◌^◌, ◌*ℤ◌, unsigned_abs};
 ghost use Rattle.span_models.specs.Columns.{column, AreColumns, tail_sizes};
@@ -7,7 +7,7 @@ ghost use Rattle.span_models.specs.Sizes.{size_limit, terms, AreWithin};
 
 use crate::model::TERMS;
 
-/// The first coefficients of the product of two polynomials.
+/// Returns the first `TERMS` coefficients of the product of two polynomials.
 #[inline(always)]
 pub(crate) fn columns_of(a: &[i64; TERMS], b: &[i64; TERMS]) -> [i128; TERMS]
     requires first { AreWithin size_limit a.now }
@@ -22,7 +22,7 @@ pub(crate) fn columns_of(a: &[i64; TERMS], b: &[i64; TERMS]) -> [i128; TERMS]
     sums
 }
 
-// The sum of the products of `a[i]` and `b[k - i]`.
+// Returns the coefficient of `u^k` in the product: the sum of `a[i] b[k - i]`.
 #[inline(always)]
 fn column_of(a: &[i64; TERMS], b: &[i64; TERMS], k: usize) -> i128
     requires first { AreWithin size_limit a.now }
@@ -38,7 +38,8 @@ fn column_of(a: &[i64; TERMS], b: &[i64; TERMS], k: usize) -> i128
     sum
 }
 
-/// The sum of `|a[i]| |b[j]|` over `i + j >= TERMS`: the sizes of the coefficients that are left out.
+/// Returns the sum of `|a[i]| |b[j]|` over `i + j >= TERMS`: the magnitudes of the product's coefficients that are
+/// left out, together. They go into the error.
 #[inline(always)]
 pub(crate) fn tail_of(a: &[i64; TERMS], b: &[i64; TERMS]) -> u128
     requires first { AreWithin size_limit a.now }
@@ -55,7 +56,7 @@ pub(crate) fn tail_of(a: &[i64; TERMS], b: &[i64; TERMS]) -> u128
     sum
 }
 
-/// The sum of the sizes of the coefficients.
+/// Returns the sum of the magnitudes of the coefficients, which bounds the polynomial from -1 to 1.
 #[inline(always)]
 pub(crate) fn sizes_of(a: &[i64; TERMS]) -> u64
     requires small { AreWithin size_limit a.now }
@@ -69,7 +70,7 @@ pub(crate) fn sizes_of(a: &[i64; TERMS]) -> u64
     sum
 }
 
-// The product of two coefficients, by one multiplication of 64-bit numbers.
+// Returns the product of two coefficients, by one multiplication of 64-bit numbers.
 #[inline(always)]
 fn times(a: i64, b: i64) -> i128
     requires a_small { unsigned_abs a ≤ size_limit }

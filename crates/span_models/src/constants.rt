@@ -1,4 +1,4 @@
-// Models that have no coefficient but the first, and their products.
+// Models without a coefficient but the first, and the products of models with them.
 
 ghost use Rattle.std.specs.Prelude.{◌≡◌, ◌≤◌, ◌<◌, ◌^◌, ℕ, pos, slice_index_or, length, ◌*ℤ◌, unsigned_abs, IsTrue};
 ghost use Rattle.span_models.specs.Columns.{IsConstant};
@@ -6,7 +6,7 @@ ghost use Rattle.span_models.specs.Sizes.{size_limit, terms, AreWithin};
 
 use crate::model::TERMS;
 
-/// Whether all coefficients but the first are 0.
+/// Tells whether all coefficients but the first are 0. Only `true` says anything.
 #[inline(always)]
 pub(crate) fn is_constant(a: &[i64; TERMS]) -> bool
     requires small { AreWithin size_limit a.now }
@@ -20,7 +20,7 @@ pub(crate) fn is_constant(a: &[i64; TERMS]) -> bool
     true
 }
 
-/// The first coefficient.
+/// Returns the first coefficient, which is the value at the argument 0.
 #[inline(always)]
 pub(crate) fn first_of(a: &[i64; TERMS]) -> i64
     requires small { AreWithin size_limit a.now }
@@ -30,7 +30,7 @@ pub(crate) fn first_of(a: &[i64; TERMS]) -> i64
     a[0]
 }
 
-/// A number times each coefficient.
+/// Returns each coefficient times a number.
 #[inline(always)]
 pub(crate) fn products_with(first: i64, a: &[i64; TERMS]) -> [i128; TERMS]
     requires first { unsigned_abs first ≤ size_limit }
@@ -46,7 +46,7 @@ pub(crate) fn products_with(first: i64, a: &[i64; TERMS]) -> [i128; TERMS]
     products
 }
 
-// The product, by one multiplication of 64-bit numbers.
+// Returns the product of two numbers, by one multiplication of 64-bit numbers.
 #[inline(always)]
 fn product(first: i64, z: i64) -> i128
     requires first { unsigned_abs first ≤ size_limit }

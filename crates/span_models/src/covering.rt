@@ -1,4 +1,5 @@
-// Models that cover what the rules of intervals make of intervals that are covered.
+// Models that cover what the rules of intervals make of covered intervals. A model covers an interval at an argument
+// where all numbers of the interval are near it there.
 
 ghost use Rattle.std.specs.Prelude.{◌≤◌, ◌+◌, ◌*◌, ◌^◌, ℤ, pos, neg_ℤ, ◌*ℤ◌, ◌≤ℤ◌, IfSome, IsTrue};
 ghost use Rattle.spec_intervals.specs.Fraction.{fraction_add, fraction_mul};
@@ -16,7 +17,8 @@ use spec_covers::laws::{
 use spec_models::model_laws::operations;
 
 impl Model {
-    /// A model that covers the sums of intervals that the two cover. None where an exponent or an error passes its limit.
+    /// Returns a model that covers the sum of any two intervals that the two models cover. None where an exponent or
+    /// an error passes its limit.
     pub fn covering_sum(&self, other: &Model) -> Option<Model>
         ensures { IfSome result (λ m. (p q : ℤ) (x y : Interval) → IsArgument p q
             → x.lo ≤ℤ x.hi → y.lo ≤ℤ y.hi
@@ -29,7 +31,8 @@ impl Model {
         }
     }
 
-    /// The same of differences.
+    /// Returns a model that covers the difference of any two intervals that the two models cover. None where an
+    /// exponent or an error passes its limit.
     pub fn covering_difference(&self, other: &Model) -> Option<Model>
         ensures { IfSome result (λ m. (p q : ℤ) (x y : Interval) → IsArgument p q
             → x.lo ≤ℤ x.hi → y.lo ≤ℤ y.hi
@@ -42,7 +45,8 @@ impl Model {
         }
     }
 
-    /// The same of products.
+    /// Returns a model that covers the product of any two intervals that the two models cover. None where an exponent
+    /// or an error passes its limit.
     pub fn covering_product(&self, other: &Model) -> Option<Model>
         ensures { IfSome result (λ m. (p q : ℤ) (x y : Interval) → IsArgument p q
             → x.lo ≤ℤ x.hi → y.lo ≤ℤ y.hi
@@ -55,8 +59,9 @@ impl Model {
         }
     }
 
-    /// The same of signed squares. None, too, where the first coefficient does not tell that all numbers near the model
-    /// have one sign.
+    /// Returns a model that covers the signed square of any interval that the model covers. None where an exponent or
+    /// an error passes its limit, or where the first coefficient does not show that all numbers near the model have
+    /// one sign.
     pub fn covering_square(&self) -> Option<Model>
         ensures { IfSome result (λ m. (p q : ℤ) (x : Interval) → IsArgument p q
             → x.lo ≤ℤ x.hi → Covers self.now p q x → Covers m p q (signed_square x)) }
@@ -71,7 +76,8 @@ impl Model {
     }
 }
 
-// Where no number is below 0.
+// Returns a model that covers signed squares, for a model near which no number is below 0: the product of the model
+// with itself.
 fn square_above(m: &Model) -> Option<Model>
     requires { IsNotNegative m.now }
     ensures { IfSome result (λ l. (p q : ℤ) (x : Interval) → IsArgument p q
@@ -85,7 +91,8 @@ fn square_above(m: &Model) -> Option<Model>
     }
 }
 
-// Where none is above 0.
+// Returns a model that covers signed squares, for a model near which no number is above 0: the negated product of the
+// model with itself.
 fn square_below(m: &Model) -> Option<Model>
     requires { IsNotPositive m.now }
     ensures { IfSome result (λ l. (p q : ℤ) (x : Interval) → IsArgument p q
@@ -100,7 +107,7 @@ fn square_below(m: &Model) -> Option<Model>
     }
 }
 
-// Whether it is seen by the first coefficient that no number near a model is below 0.
+// Tells whether the first coefficient shows that no number near a model is below 0.
 fn is_not_negative(m: &Model) -> bool
     ensures { IsTrue result → IsNotNegative m.now }
 {
@@ -108,7 +115,7 @@ fn is_not_negative(m: &Model) -> bool
     is_at_most_twice(m.bulk(), m.coefficients()[0])
 }
 
-// Whether it is seen that none is above 0.
+// Tells whether the first coefficient shows that no number near a model is above 0.
 fn is_not_positive(m: &Model) -> bool
     ensures { IsTrue result → IsNotPositive m.now }
 {
@@ -116,21 +123,22 @@ fn is_not_positive(m: &Model) -> bool
     is_at_most_twice_below(m.bulk(), m.coefficients()[0])
 }
 
-// Whether a size is at most twice a number.
+// Tells whether a size is at most `2 z`.
 fn is_at_most_twice(size: u64, z: i64) -> bool
     ensures { IsTrue result → pos size ≤ℤ (pos 2 *ℤ z) }
 {
     size as i128 <= 2 * (z as i128)
 }
 
-// Whether it is at most twice the number negated.
+// Tells whether a size is at most `-2 z`.
 fn is_at_most_twice_below(size: u64, z: i64) -> bool
     ensures { IsTrue result → pos size ≤ℤ neg_ℤ (pos 2 *ℤ z) }
 {
     size as i128 <= -(2 * (z as i128))
 }
 
-// A model of sums or differences, widened for what is rounded.
+// Widens the model `k` of a sum or difference of `m` and `n` by what the rules of intervals round. None where its
+// exponent is below one of theirs, or its error passes the limit.
 fn widened_for_sum(k: &Model, m: &Model, n: &Model) -> Option<Model>
     ensures { IfSome result
         (IsWidenedFor (fraction_add (greatest m.now) (greatest n.now)) k.now) }
@@ -145,7 +153,8 @@ fn widened_for_sum(k: &Model, m: &Model, n: &Model) -> Option<Model>
     }
 }
 
-// A model of products, widened for what is rounded.
+// Widens the model `k` of the product of `m` and `n` by what the rules of intervals round. None where its exponent is
+// below the sum of theirs, or its error passes the limit.
 fn widened_for_product(k: &Model, m: &Model, n: &Model) -> Option<Model>
     ensures { IfSome result
         (IsWidenedFor (fraction_mul (greatest m.now) (greatest n.now)) k.now) }
@@ -162,14 +171,15 @@ fn widened_for_product(k: &Model, m: &Model, n: &Model) -> Option<Model>
     }
 }
 
-// A 2^58th of a sum, rounded up.
+// Returns at least the 2^58th part of a sum, which is what an interval's rounding may add to it.
 fn slight_of_sum(m: u64, n: u64) -> u64
     ensures { m + n ≤ result * 2 ^ 58 }
 {
     ((m as u128 + n as u128) >> 58) as u64 + 1
 }
 
-// A 2^58th of a product, in units that are 2^gap as great, rounded up. None where there are too many.
+// Returns at least the 2^58th part of a product, in units that are 2^gap as great. None where there are more than
+// 2^60 units.
 fn slight_of_product(m: u64, n: u64, gap: u32) -> Option<u64>
     ensures { IfSome result (λ units. m * n ≤ units * 2 ^ (58 + gap)) }
 {

@@ -1,4 +1,4 @@
-// Models of single numbers, of lines and of intervals.
+// Models made of single numbers, of lines and of intervals.
 
 ghost use Rattle.std.specs.Prelude.{◌≡◌, ◌≤◌, ◌<◌, ◌*◌, ◌^◌, ℤ, ℕ, pos, ◌*ℤ◌, ◌+ℤ◌, ◌-ℤ◌, ◌≤ℤ◌, unsigned_abs, IfSome, [], ◌∷◌, length};
 ghost use Rattle.spec_numbers.specs.Numbers.{floor_div};
@@ -13,12 +13,12 @@ use crate::settling::settled;
 use ival_core::Ival;
 use spec_models::model_laws::{changes, constants, lists};
 
-/// The greatest size of an exponent that a number is given, 2^20.
+/// The greatest magnitude of an exponent at which a number is taken, 2^20.
 const EXPONENT_LIMIT: u32 = 1 << 20;
 
 impl Model {
-    /// A model near which all is that is near `first + second u`, within `error`, all in units of `2^exponent`. Its own unit is
-    /// as fine as its numbers allow.
+    /// Returns a model near which all numbers are that are within `error` of `first + second u`, all in units of
+    /// `2^exponent`. Its own unit is as fine as its numbers allow. None where its exponent passes the limit.
     pub fn of_line(first: i64, second: i64, error: u64, exponent: i32) -> Option<Model>
         requires { unsigned_abs exponent ≤ 2 ^ 20 }
         ensures { IfSome result (λ m. Reaches (model (first ∷ second ∷ []) error exponent) m) }
@@ -30,8 +30,8 @@ impl Model {
         settled(&wide, lifted_error(error, j), exponent - j as i32)
     }
 
-    /// A model that covers an interval at each argument: that of its middle, with half its width as error. None where the
-    /// exponent is past the limit.
+    /// Returns a model that covers an interval at each argument: the model of its middle, with half its width as
+    /// error. None where the exponent passes the limit.
     pub fn of_interval(x: Ival) -> Option<Model>
         ensures { IfSome result (λ m. (p q : ℤ) → IsArgument p q → Covers m p q x) }
     {
@@ -47,13 +47,13 @@ impl Model {
     }
 }
 
-// The greatest size of three numbers.
+// Returns the greatest magnitude of three numbers. Nothing is claimed of it, since it chooses a unit alone.
 #[inline(always)]
 fn greatest_of(first: i64, second: i64, error: u64) -> u64 {
     first.unsigned_abs().max(second.unsigned_abs()).max(error)
 }
 
-// By how many bits the unit of numbers of this size can be made finer.
+// Returns by how many bits the unit of numbers of this size can be made finer: up to 58, and 0 for the size 0.
 #[inline(always)]
 fn fine_shift(size: u64) -> u32
     ensures { result ≤ 58 }
@@ -67,7 +67,7 @@ fn fine_shift(size: u64) -> u32
     }
 }
 
-// `2^j z`.
+// Returns `2^j z`.
 #[inline(always)]
 fn lifted(z: i64, j: u32) -> i128
     requires { j ≤ 58 }
@@ -76,7 +76,7 @@ fn lifted(z: i64, j: u32) -> i128
     (1i128 << (j % 64)) * z as i128
 }
 
-// `2^j error`.
+// Returns `2^j error`.
 #[inline(always)]
 fn lifted_error(error: u64, j: u32) -> u128
     requires { j ≤ 58 }
@@ -85,7 +85,7 @@ fn lifted_error(error: u64, j: u32) -> u128
     error as u128 * (1u128 << (j % 64))
 }
 
-// Two coefficients, and 0 for the others.
+// Returns the coefficients `first`, `second`, and 0 for all others.
 #[inline(always)]
 fn line_of(first: i128, second: i128) -> [i128; TERMS]
     ensures coefficients { (k : ℕ) → coefficient (first ∷ second ∷ []) k ≡ coefficient result k }
@@ -97,7 +97,7 @@ fn line_of(first: i128, second: i128) -> [i128; TERMS]
     wide
 }
 
-// The middle of two ends in order, rounded down, and the greater distance of an end from it.
+// Returns the middle of two ends in order, rounded down, and the greater distance of an end from it.
 #[inline(always)]
 fn middle_of(lo: i128, hi: i128) -> (i64, u64)
     requires lo_small { unsigned_abs lo ≤ 2 ^ 62 }
@@ -110,7 +110,7 @@ fn middle_of(lo: i128, hi: i128) -> (i64, u64)
     (middle, distance)
 }
 
-// `floor((lo + hi) / 2)`.
+// Returns `(lo + hi) / 2`, rounded down.
 #[inline(always)]
 fn half_sum(lo: i128, hi: i128) -> i64
     requires lo_small { unsigned_abs lo ≤ 2 ^ 62 }
@@ -120,7 +120,7 @@ fn half_sum(lo: i128, hi: i128) -> i64
     ((lo + hi) >> 1) as i64
 }
 
-// How far one number is above another.
+// Returns by how much the second number is above the first.
 #[inline(always)]
 fn distance_to(low: i64, high: i128) -> u64
     requires low_small { unsigned_abs low ≤ 2 ^ 62 }

@@ -1,4 +1,4 @@
-// How far numbers keep from 0.
+// The distance that the numbers near a model keep from 0.
 
 ghost use Rattle.std.specs.Prelude.{◌+◌, ℤ, ◌≤ℤ◌, ◌<◌, ◌≤◌, ◌^◌, unsigned_abs, IfSome};
 ghost use Rattle.spec_intervals.specs.Fraction.{Fraction};
@@ -13,7 +13,7 @@ use spec_models::model_laws::{
     arguments, betweens, changes, constants, lists, operations, widenings,
 };
 
-/// How far numbers keep from 0, on one side of it: `size` times 2^`exponent`.
+/// A distance that numbers keep from 0 on one side of it: they are at least `size` times 2^`exponent` away.
 #[derive(Clone, Copy, PartialEq, Eq)]
 pub struct Margin {
     pub is_above: bool,
@@ -21,15 +21,18 @@ pub struct Margin {
     pub exponent: i32,
 }
 
-/// What a model tells of the numbers near it at some arguments.
+/// What a model shows of the numbers near it at some arguments.
 #[derive(Clone, Copy)]
 pub struct Outlook {
-    /// How far from 0 all of them keep; none where some may be 0.
+    /// The distance from 0 that all these numbers keep; none where some of them may be 0.
     pub margin: Option<Margin>,
     /// Whether no part of the arguments has a margin: the model is nowhere farther from 0 than its error.
     pub is_blurred: bool,
 }
 
+// Returns what is known, at the arguments from `first / q` to `last / q`, of the distance from 0 of all numbers near
+// the model, and whether it is worth asking of parts of these arguments. The second answer saves work, and no result
+// rests on it.
 impl Model {
     /// How far from 0 all numbers keep that are near it at arguments from `first` to `last`, over `q`, and whether that is
     /// worth asking of parts of these arguments. No answer rests on the latter.
@@ -62,7 +65,8 @@ impl Model {
     }
 }
 
-// A tangent is nowhere farther from 0 than an error.
+// Tells whether a tangent is nowhere farther from 0 than its error and the model's. Then no part of its arguments has
+// a margin.
 #[inline(always)]
 fn is_blurred(known: &Tangent, error: u64) -> bool
     requires known { IsSmallTangent known.now }
@@ -70,7 +74,7 @@ fn is_blurred(known: &Tangent, error: u64) -> bool
     known.value.unsigned_abs() + known.slope.unsigned_abs() + known.error <= error as u128
 }
 
-// That of a tangent, of which numbers are within an error.
+// Returns the margin of all numbers that are within an error of a tangent, or none.
 #[inline(always)]
 fn margin_by(known: &Tangent, error: u64, exponent: i32) -> Option<Margin>
     requires known { IsSmallTangent known.now }
@@ -81,7 +85,7 @@ fn margin_by(known: &Tangent, error: u64, exponent: i32) -> Option<Margin>
     margin_beyond(known.value, spread, exponent)
 }
 
-// That of numbers up to a spread from a value.
+// Returns the margin of all numbers up to a spread from a value, or none where the spread reaches 0.
 #[inline(always)]
 fn margin_beyond(value: i128, spread: u128, exponent: i32) -> Option<Margin>
     requires { unsigned_abs value < 2 ^ 64 }

@@ -1,14 +1,14 @@
-// The model, and its parts.
+// The model: a polynomial with a bound of error.
 
 ghost use Rattle.std.specs.Prelude.{◌≡◌};
 ghost use Rattle.spec_models.specs.Models.{model};
 ghost use Rattle.span_models.specs.Sizes.{IsSmall};
 
-/// How many coefficients a model has.
+/// The number of coefficients of a model.
 pub const TERMS: usize = 10;
 
-/// A polynomial of `u`, from -1 to 1, with a bound of error: coefficients of `u^0`, `u^1`, .., and the error, all in units
-/// of `2^exponent`.
+/// A polynomial of `u`, from -1 to 1, with a bound of error: coefficients of `u^0`, `u^1`, .., and the error, all in
+/// units of `2^exponent`. A number is near the model at `u` where it is within the error of the polynomial's value.
 #[derive(Clone, Copy, PartialEq, Eq)]
 pub struct Model {
     coefficients: [i64; TERMS],
@@ -30,7 +30,7 @@ impl std::marker::Model for Model {
 }
 
 impl Model {
-    /// The model of these numbers.
+    /// Makes the model of these numbers, which are within its limits.
     #[inline(always)]
     pub(crate) fn of_parts(coefficients: [i64; TERMS], error: u64, exponent: i32) -> Model
         requires small { IsSmall (model coefficients error exponent) }
@@ -43,6 +43,7 @@ impl Model {
         }
     }
 
+    /// Returns the coefficients of `u^0`, `u^1`, .., in units of `2^exponent`.
     #[inline(always)]
     pub fn coefficients(&self) -> &[i64; TERMS]
         ensures equals { result.now ≡ self.now.coefficients }
@@ -51,6 +52,7 @@ impl Model {
         &self.coefficients
     }
 
+    /// Returns the bound of error, in units of `2^exponent`.
     #[inline(always)]
     pub fn error(&self) -> u64
         ensures equals { result ≡ self.now.error }
@@ -59,6 +61,7 @@ impl Model {
         self.error
     }
 
+    /// Returns the exponent of 2 of the unit of all numbers of the model.
     #[inline(always)]
     pub fn exponent(&self) -> i32
         ensures equals { result ≡ self.now.exponent }

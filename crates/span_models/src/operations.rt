@@ -1,4 +1,4 @@
-// Models made from models.
+// Operations on models: each returns a model near which all results of the operation on near numbers are.
 
 ghost use Rattle.std.specs.Prelude.{◌≡◌, ◌≤◌, ◌+◌, ◌*◌, ◌≤ℤ◌, IfSome, unsigned_abs};
 ghost use Rattle.spec_models.specs.Models.{bulk, negated, sizes, widened};
@@ -13,11 +13,11 @@ use crate::settling::settled;
 use crate::sums::{coarser_error, exponent_gap, multiples_of, opposite_of, sums_of};
 use spec_models::model_laws::{changes, lists, multiples, operations};
 
-/// The greatest error of a model, 2^60.
+/// The greatest error of a model in its units, 2^60.
 const SIZE_LIMIT: u64 = 1 << 60;
 
 impl Model {
-    /// The product, if its exponent is not past the limit: the upper coefficients are in its error.
+    /// Returns the product. Coefficients past `TERMS` go into its error. None where the exponent passes the limit.
     pub fn product(&self, other: &Model) -> Option<Model>
         ensures { IfSome result (λ m. IsProductOf m self.now other.now) }
     {
@@ -30,7 +30,7 @@ impl Model {
         }
     }
 
-    /// The sum, if its exponent is not past the limit, at the greater exponent of both.
+    /// Returns the sum, at the greater exponent of both or above it. None where the exponent passes the limit.
     pub fn sum(&self, other: &Model) -> Option<Model>
         ensures { IfSome result (λ m. IsSumOf m self.now other.now) }
     {
@@ -41,7 +41,7 @@ impl Model {
         }
     }
 
-    /// The difference, if its exponent is not past the limit, at the greater exponent of both.
+    /// Returns the difference, at the greater exponent of both or above it. None where the exponent passes the limit.
     pub fn difference(&self, other: &Model) -> Option<Model>
         ensures { IfSome result (λ m. IsDifferenceOf m self.now other.now) }
     {
@@ -49,7 +49,8 @@ impl Model {
         self.sum(&other.negated())
     }
 
-    /// The numbers that are near it times a whole number, if the exponent is not past the limit.
+    /// Returns a model near which `times` times each number is that is near this one. None where the exponent passes
+    /// the limit.
     pub fn scaled(&self, times: u32) -> Option<Model>
         ensures { IfSome result (λ m. IsMultipleOf m times self.now) }
     {
@@ -59,7 +60,7 @@ impl Model {
         settled(&wide, error, self.exponent())
     }
 
-    /// With an error that is greater by so many units, unless it is past the limit then.
+    /// Returns the model with an error that is greater by `units`. None where the error passes the limit.
     pub fn widened(&self, units: u64) -> Option<Model>
         ensures { IfSome result (λ m. m ≡ widened units self.now) }
     {
@@ -71,14 +72,15 @@ impl Model {
         }
     }
 
-    /// No number near it is greater than so many units in size.
+    /// Returns a bound, in units, of the magnitude of all numbers near the model: the sum of the coefficients'
+    /// magnitudes and the error.
     pub fn bulk(&self) -> u64
         ensures { result ≡ bulk self.now }
     {
         sizes_of(self.coefficients()) + self.error()
     }
 
-    /// The model of the negated numbers.
+    /// Returns the model of the negated numbers, with the same error and exponent.
     pub fn negated(&self) -> Model
         ensures { result ≡ negated self.now }
     {
@@ -90,7 +92,7 @@ impl Model {
     }
 }
 
-// The product, coefficient by coefficient.
+// Returns the product, coefficient by coefficient. None where the exponent passes the limit.
 #[inline(always)]
 fn whole_product(m: &Model, n: &Model) -> Option<Model>
     ensures { IfSome result (λ k. IsProductOf k m.now n.now) }
@@ -102,7 +104,8 @@ fn whole_product(m: &Model, n: &Model) -> Option<Model>
     settled(&wide, error, m.exponent() + n.exponent())
 }
 
-// The product of a model that has no coefficient but the first and another.
+// Returns the product of a model without a coefficient but the first with another model, by ten multiplications. None
+// where the exponent passes the limit.
 #[inline(always)]
 fn constant_product(c: &Model, m: &Model) -> Option<Model>
     requires constant { IsConstant c.now.coefficients }
@@ -117,7 +120,7 @@ fn constant_product(c: &Model, m: &Model) -> Option<Model>
     settled(&wide, error, c.exponent() + m.exponent())
 }
 
-// What the errors of a number and of a model come to in their product.
+// Returns the error of the product of a number that has an error with a model.
 #[inline(always)]
 fn constant_error(first: i64, error: u64, m: &Model) -> u128
     requires first { unsigned_abs first ≤ size_limit }
@@ -131,7 +134,7 @@ fn constant_error(first: i64, error: u64, m: &Model) -> u128
     by_first + by_second + by_both
 }
 
-// What the errors of two models, and the coefficients that are left out, come to in a product.
+// Returns the error of the product of two models, the coefficients that are left out included.
 #[inline(always)]
 fn product_error(a: &Model, b: &Model) -> u128
     ensures { result ≡ sizes a.now.coefficients * b.now.error + sizes b.now.coefficients * a.now.error
@@ -143,7 +146,8 @@ fn product_error(a: &Model, b: &Model) -> u128
     by_first + by_second + by_both + tail_of(a.coefficients(), b.coefficients())
 }
 
-// The sum of two models, the first at the lower exponent.
+// Returns the sum of two models, the first at the lower exponent or the same. None where the exponent passes the
+// limit.
 #[inline(always)]
 fn sum_upward(lower: &Model, upper: &Model) -> Option<Model>
     requires order { lower.now.exponent ≤ℤ upper.now.exponent }

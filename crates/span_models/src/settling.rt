@@ -1,4 +1,4 @@
-// Models of large numbers, brought to a unit in which their numbers are those of a model.
+// Large coefficients, rounded to a coarser unit in which they are those of a model.
 
 ghost use Rattle.std.specs.Prelude.{◌≡◌, ◌≤◌, ◌<◌, ◌+◌, ◌*◌, ◌^◌, pos, ◌+ℤ◌, unsigned_abs, IfSome, ◌↔◌, IsTrue, length};
 ghost use Rattle.spec_numbers.specs.Numbers.{floor_div};
@@ -9,14 +9,15 @@ ghost use Rattle.span_models.specs.Settled.{Reaches, at_coarser, raised_error};
 use crate::model::{Model, TERMS};
 use spec_models::model_laws::changes;
 
-/// The greatest size of an exponent of a model, 2^20.
+/// The greatest magnitude of an exponent of a model, 2^20.
 const EXPONENT_LIMIT: u32 = 1 << 20;
 
-/// What an error gains where a unit grows: one for each coefficient that is rounded, and one for itself.
+/// What an error gains where a unit grows: one unit for each coefficient that is rounded, and one for the error
+/// itself.
 pub(crate) const ROUNDING: u64 = TERMS as u64 + 1;
 
-/// A model near which all is that is near the one of these coefficients, this error and this exponent. None where its own
-/// exponent is past the limit.
+/// Returns a model near which all is that is near the polynomial of these coefficients with this error, in units of
+/// `2^exponent`. None where its own exponent passes the limit.
 #[inline(always)]
 pub fn settled(wide: &[i128; TERMS], error: u128, exponent: i32) -> Option<Model>
     requires exponent { unsigned_abs exponent ≤ 2 ^ 22 }
@@ -33,7 +34,8 @@ pub fn settled(wide: &[i128; TERMS], error: u128, exponent: i32) -> Option<Model
     }
 }
 
-// A size that is no less than those of some numbers and an error, and has no more bits than the greatest.
+// Returns a bound of the magnitudes of all coefficients and of the error, with no more bits than the greatest of
+// them.
 #[inline(always)]
 fn greatest_size(wide: &[i128; TERMS], error: u128) -> u128
     requires count { length wide.now ≡ terms }
@@ -47,7 +49,7 @@ fn greatest_size(wide: &[i128; TERMS], error: u128) -> u128
     size
 }
 
-// How often a number of this size is halved until it is below 2^59.
+// Returns the least number of halvings that bring a number of this size below 2^59.
 #[inline(always)]
 fn settling_shift(size: u128) -> u32
     ensures enough { size < settled_limit * 2 ^ result }
@@ -56,7 +58,7 @@ fn settling_shift(size: u128) -> u32
     if size < 1 << 59 { 0 } else { size.ilog2() - 58 }
 }
 
-// Whether an exponent is not past the limit.
+// Tells whether an exponent is at most 2^20 in magnitude.
 #[inline(always)]
 fn is_exponent(exponent: i32) -> bool
     ensures { IsTrue result ↔ unsigned_abs exponent ≤ exponent_limit }
@@ -64,7 +66,7 @@ fn is_exponent(exponent: i32) -> bool
     exponent.unsigned_abs() <= EXPONENT_LIMIT
 }
 
-// The model of numbers that are halved so often, which is enough.
+// Returns the model of coefficients and an error that are halved `k` times, which brings them within the limits.
 #[inline(always)]
 fn settled_by(wide: &[i128; TERMS], error: u128, exponent: i32, k: u32) -> Model
     requires coefficients { AreWithin (settled_limit * 2 ^ k) wide.now }
@@ -77,7 +79,7 @@ fn settled_by(wide: &[i128; TERMS], error: u128, exponent: i32, k: u32) -> Model
     Model::of_parts(halved_by(wide, k), error_by(error, k), exponent + k as i32)
 }
 
-// Each number halved so often, rounded down.
+// Returns each coefficient divided by 2^k, rounded down.
 #[inline(always)]
 fn halved_by(wide: &[i128; TERMS], k: u32) -> [i64; TERMS]
     requires small { AreWithin (settled_limit * 2 ^ k) wide.now }
@@ -92,7 +94,7 @@ fn halved_by(wide: &[i128; TERMS], k: u32) -> [i64; TERMS]
     halves
 }
 
-// `floor(z / 2^k)`.
+// Returns `z / 2^k`, rounded down.
 #[inline(always)]
 fn shifted(z: i128, k: u32) -> i64
     requires small { unsigned_abs z ≤ settled_limit * 2 ^ k }
@@ -103,7 +105,8 @@ fn shifted(z: i128, k: u32) -> i64
     (z >> k) as i64
 }
 
-// The error in units that are 2^k as great: rounded up, and one unit more for each coefficient.
+// Returns the error in units that are 2^k as great: rounded up, and one unit more for each coefficient that is
+// rounded.
 #[inline(always)]
 fn error_by(error: u128, k: u32) -> u64
     requires small { error < settled_limit * 2 ^ k }

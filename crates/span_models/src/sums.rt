@@ -1,4 +1,4 @@
-// Sums of coefficients in two units.
+// Sums and multiples of coefficients, and what a coarser unit makes of an error.
 
 ghost use Rattle.std.specs.Prelude.{◌≡◌, ◌≤◌, ◌<◌, ◌+◌, ◌*◌, ◌^◌, ℕ, slice_index_or, pos, ◌+ℤ◌, ◌*ℤ◌, ◌≤ℤ◌, neg_ℤ, unsigned_abs, length};
 ghost use Rattle.spec_numbers.specs.Numbers.{floor_div};
@@ -9,7 +9,7 @@ ghost use Rattle.span_models.specs.Settled.{raised_error};
 use crate::model::TERMS;
 use crate::settling::ROUNDING;
 
-/// The sums of some coefficients, each halved so often and rounded down, and others.
+/// Returns the sums of coefficients `a`, each divided by 2^k and rounded down, and coefficients `b`.
 #[inline(always)]
 pub(crate) fn sums_of(a: &[i64; TERMS], k: u32, b: &[i64; TERMS]) -> [i128; TERMS]
     requires first { AreWithin size_limit a.now }
@@ -24,7 +24,7 @@ pub(crate) fn sums_of(a: &[i64; TERMS], k: u32, b: &[i64; TERMS]) -> [i128; TERM
     sums
 }
 
-// `floor(a / 2^k) + b`.
+// Returns `floor(a / 2^k) + b`, for any `k`.
 #[inline(always)]
 fn sum_of_two(a: i64, k: u32, b: i64) -> i128
     requires a_small { unsigned_abs a ≤ size_limit }
@@ -35,7 +35,8 @@ fn sum_of_two(a: i64, k: u32, b: i64) -> i128
     ((a >> k.min(63)) + b) as i128
 }
 
-/// The error in units that are 2^k as great, of any k.
+/// Returns the error in units that are 2^k as great, for any `k`: rounded up, and one unit more for each coefficient
+/// that is rounded. It stays as it is for a `k` of 0.
 #[inline(always)]
 pub(crate) fn coarser_error(error: u64, k: u32) -> u64
     requires { error ≤ size_limit }
@@ -49,7 +50,7 @@ pub(crate) fn coarser_error(error: u64, k: u32) -> u64
     }
 }
 
-/// The numbers times a whole number.
+/// Returns each coefficient times a whole number.
 #[inline(always)]
 pub(crate) fn multiples_of(a: &[i64; TERMS], times: u32) -> [i128; TERMS]
     requires { AreWithin size_limit a.now }
@@ -64,7 +65,7 @@ pub(crate) fn multiples_of(a: &[i64; TERMS], times: u32) -> [i128; TERMS]
     multiples
 }
 
-// `times z`.
+// Returns `times z`.
 #[inline(always)]
 fn multiple(z: i64, times: u32) -> i128
     requires { unsigned_abs z ≤ size_limit }
@@ -74,7 +75,7 @@ fn multiple(z: i64, times: u32) -> i128
     times as i128 * z as i128
 }
 
-/// How far one exponent is above another.
+/// Returns by how much the second exponent is above the first, which is not greater.
 #[inline(always)]
 pub(crate) fn exponent_gap(low: i32, high: i32) -> u32
     requires order { low ≤ℤ high }
@@ -85,7 +86,7 @@ pub(crate) fn exponent_gap(low: i32, high: i32) -> u32
     (high - low) as u32
 }
 
-/// The numbers negated.
+/// Returns each coefficient negated.
 #[inline(always)]
 pub(crate) fn opposite_of(a: &[i64; TERMS]) -> [i64; TERMS]
     requires { AreWithin size_limit a.now }
@@ -99,7 +100,7 @@ pub(crate) fn opposite_of(a: &[i64; TERMS]) -> [i64; TERMS]
     negated
 }
 
-// `-z`.
+// Returns `-z`.
 #[inline(always)]
 fn minus(z: i64) -> i64
     requires { unsigned_abs z ≤ size_limit }

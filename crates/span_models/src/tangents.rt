@@ -1,4 +1,4 @@
-// The line that a polynomial is near, from one argument to another.
+// The line that a polynomial is near, from one argument to another, by Horner's rule for its value and slope.
 
 ghost use Rattle.std.specs.Prelude.{◌≡◌, ◌≤◌, ◌<◌, ◌+◌, ◌*◌, ◌^◌, pos, ◌+ℤ◌, ◌*ℤ◌, ◌-ℤ◌, ◌≤ℤ◌, ◌<ℤ◌, unsigned_abs, IfSome};
 ghost use Rattle.std.specs.Int.{int_max};
@@ -9,14 +9,15 @@ ghost use Rattle.span_models.specs.Tangents.{IsLine, IsPlace, IsSmallTangent, li
 
 use crate::model::TERMS;
 
-/// Arguments from `centre - width` to `centre + width`, in units of 2^-56.
+/// The arguments from `centre - width` to `centre + width`, in units of 2^-56.
 #[derive(Clone, Copy)]
 pub struct Line {
     pub centre: i64,
     pub width: i64,
 }
 
-/// What a polynomial is there, within an error: `value + slope v`, where `v` goes from -1 to 1.
+/// The values of a polynomial at the arguments of a line, within an error: `value + slope v`, where `v` goes from -1
+/// to 1.
 #[derive(Clone, Copy)]
 pub struct Tangent {
     pub value: i128,
@@ -24,10 +25,10 @@ pub struct Tangent {
     pub error: u128,
 }
 
-/// An error past which nothing is known any more.
+/// The greatest error of a tangent; past it nothing useful is known.
 const ERROR_LIMIT: u128 = 1 << 62;
 
-/// The middle of two arguments over `q`, and how far they are from it, at least 1.
+/// Returns the middle of two arguments over `q`, rounded down, and the distance of the last from it, at least 1.
 #[inline(always)]
 pub(crate) fn place_of(first: i64, last: i64, q: i64) -> (i64, i64)
     requires first { IsArgument first q }
@@ -40,7 +41,7 @@ pub(crate) fn place_of(first: i64, last: i64, q: i64) -> (i64, i64)
     (middle, width)
 }
 
-// `floor((first + last) / 2)`.
+// Returns `(first + last) / 2`, rounded down.
 #[inline(always)]
 fn half_sum(first: i64, last: i64, q: i64) -> i64
     requires first { IsArgument first q }
@@ -50,7 +51,7 @@ fn half_sum(first: i64, last: i64, q: i64) -> i64
     ((first as i128 + last as i128) >> 1) as i64
 }
 
-// How far a number is above another, at least 1.
+// Returns by how much the last argument is above the middle, at least 1.
 #[inline(always)]
 fn width_from(middle: i64, last: i64, q: i64) -> i64
     requires ordered { middle ≤ℤ last }
@@ -60,7 +61,7 @@ fn width_from(middle: i64, last: i64, q: i64) -> i64
     (last as i128 - middle as i128).max(1) as i64
 }
 
-/// The line of a place.
+/// Returns the line of a middle and a width over `q`, both rounded down to units of 2^-56.
 #[inline(always)]
 pub(crate) fn line_of(middle: i64, width: i64, q: i64) -> Line
     requires positive { pos 0 <ℤ q }
@@ -75,7 +76,7 @@ pub(crate) fn line_of(middle: i64, width: i64, q: i64) -> Line
     }
 }
 
-// `floor(2^56 z / q)`.
+// Returns `2^56 z / q`, rounded down.
 #[inline(always)]
 fn ratio_of(z: i64, q: i64) -> i64
     requires positive { pos 0 <ℤ q }
@@ -86,7 +87,7 @@ fn ratio_of(z: i64, q: i64) -> i64
     quotient(z as i128 * (1 << 56), q as u64)
 }
 
-// `floor(z / d)`, where it is small.
+// Returns `z / d`, rounded down, where it is at most 2^56 in magnitude.
 #[inline(always)]
 fn quotient(z: i128, d: u64) -> i64
     requires positive { 0 < d }
@@ -96,7 +97,7 @@ fn quotient(z: i128, d: u64) -> i64
     z.div_euclid(d as i128) as i64
 }
 
-/// The tangent of a polynomial on a line. None where its error is past all use.
+/// Returns the tangent of a polynomial on a line, by Horner's rule. None where its error passes the limit.
 #[inline(always)]
 pub(crate) fn tangent_of(a: &[i64; TERMS], line: &Line) -> Option<Tangent>
     requires small { AreWithin size_limit a.now }
@@ -122,7 +123,7 @@ pub(crate) fn tangent_of(a: &[i64; TERMS], line: &Line) -> Option<Tangent>
     }
 }
 
-// One coefficient more.
+// Returns the tangent after one more step of Horner's rule, with the next lower coefficient.
 #[inline(always)]
 fn next_of(line: &Line, known: &Tangent, a: i64) -> Tangent
     requires line { IsLine line.now }
@@ -144,7 +145,7 @@ fn next_of(line: &Line, known: &Tangent, a: i64) -> Tangent
     }
 }
 
-// The value with one coefficient more.
+// Returns the value after one more step of Horner's rule: the coefficient, and the value times the centre.
 #[inline(always)]
 fn value_of(line: &Line, known: &Tangent, a: i64) -> i128
     requires line { IsLine line.now }
@@ -156,7 +157,7 @@ fn value_of(line: &Line, known: &Tangent, a: i64) -> i128
     a as i128 + part_of(times(line.centre, known.value))
 }
 
-// The slope with one coefficient more.
+// Returns the slope after one more step of Horner's rule: the slope times the centre, and the value times the width.
 #[inline(always)]
 fn slope_of(line: &Line, known: &Tangent) -> i128
     requires line { IsLine line.now }
@@ -169,7 +170,7 @@ fn slope_of(line: &Line, known: &Tangent) -> i128
     part_of(times(line.centre, known.slope) + times(line.width, known.value))
 }
 
-// The product of a number of a line and one of a tangent.
+// Returns the product of a number of a line and one of a tangent.
 #[inline(always)]
 fn times(x: i64, z: i128) -> i128
     requires x_small { unsigned_abs x ≤ 2 ^ 56 }
@@ -180,7 +181,7 @@ fn times(x: i64, z: i128) -> i128
     x as i128 * z
 }
 
-// `floor(z / 2^56)`.
+// Returns `z / 2^56`, rounded down.
 #[inline(always)]
 fn part_of(z: i128) -> i128
     requires { unsigned_abs z ≤ 2 ^ 125 }
@@ -189,7 +190,7 @@ fn part_of(z: i128) -> i128
     z >> 56
 }
 
-// The sizes of the numbers of a line, together.
+// Returns the sum of the magnitudes of a line's centre and width.
 #[inline(always)]
 fn sizes_of(line: &Line) -> u128
     requires line { IsLine line.now }
@@ -199,7 +200,7 @@ fn sizes_of(line: &Line) -> u128
     (line.centre.unsigned_abs() + line.width.unsigned_abs()) as u128
 }
 
-// Twice the sizes of the numbers of a tangent, together.
+// Returns twice the sum of the magnitudes of a tangent's value and slope.
 #[inline(always)]
 fn changes_of(known: &Tangent) -> u128
     requires known { IsSmallTangent known.now }
@@ -209,7 +210,7 @@ fn changes_of(known: &Tangent) -> u128
     (known.value.unsigned_abs() + known.slope.unsigned_abs()) * 2
 }
 
-// An error times the sizes of a line.
+// Returns an error times the size of a line.
 #[inline(always)]
 fn spread(sizes: u128, error: u128) -> u128
     requires sizes { sizes ≤ 2 ^ 57 }
@@ -220,7 +221,8 @@ fn spread(sizes: u128, error: u128) -> u128
     sizes * error
 }
 
-// What the error becomes, where the product of the width and the slope is left out.
+// Returns the error after one more step of Horner's rule. It takes in `beside`, the width times the slope, which the
+// tangent leaves out.
 #[inline(always)]
 fn error_of(line: &Line, known: &Tangent, beside: i128) -> u128
     requires line { IsLine line.now }

@@ -1,12 +1,12 @@
-// What a reader answers.
+// What a reader of a header answers to a line, and at its end.
 use spec_files::ReadError;
 
 /// Whether a reader wants more lines.
 #[derive(Clone, Copy, PartialEq, Eq)]
 pub enum Step {
-    /// The header goes on.
+    /// The header goes on: the reader wants the next line.
     More,
-    /// The header is whole.
+    /// The header is whole: the reader wants no further line.
     Done,
 }
 

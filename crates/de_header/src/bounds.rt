@@ -1,4 +1,4 @@
-// The numbers of a header, within bounds.
+// Bounds of the numbers of a header: dates, the length of a block, and the mass ratio.
 ghost use Rattle.std.specs.Prelude.{◌≡◌};
 ghost use Rattle.spec_text.specs.Days.{seconds_of_julian_date};
 ghost use Rattle.spec_files.specs.HeaderRules.{block_length, days_by, days_rule, is_mass_ratio};
@@ -9,6 +9,7 @@ use spec_faults::{JD_NOT_WHOLE_SECOND, LIMIT};
 use spec_files::{BrokenRule, MAX_BLOCK_DAYS};
 use spec_text::Decimal;
 
+// Returns the rule that a number of days breaks by this fault.
 fn days_rule(fault: DaysFault) -> BrokenRule
     ensures { result ≡ days_rule fault }
 {
@@ -18,6 +19,8 @@ fn days_rule(fault: DaysFault) -> BrokenRule
     }
 }
 
+/// Returns the seconds of a Julian date, counted from Julian date 0. A rule is broken by a date that is no whole
+/// second or out of range.
 pub(crate) fn check_julian_date(date: Decimal) -> Result<u64, BrokenRule>
     ensures { result ≡ days_by (seconds_of_julian_date date) }
 {
@@ -27,7 +30,8 @@ pub(crate) fn check_julian_date(date: Decimal) -> Result<u64, BrokenRule>
     }
 }
 
-// The length of a block of so many days, in seconds.
+// Returns the length in seconds of a block of this many days. A rule is broken by 0, by a part of a second and by
+// more than 64 days.
 pub(crate) fn block_length(days: Decimal) -> Result<u32, BrokenRule>
     ensures { result ≡ block_length days }
 {
@@ -38,6 +42,7 @@ pub(crate) fn block_length(days: Decimal) -> Result<u32, BrokenRule>
     }
 }
 
+/// Tells whether a number is a mass ratio of Earth and Moon that the rules allow, from 1 to 1,000.
 pub(crate) fn is_mass_ratio(d: Decimal) -> bool
     ensures { result ≡ is_mass_ratio d }
 {

@@ -1,4 +1,4 @@
-// The rules of the columns.
+// The rules of the three rows of columns, and of the columns that they make.
 ghost use Rattle.std.specs.Prelude.{◌≡◌, ◌<◌, ◌≤◌, [], IfOk, Ok, length, take};
 ghost use Rattle.spec_ephemeris.specs.declared.limits.TheConstants.{MAX_COLUMNS};
 ghost use Rattle.spec_files.specs.ColumnRules.{column_rule, columns_of, columns_rule, columns_row, first_row, is_column_count, is_out_of_place, overlap, overlaps_any, row_of, whole_numbers};
@@ -12,7 +12,8 @@ use spec_faults::{
 };
 use spec_files::{BrokenRule, Facts};
 
-// The whole numbers of a line that has no more words than a header has columns. Zeros stand after them.
+// Reads the whole numbers of a line of at most 15 words; zeros stand after them. A word that is no whole number
+// breaks a rule.
 fn whole_numbers(line: &Line<'_>) -> Result<[u32; MAX_COLUMNS], BrokenRule>
     requires few { length line.now.tokens ≤ MAX_COLUMNS }
     ensures { first_of (length line.now.tokens) result ≡ whole_numbers [] line.now.tokens }
@@ -27,13 +28,14 @@ fn whole_numbers(line: &Line<'_>) -> Result<[u32; MAX_COLUMNS], BrokenRule>
     Ok(numbers)
 }
 
+// Tells whether a header may have this many columns: 13, which are read, to 15.
 fn is_column_count(count: usize) -> bool
     ensures { result ≡ is_column_count count }
 {
     READ_COLUMNS <= count && count <= MAX_COLUMNS
 }
 
-// The whole numbers of the first row, which says how many columns there are.
+// Reads the first row of columns, whose length says how many columns there are.
 pub(crate) fn first_row(line: &Line<'_>) -> Result<[u32; MAX_COLUMNS], BrokenRule>
     ensures row { first_of (length line.now.tokens) result ≡ first_row line.now.tokens }
     ensures few { IfOk result (λ _. length line.now.tokens ≤ MAX_COLUMNS) }
@@ -44,7 +46,7 @@ pub(crate) fn first_row(line: &Line<'_>) -> Result<[u32; MAX_COLUMNS], BrokenRul
     whole_numbers(line)
 }
 
-// The whole numbers of a later row, one for each of so many columns.
+// Reads a later row of columns, with one whole number for each of `count` columns.
 pub(crate) fn row_of(count: usize, line: &Line<'_>) -> Result<[u32; MAX_COLUMNS], BrokenRule>
     requires few { count ≤ MAX_COLUMNS }
     ensures { first_of count result ≡ row_of count line.now.tokens }
@@ -55,7 +57,7 @@ pub(crate) fn row_of(count: usize, line: &Line<'_>) -> Result<[u32; MAX_COLUMNS]
     whole_numbers(line)
 }
 
-// The columns of three rows of so many numbers.
+// Joins three rows of `count` numbers into columns: their starts, coefficients and granules.
 fn columns_of(
     count: usize,
     starts: &[u32; MAX_COLUMNS],
@@ -81,6 +83,7 @@ fn columns_of(
     columns
 }
 
+// Tells whether two columns, counted from 1, share a place of a block.
 fn overlap(i: usize, column: Column, j: usize, other: Column) -> bool
     ensures { result ≡ overlap i column j other }
 {
@@ -88,7 +91,7 @@ fn overlap(i: usize, column: Column, j: usize, other: Column) -> bool
         && u128::from(other.start) < place_after(i, column)
 }
 
-// Whether a present column among the earlier ones has a place of column `i`.
+// Tells whether a present column among the earlier ones shares a place with column `i`.
 fn overlaps_any(i: usize, column: Column, earlier: &[Column]) -> bool
     requires { length earlier.now < MAX_COLUMNS }
     ensures { result ≡ overlaps_any i column 1 earlier.now }
@@ -101,7 +104,7 @@ fn overlaps_any(i: usize, column: Column, earlier: &[Column]) -> bool
     false
 }
 
-// Whether the places of column `i` are those of a block and of no earlier column.
+// Tells whether a place of column `i` is none of a block's numbers, or belongs to an earlier column too.
 fn is_out_of_place(ncoeff: u32, earlier: &[Column], i: usize, column: Column) -> bool
     requires { length earlier.now < MAX_COLUMNS }
     ensures { result ≡ is_out_of_place ncoeff earlier.now i column }
@@ -111,7 +114,8 @@ fn is_out_of_place(ncoeff: u32, earlier: &[Column], i: usize, column: Column) ->
         || overlaps_any(i, column, earlier)
 }
 
-// The rules of a column after the earlier ones. One past those that are read has none.
+// Checks a column against the rules, given the earlier ones, or returns the first rule that it breaks. A column past
+// those that are read, or without numbers, breaks none.
 fn check_column(
     ncoeff: u32,
     seconds: u32,
@@ -134,7 +138,7 @@ fn check_column(
     }
 }
 
-// The rules of all columns, in their order.
+// Checks all columns in their order, or returns the first rule that one breaks.
 fn check_columns(ncoeff: u32, seconds: u32, columns: &[Column]) -> Result<(), BrokenRule>
     requires { length columns.now ≤ MAX_COLUMNS }
     ensures { if_met columns.now result ≡ columns_rule ncoeff seconds [] columns.now }
@@ -145,7 +149,7 @@ fn check_columns(ncoeff: u32, seconds: u32, columns: &[Column]) -> Result<(), Br
     Ok(())
 }
 
-// So many columns, whose granules stand on this line.
+// Makes `count` columns from two rows and from the granules on this line, or returns the first rule that is broken.
 pub(crate) fn columns_row(
     facts: Facts,
     count: usize,

@@ -1,4 +1,4 @@
-// The reader.
+// The reader of a header: each line takes it from one state to the next.
 ghost use Rattle.std.specs.Prelude.{◌≡◌, [], ◌+◌, ◌≤◌, ◌<◌, IfOk, List, None, Err, Ok, ℕ, length, min, take};
 ghost use Rattle.spec_text.specs.declared.decimals.Fault.{Fault};
 ghost use Rattle.spec_ephemeris.specs.declared.limits.TheConstants.{MAX_COLUMNS};
@@ -26,14 +26,15 @@ use spec_text::Fault;
 use std::alloc::Global;
 use std::marker::Model;
 
-// How many of the words that are left stand on a line.
+// Returns how many of the `left` words that are still to come stand on a line.
 fn words_here(left: u32, line: &Line<'_>) -> u32
     ensures { result ≡ min left (length line.now.tokens) }
 {
     (left as usize).min(line.count()) as u32
 }
 
-// The place that was found before, or one among the first words of a line.
+// Returns the place of `EMRAT` that was found before, or its place among the first `n` words of a line, counted from
+// `start`. None where it is not found yet.
 fn emrat_or(found: Option<u32>, line: &Line<'_>, n: u32, start: u32) -> Option<u32>
     requires few { start + n ≤ MAX_CONSTANTS }
     requires there { n ≤ length line.now.tokens }
@@ -45,7 +46,8 @@ fn emrat_or(found: Option<u32>, line: &Line<'_>, n: u32, start: u32) -> Option<u
     }
 }
 
-// The state in which so many names are left, and others are passed.
+// Returns the state in which `left` names are still to come and `passed` are behind. Without any left, the values
+// come next.
 #[tactic(auto, unfolding(crate::specs::Reader::says), using(crate::proofs::Steps::no_names_left))]
 fn to_names(shape: BlockShape, count: u32, left: u32, passed: u32, emrat: Option<u32>) -> State
     requires few { passed + left ≤ MAX_CONSTANTS }
@@ -70,7 +72,7 @@ fn to_names(shape: BlockShape, count: u32, left: u32, passed: u32, emrat: Option
     }
 }
 
-// The state after the names on a line.
+// Returns the state after the names on a line.
 fn pass_names(
     shape: BlockShape,
     count: u32,
@@ -88,7 +90,8 @@ fn pass_names(
     to_names(shape, count, left - here, passed + here, emrat)
 }
 
-// The state in which so many values are left after that of `EMRAT`.
+// Returns the state in which `left` values after that of `EMRAT` are still to come. Without any left, the columns
+// come next.
 #[tactic(auto, unfolding(crate::specs::Reader::says), using(crate::proofs::Steps::no_values_left))]
 fn to_more_values(facts: Facts, left: u32) -> State
     requires { left ≤ MAX_CONSTANTS }
@@ -102,7 +105,8 @@ fn to_more_values(facts: Facts, left: u32) -> State
     }
 }
 
-// The state after the values on a line, where that of `EMRAT` is still to come.
+// Returns the state after the values on a line, where that of `EMRAT` may be among them. A rule is broken by a mass
+// ratio that cannot be read or is out of range.
 fn pass_values(
     shape: BlockShape,
     left: u32,
@@ -134,7 +138,7 @@ fn pass_values(
     }
 }
 
-// The state after the values on a line.
+// Returns the state after the values on a line, where that of `EMRAT` has been read.
 fn pass_more_values(facts: Facts, left: u32, line: &Line<'_>) -> State
     requires { Fits (states.ValuesAfter facts left) }
     ensures moves { Moves (states.ValuesAfter facts left) line.now (Ok result) }
@@ -144,7 +148,7 @@ fn pass_more_values(facts: Facts, left: u32, line: &Line<'_>) -> State
     to_more_values(facts, left - here)
 }
 
-// The state after the row of starts.
+// Returns the state after the row of starts, or the first rule that the row breaks.
 #[tactic(auto, unfolding(crate::specs::Reader::says))]
 fn pass_starts(facts: Facts, line: &Line<'_>) -> Result<State, BrokenRule>
     ensures moves { Moves (states.Starts facts) line.now result }
@@ -158,7 +162,7 @@ fn pass_starts(facts: Facts, line: &Line<'_>) -> Result<State, BrokenRule>
     })
 }
 
-// The state after the row of coefficients.
+// Returns the state after the row of coefficients, or the first rule that the row breaks.
 #[tactic(auto, unfolding(crate::specs::Reader::says))]
 fn pass_coefficients(
     facts: Facts,
@@ -179,7 +183,7 @@ fn pass_coefficients(
     })
 }
 
-// The state after the row of granules.
+// Returns the state after the row of granules, or the first rule that the row or a column breaks.
 #[tactic(auto, unfolding(crate::specs::Reader::says))]
 fn pass_granules(
     facts: Facts,
@@ -200,7 +204,7 @@ fn pass_granules(
     })
 }
 
-// The state after a line of the columns, or the first rule that the line breaks.
+// Returns the state after a line of the columns, or the first rule that the line breaks.
 #[tactic(auto, unfolding(crate::specs::Reader::says))]
 fn step_after_values(state: State, line: &Line<'_>) -> Result<State, BrokenRule>
     requires open { IsOpen state }
@@ -242,7 +246,7 @@ fn step_after_values(state: State, line: &Line<'_>) -> Result<State, BrokenRule>
     }
 }
 
-// The state after a line that wants one, once the names are passed, or the first rule that the line breaks.
+// Returns the state after a line that stands behind the names, or the first rule that the line breaks.
 #[tactic(auto, unfolding(crate::specs::Reader::says))]
 fn step_after_names(state: State, line: &Line<'_>) -> Result<State, BrokenRule>
     requires open { IsOpen state }
@@ -286,7 +290,7 @@ fn step_after_names(state: State, line: &Line<'_>) -> Result<State, BrokenRule>
     }
 }
 
-// The state after a title, or after the first line that begins with `GROUP`.
+// Returns the state after a title, or after the first line that starts with `GROUP`, which has to be `GROUP 1030`.
 #[tactic(auto, unfolding(crate::specs::Reader::says))]
 fn pass_title(ncoeff: u32, line: &Line<'_>) -> Result<State, BrokenRule>
     ensures moves { Moves (states.Titles ncoeff) line.now result }
@@ -300,7 +304,7 @@ fn pass_title(ncoeff: u32, line: &Line<'_>) -> Result<State, BrokenRule>
     }
 }
 
-// The state after a line that wants one, or the first rule that the line breaks.
+// Returns the state after a line, in any state that wants one, or the first rule that the line breaks.
 #[tactic(auto, unfolding(crate::specs::Reader::says))]
 fn step(state: State, line: &Line<'_>) -> Result<State, BrokenRule>
     requires open { IsOpen state }
@@ -345,7 +349,7 @@ fn step(state: State, line: &Line<'_>) -> Result<State, BrokenRule>
     }
 }
 
-// The state after a line, where the first rule that a line breaks is kept.
+// Returns the state after a line, in any state but that of a whole header. A fault that was met stays.
 #[tactic(auto, unfolding(crate::specs::Reader::says))]
 fn next(state: State, line: &Line<'_>) -> State
     requires open { IsNotWhole state }
@@ -363,7 +367,7 @@ fn next(state: State, line: &Line<'_>) -> State
     }
 }
 
-// What a state answers.
+// Returns what the reader answers in this state: it wants more lines, is done, or met a fault.
 #[tactic(auto, unfolding(crate::specs::Reader::says))]
 fn answer_of(state: State) -> Result<Step, HeaderError>
     requires { Fits state }
@@ -381,7 +385,7 @@ fn answer_of(state: State) -> Result<Step, HeaderError>
     }
 }
 
-// The header of so many columns, unless there is no memory for them.
+// Makes the header of `count` columns. The only error is out of memory.
 fn whole(
     alloc: Global,
     facts: Facts,
@@ -400,7 +404,7 @@ fn whole(
     })
 }
 
-// What a state comes to where the lines end.
+// Returns the header that a state has read where the lines end. A header that is not whole is a fault at `line`.
 #[tactic(auto, unfolding(crate::specs::Reader::says))]
 fn header_at_end(alloc: Global, state: State, line: u32) -> Result<Header, HeaderError>
     ensures end { Ends line (says 0 state []) result }
@@ -435,7 +439,7 @@ impl Model for HeaderReader {
 }
 
 impl HeaderReader {
-    /// A reader that waits for the first line.
+    /// Makes a reader that waits for the first line.
     pub fn new() -> Self
         ensures header { IsAt result header }
         ensures open { IsOpen result × IsNotWhole result }
@@ -445,8 +449,8 @@ impl HeaderReader {
         }
     }
 
-    /// Reads the next line. `Done` comes at the line that ends the header, and `Fault` at the first line that breaks a
-    /// rule and at every line after it. A line takes no memory, so `Memory` never comes here.
+    /// Reads the next line. `Done` comes at the line that ends the header. `Fault` comes at the first line that
+    /// breaks a rule, and at every line after it. A line takes no memory, so `Memory` never comes here.
     pub fn line(&mut self, line: &Line<'_>) -> Result<Step, HeaderError>
         requires { IsNotWhole self.old }
         ensures says { HasRead self.old line.now self.new }
@@ -462,9 +466,9 @@ impl HeaderReader {
         answer_of(self.state)
     }
 
-    /// Ends the reading, and returns the header. `line` is one more than the number of the last line of the last file. `Fault`
-    /// is the kept refusal, or fault 22, that the text has ended, at `line` where the header is not whole. Where the reader
-    /// was made by `new` and was given these lines, the header meets the rules of a header.
+    /// Ends the reading and returns the header. `line` is one more than the number of the last line of the last file.
+    /// `Fault` is the kept refusal. Where the header is not whole, it is fault 22, that the text has ended, at
+    /// `line`. Where the reader was made by `new` and was given these lines, the header meets the rules of a header.
     pub fn end(self, alloc: Global, line: u32) -> Result<Header, HeaderError>
         ensures end { Ends line (says 0 self []) result }
         ensures memory { result ≡ Err errors.Memory → IsWhole self }

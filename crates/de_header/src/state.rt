@@ -1,4 +1,4 @@
-// How far a reader has come, with what it has read.
+// The states of a reader of a header, with what each has read.
 use spec_ephemeris::{Column, MAX_COLUMNS};
 use spec_files::{BlockShape, Facts};
 use spec_text::Fault;

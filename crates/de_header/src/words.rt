@@ -1,4 +1,4 @@
-// The rules of the lines before the columns.
+// The rules of the lines before the columns, one call for each kind of line.
 ghost use Rattle.std.specs.Prelude.{◌≡◌, ◌≤◌, ◌<◌, ◌+◌, IfOk, List, Some, length, slice_get, take, codes, ℕ};
 ghost use Rattle.spec_files.specs.Sections.{is_word};
 ghost use Rattle.spec_files.specs.HeaderRules.{decimal_at, emrat_from, first_line, group, mass_ratio, mass_ratio_of, name_count, span, value_count};
@@ -11,6 +11,7 @@ use spec_faults::{
 };
 use spec_files::{BrokenRule, MAX_CONSTANTS};
 
+// Tells whether the word at a place of a line is this text. A place past the words has none.
 fn is_word(line: &Line<'_>, i: usize, text: &[u8]) -> bool
     ensures { result ≡ is_word (slice_get line.now.tokens i) text.now }
 {
@@ -20,7 +21,7 @@ fn is_word(line: &Line<'_>, i: usize, text: &[u8]) -> bool
     }
 }
 
-// NCOEFF.
+// Reads NCOEFF, the numbers of a block, from the first line, or returns the rule that the line breaks.
 pub(crate) fn first_line(line: &Line<'_>) -> Result<u32, BrokenRule>
     ensures { result ≡ first_line line.now.tokens }
 {
@@ -35,6 +36,7 @@ pub(crate) fn first_line(line: &Line<'_>) -> Result<u32, BrokenRule>
     }
 }
 
+/// Checks that a line is `GROUP` and this name. `number` is the detail of the rule that it breaks else.
 pub(crate) fn group(name: &[u8], number: u16, line: &Line<'_>) -> Result<(), BrokenRule>
     ensures { result ≡ group name.now number line.now.tokens }
 {
@@ -45,13 +47,14 @@ pub(crate) fn group(name: &[u8], number: u16, line: &Line<'_>) -> Result<(), Bro
     }
 }
 
-// The line begins with `GROUP`.
+// Tells whether a line starts with the word `GROUP`.
 pub(crate) fn is_group(line: &Line<'_>) -> bool
     ensures { result ≡ is_word (slice_get line.now.tokens 0) (codes "GROUP") }
 {
     is_word(line, 0, b"GROUP")
 }
 
+// Reads the decimal at a place of a line. A rule is broken where no word stands there, or one that is no decimal.
 fn decimal_at(line: &Line<'_>, i: usize) -> Result<Decimal, BrokenRule>
     ensures { result ≡ decimal_at (slice_get line.now.tokens i) }
 {
@@ -64,7 +67,7 @@ fn decimal_at(line: &Line<'_>, i: usize) -> Result<Decimal, BrokenRule>
     }
 }
 
-// The length of a block, in seconds.
+// Reads the length of a block in seconds from the line of the span. Both Julian dates before it are checked too.
 pub(crate) fn span(line: &Line<'_>) -> Result<u32, BrokenRule>
     ensures { result ≡ span line.now.tokens }
 {
@@ -73,6 +76,7 @@ pub(crate) fn span(line: &Line<'_>) -> Result<u32, BrokenRule>
     block_length(decimal_at(line, 2)?)
 }
 
+/// Reads the count of names, which is at most 2,000, or returns the rule that the line breaks.
 pub(crate) fn name_count(line: &Line<'_>) -> Result<u32, BrokenRule>
     ensures value { result ≡ name_count line.now.tokens }
     ensures few { IfOk result (λ n. n ≤ MAX_CONSTANTS) }
@@ -84,7 +88,7 @@ pub(crate) fn name_count(line: &Line<'_>) -> Result<u32, BrokenRule>
     }
 }
 
-// The place of the first `EMRAT` among the first words of a line, counted from `start`.
+// Returns the place of the first `EMRAT` among the first `n` words of a line, counted from `start`, or none.
 pub(crate) fn find_emrat(line: &Line<'_>, n: u32, start: u32) -> Option<u32>
     requires few { start + n ≤ MAX_CONSTANTS }
     requires there { n ≤ length line.now.tokens }
@@ -98,7 +102,8 @@ pub(crate) fn find_emrat(line: &Line<'_>, n: u32, start: u32) -> Option<u32>
     None
 }
 
-// The place of the value of `EMRAT`, whose name has this place among `names` names.
+// Reads the count of values, which is that of the names, and returns the place of `EMRAT`. A rule is broken where the
+// counts differ or no name is `EMRAT`.
 pub(crate) fn value_count(
     names: u32,
     emrat: Option<u32>,
@@ -116,6 +121,7 @@ pub(crate) fn value_count(
     }
 }
 
+// Returns a mass ratio of Earth and Moon that is within its bounds, else the rule that it breaks.
 fn mass_ratio_of(d: Decimal) -> Result<Decimal, BrokenRule>
     ensures { result ≡ mass_ratio_of d }
 {
@@ -126,7 +132,7 @@ fn mass_ratio_of(d: Decimal) -> Result<Decimal, BrokenRule>
     }
 }
 
-// The value of `EMRAT`, which is the word at this place of the line.
+// Reads the value of `EMRAT`, the word at this place of a line, or returns the rule that it breaks.
 pub(crate) fn mass_ratio(line: &Line<'_>, place: u32) -> Result<Decimal, BrokenRule>
     requires { place < length line.now.tokens }
     ensures { (word : List ℕ) → slice_get line.now.tokens place ≡ Some word

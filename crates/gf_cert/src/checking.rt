@@ -1,4 +1,4 @@
-// Whether a text is a certificate of a search.
+// The check of a text: whether it is a certificate of a search.
 ghost use Rattle.std.specs.Prelude.{◌≤◌, ◌∷◌, [], length, IfOk};
 ghost use Rattle.spec_text.specs.Lines.{tokens};
 ghost use Rattle.spec_text.specs.declared.limits.TheConstants.{MAX_TEXT_BYTES};
@@ -21,10 +21,10 @@ use spec_faults::{CERT_LINE, CERT_REQUEST};
 use spec_trees::Leaf;
 use std::alloc::Global;
 
-/// The leaves of a text that is a certificate of a tree of the root, for the request of this line; or the first line
-/// that breaks a rule, with the number of the rule. Each leaf is judged, and no other node. Times are in units of the
-/// judge's ephemeris, seconds or ticks of TDB since J2000. The text has at most 268,435,456 bytes; the line has no line
-/// end.
+/// Returns the leaves of a text that is a certificate of a tree of the root, for the request of this line; or the
+/// first line that breaks a rule, with the number of the rule. Each leaf is judged, and no other node. Times are in
+/// units of the judge's ephemeris, seconds or ticks of TDB since J2000. The text has at most 268,435,456 bytes; the
+/// line has no line end.
 pub fn check_cert(
     alloc: Global,
     text: &[u8],
@@ -52,7 +52,8 @@ pub fn check_cert(
     }
 }
 
-// The leaves of the lines that are left, of which the first is that of the request.
+// Returns the leaves that the lines name which are left, of which the first has to be that of the request. The error
+// is the first line that breaks a rule, or out of memory.
 fn leaves_for(
     alloc: Global,
     judge: &EventJudge<'_>,

@@ -1,4 +1,4 @@
-// What is true of the certificates of searches: each law is the contract of a function with nothing to do.
+// Laws of the certificates of searches. Each is the contract of a function that does nothing when it runs.
 ghost use Rattle.std.specs.Prelude.{◌≡◌, ◌≤◌, List, ℕ, Ok, length};
 ghost use Rattle.spec_text.specs.Printed.{IsLine};
 ghost use Rattle.spec_text.specs.declared.limits.TheConstants.{MAX_LINE_BYTES, MAX_TEXT_BYTES};

@@ -1,4 +1,4 @@
-// The leaves of a certificate, after its first two lines.
+// The leaves that a certificate names, after its first two lines.
 ghost use Rattle.std.specs.Prelude.{◌≡◌, ◌∷◌, [], reverse};
 ghost use Rattle.spec_trees.specs.Tree.{IsValid};
 ghost use Rattle.spec_searches.specs.Found.{rules};
@@ -17,7 +17,7 @@ use spec_faults::CERT_END;
 use spec_trees::Leaf;
 use std::alloc::Global;
 
-// No line is left after the end.
+// Checks that no line is left after the one that ends the certificate, else a rule is broken.
 fn check_rest(lines: &mut Tokens<'_>) -> Result<(), CertFault>
     ensures { Ends (after_end lines.old.left) result }
 {
@@ -27,14 +27,14 @@ fn check_rest(lines: &mut Tokens<'_>) -> Result<(), CertFault>
     }
 }
 
-// No node waits, and there are as many leaves as the end says.
+// Tells whether a certificate may end here: no node waits, and the end counts as many leaves as there were.
 fn is_end(waiting: &[Node], leaves: usize, count: u32) -> bool
     ensures { result ≡ is_end (reverse waiting.now) leaves count }
 {
     waiting.is_empty() && leaves as u64 == u64::from(count)
 }
 
-/// The refusal of a text for a line that breaks a rule.
+/// Returns the refusal of a text for a line that breaks a rule.
 pub(crate) fn refusal(fault: CertFault) -> CertError
     ensures { result ≡ refusal_of fault }
 {
@@ -44,7 +44,8 @@ pub(crate) fn refusal(fault: CertFault) -> CertError
     }
 }
 
-/// The leaves that the lines which are left name, one after the other over the root, up to the end of the text.
+/// Returns the leaves that the remaining lines name, one after the other over the root, up to the end of the text.
+/// The error is the first line that breaks a rule, or out of memory.
 pub(crate) fn leaves(
     alloc: Global,
     judge: &EventJudge<'_>,

@@ -1,4 +1,4 @@
-// Lines of a certificate, taken one by one.
+// The lines of a certificate, read one by one.
 ghost use Rattle.std.specs.Prelude.{◌≡◌, [], List, OnOk, Result};
 ghost use Rattle.spec_text.specs.Lines.{Numbered, tokens};
 ghost use Rattle.spec_trees.specs.declared.tree.Leaf.{Leaf};
@@ -13,14 +13,14 @@ use spec_certificates::{CertFault, Entry};
 use spec_faults::{CERT_END, CERT_LINE};
 use spec_trees::{Leaf, Node};
 
-/// What is said of a line that breaks a rule: its number, and that of the rule.
+/// Returns the fault of a line: its number, and the number of the rule that it breaks.
 pub(crate) fn fault_at(line: u32, number: u8) -> CertFault
     ensures { result ≡ record { line = line; number = number } }
 {
     CertFault { line, number }
 }
 
-// `L`, the leaf's first time and last time, its depth and its mark.
+// Reads a leaf from five words: `L`, its first time, its last time, its depth and its mark. None for other words.
 fn leaf_in(word: &[u8], a: &[u8], b: &[u8], depth_word: &[u8], mark_word: &[u8]) -> Option<Entry>
     ensures { result ≡ leaf_in word.now a.now b.now depth_word.now mark_word.now }
 {
@@ -39,7 +39,7 @@ fn leaf_in(word: &[u8], a: &[u8], b: &[u8], depth_word: &[u8], mark_word: &[u8])
     }))
 }
 
-// `END leaves`, and their number.
+// Reads the end from three words: `END leaves` and the number of leaves. None for other words.
 fn end_in(word: &[u8], name: &[u8], count_word: &[u8]) -> Option<Entry>
     ensures { result ≡ end_in word.now name.now count_word.now }
 {
@@ -53,7 +53,7 @@ fn end_in(word: &[u8], name: &[u8], count_word: &[u8]) -> Option<Entry>
     }
 }
 
-// What the words of a line say.
+// Reads the words of a line as a leaf, which has five, or as the end, which has three. None for other words.
 fn entry_of(mut words: Words<'_>) -> Option<Entry>
     ensures { result ≡ entry_of words.entry }
 {
@@ -70,7 +70,8 @@ fn entry_of(mut words: Words<'_>) -> Option<Entry>
     }
 }
 
-/// What the next line says, with its number, if one is left.
+/// Reads the next line with its number, or none where no line is left. A line that is neither a leaf nor the end
+/// breaks a rule.
 pub(crate) fn next_entry(lines: &mut Tokens<'_>) -> Result<Option<(u32, Entry)>, CertFault>
     ensures entry { result ≡ next_entry lines.old.left }
     ensures left { OnOk result (lines.new.left ≡ rest_of lines.old.left) }
@@ -86,7 +87,8 @@ pub(crate) fn next_entry(lines: &mut Tokens<'_>) -> Result<Option<(u32, Entry)>,
     }
 }
 
-// The words of the next line, with its number, if one is left.
+// Returns the words of the next line with its number, or none where no line is left. A line that is too long breaks a
+// rule.
 fn next_words<'a>(lines: &mut Tokens<'a>) -> Result<Option<(u32, Words<'a>)>, CertFault>
     ensures words { result ≡ next_words lines.old.left }
     ensures left { OnOk result (lines.new.left ≡ rest_of lines.old.left) }
@@ -99,14 +101,14 @@ fn next_words<'a>(lines: &mut Tokens<'a>) -> Result<Option<(u32, Words<'a>)>, Ce
     }
 }
 
-// No word is left.
+// Tells whether no word is left.
 fn is_done(mut words: Words<'_>) -> bool
     ensures { result ≡ are_same [] words.entry }
 {
     words.next().is_none()
 }
 
-// Both have the same words, in the same order.
+// Tells whether two lines have the same words in the same order. Blanks between words do not count.
 fn are_same(mut one: Words<'_>, mut other: Words<'_>) -> bool
     ensures { result ≡ are_same one.entry other.entry }
 {
@@ -123,7 +125,7 @@ fn are_same(mut one: Words<'_>, mut other: Words<'_>) -> bool
     }
 }
 
-/// The next line has the words of this one, else a rule is broken.
+/// Checks that the next line has the same words as `wanted`, else `rule` is broken.
 pub(crate) fn check_words(lines: &mut Tokens<'_>, wanted: &[u8], rule: u8) -> Result<(), CertFault>
     ensures steps { (further : List Numbered → Result (List Leaf) CertFault)
         → Steps (with_words (tokens wanted.now) rule lines.old.end_line further lines.old.left)

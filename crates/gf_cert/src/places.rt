@@ -1,4 +1,4 @@
-// The place of a leaf among the nodes that wait.
+// The place of a leaf among the nodes that wait for their leaves.
 ghost use Rattle.std.specs.Prelude.{◌≡◌, reverse, IfOk, Some};
 ghost use Rattle.spec_trees.specs.declared.tree.Node.{Node};
 ghost use Rattle.spec_trees.specs.Tree.{IsValid};
@@ -16,13 +16,14 @@ use event_judge::{EventJudge, Judge, Node};
 use spec_faults::{CERT_END, CERT_MARK, CERT_PLACE};
 use spec_trees::{Leaf, Mark, Turn};
 
-// The same times at the same depth.
+// Tells whether two nodes have the same times and the same depth.
 fn is_same(one: Node, other: Node) -> bool
     ensures { result ≡ is_same one other }
 {
     one.a == other.a && one.b == other.b && one.depth == other.depth
 }
 
+// Tells whether a mark is that of an event with this turn.
 fn is_turn(turn: Turn, mark: Mark) -> bool
     ensures { result ≡ is_mark (Some (Mark.One turn)) mark }
 {
@@ -34,7 +35,7 @@ fn is_turn(turn: Turn, mark: Mark) -> bool
     }
 }
 
-// There is a mark, and it is this one.
+// Tells whether a node is a leaf and has this mark.
 fn is_mark(found: Option<Mark>, mark: Mark) -> bool
     ensures { result ≡ is_mark found mark }
 {
@@ -46,8 +47,9 @@ fn is_mark(found: Option<Mark>, mark: Mark) -> bool
     }
 }
 
-// The first node that waits has left the stack, on which the next one is the last. It is cut, and its left part again,
-// until it is this node; the right parts are put on the stack. The leaf of this node stands in this line.
+// Cuts the first node that waits, and its left part again, until it is `node`. The right parts are put on the stack,
+// on which the next node to wait is the last. The leaf of `node` stands in the line `line`, which breaks a rule where
+// cutting does not lead there. The other error is out of memory.
 fn descend(
     judge: &EventJudge<'_>,
     waiting: &mut Vec<Node>,
@@ -77,8 +79,9 @@ fn descend(
     Ok(())
 }
 
-/// Places a leaf, which stands in this line: the first node that waits is cut until it is the leaf's, and the leaf has
-/// the mark of its verdict. The nodes that wait are a stack, on which the first is the last.
+/// Places a leaf, which stands in the line `line`: the first node that waits is cut until it is the leaf's. The line
+/// breaks a rule where cutting does not lead there or the leaf's mark is not that of its verdict. The nodes that wait
+/// are a stack, on which the first is the last. The other error is out of memory.
 pub(crate) fn place(
     judge: &EventJudge<'_>,
     waiting: &mut Vec<Node>,

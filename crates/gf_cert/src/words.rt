@@ -1,4 +1,5 @@
-// Words of a certificate: times, numbers and marks.
+// Readers of the words of a certificate: times, numbers and marks. Each returns none for a word that is not of its
+// form.
 ghost use Rattle.std.specs.Prelude.{◌≡◌, ◌≤◌, ◌<◌, ◌+◌, ◌*◌, ◌^◌, ◌&&◌, length, nat_le, nat_lt, IfSome};
 ghost use Rattle.std.specs.Char.{is_ascii_digit};
 ghost use Rattle.std.specs.List.{list_all};
@@ -10,26 +11,28 @@ ghost use Rattle.spec_certificates.specs.declared.limits.TheConstants.{MAX_COUNT
 use spec_certificates::{MAX_COUNT_DIGITS, MAX_DEPTH_DIGITS, MAX_TIME_DIGITS};
 use spec_trees::{Mark, Turn};
 
-/// The word is this one.
+/// Tells whether a word is this text.
 pub(crate) fn is_word(word: &[u8], text: &[u8]) -> bool
     ensures { result ≡ bytes_eq word.now text.now }
 {
     word == text
 }
 
+// Tells whether all bytes are ASCII digits. No byte at all passes, so callers test the length too.
 fn are_digits(word: &[u8]) -> bool
     ensures { result ≡ list_all is_ascii_digit word.now }
 {
     word.iter().all(|byte| byte.is_ascii_digit())
 }
 
+// Tells whether a word has 1 to `most` bytes.
 fn is_length_up_to(word: &[u8], most: usize) -> bool
     ensures { result ≡ (nat_lt 0 (length word.now) && nat_le (length word.now) most) }
 {
     !word.is_empty() && word.len() <= most
 }
 
-// The number that digits write. There are at most 15.
+// Returns the number that at most 15 digits write.
 fn value(digits: &[u8]) -> u64
     requires { length digits.now ≤ 15 }
     ensures value { result ≡ value digits.now }
@@ -42,7 +45,7 @@ fn value(digits: &[u8]) -> u64
     value
 }
 
-// The number that a word of 1 to `most` digits is.
+// Reads a number of 1 to `most` digits. None for any other word.
 fn count_of(most: usize, word: &[u8]) -> Option<u64>
     requires { most ≤ 15 }
     ensures value { result ≡ count_of most word.now }
@@ -55,7 +58,7 @@ fn count_of(most: usize, word: &[u8]) -> Option<u64>
     }
 }
 
-/// The depth that a word is.
+/// Reads a depth of 1 or 2 digits. None for any other word.
 pub(crate) fn depth(word: &[u8]) -> Option<u32>
     ensures { result ≡ count_of MAX_DEPTH_DIGITS word.now }
 {
@@ -65,7 +68,7 @@ pub(crate) fn depth(word: &[u8]) -> Option<u32>
     }
 }
 
-/// The number of leaves that a word is.
+/// Reads a number of leaves of 1 to 8 digits. None for any other word.
 pub(crate) fn count(word: &[u8]) -> Option<u32>
     ensures { result ≡ count_of MAX_COUNT_DIGITS word.now }
 {
@@ -75,7 +78,7 @@ pub(crate) fn count(word: &[u8]) -> Option<u32>
     }
 }
 
-/// The time that a word is, in seconds of TDB since J2000.
+/// Reads a time in units of TDB since J2000: 1 to 15 digits, with an optional minus sign. None for any other word.
 pub(crate) fn time(word: &[u8]) -> Option<i64>
     ensures { result ≡ time_of word.now }
 {
@@ -92,7 +95,7 @@ pub(crate) fn time(word: &[u8]) -> Option<i64>
     }
 }
 
-/// The mark that a word is.
+/// Reads a mark: `N` (no event), `R` (one rise), `F` (one fall) or `U` (undecided). None for any other word.
 pub(crate) fn mark(word: &[u8]) -> Option<Mark>
     ensures { result ≡ mark_of_word word.now }
 {

@@ -1,4 +1,4 @@
-// The text of a certificate.
+// The text of a certificate. Calls that append fail only where memory is out.
 ghost use Rattle.std.specs.Prelude.{◌≡◌, ◌++◌, IfOk, OnOk};
 ghost use Rattle.std.specs.Fmt.{decimal, signed_decimal};
 ghost use Rattle.spec_certificates.specs.Texts.{certificate, leaf_lines, leaf_text, mark_word};
@@ -6,9 +6,9 @@ ghost use Rattle.spec_certificates.specs.Texts.{certificate, leaf_lines, leaf_te
 use spec_trees::{Leaf, Mark, Node, Turn};
 use std::alloc::{AllocError, Global};
 
-/// The certificate of leaves, for the request of this line, which has no line end: `CERT 1`, the line, a line for each
-/// leaf in the order in which they come, and the end with their number. Times are ticks of TDB since J2000. Each line
-/// ends with a line feed. The one error is that memory runs out.
+/// Returns the certificate of leaves for the request of this line, which has no line end. It is `CERT 1`, the line, a
+/// line for each leaf in the order in which they come, and the end with their number. Times are ticks of TDB since
+/// J2000. Each line ends with a line feed. The only error is out of memory.
 pub fn certificate(alloc: Global, line: &[u8], leaves: &[Leaf]) -> Result<Vec<u8>, AllocError>
     ensures { IfOk result (λ text. text.items ≡ certificate line.now leaves.now) }
 {
@@ -20,6 +20,7 @@ pub fn certificate(alloc: Global, line: &[u8], leaves: &[Leaf]) -> Result<Vec<u8
     Ok(text)
 }
 
+// Appends two texts, one after the other.
 fn add_pair(text: &mut Vec<u8>, first: &[u8], second: &[u8]) -> Result<(), AllocError>
     ensures { OnOk result (text.new.items ≡ text.old.items ++ (first.now ++ second.now)) }
 {
@@ -27,7 +28,7 @@ fn add_pair(text: &mut Vec<u8>, first: &[u8], second: &[u8]) -> Result<(), Alloc
     text.extend_from_slice(second)
 }
 
-// A number between two texts.
+// Appends a number in decimal digits between two texts.
 fn add_count(text: &mut Vec<u8>, name: &[u8], count: u64, end: &[u8]) -> Result<(), AllocError>
     ensures { OnOk result
         (text.new.items ≡ text.old.items ++ (name.now ++ decimal count ++ end.now)) }
@@ -37,6 +38,7 @@ fn add_count(text: &mut Vec<u8>, name: &[u8], count: u64, end: &[u8]) -> Result<
     add_pair(text, buffer.format(count).as_bytes(), end)
 }
 
+// Appends a line for each leaf, in their order.
 fn add_leaves(text: &mut Vec<u8>, leaves: &[Leaf]) -> Result<(), AllocError>
     ensures { OnOk result (text.new.items ≡ text.old.items ++ leaf_lines leaves.now) }
 {
@@ -46,7 +48,7 @@ fn add_leaves(text: &mut Vec<u8>, leaves: &[Leaf]) -> Result<(), AllocError>
     Ok(())
 }
 
-// A leaf's line, and its end.
+// Appends the words of a leaf, and a text after them.
 fn add_leaf_line(text: &mut Vec<u8>, leaf: Leaf, end: &[u8]) -> Result<(), AllocError>
     ensures { OnOk result (text.new.items ≡ text.old.items ++ (leaf_text leaf ++ end.now)) }
 {
@@ -54,7 +56,7 @@ fn add_leaf_line(text: &mut Vec<u8>, leaf: Leaf, end: &[u8]) -> Result<(), Alloc
     text.extend_from_slice(end)
 }
 
-// The words of a leaf.
+// Appends the words of a leaf: `L`, its first time, its last time, its depth and its mark.
 fn add_leaf(text: &mut Vec<u8>, leaf: Leaf) -> Result<(), AllocError>
     ensures { OnOk result (text.new.items ≡ text.old.items ++ leaf_text leaf) }
 {
@@ -64,6 +66,7 @@ fn add_leaf(text: &mut Vec<u8>, leaf: Leaf) -> Result<(), AllocError>
     add_pair(text, b" ", mark_word(leaf.mark))
 }
 
+// Appends a text, and the first time of a node after it.
 fn add_first_time(text: &mut Vec<u8>, name: &[u8], node: Node) -> Result<(), AllocError>
     ensures { OnOk result (text.new.items ≡ text.old.items ++ (name.now ++ signed_decimal node.a)) }
 {
@@ -71,6 +74,7 @@ fn add_first_time(text: &mut Vec<u8>, name: &[u8], node: Node) -> Result<(), All
     add_pair(text, name, buffer.format(node.a).as_bytes())
 }
 
+// Appends a text, and the last time of a node after it.
 fn add_last_time(text: &mut Vec<u8>, name: &[u8], node: Node) -> Result<(), AllocError>
     ensures { OnOk result (text.new.items ≡ text.old.items ++ (name.now ++ signed_decimal node.b)) }
 {
@@ -78,6 +82,7 @@ fn add_last_time(text: &mut Vec<u8>, name: &[u8], node: Node) -> Result<(), Allo
     add_pair(text, name, buffer.format(node.b).as_bytes())
 }
 
+// Appends a text, and a depth after it.
 fn add_depth(text: &mut Vec<u8>, name: &[u8], depth: u32) -> Result<(), AllocError>
     ensures { OnOk result (text.new.items ≡ text.old.items ++ (name.now ++ decimal depth)) }
 {
@@ -85,6 +90,7 @@ fn add_depth(text: &mut Vec<u8>, name: &[u8], depth: u32) -> Result<(), AllocErr
     add_pair(text, name, buffer.format(depth).as_bytes())
 }
 
+// Returns the word of a mark: `N` (no event), `R` (one rise), `F` (one fall) or `U` (undecided).
 fn mark_word(mark: Mark) -> &'static [u8]
     ensures { result.now ≡ mark_word mark }
 {

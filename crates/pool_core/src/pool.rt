@@ -1,4 +1,4 @@
-// The pool of all workers.
+// The pool of all workers, which takes one step at a time.
 ghost use Rattle.std.specs.Prelude.{◌≡◌, ◌≤◌, List, [], ◌∷◌, ◌++◌, IsTrue, ◌↔◌, OnOk, OnErr, IfOk};
 ghost use Rattle.spec_trees.specs.Tree.{IsValid};
 ghost use Rattle.pool_core.specs.States.{Holding, Steals, opening};
@@ -36,7 +36,8 @@ impl<J: Judge> Model for Pool<J> {
         Conserves (J.rules p.judge) p.root (state p.workers.items p.entered.items) };
 }
 
-// The workers at the start: the first has the root in its hand, the others have nothing.
+// Makes the workers at the start: the first has the root in its hand, the others hold nothing. The only error is out
+// of memory.
 fn opening_workers(alloc: Global, root: Node, workers: u32) -> Result<Vec<Worker>, Memory>
     requires { 1 ≤ workers }
     ensures { IfOk result (λ made. made.items ≡ (opening root workers).workers) }
@@ -50,7 +51,7 @@ fn opening_workers(alloc: Global, root: Node, workers: u32) -> Result<Vec<Worker
 }
 
 impl<J: Judge + Drop> Pool<J> {
-    /// A pool of 1 to 64 workers, with a valid root in the hand of worker 0.
+    /// Makes a pool of 1 to 64 workers, with a valid root in the hand of worker 0. The only error is out of memory.
     pub fn new(alloc: Global, judge: J, root: Node, workers: u32) -> Result<Pool<J>, Memory>
         requires workers { (1 ≤ workers) × (workers ≤ 64) }
         requires root { IsValid (J.rules judge) root }
@@ -67,8 +68,8 @@ impl<J: Judge + Drop> Pool<J> {
 }
 
 impl<J: Judge> Pool<J> {
-    /// Takes a step: `Refused` where its condition is false or a number is past the workers. After a refusal the pool
-    /// is unchanged, and so it is where memory ran out.
+    /// Takes a step. It is `Refused` where its condition is false or a number is past the workers. The pool is
+    /// unchanged after a refusal, and where memory ran out.
     pub fn step(&mut self, step: Step) -> Result<(), StepError>
         ensures ok { OnOk result (Takes (J.rules self.old.judge) self.old step self.new) }
         ensures refused { IsRefusal (J.rules self.old.judge) self.old step result }
@@ -85,21 +86,21 @@ impl<J: Judge> Pool<J> {
         }
     }
 
-    /// The leaves that are entered, in order of arrival.
+    /// Returns the leaves that are entered so far, in order of arrival.
     pub fn entered(&self) -> &[Leaf]
         ensures { result.now ≡ self.now.state.entered }
     {
         self.entered.as_slice()
     }
 
-    /// Whether all hands, deques and local stacks are empty.
+    /// Tells whether all hands, deques and local stacks are empty.
     pub fn is_done(&self) -> bool
         ensures { IsTrue result ↔ IsDone self.now.state }
     {
         self.workers.iter().all(|worker| worker.is_empty())
     }
 
-    // Worker `w` takes a step that changes only what it holds itself.
+    // Lets worker `w` take a step that changes only what it holds itself. The pool is unchanged after an error.
     fn take_own(&mut self, w: u32, step: OwnStep) -> Result<(), StepError>
         ensures ok { OnOk result (Takes (J.rules self.old.judge) self.old (own_step w step) self.new) }
         ensures refused { IsRefusal (J.rules self.old.judge) self.old (own_step w step) result }
@@ -115,7 +116,8 @@ impl<J: Judge> Pool<J> {
         worker.take(&self.judge, step)
     }
 
-    // Worker `w` takes the front of the deque of worker `from`.
+    // Lets worker `w` take the front of the deque of worker `from` into its empty hand. The pool is unchanged after
+    // an error.
     fn steal(&mut self, w: u32, from: u32) -> Result<(), StepError>
         ensures ok { OnOk result (Takes (J.rules self.old.judge) self.old (Steal w from) self.new) }
         ensures refused { IsRefusal (J.rules self.old.judge) self.old (Steal w from) result }
@@ -126,7 +128,7 @@ impl<J: Judge> Pool<J> {
         move_front(&mut self.workers, w as usize, from as usize)
     }
 
-    // Worker `w` enters the leaf in its hand.
+    // Lets worker `w` enter the leaf in its hand. The pool is unchanged after an error.
     fn enter(&mut self, w: u32) -> Result<(), StepError>
         ensures ok { OnOk result (Takes (J.rules self.old.judge) self.old (Enter w) self.new) }
         ensures refused { IsRefusal (J.rules self.old.judge) self.old (Enter w) result }
@@ -149,7 +151,8 @@ impl<J: Judge> Pool<J> {
     }
 }
 
-// The front of one worker's deque comes into another's empty hand.
+// Moves the front of one worker's deque into another's empty hand. It is refused where the two are the same, one is
+// past the workers, the hand is not empty, or the deque is.
 fn move_front(workers: &mut [Worker], at: usize, from: usize) -> Result<(), StepError>
     ensures ok { OnOk result (Steals at from workers.old workers.new) }
     ensures refused { OnErr result ((ys : List Holding) → ¬ Steals at from workers.old ys) }
@@ -168,7 +171,7 @@ fn move_front(workers: &mut [Worker], at: usize, from: usize) -> Result<(), Step
     Ok(())
 }
 
-// Puts a worker at the end.
+// Appends a worker. The only error is out of memory.
 fn put(made: &mut Vec<Worker>, worker: Worker) -> Result<(), Memory>
     ensures { OnOk result (made.new.items ≡ made.old.items ++ worker ∷ []) }
 {

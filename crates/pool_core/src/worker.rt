@@ -1,4 +1,4 @@
-// What one worker holds, and what each step does to it.
+// What one worker holds, and what each step changes of it.
 ghost use Rattle.std.specs.Prelude.{◌≡◌, [], Some, None, IsTrue, ◌↔◌, OnOk, OnErr, IfSome, IfNone};
 ghost use Rattle.spec_trees.specs.declared.tree.Node.{Node};
 ghost use Rattle.spec_trees.specs.declared.tree.Leaf.{Leaf};
@@ -18,7 +18,7 @@ pub enum StepError {
     Memory,
 }
 
-/// A step that changes only what the worker that takes it holds.
+/// A step that changes only what its own worker holds.
 #[derive(Clone, Copy)]
 pub enum OwnStep {
     Push,
@@ -43,6 +43,7 @@ impl Model for Worker {
 }
 
 impl Worker {
+    /// Makes a worker with an empty deque and an empty local stack. The hand may hold a node.
     pub fn new(alloc: Global, hand: Option<Node>) -> Worker
         ensures { result ≡ holding hand [] [] }
     {
@@ -53,14 +54,15 @@ impl Worker {
         }
     }
 
-    /// Whether it holds no node.
+    /// Tells whether the worker holds no node: its hand, its deque and its local stack are empty.
     pub fn is_empty(&self) -> bool
         ensures { IsTrue result ↔ (self.now ≡ nothing) }
     {
         self.hand.is_none() && self.deque.is_empty() && self.kept.is_empty()
     }
 
-    /// Takes a step of its own.
+    /// Takes a step that changes only what this worker holds. It is refused where its condition is false; after an
+    /// error nothing has changed.
     pub fn take<J: Judge>(&mut self, judge: &J, step: OwnStep) -> Result<(), StepError>
         requires { HoldsValid (J.rules judge.now) self.old }
         ensures ok { OnOk result (Goes (J.rules judge.now) step self.old self.new) }
@@ -75,7 +77,7 @@ impl Worker {
         }
     }
 
-    // The parts of the node in the hand, if it is to be split.
+    // Returns the two parts of the node in the hand. None where the hand is empty or the node is a leaf.
     fn parts<J: Judge>(&self, judge: &J) -> Option<(Node, Node)>
         requires { HoldsValid (J.rules judge.now) self.now }
         ensures some { IfSome result (HoldsSplit (J.rules judge.now) self.now) }
@@ -88,7 +90,8 @@ impl Worker {
         Some(judge.cut(node))
     }
 
-    // Splits the node in the hand and puts its right part at the back of the deque.
+    // Splits the node in the hand: the right part goes to the back of the deque, the left part stays in the hand. It
+    // is refused where the hand has no node to split.
     fn push<J: Judge>(&mut self, judge: &J) -> Result<(), StepError>
         requires { HoldsValid (J.rules judge.now) self.old }
         ensures ok { OnOk result (Pushes (J.rules judge.now) self.old self.new) }
@@ -105,7 +108,8 @@ impl Worker {
         Ok(())
     }
 
-    // Splits the node in the hand and puts its right part on top of the local stack.
+    // Splits the node in the hand: the right part goes on top of the local stack, the left part stays in the hand. It
+    // is refused where the hand has no node to split.
     fn keep<J: Judge>(&mut self, judge: &J) -> Result<(), StepError>
         requires { HoldsValid (J.rules judge.now) self.old }
         ensures ok { OnOk result (Keeps (J.rules judge.now) self.old self.new) }
@@ -122,7 +126,7 @@ impl Worker {
         Ok(())
     }
 
-    // Takes the front of the deque into the empty hand.
+    // Takes the front of the deque into the empty hand. It is refused where the hand is not empty, or the deque is.
     fn pop(&mut self) -> Result<(), StepError>
         ensures ok { OnOk result (Pops self.old self.new) }
         ensures refused { OnErr result (IsStuck Pops self.old) }
@@ -138,7 +142,8 @@ impl Worker {
         Ok(())
     }
 
-    // Takes the top of the local stack into the empty hand.
+    // Takes the top of the local stack into the empty hand. It is refused where the hand is not empty, or the stack
+    // is.
     fn take_kept(&mut self) -> Result<(), StepError>
         ensures ok { OnOk result (TakesKept self.old self.new) }
         ensures refused { OnErr result (IsStuck TakesKept self.old) }
@@ -154,14 +159,14 @@ impl Worker {
         Ok(())
     }
 
-    /// Whether its hand is empty.
+    /// Tells whether the hand is empty.
     pub fn is_free(&self) -> bool
         ensures { IsTrue result ↔ (self.now.hand ≡ None) }
     {
         self.hand.is_none()
     }
 
-    /// Hands out the front of the deque.
+    /// Hands out the node at the front of the deque, or none where the deque is empty.
     pub fn give_up(&mut self) -> Option<Node>
         ensures some { IfSome result (λ n. GivesUp n self.old self.new) }
         ensures none { IfNone result ((n : Node) (y : Holding) → ¬ GivesUp n self.old y) }
@@ -178,7 +183,7 @@ impl Worker {
         self.hand = Some(node);
     }
 
-    /// The leaf that the node in the hand is, if it is not to be split.
+    /// Returns the leaf that the node in the hand is. None where the hand is empty or the node is to be split.
     pub fn leaf<J: Judge>(&self, judge: &J) -> Option<Leaf>
         requires { HoldsValid (J.rules judge.now) self.now }
         ensures some { IfSome result (λ l. HoldsLeaf (J.rules judge.now) self.now l) }

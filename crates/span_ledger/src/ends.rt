@@ -1,4 +1,4 @@
-// Making a ledger with its seats, and closing it.
+// The making of a ledger with its seats, and its closing.
 ghost use Rattle.std.specs.Prelude.{◌≡◌, ◌≢◌, ◌<◌, ◌≤◌, length, min, IfOk, IfErr, All};
 ghost use Rattle.spec_pool.specs.History.{Sound, terms_of};
 ghost use Rattle.span_ledger.specs.Seats.{AllFit, AreNew, IsMissing, IsSeatOf, part, terms};
@@ -10,11 +10,12 @@ use spec_pool::{CloseError, LedgerTerms, Memory};
 use spec_trees::{Book, Node};
 use std::alloc::Global;
 
+// The slot of the table that holds the book.
 const BOOK: usize = 0;
 
 impl SpanLedger {
-    /// An empty ledger for leaves of a root, of at most `limit` of them, and its 1 to 64 seats, whose numbers are their
-    /// places.
+    /// Makes an empty ledger for at most `limit` leaves of a root, and its 1 to 64 seats, whose numbers are their
+    /// places. The only error is out of memory.
     pub fn new(
         alloc: Global,
         root: Node,
@@ -58,8 +59,8 @@ impl SpanLedger {
         ))
     }
 
-    /// Takes all seats back and hands out the book, or returns how many were given where they are not all. It does not
-    /// allocate.
+    /// Takes all seats back and hands out the book. Where the seats are not all there, it returns how many were
+    /// given. It does not allocate.
     pub fn close(self, mut seats: Vec<LedgerSeat>) -> Result<Book, CloseError>
         requires { All (IsSeatOf self) seats.items }
         ensures root { IfOk result (λ book. book.root ≡ (terms self).root) }
@@ -98,7 +99,8 @@ impl SpanLedger {
     }
 }
 
-// A count as a number of 32 bits; a greater one, which no ledger has seats for, is the greatest of these.
+// Returns a count as a number of 32 bits, and the greatest such number for a greater count, which no ledger has seats
+// for.
 fn capped(count: usize) -> u32
     ensures { result ≡ min count 4294967295 }
 {
@@ -106,7 +108,7 @@ fn capped(count: usize) -> u32
 }
 
 impl LedgerSeat {
-    /// The seat's number.
+    /// Returns the seat's number, below 64.
     pub fn number(&self) -> u32
         ensures number { result ≡ (part self.now).number }
         ensures small { result < 64 }

@@ -1,4 +1,4 @@
-// Entering a leaf under the lock.
+// The entering of a leaf under the lock.
 ghost use Rattle.std.specs.Prelude.{◌≡◌, ◌+◌, ◌<◌, Some, IsTrue, IsFalse};
 ghost use Rattle.spec_trees.specs.declared.book.Booked.{Booked};
 ghost use Rattle.spec_pool.specs.History.{Stands, LiesIn, Tells, Entering, repeated};
@@ -12,13 +12,16 @@ use spec_trees::{Booked, Leaf};
 use std::sync::Wait;
 use std::thread;
 
+// The word of the table that is the lock: 1 where it is taken, any other number where it is free.
 const LOCK: usize = 0;
 
+// The word of the table that counts the entries.
 const COUNT: usize = 1;
 
+// The slot of the table that holds the book.
 const BOOK: usize = 0;
 
-// Tries to take the lock, and the book with it.
+// Tries once to take the lock, and the book with it. False where another seat has it.
 fn try_lock(ledger: &SpanLedger, raw: &mut Raw) -> bool
     requires ours { raw.old.table_id ≡ ledger.now.table.shared.table_id }
     requires idle { IsIdle raw.old.me }
@@ -29,7 +32,8 @@ fn try_lock(ledger: &SpanLedger, raw: &mut Raw) -> bool
     ledger.table.shared.swap::<Lock>(raw, LOCK, 1) != 1
 }
 
-// Writes an entry into the book that the seat holds, unless it stands there or may not.
+// Writes an entry into the book that the seat holds. Where the leaf stands already, the limit is reached or memory is
+// out, it writes nothing and returns that.
 fn write(ledger: &SpanLedger, raw: &mut Raw, entry: Booked) -> Entry
     requires ours { raw.old.table_id ≡ ledger.now.table.shared.table_id }
     requires held { HasBook raw.old.me }
@@ -73,9 +77,9 @@ fn release(ledger: &SpanLedger, raw: &mut Raw)
     ledger.table.shared.store::<Free>(raw, LOCK, 0);
 }
 
-// Gives them back, and notes that the leaf at a place was to be entered again. The number that the lock holds from then
-// on, the place and 2, is there for the proof alone: no code reads it, and any number but 1 is a lock that is free. The
-// rule of the table learns from it which leaf that was.
+// Gives the lock and the book back, and notes that the leaf at a place was to be entered again. The number that the
+// lock holds from then on, the place and 2, is there for the proof alone: no code reads it, and any number but 1 is a
+// lock that is free. The rule of the table learns from it which leaf that was.
 fn release_again(ledger: &SpanLedger, raw: &mut Raw, place: u32, leaf: Leaf)
     requires ours { raw.old.table_id ≡ ledger.now.table.shared.table_id }
     requires held { HasBook raw.old.me }
@@ -89,7 +93,7 @@ fn release_again(ledger: &SpanLedger, raw: &mut Raw, place: u32, leaf: Leaf)
         .store::<Free>(raw, LOCK, place as u64 + 2);
 }
 
-// Takes the lock, once it is free.
+// Waits until the lock is free, and takes it and the book.
 fn lock<R: Wait>(rt: &R, ledger: &SpanLedger, raw: &mut Raw)
     requires ours { raw.old.table_id ≡ ledger.now.table.shared.table_id }
     requires idle { IsIdle raw.old.me }
@@ -104,7 +108,7 @@ fn lock<R: Wait>(rt: &R, ledger: &SpanLedger, raw: &mut Raw)
     }
 }
 
-// Writes an entry, and gives the lock and the book back.
+// Writes an entry into the book that the seat holds, then gives the lock and the book back.
 fn put(ledger: &SpanLedger, raw: &mut Raw, entry: Booked) -> Entry
     requires ours { raw.old.table_id ≡ ledger.now.table.shared.table_id }
     requires held { HasBook raw.old.me }
@@ -126,6 +130,9 @@ fn put(ledger: &SpanLedger, raw: &mut Raw, entry: Booked) -> Entry
     entered
 }
 
+// Enters a leaf of the root under the seat's number, unless it stands already or as many leaves as the limit stand.
+// Two leaves are the same where their nodes and their marks are. Out of memory comes only of a leaf that does not
+// stand yet and for which the limit leaves room. It waits for the lock.
 impl SpanLedger {
     /// Enters a leaf of the root under the seat's number, unless it stands already or as many leaves as the limit stand.
     /// It waits for the lock. Two leaves are the same where their nodes and their marks are. Out of memory comes only of a

@@ -25,7 +25,7 @@ impl TableRule<Option<Register>, SeatView, LedgerTerms> for Law {
     ghost first = { newcomer };
 }
 
-/// Taking the lock, and the register with it, or finding it taken.
+/// The step that takes the lock, and the register with it, or finds it taken.
 pub struct Lock;
 
 impl Play<Option<Register>, SeatView> for Lock {
@@ -34,7 +34,7 @@ impl Play<Option<Register>, SeatView> for Lock {
     ghost then = { Locks };
 }
 
-/// Entering what the register has gained.
+/// The step that enters what the register has gained.
 pub struct Add;
 
 impl Play<Option<Register>, SeatView> for Add {
@@ -43,8 +43,8 @@ impl Play<Option<Register>, SeatView> for Add {
     ghost then = { Adds };
 }
 
-/// Giving back the register and the lock. The number that is stored, 0 or 2 and the place of a leaf that was to be entered
-/// again, is there for the proof alone.
+/// The step that gives back the register and the lock. The number that is stored, 0 or 2 and the place of a leaf that
+/// was to be entered again, is there for the proof alone.
 pub struct Free;
 
 impl Play<Option<Register>, SeatView> for Free {
@@ -53,7 +53,7 @@ impl Play<Option<Register>, SeatView> for Free {
     ghost then = { Frees };
 }
 
-/// Making seats, and joining them.
+/// The steps that make seats and join them.
 pub struct SeatSplits;
 
 impl Split<SeatView> for SeatSplits {
@@ -72,6 +72,8 @@ impl Join<SeatView> for SeatSplits {
     ghost spent = { nothing };
 }
 
+/// A seat of the table under the ledger.
 pub type Raw = Seat<Option<Register>, SeatView>;
 
+/// The table under the ledger, with the rule `Law`.
 pub type Ledger = Table<Option<Register>, SeatView, LedgerTerms, Law, Global>;

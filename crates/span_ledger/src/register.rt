@@ -1,4 +1,5 @@
-// What lies under the lock: the entries, and beside them where each leaf stands, the sum of the widths and the counts.
+// What lies under the lock: the entries, and beside them an index of the leaves, the sum of their widths and the
+// counts of seats.
 ghost use Rattle.std.specs.Prelude.{◌≡◌, ◌-◌, ◌-ℤ◌, ◌+◌, ◌^◌, ◌<◌, ◌≤◌, [], ◌∷◌, ◌++◌, length, OnOk, OnErr, IfSome, IfNone};
 ghost use Rattle.std.specs.Int.RustNames.{unsigned_abs};
 ghost use Rattle.spec_pool.specs.History.{Fresh, Stands};
@@ -32,6 +33,7 @@ impl Model for Register {
     ghost invariant = { λ r. Registered r.entries.items r.index r.width r.counts };
 }
 
+// Returns the number of a mark, by which the index tells marks apart.
 fn mark_number(mark: Mark) -> u32
     ensures { result ≡ mark_number mark }
 {
@@ -43,7 +45,7 @@ fn mark_number(mark: Mark) -> u32
     }
 }
 
-// A leaf as the index orders it.
+// Returns the key of a leaf in the index: its ends, its depth and the number of its mark.
 fn leaf_key(leaf: Leaf) -> ((i64, i64), (u32, u32))
     ensures { result ≡ key_of leaf }
 {
@@ -53,6 +55,7 @@ fn leaf_key(leaf: Leaf) -> ((i64, i64), (u32, u32))
     )
 }
 
+// Returns the width of a leaf: the distance between its ends, in the units of its times.
 fn leaf_width(leaf: Leaf) -> u128
     ensures value { result ≡ unsigned_abs (leaf.node.b -ℤ leaf.node.a) }
     ensures bound { result ≤ 2 ^ 64 }
@@ -61,7 +64,7 @@ fn leaf_width(leaf: Leaf) -> u128
 }
 
 impl Register {
-    /// A register with no entries.
+    /// Makes a register without entries.
     pub fn new(alloc: Global) -> Register
         ensures { result ≡ [] }
     {
@@ -74,14 +77,14 @@ impl Register {
         }
     }
 
-    /// The number of entries.
+    /// Returns the number of entries.
     pub fn len(&self) -> usize
         ensures { result ≡ length self.now }
     {
         self.entries.len()
     }
 
-    /// Where a leaf stands, by one look-up in the index.
+    /// Returns the place of a leaf among the entries, by one look-up in the index, or none.
     pub fn find(&self, leaf: Leaf) -> Option<u32>
         ensures some { IfSome result (λ place. Stands leaf self.now place) }
         ensures none { IfNone result (Fresh leaf self.now) }
@@ -89,7 +92,7 @@ impl Register {
         self.index.get(&leaf_key(leaf)).copied()
     }
 
-    /// Adds an entry at the end. Out of memory, the register is as before.
+    /// Appends an entry. Where memory is out, the register is as before.
     pub fn add(&mut self, entry: Booked) -> Result<(), AllocError>
         requires fresh { Fresh entry.leaf self.old }
         requires room { length self.old < 2 ^ 32 - 1 }
@@ -111,7 +114,7 @@ impl Register {
         Ok(())
     }
 
-    /// The entries in order of arrival.
+    /// Returns the entries in order of arrival.
     pub fn into_entries(self) -> Vec<Booked>
         ensures { result.items ≡ self }
     {

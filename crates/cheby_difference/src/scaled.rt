@@ -14,15 +14,15 @@ use spec_chebyshev::Ival62;
 /// The exponent of 2 of a sum of coefficients, in the unit of distances, times entries of the row of Q.
 const POSITION_STEP_EXPONENT: i32 = DISTANCE_EXPONENT - Q_UNIT;
 
-/// That of a sum over the row of U.
+/// The exponent of 2 of a sum of coefficients, in the unit of distances, times entries of the row of U.
 const VELOCITY_EXPONENT: i32 = DISTANCE_EXPONENT - U_UNIT;
 
-/// That of a sum over the row of R.
+/// The exponent of 2 of a sum of coefficients, in the unit of distances, times entries of the row of R.
 const VELOCITY_STEP_EXPONENT: i32 = DISTANCE_EXPONENT - R_UNIT;
 
-/// The interval of the changes of a coordinate from each time to the next, in km, over the arguments `x`: the sum of the
-/// products of its terms with the row of Q, the divided differences of T, times the `2 / seconds` that an argument gains
-/// in a second. The divider is that of the granule's seconds.
+/// Returns the interval of the changes of a coordinate from each time to the next, in km, over the arguments `x`. It
+/// is the sum of the products of its terms with the row of Q, the divided differences of T, times the `2 / seconds`
+/// that an argument gains in a second. The divider is that of the granule's seconds.
 #[inline(always)]
 pub fn position_step_over_row(
     terms: &AxisCoefficients,
@@ -38,8 +38,8 @@ pub fn position_step_over_row(
     Ival::scale_by(sum.lo, sum.hi, POSITION_STEP_EXPONENT, divider)
 }
 
-/// The interval of the velocity along one axis, in km per second: the derivative of JPL's sum, by `T_k' = k U_(k-1)`, as
-/// the sum of k C_k U_(k-1) times `2 / seconds`. The row is that of slopes, of `fill_slopes`.
+/// Returns the interval of the velocity along one axis, in km per second: the derivative of JPL's sum. By `T_k' = k
+/// U_(k-1)` it is the sum of k C_k U_(k-1) times `2 / seconds`. The row is that of slopes, of `fill_slopes`.
 #[inline(always)]
 pub fn velocity_over_row(
     terms: &AxisCoefficients,
@@ -55,9 +55,9 @@ pub fn velocity_over_row(
     Ival::scale_by(sum.lo, sum.hi, VELOCITY_EXPONENT, divider)
 }
 
-/// The interval of the changes of the velocity along one axis from each time to the next, in km per second: the sum of
-/// k C_k R_(k-1), with the divided differences R of U, times `2 / seconds` twice and normalized once. The row is that of
-/// the changes of slopes, of `fill_slopes_and_changes`.
+/// Returns the interval of the changes of the velocity along one axis from each time to the next, in km per second.
+/// It is the sum of k C_k R_(k-1), with the divided differences R of U, times `2 / seconds` twice and normalized
+/// once. The row is that of the changes of slopes, of `fill_slopes_and_changes`.
 #[inline(always)]
 pub fn velocity_step_over_row(
     terms: &AxisCoefficients,
@@ -73,7 +73,7 @@ pub fn velocity_step_over_row(
     Ival::scale_by(sum.lo, sum.hi, VELOCITY_STEP_EXPONENT, divider)
 }
 
-// 2 / seconds times both ends, rounded outward and not normalized.
+// Returns both ends times `2 / seconds`, rounded outward and not normalized.
 #[inline(always)]
 fn once_scaled(sum: WideEnds, divider: &Divider) -> WideEnds
     requires lo_size { unsigned_abs sum.lo < 2 ^ 125 }
@@ -90,7 +90,7 @@ fn once_scaled(sum: WideEnds, divider: &Divider) -> WideEnds
     }
 }
 
-// `floor(2 z / seconds)`.
+// Returns `floor(2 z / seconds)`.
 #[inline(always)]
 fn share_down(z: i128, divider: &Divider) -> i128
     requires size { unsigned_abs z < 2 ^ 125 }
@@ -101,7 +101,7 @@ fn share_down(z: i128, divider: &Divider) -> i128
     divider.down(2 * z)
 }
 
-// `ceil(2 z / seconds)`.
+// Returns `ceil(2 z / seconds)`.
 #[inline(always)]
 fn share_up(z: i128, divider: &Divider) -> i128
     requires size { unsigned_abs z < 2 ^ 125 }

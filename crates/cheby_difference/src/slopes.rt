@@ -1,4 +1,4 @@
-// Rows of the derivatives of the polynomials, and of the divided differences of these.
+// Rows of the polynomials' derivatives, and of the divided differences of these.
 ghost use Rattle.std.specs.Prelude.{◌≡◌, ℕ, suc, ◌<◌, ◌≤◌, ◌*◌, ◌^◌, unsigned_abs};
 ghost use Rattle.spec_chebyshev.specs.Rows.{u_row, r_row, entry, IsArguments};
 ghost use Rattle.spec_motions.specs.RowSizes.{entry_size};
@@ -8,8 +8,8 @@ ghost use Rattle.cheby_difference.specs.Slopes.{AreSlopes};
 use cheby_laws::{Row, fill_u, fill_ur};
 use spec_chebyshev::Ival62;
 
-/// Writes what sums over `n` terms take of the row of slopes, `n - 1` entries. By `T_k' = k U_(k-1)` entry `k` is that of
-/// degree `k + 1`, `(k + 1) U_k`, in units of 2^-50.
+/// Writes the row of slopes as far as sums over `n` terms read it: `n - 1` entries. By `T_k' = k U_(k-1)` entry `k`
+/// is that of degree `k + 1`, `(k + 1) U_k`, in units of 2^-50.
 #[inline(always)]
 pub fn fill_slopes(x: Ival62, n: usize, slopes: &mut Row)
     requires n_in { n ≤ 32 }
@@ -21,8 +21,8 @@ pub fn fill_slopes(x: Ival62, n: usize, slopes: &mut Row)
     multiply_by_degrees(entries, slopes);
 }
 
-/// Writes both that row and the row of the divided differences of slopes, whose entry `k` is `(k + 1) R_k`, in units of
-/// 2^-44.
+/// Writes the row of slopes, as `fill_slopes` does, and the row of their divided differences, whose entry `k` is `(k
+/// + 1) R_k`, in units of 2^-44.
 #[inline(always)]
 pub fn fill_slopes_and_changes(x: Ival62, n: usize, slopes: &mut Row, changes: &mut Row)
     requires n_in { n ≤ 32 }
@@ -36,7 +36,8 @@ pub fn fill_slopes_and_changes(x: Ival62, n: usize, slopes: &mut Row, changes: &
     multiply_by_degrees(entries, changes);
 }
 
-// Entry 0 once, entry 1 twice, and so on for the first entries of a row, which begins with that of degree 1.
+// Multiplies the first entries of a row, which starts with degree 1, by their degrees: entry 0 by 1, entry 1 by 2,
+// and so on.
 #[inline(always)]
 fn multiply_by_degrees(entries: usize, row: &mut Row)
     requires few { entries ≤ 32 }
@@ -48,7 +49,7 @@ fn multiply_by_degrees(entries: usize, row: &mut Row)
     }
 }
 
-// The multiple of an entry.
+// Returns an entry times a degree.
 #[inline(always)]
 fn multiple(degree: usize, e: Ival62) -> Ival62
     requires few { degree ≤ 32 }

@@ -10,7 +10,7 @@ use eph_model::Granule;
 use ival_core::Divider;
 use spec_chebyshev::Ival62;
 
-// The terms of an axis, the arguments of the times from `a` to `b`, and the divider by the granule's seconds.
+// Returns the terms of an axis, the arguments of the times from `a` to `b`, and the divider by the granule's seconds.
 #[inline(always)]
 pub(crate) fn span_parts<'g>(
     g: &Granule<'g>,

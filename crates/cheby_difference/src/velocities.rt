@@ -13,8 +13,8 @@ use cheby_enclose::empty_row;
 use eph_model::Granule;
 use ival_core::Ival;
 
-/// The interval of the velocity of one axis of a granule, in km per second, from time `a` to time `b`, in seconds of TDB
-/// since J2000: the derivative of its Chebyshev series (JPL). Axes are counted from 0.
+/// Returns the interval of the velocity along one axis of a granule, in km per second, from time `a` to time `b`, in
+/// seconds of TDB since J2000: the derivative of its Chebyshev series (JPL). Axes are counted from 0.
 pub fn velocity(g: &Granule, axis: usize, a: i64, b: i64) -> Ival
     requires { IsSpanWithin g.now axis a b }
     ensures equals { result ≡ velocity_interval (series_of g.now axis) a b }
@@ -26,8 +26,9 @@ pub fn velocity(g: &Granule, axis: usize, a: i64, b: i64) -> Ival
     velocity_over_row(&terms, x, &slopes, &divider)
 }
 
-/// The interval of the changes of the velocity of one axis of a granule, in km per second, from each time to the next,
-/// from time `a` to time `b`, in seconds of TDB since J2000. Over one time nothing changes. Axes are counted from 0.
+/// Returns the interval of the changes of the velocity along one axis of a granule, in km per second, from each time
+/// to the next, from time `a` to time `b`, in seconds of TDB since J2000. Over one time nothing changes. Axes are
+/// counted from 0.
 pub fn velocity_step(g: &Granule, axis: usize, a: i64, b: i64) -> Ival
     requires { IsSpanWithin g.now axis a b }
     ensures equals { result ≡ velocity_step_interval (series_of g.now axis) a b }

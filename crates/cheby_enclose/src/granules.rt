@@ -1,4 +1,4 @@
-// Where the times of a span stand in a granule.
+// The place of a span's times in a granule, and the test of a granule.
 ghost use Rattle.std.specs.Prelude.{◌≡◌, ℕ, ◌≤◌, ◌*◌, ◌^◌, ◌≤ℤ◌, ◌+ℤ◌, ◌-ℤ◌, ◌*ℤ◌, neg_ℤ, pos, unsigned_abs, ◌↔◌, All, IsTrue, map};
 ghost use Rattle.spec_chebyshev.specs.Rows.{IsArguments};
 ghost use Rattle.spec_motions.specs.Enclosures.{arguments};
@@ -14,8 +14,8 @@ use ival_core::{Divider, is_distance};
 use spec_chebyshev::Ival62;
 use spec_text::Decimal;
 
-/// The arguments of the polynomials from time `a` to time `b`, in seconds of TDB since J2000, rounded outward in units of
-/// 2^-60. They go from -1 at the granule's start to 1 at its end.
+/// Returns the arguments of the polynomials from time `a` to time `b`, in seconds of TDB since J2000, rounded outward
+/// in units of 2^-60. They go from -1 at the granule's start to 1 at its end.
 pub fn arguments(g: &Granule, a: i64, b: i64) -> Ival62
     requires granule { IsEvaluable g.now }
     requires from { g.now.start ≤ℤ a }
@@ -27,7 +27,8 @@ pub fn arguments(g: &Granule, a: i64, b: i64) -> Ival62
     arguments_by(g, a, b, &Divider::of(g.seconds))
 }
 
-/// The same, by the divider by the granule's seconds, which is made once for all spans of a column.
+/// Returns the arguments from time `a` to time `b`, as `arguments` does, by the divider by the granule's seconds. It
+/// is made once for all spans of a column.
 #[inline(always)]
 pub fn arguments_by(g: &Granule, a: i64, b: i64, divider: &Divider) -> Ival62
     requires granule { IsEvaluable g.now }
@@ -45,7 +46,8 @@ pub fn arguments_by(g: &Granule, a: i64, b: i64, divider: &Divider) -> Ival62
     )
 }
 
-/// The argument of one time, rounded outward: that of `arguments` from this time to itself, by one division.
+/// Returns the argument of one time, rounded outward in units of 2^-60, by one division. It is that of `arguments`
+/// from this time to itself.
 #[inline(always)]
 pub fn argument_at(g: &Granule, t: i64, divider: &Divider) -> Ival62
     requires granule { IsEvaluable g.now }
@@ -58,9 +60,10 @@ pub fn argument_at(g: &Granule, t: i64, divider: &Divider) -> Ival62
     argument_of(numerator(t, g.start, g.seconds), divider)
 }
 
-/// Whether a granule can be evaluated: the test of what the calls here, and those of velocities and changes, require of
-/// one. It has from 1 to 32 coefficients for each component, each a whole number of units of 10^-140 km and below 2^36 km
-/// in magnitude, and beside them their pairs; it takes from 1 to 2^40 seconds, and begins at most 2^50 seconds from J2000.
+/// Tells whether a granule can be evaluated: the test of what the calls here, and those of velocities and changes,
+/// require of one. It has from 1 to 32 coefficients for each component, each a whole number of units of 10^-140 km
+/// and below 2^36 km in magnitude, and beside them their rounded pairs. It takes from 1 to 2^40 seconds, and starts
+/// at most 2^50 seconds from J2000.
 pub fn is_evaluable(g: &Granule) -> bool
     ensures { IsTrue result ↔ IsEvaluable g.now }
 {
@@ -76,14 +79,14 @@ pub fn is_evaluable(g: &Granule) -> bool
     are_body_numbers(g.coefs) && are_pairs(g.coefs, g.rounded)
 }
 
-// Whether a component may have so many coefficients.
+// Tells whether a component may have this many coefficients: 1 to 32.
 fn is_count(n: usize) -> bool
     ensures { IsTrue result ↔ ((1 ≤ n) × (n ≤ 32)) }
 {
     1 <= n && n <= 32
 }
 
-// Whether so many numbers are rows of n.
+// Tells whether a number of numbers makes `rows` rows of `n`.
 fn are_rows(numbers: usize, rows: usize, n: usize) -> bool
     requires { 1 ≤ n }
     ensures { IsTrue result ↔ (numbers ≡ rows * n) }
@@ -91,7 +94,7 @@ fn are_rows(numbers: usize, rows: usize, n: usize) -> bool
     numbers % n == 0 && numbers / n == rows
 }
 
-// Whether a granule may begin then and take so long.
+// Tells whether a granule may start at this time and take this many seconds.
 fn is_time(start: i64, seconds: i64) -> bool
     ensures { IsTrue result
         ↔ ((unsigned_abs start ≤ 2 ^ 50) × (pos 1 ≤ℤ seconds) × (seconds ≤ℤ pos (2 ^ 40))) }
@@ -99,20 +102,22 @@ fn is_time(start: i64, seconds: i64) -> bool
     start.unsigned_abs() <= 1 << 50 && 1 <= seconds && seconds <= 1 << 40
 }
 
-// Whether all are coefficients of a body.
+// Tells whether all numbers can be coefficients of a body.
 fn are_body_numbers(coefs: &[Decimal]) -> bool
     ensures { IsTrue result ↔ All IsBodyNumber coefs.now }
 {
     coefs.iter().all(|c| is_body_number(*c))
 }
 
+// Tells whether a number can be a coefficient of a body: below 2^36 km in magnitude, and a whole number of units of
+// 10^-140 km.
 fn is_body_number(c: Decimal) -> bool
     ensures { IsTrue result ↔ IsBodyNumber c }
 {
     is_distance(c.mant, c.exp) && -140 <= c.exp
 }
 
-// Whether the pairs are those of the coefficients, in the same order.
+// Tells whether the pairs are the rounded coefficients, in the same order.
 fn are_pairs(coefs: &[Decimal], pairs: &[Rounded]) -> bool
     requires { All IsBodyNumber coefs.now }
     ensures { IsTrue result ↔ (pairs.now ≡ map pair_of coefs.now) }
@@ -128,6 +133,7 @@ fn are_pairs(coefs: &[Decimal], pairs: &[Rounded]) -> bool
     true
 }
 
+// Tells whether a pair is the rounded coefficient.
 fn is_pair(c: Decimal, pair: Rounded) -> bool
     requires { IsDistance c.mant c.exp }
     ensures { IsTrue result ↔ (pair ≡ pair_of c) }
@@ -136,7 +142,7 @@ fn is_pair(c: Decimal, pair: Rounded) -> bool
     own.lo == pair.lo && own.hi == pair.hi
 }
 
-// u of a time, whose argument is u / seconds.
+// Returns the numerator of a time's argument, over the granule's seconds.
 fn numerator(t: i64, start: i64, seconds: i64) -> i64
     requires start { unsigned_abs start ≤ 2 ^ 50 }
     requires long { pos 1 ≤ℤ seconds }

@@ -19,7 +19,7 @@ use spec_chebyshev::Ival62;
 /// The exponent of 2 of a sum of coefficients, in the unit of distances, times entries of the row of T.
 const POSITION_EXPONENT: i32 = DISTANCE_EXPONENT - T_UNIT;
 
-/// A row with no entry made: every entry is 0.
+/// Returns a row of zeros, to be filled.
 #[inline(always)]
 pub fn empty_row() -> Row
     ensures { result ≡ no_row }
@@ -27,8 +27,8 @@ pub fn empty_row() -> Row
     [Ival62 { lo: 0, hi: 0 }; 32]
 }
 
-/// The interval of a coordinate, in km, over the arguments `x`: JPL's sum of `c_k T_k(x)`, as the sum of the products of
-/// the terms with the row of T in 128 bits, normalized once to ends of at most 2^62 in magnitude.
+/// Returns the interval of a coordinate, in km, over the arguments `x`. It is JPL's sum of `c_k T_k(x)`: the sum of
+/// the products of the terms with the row of T in 128 bits, normalized once to ends of at most 2^62 in magnitude.
 #[inline(always)]
 pub fn position_over_row(terms: &AxisCoefficients, x: Ival62, t: &Row) -> Ival
     requires arguments { IsArguments x }
@@ -39,9 +39,9 @@ pub fn position_over_row(terms: &AxisCoefficients, x: Ival62, t: &Row) -> Ival
     Ival::of(sum.lo, sum.hi, POSITION_EXPONENT)
 }
 
-/// The interval of one coordinate of a granule, in km, from time `a` to time `b`, in seconds of TDB since J2000: it holds
-/// JPL's Chebyshev sum at each of these times. Axes are counted from 0. Over one time it is at most the sum of
-/// `|c_k| 3^(k+1) 2^-59`, and `(n + 2) 2^-23`, km wide.
+/// Returns the interval of one coordinate of a granule, in km, from time `a` to time `b`, in seconds of TDB since
+/// J2000. It holds JPL's Chebyshev sum at each of these times. Axes are counted from 0. Over one time it is at most
+/// the sum of `|c_k| 3^(k+1) 2^-59`, and `(n + 2) 2^-23`, km wide.
 pub fn position(g: &Granule, axis: usize, a: i64, b: i64) -> Ival
     requires { IsSpanWithin g.now axis a b }
     ensures equals { result ≡ position_interval (series_of g.now axis) a b }

@@ -1,4 +1,4 @@
-// Sums of the intervals of coefficients times the entries of a row.
+// Sums of the products of coefficients, as intervals, with the entries of a row.
 ghost use Rattle.std.specs.Prelude.{◌≡◌, ◌≤◌, ◌<◌, ◌-◌, ◌^◌, length, map, drop, unsigned_abs, ◌+ℤ◌, ◌*ℤ◌, ◌≤ℤ◌};
 ghost use Rattle.std.specs.Int.{int_min, int_max};
 ghost use Rattle.spec_intervals.specs.Interval.{least4, greatest4};
@@ -21,8 +21,8 @@ pub struct WideEnds {
     pub hi: i128,
 }
 
-/// The sum of the products of the terms with the entries of a row, C_0 X_0 + C_1 X_1 + .., in units of 2^-24 times the
-/// row's.
+/// Returns the sum of the products of the terms with the entries of a row, C_0 X_0 + C_1 X_1 + .., in units of 2^-24
+/// times the row's.
 #[inline(always)]
 pub fn row_sum(terms: &AxisCoefficients, row: &Row) -> WideEnds
     requires small { length terms.now ≤ 32 → IsSmallRow row.now (length terms.now) }
@@ -35,8 +35,8 @@ pub fn row_sum(terms: &AxisCoefficients, row: &Row) -> WideEnds
     sum_of_products(terms.pairs, row)
 }
 
-/// The sum of the products of the terms but the first with the entries of a row, C_1 X_0 + C_2 X_1 + .., in units of 2^-24
-/// times the row's.
+/// Returns the sum of the products of all terms but the first with the entries of a row, C_1 X_0 + C_2 X_1 + .., in
+/// units of 2^-24 times the row's.
 #[inline(always)]
 pub fn slope_sum(terms: &AxisCoefficients, row: &Row) -> WideEnds
     requires small { length terms.now ≤ 32
@@ -50,7 +50,7 @@ pub fn slope_sum(terms: &AxisCoefficients, row: &Row) -> WideEnds
     sum_of_products(after_first(terms.pairs), row)
 }
 
-// All pairs but the first.
+// Returns all pairs but the first. The empty slice stays empty.
 #[inline(always)]
 fn after_first(pairs: &[Rounded]) -> &[Rounded]
     ensures { result.now ≡ drop 1 pairs.now }
@@ -58,6 +58,7 @@ fn after_first(pairs: &[Rounded]) -> &[Rounded]
     &pairs[pairs.len().min(1)..]
 }
 
+// Returns the sum of the products of pairs, as intervals, with the entries of a row, by its two ends.
 #[inline(always)]
 fn sum_of_products(pairs: &[Rounded], row: &Row) -> WideEnds
     requires pairs { ArePairs pairs.now }
@@ -75,8 +76,9 @@ fn sum_of_products(pairs: &[Rounded], row: &Row) -> WideEnds
     sum
 }
 
-// The least and the greatest product of two ends. A pair has one sign, since its ends are the floor and the ceiling of one
-// number, so that two multiplications are made; the last case is none of a pair.
+// Returns the least and the greatest product of a number of a pair with a number of an entry. A pair has one sign,
+// since its ends are the floor and the ceiling of one number, so two multiplications do. The last case comes with no
+// pair.
 #[inline(always)]
 fn product(c: Rounded, e: Ival62) -> WideEnds
     requires pair { IsPair c }
@@ -95,7 +97,7 @@ fn product(c: Rounded, e: Ival62) -> WideEnds
     }
 }
 
-// The lesser of the products of both ends of a pair with one number, and the greater of those with another.
+// Returns the lesser product of a pair's ends with `x`, and the greater product of its ends with `y`.
 #[inline(always)]
 fn lesser_and_greater(c: Rounded, x: i64, y: i64) -> WideEnds
     requires pair { IsPair c }
@@ -110,7 +112,7 @@ fn lesser_and_greater(c: Rounded, x: i64, y: i64) -> WideEnds
     }
 }
 
-// The end of a pair whose product with a number is the lesser, and the one whose product is the greater.
+// Returns a pair's ends in the order of their products with a number: the one with the lesser product first.
 #[inline(always)]
 fn ends_by_number(c: Rounded, z: i64) -> (i64, i64)
     requires pair { IsPair c }
@@ -122,7 +124,7 @@ fn ends_by_number(c: Rounded, z: i64) -> (i64, i64)
     if z < 0 { (c.hi, c.lo) } else { (c.lo, c.hi) }
 }
 
-// The product of an end of a pair and one of an entry, by one multiplication of 64-bit numbers.
+// Returns the product of an end of a pair and an end of an entry, by one multiplication of 64-bit numbers.
 #[inline(always)]
 fn times(c: i64, e: i64) -> i128
     requires { unsigned_abs c ≤ 2 ^ 60 }
@@ -131,7 +133,7 @@ fn times(c: i64, e: i64) -> i128
     c as i128 * e as i128
 }
 
-// The sums of the low ends and of the high ends.
+// Returns the sum of two intervals in 128 bits, end by end.
 #[inline(always)]
 fn added(one: WideEnds, other: WideEnds) -> WideEnds
     requires one_lo { unsigned_abs one.lo ≤ 2 ^ 125 }

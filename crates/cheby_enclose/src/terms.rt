@@ -8,8 +8,8 @@ ghost use Rattle.spec_ephemeris.specs.Granules.{series_of};
 use eph_model::{Granule, Rounded};
 use std::marker::Model;
 
-/// The coefficients of one axis of a granule as intervals, in units of 2^-24 km: that of T_0 first. They are the granule's
-/// own pairs, of which nothing is copied, and serve all spans within the granule.
+/// The coefficients of one axis of a granule as intervals, in units of 2^-24 km, from that of T_0 on. They are the
+/// granule's own pairs, of which nothing is copied, and serve all spans within the granule.
 #[derive(Drop)]
 pub struct AxisCoefficients<'g> {
     pub(crate) pairs: &'g [Rounded],
@@ -28,7 +28,7 @@ impl<'g> Model for AxisCoefficients<'g> {
 }
 
 impl<'g> AxisCoefficients<'g> {
-    /// The intervals of the coefficients of an axis, counted from 0.
+    /// Returns the intervals of the coefficients of an axis, counted from 0.
     #[inline(always)]
     pub fn of(g: &Granule<'g>, axis: usize) -> AxisCoefficients<'g>
         requires granule { IsEvaluable g.now }
@@ -40,6 +40,7 @@ impl<'g> AxisCoefficients<'g> {
         AxisCoefficients::of_pairs(&g.rounded[from..from + g.n])
     }
 
+    // Returns the intervals of these rounded pairs.
     #[inline(always)]
     fn of_pairs(pairs: &'g [Rounded]) -> AxisCoefficients<'g>
         requires { ArePairs pairs.now }

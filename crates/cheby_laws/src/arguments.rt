@@ -9,10 +9,9 @@ use spec_chebyshev::Ival62;
 /// The number 1 in units of 2^-60.
 const ONE: i128 = 1_152_921_504_606_846_976;
 
-/// The arguments from `ua / seconds` to `ub / seconds`, rounded outward in units of 2^-60.
-///
-/// For a granule of `seconds` that begins at second `g`, the argument of second `t` is `(2 (t - g) - seconds) / seconds`:
-/// it goes from -1 to 1 (Chebyshev arguments of the JPL ephemerides).
+/// Returns the arguments from `ua / seconds` to `ub / seconds`, rounded outward in units of 2^-60.
+/// For a granule of `seconds` that starts at second `g`, the argument of second `t` is `(2 (t - g) - seconds) /
+/// seconds`: it goes from -1 to 1 (Chebyshev arguments of the JPL ephemerides).
 pub fn argument(ua: i64, ub: i64, seconds: i64) -> Ival62
     requires length { pos 1 ≤ℤ seconds }
     requires from_start { neg_ℤ seconds ≤ℤ ua }
@@ -25,7 +24,8 @@ pub fn argument(ua: i64, ub: i64, seconds: i64) -> Ival62
     argument_by(ua, ub, &Divider::of(seconds))
 }
 
-/// The same, by a divider that is made once for all spans of a granule.
+/// Returns the arguments from `ua / seconds` to `ub / seconds`, as `argument` does, by a divider that is made once
+/// for all spans of a granule.
 #[inline(always)]
 pub fn argument_by(ua: i64, ub: i64, divider: &Divider) -> Ival62
     requires length { 1 ≤ divider.now }
@@ -39,7 +39,8 @@ pub fn argument_by(ua: i64, ub: i64, divider: &Divider) -> Ival62
     argument_ends(ua, ub, divider)
 }
 
-/// The argument of one time, `u / seconds`: both ends from one division.
+/// Returns the argument of one time, `u / seconds`, rounded outward in units of 2^-60, with both ends from one
+/// division.
 #[inline(always)]
 pub fn argument_of(u: i64, divider: &Divider) -> Ival62
     requires length { 1 ≤ divider.now }
@@ -52,6 +53,7 @@ pub fn argument_of(u: i64, divider: &Divider) -> Ival62
     one_argument(u, divider)
 }
 
+// Returns the ends of `ua / seconds` and `ub / seconds`, rounded down and up in units of 2^-60.
 #[inline(always)]
 fn argument_ends(ua: i64, ub: i64, divider: &Divider) -> Ival62
     requires length { 1 ≤ divider.now }
@@ -65,6 +67,7 @@ fn argument_ends(ua: i64, ub: i64, divider: &Divider) -> Ival62
     }
 }
 
+// Returns the ends of `u / seconds`, rounded down and up in units of 2^-60, from one division.
 #[inline(always)]
 fn one_argument(u: i64, divider: &Divider) -> Ival62
     requires length { 1 ≤ divider.now }
@@ -78,7 +81,7 @@ fn one_argument(u: i64, divider: &Divider) -> Ival62
     }
 }
 
-/// `u 2^60`.
+/// Returns `u 2^60`.
 #[inline(always)]
 fn scaled(u: i64) -> i128
     ensures equals { result ≡ u *ℤ pos (2 ^ 60) }
@@ -88,7 +91,7 @@ fn scaled(u: i64) -> i128
     u as i128 * ONE
 }
 
-/// A small number in 64 bits.
+/// Returns a number of at most 2^60 in magnitude in 64 bits.
 #[inline(always)]
 fn back(z: i128) -> i64
     requires { unsigned_abs z ≤ 2 ^ 60 }

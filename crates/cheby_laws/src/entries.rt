@@ -9,43 +9,51 @@ ghost use Rattle.cheby_laws.specs.Rules.{IsRecurrence-t, IsRecurrence-u, IsRecur
 use crate::steps::{coarser, next_entry};
 use spec_chebyshev::Ival62;
 
-/// The number 1 in units of 2^-60, of 2^-50, of 2^-46 and of 2^-44.
+/// The number 1 in units of 2^-60, as the row of T counts.
 const T_ONE: i64 = 1_152_921_504_606_846_976;
 
+/// The number 1 in units of 2^-50, as the row of U counts.
 const U_ONE: i64 = 1_125_899_906_842_624;
 
+/// The number 1 in units of 2^-46, as the row of Q counts.
 const Q_ONE: i64 = 70_368_744_177_664;
 
+/// The number 1 in units of 2^-44, as the row of R counts.
 const R_ONE: i64 = 17_592_186_044_416;
 
+/// The interval of 0 alone, in any unit.
 const NOTHING: Ival62 = Ival62 { lo: 0, hi: 0 };
 
-/// A row whose entry `k` is `2 x e_(k-1) + extra - e_(k-2)`, rounded outward and cut to its greatest magnitude. What is
-/// extra is made of entry `k - 1` of a row beside it.
+/// A row whose entry `k` is `2 x e_(k-1) + extra - e_(k-2)`, rounded outward and cut to its greatest magnitude.
+/// `extra` is made of entry `k - 1` of a row beside it.
 pub(crate) trait Recurrence {
     /// The entries over an interval of arguments.
     ghost entries: { Ival62 → ℕ → Ival62 };
 
-    /// Those of the row beside it: of the same row where nothing is added.
+    /// The entries of the row beside it, which is the row itself where nothing is added.
     ghost beside: { Ival62 → ℕ → Ival62 };
 
-    /// What is added for an entry of the row beside.
+    /// The summand that an entry of the row beside gives.
     ghost extra: { Ival62 → Ival62 };
 
     /// The greatest magnitude of entry `k`.
     ghost limit: { ℕ → ℕ };
 
+    // Returns entry 0.
     fn first() -> Ival62
         ensures { (x : Ival62) → result ≡ entries x 0 };
 
+    // Returns entry 1.
     fn second(x: Ival62) -> Ival62
         requires { IsArguments x }
         ensures { result ≡ entries x 1 };
 
+    // Returns the summand that an entry of the row beside gives.
     fn extra(e: Ival62) -> Ival62
         requires { EndsWithin (2 ^ 60) e }
         ensures { result ≡ extra e };
 
+    // Returns the greatest magnitude of entry `k`, in the unit of the row.
     fn limit(k: usize) -> u64
         requires { k < 32 }
         ensures { result ≡ limit k };
@@ -68,21 +76,25 @@ impl Recurrence for FirstKind {
 
     ghost rule = { IsRecurrence-t };
 
+    // Returns 1, which is T_0.
     #[inline(always)]
     fn first() -> Ival62 {
         exactly(T_ONE)
     }
 
+    // Returns x, which is T_1.
     #[inline(always)]
     fn second(x: Ival62) -> Ival62 {
         x
     }
 
+    // Returns 0: nothing is added.
     #[inline(always)]
     fn extra(_e: Ival62) -> Ival62 {
         NOTHING
     }
 
+    // Returns 1, the greatest magnitude of every T_k.
     #[inline(always)]
     fn limit(_k: usize) -> u64 {
         T_ONE as u64
@@ -104,21 +116,25 @@ impl Recurrence for SecondKind {
 
     ghost rule = { IsRecurrence-u };
 
+    // Returns 1, which is U_0.
     #[inline(always)]
     fn first() -> Ival62 {
         exactly(U_ONE)
     }
 
+    // Returns 2 x, which is U_1, in the coarser unit of its row.
     #[inline(always)]
     fn second(x: Ival62) -> Ival62 {
         coarser(x, 9)
     }
 
+    // Returns 0: nothing is added.
     #[inline(always)]
     fn extra(_e: Ival62) -> Ival62 {
         NOTHING
     }
 
+    // Returns k + 1, the greatest magnitude of U_k.
     #[inline(always)]
     fn limit(k: usize) -> u64 {
         (k as u64 + 1) * U_ONE as u64
@@ -140,21 +156,25 @@ impl Recurrence for FirstDifferences {
 
     ghost rule = { IsRecurrence-q };
 
+    // Returns 0, which is Q_0.
     #[inline(always)]
     fn first() -> Ival62 {
         NOTHING
     }
 
+    // Returns 1, which is Q_1.
     #[inline(always)]
     fn second(_x: Ival62) -> Ival62 {
         exactly(Q_ONE)
     }
 
+    // Returns 2 T_(k-1), from T_(k-1), in the coarser unit of the row of Q.
     #[inline(always)]
     fn extra(e: Ival62) -> Ival62 {
         coarser(e, 13)
     }
 
+    // Returns k^2, the greatest magnitude of Q_k.
     #[inline(always)]
     fn limit(k: usize) -> u64 {
         (k * k) as u64 * Q_ONE as u64
@@ -176,28 +196,32 @@ impl Recurrence for SecondDifferences {
 
     ghost rule = { IsRecurrence-r };
 
+    // Returns 0, which is R_0.
     #[inline(always)]
     fn first() -> Ival62 {
         NOTHING
     }
 
+    // Returns 2, which is R_1.
     #[inline(always)]
     fn second(_x: Ival62) -> Ival62 {
         exactly(2 * R_ONE)
     }
 
+    // Returns 2 U_(k-1), from U_(k-1), in the coarser unit of the row of R.
     #[inline(always)]
     fn extra(e: Ival62) -> Ival62 {
         coarser(e, 5)
     }
 
+    // Returns k (k + 1) (k + 2) / 3, the greatest magnitude of R_k.
     #[inline(always)]
     fn limit(k: usize) -> u64 {
         (k * (k + 1) * (k + 2) / 3) as u64 * R_ONE as u64
     }
 }
 
-/// Entry `k` of a row, from the two before it and entry `k - 1` of the row beside it.
+/// Returns entry `k` of a row, from the two entries before it and entry `k - 1` of the row beside it.
 #[inline(always)]
 pub(crate) fn next_in_row<R: Recurrence>(
     x: Ival62,
@@ -217,7 +241,7 @@ pub(crate) fn next_in_row<R: Recurrence>(
     next_entry(x, last, R::extra(beside), before, R::limit(k))
 }
 
-/// The interval of one number.
+/// Returns the interval of one number.
 #[inline(always)]
 fn exactly(z: i64) -> Ival62
     ensures { result ≡ ends z z }

@@ -11,16 +11,16 @@ use spec_chebyshev::Ival62;
 /// Entries for up to 32 coefficients; entry `k` belongs to degree `k`.
 pub type Row = [Ival62; 32];
 
-/// Entries of the row of `T` are in units of 2^-60, as arguments are.
+/// The exponent of the unit of the row of `T`, negated: entries count in units of 2^-60, as arguments do.
 pub const T_UNIT: i32 = 60;
 
-/// Those of the row of `U`, which grow with the degree, are in units of 2^-50.
+/// The exponent of the unit of the row of `U`, negated: entries grow with the degree, and count in units of 2^-50.
 pub const U_UNIT: i32 = 50;
 
-/// Those of the row of `Q`, the divided differences of `T`, are in units of 2^-46.
+/// The exponent of the unit of the row of `Q`, the divided differences of `T`, negated: units of 2^-46.
 pub const Q_UNIT: i32 = 46;
 
-/// Those of the row of `R`, the divided differences of `U`, are in units of 2^-44.
+/// The exponent of the unit of the row of `R`, the divided differences of `U`, negated: units of 2^-44.
 pub const R_UNIT: i32 = 44;
 
 /// Writes the first `n` entries of the row of `T`, as `basis_t` does.
@@ -71,7 +71,7 @@ pub fn fill_ur(x: Ival62, n: usize, u: &mut Row, r: &mut Row)
     fill_two::<SecondKind, SecondDifferences>(x, n, u, r);
 }
 
-/// Writes the first `n` entries of one row.
+/// Writes the first `n` entries of one row, and leaves the others.
 #[inline(always)]
 fn fill_one<P: Recurrence>(x: Ival62, n: usize, row: &mut Row)
     requires n_in { n ≤ 32 }
@@ -91,7 +91,8 @@ fn fill_one<P: Recurrence>(x: Ival62, n: usize, row: &mut Row)
     }
 }
 
-/// Writes the first `n` entries of a row and of its divided differences in one loop, so that the steps of both overlap.
+/// Writes the first `n` entries of a row and of its divided differences in one loop, so that the steps of both
+/// overlap.
 #[inline(always)]
 fn fill_two<P: Recurrence, D: Recurrence>(x: Ival62, n: usize, row: &mut Row, changes: &mut Row)
     requires n_in { n ≤ 32 }
@@ -121,7 +122,7 @@ fn fill_two<P: Recurrence, D: Recurrence>(x: Ival62, n: usize, row: &mut Row, ch
     }
 }
 
-/// Writes the first two of the `n` entries of a row.
+/// Writes the first two entries of a row, as far as it has `n` of them.
 #[inline(always)]
 fn begin(n: usize, first: Ival62, second: Ival62, row: &mut Row)
     ensures first { 0 < n → entry row.new 0 ≡ first }

@@ -1,4 +1,4 @@
-// One step of a row, on plain whole numbers.
+// The steps of a recurrence on plain whole numbers.
 
 ghost use Rattle.std.specs.Prelude.{◌≡◌, ◌≤◌, ◌^◌, ◌+ℤ◌, ◌-ℤ◌, ◌≤ℤ◌, pos, neg_ℤ, unsigned_abs};
 ghost use Rattle.std.specs.Int.{int_min, int_max};
@@ -8,8 +8,8 @@ ghost use Rattle.spec_chebyshev.specs.Rows.{next, shifted, EndsWithin};
 use ival_core::product_ends;
 use spec_chebyshev::Ival62;
 
-/// `2 x e + extra - before`, rounded outward and cut to `limit` in magnitude: the next entry of a row, with `x` in units of
-/// 2^-60 and all else in the unit of the row.
+/// Returns `2 x e + extra - before`, rounded outward and cut to `limit` in magnitude: the next entry of a row. `x` is
+/// in units of 2^-60, and all else in the unit of the row.
 #[inline(always)]
 pub(crate) fn next_entry(x: Ival62, e: Ival62, extra: Ival62, before: Ival62, limit: u64) -> Ival62
     requires x_in { EndsWithin (2 ^ 60) x }
@@ -28,7 +28,7 @@ pub(crate) fn next_entry(x: Ival62, e: Ival62, extra: Ival62, before: Ival62, li
     }
 }
 
-/// The greater of a number and `-limit`.
+/// Returns the greater of a number and `-limit`.
 #[inline(always)]
 fn at_least(z: i64, limit: u64) -> i64
     requires { limit ≤ 2 ^ 60 }
@@ -37,7 +37,7 @@ fn at_least(z: i64, limit: u64) -> i64
     z.max(-(limit as i64))
 }
 
-/// The less of a number and `limit`.
+/// Returns the lesser of a number and `limit`.
 #[inline(always)]
 fn at_most(z: i64, limit: u64) -> i64
     requires { limit ≤ 2 ^ 60 }
@@ -46,7 +46,7 @@ fn at_most(z: i64, limit: u64) -> i64
     z.min(limit as i64)
 }
 
-/// The three parts of a step together.
+/// Returns `quotient + extra - before`.
 #[inline(always)]
 fn total(quotient: i64, extra: i64, before: i64) -> i64
     requires quotient_in { unsigned_abs quotient ≤ 2 ^ 61 }
@@ -57,7 +57,7 @@ fn total(quotient: i64, extra: i64, before: i64) -> i64
     quotient + extra - before
 }
 
-/// `z / 2^59` rounded down.
+/// Returns `z / 2^59`, rounded down.
 #[inline(always)]
 fn quotient_down(z: i128) -> i64
     requires { unsigned_abs z ≤ 2 ^ 120 }
@@ -67,7 +67,7 @@ fn quotient_down(z: i128) -> i64
     (z >> 59) as i64
 }
 
-/// `z / 2^59` rounded up.
+/// Returns `z / 2^59`, rounded up.
 #[inline(always)]
 fn quotient_up(z: i128) -> i64
     requires { unsigned_abs z ≤ 2 ^ 120 }
@@ -77,7 +77,7 @@ fn quotient_up(z: i128) -> i64
     (-(-z >> 59)) as i64
 }
 
-/// An entry at a unit that is `2^k` times as coarse, rounded outward.
+/// Returns an entry in a unit that is `2^k` times as coarse, rounded outward.
 #[inline(always)]
 pub(crate) fn coarser(e: Ival62, k: u32) -> Ival62
     requires e_in { EndsWithin (2 ^ 60) e }
@@ -90,7 +90,7 @@ pub(crate) fn coarser(e: Ival62, k: u32) -> Ival62
     }
 }
 
-/// `floor(z / 2^k)`.
+/// Returns `z / 2^k`, rounded down.
 #[inline(always)]
 fn halved_down(z: i64, k: u32) -> i64
     requires { k ≤ 13 }
@@ -99,7 +99,7 @@ fn halved_down(z: i64, k: u32) -> i64
     z >> k
 }
 
-/// `ceil(z / 2^k)`.
+/// Returns `z / 2^k`, rounded up.
 #[inline(always)]
 fn halved_up(z: i64, k: u32) -> i64
     requires few { k ≤ 13 }

@@ -1,4 +1,4 @@
-// The lines of generated blocks.
+// The lines of generated blocks. Calls fail only where memory is out.
 ghost use Rattle.std.specs.Prelude.{◌≡◌, ◌+◌, ◌-◌, ◌*◌, ◌<◌, ◌≤◌, ◌++◌, ◌∷◌, [], ℕ, OnOk, string_bytes};
 ghost use Rattle.spec_text.specs.Bytes.{line_feed};
 ghost use Rattle.spec_generated.specs.Blocks.{block_lines, row, rows_from};
@@ -12,7 +12,7 @@ use spec_generated::{DRAWS, MAX_GENERATED, NCOEFF, ROWS};
 use std::alloc::AllocError;
 use std::fmt::Write;
 
-// The line of the words at three places, from this one on.
+// Appends the line of the words at three places of a block, from `place` on.
 fn add_row(text: &mut String, block: u32, place: u32, draws: &mut Draws) -> Result<(), AllocError>
     requires few { block < MAX_GENERATED }
     requires some { 0 < place }
@@ -31,7 +31,7 @@ fn add_row(text: &mut String, block: u32, place: u32, draws: &mut Draws) -> Resu
     text.push('\n')
 }
 
-// The rows of a block.
+// Appends all lines of a block but its first.
 fn add_rows(text: &mut String, block: u32, draws: &mut Draws) -> Result<(), AllocError>
     requires few { block < MAX_GENERATED }
     ensures rows { OnOk result (string_bytes text.new
@@ -44,7 +44,7 @@ fn add_rows(text: &mut String, block: u32, draws: &mut Draws) -> Result<(), Allo
     Ok(())
 }
 
-/// A block, counted from 0, which takes the next draws.
+/// Appends the lines of a block, counted from 0, with coefficients from the next draws.
 pub fn add_block(text: &mut String, block: u32, draws: &mut Draws) -> Result<(), AllocError>
     requires few { block < MAX_GENERATED }
     ensures lines { OnOk result (string_bytes text.new

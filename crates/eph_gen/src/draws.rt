@@ -1,11 +1,11 @@
-// Draws from a seed.
+// Pseudo-random draws from a seed.
 ghost use Rattle.std.specs.Prelude.{◌≡◌};
 ghost use Rattle.spec_generated.specs.Draws.{drawn, next_state};
 
 use spec_generated::{FACTOR, INCREMENT};
 use std::marker::Model;
 
-/// A linear congruential generator of 64 bits, whose upper halves are drawn (the factor is Knuth's of MMIX).
+/// A linear congruential generator of 64 bits, whose upper halves are the draws. The factor is Knuth's of MMIX.
 #[derive(Drop)]
 pub struct Draws {
     state: u64,
@@ -20,14 +20,14 @@ impl Model for Draws {
 }
 
 impl Draws {
-    /// The draws from this seed, none of which is taken yet.
+    /// Starts the draws of this seed, none of which is taken yet.
     pub fn new(seed: u64) -> Self
         ensures { result ≡ seed }
     {
         Draws { state: seed }
     }
 
-    /// The next draw.
+    /// Returns the next draw, any number of 32 bits.
     pub fn draw(&mut self) -> u32
         ensures moved { self.new ≡ next_state self.old }
         ensures drawn { result ≡ drawn self.new }

@@ -1,4 +1,4 @@
-// A generated text.
+// The generated text as a whole.
 ghost use Rattle.std.specs.Prelude.{◌≡◌, ◌<◌, ◌≤◌, [], ◌∷◌, IfOk, Ok};
 ghost use Rattle.spec_files.specs.Outcome.{outcome};
 ghost use Rattle.spec_text.specs.Printed.{joined_lines};
@@ -9,10 +9,10 @@ use crate::draws::Draws;
 use spec_generated::MAX_GENERATED;
 use std::alloc::{AllocError, Global};
 
-/// Out of memory.
+/// The one error of the calls: out of memory.
 pub type Memory = AllocError;
 
-// The lines before the blocks.
+// Returns the lines before the blocks, which are the same in every generated text.
 fn header() -> &'static str
     ensures { result.now ≡ joined_lines header_lines }
 {
@@ -35,9 +35,10 @@ GROUP 1070
 "
 }
 
-/// The text of a number of blocks and a seed: JPL's form of DE405's columns, with blocks of 32 days from Julian date
-/// 2451536.5 on. Each coefficient takes one draw, in the order of the places over all blocks. The text is accepted as the
-/// one file, whatever the seed; its granules do not join smoothly. A block takes about 26,000 bytes.
+/// Returns the text of `blocks` blocks and a seed: JPL's form of DE405's columns, with blocks of 32 days from Julian
+/// date 2451536.5 on. Each coefficient takes one draw, in the order of the places over all blocks. The text is
+/// accepted as the only file, whatever the seed; its granules do not join smoothly. A block takes about 26,000 bytes.
+/// The only error is out of memory.
 pub fn generate(alloc: Global, blocks: u32, seed: u64) -> Result<Vec<u8>, Memory>
     requires some { 0 < blocks }
     requires few { blocks ≤ MAX_GENERATED }

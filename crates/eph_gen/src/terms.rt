@@ -1,4 +1,4 @@
-// The coefficients of generated blocks.
+// The sizes of the coefficients of generated blocks.
 ghost use Rattle.std.specs.Prelude.{◌≡◌, ◌+◌, ◌<◌, ◌^◌, ◌-ℤ◌, ◌*ℤ◌, length, pos};
 ghost use Rattle.spec_ephemeris.specs.declared.limits.TheConstants.{MAX_COEFFICIENTS};
 ghost use Rattle.spec_files.specs.BlockRules.{is_place};
@@ -8,7 +8,8 @@ use eph_model::{is_present, place_after};
 use spec_ephemeris::Column;
 use spec_generated::{COLUMNS, CoefficientShape};
 
-/// The term of a place of a block, counted from 1: the scale of its column, and the degree of its polynomial.
+/// Returns the shape of the coefficient at a place of a block, counted from 1: the scale of its column, and the
+/// degree of its polynomial.
 pub fn term_at(place: u32) -> CoefficientShape
     ensures term { result ≡ term_at place }
     ensures low { result.degree < MAX_COEFFICIENTS }
@@ -16,7 +17,8 @@ pub fn term_at(place: u32) -> CoefficientShape
     term_among(1, &COLUMNS, place)
 }
 
-// The term of a place that belongs to one of these columns, the first of which has this number.
+// Returns the shape of the coefficient at a place, by the first of these columns that has the place. The first column
+// has the number `number`.
 fn term_among(number: usize, columns: &[(u32, u32, u32, u32)], place: u32) -> CoefficientShape
     requires { number + length columns.now < 2 ^ 32 }
     ensures { result ≡ term_among number (columns_of columns.now) place }
@@ -44,21 +46,21 @@ fn term_among(number: usize, columns: &[(u32, u32, u32, u32)], place: u32) -> Co
     }
 }
 
-// Whether a place belongs to a column.
+// Tells whether a place of a block belongs to a column.
 fn is_place(number: usize, column: Column, place: u32) -> bool
     ensures { result ≡ is_place number column place }
 {
     is_present(column) && column.start <= place && u128::from(place) < place_after(number, column)
 }
 
-// What is drawn, as a number from -2^31 on, times a scale.
+// Returns a draw, moved to the range from -2^31 to 2^31 - 1, times a scale.
 fn numerator(draw: u32, scale: u32) -> i64
     ensures { result ≡ (pos draw -ℤ pos (2 ^ 31)) *ℤ pos scale }
 {
     (i64::from(draw) - 0x8000_0000) * i64::from(scale)
 }
 
-/// The coefficient of a term for what was drawn, in millionths of a km, rounded towards zero.
+/// Returns the coefficient that a draw makes, in millionths of a km, rounded towards zero.
 pub fn millionths(term: CoefficientShape, draw: u32) -> i64
     requires { term.degree < MAX_COEFFICIENTS }
     ensures { result ≡ millionths term draw }

@@ -1,4 +1,4 @@
-// The words of generated blocks.
+// The words of generated blocks. Calls fail only where memory is out.
 ghost use Rattle.std.specs.Prelude.{◌≡◌, ◌+◌, ◌-◌, ◌<◌, ◌≤◌, ◌++◌, ℕ, OnOk, string_bytes};
 ghost use Rattle.spec_generated.specs.Draws.{IsUpto};
 ghost use Rattle.spec_generated.specs.Words.{block_word, coefficient_word, date_word, fraction_word, sign_word};
@@ -10,7 +10,7 @@ use spec_generated::{BLOCK_DATES, FIRST_DATE, MAX_GENERATED, NCOEFF};
 use std::alloc::AllocError;
 use std::fmt::Write;
 
-// `0.`, 18 digits and an exponent.
+// Appends `0.`, a number in 18 digits, and the text of an exponent.
 fn add_fraction(text: &mut String, size: u64, exponent: &str) -> Result<(), AllocError>
     ensures { OnOk result
         (string_bytes text.new ≡ string_bytes text.old ++ fraction_word size exponent.now) }
@@ -18,14 +18,14 @@ fn add_fraction(text: &mut String, size: u64, exponent: &str) -> Result<(), Allo
     write!(text, "0.{size:018}{exponent}")
 }
 
-// The sign of a number below 0.
+// Appends a minus sign for a number below 0, and nothing for any other.
 fn add_sign(text: &mut String, number: i64) -> Result<(), AllocError>
     ensures { OnOk result (string_bytes text.new ≡ string_bytes text.old ++ sign_word number) }
 {
     if number < 0 { text.push('-') } else { Ok(()) }
 }
 
-// The Julian date at which a block begins.
+// Appends the Julian date at which a block, counted from 0, starts.
 fn add_date(text: &mut String, block: u32) -> Result<(), AllocError>
     requires { block ≤ MAX_GENERATED }
     ensures { OnOk result (string_bytes text.new ≡ string_bytes text.old ++ date_word block) }
@@ -34,7 +34,7 @@ fn add_date(text: &mut String, block: u32) -> Result<(), AllocError>
     add_fraction(text, date, "D+07")
 }
 
-// A coefficient in millionths of a km.
+// Appends a coefficient, which is given in millionths of a km.
 fn add_coefficient(text: &mut String, millionths: i64) -> Result<(), AllocError>
     ensures { OnOk result
         (string_bytes text.new ≡ string_bytes text.old ++ coefficient_word millionths) }
@@ -43,7 +43,7 @@ fn add_coefficient(text: &mut String, millionths: i64) -> Result<(), AllocError>
     add_fraction(text, millionths.unsigned_abs(), "D+12")
 }
 
-/// The word at a place, counted from 1, of a block, counted from 0. The draws are those after the place before.
+/// Appends the word at a place, counted from 1, of a block, counted from 0. A coefficient takes the next draw.
 pub fn add_word(
     text: &mut String,
     block: u32,

@@ -1,4 +1,4 @@
-// Which asks are refused, and why.
+// The faults of asks: why an ask has no event in an ephemeris.
 ghost use Rattle.std.specs.Prelude.{◌≡◌, [], Some};
 ghost use Rattle.std.specs.List.{list_all};
 ghost use Rattle.spec_kinds.specs.Asks.{before, bodies_of};
@@ -12,7 +12,7 @@ use spec_kinds::{Ask, EventFault, Range};
 use spec_text::Decimal;
 use thiserror::Error;
 
-/// Why an ask has no event: the first of these that applies, or out of memory.
+/// Why an ask has no event: the first fault, in this order, that applies, or out of memory.
 #[derive(Clone, Copy, Debug, PartialEq, Eq, Error)]
 pub enum KindFault {
     /// Fault 50: a column is absent that the target, the second body or the observer needs.
@@ -30,7 +30,7 @@ pub enum KindFault {
 }
 
 impl KindFault {
-    /// The fault of the ask, or none where it is out of memory.
+    /// Returns the fault of the ask, or none where memory ran out.
     pub fn event_fault(self) -> Option<EventFault>
         ensures { result ≡ event_fault_of self }
     {
@@ -42,7 +42,7 @@ impl KindFault {
         }
     }
 
-    // The error that says this fault.
+    // Returns the error that stands for this fault.
     pub(crate) fn of(fault: EventFault) -> KindFault
         ensures { event_fault_of result ≡ Some fault }
     {
@@ -54,7 +54,7 @@ impl KindFault {
     }
 }
 
-/// The first fault of an ask, or none. It does not allocate.
+/// Returns the first fault of an ask, in the order of their numbers, or none. It does not allocate.
 pub fn fault(eph: &Ephemeris, ask: Ask) -> Option<EventFault>
     ensures { result ≡ fault_of eph.now ask }
 {
@@ -70,14 +70,14 @@ pub fn fault(eph: &Ephemeris, ask: Ask) -> Option<EventFault>
     None
 }
 
-// Whether the columns are there that the target, the second body and the observer need.
+// Tells whether the ephemeris has all columns that the target, the second body and the observer need.
 fn has_bodies(eph: &Ephemeris, ask: Ask) -> bool
     ensures { result ≡ list_all (has_body eph.now) (bodies_of ask) }
 {
     has_body(eph, ask.target) && has_second(eph, ask.second) && has_body(eph, ask.observer)
 }
 
-// Whether those of the second body are there, if there is one.
+// Tells whether the ephemeris has all columns that the second body needs. No second body passes.
 fn has_second(eph: &Ephemeris, second: Option<Body>) -> bool
     ensures { result ≡ list_all (has_body eph.now) (before second []) }
 {
@@ -87,7 +87,7 @@ fn has_second(eph: &Ephemeris, second: Option<Body>) -> bool
     }
 }
 
-// Whether the columns are there that a body needs.
+// Tells whether the ephemeris has all columns that a body needs.
 fn has_body(eph: &Ephemeris, body: Body) -> bool
     ensures { result ≡ has_body eph.now body }
 {
@@ -98,7 +98,7 @@ fn has_body(eph: &Ephemeris, body: Body) -> bool
         .all(|number| eph.has(*number))
 }
 
-// Whether two of the target, the second body and the observer are one.
+// Tells whether two of the target, the second body and the observer are one body.
 fn has_twice(ask: Ask) -> bool
     ensures { result ≡ has_twice (bodies_of ask) }
 {
@@ -112,14 +112,14 @@ fn has_twice(ask: Ask) -> bool
     }
 }
 
-// Whether two bodies are one.
+// Tells whether two bodies are the same.
 fn is_same(one: Body, other: Body) -> bool
     ensures { result ≡ is_same one other }
 {
     one == other
 }
 
-// Whether the numbers that the kind uses are such as it takes.
+// Tells whether the numbers that the kind uses are within its range: two radii, or a reference value.
 fn is_in_range(ask: Ask) -> bool
     ensures { result ≡ are_in_range ask.kind ask.value1 ask.value2 }
 {
@@ -130,7 +130,7 @@ fn is_in_range(ask: Ask) -> bool
     }
 }
 
-// Whether a reference value is of this range.
+// Tells whether a reference value is in this range.
 fn lies_in(range: Range, value: Decimal) -> bool
     ensures { result ≡ is_in_range range value }
 {
@@ -142,21 +142,21 @@ fn lies_in(range: Range, value: Decimal) -> bool
     }
 }
 
-// Below 2^36 km in magnitude.
+// Tells whether a length in km is below 2^36 in magnitude.
 fn is_distance(km: Decimal) -> bool
     ensures { result ≡ is_distance km }
 {
     is_distance_size(km.mant, km.exp)
 }
 
-// At most 1 in magnitude.
+// Tells whether a number is at most 1 in magnitude.
 fn is_cosine(number: Decimal) -> bool
     ensures { result ≡ is_cosine number }
 {
     is_cosine_size(number.mant, number.exp)
 }
 
-// From 0 km to below 2^36 km.
+// Tells whether a length in km is at least 0 and below 2^36.
 fn is_radius(km: Decimal) -> bool
     ensures { result ≡ is_radius km }
 {

@@ -1,4 +1,4 @@
-// Events and their guards, as formulas.
+// Events and their guards, made of formulas.
 ghost use Rattle.std.specs.Prelude.{◌≡◌};
 ghost use Rattle.spec_searches.specs.Event.{AreFormulas};
 
@@ -6,7 +6,7 @@ use event_expr::Formula;
 use spec_events::Dir;
 use std::marker::Model;
 
-/// What has to hold at an event: that a formula is at least 0, or that it is below 0.
+/// A condition that holds at an event: a formula is at least 0, or it is below 0.
 #[derive(Drop)]
 pub struct Guard {
     pub(crate) g: Formula,
@@ -25,14 +25,14 @@ impl Model for Guard {
 }
 
 impl Guard {
-    /// The formula.
+    /// Returns the formula of the condition.
     pub fn formula(&self) -> &Formula
         ensures { result.now ≡ self.now.term }
     {
         &self.g
     }
 
-    /// Whether the formula has to be at least 0, or else below 0.
+    /// Tells whether the formula has to be at least 0; else it has to be below 0.
     pub fn at_least(&self) -> bool
         ensures { result ≡ self.now.at_least }
     {
@@ -40,7 +40,7 @@ impl Guard {
     }
 }
 
-/// An event: the times at which a function passes 0 in a wanted direction while its guards hold.
+/// An event: the times at which a function passes 0 in a wanted direction while all its guards hold.
 #[derive(Drop)]
 pub struct Event {
     pub(crate) f: Formula,
@@ -72,7 +72,7 @@ impl Model for Event {
 }
 
 impl Event {
-    /// The function.
+    /// Returns the function whose passes of 0 are the event's times.
     pub fn function(&self) -> &Formula
         ensures function { result.now ≡ self.now.function }
         ensures formulas { AreFormulas self.now }
@@ -80,14 +80,14 @@ impl Event {
         &self.f
     }
 
-    /// The guards, all of which have to hold.
+    /// Returns the guards, all of which have to hold at the event.
     pub fn guards(&self) -> &[Guard]
         ensures { result.now ≡ self.now.conditions }
     {
         self.guards.as_slice()
     }
 
-    /// Which passes of 0 are wanted.
+    /// Returns the direction of the passes of 0 that are wanted.
     pub fn dir(&self) -> Dir
         ensures { result ≡ self.now.dir }
     {

@@ -1,4 +1,4 @@
-// The functions of the kinds that are no occultations, row by row.
+// The functions of the kinds that are no occultations. The only error of each call is out of memory.
 ghost use Rattle.std.specs.Prelude.{◌≡◌, ◌<◌, IfOk};
 ghost use Rattle.spec_expressions.specs.Term.{term, cosine, product, signed_square, sum};
 ghost use Rattle.spec_expressions.specs.Vectors.{IsVector, dot};
@@ -13,7 +13,7 @@ use event_expr::{Expr, Vector};
 use spec_text::Decimal;
 use std::alloc::{AllocError, Global};
 
-/// A coordinate of the target less a value, in km.
+/// Returns a coordinate of the target less a value, in km.
 pub fn coordinate_function(alloc: Global, axis: u8, value: Decimal) -> Result<Expr, AllocError>
     requires { axis < 3 }
     ensures { IfOk result (λ e. term e ≡ coordinate_function axis value) }
@@ -21,7 +21,7 @@ pub fn coordinate_function(alloc: Global, axis: u8, value: Decimal) -> Result<Ex
     difference(alloc, coordinate(TARGET, axis), length(value))
 }
 
-/// The square of the target's distance less that of a value, in square km.
+/// Returns the square of the target's distance less the square of a value, in square km.
 pub fn radius_function(alloc: Global, value: Decimal) -> Result<Expr, AllocError>
     ensures { IfOk result (λ e. term e ≡ radius_function value) }
 {
@@ -32,15 +32,15 @@ pub fn radius_function(alloc: Global, value: Decimal) -> Result<Expr, AllocError
     )
 }
 
-/// Half of what changes the square of the target's distance, in square km a second.
+/// Returns half of the rate at which the square of the target's distance changes, in square km a tick.
 pub fn apsis_function(alloc: Global) -> Result<Expr, AllocError>
     ensures { IfOk result (λ e. term e ≡ apsis_function) }
 {
     dot(alloc, TARGET, TARGET_VELOCITY)
 }
 
-/// The signed square of the dot product of the places, less that of an angle's cosine times the squares of the
-/// distances.
+/// Returns the signed square of the dot product of both places, less what it is at an angle. It is 0 where the bodies
+/// are at this angle, which is given by its cosine.
 pub fn separation_function(alloc: Global, angle: Decimal) -> Result<Expr, AllocError>
     ensures { IfOk result (λ e. term e ≡ separation_function angle) }
 {
@@ -48,7 +48,7 @@ pub fn separation_function(alloc: Global, angle: Decimal) -> Result<Expr, AllocE
     difference(alloc, square, at_angle(alloc, angle)?)
 }
 
-// What that signed square is where the bodies are at an angle.
+// Returns what the signed square of the dot product is where the bodies are at an angle, given by its cosine.
 fn at_angle(alloc: Global, angle: Decimal) -> Result<Expr, AllocError>
     ensures { IfOk result (λ e. term e
         ≡ product (signed_square (cosine angle)) (product (dot target target) (dot second second))) }
@@ -57,14 +57,14 @@ fn at_angle(alloc: Global, angle: Decimal) -> Result<Expr, AllocError>
     product(alloc, square, distances(alloc)?)
 }
 
-// The product of the squares of the distances.
+// Returns the product of the squares of both distances.
 fn distances(alloc: Global) -> Result<Expr, AllocError>
     ensures { IfOk result (λ e. term e ≡ product (dot target target) (dot second second)) }
 {
     dots(alloc, (TARGET, TARGET), (SECOND, SECOND))
 }
 
-// The product of two dot products.
+// Returns the product of two dot products.
 fn dots(alloc: Global, one: (Vector, Vector), other: (Vector, Vector)) -> Result<Expr, AllocError>
     requires first { IsVector one.0 }
     requires second { IsVector one.1 }
@@ -76,7 +76,8 @@ fn dots(alloc: Global, one: (Vector, Vector), other: (Vector, Vector)) -> Result
     product(alloc, first, dot(alloc, other.0, other.1)?)
 }
 
-/// What changes the cosine of the angle between target and second body, times positive numbers.
+/// Returns the rate at which the cosine of the angle between target and second body changes, times a positive number.
+/// So it passes 0 where the separation is least or greatest.
 pub fn separation_change(alloc: Global) -> Result<Expr, AllocError>
     ensures { IfOk result (λ e. term e ≡ separation_change) }
 {
@@ -84,7 +85,7 @@ pub fn separation_change(alloc: Global) -> Result<Expr, AllocError>
     difference(alloc, turning, receding(alloc)?)
 }
 
-// The part of it that comes from the dot product of the places.
+// Returns the part of the separation's change that comes from the dot product of the places.
 fn turning(alloc: Global) -> Result<Expr, AllocError>
     ensures { IfOk result (λ e. term e
         ≡ product dot_change (product (dot target target) (dot second second))) }
@@ -93,7 +94,7 @@ fn turning(alloc: Global) -> Result<Expr, AllocError>
     product(alloc, change, distances(alloc)?)
 }
 
-// What changes the dot product of the places, in square km a second.
+// Returns the rate at which the dot product of the places changes, in square km a tick.
 fn dot_change(alloc: Global) -> Result<Expr, AllocError>
     ensures { IfOk result (λ e. term e ≡ dot_change) }
 {
@@ -101,7 +102,7 @@ fn dot_change(alloc: Global) -> Result<Expr, AllocError>
     sum(alloc, first, dot(alloc, TARGET, SECOND_VELOCITY)?)
 }
 
-// The part of it that comes from the distances.
+// Returns the part of the separation's change that comes from the distances.
 fn receding(alloc: Global) -> Result<Expr, AllocError>
     ensures { IfOk result (λ e. term e ≡ product (dot target second) (sum
         (product (dot target target_velocity) (dot second second))
@@ -111,7 +112,7 @@ fn receding(alloc: Global) -> Result<Expr, AllocError>
     product(alloc, places, distances_change(alloc)?)
 }
 
-// Half of what changes the product of the squares of the distances.
+// Returns half of the rate at which the product of the squares of both distances changes.
 fn distances_change(alloc: Global) -> Result<Expr, AllocError>
     ensures { IfOk result (λ e. term e ≡ sum
         (product (dot target target_velocity) (dot second second))

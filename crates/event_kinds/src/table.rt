@@ -1,4 +1,4 @@
-// The table of kinds.
+// The table of kinds: the event of each.
 ghost use Rattle.std.specs.Prelude.{◌≡◌, ◌<◌, [], ◌∷◌, IfOk, IfErr, OnOk, IsTrue, None, map};
 ghost use Rattle.spec_expressions.specs.Term.{term, IsFormula};
 ghost use Rattle.spec_kinds.specs.Asks.{IsAsk};
@@ -22,10 +22,10 @@ use spec_events::Dir;
 use spec_kinds::{Ask, Kind, Shadow};
 use std::alloc::{AllocError, Global};
 
-/// The event of an ask over an ephemeris, as formulas over the positions, in km, and the velocities, in km a second, of
-/// the target (number 0) and of the second body (number 1), seen from the observer in the frame. What `Coord`, `Radius`
-/// and `Apsis`, `Sep` and `SepExt`, and `Any`, `Full` and `Annular` mean is SPICE's, by `gfposc`, `gfdist`, `gfsep` and
-/// `gfoclt`. An error is the first fault of the ask, or out of memory, where it has none.
+/// Returns the event of an ask over an ephemeris, as formulas over the positions, in km, and the velocities, in km a
+/// tick, of the target (number 0) and of the second body (number 1), seen from the observer in the frame. What
+/// `Coord`, `Radius` and `Apsis`, `Sep` and `SepExt`, and `Any`, `Full` and `Annular` mean is SPICE's, by `gfposc`,
+/// `gfdist`, `gfsep` and `gfoclt`. An error is the first fault of the ask, or out of memory, where it has none.
 pub fn event(alloc: Global, eph: &Ephemeris, ask: &Ask) -> Result<Event, KindFault>
     requires { IsAsk ask.now }
     ensures made { IfOk result (λ event. event ≡ event_of ask.now) }
@@ -41,7 +41,7 @@ pub fn event(alloc: Global, eph: &Ephemeris, ask: &Ask) -> Result<Event, KindFau
     }
 }
 
-// The row of the ask's kind, or an error: out of memory.
+// Returns the event of an ask without a fault, by the row of its kind. The only error is out of memory.
 fn row(alloc: Global, ask: Ask) -> Result<Event, AllocError>
     requires axis { ask.axis < 3 }
     requires in_range { IsTrue (are_in_range ask.kind ask.value1 ask.value2) }
@@ -80,7 +80,7 @@ fn row(alloc: Global, ask: Ask) -> Result<Event, AllocError>
     }
 }
 
-// The event of a function, with no guard.
+// Returns the event of a function without a guard.
 fn unguarded(alloc: Global, f: Expr, dir: Dir) -> Event
     requires { IsFormula (term f) }
     ensures { result ≡ record { function = term f; conditions = []; dir = dir } }
@@ -92,7 +92,8 @@ fn unguarded(alloc: Global, f: Expr, dir: Dir) -> Event
     }
 }
 
-// Target and second body in one plane with the z axis: on one side of it, or on opposite sides.
+// Returns the event at which target and second body come into one plane with the z axis: on one side of it, or on
+// opposite sides. The only error is out of memory.
 fn aligned(alloc: Global, one_side: bool, dir: Dir) -> Result<Event, AllocError>
     ensures { IfOk result (λ event. event ≡ record {
       function = plane_cross target second;
@@ -110,7 +111,7 @@ fn aligned(alloc: Global, one_side: bool, dir: Dir) -> Result<Event, AllocError>
     Ok(Event { f, guards, dir })
 }
 
-// An occultation of the second body by the target.
+// Returns the event of an occultation of the second body by the target. The only error is out of memory.
 fn occultation(alloc: Global, shadow: Shadow, ask: Ask) -> Result<Event, AllocError>
     requires front { IsTrue (is_radius ask.value1) }
     requires back { IsTrue (is_radius ask.value2) }
@@ -129,7 +130,7 @@ fn occultation(alloc: Global, shadow: Shadow, ask: Ask) -> Result<Event, AllocEr
     })
 }
 
-// Formulas, each with whether it has to be at least 0, as guards.
+// Returns formulas, each with whether it has to be at least 0, as guards. The only error is out of memory.
 fn guards_of(alloc: Global, pairs: Vec<(Formula, bool)>) -> Result<Vec<Guard>, AllocError>
     ensures { IfOk result (λ guards. guards.items ≡ map condition_of pairs.items) }
 {

@@ -8,10 +8,10 @@ use event_expr::builders::{coordinate, difference, product, sum};
 use event_expr::{Expr, Vector};
 use std::alloc::{AllocError, Global};
 
-/// The place of the target.
+/// The position of the target.
 pub const TARGET: Vector = Vector::Position(0);
 
-/// The place of the second body.
+/// The position of the second body.
 pub const SECOND: Vector = Vector::Position(1);
 
 /// The velocity of the target.
@@ -20,7 +20,7 @@ pub const TARGET_VELOCITY: Vector = Vector::Velocity(0);
 /// The velocity of the second body.
 pub const SECOND_VELOCITY: Vector = Vector::Velocity(1);
 
-/// `u0 v0 + u1 v1`, or an error: out of memory.
+/// Returns `u0 v0 + u1 v1`, the dot product in the plane of x and y. The only error is out of memory.
 pub fn plane_dot(alloc: Global, u: Vector, v: Vector) -> Result<Expr, AllocError>
     requires u { IsVector u }
     requires v { IsVector v }
@@ -31,7 +31,8 @@ pub fn plane_dot(alloc: Global, u: Vector, v: Vector) -> Result<Expr, AllocError
     sum(alloc, x, y)
 }
 
-/// `u0 v1 - u1 v0`, or an error: out of memory.
+/// Returns `u0 v1 - u1 v0`, which is 0 where both vectors have one direction in the plane of x and y, or opposite
+/// ones. The only error is out of memory.
 pub fn plane_cross(alloc: Global, u: Vector, v: Vector) -> Result<Expr, AllocError>
     requires u { IsVector u }
     requires v { IsVector v }

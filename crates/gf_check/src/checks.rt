@@ -19,7 +19,7 @@ use spec_trees::Leaf;
 use std::alloc::Global;
 use window_text::{request_line, verification};
 
-// The refusal of a text that is no certificate, or of which memory ran out.
+// Returns the refusal of a text that is no certificate, or out of memory.
 fn refusal_of(error: CertError) -> Refusal
     ensures { result ≡ of_cert error }
 {
@@ -29,7 +29,8 @@ fn refusal_of(error: CertError) -> Refusal
     }
 }
 
-/// The line of a request over a span, without its end: the second line of its certificate.
+/// Returns the line of a request over a span, without its line end: the second line of its certificate. The only
+/// error is out of memory.
 pub fn line_over(alloc: Global, find: &FindAsk, span: Span) -> Result<Vec<u8>, Refusal>
     requires tick { IsTick find.now.tick }
     requires from { IsTimeIn find.now.tick span.from }
@@ -41,7 +42,8 @@ pub fn line_over(alloc: Global, find: &FindAsk, span: Span) -> Result<Vec<u8>, R
     Ok(line)
 }
 
-// What is printed of leaves that follow one another over a span.
+// Returns the report of a certificate's leaves, which follow one another over a span: their windows, and how many
+// leaves there are. The only error is out of memory.
 fn printed(alloc: Global, find: &FindAsk, span: Span, leaves: &[Leaf]) -> Result<Vec<u8>, Refusal>
     requires tick { IsTick find.now.tick }
     requires from { IsTimeIn find.now.tick span.from }
@@ -58,10 +60,11 @@ fn printed(alloc: Global, find: &FindAsk, span: Span, leaves: &[Leaf]) -> Result
     Ok(text)
 }
 
-/// The bytes that `verify` prints of a text, for the words of a search, their span and the judge of their query: the report
-/// of the certificate's windows, which are those of the events that are asked for, whoever made the text, and how many
-/// leaves it has. `Certificate` for the first line that breaks a rule, or `Memory`. Each leaf is judged, and no other node.
-/// Times are in the ticks of the search since J2000 in TDB; the text has at most 268,435,456 bytes.
+/// Returns the bytes that `verify` prints of a text, for the words of a search, their span and the judge of their
+/// query. They are the report of the certificate's windows, and how many leaves it has. The windows are those of the
+/// events that are asked for, whoever made the text. The error is `Certificate`, for the first line that breaks a
+/// rule, or `Memory`. Each leaf is judged, and no other node. Times are in the ticks of the search since J2000 in
+/// TDB; the text has at most 268,435,456 bytes.
 pub fn verify(
     alloc: Global,
     find: &FindAsk,

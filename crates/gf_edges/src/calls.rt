@@ -1,11 +1,12 @@
-// The calls of an object in memory, of which some fail.
+// The calls of an object in memory, of which listed ones fail.
 ghost use Rattle.std.specs.Prelude.{◌≡◌, ◌↔◌, IsErr};
 ghost use Rattle.gf_edges.specs.Edges.{raised};
 ghost use Rattle.gf_edges.specs.States.{IsToFail, RisesWhere};
 
 use crate::Failed;
 
-/// The calls so far, numbered from 1, with the numbers of those that fail. Both counts stay at their last value.
+/// The number of calls so far, which of them fail, and the number of faults. Calls are numbered from 1, and both
+/// counts stay at their last value.
 #[derive(Drop)]
 pub(crate) struct Calls {
     pub(crate) failing: Vec<u64>,
@@ -14,6 +15,7 @@ pub(crate) struct Calls {
 }
 
 impl Calls {
+    /// Starts both counts at 0, with the numbers of the calls that will fail.
     pub(crate) fn new(failing: Vec<u64>) -> Self
         ensures failing { result.failing ≡ failing }
         ensures made { result.made ≡ 0 }
@@ -26,7 +28,7 @@ impl Calls {
         }
     }
 
-    /// Counts a call, which fails if its number is listed.
+    /// Counts a call. It fails where its number is listed, and then counts a fault too.
     pub(crate) fn begin(&mut self) -> Result<(), Failed>
         ensures fails { IsErr result ↔ IsToFail self.old.failing.items self.old.made }
         ensures made { self.new.made ≡ raised self.old.made }
@@ -41,7 +43,7 @@ impl Calls {
         Ok(())
     }
 
-    /// Counts a fault.
+    /// Counts a fault. The count stays at its last value, 2^64 - 1.
     pub(crate) fn fault(&mut self)
         ensures faults { self.new.faults ≡ raised self.old.faults }
         ensures made { self.new.made ≡ self.old.made }

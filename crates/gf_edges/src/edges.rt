@@ -6,23 +6,23 @@ ghost use Rattle.gf_edges.specs.Edges.{Files, HasCause, Lacks, Opens, Rose};
 
 use thiserror::Error;
 
-/// The outside failed. Its count of faults rose, or a named file is missing.
+/// A failure of the outside. The count of faults rose, or a named file is missing.
 #[derive(Debug, Drop, Error)]
 #[error("the outside failed")]
 pub struct Failed;
 
 /// The files of a run, by their names. One is open at a time.
 pub trait Shelf {
-    /// The files, where they are told. They never change.
+    /// The files, where contracts know them. They never change.
     ghost files: { Self → Option Files };
 
-    /// The bytes of the open file that are not yet read, where they are told.
+    /// The bytes of the open file that are not yet read, where contracts know them.
     ghost left: { Self → Option (List ℕ) };
 
     /// A file is open.
     ghost ready: { Self → Type 0 };
 
-    /// How often the shelf has failed. The count never falls, and stays at its last value, 2^64 - 1.
+    /// The number of failures so far. It never falls, and stays at its last value, 2^64 - 1.
     ghost faults: { Self → ℕ };
 
     /// Opens a file before its first byte. The file that was open is closed, also where this fails.
@@ -36,7 +36,7 @@ pub trait Shelf {
         ensures later { faults self.old ≤ faults self.new }
         ensures count { faults self.new < 2 ^ 64 };
 
-    /// Reads the next bytes of the open file to the front of the buffer, and answers how many. None come only at the
+    /// Reads the next bytes of the open file to the front of the buffer, and returns how many. None come only at the
     /// file's end, or into an empty buffer. The file stays open, also where this fails.
     fn read(&mut self, buf: &mut [u8]) -> Result<usize, Failed>
         requires { ready self.old }
@@ -50,13 +50,14 @@ pub trait Shelf {
 
 /// An output of bytes.
 pub trait Sink {
-    /// All bytes that were taken, where they are told.
+    /// All bytes that were taken, where contracts know them.
     ghost bytes: { Self → Option (List ℕ) };
 
-    /// How often the sink has failed. The count never falls, and stays at its last value, 2^64 - 1.
+    /// The number of failures so far. It never falls, and stays at its last value, 2^64 - 1.
     ghost faults: { Self → ℕ };
 
-    /// Takes bytes from the front of the piece, and answers how many.
+    /// Takes bytes from the front of the piece, and returns how many. Where it takes none of some, the count of
+    /// faults rises.
     fn write(&mut self, piece: &[u8]) -> Result<usize, Failed>
         ensures bound { WritesAtMost result piece.now }
         ensures bytes { WriteAppends (bytes self.old) (bytes self.new) result piece.now }
@@ -66,8 +67,10 @@ pub trait Sink {
         ensures count { faults self.new < 2 ^ 64 };
 }
 
-/// A place that workers pass before each step of their work, so that a test can hold them. Nothing is told of it.
+/// A place that workers pass before each step of their work, so that a test can hold them. Contracts know nothing of
+/// it.
 pub trait Gate: Sync {
+    // Lets a worker, named by its number, pass. The call may wait.
     fn pass(&self, worker: u32);
 }
 
@@ -75,5 +78,6 @@ pub trait Gate: Sync {
 pub struct OpenGate;
 
 impl Gate for OpenGate {
+    // Returns at once.
     fn pass(&self, _worker: u32) {}
 }

@@ -1,9 +1,9 @@
-// What the definitions of this crate say of small cases, and in general of names.
+// Laws of this crate's definitions, with small cases. The calls do nothing when they run.
 ghost use Rattle.std.specs.Prelude.{◌≡◌, ◌≢◌, ◌^◌, ◌-◌, List, ℕ, [], ◌∷◌, None, Some, codes};
 ghost use Rattle.gf_edges.specs.Edges.{Files, Lacks, Opens, Rose, file_of, raised};
 ghost use Rattle.gf_edges.specs.States.{SinkState, given, taken};
 
-/// A file is found by its whole name, and of two with one name the first counts.
+/// States that a file is found by its whole name, and that of two with one name the first counts.
 pub fn files_are_found_by_name()
     ensures first_of_two { file_of (codes "a")
         ((codes "b", 1 ∷ []) ∷ (codes "a", 2 ∷ []) ∷ (codes "a", 3 ∷ []) ∷ [])
@@ -19,7 +19,7 @@ pub fn files_are_found_by_name()
         → other ≢ name → file_of name ((other, bytes) ∷ rest) ≡ file_of name rest }
 {}
 
-/// A count rises by one, and stands at its last value.
+/// States that a count rises by one, stays at its last value, and then counts as risen.
 pub fn counts_rise()
     ensures by_one { raised 4 ≡ 5 }
     ensures at_last { raised (2 ^ 64 - 1) ≡ 2 ^ 64 - 1 }
@@ -28,7 +28,7 @@ pub fn counts_rise()
     ensures last_counts_as_risen { Rose (2 ^ 64 - 1) (2 ^ 64 - 1) }
 {}
 
-/// A read gives as many bytes as can be, and so a write takes.
+/// States that a read gives, and a write takes, as many bytes as the limits of its object let it.
 pub fn pieces_are_as_long_as_can_be()
     ensures by_piece { given (1 ∷ 2 ∷ 3 ∷ []) (0 ∷ 0 ∷ 0 ∷ 0 ∷ []) 2 ≡ 2 }
     ensures by_buffer { given (1 ∷ 2 ∷ 3 ∷ []) (0 ∷ []) 2 ≡ 1 }

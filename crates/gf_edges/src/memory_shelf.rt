@@ -1,4 +1,4 @@
-// Files in memory, and a list of calls that fail.
+// A shelf of files in memory, with a list of calls that fail.
 ghost use Rattle.std.specs.Prelude.{◌≡◌, ◌+◌, ◌^◌, ◌<◌, ◌≤◌, IfNone, IfSome, None, Some, drop, length};
 ghost use Rattle.gf_edges.specs.Edges.{file_of};
 ghost use Rattle.gf_edges.specs.Entries.{bytes_at, entries};
@@ -7,15 +7,15 @@ use crate::calls::Calls;
 use crate::{Failed, Shelf};
 use std::marker::Model;
 
-/// Which file is open, and how many of its bytes were read.
+/// The place of a reader: which file is open, and how many of its bytes were read.
 #[derive(Clone, Copy)]
 pub(crate) struct Place {
     pub(crate) index: usize,
     pub(crate) at: usize,
 }
 
-/// A shelf that keeps its files. The calls of `open` and `read` are numbered from 1 over both, and those whose numbers
-/// are listed fail.
+/// A shelf that keeps its files in memory. The calls of `open` and `read` are numbered from 1 over both, and those
+/// whose numbers are listed fail.
 #[derive(Drop)]
 pub struct MemoryShelf {
     files: Vec<(String, Vec<u8>)>,
@@ -43,7 +43,7 @@ impl Model for MemoryShelf {
     ghost invariant = { λ s. 1 ≤ s.piece };
 }
 
-// The index of the first entry with this name.
+// Returns the index of the first file with this name, or none.
 fn index_of(files: &[(String, Vec<u8>)], name: &str) -> Option<usize>
     ensures absent { IfNone result (file_of name.now (entries files.now) ≡ None) }
     ensures there { IfSome result (λ i.
@@ -57,7 +57,7 @@ fn index_of(files: &[(String, Vec<u8>)], name: &str) -> Option<usize>
     None
 }
 
-// What is left of the entry at an index, past the bytes that were read.
+// Returns the bytes of the file at an index that are not yet read. Past the files or past the bytes there are none.
 fn rest_at(files: &[(String, Vec<u8>)], index: usize, at: usize) -> &[u8]
     ensures bytes { result.now ≡ drop at (bytes_at files.now index) }
     ensures fits { 0 < length result.now → at + length result.now < 2 ^ 64 }
@@ -72,8 +72,8 @@ fn rest_at(files: &[(String, Vec<u8>)], index: usize, at: usize) -> &[u8]
 }
 
 impl MemoryShelf {
-    /// A shelf of these files, by name, with nothing open. Of two entries with one name the first counts. A read gives
-    /// at most `piece` bytes. The calls whose numbers are in `failing` fail.
+    /// Makes a shelf of these files, by name, with no file open. Of two files with one name the first counts. A read
+    /// gives at most `piece` bytes. The calls whose numbers are in `failing` fail.
     pub fn new(files: Vec<(String, Vec<u8>)>, piece: usize, failing: Vec<u64>) -> Self
         requires { 1 ≤ piece }
         ensures files { result.files ≡ entries files.items }
@@ -90,7 +90,7 @@ impl MemoryShelf {
         }
     }
 
-    /// How often the shelf has failed.
+    /// Returns how often the shelf has failed.
     pub fn faults(&self) -> u64
         ensures { result ≡ self.now.faults }
     {
@@ -113,7 +113,8 @@ impl Shelf for MemoryShelf {
 
     ghost faults = { λ s. s.faults };
 
-    /// Fails exactly at a listed call, and where no entry has this name. The count rises exactly at a listed call.
+    /// Opens a file. It fails exactly at a listed call, and where no file has this name. The count of faults rises
+    /// exactly at a listed call.
     fn open(&mut self, name: &str) -> Result<(), Failed>
         ensures ready { OnOk result (IsSome self.new.left) }
         ensures bytes { OnOk result (Opens (Some self.old.files) name.now self.new.left) }
@@ -142,8 +143,8 @@ impl Shelf for MemoryShelf {
         }
     }
 
-    /// Gives the least of what is left, the buffer's length and the shelf's piece. Fails exactly at a listed call, and
-    /// the count rises exactly there.
+    /// Reads as many bytes as are left, as the buffer holds and as a piece may have, whichever is least. It fails
+    /// exactly at a listed call, and the count of faults rises exactly there.
     fn read(&mut self, buf: &mut [u8]) -> Result<usize, Failed>
         requires { IsSome self.old.left }
         ensures ready { IsSome self.new.left }

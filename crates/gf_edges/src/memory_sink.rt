@@ -1,4 +1,4 @@
-// An output in memory, with a room and a list of calls that fail.
+// An output in memory, with a limited room and a list of calls that fail.
 ghost use Rattle.std.specs.Prelude.{◌≡◌, ◌≤◌, [], IfOk};
 
 use crate::calls::Calls;
@@ -6,10 +6,10 @@ use crate::{Failed, Sink};
 use std::alloc::{AllocError, Global};
 use std::marker::Model;
 
-/// Out of memory.
+/// The one error of making a sink: out of memory.
 pub type Memory = AllocError;
 
-/// A sink that keeps its bytes. Its calls are numbered from 1, and those whose numbers are listed fail.
+/// A sink that keeps its bytes in memory. Its calls are numbered from 1, and those whose numbers are listed fail.
 #[derive(Drop)]
 pub struct MemorySink {
     taken: Vec<u8>,
@@ -38,8 +38,9 @@ impl Model for MemorySink {
 }
 
 impl MemorySink {
-    /// A sink with no bytes, that holds at most `room` bytes and takes at most `piece` of them in one write. The calls
-    /// whose numbers are in `failing` fail and take nothing. The room is taken here; where there is none, the error is `Memory`.
+    /// Makes an empty sink that holds at most `room` bytes and takes at most `piece` of them in one write. The calls
+    /// whose numbers are in `failing` fail and take nothing. The room is allocated here; the only error is out of
+    /// memory.
     pub fn new(alloc: Global, room: usize, piece: usize, failing: Vec<u64>) -> Result<Self, Memory>
         requires { 1 ≤ piece }
         ensures empty { IfOk result (λ s. s.bytes ≡ []) }
@@ -55,14 +56,14 @@ impl MemorySink {
         })
     }
 
-    /// All bytes that were taken, in order.
+    /// Returns all bytes that were taken, in their order.
     pub fn bytes(&self) -> &[u8]
         ensures { result.now ≡ self.now.bytes }
     {
         &self.taken
     }
 
-    /// How often the sink has failed.
+    /// Returns how often the sink has failed.
     pub fn faults(&self) -> u64
         ensures { result ≡ self.now.faults }
     {
@@ -81,8 +82,8 @@ impl Sink for MemorySink {
 
     ghost faults = { λ s. s.faults };
 
-    /// Takes the least of the piece's length, the sink's piece and the room that is left. The count rises exactly at
-    /// a call that fails, and where bytes are offered to a full sink.
+    /// Takes as many bytes as the piece has, as one write may take and as there is room for, whichever is least. The
+    /// count of faults rises exactly at a call that fails, and where bytes are offered to a full sink.
     fn write(&mut self, piece: &[u8]) -> Result<usize, Failed>
         ensures bound { WritesAtMost result piece.now }
         ensures bytes { WriteAppends (Some self.old.bytes) (Some self.new.bytes) result piece.now }

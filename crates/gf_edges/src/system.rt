@@ -1,5 +1,5 @@
-// The files and the streams of the system. Of their content they tell what the system tells, which is nothing of a real
-// file and of standard output. Each call that fails is counted.
+// The files and the streams of the system. Contracts know of their content what the system tells, which is nothing of
+// a real file or of standard output. Each call that fails is counted.
 ghost use Rattle.std.specs.Prelude.{◌≡◌, false};
 
 use crate::{Failed, Shelf, Sink};
@@ -32,7 +32,7 @@ impl<'a, R: Files> Model for FileShelf<'a, R> {
 }
 
 impl<'a, R: Files> FileShelf<'a, R> {
-    /// The files that this runtime reaches, with nothing open.
+    /// Makes a shelf of the files that this runtime reaches, with no file open.
     pub fn new(files: &'a R) -> Self
         ensures closed { result.is_open ≡ false }
         ensures at_start { result.faults ≡ 0 }
@@ -60,6 +60,7 @@ impl<'a, R: Files> Shelf for FileShelf<'a, R> {
 
     ghost faults = { λ s. s.faults };
 
+    // Opens the file at this path. The count of faults rises exactly where it fails.
     fn open(&mut self, name: &str) -> Result<(), Failed>
         ensures ready { OnOk result (IsTrue self.new.is_open) }
         ensures bytes { OnOk result (Opens None name.now self.new.left) }
@@ -82,6 +83,7 @@ impl<'a, R: Files> Shelf for FileShelf<'a, R> {
         }
     }
 
+    // Reads the next bytes of the open file. The count of faults rises exactly where it fails.
     fn read(&mut self, buf: &mut [u8]) -> Result<usize, Failed>
         requires { IsTrue self.old.is_open }
         ensures ready { IsTrue self.new.is_open }
@@ -101,7 +103,7 @@ impl<'a, R: Files> Shelf for FileShelf<'a, R> {
     }
 }
 
-/// A stream of the system.
+/// An output stream of the system, with a count of its failures.
 #[derive(Drop)]
 pub struct StdSink<W: Write + Drop> {
     stream: W,
@@ -123,7 +125,7 @@ impl<W: Write + Drop> Model for StdSink<W> {
 }
 
 impl StdSink<Stdout> {
-    /// Standard output.
+    /// Returns a sink that writes to standard output.
     pub fn out(rt: &HostRuntime) -> Self
         ensures at_start { result.faults ≡ 0 }
     {
@@ -132,7 +134,7 @@ impl StdSink<Stdout> {
 }
 
 impl StdSink<Stderr> {
-    /// Standard error.
+    /// Returns a sink that writes to standard error.
     pub fn err(rt: &HostRuntime) -> Self
         ensures at_start { result.faults ≡ 0 }
     {
@@ -141,7 +143,7 @@ impl StdSink<Stderr> {
 }
 
 impl<W: Write + Drop> StdSink<W> {
-    /// What the stream holds stays.
+    /// Makes a sink of a stream. What the stream holds already stays.
     pub fn new(stream: W) -> Self
         ensures bytes { result.bytes ≡ W.contents stream }
         ensures at_start { result.faults ≡ 0 }
@@ -161,6 +163,7 @@ impl<W: Write + Drop> Sink for StdSink<W> {
 
     ghost faults = { λ s. s.faults };
 
+    // Writes bytes to the stream. The count of faults rises exactly where it fails, or takes none of some bytes.
     fn write(&mut self, piece: &[u8]) -> Result<usize, Failed>
         ensures bound { WritesAtMost result piece.now }
         ensures bytes { WriteAppends self.old.bytes self.new.bytes result piece.now }

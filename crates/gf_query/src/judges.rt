@@ -14,7 +14,8 @@ use gf_hooks::Cutter;
 use spec_outcomes::{Query, Refusal};
 use std::alloc::Global;
 
-/// The states of the two bodies of a query over an ephemeris, whose ticks are those of the query.
+/// Returns the states of the two bodies of a query over an ephemeris that counts the query's ticks. A query of one
+/// body has it twice.
 pub fn states<'e>(ephemeris: &'e Ephemeris, query: &Query) -> BodyStates<'e>
     requires block { 0 < ephemeris.now.blocks }
     requires query { IsQuery query.now }
@@ -26,8 +27,9 @@ pub fn states<'e>(ephemeris: &'e Ephemeris, query: &Query) -> BodyStates<'e>
     BodyStates::new(ephemeris, [ask.target, second], ask.observer, ask.frame)
 }
 
-/// The judge of a query's search of an ephemeris, whose ticks are those of the query. The event is that of the query, and
-/// has no fault; the cutter is one by the query's rule, which whoever searches or checks makes: it holds a closure.
+/// Returns the judge of a query's search of an ephemeris that counts the query's ticks. The event is that of the
+/// query, and has no fault. The cutter is one by the query's rule: it holds a closure, so whoever searches or checks
+/// makes it.
 pub fn judge<'e>(
     ephemeris: &'e Ephemeris,
     query: &Query,
@@ -45,7 +47,7 @@ pub fn judge<'e>(
     EventJudge::new(states, ephemeris, event, query.width, query.depth, cutter)
 }
 
-/// The event that a query asks for, or its fault, or `Memory`.
+/// Returns the event that a query asks for. An error is the first fault of the query, or out of memory.
 pub fn event_of(alloc: Global, ephemeris: &Ephemeris, query: &Query) -> Result<Event, Refusal>
     requires { IsQuery query.now }
     ensures event { IfOk result (λ event. event ≡ event_of query.now.ask) }

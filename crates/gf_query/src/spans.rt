@@ -1,4 +1,4 @@
-// Over which times a search goes.
+// The times over which a search goes.
 ghost use Rattle.std.specs.Prelude.{◌≡◌, ◌&&◌, IfErr, IfOk, false, true};
 ghost use Rattle.spec_ephemeris.specs.Ephemeris.{IsEphemeris};
 ghost use Rattle.spec_searches.specs.Found.{root};
@@ -9,7 +9,7 @@ use spec_outcomes::{Refusal, Span};
 use spec_requests::FindAsk;
 use spec_trees::Node;
 
-/// The whole span of an ephemeris, in its ticks since J2000 in TDB.
+/// Returns the whole span of an ephemeris, in its ticks since J2000 in TDB.
 pub fn whole_span(ephemeris: &Ephemeris) -> Span
     ensures span { result ≡ whole_span ephemeris.now }
     ensures checked { IsEphemeris ephemeris.now }
@@ -21,7 +21,7 @@ pub fn whole_span(ephemeris: &Ephemeris) -> Span
     }
 }
 
-// The span that the words ask for; the ephemeris begins or ends it where they do not.
+// Returns the span that the words ask for. Where they leave out its start or its end, the ephemeris gives it.
 fn span_of(find: &FindAsk, ephemeris: &Ephemeris) -> Span
     ensures { result ≡ span_of find.now ephemeris.now }
 {
@@ -31,15 +31,15 @@ fn span_of(find: &FindAsk, ephemeris: &Ephemeris) -> Span
     }
 }
 
-// The span holds a time, and lies within the ephemeris.
+// Tells whether the span holds a time and lies within the ephemeris.
 fn is_within(span: Span, ephemeris: &Ephemeris) -> bool
     ensures { result ≡ is_within span ephemeris.now }
 {
     ephemeris.start() <= span.from && span.from < span.upto && span.upto <= ephemeris.end()
 }
 
-/// The span that the words of a search ask of an ephemeris that counts its ticks, which begins or ends the span where they
-/// do not; `Outside` where it holds no time, or does not lie within the ephemeris.
+/// Returns the span that a search asks of an ephemeris that counts its ticks. Where the words leave out its start or
+/// its end, the ephemeris gives it. `Outside` where the span holds no time, or does not lie within the ephemeris.
 pub fn span_asked(find: &FindAsk, ephemeris: &Ephemeris) -> Result<Span, Refusal>
     ensures span { IfOk result (λ span. span ≡ span_of find.now ephemeris.now) }
     ensures within { IfOk result (λ span. is_within span ephemeris.now ≡ true) }
@@ -59,7 +59,7 @@ pub fn span_asked(find: &FindAsk, ephemeris: &Ephemeris) -> Result<Span, Refusal
     }
 }
 
-/// The root of a span's tree.
+/// Returns the root of a span's tree, at depth 0.
 pub fn root_of(span: Span) -> Node
     ensures { result ≡ root span.from span.upto }
 {

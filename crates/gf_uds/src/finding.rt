@@ -18,9 +18,9 @@ use std::sync::Wait;
 use std::thread::Threads;
 use steal_pool::{PoolError, run};
 
-/// The leaves of a span of a scalar's search, each entered once, by up to 64 workers at once; `TooMany` where they
-/// are more than `limit`. The windows of the book are those of the times after `root.a` and up to `root.b` at which
-/// the scalar passes 0 in a wanted direction: they hold each of these, and a certain one holds exactly one.
+/// Returns the leaves of a span of a scalar's search, each entered once, by up to 64 workers at once. `TooMany` where
+/// there are more than `limit`. The windows of the book are those of the times after `root.a` and up to `root.b` at
+/// which the scalar passes 0 in a wanted direction: they hold each of these, and a certain one holds exactly one.
 pub fn find_scalar<R: Threads + Wait + Sync, L: Law + Sync + Drop, G: Gate>(
     rt: &R,
     alloc: Global,
@@ -53,7 +53,8 @@ pub fn find_scalar<R: Threads + Wait + Sync, L: Law + Sync + Drop, G: Gate>(
     run(rt, alloc, judge, root, workers, limit, gate)
 }
 
-/// The same leaves from left to right, by one walk.
+/// Returns the leaves of a span of a scalar's search from left to right, by one walk. `TooMany` where there are more
+/// than `limit`.
 pub fn scalar_leaves<L: Law + Sync + Drop>(
     alloc: Global,
     judge: &ScalarJudge<L>,

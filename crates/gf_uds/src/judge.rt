@@ -7,8 +7,8 @@ use crate::law::Law;
 use crate::scalar::Scalar;
 use spec_scalars::Plan;
 
-/// Judges the nodes of a search for the times at which a scalar passes 0 in a wanted direction, by what is known of
-/// it over the whole node and at its ends, and cuts those that are split.
+/// A judge of the nodes of a search for the times at which a scalar passes 0 in a wanted direction. It decides by
+/// what is known of the scalar over the whole node and at its ends, and cuts the nodes that are split.
 #[derive(Drop)]
 pub struct ScalarJudge<L: Law + Drop> {
     /// The scalar.

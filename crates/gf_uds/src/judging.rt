@@ -1,4 +1,4 @@
-// What a judge says of the nodes of a scalar's search, and where it cuts them.
+// The verdicts on the nodes of a scalar's search, and where the nodes are cut.
 ghost use Rattle.std.specs.Prelude.{◌≡◌, ◌≤ℤ◌, pos, unsigned_abs};
 ghost use Rattle.spec_trees.specs.Tree.{IsValid};
 ghost use Rattle.spec_scalars.specs.Searches.{rules, search_over, verdict_of};
@@ -15,8 +15,8 @@ use spec_intervals::Sign;
 use spec_scalars::Plan;
 
 impl<L: Law + Drop> ScalarJudge<L> {
-    /// The judge of the search of a scalar for its turns in a wanted direction. Nodes are split down to the width, in
-    /// times, and to the depth, and are cut by the rule.
+    /// Makes the judge of the search of a scalar for its turns in a wanted direction. Nodes are split down to the
+    /// width, in times, and to the depth, and are cut by the rule.
     pub fn new(scalar: Scalar<L>, want: Dir, width: i64, depth: u32, cut: CutRule) -> ScalarJudge<L>
         requires some_width { pos 1 ≤ℤ width }
         ensures scalar { result.scalar ≡ scalar }
@@ -39,7 +39,7 @@ impl<L: Law + Drop> ScalarJudge<L> {
         }
     }
 
-    // The sign of the scalar at a single time, as far as it is known.
+    // Returns the sign of the scalar at a single time, as far as it is known.
     fn sign_at(&self, t: i64) -> Sign
         requires from { self.now.scalar.first ≤ℤ t }
         requires to { t ≤ℤ self.now.scalar.last }
@@ -48,14 +48,14 @@ impl<L: Law + Drop> ScalarJudge<L> {
         reach_sign(self.scalar.reach(t, t))
     }
 
-    // The depth down to which nodes are split.
+    // Returns the depth down to which nodes are split.
     fn deepest(&self) -> u32
         ensures { result ≡ self.now.plan.depth }
     {
         self.plan.depth
     }
 
-    // The verdict of a valid node.
+    // Returns the verdict of a valid node.
     fn verdict(&self, node: Node) -> Verdict
         requires { let s = search_over (L.scalar self.now.scalar.law)
             self.now.scalar.first self.now.scalar.last self.now.plan in IsValid (rules s) node }
@@ -78,10 +78,12 @@ impl<L: Law + Sync + Drop> Judge for ScalarJudge<L> {
     ghost rules = { λ judge. rules (search_over (L.scalar judge.scalar.law)
         judge.scalar.first judge.scalar.last judge.plan) };
 
+    // Returns the verdict of a valid node.
     fn judge(&self, node: Node) -> Verdict {
         self.verdict(node)
     }
 
+    // Cuts a node at the time that the rule names, into its left and its right part, one level deeper.
     fn cut(&self, node: Node) -> (Node, Node) {
         let _deepest = self.deepest();
         let time = rule_cut(self.plan.cut, node.a, node.b);

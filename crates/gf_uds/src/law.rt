@@ -11,7 +11,7 @@ pub trait Law {
     /// them.
     ghost scalar: { Self → Scalar };
 
-    /// What is known of it over the times from `a` to `b`.
+    /// Returns what is known of the scalar over the times from `a` to `b`.
     fn reach(&self, a: i64, b: i64) -> Reach
         requires from { (scalar self.now).first ≤ℤ a }
         requires ordered { a ≤ℤ b }
@@ -23,7 +23,7 @@ pub trait Law {
     ghost keeps: { (law : Self) → KeepsReach (scalar law) };
 }
 
-/// What is known of a scalar by its law is so.
+/// States that what a law tells of its scalar holds for it.
 pub fn law_holds<L: Law>(law: &L)
     ensures { KeepsReach (L.scalar law.now) }
 {}

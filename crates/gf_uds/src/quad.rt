@@ -1,4 +1,4 @@
-// Quadratic polynomials.
+// Quadratic polynomials within limits that keep all sums within 128 bits.
 ghost use Rattle.std.specs.Prelude.{◌≡◌, ◌≤◌, unsigned_abs};
 ghost use Rattle.spec_scalars.specs.declared.limits.TheConstants.{MAX_TIME};
 ghost use Rattle.spec_scalars.specs.Quads.{IsSmall, is_small, quad_step, small_quadratic};
@@ -8,8 +8,8 @@ use crate::squares::{Bound, greatest_square, least_square, product_bound, step, 
 use spec_scalars::{MAX_FACTOR, MAX_SUMMAND};
 use std::marker::Model;
 
-/// p t^2 + q t + r at times t of at most 2^40 in magnitude, where p and q are at most 2^20 in magnitude and r at most
-/// 2^62.
+/// A polynomial p t^2 + q t + r at times t of at most 2^40 in magnitude, where p and q are at most 2^20 in magnitude
+/// and r at most 2^62.
 #[derive(Clone, Copy, PartialEq, Eq)]
 pub struct Quad {
     p: i64,
@@ -29,7 +29,7 @@ impl Model for Quad {
     ghost inverse = { λ k. record { p = k.p; q = k.q; r = k.r } };
 }
 
-// They are within their limits.
+// Tells whether the factors and the summand are within their limits.
 fn is_small(p: i64, q: i64, r: i64) -> bool
     ensures { result ≡ is_small (record { p = p; q = q; r = r }) }
 {
@@ -39,7 +39,7 @@ fn is_small(p: i64, q: i64, r: i64) -> bool
 }
 
 impl Quad {
-    /// The polynomial of these factors and this summand, where they are within their limits.
+    /// Returns the polynomial of these factors and this summand, or none where one is past its limit.
     pub fn new(p: i64, q: i64, r: i64) -> Option<Quad>
         ensures { result ≡ small_quadratic p q r }
     {
@@ -50,7 +50,7 @@ impl Quad {
         }
     }
 
-    // The factor of the square, the factor of the time and the summand.
+    // Returns the factor of the square, the factor of the time and the summand.
     fn parts(&self) -> (i128, i128, i128)
         ensures p { result.0 ≡ self.now.p }
         ensures q { result.1 ≡ self.now.q }
@@ -60,7 +60,7 @@ impl Quad {
         (i128::from(self.p), i128::from(self.q), i128::from(self.r))
     }
 
-    /// What it is no less than from `a` to `b`, or no more than.
+    /// Returns a number that the polynomial is nowhere below from `a` to `b`, or nowhere above.
     pub(crate) fn bound(&self, bound: Bound, a: i128, b: i128) -> i128
         requires first { unsigned_abs a ≤ MAX_TIME }
         requires last { unsigned_abs b ≤ MAX_TIME }
@@ -71,7 +71,7 @@ impl Quad {
         sum(sum(square, product_bound(bound, q, a, b)), r)
     }
 
-    /// Its change from a time to the next.
+    /// Returns the polynomial's change from a time to the next.
     pub(crate) fn step(&self, t: i128) -> i128
         requires { unsigned_abs t ≤ MAX_TIME }
         ensures { result ≡ quad_step self.now t }

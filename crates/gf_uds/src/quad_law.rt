@@ -9,7 +9,8 @@ use crate::quad::Quad;
 use crate::squares::Bound;
 use spec_scalars::Reach;
 
-// What is known of a polynomial from `a` to a later time `b`: its changes lie between the first and the last of them.
+// Returns what is known of a polynomial from `a` to a later time `b`. Its changes lie between the first and the last
+// of them, since they grow or fall all the time.
 fn wide_reach(quad: &Quad, a: i128, b: i128) -> Reach
     requires first { unsigned_abs a ≤ MAX_TIME }
     requires last { unsigned_abs b ≤ MAX_TIME }
@@ -28,6 +29,7 @@ fn wide_reach(quad: &Quad, a: i128, b: i128) -> Reach
 impl Law for Quad {
     ghost scalar = { λ k. quad_scalar k };
 
+    // Returns what is known of the polynomial from `a` to `b`. At a single time there is no change.
     fn reach(&self, a: i64, b: i64) -> Reach {
         let (a, b) = (i128::from(a), i128::from(b));
         if a < b {

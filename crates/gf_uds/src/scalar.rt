@@ -7,11 +7,11 @@ use spec_scalars::Reach;
 /// A law, and a span of its times, at most 2^50 in magnitude.
 #[derive(Drop)]
 pub struct Scalar<L: Law + Drop> {
-    /// The law.
+    /// The law of the scalar.
     pub law: L,
     /// The first time at which the scalar may be asked.
     pub first: i64,
-    /// The last.
+    /// The last time at which the scalar may be asked.
     pub last: i64,
     ghost from: { (L.scalar law).first ≤ℤ first },
     ghost to: { last ≤ℤ (L.scalar law).last },
@@ -20,7 +20,7 @@ pub struct Scalar<L: Law + Drop> {
 }
 
 impl<L: Law + Drop> Scalar<L> {
-    /// The scalar of a law over the times from a first to a last.
+    /// Makes the scalar of a law over the times from `first` to `last`.
     pub fn new(law: L, first: i64, last: i64) -> Scalar<L>
         requires from { (L.scalar law).first ≤ℤ first }
         requires to { last ≤ℤ (L.scalar law).last }
@@ -33,7 +33,7 @@ impl<L: Law + Drop> Scalar<L> {
         Scalar { law, first, last }
     }
 
-    /// What is known of it over the times from `a` to `b`.
+    /// Returns what is known of the scalar over the times from `a` to `b`.
     pub fn reach(&self, a: i64, b: i64) -> Reach
         requires from { self.now.first ≤ℤ a }
         requires ordered { a ≤ℤ b }

@@ -1,10 +1,10 @@
-// Numbers of which a quadratic polynomial is made, over times of at most 2^40 in magnitude.
+// The numbers that bound a quadratic polynomial, over times of at most 2^40 in magnitude.
 ghost use Rattle.std.specs.Prelude.{◌≡◌, ◌≤◌, ◌^◌, ◌&&◌, ◌+ℤ◌, ◌*ℤ◌, int_le, pos, unsigned_abs};
 ghost use Rattle.spec_scalars.specs.declared.limits.TheConstants.{MAX_FACTOR, MAX_TIME};
 ghost use Rattle.spec_scalars.specs.Quads.{greatest_square, least_square};
 ghost use Rattle.gf_uds.specs.Bounds.{outer};
 
-// The product of a factor and a number that is no greater than the square of a time.
+// Returns the product of a factor and a number of at most the square of a time.
 fn product(factor: i128, number: i128) -> i128
     requires factor { unsigned_abs factor ≤ MAX_FACTOR }
     requires number { unsigned_abs number ≤ 2 ^ 80 }
@@ -14,7 +14,7 @@ fn product(factor: i128, number: i128) -> i128
     factor * number
 }
 
-/// The sum of two numbers.
+/// Returns the sum of two numbers.
 pub(crate) fn sum(x: i128, y: i128) -> i128
     requires x { unsigned_abs x ≤ 2 ^ 110 }
     requires y { unsigned_abs y ≤ 2 ^ 100 }
@@ -24,14 +24,14 @@ pub(crate) fn sum(x: i128, y: i128) -> i128
     x + y
 }
 
-/// A bound of what a number may be.
+/// The side from which a number bounds others.
 #[derive(Clone, Copy)]
 pub(crate) enum Bound {
     Low,
     High,
 }
 
-// The lesser of two numbers for a bound from below, the greater for one from above.
+// Returns the lesser of two numbers for a bound from below, the greater for one from above.
 fn outer(bound: Bound, x: i128, y: i128) -> i128
     requires x { unsigned_abs x ≤ 2 ^ 100 }
     requires y { unsigned_abs y ≤ 2 ^ 100 }
@@ -44,7 +44,7 @@ fn outer(bound: Bound, x: i128, y: i128) -> i128
     }
 }
 
-/// The bound of the products of a factor with numbers from one to another.
+/// Returns the bound of the products of a factor with all numbers between two others.
 pub(crate) fn product_bound(bound: Bound, factor: i128, one: i128, other: i128) -> i128
     requires factor { unsigned_abs factor ≤ MAX_FACTOR }
     requires one { unsigned_abs one ≤ 2 ^ 80 }
@@ -55,6 +55,7 @@ pub(crate) fn product_bound(bound: Bound, factor: i128, one: i128, other: i128) 
     outer(bound, product(factor, one), product(factor, other))
 }
 
+// Returns the square of a time.
 fn square(t: i128) -> i128
     requires { unsigned_abs t ≤ MAX_TIME }
     ensures value { result ≡ t *ℤ t }
@@ -63,14 +64,14 @@ fn square(t: i128) -> i128
     t * t
 }
 
-// 0 lies from `a` to `b`.
+// Tells whether 0 lies from `a` to `b`.
 fn hold_zero(a: i128, b: i128) -> bool
     ensures { result ≡ (int_le a (pos 0) && int_le (pos 0) b) }
 {
     a <= 0 && 0 <= b
 }
 
-/// The least square of the times from `a` to `b`.
+/// Returns the least square of the times from `a` to `b`, which is 0 where 0 is one of them.
 pub(crate) fn least_square(a: i128, b: i128) -> i128
     requires first { unsigned_abs a ≤ MAX_TIME }
     requires last { unsigned_abs b ≤ MAX_TIME }
@@ -84,7 +85,7 @@ pub(crate) fn least_square(a: i128, b: i128) -> i128
     }
 }
 
-/// The greatest of them.
+/// Returns the greatest square of the times from `a` to `b`.
 pub(crate) fn greatest_square(a: i128, b: i128) -> i128
     requires first { unsigned_abs a ≤ MAX_TIME }
     requires last { unsigned_abs b ≤ MAX_TIME }
@@ -94,7 +95,7 @@ pub(crate) fn greatest_square(a: i128, b: i128) -> i128
     square(a).max(square(b))
 }
 
-// How much the square of the next time is greater.
+// Returns by how much the square of the next time is greater: `2 t + 1`.
 fn odd(t: i128) -> i128
     requires { unsigned_abs t ≤ MAX_TIME }
     ensures value { result ≡ pos 2 *ℤ t +ℤ pos 1 }
@@ -103,7 +104,7 @@ fn odd(t: i128) -> i128
     2 * t + 1
 }
 
-/// The change of p t^2 + q t from a time to the next.
+/// Returns the change of p t^2 + q t from a time to the next.
 pub(crate) fn step(p: i128, q: i128, t: i128) -> i128
     requires p { unsigned_abs p ≤ MAX_FACTOR }
     requires q { unsigned_abs q ≤ MAX_FACTOR }

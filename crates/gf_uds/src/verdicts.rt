@@ -10,7 +10,7 @@ use halving::{Node, Verdict};
 use spec_intervals::Sign;
 use spec_scalars::{Plan, Reach};
 
-/// The sign of what lies between the bounds of a reach.
+/// Returns the sign of all numbers between the bounds of a reach, as far as they have one.
 pub(crate) fn reach_sign(reach: Reach) -> Sign
     ensures { result ≡ reach_sign reach }
 {
@@ -23,7 +23,7 @@ pub(crate) fn reach_sign(reach: Reach) -> Sign
     }
 }
 
-// The ends of what holds its steps.
+// Returns the bounds of the changes of a reach.
 fn steps(reach: Reach) -> Steps
     ensures { result ≡ record { lo = reach.step_lo; hi = reach.step_hi } }
 {
@@ -33,14 +33,14 @@ fn steps(reach: Reach) -> Steps
     }
 }
 
-/// By what is known over a whole node it has no turn that is wanted.
+/// Tells whether what is known over a whole node shows that it has no turn that is wanted.
 pub(crate) fn is_turnless(plan: Plan, whole: Reach) -> bool
     ensures { result ≡ is_turnless_by plan whole }
 {
     gf_hooks::is_turnless(plan.dir, reach_sign(whole), steps(whole))
 }
 
-// Wider than one time.
+// Tells whether a node has more than one time after its first.
 fn is_wide(node: Node) -> bool
     requires inside { node.a <ℤ node.b }
     requires early { neg_ℤ (pos (2 ^ 50)) ≤ℤ node.a }
@@ -50,7 +50,8 @@ fn is_wide(node: Node) -> bool
     node.b - node.a > 1
 }
 
-/// The ends of a node tell the turns between them.
+/// Tells whether the signs at a node's ends decide which turns lie between them: it has one time after its first, or
+/// the scalar does not turn back.
 pub(crate) fn is_steady(node: Node, whole: Reach) -> bool
     requires inside { node.a <ℤ node.b }
     requires early { neg_ℤ (pos (2 ^ 50)) ≤ℤ node.a }
@@ -60,7 +61,8 @@ pub(crate) fn is_steady(node: Node, whole: Reach) -> bool
     !is_wide(node) || is_one_way(steps(whole))
 }
 
-/// Nothing decides: a node is split where it is above both limits.
+/// Returns the verdict of a node that nothing decides: it is split where it is above both limits, the width and the
+/// depth, and else undecided.
 pub(crate) fn limit_verdict(plan: Plan, node: Node) -> Verdict
     requires inside { node.a <ℤ node.b }
     requires early { neg_ℤ (pos (2 ^ 50)) ≤ℤ node.a }
@@ -74,7 +76,7 @@ pub(crate) fn limit_verdict(plan: Plan, node: Node) -> Verdict
     }
 }
 
-/// By the signs at the ends, where they tell the turns between them.
+/// Returns the verdict of a node by the signs at its ends, where these decide which turns lie between them.
 pub(crate) fn end_verdict(plan: Plan, node: Node, first: Sign, last: Sign) -> Verdict
     requires inside { node.a <ℤ node.b }
     requires early { neg_ℤ (pos (2 ^ 50)) ≤ℤ node.a }

@@ -10,22 +10,22 @@ use spec_kinds::Shadow;
 use spec_text::Decimal;
 use std::alloc::{AllocError, Global};
 
-/// Memory ran out.
+/// The one error of the calls: out of memory.
 pub type Memory = AllocError;
 
 /// An occultation as formulas.
 #[derive(Drop)]
 pub struct OccultParts {
-    /// The function: it is at least 0 where the discs overlap, or one of them lies within the other.
+    /// The function: it is at least 0 where the discs overlap, or where one of them lies within the other.
     pub f: Formula,
-    /// The guards, each with whether it has to be at least 0, or else below 0.
+    /// The guards: formulas, each with whether it has to be at least 0, or else below 0.
     pub guards: Vec<(Formula, bool)>,
 }
 
-/// The occultation of a sphere of the radius `back` by a sphere of the radius `front`, as by SPICE's `gfoclt`. Radii are
-/// in km, at least 0 and below 2^36. For an observer outside both spheres the function is at least 0 exactly where the
-/// discs overlap (`Any`), or where one lies within the other (`Full`, `Annular`); the guards say that the front body is no
-/// farther than the other, and which disc is the larger. An error comes only where memory runs out.
+/// Returns the occultation of a sphere of the radius `back` by a sphere of the radius `front`, as SPICE's `gfoclt`
+/// has it. Radii are in km, at least 0 and below 2^36. For an observer outside both spheres the function is at least
+/// 0 exactly where the discs overlap (`Any`), or where one lies within the other (`Full`, `Annular`). The guards say
+/// that the front body is no farther than the other, and which disc is the larger. The only error is out of memory.
 pub fn occult(
     alloc: Global,
     kind: Shadow,
@@ -43,7 +43,8 @@ pub fn occult(
     Ok(OccultParts { f, guards })
 }
 
-// The guards, each with whether it has to be at least 0, or else below 0.
+// Returns the guards: formulas, each with whether it has to be at least 0, or else below 0. The only error is out of
+// memory.
 fn guards_of(
     alloc: Global,
     kind: Shadow,

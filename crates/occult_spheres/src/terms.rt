@@ -1,4 +1,5 @@
-// The expressions of which the function and the guards are made. Target 0 is in front, target 1 at the back.
+// The expressions of the function and the guards. Target 0 is in front, target 1 at the back. The only error of each
+// call is out of memory.
 ghost use Rattle.std.specs.Prelude.{◌≡◌, IfOk};
 ghost use Rattle.spec_expressions.specs.Term.{term, difference, product};
 ghost use Rattle.spec_expressions.specs.Vectors.{dot, squared_length, IsVector};
@@ -10,13 +11,13 @@ use spec_kinds::Shadow;
 use spec_text::Decimal;
 use std::alloc::{AllocError, Global};
 
-/// The place of the body in front.
+/// The position of the body in front.
 const FRONT: Vector = Vector::Position(0);
 
-/// The place of the body at the back.
+/// The position of the body at the back.
 const BACK: Vector = Vector::Position(1);
 
-// The dot product of the places, and the product of the radii added or subtracted.
+// Returns the dot product of both positions, with the product of the radii added (`Any`) or subtracted.
 fn between(alloc: Global, shadow: Shadow, front: Decimal, back: Decimal) -> Result<Expr, AllocError>
     ensures { IfOk result (λ e. term e ≡ between shadow front back) }
 {
@@ -28,7 +29,7 @@ fn between(alloc: Global, shadow: Shadow, front: Decimal, back: Decimal) -> Resu
     }
 }
 
-// The product of the squares of the tangents from the observer to the spheres.
+// Returns the product of the squares of the tangents from the observer to both spheres.
 fn tangents(alloc: Global, front: Decimal, back: Decimal) -> Result<Expr, AllocError>
     ensures { IfOk result (λ e. term e ≡ tangents front back) }
 {
@@ -37,7 +38,7 @@ fn tangents(alloc: Global, front: Decimal, back: Decimal) -> Result<Expr, AllocE
     product(alloc, near, far)
 }
 
-// The square of the tangent from the observer to a sphere at a place.
+// Returns the square of the tangent from the observer to a sphere: its squared distance less its squared radius.
 fn squared_tangent(alloc: Global, place: Vector, radius: Decimal) -> Result<Expr, AllocError>
     requires { IsVector place }
     ensures { IfOk result (λ e. term e ≡ difference (dot place place) (squared_length radius)) }
@@ -46,7 +47,7 @@ fn squared_tangent(alloc: Global, place: Vector, radius: Decimal) -> Result<Expr
     difference(alloc, distance, squared_length(alloc, radius)?)
 }
 
-/// The function of an occultation, or an error where memory runs out.
+/// Returns the function of an occultation, by what is asked of the discs.
 pub fn function(
     alloc: Global,
     shadow: Shadow,
@@ -59,21 +60,22 @@ pub fn function(
     difference(alloc, square, tangents(alloc, front, back)?)
 }
 
-/// At least 0 where the body at the back is no nearer than the one in front.
+/// Returns an expression that is at least 0 where the body at the back is no nearer than the one in front.
 pub fn farther(alloc: Global) -> Result<Expr, AllocError>
     ensures { IfOk result (λ e. term e ≡ farther) }
 {
     difference(alloc, dot(alloc, BACK, BACK)?, dot(alloc, FRONT, FRONT)?)
 }
 
-/// At least 0 where the disc in front is no smaller than the one at the back.
+/// Returns an expression that is at least 0 where the disc in front is no smaller than the one at the back.
 pub fn larger(alloc: Global, front: Decimal, back: Decimal) -> Result<Expr, AllocError>
     ensures { IfOk result (λ e. term e ≡ larger front back) }
 {
     difference(alloc, disc(alloc, front, BACK)?, disc(alloc, back, FRONT)?)
 }
 
-// The square of a radius times that of the distance of the other sphere's place.
+// Returns the square of a radius times the squared distance of the other sphere. Two of these compare the sizes of
+// discs without a division.
 fn disc(alloc: Global, radius: Decimal, other: Vector) -> Result<Expr, AllocError>
     requires { IsVector other }
     ensures { IfOk result (λ e. term e ≡ product (squared_length radius) (dot other other)) }

@@ -1,4 +1,4 @@
-// From leaves in order to windows.
+// The windows that leaves in order make.
 ghost use Rattle.std.specs.Prelude.{◌≡◌, ◌++◌, [], All, IfOk, OnOk};
 ghost use Rattle.spec_trees.specs.Tree.{HasTime};
 ghost use Rattle.spec_trees.specs.Windows.{window_of, windows};
@@ -7,7 +7,7 @@ ghost use Rattle.spec_trees.specs.Runs.{ended, longer};
 use spec_trees::{Holds, Leaf, Mark, Window};
 use std::alloc::{AllocError, Global};
 
-// The window of a leaf by itself.
+// Returns the window of a single leaf: all its times but the first, at which the leaf before it ends.
 fn window_of(leaf: &Leaf, holds: Holds) -> Window
     requires { HasTime leaf.now }
     ensures { result ≡ window_of leaf.now.node holds }
@@ -17,7 +17,7 @@ fn window_of(leaf: &Leaf, holds: Holds) -> Window
     Window { first, last, holds }
 }
 
-// An open run of undecided leaves, and one leaf more.
+// Returns the run of undecided leaves, lengthened by one leaf, or the run of this leaf alone.
 fn extend_run(run: Option<Window>, leaf: &Leaf) -> Window
     requires { HasTime leaf.now }
     ensures { result ≡ longer run leaf.now.node }
@@ -32,7 +32,7 @@ fn extend_run(run: Option<Window>, leaf: &Leaf) -> Window
     }
 }
 
-// Puts the window of a run that ends here.
+// Appends the window of a run of undecided leaves that ends here, if there is one. The only error is out of memory.
 fn end(found: &mut Vec<Window>, run: Option<Window>) -> Result<(), AllocError>
     ensures { OnOk result (found.new.items ≡ found.old.items ++ ended run []) }
 {
@@ -42,9 +42,9 @@ fn end(found: &mut Vec<Window>, run: Option<Window>) -> Result<(), AllocError>
     Ok(())
 }
 
-/// The windows of leaves that are in order of time already, each of which stands for some time: one for each leaf with
-/// an event, and one for each longest run of undecided leaves. Times are ticks of TDB since J2000. The one error is that
-/// memory runs out.
+/// Returns the windows of leaves that are in order of time already, each of which has some time: one for each leaf
+/// with an event, and one for each longest run of undecided leaves. Times are ticks of TDB since J2000. The only
+/// error is out of memory.
 pub fn leaf_windows(alloc: Global, leaves: &[Leaf]) -> Result<Vec<Window>, AllocError>
     requires { All HasTime leaves.now }
     ensures { IfOk result (λ v. v.items ≡ windows leaves.now) }

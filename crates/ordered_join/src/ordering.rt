@@ -1,4 +1,4 @@
-// The leaves of a book, and their windows.
+// The leaves of a book in order of time, and their windows.
 ghost use Rattle.std.specs.Prelude.{◌≡◌, IfOk};
 ghost use Rattle.spec_trees.specs.Tree.{Covers};
 ghost use Rattle.spec_trees.specs.Placement.{AreInOrder, AreWithin};
@@ -8,12 +8,12 @@ use crate::joining::leaf_windows;
 use spec_trees::{Book, Booked, Leaf, Window};
 use std::alloc::{AllocError, Global};
 
-/// Out of memory.
+/// The one error of the calls: out of memory.
 pub type Memory = AllocError;
 
-/// The windows of a book's leaves, put in order of time. The leaves follow one another over the book's root, without
-/// gap or overlap, in whatever order they were entered. Times are ticks of TDB since J2000. The leaves are sorted
-/// once.
+/// Returns the windows of a book's leaves, put in order of time. The leaves follow one another over the book's root,
+/// without gap or overlap, in whatever order they were entered. Times are ticks of TDB since J2000. The leaves are
+/// sorted once. The only error is out of memory.
 pub fn windows(alloc: Global, book: &Book) -> Result<Vec<Window>, Memory>
     requires cover { CoverRoot book.now.root book.now.entries.items }
     ensures windows { IfOk result (λ found. found.items ≡ book_windows book.now.entries.items) }
@@ -25,8 +25,9 @@ pub fn windows(alloc: Global, book: &Book) -> Result<Vec<Window>, Memory>
     Ok(found)
 }
 
-/// The leaves of a book, put in order of time. They follow one another over the book's root, without gap or overlap,
-/// in whatever order they were entered. Times are ticks of TDB since J2000. They are sorted once.
+/// Returns the leaves of a book, put in order of time. They follow one another over the book's root, without gap or
+/// overlap, in whatever order they were entered. Times are ticks of TDB since J2000. They are sorted once. The only
+/// error is out of memory.
 pub fn leaves(alloc: Global, book: &Book) -> Result<Vec<Leaf>, Memory>
     requires cover { CoverRoot book.now.root book.now.entries.items }
     ensures leaves { IfOk result (λ found. found.items ≡ ordered_leaves book.now.entries.items) }
@@ -37,7 +38,7 @@ pub fn leaves(alloc: Global, book: &Book) -> Result<Vec<Leaf>, Memory>
     Ok(leaves)
 }
 
-// The leaves of entries, as they came.
+// Returns the leaves of entries, in the order in which they were entered. The only error is out of memory.
 fn leaves_of_entries(alloc: Global, entries: &[Booked]) -> Result<Vec<Leaf>, AllocError>
     ensures { IfOk result (λ leaves. leaves.items ≡ booked_leaves entries.now) }
 {

@@ -10,8 +10,9 @@ use std::io::ErrorKind;
 use std::process::ExitCode;
 use std::rt::Stderr;
 
-/// The words of the command line, without the program's name. A word that is not UTF-8 is in no request: the list is then
-/// that of a command without its files, which the call refuses as it would refuse a word that no command has.
+/// Returns the words of the command line, without the program's name. A word that is not UTF-8 is in no request: the
+/// list is then that of a command without its files, which the call refuses as it would refuse a word that no command
+/// has. The only error is out of memory.
 fn words(rt: &HostRuntime) -> Result<Vec<String>, AllocError> {
     let mut words = Vec::new(rt.alloc());
     match env::args(rt) {
@@ -26,12 +27,13 @@ fn words(rt: &HostRuntime) -> Result<Vec<String>, AllocError> {
     Ok(words)
 }
 
-/// Reports that there is no memory for the words, and returns the status.
+/// Reports that there is no memory for the words, and returns the status of that.
 fn report_out_of_memory(err: &mut StdSink<Stderr>) -> u8 {
     let _ = err.write(b"finder: out of memory\n");
     OUT_OF_MEMORY
 }
 
+// Runs the one call of the program over the system's files and streams, and exits with its status.
 fn main(rt: HostRuntime) -> ExitCode {
     let mut shelf = FileShelf::new(&rt);
     let mut out = StdSink::out(&rt);

@@ -1,4 +1,4 @@
-// Which files the call opens, and that files and reports of a size that no case has are answered while there is memory.
+// Tests of the program's call: which files it opens, and that files and reports larger than in any case are answered.
 use crate::calls::{Answer, call};
 use crate::inputs::{BLOCK, HEADER, NotingShelf};
 use gf_edges::{MemoryShelf, OpenGate};
@@ -11,10 +11,10 @@ use std::sync::Wait;
 use std::test::Fail;
 use std::thread::Threads;
 
-// The rows of a block behind its first two.
+// The rows of a block after its first two, which are zeros.
 const ZERO_ROWS: usize = 7;
 
-// Adds a block that begins on this day, in which Mercury's x has these coefficients.
+// Appends a block that starts on this Julian date, in which Mercury's x has these coefficients.
 fn add_block(alloc: Global, text: &mut Vec<u8>, day: i64, row: &str) -> Result<(), AllocError> {
     let next = day.saturating_add(32);
     let first_rows = format!(in alloc; "1 26\n{day}.5 {next}.5 0.0\n{row}\n")?;
@@ -25,7 +25,7 @@ fn add_block(alloc: Global, text: &mut Vec<u8>, day: i64, row: &str) -> Result<(
     Ok(())
 }
 
-// A file of so many blocks, in each of which Mercury's x has these coefficients.
+// Returns a file of `count` blocks, in each of which Mercury's x has these coefficients.
 fn blocks(alloc: Global, count: i64, row: &str) -> Result<Vec<u8>, AllocError> {
     let mut text = HEADER.as_bytes().to_vec(alloc)?;
     for number in 0..count {
@@ -35,14 +35,14 @@ fn blocks(alloc: Global, count: i64, row: &str) -> Result<Vec<u8>, AllocError> {
     Ok(text)
 }
 
-// A shelf with one file `a`.
+// Makes a shelf with one file, `a`.
 fn shelf_of(alloc: Global, file: Vec<u8>) -> Result<MemoryShelf, AllocError> {
     let mut files = Vec::with_capacity(alloc, 1)?;
     files.push((String::from_str(alloc, "a")?, file))?;
     Ok(MemoryShelf::new(files, 4096, Vec::new(alloc)))
 }
 
-// The answer to words over a file `a` of so many blocks.
+// Returns the answer to words over a file `a` of `count` blocks.
 fn call_over<R: Threads + Wait + Sync>(
     rt: &R,
     alloc: Global,
@@ -54,6 +54,7 @@ fn call_over<R: Threads + Wait + Sync>(
     call(rt, alloc, line, &mut shelf, 65_536, &OpenGate)
 }
 
+// Shows that a file of 16,385 blocks is refused at the first block past the limit.
 #[test]
 fn too_many_blocks_are_refused(rt: HostRuntime) -> Result<(), Fail> {
     let answer = call_over(&rt, rt.alloc(), "check a", 16_385, "0.0 0.0 0.0")?;
@@ -62,8 +63,8 @@ fn too_many_blocks_are_refused(rt: HostRuntime) -> Result<(), Fail> {
     Ok(())
 }
 
-// Mercury's x rises in the middle of each block, and falls where the next one begins: a report is never too long while
-// there is memory.
+// Shows that a report of many windows is written whole. Mercury's x rises in the middle of each block, and falls
+// where the next one starts.
 #[test]
 fn a_report_of_many_windows(rt: HostRuntime) -> Result<(), Fail> {
     let line = "find --kind coord --target mercury --axis x --width 1000000 a";
@@ -79,9 +80,9 @@ fn a_report_of_many_windows(rt: HostRuntime) -> Result<(), Fail> {
     Ok(())
 }
 
-// Words over three files, of which `a` is a header, `b` a block, and `c` is empty; the call of the shelf that fails; the
-// status, and the names that are opened: those of the words, in their order, up to the first file that cannot be read or
-// has a fault. A certificate is opened after them, where its search could be made.
+// Words over three files, of which `a` is a header, `b` a block, and `c` is empty; the call of the shelf that fails;
+// the status, and the names that are opened. These are those of the words, in their order, up to the first file that
+// cannot be read or has a fault. A certificate is opened after them, where its search could be made.
 const OPENED: [(&str, u64, u8, &str); 16] = [
     (
         "find --kind coord --target mercury --axis x a b c",
@@ -146,7 +147,7 @@ const OPENED: [(&str, u64, u8, &str); 16] = [
     ("scalar --quad 1,0,-4 --from 0 --to 9", 0, REPORTED, ""),
 ];
 
-// Whether the words of a row have its status, and its files are opened.
+// Tells whether the words of a row have its status, and open the files that it names.
 fn opens<R: Threads + Wait + Sync>(
     rt: &R,
     alloc: Global,
@@ -158,6 +159,7 @@ fn opens<R: Threads + Wait + Sync>(
     Ok(answer.status == status && shelf.opened() == opened.as_bytes())
 }
 
+// Shows that the call opens the named files alone, in their order.
 #[test]
 fn the_named_files_alone_are_opened(rt: HostRuntime) -> Result<(), Fail> {
     for row in &OPENED {

@@ -1,4 +1,4 @@
-// The call that the program makes, with words and a shelf.
+// The program's call, with words and a shelf, and what it returned.
 use crate::inputs::words_of;
 use gf_edges::{Gate, MemorySink, Shelf};
 use gf_find::finder;
@@ -6,10 +6,10 @@ use std::alloc::{AllocError, Global};
 use std::sync::Wait;
 use std::thread::Threads;
 
-// How many bytes the outputs take at once.
+// The most bytes that an output takes at once.
 const PIECE: usize = 16;
 
-// How many bytes the error output has room for.
+// The room of the error output, in bytes.
 const ERR_ROOM: usize = 4096;
 
 /// What a call returned, and the outputs that it wrote to.
@@ -20,12 +20,12 @@ pub(crate) struct Answer {
     pub(crate) err: MemorySink,
 }
 
-// An output with room for so many bytes.
+// Makes an output with this room, in bytes.
 fn output(alloc: Global, room: usize) -> Result<MemorySink, AllocError> {
     MemorySink::new(alloc, room, PIECE, Vec::new(alloc))
 }
 
-// The answer of the call with these words.
+// Calls the program with these words and returns its answer.
 fn answer_to<R: Threads + Wait + Sync, S: Shelf, G: Gate>(
     rt: &R,
     alloc: Global,
@@ -40,7 +40,7 @@ fn answer_to<R: Threads + Wait + Sync, S: Shelf, G: Gate>(
     Ok(Answer { status, out, err })
 }
 
-/// The answer of the call with the words of this line, where the output has room for so many bytes.
+/// Calls the program with the words of this line, and an output of this room, and returns its answer.
 pub(crate) fn call<R: Threads + Wait + Sync, S: Shelf, G: Gate>(
     rt: &R,
     alloc: Global,

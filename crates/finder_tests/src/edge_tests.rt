@@ -1,14 +1,14 @@
-// What no clause can say: that calls succeed, and which bytes reach the files of the system and come back. Shelves and
-// sinks in memory have exact clauses.
+// Tests of the system's files and streams: that calls succeed, and which bytes reach a file and come back. No clause
+// can say this; shelves and sinks in memory have exact clauses.
 use gf_edges::{Failed, FileShelf, Gate, OpenGate, Shelf, Sink, StdSink};
 use std::alloc::{AllocError, Global};
 use std::fs;
 use std::test::Fail;
 
-// A file of the folder that the test runs in.
+// The name of a file in the folder that the test runs in.
 const NAME: &str = "finder_tests_bytes.tmp";
 
-// The bytes of the whole numbers from 0, 10,000 in all.
+// Returns 10,000 bytes: those of the whole numbers from 0 on.
 fn numbers(alloc: Global) -> Result<Vec<u8>, AllocError> {
     let mut text = Vec::new(alloc);
     for number in 0..2_500u32 {
@@ -17,7 +17,7 @@ fn numbers(alloc: Global) -> Result<Vec<u8>, AllocError> {
     Ok(text)
 }
 
-// Whether each piece of a text is taken whole, and nothing of no bytes.
+// Tells whether a sink takes each piece of a text whole, and nothing of no bytes.
 fn takes_whole<S: Sink>(sink: &mut S, text: &[u8]) -> Result<bool, Failed> {
     let mut is_taken = true;
     for piece in text.chunks(1_000) {
@@ -26,7 +26,7 @@ fn takes_whole<S: Sink>(sink: &mut S, text: &[u8]) -> Result<bool, Failed> {
     Ok(sink.write(b"")? == 0 && is_taken)
 }
 
-// Whether two reads give a text, and a third one nothing.
+// Tells whether two reads give a text, and a third one nothing.
 fn gives_whole<S: Shelf>(shelf: &mut S, text: &[u8]) -> Result<bool, Failed>
     requires { S.ready shelf.old }
 {
@@ -39,6 +39,7 @@ fn gives_whole<S: Shelf>(shelf: &mut S, text: &[u8]) -> Result<bool, Failed>
     Ok(shelf.read(&mut front)? == 0 && is_given)
 }
 
+// Shows that every byte that a stream takes is read back of its file.
 #[test]
 fn every_byte_that_a_stream_takes_is_read_of_its_file(rt: HostRuntime) -> Result<(), Fail> {
     let text = numbers(rt.alloc())?;
@@ -52,6 +53,7 @@ fn every_byte_that_a_stream_takes_is_read_of_its_file(rt: HostRuntime) -> Result
     Ok(())
 }
 
+// Shows that the standard streams and the open gate answer.
 #[test]
 fn outer_streams_and_gates_answer(rt: HostRuntime) -> Result<(), Fail> {
     assert!(rt; StdSink::out(&rt).write(b"")? == 0);

@@ -1,4 +1,4 @@
-// Which files are opened, and how much is read of one.
+// Tests of the reading of files: which are opened, and how much is read of one.
 use crate::inputs::{BLOCK, HEADER, NotingShelf, words_of};
 use gf_edges::{Failed, Shelf};
 use gf_files::{FilesError, read_files};
@@ -7,7 +7,7 @@ use spec_text::Fault;
 use std::alloc::{AllocError, Global};
 use std::test::Fail;
 
-// One file without an end, with the number of its bytes that were read.
+// A shelf with one file that has no end. It counts the bytes that were read.
 #[derive(Drop)]
 struct EndlessShelf {
     given: usize,
@@ -24,17 +24,19 @@ impl Shelf for EndlessShelf {
 
     ghost faults = { λ _. 0 };
 
+    // Opens the file, by any name.
     fn open(&mut self, _name: &str) -> Result<(), Failed> {
         Ok(())
     }
 
+    // Fills the whole buffer, and counts its bytes.
     fn read(&mut self, buf: &mut [u8]) -> Result<usize, Failed> {
         self.given = self.given.saturating_add(buf.len());
         Ok(buf.len())
     }
 }
 
-// Three files, the call of the shelf that fails, the names that are opened, and the error.
+// A row of the table: three files, the call of the shelf that fails, the names that are opened, and the error.
 #[derive(Clone, Copy)]
 struct Row {
     texts: [&'static str; 3],
@@ -43,6 +45,7 @@ struct Row {
     error: Option<FilesError>,
 }
 
+// The rows: where the reading stops, and which files were opened until then.
 const ROWS: [Row; 5] = [
     Row {
         texts: [HEADER, BLOCK, ""],
@@ -90,7 +93,7 @@ const ROWS: [Row; 5] = [
     },
 ];
 
-// Whether the files of these names are accepted, as one block that ends with its first line, or this is their error.
+// Tells whether the files of these names are read as one block, or are refused with this error.
 fn is_answered<S: Shelf>(
     alloc: Global,
     shelf: &mut S,
@@ -106,7 +109,7 @@ fn is_answered<S: Shelf>(
     }
 }
 
-// Whether the files are answered as a row says, and those of its names are opened.
+// Tells whether the files of a row are answered as it says, and only those that it names are opened.
 fn agrees(alloc: Global, row: &Row) -> Result<bool, AllocError> {
     let names = words_of(alloc, "a b c")?;
     let mut shelf = NotingShelf::new(alloc, row.texts, row.failing)?;
@@ -114,6 +117,7 @@ fn agrees(alloc: Global, row: &Row) -> Result<bool, AllocError> {
     Ok(is_answered && shelf.opened() == row.opened.as_bytes())
 }
 
+// Shows that no file is opened after the first that fails.
 #[test]
 fn no_file_is_opened_after_the_first_that_fails(rt: HostRuntime) -> Result<(), Fail> {
     for (number, row) in ROWS.iter().enumerate() {
@@ -122,6 +126,7 @@ fn no_file_is_opened_after_the_first_that_fails(rt: HostRuntime) -> Result<(), F
     Ok(())
 }
 
+// Shows that the reading of a file stops one byte past the limit.
 #[test]
 fn one_byte_past_the_limit_is_read_of_a_file(rt: HostRuntime) -> Result<(), Fail> {
     let names = words_of(rt.alloc(), "a")?;

@@ -1,8 +1,8 @@
-// What the tests give to the calls: words, and three small files in memory that note which of them are opened.
+// The inputs of the tests: words, and three small files in memory that note which of them are opened.
 use gf_edges::{Failed, MemoryShelf, Shelf};
 use std::alloc::{AllocError, Global};
 
-/// The header of an ephemeris, a file of its own.
+/// The header of an ephemeris, as a file of its own.
 pub(crate) const HEADER: &str = "KSIZE= 52 NCOEFF= 26
 GROUP 1010
 E1 TEST EPHEMERIS
@@ -21,7 +21,7 @@ GROUP 1050
 GROUP 1070
 ";
 
-/// The first block that may follow it, in which Mercury's x rises through 0 in the middle.
+/// The first block after `HEADER`, in which Mercury's x rises through 0 in the middle.
 pub(crate) const BLOCK: &str = "1 26
 0.245154450000000000D+07 0.245157650000000000D+07 0.0
 0.138240000000000000D+07 0.0 0.0
@@ -34,7 +34,7 @@ pub(crate) const BLOCK: &str = "1 26
 0.0 0.0 0.0
 ";
 
-/// The words of a line.
+/// Splits a line into its words.
 pub(crate) fn words_of(alloc: Global, line: &str) -> Result<Vec<String>, AllocError> {
     let mut words = Vec::new(alloc);
     for word in line.split_ascii_whitespace() {
@@ -43,20 +43,20 @@ pub(crate) fn words_of(alloc: Global, line: &str) -> Result<Vec<String>, AllocEr
     Ok(words)
 }
 
-/// Files in memory, with the names that were opened, each before a blank.
+/// A shelf of files in memory that notes the names that were opened, each before a blank.
 #[derive(Drop)]
 pub(crate) struct NotingShelf {
     files: MemoryShelf,
     opened: Vec<u8>,
 }
 
-// A name, and the bytes of a text.
+// Makes a file of a name and a text.
 fn file(alloc: Global, name: &str, text: &str) -> Result<(String, Vec<u8>), AllocError> {
     let bytes = text.as_bytes().to_vec(alloc)?;
     Ok((String::from_str(alloc, name)?, bytes))
 }
 
-// The files `a`, `b` and `c`, of these texts.
+// Makes the files `a`, `b` and `c` of these texts.
 fn three_files(alloc: Global, texts: [&str; 3]) -> Result<Vec<(String, Vec<u8>)>, AllocError> {
     let mut files = Vec::new(alloc);
     for (name, text) in [("a", texts[0]), ("b", texts[1]), ("c", texts[2])] {
@@ -66,7 +66,8 @@ fn three_files(alloc: Global, texts: [&str; 3]) -> Result<Vec<(String, Vec<u8>)>
 }
 
 impl NotingShelf {
-    /// The files `a`, `b` and `c`, of these texts. The call whose number is given fails; where it is 0, none does.
+    /// Makes a shelf of the files `a`, `b` and `c`, of these texts. The call whose number is given fails; where it is
+    /// 0, none does.
     pub(crate) fn new(alloc: Global, texts: [&str; 3], failing: u64) -> Result<Self, AllocError> {
         let failing = [failing].to_vec(alloc)?;
         let files = three_files(alloc, texts)?;
@@ -76,7 +77,7 @@ impl NotingShelf {
         })
     }
 
-    /// The names that `open` was asked for, in the order of the calls, each before a blank.
+    /// Returns the names that `open` was asked for, in the order of the calls, each before a blank.
     pub(crate) fn opened(&self) -> &[u8] {
         self.opened.as_slice()
     }
@@ -93,14 +94,15 @@ impl Shelf for NotingShelf {
 
     ghost faults = { λ s. s.files.faults };
 
-    // The name is noted before the file is opened, so that a call that fails is noted too. Where memory runs out the note is
-    // cut short, and the test fails.
+    // Notes the name, then opens the file. So a call that fails is noted too. Where memory runs out the note is cut
+    // short, and the test fails.
     fn open(&mut self, name: &str) -> Result<(), Failed> {
         let _ = self.opened.extend_from_slice(name.as_bytes());
         let _ = self.opened.push(b' ');
         self.files.open(name)
     }
 
+    // Reads the open file.
     fn read(&mut self, buf: &mut [u8]) -> Result<usize, Failed> {
         self.files.read(buf)
     }

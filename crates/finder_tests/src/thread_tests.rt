@@ -1,4 +1,4 @@
-// Each command that searches does so on as many threads as its words ask for.
+// Tests of threads: each command that searches does so on as many as its words ask for.
 use crate::calls::call;
 use crate::inputs::{BLOCK, HEADER, NotingShelf};
 use gf_edges::Gate;
@@ -9,12 +9,12 @@ use std::sync::atomic::{AtomicU64, Ordering};
 use std::test::Fail;
 use std::thread::Threads;
 
-// How often a worker that is held looks whether another has come.
+// The most looks of a worker that is held whether another has come. After them it gives up, so that a test ends.
 const TURNS: u64 = 200_000_000;
 
-// Holds worker 0 at its second pass until another worker has come, and each other at its first until worker 0 has come
-// to its second. The first right part lies on the deque of worker 0 before the threads start, and worker 0 takes nothing
-// while it is held, so another finds that node.
+// A gate that holds worker 0 at its second pass until another worker has come. It holds each other at its first pass
+// until worker 0 has come to its second. The first right part lies on the deque of worker 0 before the threads start,
+// and worker 0 takes nothing while it is held, so another finds that node.
 #[derive(Drop)]
 struct Meeting {
     first: AtomicU64,
@@ -22,6 +22,7 @@ struct Meeting {
     given_up: AtomicU64,
 }
 
+// Waits until a count of passes reaches `least`. After `TURNS` looks it gives up, and notes so.
 fn wait_for(passes: &AtomicU64, least: u64, given_up: &AtomicU64) {
     for _ in 0..TURNS {
         if passes.load(Ordering::SeqCst) >= least {
@@ -32,6 +33,7 @@ fn wait_for(passes: &AtomicU64, least: u64, given_up: &AtomicU64) {
 }
 
 impl Gate for Meeting {
+    // Counts the pass of a worker, and holds it until another is there too.
     fn pass(&self, worker: u32) {
         if worker == 0 {
             if self.first.fetch_add(1, Ordering::SeqCst) == 1 {
@@ -44,7 +46,7 @@ impl Gate for Meeting {
     }
 }
 
-// Whether another worker has come to the gate of the run of this line, and no worker has waited in vain.
+// Tells whether another worker came to the gate in the run of this line, and no worker waited in vain.
 fn is_met<R: Threads + Wait + Sync>(rt: &R, alloc: Global, line: &str) -> Result<bool, AllocError> {
     let gate = Meeting {
         first: AtomicU64::new(0),
@@ -58,7 +60,7 @@ fn is_met<R: Threads + Wait + Sync>(rt: &R, alloc: Global, line: &str) -> Result
     Ok(answer.status == REPORTED && have_come && have_met)
 }
 
-// Words of each command that searches, over the files `a`, a header, and `b`, a block.
+// The words of each command that searches, over the files `a`, a header, and `b`, a block.
 const SEARCHES: [&str; 6] = [
     "find --kind coord --target mercury --axis x --workers 2 a b",
     "cert --kind coord --target mercury --axis x --workers 2 a b",
@@ -68,6 +70,7 @@ const SEARCHES: [&str; 6] = [
     "gen 405 1 1 --workers 3",
 ];
 
+// Shows that two workers of each search are at work at the same time.
 #[test]
 fn workers_of_each_search_meet(rt: HostRuntime) -> Result<(), Fail> {
     for line in &SEARCHES {

@@ -4,10 +4,10 @@ ghost use Rattle.spec_trees.specs.Cuts.{CanCut, cut_of};
 
 use spec_trees::CutRule;
 
-/// A closure that is asked where the span from a first time to a second one is cut.
+/// A closure that returns the time at which a span, from a first time to a second one, is cut.
 pub type Cut = Box<dyn Fn(i64, i64) -> i64 + Send + Sync>;
 
-/// A closure and the rule whose cuts it returns.
+/// A closure that cuts spans, and the rule whose cuts it returns.
 #[derive(Drop)]
 pub struct Cutter {
     rule: CutRule,
@@ -27,14 +27,14 @@ impl Cutter {
         Cutter { rule, cut }
     }
 
-    /// The rule of the cuts.
+    /// Returns the rule of the cuts.
     pub fn rule(&self) -> CutRule
         ensures { result ≡ self.now.rule }
     {
         self.rule
     }
 
-    /// The rule's cut of the span from `a` to `b`, in ticks of TDB since J2000: a time strictly between them.
+    /// Returns the rule's cut of the span from `a` to `b`, in ticks of TDB since J2000: a time strictly between them.
     pub fn cut(&self, a: i64, b: i64) -> i64
         requires { CanCut a b }
         ensures cut { result ≡ cut_of self.now.rule a b }

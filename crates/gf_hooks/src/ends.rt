@@ -1,4 +1,4 @@
-// What the signs of a function at both ends of a node tell of the turns between them.
+// The turns between the ends of a node, by the signs of a function there.
 ghost use Rattle.std.specs.Prelude.{◌≡◌};
 ghost use Rattle.spec_events.specs.Events.{wants};
 ghost use Rattle.spec_events.specs.Stages.{has_no_turn};
@@ -8,7 +8,7 @@ use spec_events::Dir;
 use spec_intervals::Sign;
 use spec_trees::Turn;
 
-// Both signs are known and equal.
+// Tells whether both signs are known and equal.
 #[inline(always)]
 fn agree(first: Sign, last: Sign) -> bool
     ensures { result ≡ agree first last }
@@ -16,7 +16,7 @@ fn agree(first: Sign, last: Sign) -> bool
     matches!((first, last), (Sign::Yes, Sign::Yes) | (Sign::No, Sign::No))
 }
 
-// The direction is one of those that are wanted.
+// Tells whether a turn has a direction that is wanted.
 #[inline(always)]
 fn wants(dir: Dir, turn: Turn) -> bool
     ensures { result ≡ wants dir turn }
@@ -28,7 +28,7 @@ fn wants(dir: Dir, turn: Turn) -> bool
     }
 }
 
-/// Both are known and differ in a direction that is wanted.
+/// Tells whether both signs are known and differ, in a direction that is wanted.
 #[inline(always)]
 pub fn differ(dir: Dir, first: Sign, last: Sign) -> bool
     ensures { result ≡ differ dir first last }
@@ -40,7 +40,7 @@ pub fn differ(dir: Dir, first: Sign, last: Sign) -> bool
     }
 }
 
-// Both are known and differ against the direction that is wanted.
+// Tells whether both signs are known and differ, against the direction that is wanted.
 #[inline(always)]
 fn differ_against(dir: Dir, first: Sign, last: Sign) -> bool
     ensures { result ≡ differ_against dir first last }
@@ -52,7 +52,7 @@ fn differ_against(dir: Dir, first: Sign, last: Sign) -> bool
     }
 }
 
-/// Both are known, and there is no turn in a wanted direction from the one to the other.
+/// Tells whether both signs are known, and show no turn in a wanted direction from the first to the last.
 #[inline(always)]
 pub fn has_no_turn(dir: Dir, first: Sign, last: Sign) -> bool
     ensures { result ≡ has_no_turn dir first last }
@@ -60,7 +60,7 @@ pub fn has_no_turn(dir: Dir, first: Sign, last: Sign) -> bool
     agree(first, last) || differ_against(dir, first, last)
 }
 
-/// The turn to this sign from the other.
+/// Returns the turn that leads to this sign: a rise to `Yes`, else a fall.
 #[inline(always)]
 pub fn turn_to(sign: Sign) -> Turn
     ensures { result ≡ turn_to sign }

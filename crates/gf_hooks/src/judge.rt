@@ -1,21 +1,22 @@
-// Who decides which nodes are split, and where.
+// The judge: who decides which nodes are split, and where.
 ghost use Rattle.std.specs.Prelude.{◌≡◌};
 ghost use Rattle.spec_trees.specs.Tree.{Cuts, IsSound, IsValid, Rules};
 ghost use Rattle.spec_trees.specs.declared.tree.Verdict.TheVariants.{Split};
 
 use spec_trees::{Node, Verdict};
 
-/// Decides which nodes are split, and where. Neither changes, and both are known of each valid node.
+/// A judge decides which nodes are split, and where. Neither ever changes, and both are known of each valid node.
 pub trait Judge: Sync {
     /// The first and the last time and the greatest depth of valid nodes, and the verdict and the parts of each.
     ghost rules: { Self → Rules };
 
-    /// What is said of a valid node.
+    /// Returns the verdict on a valid node.
     fn judge(&self, node: Node) -> Verdict
         requires { IsValid (rules self.now) node }
         ensures { result ≡ (rules self.now).verdict node };
 
-    /// The two parts of a valid node that is to be split. They are valid, and meet in one time strictly inside it.
+    /// Returns the two parts of a valid node that is to be split. They are valid, and meet in one time strictly
+    /// inside it.
     fn cut(&self, node: Node) -> (Node, Node)
         requires valid { IsValid (rules self.now) node }
         requires split { (rules self.now).verdict node ≡ Split }
@@ -28,7 +29,7 @@ pub trait Judge: Sync {
     ghost sound: { (judge : Self) → IsSound (rules judge) };
 }
 
-/// The rules of each judge are sound.
+/// States that the rules of each judge are sound.
 pub fn rules_are_sound<J: Judge>(judge: &J)
     ensures { IsSound (J.rules judge.now) }
 {}

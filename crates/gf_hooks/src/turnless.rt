@@ -1,4 +1,4 @@
-// What the sign of a function over a node, and its steps, tell of its turns.
+// The tests that show, by a function's sign over a node and by its steps, that it has no turn there.
 ghost use Rattle.std.specs.Prelude.{◌≡◌};
 ghost use Rattle.spec_events.specs.Stages.{is_turnless};
 ghost use Rattle.spec_events.specs.Verdict.{falls, is_known, is_one_way, rises, steps_against};
@@ -8,6 +8,7 @@ use crate::steps::Steps;
 use spec_events::Dir;
 use spec_intervals::Sign;
 
+// Tells whether a sign is known.
 #[inline(always)]
 fn is_known(sign: Sign) -> bool
     ensures { result ≡ is_known sign }
@@ -15,7 +16,7 @@ fn is_known(sign: Sign) -> bool
     matches!(sign, Sign::Yes | Sign::No)
 }
 
-// From each time to the next it rises or stays.
+// Tells whether the function rises or stays from each time to the next.
 #[inline(always)]
 fn rises(steps: Steps) -> bool
     ensures { result ≡ rises (steps_interval steps) }
@@ -23,7 +24,7 @@ fn rises(steps: Steps) -> bool
     steps.lo >= 0
 }
 
-// It falls or stays.
+// Tells whether the function falls or stays from each time to the next.
 #[inline(always)]
 fn falls(steps: Steps) -> bool
     ensures { result ≡ falls (steps_interval steps) }
@@ -31,7 +32,7 @@ fn falls(steps: Steps) -> bool
     steps.hi <= 0
 }
 
-/// It is monotone, so that its turns are known by the signs at the ends.
+/// Tells whether the function is monotone, so that the signs at the ends tell its turns.
 #[inline(always)]
 pub fn is_one_way(steps: Steps) -> bool
     ensures { result ≡ is_one_way (steps_interval steps) }
@@ -39,7 +40,7 @@ pub fn is_one_way(steps: Steps) -> bool
     rises(steps) || falls(steps)
 }
 
-// Its steps lead against the direction that is wanted.
+// Tells whether all steps lead against the direction that is wanted. None do where both directions are.
 #[inline(always)]
 fn steps_against(dir: Dir, steps: Steps) -> bool
     ensures { result ≡ steps_against dir (steps_interval steps) }
@@ -51,7 +52,8 @@ fn steps_against(dir: Dir, steps: Steps) -> bool
     }
 }
 
-/// It has one sign over all times, or its steps lead against the direction that is wanted.
+/// Tells whether the function has one sign over all times, or its steps lead against the direction that is wanted. So
+/// it has no turn that is wanted.
 #[inline(always)]
 pub fn is_turnless(dir: Dir, over: Sign, steps: Steps) -> bool
     ensures { result ≡ is_turnless dir over (steps_interval steps) }

@@ -6,12 +6,14 @@ use ordered_join::{Holds, Window, windows};
 use spec_trees::{Book, Booked, Leaf, Mark, Node, Turn};
 use std::test::Fail;
 
+// Returns the node from `a` to `b` at depth 0.
 const fn node(a: i64, b: i64) -> Node
     ensures { result ≡ node a b }
 {
     Node { a, b, depth: 0 }
 }
 
+// Returns the entry of a leaf from `a` to `b` with this mark, made by seat 0.
 const fn entry(a: i64, b: i64, mark: Mark) -> Booked
     ensures { result ≡ booked (leaf a b mark) }
 {
@@ -24,16 +26,20 @@ const fn entry(a: i64, b: i64, mark: Mark) -> Booked
     }
 }
 
+// Returns the window from `first` to `last` that holds this.
 const fn window(first: i64, last: i64, holds: Holds) -> Window
     ensures { result ≡ window first last holds }
 {
     Window { first, last, holds }
 }
 
+// The mark of a leaf with one rise.
 const RISE: Mark = Mark::One(Turn::Rise);
 
+// The mark of a leaf with one fall.
 const FALL: Mark = Mark::One(Turn::Fall);
 
+// Shows that a book whose leaves came out of order has their windows in order, with the undecided ones joined.
 #[test]
 fn a_book_out_of_order(rt: HostRuntime) -> Result<(), Fail> {
     let alloc = rt.alloc();

@@ -5,6 +5,7 @@ use std::alloc::Global;
 use std::test::*;
 use std::thread::Threads;
 
+// Shows that a walk over three leaves is refused at a limit of two, and finds all three at a limit of three.
 #[test]
 fn a_limit_is_kept(rt: HostRuntime) -> Result<(), Fail> {
     let refused = run_one(rt.alloc(), &Comb, span(0, 3), 2);
@@ -17,13 +18,14 @@ fn a_limit_is_kept(rt: HostRuntime) -> Result<(), Fail> {
     Ok(())
 }
 
-// The depths of the first leaf and of the last.
+// Returns the depths of the first leaf and of the last, or none where there is no leaf.
 fn end_depths(leaves: &[Leaf]) -> Option<(u32, u32)> {
     let first = leaves.first()?;
     let last = leaves.last()?;
     Some((first.node.depth, last.node.depth))
 }
 
+// Shows that a tree of depth 19,999 is walked whole, without a stack that overflows.
 #[test]
 fn a_deep_tree(rt: HostRuntime) -> Result<(), Fail> {
     let Ok(leaves) = run_one(rt.alloc(), &Comb, span(0, 20_000), 20_000) else {
@@ -35,7 +37,7 @@ fn a_deep_tree(rt: HostRuntime) -> Result<(), Fail> {
     Ok(())
 }
 
-// Eight ticks, cut at their first third until no leaf is wider than two.
+// Returns the leaves of eight ticks, cut at their first third until none is wider than two.
 fn five_leaves(alloc: Global) -> Result<Vec<Leaf>, RunError> {
     let mut leaves = Vec::new(alloc);
     for (a, b, depth) in [(0, 2, 1), (2, 4, 2), (4, 5, 3), (5, 6, 4), (6, 8, 4)] {
@@ -50,7 +52,7 @@ fn five_leaves(alloc: Global) -> Result<Vec<Leaf>, RunError> {
     Ok(leaves)
 }
 
-// Whether so many workers find the five leaves where as many may be found.
+// Tells whether this many workers find the five leaves at a limit of five.
 fn finds_five<R: Threads + Sync>(rt: &R, alloc: Global, workers: u32) -> bool {
     if workers < 1 || workers > 64 {
         return false;
@@ -59,6 +61,7 @@ fn finds_five<R: Threads + Sync>(rt: &R, alloc: Global, workers: u32) -> bool {
     found == five_leaves(alloc)
 }
 
+// Shows that one, two, three and 64 workers find the same five leaves.
 #[test]
 fn five_leaves_by_any_number_of_workers(rt: HostRuntime) {
     for workers in [1, 2, 3, 64] {
@@ -66,7 +69,7 @@ fn five_leaves_by_any_number_of_workers(rt: HostRuntime) {
     }
 }
 
-// Whether the five leaves are too many for so many workers where four may be found.
+// Tells whether five leaves are too many for this many workers at a limit of four.
 fn finds_too_many<R: Threads + Sync>(rt: &R, alloc: Global, workers: u32) -> bool {
     if workers < 1 || workers > 64 {
         return false;
@@ -77,6 +80,7 @@ fn finds_too_many<R: Threads + Sync>(rt: &R, alloc: Global, workers: u32) -> boo
     }
 }
 
+// Shows that one, two, three and 64 workers keep a limit.
 #[test]
 fn a_limit_is_kept_by_any_number_of_workers(rt: HostRuntime) {
     for workers in [1, 2, 3, 64] {

@@ -1,4 +1,4 @@
-// A ledger of two leaves, one that is closed with a seat missing, and one that two threads fill.
+// Tests of ledgers: one of two leaves, one that is closed with a seat missing, and one that two threads fill.
 ghost use Rattle.std.specs.Prelude.{All, pos, ◌≡◌, ◌<◌, ◌+◌};
 ghost use Rattle.span_ledger.specs.Seats.{IsSeatOf};
 ghost use Rattle.pool_tests.specs.Ledgers.{IsHundred, IsThousands};
@@ -10,19 +10,21 @@ use std::test::*;
 use std::thread;
 use std::thread::Threads;
 
+// A root of a hundred seconds.
 const HUNDRED: Node = Node {
     a: 0,
     b: 100,
     depth: 0,
 };
 
+// A root of 64,000 seconds: a thousand for each seat that a ledger may have.
 const THOUSANDS: Node = Node {
     a: 0,
     b: 64_000,
     depth: 0,
 };
 
-// The second after `time`.
+// Returns the leaf of the second after `time`.
 fn leaf_at(time: u32) -> Leaf
     requires { time < 64000 }
     ensures begins { result.node.a ≡ pos time }
@@ -39,7 +41,7 @@ fn leaf_at(time: u32) -> Leaf
     }
 }
 
-// Whether this is what the ledger answers where the second after `time` is entered.
+// Tells whether the ledger gives this answer where the leaf of the second after `time` is entered.
 fn answers<R: Wait>(
     rt: &R,
     ledger: &SpanLedger,
@@ -55,6 +57,7 @@ fn answers<R: Wait>(
     ledger.enter(rt, seat, leaf_at(time)) == answer
 }
 
+// Shows that a ledger with a limit of two refuses a third leaf and knows a leaf that stands.
 #[test]
 fn limit_of_two(rt: HostRuntime) -> Result<(), Fail> {
     let Ok((ledger, mut seats)) = SpanLedger::new(rt.alloc(), HUNDRED, 2, 2) else {
@@ -79,6 +82,7 @@ fn limit_of_two(rt: HostRuntime) -> Result<(), Fail> {
     Ok(())
 }
 
+// Shows that a ledger whose seats are not all there is not closed, and says how many were given.
 #[test]
 fn missing_seat(rt: HostRuntime) -> Result<(), Fail> {
     let Ok((ledger, mut seats)) = SpanLedger::new(rt.alloc(), HUNDRED, 2, 2) else {
@@ -94,7 +98,7 @@ fn missing_seat(rt: HostRuntime) -> Result<(), Fail> {
     Ok(())
 }
 
-// A thousand leaves, those of a seat's number.
+// Enters the thousand leaves that belong to the seat's number.
 fn enter_thousand<R: Wait>(rt: &R, ledger: &SpanLedger, seat: &mut LedgerSeat)
     requires ours { IsSeatOf ledger.now seat.old }
     requires root { IsThousands ledger.now }
@@ -106,6 +110,7 @@ fn enter_thousand<R: Wait>(rt: &R, ledger: &SpanLedger, seat: &mut LedgerSeat)
     }
 }
 
+// Lets all seats enter their leaves at once, each in a thread.
 fn enter_all<R: Threads + Wait + Sync>(rt: &R, ledger: &SpanLedger, seats: &mut [LedgerSeat])
     requires ours { All (IsSeatOf ledger.now) seats.old }
     requires root { IsThousands ledger.now }
@@ -122,7 +127,7 @@ fn enter_all<R: Threads + Wait + Sync>(rt: &R, ledger: &SpanLedger, seats: &mut 
     );
 }
 
-// How many entries the first seat made.
+// Counts the entries that the first seat made.
 fn first_entries(entries: &[Booked]) -> u32 {
     let mut count = 0u32;
     for entry in entries {
@@ -133,6 +138,7 @@ fn first_entries(entries: &[Booked]) -> u32 {
     count
 }
 
+// Shows that two threads enter two thousand leaves, of which each stands once.
 #[test]
 fn two_threads(rt: HostRuntime) -> Result<(), Fail> {
     let Ok((ledger, mut seats)) = SpanLedger::new(rt.alloc(), THOUSANDS, 5000, 2) else {

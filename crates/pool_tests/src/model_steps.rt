@@ -1,16 +1,18 @@
-// Ten steps of two workers over a tree of four leaves, and what the opening state refuses.
+// Tests of the model of the pool: ten steps of two workers over a tree of four leaves, and what the opening state
+// refuses.
 use crate::judges::Crossing;
 use halving::{Leaf, Node};
 use pool_core::{Pool, Step, StepError};
 use std::test::*;
 
+// The root of the tests, of four leaves.
 const ROOT: Node = Node {
     a: 1_339_000,
     b: 1_339_400,
     depth: 0,
 };
 
-// Whether these steps can be made one after the other, and the last of them alone leaves nothing to do.
+// Tells whether these steps are taken one after the other, and only the last of them leaves nothing to do.
 fn ends_by(pool: &mut Pool<Crossing>, steps: &[Step]) -> bool {
     for step in steps {
         if pool.is_done() || pool.step(*step).is_err() {
@@ -20,7 +22,7 @@ fn ends_by(pool: &mut Pool<Crossing>, steps: &[Step]) -> bool {
     pool.is_done()
 }
 
-// Whether the leaves that were entered begin at these times, in this order.
+// Tells whether the leaves that were entered start at these times, in this order.
 fn have_begins(leaves: &[Leaf], begins: &[i64]) -> bool {
     if leaves.len() != begins.len() {
         return false;
@@ -33,6 +35,7 @@ fn have_begins(leaves: &[Leaf], begins: &[i64]) -> bool {
     true
 }
 
+// Shows that ten steps end the work on four leaves, and that they are entered in the order of the steps.
 #[test]
 fn ten_steps(rt: HostRuntime) -> Result<(), Fail> {
     let Ok(mut pool) = Pool::new(rt.alloc(), Crossing, ROOT, 2) else {
@@ -57,7 +60,7 @@ fn ten_steps(rt: HostRuntime) -> Result<(), Fail> {
     Ok(())
 }
 
-// Whether each of these steps is refused.
+// Tells whether each of these steps is refused.
 fn refuses_all(pool: &mut Pool<Crossing>, steps: &[Step]) -> bool {
     for step in steps {
         let Err(StepError::Refused) = pool.step(*step) else {
@@ -67,6 +70,7 @@ fn refuses_all(pool: &mut Pool<Crossing>, steps: &[Step]) -> bool {
     true
 }
 
+// Shows that the opening state refuses the steps whose condition is false.
 #[test]
 fn opening_state_refuses(rt: HostRuntime) -> Result<(), Fail> {
     let Ok(mut pool) = Pool::new(rt.alloc(), Crossing, ROOT, 2) else {

@@ -1,4 +1,4 @@
-// Pools whose seats work at once, each in a thread of its own: the leaves that they find, and workers that meet.
+// Tests of pools whose seats work at once, each in a thread: the leaves that they find, and workers that meet.
 ghost use Rattle.std.specs.Prelude.{◌≡◌, ◌<◌, ◌≤◌, ℕ, None, pos, neg_ℤ, length, slice_index_or};
 ghost use Rattle.std.specs.List.{AllByRecursion};
 ghost use Rattle.steal_pool.specs.Pools.{AreLinked, CanMake};
@@ -21,7 +21,7 @@ use std::thread;
 use std::thread::Threads;
 use steal_pool::{Naming, PoolError, PoolSeat, finish, make, run};
 
-// How many leaves so many workers find where as many as `limit` may be found, or why they find none.
+// Returns how many leaves this many workers find at a limit, or why they find none.
 fn found_by<R: Threads + Wait + Sync>(
     rt: &R,
     alloc: Global,
@@ -34,7 +34,7 @@ fn found_by<R: Threads + Wait + Sync>(
     Ok(book.entries.len())
 }
 
-// Whether so many workers find the five leaves where five may be found, and too many where four may.
+// Tells whether this many workers find the five leaves at a limit of five, and are refused at a limit of four.
 fn finds_five<R: Threads + Wait + Sync>(rt: &R, alloc: Global, workers: u32) -> bool {
     if workers < 1 || workers > 64 {
         return false;
@@ -43,6 +43,7 @@ fn finds_five<R: Threads + Wait + Sync>(rt: &R, alloc: Global, workers: u32) -> 
         && found_by(rt, alloc, workers, 4) == Err(PoolError::TooMany)
 }
 
+// Shows that one, two, four and 64 workers find the same five leaves and keep the limit.
 #[test]
 fn any_number_of_workers_finds_the_leaves(rt: HostRuntime) {
     for workers in [1, 2, 4, 64] {
@@ -50,11 +51,11 @@ fn any_number_of_workers_finds_the_leaves(rt: HostRuntime) {
     }
 }
 
-// How often a worker that is held looks whether another has come.
+// The most looks of a worker that is held whether another has come. After them it gives up, so that a test ends.
 const TURNS: u64 = 200_000_000;
 
-// Holds worker 0 at its second pass until another worker has come, and each other at its first until worker 0 has come
-// to its second.
+// A gate that holds worker 0 at its second pass until another worker has come. It holds each other at its first pass
+// until worker 0 has come to its second.
 #[derive(Drop)]
 struct Meeting {
     first: AtomicU64,
@@ -62,6 +63,7 @@ struct Meeting {
     given_up: AtomicU64,
 }
 
+// Waits until a count of passes reaches `least`. After `TURNS` looks it gives up, and notes so.
 fn wait_for(passes: &AtomicU64, least: u64, given_up: &AtomicU64) {
     for _ in 0..TURNS {
         if passes.load(Ordering::SeqCst) >= least {
@@ -72,6 +74,7 @@ fn wait_for(passes: &AtomicU64, least: u64, given_up: &AtomicU64) {
 }
 
 impl Gate for Meeting {
+    // Counts the pass of a worker, and holds it until another is there too.
     fn pass(&self, worker: u32) {
         if worker == 0 {
             if self.first.fetch_add(1, Ordering::SeqCst) == 1 {
@@ -84,6 +87,7 @@ impl Gate for Meeting {
     }
 }
 
+// Makes a gate at which no worker has passed.
 fn new_meeting() -> Meeting {
     Meeting {
         first: AtomicU64::new(0),
@@ -92,6 +96,7 @@ fn new_meeting() -> Meeting {
     }
 }
 
+// Shows that two workers of a run are at work at the same time.
 #[test]
 fn two_workers_meet(rt: HostRuntime) -> Result<(), Fail> {
     let gate = new_meeting();
@@ -105,7 +110,7 @@ fn two_workers_meet(rt: HostRuntime) -> Result<(), Fail> {
     Ok(())
 }
 
-// Works until there is no more to do, or until it is refused.
+// Works until nothing is left to do, or the seat is refused. The seat keeps why it stopped.
 fn work_off<R: Wait, N: Naming, J: Judge, G: Gate>(rt: &R, seat: &mut PoolSeat<N, J, G>)
     requires free { seat.old.refusal ≡ None }
     ensures { HasWorked N.rules seat.old seat.new }
@@ -113,7 +118,7 @@ fn work_off<R: Wait, N: Naming, J: Judge, G: Gate>(rt: &R, seat: &mut PoolSeat<N
     let _ = seat.work(rt);
 }
 
-// All seats work at once.
+// Lets all seats work at once.
 fn work_all<R: Threads + Wait + Sync, N: Naming + Send + Sync, J: Judge, G: Gate>(
     rt: &R,
     seats: &mut [PoolSeat<N, J, G>],
@@ -133,7 +138,8 @@ fn work_all<R: Threads + Wait + Sync, N: Naming + Send + Sync, J: Judge, G: Gate
     );
 }
 
-// The first seat puts the right parts of so many splits on its deque, and then all work at once.
+// Lets the first seat put the right parts of `count` splits on its deque, and then all seats work at once. True where
+// all these parts went on the deque.
 fn push_and_work<R: Threads + Wait + Sync, N: Naming + Send + Sync, J: Judge, G: Gate>(
     rt: &R,
     judge: &J,
@@ -151,7 +157,7 @@ fn push_and_work<R: Threads + Wait + Sync, N: Naming + Send + Sync, J: Judge, G:
     pushed
 }
 
-// Holds each worker until four have come.
+// A gate that holds each worker until four have come.
 #[derive(Drop)]
 struct Four {
     come: AtomicU64,
@@ -159,13 +165,15 @@ struct Four {
 }
 
 impl Gate for Four {
+    // Counts a pass, and waits for the fourth.
     fn pass(&self, _worker: u32) {
         self.come.fetch_add(1, Ordering::SeqCst);
         wait_for(&self.come, 4, &self.given_up);
     }
 }
 
-// Three nodes lie on the deque of the first of four seats when all begin, so each of the others takes one.
+// Tells whether four seats meet at the gate. Three nodes lie on the deque of the first seat when all start, so each
+// other seat takes one.
 fn meet<N: Naming + Send + Sync, R: Threads + Wait + Sync>(
     rt: &R,
     alloc: Global,
@@ -186,6 +194,7 @@ fn meet<N: Naming + Send + Sync, R: Threads + Wait + Sync>(
     pushed && gate.given_up.load(Ordering::SeqCst) == 0
 }
 
+// Shows that four workers of a pool are at work at the same time.
 #[test]
 fn four_workers_meet(rt: HostRuntime) -> Result<(), Fail> {
     let Ok((ledger, entries)) = SpanLedger::new(rt.alloc(), span(0, 100), 100, 4) else {
@@ -196,20 +205,20 @@ fn four_workers_meet(rt: HostRuntime) -> Result<(), Fail> {
     Ok(())
 }
 
-// How often the first worker and the others have passed the gate.
+// Returns how often the first worker and the others have passed the gate.
 fn passes(gate: &Meeting) -> (u64, u64) {
     let first = gate.first.load(Ordering::SeqCst);
     let others = gate.others.load(Ordering::SeqCst);
     (first, others)
 }
 
-// Whether no worker gave up waiting.
+// Tells whether no worker gave up waiting.
 fn all_met(gate: &Meeting) -> bool {
     gate.given_up.load(Ordering::SeqCst) == 0
 }
 
-// Whether four seats that work in threads of their own, of which the first and another meet, leave nothing for the end
-// of their pool.
+// Tells whether four seats, of which the first and another meet, leave nothing on their deques for the end of the
+// pool.
 fn leave_nothing<N: Naming + Send + Sync, R: Threads + Wait + Sync>(
     rt: &R,
     alloc: Global,
@@ -232,6 +241,7 @@ fn leave_nothing<N: Naming + Send + Sync, R: Threads + Wait + Sync>(
     pushed & met & ended & (passes(&gate) == before)
 }
 
+// Shows that workers that work to their end leave nothing for `finish`.
 #[test]
 fn workers_leave_nothing_for_the_end(rt: HostRuntime) -> Result<(), Fail> {
     let root = span(-43_200, 2_721_600);

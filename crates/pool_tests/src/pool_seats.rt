@@ -1,4 +1,4 @@
-// Seats of a pool in one thread: what they push and take, and the books that they leave.
+// Tests of a pool's seats in one thread: what they push and take, and the books that they leave.
 ghost use Rattle.std.specs.Prelude.{◌≡◌, ◌<◌, IsTrue, None, pos, neg_ℤ, length};
 ghost use Rattle.steal_pool.specs.Pools.{CanMake};
 ghost use Rattle.steal_pool.specs.Runs.{AreFree};
@@ -16,7 +16,8 @@ use std::sync::Wait;
 use std::test::*;
 use steal_pool::{Naming, PoolSeat, Pushed, finish, make};
 
-// The right part of the node in the hand, put away, or nothing where that node is not to be split.
+// Puts the right part of the node in the hand away, and returns where it went. None where that node is not to be
+// split.
 fn push_right<N: Naming, J: Judge, G: Gate>(
     judge: &J,
     seat: &mut PoolSeat<N, J, G>,
@@ -33,7 +34,7 @@ fn push_right<N: Naming, J: Judge, G: Gate>(
     Some(seat.push(right))
 }
 
-/// Puts the right parts of so many splits away, one after the other. Whether all of them went on the deque.
+/// Puts the right parts of `count` splits away, one after the other. True where all of them went on the deque.
 pub fn push_rights<N: Naming, J: Judge, G: Gate>(
     judge: &J,
     seat: &mut PoolSeat<N, J, G>,
@@ -51,7 +52,7 @@ pub fn push_rights<N: Naming, J: Judge, G: Gate>(
     true
 }
 
-// The next node, taken into an empty hand.
+// Takes the next node into an empty hand. None where the hand is not empty, or no node is found.
 fn take_next<N: Naming, J: Judge, G: Gate>(seat: &mut PoolSeat<N, J, G>) -> Option<Node>
     ensures same { SameSeat seat.old seat.new }
     ensures refusal { seat.new.refusal ≡ seat.old.refusal }
@@ -62,8 +63,8 @@ fn take_next<N: Naming, J: Judge, G: Gate>(seat: &mut PoolSeat<N, J, G>) -> Opti
     }
 }
 
-// Whether a seat over a hundred seconds of stairs, which holds the root, puts 64 nodes on its deque and one on its local
-// stack, and then works to its end.
+// Tells whether a seat over a hundred seconds of `Stairs`, which holds the root, puts 64 nodes on its deque and one
+// on its local stack, and then works to its end.
 fn push_stairs<N: Naming, R: Wait>(rt: &R, seat: &mut PoolSeat<N, Stairs, OpenGate>) -> bool
     requires named { AreNamed N.rules stairs }
     requires free { seat.old.refusal ≡ None }
@@ -76,7 +77,7 @@ fn push_stairs<N: Naming, R: Wait>(rt: &R, seat: &mut PoolSeat<N, Stairs, OpenGa
     on_deque & kept & ended
 }
 
-// The book of the only seat of a pool, once it filled its deque and worked, where it did.
+// Returns the book of a pool's only seat, after it filled its deque and worked, or none where it did not.
 fn book_of_one<N: Naming, R: Wait>(
     rt: &R,
     alloc: Global,
@@ -108,6 +109,7 @@ fn book_of_one<N: Naming, R: Wait>(
     ledger.close(entries).ok()
 }
 
+// Shows that a deque takes 64 nodes in a row, and that the local stack takes the next.
 #[test]
 fn a_deque_takes_64_nodes_in_a_row(rt: HostRuntime) -> Result<(), Fail> {
     let Ok((ledger, entries)) = SpanLedger::new(rt.alloc(), span(0, 100), 100, 1) else {
@@ -122,7 +124,7 @@ fn a_deque_takes_64_nodes_in_a_row(rt: HostRuntime) -> Result<(), Fail> {
     Ok(())
 }
 
-// Whether the second seat takes what the first puts on its deque, and then both work to their end.
+// Tells whether the second seat takes what the first puts on its deque, and both then work to their end.
 fn take_from_other<N: Naming, R: Wait>(
     rt: &R,
     first: &mut PoolSeat<N, Crossing, OpenGate>,
@@ -145,7 +147,7 @@ fn take_from_other<N: Naming, R: Wait>(
     pushed & taken & first_ended & second_ended
 }
 
-// The book of two seats in one thread, once the second took a node of the first, where it did.
+// Returns the book of two seats in one thread, after the second took a node of the first, or none where it did not.
 fn book_of_two<N: Naming, R: Wait>(
     rt: &R,
     alloc: Global,
@@ -184,7 +186,7 @@ fn book_of_two<N: Naming, R: Wait>(
     ledger.close(entries).ok()
 }
 
-// The number of the seat that entered the leaf from `a` to `b`.
+// Returns the number of the seat that entered the leaf from `a` to `b`, or none where no leaf is there.
 fn seat_of(book: &Book, a: i64, b: i64) -> Option<u32> {
     for booked in book.entries.iter() {
         if booked.leaf.node.a == a && booked.leaf.node.b == b {
@@ -194,6 +196,7 @@ fn seat_of(book: &Book, a: i64, b: i64) -> Option<u32> {
     None
 }
 
+// Shows that a seat takes a node of another's deque, and enters the leaves under it.
 #[test]
 fn a_seat_takes_what_another_put_on_its_deque(rt: HostRuntime) -> Result<(), Fail> {
     let root = span(1_339_000, 1_339_400);
@@ -217,8 +220,8 @@ fn a_seat_takes_what_another_put_on_its_deque(rt: HostRuntime) -> Result<(), Fai
     Ok(())
 }
 
-// A seat puts the right part of its node on its deque, another takes it, and the first works off what it has. No other
-// deque holds a node meanwhile.
+// Tells whether a seat puts the right part of its node on its deque, another takes it, and the first works off what
+// it has. No other deque holds a node meanwhile.
 fn hand_over<N: Naming, R: Wait>(
     rt: &R,
     seats: &mut [PoolSeat<N, Crossing, OpenGate>],
@@ -242,7 +245,7 @@ fn hand_over<N: Naming, R: Wait>(
     }
 }
 
-// A way over four seats on which each hands over to each other one once.
+// Pairs of seats, of four, of which the first hands a node over to the second. Each seat does so to each other once.
 const WAY: [(usize, usize); 12] = [
     (0, 1),
     (1, 0),
@@ -258,7 +261,7 @@ const WAY: [(usize, usize); 12] = [
     (3, 0),
 ];
 
-// Whether the seats handed over on the whole way.
+// Tells whether the seats hand over along all pairs of `WAY`.
 fn hand_round<N: Naming, R: Wait>(rt: &R, seats: &mut [PoolSeat<N, Crossing, OpenGate>]) -> bool
     requires named { AreNamed N.rules long_crossing }
     requires free { AreFree seats.old }
@@ -274,7 +277,7 @@ fn hand_round<N: Naming, R: Wait>(rt: &R, seats: &mut [PoolSeat<N, Crossing, Ope
     true
 }
 
-// The same for the seats of a pool that is made for it.
+// Makes a pool of four seats, and tells whether they hand over along all pairs of `WAY`.
 fn make_and_hand_round<N: Naming, R: Wait>(
     rt: &R,
     alloc: Global,
@@ -293,6 +296,7 @@ fn make_and_hand_round<N: Naming, R: Wait>(
     hand_round(rt, seats.as_mut_slice())
 }
 
+// Shows that each of four seats steals from each other one.
 #[test]
 fn each_of_four_seats_steals_from_each_other_one(rt: HostRuntime) -> Result<(), Fail> {
     let root = span(-43_200, 1_339_200);

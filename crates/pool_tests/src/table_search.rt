@@ -1,4 +1,4 @@
-// Searches of a table of numbers, which is no polynomial.
+// Tests of searches of a scalar that is a table of numbers, and no polynomial.
 ghost use Rattle.std.specs.Prelude.{◌≡◌, ◌<◌, ◌≤ℤ◌, pos, slice_index};
 ghost use Rattle.pool_tests.specs.Laws.{heights, tide, tides, tides_keep_reach};
 
@@ -13,9 +13,10 @@ use std::sync::Wait;
 use std::test::*;
 use std::thread::Threads;
 
-// The heights of the water at times 0 to 12.
+// The heights of the water at the times 0 to 12.
 const HEIGHTS: [u8; 13] = [10, 8, 6, 3, 1, 3, 5, 7, 6, 4, 4, 7, 9];
 
+// Returns the height at a place of the table.
 fn height(i: usize) -> u8
     requires { i < 13 }
     ensures { result ≡ slice_index heights i }
@@ -23,7 +24,7 @@ fn height(i: usize) -> u8
     HEIGHTS[i]
 }
 
-// The heights above a mark at 5.
+// Returns the height at a time, less the mark of 5.
 fn tide(t: i64) -> i128
     requires from { pos 0 ≤ℤ t }
     requires to { t ≤ℤ pos 12 }
@@ -32,13 +33,15 @@ fn tide(t: i64) -> i128
     i128::from(height(t.unsigned_abs() as usize)) - 5
 }
 
-// The tides, which change by at most 3 from one time to the next.
+// A law of the tides, which change by at most 3 from one time to the next.
 #[derive(Drop)]
 struct Tides;
 
 impl Law for Tides {
     ghost scalar = { λ _. tides };
 
+    // Returns what is known of the tides over a span: bounds that hold for the whole table, and the exact value at a
+    // single time.
     fn reach(&self, a: i64, b: i64) -> Reach {
         if a < b {
             Reach {
@@ -60,7 +63,7 @@ impl Law for Tides {
     ghost keeps = { λ _. tides_keep_reach };
 }
 
-// The search of the tides for each passing of the mark, down to one time.
+// Makes the judge of a search for each passing of the mark, down to one time.
 fn judge() -> ScalarJudge<Tides>
     ensures first { result.scalar.first ≡ pos 0 }
     ensures last { result.scalar.last ≡ pos 12 }
@@ -69,7 +72,7 @@ fn judge() -> ScalarJudge<Tides>
     ScalarJudge::new(scalar, Want::Any, 1, 40, CutRule::Half)
 }
 
-// The mark of a leaf whose last time is this: the water passes the mark of 5 at four times.
+// Returns the mark of the leaf whose last time is this. The water passes the mark of 5 at four times.
 fn mark_at(t: i64) -> Mark {
     match t {
         3 | 9 => Mark::One(Turn::Fall),
@@ -78,7 +81,7 @@ fn mark_at(t: i64) -> Mark {
     }
 }
 
-// How many of the leaves have a turn, where each has its mark.
+// Counts the leaves with a turn, or returns none where a leaf has another mark than `mark_at` says.
 fn turns(leaves: &[Leaf]) -> Option<u32> {
     let mut turns = 0u32;
     for leaf in leaves {
@@ -92,7 +95,7 @@ fn turns(leaves: &[Leaf]) -> Option<u32> {
     Some(turns)
 }
 
-// The same of a book.
+// Counts the leaves with a turn in a book, or returns none where a leaf has another mark than `mark_at` says.
 fn turns_of(book: &Book) -> Option<u32> {
     let mut turns = 0u32;
     for entry in &book.entries {
@@ -106,7 +109,7 @@ fn turns_of(book: &Book) -> Option<u32> {
     Some(turns)
 }
 
-// How many of the leaves that so many workers find have a turn, where each has its mark.
+// Counts the leaves with a turn that this many workers find, or returns none where a leaf has another mark.
 fn turns_by<R: Threads + Wait + Sync>(rt: &R, alloc: Global, workers: u32) -> Option<u32> {
     if workers < 1 || workers > 64 {
         return None;
@@ -117,6 +120,7 @@ fn turns_by<R: Threads + Wait + Sync>(rt: &R, alloc: Global, workers: u32) -> Op
     }
 }
 
+// Shows that one, two and eight workers find the four passings of the mark.
 #[test]
 fn workers_find_each_passing_of_a_table(rt: HostRuntime) {
     for workers in [1, 2, 8] {
@@ -124,6 +128,7 @@ fn workers_find_each_passing_of_a_table(rt: HostRuntime) {
     }
 }
 
+// Shows that one walk finds the four passings of the mark.
 #[test]
 fn one_walk_finds_them(rt: HostRuntime) -> Result<(), Fail> {
     let judge = judge();

@@ -1,4 +1,4 @@
-// What is asked.
+// The asks of rows: what is asked of an ephemeris.
 ghost use Rattle.std.specs.Prelude.{IfOk};
 ghost use Rattle.spec_kinds.specs.Asks.{IsAsk};
 
@@ -9,7 +9,8 @@ use crate::scenes::Scene;
 use event_kinds::is_ask;
 use spec_kinds::Ask;
 
-/// A kind, target, second body and observer, frame and axis, two values and a direction.
+/// Reads an ask: a kind, target, second body and observer, frame and axis, two values and a direction. An ask that
+/// has no event of its form is malformed.
 pub(crate) fn ask(fields: &mut Fields<'_>) -> Result<Ask, RowError>
     ensures { IfOk result IsAsk }
 {
@@ -31,7 +32,7 @@ pub(crate) fn ask(fields: &mut Fields<'_>) -> Result<Ask, RowError>
     }
 }
 
-/// The bodies of an ask, as they are seen.
+/// Returns the bodies of an ask, as they are seen. A missing second body is the target.
 pub(crate) fn scene_of(ask: &Ask) -> Scene {
     Scene {
         first: ask.target,

@@ -1,4 +1,4 @@
-// Arguments of the polynomials, and the bases over them.
+// Rows of the arguments of the polynomials, and of the bases over them.
 ghost use Rattle.std.specs.Prelude.{◌<◌, ◌≤◌, ◌≤ℤ◌, IfOk, neg_ℤ, pos};
 ghost use Rattle.spec_chebyshev.specs.Rows.{IsArguments};
 
@@ -9,14 +9,16 @@ use cheby_laws::{
 };
 use ival_core::Divider;
 
+// The number 1 in units of 2^-60.
 const ONE: i64 = 1 << 60;
 
+// The entries of a row of a basis.
 const MAX_ENTRIES: usize = 32;
 
-// The ends of an interval.
+// The two ends of an interval.
 type Ends = (i64, i64);
 
-// The argument of one time.
+// Returns the argument of one time, as the ends of an interval.
 fn single_argument(u: i64, seconds: i64) -> Ends
     requires length { pos 1 ≤ℤ seconds }
     requires from_start { neg_ℤ seconds ≤ℤ u }
@@ -26,7 +28,8 @@ fn single_argument(u: i64, seconds: i64) -> Ends
     (x.lo, x.hi)
 }
 
-/// The numerators of a span in a granule of so many seconds, and the interval of its arguments.
+/// Compares an interval of arguments: the row has the numerators of a span in a granule, the granule's seconds, and
+/// the ends.
 pub(crate) fn argument_agrees(fields: &mut Fields<'_>) -> Result<bool, RowError> {
     let (ua, ub) = pair(fields)?;
     let seconds = fields.number::<i64>()?;
@@ -39,6 +42,7 @@ pub(crate) fn argument_agrees(fields: &mut Fields<'_>) -> Result<bool, RowError>
     Ok(is_single && (x.lo, x.hi) == expected)
 }
 
+// Reads an interval of arguments, which lie from -1 to 1 in units of 2^-60.
 fn arguments(fields: &mut Fields<'_>) -> Result<Ival62, RowError>
     ensures { IfOk result IsArguments }
 {
@@ -49,7 +53,7 @@ fn arguments(fields: &mut Fields<'_>) -> Result<Ival62, RowError>
     Ok(Ival62 { lo, hi })
 }
 
-// Four rows of zeros.
+// Makes four rows of zeros.
 fn zeros() -> Basis {
     let zeros = [Ival62 { lo: 0, hi: 0 }; MAX_ENTRIES];
     Basis {
@@ -60,7 +64,7 @@ fn zeros() -> Basis {
     }
 }
 
-// The four rows to `n` entries, each by itself.
+// Makes the four rows to `n` entries, each by itself.
 fn rows_of(x: Ival62, n: usize) -> Basis
     requires n_in { n ≤ 32 }
     requires x_in { IsArguments x }
@@ -73,7 +77,7 @@ fn rows_of(x: Ival62, n: usize) -> Basis
     basis
 }
 
-// The same, two rows at a time.
+// Makes the four rows to `n` entries, two rows at a time.
 fn pairs_of(x: Ival62, n: usize) -> Basis
     requires n_in { n ≤ 32 }
     requires x_in { IsArguments x }
@@ -84,7 +88,7 @@ fn pairs_of(x: Ival62, n: usize) -> Basis
     basis
 }
 
-// The ends of entry `k` of each row.
+// Returns the ends of entry `k` of each of the four rows.
 fn entries(basis: &Basis, k: usize) -> [Ends; 4]
     requires { k < 32 }
 {
@@ -92,7 +96,7 @@ fn entries(basis: &Basis, k: usize) -> [Ends; 4]
     [(t.lo, t.hi), (u.lo, u.hi), (q.lo, q.hi), (r.lo, r.hi)]
 }
 
-// The ends of the entries of the four rows.
+// Reads the ends of one entry of each of the four rows.
 fn expected_entries(fields: &mut Fields<'_>) -> Result<[Ends; 4], RowError> {
     let t = pair(fields)?;
     let u = pair(fields)?;
@@ -101,7 +105,7 @@ fn expected_entries(fields: &mut Fields<'_>) -> Result<[Ends; 4], RowError> {
     Ok([t, u, q, r])
 }
 
-// Whether the four rows to `n` entries have these at place `k`, made each by itself and two at a time.
+// Tells whether the four rows have these entries at place `k`, both made each by itself and two at a time.
 fn are_entries(x: Ival62, n: usize, k: usize, expected: &[Ends; 4]) -> bool
     requires n_in { n ≤ 32 }
     requires k_in { k < n }
@@ -112,7 +116,8 @@ fn are_entries(x: Ival62, n: usize, k: usize, expected: &[Ends; 4]) -> bool
     are_rows && are_pairs
 }
 
-/// An interval of arguments, a count of entries, a place among them, and the entries of the four rows at this place.
+/// Compares the bases: the row has an interval of arguments, a count of entries, a place among them, and the entries
+/// of the four rows at this place.
 pub(crate) fn basis_agrees(fields: &mut Fields<'_>) -> Result<bool, RowError> {
     let x = arguments(fields)?;
     let n = fields.number::<usize>()?;

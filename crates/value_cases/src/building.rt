@@ -1,4 +1,4 @@
-// Ephemerides that are built block by block.
+// Rows of ephemerides that are built block by block.
 ghost use Rattle.std.specs.Prelude.{◌≡◌, All, IfOk};
 ghost use Rattle.spec_ephemeris.specs.Ephemeris.{IsBodyNumber};
 
@@ -14,7 +14,7 @@ use std::alloc::Global;
 // The least exponent of ten of a number of a body.
 const LEAST_EXPONENT: i16 = -140;
 
-// A header with the same facts.
+// Copies a header.
 fn copy_of(alloc: Global, header: &Header) -> Result<Header, RowError>
     ensures { IfOk result (λ copy. copy ≡ header.now) }
 {
@@ -27,13 +27,13 @@ fn copy_of(alloc: Global, header: &Header) -> Result<Header, RowError>
     })
 }
 
-// An ephemeris without blocks, whose header and start are those of another.
+// Makes an ephemeris without blocks, with the header and the start of another.
 fn without_blocks(alloc: Global, ephemeris: &Ephemeris) -> Result<Ephemeris, RowError> {
     let header = copy_of(alloc, ephemeris.header())?;
     Ok(Ephemeris::empty(alloc, header, ephemeris.start()))
 }
 
-// The next two fields as a number of km that each body may have.
+// Reads a number of km that each body may have.
 fn body_number(fields: &mut Fields<'_>) -> Result<Decimal, RowError>
     ensures { IfOk result IsBodyNumber }
 {
@@ -47,7 +47,7 @@ fn body_number(fields: &mut Fields<'_>) -> Result<Decimal, RowError>
     }
 }
 
-// So many such numbers.
+// Reads `count` numbers of km that each body may have.
 fn body_numbers(
     alloc: Global,
     fields: &mut Fields<'_>,
@@ -63,7 +63,8 @@ fn body_numbers(
     Ok(numbers)
 }
 
-// Adds a block of these numbers.
+// Adds a block of these numbers. It is malformed where there are not as many as the header says, or no block may
+// follow.
 fn add_block(ephemeris: &mut Ephemeris, numbers: &[Decimal]) -> Result<(), RowError>
     requires { All IsBodyNumber numbers.now }
 {
@@ -78,7 +79,7 @@ fn add_block(ephemeris: &mut Ephemeris, numbers: &[Decimal]) -> Result<(), RowEr
     Ok(())
 }
 
-// Adds a block of the next fields.
+// Reads the numbers of a block, and adds it.
 fn add_next(
     alloc: Global,
     ephemeris: &mut Ephemeris,
@@ -89,7 +90,7 @@ fn add_next(
     add_block(ephemeris, &numbers)
 }
 
-// The ephemeris of a header, a start and blocks.
+// Builds the ephemeris of a header, a start and the blocks of a row.
 fn built(alloc: Global, from: &Ephemeris, fields: &mut Fields<'_>) -> Result<Ephemeris, RowError> {
     let mut ephemeris = without_blocks(alloc, from)?;
     for _ in 0..fields.number::<u32>()? {
@@ -98,8 +99,8 @@ fn built(alloc: Global, from: &Ephemeris, fields: &mut Fields<'_>) -> Result<Eph
     Ok(ephemeris)
 }
 
-/// A file, of which the header and the start are taken, a number of blocks, and all their numbers; then, of the ephemeris
-/// that is built of these, what a row of a granule says.
+/// Compares an ephemeris that is built: the row has a file, of which the header and the start are taken, a number of
+/// blocks with all their numbers, and then what a row of a granule has.
 pub(crate) fn built_agrees(rt: &HostRuntime, fields: &mut Fields<'_>) -> Result<bool, RowError> {
     let from = ephemeris_of(rt, fields.word()?)?;
     let ephemeris = built(rt.alloc(), &from, fields)?;

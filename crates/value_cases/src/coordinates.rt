@@ -1,4 +1,4 @@
-// Coordinates of bodies seen from an observer in a frame.
+// Rows of the coordinates of bodies, seen from an observer in a frame.
 ghost use Rattle.std.specs.Prelude.{◌<◌, IfOk};
 ghost use Rattle.spec_bodies.specs.Views.{Fits};
 
@@ -11,11 +11,13 @@ use eph_model::Ephemeris;
 use event_expr::Formula;
 use event_expr::builders::{position, velocity};
 
+// The number of targets.
 const TARGETS: u8 = 2;
 
+// The number of axes.
 const AXES: u8 = 3;
 
-// A quantity of a target along an axis, both counted from 0.
+// A quantity of a target along an axis. Targets and axes are counted from 0.
 #[derive(Clone, Copy)]
 struct Coordinate {
     quantity: Quantity,
@@ -23,6 +25,7 @@ struct Coordinate {
     axis: u8,
 }
 
+// Returns the quantity of this name.
 fn quantity(name: &str) -> Result<Quantity, RowError> {
     match name {
         "position" => Ok(Quantity::Position),
@@ -31,6 +34,7 @@ fn quantity(name: &str) -> Result<Quantity, RowError> {
     }
 }
 
+// Reads a coordinate: a quantity, a target and an axis.
 fn next_coordinate(fields: &mut Fields<'_>) -> Result<Coordinate, RowError>
     ensures target { IfOk result (λ c. c.target < 2) }
     ensures axis { IfOk result (λ c. c.axis < 3) }
@@ -49,7 +53,7 @@ fn next_coordinate(fields: &mut Fields<'_>) -> Result<Coordinate, RowError>
     }
 }
 
-// The enclosure that the states give of a coordinate.
+// Returns the enclosure that the states give of a coordinate.
 fn given(states: &BodyStates<'_>, c: Coordinate, a: i64, b: i64) -> EnclosureParts
     requires target { c.target < 2 }
     requires axis { c.axis < 3 }
@@ -61,7 +65,7 @@ fn given(states: &BodyStates<'_>, c: Coordinate, a: i64, b: i64) -> EnclosurePar
     }
 }
 
-// The formula that is a coordinate alone.
+// Returns the formula that is a coordinate alone.
 fn formula_of(c: Coordinate) -> Result<Formula, RowError>
     requires target { c.target < 2 }
     requires axis { c.axis < 3 }
@@ -76,7 +80,7 @@ fn formula_of(c: Coordinate) -> Result<Formula, RowError>
     }
 }
 
-// A count of columns, and whether they are those that the states use.
+// Reads a count of columns and their numbers, and tells whether the states use these.
 fn columns_agree(states: &BodyStates<'_>, fields: &mut Fields<'_>) -> Result<bool, RowError> {
     let columns = states.columns();
     let count = fields.number::<usize>()?;
@@ -88,7 +92,7 @@ fn columns_agree(states: &BodyStates<'_>, fields: &mut Fields<'_>) -> Result<boo
     Ok(agree)
 }
 
-// The enclosure of a coordinate, and whether it is that which the states give, and that of a formula.
+// Reads the enclosure of a coordinate, and tells whether both the states and a formula give it.
 fn enclosure_agrees(
     states: &BodyStates<'_>,
     c: Coordinate,
@@ -106,8 +110,8 @@ fn enclosure_agrees(
     Ok(has_enclosure(&formula, states, a, b, &expected) && is_given)
 }
 
-/// Two targets, an observer, a frame, a coordinate, the first and the last time, the enclosure of the coordinate, and the
-/// columns in use.
+/// Compares a coordinate: the row has two targets, an observer, a frame, a coordinate, the first and the last time,
+/// the coordinate's enclosure, and the columns in use.
 pub(crate) fn coordinate_agrees(
     ephemeris: &Ephemeris,
     fields: &mut Fields<'_>,

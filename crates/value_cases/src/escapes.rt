@@ -1,8 +1,8 @@
-// Fields whose bytes are escaped.
+// The bytes of fields that are escaped.
 use crate::fields::RowError;
 use std::alloc::Global;
 
-// What was read before a byte.
+// What was read before a byte: nothing of an escape, its `%`, or its first digit.
 #[derive(Clone, Copy)]
 enum EscapeState {
     Plain,
@@ -10,6 +10,7 @@ enum EscapeState {
     AfterDigit(u8),
 }
 
+// Returns the value of a hexadecimal digit, whose letters are capitals.
 fn digit(byte: u8) -> Result<u8, RowError> {
     match byte {
         b'0'..=b'9' => Ok(byte - b'0'),
@@ -18,6 +19,7 @@ fn digit(byte: u8) -> Result<u8, RowError> {
     }
 }
 
+// Adds a byte outside of an escape, and returns what was read then.
 fn add_plain(bytes: &mut Vec<u8>, byte: u8) -> Result<EscapeState, RowError> {
     match byte {
         b'%' => Ok(EscapeState::AfterPercent),
@@ -32,6 +34,7 @@ fn add_plain(bytes: &mut Vec<u8>, byte: u8) -> Result<EscapeState, RowError> {
     }
 }
 
+// Adds a byte after what was read before it, and returns what was read then.
 fn add(bytes: &mut Vec<u8>, place: EscapeState, byte: u8) -> Result<EscapeState, RowError> {
     match place {
         EscapeState::Plain => add_plain(bytes, byte),
@@ -43,8 +46,8 @@ fn add(bytes: &mut Vec<u8>, place: EscapeState, byte: u8) -> Result<EscapeState,
     }
 }
 
-/// The bytes of a field: `~` is a blank, `%` with two hexadecimal digits is the byte of that number, `%` alone is no byte
-/// at all, and each other byte is itself.
+/// Returns the bytes of a field: `~` is a blank, `%` with two hexadecimal digits is the byte of that number, `%`
+/// alone is no byte at all, and each other byte is itself.
 pub(crate) fn unescaped(alloc: Global, field: &str) -> Result<Vec<u8>, RowError> {
     let mut bytes = Vec::new(alloc);
     if field == "%" {

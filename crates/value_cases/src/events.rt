@@ -1,4 +1,4 @@
-// What asks mean: a function and guards, or a fault.
+// Rows of the meaning of asks: a function and guards, or a fault.
 ghost use Rattle.spec_bodies.specs.Views.{Fits};
 ghost use Rattle.spec_kinds.specs.Asks.{IsAsk};
 
@@ -13,7 +13,7 @@ use event_kinds::{Event, Guard, KindFault, event};
 use spec_kinds::Ask;
 use std::alloc::Global;
 
-/// The event of an ask that has no fault.
+/// Returns the event of an ask that has no fault. A fault is malformed here.
 pub(crate) fn event_of(alloc: Global, ephemeris: &Ephemeris, ask: &Ask) -> Result<Event, RowError>
     requires { IsAsk ask.now }
 {
@@ -24,7 +24,7 @@ pub(crate) fn event_of(alloc: Global, ephemeris: &Ephemeris, ask: &Ask) -> Resul
     }
 }
 
-// Whether the fault of an ask has this number.
+// Tells whether the fault of an ask has this number.
 fn has_number(fault: KindFault, number: u8) -> Result<bool, RowError> {
     match fault.event_fault() {
         Some(fault) => Ok(fault.number() == number),
@@ -32,7 +32,7 @@ fn has_number(fault: KindFault, number: u8) -> Result<bool, RowError> {
     }
 }
 
-/// An ask, and the number of the fault in it.
+/// Compares a refusal: the row has an ask, and the number of the fault in it.
 pub(crate) fn refusal_agrees(
     alloc: Global,
     ephemeris: &Ephemeris,
@@ -46,14 +46,15 @@ pub(crate) fn refusal_agrees(
     }
 }
 
-// What is expected of a guard: whether it asks that its formula is at least 0, or else that it is below 0, and the
-// enclosure of the formula.
+// What a row expects of a guard: whether its formula has to be at least 0, or else below 0, and the enclosure of the
+// formula.
 #[derive(Clone, Copy)]
 struct ExpectedGuard {
     at_least: bool,
     enclosure: EnclosureParts,
 }
 
+// Reads what is expected of a guard.
 fn expected_guard(fields: &mut Fields<'_>) -> Result<ExpectedGuard, RowError> {
     let at_least = match fields.word()? {
         "at_least" => true,
@@ -67,7 +68,7 @@ fn expected_guard(fields: &mut Fields<'_>) -> Result<ExpectedGuard, RowError> {
     })
 }
 
-// Whether there is a guard, and it is as expected.
+// Tells whether there is a guard, and it is as expected.
 fn guard_agrees(
     guard: Option<&Guard>,
     states: &BodyStates<'_>,
@@ -86,7 +87,7 @@ fn guard_agrees(
     }
 }
 
-// A count of guards and what each is, and whether they are these.
+// Reads how many guards there are and what each is, and tells whether they are these.
 fn guards_agree(
     guards: &[Guard],
     states: &BodyStates<'_>,
@@ -105,7 +106,7 @@ fn guards_agree(
     Ok(agree)
 }
 
-// The enclosure of a function and its guards, and whether they are those of an event.
+// Reads the enclosures of a function and of its guards, and tells whether they are those of an event.
 fn formulas_agree(
     event: &Event,
     states: &BodyStates<'_>,
@@ -121,7 +122,8 @@ fn formulas_agree(
     Ok(is_function && are_guards)
 }
 
-// The first and the last time, the enclosure of the function of an ask's event, and its guards.
+// Reads the first and the last time, the enclosure of the function and the guards, and tells whether they are those
+// of an ask's event.
 fn meaning_agrees(
     ephemeris: &Ephemeris,
     ask: &Ask,
@@ -134,7 +136,8 @@ fn meaning_agrees(
     Ok(are_formulas && event.dir() == ask.dir)
 }
 
-/// An ask, the first and the last time, the enclosure of the event's function, and its guards.
+/// Compares an event: the row has an ask, the first and the last time, the enclosure of the event's function, and its
+/// guards.
 pub(crate) fn event_agrees(
     alloc: Global,
     ephemeris: &Ephemeris,

@@ -1,4 +1,4 @@
-// Expressions as the words of a row: an operation stands before what it is done to.
+// Expressions as the words of a row: an operation stands before its operands.
 ghost use Rattle.std.specs.Prelude.{◌<◌, IfOk};
 ghost use Rattle.spec_expressions.specs.Term.{term, HasLeaves};
 ghost use Rattle.spec_expressions.specs.Vectors.{IsVector};
@@ -11,14 +11,16 @@ use event_expr::builders::{
 use event_expr::{Expr, Vector};
 use std::alloc::{AllocError, Global};
 
-// The deepest that an expression is read.
+// The most operations within one another that are read.
 const DEEPEST: u32 = 200;
 
+// The number of targets.
 const TARGETS: u8 = 2;
 
+// The number of axes.
 const AXES: u8 = 3;
 
-// What makes one expression of two.
+// An operation that makes one expression of two.
 #[derive(Clone, Copy)]
 enum Operation {
     Sum,
@@ -26,7 +28,7 @@ enum Operation {
     Product,
 }
 
-// The position or the velocity of a target.
+// Reads the number of a target, and returns its position or its velocity.
 fn vector(quantity: &str, fields: &mut Fields<'_>) -> Result<Vector, RowError>
     ensures { IfOk result IsVector }
 {
@@ -41,7 +43,7 @@ fn vector(quantity: &str, fields: &mut Fields<'_>) -> Result<Vector, RowError>
     }
 }
 
-// An axis by its number.
+// Reads the number of an axis, 0 to 2.
 fn axis(fields: &mut Fields<'_>) -> Result<u8, RowError>
     ensures { IfOk result (λ axis. axis < 3) }
 {
@@ -53,13 +55,14 @@ fn axis(fields: &mut Fields<'_>) -> Result<u8, RowError>
     }
 }
 
-// The vector of the next words.
+// Reads a vector: a quantity and a target.
 fn next_vector(fields: &mut Fields<'_>) -> Result<Vector, RowError>
     ensures { IfOk result IsVector }
 {
     vector(fields.word()?, fields)
 }
 
+// Reads two vectors, and returns the expression of their dot product.
 fn dot_product(alloc: Global, fields: &mut Fields<'_>) -> Result<Expr, RowError>
     ensures { IfOk result (λ expr. HasLeaves (term expr)) }
 {
@@ -68,7 +71,7 @@ fn dot_product(alloc: Global, fields: &mut Fields<'_>) -> Result<Expr, RowError>
     Ok(dot(alloc, first, second)?)
 }
 
-// An expression that begins with this word, and is made of no others.
+// Reads the rest of an expression that starts with this word and is made of no others.
 fn simple(alloc: Global, word: &str, fields: &mut Fields<'_>) -> Result<Expr, RowError>
     ensures { IfOk result (λ expr. HasLeaves (term expr)) }
 {
@@ -84,7 +87,7 @@ fn simple(alloc: Global, word: &str, fields: &mut Fields<'_>) -> Result<Expr, Ro
     }
 }
 
-// The operation of this name on two expressions.
+// Returns the operation of this name on two expressions, or none.
 fn operation_of(word: &str) -> Option<Operation> {
     match word {
         "sum" => Some(Operation::Sum),
@@ -94,7 +97,7 @@ fn operation_of(word: &str) -> Option<Operation> {
     }
 }
 
-// Two expressions, made into one.
+// Applies an operation to two expressions. The only error is out of memory.
 fn combined(alloc: Global, operation: Operation, x: Expr, y: Expr) -> Result<Expr, AllocError>
     requires x { HasLeaves (term x) }
     requires y { HasLeaves (term y) }
@@ -107,7 +110,7 @@ fn combined(alloc: Global, operation: Operation, x: Expr, y: Expr) -> Result<Exp
     }
 }
 
-// The expression of the next words, with operations in so many others.
+// Reads an expression with at most `room` operations within one another.
 fn expression_within(alloc: Global, fields: &mut Fields<'_>, room: u32) -> Result<Expr, RowError>
     ensures { IfOk result (λ expr. HasLeaves (term expr)) }
 {
@@ -129,7 +132,7 @@ fn expression_within(alloc: Global, fields: &mut Fields<'_>, room: u32) -> Resul
     }
 }
 
-/// The expression of the next words.
+/// Reads an expression.
 pub(crate) fn expression(alloc: Global, fields: &mut Fields<'_>) -> Result<Expr, RowError>
     ensures { IfOk result (λ expr. HasLeaves (term expr)) }
 {

@@ -1,4 +1,4 @@
-// The fields of a row.
+// The fields of a row, taken one by one.
 use crate::escapes::unescaped;
 use std::alloc::{AllocError, AllocFailed, Global};
 use std::str::FromStr;
@@ -6,7 +6,7 @@ use std::str::FromStr;
 /// Why a row cannot be compared.
 #[derive(Clone, Copy)]
 pub enum RowError {
-    /// It does not have the form of a row of its kind, or a number in it lies outside of what may be asked.
+    /// The row does not have the form of its kind, or a number in it is outside of what may be asked.
     Malformed,
     /// Out of memory.
     Memory,
@@ -24,24 +24,24 @@ impl From<AllocError> for RowError {
     }
 }
 
-/// The fields of a row that are left.
+/// The fields of a row that are not yet taken.
 #[derive(Clone, Copy)]
 pub struct Fields<'a> {
     rest: Option<&'a str>,
 }
 
 impl<'a> Fields<'a> {
-    /// All fields of a row.
+    /// Returns all fields of a row.
     pub fn new(row: &'a str) -> Self {
         Fields { rest: Some(row) }
     }
 
-    /// Whether no field is left.
+    /// Tells whether no field is left.
     pub fn is_at_end(&self) -> bool {
         self.rest.is_none()
     }
 
-    /// The next field as it stands.
+    /// Takes the next field as it stands. Without one the row is malformed.
     pub fn word(&mut self) -> Result<&'a str, RowError> {
         let Some(rest) = self.rest else {
             return Err(RowError::Malformed);
@@ -58,7 +58,7 @@ impl<'a> Fields<'a> {
         }
     }
 
-    /// The next field as a number.
+    /// Takes the next field as a number. Another word is malformed.
     pub fn number<N: FromStr>(&mut self) -> Result<N, RowError>
     where
         <N as FromStr>::Err: Drop,
@@ -69,8 +69,8 @@ impl<'a> Fields<'a> {
         }
     }
 
-    /// The bytes of the next field: `~` is a blank, `%` with two hexadecimal digits is the byte of that number, and `%`
-    /// alone is no byte at all.
+    /// Takes the next field and returns its bytes: `~` is a blank, `%` with two hexadecimal digits is the byte of
+    /// that number, and `%` alone is no byte at all.
     pub fn bytes(&mut self, alloc: Global) -> Result<Vec<u8>, RowError> {
         unescaped(alloc, self.word()?)
     }

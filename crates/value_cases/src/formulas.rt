@@ -1,4 +1,4 @@
-// Enclosures of formulas over the states of bodies, and the limits of formulas.
+// Rows of the enclosures of formulas over the states of bodies, and of the limits of formulas.
 ghost use Rattle.std.specs.Prelude.{◌≡◌};
 ghost use Rattle.spec_bodies.specs.Views.{Fits, state_enclosure};
 ghost use Rattle.spec_searches.specs.Search.{enclosure_over};
@@ -15,7 +15,8 @@ use ival_core::Enclosure;
 use std::alloc::Global;
 use step_enclosures::{StepEnclosures, blank};
 
-// The enclosure of a formula over a snapshot, for which the columns of some coordinates are made at once.
+// Returns the enclosure of a formula over a snapshot, for which the columns of the wanted coordinates are made at
+// once.
 fn enclosure_by_steps(
     formula: &Formula,
     states: &BodyStates<'_>,
@@ -32,8 +33,8 @@ fn enclosure_by_steps(
     StepEnclosures::new(&snapshot, &steps, &mut slots).enclosure(place)
 }
 
-/// Whether a formula has this enclosure: over the states themselves, and by steps over a snapshot for which the columns of its
-/// coordinates were made, and over one for which none was.
+/// Tells whether a formula has this enclosure: over the states themselves, over a snapshot with the columns of its
+/// coordinates made at once, and over one with none made.
 pub(crate) fn has_enclosure(
     formula: &Formula,
     states: &BodyStates<'_>,
@@ -49,7 +50,7 @@ pub(crate) fn has_enclosure(
     asked == *expected && made == *expected && read == *expected
 }
 
-// The formula of the next words.
+// Reads a formula.
 fn formula(alloc: Global, fields: &mut Fields<'_>) -> Result<Formula, RowError> {
     match Formula::new(expression(alloc, fields)?) {
         Ok(formula) => Ok(formula),
@@ -57,7 +58,8 @@ fn formula(alloc: Global, fields: &mut Fields<'_>) -> Result<Formula, RowError> 
     }
 }
 
-/// Two targets, an observer, a frame, the first and the last time, a formula and its enclosure.
+/// Compares a formula: the row has two targets, an observer, a frame, the first and the last time, a formula and its
+/// enclosure.
 pub(crate) fn formula_agrees(
     alloc: Global,
     ephemeris: &Ephemeris,
@@ -70,6 +72,7 @@ pub(crate) fn formula_agrees(
     Ok(has_enclosure(&formula, &states, a, b, &expected))
 }
 
+// Returns the limit of this name, or none for `none`.
 fn fault_of_name(name: &str) -> Result<Option<ExprFault>, RowError> {
     match name {
         "none" => Ok(None),
@@ -80,7 +83,8 @@ fn fault_of_name(name: &str) -> Result<Option<ExprFault>, RowError> {
     }
 }
 
-/// The first limit that an expression passes, or none, and the expression.
+/// Compares the limits of formulas: the row has the first limit that an expression passes, or none, and the
+/// expression.
 pub(crate) fn limit_agrees(alloc: Global, fields: &mut Fields<'_>) -> Result<bool, RowError> {
     let expected = fault_of_name(fields.word()?)?;
     match Formula::new(expression(alloc, fields)?) {

@@ -1,4 +1,4 @@
-// Granules of an ephemeris, and the borders between them.
+// Rows of the granules of an ephemeris, and of the borders between them.
 ghost use Rattle.std.specs.Prelude.{◌<◌, IsTrue};
 ghost use Rattle.spec_ephemeris.specs.Header.{has_column};
 
@@ -8,8 +8,8 @@ use crate::texts::ephemeris_of;
 use eph_model::Ephemeris;
 use spec_text::Decimal;
 
-// What is known of a granule: its first time, its length in seconds, how many coefficients it has for each component,
-// how many components, and the first of its coefficients.
+// What is known of a granule: its first time, its length in seconds, the number of coefficients of each component,
+// the number of components, and the first coefficient.
 #[derive(Clone, Copy, PartialEq, Eq)]
 struct Shape {
     start: i64,
@@ -19,6 +19,7 @@ struct Shape {
     first: Decimal,
 }
 
+// Reads what is known of a granule.
 fn expected_shape(fields: &mut Fields<'_>) -> Result<Shape, RowError> {
     Ok(Shape {
         start: fields.number::<i64>()?,
@@ -29,6 +30,7 @@ fn expected_shape(fields: &mut Fields<'_>) -> Result<Shape, RowError> {
     })
 }
 
+// Reads the time of a border, or none for `none`.
 fn expected_border(fields: &mut Fields<'_>) -> Result<Option<i64>, RowError> {
     match fields.word()? {
         "none" => Ok(None),
@@ -39,7 +41,7 @@ fn expected_border(fields: &mut Fields<'_>) -> Result<Option<i64>, RowError> {
     }
 }
 
-// The granule of a column at a time, of an ephemeris that has both.
+// Returns what is known of the granule of a column at a time, in an ephemeris that has both.
 fn shape_at(ephemeris: &Ephemeris, column: usize, t: i64) -> Result<Shape, RowError>
     requires present { IsTrue (has_column ephemeris.now.header column) }
     requires block { 0 < ephemeris.now.blocks }
@@ -60,7 +62,7 @@ fn shape_at(ephemeris: &Ephemeris, column: usize, t: i64) -> Result<Shape, RowEr
     }
 }
 
-// The border of a column that is there, in a span of the ephemeris.
+// Returns the border of a present column in a span of the ephemeris, or none.
 fn border_in(ephemeris: &Ephemeris, column: usize, a: i64, b: i64) -> Result<Option<i64>, RowError>
     requires { IsTrue (has_column ephemeris.now.header column) }
 {
@@ -70,8 +72,8 @@ fn border_in(ephemeris: &Ephemeris, column: usize, a: i64, b: i64) -> Result<Opt
     Ok(ephemeris.border_near(&[column], a, b))
 }
 
-/// A column and a time of an ephemeris, the granule that is read there, and the border that is nearest to the middle of a
-/// span.
+/// Compares a granule of an ephemeris: the row has a column and a time, the granule that is read there, and the
+/// border that is nearest to the middle of a span.
 pub(crate) fn granule_of_column_agrees(
     ephemeris: &Ephemeris,
     fields: &mut Fields<'_>,
@@ -88,7 +90,8 @@ pub(crate) fn granule_of_column_agrees(
     Ok(is_border && shape == expected)
 }
 
-/// A file, a column and a time, the granule that is read there, and the border that is nearest to the middle of a span.
+/// Compares a granule: the row has a file, a column and a time, the granule that is read there, and the border that
+/// is nearest to the middle of a span.
 pub(crate) fn granule_agrees(rt: &HostRuntime, fields: &mut Fields<'_>) -> Result<bool, RowError> {
     let ephemeris = ephemeris_of(rt, fields.word()?)?;
     granule_of_column_agrees(&ephemeris, fields)

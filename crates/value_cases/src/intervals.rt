@@ -1,4 +1,4 @@
-// Operations on intervals.
+// Rows of the operations on intervals.
 ghost use Rattle.std.specs.Prelude.{◌≡◌, ◌<◌, ◌^◌, ◌≤ℤ◌, IfOk, pos, unsigned_abs};
 ghost use Rattle.spec_intervals.specs.Interval.{IsExponent};
 ghost use Rattle.spec_intervals.specs.Fraction.{Holds, fraction};
@@ -7,12 +7,13 @@ use crate::fields::{Fields, RowError};
 use crate::parts::{Parts, interval_parts};
 use ival_core::{COSINE_EXPONENT, DISTANCE_EXPONENT, Divider, Ival, is_cosine, is_distance};
 
+// The greatest magnitude of an exponent in a row.
 const MAX_EXPONENT: i32 = 65_536;
 
 // One past the greatest end that is scaled.
 const END_LIMIT: i128 = 1 << 126;
 
-// An interval whose exponent is no greater in magnitude than those of rows.
+// Returns an interval whose exponent is at most that of rows. Any other is malformed.
 fn moderate(x: Ival) -> Result<Ival, RowError>
     ensures exponent { IfOk result (λ y. IsExponent y.s) }
     ensures same { IfOk result (λ y. y ≡ x) }
@@ -24,7 +25,7 @@ fn moderate(x: Ival) -> Result<Ival, RowError>
     Ok(x)
 }
 
-// The interval of the next numbers.
+// Reads an interval.
 fn interval(fields: &mut Fields<'_>) -> Result<Ival, RowError>
     ensures { IfOk result (λ x. IsExponent x.s) }
 {
@@ -35,7 +36,7 @@ fn interval(fields: &mut Fields<'_>) -> Result<Ival, RowError>
     moderate(Ival::of(lo, hi, s))
 }
 
-// The interval of numbers round 0, so that two of them have a number in common.
+// Makes an interval that holds 0 from three numbers, so that two of these have a number in common.
 fn interval_round_zero(parts: Parts) -> Result<Ival, RowError>
     ensures exponent { IfOk result (λ x. IsExponent x.s) }
     ensures zero { IfOk result (λ x. Holds x (fraction (pos 0) 1)) }
@@ -47,13 +48,14 @@ fn interval_round_zero(parts: Parts) -> Result<Ival, RowError>
     moderate(Ival::of(lo, hi, s))
 }
 
+// Reads two intervals that hold 0, and returns their intersection.
 fn meet(fields: &mut Fields<'_>) -> Result<Ival, RowError> {
     let first = interval_round_zero(interval_parts(fields)?)?;
     let second = interval_round_zero(interval_parts(fields)?)?;
     Ok(first.meet(second))
 }
 
-// The decimal of a mantissa and an exponent of ten, at an exponent of 2.
+// Reads the decimal of a mantissa and an exponent of ten, and makes its interval at an exponent of 2.
 fn decimal(fields: &mut Fields<'_>) -> Result<Ival, RowError> {
     let mant = fields.number::<i64>()?;
     let exp = fields.number::<i16>()?;
@@ -67,7 +69,7 @@ fn decimal(fields: &mut Fields<'_>) -> Result<Ival, RowError> {
     Err(RowError::Malformed)
 }
 
-// The share over so many seconds, and the same by a divider.
+// Returns an interval times `2 / seconds`, once by the seconds and once by a divider.
 fn shares(lo: i128, hi: i128, s: i32, seconds: i64) -> (Ival, Ival)
     requires ordered { lo ≤ℤ hi }
     requires lo_size { unsigned_abs lo < 2 ^ 126 }
@@ -82,7 +84,7 @@ fn shares(lo: i128, hi: i128, s: i32, seconds: i64) -> (Ival, Ival)
     )
 }
 
-// Where both ways give the same, this.
+// Reads an interval and seconds, and returns the scaled interval. None where the two ways to scale differ.
 fn scaled(fields: &mut Fields<'_>) -> Result<Option<Ival>, RowError> {
     let (lo, hi, s) = interval_parts(fields)?;
     let seconds = fields.number::<i64>()?;
@@ -100,7 +102,7 @@ fn scaled(fields: &mut Fields<'_>) -> Result<Option<Ival>, RowError> {
     }
 }
 
-// What an operation on two intervals gives.
+// Reads two intervals, and returns the result of an operation on them.
 fn result_of_two(operation: &str, fields: &mut Fields<'_>) -> Result<Ival, RowError> {
     let x = interval(fields)?;
     let y = interval(fields)?;
@@ -113,7 +115,7 @@ fn result_of_two(operation: &str, fields: &mut Fields<'_>) -> Result<Ival, RowEr
     }
 }
 
-// What an operation gives.
+// Reads the operands of an operation, and returns its result. None where two ways to compute it differ.
 fn result_of(operation: &str, fields: &mut Fields<'_>) -> Result<Option<Ival>, RowError> {
     match operation {
         "meet" => Ok(Some(meet(fields)?)),
@@ -125,7 +127,7 @@ fn result_of(operation: &str, fields: &mut Fields<'_>) -> Result<Option<Ival>, R
     }
 }
 
-/// An operation, what it is done to, and the interval that it gives.
+/// Compares an operation on intervals: the row has its name, its operands, and the interval that it gives.
 pub(crate) fn interval_agrees(fields: &mut Fields<'_>) -> Result<bool, RowError> {
     let operation = fields.word()?;
     let found = result_of(operation, fields)?;

@@ -1,15 +1,15 @@
-// The lines of a text with their tokens.
+// Rows of the lines of a text with their tokens.
 use crate::fields::{Fields, RowError};
 use de_text::{Line, LineStep, Tokens, Words};
 use spec_text::MAX_TEXT_BYTES;
 use std::alloc::Global;
 
-// Whether these bytes are the token of a line at this place, and the next of its words.
+// Tells whether these bytes are the token of a line at this place, and the next of its words.
 fn is_token(line: &Line<'_>, words: &mut Words<'_>, place: usize, token: &[u8]) -> bool {
     words.next() == Some(token) && line.token(place) == Some(token)
 }
 
-// Whether a line has the number and the tokens of the next fields.
+// Reads a number and tokens, and tells whether a line has them.
 fn line_agrees(alloc: Global, fields: &mut Fields<'_>, line: &Line<'_>) -> Result<bool, RowError> {
     let number = fields.number::<u32>()?;
     let count = fields.number::<usize>()?;
@@ -23,7 +23,7 @@ fn line_agrees(alloc: Global, fields: &mut Fields<'_>, line: &Line<'_>) -> Resul
     Ok(agrees && is_last)
 }
 
-// Passes the number and the tokens of a line that is not there.
+// Passes over the number and the tokens of a line that is not there. The answer is always false.
 fn pass_line(fields: &mut Fields<'_>) -> Result<bool, RowError> {
     let _number = fields.number::<u32>()?;
     for _ in 0..fields.number::<usize>()? {
@@ -32,6 +32,7 @@ fn pass_line(fields: &mut Fields<'_>) -> Result<bool, RowError> {
     Ok(false)
 }
 
+// Tells whether the next step of the text is the line of the next fields.
 fn next_agrees(
     alloc: Global,
     fields: &mut Fields<'_>,
@@ -43,13 +44,14 @@ fn next_agrees(
     }
 }
 
-// Whether the lines have ended, and end again.
+// Tells whether the lines have ended, and end again when asked again.
 fn has_ended(tokens: &mut Tokens<'_>) -> bool {
     let has_ended = matches!(tokens.line(), LineStep::End);
     let has_ended_again = matches!(tokens.line(), LineStep::End);
     has_ended && has_ended_again
 }
 
+// Tells whether a step is a line of this number that is too long.
 fn is_long(step: &LineStep<'_>, number: u32) -> bool {
     match step {
         LineStep::TooLong(found) => *found == number,
@@ -57,14 +59,14 @@ fn is_long(step: &LineStep<'_>, number: u32) -> bool {
     }
 }
 
-// Whether a line that is too long comes next, and again.
+// Tells whether a line of this number that is too long comes next, and again when asked again.
 fn stays_at_long_line(tokens: &mut Tokens<'_>, number: u32) -> bool {
     let is_next = is_long(&tokens.line(), number);
     let is_again = is_long(&tokens.line(), number);
     is_next && is_again
 }
 
-// Whether the text that is left ends here, or at a line that is too long, as the next fields say.
+// Tells whether the rest of the text ends here, or stops at a line that is too long, as the next fields say.
 fn is_last(
     fields: &mut Fields<'_>,
     kind: &str,
@@ -78,7 +80,7 @@ fn is_last(
     }
 }
 
-// Whether a text has the lines of the next fields.
+// Tells whether a text has the lines of the next fields.
 fn lines_of_text_agree(
     alloc: Global,
     fields: &mut Fields<'_>,
@@ -100,8 +102,8 @@ fn lines_of_text_agree(
     Err(RowError::Malformed)
 }
 
-/// A text, the number after that of its last line, the lines that are not blank with their numbers and tokens, and
-/// whether they end or stop at a line that is too long.
+/// Compares the lines of a text: the row has the text, the number after that of its last line, the lines that are not
+/// blank with their numbers and tokens, and whether they end or stop at a line that is too long.
 pub(crate) fn lines_agree(alloc: Global, fields: &mut Fields<'_>) -> Result<bool, RowError> {
     let text = fields.bytes(alloc)?;
     lines_of_text_agree(alloc, fields, &text)

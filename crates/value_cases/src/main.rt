@@ -38,6 +38,7 @@ use std::io;
 use std::process::ExitCode;
 use tables::compare_tables;
 
+// Compares the tables that the command line names, and exits with the status of that.
 fn main(rt: HostRuntime) -> io::Result<ExitCode> {
     compare_tables(&rt)
 }

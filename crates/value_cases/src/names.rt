@@ -1,4 +1,4 @@
-// Names of rows. A name is looked up in the table of those that words and reports write.
+// Names in rows. A name is looked up in the table by which words and reports write it.
 use crate::fields::{Fields, RowError};
 use spec_bodies::Frame;
 use spec_ephemeris::Body;
@@ -7,10 +7,10 @@ use spec_kinds::{KINDS, Kind};
 use spec_requests::{BODIES, CUTS, DIRS, FRAMES};
 use spec_trees::CutRule;
 
-// What stands in place of a second body where there is none.
+// The name of no second body.
 const NO_BODY: &str = "-";
 
-// The value beside a name.
+// Returns the value beside a name. A name that is not in the table is malformed.
 fn value_of<T: Copy>(table: &[(&'static str, T)], name: &str) -> Result<T, RowError> {
     for (other, value) in table {
         if *other == name {
@@ -20,10 +20,12 @@ fn value_of<T: Copy>(table: &[(&'static str, T)], name: &str) -> Result<T, RowEr
     Err(RowError::Malformed)
 }
 
+/// Reads the name of a body.
 pub(crate) fn body(fields: &mut Fields<'_>) -> Result<Body, RowError> {
     value_of(&BODIES, fields.word()?)
 }
 
+/// Reads the name of the second body, or none for `-`.
 pub(crate) fn second_body(fields: &mut Fields<'_>) -> Result<Option<Body>, RowError> {
     let name = fields.word()?;
     if name == NO_BODY {
@@ -33,18 +35,22 @@ pub(crate) fn second_body(fields: &mut Fields<'_>) -> Result<Option<Body>, RowEr
     }
 }
 
+/// Reads the name of a frame.
 pub(crate) fn frame(fields: &mut Fields<'_>) -> Result<Frame, RowError> {
     value_of(&FRAMES, fields.word()?)
 }
 
+/// Reads the name of a kind of event.
 pub(crate) fn kind(fields: &mut Fields<'_>) -> Result<Kind, RowError> {
     Ok(value_of(&KINDS, fields.word()?)?.kind)
 }
 
+/// Reads the name of a direction.
 pub(crate) fn direction(fields: &mut Fields<'_>) -> Result<Dir, RowError> {
     value_of(&DIRS, fields.word()?)
 }
 
+/// Reads the name of a rule by which nodes are cut.
 pub(crate) fn cut_rule(fields: &mut Fields<'_>) -> Result<CutRule, RowError> {
     value_of(&CUTS, fields.word()?)
 }

@@ -1,4 +1,4 @@
-// Intervals of positions, of velocities and of their changes over a span of a granule.
+// Rows of the intervals of positions, of velocities and of their changes over a span of a granule.
 ghost use Rattle.std.specs.Prelude.{◌<◌, ◌≤ℤ◌, ◌+ℤ◌};
 ghost use Rattle.spec_motions.specs.Granules.{IsEvaluable};
 
@@ -11,16 +11,19 @@ use ival_core::is_distance;
 use spec_text::Decimal;
 use std::alloc::Global;
 
-// The farthest that a granule begins from J2000, and its greatest length, both in seconds.
+// The farthest that a granule starts from J2000, in seconds.
 const FARTHEST: i64 = 1 << 50;
 
+// The greatest length of a granule, in seconds.
 const LONGEST: i64 = 1 << 40;
 
+// The number of components of a granule.
 const COMPONENTS: usize = 3;
 
+// The most coefficients of a component.
 const MAX_COEFFICIENTS: usize = 32;
 
-// The numbers of a granule.
+// Reads the coefficients of all components of a granule.
 fn coefficients(
     alloc: Global,
     fields: &mut Fields<'_>,
@@ -36,7 +39,7 @@ fn coefficients(
     Ok(coefs)
 }
 
-// The pairs of coefficients.
+// Returns the rounded pairs of coefficients. A coefficient of 2^36 km or more is malformed.
 fn pairs(alloc: Global, coefs: &[Decimal]) -> Result<Vec<Rounded>, RowError> {
     let mut pairs = Vec::new(alloc);
     for &c in coefs {
@@ -48,7 +51,7 @@ fn pairs(alloc: Global, coefs: &[Decimal]) -> Result<Vec<Rounded>, RowError> {
     Ok(pairs)
 }
 
-// The position, its step, the velocity and its step.
+// Returns the intervals of the position, of its step, of the velocity and of its step.
 fn all_four(g: &Granule, axis: usize, a: i64, b: i64) -> [Parts; 4]
     requires granule { IsEvaluable g.now }
     requires axis { axis < g.now.comps }
@@ -64,7 +67,8 @@ fn all_four(g: &Granule, axis: usize, a: i64, b: i64) -> [Parts; 4]
     ]
 }
 
-// The intervals over a span of a granule, which is checked.
+// Returns the four intervals over a span of a granule. A granule that cannot be evaluated, or a span outside of it,
+// is malformed.
 fn checked(g: &Granule, axis: usize, a: i64, b: i64) -> Result<[Parts; 4], RowError> {
     if !is_evaluable(g) || axis >= g.comps {
         return Err(RowError::Malformed);
@@ -79,7 +83,7 @@ fn checked(g: &Granule, axis: usize, a: i64, b: i64) -> Result<[Parts; 4], RowEr
     Ok(all_four(g, axis, a, b))
 }
 
-// A granule but for its coefficients, of which it has so many on each axis, an axis, and a span.
+// A granule without its coefficients, of which each axis has `n`, with an axis and a span.
 #[derive(Clone, Copy)]
 struct Scope {
     start: i64,
@@ -90,6 +94,7 @@ struct Scope {
     b: i64,
 }
 
+// Reads a granule without its coefficients, an axis and a span.
 fn next_scope(fields: &mut Fields<'_>) -> Result<Scope, RowError> {
     let (start, seconds) = pair(fields)?;
     let n = fields.number::<usize>()?;
@@ -105,6 +110,7 @@ fn next_scope(fields: &mut Fields<'_>) -> Result<Scope, RowError> {
     })
 }
 
+// Reads the four intervals of a row.
 fn expected_ranges(fields: &mut Fields<'_>) -> Result<[Parts; 4], RowError> {
     let position = interval_parts(fields)?;
     let position_step = interval_parts(fields)?;
@@ -113,7 +119,7 @@ fn expected_ranges(fields: &mut Fields<'_>) -> Result<[Parts; 4], RowError> {
     Ok([position, position_step, velocity, velocity_step])
 }
 
-// The intervals over the span of the granule with these coefficients.
+// Returns the four intervals over the span of the granule with these coefficients.
 fn ranges_of(alloc: Global, scope: &Scope, coefs: &[Decimal]) -> Result<[Parts; 4], RowError> {
     let rounded = pairs(alloc, coefs)?;
     let granule = Granule {
@@ -127,8 +133,9 @@ fn ranges_of(alloc: Global, scope: &Scope, coefs: &[Decimal]) -> Result<[Parts; 
     checked(&granule, scope.axis, scope.a, scope.b)
 }
 
-/// A granule's first time, length and count of coefficients, an axis, a span, the coefficients of all three axes, and the
-/// four intervals: of the position, of its step, of the velocity, and of its step.
+/// Compares the four intervals over a span: the row has a granule's first time, length and count of coefficients, an
+/// axis, a span, the coefficients of all three axes, and the intervals of the position, of its step, of the velocity,
+/// and of its step.
 pub(crate) fn ranges_agree(alloc: Global, fields: &mut Fields<'_>) -> Result<bool, RowError> {
     let scope = next_scope(fields)?;
     let coefs = coefficients(alloc, fields, scope.n)?;

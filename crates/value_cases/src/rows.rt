@@ -1,4 +1,4 @@
-// Rows of each kind, compared with what the code gives.
+// The kinds of rows, each compared with what the code gives.
 use crate::bases::{argument_agrees, basis_agrees};
 use crate::building::built_agrees;
 use crate::coordinates::coordinate_agrees;
@@ -16,7 +16,7 @@ use crate::words::{date_agrees, decimal_agrees, time_agrees};
 use eph_model::Ephemeris;
 use std::alloc::Global;
 
-// Compares the rest of a row of this kind, whose file has this ephemeris.
+// Compares the rest of a row of this kind, over the ephemeris of its file.
 fn agrees_over(
     alloc: Global,
     ephemeris: &Ephemeris,
@@ -33,13 +33,13 @@ fn agrees_over(
     }
 }
 
-// Compares a row of this kind, whose first field is the name of a file.
+// Reads the name of a file, and compares the rest of a row of this kind over its ephemeris.
 fn agrees_in_file(rt: &HostRuntime, kind: &str, fields: &mut Fields<'_>) -> Result<bool, RowError> {
     let ephemeris = ephemeris_of(rt, fields.word()?)?;
     agrees_over(rt.alloc(), &ephemeris, kind, fields)
 }
 
-/// Takes all fields of a row, the first of which is the word for its kind, and compares.
+/// Takes the fields of a row, the first of which is the word for its kind, and tells whether the code agrees with it.
 pub fn agrees(rt: &HostRuntime, fields: &mut Fields<'_>) -> Result<bool, RowError> {
     match fields.word()? {
         "argument" => argument_agrees(fields),

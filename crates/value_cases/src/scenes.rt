@@ -1,4 +1,4 @@
-// Who is seen from where, over which times.
+// Scenes: who is seen from where, and over which times.
 ghost use Rattle.std.specs.Prelude.{◌≡◌, ◌≤ℤ◌, IfOk, IsTrue};
 ghost use Rattle.std.specs.List.{list_all};
 ghost use Rattle.spec_ephemeris.specs.Header.{has_column};
@@ -13,7 +13,7 @@ use body_states::BodyStates;
 use eph_model::{Body, Ephemeris};
 use spec_bodies::{EMB_COLUMN, Frame, MOON_COLUMN, Source};
 
-/// Two targets, the observer and the frame.
+/// A scene: two targets, the observer and the frame.
 #[derive(Clone, Copy)]
 pub(crate) struct Scene {
     pub(crate) first: Body,
@@ -22,7 +22,7 @@ pub(crate) struct Scene {
     pub(crate) frame: Frame,
 }
 
-/// The scene of the next four fields.
+/// Reads a scene from four fields.
 pub(crate) fn next_scene(fields: &mut Fields<'_>) -> Result<Scene, RowError> {
     Ok(Scene {
         first: body(fields)?,
@@ -32,7 +32,7 @@ pub(crate) fn next_scene(fields: &mut Fields<'_>) -> Result<Scene, RowError> {
     })
 }
 
-// Whether the ephemeris has what a body needs.
+// Tells whether the ephemeris has all columns that a body needs.
 fn has(ephemeris: &Ephemeris, body: Body) -> bool
     ensures { result ≡ list_all (has_column ephemeris.now.header) (needed_columns (source_of body)) }
 {
@@ -45,7 +45,7 @@ fn has(ephemeris: &Ephemeris, body: Body) -> bool
     }
 }
 
-/// The states of the targets of a scene that the ephemeris can show.
+/// Returns the states of the targets of a scene. A scene that the ephemeris cannot show is malformed.
 pub(crate) fn states<'e>(ephemeris: &'e Ephemeris, scene: Scene) -> Result<BodyStates<'e>, RowError>
     ensures { IfOk result (λ states. states.ephemeris ≡ ephemeris.now) }
 {
@@ -62,7 +62,7 @@ pub(crate) fn states<'e>(ephemeris: &'e Ephemeris, scene: Scene) -> Result<BodyS
     Ok(BodyStates::new(ephemeris, [first, second], observer, scene.frame))
 }
 
-// Whether no granule of a column in use begins after the first time and up to the last.
+// Tells whether no granule of a column in use starts after the first time and up to the last.
 fn is_free(ephemeris: &Ephemeris, states: &BodyStates<'_>, a: i64, b: i64) -> bool
     requires ephemeris { states.now.ephemeris ≡ ephemeris.now }
     requires from { ephemeris.now.start ≤ℤ a }
@@ -78,7 +78,7 @@ fn is_free(ephemeris: &Ephemeris, states: &BodyStates<'_>, a: i64, b: i64) -> bo
     }
 }
 
-/// The first and the last of the times of a row, which can be asked for.
+/// Reads the first and the last time of a row. Times that the states cannot be asked for are malformed.
 pub(crate) fn span(
     ephemeris: &Ephemeris,
     states: &BodyStates<'_>,

@@ -1,21 +1,23 @@
-// Tables, compared row by row.
+// Tables of rows, compared row by row.
 use crate::fields::{Fields, RowError};
 use crate::rows::agrees;
 use std::process::ExitCode;
 use std::{env, fs, io, str};
 
+// The status where a row differs.
 const DIFFERENT: u8 = 1;
 
+// The status where a table cannot be read.
 const NOT_READ: u8 = 2;
 
-// How many rows a table has, and how many of them differ.
+// A count of the rows of a table, and of those that differ.
 #[derive(Clone, Copy)]
 struct Tally {
     rows: u64,
     differing: u64,
 }
 
-// Whether a row agrees, of which no field may be left.
+// Tells whether a row agrees. A row with fields left over is malformed.
 fn row_agrees(rt: &HostRuntime, row: &str) -> Result<bool, RowError> {
     let mut fields = Fields::new(row);
     let agrees = agrees(rt, &mut fields)?;
@@ -26,11 +28,12 @@ fn row_agrees(rt: &HostRuntime, row: &str) -> Result<bool, RowError> {
     }
 }
 
+// Tells whether a line is a row: it is not empty, and does not start with `#`.
 fn is_row(line: &str) -> bool {
     !line.is_empty() && !line.starts_with('#')
 }
 
-// The tally with one more row, which is printed if it differs; none where it cannot be read.
+// Compares a row, prints it where it differs, and counts it. None where it cannot be read.
 fn add_row(rt: &HostRuntime, row: &str, tally: Tally) -> io::Result<Option<Tally>> {
     let rows = tally.rows.saturating_add(1);
     match row_agrees(rt, row) {
@@ -50,7 +53,7 @@ fn add_row(rt: &HostRuntime, row: &str, tally: Tally) -> io::Result<Option<Tally
     }
 }
 
-// The tally of a table; none where a row cannot be read.
+// Compares the rows of a table, and returns how many there are and how many differ. None where a row cannot be read.
 fn tally_of(rt: &HostRuntime, text: &str) -> io::Result<Option<Tally>> {
     let mut tally = Tally {
         rows: 0,
@@ -67,7 +70,7 @@ fn tally_of(rt: &HostRuntime, text: &str) -> io::Result<Option<Tally>> {
     Ok(Some(tally))
 }
 
-// The tally of the table of this name; none where it is no text, or where a row cannot be read.
+// Compares the table of this name, and returns its counts. None where it is no text, or a row cannot be read.
 fn tally_of_file(rt: &HostRuntime, name: &str) -> io::Result<Option<Tally>> {
     let bytes = fs::read(rt, name)?;
     match str::from_utf8(&bytes) {
@@ -76,8 +79,8 @@ fn tally_of_file(rt: &HostRuntime, name: &str) -> io::Result<Option<Tally>> {
     }
 }
 
-// Compares the table of this name, and prints how many rows it has: whether one of them differs, or none where it cannot
-// be read as a table.
+// Compares the table of this name, prints its counts, and tells whether a row differs. None where it cannot be read
+// as a table.
 fn differs(rt: &HostRuntime, name: &str) -> io::Result<Option<bool>> {
     let Some(tally) = tally_of_file(rt, name)? else {
         eprintln!(rt; "{name} can't be read as a table")?;
@@ -88,8 +91,8 @@ fn differs(rt: &HostRuntime, name: &str) -> io::Result<Option<bool>> {
     Ok(Some(differing != 0))
 }
 
-/// Compares the tables that the words of the command line name, and prints the rows that differ and how many rows there
-/// are. The status is 0 where no row differs, 1 where one does, and 2 where a table cannot be read.
+/// Compares the tables that the words of the command line name, and prints the rows that differ and how many rows
+/// there are. The status is 0 where no row differs, 1 where one does, and 2 where a table cannot be read.
 pub fn compare_tables(rt: &HostRuntime) -> io::Result<ExitCode> {
     let mut status = 0u8;
     for name in env::args(rt)?.skip(1) {

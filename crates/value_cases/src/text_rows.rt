@@ -1,4 +1,4 @@
-// Texts, and what they are read as.
+// Rows of texts, and of what they are read as.
 use crate::fields::{Fields, RowError};
 use crate::parts::decimal;
 use crate::texts::read_text;
@@ -10,14 +10,14 @@ use spec_text::{Decimal, Fault};
 use std::alloc::Global;
 use std::{fs, str};
 
-// What a text is read as.
+// What a text is read as: the fault of its files, or the summary of its ephemeris.
 #[derive(Clone, Copy, PartialEq, Eq)]
 enum Outcome {
     Fault(Fault),
     Ephemeris(Summary),
 }
 
-// What is printed of an ephemeris, and its mass ratio.
+// The summary of an ephemeris, and its mass ratio.
 #[derive(Clone, Copy, PartialEq, Eq)]
 struct Summary {
     ncoeff: u32,
@@ -28,6 +28,7 @@ struct Summary {
     end: i64,
 }
 
+// Returns the summary of an ephemeris.
 fn summary_of(ephemeris: &Ephemeris) -> Summary {
     let header = ephemeris.header();
     Summary {
@@ -40,6 +41,7 @@ fn summary_of(ephemeris: &Ephemeris) -> Summary {
     }
 }
 
+// Reads a fault: a line, a number and a detail.
 fn expected_fault(fields: &mut Fields<'_>) -> Result<Fault, RowError> {
     Ok(Fault {
         line: fields.number::<u32>()?,
@@ -48,6 +50,7 @@ fn expected_fault(fields: &mut Fields<'_>) -> Result<Fault, RowError> {
     })
 }
 
+// Reads the summary of an ephemeris.
 fn expected_summary(fields: &mut Fields<'_>) -> Result<Summary, RowError> {
     Ok(Summary {
         ncoeff: fields.number::<u32>()?,
@@ -59,6 +62,7 @@ fn expected_summary(fields: &mut Fields<'_>) -> Result<Summary, RowError> {
     })
 }
 
+// Reads what a text is read as.
 fn expected_outcome(fields: &mut Fields<'_>) -> Result<Outcome, RowError> {
     match fields.word()? {
         "fault" => Ok(Outcome::Fault(expected_fault(fields)?)),
@@ -67,6 +71,7 @@ fn expected_outcome(fields: &mut Fields<'_>) -> Result<Outcome, RowError> {
     }
 }
 
+// Returns what a text is read as.
 fn outcome_of(alloc: Global, text: Vec<u8>) -> Result<Outcome, RowError> {
     match read_text(alloc, text)? {
         Ok(ephemeris) => Ok(Outcome::Ephemeris(summary_of(&ephemeris))),
@@ -75,19 +80,21 @@ fn outcome_of(alloc: Global, text: Vec<u8>) -> Result<Outcome, RowError> {
     }
 }
 
-// A line that stands in place of another one, by its number.
+// A line that replaces another one, which its number names.
 #[derive(Drop)]
 struct Change {
     number: usize,
     line: Vec<u8>,
 }
 
+// Reads a line that replaces another one.
 fn next_change(alloc: Global, fields: &mut Fields<'_>) -> Result<Change, RowError> {
     let number = fields.number::<usize>()?;
     let line = fields.bytes(alloc)?;
     Ok(Change { number, line })
 }
 
+// Reads how many lines replace others, and these lines.
 fn changes_of(alloc: Global, fields: &mut Fields<'_>) -> Result<Vec<Change>, RowError> {
     let mut changes = Vec::new(alloc);
     for _ in 0..fields.number::<usize>()? {
@@ -96,7 +103,7 @@ fn changes_of(alloc: Global, fields: &mut Fields<'_>) -> Result<Vec<Change>, Row
     Ok(changes)
 }
 
-// The line of this number.
+// Returns the line that replaces the line of this number, or the line itself where none does.
 fn line_of<'a>(changes: &'a [Change], number: usize, line: &'a [u8]) -> &'a [u8] {
     for change in changes {
         if change.number == number {
@@ -106,7 +113,7 @@ fn line_of<'a>(changes: &'a [Change], number: usize, line: &'a [u8]) -> &'a [u8]
     line
 }
 
-// A text with other lines in place of some of its own.
+// Returns a text with some of its lines replaced.
 fn changed(alloc: Global, text: &[u8], changes: &[Change]) -> Result<Vec<u8>, RowError> {
     let Ok(text) = str::from_utf8(text) else {
         return Err(RowError::Malformed);
@@ -121,7 +128,7 @@ fn changed(alloc: Global, text: &[u8], changes: &[Change]) -> Result<Vec<u8>, Ro
     Ok(made)
 }
 
-// The text of the file of this name, with other lines in place of some of its own.
+// Returns the text of the file of this name with some of its lines replaced.
 fn changed_file(rt: &HostRuntime, name: &str, changes: &[Change]) -> Result<Vec<u8>, RowError> {
     match fs::read(rt, name) {
         Ok(text) => changed(rt.alloc(), &text, changes),
@@ -129,7 +136,7 @@ fn changed_file(rt: &HostRuntime, name: &str, changes: &[Change]) -> Result<Vec<
     }
 }
 
-/// A name, a file, the lines that differ, and what the text is read as.
+/// Compares what a text is read as: the row has a name, a file, the lines that are replaced, and the outcome.
 pub(crate) fn text_agrees(rt: &HostRuntime, fields: &mut Fields<'_>) -> Result<bool, RowError> {
     let _name = fields.word()?;
     let file = fields.word()?;
@@ -139,7 +146,7 @@ pub(crate) fn text_agrees(rt: &HostRuntime, fields: &mut Fields<'_>) -> Result<b
     Ok(outcome_of(rt.alloc(), text)? == expected)
 }
 
-// Each byte counts, and so does its place.
+// Returns a number to which each byte of a text counts by its place.
 fn checksum(text: &[u8]) -> u32 {
     let mut sum: u32 = 0;
     for byte in text {
@@ -148,7 +155,7 @@ fn checksum(text: &[u8]) -> u32 {
     sum
 }
 
-/// A number of blocks, a seed, and the length and the checksum of the text that is generated.
+/// Compares a generated text: the row has a number of blocks, a seed, and the length and the checksum of the text.
 pub(crate) fn generated_agrees(alloc: Global, fields: &mut Fields<'_>) -> Result<bool, RowError> {
     let blocks = fields.number::<u32>()?;
     let seed = fields.number::<u64>()?;

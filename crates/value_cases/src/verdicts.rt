@@ -1,4 +1,4 @@
-// What is said of the nodes of searches, and where they are cut.
+// Rows of the verdicts on the nodes of searches, and of where these are cut.
 ghost use Rattle.std.specs.Prelude.{◌≡◌, ◌≤ℤ◌, IfOk, pos};
 ghost use Rattle.spec_trees.specs.Cuts.{CanCut, cut_of};
 ghost use Rattle.spec_trees.specs.Tree.{IsValid};
@@ -18,21 +18,21 @@ use spec_kinds::Ask;
 use spec_trees::CutRule;
 use std::alloc::Global;
 
-// Where the parts of a node meet, and how deep each is.
+// The time at which the parts of a node meet, and the depth of each.
 #[derive(Clone, Copy, PartialEq, Eq)]
 struct Meeting {
     time: i64,
     depths: [u32; 2],
 }
 
-// A verdict, and where the parts meet of a node that is split.
+// A verdict, and where the parts of a node meet that is split.
 #[derive(Clone, Copy, PartialEq, Eq)]
 struct Judgement {
     verdict: Verdict,
     meeting: Option<Meeting>,
 }
 
-// A node of the times of the ephemeris, no deeper than this.
+// Reads a node of the ephemeris' times, no deeper than `depth`.
 fn node(ephemeris: &Ephemeris, depth: u32, fields: &mut Fields<'_>) -> Result<Node, RowError>
     ensures { IfOk result (IsWithin ephemeris.now depth) }
 {
@@ -50,7 +50,7 @@ fn node(ephemeris: &Ephemeris, depth: u32, fields: &mut Fields<'_>) -> Result<No
     Ok(node)
 }
 
-// A time, and the depth of both parts that meet there.
+// Reads a time, and the depth of both parts that meet there.
 fn expected_meeting(fields: &mut Fields<'_>) -> Result<Meeting, RowError> {
     let time = fields.number::<i64>()?;
     let depth = fields.number::<u32>()?;
@@ -60,6 +60,7 @@ fn expected_meeting(fields: &mut Fields<'_>) -> Result<Meeting, RowError> {
     })
 }
 
+// Reads a verdict, and where the parts of a node meet that is split.
 fn expected_judgement(fields: &mut Fields<'_>) -> Result<Judgement, RowError> {
     let verdict = match fields.word()? {
         "clear" => Verdict::Clear,
@@ -76,7 +77,7 @@ fn expected_judgement(fields: &mut Fields<'_>) -> Result<Judgement, RowError> {
     Ok(Judgement { verdict, meeting })
 }
 
-// What a judge says of a valid node.
+// Returns the verdict of a judge on a valid node, and where it cuts the node.
 fn judgement_on<J: Judge>(judge: &J, node: Node) -> Judgement
     requires { IsValid (J.rules judge.now) node }
 {
@@ -88,7 +89,7 @@ fn judgement_on<J: Judge>(judge: &J, node: Node) -> Judgement
     Judgement { verdict, meeting }
 }
 
-// Where the parts of a node meet: the judge's contract says that the one ends where the other begins.
+// Returns where the parts of a node meet. The judge's contract says that the first ends where the second starts.
 fn meeting_of((left, right): (Node, Node)) -> Meeting {
     Meeting {
         time: left.b,
@@ -96,7 +97,7 @@ fn meeting_of((left, right): (Node, Node)) -> Meeting {
     }
 }
 
-// Down to which width and depth nodes are split, and by which rule.
+// A width and a depth down to which nodes are split, and the rule by which they are cut.
 #[derive(Clone, Copy)]
 struct Splitting {
     width: i64,
@@ -104,6 +105,7 @@ struct Splitting {
     rule: CutRule,
 }
 
+// Reads a width, a depth and a rule by which nodes are cut.
 fn next_splitting(fields: &mut Fields<'_>) -> Result<Splitting, RowError>
     ensures { IfOk result (λ splitting. pos 1 ≤ℤ splitting.width) }
 {
@@ -118,7 +120,7 @@ fn next_splitting(fields: &mut Fields<'_>) -> Result<Splitting, RowError>
     })
 }
 
-// What is said of a node in the search for the event of an ask, with this cutter.
+// Returns the verdict on a node in the search for the event of an ask, with this cutter.
 fn judgement_by(
     alloc: Global,
     ephemeris: &Ephemeris,
@@ -138,7 +140,7 @@ fn judgement_by(
     Ok(judgement_on(&judge, node))
 }
 
-// What is said of a node in the search for the event of an ask.
+// Returns the verdict on a node in the search for the event of an ask.
 fn judgement_of(
     alloc: Global,
     ephemeris: &Ephemeris,
@@ -168,8 +170,8 @@ fn judgement_of(
     )
 }
 
-/// An ask, a width, a depth and a rule of cutting, a node, the verdict on it, and the time at which it is cut and the
-/// depth of its parts where it is split.
+/// Compares a verdict: the row has an ask, a width, a depth and a rule by which nodes are cut, a node, the verdict on
+/// it, and, where it is split, the time of the cut and the depth of its parts.
 pub(crate) fn verdict_agrees(
     alloc: Global,
     ephemeris: &Ephemeris,

@@ -1,4 +1,4 @@
-// Words that are decimals, Julian dates and times.
+// Rows of words that are decimals, Julian dates and times.
 use crate::fields::{Fields, RowError};
 use crate::parts::decimal;
 use de_text::{DaysFault, Decimal, NumberFault, read_decimal, read_whole, seconds_of_julian_date};
@@ -7,7 +7,7 @@ use spec_times::TimeFault;
 use std::alloc::Global;
 use window_text::{read_time, time_text};
 
-// The decimal of the next fields, or its fault.
+// Reads the decimal that a row expects, or its fault.
 fn expected_decimal(fields: &mut Fields<'_>) -> Result<Result<Decimal, NumberFault>, RowError> {
     match fields.word()? {
         "ok" => Ok(Ok(decimal(fields)?)),
@@ -21,7 +21,7 @@ fn expected_decimal(fields: &mut Fields<'_>) -> Result<Result<Decimal, NumberFau
     }
 }
 
-// The whole number of the next field, or none.
+// Reads the whole number that a row expects, or none.
 fn expected_whole(fields: &mut Fields<'_>) -> Result<Option<u32>, RowError> {
     match fields.word()? {
         "none" => Ok(None),
@@ -32,14 +32,14 @@ fn expected_whole(fields: &mut Fields<'_>) -> Result<Option<u32>, RowError> {
     }
 }
 
-/// A word, the decimal or the fault that it is, and the whole number or none.
+/// Compares a number: the row has a word, the decimal or the fault that it is, and the whole number or none.
 pub(crate) fn decimal_agrees(alloc: Global, fields: &mut Fields<'_>) -> Result<bool, RowError> {
     let word = fields.bytes(alloc)?;
     let is_decimal = expected_decimal(fields)? == read_decimal(&word);
     Ok(expected_whole(fields)? == read_whole(&word) && is_decimal)
 }
 
-// The seconds of a Julian date, or why there are none.
+// Reads the seconds of a Julian date that a row expects, or why there are none.
 fn expected_seconds(fields: &mut Fields<'_>) -> Result<Result<u64, DaysFault>, RowError> {
     match fields.word()? {
         "NotWholeSecond" => Ok(Err(DaysFault::NotWholeSecond)),
@@ -51,7 +51,7 @@ fn expected_seconds(fields: &mut Fields<'_>) -> Result<Result<u64, DaysFault>, R
     }
 }
 
-// A word that is a decimal.
+// Reads a word that is a decimal.
 fn next_date(alloc: Global, fields: &mut Fields<'_>) -> Result<Decimal, RowError> {
     let word = fields.bytes(alloc)?;
     match read_decimal(&word) {
@@ -60,19 +60,19 @@ fn next_date(alloc: Global, fields: &mut Fields<'_>) -> Result<Decimal, RowError
     }
 }
 
-/// A word that is a decimal, and the seconds of the Julian date that it is, or why it is none.
+/// Compares a Julian date: the row has a word that is a decimal, and the seconds of the date, or why there are none.
 pub(crate) fn date_agrees(alloc: Global, fields: &mut Fields<'_>) -> Result<bool, RowError> {
     let date = next_date(alloc, fields)?;
     Ok(seconds_of_julian_date(date) == expected_seconds(fields)?)
 }
 
-// The time that a word is, or why it is none.
+// Reads a word, and returns the time that it is, or why it is none.
 fn next_time(alloc: Global, fields: &mut Fields<'_>) -> Result<Result<i64, TimeFault>, RowError> {
     let word = fields.bytes(alloc)?;
     Ok(read_time(&word, 1))
 }
 
-// Whether a time has this text on the calendar.
+// Tells whether a time has this calendar text. A time out of range is malformed.
 fn has_text(alloc: Global, time: i64, text: &[u8]) -> Result<bool, RowError> {
     if time < FIRST_TIME || LAST_TIME < time {
         return Err(RowError::Malformed);
@@ -83,13 +83,13 @@ fn has_text(alloc: Global, time: i64, text: &[u8]) -> Result<bool, RowError> {
     }
 }
 
-// Whether a time has the text of the next field on the calendar.
+// Reads a text, and tells whether it is the calendar text of a time.
 fn has_next_text(alloc: Global, time: i64, fields: &mut Fields<'_>) -> Result<bool, RowError> {
     let text = fields.bytes(alloc)?;
     has_text(alloc, time, &text)
 }
 
-/// A word, the time that it is and that time's text, or why it is no time.
+/// Compares a time: the row has a word, the time that it is and that time's text, or why it is no time.
 pub(crate) fn time_agrees(alloc: Global, fields: &mut Fields<'_>) -> Result<bool, RowError> {
     let time = next_time(alloc, fields)?;
     match fields.word()? {

@@ -20,7 +20,7 @@ pub(crate) enum Role {
 
 // Returns the command with one more rule for `clap`: a named option with a value, or a required word. The only error
 // is out of memory.
-fn with_one<'a>(
+fn with_option<'a>(
     alloc: Global,
     command: Command<'a>,
     role: Role,
@@ -37,7 +37,7 @@ fn with_one<'a>(
 }
 
 // Returns the command with a rule for each of the options, in their order. The only error is out of memory.
-fn with_all<'a>(
+fn with_options<'a>(
     alloc: Global,
     mut command: Command<'a>,
     role: Role,
@@ -47,7 +47,7 @@ fn with_all<'a>(
         app_of more ≡ with_rules (map (rule_of role) options.now) (app_of command.entry)) }
 {
     for option in options {
-        command = with_one(alloc, command, role, *option)?;
+        command = with_option(alloc, command, role, *option)?;
     }
     Ok(command)
 }
@@ -103,7 +103,7 @@ fn reads_files(name: CommandName) -> bool
 }
 
 // Returns the words that a command without files reads in fixed places: those of `gen`, and none for `scalar`.
-fn words_of(name: CommandName) -> &'static [Named]
+fn fixed_words(name: CommandName) -> &'static [Named]
     ensures { result.now ≡ words_of name }
 {
     if matches!(name, CommandName::Gen) {
@@ -114,7 +114,7 @@ fn words_of(name: CommandName) -> &'static [Named]
 }
 
 // Returns the command with the rules of what follows its options: files, the words of `gen`, or nothing.
-fn with_places<'a>(
+fn with_arguments<'a>(
     alloc: Global,
     command: Command<'a>,
     name: CommandName,
@@ -125,7 +125,7 @@ fn with_places<'a>(
     if reads_files(name) {
         with_files(alloc, command)
     } else {
-        with_all(alloc, command, Role::Word, words_of(name))
+        with_options(alloc, command, Role::Word, fixed_words(name))
     }
 }
 
@@ -136,7 +136,7 @@ pub(crate) fn command<'a>(alloc: Global, name: CommandName) -> Result<Command<'a
 {
     let text: &'a str = command_name(name);
     let command = without_help(alloc, text);
-    let command = with_all(alloc, command, Role::Option, first_options(name))?;
-    let command = with_all(alloc, command, Role::Option, last_options(name))?;
-    with_places(alloc, command, name)
+    let command = with_options(alloc, command, Role::Option, first_options(name))?;
+    let command = with_options(alloc, command, Role::Option, last_options(name))?;
+    with_arguments(alloc, command, name)
 }

@@ -22,7 +22,7 @@ use spec_trees::CutRule;
 use window_text::read_time;
 
 // Looks a word up in a table of names and values: the value of the first row with that name, or none.
-pub(crate) fn named<T: Copy>(table: &[(&'static str, T)], word: &str) -> Option<T>
+pub(crate) fn value_named<T: Copy>(table: &[(&'static str, T)], word: &str) -> Option<T>
     ensures { result ≡ named (rows_of table.now) word.now }
 {
     match table {
@@ -30,7 +30,7 @@ pub(crate) fn named<T: Copy>(table: &[(&'static str, T)], word: &str) -> Option<
             if *name == word {
                 Some(*value)
             } else {
-                named(rest, word)
+                value_named(rest, word)
             }
         }
         [] => None,
@@ -41,14 +41,14 @@ pub(crate) fn named<T: Copy>(table: &[(&'static str, T)], word: &str) -> Option<
 pub(crate) fn command(word: &str) -> Option<CommandName>
     ensures { result ≡ command_of word.now }
 {
-    named(&COMMANDS, word)
+    value_named(&COMMANDS, word)
 }
 
 /// The kind of event of this name, or none. Kinds without sets count too.
 pub(crate) fn kind(word: &str) -> Option<Kind>
     ensures { result ≡ kind_of word.now }
 {
-    match named(&KINDS, word) {
+    match value_named(&KINDS, word) {
         Some(row) => Some(row.kind),
         None => None,
     }
@@ -58,7 +58,7 @@ pub(crate) fn kind(word: &str) -> Option<Kind>
 pub(crate) fn observer(word: &str) -> Option<Body>
     ensures { result ≡ observer_of word.now }
 {
-    named(&BODIES, word)
+    value_named(&BODIES, word)
 }
 
 // The body of this name that can be looked at, or none: any but the barycentre of the solar system.
@@ -82,42 +82,42 @@ fn as_target(body: Option<Body>) -> Option<Body>
 pub(crate) fn frame(word: &str) -> Option<Frame>
     ensures { result ≡ frame_of word.now }
 {
-    named(&FRAMES, word)
+    value_named(&FRAMES, word)
 }
 
 /// The number of the axis `x`, `y` or `z`, from 0 to 2, or none.
 pub(crate) fn axis(word: &str) -> Option<u8>
     ensures { result ≡ axis_of word.now }
 {
-    named(&AXES, word)
+    value_named(&AXES, word)
 }
 
 /// The direction of this name, `any`, `rise` or `fall`, or none.
 pub(crate) fn dir(word: &str) -> Option<Dir>
     ensures { result ≡ dir_of word.now }
 {
-    named(&DIRS, word)
+    value_named(&DIRS, word)
 }
 
 /// The rule by which nodes are cut, `half` or `third`, or none.
 pub(crate) fn cut(word: &str) -> Option<CutRule>
     ensures { result ≡ cut_of word.now }
 {
-    named(&CUTS, word)
+    value_named(&CUTS, word)
 }
 
 // The number of ticks in a second, `1` or `1000`, or none for any other word.
 pub(crate) fn tick(word: &str) -> Option<u32>
     ensures { result ≡ tick_of_word word.now }
 {
-    named(&TICKS, word)
+    value_named(&TICKS, word)
 }
 
 /// The number of a layout that texts can be generated in, or none. The one layout is `405`.
 pub(crate) fn layout(word: &str) -> Option<u16>
     ensures { result ≡ layout_of word.now }
 {
-    named(&LAYOUTS, word)
+    value_named(&LAYOUTS, word)
 }
 
 // Tells whether all bytes are ASCII digits. No byte at all passes, so callers test the length too.
@@ -151,13 +151,13 @@ pub(crate) fn number(word: &str, digits: usize, least: u64, most: u64) -> Option
         return None;
     }
     match word.parse::<u64>() {
-        Ok(number) => within(number, least, most),
+        Ok(number) => number_within(number, least, most),
         Err(_) => None,
     }
 }
 
 // Returns the number where it lies from `least` to `most`, both included, else none.
-fn within(number: u64, least: u64, most: u64) -> Option<u64>
+fn number_within(number: u64, least: u64, most: u64) -> Option<u64>
     ensures within { result ≡ (if nat_le least number && nat_le number most then Some number
         else None) }
     ensures most { IfSome result (λ number. number ≤ most) }

@@ -24,7 +24,7 @@ use spec_trees::CutRule;
 
 // Checks an option that has a word. The option is bad where the word could not be read (`None`) or the kind does not
 // use it.
-fn used<T: Copy>(option: Named, usage: Use, read: Option<T>) -> Result<Option<T>, Named>
+fn check_given<T: Copy>(option: Named, usage: Use, read: Option<T>) -> Result<Option<T>, Named>
     ensures { result ≡ used option usage read }
 {
     match read {
@@ -38,7 +38,7 @@ fn used<T: Copy>(option: Named, usage: Use, read: Option<T>) -> Result<Option<T>
 }
 
 // Checks an option that was left out. It is bad where the kind needs it, and else has no value.
-fn left_out<T: Copy>(option: Named, usage: Use) -> Result<Option<T>, Named>
+fn check_left_out<T: Copy>(option: Named, usage: Use) -> Result<Option<T>, Named>
     ensures { result ≡ left_out option usage }
 {
     match usage {
@@ -58,13 +58,13 @@ fn check_use<T: Copy>(
     ensures { result ≡ by_use option usage read }
 {
     match read {
-        Some(value) => used(option, usage, value),
-        None => left_out(option, usage),
+        Some(value) => check_given(option, usage, value),
+        None => check_left_out(option, usage),
     }
 }
 
 // Returns the value of an option that every command line needs. It is bad where it was left out or could not be read.
-fn required<T: Copy>(option: Named, read: Option<T>) -> Result<T, Named>
+fn require<T: Copy>(option: Named, read: Option<T>) -> Result<T, Named>
     ensures { result ≡ required option read }
 {
     match read {
@@ -78,7 +78,7 @@ pub(crate) fn kind(matches: &ArgMatches<'_>) -> Result<Kind, Named>
     ensures { result ≡ needed kind_of opt.Kind (values_of matches.now opt.Kind) }
 {
     let read = value(matches, Named::Kind).and_then(forms::kind);
-    required(Named::Kind, read)
+    require(Named::Kind, read)
 }
 
 // Reads the kind of a set, which is needed. Kinds with a condition beside their function are bad: they have no sets.
@@ -86,7 +86,7 @@ pub(crate) fn set_kind(matches: &ArgMatches<'_>) -> Result<Kind, Named>
     ensures { result ≡ needed set_kind_of opt.Kind (values_of matches.now opt.Kind) }
 {
     let read = value(matches, Named::Kind).and_then(relations::kind);
-    required(Named::Kind, read)
+    require(Named::Kind, read)
 }
 
 /// Reads the body that is looked at, which is needed. The barycentre of the solar system is bad.
@@ -94,11 +94,11 @@ pub(crate) fn target(matches: &ArgMatches<'_>) -> Result<Body, Named>
     ensures { result ≡ needed target_of opt.Target (values_of matches.now opt.Target) }
 {
     let read = value(matches, Named::Target).and_then(forms::target);
-    required(Named::Target, read)
+    require(Named::Target, read)
 }
 
 /// Reads the second body, as far as the kind uses one. The barycentre of the solar system is bad.
-pub(crate) fn second(matches: &ArgMatches<'_>, usage: Use) -> Result<Option<Body>, Named>
+pub(crate) fn second_body(matches: &ArgMatches<'_>, usage: Use) -> Result<Option<Body>, Named>
     ensures { result ≡ part target_of opt.Second usage (values_of matches.now opt.Second) }
 {
     let read = value(matches, Named::Second).map(forms::target);
@@ -146,8 +146,8 @@ pub(crate) fn relation(matches: &ArgMatches<'_>, kind: Kind) -> Result<Relation,
     ensures { result ≡ needed (relation_for kind) opt.Relation (values_of matches.now opt.Relation) }
 {
     match value(matches, Named::Relation) {
-        Some(word) => required(Named::Relation, relations::relation(kind, word)),
-        None => required(Named::Relation, None),
+        Some(word) => require(Named::Relation, relations::relation(kind, word)),
+        None => require(Named::Relation, None),
     }
 }
 
@@ -229,7 +229,7 @@ pub(crate) fn layout(matches: &ArgMatches<'_>) -> Result<u16, Named>
     ensures { result ≡ needed layout_of opt.Layout (values_of matches.now opt.Layout) }
 {
     let read = value(matches, Named::Layout).and_then(forms::layout);
-    required(Named::Layout, read)
+    require(Named::Layout, read)
 }
 
 /// Reads the number of blocks of a generated text, which is needed.
@@ -237,7 +237,7 @@ pub(crate) fn blocks(matches: &ArgMatches<'_>) -> Result<u32, Named>
     ensures { result ≡ needed blocks_of opt.Blocks (values_of matches.now opt.Blocks) }
 {
     let read = value(matches, Named::Blocks).and_then(forms::blocks);
-    required(Named::Blocks, read)
+    require(Named::Blocks, read)
 }
 
 /// Reads the seed of a generated text, which is needed.
@@ -245,7 +245,7 @@ pub(crate) fn seed(matches: &ArgMatches<'_>) -> Result<u64, Named>
     ensures { result ≡ needed seed_of opt.Seed (values_of matches.now opt.Seed) }
 {
     let read = value(matches, Named::Seed).and_then(forms::seed);
-    required(Named::Seed, read)
+    require(Named::Seed, read)
 }
 
 /// Reads the polynomial of a scalar, which is needed.
@@ -253,7 +253,7 @@ pub(crate) fn quad(matches: &ArgMatches<'_>) -> Result<Polynomial, Named>
     ensures { result ≡ needed polynomial_of opt.Quad (values_of matches.now opt.Quad) }
 {
     let read = value(matches, Named::Quad).and_then(polynomials::quad);
-    required(Named::Quad, read)
+    require(Named::Quad, read)
 }
 
 // Reads the first or last time of a scalar's span, a whole number that is needed.
@@ -261,7 +261,7 @@ pub(crate) fn scalar_time(matches: &ArgMatches<'_>, option: Named) -> Result<i64
     ensures { result ≡ needed scalar_time_of option (values_of matches.now option) }
 {
     let read = value(matches, option).and_then(polynomials::time);
-    required(option, read)
+    require(option, read)
 }
 
 // Returns the name of the file that holds the certificate, or none where it is left out or empty.

@@ -20,7 +20,7 @@ pub(crate) struct Polynomial {
 }
 
 // Returns a number as it stands, with a sign. None stays none.
-fn above_0(number: Option<u64>) -> Option<i128>
+fn as_positive(number: Option<u64>) -> Option<i128>
     ensures { result ≡ option_map pos number }
 {
     match number {
@@ -30,7 +30,7 @@ fn above_0(number: Option<u64>) -> Option<i128>
 }
 
 // Returns the negative of a number. None stays none.
-fn below_0(number: Option<u64>) -> Option<i128>
+fn as_negative(number: Option<u64>) -> Option<i128>
     ensures { result ≡ option_map (λ n. neg_ℤ (pos n)) number }
 {
     match number {
@@ -41,13 +41,13 @@ fn below_0(number: Option<u64>) -> Option<i128>
 
 // Reads a whole number of 1 to `digits` digits, with an optional minus sign. None for another word, or a magnitude
 // above `most`.
-fn signed(word: &str, digits: usize, most: u64) -> Option<i128>
+fn signed_number(word: &str, digits: usize, most: u64) -> Option<i128>
     ensures signed { result ≡ signed_of digits most word.now }
     ensures most { IfSome result (λ number. unsigned_abs number ≤ most) }
 {
     match word.strip_prefix('-') {
-        Some(rest) => below_0(number(rest, digits, 0, most)),
-        None => above_0(number(word, digits, 0, most)),
+        Some(rest) => as_negative(number(rest, digits, 0, most)),
+        None => as_positive(number(word, digits, 0, most)),
     }
 }
 
@@ -56,7 +56,7 @@ fn signed(word: &str, digits: usize, most: u64) -> Option<i128>
 pub(crate) fn time(word: &str) -> Option<i64>
     ensures { result ≡ scalar_time_of word.now }
 {
-    match signed(word, MAX_DIGITS_OF_A_TIME, MAX_SCALAR_TIME) {
+    match signed_number(word, MAX_DIGITS_OF_A_TIME, MAX_SCALAR_TIME) {
         Some(time) => Some(time as i64),
         None => None,
     }
@@ -67,11 +67,11 @@ pub(crate) fn time(word: &str) -> Option<i64>
 fn factor(word: &str) -> Option<i128>
     ensures { result ≡ factor_of word.now }
 {
-    signed(word, MAX_DIGITS_OF_A_FACTOR, MAX_WRITTEN_FACTOR)
+    signed_number(word, MAX_DIGITS_OF_A_FACTOR, MAX_WRITTEN_FACTOR)
 }
 
 // Splits a word at its first comma into what stands before and after it. None where there is no comma.
-fn at_comma<'a>(word: &'a str) -> Option<(&'a str, &'a str)>
+fn split_at_comma<'a>(word: &'a str) -> Option<(&'a str, &'a str)>
     ensures { bytes_of_two result ≡ at_comma word.entry.now }
 {
     word.split_once(',')
@@ -88,7 +88,7 @@ fn is_small(p: i128, q: i128, r: i128) -> bool
 }
 
 // Returns the polynomial of these factors, or none where a factor is too large to be searched for.
-fn small(p: i128, q: i128, r: i128) -> Option<Polynomial>
+fn small_polynomial(p: i128, q: i128, r: i128) -> Option<Polynomial>
     ensures { result ≡ small_polynomial p q r }
 {
     if is_small(p, q, r) {
@@ -103,18 +103,18 @@ fn small(p: i128, q: i128, r: i128) -> Option<Polynomial>
 }
 
 // Returns the polynomial of three factors. None where one could not be read or is too large.
-fn of_numbers(p: Option<i128>, q: Option<i128>, r: Option<i128>) -> Option<Polynomial>
+fn polynomial_of_numbers(p: Option<i128>, q: Option<i128>, r: Option<i128>) -> Option<Polynomial>
     ensures { result ≡ polynomial_of_numbers p q r }
 {
-    small(p?, q?, r?)
+    small_polynomial(p?, q?, r?)
 }
 
 // Reads a polynomial from its first word and the two others. None where there are no others, or one cannot be read.
-fn of_two(p: &str, others: Option<(&str, &str)>) -> Option<Polynomial>
+fn polynomial_of_two(p: &str, others: Option<(&str, &str)>) -> Option<Polynomial>
     ensures { result ≡ polynomial_of_two p.now (bytes_of_two others.entry) }
 {
     match others {
-        Some((q, r)) => of_numbers(factor(p), factor(q), factor(r)),
+        Some((q, r)) => polynomial_of_numbers(factor(p), factor(q), factor(r)),
         None => None,
     }
 }
@@ -124,8 +124,8 @@ fn of_two(p: &str, others: Option<(&str, &str)>) -> Option<Polynomial>
 pub(crate) fn quad(word: &str) -> Option<Polynomial>
     ensures { result ≡ polynomial_of word.now }
 {
-    match at_comma(word) {
-        Some((p, others)) => of_two(p, at_comma(others)),
+    match split_at_comma(word) {
+        Some((p, others)) => polynomial_of_two(p, split_at_comma(others)),
         None => None,
     }
 }

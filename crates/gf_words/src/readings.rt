@@ -12,7 +12,7 @@ use std::alloc::{AllocError, Global};
 
 /// Reads the words, of which the first is the command's name, by the command's rules. An error is out of memory, or
 /// says that the rules refuse the words.
-pub(crate) fn read<'a>(
+pub(crate) fn read_words<'a>(
     command: Command<'a>,
     words: &'a [String],
 ) -> Result<ArgMatches<'a>, WordFault>
@@ -24,12 +24,12 @@ pub(crate) fn read<'a>(
 {
     match command.try_get_matches_from(words) {
         Ok(matches) => Ok(matches),
-        Err(error) => Err(fault(error.kind())),
+        Err(error) => Err(fault_of_kind(error.kind())),
     }
 }
 
 // Returns why `clap` gave up: out of memory, or words that the command's rules refuse.
-fn fault(kind: ErrorKind) -> WordFault
+fn fault_of_kind(kind: ErrorKind) -> WordFault
     ensures { result ≡ word_fault kind }
 {
     match kind {
@@ -51,13 +51,13 @@ pub(crate) fn file_names(alloc: Global, matches: &ArgMatches<'_>) -> Result<File
     ensures { IfOk result (λ names. names ≡ file_names_of matches.now) }
 {
     match matches.get_strs("FILE") {
-        Some(names) => copies(alloc, names),
+        Some(names) => copy_names(alloc, names),
         None => Ok(FileNames::new(Vec::new(alloc))),
     }
 }
 
 // Copies texts in their order. The only error is out of memory.
-fn copies(alloc: Global, texts: &[&str]) -> Result<FileNames, AllocError>
+fn copy_names(alloc: Global, texts: &[&str]) -> Result<FileNames, AllocError>
     ensures { IfOk result (λ names. names ≡ map (λ text. text.now) texts.now) }
 {
     let mut names = Vec::new(alloc);

@@ -3,7 +3,7 @@ ghost use Rattle.std.specs.Prelude.{◌≡◌, Some};
 ghost use Rattle.spec_requests.specs.Names.{relation_of};
 ghost use Rattle.spec_requests.specs.Options.{has_relation, has_sets, is_to_two, relation_for, set_kind_of, use_of_ref2};
 
-use crate::forms::{self, named};
+use crate::forms::{self, value_named};
 use spec_kinds::{Kind, Use};
 use spec_requests::{RELATIONS, Relation};
 
@@ -57,7 +57,7 @@ pub(crate) fn kind(word: &str) -> Option<Kind>
 fn any_relation(word: &str) -> Option<Relation>
     ensures { result ≡ relation_of word.now }
 {
-    named(&RELATIONS, word)
+    value_named(&RELATIONS, word)
 }
 
 /// Returns the relation of this name, or none where there is no such relation or the kind does not have it.

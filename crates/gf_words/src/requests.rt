@@ -10,18 +10,18 @@ ghost use Rattle.gf_words.specs.Answers.{Answers};
 ghost use Rattle.gf_words.specs.Readings.{IsReading, file_names_of, values_of};
 
 use crate::commands::command;
-use crate::readings::{file_names, read};
-use crate::scalars::scalar;
+use crate::readings::{file_names, read_words};
+use crate::scalars::scalar_request;
 use crate::searches::{search, text};
-use crate::sets::set;
-use crate::texts::generated;
+use crate::sets::set_request;
+use crate::texts::generated_request;
 use crate::{forms, parts};
 use clap::ArgMatches;
 use spec_requests::{CommandName, FindAsk, Named, Request, WordFault};
 use std::alloc::Global;
 
 // Makes the request of `find` from its options and files, or names the first option that is bad.
-fn find(alloc: Global, matches: &ArgMatches<'_>) -> Result<Request, WordFault>
+fn find_request(alloc: Global, matches: &ArgMatches<'_>) -> Result<Request, WordFault>
     ensures { Answers (request_by command.Find (values_of matches.now) (file_names_of matches.now))
         result }
 {
@@ -32,7 +32,7 @@ fn find(alloc: Global, matches: &ArgMatches<'_>) -> Result<Request, WordFault>
 }
 
 // Makes the request of `cert`, which has the options of `find`, or names the first option that is bad.
-fn cert(alloc: Global, matches: &ArgMatches<'_>) -> Result<Request, WordFault>
+fn cert_request(alloc: Global, matches: &ArgMatches<'_>) -> Result<Request, WordFault>
     ensures { Answers (request_by command.Cert (values_of matches.now) (file_names_of matches.now))
         result }
 {
@@ -44,7 +44,7 @@ fn cert(alloc: Global, matches: &ArgMatches<'_>) -> Result<Request, WordFault>
 
 // Makes the request of `verify`: a search as `find` has it, and the certificate. Else names the first option that is
 // bad.
-fn verify(alloc: Global, matches: &ArgMatches<'_>) -> Result<Request, WordFault>
+fn verify_request(alloc: Global, matches: &ArgMatches<'_>) -> Result<Request, WordFault>
     ensures { Answers (request_by command.Verify (values_of matches.now)
         (file_names_of matches.now)) result }
 {
@@ -64,7 +64,7 @@ fn with_certificate(
     ensures { Answers (verify_of (option_and_then name_of (values_of matches.now opt.Cert)) find)
         result }
 {
-    match parts::cert(matches) {
+    match parts::cert_request(matches) {
         Some(name) => match text(alloc, name) {
             Ok(cert) => Ok(Request::Verify { find, cert }),
             Err(_) => Err(WordFault::Memory),
@@ -74,7 +74,7 @@ fn with_certificate(
 }
 
 // Makes the request of `check` from its files. The only error is out of memory.
-fn check(alloc: Global, matches: &ArgMatches<'_>) -> Result<Request, WordFault>
+fn check_request(alloc: Global, matches: &ArgMatches<'_>) -> Result<Request, WordFault>
     ensures { Answers (Ok (Check (file_names_of matches.now))) result }
 {
     match file_names(alloc, matches) {
@@ -92,13 +92,13 @@ fn request_by(
     ensures { Answers (request_by name (values_of matches.now) (file_names_of matches.now)) result }
 {
     match name {
-        CommandName::Find => find(alloc, matches),
-        CommandName::Cert => cert(alloc, matches),
-        CommandName::Verify => verify(alloc, matches),
-        CommandName::Check => check(alloc, matches),
-        CommandName::Gen => generated(matches),
-        CommandName::Set => set(alloc, matches),
-        CommandName::Scalar => scalar(alloc, matches),
+        CommandName::Find => find_request(alloc, matches),
+        CommandName::Cert => cert_request(alloc, matches),
+        CommandName::Verify => verify_request(alloc, matches),
+        CommandName::Check => check_request(alloc, matches),
+        CommandName::Gen => generated_request(matches),
+        CommandName::Set => set_request(alloc, matches),
+        CommandName::Scalar => scalar_request(alloc, matches),
     }
 }
 
@@ -115,7 +115,7 @@ fn matches_of<'a>(
         × (is_refused (command_rules name) (map string_bytes words.entry.now) ≡ true))) }
 {
     match command(alloc, name) {
-        Ok(command) => read(command, words),
+        Ok(command) => read_words(command, words),
         Err(_) => Err(WordFault::Memory),
     }
 }

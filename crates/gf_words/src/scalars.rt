@@ -7,7 +7,7 @@ ghost use Rattle.gf_words.specs.Readings.{values_of};
 
 use crate::parts::{self, pair};
 use crate::polynomials::Polynomial;
-use crate::searches::{Limits, read_limits, text, word_or};
+use crate::searches::{Limits, read_limits, text, word_or_default};
 use clap::ArgMatches;
 use spec_events::Dir;
 use spec_requests::{Named, Request, ScalarAsk, WordFault};
@@ -52,7 +52,7 @@ fn read_scalar(matches: &ArgMatches<'_>) -> Result<ScalarOptions, Named>
 }
 
 // Adds the text of the polynomial, as it was given, to options that were read. The only error is out of memory.
-fn found(
+fn scalar_of_options(
     alloc: Global,
     matches: &ArgMatches<'_>,
     options: ScalarOptions,
@@ -64,7 +64,7 @@ fn found(
         p: options.polynomial.p,
         q: options.polynomial.q,
         r: options.polynomial.r,
-        text: text(alloc, word_or(matches, Named::Quad, ""))?,
+        text: text(alloc, word_or_default(matches, Named::Quad, ""))?,
         from: options.from,
         to: options.to,
         plan: Plan {
@@ -78,11 +78,11 @@ fn found(
 }
 
 /// Makes the request of `scalar` from its options. An error names the first option that is bad, or is out of memory.
-pub(crate) fn scalar(alloc: Global, matches: &ArgMatches<'_>) -> Result<Request, WordFault>
+pub(crate) fn scalar_request(alloc: Global, matches: &ArgMatches<'_>) -> Result<Request, WordFault>
     ensures { Answers (scalar_by (values_of matches.now)) result }
 {
     match read_scalar(matches) {
-        Ok(options) => match found(alloc, matches, options) {
+        Ok(options) => match scalar_of_options(alloc, matches, options) {
             Ok(ask) => Ok(Request::Scalar(ask)),
             Err(_) => Err(WordFault::Memory),
         },

@@ -96,7 +96,7 @@ fn first_number(kind: Kind, radius: Option<Decimal>, reference: Option<Decimal>)
 fn read_bodies(matches: &ArgMatches<'_>, kind: Kind, target: Body) -> Result<Bodies, Named>
     ensures { result ≡ bodies_read (values_of matches.now) kind target }
 {
-    let second = parts::second(matches, kind.second());
+    let second = parts::second_body(matches, kind.second());
     match pair(second, parts::observer(matches)) {
         Ok((second, observer)) => Ok(Bodies {
             target,
@@ -244,7 +244,11 @@ pub(crate) fn read_search<X: Copy>(
 // ---- the texts
 
 /// Returns the word that was given for an option, or the default.
-pub(crate) fn word_or<'a>(matches: &ArgMatches<'a>, option: Named, default: &'a str) -> &'a str
+pub(crate) fn word_or_default<'a>(
+    matches: &ArgMatches<'a>,
+    option: Named,
+    default: &'a str,
+) -> &'a str
     ensures { result.now ≡ unwrap_or (values_of matches.now option) default.entry.now }
 {
     match value(matches, option) {
@@ -285,13 +289,13 @@ pub(crate) fn values_text(
     ensures { IfOk result (λ text. text ≡ values_text (values_of matches.now) kind) }
 {
     if kind.takes_radii() {
-        let first = text(alloc, word_or(matches, Named::Radius1, ""))?;
-        return with_second(first, Some(word_or(matches, Named::Radius2, "")));
+        let first = text(alloc, word_or_default(matches, Named::Radius1, ""))?;
+        return with_second(first, Some(word_or_default(matches, Named::Radius2, "")));
     }
     if kind.reference().is_unused() {
         return text(alloc, "-");
     }
-    text(alloc, word_or(matches, Named::Ref, "0"))
+    text(alloc, word_or_default(matches, Named::Ref, "0"))
 }
 
 /// Makes the search in this direction from its options, with the text of its numbers and the names of its files. The
@@ -324,7 +328,7 @@ pub(crate) fn with_texts(
 
 // Adds the direction, the text of the numbers and the names of the files to a search that was read. The only error is
 // out of memory.
-fn found(
+fn search_of_options(
     alloc: Global,
     matches: &ArgMatches<'_>,
     kind: Kind,
@@ -354,7 +358,7 @@ fn search_of_target(
     ensures { Answers (search_by (values_of matches.now) (file_names_of matches.now)) result }
 {
     match read_search(matches, kind, target, parts::dir(matches)) {
-        Ok((search, dir)) => match found(alloc, matches, kind, target, search, dir) {
+        Ok((search, dir)) => match search_of_options(alloc, matches, kind, target, search, dir) {
             Ok(find) => Ok(find),
             Err(_) => Err(WordFault::Memory),
         },

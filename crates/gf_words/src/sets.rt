@@ -49,7 +49,7 @@ fn read_ref2(matches: &ArgMatches<'_>, relation: Relation) -> Result<References,
 }
 
 // Adds the texts of the numbers and of the files to a set that was read. The only error is out of memory.
-fn found(
+fn set_of_options(
     alloc: Global,
     matches: &ArgMatches<'_>,
     kind: Kind,
@@ -85,7 +85,9 @@ fn set_of_target(
         result }
 {
     match read_search(matches, kind, target, read_references(matches, kind)) {
-        Ok((search, references)) => match found(alloc, matches, kind, target, search, references) {
+        Ok((search, references)) => match set_of_options(
+            alloc, matches, kind, target, search, references,
+        ) {
             Ok(request) => Ok(request),
             Err(_) => Err(WordFault::Memory),
         },
@@ -95,7 +97,7 @@ fn set_of_target(
 
 /// Makes the request of `set` from its options and files. An error names the first option that is bad, or is out of
 /// memory.
-pub(crate) fn set(alloc: Global, matches: &ArgMatches<'_>) -> Result<Request, WordFault>
+pub(crate) fn set_request(alloc: Global, matches: &ArgMatches<'_>) -> Result<Request, WordFault>
     ensures { Answers (request_by command.Set (values_of matches.now) (file_names_of matches.now))
         result }
 {

@@ -10,7 +10,7 @@ use spec_requests::{DEFAULT_WORKERS, Named, Request, WordFault};
 
 // Reads the words of `gen` and its option in the order of their faults. There is one layout, so the request does not
 // hold it.
-fn text(matches: &ArgMatches<'_>) -> Result<Request, Named>
+fn generated_text(matches: &ArgMatches<'_>) -> Result<Request, Named>
     ensures { result ≡ text_read (values_of matches.now) }
 {
     let blocks = parts::blocks(matches);
@@ -27,10 +27,10 @@ fn text(matches: &ArgMatches<'_>) -> Result<Request, Named>
 }
 
 /// Makes the request of `gen` from its words and its option, or names the first that is bad.
-pub(crate) fn generated(matches: &ArgMatches<'_>) -> Result<Request, WordFault>
+pub(crate) fn generated_request(matches: &ArgMatches<'_>) -> Result<Request, WordFault>
     ensures { result ≡ text_by (values_of matches.now) }
 {
-    match text(matches) {
+    match generated_text(matches) {
         Ok(request) => Ok(request),
         Err(option) => Err(WordFault::BadValue(option)),
     }

@@ -15,7 +15,7 @@ returns c =
     let firsts = c.first_options.result.now in
     let lasts = c.last_options.result.now in
     let bare = app_of c.without_help-command.result in
-    made_along app_of c.with_places.result _ _
+    made_along app_of c.with_arguments.result _ _
     (ap (with_rules (places_of c.args.name))
     (c.in_ok-command-2.ensures
     ∙ ap (with_rules (map option_rule lasts)) c.in_ok-command.ensures
@@ -24,4 +24,4 @@ returns c =
     ∙ ap (λ (options : List Named). with_rules (map option_rule options) bare) (ap (λ (options : List Named). firsts ++ options) c.last_options.ensures ∙ sym c.first_options.ensures)
     ∙ ap (with_rules (map option_rule (options_of c.args.name)))
     (c.without_help-command.ensures ∙ ap (λ (name : Text). command_with name []) c.command_name-text.ensures)))
-    c.with_places.ensures
+    c.with_arguments.ensures

@@ -3,4 +3,4 @@ use Rattle.gf_words.proofs.forms.cut.Goals as goal
 
 pub returns : goal.returns
 unfolding cut_of
-returns c = c.named.ensures
+returns c = c.value_named.ensures

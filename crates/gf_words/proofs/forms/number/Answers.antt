@@ -12,9 +12,9 @@ returns-then-not-are_digits c = record {
 pub returns-in-Ok : goal.returns-in-Ok
 returns-in-Ok c = record {
   number =
-      number_parsed c.args.digits c.args.least c.args.most c.in-Ok.number c.args.word.now c.within.result
-      (sym c.are_digits.ensures ∙ c.if-not-are_digits.false) c.in-Ok.ensures.value.0.1 c.within.ensures.within;
-  most = c.within.ensures.most;
+      number_parsed c.args.digits c.args.least c.args.most c.in-Ok.number c.args.word.now c.number_within.result
+      (sym c.are_digits.ensures ∙ c.if-not-are_digits.false) c.in-Ok.ensures.value.0.1 c.number_within.ensures.within;
+  most = c.number_within.ensures.most;
 }
 
 pub returns-in-Err : goal.returns-in-Err

@@ -3,4 +3,4 @@ use Rattle.gf_words.proofs.forms.tick.Goals as goal
 
 pub returns : goal.returns
 unfolding tick_of_word
-returns c = c.named.ensures
+returns c = c.value_named.ensures

@@ -4,8 +4,8 @@ use Rattle.gf_words.proofs.polynomials.quad.Goals as goal
 
 pub returns-in-Some : goal.returns-in-Some
 returns-in-Some c =
-    quad_split c.args.word.now c.in-Some.p.now c.in-Some.others.now (bytes_of_two c.at_comma-in-Some.result) c.of_two.result
-    c.in-Some.ensures c.at_comma-in-Some.ensures c.of_two.ensures
+    quad_split c.args.word.now c.in-Some.p.now c.in-Some.others.now (bytes_of_two c.split_at_comma-in-Some.result) c.polynomial_of_two.result
+    c.in-Some.ensures c.split_at_comma-in-Some.ensures c.polynomial_of_two.ensures
 
 pub returns-in-None : goal.returns-in-None
 returns-in-None c = quad_whole c.args.word.now c.in-None.ensures

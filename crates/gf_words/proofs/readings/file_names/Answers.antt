@@ -12,8 +12,8 @@ or_none texts = unwrap_or texts []
 pub returns-in-Some : goal.returns-in-Some
 unfolding file_names_of
 returns-in-Some c =
-    made_along (λ (names : List Text). names) c.copies.result _ _
-    (ap or_none (c.in-Some.ensures ∙ raw_values-rows (found_of c.args.matches.now) (codes "FILE"))) c.copies.ensures
+    made_along (λ (names : List Text). names) c.copy_names.result _ _
+    (ap or_none (c.in-Some.ensures ∙ raw_values-rows (found_of c.args.matches.now) (codes "FILE"))) c.copy_names.ensures
 
 pub returns-in-None : goal.returns-in-None
 unfolding file_names_of

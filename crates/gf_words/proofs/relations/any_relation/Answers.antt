@@ -3,4 +3,4 @@ use Rattle.gf_words.proofs.relations.any_relation.Goals as goal
 
 pub returns : goal.returns
 unfolding relation_of
-returns c = c.named.ensures
+returns c = c.value_named.ensures

@@ -7,7 +7,7 @@ pub read-requires : goal.read-requires
 read-requires c = ap is_simple_and_free c.in-Ok.ensures ∙ is_simple c.args.name
 
 pub returns-in-Ok-clause-read : goal.returns-in-Ok-clause-read
-returns-in-Ok-clause-read c = read_by _ _ (map string_bytes c.args.words.now) c.read.result c.in-Ok.ensures c.read.ensures.read
+returns-in-Ok-clause-read c = read_by _ _ (map string_bytes c.args.words.now) c.read_words.result c.in-Ok.ensures c.read_words.ensures.read
 
 pub returns-in-Ok-clause-refused : goal.returns-in-Ok-clause-refused
-returns-in-Ok-clause-refused c = refused_by _ _ (map string_bytes c.args.words.now) c.read.result c.in-Ok.ensures c.read.ensures.refused
+returns-in-Ok-clause-refused c = refused_by _ _ (map string_bytes c.args.words.now) c.read_words.result c.in-Ok.ensures c.read_words.ensures.refused

@@ -14,11 +14,11 @@ found-requires-clause-turns c =
     (search_found (values_of c.args.matches.now) (file_names_of c.args.matches.now) c.args.kind c.args.target c.dir.result c.in-Ok.search
     c.in-Ok.dir (record { kind_is = c.requires.kind; target_is = c.requires.target }) c.dir.ensures c.in-Ok.ensures).0.1
 
-pub returns-in-Ok-found : goal.returns-in-Ok-found
-returns-in-Ok-found c =
+pub returns-in-Ok-search_of_options : goal.returns-in-Ok-search_of_options
+returns-in-Ok-search_of_options c =
     (search_found (values_of c.args.matches.now) (file_names_of c.args.matches.now) c.args.kind c.args.target c.dir.result c.in-Ok.search
     c.in-Ok.dir (record { kind_is = c.requires.kind; target_is = c.requires.target }) c.dir.ensures c.in-Ok.ensures).1
-    ∙ ap (λ (f : FindAsk). Ok f) (sym c.in-Ok-found.ensures)
+    ∙ ap (λ (f : FindAsk). Ok f) (sym c.in-Ok-search_of_options.ensures)
 
 pub returns-in-Err : goal.returns-in-Err
 returns-in-Err c =

@@ -17,13 +17,13 @@ found-requires-clause-references c =
     c.in-Ok.search c.in-Ok.references (record { kind_is = c.requires.kind; target_is = c.requires.target }) c.read_references.ensures
     c.in-Ok.ensures).0.1
 
-pub returns-in-Ok-found : goal.returns-in-Ok-found
-returns-in-Ok-found c =
+pub returns-in-Ok-set_of_options : goal.returns-in-Ok-set_of_options
+returns-in-Ok-set_of_options c =
     let values = values_of c.args.matches.now in
     ap (of_search (λ find. Ok (set_of values find))) (set_found values (file_names_of c.args.matches.now) c.args.kind c.args.target
     c.read_references.result c.in-Ok.search c.in-Ok.references (record { kind_is = c.requires.kind; target_is = c.requires.target })
     c.read_references.ensures c.in-Ok.ensures).1
-    ∙ ap (λ (r : Request). Ok r) (sym c.in-Ok-found.ensures)
+    ∙ ap (λ (r : Request). Ok r) (sym c.in-Ok-set_of_options.ensures)
 
 pub returns-in-Err : goal.returns-in-Err
 returns-in-Err c =

@@ -72,7 +72,7 @@ impl SpanLedger {
     {
         if seats.len() != self.seats as usize {
             return Err(CloseError::Missing {
-                given: capped(seats.len()),
+                given: capped_count(seats.len()),
                 made: self.seats,
             });
         }
@@ -101,7 +101,7 @@ impl SpanLedger {
 
 // Returns a count as a number of 32 bits, and the greatest such number for a greater count, which no ledger has seats
 // for.
-fn capped(count: usize) -> u32
+fn capped_count(count: usize) -> u32
     ensures { result ≡ min count 4294967295 }
 {
     count.min(4_294_967_295) as u32

@@ -34,7 +34,7 @@ fn try_lock(ledger: &SpanLedger, raw: &mut Raw) -> bool
 
 // Writes an entry into the book that the seat holds. Where the leaf stands already, the limit is reached or memory is
 // out, it writes nothing and returns that.
-fn write(ledger: &SpanLedger, raw: &mut Raw, entry: Booked) -> Entry
+fn write_entry(ledger: &SpanLedger, raw: &mut Raw, entry: Booked) -> Entry
     requires ours { raw.old.table_id ≡ ledger.now.table.shared.table_id }
     requires held { HasBook raw.old.me }
     requires own { (entry.seat ≡ (own_part raw.old.me).number) × (entry.seat < 64) }
@@ -109,7 +109,7 @@ fn lock<R: Wait>(rt: &R, ledger: &SpanLedger, raw: &mut Raw)
 }
 
 // Writes an entry into the book that the seat holds, then gives the lock and the book back.
-fn put(ledger: &SpanLedger, raw: &mut Raw, entry: Booked) -> Entry
+fn write_and_release(ledger: &SpanLedger, raw: &mut Raw, entry: Booked) -> Entry
     requires ours { raw.old.table_id ≡ ledger.now.table.shared.table_id }
     requires held { HasBook raw.old.me }
     requires own { (entry.seat ≡ (own_part raw.old.me).number) × (entry.seat < 64) }
@@ -121,7 +121,7 @@ fn put(ledger: &SpanLedger, raw: &mut Raw, entry: Booked) -> Entry
     ensures memory { result ≡ Entry.Memory
         → MayEnter ledger.now.limit entry.leaf (own_part raw.new.me).seen }
 {
-    let entered = write(ledger, raw, entry);
+    let entered = write_entry(ledger, raw, entry);
     if let Entry::Again { place } = entered {
         release_again(ledger, raw, place, entry.leaf);
         return entered;
@@ -151,6 +151,6 @@ impl SpanLedger {
             leaf,
             seat: seat.number,
         };
-        put(self, &mut seat.raw, entry)
+        write_and_release(self, &mut seat.raw, entry)
     }
 }

@@ -7,7 +7,7 @@ use Rattle.span_ledger.specs.Rule.{the_part}
 use Rattle.span_ledger.proofs.Closing.{one_taken, found_book, after_put}
 use Rattle.span_ledger.proofs.Moves.{adds_from}
 use Rattle.span_ledger.proofs.Seats.{single}
-use Rattle.span_ledger.proofs.enter.write.Goals as goal
+use Rattle.span_ledger.proofs.enter.write_entry.Goals as goal
 
 pub exchange-requires : goal.exchange-requires
 exchange-requires c = (c.requires.ours, (Some (the_part c.args.raw.now.me.0.parts).seen, one_taken _ _ c.requires.held.slots))

@@ -43,9 +43,9 @@ fn opening_workers(alloc: Global, root: Node, workers: u32) -> Result<Vec<Worker
     ensures { IfOk result (λ made. made.items ≡ (opening root workers).workers) }
 {
     let mut made = Vec::new(alloc);
-    put(&mut made, Worker::new(alloc, Some(root)))?;
+    add_worker(&mut made, Worker::new(alloc, Some(root)))?;
     for _ in 1..workers {
-        put(&mut made, Worker::new(alloc, None))?;
+        add_worker(&mut made, Worker::new(alloc, None))?;
     }
     Ok(made)
 }
@@ -113,7 +113,7 @@ impl<J: Judge> Pool<J> {
             return Err(StepError::Refused);
         }
         let worker = &mut self.workers[at];
-        worker.take(&self.judge, step)
+        worker.take_own_step(&self.judge, step)
     }
 
     // Lets worker `w` take the front of the deque of worker `from` into its empty hand. The pool is unchanged after
@@ -146,7 +146,7 @@ impl<J: Judge> Pool<J> {
         let Ok(()) = self.entered.push(leaf) else {
             return Err(StepError::Memory);
         };
-        self.workers[at].let_go();
+        self.workers[at].empty_hand();
         Ok(())
     }
 }
@@ -164,15 +164,15 @@ fn move_front(workers: &mut [Worker], at: usize, from: usize) -> Result<(), Step
     if !workers[at].is_free() {
         return Err(StepError::Refused);
     }
-    let Some(node) = workers[from].give_up() else {
+    let Some(node) = workers[from].take_front() else {
         return Err(StepError::Refused);
     };
-    workers[at].get(node);
+    workers[at].take_into_hand(node);
     Ok(())
 }
 
 // Appends a worker. The only error is out of memory.
-fn put(made: &mut Vec<Worker>, worker: Worker) -> Result<(), Memory>
+fn add_worker(made: &mut Vec<Worker>, worker: Worker) -> Result<(), Memory>
     ensures { OnOk result (made.new.items ≡ made.old.items ++ worker ∷ []) }
 {
     match made.push(worker) {

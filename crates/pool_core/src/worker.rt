@@ -63,7 +63,7 @@ impl Worker {
 
     /// Takes a step that changes only what this worker holds. It is refused where its condition is false; after an
     /// error nothing has changed.
-    pub fn take<J: Judge>(&mut self, judge: &J, step: OwnStep) -> Result<(), StepError>
+    pub fn take_own_step<J: Judge>(&mut self, judge: &J, step: OwnStep) -> Result<(), StepError>
         requires { HoldsValid (J.rules judge.now) self.old }
         ensures ok { OnOk result (Goes (J.rules judge.now) step self.old self.new) }
         ensures refused { IfRefused result (IsStuck (Goes (J.rules judge.now) step) self.old) }
@@ -78,7 +78,7 @@ impl Worker {
     }
 
     // Returns the two parts of the node in the hand. None where the hand is empty or the node is a leaf.
-    fn parts<J: Judge>(&self, judge: &J) -> Option<(Node, Node)>
+    fn split_parts<J: Judge>(&self, judge: &J) -> Option<(Node, Node)>
         requires { HoldsValid (J.rules judge.now) self.now }
         ensures some { IfSome result (HoldsSplit (J.rules judge.now) self.now) }
         ensures none { IfNone result (HoldsNoSplit (J.rules judge.now) self.now) }
@@ -98,7 +98,7 @@ impl Worker {
         ensures refused { IfRefused result (IsStuck (Pushes (J.rules judge.now)) self.old) }
         ensures unchanged { OnErr result (self.new ≡ self.old) }
     {
-        let Some((left, right)) = self.parts(judge) else {
+        let Some((left, right)) = self.split_parts(judge) else {
             return Err(StepError::Refused);
         };
         if self.deque.push_back(right).is_err() {
@@ -116,7 +116,7 @@ impl Worker {
         ensures refused { IfRefused result (IsStuck (Keeps (J.rules judge.now)) self.old) }
         ensures unchanged { OnErr result (self.new ≡ self.old) }
     {
-        let Some((left, right)) = self.parts(judge) else {
+        let Some((left, right)) = self.split_parts(judge) else {
             return Err(StepError::Refused);
         };
         if self.kept.push(right).is_err() {
@@ -135,7 +135,7 @@ impl Worker {
         if self.hand.is_some() {
             return Err(StepError::Refused);
         }
-        let Some(node) = self.give_up() else {
+        let Some(node) = self.take_front() else {
             return Err(StepError::Refused);
         };
         self.hand = Some(node);
@@ -167,7 +167,7 @@ impl Worker {
     }
 
     /// Hands out the node at the front of the deque, or none where the deque is empty.
-    pub fn give_up(&mut self) -> Option<Node>
+    pub fn take_front(&mut self) -> Option<Node>
         ensures some { IfSome result (λ n. GivesUp n self.old self.new) }
         ensures none { IfNone result ((n : Node) (y : Holding) → ¬ GivesUp n self.old y) }
         ensures unchanged { IfNone result (self.new ≡ self.old) }
@@ -176,7 +176,7 @@ impl Worker {
     }
 
     /// Takes a node into the empty hand.
-    pub fn get(&mut self, node: Node)
+    pub fn take_into_hand(&mut self, node: Node)
         requires { self.old.hand ≡ None }
         ensures { Gets node self.old self.new }
     {
@@ -195,7 +195,7 @@ impl Worker {
     }
 
     /// Empties the hand.
-    pub fn let_go(&mut self)
+    pub fn empty_hand(&mut self)
         ensures { self.new ≡ empty_handed self.old }
     {
         self.hand = None;

@@ -14,10 +14,10 @@ pub returns-clause-ok : goal.returns-clause-ok
 returns-clause-ok c =
     let ws = c.args.workers.now in
     let x : Holding = get_or ws c.args.from c.index-workers-from.result in
-    let y : Holding = c.give_up.new.self in
+    let y : Holding = c.take_front.new.self in
     let u : Holding = get_or (slice_set ws c.args.from y) c.args.at c.index-workers-at-2.result in
     let long = length-set ws c.args.from y in
-    steals ws c.args.at c.args.from x (slice_get-get_or ws c.args.from c.index-workers-from.result (omega arith)) c.in-Some.node y u c.get.new.self (omega arith)
+    steals ws c.args.at c.args.from x (slice_get-get_or ws c.args.from c.index-workers-from.result (omega arith)) c.in-Some.node y u c.take_into_hand.new.self (omega arith)
     c.in-Some.ensures.some
     (slice_get-get_or (slice_set ws c.args.from y) c.args.at c.index-workers-at-2.result (omega arith))
-    c.get.ensures
+    c.take_into_hand.ensures

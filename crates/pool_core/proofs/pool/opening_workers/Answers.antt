@@ -10,5 +10,5 @@ one_more x y k xs ys some e added =
 
 pub loop-preserved : goal.loop-preserved
 loop-preserved c =
-    one_more (holding (Some c.args.root) [] []) nothing c.loop.counter c.loop.made.items c.put-in-loop.new.made.items c.loop.auto.counter c.loop.invariant
-    (c.in_ok-put-2.ensures ∙ ap (λ y. c.loop.made.items ++ y ∷ []) c.new-in-loop.ensures)
+    one_more (holding (Some c.args.root) [] []) nothing c.loop.counter c.loop.made.items c.add_worker-in-loop.new.made.items c.loop.auto.counter c.loop.invariant
+    (c.in_ok-add_worker-2.ensures ∙ ap (λ y. c.loop.made.items ++ y ∷ []) c.new-in-loop.ensures)

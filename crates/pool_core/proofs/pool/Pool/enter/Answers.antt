@@ -30,8 +30,8 @@ invariant_of-self-2 g c =
     let es = c.self.inside.entered.items in
     let at = slice_get_read ws (length ws) c.args.w c.index.result.now (λ i. length ws) (omega arith) c.index.ensures in
     let again = slice_get_read ws (length ws) c.args.w c.index_mut.result.now (λ i. length ws) (omega arith) c.index_mut.ensures.value in
-    step_conserves t c.rules_are_sound.ensures c.self.inside.root (state ws es) (Enter c.args.w) (state (slice_set ws c.args.w c.let_go.new.self) c.push.new.self.items)
-    (enters t ws es c.args.w c.index.result.now at c.index_mut.result.now c.let_go.new.self c.in-Some.leaf c.push.new.self.items again c.in-Some.ensures.some c.let_go.ensures c.in-Ok.ensures.items)
+    step_conserves t c.rules_are_sound.ensures c.self.inside.root (state ws es) (Enter c.args.w) (state (slice_set ws c.args.w c.empty_hand.new.self) c.push.new.self.items)
+    (enters t ws es c.args.w c.index.result.now at c.index_mut.result.now c.empty_hand.new.self c.in-Some.leaf c.push.new.self.items again c.in-Some.ensures.some c.empty_hand.ensures c.in-Ok.ensures.items)
     c.self.invariant
 
 pub returns-clause-ok : goal.returns-clause-ok
@@ -41,4 +41,4 @@ returns-clause-ok g c =
     let es = c.self.inside.entered.items in
     let at = slice_get_read ws (length ws) c.args.w c.index.result.now (λ i. length ws) (omega arith) c.index.ensures in
     let again = slice_get_read ws (length ws) c.args.w c.index_mut.result.now (λ i. length ws) (omega arith) c.index_mut.ensures.value in
-    rw (← c.self.view_is) (enters t ws es c.args.w c.index.result.now at c.index_mut.result.now c.let_go.new.self c.in-Some.leaf c.push.new.self.items again c.in-Some.ensures.some c.let_go.ensures c.in-Ok.ensures.items)
+    rw (← c.self.view_is) (enters t ws es c.args.w c.index.result.now at c.index_mut.result.now c.empty_hand.new.self c.in-Some.leaf c.push.new.self.items again c.in-Some.ensures.some c.empty_hand.ensures c.in-Ok.ensures.items)

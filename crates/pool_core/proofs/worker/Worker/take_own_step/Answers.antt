@@ -1,7 +1,7 @@
 use Rattle.pool_core.specs.States.{Pops, TakesKept}
 use Rattle.pool_core.specs.Views.{IsStuck}
 use Rattle.pool_core.proofs.Stepping.{on_refused}
-use Rattle.pool_core.proofs.worker.Worker.take.Goals as goal
+use Rattle.pool_core.proofs.worker.Worker.take_own_step.Goals as goal
 
 pub returns-in-Push-clause-ok : goal.returns-in-Push-clause-ok
 returns-in-Push-clause-ok g c = rw c.in-Push.is c.push.ensures.ok

@@ -33,7 +33,7 @@ fn extend_run(run: Option<Window>, leaf: &Leaf) -> Window
 }
 
 // Appends the window of a run of undecided leaves that ends here, if there is one. The only error is out of memory.
-fn end(found: &mut Vec<Window>, run: Option<Window>) -> Result<(), AllocError>
+fn add_run(found: &mut Vec<Window>, run: Option<Window>) -> Result<(), AllocError>
     ensures { OnOk result (found.new.items ≡ found.old.items ++ ended run []) }
 {
     if let Some(run) = run {
@@ -54,17 +54,17 @@ pub fn leaf_windows(alloc: Global, leaves: &[Leaf]) -> Result<Vec<Window>, Alloc
     for leaf in leaves {
         match leaf.mark {
             Mark::Clear => {
-                end(&mut found, run)?;
+                add_run(&mut found, run)?;
                 run = None;
             }
             Mark::One(turn) => {
-                end(&mut found, run)?;
+                add_run(&mut found, run)?;
                 run = None;
                 found.push(window_of(leaf, Holds::Certain(turn)))?;
             }
             Mark::Undecided => run = Some(extend_run(run, leaf)),
         }
     }
-    end(&mut found, run)?;
+    add_run(&mut found, run)?;
     Ok(found)
 }

@@ -9,6 +9,6 @@ pub returns : goal.returns
 returns c =
     let past : length c.args.leaves.now ≤ c.loop-leaf.leaf-index = omega arith in
     let none : drop c.loop-leaf.leaf-index c.args.leaves.now ≡ [] = drop_all c.loop-leaf.leaf-index c.args.leaves.now past in
-    c.in_ok-end.ensures
+    c.in_ok-add_run.ensures
     ∙ (sym (c.loop-leaf.invariant ∙ ap (λ (ls : List Leaf). c.loop-leaf.found.items ++ joined c.loop-leaf.run ls) none)
     ∙ joined_are_windows c.args.leaves.now)

@@ -38,7 +38,7 @@ impl<'p, N: Naming, J: Judge, G: Gate> PoolSeat<'p, N, J, G> {
     }
 
     // Ends the seat: pops its deque for the last time, and hands back the right to enter leaves.
-    fn leave(self) -> LedgerSeat
+    fn end_seat(self) -> LedgerSeat
         ensures { Leaves self.entry result }
     {
         self.worker.last_pop();
@@ -47,7 +47,7 @@ impl<'p, N: Naming, J: Judge, G: Gate> PoolSeat<'p, N, J, G> {
 }
 
 // Returns the worse of two stops. Out of memory is the worst; of two stops at a full ledger, the first counts.
-fn worse(first: Option<Stop>, second: Option<Stop>) -> Option<Stop>
+fn worse_stop(first: Option<Stop>, second: Option<Stop>) -> Option<Stop>
     ensures { result ≡ worse first second }
 {
     match first {
@@ -67,13 +67,13 @@ fn worst_stop<'p, N: Naming, J: Judge, G: Gate>(seats: &[PoolSeat<'p, N, J, G>])
 {
     let mut worst = None;
     for seat in seats {
-        worst = worse(worst, seat.stop());
+        worst = worse_stop(worst, seat.stop());
     }
     worst
 }
 
 // Tells whether no seat stopped before its work was done.
-fn keep_none<'p, N: Naming, J: Judge, G: Gate>(seats: &[PoolSeat<'p, N, J, G>]) -> bool
+fn have_no_stop<'p, N: Naming, J: Judge, G: Gate>(seats: &[PoolSeat<'p, N, J, G>]) -> bool
     ensures all { IsTrue result → KeepNone seats.now }
     ensures some { IsFalse result → KeepNone seats.now → ⊥ }
 {
@@ -82,11 +82,14 @@ fn keep_none<'p, N: Naming, J: Judge, G: Gate>(seats: &[PoolSeat<'p, N, J, G>]) 
 
 // Lets each worker in turn work until its own deque is empty, in this thread. Nothing is done where a seat has
 // stopped already, and the next stop ends the loop.
-fn drain<'p, R: Wait, N: Naming, J: Judge, G: Gate>(rt: &R, seats: &mut [PoolSeat<'p, N, J, G>])
+fn drain_deques<'p, R: Wait, N: Naming, J: Judge, G: Gate>(
+    rt: &R,
+    seats: &mut [PoolSeat<'p, N, J, G>],
+)
     requires left { AllByRecursion (IsLeft N.rules) seats.old }
     ensures { Drains N.rules seats.old seats.new }
 {
-    if !keep_none(seats) {
+    if !have_no_stop(seats) {
         return;
     }
     for i in 0..seats.len() {
@@ -103,11 +106,11 @@ fn end_work<'p, R: Wait, N: Naming, J: Judge, G: Gate>(rt: &R, seats: &mut [Pool
     ensures { Ended N.rules seats.old seats.new }
 {
     join_all(seats);
-    drain(rt, seats);
+    drain_deques(rt, seats);
 }
 
 // Ends every seat, in order, and collects the rights to enter leaves. The only error is out of memory.
-fn leave_all<'p, N: Naming, J: Judge, G: Gate>(
+fn end_seats<'p, N: Naming, J: Judge, G: Gate>(
     alloc: Global,
     seats: Vec<PoolSeat<'p, N, J, G>>,
 ) -> Result<Vec<LedgerSeat>, Memory>
@@ -115,14 +118,17 @@ fn leave_all<'p, N: Naming, J: Judge, G: Gate>(
 {
     let mut entries = Vec::new(alloc);
     for seat in seats {
-        add(&mut entries, seat.leave())?;
+        add(&mut entries, seat.end_seat())?;
     }
     Ok(entries)
 }
 
 // Returns the ledger's seats where no seat stopped. Else it returns the worst stop as an error, and gives the seats
 // back with `TooMany`.
-fn outcome(worst: Option<Stop>, entries: Vec<LedgerSeat>) -> Result<Vec<LedgerSeat>, FinishError>
+fn seats_or_stop(
+    worst: Option<Stop>,
+    entries: Vec<LedgerSeat>,
+) -> Result<Vec<LedgerSeat>, FinishError>
     ensures back { IfOk result (λ v. (v.items ≡ entries.items) × (worst ≡ None)) }
     ensures too_many { IfErr result (λ e. IfTooMany e
         (λ es leaf. (es ≡ entries.items) × (worst ≡ Some (Full leaf)))) }
@@ -162,8 +168,8 @@ pub fn finish<'p, R: Wait, N: Naming, J: Judge, G: Gate>(
 {
     end_work(rt, seats.as_mut_slice());
     let worst = worst_stop(seats.as_slice());
-    let Ok(entries) = leave_all(alloc, seats) else {
+    let Ok(entries) = end_seats(alloc, seats) else {
         return Err(FinishError::Memory);
     };
-    outcome(worst, entries)
+    seats_or_stop(worst, entries)
 }

@@ -68,7 +68,7 @@ impl<'p, N: Naming, J: Judge, G: Gate> PoolSeat<'p, N, J, G> {
 }
 
 // Returns the node that a new seat starts with: the root for the seat with number 0, else none.
-fn first_hand(root: Node, number: u32) -> Option<Node>
+fn first_node(root: Node, number: u32) -> Option<Node>
     ensures { result ≡ first_hand root number }
 {
     if number == 0 { Some(root) } else { None }
@@ -91,7 +91,7 @@ fn open_seats<'p, N: Naming, J: Judge, G: Gate>(
 {
     let mut seats = Vec::new(alloc);
     for entry in entries {
-        let hand = first_hand(root, entry.number());
+        let hand = first_node(root, entry.number());
         let seat = PoolSeat::new(alloc, judge, ledger, entry, hand, gate)?;
         add(&mut seats, seat)?;
     }
@@ -99,7 +99,7 @@ fn open_seats<'p, N: Naming, J: Judge, G: Gate>(
 }
 
 // Gives seat `i` a stealer on the deque of seat `j`. The only error is out of memory.
-fn link<'p, N: Naming, J: Judge, G: Gate>(
+fn link_pair<'p, N: Naming, J: Judge, G: Gate>(
     seats: &mut [PoolSeat<'p, N, J, G>],
     i: usize,
     j: usize,
@@ -112,7 +112,7 @@ fn link<'p, N: Naming, J: Judge, G: Gate>(
 }
 
 // Gives seat `i` a stealer on the deque of seat `j`, or does nothing where they are the same.
-fn link_other<'p, N: Naming, J: Judge, G: Gate>(
+fn link_unless_same<'p, N: Naming, J: Judge, G: Gate>(
     seats: &mut [PoolSeat<'p, N, J, G>],
     i: usize,
     j: usize,
@@ -123,11 +123,11 @@ fn link_other<'p, N: Naming, J: Judge, G: Gate>(
     if i == j {
         return Ok(());
     }
-    link(seats, i, j)
+    link_pair(seats, i, j)
 }
 
 // Gives seat `i` a stealer on the deque of each other seat. The only error is out of memory.
-fn link_one<'p, N: Naming, J: Judge, G: Gate>(
+fn link_seat<'p, N: Naming, J: Judge, G: Gate>(
     ledger: &SpanLedger,
     root: Node,
     seats: &mut [PoolSeat<'p, N, J, G>],
@@ -138,7 +138,7 @@ fn link_one<'p, N: Naming, J: Judge, G: Gate>(
     ensures linking { OnOk result (Linking ledger.now root (length seats.old) (i + 1) 0 seats.new) }
 {
     for j in 0..seats.len() {
-        link_other(seats, i, j)?;
+        link_unless_same(seats, i, j)?;
     }
     Ok(())
 }
@@ -154,7 +154,7 @@ fn link_all<'p, N: Naming, J: Judge, G: Gate>(
         (Linking ledger.now root (length seats.old) (length seats.old) 0 seats.new) }
 {
     for i in 0..seats.len() {
-        link_one(ledger, root, seats, i)?;
+        link_seat(ledger, root, seats, i)?;
     }
     Ok(())
 }

@@ -31,7 +31,7 @@ const MAX_THREADS: usize = 64;
 impl<'p, N: Naming, J: Judge, G: Gate> PoolSeat<'p, N, J, G> {
     // Starts the work on the root, which is in the hand: passes the gate and judges it. A root that is to be split is
     // split where other workers wait for its right part. Out of memory is ignored here, since `work` meets it again.
-    fn begin(&mut self, root: Node, shared: bool)
+    fn start_with_root(&mut self, root: Node, shared: bool)
         requires hand { self.old.worker.hand ≡ Some root }
         requires valid { IsValid N.rules root }
         ensures later { IsLater N.rules self.old self.new }
@@ -48,7 +48,7 @@ impl<'p, N: Naming, J: Judge, G: Gate> PoolSeat<'p, N, J, G> {
 
     // Works until nothing is left to do or the seat is refused. The result is dropped, since the seat keeps why it
     // stopped.
-    fn drain<R: Wait>(&mut self, rt: &R)
+    fn work_to_end<R: Wait>(&mut self, rt: &R)
         requires free { self.old.refusal ≡ None }
         ensures { HasWorked N.rules self.old self.new }
     {
@@ -71,7 +71,7 @@ fn work_each<R: Threads + Wait + Sync, N: Naming + Send + Sync, J: Judge, G: Gat
         &|_, seat: &mut PoolSeat<N, J, G>|
             requires { seat.now.refusal ≡ None }
             ensures { HasWorked N.rules seat.entry.now seat.exit.now }
-        { seat.drain(rt) },
+        { seat.work_to_end(rt) },
     );
 }
 
@@ -103,12 +103,12 @@ fn begin_and_work<R: Threads + Wait + Sync, N: Naming + Send + Sync, J: Judge, G
     ensures left { AllByRecursion (IsLeft N.rules) seats.new }
 {
     let shared = seats.len() > 1;
-    seats[0].begin(root, shared);
+    seats[0].start_with_root(root, shared);
     work_all(rt, seats);
 }
 
 // Makes the seats of a pool over a ledger, and returns them once all have worked. The only error is out of memory.
-fn worked<'p, R: Threads + Wait + Sync, N: Naming + Send + Sync, J: Judge, G: Gate>(
+fn make_and_work<'p, R: Threads + Wait + Sync, N: Naming + Send + Sync, J: Judge, G: Gate>(
     rt: &R,
     alloc: Global,
     judge: &'p J,
@@ -131,7 +131,7 @@ fn worked<'p, R: Threads + Wait + Sync, N: Naming + Send + Sync, J: Judge, G: Ga
 }
 
 // Closes a ledger, all of whose seats have come back, and returns its book.
-fn closed(ledger: SpanLedger, seats: Vec<LedgerSeat>) -> Book
+fn close_ledger(ledger: SpanLedger, seats: Vec<LedgerSeat>) -> Book
     requires all { AreAll ledger seats.items }
     ensures root { result.root ≡ (terms ledger).root }
     ensures sound { Sound (terms ledger) result.entries.items }
@@ -144,7 +144,7 @@ fn closed(ledger: SpanLedger, seats: Vec<LedgerSeat>) -> Book
 }
 
 // Returns the book that an ended pool leaves, or why there is none. No leaf stands in it twice.
-fn book_of<N: Naming>(
+fn book_or_error<N: Naming>(
     ledger: SpanLedger,
     root: Node,
     ended: Result<Vec<LedgerSeat>, FinishError>,
@@ -164,11 +164,11 @@ fn book_of<N: Naming>(
 {
     match ended {
         Ok(seats) => {
-            let book = closed(ledger, seats);
+            let book = close_ledger(ledger, seats);
             Ok(book)
         }
         Err(FinishError::TooMany { seats, leaf: _ }) => {
-            let _book = closed(ledger, seats);
+            let _book = close_ledger(ledger, seats);
             Err(PoolError::TooMany)
         }
         Err(FinishError::Memory) => Err(PoolError::Memory),
@@ -176,7 +176,7 @@ fn book_of<N: Naming>(
 }
 
 // Runs over nodes that are valid by the rules that `N` names. The rest is as `run` says.
-fn run_named<R: Threads + Wait + Sync, N: Naming + Send + Sync, J: Judge, G: Gate>(
+fn run_by_naming<R: Threads + Wait + Sync, N: Naming + Send + Sync, J: Judge, G: Gate>(
     rt: &R,
     alloc: Global,
     judge: &J,
@@ -197,11 +197,12 @@ fn run_named<R: Threads + Wait + Sync, N: Naming + Send + Sync, J: Judge, G: Gat
     let Ok((ledger, entries)) = SpanLedger::new(alloc, root, limit, workers) else {
         return Err(PoolError::Memory);
     };
-    let Ok(seats) = worked::<R, N, J, G>(rt, alloc, judge, &ledger, entries, root, gate) else {
+    let Ok(seats) = make_and_work::<R, N, J, G>(rt, alloc, judge, &ledger, entries, root, gate)
+    else {
         return Err(PoolError::Memory);
     };
     let ended = finish(rt, alloc, seats);
-    book_of::<N>(ledger, root, ended)
+    book_or_error::<N>(ledger, root, ended)
 }
 
 /// Returns the leaves of a valid root, each entered once by up to 64 workers that run at once. In order of time they
@@ -226,5 +227,5 @@ pub fn run<R: Threads + Wait + Sync, J: Judge, G: Gate>(
     ensures too_many { result ≡ Err TooMany → limit < leaf_count (J.rules judge.now) root }
 {
     rules_are_sound(judge);
-    run_named::<R, Brand, J, G>(rt, alloc, judge, root, workers, limit, gate)
+    run_by_naming::<R, Brand, J, G>(rt, alloc, judge, root, workers, limit, gate)
 }

@@ -22,7 +22,7 @@ use std::sync::Wait;
 
 // Returns why a seat stops after the ledger's answer for a leaf: a full ledger or out of memory. None where the leaf
 // stands in the ledger.
-fn stop_at(entry: Entry, leaf: Leaf) -> Option<Stop>
+fn stop_after(entry: Entry, leaf: Leaf) -> Option<Stop>
     ensures { result ≡ stop_at entry leaf }
 {
     match entry {
@@ -109,7 +109,7 @@ impl<'p, N: Naming, J: Judge, G: Gate> PoolSeat<'p, N, J, G> {
     {
         rules_are_sound(self.judge);
         let entry = self.ledger.enter(rt, &mut self.entries, leaf);
-        match stop_at(entry, leaf) {
+        match stop_after(entry, leaf) {
             Some(stop) => Err(stop),
             None => {
                 self.worker.clear_hand();
@@ -151,7 +151,7 @@ impl<'p, N: Naming, J: Judge, G: Gate> PoolSeat<'p, N, J, G> {
 
     // Judges the node in the hand, and enters it as a leaf or splits it. The error is a full ledger or out of memory;
     // the hand keeps the node then.
-    fn step<R: Wait>(&mut self, rt: &R, node: Node) -> Result<(), Stop>
+    fn work_on_node<R: Wait>(&mut self, rt: &R, node: Node) -> Result<(), Stop>
         requires hand { self.old.worker.hand ≡ Some node }
         requires valid { IsValid N.rules node }
         ensures stepped { OnOk result (Steps N.rules self.old self.new) }
@@ -205,7 +205,7 @@ impl<'p, N: Naming, J: Judge, G: Gate> PoolSeat<'p, N, J, G> {
         for _ in rt.forever() {
             match self.next_node() {
                 Some(node) => {
-                    if let Err(stop) = self.step(rt, node) {
+                    if let Err(stop) = self.work_on_node(rt, node) {
                         self.refuse(stop);
                         return Err(stop.error());
                     }

@@ -232,7 +232,7 @@ impl<N: Naming> Worker<N> {
 
     // Puts the right part on the own deque, and the left part into the hand. False where 64 nodes were put there
     // since it last gave nothing, or it is full.
-    fn offer(&mut self, left: Node, right: Node) -> bool
+    fn put_on_deque(&mut self, left: Node, right: Node) -> bool
         requires split { IsSplit N.rules self.old left right }
         requires sound { IsSound N.rules }
         ensures put { IsTrue result
@@ -254,7 +254,7 @@ impl<N: Naming> Worker<N> {
     }
 
     // Puts the right part on the local stack, and the left part into the hand. False where memory is out.
-    fn keep(&mut self, left: Node, right: Node) -> bool
+    fn put_on_stack(&mut self, left: Node, right: Node) -> bool
         requires split { IsSplit N.rules self.old left right }
         requires sound { IsSound N.rules }
         ensures put { IsTrue result → self.new ≡ on_stack self.old left right }
@@ -281,10 +281,10 @@ impl<N: Naming> Worker<N> {
         ensures memory { (n : Node) → result ≡ OutOfMemory n → (n ≡ right) × (self.new ≡ self.old) }
         ensures first { length self.old.own.view.put < 64 → result ≡ OnDeque }
     {
-        if self.offer(left, right) {
+        if self.put_on_deque(left, right) {
             return Pushed::OnDeque;
         }
-        if self.keep(left, right) {
+        if self.put_on_stack(left, right) {
             return Pushed::Kept;
         }
         Pushed::Memory(right)

@@ -4,7 +4,7 @@ use Rattle.steal_pool.specs.Pools.{KeepNone}
 use Rattle.steal_pool.specs.Closing.{HasUsedUp}
 use Rattle.steal_pool.specs.Runs.{IsLater}
 use Rattle.steal_pool.proofs.Scanning.{Before}
-use Rattle.steal_pool.proofs.finishing.drain.Given as goal
+use Rattle.steal_pool.proofs.finishing.drain_deques.Given as goal
 
 abbrev pub invariant-loop-i : goal.invariant-loop-i
 invariant-loop-i g l = record {

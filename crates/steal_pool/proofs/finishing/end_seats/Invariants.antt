@@ -1,7 +1,7 @@
 use Rattle.std.proofs.Common.{◌≡◌, ◌++◌}
 use Rattle.std.specs.List.{AllZip}
 use Rattle.steal_pool.specs.Closing.{Leaves}
-use Rattle.steal_pool.proofs.finishing.leave_all.Given as goal
+use Rattle.steal_pool.proofs.finishing.end_seats.Given as goal
 
 abbrev pub invariant-loop-seat : goal.invariant-loop-seat
 invariant-loop-seat g l = record {

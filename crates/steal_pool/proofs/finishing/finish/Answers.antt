@@ -21,11 +21,11 @@ returns g c =
     let worst = c.worst_stop-worst.result in
     let w : worst ≡ worst_stop qs = c.worst_stop-worst.ensures ∙ ap worst_stop (c.as_slice.ensures.value ∙ items) in
     record {
-      back = if_ok c.outcome.result _ _ c.outcome.ensures.back (λ v is. back t ss qs es worst d b w v.items is.0);
-      free = if_ok c.outcome.result _ _ c.outcome.ensures.back (λ v is. free t ss qs es worst d b w is.1);
-      leaves = λ root a. if_ok c.outcome.result _ _ c.outcome.ensures.back (λ v is. all_back t ss qs es worst d b w v.items is.0 is.1 root a);
-      too_many = if_too_many c.outcome.result _ _ c.outcome.ensures.too_many (λ vs leaf is. back t ss qs es worst d b w vs is.0);
-      memory = if_too_many c.outcome.result _ _ c.outcome.ensures.too_many (λ vs leaf is. memory t ss qs es worst d b w leaf is.1);
-      refused = if_too_many c.outcome.result _ _ c.outcome.ensures.too_many (λ vs leaf is. refused t ss qs es worst d b w vs leaf is.0 is.1);
-      left_over = λ root a. if_too_many c.outcome.result _ _ c.outcome.ensures.too_many (λ vs leaf is. left_over t ss qs es worst d b w vs leaf is.0 is.1 root a);
+      back = if_ok c.seats_or_stop.result _ _ c.seats_or_stop.ensures.back (λ v is. back t ss qs es worst d b w v.items is.0);
+      free = if_ok c.seats_or_stop.result _ _ c.seats_or_stop.ensures.back (λ v is. free t ss qs es worst d b w is.1);
+      leaves = λ root a. if_ok c.seats_or_stop.result _ _ c.seats_or_stop.ensures.back (λ v is. all_back t ss qs es worst d b w v.items is.0 is.1 root a);
+      too_many = if_too_many c.seats_or_stop.result _ _ c.seats_or_stop.ensures.too_many (λ vs leaf is. back t ss qs es worst d b w vs is.0);
+      memory = if_too_many c.seats_or_stop.result _ _ c.seats_or_stop.ensures.too_many (λ vs leaf is. memory t ss qs es worst d b w leaf is.1);
+      refused = if_too_many c.seats_or_stop.result _ _ c.seats_or_stop.ensures.too_many (λ vs leaf is. refused t ss qs es worst d b w vs leaf is.0 is.1);
+      left_over = λ root a. if_too_many c.seats_or_stop.result _ _ c.seats_or_stop.ensures.too_many (λ vs leaf is. left_over t ss qs es worst d b w vs leaf is.0 is.1 root a);
     }

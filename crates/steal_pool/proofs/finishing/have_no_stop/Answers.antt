@@ -1,5 +1,5 @@
 use Rattle.steal_pool.proofs.Stopping.{is_kept, is_none_stopped}
-use Rattle.steal_pool.proofs.finishing.keep_none.Goals as goal
+use Rattle.steal_pool.proofs.finishing.have_no_stop.Goals as goal
 
 pub returns-clause-all : goal.returns-clause-all
 returns-clause-all g c = is_none_stopped c.args.seats.now c.worst_stop.result c.is_none.result c.worst_stop.ensures c.is_none.ensures

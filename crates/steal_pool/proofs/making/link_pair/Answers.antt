@@ -1,5 +1,5 @@
 use Rattle.steal_pool.proofs.Beginning.{links_ok, read_links}
-use Rattle.steal_pool.proofs.making.link.Goals as goal
+use Rattle.steal_pool.proofs.making.link_pair.Goals as goal
 
 pub returns : goal.returns
 returns g c = record {

@@ -1,6 +1,6 @@
 use Rattle.std.proofs.Common.{length}
 use Rattle.steal_pool.specs.Stealers.{Linking}
-use Rattle.steal_pool.proofs.making.link_one.Given as goal
+use Rattle.steal_pool.proofs.making.link_seat.Given as goal
 
 abbrev pub invariant-loop-j : goal.invariant-loop-j
 invariant-loop-j g l = record {

@@ -7,7 +7,7 @@ use Rattle.steal_pool.proofs.Listing.{zip_length}
 use Rattle.steal_pool.proofs.Pooling.{later_same, same_linked}
 use Rattle.steal_pool.proofs.Returning.{begin_free, begin_hand, same_seats}
 use Rattle.steal_pool.proofs.Together.{account_later}
-use Rattle.steal_pool.proofs.running.worked.Goals as goal
+use Rattle.steal_pool.proofs.running.make_and_work.Goals as goal
 
 pub begin_and_work-requires-clause-some : goal.begin_and_work-requires-clause-some
 begin_and_work-requires-clause-some g c = λ κs o. omega (arith, c.requires.some, c.in_ok-seats.ensures.count, ap length c.as_mut_slice.ensures.value)

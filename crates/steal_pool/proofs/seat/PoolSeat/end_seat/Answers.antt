@@ -1,5 +1,5 @@
 use Rattle.std.proofs.Common.{refl}
-use Rattle.steal_pool.proofs.seat.PoolSeat.leave.Goals as goal
+use Rattle.steal_pool.proofs.seat.PoolSeat.end_seat.Goals as goal
 
 pub returns : goal.returns
 returns g c = rw (← c.self.view_is) (record { part = refl; table = c.self.invariant.2; left = c.last_pop.ensures })

@@ -6,7 +6,7 @@ use Rattle.steal_pool.specs.Workers.{Holder, IsSplit, holder_of}
 use Rattle.steal_pool.proofs.Listing.{length_push}
 use Rattle.steal_pool.proofs.Rule.{pushes}
 use Rattle.steal_pool.proofs.Standing.{cut_of_split, empty_stands, offered_stands}
-use Rattle.steal_pool.proofs.worker.Worker.offer.Goals as goal
+use Rattle.steal_pool.proofs.worker.Worker.put_on_deque.Goals as goal
 
 pub push_as-requires-clause-pushes : goal.push_as-requires-clause-pushes
 push_as-requires-clause-pushes g c = pushes _ _ _ _ c.self.invariant.1 (cut_of_split g.N.Naming.rules _ c.args.left c.args.right c.self.invariant.0 c.requires.sound

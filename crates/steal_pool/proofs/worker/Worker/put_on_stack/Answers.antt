@@ -1,7 +1,7 @@
 use Rattle.std.proofs.Common.{sym, subst}
 use Rattle.steal_pool.specs.Workers.{Holder, IsSplit}
 use Rattle.steal_pool.proofs.Standing.{more_stands}
-use Rattle.steal_pool.proofs.worker.Worker.keep.Goals as goal
+use Rattle.steal_pool.proofs.worker.Worker.put_on_stack.Goals as goal
 
 pub invariant_of-self : goal.invariant_of-self
 invariant_of-self g c = (

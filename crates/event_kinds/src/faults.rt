@@ -126,12 +126,12 @@ fn is_in_range(ask: Ask) -> bool
     if ask.kind.takes_radii() {
         is_radius(ask.value1) && is_radius(ask.value2)
     } else {
-        lies_in(ask.kind.range(), ask.value1)
+        is_in_range_of(ask.kind.range(), ask.value1)
     }
 }
 
 // Tells whether a reference value is in this range.
-fn lies_in(range: Range, value: Decimal) -> bool
+fn is_in_range_of(range: Range, value: Decimal) -> bool
     ensures { result ≡ is_in_range range value }
 {
     match range {

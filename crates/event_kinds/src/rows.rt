@@ -45,27 +45,31 @@ pub fn separation_function(alloc: Global, angle: Decimal) -> Result<Expr, AllocE
     ensures { IfOk result (λ e. term e ≡ separation_function angle) }
 {
     let square = signed_square(alloc, dot(alloc, TARGET, SECOND)?)?;
-    difference(alloc, square, at_angle(alloc, angle)?)
+    difference(alloc, square, square_at_angle(alloc, angle)?)
 }
 
 // Returns what the signed square of the dot product is where the bodies are at an angle, given by its cosine.
-fn at_angle(alloc: Global, angle: Decimal) -> Result<Expr, AllocError>
+fn square_at_angle(alloc: Global, angle: Decimal) -> Result<Expr, AllocError>
     ensures { IfOk result (λ e. term e
         ≡ product (signed_square (cosine angle)) (product (dot target target) (dot second second))) }
 {
     let square = signed_square(alloc, cosine(angle))?;
-    product(alloc, square, distances(alloc)?)
+    product(alloc, square, squared_distances(alloc)?)
 }
 
 // Returns the product of the squares of both distances.
-fn distances(alloc: Global) -> Result<Expr, AllocError>
+fn squared_distances(alloc: Global) -> Result<Expr, AllocError>
     ensures { IfOk result (λ e. term e ≡ product (dot target target) (dot second second)) }
 {
-    dots(alloc, (TARGET, TARGET), (SECOND, SECOND))
+    dot_products(alloc, (TARGET, TARGET), (SECOND, SECOND))
 }
 
 // Returns the product of two dot products.
-fn dots(alloc: Global, one: (Vector, Vector), other: (Vector, Vector)) -> Result<Expr, AllocError>
+fn dot_products(
+    alloc: Global,
+    one: (Vector, Vector),
+    other: (Vector, Vector),
+) -> Result<Expr, AllocError>
     requires first { IsVector one.0 }
     requires second { IsVector one.1 }
     requires third { IsVector other.0 }
@@ -81,17 +85,17 @@ fn dots(alloc: Global, one: (Vector, Vector), other: (Vector, Vector)) -> Result
 pub fn separation_change(alloc: Global) -> Result<Expr, AllocError>
     ensures { IfOk result (λ e. term e ≡ separation_change) }
 {
-    let turning = turning(alloc)?;
-    difference(alloc, turning, receding(alloc)?)
+    let turning = turning_change(alloc)?;
+    difference(alloc, turning, receding_change(alloc)?)
 }
 
 // Returns the part of the separation's change that comes from the dot product of the places.
-fn turning(alloc: Global) -> Result<Expr, AllocError>
+fn turning_change(alloc: Global) -> Result<Expr, AllocError>
     ensures { IfOk result (λ e. term e
         ≡ product dot_change (product (dot target target) (dot second second))) }
 {
     let change = dot_change(alloc)?;
-    product(alloc, change, distances(alloc)?)
+    product(alloc, change, squared_distances(alloc)?)
 }
 
 // Returns the rate at which the dot product of the places changes, in square km a tick.
@@ -103,25 +107,25 @@ fn dot_change(alloc: Global) -> Result<Expr, AllocError>
 }
 
 // Returns the part of the separation's change that comes from the distances.
-fn receding(alloc: Global) -> Result<Expr, AllocError>
+fn receding_change(alloc: Global) -> Result<Expr, AllocError>
     ensures { IfOk result (λ e. term e ≡ product (dot target second) (sum
         (product (dot target target_velocity) (dot second second))
         (product (dot target target) (dot second second_velocity)))) }
 {
     let places = dot(alloc, TARGET, SECOND)?;
-    product(alloc, places, distances_change(alloc)?)
+    product(alloc, places, squared_distances_change(alloc)?)
 }
 
 // Returns half of the rate at which the product of the squares of both distances changes.
-fn distances_change(alloc: Global) -> Result<Expr, AllocError>
+fn squared_distances_change(alloc: Global) -> Result<Expr, AllocError>
     ensures { IfOk result (λ e. term e ≡ sum
         (product (dot target target_velocity) (dot second second))
         (product (dot target target) (dot second second_velocity))) }
 {
-    let first = dots(alloc, (TARGET, TARGET_VELOCITY), (SECOND, SECOND))?;
+    let first = dot_products(alloc, (TARGET, TARGET_VELOCITY), (SECOND, SECOND))?;
     sum(
         alloc,
         first,
-        dots(alloc, (TARGET, TARGET), (SECOND, SECOND_VELOCITY))?,
+        dot_products(alloc, (TARGET, TARGET), (SECOND, SECOND_VELOCITY))?,
     )
 }

@@ -34,7 +34,7 @@ pub fn event(alloc: Global, eph: &Ephemeris, ask: &Ask) -> Result<Event, KindFau
 {
     match fault(eph, *ask) {
         Some(fault) => Err(KindFault::of(fault)),
-        None => match row(alloc, *ask) {
+        None => match event_by_row(alloc, *ask) {
             Ok(event) => Ok(event),
             Err(_) => Err(KindFault::Memory),
         },
@@ -42,7 +42,7 @@ pub fn event(alloc: Global, eph: &Ephemeris, ask: &Ask) -> Result<Event, KindFau
 }
 
 // Returns the event of an ask without a fault, by the row of its kind. The only error is out of memory.
-fn row(alloc: Global, ask: Ask) -> Result<Event, AllocError>
+fn event_by_row(alloc: Global, ask: Ask) -> Result<Event, AllocError>
     requires axis { ask.axis < 3 }
     requires in_range { IsTrue (are_in_range ask.kind ask.value1 ask.value2) }
     ensures { IfOk result (λ event. event ≡ event_of ask) }
@@ -50,38 +50,38 @@ fn row(alloc: Global, ask: Ask) -> Result<Event, AllocError>
     match ask.kind {
         Kind::Coord => {
             let f = coordinate_function(alloc, ask.axis, ask.value1)?;
-            Ok(unguarded(alloc, f, ask.dir))
+            Ok(unguarded_event(alloc, f, ask.dir))
         }
         Kind::Radius => {
             let f = radius_function(alloc, ask.value1)?;
-            Ok(unguarded(alloc, f, ask.dir))
+            Ok(unguarded_event(alloc, f, ask.dir))
         }
         Kind::Apsis => {
             let f = apsis_function(alloc)?;
-            Ok(unguarded(alloc, f, ask.dir))
+            Ok(unguarded_event(alloc, f, ask.dir))
         }
-        Kind::Conj => aligned(alloc, true, ask.dir),
-        Kind::Oppo => aligned(alloc, false, ask.dir),
+        Kind::Conj => alignment_event(alloc, true, ask.dir),
+        Kind::Oppo => alignment_event(alloc, false, ask.dir),
         Kind::Station => {
             let f = plane_cross(alloc, TARGET, TARGET_VELOCITY)?;
-            Ok(unguarded(alloc, f, ask.dir))
+            Ok(unguarded_event(alloc, f, ask.dir))
         }
         Kind::Sep => {
             let f = separation_function(alloc, ask.value1)?;
-            Ok(unguarded(alloc, f, ask.dir))
+            Ok(unguarded_event(alloc, f, ask.dir))
         }
         Kind::SepExt => {
             let f = separation_change(alloc)?;
-            Ok(unguarded(alloc, f, ask.dir))
+            Ok(unguarded_event(alloc, f, ask.dir))
         }
-        Kind::Any => occultation(alloc, Shadow::Any, ask),
-        Kind::Full => occultation(alloc, Shadow::Full, ask),
-        Kind::Annular => occultation(alloc, Shadow::Annular, ask),
+        Kind::Any => occultation_event(alloc, Shadow::Any, ask),
+        Kind::Full => occultation_event(alloc, Shadow::Full, ask),
+        Kind::Annular => occultation_event(alloc, Shadow::Annular, ask),
     }
 }
 
 // Returns the event of a function without a guard.
-fn unguarded(alloc: Global, f: Expr, dir: Dir) -> Event
+fn unguarded_event(alloc: Global, f: Expr, dir: Dir) -> Event
     requires { IsFormula (term f) }
     ensures { result ≡ record { function = term f; conditions = []; dir = dir } }
 {
@@ -94,7 +94,7 @@ fn unguarded(alloc: Global, f: Expr, dir: Dir) -> Event
 
 // Returns the event at which target and second body come into one plane with the z axis: on one side of it, or on
 // opposite sides. The only error is out of memory.
-fn aligned(alloc: Global, one_side: bool, dir: Dir) -> Result<Event, AllocError>
+fn alignment_event(alloc: Global, one_side: bool, dir: Dir) -> Result<Event, AllocError>
     ensures { IfOk result (λ event. event ≡ record {
       function = plane_cross target second;
       conditions = record { term = plane_dot target second; at_least = one_side } ∷ [];
@@ -112,7 +112,7 @@ fn aligned(alloc: Global, one_side: bool, dir: Dir) -> Result<Event, AllocError>
 }
 
 // Returns the event of an occultation of the second body by the target. The only error is out of memory.
-fn occultation(alloc: Global, shadow: Shadow, ask: Ask) -> Result<Event, AllocError>
+fn occultation_event(alloc: Global, shadow: Shadow, ask: Ask) -> Result<Event, AllocError>
     requires front { IsTrue (is_radius ask.value1) }
     requires back { IsTrue (is_radius ask.value2) }
     ensures { IfOk result (λ event. event ≡ record {

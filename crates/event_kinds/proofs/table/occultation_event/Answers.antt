@@ -4,7 +4,7 @@ use Rattle.spec_expressions.specs.Term.{IsFormula}
 use Rattle.spec_searches.specs.Event.{Condition, IsCondition}
 use Rattle.spec_kinds.proofs.Tests.{small_radius}
 use Rattle.spec_kinds.proofs.Formulas.{shadow_formula, shadow_conditions_formulas}
-use Rattle.event_kinds.proofs.table.occultation.Goals as goal
+use Rattle.event_kinds.proofs.table.occultation_event.Goals as goal
 
 -- the formulas are those of the occultation
 pub invariant_of-result : goal.invariant_of-result

@@ -4,7 +4,7 @@ ghost use Rattle.spec_kinds.specs.Faults.{is_radius};
 ghost use Rattle.spec_kinds.specs.Shadows.{shadow_function, shadow_conditions};
 ghost use Rattle.occult_spheres.specs.Guards.{condition_of};
 
-use crate::terms::{farther, function, larger};
+use crate::terms::{distance_guard, function, size_guard};
 use event_expr::Formula;
 use spec_kinds::Shadow;
 use spec_text::Decimal;
@@ -57,11 +57,11 @@ fn guards_of(
         ≡ shadow_conditions kind front back) }
 {
     let mut guards = Vec::new(alloc);
-    guards.push((Formula::of(farther(alloc)?), true))?;
+    guards.push((Formula::of(distance_guard(alloc)?), true))?;
     match kind {
         Shadow::Any => {}
-        Shadow::Full => guards.push((Formula::of(larger(alloc, front, back)?), true))?,
-        Shadow::Annular => guards.push((Formula::of(larger(alloc, front, back)?), false))?,
+        Shadow::Full => guards.push((Formula::of(size_guard(alloc, front, back)?), true))?,
+        Shadow::Annular => guards.push((Formula::of(size_guard(alloc, front, back)?), false))?,
     }
     Ok(guards)
 }

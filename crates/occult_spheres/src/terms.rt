@@ -18,7 +18,12 @@ const FRONT: Vector = Vector::Position(0);
 const BACK: Vector = Vector::Position(1);
 
 // Returns the dot product of both positions, with the product of the radii added (`Any`) or subtracted.
-fn between(alloc: Global, shadow: Shadow, front: Decimal, back: Decimal) -> Result<Expr, AllocError>
+fn dot_with_radii(
+    alloc: Global,
+    shadow: Shadow,
+    front: Decimal,
+    back: Decimal,
+) -> Result<Expr, AllocError>
     ensures { IfOk result (λ e. term e ≡ between shadow front back) }
 {
     let places = dot(alloc, FRONT, BACK)?;
@@ -30,7 +35,7 @@ fn between(alloc: Global, shadow: Shadow, front: Decimal, back: Decimal) -> Resu
 }
 
 // Returns the product of the squares of the tangents from the observer to both spheres.
-fn tangents(alloc: Global, front: Decimal, back: Decimal) -> Result<Expr, AllocError>
+fn squared_tangents(alloc: Global, front: Decimal, back: Decimal) -> Result<Expr, AllocError>
     ensures { IfOk result (λ e. term e ≡ tangents front back) }
 {
     let near = squared_tangent(alloc, FRONT, front)?;
@@ -56,27 +61,31 @@ pub fn function(
 ) -> Result<Expr, AllocError>
     ensures { IfOk result (λ e. term e ≡ shadow_function shadow front back) }
 {
-    let square = signed_square(alloc, between(alloc, shadow, front, back)?)?;
-    difference(alloc, square, tangents(alloc, front, back)?)
+    let square = signed_square(alloc, dot_with_radii(alloc, shadow, front, back)?)?;
+    difference(alloc, square, squared_tangents(alloc, front, back)?)
 }
 
 /// Returns an expression that is at least 0 where the body at the back is no nearer than the one in front.
-pub fn farther(alloc: Global) -> Result<Expr, AllocError>
+pub fn distance_guard(alloc: Global) -> Result<Expr, AllocError>
     ensures { IfOk result (λ e. term e ≡ farther) }
 {
     difference(alloc, dot(alloc, BACK, BACK)?, dot(alloc, FRONT, FRONT)?)
 }
 
 /// Returns an expression that is at least 0 where the disc in front is no smaller than the one at the back.
-pub fn larger(alloc: Global, front: Decimal, back: Decimal) -> Result<Expr, AllocError>
+pub fn size_guard(alloc: Global, front: Decimal, back: Decimal) -> Result<Expr, AllocError>
     ensures { IfOk result (λ e. term e ≡ larger front back) }
 {
-    difference(alloc, disc(alloc, front, BACK)?, disc(alloc, back, FRONT)?)
+    difference(
+        alloc,
+        disc_size(alloc, front, BACK)?,
+        disc_size(alloc, back, FRONT)?,
+    )
 }
 
 // Returns the square of a radius times the squared distance of the other sphere. Two of these compare the sizes of
 // discs without a division.
-fn disc(alloc: Global, radius: Decimal, other: Vector) -> Result<Expr, AllocError>
+fn disc_size(alloc: Global, radius: Decimal, other: Vector) -> Result<Expr, AllocError>
     requires { IsVector other }
     ensures { IfOk result (λ e. term e ≡ product (squared_length radius) (dot other other)) }
 {

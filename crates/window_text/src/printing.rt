@@ -34,7 +34,7 @@ pub(crate) fn add_tick(text: &mut String, tick: u32, time: i64) -> Result<(), Al
     ensures { OnOk result (string_bytes text.new ≡ string_bytes text.old ++ tick_text tick time) }
 {
     add_time(text, second_of(tick, time))?;
-    add_fraction(text, tick, past_second(tick, time))
+    add_fraction(text, tick, ticks_past_second(tick, time))
 }
 
 // Returns the second that a time in ticks lies in: the last whole second at or before it, since J2000 in TDB.
@@ -48,7 +48,7 @@ fn second_of(tick: u32, time: i64) -> i64
 }
 
 // Returns the ticks from the last whole second to the time: 0 to 999.
-fn past_second(tick: u32, time: i64) -> u32
+fn ticks_past_second(tick: u32, time: i64) -> u32
     requires { IsTick tick }
     ensures past { result ≡ past_second tick time }
     ensures few { result < 1_000 }
@@ -131,12 +131,12 @@ fn add_year(text: &mut String, year: i16) -> Result<(), AllocError>
     requires { IsYear year }
     ensures { OnOk result (string_bytes text.new ≡ string_bytes text.old ++ year_text year) }
 {
-    text.push_str(year_sign(year))?;
+    text.push_str(year_prefix(year))?;
     add_four_digits(text, year.unsigned_abs() as u32)
 }
 
 // Returns what stands before the four digits of a year: nothing, or below 0 a minus sign and two zeros.
-fn year_sign(year: i16) -> &'static str
+fn year_prefix(year: i16) -> &'static str
     requires { IsYear year }
     ensures { result.now ++ digits 4 (unsigned_abs year) ≡ year_text year }
 {

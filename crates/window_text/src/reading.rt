@@ -9,7 +9,7 @@ ghost use Rattle.jiff_core.specs.Calendar.{IsWithin};
 ghost use Rattle.spec_times.specs.TimeWords.{IsTime, are_time_digits, fits, has_form, negated_of, whole_of, whole_time, within_limits};
 ghost use Rattle.spec_times.specs.Ticks.{has_fraction, shown_tick, tick_from, tick_of, within_tick_limits};
 
-use crate::showing::time_shown;
+use crate::showing::read_calendar_time;
 use spec_ephemeris::{FIRST_TIME, LAST_TIME};
 use spec_times::{MAX_TIME_DIGITS, TimeFault};
 
@@ -22,14 +22,14 @@ pub fn read_time(word: &[u8], tick: u32) -> Result<i64, TimeFault>
     requires { IsTick tick }
     ensures { result ≡ tick_of tick word.now }
 {
-    match whole_time(word) {
-        Some(second) => within_tick_limits(tick, in_ticks(second, tick)),
-        None => shown_tick(tick, word),
+    match read_whole_time(word) {
+        Some(second) => check_tick_time(tick, seconds_in_ticks(second, tick)),
+        None => read_calendar_tick(tick, word),
     }
 }
 
 // Returns a time in ticks that lies from Julian date 0 to Julian date 5,000,000, else `OutOfRange`.
-fn within_tick_limits(tick: u32, time: i64) -> Result<i64, TimeFault>
+fn check_tick_time(tick: u32, time: i64) -> Result<i64, TimeFault>
     requires { IsTick tick }
     ensures { result ≡ within_tick_limits tick time }
 {
@@ -43,31 +43,35 @@ fn within_tick_limits(tick: u32, time: i64) -> Result<i64, TimeFault>
 
 // Reads a calendar text and returns its time in ticks. A point and three digits may end it where a second has 1,000
 // ticks.
-fn shown_tick(tick: u32, word: &[u8]) -> Result<i64, TimeFault>
+fn read_calendar_tick(tick: u32, word: &[u8]) -> Result<i64, TimeFault>
     requires { IsTick tick }
     ensures { result ≡ shown_tick tick word.now }
 {
     if tick == 1_000 && has_fraction(word) {
         let (front, fraction) = word.split_at(word.len() - 4);
-        tick_from(tick, value(&fraction[1..]), time_shown(front))
+        tick_after(
+            tick,
+            digits_value(&fraction[1..]),
+            read_calendar_time(front),
+        )
     } else {
-        tick_from(tick, 0, time_shown(word))
+        tick_after(tick, 0, read_calendar_time(word))
     }
 }
 
 // Returns the time in ticks that comes `past` ticks after a second that was read, or its fault, or `OutOfRange`.
-fn tick_from(tick: u32, past: u64, second: Result<i64, TimeFault>) -> Result<i64, TimeFault>
+fn tick_after(tick: u32, past: u64, second: Result<i64, TimeFault>) -> Result<i64, TimeFault>
     requires tick { IsTick tick }
     requires second { IfOk second IsTime }
     requires past { past < 10 ^ 14 }
     ensures { result ≡ tick_from tick past second }
 {
     let second = second?;
-    within_tick_limits(tick, ticks_past(second, tick, past))
+    check_tick_time(tick, total_ticks(second, tick, past))
 }
 
 // Converts seconds to ticks.
-fn in_ticks(second: i64, tick: u32) -> i64
+fn seconds_in_ticks(second: i64, tick: u32) -> i64
     requires tick { IsTick tick }
     requires second { IsWithin (10 ^ 14) second }
     ensures { result ≡ second *ℤ pos tick }
@@ -76,7 +80,7 @@ fn in_ticks(second: i64, tick: u32) -> i64
 }
 
 // Converts seconds to ticks and adds the ticks past them.
-fn ticks_past(second: i64, tick: u32, past: u64) -> i64
+fn total_ticks(second: i64, tick: u32, past: u64) -> i64
     requires tick { IsTick tick }
     requires second { IsTime second }
     requires past { past < 10 ^ 14 }
@@ -93,7 +97,7 @@ fn has_fraction(word: &[u8]) -> bool
 }
 
 /// Returns a time in seconds that lies from Julian date 0 to Julian date 5,000,000, else `OutOfRange`.
-pub(crate) fn within_limits(time: i64) -> Result<i64, TimeFault>
+pub(crate) fn check_time(time: i64) -> Result<i64, TimeFault>
     ensures { result ≡ within_limits time }
 {
     if FIRST_TIME <= time && time <= LAST_TIME {
@@ -104,36 +108,36 @@ pub(crate) fn within_limits(time: i64) -> Result<i64, TimeFault>
 }
 
 // Reads a whole number of 1 to 12 digits, with an optional minus sign. None for any other word.
-fn whole_time(word: &[u8]) -> Option<i64>
+fn read_whole_time(word: &[u8]) -> Option<i64>
     ensures value { result ≡ whole_time word.now }
     ensures bound { IfSome result (IsWithin (10 ^ 14)) }
 {
     match word {
         [] => None,
-        [b'-', digits @ ..] => negated_of(digits),
-        [_, ..] => whole_of(word),
+        [b'-', digits @ ..] => negated_number_of_digits(digits),
+        [_, ..] => number_of_digits(word),
     }
 }
 
 // Reads a whole number of 1 to 12 digits. None for any other word.
-fn whole_of(digits: &[u8]) -> Option<i64>
+fn number_of_digits(digits: &[u8]) -> Option<i64>
     ensures value { result ≡ whole_of digits.now }
     ensures bound { IfSome result (IsWithin (10 ^ 14)) }
 {
     if are_time_digits(digits) {
-        Some(value(digits) as i64)
+        Some(digits_value(digits) as i64)
     } else {
         None
     }
 }
 
 // Reads 1 to 12 digits and returns the negative of their number. None for any other word.
-fn negated_of(digits: &[u8]) -> Option<i64>
+fn negated_number_of_digits(digits: &[u8]) -> Option<i64>
     ensures value { result ≡ negated_of digits.now }
     ensures bound { IfSome result (IsWithin (10 ^ 14)) }
 {
     if are_time_digits(digits) {
-        Some(-(value(digits) as i64))
+        Some(-(digits_value(digits) as i64))
     } else {
         None
     }
@@ -162,7 +166,7 @@ pub(crate) fn is_between(low: u64, high: u64, n: u64) -> bool
 
 /// Returns the number that at most 12 digits write. A byte below `0` counts as 0, and one above `9` as more than 9,
 /// so callers test the bytes.
-pub(crate) fn value(digits: &[u8]) -> u64
+pub(crate) fn digits_value(digits: &[u8]) -> u64
     requires { length digits.now ≤ 12 }
     ensures value { result ≡ value digits.now }
     ensures bound { result < 10 ^ 14 }
@@ -183,7 +187,7 @@ pub(crate) fn has_form(picture: &[u8], word: &[u8]) -> bool
         return false;
     }
     for i in 0..picture.len() {
-        if !fits(picture[i], word[i]) {
+        if !fits_mark(picture[i], word[i]) {
             return false;
         }
     }
@@ -191,7 +195,7 @@ pub(crate) fn has_form(picture: &[u8], word: &[u8]) -> bool
 }
 
 // Tells whether a byte is what a mark of a picture stands for: any digit for `0`, else the mark itself.
-fn fits(mark: u8, byte: u8) -> bool
+fn fits_mark(mark: u8, byte: u8) -> bool
     ensures { result ≡ fits mark byte }
 {
     if mark == b'0' {

@@ -4,30 +4,30 @@ ghost use Rattle.jiff_core.specs.Calendar.{days_from_civil, days_in_month, IsEpo
 ghost use Rattle.spec_times.specs.Calendar.{is_calendar_time, is_date, midnight, is_time_of_day, second_of_day, time_of_calendar};
 ghost use Rattle.spec_times.specs.TimeWords.{IsTime, calendar_after, has_negative_year, negative_year_form, shown, time_shown, time_within, two_digits_at, year_form};
 
-use crate::reading::{has_form, is_between, value, within_limits};
+use crate::reading::{check_time, digits_value, has_form, is_between};
 use jiff_core::civil::{Date, days_in_month};
 use spec_ephemeris::DAY;
 use spec_times::{CalendarTime, FIRST_YEAR, HALF_DAY, J2000_DAY, LAST_YEAR, TimeFault};
 
 /// Reads a calendar text without a fraction and returns its time in seconds since J2000 in TDB, with the faults of
 /// `read_time`.
-pub(crate) fn time_shown(word: &[u8]) -> Result<i64, TimeFault>
+pub(crate) fn read_calendar_time(word: &[u8]) -> Result<i64, TimeFault>
     ensures time { result ≡ time_shown (shown word.now) }
     ensures bound { IfOk result IsTime }
 {
-    match shown(word) {
-        Some(shown) => time_of(shown),
+    match read_calendar(word) {
+        Some(shown) => time_of_fields(shown),
         None => Err(TimeFault::NotTime),
     }
 }
 
 // Returns the time in seconds that calendar and clock show, `NotTime` where they show no such date or time of day, or
 // `OutOfRange`.
-fn time_of(shown: CalendarTime) -> Result<i64, TimeFault>
+fn time_of_fields(shown: CalendarTime) -> Result<i64, TimeFault>
     ensures { result ≡ time_shown (Some shown) }
 {
     if is_date(shown) && is_time_of_day(shown) {
-        time_within(shown)
+        time_in_range(shown)
     } else {
         Err(TimeFault::NotTime)
     }
@@ -36,16 +36,16 @@ fn time_of(shown: CalendarTime) -> Result<i64, TimeFault>
 // ---- what a word shows
 
 // Reads the fields of a calendar text, or none where the word has no such form. The fields may still be no date.
-fn shown(word: &[u8]) -> Option<CalendarTime>
+fn read_calendar(word: &[u8]) -> Option<CalendarTime>
     ensures { result ≡ shown word.now }
 {
     if has_form(year_form(), word) {
-        let year = value(&word[..4]) as i64;
-        return Some(calendar_after(year, &word[4..]));
+        let year = digits_value(&word[..4]) as i64;
+        return Some(fields_after_year(year, &word[4..]));
     }
     if has_negative_year(word) {
-        let year = value(&word[1..7]) as i64;
-        return Some(calendar_after(-year, &word[7..]));
+        let year = digits_value(&word[1..7]) as i64;
+        return Some(fields_after_year(-year, &word[7..]));
     }
     None
 }
@@ -54,7 +54,7 @@ fn shown(word: &[u8]) -> Option<CalendarTime>
 fn has_negative_year(word: &[u8]) -> bool
     ensures { result ≡ has_negative_year word.now }
 {
-    has_form(negative_year_form(), word) && 0 < value(&word[1..7])
+    has_form(negative_year_form(), word) && 0 < digits_value(&word[1..7])
 }
 
 // Returns the picture of a calendar text of a year from 0 on.
@@ -72,7 +72,7 @@ fn negative_year_form() -> &'static [u8]
 }
 
 // Reads the fields that stand after a year, in the form `-MM-DDTHH:MM:SS`.
-fn calendar_after(year: i64, rest: &[u8]) -> CalendarTime
+fn fields_after_year(year: i64, rest: &[u8]) -> CalendarTime
     requires { length rest.now ≡ 15 }
     ensures { result ≡ calendar_after year rest.now }
 {
@@ -91,7 +91,7 @@ fn two_digits_at(place: usize, word: &[u8]) -> u64
     requires { place + 2 ≤ length word.now }
     ensures { result ≡ two_digits_at place word.now }
 {
-    value(&word[place..place + 2])
+    digits_value(&word[place..place + 2])
 }
 
 // ---- whether calendar and clock show it
@@ -124,14 +124,14 @@ fn month_length(year: i64, month: u64) -> u64
 
 // Returns the time in seconds of what calendar and clock show, or `OutOfRange`. The year is tested first, so that the
 // day is one that the calendar of `Date` has.
-fn time_within(shown: CalendarTime) -> Result<i64, TimeFault>
+fn time_in_range(shown: CalendarTime) -> Result<i64, TimeFault>
     requires { is_calendar_time shown ≡ true }
     ensures { result ≡ time_within shown }
 {
     if shown.year < FIRST_YEAR || LAST_YEAR < shown.year {
         Err(TimeFault::OutOfRange)
     } else {
-        within_limits(time_of_calendar(shown))
+        check_time(time_of_calendar(shown))
     }
 }
 
@@ -141,12 +141,12 @@ fn time_of_calendar(shown: CalendarTime) -> i64
     requires shown { is_calendar_time shown ≡ true }
     ensures { result ≡ time_of_calendar shown }
 {
-    midnight(day_number(shown)) + second_of_day(shown) as i64
+    midnight_of_day(day_number(shown)) + second_of_day(shown) as i64
 }
 
 // Returns the time of the midnight at which a day starts, in seconds since J2000 in TDB. Days are counted from
 // 1970-01-01.
-fn midnight(day: i64) -> i64
+fn midnight_of_day(day: i64) -> i64
     requires { IsEpochDay day }
     ensures value { result ≡ midnight day }
     ensures bound { IsWithin (10 ^ 12) result }

@@ -76,13 +76,13 @@ fn add_columns(text: &mut String, columns: &[Column]) -> Result<(), AllocError>
         ≡ string_bytes text.old ++ column_lines 1 columns.now) }
 {
     for place in 0..columns.len() {
-        add_if_present(text, place + 1, columns[place])?;
+        add_present_column(text, place + 1, columns[place])?;
     }
     Ok(())
 }
 
 // Appends the line of a column, or nothing where the column has no coefficient or no granule.
-fn add_if_present(text: &mut String, number: usize, column: Column) -> Result<(), AllocError>
+fn add_present_column(text: &mut String, number: usize, column: Column) -> Result<(), AllocError>
     requires { 0 < number }
     ensures { OnOk result (string_bytes text.new
         ≡ string_bytes text.old ++ line_if_present number column) }
@@ -112,12 +112,12 @@ fn column_name(number: usize) -> &'static str
 {
     match COLUMN_BODIES.get(number - 1) {
         Some(body) => body_name(*body),
-        None => other_name(number),
+        None => name_without_body(number),
     }
 }
 
 // Returns the name of a column that holds no body: nutations, librations, or its number.
-fn other_name(number: usize) -> &'static str
+fn name_without_body(number: usize) -> &'static str
     ensures { result.now ≡ name_of_column None number }
 {
     if number == NUTATIONS {

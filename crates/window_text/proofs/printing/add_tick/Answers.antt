@@ -11,6 +11,6 @@ returns c =
     let result : to_z w64 (of_z w64 c.second_of.result) ≡ c.second_of.result = to_z-of_z w64 _ (record { sfits = c.second_of.type_inv }) in
     let time : to_z w64 (of_z w64 c.args.time) ≡ c.args.time = to_z-of_z w64 c.args.time c.ranges.time in
     let second : c.second_of.result ≡ second_of c.args.tick c.args.time = c.second_of.ensures.second ∙ ap (second_of c.args.tick) time in
-    let past : c.past_second.result ≡ past_second c.args.tick c.args.time = c.past_second.ensures.past ∙ ap (past_second c.args.tick) time in
+    let past : c.ticks_past_second.result ≡ past_second c.args.tick c.args.time = c.ticks_past_second.ensures.past ∙ ap (past_second c.args.tick) time in
     two_pieces c.add_fraction.result _ _ _ (time_text (second_of c.args.tick c.args.time)) (fraction_text c.args.tick (past_second c.args.tick c.args.time))
     (rw (result ∙ second) at c.in_ok-add_time.ensures) (rw past at c.add_fraction.ensures)

@@ -1,7 +1,7 @@
 use Rattle.std.proofs.Common.{arith}
 use Rattle.spec_text.proofs.Values.{value_begun, value_more, value_whole}
 use Rattle.window_text.proofs.Digits.{value_room, value_small}
-use Rattle.window_text.proofs.reading.value.Goals as goal
+use Rattle.window_text.proofs.reading.digits_value.Goals as goal
 
 pub loop-digit-init : goal.loop-digit-init
 loop-digit-init c = value_begun c.args.digits.now

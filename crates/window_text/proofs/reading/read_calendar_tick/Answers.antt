@@ -4,7 +4,7 @@ use Rattle.spec_times.specs.TimeWords.{shown, time_shown}
 use Rattle.spec_times.specs.Ticks.{before_fraction, ending, tick_from}
 use Rattle.std.proofs.lemmas.List.{length-drop, length-take}
 use Rattle.window_text.proofs.Forms.{length_of_fraction, rest_is, with_fraction}
-use Rattle.window_text.proofs.reading.shown_tick.Goals as goal
+use Rattle.window_text.proofs.reading.read_calendar_tick.Goals as goal
 
 pub overflow_sub-word : goal.overflow_sub-word
 overflow_sub-word c =
@@ -15,18 +15,18 @@ pub split_at-requires : goal.split_at-requires
 split_at-requires c =
     omega arith
 
-pub slice_bounds-value-count : goal.slice_bounds-value-count
-slice_bounds-value-count c =
+pub slice_bounds-digits_value-count : goal.slice_bounds-digits_value-count
+slice_bounds-digits_value-count c =
     let long = length_of_fraction c.args.word.now _ c.has_fraction.ensures c.if-has_fraction.true in
     let back = c.split_at.ensures.back_len in omega arith
 
-pub slice_bounds-value-start : goal.slice_bounds-value-start
-slice_bounds-value-start c =
+pub slice_bounds-digits_value-start : goal.slice_bounds-digits_value-start
+slice_bounds-digits_value-start c =
     let long = length_of_fraction c.args.word.now _ c.has_fraction.ensures c.if-has_fraction.true in
     let back = c.split_at.ensures.back_len in omega arith
 
-pub slice_bounds-value-end : goal.slice_bounds-value-end
-slice_bounds-value-end c =
+pub slice_bounds-digits_value-end : goal.slice_bounds-digits_value-end
+slice_bounds-digits_value-end c =
     let long = length_of_fraction c.args.word.now _ c.has_fraction.ensures c.if-has_fraction.true in
     let back = c.split_at.ensures.back_len in omega arith
 
@@ -41,11 +41,11 @@ tick_from-requires-clause-tick c =
 
 pub tick_from-requires-clause-second : goal.tick_from-requires-clause-second
 tick_from-requires-clause-second c =
-    c.time_shown.ensures.bound
+    c.read_calendar_time.ensures.bound
 
 pub tick_from-requires-clause-past : goal.tick_from-requires-clause-past
 tick_from-requires-clause-past c =
-    c.value.ensures.bound
+    c.digits_value.ensures.bound
 
 pub tick_from-requires-else-tick-eq1000-clause-tick : goal.tick_from-requires-else-tick-eq1000-clause-tick
 tick_from-requires-else-tick-eq1000-clause-tick c =
@@ -53,12 +53,12 @@ tick_from-requires-else-tick-eq1000-clause-tick c =
 
 pub tick_from-requires-else-tick-eq1000-clause-second : goal.tick_from-requires-else-tick-eq1000-clause-second
 tick_from-requires-else-tick-eq1000-clause-second c =
-    c.time_shown-else-tick-eq1000.ensures.bound
+    c.read_calendar_time-else-tick-eq1000.ensures.bound
 
 pub returns-then-has_fraction : goal.returns-then-has_fraction
 returns-then-has_fraction c =
     let word = c.args.word.now in
     let back = c.split_at.result.1.now in
-    let digits : c.value.result ≡ value (drop 1 (ending word)) = c.value.ensures.value ∙ (ap value (rest_is back 1) ∙ ap (λ (bytes : List ℕ). value (drop 1 bytes)) c.split_at.ensures.back) in
-    let second : c.time_shown.result ≡ time_shown (shown (before_fraction word)) = c.time_shown.ensures.time ∙ ap (λ (bytes : List ℕ). time_shown (shown bytes)) c.split_at.ensures.front in
-    c.tick_from.ensures ∙ ((λ i. tick_from c.args.tick (digits i) (second i)) ∙ with_fraction c.args.tick word c.if-tick-eq1000.true (sym c.has_fraction.ensures ∙ c.if-has_fraction.true))
+    let digits : c.digits_value.result ≡ value (drop 1 (ending word)) = c.digits_value.ensures.value ∙ (ap value (rest_is back 1) ∙ ap (λ (bytes : List ℕ). value (drop 1 bytes)) c.split_at.ensures.back) in
+    let second : c.read_calendar_time.result ≡ time_shown (shown (before_fraction word)) = c.read_calendar_time.ensures.time ∙ ap (λ (bytes : List ℕ). time_shown (shown bytes)) c.split_at.ensures.front in
+    c.tick_after.ensures ∙ ((λ i. tick_from c.args.tick (digits i) (second i)) ∙ with_fraction c.args.tick word c.if-tick-eq1000.true (sym c.has_fraction.ensures ∙ c.if-has_fraction.true))

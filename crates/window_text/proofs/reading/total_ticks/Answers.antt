@@ -1,7 +1,7 @@
 use Rattle.std.proofs.Common.{arith}
 use Rattle.std.proofs.lemmas.Int.{ints}
 use Rattle.window_text.proofs.Products.{product_fits, time_small, total_fits, total_is}
-use Rattle.window_text.proofs.reading.ticks_past.Goals as goal
+use Rattle.window_text.proofs.reading.total_ticks.Goals as goal
 
 pub overflow_mul-result : goal.overflow_mul-result
 overflow_mul-result c = product_fits c.args.second c.from.result c.args.tick c.ranges.second (record { sfits = c.from.type_inv }) c.from.ensures (time_small c.args.second c.requires.second) c.requires.tick

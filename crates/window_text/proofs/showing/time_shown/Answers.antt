@@ -1,6 +1,0 @@
-use Rattle.std.proofs.Common.{Some}
-use Rattle.window_text.proofs.Seconds.{in_time}
-use Rattle.window_text.proofs.showing.time_shown.Goals as goal
-
-pub returns-in-Some-clause-bound : goal.returns-in-Some-clause-bound
-returns-in-Some-clause-bound c = in_time (Some c.in-Some.shown) _ c.time_of.ensures

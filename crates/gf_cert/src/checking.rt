@@ -13,7 +13,7 @@ ghost use Rattle.gf_cert.specs.Answers.{Gives};
 ghost use Rattle.gf_cert.specs.Search.{cutting};
 
 use crate::errors::CertError;
-use crate::leaves::{leaves, refusal};
+use crate::leaves::{read_leaves, refusal};
 use crate::lines::check_words;
 use de_text::Tokens;
 use event_judge::{EventJudge, Node};
@@ -47,14 +47,14 @@ pub fn check_cert(
     judge.nodes_may_be_cut();
     let mut lines = Tokens::new(text);
     match check_words(&mut lines, b"CERT 1", CERT_LINE) {
-        Ok(()) => leaves_for(alloc, judge, root, line, &mut lines),
+        Ok(()) => read_leaves_of_request(alloc, judge, root, line, &mut lines),
         Err(fault) => Err(refusal(fault)),
     }
 }
 
 // Returns the leaves that the lines name which are left, of which the first has to be that of the request. The error
 // is the first line that breaks a rule, or out of memory.
-fn leaves_for(
+fn read_leaves_of_request(
     alloc: Global,
     judge: &EventJudge<'_>,
     root: Node,
@@ -68,7 +68,7 @@ fn leaves_for(
         result }
 {
     match check_words(lines, line, CERT_REQUEST) {
-        Ok(()) => leaves(alloc, judge, root, lines),
+        Ok(()) => read_leaves(alloc, judge, root, lines),
         Err(fault) => Err(refusal(fault)),
     }
 }

@@ -9,7 +9,7 @@ ghost use Rattle.gf_cert.specs.Steps.{Ends};
 
 use crate::errors::CertError;
 use crate::lines::{fault_at, next_entry};
-use crate::places::place;
+use crate::places::place_leaf;
 use de_text::Tokens;
 use event_judge::{EventJudge, Node};
 use spec_certificates::{CertFault, Entry};
@@ -46,7 +46,7 @@ pub(crate) fn refusal(fault: CertFault) -> CertError
 
 /// Returns the leaves that the remaining lines name, one after the other over the root, up to the end of the text.
 /// The error is the first line that breaks a rule, or out of memory.
-pub(crate) fn leaves(
+pub(crate) fn read_leaves(
     alloc: Global,
     judge: &EventJudge<'_>,
     root: Node,
@@ -65,7 +65,7 @@ pub(crate) fn leaves(
             Err(fault) => return Err(refusal(fault)),
             Ok(None) => return Err(refusal(fault_at(lines.end_line(), CERT_END))),
             Ok(Some((line, Entry::Leaf(leaf)))) => {
-                match place(judge, &mut waiting, leaf, line) {
+                match place_leaf(judge, &mut waiting, leaf, line) {
                     Ok(()) => {}
                     Err(error) => return Err(error),
                 }

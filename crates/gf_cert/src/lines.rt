@@ -7,7 +7,7 @@ ghost use Rattle.spec_certificates.specs.Checks.{with_words};
 ghost use Rattle.spec_certificates.specs.Entries.{are_same, end_in, entry_of, leaf_in};
 ghost use Rattle.gf_cert.specs.Steps.{Steps, next_entry, next_words, rest_of};
 
-use crate::words::{count, depth, is_word, mark, time};
+use crate::words::{is_word, read_depth, read_leaf_count, read_mark, read_time};
 use de_text::{Line, LineStep, Tokens, Words};
 use spec_certificates::{CertFault, Entry};
 use spec_faults::{CERT_END, CERT_LINE};
@@ -21,16 +21,16 @@ pub(crate) fn fault_at(line: u32, number: u8) -> CertFault
 }
 
 // Reads a leaf from five words: `L`, its first time, its last time, its depth and its mark. None for other words.
-fn leaf_in(word: &[u8], a: &[u8], b: &[u8], depth_word: &[u8], mark_word: &[u8]) -> Option<Entry>
+fn read_leaf(word: &[u8], a: &[u8], b: &[u8], depth_word: &[u8], mark_word: &[u8]) -> Option<Entry>
     ensures { result ≡ leaf_in word.now a.now b.now depth_word.now mark_word.now }
 {
     if !is_word(word, b"L") {
         return None;
     }
-    let (Some(a), Some(b)) = (time(a), time(b)) else {
+    let (Some(a), Some(b)) = (read_time(a), read_time(b)) else {
         return None;
     };
-    let (Some(depth), Some(mark)) = (depth(depth_word), mark(mark_word)) else {
+    let (Some(depth), Some(mark)) = (read_depth(depth_word), read_mark(mark_word)) else {
         return None;
     };
     Some(Entry::Leaf(Leaf {
@@ -40,11 +40,11 @@ fn leaf_in(word: &[u8], a: &[u8], b: &[u8], depth_word: &[u8], mark_word: &[u8])
 }
 
 // Reads the end from three words: `END leaves` and the number of leaves. None for other words.
-fn end_in(word: &[u8], name: &[u8], count_word: &[u8]) -> Option<Entry>
+fn read_end(word: &[u8], name: &[u8], count_word: &[u8]) -> Option<Entry>
     ensures { result ≡ end_in word.now name.now count_word.now }
 {
     if is_word(word, b"END") && is_word(name, b"leaves") {
-        match count(count_word) {
+        match read_leaf_count(count_word) {
             Some(count) => Some(Entry::End(count)),
             None => None,
         }
@@ -54,18 +54,18 @@ fn end_in(word: &[u8], name: &[u8], count_word: &[u8]) -> Option<Entry>
 }
 
 // Reads the words of a line as a leaf, which has five, or as the end, which has three. None for other words.
-fn entry_of(mut words: Words<'_>) -> Option<Entry>
+fn read_entry(mut words: Words<'_>) -> Option<Entry>
     ensures { result ≡ entry_of words.entry }
 {
     let first = words.next()?;
     let second = words.next()?;
     let third = words.next()?;
     let Some(fourth) = words.next() else {
-        return end_in(first, second, third);
+        return read_end(first, second, third);
     };
     let fifth = words.next()?;
     match words.next() {
-        None => leaf_in(first, second, third, fourth, fifth),
+        None => read_leaf(first, second, third, fourth, fifth),
         Some(_) => None,
     }
 }
@@ -78,7 +78,7 @@ pub(crate) fn next_entry(lines: &mut Tokens<'_>) -> Result<Option<(u32, Entry)>,
     ensures end { lines.new.end_line ≡ lines.old.end_line }
 {
     match lines.line() {
-        LineStep::Line(line) => match entry_of(line.words()) {
+        LineStep::Line(line) => match read_entry(line.words()) {
             Some(entry) => Ok(Some((line.number(), entry))),
             None => Err(fault_at(line.number(), CERT_LINE)),
         },
@@ -102,7 +102,7 @@ fn next_words<'a>(lines: &mut Tokens<'a>) -> Result<Option<(u32, Words<'a>)>, Ce
 }
 
 // Tells whether no word is left.
-fn is_done(mut words: Words<'_>) -> bool
+fn has_no_word(mut words: Words<'_>) -> bool
     ensures { result ≡ are_same [] words.entry }
 {
     words.next().is_none()
@@ -114,7 +114,7 @@ fn are_same(mut one: Words<'_>, mut other: Words<'_>) -> bool
 {
     loop {
         let Some(word) = one.next() else {
-            return is_done(other);
+            return has_no_word(other);
         };
         let Some(wanted) = other.next() else {
             return false;

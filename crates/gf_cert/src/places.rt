@@ -50,7 +50,7 @@ fn is_mark(found: Option<Mark>, mark: Mark) -> bool
 // Cuts the first node that waits, and its left part again, until it is `node`. The right parts are put on the stack,
 // on which the next node to wait is the last. The leaf of `node` stands in the line `line`, which breaks a rule where
 // cutting does not lead there. The other error is out of memory.
-fn descend(
+fn cut_down_to(
     judge: &EventJudge<'_>,
     waiting: &mut Vec<Node>,
     first: Node,
@@ -82,7 +82,7 @@ fn descend(
 /// Places a leaf, which stands in the line `line`: the first node that waits is cut until it is the leaf's. The line
 /// breaks a rule where cutting does not lead there or the leaf's mark is not that of its verdict. The nodes that wait
 /// are a stack, on which the first is the last. The other error is out of memory.
-pub(crate) fn place(
+pub(crate) fn place_leaf(
     judge: &EventJudge<'_>,
     waiting: &mut Vec<Node>,
     leaf: Leaf,
@@ -96,7 +96,7 @@ pub(crate) fn place(
     let Some(first) = waiting.pop() else {
         return Err(fault_at(line, CERT_END).into());
     };
-    descend(judge, waiting, first, leaf.node, line)?;
+    cut_down_to(judge, waiting, first, leaf.node, line)?;
     if is_mark(judge.judge(leaf.node).mark(), leaf.mark) {
         Ok(())
     } else {

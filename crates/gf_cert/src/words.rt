@@ -33,7 +33,7 @@ fn is_length_up_to(word: &[u8], most: usize) -> bool
 }
 
 // Returns the number that at most 15 digits write.
-fn value(digits: &[u8]) -> u64
+fn digits_value(digits: &[u8]) -> u64
     requires { length digits.now ≤ 15 }
     ensures value { result ≡ value digits.now }
     ensures bound { result + 23 ≤ 23 * 10 ^ length digits.now }
@@ -46,49 +46,49 @@ fn value(digits: &[u8]) -> u64
 }
 
 // Reads a number of 1 to `most` digits. None for any other word.
-fn count_of(most: usize, word: &[u8]) -> Option<u64>
+fn read_number(most: usize, word: &[u8]) -> Option<u64>
     requires { most ≤ 15 }
     ensures value { result ≡ count_of most word.now }
     ensures bound { IfSome result (λ n. n < 23 * 10 ^ most) }
 {
     if are_digits(word) && is_length_up_to(word, most) {
-        Some(value(word))
+        Some(digits_value(word))
     } else {
         None
     }
 }
 
 /// Reads a depth of 1 or 2 digits. None for any other word.
-pub(crate) fn depth(word: &[u8]) -> Option<u32>
+pub(crate) fn read_depth(word: &[u8]) -> Option<u32>
     ensures { result ≡ count_of MAX_DEPTH_DIGITS word.now }
 {
-    match count_of(MAX_DEPTH_DIGITS, word) {
+    match read_number(MAX_DEPTH_DIGITS, word) {
         Some(depth) => Some(depth as u32),
         None => None,
     }
 }
 
 /// Reads a number of leaves of 1 to 8 digits. None for any other word.
-pub(crate) fn count(word: &[u8]) -> Option<u32>
+pub(crate) fn read_leaf_count(word: &[u8]) -> Option<u32>
     ensures { result ≡ count_of MAX_COUNT_DIGITS word.now }
 {
-    match count_of(MAX_COUNT_DIGITS, word) {
+    match read_number(MAX_COUNT_DIGITS, word) {
         Some(count) => Some(count as u32),
         None => None,
     }
 }
 
 /// Reads a time in units of TDB since J2000: 1 to 15 digits, with an optional minus sign. None for any other word.
-pub(crate) fn time(word: &[u8]) -> Option<i64>
+pub(crate) fn read_time(word: &[u8]) -> Option<i64>
     ensures { result ≡ time_of word.now }
 {
     match word {
         [] => None,
-        [b'-', digits @ ..] => match count_of(MAX_TIME_DIGITS, digits) {
+        [b'-', digits @ ..] => match read_number(MAX_TIME_DIGITS, digits) {
             Some(size) => Some(-(size as i64)),
             None => None,
         },
-        [_, ..] => match count_of(MAX_TIME_DIGITS, word) {
+        [_, ..] => match read_number(MAX_TIME_DIGITS, word) {
             Some(size) => Some(size as i64),
             None => None,
         },
@@ -96,7 +96,7 @@ pub(crate) fn time(word: &[u8]) -> Option<i64>
 }
 
 /// Reads a mark: `N` (no event), `R` (one rise), `F` (one fall) or `U` (undecided). None for any other word.
-pub(crate) fn mark(word: &[u8]) -> Option<Mark>
+pub(crate) fn read_mark(word: &[u8]) -> Option<Mark>
     ensures { result ≡ mark_of_word word.now }
 {
     if is_word(word, b"N") {

@@ -16,33 +16,33 @@ use Rattle.gf_cert.proofs.checking.check_cert.Goals as goal
 pub returns-in-Ok-clause-checked : goal.returns-in-Ok-clause-checked
 returns-in-Ok-clause-checked g c =
     let s = c.args.judge.now.search in
-    subst (λ w. Gives (λ found. found.items) w c.leaves_for.result)
+    subst (λ w. Gives (λ found. found.items) w c.read_leaves_of_request.result)
     (checked_by (cutting s) c.args.root c.args.line.now c.args.text.now c.new-lines.result.left c.new-lines.result.end_line c.new-lines.ensures.left c.new-lines.ensures.end_line
-    c.check_words.new.lines.left c.check_words.new.lines.end_line c.check_words.ensures.end c.in-Ok.ensures.steps) c.leaves_for.ensures
+    c.check_words.new.lines.left c.check_words.new.lines.end_line c.check_words.ensures.end c.in-Ok.ensures.steps) c.read_leaves_of_request.ensures
 
 pub returns-in-Ok-clause-cover : goal.returns-in-Ok-clause-cover
 returns-in-Ok-clause-cover g c =
     let s = c.args.judge.now.search in
     let is = is_cutting s c.nodes_may_be_cut.ensures.sound c.nodes_may_be_cut.ensures.split c.nodes_may_be_cut.ensures.cut in
-    let gives : Gives (λ found. found.items) (checked (cutting s) c.args.root c.args.line.now c.args.text.now) c.leaves_for.result = returns-in-Ok-clause-checked g c in
-    if_given (λ found. found.items) (λ ls. Covers c.args.root.a ls c.args.root.b) (checked (cutting s) c.args.root c.args.line.now c.args.text.now) c.leaves_for.result
+    let gives : Gives (λ found. found.items) (checked (cutting s) c.args.root c.args.line.now c.args.text.now) c.read_leaves_of_request.result = returns-in-Ok-clause-checked g c in
+    if_given (λ found. found.items) (λ ls. Covers c.args.root.a ls c.args.root.b) (checked (cutting s) c.args.root c.args.line.now c.args.text.now) c.read_leaves_of_request.result
     (λ ls e. (are_certified (cutting s) is c.args.root c.requires.valid c.args.line.now c.args.text.now ls e).cover) gives
 
 pub returns-in-Ok-clause-are_leaves : goal.returns-in-Ok-clause-are_leaves
 returns-in-Ok-clause-are_leaves g c =
     let s = c.args.judge.now.search in
     let is = is_cutting s c.nodes_may_be_cut.ensures.sound c.nodes_may_be_cut.ensures.split c.nodes_may_be_cut.ensures.cut in
-    let gives : Gives (λ found. found.items) (checked (cutting s) c.args.root c.args.line.now c.args.text.now) c.leaves_for.result = returns-in-Ok-clause-checked g c in
-    if_given (λ found. found.items) (AreLeaves (rules s)) (checked (cutting s) c.args.root c.args.line.now c.args.text.now) c.leaves_for.result
+    let gives : Gives (λ found. found.items) (checked (cutting s) c.args.root c.args.line.now c.args.text.now) c.read_leaves_of_request.result = returns-in-Ok-clause-checked g c in
+    if_given (λ found. found.items) (AreLeaves (rules s)) (checked (cutting s) c.args.root c.args.line.now c.args.text.now) c.read_leaves_of_request.result
     (λ ls e. (are_certified (cutting s) is c.args.root c.requires.valid c.args.line.now c.args.text.now ls e).are) gives
 
 pub returns-in-Ok-clause-windows : goal.returns-in-Ok-clause-windows
 returns-in-Ok-clause-windows g c =
     let s = c.args.judge.now.search in
     let is = is_cutting s c.nodes_may_be_cut.ensures.sound c.nodes_may_be_cut.ensures.split c.nodes_may_be_cut.ensures.cut in
-    let gives : Gives (λ found. found.items) (checked (cutting s) c.args.root c.args.line.now c.args.text.now) c.leaves_for.result = returns-in-Ok-clause-checked g c in
+    let gives : Gives (λ found. found.items) (checked (cutting s) c.args.root c.args.line.now c.args.text.now) c.read_leaves_of_request.result = returns-in-Ok-clause-checked g c in
     let search = c.nodes_may_be_cut.ensures.search in
-    if_given (λ found. found.items) (λ ls. AreWindows (events s) (IsLeftUndecided s ls) c.args.root.a c.args.root.b (windows ls)) (checked (cutting s) c.args.root c.args.line.now c.args.text.now) c.leaves_for.result
+    if_given (λ found. found.items) (λ ls. AreWindows (events s) (IsLeftUndecided s ls) c.args.root.a c.args.root.b (windows ls)) (checked (cutting s) c.args.root c.args.line.now c.args.text.now) c.read_leaves_of_request.result
     (λ ls e. let certified = are_certified (cutting s) is c.args.root c.requires.valid c.args.line.now c.args.text.now ls e in windows_of_leaves s search c.args.root.a c.args.root.b ls certified.cover certified.are) gives
 
 pub returns-in-Err-clause-checked : goal.returns-in-Err-clause-checked

@@ -8,7 +8,7 @@ use Rattle.spec_faults.specs.declared.numbers.TheConstants.{CERT_PLACE}
 use Rattle.gf_cert.specs.Answers.{Fails, refusal_of}
 use Rattle.gf_cert.specs.Search.{cutting}
 use Rattle.gf_cert.proofs.Placing.{cut_again, found_here, is_cutting, narrower, never_found, that_node, valid_push}
-use Rattle.gf_cert.proofs.places.descend.Goals as goal
+use Rattle.gf_cert.proofs.places.cut_down_to.Goals as goal
 
 pub returns-then-not-may_be_cut-clause-place : goal.returns-then-not-may_be_cut-clause-place
 returns-then-not-may_be_cut-clause-place g c =

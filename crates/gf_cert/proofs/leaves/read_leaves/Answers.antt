@@ -7,7 +7,7 @@ use Rattle.gf_cert.specs.Steps.{next_entry}
 use Rattle.gf_cert.specs.Answers.{Fails, refusal_of}
 use Rattle.gf_cert.specs.Search.{cutting}
 use Rattle.gf_cert.proofs.Walking.{bad_end, bad_leaf, ends_early, fails_so, good_end, good_leaf, more_after, stops}
-use Rattle.gf_cert.proofs.leaves.leaves.Goals as goal
+use Rattle.gf_cert.proofs.leaves.read_leaves.Goals as goal
 
 pub returns-in-Err : goal.returns-in-Err
 returns-in-Err g c =
@@ -30,8 +30,8 @@ returns-in-Ok-None g c =
     let at : c.end_line.result ≡ l.lines.end_line = c.end_line.ensures ∙ c.next_entry.ensures.end in
     subst (Fails whole) (sym (c.refusal-in-Ok-None.ensures ∙ ap refusal_of (c.fault_at.ensures ∙ ap (λ n. record { line = n; number = 74 }) at))) e
 
-pub returns-in-Err-place : goal.returns-in-Err-place
-returns-in-Err-place g c =
+pub returns-in-Err-place_leaf : goal.returns-in-Err-place_leaf
+returns-in-Err-place_leaf g c =
     let s = c.args.judge.now.search in
     let whole = leaves_from (cutting s) c.args.lines.now.end_line (c.args.root ∷ []) 0 c.args.lines.now.left in
     let l = c.loop-fault in
@@ -40,7 +40,7 @@ returns-in-Err-place g c =
     let e3 = c.in-Ok-Some-default-Leaf.field-0-is in
     let e4 = c.in-Ok-Some-default-Leaf.field-0-0-1-is in
     let next : next_entry l.lines.left ≡ Ok (Some (c.in-Ok-Some-default-Leaf.line, entry.Leaf c.in-Ok-Some-default-Leaf.leaf)) = cc in
-    fails_so (leaf_at (cutting s) c.in-Ok-Some-default-Leaf.line (reverse l.waiting.items) c.in-Ok-Some-default-Leaf.leaf) whole c.in-Err-place.error (bad_leaf (cutting s) l.lines.end_line whole l.found.items (reverse l.waiting.items) l.lines.left l.invariant.same c.in-Ok-Some-default-Leaf.line c.in-Ok-Some-default-Leaf.leaf next) c.in-Err-place.ensures.place
+    fails_so (leaf_at (cutting s) c.in-Ok-Some-default-Leaf.line (reverse l.waiting.items) c.in-Ok-Some-default-Leaf.leaf) whole c.in-Err-place_leaf.error (bad_leaf (cutting s) l.lines.end_line whole l.found.items (reverse l.waiting.items) l.lines.left l.invariant.same c.in-Ok-Some-default-Leaf.line c.in-Ok-Some-default-Leaf.leaf next) c.in-Err-place_leaf.ensures.place
 
 pub loop-fault-preserved : goal.loop-fault-preserved
 loop-fault-preserved g c =
@@ -56,8 +56,8 @@ loop-fault-preserved g c =
     record {
       waiting = c.in-Ok.ensures.valid;
       end = c.next_entry.ensures.end ∙ l.invariant.end;
-      same = (λ i. fronted more (leaves_from (cutting s) (c.next_entry.ensures.end i) (reverse c.place.new.waiting.items) (length more) (c.in-Ok-Some-default-Leaf.ensures.left i)))
-          ∙ good_leaf (cutting s) l.lines.end_line whole l.found.items (reverse l.waiting.items) l.lines.left l.invariant.same c.in-Ok-Some-default-Leaf.line c.in-Ok-Some-default-Leaf.leaf next (reverse c.place.new.waiting.items) more c.in-Ok.ensures.place c.in_ok-push-in-Ok-Some-default-Leaf.ensures.items;
+      same = (λ i. fronted more (leaves_from (cutting s) (c.next_entry.ensures.end i) (reverse c.place_leaf.new.waiting.items) (length more) (c.in-Ok-Some-default-Leaf.ensures.left i)))
+          ∙ good_leaf (cutting s) l.lines.end_line whole l.found.items (reverse l.waiting.items) l.lines.left l.invariant.same c.in-Ok-Some-default-Leaf.line c.in-Ok-Some-default-Leaf.leaf next (reverse c.place_leaf.new.waiting.items) more c.in-Ok.ensures.place c.in_ok-push-in-Ok-Some-default-Leaf.ensures.items;
     }
 
 pub returns-then-not-is_end : goal.returns-then-not-is_end

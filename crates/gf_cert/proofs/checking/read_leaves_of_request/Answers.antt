@@ -4,7 +4,7 @@ use Rattle.spec_certificates.specs.Checks.{leaves_from, with_words}
 use Rattle.spec_faults.specs.declared.numbers.TheConstants.{CERT_REQUEST}
 use Rattle.gf_cert.specs.Answers.{Fails, Gives}
 use Rattle.gf_cert.specs.Search.{cutting}
-use Rattle.gf_cert.proofs.checking.leaves_for.Goals as goal
+use Rattle.gf_cert.proofs.checking.read_leaves_of_request.Goals as goal
 
 pub returns-in-Ok : goal.returns-in-Ok
 returns-in-Ok g c =

@@ -4,7 +4,7 @@ ghost use Rattle.spec_text.specs.declared.limits.TheConstants.{MAX_TEXT_BYTES};
 ghost use Rattle.spec_files.specs.Files.{IsFile};
 ghost use Rattle.gf_find.specs.CertificateFiles.{CertificateStops};
 
-use crate::files::{not_read_as, refused_as};
+use crate::files::{refusal_by_name, unread_by_name};
 use gf_edges::Shelf;
 use gf_files::{FilesError, read_file};
 use spec_outcomes::Refusal;
@@ -27,8 +27,8 @@ pub(crate) fn read_certificate<S: Shelf>(
     let word = name.as_str();
     match read_file(alloc, shelf, 0, word) {
         Ok(text) => Ok(text),
-        Err(FilesError::Fault { file: _, fault }) => Err(refused_as(alloc, word, fault)),
-        Err(FilesError::NotRead { file: _ }) => Err(not_read_as(alloc, word)),
+        Err(FilesError::Fault { file: _, fault }) => Err(refusal_by_name(alloc, word, fault)),
+        Err(FilesError::NotRead { file: _ }) => Err(unread_by_name(alloc, word)),
         Err(FilesError::Memory) => Err(Refusal::Memory),
     }
 }

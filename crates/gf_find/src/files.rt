@@ -13,17 +13,17 @@ use spec_text::Fault;
 use std::alloc::{AllocError, Global};
 
 // Copies a file's name into a text. The only error is out of memory.
-fn text(alloc: Global, name: &str) -> Result<Text, AllocError>
+fn name_text(alloc: Global, name: &str) -> Result<Text, AllocError>
     ensures { IfOk result (λ text. text ≡ name.now) }
 {
     Ok(Text::new(String::from_str(alloc, name)?))
 }
 
 /// Returns the refusal of the file of this name for a fault in it, or out of memory where its name cannot be copied.
-pub(crate) fn refused_as(alloc: Global, name: &str, fault: Fault) -> Refusal
+pub(crate) fn refusal_by_name(alloc: Global, name: &str, fault: Fault) -> Refusal
     ensures { (result ≡ Refusal.Memory) ⊎ (result ≡ Refusal.File name.now fault) }
 {
-    match text(alloc, name) {
+    match name_text(alloc, name) {
         Ok(name) => Refusal::File { name, fault },
         Err(AllocError) => Refusal::Memory,
     }
@@ -31,31 +31,31 @@ pub(crate) fn refused_as(alloc: Global, name: &str, fault: Fault) -> Refusal
 
 /// Returns the refusal for the file of this name, which could not be read, or out of memory where its name cannot be
 /// copied.
-pub(crate) fn not_read_as(alloc: Global, name: &str) -> Refusal
+pub(crate) fn unread_by_name(alloc: Global, name: &str) -> Refusal
     ensures { (result ≡ Refusal.Memory) ⊎ (result ≡ Refusal.NotRead name.now) }
 {
-    match text(alloc, name) {
+    match name_text(alloc, name) {
         Ok(name) => Refusal::NotRead { name },
         Err(AllocError) => Refusal::Memory,
     }
 }
 
 // Returns the refusal of a file, by its place among the names, for a fault in it, or out of memory.
-fn refused(alloc: Global, names: &[String], file: usize, fault: Fault) -> Refusal
+fn refusal_by_place(alloc: Global, names: &[String], file: usize, fault: Fault) -> Refusal
     requires { file < length names.now }
     ensures { (result ≡ Refusal.Memory) ⊎ ((name : List ℕ)
         × (slice_get (texts_of names.now) file ≡ Some name) × (result ≡ Refusal.File name fault)) }
 {
-    refused_as(alloc, &names[file], fault)
+    refusal_by_name(alloc, &names[file], fault)
 }
 
 // Returns the refusal for a file, by its place among the names, that could not be read, or out of memory.
-fn not_read(alloc: Global, names: &[String], file: usize) -> Refusal
+fn unread_by_place(alloc: Global, names: &[String], file: usize) -> Refusal
     requires { file < length names.now }
     ensures { (result ≡ Refusal.Memory) ⊎ ((name : List ℕ)
         × (slice_get (texts_of names.now) file ≡ Some name) × (result ≡ Refusal.NotRead name)) }
 {
-    not_read_as(alloc, &names[file])
+    unread_by_name(alloc, &names[file])
 }
 
 /// Reads the ephemeris in the files of these names, in their order. An error names the first file with a fault, or is
@@ -81,8 +81,8 @@ pub(crate) fn ephemeris_of<S: Shelf>(
     }
     match read_files(alloc, shelf, names) {
         Ok(found) => Ok(found.ephemeris),
-        Err(FilesError::Fault { file, fault }) => Err(refused(alloc, names, file, fault)),
-        Err(FilesError::NotRead { file }) => Err(not_read(alloc, names, file)),
+        Err(FilesError::Fault { file, fault }) => Err(refusal_by_place(alloc, names, file, fault)),
+        Err(FilesError::NotRead { file }) => Err(unread_by_place(alloc, names, file)),
         Err(FilesError::Memory) => Err(Refusal::Memory),
     }
 }

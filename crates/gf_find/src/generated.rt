@@ -28,7 +28,7 @@ use std::thread::Threads;
 use window_text::generation;
 
 // Returns the empty name, which the one file of a `TextShelf` has.
-fn no_name(alloc: Global) -> String
+fn empty_name(alloc: Global) -> String
     ensures { string_bytes result ≡ [] }
 {
     String::new(alloc)
@@ -41,7 +41,7 @@ fn ephemeris_of_text(alloc: Global, text: &[u8]) -> Result<Ephemeris, Refusal>
         → IfErr result (λ refusal. refusal ≡ Refusal.Memory) }
 {
     let mut shelf = TextShelf::new(text);
-    ephemeris_of(alloc, &mut shelf, &[no_name(alloc)])
+    ephemeris_of(alloc, &mut shelf, &[empty_name(alloc)])
 }
 
 // Returns the two lines about the windows of leaves that follow one another over a generated text of `bytes` bytes.
@@ -65,7 +65,7 @@ fn lines_of_leaves(
 }
 
 // Searches the ephemeris of a generated text of `bytes` bytes, and returns the two lines about it.
-fn lines_of<R: Threads + Wait + Sync, G: Gate>(
+fn lines_of_ephemeris<R: Threads + Wait + Sync, G: Gate>(
     rt: &R,
     alloc: Global,
     blocks: u32,
@@ -119,7 +119,7 @@ fn lines_of_text<R: Threads + Wait + Sync, G: Gate>(
         ⊎ (generation_of blocks seed ≡ Err refusal)) }
 {
     let ephemeris = ephemeris_of_text(alloc, text)?;
-    lines_of(
+    lines_of_ephemeris(
         rt,
         alloc,
         blocks,

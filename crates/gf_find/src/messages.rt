@@ -22,7 +22,12 @@ fn add_number(text: &mut Vec<u8>, number: u32, after: &[u8]) -> Result<(), Alloc
 }
 
 // Appends a name between two texts.
-fn add_named(text: &mut Vec<u8>, before: &[u8], name: &str, after: &[u8]) -> Result<(), AllocError>
+fn add_between(
+    text: &mut Vec<u8>,
+    before: &[u8],
+    name: &str,
+    after: &[u8],
+) -> Result<(), AllocError>
     ensures { OnOk result (text.new.items
         ≡ text.old.items ++ (before.now ++ name.now ++ after.now)) }
 {
@@ -74,7 +79,7 @@ fn file_line(alloc: Global, name: &str, fault: Fault) -> Result<Vec<u8>, AllocEr
     ensures { IfOk result (λ text. text.items ≡ file_text name.now fault) }
 {
     let mut text = Vec::new(alloc);
-    add_named(&mut text, b"finder: file ", name, b" line ")?;
+    add_between(&mut text, b"finder: file ", name, b" line ")?;
     add_number(&mut text, fault.line, b": ")?;
     add_fault(&mut text, fault.number, fault.detail)?;
     text.extend_from_slice(b"\n")?;
@@ -82,11 +87,11 @@ fn file_line(alloc: Global, name: &str, fault: Fault) -> Result<Vec<u8>, AllocEr
 }
 
 // Returns the line for a file that could not be read. The only error is out of memory.
-fn read_line(alloc: Global, name: &str) -> Result<Vec<u8>, AllocError>
+fn unread_line(alloc: Global, name: &str) -> Result<Vec<u8>, AllocError>
     ensures { IfOk result (λ text. text.items ≡ read_text name.now) }
 {
     let mut text = Vec::new(alloc);
-    add_named(&mut text, b"finder: read fault ", name, b"\n")?;
+    add_between(&mut text, b"finder: read fault ", name, b"\n")?;
     Ok(text)
 }
 
@@ -198,7 +203,7 @@ pub(crate) fn line_of(alloc: Global, refusal: &Refusal) -> Result<Vec<u8>, Alloc
     match refusal {
         Refusal::Words { number, option } => words_line(alloc, *number, *option),
         Refusal::File { name, fault } => file_line(alloc, name.as_str(), *fault),
-        Refusal::NotRead { name } => read_line(alloc, name.as_str()),
+        Refusal::NotRead { name } => unread_line(alloc, name.as_str()),
         Refusal::Outside { span, whole } => outside_line(alloc, *span, *whole),
         Refusal::Event(fault) => event_line(alloc, fault.number()),
         Refusal::TooManyLeaves { most } => leaves_line(alloc, *most),

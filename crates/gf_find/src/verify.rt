@@ -30,7 +30,7 @@ use std::alloc::Global;
 
 // Checks the certificate in a file by the judge of its search, and returns the report of its windows, or why there is
 // none.
-fn verify_by<S: Shelf>(
+fn verify_text<S: Shelf>(
     alloc: Global,
     shelf: &mut S,
     find: &FindAsk,
@@ -91,7 +91,7 @@ fn verify_event<S: Shelf>(
         return Err(Refusal::Memory);
     };
     let judge = judge(ephemeris, &query, event, Cutter::new(rule, cut));
-    verify_by(alloc, shelf, find, cert, span, &judge)
+    verify_text(alloc, shelf, find, cert, span, &judge)
 }
 
 // Makes the event of a search over a span, and checks the certificate for it. An event with a fault is refused.

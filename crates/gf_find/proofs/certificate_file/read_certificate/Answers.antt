@@ -10,10 +10,10 @@ returns-in-Ok-clause-there g c =
 pub returns-in-Err-Fault-clause-stopped : goal.returns-in-Err-Fault-clause-stopped
 returns-in-Err-Fault-clause-stopped g c =
     too_long_stops (g.S.Shelf.files c.args.shelf.now) c.as_str-word.result.now _ c.as_str-word.ensures (g.S.Shelf.faults c.args.shelf.now) (g.S.Shelf.faults c.read_file.new.shelf)
-    c.refused_as.result c.in-Err-Fault.fault (c.in-Err-Fault.ensures.fault _ c.in-Err-Fault.fault (λ i. Err (c.in-Err-Fault.field-0-is i))).1
-    (c.in-Err-Fault.ensures.large _ c.in-Err-Fault.fault (λ i. Err (c.in-Err-Fault.field-0-is i))) c.refused_as.ensures
+    c.refusal_by_name.result c.in-Err-Fault.fault (c.in-Err-Fault.ensures.fault _ c.in-Err-Fault.fault (λ i. Err (c.in-Err-Fault.field-0-is i))).1
+    (c.in-Err-Fault.ensures.large _ c.in-Err-Fault.fault (λ i. Err (c.in-Err-Fault.field-0-is i))) c.refusal_by_name.ensures
 
 pub returns-in-Err-NotRead-clause-stopped : goal.returns-in-Err-NotRead-clause-stopped
 returns-in-Err-NotRead-clause-stopped g c =
     not_read_stops (g.S.Shelf.files c.args.shelf.now) c.as_str-word.result.now _ c.as_str-word.ensures (g.S.Shelf.faults c.args.shelf.now) (g.S.Shelf.faults c.read_file.new.shelf)
-    c.not_read_as.result (c.in-Err-NotRead.ensures.failed _ (λ i. Err (c.in-Err-NotRead.field-0-is i))).1 c.not_read_as.ensures
+    c.unread_by_name.result (c.in-Err-NotRead.ensures.failed _ (λ i. Err (c.in-Err-NotRead.field-0-is i))).1 c.unread_by_name.ensures

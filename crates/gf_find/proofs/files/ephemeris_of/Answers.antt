@@ -17,9 +17,9 @@ not_read-requires g c =
 
 pub returns-in-Err-Fault-clause-refused : goal.returns-in-Err-Fault-clause-refused
 returns-in-Err-Fault-clause-refused g c =
-    refused_stops _ _ _ _ c.in-Err-Fault.file c.refused.result c.in-Err-Fault.fault
-    (c.in-Err-Fault.ensures.fault c.in-Err-Fault.file c.in-Err-Fault.fault (λ i. Err (c.in-Err-Fault.field-0-is i))) c.refused.ensures
+    refused_stops _ _ _ _ c.in-Err-Fault.file c.refusal_by_place.result c.in-Err-Fault.fault
+    (c.in-Err-Fault.ensures.fault c.in-Err-Fault.file c.in-Err-Fault.fault (λ i. Err (c.in-Err-Fault.field-0-is i))) c.refusal_by_place.ensures
 
 pub returns-in-Err-NotRead-clause-refused : goal.returns-in-Err-NotRead-clause-refused
 returns-in-Err-NotRead-clause-refused g c =
-    lacking_stops _ _ _ _ c.in-Err-NotRead.file c.not_read.result (c.in-Err-NotRead.ensures.not_read c.in-Err-NotRead.file (λ i. Err (c.in-Err-NotRead.field-0-is i))) c.not_read.ensures
+    lacking_stops _ _ _ _ c.in-Err-NotRead.file c.unread_by_place.result (c.in-Err-NotRead.ensures.not_read c.in-Err-NotRead.file (λ i. Err (c.in-Err-NotRead.field-0-is i))) c.unread_by_place.ensures

@@ -25,9 +25,9 @@ verify_by-requires-clause-valid g c =
 pub returns-clause-verified : goal.returns-clause-verified
 returns-clause-verified g c =
     certificate_verified (g.S.Shelf.files c.args.shelf.now) c.args.find.now c.args.cert.now 0 0 c.args.ephemeris.now c.query_of-query.result c.args.span
-    c.query_of-query.ensures c.requires.span c.requires.within c.requires.sound c.judge-judge.result.search c.judge-judge.ensures c.verify_by.result c.verify_by.ensures.verified
+    c.query_of-query.ensures c.requires.span c.requires.within c.requires.sound c.judge-judge.result.search c.judge-judge.ensures c.verify_text.result c.verify_text.ensures.verified
 
 pub returns-clause-stopped : goal.returns-clause-stopped
 returns-clause-stopped g c =
-    certificate_refused (g.S.Shelf.files c.args.shelf.now) c.args.find.now c.args.cert.now (g.S.Shelf.faults c.args.shelf.now) (g.S.Shelf.faults c.verify_by.new.shelf) c.args.ephemeris.now c.query_of-query.result c.args.span
-    c.query_of-query.ensures c.requires.span c.requires.within c.requires.sound c.judge-judge.result.search c.judge-judge.ensures c.verify_by.result c.verify_by.ensures.stopped
+    certificate_refused (g.S.Shelf.files c.args.shelf.now) c.args.find.now c.args.cert.now (g.S.Shelf.faults c.args.shelf.now) (g.S.Shelf.faults c.verify_text.new.shelf) c.args.ephemeris.now c.query_of-query.result c.args.span
+    c.query_of-query.ensures c.requires.span c.requires.within c.requires.sound c.judge-judge.result.search c.judge-judge.ensures c.verify_text.result c.verify_text.ensures.stopped

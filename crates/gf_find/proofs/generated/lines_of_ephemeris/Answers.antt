@@ -15,7 +15,7 @@ use Rattle.spec_outcomes.specs.Outcomes.{generation_of}
 use Rattle.gf_find.specs.Generates.{IsGeneration}
 use Rattle.gf_find.proofs.FoundLeaves.{memory_also}
 use Rattle.gf_find.proofs.Reporting.{generation_is, generation_stops, some_blocks}
-use Rattle.gf_find.proofs.generated.lines_of.Goals as goal
+use Rattle.gf_find.proofs.generated.lines_of_ephemeris.Goals as goal
 
 pub leaves-requires-clause-block : goal.leaves-requires-clause-block
 leaves-requires-clause-block g c κs lives =

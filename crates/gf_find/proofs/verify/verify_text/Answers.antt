@@ -2,7 +2,7 @@ use Rattle.std.proofs.Common.{◌≤◌, ℕ, List, length, subst, sym}
 use Rattle.spec_text.specs.declared.limits.TheConstants.{MAX_TEXT_BYTES}
 use Rattle.spec_outcomes.specs.Certificates.{IsVerification, verification_of}
 use Rattle.gf_find.proofs.Verifying.{file_refused, text_printed, text_refused}
-use Rattle.gf_find.proofs.verify.verify_by.Goals as goal
+use Rattle.gf_find.proofs.verify.verify_text.Goals as goal
 
 pub verify-requires-clause-small : goal.verify-requires-clause-small
 verify-requires-clause-small g c = subst (λ (t : List ℕ). length t ≤ MAX_TEXT_BYTES) (sym c.deref.ensures.value) c.in-Ok.ensures.small

@@ -1,4 +1,4 @@
-// Worked values of each definition, by computation.
+// Worked values of each definition, by computation. The calls do nothing when they run.
 
 ghost use Rattle.std.specs.Prelude.{◌≡◌, ◌∷◌, [], pos};
 ghost use Rattle.spec_intervals.specs.Signs.{sign_of};
@@ -19,8 +19,8 @@ pub fn the_earth_swings_round_the_barycentre()
     ensures after { sign_of (earth_x (pos 1339201)) ≡ No }
 {}
 
-/// One of the Earth and the Moon seen from the other is read from the Moon's column alone; with a planet beside it the
-/// columns stand in order and each once.
+/// The Earth seen from the Moon, and the Moon from the Earth, are read from the Moon's column alone. With a planet
+/// beside them the columns stand in order, and each once.
 pub fn columns_in_use_are_few()
     ensures moon_from_the_earth { columns_in_use MoonOfPair MoonOfPair EarthOfPair ≡ 10 ∷ [] }
     ensures earth_from_the_moon { columns_in_use EarthOfPair EarthOfPair MoonOfPair ≡ 10 ∷ [] }

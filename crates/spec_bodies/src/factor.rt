@@ -7,6 +7,6 @@ pub enum Factor {
     MoonShare,
     /// The cosine of the obliquity of the ecliptic of J2000.
     Cosine,
-    /// The sine of that obliquity.
+    /// The sine of the obliquity of the ecliptic of J2000.
     Sine,
 }

@@ -5,7 +5,7 @@
 pub enum Frame {
     /// The frame of the files: the mean equator and equinox of J2000.
     Eq,
-    /// That frame turned round its x axis by the obliquity of the ecliptic of J2000, as SPICE's ECLIPJ2000 is:
-    /// 84381.448 arc seconds, of the IAU 1976 system of constants.
+    /// The frame of the files, turned round its x axis by the obliquity of the ecliptic of J2000, as SPICE's
+    /// ECLIPJ2000 is: 84381.448 arc seconds, of the IAU 1976 system of constants.
     Ecl,
 }

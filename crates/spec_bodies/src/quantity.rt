@@ -1,10 +1,10 @@
 // What is known of a body along an axis.
 
-/// Position or velocity.
+/// A quantity of a body along an axis: its position or its velocity.
 #[derive(Clone, Copy, PartialEq, Eq)]
 pub enum Quantity {
-    /// In km.
+    /// A position, in km.
     Position,
-    /// In km per second.
+    /// A velocity, in km per second or per tick, as the ephemeris counts times.
     Velocity,
 }

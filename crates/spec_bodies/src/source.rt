@@ -21,14 +21,14 @@ pub enum Source {
     OwnColumn(usize),
     /// The Earth: the columns of the Earth-Moon barycentre and of the Moon.
     EarthOfPair,
-    /// The Moon: the same two columns.
+    /// The Moon: the columns of the Earth-Moon barycentre and of the Moon too.
     MoonOfPair,
     /// The barycentre of the solar system, from which the others are measured.
     Origin,
 }
 
 impl Source {
-    /// How a body is read: the planets, Pluto and the Earth-Moon barycentre stand in the first nine columns.
+    /// Returns how a body is read. The planets, Pluto and the Earth-Moon barycentre stand in the first nine columns.
     pub fn of(body: Body) -> Source
         ensures { result ≡ source_of body }
     {
@@ -49,7 +49,8 @@ impl Source {
         }
     }
 
-    /// The numbers of the columns that have to be there, in order: its own, or the two of the Earth and the Moon, or none.
+    /// Returns the numbers of the columns that have to be there, in order: the body's own, the two of the Earth and
+    /// the Moon, or none.
     pub fn needed_columns(&self) -> &[usize]
         ensures { result.now ≡ needed_columns self.now }
     {

@@ -1,4 +1,5 @@
-// What is true of bounds, of steady and quiet spans and of mids: each law is the contract of a function with nothing to do.
+// Laws of bounds, of steady and quiet spans, and of mids. Each is the contract of a function that does nothing. Over
+// a steady span the function is monotone and each condition holds; over a quiet one the function has one sign.
 ghost use Rattle.std.specs.Prelude.{◌≡◌, true, false, nat_le, [], All, ℤ, ◌≤ℤ◌, ◌<ℤ◌};
 ghost use Rattle.spec_intervals.specs.Enclosure.{middle};
 ghost use Rattle.spec_intervals.specs.Signs.{sign_of};

@@ -1,4 +1,4 @@
-// What is true of certificates: each law is the contract of a function with nothing to do.
+// Laws of certificates. Each is the contract of a function that does nothing.
 ghost use Rattle.std.specs.Prelude.{◌≡◌, ◌≤◌, ◌<◌, ◌^◌, List, ℕ, Ok, drop, length};
 ghost use Rattle.spec_text.specs.declared.limits.TheConstants.{MAX_LINE_BYTES, MAX_TEXT_BYTES};
 ghost use Rattle.spec_text.specs.Lines.{text_lines};

@@ -1,6 +1,6 @@
 // The limits of certificates, and of the words in them.
 
-/// The most leaves that a certificate is written of.
+/// The most leaves of a certificate.
 pub const MAX_CERT_LEAVES: u32 = 4_194_304;
 
 /// The most digits of a time, in ticks. The times of an ephemeris have at most 15.

@@ -28,7 +28,7 @@ pub fn second_kind_by_first()
         → cleared_u u l (suc k) ≡ cleared_t u l (suc k) +ℤ u *ℤ cleared_u u l k }
 {}
 
-/// Between -1 and 1, `T_k` is at most 1 in size and `U_k` at most `k + 1`.
+/// From -1 to 1, `T_k` is at most 1 in magnitude and `U_k` at most `k + 1`.
 pub fn sizes()
     ensures first_kind { (u l : ℤ) (k : ℕ) → IsArgument u l
         → Within (cleared_t u l k) (pos (t_size k) *ℤ power l k) }
@@ -44,7 +44,7 @@ pub fn divided_differences()
         → cleared_u a l k ≡ cleared_u u l k +ℤ (a -ℤ u) *ℤ difference_u a u l k }
 {}
 
-/// `Q_(k+2) = 2 x Q_(k+1) + 2 T_(k+1)(x') - Q_k`, and the same of R with U.
+/// `Q_(k+2) = 2 x Q_(k+1) + 2 T_(k+1)(x') - Q_k`, and the same recurrence for R with U in place of T.
 pub fn difference_recurrences()
     ensures first_kind { (a u l : ℤ) (k : ℕ) → difference_t a u l (suc (suc k))
         ≡ pos 2 *ℤ u *ℤ difference_t a u l (suc k)
@@ -63,7 +63,7 @@ pub fn difference_sums()
         → difference_u a u l k ≡ weighted_sum (u_weight a l) u l k 0 }
 {}
 
-/// With both arguments between -1 and 1, `Q_k` is at most `k^2` in size and `R_k` at most `k (k+1) (k+2) / 3`.
+/// With both arguments from -1 to 1, `Q_k` is at most `k^2` in magnitude and `R_k` at most `k (k+1) (k+2) / 3`.
 pub fn difference_sizes()
     ensures first_kind { (a u l : ℤ) (k : ℕ) → IsArgument a l → IsArgument u l
         → Within (l *ℤ difference_t a u l k) (pos (q_size k) *ℤ power l k) }
@@ -102,7 +102,7 @@ pub fn rows_hold()
         → HoldsIn r_unit (r_row x k) (l *ℤ difference_u a u l k) (power l k) }
 {}
 
-/// Both ends of every entry are within the size that the exact values keep.
+/// The ends of every entry are within the magnitude that the exact values keep.
 pub fn rows_within()
     ensures t { (x : Ival62) → IsArguments x → (k : ℕ)
         → EndsWithin (t_size k * 2 ^ t_unit) (t_row x k) }

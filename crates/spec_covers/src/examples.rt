@@ -1,4 +1,4 @@
-// Worked values of the definitions.
+// Worked values of the definitions of covers. The calls do nothing when they run.
 
 ghost use Rattle.std.specs.Prelude.{◌≡◌, ◌+◌, ◌*◌, ◌^◌, pos, [], ◌∷◌};
 ghost use Rattle.spec_numbers.specs.Numbers.{minus};
@@ -15,14 +15,15 @@ ghost use Rattle.spec_covers.specs.Points.{coordinate_point, point_of};
 ghost use Rattle.spec_covers.specs.Series.{argument_model, middle_argument, place, value_sum};
 ghost use Rattle.spec_covers.specs.Examples.{half, line, numbered, two_to_three};
 
-/// 3 + 2 x, known within 1, is 4 at x = 1/2: it covers what is from 3 to 5 there, and nothing that ends at 6.
+/// The model 3 + 2 x with the error 1 is 4 at x = 1/2. It covers the interval from 3 to 5 there, and none that ends
+/// at 6.
 pub fn covered_intervals()
     ensures both_ends { Covers line (pos 1) (pos 2) (interval (pos 3) (pos 5) (pos 0)) }
     ensures past { Covers line (pos 1) (pos 2) (interval (pos 3) (pos 6) (pos 0)) → ⊥ }
 {}
 
-/// No number near that line is past 6. 5/2 is up to 3 of its units, but not up to 2. Scaled by 2/4 and rounded to units of 1,
-/// these numbers lose two of those at most, and a 2^58th of 3.
+/// No number near the model 3 + 2 x with the error 1 is past 6. 5/2 is up to 3 of its units, but not up to 2. Scaled
+/// by 2/4 and rounded to units of 1, its numbers lose at most two of these and a 2^58th of 3.
 pub fn units_of_models()
     ensures greatest { greatest line ≡ fraction (pos 6) 1 }
     ensures three { IsUpto 3 line (fraction (pos 5) 2) }

@@ -38,8 +38,8 @@ pub fn columns_are_series()
         → IsSpanOf (series_at v.ephemeris number axis c) c d }
 {}
 
-/// An interval is covered by a number that is within the error of both its ends, and 0 alone in whatever units. What an
-/// interval holds is near what covers it.
+/// A constant covers an interval where it is within the error of both ends, and 0 covers 0 alone in whatever units. A
+/// number that an interval holds is near what covers the interval.
 pub fn constants_are_covered()
     ensures ends { (p q a lo hi s : ℤ) (e : ℕ) → IsArgument p q → Within (lo -ℤ a) (pos e)
         → Within (hi -ℤ a) (pos e) → Covers (constant a e s) p q (interval lo hi s) }
@@ -49,7 +49,7 @@ pub fn constants_are_covered()
         → IsFraction r → Covers m p q x → Holds x r → IsNear m p q r }
 {}
 
-/// A product with 2 / length scales, and one with n repeats.
+/// A product with 2 / length scales, and a product with n repeats.
 pub fn products_scale()
     ensures scaled { (m n k : Model) (length : ℕ) → 0 < length → MultipliesTo m n k
         → ((p q : ℤ) → IsArgument p q → IsNear n p q (fraction (pos 2) length))
@@ -58,7 +58,8 @@ pub fn products_scale()
         → RepeatsTo n m k }
 {}
 
-/// What a rule makes of two intervals is covered by what is near what is made of numbers, widened for what is rounded.
+/// The interval that a rule makes of two covered intervals is covered by the model of the operation, widened for what
+/// is rounded.
 pub fn operations_are_covered()
     ensures sum { (m n k : Model) (d : ℕ) → AddsTo m n k
         → IsEnough d k (fraction_add (greatest m) (greatest n))
@@ -90,7 +91,7 @@ pub fn signed_squares_are_products()
         → IsNotPositive (model (x ∷ xs) e s) }
 {}
 
-/// How many units are enough, in whole numbers.
+/// The number of units that is enough for what is rounded, in whole numbers.
 pub fn units_that_are_enough()
     ensures units { (k : Model) (z d a b : ℕ) (t s : ℤ) → s ≡ t +ℤ pos a → k.exponent ≡ t +ℤ pos b
         → z * 2 ^ a ≤ d * 2 ^ b → IsUpto d k (in_units (pos z) s) }
@@ -152,7 +153,7 @@ pub fn u_rows_are_covered()
         → Covers (widened d k) p q (of_entry u_unit (u_row x (suc (suc j)))) }
 {}
 
-/// A sum of coefficients times entries is exact: no coefficients, and one more before others.
+/// The sum of coefficients times entries is covered exactly, by one coefficient more at a time.
 pub fn sums_are_covered()
     ensures multiple { (m k : Model) (j : ℕ) → RepeatsTo (suc j) m k
         → (p q : ℤ) (unit : ℕ) (row : ℕ → Ival62) → IsArgument p q
@@ -164,7 +165,8 @@ pub fn sums_are_covered()
         → Covers rest p q (sums unit row (suc j) cs) → Covers k p q (sums unit row j (c ∷ cs)) }
 {}
 
-/// What is narrowed or scaled is covered by the same model, or what its numbers are scaled to, widened for what is rounded.
+/// A normalized interval is covered by the same model, and a scaled one by the scaled model, each widened for what is
+/// rounded.
 pub fn narrowed_are_covered()
     ensures narrowed { (m : Model) (d : ℕ) → IsEnough d m (greatest m)
         → (p q lo hi s : ℤ) → IsArgument p q → Covers m p q (interval lo hi s)

@@ -1,4 +1,4 @@
-// Worked values of the definitions, by computation.
+// Worked values of the definitions, by computation. The calls do nothing when they run.
 ghost use Rattle.std.specs.Prelude.{◌≡◌, ◌+◌, ◌-◌, ◌*ℤ◌, ◌^◌, true, false, [], ◌∷◌, None, Some, pos, neg_ℤ};
 ghost use Rattle.spec_ephemeris.specs.Header.{IsHeader, IsMassRatio, column_size, has_column};
 ghost use Rattle.spec_ephemeris.specs.Ephemeris.{IsPreferred};
@@ -33,14 +33,14 @@ pub fn positions_on_a_parabola()
     ensures at_end { IsWhole (position parabola (pos 110)) (pos 6) }
 {}
 
-/// A line that grows by 1 km each second has that velocity. The parabola has the slope 2 + 12 x, and x grows by 1/5 each
-/// second.
+/// A line that grows by 1 km each second has that velocity. A parabola of the slope 2 + 12 x, where x grows by 1/5
+/// each second, has a fifth of that slope as its velocity.
 pub fn velocities()
     ensures line { IsWhole (velocity growing_x (pos 1339000)) (pos 1) }
     ensures parabola_at_start { IsWhole (velocity parabola (pos 100)) (neg_ℤ (pos 2)) }
 {}
 
-/// A coefficient of a position is below 2^36 km in size.
+/// A coefficient of a position is below 2^36 km in magnitude.
 pub fn sizes_of_coefficients()
     ensures greatest { IsCoefficient (whole (pos (2 ^ 36 - 1))) }
     ensures least { IsCoefficient (whole (neg_ℤ (pos (2 ^ 36 - 1)))) }
@@ -48,7 +48,7 @@ pub fn sizes_of_coefficients()
 {}
 
 /// A column takes its components times its coefficients times its granules; nutations have two components. In DE405
-/// Venus begins where Mercury ends, and the librations end with the block.
+/// Venus starts where Mercury ends, and the librations end with the block.
 pub fn places_of_columns()
     ensures mercury { 3 + column_size 1 (column 3 14 4) ≡ 171 }
     ensures nutations { 819 + column_size 12 (column 819 10 4) ≡ 899 }
@@ -115,14 +115,15 @@ pub fn times_in_ticks()
         slope.numerator *ℤ pos 1000 ≡ pos slope.denominator }
 {}
 
-/// Of two times as far from the middle the smaller is preferred, and before both one that is nearer.
+/// Of two times as far from the middle the smaller is preferred, and a nearer time before both.
 pub fn preferred_times()
     ensures smaller { IsPreferred (pos 0) (pos 4) (pos 1) (pos 3) }
     ensures larger { IsPreferred (pos 0) (pos 4) (pos 3) (pos 1) → ⊥ }
     ensures nearer { IsPreferred (pos 0) (pos 10) (pos 6) (pos 3) }
 {}
 
-/// Two blocks of 32 days have one border between them, in a span that ends with it and not in one that begins with it.
+/// Two blocks of 32 days have one border between them. It lies in a span that ends with it, and not in one that
+/// starts with it.
 pub fn borders_of_two_blocks()
     ensures upto { nearest_border (of_four_columns 2 []) (1 ∷ []) (pos 2721599) (pos 2721600)
         ≡ Some (pos 2721600) }

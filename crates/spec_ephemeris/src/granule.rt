@@ -5,13 +5,13 @@ use spec_text::Decimal;
 /// A granule of a column: the span of time over which each component of the column is one Chebyshev series.
 #[derive(Clone, Copy)]
 pub struct Granule<'a> {
-    /// The time at which it begins, in seconds or ticks of TDB since J2000, as the times of its ephemeris.
+    /// The time at which the granule starts, in seconds or ticks of TDB since J2000, as its ephemeris counts times.
     pub start: i64,
-    /// Its length, in the same units.
+    /// The length of the granule, in the units of its times.
     pub seconds: i64,
-    /// The coefficients of one component.
+    /// The number of coefficients of one component.
     pub n: usize,
-    /// The components.
+    /// The number of components.
     pub comps: usize,
     /// The coefficients in km, component after component, in each those of T_0, T_1 and so on.
     pub coefs: &'a [Decimal],

@@ -8,11 +8,11 @@ use std::marker::Model;
 /// `coefs` or `granules` is 0 is absent.
 #[derive(Clone, Copy, PartialEq, Eq)]
 pub struct Column {
-    /// The place of its first number in a block, counted from 1.
+    /// The place of the column's first number in a block, counted from 1.
     pub start: u32,
-    /// The coefficients of one component over one granule.
+    /// The number of coefficients of one component over one granule.
     pub coefs: u32,
-    /// The granules of a block, all of one length.
+    /// The number of granules in a block, all of one length.
     pub granules: u32,
 }
 
@@ -32,14 +32,14 @@ impl Model for Columns {
 }
 
 impl Columns {
-    /// The columns of a vector, in its order. It takes no memory.
+    /// Makes a list of the columns of a vector, in its order. It does not allocate.
     pub fn new(items: Vec<Column>) -> Self
         ensures { result ≡ items.items }
     {
         Columns { items }
     }
 
-    /// The columns in their order.
+    /// Returns the columns in their order.
     pub fn as_slice(&self) -> &[Column]
         ensures { result.now ≡ self.now }
     {
@@ -50,7 +50,7 @@ impl Columns {
 /// The facts of a header that later work rests on.
 #[derive(Drop)]
 pub struct Header {
-    /// The numbers of a block.
+    /// The number of numbers in a block.
     pub ncoeff: u32,
     /// The length of a block: in seconds of TDB as it is read, in ticks where an ephemeris counts ticks.
     pub block_seconds: i64,

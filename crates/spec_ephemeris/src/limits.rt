@@ -1,12 +1,12 @@
 // The limits of a header and of an ephemeris.
 
-/// The columns of a header that are read, counted from 1. A header has these at least.
+/// The number of columns of a header that are read, counted from 1. A header has at least these.
 pub const READ_COLUMNS: usize = 13;
 
 /// The most columns of a header. What those past `READ_COLUMNS` hold is not read.
 pub const MAX_COLUMNS: usize = 15;
 
-/// The columns with the positions of bodies are those from 1 to this one.
+/// The number of columns that hold the positions of bodies: the first ones.
 pub const BODY_COLUMNS: usize = 11;
 
 /// The number of the column of nutations, which has two components.
@@ -15,13 +15,13 @@ pub const NUTATIONS: usize = 12;
 /// The first place of a block that a column may take. The two places before it hold the block's Julian dates.
 pub const FIRST_PLACE: u32 = 3;
 
-/// The fewest numbers of a block.
+/// The least number of numbers in a block.
 pub const MIN_NUMBERS: u32 = 3;
 
-/// The most numbers of a block.
+/// The greatest number of numbers in a block.
 pub const MAX_NUMBERS: u32 = 4_096;
 
-/// The most Chebyshev coefficients of a component of a column.
+/// The greatest number of Chebyshev coefficients of a component of a column.
 pub const MAX_COEFFICIENTS: u32 = 32;
 
 /// The seconds of a day. There are no leap seconds in TDB.
@@ -36,7 +36,7 @@ pub const LONGEST_BLOCK: i64 = 5_529_600;
 /// The most ticks of a second, where times are counted in ticks: milliseconds.
 pub const MAX_TICK: u32 = 1_000;
 
-/// The longest block, in the shortest ticks.
+/// The length of the longest block, in the shortest ticks.
 pub const LONGEST_TICKS: i64 = 5_529_600_000;
 
 /// The least mass of the Earth over that of the Moon.

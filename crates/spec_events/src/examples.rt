@@ -1,10 +1,10 @@
-// Worked values of events, by computation.
+// Worked values of events, by computation. The calls do nothing when they run.
 ghost use Rattle.std.specs.Prelude.{pos, ◌≤ℤ◌};
 ghost use Rattle.spec_trees.specs.declared.tree.Turn.TheVariants.{Rise, Fall};
 ghost use Rattle.spec_events.specs.declared.dir.Dir.TheVariants as D;
 ghost use Rattle.spec_events.specs.Events.{Always, IsTurn, IsEvent, IsWantedTurn};
 
-/// What is so from time 3 on rises at 3 and has no event at 4; what is so up to time 3 falls at 4.
+/// A condition that holds from time 3 on rises at 3 and has no event at 4; one that holds up to time 3 falls at 4.
 pub fn turns()
     ensures rises { IsTurn (λ t. pos 3 ≤ℤ t) Rise (pos 3) }
     ensures stays { IsEvent (IsTurn (λ t. pos 3 ≤ℤ t)) (pos 4) → ⊥ }

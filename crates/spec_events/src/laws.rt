@@ -1,4 +1,4 @@
-// The laws about events, and about the windows of a covered span.
+// Laws about events, and about the windows of a covered span. Each is the contract of a function that does nothing.
 ghost use Rattle.std.specs.Prelude.{◌≡◌, ◌<◌, ◌≤◌, ◌⊎◌, ◌↔◌, List, Bool, true, ℤ, ◌<ℤ◌};
 ghost use Rattle.spec_intervals.specs.Fraction.{Fraction};
 ghost use Rattle.spec_events.specs.declared.dir.Dir.{Dir};
@@ -52,7 +52,8 @@ pub fn a_clear_node_holds_no_event()
         → HasNoEvent (EventsOf exact c.dir (guards_of e)) n.a n.b }
 {}
 
-/// A node with one holds exactly one event, a turn in its direction, wherever what was found at the node is true.
+/// A node whose verdict is one event holds exactly one, a turn in its direction, wherever what was found at the node
+/// is true.
 pub fn a_node_with_one_holds_one()
     ensures tests { (p g : ℤ → Bool) (c : Criteria) (n : Node) (f : Findings) (turn : Turn)
         → AreSound (Passes p) (Passes g) n f → verdict c n f ≡ One turn
@@ -62,7 +63,7 @@ pub fn a_node_with_one_holds_one()
         → HoldsOne (EventsOf exact c.dir (guards_of e)) turn (window_of n (Certain turn)) }
 {}
 
-/// The signs that enclosures have, and the step that one has, are true findings.
+/// The signs of enclosures, and the direction of a step, are true findings at a node.
 pub fn enclosures_give_findings()
     ensures sound { (exact : ℤ → Fraction) (n : Node) (e : Evidence) → IsEvidence exact n e
         → AreSound (IsNotNegative exact) (GuardsHold (guards_of e)) n (findings_of e) }
@@ -80,7 +81,8 @@ pub fn undecided_nodes_are_at_a_limit()
         → verdict c n f ≡ Undecided → (width n ≤ c.width) ⊎ (c.depth ≤ n.depth) }
 {}
 
-/// The verdict in the order in which a node is looked at is the verdict: what is not looked at does not change it.
+/// The verdict that is reached in stages, as a node is looked at, is the verdict: what is not looked at does not
+/// change it.
 pub fn verdicts_in_stages()
     ensures same { (c : Criteria) (n : Node) (f : Findings) → n.a <ℤ n.b → 0 < c.width
         → verdict c n f ≡ staged_verdict c n f }

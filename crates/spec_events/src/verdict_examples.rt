@@ -1,4 +1,4 @@
-// Worked verdicts, by computation.
+// Worked verdicts, by computation. The calls do nothing when they run.
 ghost use Rattle.std.specs.Prelude.{◌≡◌, true, false, [], ◌∷◌, pos};
 ghost use Rattle.spec_intervals.specs.declared.signs.Sign.TheVariants.{No, Yes};
 ghost use Rattle.spec_numbers.specs.Numbers.{minus};

@@ -1,4 +1,4 @@
-// Worked values of each definition, by computation.
+// Worked values of each definition, by computation. The calls do nothing when they run.
 
 ghost use Rattle.std.specs.Prelude.{◌≡◌, ◌^◌, ℕ, ℤ, pos};
 ghost use Rattle.spec_intervals.specs.Interval.{interval, zero_interval, cosine_exponent};
@@ -9,8 +9,8 @@ ghost use Rattle.spec_expressions.specs.Term.{Leaf, length, cosine, exact_of, en
 ghost use Rattle.spec_expressions.specs.Vectors.{dot};
 ghost use Rattle.spec_expressions.specs.ExpressionExamples.{clock, clock_over, half_of};
 
-/// A constant is its decimal at each time, and its enclosure has no step. Where there are several times, the range is
-/// narrowed, so that 0 has the exponent 0 there.
+/// A constant is its decimal at each time, and its enclosure has no step. Over several times the range is normalized,
+/// so that 0 has the exponent 0 there.
 pub fn constants()
     ensures exact { exact_of clock (cosine half_of) (pos 7) ≡ fraction (pos 5) 10 }
     ensures enclosed { enclosure_of (clock_over (pos 0) (pos 2)) (pos 0) (pos 2) (cosine half_of)

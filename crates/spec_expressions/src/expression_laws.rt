@@ -1,11 +1,11 @@
-// What is true of the two meanings, whatever the leaves: each law is the contract of a function with nothing to do.
+// Laws of the two meanings of a term, whatever the leaves. Each is the contract of a function that does nothing.
 
 ghost use Rattle.std.specs.Prelude.{◌≤ℤ◌, ℤ};
 ghost use Rattle.spec_intervals.specs.Fraction.{Fraction};
 ghost use Rattle.spec_intervals.specs.Enclosure.{Enclosure, IsEnclosure, AllFractions, IsSpan, AllWithin};
 ghost use Rattle.spec_expressions.specs.Term.{Leaf, Term, LeavesAreNumbers, LeavesAreEnclosed, LeavesAreWithin, leaf_exponent, part_exponent, exact_of, enclosure_of, HasLeaves, IsFormula};
 
-/// Over leaves that are enclosed, every term is: the mid holds its value in the middle, the range each value and the
+/// Where the leaves are enclosed, every term is: the mid holds its value in the middle, the range each value and the
 /// step each change.
 pub fn terms_are_enclosed()
     ensures numbers { (exact : Leaf → ℤ → Fraction) (a b : ℤ) → LeavesAreNumbers exact a b

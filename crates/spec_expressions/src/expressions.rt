@@ -3,8 +3,7 @@
 use spec_text::Decimal;
 
 /// A value that changes with time: made of coordinates of two bodies and of constants.
-///
-/// Positions and lengths are in km, velocities in km a second; cosines are numbers.
+/// Positions and lengths are in km, velocities in km a tick; cosines are numbers.
 #[derive(Drop)]
 pub enum Expr {
     /// A coordinate of a target's position.
@@ -15,12 +14,12 @@ pub enum Expr {
     Length(Decimal),
     /// A constant from -1 to 1.
     Cosine(Decimal),
-    /// The sum.
+    /// The sum of two expressions.
     Add(Box<Expr>, Box<Expr>),
-    /// The first less the second.
+    /// The first expression less the second.
     Sub(Box<Expr>, Box<Expr>),
-    /// The product.
+    /// The product of two expressions.
     Mul(Box<Expr>, Box<Expr>),
-    /// `x |x|`, which has the sign of `x` and grows with it.
+    /// The signed square `x |x|`, which has the sign of `x` and grows with it.
     SignedSquare(Box<Expr>),
 }

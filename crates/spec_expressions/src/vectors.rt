@@ -5,6 +5,6 @@
 pub enum Vector {
     /// The target's position, in km.
     Position(u8),
-    /// The target's velocity, in km a second.
+    /// The target's velocity, in km a tick.
     Velocity(u8),
 }

@@ -1,4 +1,4 @@
-// What the table comes to.
+// Laws of the table of faults. Each is the contract of a function that does nothing.
 ghost use Rattle.std.specs.Prelude.{◌≡◌, ◌∷◌, [], IsTrue, None, Some, codes, drop, false, take, true};
 ghost use Rattle.spec_faults.specs.Faults.{fault_kind, kinds, rise_from};
 ghost use Rattle.spec_faults.specs.Rows.{row};

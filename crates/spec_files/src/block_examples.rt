@@ -60,7 +60,7 @@ pub fn blocks_go_on_in_the_next_file()
         ≡ Err (breaks 1 (line_fault 1 (broken NUMBER 1))) }
 {}
 
-/// The lines before the numbers. The record number may be any.
+/// Record lines that are refused, which stand before the numbers. The record number may be any.
 #[tactic(none)]
 pub fn record_lines_are_refused()
     ensures one_word { read (codes "1" ∷ []) ≡ refused 1 RECORD_LINE 0 }
@@ -72,7 +72,7 @@ pub fn record_lines_are_refused()
     ensures after_a_block { read (first_day ++ codes "GROUP 1010" ∷ []) ≡ refused 4 RECORD_LINE 0 }
 {}
 
-/// The dates of a block.
+/// Dates of a block that are refused.
 #[tactic(none)]
 pub fn spans_are_refused()
     ensures first_date { read (on_one_line (codes "-2451545 x")) ≡ refused 2 BLOCK_SPAN 0 }
@@ -91,7 +91,7 @@ pub fn spans_are_refused()
     ensures one_more_skipped { follows (days MAX_BLOCKS []) (pos 0) (pos 86400) ≡ Ok tt }
 {}
 
-/// The numbers after the dates.
+/// Numbers after the dates that are refused.
 #[tactic(none)]
 pub fn numbers_are_refused()
     ensures no_number { read (open_day ++ codes "1.5.5" ∷ []) ≡ refused 3 NUMBER 1 }
@@ -104,7 +104,7 @@ pub fn numbers_are_refused()
         ≡ refused 5 TOO_LARGE 0 }
 {}
 
-/// The words after the last number of a block, on its line.
+/// Words after the last number of a block, on its line: only zeros are accepted.
 #[tactic(none)]
 pub fn words_after_a_block_are_zeros()
     ensures zeros { read (on_one_line (codes "2451545 2451546 1.5 -2 3 0 -0.0D7")) ≡ one_day }
@@ -114,7 +114,7 @@ pub fn words_after_a_block_are_zeros()
         ≡ refused 2 TRAILING_NUMBERS 0 }
 {}
 
-/// Lines that end within a block, or before the first.
+/// Lines that end within a block, or before the first, are refused.
 #[tactic(none)]
 pub fn blocks_end_early()
     ensures no_line { read [] ≡ Err (ended NO_BLOCK) }

@@ -1,4 +1,4 @@
-// What the definitions of blocks come to.
+// Laws of the definitions of blocks. Each is the contract of a function that does nothing.
 ghost use Rattle.std.specs.Prelude.{◌≡◌, ◌<◌, ◌≤ℤ◌, List, Ok};
 ghost use Rattle.spec_ephemeris.specs.Header.{IsHeader};
 ghost use Rattle.spec_ephemeris.specs.declared.header.Header.{Header};
@@ -17,7 +17,7 @@ pub fn accepted_blocks_are_an_ephemeris()
         → IsHeader h → blocks h lines ≡ Ok e → 0 < e.blocks }
 {}
 
-/// They lie from Julian date 0 to Julian date 5,000,000, in seconds.
+/// Accepted blocks lie from Julian date 0 to Julian date 5,000,000, in seconds.
 pub fn accepted_blocks_lie_in_time()
     ensures first { (h : Header) (lines : List FileLine) (e : Ephemeris)
         → blocks h lines ≡ Ok e → FIRST_TIME ≤ℤ e.start }

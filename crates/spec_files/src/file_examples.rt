@@ -1,4 +1,4 @@
-// Worked examples of the definitions.
+// Worked examples of the definitions of files. The calls do nothing when they run.
 ghost use Rattle.std.specs.Prelude.{◌≡◌, ◌+◌, ◌<◌, [], ◌∷◌, ◌++◌, Err, List, None, Some, codes, length, replicate, ℕ};
 ghost use Rattle.spec_text.specs.declared.limits.TheConstants.{MAX_TEXT_BYTES};
 ghost use Rattle.spec_text.specs.declared.decimals.Fault.{Fault};
@@ -36,7 +36,7 @@ pub fn texts_are_refused()
         ≡ Some (0, fault_at 1 FIRST_LINE) }
 {}
 
-/// Of a file that is known its bytes are known, and where no files are known nothing is said.
+/// The bytes of a file that is known are known, and where no files are known nothing is said.
 pub fn named_files_are_read()
     ensures file { IsFile (Some ((codes "a", 7 ∷ 8 ∷ []) ∷ [])) (codes "a") (7 ∷ 8 ∷ []) }
     ensures files { AreFiles (Some ((codes "a", 7 ∷ []) ∷ (codes "b", 8 ∷ []) ∷ []))

@@ -1,4 +1,4 @@
-// What the definitions come to.
+// Laws of the definitions of files. Each is the contract of a function that does nothing.
 ghost use Rattle.std.specs.Prelude.{◌≡◌, ◌++◌, ◌+◌, ◌<◌, List, None, Some, Ok, Err, length, ℕ};
 ghost use Rattle.spec_text.specs.declared.decimals.Fault.{Fault};
 ghost use Rattle.spec_ephemeris.specs.Ephemeris.{Ephemeris, IsEphemeris};
@@ -43,7 +43,7 @@ pub fn first_faults_stay()
         → first_fault (texts ++ later) ≡ Some (file, fault) }
 {}
 
-/// A fault that texts have whatever follows is their first.
+/// A fault that texts have, whatever follows, is what they are refused for.
 #[tactic(auto, using(crate::proofs::Joining::first_fault_refused))]
 pub fn texts_with_a_fault_are_refused()
     ensures { (texts : List (List ℕ)) (file : ℕ) (fault : Fault)

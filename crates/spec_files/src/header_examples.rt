@@ -13,7 +13,7 @@ pub fn a_header_is_read()
     ensures blank_line { header_with 3 (codes " ") ≡ read_before 17 }
 {}
 
-/// Titles are not looked at, and further words are skipped where only some are counted.
+/// Titles are not looked at, and words after those that count are skipped.
 #[tactic(none)]
 pub fn some_words_are_skipped()
     ensures titles { header_with 3 (codes "1010 GROUP\n1.5.5") ≡ read_before 18 }
@@ -36,8 +36,8 @@ pub fn wider_headers_are_read()
         ≡ read_with (pos 5529600) [] 17 }
 {}
 
-/// A header may have 2,000 constants, blocks of 3 to 4,096 numbers, 32 coefficients of a component, a ratio of masses
-/// from 1 to 1,000, and lines of 4,096 bytes.
+/// Headers at their limits: 2,000 constants, blocks of 3 to 4,096 numbers, 32 coefficients of a component, a ratio of
+/// masses from 1 to 1,000, and lines of 4,096 bytes.
 #[tactic(none)]
 pub fn headers_are_read_at_their_limits()
     ensures constants { text_header (text_of (with_constants (codes "2000") 1_999)) ≡ read_before 17 }
@@ -52,7 +52,7 @@ pub fn headers_are_read_at_their_limits()
     ensures line { header_with 3 (replicate 4_096 65) ≡ read_before 17 }
 {}
 
-/// The lines before the names.
+/// Lines before the names that are refused.
 #[tactic(none)]
 pub fn the_first_lines_are_refused()
     ensures no_ncoeff { header_with 1 (codes "KSIZE= 52") ≡ refused 1 FIRST_LINE 0 }
@@ -66,7 +66,7 @@ pub fn the_first_lines_are_refused()
     ensures long_block { header_with 5 (codes "2451544.50 2451609.50 65.") ≡ refused 5 LIMIT 0 }
 {}
 
-/// The names and the values.
+/// Names and values that are refused.
 #[tactic(none)]
 pub fn the_constants_are_refused()
     ensures many_names { header_with 7 (codes "2001") ≡ refused 7 LIMIT 0 }
@@ -76,7 +76,7 @@ pub fn the_constants_are_refused()
     ensures small_ratio { header_with 11 (codes "0.5 x") ≡ refused 11 EMRAT_RANGE 0 }
 {}
 
-/// The columns, and the end.
+/// Columns, and ends of a header, that are refused.
 #[tactic(none)]
 pub fn the_columns_are_refused()
     ensures twelve_words { header_with 13 (codes "3 9 9 15 15 15 15 15 15 15 21 x")

@@ -1,4 +1,4 @@
-// What the definition of a header comes to.
+// Laws of the definition of a header. Each is the contract of a function that does nothing.
 ghost use Rattle.std.specs.Prelude.{◌≡◌, ◌≤ℤ◌, List, Ok};
 ghost use Rattle.spec_ephemeris.specs.Header.{IsHeader};
 ghost use Rattle.spec_ephemeris.specs.declared.header.Header.{Header};
@@ -12,7 +12,7 @@ pub fn accepted_headers_meet_the_rules()
         → header lines ≡ Ok (h, rest) → IsHeader h }
 {}
 
-/// Its blocks have up to 64 days, counted in seconds.
+/// The blocks of an accepted header have up to 64 days, counted in seconds.
 pub fn accepted_headers_count_seconds()
     ensures { (lines : List FileLine) (h : Header) (rest : List FileLine)
         → header lines ≡ Ok (h, rest) → h.block_seconds ≤ℤ LONGEST_BLOCK }

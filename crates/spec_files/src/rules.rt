@@ -14,14 +14,14 @@ pub struct BrokenRule {
 }
 
 impl BrokenRule {
-    /// The rule of this number, with what the number leaves open.
+    /// Returns the rule of this number, with what the number leaves open.
     pub fn new(number: u8, detail: u16) -> Self
         ensures { result ≡ broken number detail }
     {
         BrokenRule { number, detail }
     }
 
-    /// The fault of the line with this number.
+    /// Returns the fault of the line with this number.
     pub fn at_line(self, line: u32) -> Fault
         ensures { result ≡ line_fault line self }
     {
@@ -33,7 +33,7 @@ impl BrokenRule {
     }
 }
 
-/// What a rule gives for the line of this number: its value, or the fault of the line.
+/// Returns the value that a rule gives, or the fault of the line with this number.
 pub fn ruled_at<T>(line: u32, ruled: Result<T, BrokenRule>) -> Result<T, Fault>
     ensures { result ≡ ruled_at line ruled }
 {

@@ -21,7 +21,7 @@ pub fn coefficients_are_drawn()
     ensures towards_zero { millionths (record { scale = 3; degree = 16 }) 2147483647 ≡ pos 0 }
 {}
 
-/// The first words of the first block, and the word after its last number.
+/// The first words of the first block, and the word after its last number, for the seed 7.
 #[tactic(auto, unfolding(crate::specs::Draws::state_after, crate::specs::Coefficients::term_at, crate::specs::Words::block_word, crate::specs::Words::block_number))]
 pub fn the_first_lines_of_seed_seven()
     ensures record_line { record_line 0 ≡ codes "1 1018" }

@@ -1,4 +1,4 @@
-// What the definition of a generated text comes to.
+// Laws of the definition of a generated text. Each is the contract of a function that does nothing.
 ghost use Rattle.std.specs.Prelude.{◌≡◌, ◌<◌, ◌≤◌, [], ◌∷◌, None, Ok, map, ℕ};
 ghost use Rattle.spec_generated.specs.Coefficients.{IsTermAt, ScaledColumn, place_of, scaled_columns, term_at};
 ghost use Rattle.spec_ephemeris.specs.Ephemeris.{IsEphemeris};

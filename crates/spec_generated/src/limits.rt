@@ -3,13 +3,13 @@
 /// The most blocks of a generated text.
 pub const MAX_GENERATED: u32 = 40;
 
-/// The numbers of a block.
+/// The number of numbers in a block.
 pub const NCOEFF: u32 = 1_018;
 
-/// The draws that a block takes: one for each of its numbers but the two dates.
+/// The number of draws that a block takes: one for each of its numbers but the two dates.
 pub const DRAWS: u32 = 1_016;
 
-/// The lines of a block after its record line, of three words each.
+/// The number of lines of a block after its record line, of three words each.
 pub const ROWS: u32 = 340;
 
 /// The factor of a draw: a state is multiplied by it.

@@ -1,4 +1,4 @@
-// What is true of enclosures, whatever is enclosed: each law is the contract of a function with nothing to do.
+// Laws of enclosures, whatever is enclosed. Each is the contract of a function that does nothing.
 
 ghost use Rattle.std.specs.Prelude.{◌≡◌, ℕ, ◌+◌, ◌≤ℤ◌, ◌<ℤ◌, ℤ, pos, ◌-ℤ◌};
 ghost use Rattle.spec_numbers.specs.Numbers.{minus};
@@ -7,7 +7,7 @@ ghost use Rattle.spec_intervals.specs.Fraction.{Fraction, IsFraction, Holds, fra
 ghost use Rattle.spec_intervals.specs.Enclosure.{Enclosure, triple, IsEnclosure, PartsHold, AllFractions, IsSpan, AllWithin, middle, offsets, change, centred, enclosure, constant_of, sum_of, difference_of, product_of, signed_square_of};
 ghost use Rattle.spec_intervals.specs.Examples.{before_zero, square_before_zero};
 
-/// What is reached from the middle by steps holds each value, and so does what it shares with a plain range.
+/// What steps reach from the middle holds each value, and so does what it has in common with a plain range.
 pub fn parts_are_enclosed()
     ensures centred { (f : ℤ → Fraction) (a b : ℤ) → AllFractions f a b → a ≤ℤ b
         → (mid step : Interval) → Holds mid (f (middle a b))
@@ -36,7 +36,7 @@ pub fn rules_enclose()
         → IsEnclosure (λ t. fraction_signed_square (f t)) a b (signed_square_of a b x) }
 {}
 
-/// A rule moves an exponent by a bounded amount. The times of a span, seen from its middle, need no narrowing.
+/// Bounds by how much a rule moves an exponent. The offsets of a span from its middle are kept exactly.
 pub fn exponents_are_bounded()
     ensures sum { (a b : ℤ) → IsSpan a b → (n : ℕ) (x y : Enclosure) → AllWithin n x → AllWithin n y
         → AllWithin (n + 64) (sum_of a b x y) }
@@ -54,8 +54,8 @@ pub fn middles()
     ensures offsets { offsets (minus 3) (pos 4) ≡ interval (minus 3) (pos 4) (pos 0) }
 {}
 
-/// The time itself from -3 to -1, added to itself, taken from itself and multiplied with itself. At a single time nothing
-/// changes.
+/// Worked values of the time itself from -3 to -1: added to itself, subtracted from itself and multiplied by itself.
+/// At a single time nothing changes.
 pub fn times_before_zero()
     ensures sum { sum_of (minus 3) (minus 1) before_zero before_zero ≡ triple
         (interval (minus 4) (minus 4) (pos 0)) (interval (minus 6) (minus 2) (pos 0))

@@ -1,4 +1,4 @@
-// Worked values of each definition, by computation.
+// Worked values of each definition, by computation. The calls do nothing when they run.
 
 ghost use Rattle.std.specs.Prelude.{◌≡◌, ◌+◌, ◌^◌, pos};
 ghost use Rattle.spec_intervals.specs.Interval.{interval, zero_interval, narrow, sum, difference, product, join, meet, signed_square, scale, from_decimal, distance_exponent, cosine_exponent};
@@ -45,7 +45,7 @@ pub fn products()
     ensures by_zero { product zero_interval (interval (pos 4) (pos 5) (pos 6)) ≡ zero_interval }
 {}
 
-/// Subtracting turns the second interval round 0, also where the first is 0 alone.
+/// Subtracting negates the second interval, also where the first is 0 alone.
 pub fn differences()
     ensures near { difference (interval (minus 3) (pos 5) (pos 0))
         (interval (pos 1) (pos 2) (pos 4)) ≡ interval (minus 35) (minus 11) (pos 0) }
@@ -55,7 +55,8 @@ pub fn differences()
         (interval (pos 0) (pos 0) distance_exponent) ≡ interval (pos 1) (pos 2) (pos 4) }
 {}
 
-/// The join reaches from the lesser low end to the greater high end, the meet the other way round.
+/// The hull reaches from the lesser low end to the greater high end, and the intersection from the greater low end to
+/// the lesser high end.
 pub fn joins_and_meets()
     ensures join { join (interval (pos 1) (pos 2) (pos 0)) (interval (minus 1) (pos 1) (pos 1))
         ≡ interval (minus 2) (pos 2) (pos 0) }
@@ -102,7 +103,7 @@ pub fn fractions()
     ensures decimal { decimal (pos 1382400) (minus 2) ≡ fraction (pos 1382400) 100 }
 {}
 
-/// An interval that begins at 0 is not below 0, and one that ends at 0 is undecided unless it is 0 alone.
+/// An interval that starts at 0 is not below 0, and one that ends at 0 is undecided unless it is 0 alone.
 pub fn signs()
     ensures from_zero { sign_of (interval (pos 0) (pos 4) (pos 0)) ≡ Yes }
     ensures zero { sign_of zero_interval ≡ Yes }

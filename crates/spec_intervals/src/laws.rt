@@ -1,4 +1,4 @@
-// What is true of the rules, whatever the numbers: each law is the contract of a function with nothing to do.
+// Laws of the rules on intervals, whatever the numbers. Each is the contract of a function that does nothing.
 
 ghost use Rattle.std.specs.Prelude.{◌≡◌, ℕ, ◌<◌, ◌≤ℤ◌, ◌<ℤ◌, ℤ, pos, true, false};
 ghost use Rattle.spec_intervals.specs.Interval.{Interval, IsIval, interval, fits_after, narrow_shift, narrow, sum, difference, product, join, meet, signed_square, scale, from_decimal, distance_exponent, cosine_exponent, IsDistance, IsCosine};
@@ -6,13 +6,13 @@ ghost use Rattle.spec_intervals.specs.Fraction.{Fraction, IsFraction, Holds, fra
 ghost use Rattle.spec_intervals.specs.Signs.{sign_of};
 ghost use Rattle.spec_intervals.specs.declared.signs.Sign.TheVariants.{Yes, No};
 
-/// The halvings of a narrowing are enough, and no lesser number of them is.
+/// The shift of a normalization is enough, and no lesser shift is.
 pub fn shift_is_least()
     ensures enough { (lo hi : ℤ) → fits_after (narrow_shift lo hi) lo hi ≡ true }
     ensures none_less { (lo hi : ℤ) (k : ℕ) → k < narrow_shift lo hi → fits_after k lo hi ≡ false }
 {}
 
-/// Narrowing keeps what was held, and gives ends that are in order and within the limit.
+/// Normalizing keeps every number that was held, and gives ends in order that are at most 2^62 in magnitude.
 pub fn narrowing_holds()
     ensures holds { (lo hi s : ℤ) (r : Fraction) → Holds (interval lo hi s) r
         → Holds (narrow lo hi s) r }
@@ -37,13 +37,13 @@ pub fn difference_holds()
         → Holds (difference x y) (fraction_sub r t) }
 {}
 
-/// The join holds whatever one of the two intervals holds.
+/// The hull of two intervals holds every number that one of them holds.
 pub fn join_holds()
     ensures first { (x y : Interval) (r : Fraction) → Holds x r → Holds (join x y) r }
     ensures second { (x y : Interval) (r : Fraction) → Holds y r → Holds (join x y) r }
 {}
 
-/// The meet holds whatever both intervals hold.
+/// The intersection of two intervals holds every number that both hold.
 pub fn meet_holds()
     ensures { (x y : Interval) (r : Fraction) → Holds x r → Holds y r → Holds (meet x y) r }
 {}
@@ -65,7 +65,8 @@ pub fn decimal_holds()
     ensures { (m q s : ℤ) → Holds (from_decimal m q s) (decimal m q) }
 {}
 
-/// A length below 2^36 in units of 2^-24, and a cosine in units of 2^-60, have ends in order and within the limit.
+/// The interval of a length below 2^36 km at the exponent -24, or of a cosine at -60, has ends in order and within
+/// 2^62.
 pub fn decimals_fit()
     ensures distance { (m q : ℤ) → IsDistance m q → IsIval (from_decimal m q distance_exponent) }
     ensures cosine { (m q : ℤ) → IsCosine m q → IsIval (from_decimal m q cosine_exponent) }

@@ -1,4 +1,4 @@
-// What is true of every judged search: each law is the contract of a function with nothing to do.
+// Laws of every judged search. Each is the contract of a function that does nothing.
 ghost use Rattle.std.specs.Prelude.{◌≡◌, ℤ, List};
 ghost use Rattle.spec_trees.specs.declared.tree.Leaf.{Leaf};
 ghost use Rattle.spec_trees.specs.declared.tree.Node.{Node};
@@ -11,7 +11,8 @@ ghost use Rattle.spec_events.specs.Events.{AreWindows, HasNoEvent, HoldsOne};
 ghost use Rattle.spec_events.specs.Marks.{AreRightlyMarked};
 ghost use Rattle.spec_judged.specs.Judged.{IsJudged, IsLeftUndecided, Judged, events};
 
-/// A valid node that is clear holds no event, and one with one holds exactly one, a turn in its direction.
+/// A valid node that is clear holds no event, and one whose verdict is one event holds exactly one, a turn in its
+/// direction.
 pub fn verdicts_are_true()
     ensures clear { (s : Judged) (n : Node) → IsJudged s → IsValid s.rules n
         → s.rules.verdict n ≡ Clear → HasNoEvent (events s) n.a n.b }
@@ -19,16 +20,16 @@ pub fn verdicts_are_true()
         → s.rules.verdict n ≡ One turn → HoldsOne (events s) turn (window_of n (Certain turn)) }
 {}
 
-/// Each of some leaves of the rules has the right mark: a clear one has no event, one with one has exactly one, and
-/// an undecided one is no wider than the width or as deep as the depth.
+/// Each leaf of the rules has the right mark: a clear one has no event, one with a turn has exactly one event, and an
+/// undecided one is no wider than the width or as deep as the depth.
 pub fn leaves_are_rightly_marked()
     ensures { (s : Judged) (ls : List Leaf) → IsJudged s → AreLeaves s.rules ls
         → AreRightlyMarked (events s) (IsLeftUndecided s ls) ls }
 {}
 
-/// The windows of leaves that cover a span are those of its events: they lie in the span in order, hold every event,
-/// each certain one exactly one, and each time of an undecided one lies in one of these leaves that was left
-/// undecided and lies in the window. It holds of any such leaves, and with that of those of a valid node's tree.
+/// The windows of leaves that cover a span are those of its events. They lie in the span in order and hold every
+/// event, each certain one exactly one. Each time of an undecided one lies in a leaf that was left undecided and lies
+/// in the window. This holds for any such leaves, and so for those of a valid node's tree.
 pub fn windows_hold_the_events()
     ensures of_leaves { (s : Judged) (a b : ℤ) (ls : List Leaf) → IsJudged s
         → Covers a ls b → AreLeaves s.rules ls

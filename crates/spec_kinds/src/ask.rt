@@ -15,7 +15,7 @@ pub struct Ask {
     pub target: Body,
     /// The other body, for the kinds that take one; in an occultation the one at the back.
     pub second: Option<Body>,
-    /// From where both are seen.
+    /// The observer, from whom both bodies are seen.
     pub observer: Body,
     /// The axes along which coordinates are measured.
     pub frame: Frame,

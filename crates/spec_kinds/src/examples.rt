@@ -1,4 +1,4 @@
-// Worked values of each definition, by computation.
+// Worked values of each definition, by computation. The calls do nothing when they run.
 
 ghost use Rattle.std.specs.Prelude.{◌≡◌, ◌∷◌, [], None, Some, pos, neg_ℤ, ◌^◌, true};
 ghost use Rattle.spec_ephemeris.specs.declared.body.Body.TheVariants.{Mercury, Venus, Moon, Sun, Earth, Ssb};

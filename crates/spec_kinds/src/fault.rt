@@ -18,7 +18,7 @@ pub enum EventFault {
 impl EventFault {
     ghost use Rattle.spec_kinds.specs.Faults.{number_of};
 
-    /// The number under which the fault is reported: 50, 51 or 52.
+    /// Returns the number under which the fault is reported: 50, 51 or 52.
     pub fn number(self) -> u8
         ensures { result ≡ number_of self }
     {

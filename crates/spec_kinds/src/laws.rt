@@ -1,4 +1,4 @@
-// What is true of asks: each law is the contract of a function with nothing to do.
+// Laws of asks. Each is the contract of a function that does nothing.
 
 ghost use Rattle.std.specs.Prelude.{◌≡◌, ◌≢◌, ◌↔◌, ◌<◌, ℕ, ◌∷◌, All, IsTrue, None, length};
 ghost use Rattle.spec_text.specs.declared.decimals.Decimal.{Decimal};
@@ -24,7 +24,7 @@ pub fn events_are_formulas()
         → AreFormulas (event_of ask) }
 {}
 
-/// Where it has none, the columns of its bodies are there, and no target is the observer.
+/// Where an ask has no fault, the columns of its bodies are there, and no target is the observer.
 pub fn targets_are_there()
     ensures present { (e : Ephemeris) (ask : Ask) → fault_of e ask ≡ None
         → All (HasBody e) (ask.observer ∷ targets_of ask) }
@@ -35,14 +35,14 @@ pub fn targets_are_there()
         → fault_of e ask ≡ None → IsView (view_of_ask e ask) }
 {}
 
-/// So it means a search.
+/// An ask without a fault means a search.
 pub fn asks_mean_searches()
     ensures { (e : Ephemeris) (ask : Ask) (width depth : ℕ) (cut : CutRule)
         → IsEphemeris e → 0 < e.blocks → IsAsk ask → fault_of e ask ≡ None
         → 0 < width → IsSearch (search_of e ask width depth cut) }
 {}
 
-/// What the tests of faults mean.
+/// The tests of faults decide what they are named for.
 pub fn tests_mean()
     ensures body { (e : Ephemeris) (body : Body) → IsTrue (has_body e body) ↔ HasBody e body }
     ensures same { (one other : Body) → IsTrue (is_same one other) ↔ (one ≡ other) }
@@ -50,7 +50,7 @@ pub fn tests_mean()
     ensures cosine { (d : Decimal) → IsTrue (is_cosine d) ↔ IsCosine d.mant d.exp }
 {}
 
-/// Each kind has a row of its own in the table, which is the kind's.
+/// Each kind has a row of its own in the table.
 pub fn kinds_have_rows()
     ensures there { (kind : Kind) → place kind < length rows }
     ensures own { (kind : Kind) → (row_of kind).kind ≡ kind }

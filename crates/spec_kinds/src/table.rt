@@ -9,11 +9,11 @@ use Use::{Needed, Optional, Unused};
 /// How a kind of event uses a body, a frame, an axis or a number.
 #[derive(Clone, Copy, PartialEq, Eq)]
 pub enum Use {
-    /// It has to be there.
+    /// The value has to be there.
     Needed,
-    /// It may be left out.
+    /// The value may be left out.
     Optional,
-    /// It must be left out.
+    /// The value must be left out.
     Unused,
 }
 
@@ -186,14 +186,14 @@ pub const KINDS: [(&str, KindRow); 11] = [
 ];
 
 impl Use {
-    /// Whether it has to be there.
+    /// Tells whether the value has to be there.
     pub fn is_needed(self) -> bool
         ensures { result ≡ is_needed self }
     {
         matches!(self, Needed)
     }
 
-    /// Whether it must be left out.
+    /// Tells whether the value must be left out.
     pub fn is_unused(self) -> bool
         ensures { result ≡ is_unused self }
     {
@@ -202,70 +202,70 @@ impl Use {
 }
 
 impl Kind {
-    /// The name, as words and reports write it.
+    /// Returns the name of the kind, as words and reports write it.
     pub fn name(self) -> &'static str
         ensures { result.now ≡ kind_name self }
     {
         KINDS[self as usize].0
     }
 
-    // The row of the table.
+    // Returns the row of the kind in the table.
     fn row(self) -> KindRow
         ensures { result ≡ row_of self }
     {
         KINDS[self as usize].1
     }
 
-    /// How the second body is used.
+    /// Returns how the kind uses the second body.
     pub fn second(self) -> Use
         ensures { result ≡ (row_of self).second }
     {
         self.row().second
     }
 
-    /// How the frame is used.
+    /// Returns how the kind uses the frame.
     pub fn frame(self) -> Use
         ensures { result ≡ (row_of self).frame }
     {
         self.row().frame
     }
 
-    /// How the axis is used.
+    /// Returns how the kind uses the axis.
     pub fn axis(self) -> Use
         ensures { result ≡ (row_of self).axis }
     {
         self.row().axis
     }
 
-    /// How the reference value is used.
+    /// Returns how the kind uses the reference value.
     pub fn reference(self) -> Use
         ensures { result ≡ (row_of self).reference }
     {
         self.row().reference
     }
 
-    /// What the reference value may be.
+    /// Returns the range of the kind's reference value.
     pub fn range(self) -> Range
         ensures { result ≡ (row_of self).range }
     {
         self.row().range
     }
 
-    /// How the two radii are used.
+    /// Returns how the kind uses the two radii.
     pub fn radii(self) -> Use
         ensures { result ≡ (row_of self).radii }
     {
         self.row().radii
     }
 
-    /// Whether events of the kind are of two bodies.
+    /// Tells whether events of the kind are of two bodies.
     pub fn takes_second(self) -> bool
         ensures { result ≡ takes_second self }
     {
         self.second().is_needed()
     }
 
-    /// Whether events of the kind lie between two discs, whose radii are asked for.
+    /// Tells whether events of the kind lie between two discs, whose radii are asked for.
     pub fn takes_radii(self) -> bool
         ensures { result ≡ takes_radii self }
     {

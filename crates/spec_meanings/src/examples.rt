@@ -26,7 +26,7 @@ pub fn functions_in_motion()
         ≡ pos 1128 }
 {}
 
-/// There, a sphere of the radius 2 and one of 5, 3 and 7 km away.
+/// Occultations in the same scene: a sphere of the radius 2 and one of 5, 3 and 7 km away.
 pub fn occultations_in_motion()
     ensures any { function_worth K.Any (whole (pos 2)) (whole (pos 5)) moving ≡ pos 780 }
     ensures full { function_worth K.Full (whole (pos 2)) (whole (pos 5)) moving ≡ neg_ℤ (pos 20) }

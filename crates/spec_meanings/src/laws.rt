@@ -1,4 +1,4 @@
-// What the kinds of events mean: each law is the contract of a function with nothing to do.
+// Laws of what the kinds of events mean. Each is the contract of a function that does nothing.
 
 ghost use Rattle.std.specs.Prelude.{◌≡◌, [], ℕ, ◌*◌, ◌^◌, ◌<◌, ◌≤◌, ℤ, pos, ◌+ℤ◌, ◌-ℤ◌, ◌*ℤ◌, ◌≤ℤ◌, ◌<ℤ◌, ◌↔◌, unsigned_abs};
 ghost use Rattle.spec_text.specs.declared.decimals.Decimal.{Decimal};
@@ -207,7 +207,7 @@ pub fn changes_of_cosines()
         → separation_change s ≡ dot_change s *ℤ (square s.target *ℤ square s.second) }
 {}
 
-/// The functions of `apsis`, `station` and `sepext` are those polynomials of a scene.
+/// The functions of `apsis`, `station` and `sepext` are the polynomials of a scene that say how its places change.
 pub fn rates()
     ensures apsis { (exact : Leaf → ℤ → Fraction) (t : ℤ) (s : Scene) → Shows exact t s
         → (axis : ℕ) (one other : Decimal)
@@ -223,8 +223,8 @@ pub fn rates()
         ((s.unit * s.unit) * ((s.unit * s.unit) * (s.unit * s.unit))) }
 {}
 
-/// Whatever the exact coordinates at a time, some scene is what they are, with two lengths; so over times that fit those of
-/// each view.
+/// Whatever the exact coordinates at a time, some scene shows them, with two lengths. So over times that fit some
+/// scene shows those of each view.
 pub fn scenes()
     ensures some { (exact : Leaf → ℤ → Fraction) (t : ℤ)
         → ((l : Leaf) → IsLeaf l → IsFraction (exact l t)) → (one other : Decimal)

@@ -1,4 +1,4 @@
-// What is true of inclusion, whatever the intervals: each law is the contract of a function with nothing to do.
+// Laws of inclusion, whatever the intervals. Each is the contract of a function that does nothing.
 ghost use Rattle.std.specs.Prelude.{◌≤ℤ◌, ◌<ℤ◌, ℤ, pos, ◌-ℤ◌};
 ghost use Rattle.spec_intervals.specs.Fraction.{Fraction, Overlaps};
 ghost use Rattle.spec_intervals.specs.Interval.{Interval, lift_limit, narrow, product, sum, negated, difference, signed_square, meet};
@@ -6,8 +6,8 @@ ghost use Rattle.spec_intervals.specs.Enclosure.{AllFractions, PartsHold, offset
 ghost use Rattle.spec_models.specs.Inclusion.{Includes};
 ghost use Rattle.spec_models.specs.Bounds.{IncludesEnclosure, coarsened, coarse_sum, coarse_difference, bound};
 
-/// An interval includes itself; and what includes an interval still does so when it is narrowed or brought to a coarser
-/// unit, and when both are narrowed.
+/// An interval includes itself. Inclusion is kept where the outer interval is normalized or brought to a coarser
+/// unit, and where both are normalized.
 pub fn rounding_keeps_inclusion()
     ensures itself { (x : Interval) → Includes x x }
     ensures narrowed { (y x : Interval) → x.lo ≤ℤ x.hi → Includes y x
@@ -18,7 +18,7 @@ pub fn rounding_keeps_inclusion()
         → Includes (coarsened s y) x }
 {}
 
-/// What includes two intervals makes a sum, a difference and a product that include theirs.
+/// A sum, a difference and a product of outer intervals include those of the intervals that they include.
 pub fn operations_keep_inclusion()
     ensures sum { (p q x y : Interval) → x.lo ≤ℤ x.hi → y.lo ≤ℤ y.hi
         → Includes p x → Includes q y → Includes (coarse_sum p q) (sum x y) }
@@ -28,7 +28,8 @@ pub fn operations_keep_inclusion()
         → Includes p x → Includes q y → Includes (product p q) (product x y) }
 {}
 
-/// What includes an interval makes a negated interval, a signed square and twice a size that include its own.
+/// The negation, the signed square and twice the magnitude of an outer interval include those of an interval that it
+/// includes.
 pub fn functions_keep_inclusion()
     ensures negated { (y x : Interval) → Includes y x → Includes (negated y) (negated x) }
     ensures signed_square { (y x : Interval) → x.lo ≤ℤ x.hi → Includes y x
@@ -37,27 +38,27 @@ pub fn functions_keep_inclusion()
         → Includes (twice_size y) (twice_size x) }
 {}
 
-/// The times of a span as seen from its middle include those of each span within it.
+/// The offsets of a span from its middle include the offsets of each span within it.
 pub fn offsets_include()
     ensures { (a b c d : ℤ) → c ≤ℤ a → a ≤ℤ b → b ≤ℤ d
         → Includes (offsets c d) (offsets a b) }
 {}
 
-/// What includes a plain range includes what it shares with a centred one, once its unit is at most 2^60 below that of what
-/// includes the centred one.
+/// An interval that includes a plain range includes its intersection with a centred one. Its unit must be at most
+/// 2^60 below that of an interval which includes the centred one.
 pub fn meets_are_included()
     ensures { (plain centred y z : Interval) → Overlaps plain centred → Includes y plain → Includes z centred
         → Includes (coarsened (z.s -ℤ pos lift_limit) y) (meet plain centred) }
 {}
 
-/// Where an interval is on one side of 0, so is what it includes.
+/// Where an interval lies on one side of 0, so does each interval that it includes.
 pub fn signs_are_included()
     ensures not_negative { (y x : Interval) → Includes y x → pos 0 ≤ℤ y.lo → pos 0 ≤ℤ x.lo }
     ensures not_positive { (y x : Interval) → Includes y x → y.hi ≤ℤ pos 0 → x.hi ≤ℤ pos 0 }
     ensures negative { (y x : Interval) → Includes y x → y.hi <ℤ pos 0 → x.hi <ℤ pos 0 }
 {}
 
-/// A bound of what an enclosure is made of includes the enclosure, over every span within that of the bound.
+/// A bound of the parts of an enclosure includes the enclosure over every span within that of the bound.
 pub fn bounds_include_enclosures()
     ensures { (f : ℤ → Fraction) (a b c d : ℤ) → c ≤ℤ a → a <ℤ b → b ≤ℤ d
         → AllFractions f a b → (mid plain step range change : Interval)

@@ -1,4 +1,4 @@
-// Worked values of the definitions.
+// Worked values of the definitions of models. The calls do nothing when they run.
 
 ghost use Rattle.std.specs.Prelude.{◌≡◌, pos, [], ◌∷◌};
 ghost use Rattle.spec_numbers.specs.Numbers.{minus};
@@ -15,8 +15,8 @@ pub fn products()
         ≡ pos 3 ∷ pos 2 ∷ minus 8 ∷ [] }
 {}
 
-/// 3 - 4 x + 5 x^2 is at most 12 in size, and changes by at most 14 where x changes by 1; its derivative,
-/// -4 + 10 x, by 10.
+/// 3 - 4 x + 5 x^2 is at most 12 in magnitude, and changes by at most 14 where x changes by 1; its derivative, -4 +
+/// 10 x, changes by at most 10.
 pub fn bounds()
     ensures sizes { sizes (pos 3 ∷ minus 4 ∷ pos 5 ∷ []) ≡ 12 }
     ensures slope { slope (pos 3 ∷ minus 4 ∷ pos 5 ∷ []) ≡ 14 }
@@ -24,7 +24,7 @@ pub fn bounds()
     ensures derivative { derivative (pos 3 ∷ minus 4 ∷ pos 5 ∷ []) ≡ minus 4 ∷ pos 10 ∷ [] }
 {}
 
-/// What is left of 7 - 3 x + x^2, known within 2: in units of 4, and with two coefficients.
+/// The model 7 - 3 x + x^2 with the error 2, raised to units of 4, and cut to two coefficients.
 pub fn parts()
     ensures raised { raised 2 (model (pos 7 ∷ minus 3 ∷ pos 1 ∷ []) 2 (pos 0))
         ≡ model (pos 1 ∷ minus 1 ∷ pos 0 ∷ []) 4 (pos 2) }

@@ -1,4 +1,4 @@
-// What is true of models, whatever the numbers: each law is the contract of a function with nothing to do.
+// Laws of models, whatever the numbers. Each is the contract of a function that does nothing.
 ghost use Rattle.std.specs.Prelude.{◌≡◌, ℕ, suc, ◌+◌, ◌-◌, ◌*◌, ◌^◌, ◌<◌, ◌≤◌, ℤ, pos, ◌+ℤ◌, ◌-ℤ◌, ◌*ℤ◌, ◌≤ℤ◌, neg_ℤ, unsigned_abs, List, [], ◌∷◌, length, take, drop};
 ghost use Rattle.spec_numbers.specs.Numbers.{floor_div, power};
 ghost use Rattle.spec_chebyshev.specs.Differences.{IsArgument, Within};
@@ -6,13 +6,13 @@ ghost use Rattle.spec_intervals.specs.Fraction.{Fraction, IsFraction, fraction, 
 ghost use Rattle.spec_models.specs.Ends.{NoMore, in_units, Under, Over};
 ghost use Rattle.spec_models.specs.Models.{Model, model, at, value, IsNear, constant, argument, bulk, coefficient, added, multiplied, opposite, convolved, products_upto, sizes, weighted_sizes, halved, slope, curvature, derivative, raised, lowered, cut, widened, negated, sum_model, difference_model, product_model};
 
-/// The product of two lists of coefficients is, at each argument, the product of what they are.
+/// The product of two lists of coefficients has, at each argument, the product of their values.
 pub fn products_at()
     ensures { (p q : ℤ) (d e : ℕ) (xs ys : List ℤ) → length xs ≤ d → length ys ≤ e
         → at p q (d + e) (convolved xs ys) ≡ at p q d xs *ℤ at p q e ys }
 {}
 
-/// Between -1 and 1 a polynomial is at most the sizes of its coefficients together.
+/// From -1 to 1 a polynomial is at most the magnitudes of its coefficients together.
 pub fn sizes_at()
     ensures size { (p q : ℤ) (d : ℕ) (xs : List ℤ) → IsArgument p q
         → Within (at p q d xs) (pos (sizes xs) *ℤ power q d) }
@@ -26,7 +26,7 @@ pub fn sizes_at()
         (pos (unsigned_abs (p -ℤ o) * slope xs) *ℤ power q d) }
 {}
 
-/// A number near a model is near one with a greater error, and with greater, lesser or fewer units and coefficients.
+/// A number near a model stays near where the error grows, and where the unit or the number of coefficients changes.
 pub fn changes()
     ensures error { (p q : ℤ) → IsArgument p q → (m : Model) (e : ℕ) (r : Fraction) → m.error ≤ e
         → IsNear m p q r → IsNear (model m.coefficients e m.exponent) p q r }
@@ -38,7 +38,7 @@ pub fn changes()
         → IsNear m p q r → IsNear (cut n m) p q r }
 {}
 
-/// What is made of models is near what is made of numbers near them.
+/// A number made of numbers near models, by negation, sum or product, is near the model made of these models.
 pub fn operations()
     ensures negated { (p q : ℤ) → IsArgument p q → (m : Model) (r : Fraction) → IsNear m p q r
         → IsNear (negated m) p q (fraction (neg_ℤ r.numerator) r.denominator) }
@@ -52,7 +52,8 @@ pub fn operations()
         → IsNear m p q r → IsNear n p q z → IsNear (product_model m n) p q (fraction_mul r z) }
 {}
 
-/// A whole number times what is modelled, and 2^k times it or a part in 2^k of it by the exponent alone.
+/// A number near a model, times a whole number or a power of 2, is near the model that is multiplied so. For powers
+/// of 2 only the exponent changes.
 pub fn multiples()
     ensures whole { (p q : ℤ) → IsArgument p q → (c : ℤ) (m : Model) (r : Fraction) → IsNear m p q r
         → IsNear (model (multiplied c m.coefficients) (unsigned_abs c * m.error) m.exponent)
@@ -65,7 +66,7 @@ pub fn multiples()
         p q (fraction r.numerator (r.denominator * 2 ^ k)) }
 {}
 
-/// What lies between two numbers near a model is near it, and so is each other form of a number near it.
+/// A number between two numbers near a model is near it, and so is each other fraction of the same value.
 pub fn betweens()
     ensures between { (m : Model) (p q : ℤ) (a r b : Fraction) → IsFraction r → NoMore a r
         → NoMore r b → IsNear m p q a → IsNear m p q b → IsNear m p q r }
@@ -88,7 +89,7 @@ pub fn widenings()
         → Over d z r → IsNear m p q r → IsNear (widened e m) p q z }
 {}
 
-/// A number within an error of another is near the model of that one, and only then.
+/// A number is near the model of a constant exactly where it is within the error of it.
 pub fn constants()
     ensures near { (p q : ℤ) → IsArgument p q → (a : ℤ) (e : ℕ) (s : ℤ) (r : Fraction)
         → IsFraction r → NoMore (in_units (a -ℤ pos e) s) r → NoMore r (in_units (a +ℤ pos e) s)
@@ -106,8 +107,8 @@ pub fn constants()
         p q (fraction_mul r z) }
 {}
 
-/// The argument p / q is near its model, p / q times a number is near one with the coefficients moved by one place, and
-/// (a + b p) / c is near x + y p / q where a / c is near x, and b q / c near y.
+/// The argument p / q is near its own model; p / q times a number is near the model with coefficients moved by one
+/// place. (a + b p) / c is near x + y p / q where a / c is near x, and b q / c near y.
 pub fn arguments()
     ensures itself { (p q : ℤ) → IsArgument p q → IsNear argument p q (fraction p (unsigned_abs q)) }
     ensures times { (p q : ℤ) → IsArgument p q → (xs : List ℤ) (e : ℕ) (s : ℤ) (r : Fraction)
@@ -119,7 +120,7 @@ pub fn arguments()
         → IsNear (model (x ∷ y ∷ []) (e + f) s) p q (fraction (a +ℤ b *ℤ p) c) }
 {}
 
-/// A number near a model is at most its bulk in size.
+/// A number near a model is at most the model's bulk in magnitude.
 pub fn bulks()
     ensures above { (p q : ℤ) → IsArgument p q → (m : Model) (r : Fraction) → IsNear m p q r
         → NoMore (in_units (neg_ℤ (pos (bulk m))) m.exponent) r }
@@ -157,8 +158,9 @@ pub fn curvatures()
         ≡ curvature (take i xs) + i * (i - 1) * unsigned_abs (coefficient xs i) }
 {}
 
-/// The polynomial's own value is near the model, and what its value is near, widened by the error, a number near the model
-/// is near. The value is a + p / q times that of the coefficients behind the first, a.
+/// The polynomial's own value is near the model. Where the value is near a second model, each number near the first
+/// is near the second, widened by the first's error. The value is a + p / q times the value of the coefficients after
+/// the first, a.
 pub fn values()
     ensures itself { (p q : ℤ) → IsArgument p q → (m : Model) → IsNear m p q (value m p q) }
     ensures others { (p q : ℤ) → IsArgument p q → (m n : Model) (r : Fraction)
@@ -172,7 +174,7 @@ pub fn values()
         → IsNear n p q (value (model (a ∷ xs) e s) p q) }
 {}
 
-/// The derivative's value is the polynomial's, of the coefficients behind the first, and p / q times that of their derivative.
+/// The derivative's value is the value of the coefficients after the first, and p / q times that of their derivative.
 pub fn derivatives()
     ensures { (p q : ℤ) → IsArgument p q → (x : ℤ) (xs : List ℤ) (n : Model) (e : ℕ) (s : ℤ)
         → IsNear n p q (fraction_add (value (model xs e s) p q)
@@ -180,7 +182,7 @@ pub fn derivatives()
         → IsNear n p q (value (model (derivative (x ∷ xs)) e s) p q) }
 {}
 
-/// Coefficient k of what is made of lists.
+/// The coefficient at place k of lists that are added, multiplied or made otherwise.
 pub fn coefficients()
     ensures added { (xs ys : List ℤ) (k : ℕ)
         → coefficient (added xs ys) k ≡ coefficient xs k +ℤ coefficient ys k }
@@ -198,7 +200,7 @@ pub fn coefficients()
         → coefficient (drop n xs) k ≡ coefficient xs (n + k) }
 {}
 
-/// How long lists of coefficients are, and when two are the same.
+/// The lengths of lists of coefficients, and when two lists are the same.
 pub fn lists()
     ensures added { (xs ys : List ℤ) (d : ℕ) → length xs ≤ d → length ys ≤ d
         → length (added xs ys) ≤ d }
@@ -216,7 +218,7 @@ pub fn lists()
         → IsNear m p q r → IsNear (model ys m.error m.exponent) p q r }
 {}
 
-/// Sizes, and sizes times their places, of one coefficient more.
+/// The magnitudes of coefficients, and their magnitudes times their places, with one coefficient more.
 pub fn sizes_of_parts()
     ensures take { (xs : List ℤ) (i : ℕ)
         → sizes (take (suc i) xs) ≡ sizes (take i xs) + unsigned_abs (coefficient xs i) }

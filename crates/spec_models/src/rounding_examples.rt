@@ -1,4 +1,4 @@
-// Worked values of the definitions.
+// Worked values of the definitions of rounding. The calls do nothing when they run.
 
 ghost use Rattle.std.specs.Prelude.{◌≡◌, ◌+◌, ◌^◌, pos};
 ghost use Rattle.spec_numbers.specs.Numbers.{minus};
@@ -22,7 +22,8 @@ pub fn near_numbers()
     ensures itself { Over (fraction (pos 0) 1) (fraction (pos 1) 1) (fraction (pos 1) 1) }
 {}
 
-/// Narrowing carries 2^62 + 1 one unit up, and 1 one unit down; a 2^58th of the greater size is a little more than 16.
+/// Normalizing moves 2^62 + 1 one unit up, and 1 one unit down; a 2^58th of the greater magnitude is a little more
+/// than 16.
 pub fn narrowed_ends()
     ensures low { low (narrow (pos 1) (pos (2 ^ 62 + 1)) (pos 0)) ≡ fraction (pos 0) 1 }
     ensures high { high (narrow (pos 1) (pos (2 ^ 62 + 1)) (pos 0))

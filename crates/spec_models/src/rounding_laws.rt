@@ -1,10 +1,11 @@
-// How far each rule carries the ends, whatever the intervals: each law is the contract of a function with nothing to do.
+// Laws of how far each rule moves the ends, whatever the intervals. Each is the contract of a function that does
+// nothing.
 ghost use Rattle.std.specs.Prelude.{ℕ, ◌<◌, ◌≤ℤ◌, ℤ};
 ghost use Rattle.spec_intervals.specs.Fraction.{fraction_add, fraction_mul, fraction_scale, fraction_signed_square, fraction_sub};
 ghost use Rattle.spec_intervals.specs.Interval.{Interval, difference, interval, narrow, product, scale, signed_square, sum};
 ghost use Rattle.spec_models.specs.Ends.{IsCornerOver, IsCornerUnder, IsOrdered, Over, Under, high, low, scale_loss, size, slight};
 
-/// Narrowing carries an end outward, and by no more than a 2^58th of the greater size.
+/// Normalizing moves an end outward by at most a 2^58th of the greater magnitude.
 pub fn narrowing_is_near()
     ensures low { (lo hi s : ℤ) → Under (slight (size (interval lo hi s)))
         (low (narrow lo hi s)) (low (interval lo hi s)) }
@@ -36,7 +37,7 @@ pub fn products_are_near()
         IsCornerOver (slight (fraction_mul (size x) (size y))) (product x y) x y }
 {}
 
-/// The ends of a signed square are past those of the ends by no more than a 2^58th of the square of the size.
+/// The ends of a signed square are past the signed squares of the ends by at most a 2^58th of the squared magnitude.
 pub fn signed_squares_are_near()
     ensures low { (x : Interval) → Under (slight (fraction_mul (size x) (size x)))
         (low (signed_square x)) (fraction_signed_square (low x)) }
@@ -44,7 +45,7 @@ pub fn signed_squares_are_near()
         (high (signed_square x)) (fraction_signed_square (high x)) }
 {}
 
-/// The ends of what is scaled are past the scaled ends by no more than two units, and a 2^58th of the scaled size.
+/// The ends of a scaled interval are past the scaled ends by at most two units and a 2^58th of the scaled magnitude.
 pub fn scaling_is_near()
     ensures low { (lo hi s : ℤ) (length : ℕ) → 0 < length
         → Under (scale_loss lo hi s length) (low (scale lo hi s length))

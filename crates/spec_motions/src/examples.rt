@@ -1,4 +1,4 @@
-// Worked values of the definitions, by computation.
+// Worked values of the definitions, by computation. The calls do nothing when they run.
 
 ghost use Rattle.std.specs.Prelude.{◌≡◌, pos};
 ghost use Rattle.spec_intervals.specs.Interval.{zero_interval};
@@ -15,8 +15,8 @@ pub fn positions_of_a_line()
     ensures around { sign_of (position_interval growing_x (pos 1339000) (pos 1339300)) ≡ Open }
 {}
 
-/// Its velocity and its change are 1 alone, as 2^62 in units of 2^-62, and its velocity does not change. Over one time
-/// nothing does.
+/// The velocity of a line, and its change each second, are 1 alone, as 2^62 in units of 2^-62. The velocity does not
+/// change, and over one time nothing does.
 pub fn changes_of_a_line()
     ensures velocity { velocity_interval growing_x before middle ≡ one }
     ensures step { position_step_interval growing_x before middle ≡ one }

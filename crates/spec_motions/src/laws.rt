@@ -1,4 +1,4 @@
-// What the intervals hold, whatever the coefficients: each law is the contract of a function with nothing to do.
+// Laws of the intervals of a series, whatever the coefficients. Each is the contract of a function that does nothing.
 
 ghost use Rattle.std.specs.Prelude.{ℤ};
 ghost use Rattle.spec_ephemeris.specs.Series.{Series, position};

@@ -1,4 +1,4 @@
-// Worked causes.
+// Worked causes and statuses. The calls do nothing when they run.
 ghost use Rattle.std.specs.Prelude.{◌≡◌, None, Some, codes, false, pos, true};
 ghost use Rattle.spec_kinds.specs.declared.fault.EventFault.TheVariants.{SameBody};
 ghost use Rattle.spec_outcomes.specs.declared.refusal.Refusal.TheVariants.{Certificate, Event, File, Memory, NotRead, Outside, TooManyLeaves, Words};
@@ -17,7 +17,7 @@ pub fn causes_have_an_order()
     ensures none { (span whole : Span) → cause_by true None span whole ≡ None }
 {}
 
-/// The statuses of causes.
+/// The status of each cause.
 pub fn statuses_of_causes()
     ensures words { status_of (Words 60 None) ≡ 2 }
     ensures files { status_of (File (codes "a") (record { line = 5; number = 20; detail = 0 })) ≡ 3 }

@@ -1,4 +1,4 @@
-// What is true of every run over an ephemeris.
+// Laws of every run over an ephemeris. Each is the contract of a function that does nothing.
 ghost use Rattle.std.specs.Prelude.{◌≡◌, ◌≢◌, ◌<◌, ◌≤◌, ◌<ℤ◌, ◌≤ℤ◌, ◌-ℤ◌, None, false, pos, true};
 ghost use Rattle.spec_ephemeris.specs.Ephemeris.{Ephemeris, IsEphemeris};
 ghost use Rattle.spec_trees.specs.declared.tree.Node.{Node};
@@ -34,8 +34,8 @@ pub fn causes_are_no_texts()
     ensures unwritten { (refusal : Refusal) → status_of refusal ≢ NOT_WRITTEN }
 {}
 
-/// A certificate may cut a node further than the search does, whatever its verdict: each that is wider than a tick, where it
-/// lies above the deepest ones or has a border inside; and no other.
+/// A certificate may cut a node further than the search does, whatever its verdict. It may cut each node wider than a
+/// tick that lies above the deepest ones or has a border inside, and no other.
 pub fn nodes_may_be_cut_further()
     ensures above { (s : Search) (n : Node) → pos 1 <ℤ (n.b -ℤ n.a) → n.depth < s.depth
         → (cutting s).may n ≡ true }

@@ -10,8 +10,8 @@ use spec_requests::FindAsk;
 use spec_text::Decimal;
 use spec_trees::CutRule;
 
-/// A search: the events that are asked for, how wide the window of one may be, in ticks, how deep nodes are cut, and
-/// where.
+/// A search: the events that are asked for, the greatest width of an event's window in ticks, the depth to which
+/// nodes are cut, and the rule by which they are cut.
 #[derive(Clone, Copy)]
 pub struct Query {
     pub ask: Ask,
@@ -27,8 +27,8 @@ pub struct Span {
     pub upto: i64,
 }
 
-/// The search of a generated text: the conjunctions of Mercury and Venus seen from the Earth, with every option at its
-/// default.
+/// Returns the search of a generated text: the conjunctions of Mercury and Venus seen from the Earth, with every
+/// option at its default.
 pub fn conjunctions() -> Query
     ensures { result ≡ conjunctions }
 {
@@ -51,7 +51,7 @@ pub fn conjunctions() -> Query
     }
 }
 
-/// What the words of `find` search for.
+/// Returns the query that the words of `find` ask for.
 pub fn query_of(find: &FindAsk) -> Query
     ensures { result ≡ query_of find.now }
 {

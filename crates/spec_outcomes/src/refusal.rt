@@ -35,7 +35,7 @@ impl Refusal {
     ghost use Rattle.std.specs.Prelude.{◌≡◌};
     ghost use Rattle.spec_outcomes.specs.Refusals.{of_fault, status_of};
 
-    /// What a fault of an event is to a run; where there is none, memory is out.
+    /// Returns the refusal of a run for a fault of its event, or out of memory where there is none.
     pub fn of_fault(fault: Option<EventFault>) -> Refusal
         ensures { result ≡ of_fault fault }
     {
@@ -45,7 +45,7 @@ impl Refusal {
         }
     }
 
-    /// The status of a run that is refused.
+    /// Returns the status of a run that is refused.
     pub fn status(&self) -> u8
         ensures { result ≡ status_of self.now }
     {
@@ -68,6 +68,7 @@ impl From<WordFault> for Refusal {
 
     ghost from_gives = { λ fault refusal. refusal ≡ of_words fault };
 
+    // Returns the refusal of a run for a fault of its command line, or out of memory.
     fn from(fault: WordFault) -> Self {
         match fault {
             WordFault::NoCommand => Refusal::Words {
@@ -97,6 +98,7 @@ impl From<AllocError> for Refusal {
 
     ghost from_gives = { λ _ refusal. refusal ≡ Memory };
 
+    // Returns out of memory.
     fn from(_: AllocError) -> Self {
         Refusal::Memory
     }

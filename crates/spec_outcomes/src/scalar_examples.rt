@@ -1,4 +1,4 @@
-// Worked windows and outcomes of polynomials.
+// Worked windows and outcomes of polynomials. The calls do nothing when they run.
 ghost use Rattle.std.specs.Prelude.{◌≡◌, ◌∷◌, [], Err, Ok, pos};
 ghost use Rattle.spec_numbers.specs.Numbers.{minus};
 ghost use Rattle.spec_trees.specs.declared.tree.Turn.TheVariants.{Fall, Rise};

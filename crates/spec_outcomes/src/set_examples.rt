@@ -1,4 +1,4 @@
-// Worked signs of relations.
+// Worked signs of relations. The calls do nothing when they run.
 ghost use Rattle.std.specs.Prelude.{◌≡◌};
 ghost use Rattle.spec_intervals.specs.declared.signs.Sign.TheVariants.{No, Open, Yes};
 ghost use Rattle.spec_requests.specs.declared.request.Relation.TheVariants.{AtLeast, Less, Outside, Within};
@@ -15,7 +15,7 @@ pub fn signs_of_relations()
     ensures not_outside { relation_sign Outside Yes No ≡ No }
 {}
 
-/// Where one reference leaves a time open, the other may still settle it.
+/// Where one reference leaves a time open, the other may still decide it.
 pub fn signs_of_open_times()
     ensures less { relation_sign Less Open Open ≡ Open }
     ensures within { relation_sign Within Open Yes ≡ No }

@@ -1,4 +1,4 @@
-// What is true of the sets of every relation.
+// Laws of the sets of every relation. Each is the contract of a function that does nothing.
 ghost use Rattle.std.specs.Prelude.{◌≡◌, ◌<◌, Err, None, Ok, Option, Some, false, true};
 ghost use Rattle.spec_text.specs.declared.decimals.Decimal.{Decimal};
 ghost use Rattle.spec_ephemeris.specs.Ephemeris.{Ephemeris, IsEphemeris};
@@ -28,7 +28,7 @@ pub fn sets_meet_their_relation()
         (possible_spans (related_signs relation (search q e) (search r e) span) span.from span.upto) }
 {}
 
-/// What words within their limits ask for is a query of sets, and so is the query about the second reference.
+/// Words within their limits ask for a query of sets, and so does the query about the second reference.
 pub fn queries_of_sets()
     ensures asked { (find : FindAsk) (ref2 : Option Decimal) (relation : Relation)
         → IsSetWithinLimits find ref2 relation → IsSetQuery (query_of find) }
@@ -36,8 +36,8 @@ pub fn queries_of_sets()
         → IsSetQuery (other_query q ref2) }
 {}
 
-/// The span is looked at first, then the event about the first reference and about the second, then the leaves of the search
-/// about the first and about the second.
+/// The causes against a set, in their order: the span, the event about the first reference and about the second, then
+/// the leaves of the search about the first and about the second.
 pub fn causes_against_sets()
     ensures outside { (relation : Relation) (q r : Query) (e : Ephemeris) (span : Span)
         → is_within span e ≡ false

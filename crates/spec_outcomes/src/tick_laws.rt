@@ -1,4 +1,4 @@
-// What is true of searches that count ticks.
+// Laws of searches that count ticks. Each is the contract of a function that does nothing.
 ghost use Rattle.std.specs.Prelude.{◌≡◌, ◌<◌, Err, List, Ok, Option, false, ℕ};
 ghost use Rattle.spec_text.specs.declared.decimals.Decimal.{Decimal};
 ghost use Rattle.spec_ephemeris.specs.Ephemeris.{Ephemeris, IsEphemeris};
@@ -12,7 +12,7 @@ ghost use Rattle.spec_outcomes.specs.Outcomes.{report_by, report_of};
 ghost use Rattle.spec_outcomes.specs.Queries.{IsQuery, query_of};
 ghost use Rattle.spec_outcomes.specs.Sets.{IsSetQuery, set_of};
 
-/// A span that does not lie in that of the files is refused, and both are named in ticks.
+/// A span that does not lie in the span of the files is refused, and both are named in ticks.
 pub fn spans_are_compared_in_ticks()
     ensures find { (find : FindAsk) (e : Ephemeris)
         → lies_in (asked_in_ticks find e) (files_in_ticks find e) ≡ false
@@ -25,7 +25,7 @@ pub fn spans_are_compared_in_ticks()
         → set_of find ref2 relation e ≡ Err (Outside (asked_in_ticks find e) (files_in_ticks find e)) }
 {}
 
-/// What is written is of the ticks of the span, and of positions at these.
+/// A report is of the ticks of the span, and of positions at these ticks.
 pub fn searches_count_ticks()
     ensures find { (find : FindAsk) (e : Ephemeris) (text : List ℕ)
         → IsEphemeris e → IsInSeconds e → IsTick find.tick → 0 < e.blocks

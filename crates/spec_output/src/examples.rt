@@ -1,4 +1,4 @@
-// Worked lines.
+// Worked lines of reports. The calls do nothing when they run.
 ghost use Rattle.std.specs.Prelude.{◌≡◌, ◌∷◌, ◌++◌, [], None, Some, codes, neg_ℤ, pos, ℤ, List};
 ghost use Rattle.std.specs.Fmt.{decimal};
 ghost use Rattle.spec_ephemeris.specs.declared.body.Body.TheVariants.{Venus};
@@ -97,8 +97,8 @@ pub fn scalars_are_printed()
         ++ codes "END certain 2 undecided 0\n" }
 {}
 
-/// The columns are those of the planets, the Moon, the Sun, nutations and librations; one past them has its number, and an
-/// absent one no line.
+/// The names of columns: the planets, the Moon, the Sun, nutations and librations. A column past them has its number,
+/// and an absent one no line.
 pub fn columns_have_names()
     ensures first { column_name 1 ≡ codes "mercury" }
     ensures moon { column_name 10 ≡ codes "moon" }

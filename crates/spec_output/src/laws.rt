@@ -1,4 +1,4 @@
-// What the definitions of texts say of small cases.
+// Laws of the definitions of texts, with small cases. Each is the contract of a function that does nothing.
 ghost use Rattle.std.specs.Prelude.{◌≡◌, [], ◌∷◌, ◌++◌, None, Some, codes, ℤ};
 ghost use Rattle.std.specs.Fmt.{decimal};
 ghost use Rattle.spec_text.specs.Printed.{IsLine};

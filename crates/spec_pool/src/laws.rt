@@ -1,4 +1,4 @@
-// What pieces of work keep.
+// A law of pieces of work. It is the contract of a function that does nothing.
 ghost use Rattle.spec_trees.specs.Tree.{Rules};
 ghost use Rattle.spec_pool.specs.Accounts.{Account, Balances};
 

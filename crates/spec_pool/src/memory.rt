@@ -8,6 +8,7 @@ use thiserror::Error;
 pub struct Memory;
 
 impl From<AllocError> for Memory {
+    // Returns out of memory.
     fn from(_: AllocError) -> Self {
         Memory
     }

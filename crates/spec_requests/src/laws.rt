@@ -1,4 +1,4 @@
-// What is true of requests: each law is the contract of a function with nothing to do.
+// Laws of requests. Each is the contract of a function that does nothing.
 ghost use Rattle.std.specs.Prelude.{◌≡◌, ◌<◌, ◌++◌, ◌∷◌, [], ℕ, List, Ok, Some};
 ghost use Rattle.std.specs.Fmt.{decimal};
 ghost use Rattle.spec_ephemeris.specs.declared.body.Body.{Body};
@@ -44,7 +44,8 @@ pub fn names_are_read_back()
     ensures milliseconds { tick_of_word (decimal 1_000) ≡ Some 1_000 }
 {}
 
-/// No word but its name is read as any of them.
+/// A word is read as a command, option, kind, body, frame, axis, direction, relation, rule of cutting, layout or tick
+/// only where it is its name.
 pub fn words_stand_for_one_thing()
     ensures commands { (word : List ℕ) (command : CommandName) → command_of word ≡ Some command
         → word ≡ command_name command }

@@ -39,7 +39,7 @@ pub const DEFAULT_WORKERS: u32 = 1;
 /// The most digits of a number of a polynomial.
 pub const MAX_DIGITS_OF_A_FACTOR: usize = 19;
 
-/// The greatest magnitude that so many digits write.
+/// The greatest magnitude that 19 digits write.
 pub const MAX_WRITTEN_FACTOR: u64 = 9_999_999_999_999_999_999;
 
 /// The most digits of a time of a scalar: those of a time that is written as a whole number.

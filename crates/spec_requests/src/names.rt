@@ -9,49 +9,49 @@ use spec_ephemeris::Body;
 use spec_events::Dir;
 use spec_trees::CutRule;
 
-/// The name of a command.
+/// Returns the name of a command.
 pub fn command_name(command: CommandName) -> &'static str
     ensures { result.now ≡ command_name command }
 {
     COMMANDS[command as usize].0
 }
 
-/// The name of a body.
+/// Returns the name of a body.
 pub fn body_name(body: Body) -> &'static str
     ensures { result.now ≡ body_name body }
 {
     BODIES[body as usize].0
 }
 
-/// The name of a frame.
+/// Returns the name of a frame.
 pub fn frame_name(frame: Frame) -> &'static str
     ensures { result.now ≡ frame_name frame }
 {
     FRAMES[frame as usize].0
 }
 
-/// The name of the turns that are wanted.
+/// Returns the name of the turns that are wanted: `any`, `rise` or `fall`.
 pub fn dir_name(dir: Dir) -> &'static str
     ensures { result.now ≡ dir_name dir }
 {
     DIRS[dir as usize].0
 }
 
-/// The name of a rule of cutting.
+/// Returns the name of a rule by which nodes are cut.
 pub fn cut_name(cut: CutRule) -> &'static str
     ensures { result.now ≡ cut_name cut }
 {
     CUTS[cut as usize].0
 }
 
-/// The name of a relation.
+/// Returns the name of a relation.
 pub fn relation_name(relation: Relation) -> &'static str
     ensures { result.now ≡ relation_name relation }
 {
     RELATIONS[relation as usize].0
 }
 
-/// The name of an axis: x, y and z are 0, 1 and 2. Another number has no name.
+/// Returns the name of an axis: x, y and z are 0, 1 and 2. Any other number has the empty name.
 pub fn axis_name(axis: u8) -> &'static str
     ensures { result.now ≡ axis_name axis }
 {
@@ -66,7 +66,7 @@ pub fn axis_name(axis: u8) -> &'static str
     }
 }
 
-/// The name of an option, which two dashes stand before, or of a word of `gen`.
+/// Returns the name of an option, before which two dashes stand, or of a word of `gen`.
 pub fn option_name(option: Named) -> &'static str
     ensures { result.now ≡ option_name option }
 {

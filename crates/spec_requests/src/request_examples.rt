@@ -1,4 +1,4 @@
-// Worked values of requests.
+// Worked values of requests. The calls do nothing when they run.
 ghost use Rattle.std.specs.Prelude.{◌≡◌, ◌∷◌, [], Ok, Err, Some, codes, neg_ℤ, pos, None};
 ghost use Rattle.spec_requests.specs.Requests.{nought, request_of};
 ghost use Rattle.spec_requests.specs.Examples.{scalar_in, scalar_words, search_in, search_words, set_between, set_words, tenths, with_search};
@@ -15,7 +15,7 @@ pub fn requests_of_words()
         ≡ Ok (Gen 3 7 1) }
 {}
 
-/// No word, another command, no file, too many blocks.
+/// Command lines that are refused: no word, another command, no file, too many blocks.
 pub fn faults_of_words()
     ensures no_word { request_of [] ≡ Err NoCommand }
     ensures other { request_of (codes "search" ∷ codes "a" ∷ []) ≡ Err UnknownCommand }
@@ -69,7 +69,8 @@ pub fn requests_of_certificates()
         ∷ codes "a" ∷ [])) ≡ Ok (Verify (search_in (codes "a")) (codes "-")) }
 {}
 
-/// To be checked it has to be named, and its fault comes after those of the search. No other command takes its name.
+/// A certificate that is to be checked has to be named, and its fault comes after those of the search. No other
+/// command takes its name.
 pub fn faults_of_certificates()
     ensures unnamed { request_of (search_words (codes "verify") (codes "a" ∷ []))
         ≡ Err (BadValue opt.Cert) }

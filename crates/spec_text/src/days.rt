@@ -1,9 +1,9 @@
 // Numbers of days.
 
-/// Why a number of days is not taken. Of both it is the first.
+/// Why a number of days is not taken: the first fault, in this order, that it has.
 #[derive(Clone, Copy, PartialEq, Eq)]
 pub enum DaysFault {
-    /// It is no whole number of seconds.
+    /// The days are no whole number of seconds.
     NotWholeSecond,
     /// It is below 0, or more than the most.
     OutOfRange,

@@ -24,7 +24,7 @@ pub enum NumberFault {
 impl NumberFault {
     ghost use Rattle.spec_text.specs.Reading.{fault_number};
 
-    /// The number under which the fault is reported: 1, 2 or 3.
+    /// Returns the number under which the fault is reported: 1, 2 or 3.
     pub fn number(self) -> u16
         ensures { result ≡ fault_number self }
     {

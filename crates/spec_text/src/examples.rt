@@ -1,4 +1,4 @@
-// Worked examples of the definitions.
+// Worked examples of the definitions of decimals, days, lines and tokens. The calls do nothing when they run.
 ghost use Rattle.std.specs.Prelude.{◌≡◌, [], ◌∷◌, Err, None, Ok, Some, codes, neg_ℤ, pos};
 ghost use Rattle.spec_text.specs.Days.{seconds_of_days, seconds_of_julian_date};
 ghost use Rattle.spec_text.specs.Examples.{decimal};
@@ -7,7 +7,7 @@ ghost use Rattle.spec_text.specs.Reading.{reading, whole_of};
 ghost use Rattle.spec_text.specs.declared.days.DaysFault.TheVariants.{NotWholeSecond, OutOfRange};
 ghost use Rattle.spec_text.specs.declared.decimals.NumberFault.TheVariants.{ExponentRange, NotNumber, TooManyDigits};
 
-/// JPL's files write a mark `D` and 18 digits; a point may end the digits, or begin them.
+/// JPL's files write the mark `D` and 18 digits. A point may stand after the digits, or before them.
 pub fn decimals_are_read()
     ensures jpl { reading (codes "0.230542450000000000D+07")
         ≡ Ok (decimal (pos 230542450000000000) (neg_ℤ (pos 11))) }
@@ -18,8 +18,7 @@ pub fn decimals_are_read()
     ensures zero { reading (codes "-0.00e7") ≡ Ok (decimal (pos 0) (pos 0)) }
 {}
 
-/// The answer is the first fault that applies; zeros at the front do not count among the 18 digits, and zeros at the end
-/// do.
+/// The fault is the first that applies. Zeros at the front do not count among the 18 digits, and zeros at the end do.
 pub fn decimals_are_refused()
     ensures no_exponent { reading (codes "1d") ≡ Err NotNumber }
     ensures no_digit { reading (codes ".") ≡ Err NotNumber }
@@ -39,7 +38,7 @@ pub fn whole_numbers_are_read()
     ensures signed { whole_of (codes "+1") ≡ None }
 {}
 
-/// Julian dates in seconds from date 0 on; where two faults apply, the answer is the first.
+/// Julian dates are read in seconds from date 0 on. Where two faults apply, the first is reported.
 #[tactic(none)]
 pub fn julian_dates_are_seconds()
     ensures day { seconds_of_julian_date (decimal (pos 1) (pos 0)) ≡ Ok 86400 }

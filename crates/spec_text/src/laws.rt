@@ -1,4 +1,4 @@
-// What the definitions come to.
+// Laws of decimals, days, lines and tokens. Each is the contract of a function that does nothing.
 ghost use Rattle.std.specs.Prelude.{◌≡◌, ◌*◌, ◌<◌, ◌≤◌, false, true, List, [], ◌∷◌, ◌++◌, ◌^◌, length, All, IfOk, Ok, Result, Some, ℕ};
 ghost use Rattle.std.specs.Str.Lines.{strip_carriage_return};
 ghost use Rattle.spec_text.specs.Bytes.{line_feed};
@@ -10,7 +10,7 @@ ghost use Rattle.spec_text.specs.declared.decimals.Decimal.{Decimal};
 ghost use Rattle.spec_text.specs.declared.decimals.NumberFault.{NumberFault};
 ghost use Rattle.spec_text.specs.declared.limits.TheConstants.{DAY_SECONDS};
 
-/// Every word has an answer, and only one: that which `reading` computes.
+/// Every word is a decimal or has a fault, in one way only: the one that `reading` computes.
 #[tactic(auto, using(crate::proofs::Answering::one_answer, crate::proofs::Answering::reads_reading))]
 pub fn every_word_has_one_answer()
     ensures one { (word : List ℕ) (a b : Result Decimal NumberFault)
@@ -18,18 +18,18 @@ pub fn every_word_has_one_answer()
     ensures computed { (word : List ℕ) → Reads word (reading word) }
 {}
 
-/// A decimal that is read has a `mant` below 10^18 in size, and an `exp` from -139 to 99.
+/// A decimal that is read has a `mant` below 10^18 in magnitude, and an `exp` from -139 to 99.
 pub fn decimals_are_bounded()
     ensures { (word : List ℕ) (d : Decimal) → Reads word (Ok d) → IsWithinBounds d }
 {}
 
-/// A whole number is below 10^9.
+/// A whole number that is read is below 10^9.
 #[tactic(auto, using(crate::proofs::Wholes::whole_bound))]
 pub fn whole_numbers_are_bounded()
     ensures { (word : List ℕ) (n : ℕ) → whole_of word ≡ Some n → n < 10 ^ 9 }
 {}
 
-/// A number of days comes to no more seconds than the most days.
+/// A number of days that is taken has at most as many seconds as the greatest number of days.
 #[tactic(auto, using(crate::proofs::Spans::seconds_few))]
 pub fn days_are_bounded()
     ensures { (most : ℕ) (days : Decimal)
@@ -59,7 +59,7 @@ pub fn tokens_end_at_separators()
         → tokens word ≡ word ∷ [] }
 {}
 
-/// Lines, each ended by a line feed, are the lines of the text that they make, and none of them is skipped.
+/// Lines that are joined with a line feed after each are read back as the same lines, and none of them is skipped.
 #[tactic(auto, using(crate::proofs::Printed::lines_joined, crate::proofs::Printed::text_lines_are))]
 pub fn joined_lines_are_read_back()
     ensures lines { (ls : List (List ℕ)) → AreLines ls → lines (joined_lines ls) ≡ ls }

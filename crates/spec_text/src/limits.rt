@@ -12,7 +12,7 @@ pub const MAX_WORD_BYTES: usize = 40;
 /// The most digits of a decimal, from the first that is not 0.
 pub const MAX_DIGITS: usize = 18;
 
-/// The greatest size of a written exponent.
+/// The greatest magnitude of a written exponent.
 pub const MAX_EXPONENT: u64 = 99;
 
 /// The most digits of a whole number, zeros at the front too.

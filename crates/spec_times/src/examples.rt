@@ -1,4 +1,4 @@
-// Worked values of times and of words for them.
+// Worked values of times, and of words for them. The calls do nothing when they run.
 ghost use Rattle.std.specs.Prelude.{◌≡◌, codes, neg_ℤ, pos, Err, Ok};
 ghost use Rattle.spec_ephemeris.specs.declared.limits.TheConstants.{FIRST_TIME, LAST_TIME};
 ghost use Rattle.spec_times.specs.Calendar.{time_text};
@@ -25,7 +25,8 @@ pub fn whole_numbers_are_times()
     ensures too_long { time_of (codes "1000000000000") ≡ Err NotTime }
 {}
 
-/// 1900 had no leap day; no year is -0; a year that `jiff_core` has no days of is out of range; midnight is hour 0.
+/// Dates that are not read: 1900 had no leap day, no year is -0, a year without days in `jiff_core` is out of range,
+/// and midnight is hour 0.
 #[tactic(none)]
 pub fn dates_must_exist()
     ensures no_leap_day { time_of (codes "1900-02-29T00:00:00") ≡ Err NotTime }

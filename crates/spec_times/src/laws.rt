@@ -1,4 +1,4 @@
-// Laws of times.
+// Laws of times and their texts. Each is the contract of a function that does nothing.
 ghost use Rattle.std.specs.Prelude.{◌≡◌, ◌≤ℤ◌, ◌⊎◌, List, Some, neg_ℤ, pos, ℕ, ℤ, Ok, true};
 ghost use Rattle.jiff_core.specs.Calendar.{days_from_civil, IsCivilDate, IsEpochDay};
 ghost use Rattle.spec_times.specs.Calendar.{calendar_text, calendar_time, day_of_month, is_calendar_time, month_of, time_of_calendar, time_text, year_of};
@@ -6,7 +6,7 @@ ghost use Rattle.spec_times.specs.declared.calendar.CalendarTime.{CalendarTime};
 ghost use Rattle.spec_times.specs.TimeWords.{IsTime, time_of, time_within, whole_time};
 ghost use Rattle.spec_times.specs.Ticks.{IsTimeIn, tick_of, tick_text};
 
-/// The date of each day from -9999-01-01 to 9999-12-31 is one of the calendar, and it is the one with this day's number.
+/// Each day from -9999-01-01 to 9999-12-31 has one date of the calendar, and that date has the day's number.
 
 pub fn days_have_one_date()
     ensures civil { (day : ℤ) → IsEpochDay day
@@ -18,16 +18,16 @@ pub fn days_have_one_date()
         → (y ≡ other) × (m ≡ month) × (d ≡ day) }
 {}
 
-/// A time from Julian date 0 to Julian date 5,000,000 is the one that its calendar time shows, which is one of the
-/// calendar, and its text is read as the time.
+/// A time from Julian date 0 to Julian date 5,000,000 is that of its calendar time, which the calendar has. Its text
+/// is read back as the time.
 pub fn times_are_read_back()
     ensures calendar { (time : ℤ) → IsTime time → is_calendar_time (calendar_time time) ≡ true }
     ensures shown { (time : ℤ) → IsTime time → time_of_calendar (calendar_time time) ≡ time }
     ensures read { (time : ℤ) → IsTime time → time_of (time_text time) ≡ Ok time }
 {}
 
-/// The text of every date and time of day is read: as its time, or as out of range. So a word is out of range only where
-/// its date is one of the calendar.
+/// The text of every date and time of day is read as its time, or as out of range. So only a word with a date of the
+/// calendar is out of range.
 pub fn calendar_texts_are_read()
     ensures { (c : CalendarTime) → is_calendar_time c ≡ true → neg_ℤ (pos 999_999) ≤ℤ c.year
         → c.year ≤ℤ pos 9_999 → time_of (calendar_text c) ≡ time_within c }

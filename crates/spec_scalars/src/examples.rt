@@ -1,4 +1,4 @@
-// Worked values of scalars, by computation.
+// Worked values of scalars, by computation. The calls do nothing when they run.
 ghost use Rattle.std.specs.Prelude.{◌≡◌, pos};
 ghost use Rattle.spec_numbers.specs.Numbers.{minus};
 ghost use Rattle.spec_trees.specs.declared.tree.Turn.TheVariants.{Rise};
@@ -20,7 +20,8 @@ pub fn a_square_less_100()
         ≡ reach (pos 0) (pos 0) (pos 0) (pos 0) }
 {}
 
-/// 3 - 2 t^2 + 5 t, whose square is taken with a factor below 0: from -2 to 3, and from 2 to 4.
+/// The polynomial 3 - 2 t^2 + 5 t, whose square has a factor below 0: what is known of it from -2 to 3, and from 2 to
+/// 4.
 pub fn a_square_turned_over()
     ensures about_0 { quad_reach (quad (minus 2) (pos 5) (pos 3)) (minus 2) (pos 3)
         ≡ reach (minus 25) (pos 18) (minus 5) (pos 11) }
@@ -28,8 +29,8 @@ pub fn a_square_turned_over()
         ≡ reach (minus 19) (pos 15) (minus 9) (minus 5) }
 {}
 
-/// t^2 - 100: a node over whose steps nothing is known is split, or undecided at the depth; by one sign, and by its
-/// ends, one is clear, and one of a single time has its turn.
+/// Verdicts on t^2 - 100: a node over whose steps nothing is known is split, or undecided at the depth. By one sign,
+/// and by its ends, one is clear, and one of a single time has its turn.
 pub fn verdicts_on_a_square()
     ensures root { verdict_of (search_to 40 square_less_100) (node_at (minus 50) (pos 50) 0)
         ≡ Split }

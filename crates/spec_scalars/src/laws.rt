@@ -1,4 +1,4 @@
-// What is true of every search of a scalar: each law is the contract of a function with nothing to do.
+// Laws of every search of a scalar. Each is the contract of a function that does nothing.
 ghost use Rattle.std.specs.Prelude.{◌≡◌, ◌↔◌, ◌≤ℤ◌, ◌<ℤ◌, ◌-ℤ◌, ℤ, List, pos, true};
 ghost use Rattle.spec_trees.specs.declared.tree.Leaf.{Leaf};
 ghost use Rattle.spec_trees.specs.declared.tree.Node.{Node};
@@ -25,7 +25,8 @@ pub fn events_are_passings()
         × (pos 0 ≤ℤ s.scalar.at (t -ℤ pos 1)) × (s.scalar.at t <ℤ pos 0)) }
 {}
 
-/// A valid node that is clear holds no event, and one with one holds exactly one, a turn in its direction.
+/// A valid node that is clear holds no event, and one whose verdict is one event holds exactly one, a turn in its
+/// direction.
 pub fn verdicts_are_true()
     ensures clear { (s : Search) (n : Node) → IsSearch s → IsValid (rules s) n
         → verdict_of s n ≡ Clear → HasNoEvent (events s) n.a n.b }
@@ -49,7 +50,7 @@ pub fn windows_hold_the_events()
         → AreWindows (events s) (judged.IsLeftUndecided (judged_by s) ls) a b (windows ls) }
 {}
 
-/// What is known of a quadratic polynomial over a span is so.
+/// What is known of a quadratic polynomial over a span holds for it.
 pub fn quads_keep_within_their_reach()
     ensures { (k : Quadratic) (a b : ℤ) → a ≤ℤ b → IsReach (quad_at k) a b (quad_reach k a b) }
 {}

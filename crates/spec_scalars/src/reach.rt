@@ -3,12 +3,12 @@
 /// Bounds of a scalar at each time of a span, and of its change from each of them but the last to the next.
 #[derive(Clone, Copy, PartialEq, Eq)]
 pub struct Reach {
-    /// It is no less than this.
+    /// The scalar is no less than this.
     pub lo: i128,
-    /// It is no more than this.
+    /// The scalar is no more than this.
     pub hi: i128,
-    /// Its change is no less than this.
+    /// The change of the scalar is no less than this.
     pub step_lo: i128,
-    /// Its change is no more than this.
+    /// The change of the scalar is no more than this.
     pub step_hi: i128,
 }

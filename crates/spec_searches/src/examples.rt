@@ -1,4 +1,4 @@
-// Worked values of searches, by computation.
+// Worked values of searches, by computation. The calls do nothing when they run.
 ghost use Rattle.std.specs.Prelude.{◌≡◌, None, Some, pos};
 ghost use Rattle.spec_numbers.specs.Numbers.{minus};
 ghost use Rattle.spec_trees.specs.declared.cuts.CutRule.TheVariants.{Half, Third};
@@ -14,7 +14,8 @@ pub fn cuts_at_borders()
         ≡ minus 15163344 }
 {}
 
-/// The parts of a node that is cut at a border keep its depth; those of one that is cut by the rule are one deeper.
+/// The parts of a node that is cut at a border keep its depth; the parts of one that is cut by the rule are one
+/// deeper.
 pub fn parts_of_nodes()
     ensures at_a_border { parts_by Third (Some (minus 17075286))
         (node_at (minus 17075288) (minus 17075251) 17)
@@ -23,7 +24,7 @@ pub fn parts_of_nodes()
         ≡ (node_at (pos 24787864) (pos 24787865) 2, node_at (pos 24787865) (pos 24787866) 2) }
 {}
 
-/// Conditions are asked over a whole node, and at the one time of a node that is one unit wide.
+/// Conditions are tested over a whole node, and at the one time of a node that is one unit wide.
 pub fn times_of_conditions()
     ensures wide { guards_from (root (pos 4) (pos 6)) ≡ pos 4 }
     ensures unit { guards_from (root (pos 4) (pos 5)) ≡ pos 5 }

@@ -1,4 +1,4 @@
-// What is true of every search: each law is the contract of a function with nothing to do.
+// Laws of every search. Each is the contract of a function that does nothing.
 ghost use Rattle.std.specs.Prelude.{◌≡◌, List, true, ℤ};
 ghost use Rattle.spec_expressions.specs.Term.{exact_of};
 ghost use Rattle.spec_bodies.specs.Views.{exact_state};
@@ -15,13 +15,14 @@ ghost use Rattle.spec_events.specs.Soundness.{IsEvidence};
 ghost use Rattle.spec_searches.specs.Search.{IsSearch, Search, events, evidence_at, may_be_cut, parts, verdict_of};
 ghost use Rattle.spec_searches.specs.Found.{IsLeftUndecided, IsSpan, leaves_of, root, rules, windows_of};
 
-/// What is found at a valid node are the enclosures of the function and of the conditions.
+/// The enclosures of the function and of the conditions, over a valid node, are true findings there.
 pub fn what_is_found_is_true()
     ensures { (s : Search) (n : Node) → IsSearch s → IsValid (rules s) n
         → IsEvidence (exact_of (exact_state s.view) s.event.function) n (evidence_at s n) }
 {}
 
-/// A valid node that is clear holds no event, and one with one holds exactly one, a turn in its direction.
+/// A valid node that is clear holds no event, and one whose verdict is one event holds exactly one, a turn in its
+/// direction.
 pub fn verdicts_are_true()
     ensures clear { (s : Search) (n : Node) → IsSearch s → IsValid (rules s) n
         → verdict_of s n ≡ Clear → HasNoEvent (events s) n.a n.b }
@@ -48,8 +49,8 @@ pub fn searches_are_sound()
         → IsValid (rules s) (root first last) }
 {}
 
-/// Valid nodes that are not split, each with the mark of its verdict, are rightly marked, wherever they come from; and where
-/// they follow one another over a span, their windows are those of the events in it.
+/// Valid nodes that are not split, each with the mark of its verdict, are rightly marked, wherever they come from.
+/// Where they follow one another over a span, their windows are those of the events in it.
 pub fn windows_of_any_leaves()
     ensures marks { (s : Search) (ls : List Leaf) → IsSearch s → AreLeaves (rules s) ls
         → AreRightlyMarked (events s) (IsLeftUndecided s ls) ls }
@@ -58,8 +59,8 @@ pub fn windows_of_any_leaves()
         → AreWindows (events s) (IsLeftUndecided s ls) first last (windows ls) }
 {}
 
-/// Each leaf of a valid node has the right mark: a clear one has no event, one with one has exactly one, and an undecided
-/// one is no wider than the width or as deep as the depth.
+/// Each leaf of a valid node has the right mark: a clear one has no event, one with a turn has exactly one event, and
+/// an undecided one is no wider than the width or as deep as the depth.
 pub fn leaves_are_rightly_marked()
     ensures { (s : Search) (n : Node) → IsSearch s → IsValid (rules s) n
         → AreRightlyMarked (events s) (IsLeftUndecided s (leaves (rules s) n))

@@ -1,4 +1,4 @@
-// Worked values of sets, by computation.
+// Worked values of sets, by computation. The calls do nothing when they run.
 ghost use Rattle.std.specs.Prelude.{◌≡◌, ◌∷◌, [], int_le, int_lt, ◌||◌, false, pos, true};
 ghost use Rattle.spec_intervals.specs.declared.signs.Sign.TheVariants.{No, Open, Yes};
 ghost use Rattle.spec_sets.specs.Examples.{falling_leaves, falling_point, four_leaves, point};
@@ -6,7 +6,7 @@ ghost use Rattle.spec_sets.specs.Pairs.{possible_spans, sure_spans};
 ghost use Rattle.spec_sets.specs.Signs.{both, either, is_possible, is_sure, opposite, sign_of_leaves};
 ghost use Rattle.spec_sets.specs.Spans.{spans_of};
 
-/// The times at which a test holds, in their longest runs: times that touch are in one span.
+/// The longest runs of times at which a test holds: times that touch are in one span.
 pub fn runs_of_times()
     ensures two { spans_of (λ t. int_le t (pos 2) || int_le (pos 4) t) (pos 0) (pos 6)
         ≡ (pos 0, pos 2) ∷ (pos 4, pos 6) ∷ [] }
@@ -14,7 +14,8 @@ pub fn runs_of_times()
     ensures none { spans_of (λ t. int_lt t (pos 0)) (pos 0) (pos 6) ≡ [] }
 {}
 
-/// A clear leaf has the sign of its end, one with a rise is told at its end alone, an undecided one is never told.
+/// The signs of four leaves: a clear leaf has the sign of its end, one with a rise is known at its end alone, and an
+/// undecided one is never known.
 pub fn signs_of_four_leaves()
     ensures first { sign_of_leaves point (pos 0) four_leaves (pos 0) ≡ No }
     ensures clear { sign_of_leaves point (pos 0) four_leaves (pos 2) ≡ No }
@@ -31,8 +32,8 @@ pub fn signs_about_a_fall()
     ensures turn { sign_of_leaves falling_point (pos 0) falling_leaves (pos 6) ≡ No }
 {}
 
-/// The signs of a condition's opposite, and of two conditions of which one holds, or both: one that holds is enough for
-/// the one, and one that does not settles the other.
+/// The signs of a condition's opposite, and of two conditions. That either holds is known where one is known to hold,
+/// and that both hold is refuted where one is known not to.
 pub fn signs_of_two_conditions()
     ensures opposite_yes { opposite Yes ≡ No }
     ensures opposite_no { opposite No ≡ Yes }

@@ -1,4 +1,4 @@
-// What is true of sets of times: each law is the contract of a function with nothing to do.
+// Laws of sets of times. Each is the contract of a function that does nothing.
 ghost use Rattle.std.specs.Prelude.{◌≡◌, ◌&&◌, ◌||◌, ◌⊎◌, Bool, not, true, List, ℤ, ◌≤ℤ◌, []};
 ghost use Rattle.spec_intervals.specs.Fraction.{Fraction};
 ghost use Rattle.spec_intervals.specs.declared.signs.Sign.{Sign};
@@ -17,7 +17,7 @@ ghost use Rattle.spec_sets.specs.Points.{point_of};
 ghost use Rattle.spec_sets.specs.Signs.{AreTold, both, either, known, opposite, sign_of_leaves};
 ghost use Rattle.spec_sets.specs.Spans.{AreSpans, Span, earliest, has, is_between, latest, spans_of};
 
-/// The normal form is the only one: two lists of spans that have the same times are one.
+/// Two lists of spans in normal form that have the same times are equal.
 pub fn spans_are_told_by_their_times()
     ensures { (xs ys : List Span) → AreSpans xs → AreSpans ys → ((t : ℤ) → has xs t ≡ has ys t)
         → xs ≡ ys }
@@ -36,7 +36,7 @@ pub fn runs_have_their_times()
         → ((t : ℤ) → has xs t ≡ (is_between from upto t && test t)) → xs ≡ spans_of test from upto }
 {}
 
-/// Leaves that cover a span and are told of a condition give each time of the span a sign that tells of it.
+/// Leaves that cover a span, and whose marks tell of a condition, give each time of the span a sign that tells of it.
 pub fn leaves_tell_of_each_time()
     ensures { (p : ℤ → Bool) (point : ℤ → Sign) (from upto : ℤ) (ls : List TreeLeaf)
         → Covers from ls upto → AreTold (Passes p) ls
@@ -45,7 +45,7 @@ pub fn leaves_tell_of_each_time()
         → Tells (sign_of_leaves point from ls t) (Passes p t) }
 {}
 
-/// Leaves that are rightly marked for all turns of a function are told of where it is at least 0.
+/// Leaves that are rightly marked for all turns of a function tell where it is at least 0.
 pub fn rightly_marked_leaves_tell()
     ensures { (exact : ℤ → Fraction) (u : Node → Bool) (from upto : ℤ) (ls : List TreeLeaf)
         → Covers from ls upto → AreRightlyMarked (EventsOf exact D.Any []) (Passes u) ls
@@ -70,7 +70,8 @@ pub fn points_tell()
         → Tells (point_of answer e t) (IsNotNegative (exact_of exact e) t) }
 {}
 
-/// Signs of a condition's opposite, and of two conditions together, tell of these where those of the conditions do.
+/// The signs of a condition's opposite, and of two conditions together, tell of these where the signs of the
+/// conditions do.
 pub fn signs_together()
     ensures opposite { (x : Sign) (a : Bool) → Tells x (a ≡ true)
         → Tells (opposite x) (a ≡ true → ⊥) }
@@ -80,15 +81,16 @@ pub fn signs_together()
         → Tells y (b ≡ true) → Tells (both x y) ((a ≡ true) × (b ≡ true)) }
 {}
 
-/// Signs together are exact: where those of the conditions are known, so is that of the opposite, of either and of both.
+/// The signs of conditions together are exact: where those of the conditions are known, so is that of the opposite,
+/// of either and of both.
 pub fn known_signs_together()
     ensures opposite { (a : Bool) → opposite (known a) ≡ known (not a) }
     ensures either { (a b : Bool) → either (known a) (known b) ≡ known (a || b) }
     ensures both { (a b : Bool) → both (known a) (known b) ≡ known (a && b) }
 {}
 
-/// Sets are exact: where the sign of each time of a span is known, the sure times are those that meet the condition, and
-/// so are the possible ones.
+/// The sets of a condition are exact: where the sign of each time of a span is known, the sure times are those that
+/// meet the condition, and so are the possible ones.
 pub fn known_signs_give_one_set()
     ensures sure { (p : ℤ → Bool) (sign : ℤ → Sign) (from upto : ℤ) (sure maybe : List Span)
         → AreOf sign from upto sure maybe

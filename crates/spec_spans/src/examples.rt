@@ -1,4 +1,4 @@
-// Worked values of windows that are joined, of blocks and of pieces, by computation.
+// Worked values of joined windows, of blocks and of pieces, by computation. The calls do nothing when they run.
 ghost use Rattle.std.specs.Prelude.{◌≡◌, ◌∷◌, ◌++◌, [], pos};
 ghost use Rattle.spec_trees.specs.declared.tree.Turn.TheVariants.{Rise};
 ghost use Rattle.spec_trees.specs.declared.window.Holds.TheVariants.{Certain, Undecided};
@@ -11,8 +11,8 @@ ghost use Rattle.spec_spans.specs.Pieces.{AreSeams, leaves_of_pieces};
 ghost use Rattle.spec_spans.specs.Searches.{some_blocks};
 ghost use Rattle.spec_spans.specs.Seams.{block_start};
 
-/// An undecided window that ends with a span and one that begins with the next are one; a tick between them, or a
-/// certain window, keeps windows apart.
+/// An undecided window that ends with a span and one that starts with the next are joined into one. A tick between
+/// them, or a certain window, keeps windows apart.
 pub fn windows_joined()
     ensures one { joined earlier later
         ≡ window (pos 1) (pos 1) (Certain Rise) ∷ window (pos 4) (pos 8) Undecided
@@ -22,13 +22,14 @@ pub fn windows_joined()
     ensures none { joined [] later ≡ later }
 {}
 
-/// The last of three blocks of 100 ticks begins 200 ticks after the first; the last two alone have their own numbers.
+/// The last of three blocks of 100 ticks starts 200 ticks after the first; the last two alone have their own numbers.
 pub fn blocks_alone()
     ensures start { block_start three_blocks 2 ≡ pos 1200 }
     ensures last_two { some_blocks 1 2 three_blocks ≡ last_two_blocks }
 {}
 
-/// Two times cut a span into three pieces, and none cuts it. Times that are cut at lie inside of the span, in order.
+/// Two times cut a span into three pieces, and no time leaves it whole. The times of the cuts lie inside the span, in
+/// order.
 pub fn pieces_of_a_span()
     ensures whole { (s : Search) → leaves_of_pieces s (pos 0) [] (pos 20) ≡ leaves_of s (pos 0) (pos 20) }
     ensures three { (s : Search) → leaves_of_pieces s (pos 0) (pos 5 ∷ pos 9 ∷ []) (pos 20)

@@ -1,4 +1,4 @@
-// The laws of neighbouring spans: each law is the contract of a function with nothing to do.
+// Laws of neighbouring spans. Each is the contract of a function that does nothing.
 ghost use Rattle.std.specs.Prelude.{◌≡◌, ◌⊎◌, ◌++◌, ◌<ℤ◌, ◌+ℤ◌, Contains, IsTrue, List, pos, ℕ, ℤ};
 ghost use Rattle.spec_ephemeris.specs.Ephemeris.{Ephemeris, IsBorder, IsEphemeris};
 ghost use Rattle.spec_ephemeris.specs.Header.{has_column};
@@ -36,8 +36,8 @@ pub fn leaves_meet_at_borders()
         → leaves_of (over_blocks skipped count s) first last ≡ leaves_of s first last }
 {}
 
-/// Wherever spans meet, the windows of the one and those of the other, joined or side by side, keep every promise of
-/// the windows of both, where the leaves that are left undecided are those of the two.
+/// The windows of two spans that meet, joined or side by side, keep every promise of the windows of both. The
+/// undecided leaves are those of the two.
 pub fn neighbouring_spans()
     ensures joined { (s : Search) (first time last : ℤ) → IsSearch s → IsSpan s first time
         → IsSpan s time last

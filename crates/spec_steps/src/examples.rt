@@ -1,4 +1,4 @@
-// Worked values of each definition, by computation.
+// Worked values of each definition, by computation. The calls do nothing when they run.
 
 ghost use Rattle.std.specs.Prelude.{◌≡◌, length};
 ghost use Rattle.spec_expressions.specs.Term.{leaf, position, velocity, product as product_of};
@@ -9,8 +9,8 @@ ghost use Rattle.spec_steps.specs.declared.steps.Step.TheVariants.{Scaled, Sum};
 ghost use Rattle.spec_steps.specs.Steps.{AreSteps, IsStep, term_at, terms_of};
 ghost use Rattle.spec_steps.specs.Examples.{from_the_earth, from_the_moon, earth_steps};
 
-/// The Earth from the Moon is read from the Moon's column alone; Mars from the Earth, along the ecliptic's y, from that of
-/// Mars and the two of the Earth and the Moon, along both axes that turn.
+/// The Earth from the Moon is read from the Moon's column alone. Mars from the Earth, along the ecliptic's y, is read
+/// from the column of Mars and the two of the Earth and the Moon, along both axes that turn.
 pub fn coordinates_down_to_columns()
     ensures earth_from_the_moon { of_leaf from_the_moon (position 0 0)
         ≡ difference zero_term (column Position 10 0) }
@@ -40,7 +40,7 @@ pub fn steps_of_the_earth()
         ≡ difference (column Position 3 0) (scaled MoonShare (column Position 10 0)) }
 {}
 
-/// A step has no operand that is not made before it.
+/// The operands of a step are made before it.
 pub fn operands_are_earlier()
     ensures own { IsStep 1 (Sum 0 1) → ⊥ }
     ensures later { IsStep 1 (Scaled Sine 2) → ⊥ }

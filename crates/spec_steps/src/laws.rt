@@ -1,4 +1,4 @@
-// What is true of terms over columns: each law is the contract of a function with nothing to do.
+// Laws of terms over columns. Each is the contract of a function that does nothing.
 
 ghost use Rattle.std.specs.Prelude.{◌≡◌, ◌<◌, ℕ, ℤ};
 ghost use Rattle.spec_text.specs.declared.decimals.Decimal.{Decimal};
@@ -29,8 +29,8 @@ pub fn terms_mean_their_formulas()
         → point_meant v c t (of_term (sight_of v) e) ≡ point_of (state_point v c t) e }
 {}
 
-/// Each coordinate of a target along an axis is made of the columns in use, by a short formula; so its term and that of
-/// each formula may stand in a list.
+/// Each coordinate of a target along an axis is a short formula of the columns in use. So its term, and that of each
+/// formula, may stand in a list.
 pub fn what_may_be_listed()
     ensures coordinates { (s : Sight) (target axis : ℕ) → axis < 3
         → IsSeen s (coordinate_of s target axis) }
@@ -38,7 +38,7 @@ pub fn what_may_be_listed()
     ensures formulas { (s : Sight) (e : Term) → IsFormula e → IsPart s (of_term s e) }
 {}
 
-/// The parts of what may stand in a list may stand in it.
+/// The parts of a term that may stand in a list may stand in it too.
 pub fn parts_may_be_listed()
     ensures scaled { (s : Sight) (f : Factor) (x : ColumnTerm) → IsPart s (scaled f x) → IsPart s x }
     ensures sums { (s : Sight) (x y : ColumnTerm) → IsPart s (sum x y) → IsPart s x × IsPart s y }
@@ -49,7 +49,7 @@ pub fn parts_may_be_listed()
     ensures squares { (s : Sight) (x : ColumnTerm) → IsPart s (signed_square x) → IsPart s x }
 {}
 
-/// The constants of a list are those of formulas, within the limits of these.
+/// The constants of a list are those of formulas, within the limits of formulas.
 pub fn listed_constants_are_within_limits()
     ensures lengths { (s : Sight) (d : Decimal) → IsPart s (length d) → IsDistance d.mant d.exp }
     ensures cosines { (s : Sight) (d : Decimal) → IsPart s (cosine d) → IsCosine d.mant d.exp }

@@ -1,4 +1,4 @@
-// What is true of lists of steps: each law is the contract of a function with nothing to do.
+// Laws of lists of steps. Each is the contract of a function that does nothing.
 
 ghost use Rattle.std.specs.Prelude.{◌≡◌, ◌<◌, ◌++◌, ◌∷◌, [], ℕ, List, length, slice_index_or};
 ghost use Rattle.spec_steps.specs.declared.sights.Sight.{Sight};

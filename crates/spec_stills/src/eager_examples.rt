@@ -1,4 +1,4 @@
-// Worked values of eager trees, by computation.
+// Worked values of eager trees, by computation. The calls do nothing when they run.
 ghost use Rattle.std.specs.Prelude.{◌≡◌, [], ◌∷◌, true, false, pos};
 ghost use Rattle.spec_trees.specs.declared.cuts.CutRule.TheVariants.{Half};
 ghost use Rattle.spec_trees.specs.declared.tree.Verdict.TheVariants.{Clear, Split};

@@ -1,4 +1,4 @@
-// What is true of eager trees: each law is the contract of a function with nothing to do.
+// Laws of eager trees. Each is the contract of a function that does nothing.
 ghost use Rattle.std.specs.Prelude.{◌≤◌, All, List};
 ghost use Rattle.spec_trees.specs.declared.tree.Node.{Node};
 ghost use Rattle.spec_trees.specs.Tree.{IsSound, IsValid, leaf_count, leaves};
@@ -16,7 +16,7 @@ pub fn eager_trees_are_sound()
         → IsValid (eager_rules s xs) n }
 {}
 
-/// By still spans, the tree has no more leaves than those of the eager tree weigh.
+/// The tree of a search has no more leaves than the leaves of its eager tree weigh, where the spans are still.
 pub fn eager_trees_weigh_enough()
     ensures { (s : Search) (xs : List StillSpan) (n : Node) → IsSearch s → All (IsStill s) xs
         → IsValid (rules s) n

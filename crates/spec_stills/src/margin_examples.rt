@@ -1,4 +1,4 @@
-// Worked values of the definitions.
+// Worked values of margins. The calls do nothing when they run.
 
 ghost use Rattle.std.specs.Prelude.{◌≡◌, ◌*◌, ◌^◌, pos};
 ghost use Rattle.spec_numbers.specs.Numbers.{minus};

@@ -5,8 +5,8 @@ use Rattle.gf_words.specs.Readings.{values_of}
 use Rattle.gf_words.proofs.Filling.{scalar_bad, scalar_found}
 use Rattle.gf_words.proofs.scalars.scalar_request.Goals as goal
 
-pub found-requires : goal.found-requires
-found-requires c = (scalar_found (values_of c.args.matches.now) c.in-Ok.options c.in-Ok.ensures).0
+pub scalar_of_options-requires : goal.scalar_of_options-requires
+scalar_of_options-requires c = (scalar_found (values_of c.args.matches.now) c.in-Ok.options c.in-Ok.ensures).0
 
 pub returns-in-Ok-scalar_of_options : goal.returns-in-Ok-scalar_of_options
 returns-in-Ok-scalar_of_options c =

@@ -4,13 +4,13 @@ use Rattle.gf_words.specs.Readings.{file_names_of, values_of}
 use Rattle.gf_words.proofs.Filling.{search_bad, search_found}
 use Rattle.gf_words.proofs.searches.search_of_target.Goals as goal
 
-pub found-requires-clause-search : goal.found-requires-clause-search
-found-requires-clause-search c =
+pub search_of_options-requires-clause-search : goal.search_of_options-requires-clause-search
+search_of_options-requires-clause-search c =
     (search_found (values_of c.args.matches.now) (file_names_of c.args.matches.now) c.args.kind c.args.target c.dir.result c.in-Ok.search
     c.in-Ok.dir (record { kind_is = c.requires.kind; target_is = c.requires.target }) c.dir.ensures c.in-Ok.ensures).0.0
 
-pub found-requires-clause-turns : goal.found-requires-clause-turns
-found-requires-clause-turns c =
+pub search_of_options-requires-clause-turns : goal.search_of_options-requires-clause-turns
+search_of_options-requires-clause-turns c =
     (search_found (values_of c.args.matches.now) (file_names_of c.args.matches.now) c.args.kind c.args.target c.dir.result c.in-Ok.search
     c.in-Ok.dir (record { kind_is = c.requires.kind; target_is = c.requires.target }) c.dir.ensures c.in-Ok.ensures).0.1
 

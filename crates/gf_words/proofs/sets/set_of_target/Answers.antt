@@ -5,14 +5,14 @@ use Rattle.gf_words.specs.Readings.{file_names_of, values_of}
 use Rattle.gf_words.proofs.Filling.{set_bad, set_found}
 use Rattle.gf_words.proofs.sets.set_of_target.Goals as goal
 
-pub found-requires-clause-search : goal.found-requires-clause-search
-found-requires-clause-search c =
+pub set_of_options-requires-clause-search : goal.set_of_options-requires-clause-search
+set_of_options-requires-clause-search c =
     (set_found (values_of c.args.matches.now) (file_names_of c.args.matches.now) c.args.kind c.args.target c.read_references.result
     c.in-Ok.search c.in-Ok.references (record { kind_is = c.requires.kind; target_is = c.requires.target }) c.read_references.ensures
     c.in-Ok.ensures).0.0
 
-pub found-requires-clause-references : goal.found-requires-clause-references
-found-requires-clause-references c =
+pub set_of_options-requires-clause-references : goal.set_of_options-requires-clause-references
+set_of_options-requires-clause-references c =
     (set_found (values_of c.args.matches.now) (file_names_of c.args.matches.now) c.args.kind c.args.target c.read_references.result
     c.in-Ok.search c.in-Ok.references (record { kind_is = c.requires.kind; target_is = c.requires.target }) c.read_references.ensures
     c.in-Ok.ensures).0.1

@@ -7,8 +7,8 @@ use Rattle.pool_core.specs.Views.{Goes, own_step}
 use Rattle.pool_core.proofs.Stepping.{hand_valid, keeps, own_ok, own_refuses, own_steps}
 use Rattle.pool_core.proofs.pool.Pool.take_own.Goals as goal
 
-pub take-requires-after_bounds : goal.take-requires-after_bounds
-take-requires-after_bounds g c κs within =
+pub take_own_step-requires-after_bounds : goal.take_own_step-requires-after_bounds
+take_own_step-requires-after_bounds g c κs within =
     let ws = c.self.inside.workers.items in
     let at = slice_get_read ws (length ws) c.args.w c.index_mut-worker.result.now (λ i. length ws) (omega arith) c.index_mut-worker.ensures.value in
     hand_valid (g.J.Judge.rules c.self.inside.judge) c.self.inside.root ws c.self.inside.entered.items c.args.w c.index_mut-worker.result.now c.self.invariant at

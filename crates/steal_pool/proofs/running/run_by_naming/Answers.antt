@@ -5,17 +5,17 @@ use Rattle.steal_pool.proofs.Returning.{count_named, ended_full, ended_ok, leave
 use Rattle.steal_pool.proofs.Within.{named_sound}
 use Rattle.steal_pool.proofs.running.run_by_naming.Goals as goal
 
-pub book_of-requires-clause-sound : goal.book_of-requires-clause-sound
-book_of-requires-clause-sound g c = named_sound g.N.Naming.rules (g.J.Judge.rules c.args.judge.now) c.args.root c.requires.rules.0 c.requires.rules.1 c.rules_are_sound.ensures
+pub book_or_error-requires-clause-sound : goal.book_or_error-requires-clause-sound
+book_or_error-requires-clause-sound g c = named_sound g.N.Naming.rules (g.J.Judge.rules c.args.judge.now) c.args.root c.requires.rules.0 c.requires.rules.1 c.rules_are_sound.ensures
 
-pub book_of-requires-clause-ok : goal.book_of-requires-clause-ok
-book_of-requires-clause-ok g c =
+pub book_or_error-requires-clause-ok : goal.book_or_error-requires-clause-ok
+book_or_error-requires-clause-ok g c =
     ended_ok g.N.Naming.rules c.args.root c.in-Ok.ledger c.in-Ok-make_and_work.seats.items c.in-Ok-make_and_work.ensures.seats
     (c.in-Ok-make_and_work.ensures.count ∙ c.in-Ok.ensures.count ∙ sym (ap (λ (t : LedgerTerms). t.seats) c.in-Ok.ensures.terms))
     c.finish-ended.result c.finish-ended.ensures.back (c.finish-ended.ensures.leaves c.args.root c.in-Ok-make_and_work.ensures.account)
 
-pub book_of-requires-clause-full : goal.book_of-requires-clause-full
-book_of-requires-clause-full g c =
+pub book_or_error-requires-clause-full : goal.book_or_error-requires-clause-full
+book_or_error-requires-clause-full g c =
     ended_full g.N.Naming.rules c.args.root c.in-Ok.ledger c.in-Ok-make_and_work.seats.items c.in-Ok-make_and_work.ensures.seats
     (c.in-Ok-make_and_work.ensures.count ∙ c.in-Ok.ensures.count ∙ sym (ap (λ (t : LedgerTerms). t.seats) c.in-Ok.ensures.terms))
     c.finish-ended.result c.finish-ended.ensures.too_many c.finish-ended.ensures.refused (c.finish-ended.ensures.left_over c.args.root c.in-Ok-make_and_work.ensures.account)

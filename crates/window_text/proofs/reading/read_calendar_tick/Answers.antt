@@ -30,29 +30,29 @@ slice_bounds-digits_value-end c =
     let long = length_of_fraction c.args.word.now _ c.has_fraction.ensures c.if-has_fraction.true in
     let back = c.split_at.ensures.back_len in omega arith
 
-pub value-requires : goal.value-requires
-value-requires c =
+pub digits_value-requires : goal.digits_value-requires
+digits_value-requires c =
     let long = length_of_fraction c.args.word.now _ c.has_fraction.ensures c.if-has_fraction.true in
     let back = c.split_at.ensures.back_len in omega (arith, length-drop {A = ℕ}, length-take {A = ℕ})
 
-pub tick_from-requires-clause-tick : goal.tick_from-requires-clause-tick
-tick_from-requires-clause-tick c =
+pub tick_after-requires-clause-tick : goal.tick_after-requires-clause-tick
+tick_after-requires-clause-tick c =
     c.requires
 
-pub tick_from-requires-clause-second : goal.tick_from-requires-clause-second
-tick_from-requires-clause-second c =
+pub tick_after-requires-clause-second : goal.tick_after-requires-clause-second
+tick_after-requires-clause-second c =
     c.read_calendar_time.ensures.bound
 
-pub tick_from-requires-clause-past : goal.tick_from-requires-clause-past
-tick_from-requires-clause-past c =
+pub tick_after-requires-clause-past : goal.tick_after-requires-clause-past
+tick_after-requires-clause-past c =
     c.digits_value.ensures.bound
 
-pub tick_from-requires-else-tick-eq1000-clause-tick : goal.tick_from-requires-else-tick-eq1000-clause-tick
-tick_from-requires-else-tick-eq1000-clause-tick c =
+pub tick_after-requires-else-tick-eq1000-clause-tick : goal.tick_after-requires-else-tick-eq1000-clause-tick
+tick_after-requires-else-tick-eq1000-clause-tick c =
     c.requires
 
-pub tick_from-requires-else-tick-eq1000-clause-second : goal.tick_from-requires-else-tick-eq1000-clause-second
-tick_from-requires-else-tick-eq1000-clause-second c =
+pub tick_after-requires-else-tick-eq1000-clause-second : goal.tick_after-requires-else-tick-eq1000-clause-second
+tick_after-requires-else-tick-eq1000-clause-second c =
     c.read_calendar_time-else-tick-eq1000.ensures.bound
 
 pub returns-then-has_fraction : goal.returns-then-has_fraction

@@ -5,13 +5,13 @@ use Rattle.spec_numbers.proofs.Booleans.{both_first}
 use Rattle.window_text.proofs.Forms.{has_year, length_after, length_of_form, length_of_negative_year, length_of_year, shown_negative_year, shown_none, shown_year}
 use Rattle.window_text.proofs.showing.read_calendar.Goals as goal
 
-pub calendar_after-requires : goal.calendar_after-requires
-calendar_after-requires c =
+pub fields_after_year-requires : goal.fields_after_year-requires
+fields_after_year-requires c =
     let form : has_form year_form c.args.word.now ≡ true = rw c.year_form.ensures at (sym c.has_form.ensures ∙ c.if-has_form.true) in
     length_after c.args.word.now 4 15 (sym (length_of_form year_form c.args.word.now form))
 
-pub calendar_after-requires-then-has_negative_year : goal.calendar_after-requires-then-has_negative_year
-calendar_after-requires-then-has_negative_year c =
+pub fields_after_year-requires-then-has_negative_year : goal.fields_after_year-requires-then-has_negative_year
+fields_after_year-requires-then-has_negative_year c =
     let form = both_first (has_form negative_year_form c.args.word.now) _ (sym c.has_negative_year.ensures ∙ c.if-has_negative_year.true) in
     length_after c.args.word.now 7 15 (sym (length_of_form negative_year_form c.args.word.now form))
 
@@ -20,8 +20,8 @@ slice_bounds-digits_value-end c =
     let long = length_of_year c.args.word.now _ _ c.year_form.ensures c.has_form.ensures c.if-has_form.true in
     omega (arith, length-take {A = ℕ})
 
-pub value-year-requires : goal.value-year-requires
-value-year-requires c =
+pub digits_value-year-requires : goal.digits_value-year-requires
+digits_value-year-requires c =
     let long = length_of_year c.args.word.now _ _ c.year_form.ensures c.has_form.ensures c.if-has_form.true in
     omega (arith, length-take {A = ℕ})
 
@@ -50,8 +50,8 @@ slice_bounds-digits_value-end-then-has_negative_year c =
     let long = length_of_negative_year c.args.word.now _ c.has_negative_year.ensures c.if-has_negative_year.true in
     omega arith
 
-pub value-year-requires-then-has_negative_year : goal.value-year-requires-then-has_negative_year
-value-year-requires-then-has_negative_year c =
+pub digits_value-year-requires-then-has_negative_year : goal.digits_value-year-requires-then-has_negative_year
+digits_value-year-requires-then-has_negative_year c =
     let long = length_of_negative_year c.args.word.now _ c.has_negative_year.ensures c.if-has_negative_year.true in
     omega (arith, length-take {A = ℕ})
 

@@ -3,14 +3,14 @@ use Rattle.std.proofs.lemmas.List.{length-map}
 use Rattle.gf_find.proofs.Causes.{lacking_stops, missing_inside, refused_inside, refused_stops}
 use Rattle.gf_find.proofs.files.ephemeris_of.Goals as goal
 
-pub refused-requires : goal.refused-requires
-refused-requires g c =
+pub refusal_by_place-requires : goal.refusal_by_place-requires
+refusal_by_place-requires g c =
     let inside = refused_inside _ _ _ _ (c.in-Err-Fault.ensures.fault c.in-Err-Fault.file c.in-Err-Fault.fault (λ i. Err (c.in-Err-Fault.field-0-is i))) in
     let many = length-map c.args.names.now string_bytes in
     omega (arith, inside, many)
 
-pub not_read-requires : goal.not_read-requires
-not_read-requires g c =
+pub unread_by_place-requires : goal.unread_by_place-requires
+unread_by_place-requires g c =
     let inside = missing_inside _ _ _ _ _ (c.in-Err-NotRead.ensures.not_read c.in-Err-NotRead.file (λ i. Err (c.in-Err-NotRead.field-0-is i))) in
     let many = length-map c.args.names.now string_bytes in
     omega (arith, inside, many)

@@ -11,14 +11,14 @@ use Rattle.gf_find.proofs.verify.verify_event.Goals as goal
 pub judge-judge-requires-clause-query : goal.judge-judge-requires-clause-query
 judge-judge-requires-clause-query g c = asked_is c.args.find.now _ c.query_of-query.ensures c.requires.limits
 
-pub verify_by-requires-clause-from : goal.verify_by-requires-clause-from
-verify_by-requires-clause-from g c = from_is _ c.args.ephemeris.now c.requires.start c.requires.end c.args.span c.requires.within
+pub verify_text-requires-clause-from : goal.verify_text-requires-clause-from
+verify_text-requires-clause-from g c = from_is _ c.args.ephemeris.now c.requires.start c.requires.end c.args.span c.requires.within
 
-pub verify_by-requires-clause-upto : goal.verify_by-requires-clause-upto
-verify_by-requires-clause-upto g c = upto_is _ c.args.ephemeris.now c.requires.start c.requires.end c.args.span c.requires.within
+pub verify_text-requires-clause-upto : goal.verify_text-requires-clause-upto
+verify_text-requires-clause-upto g c = upto_is _ c.args.ephemeris.now c.requires.start c.requires.end c.args.span c.requires.within
 
-pub verify_by-requires-clause-valid : goal.verify_by-requires-clause-valid
-verify_by-requires-clause-valid g c =
+pub verify_text-requires-clause-valid : goal.verify_text-requires-clause-valid
+verify_text-requires-clause-valid g c =
     subst (λ (s : Search). IsValid (rules s) (root c.args.span.from c.args.span.upto)) (sym c.judge-judge.ensures)
     (root_valid c.query_of-query.result c.args.ephemeris.now c.args.span c.requires.within)
 

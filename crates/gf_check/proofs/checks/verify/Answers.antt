@@ -16,13 +16,13 @@ use Rattle.gf_check.proofs.checks.verify.Goals as goal
 pub check_cert-requires-clause-valid : goal.check_cert-requires-clause-valid
 check_cert-requires-clause-valid g c = subst (λ (n : Node). IsValid (rules c.args.judge.now.search) n) (sym c.root_of.ensures) c.requires.valid
 
-pub printed-requires-clause-follow : goal.printed-requires-clause-follow
-printed-requires-clause-follow g c =
+pub report_of_leaves-requires-clause-follow : goal.report_of_leaves-requires-clause-follow
+report_of_leaves-requires-clause-follow g c =
     follow c.args.find.now c.args.judge.now.search c.args.span c.root_of.result c.deref.result.now c.args.text.now c.root_of.ensures (c.deref.ensures.value ∙ c.in_ok-line.ensures.line)
     c.in-Ok.leaves.items c.deref-in-Ok.result.now c.deref-in-Ok.ensures.value c.in-Ok.ensures.cover
 
-pub printed-requires-clause-windows : goal.printed-requires-clause-windows
-printed-requires-clause-windows g c =
+pub report_of_leaves-requires-clause-windows : goal.report_of_leaves-requires-clause-windows
+report_of_leaves-requires-clause-windows g c =
     have_times c.args.find.now c.args.judge.now.search c.args.span c.root_of.result c.deref.result.now c.args.text.now c.root_of.ensures (c.deref.ensures.value ∙ c.in_ok-line.ensures.line)
     c.in-Ok.leaves.items c.in-Ok.ensures.windows c.deref-in-Ok.result.now c.deref-in-Ok.ensures.value c.requires.from c.requires.upto
 

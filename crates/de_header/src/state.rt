@@ -49,7 +49,7 @@ pub enum State {
         count: u32,
         emrat: Option<u32>,
     },
-    /// Values, of which so many stand before that of `EMRAT`.
+    /// Values, of which `before` stand before that of `EMRAT`.
     ValuesBefore {
         shape: BlockShape,
         left: u32,

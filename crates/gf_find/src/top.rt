@@ -68,8 +68,8 @@ pub fn finder<R: Threads + Wait + Sync, S: Shelf, O: Sink, E: Sink, G: Gate>(
         → HoldEphemeris (S.files shelf.old) find.files
         (ReportsEvents find (O.bytes out.old) (O.bytes out.new)) }
 
-    // The same in words of the events alone: of windows that are disjoint, in order and hold every event, each certain one exactly
-    // one.
+    // For `find` in terms of the events alone, the windows of the report are disjoint, in order and hold every event, each
+    // certain one exactly one.
     ensures events { (find : FindAsk) → Ask words.now (Find find) → result ≡ REPORTED
         → HoldEphemeris (S.files shelf.old) find.files
         (ReportsAllEvents find (O.bytes out.old) (O.bytes out.new)) }

@@ -130,13 +130,10 @@ fn write_and_release(ledger: &SpanLedger, raw: &mut Raw, entry: Booked) -> Entry
     entered
 }
 
-// Enters a leaf of the root under the seat's number, unless it stands already or as many leaves as the limit stand.
-// Two leaves are the same where their nodes and their marks are. Out of memory comes only of a leaf that does not
-// stand yet and for which the limit leaves room. It waits for the lock.
 impl SpanLedger {
     /// Enters a leaf of the root under the seat's number, unless it stands already or as many leaves as the limit stand.
-    /// It waits for the lock. Two leaves are the same where their nodes and their marks are. Out of memory comes only of a
-    /// leaf that does not stand yet and for which the limit leaves room.
+    /// Two leaves are the same where their nodes and their marks are. Out of memory comes only of a leaf that does not
+    /// stand yet and for which the limit leaves room. It waits for the lock.
     pub fn enter<R: Wait>(&self, rt: &R, seat: &mut LedgerSeat, leaf: Leaf) -> Entry
         requires ours { IsSeatOf self.now seat.old }
         requires inside { LiesIn (terms self.now).root leaf }

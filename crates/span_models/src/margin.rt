@@ -30,12 +30,10 @@ pub struct Outlook {
     pub is_blurred: bool,
 }
 
-// Returns what is known, at the arguments from `first / q` to `last / q`, of the distance from 0 of all numbers near
-// the model, and whether it is worth asking of parts of these arguments. The second answer saves work, and no result
-// rests on it.
 impl Model {
-    /// How far from 0 all numbers keep that are near it at arguments from `first` to `last`, over `q`, and whether that is
-    /// worth asking of parts of these arguments. No answer rests on the latter.
+    /// Returns what is known, at the arguments from `first / q` to `last / q`, of the distance from 0 of all numbers near
+    /// the model, and whether it is worth asking of parts of these arguments. The second answer saves work, and no
+    /// result rests on it.
     pub fn outlook(&self, first: i64, last: i64, q: i64) -> Outlook
         requires first { IsArgument first q }
         requires last { IsArgument last q }

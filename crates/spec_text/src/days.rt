@@ -5,6 +5,6 @@
 pub enum DaysFault {
     /// The days are no whole number of seconds.
     NotWholeSecond,
-    /// It is below 0, or more than the most.
+    /// The days are below 0, or more than the most.
     OutOfRange,
 }

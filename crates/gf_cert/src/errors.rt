@@ -22,6 +22,7 @@ impl From<CertFault> for CertError {
 
     ghost from_gives = { λ fault error. error ≡ refusal_of fault };
 
+    // Returns the refusal for a line that breaks a rule.
     fn from(fault: CertFault) -> Self {
         CertError::Refused {
             line: fault.line,
@@ -36,6 +37,7 @@ impl From<AllocError> for CertError {
 
     ghost from_gives = { λ _ error. error ≡ Memory };
 
+    // Returns out of memory.
     fn from(_: AllocError) -> Self {
         CertError::Memory
     }
@@ -47,6 +49,7 @@ impl<T: Drop> From<AllocFailed<T>> for CertError {
 
     ghost from_gives = { λ _ error. error ≡ Memory };
 
+    // Returns out of memory, and drops what found no room.
     fn from(_: AllocFailed<T>) -> Self {
         CertError::Memory
     }

@@ -20,6 +20,7 @@ pub enum ReadError {
 impl From<Fault> for ReadError {
     ghost from_gives = { λ fault error. error ≡ errors.Fault fault };
 
+    // Returns the error for the first fault of the lines.
     fn from(fault: Fault) -> Self {
         ReadError::Fault(fault)
     }
@@ -28,6 +29,7 @@ impl From<Fault> for ReadError {
 impl From<AllocError> for ReadError {
     ghost from_gives = { λ _ error. error ≡ errors.Memory };
 
+    // Returns out of memory.
     fn from(_: AllocError) -> Self {
         ReadError::Memory
     }
@@ -36,6 +38,7 @@ impl From<AllocError> for ReadError {
 impl<T: Drop> From<AllocFailed<T>> for ReadError {
     ghost from_gives = { λ _ error. error ≡ errors.Memory };
 
+    // Returns out of memory, and drops what found no room.
     fn from(_: AllocFailed<T>) -> Self {
         ReadError::Memory
     }

@@ -13,12 +13,14 @@ pub enum RowError {
 }
 
 impl<T: Drop> From<AllocFailed<T>> for RowError {
+    // Returns out of memory, and drops what found no room.
     fn from(_: AllocFailed<T>) -> Self {
         RowError::Memory
     }
 }
 
 impl From<AllocError> for RowError {
+    // Returns out of memory.
     fn from(_: AllocError) -> Self {
         RowError::Memory
     }

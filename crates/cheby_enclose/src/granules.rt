@@ -86,7 +86,7 @@ fn is_count(n: usize) -> bool
     1 <= n && n <= 32
 }
 
-// Tells whether a number of numbers makes `rows` rows of `n`.
+// Tells whether a count of numbers is that of `rows` rows of `n`.
 fn are_rows(numbers: usize, rows: usize, n: usize) -> bool
     requires { 1 ≤ n }
     ensures { IsTrue result ↔ (numbers ≡ rows * n) }

@@ -10,7 +10,7 @@ use crate::squares::Bound;
 use spec_scalars::Reach;
 
 // Returns what is known of a polynomial from `a` to a later time `b`. Its changes lie between the first and the last
-// of them, since they grow or fall all the time.
+// of them, since they are linear in the time.
 fn wide_reach(quad: &Quad, a: i128, b: i128) -> Reach
     requires first { unsigned_abs a ≤ MAX_TIME }
     requires last { unsigned_abs b ≤ MAX_TIME }

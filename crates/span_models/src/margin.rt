@@ -63,8 +63,8 @@ impl Model {
     }
 }
 
-// Tells whether a tangent is nowhere farther from 0 than its error and the model's. Then no part of its arguments has
-// a margin.
+// Tells whether a tangent, with its own error, is nowhere farther from 0 than the model's error. Then no part of its
+// arguments has a margin.
 #[inline(always)]
 fn is_blurred(known: &Tangent, error: u64) -> bool
     requires known { IsSmallTangent known.now }

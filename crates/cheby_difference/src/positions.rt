@@ -13,8 +13,8 @@ use cheby_laws::fill_tq;
 use eph_model::Granule;
 use ival_core::Ival;
 
-/// Returns the interval of the changes of one coordinate of a granule, in km, from each time to the next, from time
-/// `a` to time `b`, in seconds of TDB since J2000. Over one time nothing changes. Axes are counted from 0.
+/// Returns the interval of the changes of one coordinate of a granule, in km, from each time to the next. Times go
+/// from `a` to `b`, in seconds of TDB since J2000. Over one time nothing changes. Axes are counted from 0.
 pub fn position_step(g: &Granule, axis: usize, a: i64, b: i64) -> Ival
     requires { IsSpanWithin g.now axis a b }
     ensures equals { result ≡ position_step_interval (series_of g.now axis) a b }

@@ -21,8 +21,8 @@ const VELOCITY_EXPONENT: i32 = DISTANCE_EXPONENT - U_UNIT;
 const VELOCITY_STEP_EXPONENT: i32 = DISTANCE_EXPONENT - R_UNIT;
 
 /// Returns the interval of the changes of a coordinate from each time to the next, in km, over the arguments `x`. It
-/// is the sum of the products of its terms with the row of Q, the divided differences of T, times the `2 / seconds`
-/// that an argument gains in a second. The divider is that of the granule's seconds.
+/// is the sum of the products of its terms with the row of Q, the divided differences of T. The sum is taken times
+/// the `2 / seconds` that an argument gains in a second. The divider is that of the granule's seconds.
 #[inline(always)]
 pub fn position_step_over_row(
     terms: &AxisCoefficients,

@@ -13,8 +13,8 @@ use cheby_enclose::empty_row;
 use eph_model::Granule;
 use ival_core::Ival;
 
-/// Returns the interval of the velocity along one axis of a granule, in km per second, from time `a` to time `b`, in
-/// seconds of TDB since J2000: the derivative of its Chebyshev series (JPL). Axes are counted from 0.
+/// Returns the interval of the velocity along one axis of a granule, in km per second: the derivative of its
+/// Chebyshev series (JPL). Times go from `a` to `b`, in seconds of TDB since J2000. Axes are counted from 0.
 pub fn velocity(g: &Granule, axis: usize, a: i64, b: i64) -> Ival
     requires { IsSpanWithin g.now axis a b }
     ensures equals { result ≡ velocity_interval (series_of g.now axis) a b }
@@ -27,7 +27,7 @@ pub fn velocity(g: &Granule, axis: usize, a: i64, b: i64) -> Ival
 }
 
 /// Returns the interval of the changes of the velocity along one axis of a granule, in km per second, from each time
-/// to the next, from time `a` to time `b`, in seconds of TDB since J2000. Over one time nothing changes. Axes are
+/// to the next. Times go from `a` to `b`, in seconds of TDB since J2000. Over one time nothing changes. Axes are
 /// counted from 0.
 pub fn velocity_step(g: &Granule, axis: usize, a: i64, b: i64) -> Ival
     requires { IsSpanWithin g.now axis a b }

@@ -22,10 +22,10 @@ use spec_events::Dir;
 use spec_kinds::{Ask, Kind, Shadow};
 use std::alloc::{AllocError, Global};
 
-/// Returns the event of an ask over an ephemeris, as formulas over the positions, in km, and the velocities, in km a
-/// tick, of the target (number 0) and of the second body (number 1), seen from the observer in the frame. What
-/// `Coord`, `Radius` and `Apsis`, `Sep` and `SepExt`, and `Any`, `Full` and `Annular` mean is SPICE's, by `gfposc`,
-/// `gfdist`, `gfsep` and `gfoclt`. An error is the first fault of the ask, or out of memory, where it has none.
+/// Returns the event of an ask over an ephemeris, as formulas of positions in km and velocities in km a tick. Target
+/// 0 is the ask's target and target 1 its second body, both seen from the observer in the frame. What `Coord`,
+/// `Radius` and `Apsis`, `Sep` and `SepExt`, and `Any`, `Full` and `Annular` mean is SPICE's, by `gfposc`, `gfdist`,
+/// `gfsep` and `gfoclt`. An error is the first fault of the ask, or out of memory, where it has none.
 pub fn event(alloc: Global, eph: &Ephemeris, ask: &Ask) -> Result<Event, KindFault>
     requires { IsAsk ask.now }
     ensures made { IfOk result (λ event. event ≡ event_of ask.now) }

@@ -31,9 +31,9 @@ pub struct Outlook {
 }
 
 impl Model {
-    /// Returns what is known, at the arguments from `first / q` to `last / q`, of the distance from 0 of all numbers near
-    /// the model, and whether it is worth asking of parts of these arguments. The second answer saves work, and no
-    /// result rests on it.
+    /// Returns what is known of all numbers near the model, at the arguments from `first / q` to `last / q`: the
+    /// distance that they keep from 0, and whether no part of these arguments has one. The second answer saves work,
+    /// and no result rests on it.
     pub fn outlook(&self, first: i64, last: i64, q: i64) -> Outlook
         requires first { IsArgument first q }
         requires last { IsArgument last q }

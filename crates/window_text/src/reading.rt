@@ -13,9 +13,9 @@ use crate::showing::read_calendar_time;
 use spec_ephemeris::{FIRST_TIME, LAST_TIME};
 use spec_times::{MAX_TIME_DIGITS, TimeFault};
 
-/// Reads a time and returns it in ticks since J2000 in TDB. The word is a whole number of seconds, which is an
-/// optional `-` and 1 to 12 digits, or a calendar text `YYYY-MM-DDTHH:MM:SS`, in which a year below 0 has a `-` and
-/// six digits. Where a second has 1,000 ticks, a point and three digits may end the calendar text. The fault is
+/// Reads a time and returns it in ticks since J2000 in TDB. The word is a whole number of seconds or a calendar text.
+/// A whole number is an optional `-` and 1 to 12 digits. A calendar text is `YYYY-MM-DDTHH:MM:SS`, where a year below
+/// 0 has a `-` and six digits; where a second has 1,000 ticks, a point and three digits may end it. The fault is
 /// `NotTime` where the word has no such form or shows what no calendar and clock show. Else it is `OutOfRange` where
 /// the time is not from Julian date 0 to Julian date 5,000,000. It does not allocate.
 pub fn read_time(word: &[u8], tick: u32) -> Result<i64, TimeFault>

@@ -64,7 +64,7 @@ fn with_certificate(
     ensures { Answers (verify_of (option_and_then name_of (values_of matches.now opt.Cert)) find)
         result }
 {
-    match parts::cert_request(matches) {
+    match parts::cert(matches) {
         Some(name) => match text(alloc, name) {
             Ok(cert) => Ok(Request::Verify { find, cert }),
             Err(_) => Err(WordFault::Memory),

@@ -1,4 +1,4 @@
-// What is true of margins: each law is the contract of a function with nothing to do.
+// Laws of margins. Each is the contract of a function that does nothing.
 ghost use Rattle.std.specs.Prelude.{◌≡◌, ◌≤◌, ℤ, pos, ◌≤ℤ◌, ◌<ℤ◌};
 ghost use Rattle.spec_intervals.specs.declared.signs.Sign.TheVariants.{Yes, No};
 ghost use Rattle.spec_intervals.specs.Fraction.{Fraction, IsFraction};
@@ -23,7 +23,7 @@ pub fn margins_make_spans_still()
         → sign_at s x.from ≡ x.sign → x.widest ≤ 1 → IsStill s x }
 {}
 
-/// The side of a margin tells the sign at each time.
+/// The side of 0 on which a margin lies tells the function's sign at each time of the span.
 pub fn margins_tell_signs()
     ensures above { (s : Search) (a b : ℤ) (g : Fraction) (t : ℤ) → pos 0 <ℤ g.numerator
         → IsFraction g → IsAbove s a b g → a ≤ℤ t → t ≤ℤ b → sign_at s t ≡ Yes }

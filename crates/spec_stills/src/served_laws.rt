@@ -1,4 +1,4 @@
-// What is true of served trees: each law is the contract of a function with nothing to do.
+// Laws of served trees. Each is the contract of a function that does nothing.
 ghost use Rattle.std.specs.Prelude.{◌≤◌, All, List};
 ghost use Rattle.spec_trees.specs.declared.tree.Node.{Node};
 ghost use Rattle.spec_trees.specs.Tree.{IsSound, IsValid, leaf_count, leaves};
@@ -9,21 +9,22 @@ ghost use Rattle.spec_stills.specs.Still.{IsStill};
 ghost use Rattle.spec_stills.specs.Weights.{weights};
 ghost use Rattle.spec_stills.specs.ServedTree.{TellTheSame, served_rules};
 
-/// Served trees are sound, whatever the spans are, and have the valid nodes of the tree.
+/// The served trees of any spans are sound, and have the valid nodes of the tree.
 pub fn served_trees_are_sound()
     ensures sound { (s : Search) (xs : List StillSpan) → IsSearch s → IsSound (served_rules s xs) }
     ensures nodes { (s : Search) (xs : List StillSpan) (n : Node) → IsValid (rules s) n
         → IsValid (served_rules s xs) n }
 {}
 
-/// By still spans, the leaves of the served tree of a root tell at each time the sign that the leaves of the tree tell.
+/// Where the spans are still, the leaves of the served tree tell at each time the sign that the leaves of the tree
+/// tell.
 pub fn served_trees_tell_the_same()
     ensures { (s : Search) (xs : List StillSpan) (root : Node) → IsSearch s → All (IsStill s) xs
         → IsValid (rules s) root
         → TellTheSame s root.a (leaves (served_rules s xs) root) (leaves (rules s) root) root.b }
 {}
 
-/// By still spans, the tree has no more leaves than those of the served tree weigh.
+/// Where the spans are still, the tree has no more leaves than the leaves of the served tree weigh.
 pub fn served_trees_weigh_enough()
     ensures { (s : Search) (xs : List StillSpan) (root : Node) → IsSearch s → All (IsStill s) xs
         → IsValid (rules s) root

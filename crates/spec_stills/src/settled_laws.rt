@@ -1,4 +1,4 @@
-// What is true of settled leaves: each law is the contract of a function with nothing to do.
+// Laws of settled leaves. Each is the contract of a function that does nothing.
 ghost use Rattle.std.specs.Prelude.{◌≡◌, ◌<ℤ◌, ◌≤◌, All, List, Some, false};
 ghost use Rattle.spec_trees.specs.declared.tree.Leaf.{Leaf};
 ghost use Rattle.spec_trees.specs.declared.tree.Mark.{Mark};
@@ -21,8 +21,8 @@ ghost use Rattle.spec_stills.specs.Settled.{
   settled_leaves,
 };
 
-/// The settled leaves of a root follow one another over it, whatever the spans are; and by still spans they have the windows of
-/// its tree.
+/// The settled leaves of a root follow one another over it, whatever the spans are. Where the spans are still, they
+/// have the windows of the root's tree.
 pub fn settled_leaves_have_the_same_windows()
     ensures follow { (s : Search) (xs : List StillSpan) (root : Node) → IsSearch s
         → IsValid (rules s) root → Covers root.a (settled_leaves s xs root) root.b }
@@ -38,13 +38,13 @@ pub fn the_tree_has_no_more_leaves_than_lie_below()
         → leaf_count (rules s) root ≤ leaves_below s (leaves (eager_rules s xs) root) }
 {}
 
-/// By still spans, no more leaves of the tree lie below a leaf of the eager tree than it weighs.
+/// Where the spans are still, no more leaves of the tree lie below a leaf of the eager tree than that leaf weighs.
 pub fn leaves_weigh_enough()
     ensures { (s : Search) (xs : List StillSpan) (l : Leaf) → IsSearch s → All (IsStill s) xs
         → IsLeaf (eager_rules s xs) l → leaf_count (rules s) l.node ≤ weight s xs l }
 {}
 
-/// Whether a node lies in a clear leaf of the tree of another is told by a walk from this one down.
+/// A walk down from a node decides whether another node lies in a clear leaf of its tree.
 pub fn a_walk_down_tells_what_is_cleared()
     ensures clear { (s : Search) (at n : Node) → IsSearch s → IsValid (rules s) at
         → verdict_of s at ≡ Clear → is_cleared s at n ≡ holds at n }

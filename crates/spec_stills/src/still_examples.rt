@@ -1,4 +1,4 @@
-// Worked values of still spans, by computation.
+// Worked values of still spans, by computation. The calls do nothing when they run.
 ghost use Rattle.std.specs.Prelude.{◌≡◌, [], ◌∷◌, true, false, pos};
 ghost use Rattle.spec_trees.specs.declared.cuts.CutRule.TheVariants.{Half, Third};
 ghost use Rattle.spec_trees.specs.CutExamples.{clear_at};
@@ -8,8 +8,8 @@ ghost use Rattle.spec_stills.specs.StillExamples.{both, cutting, early, early_ag
 ghost use Rattle.spec_stills.specs.Still.{is_served, serves};
 ghost use Rattle.spec_stills.specs.Weights.{weight, weights};
 
-/// A node of 24 ticks is served where three halvings make it 3 ticks wide, but neither one that is wider, nor one within
-/// three of the depth, nor one that reaches over the end of the span, nor one that is cut at its first third.
+/// A span serves a node of 24 ticks where three halvings make it 3 ticks wide. It serves no wider node, none within
+/// three of the depth, none that reaches over its end, and none that is cut at its first third.
 pub fn nodes_that_are_served()
     ensures narrow { (s : Search)
         → serves (cutting Half s) early (node_at (pos 0) (pos 24) 37) ≡ true }

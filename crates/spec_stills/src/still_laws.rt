@@ -1,4 +1,4 @@
-// What is true of still spans: each law is the contract of a function with nothing to do.
+// Laws of still spans. Each is the contract of a function that does nothing.
 ghost use Rattle.std.specs.Prelude.{◌≡◌, ℕ, ◌<◌, ◌≤◌, ◌^◌, min, true, ℤ, pos, ◌+ℤ◌, ◌≤ℤ◌};
 ghost use Rattle.spec_intervals.specs.declared.signs.Sign.{Sign};
 ghost use Rattle.spec_trees.specs.declared.tree.Node.{Node};
@@ -12,8 +12,8 @@ ghost use Rattle.spec_stills.specs.Still.{AreClear, HasWider, IsStill, serves, u
 ghost use Rattle.spec_stills.specs.Margins.{IsMonotone};
 ghost use Rattle.spec_stills.specs.Weights.{halvings_of};
 
-/// A span within a still span is still, with the same sign and for nodes that are no wider, where it has room for wider nodes
-/// only if the whole has.
+/// A part of a still span is still, with the same sign and for nodes that are no wider. It may have room for wider
+/// nodes only if the whole span has.
 pub fn spans_within_still_spans()
     ensures { (s : Search) (x y : StillSpan) → IsStill s x → x.from ≤ℤ y.from → y.upto ≤ℤ x.upto
         → y.widest ≤ x.widest → (HasWider y → HasWider x) → y.sign ≡ x.sign → IsStill s y }
@@ -35,8 +35,8 @@ pub fn monotone_spans_are_still()
         → ((t : ℤ) → x.from ≤ℤ t → t ≤ℤ x.upto → sign_at s t ≡ x.sign) → IsStill s x }
 {}
 
-/// All leaves of a valid node that a still span serves are clear, and they are few: no more than the parts of a node that is
-/// halved until it is as narrow as the span asks, and than it has units.
+/// All leaves of a valid node that a still span serves are clear. They are no more than the parts of the node that is
+/// halved until it is as narrow as the span asks, and no more than its units.
 pub fn served_nodes_have_clear_leaves()
     ensures clear { (s : Search) (x : StillSpan) (n : Node) → IsSearch s → IsStill s x
         → IsValid (rules s) n → serves s x n ≡ true → AreClear (leaves (rules s) n) }

@@ -1,4 +1,4 @@
-// Laws about the definitions: what holds of all trees, leaves and windows.
+// Laws of all trees, leaves and windows. Each is the contract of a function that does nothing.
 ghost use Rattle.std.specs.Prelude.{◌≡◌, ◌++◌, ◌∷◌, [], List, None, Some, ℤ};
 ghost use Rattle.std.specs.List.Sorted.{IsPermutation, IsSortedByKey, IsStableByKey};
 ghost use Rattle.std.specs.Ordering.{int_cmp};
@@ -12,16 +12,16 @@ ghost use Rattle.spec_trees.specs.Runs.{joined};
 ghost use Rattle.spec_trees.specs.Tree.{AreLeaves, Covers, IsSound, IsValid, Rules, leaf_of, leaves, mark_of};
 ghost use Rattle.spec_trees.specs.Windows.{windows};
 
-/// The leaves of a valid node follow one another from its `a` to its `b` without gap or overlap, and each of them is
-/// a valid node with the mark of its verdict.
+/// The leaves of a valid node follow one another from its `a` to its `b` without gap or overlap. Each of them is a
+/// valid node with the mark of its verdict.
 pub fn leaves_cover_the_node()
     ensures cover { (t : Rules) (n : Node) → IsSound t → IsValid t n → Covers n.a (leaves t n) n.b }
     ensures are_leaves { (t : Rules) (n : Node) → IsSound t → IsValid t n
         → AreLeaves t (leaves t n) }
 {}
 
-/// A node that has a mark is its one leaf, and a node that is split has the leaves of its left part and then those of
-/// its right part.
+/// A node that has a mark is its own only leaf. A node that is split has the leaves of its left part and then those
+/// of its right part.
 pub fn leaves_of_the_parts()
     ensures settled { (t : Rules) (n : Node) (m : Mark) → IsSound t → IsValid t n
         → mark_of (t.verdict n) ≡ Some m → leaves t n ≡ leaf_of n m ∷ [] }
@@ -29,7 +29,7 @@ pub fn leaves_of_the_parts()
         → leaves t n ≡ leaves t (t.parts n).0 ++ leaves t (t.parts n).1 }
 {}
 
-/// The windows that a walk from left to right makes, with the undecided leaves just passed kept open, are the windows.
+/// A walk from left to right, which keeps open the undecided leaves just passed, makes the windows of the leaves.
 pub fn windows_from_the_left()
     ensures same { (ls : List Leaf) → joined None ls ≡ windows ls }
 {}
@@ -45,7 +45,7 @@ pub fn a_rearranged_cover_is_put_in_order()
         → in_order ls ≡ ordered }
 {}
 
-/// What a stable sort by the beginnings of leaves makes of them is these leaves, put in order.
+/// A stable sort of leaves by their start puts them in order.
 pub fn a_stable_sort_puts_in_order()
     ensures { (ls sorted : List Leaf) → IsSortedByKey beginning int_cmp sorted
         → IsStableByKey beginning int_cmp ls sorted → sorted ≡ in_order ls }

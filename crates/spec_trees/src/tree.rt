@@ -29,7 +29,7 @@ impl Verdict {
     ghost use Rattle.std.specs.Prelude.{◌≡◌};
     ghost use Rattle.spec_trees.specs.Tree.{mark_of};
 
-    /// The mark of a leaf with this verdict. A node that is to be split is no leaf.
+    /// Returns the mark of a leaf with this verdict, or none for a node that is to be split.
     pub fn mark(self) -> Option<Mark>
         ensures { result ≡ mark_of self }
     {

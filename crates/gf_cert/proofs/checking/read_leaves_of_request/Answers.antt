@@ -9,8 +9,8 @@ use Rattle.gf_cert.proofs.checking.read_leaves_of_request.Goals as goal
 pub returns-in-Ok : goal.returns-in-Ok
 returns-in-Ok g c =
     let further = leaves_from (cutting c.args.judge.now.search) c.args.lines.now.end_line (c.args.root ∷ []) 0 in
-    subst (λ w. Gives (λ found. found.items) w c.leaves.result)
-    ((λ i. leaves_from (cutting c.args.judge.now.search) (c.check_words.ensures.end i) (c.args.root ∷ []) 0 c.check_words.new.lines.left) ∙ sym (c.in-Ok.ensures.steps further)) c.leaves.ensures
+    subst (λ w. Gives (λ found. found.items) w c.read_leaves.result)
+    ((λ i. leaves_from (cutting c.args.judge.now.search) (c.check_words.ensures.end i) (c.args.root ∷ []) 0 c.check_words.new.lines.left) ∙ sym (c.in-Ok.ensures.steps further)) c.read_leaves.ensures
 
 pub returns-in-Err : goal.returns-in-Err
 returns-in-Err g c =

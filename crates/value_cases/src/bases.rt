@@ -54,7 +54,7 @@ fn arguments(fields: &mut Fields<'_>) -> Result<Ival62, RowError>
 }
 
 // Makes four rows of zeros.
-fn zero_rows() -> Basis {
+fn zeros() -> Basis {
     let zeros = [Ival62 { lo: 0, hi: 0 }; MAX_ENTRIES];
     Basis {
         t: zeros,
@@ -69,7 +69,7 @@ fn rows_of(x: Ival62, n: usize) -> Basis
     requires n_in { n ≤ 32 }
     requires x_in { IsArguments x }
 {
-    let mut basis = zero_rows();
+    let mut basis = zeros();
     basis_t(x, n, &mut basis);
     basis_u(x, n, &mut basis);
     basis_q(x, n, &mut basis);
@@ -82,7 +82,7 @@ fn pairs_of(x: Ival62, n: usize) -> Basis
     requires n_in { n ≤ 32 }
     requires x_in { IsArguments x }
 {
-    let mut basis = zero_rows();
+    let mut basis = zeros();
     fill_tq(x, n, &mut basis.t, &mut basis.q);
     fill_ur(x, n, &mut basis.u, &mut basis.r);
     basis

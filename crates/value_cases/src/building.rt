@@ -15,7 +15,7 @@ use std::alloc::Global;
 const LEAST_EXPONENT: i16 = -140;
 
 // Copies a header.
-fn copy_of_header(alloc: Global, header: &Header) -> Result<Header, RowError>
+fn copy_of(alloc: Global, header: &Header) -> Result<Header, RowError>
     ensures { IfOk result (λ copy. copy ≡ header.now) }
 {
     let columns = header.columns.as_slice().to_vec(alloc)?;
@@ -29,7 +29,7 @@ fn copy_of_header(alloc: Global, header: &Header) -> Result<Header, RowError>
 
 // Makes an ephemeris without blocks, with the header and the start of another.
 fn without_blocks(alloc: Global, ephemeris: &Ephemeris) -> Result<Ephemeris, RowError> {
-    let header = copy_of_header(alloc, ephemeris.header())?;
+    let header = copy_of(alloc, ephemeris.header())?;
     Ok(Ephemeris::empty(alloc, header, ephemeris.start()))
 }
 
@@ -91,11 +91,7 @@ fn add_next(
 }
 
 // Builds the ephemeris of a header, a start and the blocks of a row.
-fn built_ephemeris(
-    alloc: Global,
-    from: &Ephemeris,
-    fields: &mut Fields<'_>,
-) -> Result<Ephemeris, RowError> {
+fn built(alloc: Global, from: &Ephemeris, fields: &mut Fields<'_>) -> Result<Ephemeris, RowError> {
     let mut ephemeris = without_blocks(alloc, from)?;
     for _ in 0..fields.number::<u32>()? {
         add_next(alloc, &mut ephemeris, fields)?;
@@ -107,6 +103,6 @@ fn built_ephemeris(
 /// blocks with all their numbers, and then what a row of a granule has.
 pub(crate) fn built_agrees(rt: &HostRuntime, fields: &mut Fields<'_>) -> Result<bool, RowError> {
     let from = ephemeris_of(rt, fields.word()?)?;
-    let ephemeris = built_ephemeris(rt.alloc(), &from, fields)?;
+    let ephemeris = built(rt.alloc(), &from, fields)?;
     granule_of_column_agrees(&ephemeris, fields)
 }

@@ -54,7 +54,7 @@ fn next_coordinate(fields: &mut Fields<'_>) -> Result<Coordinate, RowError>
 }
 
 // Returns the enclosure that the states give of a coordinate.
-fn enclosure_given(states: &BodyStates<'_>, c: Coordinate, a: i64, b: i64) -> EnclosureParts
+fn given(states: &BodyStates<'_>, c: Coordinate, a: i64, b: i64) -> EnclosureParts
     requires target { c.target < 2 }
     requires axis { c.axis < 3 }
     requires fits { Fits states.now a b }
@@ -105,7 +105,7 @@ fn enclosure_agrees(
     requires fits { Fits states.now a b }
 {
     let expected = enclosure_parts(fields)?;
-    let is_given = enclosure_given(states, c, a, b) == expected;
+    let is_given = given(states, c, a, b) == expected;
     let formula = formula_of(c)?;
     Ok(has_enclosure(&formula, states, a, b, &expected) && is_given)
 }

@@ -11,7 +11,7 @@ enum EscapeState {
 }
 
 // Returns the value of a hexadecimal digit, whose letters are capitals.
-fn hex_digit(byte: u8) -> Result<u8, RowError> {
+fn digit(byte: u8) -> Result<u8, RowError> {
     match byte {
         b'0'..=b'9' => Ok(byte - b'0'),
         b'A'..=b'F' => Ok(byte - b'A' + 10),
@@ -35,12 +35,12 @@ fn add_plain(bytes: &mut Vec<u8>, byte: u8) -> Result<EscapeState, RowError> {
 }
 
 // Adds a byte after what was read before it, and returns what was read then.
-fn add_byte(bytes: &mut Vec<u8>, place: EscapeState, byte: u8) -> Result<EscapeState, RowError> {
+fn add(bytes: &mut Vec<u8>, place: EscapeState, byte: u8) -> Result<EscapeState, RowError> {
     match place {
         EscapeState::Plain => add_plain(bytes, byte),
-        EscapeState::AfterPercent => Ok(EscapeState::AfterDigit(hex_digit(byte)?)),
+        EscapeState::AfterPercent => Ok(EscapeState::AfterDigit(digit(byte)?)),
         EscapeState::AfterDigit(high) => {
-            bytes.push(high.wrapping_mul(16).wrapping_add(hex_digit(byte)?))?;
+            bytes.push(high.wrapping_mul(16).wrapping_add(digit(byte)?))?;
             Ok(EscapeState::Plain)
         }
     }
@@ -55,7 +55,7 @@ pub(crate) fn unescaped(alloc: Global, field: &str) -> Result<Vec<u8>, RowError>
     }
     let mut place = EscapeState::Plain;
     for &byte in field.as_bytes() {
-        place = add_byte(&mut bytes, place, byte)?;
+        place = add(&mut bytes, place, byte)?;
     }
     match place {
         EscapeState::Plain => Ok(bytes),

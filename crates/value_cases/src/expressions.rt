@@ -72,7 +72,7 @@ fn dot_product(alloc: Global, fields: &mut Fields<'_>) -> Result<Expr, RowError>
 }
 
 // Reads the rest of an expression that starts with this word and is made of no others.
-fn simple_expression(alloc: Global, word: &str, fields: &mut Fields<'_>) -> Result<Expr, RowError>
+fn simple(alloc: Global, word: &str, fields: &mut Fields<'_>) -> Result<Expr, RowError>
     ensures { IfOk result (λ expr. HasLeaves (term expr)) }
 {
     match word {
@@ -98,12 +98,7 @@ fn operation_of(word: &str) -> Option<Operation> {
 }
 
 // Applies an operation to two expressions. The only error is out of memory.
-fn expression_of_two(
-    alloc: Global,
-    operation: Operation,
-    x: Expr,
-    y: Expr,
-) -> Result<Expr, AllocError>
+fn combined(alloc: Global, operation: Operation, x: Expr, y: Expr) -> Result<Expr, AllocError>
     requires x { HasLeaves (term x) }
     requires y { HasLeaves (term y) }
     ensures { IfOk result (λ expr. HasLeaves (term expr)) }
@@ -131,9 +126,9 @@ fn expression_within(alloc: Global, fields: &mut Fields<'_>, room: u32) -> Resul
         Some(operation) => {
             let x = expression_within(alloc, fields, room - 1)?;
             let y = expression_within(alloc, fields, room - 1)?;
-            Ok(expression_of_two(alloc, operation, x, y)?)
+            Ok(combined(alloc, operation, x, y)?)
         }
-        None => simple_expression(alloc, word, fields),
+        None => simple(alloc, word, fields),
     }
 }
 

@@ -14,7 +14,7 @@ const MAX_EXPONENT: i32 = 65_536;
 const END_LIMIT: i128 = 1 << 126;
 
 // Returns an interval whose exponent is at most that of rows. Any other is malformed.
-fn check_exponent(x: Ival) -> Result<Ival, RowError>
+fn moderate(x: Ival) -> Result<Ival, RowError>
     ensures exponent { IfOk result (λ y. IsExponent y.s) }
     ensures same { IfOk result (λ y. y ≡ x) }
 {
@@ -33,7 +33,7 @@ fn interval(fields: &mut Fields<'_>) -> Result<Ival, RowError>
     if hi < lo || s < -MAX_EXPONENT || MAX_EXPONENT < s {
         return Err(RowError::Malformed);
     }
-    check_exponent(Ival::of(lo, hi, s))
+    moderate(Ival::of(lo, hi, s))
 }
 
 // Makes an interval that holds 0 from three numbers, so that two of these have a number in common.
@@ -45,11 +45,11 @@ fn interval_round_zero(parts: Parts) -> Result<Ival, RowError>
     if 0 < lo || hi < 0 || s < -MAX_EXPONENT || MAX_EXPONENT < s {
         return Err(RowError::Malformed);
     }
-    check_exponent(Ival::of(lo, hi, s))
+    moderate(Ival::of(lo, hi, s))
 }
 
 // Reads two intervals that hold 0, and returns their intersection.
-fn intersection(fields: &mut Fields<'_>) -> Result<Ival, RowError> {
+fn meet(fields: &mut Fields<'_>) -> Result<Ival, RowError> {
     let first = interval_round_zero(interval_parts(fields)?)?;
     let second = interval_round_zero(interval_parts(fields)?)?;
     Ok(first.meet(second))
@@ -70,7 +70,7 @@ fn decimal(fields: &mut Fields<'_>) -> Result<Ival, RowError> {
 }
 
 // Returns an interval times `2 / seconds`, once by the seconds and once by a divider.
-fn scale_both_ways(lo: i128, hi: i128, s: i32, seconds: i64) -> (Ival, Ival)
+fn shares(lo: i128, hi: i128, s: i32, seconds: i64) -> (Ival, Ival)
     requires ordered { lo ≤ℤ hi }
     requires lo_size { unsigned_abs lo < 2 ^ 126 }
     requires hi_size { unsigned_abs hi < 2 ^ 126 }
@@ -85,7 +85,7 @@ fn scale_both_ways(lo: i128, hi: i128, s: i32, seconds: i64) -> (Ival, Ival)
 }
 
 // Reads an interval and seconds, and returns the scaled interval. None where the two ways to scale differ.
-fn scaled_interval(fields: &mut Fields<'_>) -> Result<Option<Ival>, RowError> {
+fn scaled(fields: &mut Fields<'_>) -> Result<Option<Ival>, RowError> {
     let (lo, hi, s) = interval_parts(fields)?;
     let seconds = fields.number::<i64>()?;
     if lo <= -END_LIMIT || hi < lo || END_LIMIT <= hi || seconds < 1 {
@@ -94,7 +94,7 @@ fn scaled_interval(fields: &mut Fields<'_>) -> Result<Option<Ival>, RowError> {
     if s < -MAX_EXPONENT || MAX_EXPONENT < s {
         return Err(RowError::Malformed);
     }
-    let (share, again) = scale_both_ways(lo, hi, s, seconds);
+    let (share, again) = shares(lo, hi, s, seconds);
     if share == again {
         Ok(Some(share))
     } else {
@@ -118,10 +118,10 @@ fn result_of_two(operation: &str, fields: &mut Fields<'_>) -> Result<Ival, RowEr
 // Reads the operands of an operation, and returns its result. None where two ways to compute it differ.
 fn result_of(operation: &str, fields: &mut Fields<'_>) -> Result<Option<Ival>, RowError> {
     match operation {
-        "meet" => Ok(Some(intersection(fields)?)),
+        "meet" => Ok(Some(meet(fields)?)),
         "signed_square" => Ok(Some(interval(fields)?.signed_square())),
         "of" => Ok(Some(interval(fields)?)),
-        "scale" => scaled_interval(fields),
+        "scale" => scaled(fields),
         "from_decimal" => Ok(Some(decimal(fields)?)),
         _ => Ok(Some(result_of_two(operation, fields)?)),
     }

@@ -67,7 +67,7 @@ fn stays_at_long_line(tokens: &mut Tokens<'_>, number: u32) -> bool {
 }
 
 // Tells whether the rest of the text ends here, or stops at a line that is too long, as the next fields say.
-fn ends_here(
+fn is_last(
     fields: &mut Fields<'_>,
     kind: &str,
     tokens: &mut Tokens<'_>,
@@ -96,7 +96,7 @@ fn lines_of_text_agree(
     for _ in 0..=text.len() {
         match fields.word()? {
             "line" => agrees = next_agrees(alloc, fields, &tokens.line())? && agrees,
-            kind => return Ok(ends_here(fields, kind, &mut tokens, end)? && agrees),
+            kind => return Ok(is_last(fields, kind, &mut tokens, end)? && agrees),
         }
     }
     Err(RowError::Malformed)

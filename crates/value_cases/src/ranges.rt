@@ -52,7 +52,7 @@ fn pairs(alloc: Global, coefs: &[Decimal]) -> Result<Vec<Rounded>, RowError> {
 }
 
 // Returns the intervals of the position, of its step, of the velocity and of its step.
-fn ranges_over(g: &Granule, axis: usize, a: i64, b: i64) -> [Parts; 4]
+fn all_four(g: &Granule, axis: usize, a: i64, b: i64) -> [Parts; 4]
     requires granule { IsEvaluable g.now }
     requires axis { axis < g.now.comps }
     requires from { g.now.start ≤ℤ a }
@@ -69,7 +69,7 @@ fn ranges_over(g: &Granule, axis: usize, a: i64, b: i64) -> [Parts; 4]
 
 // Returns the four intervals over a span of a granule. A granule that cannot be evaluated, or a span outside of it,
 // is malformed.
-fn checked_ranges(g: &Granule, axis: usize, a: i64, b: i64) -> Result<[Parts; 4], RowError> {
+fn checked(g: &Granule, axis: usize, a: i64, b: i64) -> Result<[Parts; 4], RowError> {
     if !is_evaluable(g) || axis >= g.comps {
         return Err(RowError::Malformed);
     }
@@ -80,7 +80,7 @@ fn checked_ranges(g: &Granule, axis: usize, a: i64, b: i64) -> Result<[Parts; 4]
     if a < g.start || b < a || end < b {
         return Err(RowError::Malformed);
     }
-    Ok(ranges_over(g, axis, a, b))
+    Ok(all_four(g, axis, a, b))
 }
 
 // A granule without its coefficients, of which each axis has `n`, with an axis and a span.
@@ -130,7 +130,7 @@ fn ranges_of(alloc: Global, scope: &Scope, coefs: &[Decimal]) -> Result<[Parts; 
         coefs,
         rounded: &rounded,
     };
-    checked_ranges(&granule, scope.axis, scope.a, scope.b)
+    checked(&granule, scope.axis, scope.a, scope.b)
 }
 
 /// Compares the four intervals over a span: the row has a granule's first time, length and count of coefficients, an

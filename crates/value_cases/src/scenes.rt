@@ -33,7 +33,7 @@ pub(crate) fn next_scene(fields: &mut Fields<'_>) -> Result<Scene, RowError> {
 }
 
 // Tells whether the ephemeris has all columns that a body needs.
-fn has_columns(ephemeris: &Ephemeris, body: Body) -> bool
+fn has(ephemeris: &Ephemeris, body: Body) -> bool
     ensures { result ≡ list_all (has_column ephemeris.now.header) (needed_columns (source_of body)) }
 {
     match Source::of(body) {
@@ -50,9 +50,9 @@ pub(crate) fn states<'e>(ephemeris: &'e Ephemeris, scene: Scene) -> Result<BodyS
     ensures { IfOk result (λ states. states.ephemeris ≡ ephemeris.now) }
 {
     let (first, second, observer) = (scene.first, scene.second, scene.observer);
-    let has_first = has_columns(ephemeris, first);
-    let has_second = has_columns(ephemeris, second);
-    let has_observer = has_columns(ephemeris, observer);
+    let has_first = has(ephemeris, first);
+    let has_second = has(ephemeris, second);
+    let has_observer = has(ephemeris, observer);
     if ephemeris.blocks() == 0 || !has_first || !has_second || !has_observer {
         return Err(RowError::Malformed);
     }

@@ -81,7 +81,7 @@ fn tally_of_file(rt: &HostRuntime, name: &str) -> io::Result<Option<Tally>> {
 
 // Compares the table of this name, prints its counts, and tells whether a row differs. None where it cannot be read
 // as a table.
-fn table_differs(rt: &HostRuntime, name: &str) -> io::Result<Option<bool>> {
+fn differs(rt: &HostRuntime, name: &str) -> io::Result<Option<bool>> {
     let Some(tally) = tally_of_file(rt, name)? else {
         eprintln!(rt; "{name} can't be read as a table")?;
         return Ok(None);
@@ -96,7 +96,7 @@ fn table_differs(rt: &HostRuntime, name: &str) -> io::Result<Option<bool>> {
 pub fn compare_tables(rt: &HostRuntime) -> io::Result<ExitCode> {
     let mut status = 0u8;
     for name in env::args(rt)?.skip(1) {
-        match table_differs(rt, &name)? {
+        match differs(rt, &name)? {
             Some(true) => status = DIFFERENT,
             Some(false) => {}
             None => return Ok(ExitCode::from(NOT_READ)),

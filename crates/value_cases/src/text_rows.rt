@@ -114,7 +114,7 @@ fn line_of<'a>(changes: &'a [Change], number: usize, line: &'a [u8]) -> &'a [u8]
 }
 
 // Returns a text with some of its lines replaced.
-fn changed_text(alloc: Global, text: &[u8], changes: &[Change]) -> Result<Vec<u8>, RowError> {
+fn changed(alloc: Global, text: &[u8], changes: &[Change]) -> Result<Vec<u8>, RowError> {
     let Ok(text) = str::from_utf8(text) else {
         return Err(RowError::Malformed);
     };
@@ -131,7 +131,7 @@ fn changed_text(alloc: Global, text: &[u8], changes: &[Change]) -> Result<Vec<u8
 // Returns the text of the file of this name with some of its lines replaced.
 fn changed_file(rt: &HostRuntime, name: &str, changes: &[Change]) -> Result<Vec<u8>, RowError> {
     match fs::read(rt, name) {
-        Ok(text) => changed_text(rt.alloc(), &text, changes),
+        Ok(text) => changed(rt.alloc(), &text, changes),
         Err(_) => Err(RowError::Malformed),
     }
 }

@@ -21,4 +21,4 @@ kept (Err e) x held same = same
 
 pub returns-clause-zero : goal.returns-clause-zero
 returns-clause-zero c =
-    kept c.check_exponent.result c.of.result (c.of.ensures.holds (fraction (pos 0) 1) (zero_held _ _ _ (omega (arith, ints)) (omega (arith, ints)))) c.check_exponent.ensures.same
+    kept c.moderate.result c.of.result (c.of.ensures.holds (fraction (pos 0) 1) (zero_held _ _ _ (omega (arith, ints)) (omega (arith, ints)))) c.moderate.ensures.same

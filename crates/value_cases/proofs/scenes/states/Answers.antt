@@ -25,11 +25,11 @@ there e body found is holds = each (has_column e.header) (needed_columns (source
 
 pub new-requires-clause-present : goal.new-requires-clause-present
 new-requires-clause-present c =
-    let first : c.has_columns-has_first.result ≡ true = search rules in
-    let second : c.has_columns-has_second.result ≡ true = search rules in
-    let observer : c.has_columns-has_observer.result ≡ true = search rules in
+    let first : c.has-has_first.result ≡ true = search rules in
+    let second : c.has-has_second.result ≡ true = search rules in
+    let observer : c.has-has_observer.result ≡ true = search rules in
     let Present : Body → Type 0 = λ body. HasColumns c.args.ephemeris.now (needed_columns (source_of body)) in
     of_three Present c.args.scene.observer c.args.scene.first c.args.scene.second
-    (there c.args.ephemeris.now _ _ c.has_columns-has_observer.ensures observer)
-    (there c.args.ephemeris.now _ _ c.has_columns-has_first.ensures first)
-    (there c.args.ephemeris.now _ _ c.has_columns-has_second.ensures second)
+    (there c.args.ephemeris.now _ _ c.has-has_observer.ensures observer)
+    (there c.args.ephemeris.now _ _ c.has-has_first.ensures first)
+    (there c.args.ephemeris.now _ _ c.has-has_second.ensures second)

@@ -1,6 +1,6 @@
 use Rattle.std.proofs.Common.{arith, pos}
 use Rattle.spec_intervals.specs.Fraction.{fraction}
-use Rattle.value_cases.proofs.intervals.intersection.Goals as goal
+use Rattle.value_cases.proofs.intervals.meet.Goals as goal
 
 -- both intervals hold 0
 pub meet-requires-clause-overlap : goal.meet-requires-clause-overlap

@@ -26,7 +26,7 @@ fn add_block(alloc: Global, text: &mut Vec<u8>, day: i64, row: &str) -> Result<(
 }
 
 // Returns a file of `count` blocks, in each of which Mercury's x has these coefficients.
-fn file_of_blocks(alloc: Global, count: i64, row: &str) -> Result<Vec<u8>, AllocError> {
+fn blocks(alloc: Global, count: i64, row: &str) -> Result<Vec<u8>, AllocError> {
     let mut text = HEADER.as_bytes().to_vec(alloc)?;
     for number in 0..count {
         let day = number.saturating_mul(32).saturating_add(2_451_544);
@@ -50,7 +50,7 @@ fn call_over<R: Threads + Wait + Sync>(
     count: i64,
     row: &str,
 ) -> Result<Answer, AllocError> {
-    let mut shelf = shelf_of(alloc, file_of_blocks(alloc, count, row)?)?;
+    let mut shelf = shelf_of(alloc, blocks(alloc, count, row)?)?;
     call(rt, alloc, line, &mut shelf, 65_536, &OpenGate)
 }
 
@@ -148,7 +148,7 @@ const OPENED: [(&str, u64, u8, &str); 16] = [
 ];
 
 // Tells whether the words of a row have its status, and open the files that it names.
-fn opens_named_files<R: Threads + Wait + Sync>(
+fn opens<R: Threads + Wait + Sync>(
     rt: &R,
     alloc: Global,
     row: &(&str, u64, u8, &str),
@@ -164,7 +164,7 @@ fn opens_named_files<R: Threads + Wait + Sync>(
 fn the_named_files_alone_are_opened(rt: HostRuntime) -> Result<(), Fail> {
     for row in &OPENED {
         let line = row.0;
-        assert!(rt; opens_named_files(&rt, rt.alloc(), row)?, "{line}");
+        assert!(rt; opens(&rt, rt.alloc(), row)?, "{line}");
     }
     Ok(())
 }

@@ -21,7 +21,7 @@ pub(crate) struct Answer {
 }
 
 // Makes an output with this room, in bytes.
-fn output_with_room(alloc: Global, room: usize) -> Result<MemorySink, AllocError> {
+fn output(alloc: Global, room: usize) -> Result<MemorySink, AllocError> {
     MemorySink::new(alloc, room, PIECE, Vec::new(alloc))
 }
 
@@ -34,8 +34,8 @@ fn answer_to<R: Threads + Wait + Sync, S: Shelf, G: Gate>(
     room: usize,
     gate: &G,
 ) -> Result<Answer, AllocError> {
-    let mut out = output_with_room(alloc, room)?;
-    let mut err = output_with_room(alloc, ERR_ROOM)?;
+    let mut out = output(alloc, room)?;
+    let mut err = output(alloc, ERR_ROOM)?;
     let status = finder(rt, alloc, words, shelf, &mut out, &mut err, gate);
     Ok(Answer { status, out, err })
 }

@@ -110,7 +110,7 @@ fn is_answered<S: Shelf>(
 }
 
 // Tells whether the files of a row are answered as it says, and only those that it names are opened.
-fn row_agrees(alloc: Global, row: &Row) -> Result<bool, AllocError> {
+fn agrees(alloc: Global, row: &Row) -> Result<bool, AllocError> {
     let names = words_of(alloc, "a b c")?;
     let mut shelf = NotingShelf::new(alloc, row.texts, row.failing)?;
     let is_answered = is_answered(alloc, &mut shelf, &names, row.error);
@@ -121,7 +121,7 @@ fn row_agrees(alloc: Global, row: &Row) -> Result<bool, AllocError> {
 #[test]
 fn no_file_is_opened_after_the_first_that_fails(rt: HostRuntime) -> Result<(), Fail> {
     for (number, row) in ROWS.iter().enumerate() {
-        assert!(rt; row_agrees(rt.alloc(), row)?, "row {number}");
+        assert!(rt; agrees(rt.alloc(), row)?, "row {number}");
     }
     Ok(())
 }

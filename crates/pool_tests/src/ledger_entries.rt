@@ -42,7 +42,7 @@ fn leaf_at(time: u32) -> Leaf
 }
 
 // Tells whether the ledger gives this answer where the leaf of the second after `time` is entered.
-fn has_answer<R: Wait>(
+fn answers<R: Wait>(
     rt: &R,
     ledger: &SpanLedger,
     seat: &mut LedgerSeat,
@@ -71,14 +71,14 @@ fn limit_of_two(rt: HostRuntime) -> Result<(), Fail> {
         return Ok(());
     };
     let zeroth = Entry::Entered { place: 0 };
-    assert!(rt; has_answer(&rt, &ledger, &mut first, 5, zeroth));
+    assert!(rt; answers(&rt, &ledger, &mut first, 5, zeroth));
     let again = Entry::Again { place: 0 };
-    assert!(rt; has_answer(&rt, &ledger, &mut second, 5, again));
+    assert!(rt; answers(&rt, &ledger, &mut second, 5, again));
     let next = Entry::Entered { place: 1 };
-    assert!(rt; has_answer(&rt, &ledger, &mut second, 4, next));
-    assert!(rt; has_answer(&rt, &ledger, &mut first, 6, Entry::Full));
+    assert!(rt; answers(&rt, &ledger, &mut second, 4, next));
+    assert!(rt; answers(&rt, &ledger, &mut first, 6, Entry::Full));
     let again = Entry::Again { place: 1 };
-    assert!(rt; has_answer(&rt, &ledger, &mut first, 4, again));
+    assert!(rt; answers(&rt, &ledger, &mut first, 4, again));
     Ok(())
 }
 

@@ -13,7 +13,7 @@ const ROOT: Node = Node {
 };
 
 // Tells whether these steps are taken one after the other, and only the last of them leaves nothing to do.
-fn ends_after(pool: &mut Pool<Crossing>, steps: &[Step]) -> bool {
+fn ends_by(pool: &mut Pool<Crossing>, steps: &[Step]) -> bool {
     for step in steps {
         if pool.is_done() || pool.step(*step).is_err() {
             return false;
@@ -23,7 +23,7 @@ fn ends_after(pool: &mut Pool<Crossing>, steps: &[Step]) -> bool {
 }
 
 // Tells whether the leaves that were entered start at these times, in this order.
-fn start_at(leaves: &[Leaf], begins: &[i64]) -> bool {
+fn have_begins(leaves: &[Leaf], begins: &[i64]) -> bool {
     if leaves.len() != begins.len() {
         return false;
     }
@@ -54,9 +54,9 @@ fn ten_steps(rt: HostRuntime) -> Result<(), Fail> {
         Step::Pop { w: 0 },
         Step::Enter { w: 0 },
     ];
-    assert!(rt; ends_after(&mut pool, steps.as_slice()));
+    assert!(rt; ends_by(&mut pool, steps.as_slice()));
     let begins = [1_339_200, 1_339_000, 1_339_100, 1_339_150];
-    assert!(rt; start_at(pool.entered(), begins.as_slice()));
+    assert!(rt; have_begins(pool.entered(), begins.as_slice()));
     Ok(())
 }
 

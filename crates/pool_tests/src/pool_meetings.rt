@@ -22,7 +22,7 @@ use std::thread::Threads;
 use steal_pool::{Naming, PoolError, PoolSeat, finish, make, run};
 
 // Returns how many leaves this many workers find at a limit, or why they find none.
-fn leaf_count_by_workers<R: Threads + Wait + Sync>(
+fn found_by<R: Threads + Wait + Sync>(
     rt: &R,
     alloc: Global,
     workers: u32,
@@ -39,8 +39,8 @@ fn finds_five<R: Threads + Wait + Sync>(rt: &R, alloc: Global, workers: u32) -> 
     if workers < 1 || workers > 64 {
         return false;
     }
-    leaf_count_by_workers(rt, alloc, workers, 5) == Ok(5)
-        && leaf_count_by_workers(rt, alloc, workers, 4) == Err(PoolError::TooMany)
+    found_by(rt, alloc, workers, 5) == Ok(5)
+        && found_by(rt, alloc, workers, 4) == Err(PoolError::TooMany)
 }
 
 // Shows that one, two, four and 64 workers find the same five leaves and keep the limit.
@@ -174,7 +174,7 @@ impl Gate for Four {
 
 // Tells whether four seats meet at the gate. Three nodes lie on the deque of the first seat when all start, so each
 // other seat takes one.
-fn four_seats_meet<N: Naming + Send + Sync, R: Threads + Wait + Sync>(
+fn meet<N: Naming + Send + Sync, R: Threads + Wait + Sync>(
     rt: &R,
     alloc: Global,
     ledger: &SpanLedger,
@@ -201,12 +201,12 @@ fn four_workers_meet(rt: HostRuntime) -> Result<(), Fail> {
         assert!(rt; false);
         return Ok(());
     };
-    assert!(rt; four_seats_meet::<Brand, _>(&rt, rt.alloc(), &ledger, entries));
+    assert!(rt; meet::<Brand, _>(&rt, rt.alloc(), &ledger, entries));
     Ok(())
 }
 
 // Returns how often the first worker and the others have passed the gate.
-fn passes_of(gate: &Meeting) -> (u64, u64) {
+fn passes(gate: &Meeting) -> (u64, u64) {
     let first = gate.first.load(Ordering::SeqCst);
     let others = gate.others.load(Ordering::SeqCst);
     (first, others)
@@ -219,7 +219,7 @@ fn all_met(gate: &Meeting) -> bool {
 
 // Tells whether four seats, of which the first and another meet, leave nothing on their deques for the end of the
 // pool.
-fn seats_leave_nothing<N: Naming + Send + Sync, R: Threads + Wait + Sync>(
+fn leave_nothing<N: Naming + Send + Sync, R: Threads + Wait + Sync>(
     rt: &R,
     alloc: Global,
     ledger: &SpanLedger,
@@ -236,9 +236,9 @@ fn seats_leave_nothing<N: Naming + Send + Sync, R: Threads + Wait + Sync>(
     };
     let pushed = push_and_work(rt, &Crossing, seats.as_mut_slice(), 1);
     let met = all_met(&gate);
-    let before = passes_of(&gate);
+    let before = passes(&gate);
     let ended = finish(rt, alloc, seats).is_ok();
-    pushed & met & ended & (passes_of(&gate) == before)
+    pushed & met & ended & (passes(&gate) == before)
 }
 
 // Shows that workers that work to their end leave nothing for `finish`.
@@ -249,6 +249,6 @@ fn workers_leave_nothing_for_the_end(rt: HostRuntime) -> Result<(), Fail> {
         assert!(rt; false);
         return Ok(());
     };
-    assert!(rt; seats_leave_nothing::<Brand, _>(&rt, rt.alloc(), &ledger, entries));
+    assert!(rt; leave_nothing::<Brand, _>(&rt, rt.alloc(), &ledger, entries));
     Ok(())
 }

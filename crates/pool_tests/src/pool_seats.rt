@@ -262,7 +262,7 @@ const WAY: [(usize, usize); 12] = [
 ];
 
 // Tells whether the seats hand over along all pairs of `WAY`.
-fn hand_over_all<N: Naming, R: Wait>(rt: &R, seats: &mut [PoolSeat<N, Crossing, OpenGate>]) -> bool
+fn hand_round<N: Naming, R: Wait>(rt: &R, seats: &mut [PoolSeat<N, Crossing, OpenGate>]) -> bool
     requires named { AreNamed N.rules long_crossing }
     requires free { AreFree seats.old }
 {
@@ -278,7 +278,7 @@ fn hand_over_all<N: Naming, R: Wait>(rt: &R, seats: &mut [PoolSeat<N, Crossing, 
 }
 
 // Makes a pool of four seats, and tells whether they hand over along all pairs of `WAY`.
-fn make_and_hand_over_all<N: Naming, R: Wait>(
+fn make_and_hand_round<N: Naming, R: Wait>(
     rt: &R,
     alloc: Global,
     ledger: &SpanLedger,
@@ -293,7 +293,7 @@ fn make_and_hand_over_all<N: Naming, R: Wait>(
     ) else {
         return false;
     };
-    hand_over_all(rt, seats.as_mut_slice())
+    hand_round(rt, seats.as_mut_slice())
 }
 
 // Shows that each of four seats steals from each other one.
@@ -304,6 +304,6 @@ fn each_of_four_seats_steals_from_each_other_one(rt: HostRuntime) -> Result<(), 
         assert!(rt; false);
         return Ok(());
     };
-    assert!(rt; make_and_hand_over_all::<Brand, _>(&rt, rt.alloc(), &ledger, entries));
+    assert!(rt; make_and_hand_round::<Brand, _>(&rt, rt.alloc(), &ledger, entries));
     Ok(())
 }

@@ -82,7 +82,7 @@ fn mark_at(t: i64) -> Mark {
 }
 
 // Counts the leaves with a turn, or returns none where a leaf has another mark than `mark_at` says.
-fn turn_count(leaves: &[Leaf]) -> Option<u32> {
+fn turns(leaves: &[Leaf]) -> Option<u32> {
     let mut turns = 0u32;
     for leaf in leaves {
         if leaf.mark != mark_at(leaf.node.b) {
@@ -96,7 +96,7 @@ fn turn_count(leaves: &[Leaf]) -> Option<u32> {
 }
 
 // Counts the leaves with a turn in a book, or returns none where a leaf has another mark than `mark_at` says.
-fn turn_count_of_book(book: &Book) -> Option<u32> {
+fn turns_of(book: &Book) -> Option<u32> {
     let mut turns = 0u32;
     for entry in &book.entries {
         if entry.leaf.mark != mark_at(entry.leaf.node.b) {
@@ -110,16 +110,12 @@ fn turn_count_of_book(book: &Book) -> Option<u32> {
 }
 
 // Counts the leaves with a turn that this many workers find, or returns none where a leaf has another mark.
-fn turn_count_by_workers<R: Threads + Wait + Sync>(
-    rt: &R,
-    alloc: Global,
-    workers: u32,
-) -> Option<u32> {
+fn turns_by<R: Threads + Wait + Sync>(rt: &R, alloc: Global, workers: u32) -> Option<u32> {
     if workers < 1 || workers > 64 {
         return None;
     }
     match find_scalar(rt, alloc, &judge(), span(0, 12), workers, 13, &OpenGate) {
-        Ok(book) => turn_count_of_book(&book),
+        Ok(book) => turns_of(&book),
         Err(_) => None,
     }
 }
@@ -128,7 +124,7 @@ fn turn_count_by_workers<R: Threads + Wait + Sync>(
 #[test]
 fn workers_find_each_passing_of_a_table(rt: HostRuntime) {
     for workers in [1, 2, 8] {
-        assert!(rt; turn_count_by_workers(&rt, rt.alloc(), workers) == Some(4));
+        assert!(rt; turns_by(&rt, rt.alloc(), workers) == Some(4));
     }
 }
 
@@ -140,6 +136,6 @@ fn one_walk_finds_them(rt: HostRuntime) -> Result<(), Fail> {
         assert!(rt; false);
         return Ok(());
     };
-    assert!(rt; turn_count(leaves.as_slice()) == Some(4));
+    assert!(rt; turns(leaves.as_slice()) == Some(4));
     Ok(())
 }

@@ -2,7 +2,7 @@ use Rattle.std.proofs.Common.{List, sym, subst}
 use Rattle.steal_pool.specs.Pools.{AllBegin}
 use Rattle.steal_pool.specs.Seats.{Seat}
 use Rattle.steal_pool.proofs.Returning.{begin_free}
-use Rattle.pool_tests.proofs.pool_meetings.four_seats_meet.Goals as goal
+use Rattle.pool_tests.proofs.pool_meetings.meet.Goals as goal
 
 pub push_and_work-pushed-requires-clause-free : goal.push_and_work-pushed-requires-clause-free
 push_and_work-pushed-requires-clause-free g c κs within =

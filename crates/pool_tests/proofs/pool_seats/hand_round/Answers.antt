@@ -1,5 +1,5 @@
 use Rattle.std.proofs.Common.{refl}
-use Rattle.pool_tests.proofs.pool_seats.hand_over_all.Goals as goal
+use Rattle.pool_tests.proofs.pool_seats.hand_round.Goals as goal
 
 pub loop-owner-init : goal.loop-owner-init
 loop-owner-init g c = c.requires.free

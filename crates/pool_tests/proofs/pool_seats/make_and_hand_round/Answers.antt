@@ -2,7 +2,7 @@ use Rattle.std.proofs.Common.{List, sym, subst}
 use Rattle.steal_pool.specs.Pools.{AllBegin}
 use Rattle.steal_pool.specs.Seats.{Seat}
 use Rattle.steal_pool.proofs.Returning.{begin_free}
-use Rattle.pool_tests.proofs.pool_seats.make_and_hand_over_all.Goals as goal
+use Rattle.pool_tests.proofs.pool_seats.make_and_hand_round.Goals as goal
 
 pub hand_round-requires-clause-free : goal.hand_round-requires-clause-free
 hand_round-requires-clause-free g c =

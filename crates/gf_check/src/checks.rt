@@ -44,12 +44,7 @@ pub fn line_over(alloc: Global, find: &FindAsk, span: Span) -> Result<Vec<u8>, R
 
 // Returns the report of a certificate's leaves, which follow one another over a span: their windows, and how many
 // leaves there are. The only error is out of memory.
-fn report_of_leaves(
-    alloc: Global,
-    find: &FindAsk,
-    span: Span,
-    leaves: &[Leaf],
-) -> Result<Vec<u8>, Refusal>
+fn printed(alloc: Global, find: &FindAsk, span: Span, leaves: &[Leaf]) -> Result<Vec<u8>, Refusal>
     requires tick { IsTick find.now.tick }
     requires from { IsTimeIn find.now.tick span.from }
     requires upto { IsTimeIn find.now.tick span.upto }
@@ -89,7 +84,7 @@ pub fn verify(
 {
     let line = line_over(alloc, find, span)?;
     match check_cert(alloc, text, &line, judge, root_of(span)) {
-        Ok(leaves) => report_of_leaves(alloc, find, span, &leaves),
+        Ok(leaves) => printed(alloc, find, span, &leaves),
         Err(error) => Err(refusal_of(error)),
     }
 }

@@ -16,13 +16,13 @@ use Rattle.gf_check.proofs.checks.verify.Goals as goal
 pub check_cert-requires-clause-valid : goal.check_cert-requires-clause-valid
 check_cert-requires-clause-valid g c = subst (λ (n : Node). IsValid (rules c.args.judge.now.search) n) (sym c.root_of.ensures) c.requires.valid
 
-pub report_of_leaves-requires-clause-follow : goal.report_of_leaves-requires-clause-follow
-report_of_leaves-requires-clause-follow g c =
+pub printed-requires-clause-follow : goal.printed-requires-clause-follow
+printed-requires-clause-follow g c =
     follow c.args.find.now c.args.judge.now.search c.args.span c.root_of.result c.deref.result.now c.args.text.now c.root_of.ensures (c.deref.ensures.value ∙ c.in_ok-line.ensures.line)
     c.in-Ok.leaves.items c.deref-in-Ok.result.now c.deref-in-Ok.ensures.value c.in-Ok.ensures.cover
 
-pub report_of_leaves-requires-clause-windows : goal.report_of_leaves-requires-clause-windows
-report_of_leaves-requires-clause-windows g c =
+pub printed-requires-clause-windows : goal.printed-requires-clause-windows
+printed-requires-clause-windows g c =
     have_times c.args.find.now c.args.judge.now.search c.args.span c.root_of.result c.deref.result.now c.args.text.now c.root_of.ensures (c.deref.ensures.value ∙ c.in_ok-line.ensures.line)
     c.in-Ok.leaves.items c.in-Ok.ensures.windows c.deref-in-Ok.result.now c.deref-in-Ok.ensures.value c.requires.from c.requires.upto
 
@@ -32,14 +32,14 @@ returns-in-Ok-clause-verified g c =
     let s = c.args.judge.now.search in
     let span = c.args.span in
     ok_also {X = Vec ℕ Global} {E = Refusal} (λ text. text.items ≡ verification find span.from span.upto (windows c.deref-in-Ok.result.now) (length c.deref-in-Ok.result.now))
-    (λ bytes. IsVerification find s span c.args.text.now bytes.items) c.report_of_leaves.result
+    (λ bytes. IsVerification find s span c.args.text.now bytes.items) c.printed.result
     (λ bytes is. accepted find s span c.root_of.result c.deref.result.now c.args.text.now c.root_of.ensures (c.deref.ensures.value ∙ c.in_ok-line.ensures.line)
-    c.in-Ok.leaves.items c.in-Ok.ensures.windows c.deref-in-Ok.result.now bytes.items c.in-Ok.ensures.checked c.deref-in-Ok.ensures.value is) c.report_of_leaves.ensures.text
+    c.in-Ok.leaves.items c.in-Ok.ensures.windows c.deref-in-Ok.result.now bytes.items c.in-Ok.ensures.checked c.deref-in-Ok.ensures.value is) c.printed.ensures.text
 
 pub returns-in-Ok-clause-stopped : goal.returns-in-Ok-clause-stopped
 returns-in-Ok-clause-stopped g c =
     err_also {X = Vec ℕ Global} {E = Refusal} (λ r. r ≡ Memory)
-    (λ r. (r ≡ Memory) ⊎ (verification_of c.args.find.now c.args.judge.now.search c.args.span c.args.text.now ≡ Err r)) c.report_of_leaves.result (λ r is. inl is) c.report_of_leaves.ensures.memory
+    (λ r. (r ≡ Memory) ⊎ (verification_of c.args.find.now c.args.judge.now.search c.args.span c.args.text.now ≡ Err r)) c.printed.result (λ r is. inl is) c.printed.ensures.memory
 
 pub returns-clause-stopped : goal.returns-clause-stopped
 returns-clause-stopped g c =

@@ -328,22 +328,20 @@ less_is_more r z s =
     (v 0 ⊗ v 4 ⊖ v 2 ⊗ v 3 ⊗ v 1) tt in
     ap (λ n. fraction n (r.denominator * 2 ^ down s)) e
 
+-- what holds of the sizes of x and -y, and of a number less the negated z, holds of those of x and y, and of it and z
+taken : (T : Fraction → Fraction → Type 0) (x y : Interval) (r : Fraction) (z : ℤ)
+    → T (slight (fraction_add (size x) (size (negated y)))) (fraction_add r (in_units (neg_ℤ z) y.s))
+    → T (slight (fraction_add (size x) (size y))) (fraction_sub r (in_units z y.s))
+taken T x y r z h =
+    subst (λ d. T (slight (fraction_add (size x) d)) (fraction_sub r (in_units z y.s))) (negated_size y)
+    (subst (T (slight (fraction_add (size x) (size (negated y))))) (less_is_more r z y.s) h)
+
 pub difference_under : (x y : Interval)
     → Under (slight (fraction_add (size x) (size y))) (low (difference x y)) (fraction_sub (low x) (high y))
 unfolding difference
-difference_under x y =
-    subst (λ d. Under (slight (fraction_add (size x) d)) (low (sum x (negated y))) (fraction_sub (low x) (high y)))
-    (negated_size y)
-    (subst (λ r. Under (slight (fraction_add (size x) (size (negated y)))) (low (sum x (negated y))) r)
-    (less_is_more (low x) y.hi y.s)
-    (sum_under x (negated y)))
+difference_under x y = taken (λ d. Under d (low (sum x (negated y)))) x y (low x) y.hi (sum_under x (negated y))
 
 pub difference_over : (x y : Interval)
     → Over (slight (fraction_add (size x) (size y))) (high (difference x y)) (fraction_sub (high x) (low y))
 unfolding difference
-difference_over x y =
-    subst (λ d. Over (slight (fraction_add (size x) d)) (high (sum x (negated y))) (fraction_sub (high x) (low y)))
-    (negated_size y)
-    (subst (λ r. Over (slight (fraction_add (size x) (size (negated y)))) (high (sum x (negated y))) r)
-    (less_is_more (high x) y.lo y.s)
-    (sum_over x (negated y)))
+difference_over x y = taken (λ d. Over d (high (sum x (negated y)))) x y (high x) y.lo (sum_over x (negated y))

@@ -108,16 +108,15 @@ squares_bounded x =
     let high = product_size x.hi (pos (unsigned_abs x.hi)) (greatest_end x) (greatest_end x) (omega arith) (omega arith) in
     omega arith
 
-pub square_under : (x : Interval)
-    → Under (slight (fraction_mul (size x) (size x))) (low (signed_square x)) (fraction_signed_square (low x))
-unfolding signed_square
-square_under x =
-    exact_under (signed_sq x.lo) (signed_sq x.hi) (x.s +ℤ x.s) (greatest_end x * greatest_end x) _ _ (squares_bounded x)
-    (product_allowed x x) (square_is_ratio x.lo x.s (2 ^ 58))
+module _ (x : Interval) where
+  pub square_under : Under (slight (fraction_mul (size x) (size x))) (low (signed_square x)) (fraction_signed_square (low x))
+  unfolding signed_square
+  square_under =
+      exact_under (signed_sq x.lo) (signed_sq x.hi) (x.s +ℤ x.s) (greatest_end x * greatest_end x) _ _ (squares_bounded x)
+      (product_allowed x x) (square_is_ratio x.lo x.s (2 ^ 58))
 
-pub square_over : (x : Interval)
-    → Over (slight (fraction_mul (size x) (size x))) (high (signed_square x)) (fraction_signed_square (high x))
-unfolding signed_square
-square_over x =
-    exact_over (signed_sq x.lo) (signed_sq x.hi) (x.s +ℤ x.s) (greatest_end x * greatest_end x) _ _ (squares_bounded x)
-    (product_allowed x x) (square_is_ratio x.hi x.s (2 ^ 58))
+  pub square_over : Over (slight (fraction_mul (size x) (size x))) (high (signed_square x)) (fraction_signed_square (high x))
+  unfolding signed_square
+  square_over =
+      exact_over (signed_sq x.lo) (signed_sq x.hi) (x.s +ℤ x.s) (greatest_end x * greatest_end x) _ _ (squares_bounded x)
+      (product_allowed x x) (square_is_ratio x.hi x.s (2 ^ 58))

@@ -169,16 +169,12 @@ module _ (lo hi s : ℤ) (m : ℕ) (d r : Fraction) (bounded : greatest lo hi �
   pub exact_under : IsRatio r (lo *ℤ pos (2 ^ 58)) s (2 ^ 58) → Under d (low (narrow lo hi s)) r
   exact_under ratio =
       narrow_under lo hi s (lo *ℤ pos (2 ^ 58)) s (pos m) 0 (2 ^ 58) d r (omega arith) (omega (arith, lin)) ratio allowed
-      (λ w l.
-      let f = l.near in
-      record { below = le-mul w lo (pos (2 ^ 58)) (omega (arith, lin)) l.below; near = less_lost lo w m (omega (arith, lin)) })
+      (λ w l. record { below = le-mul w lo (pos (2 ^ 58)) (omega (arith, lin)) l.below; near = less_lost lo w m (omega (arith, lin, l.near)) })
 
   pub exact_over : IsRatio r (hi *ℤ pos (2 ^ 58)) s (2 ^ 58) → Over d (high (narrow lo hi s)) r
   exact_over ratio =
       narrow_over lo hi s (hi *ℤ pos (2 ^ 58)) s (pos m) 0 (2 ^ 58) d r (omega arith) (omega (arith, lin)) ratio allowed
-      (λ w l.
-      let f = l.near in
-      record { above = le-mul hi w (pos (2 ^ 58)) (omega (arith, lin)) l.above; near = less_lost w hi m (omega (arith, lin)) })
+      (λ w l. record { above = le-mul hi w (pos (2 ^ 58)) (omega (arith, lin)) l.above; near = less_lost w hi m (omega (arith, lin, l.near)) })
 
 -- ---- narrowing alone
 pub alone_is_ratio : (z s : ℤ) (b : ℕ) → IsRatio (in_units z s) (z *ℤ pos b) s b

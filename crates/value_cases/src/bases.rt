@@ -94,11 +94,7 @@ fn entries(basis: &Basis, k: usize) -> [Ends; 4]
 
 // The ends of the entries of the four rows.
 fn expected_entries(fields: &mut Fields<'_>) -> Result<[Ends; 4], RowError> {
-    let t = pair(fields)?;
-    let u = pair(fields)?;
-    let q = pair(fields)?;
-    let r = pair(fields)?;
-    Ok([t, u, q, r])
+    Ok([pair(fields)?, pair(fields)?, pair(fields)?, pair(fields)?])
 }
 
 // Whether the four rows to `n` entries have these at place `k`, made each by itself and two at a time.

@@ -24,20 +24,14 @@ fn find(alloc: Global, matches: &ArgMatches<'_>) -> Result<Request, WordFault>
     ensures { Answers (request_by command.Find (values_of matches.now) (file_names_of matches.now))
         result }
 {
-    match search(alloc, matches) {
-        Ok(find) => Ok(Request::Find(find)),
-        Err(fault) => Err(fault),
-    }
+    search(alloc, matches).map(Request::Find)
 }
 
 fn cert(alloc: Global, matches: &ArgMatches<'_>) -> Result<Request, WordFault>
     ensures { Answers (request_by command.Cert (values_of matches.now) (file_names_of matches.now))
         result }
 {
-    match search(alloc, matches) {
-        Ok(find) => Ok(Request::Cert(find)),
-        Err(fault) => Err(fault),
-    }
+    search(alloc, matches).map(Request::Cert)
 }
 
 fn verify(alloc: Global, matches: &ArgMatches<'_>) -> Result<Request, WordFault>

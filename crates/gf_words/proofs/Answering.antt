@@ -1,6 +1,6 @@
 -- What is answered, from what was read.
 use Rattle.std.proofs.Common.{◌≡◌, ◌∙◌, ◌⊎◌, ◌++◌, [], true, false, List, Result, Some, Ok, Err, refl, sym, ap, subst, inl, inr, codes, Option, option_and_then, unwrap_or}
-use Rattle.std.specs.Prelude.{IfErr, IfOk}
+use Rattle.std.specs.Prelude.{IfErr, IfOk, IsOkAnd, MatchResult}
 use Rattle.clap.specs.Walk.{all_of, first_of}
 use Rattle.clap.specs.Simple.{App}
 use Rattle.clap.specs.Faults.{is_simple_and_free}
@@ -133,3 +133,12 @@ pub search_fails : (request : FindAsk → Result Request WordFault) (found : Res
     → (fault ≡ Memory) ⊎ (found ≡ Err fault) → (fault ≡ Memory) ⊎ (of_search request found ≡ Err fault)
 search_fails request found fault (inl memory) = inl memory
 search_fails request found fault (inr is) = inr (ap (of_search request) is)
+
+-- where a request is made of what was found
+pub search_makes : (make : FindAsk → Request) (found read : Result FindAsk WordFault) (result : Result Request WordFault)
+    → Answers found read → MatchResult read (λ find. IsOkAnd result (λ request. request ≡ make find)) (λ fault. result ≡ Err fault)
+    → Answers (of_search (λ find. Ok (make find)) found) result
+search_makes make found (Ok find) (Ok request) is made = ap (of_search (λ find. Ok (make find))) is ∙ ap Ok (sym made)
+search_makes make found (Ok find) (Err fault) is made = absurd made
+search_makes make found (Err fault) result is made =
+    subst (Answers (of_search (λ find. Ok (make find)) found)) (sym made) (search_fails (λ find. Ok (make find)) found fault is)

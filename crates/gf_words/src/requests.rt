@@ -25,10 +25,7 @@ fn find_request(alloc: Global, matches: &ArgMatches<'_>) -> Result<Request, Word
     ensures { Answers (request_by command.Find (values_of matches.now) (file_names_of matches.now))
         result }
 {
-    match search(alloc, matches) {
-        Ok(find) => Ok(Request::Find(find)),
-        Err(fault) => Err(fault),
-    }
+    search(alloc, matches).map(Request::Find)
 }
 
 // Makes the request of `cert`, which has the options of `find`, or names the first option that is bad.
@@ -36,10 +33,7 @@ fn cert_request(alloc: Global, matches: &ArgMatches<'_>) -> Result<Request, Word
     ensures { Answers (request_by command.Cert (values_of matches.now) (file_names_of matches.now))
         result }
 {
-    match search(alloc, matches) {
-        Ok(find) => Ok(Request::Cert(find)),
-        Err(fault) => Err(fault),
-    }
+    search(alloc, matches).map(Request::Cert)
 }
 
 // Makes the request of `verify`: a search as `find` has it, and the certificate. Else names the first option that is

@@ -1,10 +1,10 @@
 -- Numbers that fit are passed from call to call as they are.
-use Rattle.std.proofs.Common.{◌≡◌, ℕ, ◌≤ℤ◌, ◌*◌, ◌^◌, ◌≤◌, ◌∙◌, sym, subst, ℤ, pos, ◌*ℤ◌, unsigned_abs, to_z, of_z, w32, w64, arith}
+use Rattle.std.proofs.Common.{◌≡◌, ℕ, ◌≤ℤ◌, ◌*◌, ◌^◌, ◌≤◌, ◌∙◌, ℤ, ◌*ℤ◌, unsigned_abs, to_z, of_z, w32, w64, arith}
 use Rattle.std.proofs.lemmas.Int.{ints, to_z-of_z}
 use mir.Syntax.{w128}
 use mir.Val.{SFits}
 use lib.Signed.{le_z}
-use Rattle.spec_intervals.specs.Interval.{IsExponent, IsIval, end_limit, exponent_limit, interval}
+use Rattle.spec_intervals.specs.Interval.{IsExponent, end_limit, exponent_limit}
 
 pub kept : (z v : ℤ) → SFits w128 z → z ≡ v → to_z w128 (of_z w128 z) ≡ v
 kept z v f e = to_z-of_z w128 z f ∙ e
@@ -48,13 +48,8 @@ step_kept z h = omega (arith, ints)
 pub exponent_kept : (z : ℤ) → unsigned_abs z ≤ 4 * exponent_limit → unsigned_abs (to_z w32 (of_z w32 z)) ≤ 4 * exponent_limit
 exponent_kept z h = omega (arith, ints)
 
-pub ends_kept : (a b : ℤ) → IsIval (interval a b (pos 0)) → IsIval (interval (to_z w64 (of_z w64 a)) (to_z w64 (of_z w64 b)) (pos 0))
-ends_kept a b is =
-    let low = is.lo_small in
-    let high = is.hi_small in
-    let first : to_z w64 (of_z w64 a) ≡ a = to_z-of_z w64 a (omega (arith, ints)) in
-    let last : to_z w64 (of_z w64 b) ≡ b = to_z-of_z w64 b (omega (arith, ints)) in
-    subst (λ z. IsIval (interval z (to_z w64 (of_z w64 b)) (pos 0))) (sym first) (subst (λ z. IsIval (interval a z (pos 0))) (sym last) is)
+pub order_of_ends : (a b : ℤ) → SFits w64 a → SFits w64 b → a ≤ℤ b → to_z w64 (of_z w64 a) ≤ℤ to_z w64 (of_z w64 b)
+order_of_ends a b f g h = omega (arith, ints)
 
 pub order_kept : (a b : ℤ) → unsigned_abs a ≤ 2 ^ 124 → unsigned_abs b ≤ 2 ^ 124 → a ≤ℤ b → to_z w128 (of_z w128 a) ≤ℤ to_z w128 (of_z w128 b)
 order_kept a b p q h = omega (arith, ints)

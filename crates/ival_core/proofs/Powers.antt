@@ -1,18 +1,19 @@
 -- Mantissas at an exponent, and powers of ten.
-use Rattle.std.proofs.Common.{◌≡◌, ℕ, zero, suc, ◌*◌, ◌/◌, ◌^◌, ◌<◌, ◌≤◌, arith, refl, sym, ap, ◌∙◌, ℤ, pos, negsuc, neg_ℤ, ◌*ℤ◌, unsigned_abs, w64, FitsSigned, min, ◌⊎◌, inl, inr}
+use Rattle.std.proofs.Common.{◌≡◌, ℕ, zero, suc, ◌*◌, ◌^◌, ◌<◌, ◌≤◌, arith, refl, ap, ◌∙◌, ℤ, pos, neg_ℤ, ◌*ℤ◌, unsigned_abs, w64, FitsSigned, min, ◌⊎◌, inl, inr}
 use Rattle.std.proofs.lemmas.Int.{ints, unsigned_abs-mul, fits_signed_from_abs}
 use Rattle.std.proofs.lemmas.Nat.{mul-le}
-use Rattle.std.proofs.Math.Nat.{div-eq_of_lt, pow-le-pow_right, one-le-pow}
+use Rattle.std.proofs.Math.Nat.{pow-le-pow_right, one-le-pow}
 use Rattle.std.proofs.lemmas.Bool.{cases_lt}
 use mir.Syntax.{w128}
 use Rattle.spec_numbers.specs.Numbers.{floor_div, ceil_div}
+use Rattle.spec_numbers.proofs.Floor.{floor_div-past}
 use Rattle.spec_numbers.proofs.Sizes.{unsigned_abs-neg}
 
 -- a mantissa of 64 bits at an exponent
 pub mant_wide : (z : ℤ) → FitsSigned w64 z → FitsSigned w128 z
 mant_wide z h = omega (arith, ints)
 
-mant_size : (z : ℤ) → FitsSigned w64 z → unsigned_abs z ≤ 2 ^ 63
+pub mant_size : (z : ℤ) → FitsSigned w64 z → unsigned_abs z ≤ 2 ^ 63
 mant_size z h = omega (arith, ints)
 
 pub mant_bound : (z : ℤ) (k : ℕ) → FitsSigned w64 z → k ≤ 60 → unsigned_abs (z *ℤ pos (2 ^ k)) ≤ 2 ^ 123
@@ -34,22 +35,15 @@ pub ten_above : (n : ℕ) → 38 ≤ n → 10 ^ 38 ≤ 10 ^ n
 ten_above n h = pow-le-pow_right (omega arith) h
 
 -- past 10^38 a number of 123 bits is divided to 0 or -1
-pub tenths_past : (z : ℤ) (d e : ℕ) → unsigned_abs z ≤ 2 ^ 123 → 10 ^ 38 ≤ d → 10 ^ 38 ≤ e → floor_div z d ≡ floor_div z e
-tenths_past (pos n) d e h p q =
-    let a : n / d ≡ 0 = div-eq_of_lt (omega arith) in
-    let b : n / e ≡ 0 = div-eq_of_lt (omega arith) in
-    ap pos (a ∙ sym b)
-tenths_past (negsuc n) d e h p q =
-    let a : n / d ≡ 0 = div-eq_of_lt (omega arith) in
-    let b : n / e ≡ 0 = div-eq_of_lt (omega arith) in
-    ap negsuc (a ∙ sym b)
-
 pub tenths_capped : (z : ℤ) (n m : ℕ) → unsigned_abs z ≤ 2 ^ 123 → m ≡ min n 38 → floor_div z (10 ^ m) ≡ floor_div z (10 ^ n)
 tenths_capped z n m h e = by (cases_lt n 38)
   where
     by : (n < 38) ⊎ (38 ≤ n) → floor_div z (10 ^ m) ≡ floor_div z (10 ^ n)
     by (inl r) = let f : m ≡ n = omega arith in ap (λ k. floor_div z (10 ^ k)) f
-    by (inr r) = let f : m ≡ 38 = omega arith in ap (λ k. floor_div z (10 ^ k)) f ∙ tenths_past z (10 ^ 38) (10 ^ n) h (omega arith) (ten_above n r)
+    by (inr r) =
+        let f : m ≡ 38 = omega arith in
+        let p = ten_above n r in
+        ap (λ k. floor_div z (10 ^ k)) f ∙ floor_div-past z (10 ^ 38) (10 ^ n) (omega arith) (omega arith)
 
 -- a whole number that is at most 2^60 times 10^n is 0, or n is at most 18
 ten_large : (n : ℕ) → 18 < n → 10 ^ 19 ≤ 10 ^ n

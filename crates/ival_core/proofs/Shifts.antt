@@ -6,6 +6,7 @@ use Rattle.std.proofs.Math.Nat.{pow-le-pow_right}
 use mir.Syntax.{w128}
 use Rattle.spec_numbers.proofs.Sizes.{product_size, least_size, greatest_size}
 use Rattle.spec_intervals.specs.Interval.{greatest4, least4}
+use Rattle.ival_core.proofs.Powers.{mant_size}
 
 pub one_shifted : (m : ℕ) → m ≤ 60 → to_z w128 (1 * 2 ^ m % 2 ^ 128) ≡ pos (2 ^ m)
 one_shifted m h =
@@ -24,10 +25,10 @@ lift_fits z m h p = let b : unsigned_abs (z *ℤ pos (2 ^ m)) ≤ 2 ^ 122 = lift
 pub small_fits : (z : ℤ) → unsigned_abs z ≤ 2 ^ 62 → FitsSigned w128 z
 small_fits z h = fits_signed_from_abs w128 z (omega arith)
 
-pub product_fits : (a b : ℤ) → unsigned_abs a ≤ 2 ^ 62 → unsigned_abs b ≤ 2 ^ 62 → FitsSigned w128 (a *ℤ b)
-product_fits a b p q =
-    let h : unsigned_abs a * unsigned_abs b ≤ 2 ^ 62 * 2 ^ 62 = mul-le (unsigned_abs a) (unsigned_abs b) (2 ^ 62) (2 ^ 62) p q in
-    let e : unsigned_abs (a *ℤ b) ≡ unsigned_abs a * unsigned_abs b = unsigned_abs-mul a b in
+-- two numbers of 64 bits have a product of 128
+pub product_fits : (a b : ℤ) → FitsSigned w64 a → FitsSigned w64 b → FitsSigned w128 (a *ℤ b)
+product_fits a b f g =
+    let h = product_size a b (2 ^ 63) (2 ^ 63) (mant_size a f) (mant_size b g) in
     fits_signed_from_abs w128 (a *ℤ b) (omega arith)
 
 pub product_bound : (a b : ℤ) → unsigned_abs a ≤ 2 ^ 62 → unsigned_abs b ≤ 2 ^ 62 → unsigned_abs (a *ℤ b) ≤ 2 ^ 124

@@ -2,7 +2,7 @@
 
 ghost use Rattle.std.specs.Prelude.{◌≡◌, ◌↔◌, ◌≤◌, ◌<◌, ◌^◌, ◌*◌, ◌≤ℤ◌, ◌+ℤ◌, ◌*ℤ◌, pos, unsigned_abs, max, IsTrue};
 ghost use Rattle.std.specs.Int.{int_gap, int_min, int_max};
-ghost use Rattle.spec_intervals.specs.Interval.{interval, IsIval, IsExponent, exponent_limit, end_limit, lift_limit, narrow_shift, least4, greatest4, signed_sq};
+ghost use Rattle.spec_intervals.specs.Interval.{IsExponent, exponent_limit, end_limit, lift_limit, narrow_shift, least4, greatest4, signed_sq};
 ghost use Rattle.spec_numbers.specs.Numbers.{floor_div, ceil_div};
 
 /// The greatest magnitude of an end, 2^62. The product of two ends is within 128 bits.
@@ -185,13 +185,10 @@ pub fn greater_exponent(s: i32, t: i32) -> i32
     if s < t { t } else { s }
 }
 
-/// Returns the product of two ends, by one multiplication of 64-bit numbers.
+/// The product, by one multiplication of 64-bit numbers.
 #[inline(always)]
 fn times(a: i64, b: i64) -> i128
-    requires a_small { unsigned_abs a ≤ end_limit }
-    requires b_small { unsigned_abs b ≤ end_limit }
-    ensures equals { result ≡ a *ℤ b }
-    ensures bound { unsigned_abs result ≤ 2 ^ 124 }
+    ensures { result ≡ a *ℤ b }
 {
     a as i128 * b as i128
 }
@@ -200,11 +197,9 @@ fn times(a: i64, b: i64) -> i128
 /// no branch depends on a sign that cannot be foreseen.
 #[inline(always)]
 fn ends_by_product(a: i64, b: i64, z: i64) -> (i64, i64)
-    requires ends { IsIval (interval a b (pos 0)) }
+    requires { a ≤ℤ b }
     ensures lesser { result.0 *ℤ z ≡ int_min (a *ℤ z) (b *ℤ z) }
     ensures greater { result.1 *ℤ z ≡ int_max (a *ℤ z) (b *ℤ z) }
-    ensures lesser_small { unsigned_abs result.0 ≤ end_limit }
-    ensures greater_small { unsigned_abs result.1 ≤ end_limit }
 {
     if z >= 0 { (a, b) } else { (b, a) }
 }
@@ -213,8 +208,7 @@ fn ends_by_product(a: i64, b: i64, z: i64) -> (i64, i64)
 /// multiplied.
 #[inline(always)]
 fn products_with(a: i64, b: i64, z: i64) -> (i128, i128)
-    requires ends { IsIval (interval a b (pos 0)) }
-    requires z_small { unsigned_abs z ≤ end_limit }
+    requires { a ≤ℤ b }
     ensures lesser { result.0 ≡ int_min (a *ℤ z) (b *ℤ z) }
     ensures greater { result.1 ≡ int_max (a *ℤ z) (b *ℤ z) }
 {
@@ -226,8 +220,7 @@ fn products_with(a: i64, b: i64, z: i64) -> (i128, i128)
 /// `d`.
 #[inline(always)]
 fn products_across(a: i64, b: i64, c: i64, d: i64) -> (i128, i128)
-    requires ends { IsIval (interval a b (pos 0)) }
-    requires other_ends { IsIval (interval c d (pos 0)) }
+    requires order { c ≤ℤ d }
     requires below { a ≤ℤ pos 0 }
     requires above { pos 0 ≤ℤ b }
     ensures least { result.0 ≡ least4 a b c d }
@@ -248,8 +241,8 @@ fn products_across(a: i64, b: i64, c: i64, d: i64) -> (i128, i128)
 /// one interval has a sign, that sign tells which two products these are.
 #[inline(always)]
 fn products_by_sign(a: i64, b: i64, c: i64, d: i64) -> (i128, i128)
-    requires ends { IsIval (interval a b (pos 0)) }
-    requires other_ends { IsIval (interval c d (pos 0)) }
+    requires order { a ≤ℤ b }
+    requires other_order { c ≤ℤ d }
     ensures least { result.0 ≡ least4 a b c d }
     ensures greatest { result.1 ≡ greatest4 a b c d }
 {

@@ -10,6 +10,7 @@ use Rattle.spec_bodies.specs.Views.{View, Fits, exact_state}
 use Rattle.spec_bodies.proofs.Held.{fractions_of_states}
 use Rattle.spec_meanings.specs.Ratios.{IsRatio}
 use Rattle.spec_meanings.specs.Scenes.{Scene, Shows, HasScene}
+use Rattle.spec_meanings.specs.Space.{Triple, along}
 
 abbrev all_of : List ℕ → ℕ
 all_of [] = 1
@@ -51,30 +52,38 @@ module _ (exact : Leaf → ℤ → Fraction) (t : ℤ) (numbers : (l : Leaf) →
   abbrev place : (l : Leaf) → ℕ → ℤ
   place l i = (exact l t).numerator *ℤ pos (others_of denominators i)
 
+  -- the places along three axes, whose denominators stand from the i-th on
+  abbrev triple_of : (ℕ → Leaf) → ℕ → Triple
+  triple_of along_axis i = record { x = place (along_axis 0) i; y = place (along_axis 1) (suc i); z = place (along_axis 2) (suc (suc i)) }
+
   abbrev sight : Scene
-  sight = record { unit = all_of denominators; target = record { x = place (position 0 0) 0; y = place (position 0 1) 1; z = place (position 0 2) 2 }; second = record { x = place (position 1 0) 3; y = place (position 1 1) 4; z = place (position 1 2) 5 }; target_velocity = record { x = place (velocity 0 0) 6; y = place (velocity 0 1) 7; z = place (velocity 0 2) 8 }; second_velocity = record { x = place (velocity 1 0) 9; y = place (velocity 1 1) 10; z = place (velocity 1 2) 11 } }
+  sight = record {
+    unit = all_of denominators;
+    target = triple_of (position 0) 0;
+    second = triple_of (position 1) 3;
+    target_velocity = triple_of (velocity 0) 6;
+    second_velocity = triple_of (velocity 1) 9;
+  }
 
   leaf_ratio : (l : Leaf) (i : ℕ) → IsLeaf l → one_of denominators i ≡ (exact l t).denominator → IsRatio (exact l t) (place l i) (all_of denominators)
   leaf_ratio l i h e = ratio_of (exact l t) (all_of denominators) (others_of denominators i) (numbers l h) positive (apart denominators i ∙ ap (λ n. n * others_of denominators i) e)
 
+  ratios : (along_axis : ℕ → Leaf) (i : ℕ) → ((axis : ℕ) → axis < 3 → IsLeaf (along_axis axis))
+      → one_of denominators i ≡ (exact (along_axis 0) t).denominator
+      → one_of denominators (suc i) ≡ (exact (along_axis 1) t).denominator
+      → one_of denominators (suc (suc i)) ≡ (exact (along_axis 2) t).denominator
+      → (axis : ℕ) → axis < 3 → IsRatio (exact (along_axis axis) t) (along (triple_of along_axis i) axis) (all_of denominators)
+  ratios along_axis i leaf x y z zero h = leaf_ratio (along_axis 0) i (leaf 0 h) x
+  ratios along_axis i leaf x y z (suc zero) h = leaf_ratio (along_axis 1) (suc i) (leaf 1 h) y
+  ratios along_axis i leaf x y z (suc (suc zero)) h = leaf_ratio (along_axis 2) (suc (suc i)) (leaf 2 h) z
+  ratios along_axis i leaf x y z (suc (suc (suc axis))) h = absurd (omega (arith, h))
+
   shown : Shows exact t sight
-  shown (position zero zero) h = leaf_ratio (position 0 0) 0 h refl
-  shown (position zero (suc zero)) h = leaf_ratio (position 0 1) 1 h refl
-  shown (position zero (suc (suc zero))) h = leaf_ratio (position 0 2) 2 h refl
-  shown (position zero (suc (suc (suc axis)))) h = let b : suc (suc (suc axis)) < 3 = h.1 in absurd (omega arith)
-  shown (position (suc zero) zero) h = leaf_ratio (position 1 0) 3 h refl
-  shown (position (suc zero) (suc zero)) h = leaf_ratio (position 1 1) 4 h refl
-  shown (position (suc zero) (suc (suc zero))) h = leaf_ratio (position 1 2) 5 h refl
-  shown (position (suc zero) (suc (suc (suc axis)))) h = let b : suc (suc (suc axis)) < 3 = h.1 in absurd (omega arith)
+  shown (position zero axis) h = ratios (position 0) 0 (λ a within. (h.0, within)) refl refl refl axis h.1
+  shown (position (suc zero) axis) h = ratios (position 1) 3 (λ a within. (h.0, within)) refl refl refl axis h.1
   shown (position (suc (suc target)) axis) h = let b : suc (suc target) < 2 = h.0 in absurd (omega arith)
-  shown (velocity zero zero) h = leaf_ratio (velocity 0 0) 6 h refl
-  shown (velocity zero (suc zero)) h = leaf_ratio (velocity 0 1) 7 h refl
-  shown (velocity zero (suc (suc zero))) h = leaf_ratio (velocity 0 2) 8 h refl
-  shown (velocity zero (suc (suc (suc axis)))) h = let b : suc (suc (suc axis)) < 3 = h.1 in absurd (omega arith)
-  shown (velocity (suc zero) zero) h = leaf_ratio (velocity 1 0) 9 h refl
-  shown (velocity (suc zero) (suc zero)) h = leaf_ratio (velocity 1 1) 10 h refl
-  shown (velocity (suc zero) (suc (suc zero))) h = leaf_ratio (velocity 1 2) 11 h refl
-  shown (velocity (suc zero) (suc (suc (suc axis)))) h = let b : suc (suc (suc axis)) < 3 = h.1 in absurd (omega arith)
+  shown (velocity zero axis) h = ratios (velocity 0) 6 (λ a within. (h.0, within)) refl refl refl axis h.1
+  shown (velocity (suc zero) axis) h = ratios (velocity 1) 9 (λ a within. (h.0, within)) refl refl refl axis h.1
   shown (velocity (suc (suc target)) axis) h = let b : suc (suc target) < 2 = h.0 in absurd (omega arith)
 
   pub has_scene : HasScene exact t one other

@@ -62,22 +62,32 @@ near-off m p q e r z d g fz fd unit l h x =
     let hi' = off_high (at p q (length m.coefficients) m.coefficients) (power q (length m.coefficients)) (pos m.error) (pos (2 ^ up m.exponent)) (pos (2 ^ down m.exponent)) r.numerator r.denominator z.numerator z.denominator d.numerator d.denominator (pos e) (power0 p q (length m.coefficients) g) (natural (2 ^ down m.exponent)) x.is_fraction fd unit h hi in
     at-near (widened e m) p q z g (length m.coefficients) (up m.exponent) (down m.exponent) (omega arith) refl fz (Apart-in (at p q (length m.coefficients) m.coefficients) (power q (length m.coefficients)) (pos (m.error + e)) (pos (2 ^ up m.exponent)) (pos (2 ^ down m.exponent)) z.numerator (pos z.denominator) lo' hi')
 
--- r - d <= z <= r, so z <= r + d, and the same from above
-under_over : (d z r : Fraction) → NoMore (fraction_sub r d) z → NoMore z r → NoMore z (fraction_add r d)
-under_over d z r l h =
-    let a : (z.numerator *ℤ pos r.denominator *ℤ pos d.denominator) ≤ℤ (r.numerator *ℤ pos z.denominator *ℤ pos d.denominator) = le-mul (z.numerator *ℤ pos r.denominator) (r.numerator *ℤ pos z.denominator) (pos d.denominator) (natural d.denominator) h in
-    let b : z.numerator *ℤ pos (r.denominator * d.denominator) ≡ z.numerator *ℤ pos r.denominator *ℤ pos d.denominator = ring (z.numerator ∷ pos r.denominator ∷ pos d.denominator ∷ []) (v 0 ⊗ (v 1 ⊗ v 2)) (v 0 ⊗ v 1 ⊗ v 2) tt in
-    let c : (r.numerator *ℤ pos d.denominator -ℤ d.numerator *ℤ pos r.denominator) *ℤ pos z.denominator ≡ r.numerator *ℤ pos z.denominator *ℤ pos d.denominator -ℤ d.numerator *ℤ pos r.denominator *ℤ pos z.denominator = ring (r.numerator ∷ pos r.denominator ∷ d.numerator ∷ pos d.denominator ∷ pos z.denominator ∷ []) ((v 0 ⊗ v 3 ⊖ v 2 ⊗ v 1) ⊗ v 4) (v 0 ⊗ v 4 ⊗ v 3 ⊖ v 2 ⊗ v 1 ⊗ v 4) tt in
-    let e : (r.numerator *ℤ pos d.denominator +ℤ d.numerator *ℤ pos r.denominator) *ℤ pos z.denominator ≡ r.numerator *ℤ pos z.denominator *ℤ pos d.denominator +ℤ d.numerator *ℤ pos r.denominator *ℤ pos z.denominator = ring (r.numerator ∷ pos r.denominator ∷ d.numerator ∷ pos d.denominator ∷ pos z.denominator ∷ []) ((v 0 ⊗ v 3 ⊕ v 2 ⊗ v 1) ⊗ v 4) (v 0 ⊗ v 4 ⊗ v 3 ⊕ v 2 ⊗ v 1 ⊗ v 4) tt in
-    omega (arith, lin)
+-- r - d <= z <= r, so z <= r + d, and the same from above: compared over the divisors of all three
+module _ (d z r : Fraction) where
+  regrouped : z.numerator *ℤ pos (r.denominator * d.denominator) ≡ z.numerator *ℤ pos r.denominator *ℤ pos d.denominator
+  regrouped = ring (z.numerator ∷ pos r.denominator ∷ pos d.denominator ∷ []) (v 0 ⊗ (v 1 ⊗ v 2)) (v 0 ⊗ v 1 ⊗ v 2) tt
 
-over_under : (d z r : Fraction) → NoMore z (fraction_add r d) → NoMore r z → NoMore (fraction_sub r d) z
-over_under d z r h l =
-    let a : (r.numerator *ℤ pos z.denominator *ℤ pos d.denominator) ≤ℤ (z.numerator *ℤ pos r.denominator *ℤ pos d.denominator) = le-mul (r.numerator *ℤ pos z.denominator) (z.numerator *ℤ pos r.denominator) (pos d.denominator) (natural d.denominator) l in
-    let b : z.numerator *ℤ pos (r.denominator * d.denominator) ≡ z.numerator *ℤ pos r.denominator *ℤ pos d.denominator = ring (z.numerator ∷ pos r.denominator ∷ pos d.denominator ∷ []) (v 0 ⊗ (v 1 ⊗ v 2)) (v 0 ⊗ v 1 ⊗ v 2) tt in
-    let c : (r.numerator *ℤ pos d.denominator -ℤ d.numerator *ℤ pos r.denominator) *ℤ pos z.denominator ≡ r.numerator *ℤ pos z.denominator *ℤ pos d.denominator -ℤ d.numerator *ℤ pos r.denominator *ℤ pos z.denominator = ring (r.numerator ∷ pos r.denominator ∷ d.numerator ∷ pos d.denominator ∷ pos z.denominator ∷ []) ((v 0 ⊗ v 3 ⊖ v 2 ⊗ v 1) ⊗ v 4) (v 0 ⊗ v 4 ⊗ v 3 ⊖ v 2 ⊗ v 1 ⊗ v 4) tt in
-    let e : (r.numerator *ℤ pos d.denominator +ℤ d.numerator *ℤ pos r.denominator) *ℤ pos z.denominator ≡ r.numerator *ℤ pos z.denominator *ℤ pos d.denominator +ℤ d.numerator *ℤ pos r.denominator *ℤ pos z.denominator = ring (r.numerator ∷ pos r.denominator ∷ d.numerator ∷ pos d.denominator ∷ pos z.denominator ∷ []) ((v 0 ⊗ v 3 ⊕ v 2 ⊗ v 1) ⊗ v 4) (v 0 ⊗ v 4 ⊗ v 3 ⊕ v 2 ⊗ v 1 ⊗ v 4) tt in
-    omega (arith, lin)
+  lessened : (r.numerator *ℤ pos d.denominator -ℤ d.numerator *ℤ pos r.denominator) *ℤ pos z.denominator
+      ≡ r.numerator *ℤ pos z.denominator *ℤ pos d.denominator -ℤ d.numerator *ℤ pos r.denominator *ℤ pos z.denominator
+  lessened =
+      ring (r.numerator ∷ pos r.denominator ∷ d.numerator ∷ pos d.denominator ∷ pos z.denominator ∷ [])
+      ((v 0 ⊗ v 3 ⊖ v 2 ⊗ v 1) ⊗ v 4) (v 0 ⊗ v 4 ⊗ v 3 ⊖ v 2 ⊗ v 1 ⊗ v 4) tt
+
+  increased : (r.numerator *ℤ pos d.denominator +ℤ d.numerator *ℤ pos r.denominator) *ℤ pos z.denominator
+      ≡ r.numerator *ℤ pos z.denominator *ℤ pos d.denominator +ℤ d.numerator *ℤ pos r.denominator *ℤ pos z.denominator
+  increased =
+      ring (r.numerator ∷ pos r.denominator ∷ d.numerator ∷ pos d.denominator ∷ pos z.denominator ∷ [])
+      ((v 0 ⊗ v 3 ⊕ v 2 ⊗ v 1) ⊗ v 4) (v 0 ⊗ v 4 ⊗ v 3 ⊕ v 2 ⊗ v 1 ⊗ v 4) tt
+
+  under_over : NoMore (fraction_sub r d) z → NoMore z r → NoMore z (fraction_add r d)
+  under_over l h =
+      let a = le-mul (z.numerator *ℤ pos r.denominator) (r.numerator *ℤ pos z.denominator) (pos d.denominator) (natural d.denominator) h in
+      omega (arith, lin, regrouped, lessened, increased)
+
+  over_under : NoMore z (fraction_add r d) → NoMore r z → NoMore (fraction_sub r d) z
+  over_under h l =
+      let a = le-mul (r.numerator *ℤ pos z.denominator) (z.numerator *ℤ pos r.denominator) (pos d.denominator) (natural d.denominator) l in
+      omega (arith, lin, regrouped, lessened, increased)
 
 pub near-under : (m : Model) (p q : ℤ) (e : ℕ) (r z d : Fraction) → IsArgument p q → IsFraction z → IsFraction d → NoMore d (in_units (pos e) m.exponent) → Under d z r → IsNear m p q r → IsNear (widened e m) p q z
 near-under m p q e r z d g fz fd unit h x =

@@ -8,7 +8,7 @@ use Rattle.spec_numbers.specs.Numbers.{floor_div, ceil_div}
 use Rattle.spec_numbers.proofs.Ring.{Poly, v, k as lit, ◌⊕◌, ◌⊗◌, ring}
 use Rattle.spec_numbers.proofs.Order.{lin, le-mul, le-mul_cancel}
 use Rattle.spec_numbers.proofs.Floor.{floor_div-le, floor_div-lt, ceil_div-ge, ceil_div-lt}
-use Rattle.spec_intervals.specs.Interval.{interval, end_limit, narrow_shift, settled, narrow_by, narrow}
+use Rattle.spec_intervals.specs.Interval.{Interval, interval, zero_interval, end_limit, narrow_shift, settled, narrow_by, narrow}
 use Rattle.spec_intervals.specs.Fraction.{Fraction}
 use Rattle.spec_intervals.proofs.Narrow.{sizes-fit, narrow_shift-least}
 use Rattle.spec_models.specs.Ends.{in_units, low, high, size, slight, Under, Over}
@@ -65,18 +65,18 @@ left_up z d m p small =
     record { above = a; near = less_than_unit (ceil_div z d *ℤ pos d) z d m a (ceil_div-lt z d p) small }
 
 -- ---- where both ends are 0, the exponent is 0
+nothing_times : (z : ℤ) (u q : ℕ) → z ≡ pos 0 → z *ℤ pos u *ℤ pos q ≡ pos 0
+nothing_times z u q e =
+    ap (λ w. w *ℤ pos u *ℤ pos q) e ∙ ring (pos u ∷ pos q ∷ []) (lit (pos 0) ⊗ v 0 ⊗ v 1) (lit (pos 0)) tt
+
 zero_below : (z n : ℤ) (u q k : ℕ) → z ≡ pos 0 → (n *ℤ pos (2 ^ k)) ≤ℤ (z *ℤ pos u *ℤ pos q) → (n *ℤ pos 1) ≤ℤ (pos 0 *ℤ pos q)
 zero_below z n u q k e h =
-    let f : z *ℤ pos u *ℤ pos q ≡ pos 0 = ap (λ w. w *ℤ pos u *ℤ pos q) e ∙ ring (pos u ∷ pos q ∷ [])
-    (lit (pos 0) ⊗ v 0 ⊗ v 1) (lit (pos 0)) tt in
-    let g : n ≤ℤ pos 0 = le-mul_cancel n (pos 0) (2 ^ k) (pow_pos k) (omega (arith, ints, f)) in
+    let g : n ≤ℤ pos 0 = le-mul_cancel n (pos 0) (2 ^ k) (pow_pos k) (omega (arith, ints, nothing_times z u q e)) in
     omega (arith, ints, g)
 
 zero_above : (z n : ℤ) (u q k : ℕ) → z ≡ pos 0 → (z *ℤ pos u *ℤ pos q) ≤ℤ (n *ℤ pos (2 ^ k)) → (pos 0 *ℤ pos q) ≤ℤ (n *ℤ pos 1)
 zero_above z n u q k e h =
-    let f : z *ℤ pos u *ℤ pos q ≡ pos 0 = ap (λ w. w *ℤ pos u *ℤ pos q) e ∙ ring (pos u ∷ pos q ∷ [])
-    (lit (pos 0) ⊗ v 0 ⊗ v 1) (lit (pos 0)) tt in
-    let g : pos 0 ≤ℤ n = le-mul_cancel (pos 0) n (2 ^ k) (pow_pos k) (omega (arith, ints, f)) in
+    let g : pos 0 ≤ℤ n = le-mul_cancel (pos 0) n (2 ^ k) (pow_pos k) (omega (arith, ints, nothing_times z u q e)) in
     omega (arith, ints, g)
 
 under_zero : (z s : ℤ) (d r : Fraction) → z ≡ pos 0 → Under d (in_units z s) r → Under d (in_units (pos 0) (pos 0)) r
@@ -87,21 +87,20 @@ over_zero : (z s : ℤ) (d r : Fraction) → z ≡ pos 0 → Over d (in_units z 
 over_zero z s d r e h =
     record { above = zero_below z _ (2 ^ up s) _ (down s) e h.above; near = zero_above z _ (2 ^ up s) _ (down s) e h.near }
 
-settled_under : (lo hi s : ℤ) (d r : Fraction) → Under d (in_units lo s) r → Under d (low (settled lo hi s)) r
+settled_keeps : (P : Interval → Type 0) (lo hi s : ℤ) → (lo ≡ pos 0 → hi ≡ pos 0 → P (interval lo hi s) → P zero_interval)
+    → P (interval lo hi s) → P (settled lo hi s)
 unfolding settled
-settled_under (pos zero) (pos zero) s d r h = under_zero (pos 0) s d r refl h
-settled_under (pos zero) (pos (suc n)) s d r h = h
-settled_under (pos zero) (negsuc n) s d r h = h
-settled_under (pos (suc n)) hi s d r h = h
-settled_under (negsuc n) hi s d r h = h
+settled_keeps P (pos zero) (pos zero) s nothing h = nothing refl refl h
+settled_keeps P (pos zero) (pos (suc n)) s nothing h = h
+settled_keeps P (pos zero) (negsuc n) s nothing h = h
+settled_keeps P (pos (suc n)) hi s nothing h = h
+settled_keeps P (negsuc n) hi s nothing h = h
+
+settled_under : (lo hi s : ℤ) (d r : Fraction) → Under d (in_units lo s) r → Under d (low (settled lo hi s)) r
+settled_under lo hi s d r = settled_keeps (λ t. Under d (low t) r) lo hi s (λ e f. under_zero lo s d r e)
 
 settled_over : (lo hi s : ℤ) (d r : Fraction) → Over d (in_units hi s) r → Over d (high (settled lo hi s)) r
-unfolding settled
-settled_over (pos zero) (pos zero) s d r h = over_zero (pos 0) s d r refl h
-settled_over (pos zero) (pos (suc n)) s d r h = h
-settled_over (pos zero) (negsuc n) s d r h = h
-settled_over (pos (suc n)) hi s d r h = h
-settled_over (negsuc n) hi s d r h = h
+settled_over lo hi s d r = settled_keeps (λ t. Over d (high t) r) lo hi s (λ e f. over_zero hi s d r f)
 
 -- ---- an interval from lo to hi at the exponent s, narrowed, where s is k above the exponent e of what it stands for
 left_scaled : (z : ℤ) (k j b : ℕ) → z *ℤ pos (2 ^ (k + j) * b) ≡ z *ℤ pos (2 ^ j) *ℤ pos (2 ^ k * b)
@@ -119,33 +118,38 @@ pub record IsKeptUp (w a loss : ℤ) (u : ℕ) : Type 0 where
 
 module _ (lo hi s a e loss : ℤ) (k b : ℕ) (d r : Fraction) (positive : 0 < b) (is_raised : s ≡ e +ℤ pos k)
     (ratio : IsRatio r a e b) (allowed : IsAllowed d loss e b) where
-  pub narrow_under : ((w : ℤ) → IsLeftDown w lo (greatest lo hi) → IsKeptDown w a loss (2 ^ k * b))
-      → Under d (low (narrow lo hi s)) r
+  abbrev shift : ℕ
+  shift = narrow_shift lo hi
+
+  abbrev KeepsDown : Type 0
+  KeepsDown = (w : ℤ) → IsLeftDown w lo (greatest lo hi) → IsKeptDown w a loss (2 ^ k * b)
+
+  abbrev KeepsUp : Type 0
+  KeepsUp = (w : ℤ) → IsLeftUp w hi (greatest lo hi) → IsKeptUp w a loss (2 ^ k * b)
+
+  kept_under : (q : ℤ) → IsKeptDown (q *ℤ pos (2 ^ shift)) a loss (2 ^ k * b) → Under d (in_units q (s +ℤ pos shift)) r
+  kept_under q kept =
+      let c = left_scaled q k shift b in
+      rounded_under q a e (s +ℤ pos shift) loss (k + shift) b d r positive (omega (arith, lin)) ratio allowed
+      (rw c kept.below) (rw c kept.near)
+
+  kept_over : (q : ℤ) → IsKeptUp (q *ℤ pos (2 ^ shift)) a loss (2 ^ k * b) → Over d (in_units q (s +ℤ pos shift)) r
+  kept_over q kept =
+      let c = left_scaled q k shift b in
+      rounded_over q a e (s +ℤ pos shift) loss (k + shift) b d r positive (omega (arith, lin)) ratio allowed
+      (rw c kept.above) (rw c kept.near)
+
+  pub narrow_under : KeepsDown → Under d (low (narrow lo hi s)) r
   unfolding narrow narrow_by
   narrow_under keeps =
-      let j = narrow_shift lo hi in
-      let q = floor_div lo (2 ^ narrow_shift lo hi) in
-      let kept = keeps _ (left_down lo (2 ^ narrow_shift lo hi) (greatest lo hi) (pow_pos (narrow_shift lo hi))
-      (unit_is_small lo hi)) in
-      let c = left_scaled (floor_div lo (2 ^ narrow_shift lo hi)) k (narrow_shift lo hi) b in
-      let f = kept.below in
-      let g = kept.near in
-      settled_under q (ceil_div hi (2 ^ j)) (s +ℤ pos j) d r
-      (rounded_under q a e (s +ℤ pos j) loss (k + j) b d r positive (omega (arith, lin)) ratio allowed (rw c f) (rw c g))
+      settled_under (floor_div lo (2 ^ shift)) (ceil_div hi (2 ^ shift)) (s +ℤ pos shift) d r
+      (kept_under _ (keeps _ (left_down lo (2 ^ shift) (greatest lo hi) (pow_pos shift) (unit_is_small lo hi))))
 
-  pub narrow_over : ((w : ℤ) → IsLeftUp w hi (greatest lo hi) → IsKeptUp w a loss (2 ^ k * b))
-      → Over d (high (narrow lo hi s)) r
+  pub narrow_over : KeepsUp → Over d (high (narrow lo hi s)) r
   unfolding narrow narrow_by
   narrow_over keeps =
-      let j = narrow_shift lo hi in
-      let q = ceil_div hi (2 ^ narrow_shift lo hi) in
-      let kept = keeps _ (left_up hi (2 ^ narrow_shift lo hi) (greatest lo hi) (pow_pos (narrow_shift lo hi))
-      (unit_is_small lo hi)) in
-      let c = left_scaled (ceil_div hi (2 ^ narrow_shift lo hi)) k (narrow_shift lo hi) b in
-      let f = kept.above in
-      let g = kept.near in
-      settled_over (floor_div lo (2 ^ j)) q (s +ℤ pos j) d r
-      (rounded_over q a e (s +ℤ pos j) loss (k + j) b d r positive (omega (arith, lin)) ratio allowed (rw c f) (rw c g))
+      settled_over (floor_div lo (2 ^ shift)) (ceil_div hi (2 ^ shift)) (s +ℤ pos shift) d r
+      (kept_over _ (keeps _ (left_up hi (2 ^ shift) (greatest lo hi) (pow_pos shift) (unit_is_small lo hi))))
 
 -- a 2^58th of a size is eight times a 2^61st
 abbrev fourfold : ℤ → ℤ
@@ -165,16 +169,12 @@ module _ (lo hi s : ℤ) (m : ℕ) (d r : Fraction) (bounded : greatest lo hi �
   pub exact_under : IsRatio r (lo *ℤ pos (2 ^ 58)) s (2 ^ 58) → Under d (low (narrow lo hi s)) r
   exact_under ratio =
       narrow_under lo hi s (lo *ℤ pos (2 ^ 58)) s (pos m) 0 (2 ^ 58) d r (omega arith) (omega (arith, lin)) ratio allowed
-      (λ w l.
-      let f = l.near in
-      record { below = le-mul w lo (pos (2 ^ 58)) (omega (arith, lin)) l.below; near = less_lost lo w m (omega (arith, lin)) })
+      (λ w l. record { below = le-mul w lo (pos (2 ^ 58)) (omega (arith, lin)) l.below; near = less_lost lo w m (omega (arith, lin, l.near)) })
 
   pub exact_over : IsRatio r (hi *ℤ pos (2 ^ 58)) s (2 ^ 58) → Over d (high (narrow lo hi s)) r
   exact_over ratio =
       narrow_over lo hi s (hi *ℤ pos (2 ^ 58)) s (pos m) 0 (2 ^ 58) d r (omega arith) (omega (arith, lin)) ratio allowed
-      (λ w l.
-      let f = l.near in
-      record { above = le-mul hi w (pos (2 ^ 58)) (omega (arith, lin)) l.above; near = less_lost w hi m (omega (arith, lin)) })
+      (λ w l. record { above = le-mul hi w (pos (2 ^ 58)) (omega (arith, lin)) l.above; near = less_lost w hi m (omega (arith, lin, l.near)) })
 
 -- ---- narrowing alone
 pub alone_is_ratio : (z s : ℤ) (b : ℕ) → IsRatio (in_units z s) (z *ℤ pos b) s b

@@ -110,27 +110,30 @@ module _ (n a z m loss : ℤ) (q p b up_e down_e up_s down_s g : ℕ)
       let i = increased in
       le-mul_cancel (z *ℤ pos up_s *ℤ pos (q * p)) _ (down_e * b) positive (omega (arith, lin))
 
+  -- what is rounded down is near and below, and what is rounded up near and above
+  ends_under : (loss *ℤ pos (up_e * p)) ≤ℤ (m *ℤ pos (down_e * b)) → (z *ℤ pos (g * b)) ≤ℤ a
+      → a ≤ℤ (z *ℤ pos (g * b) +ℤ loss)
+      → (((n *ℤ pos p -ℤ m *ℤ pos q) *ℤ pos down_s) ≤ℤ (z *ℤ pos up_s *ℤ pos (q * p)))
+      × ((z *ℤ pos up_s *ℤ pos q) ≤ℤ (n *ℤ pos down_s))
+  ends_under allowed h i = (near_below allowed i, end_below h)
+
+  ends_over : (loss *ℤ pos (up_e * p)) ≤ℤ (m *ℤ pos (down_e * b)) → a ≤ℤ (z *ℤ pos (g * b))
+      → (z *ℤ pos (g * b)) ≤ℤ (a +ℤ loss)
+      → ((z *ℤ pos up_s *ℤ pos (q * p)) ≤ℤ ((n *ℤ pos p +ℤ m *ℤ pos q) *ℤ pos down_s))
+      × ((n *ℤ pos down_s) ≤ℤ (z *ℤ pos up_s *ℤ pos q))
+  ends_over allowed h i = (near_above allowed i, end_above h)
+
 -- ---- a number that was rounded at most so much
 module _ (z a e s loss : ℤ) (g b : ℕ) (d r : Fraction) (positive : 0 < b) (is_raised : s ≡ e +ℤ pos g)
     (ratio : IsRatio r a e b) (allowed : IsAllowed d loss e b) where
   pub rounded_under : (z *ℤ pos (2 ^ g * b)) ≤ℤ a → a ≤ℤ (z *ℤ pos (2 ^ g * b) +ℤ loss) → Under d (in_units z s) r
   rounded_under h i =
-      let p = mul-pos (pow_pos (down e)) positive in
-      let w = raised_powers e s g is_raised in
-      record {
-        near = near_below r.numerator a z d.numerator loss r.denominator d.denominator b (2 ^ up e) (2 ^ down e)
-            (2 ^ up s) (2 ^ down s) (2 ^ g) p w ratio allowed i;
-        below = end_below r.numerator a z d.numerator loss r.denominator d.denominator b (2 ^ up e) (2 ^ down e)
-            (2 ^ up s) (2 ^ down s) (2 ^ g) p w ratio h;
-      }
+      let ends = ends_under r.numerator a z d.numerator loss r.denominator d.denominator b (2 ^ up e) (2 ^ down e)
+      (2 ^ up s) (2 ^ down s) (2 ^ g) (mul-pos (pow_pos (down e)) positive) (raised_powers e s g is_raised) ratio allowed h i in
+      record { near = ends.0; below = ends.1 }
 
   pub rounded_over : a ≤ℤ (z *ℤ pos (2 ^ g * b)) → (z *ℤ pos (2 ^ g * b)) ≤ℤ (a +ℤ loss) → Over d (in_units z s) r
   rounded_over h i =
-      let p = mul-pos (pow_pos (down e)) positive in
-      let w = raised_powers e s g is_raised in
-      record {
-        near = near_above r.numerator a z d.numerator loss r.denominator d.denominator b (2 ^ up e) (2 ^ down e)
-            (2 ^ up s) (2 ^ down s) (2 ^ g) p w ratio allowed i;
-        above = end_above r.numerator a z d.numerator loss r.denominator d.denominator b (2 ^ up e) (2 ^ down e)
-            (2 ^ up s) (2 ^ down s) (2 ^ g) p w ratio h;
-      }
+      let ends = ends_over r.numerator a z d.numerator loss r.denominator d.denominator b (2 ^ up e) (2 ^ down e)
+      (2 ^ up s) (2 ^ down s) (2 ^ g) (mul-pos (pow_pos (down e)) positive) (raised_powers e s g is_raised) ratio allowed h i in
+      record { near = ends.0; above = ends.1 }

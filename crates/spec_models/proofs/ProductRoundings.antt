@@ -9,7 +9,7 @@ use Rattle.spec_numbers.proofs.Sizes.{four_sizes, product_size}
 use Rattle.spec_intervals.specs.Interval.{Interval, least4, greatest4, product, signed_sq, signed_square}
 use Rattle.spec_intervals.specs.Fraction.{fraction_mul, fraction_signed_square}
 use Rattle.spec_intervals.proofs.Squares.{signed_sq-scaled}
-use Rattle.spec_models.specs.Ends.{in_units, low, high, greatest_end, size, slight, Under, Over, low_low, low_high, high_low, high_high, IsCornerUnder, IsCornerOver}
+use Rattle.spec_models.specs.Ends.{in_units, low, high, greatest_end, size, slight, Under, Over, low_low, low_high, high_low, high_high, IsCorner, IsCornerUnder, IsCornerOver}
 use Rattle.spec_models.proofs.Near.{IsRatio, IsAllowed}
 use Rattle.spec_models.proofs.NarrowedRoundings.{slight_allowed, exact_under, exact_over}
 
@@ -63,35 +63,35 @@ module _ (x y : Interval) (a c : ℤ) where
       exact_over (least4 x.lo x.hi y.lo y.hi) (greatest4 x.lo x.hi y.lo y.hi) (x.s +ℤ y.s) (greatest_end x * greatest_end y) _ _
       (corners_bounded x y) (product_allowed x y) (rw e (product_is_ratio a c x.s y.s (2 ^ 58)))
 
+-- whichever of two numbers is chosen each time, of the four products of ends one is
+module _ (choice : ℤ → ℤ → ℤ) (one : (p q : ℤ) → (choice p q ≡ p) ⊎ (choice p q ≡ q)) (x y : Interval) where
+  abbrev chosen : ℤ
+  chosen = choice (choice (x.lo *ℤ y.lo) (x.lo *ℤ y.hi)) (choice (x.hi *ℤ y.lo) (x.hi *ℤ y.hi))
+
+  of_corner : {T : Type 0}
+      → ((a c : ℤ) → IsCorner x y (fraction_mul (in_units a x.s) (in_units c y.s)) → chosen ≡ a *ℤ c → T) → T
+  of_corner {T} made =
+      by (one (choice (x.lo *ℤ y.lo) (x.lo *ℤ y.hi)) (choice (x.hi *ℤ y.lo) (x.hi *ℤ y.hi)))
+      (one (x.lo *ℤ y.lo) (x.lo *ℤ y.hi)) (one (x.hi *ℤ y.lo) (x.hi *ℤ y.hi))
+    where
+      by : (chosen ≡ choice (x.lo *ℤ y.lo) (x.lo *ℤ y.hi)) ⊎ (chosen ≡ choice (x.hi *ℤ y.lo) (x.hi *ℤ y.hi))
+          → (choice (x.lo *ℤ y.lo) (x.lo *ℤ y.hi) ≡ x.lo *ℤ y.lo) ⊎ (choice (x.lo *ℤ y.lo) (x.lo *ℤ y.hi) ≡ x.lo *ℤ y.hi)
+          → (choice (x.hi *ℤ y.lo) (x.hi *ℤ y.hi) ≡ x.hi *ℤ y.lo) ⊎ (choice (x.hi *ℤ y.lo) (x.hi *ℤ y.hi) ≡ x.hi *ℤ y.hi)
+          → T
+      by (inl e) (inl f) g = made x.lo y.lo (low_low refl) (e ∙ f)
+      by (inl e) (inr f) g = made x.lo y.hi (low_high refl) (e ∙ f)
+      by (inr e) f (inl g) = made x.hi y.lo (high_low refl) (e ∙ g)
+      by (inr e) f (inr g) = made x.hi y.hi (high_high refl) (e ∙ g)
+
 pub product_corner_under : (x y : Interval) → IsCornerUnder (slight (fraction_mul (size x) (size y))) (product x y) x y
 product_corner_under x y =
-    by (min_is (int_min (x.lo *ℤ y.lo) (x.lo *ℤ y.hi)) (int_min (x.hi *ℤ y.lo) (x.hi *ℤ y.hi)))
-    (min_is (x.lo *ℤ y.lo) (x.lo *ℤ y.hi)) (min_is (x.hi *ℤ y.lo) (x.hi *ℤ y.hi))
-  where
-    by : (least4 x.lo x.hi y.lo y.hi ≡ int_min (x.lo *ℤ y.lo) (x.lo *ℤ y.hi)) ⊎
-        (least4 x.lo x.hi y.lo y.hi ≡ int_min (x.hi *ℤ y.lo) (x.hi *ℤ y.hi))
-        → (int_min (x.lo *ℤ y.lo) (x.lo *ℤ y.hi) ≡ x.lo *ℤ y.lo) ⊎ (int_min (x.lo *ℤ y.lo) (x.lo *ℤ y.hi) ≡ x.lo *ℤ y.hi)
-        → (int_min (x.hi *ℤ y.lo) (x.hi *ℤ y.hi) ≡ x.hi *ℤ y.lo) ⊎ (int_min (x.hi *ℤ y.lo) (x.hi *ℤ y.hi) ≡ x.hi *ℤ y.hi)
-        → IsCornerUnder (slight (fraction_mul (size x) (size y))) (product x y) x y
-    by (inl e) (inl f) g = record { corner = _; is_corner = low_low refl; under = product_under x y x.lo y.lo (e ∙ f) }
-    by (inl e) (inr f) g = record { corner = _; is_corner = low_high refl; under = product_under x y x.lo y.hi (e ∙ f) }
-    by (inr e) f (inl g) = record { corner = _; is_corner = high_low refl; under = product_under x y x.hi y.lo (e ∙ g) }
-    by (inr e) f (inr g) = record { corner = _; is_corner = high_high refl; under = product_under x y x.hi y.hi (e ∙ g) }
+    of_corner int_min min_is x y
+    (λ a c is e. record { corner = _; is_corner = is; under = product_under x y a c e })
 
 pub product_corner_over : (x y : Interval) → IsCornerOver (slight (fraction_mul (size x) (size y))) (product x y) x y
 product_corner_over x y =
-    by (max_is (int_max (x.lo *ℤ y.lo) (x.lo *ℤ y.hi)) (int_max (x.hi *ℤ y.lo) (x.hi *ℤ y.hi)))
-    (max_is (x.lo *ℤ y.lo) (x.lo *ℤ y.hi)) (max_is (x.hi *ℤ y.lo) (x.hi *ℤ y.hi))
-  where
-    by : (greatest4 x.lo x.hi y.lo y.hi ≡ int_max (x.lo *ℤ y.lo) (x.lo *ℤ y.hi)) ⊎
-        (greatest4 x.lo x.hi y.lo y.hi ≡ int_max (x.hi *ℤ y.lo) (x.hi *ℤ y.hi))
-        → (int_max (x.lo *ℤ y.lo) (x.lo *ℤ y.hi) ≡ x.lo *ℤ y.lo) ⊎ (int_max (x.lo *ℤ y.lo) (x.lo *ℤ y.hi) ≡ x.lo *ℤ y.hi)
-        → (int_max (x.hi *ℤ y.lo) (x.hi *ℤ y.hi) ≡ x.hi *ℤ y.lo) ⊎ (int_max (x.hi *ℤ y.lo) (x.hi *ℤ y.hi) ≡ x.hi *ℤ y.hi)
-        → IsCornerOver (slight (fraction_mul (size x) (size y))) (product x y) x y
-    by (inl e) (inl f) g = record { corner = _; is_corner = low_low refl; over = product_over x y x.lo y.lo (e ∙ f) }
-    by (inl e) (inr f) g = record { corner = _; is_corner = low_high refl; over = product_over x y x.lo y.hi (e ∙ f) }
-    by (inr e) f (inl g) = record { corner = _; is_corner = high_low refl; over = product_over x y x.hi y.lo (e ∙ g) }
-    by (inr e) f (inr g) = record { corner = _; is_corner = high_high refl; over = product_over x y x.hi y.hi (e ∙ g) }
+    of_corner int_max max_is x y
+    (λ a c is e. record { corner = _; is_corner = is; over = product_over x y a c e })
 
 -- ---- signed squares
 square_is_ratio : (z s : ℤ) (b : ℕ) → IsRatio (fraction_signed_square (in_units z s)) (signed_sq z *ℤ pos b) (s +ℤ s) b
@@ -108,16 +108,15 @@ squares_bounded x =
     let high = product_size x.hi (pos (unsigned_abs x.hi)) (greatest_end x) (greatest_end x) (omega arith) (omega arith) in
     omega arith
 
-pub square_under : (x : Interval)
-    → Under (slight (fraction_mul (size x) (size x))) (low (signed_square x)) (fraction_signed_square (low x))
-unfolding signed_square
-square_under x =
-    exact_under (signed_sq x.lo) (signed_sq x.hi) (x.s +ℤ x.s) (greatest_end x * greatest_end x) _ _ (squares_bounded x)
-    (product_allowed x x) (square_is_ratio x.lo x.s (2 ^ 58))
+module _ (x : Interval) where
+  pub square_under : Under (slight (fraction_mul (size x) (size x))) (low (signed_square x)) (fraction_signed_square (low x))
+  unfolding signed_square
+  square_under =
+      exact_under (signed_sq x.lo) (signed_sq x.hi) (x.s +ℤ x.s) (greatest_end x * greatest_end x) _ _ (squares_bounded x)
+      (product_allowed x x) (square_is_ratio x.lo x.s (2 ^ 58))
 
-pub square_over : (x : Interval)
-    → Over (slight (fraction_mul (size x) (size x))) (high (signed_square x)) (fraction_signed_square (high x))
-unfolding signed_square
-square_over x =
-    exact_over (signed_sq x.lo) (signed_sq x.hi) (x.s +ℤ x.s) (greatest_end x * greatest_end x) _ _ (squares_bounded x)
-    (product_allowed x x) (square_is_ratio x.hi x.s (2 ^ 58))
+  pub square_over : Over (slight (fraction_mul (size x) (size x))) (high (signed_square x)) (fraction_signed_square (high x))
+  unfolding signed_square
+  square_over =
+      exact_over (signed_sq x.lo) (signed_sq x.hi) (x.s +ℤ x.s) (greatest_end x * greatest_end x) _ _ (squares_bounded x)
+      (product_allowed x x) (square_is_ratio x.hi x.s (2 ^ 58))

@@ -114,25 +114,36 @@ module _ (y q w : ℤ) (length m n : ℕ) (sizes : n * length ≤ 2 * m + length
       let f = together w in
       record { above = omega (arith, lin); near = omega (arith, lin) }
 
-pub scale_under : (lo hi s : ℤ) (length : ℕ) → 0 < length
-    → Under (scale_loss lo hi s length) (low (scale lo hi s length)) (fraction_scale (low (interval lo hi s)) length)
-unfolding scale
-scale_under lo hi s length p =
-    narrow_under (floor_div (pos 2 *ℤ lo) length) (ceil_div (pos 2 *ℤ hi) length) s (pos 2 *ℤ lo *ℤ pos (2 ^ 58)) s
-    (loss_of (greatest lo hi) length) 0
-    (length * 2 ^ 58) _ _ (mul-pos p (omega arith)) (omega (arith, lin)) (scale_is_ratio lo s length (2 ^ 58))
-    (scale_allowed lo hi s length)
-    (λ w left. kept_down (pos 2 *ℤ lo) (floor_div (pos 2 *ℤ lo) length) w length (greatest lo hi) _
-    (rounded_sizes lo hi length p)
-    (floor_div-le (pos 2 *ℤ lo) length p) (floor_div-lt (pos 2 *ℤ lo) length p) left)
+module _ (lo hi s : ℤ) (length : ℕ) (p : 0 < length) where
+  abbrev low_end : ℤ
+  low_end = floor_div (pos 2 *ℤ lo) length
 
-pub scale_over : (lo hi s : ℤ) (length : ℕ) → 0 < length
-    → Over (scale_loss lo hi s length) (high (scale lo hi s length)) (fraction_scale (high (interval lo hi s)) length)
-unfolding scale
-scale_over lo hi s length p =
-    narrow_over (floor_div (pos 2 *ℤ lo) length) (ceil_div (pos 2 *ℤ hi) length) s (pos 2 *ℤ hi *ℤ pos (2 ^ 58)) s
-    (loss_of (greatest lo hi) length) 0
-    (length * 2 ^ 58) _ _ (mul-pos p (omega arith)) (omega (arith, lin)) (scale_is_ratio hi s length (2 ^ 58))
-    (scale_allowed lo hi s length)
-    (λ w left. kept_up (pos 2 *ℤ hi) (ceil_div (pos 2 *ℤ hi) length) w length (greatest lo hi) _ (rounded_sizes lo hi length p)
-    (ceil_div-ge (pos 2 *ℤ hi) length p) (ceil_div-lt (pos 2 *ℤ hi) length p) left)
+  abbrev high_end : ℤ
+  high_end = ceil_div (pos 2 *ℤ hi) length
+
+  some : 0 < length * 2 ^ 58
+  some = mul-pos p (omega arith)
+
+  keeps_low : (w : ℤ) → IsLeftDown w low_end (greatest low_end high_end)
+      → IsKeptDown w (pos 2 *ℤ lo *ℤ pos (2 ^ 58)) (loss_of (greatest lo hi) length) (2 ^ 0 * (length * 2 ^ 58))
+  keeps_low w left =
+      kept_down (pos 2 *ℤ lo) low_end w length (greatest lo hi) _ (rounded_sizes lo hi length p)
+      (floor_div-le (pos 2 *ℤ lo) length p) (floor_div-lt (pos 2 *ℤ lo) length p) left
+
+  keeps_high : (w : ℤ) → IsLeftUp w high_end (greatest low_end high_end)
+      → IsKeptUp w (pos 2 *ℤ hi *ℤ pos (2 ^ 58)) (loss_of (greatest lo hi) length) (2 ^ 0 * (length * 2 ^ 58))
+  keeps_high w left =
+      kept_up (pos 2 *ℤ hi) high_end w length (greatest lo hi) _ (rounded_sizes lo hi length p)
+      (ceil_div-ge (pos 2 *ℤ hi) length p) (ceil_div-lt (pos 2 *ℤ hi) length p) left
+
+  pub scale_under : Under (scale_loss lo hi s length) (low (scale lo hi s length)) (fraction_scale (low (interval lo hi s)) length)
+  unfolding scale
+  scale_under =
+      narrow_under low_end high_end s (pos 2 *ℤ lo *ℤ pos (2 ^ 58)) s (loss_of (greatest lo hi) length) 0 (length * 2 ^ 58)
+      _ _ some (omega (arith, lin)) (scale_is_ratio lo s length (2 ^ 58)) (scale_allowed lo hi s length) keeps_low
+
+  pub scale_over : Over (scale_loss lo hi s length) (high (scale lo hi s length)) (fraction_scale (high (interval lo hi s)) length)
+  unfolding scale
+  scale_over =
+      narrow_over low_end high_end s (pos 2 *ℤ hi *ℤ pos (2 ^ 58)) s (loss_of (greatest lo hi) length) 0 (length * 2 ^ 58)
+      _ _ some (omega (arith, lin)) (scale_is_ratio hi s length (2 ^ 58)) (scale_allowed lo hi s length) keeps_high

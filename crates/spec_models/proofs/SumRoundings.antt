@@ -215,28 +215,37 @@ module _ (x y : Interval) (order : x.s ≤ℤ y.s) (present : is_zero y ≡ fals
       (omega (arith, lin, high_above, pow_pos (surplus x y))) high_near in
       greater_times (λ n. n < both_sizes x y + unit) _ _ unit a b
 
+  ratio : (p q : ℤ) → IsRatio (fraction_add (in_units p x.s) (in_units q y.s)) (exact_end x y p q *ℤ pos (2 ^ 58)) x.s (2 ^ 58)
+  ratio p q = sum_is_ratio p q x.s y.s (gap_of x y) (2 ^ 58) (gap_is x.s y.s order)
+
   size_allowed : IsAllowed (slight (fraction_add (size x) (size y))) (pos (both_sizes x y)) x.s (2 ^ 58)
   size_allowed =
       slight_allowed (fraction_add (size x) (size y)) (pos (both_sizes x y)) x.s
-      (sum_is_ratio (pos (greatest_end x)) (pos (greatest_end y)) x.s y.s (gap_of x y) (2 ^ 58) (gap_is x.s y.s order))
+      (ratio (pos (greatest_end x)) (pos (greatest_end y)))
+
+  keeps_low : (w : ℤ) → IsLeftDown w low_end (greatest low_end high_end)
+      → IsKeptDown w (exact_end x y x.lo y.lo *ℤ pos (2 ^ 58)) (pos (both_sizes x y)) (unit * 2 ^ 58)
+  keeps_low w left =
+      kept_down (exact_end x y x.lo y.lo) low_end w unit (both_sizes x y) (greatest low_end high_end) sizes_added
+      (surplus_is_small x y present) low_below low_near left
+
+  keeps_high : (w : ℤ) → IsLeftUp w high_end (greatest low_end high_end)
+      → IsKeptUp w (exact_end x y x.hi y.hi *ℤ pos (2 ^ 58)) (pos (both_sizes x y)) (unit * 2 ^ 58)
+  keeps_high w left =
+      kept_up (exact_end x y x.hi y.hi) high_end w unit (both_sizes x y) (greatest low_end high_end) sizes_added
+      (surplus_is_small x y present) high_above high_near left
 
   sum_up_under : Under (slight (fraction_add (size x) (size y))) (low (sum_up x y)) (fraction_add (low x) (low y))
   unfolding sum_up
   sum_up_under =
       narrow_under low_end high_end (x.s +ℤ pos (surplus x y)) (exact_end x y x.lo y.lo *ℤ pos (2 ^ 58)) x.s
-      (pos (both_sizes x y)) (surplus x y)
-      (2 ^ 58) _ _ (omega arith) refl (sum_is_ratio x.lo y.lo x.s y.s (gap_of x y) (2 ^ 58) (gap_is x.s y.s order)) size_allowed
-      (λ w left. kept_down (exact_end x y x.lo y.lo) low_end w unit (both_sizes x y) (greatest low_end high_end) sizes_added
-      (surplus_is_small x y present) low_below low_near left)
+      (pos (both_sizes x y)) (surplus x y) (2 ^ 58) _ _ (omega arith) refl (ratio x.lo y.lo) size_allowed keeps_low
 
   sum_up_over : Over (slight (fraction_add (size x) (size y))) (high (sum_up x y)) (fraction_add (high x) (high y))
   unfolding sum_up
   sum_up_over =
       narrow_over low_end high_end (x.s +ℤ pos (surplus x y)) (exact_end x y x.hi y.hi *ℤ pos (2 ^ 58)) x.s
-      (pos (both_sizes x y)) (surplus x y)
-      (2 ^ 58) _ _ (omega arith) refl (sum_is_ratio x.hi y.hi x.s y.s (gap_of x y) (2 ^ 58) (gap_is x.s y.s order)) size_allowed
-      (λ w left. kept_up (exact_end x y x.hi y.hi) high_end w unit (both_sizes x y) (greatest low_end high_end) sizes_added
-      (surplus_is_small x y present) high_above high_near left)
+      (pos (both_sizes x y)) (surplus x y) (2 ^ 58) _ _ (omega arith) refl (ratio x.hi y.hi) size_allowed keeps_high
 
 -- ---- in either order, and with 0
 swapped_under : (a b r t z : Fraction) → Under (slight (fraction_add a b)) z (fraction_add r t)
@@ -266,19 +275,20 @@ one_unit : (z : ℤ) → z *ℤ pos (2 ^ 0 * 1) ≡ z
 one_unit z = ring (z ∷ []) (v 0 ⊗ lit (pos 1)) (v 0) tt
 
 module _ (x y : Interval) (absent : is_zero x ≡ true) where
+  none_lost : IsAllowed (slight (fraction_add (size x) (size y))) (pos 0) y.s 1
+  none_lost = nothing_allowed (greatest_end x) (greatest_end y) x.s y.s y.s
+
   zero_under : Under (slight (fraction_add (size x) (size y))) (low y) (fraction_add (low x) (low y))
   zero_under =
-      let e = one_unit y.lo in
       rounded_under y.lo y.lo y.s y.s (pos 0) 0 1 _ _ (omega arith) (omega (arith, lin))
-      (zero_is_ratio x.lo y.lo x.s y.s (zero_ends x.lo x.hi absent).0)
-      (nothing_allowed (greatest_end x) (greatest_end y) x.s y.s y.s) (omega (arith, lin)) (omega (arith, lin))
+      (zero_is_ratio x.lo y.lo x.s y.s (zero_ends x.lo x.hi absent).0) none_lost
+      (omega (arith, lin, one_unit y.lo)) (omega (arith, lin, one_unit y.lo))
 
   zero_over : Over (slight (fraction_add (size x) (size y))) (high y) (fraction_add (high x) (high y))
   zero_over =
-      let e = one_unit y.hi in
       rounded_over y.hi y.hi y.s y.s (pos 0) 0 1 _ _ (omega arith) (omega (arith, lin))
-      (zero_is_ratio x.hi y.hi x.s y.s (zero_ends x.lo x.hi absent).1)
-      (nothing_allowed (greatest_end x) (greatest_end y) x.s y.s y.s) (omega (arith, lin)) (omega (arith, lin))
+      (zero_is_ratio x.hi y.hi x.s y.s (zero_ends x.lo x.hi absent).1) none_lost
+      (omega (arith, lin, one_unit y.hi)) (omega (arith, lin, one_unit y.hi))
 
 -- ---- the sum
 record IsNearSum (x y t : Interval) : Type 0 where
@@ -328,22 +338,20 @@ less_is_more r z s =
     (v 0 ⊗ v 4 ⊖ v 2 ⊗ v 3 ⊗ v 1) tt in
     ap (λ n. fraction n (r.denominator * 2 ^ down s)) e
 
+-- what holds of the sizes of x and -y, and of a number less the negated z, holds of those of x and y, and of it and z
+taken : (T : Fraction → Fraction → Type 0) (x y : Interval) (r : Fraction) (z : ℤ)
+    → T (slight (fraction_add (size x) (size (negated y)))) (fraction_add r (in_units (neg_ℤ z) y.s))
+    → T (slight (fraction_add (size x) (size y))) (fraction_sub r (in_units z y.s))
+taken T x y r z h =
+    subst (λ d. T (slight (fraction_add (size x) d)) (fraction_sub r (in_units z y.s))) (negated_size y)
+    (subst (T (slight (fraction_add (size x) (size (negated y))))) (less_is_more r z y.s) h)
+
 pub difference_under : (x y : Interval)
     → Under (slight (fraction_add (size x) (size y))) (low (difference x y)) (fraction_sub (low x) (high y))
 unfolding difference
-difference_under x y =
-    subst (λ d. Under (slight (fraction_add (size x) d)) (low (sum x (negated y))) (fraction_sub (low x) (high y)))
-    (negated_size y)
-    (subst (λ r. Under (slight (fraction_add (size x) (size (negated y)))) (low (sum x (negated y))) r)
-    (less_is_more (low x) y.hi y.s)
-    (sum_under x (negated y)))
+difference_under x y = taken (λ d. Under d (low (sum x (negated y)))) x y (low x) y.hi (sum_under x (negated y))
 
 pub difference_over : (x y : Interval)
     → Over (slight (fraction_add (size x) (size y))) (high (difference x y)) (fraction_sub (high x) (low y))
 unfolding difference
-difference_over x y =
-    subst (λ d. Over (slight (fraction_add (size x) d)) (high (sum x (negated y))) (fraction_sub (high x) (low y)))
-    (negated_size y)
-    (subst (λ r. Over (slight (fraction_add (size x) (size (negated y)))) (high (sum x (negated y))) r)
-    (less_is_more (high x) y.lo y.s)
-    (sum_over x (negated y)))
+difference_over x y = taken (λ d. Over d (high (sum x (negated y)))) x y (high x) y.lo (sum_over x (negated y))

@@ -87,24 +87,24 @@ quotients_of_one_sign z d positive below =
     let r = lt-mul_cancel (ceil_div z d) (pos 1) d e in
     omega (arith, lin)
 
--- ---- quotients by powers of 2, of numbers of at most 2^62
--- past 2^63 such a number is divided to 0 or -1
-floor_div-past : (z : ℤ) (d e : ℕ) → unsigned_abs z ≤ 2 ^ 62 → 2 ^ 63 ≤ d → 2 ^ 63 ≤ e → floor_div z d ≡ floor_div z e
-floor_div-past (pos n) d e h p q =
+-- by a divisor past its size a number is divided to 0 or -1
+pub floor_div-past : (z : ℤ) (d e : ℕ) → unsigned_abs z < d → unsigned_abs z < e → floor_div z d ≡ floor_div z e
+floor_div-past (pos n) d e p q =
     let a : n / d ≡ 0 = div-eq_of_lt (omega arith) in
     let b : n / e ≡ 0 = div-eq_of_lt (omega arith) in
     ap pos (a ∙ sym b)
-floor_div-past (negsuc n) d e h p q =
+floor_div-past (negsuc n) d e p q =
     let a : n / d ≡ 0 = div-eq_of_lt (omega arith) in
     let b : n / e ≡ 0 = div-eq_of_lt (omega arith) in
     ap negsuc (a ∙ sym b)
 
+-- ---- quotients by powers of 2, of numbers of at most 2^62
 pub capped_shift : (z : ℤ) (k m : ℕ) → unsigned_abs z ≤ 2 ^ 62 → m ≡ min k 63 → floor_div z (2 ^ m) ≡ floor_div z (2 ^ k)
 capped_shift z k m h e = by (cases_lt k 63)
   where
     by : (k < 63) ⊎ (63 ≤ k) → floor_div z (2 ^ m) ≡ floor_div z (2 ^ k)
     by (inl r) = let f : m ≡ k = omega arith in ap (λ n. floor_div z (2 ^ n)) f
-    by (inr r) = let f : m ≡ 63 = omega arith in let p : 2 ^ 63 ≤ 2 ^ k = pow-le-pow_right (omega arith) r in ap (λ n. floor_div z (2 ^ n)) f ∙ floor_div-past z (2 ^ 63) (2 ^ k) h (omega arith) p
+    by (inr r) = let f : m ≡ 63 = omega arith in let p : 2 ^ 63 ≤ 2 ^ k = pow-le-pow_right (omega arith) r in ap (λ n. floor_div z (2 ^ n)) f ∙ floor_div-past z (2 ^ 63) (2 ^ k) (omega arith) (omega arith)
 
 -- a quotient is no greater in size
 pub shift_small : (z : ℤ) (k limit : ℕ) → unsigned_abs z ≤ limit → unsigned_abs (floor_div z (2 ^ k)) ≤ limit

@@ -293,6 +293,26 @@ tick_is values =
     let tick = passes_or (lies_in 1 MAX_TICK) DEFAULT_TICK tick_of_word (values opt.Tick) ticks_are refl in
     record { some = lies_low 1 MAX_TICK (tick_in values) tick; few = lies_high 1 MAX_TICK (tick_in values) tick }
 
+width_is : (values : Values)
+    → (1 ≤ value_or width_of DEFAULT_WIDTH (values opt.Width)) × (value_or width_of DEFAULT_WIDTH (values opt.Width) ≤ MAX_WIDTH)
+width_is values =
+    let width = passes_or (lies_in 1 MAX_WIDTH) DEFAULT_WIDTH width_of (values opt.Width)
+    (numbers_are MAX_DIGITS_OF_A_COUNT 1 MAX_WIDTH) refl in
+    (lies_low 1 MAX_WIDTH _ width, lies_high 1 MAX_WIDTH _ width)
+
+depth_is : (values : Values) → value_or depth_of DEFAULT_DEPTH (values opt.Depth) ≤ MAX_DEPTH
+depth_is values =
+    lies_high 0 MAX_DEPTH (value_or depth_of DEFAULT_DEPTH (values opt.Depth))
+    (passes_or (lies_in 0 MAX_DEPTH) DEFAULT_DEPTH depth_of (values opt.Depth) (numbers_are MAX_DIGITS_OF_A_COUNT 0 MAX_DEPTH) refl)
+
+workers_are : (values : Values)
+    → (1 ≤ value_or workers_of DEFAULT_WORKERS (values opt.Workers))
+    × (value_or workers_of DEFAULT_WORKERS (values opt.Workers) ≤ MAX_WORKERS)
+workers_are values =
+    let workers = passes_or (lies_in 1 MAX_WORKERS) DEFAULT_WORKERS workers_of (values opt.Workers)
+    (numbers_are MAX_DIGITS_OF_A_COUNT 1 MAX_WORKERS) refl in
+    (lies_low 1 MAX_WORKERS _ workers, lies_high 1 MAX_WORKERS _ workers)
+
 search_is : (values : Values) (kind : Kind) (target : Body) (files : List Text) (turns : Dir) (text : Text)
     → is_target target ≡ true → is_misread target_of (row_of kind).second (values opt.Second) ≡ false → ArePlain text
     → IsWithinLimits (record (search_of values kind target files) {
@@ -301,23 +321,16 @@ search_is : (values : Values) (kind : Kind) (target : Body) (files : List Text) 
     })
 unfolding search_of
 search_is values kind target files turns text body second plain =
-    let width = passes_or (lies_in 1 MAX_WIDTH) DEFAULT_WIDTH width_of (values opt.Width)
-    (numbers_are MAX_DIGITS_OF_A_COUNT 1 MAX_WIDTH) refl in
-    let depth = passes_or (lies_in 0 MAX_DEPTH) DEFAULT_DEPTH depth_of (values opt.Depth)
-    (numbers_are MAX_DIGITS_OF_A_COUNT 0 MAX_DEPTH) refl in
-    let workers = passes_or (lies_in 1 MAX_WORKERS) DEFAULT_WORKERS workers_of (values opt.Workers)
-    (numbers_are MAX_DIGITS_OF_A_COUNT 1 MAX_WORKERS) refl in
-    let some_width = lies_low 1 MAX_WIDTH (value_or width_of DEFAULT_WIDTH (values opt.Width)) width in
-    let most_width = lies_high 1 MAX_WIDTH (value_or width_of DEFAULT_WIDTH (values opt.Width)) width in
+    let width = width_is values in
     record {
       ask = ask_is values kind target turns body second;
       values = plain;
       tick = tick_is values;
-      some_width = omega (arith, ints);
-      width = omega (arith, ints);
-      depth = lies_high 0 MAX_DEPTH (value_or depth_of DEFAULT_DEPTH (values opt.Depth)) depth;
-      some_workers = lies_low 1 MAX_WORKERS (value_or workers_of DEFAULT_WORKERS (values opt.Workers)) workers;
-      workers = lies_high 1 MAX_WORKERS (value_or workers_of DEFAULT_WORKERS (values opt.Workers)) workers;
+      some_width = omega (arith, ints, width.0);
+      width = omega (arith, ints, width.1);
+      depth = depth_is values;
+      some_workers = (workers_are values).0;
+      workers = (workers_are values).1;
     }
 
 -- ---- from options to a request
@@ -369,6 +382,13 @@ of_searches : (P : FindAsk → Type 0) (request : FindAsk → Result Request Wor
 of_searches P request (Ok find) all is = all find is
 of_searches P request (Err fault) all is = tt
 
+-- what is made where no option is bad
+of_checked : (checked : Option Named → Result Request WordFault)
+    → ((option : Named) → IfOk (checked (Some option)) KeepsToLimits) → IfOk (checked None) KeepsToLimits
+    → (bad : Option Named) → IfOk (checked bad) KeepsToLimits
+of_checked checked refused made (Some option) = refused option
+of_checked checked refused made None = made
+
 verify_keeps : (cert : Option Text) (find : FindAsk) → IsWithinLimits find → IfOk (verify_of cert find) KeepsToLimits
 verify_keeps None find is = tt
 verify_keeps (Some cert) find is = is
@@ -378,13 +398,11 @@ unfolding text_of
 text_is values =
     let blocks = passes_or (lies_in 1 MAX_GENERATED_BLOCKS) 1 blocks_of (values opt.Blocks)
     (numbers_are MAX_DIGITS_OF_BLOCKS 1 MAX_GENERATED_BLOCKS) refl in
-    let workers = passes_or (lies_in 1 MAX_WORKERS) DEFAULT_WORKERS workers_of (values opt.Workers)
-    (numbers_are MAX_DIGITS_OF_A_COUNT 1 MAX_WORKERS) refl in
     record {
       some_blocks = lies_low 1 MAX_GENERATED_BLOCKS (value_or blocks_of 1 (values opt.Blocks)) blocks;
       few_blocks = lies_high 1 MAX_GENERATED_BLOCKS (value_or blocks_of 1 (values opt.Blocks)) blocks;
-      some_workers = lies_low 1 MAX_WORKERS (value_or workers_of DEFAULT_WORKERS (values opt.Workers)) workers;
-      few_workers = lies_high 1 MAX_WORKERS (value_or workers_of DEFAULT_WORKERS (values opt.Workers)) workers;
+      some_workers = (workers_are values).0;
+      few_workers = (workers_are values).1;
     }
 
 set_is : (values : Values) (kind : Kind) (target : Body) (files : List Text) → has_sets kind ≡ true → is_target target ≡ true
@@ -484,40 +502,25 @@ time_is given =
 scalar_is : (values : Values) → IsScalarWithinLimits (scalar_of values)
 unfolding scalar_of plan_of
 scalar_is values =
-    let width = passes_or (lies_in 1 MAX_WIDTH) DEFAULT_WIDTH width_of (values opt.Width)
-    (numbers_are MAX_DIGITS_OF_A_COUNT 1 MAX_WIDTH) refl in
-    let depth = passes_or (lies_in 0 MAX_DEPTH) DEFAULT_DEPTH depth_of (values opt.Depth)
-    (numbers_are MAX_DIGITS_OF_A_COUNT 0 MAX_DEPTH) refl in
-    let workers = passes_or (lies_in 1 MAX_WORKERS) DEFAULT_WORKERS workers_of (values opt.Workers)
-    (numbers_are MAX_DIGITS_OF_A_COUNT 1 MAX_WORKERS) refl in
     record {
       small = small_by (quad_in values) (passes_or is_small nought_quad quad_of (values opt.Quad) quads_are refl);
       from = time_is (values opt.From);
       to = time_is (values opt.To);
-      some_width = lies_low 1 MAX_WIDTH (value_or width_of DEFAULT_WIDTH (values opt.Width)) width;
-      width = lies_high 1 MAX_WIDTH (value_or width_of DEFAULT_WIDTH (values opt.Width)) width;
-      depth = lies_high 0 MAX_DEPTH (value_or depth_of DEFAULT_DEPTH (values opt.Depth)) depth;
-      some_workers = lies_low 1 MAX_WORKERS (value_or workers_of DEFAULT_WORKERS (values opt.Workers)) workers;
-      workers = lies_high 1 MAX_WORKERS (value_or workers_of DEFAULT_WORKERS (values opt.Workers)) workers;
+      some_width = (width_is values).0;
+      width = (width_is values).1;
+      depth = depth_is values;
+      some_workers = (workers_are values).0;
+      workers = (workers_are values).1;
     }
-
-of_scalar : (values : Values) (bad : Option Named) → IfOk (checked_scalar values bad) KeepsToLimits
-of_scalar values (Some option) = tt
-of_scalar values None = scalar_is values
 
 scalar_keeps : (values : Values) → IfOk (scalar_by values) KeepsToLimits
 unfolding scalar_by
-scalar_keeps values = of_scalar values (bad_in_scalar values)
+scalar_keeps values = of_checked (checked_scalar values) (λ option. tt) (scalar_is values) (bad_in_scalar values)
 
 -- ---- generated texts, and all requests
-
-of_words : (values : Values) (bad : Option Named) → IfOk (checked_text values bad) KeepsToLimits
-of_words values (Some option) = tt
-of_words values None = text_is values
-
 text_keeps : (values : Values) → IfOk (text_by values) KeepsToLimits
 unfolding text_by
-text_keeps values = of_words values (bad_word values)
+text_keeps values = of_checked (checked_text values) (λ option. tt) (text_is values) (bad_word values)
 
 of_command : (name : CommandName) (values : Values) (files : List Text) → IfOk (request_by name values files) KeepsToLimits
 of_command command.Find values files =

@@ -28,21 +28,15 @@ pairs rule = record {
 abbrev pub clear_at : ℕ → ℤ → ℤ → Leaf
 clear_at depth a b = leaf_of (record { a = a; b = b; depth = depth }) M.Clear
 
+-- clear leaves that follow one another from a time, by the depth and the end of each
+abbrev pub clear_from : ℤ → List (ℕ × ℤ) → List Leaf
+clear_from a [] = []
+clear_from a ((depth, b) ∷ others) = clear_at depth a b ∷ clear_from b others
+
 -- the leaves of eight units that are halved
 abbrev pub halved : List Leaf
-halved =
-    clear_at 2 (pos 0) (pos 2)
-    ∷ clear_at 2 (pos 2) (pos 4)
-    ∷ clear_at 2 (pos 4) (pos 6)
-    ∷ clear_at 2 (pos 6) (pos 8)
-    ∷ []
+halved = clear_from (pos 0) ((2, pos 2) ∷ (2, pos 4) ∷ (2, pos 6) ∷ (2, pos 8) ∷ [])
 
 -- and of eight units that are cut at their first third
 abbrev pub cut_at_thirds : List Leaf
-cut_at_thirds =
-    clear_at 1 (pos 0) (pos 2)
-    ∷ clear_at 2 (pos 2) (pos 4)
-    ∷ clear_at 3 (pos 4) (pos 5)
-    ∷ clear_at 4 (pos 5) (pos 6)
-    ∷ clear_at 4 (pos 6) (pos 8)
-    ∷ []
+cut_at_thirds = clear_from (pos 0) ((1, pos 2) ∷ (2, pos 4) ∷ (3, pos 5) ∷ (4, pos 6) ∷ (4, pos 8) ∷ [])

@@ -35,8 +35,7 @@ pub(crate) fn ask(fields: &mut Fields<'_>) -> Result<Ask, RowError>
 /// Returns the bodies of an ask, as they are seen. A missing second body is the target.
 pub(crate) fn scene_of(ask: &Ask) -> Scene {
     Scene {
-        first: ask.target,
-        second: ask.second.unwrap_or(ask.target),
+        targets: [ask.target, ask.second.unwrap_or(ask.target)],
         observer: ask.observer,
         frame: ask.frame,
     }

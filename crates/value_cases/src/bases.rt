@@ -98,11 +98,7 @@ fn entries(basis: &Basis, k: usize) -> [Ends; 4]
 
 // Reads the ends of one entry of each of the four rows.
 fn expected_entries(fields: &mut Fields<'_>) -> Result<[Ends; 4], RowError> {
-    let t = pair(fields)?;
-    let u = pair(fields)?;
-    let q = pair(fields)?;
-    let r = pair(fields)?;
-    Ok([t, u, q, r])
+    Ok([pair(fields)?, pair(fields)?, pair(fields)?, pair(fields)?])
 }
 
 // Tells whether the four rows have these entries at place `k`, both made each by itself and two at a time.

@@ -5,7 +5,7 @@ ghost use Rattle.spec_bodies.specs.Views.{Fits};
 use crate::enclosures::{EnclosureParts, enclosure_parts, parts_of};
 use crate::fields::{Fields, RowError};
 use crate::formulas::has_enclosure;
-use crate::scenes::{next_scene, span, states};
+use crate::scenes::{View, next_scene, span, states};
 use body_states::{BodyStates, Quantity, States};
 use eph_model::Ephemeris;
 use event_expr::Formula;
@@ -107,7 +107,7 @@ fn enclosure_agrees(
     let expected = enclosure_parts(fields)?;
     let is_given = given(states, c, a, b) == expected;
     let formula = formula_of(c)?;
-    Ok(has_enclosure(&formula, states, a, b, &expected) && is_given)
+    Ok(has_enclosure(&formula, View { states, a, b }, &expected) && is_given)
 }
 
 /// Compares a coordinate: the row has two targets, an observer, a frame, a coordinate, the first and the last time,

@@ -6,8 +6,7 @@ use crate::asks::{ask, scene_of};
 use crate::enclosures::{EnclosureParts, enclosure_parts};
 use crate::fields::{Fields, RowError};
 use crate::formulas::has_enclosure;
-use crate::scenes::{span, states};
-use body_states::BodyStates;
+use crate::scenes::{View, span, states};
 use eph_model::Ephemeris;
 use event_kinds::{Event, Guard, KindFault, event};
 use spec_kinds::Ask;
@@ -68,20 +67,14 @@ fn expected_guard(fields: &mut Fields<'_>) -> Result<ExpectedGuard, RowError> {
     })
 }
 
-// Tells whether there is a guard, and it is as expected.
-fn guard_agrees(
-    guard: Option<&Guard>,
-    states: &BodyStates<'_>,
-    a: i64,
-    b: i64,
-    expected: &ExpectedGuard,
-) -> bool
-    requires { Fits states.now a b }
+// Whether there is a guard, and it is as expected.
+fn guard_agrees(guard: Option<&Guard>, view: View<'_, '_>, expected: &ExpectedGuard) -> bool
+    requires { Fits view.states.now view.a view.b }
 {
     match guard {
         Some(guard) => {
             guard.at_least() == expected.at_least
-                && has_enclosure(guard.formula(), states, a, b, &expected.enclosure)
+                && has_enclosure(guard.formula(), view, &expected.enclosure)
         }
         None => false,
     }
@@ -90,18 +83,16 @@ fn guard_agrees(
 // Reads how many guards there are and what each is, and tells whether they are these.
 fn guards_agree(
     guards: &[Guard],
-    states: &BodyStates<'_>,
-    a: i64,
-    b: i64,
+    view: View<'_, '_>,
     fields: &mut Fields<'_>,
 ) -> Result<bool, RowError>
-    requires { Fits states.now a b }
+    requires { Fits view.states.now view.a view.b }
 {
     let count = fields.number::<usize>()?;
     let mut agree = guards.len() == count;
     for place in 0..count {
         let expected = expected_guard(fields)?;
-        agree = guard_agrees(guards.get(place), states, a, b, &expected) && agree;
+        agree = guard_agrees(guards.get(place), view, &expected) && agree;
     }
     Ok(agree)
 }
@@ -109,16 +100,14 @@ fn guards_agree(
 // Reads the enclosures of a function and of its guards, and tells whether they are those of an event.
 fn formulas_agree(
     event: &Event,
-    states: &BodyStates<'_>,
-    a: i64,
-    b: i64,
+    view: View<'_, '_>,
     fields: &mut Fields<'_>,
 ) -> Result<bool, RowError>
-    requires { Fits states.now a b }
+    requires { Fits view.states.now view.a view.b }
 {
     let expected = enclosure_parts(fields)?;
-    let is_function = has_enclosure(event.function(), states, a, b, &expected);
-    let are_guards = guards_agree(event.guards(), states, a, b, fields)?;
+    let is_function = has_enclosure(event.function(), view, &expected);
+    let are_guards = guards_agree(event.guards(), view, fields)?;
     Ok(is_function && are_guards)
 }
 
@@ -132,7 +121,15 @@ fn meaning_agrees(
 ) -> Result<bool, RowError> {
     let states = states(ephemeris, scene_of(ask))?;
     let (a, b) = span(ephemeris, &states, fields)?;
-    let are_formulas = formulas_agree(event, &states, a, b, fields)?;
+    let are_formulas = formulas_agree(
+        event,
+        View {
+            states: &states,
+            a,
+            b,
+        },
+        fields,
+    )?;
     Ok(are_formulas && event.dir() == ask.dir)
 }
 

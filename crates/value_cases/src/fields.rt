@@ -71,8 +71,22 @@ impl<'a> Fields<'a> {
         }
     }
 
-    /// Takes the next field and returns its bytes: `~` is a blank, `%` with two hexadecimal digits is the byte of
-    /// that number, and `%` alone is no byte at all.
+    /// The next field as a number, or the word `none`.
+    pub fn number_or_none<N: FromStr>(&mut self) -> Result<Option<N>, RowError>
+    where
+        <N as FromStr>::Err: Drop,
+    {
+        match self.word()? {
+            "none" => Ok(None),
+            word => match word.parse::<N>() {
+                Ok(number) => Ok(Some(number)),
+                Err(_) => Err(RowError::Malformed),
+            },
+        }
+    }
+
+    /// The bytes of the next field: `~` is a blank, `%` with two hexadecimal digits is the byte of that number, and `%`
+    /// alone is no byte at all.
     pub fn bytes(&mut self, alloc: Global) -> Result<Vec<u8>, RowError> {
         unescaped(alloc, self.word()?)
     }

@@ -6,7 +6,7 @@ ghost use Rattle.spec_searches.specs.Search.{enclosure_over};
 use crate::enclosures::{EnclosureParts, enclosure_parts, parts_of};
 use crate::expressions::expression;
 use crate::fields::{Fields, RowError};
-use crate::scenes::{next_scene, span, states};
+use crate::scenes::{View, next_scene, span, states};
 use body_states::BodyStates;
 use column_steps::{MAX_STEPS, StepList};
 use eph_model::Ephemeris;
@@ -37,13 +37,12 @@ fn enclosure_by_steps(
 /// coordinates made at once, and over one with none made.
 pub(crate) fn has_enclosure(
     formula: &Formula,
-    states: &BodyStates<'_>,
-    a: i64,
-    b: i64,
+    view: View<'_, '_>,
     expected: &EnclosureParts,
 ) -> bool
-    requires { Fits states.now a b }
+    requires { Fits view.states.now view.a view.b }
 {
+    let (states, a, b) = (view.states, view.a, view.b);
     let asked = parts_of(&enclose(formula, states, a, b));
     let made = parts_of(&enclosure_by_steps(formula, states, a, b, &formula.leaves()));
     let read = parts_of(&enclosure_by_steps(formula, states, a, b, &Leaves::none()));
@@ -69,7 +68,15 @@ pub(crate) fn formula_agrees(
     let (a, b) = span(ephemeris, &states, fields)?;
     let formula = formula(alloc, fields)?;
     let expected = enclosure_parts(fields)?;
-    Ok(has_enclosure(&formula, &states, a, b, &expected))
+    Ok(has_enclosure(
+        &formula,
+        View {
+            states: &states,
+            a,
+            b,
+        },
+        &expected,
+    ))
 }
 
 // Returns the limit of this name, or none for `none`.

@@ -30,18 +30,7 @@ fn expected_shape(fields: &mut Fields<'_>) -> Result<Shape, RowError> {
     })
 }
 
-// Reads the time of a border, or none for `none`.
-fn expected_border(fields: &mut Fields<'_>) -> Result<Option<i64>, RowError> {
-    match fields.word()? {
-        "none" => Ok(None),
-        word => match word.parse::<i64>() {
-            Ok(time) => Ok(Some(time)),
-            Err(_) => Err(RowError::Malformed),
-        },
-    }
-}
-
-// Returns what is known of the granule of a column at a time, in an ephemeris that has both.
+// The granule of a column at a time, of an ephemeris that has both.
 fn shape_at(ephemeris: &Ephemeris, column: usize, t: i64) -> Result<Shape, RowError>
     requires present { IsTrue (has_column ephemeris.now.header column) }
     requires block { 0 < ephemeris.now.blocks }
@@ -86,7 +75,7 @@ pub(crate) fn granule_of_column_agrees(
     let expected = expected_shape(fields)?;
     let (a, b) = pair(fields)?;
     let border = border_in(ephemeris, column, a, b)?;
-    let is_border = expected_border(fields)? == border;
+    let is_border = fields.number_or_none::<i64>()? == border;
     Ok(is_border && shape == expected)
 }
 

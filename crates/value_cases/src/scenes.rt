@@ -16,8 +16,7 @@ use spec_bodies::{EMB_COLUMN, Frame, MOON_COLUMN, Source};
 /// A scene: two targets, the observer and the frame.
 #[derive(Clone, Copy)]
 pub(crate) struct Scene {
-    pub(crate) first: Body,
-    pub(crate) second: Body,
+    pub(crate) targets: [Body; 2],
     pub(crate) observer: Body,
     pub(crate) frame: Frame,
 }
@@ -25,8 +24,7 @@ pub(crate) struct Scene {
 /// Reads a scene from four fields.
 pub(crate) fn next_scene(fields: &mut Fields<'_>) -> Result<Scene, RowError> {
     Ok(Scene {
-        first: body(fields)?,
-        second: body(fields)?,
+        targets: [body(fields)?, body(fields)?],
         observer: body(fields)?,
         frame: frame(fields)?,
     })
@@ -49,7 +47,8 @@ fn has(ephemeris: &Ephemeris, body: Body) -> bool
 pub(crate) fn states<'e>(ephemeris: &'e Ephemeris, scene: Scene) -> Result<BodyStates<'e>, RowError>
     ensures { IfOk result (λ states. states.ephemeris ≡ ephemeris.now) }
 {
-    let (first, second, observer) = (scene.first, scene.second, scene.observer);
+    let [first, second] = scene.targets;
+    let observer = scene.observer;
     let has_first = has(ephemeris, first);
     let has_second = has(ephemeris, second);
     let has_observer = has(ephemeris, observer);
@@ -62,7 +61,15 @@ pub(crate) fn states<'e>(ephemeris: &'e Ephemeris, scene: Scene) -> Result<BodyS
     Ok(BodyStates::new(ephemeris, [first, second], observer, scene.frame))
 }
 
-// Tells whether no granule of a column in use starts after the first time and up to the last.
+/// The states of two targets, and the first and the last of the times at which they are asked for.
+#[derive(Clone, Copy)]
+pub(crate) struct View<'v, 'e> {
+    pub(crate) states: &'v BodyStates<'e>,
+    pub(crate) a: i64,
+    pub(crate) b: i64,
+}
+
+// Whether no granule of a column in use begins after the first time and up to the last.
 fn is_free(ephemeris: &Ephemeris, states: &BodyStates<'_>, a: i64, b: i64) -> bool
     requires ephemeris { states.now.ephemeris ≡ ephemeris.now }
     requires from { ephemeris.now.start ≤ℤ a }

@@ -21,22 +21,11 @@ fn expected_decimal(fields: &mut Fields<'_>) -> Result<Result<Decimal, NumberFau
     }
 }
 
-// Reads the whole number that a row expects, or none.
-fn expected_whole(fields: &mut Fields<'_>) -> Result<Option<u32>, RowError> {
-    match fields.word()? {
-        "none" => Ok(None),
-        word => match word.parse::<u32>() {
-            Ok(number) => Ok(Some(number)),
-            Err(_) => Err(RowError::Malformed),
-        },
-    }
-}
-
-/// Compares a number: the row has a word, the decimal or the fault that it is, and the whole number or none.
+/// A word, the decimal or the fault that it is, and the whole number or none.
 pub(crate) fn decimal_agrees(alloc: Global, fields: &mut Fields<'_>) -> Result<bool, RowError> {
     let word = fields.bytes(alloc)?;
     let is_decimal = expected_decimal(fields)? == read_decimal(&word);
-    Ok(expected_whole(fields)? == read_whole(&word) && is_decimal)
+    Ok(fields.number_or_none::<u32>()? == read_whole(&word) && is_decimal)
 }
 
 // Reads the seconds of a Julian date that a row expects, or why there are none.

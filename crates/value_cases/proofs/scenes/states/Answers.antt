@@ -29,7 +29,7 @@ new-requires-clause-present c =
     let second : c.has-has_second.result ≡ true = search rules in
     let observer : c.has-has_observer.result ≡ true = search rules in
     let Present : Body → Type 0 = λ body. HasColumns c.args.ephemeris.now (needed_columns (source_of body)) in
-    of_three Present c.args.scene.observer c.args.scene.first c.args.scene.second
+    of_three Present _ _ _
     (there c.args.ephemeris.now _ _ c.has-has_observer.ensures observer)
     (there c.args.ephemeris.now _ _ c.has-has_first.ensures first)
     (there c.args.ephemeris.now _ _ c.has-has_second.ensures second)

@@ -1,6 +1,6 @@
 -- Sixteen digits in a vector of bytes, four of them to a lane.
-use Rattle.std.proofs.Common.{◌≡◌, ℕ, zero, suc, ◌+◌, ◌-◌, ◌*◌, ◌%◌, ◌^◌, ◌<◌, List, [], ◌∷◌, length, get_or, take, drop, refl, sym, ap, ◌∙◌, subst, arith}
-use lib.Lanes.{zip2, dots}
+use Rattle.std.proofs.Common.{◌≡◌, ℕ, zero, suc, ◌+◌, ◌-◌, ◌*◌, ◌%◌, ◌^◌, ◌<◌, List, [], ◌∷◌, ◌++◌, length, get_or, take, drop, refl, sym, ap, ◌∙◌, subst, arith}
+use lib.Lanes.{dots, pick_l, zip2}
 use Rattle.spec_text.specs.Decimals.{IsDigit, AreDigits, value, value_after}
 use Rattle.spec_text.proofs.Significant.{value_after_high}
 
@@ -90,15 +90,46 @@ value_fours (suc m) n (a ∷ b ∷ c ∷ d ∷ xs) long =
 four_lanes : (u v w x : ℕ) → 100000000 * (10000 * u + v) + (10000 * w + x) ≡ 10000 * (10000 * (10000 * (10000 * 0 + u) + v) + w) + x
 four_lanes u v w x = omega arith
 
--- the number that the four lanes of sixteen digits make
-pub sixteen_are : (xs : List ℕ) (u v w x : ℕ) → length xs ≡ 16 → AreDigits xs
-    → u ≡ get_or (made 4 xs) 0 0 → v ≡ get_or (made 4 xs) 1 0 → w ≡ get_or (made 4 xs) 2 0 → x ≡ get_or (made 4 xs) 3 0
-    → 100000000 * (10000 * u + v) + (10000 * w + x) ≡ value xs
-sixteen_are xs u v w x long are first second third last =
+-- each four joined with the next one
+abbrev pub eights : List ℕ → List ℕ
+eights lanes =
+    zip2 (λ a b. (a + b) % 2 ^ 32) (zip2 (λ a b. (a * b) % 2 ^ 32) lanes (10000 ∷ 10000 ∷ 10000 ∷ 10000 ∷ []))
+    (pick_l 0 (lanes ++ lanes) (1 ∷ 1 ∷ 3 ∷ 3 ∷ []))
+
+four_below : (p q r s : ℕ) → p < 10 → q < 10 → r < 10 → s < 10 → 10 * (10 * (10 * (10 * 0 + p) + q) + r) + s < 10000
+four_below p q r s hp hq hr hs = omega (arith, hp, hq, hr, hs)
+
+fours_below : (n : ℕ) (xs : List ℕ) → length xs ≡ 4 * n → AreDigits xs → (k : ℕ) → get_or (fours n xs) k 0 < 10000
+fours_below zero xs long are zero = omega arith
+fours_below zero xs long are (suc k) = omega arith
+fours_below (suc n) [] long are k = absurd (omega (arith, long))
+fours_below (suc n) (a ∷ []) long are k = absurd (omega (arith, long))
+fours_below (suc n) (a ∷ b ∷ []) long are k = absurd (omega (arith, long))
+fours_below (suc n) (a ∷ b ∷ c ∷ []) long are k = absurd (omega (arith, long))
+fours_below (suc n) (a ∷ b ∷ c ∷ d ∷ xs) long are zero =
+    four_below (a - 48) (b - 48) (c - 48) (d - 48)
+    (digit_below a are.0) (digit_below b are.1.0) (digit_below c are.1.1.0) (digit_below d are.1.1.1.0)
+fours_below (suc n) (a ∷ b ∷ c ∷ d ∷ xs) long are (suc k) = fours_below n xs (omega (arith, long)) are.1.1.1.1 k
+
+pair_is : (u v : ℕ) → u < 10000 → v < 10000 → (u * 10000 % 2 ^ 32 + v) % 2 ^ 32 ≡ 10000 * u + v
+pair_is u v hu hv =
+    let inner : u * 10000 % 2 ^ 32 ≡ 10000 * u = omega (arith, hu) in
+    rw inner (omega (arith, hu, hv))
+
+-- the number that the lanes of sixteen digits make
+pub sixteen_are : (xs : List ℕ) (p q : ℕ) → length xs ≡ 16 → AreDigits xs
+    → p ≡ get_or (eights (made 4 xs)) 0 0 → q ≡ get_or (eights (made 4 xs)) 2 0 → 100000000 * p + q ≡ value xs
+sixteen_are xs p q long are first second =
+    let u = value (take 4 xs) in
+    let v = value (take 4 (drop 4 xs)) in
+    let w = value (take 4 (drop 4 (drop 4 xs))) in
+    let x = value (take 4 (drop 4 (drop 4 (drop 4 xs)))) in
     let lanes = is_made 4 xs long are in
-    let at : (k : ℕ) → get_or (made 4 xs) k 0 ≡ get_or (fours 4 xs) k 0 = λ k. ap (λ (l : List ℕ). get_or l k 0) lanes in
-    four_lanes u v w x
-    ∙ (λ i. 10000 * (10000 * (10000 * (10000 * 0 + (first ∙ at 0) i) + (second ∙ at 1) i) + (third ∙ at 2) i) + (last ∙ at 3) i)
+    let below = fours_below 4 xs long are in
+    let upper : p ≡ 10000 * u + v = first ∙ ap (λ (l : List ℕ). get_or (eights l) 0 0) lanes ∙ pair_is u v (below 0) (below 1) in
+    let lower : q ≡ 10000 * w + x = second ∙ ap (λ (l : List ℕ). get_or (eights l) 2 0) lanes ∙ pair_is w x (below 2) (below 3) in
+    (λ i. 100000000 * upper i + lower i)
+    ∙ four_lanes u v w x
     ∙ sym (value_fours 4 0 xs long)
 
 -- and it is below ten to the sixteen

@@ -111,7 +111,8 @@ fn are_sixteen_digits(text: &[u8]) -> bool
     below == 0 && above == 0
 }
 
-// The number that the first sixteen bytes write, which are digits. Each four of them are joined to a number below 10,000.
+// The number that the first sixteen bytes write, which are digits. Each four of them are joined to a number below 10,000,
+// and each two of these, of which the second is brought beside the first, to one below 10^8.
 #[inline(always)]
 fn sixteen_digits(text: &[u8]) -> u64
     requires long { SIXTEEN ≤ length text.now }
@@ -124,10 +125,10 @@ fn sixteen_digits(text: &[u8]) -> u64
     let right = digits.dot4(u8x16::from_array([
         0, 0, 10, 1, 0, 0, 10, 1, 0, 0, 10, 1, 0, 0, 10, 1,
     ]));
-    let fours = (left * u32x4::splat(100) + right).to_array();
-    let upper = 10_000 * u64::from(fours[0]) + u64::from(fours[1]);
-    let lower = 10_000 * u64::from(fours[2]) + u64::from(fours[3]);
-    EIGHT_DIGITS * upper + lower
+    let fours = left * u32x4::splat(100) + right;
+    let next = fours.shuffle(fours, [1, 1, 3, 3]);
+    let eights = (fours * u32x4::splat(10_000) + next).to_array();
+    EIGHT_DIGITS * u64::from(eights[0]) + u64::from(eights[2])
 }
 
 // The number that sixteen digits at the front write, and what follows them, as `take_eight`.

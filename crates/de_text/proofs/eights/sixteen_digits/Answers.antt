@@ -6,8 +6,7 @@ use Rattle.de_text.proofs.eights.sixteen_digits.Goals as goal
 pub returns-clause-value : goal.returns-clause-value
 returns-clause-value c =
     let text = c.args.text.now in
-    sixteen_are (take 16 text) c.from.result c.from-2.result c.from-3.result c.from-4.result (length-take-le 16 text c.requires.long) c.requires.digits
-    c.from.ensures c.from-2.ensures c.from-3.ensures c.from-4.ensures
+    sixteen_are (take 16 text) c.from.result c.from-2.result (length-take-le 16 text c.requires.long) c.requires.digits c.from.ensures c.from-2.ensures
 
 pub returns-clause-bound : goal.returns-clause-bound
 returns-clause-bound c =

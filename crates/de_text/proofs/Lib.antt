@@ -11,3 +11,5 @@ pub mod Sizes
 pub mod Numbers
 pub mod Prefixes
 pub mod Triples
+pub mod FieldFronts
+pub mod SixteenDigits

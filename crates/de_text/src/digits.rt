@@ -66,25 +66,6 @@ pub(crate) fn take_digits(start: u64, text: &[u8]) -> Digits<'_>
     }
 }
 
-// The digits at the front, where there is a zero alone.
-#[inline(always)]
-pub(crate) fn one_zero(text: &[u8]) -> Option<Digits<'_>>
-    ensures number { IfSome result (λ d. d.number ≡ min (value (digits_at text.now).0) (10 ^ 18)) }
-    ensures count { IfSome result (λ d. d.count ≡ length (digits_at text.now).0) }
-    ensures rest { IfSome result (λ d. d.rest.now ≡ (digits_at text.now).1) }
-    ensures some { IfSome result (λ d. 0 < d.count) }
-    ensures zero { IfSome result (λ d. d.number ≡ 0) }
-{
-    if text.len() < 2 || text[0] != b'0' || text[1].is_ascii_digit() {
-        return None;
-    }
-    Some(Digits {
-        number: 0,
-        count: 1,
-        rest: &text[1..],
-    })
-}
-
 // Whether no digit stands at a place.
 #[tactic(auto, using(crate::proofs::Fronts::digits_end, crate::proofs::Fronts::digits_none))]
 #[inline(always)]
@@ -132,7 +113,7 @@ pub(crate) fn eighteen_digits(text: &[u8]) -> Option<Digits<'_>>
     ensures count { IfSome result (λ d. d.count ≡ length (digits_at text.now).0) }
     ensures rest { IfSome result (λ d. d.rest.now ≡ (digits_at text.now).1) }
 {
-    let (number, rest) = take_sixteen(0, text)?;
+    let (number, rest) = take_sixteen(text)?;
     let last = two_digits(number, rest)?;
     Some(Digits {
         number: last.number,

@@ -12,9 +12,6 @@ const EIGHT: usize = 8;
 // How many are taken where as many stand.
 const SIXTEEN: usize = 16;
 
-// A number below this one, with sixteen digits after it, has at most 17 digits.
-const SIXTEEN_ROOM: u64 = 10;
-
 // Ten to the number of digits that are taken at a time.
 const EIGHT_DIGITS: u64 = 100_000_000;
 
@@ -114,19 +111,38 @@ fn are_sixteen_digits(text: &[u8]) -> bool
     below == 0 && above == 0
 }
 
-// The number that sixteen digits at the front write after an earlier one, as `take_eight`.
+// The number that the first sixteen bytes write, which are digits. Each four of them are joined to a number below 10,000,
+// and each two of these, of which the second is brought beside the first, to one below 10^8.
 #[inline(always)]
-pub(crate) fn take_sixteen(before: u64, text: &[u8]) -> Option<(u64, &[u8])>
+fn sixteen_digits(text: &[u8]) -> u64
+    requires long { SIXTEEN ≤ length text.now }
+    requires digits { AreDigits (take 16 text.now) }
+    ensures value { result ≡ value (take 16 text.now) }
+    ensures bound { result < 10 ^ 16 }
+{
+    let digits = u8x16::from_slice(text) - u8x16::splat(b'0');
+    let left = digits.dot4(u8x16::from_array([10, 1, 0, 0, 10, 1, 0, 0, 10, 1, 0, 0, 10, 1, 0, 0]));
+    let right = digits.dot4(u8x16::from_array([
+        0, 0, 10, 1, 0, 0, 10, 1, 0, 0, 10, 1, 0, 0, 10, 1,
+    ]));
+    let fours = left * u32x4::splat(100) + right;
+    let next = fours.shuffle(fours, [1, 1, 3, 3]);
+    let eights = (fours * u32x4::splat(10_000) + next).to_array();
+    EIGHT_DIGITS * u64::from(eights[0]) + u64::from(eights[2])
+}
+
+// The number that sixteen digits at the front write, and what follows them, as `take_eight`.
+#[inline(always)]
+pub(crate) fn take_sixteen(text: &[u8]) -> Option<(u64, &[u8])>
     ensures number { IfSome result (λ p. value_after p.0 (digits_at p.1.now).0
-        ≡ value_after before (digits_at text.now).0) }
+        ≡ value_after 0 (digits_at text.now).0) }
     ensures count { IfSome result (λ p. length (digits_at text.now).0
         ≡ 16 + length (digits_at p.1.now).0) }
     ensures rest { IfSome result (λ p. (digits_at p.1.now).1 ≡ (digits_at text.now).1) }
-    ensures few { IfSome result (λ p. p.0 < 10 ^ 16 * (before + 1)) }
+    ensures few { IfSome result (λ p. p.0 < 10 ^ 16) }
 {
-    if before >= SIXTEEN_ROOM || text.len() < SIXTEEN || !are_sixteen_digits(text) {
+    if text.len() < SIXTEEN || !are_sixteen_digits(text) {
         return None;
     }
-    let (number, rest) = after_eight(before, text);
-    Some(after_eight(number, rest))
+    Some((sixteen_digits(text), &text[SIXTEEN..]))
 }

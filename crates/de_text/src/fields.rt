@@ -1,5 +1,7 @@
 // Numbers in the form in which JPL writes those of blocks, cut from the front of a line.
 ghost use Rattle.std.specs.Prelude.{◌≡◌, ◌+◌, ◌-◌, ◌<◌, ◌≤◌, [], ◌∷◌, IfSome, IsTrue, List, Ok, ℕ, drop, false, length, slice_index, take, true};
+ghost use lib.Lanes.{number_l};
+ghost use Rattle.spec_text.specs.Bytes.{digit_zero, point};
 ghost use Rattle.spec_text.specs.Lines.{is_line_feed, is_separator, lines, tokens};
 ghost use Rattle.spec_text.specs.Reading.{reading};
 ghost use Rattle.spec_text.specs.Splitting.{sign_at};
@@ -9,18 +11,24 @@ ghost use Rattle.de_text.specs.Triples.{AreTriple};
 
 use crate::decimal::decimal_of;
 use crate::lines::without_return;
-use crate::parts::split_signless;
+use crate::parts::split_fraction;
 use crate::tokens::is_separator;
 use crate::triple::Triple;
 use spec_text::Decimal;
+use std::simd::prelude::*;
 
 // A blank, a blank or a minus, a digit, a point, eighteen digits, and an exponent of two.
 const FIELD: usize = 26;
 
-// Where the point stands, and the mark of the exponent.
-const POINT: usize = 3;
+// Where the digits after the point begin, and where the mark of the exponent stands.
+const DIGITS: usize = 4;
 
 const MARK: usize = 22;
+
+// The word of two blanks, a 0 and a point, and by how much it is greater where the second is a minus.
+const BLANK_FRONT: u32 = 0x2e30_2020;
+
+const MINUS_FRONT: u32 = 256 * 13;
 
 // The length of three fields.
 const FIELDS: usize = 78;
@@ -52,7 +60,18 @@ pub(crate) struct Front {
     pub negative: bool,
 }
 
-// The front of a number: two blanks, or a blank and a minus, and a 0. A minus is the odd one, which needs no branch.
+// The word of the first four bytes, of which the first is the lowest.
+#[inline(always)]
+fn front_word(line: &[u8]) -> u32
+    requires { 4 ≤ length line.now }
+    ensures { result ≡ number_l 256 (take 4 line.now) }
+{
+    let words = u32x1::from_le_bytes(u8x4::from_slice(line)).to_array();
+    words[0]
+}
+
+// The front of a number: two blanks, or a blank and a minus, a 0 and a point. A minus is the odd one, which needs no
+// branch.
 #[inline(always)]
 fn field_front(line: &[u8]) -> Option<Front>
     requires { FIELD ≤ length line.now }
@@ -62,11 +81,12 @@ fn field_front(line: &[u8]) -> Option<Front>
         → is_separator (slice_index line.now k) ≡ true) }
     ensures negative { IfSome result (λ f. f.negative
         ≡ is_minus (sign_at (take (26 - f.start) (drop f.start line.now))).0) }
-    ensures digits { IfSome result (λ f. take 24 (drop 2 line.now)
+    ensures digits { IfSome result (λ f. digit_zero ∷ point ∷ take 22 (drop 4 line.now)
         ≡ (sign_at (take (26 - f.start) (drop f.start line.now))).1) }
 {
-    let odd = line[1] % 2;
-    if line[0] != b' ' || line[2] != b'0' || line[1] != b' ' + 13 * odd {
+    let word = front_word(line);
+    let odd = word / 256 % 2;
+    if word != BLANK_FRONT + MINUS_FRONT * odd {
         return None;
     }
     Some(Front {
@@ -75,16 +95,16 @@ fn field_front(line: &[u8]) -> Option<Front>
     })
 }
 
-// The decimal that a word is, of which its sign was read, where the rest is written in the form.
+// The decimal that a word is, of which its sign, its 0 and its point were read, where the rest is written in the form.
 #[inline(always)]
-fn read_signless(negative: bool, digits: &[u8], word: &[u8]) -> Option<Decimal>
+fn read_fraction(negative: bool, digits: &[u8], word: &[u8]) -> Option<Decimal>
     requires short { length word.now ≤ MAX_WORD_BYTES }
     requires negative { negative ≡ is_minus (sign_at word.now).0 }
-    requires digits { digits.now ≡ (sign_at word.now).1 }
+    requires digits { digit_zero ∷ point ∷ digits.now ≡ (sign_at word.now).1 }
     ensures { IfSome result (λ d. Ok d ≡ reading word.now) }
 {
     let _word = word;
-    let parts = split_signless(negative, digits)?;
+    let parts = split_fraction(negative, digits)?;
     Some(decimal_of(&parts))
 }
 
@@ -101,12 +121,12 @@ fn cut_field(line: &[u8]) -> Option<(Decimal, &[u8])>
     ensures long { IfSome result (λ p. 26 ≤ length line.now) }
     ensures rest { IfSome result (λ p. p.1.now ≡ drop 26 line.now) }
 {
-    if line.len() < FIELD || line[POINT] != b'.' || line[MARK] != b'D' {
+    if line.len() < FIELD || line[MARK] != b'D' {
         return None;
     }
     let front = field_front(line)?;
     let word = &line[front.start..FIELD];
-    let d = read_signless(front.negative, &line[2..FIELD], word)?;
+    let d = read_fraction(front.negative, &line[DIGITS..FIELD], word)?;
     Some((d, &line[FIELD..]))
 }
 

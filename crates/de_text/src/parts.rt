@@ -1,11 +1,12 @@
 // The parts of a numeral, cut from the front of a word.
 ghost use Rattle.std.specs.Prelude.{◌≡◌, ◌<◌, ◌≤◌, ◌^◌, ◌∷◌, IfSome, List, Some, length, min, ℕ};
+ghost use Rattle.spec_text.specs.Bytes.{digit_zero, point};
 ghost use Rattle.spec_text.specs.Decimals.{value_after};
 ghost use Rattle.spec_text.specs.Splitting.{exponent_at, fraction_at, numeral_of, sign_at};
 ghost use Rattle.spec_text.specs.declared.limits.TheConstants.{MAX_EXPONENT};
 ghost use Rattle.de_text.specs.Parts.{IsNear, ShowsExponent, Splits, fraction_digits, is_minus};
 
-use crate::digits::{Digits, eighteen_digits, one_zero, take_digits, take_many_digits, two_digits};
+use crate::digits::{Digits, eighteen_digits, take_digits, take_many_digits, two_digits};
 
 // The sign, the number that the digits without the point write, how many of them stand after the point, and the sign
 // and the size of the written exponent. Both numbers are at most `CAP`.
@@ -99,21 +100,6 @@ pub(crate) fn split(word: &[u8]) -> Option<Parts>
     Some(parts_of(negative, &digits, exponent_negative, exponent))
 }
 
-// A point and eighteen digits at the front.
-#[inline(always)]
-fn plain_fraction(text: &[u8]) -> Option<Digits<'_>>
-    ensures number { IfSome result (λ d. d.number
-        ≡ min (value_after 0 (fraction_digits text.now)) (10 ^ 18)) }
-    ensures few { IfSome result (λ d. d.number < 10 ^ 18) }
-    ensures count { IfSome result (λ d. d.count ≡ length (fraction_digits text.now)) }
-    ensures rest { IfSome result (λ d. d.rest.now ≡ (fraction_at text.now).1) }
-{
-    match text {
-        [b'.', rest @ ..] => eighteen_digits(rest),
-        _ => None,
-    }
-}
-
 // Whether a sign that is written is a minus. Of both signs one bit tells that, which needs no branch.
 #[inline(always)]
 fn written_sign(sign: u8) -> Option<bool>
@@ -147,17 +133,17 @@ fn field_exponent(text: &[u8]) -> Option<(bool, u64)>
     }
 }
 
-// The parts of a word of which the sign was read, as JPL writes its numbers: a zero, a point, eighteen digits, and an
-// exponent of two.
+// The parts of a word of which the sign, a zero and a point were read, where the rest is as JPL writes its numbers:
+// eighteen digits, and an exponent of two.
 #[inline(always)]
-pub(crate) fn split_signless(negative: bool, text: &[u8]) -> Option<Parts>
+pub(crate) fn split_fraction(negative: bool, text: &[u8]) -> Option<Parts>
     ensures splits { IfSome result (λ parts. (word : List ℕ)
-        → negative ≡ is_minus (sign_at word).0 → text.now ≡ (sign_at word).1
+        → negative ≡ is_minus (sign_at word).0
+        → digit_zero ∷ point ∷ text.now ≡ (sign_at word).1
         → Splits (numeral_of word) (Some parts)) }
     ensures near { IfSome result IsNear }
 {
-    let whole = one_zero(text)?;
-    let digits = plain_fraction(whole.rest)?;
+    let digits = eighteen_digits(text)?;
     let (exponent_negative, exponent) = field_exponent(digits.rest)?;
     Some(parts_of(negative, &digits, exponent_negative, exponent))
 }
@@ -168,6 +154,9 @@ pub(crate) fn split_plain(word: &[u8]) -> Option<Parts>
     ensures splits { IfSome result (λ parts. Splits (numeral_of word.now) (Some parts)) }
     ensures near { IfSome result IsNear }
 {
-    let (negative, rest) = take_sign(word);
-    split_signless(negative, rest)
+    let (negative, signless) = take_sign(word);
+    match signless {
+        [b'0', b'.', digits @ ..] => split_fraction(negative, digits),
+        _ => None,
+    }
 }

@@ -1,5 +1,5 @@
 use Rattle.de_text.proofs.Splits.{fits, some_is}
-use Rattle.de_text.proofs.fields.read_signless.Goals as goal
+use Rattle.de_text.proofs.fields.read_fraction.Goals as goal
 
 pub decimal_of-requires-clause-short : goal.decimal_of-requires-clause-short
 decimal_of-requires-clause-short c =

@@ -1,0 +1,7 @@
+use Rattle.event_bounds.proofs.spans.SpanArithmetic.cosine.Goals as goal
+
+pub cosine_interval-requires : goal.cosine_interval-requires
+cosine_interval-requires c = c.listed_constants_are_within_limits.ensures.cosines _ c.args.number c.requires.part
+
+pub returns : goal.returns
+returns c = rw c.cosine_interval.ensures.equals at c.constant.ensures

@@ -93,7 +93,8 @@ impl<'s, 'e> Arithmetic for Span<'s, 'e> {
     fn column(&self, quantity: Quantity, number: usize, axis: usize) -> Option<Model> {
         listed_columns_are_read();
         let granule = granule_of(self.states, self.ephemeris, number, &self.times);
-        self.rows(quantity).model(quantity, &granule, axis, &self.times)
+        self.rows(quantity)
+            .model(quantity, &granule, axis, &self.times)
     }
 
     fn zero(&self) -> Option<Model> {

@@ -13,4 +13,3 @@ IsDifferenceOf k m n = (p q : ℤ) (r t : Fraction) → IsArgument p q → IsNea
 
 abbrev pub IsProductOf : Model → Model → Model → Type 0
 IsProductOf k m n = (p q : ℤ) (r t : Fraction) → IsArgument p q → IsNear m p q r → IsNear n p q t → IsNear k p q (fraction_mul r t)
-

@@ -4,12 +4,11 @@ use Rattle.std.proofs.lemmas.Int.{unsigned_abs-mul}
 use Rattle.std.proofs.lemmas.Nat.{mul-le}
 use Rattle.spec_intervals.specs.Fraction.{fraction}
 use Rattle.spec_chebyshev.specs.Rows.{u_row, u_unit}
-use Rattle.spec_models.specs.Models.{Covers, IsNear, Model, coefficient, constant, model, multiplied, sizes}
+use Rattle.spec_models.specs.Models.{IsNear, Model, coefficient, constant, model, multiplied, sizes}
 use Rattle.spec_models.proofs.Coefficients.{coefficient-multiplied, same-lists, zeros-same}
 use Rattle.spec_models.proofs.Lists.{length-multiplied}
 use Rattle.spec_models.proofs.Made.{near-multiplied}
 use Rattle.spec_covers.specs.Combining.{RepeatsTo}
-use Rattle.spec_covers.specs.Series.{of_entry}
 use Rattle.spec_covers.proofs.Sums.{Covers-multiples}
 use Rattle.spec_covers.proofs.Units.{Covers-zero}
 use Rattle.event_models.specs.declared.rows.RowModel.{RowModel}

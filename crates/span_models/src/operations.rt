@@ -11,7 +11,7 @@ use crate::constants::{first_of, is_constant, products_with};
 use crate::model::Model;
 use crate::settling::settled;
 use crate::sums::{coarser_error, exponent_gap, opposite_of, sums_of};
-use spec_models::model_laws::{changes, lists, multiples, operations};
+use spec_models::model_laws::{changes, lists, operations};
 
 /// The greatest error of a model, 2^60.
 const SIZE_LIMIT: u64 = 1 << 60;

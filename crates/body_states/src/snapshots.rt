@@ -10,11 +10,11 @@ use crate::sources::KEPT_COLUMNS;
 use crate::states::BodyStates;
 use column_steps::Arithmetic;
 use event_expr::Leaves;
-use event_expr::rules::TimeSpan;
-use ival_core::{COSINE_EXPONENT, DISTANCE_EXPONENT, Enclosure, Ival};
+use event_expr::rules::{TimeSpan, cosine_interval, length_interval};
+use ival_core::{Enclosure, Ival};
 use spec_bodies::{Factor, Quantity};
 use spec_steps::Sight;
-use spec_steps::laws::listed_enclosures_are_within_limits;
+use spec_steps::laws::{listed_constants_are_within_limits, listed_enclosures_are_within_limits};
 use spec_text::Decimal;
 use std::marker::Model;
 
@@ -121,13 +121,13 @@ impl<'s, 'e> Arithmetic for Snapshot<'s, 'e> {
     }
 
     fn length(&self, km: Decimal) -> Enclosure {
-        let value = Ival::from_decimal(km.mant, km.exp, DISTANCE_EXPONENT);
-        self.times.constant(value)
+        listed_constants_are_within_limits();
+        self.times.constant(length_interval(km))
     }
 
     fn cosine(&self, number: Decimal) -> Enclosure {
-        let value = Ival::from_decimal(number.mant, number.exp, COSINE_EXPONENT);
-        self.times.constant(value)
+        listed_constants_are_within_limits();
+        self.times.constant(cosine_interval(number))
     }
 
     fn scaled(&self, factor: Factor, x: &Enclosure) -> Enclosure {

@@ -9,6 +9,7 @@
 #![tactic(auto)]
 
 mod arithmetic;
+mod axes_read;
 mod bodies;
 mod entering;
 mod filling;

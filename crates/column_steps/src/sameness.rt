@@ -38,8 +38,8 @@ fn is_same_factor(x: Factor, y: Factor) -> bool
     }
 }
 
-// Two quantities are one.
-fn is_same_quantity(x: Quantity, y: Quantity) -> bool
+/// Two quantities are one.
+pub(crate) fn is_same_quantity(x: Quantity, y: Quantity) -> bool
     ensures { IsTrue result → x ≡ y }
 {
     match (x, y) {

@@ -1,18 +1,14 @@
 -- What the rules on bounds owe the calls on intervals.
-use Rattle.std.proofs.Common.{◌≡◌, ℕ, ◌+◌, ◌≤◌, arith, ℤ, pos, ◌-ℤ◌, ◌∙◌, to_z, of_z, w32, w64, subst, unsigned_abs}
+use Rattle.std.proofs.Common.{◌≡◌, ℕ, ◌+◌, ◌≤◌, arith, ℤ, pos, ◌-ℤ◌, ◌∙◌, to_z, of_z, w32, unsigned_abs}
 use Rattle.std.proofs.lemmas.Int.{ints, to_z-of_z}
-use mir.Syntax.{w16}
-use mir.Val.{SFits}
-use Rattle.spec_intervals.specs.Interval.{Interval, IsCosine, IsDistance, IsExponent, cosine_exponent, distance_exponent, from_decimal, product, signed_square}
+use Rattle.spec_intervals.specs.Interval.{Interval, IsExponent, product, signed_square}
 use Rattle.spec_intervals.specs.Enclosure.{IsSpan, IsWithin, offsets, twice_size}
-use Rattle.spec_intervals.proofs.Exponents.{IsWithin-more, cosine-within, distance-within, product-within, signed_square-within, twice_size-within}
+use Rattle.spec_intervals.proofs.Exponents.{IsWithin-more, product-within, signed_square-within, twice_size-within}
 use Rattle.spec_expressions.specs.Term.{part_exponent}
-use Rattle.spec_models.specs.Bounds.{coarse_difference, coarse_sum, constant_bound}
+use Rattle.spec_models.specs.Bounds.{coarse_difference, coarse_sum}
 use Rattle.spec_bounds.proofs.Exponents.{coarse_sum-within, coarse_difference-within, stepped-within}
 use Rattle.event_expr.specs.States.{wide_exponent}
-use Rattle.event_bounds.specs.declared.bound.Bound.{Bound as Made}
 use Rattle.event_bounds.specs.declared.times.BoundTimes.{BoundTimes}
-use Rattle.event_bounds.specs.Made.{IsBound}
 
 pub span_of : (t : BoundTimes) → IsSpan t.span.now.first t.span.now.last
 span_of t = record { ordered = t.ordered; first_near = t.first_near; last_near = t.last_near }
@@ -64,17 +60,3 @@ module _ (x r : Interval) (p : IsWithin part_exponent x) where
 pub square_step_wide : (x y r : Interval) → IsWithin (part_exponent + 1) x → IsWithin part_exponent y → r ≡ product x y → IsWithin wide_exponent r
 square_step_wide x y r p q e =
     rw e (IsWithin-more (part_exponent + 1 + part_exponent + 62) wide_exponent (product x y) (omega arith) (product-within x y (part_exponent + 1) part_exponent p q))
-
--- ---- constants, as the code is given them
-module _ (m q : ℤ) (r : Interval) (f : SFits w64 m) (g : SFits w16 q) where
-  pub length_kept : r ≡ from_decimal (to_z w64 (of_z w64 m)) (to_z w16 (of_z w16 q)) distance_exponent → IsDistance m q → IsWithin part_exponent r
-  length_kept e h =
-      rw (rw (to_z-of_z w64 m f, to_z-of_z w16 q g) at e) (IsWithin-more 24 part_exponent (from_decimal m q distance_exponent) (omega arith) (distance-within m q h))
-
-  pub cosine_kept : r ≡ from_decimal (to_z w64 (of_z w64 m)) (to_z w16 (of_z w16 q)) cosine_exponent → IsCosine m q → IsWithin part_exponent r
-  cosine_kept e h =
-      rw (rw (to_z-of_z w64 m f, to_z-of_z w16 q g) at e) (IsWithin-more 60 part_exponent (from_decimal m q cosine_exponent) (omega arith) (cosine-within m q h))
-
-pub constant_kept : (a b s m q : ℤ) (r : Interval) (made : Made) → SFits w64 m → SFits w16 q → r ≡ from_decimal (to_z w64 (of_z w64 m)) (to_z w16 (of_z w16 q)) s
-    → IsBound made (constant_bound a b r) → IsBound made (constant_bound a b (from_decimal m q s))
-constant_kept a b s m q r made f g e is = subst (λ x. IsBound made (constant_bound a b x)) (rw (to_z-of_z w64 m f, to_z-of_z w16 q g) at e) is

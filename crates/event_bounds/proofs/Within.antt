@@ -1,22 +1,17 @@
 -- The exponents of what is made stay within the limit of parts.
-use Rattle.std.proofs.Common.{◌≡◌, ℕ, arith, inl, inr, sym, subst, ℤ}
-use Rattle.std.specs.Prelude.{⊤}
-use Rattle.spec_intervals.specs.Interval.{Interval, IsCosine, IsDistance}
+use Rattle.std.proofs.Common.{◌≡◌, ℕ, arith, sym, subst, ℤ}
+use Rattle.spec_intervals.specs.Interval.{Interval}
 use Rattle.spec_intervals.specs.Enclosure.{IsWithin}
 use Rattle.spec_intervals.proofs.Exponents.{IsWithin-more}
-use Rattle.spec_expressions.specs.Term.{HasConstants, Term, leaf, length as length_of, cosine as cosine_of, sum as sum_of, difference as difference_of, product as product_of, signed_square as square_of, position as position_of, velocity as velocity_of, part_exponent}
+use Rattle.spec_expressions.specs.Term.{part_exponent}
 use Rattle.spec_bodies.specs.declared.factor.Factor.{Factor}
-use Rattle.spec_bodies.specs.declared.quantity.Quantity.{Quantity}
-use Rattle.spec_bodies.specs.declared.quantity.Quantity.TheVariants.{Position, Velocity}
-use Rattle.spec_bodies.specs.Coordinates.{Coordinate, nothing, of_column, times, plus, less}
 use Rattle.spec_bodies.specs.Meanings.{factor_interval}
 use Rattle.spec_bodies.specs.Views.{Fits, View, factor_of}
 use Rattle.spec_models.specs.Bounds.{Bound, constant_bound}
 use Rattle.spec_bounds.specs.Limits.{IsBoundWithin}
 use Rattle.spec_bounds.proofs.Exponents.{constant-reached, reached-within}
 use Rattle.spec_bounds.proofs.Within.{factor-within}
-use Rattle.spec_steps.specs.declared.sights.Sight.{Sight}
-use Rattle.spec_steps.specs.ColumnTerms.{ColumnTerm, column, zero_term, length, cosine, scaled, sum, difference, product, signed_square, coordinate_of, of_coordinate, of_term, sight_of}
+use Rattle.spec_steps.specs.ColumnTerms.{ColumnTerm, sight_of}
 use Rattle.spec_steps.specs.Meanings.{bound_meant}
 use Rattle.spec_steps.specs.Parts.{IsPart}
 use Rattle.event_bounds.specs.declared.bound.Bound.{Bound as Made}
@@ -48,36 +43,3 @@ module _ (s : Span) (right : IsSpanRight s) where
       (reached-within 60 part_exponent _ (omega arith)
       (constant-reached s.times.span.now.first s.times.span.now.last (span_of s.times) 60 r
       (subst (IsWithin 60) (sym is) (factor-within s.states.now s.times.span.now.first s.times.span.now.last right.fits f))))
-
--- ---- constants that may stand in a list
-abbrev pub HasConstant : ColumnTerm → Type 0
-HasConstant (column q number axis) = ⊤
-HasConstant zero_term = ⊤
-HasConstant (length d) = IsDistance d.mant d.exp
-HasConstant (cosine d) = IsCosine d.mant d.exp
-HasConstant (scaled f x) = ⊤
-HasConstant (sum x y) = ⊤
-HasConstant (difference x y) = ⊤
-HasConstant (product x y) = ⊤
-HasConstant (signed_square x) = ⊤
-
-of_coordinates : (q : Quantity) (c : Coordinate) → HasConstant (of_coordinate q c)
-of_coordinates q nothing = tt
-of_coordinates q (of_column number axis) = tt
-of_coordinates q (times f x) = tt
-of_coordinates q (plus x y) = tt
-of_coordinates q (less x y) = tt
-
-of_formulas : (s : Sight) (e : Term) → HasConstants e → HasConstant (of_term s e)
-of_formulas s (leaf (position_of target axis)) has = of_coordinates Position (coordinate_of s target axis)
-of_formulas s (leaf (velocity_of target axis)) has = of_coordinates Velocity (coordinate_of s target axis)
-of_formulas s (length_of d) has = has
-of_formulas s (cosine_of d) has = has
-of_formulas s (sum_of x y) has = tt
-of_formulas s (difference_of x y) has = tt
-of_formulas s (product_of x y) has = tt
-of_formulas s (square_of x) has = tt
-
-pub constant_listed : (s : Sight) (t : ColumnTerm) → IsPart s t → HasConstant t
-constant_listed s t (inl part) = subst HasConstant part.term (of_coordinates part.quantity part.coordinate)
-constant_listed s t (inr part) = subst HasConstant part.term (of_formulas s part.whole part.formula.constants)

@@ -1,5 +1,5 @@
 // The bounds of formulas for which steps of a list stand.
-ghost use Rattle.std.specs.Prelude.{◌≡◌, ◌<◌, length};
+ghost use Rattle.std.specs.Prelude.{◌≡◌, ◌<◌, ◌≤◌};
 ghost use Rattle.spec_bodies.specs.Views.{Fits};
 ghost use Rattle.spec_bounds.specs.Terms.{bound_over};
 ghost use Rattle.spec_expressions.specs.Term.{Term};
@@ -7,7 +7,6 @@ ghost use Rattle.spec_steps.specs.ColumnTerms.{of_term, sight_of};
 ghost use Rattle.column_steps.specs.Listed.{IsMadeAt, listed_term, slot_limit, step_count};
 ghost use Rattle.event_bounds.specs.Spans.{IsBoundOf, IsSpanRight};
 
-use crate::axes_read::AxesRead;
 use crate::bound::Bound;
 use crate::spans::Span;
 use crate::times::BoundTimes;
@@ -36,10 +35,11 @@ pub fn bound_over(listed: StepPlace, states: &BodyStates, a: i64, b: i64) -> Bou
 {
     terms_mean_their_formulas();
     let (steps, place) = (listed.steps, listed.place);
-    let axes = AxesRead::upto(steps, place);
     let times = TimeSpan::new(a, b);
-    let position = states.column_ranges(Quantity::Position, axes.position, &times);
-    let velocity = states.column_ranges(Quantity::Velocity, axes.velocity, &times);
+    let axes = steps.axes_read(Quantity::Position, place);
+    let position = states.column_ranges(Quantity::Position, axes, &times);
+    let axes = steps.axes_read(Quantity::Velocity, place);
+    let velocity = states.column_ranges(Quantity::Velocity, axes, &times);
     let span = Span {
         states,
         times: BoundTimes { span: &times },
@@ -58,46 +58,24 @@ fn bound_of(span: &Span, steps: &StepList, place: usize) -> Bound
     ensures { IsBoundOf span.now (listed_term steps.now place) result }
 {
     if place < FEW_STEPS {
-        in_few_slots(span, steps, place)
+        bound_by::<FEW_STEPS>(span, steps, place)
     } else {
-        in_all_slots(span, steps, place)
+        bound_by::<MAX_STEPS>(span, steps, place)
     }
 }
 
-// The same for one of the first steps.
+// The same by so many slots, one for it and for each before it.
 #[inline(never)]
-fn in_few_slots(span: &Span, steps: &StepList, place: usize) -> Bound
+fn bound_by<const N: usize>(span: &Span, steps: &StepList, place: usize) -> Bound
     requires ready { IsSpanRight span.now }
     requires sight { steps.now.sight ≡ sight_of span.now.states.now }
     requires step { place < step_count steps.now }
-    requires few { place < 64 }
+    requires room { place < N }
+    requires few { N ≤ 256 }
     ensures { IsBoundOf span.now (listed_term steps.now place) result }
 {
-    let mut slots = [blank(); FEW_STEPS];
-    in_slots(span, steps, place, &mut slots)
-}
-
-#[inline(never)]
-fn in_all_slots(span: &Span, steps: &StepList, place: usize) -> Bound
-    requires ready { IsSpanRight span.now }
-    requires sight { steps.now.sight ≡ sight_of span.now.states.now }
-    requires step { place < step_count steps.now }
-    requires slot { place < slot_limit }
-    ensures { IsBoundOf span.now (listed_term steps.now place) result }
-{
-    let mut slots = [blank(); MAX_STEPS];
-    in_slots(span, steps, place, &mut slots)
-}
-
-// The same, where there is a slot for it and for each before it.
-fn in_slots(span: &Span, steps: &StepList, place: usize, slots: &mut [Bound]) -> Bound
-    requires ready { IsSpanRight span.now }
-    requires sight { steps.now.sight ≡ sight_of span.now.states.now }
-    requires step { place < step_count steps.now }
-    requires room { place < length slots.old }
-    ensures { IsBoundOf span.now (listed_term steps.now place) result }
-{
-    fill(span, steps, 0, place + 1, slots);
+    let mut slots = [blank(); N];
+    fill(span, steps, 0, place + 1, &mut slots);
     slots[place]
 }
 

@@ -5,7 +5,6 @@
 //! tables, and the bounds of the steps up to that one are made one after the other. No call allocates.
 #![tactic(auto)]
 
-mod axes_read;
 mod bound;
 mod bounding;
 mod spans;

@@ -6,8 +6,9 @@ use crate::bound::Bound;
 use crate::times::BoundTimes;
 use body_states::{BodyStates, ColumnRanges, Factor, Quantity};
 use column_steps::Arithmetic;
-use ival_core::{COSINE_EXPONENT, DISTANCE_EXPONENT, Ival};
-use spec_steps::laws::listed_bounds_are_within_limits;
+use event_expr::rules::{cosine_interval, length_interval};
+use ival_core::Ival;
+use spec_steps::laws::{listed_bounds_are_within_limits, listed_constants_are_within_limits};
 use spec_text::Decimal;
 
 /// What is seen of two bodies over some times, with what is known of their columns over these times.
@@ -53,13 +54,13 @@ impl<'s, 't, 'e> Arithmetic for Span<'s, 't, 'e> {
     }
 
     fn length(&self, km: Decimal) -> Bound {
-        let value = Ival::from_decimal(km.mant, km.exp, DISTANCE_EXPONENT);
-        self.times.constant(value)
+        listed_constants_are_within_limits();
+        self.times.constant(length_interval(km))
     }
 
     fn cosine(&self, number: Decimal) -> Bound {
-        let value = Ival::from_decimal(number.mant, number.exp, COSINE_EXPONENT);
-        self.times.constant(value)
+        listed_constants_are_within_limits();
+        self.times.constant(cosine_interval(number))
     }
 
     fn scaled(&self, factor: Factor, x: &Bound) -> Bound {

@@ -2,13 +2,14 @@
 
 ghost use Rattle.std.specs.Prelude.{◌≡◌, ◌≤◌, ◌*◌, ◌-ℤ◌, pos, unsigned_abs, max, true, false};
 ghost use lib.Signed.{lt_z};
-ghost use Rattle.spec_intervals.specs.Interval.{Interval, end_limit};
+ghost use Rattle.spec_intervals.specs.Interval.{Interval, IsCosine, IsDistance, cosine_exponent, distance_exponent, end_limit, from_decimal};
 ghost use Rattle.spec_intervals.specs.Fraction.{Overlaps};
 ghost use Rattle.spec_intervals.specs.Enclosure.{IsSpan, IsWithin, AllWithin, Encloses, middle, offsets, centred, enclosure, constant_of, sum_of, difference_of, product_of, signed_square_of, twice_size};
 ghost use Rattle.spec_expressions.specs.Term.{part_exponent};
 ghost use Rattle.event_expr.specs.States.{wide_exponent};
 
-use ival_core::{Enclosure, Ival};
+use ival_core::{COSINE_EXPONENT, DISTANCE_EXPONENT, Enclosure, Ival};
+use spec_text::Decimal;
 use std::marker::Model;
 
 /// A span of times with the distances of its ends from its middle, which are computed once for all rules.
@@ -128,9 +129,9 @@ impl TimeSpan {
         }
     }
 
-    /// Returns the enclosure of a product. Its change is `x' (y' - y) + y (x' - x)`, where `x'` and `y'` are the
-    /// values at the later time.
-    #[inline(always)]
+    /// The product. Its change is `x' (y' - y) + y (x' - x)`, with the later value of the first operand. It stands alone,
+    /// since it is large where it is inlined.
+    #[inline(never)]
     pub fn product(&self, x: Enclosure, y: Enclosure) -> Enclosure
         requires x_within { AllWithin part_exponent x }
         requires y_within { AllWithin part_exponent y }
@@ -138,9 +139,13 @@ impl TimeSpan {
         requires y_encloses { Encloses self.now.first self.now.last y }
         ensures { result ≡ product_of self.now.first self.now.last x y }
     {
-        let mut product = x;
-        self.multiply(&mut product, &y);
-        product
+        let mid = x.mid.mul(y.mid);
+        if self.has_several() {
+            let step = x.range.mul(y.step).add(y.range.mul(x.step));
+            self.wide(mid, x.range.mul(y.range), step)
+        } else {
+            self.single(mid)
+        }
     }
 
     /// Returns the enclosure of a signed square `x |x|`. Its change lies between 0 and the change of `x` times twice
@@ -160,70 +165,7 @@ impl TimeSpan {
         }
     }
 
-    /// Writes the enclosure of a constant.
-    #[inline(never)]
-    pub(crate) fn set_constant(&self, out: &mut Enclosure, value: Ival)
-        requires within { IsWithin part_exponent value }
-        requires number { Overlaps value value }
-        ensures { out.new ≡ constant_of self.now.first self.now.last value }
-    {
-        *out = self.constant(value);
-    }
-
-    /// Replaces the first enclosure by that of the sum.
-    #[inline(never)]
-    pub(crate) fn add(&self, x: &mut Enclosure, y: &Enclosure)
-        requires x_within { AllWithin part_exponent x.old }
-        requires y_within { AllWithin part_exponent y.now }
-        requires x_encloses { Encloses self.now.first self.now.last x.old }
-        requires y_encloses { Encloses self.now.first self.now.last y.now }
-        ensures { x.new ≡ sum_of self.now.first self.now.last x.old y.now }
-    {
-        *x = self.sum(*x, *y);
-    }
-
-    /// Replaces the first enclosure by that of the difference.
-    #[inline(never)]
-    pub(crate) fn subtract(&self, x: &mut Enclosure, y: &Enclosure)
-        requires x_within { AllWithin part_exponent x.old }
-        requires y_within { AllWithin part_exponent y.now }
-        requires x_encloses { Encloses self.now.first self.now.last x.old }
-        requires y_encloses { Encloses self.now.first self.now.last y.now }
-        ensures { x.new ≡ difference_of self.now.first self.now.last x.old y.now }
-    {
-        *x = self.difference(*x, *y);
-    }
-
-    /// Replaces the first enclosure by that of the product. The steps of a product stand here alone, since they are
-    /// large where they are inlined.
-    #[inline(never)]
-    pub(crate) fn multiply(&self, x: &mut Enclosure, y: &Enclosure)
-        requires x_within { AllWithin part_exponent x.old }
-        requires y_within { AllWithin part_exponent y.now }
-        requires x_encloses { Encloses self.now.first self.now.last x.old }
-        requires y_encloses { Encloses self.now.first self.now.last y.now }
-        ensures { x.new ≡ product_of self.now.first self.now.last x.old y.now }
-    {
-        let mid = x.mid.mul(y.mid);
-        *x = if self.has_several() {
-            let step = x.range.mul(y.step).add(y.range.mul(x.step));
-            self.wide(mid, x.range.mul(y.range), step)
-        } else {
-            self.single(mid)
-        };
-    }
-
-    /// Replaces an enclosure by that of its signed square.
-    #[inline(never)]
-    pub(crate) fn square(&self, x: &mut Enclosure)
-        requires within { AllWithin part_exponent x.old }
-        requires encloses { Encloses self.now.first self.now.last x.old }
-        ensures { x.new ≡ signed_square_of self.now.first self.now.last x.old }
-    {
-        *x = self.signed_square(*x);
-    }
-
-    /// Tells whether the span has more than one time.
+    /// There is more than one time.
     #[inline(always)]
     pub fn has_several(&self) -> bool
         ensures { result ≡ lt_z self.now.first self.now.last }
@@ -266,19 +208,9 @@ impl TimeSpan {
     }
 }
 
-/// Returns an enclosure of 0 that is to be overwritten.
+/// The time halfway, or the last before it.
 #[inline(always)]
-pub(crate) fn blank() -> Enclosure {
-    Enclosure {
-        mid: Ival::zero(),
-        range: Ival::zero(),
-        step: Ival::zero(),
-    }
-}
-
-/// Returns the time halfway between two times, rounded down.
-#[inline(always)]
-pub(crate) fn middle(first: i64, last: i64) -> i64
+fn middle(first: i64, last: i64) -> i64
     requires { IsSpan first last }
     ensures { result ≡ middle first last }
 {
@@ -311,4 +243,26 @@ fn doubled_size(lo: i128, hi: i128) -> i128
     ensures { result ≡ pos (2 * max (unsigned_abs lo) (unsigned_abs hi)) }
 {
     (2 * lo.unsigned_abs().max(hi.unsigned_abs())) as i128
+}
+
+/// A constant length, in km.
+#[inline(always)]
+pub fn length_interval(km: Decimal) -> Ival
+    requires { IsDistance km.mant km.exp }
+    ensures equals { result ≡ from_decimal km.mant km.exp distance_exponent }
+    ensures within { IsWithin part_exponent result }
+    ensures number { Overlaps result result }
+{
+    Ival::from_decimal(km.mant, km.exp, DISTANCE_EXPONENT)
+}
+
+/// A constant from -1 to 1.
+#[inline(always)]
+pub fn cosine_interval(number: Decimal) -> Ival
+    requires { IsCosine number.mant number.exp }
+    ensures equals { result ≡ from_decimal number.mant number.exp cosine_exponent }
+    ensures within { IsWithin part_exponent result }
+    ensures number { Overlaps result result }
+{
+    Ival::from_decimal(number.mant, number.exp, COSINE_EXPONENT)
 }

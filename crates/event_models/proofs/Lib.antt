@@ -1,16 +1,14 @@
 mod Rules
 mod Constants
 mod Terms
-mod Parts
 mod Steps
 pub mod Like
 pub mod RowSteps
 pub mod RowCovers
 pub mod SumCovers
 pub mod RowStarts
-mod RowSizes
+mod Entries
 mod AxisValues
 mod GranuleLines
 mod LostUnits
-mod Rooms
 mod SlopeRows

@@ -7,7 +7,7 @@ use Rattle.spec_intervals.specs.Interval.{Interval}
 use Rattle.spec_chebyshev.specs.Differences.{IsArgument}
 use Rattle.spec_models.specs.Ends.{IsOrdered}
 use Rattle.spec_models.specs.Models.{Covers, Model}
-use Rattle.event_models.specs.Covered.{IsIfMade, IsModelOf, argument}
+use Rattle.event_models.specs.Covered.{IsIfMade, argument}
 
 argument_low : (c d t u : ℤ) → u ≡ t +ℤ t → c ≤ℤ t → neg_ℤ (d -ℤ c) ≤ℤ (u -ℤ c -ℤ d)
 argument_low c d t u is after = omega (arith, ints, is, after)
@@ -32,38 +32,29 @@ module _ (c d : ℤ) (later : c <ℤ d) where
   constant_made (Some m) value ordered covers =
       λ t after before. record { ordered = ordered; covers = covers (argument c d t) (d -ℤ c) (is_argument c d t later after before) }
 
-  -- of one operand
-  one_made : (op : Interval → Interval) → ((x : Interval) → IsOrdered x → IsOrdered (op x))
-      → (r : Option Model) (m : Model)
-      → IfSome r (λ k. (p q : ℤ) (x : Interval) → IsArgument p q → x.lo ≤ℤ x.hi → Covers m p q x → Covers k p q (op x))
-      → (f : ℤ → Interval) → IsModelOf c d m f → IsIfMade c d r (λ t. op (f t))
-  one_made op ordered None m covers f x = covers
-  one_made op ordered (Some made) m covers f x = λ t after before. record {
-    ordered = ordered (f t) (x t after before).ordered;
-    covers = covers (argument c d t) (d -ℤ c) (f t) (is_argument c d t later after before) (x t after before).ordered (x t after before).covers;
-  }
-
-  -- of two
-  two_made : (op : Interval → Interval → Interval) → ((x y : Interval) → IsOrdered x → IsOrdered y → IsOrdered (op x y))
-      → (r : Option Model) (m n : Model)
-      → IfSome r (λ k. (p q : ℤ) (x y : Interval) → IsArgument p q → x.lo ≤ℤ x.hi → y.lo ≤ℤ y.hi → Covers m p q x → Covers n p q y → Covers k p q (op x y))
-      → (f g : ℤ → Interval) → IsModelOf c d m f → IsModelOf c d n g → IsIfMade c d r (λ t. op (f t) (g t))
-  two_made op ordered None m n covers f g x y = covers
-  two_made op ordered (Some made) m n covers f g x y = λ t after before. record {
-    ordered = ordered (f t) (g t) (x t after before).ordered (y t after before).ordered;
-    covers = covers (argument c d t) (d -ℤ c) (f t) (g t) (is_argument c d t later after before) (x t after before).ordered (y t after before).ordered (x t after before).covers (y t after before).covers;
-  }
-
-  -- of operands that may be made
+  -- of one operand that may be made
   pub made_of_one : (op : Interval → Interval) → ((x : Interval) → IsOrdered x → IsOrdered (op x))
       → (r : Option Model) (m : Model)
       → IfSome r (λ k. (p q : ℤ) (x : Interval) → IsArgument p q → x.lo ≤ℤ x.hi → Covers m p q x → Covers k p q (op x))
       → (x : Option Model) → x ≡ Some m → (f : ℤ → Interval) → IsIfMade c d x f → IsIfMade c d r (λ t. op (f t))
-  made_of_one op ordered r m covers x is f of_x = one_made op ordered r m covers f (subst (λ made. IsIfMade c d made f) is of_x)
+  made_of_one op ordered None m covers x is f of_x = covers
+  made_of_one op ordered (Some made) m covers x is f of_x = λ t after before.
+      let own = (subst (λ made. IsIfMade c d made f) is of_x) t after before in
+      record {
+        ordered = ordered (f t) own.ordered;
+        covers = covers (argument c d t) (d -ℤ c) (f t) (is_argument c d t later after before) own.ordered own.covers;
+      }
 
+  -- of two
   pub made_of_two : (op : Interval → Interval → Interval) → ((x y : Interval) → IsOrdered x → IsOrdered y → IsOrdered (op x y))
       → (r : Option Model) (m n : Model)
       → IfSome r (λ k. (p q : ℤ) (x y : Interval) → IsArgument p q → x.lo ≤ℤ x.hi → y.lo ≤ℤ y.hi → Covers m p q x → Covers n p q y → Covers k p q (op x y))
       → (x y : Option Model) → x ≡ Some m → y ≡ Some n → (f g : ℤ → Interval) → IsIfMade c d x f → IsIfMade c d y g → IsIfMade c d r (λ t. op (f t) (g t))
-  made_of_two op ordered r m n covers x y is_m is_n f g of_x of_y =
-      two_made op ordered r m n covers f g (subst (λ made. IsIfMade c d made f) is_m of_x) (subst (λ made. IsIfMade c d made g) is_n of_y)
+  made_of_two op ordered None m n covers x y is_m is_n f g of_x of_y = covers
+  made_of_two op ordered (Some made) m n covers x y is_m is_n f g of_x of_y = λ t after before.
+      let first = (subst (λ made. IsIfMade c d made f) is_m of_x) t after before in
+      let second = (subst (λ made. IsIfMade c d made g) is_n of_y) t after before in
+      record {
+        ordered = ordered (f t) (g t) first.ordered second.ordered;
+        covers = covers (argument c d t) (d -ℤ c) (f t) (g t) (is_argument c d t later after before) first.ordered second.ordered first.covers second.covers;
+      }

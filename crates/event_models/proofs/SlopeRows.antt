@@ -1,36 +1,26 @@
--- The entries of U one after the other, and those of the row of their multiples.
+-- The entries of the row of multiples of U.
 use Rattle.std.proofs.Common.{◌≡◌, ◌∙◌, ℕ, suc, ◌+◌, ◌-◌, ◌*◌, ◌^◌, ◌<◌, ◌≤◌, arith, refl, sym, subst, List, [], ◌∷◌, length, slice_index_or, ℤ, pos, neg_ℤ, ◌*ℤ◌, unsigned_abs}
 use Rattle.std.proofs.lemmas.Int.{unsigned_abs-mul}
 use Rattle.std.proofs.lemmas.Nat.{mul-le}
 use Rattle.spec_intervals.specs.Fraction.{fraction}
 use Rattle.spec_chebyshev.specs.Rows.{u_row, u_unit}
-use Rattle.spec_models.specs.Models.{Covers, IsNear, Model, coefficient, constant, model, multiplied, sizes}
+use Rattle.spec_models.specs.Models.{IsNear, Model, coefficient, constant, model, multiplied, sizes}
 use Rattle.spec_models.proofs.Coefficients.{coefficient-multiplied, same-lists, zeros-same}
 use Rattle.spec_models.proofs.Lists.{length-multiplied}
 use Rattle.spec_models.proofs.Made.{near-multiplied}
 use Rattle.spec_covers.specs.Combining.{RepeatsTo}
-use Rattle.spec_covers.specs.Series.{of_entry}
 use Rattle.spec_covers.proofs.Sums.{Covers-multiples}
 use Rattle.spec_covers.proofs.Units.{Covers-zero}
 use Rattle.event_models.specs.declared.rows.RowModel.{RowModel}
 use Rattle.event_models.specs.declared.rows.Line.{Line}
-use Rattle.event_models.specs.Rows.{IsNextU, IsRow, IsSumRow, no_row, of_row, sum_limit, terms, unit}
-use Rattle.event_models.specs.Slopes.{AreEntriesU, IsEntrySlope, IsEntryU, IsMultiple, IsNothing}
+use Rattle.event_models.specs.declared.rows.Kind.TheVariants.{Second}
+use Rattle.event_models.specs.Rows.{IsEntry, IsRow, IsSumRow, of_row, sum_limit, terms, unit}
+use Rattle.event_models.specs.Slopes.{IsEntrySlope, IsMultiple, IsNothing}
 use Rattle.event_models.proofs.Like.{covers_like}
-
--- ---- entries of U
-pub later_entry : (l : Line) (k : ℕ) (rows : List RowModel) (made : RowModel) → 2 ≤ k → AreEntriesU l k rows → IsNextU l (slice_index_or rows (k - 1) no_row) (slice_index_or rows (k - 2) no_row) made → IsEntryU l k made
-later_entry l k rows made two entries next = λ p q x argument arguments double.
-    let last : k - 1 ≡ suc (k - 2) = omega (arith, two) in
-    let own : suc (suc (k - 2)) ≡ k = omega (arith, two) in
-    subst (λ j. Covers (of_row unit made) p q (of_entry u_unit (u_row x j))) own
-    (next p q x (k - 2) argument arguments double
-    (subst (λ j. Covers (of_row unit (slice_index_or rows (k - 1) no_row)) p q (of_entry u_unit (u_row x j))) last (entries (k - 1) (omega (arith, two)) p q x argument arguments double))
-    (entries (k - 2) (omega (arith, two)) p q x argument arguments double))
 
 -- ---- 0
 pub entry_none : (l : Line) (k : ℕ) (made : RowModel) → k ≡ 0 → IsNothing made → IsEntrySlope l k made
-entry_none l k made first is = subst (λ j. IsEntrySlope l j made) (sym first) (λ p q x argument arguments double.
+entry_none l k made first is = subst (λ j. IsEntrySlope l j made) (sym first) (λ p q x argument arguments line double.
     covers_like p q argument (constant (pos 0) 0 (neg_ℤ (pos unit))) made.coefficients made.error (neg_ℤ (pos unit))
     (λ k. zeros-same terms k ∙ λ i. coefficient (sym is.numbers i) k) (omega arith) refl _
     (Covers-zero p q argument (neg_ℤ (pos unit)) (neg_ℤ (pos u_unit)) 0))
@@ -55,12 +45,12 @@ module _ (k : ℕ) (own made : RowModel) (some : 1 ≤ k) (is : IsMultiple k own
   more : suc (k - 1) * own.error ≤ made.error
   more = let e : suc (k - 1) * own.error ≡ made.error = (λ i. sym next i * own.error) ∙ sym is.error in omega (arith, e)
 
-  covers_repeated : (l : Line) → IsEntryU l (k - 1) own → IsEntrySlope l (suc (k - 1)) made
-  covers_repeated l entry = λ p q x argument arguments double.
+  covers_repeated : (l : Line) → IsEntry Second l (k - 1) own → IsEntrySlope l (suc (k - 1)) made
+  covers_repeated l entry = λ p q x argument arguments line double.
       covers_like p q argument (repeated (of_row unit own) (suc (k - 1))) made.coefficients made.error (neg_ℤ (pos unit)) same more refl _
-      (Covers-multiples p q argument u_unit (u_row x) (k - 1) (of_row unit own) (repeated (of_row unit own) (suc (k - 1))) (repeats (of_row unit own) (suc (k - 1))) (entry p q x argument arguments double))
+      (Covers-multiples p q argument u_unit (u_row x) (k - 1) (of_row unit own) (repeated (of_row unit own) (suc (k - 1))) (repeats (of_row unit own) (suc (k - 1))) (entry p q x argument arguments line double))
 
-  pub entry_repeated : (l : Line) → IsEntryU l (k - 1) own → IsEntrySlope l k made
+  pub entry_repeated : (l : Line) → IsEntry Second l (k - 1) own → IsEntrySlope l k made
   entry_repeated l entry = subst (λ j. IsEntrySlope l j made) (sym next) (covers_repeated l entry)
 
 -- ---- its numbers

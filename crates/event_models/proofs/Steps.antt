@@ -1,7 +1,5 @@
 -- Numbers of a step that fit their words.
-use Rattle.std.proofs.Common.{◌≡◌, ◌∙◌, ℕ, ◌^◌, ◌≤◌, ◌<◌, arith, ℤ, pos, ◌+ℤ◌, ◌-ℤ◌, unsigned_abs, to_z, of_z, w64, FitsSigned, List, length, slice_index_or, slice_set, ◌+◌, ◌*◌, ◌⊎◌, inl, inr, subst}
-use Rattle.std.proofs.lemmas.List.{get_or-set_same, get_or-set_other}
-use Rattle.std.proofs.lemmas.Bool.{cases_lt}
+use Rattle.std.proofs.Common.{◌≡◌, ℕ, ◌^◌, ◌≤◌, ◌<◌, arith, ℤ, pos, ◌+ℤ◌, ◌-ℤ◌, unsigned_abs, to_z, of_z, w64, FitsSigned, List, slice_index_or, ◌+◌, ◌*◌}
 use Rattle.std.proofs.lemmas.Int.{ints}
 use mir.Syntax.{w128}
 use Rattle.spec_numbers.specs.Numbers.{floor_div}
@@ -35,30 +33,6 @@ halves_kept a b first second = λ i. floor_div (kept128 a first i +ℤ kept128 b
 
 pub number_kept : (xs : List ℤ) (k : ℕ) → AreNumbers xs → k < terms → to_z w64 (of_z w64 (slice_index_or xs k (pos 0))) ≡ slice_index_or xs k (pos 0)
 number_kept xs k is below = kept (slice_index_or xs k (pos 0)) (is.small k (pos 0) (let e = is.count in omega (arith, e, below)))
-
--- ---- one number more of a list that is written
-abbrev pub AreFirst : (ℕ → ℤ) → ℕ → List ℤ → Type 0
-AreFirst f n xs = (k : ℕ) → k < n → slice_index_or xs k (pos 0) ≡ f k
-
-pub one_more : (f : ℕ → ℤ) (n : ℕ) (xs : List ℤ) (z : ℤ) → n < length xs → AreFirst f n xs → z ≡ f n → AreFirst f (n + 1) (slice_set xs n z)
-one_more f n xs z below first is k h = by (cases_lt k n)
-  where
-    by : (k < n) ⊎ (n ≤ k) → slice_index_or (slice_set xs n z) k (pos 0) ≡ f k
-    by (inl before) = get_or-set_other xs n k z (pos 0) (λ same. absurd (omega (arith, before, same))) ∙ first k before
-    by (inr after) =
-        let same : n ≡ k = omega (arith, after, h) in
-        subst (λ (j : ℕ). slice_index_or (slice_set xs n z) j (pos 0) ≡ f j) same (get_or-set_same xs n z (pos 0) below ∙ is)
-
--- the same of what is true of each number
-pub one_more_within : (limit n : ℕ) (xs : List ℤ) (z : ℤ) → n < length xs → ((k : ℕ) → k < n → unsigned_abs (slice_index_or xs k (pos 0)) ≤ limit) → unsigned_abs z ≤ limit
-    → (k : ℕ) → k < n + 1 → unsigned_abs (slice_index_or (slice_set xs n z) k (pos 0)) ≤ limit
-one_more_within limit n xs z below first is k h = by (cases_lt k n)
-  where
-    by : (k < n) ⊎ (n ≤ k) → unsigned_abs (slice_index_or (slice_set xs n z) k (pos 0)) ≤ limit
-    by (inl before) = let e = get_or-set_other xs n k z (pos 0) (λ same. absurd (omega (arith, before, same))) in rw e (first k before)
-    by (inr after) =
-        let same : n ≡ k = omega (arith, after, h) in
-        subst (λ (j : ℕ). unsigned_abs (slice_index_or (slice_set xs n z) j (pos 0)) ≤ limit) same (let e = get_or-set_same xs n z (pos 0) below in rw e is)
 
 -- numbers of a sum
 pub sum_kept : (z : ℤ) (count : ℕ) → count ≤ 32 → unsigned_abs z ≤ count * 2 ^ 120 → to_z w128 (of_z w128 z) ≡ z

@@ -1,5 +1,5 @@
 -- The rows of the granules of columns over some times, and the models of sums with them.
-use Rattle.std.specs.Prelude.{◌≡◌, ℕ, ◌^◌, ◌≤◌, ℤ, pos, ◌+ℤ◌, ◌-ℤ◌, ◌*ℤ◌, ◌≤ℤ◌, unsigned_abs, Option, IfSome}
+use Rattle.std.specs.Prelude.{◌≡◌, ℕ, ◌^◌, ◌≤◌, ℤ, pos, ◌+ℤ◌, ◌-ℤ◌, ◌*ℤ◌, ◌≤ℤ◌, unsigned_abs, All, List, Option, IfSome}
 use Rattle.spec_numbers.specs.Numbers.{floor_div}
 use Rattle.spec_chebyshev.specs.declared.ends.Ival62.{Ival62}
 use Rattle.spec_chebyshev.specs.Differences.{IsArgument}
@@ -56,6 +56,9 @@ AreEntriesOf quantity l r = (p q : ℤ) (x : Ival62) → IsArgument p q → IsAr
 pub record AreMade (quantity : Quantity) (c d : ℤ) (r : RowRoom) : Type 0 where
   pub sums : AreSumRows r.entries r.rows
   pub covers : AreEntriesOf quantity (line_over c d r.start (unsigned_abs r.seconds)) r
+
+abbrev pub AreRooms : Quantity → ℤ → ℤ → List RowRoom → Type 0
+AreRooms quantity c d = All (AreMade quantity c d)
 
 -- the rows are those of a granule
 pub record IsServed (g : Granule) (r : RowRoom) : Type 0 where

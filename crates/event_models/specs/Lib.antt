@@ -1,5 +1,4 @@
 pub mod Covered
-pub mod Columns
 pub mod Spans
 pub mod Rows
 pub mod Slopes

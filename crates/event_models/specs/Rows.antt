@@ -7,6 +7,8 @@ use Rattle.spec_chebyshev.specs.Rows.{IsArguments, t_row, t_unit, u_row, u_unit}
 use Rattle.spec_covers.specs.Series.{argument_unit, double_unit, of_entry}
 use Rattle.spec_models.specs.Models.{Covers, Model, coefficient, model, sizes}
 use Rattle.span_models.specs.declared.model.TheConstants.{TERMS}
+use Rattle.event_models.specs.declared.rows.Kind.{Kind}
+use Rattle.event_models.specs.declared.rows.Kind.TheVariants.{First, Second}
 use Rattle.event_models.specs.declared.rows.RowModel.{RowModel}
 use Rattle.event_models.specs.declared.rows.Line.{Line}
 
@@ -105,43 +107,42 @@ pub record IsRowOf (xs : List ℤ) (e : ℕ) (made : RowModel) : Type 0 where
   pub numbers : made.coefficients ≡ xs
   pub error : made.error ≡ e
 
--- ---- what covers two entries of a row makes one that covers the next, at each argument that the line covers
-abbrev pub IsNext : ℕ → (Ival62 → ℕ → Ival62) → Line → RowModel → RowModel → RowModel → Type 0
-IsNext n row l last before made = (p q : ℤ) (x : Ival62) (j : ℕ) → IsArgument p q → IsArguments x → Covers (of_line 59 l) p q (of_entry double_unit x)
-    → Covers (of_row unit last) p q (of_entry n (row x (suc j))) → Covers (of_row unit before) p q (of_entry n (row x j))
-    → Covers (of_row unit made) p q (of_entry n (row x (suc (suc j))))
+-- ---- the row of each kind, and how great its entries are
+abbrev pub kind_unit : Kind → ℕ
+kind_unit First = t_unit
+kind_unit Second = u_unit
 
-abbrev pub IsNextT : Line → RowModel → RowModel → RowModel → Type 0
-IsNextT = IsNext t_unit t_row
+abbrev pub kind_row : Kind → Ival62 → ℕ → Ival62
+kind_row First x = t_row x
+kind_row Second x = u_row x
 
-abbrev pub IsNextU : Line → RowModel → RowModel → RowModel → Type 0
-IsNextU = IsNext u_unit u_row
+abbrev pub greatest : Kind → ℕ → ℕ
+greatest First k = 1
+greatest Second k = suc k
 
--- ---- the first entries
-pub record IsFirst (made : RowModel) : Type 0 where
-  pub of_t : (p q : ℤ) (x : Ival62) → IsArgument p q → Covers (of_row unit made) p q (of_entry t_unit (t_row x 0))
-  pub of_u : (p q : ℤ) (x : Ival62) → IsArgument p q → Covers (of_row unit made) p q (of_entry u_unit (u_row x 0))
+-- an entry of a row covers the one with a number
+abbrev pub IsAt : Kind → RowModel → ℤ → ℤ → Ival62 → ℕ → Type 0
+IsAt kind made p q x k = Covers (of_row unit made) p q (of_entry (kind_unit kind) (kind_row kind x k))
 
-abbrev pub IsSecondT : Line → RowModel → Type 0
-IsSecondT l made = (p q : ℤ) (x : Ival62) → IsArgument p q → Covers (of_line 60 l) p q (of_entry argument_unit x) → Covers (of_row unit made) p q (of_entry t_unit (t_row x 1))
+-- ---- the first entries of both rows
+abbrev pub IsFirst : RowModel → Type 0
+IsFirst made = (kind : Kind) (p q : ℤ) (x : Ival62) → IsArgument p q → IsAt kind made p q x 0
 
-abbrev pub IsSecondU : Line → RowModel → Type 0
-IsSecondU l made = (p q : ℤ) (x : Ival62) → IsArgument p q → Covers (of_line 59 l) p q (of_entry double_unit x) → Covers (of_row unit made) p q (of_entry u_unit (u_row x 1))
+-- the entry with a number, at each argument that a line covers
+abbrev pub IsEntry : Kind → Line → ℕ → RowModel → Type 0
+IsEntry kind l k made = (p q : ℤ) (x : Ival62) → IsArgument p q → IsArguments x → Covers (of_line 60 l) p q (of_entry argument_unit x)
+    → Covers (of_line 59 l) p q (of_entry double_unit x) → IsAt kind made p q x k
+
+abbrev pub IsSecond : Kind → Line → RowModel → Type 0
+IsSecond kind l made = IsEntry kind l 1 made
 
 -- ---- an entry of which its size alone is known
-abbrev pub IsSizedT : RowModel → Type 0
-IsSizedT made = (p q : ℤ) (x : Ival62) (k : ℕ) → IsArgument p q → IsArguments x → Covers (of_row unit made) p q (of_entry t_unit (t_row x k))
+abbrev pub IsSized : ℕ → RowModel → Type 0
+IsSized size made = (kind : Kind) (p q : ℤ) (x : Ival62) (k : ℕ) → greatest kind k ≤ size → IsArgument p q → IsArguments x → IsAt kind made p q x k
 
-abbrev pub IsSizedU : ℕ → RowModel → Type 0
-IsSizedU size made = (p q : ℤ) (x : Ival62) (k : ℕ) → suc k ≤ size → IsArgument p q → IsArguments x → Covers (of_row unit made) p q (of_entry u_unit (u_row x k))
-
--- ---- the first entries of T, at each argument that a line covers
-abbrev pub IsEntryT : Line → ℕ → RowModel → Type 0
-IsEntryT l k made = (p q : ℤ) (x : Ival62) → IsArgument p q → IsArguments x → Covers (of_line 60 l) p q (of_entry argument_unit x) → Covers (of_line 59 l) p q (of_entry double_unit x)
-    → Covers (of_row unit made) p q (of_entry t_unit (t_row x k))
-
+-- ---- the entries before the one with a number
 abbrev pub AreRows : ℕ → List RowModel → Type 0
 AreRows n rows = (k : ℕ) → k < n → IsRow (slice_index_or rows k no_row)
 
-abbrev pub AreEntriesT : Line → ℕ → List RowModel → Type 0
-AreEntriesT l n rows = (k : ℕ) → k < n → IsEntryT l k (slice_index_or rows k no_row)
+abbrev pub AreEntriesBefore : Kind → Line → ℕ → List RowModel → Type 0
+AreEntriesBefore kind l n rows = (k : ℕ) → k < n → IsEntry kind l k (slice_index_or rows k no_row)

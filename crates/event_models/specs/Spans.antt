@@ -1,22 +1,24 @@
 -- Models of what is seen of two bodies over some times.
-use Rattle.std.specs.Prelude.{ℕ, ℤ, ◌≤ℤ◌, ◌-ℤ◌, Option}
+use Rattle.std.specs.Prelude.{◌≡◌, ℕ, ℤ, ◌≤ℤ◌, ◌-ℤ◌, Option}
 use Rattle.spec_intervals.specs.Interval.{Interval}
 use Rattle.spec_expressions.specs.Term.{IsFormula, Term}
 use Rattle.spec_models.specs.Models.{Covers, Model}
 use Rattle.spec_bodies.specs.declared.quantity.Quantity.TheVariants.{Position, Velocity}
-use Rattle.spec_bodies.specs.Views.{View, state_enclosure}
+use Rattle.spec_bodies.specs.Views.{Fits, View, state_enclosure}
 use Rattle.spec_searches.specs.Search.{enclosure_over}
 use Rattle.spec_steps.specs.ColumnTerms.{ColumnTerm, of_term, sight_of}
 use Rattle.spec_steps.specs.Meanings.{point_meant}
 use Rattle.column_steps.specs.Listed.{IsMadeAt, Listed}
 use Rattle.event_models.specs.declared.spans.Span.{Span}
-use Rattle.event_models.specs.Columns.{AreColumns}
 use Rattle.event_models.specs.Covered.{IsIfMade, argument}
+use Rattle.event_models.specs.Granules.{AreRooms}
 
--- the models of columns are right, of positions and of velocities
+-- between its times no granule begins, and the rows are those of positions and of velocities
 pub record IsSpanSeen (s : Span) : Type 0 where
-  pub position : AreColumns s.states.now Position s.times.first s.times.last s.position.columns
-  pub velocity : AreColumns s.states.now Velocity s.times.first s.times.last s.velocity.columns
+  pub same : s.states.now.ephemeris ≡ s.ephemeris.now
+  pub fits : Fits s.states.now s.times.first s.times.last
+  pub position : AreRooms Position s.times.first s.times.last s.position.rooms
+  pub velocity : AreRooms Velocity s.times.first s.times.last s.velocity.rooms
 
 -- the interval of a term at each time
 abbrev pub term_at : Span → ColumnTerm → ℤ → Interval

@@ -1,5 +1,5 @@
 // The models of steps of a list over the columns.
-ghost use Rattle.std.specs.Prelude.{◌≡◌, ◌<◌, ◌<ℤ◌, IfSome, length, ℤ};
+ghost use Rattle.std.specs.Prelude.{◌≡◌, ◌<◌, ◌≤◌, ◌<ℤ◌, IfSome, ℤ};
 ghost use Rattle.spec_intervals.specs.Interval.{Interval, product};
 ghost use Rattle.spec_bodies.specs.Views.{Fits};
 ghost use Rattle.spec_steps.specs.ColumnTerms.{sight_of};
@@ -7,16 +7,19 @@ ghost use Rattle.column_steps.specs.Listed.{listed_term, slot_limit, step_count}
 ghost use Rattle.event_models.specs.Covered.{IsIfMade};
 ghost use Rattle.event_models.specs.Spans.{IsFormulaModel, IsSpanSeen, IsTermModel};
 
-use crate::named::NamedAxes;
+use crate::granules::granule_of;
 use crate::spans::Span;
 use crate::times::ModelTimes;
 use body_states::{BodyStates, Ephemeris, Factor, Quantity};
 use column_steps::{Arithmetic, MAX_STEPS, StepList, StepPlace, fill};
-use ival_core::{COSINE_EXPONENT, DISTANCE_EXPONENT, Ival};
+use event_expr::rules::{cosine_interval, length_interval};
+use ival_core::Ival;
 use span_models::Model;
 use spec_covers::laws::points;
 use spec_models::rounding_laws::ends_stay_in_order;
-use spec_steps::laws::{listed_columns_are_read, terms_mean_their_formulas};
+use spec_steps::laws::{
+    listed_columns_are_read, listed_constants_are_within_limits, terms_mean_their_formulas,
+};
 use spec_text::Decimal;
 
 /// As many steps as those of most formulas, whose models find room in fewer slots than there are at most.
@@ -25,7 +28,7 @@ const FEW_STEPS: usize = 64;
 /// A model of a formula over the times from `c` to `d`, by the step that stands for it in a list: what is the same in several
 /// parts is made once. At each of these times it covers the interval of the formula, as its enclosure over that time alone has
 /// it. The ephemeris is that of the states. None is made where an exponent or an error passes its limit, a signed square is
-/// not seen to have one sign, or a column is past the fourth in use.
+/// not seen to have one sign, or no row of the first four columns in use serves a column.
 pub fn model_over(
     listed: StepPlace,
     ephemeris: &Ephemeris,
@@ -45,7 +48,7 @@ pub fn model_over(
     points();
     terms_mean_their_formulas();
     let times = ModelTimes { first: c, last: d };
-    let span = Span::new(states, ephemeris, times, NamedAxes::of(listed));
+    let span = Span::new(states, ephemeris, times, listed);
     model_of(&span, listed.steps, listed.place)
 }
 
@@ -58,28 +61,23 @@ fn model_of(span: &Span, steps: &StepList, place: usize) -> Option<Model>
     ensures { IsTermModel span.now (listed_term steps.now place) result }
 {
     if place < FEW_STEPS {
-        let mut slots = [None; FEW_STEPS];
-        model_in(span, steps, place, &mut slots)
+        model_by::<FEW_STEPS>(span, steps, place)
     } else {
-        let mut slots = [None; MAX_STEPS];
-        model_in(span, steps, place, &mut slots)
+        model_by::<MAX_STEPS>(span, steps, place)
     }
 }
 
-// The same, with the models of the steps before it, in some slots.
-fn model_in(
-    span: &Span,
-    steps: &StepList,
-    place: usize,
-    slots: &mut [Option<Model>],
-) -> Option<Model>
+// The same by so many slots, one for it and for each before it.
+fn model_by<const N: usize>(span: &Span, steps: &StepList, place: usize) -> Option<Model>
     requires seen { IsSpanSeen span.now }
     requires sight { sight_of span.now.states.now ≡ steps.now.sight }
     requires step { place < step_count steps.now }
-    requires room { place < length slots.old }
+    requires room { place < N }
+    requires few { N ≤ 256 }
     ensures { IsTermModel span.now (listed_term steps.now place) result }
 {
-    fill(span, steps, 0, place + 1, slots);
+    let mut slots = [None; N];
+    fill(span, steps, 0, place + 1, &mut slots);
     slots[place]
 }
 
@@ -94,10 +92,9 @@ impl<'s, 'e> Arithmetic for Span<'s, 'e> {
 
     fn column(&self, quantity: Quantity, number: usize, axis: usize) -> Option<Model> {
         listed_columns_are_read();
-        match quantity {
-            Quantity::Position => self.position.of(number, axis),
-            Quantity::Velocity => self.velocity.of(number, axis),
-        }
+        let granule = granule_of(self.states, self.ephemeris, number, &self.times);
+        self.rows(quantity)
+            .model(quantity, &granule, axis, &self.times)
     }
 
     fn zero(&self) -> Option<Model> {
@@ -105,13 +102,13 @@ impl<'s, 'e> Arithmetic for Span<'s, 'e> {
     }
 
     fn length(&self, km: Decimal) -> Option<Model> {
-        let value = Ival::from_decimal(km.mant, km.exp, DISTANCE_EXPONENT);
-        Model::of_interval(value)
+        listed_constants_are_within_limits();
+        Model::of_interval(length_interval(km))
     }
 
     fn cosine(&self, number: Decimal) -> Option<Model> {
-        let value = Ival::from_decimal(number.mant, number.exp, COSINE_EXPONENT);
-        Model::of_interval(value)
+        listed_constants_are_within_limits();
+        Model::of_interval(cosine_interval(number))
     }
 
     fn scaled(&self, factor: Factor, x: &Option<Model>) -> Option<Model> {

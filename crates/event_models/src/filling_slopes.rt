@@ -1,14 +1,12 @@
-// The row of U, and that of its multiples, over which velocities are summed.
+// The row of multiples of U, over which velocities are summed.
 ghost use Rattle.std.specs.Prelude.{◌≤◌, ◌<◌, ◌-◌};
-ghost use Rattle.event_models.specs.Rows.{AreRows, AreSumRows, IsLine, IsRow, IsSumRow};
-ghost use Rattle.event_models.specs.Slopes.{AreEntriesSlope, AreEntriesU, IsEntrySlope, IsEntryU};
+ghost use Rattle.event_models.specs.declared.rows.Kind.TheVariants.{Second};
+ghost use Rattle.event_models.specs.Rows.{AreEntriesBefore, AreRows, AreSumRows, IsLine, IsSumRow};
+ghost use Rattle.event_models.specs.Slopes.{AreEntriesSlope, IsEntrySlope};
 
+use crate::filling::fill;
 use crate::multiples::{multiple, no_entry};
-use crate::rows::{ENTRIES, Line, RowModel, next_row};
-use crate::starts::{first_row, second_u, sized};
-
-/// 1, in units of 2^-42.
-const ONE: u64 = 1 << 42;
+use crate::rows::{ENTRIES, Kind, Line, RowModel};
 
 /// Makes the first `n` entries of the row of k U_(k-1), of which the first is 0: those of U, which are then replaced.
 pub(crate) fn fill_slopes(line: &Line, n: usize, rows: &mut [RowModel; ENTRIES])
@@ -18,7 +16,7 @@ pub(crate) fn fill_slopes(line: &Line, n: usize, rows: &mut [RowModel; ENTRIES])
     ensures rows { AreSumRows n rows.new }
     ensures entries { AreEntriesSlope line.now n rows.new }
 {
-    fill_u(line, n - 1, rows);
+    fill(Kind::Second, line, n - 1, rows);
     turn_slopes(line, n, rows);
 }
 
@@ -26,7 +24,7 @@ pub(crate) fn fill_slopes(line: &Line, n: usize, rows: &mut [RowModel; ENTRIES])
 fn turn_slopes(line: &Line, n: usize, rows: &mut [RowModel; ENTRIES])
     requires few { n ≤ 32 }
     requires rows { AreRows (n - 1) rows.old }
-    requires entries { AreEntriesU line.now (n - 1) rows.old }
+    requires entries { AreEntriesBefore Second line.now (n - 1) rows.old }
     ensures rows { AreSumRows n rows.new }
     ensures entries { AreEntriesSlope line.now n rows.new }
 {
@@ -40,7 +38,7 @@ fn turn_slopes(line: &Line, n: usize, rows: &mut [RowModel; ENTRIES])
 fn entry_slope(line: &Line, entries: &[RowModel; ENTRIES], k: usize) -> RowModel
     requires few { k < 32 }
     requires rows { AreRows k entries.now }
-    requires entries { AreEntriesU line.now k entries.now }
+    requires entries { AreEntriesBefore Second line.now k entries.now }
     ensures row { IsSumRow result }
     ensures entry { IsEntrySlope line.now k result }
 {
@@ -49,75 +47,4 @@ fn entry_slope(line: &Line, entries: &[RowModel; ENTRIES], k: usize) -> RowModel
     } else {
         multiple(&entries[k - 1], k)
     }
-}
-
-/// Makes the first `n` entries of U.
-pub(crate) fn fill_u(line: &Line, n: usize, rows: &mut [RowModel; ENTRIES])
-    requires line { IsLine line.now }
-    requires few { n ≤ 32 }
-    ensures rows { AreRows n rows.new }
-    ensures entries { AreEntriesU line.now n rows.new }
-{
-    for k in 0..n {
-        rows[k] = entry_u(line, rows, k);
-    }
-}
-
-// An entry of U, from those before.
-fn entry_u(line: &Line, rows: &[RowModel; ENTRIES], k: usize) -> RowModel
-    requires line { IsLine line.now }
-    requires few { k < 32 }
-    requires rows { AreRows k rows.now }
-    requires entries { AreEntriesU line.now k rows.now }
-    ensures row { IsRow result }
-    ensures entry { IsEntryU line.now k result }
-{
-    if k == 0 {
-        first_row()
-    } else if k == 1 {
-        second_u(line)
-    } else {
-        later_u(line, rows, k)
-    }
-}
-
-// The entry of U after two.
-fn later_u(line: &Line, rows: &[RowModel; ENTRIES], k: usize) -> RowModel
-    requires line { IsLine line.now }
-    requires many { 2 ≤ k }
-    requires few { k < 32 }
-    requires rows { AreRows k rows.now }
-    requires entries { AreEntriesU line.now k rows.now }
-    ensures row { IsRow result }
-    ensures entry { IsEntryU line.now k result }
-{
-    match next_row(line, &rows[k - 1], &rows[k - 2]) {
-        Some(row) => lesser_u(row, line, k),
-        None => sized_u(line, k),
-    }
-}
-
-// An entry of U, or one of which its size alone is known where that says more.
-fn lesser_u(row: RowModel, line: &Line, k: usize) -> RowModel
-    requires few { k < 32 }
-    requires row { IsRow row }
-    requires entry { IsEntryU line.now k row }
-    ensures row { IsRow result }
-    ensures entry { IsEntryU line.now k result }
-{
-    if row.error <= (k as u64 + 1) * ONE {
-        row
-    } else {
-        sized_u(line, k)
-    }
-}
-
-// An entry of U of which its size alone is known.
-fn sized_u(line: &Line, k: usize) -> RowModel
-    requires few { k < 32 }
-    ensures row { IsRow result }
-    ensures entry { IsEntryU line.now k result }
-{
-    let _line = line;
-    sized(k as u64 + 1)
 }

@@ -7,13 +7,12 @@
 #![tactic(auto)]
 
 mod by_steps;
-mod columns;
 mod filling;
 mod filling_slopes;
 mod granules;
 mod lines;
 mod multiples;
-mod named;
+mod rooms;
 mod row_room;
 mod rows;
 mod spans;

@@ -2,10 +2,10 @@
 ghost use Rattle.std.specs.Prelude.{◌≡◌, IsTrue};
 ghost use Rattle.event_models.specs.Granules.{AreMade, IsGranuleOver, IsServed};
 
-use crate::filling::fill_t;
+use crate::filling::fill;
 use crate::filling_slopes::fill_slopes;
 use crate::lines::line_of;
-use crate::rows::{ENTRIES, RowModel};
+use crate::rows::{ENTRIES, Kind, RowModel};
 use crate::times::ModelTimes;
 use body_states::Quantity;
 use eph_model::Granule;
@@ -13,7 +13,7 @@ use span_models::TERMS;
 
 /// The row of a quantity, with the granules whose row it is: when these begin, how long they take, and how many entries are
 /// made.
-#[derive(Drop)]
+#[derive(Clone, Copy)]
 pub(crate) struct RowRoom {
     pub start: i64,
     pub seconds: i64,
@@ -57,7 +57,7 @@ impl RowRoom {
         self.seconds = granule.seconds;
         self.entries = granule.n;
         match quantity {
-            Quantity::Position => fill_t(&line, granule.n, &mut self.rows),
+            Quantity::Position => fill(Kind::First, &line, granule.n, &mut self.rows),
             Quantity::Velocity => fill_slopes(&line, granule.n, &mut self.rows),
         }
     }

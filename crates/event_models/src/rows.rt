@@ -2,7 +2,7 @@
 ghost use Rattle.std.specs.Prelude.{◌≡◌, ◌≤◌, ◌<◌, ◌+◌, ◌*◌, ◌^◌, ◌/◌, ◌↔◌, ℕ, ℤ, All, IfSome, IsTrue, length, slice_index_or, pos, ◌+ℤ◌, ◌-ℤ◌, ◌*ℤ◌, unsigned_abs};
 ghost use Rattle.spec_numbers.specs.Numbers.{floor_div};
 ghost use Rattle.spec_models.specs.Models.{coefficient, sizes};
-ghost use Rattle.event_models.specs.Rows.{AreNumbers, IsLine, IsNextT, IsNextU, IsRow, IsRowOf, IsSmallNumber, IsStep, line_limit, lower, product_error, row_limit, step_error, step_number, terms, without_last};
+ghost use Rattle.event_models.specs.Rows.{AreNumbers, IsLine, IsRow, IsRowOf, IsSmallNumber, IsStep, line_limit, lower, product_error, row_limit, step_error, step_number, terms, without_last};
 
 use span_models::TERMS;
 
@@ -27,20 +27,15 @@ pub(crate) struct Line {
     pub slope: i64,
 }
 
-/// The entry after two of the row of T or of U, where its numbers are not too large.
-pub(crate) fn next_row(line: &Line, last: &RowModel, before: &RowModel) -> Option<RowModel>
-    requires line { IsLine line.now }
-    requires last { IsRow last.now }
-    requires before { IsRow before.now }
-    ensures row { IfSome result IsRow }
-    ensures of_t { IfSome result (IsNextT line.now last.now before.now) }
-    ensures of_u { IfSome result (IsNextU line.now last.now before.now) }
-{
-    stepped(line, last, before)
+/// Chebyshev polynomials of the first kind, T, or of the second, U.
+#[derive(Clone, Copy)]
+pub(crate) enum Kind {
+    First,
+    Second,
 }
 
-// Twice the argument times an entry, less the one before, where its numbers are not too large.
-fn stepped(line: &Line, last: &RowModel, before: &RowModel) -> Option<RowModel>
+/// The entry after two of a row, twice the argument times the last less the one before, where its numbers are not too large.
+pub(crate) fn next_row(line: &Line, last: &RowModel, before: &RowModel) -> Option<RowModel>
     requires line { IsLine line.now }
     requires last { IsRow last.now }
     requires before { IsRow before.now }

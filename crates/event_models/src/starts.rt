@@ -1,9 +1,9 @@
 // The first entries of the rows of T and U, and an entry of which its size alone is known.
 ghost use Rattle.std.specs.Prelude.{◌≡◌, ◌≤◌, ◌-◌, ◌*◌, ◌^◌, ◌∷◌, pos, replicate, unsigned_abs};
 ghost use Rattle.spec_numbers.specs.Numbers.{floor_div};
-ghost use Rattle.event_models.specs.Rows.{IsFirst, IsLine, IsRow, IsSecondT, IsSecondU, IsSizedT, IsSizedU, line_limit, row_limit, terms};
+ghost use Rattle.event_models.specs.Rows.{IsFirst, IsLine, IsRow, IsSecond, IsSized, line_limit, row_limit, terms};
 
-use crate::rows::{Line, RowModel};
+use crate::rows::{Kind, Line, RowModel};
 use span_models::TERMS;
 
 /// 1, in units of 2^-42.
@@ -17,22 +17,16 @@ pub(crate) fn first_row() -> RowModel
     of_two(ONE, 0, 2)
 }
 
-/// That of the argument.
-pub(crate) fn second_t(line: &Line) -> RowModel
+/// That of the argument, or of twice the argument.
+pub(crate) fn second(kind: Kind, line: &Line) -> RowModel
     requires line { IsLine line.now }
     ensures row { IsRow result }
-    ensures second { IsSecondT line.now result }
+    ensures second { IsSecond kind line.now result }
 {
-    of_two(halved(line.middle, 18), halved(line.slope, 18), 3)
-}
-
-/// That of twice the argument.
-pub(crate) fn second_u(line: &Line) -> RowModel
-    requires line { IsLine line.now }
-    ensures row { IsRow result }
-    ensures second { IsSecondU line.now result }
-{
-    of_two(halved(line.middle, 17), halved(line.slope, 17), 4)
+    match kind {
+        Kind::First => of_two(halved(line.middle, 18), halved(line.slope, 18), 3),
+        Kind::Second => of_two(halved(line.middle, 17), halved(line.slope, 17), 4),
+    }
 }
 
 // `floor(z / 2^k)`.
@@ -69,8 +63,7 @@ fn of_two(first: i64, second: i64, error: u64) -> RowModel
 pub(crate) fn sized(size: u64) -> RowModel
     requires size { size ≤ 32 }
     ensures row { IsRow result }
-    ensures of_t { 1 ≤ size → IsSizedT result }
-    ensures of_u { IsSizedU size result }
+    ensures sized { IsSized size result }
 {
     of_two(0, 0, size * (1 << 42) + 2)
 }

@@ -1,30 +1,17 @@
--- Multiples of what is near a model, and models in a finer unit.
-use Rattle.std.proofs.Common.{◌≡◌, ◌∙◌, ℕ, zero, suc, ◌*◌, ◌^◌, arith, refl, sym, subst, Option, IfSome, List, [], ◌∷◌, ℤ, pos, ◌+ℤ◌, ◌-ℤ◌, ◌*ℤ◌, ◌≤ℤ◌, unsigned_abs}
+-- Models in a finer unit, and of an interval by its middle.
+use Rattle.std.proofs.Common.{◌≡◌, ◌∙◌, ℕ, zero, suc, ◌*◌, ◌^◌, arith, refl, sym, subst, Option, IfSome, List, [], ◌∷◌, ℤ, pos, ◌+ℤ◌, ◌-ℤ◌, ◌*ℤ◌, ◌≤ℤ◌}
 use Rattle.std.proofs.lemmas.Nat.{pow_pos}
 use Rattle.std.proofs.lemmas.Option.{IfSome_then}
 use borrow.Author.Differences.{down}
 use Rattle.spec_numbers.proofs.Order.{lin}
 use Rattle.spec_intervals.specs.Interval.{Interval}
-use Rattle.spec_intervals.specs.Fraction.{Fraction, IsFraction, fraction, fraction_mul}
+use Rattle.spec_intervals.specs.Fraction.{Fraction, IsFraction}
 use Rattle.spec_chebyshev.specs.Differences.{IsArgument}
 use Rattle.spec_models.specs.Ends.{NoMore, in_units}
 use Rattle.spec_models.proofs.Ordered.{more_units}
-use Rattle.spec_models.specs.Models.{Covers, Model, IsNear, coefficient, constant, lowered, model, multiplied}
+use Rattle.spec_models.specs.Models.{Covers, Model, IsNear, coefficient, constant, lowered, model}
 use Rattle.span_models.specs.Settled.{Reaches}
 use Rattle.span_models.specs.Making.{IsMiddle}
-use Rattle.span_models.specs.Near.{IsMultipleOf}
-
-once : (c : ℤ) (r : Fraction) → fraction (c *ℤ r.numerator) r.denominator ≡ fraction_mul (fraction c 1) r
-once c r = let e : r.denominator ≡ 1 * r.denominator = omega arith in λ i. fraction (c *ℤ r.numerator) (e i)
-
-pub multiple_near : ((p q : ℤ) → IsArgument p q → (c : ℤ) (m : Model) (r : Fraction) → IsNear m p q r → IsNear (model (multiplied c m.coefficients) (unsigned_abs c * m.error) m.exponent) p q (fraction (c *ℤ r.numerator) r.denominator))
-    → (n : ℕ) (m : Model) (xs zs : List ℤ) (e : ℕ) (s : ℤ) → zs ≡ multiplied (pos n) xs → xs ≡ m.coefficients → e ≡ m.error * n → s ≡ m.exponent
-    → (o : Option Model) → IfSome o (λ k. Reaches (model zs e s) k) → IfSome o (λ k. IsMultipleOf k n m)
-multiple_near whole n m xs zs e s numbers ex ee es o h =
-    let coefficients : multiplied (pos n) m.coefficients ≡ zs = (λ i. multiplied (pos n) (sym ex i)) ∙ sym numbers in
-    let errors : n * m.error ≡ e = omega (arith, ee) in
-    IfSome_then o {P = λ k. Reaches (model zs e s) k} {Q = λ k. IsMultipleOf k n m} h (λ k reaches p q r g near.
-    reaches p q (fraction_mul (fraction (pos n) 1) r) g (subst (λ (l : Model). IsNear l p q (fraction_mul (fraction (pos n) 1) r)) (λ i. model (coefficients i) (errors i) (sym es i)) (subst (λ (z : Fraction). IsNear (model (multiplied (pos n) m.coefficients) (n * m.error) m.exponent) p q z) (once (pos n) r) (whole p q g (pos n) m r near))))
 
 -- ---- a line in a finer unit
 module _ (similar : (p q : ℤ) → IsArgument p q → (m : Model) (ys : List ℤ) (r : Fraction) → ((k : ℕ) → coefficient m.coefficients k ≡ coefficient ys k) → IsNear m p q r → IsNear (model ys m.error m.exponent) p q r) where

@@ -1,11 +1,11 @@
 -- Lists compared by their numbers.
-use Rattle.std.proofs.Common.{◌≡◌, ◌∙◌, to_z, of_z, w64, ℕ, ◌<◌, ◌≤◌, arith, sym, ap, List, length, get_or, ℤ, pos, ◌+ℤ◌, ◌*ℤ◌, neg_ℤ, unsigned_abs, ◌^◌}
+use Rattle.std.proofs.Common.{◌≡◌, ◌∙◌, to_z, of_z, w64, ℕ, ◌<◌, ◌≤◌, arith, sym, ap, List, length, get_or, ℤ, pos, ◌+ℤ◌, neg_ℤ, unsigned_abs, ◌^◌}
 use Rattle.std.proofs.lemmas.Int.{ints, to_z-of_z}
 use Rattle.std.proofs.lemmas.List.Elements.{All-from_get_or}
 use Rattle.spec_numbers.specs.Numbers.{floor_div}
-use Rattle.spec_models.specs.Models.{added, halved, multiplied, opposite}
-use Rattle.spec_models.proofs.Lists.{length-halved, length-opposite, length-multiplied}
-use Rattle.spec_models.proofs.Coefficients.{same-lists, coefficient-halved, coefficient-added, coefficient-opposite, coefficient-multiplied, length-even}
+use Rattle.spec_models.specs.Models.{added, halved, opposite}
+use Rattle.spec_models.proofs.Lists.{length-halved, length-opposite}
+use Rattle.spec_models.proofs.Coefficients.{same-lists, coefficient-halved, coefficient-added, coefficient-opposite, length-even}
 use Rattle.span_models.specs.Sizes.{IsWithin, AreWithin, size_limit, terms}
 
 pub are_within : (limit : ℕ) (xs : List ℤ) → length xs ≡ terms → ((k : ℕ) → k < terms → unsigned_abs (get_or xs k (pos 0)) ≤ limit) → AreWithin limit xs
@@ -42,11 +42,6 @@ are_opposite xs zs ex ez h =
     let l = length-opposite xs in
     same-lists zs (opposite xs) (omega (arith, l, ex, ez)) (λ i below. h i (omega (arith, below, ez)) ∙ sym (coefficient-opposite xs i))
 
--- ---- multiples
-pub are_multiplied : (c : ℤ) (xs zs : List ℤ) → length xs ≡ terms → length zs ≡ terms → ((i : ℕ) → i < terms → get_or zs i (pos 0) ≡ c *ℤ get_or xs i (pos 0)) → zs ≡ multiplied c xs
-are_multiplied c xs zs ex ez h =
-    let l = length-multiplied c xs in
-    same-lists zs (multiplied c xs) (omega (arith, l, ex, ez)) (λ i below. h i (omega (arith, below, ez)) ∙ sym (coefficient-multiplied c xs i))
-
+-- ---- one number
 pub first_kept : (xs ys : List ℤ) → xs ≡ ys → AreWithin size_limit ys → to_z w64 (of_z w64 (get_or xs 0 (pos 0))) ≡ get_or ys 0 (pos 0)
 first_kept xs ys e h = ap (λ (l : List ℤ). to_z w64 (of_z w64 (get_or l 0 (pos 0)))) e ∙ number_kept ys 0 h (omega arith)

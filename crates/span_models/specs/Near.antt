@@ -1,6 +1,6 @@
 -- What a model says of numbers that are near other models.
-use Rattle.std.specs.Prelude.{ℕ, ℤ, pos}
-use Rattle.spec_intervals.specs.Fraction.{Fraction, fraction, fraction_add, fraction_sub, fraction_mul}
+use Rattle.std.specs.Prelude.{ℤ}
+use Rattle.spec_intervals.specs.Fraction.{Fraction, fraction_add, fraction_sub, fraction_mul}
 use Rattle.spec_chebyshev.specs.Differences.{IsArgument}
 use Rattle.spec_models.specs.Models.{Model, IsNear}
 
@@ -13,7 +13,3 @@ IsDifferenceOf k m n = (p q : ℤ) (r t : Fraction) → IsArgument p q → IsNea
 
 abbrev pub IsProductOf : Model → Model → Model → Type 0
 IsProductOf k m n = (p q : ℤ) (r t : Fraction) → IsArgument p q → IsNear m p q r → IsNear n p q t → IsNear k p q (fraction_mul r t)
-
--- n times a number near one model is near another
-abbrev pub IsMultipleOf : Model → ℕ → Model → Type 0
-IsMultipleOf k n m = (p q : ℤ) (r : Fraction) → IsArgument p q → IsNear m p q r → IsNear k p q (fraction_mul (fraction (pos n) 1) r)

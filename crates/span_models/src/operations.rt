@@ -4,14 +4,14 @@ ghost use Rattle.std.specs.Prelude.{◌≡◌, ◌≤◌, ◌+◌, ◌*◌, ◌�
 ghost use Rattle.spec_models.specs.Models.{bulk, negated, sizes, widened};
 ghost use Rattle.span_models.specs.Sizes.{size_limit, terms};
 ghost use Rattle.span_models.specs.Columns.{IsConstant, tail_sizes};
-ghost use Rattle.span_models.specs.Near.{IsSumOf, IsDifferenceOf, IsProductOf, IsMultipleOf};
+ghost use Rattle.span_models.specs.Near.{IsSumOf, IsDifferenceOf, IsProductOf};
 
 use crate::columns::{columns_of, sizes_of, tail_of};
 use crate::constants::{first_of, is_constant, products_with};
 use crate::model::Model;
 use crate::settling::settled;
-use crate::sums::{coarser_error, exponent_gap, multiples_of, opposite_of, sums_of};
-use spec_models::model_laws::{changes, lists, multiples, operations};
+use crate::sums::{coarser_error, exponent_gap, opposite_of, sums_of};
+use spec_models::model_laws::{changes, lists, operations};
 
 /// The greatest error of a model in its units, 2^60.
 const SIZE_LIMIT: u64 = 1 << 60;
@@ -49,18 +49,7 @@ impl Model {
         self.sum(&other.negated())
     }
 
-    /// Returns a model near which `times` times each number is that is near this one. None where the exponent passes
-    /// the limit.
-    pub fn scaled(&self, times: u32) -> Option<Model>
-        ensures { IfSome result (λ m. IsMultipleOf m times self.now) }
-    {
-        multiples();
-        let wide = multiples_of(self.coefficients(), times);
-        let error = self.error() as u128 * times as u128;
-        settled(&wide, error, self.exponent())
-    }
-
-    /// Returns the model with an error that is greater by `units`. None where the error passes the limit.
+    /// With an error that is greater by so many units, unless it is past the limit then.
     pub fn widened(&self, units: u64) -> Option<Model>
         ensures { IfSome result (λ m. m ≡ widened units self.now) }
     {

@@ -1,6 +1,6 @@
 // Sums and multiples of coefficients, and what a coarser unit makes of an error.
 
-ghost use Rattle.std.specs.Prelude.{◌≡◌, ◌≤◌, ◌<◌, ◌+◌, ◌*◌, ◌^◌, ℕ, slice_index_or, pos, ◌+ℤ◌, ◌*ℤ◌, ◌≤ℤ◌, neg_ℤ, unsigned_abs, length};
+ghost use Rattle.std.specs.Prelude.{◌≡◌, ◌≤◌, ◌+◌, ◌*◌, ◌^◌, pos, ◌+ℤ◌, ◌≤ℤ◌, neg_ℤ, unsigned_abs, length};
 ghost use Rattle.spec_numbers.specs.Numbers.{floor_div};
 ghost use Rattle.spec_models.specs.Models.{added, halved, opposite};
 ghost use Rattle.span_models.specs.Sizes.{size_limit, exponent_limit, terms, AreWithin};
@@ -50,32 +50,7 @@ pub(crate) fn coarser_error(error: u64, k: u32) -> u64
     }
 }
 
-/// Returns each coefficient times a whole number.
-#[inline(always)]
-pub(crate) fn multiples_of(a: &[i64; TERMS], times: u32) -> [i128; TERMS]
-    requires { AreWithin size_limit a.now }
-    ensures multiples { (k : ℕ) → k < terms
-        → slice_index_or result k (pos 0) ≡ pos times *ℤ slice_index_or a.now k (pos 0) }
-    ensures count { length result ≡ terms }
-{
-    let mut multiples = [0; TERMS];
-    for i in 0..TERMS {
-        multiples[i] = multiple(a[i], times);
-    }
-    multiples
-}
-
-// Returns `times z`.
-#[inline(always)]
-fn multiple(z: i64, times: u32) -> i128
-    requires { unsigned_abs z ≤ size_limit }
-    ensures equals { result ≡ pos times *ℤ z }
-    ensures small { unsigned_abs result ≤ 2 ^ 92 }
-{
-    times as i128 * z as i128
-}
-
-/// Returns by how much the second exponent is above the first, which is not greater.
+/// How far one exponent is above another.
 #[inline(always)]
 pub(crate) fn exponent_gap(low: i32, high: i32) -> u32
     requires order { low ≤ℤ high }

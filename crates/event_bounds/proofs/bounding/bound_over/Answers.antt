@@ -1,4 +1,4 @@
-use Rattle.std.proofs.Common.{◌≡◌, ◌∙◌, to_z, of_z, w64, subst}
+use Rattle.std.proofs.Common.{◌≡◌, ◌∙◌, refl, to_z, of_z, w64, subst}
 use Rattle.std.proofs.lemmas.Int.{to_z-of_z}
 use Rattle.spec_expressions.specs.Term.{Term}
 use Rattle.spec_bounds.specs.Terms.{bound_over}
@@ -8,6 +8,16 @@ use Rattle.column_steps.specs.Listed.{IsMadeAt}
 use Rattle.event_bounds.specs.Made.{IsBound}
 use Rattle.event_bounds.proofs.bounding.bound_over.Goals as goal
 use Rattle.event_bounds.proofs.bounding.bound_over.Goals.{After-bound_of}
+
+pub bound_of-requires-clause-ready : goal.bound_of-requires-clause-ready
+bound_of-requires-clause-ready c =
+    let first = c.new-times.ensures.first ∙ to_z-of_z w64 c.args.a c.ranges.a in
+    let last = c.new-times.ensures.last ∙ to_z-of_z w64 c.args.b c.ranges.b in
+    record {
+      fits = rw (first, last) c.requires.fits;
+      position = rw c.column_ranges-position.ensures (record { view = refl; quantity = refl; first = refl; last = refl });
+      velocity = rw c.column_ranges-velocity.ensures (record { view = refl; quantity = refl; first = refl; last = refl });
+    }
 
 made : (c : After-bound_of) → (e : Term) → IsMadeAt c.args.listed.steps.now c.args.listed.place (of_term (sight_of c.args.states.now) e) → IsBound c.bound_of.result (bound_over c.args.states.now e c.args.a c.args.b)
 made c e is =

@@ -1,8 +1,9 @@
 use Rattle.std.proofs.Common.{◌∙◌, ◌+◌, ◌-◌, ◌<◌, arith, length}
 use Rattle.std.proofs.lemmas.List.{length-set}
-use Rattle.event_models.specs.Rows.{IsRow, IsSumRow}
-use Rattle.event_models.specs.Slopes.{IsEntrySlope, IsEntryU}
-use Rattle.event_models.proofs.RowSizes.{entries_before, one_entry_before}
+use Rattle.event_models.specs.declared.rows.Kind.TheVariants.{Second}
+use Rattle.event_models.specs.Rows.{IsEntry, IsRow, IsSumRow, no_row}
+use Rattle.event_models.specs.Slopes.{IsEntrySlope}
+use Rattle.event_models.proofs.Entries.{before_stay, one_before}
 use Rattle.event_models.proofs.filling_slopes.turn_slopes.Goals as goal
 
 pub loop-i-preserved : goal.loop-i-preserved
@@ -13,10 +14,10 @@ loop-i-preserved c =
     let place : c.args.n - 1 - c.loop-i.i < length c.loop-i.rows = omega (arith, below, few, count) in
     record {
       count = length-set c.loop-i.rows (c.args.n - 1 - c.loop-i.i) _ ∙ count;
-      rows = entries_before (λ k. IsRow) (c.args.n - 1 - c.loop-i.i) (c.args.n - 1 - (c.loop-i.i + 1)) c.loop-i.rows _ (omega arith) c.loop-i.invariant.rows;
-      entries = entries_before (IsEntryU c.args.line.now) (c.args.n - 1 - c.loop-i.i) (c.args.n - 1 - (c.loop-i.i + 1)) c.loop-i.rows _ (omega arith) c.loop-i.invariant.entries;
-      sum_rows = one_entry_before (λ k. IsSumRow) (c.args.n - 1 - c.loop-i.i) (c.args.n - (c.loop-i.i + 1)) (c.args.n - c.loop-i.i) c.args.n c.loop-i.rows _ place (omega (arith, below)) (omega (arith, below)) c.loop-i.invariant.sum_rows c.entry_slope.ensures.row;
-      slopes = one_entry_before (IsEntrySlope c.args.line.now) (c.args.n - 1 - c.loop-i.i) (c.args.n - (c.loop-i.i + 1)) (c.args.n - c.loop-i.i) c.args.n c.loop-i.rows _ place (omega (arith, below)) (omega (arith, below)) c.loop-i.invariant.slopes c.entry_slope.ensures.entry;
+      rows = before_stay no_row (λ k. IsRow) (c.args.n - 1 - c.loop-i.i) c.loop-i.rows _ (c.args.n - 1 - (c.loop-i.i + 1)) (omega arith) c.loop-i.invariant.rows;
+      entries = before_stay no_row (IsEntry Second c.args.line.now) (c.args.n - 1 - c.loop-i.i) c.loop-i.rows _ (c.args.n - 1 - (c.loop-i.i + 1)) (omega arith) c.loop-i.invariant.entries;
+      sum_rows = one_before no_row (λ k. IsSumRow) (c.args.n - 1 - c.loop-i.i) c.loop-i.rows _ (c.args.n - (c.loop-i.i + 1)) (c.args.n - c.loop-i.i) c.args.n place (omega (arith, below)) (omega (arith, below)) c.loop-i.invariant.sum_rows c.entry_slope.ensures.row;
+      slopes = one_before no_row (IsEntrySlope c.args.line.now) (c.args.n - 1 - c.loop-i.i) c.loop-i.rows _ (c.args.n - (c.loop-i.i + 1)) (c.args.n - c.loop-i.i) c.args.n place (omega (arith, below)) (omega (arith, below)) c.loop-i.invariant.slopes c.entry_slope.ensures.entry;
     }
 
 pub returns-clause-rows : goal.returns-clause-rows

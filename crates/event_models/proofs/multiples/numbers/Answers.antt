@@ -1,8 +1,9 @@
-use Rattle.std.proofs.Common.{◌∙◌, ℕ, ◌<◌, ◌*ℤ◌, pos, length, arith}
+use Rattle.std.proofs.Common.{◌≡◌, ◌∙◌, ◌<◌, ◌≤◌, ◌*ℤ◌, pos, length, arith, unsigned_abs}
 use Rattle.std.proofs.lemmas.List.{length-set}
 use Rattle.spec_models.specs.Models.{coefficient}
 use Rattle.event_models.specs.Rows.{sum_limit}
-use Rattle.event_models.proofs.Steps.{kept60, number_kept, one_more, one_more_within}
+use Rattle.event_models.proofs.Entries.{one_more}
+use Rattle.event_models.proofs.Steps.{kept60, number_kept}
 use Rattle.event_models.proofs.multiples.numbers.Goals as goal
 
 pub loop-j-preserved : goal.loop-j-preserved
@@ -14,7 +15,7 @@ loop-j-preserved c =
     let own = number_kept c.args.coefficients.now c.loop-j.j c.requires.numbers below in
     record {
       count = length-set c.loop-j.numbers c.loop-j.j _ ∙ count;
-      numbers = one_more (λ (j : ℕ). pos c.args.k *ℤ coefficient c.args.coefficients.now j) c.loop-j.j c.loop-j.numbers _ place c.loop-j.invariant.numbers
+      numbers = one_more (pos 0) (λ j z. z ≡ pos c.args.k *ℤ coefficient c.args.coefficients.now j) c.loop-j.j c.loop-j.numbers _ place c.loop-j.invariant.numbers
           (made ∙ c.number.ensures.equals ∙ (λ i. pos c.args.k *ℤ own i));
-      small = one_more_within sum_limit c.loop-j.j c.loop-j.numbers _ place c.loop-j.invariant.small (rw made c.number.ensures.small);
+      small = one_more (pos 0) (λ j z. unsigned_abs z ≤ sum_limit) c.loop-j.j c.loop-j.numbers _ place c.loop-j.invariant.small (rw made c.number.ensures.small);
     }

@@ -1,7 +1,8 @@
-use Rattle.std.proofs.Common.{◌∙◌, arith}
+use Rattle.std.proofs.Common.{◌≡◌, ◌∙◌, arith, pos}
 use Rattle.std.proofs.lemmas.List.{length-set}
 use Rattle.event_models.specs.Rows.{step_number}
-use Rattle.event_models.proofs.Steps.{kept58, one_more}
+use Rattle.event_models.proofs.Entries.{one_more}
+use Rattle.event_models.proofs.Steps.{kept58}
 use Rattle.event_models.proofs.rows.step_numbers.Goals as goal
 
 pub loop-k-preserved : goal.loop-k-preserved
@@ -10,6 +11,6 @@ loop-k-preserved c =
     let count = c.loop-k.invariant.count in
     record {
       count = length-set c.loop-k.numbers c.loop-k.k _ ∙ count;
-      numbers = one_more (step_number c.args.line.now c.args.last.now.coefficients c.args.before.now.coefficients) c.loop-k.k c.loop-k.numbers _ (omega (arith, below, count)) c.loop-k.invariant.numbers
+      numbers = one_more (pos 0) (λ j z. z ≡ step_number c.args.line.now c.args.last.now.coefficients c.args.before.now.coefficients j) c.loop-k.k c.loop-k.numbers _ (omega (arith, below, count)) c.loop-k.invariant.numbers
           (kept58 c.number_at.result c.number_at.ensures.small ∙ c.number_at.ensures.equals);
     }

@@ -1,8 +1,9 @@
-use Rattle.std.proofs.Common.{◌≡◌, ◌∙◌, ◌+◌, ◌*◌, ◌^◌, ◌+ℤ◌, ◌*ℤ◌, ◌<◌, length, arith, slice_index_or, pos, to_z, of_z, w64}
+use Rattle.std.proofs.Common.{◌≡◌, ◌∙◌, ◌+◌, ◌*◌, ◌^◌, ◌+ℤ◌, ◌*ℤ◌, ◌<◌, ◌≤◌, length, unsigned_abs, arith, slice_index_or, pos, to_z, of_z, w64}
 use Rattle.std.proofs.lemmas.List.{get_or-set_other, length-set}
 use mir.Syntax.{w128}
 use Rattle.event_models.specs.Sums.{added_number}
-use Rattle.event_models.proofs.Steps.{kept60, one_more, one_more_within, sum_kept}
+use Rattle.event_models.proofs.Entries.{one_more}
+use Rattle.event_models.proofs.Steps.{kept60, sum_kept}
 use Rattle.event_models.proofs.sums.add_numbers.Goals as goal
 
 pub sum-requires-clause-own : goal.sum-requires-clause-own
@@ -26,8 +27,8 @@ loop-k-preserved c =
     let entry = kept60 (slice_index_or c.args.row.now.coefficients c.loop-k.k (pos 0)) (c.requires.row.small c.loop-k.k below) in
     record {
       count = length-set c.loop-k.numbers c.loop-k.k _ ∙ count;
-      numbers = one_more (added_number (to_z w64 (of_z w64 c.args.low)) c.args.row.now.coefficients c.args.numbers.now) c.loop-k.k c.loop-k.numbers _ place c.loop-k.invariant.numbers
+      numbers = one_more (pos 0) (λ j z. z ≡ added_number (to_z w64 (of_z w64 c.args.low)) c.args.row.now.coefficients c.args.numbers.now j) c.loop-k.k c.loop-k.numbers _ place c.loop-k.invariant.numbers
           (made ∙ c.sum.ensures.equals ∙ (λ i. to_z w128 (of_z w128 (same i)) +ℤ to_z w64 (of_z w64 c.args.low) *ℤ entry i) ∙ λ i. own i +ℤ to_z w64 (of_z w64 c.args.low) *ℤ slice_index_or c.args.row.now.coefficients c.loop-k.k (pos 0));
-      small = one_more_within ((c.args.count + 1) * 2 ^ 120) c.loop-k.k c.loop-k.numbers _ place c.loop-k.invariant.small (rw made c.sum.ensures.small);
+      small = one_more (pos 0) (λ j z. unsigned_abs z ≤ (c.args.count + 1) * 2 ^ 120) c.loop-k.k c.loop-k.numbers _ place c.loop-k.invariant.small (rw made c.sum.ensures.small);
       rest = λ j after. get_or-set_other c.loop-k.numbers c.loop-k.k j _ (pos 0) (λ is. absurd (omega (arith, after, is))) ∙ c.loop-k.invariant.rest j (omega (arith, after));
     }

@@ -1,37 +1,9 @@
-use Rattle.std.proofs.Common.{◌∙◌, arith, inr, refl, rules, w64}
-use Rattle.std.proofs.lemmas.Int.{ints, to_z-of_z}
-use mir.Syntax.{w16}
-use mir.Val.{SFits}
-use Rattle.spec_intervals.specs.Interval.{cosine_exponent}
+use Rattle.std.proofs.Common.{◌∙◌}
 use Rattle.spec_intervals.specs.Enclosure.{constant_of}
-use Rattle.spec_steps.proofs.Parts.{cosine_kept}
-use Rattle.event_expr.proofs.Walk.{decimal_kept, holds-number, cosine-part}
 use Rattle.body_states.proofs.snapshots.SnapshotArithmetic.cosine.Goals as goal
 
-pub constant-requires-clause-within : goal.constant-requires-clause-within
-constant-requires-clause-within c =
-    let is = decimal_kept c.args.number cosine_exponent c.from_decimal-value.result (search rules) (search rules) c.from_decimal-value.ensures.equals in
-    cosine-part c.args.number c.from_decimal-value.result is (cosine_kept _ c.args.number c.requires.part)
-
-pub constant-requires-clause-number : goal.constant-requires-clause-number
-constant-requires-clause-number c =
-    let m : SFits w64 c.args.number.mant = search rules in
-    let q : SFits w16 c.args.number.exp = search rules in
-    holds-number c.args.number c.from_decimal-value.result (simp to_z-of_z at c.from_decimal-value.ensures.holds)
-
-pub from_decimal-value-requires-clause-exponent : goal.from_decimal-value-requires-clause-exponent
-from_decimal-value-requires-clause-exponent c = inr refl
-
-pub from_decimal-value-requires-clause-cosine : goal.from_decimal-value-requires-clause-cosine
-from_decimal-value-requires-clause-cosine c =
-    let m : SFits w64 c.args.number.mant = search rules in
-    let q : SFits w16 c.args.number.exp = search rules in
-    λ e. rw (to_z-of_z w64 c.args.number.mant m, to_z-of_z w16 c.args.number.exp q) (cosine_kept _ c.args.number c.requires.part)
-
-pub from_decimal-value-requires-clause-distance : goal.from_decimal-value-requires-clause-distance
-from_decimal-value-requires-clause-distance c = λ e. absurd (omega (arith, ints, e))
+pub cosine_interval-requires : goal.cosine_interval-requires
+cosine_interval-requires c = c.listed_constants_are_within_limits.ensures.cosines _ c.args.number c.requires.part
 
 pub returns : goal.returns
-returns c =
-    let is = decimal_kept c.args.number cosine_exponent c.from_decimal-value.result (search rules) (search rules) c.from_decimal-value.ensures.equals in
-    c.constant.ensures ∙ λ i. constant_of (c.self.view_is i).first (c.self.view_is i).last (is i)
+returns c = c.constant.ensures ∙ λ i. constant_of (c.self.view_is i).first (c.self.view_is i).last (c.cosine_interval.ensures.equals i)

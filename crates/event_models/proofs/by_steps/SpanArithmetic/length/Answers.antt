@@ -1,21 +1,11 @@
-use Rattle.std.proofs.Common.{rules, w64}
-use Rattle.std.proofs.lemmas.Int.{to_z-of_z}
-use mir.Syntax.{w16}
-use mir.Val.{SFits}
-use Rattle.spec_intervals.specs.Interval.{distance_exponent}
-use Rattle.event_models.proofs.Constants.{decimal_made}
-use Rattle.event_models.proofs.Parts.{constant_kept}
+use Rattle.event_models.proofs.Constants.{decimal_ordered}
+use Rattle.event_models.proofs.Rules.{constant_made}
 use Rattle.event_models.proofs.by_steps.SpanArithmetic.length.Goals as goal
 
-pub from_decimal-value-requires-clause-distance : goal.from_decimal-value-requires-clause-distance
-from_decimal-value-requires-clause-distance c =
-    let m : SFits w64 c.args.km.mant = search rules in
-    let q : SFits w16 c.args.km.exp = search rules in
-    λ is. rw (to_z-of_z w64 c.args.km.mant m, to_z-of_z w16 c.args.km.exp q) (constant_kept _ _ c.requires.part)
+pub length_interval-requires : goal.length_interval-requires
+length_interval-requires c = c.listed_constants_are_within_limits.ensures.lengths _ c.args.km c.requires.part
 
 pub returns : goal.returns
 returns c =
     let t = c.args.self.now.times in
-    let m : SFits w64 c.args.km.mant = search rules in
-    let q : SFits w16 c.args.km.exp = search rules in
-    decimal_made t.first t.last t.ordered distance_exponent c.args.km.mant c.args.km.exp c.from_decimal-value.result c.of_interval.result m q c.from_decimal-value.ensures.equals c.of_interval.ensures
+    constant_made t.first t.last t.ordered c.of_interval.result _ (decimal_ordered _ _ _) (rw c.length_interval.ensures.equals at c.of_interval.ensures)

@@ -1,9 +1,0 @@
-use Rattle.std.proofs.Common.{◌≡◌, length}
-use Rattle.event_models.specs.Columns.{AreColumns}
-use Rattle.event_models.proofs.columns.write_group.Given as goal
-
-abbrev pub invariant-loop-later : goal.invariant-loop-later
-invariant-loop-later l = record {
-  count : length l.columns ≡ 4;
-  columns : AreColumns l.states l.quantity l.times.first l.times.last l.columns;
-}

@@ -10,13 +10,16 @@
 
 mod arithmetic;
 mod bodies;
+mod coordinate_steps;
 mod entering;
 mod filling;
 mod frames;
 mod places;
 mod sameness;
 mod step_list;
+mod step_values;
 
 pub use arithmetic::Arithmetic;
+pub use coordinate_steps::CoordinateSteps;
 pub use filling::fill;
 pub use step_list::{MAX_STEPS, StepList, StepPlace};

@@ -1,8 +1,8 @@
 -- What is seen of a view over one span of times.
-use Rattle.std.specs.Prelude.{◌≡◌, ℤ}
+use Rattle.std.specs.Prelude.{ℤ}
 use Rattle.spec_intervals.specs.Enclosure.{Enclosure}
 use Rattle.spec_expressions.specs.Term.{Term, enclosure_of}
-use Rattle.spec_bodies.specs.Views.{Fits, View, state_enclosure}
+use Rattle.spec_bodies.specs.Views.{View, state_enclosure}
 use Rattle.spec_steps.specs.ColumnTerms.{ColumnTerm}
 use Rattle.spec_steps.specs.Meanings.{enclosure_meant}
 
@@ -18,9 +18,3 @@ enclosure_in m term = enclosure_of (λ leaf. state_enclosure m.view leaf m.first
 -- and that of a term over columns
 abbrev pub meant_in : Moment → ColumnTerm → Enclosure
 meant_in m = enclosure_meant m.view m.first m.last
-
--- the times from a to b are its times
-pub record AreTimesOf (m : Moment) (a b : ℤ) : Type 0 where
-  pub first : a ≡ m.first
-  pub last : b ≡ m.last
-  pub fits : Fits m.view a b

@@ -3,7 +3,7 @@ ghost use Rattle.spec_bodies.specs.Views.{Fits, exact_state, state_enclosure};
 ghost use Rattle.spec_bodies.proofs.Held.{times_span, fractions_of_states, states_held, states_within};
 
 use crate::states::BodyStates;
-use event_expr::{Leaves, States};
+use event_expr::{Formula, Leaves, States};
 use ival_core::Enclosure;
 
 impl<'e> States for BodyStates<'e> {
@@ -23,6 +23,12 @@ impl<'e> States for BodyStates<'e> {
     fn vel(&self, target: u8, axis: u8, a: i64, b: i64) -> Enclosure {
         let moment = self.at(a, b, &Leaves::none());
         self.coordinates().velocity(&moment, target, axis)
+    }
+
+    /// The columns that the formula's coordinates are read from are made once, with each basis made once.
+    fn enclosure(&self, f: &Formula, a: i64, b: i64) -> Enclosure {
+        let moment = self.at(a, b, &f.leaves());
+        self.coordinates().formula(&moment, f)
     }
 
     ghost spans = { λ v a b fits. times_span v a b fits };

@@ -102,7 +102,9 @@ impl<'s, 'e> Snapshot<'s, 'e> {
     #[inline(always)]
     pub(crate) fn times_fit(&self)
         ensures { Fits self.now.view self.now.first self.now.last }
-    {}
+    {
+        let _first = self.times.first();
+    }
 
     // What was made of a quantity of the columns in use.
     #[inline(always)]

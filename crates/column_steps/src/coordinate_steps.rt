@@ -1,13 +1,14 @@
 // The steps that stand for each coordinate of both targets.
 ghost use Rattle.std.specs.Prelude.{◌≡◌, ◌<◌, IsTrue};
 ghost use Rattle.event_expr.specs.Leaves.{has_leaf};
-ghost use Rattle.spec_expressions.specs.Term.{IsLeaf, Leaf, position as position_of, velocity as velocity_of};
-ghost use Rattle.spec_steps.specs.ColumnTerms.{of_leaf};
+ghost use Rattle.spec_expressions.specs.Term.{IsFormula, IsLeaf, Leaf, position as position_of, term, velocity as velocity_of};
+ghost use Rattle.spec_steps.specs.ColumnTerms.{of_leaf, of_term};
 
 use crate::arithmetic::Arithmetic;
 use crate::places::LeafPlaces;
 use crate::step_list::StepList;
-use event_expr::{Axes, Leaves};
+use event_expr::{Axes, Formula, Leaves};
+use spec_expressions::Expr;
 use spec_steps::Sight;
 use std::marker::Model;
 
@@ -62,6 +63,49 @@ impl CoordinateSteps {
     {
         self.steps
             .value(arithmetic, self.places.velocity(target, axis))
+    }
+
+    /// The value of a formula of the targets' coordinates, of which each is made as often as it is named.
+    pub fn formula<A: Arithmetic>(&self, arithmetic: &A, formula: &Formula) -> A::Value
+        requires ready { A.is_ready arithmetic.now }
+        requires sight { A.sight arithmetic.now ≡ self.now }
+        ensures { A.is_value arithmetic.now (of_term self.now formula.now) result }
+    {
+        self.part(arithmetic, formula.expr())
+    }
+
+    // That of a formula's expression or of a part of it.
+    fn part<A: Arithmetic>(&self, arithmetic: &A, expr: &Expr) -> A::Value
+        requires ready { A.is_ready arithmetic.now }
+        requires sight { A.sight arithmetic.now ≡ self.now }
+        requires formula { IsFormula (term expr.now) }
+        ensures { A.is_value arithmetic.now (of_term self.now (term expr.now)) result }
+    {
+        match expr {
+            Expr::Pos { target, axis } => self.position(arithmetic, *target, *axis),
+            Expr::Vel { target, axis } => self.velocity(arithmetic, *target, *axis),
+            Expr::Length(length) => arithmetic.length(*length),
+            Expr::Cosine(cosine) => arithmetic.cosine(*cosine),
+            Expr::Add(x, y) => {
+                let x = self.part(arithmetic, x);
+                let y = self.part(arithmetic, y);
+                arithmetic.sum(&x, &y)
+            }
+            Expr::Sub(x, y) => {
+                let x = self.part(arithmetic, x);
+                let y = self.part(arithmetic, y);
+                arithmetic.difference(&x, &y)
+            }
+            Expr::Mul(x, y) => {
+                let x = self.part(arithmetic, x);
+                let y = self.part(arithmetic, y);
+                arithmetic.product(&x, &y)
+            }
+            Expr::SignedSquare(x) => {
+                let x = self.part(arithmetic, x);
+                arithmetic.signed_square(&x)
+            }
+        }
     }
 }
 

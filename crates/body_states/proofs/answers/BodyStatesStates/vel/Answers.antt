@@ -4,7 +4,7 @@ use Rattle.spec_expressions.specs.Term.{velocity, leaf}
 use Rattle.spec_steps.specs.ColumnTerms.{of_leaf, sight_of}
 use Rattle.spec_steps.proofs.Meanings.{term_enclosed}
 use Rattle.body_states.specs.Moments.{Moment, meant_in}
-use Rattle.body_states.proofs.states.BodyStatesStates.vel.Goals as goal
+use Rattle.body_states.proofs.answers.BodyStatesStates.vel.Goals as goal
 
 pub at-moment-requires : goal.at-moment-requires
 at-moment-requires c = rw (to_z-of_z w64 c.args.a c.ranges.a, to_z-of_z w64 c.args.b c.ranges.b) c.requires.fits

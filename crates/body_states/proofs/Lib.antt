@@ -1,7 +1,6 @@
 pub mod AlongAxes
 pub mod Masses
 pub mod Good
-pub mod MidParts
 pub mod SeriesParts
 pub mod Sums
 pub mod Kept

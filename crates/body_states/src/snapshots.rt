@@ -90,22 +90,6 @@ impl<'s, 'e> Snapshot<'s, 'e> {
         self.states.sight()
     }
 
-    /// The states of which it is one moment.
-    #[inline(always)]
-    pub(crate) fn states(&self) -> &BodyStates<'e>
-        ensures { result.now ≡ self.now.view }
-    {
-        self.states
-    }
-
-    /// Its times fit. Nothing is done.
-    #[inline(always)]
-    pub(crate) fn times_fit(&self)
-        ensures { Fits self.now.view self.now.first self.now.last }
-    {
-        let _first = self.times.first();
-    }
-
     // What was made of a quantity of the columns in use.
     #[inline(always)]
     fn known(&self, quantity: Quantity) -> &[ColumnEnclosures]

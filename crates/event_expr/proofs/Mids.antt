@@ -37,7 +37,7 @@ two_mids a b of op law u w x y r e f h = (h ∙ λ i. op (e i) (f i)) ∙ sym (l
 pub one_mid : (a b : ℤ) (u : Enclosure) (x r : Interval) → x ≡ u.mid → r ≡ I.signed_square x → r ≡ (signed_square_of a b u).mid
 one_mid a b u x r e h = (h ∙ ap I.signed_square e) ∙ sym (mid-signed_square a b u)
 
-pub mid-exponent : (e : Enclosure) (r : Interval) → r ≡ e.mid → AllWithin part_exponent e → IsExponent r.s
+mid-exponent : (e : Enclosure) (r : Interval) → r ≡ e.mid → AllWithin part_exponent e → IsExponent r.s
 mid-exponent e r is h = let small = h.mid.exponent in rw is (omega arith)
 
 -- what a step owes for the mids of one part of a formula, and of two

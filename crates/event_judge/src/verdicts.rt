@@ -16,8 +16,8 @@ use crate::steps::{is_one_way, is_turnless};
 use crate::valid_node::ValidNode;
 use body_states::Snapshot;
 use gf_hooks::{Verdict, differ, has_no_turn, turn_to};
-use ival_core::{Enclosure, Ival, Sign};
-use step_enclosures::{StepEnclosures, blank, single_sign};
+use ival_core::{Enclosure, Sign};
+use step_enclosures::{StepEnclosures, blank};
 
 impl<'s, 'e> ValidNode<'s, 'e> {
     /// The border of the columns in use in the node, the nearest to its middle.
@@ -143,10 +143,9 @@ impl<'s, 'e> ValidNode<'s, 'e> {
         made.enclosure(listed.function)
     }
 
-    /// The sign of the function at a single time.
+    /// The sign of the function over some times.
     pub(crate) fn sign(self, states: &Snapshot) -> Sign
-        requires view { states.now.view ≡ self.search.now.view }
-        requires single { states.now.first ≡ states.now.last }
+        requires { states.now.view ≡ self.search.now.view }
         ensures { result ≡ sign_at self.entry.search.now states.now }
     {
         let listed = self.search.listed();
@@ -165,11 +164,11 @@ impl<'s, 'e> ValidNode<'s, 'e> {
         requires slots { slot_count listed.now.slots ≡ N }
         requires few { N ≤ 256 }
         requires view { states.now.view ≡ self.search.now.view }
-        requires single { states.now.first ≡ states.now.last }
         ensures { result ≡ sign_at self.entry.search.now states.now }
     {
-        let mut slots = [Ival::zero(); N];
-        single_sign(states, &listed.steps, listed.function, &mut slots)
+        let mut slots = [blank(); N];
+        let mut made = self.steps(states, listed, &mut slots);
+        self.enclosure(listed, &mut made).range.sign()
     }
 
     /// By an enclosure of the function it has no turn that is wanted.

@@ -6,8 +6,6 @@
 #![tactic(auto)]
 
 mod enclosures;
-mod single_signs;
 
 pub use body_states::blank;
 pub use enclosures::StepEnclosures;
-pub use single_signs::single_sign;

@@ -9,7 +9,7 @@ use spec_steps::Step;
 impl StepList {
     /// The value of the step with a number, by those of its operands, without a slot: an operand is made as often as it is
     /// named.
-    pub fn value<A: Arithmetic>(&self, arithmetic: &A, place: usize) -> A::Value
+    pub(crate) fn value<A: Arithmetic>(&self, arithmetic: &A, place: usize) -> A::Value
         requires ready { A.is_ready arithmetic.now }
         requires sight { A.sight arithmetic.now ≡ self.now.sight }
         requires step { place < step_count self.now }

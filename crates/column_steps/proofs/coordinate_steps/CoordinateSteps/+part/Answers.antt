@@ -1,7 +1,7 @@
-use Rattle.std.proofs.Common.{refl, subst, sym}
-use Rattle.spec_expressions.specs.Term.{position as position_of, velocity as velocity_of, length as length_of, cosine as cosine_of, sum as sum_of, difference as difference_of, product as product_of, signed_square as square_of, term}
+use Rattle.std.proofs.Common.{refl}
+use Rattle.spec_expressions.specs.Term.{sum as sum_of, difference as difference_of, product as product_of, signed_square as square_of, term}
 use Rattle.spec_steps.specs.ColumnTerms.{sum, difference, product, signed_square}
-use Rattle.column_steps.proofs.WholeFormulas.{both_operands, both_value, formula_part, one_operand, one_value}
+use Rattle.column_steps.proofs.WholeFormulas.{both_operands, both_value, one_operand, one_value}
 use Rattle.column_steps.proofs.coordinate_steps.CoordinateSteps.+part.Goals as goal
 
 pub sum-requires-clause-operands : goal.sum-requires-clause-operands

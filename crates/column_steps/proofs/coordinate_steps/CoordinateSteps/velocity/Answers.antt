@@ -1,4 +1,4 @@
-use Rattle.std.proofs.Common.{◌≡◌, ◌∙◌, ◌<◌, ℕ, ap, subst, sym}
+use Rattle.std.proofs.Common.{◌∙◌, ◌<◌, ℕ, ap, subst, sym}
 use Rattle.spec_expressions.specs.Term.{velocity as leaf_of}
 use Rattle.spec_steps.specs.ColumnTerms.{ColumnTerm, of_leaf}
 use Rattle.column_steps.specs.Listed.{listed_term, step_count}
